@@ -1,0 +1,4 @@
+pub mod Types
+pub mod Rows
+pub mod Values
+pub mod Binding

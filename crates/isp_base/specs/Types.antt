@@ -1,0 +1,15 @@
+-- Gangs and places.
+use Rattle.std.specs.Prelude.{ℕ}
+use Rattle.isp_base.specs.declared.types.Gang.{Gang}
+use Rattle.isp_base.specs.declared.types.Gang.TheVariants.{W4, W8, W16}
+use Rattle.isp_base.specs.declared.types.Span.{Span}
+
+-- how many instances a gang has
+abbrev pub gang_width : Gang → ℕ
+gang_width W4 = 4
+gang_width W8 = 8
+gang_width W16 = 16
+
+-- from the start of one to the end of the other
+abbrev pub span_to : Span → Span → Span
+span_to first last = record { start = first.start; end = last.end }

@@ -1,0 +1,16 @@
+//! Types, values and operators that every layer speaks of.
+#![tactic(auto)]
+
+mod array;
+mod name;
+mod operators;
+mod signature;
+mod trap;
+mod types;
+
+pub use array::Array;
+pub use name::Name;
+pub use operators::{BinOp, Compare, DivideByZero};
+pub use signature::{Argument, Bound, Parameter, Signature};
+pub use trap::{Trap, TrapKind};
+pub use types::{Elem, Gang, Rate, Span, Ty, Value};

@@ -1,0 +1,48 @@
+//! What an exported function takes and gives, and what is handed to it.
+ghost use Rattle.std.specs.Prelude.{◌≡◌};
+
+use crate::array::Array;
+use crate::name::Name;
+use crate::types::{Elem, Value};
+
+/// One parameter of an exported function: a value, or an array by reference.
+#[derive(Debug, Drop)]
+pub struct Parameter {
+    pub name: Name,
+    pub elem: Elem,
+    pub is_array: bool,
+}
+
+/// The parameters in their order, and the type of the result, if there is one.
+#[derive(Debug, Drop)]
+pub struct Signature {
+    pub params: Vec<Parameter>,
+    pub result: Option<Elem>,
+}
+
+/// What stands for one parameter.
+#[derive(Debug, Drop)]
+pub enum Argument {
+    Value(Value),
+    Array(Array),
+}
+
+/// One argument for each parameter.
+#[derive(Debug, Drop)]
+pub struct Bound {
+    pub arguments: Vec<Argument>,
+}
+
+impl Argument {
+    ghost use Rattle.isp_base.specs.Binding.{is_for};
+
+    /// Whether kind and element type are those of the parameter.
+    pub fn is_for(&self, parameter: &Parameter) -> bool
+        ensures { result ≡ is_for parameter.now self.now }
+    {
+        match self {
+            Argument::Value(value) => !parameter.is_array && value.elem == parameter.elem,
+            Argument::Array(array) => parameter.is_array && array.elem() == parameter.elem,
+        }
+    }
+}

@@ -1,0 +1,86 @@
+//! Element types, rates, places and gangs.
+ghost use Rattle.std.specs.Prelude.{◌≡◌};
+ghost use Rattle.isp_base.specs.Types.{gang_width, span_to};
+
+use std::fmt;
+
+/// An element type: `bool`, or whole numbers of 8 to 64 bits, signed (two's complement) or not.
+#[derive(Clone, Copy, Debug, PartialEq, Eq)]
+pub enum Elem {
+    Bool,
+    I8,
+    U8,
+    I16,
+    U16,
+    I32,
+    U32,
+    I64,
+    U64,
+}
+
+/// Whether the gang holds one value, or each instance its own.
+#[derive(Clone, Copy, Debug, PartialEq, Eq)]
+pub enum Rate {
+    Uniform,
+    Varying,
+}
+
+/// The type of a value.
+#[derive(Clone, Copy, Debug, PartialEq, Eq)]
+pub struct Ty {
+    pub rate: Rate,
+    pub elem: Elem,
+}
+
+/// Where something stands in the source: its bytes from `start` up to `end`.
+#[derive(Clone, Copy, Debug, PartialEq, Eq)]
+pub struct Span {
+    pub start: usize,
+    pub end: usize,
+}
+
+impl fmt::Display for Span {
+    fn fmt<W: fmt::Write>(&self, f: &mut fmt::Formatter<W>) -> fmt::Result {
+        write!(f, "{}..{}", self.start, self.end)
+    }
+}
+
+impl Span {
+    /// From the start of this one to the end of the other.
+    pub fn to(self, last: Span) -> Span
+        ensures { result ≡ span_to self last }
+    {
+        Span {
+            start: self.start,
+            end: last.end,
+        }
+    }
+}
+
+/// How many program instances run one source text.
+#[derive(Clone, Copy, Debug, PartialEq, Eq)]
+pub enum Gang {
+    W4,
+    W8,
+    W16,
+}
+
+impl Gang {
+    /// The number of instances.
+    pub fn width(self) -> usize
+        ensures { result ≡ gang_width self }
+    {
+        match self {
+            Gang::W4 => 4,
+            Gang::W8 => 8,
+            Gang::W16 => 16,
+        }
+    }
+}
+
+/// One value: the low bits of `bits`, as many as the element type has, stand for a whole number.
+#[derive(Clone, Copy, Debug, PartialEq, Eq)]
+pub struct Value {
+    pub elem: Elem,
+    pub bits: u64,
+}
