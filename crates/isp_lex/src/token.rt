@@ -1,0 +1,128 @@
+//! Tokens.
+ghost use Rattle.std.specs.Prelude.{◌≡◌};
+ghost use Rattle.isp_lex.specs.Tokens.{is_mark};
+
+use isp_base::{Name, Span, Value};
+use std::marker::Model;
+
+/// A token of one spelling: a sign, or a word that the language reserves and uses.
+#[derive(Clone, Copy, Debug)]
+pub enum Mark {
+    ParenOpen,
+    ParenClose,
+    BraceOpen,
+    BraceClose,
+    BracketOpen,
+    BracketClose,
+    Semicolon,
+    Comma,
+    Assign,
+    Plus,
+    Minus,
+    Star,
+    Void,
+    Bool,
+    Int,
+    Int8,
+    Int16,
+    Int32,
+    Int64,
+    Uint,
+    Uint8,
+    Uint16,
+    Uint32,
+    Uint64,
+    Signed,
+    Unsigned,
+    Const,
+    Uniform,
+    Varying,
+    Export,
+    Static,
+    Inline,
+    If,
+    Cif,
+    Else,
+    While,
+    Cwhile,
+    Do,
+    Cdo,
+    For,
+    Cfor,
+    Foreach,
+    ForeachTiled,
+    ForeachActive,
+    Unmasked,
+    Break,
+    Continue,
+    Return,
+    Print,
+    Assert,
+    True,
+    False,
+    ProgramIndex,
+    ProgramCount,
+}
+
+/// What a token is.
+#[derive(Debug, Drop)]
+pub enum TokenKind {
+    /// A name.
+    Word(Name),
+    /// A number, with its type.
+    Number(Value),
+    /// A sign or a reserved word.
+    Mark(Mark),
+    /// A word that the language leaves out.
+    LeftOut,
+}
+
+/// A token, and where it stands: byte places in the source.
+#[derive(Debug, Drop)]
+pub struct Token {
+    pub kind: TokenKind,
+    pub span: Span,
+}
+
+impl TokenKind {
+    /// Whether this is the sign or reserved word.
+    pub fn is(&self, mark: Mark) -> bool
+        ensures { result ≡ is_mark mark self.now }
+    {
+        match self {
+            TokenKind::Mark(other) => mark as u8 == *other as u8,
+            _ => false,
+        }
+    }
+}
+
+/// The tokens of a source text in their order, and the length of the text in bytes.
+#[derive(Debug, Drop)]
+pub struct Tokens {
+    items: Vec<Token>,
+    end: usize,
+}
+
+impl Model for Tokens {
+    ghost use Rattle.isp_lex.specs.Tokens.{TokenList};
+
+    ghost Value = { TokenList };
+
+    ghost view = { λ t. record { items = t.items.items; end = t.end } };
+}
+
+impl Tokens {
+    /// The tokens.
+    pub fn as_slice(&self) -> &[Token]
+        ensures { result.now ≡ self.now.items }
+    {
+        self.items.as_slice()
+    }
+
+    /// The length of the source text in bytes.
+    pub fn end(&self) -> usize
+        ensures { result ≡ self.now.end }
+    {
+        self.end
+    }
+}
