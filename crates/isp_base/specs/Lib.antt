@@ -2,3 +2,4 @@ pub mod Types
 pub mod Rows
 pub mod Values
 pub mod Binding
+pub mod Words

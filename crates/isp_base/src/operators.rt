@@ -1,4 +1,11 @@
 //! The operators on values.
+ghost use Rattle.std.specs.Prelude.{◌≡◌, ◌-◌, ◌%◌, ◌^◌, ◌<◌, ◌≢◌, pos, nat_lt, MatchResult, true};
+ghost use Rattle.isp_base.specs.Values.{width, greatest, number, op_bits, DividesByZero, divides};
+ghost use Rattle.isp_base.specs.Words.{turned, magnitude};
+
+use crate::types::Elem;
+use crate::values::{amount_mask, greatest_of, low_bits, low_mask};
+use thiserror::Error;
 
 /// An operator on two values of one element type.
 #[derive(Clone, Copy, Debug, PartialEq, Eq)]
@@ -29,5 +36,141 @@ pub enum Compare {
 }
 
 /// The divisor is zero.
-#[derive(Clone, Copy, Debug, PartialEq, Eq)]
+#[derive(Clone, Copy, Debug, PartialEq, Eq, Error)]
+#[error("divide by zero")]
 pub struct DivideByZero;
+
+impl BinOp {
+    /// Whether the operator is a division or its remainder, for which a divisor of zero has no
+    /// result.
+    pub fn divides(self) -> bool
+        ensures { result ≡ divides self }
+    {
+        matches!(self, BinOp::Div | BinOp::Rem)
+    }
+}
+
+/// The operator's result on the low bits of `x` and `y`, wrapped to the element type.
+///
+/// `DivideByZero` comes exactly where a division or a remainder has the divisor 0.
+pub fn apply(op: BinOp, elem: Elem, x: u64, y: u64) -> Result<u64, DivideByZero>
+    ensures { MatchResult result
+        (λ bits. (divides op ≡ true → number elem y ≢ pos 0) × (bits ≡ op_bits op elem x y))
+        (λ _. DividesByZero op elem y) }
+{
+    let x = low_bits(elem, x);
+    let y = low_bits(elem, y);
+    if op.divides() && y == 0 {
+        Err(DivideByZero)
+    } else {
+        Ok(apply_nonzero(op, elem, x, y))
+    }
+}
+
+/// The operator's result on bits that fit their element type, where it does not divide by 0.
+pub fn apply_nonzero(op: BinOp, elem: Elem, x: u64, y: u64) -> u64
+    requires x_fits { x < 2 ^ width elem }
+    requires y_fits { y < 2 ^ width elem }
+    requires divisor { divides op ≡ true → 0 < y }
+    ensures { result ≡ op_bits op elem x y }
+{
+    let low = low_mask(elem);
+    match op {
+        BinOp::Add => x.wrapping_add(y) & low,
+        BinOp::Sub => x.wrapping_sub(y) & low,
+        BinOp::Mul => x.wrapping_mul(y) & low,
+        BinOp::And => x & y,
+        BinOp::Or => x | y,
+        BinOp::Xor => x ^ y,
+        BinOp::Shl => (x << (y & amount_mask(elem))) & low,
+        BinOp::Shr => shift_right(elem, x, y),
+        BinOp::Min => if is_less(elem, y, x) { y } else { x },
+        BinOp::Max => if is_less(elem, y, x) { x } else { y },
+        BinOp::Div => divide(elem, x, y),
+        BinOp::Rem => remainder(elem, x, y),
+    }
+}
+
+// A negative number is shifted by its complement.
+fn shift_right(elem: Elem, x: u64, y: u64) -> u64
+    requires x_fits { x < 2 ^ width elem }
+    requires y_fits { y < 2 ^ width elem }
+    ensures { result ≡ op_bits BinOp.Shr elem x y }
+{
+    let low = low_mask(elem);
+    let by = y & amount_mask(elem);
+    if x > greatest_of(elem) {
+        low - ((low - x) >> by)
+    } else {
+        x >> by
+    }
+}
+
+// The quotient of the magnitudes, with the sign that the two signs give.
+fn divide(elem: Elem, x: u64, y: u64) -> u64
+    requires x_fits { x < 2 ^ width elem }
+    requires y_fits { y < 2 ^ width elem }
+    requires divisor { 0 < y }
+    ensures { result ≡ op_bits BinOp.Div elem x y }
+{
+    let quotient = magnitude(elem, x) / magnitude(elem, y);
+    if is_negative(elem, x) == is_negative(elem, y) {
+        quotient
+    } else {
+        negate(elem, quotient)
+    }
+}
+
+// The remainder of the magnitudes, with the sign of the first.
+fn remainder(elem: Elem, x: u64, y: u64) -> u64
+    requires x_fits { x < 2 ^ width elem }
+    requires y_fits { y < 2 ^ width elem }
+    requires divisor { 0 < y }
+    ensures { result ≡ op_bits BinOp.Rem elem x y }
+{
+    let rest = magnitude(elem, x) % magnitude(elem, y);
+    if x > greatest_of(elem) {
+        negate(elem, rest)
+    } else {
+        rest
+    }
+}
+
+// The order of the numbers, by the bits moved so that the least comes first.
+fn is_less(elem: Elem, x: u64, y: u64) -> bool
+    ensures { result ≡ nat_lt (turned (width elem) (greatest elem) x) (turned (width elem) (greatest elem) y) }
+{
+    turn(elem, x) < turn(elem, y)
+}
+
+fn turn(elem: Elem, x: u64) -> u64
+    ensures { result ≡ turned (width elem) (greatest elem) x }
+{
+    x.wrapping_add(low_mask(elem) - greatest_of(elem)) & low_mask(elem)
+}
+
+fn is_negative(elem: Elem, x: u64) -> bool
+    ensures { result ≡ nat_lt (greatest elem) x }
+{
+    x > greatest_of(elem)
+}
+
+// The bits of the number with the other sign.
+fn negate(elem: Elem, x: u64) -> u64
+    requires { x < 2 ^ width elem }
+    ensures { result ≡ (2 ^ width elem - x) % 2 ^ width elem }
+{
+    0u64.wrapping_sub(x) & low_mask(elem)
+}
+
+// The number without its sign.
+fn magnitude(elem: Elem, x: u64) -> u64
+    requires { x < 2 ^ width elem }
+    ensures { result ≡ magnitude (width elem) (greatest elem) x }
+{
+    if x > greatest_of(elem) {
+        negate(elem, x)
+    } else {
+        x
+    }
+}

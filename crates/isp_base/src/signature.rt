@@ -46,3 +46,22 @@ impl Argument {
         }
     }
 }
+
+impl Bound {
+    ghost use Rattle.isp_base.specs.Binding.{has_signature};
+
+    /// Whether there is one argument for each parameter, in order, of its kind and element type.
+    pub fn has_signature(&self, signature: &Signature) -> bool
+        ensures { result ≡ has_signature signature.now.params.items self.now.arguments.items }
+    {
+        if self.arguments.len() != signature.params.len() {
+            return false;
+        }
+        for (place, parameter) in signature.params.iter().enumerate() {
+            if !self.arguments[place].is_for(parameter) {
+                return false;
+            }
+        }
+        true
+    }
+}

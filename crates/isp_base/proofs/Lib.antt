@@ -1,0 +1,5 @@
+pub mod Wraps
+pub mod Signs
+pub mod Elems
+pub mod Words
+pub mod Bindings

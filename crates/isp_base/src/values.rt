@@ -1,0 +1,77 @@
+//! The values of an element type, and the words of 64 bits that hold them.
+//!
+//! A value is held by its bits in a `u64`, as many low ones as the element type has, in two's
+//! complement. The bits above are zero.
+ghost use Rattle.std.specs.Prelude.{◌≡◌, ◌-◌, ◌%◌, ◌^◌};
+ghost use Rattle.isp_base.specs.Values.{width, greatest, wrap, number};
+
+use crate::types::Elem;
+
+/// The word in which all bits of a value are set, and no other.
+pub fn low_mask(elem: Elem) -> u64
+    ensures { result ≡ 2 ^ width elem - 1 }
+{
+    match elem {
+        Elem::Bool => 1,
+        Elem::I8 | Elem::U8 => 0xff,
+        Elem::I16 | Elem::U16 => 0xffff,
+        Elem::I32 | Elem::U32 => 0xffff_ffff,
+        Elem::I64 | Elem::U64 => u64::MAX,
+    }
+}
+
+/// The greatest value. Bits above it stand for the negative values.
+pub fn greatest_of(elem: Elem) -> u64
+    ensures { result ≡ greatest elem }
+{
+    match elem {
+        Elem::Bool => 1,
+        Elem::I8 => 0x7f,
+        Elem::U8 => 0xff,
+        Elem::I16 => 0x7fff,
+        Elem::U16 => 0xffff,
+        Elem::I32 => 0x7fff_ffff,
+        Elem::U32 => 0xffff_ffff,
+        Elem::I64 => 0x7fff_ffff_ffff_ffff,
+        Elem::U64 => u64::MAX,
+    }
+}
+
+/// One less than the number of bits: the bits of a word that say by how many places to shift.
+pub fn amount_mask(elem: Elem) -> u64
+    ensures { result ≡ width elem - 1 }
+{
+    match elem {
+        Elem::Bool => 0,
+        Elem::I8 | Elem::U8 => 7,
+        Elem::I16 | Elem::U16 => 15,
+        Elem::I32 | Elem::U32 => 31,
+        Elem::I64 | Elem::U64 => 63,
+    }
+}
+
+/// The bits of a value, without those above its width.
+pub fn low_bits(elem: Elem, bits: u64) -> u64
+    ensures { result ≡ bits % 2 ^ width elem }
+{
+    bits & low_mask(elem)
+}
+
+/// The bits of the value that differs from `value` by a multiple of 2 to the width.
+pub fn wrap(elem: Elem, value: i128) -> u64
+    ensures { result ≡ wrap elem value }
+{
+    value.rem_euclid(low_mask(elem) as i128 + 1) as u64
+}
+
+/// The whole number that the low bits of `bits` stand for.
+pub fn number(elem: Elem, bits: u64) -> i128
+    ensures { result ≡ number elem bits }
+{
+    let low = low_bits(elem, bits);
+    if low > greatest_of(elem) {
+        low as i128 - (low_mask(elem) as i128 + 1)
+    } else {
+        low as i128
+    }
+}
