@@ -1,0 +1,5 @@
+pub mod Gang
+pub mod State
+pub mod Expressions
+pub mod Statements
+pub mod Runs
