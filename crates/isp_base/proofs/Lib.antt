@@ -2,4 +2,8 @@ pub mod Wraps
 pub mod Signs
 pub mod Elems
 pub mod Words
+pub mod Unaries
+pub mod Compares
+pub mod Converts
+pub mod Laws
 pub mod Bindings

@@ -59,7 +59,7 @@ max_is w g x y r p q = pick w g x y p q (int_lt (number_to w g y) (number_to w g
 
 -- ---- magnitudes
 
-abbrev signed : Bool → ℕ → ℤ
+abbrev pub signed : Bool → ℕ → ℤ
 signed true m = neg_ℤ (pos m)
 signed false m = pos m
 
@@ -75,7 +75,7 @@ differ_is true false a e = ap not e
 differ_is false true a e = ap not e
 differ_is false false a e = ap not e
 
-number_signed : (w g x : ℕ) → x < 2 ^ w → number_to w g x ≡ signed (nat_lt g x) (magnitude w g x)
+pub number_signed : (w g x : ℕ) → x < 2 ^ w → number_to w g x ≡ signed (nat_lt g x) (magnitude w g x)
 unfolding number_to
 number_signed w g x p = by (nat_lt g x)
   where

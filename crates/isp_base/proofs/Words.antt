@@ -17,7 +17,7 @@ use Rattle.isp_base.proofs.Elems.{width_le, greatest_lt}
 use Rattle.isp_base.proofs.Wraps.{wrap_to-pos, widen_is, add_is, sub_is, mul_is, shl_is, and_is, or_is, xor_is, wrap_number}
 use Rattle.isp_base.proofs.Signs.{lt_is, min_is, max_is, div_is, rem_is, amount_is, shr_is, differ}
 
-not_true : {b : Bool} → (b ≡ true → ⊥) → b ≡ false
+pub not_true : {b : Bool} → (b ≡ true → ⊥) → b ≡ false
 not_true {b} h = by b refl
   where
     by : (c : Bool) → b ≡ c → b ≡ false

@@ -1,6 +1,9 @@
 pub mod Types
 pub mod Rows
 pub mod Values
+pub mod Ranges
+pub mod Ranks
+pub mod Unary
 pub mod Binding
 pub mod Outcomes
 pub mod Words

@@ -4,15 +4,19 @@
 mod array;
 mod name;
 mod operators;
+mod order;
 mod signature;
 mod trap;
 mod types;
+mod unary;
 mod values;
 
 pub use array::Array;
 pub use name::Name;
-pub use operators::{BinOp, Compare, DivideByZero, apply, apply_nonzero};
+pub use operators::{BinOp, Compare, DivideByZero, UnaryOp, apply, apply_nonzero};
+pub use order::compare;
 pub use signature::{Argument, Bound, Parameter, Signature};
 pub use trap::{Trap, TrapKind};
-pub use types::{Elem, Gang, Rate, Span, Ty, Value};
-pub use values::{amount_mask, greatest_of, low_bits, low_mask, number, wrap};
+pub use types::{Elem, Gang, Rate, Span, Ty, Value, common, operand};
+pub use unary::apply_unary;
+pub use values::{amount_mask, convert, greatest_of, low_bits, low_mask, number, value_laws, wrap};

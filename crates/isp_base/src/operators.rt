@@ -1,9 +1,10 @@
 //! The operators on values.
-ghost use Rattle.std.specs.Prelude.{◌≡◌, ◌-◌, ◌%◌, ◌^◌, ◌<◌, ◌≢◌, pos, nat_lt, MatchResult, true};
-ghost use Rattle.isp_base.specs.Values.{width, greatest, number, op_bits, DividesByZero, divides};
-ghost use Rattle.isp_base.specs.Words.{turned, magnitude};
+ghost use Rattle.std.specs.Prelude.{◌≡◌, ◌^◌, ◌<◌, ◌≢◌, pos, MatchResult, true};
+ghost use Rattle.isp_base.specs.Values.{width, number, op_bits, DividesByZero, divides};
 
+use crate::order::is_less;
 use crate::types::Elem;
+use crate::unary::{is_negative, magnitude, negate};
 use crate::values::{amount_mask, greatest_of, low_bits, low_mask};
 use thiserror::Error;
 
@@ -33,6 +34,15 @@ pub enum Compare {
     LessOrEqual,
     Greater,
     GreaterOrEqual,
+}
+
+/// An operator on one value: `-`, `~`, the number without its sign, and `!`.
+#[derive(Clone, Copy, Debug, PartialEq, Eq)]
+pub enum UnaryOp {
+    Negate,
+    Invert,
+    Absolute,
+    Not,
 }
 
 /// The divisor is zero.
@@ -133,44 +143,5 @@ fn remainder(elem: Elem, x: u64, y: u64) -> u64
         negate(elem, rest)
     } else {
         rest
-    }
-}
-
-// The order of the numbers, by the bits moved so that the least comes first.
-fn is_less(elem: Elem, x: u64, y: u64) -> bool
-    ensures { result ≡ nat_lt (turned (width elem) (greatest elem) x) (turned (width elem) (greatest elem) y) }
-{
-    turn(elem, x) < turn(elem, y)
-}
-
-fn turn(elem: Elem, x: u64) -> u64
-    ensures { result ≡ turned (width elem) (greatest elem) x }
-{
-    x.wrapping_add(low_mask(elem) - greatest_of(elem)) & low_mask(elem)
-}
-
-fn is_negative(elem: Elem, x: u64) -> bool
-    ensures { result ≡ nat_lt (greatest elem) x }
-{
-    x > greatest_of(elem)
-}
-
-// The bits of the number with the other sign.
-fn negate(elem: Elem, x: u64) -> u64
-    requires { x < 2 ^ width elem }
-    ensures { result ≡ (2 ^ width elem - x) % 2 ^ width elem }
-{
-    0u64.wrapping_sub(x) & low_mask(elem)
-}
-
-// The number without its sign.
-fn magnitude(elem: Elem, x: u64) -> u64
-    requires { x < 2 ^ width elem }
-    ensures { result ≡ magnitude (width elem) (greatest elem) x }
-{
-    if x > greatest_of(elem) {
-        negate(elem, x)
-    } else {
-        x
     }
 }

@@ -1,6 +1,7 @@
 //! Element types, rates, places and gangs.
 ghost use Rattle.std.specs.Prelude.{◌≡◌};
 ghost use Rattle.isp_base.specs.Types.{gang_width, span_to};
+ghost use Rattle.isp_base.specs.Ranks.{common, operand};
 
 use std::fmt;
 
@@ -16,6 +17,26 @@ pub enum Elem {
     U32,
     I64,
     U64,
+}
+
+/// The type to which both operands of an operator are converted, `bool` first made `int32`: the
+/// later in the order of the element types.
+pub fn common(x: Elem, y: Elem) -> Elem
+    ensures { result ≡ common x y }
+{
+    let x = operand(x);
+    let y = operand(y);
+    if (x as u8) < (y as u8) { y } else { x }
+}
+
+/// The type with which an operand takes part in arithmetic: `bool` becomes `int32`.
+pub fn operand(elem: Elem) -> Elem
+    ensures { result ≡ operand elem }
+{
+    match elem {
+        Elem::Bool => Elem::I32,
+        _ => elem,
+    }
 }
 
 /// Whether the gang holds one value, or each instance its own.

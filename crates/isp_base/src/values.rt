@@ -2,8 +2,9 @@
 //!
 //! A value is held by its bits in a `u64`, as many low ones as the element type has, in two's
 //! complement. The bits above are zero.
-ghost use Rattle.std.specs.Prelude.{◌≡◌, ◌-◌, ◌%◌, ◌^◌};
-ghost use Rattle.isp_base.specs.Values.{width, greatest, wrap, number};
+ghost use Rattle.std.specs.Prelude.{◌≡◌, ◌+◌, ◌-◌, ◌%◌, ◌^◌, ◌<◌, nat_lt, if◌then◌else◌, ℕ, ℤ};
+ghost use Rattle.isp_base.specs.Values.{width, greatest, wrap, number, convert_bits};
+ghost use Rattle.isp_base.specs.Ranges.{IsValue, SameModulo};
 
 use crate::types::Elem;
 
@@ -75,3 +76,39 @@ pub fn number(elem: Elem, bits: u64) -> i128
         low as i128
     }
 }
+
+/// The value of type `from` as one of type `to`: whether it is not zero for `bool`, else wrapped.
+///
+/// The low bits of `bits` are read.
+pub fn convert(from: Elem, to: Elem, bits: u64) -> u64
+    ensures { result ≡ convert_bits to (number from bits) }
+{
+    let low = low_bits(from, bits);
+    match to {
+        Elem::Bool => u64::from(low != 0),
+        _ => low_bits(to, extended(from, low)),
+    }
+}
+
+// The same number in 64 bits.
+fn extended(elem: Elem, bits: u64) -> u64
+    requires { bits < 2 ^ width elem }
+    ensures { result ≡ (if nat_lt (greatest elem) bits then bits + (2 ^ 64 - 2 ^ width elem) else bits) }
+{
+    if bits > greatest_of(elem) {
+        bits + !low_mask(elem)
+    } else {
+        bits
+    }
+}
+
+/// What holds of all values: the bits that `wrap` gives fit, and stand for the one value that
+/// differs from the number by a multiple of 2 to the width; `wrap` and `number` undo one another.
+pub fn value_laws()
+    ensures fits { (t : Elem) (z : ℤ) → wrap t z < 2 ^ width t }
+    ensures value { (t : Elem) (z : ℤ) → IsValue t (number t (wrap t z)) }
+    ensures same { (t : Elem) (z : ℤ) → SameModulo (2 ^ width t) (number t (wrap t z)) z }
+    ensures only { (t : Elem) (y z : ℤ) → IsValue t y → SameModulo (2 ^ width t) y z → number t (wrap t z) ≡ y }
+    ensures back { (t : Elem) (z : ℤ) → IsValue t z → number t (wrap t z) ≡ z }
+    ensures bits { (t : Elem) (b : ℕ) → b < 2 ^ width t → wrap t (number t b) ≡ b }
+{}
