@@ -1,0 +1,31 @@
+//! Conversion between element types.
+ghost use Rattle.std.specs.Prelude.{◌≡◌, ℕ, ◌^◌, ◌<◌, map};
+ghost use Rattle.isp_base.specs.Values.{width, convert_bits, wrap, number};
+ghost use Rattle.isp_base.specs.Rows.{Fit};
+
+use super::flags;
+use isp_base::{Elem, greatest_of, low_mask};
+use std::simd::prelude::*;
+
+// The numbers of one element type as values of another.
+pub(crate) fn convert<const N: usize>(from: Elem, to: Elem, x: Simd<u64, N>) -> Simd<u64, N>
+    requires { Fit from x }
+    ensures { result ≡ map (λ a. convert_bits to (number from a)) x.entry }
+{
+    match to {
+        Elem::Bool => flags(x),
+        _ => wrap(from, to, x),
+    }
+}
+
+// The numbers, wrapped to another type: their sign is spread to 64 bits and the word cut to the width.
+fn wrap<const N: usize>(from: Elem, to: Elem, x: Simd<u64, N>) -> Simd<u64, N>
+    requires { Fit from x }
+    ensures { result ≡ map (λ a. wrap to (number from a)) x.entry }
+{
+    let spread = Simd::splat(u64::MAX - low_mask(from));
+    let wide = x
+        .simd_gt(Simd::splat(greatest_of(from)))
+        .select(x + spread, x);
+    wide & Simd::splat(low_mask(to))
+}

@@ -1,0 +1,193 @@
+//! Which of N lanes are on.
+ghost use Rattle.std.proofs.Common.{ap};
+ghost use Rattle.std.specs.Prelude.{◌≡◌, ℕ, ◌<◌, ◌≤◌, List, Bool, true, false, length, map, replicate, slice_index, slice_get, Some, IfSome, ◌&&◌, ◌||◌, not, slice_set, position, ◌^◌, ◌==◌};
+ghost use Rattle.std.specs.List.{list_any};
+ghost use Rattle.std.specs.Simd.Lanes.{zip2, sel_l, mask_l};
+ghost use Rattle.isp_base.specs.declared.types.Elem.TheVariants.{Bool as Truth, I64};
+ghost use Rattle.isp_base.specs.Values.{width};
+ghost use Rattle.isp_lanes.specs.Lanes.{is_on, lowest, range};
+ghost use Rattle.isp_lanes.specs.Bytes.{byte_of, bytes_back};
+
+use crate::kernels;
+use crate::lanes::Lanes;
+use std::marker::Model;
+use std::simd::prelude::*;
+
+/// The lanes of a vector that an operator works on: each of the N lanes, 64 at most, is on or off.
+/// Contracts see the list of the lanes.
+#[derive(Clone, Copy, Debug)]
+pub struct LaneMask<const N: usize> {
+    lanes: [u8; N],
+}
+
+impl<const N: usize> Model for LaneMask<N> {
+    ghost Value = { List Bool };
+
+    ghost view = { λ m. map is_on m.lanes };
+
+    ghost inverse = { λ bs. record { lanes = map byte_of bs } };
+
+    ghost inverse_ok = { λ a h. ap (λ xs. record { lanes = xs }) (bytes_back a.lanes h.1) };
+
+    ghost invariant = { λ m. (length m.lanes ≡ N) × ((k : ℕ) → slice_index m.lanes k < 2) × (N ≤ 64) };
+}
+
+impl<const N: usize> LaneMask<N> {
+    /// All lanes on.
+    pub fn full() -> Self
+        requires { N ≤ 64 }
+        ensures { result ≡ replicate N true }
+    {
+        LaneMask { lanes: [1; N] }
+    }
+
+    /// All lanes off.
+    pub fn none() -> Self
+        requires { N ≤ 64 }
+        ensures { result ≡ replicate N false }
+    {
+        LaneMask { lanes: [0; N] }
+    }
+
+    /// What holds of every mask: it has N lanes, and N is 64 at most. Changes nothing.
+    pub fn told(&self)
+        ensures long { length self.now ≡ N }
+        ensures wide { N ≤ 64 }
+    {
+        let _ = &self.lanes;
+    }
+
+    /// Whether the lane is on.
+    pub fn get(&self, lane: usize) -> bool
+        requires { lane < N }
+        ensures { slice_get self.now lane ≡ Some result }
+    {
+        self.lanes[lane] != 0
+    }
+
+    /// Turns the lane on or off.
+    pub fn set(&mut self, lane: usize, on: bool)
+        requires { lane < N }
+        ensures { self.new ≡ slice_set self.old lane on }
+    {
+        self.lanes[lane] = on as u8;
+    }
+
+    /// The lanes that are on in both masks.
+    pub fn and(&self, other: &Self) -> Self
+        ensures { result ≡ zip2 (λ a b. a && b) self.now other.now }
+    {
+        LaneMask {
+            lanes: (Simd::from_array(self.lanes) & Simd::from_array(other.lanes)).to_array(),
+        }
+    }
+
+    /// The lanes that are on in one of the masks, or in both.
+    pub fn or(&self, other: &Self) -> Self
+        ensures { result ≡ zip2 (λ a b. a || b) self.now other.now }
+    {
+        LaneMask {
+            lanes: (Simd::from_array(self.lanes) | Simd::from_array(other.lanes)).to_array(),
+        }
+    }
+
+    /// The lanes of this mask that are off in the other.
+    pub fn and_not(&self, other: &Self) -> Self
+        ensures { result ≡ zip2 (λ a b. a && not b) self.now other.now }
+    {
+        let off = Simd::from_array(other.lanes) ^ Simd::splat(1);
+        LaneMask {
+            lanes: (Simd::from_array(self.lanes) & off).to_array(),
+        }
+    }
+
+    /// The lanes of this mask in which a vector of bools is true.
+    pub fn test(&self, x: &Lanes<N>) -> Self
+        requires { x.now.elem ≡ Truth }
+        ensures { result ≡ zip2 (λ m b. m && is_on b) self.now x.now.bits }
+    {
+        self.nonzero(x.row())
+    }
+
+    /// The lowest lane that is on, alone.
+    pub fn lowest(&self) -> Self
+        ensures { result ≡ lowest self.now }
+    {
+        self.told();
+        let mut lone = LaneMask::none();
+        if let Some(lane) = self.first() {
+            lone.set(lane, true);
+        }
+        lone
+    }
+
+    /// The number of the lowest lane that is on, where one is.
+    pub fn first(&self) -> Option<usize>
+        ensures value { result ≡ position (λ b. b) self.now }
+        ensures there { IfSome result (λ lane. lane < N) }
+    {
+        self.told();
+        let bits = self.bits();
+        if bits == 0 {
+            None
+        } else {
+            Some(bits.trailing_zeros() as usize)
+        }
+    }
+
+    /// The lanes whose number, added to `start`, is below `end`. Both are the bits of an int64, and
+    /// the sum is that of whole numbers.
+    pub fn range(start: u64, end: u64) -> Self
+        requires { N ≤ 64 }
+        ensures { result ≡ range N start end }
+    {
+        let count = kernels::numbers_between(start, end);
+        LaneMask::full().nonzero(kernels::below(count))
+    }
+
+    /// Whether a lane is on.
+    pub fn any(&self) -> bool
+        ensures { result ≡ list_any (λ b. b) self.now }
+    {
+        self.bits() != 0
+    }
+}
+
+// What the kernels ask of a mask.
+impl<const N: usize> LaneMask<N> {
+    // One bit for each lane, that of lane 0 lowest.
+    fn bits(&self) -> u64
+        ensures { result ≡ mask_l self.now }
+    {
+        Simd::from_array(self.lanes)
+            .simd_ne(Simd::splat(0))
+            .to_bitmask()
+    }
+
+    // The lanes that are on and have a word other than 0.
+    fn nonzero(&self, words: Simd<u64, N>) -> Self
+        ensures { result ≡ zip2 (λ m b. m && is_on b) self.now words.entry }
+    {
+        let flags = kernels::flags(words);
+        LaneMask {
+            lanes: (Simd::from_array(self.lanes) & flags.cast::<u8>()).to_array(),
+        }
+    }
+
+    // The lanes that are on and have the word 0.
+    pub(crate) fn zeros(&self, words: Simd<u64, N>) -> Self
+        ensures { result ≡ zip2 (λ m b. m && b == 0) self.now words.entry }
+    {
+        self.and_not(&self.nonzero(words))
+    }
+
+    // The new words in the lanes that are on, the old ones in the others.
+    pub(crate) fn merge(&self, new: Simd<u64, N>, old: Simd<u64, N>) -> Simd<u64, N>
+        ensures { result ≡ sel_l self.now new.entry old.entry }
+    {
+        Simd::from_array(self.lanes)
+            .cast::<u64>()
+            .simd_ne(Simd::splat(0))
+            .select(new, old)
+    }
+}
