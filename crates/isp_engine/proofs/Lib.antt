@@ -1,0 +1,4 @@
+pub mod Floats
+pub mod Members
+pub mod Numbers
+pub mod Reading
