@@ -1,5 +1,5 @@
 -- The number that Rust gives a mark is its rank.
-use Rattle.std.proofs.Common.{◌≡◌, ℕ, refl}
+use Rattle.std.proofs.Common.{◌≡◌, refl}
 use denote.Enum.Declared.{tag_of}
 use Rattle.isp_lex.specs.contracts.token.Mark.{the_type}
 use Rattle.isp_lex.specs.declared.token.Mark.{Mark}

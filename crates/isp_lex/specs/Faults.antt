@@ -1,5 +1,5 @@
 -- The numbers of the rules, and the order of faults.
-use Rattle.std.specs.Prelude.{◌≡◌, ℕ, ◌<◌, ◌≤◌, ◌⊎◌}
+use Rattle.std.specs.Prelude.{ℕ}
 use Rattle.isp_base.specs.declared.types.Span.{Span}
 use Rattle.isp_lex.specs.declared.fault.Rule.{Rule}
 use Rattle.isp_lex.specs.declared.fault.Rule.TheVariants.{BadByte, BadNumber, BadText, OpenComment, TooLong, Unexpected, TooDeep, LeftOut, UnknownName, NameTwice, Mismatch, Arguments, ConstAssigned, BadPrint, VaryingToUniform, BadExit, NestedForeach, BadExport, NotYet}

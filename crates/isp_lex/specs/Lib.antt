@@ -1,2 +1,7 @@
+pub mod Bytes
 pub mod Faults
+pub mod Lexing
+pub mod Numbers
+pub mod Reading
+pub mod Spelling
 pub mod Tokens

@@ -2,7 +2,10 @@
 #![tactic(auto)]
 
 mod fault;
+mod lexer;
+mod reserved;
 mod token;
 
 pub use fault::{Fault, Rule, SourceFault};
+pub use lexer::{lex, one_list};
 pub use token::{Mark, Token, TokenKind, Tokens};

@@ -99,8 +99,8 @@ impl TokenKind {
 /// The tokens of a source text in their order, and the length of the text in bytes.
 #[derive(Debug, Drop)]
 pub struct Tokens {
-    items: Vec<Token>,
-    end: usize,
+    pub(crate) items: Vec<Token>,
+    pub(crate) end: usize,
 }
 
 impl Model for Tokens {

@@ -1,6 +1,5 @@
-use Rattle.std.proofs.Common.{◌==◌, ap, ◌∙◌, refl}
+use Rattle.std.proofs.Common.{refl}
 use Rattle.isp_lex.proofs.Marks.{tag_rank}
-use Rattle.isp_lex.specs.Tokens.{is_mark}
 use Rattle.isp_lex.proofs.token.TokenKind.is.Goals as goal
 
 pub returns-in-Mark : goal.returns-in-Mark
