@@ -1,1 +1,4 @@
 pub mod Tree
+pub mod Grammar
+pub mod Promise
+pub mod Reading

@@ -1,0 +1,168 @@
+-- Small laws of reading.
+use Rattle.std.proofs.Common.{◌≡◌, ℕ, zero, suc, ◌<◌, Bool, true, false, cond, eqb, List, [], ◌∷◌, ◌++◌, length, drop, Option, Some, None, Result, Ok, Err, refl, sym, ap, ◌∙◌, arith, inl, inr, ◌⊎◌, eqb-true, eq-eqb}
+use Rattle.isp_base.specs.declared.types.Span.{Span}
+use Rattle.isp_lex.specs.Tokens.{rank, is_mark, at, starts_with}
+use Rattle.isp_lex.specs.declared.token.Mark.{Mark}
+use Rattle.isp_lex.specs.declared.token.Mark.TheVariants as mark
+use Rattle.isp_lex.specs.declared.token.TokenKind.{TokenKind}
+use Rattle.isp_lex.specs.declared.token.TokenKind.TheVariants as kind
+use Rattle.isp_lex.specs.declared.token.Token.{Token}
+use Rattle.isp_syntax.specs.Grammar.{word}
+use Rattle.isp_syntax.specs.Reading.{◌>>=◌, refusal, refuse, head, on_head, mark_at, word_from, word_at}
+use Rattle.isp_syntax.specs.declared.stop.Why.TheVariants.{Unexpected}
+use Rattle.isp_syntax.specs.declared.stop.Refusal.{Refusal}
+use Rattle.isp_syntax.specs.declared.tree.Word.{Word}
+
+-- ---- results
+
+pub ok_is : {A : Type 0} {x y : A} → ◌≡◌ {A = Result A Refusal} (Ok x) (Ok y) → x ≡ y
+ok_is e = cc
+
+pub err_is : {A : Type 0} {x y : Refusal} → ◌≡◌ {A = Result A Refusal} (Err x) (Err y) → x ≡ y
+err_is e = cc
+
+pub ok_err : {A : Type 0} {x : A} {y : Refusal} → ◌≡◌ {A = Result A Refusal} (Ok x) (Err y) → ⊥
+ok_err e = cc
+
+pub err_ok : {A : Type 0} {x : A} {y : Refusal} → ◌≡◌ {A = Result A Refusal} (Err y) (Ok x) → ⊥
+err_ok e = cc
+
+pub some_is : {A : Type 0} {x y : A} → ◌≡◌ {A = Option A} (Some x) (Some y) → x ≡ y
+some_is e = cc
+
+pub none_some : {A : Type 0} {x : A} → ◌≡◌ {A = Option A} None (Some x) → ⊥
+none_some e = cc
+
+-- the value of a step that did not fail
+pub bind_ok : {A B : Type 0} (r : Result A Refusal) (f : A → Result B Refusal) (y : B) → (r >>= f) ≡ Ok y → (x : A) × (r ≡ Ok x) × (f x ≡ Ok y)
+bind_ok (Ok x) f y e = (x, refl, e)
+bind_ok (Err d) f y e = absurd cc
+
+-- where a step failed: at once, or later
+pub bind_err : {A B : Type 0} (r : Result A Refusal) (f : A → Result B Refusal) (d : Refusal) → (r >>= f) ≡ Err d → (r ≡ Err d) ⊎ ((x : A) × (r ≡ Ok x) × (f x ≡ Err d))
+bind_err (Ok x) f d e = inr (x, refl, e)
+bind_err (Err c) f d e = inl cc
+
+-- what a choice gave
+pub chosen : {A : Type 0} (b : Bool) (x y z : A) → cond b x y ≡ z → ((b ≡ true) × (x ≡ z)) ⊎ ((b ≡ false) × (y ≡ z))
+chosen true x y z e = inl (refl, e)
+chosen false x y z e = inr (refl, e)
+
+pub choice_fails : {A : Type 0} (b : Bool) (x y : Refusal) → (r : Refusal) × (◌≡◌ {A = Result A Refusal} (cond b (Err x) (Err y)) (Err r))
+choice_fails true x y = (x, refl)
+choice_fails false x y = (y, refl)
+
+-- ---- the first token
+
+pub starts_by_head : (m : Mark) (ts : List Token) → starts_with m ts ≡ on_head false (is_mark m) (head ts)
+starts_by_head m [] = refl
+starts_by_head m (t ∷ ts) = refl
+
+pub starts_same : (m : Mark) (a b : List Token) → head a ≡ head b → starts_with m a ≡ starts_with m b
+starts_same m a b e = starts_by_head m a ∙ ap (λ h. on_head false (is_mark m) h) e ∙ sym (starts_by_head m b)
+
+pub head_past : (a b c : List Token) → head b ≡ head c → head (a ++ b) ≡ head (a ++ c)
+head_past [] b c e = e
+head_past (t ∷ a) b c e = refl
+
+-- the head of no tokens, and of some
+pub head_none : {A : Type 0} (none : A) (f : TokenKind → A) (u : List Token) → length u ≡ 0 → on_head none f (head u) ≡ none
+head_none none f [] e = refl
+head_none none f (t ∷ u) e = absurd (omega arith)
+
+pub head_some : {A : Type 0} (none : A) (f : TokenKind → A) (u : List Token) (t : Token) (rest : List Token) (b : A) → u ≡ t ∷ rest → f t.kind ≡ b → on_head none f (head u) ≡ b
+head_some none f u t rest b w e = rw w e
+
+-- ---- marks
+
+marks : List Mark
+marks = mark.ParenOpen ∷ mark.ParenClose ∷ mark.BraceOpen ∷ mark.BraceClose ∷ mark.BracketOpen ∷ mark.BracketClose ∷ mark.Semicolon ∷ mark.Comma ∷ mark.Assign ∷ mark.Plus ∷ mark.Minus ∷ mark.Star ∷ mark.Void ∷ mark.Bool ∷ mark.Int ∷ mark.Int8 ∷ mark.Int16 ∷ mark.Int32 ∷ mark.Int64 ∷ mark.Uint ∷ mark.Uint8 ∷ mark.Uint16 ∷ mark.Uint32 ∷ mark.Uint64 ∷ mark.Signed ∷ mark.Unsigned ∷ mark.Const ∷ mark.Uniform ∷ mark.Varying ∷ mark.Export ∷ mark.Static ∷ mark.Inline ∷ mark.If ∷ mark.Cif ∷ mark.Else ∷ mark.While ∷ mark.Cwhile ∷ mark.Do ∷ mark.Cdo ∷ mark.For ∷ mark.Cfor ∷ mark.Foreach ∷ mark.ForeachTiled ∷ mark.ForeachActive ∷ mark.Unmasked ∷ mark.Break ∷ mark.Continue ∷ mark.Return ∷ mark.Print ∷ mark.Assert ∷ mark.True ∷ mark.False ∷ mark.ProgramIndex ∷ mark.ProgramCount ∷ []
+
+pick : List Mark → ℕ → Mark
+pick [] n = mark.ParenOpen
+pick (m ∷ ms) zero = m
+pick (m ∷ ms) (suc n) = pick ms n
+
+pick_rank : (m : Mark) → pick marks (rank m) ≡ m
+unfolding marks pick
+pick_rank mark.ParenOpen = refl
+pick_rank m = refl
+
+pub same_mark : (m l : Mark) → rank m ≡ rank l → m ≡ l
+same_mark m l e = sym (pick_rank m) ∙ ap (pick marks) e ∙ pick_rank l
+
+eqb_is : (a b : ℕ) → eqb a b ≡ true → a ≡ b
+eqb_is a b e = omega (arith, eqb-true _ _ e)
+
+pub is_mark_is : (m : Mark) (k : TokenKind) → is_mark m k ≡ true → k ≡ kind.Mark m
+is_mark_is m (kind.Word w) e = absurd cc
+is_mark_is m (kind.Number n) e = absurd cc
+is_mark_is m (kind.Mark l) e = ap kind.Mark (sym (same_mark m l (eqb_is _ _ e)))
+is_mark_is m kind.LeftOut e = absurd cc
+
+pub is_mark_same : (m : Mark) → is_mark m (kind.Mark m) ≡ true
+is_mark_same m = eq-eqb (rank m) (rank m) refl
+
+abbrev pub token : TokenKind → Span → Token
+token k s = record { kind = k; span = s }
+
+pub starts_is : (m : Mark) (ts : List Token) → starts_with m ts ≡ true → (s : Span) × (rest : List Token) × (ts ≡ at m s ∷ rest)
+starts_is m [] e = absurd cc
+starts_is m (t ∷ ts) e = (t.span, ts, ap (λ (k : TokenKind). token k t.span ∷ ts) (is_mark_is m t.kind e))
+
+-- where a mark stands, what comes after it
+pub starts_cons : (m : Mark) (ts : List Token) → starts_with m ts ≡ true → (s : Span) × (ts ≡ at m s ∷ drop 1 ts)
+starts_cons m ts e =
+    let o = starts_is m ts e in
+    let d : drop 1 ts ≡ o.1 = ap (λ (l : List Token). drop 1 l) o.2 in
+    (o.0, o.2 ∙ ap (λ (l : List Token). at m o.0 ∷ l) (sym d))
+
+pub drop_shorter : (m : Mark) (ts : List Token) → starts_with m ts ≡ true → length (drop 1 ts) < length ts
+drop_shorter m [] e = absurd cc
+drop_shorter m (t ∷ ts) e = omega arith
+
+pub mark_ok : (m : Mark) (ts : List Token) (s : Span) (rest : List Token) → mark_at m ts ≡ Ok (s, rest) → ts ≡ at m s ∷ rest
+unfolding mark_at
+mark_ok m [] s rest e = absurd (err_ok e)
+mark_ok m (t ∷ ts) s rest e =
+    elim (chosen (is_mark m t.kind) (Ok (t.span, ts)) (refuse Unexpected (t ∷ ts)) (Ok (s, rest)) e) [
+      | inl p ↦
+          let same = ok_is p.1 in
+          ap (λ (k : TokenKind). token k t.span ∷ ts) (is_mark_is m t.kind p.0) ∙ ap (λ (q : Span × List Token). at m q.0 ∷ q.1) same
+      | inr p ↦ absurd (err_ok p.1)
+    ]
+
+pub mark_err : (m : Mark) (ts : List Token) (r : Refusal) → mark_at m ts ≡ Err r → (r ≡ refusal Unexpected ts) × (starts_with m ts ≡ false)
+unfolding mark_at
+mark_err m [] r e = (sym (err_is e), refl)
+mark_err m (t ∷ ts) r e =
+    elim (chosen (is_mark m t.kind) (Ok (t.span, ts)) (refuse Unexpected (t ∷ ts)) (Err r) e) [
+      | inl p ↦ absurd (ok_err p.1)
+      | inr p ↦ (sym (err_is p.1), p.0)
+    ]
+
+pub mark_off : (m : Mark) (ts : List Token) → starts_with m ts ≡ false → mark_at m ts ≡ refuse Unexpected ts
+unfolding mark_at
+mark_off m [] e = refl
+mark_off m (t ∷ ts) e = rw e refl
+
+pub mark_again : (m : Mark) (s : Span) (rest : List Token) → mark_at m (at m s ∷ rest) ≡ Ok (s, rest)
+unfolding mark_at
+mark_again m s rest = rw (is_mark_same m) refl
+
+-- ---- names
+
+word_from_ok : (k : TokenKind) (s : Span) (ts : List Token) (w : Word) (rest : List Token) → word_from k (token k s) ts ≡ Ok (w, rest) → token k s ∷ ts ≡ word w ∷ rest
+word_from_ok (kind.Word n) s ts w rest e = ap (λ (q : Word × List Token). word q.0 ∷ q.1) (ok_is e)
+word_from_ok (kind.Number v) s ts w rest e = absurd (err_ok e)
+word_from_ok (kind.Mark m) s ts w rest e = absurd (err_ok e)
+word_from_ok kind.LeftOut s ts w rest e = absurd (err_ok e)
+
+pub word_ok : (ts : List Token) (w : Word) (rest : List Token) → word_at ts ≡ Ok (w, rest) → ts ≡ word w ∷ rest
+unfolding word_at
+word_ok [] w rest e = absurd (err_ok e)
+word_ok (t ∷ ts) w rest e = word_from_ok t.kind t.span ts w rest e
+
+pub word_again : (w : Word) (rest : List Token) → word_at (word w ∷ rest) ≡ Ok (w, rest)
+unfolding word_at
+word_again w rest = refl

@@ -1,0 +1,81 @@
+//! From tokens to the tree.
+ghost use Rattle.std.specs.Prelude.{◌≡◌, ◌≤◌, ◌-◌, IfOk, IfErr, length, drop};
+ghost use Rattle.isp_syntax.specs.Tree.{depth_of_functions, functions_of};
+ghost use Rattle.isp_syntax.specs.Grammar.{IsProgram};
+ghost use Rattle.isp_syntax.specs.Promise.{limit, rule_of, AtToken};
+ghost use Rattle.isp_syntax.specs.Reading.{Gives, program_at, fault_of};
+
+use crate::function::function;
+use crate::reading::refuse;
+use crate::stop::{Refusal, Stop, Why};
+use crate::tree::{Function, Tree};
+use isp_base::Span;
+use isp_lex::{Fault, Rule, SourceFault, Token, TokenKind, Tokens};
+use std::alloc::Global;
+
+/// The deepest tree that is taken: a function's body counts one, and so does each statement and each
+/// node of an expression.
+pub const DEPTH_LIMIT: usize = 128;
+
+#[tactic(auto, unfolding(crate::specs::Reading::program_at))]
+fn program(alloc: Global, tokens: &[Token]) -> Result<Vec<Function>, Stop>
+    ensures { Gives (λ fs. functions_of fs.items) result (program_at 127 tokens.now) }
+{
+    let (only, rest) = function(alloc, DEPTH_LIMIT - 1, tokens)?;
+    if !rest.is_empty() {
+        return Err(refuse(Why::Unexpected, rest));
+    }
+    let mut all = Vec::new(alloc);
+    all.push(only)?;
+    Ok(all)
+}
+
+/// The rule that a token breaks which may not stand where it stands.
+fn rule_of(kind: &TokenKind) -> Rule
+    ensures { result ≡ rule_of kind.now }
+{
+    match kind {
+        TokenKind::LeftOut => Rule::LeftOut,
+        _ => Rule::Unexpected,
+    }
+}
+
+fn fault_at(tokens: &Tokens, refusal: Refusal) -> Fault
+    ensures { result ≡ fault_of refusal.why tokens.now.end (drop (length tokens.now.items - refusal.left) tokens.now.items) }
+{
+    let all = tokens.as_slice();
+    let place = all.len().saturating_sub(refusal.left);
+    let (rule, span) = match &all[place..] {
+        [] => {
+            let end = tokens.end();
+            (Rule::Unexpected, Span { start: end, end })
+        }
+        [first, ..] => (rule_of(&first.kind), first.span),
+    };
+    match refusal.why {
+        Why::Unexpected => Fault { rule, span },
+        Why::TooDeep => Fault {
+            rule: Rule::TooDeep,
+            span,
+        },
+    }
+}
+
+/// The tree of the tokens of a text.
+///
+/// 10 Unexpected: the first token with which no program goes on, with its span; where the text ends
+/// too soon, the empty span at its end. 12 LeftOut in place of it, where that token is a word that
+/// the language leaves out. 11 TooDeep: the tree would be deeper than 128. 0 Memory.
+pub fn parse(alloc: Global, tokens: &Tokens) -> Result<Tree, SourceFault>
+    // It is a tree of the tokens, and no deeper than the limit.
+    ensures found { IfOk result (λ t. IsProgram tokens.now.items (functions_of t.functions.items)) }
+    ensures shallow { IfOk result (λ t. depth_of_functions (functions_of t.functions.items) ≤ limit) }
+    // Another refusal than of memory is 10, 11 or 12, and is at a token or at the end of the text.
+    ensures at_token { IfErr result (λ e. AtToken e tokens.now) }
+{
+    match program(alloc, tokens.as_slice()) {
+        Ok(functions) => Ok(Tree { functions }),
+        Err(Stop::Memory) => Err(SourceFault::Memory),
+        Err(Stop::Refused(refusal)) => Err(SourceFault::Refused(fault_at(tokens, refusal))),
+    }
+}

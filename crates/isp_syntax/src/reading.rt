@@ -1,0 +1,75 @@
+//! Single tokens.
+ghost use Rattle.std.specs.Prelude.{◌≡◌, ◌<◌, IfOk, length, drop, max};
+ghost use Rattle.isp_lex.specs.Tokens.{starts_with};
+ghost use Rattle.isp_syntax.specs.Reading.{Gives, refusal, mark_at, word_at};
+
+use crate::stop::{Refusal, Stop, Why};
+use crate::tree::Word;
+use isp_base::Span;
+use isp_lex::{Mark, Token, TokenKind};
+
+/// The refusal of the first of these tokens, or of the end.
+pub fn refuse(why: Why, tokens: &[Token]) -> Stop
+    ensures { result ≡ Stop.Refused (refusal why tokens.now) }
+{
+    Stop::Refused(Refusal {
+        why,
+        left: tokens.len(),
+    })
+}
+
+/// Whether the first token is this mark.
+pub fn starts_with(mark: Mark, tokens: &[Token]) -> bool
+    ensures { result ≡ starts_with mark tokens.now }
+{
+    match tokens {
+        [] => false,
+        [first, ..] => first.kind.is(mark),
+    }
+}
+
+/// The tokens after the first.
+pub fn tail(tokens: &[Token]) -> &[Token]
+    requires { 0 < length tokens.now }
+    ensures { result.now ≡ drop 1 tokens.now }
+{
+    &tokens[1..]
+}
+
+/// One token of this mark: where it stands, and the tokens after it.
+#[tactic(auto, unfolding(crate::specs::Reading::mark_at))]
+pub fn mark(mark: Mark, tokens: &[Token]) -> Result<(Span, &[Token]), Stop>
+    ensures value { Gives (λ r. (r.0, r.1.now)) result (mark_at mark tokens.now) }
+    ensures rest { IfOk result (λ r. length r.1.now < length tokens.now) }
+{
+    match tokens {
+        [first, rest @ ..] if first.kind.is(mark) => Ok((first.span, rest)),
+        _ => Err(refuse(Why::Unexpected, tokens)),
+    }
+}
+
+/// One name, and the tokens after it.
+#[tactic(auto, unfolding(crate::specs::Reading::word_at))]
+pub fn word(tokens: &[Token]) -> Result<(Word, &[Token]), Stop>
+    ensures value { Gives (λ r. (r.0, r.1.now)) result (word_at tokens.now) }
+    ensures rest { IfOk result (λ r. length r.1.now < length tokens.now) }
+{
+    let Some((first, rest)) = tokens.split_first() else {
+        return Err(refuse(Why::Unexpected, tokens));
+    };
+    match &first.kind {
+        TokenKind::Word(name) => {
+            let name = name.copied()?;
+            let span = first.span;
+            Ok((Word { name, span }, rest))
+        }
+        _ => Err(refuse(Why::Unexpected, tokens)),
+    }
+}
+
+/// The larger one.
+pub fn larger(a: usize, b: usize) -> usize
+    ensures { result ≡ max a b }
+{
+    if a < b { b } else { a }
+}
