@@ -1,2 +1,10 @@
 pub mod Typed
 pub mod Fine
+pub mod Order
+pub mod Promise
+pub mod Scopes
+pub mod Rules
+pub mod Rates
+pub mod Program
+pub mod Views
+pub mod Judge

@@ -1,10 +1,11 @@
 //! Accepted programs.
-ghost use Rattle.std.specs.Prelude.{◌≡◌};
-ghost use Rattle.isp_rates.specs.Fine.{AreFineFunctions};
-ghost use Rattle.isp_rates.specs.Typed.{functions_of};
+ghost use Rattle.std.specs.Prelude.{◌≡◌, IfSome, option_map, slice_get};
+ghost use Rattle.isp_rates.specs.Fine.{AreFineFunctions, IsFineFunction};
+ghost use Rattle.isp_rates.specs.Typed.{function_of, functions_of};
+ghost use Rattle.isp_rates.specs.Program.{function_named};
 
 use crate::typed::TypedFunction;
-use isp_base::Gang;
+use isp_base::{Gang, Signature};
 use std::marker::Model;
 
 /// A gang size, and a program's functions in the order of the text.
@@ -37,7 +38,56 @@ impl Model for Checked {
     ghost invariant = { λ c. AreFineFunctions (functions_of c.program.functions.items) };
 }
 
+/// The first function of a name.
+fn named<'a>(functions: &'a [TypedFunction], name: &str) -> Option<&'a TypedFunction>
+    ensures { option_map (λ f. function_of f.now) result ≡ function_named name.now (functions_of functions.now) }
+{
+    for f in functions {
+        if f.name.as_str() == name {
+            return Some(f);
+        }
+    }
+    None
+}
+
 impl Checked {
+    /// A program of which nothing is wrong.
+    pub(crate) fn new(program: Program) -> Checked
+        requires { AreFineFunctions (functions_of program.functions.items) }
+        ensures { result ≡ program }
+    {
+        Checked { program }
+    }
+
+    /// What an exported function takes and gives; every function is exported. None where there is no
+    /// function of that name.
+    pub fn signature(&self, entry: &str) -> Option<&Signature>
+        ensures { option_map (λ s. s.now) result ≡ option_map (λ f. f.signature) (function_named entry.now (functions_of self.now.functions.items)) }
+    {
+        match self.function(entry) {
+            Some(function) => Some(&function.signature),
+            None => None,
+        }
+    }
+
+    /// The first function of a name. None where there is none.
+    pub fn function(&self, entry: &str) -> Option<&TypedFunction>
+        ensures first { option_map (λ f. function_of f.now) result ≡ function_named entry.now (functions_of self.now.functions.items) }
+        ensures fine { IfSome result (λ f. IsFineFunction (function_of f.now)) }
+    {
+        named(&self.program.functions, entry)
+    }
+
+    /// The name of an exported function, by its number from 0 in the order of the text. None past the last.
+    pub fn export(&self, k: usize) -> Option<&str>
+        ensures { option_map (λ s. s.now) result ≡ option_map (λ f. f.name) (slice_get (functions_of self.now.functions.items) k) }
+    {
+        match self.program.functions.get(k) {
+            Some(function) => Some(function.name.as_str()),
+            None => None,
+        }
+    }
+
     /// The program, of which nothing is wrong.
     pub fn program(&self) -> &Program
         ensures same { result.now ≡ self.now }

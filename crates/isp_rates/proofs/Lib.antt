@@ -1,0 +1,7 @@
+pub mod Order
+pub mod Right
+pub mod Exprs
+pub mod Steps
+pub mod Pairs
+pub mod Fine
+pub mod Programs
