@@ -1,4 +1,5 @@
 pub mod Order
+pub mod Scopes
 pub mod Right
 pub mod Exprs
 pub mod Steps

@@ -55,10 +55,6 @@ pub variables_step : (vars : List Holds) (rest more : List rust.Stmt) (total : L
     → variables_after_all vars (stmts_of rest) ≡ total → variables_after_all (variables_after vars (stmt_of x)) (stmts_of more) ≡ total
 variables_step vars rest more total x split e = subst (λ (z : List rust.Stmt). variables_after_all vars (stmts_of z) ≡ total) split e
 
-pub names_grow : (n : ℕ) (ns : List Binding) (vars : List Holds) (s : Stmt) → n ≤ length ns → n ≤ length (names_after ns vars s)
-names_grow n ns vars (declare r w x s) le = omega (arith, length-append {A = Binding})
-names_grow n ns vars (assign p x s) le = le
-
 pub beside_assoc : {A : Type 0} (a b : Option Fault) (v : Result A Fault) → beside (first_of a b) v ≡ beside a (beside b v)
 beside_assoc None b v = refl
 beside_assoc (Some f) None v = refl

@@ -1,5 +1,5 @@
 -- What the code holds, without where it lies in memory. No part of the promise.
-use Rattle.std.specs.Prelude.{ℕ, List, map, Bool, true, false}
+use Rattle.std.specs.Prelude.{ℕ, suc, List, [], ◌∷◌, map, bytes_eq, Bool, true, false, Option, Some, None}
 use Rattle.isp_base.specs.declared.types.Rate.TheVariants.{Uniform}
 use Rattle.isp_base.specs.declared.types.Elem.TheVariants.{I32}
 use Rattle.isp_syntax.specs.declared.tree.Param.{Param}
@@ -7,6 +7,7 @@ use Rattle.isp_syntax.specs.declared.tree.Function as read
 use Rattle.isp_rates.specs.declared.typed.Holds.{Holds}
 use Rattle.isp_rates.specs.declared.typed.Holds.TheVariants.{One, Many}
 use Rattle.isp_rates.specs.declared.typed.TypedFunction as rust
+use Rattle.isp_rates.specs.declared.scope.Binding.{Binding}
 use Rattle.isp_rates.specs.declared.stmt.Target.{Target}
 use Rattle.isp_rates.specs.declared.stmt.Target.TheVariants.{Variable, Element}
 use Rattle.isp_rates.specs.Typed.{Typed, typed_of, TStmt, t_assign, t_assign_item, function_of}
@@ -34,3 +35,13 @@ plain_function f = plain (function_of f)
 
 abbrev pub plain_functions : List rust.TypedFunction → List Plain
 plain_functions = map plain_function
+
+-- where the last binding of a name stands
+abbrev pub one_later : Option ℕ → Bool → Option ℕ
+one_later (Some k) here = Some (suc k)
+one_later None true = Some 0
+one_later None false = None
+
+abbrev pub last_place : List ℕ → List Binding → Option ℕ
+last_place w [] = None
+last_place w (b ∷ bs) = one_later (last_place w bs) (bytes_eq b.name w)

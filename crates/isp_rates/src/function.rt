@@ -94,6 +94,7 @@ fn holds_of(is_array: bool) -> Holds
 
 /// A parameter, which is a name in the body's scope and a variable, and the fault of its name.
 fn parameter(
+    alloc: Global,
     scope: &mut Scope,
     variables: &mut Vec<Holds>,
     p: &Param,
@@ -107,7 +108,7 @@ fn parameter(
     let slot = variables.len();
     let holds = holds_of(p.is_array);
     variables.push(holds)?;
-    scope.push(p.word.name.copied()?, Variable { slot, holds })?;
+    scope.push(alloc, p.word.name.copied()?, Variable { slot, holds })?;
     let parameter = Parameter {
         name: p.word.name.copied()?,
         elem: Elem::I32,
@@ -130,7 +131,7 @@ fn parameters(
     let mut seen = None;
     let mut done = Vec::new(alloc);
     for p in all {
-        let (fault, part) = parameter(scope, variables, p)?;
+        let (fault, part) = parameter(alloc, scope, variables, p)?;
         seen = first(seen, fault);
         done.push(part)?;
     }

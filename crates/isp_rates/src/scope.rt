@@ -1,11 +1,11 @@
 //! The names in scope.
-ghost use Rattle.std.specs.Prelude.{◌≡◌, ◌≤◌, length, drop, bytes_eq, OnOk, ◌++◌, ◌∷◌, []};
-ghost use Rattle.std.specs.List.{list_any};
+ghost use Rattle.std.specs.Prelude.{◌≡◌, bytes_eq, option_map, slice_get, OnErr, OnOk, ◌++◌, ◌∷◌, []};
 ghost use Rattle.isp_rates.specs.Scopes.{is_new, visible};
 
 use crate::typed::Holds;
 use isp_base::Name;
 use std::alloc::{AllocError, Global};
+use std::collections::BTreeMap;
 use std::marker::Model;
 
 /// What a name stands for: the number of a variable of the function, and what it holds.
@@ -22,19 +22,24 @@ pub struct Binding {
     pub variable: Variable,
 }
 
-/// The names in scope, the oldest first.
-#[derive(Debug, Drop)]
+/// The names in scope, the oldest first, and where the last binding of each name stands among them.
+#[derive(Drop)]
 pub struct Scope {
     names: Vec<Binding>,
+    places: BTreeMap<String, usize>,
 }
 
 impl Model for Scope {
-    ghost use Rattle.std.specs.Prelude.{List};
+    ghost use Rattle.std.specs.Prelude.{◌≡◌, ℕ, List};
+    ghost use Rattle.std.specs.BTreeMap.{get_by_text};
+    ghost use Rattle.isp_rates.specs.Views.{last_place};
     ghost use Rattle.isp_rates.specs.declared.scope.Binding.{Binding};
 
     ghost Value = { List Binding };
 
     ghost view = { λ s. s.names.items };
+
+    ghost invariant = { λ s. (w : List ℕ) → get_by_text s.places w ≡ last_place w s.names.items };
 }
 
 /// Whether two names are one.
@@ -44,10 +49,14 @@ pub fn is_same(a: &Name, b: &Name) -> bool
     a.as_str() == b.as_str()
 }
 
-fn is_among(name: &Name, names: &[Binding]) -> bool
-    ensures { result ≡ list_any (λ b. bytes_eq b.name name.now) names.now }
+/// What the binding at a place stands for.
+fn variable_at(names: &[Binding], place: usize) -> Option<Variable>
+    ensures { result ≡ option_map (λ b. b.variable) (slice_get names.now place) }
 {
-    names.iter().any(|b| is_same(&b.name, name))
+    match names.get(place) {
+        Some(binding) => Some(binding.variable),
+        None => None,
+    }
 }
 
 impl Scope {
@@ -57,6 +66,7 @@ impl Scope {
     {
         Scope {
             names: Vec::new(alloc),
+            places: BTreeMap::new(alloc),
         }
     }
 
@@ -64,26 +74,36 @@ impl Scope {
     pub fn find(&self, name: &Name) -> Option<Variable>
         ensures { result ≡ visible name.now self.now }
     {
-        self.names
-            .iter()
-            .rev()
-            .find(|b| is_same(&b.name, name))
-            .map(|b| b.variable)
+        match self.places.get(name.as_str()) {
+            Some(place) => variable_at(&self.names, *place),
+            None => None,
+        }
     }
 
     /// Whether no binding from `start` on has this name.
     pub fn is_new(&self, name: &Name, start: usize) -> bool
-        requires { start ≤ length self.now }
         ensures { result ≡ is_new name.now start self.now }
     {
-        !is_among(name, &self.names[start..])
+        match self.places.get(name.as_str()) {
+            Some(place) => *place < start,
+            None => true,
+        }
     }
 
-    /// One more name, in the innermost scope.
-    pub fn push(&mut self, name: Name, variable: Variable) -> Result<(), AllocError>
-        ensures { OnOk result (self.new ≡ self.old ++ record { name = name; variable = variable } ∷ []) }
+    /// One more name, in the innermost scope. Where memory is refused, the names stay as they were.
+    pub fn push(&mut self, alloc: Global, name: Name, variable: Variable) -> Result<(), AllocError>
+        ensures ok { OnOk result (self.new ≡ self.old ++ record { name = name; variable = variable } ∷ []) }
+        ensures err { OnErr result (self.new ≡ self.old) }
     {
+        let key = String::from_str(alloc, name.as_str())?;
+        let place = self.names.len();
         self.names.push(Binding { name, variable })?;
-        Ok(())
+        match self.places.insert(key, place) {
+            Ok(_) => Ok(()),
+            Err(refused) => {
+                self.names.pop();
+                Err(refused.into())
+            }
+        }
     }
 }

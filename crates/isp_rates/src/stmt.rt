@@ -1,5 +1,5 @@
 //! Statements.
-ghost use Rattle.std.specs.Prelude.{◌≡◌, ◌≤◌, IfOk, length, ◌++◌, ◌∷◌, []};
+ghost use Rattle.std.specs.Prelude.{◌≡◌, IfOk, ◌++◌, ◌∷◌, []};
 ghost use Rattle.isp_lex.specs.Faults.{fault};
 ghost use Rattle.isp_syntax.specs.Tree.{expr_of, span_of, stmt_of, stmts_of};
 ghost use Rattle.isp_rates.specs.Typed.{typed_of, tstmt_of, tstmts_of, t_declare};
@@ -87,7 +87,6 @@ fn int(rate: Rate) -> Ty
 
 /// The fault of a name that stands in its scope already.
 pub fn twice(scope: &Scope, start: usize, word: &Word) -> Option<Fault>
-    requires { start ≤ length scope.now }
     ensures { result ≡ fault_unless (is_new word.now.name start scope.now) (fault Rule.NameTwice word.now.span) }
 {
     unless(
@@ -108,7 +107,6 @@ fn stmt(
     variables: &mut Vec<Holds>,
     s: &Stmt,
 ) -> Result<Verdict<TypedStmt>, AllocError>
-    requires { start ≤ length scope.old }
     ensures value { IfOk result (λ v. found tstmt_of v ≡ judge_stmt scope.old start variables.old.items (stmt_of s.now)) }
     ensures names { IfOk result (λ v. scope.new ≡ names_after scope.old variables.old.items (stmt_of s.now)) }
     ensures variables { IfOk result (λ v. variables.new.items ≡ variables_after variables.old.items (stmt_of s.now)) }
@@ -121,7 +119,7 @@ fn stmt(
             let ty = int(*rate);
             let holds = Holds::One(ty);
             variables.push(holds)?;
-            scope.push(word.name.copied()?, Variable { slot, holds })?;
+            scope.push(alloc, word.name.copied()?, Variable { slot, holds })?;
             Ok(declare(slot, ty, beside(seen, first)))
         }
         Stmt::Assign(place, value, _) => {
@@ -156,7 +154,6 @@ pub fn stmts(
     variables: &mut Vec<Holds>,
     all: &[Stmt],
 ) -> Result<Verdict<Vec<TypedStmt>>, AllocError>
-    requires { start ≤ length scope.old }
     ensures value { IfOk result (λ v. found (λ l. tstmts_of l.items) v ≡ judge_stmts scope.old start variables.old.items (stmts_of all.now)) }
     ensures variables { IfOk result (λ v. variables.new.items ≡ variables_after_all variables.old.items (stmts_of all.now)) }
 {

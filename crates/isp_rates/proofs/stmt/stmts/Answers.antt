@@ -1,6 +1,6 @@
 use Rattle.std.proofs.Common.{◌+◌, drop}
 use Rattle.isp_syntax.specs.Tree.{stmt_of}
-use Rattle.isp_rates.proofs.Steps.{split_at, stmts_step, variables_step, names_grow}
+use Rattle.isp_rates.proofs.Steps.{split_at, stmts_step, variables_step}
 use Rattle.isp_rates.proofs.stmt.stmts.Goals as goal
 
 pub loop-s-preserved : goal.loop-s-preserved
@@ -12,7 +12,6 @@ loop-s-preserved c =
     let x = c.s-item.result in
     let split = split_at xs i x c.loop-s-test.true c.s-item.is in
     record {
-      room = rw v.names (names_grow _ _ c.loop-s.variables.items (stmt_of x) h.room);
       variables = rw v.variables (variables_step c.loop-s.variables.items (drop i xs) (drop (i + 1) xs) _ x split h.variables);
       value = rw (c.in_ok-done.ensures, v.value, v.names, v.variables)
           (stmts_step c.loop-s.scope c.args.start c.loop-s.variables.items (drop i xs) (drop (i + 1) xs) _ _ x split h.value);

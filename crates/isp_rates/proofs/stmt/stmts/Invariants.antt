@@ -7,7 +7,6 @@ use Rattle.isp_rates.proofs.stmt.stmts.Given as goal
 
 abbrev pub invariant-loop-s : goal.invariant-loop-s
 invariant-loop-s l = record {
-  room : l.start ≤ length l.scope;
   variables : variables_after_all l.variables.items (stmts_of (drop l.s-index l.all)) ≡ variables_after_all l.initial.variables.items (stmts_of l.all);
   value : found (λ p. p.0 ++ p.1) (both (found (λ v. tstmts_of v.items) l.done) (judge_stmts l.scope l.start l.variables.items (stmts_of (drop l.s-index l.all))))
       ≡ judge_stmts l.initial.scope l.start l.initial.variables.items (stmts_of l.all);
