@@ -6,3 +6,4 @@ pub mod Steps
 pub mod Pairs
 pub mod Fine
 pub mod Programs
+pub mod Examples

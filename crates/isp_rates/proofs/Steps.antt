@@ -1,7 +1,8 @@
 -- Steps of loops: what is found so far, joined with what the rest gives.
 use Rattle.std.proofs.Common.{◌≡◌, ℕ, ◌+◌, ◌<◌, ◌≤◌, refl, sym, ap, subst, ◌∙◌, arith, drop, drop-cons, add-one, get_or, ◌++◌, append_assoc, length-append, map, take}
-use Rattle.std.specs.Prelude.{Result, Ok, Err, Option, Some, None, List, [], ◌∷◌, length, Bool, ◌||◌}
+use Rattle.std.specs.Prelude.{Result, Ok, Err, Option, Some, None, List, [], ◌∷◌, length, Bool, true, false, cond, bytes_eq, ◌||◌}
 use Rattle.std.specs.List.{list_any}
+use Rattle.std.proofs.lemmas.List.Folds.{list_any-append}
 use Rattle.std.proofs.Math.Seq.{take-suc}
 use Rattle.std.proofs.lemmas.List.{map-append}
 use Rattle.isp_base.specs.declared.signature.Parameter.{Parameter}
@@ -83,16 +84,23 @@ pub map_behind : {A B : Type 0} (g : A → B) (before so_far : List B) (xs : Lis
     → so_far ≡ before ++ map g (take i xs) → so_far ++ g x ∷ [] ≡ before ++ map g (take (i + 1) xs)
 map_behind g before so_far xs i x h e q = ap (λ z. z ++ g x ∷ []) q ∙ (append_assoc before (map g (take i xs)) (g x ∷ []) ∙ ap (λ z. before ++ z) (sym (map_step g xs i x h e)))
 
-pub any_map : {A B : Type 0} (g : A → B) (test : B → Bool) (xs : List A) → list_any (λ x. test (g x)) xs ≡ list_any test (map g xs)
-any_map g test [] = refl
-any_map g test (x ∷ xs) = ap (λ z. test (g x) || z) (any_map g test xs)
+-- the names that are taken, with one more
+pub taken_step : (names : List (List ℕ)) (n w : List ℕ) (before after : Bool) → before ≡ list_any (λ z. bytes_eq z w) names → after ≡ cond (bytes_eq n w) true before
+    → after ≡ list_any (λ z. bytes_eq z w) (names ++ n ∷ [])
+taken_step names n w before after e a = a ∙ (ap (cond (bytes_eq n w) true) e ∙ (go (bytes_eq n w) (list_any (λ z. bytes_eq z w) names) ∙ sym (list_any-append (λ z. bytes_eq z w) names (n ∷ []))))
+  where
+    go : (t u : Bool) → cond t true u ≡ (u || (t || false))
+    go true true = refl
+    go true false = refl
+    go false true = refl
+    go false false = refl
 
 pub functions_step : (taken : List (List ℕ)) (rest more : List read.Function) (total : Result (List Plain) Fault) (a : Result (List Plain) Fault) (f : read.Function)
     → rest ≡ f ∷ more
     → joined a (judge_functions taken (functions_of rest)) ≡ total
-    → joined (found (λ p. p.0 ++ p.1 ∷ []) (both a (judge_function taken (function_of f)))) (judge_functions (taken ++ name_of f ∷ []) (functions_of more)) ≡ total
+    → joined (found (λ p. p.0 ++ p.1 ∷ []) (both a (judge_function (fault_unless (is_free taken (name_of f)) (fault NameTwice f.word.span)) (function_of f)))) (judge_functions (taken ++ name_of f ∷ []) (functions_of more)) ≡ total
 functions_step taken rest more total a f split h =
-    joined_step a (judge_function taken (function_of f)) (judge_functions (taken ++ name_of f ∷ []) (functions_of more))
+    joined_step a (judge_function (fault_unless (is_free taken (name_of f)) (fault NameTwice f.word.span)) (function_of f)) (judge_functions (taken ++ name_of f ∷ []) (functions_of more))
     ∙ subst (λ (z : List read.Function). joined a (judge_functions taken (functions_of z)) ≡ total) split h
 
 found_beside : {A B : Type 0} (make : A → B) (o : Option Fault) (v : Result A Fault) → found make (beside o v) ≡ beside o (found make v)
@@ -101,12 +109,12 @@ found_beside make (Some e) (Ok a) = refl
 found_beside make (Some e) (Err f) = refl
 
 -- a function is what is made of its name, parameters, variables and body
-pub function_is : {A : Type 0} (taken : List (List ℕ)) (f : Read) (name : List ℕ) (params : List Parameter) (vars : List Holds) (free seen : Option Fault) (made : Result Plain Fault) (view : A → List TStmt) (v w : Result A Fault)
-    → made ≡ found (λ ts. record { name = name; params = params; result = None; variables = vars; body = ts }) (found view w)
-    → name ≡ f.word.name → params ≡ map parameter_of f.params → vars ≡ variables_of f → free ≡ fault_unless (is_free taken f.word.name) (fault NameTwice f.word.span)
-    → w ≡ beside free (beside seen v) → beside seen (found view v) ≡ judge_body [] [] f.params f.body
-    → made ≡ judge_function taken f
-function_is taken f name params vars free seen made view v w m n p q fr e b =
-    m ∙ (ap (found (λ ts. record { name = name; params = params; result = None; variables = vars; body = ts }))
-    (ap (found view) e ∙ (found_beside view free (beside seen v) ∙ ap (beside free) (found_beside view seen v ∙ b)))
-    ∙ rw (n, p, q, fr) refl)
+pub function_is : {A : Type 0} (f : Read) (word : List ℕ) (params : List Parameter) (vars : List Holds) (name seen : Option Fault) (made : Result Plain Fault) (view : A → List TStmt) (v w : Result A Fault)
+    → made ≡ found (λ ts. record { name = word; params = params; result = None; variables = vars; body = ts }) (found view w)
+    → word ≡ f.word.name → params ≡ map parameter_of f.params → vars ≡ variables_of f
+    → w ≡ beside name (beside seen v) → beside seen (found view v) ≡ judge_body [] [] f.params f.body
+    → made ≡ judge_function name f
+function_is f word params vars name seen made view v w m n p q e b =
+    m ∙ (ap (found (λ ts. record { name = word; params = params; result = None; variables = vars; body = ts }))
+    (ap (found view) e ∙ (found_beside view name (beside seen v) ∙ ap (beside name) (found_beside view seen v ∙ b)))
+    ∙ rw (n, p, q) refl)

@@ -80,13 +80,13 @@ judge_body ns vars [] ss = judge_stmts ns 0 vars ss
 judge_body ns vars (p ∷ ps) ss = beside (fault_unless (is_new p.word.name 0 ns) (fault NameTwice p.word.span))
     (judge_body (with_name ns vars p.word.name (holds_of (parameter_of p))) (vars ++ holds_of (parameter_of p) ∷ []) ps ss)
 
-abbrev pub judge_function : List (List ℕ) → Read → Result Plain Fault
-judge_function taken f = found (made_function f)
-    (beside (fault_unless (is_free taken f.word.name) (fault NameTwice f.word.span)) (judge_body [] [] f.params f.body))
+abbrev pub judge_function : Option Fault → Read → Result Plain Fault
+judge_function seen f = found (made_function f) (beside seen (judge_body [] [] f.params f.body))
 
 abbrev pub judge_functions : List (List ℕ) → List Read → Result (List Plain) Fault
 judge_functions taken [] = Ok []
-judge_functions taken (f ∷ fs) = found (λ p. p.0 ∷ p.1) (both (judge_function taken f) (judge_functions (taken ++ f.word.name ∷ []) fs))
+judge_functions taken (f ∷ fs) = found (λ p. p.0 ∷ p.1)
+    (both (judge_function (fault_unless (is_free taken f.word.name) (fault NameTwice f.word.span)) f) (judge_functions (taken ++ f.word.name ∷ []) fs))
 
 abbrev pub demand : Stmt → TStmt → Option Fault
 demand s t = fault_unless (goes_to (type_stored t).rate (type_of (value_stored t)).rate) (fault VaryingToUniform (span_of (value_read s)))

@@ -29,7 +29,7 @@ is_library w = list_any (bytes_eq w) library
 
 -- a name that neither the library has nor an earlier function
 abbrev pub is_free : List (List ℕ) → List ℕ → Bool
-is_free earlier w = not (is_library w || list_any (bytes_eq w) earlier)
+is_free earlier w = not (is_library w || list_any (λ n. bytes_eq n w) earlier)
 
 -- a parameter is a uniform int32 or a uniform array of them
 abbrev pub parameter_of : Param → Parameter

@@ -1,16 +1,16 @@
 //! Functions.
-ghost use Rattle.std.specs.Prelude.{◌≡◌, IfOk, List, map, bytes_eq, ◌++◌, ◌∷◌, [], None};
-ghost use Rattle.std.specs.List.{list_any};
+ghost use Rattle.std.specs.Prelude.{◌≡◌, IfOk, List, map, bytes_eq, cond, true, not, ◌||◌, ℕ, ◌++◌, ◌∷◌, [], None};
+ghost use Rattle.std.specs.BTreeSet.{contains_text};
 ghost use Rattle.isp_lex.specs.Faults.{fault};
 ghost use Rattle.isp_syntax.specs.Tree.{Stmt, function_of as read_function, functions_of as read_functions};
 ghost use Rattle.isp_rates.specs.Fine.{holds_of};
 ghost use Rattle.isp_rates.specs.Typed.{tstmts_of};
 ghost use Rattle.isp_rates.specs.Scopes.{is_new, with_name};
-ghost use Rattle.isp_rates.specs.Program.{is_free, is_library, parameter_of};
-ghost use Rattle.isp_rates.specs.Views.{holds_read, int_or_array, name_of, plain_function, plain_functions};
+ghost use Rattle.isp_rates.specs.Program.{is_library, parameter_of};
+ghost use Rattle.isp_rates.specs.Views.{holds_read, int_or_array, plain_function, plain_functions};
 ghost use Rattle.isp_rates.specs.Judge.{beside, both, fault_unless, found, judge_body, judge_function, judge_functions, judge_stmts};
 
-use crate::scope::{Scope, Variable, is_same};
+use crate::scope::{Scope, Variable};
 use crate::stmt::{stmts, twice};
 use crate::typed::{Holds, TypedFunction, TypedStmt};
 use crate::verdict::{Verdict, beside, both, first, unless};
@@ -18,6 +18,7 @@ use isp_base::{Elem, Name, Parameter, Rate, Signature, Ty};
 use isp_lex::{Fault, Rule};
 use isp_syntax::{Function, Param, Word};
 use std::alloc::{AllocError, Global};
+use std::collections::BTreeSet;
 
 /// Whether a function of the library has this name.
 fn is_library(name: &Name) -> bool
@@ -51,31 +52,27 @@ fn is_library(name: &Name) -> bool
     )
 }
 
-fn is_among(name: &Name, functions: &[Function]) -> bool
-    ensures { result ≡ list_any (λ f. bytes_eq name.now f.word.name) functions.now }
+/// The fault of a function whose name the library has or an earlier function.
+fn name_fault(word: &Word, taken: &BTreeSet<String>) -> Option<Fault>
+    ensures { result ≡ fault_unless (not (is_library word.now.name || contains_text taken.now word.now.name)) (fault Rule.NameTwice word.now.span) }
 {
-    functions.iter().any(|f| is_same(name, &f.word.name))
-}
-
-/// Whether neither the library nor one of these functions has this name.
-fn is_free(name: &Name, earlier: &[Function]) -> bool
-    ensures { result ≡ is_free (map name_of earlier.now) name.now }
-{
-    let among = is_among(name, earlier);
-    !(is_library(name) || among)
-}
-
-/// The fault of a function whose name is taken.
-fn taken(word: &Word, earlier: &[Function]) -> Option<Fault>
-    ensures { result ≡ fault_unless (is_free (map name_of earlier.now) word.now.name) (fault Rule.NameTwice word.now.span) }
-{
+    let is_taken = taken.contains(word.name.as_str());
     unless(
-        is_free(&word.name, earlier),
+        !(is_library(&word.name) || is_taken),
         Fault {
             rule: Rule::NameTwice,
             span: word.span,
         },
     )
+}
+
+/// One more name that is taken.
+fn take(alloc: Global, taken: &mut BTreeSet<String>, name: &Name) -> Result<(), AllocError>
+    ensures { IfOk result (λ _. (w : List ℕ) → contains_text taken.new w ≡ cond (bytes_eq name.now w) true (contains_text taken.old w)) }
+{
+    let key = String::from_str(alloc, name.as_str())?;
+    taken.insert(key)?;
+    Ok(())
 }
 
 /// What a parameter holds.
@@ -161,19 +158,19 @@ fn make_function(
     }
 }
 
-/// A function behind earlier ones.
+/// A function, with the fault of its name.
 fn function(
     alloc: Global,
-    earlier: &[Function],
+    name: Option<Fault>,
     f: &Function,
 ) -> Result<Verdict<TypedFunction>, AllocError>
-    ensures { IfOk result (λ v. found plain_function v ≡ judge_function (map name_of earlier.now) (read_function f.now)) }
+    ensures { IfOk result (λ v. found plain_function v ≡ judge_function name (read_function f.now)) }
 {
     let mut scope = Scope::new(alloc);
     let mut variables = Vec::new(alloc);
     let (seen, params) = parameters(alloc, &mut scope, &mut variables, &f.params)?;
     let body = stmts(alloc, &mut scope, 0, &mut variables, &f.body)?;
-    let body = beside(taken(&f.word, earlier), beside(seen, body));
+    let body = beside(name, beside(seen, body));
     Ok(make_function(f.word.name.copied()?, params, variables, body))
 }
 
@@ -197,10 +194,12 @@ fn push(
 pub fn functions(alloc: Global, all: &[Function]) -> Result<Verdict<Vec<TypedFunction>>, AllocError>
     ensures { IfOk result (λ v. found (λ l. plain_functions l.items) v ≡ judge_functions [] (read_functions all.now)) }
 {
+    let mut taken = BTreeSet::new(alloc);
     let mut done = Ok(Vec::new(alloc));
-    for (number, f) in all.iter().enumerate() {
-        let part = function(alloc, &all[..number], f)?;
+    for f in all {
+        let part = function(alloc, name_fault(&f.word, &taken), f)?;
         done = push(done, part)?;
+        take(alloc, &mut taken, &f.word.name)?;
     }
     Ok(done)
 }

@@ -1,5 +1,5 @@
 //! The names in scope.
-ghost use Rattle.std.specs.Prelude.{◌≡◌, bytes_eq, option_map, slice_get, OnErr, OnOk, ◌++◌, ◌∷◌, []};
+ghost use Rattle.std.specs.Prelude.{◌≡◌, option_map, slice_get, OnErr, OnOk, ◌++◌, ◌∷◌, []};
 ghost use Rattle.isp_rates.specs.Scopes.{is_new, visible};
 
 use crate::typed::Holds;
@@ -40,13 +40,6 @@ impl Model for Scope {
     ghost view = { λ s. s.names.items };
 
     ghost invariant = { λ s. (w : List ℕ) → get_by_text s.places w ≡ last_place w s.names.items };
-}
-
-/// Whether two names are one.
-pub fn is_same(a: &Name, b: &Name) -> bool
-    ensures { result ≡ bytes_eq a.now b.now }
-{
-    a.as_str() == b.as_str()
 }
 
 /// What the binding at a place stands for.
