@@ -5,14 +5,15 @@ use Rattle.std.proofs.lemmas.Bool.{cases_lt, ltb-false}
 use Rattle.isp_base.specs.Types.{span_to}
 use Rattle.isp_base.specs.declared.types.Span.{Span}
 use Rattle.isp_base.specs.declared.types.Value.{Value}
+use Rattle.isp_base.specs.declared.types.Elem.TheVariants as elem
 use Rattle.isp_lex.specs.Tokens.{at, starts_with}
 use Rattle.isp_lex.specs.declared.token.Mark.TheVariants as mark
 use Rattle.isp_lex.specs.declared.token.TokenKind.{TokenKind}
 use Rattle.isp_lex.specs.declared.token.TokenKind.TheVariants as kind
 use Rattle.isp_lex.specs.declared.token.Token.{Token}
 use Rattle.isp_syntax.proofs.Basics.{token, ok_is, err_ok, some_is, none_some, bind_ok, chosen}
-use Rattle.isp_syntax.proofs.Forms.{Form, Found, IsSound, Can, One, one_sound, Named, named_sound, Free, both_sound, NameThen, named_then, name_then_is, Before, then_one, before_is, made_sound, Optional, optional_sound}
-use Rattle.isp_syntax.specs.Grammar.{word, sign, level, loosest, IsPlace, is_variable, is_item, IsExpr, is_number, is_program_index, is_place, is_brackets, is_tighter, is_binary}
+use Rattle.isp_syntax.proofs.Forms.{Follows, Form, Found, IsSound, Can, One, one_sound, Named, named_sound, Free, both_sound, NameThen, named_then, name_then_is, Before, then_one, before_is, made_sound, Optional, optional_sound}
+use Rattle.isp_syntax.specs.Grammar.{numeral, word, sign, level, loosest, IsPlace, is_variable, is_item, IsExpr, is_number, is_program_index, is_place, is_brackets, is_tighter, is_binary}
 use Rattle.isp_syntax.specs.Reading.{Reader, ◌>>=◌, refuse, at_limit, Start, by_number, by_word, by_program_index, by_bracket, by_none, start_of, begins_expr, operator_of, of_level, operator_at, index_at, place_of, place_at, operand_from, operand_at, joined, step_at, more_at, binary_at, expr_at}
 use Rattle.isp_syntax.specs.Tree.{Expr, number, name, program_index, item, brackets, binary, depth}
 use Rattle.isp_syntax.specs.declared.stop.Why.TheVariants.{Unexpected, TooDeep}
@@ -38,7 +39,7 @@ Exp k = record { is = λ ts x. IsExpr k ts x; deep = depth; ends = λ x rest. En
 
 -- ---- the first token
 
-number_start : (k : TokenKind) (v : Value) → start_of k ≡ by_number v → k ≡ kind.Number v
+pub number_start : (k : TokenKind) (v : Value) → start_of k ≡ by_number v → k ≡ kind.Number v
 number_start (kind.Number u) v e = cc
 number_start (kind.Word n) v e = absurd cc
 number_start (kind.Mark mark.ProgramIndex) v e = absurd cc
@@ -46,7 +47,7 @@ number_start (kind.Mark mark.ParenOpen) v e = absurd cc
 number_start (kind.Mark _) v e = absurd cc
 number_start kind.LeftOut v e = absurd cc
 
-index_start : (k : TokenKind) → start_of k ≡ by_program_index → k ≡ kind.Mark mark.ProgramIndex
+pub index_start : (k : TokenKind) → start_of k ≡ by_program_index → k ≡ kind.Mark mark.ProgramIndex
 index_start (kind.Number u) e = absurd cc
 index_start (kind.Word n) e = absurd cc
 index_start (kind.Mark mark.ProgramIndex) e = refl
@@ -54,7 +55,7 @@ index_start (kind.Mark mark.ParenOpen) e = absurd cc
 index_start (kind.Mark _) e = absurd cc
 index_start kind.LeftOut e = absurd cc
 
-bracket_start : (k : TokenKind) → start_of k ≡ by_bracket → k ≡ kind.Mark mark.ParenOpen
+pub bracket_start : (k : TokenKind) → start_of k ≡ by_bracket → k ≡ kind.Mark mark.ParenOpen
 bracket_start (kind.Number u) e = absurd cc
 bracket_start (kind.Word n) e = absurd cc
 bracket_start (kind.Mark mark.ProgramIndex) e = absurd cc
@@ -140,14 +141,22 @@ place_reads n ts = refl
 pub index_some : Can Index []
 index_some = (None, refl)
 
-pub placed_sound : (n : ℕ) → ((k : ℕ) → IsSound (Exp k) n) → IsSound Placed n
-placed_sound n ih = both_sound Named Index Free (named_then Index [] index_some) n (named_sound n) (optional_sound mark.BracketOpen Bracketed n (both_sound (Exp loosest) (One mark.BracketClose) Free (then_one (Exp loosest) mark.BracketClose bracket_close_ends) n (ih loosest) (one_sound mark.BracketClose n)))
+pub place_then : Follows Named Index Free
+place_then = named_then Index [] index_some
 
-brackets_of : Span → Expr × Span → Expr
+pub bracket_then : Follows (Exp loosest) (One mark.BracketClose) Free
+bracket_then = then_one (Exp loosest) mark.BracketClose bracket_close_ends
+
+pub closed_then : Follows (Exp loosest) (One mark.ParenClose) Free
+closed_then = then_one (Exp loosest) mark.ParenClose paren_close_ends
+
+pub placed_sound : (n : ℕ) → ((k : ℕ) → IsSound (Exp k) n) → IsSound Placed n
+placed_sound n ih = both_sound Named Index Free place_then n (named_sound n) (optional_sound mark.BracketOpen Bracketed n (both_sound (Exp loosest) (One mark.BracketClose) Free bracket_then n (ih loosest) (one_sound mark.BracketClose n)))
+
+abbrev pub brackets_of : Span → Expr × Span → Expr
 brackets_of o p = brackets p.0 (span_to o p.1)
 
-brackets_makes : (o : Span) (a : List Token) (p : Expr × Span) → Closed.is a p → IsExpr zero (at mark.ParenOpen o ∷ a) (brackets_of o p)
-unfolding brackets_of
+pub brackets_makes : (o : Span) (a : List Token) (p : Expr × Span) → Closed.is a p → IsExpr zero (at mark.ParenOpen o ∷ a) (brackets_of o p)
 brackets_makes o a p i =
     let j = before_is (Exp loosest) mark.ParenClose a p i in
     subst (λ (l : List Token). IsExpr zero (at mark.ParenOpen o ∷ l) (brackets p.0 (span_to o p.1))) (sym j.1) (is_brackets o p.1 j.0 p.0 j.2)
@@ -157,7 +166,6 @@ no_operators x rest e = record { bracket = λ b. absurd cc; operators = λ j lt.
 
 module _ (n : ℕ) (ih : (k : ℕ) → IsSound (Exp k) n) where
   from_sound : (c : Start) (t : Token) (ts : List Token) (x : Expr) (rest : List Token) → start_of t.kind ≡ c → operand_from (expr_at n) c t ts ≡ Ok (x, rest) → Found (Exp zero) (suc n) (t ∷ ts) x rest
-  unfolding brackets_of
   from_sound (by_number v) t ts x rest s e =
       subst (λ (q : Expr × List Token). Found (Exp zero) (suc n) (t ∷ ts) q.0 q.1) (ok_is e) (record {
         used = t ∷ [];
@@ -180,7 +188,7 @@ module _ (n : ℕ) (ih : (k : ℕ) → IsSound (Exp k) n) where
   from_sound by_bracket t ts x rest s e =
       subst (λ (u : Token). Found (Exp zero) (suc n) (u ∷ ts) x rest) (sym (with_kind t (kind.Mark mark.ParenOpen) (bracket_start t.kind s)))
       (made_sound Closed (Exp zero) (brackets_of t.span) (at mark.ParenOpen t.span ∷ []) n (suc n) (λ l. operand_from (expr_at n) by_bracket t (drop 1 l)) ts refl
-      (both_sound (Exp loosest) (One mark.ParenClose) Free (then_one (Exp loosest) mark.ParenClose paren_close_ends) n (ih loosest) (one_sound mark.ParenClose n))
+      (both_sound (Exp loosest) (One mark.ParenClose) Free closed_then n (ih loosest) (one_sound mark.ParenClose n))
       (λ a p i. brackets_makes t.span a p i) (λ p le. omega arith) (λ p rest h. no_operators (brackets p.0 (span_to t.span p.1)) rest refl) x rest e)
   from_sound by_none t ts x rest s e = absurd (err_ok e)
 
@@ -259,3 +267,16 @@ pub expr_sound : (n k : ℕ) → IsSound (Exp k) n
 unfolding expr_at
 expr_sound zero k ts x rest e = absurd (limit_not_ok begins_expr ts x rest e)
 expr_sound (suc n) k ts x rest e = binary_sound n (expr_sound n) k ts x rest e
+
+-- ---- the least expression
+
+pub nowhere : Span
+nowhere = record { start = 0; end = 0 }
+
+abbrev pub zero_value : Value
+zero_value = record { elem = elem.I32; bits = 0 }
+
+-- a number is an expression of each level
+pub number_at_level : (k : ℕ) → IsExpr k (numeral zero_value nowhere ∷ []) (number zero_value nowhere)
+number_at_level zero = is_number zero_value nowhere
+number_at_level (suc k) = is_tighter k (numeral zero_value nowhere ∷ []) (number zero_value nowhere) (number_at_level k)

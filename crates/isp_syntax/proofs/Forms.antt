@@ -1,5 +1,5 @@
 -- Forms, and what is made of them: what they read is what they are.
-use Rattle.std.proofs.Common.{◌≡◌, ℕ, zero, suc, ◌≤◌, max, Bool, true, false, List, [], ◌∷◌, ◌++◌, length, drop, Option, Some, None, Ok, refl, sym, ap, subst, ◌∙◌, append_assoc, arith, inl, inr, ◌⊎◌}
+use Rattle.std.proofs.Common.{◌≡◌, ℕ, zero, suc, ◌≤◌, max, Bool, true, false, List, [], ◌∷◌, ◌++◌, length, drop, Option, Some, None, Ok, Err, refl, sym, ap, subst, ◌∙◌, append_assoc, arith, inl, inr, ◌⊎◌}
 use Rattle.isp_base.specs.declared.types.Span.{Span}
 use Rattle.isp_lex.specs.Tokens.{at, starts_with}
 use Rattle.isp_lex.specs.declared.token.Mark.{Mark}
@@ -8,6 +8,7 @@ use Rattle.isp_lex.specs.declared.token.Token.{Token}
 use Rattle.isp_syntax.proofs.Basics.{ok_is, err_ok, bind_ok, chosen, starts_cons, mark_ok, mark_again, word_ok, word_again}
 use Rattle.isp_syntax.specs.Grammar.{word}
 use Rattle.isp_syntax.specs.Reading.{Reader, ◌>>=◌, mark_at, word_at, both, optional_from, optional, after_item, list_at, listed_at, until_from, until_at}
+use Rattle.isp_syntax.specs.declared.stop.Refusal.{Refusal}
 use Rattle.isp_syntax.specs.declared.tree.Word.{Word}
 
 -- A form: which tokens are which tree, how deep it is, what may follow it, and how it is read at a depth.
@@ -68,7 +69,7 @@ Both {A} {B} F G fits = record {
 pub record Follows {A B : Type 0} (F : Form A) (G : Form B) (fits : A → B → Type 0) : Type 0 where
   pub ends : (x : A) (y : B) (b rest : List Token) → fits x y → G.is b y → G.ends y rest → F.ends x (b ++ rest)
   pub fit : (x : A) (y : B) (b rest : List Token) → F.ends x (b ++ rest) → G.is b y → fits x y
-  pub fit_refused : (x : A) (rest : List Token) (n : ℕ) → F.ends x rest → ((y : B) (after : List Token) → G.read n rest ≡ Ok (y, after) → ⊥) → (y : B) → fits x y
+  pub fit_refused : (x : A) (rest : List Token) (n : ℕ) (r : Refusal) → F.ends x rest → G.read n rest ≡ Err r → (y : B) → fits x y
   pub some : (x : A) → (b : List Token) × (y : B) × G.is b y × fits x y
 
 -- any two
@@ -80,7 +81,7 @@ pub follows : {A B : Type 0} (F : Form A) (G : Form B) → ((x : A) (y : B) (b r
 follows F G ends b c = record {
   ends = λ x y b rest f i h. ends x y b rest i h;
   fit = λ x y b rest h i. tt;
-  fit_refused = λ x rest n h e y. tt;
+  fit_refused = λ x rest n r h e y. tt;
   some = λ x. (b, c.0, c.1, tt);
 }
 

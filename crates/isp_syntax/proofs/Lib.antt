@@ -2,6 +2,16 @@ pub mod Basics
 pub mod Steps
 pub mod StmtSteps
 pub mod Forms
+pub mod FormsComplete
+pub mod Refused
 pub mod Exprs
+pub mod ExprsComplete
+pub mod ExprsRefused
 pub mod Stmts
+pub mod StmtsComplete
+pub mod StmtsRefused
 pub mod Programs
+pub mod ProgramsComplete
+pub mod ProgramsRefused
+pub mod Respan
+pub mod Promised

@@ -1,19 +1,17 @@
 -- What is read as a program is one.
-use Rattle.std.proofs.Common.{◌≡◌, ℕ, suc, ◌≤◌, true, false, List, [], ◌∷◌, ◌++◌, take, drop, Option, Some, None, Ok, refl, sym, ap, subst, ◌∙◌, append_assoc, arith, inl, inr}
-use Rattle.std.proofs.lemmas.List.{append-nil, take-append-drop}
+use Rattle.std.proofs.Common.{◌≡◌, ℕ, suc, ◌≤◌, true, false, List, [], ◌∷◌, ◌++◌, Option, Some, None, Ok, refl, sym, ap, subst, ◌∙◌, append_assoc, arith}
+use Rattle.std.proofs.lemmas.List.{append-nil}
 use Rattle.isp_base.specs.declared.types.Span.{Span}
-use Rattle.isp_lex.specs.Tokens.{TokenList, at, starts_with}
+use Rattle.isp_lex.specs.Tokens.{at, starts_with}
 use Rattle.isp_lex.specs.declared.token.Mark.TheVariants as mark
 use Rattle.isp_lex.specs.declared.token.Token.{Token}
 use Rattle.isp_syntax.proofs.Basics.{ok_is, err_ok, bind_ok}
 use Rattle.isp_syntax.proofs.Forms.{Form, IsSound, Can, One, one_sound, Named, named_sound, Both, Free, Follows, follows, both_sound, Behind, one_then, behind_is, is_behind, NameThen, named_then, name_then_is, is_name_then, Before, then_one, before_is, is_before, made_sound, Optional, optional_sound, AreListed, Series, series_sound}
-use Rattle.isp_syntax.proofs.Stmts.{nowhere, Several, all_are, deepest_is, several_sound}
+use Rattle.isp_syntax.proofs.Exprs.{nowhere}
+use Rattle.isp_syntax.proofs.Stmts.{Several, all_are, deepest_is, several_sound}
 use Rattle.isp_syntax.specs.Grammar.{word, IsStmts, is_end, IsParam, is_scalar, is_array, IsParamList, is_last, is_more, IsParams, is_none, is_some, IsFunction, is_function, IsProgram, is_program}
-use Rattle.isp_syntax.specs.Reading.{◌>>=◌, stands, param_at, params_at, header_at, stmts_at, body_at, function_from, function_at, ended, program_at, fault_of}
+use Rattle.isp_syntax.specs.Reading.{◌>>=◌, stands, param_at, params_at, header_at, stmts_at, body_at, function_from, function_at, ended, program_at}
 use Rattle.isp_syntax.specs.Tree.{Stmt, depth_of_stmts, Function, depth_of_functions}
-use Rattle.isp_syntax.specs.Promise.{IsAtToken}
-use Rattle.isp_syntax.specs.declared.stop.Why.{Why}
-use Rattle.isp_syntax.specs.declared.stop.Why.TheVariants.{Unexpected, TooDeep}
 use Rattle.isp_syntax.specs.declared.tree.Param.{Param}
 use Rattle.isp_syntax.specs.declared.tree.Word.{Word}
 
@@ -53,20 +51,26 @@ some_shaped = ((nameless, None), is_name_then Sign nameless [] None refl)
 pub some_typed : Can TypedParam (at mark.Int nowhere ∷ word nameless ∷ [])
 some_typed = ((nowhere, some_shaped.0), is_behind mark.Int Shaped nowhere (word nameless ∷ []) some_shaped.0 some_shaped.1)
 
-sign_sound : (n : ℕ) → IsSound Sign n
-sign_sound n = optional_sound mark.BracketOpen (One mark.BracketClose) n (one_sound mark.BracketClose n)
+pub uniform_then : Follows (One mark.Uniform) TypedParam Free
+uniform_then = one_then mark.Uniform TypedParam (at mark.Int nowhere ∷ word nameless ∷ []) some_typed
+
+pub int_then : Follows (One mark.Int) Shaped Free
+int_then = one_then mark.Int Shaped (word nameless ∷ []) some_shaped
+
+pub shape_then : Follows Named Sign Free
+shape_then = named_then Sign [] sign_none
 
 rated_sound : (n : ℕ) → IsSound RatedParam n
 rated_sound n =
-    both_sound (One mark.Uniform) TypedParam Free (one_then mark.Uniform TypedParam (at mark.Int nowhere ∷ word nameless ∷ []) some_typed) n (one_sound mark.Uniform n)
-    (both_sound (One mark.Int) Shaped Free (one_then mark.Int Shaped (word nameless ∷ []) some_shaped) n (one_sound mark.Int n)
-    (both_sound Named Sign Free (named_then Sign [] sign_none) n (named_sound n) (sign_sound n)))
+    both_sound (One mark.Uniform) TypedParam Free uniform_then n (one_sound mark.Uniform n)
+    (both_sound (One mark.Int) Shaped Free int_then n (one_sound mark.Int n)
+    (both_sound Named Sign Free shape_then n (named_sound n) (optional_sound mark.BracketOpen (One mark.BracketClose) n (one_sound mark.BracketClose n))))
 
 param_from : (u i : Span) (w : Word) (b : List Token) (s : Option Span) → Sign.is b s → IsParam (at mark.Uniform u ∷ at mark.Int i ∷ word w ∷ b) (record { word = w; is_array = stands s })
 param_from u i w b None j = subst (λ (l : List Token). IsParam (at mark.Uniform u ∷ at mark.Int i ∷ word w ∷ l) (record { word = w; is_array = false })) (sym j) (is_scalar u i w)
 param_from u i w b (Some c) j = subst (λ (l : List Token). IsParam (at mark.Uniform u ∷ at mark.Int i ∷ word w ∷ l) (record { word = w; is_array = true })) (sym (j.2 ∙ ap (λ (l : List Token). at mark.BracketOpen j.0 ∷ l) j.3)) (is_array u i j.0 c w)
 
-param_makes : (ts : List Token) (p : Span × (Span × (Word × Option Span))) → RatedParam.is ts p → IsParam ts (param_of p)
+pub param_makes : (ts : List Token) (p : Span × (Span × (Word × Option Span))) → RatedParam.is ts p → IsParam ts (param_of p)
 param_makes ts p i =
     let a = behind_is mark.Uniform TypedParam ts p i in
     let b = behind_is mark.Int Shaped a.0 p.1 a.2 in
@@ -77,7 +81,7 @@ param_ends : (s : Option Span) (rest : List Token) → Sign.ends s rest → stan
 param_ends None rest h = λ e. h
 param_ends (Some c) rest h = λ e. absurd cc
 
-param_reads : (n : ℕ) (ts : List Token) → param_at ts ≡ (RatedParam.read n ts >>= λ p. Ok (param_of p.0, p.1))
+pub param_reads : (n : ℕ) (ts : List Token) → param_at ts ≡ (RatedParam.read n ts >>= λ p. Ok (param_of p.0, p.1))
 unfolding param_at
 param_reads n ts = refl
 
@@ -87,6 +91,9 @@ param_sound n ts p rest e =
 
 abbrev pub Params : Form (List Param)
 Params = Series Parameter mark.ParenClose
+
+pub params_sound : (n : ℕ) → IsSound Params n
+params_sound n = series_sound Parameter mark.ParenClose n (param_sound n)
 
 listed_are : (ts : List Token) (ps : List Param) → AreListed Parameter ts ps → IsParamList ts ps
 listed_are ts [] i = absurd i
@@ -150,7 +157,7 @@ exported_sound : (n : ℕ) → IsSound Exported n
 exported_sound n =
     both_sound (One mark.Export) VoidFunction Free exported_then n (one_sound mark.Export n) (both_sound (One mark.Void) NamedParams Free void_then n (one_sound mark.Void n)
     (both_sound Named OpenParams Free name_then n (named_sound n) (both_sound (One mark.ParenOpen) ClosedParams Free open_then n (one_sound mark.ParenOpen n)
-    (both_sound Params (One mark.ParenClose) Free params_then n (series_sound Parameter mark.ParenClose n (param_sound n)) (one_sound mark.ParenClose n)))))
+    (both_sound Params (One mark.ParenClose) Free params_then n (params_sound n) (one_sound mark.ParenClose n)))))
 
 abbrev pub IsHeader : List Token → Span × (Word × List Param) → Type 0
 IsHeader ts h =
@@ -162,7 +169,7 @@ Header = record { is = IsHeader; deep = λ h. 0; ends = λ h rest. Unit {0}; rea
 abbrev pub header_of : Span × (Span × (Word × (Span × (List Param × Span)))) → Span × (Word × List Param)
 header_of p = (p.0, (p.1.1.0, p.1.1.1.1.0))
 
-header_makes : (ts : List Token) (p : Span × (Span × (Word × (Span × (List Param × Span))))) → Exported.is ts p → IsHeader ts (header_of p)
+pub header_makes : (ts : List Token) (p : Span × (Span × (Word × (Span × (List Param × Span))))) → Exported.is ts p → IsHeader ts (header_of p)
 header_makes ts p i =
     let a = behind_is mark.Export VoidFunction ts p i in
     let b = behind_is mark.Void NamedParams a.0 p.1 a.2 in
@@ -177,7 +184,7 @@ header_makes ts p i =
       series_are e.0 p.1.1.1.1.0 e.2,
     )
 
-header_reads : (n : ℕ) (ts : List Token) → header_at ts ≡ (Exported.read n ts >>= λ p. Ok (header_of p.0, p.1))
+pub header_reads : (n : ℕ) (ts : List Token) → header_at ts ≡ (Exported.read n ts >>= λ p. Ok (header_of p.0, p.1))
 unfolding header_at params_at
 header_reads n ts = refl
 
@@ -211,13 +218,13 @@ braces_sound n =
     both_sound (One mark.BraceOpen) ClosedStmts Free brace_then n (one_sound mark.BraceOpen n)
     (both_sound Several (One mark.BraceClose) Free stmts_then n (several_sound n) (one_sound mark.BraceClose n))
 
-body_makes : (ts : List Token) (p : Span × (List Stmt × Span)) → Braces.is ts p → IsBody ts p.1
+pub body_makes : (ts : List Token) (p : Span × (List Stmt × Span)) → Braces.is ts p → IsBody ts p.1
 body_makes ts p i =
     let a = behind_is mark.BraceOpen ClosedStmts ts p i in
     let b = before_is Several mark.BraceClose a.0 p.1 a.2 in
     (p.0, b.0, a.1 ∙ ap (λ (l : List Token). at mark.BraceOpen p.0 ∷ l) b.1, all_are b.0 p.1.0 b.2)
 
-body_reads : (n : ℕ) (ts : List Token) → body_at n ts ≡ (Braces.read n ts >>= λ p. Ok (p.0.1, p.1))
+pub body_reads : (n : ℕ) (ts : List Token) → body_at n ts ≡ (Braces.read n ts >>= λ p. Ok (p.0.1, p.1))
 unfolding body_at stmts_at
 body_reads n ts = refl
 
@@ -238,7 +245,7 @@ some_body = (([], nowhere), (nowhere, [], refl, is_end))
 pub header_then : Follows Header Body Free
 header_then = follows Header Body (λ x y b rest i h. tt) (at mark.BraceOpen nowhere ∷ at mark.BraceClose nowhere ∷ []) some_body
 
-function_makes : (ts : List Token) (p : (Span × (Word × List Param)) × (List Stmt × Span)) → Whole.is ts p → IsFunction ts (function_from p.0 p.1)
+pub function_makes : (ts : List Token) (p : (Span × (Word × List Param)) × (List Stmt × Span)) → Whole.is ts p → IsFunction ts (function_from p.0 p.1)
 function_makes ts p i =
     let h = i.3 in
     let b = i.4 in
@@ -247,7 +254,7 @@ function_makes ts p i =
     ∙ ap (λ (l : List Token). at mark.Export p.0.0 ∷ at mark.Void h.0 ∷ word p.0.1.0 ∷ at mark.ParenOpen h.1 ∷ l) (append_assoc h.3 (at mark.ParenClose h.2 ∷ []) i.1 ∙ ap (λ (l : List Token). h.3 ++ at mark.ParenClose h.2 ∷ l) b.2) in
     subst (λ (l : List Token). IsFunction l (function_from p.0 p.1)) (sym whole) (is_function p.0.0 h.0 h.1 h.2 b.0 p.1.1 p.0.1.0 h.3 b.1 p.0.1.1 p.1.0 h.5 b.3)
 
-function_reads : (n : ℕ) (ts : List Token) → function_at n ts ≡ (Whole.read n ts >>= λ p. Ok (function_from p.0.0 p.0.1, p.1))
+pub function_reads : (n : ℕ) (ts : List Token) → function_at n ts ≡ (Whole.read n ts >>= λ p. Ok (function_from p.0.0 p.0.1, p.1))
 unfolding function_at
 function_reads n ts = refl
 
@@ -273,10 +280,3 @@ program_sound n ts fs e =
       subst (λ (u : List Function). IsProgram ts u) q.1 (subst (λ (l : List Token). IsProgram l (p.0.0 ∷ [])) (sym w) (is_program f.used p.0.0 f.is)),
       subst (λ (u : List Function). depth_of_functions u ≤ suc n) q.1 d,
     )
-
-take_drop : (k : ℕ) (ts : List Token) → ts ≡ take k ts ++ drop k ts
-take_drop k ts = sym (take-append-drop k ts)
-
-pub fault_at_token : (text : TokenList) (why : Why) (k : ℕ) → IsAtToken text (fault_of why text.end (drop k text.items))
-fault_at_token text Unexpected k = record { before = take k text.items; after = drop k text.items; split = take_drop k text.items; span = refl; rule = inl refl }
-fault_at_token text TooDeep k = record { before = take k text.items; after = drop k text.items; split = take_drop k text.items; span = refl; rule = inr refl }

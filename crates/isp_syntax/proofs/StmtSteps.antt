@@ -1,11 +1,13 @@
 -- Steps of reading statements.
-use Rattle.std.proofs.Common.{◌≡◌, ℕ, zero, suc, ◌-◌, ◌<◌, true, false, List, [], ◌∷◌, refl, arith}
+use Rattle.std.proofs.Common.{◌≡◌, ℕ, zero, suc, ◌-◌, ◌<◌, true, false, List, [], ◌∷◌, Err, refl, sym, arith}
 use Rattle.isp_lex.specs.declared.token.TokenKind.{TokenKind}
 use Rattle.isp_lex.specs.declared.token.TokenKind.TheVariants as kind
 use Rattle.isp_lex.specs.declared.token.Token.{Token}
+use Rattle.isp_syntax.proofs.Basics.{err_is, ok_err}
+use Rattle.isp_syntax.specs.declared.stop.Refusal.{Refusal}
 use Rattle.isp_syntax.proofs.Steps.{limit_off, limit_deep}
 use Rattle.isp_syntax.specs.Grammar.{loosest}
-use Rattle.isp_syntax.specs.Reading.{Reader, refuse, head, on_head, word_from, word_at, place_at, expr_at, is_word, target_at, StmtStart, by_int, by_uniform, by_target, by_nothing, stmt_start_of, is_stmt_start, begins_stmt, stmt_from, stmt_by, stmt_at}
+use Rattle.isp_syntax.specs.Reading.{refusal, Reader, refuse, head, on_head, word_from, word_at, place_at, expr_at, is_word, target_at, StmtStart, by_int, by_uniform, by_target, by_nothing, stmt_start_of, is_stmt_start, begins_stmt, stmt_from, stmt_by, stmt_at}
 use Rattle.isp_syntax.specs.Tree.{Expr}
 use Rattle.isp_syntax.specs.declared.stop.Why.TheVariants.{Unexpected, TooDeep}
 
@@ -19,6 +21,17 @@ pub word_off : (u : List Token) → on_head false is_word (head u) ≡ false →
 unfolding word_at
 word_off [] e = refl
 word_off (t ∷ u) e = word_from_off t.kind t u e
+
+word_from_err : (k : TokenKind) (t : Token) (ts : List Token) (r : Refusal) → word_from k t ts ≡ Err r → (r ≡ refusal Unexpected (t ∷ ts)) × (is_word k ≡ false)
+word_from_err (kind.Word n) t ts r e = absurd (ok_err e)
+word_from_err (kind.Number v) t ts r e = (sym (err_is e), refl)
+word_from_err (kind.Mark m) t ts r e = (sym (err_is e), refl)
+word_from_err kind.LeftOut t ts r e = (sym (err_is e), refl)
+
+pub word_err : (ts : List Token) (r : Refusal) → word_at ts ≡ Err r → (r ≡ refusal Unexpected ts) × (on_head false is_word (head ts) ≡ false)
+unfolding word_at
+word_err [] r e = (sym (err_is e), refl)
+word_err (t ∷ ts) r e = word_from_err t.kind t ts r e
 
 pub place_off : (expr : Reader Expr) (u : List Token) → on_head false is_word (head u) ≡ false → place_at expr u ≡ refuse Unexpected u
 unfolding place_at

@@ -3,31 +3,18 @@ use Rattle.std.proofs.Common.{◌≡◌, ℕ, zero, suc, true, false, List, [], 
 use Rattle.isp_base.specs.Types.{span_to}
 use Rattle.isp_base.specs.declared.types.Span.{Span}
 use Rattle.isp_base.specs.declared.types.Rate.TheVariants as rate
-use Rattle.isp_base.specs.declared.types.Value.{Value}
-use Rattle.isp_base.specs.declared.types.Elem.TheVariants as elem
 use Rattle.isp_lex.specs.Tokens.{at, starts_with}
 use Rattle.isp_lex.specs.declared.token.Mark.TheVariants as mark
 use Rattle.isp_lex.specs.declared.token.TokenKind.{TokenKind}
 use Rattle.isp_lex.specs.declared.token.TokenKind.TheVariants as kind
 use Rattle.isp_lex.specs.declared.token.Token.{Token}
 use Rattle.isp_syntax.proofs.Basics.{err_ok}
-use Rattle.isp_syntax.proofs.Forms.{Form, Found, IsSound, Can, One, one_sound, Named, named_sound, Both, Free, follows, both_sound, Behind, one_then, behind_is, NameThen, named_then, name_then_is, is_name_then, Before, then_one, before_is, is_before, made_sound, AreAll, deepest, Until, until_sound}
-use Rattle.isp_syntax.proofs.Exprs.{ends_in_name, Ends, Exp, Placed, placed_makes, place_depth, place_bracket, place_reads, placed_sound, limit_not_ok, expr_sound, with_kind}
-use Rattle.isp_syntax.specs.Grammar.{word, numeral, loosest, IsPlace, IsExpr, is_number, is_tighter, IsStmt, is_varying, is_uniform, is_assign, IsStmts, is_end, is_next}
+use Rattle.isp_syntax.proofs.Forms.{Form, Found, IsSound, Can, One, one_sound, Named, named_sound, Both, Free, Follows, follows, both_sound, Behind, one_then, behind_is, NameThen, named_then, name_then_is, is_name_then, Before, then_one, before_is, is_before, made_sound, AreAll, deepest, Until, until_sound}
+use Rattle.isp_syntax.proofs.Exprs.{nowhere, zero_value, number_at_level, ends_in_name, Ends, Exp, Placed, placed_makes, place_depth, place_bracket, place_reads, placed_sound, limit_not_ok, expr_sound, with_kind}
+use Rattle.isp_syntax.specs.Grammar.{word, numeral, loosest, IsPlace, IsExpr, IsStmt, is_varying, is_uniform, is_assign, IsStmts, is_end, is_next}
 use Rattle.isp_syntax.specs.Reading.{◌>>=◌, place_of, place_at, expr_at, is_word, target_at, value_at, item_at, StmtStart, by_int, by_uniform, by_target, by_nothing, stmt_start_of, begins_stmt, stmt_from, stmt_by, stmt_at}
 use Rattle.isp_syntax.specs.Tree.{Expr, number, span_of, depth, Stmt, declare, assign, depth_of_stmt, depth_of_stmts}
 use Rattle.isp_syntax.specs.declared.tree.Word.{Word}
-
-pub nowhere : Span
-nowhere = record { start = 0; end = 0 }
-
-abbrev pub zero_value : Value
-zero_value = record { elem = elem.I32; bits = 0 }
-
--- a number is an expression of each level
-pub number_at_level : (k : ℕ) → IsExpr k (numeral zero_value nowhere ∷ []) (number zero_value nowhere)
-number_at_level zero = is_number zero_value nowhere
-number_at_level (suc k) = is_tighter k (numeral zero_value nowhere ∷ []) (number zero_value nowhere) (number_at_level k)
 
 -- ---- `=`, a value and a semicolon
 
@@ -62,10 +49,16 @@ value_makes ts p i =
     let l = before_is (Exp loosest) mark.Semicolon j.0 p.1 j.2 in
     (p.0, l.0, j.1 ∙ ap (λ (l : List Token). at mark.Assign p.0 ∷ l) l.1, l.2)
 
-pub valued_sound : (n : ℕ) → IsSound Valued n
+pub ended_then : Follows (Exp loosest) (One mark.Semicolon) Free
+ended_then = then_one (Exp loosest) mark.Semicolon semicolon_ends
+
+pub valued_then : Follows (One mark.Assign) Ended Free
+valued_then = one_then mark.Assign Ended (numeral zero_value nowhere ∷ at mark.Semicolon nowhere ∷ []) some_ended
+
+valued_sound : (n : ℕ) → IsSound Valued n
 valued_sound n =
-    both_sound (One mark.Assign) Ended Free (one_then mark.Assign Ended (numeral zero_value nowhere ∷ at mark.Semicolon nowhere ∷ []) some_ended) n (one_sound mark.Assign n)
-    (both_sound (Exp loosest) (One mark.Semicolon) Free (then_one (Exp loosest) mark.Semicolon semicolon_ends) n (expr_sound n loosest) (one_sound mark.Semicolon n))
+    both_sound (One mark.Assign) Ended Free valued_then n (one_sound mark.Assign n)
+    (both_sound (Exp loosest) (One mark.Semicolon) Free ended_then n (expr_sound n loosest) (one_sound mark.Semicolon n))
 
 pub value_sound : (n : ℕ) → IsSound Valuation n
 value_sound n ts v rest e =
@@ -106,52 +99,58 @@ zero_tokens = at mark.Assign nowhere ∷ numeral zero_value nowhere ∷ at mark.
 pub some_declared : Can Declared (word (record { name = []; span = nowhere }) ∷ zero_tokens)
 some_declared = ((record { name = []; span = nowhere }, some_value.0), is_name_then Valuation (record { name = []; span = nowhere }) zero_tokens some_value.0 some_value.1)
 
-pub declared_sound : (n : ℕ) → IsSound Declared n
-declared_sound n = both_sound Named Valuation Free (named_then Valuation zero_tokens some_value) n (named_sound n) (value_sound n)
+pub declared_then : Follows Named Valuation Free
+declared_then = named_then Valuation zero_tokens some_value
 
-pub typed_sound : (n : ℕ) → IsSound Typed n
-typed_sound n = both_sound (One mark.Int) Declared Free (one_then mark.Int Declared (word (record { name = []; span = nowhere }) ∷ zero_tokens) some_declared) n (one_sound mark.Int n) (declared_sound n)
+pub typed_then : Follows (One mark.Int) Declared Free
+typed_then = one_then mark.Int Declared (word (record { name = []; span = nowhere }) ∷ zero_tokens) some_declared
+
+declared_sound : (n : ℕ) → IsSound Declared n
+declared_sound n = both_sound Named Valuation Free declared_then n (named_sound n) (value_sound n)
+
+typed_sound : (n : ℕ) → IsSound Typed n
+typed_sound n = both_sound (One mark.Int) Declared Free typed_then n (one_sound mark.Int n) (declared_sound n)
 
 -- a value begins with a sign that goes on with no target
 pub target_then : (x : Expr) (y : Expr × Span) (b rest : List Token) → IsValue b y → EndsTarget x (b ++ rest)
 target_then x y b rest i = λ h. subst (λ (l : List Token). starts_with mark.BracketOpen (l ++ rest) ≡ false) (sym i.2) refl
 
-pub assigned_sound : (n : ℕ) → IsSound Assigned n
-assigned_sound n = both_sound Target Valuation Free (follows Target Valuation (λ x y b rest i h. target_then x y b rest i) zero_tokens some_value) n (target_sound n) (value_sound n)
+pub assigned_then : Follows Target Valuation Free
+assigned_then = follows Target Valuation (λ x y b rest i h. target_then x y b rest i) zero_tokens some_value
 
-varying_of : Span → Word × (Expr × Span) → Stmt
+assigned_sound : (n : ℕ) → IsSound Assigned n
+assigned_sound n = both_sound Target Valuation Free assigned_then n (target_sound n) (value_sound n)
+
+abbrev pub varying_of : Span → Word × (Expr × Span) → Stmt
 varying_of i p = declare rate.Varying p.0 p.1.0 (span_to i p.1.1)
 
-uniform_of : Span → Span × (Word × (Expr × Span)) → Stmt
+abbrev pub uniform_of : Span → Span × (Word × (Expr × Span)) → Stmt
 uniform_of u p = declare rate.Uniform p.1.0 p.1.1.0 (span_to u p.1.1.1)
 
-assign_of : Expr × (Expr × Span) → Stmt
+abbrev pub assign_of : Expr × (Expr × Span) → Stmt
 assign_of p = assign p.0 p.1.0 (span_to (span_of p.0) p.1.1)
 
-varying_makes : (i : Span) (ts : List Token) (p : Word × (Expr × Span)) → Declared.is ts p → IsStmt (at mark.Int i ∷ ts) (varying_of i p)
-unfolding varying_of
+pub varying_makes : (i : Span) (ts : List Token) (p : Word × (Expr × Span)) → Declared.is ts p → IsStmt (at mark.Int i ∷ ts) (varying_of i p)
 varying_makes i ts p d =
     let j = name_then_is Valuation ts p d in
     let v = j.2 in
     subst (λ (l : List Token). IsStmt (at mark.Int i ∷ l) (varying_of i p)) (sym (j.1 ∙ ap (λ (l : List Token). word p.0 ∷ l) v.2)) (is_varying i v.0 p.1.1 p.0 v.1 p.1.0 v.3)
 
-uniform_makes : (u : Span) (ts : List Token) (p : Span × (Word × (Expr × Span))) → Typed.is ts p → IsStmt (at mark.Uniform u ∷ ts) (uniform_of u p)
-unfolding uniform_of
+pub uniform_makes : (u : Span) (ts : List Token) (p : Span × (Word × (Expr × Span))) → Typed.is ts p → IsStmt (at mark.Uniform u ∷ ts) (uniform_of u p)
 uniform_makes u ts p d =
     let i = behind_is mark.Int Declared ts p d in
     let j = name_then_is Valuation i.0 p.1 i.2 in
     let v = j.2 in
     subst (λ (l : List Token). IsStmt (at mark.Uniform u ∷ l) (uniform_of u p)) (sym (i.1 ∙ ap (λ (l : List Token). at mark.Int p.0 ∷ l) (j.1 ∙ ap (λ (l : List Token). word p.1.0 ∷ l) v.2))) (is_uniform u p.0 v.0 p.1.1.1 p.1.0 v.1 p.1.1.0 v.3)
 
-assign_makes : (ts : List Token) (p : Expr × (Expr × Span)) → Assigned.is ts p → IsStmt ts (assign_of p)
-unfolding assign_of
+pub assign_makes : (ts : List Token) (p : Expr × (Expr × Span)) → Assigned.is ts p → IsStmt ts (assign_of p)
 assign_makes ts p i =
     let v = i.4 in
     subst (λ (l : List Token). IsStmt l (assign_of p)) (sym (i.2 ∙ ap (λ (l : List Token). i.0 ++ l) v.2)) (is_assign v.0 p.1.1 i.0 v.1 p.0 p.1.0 i.3 v.3)
 
 -- ---- the first token
 
-int_start : (k : TokenKind) → stmt_start_of k ≡ by_int → k ≡ kind.Mark mark.Int
+pub int_start : (k : TokenKind) → stmt_start_of k ≡ by_int → k ≡ kind.Mark mark.Int
 int_start (kind.Number u) e = absurd cc
 int_start (kind.Word n) e = absurd cc
 int_start (kind.Mark mark.Int) e = refl
@@ -159,7 +158,7 @@ int_start (kind.Mark mark.Uniform) e = absurd cc
 int_start (kind.Mark _) e = absurd cc
 int_start kind.LeftOut e = absurd cc
 
-uniform_start : (k : TokenKind) → stmt_start_of k ≡ by_uniform → k ≡ kind.Mark mark.Uniform
+pub uniform_start : (k : TokenKind) → stmt_start_of k ≡ by_uniform → k ≡ kind.Mark mark.Uniform
 uniform_start (kind.Number u) e = absurd cc
 uniform_start (kind.Word n) e = absurd cc
 uniform_start (kind.Mark mark.Int) e = absurd cc
@@ -169,7 +168,7 @@ uniform_start kind.LeftOut e = absurd cc
 
 module _ (n : ℕ) where
   next_sound : (c : StmtStart) (t : Token) (ts : List Token) (y : Stmt) (rest : List Token) → stmt_start_of t.kind ≡ c → stmt_from n c t ts ≡ Ok (y, rest) → Found Statement (suc n) (t ∷ ts) y rest
-  unfolding item_at varying_of uniform_of assign_of
+  unfolding item_at
   next_sound by_int t ts y rest s e =
       subst (λ (u : Token). Found Statement (suc n) (u ∷ ts) y rest) (sym (with_kind t (kind.Mark mark.Int) (int_start t.kind s)))
       (made_sound Declared Statement (varying_of t.span) (at mark.Int t.span ∷ []) n (suc n) (λ l. stmt_from n by_int t (drop 1 l)) ts refl (declared_sound n)

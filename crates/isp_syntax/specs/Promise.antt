@@ -1,5 +1,5 @@
 -- What parsing promises, by the grammar alone.
-use Rattle.std.specs.Prelude.{◌≡◌, ◌⊎◌, ℕ, ◌<◌, List, [], ◌∷◌, ◌++◌, map}
+use Rattle.std.specs.Prelude.{◌≡◌, ◌⊎◌, ℕ, ◌<◌, List, [], ◌∷◌, ◌++◌, map, Result, Ok, Err}
 use Rattle.isp_base.specs.declared.types.Span.{Span}
 use Rattle.isp_lex.specs.Faults.{fault}
 use Rattle.isp_lex.specs.Tokens.{TokenList}
@@ -12,7 +12,8 @@ use Rattle.isp_lex.specs.declared.token.Token.{Token}
 use Rattle.isp_lex.specs.declared.token.TokenKind.{TokenKind}
 use Rattle.isp_lex.specs.declared.token.TokenKind.TheVariants as kind
 use Rattle.isp_syntax.specs.Grammar.{IsProgram}
-use Rattle.isp_syntax.specs.Tree.{Function, depth_of_functions}
+use Rattle.isp_syntax.specs.Tree.{Function, functions_of, depth_of_functions}
+use Rattle.isp_syntax.specs.declared.tree.Tree.{Tree}
 
 -- how deep a tree may be
 abbrev pub limit : ℕ
@@ -71,14 +72,8 @@ abbrev pub Refuses : SourceFault → TokenList → Type 0
 Refuses Memory text = Unit {0}
 Refuses (Refused f) text = IsFirstBad text f ⊎ IsTooDeep text f
 
--- a fault of the parser at a token, or at the end
-pub record IsAtToken (text : TokenList) (f : Fault) : Type 0 where
-  pub before : List Token
-  pub after : List Token
-  pub split : text.items ≡ before ++ after
-  pub span : f.span ≡ place text.end after
-  pub rule : (f.rule ≡ rule_at after) ⊎ (f.rule ≡ TooDeep)
-
-abbrev pub AtToken : SourceFault → TokenList → Type 0
-AtToken Memory text = Unit {0}
-AtToken (Refused f) text = IsAtToken text f
+-- That tree was given, unless memory ran out.
+abbrev pub GivesTree : Result Tree SourceFault → List Function → Type 0
+GivesTree (Ok t) fs = functions_of t.functions.items ≡ fs
+GivesTree (Err Memory) fs = Unit {0}
+GivesTree (Err (Refused f)) fs = ⊥

@@ -1,8 +1,9 @@
 //! From tokens to the tree.
-ghost use Rattle.std.specs.Prelude.{◌≡◌, ◌≤◌, ◌-◌, IfOk, IfErr, length, drop};
+ghost use Rattle.std.specs.Prelude.{◌≡◌, ◌≤◌, ◌-◌, IfOk, IfErr, List, length, drop};
 ghost use Rattle.isp_syntax.specs.Tree.{depth_of_functions, functions_of};
+ghost use Rattle.isp_syntax.specs.Tree.{Function as FunctionTree};
 ghost use Rattle.isp_syntax.specs.Grammar.{IsProgram};
-ghost use Rattle.isp_syntax.specs.Promise.{limit, rule_of, AtToken};
+ghost use Rattle.isp_syntax.specs.Promise.{limit, rule_of, GivesTree, Refuses};
 ghost use Rattle.isp_syntax.specs.Reading.{Gives, program_at, fault_of};
 
 use crate::function::function;
@@ -40,11 +41,13 @@ fn rule_of(kind: &TokenKind) -> Rule
     }
 }
 
+/// The fault of a refusal of one of these tokens.
 fn fault_at(tokens: &Tokens, refusal: Refusal) -> Fault
+    requires { refusal.left ≤ length tokens.now.items }
     ensures { result ≡ fault_of refusal.why tokens.now.end (drop (length tokens.now.items - refusal.left) tokens.now.items) }
 {
     let all = tokens.as_slice();
-    let place = all.len().saturating_sub(refusal.left);
+    let place = all.len() - refusal.left;
     let (rule, span) = match &all[place..] {
         [] => {
             let end = tokens.end();
@@ -70,8 +73,10 @@ pub fn parse(alloc: Global, tokens: &Tokens) -> Result<Tree, SourceFault>
     // It is a tree of the tokens, and no deeper than the limit.
     ensures found { IfOk result (λ t. IsProgram tokens.now.items (functions_of t.functions.items)) }
     ensures shallow { IfOk result (λ t. depth_of_functions (functions_of t.functions.items) ≤ limit) }
-    // Another refusal than of memory is 10, 11 or 12, and is at a token or at the end of the text.
-    ensures at_token { IfErr result (λ e. AtToken e tokens.now) }
+    // Where there is such a tree, it is given, unless memory runs out.
+    ensures only { (fs : List FunctionTree) → IsProgram tokens.now.items fs → depth_of_functions fs ≤ limit → GivesTree result fs }
+    // What a refusal means: 10 or 12, 11, or memory.
+    ensures refused { IfErr result (λ e. Refuses e tokens.now) }
 {
     match program(alloc, tokens.as_slice()) {
         Ok(functions) => Ok(Tree { functions }),
