@@ -137,6 +137,14 @@ impl<const N: usize> Lanes<N> {
         self.write(value, mask);
     }
 
+    /// The lanes of another vector.
+    pub fn copy(&mut self, x: &Self, mask: &LaneMask<N>)
+        requires { x.now.elem ≡ self.old.elem }
+        ensures { self.new ≡ written mask.now x.now.bits self.old }
+    {
+        self.write(x.row(), mask);
+    }
+
     /// One value.
     pub fn splat(&mut self, bits: u64, mask: &LaneMask<N>)
         requires { bits < 2 ^ width self.old.elem }
