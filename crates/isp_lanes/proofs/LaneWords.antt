@@ -19,14 +19,23 @@ use Rattle.isp_base.proofs.Words.{word_spread, word_div, word_rem, word_shr, wor
 low_is : (t : Elem) (x y : ℕ) → x < 2 ^ width t → y ≤ x → (x + (2 ^ 64 - y)) % 2 ^ 64 ≡ x - y
 low_is t x y p h = exact x y (omega (arith, width_le t)) h
 
+-- one shift of what a sign picks, for two
+once : (b : Bool) (h : ℕ → ℕ) (u v k : ℕ) → cond b (h (cond b u v / 2 ^ k)) (cond b u v / 2 ^ k) ≡ cond b (h (u / 2 ^ k)) (v / 2 ^ k)
+once true h u v k = refl
+once false h u v k = refl
+
 module _ (t : Elem) (x y : ℕ) (p : x < 2 ^ width t) (q : y < 2 ^ width t) where
-  pub lane_shr : cond (top 63 (cond (nat_lt (greatest t) x) (2 ^ 64 - 1) 0)) ((2 ^ width t - 1 + (2 ^ 64 - ((2 ^ width t - 1 + (2 ^ 64 - x)) % 2 ^ 64) / 2 ^ bit_and y (width t - 1))) % 2 ^ 64) (x / 2 ^ bit_and y (width t - 1)) ≡ op_bits Shr t x y
+  pub lane_shr : cond (top 63 (cond (nat_lt (greatest t) x) (2 ^ 64 - 1) 0))
+      ((2 ^ width t - 1 + (2 ^ 64 - cond (top 63 (cond (nat_lt (greatest t) x) (2 ^ 64 - 1) 0)) ((2 ^ width t - 1 + (2 ^ 64 - x)) % 2 ^ 64) x / 2 ^ bit_and y (width t - 1))) % 2 ^ 64)
+      (cond (top 63 (cond (nat_lt (greatest t) x) (2 ^ 64 - 1) 0)) ((2 ^ width t - 1 + (2 ^ 64 - x)) % 2 ^ 64) x / 2 ^ bit_and y (width t - 1))
+      ≡ op_bits Shr t x y
   lane_shr =
       let m = 2 ^ width t - 1 in
       let k = bit_and y (width t - 1) in
       let first = low_is t m x (omega arith) (omega arith) in
       let second = low_is t m ((m - x) / 2 ^ k) (omega arith) (omega (arith, div-le_self (m - x) (2 ^ k))) in
-      ap (λ b. cond b ((m + (2 ^ 64 - ((m + (2 ^ 64 - x)) % 2 ^ 64) / 2 ^ k)) % 2 ^ 64) (x / 2 ^ k)) (set_top (nat_lt (greatest t) x))
+      once (top 63 (cond (nat_lt (greatest t) x) (2 ^ 64 - 1) 0)) (λ n. (m + (2 ^ 64 - n)) % 2 ^ 64) ((m + (2 ^ 64 - x)) % 2 ^ 64) x k
+      ∙ ap (λ b. cond b ((m + (2 ^ 64 - ((m + (2 ^ 64 - x)) % 2 ^ 64) / 2 ^ k)) % 2 ^ 64) (x / 2 ^ k)) (set_top (nat_lt (greatest t) x))
       ∙ ap (λ n. cond (nat_lt (greatest t) x) n (x / 2 ^ k)) (ap (λ n. (m + (2 ^ 64 - n / 2 ^ k)) % 2 ^ 64) first ∙ second)
       ∙ word_shr t x y p q
 

@@ -24,5 +24,6 @@ pub(super) fn shr<const N: usize>(elem: Elem, x: Simd<u64, N>, y: Simd<u64, N>) 
     let low = Simd::splat(low_mask(elem));
     let by = y & Simd::splat(amount_mask(elem));
     let is_negative = x.simd_gt(Simd::splat(greatest_of(elem)));
-    is_negative.select(low - ((low - x) >> by), x >> by)
+    let shifted = is_negative.select(low - x, x) >> by;
+    is_negative.select(low - shifted, shifted)
 }
