@@ -61,12 +61,12 @@ fn operator_at(looseness: usize, tokens: &[Token]) -> Option<Operator>
     }
 }
 
-fn join(alloc: Global, x: Expr, op: Operator, y: Expr) -> Result<Expr, Stop>
-    ensures value { IfOk result (λ z. expr_of z ≡ joined (expr_of x) op (expr_of y)) }
+fn join(alloc: Global, left: Expr, op: Operator, right: Expr) -> Result<Expr, Stop>
+    ensures value { IfOk result (λ z. expr_of z ≡ joined (expr_of left) op (expr_of right)) }
     ensures memory { IfErr result (λ e. e ≡ Stop.Memory) }
 {
-    let span = x.span().to(y.span());
-    Ok(Expr::Binary(op, Box::new(alloc, x)?, Box::new(alloc, y)?, span))
+    let span = left.span().to(right.span());
+    Ok(Expr::Binary(op, Box::new(alloc, left)?, Box::new(alloc, right)?, span))
 }
 
 /// An expression, its depth, and the tokens after it.
@@ -88,9 +88,9 @@ fn index(alloc: Global, left: usize, tokens: &[Token]) -> Result<Index<'_>, Stop
     if !starts_with(Mark::BracketOpen, tokens) {
         return Ok((None, 0, tokens));
     }
-    let (x, height, rest) = binary(alloc, LOOSEST, left, tail(tokens))?;
+    let (value, height, rest) = binary(alloc, LOOSEST, left, tail(tokens))?;
     let (close, rest) = mark(Mark::BracketClose, rest)?;
-    Ok((Some((x, close)), height, rest))
+    Ok((Some((value, close)), height, rest))
 }
 
 /// What may be assigned to: a variable, or an item of an array.
@@ -107,10 +107,10 @@ pub fn place(alloc: Global, inner: usize, tokens: &[Token]) -> Result<Found<'_>,
     let (found, height, rest) = index(alloc, inner, rest)?;
     match found {
         None => Ok((Expr::Name(word), 1, rest)),
-        Some((x, close)) => {
+        Some((value, close)) => {
             let span = word.span.to(close);
             Ok((
-                Expr::Item(word, Box::new(alloc, x)?, span),
+                Expr::Item(word, Box::new(alloc, value)?, span),
                 height + 1,
                 rest,
             ))
@@ -139,10 +139,14 @@ fn operand_from<'a>(
         TokenKind::Word(_) => place(alloc, inner, tokens),
         TokenKind::Mark(Mark::ProgramIndex) => Ok((Expr::ProgramIndex(first.span), 1, rest)),
         TokenKind::Mark(Mark::ParenOpen) => {
-            let (x, height, rest) = binary(alloc, LOOSEST, inner, rest)?;
+            let (value, height, rest) = binary(alloc, LOOSEST, inner, rest)?;
             let (close, rest) = mark(Mark::ParenClose, rest)?;
             let span = first.span.to(close);
-            Ok((Expr::Brackets(Box::new(alloc, x)?, span), height + 1, rest))
+            Ok((
+                Expr::Brackets(Box::new(alloc, value)?, span),
+                height + 1,
+                rest,
+            ))
         }
         _ => Err(refuse(Why::Unexpected, tokens)),
     }
@@ -186,15 +190,15 @@ pub fn binary(
     if looseness == 0 {
         return operand(alloc, left, tokens);
     }
-    let (mut x, mut height, mut rest) = binary(alloc, looseness - 1, left, tokens)?;
+    let (mut found, mut height, mut rest) = binary(alloc, looseness - 1, left, tokens)?;
     while let Some(op) = operator_at(looseness, rest) {
         if height >= left {
             return Err(refuse(Why::TooDeep, rest));
         }
-        let (y, y_height, after) = binary(alloc, looseness - 1, left - 1, tail(rest))?;
-        x = join(alloc, x, op, y)?;
-        height = larger(height, y_height) + 1;
+        let (right, right_height, after) = binary(alloc, looseness - 1, left - 1, tail(rest))?;
+        found = join(alloc, found, op, right)?;
+        height = larger(height, right_height) + 1;
         rest = after;
     }
-    Ok((x, height, rest))
+    Ok((found, height, rest))
 }

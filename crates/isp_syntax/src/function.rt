@@ -45,8 +45,8 @@ fn param_list(alloc: Global, tokens: &[Token]) -> Result<(Vec<Param>, &[Token]),
     let mut all = Vec::new(alloc);
     let mut rest = tokens;
     'each: loop {
-        let (x, after) = param(rest)?;
-        all.push(x)?;
+        let (next, after) = param(rest)?;
+        all.push(next)?;
         if !starts_with(Mark::Comma, after) {
             return Ok((all, after));
         }

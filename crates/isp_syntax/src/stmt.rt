@@ -54,9 +54,9 @@ fn value(alloc: Global, left: usize, tokens: &[Token]) -> Result<((Expr, Span), 
     ensures rest { IfOk result (λ r. length r.1.now < length tokens.now) }
 {
     let (_sign, rest) = mark(Mark::Assign, tokens)?;
-    let (x, _height, rest) = binary(alloc, LOOSEST, left, rest)?;
+    let (value, _height, rest) = binary(alloc, LOOSEST, left, rest)?;
     let (end, rest) = mark(Mark::Semicolon, rest)?;
-    Ok(((x, end), rest))
+    Ok(((value, end), rest))
 }
 
 /// A new name and its value.
@@ -90,21 +90,21 @@ fn stmt_from<'a>(
 {
     match &first.kind {
         TokenKind::Mark(Mark::Int) => {
-            let (word, (x, end), rest) = item(alloc, inner, rest)?;
+            let (word, (value, end), rest) = item(alloc, inner, rest)?;
             let span = first.span.to(end);
-            Ok((Stmt::Declare(Rate::Varying, word, x, span), rest))
+            Ok((Stmt::Declare(Rate::Varying, word, value, span), rest))
         }
         TokenKind::Mark(Mark::Uniform) => {
             let (_int, rest) = mark(Mark::Int, rest)?;
-            let (word, (x, end), rest) = item(alloc, inner, rest)?;
+            let (word, (value, end), rest) = item(alloc, inner, rest)?;
             let span = first.span.to(end);
-            Ok((Stmt::Declare(Rate::Uniform, word, x, span), rest))
+            Ok((Stmt::Declare(Rate::Uniform, word, value, span), rest))
         }
         TokenKind::Word(_) => {
             let (place, rest) = target(alloc, inner, tokens)?;
-            let ((x, end), rest) = value(alloc, inner, rest)?;
+            let ((value, end), rest) = value(alloc, inner, rest)?;
             let span = place.span().to(end);
-            Ok((Stmt::Assign(place, x, span), rest))
+            Ok((Stmt::Assign(place, value, span), rest))
         }
         _ => Err(refuse(Why::Unexpected, tokens)),
     }
@@ -136,8 +136,8 @@ pub fn stmts(alloc: Global, left: usize, tokens: &[Token]) -> Result<(Vec<Stmt>,
     let mut all = Vec::new(alloc);
     let mut rest = tokens;
     'each: while !starts_with(Mark::BraceClose, rest) {
-        let (s, after) = stmt(alloc, left, rest)?;
-        all.push(s)?;
+        let (next, after) = stmt(alloc, left, rest)?;
+        all.push(next)?;
         rest = after;
     }
     Ok((all, rest))

@@ -21,9 +21,9 @@ decreases-place l = 8 * l.inner + 6
 abbrev pub invariant-binary-loop-op : goal.invariant-binary-loop-op
 invariant-binary-loop-op l = record {
   rest : length l.rest < length l.tokens;
-  height : l.height ≡ depth (expr_of l.x);
+  height : l.height ≡ depth (expr_of l.found);
   bounded : l.height ≤ l.left;
-  value : (f : ℕ) × (l.left ≤ f + l.height) × (more_at (expr_at (l.left - 1) (l.looseness - 1)) (l.left - 1) (l.looseness - 1) f (expr_of l.x) l.rest ≡ expr_at l.left l.looseness l.tokens);
+  value : (f : ℕ) × (l.left ≤ f + l.height) × (more_at (expr_at (l.left - 1) (l.looseness - 1)) (l.left - 1) (l.looseness - 1) f (expr_of l.found) l.rest ≡ expr_at l.left l.looseness l.tokens);
 }
 
 abbrev pub decreases-binary-loop-op : goal.decreases-binary-loop-op

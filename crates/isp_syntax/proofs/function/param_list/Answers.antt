@@ -4,22 +4,22 @@ use Rattle.isp_syntax.specs.Reading.{list_at, param_at}
 use Rattle.isp_syntax.proofs.Steps.{list_fails, list_last, list_step}
 use Rattle.isp_syntax.proofs.function.param_list.Goals as goal
 
-pub returns-in_err-x-clause-value : goal.returns-in_err-x-clause-value
-returns-in_err-x-clause-value c =
+pub returns-in_err-next-clause-value : goal.returns-in_err-next-clause-value
+returns-in_err-next-clause-value c =
     let v = c.each.invariant.value in
     let p = err_from_is_err_and c.from_residual.result c.from_residual.ensures.1 in
-    rw (p.1, p.2) (list_fails c.in_err-x.field-0.0 param_at v.0 c.each.all.items c.each.rest.now (list_at param_at (length c.args.tokens.now + 1) c.args.tokens.now) v.1 c.in_err-x.ensures.value v.2)
+    rw (p.1, p.2) (list_fails c.in_err-next.field-0.0 param_at v.0 c.each.all.items c.each.rest.now (list_at param_at (length c.args.tokens.now + 1) c.args.tokens.now) v.1 c.in_err-next.ensures.value v.2)
 
 pub returns-then-not-starts_with-clause-value : goal.returns-then-not-starts_with-clause-value
 returns-then-not-starts_with-clause-value c =
     let v = c.each.invariant.value in
-    rw c.in_ok-push.ensures.items (list_last param_at v.0 c.each.all.items c.each.rest.now c.in_ok-x.x c.in_ok-x.after.now (list_at param_at (length c.args.tokens.now + 1) c.args.tokens.now) v.1 c.in_ok-x.ensures.value (sym c.starts_with.ensures ∙ c.if-not-starts_with.true) v.2)
+    rw c.in_ok-push.ensures.items (list_last param_at v.0 c.each.all.items c.each.rest.now c.in_ok-next.next c.in_ok-next.after.now (list_at param_at (length c.args.tokens.now + 1) c.args.tokens.now) v.1 c.in_ok-next.ensures.value (sym c.starts_with.ensures ∙ c.if-not-starts_with.true) v.2)
 
 pub each-preserved : goal.each-preserved
 each-preserved c =
     let v = c.each.invariant.value in
-    let s = list_step param_at v.0 c.each.all.items c.each.rest.now c.in_ok-x.x c.in_ok-x.after.now (list_at param_at (length c.args.tokens.now + 1) c.args.tokens.now) v.1 (omega (arith, c.in_ok-x.ensures.rest)) c.in_ok-x.ensures.value (sym c.starts_with.ensures ∙ c.if-not-starts_with.false) v.2 in
+    let s = list_step param_at v.0 c.each.all.items c.each.rest.now c.in_ok-next.next c.in_ok-next.after.now (list_at param_at (length c.args.tokens.now + 1) c.args.tokens.now) v.1 (omega (arith, c.in_ok-next.ensures.rest)) c.in_ok-next.ensures.value (sym c.starts_with.ensures ∙ c.if-not-starts_with.false) v.2 in
     record {
-      rest = omega (arith, c.each.invariant.rest, c.in_ok-x.ensures.rest, ap length c.tail-rest.ensures, length-drop 1 c.in_ok-x.after.now);
+      rest = omega (arith, c.each.invariant.rest, c.in_ok-next.ensures.rest, ap length c.tail-rest.ensures, length-drop 1 c.in_ok-next.after.now);
       value = rw (c.in_ok-push.ensures.items, c.tail-rest.ensures) s;
     }

@@ -14,19 +14,19 @@ each-init c = record {
   value = (suc (length c.args.tokens.now), omega arith, rw c.new-all.ensures.items (until_begins mark.BraceClose (stmt_at c.args.left) (suc (length c.args.tokens.now)) c.args.tokens.now));
 }
 
-pub returns-in_err-s-clause-value : goal.returns-in_err-s-clause-value
-returns-in_err-s-clause-value c =
+pub returns-in_err-next-clause-value : goal.returns-in_err-next-clause-value
+returns-in_err-next-clause-value c =
     let v = c.each.invariant.value in
     let p = err_from_is_err_and c.from_residual.result c.from_residual.ensures.1 in
-    rw (p.1, p.2) (until_fails mark.BraceClose c.in_err-s.field-0.0 (stmt_at c.args.left) v.0 (stmts_of c.each.all.items) c.each.rest.now (stmts_at c.args.left c.args.tokens.now) v.1 (sym c.starts_with.ensures ∙ c.each-test.true) c.in_err-s.ensures.value v.2)
+    rw (p.1, p.2) (until_fails mark.BraceClose c.in_err-next.field-0.0 (stmt_at c.args.left) v.0 (stmts_of c.each.all.items) c.each.rest.now (stmts_at c.args.left c.args.tokens.now) v.1 (sym c.starts_with.ensures ∙ c.each-test.true) c.in_err-next.ensures.value v.2)
 
 pub each-preserved : goal.each-preserved
 each-preserved c =
     let v = c.each.invariant.value in
-    let e : stmts_of c.push.new.self.items ≡ stmts_of c.each.all.items ++ stmt_of c.in_ok-s.s ∷ [] = rw c.in_ok-push.ensures.items (map_push _ c.each.all.items c.in_ok-s.s) in
-    let s = until_step mark.BraceClose (stmt_at c.args.left) v.0 (stmts_of c.each.all.items) c.each.rest.now (stmt_of c.in_ok-s.s) c.in_ok-s.after.now (stmts_at c.args.left c.args.tokens.now) v.1 c.in_ok-s.ensures.rest (sym c.starts_with.ensures ∙ c.each-test.true) c.in_ok-s.ensures.value v.2 in
+    let e : stmts_of c.push.new.self.items ≡ stmts_of c.each.all.items ++ stmt_of c.in_ok-next.next ∷ [] = rw c.in_ok-push.ensures.items (map_push _ c.each.all.items c.in_ok-next.next) in
+    let s = until_step mark.BraceClose (stmt_at c.args.left) v.0 (stmts_of c.each.all.items) c.each.rest.now (stmt_of c.in_ok-next.next) c.in_ok-next.after.now (stmts_at c.args.left c.args.tokens.now) v.1 c.in_ok-next.ensures.rest (sym c.starts_with.ensures ∙ c.each-test.true) c.in_ok-next.ensures.value v.2 in
     record {
-      rest = omega (arith, c.each.invariant.rest, c.in_ok-s.ensures.rest);
+      rest = omega (arith, c.each.invariant.rest, c.in_ok-next.ensures.rest);
       value = rw e s;
     }
 
