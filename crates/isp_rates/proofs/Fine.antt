@@ -264,6 +264,7 @@ function_fine taken x f p none =
     record {
       params = rw (params, vars) (params_front x.params ∙ sym (after_takes _ (map holds_read x.params) x.body (params_length x.params)));
       names = subst AreDistinct (sym (ap (map (λ (p : Parameter). p.name)) params ∙ params_named x.params)) (distinct x.body p.0 [] [] x.params p.1.1);
+      result = ap (λ (g : Plain). g.result) p.2;
       body = subst (λ (z : List Holds). AreFine z f.body) (sym vars) (subst (AreFine (variables_of x)) (sym body)
           (body_fine (variables_of x) [] [] x.params x.body p.0 refl (knows_none _) p.1.1 (subst (NoRates x.body) body none)));
     }
@@ -291,7 +292,7 @@ pub if_some_map : {A B : Type 0} (g : A → B) (P : B → Type 0) (o : Option A)
 if_some_map g P None h = tt
 if_some_map g P (Some x) h = h
 
-plain_map : (items : List rust.TypedFunction) → map plain (functions_of items) ≡ plain_functions items
+pub plain_map : (items : List rust.TypedFunction) → map plain (functions_of items) ≡ plain_functions items
 plain_map [] = refl
 plain_map (x ∷ items) = ap (λ (z : List Plain). plain_function x ∷ z) (plain_map items)
 

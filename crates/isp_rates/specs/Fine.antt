@@ -1,5 +1,5 @@
 -- What holds of the typed tree of each accepted program: later layers rest on it.
-use Rattle.std.specs.Prelude.{◌≡◌, ℕ, ◌<◌, ◌^◌, List, [], ◌∷◌, map, take, length, slice_get, Some, Bool, true, false, ◌≢◌}
+use Rattle.std.specs.Prelude.{◌≡◌, ℕ, ◌<◌, ◌^◌, List, [], ◌∷◌, map, take, length, slice_get, Some, None, Bool, true, false, ◌≢◌}
 use Rattle.isp_base.specs.Values.{width}
 use Rattle.isp_base.specs.declared.types.Ty.{Ty}
 use Rattle.isp_base.specs.declared.types.Rate.{Rate}
@@ -63,10 +63,11 @@ abbrev pub AreDistinct : List (List ℕ) → Type 0
 AreDistinct [] = Unit {0}
 AreDistinct (x ∷ xs) = IsNoneOf x xs × AreDistinct xs
 
--- the parameters are the first variables, their names differ, and the body is fine
+-- the parameters are the first variables, their names differ, nothing is given back, and the body is fine
 pub record IsFineFunction (f : Function) : Type 0 where
   pub params : map holds_of f.signature.params.items ≡ take (length f.signature.params.items) f.variables
   pub names : AreDistinct (map (λ p. p.name) f.signature.params.items)
+  pub result : f.signature.result ≡ None
   pub body : AreFine f.variables f.body
 
 abbrev pub AreFineFunctions : List Function → Type 0

@@ -1,10 +1,10 @@
 //! Names, types and rates of a program.
-ghost use Rattle.std.specs.Prelude.{◌≡◌, IfOk, IfErr};
+ghost use Rattle.std.specs.Prelude.{◌≡◌, IfOk, IfErr, map};
 ghost use Rattle.isp_lex.specs.declared.fault.Fault.{Fault};
 ghost use Rattle.isp_syntax.specs.Tree.{functions_of as read_functions};
 ghost use Rattle.isp_rates.specs.Promise.{Accepts, Refuses};
-ghost use Rattle.isp_rates.specs.Program.{Breach, IsProgram};
-ghost use Rattle.isp_rates.specs.Views.{plain_functions};
+ghost use Rattle.isp_rates.specs.Program.{Breach, IsProgram, plain};
+ghost use Rattle.isp_rates.specs.Typed.{functions_of};
 
 use crate::checked::{Checked, Program};
 use crate::demand::program_demands;
@@ -20,8 +20,10 @@ use std::alloc::Global;
 /// expression, the element or the target) the one is answered whose span ends first, a tie by the lower
 /// number; where there is none of them, 30 VaryingToUniform (at the varying value) in the same order.
 pub fn check_tree(alloc: Global, tree: Tree, gang: Gang) -> Result<Checked, SourceFault>
-    ensures accepted { IfOk result (λ c. Accepts (IsProgram (read_functions tree.functions.items)) (Breach (read_functions tree.functions.items)) (plain_functions c.functions.items)) }
+    // The program is the only one that the tree is, and there is no breach.
+    ensures accepted { IfOk result (λ c. Accepts (IsProgram (read_functions tree.functions.items)) (Breach (read_functions tree.functions.items)) (map plain (functions_of c.functions.items))) }
     ensures gang { IfOk result (λ c. c.gang ≡ gang) }
+    // Another refusal than of memory is a breach, and none is answered before it.
     ensures refused { IfErr result (λ e. (f : Fault) → e ≡ SourceFault.Refused f → Refuses (IsProgram (read_functions tree.functions.items)) (Breach (read_functions tree.functions.items)) f) }
 {
     match functions(alloc, &tree.functions)? {

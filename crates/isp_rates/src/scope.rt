@@ -9,14 +9,14 @@ use std::collections::BTreeMap;
 use std::marker::Model;
 
 /// What a name stands for: the number of a variable of the function, and what it holds.
-#[derive(Clone, Copy, Debug)]
+#[derive(Clone, Copy)]
 pub struct Variable {
     pub slot: usize,
     pub holds: Holds,
 }
 
 /// A name in scope.
-#[derive(Debug, Drop)]
+#[derive(Drop)]
 pub struct Binding {
     pub name: Name,
     pub variable: Variable,

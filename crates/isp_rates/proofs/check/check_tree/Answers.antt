@@ -6,7 +6,7 @@ use Rattle.isp_rates.specs.Program.{Plain, IsProgram, Breach}
 use Rattle.isp_rates.specs.Promise.{Accepts, Refuses}
 use Rattle.isp_rates.specs.Views.{plain_functions}
 use Rattle.isp_rates.specs.Judge.{judge_functions, program_demands}
-use Rattle.isp_rates.proofs.Fine.{program_fine}
+use Rattle.isp_rates.proofs.Fine.{program_fine, plain_map}
 use Rattle.isp_rates.proofs.Programs.{accepted, refused_late, refused, ok_is, err_is, refused_is}
 use Rattle.isp_rates.proofs.check.check_tree.Goals as goal
 
@@ -25,7 +25,8 @@ returns-in-None-clause-accepted c =
     let gs = plain_functions c.in-Ok.functions.items in
     let j = rw c.deref.ensures.value at c.in_ok-functions.ensures in
     let d = rw (c.deref-in-Ok.ensures.value, c.deref-in-Ok-2.ensures.value) at c.program_demands.ensures in
-    rw c.new.ensures (accepted fs gs (ok_is (λ l. plain_functions l.items) _ _ _ c.in-Ok.is j) (sym c.in-None.is ∙ d))
+    rw c.new.ensures (subst (Accepts (IsProgram fs) (Breach fs)) (sym (plain_map c.in-Ok.functions.items))
+    (accepted fs gs (ok_is (λ l. plain_functions l.items) _ _ _ c.in-Ok.is j) (sym c.in-None.is ∙ d)))
 
 pub returns-in-Ok-clause-refused : goal.returns-in-Ok-clause-refused
 returns-in-Ok-clause-refused c = λ f e.
