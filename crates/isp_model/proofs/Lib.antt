@@ -1,0 +1,11 @@
+pub mod Sets
+pub mod Kernels
+pub mod Rows
+pub mod Stores
+pub mod Trees
+pub mod Values
+pub mod States
+pub mod Steps
+pub mod Begins
+pub mod Whole
+pub mod Later

@@ -1,0 +1,34 @@
+use Rattle.std.proofs.Common.{◌≡◌, ◌<◌, ◌^◌, sym, ap, ◌∙◌, ℕ, length, get_or, subst, arith, rules}
+use Rattle.isp_base.specs.declared.types.Elem.{Elem}
+use Rattle.isp_base.specs.Values.{width}
+use Rattle.isp_base.specs.Rows.{Row}
+use Rattle.isp_model.specs.Seen.{lane_of}
+use Rattle.isp_model.proofs.Rows.{row_bits_at, row_elem_at, row_there}
+use Rattle.isp_model.proofs.arrays.load.Goals as goal
+
+pub offset_bounds-arrays-store : goal.offset_bounds-arrays-store
+offset_bounds-arrays-store c = let h = row_there c.args.arrays.now c.args.store c.args.place c.requires in search rules
+
+pub bounds-arrays-store : goal.bounds-arrays-store
+bounds-arrays-store c = row_there c.args.arrays.now c.args.store c.args.place c.requires
+
+pub at-requires : goal.at-requires
+at-requires c =
+    let a = c.args in
+    let there = row_there a.arrays.now a.store a.place c.requires in
+    let at = c.index-arrays-store in
+    subst (λ xs. a.place < length xs) (row_bits_at a.arrays.now a.store at.result there ∙ ap (λ (r : Row). r.bits) (sym at.is)) c.requires
+
+pub returns-clause-value : goal.returns-clause-value
+returns-clause-value c =
+    let a = c.args in
+    let there = row_there a.arrays.now a.store a.place c.requires in
+    let at = c.index-arrays-store in
+    c.at.ensures.value ∙ ap (λ (r : Row). lane_of r.bits a.place) at.is ∙ sym (ap (λ xs. lane_of xs a.place) (row_bits_at a.arrays.now a.store at.result there))
+
+pub returns-clause-fits : goal.returns-clause-fits
+returns-clause-fits c =
+    let a = c.args in
+    let there = row_there a.arrays.now a.store a.place c.requires in
+    let at = c.index-arrays-store in
+    subst (λ (t : Elem). c.at.result < 2 ^ width t) (ap (λ (r : Row). r.elem) at.is ∙ sym (row_elem_at a.arrays.now a.store at.result there)) c.at.ensures.fits

@@ -1,0 +1,7 @@
+use Rattle.std.proofs.Common.{◌≡◌, None}
+use Rattle.isp_model.specs.Gang.{lowest}
+use Rattle.isp_model.specs.Seen.{flag_of}
+use Rattle.isp_model.proofs.lanes.lowest.Given as goal
+
+abbrev pub invariant-loop-instance : goal.invariant-loop-instance
+invariant-loop-instance l = lowest l.instance (flag_of l.set) ≡ None
