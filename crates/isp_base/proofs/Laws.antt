@@ -1,10 +1,11 @@
 -- What holds of the values of every element type.
-use Rattle.std.proofs.Common.{◌≡◌, refl, sym, ap, ◌∙◌, ℕ, suc, zero, ◌+◌, ◌-◌, ◌*◌, ◌/◌, ◌%◌, ◌^◌, ◌<◌, Bool, true, false, cond, ℤ, pos, negsuc, neg_ℤ, ◌+ℤ◌, ◌-ℤ◌, ◌*ℤ◌, nat_lt, arith, mod-eq_of_lt, mod-lt, pow_pos, ltb-true, ltb-false, zero-mul}
+use Rattle.std.proofs.Common.{◌≡◌, refl, sym, ap, ◌∙◌, ℕ, suc, zero, ◌+◌, ◌-◌, ◌*◌, ◌/◌, ◌%◌, ◌^◌, ◌<◌, Bool, true, false, cond, ℤ, pos, negsuc, neg_ℤ, ◌+ℤ◌, ◌-ℤ◌, ◌*ℤ◌, nat_lt, arith, mod-eq_of_lt, mod-lt, pow_pos, ltb-true, ltb-false, zero-mul, unsigned_abs}
 use Rattle.std.proofs.lemmas.Int.{ints}
 use Rattle.std.proofs.Math.Nat.{pow-succ'}
 use Rattle.std.proofs.lemmas.Nat.{div-add-mod'}
 use borrow.Author.Differences.{up, down, same_in, same_out, sum_is_lem, neg_is, product_is}
 use lib.IntN.{negsuc-*ℤ-pos}
+use Rattle.std.specs.Int.{int_rem_euclid}
 use Rattle.isp_base.specs.declared.types.Elem.{Elem}
 use Rattle.isp_base.specs.declared.types.Elem.TheVariants.{Bool as Truth, I8, U8, I16, U16, I32, U32, I64, U64}
 use Rattle.isp_base.specs.Values.{width, greatest, number, number_to, wrap_to, wrap}
@@ -88,15 +89,16 @@ product : (q m : ℕ) → neg_ℤ (pos q) *ℤ pos m ≡ neg_ℤ (pos (q * m))
 product zero m = ap pos (zero-mul m) ∙ ap (λ n. neg_ℤ (pos n)) (sym (zero-mul m))
 product (suc q) m = negsuc-*ℤ-pos q m
 
+-- what is left of a whole number
+pub residue_of : (m : ℕ) (z : ℤ) → 0 < m → (unsigned_abs (int_rem_euclid z (pos m)) < m) × SameModulo m (pos (unsigned_abs (int_rem_euclid z (pos m)))) z
+residue_of m (pos n) h = (mod-lt n h, (neg_ℤ (pos (n / m)), omega (arith, ints, product (n / m) m, div-add-mod' n m)))
+residue_of m (negsuc n) h =
+    let some = mod-lt n h in
+    (omega arith, (pos (n / m + 1), omega (arith, ints, div-add-mod' n m)))
+
 residue : (w : ℕ) (z : ℤ) → SameModulo (2 ^ w) (pos (wrap_to w z)) z
 unfolding wrap_to
-residue w (pos n) =
-    let m = 2 ^ w in
-    (neg_ℤ (pos (n / m)), omega (arith, ints, product (n / m) m, div-add-mod' n m))
-residue w (negsuc n) =
-    let m = 2 ^ w in
-    let some = mod-lt n (pow_pos w) in
-    (pos (n / m + 1), omega (arith, ints, div-add-mod' n m))
+residue w z = (residue_of (2 ^ w) z (pow_pos w)).1
 
 fewer : (k : ℤ) (j m : ℕ) → (k -ℤ pos j) *ℤ pos m ≡ k *ℤ pos m -ℤ pos (j * m)
 fewer k j m =

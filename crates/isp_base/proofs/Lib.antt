@@ -6,4 +6,5 @@ pub mod Unaries
 pub mod Compares
 pub mod Converts
 pub mod Laws
+pub mod Roundings
 pub mod Bindings

@@ -4,6 +4,7 @@ pub mod Values
 pub mod Ranges
 pub mod Ranks
 pub mod Unary
+pub mod Rounding
 pub mod Binding
 pub mod Outcomes
 pub mod Words

@@ -1,5 +1,6 @@
 -- Gangs and places.
-use Rattle.std.specs.Prelude.{ℕ}
+use Rattle.std.specs.Prelude.{ℕ, List, ◌++◌, codes}
+use Rattle.std.specs.Fmt.{decimal}
 use Rattle.isp_base.specs.declared.types.Gang.{Gang}
 use Rattle.isp_base.specs.declared.types.Gang.TheVariants.{W4, W8, W16}
 use Rattle.isp_base.specs.declared.types.Span.{Span}
@@ -13,3 +14,7 @@ gang_width W16 = 16
 -- from the start of one to the end of the other
 abbrev pub span_to : Span → Span → Span
 span_to first last = record { start = first.start; end = last.end }
+
+-- as it is printed: both ends, and two dots between them
+abbrev pub span_text : Span → List ℕ
+span_text s = decimal s.start ++ codes ".." ++ decimal s.end

@@ -1,8 +1,8 @@
 -- What an element type's values are, and what each operator does to them, in whole numbers.
 --     bits of an element type: a natural below 2 ^ width; it stands for a whole number, `number t bits`
 --     wrap t z             the bits of the value of t that differs from z by a multiple of 2 ^ width
---     outcome op t x y     the operator's result in whole numbers, which is then wrapped
-use Rattle.std.specs.Prelude.{◌≡◌, ℕ, zero, suc, ◌-◌, ◌%◌, ◌^◌, Bool, true, false, cond, ℤ, pos, negsuc, ◌+ℤ◌, ◌-ℤ◌, ◌*ℤ◌, nat_lt, int_lt, not, unsigned_abs, int_div, int_rem, bit_and, bit_or, bit_xor}
+--     outcome_to w op x y  the operator's result in whole numbers, at width w; it is then wrapped
+use Rattle.std.specs.Prelude.{◌≡◌, ℕ, zero, suc, ◌-◌, ◌%◌, ◌^◌, Bool, true, false, if◌then◌else◌, ℤ, pos, negsuc, ◌+ℤ◌, ◌-ℤ◌, ◌*ℤ◌, nat_lt, int_lt, not, unsigned_abs, int_div, int_rem, bit_and, bit_or, bit_xor}
 use Rattle.std.specs.Int.{int_rem_euclid, int_shr, int_min, int_max}
 use Rattle.isp_base.specs.declared.types.Elem.{Elem}
 use Rattle.isp_base.specs.declared.types.Elem.TheVariants.{Bool as Truth, I8, U8, I16, U16, I32, U32, I64, U64}
@@ -42,12 +42,13 @@ wrap_to w z = unsigned_abs (int_rem_euclid z (pos (2 ^ w)))
 
 -- the whole number of w bits whose greatest value is g
 unfoldable pub number_to : ℕ → ℕ → ℕ → ℤ
-number_to w g bits = cond (nat_lt g bits) (pos bits -ℤ pos (2 ^ w)) (pos bits)
+number_to w g bits = if nat_lt g bits then pos bits -ℤ pos (2 ^ w) else pos bits
 
+-- the bits of the value of t that differs from z by a multiple of 2 ^ width
 abbrev pub wrap : Elem → ℤ → ℕ
 wrap t z = wrap_to (width t) z
 
--- the low bits are read
+-- the number that the low bits stand for
 abbrev pub number : Elem → ℕ → ℤ
 number t bits = number_to (width t) (greatest t) (bits % 2 ^ width t)
 
@@ -55,6 +56,7 @@ number t bits = number_to (width t) (greatest t) (bits % 2 ^ width t)
 unfoldable pub amount : ℕ → ℤ → ℕ
 amount w y = unsigned_abs (int_rem_euclid y (pos w))
 
+-- the operator's result in whole numbers, where values have w bits
 abbrev pub outcome_to : ℕ → BinOp → ℤ → ℤ → ℤ
 outcome_to w Add x y = x +ℤ y
 outcome_to w Sub x y = x -ℤ y
@@ -73,40 +75,26 @@ outcome_to w Max x y = int_max x y
 abbrev pub op_bits : BinOp → Elem → ℕ → ℕ → ℕ
 op_bits op t x y = wrap t (outcome_to (width t) op (number t x) (number t y))
 
+-- the operators that a divisor of zero has no result for
 abbrev pub divides : BinOp → Bool
 divides Div = true
 divides Rem = true
-divides Add = false
-divides Sub = false
-divides Mul = false
-divides And = false
-divides Or = false
-divides Xor = false
-divides Shl = false
-divides Shr = false
-divides Min = false
-divides Max = false
+divides op = false
 
--- what `apply` answers
+-- there is no result
 abbrev pub DividesByZero : BinOp → Elem → ℕ → Type 0
 DividesByZero op t y = (divides op ≡ true) × (number t y ≡ pos 0)
 
--- conversion: to bool it is "not zero", else the number is wrapped
+-- as a bool, a number is whether it is not zero
 unfoldable pub not_zero : ℤ → ℕ
 not_zero (pos zero) = 0
 not_zero (pos (suc n)) = 1
 not_zero (negsuc n) = 1
 
+-- the bits of z as a value of type t
 abbrev pub convert_bits : Elem → ℤ → ℕ
 convert_bits Truth z = not_zero z
-convert_bits I8 z = wrap I8 z
-convert_bits U8 z = wrap U8 z
-convert_bits I16 z = wrap I16 z
-convert_bits U16 z = wrap U16 z
-convert_bits I32 z = wrap I32 z
-convert_bits U32 z = wrap U32 z
-convert_bits I64 z = wrap I64 z
-convert_bits U64 z = wrap U64 z
+convert_bits t z = wrap t z
 
 -- a comparison of whole numbers
 abbrev pub compare_to : Compare → ℤ → ℤ → Bool
@@ -119,4 +107,4 @@ compare_to GreaterOrEqual x y = not (int_lt x y)
 
 -- the bits of its answer, a bool
 abbrev pub compare_bits : Compare → Elem → ℕ → ℕ → ℕ
-compare_bits c t x y = cond (compare_to c (number t x) (number t y)) 1 0
+compare_bits c t x y = if compare_to c (number t x) (number t y) then 1 else 0

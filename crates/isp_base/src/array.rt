@@ -55,7 +55,7 @@ impl Array {
         ensures value { result ≡ slice_index self.now.bits place }
         ensures fits { result < 2 ^ width self.now.elem }
     {
-        self.bits[place]
+        self.bits.as_slice()[place]
     }
 
     /// Writes one element.

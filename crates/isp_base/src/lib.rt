@@ -13,7 +13,7 @@ mod values;
 
 pub use array::Array;
 pub use name::Name;
-pub use operators::{BinOp, Compare, DivideByZero, UnaryOp, apply, apply_nonzero};
+pub use operators::{BinOp, Compare, DivideByZero, UnaryOp, apply, apply_nonzero, operator_laws};
 pub use order::compare;
 pub use signature::{Argument, Bound, Parameter, Signature};
 pub use trap::{Trap, TrapKind};

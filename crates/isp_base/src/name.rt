@@ -46,6 +46,6 @@ impl Name {
     pub fn is(&self, text: &str) -> bool
         ensures { IsTrue result ↔ (self.now ≡ text.now) }
     {
-        self.text.as_str() == text
+        self.as_str() == text
     }
 }

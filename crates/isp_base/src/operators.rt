@@ -1,11 +1,14 @@
 //! The operators on values.
-ghost use Rattle.std.specs.Prelude.{◌≡◌, ◌^◌, ◌<◌, ◌≢◌, pos, MatchResult, true};
-ghost use Rattle.isp_base.specs.Values.{width, number, op_bits, DividesByZero, divides};
+ghost use Rattle.std.specs.Prelude.{◌≡◌, ◌^◌, ◌<◌, ◌≢◌, ◌<ℤ◌, pos, MatchResult, true, ℕ, ℤ, int_div, int_rem};
+ghost use Rattle.std.specs.Int.{int_shr};
+ghost use Rattle.isp_base.specs.Values.{width, number, wrap, amount, op_bits, DividesByZero, divides};
+ghost use Rattle.isp_base.specs.Ranges.{SameModulo};
+ghost use Rattle.isp_base.specs.Rounding.{IsQuotient, IsFloor, IsLeast, IsItsNegative};
 
 use crate::order::is_less;
 use crate::types::Elem;
-use crate::unary::{is_negative, magnitude, negate};
-use crate::values::{amount_mask, greatest_of, low_bits, low_mask};
+use crate::unary::{magnitude, negate};
+use crate::values::{amount_mask, is_negative, low_bits, low_mask};
 use thiserror::Error;
 
 /// An operator on two values of one element type.
@@ -109,7 +112,7 @@ fn shift_right(elem: Elem, x: u64, y: u64) -> u64
 {
     let low = low_mask(elem);
     let by = y & amount_mask(elem);
-    if x > greatest_of(elem) {
+    if is_negative(elem, x) {
         low - ((low - x) >> by)
     } else {
         x >> by
@@ -139,9 +142,19 @@ fn remainder(elem: Elem, x: u64, y: u64) -> u64
     ensures { result ≡ op_bits BinOp.Rem elem x y }
 {
     let rest = magnitude(elem, x) % magnitude(elem, y);
-    if x > greatest_of(elem) {
+    if is_negative(elem, x) {
         negate(elem, rest)
     } else {
         rest
     }
 }
+
+/// What holds of the operators: a quotient rounds toward zero and its remainder has the sign of
+/// the dividend, a shift to the right rounds down, a shift's amount is taken modulo the width, and
+/// the least value is its own negative.
+pub fn operator_laws()
+    ensures quotient { (x y : ℤ) → y ≢ pos 0 → IsQuotient x y (int_div x y) (int_rem x y) }
+    ensures shift { (x : ℤ) (k : ℕ) → IsFloor x k (int_shr x k) }
+    ensures amount { (w : ℕ) (y : ℤ) → 0 < w → (amount w y < w) × SameModulo w (pos (amount w y)) y }
+    ensures least { (t : Elem) (z : ℤ) → IsLeast t z → z <ℤ pos 0 → IsItsNegative t (wrap t z) }
+{}

@@ -61,6 +61,11 @@ pub struct Span {
 }
 
 impl fmt::Display for Span {
+    ghost use Rattle.std.specs.Prelude.{Some};
+    ghost use Rattle.isp_base.specs.Types.{span_text};
+
+    ghost output = { λ s. Some (span_text s) };
+
     fn fmt<W: fmt::Write>(&self, f: &mut fmt::Formatter<W>) -> fmt::Result {
         write!(f, "{}..{}", self.start, self.end)
     }

@@ -1,12 +1,12 @@
 //! The operators on one value, and the sign of a value.
-ghost use Rattle.std.specs.Prelude.{◌≡◌, ◌-◌, ◌%◌, ◌^◌, ◌<◌, nat_lt};
+ghost use Rattle.std.specs.Prelude.{◌≡◌, ◌-◌, ◌%◌, ◌^◌, ◌<◌};
 ghost use Rattle.isp_base.specs.Values.{width, greatest};
 ghost use Rattle.isp_base.specs.Unary.{unary_bits};
 ghost use Rattle.isp_base.specs.Words.{magnitude};
 
 use crate::operators::UnaryOp;
 use crate::types::Elem;
-use crate::values::{greatest_of, low_bits, low_mask};
+use crate::values::{is_negative, low_bits, low_mask};
 
 /// The result of an operator on one value, on the low bits of `bits`, wrapped to the element type.
 pub fn apply_unary(op: UnaryOp, elem: Elem, bits: u64) -> u64
@@ -19,12 +19,6 @@ pub fn apply_unary(op: UnaryOp, elem: Elem, bits: u64) -> u64
         UnaryOp::Absolute => magnitude(elem, bits),
         UnaryOp::Not => u64::from(bits == 0),
     }
-}
-
-pub(crate) fn is_negative(elem: Elem, x: u64) -> bool
-    ensures { result ≡ nat_lt (greatest elem) x }
-{
-    x > greatest_of(elem)
 }
 
 // The bits of the number with the other sign.
@@ -40,7 +34,7 @@ pub(crate) fn magnitude(elem: Elem, x: u64) -> u64
     requires { x < 2 ^ width elem }
     ensures { result ≡ magnitude (width elem) (greatest elem) x }
 {
-    if x > greatest_of(elem) {
+    if is_negative(elem, x) {
         negate(elem, x)
     } else {
         x

@@ -70,7 +70,7 @@ pub fn number(elem: Elem, bits: u64) -> i128
     ensures { result ≡ number elem bits }
 {
     let low = low_bits(elem, bits);
-    if low > greatest_of(elem) {
+    if is_negative(elem, low) {
         low as i128 - (low_mask(elem) as i128 + 1)
     } else {
         low as i128
@@ -90,12 +90,19 @@ pub fn convert(from: Elem, to: Elem, bits: u64) -> u64
     }
 }
 
+// Bits that fit stand for a negative value where they are above the greatest.
+pub(crate) fn is_negative(elem: Elem, bits: u64) -> bool
+    ensures { result ≡ nat_lt (greatest elem) bits }
+{
+    bits > greatest_of(elem)
+}
+
 // The same number in 64 bits.
 fn extended(elem: Elem, bits: u64) -> u64
     requires { bits < 2 ^ width elem }
     ensures { result ≡ (if nat_lt (greatest elem) bits then bits + (2 ^ 64 - 2 ^ width elem) else bits) }
 {
-    if bits > greatest_of(elem) {
+    if is_negative(elem, bits) {
         bits + !low_mask(elem)
     } else {
         bits

@@ -1,0 +1,5 @@
+//! Worked examples: what the crates give, against answers that were found without them.
+#![tactic(auto)]
+
+#[cfg(test)]
+mod operators;
