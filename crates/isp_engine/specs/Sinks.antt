@@ -1,5 +1,5 @@
 -- What a write to a sink does.
-use Rattle.std.specs.Prelude.{◌≡◌, ◌++◌, ◌&&◌, ◌==◌, ℕ, List, length, take, Bool, true, not, Option, option_map, Result, Ok, Err}
+use Rattle.std.specs.Prelude.{◌≡◌, ◌++◌, ◌&&◌, ◌==◌, ℕ, List, length, take, Bool, true, false, not, Option, option_map, Result, Ok, Err}
 use Rattle.isp_engine.specs.declared.sink.SinkFault.{SinkFault}
 
 -- the write failed, or took no byte of a slice that is not empty
@@ -15,3 +15,11 @@ adds bytes held = option_map (λ h. h ++ bytes) held
 abbrev pub Takes : Option (List ℕ) → Option (List ℕ) → Result ℕ SinkFault → List ℕ → Type 0
 Takes old new (Ok n) bytes = new ≡ adds (take n bytes) old
 Takes old new (Err e) bytes = new ≡ old
+
+-- what a sink held, what it holds, and whether it has failed: it took all of the bytes
+abbrev pub TookAll : List ℕ → Option (List ℕ) → Option (List ℕ) → Bool → Type 0
+TookAll bytes old new failed = (new ≡ adds bytes old) × (failed ≡ false)
+
+-- or it failed, and took the first of them
+abbrev pub TookSome : List ℕ → Option (List ℕ) → Option (List ℕ) → Bool → Type 0
+TookSome bytes old new failed = ((n : ℕ) × (new ≡ adds (take n bytes) old)) × (failed ≡ true)

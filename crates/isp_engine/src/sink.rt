@@ -1,6 +1,6 @@
 //! Where a program's output goes.
-ghost use Rattle.std.specs.Prelude.{◌≡◌, ◌≤◌, ◌||◌, ℕ, List, Bool, Option, None, length, IfOk};
-ghost use Rattle.isp_engine.specs.Sinks.{Takes, refuses};
+ghost use Rattle.std.specs.Prelude.{◌≡◌, ◌≤◌, ◌||◌, ℕ, List, Bool, false, Option, None, length, IfOk, OnOk, OnErr};
+ghost use Rattle.isp_engine.specs.Sinks.{Takes, TookAll, TookSome, refuses};
 
 /// A write failed, and took nothing.
 #[derive(Clone, Copy, Debug, PartialEq, Eq)]
@@ -23,4 +23,23 @@ pub trait Sink {
     /// Whether a write failed, or took no byte of a slice that is not empty.
     fn failed(&self) -> bool
         ensures { result ≡ has_failed self.now };
+}
+
+// Writes all of `bytes`, or as many as the sink takes before it fails.
+pub(crate) fn write_all<W: Sink>(out: &mut W, bytes: &[u8]) -> Result<(), SinkFault>
+    requires { W.has_failed out.old ≡ false }
+    ensures ok { OnOk result (TookAll bytes.now (W.written out.old) (W.written out.new)
+        (W.has_failed out.new)) }
+    ensures err { OnErr result (TookSome bytes.now (W.written out.old) (W.written out.new)
+        (W.has_failed out.new)) }
+{
+    let mut taken = 0;
+    while taken < bytes.len() {
+        let count = out.write(&bytes[taken..])?;
+        if count == 0 {
+            return Err(SinkFault);
+        }
+        taken += count;
+    }
+    Ok(())
 }

@@ -2,4 +2,10 @@
 #![tactic(auto)]
 
 #[cfg(test)]
+mod commands;
+#[cfg(test)]
+mod fakes;
+#[cfg(test)]
 mod operators;
+#[cfg(test)]
+mod runs;

@@ -1,0 +1,36 @@
+//! The program `isp`: what the system gives, handed to the library.
+#![tactic(auto)]
+
+mod host;
+
+use host::{HostFiles, HostOutput};
+use isp_engine::command;
+use std::io::ErrorKind;
+use std::process::ExitCode;
+use std::{env, io};
+
+fn main(rt: HostRuntime) -> ExitCode {
+    let words = match env::args(&rt) {
+        Ok(words) => words,
+        Err(error) => return without_words(&rt, error.kind()),
+    };
+    let Ok(words) = words.collect::<Vec<String>>(rt.alloc()) else {
+        return without_words(&rt, ErrorKind::OutOfMemory);
+    };
+    let files = HostFiles::new(&rt);
+    let mut out = HostOutput::new(&rt);
+    let stderr = rt.stderr();
+    let mut err = io::writer(&stderr);
+    let status = command(rt.alloc(), words.as_slice(), &files, &mut out, &mut err);
+    ExitCode::from(status)
+}
+
+// The command words could not be had: memory was refused, or one of them is no text.
+fn without_words(rt: &impl Eprint, kind: ErrorKind) -> ExitCode {
+    if kind == ErrorKind::OutOfMemory {
+        let _ = rt.eprintln("isp: memory");
+        return ExitCode::from(7);
+    }
+    let _ = rt.eprintln("usage: isp run SOURCE ENTRY ARGUMENTS");
+    ExitCode::from(2)
+}
