@@ -3,6 +3,7 @@ use crate::fakes::{Count, Page, Shelf};
 use isp_engine::command;
 use isp_refuse::Hoard;
 use std::alloc::{AllocError, Global};
+use std::process::Abort;
 use std::test::Fail;
 
 const DOUBLE: &str =
@@ -10,7 +11,10 @@ const DOUBLE: &str =
 
 const FILES: [(&str, &str); 14] = [
     ("double.ispc", DOUBLE),
-    ("varying.ispc", "export void f(uniform int a[]) { a[0] = programIndex; }"),
+    (
+        "varying.ispc",
+        "export void f(uniform int a[]) { a[0] = programIndex; }",
+    ),
     ("value.ispc", "export void f(uniform int x) { }"),
     ("float.ispc", "export void f(uniform float a[]) { }"),
     ("four.json", "{\"a\":[5,6,7,8]}"),
@@ -68,20 +72,75 @@ fn status_output_and_line(rt: HostRuntime) -> Result<(), Fail> {
     let alloc = rt.alloc();
     for (words, status, out, err) in [
         ("isp run double.ispc f four.json", 0, ANSWER, ""),
-        ("isp run value.ispc f least.json", 0, "{\"arrays\":{},\"result\":null}\n", ""),
-        ("isp run varying.ispc f four.json", 1, "", "isp: 30 VaryingToUniform at 40..52\n"),
-        ("isp run float.ispc f four.json", 1, "", "isp: 12 LeftOut at 22..27\n"),
-        ("isp run double.ispc f three.json", 3, "", "isp: trap index at 51..66, instance 3\n"),
-        ("isp run double.ispc g four.json", 5, "", "isp: 50 NoEntry\n"),
+        (
+            "isp run value.ispc f least.json",
+            0,
+            "{\"arrays\":{},\"result\":null}\n",
+            "",
+        ),
+        (
+            "isp run varying.ispc f four.json",
+            1,
+            "",
+            "isp: 30 VaryingToUniform at 40..52\n",
+        ),
+        (
+            "isp run float.ispc f four.json",
+            1,
+            "",
+            "isp: 12 LeftOut at 22..27\n",
+        ),
+        (
+            "isp run double.ispc f three.json",
+            3,
+            "",
+            "isp: trap index at 51..66, instance 3\n",
+        ),
+        (
+            "isp run double.ispc g four.json",
+            5,
+            "",
+            "isp: 50 NoEntry\n",
+        ),
         ("isp run value.ispc f cut.json", 5, "", "isp: 70 NotJson\n"),
-        ("isp run value.ispc f list.json", 5, "", "isp: 71 NotObject\n"),
+        (
+            "isp run value.ispc f list.json",
+            5,
+            "",
+            "isp: 71 NotObject\n",
+        ),
         ("isp run value.ispc f none.json", 5, "", "isp: 72 Missing\n"),
         ("isp run value.ispc f more.json", 5, "", "isp: 73 Extra\n"),
-        ("isp run value.ispc f half.json", 5, "", "isp: 74 WrongKind\n"),
-        ("isp run value.ispc f text.json", 5, "", "isp: 74 WrongKind\n"),
-        ("isp run value.ispc f far.json", 5, "", "isp: 75 OutOfRange\n"),
-        ("isp run gone.ispc f four.json", 6, "", "isp: cannot read gone.ispc\n"),
-        ("isp run float.ispc f gone.json", 6, "", "isp: cannot read gone.json\n"),
+        (
+            "isp run value.ispc f half.json",
+            5,
+            "",
+            "isp: 74 WrongKind\n",
+        ),
+        (
+            "isp run value.ispc f text.json",
+            5,
+            "",
+            "isp: 74 WrongKind\n",
+        ),
+        (
+            "isp run value.ispc f far.json",
+            5,
+            "",
+            "isp: 75 OutOfRange\n",
+        ),
+        (
+            "isp run gone.ispc f four.json",
+            6,
+            "",
+            "isp: cannot read gone.ispc\n",
+        ),
+        (
+            "isp run float.ispc f gone.json",
+            6,
+            "",
+            "isp: cannot read gone.json\n",
+        ),
         ("isp", 2, "", USAGE),
         ("isp run double.ispc f", 2, "", USAGE),
         ("isp run double.ispc f four.json more", 2, "", USAGE),
