@@ -2,4 +2,6 @@
 #![tactic(auto)]
 
 #[cfg(test)]
+mod lanes;
+#[cfg(test)]
 mod operators;
