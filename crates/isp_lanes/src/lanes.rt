@@ -1,5 +1,5 @@
 //! Vectors of N values of one element type.
-ghost use Rattle.std.specs.Prelude.{◌≡◌, ℕ, ◌^◌, ◌<◌, ◌≤◌, List, Bool, length, map, replicate, slice_index, slice_get, slice_set, Some, None, IfOk, IfErr, cond};
+ghost use Rattle.std.specs.Prelude.{◌≡◌, ◌^◌, ◌<◌, length, map, replicate, slice_get, slice_set, Some, None, IfOk, IfErr, cond};
 ghost use Rattle.std.specs.List.{range_with_len};
 ghost use Rattle.std.specs.Simd.Lanes.{zip2, sel_l};
 ghost use Rattle.isp_base.specs.declared.types.Elem.TheVariants.{Bool as Truth, I32};

@@ -3,8 +3,7 @@ ghost use Rattle.std.proofs.Common.{ap};
 ghost use Rattle.std.specs.Prelude.{◌≡◌, ℕ, ◌<◌, ◌≤◌, List, Bool, true, false, length, map, replicate, slice_index, slice_get, Some, IfSome, ◌&&◌, ◌||◌, not, slice_set, position, ◌^◌, ◌==◌};
 ghost use Rattle.std.specs.List.{list_any};
 ghost use Rattle.std.specs.Simd.Lanes.{zip2, sel_l, mask_l};
-ghost use Rattle.isp_base.specs.declared.types.Elem.TheVariants.{Bool as Truth, I64};
-ghost use Rattle.isp_base.specs.Values.{width};
+ghost use Rattle.isp_base.specs.declared.types.Elem.TheVariants.{Bool as Truth};
 ghost use Rattle.isp_lanes.specs.Lanes.{is_on, lowest, range};
 ghost use Rattle.isp_lanes.specs.Bytes.{byte_of, bytes_back};
 

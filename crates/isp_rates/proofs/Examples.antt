@@ -1,6 +1,6 @@
 -- Small programs: what the judge says of them.
-use Rattle.std.proofs.Common.{◌≡◌, ℕ, Bool, true, false, refl}
-use Rattle.std.specs.Prelude.{Result, Ok, Err, Some, None, List, [], ◌∷◌, codes}
+use Rattle.std.proofs.Common.{◌≡◌, ℕ, true, false, refl}
+use Rattle.std.specs.Prelude.{Ok, Err, Some, None, List, [], ◌∷◌, codes}
 use Rattle.isp_base.specs.declared.types.Span.{Span}
 use Rattle.isp_base.specs.declared.types.Value.{Value}
 use Rattle.isp_base.specs.declared.types.Rate.TheVariants.{Uniform, Varying}
@@ -13,7 +13,7 @@ use Rattle.isp_syntax.specs.declared.tree.Param.{Param}
 use Rattle.isp_syntax.specs.declared.tree.Operator.TheVariants.{Add}
 use Rattle.isp_syntax.specs.Tree.{number, name, program_index, item, binary, brackets, Stmt, declare, assign, Function}
 use Rattle.isp_rates.specs.declared.typed.Holds.TheVariants.{One, Many}
-use Rattle.isp_rates.specs.Typed.{t_number, t_program_index, t_variable, t_item, t_binary, t_declare, t_assign, t_assign_item}
+use Rattle.isp_rates.specs.Typed.{t_number, t_program_index, t_variable, t_item, t_binary, t_declare, t_assign_item}
 use Rattle.isp_rates.specs.Scopes.{int}
 use Rattle.isp_rates.specs.Program.{Plain}
 use Rattle.isp_rates.specs.Judge.{judge_functions, program_demands}

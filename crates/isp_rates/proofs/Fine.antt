@@ -1,32 +1,28 @@
 -- What the rules find is fine.
-use Rattle.std.proofs.Common.{◌≡◌, ℕ, zero, suc, ◌+◌, ◌<◌, ◌≤◌, ◌^◌, ◌%◌, ◌++◌, ◌⊎◌, inl, inr, ◌≢◌, Bool, true, false, refl, sym, ap, subst, ◌∙◌, arith, take, append_assoc, append-nil, length-append}
+use Rattle.std.proofs.Common.{◌≡◌, ℕ, zero, suc, ◌≤◌, ◌^◌, ◌++◌, inl, inr, Bool, true, false, refl, sym, ap, subst, ◌∙◌, arith, take, append_assoc, append-nil, length-append}
 use Rattle.std.specs.Prelude.{Option, Some, None, List, [], ◌∷◌, length, map, slice_get, bytes_eq, IfSome, not, ◌||◌, find, reverse, option_map, cond}
 use Rattle.std.specs.List.{list_any}
 use Rattle.std.proofs.lemmas.Nat.{mod_below}
-use Rattle.std.proofs.lemmas.List.{take-append-le, map-append, reverse-append}
+use Rattle.std.proofs.lemmas.List.{take-append-le, reverse-append}
 use Rattle.std.proofs.lemmas.List.Folds.{list_any-append}
 use Rattle.std.proofs.lemmas.Slice.Eq.{bytes_eq-Decides}
 use Rattle.isp_base.specs.declared.types.Elem.{Elem}
 use Rattle.isp_base.specs.declared.types.Elem.TheVariants.{I32}
-use Rattle.isp_base.specs.declared.types.Ty.{Ty}
 use Rattle.isp_base.specs.declared.types.Rate.{Rate}
 use Rattle.isp_base.specs.declared.types.Span.{Span}
 use Rattle.isp_base.specs.declared.signature.Parameter.{Parameter}
 use Rattle.isp_lex.specs.declared.fault.Fault.{Fault}
-use Rattle.isp_lex.specs.declared.fault.Rule.TheVariants.{VaryingToUniform}
-use Rattle.isp_lex.specs.Faults.{fault}
-use Rattle.isp_syntax.specs.declared.tree.Word.{Word}
 use Rattle.isp_syntax.specs.declared.tree.Param.{Param}
-use Rattle.isp_syntax.specs.Tree.{Expr, number, name, program_index, item, brackets, binary, span_of, Stmt, declare, assign, Function as Read}
+use Rattle.isp_syntax.specs.Tree.{Expr, number, name, program_index, item, brackets, binary, Stmt, declare, assign, Function as Read}
 use Rattle.isp_rates.specs.declared.typed.Holds.{Holds}
 use Rattle.isp_rates.specs.declared.typed.Holds.TheVariants.{One, Many}
 use Rattle.isp_rates.specs.declared.typed.TypedFunction as rust
 use Rattle.isp_rates.specs.declared.scope.Variable.{Variable}
 use Rattle.isp_rates.specs.declared.scope.Binding.{Binding}
-use Rattle.isp_rates.specs.Typed.{Typed, t_number, t_program_index, t_variable, t_item, t_brackets, t_binary, type_of, TStmt, t_declare, t_assign, t_assign_item, Function, functions_of}
-use Rattle.isp_rates.specs.Fine.{goes_to, FitsType, holds_of, IsFine, IsFineStmt, AreFine, IsNoneOf, AreDistinct, IsFineFunction, AreFineFunctions}
-use Rattle.isp_rates.specs.Scopes.{visible, is_new, with_name, int, names_after, variables_after, variables_after_all}
-use Rattle.isp_rates.specs.Rules.{literal, value_of, element_of, store_to, IsNamed, IsExpr, IsStmt, AreStmts}
+use Rattle.isp_rates.specs.Typed.{Typed, t_number, t_program_index, t_variable, t_item, t_brackets, t_binary, type_of, TStmt, t_declare, Function, functions_of}
+use Rattle.isp_rates.specs.Fine.{goes_to, holds_of, IsFine, IsFineStmt, AreFine, IsNoneOf, AreDistinct, IsFineFunction, AreFineFunctions}
+use Rattle.isp_rates.specs.Scopes.{visible, with_name, int, names_after, variables_after, variables_after_all}
+use Rattle.isp_rates.specs.Rules.{value_of, element_of, store_to, IsExpr, IsStmt, AreStmts}
 use Rattle.isp_rates.specs.Rates.{value_stored, type_stored, RateBreach, RateBreaches}
 use Rattle.isp_rates.specs.Program.{Plain, plain, parameter_of, variables_of, IsBody, IsFunction, AreFunctions, ProgramRates, IsProgram, function_named}
 use Rattle.isp_rates.specs.Views.{holds_read, plain_function, plain_functions}

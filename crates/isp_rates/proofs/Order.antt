@@ -3,7 +3,6 @@ use Rattle.std.proofs.Common.{◌≡◌, ℕ, ◌<◌, ◌≤◌, ◌⊎◌, inl
 use Rattle.std.specs.Prelude.{Option, Some, None, ◌==◌, nat_lt, ◌||◌, ◌&&◌}
 use Rattle.std.proofs.lemmas.Bool.Decides.{nat_tests}
 use Rattle.isp_lex.specs.declared.fault.Fault.{Fault}
-use Rattle.isp_lex.specs.Faults.{number_of}
 use Rattle.isp_rates.specs.Order.{NoLater}
 use Rattle.isp_rates.specs.Judge.{is_earlier, earlier, first_of}
 

@@ -1,6 +1,6 @@
 -- The first fault of the pairs of two lists: what a loop over both has seen.
 use Rattle.std.proofs.Common.{◌≡◌, ℕ, ◌+◌, ◌<◌, ◌≤◌, ◌⊎◌, inl, inr, refl, sym, ap, subst, ◌∙◌, arith, drop, get_or, map}
-use Rattle.std.specs.Prelude.{Option, Some, None, List, [], ◌∷◌, length, min}
+use Rattle.std.specs.Prelude.{Option, None, List, [], ◌∷◌, length, min}
 use Rattle.std.proofs.lemmas.Bool.{cases_lt}
 use Rattle.std.proofs.lemmas.List.{drop_all}
 use Rattle.isp_lex.specs.declared.fault.Fault.{Fault}

@@ -1,5 +1,5 @@
 -- Steps of loops: what is found so far, joined with what the rest gives.
-use Rattle.std.proofs.Common.{◌≡◌, ℕ, ◌+◌, ◌<◌, ◌≤◌, refl, sym, ap, subst, ◌∙◌, arith, drop, drop-cons, add-one, get_or, ◌++◌, append_assoc, length-append, map, take}
+use Rattle.std.proofs.Common.{◌≡◌, ℕ, ◌+◌, ◌<◌, refl, sym, ap, subst, ◌∙◌, drop, drop-cons, add-one, get_or, ◌++◌, append_assoc, map, take}
 use Rattle.std.specs.Prelude.{Result, Ok, Err, Option, Some, None, List, [], ◌∷◌, length, Bool, true, false, cond, bytes_eq, ◌||◌}
 use Rattle.std.specs.List.{list_any}
 use Rattle.std.proofs.lemmas.List.Folds.{list_any-append}
@@ -12,7 +12,7 @@ use Rattle.isp_lex.specs.declared.fault.Rule.TheVariants.{NameTwice}
 use Rattle.isp_lex.specs.Faults.{fault}
 use Rattle.isp_syntax.specs.declared.tree.Param.{Param}
 use Rattle.isp_syntax.specs.declared.tree.Function as read
-use Rattle.isp_syntax.specs.Tree.{Stmt, stmt_of, stmts_of, declare, assign, Function as Read, function_of, functions_of}
+use Rattle.isp_syntax.specs.Tree.{Stmt, stmt_of, stmts_of, Function as Read, function_of, functions_of}
 use Rattle.isp_rates.specs.Fine.{holds_of}
 use Rattle.isp_rates.specs.Program.{Plain, parameter_of, variables_of, is_free}
 use Rattle.isp_rates.specs.Views.{name_of}
@@ -20,7 +20,7 @@ use Rattle.isp_rates.specs.declared.typed.Holds.{Holds}
 use Rattle.isp_rates.specs.declared.scope.Binding.{Binding}
 use Rattle.isp_rates.specs.Typed.{TStmt}
 use Rattle.isp_rates.specs.Scopes.{is_new, with_name, names_after, variables_after, variables_after_all}
-use Rattle.isp_rates.specs.Judge.{earlier, both, found, beside, fault_unless, first_of, judge_stmt, judge_stmts, judge_body, judge_function, judge_functions}
+use Rattle.isp_rates.specs.Judge.{both, found, beside, fault_unless, first_of, judge_stmt, judge_stmts, judge_body, judge_function, judge_functions}
 use Rattle.isp_rates.proofs.Order.{earlier_assoc}
 
 abbrev pub joined : {E : Type 0} → Result (List E) Fault → Result (List E) Fault → Result (List E) Fault

@@ -1,5 +1,5 @@
 -- What the code computes: the typed tree, or the breach that is answered. No part of the promise.
-use Rattle.std.specs.Prelude.{ℕ, ◌≤◌, List, [], ◌∷◌, ◌++◌, length, Bool, true, false, cond, ◌&&◌, ◌||◌, ◌==◌, nat_lt, Option, Some, None, Result, Ok, Err}
+use Rattle.std.specs.Prelude.{ℕ, List, [], ◌∷◌, ◌++◌, length, Bool, true, false, cond, ◌&&◌, ◌||◌, ◌==◌, nat_lt, Option, Some, None, Result, Ok, Err}
 use Rattle.isp_lex.specs.declared.fault.Fault.{Fault}
 use Rattle.isp_lex.specs.declared.fault.Rule.TheVariants.{UnknownName, NameTwice, Mismatch, VaryingToUniform}
 use Rattle.isp_lex.specs.Faults.{number_of, fault}

@@ -6,6 +6,8 @@ mod commands;
 #[cfg(test)]
 mod fakes;
 #[cfg(test)]
+mod lanes;
+#[cfg(test)]
 mod operators;
 #[cfg(test)]
 mod runs;

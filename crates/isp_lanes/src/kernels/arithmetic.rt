@@ -1,5 +1,5 @@
 //! Sums, differences and products, cut to the width.
-ghost use Rattle.std.specs.Prelude.{◌≡◌, ℕ, ◌^◌, ◌<◌};
+ghost use Rattle.std.specs.Prelude.{◌≡◌};
 ghost use Rattle.std.specs.Simd.Lanes.{zip2};
 ghost use Rattle.isp_base.specs.Values.{op_bits};
 ghost use Rattle.isp_base.specs.Rows.{Fit};

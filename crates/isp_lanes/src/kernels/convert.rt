@@ -1,6 +1,6 @@
 //! Conversion between element types.
-ghost use Rattle.std.specs.Prelude.{◌≡◌, ℕ, ◌^◌, ◌<◌, map};
-ghost use Rattle.isp_base.specs.Values.{width, convert_bits, wrap, number};
+ghost use Rattle.std.specs.Prelude.{◌≡◌, map};
+ghost use Rattle.isp_base.specs.Values.{convert_bits, wrap, number};
 ghost use Rattle.isp_base.specs.Rows.{Fit};
 
 use super::flags;

@@ -1,5 +1,5 @@
 //! The order of the numbers, by words that have it.
-ghost use Rattle.std.specs.Prelude.{◌≡◌, ℕ, ◌^◌, ◌<◌, map};
+ghost use Rattle.std.specs.Prelude.{◌≡◌, map};
 ghost use Rattle.std.specs.Simd.Lanes.{zip2};
 ghost use Rattle.isp_base.specs.Values.{width, greatest, op_bits, compare_bits};
 ghost use Rattle.isp_base.specs.Words.{turned};

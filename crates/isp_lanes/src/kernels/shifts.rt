@@ -1,5 +1,5 @@
 //! Shifts, whose amount is taken modulo the width.
-ghost use Rattle.std.specs.Prelude.{◌≡◌, ℕ, ◌^◌, ◌<◌};
+ghost use Rattle.std.specs.Prelude.{◌≡◌};
 ghost use Rattle.std.specs.Simd.Lanes.{zip2};
 ghost use Rattle.isp_base.specs.Values.{op_bits};
 ghost use Rattle.isp_base.specs.Rows.{Fit};

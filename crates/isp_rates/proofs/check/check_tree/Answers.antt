@@ -1,11 +1,8 @@
-use Rattle.std.proofs.Common.{◌≡◌, subst, sym, ◌∙◌}
-use Rattle.std.specs.Prelude.{List, Ok, Err, None, Some, []}
-use Rattle.isp_lex.specs.declared.fault.Fault.{Fault}
+use Rattle.std.proofs.Common.{subst, sym, ◌∙◌}
 use Rattle.isp_syntax.specs.Tree.{functions_of}
-use Rattle.isp_rates.specs.Program.{Plain, IsProgram, Breach}
+use Rattle.isp_rates.specs.Program.{IsProgram, Breach}
 use Rattle.isp_rates.specs.Promise.{Accepts, Refuses}
 use Rattle.isp_rates.specs.Views.{plain_functions}
-use Rattle.isp_rates.specs.Judge.{judge_functions, program_demands}
 use Rattle.isp_rates.proofs.Fine.{program_fine, plain_map}
 use Rattle.isp_rates.proofs.Programs.{accepted, refused_late, refused, ok_is, err_is, refused_is}
 use Rattle.isp_rates.proofs.check.check_tree.Goals as goal

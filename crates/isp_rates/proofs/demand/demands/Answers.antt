@@ -1,4 +1,4 @@
-use Rattle.std.proofs.Common.{length-append, arith}
+use Rattle.std.proofs.Common.{length-append}
 use Rattle.std.proofs.lemmas.Slice.Zip.{zip_turn, zip_end}
 use Rattle.isp_syntax.specs.Tree.{stmt_of}
 use Rattle.isp_rates.specs.Typed.{tstmt_of}

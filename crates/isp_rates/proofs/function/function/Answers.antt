@@ -1,4 +1,4 @@
-use Rattle.std.proofs.Common.{ap, ◌∙◌, refl}
+use Rattle.std.proofs.Common.{ap, ◌∙◌}
 use Rattle.isp_syntax.specs.Tree.{function_of, stmts_of}
 use Rattle.isp_rates.specs.Judge.{beside}
 use Rattle.isp_rates.proofs.Steps.{function_is}

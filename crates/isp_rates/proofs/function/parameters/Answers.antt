@@ -1,4 +1,4 @@
-use Rattle.std.proofs.Common.{◌+◌, ◌++◌, ◌∷◌, [], drop, ap, ◌∙◌, sym}
+use Rattle.std.proofs.Common.{◌+◌, drop, sym}
 use Rattle.isp_rates.specs.Program.{parameter_of}
 use Rattle.isp_rates.specs.Views.{holds_read}
 use Rattle.isp_rates.proofs.Steps.{split_at, params_step, map_step, map_behind}

@@ -1,5 +1,4 @@
 use Rattle.std.proofs.Common.{◌+◌, drop}
-use Rattle.isp_syntax.specs.Tree.{stmt_of}
 use Rattle.isp_rates.proofs.Steps.{split_at, stmts_step, variables_step}
 use Rattle.isp_rates.proofs.stmt.stmts.Goals as goal
 

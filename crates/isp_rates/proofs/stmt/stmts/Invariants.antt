@@ -1,4 +1,4 @@
-use Rattle.std.proofs.Common.{◌≡◌, ◌≤◌, drop, length, ◌++◌}
+use Rattle.std.proofs.Common.{◌≡◌, drop, ◌++◌}
 use Rattle.isp_syntax.specs.Tree.{stmts_of}
 use Rattle.isp_rates.specs.Typed.{tstmts_of}
 use Rattle.isp_rates.specs.Scopes.{variables_after_all}
