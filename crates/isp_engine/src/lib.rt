@@ -2,15 +2,23 @@
 #![tactic(auto)]
 
 mod answers;
+mod arguments;
 mod bind;
+mod code;
 mod commands;
+mod emitter;
 mod failure;
 mod fault;
 mod files;
 mod image;
+mod lane;
+mod lower;
+mod machine;
 mod report;
-mod runs;
+mod run;
 mod sink;
+mod source;
+mod straight;
 
 pub use answers::answer;
 pub use commands::command;
@@ -19,5 +27,6 @@ pub use fault::{BindFault, RunFault};
 pub use files::{FileFault, SourceFiles, read_source};
 pub use image::{Image, compile};
 pub use report::{Ending, Report};
-pub use runs::execute;
+pub use run::execute;
 pub use sink::{Sink, SinkFault};
+pub use source::front;
