@@ -39,7 +39,12 @@ fn evaluator(rt: HostRuntime) -> Result<(), Fail> {
         arguments: vec![in alloc; Argument::Array(a)]?,
     };
     let outcome = evaluate(alloc, &checked, "f", &bound, 1)?;
-    let Outcome::Ends { arrays, answer, output } = &outcome else {
+    let Outcome::Ends {
+        arrays,
+        answer,
+        output,
+    } = &outcome
+    else {
         return Err(Fail::from("the run did not end"));
     };
     assert!(rt; answer.is_none());
