@@ -3,3 +3,12 @@ pub mod Binding
 pub mod Answering
 pub mod Sinks
 pub mod Files
+pub mod Machine
+pub mod Agreement
+pub mod Held
+pub mod Straight
+pub mod Lowering
+pub mod Front
+pub mod Images
+pub mod Entries
+pub mod Reports

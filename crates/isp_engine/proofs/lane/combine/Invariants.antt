@@ -1,0 +1,11 @@
+use Rattle.std.proofs.Common.{◌≡◌, ℕ, ◌<◌, length}
+use Rattle.isp_base.specs.Values.{op_bits}
+use Rattle.isp_engine.specs.Held.{lane_of}
+use Rattle.isp_engine.proofs.lane.combine.Given as goal
+
+abbrev pub invariant-loop-lane : goal.invariant-loop-lane
+invariant-loop-lane g l =
+    record {
+      long : length l.lanes ≡ g.row.N;
+      done : (p : ℕ) → p < l.lane → lane_of l.lanes p ≡ op_bits l.op l.elem (lane_of l.left p) (lane_of l.right p);
+    }

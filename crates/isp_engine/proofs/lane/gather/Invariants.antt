@@ -1,0 +1,11 @@
+use Rattle.std.proofs.Common.{◌≡◌, ℕ, ◌<◌, length}
+use Rattle.std.specs.Prelude.{slice_index}
+use Rattle.isp_engine.specs.Held.{lane_of}
+use Rattle.isp_engine.proofs.lane.gather.Given as goal
+
+abbrev pub invariant-loop-lane : goal.invariant-loop-lane
+invariant-loop-lane g l =
+    record {
+      long : length l.lanes ≡ g.row.N;
+      done : (p : ℕ) → p < l.lane → lane_of l.lanes p ≡ slice_index l.array.bits (lane_of l.places p);
+    }
