@@ -1,6 +1,6 @@
 -- Lists of arrays under the words of the machine's definition.
-use Rattle.std.proofs.Common.{◌≡◌, ◌≢◌, ℕ, zero, suc, ◌+◌, ◌<◌, ◌≤◌, List, [], ◌∷◌, length, get_or, Option, Some, None, refl, sym, ap, ap₂, ◌∙◌, subst, ⊎_elim, arith}
-use Rattle.std.specs.Prelude.{slice_index, slice_set, slice_get}
+use Rattle.std.proofs.Common.{◌≡◌, ◌≢◌, ℕ, zero, suc, ◌<◌, ◌≤◌, List, [], ◌∷◌, length, get_or, Option, Some, None, refl, sym, ap, ap₂, ◌∙◌, subst, ⊎_elim, arith}
+use Rattle.std.specs.Prelude.{slice_index, slice_set}
 use Rattle.std.proofs.Math.Path.{fun_ext}
 use Rattle.std.proofs.lemmas.Bool.{cases_eq}
 use Rattle.isp_base.specs.Rows.{Row}
@@ -9,12 +9,11 @@ use Rattle.isp_model.specs.Gang.{Lanes, everyone, lowest, on, map1, where_true, 
 use Rattle.isp_model.specs.Runs.{row_bits, tabulate, rows_now}
 use Rattle.isp_model.specs.Expressions.{is_outside, element}
 use Rattle.isp_base.specs.declared.trap.TrapKind.TheVariants.{Index}
-use Rattle.isp_engine.specs.declared.code.Access.{Access}
 use Rattle.isp_engine.specs.declared.code.ScalarInstr.TheVariants.{Constant, Copy, Binary, Load}
 use Rattle.isp_engine.specs.declared.code.VectorInstr.TheVariants.{Copy as CopyLanes, Splat, LaneIndex, Binary as BinaryLanes, Gather}
 use Rattle.isp_engine.specs.declared.code.Instr.{Instr}
 use Rattle.isp_engine.specs.declared.code.Instr.TheVariants.{Scalar, Vector, Store, Scatter, Return}
-use Rattle.isp_engine.specs.Machine.{Conf, Move, unless, first_if, moved, elem_at, low, size, set_scalar, set_vector, set_array, act, act_at}
+use Rattle.isp_engine.specs.Machine.{Conf, unless, first_if, moved, elem_at, low, size, set_scalar, set_vector, set_array, act, act_at}
 use Rattle.isp_engine.specs.Held.{SameShape}
 use Rattle.isp_engine.proofs.Steps.{put_same, put_other}
 

@@ -1,10 +1,9 @@
 -- A loop over steps is the definition's run.
-use Rattle.std.proofs.Common.{◌≡◌, ℕ, zero, suc, ◌+◌, ◌-◌, ◌<◌, ◌≤◌, List, [], ◌∷◌, ◌++◌, length, get_or, Some, None, refl, sym, ap, ap₂, ◌∙◌, subst, arith}
+use Rattle.std.proofs.Common.{◌≡◌, ℕ, zero, suc, ◌+◌, ◌-◌, ◌<◌, ◌≤◌, List, [], ◌∷◌, ◌++◌, length, get_or, None, refl, sym, ap, ◌∙◌, arith}
 use Rattle.std.specs.Prelude.{slice_get}
 use Rattle.isp_base.specs.Rows.{Row}
-use Rattle.isp_base.specs.Outcomes.{Outcome, Ends, Traps}
+use Rattle.isp_base.specs.Outcomes.{Ends, Traps}
 use Rattle.isp_base.specs.declared.trap.Trap.{Trap}
-use Rattle.isp_model.specs.Runs.{rows_now}
 use Rattle.isp_engine.specs.declared.code.ScalarInstr.{ScalarInstr}
 use Rattle.isp_engine.specs.declared.code.ScalarInstr.TheVariants.{Constant, Copy, Binary, Load}
 use Rattle.isp_engine.specs.declared.code.VectorInstr.{VectorInstr}
@@ -12,7 +11,7 @@ use Rattle.isp_engine.specs.declared.code.VectorInstr.TheVariants.{Copy as CopyL
 use Rattle.isp_engine.specs.declared.code.Instr.{Instr}
 use Rattle.isp_engine.specs.declared.code.Instr.TheVariants.{Scalar, Vector, Store, Scatter, Return}
 use Rattle.isp_engine.specs.Straight.{ScalarBelow, VectorBelow, IsBelow, AllBelow}
-use Rattle.isp_engine.specs.Machine.{Conf, Move, Go, Fail, Over, act_at, follow, exec}
+use Rattle.isp_engine.specs.Machine.{Move, Go, Fail, Over, act_at, follow, exec}
 use Rattle.isp_engine.specs.Held.{Held, conf_of, SameShape, Alike}
 use Rattle.isp_engine.proofs.Arrays.{act_at_same, rows_are, shape_self, shape_on}
 

@@ -1,5 +1,5 @@
 -- A source text is the source of one program.
-use Rattle.std.proofs.Common.{◌≡◌, ℕ, ◌≤◌, List, [], length, map, Ok, Err, refl, sym, ◌∙◌, subst, inr, Result}
+use Rattle.std.proofs.Common.{◌≡◌, ℕ, ◌≤◌, List, [], length, map, Ok, Err, refl, sym, subst, inr, Result}
 use Rattle.std.specs.Prelude.{IfOk, IfErr, MatchResult}
 use Rattle.isp_lex.specs.Lexing.{Lexes, limit as longest_text}
 use Rattle.isp_lex.specs.Tokens.{TokenList}

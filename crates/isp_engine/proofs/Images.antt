@@ -1,5 +1,5 @@
 -- Lists of functions with their code.
-use Rattle.std.proofs.Common.{◌≡◌, ℕ, zero, suc, ◌+◌, ◌<◌, ◌≤◌, ◌^◌, List, [], ◌∷◌, ◌++◌, length, map, take, get_or, Some, None, Option, refl, sym, ap, ◌∙◌, subst, arith}
+use Rattle.std.proofs.Common.{◌≡◌, ℕ, zero, suc, ◌+◌, ◌<◌, ◌≤◌, ◌^◌, List, [], ◌∷◌, ◌++◌, length, map, take, get_or, refl, sym, ap, ◌∙◌, subst, arith}
 use Rattle.std.proofs.Math.Seq.{take-suc}
 use Rattle.isp_base.specs.Types.{gang_width}
 use Rattle.isp_base.specs.declared.types.Gang.{Gang}
@@ -9,7 +9,7 @@ use Rattle.isp_rates.specs.Fine.{IsFineFunction, AreFineFunctions}
 use Rattle.isp_rates.specs.Typed.{Function, function_of, functions_of}
 use Rattle.isp_engine.specs.declared.image.Exported.{Exported}
 use Rattle.isp_engine.specs.Agreement.{Agrees}
-use Rattle.isp_engine.specs.Images.{Entry, IsCompiled, AreCompiled}
+use Rattle.isp_engine.specs.Images.{Entry, AreCompiled}
 use Rattle.isp_engine.specs.Entries.{entry_of, IsLowered, AreLowered}
 use Rattle.isp_engine.proofs.Agree.{agrees}
 

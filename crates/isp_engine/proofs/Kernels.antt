@@ -1,10 +1,10 @@
 -- Lists of lanes under the words of the machine's definition.
-use Rattle.std.proofs.Common.{◌≡◌, ◌≢◌, ℕ, zero, suc, ◌+◌, ◌<◌, ◌≤◌, List, length, get_or, Option, Some, None, Bool, true, false, refl, sym, ap, ◌∙◌, subst, ⊎_elim, arith, lt-ltb, ltb-true, Ok}
-use Rattle.std.specs.Prelude.{slice_index, slice_set, nat_lt, if◌then◌else◌}
+use Rattle.std.proofs.Common.{◌≡◌, ◌≢◌, ℕ, zero, suc, ◌<◌, List, length, get_or, Option, Some, None, Bool, true, false, refl, sym, ap, ◌∙◌, subst, ⊎_elim, arith, lt-ltb, ltb-true, Ok}
+use Rattle.std.specs.Prelude.{slice_set, nat_lt, if◌then◌else◌}
 use Rattle.std.proofs.Math.Path.{fun_ext}
 use Rattle.std.proofs.lemmas.Bool.{cases_eq}
 use Rattle.std.proofs.lemmas.List.{get_or-set_other, get_or-set_same}
-use Rattle.isp_model.specs.Gang.{Mask, Lanes, Map, everyone, or_this, lowest, on, each1, map1, map2, holds, where_true, put, put_at, scatter}
+use Rattle.isp_model.specs.Gang.{Mask, Lanes, everyone, or_this, lowest, on, each1, map1, map2, holds, where_true, put, put_at, scatter}
 use Rattle.isp_base.specs.declared.types.Span.{Span}
 use Rattle.isp_base.specs.declared.trap.TrapKind.{TrapKind}
 use Rattle.isp_engine.specs.Machine.{unless}

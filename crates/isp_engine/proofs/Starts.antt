@@ -1,5 +1,5 @@
 -- The machine before a run.
-use Rattle.std.proofs.Common.{◌≡◌, ℕ, zero, suc, ◌+◌, ◌<◌, ◌≤◌, List, [], ◌∷◌, length, get_or, map, replicate, refl, sym, ap, ap₂, ◌∙◌, subst, ⊎_elim, arith}
+use Rattle.std.proofs.Common.{◌≡◌, ℕ, zero, suc, ◌<◌, ◌≤◌, List, [], ◌∷◌, length, get_or, map, replicate, refl, ap, ◌∙◌, ⊎_elim, arith}
 use Rattle.std.specs.Prelude.{slice_index}
 use Rattle.std.proofs.Math.Path.{fun_ext}
 use Rattle.std.proofs.lemmas.Bool.{cases_lt}
@@ -8,7 +8,7 @@ use Rattle.isp_base.specs.declared.signature.Argument.{Argument}
 use Rattle.isp_model.specs.Gang.{Lanes}
 use Rattle.isp_model.specs.Runs.{rows, argument_bits, row_bits}
 use Rattle.isp_engine.specs.Machine.{Conf, first_conf}
-use Rattle.isp_engine.specs.Held.{Held, lane_of, conf_of, value_bits}
+use Rattle.isp_engine.specs.Held.{lane_of, conf_of, value_bits}
 use Rattle.isp_engine.proofs.Bounds.{bits_are}
 
 same_zero : (n p : ℕ) → lane_of (replicate n 0) p ≡ 0

@@ -1,12 +1,11 @@
 -- Stores of a machine's lists are those of its definition.
-use Rattle.std.proofs.Common.{◌≡◌, ℕ, ◌+◌, ◌<◌, ◌≤◌, ◌%◌, ◌^◌, List, [], length, get_or, Some, None, false, refl, sym, ap, ap₂, ◌∙◌, subst, arith, Ok, length-set}
-use Rattle.std.specs.Prelude.{slice_index, slice_set, Result}
+use Rattle.std.proofs.Common.{◌≡◌, ℕ, ◌+◌, ◌<◌, ◌≤◌, ◌%◌, ◌^◌, List, [], length, get_or, Some, false, sym, ap, ap₂, ◌∙◌, subst, arith, Ok, length-set}
+use Rattle.std.specs.Prelude.{slice_index, slice_set}
 use Rattle.isp_base.specs.Rows.{Row}
 use Rattle.isp_base.specs.Values.{width}
 use Rattle.isp_base.specs.declared.types.Elem.{Elem}
-use Rattle.isp_base.specs.declared.trap.Trap.{Trap}
 use Rattle.isp_base.specs.declared.trap.TrapKind.TheVariants.{Index}
-use Rattle.isp_model.specs.Gang.{Lanes, Map, everyone, lowest, on, map1, where_true, put, scatter}
+use Rattle.isp_model.specs.Gang.{Map, everyone, lowest, on, map1, where_true, put, scatter}
 use Rattle.isp_model.specs.Expressions.{is_outside, element}
 use Rattle.isp_model.specs.Runs.{row_bits}
 use Rattle.isp_engine.specs.declared.code.Access.{Access}

@@ -1,12 +1,12 @@
 -- Writes of a machine's lists are writes of its definition's functions.
-use Rattle.std.proofs.Common.{◌≡◌, ℕ, zero, suc, ◌+◌, ◌<◌, ◌≤◌, List, [], ◌∷◌, length, get_or, Option, Some, None, Bool, true, false, refl, sym, ap, ap₂, ◌∙◌, subst, arith, Ok, ltb-false, length-set}
+use Rattle.std.proofs.Common.{◌≡◌, ℕ, zero, suc, ◌+◌, ◌<◌, ◌≤◌, List, [], ◌∷◌, length, get_or, Some, None, Bool, true, false, refl, sym, ap, ◌∙◌, subst, arith, Ok, ltb-false, length-set}
 use Rattle.std.specs.Prelude.{slice_index, slice_set, nat_lt, if◌then◌else◌, Result}
 use Rattle.std.proofs.Math.Path.{fun_ext}
 use Rattle.isp_base.specs.Rows.{Row}
 use Rattle.isp_base.specs.declared.trap.Trap.{Trap}
 use Rattle.isp_model.specs.Gang.{Lanes, Map, everyone, on, or_old, over, put}
-use Rattle.isp_engine.specs.Machine.{Conf, Move, Go, moved, set_scalar, set_vector, set_array}
-use Rattle.isp_engine.specs.Held.{Held, lane_of, conf_of, HaveLanes, SameShape, Alike}
+use Rattle.isp_engine.specs.Machine.{Move, Go, moved, set_scalar, set_vector, set_array}
+use Rattle.isp_engine.specs.Held.{Held, lane_of, conf_of, HaveLanes, Alike}
 use Rattle.isp_engine.proofs.Kernels.{view_put}
 use Rattle.isp_engine.proofs.Arrays.{rows_put, shape_self, shape_set}
 

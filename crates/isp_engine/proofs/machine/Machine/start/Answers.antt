@@ -1,6 +1,6 @@
-use Rattle.std.proofs.Common.{◌≡◌, List, ℕ, map, sym, ap, ◌∙◌}
+use Rattle.std.proofs.Common.{List, ℕ, map, ap, ◌∙◌}
 use Rattle.isp_base.specs.declared.signature.Argument.{Argument}
-use Rattle.isp_engine.specs.Held.{Held, conf_of, value_bits}
+use Rattle.isp_engine.specs.Held.{conf_of, value_bits}
 use Rattle.isp_engine.proofs.Starts.{started}
 use Rattle.isp_engine.proofs.machine.Machine.start.Goals as goal
 
