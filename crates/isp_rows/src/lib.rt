@@ -2,6 +2,14 @@
 #![tactic(auto)]
 
 #[cfg(test)]
+mod calls;
+#[cfg(test)]
+mod commands;
+#[cfg(test)]
+mod fakes;
+#[cfg(test)]
 mod lanes;
 #[cfg(test)]
 mod operators;
+#[cfg(test)]
+mod runs;

@@ -1,0 +1,72 @@
+//! Files and sinks that stand for the system's.
+ghost use Rattle.std.specs.Prelude.{false};
+
+use isp_engine::{FileFault, Sink, SinkFault, SourceFiles};
+use std::alloc::Global;
+
+/// Files by name, in memory.
+#[derive(Drop)]
+pub(crate) struct Shelf<'a> {
+    pub files: &'a [(&'a str, &'a str)],
+}
+
+impl SourceFiles for Shelf<'_> {
+    fn read(&self, alloc: Global, name: &str) -> Result<String, FileFault> {
+        for (known, text) in self.files {
+            if *known == name {
+                return String::from_str(alloc, text).map_err(|_| FileFault::Memory);
+            }
+        }
+        Err(FileFault::CannotRead)
+    }
+}
+
+/// Takes at most `step` bytes a write, and fails once `room` bytes are taken.
+#[derive(Drop)]
+pub(crate) struct Page {
+    pub bytes: Vec<u8>,
+    pub room: usize,
+    pub step: usize,
+    pub has_failed: bool,
+}
+
+impl Sink for Page {
+    ghost has_failed = { λ p. p.has_failed };
+
+    fn write(&mut self, bytes: &[u8]) -> Result<usize, SinkFault> {
+        let count = bytes.len().min(self.room).min(self.step);
+        if count == 0 && !bytes.is_empty() {
+            self.has_failed = true;
+            return Err(SinkFault);
+        }
+        if self.bytes.extend_from_slice(&bytes[..count]).is_err() {
+            self.has_failed = true;
+            return Err(SinkFault);
+        }
+        self.room -= count;
+        Ok(count)
+    }
+
+    fn failed(&self) -> bool {
+        self.has_failed
+    }
+}
+
+/// Counts what it takes, and needs no memory.
+#[derive(Drop)]
+pub(crate) struct Count {
+    pub bytes: u64,
+}
+
+impl Sink for Count {
+    ghost has_failed = { λ _. false };
+
+    fn write(&mut self, bytes: &[u8]) -> Result<usize, SinkFault> {
+        self.bytes = self.bytes.wrapping_add(bytes.len() as u64);
+        Ok(bytes.len())
+    }
+
+    fn failed(&self) -> bool {
+        false
+    }
+}
