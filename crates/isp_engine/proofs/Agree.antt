@@ -21,7 +21,7 @@ use Rattle.isp_engine.proofs.Expressions.{NamesFit}
 use Rattle.isp_engine.proofs.Statements.{StmtRuns, all_run}
 use Rattle.isp_engine.proofs.Bounds.{numbers_are, names_fit, first_fits}
 
-prefix_self : (a : List ℕ) → IsPrefix a a
+pub prefix_self : (a : List ℕ) → IsPrefix a a
 prefix_self a = ([], append-nil a)
 
 module _ (gang : ℕ) (shape : List Row) (code : List Instr) where
@@ -51,7 +51,7 @@ module _ (gang : ℕ) (shape : List Row) (code : List Instr) where
   follow_grows Over c f g h = prefix_self c.out
 
   -- the output only grows
-  grows : (m n : ℕ) → m ≤ n → (c : Conf) → IsPrefix (out_of (exec gang shape code m c)) (out_of (exec gang shape code n c))
+  pub grows : (m n : ℕ) → m ≤ n → (c : Conf) → IsPrefix (out_of (exec gang shape code m c)) (out_of (exec gang shape code n c))
   grows zero n le c = starts n c
   grows (suc m) zero le c = absurd (omega arith)
   grows (suc m) (suc n) le c = follow_grows (act_at gang shape (slice_get code c.pc) c) c (exec gang shape code m) (exec gang shape code n) (λ c. grows m n (omega arith) c)

@@ -18,6 +18,8 @@ pub mod Emits
 pub mod Starts
 pub mod Fronts
 pub mod Images
+pub mod Binds
+pub mod Means
 pub mod Written
 pub mod Requests
 pub mod Words

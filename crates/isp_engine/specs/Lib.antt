@@ -12,6 +12,7 @@ pub mod Front
 pub mod Images
 pub mod Entries
 pub mod Reports
+pub mod Meaning
 pub mod Failures
 pub mod Commands
 pub mod Compilations

@@ -1,12 +1,14 @@
 //! Runs of compiled programs.
-ghost use Rattle.std.specs.Prelude.{◌≡◌, ℕ, ◌≤◌, IfOk};
+ghost use Rattle.std.specs.Prelude.{◌≡◌, ℕ, ◌≤◌, List, IfOk};
 ghost use Rattle.isp_base.specs.Types.{gang_width};
 ghost use Rattle.isp_base.specs.Outcomes.{Outcome};
 ghost use Rattle.isp_engine.specs.Machine.{after};
 ghost use Rattle.isp_engine.specs.Held.{Came};
-ghost use Rattle.isp_engine.specs.Images.{entry_named};
+ghost use Rattle.isp_rates.specs.Program.{function_named};
+ghost use Rattle.isp_engine.specs.Images.{entry_named, IsCompilation};
 ghost use Rattle.isp_engine.specs.Entries.{entry_of};
 ghost use Rattle.isp_engine.specs.Reports.{Reports, Executes};
+ghost use Rattle.isp_engine.specs.Meaning.{Means};
 
 use crate::answers::answer;
 use crate::bind::bind;
@@ -66,7 +68,10 @@ pub fn execute(
     json: &str,
     budget: u64,
 ) -> Result<Report, RunFault>
-    ensures { Executes (gang_width image.now.gang) (entry_named entry.now image.now.functions) json.now budget result }
+    ensures machine { Executes (gang_width image.now.gang) (entry_named entry.now image.now.functions) json.now budget result }
+    // For each text of which the image is a compilation, this is what the program of that text means.
+    ensures means { (text : List ℕ) (program : IsCompilation (gang_width image.now.gang) text image.now.functions)
+        → Means (gang_width image.now.gang) (function_named entry.now program.functions) json.now budget result }
 {
     let Some(function) = image.function(entry) else {
         return Err(RunFault::NoEntry);
