@@ -9,7 +9,6 @@ use Rattle.std.specs.Prelude.{◌≡◌, ◌⊎◌, ℕ, ◌++◌, List, [], ◌
 use Rattle.std.specs.Str.{bytes_eq}
 use Rattle.std.specs.declared.alloc.Global.{Global}
 use Rattle.isp_base.specs.declared.types.Gang.TheVariants.{W4}
-use Rattle.isp_lex.specs.declared.fault.SourceFault.TheVariants.{Refused}
 use Rattle.isp_engine.specs.declared.failure.Failure.{Failure}
 use Rattle.isp_engine.specs.declared.failure.Failure.TheVariants.{Source, Words, Trapped, BudgetUsed, Run, CannotRead, CannotWrite, Memory}
 use Rattle.isp_engine.specs.declared.image.Image.{Image}
@@ -17,7 +16,8 @@ use Rattle.isp_engine.specs.declared.report.Ending.TheVariants.{Ended, Trapped a
 use Rattle.isp_engine.specs.declared.report.Report.{Report}
 use Rattle.isp_engine.specs.Failures.{status_of}
 use Rattle.isp_engine.specs.Sinks.{TookAll, TookSome}
-use Rattle.isp_engine.specs.Compilations.{Compiles, Gives, RefusesSource, RefusesRun}
+use Rattle.isp_engine.specs.Compilations.{Compiles, IsAnswer}
+use Rattle.isp_engine.specs.Front.{IsFaulty}
 
 -- ---- the words
 
@@ -49,7 +49,7 @@ pub record Reports (holds : List ℕ → Option (List ℕ) → Type 0) (q : Requ
   pub files : Reads holds q
   pub image : Image
   pub compiles : Compiles files.source W4 image
-  pub executes : Gives image q.entry files.arguments budget r
+  pub answers : IsAnswer files.source W4 image compiles q.entry files.arguments budget (Ok r)
 
 -- why a file gives no text
 abbrev pub Unread : (List ℕ → Option (List ℕ) → Type 0) → List ℕ → Failure → Type 0
@@ -65,8 +65,9 @@ Unread holds file CannotWrite = ⊥
 -- one of the two files cannot be read, the source is refused, or the entry or the arguments are
 abbrev pub Fails : (List ℕ → Option (List ℕ) → Type 0) → Request → Failure → Type 0
 Fails holds q (CannotRead name) = Unread holds q.source (CannotRead name) ⊎ Unread holds q.arguments (CannotRead name)
-Fails holds q (Source f) = (files : Reads holds q) × RefusesSource files.source W4 (Refused f)
-Fails holds q (Run f) = (files : Reads holds q) × (image : Image) × Compiles files.source W4 image × RefusesRun image q.entry files.arguments budget f
+Fails holds q (Source f) = (files : Reads holds q) × IsFaulty files.source f
+Fails holds q (Run f) =
+    (files : Reads holds q) × (image : Image) × (compiles : Compiles files.source W4 image) × IsAnswer files.source W4 image compiles q.entry files.arguments budget (Err f)
 Fails holds q Memory = Unit {0}
 Fails holds q Words = ⊥
 Fails holds q (Trapped t) = ⊥

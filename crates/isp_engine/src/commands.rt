@@ -1,18 +1,15 @@
 //! The whole program, over what it is handed.
-ghost use Rattle.std.specs.Prelude.{◌≡◌, ◌≢◌, ◌≤◌, false, map, string_bytes, Some, IfOk, IfErr, OnOk, OnErr};
+ghost use Rattle.std.specs.Prelude.{◌≡◌, ◌≤◌, false, map, string_bytes, Some, IfOk, IfErr, OnOk, OnErr};
 ghost use Rattle.isp_engine.specs.Commands.{Commands, Delivers, Ends, Fails, Reports, Unread, answer_bytes, asked, report_bytes};
-ghost use Rattle.isp_engine.specs.Compilations.{Compiles, Gives, RefusesSource, RefusesRun};
 ghost use Rattle.isp_engine.specs.Sinks.{TookAll, TookSome};
 
 use crate::failure::Failure;
-use crate::fault::RunFault;
 use crate::files::{FileFault, SourceFiles};
-use crate::image::{Image, compile};
+use crate::image::compile;
 use crate::report::{Ending, Report};
 use crate::run::execute;
 use crate::sink::{Sink, SinkFault, write_all};
 use isp_base::Gang;
-use isp_lex::SourceFault;
 use std::alloc::Global;
 use std::io::Write;
 
@@ -85,38 +82,9 @@ fn report<'a, F: SourceFiles>(
 {
     let text = read(alloc, files, source)?;
     let json = read(alloc, files, arguments)?;
-    let image = compiled(alloc, text.as_str(), Gang::W4)?;
-    let report = executed(alloc, &image, entry, json.as_str(), BUDGET)?;
+    let image = compile(alloc, text.as_str(), Gang::W4)?;
+    let report = execute(alloc, &image, entry, json.as_str(), BUDGET)?;
     Ok(report)
-}
-
-// The image of a source text.
-fn compiled(alloc: Global, text: &str, gang: Gang) -> Result<Image, SourceFault>
-    ensures ok { IfOk result (λ image. Compiles text.now gang image) }
-    ensures err { IfErr result (λ e. e ≢ SourceFault.Memory → RefusesSource text.now gang e) }
-{
-    match compile(alloc, text, gang) {
-        Ok(image) => Ok(image),
-        Err(SourceFault::Memory) => Err(SourceFault::Memory),
-        Err(SourceFault::Refused(fault)) => Err(SourceFault::Refused(fault)),
-    }
-}
-
-// The report of a run.
-fn executed(
-    alloc: Global,
-    image: &Image,
-    entry: &str,
-    json: &str,
-    budget: u64,
-) -> Result<Report, RunFault>
-    ensures ok { IfOk result (λ r. Gives image.now entry.now json.now budget r) }
-    ensures err { IfErr result (λ f. f ≢ RunFault.Memory → RefusesRun image.now entry.now json.now budget f) }
-{
-    match execute(alloc, image, entry, json, budget) {
-        Ok(report) => Ok(report),
-        Err(fault) => Err(fault),
-    }
 }
 
 // The text of a file.
