@@ -1,26 +1,24 @@
 -- What a text binds are arguments of the signature.
-use Rattle.std.proofs.Common.{◌≡◌, ◌≢◌, ℕ, zero, suc, ◌<◌, ◌^◌, List, [], ◌∷◌, length, Bool, true, false, ◌&&◌, not, cond, Option, Some, None, Result, Ok, Err, ℤ, refl, sym, ap, ap₂, ◌∙◌, subst, arith, if◌then◌else◌, lit≤}
-use Rattle.std.specs.Prelude.{slice_index, nat_lt}
+use Rattle.std.proofs.Common.{◌≡◌, ℕ, zero, suc, ◌<◌, ◌^◌, List, [], ◌∷◌, Bool, true, false, ◌&&◌, not, cond, Option, Some, None, Result, Ok, Err, ℤ, refl, ap₂, subst, if◌then◌else◌, lit≤}
+use Rattle.std.specs.Prelude.{nat_lt}
 use Rattle.std.specs.Ordering.{int_eq}
 use Rattle.std.proofs.lemmas.Bool.{eq-eqb}
 use Rattle.std.proofs.lemmas.Nat.{pow_pos}
 use Rattle.serde_json.specs.Data.{Data, null, boolean, number as numeral, string, array, object, Items, no_items, item, Members}
 use Rattle.serde_json.specs.Read.{read}
 use Rattle.serde_json.specs.Find.{get, as_array, as_object, as_integer}
-use Rattle.isp_base.specs.Binding.{is_for, has_signature}
+use Rattle.isp_base.specs.Binding.{is_for}
 use Rattle.isp_base.specs.Ranks.{rank, same_elem}
-use Rattle.isp_base.specs.Rows.{Row, Fit}
+use Rattle.isp_base.specs.Rows.{Fit}
 use Rattle.isp_base.specs.Values.{width, wrap, number}
 use Rattle.isp_base.specs.declared.types.Elem.{Elem}
 use Rattle.isp_base.specs.declared.types.Elem.TheVariants.{Bool as Truth, I8, U8, I16, U16, I32, U32, I64, U64}
-use Rattle.isp_base.specs.declared.types.Value.{Value}
 use Rattle.isp_base.specs.declared.signature.Parameter.{Parameter}
 use Rattle.isp_base.specs.declared.signature.Argument.{Argument}
 use Rattle.isp_base.specs.declared.signature.Argument.TheVariants.{Value as AValue, Array as AnArray}
-use Rattle.isp_model.specs.Runs.{rows}
 use Rattle.isp_engine.specs.declared.fault.BindFault.{BindFault}
 use Rattle.isp_engine.specs.declared.fault.BindFault.TheVariants.{WrongKind, OutOfRange, TooLong, Extra}
-use Rattle.isp_engine.specs.Agreement.{AllFit, AreBound}
+use Rattle.isp_engine.specs.Agreement.{AreBound}
 use Rattle.isp_engine.specs.Binding.{then_of, is_bool, whole_bits, numeral_bits, element_bits, elements_bits, items_count, longest, array_argument, value_argument, found_argument, argument_of, arguments_of, has_extra, members_arguments, read_arguments, bound_of}
 use Rattle.isp_engine.proofs.Numbers.{wrap_lt}
 

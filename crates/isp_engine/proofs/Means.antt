@@ -1,5 +1,5 @@
 -- What a machine answers for compiled code is what the program means.
-use Rattle.std.proofs.Common.{◌≡◌, ◌≢◌, ℕ, zero, suc, ◌<◌, ◌≤◌, List, [], ◌∷◌, ◌++◌, Bool, true, false, Option, Some, None, Result, Ok, Err, refl, sym, ap, ◌∙◌, subst, ⊎_elim, arith, append_assoc}
+use Rattle.std.proofs.Common.{◌≡◌, ◌≢◌, ℕ, ◌<◌, ◌≤◌, List, [], ◌∷◌, ◌++◌, Bool, true, false, Option, Some, None, Result, Ok, Err, refl, sym, ap, ◌∙◌, subst, ⊎_elim, arith, append_assoc}
 use Rattle.std.specs.Prelude.{bytes_eq, cond}
 use Rattle.std.proofs.lemmas.Bool.{cases_lt}
 use Rattle.isp_base.specs.Outcomes.{Outcome, Ends, Traps, GoesOn, out_of, IsOver}
@@ -13,9 +13,8 @@ use Rattle.isp_engine.specs.declared.fault.RunFault.{RunFault}
 use Rattle.isp_engine.specs.declared.report.Ending.TheVariants.{Running}
 use Rattle.isp_engine.specs.declared.report.Report.{Report}
 use Rattle.isp_engine.specs.Agreement.{AreBound, IsPrefix, Agrees, enough}
-use Rattle.isp_engine.specs.Binding.{bound_of}
 use Rattle.isp_engine.specs.Images.{Entry, entry_named, IsCompiled, AreCompiled, IsCompilation}
-use Rattle.isp_engine.specs.Machine.{exec, first_conf, after}
+use Rattle.isp_engine.specs.Machine.{first_conf, after}
 use Rattle.isp_engine.specs.Meaning.{Tells, Means}
 use Rattle.isp_engine.specs.Reports.{Reports, Runs, Executes}
 use Rattle.isp_engine.proofs.Agree.{prefix_self, longer, grows}
