@@ -4,8 +4,10 @@
 mod fault;
 mod lexer;
 mod reserved;
+mod text;
 mod token;
 
 pub use fault::{Fault, Rule, SourceFault};
 pub use lexer::{lex, one_list};
+pub use text::Text;
 pub use token::{Mark, Token, TokenKind, Tokens};
