@@ -1,7 +1,7 @@
-pub mod Lexed
 pub mod Marks
-pub mod Numbers
+pub mod NumberLaws
 pub mod Numerals
 pub mod Runs
+pub mod SignLaws
+pub mod Spellings
 pub mod Words
-pub mod Steps

@@ -4,4 +4,5 @@ pub mod Lexing
 pub mod Numbers
 pub mod Reading
 pub mod Spelling
+pub mod Texts
 pub mod Tokens

@@ -1,9 +1,15 @@
 //! Tokens: from a text to a list of tokens, each the slice of its span.
 #![tactic(auto)]
 
+mod bytes;
+mod comments;
 mod fault;
 mod lexer;
+mod numbers;
+mod piece;
+mod quotes;
 mod reserved;
+mod signs;
 mod text;
 mod token;
 

@@ -1,5 +1,5 @@
-use Rattle.isp_lex.proofs.Lexed.{one_list}
+use Rattle.isp_lex.proofs.NumberLaws.{number_complete}
 use Rattle.isp_lex.proofs.lexer.one_list.Goals as goal
 
 pub returns : goal.returns
-returns c = one_list
+returns c = let s = number_complete in ?
