@@ -1,7 +1,9 @@
+pub mod CommentLaws
 pub mod Marks
 pub mod NumberLaws
 pub mod Numerals
 pub mod Runs
 pub mod SignLaws
 pub mod Spellings
+pub mod TextLaws
 pub mod Words

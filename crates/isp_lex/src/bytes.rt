@@ -1,5 +1,5 @@
 //! Classes of bytes, and runs of them.
-ghost use Rattle.std.specs.Prelude.{◌≡◌, drop};
+ghost use Rattle.std.specs.Prelude.{◌≡◌, ◌≤◌, drop, length};
 ghost use Rattle.isp_lex.specs.Bytes as class;
 ghost use Rattle.isp_lex.specs.Reading.{is_digits_byte, run};
 
@@ -20,6 +20,14 @@ pub(crate) fn has(text: &[u8], at: usize, byte: u8) -> bool
     ensures { result ≡ class.next_is byte (drop at text.now) }
 {
     at < text.len() && text[at] == byte
+}
+
+/// The bytes from a place on.
+pub(crate) fn rest(text: &[u8], at: usize) -> &[u8]
+    requires { at ≤ length text.now }
+    ensures { result.now ≡ drop at text.now }
+{
+    &text[at..]
 }
 
 /// The length of the run of letters, digits and `_` that a text begins with.

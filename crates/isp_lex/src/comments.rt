@@ -3,7 +3,7 @@ ghost use Rattle.std.specs.Prelude.{◌≡◌, ◌+◌, ◌<◌, ◌^◌, length
 ghost use Rattle.isp_lex.specs.Bytes.{next_is};
 ghost use Rattle.isp_lex.specs.Reading.{NoComment, Skips, StopsAt};
 
-use crate::bytes::{has, line_len};
+use crate::bytes::{has, line_len, rest};
 use crate::fault::{Rule, SourceFault};
 use crate::piece::refused;
 
@@ -16,7 +16,7 @@ pub(crate) fn comment(text: &str, place: usize) -> Result<Option<usize>, SourceF
     ensures err { IfErr result (λ e. StopsAt place e text.now) }
 {
     if has(text.as_bytes(), 1, b'/') {
-        return Ok(Some(2 + line_len(&text.as_bytes()[2..])));
+        return Ok(Some(2 + line_len(rest(text.as_bytes(), 2))));
     }
     if !has(text.as_bytes(), 1, b'*') {
         return Ok(None);

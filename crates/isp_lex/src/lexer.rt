@@ -8,7 +8,7 @@ ghost use Rattle.isp_lex.specs.Bytes.{all};
 ghost use Rattle.isp_lex.specs.declared.fault.SourceFault.TheVariants.{Memory};
 ghost use Rattle.isp_lex.specs.declared.token.Token.{Token};
 
-use crate::bytes::{is_blank, is_word_byte, run_len};
+use crate::bytes::{is_blank, is_word_byte, rest, run_len};
 use crate::comments::comment;
 use crate::fault::{Rule, SourceFault};
 use crate::numbers::number;
@@ -87,7 +87,7 @@ fn sign_piece(text: &str, place: usize) -> Result<Piece, SourceFault>
     ensures err { IfErr result (λ e. StopsAt place e text.now) }
 {
     let bytes = text.as_bytes();
-    match sign(bytes[0], &bytes[1..]) {
+    match sign(bytes[0], rest(bytes, 1)) {
         Some((mark, len)) => Ok(Piece {
             token: Some(TokenKind::Mark(mark)),
             len,

@@ -4,7 +4,7 @@ ghost use Rattle.isp_lex.specs.Bytes.{next_is};
 ghost use Rattle.isp_lex.specs.Reading.{Front, StopsAt, escape_at, said_at};
 ghost use Rattle.isp_lex.specs.Texts as class;
 
-use crate::bytes::has;
+use crate::bytes::{has, rest};
 use crate::fault::{Rule, SourceFault};
 use crate::piece::{refused, Piece};
 use crate::text::Text;
@@ -41,10 +41,10 @@ fn escaped(byte: u8) -> Option<u8>
 }
 
 /// What stands behind a backslash.
-fn escape(rest: &[u8]) -> Said
-    ensures { result ≡ escape_at rest.now }
+fn escape(more: &[u8]) -> Said
+    ensures { result ≡ escape_at more.now }
 {
-    match rest.first() {
+    match more.first() {
         Some(byte) => match escaped(*byte) {
             Some(says) => Said::Byte(says, 2),
             None => Said::Stops(1),
@@ -54,11 +54,11 @@ fn escape(rest: &[u8]) -> Said
 }
 
 /// What the first character or escape of the bytes says.
-fn next_said(rest: &[u8]) -> Said
-    ensures { result ≡ said_at rest.now }
+fn next_said(more: &[u8]) -> Said
+    ensures { result ≡ said_at more.now }
 {
-    match rest.split_first() {
-        Some((b'\\', more)) => escape(more),
+    match more.split_first() {
+        Some((b'\\', behind)) => escape(behind),
         Some((byte, _)) if is_plain(*byte) => Said::Byte(*byte, 1),
         _ => Said::Stops(0),
     }
@@ -74,7 +74,7 @@ pub(crate) fn quoted(alloc: Global, text: &[u8], place: usize) -> Result<Piece, 
     let mut bytes = Vec::new(alloc);
     let mut at = 1;
     while !has(text, at, b'"') {
-        match next_said(&text[at..]) {
+        match next_said(rest(text, at)) {
             Said::Byte(byte, len) => {
                 bytes.push(byte)?;
                 at += len;

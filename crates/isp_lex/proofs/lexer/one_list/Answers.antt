@@ -1,5 +1,6 @@
-use Rattle.isp_lex.proofs.NumberLaws.{number_complete}
+use Rattle.isp_lex.proofs.CommentLaws.{closed_some}
+use Rattle.isp_lex.proofs.TextLaws.{says_more}
 use Rattle.isp_lex.proofs.lexer.one_list.Goals as goal
 
 pub returns : goal.returns
-returns c = let s = number_complete in ?
+returns c = let s = closed_some in let t = says_more in ?
