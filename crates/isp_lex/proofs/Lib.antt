@@ -1,9 +1,13 @@
+pub mod Classes
 pub mod CommentLaws
+pub mod Fronts
+pub mod Lexed
 pub mod Marks
 pub mod NumberLaws
 pub mod Numerals
 pub mod Runs
 pub mod SignLaws
 pub mod Spellings
+pub mod Steps
 pub mod TextLaws
 pub mod Words

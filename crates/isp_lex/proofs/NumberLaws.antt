@@ -7,6 +7,7 @@ use Rattle.std.specs.Str.Parse.{AllDigits, IsNumeral, digits_value}
 use Rattle.std.proofs.lemmas.Bool.{false≢true, eqb-true, ltb-false, leb-true, leb-false, le-leb, lt-leb}
 use Rattle.std.proofs.lemmas.Bool.Decides.{nat_tests}
 use Rattle.std.proofs.lemmas.List.{drop_at, take_at, take-append-drop}
+use Rattle.std.proofs.lemmas.Str.Parse.{digit_from_value}
 use Rattle.std.proofs.lemmas.Slice.Eq.{bytes_eq-Decides}
 use Rattle.isp_base.specs.declared.types.Elem.{Elem}
 use Rattle.isp_base.specs.declared.types.Elem.TheVariants as elem
@@ -15,11 +16,12 @@ use Rattle.isp_base.specs.Values.{greatest}
 use Rattle.isp_lex.specs.declared.numbers.Digits.{Digits}
 use Rattle.isp_lex.specs.declared.numbers.Suffix.{Suffix}
 use Rattle.isp_lex.specs.declared.numbers.Suffix.TheVariants as suffix
-use Rattle.isp_lex.specs.Bytes.{all, begins, is_suffix_letter, next_is}
+use Rattle.isp_lex.specs.Bytes.{all, begins, is_suffix_letter, is_word_byte, next_is}
 use Rattle.isp_lex.specs.Numbers.{IsDigits, decimal, hexadecimal, binary, Types, without, with_u, with_l, with_ll, with_ul, with_lu, with_ull, with_llu, FirstFit, here, later, IsNumber}
 use Rattle.isp_lex.specs.Reading.{digits_at, digits_of, first_type, is_digits_byte, is_long, is_prefixed, is_unsigned_long, lower, number_of, numeral, plain_of, run, suffix_of, typed, types_of, value_at}
 use Rattle.isp_lex.proofs.Numerals.{numeral_sound, numeral_complete}
-use Rattle.isp_lex.proofs.Runs.{and_both, run_is}
+use Rattle.isp_lex.proofs.Runs.{all_both, and_both, run_is}
+use Rattle.isp_lex.proofs.Spellings.{begins_front}
 
 -- types
 
@@ -263,3 +265,60 @@ number_complete text v h =
     ∙ ap (λ (l : List ℕ). typed (digits_of l) (suffix_of (lower (drop (run is_digits_byte (h.digits ++ h.suffix)) (h.digits ++ h.suffix))))) front
     ∙ ap (λ (l : List ℕ). typed (digits_of h.digits) (suffix_of (lower l))) back
     ∙ t
+
+-- a number begins with a digit and has bytes of words alone
+
+is_digit : (d : ℕ) → digit_value d < 10 → is_ascii_digit d ≡ true
+is_digit d h = let r = digit_from_value d h in grind (arith, nat_tests)
+
+decimal_starts : (ds : List ℕ) → IsNumeral 10 ds → begins is_ascii_digit ds ≡ true
+decimal_starts [] i = absurd (omega (arith, i.0))
+decimal_starts (d ∷ ds) i = is_digit d i.1.0
+
+digits_start : {text : List ℕ} {n : ℕ} {types : List Elem} → IsDigits text n types → (suffix : List ℕ) → begins is_ascii_digit (text ++ suffix) ≡ true
+digits_start (decimal ds i h) suffix = begins_front is_ascii_digit ds suffix i.0 ∙ decimal_starts ds i
+digits_start (hexadecimal ds i) suffix = refl
+digits_start (binary ds i) suffix = refl
+
+pub number_starts : (text : List ℕ) (v : Value) → IsNumber v text → begins is_ascii_digit text ≡ true
+number_starts text v h = ap (begins is_ascii_digit) h.split ∙ digits_start h.value h.suffix
+
+digit_word_byte : (d : ℕ) → digit_value d < 16 → is_word_byte d ≡ true
+digit_word_byte d h = grind (arith, nat_tests)
+
+digits_word_bytes : (radix : ℕ) (ds : List ℕ) → radix ≤ 16 → AllDigits radix ds → all is_word_byte ds ≡ true
+digits_word_bytes radix [] r h = refl
+digits_word_bytes radix (d ∷ ds) r h = rw (digit_word_byte d (omega (arith, h.0)), digits_word_bytes radix ds r h.1) refl
+
+front_word_bytes : {text : List ℕ} {n : ℕ} {types : List Elem} → IsDigits text n types → all is_word_byte text ≡ true
+front_word_bytes (decimal ds i h) = digits_word_bytes 10 ds (omega arith) i.1
+front_word_bytes (hexadecimal ds i) = digits_word_bytes 16 ds (omega arith) i.1
+front_word_bytes (binary ds i) = digits_word_bytes 2 ds (omega arith) i.1
+
+letter_byte : (b : ℕ) → no_letter (to_ascii_lowercase b) ≡ false → is_word_byte b ≡ true
+letter_byte b e = grind (arith, nat_tests)
+
+-- each byte of a suffix is one of its letters
+letters_at : {ts : List Elem} {s : List ℕ} {us : List Elem} → Types ts s us → all (λ b. not (no_letter b)) s ≡ true
+letters_at (without ts) = refl
+letters_at (with_u ts) = refl
+letters_at (with_l ts) = refl
+letters_at (with_ll ts) = refl
+letters_at (with_ul ts) = refl
+letters_at (with_lu ts) = refl
+letters_at (with_ull ts) = refl
+letters_at (with_llu ts) = refl
+
+not_true : (t : Bool) → not t ≡ true → t ≡ false
+not_true true e = absurd (false≢true e)
+not_true false e = refl
+
+suffix_word_bytes : (s : List ℕ) → all (λ b. not (no_letter b)) (lower s) ≡ true → all is_word_byte s ≡ true
+suffix_word_bytes [] h = refl
+suffix_word_bytes (b ∷ bs) h =
+    let q = and_both (not (no_letter (to_ascii_lowercase b))) (all (λ b. not (no_letter b)) (lower bs)) h in
+    rw (letter_byte b (not_true (no_letter (to_ascii_lowercase b)) q.0), suffix_word_bytes bs q.1) refl
+
+pub number_word_bytes : (text : List ℕ) (v : Value) → IsNumber v text → all is_word_byte text ≡ true
+number_word_bytes text v h =
+    ap (all is_word_byte) h.split ∙ all_both is_word_byte h.digits h.suffix (front_word_bytes h.value) (suffix_word_bytes h.suffix (letters_at h.allowed))

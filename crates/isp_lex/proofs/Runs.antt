@@ -78,3 +78,14 @@ pub all_drop : (p : ℕ → Bool) (n : ℕ) (bs : List ℕ) → all p bs ≡ tru
 all_drop p n [] h = rw (drop-nil n) refl
 all_drop p zero (b ∷ bs) h = h
 all_drop p (suc n) (b ∷ bs) h = all_drop p n bs (and_both (p b) (all p bs) h).1
+
+-- the run is no shorter than what passes at the front
+pub run_ge : (p : ℕ → Bool) (a rest : List ℕ) → all p a ≡ true → length a ≤ run p (a ++ rest)
+run_ge p [] rest h = omega arith
+run_ge p (b ∷ a) rest h =
+    let q = and_both (p b) (all p a) h in
+    rw q.0 (omega (arith, run_ge p a rest q.1))
+
+pub all_both : (p : ℕ → Bool) (a b : List ℕ) → all p a ≡ true → all p b ≡ true → all p (a ++ b) ≡ true
+all_both p [] b h k = k
+all_both p (x ∷ a) b h k = let q = and_both (p x) (all p a) h in rw (q.0, all_both p a b q.1 k) refl
