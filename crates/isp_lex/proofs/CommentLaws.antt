@@ -1,16 +1,16 @@
 -- Comments.
-use Rattle.std.proofs.Common.{◌≡◌, ℕ, suc, ◌+◌, ◌<◌, ◌≤◌, Bool, true, false, cond, List, [], ◌∷◌, ◌++◌, length, get_or, take, drop, Option, Some, None, refl, sym, ap, subst, ◌∙◌, arith, length-append, length-drop, length-take, append_assoc, ◌⊎◌, inl, inr}
+use Rattle.std.proofs.Common.{◌≡◌, ℕ, suc, ◌+◌, ◌<◌, ◌≤◌, Bool, true, false, cond, List, [], ◌∷◌, ◌++◌, length, get_or, take, drop, Option, Some, None, refl, sym, ap, subst, ◌∙◌, arith, length-append, length-drop, length-take, append_assoc, inr}
 use Rattle.std.specs.Prelude.{◌==◌, ◌&&◌, not, codes, option_map}
 use Rattle.std.proofs.lemmas.Bool.{false≢true, eqb-true}
 use Rattle.std.proofs.lemmas.List.{drop-drop, drop_at, get_or-drop, take-append-drop}
 use Rattle.std.specs.Str.{IsUtf8, IsCharBoundary}
-use Rattle.std.specs.Str.Pattern.{FindsText, HasTextAt, LacksTextAt}
+use Rattle.std.specs.Str.Pattern.{FindsText, LacksTextAt}
 use Rattle.std.proofs.lemmas.Str.{IsCharBoundary-end, IsCharBoundary-after_ascii, IsCharBoundary-before_ascii, IsCharBoundary-from_rest}
 use Rattle.isp_lex.specs.declared.fault.Rule.TheVariants.{OpenComment}
-use Rattle.isp_lex.specs.Bytes.{all, begins, is_line_byte, next_is}
+use Rattle.isp_lex.specs.Bytes.{begins, is_line_byte, next_is}
 use Rattle.isp_lex.specs.Faults.{fault}
-use Rattle.isp_lex.specs.Lexing.{IsComment, line, closed, IsFault, open_comment, IsOpen}
-use Rattle.isp_lex.specs.Reading.{Front, Skips, run}
+use Rattle.isp_lex.specs.Lexing.{line, closed, IsFault, open_comment, IsOpen}
+use Rattle.isp_lex.specs.Reading.{Skips, run}
 use Rattle.isp_lex.proofs.Runs.{and_both, run_all, run_ends, run_le}
 
 -- how many bytes there are up to the first `*/`, with it
@@ -66,8 +66,8 @@ line_cut text at [] l e h =
     subst (IsCharBoundary text) n (IsCharBoundary-end text)
 line_cut text at (b ∷ bs) l e h =
     let q : get_or text at 0 ≡ b =
-        let k : at + 0 ≡ at = omega arith in
-        ap (λ (n : ℕ). get_or text n 0) (sym k) ∙ sym (get_or-drop at text 0 0) ∙ ap (λ (x : List ℕ). get_or x 0 0) e in
+    let k : at + 0 ≡ at = omega arith in
+    ap (λ (n : ℕ). get_or text n 0) (sym k) ∙ sym (get_or-drop at text 0 0) ∙ ap (λ (x : List ℕ). get_or x 0 0) e in
     let f : b ≡ 10 = line_feed_at b (b == 10) refl h in
     IsCharBoundary-before_ascii text at (omega (arith, ap length e, length-drop at text)) (omega arith)
 
@@ -101,7 +101,7 @@ lacks_before : (body rest : List ℕ) → ((i : ℕ) → i < length body → Lac
 lacks_before body rest h front more e =
     let l : length front < length body = omega (arith, ap length e, length-append front (42 ∷ 47 ∷ more), length-append body (42 ∷ [])) in
     let w : body ++ 42 ∷ 47 ∷ rest ≡ front ++ (42 ∷ 47 ∷ (more ++ 47 ∷ rest)) =
-        sym (append_assoc body (42 ∷ []) (47 ∷ rest)) ∙ ap (λ (x : List ℕ). x ++ 47 ∷ rest) e ∙ append_assoc front (42 ∷ 47 ∷ more) (47 ∷ rest) in
+    sym (append_assoc body (42 ∷ []) (47 ∷ rest)) ∙ ap (λ (x : List ℕ). x ++ 47 ∷ rest) e ∙ append_assoc front (42 ∷ 47 ∷ more) (47 ∷ rest) in
     h (length front) l (more ++ 47 ∷ rest) (ap (drop (length front)) w ∙ drop_at front (42 ∷ 47 ∷ (more ++ 47 ∷ rest)) (length front) refl)
 
 -- a comment that is closed
@@ -112,7 +112,7 @@ closed_front text more i j s h b =
     let l : length (take i more) ≡ i = omega (arith, length-take i more) in
     let w : more ≡ take i more ++ 42 ∷ 47 ∷ drop j more = sym (take-append-drop i more) ∙ ap (λ (x : List ℕ). take i more ++ x) at.split in
     let open_at : IsOpen (take i more ++ 42 ∷ []) =
-        lacks_before (take i more) (drop j more) (λ k lt. subst (λ (x : List ℕ). LacksTextAt (codes "*/") x k) w (h.0 k (omega arith))) in
+    lacks_before (take i more) (drop j more) (λ k lt. subst (λ (x : List ℕ). LacksTextAt (codes "*/") x k) w (h.0 k (omega arith))) in
     record {
       text = 47 ∷ 42 ∷ (take i more ++ 42 ∷ 47 ∷ []);
       after = drop j more;

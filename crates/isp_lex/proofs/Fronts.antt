@@ -1,9 +1,9 @@
 -- What the code finds stands at the front of the text.
-use Rattle.std.proofs.Common.{◌≡◌, ℕ, suc, ◌+◌, ◌<◌, ◌≤◌, Bool, true, false, cond, List, [], ◌∷◌, ◌++◌, length, take, drop, Option, Some, None, refl, sym, ap, subst, ◌∙◌, ◌⊎◌, inl, inr, arith, length-append}
+use Rattle.std.proofs.Common.{◌≡◌, ℕ, ◌<◌, ◌≤◌, Bool, true, false, cond, List, [], ◌∷◌, ◌++◌, length, take, drop, Option, Some, None, refl, sym, ap, subst, ◌∙◌, inl, arith, length-append}
 use Rattle.std.specs.Prelude.{◌==◌, codes}
 use Rattle.std.specs.Char.{encode_utf8, is_ascii_digit}
 use Rattle.std.specs.Str.{IsUtf8, IsAscii, IsCharBoundary}
-use Rattle.std.proofs.lemmas.Bool.{false≢true, eqb-true}
+use Rattle.std.proofs.lemmas.Bool.{false≢true}
 use Rattle.std.proofs.lemmas.List.{drop_at, take_at, take-append-drop}
 use Rattle.std.proofs.lemmas.Str.{IsUtf8-from_ascii, IsCharBoundary-from_take}
 use Rattle.std.proofs.lemmas.Str.Ascii.{IsAscii-nil, IsAscii-cons}
@@ -12,13 +12,11 @@ use Rattle.isp_lex.specs.declared.fault.Fault.{Fault}
 use Rattle.isp_lex.specs.declared.fault.Rule.TheVariants.{BadByte, BadNumber}
 use Rattle.isp_lex.specs.declared.piece.Piece.{Piece}
 use Rattle.isp_lex.specs.declared.token.Mark.{Mark}
-use Rattle.isp_lex.specs.declared.token.TokenKind.{TokenKind}
 use Rattle.isp_lex.specs.declared.token.TokenKind.TheVariants as kind
-use Rattle.isp_lex.specs.Bytes.{all, begins, is_blank, is_word_byte, next_is}
+use Rattle.isp_lex.specs.Bytes.{all, begins, is_blank, is_word_byte}
 use Rattle.isp_lex.specs.Faults.{fault}
-use Rattle.isp_lex.specs.Lexing.{BeginsNothing, IsFault, IsText, IsWhole, bad_byte, bad_number, opens, span}
-use Rattle.isp_lex.specs.Numbers.{IsNumber}
-use Rattle.isp_lex.specs.Reading.{BeginsSign, Front, NoComment, Passes, number_of, number_piece, run, run_of, run_piece, sign_of, word_kind}
+use Rattle.isp_lex.specs.Lexing.{BeginsNothing, IsFault, IsWhole, bad_byte, bad_number, opens, span}
+use Rattle.isp_lex.specs.Reading.{BeginsSign, Front, Passes, number_of, number_piece, run, run_of, run_piece, sign_of, word_kind}
 use Rattle.isp_lex.specs.Spelling.{spelling}
 use Rattle.isp_lex.proofs.Classes.{blank_ascii, word_no_digit}
 use Rattle.isp_lex.proofs.NumberLaws.{number_sound, number_complete}

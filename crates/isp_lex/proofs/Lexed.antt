@@ -1,5 +1,5 @@
 -- A text has one list of tokens, or a fault.
-use Rattle.std.proofs.Common.{◌≡◌, ℕ, zero, suc, ◌+◌, ◌-◌, ◌<◌, ◌≤◌, List, [], ◌∷◌, ◌++◌, length, take, drop, Option, Some, None, refl, sym, ap, subst, ◌∙◌, arith, length-append, append_assoc, ◌⊎◌, inl, inr}
+use Rattle.std.proofs.Common.{◌≡◌, ℕ, zero, suc, ◌+◌, ◌-◌, ◌<◌, ◌≤◌, List, [], ◌∷◌, ◌++◌, length, take, drop, Option, Some, None, refl, sym, ap, subst, ◌∙◌, arith, length-append, append_assoc, inl, inr}
 use Rattle.std.specs.Prelude.{option_map}
 use Rattle.std.proofs.lemmas.List.{append-nil, drop_at, take_at}
 use Rattle.std.specs.List.{All}
@@ -8,7 +8,7 @@ use Rattle.isp_lex.specs.declared.fault.Fault.{Fault}
 use Rattle.isp_lex.specs.declared.piece.Piece.{Piece}
 use Rattle.isp_lex.specs.declared.token.Token.{Token}
 use Rattle.isp_lex.specs.declared.token.TokenKind.{TokenKind}
-use Rattle.isp_lex.specs.Lexing.{IsComment, IsFault, IsText, Lexes, done, blank, comment, token, slice, span}
+use Rattle.isp_lex.specs.Lexing.{IsFault, IsText, Lexes, done, blank, comment, token, slice, span}
 use Rattle.isp_lex.specs.Reading.{Front, Passes, with_piece, with_token}
 use Rattle.isp_lex.proofs.Fronts.{front_drop}
 use Rattle.isp_lex.proofs.Steps.{comment_some, no_text, step, step_blank, step_comment, step_token, step_fault}

@@ -1,6 +1,6 @@
 -- What is read as a number is one.
-use Rattle.std.proofs.Common.{◌≡◌, ℕ, ◌+◌, ◌<◌, ◌≤◌, ◌^◌, ◌-◌, Bool, true, false, cond, List, [], ◌∷◌, ◌++◌, length, take, drop, Option, Some, None, refl, sym, ap, subst, ◌∙◌, arith}
-use Rattle.std.specs.Prelude.{◌&&◌, ◌||◌, ◌==◌, not, nat_lt, nat_le, map, codes}
+use Rattle.std.proofs.Common.{◌≡◌, ℕ, ◌<◌, ◌≤◌, ◌^◌, Bool, true, false, cond, List, [], ◌∷◌, ◌++◌, length, take, drop, Option, Some, None, refl, sym, ap, subst, ◌∙◌, arith}
+use Rattle.std.specs.Prelude.{◌&&◌, ◌||◌, ◌==◌, not, nat_lt, nat_le, codes}
 use Rattle.std.specs.Char.{digit_value, is_ascii_digit, to_ascii_lowercase}
 use Rattle.std.specs.Str.{bytes_eq}
 use Rattle.std.specs.Str.Parse.{AllDigits, IsNumeral, digits_value}
@@ -168,8 +168,8 @@ suffix_sound s x e =
     asks_at s [] suffix.Long x _ (is_long s) (either s suffix.Long _ _ (is_word s (codes "l") suffix.Long (λ d. with_l (plain_of d))) (is_word s (codes "ll") suffix.Long (λ d. with_ll (plain_of d)))) (
     asks_at s [] suffix.UnsignedLong x _ (is_unsigned_long s)
     (either s suffix.UnsignedLong _ _
-        (either s suffix.UnsignedLong _ _ (is_word s (codes "ul") suffix.UnsignedLong (λ d. with_ul (plain_of d))) (is_word s (codes "lu") suffix.UnsignedLong (λ d. with_lu (plain_of d))))
-        (either s suffix.UnsignedLong _ _ (is_word s (codes "ull") suffix.UnsignedLong (λ d. with_ull (plain_of d))) (is_word s (codes "llu") suffix.UnsignedLong (λ d. with_llu (plain_of d)))))
+    (either s suffix.UnsignedLong _ _ (is_word s (codes "ul") suffix.UnsignedLong (λ d. with_ul (plain_of d))) (is_word s (codes "lu") suffix.UnsignedLong (λ d. with_lu (plain_of d))))
+    (either s suffix.UnsignedLong _ _ (is_word s (codes "ull") suffix.UnsignedLong (λ d. with_ull (plain_of d))) (is_word s (codes "llu") suffix.UnsignedLong (λ d. with_llu (plain_of d)))))
     (λ f. absurd cc)))) e
 
 -- the row of a suffix

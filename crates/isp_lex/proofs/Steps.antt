@@ -1,14 +1,10 @@
 -- What a text begins with: one function finds it, and finds nothing else.
-use Rattle.std.proofs.Common.{◌≡◌, ℕ, suc, ◌+◌, ◌<◌, Bool, true, false, cond, List, [], ◌∷◌, ◌++◌, length, take, drop, Option, Some, None, refl, sym, ap, subst, ◌∙◌, arith, length-append, append_assoc}
-use Rattle.std.specs.Prelude.{◌==◌, ◌||◌, codes}
-use Rattle.std.specs.Char.{digit_value, encode_utf8, is_ascii_digit}
-use Rattle.std.specs.Str.Parse.{AllDigits}
-use Rattle.std.proofs.lemmas.Str.Parse.{digit_from_value}
+use Rattle.std.proofs.Common.{◌≡◌, ℕ, suc, ◌<◌, Bool, true, false, cond, List, [], ◌∷◌, ◌++◌, length, take, drop, Option, Some, None, refl, sym, ap, subst, ◌∙◌, arith, length-append, append_assoc}
+use Rattle.std.specs.Prelude.{◌==◌, ◌||◌}
+use Rattle.std.specs.Char.{encode_utf8, is_ascii_digit}
 use Rattle.std.proofs.lemmas.Bool.{false≢true, eqb-true}
-use Rattle.std.proofs.lemmas.Bool.Decides.{nat_tests}
 use Rattle.std.proofs.lemmas.List.{take_at}
 use Rattle.isp_base.specs.declared.types.Value.{Value}
-use Rattle.isp_base.specs.declared.types.Elem.{Elem}
 use Rattle.isp_lex.specs.declared.fault.Fault.{Fault}
 use Rattle.isp_lex.specs.declared.piece.Piece.{Piece}
 use Rattle.isp_lex.specs.declared.token.Mark.{Mark}
@@ -17,15 +13,15 @@ use Rattle.isp_lex.specs.declared.token.TokenKind.{TokenKind}
 use Rattle.isp_lex.specs.declared.token.TokenKind.TheVariants as kind
 use Rattle.isp_lex.specs.Bytes.{all, begins, is_blank, is_letter, is_line_byte, is_word_byte, next_is}
 use Rattle.isp_lex.specs.Lexing.{BeginsNothing, IsComment, line, closed, IsFault, bad_byte, bad_number, bad_text, bad_escape, open_comment, IsText, IsWhole, IsWord, opens}
-use Rattle.isp_lex.specs.Numbers.{IsDigits, decimal, hexadecimal, binary, IsNumber}
-use Rattle.isp_lex.specs.Reading.{number_of, number_piece, run, run_of, run_piece, sign_of, word_kind}
+use Rattle.isp_lex.specs.Numbers.{IsNumber}
+use Rattle.isp_lex.specs.Reading.{number_of, run, run_of, run_piece, sign_of, word_kind}
 use Rattle.isp_lex.specs.Spelling.{spelling}
 use Rattle.isp_lex.specs.Texts.{Decodes, IsQuoted}
 use Rattle.isp_lex.proofs.Classes.{digit_word, letter_word, letter_no_digit, blank_no_word, begins_word}
 use Rattle.isp_lex.proofs.CommentLaws.{close, closed_some, open_none}
 use Rattle.isp_lex.proofs.NumberLaws.{number_sound, number_complete, number_starts, number_word_bytes}
 use Rattle.isp_lex.proofs.Runs.{run_is}
-use Rattle.isp_lex.proofs.SignLaws.{sign_at, sign_complete, sign_sound}
+use Rattle.isp_lex.proofs.SignLaws.{sign_complete, sign_sound}
 use Rattle.isp_lex.proofs.Spellings.{mark_some}
 use Rattle.isp_lex.proofs.TextLaws.{text_at, text_stops, text_stops_escape, text_whole}
 use Rattle.isp_lex.proofs.Words.{free_kind, left_word, left_found}

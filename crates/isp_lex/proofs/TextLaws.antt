@@ -1,21 +1,18 @@
 -- Texts in quotes.
-use Rattle.std.proofs.Common.{◌≡◌, ℕ, suc, ◌+◌, ◌<◌, ◌≤◌, Bool, true, false, cond, List, [], ◌∷◌, ◌++◌, length, get_or, take, drop, Option, Some, None, refl, sym, ap, subst, ◌∙◌, arith, length-append, length-drop, append_assoc}
-use Rattle.std.specs.Prelude.{◌==◌, ◌&&◌, ◌||◌, codes}
-use Rattle.std.specs.Str.{IsUtf8, IsCharBoundary}
+use Rattle.std.proofs.Common.{◌≡◌, ℕ, suc, ◌+◌, ◌<◌, ◌≤◌, Bool, true, false, cond, List, [], ◌∷◌, ◌++◌, length, get_or, drop, Option, Some, None, refl, sym, ap, subst, ◌∙◌, arith, length-append, length-drop, append_assoc}
+use Rattle.std.specs.Prelude.{◌==◌, ◌||◌}
 use Rattle.std.proofs.lemmas.Bool.{false≢true, eqb-true}
 use Rattle.std.proofs.lemmas.Bool.Decides.{nat_tests}
-use Rattle.std.proofs.lemmas.List.{append-nil, drop-drop, drop_at, get_or-drop}
+use Rattle.std.proofs.lemmas.List.{append-nil, drop-drop, get_or-drop}
 use Rattle.std.proofs.lemmas.Str.{IsCharBoundary-after_ascii}
 use Rattle.isp_lex.specs.declared.fault.Rule.TheVariants.{BadText}
-use Rattle.isp_lex.specs.declared.piece.Piece.{Piece}
-use Rattle.isp_lex.specs.declared.quotes.Said.{Said}
 use Rattle.isp_lex.specs.declared.quotes.Said.TheVariants as said
 use Rattle.isp_lex.specs.declared.token.TokenKind.TheVariants as kind
-use Rattle.isp_lex.specs.Bytes.{begins, is_word_byte, next_is}
+use Rattle.isp_lex.specs.Bytes.{begins, next_is}
 use Rattle.isp_lex.specs.Faults.{fault}
 use Rattle.isp_lex.specs.Lexing.{IsFault, bad_text, bad_escape, IsWhole, span}
 use Rattle.isp_lex.specs.Reading.{Front, Says, escape_at, escape_of, said_at}
-use Rattle.isp_lex.specs.Texts.{Decodes, nothing, plain, escape, IsQuoted, escaped, goes_on, is_escape, is_plain, is_some}
+use Rattle.isp_lex.specs.Texts.{Decodes, nothing, plain, escape, escaped, goes_on, is_escape, is_plain, is_some}
 use Rattle.isp_lex.proofs.Spellings.{mark_begins, mark_quote}
 
 -- what a text says from a place on, where it is closed, and how many bytes there are up to its end with it; a backslash
@@ -263,7 +260,7 @@ pub says_closed : (text : List ℕ) (at : ℕ) (bytes : List ℕ) → Says text 
 says_closed text at bytes s e =
     let q : drop at text ≡ 34 ∷ drop (at + 1) text = quote_split (drop at text) e ∙ ap (λ (l : List ℕ). 34 ∷ l) (drop-drop 1 at text) in
     let w : text ≡ (34 ∷ (s.body ++ 34 ∷ [])) ++ drop (at + 1) text =
-        s.split ∙ ap (λ (l : List ℕ). 34 ∷ (s.body ++ l)) q ∙ ap (λ (l : List ℕ). 34 ∷ l) (sym (append_assoc s.body (34 ∷ []) (drop (at + 1) text))) in
+    s.split ∙ ap (λ (l : List ℕ). 34 ∷ (s.body ++ l)) q ∙ ap (λ (l : List ℕ). 34 ∷ l) (sym (append_assoc s.body (34 ∷ []) (drop (at + 1) text))) in
     let first : get_or text at 0 ≡ 34 = first_at text at (drop (at + 1) text) q in
     let low : at < length text = omega (arith, s.size, ap length w, length-append (34 ∷ (s.body ++ 34 ∷ [])) (drop (at + 1) text), length-append s.body (34 ∷ [])) in
     record {

@@ -12,7 +12,7 @@ use crate::bytes::{is_blank, is_word_byte, rest, run_len};
 use crate::comments::comment;
 use crate::fault::{Rule, SourceFault};
 use crate::numbers::number;
-use crate::piece::{keep, refused, Piece};
+use crate::piece::{Piece, keep, refused};
 use crate::quotes::quoted;
 use crate::reserved::reserved;
 use crate::signs::sign;

@@ -6,7 +6,7 @@ ghost use Rattle.isp_lex.specs.Bytes.{all};
 ghost use Rattle.isp_lex.specs.Reading.{digits_of, first_type, is_long, is_prefixed, is_unsigned_long, lower, number_of, numeral, suffix_of, types_of};
 
 use crate::bytes::{digits_len, has};
-use isp_base::{greatest_of, Elem, Value};
+use isp_base::{Elem, Value, greatest_of};
 
 /// The digits of a number.
 #[derive(Clone, Copy)]

@@ -6,7 +6,7 @@ ghost use Rattle.isp_lex.specs.Texts as class;
 
 use crate::bytes::{has, rest};
 use crate::fault::{Rule, SourceFault};
-use crate::piece::{refused, Piece};
+use crate::piece::{Piece, refused};
 use crate::text::Text;
 use crate::token::TokenKind;
 use std::alloc::Global;

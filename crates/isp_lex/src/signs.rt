@@ -28,7 +28,14 @@ fn doubled(byte: u8, rest: &[u8], short: Mark, long: Mark, double: Mark) -> (Mar
 }
 
 /// The same, or the sign that has the byte twice and then `=`.
-fn shifted(byte: u8, rest: &[u8], short: Mark, long: Mark, double: Mark, longest: Mark) -> (Mark, usize)
+fn shifted(
+    byte: u8,
+    rest: &[u8],
+    short: Mark,
+    long: Mark,
+    double: Mark,
+    longest: Mark,
+) -> (Mark, usize)
     ensures { result ≡ shifted byte rest.now short long double longest }
 {
     if !has(rest, 0, byte) {
@@ -87,8 +94,22 @@ pub(crate) fn sign(byte: u8, rest: &[u8]) -> Option<(Mark, usize)>
         b'-' => doubled(b'-', rest, Mark::Minus, Mark::MinusAssign, Mark::Decrement),
         b'&' => doubled(b'&', rest, Mark::And, Mark::AndAssign, Mark::AndAnd),
         b'|' => doubled(b'|', rest, Mark::Or, Mark::OrAssign, Mark::OrOr),
-        b'<' => shifted(b'<', rest, Mark::Less, Mark::LessEqual, Mark::ShiftLeft, Mark::ShiftLeftAssign),
-        b'>' => shifted(b'>', rest, Mark::Greater, Mark::GreaterEqual, Mark::ShiftRight, Mark::ShiftRightAssign),
+        b'<' => shifted(
+            b'<',
+            rest,
+            Mark::Less,
+            Mark::LessEqual,
+            Mark::ShiftLeft,
+            Mark::ShiftLeftAssign,
+        ),
+        b'>' => shifted(
+            b'>',
+            rest,
+            Mark::Greater,
+            Mark::GreaterEqual,
+            Mark::ShiftRight,
+            Mark::ShiftRightAssign,
+        ),
         b'.' => return dots(rest),
         _ => return Some((single(byte)?, 1)),
     })

@@ -1,4 +1,4 @@
-use Rattle.std.proofs.Common.{◌≡◌, ◌+◌, ◌≤◌, true, length, drop, ap, arith, rules, length-drop}
+use Rattle.std.proofs.Common.{◌≡◌, true, length, drop, ap, arith, rules}
 use Rattle.isp_lex.specs.Bytes.{is_line_byte, next_is}
 use Rattle.isp_lex.specs.Reading.{run}
 use Rattle.isp_lex.proofs.CommentLaws.{closed_front, line_front, open_cut, open_fault, two_split}
