@@ -60,7 +60,7 @@ line_feed_at b true e h = eqb-true b 10 e
 line_feed_at b false e h = absurd (false≢true (sym h))
 
 -- a text may be cut where a line ends
-line_cut : (text : List ℕ) (at : ℕ) (rest : List ℕ) → at ≤ length text → drop at text ≡ rest → begins is_line_byte rest ≡ false → IsCharBoundary text at
+pub line_cut : (text : List ℕ) (at : ℕ) (rest : List ℕ) → at ≤ length text → drop at text ≡ rest → begins is_line_byte rest ≡ false → IsCharBoundary text at
 line_cut text at [] l e h =
     let n : length text ≡ at = omega (arith, ap length e, length-drop at text) in
     subst (IsCharBoundary text) n (IsCharBoundary-end text)

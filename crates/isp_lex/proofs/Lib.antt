@@ -10,4 +10,6 @@ pub mod SignLaws
 pub mod Spellings
 pub mod Steps
 pub mod TextLaws
+pub mod TextStops
+pub mod TokenCuts
 pub mod Words

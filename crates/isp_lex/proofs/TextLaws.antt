@@ -97,7 +97,7 @@ text_stops_escape {body} {bytes} d rest e = text_over d (92 ∷ rest) ∙ ap (ov
 
 -- what is said bit by bit
 
-decodes_more : {a x : List ℕ} → Decodes a x → (b y : List ℕ) → Decodes b y → Decodes (a ++ b) (x ++ y)
+pub decodes_more : {a x : List ℕ} → Decodes a x → (b y : List ℕ) → Decodes b y → Decodes (a ++ b) (x ++ y)
 decodes_more nothing b y e = e
 decodes_more (plain c a x h d) b y e = plain c (a ++ b) (x ++ y) h (decodes_more d b y e)
 decodes_more (escape c s a x h d) b y e = escape c s (a ++ b) (x ++ y) h (decodes_more d b y e)

@@ -15,7 +15,7 @@ use Rattle.isp_lex.specs.Bytes.{is_blank, is_letter, is_word_byte, is_line_byte,
 use Rattle.isp_lex.specs.Faults.{fault}
 use Rattle.isp_lex.specs.Numbers.{IsNumber}
 use Rattle.isp_lex.specs.Spelling.{spelling, left_out, Among, IsReserved}
-use Rattle.isp_lex.specs.Texts.{Decodes, IsQuoted, goes_on, is_escape}
+use Rattle.isp_lex.specs.Texts.{Decodes, IsQuoted, StopsBefore, goes_on, is_escape}
 
 -- a letter or `_`, then letters, digits and `_`
 abbrev pub IsWord : List ℕ → Type 0
@@ -90,6 +90,11 @@ pub data IsFault : ℕ → List ℕ → Fault → Type 0 where
       → IsFault place ((codes "\"" ++ (body ++ codes "\\")) ++ rest) (fault BadText (span place (length (codes "\"" ++ (body ++ codes "\\")))))
   open_comment : (place : ℕ) (text : List ℕ) → IsOpen text
       → IsFault place (codes "/*" ++ text) (fault OpenComment (span place (length (codes "/*" ++ text))))
+
+-- the place of the fault is a text in quotes up to where it goes on no further
+abbrev pub IsStopped : ℕ → List ℕ → Fault → Type 0
+IsStopped place text f =
+    (front : List ℕ) × (rest : List ℕ) × (text ≡ front ++ rest) × (f.span ≡ span place (length front)) × StopsBefore front rest
 
 -- how many bytes a source may have
 abbrev pub limit : ℕ

@@ -1,4 +1,5 @@
 pub mod Bytes
+pub mod Cuts
 pub mod Faults
 pub mod Lexing
 pub mod Numbers

@@ -35,3 +35,10 @@ is_some (Some b) = true
 
 abbrev pub is_escape : ℕ → Bool
 is_escape b = is_some (escaped b)
+
+-- A text in quotes goes on up to the rest and no further: some text begins so, none is whole here, and none goes on with
+-- the next byte.
+pub record StopsBefore (front rest : List ℕ) : Type 0 where
+  pub begun : (more : List ℕ) × (bytes : List ℕ) × IsQuoted bytes (front ++ more)
+  pub unfinished : (bytes : List ℕ) → IsQuoted bytes front → ⊥
+  pub no_further : (b : ℕ) (after more bytes : List ℕ) → rest ≡ b ∷ after → IsQuoted bytes (front ++ b ∷ more) → ⊥
