@@ -1,21 +1,23 @@
 -- A text has one list of tokens, or a fault.
-use Rattle.std.proofs.Common.{◌≡◌, ℕ, zero, suc, ◌+◌, ◌-◌, ◌<◌, ◌≤◌, List, [], ◌∷◌, ◌++◌, length, take, drop, Option, Some, None, refl, sym, ap, subst, ◌∙◌, arith, length-append, append_assoc}
+use Rattle.std.proofs.Common.{◌≡◌, ℕ, zero, suc, ◌+◌, ◌-◌, ◌<◌, ◌≤◌, List, [], ◌∷◌, ◌++◌, length, take, drop, Option, Some, None, refl, sym, ap, subst, ◌∙◌, arith, length-append, append_assoc, inl, inr}
 use Rattle.std.specs.Prelude.{option_map}
 use Rattle.std.proofs.lemmas.List.{append-nil, drop_at, take_at}
 use Rattle.std.specs.List.{All}
 use Rattle.std.proofs.lemmas.List.Elements.{All-nil, All-cons}
 use Rattle.isp_lex.specs.declared.fault.Fault.{Fault}
-use Rattle.isp_lex.specs.declared.lexer.Piece.{Piece}
+use Rattle.isp_lex.specs.declared.piece.Piece.{Piece}
 use Rattle.isp_lex.specs.declared.token.Token.{Token}
 use Rattle.isp_lex.specs.declared.token.TokenKind.{TokenKind}
-use Rattle.isp_lex.specs.Lexing.{IsFault, IsText, Lexes, done, blank, token, slice, span}
-use Rattle.isp_lex.specs.Reading.{step, with_piece, with_token}
-use Rattle.isp_lex.proofs.Steps.{Front, Passes, front_drop, no_text, step_blank, step_token, step_fault}
+use Rattle.isp_lex.specs.Lexing.{IsFault, IsText, Lexes, done, blank, comment, token, slice, span}
+use Rattle.isp_lex.specs.Reading.{Front, Passes, with_piece, with_token}
+use Rattle.isp_lex.proofs.Fronts.{front_drop}
+use Rattle.isp_lex.proofs.Steps.{comment_some, no_text, step, step_blank, step_comment, step_token, step_fault}
 
 -- the rest is not longer
 pub rest_le : {place : ℕ} {text : List ℕ} {ts : List Token} {rest : List ℕ} → Lexes place text ts rest → length rest ≤ length text
 rest_le (done place rest) = omega arith
 rest_le (blank place b text ts rest e d) = omega (arith, rest_le d)
+rest_le (comment place text after ts rest i d) = omega (arith, rest_le d, length-append text after)
 rest_le (token place k text after ts rest i w d) = omega (arith, rest_le d, length-append text after)
 
 -- tokens, and more from where they end
@@ -23,12 +25,17 @@ pub join : {place : ℕ} {text : List ℕ} {ts : List Token} {mid : List ℕ} �
     → {us : List Token} {rest : List ℕ} → Lexes end mid us rest → Lexes place text (ts ++ us) rest
 join (done place mid) end e {us} {rest} d = subst (λ (n : ℕ). Lexes n mid us rest) (omega arith) d
 join (blank place b text ts mid e i) end q {us} {rest} d = blank place b text (ts ++ us) rest e (join i end (omega arith) d)
+join (comment place text after ts mid i j) end q {us} {rest} d =
+    comment place text after (ts ++ us) rest i (join j end (omega (arith, length-append text after)) d)
 join (token place k text after ts mid i w j) end q {us} {rest} d =
     token place k text after (ts ++ us) rest i w (join j end (omega (arith, length-append text after)) d)
 
 one_more : (place : ℕ) (t : Option TokenKind) (n : ℕ) (text after : List ℕ) → length text ≡ n → Passes t text after → Lexes place (text ++ after) (with_token [] place t n) after
 one_more place None n text after l h =
-    subst (λ (x : List ℕ). Lexes place (x ++ after) [] after) (sym h.1) (blank place h.0 after [] after h.2 (done (place + 1) after))
+    elim h [
+      | inl b ↦ subst (λ (x : List ℕ). Lexes place (x ++ after) [] after) (sym b.1) (blank place b.0 after [] after b.2 (done (place + 1) after))
+      | inr c ↦ comment place text after [] after c (done (place + length text) after)
+    ]
 one_more place (Some k) n text after l h =
     subst (λ (m : ℕ). Lexes place (text ++ after) (record { kind = k; span = span place m } ∷ []) after) l
     (token place k text after [] after h.0 h.1 (done (place + length text) after))
@@ -82,6 +89,14 @@ unfolding lex_at next_at put_token
 lexes_give (done place rest) o h f le = h f place le ∙ behind_nil o
 lexes_give (blank place b text ts rest e d) o h zero le = absurd (omega arith)
 lexes_give (blank place b text ts rest e d) o h (suc f) le = rw (step_blank b text e) (lexes_give d o h f (omega arith))
+lexes_give (comment place [] after ts rest i d) o h f le = absurd (omega (arith, comment_some i))
+lexes_give (comment place (b ∷ text) after ts rest i d) o h zero le = absurd (omega arith)
+lexes_give (comment place (b ∷ text) after ts rest i d) o h (suc f) le =
+    let r = lexes_give d o h f (omega (arith, length-append text after)) in
+    let p = drop_at (b ∷ text) after (length (b ∷ text)) refl in
+    ap (next_at (lex_at f) place (b ∷ (text ++ after))) (step_comment i)
+    ∙ ap (λ (l : List ℕ). lex_at f (place + suc (length text)) l) p
+    ∙ r
 lexes_give (token place k [] after ts rest i w d) o h f le = absurd (no_text k i)
 lexes_give (token place k (b ∷ text) after ts rest i w d) o h zero le = absurd (omega arith)
 lexes_give (token place k (b ∷ text) after ts rest i w d) o h (suc f) le =
@@ -131,6 +146,8 @@ slices_at : {place : ℕ} {text : List ℕ} {ts : List Token} {rest : List ℕ} 
 slices_at (done place rest) front e = All-nil _
 slices_at (blank place b text ts rest h d) front e =
     subst (λ (l : List ℕ). All (Sliced l) ts) (append_assoc front (b ∷ []) text) (slices_at d (front ++ b ∷ []) (omega (arith, length-append front (b ∷ []))))
+slices_at (comment place text after ts rest i d) front e =
+    subst (λ (l : List ℕ). All (Sliced l) ts) (append_assoc front text after) (slices_at d (front ++ text) (omega (arith, length-append front text)))
 slices_at (token place k text after ts rest i w d) front e =
     let more = subst (λ (l : List ℕ). All (Sliced l) ts) (append_assoc front text after) (slices_at d (front ++ text) (omega (arith, length-append front text))) in
     let here = subst (IsText k) (sym (slice_here front text after place e)) i in

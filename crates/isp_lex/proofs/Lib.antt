@@ -1,7 +1,15 @@
+pub mod Classes
+pub mod CommentLaws
+pub mod Fronts
 pub mod Lexed
 pub mod Marks
-pub mod Numbers
+pub mod NumberLaws
 pub mod Numerals
 pub mod Runs
-pub mod Words
+pub mod SignLaws
+pub mod Spellings
 pub mod Steps
+pub mod TextLaws
+pub mod TextStops
+pub mod TokenCuts
+pub mod Words

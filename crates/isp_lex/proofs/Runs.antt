@@ -1,7 +1,8 @@
 -- A run at the front of a text.
-use Rattle.std.proofs.Common.{◌≡◌, ℕ, suc, ◌<◌, ◌≤◌, Bool, true, false, cond, List, [], ◌∷◌, ◌++◌, length, take, drop, refl, arith}
+use Rattle.std.proofs.Common.{◌≡◌, ℕ, zero, suc, ◌<◌, ◌≤◌, Bool, true, false, cond, List, [], ◌∷◌, ◌++◌, length, take, drop, refl, arith}
 use Rattle.std.specs.Prelude.{◌&&◌}
 use Rattle.std.specs.Str.{IsUtf8, IsAscii, IsCharBoundary}
+use Rattle.std.proofs.Math.Seq.{take-nil, drop-nil}
 use Rattle.std.proofs.lemmas.Bool.Decides.{nat_tests}
 use Rattle.std.proofs.lemmas.Str.{IsUtf8-from_ascii, IsCharBoundary-from_take}
 use Rattle.std.proofs.lemmas.Str.Ascii.{IsAscii-nil, IsAscii-cons}
@@ -66,3 +67,25 @@ words_ascii (b ∷ bs) h =
 pub run_boundary : (bs : List ℕ) → IsUtf8 bs → IsCharBoundary bs (run is_word_byte bs)
 run_boundary bs u =
     IsCharBoundary-from_take bs (run is_word_byte bs) u (run_le is_word_byte bs) (IsUtf8-from_ascii _ (words_ascii _ (run_all is_word_byte bs)))
+
+-- a front of bytes that pass the test
+pub all_take : (p : ℕ → Bool) (n : ℕ) (bs : List ℕ) → all p bs ≡ true → all p (take n bs) ≡ true
+all_take p n [] h = rw (take-nil n) refl
+all_take p zero (b ∷ bs) h = refl
+all_take p (suc n) (b ∷ bs) h = let q = and_both (p b) (all p bs) h in rw (q.0, all_take p n bs q.1) refl
+
+pub all_drop : (p : ℕ → Bool) (n : ℕ) (bs : List ℕ) → all p bs ≡ true → all p (drop n bs) ≡ true
+all_drop p n [] h = rw (drop-nil n) refl
+all_drop p zero (b ∷ bs) h = h
+all_drop p (suc n) (b ∷ bs) h = all_drop p n bs (and_both (p b) (all p bs) h).1
+
+-- the run is no shorter than what passes at the front
+pub run_ge : (p : ℕ → Bool) (a rest : List ℕ) → all p a ≡ true → length a ≤ run p (a ++ rest)
+run_ge p [] rest h = omega arith
+run_ge p (b ∷ a) rest h =
+    let q = and_both (p b) (all p a) h in
+    rw q.0 (omega (arith, run_ge p a rest q.1))
+
+pub all_both : (p : ℕ → Bool) (a b : List ℕ) → all p a ≡ true → all p b ≡ true → all p (a ++ b) ≡ true
+all_both p [] b h k = k
+all_both p (x ∷ a) b h k = let q = and_both (p x) (all p a) h in rw (q.0, all_both p a b q.1 k) refl

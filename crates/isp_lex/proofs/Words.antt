@@ -34,12 +34,14 @@ any_among (w ∷ ws) word e = any_at w ws word (bytes_eq word w) refl (any_among
 abbrev IsKept : TokenKind → List ℕ → Type 0
 IsKept (kind.Word w) word = ⊥
 IsKept (kind.Number v) word = ⊥
+IsKept (kind.Text t) word = ⊥
 IsKept (kind.Mark m) word = word ≡ spelling m
 IsKept kind.LeftOut word = Among left_out word
 
 kept_text : (k : TokenKind) (word : List ℕ) → IsKept k word → IsText k word
 kept_text (kind.Word w) word h = absurd h
 kept_text (kind.Number v) word h = absurd h
+kept_text (kind.Text t) word h = absurd h
 kept_text (kind.Mark m) word h = h
 kept_text kind.LeftOut word h = h
 
@@ -97,58 +99,50 @@ mark_found mark.BracketOpen i = absurd (false≢true i.0)
 mark_found mark.BracketClose i = absurd (false≢true i.0)
 mark_found mark.Semicolon i = absurd (false≢true i.0)
 mark_found mark.Comma i = absurd (false≢true i.0)
+mark_found mark.Question i = absurd (false≢true i.0)
+mark_found mark.Colon i = absurd (false≢true i.0)
+mark_found mark.Ellipsis i = absurd (false≢true i.0)
 mark_found mark.Assign i = absurd (false≢true i.0)
+mark_found mark.Equal i = absurd (false≢true i.0)
+mark_found mark.NotEqual i = absurd (false≢true i.0)
+mark_found mark.Less i = absurd (false≢true i.0)
+mark_found mark.LessEqual i = absurd (false≢true i.0)
+mark_found mark.Greater i = absurd (false≢true i.0)
+mark_found mark.GreaterEqual i = absurd (false≢true i.0)
+mark_found mark.ShiftLeft i = absurd (false≢true i.0)
+mark_found mark.ShiftRight i = absurd (false≢true i.0)
+mark_found mark.ShiftLeftAssign i = absurd (false≢true i.0)
+mark_found mark.ShiftRightAssign i = absurd (false≢true i.0)
 mark_found mark.Plus i = absurd (false≢true i.0)
+mark_found mark.Increment i = absurd (false≢true i.0)
+mark_found mark.PlusAssign i = absurd (false≢true i.0)
 mark_found mark.Minus i = absurd (false≢true i.0)
+mark_found mark.Decrement i = absurd (false≢true i.0)
+mark_found mark.MinusAssign i = absurd (false≢true i.0)
 mark_found mark.Star i = absurd (false≢true i.0)
-mark_found mark.Void i = refl
-mark_found mark.Bool i = refl
-mark_found mark.Int i = refl
-mark_found mark.Int8 i = refl
-mark_found mark.Int16 i = refl
-mark_found mark.Int32 i = refl
-mark_found mark.Int64 i = refl
-mark_found mark.Uint i = refl
-mark_found mark.Uint8 i = refl
-mark_found mark.Uint16 i = refl
-mark_found mark.Uint32 i = refl
-mark_found mark.Uint64 i = refl
-mark_found mark.Signed i = refl
-mark_found mark.Unsigned i = refl
-mark_found mark.Const i = refl
-mark_found mark.Uniform i = refl
-mark_found mark.Varying i = refl
-mark_found mark.Export i = refl
-mark_found mark.Static i = refl
-mark_found mark.Inline i = refl
-mark_found mark.If i = refl
-mark_found mark.Cif i = refl
-mark_found mark.Else i = refl
-mark_found mark.While i = refl
-mark_found mark.Cwhile i = refl
-mark_found mark.Do i = refl
-mark_found mark.Cdo i = refl
-mark_found mark.For i = refl
-mark_found mark.Cfor i = refl
-mark_found mark.Foreach i = refl
-mark_found mark.ForeachTiled i = refl
-mark_found mark.ForeachActive i = refl
-mark_found mark.Unmasked i = refl
-mark_found mark.Break i = refl
-mark_found mark.Continue i = refl
-mark_found mark.Return i = refl
-mark_found mark.Print i = refl
-mark_found mark.Assert i = refl
-mark_found mark.True i = refl
-mark_found mark.False i = refl
-mark_found mark.ProgramIndex i = refl
-mark_found mark.ProgramCount i = refl
+mark_found mark.StarAssign i = absurd (false≢true i.0)
+mark_found mark.Slash i = absurd (false≢true i.0)
+mark_found mark.SlashAssign i = absurd (false≢true i.0)
+mark_found mark.Percent i = absurd (false≢true i.0)
+mark_found mark.PercentAssign i = absurd (false≢true i.0)
+mark_found mark.And i = absurd (false≢true i.0)
+mark_found mark.AndAnd i = absurd (false≢true i.0)
+mark_found mark.AndAssign i = absurd (false≢true i.0)
+mark_found mark.Or i = absurd (false≢true i.0)
+mark_found mark.OrOr i = absurd (false≢true i.0)
+mark_found mark.OrAssign i = absurd (false≢true i.0)
+mark_found mark.Xor i = absurd (false≢true i.0)
+mark_found mark.XorAssign i = absurd (false≢true i.0)
+mark_found mark.Inverse i = absurd (false≢true i.0)
+mark_found mark.Not i = absurd (false≢true i.0)
+mark_found m i = refl
 
 -- the look-up answers that the word is left out
 abbrev is_left : Option TokenKind → Bool
 is_left None = false
 is_left (Some (kind.Word w)) = false
 is_left (Some (kind.Number v)) = false
+is_left (Some (kind.Text t)) = false
 is_left (Some (kind.Mark m)) = false
 is_left (Some kind.LeftOut) = true
 
@@ -156,6 +150,7 @@ is_left_is : (o : Option TokenKind) → is_left o ≡ true → o ≡ Some kind.L
 is_left_is None e = absurd (false≢true e)
 is_left_is (Some (kind.Word w)) e = absurd (false≢true e)
 is_left_is (Some (kind.Number v)) e = absurd (false≢true e)
+is_left_is (Some (kind.Text t)) e = absurd (false≢true e)
 is_left_is (Some (kind.Mark m)) e = absurd (false≢true e)
 is_left_is (Some kind.LeftOut) e = refl
 
@@ -194,6 +189,7 @@ free_at : (word : List ℕ) (o : Option TokenKind) → reserved word ≡ o → (
 free_at word None e h = refl
 free_at word (Some (kind.Word w)) e h = absurd (reserved_kept word (kind.Word w) e)
 free_at word (Some (kind.Number v)) e h = absurd (reserved_kept word (kind.Number v) e)
+free_at word (Some (kind.Text t)) e h = absurd (reserved_kept word (kind.Text t) e)
 free_at word (Some (kind.Mark m)) e h = absurd (h (inl (m, reserved_kept word (kind.Mark m) e)))
 free_at word (Some kind.LeftOut) e h = absurd (h (inr (reserved_kept word kind.LeftOut e)))
 

@@ -1,89 +1,37 @@
 //! From a text to its tokens.
-ghost use Rattle.std.specs.Prelude.{◌≡◌, ◌<◌, ◌≤◌, ◌+◌, ◌^◌, List, [], length, IfOk, IfErr, MatchResult, OnOk, Some, true, ℕ};
-ghost use Rattle.isp_lex.specs.Lexing.{BeginsNothing, IsRefused, IsText, Lexes, limit, slice};
+ghost use Rattle.std.specs.Prelude.{◌≡◌, ◌<◌, ◌≤◌, ◌+◌, ◌^◌, List, [], length, IfOk, IfErr, MatchResult, Some, true, ℕ};
+ghost use Rattle.isp_lex.specs.Lexing.{BeginsNothing, IsFault, IsRefused, IsStopped, IsText, Lexes, limit, slice};
 ghost use Rattle.std.specs.List.{All};
-ghost use Rattle.isp_lex.specs.Reading.{NoNumber, StopsAt, run_piece, number_of, numeral, run, run_of, sign_of, step, with_piece, word_kind};
+ghost use Rattle.std.specs.Str.{IsUtf8};
+ghost use Rattle.isp_lex.specs.Cuts.{IsCut};
+ghost use Rattle.isp_lex.specs.Reading.{BeginsSign, Front, NoNumber, StopsAt, run_piece, run_of, word_kind};
 ghost use Rattle.isp_lex.specs.Bytes as class;
 ghost use Rattle.isp_lex.specs.Bytes.{all};
-ghost use Rattle.isp_lex.specs.Faults.{fault};
-ghost use Rattle.isp_lex.specs.declared.fault.SourceFault.TheVariants.{Memory, Refused};
+ghost use Rattle.isp_lex.specs.declared.fault.SourceFault.TheVariants.{Memory};
 ghost use Rattle.isp_lex.specs.declared.token.Token.{Token};
+ghost use Rattle.isp_lex.specs.declared.fault.Fault.{Fault as Broken};
+ghost use Rattle.isp_lex.specs.declared.fault.Rule.TheVariants.{BadText};
 
-use crate::fault::{Fault, Rule, SourceFault};
+use crate::bytes::{is_blank, is_word_byte, rest, run_len};
+use crate::comments::comment;
+use crate::fault::{Rule, SourceFault};
+use crate::numbers::number;
+use crate::piece::{Piece, keep, refused};
+use crate::quotes::quoted;
 use crate::reserved::reserved;
-use crate::token::{Mark, Token, TokenKind, Tokens};
-use isp_base::{Elem, Name, Span, Value};
+use crate::signs::sign;
+use crate::token::{TokenKind, Tokens};
+use isp_base::Name;
 use std::alloc::{AllocError, Global};
 
 /// The greatest length of a source text in bytes.
 const SOURCE_LIMIT: usize = 1_048_576;
-
-/// What a text begins with, and its length in bytes.
-#[derive(Drop)]
-struct Piece {
-    /// `None` for what is passed over.
-    token: Option<TokenKind>,
-    len: usize,
-}
-
-fn refused(rule: Rule, start: usize, end: usize) -> SourceFault
-    ensures { result ≡ Refused (fault rule (record { start = start; end = end })) }
-{
-    SourceFault::Refused(Fault {
-        rule,
-        span: Span { start, end },
-    })
-}
-
-fn is_blank(byte: u8) -> bool
-    ensures { result ≡ class.is_blank byte }
-{
-    matches!(byte, b' ' | b'\t' | b'\r' | b'\n')
-}
-
-fn is_word_byte(byte: u8) -> bool
-    ensures { result ≡ class.is_word_byte byte }
-{
-    byte.is_ascii_alphanumeric() || byte == b'_'
-}
-
-/// The length of the run of letters, digits and `_` that a text begins with.
-fn run_len(text: &[u8]) -> usize
-    ensures { result ≡ run class.is_word_byte text.now }
-{
-    let mut len = 0;
-    while len < text.len() && is_word_byte(text[len]) {
-        len += 1;
-    }
-    len
-}
 
 /// The letters, digits and `_` that a text begins with.
 fn first_run(text: &str) -> &str
     ensures { result.now ≡ run_of text.now }
 {
     &text[..run_len(text.as_bytes())]
-}
-
-/// The sign that a byte is.
-fn sign(byte: u8) -> Option<Mark>
-    ensures { result ≡ sign_of byte }
-{
-    Some(match byte {
-        b'(' => Mark::ParenOpen,
-        b')' => Mark::ParenClose,
-        b'{' => Mark::BraceOpen,
-        b'}' => Mark::BraceClose,
-        b'[' => Mark::BracketOpen,
-        b']' => Mark::BracketClose,
-        b';' => Mark::Semicolon,
-        b',' => Mark::Comma,
-        b'=' => Mark::Assign,
-        b'+' => Mark::Plus,
-        b'-' => Mark::Minus,
-        b'*' => Mark::Star,
-        _ => return None,
-    })
 }
 
 /// The kind of a word.
@@ -94,34 +42,6 @@ fn word(alloc: Global, text: &str) -> Result<TokenKind, AllocError>
         Some(kind) => Ok(kind),
         None => Ok(TokenKind::Word(Name::new(String::from_str(alloc, text)?))),
     }
-}
-
-/// The number that digits write, if it is below 2^64.
-fn numeral(digits: &str, radix: u32) -> Option<u64>
-    requires lower { 2 ≤ radix }
-    requires upper { radix ≤ 36 }
-    requires plain { all class.is_word_byte digits.now ≡ true }
-    ensures { result ≡ numeral radix digits.now }
-{
-    u64::from_str_radix(digits, radix).ok()
-}
-
-/// The value of a number: decimal digits that an int32 holds.
-fn number(text: &str) -> Option<Value>
-    requires { all class.is_word_byte text.now ≡ true }
-    ensures { result ≡ number_of text.now }
-{
-    if text.len() > 1 && text.as_bytes()[0] == b'0' {
-        return None;
-    }
-    let bits = numeral(text, 10)?;
-    if bits > 2_147_483_647 {
-        return None;
-    }
-    Some(Value {
-        elem: Elem::I32,
-        bits,
-    })
 }
 
 /// A number or a word that stands at a place, with nothing behind it.
@@ -161,11 +81,30 @@ fn bad_byte(text: &str, place: usize) -> SourceFault
     }
 }
 
+/// The sign that a text begins with, where it begins with nothing else and stands at a place of
+/// the source.
+fn sign_piece(text: &str, place: usize) -> Result<Piece, SourceFault>
+    requires room { place + length text.now < 2 ^ 64 }
+    requires some { 0 < length text.now }
+    requires other { BeginsSign text.now }
+    ensures ok { IfOk result (λ p. Front text.now p) }
+    ensures err { IfErr result (λ e. StopsAt place e text.now) }
+{
+    let bytes = text.as_bytes();
+    match sign(bytes[0], rest(bytes, 1)) {
+        Some((mark, len)) => Ok(Piece {
+            token: Some(TokenKind::Mark(mark)),
+            len,
+        }),
+        None => Err(bad_byte(text, place)),
+    }
+}
+
 /// What a text begins with, where it stands at a place of the source.
 fn next_piece(alloc: Global, text: &str, place: usize) -> Result<Piece, SourceFault>
     requires room { place + length text.now < 2 ^ 64 }
     requires some { 0 < length text.now }
-    ensures ok { IfOk result (λ p. step text.now ≡ Some p) }
+    ensures ok { IfOk result (λ p. Front text.now p) }
     ensures err { IfErr result (λ e. StopsAt place e text.now) }
 {
     let first = text.as_bytes()[0];
@@ -178,39 +117,23 @@ fn next_piece(alloc: Global, text: &str, place: usize) -> Result<Piece, SourceFa
     if is_word_byte(first) {
         return run_piece(alloc, first_run(text), place);
     }
-    match sign(first) {
-        Some(mark) => Ok(Piece {
-            token: Some(TokenKind::Mark(mark)),
-            len: 1,
-        }),
-        None => Err(bad_byte(text, place)),
+    if first == b'"' {
+        return quoted(alloc, text.as_bytes(), place);
     }
-}
-
-/// Adds a piece that is a token, which stands at a place.
-fn keep(tokens: &mut Vec<Token>, piece: Piece, place: usize) -> Result<(), SourceFault>
-    requires { place + piece.len < 2 ^ 64 }
-    ensures ok { OnOk result (tokens.new.items ≡ with_piece tokens.old.items place piece) }
-    ensures err { IfErr result (λ e. e ≡ Memory) }
-{
-    let len = piece.len;
-    if let Some(kind) = piece.token {
-        tokens.push(Token {
-            kind,
-            span: Span {
-                start: place,
-                end: place + len,
-            },
-        })?;
+    if first == b'/' {
+        if let Some(len) = comment(text, place)? {
+            return Ok(Piece { token: None, len });
+        }
     }
-    Ok(())
+    sign_piece(text, place)
 }
 
 /// The tokens of a source text, in their order.
 ///
 /// Faults, each with its span in bytes: 5 `TooLong` at 0..0 for a text of more than 1,048,576
-/// bytes; else the first in the text of 1 `BadByte` (the character) and 2 `BadNumber` (the run of
-/// letters, digits and `_`). 0: memory was refused.
+/// bytes; else the first in the text of 1 `BadByte` (the character), 2 `BadNumber` (the run of
+/// letters, digits and `_`), 3 `BadText` (from the quote up to the first character with which no
+/// text goes on, or to the end) and 4 `OpenComment` (to the end). 0: memory was refused.
 pub fn lex(alloc: Global, text: &str) -> Result<Tokens, SourceFault>
     ensures ok { IfOk result (λ t. Lexes 0 text.now t.items []) }
     ensures length { IfOk result (λ t. (t.end ≡ length text.now) × (length text.now ≤ limit)) }
@@ -240,4 +163,17 @@ pub fn lex(alloc: Global, text: &str) -> Result<Tokens, SourceFault>
 /// A law: no text has two lists of tokens.
 pub fn one_list()
     ensures { (text : List ℕ) (a b : List Token) → Lexes 0 text a [] → Lexes 0 text b [] → a ≡ b }
+{}
+
+/// A law: each token of a text begins and ends where a character of the text does, or at its end.
+pub fn whole_characters()
+    ensures { (text : List ℕ) (tokens : List Token) (rest : List ℕ) → IsUtf8 text → Lexes 0 text tokens rest
+        → All (IsCut text) tokens }
+{}
+
+/// A law: the place of a bad text ends at the first character with which no text goes on, or at
+/// the end.
+pub fn stopped_text()
+    ensures { (place : ℕ) (text : List ℕ) (found : Broken) → IsFault place text found → found.rule ≡ BadText
+        → IsStopped place text found }
 {}

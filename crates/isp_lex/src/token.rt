@@ -2,6 +2,7 @@
 ghost use Rattle.std.specs.Prelude.{◌≡◌};
 ghost use Rattle.isp_lex.specs.Tokens.{is_mark};
 
+use crate::text::Text;
 use isp_base::{Name, Span, Value};
 use std::marker::Model;
 
@@ -16,10 +17,42 @@ pub enum Mark {
     BracketClose,
     Semicolon,
     Comma,
+    Question,
+    Colon,
+    Ellipsis,
     Assign,
+    Equal,
+    NotEqual,
+    Less,
+    LessEqual,
+    Greater,
+    GreaterEqual,
+    ShiftLeft,
+    ShiftRight,
+    ShiftLeftAssign,
+    ShiftRightAssign,
     Plus,
+    Increment,
+    PlusAssign,
     Minus,
+    Decrement,
+    MinusAssign,
     Star,
+    StarAssign,
+    Slash,
+    SlashAssign,
+    Percent,
+    PercentAssign,
+    And,
+    AndAnd,
+    AndAssign,
+    Or,
+    OrOr,
+    OrAssign,
+    Xor,
+    XorAssign,
+    Inverse,
+    Not,
     Void,
     Bool,
     Int,
@@ -71,6 +104,8 @@ pub enum TokenKind {
     Word(Name),
     /// A number, with its type.
     Number(Value),
+    /// A text in quotes.
+    Text(Text),
     /// A sign or a reserved word.
     Mark(Mark),
     /// A word that the language leaves out.

@@ -10,6 +10,8 @@ mod fakes;
 #[cfg(test)]
 mod lanes;
 #[cfg(test)]
+mod lexer;
+#[cfg(test)]
 mod operators;
 #[cfg(test)]
 mod runs;

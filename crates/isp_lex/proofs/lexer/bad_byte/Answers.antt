@@ -1,5 +1,5 @@
 use Rattle.std.proofs.Common.{sym, ◌∙◌}
-use Rattle.isp_lex.proofs.Steps.{byte_fault}
+use Rattle.isp_lex.proofs.Fronts.{byte_fault}
 use Rattle.isp_lex.proofs.lexer.bad_byte.Goals as goal
 
 pub returns : goal.returns

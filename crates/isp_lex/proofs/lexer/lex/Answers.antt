@@ -7,7 +7,7 @@ use Rattle.isp_lex.specs.declared.fault.SourceFault.{SourceFault}
 use Rattle.isp_lex.specs.declared.fault.SourceFault.TheVariants.{Memory, Refused}
 use Rattle.isp_lex.specs.declared.token.Token.{Token}
 use Rattle.isp_lex.proofs.Lexed.{advance, one_list, no_fault, slices}
-use Rattle.isp_lex.proofs.Steps.{front_boundary, front_le, step_sound}
+use Rattle.isp_lex.proofs.Fronts.{front_le}
 use Rattle.isp_lex.proofs.lexer.lex.Goals as goal
 
 pub loop-rest-init : goal.loop-rest-init
@@ -19,18 +19,17 @@ loop-rest-init c = record {
 
 pub keep-requires : goal.keep-requires
 keep-requires c =
-    let f = step_sound c.loop-rest.rest.now c.in_ok-found.found c.in_ok-found.ensures.ok in
-    let l = front_le c.loop-rest.rest.now c.in_ok-found.found f in
+    let l = front_le c.loop-rest.rest.now c.in_ok-found.found c.in_ok-found.ensures.ok in
     omega arith
 
 pub range_from-rest-requires : goal.range_from-rest-requires
 range_from-rest-requires c = λ l.
-    let f = step_sound c.loop-rest.rest.now c.in_ok-found.found c.in_ok-found.ensures.ok in
-    front_boundary c.loop-rest.rest.now c.in_ok-found.found c.loop-rest.invariant.utf8 f
+    let f = c.in_ok-found.ensures.ok in
+    f.cut c.loop-rest.invariant.utf8
 
 pub loop-rest-smaller : goal.loop-rest-smaller
 loop-rest-smaller c =
-    let f = step_sound c.loop-rest.rest.now c.in_ok-found.found c.in_ok-found.ensures.ok in
+    let f = c.in_ok-found.ensures.ok in
     let l = front_le c.loop-rest.rest.now c.in_ok-found.found f in
     omega (arith, f.some)
 
@@ -41,7 +40,7 @@ loop-rest-preserved c = record {
   lexed =
       let text = c.args.text.now in
       let rest = c.loop-rest.rest.now in
-      let f = step_sound rest c.in_ok-found.found c.in_ok-found.ensures.ok in
+      let f = c.in_ok-found.ensures.ok in
       let d = advance text c.loop-rest.items.items rest c.in_ok-found.found (length text - length rest) c.loop-rest.invariant.lexed (omega arith) f in
       subst (λ (l : List ℕ). Lexes 0 text c.keep.new.tokens.items l) (sym c.range_from-rest.ensures.value)
       (subst (λ (ts : List Token). Lexes 0 text ts (drop c.in_ok-found.found.len rest)) (sym c.in_ok-keep.ensures.ok) d);

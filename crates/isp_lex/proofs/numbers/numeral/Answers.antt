@@ -1,6 +1,6 @@
 use Rattle.std.proofs.Common.{◌∙◌}
 use Rattle.isp_lex.proofs.Numerals.{numeral_gives}
-use Rattle.isp_lex.proofs.lexer.numeral.Goals as goal
+use Rattle.isp_lex.proofs.numbers.numeral.Goals as goal
 
 pub returns : goal.returns
 returns c =
