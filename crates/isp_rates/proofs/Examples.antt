@@ -9,9 +9,9 @@ use Rattle.isp_base.specs.declared.operators.BinOp.TheVariants.{Add as BinAdd}
 use Rattle.isp_lex.specs.declared.fault.Rule.TheVariants.{UnknownName, NameTwice, Mismatch, VaryingToUniform}
 use Rattle.isp_lex.specs.Faults.{fault}
 use Rattle.isp_syntax.specs.declared.tree.Word.{Word}
-use Rattle.isp_syntax.specs.declared.tree.Param.{Param}
-use Rattle.isp_syntax.specs.declared.tree.Operator.TheVariants.{Add}
-use Rattle.isp_syntax.specs.Tree.{number, name, program_index, item, binary, brackets, Stmt, declare, assign, Function}
+use Rattle.isp_rates.specs.declared.thin.Param.{Param}
+use Rattle.isp_rates.specs.declared.thin.Operator.TheVariants.{Add}
+use Rattle.isp_rates.specs.Thin.{number, name, program_index, item, binary, brackets, Stmt, declare, assign, Function}
 use Rattle.isp_rates.specs.declared.typed.Holds.TheVariants.{One, Many}
 use Rattle.isp_rates.specs.Typed.{t_number, t_program_index, t_variable, t_item, t_binary, t_declare, t_assign_item}
 use Rattle.isp_rates.specs.Scopes.{int}

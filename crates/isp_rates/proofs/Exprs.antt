@@ -4,8 +4,8 @@ use Rattle.std.specs.Prelude.{List, [], ◌∷◌, length}
 use Rattle.isp_lex.specs.declared.fault.Rule.TheVariants.{UnknownName, NameTwice, Mismatch}
 use Rattle.isp_lex.specs.Faults.{fault}
 use Rattle.isp_syntax.specs.declared.tree.Word.{Word}
-use Rattle.isp_syntax.specs.declared.tree.Param.{Param}
-use Rattle.isp_syntax.specs.Tree.{Expr, number, name, program_index, item, brackets, binary, span_of, Stmt, declare, assign, Function as Read}
+use Rattle.isp_rates.specs.declared.thin.Param.{Param}
+use Rattle.isp_rates.specs.Thin.{Expr, number, name, program_index, item, brackets, binary, span_of, Stmt, declare, assign, Function as Read}
 use Rattle.isp_rates.specs.declared.typed.Holds.{Holds}
 use Rattle.isp_rates.specs.declared.scope.Binding.{Binding}
 use Rattle.isp_rates.specs.Typed.{t_program_index, t_brackets, t_declare}

@@ -12,8 +12,8 @@ use Rattle.isp_base.specs.declared.types.Rate.{Rate}
 use Rattle.isp_base.specs.declared.types.Span.{Span}
 use Rattle.isp_base.specs.declared.signature.Parameter.{Parameter}
 use Rattle.isp_lex.specs.declared.fault.Fault.{Fault}
-use Rattle.isp_syntax.specs.declared.tree.Param.{Param}
-use Rattle.isp_syntax.specs.Tree.{Expr, number, name, program_index, item, brackets, binary, Stmt, declare, assign, Function as Read}
+use Rattle.isp_rates.specs.declared.thin.Param.{Param}
+use Rattle.isp_rates.specs.Thin.{Expr, number, name, program_index, item, brackets, binary, Stmt, declare, assign, Function as Read}
 use Rattle.isp_rates.specs.declared.typed.Holds.{Holds}
 use Rattle.isp_rates.specs.declared.typed.Holds.TheVariants.{One, Many}
 use Rattle.isp_rates.specs.declared.typed.TypedFunction as rust
@@ -24,7 +24,7 @@ use Rattle.isp_rates.specs.Fine.{goes_to, holds_of, IsFine, IsFineStmt, AreFine,
 use Rattle.isp_rates.specs.Scopes.{visible, with_name, int, names_after, variables_after, variables_after_all}
 use Rattle.isp_rates.specs.Rules.{value_of, element_of, store_to, IsExpr, IsStmt, AreStmts}
 use Rattle.isp_rates.specs.Rates.{value_stored, type_stored, RateBreach, RateBreaches}
-use Rattle.isp_rates.specs.Program.{Plain, plain, parameter_of, variables_of, IsBody, IsFunction, AreFunctions, ProgramRates, IsProgram, function_named}
+use Rattle.isp_rates.specs.Program.{Plain, plain, parameter_of, variables_of, IsBody, IsFunction, AreFunctions, ProgramRates, IsThinProgram, function_named}
 use Rattle.isp_rates.specs.Views.{holds_read, plain_function, plain_functions}
 
 some_is : {A : Type 0} (a b : A) → Some a ≡ Some b → a ≡ b
@@ -292,7 +292,7 @@ pub plain_map : (items : List rust.TypedFunction) → map plain (functions_of it
 plain_map [] = refl
 plain_map (x ∷ items) = ap (λ (z : List Plain). plain_function x ∷ z) (plain_map items)
 
-pub program_fine : (xs : List Read) (items : List rust.TypedFunction) → IsProgram xs (plain_functions items) → AreFineFunctions (functions_of items)
+pub program_fine : (xs : List Read) (items : List rust.TypedFunction) → IsThinProgram xs (plain_functions items) → AreFineFunctions (functions_of items)
 program_fine xs items p =
-    let q : IsProgram xs (map plain (functions_of items)) = subst (IsProgram xs) (sym (plain_map items)) p in
+    let q : IsThinProgram xs (map plain (functions_of items)) = subst (IsThinProgram xs) (sym (plain_map items)) p in
     functions_fine [] xs (functions_of items) q.0 q.1

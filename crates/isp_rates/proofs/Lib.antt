@@ -3,7 +3,9 @@ pub mod Scopes
 pub mod Right
 pub mod Exprs
 pub mod Steps
+pub mod Readings
 pub mod Pairs
 pub mod Fine
 pub mod Programs
+pub mod Whole
 pub mod Examples

@@ -5,12 +5,12 @@ use Rattle.isp_lex.specs.declared.fault.Fault.{Fault}
 use Rattle.isp_lex.specs.declared.fault.Rule.TheVariants.{VaryingToUniform}
 use Rattle.isp_lex.specs.declared.fault.SourceFault.TheVariants.{Refused}
 use Rattle.isp_lex.specs.Faults.{fault}
-use Rattle.isp_syntax.specs.Tree.{span_of, Stmt, Function as Read}
+use Rattle.isp_rates.specs.Thin.{span_of, Stmt, Function as Read}
 use Rattle.isp_rates.specs.Order.{NoLater}
 use Rattle.isp_rates.specs.Typed.{type_of, TStmt}
 use Rattle.isp_rates.specs.Fine.{goes_to}
 use Rattle.isp_rates.specs.Rates.{value_read, value_stored, type_stored, RateBreach, RateBreaches, OfPairs}
-use Rattle.isp_rates.specs.Program.{Plain, AreFunctions, FunctionsBreach, ProgramRates, IsProgram, Breach}
+use Rattle.isp_rates.specs.Program.{Plain, AreFunctions, FunctionsBreach, ProgramRates, IsThinProgram, ThinBreach}
 use Rattle.isp_rates.specs.Promise.{Accepts, Refuses, Right}
 use Rattle.isp_rates.specs.Judge.{earlier, found, fault_unless, first_of, demand, first_all, demands, program_demands, judge_functions}
 use Rattle.isp_rates.proofs.Order.{no_later_same, no_later_then, Earlier, earlier_is}
@@ -65,7 +65,7 @@ module _ (fs : List Read) where
   by_rates : (gs : List Plain) (o : Option Fault) → o ≡ program_demands fs gs → Least o (ProgramRates fs gs)
   by_rates gs o e = subst (λ (z : Option Fault). Least z (ProgramRates fs gs)) (sym e) (program_least fs gs)
 
-  pub accepted : (gs : List Plain) → Ok gs ≡ judge_functions [] fs → None ≡ program_demands fs gs → Accepts (IsProgram fs) (Breach fs) gs
+  pub accepted : (gs : List Plain) → Ok gs ≡ judge_functions [] fs → None ≡ program_demands fs gs → Accepts (IsThinProgram fs) (ThinBreach fs) gs
   accepted gs e n =
       let r : Right (Ok gs) (AreFunctions [] fs) (FunctionsBreach [] fs) = by_functions (Ok gs) e in
       let l : Least None (ProgramRates fs gs) = by_rates gs None n in
@@ -75,7 +75,7 @@ module _ (fs : List Read) where
         sound = λ f h. elim h as (λ z. ⊥) [ inl x ↦ r.by.sound f x | inr y ↦ l.by f (subst (λ (z : List Plain). ProgramRates fs z f) (r.by.only y.1.0 y.1.1) y.1.2) ];
       }
 
-  pub refused_late : (gs : List Plain) (d : Fault) → Ok gs ≡ judge_functions [] fs → Some d ≡ program_demands fs gs → Refuses (IsProgram fs) (Breach fs) d
+  pub refused_late : (gs : List Plain) (d : Fault) → Ok gs ≡ judge_functions [] fs → Some d ≡ program_demands fs gs → Refuses (IsThinProgram fs) (ThinBreach fs) d
   refused_late gs d e n =
       let r : Right (Ok gs) (AreFunctions [] fs) (FunctionsBreach [] fs) = by_functions (Ok gs) e in
       let l : Least (Some d) (ProgramRates fs gs) = by_rates gs (Some d) n in
@@ -85,7 +85,7 @@ module _ (fs : List Read) where
         first = λ f h. elim h as (λ z. NoLater d f) [ inl x ↦ absurd (r.by.sound f x) | inr y ↦ l.by.1 f (subst (λ (z : List Plain). ProgramRates fs z f) (r.by.only y.1.0 y.1.1) y.1.2) ];
       }
 
-  pub refused : (d : Fault) → Err d ≡ judge_functions [] fs → Refuses (IsProgram fs) (Breach fs) d
+  pub refused : (d : Fault) → Err d ≡ judge_functions [] fs → Refuses (IsThinProgram fs) (ThinBreach fs) d
   refused d e =
       let r : Right (Err d) (AreFunctions [] fs) (FunctionsBreach [] fs) = by_functions (Err d) e in
       record {

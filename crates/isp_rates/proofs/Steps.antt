@@ -7,12 +7,12 @@ use Rattle.std.proofs.Math.Seq.{take-suc}
 use Rattle.std.proofs.lemmas.List.{map-append}
 use Rattle.isp_base.specs.declared.signature.Parameter.{Parameter}
 use Rattle.isp_lex.specs.declared.fault.Fault.{Fault}
-use Rattle.isp_syntax.specs.declared.tree.Stmt as rust
+use Rattle.isp_rates.specs.declared.thin.Stmt as rust
 use Rattle.isp_lex.specs.declared.fault.Rule.TheVariants.{NameTwice}
 use Rattle.isp_lex.specs.Faults.{fault}
-use Rattle.isp_syntax.specs.declared.tree.Param.{Param}
-use Rattle.isp_syntax.specs.declared.tree.Function as read
-use Rattle.isp_syntax.specs.Tree.{Stmt, stmt_of, stmts_of, Function as Read, function_of, functions_of}
+use Rattle.isp_rates.specs.declared.thin.Param.{Param}
+use Rattle.isp_rates.specs.declared.thin.Function as read
+use Rattle.isp_rates.specs.Thin.{Stmt, stmt_of, stmts_of, Function as Read, function_of, functions_of}
 use Rattle.isp_rates.specs.Fine.{holds_of}
 use Rattle.isp_rates.specs.Program.{Plain, parameter_of, variables_of, is_free}
 use Rattle.isp_rates.specs.Views.{name_of}

@@ -4,8 +4,8 @@ use Rattle.isp_lex.specs.declared.fault.Fault.{Fault}
 use Rattle.isp_lex.specs.declared.fault.Rule.TheVariants.{UnknownName, NameTwice, Mismatch, VaryingToUniform}
 use Rattle.isp_lex.specs.Faults.{number_of, fault}
 use Rattle.isp_syntax.specs.declared.tree.Word.{Word}
-use Rattle.isp_syntax.specs.declared.tree.Param.{Param}
-use Rattle.isp_syntax.specs.Tree.{Expr, number, name, program_index, item, brackets, binary, span_of, Stmt, declare, assign, Function as Read}
+use Rattle.isp_rates.specs.declared.thin.Param.{Param}
+use Rattle.isp_rates.specs.Thin.{Expr, number, name, program_index, item, brackets, binary, span_of, Stmt, declare, assign, Function as Read}
 use Rattle.isp_rates.specs.declared.typed.Holds.{Holds}
 use Rattle.isp_rates.specs.declared.scope.Variable.{Variable}
 use Rattle.isp_rates.specs.declared.scope.Binding.{Binding}

@@ -1,3 +1,5 @@
+pub mod Thin
+pub mod Covered
 pub mod Typed
 pub mod Fine
 pub mod Order

@@ -1,14 +1,17 @@
 -- Functions and programs: what they are, and their breaches.
-use Rattle.std.specs.Prelude.{◌≡◌, ◌⊎◌, ℕ, List, [], ◌∷◌, ◌++◌, map, codes, bytes_eq, find, Bool, not, ◌||◌, Option, None}
+use Rattle.std.specs.Prelude.{◌≡◌, ◌⊎◌, ℕ, List, [], ◌∷◌, ◌++◌, map, codes, bytes_eq, find, Bool, not, ◌||◌, Option, None, Ok, Err}
 use Rattle.std.specs.List.{list_any}
 use Rattle.isp_base.specs.declared.types.Elem.{Elem}
+use Rattle.isp_base.specs.declared.types.Span.{Span}
 use Rattle.isp_base.specs.declared.types.Elem.TheVariants.{I32}
 use Rattle.isp_base.specs.declared.signature.Parameter.{Parameter}
 use Rattle.isp_lex.specs.declared.fault.Fault.{Fault}
-use Rattle.isp_lex.specs.declared.fault.Rule.TheVariants.{NameTwice}
+use Rattle.isp_lex.specs.declared.fault.Rule.TheVariants.{NameTwice, NotYet}
 use Rattle.isp_lex.specs.Faults.{fault}
-use Rattle.isp_syntax.specs.declared.tree.Param.{Param}
-use Rattle.isp_syntax.specs.Tree.{Stmt, Function as Read}
+use Rattle.isp_rates.specs.declared.thin.Param.{Param}
+use Rattle.isp_syntax.specs.Tree.{Function as Whole}
+use Rattle.isp_rates.specs.Thin.{Stmt, Function as Read}
+use Rattle.isp_rates.specs.Covered.{thin_of}
 use Rattle.isp_rates.specs.declared.typed.Holds.{Holds}
 use Rattle.isp_rates.specs.declared.scope.Binding.{Binding}
 use Rattle.isp_rates.specs.Typed.{TStmt, Function}
@@ -82,14 +85,22 @@ FunctionsBreach earlier (f ∷ fs) = Either (FunctionBreach earlier f) (Function
 abbrev pub ProgramRates : List Read → List Plain → Fault → Type 0
 ProgramRates = OfPairs (λ x g. RateBreaches x.body g.body)
 
--- what a tree is as a program
-abbrev pub IsProgram : List Read → List Plain → Type 0
-IsProgram fs gs = AreFunctions [] fs gs × ((f : Fault) → ProgramRates fs gs f → ⊥)
+-- what a thin tree is as a program
+abbrev pub IsThinProgram : List Read → List Plain → Type 0
+IsThinProgram fs gs = AreFunctions [] fs gs × ((f : Fault) → ProgramRates fs gs f → ⊥)
 
--- the breaches of a program: those of names and types, and where there is none those of rates
-abbrev pub Breach : List Read → Fault → Type 0
-Breach fs f = FunctionsBreach [] fs f
+-- the breaches of a thin program: those of names and types, and where there is none those of rates
+abbrev pub ThinBreach : List Read → Fault → Type 0
+ThinBreach fs f = FunctionsBreach [] fs f
     ⊎ (((g : Fault) → FunctionsBreach [] fs g → ⊥) × ((gs : List Plain) × AreFunctions [] fs gs × ProgramRates fs gs f))
+
+-- what a tree of the whole language is as a program: it is thin
+abbrev pub IsProgram : List Whole → List Plain → Type 0
+IsProgram fs gs = (ts : List Read) × (thin_of fs ≡ Ok ts) × IsThinProgram ts gs
+
+-- where it is not thin, its only breach is the first node that is not
+abbrev pub Breach : List Whole → Fault → Type 0
+Breach fs f = ((s : Span) × (thin_of fs ≡ Err s) × (f ≡ fault NotYet s)) ⊎ ((ts : List Read) × (thin_of fs ≡ Ok ts) × ThinBreach ts f)
 
 -- the first function of a name
 abbrev pub function_named : List ℕ → List Function → Option Function

@@ -4,7 +4,7 @@ use Rattle.isp_base.specs.declared.types.Ty.{Ty}
 use Rattle.isp_lex.specs.declared.fault.Fault.{Fault}
 use Rattle.isp_lex.specs.declared.fault.Rule.TheVariants.{VaryingToUniform}
 use Rattle.isp_lex.specs.Faults.{fault}
-use Rattle.isp_syntax.specs.Tree.{Expr, span_of, Stmt, declare, assign}
+use Rattle.isp_rates.specs.Thin.{Expr, span_of, Stmt, declare, assign}
 use Rattle.isp_rates.specs.Typed.{Typed, type_of, TStmt, t_declare, t_assign, t_assign_item}
 use Rattle.isp_rates.specs.Fine.{goes_to}
 

@@ -11,9 +11,9 @@ use Rattle.isp_lex.specs.declared.fault.Fault.{Fault}
 use Rattle.isp_lex.specs.declared.fault.Rule.TheVariants.{UnknownName, NameTwice, Mismatch}
 use Rattle.isp_lex.specs.Faults.{fault}
 use Rattle.isp_syntax.specs.declared.tree.Word.{Word}
-use Rattle.isp_syntax.specs.declared.tree.Operator.{Operator}
-use Rattle.isp_syntax.specs.declared.tree.Operator.TheVariants.{Add, Subtract, Multiply}
-use Rattle.isp_syntax.specs.Tree.{Expr, number, name, program_index, item, brackets, binary, span_of, Stmt, declare, assign}
+use Rattle.isp_rates.specs.declared.thin.Operator.{Operator}
+use Rattle.isp_rates.specs.declared.thin.Operator.TheVariants.{Add, Subtract, Multiply}
+use Rattle.isp_rates.specs.Thin.{Expr, number, name, program_index, item, brackets, binary, span_of, Stmt, declare, assign}
 use Rattle.isp_rates.specs.declared.typed.Holds.{Holds}
 use Rattle.isp_rates.specs.declared.typed.Holds.TheVariants.{One, Many}
 use Rattle.isp_rates.specs.declared.scope.Variable.{Variable}

@@ -10,7 +10,7 @@ use Rattle.isp_rates.specs.declared.typed.Holds.{Holds}
 use Rattle.isp_rates.specs.declared.typed.Holds.TheVariants.{One}
 use Rattle.isp_rates.specs.declared.scope.Variable.{Variable}
 use Rattle.isp_rates.specs.declared.scope.Binding.{Binding}
-use Rattle.isp_syntax.specs.Tree.{Stmt, declare, assign}
+use Rattle.isp_rates.specs.Thin.{Stmt, declare, assign}
 
 -- what a name means: its last binding, so that an inner name hides an outer one
 abbrev pub visible : List ℕ → List Binding → Option Variable

@@ -1,16 +1,16 @@
 //! Rates: where a uniform value is wanted and a varying one stands.
 ghost use Rattle.std.specs.Prelude.{◌≡◌};
-ghost use Rattle.isp_syntax.specs.Tree.{stmt_of, stmts_of, functions_of as read_functions};
+ghost use Rattle.isp_rates.specs.Thin.{stmt_of, stmts_of, functions_of as read_functions};
 ghost use Rattle.isp_rates.specs.Fine.{goes_to};
 ghost use Rattle.isp_rates.specs.Typed.{tstmt_of, tstmts_of};
 ghost use Rattle.isp_rates.specs.Views.{plain_functions};
 ghost use Rattle.isp_rates.specs.Judge.{demand, demands, program_demands};
 
+use crate::thin::{Function, Stmt};
 use crate::typed::{TypedFunction, TypedStmt};
 use crate::verdict::{first, unless};
 use isp_base::Rate;
 use isp_lex::{Fault, Rule};
-use isp_syntax::{Function, Stmt};
 
 /// Whether a value of one rate may stand where another is wanted.
 fn goes_to(wanted: Rate, given: Rate) -> bool

@@ -1,6 +1,6 @@
 //! Expressions.
 ghost use Rattle.std.specs.Prelude.{◌≡◌, IfOk};
-ghost use Rattle.isp_syntax.specs.Tree.{expr_of};
+ghost use Rattle.isp_rates.specs.Thin.{expr_of};
 ghost use Rattle.isp_lex.specs.Faults.{fault};
 ghost use Rattle.isp_rates.specs.Fine.{rate_or};
 ghost use Rattle.isp_rates.specs.Typed.{typed_of, t_brackets};
@@ -8,11 +8,12 @@ ghost use Rattle.isp_rates.specs.Rules.{element_of, literal, made_binary, operat
 ghost use Rattle.isp_rates.specs.Judge.{both, found, judge, named, picked};
 
 use crate::scope::{Scope, Variable};
+use crate::thin::{Expr, Operator};
 use crate::typed::{Holds, Typed};
 use crate::verdict::{Verdict, both};
 use isp_base::{BinOp, Elem, Rate, Span, Ty, Value};
 use isp_lex::{Fault, Rule};
-use isp_syntax::{Expr, Operator, Word};
+use isp_syntax::Word;
 use std::alloc::{AllocError, Global};
 
 /// What a word stands for.

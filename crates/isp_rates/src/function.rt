@@ -2,7 +2,7 @@
 ghost use Rattle.std.specs.Prelude.{◌≡◌, IfOk, List, map, bytes_eq, cond, true, not, ◌||◌, ℕ, ◌++◌, ◌∷◌, [], None};
 ghost use Rattle.std.specs.BTreeSet.{contains_text};
 ghost use Rattle.isp_lex.specs.Faults.{fault};
-ghost use Rattle.isp_syntax.specs.Tree.{Stmt, function_of as read_function, functions_of as read_functions};
+ghost use Rattle.isp_rates.specs.Thin.{Stmt, function_of as read_function, functions_of as read_functions};
 ghost use Rattle.isp_rates.specs.Fine.{holds_of};
 ghost use Rattle.isp_rates.specs.Typed.{tstmts_of};
 ghost use Rattle.isp_rates.specs.Scopes.{is_new, with_name};
@@ -12,11 +12,12 @@ ghost use Rattle.isp_rates.specs.Judge.{beside, both, fault_unless, found, judge
 
 use crate::scope::{Scope, Variable};
 use crate::stmt::{stmts, twice};
+use crate::thin::{Function, Param};
 use crate::typed::{Holds, TypedFunction, TypedStmt};
 use crate::verdict::{Verdict, beside, both, first, unless};
 use isp_base::{Elem, Name, Parameter, Rate, Signature, Ty};
 use isp_lex::{Fault, Rule};
-use isp_syntax::{Function, Param, Word};
+use isp_syntax::Word;
 use std::alloc::{AllocError, Global};
 use std::collections::BTreeSet;
 

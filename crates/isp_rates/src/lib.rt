@@ -3,11 +3,13 @@
 
 mod check;
 mod checked;
+mod covered;
 mod demand;
 mod expr;
 mod function;
 mod scope;
 mod stmt;
+mod thin;
 mod typed;
 mod verdict;
 

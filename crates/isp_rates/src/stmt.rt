@@ -1,7 +1,7 @@
 //! Statements.
 ghost use Rattle.std.specs.Prelude.{◌≡◌, IfOk, ◌++◌, ◌∷◌, []};
 ghost use Rattle.isp_lex.specs.Faults.{fault};
-ghost use Rattle.isp_syntax.specs.Tree.{expr_of, span_of, stmt_of, stmts_of};
+ghost use Rattle.isp_rates.specs.Thin.{expr_of, span_of, stmt_of, stmts_of};
 ghost use Rattle.isp_rates.specs.Typed.{typed_of, tstmt_of, tstmts_of, t_declare};
 ghost use Rattle.isp_rates.specs.Scopes.{int, is_new, names_after, variables_after, variables_after_all};
 ghost use Rattle.isp_rates.specs.Rules.{store_to};
@@ -10,11 +10,12 @@ ghost use Rattle.isp_rates.specs.Views.{target_of};
 
 use crate::expr::expr;
 use crate::scope::{Scope, Variable};
+use crate::thin::{Expr, Stmt};
 use crate::typed::{Holds, Typed, TypedStmt};
 use crate::verdict::{Verdict, beside, both, unless};
 use isp_base::{Elem, Rate, Span, Ty};
 use isp_lex::{Fault, Rule};
-use isp_syntax::{Expr, Stmt, Word};
+use isp_syntax::Word;
 use std::alloc::{AllocError, Global};
 
 /// A place that a value is stored to.

@@ -6,6 +6,8 @@ mod calls;
 #[cfg(test)]
 mod commands;
 #[cfg(test)]
+mod covered;
+#[cfg(test)]
 mod fakes;
 #[cfg(test)]
 mod lanes;

@@ -1,41 +1,14 @@
-use Rattle.std.proofs.Common.{subst, sym, ◌∙◌}
-use Rattle.isp_syntax.specs.Tree.{functions_of}
-use Rattle.isp_rates.specs.Program.{IsProgram, Breach}
-use Rattle.isp_rates.specs.Promise.{Accepts, Refuses}
-use Rattle.isp_rates.specs.Views.{plain_functions}
-use Rattle.isp_rates.proofs.Fine.{program_fine, plain_map}
-use Rattle.isp_rates.proofs.Programs.{accepted, refused_late, refused, ok_is, err_is, refused_is}
+use Rattle.isp_syntax.specs.Tree.{functions_of as whole_functions}
+use Rattle.isp_rates.specs.Thin.{functions_of as read_functions}
+use Rattle.isp_rates.proofs.Whole.{accepted_whole, refused_whole}
 use Rattle.isp_rates.proofs.check.check_tree.Goals as goal
 
-pub new-requires : goal.new-requires
-new-requires c =
-    let fs = functions_of c.args.tree.functions.items in
-    let gs = plain_functions c.in-Ok.functions.items in
-    let j = rw c.deref.ensures.value at c.in_ok-functions.ensures in
-    let d = rw (c.deref-in-Ok.ensures.value, c.deref-in-Ok-2.ensures.value) at c.program_demands.ensures in
-    let a : Accepts (IsProgram fs) (Breach fs) gs = accepted fs gs (ok_is (λ l. plain_functions l.items) _ _ _ c.in-Ok.is j) (sym c.in-None.is ∙ d) in
-    program_fine fs c.in-Ok.functions.items a.is
-
-pub returns-in-None-clause-accepted : goal.returns-in-None-clause-accepted
-returns-in-None-clause-accepted c =
-    let fs = functions_of c.args.tree.functions.items in
-    let gs = plain_functions c.in-Ok.functions.items in
-    let j = rw c.deref.ensures.value at c.in_ok-functions.ensures in
-    let d = rw (c.deref-in-Ok.ensures.value, c.deref-in-Ok-2.ensures.value) at c.program_demands.ensures in
-    rw c.new.ensures (subst (Accepts (IsProgram fs) (Breach fs)) (sym (plain_map c.in-Ok.functions.items))
-    (accepted fs gs (ok_is (λ l. plain_functions l.items) _ _ _ c.in-Ok.is j) (sym c.in-None.is ∙ d)))
+pub returns-in-Ok-clause-accepted : goal.returns-in-Ok-clause-accepted
+returns-in-Ok-clause-accepted c =
+    let t = rw c.deref.ensures.value at c.in-Ok.ensures in
+    accepted_whole (whole_functions c.args.tree.functions.items) (read_functions c.in-Ok.thin.items) t c.check_thin.result (rw c.deref-in-Ok.ensures.value at c.check_thin.ensures.accepted)
 
 pub returns-in-Ok-clause-refused : goal.returns-in-Ok-clause-refused
-returns-in-Ok-clause-refused c = λ f e.
-    let fs = functions_of c.args.tree.functions.items in
-    let gs = plain_functions c.in-Ok.functions.items in
-    let j = rw c.deref.ensures.value at c.in_ok-functions.ensures in
-    let d = rw (c.deref-in-Ok.ensures.value, c.deref-in-Ok-2.ensures.value) at c.program_demands.ensures in
-    subst (Refuses (IsProgram fs) (Breach fs)) (refused_is _ f e)
-    (refused_late fs gs c.in-Some.fault (ok_is (λ l. plain_functions l.items) _ _ _ c.in-Ok.is j) (sym c.in-Some.is ∙ d))
-
-pub returns-clause-refused : goal.returns-clause-refused
-returns-clause-refused c = λ f e.
-    let fs = functions_of c.args.tree.functions.items in
-    let j = rw c.deref.ensures.value at c.in_ok-functions.ensures in
-    subst (Refuses (IsProgram fs) (Breach fs)) (refused_is _ f e) (refused fs c.in-Err.fault (err_is (λ l. plain_functions l.items) _ _ _ c.in-Err.is j))
+returns-in-Ok-clause-refused c =
+    let t = rw c.deref.ensures.value at c.in-Ok.ensures in
+    refused_whole (whole_functions c.args.tree.functions.items) (read_functions c.in-Ok.thin.items) t c.check_thin.result (rw c.deref-in-Ok.ensures.value at c.check_thin.ensures.refused)

@@ -1,6 +1,6 @@
 use Rattle.std.proofs.Common.{length-append}
 use Rattle.std.proofs.lemmas.Slice.Zip.{zip_turn, zip_end}
-use Rattle.isp_syntax.specs.Tree.{stmt_of}
+use Rattle.isp_rates.specs.Thin.{stmt_of}
 use Rattle.isp_rates.specs.Typed.{tstmt_of}
 use Rattle.isp_rates.specs.Judge.{demand}
 use Rattle.isp_rates.proofs.Pairs.{pairs_step, pairs_end}

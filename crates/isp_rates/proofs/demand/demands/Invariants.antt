@@ -1,5 +1,5 @@
 use Rattle.std.proofs.Common.{◌≡◌, length, drop}
-use Rattle.isp_syntax.specs.Tree.{stmts_of}
+use Rattle.isp_rates.specs.Thin.{stmts_of}
 use Rattle.isp_rates.specs.Typed.{tstmts_of}
 use Rattle.isp_rates.specs.Judge.{demands, first_of}
 use Rattle.isp_rates.proofs.demand.demands.Given as goal

@@ -1,6 +1,6 @@
 use Rattle.std.proofs.Common.{length-append}
 use Rattle.std.proofs.lemmas.Slice.Zip.{zip_turn, zip_end}
-use Rattle.isp_syntax.specs.Tree.{function_of, Function}
+use Rattle.isp_rates.specs.Thin.{function_of, Function}
 use Rattle.isp_rates.specs.Views.{plain_function}
 use Rattle.isp_rates.specs.Program.{Plain}
 use Rattle.isp_rates.specs.Judge.{demands}

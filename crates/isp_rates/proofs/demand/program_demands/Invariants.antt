@@ -1,5 +1,5 @@
 use Rattle.std.proofs.Common.{◌≡◌, length, drop}
-use Rattle.isp_syntax.specs.Tree.{functions_of}
+use Rattle.isp_rates.specs.Thin.{functions_of}
 use Rattle.isp_rates.specs.Views.{plain_functions}
 use Rattle.isp_rates.specs.Judge.{program_demands, first_of}
 use Rattle.isp_rates.proofs.demand.program_demands.Given as goal

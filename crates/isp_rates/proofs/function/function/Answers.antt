@@ -1,5 +1,5 @@
 use Rattle.std.proofs.Common.{ap, ◌∙◌}
-use Rattle.isp_syntax.specs.Tree.{function_of, stmts_of}
+use Rattle.isp_rates.specs.Thin.{function_of, stmts_of}
 use Rattle.isp_rates.specs.Judge.{beside}
 use Rattle.isp_rates.proofs.Steps.{function_is}
 use Rattle.isp_rates.proofs.function.function.Goals as goal

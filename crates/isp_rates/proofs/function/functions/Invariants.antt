@@ -2,7 +2,7 @@ use Rattle.std.proofs.Common.{◌≡◌, ℕ, List, take, drop, map, []}
 use Rattle.std.specs.Prelude.{bytes_eq}
 use Rattle.std.specs.List.{list_any}
 use Rattle.std.specs.BTreeSet.{contains_text}
-use Rattle.isp_syntax.specs.Tree.{functions_of}
+use Rattle.isp_rates.specs.Thin.{functions_of}
 use Rattle.isp_rates.specs.Views.{name_of, plain_functions}
 use Rattle.isp_rates.specs.Judge.{found, judge_functions}
 use Rattle.isp_rates.proofs.Steps.{joined}

@@ -1,5 +1,5 @@
 use Rattle.std.proofs.Common.{◌≡◌, take, drop, map, List, ◌++◌}
-use Rattle.isp_syntax.specs.Tree.{Stmt}
+use Rattle.isp_rates.specs.Thin.{Stmt}
 use Rattle.isp_rates.specs.Program.{parameter_of}
 use Rattle.isp_rates.specs.Views.{holds_read}
 use Rattle.isp_rates.specs.Judge.{beside, judge_body}

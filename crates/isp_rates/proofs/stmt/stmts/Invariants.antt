@@ -1,5 +1,5 @@
 use Rattle.std.proofs.Common.{◌≡◌, drop, ◌++◌}
-use Rattle.isp_syntax.specs.Tree.{stmts_of}
+use Rattle.isp_rates.specs.Thin.{stmts_of}
 use Rattle.isp_rates.specs.Typed.{tstmts_of}
 use Rattle.isp_rates.specs.Scopes.{variables_after_all}
 use Rattle.isp_rates.specs.Judge.{both, found, judge_stmts}

@@ -1,0 +1,101 @@
+//! Programs of the whole language: what is compiled today, and where 90 stands for what is not.
+use isp_base::Gang;
+use isp_engine::front;
+use std::test::Fail;
+
+// The refusal of each text: the first node that is not compiled yet, an outer node before its parts.
+#[test]
+fn first_node_not_yet(rt: HostRuntime) -> Result<(), Fail> {
+    let alloc = rt.alloc();
+    for (text, line) in [
+        ("export void f() { int x; }", "90 NotYet at 22..23"),
+        (
+            "export void f() { int x = 1, y = 2; }",
+            "90 NotYet at 29..34",
+        ),
+        (
+            "export void f() { const int x = 1; }",
+            "90 NotYet at 18..27",
+        ),
+        ("export void f(int x) { }", "90 NotYet at 14..17"),
+        (
+            "export void f(uniform int8 a[]) { }",
+            "90 NotYet at 14..26",
+        ),
+        ("export int f() { return 1; }", "90 NotYet at 7..10"),
+        ("void f() { x = 1 / 0; }", "90 NotYet at 0..23"),
+        ("static export void f() { }", "90 NotYet at 0..26"),
+        (
+            "export void f(uniform int a[]) { a[0] += a[1] / 2; }",
+            "90 NotYet at 33..50",
+        ),
+        (
+            "export void f(uniform int a[]) { a[0] = a[1] * (2 + a[2] % 3) - 4; }",
+            "90 NotYet at 52..60",
+        ),
+        (
+            "export void f(uniform int a[]) { a[a[0] / 2] = a[1] ? 3 : 4; }",
+            "90 NotYet at 35..43",
+        ),
+        (
+            "export void f() { int x = 0x10; x = 4294967296; }",
+            "90 NotYet at 36..46",
+        ),
+        (
+            "export void f() { int x = 1 + -(int8)2; }",
+            "90 NotYet at 30..38",
+        ),
+        (
+            "export void f() { int x = programCount; }",
+            "90 NotYet at 26..38",
+        ),
+    ] {
+        let Err(fault) = front(alloc, text, Gang::W4) else {
+            return Err(Fail::from("not refused"));
+        };
+        let found = format!(in alloc; "{fault}")?;
+        assert!(rt; found.as_str() == line, "{text}: {found}");
+    }
+    Ok(())
+}
+
+// 90 comes before 20 to 30, wherever they stand; a target that is no place is 22 at once.
+#[test]
+fn before_names_and_types(rt: HostRuntime) -> Result<(), Fail> {
+    let alloc = rt.alloc();
+    for (text, line) in [
+        (
+            "export void f() { y = 1; if (true) ; }",
+            "90 NotYet at 25..36",
+        ),
+        (
+            "export void f() { x = 1; } export void g() { { } }",
+            "90 NotYet at 45..48",
+        ),
+        (
+            "export void f(uniform int x) { (x) = 1; }",
+            "22 Mismatch at 31..34",
+        ),
+        ("export void f() { 1 = 2; }", "22 Mismatch at 18..19"),
+    ] {
+        let Err(fault) = front(alloc, text, Gang::W4) else {
+            return Err(Fail::from("not refused"));
+        };
+        let found = format!(in alloc; "{fault}")?;
+        assert!(rt; found.as_str() == line, "{text}: {found}");
+    }
+    Ok(())
+}
+
+#[test]
+fn several_functions(rt: HostRuntime) -> Result<(), Fail> {
+    let alloc = rt.alloc();
+    let checked = front(alloc, "", Gang::W4)?;
+    assert!(rt; checked.signature("f").is_none());
+    let text = "export void f() { } /* and */ export void g(uniform int x) { }";
+    let checked = front(alloc, text, Gang::W4)?;
+    assert!(rt; checked.signature("f").is_some());
+    assert!(rt; checked.signature("g").is_some());
+    assert!(rt; checked.signature("h").is_none());
+    Ok(())
+}
