@@ -9,7 +9,7 @@ ghost use Rattle.isp_lex.specs.Bytes as class;
 ghost use Rattle.isp_lex.specs.Bytes.{all};
 ghost use Rattle.isp_lex.specs.declared.fault.SourceFault.TheVariants.{Memory};
 ghost use Rattle.isp_lex.specs.declared.token.Token.{Token};
-ghost use Rattle.isp_lex.specs.declared.fault.Fault.{Fault as Broken};
+ghost use Rattle.isp_lex.specs.declared.fault.Fault.{Fault};
 ghost use Rattle.isp_lex.specs.declared.fault.Rule.TheVariants.{BadText};
 
 use crate::bytes::{is_blank, is_word_byte, rest, run_len};
@@ -174,6 +174,6 @@ pub fn whole_characters()
 /// A law: the place of a bad text ends at the first character with which no text goes on, or at
 /// the end.
 pub fn stopped_text()
-    ensures { (place : ℕ) (text : List ℕ) (found : Broken) → IsFault place text found → found.rule ≡ BadText
+    ensures { (place : ℕ) (text : List ℕ) (found : Fault) → IsFault place text found → found.rule ≡ BadText
         → IsStopped place text found }
 {}
