@@ -1,5 +1,5 @@
 //! The machine: it runs straight code over registers and arrays.
-ghost use Rattle.std.specs.Prelude.{◌≡◌, ◌+◌, ◌^◌, ◌<◌, ◌≤◌, [], length, get_or, slice_get, slice_index, IfOk};
+ghost use Rattle.std.specs.Prelude.{◌≡◌, ℕ, ◌+◌, ◌^◌, ◌<◌, ◌≤◌, [], length, get_or, slice_get, slice_index, IfOk};
 ghost use Rattle.isp_model.specs.State.{trap};
 ghost use Rattle.isp_base.specs.declared.trap.TrapKind.TheVariants.{Divide, Index};
 ghost use Rattle.isp_engine.specs.Held.{conf_of, GivesLanes, Stepped, Came};
@@ -318,7 +318,10 @@ impl<const N: usize> Machine<N> {
         requires some { 1 ≤ N }
         requires even { length self.old.vectors ≡ length self.old.scalars }
         requires enough { code.now.registers ≤ length self.old.scalars }
-        ensures { Came (exec N self.old.arrays code.now.instrs budget (conf_of self.old)) self.new result }
+        ensures came { Came (exec N self.old.arrays code.now.instrs budget (conf_of self.old)) self.new result }
+        // More instructions from where it stands come to what they would in one run.
+        ensures on { (j : ℕ) → 0 < j → exec N self.old.arrays code.now.instrs (budget + j) (conf_of self.old)
+            ≡ exec N self.old.arrays code.now.instrs j (conf_of self.new) }
     {
         for i in 0..budget {
             match self.step(code) {

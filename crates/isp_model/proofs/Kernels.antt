@@ -1,22 +1,21 @@
 -- What is done to the values of a set, lane by lane.
-use Rattle.std.proofs.Common.{◌≡◌, refl, sym, ap, ap₂, ◌∙◌, subst, ⊎_elim, ℕ, zero, suc, ◌+◌, ◌^◌, ◌%◌, ◌<◌, ◌≤◌, Bool, true, false, ◌&&◌, ◌==◌, Option, Some, None, List, arith, mod-eq_of_lt, length}
+use Rattle.std.proofs.Common.{◌≡◌, refl, sym, ap, ap₂, ◌∙◌, subst, ⊎_elim, ℕ, zero, suc, ◌+◌, ◌^◌, ◌<◌, Bool, true, false, ◌&&◌, ◌==◌, Some, None, List, arith, length}
 use Rattle.std.specs.Prelude.{if◌then◌else◌, slice_set}
 use Rattle.std.proofs.Math.Path.{fun_ext}
-use Rattle.std.proofs.lemmas.Bool.{cases_eq, cases_lt}
+use Rattle.std.proofs.lemmas.Bool.{cases_eq}
 use Rattle.std.proofs.lemmas.List.{get_or-set_other, get_or-set_same}
 use Rattle.std.proofs.Math.ListN.{length-set}
 use Rattle.std.proofs.lemmas.Bool.{false≢true}
 use native.Mathlib.Nat.{zero-mod}
 use Rattle.isp_base.specs.declared.types.Elem.{Elem}
-use Rattle.isp_base.specs.declared.types.Rate.{Rate}
-use Rattle.isp_base.specs.declared.types.Rate.TheVariants.{Uniform, Varying}
+use Rattle.isp_base.specs.declared.types.Rate.TheVariants.{Varying}
 use Rattle.isp_base.specs.declared.operators.BinOp.{BinOp}
 use Rattle.isp_base.specs.Values.{width, op_bits, divides}
 use Rattle.isp_base.proofs.Wraps.{wrap_to-lt}
 use Rattle.isp_rates.specs.Fine.{rate_or}
 use Rattle.isp_model.specs.Gang.{Mask, Lanes, Map, on, over, or_old, each1, each2, map1, map2}
-use Rattle.isp_model.specs.State.{Payload, One, Each, spread}
-use Rattle.isp_model.specs.Expressions.{is_zero, joined, mapped}
+use Rattle.isp_model.specs.State.{Each, spread}
+use Rattle.isp_model.specs.Expressions.{is_zero, joined}
 use Rattle.isp_model.specs.declared.lanes.Computed.{Computed}
 use Rattle.isp_model.specs.declared.lanes.Computed.TheVariants as computed
 use Rattle.isp_model.specs.Seen.{lane_of, bits_in, rate_of, payload_of}

@@ -1,6 +1,6 @@
 -- Arguments and stores, by their numbers.
-use Rattle.std.proofs.Common.{◌≡◌, refl, sym, subst, ap, ap₂, ◌∙◌, ℕ, zero, suc, ◌+◌, ◌^◌, ◌%◌, ◌<◌, ◌≤◌, List, [], ◌∷◌, ◌++◌, length, take, get_or, replicate, arith, add-one, ⊎_elim, ◌≢◌, eq-eqb, ne_eqb}
-use Rattle.std.specs.Prelude.{slice_set, if◌then◌else◌, nat_eq, Bool, true, false}
+use Rattle.std.proofs.Common.{◌≡◌, refl, sym, subst, ap, ◌∙◌, ℕ, zero, suc, ◌+◌, ◌^◌, ◌%◌, ◌<◌, ◌≤◌, List, [], ◌∷◌, ◌++◌, length, take, get_or, replicate, arith, ⊎_elim, ◌≢◌, eq-eqb, ne_eqb}
+use Rattle.std.specs.Prelude.{slice_set, if◌then◌else◌}
 use Rattle.std.proofs.Math.Path.{fun_ext}
 use Rattle.std.proofs.Math.ListN.{length-set}
 use Rattle.std.proofs.lemmas.Bool.{cases_eq, cases_lt}
@@ -11,7 +11,7 @@ use Rattle.isp_base.specs.declared.signature.Argument.TheVariants.{Value as AVal
 use Rattle.isp_base.specs.Values.{width}
 use Rattle.isp_base.specs.Rows.{Row}
 use Rattle.isp_model.specs.Gang.{Lanes, put}
-use Rattle.isp_model.specs.Seen.{lane_of, store_bits, row_elem, Shape, shape_of, shapes}
+use Rattle.isp_model.specs.Seen.{lane_of, store_bits, row_elem, shape_of, shapes}
 use Rattle.isp_model.specs.Runs.{rows, argument_bits, store_of, row_bits}
 
 pub bits_value : (xs : List Argument) (i : ℕ) (d : Argument) (v : Value) → i < length xs → get_or xs i d ≡ AValue v → argument_bits xs i ≡ v.bits % 2 ^ width v.elem

@@ -1,10 +1,9 @@
 -- Sets of instances: the lowest member, and the members that fail a test.
-use Rattle.std.proofs.Common.{◌≡◌, refl, sym, ap, ap₂, ◌∙◌, subst, ⊎_elim, ℕ, zero, suc, ◌+◌, ◌<◌, ◌≤◌, Bool, true, false, ◌&&◌, ◌||◌, Option, Some, None, nat_lt, ltb-true, lt-ltb, arith, add-one}
+use Rattle.std.proofs.Common.{◌≡◌, refl, sym, ap, ap₂, ◌∙◌, subst, ⊎_elim, ℕ, zero, suc, ◌+◌, ◌<◌, Bool, true, false, ◌&&◌, ◌||◌, Option, Some, None, arith, add-one}
 use Rattle.std.specs.Prelude.{if◌then◌else◌}
-use Rattle.std.proofs.Math.Path.{fun_ext}
-use Rattle.std.proofs.lemmas.Bool.{cases_eq, cases_lt}
-use Rattle.isp_model.specs.Gang.{Mask, Map, everyone, any, lowest, or_this, on, holds, where_true}
-use Rattle.isp_model.specs.State.{Payload, One, Each, if_fails, offender}
+use Rattle.std.proofs.lemmas.Bool.{cases_eq}
+use Rattle.isp_model.specs.Gang.{Mask, Map, any, lowest, or_this, on, holds}
+use Rattle.isp_model.specs.State.{if_fails, offender}
 use Rattle.isp_model.specs.declared.lanes.Computed.{Computed}
 use Rattle.isp_model.specs.declared.lanes.Computed.TheVariants as computed
 use Rattle.isp_model.specs.Seen.{lane_of, bits_in, payload_of}

@@ -1,5 +1,5 @@
 -- A state after a write, and what is seen of it.
-use Rattle.std.proofs.Common.{◌≡◌, ◌≢◌, refl, sym, ap, ap₂, ◌∙◌, subst, ⊎_elim, ℕ, ◌^◌, ◌<◌, Bool, true, false, List, [], length, get_or, slice_get, Some, Vec, Global, arith, eq-eqb, ne_eqb}
+use Rattle.std.proofs.Common.{◌≡◌, ◌≢◌, sym, ap, ap₂, ◌∙◌, subst, ⊎_elim, ℕ, ◌^◌, ◌<◌, Bool, true, false, List, [], length, get_or, slice_get, Some, Vec, Global, eq-eqb, ne_eqb}
 use Rattle.std.specs.Prelude.{slice_set, if◌then◌else◌}
 use Rattle.std.proofs.Math.Path.{fun_ext}
 use Rattle.std.proofs.Math.ListN.{length-set}
@@ -11,12 +11,11 @@ use Rattle.isp_base.specs.Values.{width}
 use Rattle.isp_base.specs.Rows.{Row}
 use Rattle.isp_rates.specs.declared.typed.Holds.TheVariants.{One as OneValue, Many}
 use Rattle.isp_model.specs.Gang.{Mask, Lanes, over, put}
-use Rattle.isp_model.specs.State.{Stores, spread}
-use Rattle.isp_model.specs.Runs.{row_bits}
+use Rattle.isp_model.specs.State.{spread}
 use Rattle.isp_model.specs.declared.lanes.Computed.{Computed}
 use Rattle.isp_model.specs.declared.state.State as rust
 use Rattle.isp_model.specs.declared.call.Call.{Call}
-use Rattle.isp_model.specs.Seen.{lane_of, bits_in, payload_of, FitsElem, shapes, row_elem, store_named, stores_seen, variables_of, Shaped}
+use Rattle.isp_model.specs.Seen.{lane_of, bits_in, payload_of, FitsElem, shapes, row_elem, stores_seen, variables_of, Shaped}
 use Rattle.isp_model.proofs.Kernels.{over_lanes}
 use Rattle.isp_model.proofs.Stores.{same_count, same_elem, same_length}
 

@@ -1,7 +1,6 @@
 -- What a statement does, from what its parts give; and a list of statements, one by one.
-use Rattle.std.proofs.Common.{◌≡◌, refl, sym, ap, ◌∙◌, subst, ℕ, zero, suc, ◌+◌, ◌<◌, ◌≤◌, Bool, true, false, List, [], ◌∷◌, length, drop, get_or, Option, Some, None, arith, add-one}
+use Rattle.std.proofs.Common.{◌≡◌, refl, sym, ap, ◌∙◌, subst, ℕ, zero, suc, ◌+◌, ◌<◌, true, List, [], ◌∷◌, length, drop, get_or, arith, add-one}
 use Rattle.std.proofs.Math.Seq.{drop-cons}
-use Rattle.isp_base.specs.declared.types.Elem.{Elem}
 use Rattle.isp_base.specs.declared.types.Span.{Span}
 use Rattle.isp_base.specs.declared.types.Ty.{Ty}
 use Rattle.isp_base.specs.declared.trap.Trap.{Trap}
@@ -11,7 +10,7 @@ use Rattle.isp_rates.specs.declared.typed.TypedStmt as rust_stmt
 use Rattle.isp_rates.specs.Fine.{IsFineStmt, AreFine}
 use Rattle.isp_rates.specs.Typed.{Typed, type_of, tstmt_of, tstmts_of, TStmt, t_declare, t_assign, t_assign_item}
 use Rattle.isp_model.specs.Gang.{Mask, Lanes, any, put, nobody, union}
-use Rattle.isp_model.specs.State.{State, Stores, Payload, Val, Res, Went, Trapped, Cut, with_value, go_on, then_run, went_all, unless_empty, offender, trap}
+use Rattle.isp_model.specs.State.{State, Stores, Payload, Res, Went, Trapped, Cut, with_value, go_on, then_run, went_all, unless_empty, offender}
 use Rattle.isp_model.specs.Expressions.{is_outside, element, mapped, value}
 use Rattle.isp_model.specs.Statements.{written, stored, store, unless_outside, run, run_all}
 use Rattle.isp_model.specs.Runs.{row_bits, uncalled}

@@ -1,13 +1,12 @@
 -- What is stored in an array, member by member.
-use Rattle.std.proofs.Common.{◌≡◌, ◌≢◌, refl, sym, ap, ap₂, ◌∙◌, subst, ⊎_elim, ℕ, zero, suc, ◌+◌, ◌<◌, ◌≤◌, Bool, true, false, Option, Some, None, List, [], ◌∷◌, length, arith, add-one, eq-eqb, ne_eqb, ltb-true, le-ltb, ◌||◌, not, ℤ, pos, negsuc, unsigned_abs, int_lt, nat_lt}
+use Rattle.std.proofs.Common.{◌≡◌, refl, sym, ap, ap₂, ◌∙◌, ℕ, zero, suc, ◌+◌, ◌<◌, Bool, true, false, Some, None, List, [], ◌∷◌, length, arith, add-one, eq-eqb, ltb-true, le-ltb, ◌||◌, not, ℤ, pos, negsuc, unsigned_abs, int_lt, nat_lt}
 use Rattle.std.specs.Prelude.{if◌then◌else◌, nat_eq}
 use Rattle.std.proofs.Math.Path.{fun_ext}
-use Rattle.std.proofs.lemmas.Bool.{cases_eq}
 use Rattle.isp_base.specs.declared.types.Elem.{Elem}
 use Rattle.isp_base.specs.declared.types.Elem.TheVariants.{Bool as Truth}
 use Rattle.isp_base.specs.Rows.{Row}
 use Rattle.isp_base.specs.Values.{number}
-use Rattle.isp_model.specs.Gang.{Mask, Lanes, Map, on, any, put, put_at, scatter}
+use Rattle.isp_model.specs.Gang.{Mask, Lanes, Map, on, any, put, put_at}
 use Rattle.isp_model.specs.State.{spread}
 use Rattle.isp_model.specs.Expressions.{is_outside, element, mapped}
 use Rattle.isp_model.specs.Runs.{row_bits}

@@ -1,5 +1,5 @@
 -- What an expression gives, from what its parts give.
-use Rattle.std.proofs.Common.{◌≡◌, refl, sym, ap, ap₂, ◌∙◌, subst, ⊎_elim, ℕ, zero, suc, ◌+◌, ◌^◌, ◌<◌, ◌≤◌, Bool, true, false, List, length, get_or, slice_get, Option, Some, None, arith, lit≤}
+use Rattle.std.proofs.Common.{◌≡◌, refl, sym, ap, ap₂, ◌∙◌, subst, ℕ, ◌+◌, ◌^◌, ◌<◌, ◌≤◌, true, List, length, slice_get, Option, Some, None, arith, lit≤}
 use Rattle.isp_base.specs.declared.types.Elem.{Elem}
 use Rattle.isp_base.specs.declared.types.Rate.{Rate}
 use Rattle.isp_base.specs.declared.types.Rate.TheVariants.{Uniform, Varying}
@@ -14,15 +14,15 @@ use Rattle.isp_base.specs.Values.{width, op_bits}
 use Rattle.isp_rates.specs.declared.typed.Holds.TheVariants.{Many}
 use Rattle.isp_rates.specs.Fine.{goes_to, rate_or}
 use Rattle.isp_rates.specs.Typed.{Typed, t_number, t_program_index, t_variable, t_item, t_brackets, t_binary, type_of}
-use Rattle.isp_model.specs.Gang.{Mask, on}
-use Rattle.isp_model.specs.State.{State, Payload, Each, Val, Gives, Fails, bind, checked, offender, trap}
-use Rattle.isp_model.specs.Expressions.{is_outside, is_zero, mapped, joined, element, variable, item, value}
+use Rattle.isp_model.specs.Gang.{Mask}
+use Rattle.isp_model.specs.State.{State, Payload, Each, Val, Gives, Fails, bind, checked, offender}
+use Rattle.isp_model.specs.Expressions.{is_outside, is_zero, joined, variable, item, value}
 use Rattle.isp_model.specs.Runs.{row_bits, uncalled}
 use Rattle.isp_model.specs.declared.lanes.Computed.{Computed}
 use Rattle.isp_model.specs.declared.lanes.Computed.TheVariants as computed
 use Rattle.isp_model.specs.declared.state.State as rust
 use Rattle.isp_model.specs.declared.call.Call.{Call}
-use Rattle.isp_model.specs.Seen.{lane_of, bits_in, payload_of, IsOf, IsGroup, IsTrapOf, Reads, Joins, seen, stores_seen, store_named, store_bits, row_elem, variables_of, Shaped, Evaluates, Traps}
+use Rattle.isp_model.specs.Seen.{lane_of, bits_in, payload_of, IsOf, IsGroup, IsTrapOf, Reads, Joins, seen, stores_seen, store_named, row_elem, variables_of, Shaped, Evaluates, Traps}
 use Rattle.isp_model.proofs.Kernels.{on_same}
 
 goes_or : (a b ra rb : Rate) → goes_to a ra ≡ true → goes_to b rb ≡ true → goes_to (rate_or a b) (rate_or ra rb) ≡ true

@@ -1,15 +1,15 @@
 -- The run of an entry, from what its body does.
-use Rattle.std.proofs.Common.{◌≡◌, refl, sym, ap, ap₂, ◌∙◌, ℕ, zero, suc, List, [], ◌∷◌, length, Option, None}
+use Rattle.std.proofs.Common.{◌≡◌, refl, sym, ap, ap₂, ◌∙◌, ℕ, List, [], ◌∷◌, length, None}
 use Rattle.isp_base.specs.declared.trap.Trap.{Trap}
 use Rattle.isp_base.specs.declared.signature.Argument.{Argument}
 use Rattle.isp_base.specs.declared.types.Elem.{Elem}
 use Rattle.isp_base.specs.Rows.{Row}
-use Rattle.isp_base.specs.Outcomes.{Outcome, Ends, Traps}
+use Rattle.isp_base.specs.Outcomes.{Ends, Traps}
 use Rattle.isp_rates.specs.Typed.{Function}
-use Rattle.isp_model.specs.Gang.{Mask, Lanes, everyone}
-use Rattle.isp_model.specs.State.{State, Stores, tick, Res}
+use Rattle.isp_model.specs.Gang.{Mask, everyone}
+use Rattle.isp_model.specs.State.{tick}
 use Rattle.isp_model.specs.Statements.{run_all}
-use Rattle.isp_model.specs.Runs.{rows, row_bits, tabulate, rows_now, stores_of, first_state, uncalled, meaning, outcome_of, run_of}
+use Rattle.isp_model.specs.Runs.{rows, tabulate, rows_now, stores_of, first_state, uncalled, meaning, outcome_of, run_of}
 use Rattle.isp_model.specs.declared.state.State as rust
 use Rattle.isp_model.specs.declared.call.Call.{Call}
 use Rattle.isp_model.specs.Seen.{lane_of, store_bits, Shape, shape_of, shapes, seen, stores_seen, GoesAll, TrapsIn}

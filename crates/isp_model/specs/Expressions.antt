@@ -1,15 +1,14 @@
 -- What an expression gives over a set of instances that is not empty.
-use Rattle.std.specs.Prelude.{◌≡◌, ℕ, ◌^◌, ◌%◌, ◌==◌, List, Option, Some, None, Bool, true, false, not, ◌||◌, ◌&&◌, ℤ, pos, int_lt, unsigned_abs}
+use Rattle.std.specs.Prelude.{ℕ, ◌^◌, ◌%◌, ◌==◌, List, Bool, not, ◌||◌, ◌&&◌, pos, int_lt, unsigned_abs}
 use Rattle.isp_base.specs.Values.{width, number, op_bits, divides}
 use Rattle.isp_base.specs.declared.types.Elem.{Elem}
 use Rattle.isp_base.specs.declared.types.Rate.{Rate}
 use Rattle.isp_base.specs.declared.types.Rate.TheVariants.{Uniform, Varying}
-use Rattle.isp_base.specs.declared.types.Ty.{Ty}
 use Rattle.isp_base.specs.declared.types.Span.{Span}
 use Rattle.isp_base.specs.declared.operators.BinOp.{BinOp}
 use Rattle.isp_base.specs.declared.trap.TrapKind.TheVariants.{Divide, Index}
 use Rattle.isp_rates.specs.Typed.{Typed, t_number, t_program_index, t_variable, t_item, t_brackets, t_binary, type_of}
-use Rattle.isp_model.specs.Gang.{Mask, Map, on, map1, map2}
+use Rattle.isp_model.specs.Gang.{Mask, on, map1, map2}
 use Rattle.isp_model.specs.State.{State, Stores, tick, Payload, One, Each, Val, Gives, bind, checked, spread, offender}
 
 -- what is handed to a call: a value, or an array by its store

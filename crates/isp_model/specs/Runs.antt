@@ -1,14 +1,13 @@
 -- The run of an entry: its body over all instances of the gang, from the bound arguments.
-use Rattle.std.specs.Prelude.{◌≡◌, ℕ, zero, suc, ◌+◌, ◌^◌, ◌%◌, List, [], ◌∷◌, length, map, Option, Some, None, Bool, true, false, slice_index, nat_lt, if◌then◌else◌}
+use Rattle.std.specs.Prelude.{ℕ, zero, suc, ◌^◌, ◌%◌, List, [], ◌∷◌, length, None, slice_index}
 use Rattle.isp_base.specs.Values.{width}
 use Rattle.isp_base.specs.Rows.{Row}
 use Rattle.isp_base.specs.Outcomes.{Outcome, Ends, Traps, GoesOn}
-use Rattle.isp_base.specs.declared.types.Elem.{Elem}
 use Rattle.isp_base.specs.declared.signature.Argument.{Argument}
 use Rattle.isp_base.specs.declared.signature.Argument.TheVariants.{Value as AValue, Array as AnArray}
 use Rattle.isp_rates.specs.Typed.{Function}
-use Rattle.isp_model.specs.Gang.{Mask, Lanes, everyone}
-use Rattle.isp_model.specs.State.{State, Stores, tick, Val, Stops, Res, Went, Trapped, Cut}
+use Rattle.isp_model.specs.Gang.{Lanes, everyone}
+use Rattle.isp_model.specs.State.{State, Stores, tick, Stops, Res, Went, Trapped, Cut}
 use Rattle.isp_model.specs.Expressions.{Calls}
 use Rattle.isp_model.specs.Statements.{run_all}
 

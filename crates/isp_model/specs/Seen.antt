@@ -1,5 +1,5 @@
 -- How the evaluator's lists are the functions of the definitions: 0 past a list's end, and no instance past the set's.
-use Rattle.std.specs.Prelude.{◌≡◌, ℕ, zero, suc, ◌^◌, ◌<◌, ◌≤◌, List, [], ◌∷◌, length, map, get_or, slice_get, Option, Some, None, Bool, true, false, Result, Ok, Err}
+use Rattle.std.specs.Prelude.{◌≡◌, ℕ, zero, suc, ◌^◌, ◌<◌, ◌≤◌, List, [], ◌∷◌, length, map, get_or, slice_get, Option, Some, None, Bool, true, false}
 use Rattle.isp_base.specs.Values.{width, op_bits}
 use Rattle.isp_base.specs.Rows.{Row, Fit}
 use Rattle.isp_base.specs.declared.types.Elem.{Elem}
@@ -15,7 +15,7 @@ use Rattle.isp_base.specs.declared.signature.Argument.{Argument}
 use Rattle.isp_rates.specs.declared.typed.Holds.{Holds}
 use Rattle.isp_rates.specs.declared.typed.Holds.TheVariants.{One as OneValue, Many}
 use Rattle.isp_rates.specs.Fine.{goes_to, rate_or}
-use Rattle.isp_rates.specs.Typed.{Typed, type_of, TStmt, tstmts_of}
+use Rattle.isp_rates.specs.Typed.{Typed, type_of, TStmt}
 use Rattle.isp_model.specs.Gang.{Mask, Lanes, on, any, put, scatter}
 use Rattle.isp_model.specs.State.{State, Stores, Payload, One, Each, Gives, Fails, Trapped, went_all, spread, offender, trap}
 use Rattle.isp_model.specs.Expressions.{is_outside, is_zero, element, mapped, joined, value}

@@ -1,13 +1,13 @@
 -- What a statement does over a set of instances that is not empty.
-use Rattle.std.specs.Prelude.{◌≡◌, ℕ, List, [], ◌∷◌, Option, Some, None}
+use Rattle.std.specs.Prelude.{ℕ, List, [], ◌∷◌, Option, Some, None}
 use Rattle.isp_base.specs.declared.types.Elem.{Elem}
 use Rattle.isp_base.specs.declared.types.Rate.{Rate}
 use Rattle.isp_base.specs.declared.types.Rate.TheVariants.{Uniform, Varying}
 use Rattle.isp_base.specs.declared.types.Span.{Span}
 use Rattle.isp_base.specs.declared.trap.TrapKind.TheVariants.{Index}
 use Rattle.isp_rates.specs.Typed.{type_of, TStmt, t_declare, t_assign, t_assign_item}
-use Rattle.isp_model.specs.Gang.{Mask, Lanes, any, over, put, put_at, scatter}
-use Rattle.isp_model.specs.State.{State, Stores, tick, Payload, One, Each, Res, Went, Trapped, with_value, then_run, went_all, unless_empty, spread, offender, trap}
+use Rattle.isp_model.specs.Gang.{Mask, Lanes, any, over, put, scatter}
+use Rattle.isp_model.specs.State.{State, Stores, tick, Payload, One, Each, Res, Trapped, with_value, then_run, went_all, unless_empty, spread, offender, trap}
 use Rattle.isp_model.specs.Expressions.{Calls, is_outside, element, mapped, value}
 
 -- A variable is written for the members of a set. A uniform one is written once; no accepted program gives it more than one value.

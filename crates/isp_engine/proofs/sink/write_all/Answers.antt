@@ -1,4 +1,4 @@
-use Rattle.std.proofs.Common.{arith, rules, length-take, length-drop}
+use Rattle.std.proofs.Common.{arith, rules, length-drop}
 use Rattle.isp_engine.proofs.Written.{adds_more}
 use Rattle.isp_engine.proofs.sink.write_all.Goals as goal
 

@@ -1,4 +1,4 @@
-use Rattle.std.proofs.Common.{sym, ap, ◌∙◌, length, arith}
+use Rattle.std.proofs.Common.{sym, ap, ◌∙◌, length}
 use Rattle.isp_base.specs.Rows.{Row}
 use Rattle.isp_model.proofs.Rows.{row_bits_at, row_bits_past}
 use Rattle.isp_model.proofs.arrays.count.Goals as goal

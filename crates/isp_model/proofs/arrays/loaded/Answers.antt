@@ -1,4 +1,4 @@
-use Rattle.std.proofs.Common.{◌≡◌, false, sym, ap, ◌∙◌}
+use Rattle.std.proofs.Common.{ap, ◌∙◌}
 use Rattle.isp_model.specs.Expressions.{is_outside}
 use Rattle.isp_model.specs.Seen.{flag_of}
 use Rattle.isp_model.proofs.Stores.{one_inside}

@@ -1,8 +1,6 @@
-use Rattle.std.proofs.Common.{◌≡◌, ◌<◌, ◌^◌, sym, ap, ◌∙◌, ℕ, length, get_or, subst, arith, rules}
+use Rattle.std.proofs.Common.{◌<◌, ◌^◌, length, subst, rules}
 use Rattle.isp_base.specs.declared.types.Elem.{Elem}
 use Rattle.isp_base.specs.Values.{width}
-use Rattle.isp_base.specs.Rows.{Row}
-use Rattle.isp_model.specs.Seen.{lane_of}
 use Rattle.isp_model.proofs.Rows.{row_bits_at, row_elem_at, row_there, element_put, element_shapes}
 use Rattle.isp_model.proofs.arrays.put.Goals as goal
 

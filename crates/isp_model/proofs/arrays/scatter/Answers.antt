@@ -1,6 +1,5 @@
-use Rattle.std.proofs.Common.{◌≡◌, ◌<◌, ◌^◌, ◌+◌, ℕ, List, length, subst, sym, ap, ◌∙◌}
+use Rattle.std.proofs.Common.{◌<◌, ◌^◌, subst, sym, ap, ◌∙◌}
 use Rattle.isp_base.specs.declared.types.Elem.{Elem}
-use Rattle.isp_base.specs.Rows.{Row}
 use Rattle.isp_base.specs.Values.{width}
 use Rattle.isp_model.specs.Gang.{Lanes, put}
 use Rattle.isp_model.specs.Expressions.{element}

@@ -1,4 +1,4 @@
-use Rattle.std.proofs.Common.{◌≡◌, false, subst, sym, ap, ◌∙◌}
+use Rattle.std.proofs.Common.{subst, ap, ◌∙◌}
 use Rattle.isp_model.specs.Expressions.{is_outside}
 use Rattle.isp_model.specs.declared.lanes.Computed.{Computed}
 use Rattle.isp_model.specs.Seen.{flag_of, row_elem, FitsElem}

@@ -1,5 +1,4 @@
-use Rattle.std.proofs.Common.{◌≡◌, ap, subst, ◌∙◌, sym, true}
-use Rattle.isp_base.specs.Values.{op_bits}
+use Rattle.std.proofs.Common.{ap, subst, ◌∙◌, sym}
 use Rattle.isp_model.specs.Expressions.{is_zero}
 use Rattle.isp_model.specs.declared.lanes.Computed.{Computed}
 use Rattle.isp_model.specs.Seen.{FitsElem, flag_of, bits_in}

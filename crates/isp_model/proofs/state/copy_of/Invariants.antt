@@ -1,5 +1,4 @@
 use Rattle.std.proofs.Common.{◌≡◌, take}
-use Rattle.isp_base.specs.Rows.{Row}
 use Rattle.isp_model.proofs.state.copy_of.Given as goal
 
 abbrev pub invariant-loop-place : goal.invariant-loop-place

@@ -1,6 +1,6 @@
-use Rattle.std.proofs.Common.{◌≡◌, sym, get_or, replicate, List, ◌∙◌, ◌+◌, ap, arith, subst, Vec, Global, ℕ, suc, add-one, rules}
+use Rattle.std.proofs.Common.{◌≡◌, sym, get_or, replicate, List, ◌∙◌, ap, arith, ℕ, suc, add-one, rules}
 use Rattle.isp_model.specs.Runs.{store_of}
-use Rattle.isp_model.proofs.Rows.{Filled, filled_put, filled_all, store_first, store_value, store_array, store_past, store_le, same_everywhere}
+use Rattle.isp_model.proofs.Rows.{filled_put, filled_all, store_first, store_value, store_array, store_past, store_le, same_everywhere}
 use Rattle.isp_model.proofs.state.stores.Goals as goal
 use Rattle.isp_model.proofs.state.stores.Goals.{in-Array, in_default}
 

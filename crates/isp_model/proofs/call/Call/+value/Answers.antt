@@ -1,5 +1,4 @@
-use Rattle.std.proofs.Common.{◌≡◌, ℕ, List, length, slice_get, Some, Result, subst, sym, ap, ap₂, ◌∙◌, arith}
-use Rattle.std.specs.Prelude.{IfOk, IfErr, MatchResult}
+use Rattle.std.proofs.Common.{◌≡◌, length, subst, sym, ap, ap₂, ◌∙◌, arith}
 use Rattle.std.proofs.lemmas.Result.{err_from_is_err_and, IfOk-weaker, MatchResult-weaker}
 use Rattle.std.proofs.lemmas.List.{get_or_default}
 use Rattle.std.proofs.lemmas.Option.{slice_get_within}
@@ -8,7 +7,7 @@ use Rattle.isp_base.specs.declared.types.Ty.{Ty}
 use Rattle.isp_base.specs.declared.trap.TrapKind.TheVariants.{Index}
 use Rattle.isp_rates.specs.declared.typed.Typed as rust
 use Rattle.isp_rates.specs.Fine.{IsFine}
-use Rattle.isp_rates.specs.Typed.{Typed, typed_of, type_of, t_item, t_brackets, t_binary}
+use Rattle.isp_rates.specs.Typed.{typed_of, type_of, t_item, t_brackets, t_binary}
 use Rattle.isp_model.specs.State.{offender}
 use Rattle.isp_model.specs.Expressions.{is_outside}
 use Rattle.isp_model.specs.Runs.{row_bits}

@@ -1,4 +1,4 @@
-use Rattle.std.proofs.Common.{◌≡◌, ◌<◌, ◌^◌, ℕ, List, length, get_or, Vec, Global, subst, sym, ap, ◌∙◌, arith}
+use Rattle.std.proofs.Common.{◌≡◌, ◌<◌, ◌^◌, length, Vec, Global, subst, sym, ap, ◌∙◌, arith}
 use Rattle.std.proofs.lemmas.Result.{err_from_is_err_and}
 use Rattle.std.proofs.lemmas.List.{get_or_default}
 use Rattle.std.proofs.lemmas.Option.{slice_get_within}
@@ -13,7 +13,7 @@ use Rattle.isp_model.specs.State.{offender}
 use Rattle.isp_model.specs.Expressions.{is_outside}
 use Rattle.isp_model.specs.Runs.{row_bits}
 use Rattle.isp_model.specs.declared.state.State as rust
-use Rattle.isp_model.specs.Seen.{flag_of, bits_in, payload_of, variables_of, store_named, shapes, row_elem, Shaped, Stores_all, IsTrapOf}
+use Rattle.isp_model.specs.Seen.{flag_of, bits_in, payload_of, variables_of, store_named, shapes, Shaped, Stores_all, IsTrapOf}
 use Rattle.isp_model.proofs.Values.{store_elem}
 use Rattle.isp_model.proofs.States.{arrays_shaped}
 use Rattle.isp_model.proofs.Steps.{goes_at, stops_at, declare_goes, assign_goes, declare_traps, assign_traps, place_traps, stored_traps, store_traps, store_goes}

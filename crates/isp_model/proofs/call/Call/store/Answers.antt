@@ -1,4 +1,4 @@
-use Rattle.std.proofs.Common.{◌≡◌, true, false, ℕ, List, length, Option, None, subst, sym, ap, ◌∙◌}
+use Rattle.std.proofs.Common.{◌≡◌, true, false, ℕ, List, length, None, subst, sym, ap, ◌∙◌}
 use Rattle.isp_base.specs.Rows.{Row}
 use Rattle.isp_model.specs.State.{offender}
 use Rattle.isp_model.specs.Expressions.{is_outside}
