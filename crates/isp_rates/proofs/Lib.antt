@@ -9,3 +9,4 @@ pub mod Fine
 pub mod Programs
 pub mod Whole
 pub mod Examples
+pub mod FirstNodes

@@ -10,6 +10,8 @@ mod covered;
 #[cfg(test)]
 mod fakes;
 #[cfg(test)]
+mod grammar;
+#[cfg(test)]
 mod lanes;
 #[cfg(test)]
 mod lexer;

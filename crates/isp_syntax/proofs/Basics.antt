@@ -7,8 +7,8 @@ use Rattle.isp_lex.specs.declared.token.Mark.TheVariants as mark
 use Rattle.isp_lex.specs.declared.token.TokenKind.{TokenKind}
 use Rattle.isp_lex.specs.declared.token.TokenKind.TheVariants as kind
 use Rattle.isp_lex.specs.declared.token.Token.{Token}
-use Rattle.isp_syntax.specs.Grammar.{word}
-use Rattle.isp_syntax.specs.Reading.{◌>>=◌, refusal, refuse, head, on_head, mark_at, word_from, word_at}
+use Rattle.isp_syntax.specs.Signs.{word}
+use Rattle.isp_syntax.specs.Reading.{◌>>=◌, refusal, refuse, head, on_head, is_word, mark_at, word_from, word_at}
 use Rattle.isp_syntax.specs.declared.stop.Why.TheVariants.{Unexpected}
 use Rattle.isp_syntax.specs.declared.stop.Refusal.{Refusal}
 use Rattle.isp_syntax.specs.declared.tree.Word.{Word}
@@ -76,7 +76,7 @@ head_some none f u t rest b w e = rw w e
 -- ---- marks
 
 marks : List Mark
-marks = mark.ParenOpen ∷ mark.ParenClose ∷ mark.BraceOpen ∷ mark.BraceClose ∷ mark.BracketOpen ∷ mark.BracketClose ∷ mark.Semicolon ∷ mark.Comma ∷ mark.Assign ∷ mark.Plus ∷ mark.Minus ∷ mark.Star ∷ mark.Void ∷ mark.Bool ∷ mark.Int ∷ mark.Int8 ∷ mark.Int16 ∷ mark.Int32 ∷ mark.Int64 ∷ mark.Uint ∷ mark.Uint8 ∷ mark.Uint16 ∷ mark.Uint32 ∷ mark.Uint64 ∷ mark.Signed ∷ mark.Unsigned ∷ mark.Const ∷ mark.Uniform ∷ mark.Varying ∷ mark.Export ∷ mark.Static ∷ mark.Inline ∷ mark.If ∷ mark.Cif ∷ mark.Else ∷ mark.While ∷ mark.Cwhile ∷ mark.Do ∷ mark.Cdo ∷ mark.For ∷ mark.Cfor ∷ mark.Foreach ∷ mark.ForeachTiled ∷ mark.ForeachActive ∷ mark.Unmasked ∷ mark.Break ∷ mark.Continue ∷ mark.Return ∷ mark.Print ∷ mark.Assert ∷ mark.True ∷ mark.False ∷ mark.ProgramIndex ∷ mark.ProgramCount ∷ []
+marks = mark.ParenOpen ∷ mark.ParenClose ∷ mark.BraceOpen ∷ mark.BraceClose ∷ mark.BracketOpen ∷ mark.BracketClose ∷ mark.Semicolon ∷ mark.Comma ∷ mark.Question ∷ mark.Colon ∷ mark.Ellipsis ∷ mark.Assign ∷ mark.Equal ∷ mark.NotEqual ∷ mark.Less ∷ mark.LessEqual ∷ mark.Greater ∷ mark.GreaterEqual ∷ mark.ShiftLeft ∷ mark.ShiftRight ∷ mark.ShiftLeftAssign ∷ mark.ShiftRightAssign ∷ mark.Plus ∷ mark.Increment ∷ mark.PlusAssign ∷ mark.Minus ∷ mark.Decrement ∷ mark.MinusAssign ∷ mark.Star ∷ mark.StarAssign ∷ mark.Slash ∷ mark.SlashAssign ∷ mark.Percent ∷ mark.PercentAssign ∷ mark.And ∷ mark.AndAnd ∷ mark.AndAssign ∷ mark.Or ∷ mark.OrOr ∷ mark.OrAssign ∷ mark.Xor ∷ mark.XorAssign ∷ mark.Inverse ∷ mark.Not ∷ mark.Void ∷ mark.Bool ∷ mark.Int ∷ mark.Int8 ∷ mark.Int16 ∷ mark.Int32 ∷ mark.Int64 ∷ mark.Uint ∷ mark.Uint8 ∷ mark.Uint16 ∷ mark.Uint32 ∷ mark.Uint64 ∷ mark.Signed ∷ mark.Unsigned ∷ mark.Const ∷ mark.Uniform ∷ mark.Varying ∷ mark.Export ∷ mark.Static ∷ mark.Inline ∷ mark.If ∷ mark.Cif ∷ mark.Else ∷ mark.While ∷ mark.Cwhile ∷ mark.Do ∷ mark.Cdo ∷ mark.For ∷ mark.Cfor ∷ mark.Foreach ∷ mark.ForeachTiled ∷ mark.ForeachActive ∷ mark.Unmasked ∷ mark.Break ∷ mark.Continue ∷ mark.Return ∷ mark.Print ∷ mark.Assert ∷ mark.True ∷ mark.False ∷ mark.ProgramIndex ∷ mark.ProgramCount ∷ []
 
 pick : List Mark → ℕ → Mark
 pick [] n = mark.ParenOpen
@@ -97,6 +97,7 @@ eqb_is a b e = omega (arith, eqb-true _ _ e)
 pub is_mark_is : (m : Mark) (k : TokenKind) → is_mark m k ≡ true → k ≡ kind.Mark m
 is_mark_is m (kind.Word w) e = absurd cc
 is_mark_is m (kind.Number n) e = absurd cc
+is_mark_is m (kind.Text t) e = absurd cc
 is_mark_is m (kind.Mark l) e = ap kind.Mark (sym (same_mark m l (eqb_is _ _ e)))
 is_mark_is m kind.LeftOut e = absurd cc
 
@@ -155,6 +156,7 @@ mark_again m s rest = rw (is_mark_same m) refl
 word_from_ok : (k : TokenKind) (s : Span) (ts : List Token) (w : Word) (rest : List Token) → word_from k (token k s) ts ≡ Ok (w, rest) → token k s ∷ ts ≡ word w ∷ rest
 word_from_ok (kind.Word n) s ts w rest e = ap (λ (q : Word × List Token). word q.0 ∷ q.1) (ok_is e)
 word_from_ok (kind.Number v) s ts w rest e = absurd (err_ok e)
+word_from_ok (kind.Text x) s ts w rest e = absurd (err_ok e)
 word_from_ok (kind.Mark m) s ts w rest e = absurd (err_ok e)
 word_from_ok kind.LeftOut s ts w rest e = absurd (err_ok e)
 
@@ -166,3 +168,27 @@ word_ok (t ∷ ts) w rest e = word_from_ok t.kind t.span ts w rest e
 pub word_again : (w : Word) (rest : List Token) → word_at (word w ∷ rest) ≡ Ok (w, rest)
 unfolding word_at
 word_again w rest = refl
+
+word_from_off : (k : TokenKind) (t : Token) (ts : List Token) → is_word k ≡ false → word_from k t ts ≡ refuse Unexpected (t ∷ ts)
+word_from_off (kind.Word n) t ts e = absurd cc
+word_from_off (kind.Number v) t ts e = refl
+word_from_off (kind.Text x) t ts e = refl
+word_from_off (kind.Mark m) t ts e = refl
+word_from_off kind.LeftOut t ts e = refl
+
+pub word_off : (u : List Token) → on_head false is_word (head u) ≡ false → word_at u ≡ refuse Unexpected u
+unfolding word_at
+word_off [] e = refl
+word_off (t ∷ u) e = word_from_off t.kind t u e
+
+word_from_err : (k : TokenKind) (t : Token) (ts : List Token) (r : Refusal) → word_from k t ts ≡ Err r → (r ≡ refusal Unexpected (t ∷ ts)) × (is_word k ≡ false)
+word_from_err (kind.Word n) t ts r e = absurd (ok_err e)
+word_from_err (kind.Number v) t ts r e = (sym (err_is e), refl)
+word_from_err (kind.Text x) t ts r e = (sym (err_is e), refl)
+word_from_err (kind.Mark m) t ts r e = (sym (err_is e), refl)
+word_from_err kind.LeftOut t ts r e = (sym (err_is e), refl)
+
+pub word_err : (ts : List Token) (r : Refusal) → word_at ts ≡ Err r → (r ≡ refusal Unexpected ts) × (on_head false is_word (head ts) ≡ false)
+unfolding word_at
+word_err [] r e = (sym (err_is e), refl)
+word_err (t ∷ ts) r e = word_from_err t.kind t ts r e

@@ -1,81 +1,124 @@
--- What is read as an expression is one.
-use Rattle.std.proofs.Common.{◌≡◌, ℕ, zero, suc, ◌≤◌, ◌<◌, Bool, true, false, List, [], ◌∷◌, ◌++◌, drop, Option, Some, None, Ok, refl, sym, ap, subst, ◌∙◌, append_assoc, arith, inl, inr, ◌⊎◌, eqb-true}
-use Rattle.std.specs.Prelude.{nat_lt, ◌==◌}
-use Rattle.std.proofs.lemmas.Bool.{cases_lt, ltb-false}
+-- The forms of expressions, of which they are made.
+use Rattle.std.proofs.Common.{◌≡◌, ℕ, zero, suc, ◌≤◌, ◌<◌, Bool, true, false, eqb, List, [], ◌∷◌, ◌++◌, drop, Option, Some, None, Ok, refl, sym, ap, subst, ◌∙◌, arith, inl, inr, ◌⊎◌, eqb-true}
+use Rattle.std.specs.Prelude.{◌==◌, ◌&&◌, not}
+use Rattle.std.proofs.lemmas.Bool.{ne_eqb}
 use Rattle.isp_base.specs.Types.{span_to}
 use Rattle.isp_base.specs.declared.types.Span.{Span}
 use Rattle.isp_base.specs.declared.types.Value.{Value}
 use Rattle.isp_base.specs.declared.types.Elem.TheVariants as elem
-use Rattle.isp_lex.specs.Tokens.{at, starts_with}
+use Rattle.isp_lex.specs.Tokens.{is_mark, at, starts_with}
+use Rattle.isp_lex.specs.declared.token.Mark.{Mark}
 use Rattle.isp_lex.specs.declared.token.Mark.TheVariants as mark
 use Rattle.isp_lex.specs.declared.token.TokenKind.{TokenKind}
 use Rattle.isp_lex.specs.declared.token.TokenKind.TheVariants as kind
 use Rattle.isp_lex.specs.declared.token.Token.{Token}
-use Rattle.isp_syntax.proofs.Basics.{token, ok_is, err_ok, some_is, none_some, bind_ok, chosen}
-use Rattle.isp_syntax.proofs.Forms.{Follows, Form, Found, IsSound, Can, One, one_sound, Named, named_sound, Free, both_sound, NameThen, named_then, name_then_is, Before, then_one, before_is, made_sound, Optional, optional_sound}
-use Rattle.isp_syntax.specs.Grammar.{numeral, word, sign, level, loosest, IsPlace, is_variable, is_item, IsExpr, is_number, is_program_index, is_place, is_brackets, is_tighter, is_binary}
-use Rattle.isp_syntax.specs.Reading.{Reader, ◌>>=◌, refuse, at_limit, Start, by_number, by_word, by_program_index, by_bracket, by_none, start_of, begins_expr, operator_of, of_level, operator_at, index_at, place_of, place_at, operand_from, operand_at, joined, step_at, more_at, binary_at, expr_at}
-use Rattle.isp_syntax.specs.Tree.{Expr, number, name, program_index, item, brackets, binary, depth}
-use Rattle.isp_syntax.specs.declared.stop.Why.TheVariants.{Unexpected, TooDeep}
+use Rattle.isp_syntax.proofs.Basics.{token, ok_is, some_is, none_some, bind_ok, chosen, starts_cons}
+use Rattle.isp_syntax.proofs.Choices.{Either, then_behind}
+use Rattle.isp_syntax.proofs.Forms.{Follows, Form, Found, IsSound, Can, One, Named, Both, Free, Behind, one_then, behind_is, NameThen, named_then, name_then_is, Before, then_one, before_is, Optional, deepest, AreListed, IsSeries, Series}
+use Rattle.isp_syntax.proofs.TypesRead.{Types, ends_type, nowhere}
+use Rattle.isp_syntax.specs.Depth.{depth, depth_of_row}
+use Rattle.isp_syntax.specs.Grammar.{IsPlace, is_variable, is_item, IsExpr, is_number, is_place, is_call, is_brackets, is_cast, is_tighter, is_choose, IsArgument, is_value_argument, is_reference, IsArguments, is_no_argument, is_some_arguments, IsArgumentList, is_last_argument, is_more_arguments}
+use Rattle.isp_syntax.specs.Reading.{◌>>=◌}
+use Rattle.isp_syntax.specs.ReadingTypes.{begins_type}
+use Rattle.isp_syntax.specs.ReadingExprs.{start_of, operator_of, of_level, operator_at, bracketed_at, index_at, place_of, place_at, argument_of, argument_at, arguments_at, Suffix, by_nothing, by_index, by_arguments, suffix_from, suffix_at, named, named_at, bracket_of, bracket_at, choice_of, parts_at, expr_at, target_at}
+use Rattle.isp_syntax.specs.Signs.{numeral, word, truth_mark, prefix_mark, sign, level, joined_level, loosest}
+use Rattle.isp_syntax.specs.Tree.{TypeTree, Expr, number, truth, program_index, program_count, name, item, call, reference, brackets, cast, prefix, binary, choose, listed}
+use Rattle.isp_syntax.specs.declared.expr.Start.{Start}
+use Rattle.isp_syntax.specs.declared.expr.Start.TheVariants as by
 use Rattle.isp_syntax.specs.declared.tree.Word.{Word}
 use Rattle.isp_syntax.specs.declared.tree.Operator.{Operator}
+use Rattle.isp_syntax.specs.declared.tree.Operator.TheVariants as operator
 
 -- the last token is a name, which an opening bracket would go on
 abbrev pub ends_in_name : Expr → Bool
 ends_in_name (number v s) = false
-ends_in_name (name w) = true
+ends_in_name (truth b s) = false
 ends_in_name (program_index s) = false
+ends_in_name (program_count s) = false
+ends_in_name (name w) = true
 ends_in_name (item w x s) = false
+ends_in_name (call w xs s) = false
+ends_in_name (reference x s) = ends_in_name x
 ends_in_name (brackets x s) = false
+ends_in_name (cast t x s) = ends_in_name x
+ends_in_name (prefix p x s) = ends_in_name x
 ends_in_name (binary op x y s) = ends_in_name y
+ends_in_name (choose x y z s) = ends_in_name z
 
 -- what may follow an expression of a level
 pub record Ends (k : ℕ) (x : Expr) (rest : List Token) : Type 0 where
-  pub bracket : ends_in_name x ≡ true → starts_with mark.BracketOpen rest ≡ false
+  pub index : ends_in_name x ≡ true → starts_with mark.BracketOpen rest ≡ false
+  pub arguments : ends_in_name x ≡ true → starts_with mark.ParenOpen rest ≡ false
   pub operators : (j : ℕ) → j < k → operator_at (suc j) rest ≡ None
+  pub choice : joined_level < k → starts_with mark.Question rest ≡ false
 
-abbrev pub Exp : ℕ → Form Expr
-Exp k = record { is = λ ts x. IsExpr k ts x; deep = depth; ends = λ x rest. Ends k x rest; read = λ n ts. expr_at n k ts }
+-- expressions of a level
+abbrev pub Exprs : ℕ → Form Expr
+Exprs k = record { is = λ ts x. IsExpr k ts x; deep = depth; ends = λ x rest. Ends k x rest; read = λ n ts. expr_at n k ts }
 
 -- ---- the first token
 
-pub number_start : (k : TokenKind) (v : Value) → start_of k ≡ by_number v → k ≡ kind.Number v
-number_start (kind.Number u) v e = cc
-number_start (kind.Word n) v e = absurd cc
-number_start (kind.Mark mark.ProgramIndex) v e = absurd cc
-number_start (kind.Mark mark.ParenOpen) v e = absurd cc
-number_start (kind.Mark _) v e = absurd cc
-number_start kind.LeftOut v e = absurd cc
+abbrev Starts : TokenKind → Start → Type 0
+Starts k (by.Number v) = k ≡ kind.Number v
+Starts k (by.Truth b) = k ≡ kind.Mark (truth_mark b)
+Starts k by.ProgramIndex = k ≡ kind.Mark mark.ProgramIndex
+Starts k by.ProgramCount = k ≡ kind.Mark mark.ProgramCount
+Starts k by.Word = Unit {0}
+Starts k by.Bracket = k ≡ kind.Mark mark.ParenOpen
+Starts k (by.Prefix p) = k ≡ kind.Mark (prefix_mark p)
+Starts k by.Nothing = Unit {0}
 
-pub index_start : (k : TokenKind) → start_of k ≡ by_program_index → k ≡ kind.Mark mark.ProgramIndex
-index_start (kind.Number u) e = absurd cc
-index_start (kind.Word n) e = absurd cc
-index_start (kind.Mark mark.ProgramIndex) e = refl
-index_start (kind.Mark mark.ParenOpen) e = absurd cc
-index_start (kind.Mark _) e = absurd cc
-index_start kind.LeftOut e = absurd cc
+starts : (k : TokenKind) → Starts k (start_of k)
+starts (kind.Word n) = tt
+starts (kind.Number v) = refl
+starts (kind.Text t) = tt
+starts (kind.Mark mark.True) = refl
+starts (kind.Mark mark.False) = refl
+starts (kind.Mark mark.ProgramIndex) = refl
+starts (kind.Mark mark.ProgramCount) = refl
+starts (kind.Mark mark.ParenOpen) = refl
+starts (kind.Mark mark.Minus) = refl
+starts (kind.Mark mark.Inverse) = refl
+starts (kind.Mark mark.Not) = refl
+starts (kind.Mark _) = tt
+starts kind.LeftOut = tt
 
-pub bracket_start : (k : TokenKind) → start_of k ≡ by_bracket → k ≡ kind.Mark mark.ParenOpen
-bracket_start (kind.Number u) e = absurd cc
-bracket_start (kind.Word n) e = absurd cc
-bracket_start (kind.Mark mark.ProgramIndex) e = absurd cc
-bracket_start (kind.Mark mark.ParenOpen) e = refl
-bracket_start (kind.Mark _) e = absurd cc
-bracket_start kind.LeftOut e = absurd cc
+pub started : (t : Token) (c : Start) → start_of t.kind ≡ c → Starts t.kind c
+started t c e = subst (λ (c : Start). Starts t.kind c) e (starts t.kind)
 
 pub with_kind : (t : Token) (k : TokenKind) → t.kind ≡ k → t ≡ token k t.span
 with_kind t k e = ap (λ (c : TokenKind). token c t.span) e
 
 -- ---- operators
 
-operator_mark : (c : TokenKind) (op : Operator) → operator_of c ≡ Some op → c ≡ kind.Mark (sign op)
-operator_mark (kind.Number v) op e = absurd (none_some e)
-operator_mark (kind.Word n) op e = absurd (none_some e)
-operator_mark (kind.Mark mark.Plus) op e = ap (λ (o : Operator). kind.Mark (sign o)) (some_is e)
-operator_mark (kind.Mark mark.Minus) op e = ap (λ (o : Operator). kind.Mark (sign o)) (some_is e)
-operator_mark (kind.Mark mark.Star) op e = ap (λ (o : Operator). kind.Mark (sign o)) (some_is e)
-operator_mark (kind.Mark _) op e = absurd (none_some e)
-operator_mark kind.LeftOut op e = absurd (none_some e)
+abbrev Signs : TokenKind → Option Operator → Type 0
+Signs k None = Unit {0}
+Signs k (Some op) = k ≡ kind.Mark (sign op)
+
+signs : (k : TokenKind) → Signs k (operator_of k)
+signs (kind.Word n) = tt
+signs (kind.Number v) = tt
+signs (kind.Text t) = tt
+signs (kind.Mark mark.Star) = refl
+signs (kind.Mark mark.Slash) = refl
+signs (kind.Mark mark.Percent) = refl
+signs (kind.Mark mark.Plus) = refl
+signs (kind.Mark mark.Minus) = refl
+signs (kind.Mark mark.ShiftLeft) = refl
+signs (kind.Mark mark.ShiftRight) = refl
+signs (kind.Mark mark.Less) = refl
+signs (kind.Mark mark.LessEqual) = refl
+signs (kind.Mark mark.Greater) = refl
+signs (kind.Mark mark.GreaterEqual) = refl
+signs (kind.Mark mark.Equal) = refl
+signs (kind.Mark mark.NotEqual) = refl
+signs (kind.Mark mark.And) = refl
+signs (kind.Mark mark.Xor) = refl
+signs (kind.Mark mark.Or) = refl
+signs (kind.Mark mark.AndAnd) = refl
+signs (kind.Mark mark.OrOr) = refl
+signs (kind.Mark _) = tt
+signs kind.LeftOut = tt
 
 of_level_is : (k : ℕ) (o : Option Operator) (op : Operator) → of_level k o ≡ Some op → (o ≡ Some op) × (level op ≡ k)
 of_level_is k None op e = absurd (none_some e)
@@ -90,18 +133,83 @@ pub operator_is : (k : ℕ) (ts : List Token) (op : Operator) → operator_at k 
 operator_is k [] op e = absurd (none_some e)
 operator_is k (t ∷ ts) op e =
     let p = of_level_is k (operator_of t.kind) op e in
-    (p.1, (t.span, ap (λ (c : TokenKind). token c t.span ∷ ts) (operator_mark t.kind op p.0)))
+    let m : t.kind ≡ kind.Mark (sign op) = subst (λ (o : Option Operator). Signs t.kind o) p.0 (signs t.kind) in
+    (p.1, (t.span, ap (λ (c : TokenKind). token c t.span ∷ ts) m))
 
--- ---- forms of expressions
+pub level_small : (op : Operator) → level op ≤ joined_level
+level_small operator.Multiply = omega arith
+level_small operator.Divide = omega arith
+level_small operator.Remainder = omega arith
+level_small operator.Add = omega arith
+level_small operator.Subtract = omega arith
+level_small operator.ShiftLeft = omega arith
+level_small operator.ShiftRight = omega arith
+level_small operator.Less = omega arith
+level_small operator.LessEqual = omega arith
+level_small operator.Greater = omega arith
+level_small operator.GreaterEqual = omega arith
+level_small operator.Equal = omega arith
+level_small operator.NotEqual = omega arith
+level_small operator.And = omega arith
+level_small operator.Xor = omega arith
+level_small operator.Or = omega arith
+level_small operator.AndAlso = omega arith
+level_small operator.OrElse = omega arith
 
-pub bracket_close_ends : (x : Expr) (s : Span) (rest : List Token) → Ends loosest x (at mark.BracketClose s ∷ rest)
-bracket_close_ends x s rest = record { bracket = λ b. refl; operators = λ j h. refl }
+of_level_over : (j : ℕ) (o : Option Operator) → joined_level ≤ j → of_level (suc j) o ≡ None
+of_level_over j None h = refl
+of_level_over j (Some op) h = let e : eqb (level op) (suc j) ≡ false = ne_eqb (level op) (suc j) (λ q. absurd (omega (arith, level_small op))) in rw e refl
 
-pub paren_close_ends : (x : Expr) (s : Span) (rest : List Token) → Ends loosest x (at mark.ParenClose s ∷ rest)
-paren_close_ends x s rest = record { bracket = λ b. refl; operators = λ j h. refl }
+-- no operator binds looser than those of the loosest level
+pub over_none : (j : ℕ) (ts : List Token) → joined_level ≤ j → operator_at (suc j) ts ≡ None
+over_none j [] h = refl
+over_none j (t ∷ ts) h = of_level_over j (operator_of t.kind) h
+
+-- ---- what may follow each expression
+
+abbrev quiet : Option Operator → Bool
+quiet None = true
+quiet (Some op) = false
+
+-- a mark that goes on no expression
+abbrev pub closes : Mark → Bool
+closes m = quiet (operator_of (kind.Mark m)) && (not (is_mark mark.BracketOpen (kind.Mark m)) && (not (is_mark mark.ParenOpen (kind.Mark m)) && not (is_mark mark.Question (kind.Mark m))))
+
+both_true : (a b : Bool) → a && b ≡ true → (a ≡ true) × (b ≡ true)
+both_true true b e = (refl, e)
+both_true false b e = absurd cc
+
+not_true : (a : Bool) → not a ≡ true → a ≡ false
+not_true true e = absurd cc
+not_true false e = refl
+
+quiet_level : (k : ℕ) (o : Option Operator) → quiet o ≡ true → of_level k o ≡ None
+quiet_level k None e = refl
+quiet_level k (Some op) e = absurd cc
+
+-- before such a mark each expression ends
+pub closes_ends : (k : ℕ) (m : Mark) → closes m ≡ true → (x : Expr) (s : Span) (rest : List Token) → Ends k x (at m s ∷ rest)
+closes_ends k m e x s rest =
+    let p = both_true _ _ e in
+    let q = both_true _ _ p.1 in
+    let r = both_true _ _ q.1 in
+    record {
+      index = λ b. not_true _ q.0;
+      arguments = λ b. not_true _ r.0;
+      operators = λ j h. quiet_level (suc j) (operator_of (kind.Mark m)) p.0;
+      choice = λ h. not_true _ r.1;
+    }
+
+pub name_ends : (x : Expr) (rest : List Token) → (ends_in_name x ≡ true → starts_with mark.BracketOpen rest ≡ false) → (ends_in_name x ≡ true → starts_with mark.ParenOpen rest ≡ false) → Ends zero x rest
+name_ends x rest i a = record { index = i; arguments = a; operators = λ j lt. absurd (omega arith); choice = λ lt. absurd (omega arith) }
+
+pub no_name_ends : (x : Expr) (rest : List Token) → ends_in_name x ≡ false → Ends zero x rest
+no_name_ends x rest e = name_ends x rest (λ b. absurd cc) (λ b. absurd cc)
+
+-- ---- places
 
 abbrev pub Bracketed : Form (Expr × Span)
-Bracketed = Before (Exp loosest) mark.BracketClose
+Bracketed = Before (Exprs loosest) mark.BracketClose
 
 abbrev pub Index : Form (Option (Expr × Span))
 Index = Optional mark.BracketOpen Bracketed
@@ -109,13 +217,14 @@ Index = Optional mark.BracketOpen Bracketed
 abbrev pub Placed : Form (Word × Option (Expr × Span))
 Placed = NameThen Index
 
-abbrev pub Closed : Form (Expr × Span)
-Closed = Before (Exp loosest) mark.ParenClose
+-- a place to which a reference is
+abbrev pub Target : Form Expr
+Target = record { is = λ ts x. IsPlace ts x; deep = depth; ends = λ x rest. ends_in_name x ≡ true → starts_with mark.BracketOpen rest ≡ false; read = λ n ts. target_at n ts }
 
 place_from : (w : Word) (b : List Token) (i : Option (Expr × Span)) → Index.is b i → IsPlace (word w ∷ b) (place_of w i)
 place_from w b None i = subst (λ (l : List Token). IsPlace (word w ∷ l) (name w)) (sym i) (is_variable w)
 place_from w b (Some x) i =
-    let p = before_is (Exp loosest) mark.BracketClose i.1 x i.3 in
+    let p = before_is (Exprs loosest) mark.BracketClose i.1 x i.3 in
     subst (λ (l : List Token). IsPlace (word w ∷ l) (item w x.0 (span_to w.span x.1))) (sym (i.2 ∙ ap (λ (l : List Token). at mark.BracketOpen i.0 ∷ l) p.1)) (is_item w i.0 x.1 p.0 x.0 p.2)
 
 pub placed_makes : (ts : List Token) (p : Word × Option (Expr × Span)) → Placed.is ts p → IsPlace ts (place_of p.0 p.1)
@@ -127,156 +236,267 @@ pub place_depth : (w : Word) (i : Option (Expr × Span)) (n : ℕ) → Index.dee
 place_depth w None n h = omega arith
 place_depth w (Some x) n h = omega arith
 
-pub place_bracket : (w : Word) (i : Option (Expr × Span)) (rest : List Token) → Index.ends i rest → ends_in_name (place_of w i) ≡ true → starts_with mark.BracketOpen rest ≡ false
-place_bracket w None rest h = λ b. h
-place_bracket w (Some x) rest h = λ b. absurd cc
+pub place_ends : (w : Word) (i : Option (Expr × Span)) (rest : List Token) → Index.ends i rest → ends_in_name (place_of w i) ≡ true → starts_with mark.BracketOpen rest ≡ false
+place_ends w None rest h = λ b. h
+place_ends w (Some x) rest h = λ b. absurd cc
 
-place_ends : (w : Word) (i : Option (Expr × Span)) (rest : List Token) → Index.ends i rest → Ends zero (place_of w i) rest
-place_ends w i rest h = record { bracket = place_bracket w i rest h; operators = λ j lt. absurd (omega arith) }
-
-pub place_reads : (n : ℕ) (ts : List Token) → place_at (expr_at n loosest) ts ≡ (Placed.read n ts >>= λ p. Ok (place_of p.0.0 p.0.1, p.1))
-unfolding place_at index_at
+pub place_reads : (n : ℕ) (ts : List Token) → target_at (suc n) ts ≡ (Placed.read n ts >>= λ p. Ok (place_of p.0.0 p.0.1, p.1))
+unfolding target_at place_at index_at bracketed_at
 place_reads n ts = refl
 
-pub index_some : Can Index []
+index_some : Can Index []
 index_some = (None, refl)
 
 pub place_then : Follows Named Index Free
 place_then = named_then Index [] index_some
 
-pub bracket_then : Follows (Exp loosest) (One mark.BracketClose) Free
-bracket_then = then_one (Exp loosest) mark.BracketClose bracket_close_ends
+pub bracket_then : Follows (Exprs loosest) (One mark.BracketClose) Free
+bracket_then = then_one (Exprs loosest) mark.BracketClose (λ x s rest. closes_ends loosest mark.BracketClose refl x s rest)
 
-pub closed_then : Follows (Exp loosest) (One mark.ParenClose) Free
-closed_then = then_one (Exp loosest) mark.ParenClose paren_close_ends
+-- ---- arguments
 
-pub placed_sound : (n : ℕ) → ((k : ℕ) → IsSound (Exp k) n) → IsSound Placed n
-placed_sound n ih = both_sound Named Index Free place_then n (named_sound n) (optional_sound mark.BracketOpen Bracketed n (both_sound (Exp loosest) (One mark.BracketClose) Free bracket_then n (ih loosest) (one_sound mark.BracketClose n)))
+-- a reference, which stands as an argument alone
+abbrev pub is_referring : Expr → Bool
+is_referring (number v s) = false
+is_referring (truth b s) = false
+is_referring (program_index s) = false
+is_referring (program_count s) = false
+is_referring (name w) = false
+is_referring (item w x s) = false
+is_referring (call w xs s) = false
+is_referring (reference x s) = true
+is_referring (brackets x s) = false
+is_referring (cast t x s) = false
+is_referring (prefix p x s) = false
+is_referring (binary op x y s) = false
+is_referring (choose x y z s) = false
 
-abbrev pub brackets_of : Span → Expr × Span → Expr
-brackets_of o p = brackets p.0 (span_to o p.1)
+pub record EndsArgument (x : Expr) (rest : List Token) : Type 0 where
+  pub place : ends_in_name x ≡ true → starts_with mark.BracketOpen rest ≡ false
+  pub value : is_referring x ≡ false → Ends loosest x rest
 
-pub brackets_makes : (o : Span) (a : List Token) (p : Expr × Span) → Closed.is a p → IsExpr zero (at mark.ParenOpen o ∷ a) (brackets_of o p)
-brackets_makes o a p i =
-    let j = before_is (Exp loosest) mark.ParenClose a p i in
-    subst (λ (l : List Token). IsExpr zero (at mark.ParenOpen o ∷ l) (brackets p.0 (span_to o p.1))) (sym j.1) (is_brackets o p.1 j.0 p.0 j.2)
+abbrev pub Argument : Form Expr
+Argument = record { is = λ ts x. IsArgument ts x; deep = depth; ends = λ x rest. EndsArgument x rest; read = λ n ts. argument_at (expr_at n loosest) (target_at n) ts }
 
-no_operators : (x : Expr) (rest : List Token) → ends_in_name x ≡ false → Ends zero x rest
-no_operators x rest e = record { bracket = λ b. absurd cc; operators = λ j lt. absurd (omega arith) }
+abbrev pub Referring : Form (Span × Expr)
+Referring = Behind mark.And Target
 
-module _ (n : ℕ) (ih : (k : ℕ) → IsSound (Exp k) n) where
-  from_sound : (c : Start) (t : Token) (ts : List Token) (x : Expr) (rest : List Token) → start_of t.kind ≡ c → operand_from (expr_at n) c t ts ≡ Ok (x, rest) → Found (Exp zero) (suc n) (t ∷ ts) x rest
-  from_sound (by_number v) t ts x rest s e =
-      subst (λ (q : Expr × List Token). Found (Exp zero) (suc n) (t ∷ ts) q.0 q.1) (ok_is e) (record {
-        used = t ∷ [];
-        split = refl;
-        is = subst (λ (u : Token). IsExpr zero (u ∷ []) (number v t.span)) (sym (with_kind t (kind.Number v) (number_start t.kind v s))) (is_number v t.span);
-        shallow = omega arith;
-        ends = no_operators (number v t.span) ts refl;
-      })
-  from_sound by_word t ts x rest s e =
-      made_sound Placed (Exp zero) (λ p. place_of p.0 p.1) [] n (suc n) (place_at (expr_at n loosest)) (t ∷ ts) (place_reads n (t ∷ ts)) (placed_sound n ih)
-      (λ a p i. is_place a (place_of p.0 p.1) (placed_makes a p i)) (λ p le. place_depth p.0 p.1 n (omega arith)) (λ p rest h. place_ends p.0 p.1 rest h) x rest e
-  from_sound by_program_index t ts x rest s e =
-      subst (λ (q : Expr × List Token). Found (Exp zero) (suc n) (t ∷ ts) q.0 q.1) (ok_is e) (record {
-        used = t ∷ [];
-        split = refl;
-        is = subst (λ (u : Token). IsExpr zero (u ∷ []) (program_index t.span)) (sym (with_kind t (kind.Mark mark.ProgramIndex) (index_start t.kind s))) (is_program_index t.span);
-        shallow = omega arith;
-        ends = no_operators (program_index t.span) ts refl;
-      })
-  from_sound by_bracket t ts x rest s e =
-      subst (λ (u : Token). Found (Exp zero) (suc n) (u ∷ ts) x rest) (sym (with_kind t (kind.Mark mark.ParenOpen) (bracket_start t.kind s)))
-      (made_sound Closed (Exp zero) (brackets_of t.span) (at mark.ParenOpen t.span ∷ []) n (suc n) (λ l. operand_from (expr_at n) by_bracket t (drop 1 l)) ts refl
-      (both_sound (Exp loosest) (One mark.ParenClose) Free closed_then n (ih loosest) (one_sound mark.ParenClose n))
-      (λ a p i. brackets_makes t.span a p i) (λ p le. omega arith) (λ p rest h. no_operators (brackets p.0 (span_to t.span p.1)) rest refl) x rest e)
-  from_sound by_none t ts x rest s e = absurd (err_ok e)
+abbrev pub Passed : Form ((Span × Expr) ⊎ Expr)
+Passed = Either (is_mark mark.And) Referring (Exprs loosest)
 
-  operand_sound : (ts : List Token) (x : Expr) (rest : List Token) → operand_at (expr_at n) ts ≡ Ok (x, rest) → Found (Exp zero) (suc n) ts x rest
-  unfolding operand_at
-  operand_sound [] x rest e = absurd (err_ok e)
-  operand_sound (t ∷ ts) x rest e = from_sound (start_of t.kind) t ts x rest refl e
+abbrev pub Arguments : Form (List Expr)
+Arguments = Series Argument mark.ParenClose
 
-  -- what one step of the loop does, at any way to go on
-  step_ok : (k : ℕ) (more : Expr → Reader Expr) (x : Expr) (ts : List Token) (o : Option Operator) (y : Expr) (rest : List Token) → operator_at (suc k) ts ≡ o → step_at (expr_at n k) more n x ts o ≡ Ok (y, rest)
-      → ((operator_at (suc k) ts ≡ None) × (x ≡ y) × (ts ≡ rest))
-      ⊎ ((op : Operator) × (operator_at (suc k) ts ≡ Some op) × (depth x ≤ n) × (z : Expr) × (after : List Token) × (expr_at n k (drop 1 ts) ≡ Ok (z, after)) × (more (joined x op z) after ≡ Ok (y, rest)))
-  step_ok k more x ts None y rest s e = let p = ok_is e in inl (s, ap (λ (q : Expr × List Token). q.0) p, ap (λ (q : Expr × List Token). q.1) p)
-  step_ok k more x ts (Some op) y rest s e =
-      elim (chosen (nat_lt n (depth x)) (refuse TooDeep ts) (expr_at n k (drop 1 ts) >>= λ y. more (joined x op y.0) y.1) (Ok (y, rest)) e) [
-        | inl p ↦ absurd (err_ok p.1)
-        | inr p ↦
-            let q = bind_ok (expr_at n k (drop 1 ts)) (λ y. more (joined x op y.0) y.1) (y, rest) p.1 in
-            inr (op, s, ltb-false _ _ p.0, q.0.0, q.0.1, q.1, q.2)
-      ]
+abbrev pub Called : Form (List Expr × Span)
+Called = Before Arguments mark.ParenClose
 
-  none_at_all : (k : ℕ) (x : Expr) (rest : List Token) → Ends k x rest → operator_at (suc k) rest ≡ None → Ends (suc k) x rest
-  none_at_all k x rest h s = record {
-    bracket = h.bracket;
-    operators = λ j lt. elim (cases_lt j k) [ inl l ↦ h.operators j l | inr g ↦ let e : k ≡ j = omega arith in subst (λ (i : ℕ). operator_at (suc i) rest ≡ None) e s ];
-  }
+pub argument_reads : (n : ℕ) (ts : List Token) → Argument.read n ts ≡ (Passed.read n ts >>= λ p. Ok (argument_of p.0, p.1))
+unfolding argument_at
+argument_reads n ts = refl
 
-  -- one more operator and its right side
-  joined_reads : (k : ℕ) (front mid : List Token) (x : Expr) (op : Operator) (z : Expr) (after : List Token) → IsExpr (suc k) front x → depth x ≤ n → operator_at (suc k) mid ≡ Some op → Found (Exp k) n (drop 1 mid) z after
-      → (used : List Token) × (front ++ mid ≡ used ++ after) × IsExpr (suc k) used (joined x op z) × (depth (joined x op z) ≤ suc n) × Ends k (joined x op z) after
-  joined_reads k front mid x op z after i le s r =
-      let o = operator_is (suc k) mid op s in (
-        front ++ at (sign op) o.1.0 ∷ r.used,
-        ap (λ (l : List Token). front ++ l) (o.1.1 ∙ ap (λ (l : List Token). at (sign op) o.1.0 ∷ l) r.split) ∙ sym (append_assoc front (at (sign op) o.1.0 ∷ r.used) after),
-        is_binary k front r.used x op o.1.0 z o.0 i r.is,
-        omega (arith, r.shallow),
-        record { bracket = r.ends.bracket; operators = r.ends.operators },
-      )
+pub passed_makes : (a : List Token) (p : (Span × Expr) ⊎ Expr) → Passed.is a p → IsArgument a (argument_of p)
+passed_makes a (inl r) i =
+    let j = behind_is mark.And Target a r i in
+    subst (λ (l : List Token). IsArgument l (argument_of (inl r))) (sym j.1) (is_reference r.0 j.0 r.1 j.2)
+passed_makes a (inr x) i = is_value_argument a x i
 
-  -- the loop, over what was read before
-  more_sound : (k f : ℕ) (front mid : List Token) (x y : Expr) (rest : List Token) → IsExpr (suc k) front x → depth x ≤ suc n → Ends k x mid → more_at (expr_at n k) n k f x mid ≡ Ok (y, rest) → Found (Exp (suc k)) (suc n) (front ++ mid) y rest
-  unfolding more_at
-  more_sound k zero front mid x y rest i le h e =
-      elim (step_ok k (λ _ ts. refuse TooDeep ts) x mid (operator_at (suc k) mid) y rest refl e) [
-        | inl p ↦
-            subst (λ (q : Expr). Found (Exp (suc k)) (suc n) (front ++ mid) q rest) p.1 (subst (λ (r : List Token). Found (Exp (suc k)) (suc n) (front ++ mid) x r) p.2
-            (record { used = front; split = refl; is = i; shallow = le; ends = none_at_all k x mid h p.0 }))
-        | inr p ↦ absurd (err_ok p.6)
-      ]
-  more_sound k (suc f) front mid x y rest i le h e =
-      elim (step_ok k (more_at (expr_at n k) n k f) x mid (operator_at (suc k) mid) y rest refl e) [
-        | inl p ↦
-            subst (λ (q : Expr). Found (Exp (suc k)) (suc n) (front ++ mid) q rest) p.1 (subst (λ (r : List Token). Found (Exp (suc k)) (suc n) (front ++ mid) x r) p.2
-            (record { used = front; split = refl; is = i; shallow = le; ends = none_at_all k x mid h p.0 }))
-        | inr p ↦
-            let r = ih k (drop 1 mid) p.3 p.4 p.5 in
-            let j = joined_reads k front mid x p.0 p.3 p.4 i p.2 p.1 r in
-            subst (λ (l : List Token). Found (Exp (suc k)) (suc n) l y rest) (sym j.1) (more_sound k f j.0 p.4 (joined x p.0 p.3) y rest j.2 j.3 j.4 p.6)
-      ]
+pub passed_depth : (p : (Span × Expr) ⊎ Expr) (n : ℕ) → Passed.deep p ≤ n → depth (argument_of p) ≤ n
+passed_depth (inl r) n h = omega arith
+passed_depth (inr x) n h = h
 
-  binary_sound : (k : ℕ) (ts : List Token) (x : Expr) (rest : List Token) → binary_at (expr_at n) n k ts ≡ Ok (x, rest) → Found (Exp k) (suc n) ts x rest
-  unfolding binary_at
-  binary_sound zero ts x rest e = operand_sound ts x rest e
-  binary_sound (suc k) ts x rest e =
-      let p = bind_ok (binary_at (expr_at n) n k ts) (λ x. more_at (expr_at n k) n k n x.0 x.1) (x, rest) e in
-      let r = binary_sound k ts p.0.0 p.0.1 p.1 in
-      subst (λ (l : List Token). Found (Exp (suc k)) (suc n) l x rest) (sym r.split) (more_sound k n r.used p.0.1 p.0.0 x rest (is_tighter k r.used p.0.0 r.is) r.shallow r.ends p.2)
+pub passed_ends : (p : (Span × Expr) ⊎ Expr) (rest : List Token) → Passed.ends p rest → EndsArgument (argument_of p) rest
+passed_ends (inl r) rest h = record { place = h; value = λ e. absurd cc }
+passed_ends (inr x) rest h = record { place = h.index; value = λ e. h }
 
-pub limit_not_ok : {A : Type 0} (b : TokenKind → Bool) (ts : List Token) (x : A) (rest : List Token) → at_limit b ts ≡ Ok (x, rest) → ⊥
-unfolding at_limit
-limit_not_ok b [] x rest e = err_ok e
-limit_not_ok b (t ∷ ts) x rest e = elim (chosen (b t.kind) (refuse TooDeep (t ∷ ts)) (refuse Unexpected (t ∷ ts)) (Ok (x, rest)) e) [ inl p ↦ err_ok p.1 | inr p ↦ err_ok p.1 ]
+variable : (w : Word) → Can Target (word w ∷ [])
+variable w = (name w, is_variable w)
 
--- What is read at a depth and a level is an expression of that level, no deeper.
-pub expr_sound : (n k : ℕ) → IsSound (Exp k) n
-unfolding expr_at
-expr_sound zero k ts x rest e = absurd (limit_not_ok begins_expr ts x rest e)
-expr_sound (suc n) k ts x rest e = binary_sound n (expr_sound n) k ts x rest e
+abbrev pub some_word : Word
+some_word = record { name = []; span = nowhere }
+
+pub referring_then : Follows (One mark.And) Target Free
+referring_then = one_then mark.And Target (word some_word ∷ []) (variable some_word)
+
+pub called_then : Follows Arguments (One mark.ParenClose) Free
+called_then = then_one Arguments mark.ParenClose (λ xs s rest. arguments_end xs s rest)
+  where
+    arguments_end : (xs : List Expr) (s : Span) (rest : List Token) → Arguments.ends xs (at mark.ParenClose s ∷ rest)
+    arguments_end [] s rest = refl
+    arguments_end (x ∷ []) s rest = (record { place = λ b. refl; value = λ b. closes_ends loosest mark.ParenClose refl x s rest }, refl)
+    arguments_end (x ∷ y ∷ ys) s rest = arguments_end (y ∷ ys) s rest
+
+arguments_of_list : (ts : List Token) (x : Expr) (xs : List Expr) → AreListed Argument ts (x ∷ xs) → IsArgumentList ts (x ∷ xs)
+arguments_of_list ts x [] i = is_last_argument ts x i
+arguments_of_list ts x (y ∷ ys) i = subst (λ (l : List Token). IsArgumentList l (x ∷ y ∷ ys)) (sym i.3) (is_more_arguments i.0 i.2 i.1 x (y ∷ ys) i.4 (arguments_of_list i.2 y ys i.5))
+
+arguments_of : (ts : List Token) (xs : List Expr) → IsSeries Argument ts xs → IsArguments ts xs
+arguments_of ts [] i = subst (λ (l : List Token). IsArguments l []) (sym i) is_no_argument
+arguments_of ts (x ∷ xs) i = is_some_arguments ts (x ∷ xs) (arguments_of_list ts x xs i)
+
+pub row_deep : (xs : List Expr) → depth_of_row (listed xs) ≡ deepest Argument xs
+row_deep [] = refl
+row_deep (x ∷ xs) = omega (arith, row_deep xs)
+
+-- ---- what begins with a name
+
+abbrev pub IsSuffix : List Token → Suffix → Type 0
+IsSuffix ts by_nothing = ts ≡ []
+IsSuffix ts (by_index i) = (s : Span) × (b : List Token) × (ts ≡ at mark.BracketOpen s ∷ b) × Bracketed.is b i
+IsSuffix ts (by_arguments a) = (s : Span) × (b : List Token) × (ts ≡ at mark.ParenOpen s ∷ b) × Called.is b a
+
+abbrev pub depth_of_suffix : Suffix → ℕ
+depth_of_suffix by_nothing = 0
+depth_of_suffix (by_index i) = Bracketed.deep i
+depth_of_suffix (by_arguments a) = Called.deep a
+
+abbrev pub EndsSuffix : Suffix → List Token → Type 0
+EndsSuffix by_nothing rest = (starts_with mark.BracketOpen rest ≡ false) × (starts_with mark.ParenOpen rest ≡ false)
+EndsSuffix (by_index i) rest = Unit {0}
+EndsSuffix (by_arguments a) rest = Unit {0}
+
+abbrev pub Suffixes : Form Suffix
+Suffixes = record { is = IsSuffix; deep = depth_of_suffix; ends = EndsSuffix; read = λ n ts. suffix_at (Bracketed.read n) (Called.read n) ts }
+
+abbrev pub NamedForm : Form (Word × Suffix)
+NamedForm = NameThen Suffixes
+
+suffix_some : Can Suffixes []
+suffix_some = (by_nothing, refl)
+
+pub name_then : Follows Named Suffixes Free
+name_then = named_then Suffixes [] suffix_some
+
+pub named_reads : (n : ℕ) (ts : List Token) → named_at (expr_at n loosest) (target_at n) ts ≡ (NamedForm.read n ts >>= λ p. Ok (named p.0.0 p.0.1, p.1))
+unfolding named_at bracketed_at arguments_at
+named_reads n ts = refl
+
+suffix_from_sound : (n : ℕ) → IsSound Bracketed n → IsSound Called n → (ts : List Token) (b c : Bool) (y : Suffix) (rest : List Token) → starts_with mark.BracketOpen ts ≡ b → starts_with mark.ParenOpen ts ≡ c
+    → suffix_from (Bracketed.read n) (Called.read n) ts b c ≡ Ok (y, rest) → Found Suffixes n ts y rest
+suffix_from_sound n f g ts true c y rest s t e =
+    let p = bind_ok (Bracketed.read n (drop 1 ts)) (λ x. Ok (by_index x.0, x.1)) (y, rest) e in
+    let x = f (drop 1 ts) p.0.0 p.0.1 p.1 in
+    let o = starts_cons mark.BracketOpen ts s in
+    subst (λ (z : Suffix × List Token). Found Suffixes n ts z.0 z.1) (ok_is p.2) (record {
+      used = at mark.BracketOpen o.0 ∷ x.used;
+      split = o.1 ∙ ap (λ (l : List Token). at mark.BracketOpen o.0 ∷ l) x.split;
+      is = (o.0, x.used, refl, x.is);
+      shallow = x.shallow;
+      ends = tt;
+    })
+suffix_from_sound n f g ts false true y rest s t e =
+    let p = bind_ok (Called.read n (drop 1 ts)) (λ x. Ok (by_arguments x.0, x.1)) (y, rest) e in
+    let x = g (drop 1 ts) p.0.0 p.0.1 p.1 in
+    let o = starts_cons mark.ParenOpen ts t in
+    subst (λ (z : Suffix × List Token). Found Suffixes n ts z.0 z.1) (ok_is p.2) (record {
+      used = at mark.ParenOpen o.0 ∷ x.used;
+      split = o.1 ∙ ap (λ (l : List Token). at mark.ParenOpen o.0 ∷ l) x.split;
+      is = (o.0, x.used, refl, x.is);
+      shallow = x.shallow;
+      ends = tt;
+    })
+suffix_from_sound n f g ts false false y rest s t e =
+    subst (λ (z : Suffix × List Token). Found Suffixes n ts z.0 z.1) (ok_is e) (record { used = []; split = refl; is = refl; shallow = omega arith; ends = (s, t) })
+
+pub suffix_sound : (n : ℕ) → IsSound Bracketed n → IsSound Called n → IsSound Suffixes n
+unfolding suffix_at
+suffix_sound n f g ts y rest e = suffix_from_sound n f g ts (starts_with mark.BracketOpen ts) (starts_with mark.ParenOpen ts) y rest refl refl e
+
+named_from : (w : Word) (b : List Token) (s : Suffix) → IsSuffix b s → IsExpr zero (word w ∷ b) (named w s)
+named_from w b by_nothing i = subst (λ (l : List Token). IsExpr zero (word w ∷ l) (name w)) (sym i) (is_place (word w ∷ []) (name w) (is_variable w))
+named_from w b (by_index x) i =
+    let p = before_is (Exprs loosest) mark.BracketClose i.1 x i.3 in
+    subst (λ (l : List Token). IsExpr zero (word w ∷ l) (named w (by_index x))) (sym (i.2 ∙ ap (λ (l : List Token). at mark.BracketOpen i.0 ∷ l) p.1)) (is_place _ _ (is_item w i.0 x.1 p.0 x.0 p.2))
+named_from w b (by_arguments a) i =
+    let p = before_is Arguments mark.ParenClose i.1 a i.3 in
+    subst (λ (l : List Token). IsExpr zero (word w ∷ l) (named w (by_arguments a))) (sym (i.2 ∙ ap (λ (l : List Token). at mark.ParenOpen i.0 ∷ l) p.1)) (is_call w i.0 a.1 p.0 a.0 (arguments_of p.0 a.0 p.2))
+
+pub named_makes : (ts : List Token) (p : Word × Suffix) → NamedForm.is ts p → IsExpr zero ts (named p.0 p.1)
+named_makes ts p i =
+    let j = name_then_is Suffixes ts p i in
+    subst (λ (l : List Token). IsExpr zero l (named p.0 p.1)) (sym j.1) (named_from p.0 j.0 p.1 j.2)
+
+pub named_depth : (w : Word) (s : Suffix) (n : ℕ) → depth_of_suffix s ≤ n → depth (named w s) ≤ suc n
+named_depth w by_nothing n h = omega arith
+named_depth w (by_index i) n h = omega arith
+named_depth w (by_arguments a) n h = omega (arith, row_deep a.0)
+
+pub named_ends : (w : Word) (s : Suffix) (rest : List Token) → EndsSuffix s rest → Ends zero (named w s) rest
+named_ends w by_nothing rest h = name_ends (name w) rest (λ b. h.0) (λ b. h.1)
+named_ends w (by_index i) rest h = no_name_ends (named w (by_index i)) rest refl
+named_ends w (by_arguments a) rest h = no_name_ends (named w (by_arguments a)) rest refl
+
+-- ---- brackets and casts
+
+abbrev pub Closed : Form (Expr × Span)
+Closed = Before (Exprs loosest) mark.ParenClose
+
+abbrev pub Typed : Form (TypeTree × (Span × Expr))
+Typed = Both Types (Behind mark.ParenClose (Exprs zero)) Free
+
+abbrev pub Bracket : Form ((TypeTree × (Span × Expr)) ⊎ (Expr × Span))
+Bracket = Either begins_type Typed Closed
+
+pub bracket_reads : (n : ℕ) (o : Span) (ts : List Token) → bracket_at (expr_at n) o ts ≡ (Bracket.read n ts >>= λ p. Ok (bracket_of o p.0, p.1))
+unfolding bracket_at
+bracket_reads n o ts = refl
+
+pub bracket_makes : (o : Span) (a : List Token) (p : (TypeTree × (Span × Expr)) ⊎ (Expr × Span)) → Bracket.is a p → IsExpr zero (at mark.ParenOpen o ∷ a) (bracket_of o p)
+bracket_makes o a (inl c) i =
+    let j = behind_is mark.ParenClose (Exprs zero) i.1 c.1 i.4 in
+    subst (λ (l : List Token). IsExpr zero (at mark.ParenOpen o ∷ l) (bracket_of o (inl c))) (sym (i.2 ∙ ap (λ (l : List Token). i.0 ++ l) j.1)) (is_cast o c.1.0 i.0 j.0 c.0 c.1.1 i.3 j.2)
+bracket_makes o a (inr b) i =
+    let j = before_is (Exprs loosest) mark.ParenClose a b i in
+    subst (λ (l : List Token). IsExpr zero (at mark.ParenOpen o ∷ l) (bracket_of o (inr b))) (sym j.1) (is_brackets o b.1 j.0 b.0 j.2)
+
+pub bracket_depth : (o : Span) (p : (TypeTree × (Span × Expr)) ⊎ (Expr × Span)) (n : ℕ) → Bracket.deep p ≤ n → depth (bracket_of o p) ≤ suc n
+bracket_depth o (inl c) n h = omega arith
+bracket_depth o (inr b) n h = omega arith
+
+pub bracket_ends : (o : Span) (p : (TypeTree × (Span × Expr)) ⊎ (Expr × Span)) (rest : List Token) → Bracket.ends p rest → Ends zero (bracket_of o p) rest
+bracket_ends o (inl c) rest h = name_ends (bracket_of o (inl c)) rest h.index h.arguments
+bracket_ends o (inr b) rest h = no_name_ends (bracket_of o (inr b)) rest refl
 
 -- ---- the least expression
-
-pub nowhere : Span
-nowhere = record { start = 0; end = 0 }
 
 abbrev pub zero_value : Value
 zero_value = record { elem = elem.I32; bits = 0 }
 
+abbrev pub zero_tokens : List Token
+zero_tokens = numeral zero_value nowhere ∷ []
+
 -- a number is an expression of each level
-pub number_at_level : (k : ℕ) → IsExpr k (numeral zero_value nowhere ∷ []) (number zero_value nowhere)
+pub number_at_level : (k : ℕ) → IsExpr k zero_tokens (number zero_value nowhere)
 number_at_level zero = is_number zero_value nowhere
-number_at_level (suc k) = is_tighter k (numeral zero_value nowhere ∷ []) (number zero_value nowhere) (number_at_level k)
+number_at_level (suc k) = is_tighter k zero_tokens (number zero_value nowhere) (number_at_level k)
+
+abbrev pub zero_at : (k : ℕ) → Can (Exprs k) zero_tokens
+zero_at k = (number zero_value nowhere, number_at_level k)
+
+pub closed_then : Follows (Exprs loosest) (One mark.ParenClose) Free
+closed_then = then_one (Exprs loosest) mark.ParenClose (λ x s rest. closes_ends loosest mark.ParenClose refl x s rest)
+
+pub cast_then : Follows (One mark.ParenClose) (Exprs zero) Free
+cast_then = one_then mark.ParenClose (Exprs zero) zero_tokens (zero_at zero)
+
+pub typed_then : Follows Types (Behind mark.ParenClose (Exprs zero)) Free
+typed_then = then_behind Types mark.ParenClose (Exprs zero) (λ t s rest. ends_type t.base (at mark.ParenClose s ∷ rest) refl) zero_tokens (zero_at zero)
+
+-- ---- the parts of a choice
+
+abbrev pub Parts : Form (Expr × (Span × Expr))
+Parts = Both (Exprs loosest) (Behind mark.Colon (Exprs loosest)) Free
+
+pub colon_then : Follows (One mark.Colon) (Exprs loosest) Free
+colon_then = one_then mark.Colon (Exprs loosest) zero_tokens (zero_at loosest)
+
+pub parts_then : Follows (Exprs loosest) (Behind mark.Colon (Exprs loosest)) Free
+parts_then = then_behind (Exprs loosest) mark.Colon (Exprs loosest) (λ x s rest. closes_ends loosest mark.Colon refl x s rest) zero_tokens (zero_at loosest)
+
+pub parts_read : (n : ℕ) (ts : List Token) → parts_at (expr_at n loosest) ts ≡ Parts.read n ts
+unfolding parts_at
+parts_read n ts = refl
+
+pub choice_makes : (front : List Token) (q : Span) (l : List Token) (x : Expr) (p : Expr × (Span × Expr)) → IsExpr joined_level front x → Parts.is l p → IsExpr loosest (front ++ at mark.Question q ∷ l) (choice_of x p)
+choice_makes front q l x p i j =
+    let c = behind_is mark.Colon (Exprs loosest) j.1 p.1 j.4 in
+    subst (λ (m : List Token). IsExpr loosest (front ++ at mark.Question q ∷ m) (choice_of x p)) (sym (j.2 ∙ ap (λ (m : List Token). j.0 ++ m) c.1)) (is_choose q p.1.0 front j.0 c.0 x p.0 p.1.1 i j.3 c.2)

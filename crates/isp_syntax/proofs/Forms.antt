@@ -6,7 +6,8 @@ use Rattle.isp_lex.specs.declared.token.Mark.{Mark}
 use Rattle.isp_lex.specs.declared.token.Mark.TheVariants as mark
 use Rattle.isp_lex.specs.declared.token.Token.{Token}
 use Rattle.isp_syntax.proofs.Basics.{ok_is, err_ok, bind_ok, chosen, starts_cons, mark_ok, mark_again, word_ok, word_again}
-use Rattle.isp_syntax.specs.Grammar.{word}
+use Rattle.isp_syntax.specs.Grammar.{AreListed as Separated, AreAll as InTurn}
+use Rattle.isp_syntax.specs.Signs.{word}
 use Rattle.isp_syntax.specs.Reading.{Reader, ◌>>=◌, mark_at, word_at, both, optional_from, optional, after_item, list_at, listed_at, until_from, until_at}
 use Rattle.isp_syntax.specs.declared.stop.Refusal.{Refusal}
 use Rattle.isp_syntax.specs.declared.tree.Word.{Word}
@@ -213,9 +214,7 @@ module _ {A : Type 0} (F : Form A) where
 
   -- one or more, with commas
   abbrev pub AreListed : List Token → List A → Type 0
-  AreListed ts [] = ⊥
-  AreListed ts (x ∷ []) = F.is ts x
-  AreListed ts (x ∷ y ∷ ys) = (a : List Token) × (s : Span) × (b : List Token) × (ts ≡ a ++ at mark.Comma s ∷ b) × F.is a x × AreListed b (y ∷ ys)
+  AreListed = Separated F.is
 
   abbrev pub EndsListed : List A → List Token → Type 0
   EndsListed [] rest = Unit {0}
@@ -298,8 +297,7 @@ module _ {A : Type 0} (F : Form A) where
 
   -- all up to a mark
   abbrev pub AreAll : List Token → List A → Type 0
-  AreAll ts [] = ts ≡ []
-  AreAll ts (x ∷ xs) = (a : List Token) × (b : List Token) × (ts ≡ a ++ b) × F.is a x × AreAll b xs
+  AreAll = InTurn F.is
 
   abbrev pub Until : Mark → Form (List A)
   Until m = record { is = AreAll; deep = deepest; ends = λ xs rest. starts_with m rest ≡ true; read = λ n ts. until_at m (F.read n) (suc (length ts)) ts }

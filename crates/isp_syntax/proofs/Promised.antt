@@ -7,15 +7,16 @@ use Rattle.isp_lex.specs.declared.token.Token.{Token}
 use Rattle.isp_lex.specs.declared.token.TokenKind.{TokenKind}
 use Rattle.isp_lex.specs.declared.fault.SourceFault.TheVariants.{Refused as Refusing}
 use Rattle.isp_syntax.proofs.Basics.{token, err_ok, ok_is}
-use Rattle.isp_syntax.proofs.Exprs.{nowhere}
-use Rattle.isp_syntax.proofs.ProgramsComplete.{program_complete}
-use Rattle.isp_syntax.proofs.ProgramsRefused.{IsSomeProgram, FailsProgram, program_refused}
+use Rattle.isp_syntax.proofs.Choices.{nowhere}
+use Rattle.isp_syntax.proofs.Programs.{IsSomeProgram, FailsProgram, program_complete, program_refused}
 use Rattle.isp_syntax.proofs.Refused.{Completes, Refused}
-use Rattle.isp_syntax.proofs.Respan.{program_respan}
+use Rattle.isp_syntax.proofs.StmtsRespan.{program_respan}
 use Rattle.isp_syntax.specs.Grammar.{IsProgram}
 use Rattle.isp_syntax.specs.Promise.{limit, kinds, Begins, IsFirstBad, IsTooDeep, Refuses}
-use Rattle.isp_syntax.specs.Reading.{refusal, head, program_at, fault_of}
-use Rattle.isp_syntax.specs.Tree.{Function, depth_of_functions}
+use Rattle.isp_syntax.specs.Reading.{refusal, head, fault_of}
+use Rattle.isp_syntax.specs.ReadingPrograms.{program_at}
+use Rattle.isp_syntax.specs.Depth.{depth_of_functions}
+use Rattle.isp_syntax.specs.Tree.{Function}
 use Rattle.isp_syntax.specs.declared.stop.Why.{Why}
 use Rattle.isp_syntax.specs.declared.stop.Why.TheVariants.{Unexpected, TooDeep}
 use Rattle.isp_syntax.specs.declared.stop.Refusal.{Refusal}
@@ -43,7 +44,7 @@ begun : (before : List Token) (t : Token) (b : Begins (kinds before ++ t.kind �
 begun before t b =
     let same : kinds (before ++ t ∷ placed b.rest) ≡ kinds b.tokens =
     kinds_append before (t ∷ placed b.rest) ∙ ap (λ (l : List TokenKind). kinds before ++ t.kind ∷ l) (kinds_placed b.rest) ∙ sym (b.split ∙ kinds_assoc (kinds before) t.kind b.rest) in
-    program_respan b.is (before ++ t ∷ placed b.rest) same
+    program_respan b.tokens b.functions b.is (before ++ t ∷ placed b.rest) same
 
 -- ---- where the refused token stands
 
@@ -61,7 +62,7 @@ left_within n ts r e =
     let f = program_refused n ts r e in
     omega (arith, ap length f.split, length-append f.used f.after, f.place)
 
-fails_not : (m : ℕ) (ts : List Token) (d : Refusal) (fs : List Function) → program_at m ts ≡ Err d → IsProgram ts fs → depth_of_functions fs ≤ suc m → ⊥
+fails_not : (m : ℕ) (ts : List Token) (d : Refusal) (fs : List Function) → program_at m ts ≡ Err d → IsProgram ts fs → depth_of_functions fs ≤ m → ⊥
 fails_not m ts d fs e i le = err_ok (sym e ∙ program_complete m ts fs i le)
 
 -- ---- the two refusals
@@ -83,7 +84,7 @@ first_bad n text left f = record {
 }
 
 deep_from : (text : TokenList) (left : ℕ) (used after : List Token) → text.items ≡ used ++ after → left ≡ length after → Completes IsSomeProgram TooDeep used after
-    → ((m : ℕ) (more : List Token) → 127 ≡ m → head after ≡ head more → FailsProgram m (used ++ more) (refusal TooDeep more)) → IsTooDeep text (fault_of TooDeep text.end (drop (length text.items - left) text.items))
+    → ((m : ℕ) (more : List Token) → 128 ≡ m → head after ≡ head more → FailsProgram m (used ++ more) (refusal TooDeep more)) → IsTooDeep text (fault_of TooDeep text.end (drop (length text.items - left) text.items))
 deep_from text left used [] split place viable stays = absurd viable
 deep_from text left used (t ∷ after) split place viable stays = record {
   before = used;
@@ -102,21 +103,27 @@ deep_from text left used (t ∷ after) split place viable stays = record {
     | inl lt ↦ lt
     | inr le ↦
         let g = begun used t b in
-        absurd (fails_not 127 (used ++ t ∷ placed b.rest) (refusal TooDeep (t ∷ placed b.rest)) g.0 (stays 127 (t ∷ placed b.rest) refl refl) g.1 (omega (arith, g.2, le)))
+        absurd (fails_not 128 (used ++ t ∷ placed b.rest) (refusal TooDeep (t ∷ placed b.rest)) g.0 (stays 128 (t ∷ placed b.rest) refl refl) g.1 (omega (arith, g.2, le)))
   ];
 }
 
-means : (text : TokenList) (why : Why) (left : ℕ) → Refused IsSomeProgram FailsProgram 127 text.items (record { why = why; left = left }) → Refuses (Refusing (fault_of why text.end (drop (length text.items - left) text.items))) text
-means text Unexpected left f = inl (first_bad 127 text left f)
+means : (text : TokenList) (why : Why) (left : ℕ) → Refused IsSomeProgram FailsProgram 128 text.items (record { why = why; left = left }) → Refuses (Refusing (fault_of why text.end (drop (length text.items - left) text.items))) text
+means text Unexpected left f = inl (first_bad 128 text left f)
 means text TooDeep left f = inr (deep_from text left f.used f.after f.split f.place f.viable f.stays)
 
 -- What a refusal of reading means.
-pub refusal_means : (text : TokenList) (r : Refusal) → program_at 127 text.items ≡ Err r → Refuses (Refusing (fault_of r.why text.end (drop (length text.items - r.left) text.items))) text
-refusal_means text r e = means text r.why r.left (program_refused 127 text.items r e)
+pub refusal_means : (text : TokenList) (r : Refusal) → program_at 128 text.items ≡ Err r → Refuses (Refusing (fault_of r.why text.end (drop (length text.items - r.left) text.items))) text
+refusal_means text r e = means text r.why r.left (program_refused 128 text.items r e)
 
 -- what is a program of no more depth is what was read
-pub only_tree : (ts : List Token) (fs gs : List Function) → program_at 127 ts ≡ Ok gs → IsProgram ts fs → depth_of_functions fs ≤ limit → gs ≡ fs
-only_tree ts fs gs e i le = ok_is (sym e ∙ program_complete 127 ts fs i le)
+pub only_tree : (ts : List Token) (fs gs : List Function) → program_at 128 ts ≡ Ok gs → IsProgram ts fs → depth_of_functions fs ≤ limit → gs ≡ fs
+only_tree ts fs gs e i le = ok_is (sym e ∙ program_complete 128 ts fs i le)
 
-pub no_refusal : (ts : List Token) (fs : List Function) (r : Refusal) → program_at 127 ts ≡ Err r → IsProgram ts fs → depth_of_functions fs ≤ limit → ⊥
-no_refusal ts fs r e i le = fails_not 127 ts r fs e i le
+pub no_refusal : (ts : List Token) (fs : List Function) (r : Refusal) → program_at 128 ts ≡ Err r → IsProgram ts fs → depth_of_functions fs ≤ limit → ⊥
+no_refusal ts fs r e i le = fails_not 128 ts r fs e i le
+
+-- No tokens have two trees.
+pub one_tree : (ts : List Token) (fs gs : List Function) → IsProgram ts fs → IsProgram ts gs → fs ≡ gs
+one_tree ts fs gs i j =
+    let n = max (depth_of_functions fs) (depth_of_functions gs) in
+    ok_is (sym (program_complete n ts fs i (omega arith)) ∙ program_complete n ts gs j (omega arith))

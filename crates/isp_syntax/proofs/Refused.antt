@@ -7,11 +7,10 @@ use Rattle.isp_lex.specs.declared.token.Mark.{Mark}
 use Rattle.isp_lex.specs.declared.token.Mark.TheVariants as mark
 use Rattle.isp_lex.specs.declared.token.TokenKind.{TokenKind}
 use Rattle.isp_lex.specs.declared.token.Token.{Token}
-use Rattle.isp_syntax.proofs.Basics.{err_is, ok_err, bind_err, chosen, starts_same, starts_cons, head_past, mark_err, mark_off}
+use Rattle.isp_syntax.proofs.Basics.{err_is, ok_err, bind_err, chosen, starts_same, starts_cons, head_past, mark_err, mark_off, word_off, word_err}
 use Rattle.isp_syntax.proofs.Forms.{Form, IsSound, IsComplete, Can, One, Named, Both, Follows, Optional, Listed, AreListed, Series, AreAll, Until}
 use Rattle.isp_syntax.proofs.FormsComplete.{EndsByHead, read_again, mark_starts, TakesComma, StartsOff, item_long}
-use Rattle.isp_syntax.proofs.StmtSteps.{word_off, word_err}
-use Rattle.isp_syntax.specs.Grammar.{word}
+use Rattle.isp_syntax.specs.Signs.{word}
 use Rattle.isp_syntax.specs.Reading.{Read, Reader, ◌>>=◌, refusal, head, on_head, is_word, optional_from, optional, after_item, list_at, listed_at, until_from, until_at}
 use Rattle.isp_syntax.specs.declared.stop.Why.{Why}
 use Rattle.isp_syntax.specs.declared.stop.Why.TheVariants.{Unexpected, TooDeep}
@@ -231,7 +230,7 @@ module _ {A : Type 0} (F : Form A) where
       build (y ∷ ys) j = (x ∷ y ∷ ys, (a, c, l, split, i, j))
 
   module _ (n : ℕ) (by_head : EndsByHead F) (comma : TakesComma F) (complete : (m : ℕ) → IsComplete F m) (sound : IsSound F n) (ih : IsRefused F n) where
-    list_refused : (f : ℕ) (ts : List Token) (r : Refusal) → length ts < f → list_at (F.read n) f ts ≡ Err r → Refused (Can (Listed F)) FailsList n ts r
+    pub list_refused : (f : ℕ) (ts : List Token) (r : Refusal) → length ts < f → list_at (F.read n) f ts ≡ Err r → Refused (Can (Listed F)) FailsList n ts r
     unfolding list_at
     list_refused zero ts r lt e = absurd (omega arith)
     list_refused (suc f) ts r lt e =

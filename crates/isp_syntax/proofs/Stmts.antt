@@ -1,195 +1,56 @@
--- What is read as a statement is one.
-use Rattle.std.proofs.Common.{◌≡◌, ℕ, zero, suc, true, false, List, [], ◌∷◌, ◌++◌, drop, Ok, refl, sym, ap, subst, ◌∙◌, arith}
+-- Forms of statements, and that each makes a statement.
+use Rattle.std.proofs.Common.{◌≡◌, ℕ, zero, suc, ◌≤◌, max, Bool, true, false, List, [], ◌∷◌, ◌++◌, length, Option, Some, None, Ok, Err, refl, sym, ap, subst, ◌∙◌, append_assoc, arith, inl, inr, ◌⊎◌}
+use Rattle.std.specs.Prelude.{option_map, ⊤}
+use Rattle.std.proofs.lemmas.Bool.{false≢true}
+use Rattle.std.proofs.lemmas.List.{append-nil}
 use Rattle.isp_base.specs.Types.{span_to}
 use Rattle.isp_base.specs.declared.types.Span.{Span}
-use Rattle.isp_base.specs.declared.types.Rate.TheVariants as rate
-use Rattle.isp_lex.specs.Tokens.{at, starts_with}
+use Rattle.isp_lex.specs.Tokens.{at, is_mark, starts_with}
+use Rattle.isp_lex.specs.declared.token.Mark.{Mark}
 use Rattle.isp_lex.specs.declared.token.Mark.TheVariants as mark
 use Rattle.isp_lex.specs.declared.token.TokenKind.{TokenKind}
 use Rattle.isp_lex.specs.declared.token.TokenKind.TheVariants as kind
 use Rattle.isp_lex.specs.declared.token.Token.{Token}
-use Rattle.isp_syntax.proofs.Basics.{err_ok}
-use Rattle.isp_syntax.proofs.Forms.{Form, Found, IsSound, Can, One, one_sound, Named, named_sound, Both, Free, Follows, follows, both_sound, Behind, one_then, behind_is, NameThen, named_then, name_then_is, is_name_then, Before, then_one, before_is, is_before, made_sound, AreAll, deepest, Until, until_sound}
-use Rattle.isp_syntax.proofs.Exprs.{nowhere, zero_value, number_at_level, ends_in_name, Ends, Exp, Placed, placed_makes, place_depth, place_bracket, place_reads, placed_sound, limit_not_ok, expr_sound, with_kind}
-use Rattle.isp_syntax.specs.Grammar.{word, numeral, loosest, IsPlace, IsExpr, IsStmt, is_varying, is_uniform, is_assign, IsStmts, is_end, is_next}
-use Rattle.isp_syntax.specs.Reading.{◌>>=◌, place_of, place_at, expr_at, is_word, target_at, value_at, item_at, StmtStart, by_int, by_uniform, by_target, by_nothing, stmt_start_of, begins_stmt, stmt_from, stmt_by, stmt_at}
-use Rattle.isp_syntax.specs.Tree.{Expr, number, span_of, depth, Stmt, declare, assign, depth_of_stmt, depth_of_stmts}
+use Rattle.isp_syntax.proofs.Basics.{token, starts_same, ok_err}
+use Rattle.isp_syntax.proofs.Choices.{nowhere, begins_same, Maybe}
+use Rattle.isp_syntax.proofs.Declarations.{nameless, Declaring, declaration_end}
+use Rattle.isp_syntax.proofs.Forms.{Form, IsSound, Can, One, Both, Free, Follows, follows, Behind, behind_is, Before, then_one, before_is, is_before, one_then, Optional, deepest, AreAll, Until}
+use Rattle.isp_syntax.proofs.FormsComplete.{EndsByHead}
+use Rattle.isp_syntax.proofs.Given.{Exprs}
+use Rattle.isp_syntax.proofs.Ranges.{AreRanges, RangesHead, ActiveHead, Texts, NextValue, Values}
+use Rattle.isp_syntax.proofs.Simples.{SimpleTree, SimpleParts, simple_makes, simple_deep}
+use Rattle.isp_syntax.proofs.StmtParts.{Test, some_test, MaybeTest, test_maybe_ends, simple_semicolon, FirstTree, FirstParts, FirstPart, StepPart, MaybeFirst, MaybeStep, HeadStep, HeadTest, HeadFirst, HeadParts, head_tree, first_tree, first_makes, first_deep}
+use Rattle.isp_syntax.proofs.Wrapped.{After, some_after, Bracketed}
+use Rattle.isp_syntax.specs.Depth.{depth_of_option, depth_of_first, depth_of_step, deepest_of, depth_of_stmt, depth_of_stmts, depth}
+use Rattle.isp_syntax.specs.Grammar.{IsMaybe, IsExpr, IsFirst, IsSimple, is_open, IsBlock, is_braces, IsStmts, is_end, is_next, IsStmt, is_block, is_empty, is_declare, is_simple, is_if, is_if_else, is_while, is_do, is_for, is_foreach, is_foreach_active, is_unmasked, is_jump, is_return, is_print, is_assert}
+use Rattle.isp_syntax.specs.Reading.{Reader, ◌>>=◌}
+use Rattle.isp_syntax.specs.ReadingStmts.{simple_from, if_from, block_at, stmt_at}
+use Rattle.isp_syntax.specs.Signs.{word, textual, loosest, if_mark, while_mark, do_mark, for_mark, foreach_mark, jump_mark}
+use Rattle.isp_syntax.specs.Tree.{Expr, span_of, Declaration, Simple, span_of_simple, First, Range, Stmt, block, empty, declare, simple, if_then, if_else, loop_while, loop_do, loop_for, foreach, foreach_active, unmasked, jump, returning, print, assert, Stmts, all, span_of_stmt}
 use Rattle.isp_syntax.specs.declared.tree.Word.{Word}
+use Rattle.isp_syntax.specs.declared.tree.Form.{Form as Shape}
+use Rattle.isp_syntax.specs.declared.tree.Tiling.{Tiling}
+use Rattle.isp_syntax.specs.declared.tree.Jump.{Jump}
 
--- ---- `=`, a value and a semicolon
-
-pub semicolon_ends : (x : Expr) (s : Span) (rest : List Token) → Ends loosest x (at mark.Semicolon s ∷ rest)
-semicolon_ends x s rest = record { bracket = λ b. refl; operators = λ j h. refl }
-
-abbrev pub Ended : Form (Expr × Span)
-Ended = Before (Exp loosest) mark.Semicolon
-
-abbrev pub Valued : Form (Span × (Expr × Span))
-Valued = Behind mark.Assign Ended
-
-abbrev pub IsValue : List Token → Expr × Span → Type 0
-IsValue ts v = (e : Span) × (a : List Token) × (ts ≡ at mark.Assign e ∷ (a ++ at mark.Semicolon v.1 ∷ [])) × IsExpr loosest a v.0
-
-abbrev pub Valuation : Form (Expr × Span)
-Valuation = record { is = IsValue; deep = λ v. depth v.0; ends = λ v rest. Unit {0}; read = value_at }
-
-pub some_ended : Can Ended (numeral zero_value nowhere ∷ at mark.Semicolon nowhere ∷ [])
-some_ended = ((number zero_value nowhere, nowhere), is_before (Exp loosest) mark.Semicolon (numeral zero_value nowhere ∷ []) (number zero_value nowhere) nowhere (number_at_level loosest))
-
-pub some_value : Can Valuation (at mark.Assign nowhere ∷ numeral zero_value nowhere ∷ at mark.Semicolon nowhere ∷ [])
-some_value = ((number zero_value nowhere, nowhere), (nowhere, numeral zero_value nowhere ∷ [], refl, number_at_level loosest))
-
-pub value_reads : (n : ℕ) (ts : List Token) → value_at n ts ≡ (Valued.read n ts >>= λ p. Ok (p.0.1, p.1))
-unfolding value_at
-value_reads n ts = refl
-
-pub value_makes : (ts : List Token) (p : Span × (Expr × Span)) → Valued.is ts p → IsValue ts p.1
-value_makes ts p i =
-    let j = behind_is mark.Assign Ended ts p i in
-    let l = before_is (Exp loosest) mark.Semicolon j.0 p.1 j.2 in
-    (p.0, l.0, j.1 ∙ ap (λ (l : List Token). at mark.Assign p.0 ∷ l) l.1, l.2)
-
-pub ended_then : Follows (Exp loosest) (One mark.Semicolon) Free
-ended_then = then_one (Exp loosest) mark.Semicolon semicolon_ends
-
-pub valued_then : Follows (One mark.Assign) Ended Free
-valued_then = one_then mark.Assign Ended (numeral zero_value nowhere ∷ at mark.Semicolon nowhere ∷ []) some_ended
-
-valued_sound : (n : ℕ) → IsSound Valued n
-valued_sound n =
-    both_sound (One mark.Assign) Ended Free valued_then n (one_sound mark.Assign n)
-    (both_sound (Exp loosest) (One mark.Semicolon) Free ended_then n (expr_sound n loosest) (one_sound mark.Semicolon n))
-
-pub value_sound : (n : ℕ) → IsSound Valuation n
-value_sound n ts v rest e =
-    made_sound Valued Valuation (λ p. p.1) [] n n (value_at n) ts (value_reads n ts) (valued_sound n) (λ a p i. value_makes a p i) (λ p le. omega arith) (λ p rest h. tt) v rest e
-
--- ---- what is assigned to
-
-abbrev pub EndsTarget : Expr → List Token → Type 0
-EndsTarget x rest = ends_in_name x ≡ true → starts_with mark.BracketOpen rest ≡ false
-
-abbrev pub Target : Form Expr
-Target = record { is = IsPlace; deep = depth; ends = EndsTarget; read = target_at }
-
-pub target_sound : (n : ℕ) → IsSound Target n
-unfolding target_at
-target_sound zero ts x rest e = absurd (limit_not_ok is_word ts x rest e)
-target_sound (suc n) ts x rest e =
-    made_sound Placed Target (λ p. place_of p.0 p.1) [] n (suc n) (place_at (expr_at n loosest)) ts (place_reads n ts) (placed_sound n (expr_sound n))
-    (λ a p i. placed_makes a p i) (λ p le. place_depth p.0 p.1 n (omega arith)) (λ p rest h. place_bracket p.0 p.1 rest h) x rest e
-
--- ---- statements
-
-abbrev pub Declared : Form (Word × (Expr × Span))
-Declared = NameThen Valuation
-
-abbrev pub Typed : Form (Span × (Word × (Expr × Span)))
-Typed = Behind mark.Int Declared
-
-abbrev pub Assigned : Form (Expr × (Expr × Span))
-Assigned = Both Target Valuation Free
+-- no `else` may follow a statement that ends in an `if` without one
+abbrev pub EndsStmt : Stmt → List Token → Type 0
+EndsStmt s rest = is_open s ≡ true → starts_with mark.Else rest ≡ false
 
 abbrev pub Statement : Form Stmt
-Statement = record { is = IsStmt; deep = depth_of_stmt; ends = λ s rest. Unit {0}; read = stmt_at }
+Statement = record { is = λ ts s. IsStmt ts s; deep = depth_of_stmt; ends = EndsStmt; read = stmt_at }
 
-abbrev pub zero_tokens : List Token
-zero_tokens = at mark.Assign nowhere ∷ numeral zero_value nowhere ∷ at mark.Semicolon nowhere ∷ []
+pub stmt_by_head : EndsByHead Statement
+stmt_by_head s a b e h = λ o. sym (starts_same mark.Else a b e) ∙ h o
 
-pub some_declared : Can Declared (word (record { name = []; span = nowhere }) ∷ zero_tokens)
-some_declared = ((record { name = []; span = nowhere }, some_value.0), is_name_then Valuation (record { name = []; span = nowhere }) zero_tokens some_value.0 some_value.1)
+pub some_stmt : (b : List Token) × Can Statement b
+some_stmt = (at mark.Semicolon nowhere ∷ [], (empty nowhere, is_empty nowhere))
 
-pub declared_then : Follows Named Valuation Free
-declared_then = named_then Valuation zero_tokens some_value
+-- ---- nothing more
 
-pub typed_then : Follows (One mark.Int) Declared Free
-typed_then = one_then mark.Int Declared (word (record { name = []; span = nowhere }) ∷ zero_tokens) some_declared
+abbrev pub Nothing : Form ⊤
+Nothing = record { is = λ ts x. ts ≡ []; deep = λ x. 0; ends = λ x rest. Unit {0}; read = λ n ts. Ok (tt, ts) }
 
-declared_sound : (n : ℕ) → IsSound Declared n
-declared_sound n = both_sound Named Valuation Free declared_then n (named_sound n) (value_sound n)
-
-typed_sound : (n : ℕ) → IsSound Typed n
-typed_sound n = both_sound (One mark.Int) Declared Free typed_then n (one_sound mark.Int n) (declared_sound n)
-
--- a value begins with a sign that goes on with no target
-pub target_then : (x : Expr) (y : Expr × Span) (b rest : List Token) → IsValue b y → EndsTarget x (b ++ rest)
-target_then x y b rest i = λ h. subst (λ (l : List Token). starts_with mark.BracketOpen (l ++ rest) ≡ false) (sym i.2) refl
-
-pub assigned_then : Follows Target Valuation Free
-assigned_then = follows Target Valuation (λ x y b rest i h. target_then x y b rest i) zero_tokens some_value
-
-assigned_sound : (n : ℕ) → IsSound Assigned n
-assigned_sound n = both_sound Target Valuation Free assigned_then n (target_sound n) (value_sound n)
-
-abbrev pub varying_of : Span → Word × (Expr × Span) → Stmt
-varying_of i p = declare rate.Varying p.0 p.1.0 (span_to i p.1.1)
-
-abbrev pub uniform_of : Span → Span × (Word × (Expr × Span)) → Stmt
-uniform_of u p = declare rate.Uniform p.1.0 p.1.1.0 (span_to u p.1.1.1)
-
-abbrev pub assign_of : Expr × (Expr × Span) → Stmt
-assign_of p = assign p.0 p.1.0 (span_to (span_of p.0) p.1.1)
-
-pub varying_makes : (i : Span) (ts : List Token) (p : Word × (Expr × Span)) → Declared.is ts p → IsStmt (at mark.Int i ∷ ts) (varying_of i p)
-varying_makes i ts p d =
-    let j = name_then_is Valuation ts p d in
-    let v = j.2 in
-    subst (λ (l : List Token). IsStmt (at mark.Int i ∷ l) (varying_of i p)) (sym (j.1 ∙ ap (λ (l : List Token). word p.0 ∷ l) v.2)) (is_varying i v.0 p.1.1 p.0 v.1 p.1.0 v.3)
-
-pub uniform_makes : (u : Span) (ts : List Token) (p : Span × (Word × (Expr × Span))) → Typed.is ts p → IsStmt (at mark.Uniform u ∷ ts) (uniform_of u p)
-uniform_makes u ts p d =
-    let i = behind_is mark.Int Declared ts p d in
-    let j = name_then_is Valuation i.0 p.1 i.2 in
-    let v = j.2 in
-    subst (λ (l : List Token). IsStmt (at mark.Uniform u ∷ l) (uniform_of u p)) (sym (i.1 ∙ ap (λ (l : List Token). at mark.Int p.0 ∷ l) (j.1 ∙ ap (λ (l : List Token). word p.1.0 ∷ l) v.2))) (is_uniform u p.0 v.0 p.1.1.1 p.1.0 v.1 p.1.1.0 v.3)
-
-pub assign_makes : (ts : List Token) (p : Expr × (Expr × Span)) → Assigned.is ts p → IsStmt ts (assign_of p)
-assign_makes ts p i =
-    let v = i.4 in
-    subst (λ (l : List Token). IsStmt l (assign_of p)) (sym (i.2 ∙ ap (λ (l : List Token). i.0 ++ l) v.2)) (is_assign v.0 p.1.1 i.0 v.1 p.0 p.1.0 i.3 v.3)
-
--- ---- the first token
-
-pub int_start : (k : TokenKind) → stmt_start_of k ≡ by_int → k ≡ kind.Mark mark.Int
-int_start (kind.Number u) e = absurd cc
-int_start (kind.Word n) e = absurd cc
-int_start (kind.Mark mark.Int) e = refl
-int_start (kind.Mark mark.Uniform) e = absurd cc
-int_start (kind.Mark _) e = absurd cc
-int_start kind.LeftOut e = absurd cc
-
-pub uniform_start : (k : TokenKind) → stmt_start_of k ≡ by_uniform → k ≡ kind.Mark mark.Uniform
-uniform_start (kind.Number u) e = absurd cc
-uniform_start (kind.Word n) e = absurd cc
-uniform_start (kind.Mark mark.Int) e = absurd cc
-uniform_start (kind.Mark mark.Uniform) e = refl
-uniform_start (kind.Mark _) e = absurd cc
-uniform_start kind.LeftOut e = absurd cc
-
-module _ (n : ℕ) where
-  next_sound : (c : StmtStart) (t : Token) (ts : List Token) (y : Stmt) (rest : List Token) → stmt_start_of t.kind ≡ c → stmt_from n c t ts ≡ Ok (y, rest) → Found Statement (suc n) (t ∷ ts) y rest
-  unfolding item_at
-  next_sound by_int t ts y rest s e =
-      subst (λ (u : Token). Found Statement (suc n) (u ∷ ts) y rest) (sym (with_kind t (kind.Mark mark.Int) (int_start t.kind s)))
-      (made_sound Declared Statement (varying_of t.span) (at mark.Int t.span ∷ []) n (suc n) (λ l. stmt_from n by_int t (drop 1 l)) ts refl (declared_sound n)
-      (λ a p i. varying_makes t.span a p i) (λ p le. omega arith) (λ p rest h. tt) y rest e)
-  next_sound by_uniform t ts y rest s e =
-      subst (λ (u : Token). Found Statement (suc n) (u ∷ ts) y rest) (sym (with_kind t (kind.Mark mark.Uniform) (uniform_start t.kind s)))
-      (made_sound Typed Statement (uniform_of t.span) (at mark.Uniform t.span ∷ []) n (suc n) (λ l. stmt_from n by_uniform t (drop 1 l)) ts refl (typed_sound n)
-      (λ a p i. uniform_makes t.span a p i) (λ p le. omega arith) (λ p rest h. tt) y rest e)
-  next_sound by_target t ts y rest s e =
-      made_sound Assigned Statement assign_of [] n (suc n) (λ l. Assigned.read n l >>= λ p. Ok (assign_of p.0, p.1)) (t ∷ ts) refl (assigned_sound n)
-      (λ a p i. assign_makes a p i) (λ p le. omega arith) (λ p rest h. tt) y rest e
-  next_sound by_nothing t ts y rest s e = absurd (err_ok e)
-
--- What is read at a depth is a statement, no deeper.
-pub stmt_sound : (n : ℕ) → IsSound Statement n
-unfolding stmt_at stmt_by
-stmt_sound zero ts y rest e = absurd (limit_not_ok begins_stmt ts y rest e)
-stmt_sound (suc n) [] y rest e = absurd (err_ok e)
-stmt_sound (suc n) (t ∷ ts) y rest e = next_sound n (stmt_start_of t.kind) t ts y rest refl e
-
--- ---- lists of statements
+-- ---- blocks
 
 abbrev pub Several : Form (List Stmt)
 Several = Until Statement mark.BraceClose
@@ -198,9 +59,278 @@ pub all_are : (ts : List Token) (ss : List Stmt) → AreAll Statement ts ss → 
 all_are ts [] i = subst (λ (l : List Token). IsStmts l []) (sym i) is_end
 all_are ts (s ∷ ss) i = subst (λ (l : List Token). IsStmts l (s ∷ ss)) (sym i.2) (is_next i.0 i.1 s ss i.3 (all_are i.1 ss i.4))
 
-pub deepest_is : (ss : List Stmt) → deepest Statement ss ≡ depth_of_stmts ss
-deepest_is [] = refl
-deepest_is (s ∷ ss) = rw (deepest_is ss) refl
+pub are_all : {ts : List Token} {ss : List Stmt} → IsStmts ts ss → AreAll Statement ts ss
+are_all is_end = refl
+are_all (is_next a b s ss i j) = (a, b, refl, i, are_all j)
 
-pub several_sound : (n : ℕ) → IsSound Several n
-several_sound n = until_sound Statement mark.BraceClose n (stmt_sound n)
+deepest_is : (ss : List Stmt) → depth_of_stmts (all ss) ≡ deepest Statement ss
+deepest_is [] = refl
+deepest_is (s ∷ ss) = ap (λ (n : ℕ). max (depth_of_stmt s) n) (deepest_is ss)
+
+abbrev pub BraceEnd : Form (List Stmt × Span)
+BraceEnd = Before Several mark.BraceClose
+
+pub brace_then : Follows Several (One mark.BraceClose) Free
+brace_then = then_one Several mark.BraceClose (λ x s rest. refl)
+
+abbrev pub block_of : Span → List Stmt × Span → Stmt
+block_of s p = block (all p.0) (span_to s p.1)
+
+pub braces_make : (s : Span) (ts : List Token) (p : List Stmt × Span) → BraceEnd.is ts p → IsBlock (at mark.BraceOpen s ∷ ts) (block_of s p)
+braces_make s ts p i =
+    let j = before_is Several mark.BraceClose ts p i in
+    subst (λ (l : List Token). IsBlock (at mark.BraceOpen s ∷ l) (block_of s p)) (sym j.1) (is_braces s p.1 j.0 p.0 (all_are j.0 p.0 j.2))
+
+pub block_deep : (s : Span) (p : List Stmt × Span) → depth_of_stmt (block_of s p) ≡ suc (BraceEnd.deep p)
+block_deep s p = omega (arith, deepest_is p.0)
+
+-- a statement that is a block
+abbrev pub Block : Form Stmt
+Block = record { is = λ ts b. IsBlock ts b; deep = depth_of_stmt; ends = λ b rest. Unit {0}; read = λ n ts. block_at (stmt_at n) ts }
+
+pub some_block : (b : List Token) × Can Block b
+some_block = (at mark.BraceOpen nowhere ∷ at mark.BraceClose nowhere ∷ [], (_, is_braces nowhere nowhere [] [] is_end))
+
+-- ---- brackets before other tokens
+
+module _ {A : Type 0} (F : Form A) where
+  pub bracketed_front : (ts a b : List Token) (x : A) → ts ≡ a ++ b → (Bracketed F).is a x → (o : Span) × (c : Span) × (d : List Token) × (ts ≡ at mark.ParenOpen o ∷ (d ++ at mark.ParenClose c ∷ b)) × F.is d x
+  bracketed_front ts a b x e i =
+      (i.0, i.1, i.2, e ∙ ap (λ (l : List Token). l ++ b) i.3 ∙ ap (λ (l : List Token). at mark.ParenOpen i.0 ∷ l) (append_assoc i.2 (at mark.ParenClose i.1 ∷ []) b), i.4)
+
+-- ---- `if`
+
+abbrev pub Else : Form (Option Stmt)
+Else = Optional mark.Else Statement
+
+abbrev pub FitsElse : Stmt → Option Stmt → Type 0
+FitsElse s None = Unit {0}
+FitsElse s (Some t) = is_open s ≡ false
+
+abbrev pub Branches : Form (Stmt × Option Stmt)
+Branches = Both Statement Else FitsElse
+
+abbrev pub Conditional : Form (Expr × (Stmt × Option Stmt))
+Conditional = Both Test Branches Free
+
+abbrev pub if_of : Shape → Span → Expr × (Stmt × Option Stmt) → Stmt
+if_of f i p = if_from f i p.0 p.1.0 p.1.1
+
+pub if_makes : (f : Shape) (i : Span) (ts : List Token) (p : Expr × (Stmt × Option Stmt)) → Conditional.is ts p → IsStmt (at (if_mark f) i ∷ ts) (if_of f i p)
+if_makes f i ts (x, (s, None)) c =
+    let t = bracketed_front (Exprs loosest) ts c.0 c.1 x c.2 c.3 in
+    let b = c.4 in
+    let e : c.1 ≡ b.0 = b.2 ∙ ap (λ (l : List Token). b.0 ++ l) b.4 ∙ append-nil b.0 in
+    subst (λ (l : List Token). IsStmt (at (if_mark f) i ∷ l) (if_of f i (x, (s, None)))) (sym (t.3 ∙ ap (λ (l : List Token). at mark.ParenOpen t.0 ∷ (t.2 ++ at mark.ParenClose t.1 ∷ l)) e)) (is_if f i t.0 t.1 t.2 b.0 x s t.4 b.3)
+if_makes f i ts (x, (s, Some u)) c =
+    let t = bracketed_front (Exprs loosest) ts c.0 c.1 x c.2 c.3 in
+    let b = c.4 in
+    let o = b.4 in
+    let e : c.1 ≡ b.0 ++ at mark.Else o.0 ∷ o.1 = b.2 ∙ ap (λ (l : List Token). b.0 ++ l) o.2 in
+    subst (λ (l : List Token). IsStmt (at (if_mark f) i ∷ l) (if_of f i (x, (s, Some u)))) (sym (t.3 ∙ ap (λ (l : List Token). at mark.ParenOpen t.0 ∷ (t.2 ++ at mark.ParenClose t.1 ∷ l)) e))
+    (is_if_else f i t.0 t.1 o.0 t.2 b.0 o.1 x s u t.4 b.3 b.5 o.3)
+
+pub if_deep : (f : Shape) (i : Span) (p : Expr × (Stmt × Option Stmt)) → depth_of_stmt (if_of f i p) ≡ suc (Conditional.deep p)
+if_deep f i (x, (s, None)) = omega arith
+if_deep f i (x, (s, Some t)) = omega arith
+
+pub if_ends : (f : Shape) (i : Span) (p : Expr × (Stmt × Option Stmt)) (rest : List Token) → Conditional.ends p rest → EndsStmt (if_of f i p) rest
+if_ends f i (x, (s, None)) rest h = λ o. h
+if_ends f i (x, (s, Some t)) rest h = h
+
+-- ---- loops
+
+abbrev pub Looping : Form (Expr × Stmt)
+Looping = Both Test Statement Free
+
+abbrev pub while_of : Shape → Span → Expr × Stmt → Stmt
+while_of f w p = loop_while f p.0 p.1 (span_to w (span_of_stmt p.1))
+
+pub while_makes : (f : Shape) (w : Span) (ts : List Token) (p : Expr × Stmt) → Looping.is ts p → IsStmt (at (while_mark f) w ∷ ts) (while_of f w p)
+while_makes f w ts p c =
+    let t = bracketed_front (Exprs loosest) ts c.0 c.1 p.0 c.2 c.3 in
+    subst (λ (l : List Token). IsStmt (at (while_mark f) w ∷ l) (while_of f w p)) (sym t.3) (is_while f w t.0 t.1 t.2 c.1 p.0 p.1 t.4 c.4)
+
+abbrev pub Tested : Form (Expr × Span)
+Tested = Before Test mark.Semicolon
+
+abbrev pub DoEnd : Form (Expr × Span)
+DoEnd = After mark.While Tested
+
+abbrev pub Doing : Form (Stmt × (Expr × Span))
+Doing = Both Statement DoEnd Free
+
+abbrev pub do_of : Shape → Span → Stmt × (Expr × Span) → Stmt
+do_of f d p = loop_do f p.0 p.1.0 (span_to d p.1.1)
+
+pub do_makes : (f : Shape) (d : Span) (ts : List Token) (p : Stmt × (Expr × Span)) → Doing.is ts p → IsStmt (at (do_mark f) d ∷ ts) (do_of f d p)
+do_makes f d ts p c =
+    let a = c.4 in
+    let b = before_is Test mark.Semicolon a.1 p.1 a.3 in
+    let t = bracketed_front (Exprs loosest) a.1 b.0 (at mark.Semicolon p.1.1 ∷ []) p.1.0 b.1 b.2 in
+    let e : ts ≡ c.0 ++ at mark.While a.0 ∷ at mark.ParenOpen t.0 ∷ (t.2 ++ at mark.ParenClose t.1 ∷ at mark.Semicolon p.1.1 ∷ []) = c.2 ∙ ap (λ (l : List Token). c.0 ++ l) (a.2 ∙ ap (λ (l : List Token). at mark.While a.0 ∷ l) t.3) in
+    subst (λ (l : List Token). IsStmt (at (do_mark f) d ∷ l) (do_of f d p)) (sym e) (is_do f d a.0 t.0 t.1 p.1.1 c.0 t.2 p.0 p.1.0 c.3 t.4)
+
+abbrev pub ForTree : Type 0
+ForTree = (Span × (Option FirstTree × (Span × (Option Expr × (Span × (Option SimpleTree × Span)))))) × Stmt
+
+abbrev pub ForLoop : Form ForTree
+ForLoop = Both HeadParts Statement Free
+
+abbrev pub for_of : Shape → Span → ForTree → Stmt
+for_of f w p = loop_for f (option_map first_tree p.0.1.0) p.0.1.1.1.0 (option_map simple_from p.0.1.1.1.1.1.0) p.1 (span_to w (span_of_stmt p.1))
+
+first_maybe : (ts : List Token) (x : Option FirstTree) → MaybeFirst.is ts x → IsMaybe IsFirst ts (option_map first_tree x)
+first_maybe ts None i = i
+first_maybe ts (Some p) i = first_makes ts p i
+
+test_maybe : (ts : List Token) (x : Option Expr) → MaybeTest.is ts x → IsMaybe (IsExpr loosest) ts x
+test_maybe ts None i = i
+test_maybe ts (Some x) i = i
+
+step_maybe : (ts : List Token) (x : Option SimpleTree) → MaybeStep.is ts x → IsMaybe IsSimple ts (option_map simple_from x)
+step_maybe ts None i = i
+step_maybe ts (Some p) i = simple_makes ts p i
+
+head_regroup : (o d e c : Span) (is ts us b : List Token)
+    → at mark.ParenOpen o ∷ ((is ++ at mark.Semicolon d ∷ (ts ++ at mark.Semicolon e ∷ (us ++ at mark.ParenClose c ∷ []))) ++ b) ≡ at mark.ParenOpen o ∷ (is ++ at mark.Semicolon d ∷ (ts ++ at mark.Semicolon e ∷ (us ++ at mark.ParenClose c ∷ b)))
+head_regroup o d e c is ts us b = simp append_assoc
+
+pub for_makes : (f : Shape) (w : Span) (ts : List Token) (p : ForTree) → ForLoop.is ts p → IsStmt (at (for_mark f) w ∷ ts) (for_of f w p)
+for_makes f w ts p c =
+    let a = behind_is mark.ParenOpen HeadFirst c.0 p.0 c.3 in
+    let i = a.2 in
+    let d = behind_is mark.Semicolon HeadTest i.1 p.0.1.1 i.4 in
+    let j = d.2 in
+    let e = behind_is mark.Semicolon HeadStep j.1 p.0.1.1.1.1 j.4 in
+    let k = before_is MaybeStep mark.ParenClose e.0 p.0.1.1.1.1.1 e.2 in
+    let step = e.1 ∙ ap (λ (l : List Token). at mark.Semicolon p.0.1.1.1.1.0 ∷ l) k.1 in
+    let test = d.1 ∙ ap (λ (l : List Token). at mark.Semicolon p.0.1.1.0 ∷ l) (j.2 ∙ ap (λ (l : List Token). j.0 ++ l) step) in
+    let front = a.1 ∙ ap (λ (l : List Token). at mark.ParenOpen p.0.0 ∷ l) (i.2 ∙ ap (λ (l : List Token). i.0 ++ l) test) in
+    let whole = c.2 ∙ ap (λ (l : List Token). l ++ c.1) front ∙ head_regroup p.0.0 p.0.1.1.0 p.0.1.1.1.1.0 p.0.1.1.1.1.1.1 i.0 j.0 k.0 c.1 in
+    subst (λ (l : List Token). IsStmt (at (for_mark f) w ∷ l) (for_of f w p)) (sym whole)
+    (is_for f w p.0.0 p.0.1.1.0 p.0.1.1.1.1.0 p.0.1.1.1.1.1.1 i.0 j.0 k.0 c.1 (option_map first_tree p.0.1.0) p.0.1.1.1.0 (option_map simple_from p.0.1.1.1.1.1.0) p.1 (first_maybe i.0 p.0.1.0 i.3) (test_maybe j.0 p.0.1.1.1.0 j.3) (step_maybe k.0 p.0.1.1.1.1.1.0 k.2) c.4)
+
+first_maybe_deep : (x : Option FirstTree) → depth_of_option depth_of_first (option_map first_tree x) ≡ MaybeFirst.deep x
+first_maybe_deep None = refl
+first_maybe_deep (Some p) = first_deep p
+
+test_maybe_deep : (x : Option Expr) → depth_of_option depth x ≡ MaybeTest.deep x
+test_maybe_deep None = refl
+test_maybe_deep (Some x) = refl
+
+step_maybe_deep : (x : Option SimpleTree) → depth_of_option depth_of_step (option_map simple_from x) ≡ MaybeStep.deep x
+step_maybe_deep None = refl
+step_maybe_deep (Some p) = ap suc (simple_deep p)
+
+pub for_deep : (f : Shape) (w : Span) (p : ForTree) → depth_of_stmt (for_of f w p) ≡ suc (ForLoop.deep p)
+for_deep f w p = omega (arith, first_maybe_deep p.0.1.0, test_maybe_deep p.0.1.1.1.0, step_maybe_deep p.0.1.1.1.1.1.0)
+
+-- ---- statements of many instances
+
+abbrev pub Spreading : Form (List Range × Stmt)
+Spreading = Both RangesHead Statement Free
+
+abbrev pub foreach_of : Tiling → Span → List Range × Stmt → Stmt
+foreach_of t w p = foreach t w p.0 p.1 (span_to w (span_of_stmt p.1))
+
+pub foreach_makes : (t : Tiling) (w : Span) (ts : List Token) (p : List Range × Stmt) → Spreading.is ts p → IsStmt (at (foreach_mark t) w ∷ ts) (foreach_of t w p)
+foreach_makes t w ts p c =
+    let h = c.3 in
+    let e = c.2 ∙ ap (λ (l : List Token). l ++ c.1) h.3 ∙ ap (λ (l : List Token). at mark.ParenOpen h.0 ∷ l) (append_assoc h.2 (at mark.ParenClose h.1 ∷ []) c.1) in
+    subst (λ (l : List Token). IsStmt (at (foreach_mark t) w ∷ l) (foreach_of t w p)) (sym e) (is_foreach t w h.0 h.1 h.2 c.1 p.0 p.1 h.4.0 h.4.1 c.4)
+
+abbrev pub Activity : Form (Word × Stmt)
+Activity = Both ActiveHead Statement Free
+
+abbrev pub active_of : Span → Word × Stmt → Stmt
+active_of w p = foreach_active w p.0 p.1 (span_to w (span_of_stmt p.1))
+
+pub active_makes : (w : Span) (ts : List Token) (p : Word × Stmt) → Activity.is ts p → IsStmt (at mark.ForeachActive w ∷ ts) (active_of w p)
+active_makes w ts p c =
+    let h = c.3 in
+    let e = c.2 ∙ ap (λ (l : List Token). l ++ c.1) (h.3 ∙ ap (λ (l : List Token). at mark.ParenOpen h.0 ∷ (l ++ at mark.ParenClose h.1 ∷ [])) h.4) in
+    subst (λ (l : List Token). IsStmt (at mark.ForeachActive w ∷ l) (active_of w p)) (sym e) (is_foreach_active w h.0 h.1 p.0 c.1 p.1 c.4)
+
+abbrev pub unmasked_of : Span → Stmt → Stmt
+unmasked_of u b = unmasked u b (span_to u (span_of_stmt b))
+
+-- ---- statements without statements in them
+
+abbrev pub DeclareStmt : Form (Declaration × Span)
+DeclareStmt = Before Declaring mark.Semicolon
+
+abbrev pub declare_of : Declaration × Span → Stmt
+declare_of p = declare p.0 (span_to p.0.span p.1)
+
+pub declare_makes : (ts : List Token) (p : Declaration × Span) → DeclareStmt.is ts p → IsStmt ts (declare_of p)
+declare_makes ts p i = let j = before_is Declaring mark.Semicolon ts p i in subst (λ (l : List Token). IsStmt l (declare_of p)) (sym j.1) (is_declare p.1 j.0 p.0 j.2)
+
+abbrev pub SimpleStmt : Form (SimpleTree × Span)
+SimpleStmt = Before SimpleParts mark.Semicolon
+
+abbrev pub simple_of : SimpleTree × Span → Stmt
+simple_of p = simple (simple_from p.0) (span_to (span_of_simple (simple_from p.0)) p.1)
+
+pub simple_stmt_makes : (ts : List Token) (p : SimpleTree × Span) → SimpleStmt.is ts p → IsStmt ts (simple_of p)
+simple_stmt_makes ts p i =
+    let j = before_is SimpleParts mark.Semicolon ts p i in
+    subst (λ (l : List Token). IsStmt l (simple_of p)) (sym j.1) (is_simple p.1 j.0 (simple_from p.0) (simple_makes j.0 p.0 j.2))
+
+abbrev pub jump_of : Jump → Span → Span → Stmt
+jump_of j w e = jump j w (span_to w e)
+
+abbrev pub Returning : Form (Option Expr × Span)
+Returning = Before MaybeTest mark.Semicolon
+
+abbrev pub return_of : Span → Option Expr × Span → Stmt
+return_of w p = returning w p.0 (span_to w p.1)
+
+pub return_makes : (w : Span) (ts : List Token) (p : Option Expr × Span) → Returning.is ts p → IsStmt (at mark.Return w ∷ ts) (return_of w p)
+return_makes w ts p i =
+    let j = before_is MaybeTest mark.Semicolon ts p i in
+    subst (λ (l : List Token). IsStmt (at mark.Return w ∷ l) (return_of w p)) (sym j.1) (is_return w p.1 j.0 p.0 (test_maybe j.0 p.0 j.2))
+
+pub return_deep : (w : Span) (p : Option Expr × Span) → depth_of_stmt (return_of w p) ≡ suc (Returning.deep p)
+return_deep w p = omega (arith, test_maybe_deep p.0)
+
+abbrev pub PrintEnd : Form (Span × Span)
+PrintEnd = Behind mark.ParenClose (One mark.Semicolon)
+
+abbrev pub PrintValues : Form (List Expr × (Span × Span))
+PrintValues = Both Values PrintEnd Free
+
+abbrev pub PrintText : Form ((List ℕ × Span) × (List Expr × (Span × Span)))
+PrintText = Both Texts PrintValues Free
+
+abbrev pub Printing : Form (Span × ((List ℕ × Span) × (List Expr × (Span × Span))))
+Printing = Behind mark.ParenOpen PrintText
+
+abbrev pub print_of : Span → Span × ((List ℕ × Span) × (List Expr × (Span × Span))) → Stmt
+print_of w p = print w p.1.0.0 p.1.0.1 p.1.1.0 (span_to w p.1.1.1.1)
+
+pub print_makes : (w : Span) (ts : List Token) (p : Span × ((List ℕ × Span) × (List Expr × (Span × Span)))) → Printing.is ts p → IsStmt (at mark.Print w ∷ ts) (print_of w p)
+print_makes w ts p i =
+    let a = behind_is mark.ParenOpen PrintText ts p i in
+    let b = a.2 in
+    let c = b.4 in
+    let d = behind_is mark.ParenClose (One mark.Semicolon) c.1 p.1.1.1 c.4 in
+    let values = c.2 ∙ ap (λ (l : List Token). c.0 ++ l) (d.1 ∙ ap (λ (l : List Token). at mark.ParenClose p.1.1.1.0 ∷ l) d.2) in
+    let e = a.1 ∙ ap (λ (l : List Token). at mark.ParenOpen p.0 ∷ l) (b.2 ∙ ap (λ (l : List Token). l ++ b.1) b.3 ∙ ap (λ (l : List Token). textual p.1.0.0 p.1.0.1 ∷ l) values) in
+    subst (λ (l : List Token). IsStmt (at mark.Print w ∷ l) (print_of w p)) (sym e) (is_print w p.0 p.1.0.1 p.1.1.1.0 p.1.1.1.1 p.1.0.0 c.0 p.1.1.0 c.3)
+
+deepest_expr : (xs : List Expr) → deepest_of depth xs ≡ deepest NextValue xs
+deepest_expr [] = refl
+deepest_expr (x ∷ xs) = ap (λ (n : ℕ). max (depth x) n) (deepest_expr xs)
+
+pub print_deep : (w : Span) (p : Span × ((List ℕ × Span) × (List Expr × (Span × Span)))) → depth_of_stmt (print_of w p) ≡ suc (Printing.deep p)
+print_deep w p = omega (arith, deepest_expr p.1.1.0)
+
+abbrev pub assert_of : Span → Expr × Span → Stmt
+assert_of w p = assert p.0 (span_to w p.1)
+
+pub assert_makes : (w : Span) (ts : List Token) (p : Expr × Span) → Tested.is ts p → IsStmt (at mark.Assert w ∷ ts) (assert_of w p)
+assert_makes w ts p i =
+    let b = before_is Test mark.Semicolon ts p i in
+    let t = bracketed_front (Exprs loosest) ts b.0 (at mark.Semicolon p.1 ∷ []) p.0 b.1 b.2 in
+    subst (λ (l : List Token). IsStmt (at mark.Assert w ∷ l) (assert_of w p)) (sym t.3) (is_assert w t.0 t.1 p.1 t.2 p.0 t.4)

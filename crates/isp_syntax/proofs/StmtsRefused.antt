@@ -1,155 +1,237 @@
 -- What a refusal of a statement means.
-use Rattle.std.proofs.Common.{◌≡◌, ℕ, zero, suc, Bool, true, false, List, [], ◌∷◌, Option, Ok, Err, refl, sym, ap, subst, ◌∙◌}
+use Rattle.std.proofs.Common.{◌≡◌, ℕ, zero, suc, ◌≤◌, Bool, true, false, List, [], ◌∷◌, ◌++◌, Option, Some, None, Ok, Err, refl, sym, ap, subst, ◌∙◌, append_assoc, arith, inl, inr, ◌⊎◌}
+use Rattle.std.specs.Prelude.{⊤}
 use Rattle.isp_base.specs.declared.types.Span.{Span}
-use Rattle.isp_lex.specs.Tokens.{at}
+use Rattle.isp_lex.specs.Tokens.{at, is_mark, starts_with}
+use Rattle.isp_lex.specs.declared.token.Mark.{Mark}
 use Rattle.isp_lex.specs.declared.token.Mark.TheVariants as mark
 use Rattle.isp_lex.specs.declared.token.TokenKind.{TokenKind}
 use Rattle.isp_lex.specs.declared.token.TokenKind.TheVariants as kind
 use Rattle.isp_lex.specs.declared.token.Token.{Token}
-use Rattle.isp_syntax.proofs.Basics.{token, err_is}
-use Rattle.isp_syntax.proofs.Forms.{Can, One, one_sound, one_complete, Named, named_sound, named_complete, Free}
-use Rattle.isp_syntax.proofs.FormsComplete.{one_by_head, named_by_head}
-use Rattle.isp_syntax.proofs.Refused.{Refused, refused_here, deep_here, raise, FailsForm, IsRefused, one_refused, named_refused, both_refused, made_err, made_fails, made_refused, until_refused}
-use Rattle.isp_syntax.proofs.Exprs.{Exp, with_kind, Placed, placed_makes, place_reads, nowhere, expr_sound}
-use Rattle.isp_syntax.proofs.ExprsComplete.{ends_same, expr_complete}
-use Rattle.isp_syntax.proofs.ExprsRefused.{placed_refused, expr_refused}
-use Rattle.isp_syntax.proofs.StmtSteps.{target_off, target_deep, stmt_off, stmt_deep}
-use Rattle.isp_syntax.proofs.Stmts.{Ended, ended_then, Valued, valued_then, Valuation, value_makes, value_reads, Target, target_sound, Declared, declared_then, zero_tokens, some_value, some_declared, Typed, typed_then, Assigned, assigned_then, Statement, varying_of, uniform_of, assign_of, varying_makes, uniform_makes, assign_makes, int_start, uniform_start, stmt_sound, Several}
-use Rattle.isp_syntax.proofs.StmtsComplete.{target_complete, target_by_head, varying_reads, uniform_reads, assign_reads, stmt_complete, stmt_stands}
-use Rattle.isp_syntax.specs.Grammar.{word, loosest, is_variable}
-use Rattle.isp_syntax.specs.Reading.{◌>>=◌, head, on_head, place_of, place_at, expr_at, is_word, target_at, value_at, StmtStart, by_int, by_uniform, by_target, by_nothing, stmt_start_of, is_stmt_start, begins_stmt, stmt_at}
-use Rattle.isp_syntax.specs.Tree.{name}
+use Rattle.isp_syntax.proofs.Basics.{token, err_is, ok_err, chosen, starts_same, head_past}
+use Rattle.isp_syntax.proofs.Choices.{nowhere, begins_same, limit_off, Limits, limit_refused}
+use Rattle.isp_syntax.proofs.Declarations.{Declaring, declaration_sound, declaration_complete, declaration_by_head, declaration_refused}
+use Rattle.isp_syntax.proofs.Forms.{Form, IsSound, IsComplete, Can, One, one_sound, one_complete, Both, Free, Follows, Before}
+use Rattle.isp_syntax.proofs.FormsComplete.{EndsByHead, one_by_head}
+use Rattle.isp_syntax.proofs.Ranges.{RangesHead, ranges_head_sound, ranges_head_complete, ranges_head_refused, some_ranges_head, ActiveHead, active_head_sound, active_head_complete, active_head_refused, some_active_head, Texts, text_sound, text_complete, text_refused, Values, values_sound, values_complete, values_refused, values_by_head}
+use Rattle.isp_syntax.proofs.Refused.{Completes, Refused, refused_here, raise, FailsForm, IsRefused, one_refused, both_refused, made_refused, made_err, made_fails, optional_refused, until_refused}
+use Rattle.isp_syntax.proofs.Simples.{SimpleTree, SimpleParts, simple_sound, simple_complete, simple_by_head, simple_refused, simple_makes}
+use Rattle.isp_syntax.proofs.Starts.{Fits, start_fits}
+use Rattle.isp_syntax.proofs.StmtParts.{Test, test_sound, test_complete, test_refused, some_test, MaybeTest, maybe_test_sound, maybe_test_complete, maybe_test_refused, maybe_test_by_head, HeadParts, head_sound, head_complete, head_refused, some_head, declaration_completes, simple_opens}
+use Rattle.isp_syntax.proofs.StmtReads.{FailsNext, Production, production_refused, block_production, empty_production, if_production, while_production, do_production, for_production, foreach_production, active_production, unmasked_production, jump_production, return_production, print_production, assert_production, empty_of}
+use Rattle.isp_syntax.proofs.Stmts.{Statement, stmt_by_head, some_stmt, Nothing, Several, BraceEnd, brace_then, block_of, Block, some_block, Else, FitsElse, Branches, Conditional, if_of, Looping, while_of, Tested, DoEnd, Doing, do_of, ForLoop, for_of, Spreading, foreach_of, Activity, active_of, unmasked_of, DeclareStmt, declare_of, declare_makes, SimpleStmt, simple_of, simple_stmt_makes, jump_of, Returning, return_of, PrintEnd, PrintValues, PrintText, Printing, print_of, assert_of}
+use Rattle.isp_syntax.proofs.StmtsComplete.{stmt_stands, several_by_head, several_complete, tested_complete, declare_starts, simple_stmt_starts, stmt_complete}
+use Rattle.isp_syntax.proofs.StmtsSound.{then_else, branches_then, body_then, tested_then, some_tested, do_then, for_then, foreach_then, active_then, declare_then, simple_then, return_then, print_behind, text_then, values_then, print_end_behind, is_only_block, several_sound, stmt_sound}
+use Rattle.isp_syntax.proofs.Wrapped.{After, after_refused}
+use Rattle.isp_syntax.specs.Grammar.{IsBlock, IsStmt, is_empty, is_declare, is_simple}
+use Rattle.isp_syntax.specs.Reading.{◌>>=◌, refusal, refuse, head, on_head}
+use Rattle.isp_syntax.specs.ReadingChoices.{begins_with}
+use Rattle.isp_syntax.specs.ReadingStarts.{start_of, is_start, begins_stmt}
+use Rattle.isp_syntax.specs.ReadingStmts.{simple_from, block_at, stmt_from, stmt_by, stmt_at}
+use Rattle.isp_syntax.specs.Signs.{if_mark, while_mark, do_mark, for_mark, foreach_mark, jump_mark}
+use Rattle.isp_syntax.specs.Tree.{Stmt}
+use Rattle.isp_syntax.specs.declared.start.Start.{Start}
+use Rattle.isp_syntax.specs.declared.start.Start.TheVariants as by
+use Rattle.isp_syntax.specs.declared.stop.Why.{Why}
+use Rattle.isp_syntax.specs.declared.stop.Why.TheVariants.{Unexpected, TooDeep}
 use Rattle.isp_syntax.specs.declared.stop.Refusal.{Refusal}
-use Rattle.isp_syntax.specs.declared.tree.Word.{Word}
 
--- ---- `=`, a value and a semicolon
+-- ---- what begins a statement can be completed
 
-valued_refused : (n : ℕ) → IsRefused Valued n
-valued_refused n =
-    both_refused (One mark.Assign) Ended Free valued_then n (one_by_head mark.Assign) (one_complete mark.Assign) (one_sound mark.Assign n) (one_refused mark.Assign n)
-    (both_refused (Exp loosest) (One mark.Semicolon) Free ended_then n (ends_same loosest) (λ m. expr_complete m loosest) (expr_sound n loosest) (expr_refused n loosest) (one_refused mark.Semicolon n))
+some_both : {A B : Type 0} (F : Form A) (G : Form B) (fits : A → B → Type 0) → Follows F G fits → (b : List Token) × Can F b → (b : List Token) × Can (Both F G fits) b
+some_both F G fits follows a = let o = follows.some a.1.0 in (a.0 ++ o.0, ((a.1.0, o.1), (a.0, o.0, refl, a.1.1, o.2, o.3)))
 
-pub value_refused : (n : ℕ) → IsRefused Valuation n
-value_refused n ts r e =
-    made_refused Valued Valuation (λ p. p.1) [] (FailsForm Valuation) n ts r (valued_refused n) (made_err (λ p. p.1) (Valued.read n ts) r (sym (value_reads n ts) ∙ e)) (λ a p i. value_makes a p i)
-    (λ m u d le h w. made_fails (λ p. p.1) (Valued.read m u) (value_at m u) d (value_reads m u) w)
+some_one : (m : Mark) → (b : List Token) × Can (One m) b
+some_one m = (at m nowhere ∷ [], (nowhere, refl))
 
--- ---- what is assigned to
+some_several : (b : List Token) × Can Several b
+some_several = ([], ([], refl))
 
-abbrev some_name : Can Target (word (record { name = []; span = nowhere }) ∷ [])
-some_name = (name (record { name = []; span = nowhere }), is_variable (record { name = []; span = nowhere }))
+some_maybe : (b : List Token) × Can MaybeTest b
+some_maybe = ([], (None, refl))
 
-word_completes : (k : TokenKind) (s : Span) → is_word k ≡ true → Can Target (token k s ∷ [])
-word_completes (kind.Word n) s e = (name (record { name = n; span = s }), is_variable (record { name = n; span = s }))
-word_completes (kind.Number v) s e = absurd cc
-word_completes (kind.Mark m) s e = absurd cc
-word_completes kind.LeftOut s e = absurd cc
+produced : {A : Type 0} (m : Mark) (F : Form A) (g : Span → A → Stmt) → Production m F g → (b : List Token) × Can F b → (k : TokenKind) (s : Span) → k ≡ kind.Mark m → (closing : List Token) × Can Statement (token k s ∷ closing)
+produced m F g p b k s e = (b.0, (g s b.1.0, subst (λ (c : TokenKind). IsStmt (token c s ∷ b.0) (g s b.1.0)) (sym e) (p.makes s b.0 b.1.0 b.1.1)))
 
-target_limit : (u : List Token) (b : Bool) → on_head false is_word (head u) ≡ b → (r : Refusal) → target_at zero u ≡ Err r → Refused (Can Target) (FailsForm Target) zero u r
-target_limit u false h r e =
-    subst (λ (d : Refusal). Refused (Can Target) (FailsForm Target) zero u d) (err_is (sym (target_off zero u h) ∙ e))
-    (refused_here (Can Target) (FailsForm Target) zero u (word (record { name = []; span = nowhere }) ∷ []) some_name
-    (λ m more le a. target_off m more (ap (λ (o : Option TokenKind). on_head false is_word o) (sym a) ∙ h)))
-target_limit [] true h r e = absurd cc
-target_limit (t ∷ ts) true h r e =
-    subst (λ (d : Refusal). Refused (Can Target) (FailsForm Target) zero (t ∷ ts) d) (err_is (sym (target_deep (t ∷ ts) h) ∙ e))
-    (deep_here (Can Target) (FailsForm Target) zero t ts [] (word_completes t.kind t.span h)
-    (λ more b. target_deep more (ap (λ (o : Option TokenKind). on_head false is_word o) (sym b) ∙ h)))
+opens : (c : Start) (k : TokenKind) (s : Span) → Fits c k → is_start c ≡ true → (closing : List Token) × Can Statement (token k s ∷ closing)
+opens by.Block k s f h = produced mark.BraceOpen BraceEnd block_of block_production (some_both Several (One mark.BraceClose) Free brace_then some_several) k s f
+opens by.Empty k s f h = produced mark.Semicolon Nothing empty_of empty_production ([], (tt, refl)) k s f
+opens by.Declare k s f h =
+    let c = declaration_completes k s f in
+    (c.0 ++ at mark.Semicolon nowhere ∷ [], (declare_of (c.1.0, nowhere), is_declare nowhere (token k s ∷ c.0) c.1.0 c.1.1))
+opens by.Simple k s f h =
+    let c = simple_opens k s f in
+    (c.0 ++ at mark.Semicolon nowhere ∷ [], (simple_of (c.1.0, nowhere), is_simple nowhere (token k s ∷ c.0) (simple_from c.1.0) (simple_makes (token k s ∷ c.0) c.1.0 c.1.1)))
+opens (by.If g) k s f h = produced (if_mark g) Conditional (if_of g) (if_production g) (some_both Test Branches Free branches_then some_test) k s f
+opens (by.While g) k s f h = produced (while_mark g) Looping (while_of g) (while_production g) (some_both Test Statement Free body_then some_test) k s f
+opens (by.Do g) k s f h = produced (do_mark g) Doing (do_of g) (do_production g) (some_both Statement DoEnd Free do_then some_stmt) k s f
+opens (by.For g) k s f h = produced (for_mark g) ForLoop (for_of g) (for_production g) (some_both HeadParts Statement Free for_then some_head) k s f
+opens (by.Foreach t) k s f h = produced (foreach_mark t) Spreading (foreach_of t) (foreach_production t) (some_both RangesHead Statement Free foreach_then some_ranges_head) k s f
+opens by.ForeachActive k s f h = produced mark.ForeachActive Activity active_of active_production (some_both ActiveHead Statement Free active_then some_active_head) k s f
+opens by.Unmasked k s f h = produced mark.Unmasked Block unmasked_of unmasked_production some_block k s f
+opens (by.Jump j) k s f h = produced (jump_mark j) (One mark.Semicolon) (jump_of j) (jump_production j) (some_one mark.Semicolon) k s f
+opens by.Return k s f h = produced mark.Return Returning return_of return_production (some_both MaybeTest (One mark.Semicolon) Free return_then some_maybe) k s f
+opens by.Print k s f h = produced mark.Print Printing print_of print_production (some_both (One mark.ParenOpen) PrintText Free print_behind (some_one mark.ParenOpen)) k s f
+opens by.Assert k s f h = produced mark.Assert Tested assert_of assert_production some_tested k s f
+opens by.Nothing k s f h = absurd cc
 
-target_below : (m : ℕ) (u : List Token) → target_at (suc m) u ≡ place_at (expr_at m loosest) u
-unfolding target_at
-target_below m u = refl
+-- ---- where no statement begins
 
-pub target_refused : (n : ℕ) → IsRefused Target n
-target_refused zero ts r e = target_limit ts (on_head false is_word (head ts)) refl r e
-target_refused (suc n) ts r e =
-    raise n (Can Target) (FailsForm Target) ts r
-    (made_refused Placed Target (λ p. place_of p.0 p.1) [] (λ m u d. target_at (suc m) u ≡ Err d) n ts r (placed_refused n (expr_refused n))
-    (made_err (λ p. place_of p.0 p.1) (Placed.read n ts) r (sym (target_below n ts ∙ place_reads n ts) ∙ e)) (λ a p i. placed_makes a p i)
-    (λ m u d le h w. made_fails (λ p. place_of p.0 p.1) (Placed.read m u) (target_at (suc m) u) d (target_below m u ∙ place_reads m u) w))
+from_off : (n : ℕ) (c : Start) (t : Token) (u : List Token) → is_start c ≡ false → stmt_from (stmt_at n) n c t u ≡ refuse Unexpected (t ∷ u)
+from_off n by.Block t u e = absurd cc
+from_off n by.Empty t u e = absurd cc
+from_off n by.Declare t u e = absurd cc
+from_off n by.Simple t u e = absurd cc
+from_off n (by.If f) t u e = absurd cc
+from_off n (by.While f) t u e = absurd cc
+from_off n (by.Do f) t u e = absurd cc
+from_off n (by.For f) t u e = absurd cc
+from_off n (by.Foreach f) t u e = absurd cc
+from_off n by.ForeachActive t u e = absurd cc
+from_off n by.Unmasked t u e = absurd cc
+from_off n (by.Jump j) t u e = absurd cc
+from_off n by.Return t u e = absurd cc
+from_off n by.Print t u e = absurd cc
+from_off n by.Assert t u e = absurd cc
+from_off n by.Nothing t u e = refl
 
--- ---- statements
+-- where no statement begins, none is read, at any depth
+pub stmt_off : (m : ℕ) (u : List Token) → begins_with begins_stmt u ≡ false → stmt_at m u ≡ refuse Unexpected u
+unfolding stmt_at stmt_by
+stmt_off zero u e = limit_off begins_stmt u e
+stmt_off (suc m) [] e = refl
+stmt_off (suc m) (t ∷ u) e = from_off m (start_of t.kind) t u e
 
-declared_refused : (n : ℕ) → IsRefused Declared n
-declared_refused n = both_refused Named Valuation Free declared_then n named_by_head named_complete (named_sound n) (named_refused n) (value_refused n)
+stmt_limits : Limits begins_stmt Statement
+unfolding stmt_at
+stmt_limits = record { limit = λ u. refl; off = λ m u e. stmt_off m u e; some = some_stmt; completes = λ k s e. opens (start_of k) k s (start_fits k) e }
 
-typed_refused : (n : ℕ) → IsRefused Typed n
-typed_refused n = both_refused (One mark.Int) Declared Free typed_then n (one_by_head mark.Int) (one_complete mark.Int) (one_sound mark.Int n) (one_refused mark.Int n) (declared_refused n)
+-- ---- refusals of statements without statements in them
 
-assigned_refused : (n : ℕ) → IsRefused Assigned n
-assigned_refused n = both_refused Target Valuation Free assigned_then n target_by_head target_complete (target_sound n) (target_refused n) (value_refused n)
+tested_refused : (n : ℕ) → IsRefused Tested n
+tested_refused n = both_refused Test (One mark.Semicolon) Free tested_then n (λ x a b e h. tt) test_complete (test_sound n) (test_refused n) (one_refused mark.Semicolon n)
 
--- a statement with one more level of depth left
-abbrev FailsNext : ℕ → List Token → Refusal → Type 0
-FailsNext m u d = stmt_at (suc m) u ≡ Err d
+declare_stmt_refused : (n : ℕ) → IsRefused DeclareStmt n
+declare_stmt_refused n = both_refused Declaring (One mark.Semicolon) Free declare_then n declaration_by_head declaration_complete (declaration_sound n) (declaration_refused n) (one_refused mark.Semicolon n)
 
-int_refused : (n : ℕ) (s : Span) (ts : List Token) (r : Refusal) → stmt_at (suc n) (at mark.Int s ∷ ts) ≡ Err r → Refused (Can Statement) FailsNext n (at mark.Int s ∷ ts) r
-int_refused n s ts r e =
-    made_refused Declared Statement (varying_of s) (at mark.Int s ∷ []) FailsNext n ts r (declared_refused n) (made_err (varying_of s) (Declared.read n ts) r (sym (varying_reads n s ts) ∙ e)) (λ a p i. varying_makes s a p i)
-    (λ m u d le h w. made_fails (varying_of s) (Declared.read m u) (stmt_at (suc m) (at mark.Int s ∷ u)) d (varying_reads m s u) w)
+simple_stmt_refused : (n : ℕ) → IsRefused SimpleStmt n
+simple_stmt_refused n = both_refused SimpleParts (One mark.Semicolon) Free simple_then n simple_by_head simple_complete (simple_sound n) (simple_refused n) (one_refused mark.Semicolon n)
 
-rated_refused : (n : ℕ) (s : Span) (ts : List Token) (r : Refusal) → stmt_at (suc n) (at mark.Uniform s ∷ ts) ≡ Err r → Refused (Can Statement) FailsNext n (at mark.Uniform s ∷ ts) r
-rated_refused n s ts r e =
-    made_refused Typed Statement (uniform_of s) (at mark.Uniform s ∷ []) FailsNext n ts r (typed_refused n) (made_err (uniform_of s) (Typed.read n ts) r (sym (uniform_reads n s ts) ∙ e)) (λ a p i. uniform_makes s a p i)
-    (λ m u d le h w. made_fails (uniform_of s) (Typed.read m u) (stmt_at (suc m) (at mark.Uniform s ∷ u)) d (uniform_reads m s u) w)
+returning_refused : (n : ℕ) → IsRefused Returning n
+returning_refused n = both_refused MaybeTest (One mark.Semicolon) Free return_then n maybe_test_by_head maybe_test_complete (maybe_test_sound n) (maybe_test_refused n) (one_refused mark.Semicolon n)
 
-target_reads : (m : ℕ) (u : List Token) → on_head by_nothing stmt_start_of (head u) ≡ by_target → stmt_at (suc m) u ≡ (Assigned.read m u >>= λ p. Ok (assign_of p.0, p.1))
-target_reads m [] e = absurd cc
-target_reads m (t ∷ u) e = assign_reads m t u e
+printing_refused : (n : ℕ) → IsRefused Printing n
+printing_refused n =
+    both_refused (One mark.ParenOpen) PrintText Free print_behind n (one_by_head mark.ParenOpen) (one_complete mark.ParenOpen) (one_sound mark.ParenOpen n) (one_refused mark.ParenOpen n)
+    (both_refused Texts PrintValues Free text_then n (λ x a b e h. tt) text_complete (text_sound n) (text_refused n)
+    (both_refused Values PrintEnd Free values_then n values_by_head values_complete (values_sound n) (values_refused n)
+    (both_refused (One mark.ParenClose) (One mark.Semicolon) Free print_end_behind n (one_by_head mark.ParenClose) (one_complete mark.ParenClose) (one_sound mark.ParenClose n) (one_refused mark.ParenClose n) (one_refused mark.Semicolon n))))
 
--- the least statement
-abbrev pub least_stmt : List Token
-least_stmt = at mark.Int nowhere ∷ word (record { name = []; span = nowhere }) ∷ zero_tokens
+nothing_refused : (n : ℕ) → IsRefused Nothing n
+nothing_refused n ts r e = absurd (ok_err e)
 
-pub some_stmt : Can Statement least_stmt
-some_stmt = (varying_of nowhere some_declared.0, varying_makes nowhere (word (record { name = []; span = nowhere }) ∷ zero_tokens) some_declared.0 some_declared.1)
+-- ---- refusals of statements with statements in them
 
-next_off : (n : ℕ) (u : List Token) (r : Refusal) → on_head false begins_stmt (head u) ≡ false → stmt_at (suc n) u ≡ Err r → Refused (Can Statement) FailsNext n u r
-next_off n u r off e =
-    subst (λ (d : Refusal). Refused (Can Statement) FailsNext n u d) (err_is (sym (stmt_off (suc n) u off) ∙ e))
-    (refused_here (Can Statement) FailsNext n u least_stmt some_stmt
-    (λ m more le h. stmt_off (suc m) more (ap (λ (o : Option TokenKind). on_head false begins_stmt o) (sym h) ∙ off)))
+-- what begins with a brace and is completed to a statement is completed to a block
+block_completes : (why : Why) (used after : List Token) → starts_with mark.BraceOpen (used ++ after) ≡ true → Completes (Can Statement) why used after → Completes (Can Block) why used after
+block_completes Unexpected [] after s c = (some_block.0, some_block.1)
+block_completes Unexpected (t ∷ used) after s c = (c.0, (c.1.0, is_only_block c.1.1 [] s))
+block_completes TooDeep used [] s c = absurd c
+block_completes TooDeep used (t ∷ after) s c =
+    let b : starts_with mark.BraceOpen ((used ++ t ∷ c.0) ++ []) ≡ true = ap (λ (l : List Token). starts_with mark.BraceOpen l) (append_assoc used (t ∷ c.0) []) ∙ starts_same mark.BraceOpen (used ++ t ∷ (c.0 ++ [])) (used ++ t ∷ after) (head_past used (t ∷ (c.0 ++ [])) (t ∷ after) refl) ∙ s in
+    (c.0, (c.1.0, is_only_block c.1.1 [] b))
 
-next_refused : (n : ℕ) (c : StmtStart) (t : Token) (ts : List Token) (r : Refusal) → stmt_start_of t.kind ≡ c → stmt_at (suc n) (t ∷ ts) ≡ Err r → Refused (Can Statement) FailsNext n (t ∷ ts) r
-next_refused n by_int t ts r s e =
-    let k = with_kind t (kind.Mark mark.Int) (int_start t.kind s) in
-    subst (λ (u : Token). Refused (Can Statement) FailsNext n (u ∷ ts) r) (sym k) (int_refused n t.span ts r (subst (λ (u : Token). stmt_at (suc n) (u ∷ ts) ≡ Err r) k e))
-next_refused n by_uniform t ts r s e =
-    let k = with_kind t (kind.Mark mark.Uniform) (uniform_start t.kind s) in
-    subst (λ (u : Token). Refused (Can Statement) FailsNext n (u ∷ ts) r) (sym k) (rated_refused n t.span ts r (subst (λ (u : Token). stmt_at (suc n) (u ∷ ts) ≡ Err r) k e))
-next_refused n by_target t ts r s e =
-    made_refused Assigned Statement assign_of [] FailsNext n (t ∷ ts) r (assigned_refused n) (made_err assign_of (Assigned.read n (t ∷ ts)) r (sym (assign_reads n t ts s) ∙ e)) (λ a p i. assign_makes a p i)
-    (λ m u d le h w. made_fails assign_of (Assigned.read m u) (stmt_at (suc m) u) d (target_reads m u (ap (λ (o : Option TokenKind). on_head by_nothing stmt_start_of o) (sym h) ∙ s)) w)
-next_refused n by_nothing t ts r s e = next_off n (t ∷ ts) r (ap is_stmt_start s) e
+module _ (n : ℕ) (ih : IsRefused Statement n) where
+  pub several_refused : IsRefused Several n
+  several_refused = until_refused Statement mark.BraceClose n stmt_stands.first stmt_by_head stmt_complete (stmt_sound n) ih
 
--- what begins a statement can be completed
-stmt_completes : (c : TokenKind) (s : Span) → begins_stmt c ≡ true → (closing : List Token) × Can Statement (token c s ∷ closing)
-stmt_completes (kind.Number v) s e = absurd cc
-stmt_completes (kind.Word n) s e =
-    let w : Word = record { name = n; span = s } in
-    (zero_tokens, (assign_of (name w, some_value.0), assign_makes (word w ∷ zero_tokens) (name w, some_value.0) (word w ∷ [], zero_tokens, refl, is_variable w, some_value.1, tt)))
-stmt_completes (kind.Mark mark.Int) s e = (word (record { name = []; span = nowhere }) ∷ zero_tokens, (varying_of s some_declared.0, varying_makes s (word (record { name = []; span = nowhere }) ∷ zero_tokens) some_declared.0 some_declared.1))
-stmt_completes (kind.Mark mark.Uniform) s e =
-    (least_stmt, (uniform_of s (nowhere, some_declared.0), uniform_makes s least_stmt (nowhere, some_declared.0) (at mark.Int nowhere ∷ [], word (record { name = []; span = nowhere }) ∷ zero_tokens, refl, refl, some_declared.1, tt)))
-stmt_completes (kind.Mark _) s e = absurd cc
-stmt_completes kind.LeftOut s e = absurd cc
+  brace_end_refused : IsRefused BraceEnd n
+  brace_end_refused = both_refused Several (One mark.BraceClose) Free brace_then n several_by_head (λ m. several_complete m (stmt_complete m)) (several_sound n (stmt_sound n)) several_refused (one_refused mark.BraceClose n)
 
-limit_refused : (u : List Token) (b : Bool) → on_head false begins_stmt (head u) ≡ b → (r : Refusal) → stmt_at zero u ≡ Err r → Refused (Can Statement) (FailsForm Statement) zero u r
-limit_refused u false h r e =
-    subst (λ (d : Refusal). Refused (Can Statement) (FailsForm Statement) zero u d) (err_is (sym (stmt_off zero u h) ∙ e))
-    (refused_here (Can Statement) (FailsForm Statement) zero u least_stmt some_stmt
-    (λ m more le a. stmt_off m more (ap (λ (o : Option TokenKind). on_head false begins_stmt o) (sym a) ∙ h)))
-limit_refused [] true h r e = absurd cc
-limit_refused (t ∷ ts) true h r e =
-    let c = stmt_completes t.kind t.span h in
-    subst (λ (d : Refusal). Refused (Can Statement) (FailsForm Statement) zero (t ∷ ts) d) (err_is (sym (stmt_deep (t ∷ ts) h) ∙ e))
-    (deep_here (Can Statement) (FailsForm Statement) zero t ts c.0 c.1 (λ more b. stmt_deep more (ap (λ (o : Option TokenKind). on_head false begins_stmt o) (sym b) ∙ h)))
+  branches_refused : IsRefused Branches n
+  branches_refused = both_refused Statement Else FitsElse then_else n stmt_by_head stmt_complete (stmt_sound n) ih (optional_refused mark.Else Statement n ih)
+
+  conditional_refused : IsRefused Conditional n
+  conditional_refused = both_refused Test Branches Free branches_then n (λ x a b e h. tt) test_complete (test_sound n) (test_refused n) branches_refused
+
+  looping_refused : IsRefused Looping n
+  looping_refused = both_refused Test Statement Free body_then n (λ x a b e h. tt) test_complete (test_sound n) (test_refused n) ih
+
+  doing_refused : IsRefused Doing n
+  doing_refused = both_refused Statement DoEnd Free do_then n stmt_by_head stmt_complete (stmt_sound n) ih (after_refused mark.While Tested some_tested n (tested_refused n))
+
+  for_loop_refused : IsRefused ForLoop n
+  for_loop_refused = both_refused HeadParts Statement Free for_then n (λ x a b e h. tt) head_complete (head_sound n) (head_refused n) ih
+
+  spreading_refused : IsRefused Spreading n
+  spreading_refused = both_refused RangesHead Statement Free foreach_then n (λ x a b e h. tt) ranges_head_complete (ranges_head_sound n) (ranges_head_refused n) ih
+
+  activity_refused : IsRefused Activity n
+  activity_refused = both_refused ActiveHead Statement Free active_then n (λ x a b e h. tt) active_head_complete (active_head_sound n) (active_head_refused n) ih
+
+  block_from_refused : (ts : List Token) (r : Refusal) → starts_with mark.BraceOpen ts ≡ true → stmt_at n ts ≡ Err r → Refused (Can Block) (FailsForm Block) n ts r
+  unfolding block_at
+  block_from_refused ts r s e =
+      let q = ih ts r e in
+      let b = subst (λ (l : List Token). starts_with mark.BraceOpen l ≡ true) q.split s in
+      record {
+        used = q.used;
+        after = q.after;
+        split = q.split;
+        place = q.place;
+        viable = block_completes r.why q.used q.after b q.viable;
+        stays = λ m more a h.
+            let o = sym (starts_same mark.BraceOpen (q.used ++ q.after) (q.used ++ more) (head_past q.used q.after more h)) ∙ b in
+            rw (o, q.stays m more a h) refl;
+      }
+
+  pub block_refused : IsRefused Block n
+  unfolding block_at
+  block_refused ts r e =
+      elim (chosen (starts_with mark.BraceOpen ts) (stmt_at n ts) (refuse Unexpected ts) (Err r) e) [
+        | inl p ↦ block_from_refused ts r p.0 p.1
+        | inr p ↦
+            subst (λ (d : Refusal). Refused (Can Block) (FailsForm Block) n ts d) (err_is p.1)
+            (refused_here (Can Block) (FailsForm Block) n ts some_block.0 some_block.1 (λ m more le h. let o = sym (starts_same mark.BraceOpen ts more h) ∙ p.0 in rw o refl))
+      ]
+
+  by_mark : (m : Mark) (t : Token) (ts : List Token) (r : Refusal) → t.kind ≡ kind.Mark m → ((s : Span) → stmt_at (suc n) (at m s ∷ ts) ≡ Err r → Refused (Can Statement) FailsNext n (at m s ∷ ts) r)
+      → stmt_at (suc n) (t ∷ ts) ≡ Err r → Refused (Can Statement) FailsNext n (t ∷ ts) r
+  by_mark m t ts r k f =
+      subst (λ (u : Token). stmt_at (suc n) (u ∷ ts) ≡ Err r → Refused (Can Statement) FailsNext n (u ∷ ts) r) (sym (ap (λ (c : TokenKind). token c t.span) k)) (f t.span)
+
+  next_off : (u : List Token) (r : Refusal) → begins_with begins_stmt u ≡ false → stmt_at (suc n) u ≡ Err r → Refused (Can Statement) FailsNext n u r
+  next_off u r off e =
+      subst (λ (d : Refusal). Refused (Can Statement) FailsNext n u d) (err_is (sym (stmt_off (suc n) u off) ∙ e))
+      (refused_here (Can Statement) FailsNext n u some_stmt.0 some_stmt.1 (λ m more le h. stmt_off (suc m) more (sym (begins_same begins_stmt u more h) ∙ off)))
+
+  same_start : (t : Token) (ts u : List Token) (c : Start) → start_of t.kind ≡ c → head (t ∷ ts) ≡ head u → on_head by.Nothing start_of (head u) ≡ c
+  same_start t ts u c s h = ap (λ (o : Option TokenKind). on_head by.Nothing start_of o) (sym h) ∙ s
+
+  next_refused : (c : Start) (t : Token) (ts : List Token) (r : Refusal) → start_of t.kind ≡ c → Fits c t.kind → stmt_at (suc n) (t ∷ ts) ≡ Err r → Refused (Can Statement) FailsNext n (t ∷ ts) r
+  next_refused by.Block t ts r s k = by_mark mark.BraceOpen t ts r k (λ s e. production_refused mark.BraceOpen BraceEnd block_of block_production n s brace_end_refused ts r e)
+  next_refused by.Empty t ts r s k = by_mark mark.Semicolon t ts r k (λ s e. production_refused mark.Semicolon Nothing empty_of empty_production n s (nothing_refused n) ts r e)
+  next_refused by.Declare t ts r s k = λ e.
+      made_refused DeclareStmt Statement declare_of [] FailsNext n (t ∷ ts) r (declare_stmt_refused n) (made_err declare_of (DeclareStmt.read n (t ∷ ts)) r (sym (declare_starts n (t ∷ ts) s) ∙ e)) (λ a p i. declare_makes a p i)
+      (λ m u d le h w. made_fails declare_of (DeclareStmt.read m u) (stmt_at (suc m) u) d (declare_starts m u (same_start t ts u by.Declare s h)) w)
+  next_refused by.Simple t ts r s k = λ e.
+      made_refused SimpleStmt Statement simple_of [] FailsNext n (t ∷ ts) r (simple_stmt_refused n) (made_err simple_of (SimpleStmt.read n (t ∷ ts)) r (sym (simple_stmt_starts n (t ∷ ts) s) ∙ e)) (λ a p i. simple_stmt_makes a p i)
+      (λ m u d le h w. made_fails simple_of (SimpleStmt.read m u) (stmt_at (suc m) u) d (simple_stmt_starts m u (same_start t ts u by.Simple s h)) w)
+  next_refused (by.If f) t ts r s k = by_mark (if_mark f) t ts r k (λ s e. production_refused (if_mark f) Conditional (if_of f) (if_production f) n s conditional_refused ts r e)
+  next_refused (by.While f) t ts r s k = by_mark (while_mark f) t ts r k (λ s e. production_refused (while_mark f) Looping (while_of f) (while_production f) n s looping_refused ts r e)
+  next_refused (by.Do f) t ts r s k = by_mark (do_mark f) t ts r k (λ s e. production_refused (do_mark f) Doing (do_of f) (do_production f) n s doing_refused ts r e)
+  next_refused (by.For f) t ts r s k = by_mark (for_mark f) t ts r k (λ s e. production_refused (for_mark f) ForLoop (for_of f) (for_production f) n s for_loop_refused ts r e)
+  next_refused (by.Foreach f) t ts r s k = by_mark (foreach_mark f) t ts r k (λ s e. production_refused (foreach_mark f) Spreading (foreach_of f) (foreach_production f) n s spreading_refused ts r e)
+  next_refused by.ForeachActive t ts r s k = by_mark mark.ForeachActive t ts r k (λ s e. production_refused mark.ForeachActive Activity active_of active_production n s activity_refused ts r e)
+  next_refused by.Unmasked t ts r s k = by_mark mark.Unmasked t ts r k (λ s e. production_refused mark.Unmasked Block unmasked_of unmasked_production n s block_refused ts r e)
+  next_refused (by.Jump j) t ts r s k = by_mark (jump_mark j) t ts r k (λ s e. production_refused (jump_mark j) (One mark.Semicolon) (jump_of j) (jump_production j) n s (one_refused mark.Semicolon n) ts r e)
+  next_refused by.Return t ts r s k = by_mark mark.Return t ts r k (λ s e. production_refused mark.Return Returning return_of return_production n s (returning_refused n) ts r e)
+  next_refused by.Print t ts r s k = by_mark mark.Print t ts r k (λ s e. production_refused mark.Print Printing print_of print_production n s (printing_refused n) ts r e)
+  next_refused by.Assert t ts r s k = by_mark mark.Assert t ts r k (λ s e. production_refused mark.Assert Tested assert_of assert_production n s (tested_refused n) ts r e)
+  next_refused by.Nothing t ts r s k = λ e. next_off (t ∷ ts) r (ap is_start s) e
 
 -- What a refusal of a statement means.
 pub stmt_refused : (n : ℕ) → IsRefused Statement n
-stmt_refused zero ts r e = limit_refused ts (on_head false begins_stmt (head ts)) refl r e
-stmt_refused (suc n) [] r e = raise n (Can Statement) (FailsForm Statement) [] r (next_off n [] r refl e)
-stmt_refused (suc n) (t ∷ ts) r e = raise n (Can Statement) (FailsForm Statement) (t ∷ ts) r (next_refused n (stmt_start_of t.kind) t ts r refl e)
-
-pub several_refused : (n : ℕ) → IsRefused Several n
-several_refused n = until_refused Statement mark.BraceClose n stmt_stands.first (λ x a b e h. tt) stmt_complete (stmt_sound n) (stmt_refused n)
+stmt_refused zero ts r e = limit_refused begins_stmt Statement stmt_limits ts r e
+stmt_refused (suc n) [] r e = raise n (Can Statement) (FailsForm Statement) [] r (next_off n (stmt_refused n) [] r refl e)
+stmt_refused (suc n) (t ∷ ts) r e = raise n (Can Statement) (FailsForm Statement) (t ∷ ts) r (next_refused n (stmt_refused n) (start_of t.kind) t ts r refl (start_fits t.kind) e)

@@ -12,7 +12,8 @@ use Rattle.isp_lex.specs.declared.token.Token.{Token}
 use Rattle.isp_lex.specs.declared.token.TokenKind.{TokenKind}
 use Rattle.isp_lex.specs.declared.token.TokenKind.TheVariants as kind
 use Rattle.isp_syntax.specs.Grammar.{IsProgram}
-use Rattle.isp_syntax.specs.Tree.{Function, functions_of, depth_of_functions}
+use Rattle.isp_syntax.specs.Depth.{depth_of_functions}
+use Rattle.isp_syntax.specs.Tree.{Function, functions_of}
 use Rattle.isp_syntax.specs.declared.tree.Tree.{Tree}
 
 -- how deep a tree may be
@@ -39,6 +40,7 @@ place end (t ∷ ts) = t.span
 abbrev pub rule_of : TokenKind → Rule
 rule_of (kind.Word n) = Unexpected
 rule_of (kind.Number v) = Unexpected
+rule_of (kind.Text t) = Unexpected
 rule_of (kind.Mark m) = Unexpected
 rule_of kind.LeftOut = LeftOut
 

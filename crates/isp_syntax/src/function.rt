@@ -1,17 +1,56 @@
 //! Functions.
-ghost use Rattle.std.specs.Prelude.{◌≡◌, ◌≤◌, ◌<◌, ◌+◌, IfOk, length};
-ghost use Rattle.isp_syntax.specs.Tree.{stmts_of, function_of};
-ghost use Rattle.isp_syntax.specs.Reading.{Gives, optional, stands, mark_at, list_at, param_at, params_at, header_at, body_at, function_at};
+ghost use Rattle.std.specs.Prelude.{◌≡◌, ◌≤◌, ◌<◌, ◌+◌, IfOk, length, map, Ok};
+ghost use Rattle.isp_syntax.specs.Tree.{type_of, param_of, function_of};
+ghost use Rattle.isp_syntax.specs.Reading.{Gives, optional, mark_at, list_at};
+ghost use Rattle.isp_syntax.specs.ReadingChoices.{signs_at};
+ghost use Rattle.isp_syntax.specs.ReadingPrograms.{linkage_of, linkage_at, linkages_at, param_at, only_void, params_at, signature_at, function_at};
 
-use crate::reading::{mark, refuse, starts_with, tail, word};
-use crate::stmt::stmts;
-use crate::stop::{Stop, Why};
-use crate::tree::{Function, Param, Stmt, Word};
+use crate::reading::{mark, starts_with, tail, word};
+use crate::stmt::block;
+use crate::stop::Stop;
+use crate::tree::{Function, Linkage, Param, TypeWords, Word};
+use crate::types::{first_span, type_words};
 use isp_base::Span;
-use isp_lex::{Mark, Token};
+use isp_lex::{Mark, Token, TokenKind};
 use std::alloc::Global;
 
-/// `[]`, where it stands.
+fn linkage_of(kind: &TokenKind) -> Option<Linkage>
+    ensures { result ≡ linkage_of kind.now }
+{
+    match kind {
+        TokenKind::Mark(Mark::Export) => Some(Linkage::Export),
+        TokenKind::Mark(Mark::Static) => Some(Linkage::Static),
+        TokenKind::Mark(Mark::Inline) => Some(Linkage::Inline),
+        _ => None,
+    }
+}
+
+fn linkage_at(tokens: &[Token]) -> Option<Linkage>
+    ensures { result ≡ linkage_at tokens.now }
+{
+    match tokens {
+        [] => None,
+        [first, ..] => linkage_of(&first.kind),
+    }
+}
+
+/// The words before a function's type.
+fn linkages(alloc: Global, tokens: &[Token]) -> Result<(Vec<Linkage>, &[Token]), Stop>
+    ensures value { Gives (λ r. (r.0.items, r.1.now)) result (linkages_at tokens.now) }
+    ensures rest { IfOk result (λ r. length r.1.now ≤ length tokens.now) }
+{
+    let mut all = Vec::new(alloc);
+    let mut rest = tokens;
+    'each: loop {
+        let Some(linkage) = linkage_at(rest) else {
+            return Ok((all, rest));
+        };
+        all.push(linkage)?;
+        rest = tail(rest);
+    }
+}
+
+/// `[]`, where it ends.
 #[tactic(auto, unfolding(crate::specs::Reading::optional))]
 fn array_sign(tokens: &[Token]) -> Result<(Option<Span>, &[Token]), Stop>
     ensures value { Gives (λ r. (r.0, r.1.now)) result (optional Mark.BracketOpen (mark_at Mark.BracketClose) tokens.now) }
@@ -24,28 +63,40 @@ fn array_sign(tokens: &[Token]) -> Result<(Option<Span>, &[Token]), Stop>
     Ok((Some(close), rest))
 }
 
-#[tactic(auto, unfolding(crate::specs::Reading::param_at))]
-fn param(tokens: &[Token]) -> Result<(Param, &[Token]), Stop>
-    ensures value { Gives (λ r. (r.0, r.1.now)) result (param_at tokens.now) }
+/// One parameter.
+#[tactic(auto, unfolding(crate::specs::ReadingPrograms::param_at))]
+fn param(alloc: Global, tokens: &[Token]) -> Result<(Param, &[Token]), Stop>
+    ensures value { Gives (λ r. (param_of r.0, r.1.now)) result (param_at tokens.now) }
     ensures rest { IfOk result (λ r. length r.1.now < length tokens.now) }
 {
-    let (_uniform, rest) = mark(Mark::Uniform, tokens)?;
-    let (_int, rest) = mark(Mark::Int, rest)?;
+    let (ty, rest) = type_words(alloc, tokens)?;
     let (word, rest) = word(rest)?;
     let (sign, rest) = array_sign(rest)?;
-    let is_array = sign.is_some();
-    Ok((Param { word, is_array }, rest))
+    let (is_array, end) = match sign {
+        None => (false, word.span),
+        Some(close) => (true, close),
+    };
+    let span = ty.span.to(end);
+    Ok((
+        Param {
+            ty,
+            word,
+            is_array,
+            span,
+        },
+        rest,
+    ))
 }
 
 /// One parameter or more, with commas.
 fn param_list(alloc: Global, tokens: &[Token]) -> Result<(Vec<Param>, &[Token]), Stop>
-    ensures value { Gives (λ r. (r.0.items, r.1.now)) result (list_at param_at (length tokens.now + 1) tokens.now) }
+    ensures value { Gives (λ r. (map param_of r.0.items, r.1.now)) result (list_at param_at (length tokens.now + 1) tokens.now) }
     ensures rest { IfOk result (λ r. length r.1.now ≤ length tokens.now) }
 {
     let mut all = Vec::new(alloc);
     let mut rest = tokens;
     'each: loop {
-        let (next, after) = param(rest)?;
+        let (next, after) = param(alloc, rest)?;
         all.push(next)?;
         if !starts_with(Mark::Comma, after) {
             return Ok((all, after));
@@ -54,63 +105,63 @@ fn param_list(alloc: Global, tokens: &[Token]) -> Result<(Vec<Param>, &[Token]),
     }
 }
 
-#[tactic(auto, unfolding(crate::specs::Reading::params_at, crate::specs::Reading::listed_at))]
+/// Whether `void` stands here, and a closing bracket behind it.
+fn only_void(tokens: &[Token]) -> bool
+    ensures { result ≡ only_void tokens.now }
+{
+    match tokens {
+        [] => false,
+        [first, rest @ ..] => first.kind.is(Mark::Void) && starts_with(Mark::ParenClose, rest),
+    }
+}
+
+/// The parameters before a closing bracket: `void` alone is none.
+#[tactic(auto, unfolding(crate::specs::ReadingPrograms::params_at, crate::specs::Reading::listed_at))]
 fn params(alloc: Global, tokens: &[Token]) -> Result<(Vec<Param>, &[Token]), Stop>
-    ensures value { Gives (λ r. (r.0.items, r.1.now)) result (params_at tokens.now) }
+    ensures value { Gives (λ r. (map param_of r.0.items, r.1.now)) result (params_at tokens.now) }
     ensures rest { IfOk result (λ r. length r.1.now ≤ length tokens.now) }
 {
+    if only_void(tokens) {
+        return Ok((Vec::new(alloc), tail(tokens)));
+    }
     if starts_with(Mark::ParenClose, tokens) {
         return Ok((Vec::new(alloc), tokens));
     }
     param_list(alloc, tokens)
 }
 
-/// Where a function starts, its name and its parameters.
-type Header = (Span, (Word, Vec<Param>));
+/// A function up to its body: its words, its type, its name and its parameters.
+type Signature = (Vec<Linkage>, (TypeWords, (Word, Vec<Param>)));
 
-#[tactic(auto, unfolding(crate::specs::Reading::header_at))]
-fn header(alloc: Global, tokens: &[Token]) -> Result<(Header, &[Token]), Stop>
-    ensures value { Gives (λ r. ((r.0.0, (r.0.1.0, r.0.1.1.items)), r.1.now)) result (header_at tokens.now) }
+#[tactic(auto, unfolding(crate::specs::ReadingPrograms::signature_at))]
+fn signature(alloc: Global, tokens: &[Token]) -> Result<(Signature, &[Token]), Stop>
+    ensures value { Gives (λ r. ((r.0.0.items, (type_of r.0.1.0, (r.0.1.1.0, map param_of r.0.1.1.1.items))), r.1.now)) result (signature_at tokens.now) }
     ensures rest { IfOk result (λ r. length r.1.now < length tokens.now) }
 {
-    let (start, rest) = mark(Mark::Export, tokens)?;
-    let (_void, rest) = mark(Mark::Void, rest)?;
+    let (linkages, rest) = linkages(alloc, tokens)?;
+    let (ty, rest) = type_words(alloc, rest)?;
     let (word, rest) = word(rest)?;
     let (_open, rest) = mark(Mark::ParenOpen, rest)?;
     let (params, rest) = params(alloc, rest)?;
     let (_close, rest) = mark(Mark::ParenClose, rest)?;
-    Ok(((start, (word, params)), rest))
+    Ok(((linkages, (ty, (word, params))), rest))
 }
 
-/// A body in braces: its statements, none deeper than `inner`, and where it ends.
-#[tactic(auto, unfolding(crate::specs::Reading::body_at))]
-fn body(
-    alloc: Global,
-    inner: usize,
-    tokens: &[Token],
-) -> Result<((Vec<Stmt>, Span), &[Token]), Stop>
-    requires { inner ≤ 128 }
-    ensures value { Gives (λ r. ((stmts_of r.0.0.items, r.0.1), r.1.now)) result (body_at inner tokens.now) }
+/// A function with a body no deeper than `left`.
+#[tactic(auto, unfolding(crate::specs::ReadingPrograms::function_at))]
+pub fn function(alloc: Global, left: usize, tokens: &[Token]) -> Result<(Function, &[Token]), Stop>
+    requires { left ≤ 128 }
+    ensures value { Gives (λ r. (function_of r.0, r.1.now)) result (function_at left tokens.now) }
     ensures rest { IfOk result (λ r. length r.1.now < length tokens.now) }
 {
-    let (_open, rest) = mark(Mark::BraceOpen, tokens)?;
-    let (all, rest) = stmts(alloc, inner, rest)?;
-    let (end, rest) = mark(Mark::BraceClose, rest)?;
-    Ok(((all, end), rest))
-}
-
-/// A function with statements no deeper than `inner`.
-#[tactic(auto, unfolding(crate::specs::Reading::function_at))]
-pub fn function(alloc: Global, inner: usize, tokens: &[Token]) -> Result<(Function, &[Token]), Stop>
-    requires { inner ≤ 128 }
-    ensures value { Gives (λ r. (function_of r.0, r.1.now)) result (function_at inner tokens.now) }
-    ensures rest { IfOk result (λ r. length r.1.now < length tokens.now) }
-{
-    let ((start, (word, params)), rest) = header(alloc, tokens)?;
-    let ((body, end), rest) = body(alloc, inner, rest)?;
-    let span = start.to(end);
+    let start = first_span(tokens);
+    let ((linkages, (ty, (word, params))), rest) = signature(alloc, tokens)?;
+    let (body, rest) = block(alloc, left, rest)?;
+    let span = start.to(body.span());
     Ok((
         Function {
+            linkages,
+            result: ty,
             word,
             params,
             body,

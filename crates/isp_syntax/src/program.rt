@@ -1,13 +1,15 @@
 //! From tokens to the tree.
 ghost use Rattle.std.specs.Prelude.{◌≡◌, ◌≤◌, ◌-◌, IfOk, IfErr, List, length, drop};
-ghost use Rattle.isp_syntax.specs.Tree.{depth_of_functions, functions_of};
+ghost use Rattle.isp_syntax.specs.Depth.{depth_of_functions};
+ghost use Rattle.isp_syntax.specs.Tree.{functions_of};
 ghost use Rattle.isp_syntax.specs.Tree.{Function as FunctionTree};
+ghost use Rattle.isp_lex.specs.declared.token.Token.{Token};
 ghost use Rattle.isp_syntax.specs.Grammar.{IsProgram};
 ghost use Rattle.isp_syntax.specs.Promise.{limit, rule_of, GivesTree, Refuses};
-ghost use Rattle.isp_syntax.specs.Reading.{Gives, program_at, fault_of};
+ghost use Rattle.isp_syntax.specs.Reading.{Gives, fault_of};
+ghost use Rattle.isp_syntax.specs.ReadingPrograms.{program_at};
 
 use crate::function::function;
-use crate::reading::refuse;
 use crate::stop::{Refusal, Stop, Why};
 use crate::tree::{Function, Tree};
 use isp_base::Span;
@@ -18,16 +20,17 @@ use std::alloc::Global;
 /// node of an expression.
 pub const DEPTH_LIMIT: usize = 128;
 
-#[tactic(auto, unfolding(crate::specs::Reading::program_at))]
+/// The functions up to the end of the text.
 fn program(alloc: Global, tokens: &[Token]) -> Result<Vec<Function>, Stop>
-    ensures { Gives (λ fs. functions_of fs.items) result (program_at 127 tokens.now) }
+    ensures { Gives (λ fs. functions_of fs.items) result (program_at limit tokens.now) }
 {
-    let (only, rest) = function(alloc, DEPTH_LIMIT - 1, tokens)?;
-    if !rest.is_empty() {
-        return Err(refuse(Why::Unexpected, rest));
-    }
     let mut all = Vec::new(alloc);
-    all.push(only)?;
+    let mut rest = tokens;
+    'each: while !rest.is_empty() {
+        let (next, after) = function(alloc, DEPTH_LIMIT, rest)?;
+        all.push(next)?;
+        rest = after;
+    }
     Ok(all)
 }
 
@@ -83,4 +86,10 @@ pub fn parse(alloc: Global, tokens: &Tokens) -> Result<Tree, SourceFault>
         Err(Stop::Memory) => Err(SourceFault::Memory),
         Err(Stop::Refused(refusal)) => Err(SourceFault::Refused(fault_at(tokens, refusal))),
     }
+}
+
+/// No tokens have two trees.
+pub fn one_tree()
+    ensures { (ts : List Token) (fs gs : List FunctionTree) → IsProgram ts fs → IsProgram ts gs → fs ≡ gs }
+{
 }

@@ -1,136 +1,39 @@
 //! Statements.
-ghost use Rattle.std.specs.Prelude.{◌≡◌, ◌≤◌, ◌<◌, IfOk, length, ◌∷◌, false};
-ghost use Rattle.isp_syntax.specs.Grammar.{loosest};
-ghost use Rattle.isp_syntax.specs.Tree.{expr_of, stmt_of, stmts_of};
-ghost use Rattle.isp_syntax.specs.Reading.{Gives, head, on_head, is_word, begins_stmt, stmt_start_of, expr_at, target_at, value_at, item_at, stmt_from, stmt_at, stmts_at};
+ghost use Rattle.std.specs.Prelude.{◌≡◌, ◌≤◌, ◌<◌, ◌∷◌, IfOk, length, option_map};
+ghost use Rattle.isp_syntax.specs.Tree.{stmt_of, stmts_of};
+ghost use Rattle.isp_syntax.specs.Reading.{Gives, optional};
+ghost use Rattle.isp_syntax.specs.ReadingChoices.{begins_with};
+ghost use Rattle.isp_syntax.specs.ReadingStarts.{start_of, begins_stmt};
+ghost use Rattle.isp_syntax.specs.ReadingStmts.{stmts_at, braces_at, block_at, if_at, while_at, do_at, for_at, foreach_at, active_at, unmasked_at, stmt_from, stmt_at};
 
-use crate::expr::{LOOSEST, binary, place};
-use crate::reading::{mark, refuse, starts_with, word};
+use crate::parts::{active_head, do_end, head, ranges_head, refuse_at_limit, test};
+use crate::reading::{mark, refuse, starts_with, tail};
+use crate::single::{assert_stmt, declare_stmt, jump_stmt, print_stmt, return_stmt, simple_stmt};
+use crate::start::{Start, stmt_start};
 use crate::stop::{Stop, Why};
-use crate::tree::{Expr, Stmt, Word};
-use isp_base::{Rate, Span};
-use isp_lex::{Mark, Token, TokenKind};
+use crate::tree::{Form, Stmt, Tiling};
+use isp_base::Span;
+use isp_lex::{Mark, Token};
 use std::alloc::Global;
 
-fn starts_with_word(tokens: &[Token]) -> bool
-    ensures { result ≡ on_head false is_word (head tokens.now) }
+/// Whether a statement begins here.
+fn begins_stmt(tokens: &[Token]) -> bool
+    ensures { result ≡ begins_with begins_stmt tokens.now }
 {
     match tokens {
         [] => false,
-        [first, ..] => matches!(first.kind, TokenKind::Word(_)),
+        [first, ..] => match stmt_start(&first.kind) {
+            Start::Nothing => false,
+            _ => true,
+        },
     }
-}
-
-fn begins_stmt(kind: &TokenKind) -> bool
-    ensures { result ≡ begins_stmt kind.now }
-{
-    matches!(
-        kind,
-        TokenKind::Word(_) | TokenKind::Mark(Mark::Int | Mark::Uniform)
-    )
-}
-
-/// What is assigned to, no deeper than `left`.
-fn target(alloc: Global, left: usize, tokens: &[Token]) -> Result<(Expr, &[Token]), Stop>
-    requires { left ≤ 128 }
-    ensures value { Gives (λ r. (expr_of r.0, r.1.now)) result (target_at left tokens.now) }
-    ensures rest { IfOk result (λ r. length r.1.now < length tokens.now) }
-{
-    if !starts_with_word(tokens) {
-        return Err(refuse(Why::Unexpected, tokens));
-    }
-    if left == 0 {
-        return Err(refuse(Why::TooDeep, tokens));
-    }
-    let (place, _height, rest) = place(alloc, left - 1, tokens)?;
-    Ok((place, rest))
-}
-
-/// `=`, a value and a semicolon: the value, and where the semicolon stands.
-#[tactic(auto, unfolding(crate::specs::Reading::value_at))]
-fn value(alloc: Global, left: usize, tokens: &[Token]) -> Result<((Expr, Span), &[Token]), Stop>
-    requires { left ≤ 128 }
-    ensures value { Gives (λ r. ((expr_of r.0.0, r.0.1), r.1.now)) result (value_at left tokens.now) }
-    ensures rest { IfOk result (λ r. length r.1.now < length tokens.now) }
-{
-    let (_sign, rest) = mark(Mark::Assign, tokens)?;
-    let (value, _height, rest) = binary(alloc, LOOSEST, left, rest)?;
-    let (end, rest) = mark(Mark::Semicolon, rest)?;
-    Ok(((value, end), rest))
-}
-
-/// A new name and its value.
-#[tactic(auto, unfolding(crate::specs::Reading::item_at))]
-fn item(
-    alloc: Global,
-    left: usize,
-    tokens: &[Token],
-) -> Result<(Word, (Expr, Span), &[Token]), Stop>
-    requires { left ≤ 128 }
-    ensures value { Gives (λ r. ((r.0, (expr_of r.1.0, r.1.1)), r.2.now)) result (item_at left tokens.now) }
-    ensures rest { IfOk result (λ r. length r.2.now < length tokens.now) }
-{
-    let (word, rest) = word(tokens)?;
-    let (value, rest) = value(alloc, left, rest)?;
-    Ok((word, value, rest))
-}
-
-fn stmt_from<'a>(
-    alloc: Global,
-    inner: usize,
-    first: &Token,
-    tokens: &'a [Token],
-    rest: &'a [Token],
-) -> Result<(Stmt, &'a [Token]), Stop>
-    requires whole { tokens.now ≡ first.now ∷ rest.now }
-    requires room { inner < 128 }
-    ensures value { Gives (λ r. (stmt_of r.0, r.1.now)) result
-        (stmt_from inner (stmt_start_of first.now.kind) first.now rest.now) }
-    ensures rest { IfOk result (λ r. length r.1.now < length tokens.now) }
-{
-    match &first.kind {
-        TokenKind::Mark(Mark::Int) => {
-            let (word, (value, end), rest) = item(alloc, inner, rest)?;
-            let span = first.span.to(end);
-            Ok((Stmt::Declare(Rate::Varying, word, value, span), rest))
-        }
-        TokenKind::Mark(Mark::Uniform) => {
-            let (_int, rest) = mark(Mark::Int, rest)?;
-            let (word, (value, end), rest) = item(alloc, inner, rest)?;
-            let span = first.span.to(end);
-            Ok((Stmt::Declare(Rate::Uniform, word, value, span), rest))
-        }
-        TokenKind::Word(_) => {
-            let (place, rest) = target(alloc, inner, tokens)?;
-            let ((value, end), rest) = value(alloc, inner, rest)?;
-            let span = place.span().to(end);
-            Ok((Stmt::Assign(place, value, span), rest))
-        }
-        _ => Err(refuse(Why::Unexpected, tokens)),
-    }
-}
-
-fn stmt(alloc: Global, left: usize, tokens: &[Token]) -> Result<(Stmt, &[Token]), Stop>
-    requires { left ≤ 128 }
-    ensures value { Gives (λ r. (stmt_of r.0, r.1.now)) result (stmt_at left tokens.now) }
-    ensures rest { IfOk result (λ r. length r.1.now < length tokens.now) }
-{
-    let Some((first, rest)) = tokens.split_first() else {
-        return Err(refuse(Why::Unexpected, tokens));
-    };
-    if !begins_stmt(&first.kind) {
-        return Err(refuse(Why::Unexpected, tokens));
-    }
-    if left == 0 {
-        return Err(refuse(Why::TooDeep, tokens));
-    }
-    stmt_from(alloc, left - 1, first, tokens, rest)
 }
 
 /// The statements up to a closing brace, none deeper than `left`.
-pub fn stmts(alloc: Global, left: usize, tokens: &[Token]) -> Result<(Vec<Stmt>, &[Token]), Stop>
+#[cycle(stmt)]
+fn stmts(alloc: Global, left: usize, tokens: &[Token]) -> Result<(Vec<Stmt>, &[Token]), Stop>
     requires { left ≤ 128 }
-    ensures value { Gives (λ r. (stmts_of r.0.items, r.1.now)) result (stmts_at left tokens.now) }
+    ensures value { Gives (λ r. (stmts_of r.0.items, r.1.now)) result (stmts_at (stmt_at left) tokens.now) }
     ensures rest { IfOk result (λ r. length r.1.now ≤ length tokens.now) }
 {
     let mut all = Vec::new(alloc);
@@ -141,4 +44,258 @@ pub fn stmts(alloc: Global, left: usize, tokens: &[Token]) -> Result<(Vec<Stmt>,
         rest = after;
     }
     Ok((all, rest))
+}
+
+/// A block behind its brace.
+#[cycle(stmt)]
+#[tactic(auto, unfolding(crate::specs::ReadingStmts::braces_at))]
+fn braces(
+    alloc: Global,
+    inner: usize,
+    brace: Span,
+    tokens: &[Token],
+) -> Result<(Stmt, &[Token]), Stop>
+    requires { inner ≤ 128 }
+    ensures value { Gives (λ r. (stmt_of r.0, r.1.now)) result (braces_at (stmt_at inner) brace tokens.now) }
+    ensures rest { IfOk result (λ r. length r.1.now < length tokens.now) }
+{
+    let (all, rest) = stmts(alloc, inner, tokens)?;
+    let (end, rest) = mark(Mark::BraceClose, rest)?;
+    Ok((Stmt::Block(all, brace.to(end)), rest))
+}
+
+/// A block with its brace, no deeper than `left`.
+#[cycle(stmt)]
+#[tactic(auto, unfolding(crate::specs::ReadingStmts::block_at))]
+pub fn block(alloc: Global, left: usize, tokens: &[Token]) -> Result<(Stmt, &[Token]), Stop>
+    requires { left ≤ 128 }
+    ensures value { Gives (λ r. (stmt_of r.0, r.1.now)) result (block_at (stmt_at left) tokens.now) }
+    ensures rest { IfOk result (λ r. length r.1.now < length tokens.now) }
+{
+    if !starts_with(Mark::BraceOpen, tokens) {
+        return Err(refuse(Why::Unexpected, tokens));
+    }
+    stmt(alloc, left, tokens)
+}
+
+/// `else` and its statement, where `else` stands: it belongs to the nearest `if`.
+#[cycle(stmt)]
+#[tactic(auto, unfolding(crate::specs::Reading::optional))]
+fn else_branch(
+    alloc: Global,
+    inner: usize,
+    tokens: &[Token],
+) -> Result<(Option<Stmt>, &[Token]), Stop>
+    requires { inner ≤ 128 }
+    ensures value { Gives (λ r. (option_map stmt_of r.0, r.1.now)) result (optional Mark.Else (stmt_at inner) tokens.now) }
+    ensures rest { IfOk result (λ r. length r.1.now ≤ length tokens.now) }
+{
+    if !starts_with(Mark::Else, tokens) {
+        return Ok((None, tokens));
+    }
+    let (other, rest) = stmt(alloc, inner, tail(tokens))?;
+    Ok((Some(other), rest))
+}
+
+/// What stands behind `if` at this place.
+#[cycle(stmt)]
+#[tactic(auto, unfolding(crate::specs::ReadingStmts::if_at))]
+fn conditional(
+    alloc: Global,
+    inner: usize,
+    form: Form,
+    word: Span,
+    tokens: &[Token],
+) -> Result<(Stmt, &[Token]), Stop>
+    requires { inner ≤ 128 }
+    ensures value { Gives (λ r. (stmt_of r.0, r.1.now)) result (if_at (stmt_at inner) inner form word tokens.now) }
+    ensures rest { IfOk result (λ r. length r.1.now < length tokens.now) }
+{
+    let (test, rest) = test(alloc, inner, tokens)?;
+    let (then, rest) = stmt(alloc, inner, rest)?;
+    let (other, rest) = else_branch(alloc, inner, rest)?;
+    match other {
+        None => {
+            let span = word.to(then.span());
+            Ok((Stmt::If(form, test, Box::new(alloc, then)?, span), rest))
+        }
+        Some(other) => {
+            let span = word.to(other.span());
+            let then = Box::new(alloc, then)?;
+            let other = Box::new(alloc, other)?;
+            Ok((Stmt::IfElse(form, test, then, other, span), rest))
+        }
+    }
+}
+
+/// What stands behind `while` at this place.
+#[cycle(stmt)]
+#[tactic(auto, unfolding(crate::specs::ReadingStmts::while_at))]
+fn while_loop(
+    alloc: Global,
+    inner: usize,
+    form: Form,
+    word: Span,
+    tokens: &[Token],
+) -> Result<(Stmt, &[Token]), Stop>
+    requires { inner ≤ 128 }
+    ensures value { Gives (λ r. (stmt_of r.0, r.1.now)) result (while_at (stmt_at inner) inner form word tokens.now) }
+    ensures rest { IfOk result (λ r. length r.1.now < length tokens.now) }
+{
+    let (test, rest) = test(alloc, inner, tokens)?;
+    let (body, rest) = stmt(alloc, inner, rest)?;
+    let span = word.to(body.span());
+    Ok((Stmt::While(form, test, Box::new(alloc, body)?, span), rest))
+}
+
+/// What stands behind `do` at this place.
+#[cycle(stmt)]
+#[tactic(auto, unfolding(crate::specs::ReadingStmts::do_at))]
+fn do_loop(
+    alloc: Global,
+    inner: usize,
+    form: Form,
+    word: Span,
+    tokens: &[Token],
+) -> Result<(Stmt, &[Token]), Stop>
+    requires { inner ≤ 128 }
+    ensures value { Gives (λ r. (stmt_of r.0, r.1.now)) result (do_at (stmt_at inner) inner form word tokens.now) }
+    ensures rest { IfOk result (λ r. length r.1.now < length tokens.now) }
+{
+    let (body, rest) = stmt(alloc, inner, tokens)?;
+    let ((test, end), rest) = do_end(alloc, inner, rest)?;
+    let span = word.to(end);
+    Ok((Stmt::Do(form, Box::new(alloc, body)?, test, span), rest))
+}
+
+/// What stands behind `for` at this place.
+#[cycle(stmt)]
+#[tactic(auto, unfolding(crate::specs::ReadingStmts::for_at))]
+fn for_loop(
+    alloc: Global,
+    inner: usize,
+    form: Form,
+    word: Span,
+    tokens: &[Token],
+) -> Result<(Stmt, &[Token]), Stop>
+    requires { inner ≤ 128 }
+    ensures value { Gives (λ r. (stmt_of r.0, r.1.now)) result (for_at (stmt_at inner) inner form word tokens.now) }
+    ensures rest { IfOk result (λ r. length r.1.now < length tokens.now) }
+{
+    let ((first, (test, step)), rest) = head(alloc, inner, tokens)?;
+    let (body, rest) = stmt(alloc, inner, rest)?;
+    let span = word.to(body.span());
+    let body = Box::new(alloc, body)?;
+    Ok((Stmt::For(form, first, test, step, body, span), rest))
+}
+
+/// What stands behind `foreach` at this place.
+#[cycle(stmt)]
+#[tactic(auto, unfolding(crate::specs::ReadingStmts::foreach_at))]
+fn foreach(
+    alloc: Global,
+    inner: usize,
+    tiling: Tiling,
+    word: Span,
+    tokens: &[Token],
+) -> Result<(Stmt, &[Token]), Stop>
+    requires { inner ≤ 128 }
+    ensures value { Gives (λ r. (stmt_of r.0, r.1.now)) result (foreach_at (stmt_at inner) inner tiling word tokens.now) }
+    ensures rest { IfOk result (λ r. length r.1.now < length tokens.now) }
+{
+    let (ranges, rest) = ranges_head(alloc, inner, tokens)?;
+    let (body, rest) = stmt(alloc, inner, rest)?;
+    let span = word.to(body.span());
+    let body = Box::new(alloc, body)?;
+    Ok((Stmt::Foreach(tiling, word, ranges, body, span), rest))
+}
+
+/// What stands behind `foreach_active` at this place.
+#[cycle(stmt)]
+#[tactic(auto, unfolding(crate::specs::ReadingStmts::active_at))]
+fn foreach_active(
+    alloc: Global,
+    inner: usize,
+    word: Span,
+    tokens: &[Token],
+) -> Result<(Stmt, &[Token]), Stop>
+    requires { inner ≤ 128 }
+    ensures value { Gives (λ r. (stmt_of r.0, r.1.now)) result (active_at (stmt_at inner) word tokens.now) }
+    ensures rest { IfOk result (λ r. length r.1.now < length tokens.now) }
+{
+    let (index, rest) = active_head(tokens)?;
+    let (body, rest) = stmt(alloc, inner, rest)?;
+    let span = word.to(body.span());
+    let body = Box::new(alloc, body)?;
+    Ok((Stmt::ForeachActive(word, index, body, span), rest))
+}
+
+/// What stands behind `unmasked` at this place.
+#[cycle(stmt)]
+#[tactic(auto, unfolding(crate::specs::ReadingStmts::unmasked_at))]
+fn unmasked(
+    alloc: Global,
+    inner: usize,
+    word: Span,
+    tokens: &[Token],
+) -> Result<(Stmt, &[Token]), Stop>
+    requires { inner ≤ 128 }
+    ensures value { Gives (λ r. (stmt_of r.0, r.1.now)) result (unmasked_at (stmt_at inner) word tokens.now) }
+    ensures rest { IfOk result (λ r. length r.1.now < length tokens.now) }
+{
+    let (body, rest) = block(alloc, inner, tokens)?;
+    let span = word.to(body.span());
+    Ok((Stmt::Unmasked(word, Box::new(alloc, body)?, span), rest))
+}
+
+/// A statement by its first token, its parts no deeper than `inner`.
+#[cycle(stmt)]
+fn stmt_from<'a>(
+    alloc: Global,
+    inner: usize,
+    first: &Token,
+    tokens: &'a [Token],
+    rest: &'a [Token],
+) -> Result<(Stmt, &'a [Token]), Stop>
+    requires whole { tokens.now ≡ first.now ∷ rest.now }
+    requires room { inner < 128 }
+    ensures value { Gives (λ r. (stmt_of r.0, r.1.now)) result
+        (stmt_from (stmt_at inner) inner (start_of first.now.kind) first.now rest.now) }
+    ensures rest { IfOk result (λ r. length r.1.now < length tokens.now) }
+{
+    let word = first.span;
+    match stmt_start(&first.kind) {
+        Start::Block => braces(alloc, inner, word, rest),
+        Start::Empty => Ok((Stmt::Empty(word), rest)),
+        Start::Declare => declare_stmt(alloc, inner, tokens),
+        Start::Simple => simple_stmt(alloc, inner, tokens),
+        Start::If(form) => conditional(alloc, inner, form, word, rest),
+        Start::While(form) => while_loop(alloc, inner, form, word, rest),
+        Start::Do(form) => do_loop(alloc, inner, form, word, rest),
+        Start::For(form) => for_loop(alloc, inner, form, word, rest),
+        Start::Foreach(tiling) => foreach(alloc, inner, tiling, word, rest),
+        Start::ForeachActive => foreach_active(alloc, inner, word, rest),
+        Start::Unmasked => unmasked(alloc, inner, word, rest),
+        Start::Jump(jump) => jump_stmt(jump, word, rest),
+        Start::Return => return_stmt(alloc, inner, word, rest),
+        Start::Print => print_stmt(alloc, inner, word, rest),
+        Start::Assert => assert_stmt(alloc, inner, word, rest),
+        Start::Nothing => Err(refuse(Why::Unexpected, tokens)),
+    }
+}
+
+/// A statement no deeper than `left`.
+#[cycle(stmt)]
+fn stmt(alloc: Global, left: usize, tokens: &[Token]) -> Result<(Stmt, &[Token]), Stop>
+    requires { left ≤ 128 }
+    ensures value { Gives (λ r. (stmt_of r.0, r.1.now)) result (stmt_at left tokens.now) }
+    ensures rest { IfOk result (λ r. length r.1.now < length tokens.now) }
+{
+    if left == 0 {
+        return Err(refuse_at_limit(begins_stmt(tokens), tokens));
+    }
+    let Some((first, rest)) = tokens.split_first() else {
+        return Err(refuse(Why::Unexpected, tokens));
+    };
+    stmt_from(alloc, left - 1, first, tokens, rest)
 }

@@ -1,24 +1,70 @@
 use Rattle.std.proofs.Common.{◌≡◌, ◌+◌, ◌-◌, List, ◌∷◌, true, false, length, sym, ap, subst, ◌∙◌, arith, rules, length-drop}
 use Rattle.std.specs.Prelude.{Ok}
 use Rattle.isp_lex.specs.declared.token.Token.{Token}
-use Rattle.isp_syntax.specs.Tree.{expr_of, depth}
-use Rattle.isp_syntax.specs.Reading.{joined, Fails, begins_expr, start_of, operand_from, expr_at}
+use Rattle.isp_lex.specs.declared.token.Mark.TheVariants as mark
+use Rattle.isp_syntax.specs.Depth.{depth}
+use Rattle.isp_syntax.specs.Signs.{loosest}
+use Rattle.isp_syntax.specs.Tree.{expr_of, exprs_of}
+use Rattle.isp_syntax.specs.Reading.{Fails, list_at}
+use Rattle.isp_syntax.specs.ReadingExprs.{argument_at, joined, begins_expr, start_of, operand_from, parts_at, choice_of, expr_at, target_at}
 use Rattle.std.proofs.lemmas.Result.{err_from_is_err_and}
 use Rattle.isp_syntax.proofs.Basics.{head_none, head_some}
-use Rattle.isp_syntax.proofs.Steps.{depth_pos, first_fails, loop_begins, loop_ends, loop_deep, loop_fails, loop_step, operand_step, expr_off, expr_deep}
+use Rattle.isp_syntax.proofs.Loops.{list_fails, list_last, list_step, listed_none, listed_some}
+use Rattle.isp_syntax.proofs.ExprSteps.{depth_pos, exprs_past, depth_past, first_fails, loop_begins, loop_ends, loop_deep, loop_fails, loop_step, test_fails, test_alone, test_deep, parts_fail, parts_made, operand_step, target_step, target_none, target_deep, expr_off, expr_deep}
 use Rattle.isp_syntax.proofs.expr.+expr.Goals as goal
+
+-- ---- arguments
+
+pub arguments-returns-then-starts_with-clause-value : goal.arguments-returns-then-starts_with-clause-value
+arguments-returns-then-starts_with-clause-value t c =
+    let one = argument_at (expr_at c.args.left loosest) (target_at c.args.left) in
+    rw c.new-all.ensures.items (listed_none mark.ParenClose one c.args.tokens.now (sym c.starts_with.ensures ∙ c.if-starts_with.true))
+
+pub arguments-returns-in_err-next-clause-value : goal.arguments-returns-in_err-next-clause-value
+arguments-returns-in_err-next-clause-value t c =
+    let v = c.each.invariant.value in
+    let one = argument_at (expr_at c.args.left loosest) (target_at c.args.left) in
+    let p = err_from_is_err_and c.from_residual.result c.from_residual.ensures.1 in
+    let w = listed_some mark.ParenClose one c.args.tokens.now (sym c.starts_with.ensures ∙ c.if-starts_with.false) in
+    rw (p.1, p.2, w) (list_fails c.in_err-next.field-0.0 one v.0 (exprs_of c.each.all.items) c.each.rest.now (list_at one (length c.args.tokens.now + 1) c.args.tokens.now) v.1 c.in_err-next.ensures.value v.2)
+
+pub arguments-returns-then-not-starts_with-clause-value : goal.arguments-returns-then-not-starts_with-clause-value
+arguments-returns-then-not-starts_with-clause-value t c =
+    let v = c.each.invariant.value in
+    let one = argument_at (expr_at c.args.left loosest) (target_at c.args.left) in
+    let w = listed_some mark.ParenClose one c.args.tokens.now (sym c.starts_with.ensures ∙ c.if-starts_with.false) in
+    rw (w, c.in_ok-push.ensures.items, exprs_past c.each.all.items c.in_ok-next.next)
+    (list_last one v.0 (exprs_of c.each.all.items) c.each.rest.now (expr_of c.in_ok-next.next) c.in_ok-next.after.now (list_at one (length c.args.tokens.now + 1) c.args.tokens.now) v.1 c.in_ok-next.ensures.value (sym c.starts_with-in-each.ensures ∙ c.if-not-starts_with.true) v.2)
+
+pub arguments-returns-then-not-starts_with-clause-height : goal.arguments-returns-then-not-starts_with-clause-height
+arguments-returns-then-not-starts_with-clause-height t c =
+    rw (c.in_ok-push.ensures.items, depth_past c.each.all.items c.in_ok-next.next) (omega (arith, c.larger-height.ensures, c.each.invariant.height, c.in_ok-next.ensures.height))
+
+pub arguments-each-preserved : goal.arguments-each-preserved
+arguments-each-preserved t c =
+    let v = c.each.invariant.value in
+    let one = argument_at (expr_at c.args.left loosest) (target_at c.args.left) in
+    let s = list_step one v.0 (exprs_of c.each.all.items) c.each.rest.now (expr_of c.in_ok-next.next) c.in_ok-next.after.now (list_at one (length c.args.tokens.now + 1) c.args.tokens.now) v.1 (omega (arith, c.in_ok-next.ensures.rest)) c.in_ok-next.ensures.value (sym c.starts_with-in-each.ensures ∙ c.if-not-starts_with.false) v.2 in
+    record {
+      rest = omega (arith, c.each.invariant.rest, c.in_ok-next.ensures.rest, ap length c.tail-rest.ensures, length-drop 1 c.in_ok-next.after.now);
+      height = rw (c.in_ok-push.ensures.items, depth_past c.each.all.items c.in_ok-next.next) (omega (arith, c.larger-height.ensures, c.each.invariant.height, c.in_ok-next.ensures.height));
+      bounded = omega (arith, c.larger-height.ensures, c.each.invariant.bounded, c.in_ok-next.ensures.bounded);
+      value = rw (c.in_ok-push.ensures.items, exprs_past c.each.all.items c.in_ok-next.next, c.tail-rest.ensures) s;
+    }
+
+-- ---- operators
 
 pub binary-returns-in_err-found-clause-value : goal.binary-returns-in_err-found-clause-value
 binary-returns-in_err-found-clause-value t c =
     let p = err_from_is_err_and c.from_residual.result c.from_residual.ensures.1 in
-    rw (p.1, p.2) (first_fails c.in_err-found.field-0.0 c.args.left c.args.looseness c.args.tokens.now (omega arith) c.in_err-found.ensures.value)
+    rw (p.1, p.2) (first_fails c.in_err-found.field-0.0 c.args.left c.args.looseness c.args.tokens.now (omega arith) c.requires.level c.in_err-found.ensures.value)
 
 pub binary-loop-op-init : goal.binary-loop-op-init
 binary-loop-op-init t c = record {
   rest = c.in_ok-found.ensures.rest;
   height = c.in_ok-found.ensures.height;
   bounded = c.in_ok-found.ensures.bounded;
-  value = (c.args.left - 1, omega (arith, depth_pos (expr_of c.in_ok-found.found), c.in_ok-found.ensures.height), loop_begins c.args.left c.args.looseness c.args.tokens.now (expr_of c.in_ok-found.found) c.in_ok-found.rest.now (omega arith) c.in_ok-found.ensures.value);
+  value = (c.args.left - 1, omega (arith, depth_pos (expr_of c.in_ok-found.found), c.in_ok-found.ensures.height), loop_begins c.args.left c.args.looseness c.args.tokens.now (expr_of c.in_ok-found.found) c.in_ok-found.rest.now (omega arith) c.requires.level c.in_ok-found.ensures.value);
 }
 
 pub binary-returns-then-height-left-clause-value : goal.binary-returns-then-height-left-clause-value
@@ -51,22 +97,72 @@ binary-returns-clause-value t c =
     let v = c.loop-op.invariant.value in
     loop_ends c.args.left c.args.looseness v.0 (expr_of c.loop-op.found) c.loop-op.rest.now (expr_at c.args.left c.args.looseness c.args.tokens.now) (omega arith) (sym c.operator_at.ensures ∙ c.in_default.is) v.2
 
-pub operand-returns-in_default-clause-value : goal.operand-returns-in_default-clause-value
-operand-returns-in_default-clause-value t c =
+-- ---- a choice
+
+pub expr-returns-in_err-test-clause-value : goal.expr-returns-in_err-test-clause-value
+expr-returns-in_err-test-clause-value t c =
+    let p = err_from_is_err_and c.from_residual.result c.from_residual.ensures.1 in
+    rw (p.1, p.2) (test_fails c.in_err-test.field-0.0 c.args.left c.args.tokens.now c.in_err-test.ensures.value)
+
+pub expr-returns-then-not-starts_with-clause-value : goal.expr-returns-then-not-starts_with-clause-value
+expr-returns-then-not-starts_with-clause-value t c =
+    test_alone c.args.left c.args.tokens.now (expr_of c.in_ok-test.test) c.in_ok-test.rest.now c.in_ok-test.ensures.value (sym c.starts_with.ensures ∙ c.if-not-starts_with.true)
+
+pub expr-returns-then-height-left-clause-value : goal.expr-returns-then-height-left-clause-value
+expr-returns-then-height-left-clause-value t c =
+    rw c.refuse.ensures (test_deep c.args.left c.args.tokens.now (expr_of c.in_ok-test.test) c.in_ok-test.rest.now c.in_ok-test.ensures.value (sym c.starts_with.ensures ∙ c.if-not-starts_with.false) (omega (arith, c.in_ok-test.ensures.height)))
+
+pub expr-returns-in_err-parts-clause-value : goal.expr-returns-in_err-parts-clause-value
+expr-returns-in_err-parts-clause-value t c =
+    let p = err_from_is_err_and c.from_residual-in_err-parts.result c.from_residual-in_err-parts.ensures.1 in
+    rw (p.1, p.2) (parts_fail c.in_err-parts.field-0.0 c.args.left c.args.tokens.now (expr_of c.in_ok-test.test) c.in_ok-test.rest.now c.in_ok-test.ensures.value (sym c.starts_with.ensures ∙ c.if-not-starts_with.false) (omega (arith, c.in_ok-test.ensures.height))
+    (subst (λ (l : List Token). Fails c.in_err-parts.field-0.0 (parts_at (expr_at (c.args.left - 1) loosest) l)) c.tail.ensures c.in_err-parts.ensures.value))
+
+pub expr-returns-clause-value : goal.expr-returns-clause-value
+expr-returns-clause-value t c =
+    let e : expr_of c.in_ok-found.found ≡ choice_of (expr_of c.in_ok-test.test) (expr_of c.in_ok-parts.parts.0, (c.in_ok-parts.parts.1.0, expr_of c.in_ok-parts.parts.1.1)) = c.in_ok-found.ensures.value in
+    let w = subst (λ (l : List Token). parts_at (expr_at (c.args.left - 1) loosest) l ≡ Ok ((expr_of c.in_ok-parts.parts.0, (c.in_ok-parts.parts.1.0, expr_of c.in_ok-parts.parts.1.1)), c.in_ok-parts.rest.now)) c.tail.ensures c.in_ok-parts.ensures.value in
+    rw e (parts_made c.args.left c.args.tokens.now (expr_of c.in_ok-test.test) c.in_ok-test.rest.now (expr_of c.in_ok-parts.parts.0, (c.in_ok-parts.parts.1.0, expr_of c.in_ok-parts.parts.1.1)) c.in_ok-parts.rest.now c.in_ok-test.ensures.value (sym c.starts_with.ensures ∙ c.if-not-starts_with.false) (omega (arith, c.in_ok-test.ensures.height)) w)
+
+-- ---- names and places
+
+pub named-returns-then-starts_with-clause-rest : goal.named-returns-then-starts_with-clause-rest
+named-returns-then-starts_with-clause-rest t c = omega (arith, c.in_ok-word.ensures.rest, c.in_ok-value.ensures.rest, ap length c.tail.ensures, length-drop 1 c.in_ok-word.rest.now)
+
+pub place_from-returns-clause-rest : goal.place_from-returns-clause-rest
+place_from-returns-clause-rest t c = omega (arith, c.in_ok-word.ensures.rest, c.in_ok-value.ensures.rest, ap length c.tail.ensures, length-drop 1 c.in_ok-word.rest.now)
+
+pub place-returns-then-left-gt0-clause-value : goal.place-returns-then-left-gt0-clause-value
+place-returns-then-left-gt0-clause-value t c = rw (target_step c.args.left c.args.tokens.now (omega arith)) c.place_from.ensures.value
+
+pub place-returns-then-names-clause-value : goal.place-returns-then-names-clause-value
+place-returns-then-names-clause-value t c =
+    let z : c.args.left ≡ 0 = omega arith in
+    rw (c.refuse.ensures, z) (target_deep c.args.tokens.now (sym c.names.ensures ∙ c.if-names.true))
+
+pub place-returns-clause-value : goal.place-returns-clause-value
+place-returns-clause-value t c =
+    let z : c.args.left ≡ 0 = omega arith in
+    rw (c.refuse-2.ensures, z) (target_none c.args.tokens.now (sym c.names.ensures ∙ c.if-names.false))
+
+-- ---- operands
+
+pub unary-returns-in_default-clause-value : goal.unary-returns-in_default-clause-value
+unary-returns-in_default-clause-value t c =
     rw c.refuse.ensures (expr_off c.args.left 0 c.args.tokens.now (head_none false begins_expr c.args.tokens.now c.in_default.ensures.cases))
 
-pub operand-returns-then-not-begins_expr-clause-value : goal.operand-returns-then-not-begins_expr-clause-value
-operand-returns-then-not-begins_expr-clause-value t c =
+pub unary-returns-then-not-begins_expr-clause-value : goal.unary-returns-then-not-begins_expr-clause-value
+unary-returns-then-not-begins_expr-clause-value t c =
     let w : c.args.tokens.now ≡ c.in-Some.first.now ∷ c.in-Some.rest.now = search rules in
     rw c.refuse-then-not-begins_expr.ensures (expr_off c.args.left 0 c.args.tokens.now (head_some false begins_expr c.args.tokens.now c.in-Some.first.now c.in-Some.rest.now false w (sym c.begins_expr.ensures ∙ c.if-not-begins_expr.true)))
 
-pub operand-returns-then-left-eq0-clause-value : goal.operand-returns-then-left-eq0-clause-value
-operand-returns-then-left-eq0-clause-value t c =
+pub unary-returns-then-left-eq0-clause-value : goal.unary-returns-then-left-eq0-clause-value
+unary-returns-then-left-eq0-clause-value t c =
     let w : c.args.tokens.now ≡ c.in-Some.first.now ∷ c.in-Some.rest.now = search rules in
     rw (c.refuse-then-left-eq0.ensures, c.if-left-eq0.true) (expr_deep 0 c.args.tokens.now (head_some false begins_expr c.args.tokens.now c.in-Some.first.now c.in-Some.rest.now true w (sym c.begins_expr.ensures ∙ c.if-not-begins_expr.false)))
 
-pub operand-returns-clause-value : goal.operand-returns-clause-value
-operand-returns-clause-value t c =
+pub unary-returns-clause-value : goal.unary-returns-clause-value
+unary-returns-clause-value t c =
     let w : c.args.tokens.now ≡ c.in-Some.first.now ∷ c.in-Some.rest.now = search rules in
-    let p : expr_at c.args.left 0 c.args.tokens.now ≡ operand_from (expr_at (c.args.left - 1)) (start_of c.in-Some.first.now.kind) c.in-Some.first.now c.in-Some.rest.now = rw w (operand_step c.args.left c.in-Some.first.now c.in-Some.rest.now (omega arith)) in
-    rw p c.operand_from.ensures.value
+    let p : expr_at c.args.left 0 c.args.tokens.now ≡ operand_from (expr_at (c.args.left - 1)) (target_at (c.args.left - 1)) (start_of c.in-Some.first.now.kind) c.in-Some.first.now c.in-Some.rest.now = rw w (operand_step c.args.left c.in-Some.first.now c.in-Some.rest.now (omega arith)) in
+    rw p c.unary_from.ensures.value

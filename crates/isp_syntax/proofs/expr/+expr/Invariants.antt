@@ -1,22 +1,47 @@
 use Rattle.std.proofs.Common.{◌≡◌, ◌≤◌, ◌+◌, ◌<◌, ℕ, ◌-◌, ◌*◌, length}
-use Rattle.isp_syntax.specs.Tree.{expr_of, depth}
-use Rattle.isp_syntax.specs.Reading.{expr_at, more_at}
+use Rattle.isp_syntax.specs.Tree.{expr_of, exprs_of}
+use Rattle.isp_syntax.specs.Depth.{depth, depth_of_all}
+use Rattle.isp_syntax.specs.Reading.{list_at}
+use Rattle.isp_syntax.specs.ReadingExprs.{argument_at, expr_at, target_at, more_at}
+use Rattle.isp_syntax.specs.Signs.{loosest}
+use Rattle.isp_syntax.proofs.Loops.{with_front}
 use Rattle.isp_syntax.proofs.expr.+expr.Given as goal
 
-abbrev pub decreases-binary : goal.decreases-binary
-decreases-binary l = 8 * l.left + l.looseness + 1
-
-abbrev pub decreases-index : goal.decreases-index
-decreases-index l = 8 * l.left + 5
-
-abbrev pub decreases-operand : goal.decreases-operand
-decreases-operand l = 8 * l.left
-
-abbrev pub decreases-operand_from : goal.decreases-operand_from
-decreases-operand_from l = 8 * l.inner + 7
+abbrev pub decreases-unary : goal.decreases-unary
+decreases-unary l = 32 * l.left
 
 abbrev pub decreases-place : goal.decreases-place
-decreases-place l = 8 * l.inner + 6
+decreases-place l = 32 * l.left
+
+abbrev pub decreases-binary : goal.decreases-binary
+decreases-binary l = 32 * l.left + l.looseness + 1
+
+abbrev pub decreases-expr : goal.decreases-expr
+decreases-expr l = 32 * l.left + 12
+
+abbrev pub decreases-parts : goal.decreases-parts
+decreases-parts l = 32 * l.left + 13
+
+abbrev pub decreases-index : goal.decreases-index
+decreases-index l = 32 * l.left + 13
+
+abbrev pub decreases-argument : goal.decreases-argument
+decreases-argument l = 32 * l.left + 13
+
+abbrev pub decreases-arguments : goal.decreases-arguments
+decreases-arguments l = 32 * l.left + 14
+
+abbrev pub decreases-place_from : goal.decreases-place_from
+decreases-place_from l = 32 * l.inner + 15
+
+abbrev pub decreases-named : goal.decreases-named
+decreases-named l = 32 * l.inner + 15
+
+abbrev pub decreases-bracket : goal.decreases-bracket
+decreases-bracket l = 32 * l.inner + 15
+
+abbrev pub decreases-unary_from : goal.decreases-unary_from
+decreases-unary_from l = 32 * l.inner + 16
 
 abbrev pub invariant-binary-loop-op : goal.invariant-binary-loop-op
 invariant-binary-loop-op l = record {
@@ -28,3 +53,14 @@ invariant-binary-loop-op l = record {
 
 abbrev pub decreases-binary-loop-op : goal.decreases-binary-loop-op
 decreases-binary-loop-op l = length l.rest
+
+abbrev pub invariant-arguments-each : goal.invariant-arguments-each
+invariant-arguments-each l = record {
+  rest : length l.rest ≤ length l.tokens;
+  height : l.height ≡ depth_of_all (exprs_of l.all.items);
+  bounded : l.height ≤ l.left;
+  value : (f : ℕ) × (length l.rest < f) × (with_front (exprs_of l.all.items) (list_at (argument_at (expr_at l.left loosest) (target_at l.left)) f l.rest) ≡ list_at (argument_at (expr_at l.left loosest) (target_at l.left)) (length l.tokens + 1) l.tokens);
+}
+
+abbrev pub decreases-arguments-each : goal.decreases-arguments-each
+decreases-arguments-each l = length l.rest

@@ -1,0 +1,14 @@
+use Rattle.std.proofs.Common.{◌≡◌, ◌≤◌, length}
+use Rattle.isp_syntax.specs.ReadingChoices.{signs_at}
+use Rattle.isp_syntax.specs.ReadingPrograms.{linkage_of}
+use Rattle.isp_syntax.proofs.FunctionSteps.{words_then}
+use Rattle.isp_syntax.proofs.function.linkages.Given as goal
+
+abbrev pub invariant-each : goal.invariant-each
+invariant-each l = record {
+  rest : length l.rest ≤ length l.tokens;
+  value : words_then l.all.items (signs_at linkage_of l.rest) ≡ signs_at linkage_of l.tokens;
+}
+
+abbrev pub decreases-each : goal.decreases-each
+decreases-each l = length l.rest

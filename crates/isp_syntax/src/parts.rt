@@ -1,0 +1,357 @@
+//! Parts of statements.
+ghost use Rattle.std.specs.Prelude.{◌≡◌, ◌≤◌, ◌<◌, ◌+◌, IfOk, length, map, option_map};
+ghost use Rattle.isp_syntax.specs.Tree.{expr_of, exprs_of, simple_of, first_of, range_of};
+ghost use Rattle.isp_syntax.specs.Signs.{loosest};
+ghost use Rattle.isp_syntax.specs.Reading.{Gives};
+ghost use Rattle.isp_syntax.specs.ReadingChoices.{begins_with, sign_at, maybe_at};
+ghost use Rattle.isp_syntax.specs.ReadingExprs.{expr_at};
+ghost use Rattle.isp_syntax.specs.ReadingStarts.{begins_first, begins_simple};
+ghost use Rattle.isp_syntax.specs.ReadingStmts.{test_at, first_at, first_part_at, step_part_at, head_at, next_of, more_of, range_at, last_range_at, more_ranges_at, ranges_at, ranges_head_at, active_head_at, text_of, next_value_at, values_at, do_end_at, refusal_at_limit};
+
+use crate::declaration::declaration;
+use crate::expr::expr;
+use crate::reading::{mark, refuse, starts_with, word};
+use crate::simple::simple;
+use crate::start::{Start, stmt_start};
+use crate::stop::{Stop, Why};
+use crate::tree::{Expr, First, Range, Simple, Word};
+use crate::types::begins_type;
+use isp_base::Span;
+use isp_lex::{Mark, Text, Token, TokenKind};
+use std::alloc::Global;
+
+/// An expression in brackets.
+#[tactic(auto, unfolding(crate::specs::ReadingStmts::test_at))]
+pub fn test(alloc: Global, left: usize, tokens: &[Token]) -> Result<(Expr, &[Token]), Stop>
+    requires { left ≤ 128 }
+    ensures value { Gives (λ r. (expr_of r.0, r.1.now)) result (test_at left tokens.now) }
+    ensures rest { IfOk result (λ r. length r.1.now < length tokens.now) }
+{
+    let (_open, rest) = mark(Mark::ParenOpen, tokens)?;
+    let (value, _height, rest) = expr(alloc, left, rest)?;
+    let (_close, rest) = mark(Mark::ParenClose, rest)?;
+    Ok((value, rest))
+}
+
+/// An expression, or nothing before a semicolon.
+#[tactic(auto, unfolding(crate::specs::ReadingChoices::maybe_at))]
+pub fn maybe_expr(
+    alloc: Global,
+    left: usize,
+    tokens: &[Token],
+) -> Result<(Option<Expr>, &[Token]), Stop>
+    requires { left ≤ 128 }
+    ensures value { Gives (λ r. (option_map expr_of r.0, r.1.now)) result (maybe_at Mark.Semicolon (expr_at left loosest) tokens.now) }
+    ensures rest { IfOk result (λ r. length r.1.now ≤ length tokens.now) }
+{
+    if starts_with(Mark::Semicolon, tokens) {
+        return Ok((None, tokens));
+    }
+    let (value, _height, rest) = expr(alloc, left, tokens)?;
+    Ok((Some(value), rest))
+}
+
+/// Whether a declaration or a simple statement begins here.
+fn begins_first(tokens: &[Token]) -> bool
+    ensures { result ≡ begins_with begins_first tokens.now }
+{
+    match tokens {
+        [] => false,
+        [first, ..] => match stmt_start(&first.kind) {
+            Start::Declare | Start::Simple => true,
+            _ => false,
+        },
+    }
+}
+
+/// Whether a simple statement begins here.
+fn begins_simple(tokens: &[Token]) -> bool
+    ensures { result ≡ begins_with begins_simple tokens.now }
+{
+    match tokens {
+        [] => false,
+        [first, ..] => match stmt_start(&first.kind) {
+            Start::Simple => true,
+            _ => false,
+        },
+    }
+}
+
+/// A declaration or a simple statement.
+#[tactic(auto, unfolding(crate::specs::ReadingStmts::first_at, crate::specs::ReadingChoices::either_at))]
+fn first(alloc: Global, left: usize, tokens: &[Token]) -> Result<(First, &[Token]), Stop>
+    requires { left ≤ 128 }
+    ensures value { Gives (λ r. (first_of r.0, r.1.now)) result (first_at left tokens.now) }
+    ensures rest { IfOk result (λ r. length r.1.now < length tokens.now) }
+{
+    if begins_type(tokens) {
+        let (declaration, rest) = declaration(alloc, left, tokens)?;
+        return Ok((First::Declare(declaration), rest));
+    }
+    let (simple, rest) = simple(alloc, left, tokens)?;
+    Ok((First::Simple(simple), rest))
+}
+
+/// The refusal where nothing more may be read: of what begins here, if it does.
+pub fn refuse_at_limit(begins: bool, tokens: &[Token]) -> Stop
+    ensures { result ≡ Stop.Refused (refusal_at_limit begins tokens.now) }
+{
+    if begins {
+        refuse(Why::TooDeep, tokens)
+    } else {
+        refuse(Why::Unexpected, tokens)
+    }
+}
+
+/// The first part of a `for`, which counts as a statement.
+fn first_part(alloc: Global, left: usize, tokens: &[Token]) -> Result<(First, &[Token]), Stop>
+    requires { left ≤ 128 }
+    ensures value { Gives (λ r. (first_of r.0, r.1.now)) result (first_part_at left tokens.now) }
+    ensures rest { IfOk result (λ r. length r.1.now < length tokens.now) }
+{
+    if left == 0 {
+        return Err(refuse_at_limit(begins_first(tokens), tokens));
+    }
+    first(alloc, left - 1, tokens)
+}
+
+/// The step of a `for`, which counts as a statement.
+fn step_part(alloc: Global, left: usize, tokens: &[Token]) -> Result<(Simple, &[Token]), Stop>
+    requires { left ≤ 128 }
+    ensures value { Gives (λ r. (simple_of r.0, r.1.now)) result (step_part_at left tokens.now) }
+    ensures rest { IfOk result (λ r. length r.1.now < length tokens.now) }
+{
+    if left == 0 {
+        return Err(refuse_at_limit(begins_simple(tokens), tokens));
+    }
+    simple(alloc, left - 1, tokens)
+}
+
+#[tactic(auto, unfolding(crate::specs::ReadingChoices::maybe_at))]
+fn maybe_first(
+    alloc: Global,
+    left: usize,
+    tokens: &[Token],
+) -> Result<(Option<First>, &[Token]), Stop>
+    requires { left ≤ 128 }
+    ensures value { Gives (λ r. (option_map first_of r.0, r.1.now)) result (maybe_at Mark.Semicolon (first_part_at left) tokens.now) }
+    ensures rest { IfOk result (λ r. length r.1.now ≤ length tokens.now) }
+{
+    if starts_with(Mark::Semicolon, tokens) {
+        return Ok((None, tokens));
+    }
+    let (first, rest) = first_part(alloc, left, tokens)?;
+    Ok((Some(first), rest))
+}
+
+#[tactic(auto, unfolding(crate::specs::ReadingChoices::maybe_at))]
+fn maybe_step(
+    alloc: Global,
+    left: usize,
+    tokens: &[Token],
+) -> Result<(Option<Simple>, &[Token]), Stop>
+    requires { left ≤ 128 }
+    ensures value { Gives (λ r. (option_map simple_of r.0, r.1.now)) result (maybe_at Mark.ParenClose (step_part_at left) tokens.now) }
+    ensures rest { IfOk result (λ r. length r.1.now ≤ length tokens.now) }
+{
+    if starts_with(Mark::ParenClose, tokens) {
+        return Ok((None, tokens));
+    }
+    let (step, rest) = step_part(alloc, left, tokens)?;
+    Ok((Some(step), rest))
+}
+
+/// The first part, the test and the step of a `for`.
+type Head = (Option<First>, (Option<Expr>, Option<Simple>));
+
+/// What stands in the brackets of a `for`, and the brackets.
+#[tactic(auto, unfolding(crate::specs::ReadingStmts::head_at))]
+pub fn head(alloc: Global, left: usize, tokens: &[Token]) -> Result<(Head, &[Token]), Stop>
+    requires { left ≤ 128 }
+    ensures value { Gives (λ r. ((option_map first_of r.0.0, (option_map expr_of r.0.1.0, option_map simple_of r.0.1.1)), r.1.now)) result (head_at left tokens.now) }
+    ensures rest { IfOk result (λ r. length r.1.now < length tokens.now) }
+{
+    let (_open, rest) = mark(Mark::ParenOpen, tokens)?;
+    let (first, rest) = maybe_first(alloc, left, rest)?;
+    let (_semicolon, rest) = mark(Mark::Semicolon, rest)?;
+    let (test, rest) = maybe_expr(alloc, left, rest)?;
+    let (_semicolon, rest) = mark(Mark::Semicolon, rest)?;
+    let (step, rest) = maybe_step(alloc, left, rest)?;
+    let (_close, rest) = mark(Mark::ParenClose, rest)?;
+    Ok(((first, (test, step)), rest))
+}
+
+/// One dimension of a `foreach`.
+#[tactic(auto, unfolding(crate::specs::ReadingStmts::range_at))]
+fn range(alloc: Global, left: usize, tokens: &[Token]) -> Result<(Range, &[Token]), Stop>
+    requires { left ≤ 128 }
+    ensures value { Gives (λ r. (range_of r.0, r.1.now)) result (range_at left tokens.now) }
+    ensures rest { IfOk result (λ r. length r.1.now < length tokens.now) }
+{
+    let (word, rest) = word(tokens)?;
+    let (_sign, rest) = mark(Mark::Assign, rest)?;
+    let (start, _height, rest) = expr(alloc, left, rest)?;
+    let (_dots, rest) = mark(Mark::Ellipsis, rest)?;
+    let (end, _height, rest) = expr(alloc, left, rest)?;
+    let span = word.span.to(end.span());
+    Ok((
+        Range {
+            word,
+            start,
+            end,
+            span,
+        },
+        rest,
+    ))
+}
+
+/// A comma and what stands behind it, if there is one.
+type Next<T> = Option<(Span, T)>;
+
+/// The third range.
+#[tactic(auto, unfolding(crate::specs::ReadingStmts::last_range_at, crate::specs::ReadingChoices::perhaps_at, crate::specs::Reading::mark_at))]
+fn last_range(
+    alloc: Global,
+    left: usize,
+    tokens: &[Token],
+) -> Result<(Next<Range>, &[Token]), Stop>
+    requires { left ≤ 128 }
+    ensures value { Gives (λ r. (next_of r.0, r.1.now)) result (last_range_at left tokens.now) }
+    ensures rest { IfOk result (λ r. length r.1.now ≤ length tokens.now) }
+{
+    match tokens {
+        [first, rest @ ..] if first.kind.is(Mark::Comma) => {
+            let (range, rest) = range(alloc, left, rest)?;
+            Ok((Some((first.span, range)), rest))
+        }
+        _ => Ok((None, tokens)),
+    }
+}
+
+/// The second range, and the third.
+#[tactic(auto, unfolding(crate::specs::ReadingStmts::more_ranges_at, crate::specs::ReadingChoices::perhaps_at, crate::specs::Reading::mark_at))]
+fn more_ranges(
+    alloc: Global,
+    left: usize,
+    tokens: &[Token],
+) -> Result<(Next<(Range, Next<Range>)>, &[Token]), Stop>
+    requires { left ≤ 128 }
+    ensures value { Gives (λ r. (more_of r.0, r.1.now)) result (more_ranges_at left tokens.now) }
+    ensures rest { IfOk result (λ r. length r.1.now ≤ length tokens.now) }
+{
+    match tokens {
+        [first, rest @ ..] if first.kind.is(Mark::Comma) => {
+            let (range, rest) = range(alloc, left, rest)?;
+            let (last, rest) = last_range(alloc, left, rest)?;
+            Ok((Some((first.span, (range, last))), rest))
+        }
+        _ => Ok((None, tokens)),
+    }
+}
+
+/// One to three ranges.
+#[tactic(auto, unfolding(crate::specs::ReadingStmts::ranges_at))]
+fn ranges(alloc: Global, left: usize, tokens: &[Token]) -> Result<(Vec<Range>, &[Token]), Stop>
+    requires { left ≤ 128 }
+    ensures value { Gives (λ r. (map range_of r.0.items, r.1.now)) result (ranges_at left tokens.now) }
+    ensures rest { IfOk result (λ r. length r.1.now < length tokens.now) }
+{
+    let (first, rest) = range(alloc, left, tokens)?;
+    let (more, rest) = more_ranges(alloc, left, rest)?;
+    let mut all = Vec::new(alloc);
+    all.push(first)?;
+    let Some((_comma, (second, last))) = more else {
+        return Ok((all, rest));
+    };
+    all.push(second)?;
+    let Some((_comma, third)) = last else {
+        return Ok((all, rest));
+    };
+    all.push(third)?;
+    Ok((all, rest))
+}
+
+/// The ranges of a `foreach` in brackets.
+#[tactic(auto, unfolding(crate::specs::ReadingStmts::ranges_head_at))]
+pub fn ranges_head(
+    alloc: Global,
+    left: usize,
+    tokens: &[Token],
+) -> Result<(Vec<Range>, &[Token]), Stop>
+    requires { left ≤ 128 }
+    ensures value { Gives (λ r. (map range_of r.0.items, r.1.now)) result (ranges_head_at left tokens.now) }
+    ensures rest { IfOk result (λ r. length r.1.now < length tokens.now) }
+{
+    let (_open, rest) = mark(Mark::ParenOpen, tokens)?;
+    let (ranges, rest) = ranges(alloc, left, rest)?;
+    let (_close, rest) = mark(Mark::ParenClose, rest)?;
+    Ok((ranges, rest))
+}
+
+/// The name of a `foreach_active` in brackets.
+#[tactic(auto, unfolding(crate::specs::ReadingStmts::active_head_at))]
+pub fn active_head(tokens: &[Token]) -> Result<(Word, &[Token]), Stop>
+    ensures value { Gives (λ r. (r.0, r.1.now)) result (active_head_at tokens.now) }
+    ensures rest { IfOk result (λ r. length r.1.now < length tokens.now) }
+{
+    let (_open, rest) = mark(Mark::ParenOpen, tokens)?;
+    let (word, rest) = word(rest)?;
+    let (_close, rest) = mark(Mark::ParenClose, rest)?;
+    Ok((word, rest))
+}
+
+/// A text in quotes, and where it stands.
+#[tactic(auto, unfolding(crate::specs::ReadingChoices::sign_at))]
+pub fn text(tokens: &[Token]) -> Result<((Text, Span), &[Token]), Stop>
+    ensures value { Gives (λ r. (r.0, r.1.now)) result (sign_at text_of tokens.now) }
+    ensures rest { IfOk result (λ r. length r.1.now < length tokens.now) }
+{
+    let Some((first, rest)) = tokens.split_first() else {
+        return Err(refuse(Why::Unexpected, tokens));
+    };
+    match &first.kind {
+        TokenKind::Text(text) => Ok(((text.copied()?, first.span), rest)),
+        _ => Err(refuse(Why::Unexpected, tokens)),
+    }
+}
+
+/// A comma and a value.
+#[tactic(auto, unfolding(crate::specs::ReadingStmts::next_value_at))]
+fn next_value(alloc: Global, left: usize, tokens: &[Token]) -> Result<(Expr, &[Token]), Stop>
+    requires { left ≤ 128 }
+    ensures value { Gives (λ r. (expr_of r.0, r.1.now)) result (next_value_at left tokens.now) }
+    ensures rest { IfOk result (λ r. length r.1.now < length tokens.now) }
+{
+    let (_comma, rest) = mark(Mark::Comma, tokens)?;
+    let (value, _height, rest) = expr(alloc, left, rest)?;
+    Ok((value, rest))
+}
+
+/// The values behind a text, each behind a comma, up to a closing bracket.
+pub fn values(alloc: Global, left: usize, tokens: &[Token]) -> Result<(Vec<Expr>, &[Token]), Stop>
+    requires { left ≤ 128 }
+    ensures value { Gives (λ r. (exprs_of r.0.items, r.1.now)) result (values_at left tokens.now) }
+    ensures rest { IfOk result (λ r. length r.1.now ≤ length tokens.now) }
+{
+    let mut all = Vec::new(alloc);
+    let mut rest = tokens;
+    'each: while !starts_with(Mark::ParenClose, rest) {
+        let (next, after) = next_value(alloc, left, rest)?;
+        all.push(next)?;
+        rest = after;
+    }
+    Ok((all, rest))
+}
+
+/// `while`, a test and a semicolon: the test, and where the semicolon stands.
+#[tactic(auto, unfolding(crate::specs::ReadingStmts::do_end_at))]
+pub fn do_end(alloc: Global, left: usize, tokens: &[Token]) -> Result<((Expr, Span), &[Token]), Stop>
+    requires { left ≤ 128 }
+    ensures value { Gives (λ r. ((expr_of r.0.0, r.0.1), r.1.now)) result (do_end_at left tokens.now) }
+    ensures rest { IfOk result (λ r. length r.1.now < length tokens.now) }
+{
+    let (_while, rest) = mark(Mark::While, tokens)?;
+    let (test, rest) = test(alloc, left, rest)?;
+    let (end, rest) = mark(Mark::Semicolon, rest)?;
+    Ok(((test, end), rest))
+}
