@@ -193,8 +193,8 @@ function_unmakes (is_function o c ls ts ps bs linkages t w params b i j k l) =
     let typed : Typed.is (ts ++ word w ∷ at mark.ParenOpen o ∷ (ps ++ at mark.ParenClose c ∷ [])) (t, (w, (o, (params, c)))) = (ts, word w ∷ at mark.ParenOpen o ∷ (ps ++ at mark.ParenClose c ∷ []), refl, j, named, tt) in
     let heading : Heading.is (ls ++ (ts ++ word w ∷ at mark.ParenOpen o ∷ (ps ++ at mark.ParenClose c ∷ []))) (linkages, (t, (w, (o, (params, c))))) = (ls, ts ++ word w ∷ at mark.ParenOpen o ∷ (ps ++ at mark.ParenClose c ∷ []), refl, i, typed, tt) in
     let place : (rest : List Token) → first_span ((ls ++ (ts ++ word w ∷ at mark.ParenOpen o ∷ (ps ++ at mark.ParenClose c ∷ bs))) ++ rest) ≡ first_span (ls ++ ts) = λ rest.
-        ap (λ (l : List Token). first_span (l ++ rest)) (front_regroup ls ts (word w ∷ at mark.ParenOpen o ∷ (ps ++ at mark.ParenClose c ∷ bs)))
-        ∙ ap first_span (append_assoc (ls ++ ts) (word w ∷ at mark.ParenOpen o ∷ (ps ++ at mark.ParenClose c ∷ bs)) rest) ∙ first_of_front (ls ++ ts) ((word w ∷ at mark.ParenOpen o ∷ (ps ++ at mark.ParenClose c ∷ bs)) ++ rest) (front_long ls j) in (
+    ap (λ (l : List Token). first_span (l ++ rest)) (front_regroup ls ts (word w ∷ at mark.ParenOpen o ∷ (ps ++ at mark.ParenClose c ∷ bs)))
+    ∙ ap first_span (append_assoc (ls ++ ts) (word w ∷ at mark.ParenOpen o ∷ (ps ++ at mark.ParenClose c ∷ bs)) rest) ∙ first_of_front (ls ++ ts) ((word w ∷ at mark.ParenOpen o ∷ (ps ++ at mark.ParenClose c ∷ bs)) ++ rest) (front_long ls j) in (
       ((linkages, (t, (w, (o, (params, c))))), b),
       (ls ++ (ts ++ word w ∷ at mark.ParenOpen o ∷ (ps ++ at mark.ParenClose c ∷ [])), bs, sym (function_regroup ls ts w o c ps bs), heading, l, tt),
       λ rest. ap (λ (s : Span). function_from s (linkages, (t, (w, params))) b) (place rest),

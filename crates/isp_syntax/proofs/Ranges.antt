@@ -80,7 +80,7 @@ range_unmakes : {ts : List Token} {r : Range} → IsRange ts r → (p : Word × 
 range_unmakes (is_range w e d a b x y i j) = (
   (w, (e, (x, (d, y)))),
   is_name_then RangeTail w (at mark.Assign e ∷ (a ++ at mark.Ellipsis d ∷ b)) (e, (x, (d, y)))
-  (is_behind mark.Assign RangeBounds e (a ++ at mark.Ellipsis d ∷ b) (x, (d, y)) (a, at mark.Ellipsis d ∷ b, refl, i, is_behind mark.Ellipsis (Exprs loosest) d b y j, tt)),
+      (is_behind mark.Assign RangeBounds e (a ++ at mark.Ellipsis d ∷ b) (x, (d, y)) (a, at mark.Ellipsis d ∷ b, refl, i, is_behind mark.Ellipsis (Exprs loosest) d b y j, tt)),
   refl,
 )
 

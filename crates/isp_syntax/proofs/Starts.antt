@@ -254,4 +254,3 @@ type_completes (kind.Mark mark.Uniform) s e = qualified qualifier.Uniform s
 type_completes (kind.Mark mark.Varying) s e = qualified qualifier.Varying s
 type_completes (kind.Mark _) s e = absurd cc
 type_completes kind.LeftOut s e = absurd cc
-

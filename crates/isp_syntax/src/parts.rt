@@ -210,11 +210,7 @@ type Next<T> = Option<(Span, T)>;
 
 /// The third range.
 #[tactic(auto, unfolding(crate::specs::ReadingStmts::last_range_at, crate::specs::ReadingChoices::perhaps_at, crate::specs::Reading::mark_at))]
-fn last_range(
-    alloc: Global,
-    left: usize,
-    tokens: &[Token],
-) -> Result<(Next<Range>, &[Token]), Stop>
+fn last_range(alloc: Global, left: usize, tokens: &[Token]) -> Result<(Next<Range>, &[Token]), Stop>
     requires { left ≤ 128 }
     ensures value { Gives (λ r. (next_of r.0, r.1.now)) result (last_range_at left tokens.now) }
     ensures rest { IfOk result (λ r. length r.1.now ≤ length tokens.now) }
@@ -345,7 +341,11 @@ pub fn values(alloc: Global, left: usize, tokens: &[Token]) -> Result<(Vec<Expr>
 
 /// `while`, a test and a semicolon: the test, and where the semicolon stands.
 #[tactic(auto, unfolding(crate::specs::ReadingStmts::do_end_at))]
-pub fn do_end(alloc: Global, left: usize, tokens: &[Token]) -> Result<((Expr, Span), &[Token]), Stop>
+pub fn do_end(
+    alloc: Global,
+    left: usize,
+    tokens: &[Token],
+) -> Result<((Expr, Span), &[Token]), Stop>
     requires { left ≤ 128 }
     ensures value { Gives (λ r. ((expr_of r.0.0, r.0.1), r.1.now)) result (do_end_at left tokens.now) }
     ensures rest { IfOk result (λ r. length r.1.now < length tokens.now) }

@@ -91,5 +91,4 @@ pub fn parse(alloc: Global, tokens: &Tokens) -> Result<Tree, SourceFault>
 /// No tokens have two trees.
 pub fn one_tree()
     ensures { (ts : List Token) (fs gs : List FunctionTree) → IsProgram ts fs → IsProgram ts gs → fs ≡ gs }
-{
-}
+{}

@@ -253,14 +253,7 @@ pub enum Stmt {
     While(Form, Expr, Box<Stmt>, Span),
     /// `do stmt while (e);`
     Do(Form, Box<Stmt>, Expr, Span),
-    For(
-        Form,
-        Option<First>,
-        Option<Expr>,
-        Option<Simple>,
-        Box<Stmt>,
-        Span,
-    ),
+    For(Form, Option<First>, Option<Expr>, Option<Simple>, Box<Stmt>, Span),
     /// One to three ranges.
     Foreach(Tiling, Span, Vec<Range>, Box<Stmt>, Span),
     ForeachActive(Span, Word, Box<Stmt>, Span),
