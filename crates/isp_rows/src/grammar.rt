@@ -130,3 +130,18 @@ fn depth(rt: HostRuntime) -> Result<(), Fail> {
     assert_eq!(rt; found.rule, Rule::TooDeep);
     Ok(())
 }
+
+#[test]
+fn the_longest_sources(rt: HostRuntime) -> Result<(), Fail> {
+    let alloc = rt.alloc();
+    let braces = nested(alloc, "", "{", 1_048_576, "", "", "")?;
+    let rule = Rule::Unexpected;
+    let span = Span { start: 0, end: 1 };
+    assert_eq!(rt; fault(alloc, &braces)?, Some(Fault { rule, span }));
+    let blocks = nested(alloc, "void f() ", "{", 1_048_567, "", "", "")?;
+    let Some(found) = fault(alloc, &blocks)? else {
+        return Err(Fail::from("a million blocks are taken"));
+    };
+    assert_eq!(rt; found.rule, Rule::TooDeep);
+    Ok(())
+}
