@@ -18,10 +18,7 @@ fn first_node_not_yet(rt: HostRuntime) -> Result<(), Fail> {
             "90 NotYet at 18..27",
         ),
         ("export void f(int x) { }", "90 NotYet at 14..17"),
-        (
-            "export void f(uniform int8 a[]) { }",
-            "90 NotYet at 14..26",
-        ),
+        ("export void f(uniform int8 a[]) { }", "90 NotYet at 14..26"),
         ("export int f() { return 1; }", "90 NotYet at 7..10"),
         ("void f() { x = 1 / 0; }", "90 NotYet at 0..23"),
         ("static export void f() { }", "90 NotYet at 0..26"),

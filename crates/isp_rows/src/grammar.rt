@@ -91,10 +91,7 @@ fn programs(rt: HostRuntime) -> Result<(), Fail> {
 #[test]
 fn nearest_if(rt: HostRuntime) -> Result<(), Fail> {
     let alloc = rt.alloc();
-    let tree = tree(
-        alloc,
-        "void f() { if (a) if (b) x = 1; else x = 2; }",
-    )?;
+    let tree = tree(alloc, "void f() { if (a) if (b) x = 1; else x = 2; }")?;
     let Stmt::Block(statements, _) = &tree.functions[0].body else {
         return Err(Fail::from("the body is no block"));
     };

@@ -67,7 +67,11 @@ fn fault_of(alloc: Global, source: &str) -> Result<(u8, usize, usize), Fail> {
 }
 
 fn assert_place(rt: &impl Abort, token: &Token, start: usize, end: usize, source: &str) {
-    assert_eq!(rt; (token.span.start, token.span.end), (start, end), "{source}");
+    assert_eq!(rt;
+        (token.span.start, token.span.end),
+        (start, end),
+        "{source}"
+    );
 }
 
 #[test]
