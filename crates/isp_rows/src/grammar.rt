@@ -92,10 +92,13 @@ fn programs(rt: HostRuntime) -> Result<(), Fail> {
 fn nearest_if(rt: HostRuntime) -> Result<(), Fail> {
     let alloc = rt.alloc();
     let tree = tree(alloc, "void f() { if (a) if (b) x = 1; else x = 2; }")?;
-    let Stmt::Block(statements, _) = &tree.functions[0].body else {
+    let [function] = tree.functions.as_slice() else {
+        return Err(Fail::from("there is no function, or another one"));
+    };
+    let Stmt::Block(statements, _) = &function.body else {
         return Err(Fail::from("the body is no block"));
     };
-    let Stmt::If(_, _, inner, _) = &statements[0] else {
+    let [Stmt::If(_, _, inner, _)] = statements.as_slice() else {
         return Err(Fail::from("the outer if has an else"));
     };
     let Stmt::IfElse(_, _, _, _, _) = &**inner else {
