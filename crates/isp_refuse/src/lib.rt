@@ -1,7 +1,7 @@
 //! Refuses memory to a test: takes up all that the process can get, and gives a stated number of bytes back.
 #![tactic(auto)]
 
-ghost use Rattle.std.specs.Prelude.{◌≡◌, ◌≤◌, false};
+ghost use Rattle.std.specs.Prelude.{◌≡◌, ◌≤◌, ◌+◌, IfOk, true, false};
 
 use std::alloc::{AllocError, Global};
 
@@ -26,8 +26,11 @@ pub struct Hoard {
 }
 
 impl Hoard {
-    /// Takes all memory, in blocks whose sizes halve down to 2 bytes.
-    pub fn new(alloc: Global) -> Result<Hoard, AllocError> {
+    /// Takes all memory, in blocks whose sizes halve down to 2 bytes. Nothing of the pool is given
+    /// yet. Refused where the pool itself can't be had.
+    pub fn new(alloc: Global) -> Result<Hoard, AllocError>
+        ensures { IfOk result (λ h. 2097152 ≤ h.plug.cap) }
+    {
         // (the C library serves blocks below the size of the greatest that was freed from its heap)
         drop(Vec::<u8>::with_capacity(alloc, 4 * POOL)?);
         let mut blocks = Vec::with_capacity(alloc, MOST)?;
@@ -43,9 +46,12 @@ impl Hoard {
     }
 
     /// Gives about `bytes` bytes to what runs next, counted from the call, and takes back what the
-    /// call before gave. False where the pool of 2,097,152 bytes does not have so many.
+    /// call before gave. False where the pool of 2,097,152 bytes does not have so many, or the rest
+    /// of it can't be had back.
     pub fn leave(&mut self, bytes: usize) -> bool
-        ensures { 2097152 ≤ bytes → result ≡ false }
+        ensures refused { 2097152 ≤ bytes → result ≡ false }
+        // The rest of the pool is held.
+        ensures held { result ≡ true → 2097152 ≤ bytes + self.new.plug.cap }
     {
         self.plug = Vec::new(self.alloc);
         if bytes >= POOL {
