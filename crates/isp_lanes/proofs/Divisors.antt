@@ -10,16 +10,13 @@ use Rattle.isp_lanes.specs.Lanes.{first_zero}
 abbrev pub stand_in : BinOp → List Bool → List ℕ → List ℕ
 stand_in op mask divisors = cond (divides op) (sel_l mask divisors (replicate (length divisors) 1)) divisors
 
-sel_each : (m : ℕ) → 0 < m → (ms : List Bool) (us vs : List ℕ) → ((k : ℕ) → get_or us k 0 < m) → ((k : ℕ) → get_or vs k 0 < m) → (k : ℕ) → get_or (sel_l ms us vs) k 0 < m
-sel_each m h [] us vs p q k = h
-sel_each m h (b ∷ bs) [] vs p q k = h
-sel_each m h (b ∷ bs) (u ∷ us) [] p q k = h
-sel_each m h (true ∷ bs) (u ∷ us) (v ∷ vs) p q zero = p 0
-sel_each m h (false ∷ bs) (u ∷ us) (v ∷ vs) p q zero = q 0
-sel_each m h (b ∷ bs) (u ∷ us) (v ∷ vs) p q (suc k) = sel_each m h bs us vs (λ j. p (suc j)) (λ j. q (suc j)) k
-
 pub sel_fits : (m : ℕ) → 0 < m → (ms : List Bool) (us vs : List ℕ) → ((k : ℕ) → get_or us k 0 < m) → ((k : ℕ) → get_or vs k 0 < m) → (k : ℕ) → get_or (sel_l ms us vs) k 0 < m
-sel_fits = sel_each
+sel_fits m h [] us vs p q k = h
+sel_fits m h (b ∷ bs) [] vs p q k = h
+sel_fits m h (b ∷ bs) (u ∷ us) [] p q k = h
+sel_fits m h (true ∷ bs) (u ∷ us) (v ∷ vs) p q zero = p 0
+sel_fits m h (false ∷ bs) (u ∷ us) (v ∷ vs) p q zero = q 0
+sel_fits m h (b ∷ bs) (u ∷ us) (v ∷ vs) p q (suc k) = sel_fits m h bs us vs (λ j. p (suc j)) (λ j. q (suc j)) k
 
 ones : (m : ℕ) → 1 < m → (n k : ℕ) → get_or (replicate n 1) k 0 < m
 ones m h zero k = omega arith
@@ -30,7 +27,7 @@ pub stand_in_fits : (op : BinOp) (m : ℕ) → 1 < m → (ms : List Bool) (ys : 
 stand_in_fits op m h ms ys p k = by (divides op)
   where
     by : (d : Bool) → get_or (cond d (sel_l ms ys (replicate (length ys) 1)) ys) k 0 < m
-    by true = sel_each m (omega arith) ms ys (replicate (length ys) 1) p (ones m h (length ys)) k
+    by true = sel_fits m (omega arith) ms ys (replicate (length ys) 1) p (ones m h (length ys)) k
     by false = p k
 
 nonzero : (ms : List Bool) (ys : List ℕ) → length (zip2 (λ m b. m && b == 0) ms ys) ≤ position_or_len (λ z. z) (zip2 (λ m b. m && b == 0) ms ys)

@@ -1,6 +1,6 @@
 -- What a text begins with: one function finds it, and finds nothing else.
 use Rattle.std.proofs.Common.{◌≡◌, ℕ, suc, ◌<◌, Bool, true, false, cond, List, [], ◌∷◌, ◌++◌, length, take, drop, Option, Some, None, refl, sym, ap, subst, ◌∙◌, arith, length-append, append_assoc}
-use Rattle.std.specs.Prelude.{◌==◌, ◌||◌}
+use Rattle.std.specs.Prelude.{◌==◌}
 use Rattle.std.specs.Char.{encode_utf8, is_ascii_digit}
 use Rattle.std.proofs.lemmas.Bool.{false≢true, eqb-true}
 use Rattle.std.proofs.lemmas.List.{take_at}
@@ -23,7 +23,7 @@ use Rattle.isp_lex.proofs.NumberLaws.{number_sound, number_complete, number_star
 use Rattle.isp_lex.proofs.Runs.{run_is}
 use Rattle.isp_lex.proofs.SignLaws.{sign_complete, sign_sound}
 use Rattle.isp_lex.proofs.Spellings.{mark_some}
-use Rattle.isp_lex.proofs.TextLaws.{text_at, text_stops, text_stops_escape, text_whole}
+use Rattle.isp_lex.proofs.TextLaws.{or_false, text_at, text_stops, text_stops_escape, text_whole}
 use Rattle.isp_lex.proofs.Words.{free_kind, left_word, left_found}
 
 -- the piece of a token, and of what is passed over
@@ -103,10 +103,6 @@ step_text : (bytes text after : List ℕ) → IsQuoted bytes text → step (text
 step_text bytes text after i = subst (λ (l : List ℕ). step (l ++ after) ≡ taken (kind.Text bytes) (length l)) (sym i.1) (quoted_step bytes i.0 after i.2)
 
 -- signs and reserved words
-
-or_false : (a b : Bool) → (a || b) ≡ false → (a ≡ false) × (b ≡ false)
-or_false true b e = absurd (false≢true (sym e))
-or_false false b e = (refl, e)
 
 no_comment : (after : List ℕ) → begins opens after ≡ false → (next_is 47 after ≡ false) × (next_is 42 after ≡ false)
 no_comment [] e = (refl, refl)

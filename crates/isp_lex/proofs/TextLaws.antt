@@ -69,7 +69,7 @@ text_over (escape e b body bytes h d) rest =
 pub text_whole : {body bytes : List ℕ} → Decodes body bytes → (rest : List ℕ) → text_at false (body ++ 34 ∷ rest) ≡ Some (bytes, length body + 1)
 text_whole {body} {bytes} d rest = text_over d (34 ∷ rest) ∙ ap (λ (l : List ℕ). Some (l, length body + 1)) (append-nil bytes)
 
-or_false : (a b : Bool) → (a || b) ≡ false → (a ≡ false) × (b ≡ false)
+pub or_false : (a b : Bool) → (a || b) ≡ false → (a ≡ false) × (b ≡ false)
 or_false true b e = absurd (false≢true (sym e))
 or_false false b e = (refl, e)
 

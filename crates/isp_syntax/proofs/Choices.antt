@@ -1,23 +1,28 @@
 -- Forms of what the first token decides.
-use Rattle.std.proofs.Common.{◌≡◌, ℕ, zero, suc, ◌≤◌, max, Bool, true, false, List, [], ◌∷◌, ◌++◌, length, Option, Some, None, Ok, Err, refl, sym, ap, subst, ◌∙◌, append_assoc, arith, inl, inr, ◌⊎◌}
+use Rattle.std.proofs.Common.{◌≡◌, ℕ, zero, suc, max, Bool, true, false, List, [], ◌∷◌, ◌++◌, Option, Some, None, Ok, Err, refl, sym, ap, subst, ◌∙◌, append_assoc, arith, inl, inr, ◌⊎◌}
 use Rattle.std.proofs.lemmas.List.{append-nil}
 use Rattle.isp_base.specs.declared.types.Span.{Span}
 use Rattle.isp_lex.specs.Tokens.{at, starts_with}
 use Rattle.isp_lex.specs.declared.token.Mark.{Mark}
 use Rattle.isp_lex.specs.declared.token.TokenKind.{TokenKind}
-use Rattle.isp_lex.specs.declared.token.TokenKind.TheVariants as kind
 use Rattle.isp_lex.specs.declared.token.Token.{Token}
-use Rattle.isp_syntax.proofs.Basics.{ok_is, err_is, ok_err, err_ok, some_is, none_some, bind_ok, bind_err, chosen, starts_same, token}
-use Rattle.isp_syntax.proofs.Forms.{Form, Found, IsSound, IsComplete, Can, made_sound, made_complete, Both, Behind, Follows, Free, follows, behind_is, is_behind}
+use Rattle.isp_syntax.proofs.Basics.{ok_is, err_is, ok_err, err_ok, bind_ok, bind_err, chosen, starts_same, token}
+use Rattle.isp_syntax.proofs.Forms.{Form, Found, IsSound, IsComplete, Can, made_sound, made_complete, Behind, Follows, Free, follows, behind_is, is_behind}
 use Rattle.isp_syntax.proofs.FormsComplete.{EndsByHead, read_again, StartsOff}
-use Rattle.isp_syntax.proofs.Refused.{Refused, Completes, FailsForm, IsRefused, lift, refused_here, deep_here, raise, made_refused, made_err, made_fails}
-use Rattle.isp_syntax.specs.Reading.{Read, Reader, ◌>>=◌, refusal, refuse, head, on_head, both, at_limit}
+use Rattle.isp_syntax.proofs.Refused.{Refused, FailsForm, IsRefused, lift, refused_here, deep_here, raise, made_refused, made_err, made_fails}
+use Rattle.isp_syntax.specs.Reading.{Reader, ◌>>=◌, refusal, refuse, head, on_head, both, at_limit}
 use Rattle.isp_syntax.specs.ReadingChoices.{begins_with, sign_from, sign_at, maybe_from, maybe_at, perhaps_from, perhaps_at, either_from, either_at, counted_at}
 use Rattle.isp_syntax.specs.declared.stop.Why.TheVariants.{Unexpected, TooDeep}
 use Rattle.isp_syntax.specs.declared.stop.Refusal.{Refusal}
+use Rattle.isp_syntax.specs.declared.tree.Word.{Word}
 
+-- some place
 abbrev pub nowhere : Span
 nowhere = record { start = 0; end = 0 }
+
+-- some name
+abbrev pub nameless : Word
+nameless = record { name = []; span = nowhere }
 
 -- the same first token, the same choice
 pub begins_same : (b : TokenKind → Bool) (u v : List Token) → head u ≡ head v → begins_with b u ≡ begins_with b v

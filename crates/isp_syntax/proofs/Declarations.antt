@@ -1,38 +1,34 @@
 -- Declarations: what is read is what they are.
-use Rattle.std.proofs.Common.{◌≡◌, ℕ, zero, suc, ◌≤◌, max, Bool, true, false, List, [], ◌∷◌, ◌++◌, Option, Some, None, Ok, Err, refl, sym, ap, subst, ◌∙◌, append_assoc, arith, inl, inr, ◌⊎◌}
-use Rattle.isp_base.specs.Types.{span_to}
+use Rattle.std.proofs.Common.{◌≡◌, ℕ, true, false, List, [], ◌∷◌, ◌++◌, Option, Some, None, refl, sym, ap, subst, ◌∙◌, arith, inl, inr}
 use Rattle.isp_base.specs.declared.types.Span.{Span}
 use Rattle.isp_base.specs.declared.types.Value.{Value}
-use Rattle.isp_lex.specs.Tokens.{at, is_mark, starts_with}
+use Rattle.isp_lex.specs.Tokens.{at, is_mark}
 use Rattle.isp_lex.specs.declared.token.Mark.{Mark}
 use Rattle.isp_lex.specs.declared.token.Mark.TheVariants as mark
 use Rattle.isp_lex.specs.declared.token.TokenKind.{TokenKind}
 use Rattle.isp_lex.specs.declared.token.TokenKind.TheVariants as kind
 use Rattle.isp_lex.specs.declared.token.Token.{Token}
 use Rattle.isp_syntax.proofs.Basics.{token}
-use Rattle.isp_syntax.proofs.Choices.{nowhere, begins_same, Sign, Signs, sign_sound, sign_complete, sign_refused, Tail, Joins, tail_sound, tail_complete, tail_refused, Either, Parts, either_sound, either_complete, either_by_head, either_refused, Makes, makes_sound, makes_complete, makes_refused}
-use Rattle.isp_syntax.proofs.Forms.{Form, IsSound, IsComplete, Can, One, one_sound, one_complete, Named, named_sound, named_complete, Both, Free, Follows, follows, both_sound, both_complete, Behind, one_then, behind_is, is_behind, Before, then_one, before_is, is_before, AreListed, EndsListed, Listed, listed_sound}
-use Rattle.isp_syntax.proofs.FormsComplete.{EndsByHead, one_by_head, named_by_head, mark_starts, TakesComma, listed_complete}
-use Rattle.isp_syntax.proofs.Given.{Exprs, exprs_sound, exprs_complete, exprs_by_head, exprs_refused, exprs_end, expr_completes}
+use Rattle.isp_syntax.proofs.Choices.{nowhere, nameless, begins_same, Sign, Signs, sign_sound, sign_complete, sign_refused, Tail, Joins, tail_sound, tail_complete, tail_refused, Either, Parts, either_sound, either_complete, either_refused, Makes, makes_sound, makes_complete, makes_refused}
+use Rattle.isp_syntax.proofs.ExprLaws.{exprs_sound, exprs_complete, exprs_by_head, exprs_refused, expr_completes}
+use Rattle.isp_syntax.proofs.Exprs.{Exprs, closes_ends}
+use Rattle.isp_syntax.proofs.Forms.{Form, IsSound, IsComplete, Can, One, one_sound, one_complete, Named, named_sound, named_complete, Both, Free, Follows, follows, both_sound, both_complete, Behind, one_then, behind_is, is_behind, Before, then_one, before_is, is_before, EndsListed, Listed, listed_sound}
+use Rattle.isp_syntax.proofs.FormsComplete.{EndsByHead, one_by_head, named_by_head, TakesComma, listed_complete}
 use Rattle.isp_syntax.proofs.ListForms.{listed_by_head, listed_refused, listed_ends, listed_begins, deepest_same}
 use Rattle.isp_syntax.proofs.Refused.{IsRefused, one_refused, named_refused, both_refused}
 use Rattle.isp_syntax.proofs.Starts.{begins_off}
-use Rattle.isp_syntax.proofs.TypesRead.{Types, types_sound, types_complete, types_by_head, types_refused, type_starts, ends_type, int_type}
+use Rattle.isp_syntax.proofs.TypesRead.{Types, types_sound, types_complete, types_by_head, types_refused, ends_type}
 use Rattle.isp_syntax.specs.Depth.{depth_of_item, depth_of_declaration}
-use Rattle.isp_syntax.specs.Grammar.{IsType, IsExpr, IsSize, is_number_size, is_count_size, IsItem, is_plain, is_with_value, is_with_size, IsDeclaration, is_declaration}
-use Rattle.isp_syntax.specs.Reading.{◌>>=◌, head, is_word}
+use Rattle.isp_syntax.specs.Grammar.{IsSize, is_number_size, is_count_size, IsItem, is_plain, is_with_value, is_with_size, IsDeclaration, is_declaration}
+use Rattle.isp_syntax.specs.Reading.{is_word}
 use Rattle.isp_syntax.specs.ReadingChoices.{begins_with}
-use Rattle.isp_syntax.specs.ReadingExprs.{expr_at}
 use Rattle.isp_syntax.specs.ReadingStmts.{size_of, size_from, size_at, is_item_sign, ItemTail, item_tail_at, item_from, item_at, items_at, declaration_from, declaration_at}
 use Rattle.isp_syntax.specs.ReadingTypes.{begins_type}
-use Rattle.isp_syntax.specs.Signs.{word, numeral, loosest}
-use Rattle.isp_syntax.specs.Tree.{Expr, span_of, TypeTree, Item, plain, with_value, with_size, Declaration}
+use Rattle.isp_syntax.specs.Signs.{word, loosest}
+use Rattle.isp_syntax.specs.Tree.{Expr, TypeTree, Item, plain, with_value, with_size, Declaration}
 use Rattle.isp_syntax.specs.declared.tree.Word.{Word}
 use Rattle.isp_syntax.specs.declared.tree.Size.{Size}
 use Rattle.isp_syntax.specs.declared.tree.Size.TheVariants as size
-
-abbrev pub nameless : Word
-nameless = record { name = []; span = nowhere }
 
 -- some expression
 pub some_expr : (k : ℕ) → (ts : List Token) × Can (Exprs k) ts
@@ -239,7 +235,7 @@ item_end m c f (with_value w x t) s rest = f x s rest
 item_end m c f (with_size w n t) s rest = tt
 
 item_comma : TakesComma Itm
-item_comma i s rest = item_end mark.Comma refl (λ x s rest. exprs_end loosest mark.Comma refl x s rest) i s rest
+item_comma i s rest = item_end mark.Comma refl (λ x s rest. closes_ends loosest mark.Comma refl x s rest) i s rest
 
 item_word : {a : List Token} {x : Item} → IsItem a x → (rest : List Token) → begins_with is_word (a ++ rest) ≡ true
 item_word (is_plain w) rest = refl
@@ -301,7 +297,7 @@ pub declaration_by_head : EndsByHead Declaring
 declaration_by_head d a b e h = listed_by_head Itm item_by_head d.items a b e h
 
 pub declaration_end : (d : Declaration) (s : Span) (rest : List Token) → Declaring.ends d (at mark.Semicolon s ∷ rest)
-declaration_end d s rest = listed_ends Itm mark.Semicolon refl (λ i s rest. item_end mark.Semicolon refl (λ x s rest. exprs_end loosest mark.Semicolon refl x s rest) i s rest) d.items s rest
+declaration_end d s rest = listed_ends Itm mark.Semicolon refl (λ i s rest. item_end mark.Semicolon refl (λ x s rest. closes_ends loosest mark.Semicolon refl x s rest) i s rest) d.items s rest
 
 items_refused : (n : ℕ) → IsRefused Items n
 items_refused n = listed_refused Itm n item_by_head item_comma item_complete (item_sound n) (item_refused n)

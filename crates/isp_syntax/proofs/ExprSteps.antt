@@ -7,6 +7,7 @@ use Rattle.isp_lex.specs.declared.token.Mark.TheVariants as mark
 use Rattle.isp_lex.specs.declared.token.TokenKind.{TokenKind}
 use Rattle.isp_lex.specs.declared.token.Token.{Token}
 use Rattle.isp_syntax.proofs.Basics.{choice_fails}
+use Rattle.isp_syntax.proofs.Choices.{limit_off, limit_deep}
 use Rattle.isp_syntax.specs.Depth.{depth, depth_of_all}
 use Rattle.isp_syntax.specs.Reading.{Read, Reader, ◌>>=◌, Fails, refusal, refuse, at_limit, is_word}
 use Rattle.isp_syntax.specs.ReadingChoices.{begins_with}
@@ -195,16 +196,6 @@ target_step zero ts h = absurd (omega arith)
 target_step (suc n) ts h = let e : suc n - 1 ≡ n = omega arith in rw e refl
 
 -- ---- where nothing begins, or the limit is reached
-
-pub limit_off : {A : Type 0} (b : TokenKind → Bool) (u : List Token) → begins_with b u ≡ false → at_limit {A = A} b u ≡ refuse Unexpected u
-unfolding at_limit
-limit_off b [] e = refl
-limit_off b (t ∷ u) e = rw e refl
-
-pub limit_deep : {A : Type 0} (b : TokenKind → Bool) (u : List Token) → begins_with b u ≡ true → at_limit {A = A} b u ≡ refuse TooDeep u
-unfolding at_limit
-limit_deep b [] e = absurd cc
-limit_deep b (t ∷ u) e = rw e refl
 
 pub target_none : (u : List Token) → begins_with is_word u ≡ false → target_at zero u ≡ refuse Unexpected u
 unfolding target_at

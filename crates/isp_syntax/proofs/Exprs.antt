@@ -1,7 +1,7 @@
 -- The forms of expressions, of which they are made.
 use Rattle.std.proofs.Common.{◌≡◌, ℕ, zero, suc, ◌≤◌, ◌<◌, Bool, true, false, eqb, List, [], ◌∷◌, ◌++◌, drop, Option, Some, None, Ok, refl, sym, ap, subst, ◌∙◌, arith, inl, inr, ◌⊎◌, eqb-true}
 use Rattle.std.specs.Prelude.{◌==◌, ◌&&◌, not}
-use Rattle.std.proofs.lemmas.Bool.{ne_eqb}
+use Rattle.std.proofs.lemmas.Bool.{ne_eqb, not-true}
 use Rattle.isp_base.specs.Types.{span_to}
 use Rattle.isp_base.specs.declared.types.Span.{Span}
 use Rattle.isp_base.specs.declared.types.Value.{Value}
@@ -13,9 +13,9 @@ use Rattle.isp_lex.specs.declared.token.TokenKind.{TokenKind}
 use Rattle.isp_lex.specs.declared.token.TokenKind.TheVariants as kind
 use Rattle.isp_lex.specs.declared.token.Token.{Token}
 use Rattle.isp_syntax.proofs.Basics.{token, ok_is, some_is, none_some, bind_ok, chosen, starts_cons}
-use Rattle.isp_syntax.proofs.Choices.{Either, then_behind}
+use Rattle.isp_syntax.proofs.Choices.{nowhere, nameless, Either, then_behind}
 use Rattle.isp_syntax.proofs.Forms.{Follows, Form, Found, IsSound, Can, One, Named, Both, Free, Behind, one_then, behind_is, NameThen, named_then, name_then_is, Before, then_one, before_is, Optional, deepest, AreListed, IsSeries, Series}
-use Rattle.isp_syntax.proofs.TypesRead.{Types, ends_type, nowhere}
+use Rattle.isp_syntax.proofs.TypesRead.{Types, ends_type}
 use Rattle.isp_syntax.specs.Depth.{depth, depth_of_row}
 use Rattle.isp_syntax.specs.Grammar.{IsPlace, is_variable, is_item, IsExpr, is_number, is_place, is_call, is_brackets, is_cast, is_tighter, is_choose, IsArgument, is_value_argument, is_reference, IsArguments, is_no_argument, is_some_arguments, IsArgumentList, is_last_argument, is_more_arguments}
 use Rattle.isp_syntax.specs.Reading.{◌>>=◌}
@@ -175,13 +175,9 @@ quiet (Some op) = false
 abbrev pub closes : Mark → Bool
 closes m = quiet (operator_of (kind.Mark m)) && (not (is_mark mark.BracketOpen (kind.Mark m)) && (not (is_mark mark.ParenOpen (kind.Mark m)) && not (is_mark mark.Question (kind.Mark m))))
 
-both_true : (a b : Bool) → a && b ≡ true → (a ≡ true) × (b ≡ true)
+pub both_true : (a b : Bool) → a && b ≡ true → (a ≡ true) × (b ≡ true)
 both_true true b e = (refl, e)
 both_true false b e = absurd cc
-
-not_true : (a : Bool) → not a ≡ true → a ≡ false
-not_true true e = absurd cc
-not_true false e = refl
 
 quiet_level : (k : ℕ) (o : Option Operator) → quiet o ≡ true → of_level k o ≡ None
 quiet_level k None e = refl
@@ -194,10 +190,10 @@ closes_ends k m e x s rest =
     let q = both_true _ _ p.1 in
     let r = both_true _ _ q.1 in
     record {
-      index = λ b. not_true _ q.0;
-      arguments = λ b. not_true _ r.0;
+      index = λ b. not-true _ q.0;
+      arguments = λ b. not-true _ r.0;
       operators = λ j h. quiet_level (suc j) (operator_of (kind.Mark m)) p.0;
-      choice = λ h. not_true _ r.1;
+      choice = λ h. not-true _ r.1;
     }
 
 pub name_ends : (x : Expr) (rest : List Token) → (ends_in_name x ≡ true → starts_with mark.BracketOpen rest ≡ false) → (ends_in_name x ≡ true → starts_with mark.ParenOpen rest ≡ false) → Ends zero x rest
@@ -311,11 +307,8 @@ passed_ends (inr x) rest h = record { place = h.index; value = λ e. h }
 variable : (w : Word) → Can Target (word w ∷ [])
 variable w = (name w, is_variable w)
 
-abbrev pub some_word : Word
-some_word = record { name = []; span = nowhere }
-
 pub referring_then : Follows (One mark.And) Target Free
-referring_then = one_then mark.And Target (word some_word ∷ []) (variable some_word)
+referring_then = one_then mark.And Target (word nameless ∷ []) (variable nameless)
 
 pub called_then : Follows Arguments (One mark.ParenClose) Free
 called_then = then_one Arguments mark.ParenClose (λ xs s rest. arguments_end xs s rest)

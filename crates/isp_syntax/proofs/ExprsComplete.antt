@@ -1,6 +1,6 @@
 -- What is an expression, that is read.
 use Rattle.std.proofs.Common.{◌≡◌, ℕ, zero, suc, ◌+◌, ◌≤◌, ◌<◌, Bool, true, false, cond, eqb, List, [], ◌∷◌, ◌++◌, Some, None, Ok, refl, sym, ap, subst, ◌∙◌, append_assoc, arith, inl, inr, ◌⊎◌, eq-eqb}
-use Rattle.std.proofs.lemmas.Bool.{ne_eqb, cases_lt, true≢false}
+use Rattle.std.proofs.lemmas.Bool.{ne_eqb, cases_lt}
 use Rattle.isp_base.specs.declared.types.Span.{Span}
 use Rattle.isp_lex.specs.Tokens.{is_mark, at, starts_with}
 use Rattle.isp_lex.specs.declared.token.Mark.{Mark}
@@ -8,12 +8,13 @@ use Rattle.isp_lex.specs.declared.token.Mark.TheVariants as mark
 use Rattle.isp_lex.specs.declared.token.TokenKind.{TokenKind}
 use Rattle.isp_lex.specs.declared.token.TokenKind.TheVariants as kind
 use Rattle.isp_lex.specs.declared.token.Token.{Token}
-use Rattle.isp_syntax.proofs.Basics.{starts_same, is_mark_is}
+use Rattle.isp_syntax.proofs.Basics.{starts_same}
 use Rattle.isp_syntax.proofs.Choices.{either_complete}
 use Rattle.isp_syntax.proofs.Forms.{IsComplete, One, one_complete, Named, named_complete, Free, both_complete, Behind, is_behind, is_name_then, is_before, made_complete, AreListed, IsSeries}
 use Rattle.isp_syntax.proofs.FormsComplete.{EndsByHead, optional_complete, TakesComma, StartsOff, series_complete}
 use Rattle.isp_syntax.proofs.Exprs.{Ends, Exprs, level_small, closes_ends, Bracketed, Index, Placed, Target, place_reads, place_then, bracket_then, is_referring, Argument, Referring, Passed, Arguments, Called, argument_reads, referring_then, called_then, row_deep, IsSuffix, depth_of_suffix, EndsSuffix, Suffixes, NamedForm, name_then, named_reads, Closed, Typed, Bracket, bracket_reads, closed_then, cast_then, typed_then, Parts, colon_then, parts_then, parts_read}
 use Rattle.isp_syntax.proofs.ExprSteps.{depth_pos, at_level, at_choice, more_stop, more_step, choice_stops, choice_made}
+use Rattle.isp_syntax.proofs.Starts.{begins_off, starts_off}
 use Rattle.isp_syntax.proofs.TypesRead.{Types, types_complete, type_starts}
 use Rattle.isp_syntax.specs.Depth.{depth}
 use Rattle.isp_syntax.specs.Grammar.{IsPlace, is_variable, is_item, IsExpr, is_number, is_truth, is_program_index, is_program_count, is_place, is_call, is_brackets, is_cast, is_prefix, is_tighter, is_binary, is_choose, IsArgument, is_value_argument, is_reference, IsArguments, is_no_argument, is_some_arguments, IsArgumentList, is_last_argument, is_more_arguments}
@@ -145,40 +146,28 @@ expr_first (is_tighter k ts x i) rest = expr_first i rest
 expr_first (is_binary k a b x op s y e i j) rest = ap (begins_with begins_expr) (append_assoc a (at (sign op) s ∷ b) rest) ∙ expr_first i (at (sign op) s ∷ (b ++ rest))
 expr_first (is_choose q d a b c x y z i j l) rest = ap (begins_with begins_expr) (append_assoc a (at mark.Question q ∷ (b ++ at mark.Colon d ∷ c)) rest) ∙ expr_first i (at mark.Question q ∷ ((b ++ at mark.Colon d ∷ c) ++ rest))
 
-apart : (k : TokenKind) → begins_expr k ≡ true → begins_type k ≡ false
-apart (kind.Word n) e = refl
-apart (kind.Number v) e = refl
-apart (kind.Text t) e = refl
-apart (kind.Mark mark.True) e = refl
-apart (kind.Mark mark.False) e = refl
-apart (kind.Mark mark.ProgramIndex) e = refl
-apart (kind.Mark mark.ProgramCount) e = refl
-apart (kind.Mark mark.ParenOpen) e = refl
-apart (kind.Mark mark.Minus) e = refl
-apart (kind.Mark mark.Inverse) e = refl
-apart (kind.Mark mark.Not) e = refl
-apart (kind.Mark _) e = absurd cc
-apart kind.LeftOut e = refl
-
-no_type : (l : List Token) → begins_with begins_expr l ≡ true → begins_with begins_type l ≡ false
-no_type [] e = refl
-no_type (t ∷ l) e = apart t.kind e
-
 -- no expression begins as a type does
-pub expr_no_type : {k : ℕ} {ts : List Token} {x : Expr} → IsExpr k ts x → (rest : List Token) → begins_with begins_type (ts ++ rest) ≡ false
-expr_no_type {ts = ts} i rest = no_type (ts ++ rest) (expr_first i rest)
+pub expr_no_type : (k : TokenKind) → begins_expr k ≡ true → begins_type k ≡ false
+expr_no_type (kind.Word n) e = refl
+expr_no_type (kind.Number v) e = refl
+expr_no_type (kind.Text t) e = refl
+expr_no_type (kind.Mark mark.True) e = refl
+expr_no_type (kind.Mark mark.False) e = refl
+expr_no_type (kind.Mark mark.ProgramIndex) e = refl
+expr_no_type (kind.Mark mark.ProgramCount) e = refl
+expr_no_type (kind.Mark mark.ParenOpen) e = refl
+expr_no_type (kind.Mark mark.Minus) e = refl
+expr_no_type (kind.Mark mark.Inverse) e = refl
+expr_no_type (kind.Mark mark.Not) e = refl
+expr_no_type (kind.Mark _) e = absurd cc
+expr_no_type kind.LeftOut e = refl
 
-off_by : (m : Mark) (k : TokenKind) (b : Bool) → begins_expr (kind.Mark m) ≡ false → begins_expr k ≡ true → is_mark m k ≡ b → b ≡ false
-off_by m k false o e s = refl
-off_by m k true o e s = absurd (true≢false (sym e ∙ ap begins_expr (is_mark_is m k s) ∙ o))
-
-off_mark : (m : Mark) (l : List Token) → begins_expr (kind.Mark m) ≡ false → begins_with begins_expr l ≡ true → starts_with m l ≡ false
-off_mark m [] o e = refl
-off_mark m (t ∷ l) o e = off_by m t.kind (is_mark m t.kind) o e refl
+exprs_no_type : {k : ℕ} {ts : List Token} {x : Expr} → IsExpr k ts x → (rest : List Token) → begins_with begins_type (ts ++ rest) ≡ false
+exprs_no_type {ts = ts} i rest = begins_off begins_expr begins_type expr_no_type (ts ++ rest) (expr_first i rest)
 
 -- no expression begins with a mark that begins none
 pub exprs_off : (k : ℕ) (m : Mark) → begins_expr (kind.Mark m) ≡ false → StartsOff (Exprs k) m
-exprs_off k m o a x rest i = off_mark m (a ++ rest) o (expr_first i rest)
+exprs_off k m o a x rest i = starts_off m begins_expr o (a ++ rest) (expr_first i rest)
 
 -- ---- arguments
 
@@ -301,7 +290,7 @@ module _ (n : ℕ) (ih : (k : ℕ) → IsComplete (Exprs k) n) (target : IsCompl
       typed_first a x rest i = ap (begins_with begins_type) (front a i.0 i.1 rest i.2) ∙ type_starts i.3 (i.1 ++ rest)
 
       closed_first : (a : List Token) (x : Expr × Span) (rest : List Token) → Closed.is a x → begins_with begins_type (a ++ rest) ≡ false
-      closed_first a x rest i = ap (begins_with begins_type) (front a i.0 i.1 rest i.2) ∙ expr_no_type i.3 (i.1 ++ rest)
+      closed_first a x rest i = ap (begins_with begins_type) (front a i.0 i.1 rest i.2) ∙ exprs_no_type i.3 (i.1 ++ rest)
 
   -- ---- operands
 

@@ -10,15 +10,15 @@ use Rattle.isp_lex.specs.declared.token.TokenKind.{TokenKind}
 use Rattle.isp_lex.specs.declared.token.TokenKind.TheVariants as kind
 use Rattle.isp_lex.specs.declared.token.Token.{Token}
 use Rattle.isp_syntax.proofs.Basics.{token, err_is, ok_err, bind_err, chosen, starts_same, starts_cons, word_off}
-use Rattle.isp_syntax.proofs.Choices.{begins_same, either_refused, Limits, limit_refused}
+use Rattle.isp_syntax.proofs.Choices.{nowhere, nameless, begins_same, either_refused, Limits, limit_refused}
 use Rattle.isp_syntax.proofs.Forms.{IsSound, IsComplete, Can, One, one_sound, one_complete, Named, named_sound, named_complete, Free, Behind, is_behind, series_sound}
 use Rattle.isp_syntax.proofs.FormsComplete.{EndsByHead, one_by_head, named_by_head, read_again, series_complete}
 use Rattle.isp_syntax.proofs.Refused.{Completes, Refused, lift, refused_here, raise, FailsForm, IsRefused, one_refused, named_refused, both_refused, made_err, made_fails, made_refused, optional_refused, series_refused}
-use Rattle.isp_syntax.proofs.Exprs.{Exprs, started, with_kind, operator_is, Bracketed, Index, Placed, Target, placed_makes, place_reads, place_then, bracket_then, Argument, Referring, Passed, Arguments, Called, argument_reads, passed_makes, referring_then, called_then, some_word, Suffixes, NamedForm, name_then, named_reads, named_makes, Closed, Typed, Bracket, bracket_reads, bracket_makes, closed_then, cast_then, typed_then, zero_value, zero_tokens, number_at_level, zero_at, Parts, colon_then, parts_then, parts_read, choice_makes}
+use Rattle.isp_syntax.proofs.Exprs.{Exprs, started, with_kind, operator_is, Bracketed, Index, Placed, Target, placed_makes, place_reads, place_then, bracket_then, Argument, Referring, Passed, Arguments, Called, argument_reads, passed_makes, referring_then, called_then, Suffixes, NamedForm, name_then, named_reads, named_makes, Closed, Typed, Bracket, bracket_reads, bracket_makes, closed_then, cast_then, typed_then, zero_value, zero_tokens, number_at_level, zero_at, Parts, colon_then, parts_then, parts_read, choice_makes}
 use Rattle.isp_syntax.proofs.ExprsSound.{argument_sound, expr_sound, target_sound, wider}
 use Rattle.isp_syntax.proofs.ExprsComplete.{operator_same, ends_same, argument_same, sign_at, argument_comma, argument_off, argument_complete, expr_complete, target_complete}
 use Rattle.isp_syntax.proofs.ExprSteps.{depth_pos, at_level, at_choice, more_deep, more_step, more_fails, choice_deep, choice_fails_later, target_none, binary_off, expr_off}
-use Rattle.isp_syntax.proofs.TypesRead.{nowhere, Types, types_by_head, types_sound, types_complete, types_refused}
+use Rattle.isp_syntax.proofs.TypesRead.{Types, types_by_head, types_sound, types_complete, types_refused}
 use Rattle.isp_syntax.specs.Depth.{depth}
 use Rattle.isp_syntax.specs.Grammar.{is_variable, IsExpr, is_number, is_truth, is_program_index, is_program_count, is_place, is_brackets, is_prefix, is_tighter, is_binary}
 use Rattle.isp_syntax.specs.Reading.{Reader, ◌>>=◌, refusal, refuse, head, on_head, is_word}
@@ -415,7 +415,7 @@ unfolding target_at
 target_limits = record {
   limit = λ u. refl;
   off = λ m u e. target_off m u e;
-  some = (word some_word ∷ [], (name some_word, is_variable some_word));
+  some = (word nameless ∷ [], (name nameless, is_variable nameless));
   completes = λ c s e. ([], word_completes c s e);
 }
 

@@ -1,13 +1,11 @@
 -- Steps of reading functions and programs, for the code.
-use Rattle.std.proofs.Common.{◌≡◌, ℕ, zero, suc, ◌+◌, ◌≤◌, ◌<◌, Bool, true, false, List, [], ◌∷◌, ◌++◌, length, drop, Option, Some, None, Result, Ok, Err, refl, sym, ap, ◌∙◌, append_assoc, arith, eqb-true}
+use Rattle.std.proofs.Common.{◌≡◌, ℕ, zero, suc, ◌<◌, true, false, List, [], ◌∷◌, ◌++◌, length, drop, Option, Some, None, Result, Ok, Err, refl, sym, ap, ◌∙◌, append_assoc, arith, eqb-true}
 use Rattle.std.specs.Prelude.{◌==◌}
 use Rattle.std.proofs.lemmas.List.{append-nil}
-use Rattle.isp_lex.specs.Tokens.{starts_with}
 use Rattle.isp_lex.specs.declared.token.Token.{Token}
-use Rattle.isp_lex.specs.declared.token.Mark.TheVariants as mark
-use Rattle.isp_syntax.specs.Reading.{◌>>=◌, Fails, refusal, listed_at, list_at}
+use Rattle.isp_syntax.specs.Reading.{◌>>=◌, Fails}
 use Rattle.isp_syntax.specs.ReadingChoices.{signs_from, signs_at}
-use Rattle.isp_syntax.specs.ReadingPrograms.{linkage_of, linkage_at, linkages_at, only_void, function_at, functions_at, program_at}
+use Rattle.isp_syntax.specs.ReadingPrograms.{linkage_of, linkage_at, linkages_at, function_at, functions_at, program_at}
 use Rattle.isp_syntax.specs.Tree.{Function}
 use Rattle.isp_syntax.specs.declared.stop.Refusal.{Refusal}
 use Rattle.isp_syntax.specs.declared.stop.Stop.{Stop}

@@ -4,7 +4,6 @@ pub mod FormsComplete
 pub mod Refused
 pub mod Choices
 pub mod TypesRead
-pub mod Given
 pub mod Starts
 pub mod ListForms
 pub mod Declarations

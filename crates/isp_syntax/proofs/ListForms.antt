@@ -1,5 +1,5 @@
 -- Lists of forms: what may follow them, and how deep they are. And readers that give what others give, mapped.
-use Rattle.std.proofs.Common.{◌≡◌, ℕ, zero, suc, ◌-◌, ◌<◌, max, Bool, true, false, cond, List, [], ◌∷◌, ◌++◌, length, Option, Some, None, Result, Ok, Err, refl, sym, ap, subst, ◌∙◌, append_assoc, arith, inl, inr, ◌⊎◌}
+use Rattle.std.proofs.Common.{◌≡◌, ℕ, zero, suc, ◌-◌, ◌<◌, max, Bool, true, false, cond, List, [], ◌∷◌, ◌++◌, length, Some, Result, Ok, Err, refl, sym, ap, ◌∙◌, append_assoc, arith, inl, inr, ◌⊎◌}
 use Rattle.std.specs.Prelude.{option_map}
 use Rattle.isp_base.specs.declared.types.Span.{Span}
 use Rattle.isp_lex.specs.Tokens.{at, is_mark, starts_with}
@@ -16,7 +16,7 @@ use Rattle.isp_syntax.specs.Depth.{deepest_of}
 use Rattle.isp_syntax.specs.Grammar.{span_of_last}
 use Rattle.isp_syntax.specs.Tree.{Item, span_of_item}
 use Rattle.isp_syntax.specs.ReadingStmts.{refusal_at_limit}
-use Rattle.isp_syntax.specs.Reading.{Read, Reader, ◌>>=◌, both, at_limit, refusal, refuse}
+use Rattle.isp_syntax.specs.Reading.{Read, Reader, ◌>>=◌, both, at_limit, refusal}
 use Rattle.isp_syntax.specs.ReadingChoices.{begins_with, maybe_from, maybe_at, either_from, either_at, counted_at}
 use Rattle.isp_syntax.specs.declared.stop.Refusal.{Refusal}
 use Rattle.isp_syntax.specs.declared.stop.Why.TheVariants.{Unexpected, TooDeep}

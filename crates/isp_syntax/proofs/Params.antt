@@ -1,8 +1,7 @@
 -- Parameters, and the words before a function's type: what is read is what they are.
-use Rattle.std.proofs.Common.{◌≡◌, ℕ, zero, suc, ◌≤◌, max, Bool, true, false, List, [], ◌∷◌, ◌++◌, length, drop, Option, Some, None, Ok, Err, refl, sym, ap, subst, ◌∙◌, append_assoc, arith, inl, inr, ◌⊎◌}
+use Rattle.std.proofs.Common.{◌≡◌, ℕ, Bool, true, false, List, [], ◌∷◌, ◌++◌, drop, Option, Some, None, Ok, Err, refl, sym, ap, subst, ◌∙◌, append_assoc, arith, inl, inr}
 use Rattle.std.specs.Prelude.{◌&&◌}
 use Rattle.std.proofs.lemmas.Bool.{false≢true}
-use Rattle.isp_base.specs.Types.{span_to}
 use Rattle.isp_base.specs.declared.types.Span.{Span}
 use Rattle.isp_lex.specs.Tokens.{at, is_mark, starts_with}
 use Rattle.isp_lex.specs.declared.token.Mark.TheVariants as mark
@@ -10,26 +9,26 @@ use Rattle.isp_lex.specs.declared.token.TokenKind.{TokenKind}
 use Rattle.isp_lex.specs.declared.token.TokenKind.TheVariants as kind
 use Rattle.isp_lex.specs.declared.token.Token.{Token}
 use Rattle.isp_syntax.proofs.Basics.{token, ok_is, ok_err, chosen, starts_same, starts_is, starts_cons}
-use Rattle.isp_syntax.proofs.Choices.{nowhere, begins_same, Makes, makes_sound, makes_complete, makes_refused}
-use Rattle.isp_syntax.proofs.Declarations.{nameless, word_ends_type}
+use Rattle.isp_syntax.proofs.Choices.{nowhere, nameless, begins_same, Makes, makes_sound, makes_complete, makes_refused}
+use Rattle.isp_syntax.proofs.Declarations.{word_ends_type}
+use Rattle.isp_syntax.proofs.Exprs.{both_true}
 use Rattle.isp_syntax.proofs.Forms.{Form, Found, IsSound, IsComplete, Can, One, one_sound, one_complete, Named, named_sound, named_complete, Both, Free, Follows, follows, both_sound, both_complete, NameThen, named_then, name_then_is, is_name_then, Optional, optional_sound, AreListed, Series, series_sound}
-use Rattle.isp_syntax.proofs.FormsComplete.{EndsByHead, named_by_head, mark_starts, optional_complete, TakesComma, StartsOff, series_complete}
+use Rattle.isp_syntax.proofs.FormsComplete.{EndsByHead, named_by_head, optional_complete, TakesComma, StartsOff, series_complete}
 use Rattle.isp_syntax.proofs.ListForms.{listed_ends, series_by_head}
-use Rattle.isp_syntax.proofs.Refused.{Refused, Allowed, Completes, FailsForm, IsRefused, one_refused, named_refused, both_refused, optional_refused, series_refused}
-use Rattle.isp_syntax.proofs.Starts.{starts_off, type_start}
-use Rattle.isp_syntax.proofs.TypesRead.{Types, types_sound, types_complete, types_by_head, types_refused, type_starts}
-use Rattle.isp_syntax.specs.Grammar.{AreAll, IsQualifier, is_qualifier, IsType, is_based, is_signed, IsLinkage, is_linkage, IsParam, is_scalar, is_array, IsParams, is_none, is_void, is_some}
-use Rattle.isp_syntax.specs.Reading.{Reader, ◌>>=◌, refusal, head, is_word, optional, listed_at}
+use Rattle.isp_syntax.proofs.Refused.{Allowed, Completes, FailsForm, IsRefused, one_refused, named_refused, both_refused, optional_refused, series_refused}
+use Rattle.isp_syntax.proofs.Starts.{starts_off}
+use Rattle.isp_syntax.proofs.TypesRead.{one_qualifier, Types, types_sound, types_complete, types_by_head, types_refused, type_starts}
+use Rattle.isp_syntax.specs.Grammar.{AreAll, IsType, is_based, is_signed, IsLinkage, is_linkage, IsParam, is_scalar, is_array, IsParams, is_none, is_void, is_some}
+use Rattle.isp_syntax.specs.Reading.{refusal, head, is_word, listed_at}
 use Rattle.isp_syntax.specs.ReadingChoices.{begins_with, signs_from, signs_at}
 use Rattle.isp_syntax.specs.ReadingPrograms.{linkage_of, linkages_at, param_from, param_at, only_void, params_at}
 use Rattle.isp_syntax.specs.ReadingStmts.{stands}
-use Rattle.isp_syntax.specs.ReadingTypes.{begins_type, type_at}
+use Rattle.isp_syntax.specs.ReadingTypes.{begins_type}
 use Rattle.isp_syntax.specs.Signs.{word, qualifier_mark, base_mark, linkage_mark}
 use Rattle.isp_syntax.specs.Tree.{TypeTree, Param}
 use Rattle.isp_syntax.specs.declared.stop.Refusal.{Refusal}
 use Rattle.isp_syntax.specs.declared.stop.Why.{Why}
 use Rattle.isp_syntax.specs.declared.stop.Why.TheVariants.{Unexpected, TooDeep}
-use Rattle.isp_syntax.specs.declared.tree.Base.{Base}
 use Rattle.isp_syntax.specs.declared.tree.Base.TheVariants as base
 use Rattle.isp_syntax.specs.declared.tree.Qualifier.{Qualifier}
 use Rattle.isp_syntax.specs.declared.tree.Qualifier.TheVariants as qualifier
@@ -118,7 +117,7 @@ linkages_complete n used ls rest i le h = rw (signs_again used ls rest i h) refl
 pub linkages_by_head : EndsByHead Linkages
 linkages_by_head ls a b e h = sym (begins_same is_linkage_word a b e) ∙ h
 
-type_no_linkage : (k : TokenKind) → begins_type k ≡ true → is_linkage_word k ≡ false
+pub type_no_linkage : (k : TokenKind) → begins_type k ≡ true → is_linkage_word k ≡ false
 type_no_linkage (kind.Word n) e = refl
 type_no_linkage (kind.Number v) e = refl
 type_no_linkage (kind.Text t) e = refl
@@ -127,9 +126,6 @@ type_no_linkage (kind.Mark mark.Static) e = absurd cc
 type_no_linkage (kind.Mark mark.Inline) e = absurd cc
 type_no_linkage (kind.Mark _) e = refl
 type_no_linkage kind.LeftOut e = refl
-
-pub type_is_no_linkage : (k : TokenKind) → begins_type k ≡ true → is_linkage_word k ≡ false
-type_is_no_linkage k e = type_no_linkage k e
 
 -- ---- one parameter
 
@@ -247,11 +243,6 @@ and_off : (b c : Bool) → b ≡ false → b && c ≡ false
 and_off true c e = absurd (false≢true (sym e))
 and_off false c e = refl
 
-and_on : (b c : Bool) → b && c ≡ true → (b ≡ true) × (c ≡ true)
-and_on true true e = (refl, refl)
-and_on true false e = absurd (false≢true e)
-and_on false c e = absurd (false≢true e)
-
 qualifier_no_void : (q : Qualifier) → is_mark mark.Void (kind.Mark (qualifier_mark q)) ≡ false
 qualifier_no_void qualifier.Const = refl
 qualifier_no_void qualifier.Uniform = refl
@@ -259,19 +250,16 @@ qualifier_no_void qualifier.Varying = refl
 qualifier_no_void qualifier.Signed = refl
 qualifier_no_void qualifier.Unsigned = refl
 
-qualifier_is : {a : List Token} {q : Qualifier} → IsQualifier a q → (s : Span) × (a ≡ at (qualifier_mark q) s ∷ [])
-qualifier_is (is_qualifier q s) = (s, refl)
-
 -- a type that begins with `void` is that word alone
 type_not_alone : {ts : List Token} {t : TypeTree} → IsType ts t → (w : Word) (rest : List Token) → only_void (ts ++ word w ∷ rest) ≡ false
 type_not_alone (is_based b s ts [] i) w rest = rw i (and_false _)
 type_not_alone (is_based b s ts (q ∷ qs) i) w rest =
-    let j = qualifier_is i.3 in
+    let j = one_qualifier i.3 in
     let e : (ts ++ at (base_mark b) s ∷ []) ++ word w ∷ rest ≡ at (qualifier_mark q) j.0 ∷ ((i.1 ++ at (base_mark b) s ∷ []) ++ word w ∷ rest) = ap (λ (l : List Token). (l ++ at (base_mark b) s ∷ []) ++ word w ∷ rest) (i.2 ∙ ap (λ (l : List Token). l ++ i.1) j.1) in
     ap only_void e ∙ and_off _ _ (qualifier_no_void q)
 type_not_alone (is_signed ts [] i h) w rest = absurd (false≢true h)
 type_not_alone (is_signed ts (q ∷ qs) i h) w rest =
-    let j = qualifier_is i.3 in
+    let j = one_qualifier i.3 in
     let e : ts ++ word w ∷ rest ≡ at (qualifier_mark q) j.0 ∷ (i.1 ++ word w ∷ rest) = ap (λ (l : List Token). l ++ word w ∷ rest) (i.2 ∙ ap (λ (l : List Token). l ++ i.1) j.1) in
     ap only_void e ∙ and_off _ _ (qualifier_no_void q)
 
@@ -297,7 +285,7 @@ list_found n ts ps rest p = record { used = p.used; split = p.split; is = series
 
 void_found : (n : ℕ) (ts : List Token) → only_void ts ≡ true → Found Params n ts [] (drop 1 ts)
 void_found n ts e =
-    let b = and_on (starts_with mark.Void ts) (starts_with mark.ParenClose (drop 1 ts)) e in
+    let b = both_true (starts_with mark.Void ts) (starts_with mark.ParenClose (drop 1 ts)) e in
     let c = starts_cons mark.Void ts b.0 in
     record { used = at mark.Void c.0 ∷ []; split = c.1; is = is_void c.0; shallow = omega arith; ends = b.1 }
 

@@ -1,20 +1,19 @@
 -- Functions and programs: what is read is what they are.
-use Rattle.std.proofs.Common.{◌≡◌, ℕ, zero, suc, ◌≤◌, ◌<◌, max, Bool, true, false, List, [], ◌∷◌, ◌++◌, length, Option, Some, None, Result, Ok, Err, refl, sym, ap, subst, ◌∙◌, append_assoc, arith, length-append, inl, inr, ◌⊎◌}
+use Rattle.std.proofs.Common.{◌≡◌, ℕ, zero, suc, ◌≤◌, ◌<◌, Bool, true, List, [], ◌∷◌, ◌++◌, length, Option, Some, None, Result, Ok, Err, refl, sym, ap, subst, ◌∙◌, append_assoc, arith, length-append, inl, inr}
 use Rattle.std.proofs.lemmas.Bool.{false≢true}
 use Rattle.std.proofs.lemmas.List.{append-nil}
-use Rattle.isp_base.specs.Types.{span_to}
 use Rattle.isp_base.specs.declared.types.Span.{Span}
-use Rattle.isp_lex.specs.Tokens.{at, starts_with}
+use Rattle.isp_lex.specs.Tokens.{at}
 use Rattle.isp_lex.specs.declared.token.Mark.TheVariants as mark
 use Rattle.isp_lex.specs.declared.token.TokenKind.{TokenKind}
 use Rattle.isp_lex.specs.declared.token.Token.{Token}
 use Rattle.isp_syntax.proofs.Basics.{ok_is, err_ok, ok_err, bind_ok, bind_err}
-use Rattle.isp_syntax.proofs.Choices.{nowhere}
-use Rattle.isp_syntax.proofs.Declarations.{nameless, word_ends_type}
+use Rattle.isp_syntax.proofs.Choices.{nowhere, nameless}
+use Rattle.isp_syntax.proofs.Declarations.{word_ends_type}
 use Rattle.isp_syntax.proofs.Forms.{Form, Found, IsSound, IsComplete, Can, One, one_sound, one_complete, Named, named_sound, named_complete, Both, Free, Follows, follows, both_sound, both_complete, Behind, one_then, behind_is, is_behind, NameThen, named_then, name_then_is, is_name_then, Before, then_one, before_is, is_before}
-use Rattle.isp_syntax.proofs.FormsComplete.{EndsByHead, one_by_head, named_by_head, read_again}
+use Rattle.isp_syntax.proofs.FormsComplete.{one_by_head, named_by_head, read_again}
 use Rattle.isp_syntax.proofs.ListForms.{mapped, Maps, maps_id, mapped_twice, maps_both}
-use Rattle.isp_syntax.proofs.Params.{Linkages, linkages_sound, linkages_complete, linkages_by_head, linkages_refused, is_linkage_word, type_is_no_linkage, Params, params_sound, params_complete, params_by_head, params_close, params_refused}
+use Rattle.isp_syntax.proofs.Params.{Linkages, linkages_sound, linkages_complete, linkages_by_head, linkages_refused, is_linkage_word, type_no_linkage, Params, params_sound, params_complete, params_by_head, params_close, params_refused}
 use Rattle.isp_syntax.proofs.Refused.{Refused, FailsForm, IsRefused, lift, one_refused, named_refused, both_refused}
 use Rattle.isp_syntax.proofs.Starts.{begins_off}
 use Rattle.isp_syntax.proofs.Stmts.{Block, some_block}
@@ -23,14 +22,14 @@ use Rattle.isp_syntax.proofs.StmtsRefused.{block_refused, stmt_refused}
 use Rattle.isp_syntax.proofs.StmtsSound.{block_sound, stmt_sound}
 use Rattle.isp_syntax.proofs.TypesRead.{Types, types_sound, types_complete, types_by_head, types_refused, type_starts, int_type}
 use Rattle.isp_syntax.specs.Depth.{depth_of_stmt, depth_of_functions}
-use Rattle.isp_syntax.specs.Grammar.{AreAll, IsType, IsParams, is_none, IsFunction, is_function, IsProgram}
-use Rattle.isp_syntax.specs.Reading.{Read, Reader, ◌>>=◌, refusal, head, is_word}
+use Rattle.isp_syntax.specs.Grammar.{IsType, IsParams, is_none, IsFunction, is_function, IsProgram}
+use Rattle.isp_syntax.specs.Reading.{Read, ◌>>=◌, head, is_word}
 use Rattle.isp_syntax.specs.ReadingChoices.{begins_with}
 use Rattle.isp_syntax.specs.ReadingPrograms.{Signature, signature_at, function_from, function_at, functions_at, program_at}
 use Rattle.isp_syntax.specs.ReadingStmts.{block_at, stmt_at}
 use Rattle.isp_syntax.specs.ReadingTypes.{begins_type}
 use Rattle.isp_syntax.specs.Signs.{word, first_span}
-use Rattle.isp_syntax.specs.Tree.{TypeTree, Stmt, span_of_stmt, Param, Function}
+use Rattle.isp_syntax.specs.Tree.{TypeTree, Stmt, Param, Function}
 use Rattle.isp_syntax.specs.declared.stop.Refusal.{Refusal}
 use Rattle.isp_syntax.specs.declared.tree.Linkage.{Linkage}
 use Rattle.isp_syntax.specs.declared.tree.Word.{Word}
@@ -89,7 +88,7 @@ typed_starts b y rest i =
     ap (λ (l : List Token). begins_with begins_type l) e ∙ type_starts i.3 (i.1 ++ rest)
 
 heading_then : Follows Linkages Typed Free
-heading_then = follows Linkages Typed (λ x y b rest i h. begins_off begins_type is_linkage_word type_is_no_linkage (b ++ rest) (typed_starts b y rest i)) some_typed.0 some_typed.1
+heading_then = follows Linkages Typed (λ x y b rest i h. begins_off begins_type is_linkage_word type_no_linkage (b ++ rest) (typed_starts b y rest i)) some_typed.0 some_typed.1
 
 heading_sound : (n : ℕ) → IsSound Heading n
 heading_sound n =

@@ -1,27 +1,24 @@
 -- Ranges, and the values of a `print`: what is read is what they are.
-use Rattle.std.proofs.Common.{◌≡◌, ℕ, zero, suc, ◌≤◌, max, Bool, true, false, List, [], ◌∷◌, ◌++◌, length, Option, Some, None, Ok, Err, refl, sym, ap, subst, ◌∙◌, append_assoc, arith}
-use Rattle.isp_base.specs.Types.{span_to}
+use Rattle.std.proofs.Common.{◌≡◌, ℕ, ◌≤◌, Bool, true, false, List, [], ◌∷◌, ◌++◌, length, Option, Some, None, refl, sym, ap, subst, ◌∙◌, arith}
 use Rattle.isp_base.specs.declared.types.Span.{Span}
 use Rattle.isp_lex.specs.Tokens.{at, is_mark, starts_with}
-use Rattle.isp_lex.specs.declared.token.Mark.{Mark}
 use Rattle.isp_lex.specs.declared.token.Mark.TheVariants as mark
 use Rattle.isp_lex.specs.declared.token.TokenKind.{TokenKind}
 use Rattle.isp_lex.specs.declared.token.TokenKind.TheVariants as kind
 use Rattle.isp_lex.specs.declared.token.Token.{Token}
-use Rattle.isp_syntax.proofs.Basics.{token, starts_is, starts_same}
-use Rattle.isp_syntax.proofs.Choices.{nowhere, begins_same, Sign, Signs, sign_sound, sign_complete, sign_refused, Tail, Joins, tail_sound, tail_complete, tail_by_head, tail_refused, Makes, makes_sound, makes_complete, makes_refused, then_behind}
-use Rattle.isp_syntax.proofs.Declarations.{nameless, some_expr}
-use Rattle.isp_syntax.proofs.Forms.{Form, IsSound, IsComplete, Can, One, one_sound, one_complete, Named, named_sound, named_complete, Both, Free, Follows, follows, both_sound, both_complete, Behind, one_then, behind_is, is_behind, NameThen, named_then, name_then_is, is_name_then, Until, until_sound}
+use Rattle.isp_syntax.proofs.Basics.{starts_is, starts_same}
+use Rattle.isp_syntax.proofs.Choices.{nowhere, nameless, begins_same, Sign, Signs, sign_sound, sign_complete, sign_refused, Tail, Joins, tail_sound, tail_complete, tail_refused, Makes, makes_sound, makes_complete, makes_refused, then_behind}
+use Rattle.isp_syntax.proofs.Declarations.{some_expr}
+use Rattle.isp_syntax.proofs.ExprLaws.{exprs_sound, exprs_complete, exprs_by_head, exprs_refused}
+use Rattle.isp_syntax.proofs.Exprs.{Exprs, closes_ends}
+use Rattle.isp_syntax.proofs.Forms.{Form, IsSound, IsComplete, Can, One, one_sound, one_complete, Named, named_sound, named_complete, Both, Free, Follows, both_sound, both_complete, Behind, one_then, behind_is, is_behind, NameThen, named_then, name_then_is, is_name_then, Until, until_sound}
 use Rattle.isp_syntax.proofs.FormsComplete.{EndsByHead, one_by_head, named_by_head, Stands, until_complete}
-use Rattle.isp_syntax.proofs.Given.{Exprs, exprs_sound, exprs_complete, exprs_by_head, exprs_refused, exprs_end}
 use Rattle.isp_syntax.proofs.Refused.{IsRefused, one_refused, named_refused, both_refused, until_refused}
-use Rattle.isp_syntax.proofs.Wrapped.{After, after_sound, after_complete, after_refused, some_after, Bracketed, bracketed_sound, bracketed_complete, bracketed_refused, some_bracketed}
+use Rattle.isp_syntax.proofs.Wrapped.{After, after_sound, after_complete, after_refused, Bracketed, bracketed_sound, bracketed_complete, bracketed_refused, some_bracketed}
 use Rattle.isp_syntax.specs.Depth.{depth_of_range, deepest_of}
-use Rattle.isp_syntax.specs.Grammar.{AreListed, IsExpr, IsRange, is_range}
-use Rattle.isp_syntax.specs.Reading.{Reader, ◌>>=◌, mark_at, both, head}
+use Rattle.isp_syntax.specs.Grammar.{AreListed, IsRange, is_range}
 use Rattle.isp_syntax.specs.ReadingChoices.{begins_with}
-use Rattle.isp_syntax.specs.ReadingExprs.{expr_at}
-use Rattle.isp_syntax.specs.ReadingStmts.{range_from, range_at, last_range, more_ranges, last_range_at, more_ranges_at, ranges_at, text_of, next_value_at, values_at}
+use Rattle.isp_syntax.specs.ReadingStmts.{range_from, range_at, more_ranges, last_range_at, more_ranges_at, ranges_at, text_of}
 use Rattle.isp_syntax.specs.Signs.{word, loosest}
 use Rattle.isp_syntax.specs.Tree.{Expr, Range}
 use Rattle.isp_syntax.specs.declared.tree.Word.{Word}
@@ -59,7 +56,7 @@ end_behind : Follows (One mark.Ellipsis) (Exprs loosest) Free
 end_behind = one_then mark.Ellipsis (Exprs loosest) (some_expr loosest).0 (some_expr loosest).1
 
 bounds_then : Follows (Exprs loosest) RangeEnd Free
-bounds_then = then_behind (Exprs loosest) mark.Ellipsis (Exprs loosest) (λ x s rest. exprs_end loosest mark.Ellipsis refl x s rest) (some_expr loosest).0 (some_expr loosest).1
+bounds_then = then_behind (Exprs loosest) mark.Ellipsis (Exprs loosest) (λ x s rest. closes_ends loosest mark.Ellipsis refl x s rest) (some_expr loosest).0 (some_expr loosest).1
 
 tail_behind : Follows (One mark.Assign) RangeBounds Free
 tail_behind = one_then mark.Assign RangeBounds some_bounds.0 some_bounds.1
@@ -167,7 +164,7 @@ comma_begins F d y rest i = let j = behind_is mark.Comma F d y i in subst (λ (l
 comma_follows : {A : Type 0} (F : Form A) (x : Range) (d : List Token) (y : Span × A) (rest : List Token) → (Behind mark.Comma F).is d y → OneRange.ends x (d ++ rest)
 comma_follows F x d y rest i =
     let j = behind_is mark.Comma F d y i in
-    subst (λ (l : List Token). OneRange.ends x (l ++ rest)) (sym j.1) (exprs_end loosest mark.Comma refl x.end y.0 (j.0 ++ rest))
+    subst (λ (l : List Token). OneRange.ends x (l ++ rest)) (sym j.1) (closes_ends loosest mark.Comma refl x.end y.0 (j.0 ++ rest))
 
 last_joins : Joins OneRange is_comma NextRange
 last_joins = record { begins = λ d y rest i. comma_begins OneRange d y rest i; ends = λ x d y rest i. comma_follows OneRange x d y rest i }
@@ -269,7 +266,7 @@ ranges_by_head (r ∷ s ∷ []) a b e h = (range_by_head s a b e h.0, sym (begin
 ranges_by_head (r ∷ s ∷ t ∷ more) a b e h = range_by_head t a b e h
 
 range_close : (r : Range) (s : Span) (rest : List Token) → OneRange.ends r (at mark.ParenClose s ∷ rest)
-range_close r s rest = exprs_end loosest mark.ParenClose refl r.end s rest
+range_close r s rest = closes_ends loosest mark.ParenClose refl r.end s rest
 
 ranges_close : (rs : List Range) (s : Span) (rest : List Token) → EndsRanges rs (at mark.ParenClose s ∷ rest)
 ranges_close [] s rest = tt
@@ -360,8 +357,8 @@ Values = Until NextValue mark.ParenClose
 value_stands : Stands NextValue mark.ParenClose
 value_stands = record {
   first = λ a x rest i. subst (λ (l : List Token). starts_with mark.ParenClose (l ++ rest) ≡ false) (sym i.2) refl;
-  next = λ x y b rest i. subst (λ (l : List Token). (Exprs loosest).ends x (l ++ rest)) (sym i.2) (exprs_end loosest mark.Comma refl x i.0 (i.1 ++ rest));
-  last = λ x rest h. let c = starts_is mark.ParenClose rest h in subst (λ (l : List Token). (Exprs loosest).ends x l) (sym c.2) (exprs_end loosest mark.ParenClose refl x c.0 c.1);
+  next = λ x y b rest i. subst (λ (l : List Token). (Exprs loosest).ends x (l ++ rest)) (sym i.2) (closes_ends loosest mark.Comma refl x i.0 (i.1 ++ rest));
+  last = λ x rest h. let c = starts_is mark.ParenClose rest h in subst (λ (l : List Token). (Exprs loosest).ends x l) (sym c.2) (closes_ends loosest mark.ParenClose refl x c.0 c.1);
 }
 
 pub values_sound : (n : ℕ) → IsSound Values n

@@ -1,31 +1,30 @@
 -- Expressions, assignments and steps by one, as they stand before a semicolon: what is read is what they are.
-use Rattle.std.proofs.Common.{◌≡◌, ℕ, zero, suc, ◌≤◌, max, Bool, true, false, List, [], ◌∷◌, ◌++◌, Option, Some, None, Ok, Err, refl, sym, ap, subst, ◌∙◌, append_assoc, arith, inl, inr, ◌⊎◌}
-use Rattle.std.proofs.lemmas.List.{append-nil}
-use Rattle.std.proofs.lemmas.Bool.{false≢true}
-use Rattle.isp_base.specs.Types.{span_to}
+use Rattle.std.proofs.Common.{◌≡◌, ℕ, zero, true, false, List, [], ◌∷◌, ◌++◌, Option, Some, None, Ok, refl, sym, ap, subst, ◌∙◌, append_assoc, arith, inl, inr, ◌⊎◌}
+use Rattle.std.proofs.lemmas.Bool.{false≢true, false_from_ne_true}
 use Rattle.isp_base.specs.declared.types.Span.{Span}
-use Rattle.isp_lex.specs.Tokens.{at, is_mark, starts_with}
+use Rattle.isp_lex.specs.Tokens.{at}
 use Rattle.isp_lex.specs.declared.token.Mark.{Mark}
 use Rattle.isp_lex.specs.declared.token.Mark.TheVariants as mark
 use Rattle.isp_lex.specs.declared.token.TokenKind.{TokenKind}
 use Rattle.isp_lex.specs.declared.token.TokenKind.TheVariants as kind
 use Rattle.isp_lex.specs.declared.token.Token.{Token}
-use Rattle.isp_syntax.proofs.Basics.{token}
-use Rattle.isp_syntax.proofs.Choices.{nowhere, begins_same, Sign, Signs, sign_sound, sign_complete, sign_refused, Tail, Joins, tail_sound, tail_complete, tail_by_head, tail_refused, Either, Parts, either_sound, either_complete, either_by_head, either_refused}
+use Rattle.isp_syntax.proofs.Choices.{Sign, Signs, sign_sound, sign_complete, sign_refused, Tail, Joins, tail_sound, tail_complete, tail_by_head, tail_refused, Either, Parts, either_sound, either_complete, either_by_head, either_refused}
 use Rattle.isp_syntax.proofs.Declarations.{some_expr}
-use Rattle.isp_syntax.proofs.Forms.{Form, IsSound, IsComplete, Can, Both, Free, Follows, follows, both_sound, both_complete}
+use Rattle.isp_syntax.proofs.ExprLaws.{exprs_sound, exprs_complete, exprs_by_head, exprs_refused}
+use Rattle.isp_syntax.proofs.Exprs.{Exprs, closes_ends}
+use Rattle.isp_syntax.proofs.ExprsComplete.{expr_first}
+use Rattle.isp_syntax.proofs.Forms.{Form, IsSound, IsComplete, Both, Free, Follows, follows, both_sound, both_complete}
 use Rattle.isp_syntax.proofs.FormsComplete.{EndsByHead}
-use Rattle.isp_syntax.proofs.Given.{begins_expr, Exprs, exprs_sound, exprs_complete, exprs_by_head, exprs_refused, exprs_end, expr_starts}
 use Rattle.isp_syntax.proofs.Refused.{IsRefused, both_refused}
-use Rattle.isp_syntax.proofs.Starts.{begins_off, change_found, change_again, assignment_found, assignment_again, bool_off}
+use Rattle.isp_syntax.proofs.Starts.{begins_off, change_found, change_again, assignment_found, assignment_again}
 use Rattle.isp_syntax.specs.Depth.{depth_of_simple}
 use Rattle.isp_syntax.specs.Grammar.{IsExpr, IsSimple, is_value, is_assign, is_change_after, is_change_before}
-use Rattle.isp_syntax.specs.Reading.{Reader, ◌>>=◌, head}
-use Rattle.isp_syntax.specs.ReadingChoices.{begins_with, either_at}
-use Rattle.isp_syntax.specs.ReadingExprs.{expr_at}
+use Rattle.isp_syntax.specs.Reading.{◌>>=◌}
+use Rattle.isp_syntax.specs.ReadingChoices.{begins_with}
+use Rattle.isp_syntax.specs.ReadingExprs.{begins_expr}
 use Rattle.isp_syntax.specs.ReadingStmts.{stands, assignment_of, change_of, is_assignment, is_change, is_ending, Ending, ending_at, ended_from, simple_from, simple_at}
 use Rattle.isp_syntax.specs.Signs.{loosest, assignment_mark, change_mark}
-use Rattle.isp_syntax.specs.Tree.{Expr, span_of, Simple, value, assign, change}
+use Rattle.isp_syntax.specs.Tree.{Expr, Simple}
 use Rattle.isp_syntax.specs.declared.tree.Assignment.{Assignment}
 use Rattle.isp_syntax.specs.declared.tree.Assignment.TheVariants as assignment
 use Rattle.isp_syntax.specs.declared.tree.Change.{Change}
@@ -68,7 +67,7 @@ change_no_assignment Increment = refl
 change_no_assignment Decrement = refl
 
 pub expr_no_change : (k : TokenKind) → begins_expr k ≡ true → is_change k ≡ false
-expr_no_change k e = bool_off (is_change k) (λ c. let p = change_is k c in false≢true (sym (change_no_expr p.0) ∙ ap begins_expr (sym p.1) ∙ e))
+expr_no_change k e = false_from_ne_true (is_change k) (λ c. let p = change_is k c in false≢true (sym (change_no_expr p.0) ∙ ap begins_expr (sym p.1) ∙ e))
 
 change_begins : (c : Change) → is_change (change_kind c) ≡ true
 change_begins Increment = refl
@@ -85,21 +84,21 @@ assignment_ends : (c : Assignment) → is_ending (assignment_kind c) ≡ true
 assignment_ends c = rw (assignment_again c) refl
 
 change_may_follow : (k : ℕ) (x : Expr) (c : Change) (s : Span) (rest : List Token) → (Exprs k).ends x (at (change_mark c) s ∷ rest)
-change_may_follow k x Increment s rest = exprs_end k mark.Increment refl x s rest
-change_may_follow k x Decrement s rest = exprs_end k mark.Decrement refl x s rest
+change_may_follow k x Increment s rest = closes_ends k mark.Increment refl x s rest
+change_may_follow k x Decrement s rest = closes_ends k mark.Decrement refl x s rest
 
 assignment_may_follow : (k : ℕ) (x : Expr) (c : Assignment) (s : Span) (rest : List Token) → (Exprs k).ends x (at (assignment_mark c) s ∷ rest)
-assignment_may_follow k x assignment.Replace s rest = exprs_end k mark.Assign refl x s rest
-assignment_may_follow k x assignment.Add s rest = exprs_end k mark.PlusAssign refl x s rest
-assignment_may_follow k x assignment.Subtract s rest = exprs_end k mark.MinusAssign refl x s rest
-assignment_may_follow k x assignment.Multiply s rest = exprs_end k mark.StarAssign refl x s rest
-assignment_may_follow k x assignment.Divide s rest = exprs_end k mark.SlashAssign refl x s rest
-assignment_may_follow k x assignment.Remainder s rest = exprs_end k mark.PercentAssign refl x s rest
-assignment_may_follow k x assignment.And s rest = exprs_end k mark.AndAssign refl x s rest
-assignment_may_follow k x assignment.Or s rest = exprs_end k mark.OrAssign refl x s rest
-assignment_may_follow k x assignment.Xor s rest = exprs_end k mark.XorAssign refl x s rest
-assignment_may_follow k x assignment.ShiftLeft s rest = exprs_end k mark.ShiftLeftAssign refl x s rest
-assignment_may_follow k x assignment.ShiftRight s rest = exprs_end k mark.ShiftRightAssign refl x s rest
+assignment_may_follow k x assignment.Replace s rest = closes_ends k mark.Assign refl x s rest
+assignment_may_follow k x assignment.Add s rest = closes_ends k mark.PlusAssign refl x s rest
+assignment_may_follow k x assignment.Subtract s rest = closes_ends k mark.MinusAssign refl x s rest
+assignment_may_follow k x assignment.Multiply s rest = closes_ends k mark.StarAssign refl x s rest
+assignment_may_follow k x assignment.Divide s rest = closes_ends k mark.SlashAssign refl x s rest
+assignment_may_follow k x assignment.Remainder s rest = closes_ends k mark.PercentAssign refl x s rest
+assignment_may_follow k x assignment.And s rest = closes_ends k mark.AndAssign refl x s rest
+assignment_may_follow k x assignment.Or s rest = closes_ends k mark.OrAssign refl x s rest
+assignment_may_follow k x assignment.Xor s rest = closes_ends k mark.XorAssign refl x s rest
+assignment_may_follow k x assignment.ShiftLeft s rest = closes_ends k mark.ShiftLeftAssign refl x s rest
+assignment_may_follow k x assignment.ShiftRight s rest = closes_ends k mark.ShiftRightAssign refl x s rest
 
 -- ---- an assignment's sign and value, or a step by one
 
@@ -176,10 +175,10 @@ ending_joins = record { begins = λ d y rest i. begun d y rest i; ends = λ x d 
     follow x d (inr y) rest i = subst (λ (l : List Token). (Exprs loosest).ends x (l ++ rest)) (sym i) (change_may_follow loosest x y.0 y.1 rest)
 
 ended_starts : (a : List Token) (y : Expr × Option Ending) (rest : List Token) → Ended.is a y → begins_with begins_expr (a ++ rest) ≡ true
-ended_starts a (x, None) rest i = expr_starts i rest
+ended_starts a (x, None) rest i = expr_first i rest
 ended_starts a (x, Some y) rest i =
     let e : a ++ rest ≡ i.0 ++ (i.1 ++ rest) = ap (λ (l : List Token). l ++ rest) i.2 ∙ append_assoc i.0 i.1 rest in
-    ap (λ (l : List Token). begins_with begins_expr l) e ∙ expr_starts i.3 (i.1 ++ rest)
+    ap (λ (l : List Token). begins_with begins_expr l) e ∙ expr_first i.3 (i.1 ++ rest)
 
 simple_parts : Parts is_change Changed Ended
 simple_parts = record {

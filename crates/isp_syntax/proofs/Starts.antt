@@ -1,5 +1,5 @@
 -- What the first token decides.
-use Rattle.std.proofs.Common.{◌≡◌, ℕ, Bool, true, false, List, [], ◌∷◌, ◌++◌, Option, Some, None, Ok, Err, refl, sym, ap, subst, ◌∙◌, inl, inr, ◌⊎◌}
+use Rattle.std.proofs.Common.{◌≡◌, Bool, true, false, List, [], ◌∷◌, Some, refl, sym, ap, ◌∙◌, inl, inr, ◌⊎◌}
 use Rattle.std.proofs.lemmas.Bool.{false≢true}
 use Rattle.isp_base.specs.declared.types.Span.{Span}
 use Rattle.isp_lex.specs.Tokens.{at, is_mark, starts_with}
@@ -8,16 +8,15 @@ use Rattle.isp_lex.specs.declared.token.Mark.TheVariants as mark
 use Rattle.isp_lex.specs.declared.token.TokenKind.{TokenKind}
 use Rattle.isp_lex.specs.declared.token.TokenKind.TheVariants as kind
 use Rattle.isp_lex.specs.declared.token.Token.{Token}
-use Rattle.isp_syntax.proofs.Basics.{token, is_mark_is, starts_by_head}
+use Rattle.isp_syntax.proofs.Basics.{some_is, token, is_mark_is, starts_by_head}
 use Rattle.isp_syntax.proofs.Choices.{nowhere}
 use Rattle.isp_syntax.proofs.Forms.{Can}
-use Rattle.isp_syntax.proofs.Given.{begins_expr}
 use Rattle.isp_syntax.proofs.TypesRead.{Types}
-use Rattle.isp_syntax.specs.Grammar.{IsType, is_based, is_qualifier}
-use Rattle.isp_syntax.specs.Reading.{head, on_head}
+use Rattle.isp_syntax.specs.Grammar.{is_based, is_qualifier}
 use Rattle.isp_syntax.specs.ReadingChoices.{begins_with}
+use Rattle.isp_syntax.specs.ReadingExprs.{begins_expr}
 use Rattle.isp_syntax.specs.ReadingStarts.{start_of}
-use Rattle.isp_syntax.specs.ReadingStmts.{assignment_of, change_of, is_assignment, is_change}
+use Rattle.isp_syntax.specs.ReadingStmts.{assignment_of, change_of, is_change}
 use Rattle.isp_syntax.specs.ReadingTypes.{begins_type}
 use Rattle.isp_syntax.specs.Signs.{qualifier_mark, base_mark, if_mark, while_mark, do_mark, for_mark, foreach_mark, jump_mark, assignment_mark, change_mark}
 use Rattle.isp_syntax.specs.declared.start.Start.{Start}
@@ -52,13 +51,6 @@ off_mark m f off k on = mark_off_by m f k (is_mark m k) refl off on
 
 pub starts_off : (m : Mark) (f : TokenKind → Bool) → f (kind.Mark m) ≡ false → (u : List Token) → begins_with f u ≡ true → starts_with m u ≡ false
 starts_off m f off u e = starts_by_head m u ∙ begins_off f (is_mark m) (λ k on. off_mark m f off k on) u e
-
-not_true_is : (b : Bool) → (b ≡ true → ⊥) → b ≡ false
-not_true_is true f = absurd (f refl)
-not_true_is false f = refl
-
-pub bool_off : (b : Bool) → (b ≡ true → ⊥) → b ≡ false
-bool_off b f = not_true_is b f
 
 -- ---- how statements begin
 
@@ -189,24 +181,21 @@ pub change_again : (c : Change) → change_of (kind.Mark (change_mark c)) ≡ So
 change_again Increment = refl
 change_again Decrement = refl
 
-some_same : {A : Type 0} {x y : A} → ◌≡◌ {A = Option A} (Some x) (Some y) → x ≡ y
-some_same e = cc
-
 pub assignment_found : (k : TokenKind) (c : Assignment) → assignment_of k ≡ Some c → k ≡ kind.Mark (assignment_mark c)
 assignment_found (kind.Word n) c e = absurd cc
 assignment_found (kind.Number v) c e = absurd cc
 assignment_found (kind.Text t) c e = absurd cc
-assignment_found (kind.Mark mark.Assign) c e = ap (λ (a : Assignment). kind.Mark (assignment_mark a)) (some_same e)
-assignment_found (kind.Mark mark.PlusAssign) c e = ap (λ (a : Assignment). kind.Mark (assignment_mark a)) (some_same e)
-assignment_found (kind.Mark mark.MinusAssign) c e = ap (λ (a : Assignment). kind.Mark (assignment_mark a)) (some_same e)
-assignment_found (kind.Mark mark.StarAssign) c e = ap (λ (a : Assignment). kind.Mark (assignment_mark a)) (some_same e)
-assignment_found (kind.Mark mark.SlashAssign) c e = ap (λ (a : Assignment). kind.Mark (assignment_mark a)) (some_same e)
-assignment_found (kind.Mark mark.PercentAssign) c e = ap (λ (a : Assignment). kind.Mark (assignment_mark a)) (some_same e)
-assignment_found (kind.Mark mark.AndAssign) c e = ap (λ (a : Assignment). kind.Mark (assignment_mark a)) (some_same e)
-assignment_found (kind.Mark mark.OrAssign) c e = ap (λ (a : Assignment). kind.Mark (assignment_mark a)) (some_same e)
-assignment_found (kind.Mark mark.XorAssign) c e = ap (λ (a : Assignment). kind.Mark (assignment_mark a)) (some_same e)
-assignment_found (kind.Mark mark.ShiftLeftAssign) c e = ap (λ (a : Assignment). kind.Mark (assignment_mark a)) (some_same e)
-assignment_found (kind.Mark mark.ShiftRightAssign) c e = ap (λ (a : Assignment). kind.Mark (assignment_mark a)) (some_same e)
+assignment_found (kind.Mark mark.Assign) c e = ap (λ (a : Assignment). kind.Mark (assignment_mark a)) (some_is e)
+assignment_found (kind.Mark mark.PlusAssign) c e = ap (λ (a : Assignment). kind.Mark (assignment_mark a)) (some_is e)
+assignment_found (kind.Mark mark.MinusAssign) c e = ap (λ (a : Assignment). kind.Mark (assignment_mark a)) (some_is e)
+assignment_found (kind.Mark mark.StarAssign) c e = ap (λ (a : Assignment). kind.Mark (assignment_mark a)) (some_is e)
+assignment_found (kind.Mark mark.SlashAssign) c e = ap (λ (a : Assignment). kind.Mark (assignment_mark a)) (some_is e)
+assignment_found (kind.Mark mark.PercentAssign) c e = ap (λ (a : Assignment). kind.Mark (assignment_mark a)) (some_is e)
+assignment_found (kind.Mark mark.AndAssign) c e = ap (λ (a : Assignment). kind.Mark (assignment_mark a)) (some_is e)
+assignment_found (kind.Mark mark.OrAssign) c e = ap (λ (a : Assignment). kind.Mark (assignment_mark a)) (some_is e)
+assignment_found (kind.Mark mark.XorAssign) c e = ap (λ (a : Assignment). kind.Mark (assignment_mark a)) (some_is e)
+assignment_found (kind.Mark mark.ShiftLeftAssign) c e = ap (λ (a : Assignment). kind.Mark (assignment_mark a)) (some_is e)
+assignment_found (kind.Mark mark.ShiftRightAssign) c e = ap (λ (a : Assignment). kind.Mark (assignment_mark a)) (some_is e)
 assignment_found (kind.Mark _) c e = absurd cc
 assignment_found kind.LeftOut c e = absurd cc
 

@@ -1,48 +1,49 @@
 -- Parts of statements: what is read is what they are.
-use Rattle.std.proofs.Common.{◌≡◌, ℕ, zero, suc, ◌≤◌, max, Bool, true, false, List, [], ◌∷◌, ◌++◌, length, Option, Some, None, Ok, Err, refl, sym, ap, subst, ◌∙◌, append_assoc, arith, inl, inr, ◌⊎◌}
+use Rattle.std.proofs.Common.{◌≡◌, ℕ, zero, suc, Bool, true, false, List, [], ◌∷◌, ◌++◌, Option, Some, None, refl, sym, ap, subst, ◌∙◌, append_assoc, inl, inr, ◌⊎◌}
 use Rattle.std.specs.Prelude.{option_map}
-use Rattle.std.proofs.lemmas.Bool.{false≢true}
-use Rattle.isp_base.specs.Types.{span_to}
+use Rattle.std.proofs.lemmas.Bool.{false≢true, false_from_ne_true}
 use Rattle.isp_base.specs.declared.types.Span.{Span}
-use Rattle.isp_lex.specs.Tokens.{at, is_mark, starts_with}
+use Rattle.isp_lex.specs.Tokens.{at}
 use Rattle.isp_lex.specs.declared.token.Mark.{Mark}
 use Rattle.isp_lex.specs.declared.token.Mark.TheVariants as mark
 use Rattle.isp_lex.specs.declared.token.TokenKind.{TokenKind}
 use Rattle.isp_lex.specs.declared.token.TokenKind.TheVariants as kind
 use Rattle.isp_lex.specs.declared.token.Token.{Token}
-use Rattle.isp_syntax.proofs.Basics.{token, starts_is, starts_same}
-use Rattle.isp_syntax.proofs.Choices.{nowhere, begins_same, Sign, Signs, sign_sound, sign_complete, sign_refused, Maybe, maybe_sound, maybe_complete, maybe_by_head, maybe_refused, Tail, Joins, tail_sound, tail_complete, tail_by_head, tail_refused, Either, Parts, either_sound, either_complete, either_by_head, either_refused, Counted, Counts, counted_sound, counted_complete, counted_refused, Makes, makes_sound, makes_complete, makes_refused, then_behind}
-use Rattle.isp_syntax.proofs.Declarations.{nameless, some_expr, Declaring, declaration_sound, declaration_complete, declaration_refused, declaration_by_head, declaration_end}
-use Rattle.isp_syntax.proofs.Forms.{Form, IsSound, IsComplete, Can, One, one_sound, one_complete, Named, named_sound, named_complete, Both, Free, Follows, follows, both_sound, both_complete, Behind, one_then, behind_is, is_behind, Before, then_one, before_is, is_before, NameThen, named_then, name_then_is, is_name_then, Until, until_sound}
-use Rattle.isp_syntax.proofs.FormsComplete.{EndsByHead, one_by_head, named_by_head, mark_starts, StartsOff, Stands, until_complete}
-use Rattle.isp_syntax.proofs.Given.{begins_expr, Exprs, exprs_sound, exprs_complete, exprs_by_head, exprs_refused, exprs_end, expr_starts, expr_off, expr_completes}
+use Rattle.isp_syntax.proofs.Basics.{token}
+use Rattle.isp_syntax.proofs.Choices.{nowhere, nameless, Maybe, maybe_sound, maybe_complete, maybe_by_head, maybe_refused, Either, Parts, either_sound, either_complete, either_by_head, either_refused, Counted, Counts, counted_sound, counted_complete, counted_refused, then_behind}
+use Rattle.isp_syntax.proofs.Declarations.{some_expr, Declaring, declaration_sound, declaration_complete, declaration_refused, declaration_by_head, declaration_end}
+use Rattle.isp_syntax.proofs.ExprLaws.{exprs_sound, exprs_complete, exprs_by_head, exprs_refused, expr_completes}
+use Rattle.isp_syntax.proofs.ExprSteps.{expr_off}
+use Rattle.isp_syntax.proofs.Exprs.{Exprs, closes_ends}
+use Rattle.isp_syntax.proofs.ExprsComplete.{expr_no_type, exprs_off}
+use Rattle.isp_syntax.proofs.Forms.{Form, IsSound, IsComplete, Can, One, one_sound, one_complete, Both, Free, Follows, both_sound, both_complete, Behind, one_then, is_behind, Before, then_one}
+use Rattle.isp_syntax.proofs.FormsComplete.{EndsByHead, one_by_head, StartsOff}
 use Rattle.isp_syntax.proofs.ListForms.{mapped, Maps, maps_id, mapped_twice, maps_both, maps_maybe, maps_counted, either_map, maps_either}
-use Rattle.isp_syntax.proofs.Refused.{IsRefused, one_refused, named_refused, both_refused, until_refused}
+use Rattle.isp_syntax.proofs.Refused.{IsRefused, one_refused, both_refused}
 use Rattle.isp_syntax.proofs.Simples.{change_kind, change_is, SimpleTree, SimpleParts, simple_sound, simple_complete, simple_refused, simple_by_head, simple_reads, simple_makes, simple_unmakes, simple_deep, simple_end, simple_starts}
-use Rattle.isp_syntax.proofs.Starts.{begins_off, begins_on, starts_off, bool_off, Fits, start_fits, expr_start, type_start, type_completes}
+use Rattle.isp_syntax.proofs.Starts.{begins_off, begins_on, starts_off, Fits, start_fits, expr_start, type_start, type_completes}
 use Rattle.isp_syntax.proofs.TypesRead.{type_starts}
-use Rattle.isp_syntax.proofs.Wrapped.{After, after_sound, after_complete, after_refused, some_after, Bracketed, bracketed_sound, bracketed_complete, bracketed_refused, some_bracketed}
-use Rattle.isp_syntax.specs.Depth.{depth_of_declaration, depth_of_first, depth_of_range, deepest_of}
-use Rattle.isp_syntax.specs.Grammar.{AreListed, IsExpr, IsDeclaration, is_declaration, is_plain, IsFirst, is_first_declare, is_first_simple, IsRange, is_range}
-use Rattle.isp_syntax.specs.Reading.{Reader, ◌>>=◌, refuse, mark_at, both, head, on_head}
-use Rattle.isp_syntax.specs.ReadingChoices.{begins_with, either_at, maybe_at, perhaps_at, counted_at, sign_at}
-use Rattle.isp_syntax.specs.ReadingExprs.{expr_at}
+use Rattle.isp_syntax.proofs.Wrapped.{Bracketed, bracketed_sound, bracketed_complete, bracketed_refused, some_bracketed}
+use Rattle.isp_syntax.specs.Depth.{depth_of_first}
+use Rattle.isp_syntax.specs.Grammar.{IsDeclaration, is_declaration, is_plain, IsFirst, is_first_declare, is_first_simple}
+use Rattle.isp_syntax.specs.Reading.{Reader, refuse, mark_at, both}
+use Rattle.isp_syntax.specs.ReadingChoices.{begins_with, either_at, maybe_at}
+use Rattle.isp_syntax.specs.ReadingExprs.{begins_expr, expr_at}
 use Rattle.isp_syntax.specs.ReadingStarts.{start_of, is_first_start, is_simple_start, begins_first, begins_simple}
-use Rattle.isp_syntax.specs.ReadingStmts.{is_change, is_ending, declaration_at, simple_from, simple_at, first_from, first_at, first_part_at, step_part_at, Head, head_at, range_from, range_at, last_range, more_ranges, last_range_at, more_ranges_at, ranges_at, text_of, next_value_at, values_at, do_end_at}
+use Rattle.isp_syntax.specs.ReadingStmts.{is_change, declaration_at, simple_from, simple_at, first_from, first_at, first_part_at, step_part_at, Head, head_at}
 use Rattle.isp_syntax.specs.ReadingTypes.{begins_type}
 use Rattle.isp_syntax.specs.Signs.{word, loosest, change_mark}
-use Rattle.isp_syntax.specs.Tree.{Expr, span_of, plain, Declaration, Simple, First, first_declare, first_simple, Range}
+use Rattle.isp_syntax.specs.Tree.{Expr, plain, Declaration, Simple, First, first_simple}
 use Rattle.isp_syntax.specs.declared.start.Start.{Start}
 use Rattle.isp_syntax.specs.declared.start.Start.TheVariants as by
 use Rattle.isp_syntax.specs.declared.stop.Why.TheVariants.{Unexpected}
-use Rattle.isp_syntax.specs.declared.tree.Word.{Word}
 use Rattle.isp_syntax.specs.declared.tree.Change.{Change}
 use Rattle.isp_syntax.specs.declared.tree.Change.TheVariants.{Increment, Decrement}
 
 -- ---- a test in brackets
 
 close_expr : (x : Expr) (s : Span) (rest : List Token) → (Exprs loosest).ends x (at mark.ParenClose s ∷ rest)
-close_expr x s rest = exprs_end loosest mark.ParenClose refl x s rest
+close_expr x s rest = closes_ends loosest mark.ParenClose refl x s rest
 
 abbrev pub Test : Form Expr
 Test = Bracketed (Exprs loosest)
@@ -74,15 +75,12 @@ change_start Decrement = refl
 pub is_change_start : (k : TokenKind) → is_change k ≡ true → start_of k ≡ by.Simple
 is_change_start k e = let p = change_is k e in ap start_of p.1 ∙ change_start p.0
 
-expr_no_type : (k : TokenKind) → begins_expr k ≡ true → begins_type k ≡ false
-expr_no_type k e = bool_off (begins_type k) (λ t. start_clash k (expr_start k e) (type_start k t))
-
 change_no_type : (k : TokenKind) → is_change k ≡ true → begins_type k ≡ false
-change_no_type k e = bool_off (begins_type k) (λ t. start_clash k (is_change_start k e) (type_start k t))
+change_no_type k e = false_from_ne_true (begins_type k) (λ t. start_clash k (is_change_start k e) (type_start k t))
 
 -- what begins with none of a larger sort begins with none of a smaller one
 begins_none : (b c : TokenKind → Bool) → ((k : TokenKind) → b k ≡ true → c k ≡ true) → (u : List Token) → begins_with c u ≡ false → begins_with b u ≡ false
-begins_none b c f u e = bool_off (begins_with b u) (λ h. false≢true (sym e ∙ begins_on b c f u h))
+begins_none b c f u e = false_from_ne_true (begins_with b u) (λ h. false≢true (sym e ∙ begins_on b c f u h))
 
 expr_is_simple : (k : TokenKind) → begins_expr k ≡ true → begins_simple k ≡ true
 expr_is_simple k e = ap is_simple_start (expr_start k e)
@@ -164,7 +162,7 @@ FirstParts = Either begins_type Declaring SimpleParts
 abbrev pub first_tree : FirstTree → First
 first_tree p = first_from (either_map simple_from p)
 
-declaration_starts : {ts : List Token} {d : Declaration} → IsDeclaration ts d → (rest : List Token) → begins_with begins_type (ts ++ rest) ≡ true
+pub declaration_starts : {ts : List Token} {d : Declaration} → IsDeclaration ts d → (rest : List Token) → begins_with begins_type (ts ++ rest) ≡ true
 declaration_starts (is_declaration ts us t is i j) rest = ap (λ (l : List Token). begins_with begins_type l) (append_assoc ts us rest) ∙ type_starts i (us ++ rest)
 
 simple_no_type : (a : List Token) (p : SimpleTree) (rest : List Token) → SimpleParts.is a p → begins_with begins_type (a ++ rest) ≡ false
@@ -242,13 +240,13 @@ first_by_head : EndsByHead FirstPart
 first_by_head = either_by_head begins_type Declaring SimpleParts declaration_by_head simple_by_head
 
 semicolon_expr : (k : ℕ) (x : Expr) (s : Span) (rest : List Token) → (Exprs k).ends x (at mark.Semicolon s ∷ rest)
-semicolon_expr k x s rest = exprs_end k mark.Semicolon refl x s rest
+semicolon_expr k x s rest = closes_ends k mark.Semicolon refl x s rest
 
 pub simple_semicolon : (p : SimpleTree) (s : Span) (rest : List Token) → SimpleParts.ends p (at mark.Semicolon s ∷ rest)
 simple_semicolon p s rest = simple_end mark.Semicolon refl semicolon_expr p s rest
 
 simple_close : (p : SimpleTree) (s : Span) (rest : List Token) → SimpleParts.ends p (at mark.ParenClose s ∷ rest)
-simple_close p s rest = simple_end mark.ParenClose refl (λ k x s rest. exprs_end k mark.ParenClose refl x s rest) p s rest
+simple_close p s rest = simple_end mark.ParenClose refl (λ k x s rest. closes_ends k mark.ParenClose refl x s rest) p s rest
 
 first_semicolon : (p : FirstTree) (s : Span) (rest : List Token) → FirstPart.ends p (at mark.Semicolon s ∷ rest)
 first_semicolon (inl d) s rest = declaration_end d s rest
@@ -264,9 +262,6 @@ simple_starts_off m c d a p rest i =
 first_starts_off : StartsOff FirstPart mark.Semicolon
 first_starts_off a (inl d) rest i = starts_off mark.Semicolon begins_type refl (a ++ rest) (declaration_starts i rest)
 first_starts_off a (inr p) rest i = simple_starts_off mark.Semicolon refl refl a p rest i
-
-pub expr_starts_off : (k : ℕ) (m : Mark) → begins_expr (kind.Mark m) ≡ false → StartsOff (Exprs k) m
-expr_starts_off k m c a x rest i = starts_off m begins_expr c (a ++ rest) (expr_starts i rest)
 
 -- ---- what stands in the brackets of a `for`
 
@@ -350,7 +345,7 @@ pub maybe_test_sound : (n : ℕ) → IsSound MaybeTest n
 maybe_test_sound n = maybe_sound mark.Semicolon (Exprs loosest) n (exprs_sound loosest n)
 
 pub maybe_test_complete : (n : ℕ) → IsComplete MaybeTest n
-maybe_test_complete n = maybe_complete mark.Semicolon (Exprs loosest) (expr_starts_off loosest mark.Semicolon refl) n (exprs_complete loosest n)
+maybe_test_complete n = maybe_complete mark.Semicolon (Exprs loosest) (exprs_off loosest mark.Semicolon refl) n (exprs_complete loosest n)
 
 pub maybe_test_refused : (n : ℕ) → IsRefused MaybeTest n
 maybe_test_refused n = maybe_refused mark.Semicolon (Exprs loosest) n (exprs_refused loosest n)

@@ -1,28 +1,25 @@
 -- How each statement is read behind its first token.
-use Rattle.std.proofs.Common.{◌≡◌, ℕ, zero, suc, ◌≤◌, Bool, true, false, List, [], ◌∷◌, ◌++◌, Option, Some, None, Ok, Err, refl, sym, ap, subst, ◌∙◌, arith}
+use Rattle.std.proofs.Common.{◌≡◌, ℕ, suc, ◌≤◌, List, [], ◌∷◌, ◌++◌, Ok, Err, refl, sym, ap, subst, ◌∙◌, arith}
 use Rattle.std.specs.Prelude.{⊤}
 use Rattle.isp_base.specs.declared.types.Span.{Span}
 use Rattle.isp_lex.specs.Tokens.{at}
 use Rattle.isp_lex.specs.declared.token.Mark.{Mark}
 use Rattle.isp_lex.specs.declared.token.Mark.TheVariants as mark
-use Rattle.isp_lex.specs.declared.token.TokenKind.TheVariants as kind
 use Rattle.isp_lex.specs.declared.token.Token.{Token}
-use Rattle.isp_syntax.proofs.Forms.{Form, Found, IsSound, IsComplete, Can, One, Free, made_sound, made_complete}
-use Rattle.isp_syntax.proofs.ListForms.{mapped, Maps, maps_id, mapped_twice, maps_both}
-use Rattle.isp_syntax.proofs.Ranges.{RangesHead, ActiveHead}
-use Rattle.isp_syntax.proofs.Refused.{Refused, FailsForm, IsRefused, made_refused, made_err, made_fails}
-use Rattle.isp_syntax.proofs.Simples.{SimpleTree, SimpleParts, simple_reads, simple_deep}
+use Rattle.isp_syntax.proofs.Forms.{Form, Found, IsSound, IsComplete, Can, One, made_sound, made_complete}
+use Rattle.isp_syntax.proofs.ListForms.{mapped, maps_id, mapped_twice, maps_both}
+use Rattle.isp_syntax.proofs.Refused.{Refused, IsRefused, made_refused, made_err, made_fails}
+use Rattle.isp_syntax.proofs.Simples.{SimpleParts, simple_reads}
 use Rattle.isp_syntax.proofs.StmtParts.{HeadParts, head_tree, maps_head}
-use Rattle.isp_syntax.proofs.Stmts.{EndsStmt, Statement, Nothing, BraceEnd, block_of, braces_make, block_deep, Block, Conditional, if_of, if_makes, if_deep, if_ends, Looping, while_of, while_makes, Tested, Doing, do_of, do_makes, ForTree, ForLoop, for_of, for_makes, for_deep, Spreading, foreach_of, foreach_makes, Activity, active_of, active_makes, unmasked_of, DeclareStmt, declare_of, declare_makes, SimpleStmt, simple_of, simple_stmt_makes, jump_of, Returning, return_of, return_makes, return_deep, Printing, print_of, print_makes, print_deep, assert_of, assert_makes}
+use Rattle.isp_syntax.proofs.Stmts.{EndsStmt, Statement, Nothing, BraceEnd, block_of, braces_make, block_deep, Block, Conditional, if_of, if_makes, if_deep, if_ends, Looping, while_of, while_makes, Tested, Doing, do_of, do_makes, ForLoop, for_of, for_makes, for_deep, Spreading, foreach_of, foreach_makes, Activity, active_of, active_makes, unmasked_of, DeclareStmt, declare_of, SimpleStmt, simple_of, jump_of, Returning, return_of, return_makes, return_deep, Printing, print_of, print_makes, print_deep, assert_of, assert_makes}
 use Rattle.isp_syntax.specs.Depth.{depth_of_stmt}
 use Rattle.isp_syntax.specs.Grammar.{IsStmt, is_block, is_empty, is_unmasked, is_jump}
-use Rattle.isp_syntax.specs.Reading.{Read, Reader, ◌>>=◌, mark_at, both}
-use Rattle.isp_syntax.specs.ReadingStarts.{start_of, start_of_mark}
-use Rattle.isp_syntax.specs.ReadingStmts.{Head, simple_at, test_at, head_at, ranges_head_at, active_head_at, values_at, next_value_at, do_end_at, declare_at, simple_stmt_at, jump_at, return_at, print_at, assert_at, stmts_at, braces_at, block_at, if_at, while_at, do_at, for_at, foreach_at, active_at, unmasked_at, stmt_from, stmt_by, stmt_at}
+use Rattle.isp_syntax.specs.Reading.{Read, ◌>>=◌, mark_at}
+use Rattle.isp_syntax.specs.ReadingStarts.{start_of}
+use Rattle.isp_syntax.specs.ReadingStmts.{Head, simple_at, test_at, head_at, ranges_head_at, active_head_at, values_at, next_value_at, do_end_at, declare_at, simple_stmt_at, jump_at, return_at, print_at, assert_at, stmts_at, braces_at, if_at, while_at, do_at, for_at, foreach_at, active_at, unmasked_at, stmt_by, stmt_at}
 use Rattle.isp_syntax.specs.Signs.{if_mark, while_mark, do_mark, for_mark, foreach_mark, jump_mark}
 use Rattle.isp_syntax.specs.Tree.{Stmt, empty, loop_for, simple, Simple, span_of_simple, span_of_stmt}
 use Rattle.isp_base.specs.Types.{span_to}
-use Rattle.isp_syntax.specs.declared.start.Start.{Start}
 use Rattle.isp_syntax.specs.declared.start.Start.TheVariants as by
 use Rattle.isp_syntax.specs.declared.stop.Refusal.{Refusal}
 use Rattle.isp_syntax.specs.declared.tree.Form.{Form as Shape}

@@ -1,7 +1,6 @@
 -- Steps of reading statements, for the code.
 use Rattle.std.proofs.Common.{◌≡◌, ℕ, zero, suc, ◌-◌, ◌<◌, List, [], ◌∷◌, length, Err, refl, arith}
 use Rattle.isp_lex.specs.declared.token.Token.{Token}
-use Rattle.isp_syntax.proofs.Choices.{nowhere}
 use Rattle.isp_syntax.proofs.ListForms.{limit_is}
 use Rattle.isp_syntax.proofs.StmtsRefused.{stmt_off}
 use Rattle.isp_syntax.specs.Reading.{refuse}

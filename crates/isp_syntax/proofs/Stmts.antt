@@ -1,32 +1,27 @@
 -- Forms of statements, and that each makes a statement.
-use Rattle.std.proofs.Common.{◌≡◌, ℕ, zero, suc, ◌≤◌, max, Bool, true, false, List, [], ◌∷◌, ◌++◌, length, Option, Some, None, Ok, Err, refl, sym, ap, subst, ◌∙◌, append_assoc, arith, inl, inr, ◌⊎◌}
+use Rattle.std.proofs.Common.{◌≡◌, ℕ, suc, max, true, false, List, [], ◌∷◌, ◌++◌, Option, Some, None, Ok, refl, sym, ap, subst, ◌∙◌, append_assoc, arith}
 use Rattle.std.specs.Prelude.{option_map, ⊤}
-use Rattle.std.proofs.lemmas.Bool.{false≢true}
 use Rattle.std.proofs.lemmas.List.{append-nil}
 use Rattle.isp_base.specs.Types.{span_to}
 use Rattle.isp_base.specs.declared.types.Span.{Span}
-use Rattle.isp_lex.specs.Tokens.{at, is_mark, starts_with}
-use Rattle.isp_lex.specs.declared.token.Mark.{Mark}
+use Rattle.isp_lex.specs.Tokens.{at, starts_with}
 use Rattle.isp_lex.specs.declared.token.Mark.TheVariants as mark
-use Rattle.isp_lex.specs.declared.token.TokenKind.{TokenKind}
-use Rattle.isp_lex.specs.declared.token.TokenKind.TheVariants as kind
 use Rattle.isp_lex.specs.declared.token.Token.{Token}
-use Rattle.isp_syntax.proofs.Basics.{token, starts_same, ok_err}
-use Rattle.isp_syntax.proofs.Choices.{nowhere, begins_same, Maybe}
-use Rattle.isp_syntax.proofs.Declarations.{nameless, Declaring, declaration_end}
-use Rattle.isp_syntax.proofs.Forms.{Form, IsSound, Can, One, Both, Free, Follows, follows, Behind, behind_is, Before, then_one, before_is, is_before, one_then, Optional, deepest, AreAll, Until}
+use Rattle.isp_syntax.proofs.Basics.{starts_same}
+use Rattle.isp_syntax.proofs.Choices.{nowhere}
+use Rattle.isp_syntax.proofs.Declarations.{Declaring}
+use Rattle.isp_syntax.proofs.Exprs.{Exprs}
+use Rattle.isp_syntax.proofs.Forms.{Form, Can, One, Both, Free, Follows, Behind, behind_is, Before, then_one, before_is, Optional, deepest, AreAll, Until}
 use Rattle.isp_syntax.proofs.FormsComplete.{EndsByHead}
-use Rattle.isp_syntax.proofs.Given.{Exprs}
-use Rattle.isp_syntax.proofs.Ranges.{AreRanges, RangesHead, ActiveHead, Texts, NextValue, Values}
+use Rattle.isp_syntax.proofs.Ranges.{RangesHead, ActiveHead, Texts, NextValue, Values}
 use Rattle.isp_syntax.proofs.Simples.{SimpleTree, SimpleParts, simple_makes, simple_deep}
-use Rattle.isp_syntax.proofs.StmtParts.{Test, some_test, MaybeTest, test_maybe_ends, simple_semicolon, FirstTree, FirstParts, FirstPart, StepPart, MaybeFirst, MaybeStep, HeadStep, HeadTest, HeadFirst, HeadParts, head_tree, first_tree, first_makes, first_deep}
-use Rattle.isp_syntax.proofs.Wrapped.{After, some_after, Bracketed}
+use Rattle.isp_syntax.proofs.StmtParts.{Test, MaybeTest, FirstTree, MaybeFirst, MaybeStep, HeadStep, HeadTest, HeadFirst, HeadParts, first_tree, first_makes, first_deep}
+use Rattle.isp_syntax.proofs.Wrapped.{After, Bracketed}
 use Rattle.isp_syntax.specs.Depth.{depth_of_option, depth_of_first, depth_of_step, deepest_of, depth_of_stmt, depth_of_stmts, depth}
-use Rattle.isp_syntax.specs.Grammar.{IsMaybe, IsExpr, IsFirst, IsSimple, is_open, IsBlock, is_braces, IsStmts, is_end, is_next, IsStmt, is_block, is_empty, is_declare, is_simple, is_if, is_if_else, is_while, is_do, is_for, is_foreach, is_foreach_active, is_unmasked, is_jump, is_return, is_print, is_assert}
-use Rattle.isp_syntax.specs.Reading.{Reader, ◌>>=◌}
+use Rattle.isp_syntax.specs.Grammar.{IsMaybe, IsExpr, IsFirst, IsSimple, is_open, IsBlock, is_braces, IsStmts, is_end, is_next, IsStmt, is_empty, is_declare, is_simple, is_if, is_if_else, is_while, is_do, is_for, is_foreach, is_foreach_active, is_return, is_print, is_assert}
 use Rattle.isp_syntax.specs.ReadingStmts.{simple_from, if_from, block_at, stmt_at}
-use Rattle.isp_syntax.specs.Signs.{word, textual, loosest, if_mark, while_mark, do_mark, for_mark, foreach_mark, jump_mark}
-use Rattle.isp_syntax.specs.Tree.{Expr, span_of, Declaration, Simple, span_of_simple, First, Range, Stmt, block, empty, declare, simple, if_then, if_else, loop_while, loop_do, loop_for, foreach, foreach_active, unmasked, jump, returning, print, assert, Stmts, all, span_of_stmt}
+use Rattle.isp_syntax.specs.Signs.{textual, loosest, if_mark, while_mark, do_mark, for_mark, foreach_mark}
+use Rattle.isp_syntax.specs.Tree.{Expr, Declaration, span_of_simple, Range, Stmt, block, empty, declare, simple, loop_while, loop_do, loop_for, foreach, foreach_active, unmasked, jump, returning, print, assert, all, span_of_stmt}
 use Rattle.isp_syntax.specs.declared.tree.Word.{Word}
 use Rattle.isp_syntax.specs.declared.tree.Form.{Form as Shape}
 use Rattle.isp_syntax.specs.declared.tree.Tiling.{Tiling}
@@ -192,7 +187,7 @@ step_maybe : (ts : List Token) (x : Option SimpleTree) → MaybeStep.is ts x →
 step_maybe ts None i = i
 step_maybe ts (Some p) i = simple_makes ts p i
 
-head_regroup : (o d e c : Span) (is ts us b : List Token)
+pub head_regroup : (o d e c : Span) (is ts us b : List Token)
     → at mark.ParenOpen o ∷ ((is ++ at mark.Semicolon d ∷ (ts ++ at mark.Semicolon e ∷ (us ++ at mark.ParenClose c ∷ []))) ++ b) ≡ at mark.ParenOpen o ∷ (is ++ at mark.Semicolon d ∷ (ts ++ at mark.Semicolon e ∷ (us ++ at mark.ParenClose c ∷ b)))
 head_regroup o d e c is ts us b = simp append_assoc
 

@@ -1,43 +1,37 @@
 -- What is a statement is read.
-use Rattle.std.proofs.Common.{◌≡◌, ℕ, zero, suc, ◌≤◌, ◌<◌, Bool, true, false, List, [], ◌∷◌, ◌++◌, Option, Some, None, Ok, Err, refl, sym, ap, subst, ◌∙◌, append_assoc, arith, inl, inr, ◌⊎◌}
-use Rattle.std.specs.Prelude.{⊤, option_map}
+use Rattle.std.proofs.Common.{◌≡◌, ℕ, zero, suc, ◌≤◌, ◌<◌, Bool, true, false, List, [], ◌∷◌, ◌++◌, Option, Some, None, Ok, refl, sym, ap, subst, ◌∙◌, append_assoc, arith, inl, inr}
+use Rattle.std.specs.Prelude.{option_map}
 use Rattle.std.proofs.lemmas.Bool.{false≢true}
 use Rattle.std.proofs.lemmas.List.{append-nil}
 use Rattle.isp_base.specs.Types.{span_to}
 use Rattle.isp_base.specs.declared.types.Span.{Span}
-use Rattle.isp_lex.specs.Tokens.{at, is_mark, starts_with}
-use Rattle.isp_lex.specs.declared.token.Mark.{Mark}
+use Rattle.isp_lex.specs.Tokens.{at, starts_with}
 use Rattle.isp_lex.specs.declared.token.Mark.TheVariants as mark
 use Rattle.isp_lex.specs.declared.token.TokenKind.{TokenKind}
-use Rattle.isp_lex.specs.declared.token.TokenKind.TheVariants as kind
 use Rattle.isp_lex.specs.declared.token.Token.{Token}
-use Rattle.isp_syntax.proofs.Basics.{token, starts_same, starts_is}
-use Rattle.isp_syntax.proofs.Choices.{nowhere}
-use Rattle.isp_syntax.proofs.Declarations.{Declaring, declaration_complete, declaration_end}
-use Rattle.isp_syntax.proofs.Forms.{Form, IsComplete, Can, One, one_complete, Both, Free, both_complete, Behind, is_behind, is_before, made_complete, Optional, Until}
+use Rattle.isp_syntax.proofs.Basics.{starts_same, starts_is}
+use Rattle.isp_syntax.proofs.Declarations.{Declaring, declaration_complete}
+use Rattle.isp_syntax.proofs.Forms.{IsComplete, One, one_complete, Free, both_complete, is_behind, is_before, made_complete}
 use Rattle.isp_syntax.proofs.FormsComplete.{EndsByHead, optional_complete, Stands, until_complete}
-use Rattle.isp_syntax.proofs.Given.{Exprs, expr_starts}
-use Rattle.isp_syntax.proofs.ListForms.{bind_map}
-use Rattle.isp_syntax.proofs.Ranges.{Ranges, RangesHead, ranges_head_complete, ActiveHead, active_head_complete, Texts, text_complete, Values, values_complete}
+use Rattle.isp_syntax.proofs.Ranges.{RangesHead, ranges_head_complete, ActiveHead, active_head_complete, Texts, text_complete, Values, values_complete}
 use Rattle.isp_syntax.proofs.Simples.{SimpleTree, SimpleParts, simple_complete, simple_unmakes, simple_deep, simple_starts}
-use Rattle.isp_syntax.proofs.Starts.{begins_on, expr_start, type_start}
-use Rattle.isp_syntax.proofs.StmtParts.{Test, test_complete, MaybeTest, maybe_test_complete, test_maybe_ends, simple_semicolon, is_change_start, FirstTree, MaybeFirst, MaybeStep, HeadStep, HeadTest, HeadFirst, HeadParts, head_complete, first_tree, first_unmakes}
+use Rattle.isp_syntax.proofs.Starts.{expr_start, type_start}
+use Rattle.isp_syntax.proofs.StmtParts.{declaration_starts, Test, test_complete, MaybeTest, maybe_test_complete, is_change_start, FirstTree, MaybeFirst, MaybeStep, HeadStep, HeadTest, HeadFirst, HeadParts, head_complete, first_tree, first_unmakes}
 use Rattle.isp_syntax.proofs.StmtReads.{production_complete, block_production, empty_production, if_production, while_production, do_production, for_production, foreach_production, active_production, unmasked_production, jump_production, return_production, print_production, assert_production, declare_reads, simple_stmt_reads, empty_of}
-use Rattle.isp_syntax.proofs.Stmts.{EndsStmt, Statement, Nothing, Several, are_all, BraceEnd, brace_then, block_of, Block, Else, FitsElse, Branches, Conditional, if_of, Looping, while_of, Tested, DoEnd, Doing, do_of, ForTree, ForLoop, for_of, Spreading, foreach_of, Activity, active_of, unmasked_of, DeclareStmt, declare_of, SimpleStmt, simple_of, jump_of, Returning, return_of, PrintEnd, PrintValues, PrintText, Printing, print_of, assert_of}
-use Rattle.isp_syntax.proofs.StmtsSound.{then_else, branches_then, body_then, tested_then, some_tested, do_then, for_then, foreach_then, active_then, declare_then, simple_then, return_then, print_behind, text_then, values_then, print_end_behind, declaration_type, brace_close_foreign, else_foreign, block_closed, block_starts, stmt_off_mark}
-use Rattle.isp_syntax.proofs.Wrapped.{After, after_complete}
+use Rattle.isp_syntax.proofs.Stmts.{head_regroup, EndsStmt, Statement, Nothing, Several, are_all, BraceEnd, brace_then, block_of, Block, Else, FitsElse, Branches, Conditional, if_of, Looping, while_of, Tested, DoEnd, Doing, do_of, ForLoop, for_of, Spreading, foreach_of, Activity, active_of, unmasked_of, DeclareStmt, declare_of, SimpleStmt, simple_of, jump_of, Returning, return_of, PrintEnd, PrintValues, PrintText, Printing, print_of, assert_of}
+use Rattle.isp_syntax.proofs.StmtsSound.{then_else, branches_then, body_then, tested_then, some_tested, do_then, for_then, foreach_then, active_then, declare_then, simple_then, return_then, print_behind, text_then, values_then, print_end_behind, brace_close_foreign, else_foreign, block_closed, block_starts, stmt_off_mark}
+use Rattle.isp_syntax.proofs.Wrapped.{after_complete}
 use Rattle.isp_syntax.specs.Depth.{depth_of_stmt}
-use Rattle.isp_syntax.specs.Grammar.{IsMaybe, IsExpr, IsFirst, IsSimple, AreListed, IsRange, IsDeclaration, is_open, IsBlock, is_braces, IsStmts, IsStmt, is_block, is_empty, is_declare, is_simple, is_if, is_if_else, is_while, is_do, is_for, is_foreach, is_foreach_active, is_unmasked, is_jump, is_return, is_print, is_assert}
+use Rattle.isp_syntax.specs.Grammar.{IsMaybe, IsExpr, IsFirst, IsSimple, IsDeclaration, IsBlock, is_braces, IsStmt, is_block, is_empty, is_declare, is_simple, is_if, is_if_else, is_while, is_do, is_for, is_foreach, is_foreach_active, is_unmasked, is_jump, is_return, is_print, is_assert}
 use Rattle.isp_syntax.specs.Reading.{◌>>=◌, head, on_head}
 use Rattle.isp_syntax.specs.ReadingChoices.{begins_with}
 use Rattle.isp_syntax.specs.ReadingStarts.{start_of}
 use Rattle.isp_syntax.specs.ReadingStmts.{simple_from, block_at, stmt_at}
 use Rattle.isp_syntax.specs.ReadingTypes.{begins_type}
 use Rattle.isp_syntax.specs.Signs.{word, textual, loosest, if_mark, while_mark, do_mark, for_mark, foreach_mark, jump_mark}
-use Rattle.isp_syntax.specs.Tree.{Expr, Simple, First, Range, Declaration, Stmt, block, empty, declare, simple, if_then, if_else, loop_while, loop_do, loop_for, foreach, foreach_active, unmasked, jump, returning, print, assert, span_of_simple, span_of_stmt}
+use Rattle.isp_syntax.specs.Tree.{Expr, Simple, First, Declaration, Stmt, block, empty, declare, simple, if_then, if_else, loop_while, loop_do, loop_for, foreach, foreach_active, unmasked, jump, returning, print, assert, span_of_simple, span_of_stmt}
 use Rattle.isp_syntax.specs.declared.start.Start.{Start}
 use Rattle.isp_syntax.specs.declared.start.Start.TheVariants as by
-use Rattle.isp_syntax.specs.declared.tree.Word.{Word}
 use Rattle.isp_syntax.specs.declared.tree.Form.{Form as Shape}
 
 depth_of_stmt_pos : (s : Stmt) → 0 < depth_of_stmt s
@@ -167,10 +161,6 @@ head_of o d e c is ts us i x p a b f =
     let more = is_behind mark.Semicolon HeadTest d (ts ++ at mark.Semicolon e ∷ (us ++ at mark.ParenClose c ∷ [])) (x, (e, (p, c))) test in
     is_behind mark.ParenOpen HeadFirst o (is ++ at mark.Semicolon d ∷ (ts ++ at mark.Semicolon e ∷ (us ++ at mark.ParenClose c ∷ []))) (i, (d, (x, (e, (p, c))))) (is, at mark.Semicolon d ∷ (ts ++ at mark.Semicolon e ∷ (us ++ at mark.ParenClose c ∷ [])), refl, a, more, tt)
 
-head_split : (o d e c : Span) (is ts us b : List Token)
-    → at mark.ParenOpen o ∷ (is ++ at mark.Semicolon d ∷ (ts ++ at mark.Semicolon e ∷ (us ++ at mark.ParenClose c ∷ b))) ≡ (at mark.ParenOpen o ∷ (is ++ at mark.Semicolon d ∷ (ts ++ at mark.Semicolon e ∷ (us ++ at mark.ParenClose c ∷ [])))) ++ b
-head_split o d e c is ts us b = simp append_assoc
-
 print_text_of : (w o p c e : Span) (t : List ℕ) (ts : List Token) (xs : List Expr) → Values.is ts xs → Printing.is (at mark.ParenOpen o ∷ textual t p ∷ (ts ++ at mark.ParenClose c ∷ at mark.Semicolon e ∷ [])) (o, ((t, p), (xs, (c, e))))
 print_text_of w o p c e t ts xs i =
     let last = is_behind mark.ParenClose (One mark.Semicolon) c (at mark.Semicolon e ∷ []) e refl in
@@ -181,23 +171,17 @@ first_token : (f : TokenKind → Bool) (u : List Token) → begins_with f u ≡ 
 first_token f [] e = absurd cc
 first_token f (t ∷ ts) e = (t, ts, refl, e)
 
-declare_start : (n : ℕ) (u : List Token) → on_head by.Nothing start_of (head u) ≡ by.Declare → stmt_at (suc n) u ≡ (DeclareStmt.read n u >>= λ x. Ok (declare_of x.0, x.1))
+pub declare_start : (n : ℕ) (u : List Token) → on_head by.Nothing start_of (head u) ≡ by.Declare → stmt_at (suc n) u ≡ (DeclareStmt.read n u >>= λ x. Ok (declare_of x.0, x.1))
 declare_start n [] e = absurd cc
 declare_start n (t ∷ ts) e = declare_reads n t ts e
 
-simple_start : (n : ℕ) (u : List Token) → on_head by.Nothing start_of (head u) ≡ by.Simple → stmt_at (suc n) u ≡ (SimpleStmt.read n u >>= λ x. Ok (simple_of x.0, x.1))
+pub simple_start : (n : ℕ) (u : List Token) → on_head by.Nothing start_of (head u) ≡ by.Simple → stmt_at (suc n) u ≡ (SimpleStmt.read n u >>= λ x. Ok (simple_of x.0, x.1))
 simple_start n [] e = absurd cc
 simple_start n (t ∷ ts) e = simple_stmt_reads n t ts e
 
 starts_as : (f : TokenKind → Bool) (c : Start) → ((k : TokenKind) → f k ≡ true → start_of k ≡ c) → (u : List Token) → begins_with f u ≡ true → on_head by.Nothing start_of (head u) ≡ c
 starts_as f c g [] e = absurd cc
 starts_as f c g (t ∷ ts) e = g t.kind e
-
-pub declare_starts : (n : ℕ) (u : List Token) → on_head by.Nothing start_of (head u) ≡ by.Declare → stmt_at (suc n) u ≡ (DeclareStmt.read n u >>= λ x. Ok (declare_of x.0, x.1))
-declare_starts n u e = declare_start n u e
-
-pub simple_stmt_starts : (n : ℕ) (u : List Token) → on_head by.Nothing start_of (head u) ≡ by.Simple → stmt_at (suc n) u ≡ (SimpleStmt.read n u >>= λ x. Ok (simple_of x.0, x.1))
-simple_stmt_starts n u e = simple_start n u e
 
 module _ (n : ℕ) (ih : IsComplete Statement n) where
   block_again : {used : List Token} {b : Stmt} → IsBlock used b → depth_of_stmt b ≤ suc n → (rest : List Token) → stmt_at (suc n) (used ++ rest) ≡ Ok (b, rest)
@@ -206,7 +190,7 @@ module _ (n : ℕ) (ih : IsComplete Statement n) where
 
   declare_again : (e : Span) (ts : List Token) (d : Declaration) → IsDeclaration ts d → depth_of_stmt (declare_of (d, e)) ≤ suc n → (rest : List Token) → stmt_at (suc n) ((ts ++ at mark.Semicolon e ∷ []) ++ rest) ≡ Ok (declare_of (d, e), rest)
   declare_again e ts d i le rest =
-      let b = starts_as begins_type by.Declare type_start ((ts ++ at mark.Semicolon e ∷ []) ++ rest) (ap (λ (l : List Token). begins_with begins_type l) (append_assoc ts (at mark.Semicolon e ∷ []) rest) ∙ declaration_type i (at mark.Semicolon e ∷ rest)) in
+      let b = starts_as begins_type by.Declare type_start ((ts ++ at mark.Semicolon e ∷ []) ++ rest) (ap (λ (l : List Token). begins_with begins_type l) (append_assoc ts (at mark.Semicolon e ∷ []) rest) ∙ declaration_starts i (at mark.Semicolon e ∷ rest)) in
       made_complete DeclareStmt Statement declare_of [] n (stmt_at (suc n)) (ts ++ at mark.Semicolon e ∷ []) (d, e) rest (declare_start n ((ts ++ at mark.Semicolon e ∷ []) ++ rest) b) (declare_stmt_complete n)
       (is_before Declaring mark.Semicolon ts d e i) (omega arith) tt
 
@@ -229,7 +213,7 @@ module _ (n : ℕ) (ih : IsComplete Statement n) where
       subst (λ (z : Option First). depth_of_stmt (loop_for f z x p s (span_to w (span_of_stmt s))) ≤ suc n → stmt_at (suc n) (at (for_mark f) w ∷ at mark.ParenOpen o ∷ ((is ++ at mark.Semicolon d ∷ (ts ++ at mark.Semicolon e ∷ (us ++ at mark.ParenClose c ∷ a))) ++ rest)) ≡ Ok (loop_for f z x p s (span_to w (span_of_stmt s)), rest)) q
       (subst (λ (z : Option Simple). depth_of_stmt (loop_for f (option_map first_tree i') x z s (span_to w (span_of_stmt s))) ≤ suc n → stmt_at (suc n) (at (for_mark f) w ∷ at mark.ParenOpen o ∷ ((is ++ at mark.Semicolon d ∷ (ts ++ at mark.Semicolon e ∷ (us ++ at mark.ParenClose c ∷ a))) ++ rest)) ≡ Ok (loop_for f (option_map first_tree i') x z s (span_to w (span_of_stmt s)), rest)) r
       (λ le. production_complete (for_mark f) ForLoop (for_of f) (for_production f) n w (for_loop_complete n ih) (at mark.ParenOpen o ∷ (is ++ at mark.Semicolon d ∷ (ts ++ at mark.Semicolon e ∷ (us ++ at mark.ParenClose c ∷ a)))) ((o, (i', (d, (x, (e, (p', c)))))), s) rest
-      (at mark.ParenOpen o ∷ (is ++ at mark.Semicolon d ∷ (ts ++ at mark.Semicolon e ∷ (us ++ at mark.ParenClose c ∷ []))), a, head_split o d e c is ts us a, head_of o d e c is ts us i' x p' j k l, m, tt) le h)) le
+      (at mark.ParenOpen o ∷ (is ++ at mark.Semicolon d ∷ (ts ++ at mark.Semicolon e ∷ (us ++ at mark.ParenClose c ∷ []))), a, sym (head_regroup o d e c is ts us a), head_of o d e c is ts us i' x p' j k l, m, tt) le h)) le
 
   next_complete : {used : List Token} {y : Stmt} → IsStmt used y → depth_of_stmt y ≤ suc n → (rest : List Token) → EndsStmt y rest → stmt_at (suc n) (used ++ rest) ≡ Ok (y, rest)
   next_complete (is_block ts b i) le rest h = block_again i le rest

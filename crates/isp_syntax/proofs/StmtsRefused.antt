@@ -1,8 +1,7 @@
 -- What a refusal of a statement means.
-use Rattle.std.proofs.Common.{◌≡◌, ℕ, zero, suc, ◌≤◌, Bool, true, false, List, [], ◌∷◌, ◌++◌, Option, Some, None, Ok, Err, refl, sym, ap, subst, ◌∙◌, append_assoc, arith, inl, inr, ◌⊎◌}
-use Rattle.std.specs.Prelude.{⊤}
+use Rattle.std.proofs.Common.{◌≡◌, ℕ, zero, suc, true, false, List, [], ◌∷◌, ◌++◌, Option, None, Err, refl, sym, ap, subst, ◌∙◌, append_assoc, inl, inr}
 use Rattle.isp_base.specs.declared.types.Span.{Span}
-use Rattle.isp_lex.specs.Tokens.{at, is_mark, starts_with}
+use Rattle.isp_lex.specs.Tokens.{at, starts_with}
 use Rattle.isp_lex.specs.declared.token.Mark.{Mark}
 use Rattle.isp_lex.specs.declared.token.Mark.TheVariants as mark
 use Rattle.isp_lex.specs.declared.token.TokenKind.{TokenKind}
@@ -11,20 +10,20 @@ use Rattle.isp_lex.specs.declared.token.Token.{Token}
 use Rattle.isp_syntax.proofs.Basics.{token, err_is, ok_err, chosen, starts_same, head_past}
 use Rattle.isp_syntax.proofs.Choices.{nowhere, begins_same, limit_off, Limits, limit_refused}
 use Rattle.isp_syntax.proofs.Declarations.{Declaring, declaration_sound, declaration_complete, declaration_by_head, declaration_refused}
-use Rattle.isp_syntax.proofs.Forms.{Form, IsSound, IsComplete, Can, One, one_sound, one_complete, Both, Free, Follows, Before}
-use Rattle.isp_syntax.proofs.FormsComplete.{EndsByHead, one_by_head}
+use Rattle.isp_syntax.proofs.Forms.{Form, Can, One, one_sound, one_complete, Both, Free, Follows}
+use Rattle.isp_syntax.proofs.FormsComplete.{one_by_head}
 use Rattle.isp_syntax.proofs.Ranges.{RangesHead, ranges_head_sound, ranges_head_complete, ranges_head_refused, some_ranges_head, ActiveHead, active_head_sound, active_head_complete, active_head_refused, some_active_head, Texts, text_sound, text_complete, text_refused, Values, values_sound, values_complete, values_refused, values_by_head}
 use Rattle.isp_syntax.proofs.Refused.{Completes, Refused, refused_here, raise, FailsForm, IsRefused, one_refused, both_refused, made_refused, made_err, made_fails, optional_refused, until_refused}
-use Rattle.isp_syntax.proofs.Simples.{SimpleTree, SimpleParts, simple_sound, simple_complete, simple_by_head, simple_refused, simple_makes}
+use Rattle.isp_syntax.proofs.Simples.{SimpleParts, simple_sound, simple_complete, simple_by_head, simple_refused, simple_makes}
 use Rattle.isp_syntax.proofs.Starts.{Fits, start_fits}
 use Rattle.isp_syntax.proofs.StmtParts.{Test, test_sound, test_complete, test_refused, some_test, MaybeTest, maybe_test_sound, maybe_test_complete, maybe_test_refused, maybe_test_by_head, HeadParts, head_sound, head_complete, head_refused, some_head, declaration_completes, simple_opens}
 use Rattle.isp_syntax.proofs.StmtReads.{FailsNext, Production, production_refused, block_production, empty_production, if_production, while_production, do_production, for_production, foreach_production, active_production, unmasked_production, jump_production, return_production, print_production, assert_production, empty_of}
 use Rattle.isp_syntax.proofs.Stmts.{Statement, stmt_by_head, some_stmt, Nothing, Several, BraceEnd, brace_then, block_of, Block, some_block, Else, FitsElse, Branches, Conditional, if_of, Looping, while_of, Tested, DoEnd, Doing, do_of, ForLoop, for_of, Spreading, foreach_of, Activity, active_of, unmasked_of, DeclareStmt, declare_of, declare_makes, SimpleStmt, simple_of, simple_stmt_makes, jump_of, Returning, return_of, PrintEnd, PrintValues, PrintText, Printing, print_of, assert_of}
-use Rattle.isp_syntax.proofs.StmtsComplete.{stmt_stands, several_by_head, several_complete, tested_complete, declare_starts, simple_stmt_starts, stmt_complete}
+use Rattle.isp_syntax.proofs.StmtsComplete.{stmt_stands, several_by_head, several_complete, declare_start, simple_start, stmt_complete}
 use Rattle.isp_syntax.proofs.StmtsSound.{then_else, branches_then, body_then, tested_then, some_tested, do_then, for_then, foreach_then, active_then, declare_then, simple_then, return_then, print_behind, text_then, values_then, print_end_behind, is_only_block, several_sound, stmt_sound}
-use Rattle.isp_syntax.proofs.Wrapped.{After, after_refused}
-use Rattle.isp_syntax.specs.Grammar.{IsBlock, IsStmt, is_empty, is_declare, is_simple}
-use Rattle.isp_syntax.specs.Reading.{◌>>=◌, refusal, refuse, head, on_head}
+use Rattle.isp_syntax.proofs.Wrapped.{after_refused}
+use Rattle.isp_syntax.specs.Grammar.{IsStmt, is_declare, is_simple}
+use Rattle.isp_syntax.specs.Reading.{refuse, head, on_head}
 use Rattle.isp_syntax.specs.ReadingChoices.{begins_with}
 use Rattle.isp_syntax.specs.ReadingStarts.{start_of, is_start, begins_stmt}
 use Rattle.isp_syntax.specs.ReadingStmts.{simple_from, block_at, stmt_from, stmt_by, stmt_at}
@@ -212,11 +211,11 @@ module _ (n : ℕ) (ih : IsRefused Statement n) where
   next_refused by.Block t ts r s k = by_mark mark.BraceOpen t ts r k (λ s e. production_refused mark.BraceOpen BraceEnd block_of block_production n s brace_end_refused ts r e)
   next_refused by.Empty t ts r s k = by_mark mark.Semicolon t ts r k (λ s e. production_refused mark.Semicolon Nothing empty_of empty_production n s (nothing_refused n) ts r e)
   next_refused by.Declare t ts r s k = λ e.
-      made_refused DeclareStmt Statement declare_of [] FailsNext n (t ∷ ts) r (declare_stmt_refused n) (made_err declare_of (DeclareStmt.read n (t ∷ ts)) r (sym (declare_starts n (t ∷ ts) s) ∙ e)) (λ a p i. declare_makes a p i)
-      (λ m u d le h w. made_fails declare_of (DeclareStmt.read m u) (stmt_at (suc m) u) d (declare_starts m u (same_start t ts u by.Declare s h)) w)
+      made_refused DeclareStmt Statement declare_of [] FailsNext n (t ∷ ts) r (declare_stmt_refused n) (made_err declare_of (DeclareStmt.read n (t ∷ ts)) r (sym (declare_start n (t ∷ ts) s) ∙ e)) (λ a p i. declare_makes a p i)
+      (λ m u d le h w. made_fails declare_of (DeclareStmt.read m u) (stmt_at (suc m) u) d (declare_start m u (same_start t ts u by.Declare s h)) w)
   next_refused by.Simple t ts r s k = λ e.
-      made_refused SimpleStmt Statement simple_of [] FailsNext n (t ∷ ts) r (simple_stmt_refused n) (made_err simple_of (SimpleStmt.read n (t ∷ ts)) r (sym (simple_stmt_starts n (t ∷ ts) s) ∙ e)) (λ a p i. simple_stmt_makes a p i)
-      (λ m u d le h w. made_fails simple_of (SimpleStmt.read m u) (stmt_at (suc m) u) d (simple_stmt_starts m u (same_start t ts u by.Simple s h)) w)
+      made_refused SimpleStmt Statement simple_of [] FailsNext n (t ∷ ts) r (simple_stmt_refused n) (made_err simple_of (SimpleStmt.read n (t ∷ ts)) r (sym (simple_start n (t ∷ ts) s) ∙ e)) (λ a p i. simple_stmt_makes a p i)
+      (λ m u d le h w. made_fails simple_of (SimpleStmt.read m u) (stmt_at (suc m) u) d (simple_start m u (same_start t ts u by.Simple s h)) w)
   next_refused (by.If f) t ts r s k = by_mark (if_mark f) t ts r k (λ s e. production_refused (if_mark f) Conditional (if_of f) (if_production f) n s conditional_refused ts r e)
   next_refused (by.While f) t ts r s k = by_mark (while_mark f) t ts r k (λ s e. production_refused (while_mark f) Looping (while_of f) (while_production f) n s looping_refused ts r e)
   next_refused (by.Do f) t ts r s k = by_mark (do_mark f) t ts r k (λ s e. production_refused (do_mark f) Doing (do_of f) (do_production f) n s doing_refused ts r e)

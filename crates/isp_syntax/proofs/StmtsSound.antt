@@ -1,7 +1,7 @@
 -- What is read as a statement is one.
-use Rattle.std.proofs.Common.{◌≡◌, ℕ, zero, suc, ◌≤◌, Bool, true, false, List, [], ◌∷◌, ◌++◌, Option, Some, None, Ok, Err, refl, sym, ap, subst, ◌∙◌, append_assoc, arith, inl, inr, ◌⊎◌}
+use Rattle.std.proofs.Common.{◌≡◌, ℕ, zero, suc, Bool, true, false, List, [], ◌∷◌, ◌++◌, Option, Some, None, Ok, Err, refl, sym, ap, subst, ◌∙◌, append_assoc, arith, inl, inr, ◌⊎◌}
 use Rattle.std.specs.Prelude.{⊤}
-use Rattle.std.proofs.lemmas.Bool.{false≢true}
+use Rattle.std.proofs.lemmas.Bool.{false≢true, false_from_ne_true}
 use Rattle.std.proofs.lemmas.List.{append-nil}
 use Rattle.isp_base.specs.declared.types.Span.{Span}
 use Rattle.isp_lex.specs.Tokens.{at, is_mark, starts_with}
@@ -13,26 +13,23 @@ use Rattle.isp_lex.specs.declared.token.Token.{Token}
 use Rattle.isp_syntax.proofs.Basics.{token, ok_is, err_ok, chosen}
 use Rattle.isp_syntax.proofs.Choices.{nowhere, limit_reads_none}
 use Rattle.isp_syntax.proofs.Declarations.{Declaring, declaration_sound, declaration_end}
-use Rattle.isp_syntax.proofs.Forms.{Form, Found, IsSound, Can, One, one_sound, Both, Free, Follows, follows, both_sound, Behind, one_then, behind_is, is_behind, Before, then_one, made_sound, Optional, optional_sound, until_sound}
-use Rattle.isp_syntax.proofs.Given.{begins_expr}
+use Rattle.isp_syntax.proofs.Forms.{Found, IsSound, Can, One, one_sound, Free, Follows, follows, both_sound, one_then, behind_is, is_behind, then_one, made_sound, optional_sound, until_sound}
 use Rattle.isp_syntax.proofs.Ranges.{RangesHead, ranges_head_sound, ActiveHead, active_head_sound, Texts, text_sound, Values, values_sound}
 use Rattle.isp_syntax.proofs.Simples.{SimpleParts, simple_sound, simple_starts, simple_deep}
 use Rattle.isp_syntax.proofs.Starts.{Fits, start_fits, starts_off}
-use Rattle.isp_syntax.proofs.StmtParts.{Test, test_sound, some_test, MaybeTest, maybe_test_sound, test_maybe_ends, simple_semicolon, HeadParts, head_sound}
-use Rattle.isp_syntax.proofs.StmtReads.{Production, production_sound, block_production, empty_production, if_production, while_production, do_production, for_production, foreach_production, active_production, unmasked_production, jump_production, return_production, print_production, assert_production, declare_reads, simple_stmt_reads, empty_of}
-use Rattle.isp_syntax.proofs.Stmts.{EndsStmt, Statement, some_stmt, Nothing, Several, BraceEnd, brace_then, block_of, Block, Else, FitsElse, Branches, Conditional, if_of, Looping, while_of, Tested, DoEnd, Doing, do_of, ForTree, ForLoop, for_of, Spreading, foreach_of, Activity, active_of, unmasked_of, DeclareStmt, declare_of, declare_makes, SimpleStmt, simple_of, simple_stmt_makes, jump_of, Returning, return_of, PrintEnd, PrintValues, PrintText, Printing, print_of, assert_of}
-use Rattle.isp_syntax.proofs.TypesRead.{type_starts}
-use Rattle.isp_syntax.proofs.Wrapped.{After, after_sound}
-use Rattle.isp_syntax.specs.Depth.{depth_of_stmt}
-use Rattle.isp_syntax.specs.Grammar.{IsDeclaration, is_declaration, is_open, IsBlock, is_braces, IsStmt, is_block, is_empty, is_declare, is_simple, is_if, is_if_else, is_while, is_do, is_for, is_foreach, is_foreach_active, is_unmasked, is_jump, is_return, is_print, is_assert}
+use Rattle.isp_syntax.proofs.StmtParts.{declaration_starts, Test, test_sound, some_test, MaybeTest, maybe_test_sound, test_maybe_ends, simple_semicolon, HeadParts, head_sound}
+use Rattle.isp_syntax.proofs.StmtReads.{production_sound, block_production, empty_production, if_production, while_production, do_production, for_production, foreach_production, active_production, unmasked_production, jump_production, return_production, print_production, assert_production, declare_reads, simple_stmt_reads, empty_of}
+use Rattle.isp_syntax.proofs.Stmts.{EndsStmt, Statement, some_stmt, Nothing, Several, BraceEnd, brace_then, block_of, Block, Else, FitsElse, Branches, Conditional, if_of, Looping, while_of, Tested, DoEnd, Doing, do_of, ForLoop, for_of, Spreading, foreach_of, Activity, active_of, unmasked_of, DeclareStmt, declare_of, declare_makes, SimpleStmt, simple_of, simple_stmt_makes, jump_of, Returning, return_of, PrintEnd, PrintValues, PrintText, Printing, print_of, assert_of}
+use Rattle.isp_syntax.proofs.Wrapped.{after_sound}
+use Rattle.isp_syntax.specs.Grammar.{is_open, IsBlock, is_braces, IsStmt, is_block, is_empty, is_declare, is_simple, is_if, is_if_else, is_while, is_do, is_for, is_foreach, is_foreach_active, is_unmasked, is_jump, is_return, is_print, is_assert}
 use Rattle.isp_syntax.proofs.Simples.{simple_unmakes}
-use Rattle.isp_syntax.specs.Reading.{Reader, ◌>>=◌, refuse, optional, optional_from}
-use Rattle.isp_syntax.specs.ReadingChoices.{begins_with}
-use Rattle.isp_syntax.specs.ReadingStarts.{start_of, is_start, begins_stmt}
+use Rattle.isp_syntax.specs.Reading.{Reader, refuse, optional, optional_from}
+use Rattle.isp_syntax.specs.ReadingExprs.{begins_expr}
+use Rattle.isp_syntax.specs.ReadingStarts.{start_of, begins_stmt}
 use Rattle.isp_syntax.specs.ReadingStmts.{is_change, block_at, stmt_from, stmt_by, stmt_at}
 use Rattle.isp_syntax.specs.ReadingTypes.{begins_type}
 use Rattle.isp_syntax.specs.Signs.{if_mark, while_mark, do_mark, for_mark, foreach_mark, jump_mark}
-use Rattle.isp_syntax.specs.Tree.{Expr, Stmt}
+use Rattle.isp_syntax.specs.Tree.{Stmt}
 use Rattle.isp_syntax.specs.declared.start.Start.{Start}
 use Rattle.isp_syntax.specs.declared.start.Start.TheVariants as by
 use Rattle.isp_syntax.specs.declared.stop.Why.TheVariants.{Unexpected}
@@ -43,13 +40,9 @@ use Rattle.isp_syntax.specs.declared.tree.Tiling.{Tiling}
 use Rattle.isp_syntax.specs.declared.tree.Tiling.TheVariants as tiling
 use Rattle.isp_syntax.specs.declared.tree.Jump.{Jump}
 use Rattle.isp_syntax.specs.declared.tree.Jump.TheVariants.{Break, Continue}
-use Rattle.isp_syntax.proofs.Basics.{starts_by_head, bind_ok, bind_err, ok_err}
+use Rattle.isp_syntax.proofs.Basics.{ok_err}
 
 -- ---- `else`
-
-pub not_true : (b : Bool) → (b ≡ true → ⊥) → b ≡ false
-not_true true f = absurd (f refl)
-not_true false f = refl
 
 else_ends : (s : Stmt) (y : Option Stmt) (b rest : List Token) → FitsElse s y → Else.is b y → Else.ends y rest → EndsStmt s (b ++ rest)
 else_ends s None b rest f i h = λ o. subst (λ (l : List Token). starts_with mark.Else (l ++ rest) ≡ false) (sym i) h
@@ -57,7 +50,7 @@ else_ends s (Some t) b rest f i h = λ o. absurd (false≢true (sym f ∙ o))
 
 else_fits : (s : Stmt) (y : Option Stmt) (b rest : List Token) → EndsStmt s (b ++ rest) → Else.is b y → FitsElse s y
 else_fits s None b rest h i = tt
-else_fits s (Some t) b rest h i = not_true (is_open s) (λ o. false≢true (sym (subst (λ (l : List Token). starts_with mark.Else (l ++ rest) ≡ false) i.2 (h o))))
+else_fits s (Some t) b rest h i = false_from_ne_true (is_open s) (λ o. false≢true (sym (subst (λ (l : List Token). starts_with mark.Else (l ++ rest) ≡ false) i.2 (h o))))
 
 else_stands : (one : Reader Stmt) (ts : List Token) (b : Bool) (r : Refusal) → optional_from one ts b ≡ Err r → b ≡ true
 else_stands one ts true r e = refl
@@ -68,7 +61,7 @@ unfolding optional
 else_fit_refused s rest n r h e None = tt
 else_fit_refused s rest n r h e (Some t) =
     let p = else_stands (stmt_at n) rest (starts_with mark.Else rest) r e in
-    not_true (is_open s) (λ o. false≢true (sym (h o) ∙ p))
+    false_from_ne_true (is_open s) (λ o. false≢true (sym (h o) ∙ p))
 
 pub then_else : Follows Statement Else FitsElse
 then_else = record {
@@ -146,9 +139,6 @@ print_end_behind = one_then mark.ParenClose (One mark.Semicolon) (at mark.Semico
 
 -- ---- how statements begin
 
-pub declaration_type : {ts : List Token} {d : _} → IsDeclaration ts d → (rest : List Token) → begins_with begins_type (ts ++ rest) ≡ true
-declaration_type (is_declaration ts us t is i j) rest = ap (λ (l : List Token). begins_with begins_type l) (append_assoc ts us rest) ∙ type_starts i (us ++ rest)
-
 -- a mark that begins neither a type, an expression nor a step by one, and that is no word of a statement, begins none
 pub record Foreign (m : Mark) : Type 0 where
   pub type : begins_type (kind.Mark m) ≡ false
@@ -172,7 +162,7 @@ pub only_block : (m : Mark) → Foreign m → {ts : List Token} {s : Stmt} → I
 only_block m f (is_block ts b i) rest = inl i
 only_block m f (is_empty e) rest = inr f.semicolon
 only_block m f (is_declare e ts d i) rest =
-    inr (ap (λ (l : List Token). starts_with m l) (append_assoc ts (at mark.Semicolon e ∷ []) rest) ∙ starts_off m begins_type f.type (ts ++ at mark.Semicolon e ∷ rest) (declaration_type i (at mark.Semicolon e ∷ rest)))
+    inr (ap (λ (l : List Token). starts_with m l) (append_assoc ts (at mark.Semicolon e ∷ []) rest) ∙ starts_off m begins_type f.type (ts ++ at mark.Semicolon e ∷ rest) (declaration_starts i (at mark.Semicolon e ∷ rest)))
 only_block m f (is_simple e ts p i) rest =
     let q = simple_unmakes i in
     inr (ap (λ (l : List Token). starts_with m l) (append_assoc ts (at mark.Semicolon e ∷ []) rest) ∙ (elim (simple_starts ts q.0 (at mark.Semicolon e ∷ rest) q.1) [
@@ -261,9 +251,6 @@ else_foreign = record {
   an_assert = refl;
 }
 
-block_open : {ts : List Token} {b : Stmt} → IsBlock ts b → (rest : List Token) → starts_with mark.BraceOpen (ts ++ rest) ≡ true
-block_open (is_braces o c ts ss i) rest = refl
-
 block_off : (m : Mark) → is_mark m (kind.Mark mark.BraceOpen) ≡ false → {ts : List Token} {b : Stmt} → IsBlock ts b → (rest : List Token) → starts_with m (ts ++ rest) ≡ false
 block_off m f (is_braces o c ts ss i) rest = f
 
@@ -271,7 +258,7 @@ pub block_closed : {ts : List Token} {b : Stmt} → IsBlock ts b → is_open b �
 block_closed (is_braces o c ts ss i) = refl
 
 pub block_starts : {ts : List Token} {b : Stmt} → IsBlock ts b → (rest : List Token) → starts_with mark.BraceOpen (ts ++ rest) ≡ true
-block_starts i rest = block_open i rest
+block_starts (is_braces o c ts ss i) rest = refl
 
 -- no statement begins with a closing brace or `else`
 pub stmt_off_mark : (m : Mark) → Foreign m → is_mark m (kind.Mark mark.BraceOpen) ≡ false → {ts : List Token} {s : Stmt} → IsStmt ts s → (rest : List Token) → starts_with m (ts ++ rest) ≡ false

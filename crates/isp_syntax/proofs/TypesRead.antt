@@ -10,6 +10,7 @@ use Rattle.isp_lex.specs.declared.token.TokenKind.{TokenKind}
 use Rattle.isp_lex.specs.declared.token.TokenKind.TheVariants as kind
 use Rattle.isp_lex.specs.declared.token.Token.{Token}
 use Rattle.isp_syntax.proofs.Basics.{token, ok_is, err_ok, err_is, ok_err, chosen}
+use Rattle.isp_syntax.proofs.Choices.{nowhere}
 use Rattle.isp_syntax.proofs.Forms.{Form, Found, IsSound, IsComplete, Can}
 use Rattle.isp_syntax.proofs.FormsComplete.{EndsByHead}
 use Rattle.isp_syntax.proofs.Refused.{Refused, FailsForm, IsRefused}
@@ -26,10 +27,6 @@ use Rattle.isp_syntax.specs.declared.tree.Base.{Base}
 use Rattle.isp_syntax.specs.declared.tree.Base.TheVariants as base
 use Rattle.isp_syntax.specs.declared.types.TypeWord.{TypeWord}
 use Rattle.isp_syntax.specs.declared.types.TypeWord.TheVariants as by
-
--- some place
-abbrev pub nowhere : Span
-nowhere = record { start = 0; end = 0 }
 
 -- ---- the first token
 
@@ -165,7 +162,7 @@ past_last s t (u ∷ a) = past_last (span_to s t.span) u a
 
 -- ---- qualifiers
 
-one_qualifier : {ts : List Token} {q : Qualifier} → IsQualifier ts q → (s : Span) × (ts ≡ at (qualifier_mark q) s ∷ [])
+pub one_qualifier : {ts : List Token} {q : Qualifier} → IsQualifier ts q → (s : Span) × (ts ≡ at (qualifier_mark q) s ∷ [])
 one_qualifier (is_qualifier q s) = (s, refl)
 
 first_qualifier : (a : List Token) (q : Qualifier) (qs : List Qualifier) → AreAll IsQualifier a (q ∷ qs) → (s : Span) × (b : List Token) × (a ≡ at (qualifier_mark q) s ∷ b) × AreAll IsQualifier b qs

@@ -1,15 +1,15 @@
 -- Forms behind a mark or in brackets, without the places of the marks.
-use Rattle.std.proofs.Common.{◌≡◌, ℕ, List, [], ◌∷◌, ◌++◌, Ok, refl, sym, ap, subst, ◌∙◌, append_assoc, arith}
+use Rattle.std.proofs.Common.{◌≡◌, ℕ, List, [], ◌∷◌, ◌++◌, Ok, refl, sym, ap, subst, ◌∙◌, arith}
 use Rattle.isp_base.specs.declared.types.Span.{Span}
 use Rattle.isp_lex.specs.Tokens.{at}
 use Rattle.isp_lex.specs.declared.token.Mark.{Mark}
 use Rattle.isp_lex.specs.declared.token.Mark.TheVariants as mark
 use Rattle.isp_lex.specs.declared.token.Token.{Token}
 use Rattle.isp_syntax.proofs.Choices.{nowhere, Makes, makes_sound, makes_complete, makes_refused}
-use Rattle.isp_syntax.proofs.Forms.{Form, IsSound, IsComplete, Can, One, one_sound, one_complete, Both, Free, Follows, both_sound, both_complete, Behind, one_then, behind_is, is_behind, Before, then_one, before_is, is_before}
+use Rattle.isp_syntax.proofs.Forms.{Form, IsSound, IsComplete, Can, One, one_sound, one_complete, Free, Follows, both_sound, both_complete, Behind, one_then, behind_is, is_behind, Before, then_one, before_is, is_before}
 use Rattle.isp_syntax.proofs.FormsComplete.{EndsByHead, one_by_head}
 use Rattle.isp_syntax.proofs.Refused.{IsRefused, one_refused, both_refused}
-use Rattle.isp_syntax.specs.Reading.{◌>>=◌, Reader, both, mark_at}
+use Rattle.isp_syntax.specs.Reading.{◌>>=◌, both, mark_at}
 
 -- ---- behind a mark
 

@@ -1,4 +1,4 @@
-use Rattle.std.proofs.Common.{◌≡◌, ◌≤◌, ◌+◌, ◌<◌, ℕ, length}
+use Rattle.std.proofs.Common.{◌≡◌, ◌≤◌, ◌<◌, ℕ, length}
 use Rattle.std.specs.Prelude.{map}
 use Rattle.isp_syntax.specs.Reading.{list_at}
 use Rattle.isp_syntax.specs.ReadingStmts.{item_at, items_at}

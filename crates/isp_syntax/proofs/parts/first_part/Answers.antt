@@ -1,4 +1,4 @@
-use Rattle.std.proofs.Common.{◌≡◌, arith}
+use Rattle.std.proofs.Common.{arith}
 use Rattle.isp_syntax.specs.ReadingStarts.{begins_first}
 use Rattle.isp_syntax.specs.ReadingStmts.{first_at, first_part_at}
 use Rattle.isp_syntax.proofs.ListForms.{counted_limit, counted_step}

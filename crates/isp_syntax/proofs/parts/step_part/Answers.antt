@@ -1,4 +1,4 @@
-use Rattle.std.proofs.Common.{◌≡◌, arith}
+use Rattle.std.proofs.Common.{arith}
 use Rattle.isp_syntax.specs.ReadingStarts.{begins_simple}
 use Rattle.isp_syntax.specs.ReadingStmts.{simple_at, step_part_at}
 use Rattle.isp_syntax.proofs.ListForms.{counted_limit, counted_step}
