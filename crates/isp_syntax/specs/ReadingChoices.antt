@@ -1,5 +1,5 @@
 -- Readers of what the first token decides: no part of what `parse` promises.
-use Rattle.std.specs.Prelude.{◌⊎◌, List, [], ◌∷◌, drop, ℕ, zero, suc, Bool, true, false, Option, Some, None, Ok}
+use Rattle.std.specs.Prelude.{◌⊎◌, List, [], ◌∷◌, ℕ, zero, suc, Bool, true, false, Option, Some, None, Ok}
 use mathlib.Core.Logic.{inl, inr}
 use Rattle.isp_base.specs.declared.types.Span.{Span}
 use Rattle.isp_lex.specs.Tokens.{starts_with}

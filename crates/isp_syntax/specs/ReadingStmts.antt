@@ -1,5 +1,5 @@
 -- How statements are read: no part of what `parse` promises.
-use Rattle.std.specs.Prelude.{◌⊎◌, ℕ, zero, suc, List, [], ◌∷◌, length, drop, Bool, true, false, ◌||◌, if◌then◌else◌, Option, Some, None, Ok, option_map}
+use Rattle.std.specs.Prelude.{◌⊎◌, ℕ, zero, suc, List, [], ◌∷◌, length, Bool, true, false, ◌||◌, if◌then◌else◌, Option, Some, None, Ok, option_map}
 use mathlib.Core.Logic.{inl, inr}
 use Rattle.isp_base.specs.Types.{span_to}
 use Rattle.isp_base.specs.declared.types.Span.{Span}
@@ -279,23 +279,41 @@ if_from f i x s (Some t) = if_else f x s t (span_to i (span_of_stmt t))
 unfoldable pub if_at : Reader Stmt → ℕ → Form → Span → Reader Stmt
 if_at stmt n f i ts = both (test_at n) (both stmt (optional mark.Else stmt)) ts >>= λ p. Ok (if_from f i p.0.0 p.0.1.0 p.0.1.1, p.1)
 
+abbrev pub while_from : Form → Span → Expr → Stmt → Stmt
+while_from f w x s = loop_while f x s (span_to w (span_of_stmt s))
+
 unfoldable pub while_at : Reader Stmt → ℕ → Form → Span → Reader Stmt
-while_at stmt n f w ts = both (test_at n) stmt ts >>= λ p. Ok (loop_while f p.0.0 p.0.1 (span_to w (span_of_stmt p.0.1)), p.1)
+while_at stmt n f w ts = both (test_at n) stmt ts >>= λ p. Ok (while_from f w p.0.0 p.0.1, p.1)
+
+abbrev pub do_from : Form → Span → Stmt → Expr → Span → Stmt
+do_from f d s x e = loop_do f s x (span_to d e)
 
 unfoldable pub do_at : Reader Stmt → ℕ → Form → Span → Reader Stmt
-do_at stmt n f d ts = both stmt (do_end_at n) ts >>= λ p. Ok (loop_do f p.0.0 p.0.1.0 (span_to d p.0.1.1), p.1)
+do_at stmt n f d ts = both stmt (do_end_at n) ts >>= λ p. Ok (do_from f d p.0.0 p.0.1.0 p.0.1.1, p.1)
+
+abbrev pub for_from : Form → Span → Head → Stmt → Stmt
+for_from f w h s = loop_for f h.0 h.1.0 h.1.1 s (span_to w (span_of_stmt s))
 
 unfoldable pub for_at : Reader Stmt → ℕ → Form → Span → Reader Stmt
-for_at stmt n f w ts = both (head_at n) stmt ts >>= λ p. Ok (loop_for f p.0.0.0 p.0.0.1.0 p.0.0.1.1 p.0.1 (span_to w (span_of_stmt p.0.1)), p.1)
+for_at stmt n f w ts = both (head_at n) stmt ts >>= λ p. Ok (for_from f w p.0.0 p.0.1, p.1)
+
+abbrev pub foreach_from : Tiling → Span → List Range → Stmt → Stmt
+foreach_from t w rs s = foreach t w rs s (span_to w (span_of_stmt s))
 
 unfoldable pub foreach_at : Reader Stmt → ℕ → Tiling → Span → Reader Stmt
-foreach_at stmt n t w ts = both (ranges_head_at n) stmt ts >>= λ p. Ok (foreach t w p.0.0 p.0.1 (span_to w (span_of_stmt p.0.1)), p.1)
+foreach_at stmt n t w ts = both (ranges_head_at n) stmt ts >>= λ p. Ok (foreach_from t w p.0.0 p.0.1, p.1)
+
+abbrev pub active_from : Span → Word → Stmt → Stmt
+active_from w i s = foreach_active w i s (span_to w (span_of_stmt s))
 
 unfoldable pub active_at : Reader Stmt → Span → Reader Stmt
-active_at stmt w ts = both active_head_at stmt ts >>= λ p. Ok (foreach_active w p.0.0 p.0.1 (span_to w (span_of_stmt p.0.1)), p.1)
+active_at stmt w ts = both active_head_at stmt ts >>= λ p. Ok (active_from w p.0.0 p.0.1, p.1)
+
+abbrev pub unmasked_from : Span → Stmt → Stmt
+unmasked_from u s = unmasked u s (span_to u (span_of_stmt s))
 
 unfoldable pub unmasked_at : Reader Stmt → Span → Reader Stmt
-unmasked_at stmt u ts = block_at stmt ts >>= λ b. Ok (unmasked u b.0 (span_to u (span_of_stmt b.0)), b.1)
+unmasked_at stmt u ts = block_at stmt ts >>= λ b. Ok (unmasked_from u b.0, b.1)
 
 -- a statement with parts no deeper than the number, by what its first token says
 abbrev pub stmt_from : Reader Stmt → ℕ → Start → Token → List Token → Read Stmt

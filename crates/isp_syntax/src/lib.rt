@@ -4,6 +4,7 @@
 mod declaration;
 mod expr;
 mod function;
+mod make;
 mod parts;
 mod program;
 mod reading;

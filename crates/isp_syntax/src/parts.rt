@@ -162,7 +162,7 @@ fn maybe_step(
 }
 
 /// The first part, the test and the step of a `for`.
-type Head = (Option<First>, (Option<Expr>, Option<Simple>));
+pub type Head = (Option<First>, (Option<Expr>, Option<Simple>));
 
 /// What stands in the brackets of a `for`, and the brackets.
 #[tactic(auto, unfolding(crate::specs::ReadingStmts::head_at))]

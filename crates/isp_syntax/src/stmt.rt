@@ -6,6 +6,9 @@ ghost use Rattle.isp_syntax.specs.ReadingChoices.{begins_with};
 ghost use Rattle.isp_syntax.specs.ReadingStarts.{start_of, begins_stmt};
 ghost use Rattle.isp_syntax.specs.ReadingStmts.{stmts_at, braces_at, block_at, if_at, while_at, do_at, for_at, foreach_at, active_at, unmasked_at, stmt_from, stmt_at};
 
+use crate::make::{
+    make_active, make_do, make_for, make_foreach, make_if, make_if_else, make_unmasked, make_while,
+};
 use crate::parts::{active_head, do_end, head, ranges_head, refuse_at_limit, test};
 use crate::reading::{mark, refuse, starts_with, tail};
 use crate::single::{assert_stmt, declare_stmt, jump_stmt, print_stmt, return_stmt, simple_stmt};
@@ -78,6 +81,17 @@ pub fn block(alloc: Global, left: usize, tokens: &[Token]) -> Result<(Stmt, &[To
     stmt(alloc, left, tokens)
 }
 
+/// A statement in another: while more is read, a box holds it.
+#[cycle(stmt)]
+fn boxed(alloc: Global, inner: usize, tokens: &[Token]) -> Result<(Box<Stmt>, &[Token]), Stop>
+    requires { inner ≤ 128 }
+    ensures value { Gives (λ r. (stmt_of r.0.value, r.1.now)) result (stmt_at inner tokens.now) }
+    ensures rest { IfOk result (λ r. length r.1.now < length tokens.now) }
+{
+    let (inside, rest) = stmt(alloc, inner, tokens)?;
+    Ok((Box::new(alloc, inside)?, rest))
+}
+
 /// `else` and its statement, where `else` stands: it belongs to the nearest `if`.
 #[cycle(stmt)]
 #[tactic(auto, unfolding(crate::specs::Reading::optional))]
@@ -85,15 +99,15 @@ fn else_branch(
     alloc: Global,
     inner: usize,
     tokens: &[Token],
-) -> Result<(Option<Stmt>, &[Token]), Stop>
+) -> Result<(Option<Box<Stmt>>, &[Token]), Stop>
     requires { inner ≤ 128 }
-    ensures value { Gives (λ r. (option_map stmt_of r.0, r.1.now)) result (optional Mark.Else (stmt_at inner) tokens.now) }
+    ensures value { Gives (λ r. (option_map (λ b. stmt_of b.value) r.0, r.1.now)) result (optional Mark.Else (stmt_at inner) tokens.now) }
     ensures rest { IfOk result (λ r. length r.1.now ≤ length tokens.now) }
 {
     if !starts_with(Mark::Else, tokens) {
         return Ok((None, tokens));
     }
-    let (other, rest) = stmt(alloc, inner, tail(tokens))?;
+    let (other, rest) = boxed(alloc, inner, tail(tokens))?;
     Ok((Some(other), rest))
 }
 
@@ -112,19 +126,11 @@ fn conditional(
     ensures rest { IfOk result (λ r. length r.1.now < length tokens.now) }
 {
     let (test, rest) = test(alloc, inner, tokens)?;
-    let (then, rest) = stmt(alloc, inner, rest)?;
+    let (then, rest) = boxed(alloc, inner, rest)?;
     let (other, rest) = else_branch(alloc, inner, rest)?;
     match other {
-        None => {
-            let span = word.to(then.span());
-            Ok((Stmt::If(form, test, Box::new(alloc, then)?, span), rest))
-        }
-        Some(other) => {
-            let span = word.to(other.span());
-            let then = Box::new(alloc, then)?;
-            let other = Box::new(alloc, other)?;
-            Ok((Stmt::IfElse(form, test, then, other, span), rest))
-        }
+        None => Ok((make_if(form, word, test, then), rest)),
+        Some(other) => Ok((make_if_else(form, word, test, then, other), rest)),
     }
 }
 
@@ -143,9 +149,8 @@ fn while_loop(
     ensures rest { IfOk result (λ r. length r.1.now < length tokens.now) }
 {
     let (test, rest) = test(alloc, inner, tokens)?;
-    let (body, rest) = stmt(alloc, inner, rest)?;
-    let span = word.to(body.span());
-    Ok((Stmt::While(form, test, Box::new(alloc, body)?, span), rest))
+    let (body, rest) = boxed(alloc, inner, rest)?;
+    Ok((make_while(form, word, test, body), rest))
 }
 
 /// What stands behind `do` at this place.
@@ -162,10 +167,9 @@ fn do_loop(
     ensures value { Gives (λ r. (stmt_of r.0, r.1.now)) result (do_at (stmt_at inner) inner form word tokens.now) }
     ensures rest { IfOk result (λ r. length r.1.now < length tokens.now) }
 {
-    let (body, rest) = stmt(alloc, inner, tokens)?;
+    let (body, rest) = boxed(alloc, inner, tokens)?;
     let ((test, end), rest) = do_end(alloc, inner, rest)?;
-    let span = word.to(end);
-    Ok((Stmt::Do(form, Box::new(alloc, body)?, test, span), rest))
+    Ok((make_do(form, word, body, test, end), rest))
 }
 
 /// What stands behind `for` at this place.
@@ -182,11 +186,9 @@ fn for_loop(
     ensures value { Gives (λ r. (stmt_of r.0, r.1.now)) result (for_at (stmt_at inner) inner form word tokens.now) }
     ensures rest { IfOk result (λ r. length r.1.now < length tokens.now) }
 {
-    let ((first, (test, step)), rest) = head(alloc, inner, tokens)?;
-    let (body, rest) = stmt(alloc, inner, rest)?;
-    let span = word.to(body.span());
-    let body = Box::new(alloc, body)?;
-    Ok((Stmt::For(form, first, test, step, body, span), rest))
+    let (head, rest) = head(alloc, inner, tokens)?;
+    let (body, rest) = boxed(alloc, inner, rest)?;
+    Ok((make_for(form, word, head, body), rest))
 }
 
 /// What stands behind `foreach` at this place.
@@ -204,10 +206,8 @@ fn foreach(
     ensures rest { IfOk result (λ r. length r.1.now < length tokens.now) }
 {
     let (ranges, rest) = ranges_head(alloc, inner, tokens)?;
-    let (body, rest) = stmt(alloc, inner, rest)?;
-    let span = word.to(body.span());
-    let body = Box::new(alloc, body)?;
-    Ok((Stmt::Foreach(tiling, word, ranges, body, span), rest))
+    let (body, rest) = boxed(alloc, inner, rest)?;
+    Ok((make_foreach(tiling, word, ranges, body), rest))
 }
 
 /// What stands behind `foreach_active` at this place.
@@ -224,10 +224,8 @@ fn foreach_active(
     ensures rest { IfOk result (λ r. length r.1.now < length tokens.now) }
 {
     let (index, rest) = active_head(tokens)?;
-    let (body, rest) = stmt(alloc, inner, rest)?;
-    let span = word.to(body.span());
-    let body = Box::new(alloc, body)?;
-    Ok((Stmt::ForeachActive(word, index, body, span), rest))
+    let (body, rest) = boxed(alloc, inner, rest)?;
+    Ok((make_active(word, index, body), rest))
 }
 
 /// What stands behind `unmasked` at this place.
@@ -244,8 +242,7 @@ fn unmasked(
     ensures rest { IfOk result (λ r. length r.1.now < length tokens.now) }
 {
     let (body, rest) = block(alloc, inner, tokens)?;
-    let span = word.to(body.span());
-    Ok((Stmt::Unmasked(word, Box::new(alloc, body)?, span), rest))
+    Ok((make_unmasked(word, Box::new(alloc, body)?), rest))
 }
 
 /// A statement by its first token, its parts no deeper than `inner`.

@@ -22,10 +22,13 @@ abbrev pub decreases-block : goal.decreases-block
 decreases-block l = 8 * l.left + 1
 
 abbrev pub decreases-else_branch : goal.decreases-else_branch
-decreases-else_branch l = 8 * l.inner + 1
+decreases-else_branch l = 8 * l.inner + 2
+
+abbrev pub decreases-boxed : goal.decreases-boxed
+decreases-boxed l = 8 * l.inner + 1
 
 abbrev pub decreases-conditional : goal.decreases-conditional
-decreases-conditional l = 8 * l.inner + 2
+decreases-conditional l = 8 * l.inner + 3
 
 abbrev pub decreases-while_loop : goal.decreases-while_loop
 decreases-while_loop l = 8 * l.inner + 2
