@@ -46,7 +46,7 @@ abbrev pub decreases-foreach_active : goal.decreases-foreach_active
 decreases-foreach_active l = 8 * l.inner + 2
 
 abbrev pub decreases-unmasked : goal.decreases-unmasked
-decreases-unmasked l = 8 * l.inner + 2
+decreases-unmasked l = 8 * l.inner + 3
 
 abbrev pub invariant-stmts-each : goal.invariant-stmts-each
 invariant-stmts-each l = record {
