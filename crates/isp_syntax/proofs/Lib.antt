@@ -11,6 +11,7 @@ pub mod Simples
 pub mod Wrapped
 pub mod StmtParts
 pub mod Ranges
+pub mod RangeSteps
 pub mod Stmts
 pub mod StmtReads
 pub mod StmtsSound

@@ -1,5 +1,5 @@
 -- How statements are read: no part of what `parse` promises.
-use Rattle.std.specs.Prelude.{◌⊎◌, ℕ, zero, suc, List, [], ◌∷◌, length, Bool, true, false, ◌||◌, if◌then◌else◌, Option, Some, None, Ok, option_map}
+use Rattle.std.specs.Prelude.{◌⊎◌, ℕ, zero, suc, List, [], ◌∷◌, ◌++◌, length, Bool, true, false, ◌||◌, if◌then◌else◌, Option, Some, None, Ok}
 use mathlib.Core.Logic.{inl, inr}
 use Rattle.isp_base.specs.Types.{span_to}
 use Rattle.isp_base.specs.declared.types.Span.{Span}
@@ -16,7 +16,7 @@ use Rattle.isp_syntax.specs.ReadingExprs.{expr_at}
 use Rattle.isp_syntax.specs.ReadingStarts.{start_of, begins_first, begins_simple, begins_stmt}
 use Rattle.isp_syntax.specs.ReadingTypes.{begins_type, type_at}
 use Rattle.isp_syntax.specs.Signs.{loosest}
-use Rattle.isp_syntax.specs.Tree.{TypeTree, Expr, expr_of, span_of, Item, plain, with_value, with_size, Declaration, Simple, value, assign, change, First, first_declare, first_simple, Range, range_of, Stmt, block, empty, declare, simple, if_then, if_else, loop_while, loop_do, loop_for, foreach, foreach_active, unmasked, jump, returning, print, assert, all, span_of_stmt, span_of_simple}
+use Rattle.isp_syntax.specs.Tree.{TypeTree, Expr, expr_of, span_of, Item, plain, with_value, with_size, Declaration, Simple, value, assign, change, First, first_declare, first_simple, Range, Stmt, block, empty, declare, simple, if_then, if_else, loop_while, loop_do, loop_for, foreach, foreach_active, unmasked, jump, returning, print, assert, all, span_of_stmt, span_of_simple}
 use Rattle.isp_syntax.specs.declared.declaration.ItemTail as rust_item
 use Rattle.isp_syntax.specs.declared.declaration.ItemTail.TheVariants as one
 use Rattle.isp_syntax.specs.declared.simple.Ending as rust_ending
@@ -25,7 +25,6 @@ use Rattle.isp_syntax.specs.declared.start.Start.{Start}
 use Rattle.isp_syntax.specs.declared.start.Start.TheVariants as by
 use Rattle.isp_syntax.specs.declared.stop.Why.TheVariants.{Unexpected, TooDeep}
 use Rattle.isp_syntax.specs.declared.stop.Refusal.{Refusal}
-use Rattle.isp_syntax.specs.declared.tree.Range as rust_range
 use Rattle.isp_syntax.specs.declared.tree.Word.{Word}
 use Rattle.isp_syntax.specs.declared.tree.Size.{Size}
 use Rattle.isp_syntax.specs.declared.tree.Size.TheVariants as size
@@ -190,13 +189,6 @@ range_from w x y = record { word = w; start = x; end = y; span = span_to w.span 
 unfoldable pub range_at : ℕ → Reader Range
 range_at n ts = both word_at (both (mark_at mark.Assign) (both (expr_at n loosest) (both (mark_at mark.Ellipsis) (expr_at n loosest)))) ts >>= λ p. Ok (range_from p.0.0 p.0.1.1.0 p.0.1.1.1.1, p.1)
 
--- ranges of the code, behind commas
-abbrev pub next_of : Option (Span × rust_range.Range) → Option (Span × Range)
-next_of = option_map (λ r. (r.0, range_of r.1))
-
-abbrev pub more_of : Option (Span × (rust_range.Range × Option (Span × rust_range.Range))) → Option (Span × (Range × Option (Span × Range)))
-more_of = option_map (λ r. (r.0, (range_of r.1.0, next_of r.1.1)))
-
 -- one to three ranges
 unfoldable pub last_range_at : ℕ → Reader (Option (Span × Range))
 last_range_at n ts = perhaps_at (is_mark mark.Comma) (both (mark_at mark.Comma) (range_at n)) ts
@@ -211,6 +203,13 @@ last_range (Some r) = r.1 ∷ []
 abbrev pub more_ranges : Option (Span × (Range × Option (Span × Range))) → List Range
 more_ranges None = []
 more_ranges (Some r) = r.1.0 ∷ last_range r.1.1
+
+-- behind ranges that were read before
+abbrev pub with_last : List Range → Read (Option (Span × Range)) → Read (List Range)
+with_last front read = read >>= λ p. Ok (front ++ last_range p.0, p.1)
+
+abbrev pub with_more : List Range → Read (Option (Span × (Range × Option (Span × Range)))) → Read (List Range)
+with_more front read = read >>= λ p. Ok (front ++ more_ranges p.0, p.1)
 
 unfoldable pub ranges_at : ℕ → Reader (List Range)
 ranges_at n ts = both (range_at n) (more_ranges_at n) ts >>= λ p. Ok (p.0.0 ∷ more_ranges p.0.1, p.1)

@@ -6,7 +6,7 @@ ghost use Rattle.isp_syntax.specs.Reading.{Gives};
 ghost use Rattle.isp_syntax.specs.ReadingChoices.{begins_with, sign_at, maybe_at};
 ghost use Rattle.isp_syntax.specs.ReadingExprs.{expr_at};
 ghost use Rattle.isp_syntax.specs.ReadingStarts.{begins_first, begins_simple};
-ghost use Rattle.isp_syntax.specs.ReadingStmts.{test_at, first_at, first_part_at, step_part_at, head_at, next_of, more_of, range_at, last_range_at, more_ranges_at, ranges_at, ranges_head_at, active_head_at, text_of, next_value_at, values_at, do_end_at, refusal_at_limit};
+ghost use Rattle.isp_syntax.specs.ReadingStmts.{test_at, first_at, first_part_at, step_part_at, head_at, range_at, with_last, last_range_at, with_more, more_ranges_at, ranges_at, ranges_head_at, active_head_at, text_of, next_value_at, values_at, do_end_at, refusal_at_limit};
 
 use crate::declaration::declaration;
 use crate::expr::expr;
@@ -205,43 +205,47 @@ fn range(alloc: Global, left: usize, tokens: &[Token]) -> Result<(Range, &[Token
     ))
 }
 
-/// A comma and what stands behind it, if there is one.
-type Next<T> = Option<(Span, T)>;
-
-/// The third range.
+/// The ranges before, and the third range if there is one.
 #[tactic(auto, unfolding(crate::specs::ReadingStmts::last_range_at, crate::specs::ReadingChoices::perhaps_at, crate::specs::Reading::mark_at))]
-fn last_range(alloc: Global, left: usize, tokens: &[Token]) -> Result<(Next<Range>, &[Token]), Stop>
+fn last_range(
+    alloc: Global,
+    left: usize,
+    mut all: Vec<Range>,
+    tokens: &[Token],
+) -> Result<(Vec<Range>, &[Token]), Stop>
     requires { left ≤ 128 }
-    ensures value { Gives (λ r. (next_of r.0, r.1.now)) result (last_range_at left tokens.now) }
+    ensures value { Gives (λ r. (map range_of r.0.items, r.1.now)) result (with_last (map range_of all.items) (last_range_at left tokens.now)) }
     ensures rest { IfOk result (λ r. length r.1.now ≤ length tokens.now) }
 {
     match tokens {
         [first, rest @ ..] if first.kind.is(Mark::Comma) => {
             let (range, rest) = range(alloc, left, rest)?;
-            Ok((Some((first.span, range)), rest))
+            all.push(range)?;
+            Ok((all, rest))
         }
-        _ => Ok((None, tokens)),
+        _ => Ok((all, tokens)),
     }
 }
 
-/// The second range, and the third.
+/// The range before, and the second and the third range if there are any.
 #[tactic(auto, unfolding(crate::specs::ReadingStmts::more_ranges_at, crate::specs::ReadingChoices::perhaps_at, crate::specs::Reading::mark_at))]
 fn more_ranges(
     alloc: Global,
     left: usize,
+    mut all: Vec<Range>,
     tokens: &[Token],
-) -> Result<(Next<(Range, Next<Range>)>, &[Token]), Stop>
+) -> Result<(Vec<Range>, &[Token]), Stop>
     requires { left ≤ 128 }
-    ensures value { Gives (λ r. (more_of r.0, r.1.now)) result (more_ranges_at left tokens.now) }
+    ensures value { Gives (λ r. (map range_of r.0.items, r.1.now)) result (with_more (map range_of all.items) (more_ranges_at left tokens.now)) }
     ensures rest { IfOk result (λ r. length r.1.now ≤ length tokens.now) }
 {
     match tokens {
         [first, rest @ ..] if first.kind.is(Mark::Comma) => {
             let (range, rest) = range(alloc, left, rest)?;
-            let (last, rest) = last_range(alloc, left, rest)?;
-            Ok((Some((first.span, (range, last))), rest))
+            all.push(range)?;
+            last_range(alloc, left, all, rest)
         }
-        _ => Ok((None, tokens)),
+        _ => Ok((all, tokens)),
     }
 }
 
@@ -253,18 +257,9 @@ fn ranges(alloc: Global, left: usize, tokens: &[Token]) -> Result<(Vec<Range>, &
     ensures rest { IfOk result (λ r. length r.1.now < length tokens.now) }
 {
     let (first, rest) = range(alloc, left, tokens)?;
-    let (more, rest) = more_ranges(alloc, left, rest)?;
     let mut all = Vec::new(alloc);
     all.push(first)?;
-    let Some((_comma, (second, last))) = more else {
-        return Ok((all, rest));
-    };
-    all.push(second)?;
-    let Some((_comma, third)) = last else {
-        return Ok((all, rest));
-    };
-    all.push(third)?;
-    Ok((all, rest))
+    more_ranges(alloc, left, all, rest)
 }
 
 /// The ranges of a `foreach` in brackets.
