@@ -1,7 +1,8 @@
 //! Tokens.
-ghost use Rattle.std.specs.Prelude.{◌≡◌};
+ghost use Rattle.std.specs.Prelude.{◌≡◌, ◌↔◌, IsTrue};
 ghost use Rattle.isp_lex.specs.Listed.{IsListed};
 ghost use Rattle.isp_lex.specs.Tokens.{is_mark};
+ghost use Rattle.isp_lex.specs.declared.token.TokenKind.TheVariants as kind;
 
 use crate::text::Text;
 use isp_base::{Name, Span, Value};
@@ -123,7 +124,8 @@ pub struct Token {
 impl TokenKind {
     /// Whether this is the sign or reserved word.
     pub fn is(&self, mark: Mark) -> bool
-        ensures { result ≡ is_mark mark self.now }
+        ensures exact { IsTrue result ↔ (self.now ≡ kind.Mark mark) }
+        ensures value { result ≡ is_mark mark self.now }
     {
         match self {
             TokenKind::Mark(other) => mark as u8 == *other as u8,
