@@ -4,7 +4,7 @@ pub mod Faults
 pub mod Lexing
 pub mod Listed
 pub mod Numbers
-pub mod Reading
 pub mod Spelling
 pub mod Texts
 pub mod Tokens
+pub mod reader

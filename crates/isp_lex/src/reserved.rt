@@ -1,6 +1,6 @@
 //! The words that the language reserves: those in use, and those that it leaves out.
 ghost use Rattle.std.specs.Prelude.{◌≡◌};
-ghost use Rattle.isp_lex.specs.Reading.{spelled, reserved};
+ghost use Rattle.isp_lex.specs.reader.Words.{spelled, reserved};
 
 use crate::token::{Mark, TokenKind};
 

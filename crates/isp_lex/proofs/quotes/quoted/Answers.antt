@@ -1,7 +1,7 @@
 use Rattle.std.proofs.Common.{◌≡◌, drop, rules}
-use Rattle.isp_lex.specs.Reading.{said_at}
+use Rattle.isp_lex.specs.reader.Quotes.{said_at}
 use Rattle.isp_lex.specs.declared.quotes.Said.TheVariants as said
-use Rattle.isp_lex.proofs.TextLaws.{says_start, says_more, says_stops, says_closed}
+use Rattle.isp_lex.proofs.TextReads.{says_start, says_more, says_stops, says_closed}
 use Rattle.isp_lex.proofs.quotes.quoted.Goals as goal
 
 pub loop-byte-init : goal.loop-byte-init
