@@ -1,11 +1,21 @@
 -- What the code finds a word to be: by its length, and then one after another.
 use Rattle.std.specs.Prelude.{ℕ, cond, ◌==◌, List, [], ◌∷◌, length, Option, Some, None, codes}
+use Rattle.std.specs.Borrow.{Bor}
 use Rattle.std.specs.Str.{bytes_eq}
 use Rattle.isp_lex.specs.declared.token.Mark.{Mark}
 use Rattle.isp_lex.specs.declared.token.Mark.TheVariants as mark
 use Rattle.isp_lex.specs.declared.token.TokenKind.{TokenKind}
 use Rattle.isp_lex.specs.declared.token.TokenKind.TheVariants as kind
 use Rattle.isp_lex.specs.Spelling.{spelling}
+
+-- the first of the words in use that is this one, and of those that are left out
+abbrev pub found_in : List (Bor (List ℕ) × Mark) → Option TokenKind → List ℕ → Option TokenKind
+found_in [] other word = other
+found_in (w ∷ ws) other word = cond (bytes_eq word w.0.now) (Some (kind.Mark w.1)) (found_in ws other word)
+
+abbrev pub left_in : List (Bor (List ℕ)) → List ℕ → Option TokenKind
+left_in [] word = None
+left_in (w ∷ ws) word = cond (bytes_eq word w.now) (Some kind.LeftOut) (left_in ws word)
 
 -- the first of the marks that is spelled so
 abbrev pub first_spelled : List Mark → Option TokenKind → List ℕ → Option TokenKind
