@@ -153,6 +153,13 @@ says_length text at n h i = omega (arith, length-drop at text)
 pub unit_within : (rest : List ℕ) (b n : ℕ) → said_at rest ≡ said.Byte b n → n ≤ length rest
 unit_within rest b n q = let w = said_unit rest b n q in omega (arith, w.size, ap length w.split, length-append w.front (drop n rest))
 
+decodes_some : {body : List ℕ} {b : ℕ} {bytes : List ℕ} → Decodes body (b ∷ bytes) → 0 < length body
+decodes_some (plain b body bytes h d) = omega arith
+decodes_some (escape e b body bytes h d) = omega arith
+
+pub unit_some : (rest : List ℕ) (b n : ℕ) → said_at rest ≡ said.Byte b n → 0 < n
+unit_some rest b n q = let w = said_unit rest b n q in omega (arith, w.size, decodes_some w.decoded)
+
 quote_split : (rest : List ℕ) → next_is 34 rest ≡ true → rest ≡ 34 ∷ drop 1 rest
 quote_split [] e = absurd (false≢true e)
 quote_split (b ∷ bs) e = ap (λ (x : ℕ). x ∷ bs) (eqb-true b 34 e)
