@@ -9,7 +9,7 @@ use isp_base::{Name, Span, Value};
 use std::marker::Model;
 
 /// A token of one spelling: a sign, or a word that the language reserves and uses.
-#[derive(Clone, Copy, Debug)]
+#[derive(Clone, Copy)]
 pub enum Mark {
     ParenOpen,
     ParenClose,
@@ -100,7 +100,7 @@ pub enum Mark {
 }
 
 /// What a token is.
-#[derive(Debug, Drop)]
+#[derive(Drop)]
 pub enum TokenKind {
     /// A name.
     Word(Name),
@@ -115,7 +115,7 @@ pub enum TokenKind {
 }
 
 /// A token, and where it stands: byte places in the source.
-#[derive(Debug, Drop)]
+#[derive(Drop)]
 pub struct Token {
     pub kind: TokenKind,
     pub span: Span,
@@ -136,7 +136,7 @@ impl TokenKind {
 
 /// The tokens of a source text in their order, and the length of the text in bytes. Every list of
 /// this type is that of some text of at most 1,048,576 bytes.
-#[derive(Debug, Drop)]
+#[derive(Drop)]
 pub struct Tokens {
     pub(crate) items: Vec<Token>,
     pub(crate) end: usize,
