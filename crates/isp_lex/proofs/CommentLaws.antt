@@ -10,7 +10,8 @@ use Rattle.isp_lex.specs.declared.fault.Rule.TheVariants.{OpenComment}
 use Rattle.isp_lex.specs.Bytes.{begins, is_line_byte, next_is}
 use Rattle.isp_lex.specs.Faults.{fault}
 use Rattle.isp_lex.specs.Lexing.{line, closed, IsFault, open_comment, IsOpen}
-use Rattle.isp_lex.specs.Reading.{Skips, run}
+use Rattle.isp_lex.specs.reader.Pieces.{Skips}
+use Rattle.isp_lex.specs.reader.Runs.{run}
 use Rattle.isp_lex.proofs.Runs.{and_both, run_all, run_ends, run_le}
 
 -- how many bytes there are up to the first `*/`, with it

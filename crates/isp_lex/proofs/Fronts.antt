@@ -1,11 +1,12 @@
 -- What the code finds stands at the front of the text.
 use Rattle.std.proofs.Common.{◌≡◌, ℕ, ◌<◌, ◌≤◌, Bool, true, false, cond, List, [], ◌∷◌, ◌++◌, length, take, drop, Option, Some, None, refl, sym, ap, subst, ◌∙◌, inl, arith, length-append}
 use Rattle.std.specs.Prelude.{◌==◌, codes}
-use Rattle.std.specs.Char.{encode_utf8, is_ascii_digit}
+use Rattle.std.specs.Char.{IsScalar, encode_utf8, is_ascii_digit}
 use Rattle.std.specs.Str.{IsUtf8, IsAscii, IsCharBoundary}
 use Rattle.std.proofs.lemmas.Bool.{false≢true}
 use Rattle.std.proofs.lemmas.List.{drop_at, take_at, take-append-drop}
-use Rattle.std.proofs.lemmas.Str.{IsUtf8-from_ascii, IsCharBoundary-from_take}
+use Rattle.std.proofs.Math.Utf8.{scalar, scalars}
+use Rattle.std.proofs.lemmas.Str.{cons_from_encodes, IsUtf8-from_ascii, IsCharBoundary-from_take}
 use Rattle.std.proofs.lemmas.Str.Ascii.{IsAscii-nil, IsAscii-cons}
 use Rattle.isp_base.specs.declared.types.Value.{Value}
 use Rattle.isp_lex.specs.declared.fault.Fault.{Fault}
@@ -16,7 +17,11 @@ use Rattle.isp_lex.specs.declared.token.TokenKind.TheVariants as kind
 use Rattle.isp_lex.specs.Bytes.{all, begins, is_blank, is_word_byte}
 use Rattle.isp_lex.specs.Faults.{fault}
 use Rattle.isp_lex.specs.Lexing.{BeginsNothing, IsFault, IsWhole, bad_byte, bad_number, opens, span}
-use Rattle.isp_lex.specs.Reading.{BeginsSign, Front, Passes, number_of, number_piece, run, run_of, run_piece, sign_of, word_kind}
+use Rattle.isp_lex.specs.reader.Numerals.{read_number}
+use Rattle.isp_lex.specs.reader.Pieces.{BeginsSign, Front, Passes, number_piece, run_piece}
+use Rattle.isp_lex.specs.reader.Runs.{run, run_of}
+use Rattle.isp_lex.specs.reader.Signs.{sign_of}
+use Rattle.isp_lex.specs.reader.Words.{word_kind}
 use Rattle.isp_lex.specs.Spelling.{spelling}
 use Rattle.isp_lex.proofs.Classes.{blank_ascii, word_no_digit}
 use Rattle.isp_lex.proofs.NumberLaws.{number_sound, number_complete}
@@ -64,7 +69,7 @@ word_whole text after l h b w = record {
   alone = λ e. absurd (no_slash text b e);
 }
 
-number_front : (text after : List ℕ) (p : Piece) (o : Option Value) → number_of text ≡ o → 0 < length text → all is_word_byte text ≡ true → IsWhole text after → number_piece o (length text) ≡ Some p → Front (text ++ after) p
+number_front : (text after : List ℕ) (p : Piece) (o : Option Value) → read_number text ≡ o → 0 < length text → all is_word_byte text ≡ true → IsWhole text after → number_piece o (length text) ≡ Some p → Front (text ++ after) p
 number_front text after p None o l h w e = absurd cc
 number_front text after p (Some v) o l h w e =
     let i : record { token = Some (kind.Number v); len = length text } ≡ p = cc in
@@ -72,8 +77,8 @@ number_front text after p (Some v) o l h w e =
     (ascii_front (record { token = Some (kind.Number v); len = length text }) text after refl l (words_ascii text h) (number_sound text v o, w))
 
 run_front_at : (b : ℕ) (text after : List ℕ) (p : Piece) (t : Bool) → is_ascii_digit b ≡ t → all is_word_byte (b ∷ text) ≡ true → IsWhole (b ∷ text) after
-    → cond t (number_piece (number_of (b ∷ text)) (length (b ∷ text))) (Some (record { token = Some (word_kind (b ∷ text)); len = length (b ∷ text) })) ≡ Some p → Front (b ∷ (text ++ after)) p
-run_front_at b text after p true f h w e = number_front (b ∷ text) after p (number_of (b ∷ text)) refl (omega arith) h w e
+    → cond t (number_piece (read_number (b ∷ text)) (length (b ∷ text))) (Some (record { token = Some (word_kind (b ∷ text)); len = length (b ∷ text) })) ≡ Some p → Front (b ∷ (text ++ after)) p
+run_front_at b text after p true f h w e = number_front (b ∷ text) after p (read_number (b ∷ text)) refl (omega arith) h w e
 run_front_at b text after p false f h w e =
     let i : record { token = Some (word_kind (b ∷ text)); len = length (b ∷ text) } ≡ p = cc in
     let q = and_both (is_word_byte b) (all is_word_byte text) h in
@@ -100,9 +105,9 @@ none_value : (v : Value) (o : Option Value) → o ≡ None → o ≡ Some v → 
 none_value v o e f = let g : None ≡ Some v = sym e ∙ f in cc
 
 -- a run that begins with a digit and is no number
-pub number_fault : (place : ℕ) (bs : List ℕ) (f : Fault) → begins is_ascii_digit (run_of bs) ≡ true → number_of (run_of bs) ≡ None → f ≡ fault BadNumber (span place (length (run_of bs))) → IsFault place bs f
+pub number_fault : (place : ℕ) (bs : List ℕ) (f : Fault) → begins is_ascii_digit (run_of bs) ≡ true → read_number (run_of bs) ≡ None → f ≡ fault BadNumber (span place (length (run_of bs))) → IsFault place bs f
 number_fault place bs f d n e =
-    let i = bad_number place (run_of bs) (drop (run is_word_byte bs) bs) d (run_all is_word_byte bs) (run_ends is_word_byte bs) (λ v h. none_value v (number_of (run_of bs)) n (number_complete (run_of bs) v h)) in
+    let i = bad_number place (run_of bs) (drop (run is_word_byte bs) bs) d (run_all is_word_byte bs) (run_ends is_word_byte bs) (λ v h. none_value v (read_number (run_of bs)) n (number_complete (run_of bs) v h)) in
     subst (λ (g : Fault). IsFault place bs g) (sym e) (subst (λ (l : List ℕ). IsFault place l (fault BadNumber (span place (length (run_of bs))))) (take-append-drop (run is_word_byte bs) bs) i)
 
 -- blanks
@@ -133,10 +138,15 @@ nothing_begins b rest h e = record {
   no_mark = no_sign b rest h.no_word e;
 }
 
+first_scalar : (c : ℕ) (text rest : List ℕ) → IsUtf8 text → text ≡ encode_utf8 c ++ rest → IsScalar c
+first_scalar c text rest u e =
+    let k = cons_from_encodes u.0 rest c (u.1.1 ∙ e) in
+    (and_both (scalar c) (scalars k.0) (ap scalars (sym k.1) ∙ u.1.0)).0
+
 -- the character that a text begins with, where no token begins with it
-pub byte_fault : (place c n : ℕ) (text rest : List ℕ) → text ≡ encode_utf8 c ++ rest → n ≡ length (encode_utf8 c) → BeginsNothing text → IsFault place text (fault BadByte (span place n))
-byte_fault place c n text rest e l h =
-    rw l (subst (λ (t : List ℕ). IsFault place t (fault BadByte (span place (length (encode_utf8 c))))) (sym e) (bad_byte place c rest (subst BeginsNothing e h)))
+pub byte_fault : (place c n : ℕ) (text rest : List ℕ) → IsUtf8 text → text ≡ encode_utf8 c ++ rest → n ≡ length (encode_utf8 c) → BeginsNothing text → IsFault place text (fault BadByte (span place n))
+byte_fault place c n text rest u e l h =
+    rw l (subst (λ (t : List ℕ). IsFault place t (fault BadByte (span place (length (encode_utf8 c))))) (sym e) (bad_byte place c rest (first_scalar c text rest u e) (subst BeginsNothing e h)))
 
 pub front_le : (bs : List ℕ) (p : Piece) → Front bs p → p.len ≤ length bs
 front_le bs p f = omega (arith, f.size, ap length f.split, length-append f.text f.after)

@@ -1,6 +1,5 @@
 -- A text has one list of tokens, or a fault.
 use Rattle.std.proofs.Common.{◌≡◌, ℕ, zero, suc, ◌+◌, ◌-◌, ◌<◌, ◌≤◌, List, [], ◌∷◌, ◌++◌, length, take, drop, Option, Some, None, refl, sym, ap, subst, ◌∙◌, arith, length-append, append_assoc, inl, inr}
-use Rattle.std.specs.Prelude.{option_map}
 use Rattle.std.proofs.lemmas.List.{append-nil, drop_at, take_at}
 use Rattle.std.specs.List.{All}
 use Rattle.std.proofs.lemmas.List.Elements.{All-nil, All-cons}
@@ -9,7 +8,7 @@ use Rattle.isp_lex.specs.declared.piece.Piece.{Piece}
 use Rattle.isp_lex.specs.declared.token.Token.{Token}
 use Rattle.isp_lex.specs.declared.token.TokenKind.{TokenKind}
 use Rattle.isp_lex.specs.Lexing.{IsFault, IsText, Lexes, done, blank, comment, token, slice, span}
-use Rattle.isp_lex.specs.Reading.{Front, Passes, with_piece, with_token}
+use Rattle.isp_lex.specs.reader.Pieces.{Front, Passes, with_piece, with_token}
 use Rattle.isp_lex.proofs.Fronts.{front_drop}
 use Rattle.isp_lex.proofs.Steps.{comment_some, no_text, step, step_blank, step_comment, step_token, step_fault}
 
@@ -53,84 +52,57 @@ advance text ts bs p place d e f =
     subst (λ (l : List ℕ). Lexes 0 text (with_piece ts place p) l) (sym (front_drop bs p f))
     (subst (λ (us : List Token). Lexes 0 text us f.after) (with_more ts place p.token p.len) j)
 
--- the tokens from a place on, by steps. The first number bounds them, and the text's length is enough.
-put_token : ℕ → Option TokenKind → ℕ → Option (List Token) → Option (List Token)
-put_token place None n o = o
-put_token place (Some k) n o = option_map (λ ts. record { kind = k; span = span place n } ∷ ts) o
+-- the tokens from a place on, and what is left where no step goes on. The first number bounds the steps, and the text's
+-- length is enough.
+put_token : ℕ → Option TokenKind → ℕ → List Token × List ℕ → List Token × List ℕ
+put_token place None n r = r
+put_token place (Some k) n r = (record { kind = k; span = span place n } ∷ r.0, r.1)
 
-next_at : (ℕ → List ℕ → Option (List Token)) → ℕ → List ℕ → Option Piece → Option (List Token)
-next_at more place bs None = None
-next_at more place bs (Some p) = put_token place p.token p.len (more (place + p.len) (drop p.len bs))
+next_at : (ℕ → List ℕ → List Token × List ℕ) → ℕ → List ℕ → Option Piece → List Token × List ℕ
+next_at more place text None = ([], text)
+next_at more place text (Some p) = put_token place p.token p.len (more (place + p.len) (drop p.len text))
 
-unfoldable lex_at : ℕ → ℕ → List ℕ → Option (List Token)
-lex_at f place [] = Some []
-lex_at zero place (b ∷ bs) = None
-lex_at (suc f) place (b ∷ bs) = next_at (lex_at f) place (b ∷ bs) (step (b ∷ bs))
+unfoldable lex_at : ℕ → ℕ → List ℕ → List Token × List ℕ
+lex_at zero place text = ([], text)
+lex_at (suc f) place text = next_at (lex_at f) place text (step text)
 
--- what the rest gives, behind the tokens before it
-abbrev behind : List Token → Option (List Token) → Option (List Token)
-behind ts o = option_map (λ us. ts ++ us) o
-
-behind_nil : (o : Option (List Token)) → o ≡ behind [] o
-behind_nil None = refl
-behind_nil (Some us) = refl
-
-behind_one : (t : Token) (ts : List Token) (o : Option (List Token)) → option_map (λ us. t ∷ us) (behind ts o) ≡ behind (t ∷ ts) o
-behind_one t ts None = refl
-behind_one t ts (Some us) = refl
-
--- the rest gives o, however many steps are left
-abbrev Gives : List ℕ → Option (List Token) → Type 0
-Gives rest o = (g end : ℕ) → length rest ≤ g → lex_at g end rest ≡ o
-
-lexes_give : {place : ℕ} {text : List ℕ} {ts : List Token} {rest : List ℕ} → Lexes place text ts rest → (o : Option (List Token)) → Gives rest o
-    → (f : ℕ) → length text ≤ f → lex_at f place text ≡ behind ts o
+ends_at : {place : ℕ} {text : List ℕ} {ts : List Token} {rest : List ℕ} → Lexes place text ts rest → step rest ≡ None → (f : ℕ) → length text ≤ f → lex_at f place text ≡ (ts, rest)
 unfolding lex_at next_at put_token
-lexes_give (done place rest) o h f le = h f place le ∙ behind_nil o
-lexes_give (blank place b text ts rest e d) o h zero le = absurd (omega arith)
-lexes_give (blank place b text ts rest e d) o h (suc f) le = rw (step_blank b text e) (lexes_give d o h f (omega arith))
-lexes_give (comment place [] after ts rest i d) o h f le = absurd (omega (arith, comment_some i))
-lexes_give (comment place (b ∷ text) after ts rest i d) o h zero le = absurd (omega arith)
-lexes_give (comment place (b ∷ text) after ts rest i d) o h (suc f) le =
-    let r = lexes_give d o h f (omega (arith, length-append text after)) in
+ends_at (done place rest) h zero le = refl
+ends_at (done place rest) h (suc f) le = ap (next_at (lex_at f) place rest) h
+ends_at (blank place b text ts rest e d) h zero le = absurd (omega arith)
+ends_at (blank place b text ts rest e d) h (suc f) le = rw (step_blank b text e) (ends_at d h f (omega arith))
+ends_at (comment place [] after ts rest i d) h f le = absurd (omega (arith, comment_some i))
+ends_at (comment place (b ∷ text) after ts rest i d) h zero le = absurd (omega arith)
+ends_at (comment place (b ∷ text) after ts rest i d) h (suc f) le =
+    let r = ends_at d h f (omega (arith, length-append text after)) in
     let p = drop_at (b ∷ text) after (length (b ∷ text)) refl in
     ap (next_at (lex_at f) place (b ∷ (text ++ after))) (step_comment i)
     ∙ ap (λ (l : List ℕ). lex_at f (place + suc (length text)) l) p
     ∙ r
-lexes_give (token place k [] after ts rest i w d) o h f le = absurd (no_text k i)
-lexes_give (token place k (b ∷ text) after ts rest i w d) o h zero le = absurd (omega arith)
-lexes_give (token place k (b ∷ text) after ts rest i w d) o h (suc f) le =
-    let r = lexes_give d o h f (omega (arith, length-append text after)) in
+ends_at (token place k [] after ts rest i w d) h f le = absurd (no_text k i)
+ends_at (token place k (b ∷ text) after ts rest i w d) h zero le = absurd (omega arith)
+ends_at (token place k (b ∷ text) after ts rest i w d) h (suc f) le =
+    let r = ends_at d h f (omega (arith, length-append text after)) in
     let t : Token = record { kind = k; span = span place (length (b ∷ text)) } in
     let p = drop_at (b ∷ text) after (length (b ∷ text)) refl in
     ap (next_at (lex_at f) place (b ∷ (text ++ after))) (step_token k (b ∷ text) after i w)
-    ∙ ap (λ (l : List ℕ). option_map (λ us. t ∷ us) (lex_at f (place + suc (length text)) l)) p
-    ∙ ap (option_map (λ us. t ∷ us)) r
-    ∙ behind_one t ts o
+    ∙ ap (λ (l : List ℕ). put_token place (Some k) (length (b ∷ text)) (lex_at f (place + suc (length text)) l)) p
+    ∙ ap (put_token place (Some k) (length (b ∷ text))) r
 
-end_gives : Gives [] (Some [])
-unfolding lex_at
-end_gives g end le = refl
-
-stop_gives : (b : ℕ) (bs : List ℕ) → step (b ∷ bs) ≡ None → Gives (b ∷ bs) None
-unfolding lex_at next_at
-stop_gives b bs e zero end le = absurd (omega arith)
-stop_gives b bs e (suc g) end le = ap (next_at (lex_at g) end (b ∷ bs)) e
-
-whole_gives : (text : List ℕ) (ts : List Token) → Lexes 0 text ts [] → lex_at (length text) 0 text ≡ Some ts
-whole_gives text ts d = lexes_give d (Some []) end_gives (length text) (omega arith) ∙ ap (λ (us : List Token). Some us) (append-nil ts)
+-- where no step goes on, the tokens so far and the rest are the text's alone
+pub one_end : (text : List ℕ) (ts us : List Token) (rest more : List ℕ) → Lexes 0 text ts rest → step rest ≡ None → Lexes 0 text us more → step more ≡ None → (ts ≡ us) × (rest ≡ more)
+one_end text ts us rest more d h e i =
+    let s : (ts, rest) ≡ (us, more) = sym (ends_at d h (length text) (omega arith)) ∙ ends_at e i (length text) (omega arith) in
+    (ap (λ (r : List Token × List ℕ). r.0) s, ap (λ (r : List Token × List ℕ). r.1) s)
 
 -- no text has two lists of tokens
 pub one_list : (text : List ℕ) (ts us : List Token) → Lexes 0 text ts [] → Lexes 0 text us [] → ts ≡ us
-one_list text ts us d e = let s : Some ts ≡ Some us = sym (whole_gives text ts d) ∙ whole_gives text us e in cc
+one_list text ts us d e = (one_end text ts us [] [] d refl e refl).0
 
 -- a text with tokens has no fault
 pub no_fault : (text : List ℕ) (ts us : List Token) (rest : List ℕ) (place : ℕ) (f : Fault) → Lexes 0 text ts [] → Lexes 0 text us rest → 0 < length rest → IsFault place rest f → ⊥
-no_fault text ts us [] place f d e l i = absurd (omega arith)
-no_fault text ts us (b ∷ bs) place f d e l i =
-    let n : lex_at (length text) 0 text ≡ None = lexes_give e None (stop_gives b bs (step_fault i)) (length text) (omega arith) in
-    let s : Some ts ≡ None = sym (whole_gives text ts d) ∙ n in
-    cc
+no_fault text ts us rest place f d e l i = let p : [] ≡ rest = (one_end text ts us [] rest d refl e (step_fault i)).1 in omega (arith, ap length p)
 
 -- what the span of a token names behind a front
 slice_here : (front text after : List ℕ) (place : ℕ) → length front ≡ place → slice (span place (length text)) (front ++ (text ++ after)) ≡ text

@@ -2,14 +2,17 @@ pub mod Classes
 pub mod CommentLaws
 pub mod Fronts
 pub mod Lexed
+pub mod Listings
 pub mod Marks
 pub mod NumberLaws
 pub mod Numerals
+pub mod OneFault
 pub mod Runs
 pub mod SignLaws
 pub mod Spellings
 pub mod Steps
 pub mod TextLaws
+pub mod TextReads
 pub mod TextStops
 pub mod TokenCuts
 pub mod Words

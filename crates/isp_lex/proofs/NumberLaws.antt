@@ -16,9 +16,10 @@ use Rattle.isp_base.specs.Values.{greatest}
 use Rattle.isp_lex.specs.declared.numbers.Digits.{Digits}
 use Rattle.isp_lex.specs.declared.numbers.Suffix.{Suffix}
 use Rattle.isp_lex.specs.declared.numbers.Suffix.TheVariants as suffix
-use Rattle.isp_lex.specs.Bytes.{all, begins, is_suffix_letter, is_word_byte, next_is}
+use Rattle.isp_lex.specs.Bytes.{all, begins, is_word_byte, next_is}
 use Rattle.isp_lex.specs.Numbers.{IsDigits, decimal, hexadecimal, binary, Types, without, with_u, with_l, with_ll, with_ul, with_lu, with_ull, with_llu, FirstFit, here, later, IsNumber}
-use Rattle.isp_lex.specs.Reading.{digits_at, digits_of, first_type, is_digits_byte, is_long, is_prefixed, is_unsigned_long, lower, number_of, numeral, plain_of, run, suffix_of, typed, types_of, value_at}
+use Rattle.isp_lex.specs.reader.Numerals.{digits_at, digits_of, first_type, is_digits_byte, is_suffix_letter, is_long, is_prefixed, is_unsigned_long, lower, read_number, numeral, plain_of, suffix_of, typed, types_of, value_at}
+use Rattle.isp_lex.specs.reader.Runs.{run}
 use Rattle.isp_lex.proofs.Numerals.{numeral_sound, numeral_complete}
 use Rattle.isp_lex.proofs.Runs.{all_both, and_both, run_is}
 use Rattle.isp_lex.proofs.Spellings.{begins_front}
@@ -244,7 +245,7 @@ typed_sound text front back v e (Some d) p (Some x) q h =
       fits = subst (λ (n : ℕ). FirstFit (types_of d.is_decimal x) n v.elem) (sym i.1) f;
     }
 
-pub number_sound : (text : List ℕ) (v : Value) → number_of text ≡ Some v → IsNumber v text
+pub number_sound : (text : List ℕ) (v : Value) → read_number text ≡ Some v → IsNumber v text
 number_sound text v e =
     let n = run is_digits_byte text in
     typed_sound text (take n text) (drop n text) v (sym (take-append-drop n text)) (digits_of (take n text)) refl (suffix_of (lower (drop n text))) refl e
@@ -255,13 +256,13 @@ typed_complete v front back ts us g r f =
     let q : first_type (types_of g.found.is_decimal r.0) g.found.bits ≡ Some v.elem = ap (λ (l : List Elem). first_type l g.found.bits) t ∙ ap (first_type us) g.bits ∙ fit_complete f in
     ap (λ (o : Option Digits). typed o (suffix_of (lower back))) g.is ∙ ap (typed (Some g.found)) r.1 ∙ ap (λ (o : Option Elem). value_at o g.found.bits) q ∙ ap (λ (n : ℕ). Some (record { elem = v.elem; bits = n })) g.bits
 
-pub number_complete : (text : List ℕ) (v : Value) → IsNumber v text → number_of text ≡ Some v
+pub number_complete : (text : List ℕ) (v : Value) → IsNumber v text → read_number text ≡ Some v
 number_complete text v h =
     let n : run is_digits_byte (h.digits ++ h.suffix) ≡ length h.digits = run_is is_digits_byte h.digits h.suffix (number_bytes h.value) (begins_lower h.suffix ∙ suffix_first h.allowed) in
     let front : take (run is_digits_byte (h.digits ++ h.suffix)) (h.digits ++ h.suffix) ≡ h.digits = ap (λ (k : ℕ). take k (h.digits ++ h.suffix)) n ∙ take_at h.digits h.suffix (length h.digits) refl in
     let back : drop (run is_digits_byte (h.digits ++ h.suffix)) (h.digits ++ h.suffix) ≡ h.suffix = ap (λ (k : ℕ). drop k (h.digits ++ h.suffix)) n ∙ drop_at h.digits h.suffix (length h.digits) refl in
     let t = typed_complete v h.digits h.suffix h.plain h.types (digits_complete h.value (fit_small h.fits)) (suffix_complete h.allowed) h.fits in
-    ap number_of h.split
+    ap read_number h.split
     ∙ ap (λ (l : List ℕ). typed (digits_of l) (suffix_of (lower (drop (run is_digits_byte (h.digits ++ h.suffix)) (h.digits ++ h.suffix))))) front
     ∙ ap (λ (l : List ℕ). typed (digits_of h.digits) (suffix_of (lower l))) back
     ∙ t

@@ -7,7 +7,7 @@ use Rattle.std.specs.Str.Parse.{AllDigits, IsNumeral, digits_value, ParsesUnsign
 use Rattle.std.proofs.lemmas.Bool.{lt-ltb, ltb-true}
 use Rattle.std.proofs.lemmas.Bool.Decides.{nat_tests}
 use Rattle.isp_lex.specs.Bytes.{all, is_word_byte}
-use Rattle.isp_lex.specs.Reading.{all_digits, numeral}
+use Rattle.isp_lex.specs.reader.Numerals.{all_digits, numeral}
 use Rattle.isp_lex.proofs.Runs.{and_both}
 
 pub digits_are : (radix : ℕ) (ds : List ℕ) → all_digits radix ds ≡ true → AllDigits radix ds

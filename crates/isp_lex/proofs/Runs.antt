@@ -7,7 +7,7 @@ use Rattle.std.proofs.lemmas.Bool.Decides.{nat_tests}
 use Rattle.std.proofs.lemmas.Str.{IsUtf8-from_ascii, IsCharBoundary-from_take}
 use Rattle.std.proofs.lemmas.Str.Ascii.{IsAscii-nil, IsAscii-cons}
 use Rattle.isp_lex.specs.Bytes.{all, begins, is_word_byte}
-use Rattle.isp_lex.specs.Reading.{run}
+use Rattle.isp_lex.specs.reader.Runs.{run}
 
 pub and_both : (a b : Bool) → (a && b) ≡ true → (a ≡ true) × (b ≡ true)
 and_both true true e = (refl, refl)

@@ -6,7 +6,7 @@ use Rattle.isp_lex.specs.declared.token.Mark.{Mark}
 use Rattle.isp_lex.specs.declared.token.Mark.TheVariants as mark
 use Rattle.isp_lex.specs.Bytes.{begins, is_word_byte, next_is}
 use Rattle.isp_lex.specs.Lexing.{IsWhole, opens}
-use Rattle.isp_lex.specs.Reading.{assigned, dots, doubled, of_one, shifted, sign_of, single}
+use Rattle.isp_lex.specs.reader.Signs.{assigned, dots, doubled, of_one, shifted, sign_of, single}
 use Rattle.isp_lex.specs.Spelling.{spelling}
 use Rattle.isp_lex.proofs.Spellings.{mark_begins, mark_some}
 

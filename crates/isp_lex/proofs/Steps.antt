@@ -12,18 +12,23 @@ use Rattle.isp_lex.specs.declared.token.Mark.TheVariants as mark
 use Rattle.isp_lex.specs.declared.token.TokenKind.{TokenKind}
 use Rattle.isp_lex.specs.declared.token.TokenKind.TheVariants as kind
 use Rattle.isp_lex.specs.Bytes.{all, begins, is_blank, is_letter, is_line_byte, is_word_byte, next_is}
-use Rattle.isp_lex.specs.Lexing.{BeginsNothing, IsComment, line, closed, IsFault, bad_byte, bad_number, bad_text, bad_escape, open_comment, IsText, IsWhole, IsWord, opens}
+use Rattle.isp_lex.specs.Lexing.{BeginsNothing, IsComment, line, closed, IsFault, bad_byte, bad_number, bad_text, open_comment, IsText, IsWhole, IsWord, opens}
 use Rattle.isp_lex.specs.Numbers.{IsNumber}
-use Rattle.isp_lex.specs.Reading.{number_of, run, run_of, run_piece, sign_of, word_kind}
+use Rattle.isp_lex.specs.reader.Numerals.{read_number}
+use Rattle.isp_lex.specs.reader.Pieces.{run_piece}
+use Rattle.isp_lex.specs.reader.Runs.{run, run_of}
+use Rattle.isp_lex.specs.reader.Signs.{sign_of}
+use Rattle.isp_lex.specs.reader.Words.{word_kind}
 use Rattle.isp_lex.specs.Spelling.{spelling}
-use Rattle.isp_lex.specs.Texts.{Decodes, IsQuoted}
+use Rattle.isp_lex.specs.Texts.{Decodes, IsQuoted, StopsBefore}
 use Rattle.isp_lex.proofs.Classes.{digit_word, letter_word, letter_no_digit, blank_no_word, begins_word}
 use Rattle.isp_lex.proofs.CommentLaws.{close, closed_some, open_none}
 use Rattle.isp_lex.proofs.NumberLaws.{number_sound, number_complete, number_starts, number_word_bytes}
 use Rattle.isp_lex.proofs.Runs.{run_is}
 use Rattle.isp_lex.proofs.SignLaws.{sign_complete, sign_sound}
 use Rattle.isp_lex.proofs.Spellings.{mark_some}
-use Rattle.isp_lex.proofs.TextLaws.{or_false, text_at, text_stops, text_stops_escape, text_whole}
+use Rattle.isp_lex.proofs.TextLaws.{or_false, text_at, text_whole}
+use Rattle.isp_lex.proofs.TextStops.{stops_none}
 use Rattle.isp_lex.proofs.Words.{free_kind, left_word, left_found}
 
 -- the piece of a token, and of what is passed over
@@ -197,21 +202,26 @@ step_nothing [] h = refl
 step_nothing (b ∷ bs) h =
     third (is_blank b) (is_word_byte b) _ _ _ h.no_blank h.no_word ∙ other_at (b == 34) _ _ h.no_quote ∙ nothing_at b bs (b == 47) refl h.no_mark
 
-no_number : (text : List ℕ) (o : Option Value) → number_of text ≡ o → ((v : Value) → IsNumber v text → ⊥) → o ≡ None
+no_number : (text : List ℕ) (o : Option Value) → read_number text ≡ o → ((v : Value) → IsNumber v text → ⊥) → o ≡ None
 no_number text None e h = refl
 no_number text (Some v) e h = absurd (h v (number_sound text v e))
 
-digit_piece : (text : List ℕ) → begins is_ascii_digit text ≡ true → number_of text ≡ None → run_piece text ≡ None
+digit_piece : (text : List ℕ) → begins is_ascii_digit text ≡ true → read_number text ≡ None → run_piece text ≡ None
 digit_piece text e n = rw (e, n) refl
+
+step_stop : (text rest : List ℕ) → StopsBefore text rest → step (text ++ rest) ≡ None
+step_stop [] rest h = absurd (false≢true h.quote)
+step_stop (b ∷ tail) rest h =
+    let q : b ≡ 34 = eqb-true b 34 h.quote in
+    let i : StopsBefore (34 ∷ tail) rest = subst (λ (c : ℕ). StopsBefore (c ∷ tail) rest) q h in
+    subst (λ (c : ℕ). step (c ∷ (tail ++ rest)) ≡ None) (sym q) (ap text_piece (stops_none tail rest i))
 
 -- where a fault stands the step finds nothing
 pub step_fault : {place : ℕ} {text : List ℕ} {f : Fault} → IsFault place text f → step text ≡ None
-step_fault (bad_byte place c rest h) = step_nothing (encode_utf8 c ++ rest) h
+step_fault (bad_byte place c rest s h) = step_nothing (encode_utf8 c ++ rest) h
 step_fault (bad_number place text rest d h w n) =
-    step_run text rest (begins_word is_ascii_digit text digit_word d) h w ∙ digit_piece text d (no_number text (number_of text) refl n)
-step_fault (bad_text place body bytes rest d e) = ap text_piece (text_stops d rest e)
-step_fault (bad_escape place body bytes rest d e) =
-    ap (λ (l : List ℕ). text_piece (text_at false l)) (append_assoc body (92 ∷ []) rest) ∙ ap text_piece (text_stops_escape d rest e)
+    step_run text rest (begins_word is_ascii_digit text digit_word d) h w ∙ digit_piece text d (no_number text (read_number text) refl n)
+step_fault (bad_text place text rest h) = step_stop text rest h
 step_fault (open_comment place text h) = ap closed_piece (open_none text h)
 
 -- no token and no comment is empty

@@ -11,7 +11,7 @@ use Rattle.isp_lex.specs.declared.token.TokenKind.{TokenKind}
 use Rattle.isp_lex.specs.declared.token.TokenKind.TheVariants as kind
 use Rattle.isp_lex.specs.Bytes.{all, begins, is_letter, is_word_byte}
 use Rattle.isp_lex.specs.Lexing.{IsText, IsWord}
-use Rattle.isp_lex.specs.Reading.{first_spelled, left_out_of, left_by_length, marks_by_length, pick, reserved, or_name, word_kind}
+use Rattle.isp_lex.specs.reader.Words.{first_spelled, left_out_of, left_by_length, marks_by_length, pick, reserved, or_name, word_kind}
 use Rattle.isp_lex.specs.Spelling.{spelling, left_out, Among, IsReserved}
 use Rattle.isp_lex.proofs.Runs.{and_both}
 

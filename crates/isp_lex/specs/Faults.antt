@@ -1,10 +1,12 @@
--- The numbers of the rules, and the order of faults.
-use Rattle.std.specs.Prelude.{ℕ}
+-- The numbers and names of the rules.
+use Rattle.std.specs.Prelude.{ℕ, List, ◌++◌, codes}
+use Rattle.std.specs.Fmt.{decimal}
 use Rattle.isp_base.specs.declared.types.Span.{Span}
 use Rattle.isp_lex.specs.declared.fault.Rule.{Rule}
 use Rattle.isp_lex.specs.declared.fault.Rule.TheVariants.{BadByte, BadNumber, BadText, OpenComment, TooLong, Unexpected, TooDeep, LeftOut, UnknownName, NameTwice, Mismatch, Arguments, ConstAssigned, BadPrint, VaryingToUniform, BadExit, NestedForeach, BadExport, NotYet}
 use Rattle.isp_lex.specs.declared.fault.Fault.{Fault}
 
+-- a rule's number
 abbrev pub number_of : Rule → ℕ
 number_of BadByte = 1
 number_of BadNumber = 2
@@ -26,5 +28,32 @@ number_of NestedForeach = 32
 number_of BadExport = 33
 number_of NotYet = 90
 
+-- its name
+abbrev pub name_of : Rule → List ℕ
+name_of BadByte = codes "BadByte"
+name_of BadNumber = codes "BadNumber"
+name_of BadText = codes "BadText"
+name_of OpenComment = codes "OpenComment"
+name_of TooLong = codes "TooLong"
+name_of Unexpected = codes "Unexpected"
+name_of TooDeep = codes "TooDeep"
+name_of LeftOut = codes "LeftOut"
+name_of UnknownName = codes "UnknownName"
+name_of NameTwice = codes "NameTwice"
+name_of Mismatch = codes "Mismatch"
+name_of Arguments = codes "Arguments"
+name_of ConstAssigned = codes "ConstAssigned"
+name_of BadPrint = codes "BadPrint"
+name_of VaryingToUniform = codes "VaryingToUniform"
+name_of BadExit = codes "BadExit"
+name_of NestedForeach = codes "NestedForeach"
+name_of BadExport = codes "BadExport"
+name_of NotYet = codes "NotYet"
+
+-- how a rule is shown: `1 BadByte`
+abbrev pub rule_text : Rule → List ℕ
+rule_text rule = decimal (number_of rule) ++ (codes " " ++ name_of rule)
+
+-- a rule broken at a place
 abbrev pub fault : Rule → Span → Fault
-fault r s = record { rule = r; span = s }
+fault rule place = record { rule = rule; span = place }

@@ -2,8 +2,9 @@ pub mod Bytes
 pub mod Cuts
 pub mod Faults
 pub mod Lexing
+pub mod Listed
 pub mod Numbers
-pub mod Reading
 pub mod Spelling
 pub mod Texts
 pub mod Tokens
+pub mod reader

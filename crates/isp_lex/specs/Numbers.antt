@@ -11,10 +11,16 @@ use Rattle.isp_lex.specs.Bytes.{next_is}
 -- The digits of a number with their prefix, their value, and the types that it may have without a suffix.
 -- More than one decimal digit never begin with 0.
 pub data IsDigits : List ℕ → ℕ → List Elem → Type 0 where
-  decimal : (digits : List ℕ) → IsNumeral 10 digits → (next_is 48 digits ≡ true → length digits ≡ 1)
+  decimal : (digits : List ℕ)
+      → IsNumeral 10 digits
+      → (next_is 48 digits ≡ true → length digits ≡ 1)
       → IsDigits digits (digits_value 10 digits) (I32 ∷ I64 ∷ U64 ∷ [])
-  hexadecimal : (digits : List ℕ) → IsNumeral 16 digits → IsDigits (codes "0x" ++ digits) (digits_value 16 digits) (I32 ∷ U32 ∷ I64 ∷ U64 ∷ [])
-  binary : (digits : List ℕ) → IsNumeral 2 digits → IsDigits (codes "0b" ++ digits) (digits_value 2 digits) (I32 ∷ U32 ∷ I64 ∷ U64 ∷ [])
+  hexadecimal : (digits : List ℕ)
+      → IsNumeral 16 digits
+      → IsDigits (codes "0x" ++ digits) (digits_value 16 digits) (I32 ∷ U32 ∷ I64 ∷ U64 ∷ [])
+  binary : (digits : List ℕ)
+      → IsNumeral 2 digits
+      → IsDigits (codes "0b" ++ digits) (digits_value 2 digits) (I32 ∷ U32 ∷ I64 ∷ U64 ∷ [])
 
 -- the types that a number may have without a suffix, a suffix in lower case, and the types that it may have with it
 pub data Types : List Elem → List ℕ → List Elem → Type 0 where
@@ -29,16 +35,21 @@ pub data Types : List Elem → List ℕ → List Elem → Type 0 where
 
 -- the first of the types that has the number as a value
 pub data FirstFit : List Elem → ℕ → Elem → Type 0 where
-  here : (t : Elem) (ts : List Elem) (n : ℕ) → n ≤ greatest t → FirstFit (t ∷ ts) n t
-  later : (t u : Elem) (ts : List Elem) (n : ℕ) → greatest t < n → FirstFit ts n u → FirstFit (t ∷ ts) n u
+  here : (elem : Elem) (types : List Elem) (bits : ℕ)
+      → bits ≤ greatest elem
+      → FirstFit (elem ∷ types) bits elem
+  later : (elem found : Elem) (types : List Elem) (bits : ℕ)
+      → greatest elem < bits
+      → FirstFit types bits found
+      → FirstFit (elem ∷ types) bits found
 
 -- a number: digits, then a suffix in either case, and the first type that fits
-pub record IsNumber (v : Value) (text : List ℕ) : Type 0 where
+pub record IsNumber (number : Value) (text : List ℕ) : Type 0 where
   pub digits : List ℕ
   pub suffix : List ℕ
   pub plain : List Elem
   pub types : List Elem
   pub split : text ≡ digits ++ suffix
-  pub value : IsDigits digits v.bits plain
+  pub value : IsDigits digits number.bits plain
   pub allowed : Types plain (map to_ascii_lowercase suffix) types
-  pub fits : FirstFit types v.bits v.elem
+  pub fits : FirstFit types number.bits number.elem

@@ -1,7 +1,8 @@
 //! Classes of bytes, and runs of them.
 ghost use Rattle.std.specs.Prelude.{◌≡◌, ◌≤◌, drop, length};
 ghost use Rattle.isp_lex.specs.Bytes as class;
-ghost use Rattle.isp_lex.specs.Reading.{is_digits_byte, run};
+ghost use Rattle.isp_lex.specs.reader.Numerals.{is_digits_byte};
+ghost use Rattle.isp_lex.specs.reader.Runs.{run};
 
 pub(crate) fn is_blank(byte: u8) -> bool
     ensures { result ≡ class.is_blank byte }

@@ -1,7 +1,7 @@
 //! Comments.
 ghost use Rattle.std.specs.Prelude.{◌≡◌, ◌+◌, ◌<◌, ◌^◌, length, IfOk, IfErr, MatchOption, true};
 ghost use Rattle.isp_lex.specs.Bytes.{next_is};
-ghost use Rattle.isp_lex.specs.Reading.{NoComment, Skips, StopsAt};
+ghost use Rattle.isp_lex.specs.reader.Pieces.{NoComment, Skips, StopsAt};
 
 use crate::bytes::{has, line_len, rest};
 use crate::fault::{Rule, SourceFault};

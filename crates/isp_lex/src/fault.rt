@@ -1,72 +1,54 @@
 //! Why a source text is refused.
 ghost use Rattle.std.specs.Prelude.{◌≡◌};
-ghost use Rattle.isp_lex.specs.Faults.{number_of};
+ghost use Rattle.isp_lex.specs.Faults.{name_of, number_of};
 ghost use Rattle.isp_lex.specs.declared.fault.SourceFault.TheVariants.{Memory};
 
 use isp_base::Span;
 use std::alloc::{AllocError, AllocFailed};
+use std::fmt;
 use thiserror::Error;
 
 /// The rule that a source text breaks. Each has a number, by which the order of two faults at one
 /// place is decided.
-#[derive(Clone, Copy, Debug, PartialEq, Eq, Error)]
+#[derive(Clone, Copy, Debug, PartialEq, Eq)]
 pub enum Rule {
     /// A character that begins no token.
-    #[error("1 BadByte")]
     BadByte,
     /// A run of letters and digits that begins with a digit and is no number.
-    #[error("2 BadNumber")]
     BadNumber,
     /// A text literal that does not go on.
-    #[error("3 BadText")]
     BadText,
     /// A comment that is not closed.
-    #[error("4 OpenComment")]
     OpenComment,
     /// A source of more than 1,048,576 bytes.
-    #[error("5 TooLong")]
     TooLong,
     /// The first token with which no program goes on.
-    #[error("10 Unexpected")]
     Unexpected,
     /// A tree that is deeper than 128.
-    #[error("11 TooDeep")]
     TooDeep,
     /// The first token with which no program goes on, where it is a word that this language leaves out.
-    #[error("12 LeftOut")]
     LeftOut,
     /// A name that nothing declares.
-    #[error("20 UnknownName")]
     UnknownName,
     /// A variable twice in one scope, or a function whose name is taken.
-    #[error("21 NameTwice")]
     NameTwice,
     /// A kind of expression other than its place asks.
-    #[error("22 Mismatch")]
     Mismatch,
     /// A wrong number of arguments.
-    #[error("23 Arguments")]
     Arguments,
     /// An assignment to a constant.
-    #[error("24 ConstAssigned")]
     ConstAssigned,
     /// A `print` whose values are not as many as its places.
-    #[error("25 BadPrint")]
     BadPrint,
     /// A varying value where a uniform one is wanted.
-    #[error("30 VaryingToUniform")]
     VaryingToUniform,
     /// A `break`, `continue` or `return` where none may stand.
-    #[error("31 BadExit")]
     BadExit,
     /// A `foreach` in a `foreach`.
-    #[error("32 NestedForeach")]
     NestedForeach,
     /// An exported function with a varying parameter or result.
-    #[error("33 BadExport")]
     BadExport,
     /// What the language has and this compiler does not take yet.
-    #[error("90 NotYet")]
     NotYet,
 }
 
@@ -96,6 +78,44 @@ impl Rule {
             Rule::BadExport => 33,
             Rule::NotYet => 90,
         }
+    }
+
+    /// The rule's name.
+    pub fn name(self) -> &'static str
+        ensures { result.now ≡ name_of self }
+    {
+        match self {
+            Rule::BadByte => "BadByte",
+            Rule::BadNumber => "BadNumber",
+            Rule::BadText => "BadText",
+            Rule::OpenComment => "OpenComment",
+            Rule::TooLong => "TooLong",
+            Rule::Unexpected => "Unexpected",
+            Rule::TooDeep => "TooDeep",
+            Rule::LeftOut => "LeftOut",
+            Rule::UnknownName => "UnknownName",
+            Rule::NameTwice => "NameTwice",
+            Rule::Mismatch => "Mismatch",
+            Rule::Arguments => "Arguments",
+            Rule::ConstAssigned => "ConstAssigned",
+            Rule::BadPrint => "BadPrint",
+            Rule::VaryingToUniform => "VaryingToUniform",
+            Rule::BadExit => "BadExit",
+            Rule::NestedForeach => "NestedForeach",
+            Rule::BadExport => "BadExport",
+            Rule::NotYet => "NotYet",
+        }
+    }
+}
+
+impl fmt::Display for Rule {
+    ghost use Rattle.std.specs.Prelude.{Some};
+    ghost use Rattle.isp_lex.specs.Faults.{rule_text};
+
+    ghost output = { λ r. Some (rule_text r) };
+
+    fn fmt<W: fmt::Write>(&self, f: &mut fmt::Formatter<W>) -> fmt::Result {
+        write!(f, "{} {}", self.number(), self.name())
     }
 }
 

@@ -1,16 +1,19 @@
 //! From a text to its tokens.
 ghost use Rattle.std.specs.Prelude.{◌≡◌, ◌<◌, ◌≤◌, ◌+◌, ◌^◌, List, [], length, IfOk, IfErr, MatchResult, Some, true, ℕ};
-ghost use Rattle.isp_lex.specs.Lexing.{BeginsNothing, IsFault, IsRefused, IsStopped, IsText, Lexes, limit, slice};
+ghost use Rattle.isp_lex.specs.Listed.{AreTokens, IsListed};
+ghost use Rattle.isp_lex.specs.Tokens.{TokenList};
+ghost use Rattle.isp_lex.specs.Lexing.{BeginsNothing, IsFault, IsFirstFault, IsRefused, IsText, Lexes, limit, slice};
 ghost use Rattle.std.specs.List.{All};
 ghost use Rattle.std.specs.Str.{IsUtf8};
 ghost use Rattle.isp_lex.specs.Cuts.{IsCut};
-ghost use Rattle.isp_lex.specs.Reading.{BeginsSign, Front, NoNumber, StopsAt, run_piece, run_of, word_kind};
+ghost use Rattle.isp_lex.specs.reader.Pieces.{BeginsSign, Front, NoNumber, StopsAt, run_piece};
+ghost use Rattle.isp_lex.specs.reader.Runs.{run_of};
+ghost use Rattle.isp_lex.specs.reader.Words.{word_kind};
 ghost use Rattle.isp_lex.specs.Bytes as class;
 ghost use Rattle.isp_lex.specs.Bytes.{all};
 ghost use Rattle.isp_lex.specs.declared.fault.SourceFault.TheVariants.{Memory};
 ghost use Rattle.isp_lex.specs.declared.token.Token.{Token};
 ghost use Rattle.isp_lex.specs.declared.fault.Fault.{Fault};
-ghost use Rattle.isp_lex.specs.declared.fault.Rule.TheVariants.{BadText};
 
 use crate::bytes::{is_blank, is_word_byte, rest, run_len};
 use crate::comments::comment;
@@ -165,15 +168,22 @@ pub fn one_list()
     ensures { (text : List ℕ) (a b : List Token) → Lexes 0 text a [] → Lexes 0 text b [] → a ≡ b }
 {}
 
+/// A law: a list of tokens is no longer than its text, which has at most 1,048,576 bytes; each token
+/// has a byte of the text at least, a name is a word that is not reserved, a number fits its type;
+/// and tokens stand one behind another.
+pub fn token_laws()
+    ensures { (list : TokenList) → IsListed list → AreTokens list }
+{}
+
 /// A law: each token of a text begins and ends where a character of the text does, or at its end.
 pub fn whole_characters()
     ensures { (text : List ℕ) (tokens : List Token) (rest : List ℕ) → IsUtf8 text → Lexes 0 text tokens rest
         → All (IsCut text) tokens }
 {}
 
-/// A law: the place of a bad text ends at the first character with which no text goes on, or at
-/// the end.
-pub fn stopped_text()
-    ensures { (place : ℕ) (text : List ℕ) (found : Fault) → IsFault place text found → found.rule ≡ BadText
-        → IsStopped place text found }
+/// A law: no text has two first faults, and none has a first fault and a list of tokens.
+pub fn one_fault()
+    ensures unique { (text : List ℕ) (a b : Fault) → IsFirstFault a text → IsFirstFault b text → a ≡ b }
+    ensures apart { (text : List ℕ) (tokens : List Token) (found : Fault) → Lexes 0 text tokens []
+        → IsFirstFault found text → ⊥ }
 {}

@@ -3,7 +3,7 @@ ghost use Rattle.std.specs.Prelude.{◌≡◌, ◌≤◌, true};
 ghost use Rattle.std.specs.Str.{bytes_eq};
 ghost use Rattle.isp_lex.specs.Bytes as class;
 ghost use Rattle.isp_lex.specs.Bytes.{all};
-ghost use Rattle.isp_lex.specs.Reading.{digits_of, first_type, is_long, is_prefixed, is_unsigned_long, lower, number_of, numeral, suffix_of, types_of};
+ghost use Rattle.isp_lex.specs.reader.Numerals.{digits_of, first_type, is_long, is_prefixed, is_unsigned_long, lower, read_number, numeral, suffix_of, types_of};
 
 use crate::bytes::{digits_len, has};
 use isp_base::{Elem, Value, greatest_of};
@@ -137,7 +137,7 @@ fn elem_of(is_decimal: bool, suffix: Suffix, bits: u64) -> Option<Elem>
 /// The value of a number, with its type.
 pub(crate) fn number(text: &str) -> Option<Value>
     requires { all class.is_word_byte text.now ≡ true }
-    ensures { result ≡ number_of text.now }
+    ensures { result ≡ read_number text.now }
 {
     let (front, back) = text.split_at(digits_len(text.as_bytes()));
     let found = read_digits(front)?;

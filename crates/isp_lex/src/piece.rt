@@ -1,6 +1,6 @@
 //! What a text begins with.
 ghost use Rattle.std.specs.Prelude.{◌≡◌, ◌+◌, ◌<◌, ◌^◌, IfErr, OnOk};
-ghost use Rattle.isp_lex.specs.Reading.{with_piece};
+ghost use Rattle.isp_lex.specs.reader.Pieces.{with_piece};
 ghost use Rattle.isp_lex.specs.Faults.{fault};
 ghost use Rattle.isp_lex.specs.declared.fault.SourceFault.TheVariants.{Memory, Refused};
 

@@ -1,7 +1,8 @@
 //! Texts in quotes.
 ghost use Rattle.std.specs.Prelude.{◌≡◌, ◌+◌, ◌<◌, ◌^◌, length, IfOk, IfErr, true};
 ghost use Rattle.isp_lex.specs.Bytes.{next_is};
-ghost use Rattle.isp_lex.specs.Reading.{Front, StopsAt, escape_at, said_at};
+ghost use Rattle.isp_lex.specs.reader.Pieces.{Front, StopsAt};
+ghost use Rattle.isp_lex.specs.reader.Quotes.{escape_at, said_at};
 ghost use Rattle.isp_lex.specs.Texts as class;
 
 use crate::bytes::{has, rest};

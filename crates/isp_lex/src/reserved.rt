@@ -1,171 +1,142 @@
 //! The words that the language reserves: those in use, and those that it leaves out.
-ghost use Rattle.std.specs.Prelude.{◌≡◌};
-ghost use Rattle.isp_lex.specs.Reading.{spelled, reserved};
+ghost use Rattle.std.specs.Prelude.{◌≡◌, None};
+ghost use Rattle.isp_lex.specs.reader.Words.{found_in, left_in, reserved};
 
 use crate::token::{Mark, TokenKind};
+
+const TWO: [(&str, Mark); 2] = [("if", Mark::If), ("do", Mark::Do)];
+
+const THREE: [(&str, Mark); 4] = [
+    ("int", Mark::Int),
+    ("cif", Mark::Cif),
+    ("cdo", Mark::Cdo),
+    ("for", Mark::For),
+];
+
+const FOUR: [(&str, Mark); 7] = [
+    ("void", Mark::Void),
+    ("bool", Mark::Bool),
+    ("int8", Mark::Int8),
+    ("uint", Mark::Uint),
+    ("else", Mark::Else),
+    ("cfor", Mark::Cfor),
+    ("true", Mark::True),
+];
+
+const FIVE: [(&str, Mark); 9] = [
+    ("int16", Mark::Int16),
+    ("int32", Mark::Int32),
+    ("int64", Mark::Int64),
+    ("uint8", Mark::Uint8),
+    ("const", Mark::Const),
+    ("while", Mark::While),
+    ("break", Mark::Break),
+    ("print", Mark::Print),
+    ("false", Mark::False),
+];
+
+const SIX: [(&str, Mark); 10] = [
+    ("uint16", Mark::Uint16),
+    ("uint32", Mark::Uint32),
+    ("uint64", Mark::Uint64),
+    ("signed", Mark::Signed),
+    ("export", Mark::Export),
+    ("static", Mark::Static),
+    ("inline", Mark::Inline),
+    ("cwhile", Mark::Cwhile),
+    ("return", Mark::Return),
+    ("assert", Mark::Assert),
+];
+
+const SEVEN: [(&str, Mark); 3] = [
+    ("uniform", Mark::Uniform),
+    ("varying", Mark::Varying),
+    ("foreach", Mark::Foreach),
+];
+
+const EIGHT: [(&str, Mark); 3] = [
+    ("unsigned", Mark::Unsigned),
+    ("unmasked", Mark::Unmasked),
+    ("continue", Mark::Continue),
+];
+
+const TWELVE: [(&str, Mark); 2] = [
+    ("programIndex", Mark::ProgramIndex),
+    ("programCount", Mark::ProgramCount),
+];
+
+const THIRTEEN: [(&str, Mark); 1] = [("foreach_tiled", Mark::ForeachTiled)];
+
+const FOURTEEN: [(&str, Mark); 1] = [("foreach_active", Mark::ForeachActive)];
+
+const THREE_LEFT_OUT: [&str; 2] = ["new", "soa"];
+
+const FOUR_LEFT_OUT: [&str; 6] = ["enum", "case", "goto", "task", "sync", "NULL"];
+
+const FIVE_LEFT_OUT: [&str; 1] = ["float"];
+
+const SIX_LEFT_OUT: [&str; 9] = [
+    "double", "struct", "switch", "delete", "launch", "extern", "sizeof", "size_t", "cbreak",
+];
+
+const SEVEN_LEFT_OUT: [&str; 4] = ["float16", "typedef", "default", "creturn"];
+
+const EIGHT_LEFT_OUT: [&str; 4] = ["template", "typename", "operator", "intptr_t"];
+
+const NINE_LEFT_OUT: [&str; 3] = ["ptrdiff_t", "uintptr_t", "ccontinue"];
+
+const FOURTEEN_LEFT_OUT: [&str; 1] = ["foreach_unique"];
+
+/// The kind of a word among these words in use.
+fn in_use(words: &[(&str, Mark)], word: &str) -> Option<TokenKind>
+    ensures { result ≡ found_in words.now None word.now }
+{
+    for (spelling, mark) in words {
+        if word == *spelling {
+            return Some(TokenKind::Mark(*mark));
+        }
+    }
+    None
+}
+
+/// The kind of a word among these that are left out.
+fn left_out(words: &[&str], word: &str) -> Option<TokenKind>
+    ensures { result ≡ left_in words.now word.now }
+{
+    for spelling in words {
+        if word == *spelling {
+            return Some(TokenKind::LeftOut);
+        }
+    }
+    None
+}
+
+/// The kind of a word among these words in use and these that are left out.
+fn find(words: &[(&str, Mark)], others: &[&str], word: &str) -> Option<TokenKind>
+    ensures { result ≡ found_in words.now (left_in others.now word.now) word.now }
+{
+    match in_use(words, word) {
+        Some(kind) => Some(kind),
+        None => left_out(others, word),
+    }
+}
 
 /// The kind of a reserved word, and `None` for any other.
 pub(crate) fn reserved(word: &str) -> Option<TokenKind>
     ensures { result ≡ reserved word.now }
 {
     match word.len() {
-        2 => of_two(word),
-        3 => of_three(word),
-        4 => of_four(word),
-        5 => of_five(word),
-        6 => of_six(word),
-        7 => of_seven(word),
-        8 => of_eight(word),
-        9 => of_nine(word),
-        12 => of_twelve(word),
-        13 => of_thirteen(word),
-        14 => of_fourteen(word),
-        _ => None,
-    }
-}
-
-fn of_two(word: &str) -> Option<TokenKind>
-    ensures { result ≡ spelled 2 word.now }
-{
-    match word {
-        "if" => Some(TokenKind::Mark(Mark::If)),
-        "do" => Some(TokenKind::Mark(Mark::Do)),
-        _ => None,
-    }
-}
-
-fn of_three(word: &str) -> Option<TokenKind>
-    ensures { result ≡ spelled 3 word.now }
-{
-    match word {
-        "int" => Some(TokenKind::Mark(Mark::Int)),
-        "cif" => Some(TokenKind::Mark(Mark::Cif)),
-        "cdo" => Some(TokenKind::Mark(Mark::Cdo)),
-        "for" => Some(TokenKind::Mark(Mark::For)),
-        "new" | "soa" => Some(TokenKind::LeftOut),
-        _ => None,
-    }
-}
-
-fn of_four(word: &str) -> Option<TokenKind>
-    ensures { result ≡ spelled 4 word.now }
-{
-    match word {
-        "void" => Some(TokenKind::Mark(Mark::Void)),
-        "bool" => Some(TokenKind::Mark(Mark::Bool)),
-        "int8" => Some(TokenKind::Mark(Mark::Int8)),
-        "uint" => Some(TokenKind::Mark(Mark::Uint)),
-        "else" => Some(TokenKind::Mark(Mark::Else)),
-        "cfor" => Some(TokenKind::Mark(Mark::Cfor)),
-        "true" => Some(TokenKind::Mark(Mark::True)),
-        "enum" | "case" | "goto" | "task" | "sync" | "NULL" => Some(TokenKind::LeftOut),
-        _ => None,
-    }
-}
-
-fn of_five(word: &str) -> Option<TokenKind>
-    ensures { result ≡ spelled 5 word.now }
-{
-    match word {
-        "int16" => Some(TokenKind::Mark(Mark::Int16)),
-        "int32" => Some(TokenKind::Mark(Mark::Int32)),
-        "int64" => Some(TokenKind::Mark(Mark::Int64)),
-        "uint8" => Some(TokenKind::Mark(Mark::Uint8)),
-        "const" => Some(TokenKind::Mark(Mark::Const)),
-        "while" => Some(TokenKind::Mark(Mark::While)),
-        "break" => Some(TokenKind::Mark(Mark::Break)),
-        "print" => Some(TokenKind::Mark(Mark::Print)),
-        "false" => Some(TokenKind::Mark(Mark::False)),
-        "float" => Some(TokenKind::LeftOut),
-        _ => None,
-    }
-}
-
-fn of_six(word: &str) -> Option<TokenKind>
-    ensures { result ≡ spelled 6 word.now }
-{
-    match word {
-        "uint16" => Some(TokenKind::Mark(Mark::Uint16)),
-        "uint32" => Some(TokenKind::Mark(Mark::Uint32)),
-        "uint64" => Some(TokenKind::Mark(Mark::Uint64)),
-        "signed" => Some(TokenKind::Mark(Mark::Signed)),
-        "export" => Some(TokenKind::Mark(Mark::Export)),
-        "static" => Some(TokenKind::Mark(Mark::Static)),
-        "inline" => Some(TokenKind::Mark(Mark::Inline)),
-        "cwhile" => Some(TokenKind::Mark(Mark::Cwhile)),
-        "return" => Some(TokenKind::Mark(Mark::Return)),
-        "assert" => Some(TokenKind::Mark(Mark::Assert)),
-        "double"
-        | "struct"
-        | "switch"
-        | "delete"
-        | "launch"
-        | "extern"
-        | "sizeof"
-        | "size_t"
-        | "cbreak" => Some(TokenKind::LeftOut),
-        _ => None,
-    }
-}
-
-fn of_seven(word: &str) -> Option<TokenKind>
-    ensures { result ≡ spelled 7 word.now }
-{
-    match word {
-        "uniform" => Some(TokenKind::Mark(Mark::Uniform)),
-        "varying" => Some(TokenKind::Mark(Mark::Varying)),
-        "foreach" => Some(TokenKind::Mark(Mark::Foreach)),
-        "float16" | "typedef" | "default" | "creturn" => Some(TokenKind::LeftOut),
-        _ => None,
-    }
-}
-
-fn of_eight(word: &str) -> Option<TokenKind>
-    ensures { result ≡ spelled 8 word.now }
-{
-    match word {
-        "unsigned" => Some(TokenKind::Mark(Mark::Unsigned)),
-        "unmasked" => Some(TokenKind::Mark(Mark::Unmasked)),
-        "continue" => Some(TokenKind::Mark(Mark::Continue)),
-        "template" | "typename" | "operator" | "intptr_t" => Some(TokenKind::LeftOut),
-        _ => None,
-    }
-}
-
-fn of_nine(word: &str) -> Option<TokenKind>
-    ensures { result ≡ spelled 9 word.now }
-{
-    match word {
-        "ptrdiff_t" | "uintptr_t" | "ccontinue" => Some(TokenKind::LeftOut),
-        _ => None,
-    }
-}
-
-fn of_twelve(word: &str) -> Option<TokenKind>
-    ensures { result ≡ spelled 12 word.now }
-{
-    match word {
-        "programIndex" => Some(TokenKind::Mark(Mark::ProgramIndex)),
-        "programCount" => Some(TokenKind::Mark(Mark::ProgramCount)),
-        _ => None,
-    }
-}
-
-fn of_thirteen(word: &str) -> Option<TokenKind>
-    ensures { result ≡ spelled 13 word.now }
-{
-    match word {
-        "foreach_tiled" => Some(TokenKind::Mark(Mark::ForeachTiled)),
-        _ => None,
-    }
-}
-
-fn of_fourteen(word: &str) -> Option<TokenKind>
-    ensures { result ≡ spelled 14 word.now }
-{
-    match word {
-        "foreach_active" => Some(TokenKind::Mark(Mark::ForeachActive)),
-        "foreach_unique" => Some(TokenKind::LeftOut),
+        2 => find(&TWO, &[], word),
+        3 => find(&THREE, &THREE_LEFT_OUT, word),
+        4 => find(&FOUR, &FOUR_LEFT_OUT, word),
+        5 => find(&FIVE, &FIVE_LEFT_OUT, word),
+        6 => find(&SIX, &SIX_LEFT_OUT, word),
+        7 => find(&SEVEN, &SEVEN_LEFT_OUT, word),
+        8 => find(&EIGHT, &EIGHT_LEFT_OUT, word),
+        9 => find(&[], &NINE_LEFT_OUT, word),
+        12 => find(&TWELVE, &[], word),
+        13 => find(&THIRTEEN, &[], word),
+        14 => find(&FOURTEEN, &FOURTEEN_LEFT_OUT, word),
         _ => None,
     }
 }

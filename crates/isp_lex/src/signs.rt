@@ -1,6 +1,6 @@
 //! Signs.
 ghost use Rattle.std.specs.Prelude.{◌≡◌};
-ghost use Rattle.isp_lex.specs.Reading.{assigned, dots, doubled, of_one, shifted, sign_of, single};
+ghost use Rattle.isp_lex.specs.reader.Signs.{assigned, dots, doubled, of_one, shifted, sign_of, single};
 
 use crate::bytes::has;
 use crate::token::Mark;

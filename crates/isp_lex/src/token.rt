@@ -1,13 +1,15 @@
 //! Tokens.
-ghost use Rattle.std.specs.Prelude.{◌≡◌};
+ghost use Rattle.std.specs.Prelude.{◌≡◌, ◌↔◌, IsTrue};
+ghost use Rattle.isp_lex.specs.Listed.{IsListed};
 ghost use Rattle.isp_lex.specs.Tokens.{is_mark};
+ghost use Rattle.isp_lex.specs.declared.token.TokenKind.TheVariants as kind;
 
 use crate::text::Text;
 use isp_base::{Name, Span, Value};
 use std::marker::Model;
 
 /// A token of one spelling: a sign, or a word that the language reserves and uses.
-#[derive(Clone, Copy, Debug)]
+#[derive(Clone, Copy)]
 pub enum Mark {
     ParenOpen,
     ParenClose,
@@ -98,7 +100,7 @@ pub enum Mark {
 }
 
 /// What a token is.
-#[derive(Debug, Drop)]
+#[derive(Drop)]
 pub enum TokenKind {
     /// A name.
     Word(Name),
@@ -113,7 +115,7 @@ pub enum TokenKind {
 }
 
 /// A token, and where it stands: byte places in the source.
-#[derive(Debug, Drop)]
+#[derive(Drop)]
 pub struct Token {
     pub kind: TokenKind,
     pub span: Span,
@@ -122,7 +124,8 @@ pub struct Token {
 impl TokenKind {
     /// Whether this is the sign or reserved word.
     pub fn is(&self, mark: Mark) -> bool
-        ensures { result ≡ is_mark mark self.now }
+        ensures exact { IsTrue result ↔ (self.now ≡ kind.Mark mark) }
+        ensures value { result ≡ is_mark mark self.now }
     {
         match self {
             TokenKind::Mark(other) => mark as u8 == *other as u8,
@@ -131,8 +134,9 @@ impl TokenKind {
     }
 }
 
-/// The tokens of a source text in their order, and the length of the text in bytes.
-#[derive(Debug, Drop)]
+/// The tokens of a source text in their order, and the length of the text in bytes. Every list of
+/// this type is that of some text of at most 1,048,576 bytes.
+#[derive(Drop)]
 pub struct Tokens {
     pub(crate) items: Vec<Token>,
     pub(crate) end: usize,
@@ -143,13 +147,18 @@ impl Model for Tokens {
 
     ghost Value = { TokenList };
 
+    ghost use Rattle.isp_lex.specs.Listed.{IsListed};
+
     ghost view = { λ t. record { items = t.items.items; end = t.end } };
+
+    ghost invariant = { λ t. IsListed (record { items = t.items.items; end = t.end }) };
 }
 
 impl Tokens {
     /// The tokens.
     pub fn as_slice(&self) -> &[Token]
-        ensures { result.now ≡ self.now.items }
+        ensures items { result.now ≡ self.now.items }
+        ensures listed { IsListed self.now }
     {
         self.items.as_slice()
     }

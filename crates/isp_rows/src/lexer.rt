@@ -55,6 +55,86 @@ const SIGNS: [(&str, Mark); 44] = [
     ("...", Mark::Ellipsis),
 ];
 
+/// Each reserved word in use.
+const WORDS: [(&str, Mark); 42] = [
+    ("void", Mark::Void),
+    ("bool", Mark::Bool),
+    ("int", Mark::Int),
+    ("int8", Mark::Int8),
+    ("int16", Mark::Int16),
+    ("int32", Mark::Int32),
+    ("int64", Mark::Int64),
+    ("uint", Mark::Uint),
+    ("uint8", Mark::Uint8),
+    ("uint16", Mark::Uint16),
+    ("uint32", Mark::Uint32),
+    ("uint64", Mark::Uint64),
+    ("signed", Mark::Signed),
+    ("unsigned", Mark::Unsigned),
+    ("const", Mark::Const),
+    ("uniform", Mark::Uniform),
+    ("varying", Mark::Varying),
+    ("export", Mark::Export),
+    ("static", Mark::Static),
+    ("inline", Mark::Inline),
+    ("if", Mark::If),
+    ("cif", Mark::Cif),
+    ("else", Mark::Else),
+    ("while", Mark::While),
+    ("cwhile", Mark::Cwhile),
+    ("do", Mark::Do),
+    ("cdo", Mark::Cdo),
+    ("for", Mark::For),
+    ("cfor", Mark::Cfor),
+    ("foreach", Mark::Foreach),
+    ("foreach_tiled", Mark::ForeachTiled),
+    ("foreach_active", Mark::ForeachActive),
+    ("unmasked", Mark::Unmasked),
+    ("break", Mark::Break),
+    ("continue", Mark::Continue),
+    ("return", Mark::Return),
+    ("print", Mark::Print),
+    ("assert", Mark::Assert),
+    ("true", Mark::True),
+    ("false", Mark::False),
+    ("programIndex", Mark::ProgramIndex),
+    ("programCount", Mark::ProgramCount),
+];
+
+/// Each word that the language leaves out.
+const LEFT_OUT: [&str; 30] = [
+    "float",
+    "double",
+    "float16",
+    "struct",
+    "enum",
+    "typedef",
+    "switch",
+    "case",
+    "default",
+    "goto",
+    "new",
+    "delete",
+    "task",
+    "launch",
+    "sync",
+    "soa",
+    "extern",
+    "sizeof",
+    "template",
+    "typename",
+    "operator",
+    "NULL",
+    "size_t",
+    "ptrdiff_t",
+    "intptr_t",
+    "uintptr_t",
+    "cbreak",
+    "ccontinue",
+    "creturn",
+    "foreach_unique",
+];
+
 // The number and the place of the fault of a source: number, start and end; zeros where it has none.
 fn fault_of(alloc: Global, source: &str) -> Result<(u8, usize, usize), Fail> {
     match lex(alloc, source) {
@@ -88,6 +168,15 @@ fn faults(rt: HostRuntime) -> Result<(), Fail> {
         ("é", 1, 0, 2),
         ("x € y", 1, 2, 5),
         ("x/**/😀", 1, 5, 9),
+        ("\\", 1, 0, 1),
+        ("a'", 1, 1, 2),
+        ("$5", 1, 0, 1),
+        ("x = x\u{7f};", 1, 5, 6),
+        ("n++99999999999999999999;", 2, 3, 23),
+        ("9foreach x", 2, 0, 8),
+        ("x \"\\t%\", 1) }", 0, 0, 0),
+        ("(\"abc) }\n", 3, 1, 8),
+        ("return /*x; }", 4, 7, 13),
         ("@ 08", 1, 0, 1),
         ("08 @", 2, 0, 2),
         ("x /* y", 4, 2, 6),
@@ -110,6 +199,8 @@ fn bad_texts(rt: HostRuntime) -> Result<(), Fail> {
         ("\"a\tb\"", 0, 2),
         ("\"é\\é\"", 0, 4),
         ("\"\\0\"", 0, 2),
+        ("\"x\n\"x", 0, 2),
+        ("print(\"a\u{7f}\")", 6, 8),
     ] {
         let found = fault_of(rt.alloc(), source)?;
         assert_eq!(rt; found, (3, start, end), "{source}");
@@ -162,11 +253,22 @@ fn numbers(rt: HostRuntime) -> Result<(), Fail> {
         ("0xFFFFffffFFFFffff", Elem::U64, u64::MAX),
         ("0x00", Elem::I32, 0),
         ("0b101", Elem::I32, 5),
+        ("0xAbCdEf", Elem::I32, 11_259_375),
+        (
+            "0b10000000000000000000000000000000",
+            Elem::U32,
+            2_147_483_648,
+        ),
         ("1u", Elem::U32, 1),
         ("4294967296U", Elem::U64, 4_294_967_296),
         ("1l", Elem::I64, 1),
         ("1lL", Elem::I64, 1),
         ("1uL", Elem::U64, 1),
+        ("7LL", Elem::I64, 7),
+        ("7ul", Elem::U64, 7),
+        ("7lu", Elem::U64, 7),
+        ("7llu", Elem::U64, 7),
+        ("0b11u", Elem::U32, 3),
         ("1Lu", Elem::U64, 1),
         ("1ull", Elem::U64, 1),
         ("0x10LLU", Elem::U64, 16),
@@ -189,7 +291,13 @@ fn texts(rt: HostRuntime) -> Result<(), Fail> {
     for (source, says) in [
         ("\"\"", ""),
         ("\"% é // /*\"", "% é // /*"),
+        ("\"\\n\"", "\n"),
+        ("\"\\t\"", "\t"),
+        ("\"\\r\"", "\r"),
+        ("\"\\\\\"", "\\"),
+        ("\"\\\"\"", "\""),
         ("\"\\n\\t\\r\\\\\\\"\"", "\n\t\r\\\""),
+        ("\" ~}\"", " ~}"),
     ] {
         let tokens = lex(rt.alloc(), source)?;
         let [token] = tokens.as_slice() else {
@@ -213,6 +321,65 @@ fn signs(rt: HostRuntime) -> Result<(), Fail> {
             return Err(Fail::from("not one token"));
         };
         assert!(rt; token.kind.is(mark), "{source}");
+        assert_place(&rt, token, 0, source.len(), source);
+    }
+    Ok(())
+}
+
+#[test]
+fn reserved_words(rt: HostRuntime) -> Result<(), Fail> {
+    for (source, mark) in WORDS {
+        let tokens = lex(rt.alloc(), source)?;
+        let [token] = tokens.as_slice() else {
+            return Err(Fail::from("not one token"));
+        };
+        assert!(rt; token.kind.is(mark), "{source}");
+        assert_place(&rt, token, 0, source.len(), source);
+    }
+    Ok(())
+}
+
+#[test]
+fn left_out_words(rt: HostRuntime) -> Result<(), Fail> {
+    for source in LEFT_OUT {
+        let tokens = lex(rt.alloc(), source)?;
+        let [token] = tokens.as_slice() else {
+            return Err(Fail::from("not one token"));
+        };
+        assert!(rt; matches!(&token.kind, TokenKind::LeftOut), "{source}");
+        assert_place(&rt, token, 0, source.len(), source);
+    }
+    Ok(())
+}
+
+#[test]
+fn names(rt: HostRuntime) -> Result<(), Fail> {
+    for source in [
+        "x",
+        "_",
+        "__",
+        "Z9",
+        "_1",
+        "a_b",
+        "iff",
+        "Int",
+        "VOID",
+        "int128",
+        "uint1",
+        "float32",
+        "programindex",
+        "foreach_",
+        "null",
+        "nu",
+    ] {
+        let tokens = lex(rt.alloc(), source)?;
+        let [token] = tokens.as_slice() else {
+            return Err(Fail::from("not one token"));
+        };
+        assert!(rt;
+            matches!(&token.kind, TokenKind::Word(name) if name.is(source)),
+            "{source}"
+        );
         assert_place(&rt, token, 0, source.len(), source);
     }
     Ok(())

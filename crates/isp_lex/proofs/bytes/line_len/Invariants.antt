@@ -1,6 +1,6 @@
 use Rattle.std.proofs.Common.{◌≡◌, ◌+◌, ◌-◌, ◌≤◌, length, drop}
 use Rattle.isp_lex.specs.Bytes.{is_line_byte}
-use Rattle.isp_lex.specs.Reading.{run}
+use Rattle.isp_lex.specs.reader.Runs.{run}
 use Rattle.isp_lex.proofs.bytes.line_len.Given as goal
 
 abbrev pub invariant-loop-len : goal.invariant-loop-len

@@ -1,6 +1,6 @@
 use Rattle.std.proofs.Common.{◌≡◌, true, length, drop, ap, arith, rules}
 use Rattle.isp_lex.specs.Bytes.{is_line_byte, next_is}
-use Rattle.isp_lex.specs.Reading.{run}
+use Rattle.isp_lex.specs.reader.Runs.{run}
 use Rattle.isp_lex.proofs.CommentLaws.{closed_front, line_front, open_cut, open_fault, two_split}
 use Rattle.isp_lex.proofs.Runs.{run_le}
 use Rattle.isp_lex.proofs.comments.comment.Goals as goal

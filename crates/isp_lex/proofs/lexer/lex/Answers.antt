@@ -2,7 +2,7 @@ use Rattle.std.proofs.Common.{◌≡◌, ◌==◌, Bool, false, ◌-◌, ◌<◌
 use Rattle.std.specs.List.{All}
 use Rattle.std.proofs.lemmas.Bool.{eqb-true, false≢true}
 use Rattle.isp_lex.specs.Lexing.{IsText, Lexes, done, slice}
-use Rattle.isp_lex.specs.Reading.{StopsAt}
+use Rattle.isp_lex.specs.reader.Pieces.{StopsAt}
 use Rattle.isp_lex.specs.declared.fault.SourceFault.{SourceFault}
 use Rattle.isp_lex.specs.declared.fault.SourceFault.TheVariants.{Memory, Refused}
 use Rattle.isp_lex.specs.declared.token.Token.{Token}

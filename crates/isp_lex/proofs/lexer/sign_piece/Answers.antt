@@ -2,7 +2,8 @@ use Rattle.std.proofs.Common.{◌≡◌, ℕ, ◌<◌, List, [], ◌∷◌, leng
 use Rattle.isp_lex.specs.declared.token.Mark.{Mark}
 use Rattle.isp_lex.specs.declared.token.TokenKind.TheVariants as kind
 use Rattle.isp_lex.specs.Lexing.{BeginsNothing}
-use Rattle.isp_lex.specs.Reading.{BeginsSign, Front, sign_of}
+use Rattle.isp_lex.specs.reader.Pieces.{BeginsSign, Front}
+use Rattle.isp_lex.specs.reader.Signs.{sign_of}
 use Rattle.isp_lex.proofs.Fronts.{nothing_begins, sign_front}
 use Rattle.isp_lex.proofs.lexer.sign_piece.Goals as goal
 

@@ -1,5 +1,5 @@
 use Rattle.std.proofs.Common.{◌≡◌, drop}
-use Rattle.isp_lex.specs.Reading.{first_type}
+use Rattle.isp_lex.specs.reader.Numerals.{first_type}
 use Rattle.isp_lex.proofs.numbers.first_type.Given as goal
 
 abbrev pub invariant-loop-elem : goal.invariant-loop-elem

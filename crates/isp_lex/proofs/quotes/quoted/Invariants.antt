@@ -1,5 +1,5 @@
 use Rattle.std.proofs.Common.{◌-◌, length}
-use Rattle.isp_lex.specs.Reading.{Says}
+use Rattle.isp_lex.specs.reader.Quotes.{Says}
 use Rattle.isp_lex.proofs.quotes.quoted.Given as goal
 
 abbrev pub invariant-loop-byte : goal.invariant-loop-byte
