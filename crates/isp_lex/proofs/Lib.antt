@@ -2,6 +2,7 @@ pub mod Classes
 pub mod CommentLaws
 pub mod Fronts
 pub mod Lexed
+pub mod Listings
 pub mod Marks
 pub mod NumberLaws
 pub mod Numerals

@@ -2,6 +2,7 @@ pub mod Bytes
 pub mod Cuts
 pub mod Faults
 pub mod Lexing
+pub mod Listed
 pub mod Numbers
 pub mod Reading
 pub mod Spelling

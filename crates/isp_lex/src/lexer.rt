@@ -1,5 +1,7 @@
 //! From a text to its tokens.
 ghost use Rattle.std.specs.Prelude.{◌≡◌, ◌<◌, ◌≤◌, ◌+◌, ◌^◌, List, [], length, IfOk, IfErr, MatchResult, Some, true, ℕ};
+ghost use Rattle.isp_lex.specs.Listed.{AreTokens, IsListed};
+ghost use Rattle.isp_lex.specs.Tokens.{TokenList};
 ghost use Rattle.isp_lex.specs.Lexing.{BeginsNothing, IsFault, IsRefused, IsStopped, IsText, Lexes, limit, slice};
 ghost use Rattle.std.specs.List.{All};
 ghost use Rattle.std.specs.Str.{IsUtf8};
@@ -163,6 +165,13 @@ pub fn lex(alloc: Global, text: &str) -> Result<Tokens, SourceFault>
 /// A law: no text has two lists of tokens.
 pub fn one_list()
     ensures { (text : List ℕ) (a b : List Token) → Lexes 0 text a [] → Lexes 0 text b [] → a ≡ b }
+{}
+
+/// A law: a list of tokens is no longer than its text, which has at most 1,048,576 bytes; each token
+/// has a byte of the text at least, a name is a word that is not reserved, a number fits its type;
+/// and tokens stand one behind another.
+pub fn token_laws()
+    ensures { (list : TokenList) → IsListed list → AreTokens list }
 {}
 
 /// A law: each token of a text begins and ends where a character of the text does, or at its end.

@@ -14,6 +14,6 @@ mod text;
 mod token;
 
 pub use fault::{Fault, Rule, SourceFault};
-pub use lexer::{lex, one_list, stopped_text, whole_characters};
+pub use lexer::{lex, one_list, stopped_text, token_laws, whole_characters};
 pub use text::Text;
 pub use token::{Mark, Token, TokenKind, Tokens};

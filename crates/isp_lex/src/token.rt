@@ -1,5 +1,6 @@
 //! Tokens.
 ghost use Rattle.std.specs.Prelude.{◌≡◌};
+ghost use Rattle.isp_lex.specs.Listed.{IsListed};
 ghost use Rattle.isp_lex.specs.Tokens.{is_mark};
 
 use crate::text::Text;
@@ -131,7 +132,8 @@ impl TokenKind {
     }
 }
 
-/// The tokens of a source text in their order, and the length of the text in bytes.
+/// The tokens of a source text in their order, and the length of the text in bytes. Every list of
+/// this type is that of some text of at most 1,048,576 bytes.
 #[derive(Debug, Drop)]
 pub struct Tokens {
     pub(crate) items: Vec<Token>,
@@ -143,13 +145,18 @@ impl Model for Tokens {
 
     ghost Value = { TokenList };
 
+    ghost use Rattle.isp_lex.specs.Listed.{IsListed};
+
     ghost view = { λ t. record { items = t.items.items; end = t.end } };
+
+    ghost invariant = { λ t. IsListed (record { items = t.items.items; end = t.end }) };
 }
 
 impl Tokens {
     /// The tokens.
     pub fn as_slice(&self) -> &[Token]
-        ensures { result.now ≡ self.now.items }
+        ensures items { result.now ≡ self.now.items }
+        ensures listed { IsListed self.now }
     {
         self.items.as_slice()
     }
