@@ -7,10 +7,10 @@ use Rattle.isp_lex.specs.declared.fault.Fault.{Fault}
 use Rattle.isp_lex.specs.declared.fault.SourceFault.{SourceFault}
 use Rattle.isp_lex.specs.declared.fault.SourceFault.TheVariants.{Memory, Refused}
 use Rattle.isp_lex.specs.declared.token.Token.{Token}
-use Rattle.isp_syntax.specs.Depth.{depth_of_functions}
-use Rattle.isp_syntax.specs.Tree.{Function as Read}
+use Rattle.isp_tree.specs.Depth.{depth_of_functions}
+use Rattle.isp_tree.specs.Tree.{Function as Read}
 use Rattle.isp_syntax.specs.Grammar.{IsProgram as IsTree}
-use Rattle.isp_syntax.specs.Promise.{limit as deepest_tree}
+use Rattle.isp_tree.specs.Depth.{limit as deepest_tree}
 use Rattle.isp_rates.specs.declared.checked.Program.{Program}
 use Rattle.isp_rates.specs.Program.{Plain, plain, IsProgram, Breach}
 use Rattle.isp_rates.specs.Promise.{Accepts, Refuses}

@@ -4,10 +4,11 @@ use Rattle.isp_lex.specs.Lexing.{Lexes, IsRefused, limit as longest_text}
 use Rattle.isp_lex.specs.Tokens.{TokenList}
 use Rattle.isp_lex.specs.declared.fault.Fault.{Fault}
 use Rattle.isp_lex.specs.declared.fault.SourceFault.TheVariants.{Refused}
-use Rattle.isp_syntax.specs.Depth.{depth_of_functions}
-use Rattle.isp_syntax.specs.Tree.{Function as Read}
+use Rattle.isp_tree.specs.Depth.{depth_of_functions}
+use Rattle.isp_tree.specs.Tree.{Function as Read}
 use Rattle.isp_syntax.specs.Grammar.{IsProgram as IsTree}
-use Rattle.isp_syntax.specs.Promise.{limit as deepest_tree, Refuses as TreeRefuses}
+use Rattle.isp_syntax.specs.Promise.{Refuses as TreeRefuses}
+use Rattle.isp_tree.specs.Depth.{limit as deepest_tree}
 use Rattle.isp_rates.specs.Program.{Plain, IsProgram, Breach}
 use Rattle.isp_rates.specs.Promise.{Accepts, Refuses}
 

@@ -8,7 +8,7 @@ use Rattle.isp_base.specs.declared.types.Elem.TheVariants.{I32}
 use Rattle.isp_base.specs.declared.operators.BinOp.TheVariants.{Add as BinAdd}
 use Rattle.isp_lex.specs.declared.fault.Rule.TheVariants.{UnknownName, NameTwice, Mismatch, VaryingToUniform}
 use Rattle.isp_lex.specs.Faults.{fault}
-use Rattle.isp_syntax.specs.declared.tree.Word.{Word}
+use Rattle.isp_tree.specs.declared.types.Word.{Word}
 use Rattle.isp_rates.specs.declared.thin.Param.{Param}
 use Rattle.isp_rates.specs.declared.thin.Operator.TheVariants.{Add}
 use Rattle.isp_rates.specs.Thin.{number, name, program_index, item, binary, brackets, Stmt, declare, assign, Function}

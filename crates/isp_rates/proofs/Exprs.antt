@@ -3,7 +3,7 @@ use Rattle.std.proofs.Common.{ℕ, ◌++◌}
 use Rattle.std.specs.Prelude.{List, [], ◌∷◌, length}
 use Rattle.isp_lex.specs.declared.fault.Rule.TheVariants.{UnknownName, NameTwice, Mismatch}
 use Rattle.isp_lex.specs.Faults.{fault}
-use Rattle.isp_syntax.specs.declared.tree.Word.{Word}
+use Rattle.isp_tree.specs.declared.types.Word.{Word}
 use Rattle.isp_rates.specs.declared.thin.Param.{Param}
 use Rattle.isp_rates.specs.Thin.{Expr, number, name, program_index, item, brackets, binary, span_of, Stmt, declare, assign, Function as Read}
 use Rattle.isp_rates.specs.declared.typed.Holds.{Holds}

@@ -4,16 +4,16 @@ use Rattle.std.specs.Prelude.{Ok, Err, Some, List, [], ◌∷◌, codes}
 use Rattle.isp_base.specs.declared.types.Span.{Span}
 use Rattle.isp_base.specs.declared.types.Value.{Value}
 use Rattle.isp_base.specs.declared.types.Elem.TheVariants.{I32, I64}
-use Rattle.isp_syntax.specs.declared.tree.Word.{Word}
-use Rattle.isp_syntax.specs.declared.tree.Qualifier.{Qualifier}
-use Rattle.isp_syntax.specs.declared.tree.Qualifier.TheVariants.{Const, Uniform}
-use Rattle.isp_syntax.specs.declared.tree.Base.{Base}
-use Rattle.isp_syntax.specs.declared.tree.Base.TheVariants.{Void, Int}
-use Rattle.isp_syntax.specs.declared.tree.Operator.TheVariants.{Add, Divide}
-use Rattle.isp_syntax.specs.declared.tree.Assignment.TheVariants.{Replace, Multiply}
-use Rattle.isp_syntax.specs.declared.tree.Linkage.{Linkage}
-use Rattle.isp_syntax.specs.declared.tree.Linkage.TheVariants.{Export, Static}
-use Rattle.isp_syntax.specs.Tree.{TypeTree, Expr, number, name, program_index, item, binary, Item, plain, with_value, assign, Stmt, block, declare, simple, all, Param, Function}
+use Rattle.isp_tree.specs.declared.types.Word.{Word}
+use Rattle.isp_tree.specs.declared.types.Qualifier.{Qualifier}
+use Rattle.isp_tree.specs.declared.types.Qualifier.TheVariants.{Const, Uniform}
+use Rattle.isp_tree.specs.declared.types.Base.{Base}
+use Rattle.isp_tree.specs.declared.types.Base.TheVariants.{Void, Int}
+use Rattle.isp_tree.specs.declared.expr.Operator.TheVariants.{Add, Divide}
+use Rattle.isp_tree.specs.declared.stmt.Assignment.TheVariants.{Replace, Multiply}
+use Rattle.isp_tree.specs.declared.function.Linkage.{Linkage}
+use Rattle.isp_tree.specs.declared.function.Linkage.TheVariants.{Export, Static}
+use Rattle.isp_tree.specs.Tree.{TypeTree, Expr, number, place, variable, program_index, element, binary, Item, plain, with_value, assign, Stmt, block, braces, declare, simple, all, Param, Function}
 use Rattle.isp_rates.specs.Thin as thin
 use Rattle.isp_rates.specs.Covered.{thin_of, stmt_in}
 
@@ -30,7 +30,7 @@ abbrev typed : List Qualifier → Base → ℕ → ℕ → TypeTree
 typed qs b i j = record { qualifiers = qs; base = Some b; span = at i j }
 
 abbrev function : List Linkage → List Param → List Stmt → Function
-function ls ps ss = record { linkages = ls; answer = typed [] Void 7 11; word = word (codes "f") 12 13; params = ps; body = block (all ss) (at 16 99); span = at 0 99 }
+function ls ps ss = record { linkages = ls; answer = typed [] Void 7 11; word = word (codes "f") 12 13; params = ps; body = braces (all ss) (at 16 99); span = at 0 99 }
 
 abbrev array : Param
 array = record { ty = typed (Uniform ∷ []) Int 14 25; word = word (codes "a") 26 27; is_array = true; span = at 14 29 }
@@ -40,16 +40,16 @@ declaring t is = declare (record { ty = t; items = is; span = at 18 30 }) (at 18
 
 -- x, y and z, as they stand in x = y + z;
 abbrev x : Expr
-x = name (word (codes "x") 18 19)
+x = place (variable (word (codes "x") 18 19))
 
 abbrev y : Expr
-y = name (word (codes "y") 22 23)
+y = place (variable (word (codes "y") 22 23))
 
 abbrev z : Expr
-z = name (word (codes "z") 26 27)
+z = place (variable (word (codes "z") 26 27))
 
 -- a tree that is thin is itself: f(uniform int a[]) { a[0] = programIndex; }
-pub a_thin_program : thin_of (function (Export ∷ []) (array ∷ []) (simple (assign Replace (item (word (codes "a") 33 34) (number (int32 0) (at 35 36)) (at 33 37)) (program_index (at 40 52)) (at 33 52)) (at 33 53) ∷ []) ∷ [])
+pub a_thin_program : thin_of (function (Export ∷ []) (array ∷ []) (simple (assign Replace (place (element (word (codes "a") 33 34) (number (int32 0) (at 35 36)) (at 33 37))) (program_index (at 40 52)) (at 33 52)) (at 33 53) ∷ []) ∷ [])
     ≡ Ok (record {
       word = word (codes "f") 12 13;
       params = record { word = word (codes "a") 26 27; is_array = true } ∷ [];
@@ -83,7 +83,7 @@ pub its_statement : stmt_in (simple (assign Multiply x (binary Divide y z (at 23
 its_statement = refl
 
 -- a function that is static too, behind one with a statement that is not thin
-pub first_function : thin_of (function (Export ∷ []) [] (block (all []) (at 18 21) ∷ []) ∷ function (Static ∷ Export ∷ []) [] [] ∷ []) ≡ Err (at 18 21)
+pub first_function : thin_of (function (Export ∷ []) [] (block (braces (all []) (at 18 21)) ∷ []) ∷ function (Static ∷ Export ∷ []) [] [] ∷ []) ≡ Err (at 18 21)
 first_function = refl
 
 pub whole_function : thin_of (function (Static ∷ Export ∷ []) (array ∷ []) [] ∷ []) ≡ Err (at 0 99)

@@ -1,10 +1,11 @@
 -- Steps of the loops that read a list of nodes.
 use Rattle.std.proofs.Common.{◌≡◌, List, [], ◌∷◌, ◌++◌, Ok, Err, refl, sym, ap, ◌∙◌, append_assoc, append-nil, Vec, Global}
 use Rattle.isp_base.specs.declared.types.Span.{Span}
-use Rattle.isp_syntax.specs.declared.tree.Stmt as rust
-use Rattle.isp_syntax.specs.declared.tree.Stmt.TheVariants as variant
-use Rattle.isp_syntax.specs.declared.tree.Stmt.TheFolds.{fold-roll-Stmt}
-use Rattle.isp_syntax.specs.Tree.{Stmt, block, all, stmt_of, stmts_of, stmt_step}
+use Rattle.isp_tree.specs.declared.stmt.Block as rust
+use Rattle.isp_tree.specs.declared.stmt.Block.{out-Block}
+use Rattle.isp_tree.specs.declared.stmt.Stmt.TheFolds.{fold_out-Block}
+use Rattle.isp_tree.specs.Tree.{Stmt, Block, braces, all}
+use Rattle.isp_tree.specs.Views.{stmts_of, block_of, stmt_step, block_step}
 use Rattle.isp_rates.specs.Covered.{Thinned, ◌>>=◌, each, stmt_in, stmts_in, body_in}
 use Rattle.isp_rates.specs.Views.{Fails}
 use Rattle.isp_rates.specs.declared.covered.Stop.{Stop}
@@ -42,8 +43,8 @@ stmts_each : (ss : List Stmt) → stmts_in (all ss) ≡ each stmt_in ss
 stmts_each [] = refl
 stmts_each (s ∷ ss) = rw (stmts_each ss) refl
 
-block_view : (ss : Vec rust.Stmt Global) (s : Span) → stmt_of (variant.Block ss s) ≡ block (all (stmts_of ss.items)) s
-block_view ss s = ap stmt_of (sym (variant.rolls-Block ss s)) ∙ fold-roll-Stmt Stmt stmt_step _
+block_view : (b : rust.Block) → block_of b ≡ braces (all (stmts_of (out-Block b).statements.items)) (out-Block b).span
+block_view b = fold_out-Block Stmt Block stmt_step block_step b
 
-pub block_reads : (ss : Vec rust.Stmt Global) (s : Span) → body_in (stmt_of (variant.Block ss s)) ≡ each stmt_in (stmts_of ss.items)
-block_reads ss s = ap body_in (block_view ss s) ∙ stmts_each (stmts_of ss.items)
+pub block_reads : (b : rust.Block) → body_in (block_of b) ≡ each stmt_in (stmts_of (out-Block b).statements.items)
+block_reads b = ap body_in (block_view b) ∙ stmts_each (stmts_of (out-Block b).statements.items)

@@ -5,7 +5,7 @@ use Rattle.isp_base.specs.declared.types.Span.{Span}
 use Rattle.isp_lex.specs.declared.fault.Fault.{Fault}
 use Rattle.isp_lex.specs.declared.fault.SourceFault.{SourceFault}
 use Rattle.isp_lex.specs.declared.fault.SourceFault.TheVariants.{Refused}
-use Rattle.isp_syntax.specs.Tree.{Function as Whole}
+use Rattle.isp_tree.specs.Tree.{Function as Whole}
 use Rattle.isp_rates.specs.declared.checked.Program.{Program}
 use Rattle.isp_rates.specs.Thin.{Function as Read}
 use Rattle.isp_rates.specs.Covered.{Thinned, thin_of}

@@ -6,20 +6,20 @@ use Rattle.isp_base.specs.declared.types.Rate.{Rate}
 use Rattle.isp_base.specs.declared.types.Rate.TheVariants.{Uniform, Varying}
 use Rattle.isp_base.specs.declared.types.Elem.{Elem}
 use Rattle.isp_base.specs.declared.types.Elem.TheVariants.{I32}
-use Rattle.isp_syntax.specs.declared.tree.Word.{Word}
-use Rattle.isp_syntax.specs.declared.tree.Qualifier.{Qualifier}
-use Rattle.isp_syntax.specs.declared.tree.Qualifier.TheVariants as qualifier
-use Rattle.isp_syntax.specs.declared.tree.Base.{Base}
-use Rattle.isp_syntax.specs.declared.tree.Base.TheVariants.{Void, Int}
-use Rattle.isp_syntax.specs.declared.tree.Operator.{Operator}
-use Rattle.isp_syntax.specs.declared.tree.Operator.TheVariants.{Add, Subtract, Multiply}
-use Rattle.isp_syntax.specs.declared.tree.Assignment.{Assignment}
-use Rattle.isp_syntax.specs.declared.tree.Assignment.TheVariants.{Replace}
-use Rattle.isp_syntax.specs.declared.tree.Linkage.{Linkage}
-use Rattle.isp_syntax.specs.declared.tree.Linkage.TheVariants.{Export}
-use Rattle.isp_syntax.specs.Tree.{TypeTree, Expr, number, truth, program_index, program_count, name, item, call, reference, brackets, cast, prefix, binary, choose}
-use Rattle.isp_syntax.specs.Tree.{Item, plain, with_value, with_size, span_of_item, Declaration, Simple, value, assign, change}
-use Rattle.isp_syntax.specs.Tree.{Stmt, block, declare, simple, Stmts, no_stmts, stmt_then, span_of_stmt, Param, Function}
+use Rattle.isp_tree.specs.declared.types.Word.{Word}
+use Rattle.isp_tree.specs.declared.types.Qualifier.{Qualifier}
+use Rattle.isp_tree.specs.declared.types.Qualifier.TheVariants as qualifier
+use Rattle.isp_tree.specs.declared.types.Base.{Base}
+use Rattle.isp_tree.specs.declared.types.Base.TheVariants.{Void, Int}
+use Rattle.isp_tree.specs.declared.expr.Operator.{Operator}
+use Rattle.isp_tree.specs.declared.expr.Operator.TheVariants.{Add, Subtract, Multiply}
+use Rattle.isp_tree.specs.declared.stmt.Assignment.{Assignment}
+use Rattle.isp_tree.specs.declared.stmt.Assignment.TheVariants.{Replace}
+use Rattle.isp_tree.specs.declared.function.Linkage.{Linkage}
+use Rattle.isp_tree.specs.declared.function.Linkage.TheVariants.{Export}
+use Rattle.isp_tree.specs.Tree.{TypeTree, Expr, number, truth, program_index, program_count, place, call, brackets, cast, prefix, binary, choose, variable, element}
+use Rattle.isp_tree.specs.Tree.{Item, plain, with_value, with_size, span_of_item, Declaration, Simple, value, assign, change}
+use Rattle.isp_tree.specs.Tree.{Stmt, declare, simple, Stmts, no_stmts, stmt_then, span_of_stmt, Block, braces, Param, Function}
 use Rattle.isp_rates.specs.declared.thin.Operator as thin_operator
 use Rattle.isp_rates.specs.declared.thin.Operator.TheVariants as thin_operators
 use Rattle.isp_rates.specs.declared.thin.Param as thin_param
@@ -87,15 +87,14 @@ or_at None s = Err s
 
 abbrev pub expr_in : Expr → Thinned thin.Expr
 expr_in (number v s) = wanted (is_int32 v.elem) s >>= λ _. Ok (thin.number v s)
-expr_in (name w) = Ok (thin.name w)
+expr_in (place (variable w)) = Ok (thin.name w)
+expr_in (place (element w x s)) = expr_in x >>= λ a. Ok (thin.item w a s)
 expr_in (program_index s) = Ok (thin.program_index s)
-expr_in (item w x s) = expr_in x >>= λ a. Ok (thin.item w a s)
 expr_in (brackets x s) = expr_in x >>= λ a. Ok (thin.brackets a s)
 expr_in (binary op x y s) = or_at (operator_in op) s >>= λ o. expr_in x >>= λ a. expr_in y >>= λ b. Ok (thin.binary o a b s)
 expr_in (truth b s) = Err s
 expr_in (program_count s) = Err s
 expr_in (call w xs s) = Err s
-expr_in (reference x s) = Err s
 expr_in (cast t x s) = Err s
 expr_in (prefix p x s) = Err s
 expr_in (choose x y z s) = Err s
@@ -141,9 +140,8 @@ stmts_in (stmt_then s ss) = stmt_in s >>= λ t. stmts_in ss >>= λ ts. Ok (t ∷
 
 -- ---- functions
 
-abbrev pub body_in : Stmt → Thinned (List thin.Stmt)
-body_in (block ss s) = stmts_in ss
-body_in other = Err (span_of_stmt other)
+abbrev pub body_in : Block → Thinned (List thin.Stmt)
+body_in (braces ss s) = stmts_in ss
 
 abbrev pub param_in : Param → Thinned thin_param.Param
 param_in p = wanted (is_uniform (int_rate p.ty)) p.ty.span >>= λ _. Ok (record { word = p.word; is_array = p.is_array })

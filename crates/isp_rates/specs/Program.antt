@@ -9,7 +9,7 @@ use Rattle.isp_lex.specs.declared.fault.Fault.{Fault}
 use Rattle.isp_lex.specs.declared.fault.Rule.TheVariants.{NameTwice, NotYet}
 use Rattle.isp_lex.specs.Faults.{fault}
 use Rattle.isp_rates.specs.declared.thin.Param.{Param}
-use Rattle.isp_syntax.specs.Tree.{Function as Whole}
+use Rattle.isp_tree.specs.Tree.{Function as Whole}
 use Rattle.isp_rates.specs.Thin.{Stmt, Function as Read}
 use Rattle.isp_rates.specs.Covered.{thin_of}
 use Rattle.isp_rates.specs.declared.typed.Holds.{Holds}

@@ -10,7 +10,7 @@ use Rattle.isp_base.specs.Values.{width}
 use Rattle.isp_lex.specs.declared.fault.Fault.{Fault}
 use Rattle.isp_lex.specs.declared.fault.Rule.TheVariants.{UnknownName, NameTwice, Mismatch}
 use Rattle.isp_lex.specs.Faults.{fault}
-use Rattle.isp_syntax.specs.declared.tree.Word.{Word}
+use Rattle.isp_tree.specs.declared.types.Word.{Word}
 use Rattle.isp_rates.specs.declared.thin.Operator.{Operator}
 use Rattle.isp_rates.specs.declared.thin.Operator.TheVariants.{Add, Subtract, Multiply}
 use Rattle.isp_rates.specs.Thin.{Expr, number, name, program_index, item, brackets, binary, span_of, Stmt, declare, assign}

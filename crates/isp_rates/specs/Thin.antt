@@ -3,7 +3,7 @@ use Rattle.std.specs.Prelude.{List, map}
 use Rattle.isp_base.specs.declared.types.Span.{Span}
 use Rattle.isp_base.specs.declared.types.Rate.{Rate}
 use Rattle.isp_base.specs.declared.types.Value.{Value}
-use Rattle.isp_syntax.specs.declared.tree.Word.{Word}
+use Rattle.isp_tree.specs.declared.types.Word.{Word}
 use Rattle.isp_rates.specs.declared.thin.Operator.{Operator}
 use Rattle.isp_rates.specs.declared.thin.Param.{Param}
 use Rattle.isp_rates.specs.declared.thin.Function as rust_function

@@ -1,7 +1,7 @@
 //! Names, types and rates of a program.
 ghost use Rattle.std.specs.Prelude.{◌≡◌, IfOk, IfErr, map};
 ghost use Rattle.isp_lex.specs.declared.fault.Fault.{Fault};
-ghost use Rattle.isp_syntax.specs.Tree.{functions_of as whole_functions};
+ghost use Rattle.isp_tree.specs.Views.{functions_of as whole_functions};
 ghost use Rattle.isp_rates.specs.Thin.{functions_of as read_functions};
 ghost use Rattle.isp_rates.specs.Promise.{Accepts, Refuses};
 ghost use Rattle.isp_rates.specs.Program.{Breach, IsProgram, IsThinProgram, ThinBreach, plain};
@@ -15,7 +15,7 @@ use crate::function::functions;
 use crate::thin::Function;
 use isp_base::Gang;
 use isp_lex::SourceFault;
-use isp_syntax::Tree;
+use isp_tree::Tree;
 use std::alloc::Global;
 
 /// The program of a tree in the thin language, with its names and types found.
@@ -42,12 +42,12 @@ fn check_thin(alloc: Global, tree: &[Function], gang: Gang) -> Result<Checked, S
 /// varying value) in the same order. 0: memory was refused.
 pub fn check_tree(alloc: Global, tree: Tree, gang: Gang) -> Result<Checked, SourceFault>
     // The program is the only one that the tree is, and there is no breach.
-    ensures accepted { IfOk result (λ c. Accepts (IsProgram (whole_functions tree.functions.items)) (Breach (whole_functions tree.functions.items)) (map plain (functions_of c.functions.items))) }
+    ensures accepted { IfOk result (λ c. Accepts (IsProgram (whole_functions tree)) (Breach (whole_functions tree)) (map plain (functions_of c.functions.items))) }
     ensures gang { IfOk result (λ c. c.gang ≡ gang) }
     // Another refusal than of memory is a breach, and none is answered before it.
-    ensures refused { IfErr result (λ e. (f : Fault) → e ≡ SourceFault.Refused f → Refuses (IsProgram (whole_functions tree.functions.items)) (Breach (whole_functions tree.functions.items)) f) }
+    ensures refused { IfErr result (λ e. (f : Fault) → e ≡ SourceFault.Refused f → Refuses (IsProgram (whole_functions tree)) (Breach (whole_functions tree)) f) }
 {
-    match covered::functions(alloc, &tree.functions) {
+    match covered::functions(alloc, tree.functions()) {
         Ok(thin) => check_thin(alloc, &thin, gang),
         Err(stop) => Err(refusal(stop)),
     }

@@ -1,6 +1,6 @@
 //! What a tree is in the thin language, or the first node in the text that is not thin.
 ghost use Rattle.std.specs.Prelude.{◌≡◌, IfOk, map};
-ghost use Rattle.isp_syntax.specs.Tree.{type_of, expr_of as read_expr, item_of, span_of_item, declaration_of, simple_of, stmt_of as read_stmt, stmts_of as read_stmts, param_of, function_of as read_function, functions_of as read_functions};
+ghost use Rattle.isp_tree.specs.Views.{type_of, expr_of as read_expr, item_of, declaration_of, simple_of, stmt_of as read_stmt, block_of, stmts_of as read_stmts, param_of, function_of as read_function, functions_of as read_functions};
 ghost use Rattle.isp_rates.specs.Thin.{expr_of, stmt_of, stmts_of, function_of, functions_of};
 ghost use Rattle.isp_rates.specs.Covered.{wanted, is_int, rate_said, int_rate, is_uniform, is_void, is_int32, operator_in, or_at, each, expr_in, item_in, none_in, items_in, is_plain, simple_in, declaration_in, stmt_in, body_in, param_in, is_exported, function_in, thin_of};
 ghost use Rattle.isp_rates.specs.Views.{Gives, refusal_of};
@@ -9,9 +9,9 @@ ghost use Rattle.isp_rates.specs.declared.covered.Stop.TheVariants.{Memory};
 use crate::thin;
 use isp_base::{Elem, Rate, Span};
 use isp_lex::{Fault, Rule, SourceFault};
-use isp_syntax::{
-    Assignment, Base, Declaration, Expr, Function, Item, Linkage, Operator, Param, Qualifier,
-    Simple, Stmt, TypeWords, Word,
+use isp_tree::{
+    Assignment, Base, Block, Declaration, Expr, Function, Item, Linkage, Operator, Param, Place,
+    Qualifier, Simple, Stmt, TypeWords, Word,
 };
 use std::alloc::{AllocError, AllocFailed, Global};
 
@@ -84,17 +84,6 @@ fn is_void(ty: &TypeWords) -> bool
     ty.qualifiers.is_empty() && matches!(ty.base, Some(Base::Void))
 }
 
-/// A second copy of a word.
-fn copied(word: &Word) -> Result<Word, AllocError>
-    ensures { IfOk result (λ w. w ≡ word.now) }
-{
-    let name = word.name.copied()?;
-    Ok(Word {
-        name,
-        span: word.span,
-    })
-}
-
 /// The operator that it is in the thin language.
 fn operator(operator: Operator) -> Option<thin::Operator>
     ensures { result ≡ operator_in operator }
@@ -112,47 +101,41 @@ fn expr(alloc: Global, x: &Expr) -> Result<thin::Expr, Stop>
     ensures { Gives expr_of result (expr_in (read_expr x.now)) }
 {
     match x {
-        Expr::Number(value, span) => {
+        Expr::Number { value, span } => {
             wanted(matches!(value.elem, Elem::I32), *span)?;
             Ok(thin::Expr::Number(*value, *span))
         }
-        Expr::Name(word) => Ok(thin::Expr::Name(copied(word)?)),
-        Expr::ProgramIndex(span) => Ok(thin::Expr::ProgramIndex(*span)),
-        Expr::Item(word, index, span) => {
+        Expr::Place(Place::Variable(word)) => Ok(thin::Expr::Name(word.copied()?)),
+        Expr::ProgramIndex { span } => Ok(thin::Expr::ProgramIndex(*span)),
+        Expr::Place(Place::Element { array, index, span }) => {
             let index = expr(alloc, index)?;
-            let word = copied(word)?;
+            let word = array.copied()?;
             Ok(thin::Expr::Item(word, Box::new(alloc, index)?, *span))
         }
-        Expr::Brackets(inner, span) => {
+        Expr::Brackets { inner, span } => {
             let inner = expr(alloc, inner)?;
             Ok(thin::Expr::Brackets(Box::new(alloc, inner)?, *span))
         }
-        Expr::Binary(sign, x, y, span) => {
+        Expr::Binary {
+            operator: sign,
+            left,
+            right,
+            span,
+        } => {
             let Some(sign) = operator(*sign) else {
                 return Err(Stop::NotThin(*span));
             };
-            let x = expr(alloc, x)?;
-            let y = expr(alloc, y)?;
+            let x = expr(alloc, left)?;
+            let y = expr(alloc, right)?;
             let x = Box::new(alloc, x)?;
             Ok(thin::Expr::Binary(sign, x, Box::new(alloc, y)?, *span))
         }
-        Expr::Truth(_, span)
-        | Expr::ProgramCount(span)
-        | Expr::Call(_, _, span)
-        | Expr::Reference(_, span)
-        | Expr::Cast(_, _, span)
-        | Expr::Prefix(_, _, span)
-        | Expr::Choose(_, _, _, span) => Err(Stop::NotThin(*span)),
-    }
-}
-
-/// Where an item stands.
-fn item_span(item: &Item) -> Span
-    ensures { result ≡ span_of_item (item_of item.now) }
-{
-    match item {
-        Item::Plain(word) => word.span,
-        Item::Value(_, _, span) | Item::Array(_, _, span) => *span,
+        Expr::Truth { span, .. }
+        | Expr::ProgramCount { span }
+        | Expr::Call { span, .. }
+        | Expr::Cast { span, .. }
+        | Expr::Prefix { span, .. }
+        | Expr::Choose { span, .. } => Err(Stop::NotThin(*span)),
     }
 }
 
@@ -161,12 +144,12 @@ fn item(alloc: Global, item: &Item) -> Result<(Word, thin::Expr), Stop>
     ensures { Gives (λ r. (r.0, expr_of r.1)) result (item_in (item_of item.now)) }
 {
     match item {
-        Item::Value(word, value, _) => {
+        Item::Value { word, value, .. } => {
             let value = expr(alloc, value)?;
-            Ok((copied(word)?, value))
+            Ok((word.copied()?, value))
         }
         Item::Plain(word) => Err(Stop::NotThin(word.span)),
-        Item::Array(_, _, span) => Err(Stop::NotThin(*span)),
+        Item::Array { span, .. } => Err(Stop::NotThin(*span)),
     }
 }
 
@@ -176,7 +159,7 @@ fn no_item(items: &[Item]) -> Result<(), Stop>
 {
     match items {
         [] => Ok(()),
-        [next, ..] => Err(Stop::NotThin(item_span(next))),
+        [next, ..] => Err(Stop::NotThin(next.span())),
     }
 }
 
@@ -199,13 +182,18 @@ fn simple(alloc: Global, whole: Span, simple: &Simple) -> Result<thin::Stmt, Sto
     ensures { Gives stmt_of result (simple_in whole (simple_of simple.now)) }
 {
     match simple {
-        Simple::Assign(sign, place, value, _) => {
-            wanted(matches!(sign, Assignment::Replace), whole)?;
-            let place = expr(alloc, place)?;
+        Simple::Assign {
+            assignment,
+            target,
+            value,
+            ..
+        } => {
+            wanted(matches!(assignment, Assignment::Replace), whole)?;
+            let target = expr(alloc, target)?;
             let value = expr(alloc, value)?;
-            Ok(thin::Stmt::Assign(place, value, whole))
+            Ok(thin::Stmt::Assign(target, value, whole))
         }
-        Simple::Value(_) | Simple::Change(_, _, _) => Err(Stop::NotThin(whole)),
+        Simple::Value(_) | Simple::Change { .. } => Err(Stop::NotThin(whole)),
     }
 }
 
@@ -225,8 +213,11 @@ fn stmt(alloc: Global, s: &Stmt) -> Result<thin::Stmt, Stop>
     ensures { Gives stmt_of result (stmt_in (read_stmt s.now)) }
 {
     match s {
-        Stmt::Declare(declared, span) => declaration(alloc, *span, declared),
-        Stmt::Simple(part, span) => simple(alloc, *span, part),
+        Stmt::Declare {
+            declaration: declared,
+            span,
+        } => declaration(alloc, *span, declared),
+        Stmt::Simple { simple: part, span } => simple(alloc, *span, part),
         _ => Err(Stop::NotThin(s.span())),
     }
 }
@@ -244,13 +235,10 @@ fn stmts(alloc: Global, all: &[Stmt]) -> Result<Vec<thin::Stmt>, Stop>
 }
 
 /// The statements of a block.
-fn body(alloc: Global, s: &Stmt) -> Result<Vec<thin::Stmt>, Stop>
-    ensures { Gives (λ l. stmts_of l.items) result (body_in (read_stmt s.now)) }
+fn body(alloc: Global, block: &Block) -> Result<Vec<thin::Stmt>, Stop>
+    ensures { Gives (λ l. stmts_of l.items) result (body_in (block_of block.now)) }
 {
-    match s {
-        Stmt::Block(all, _) => stmts(alloc, all),
-        _ => Err(Stop::NotThin(s.span())),
-    }
+    stmts(alloc, &block.statements)
 }
 
 /// A parameter.
@@ -258,7 +246,7 @@ fn param(p: &Param) -> Result<thin::Param, Stop>
     ensures { Gives (λ q. q) result (param_in (param_of p.now)) }
 {
     wanted(matches!(int_rate(&p.ty), Some(Rate::Uniform)), p.ty.span)?;
-    let word = copied(&p.word)?;
+    let word = p.word.copied()?;
     Ok(thin::Param {
         word,
         is_array: p.is_array,
@@ -292,7 +280,7 @@ fn function(alloc: Global, f: &Function) -> Result<thin::Function, Stop>
     wanted(is_void(&f.result), f.result.span)?;
     let params = params(alloc, &f.params)?;
     let body = body(alloc, &f.body)?;
-    let word = copied(&f.word)?;
+    let word = f.word.copied()?;
     Ok(thin::Function {
         word,
         params,

@@ -13,7 +13,7 @@ use crate::typed::{Holds, Typed};
 use crate::verdict::{Verdict, both};
 use isp_base::{BinOp, Elem, Rate, Span, Ty, Value};
 use isp_lex::{Fault, Rule};
-use isp_syntax::Word;
+use isp_tree::Word;
 use std::alloc::{AllocError, Global};
 
 /// What a word stands for.

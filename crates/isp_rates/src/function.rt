@@ -17,7 +17,7 @@ use crate::typed::{Holds, TypedFunction, TypedStmt};
 use crate::verdict::{Verdict, beside, both, first, unless};
 use isp_base::{Elem, Name, Parameter, Rate, Signature, Ty};
 use isp_lex::{Fault, Rule};
-use isp_syntax::Word;
+use isp_tree::Word;
 use std::alloc::{AllocError, Global};
 use std::collections::BTreeSet;
 

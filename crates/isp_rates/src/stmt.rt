@@ -15,7 +15,7 @@ use crate::typed::{Holds, Typed, TypedStmt};
 use crate::verdict::{Verdict, beside, both, unless};
 use isp_base::{Elem, Rate, Span, Ty};
 use isp_lex::{Fault, Rule};
-use isp_syntax::Word;
+use isp_tree::Word;
 use std::alloc::{AllocError, Global};
 
 /// A place that a value is stored to.

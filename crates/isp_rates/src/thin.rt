@@ -3,7 +3,7 @@
 ghost use Rattle.std.specs.Prelude.{◌≡◌};
 
 use isp_base::{Rate, Span, Value};
-use isp_syntax::Word;
+use isp_tree::Word;
 
 /// An operator between two operands.
 #[derive(Clone, Copy)]

@@ -17,7 +17,7 @@ fn front_end(rt: HostRuntime) -> Result<(), Fail> {
     assert_eq!(rt; tokens.as_slice().len(), 26);
     assert_eq!(rt; tokens.end(), DOUBLE.len());
     let tree = parse(alloc, &tokens)?;
-    assert_eq!(rt; tree.functions.len(), 1);
+    assert_eq!(rt; tree.functions().len(), 1);
     let checked = check_tree(alloc, tree, Gang::W4)?;
     assert!(rt; checked.signature("f").is_some());
     let checked = front(alloc, DOUBLE, Gang::W4)?;

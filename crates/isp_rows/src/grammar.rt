@@ -64,7 +64,7 @@ fn first_bad_token(rt: HostRuntime) -> Result<(), Fail> {
 #[test]
 fn programs(rt: HostRuntime) -> Result<(), Fail> {
     let alloc = rt.alloc();
-    assert_eq!(rt; tree(alloc, "")?.functions.len(), 0);
+    assert_eq!(rt; tree(alloc, "")?.functions().len(), 0);
     let texts = [
         "void f() { int x = (int)(a) + (uniform int) -b; }",
         "void f() { foreach (i = 0 ... 4) ; }",
@@ -92,16 +92,13 @@ fn programs(rt: HostRuntime) -> Result<(), Fail> {
 fn nearest_if(rt: HostRuntime) -> Result<(), Fail> {
     let alloc = rt.alloc();
     let tree = tree(alloc, "void f() { if (a) if (b) x = 1; else x = 2; }")?;
-    let [function] = tree.functions.as_slice() else {
+    let [function] = tree.functions() else {
         return Err(Fail::from("there is no function, or another one"));
     };
-    let Stmt::Block(statements, _) = &function.body else {
-        return Err(Fail::from("the body is no block"));
-    };
-    let [Stmt::If(_, _, inner, _)] = statements.as_slice() else {
+    let [Stmt::If { then: inner, .. }] = function.body.statements.as_slice() else {
         return Err(Fail::from("the outer if has an else"));
     };
-    let Stmt::IfElse(_, _, _, _, _) = &**inner else {
+    let Stmt::IfElse { .. } = &**inner else {
         return Err(Fail::from("the inner if has no else"));
     };
     Ok(())

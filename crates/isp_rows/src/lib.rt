@@ -19,3 +19,7 @@ mod lexer;
 mod operators;
 #[cfg(test)]
 mod runs;
+#[cfg(test)]
+mod shapes;
+#[cfg(test)]
+mod trees;

@@ -8,10 +8,10 @@ use Rattle.isp_lex.specs.declared.token.TokenKind.{TokenKind}
 use Rattle.isp_lex.specs.declared.token.TokenKind.TheVariants as kind
 use Rattle.isp_lex.specs.declared.token.Token.{Token}
 use Rattle.isp_syntax.specs.Signs.{word}
-use Rattle.isp_syntax.specs.Reading.{◌>>=◌, refusal, refuse, head, on_head, is_word, mark_at, word_from, word_at}
+use Rattle.isp_syntax.specs.reader.Readers.{◌>>=◌, refusal, refuse, head, on_head, is_word, mark_at, word_from, word_at}
 use Rattle.isp_syntax.specs.declared.stop.Why.TheVariants.{Unexpected}
 use Rattle.isp_syntax.specs.declared.stop.Refusal.{Refusal}
-use Rattle.isp_syntax.specs.declared.tree.Word.{Word}
+use Rattle.isp_tree.specs.declared.types.Word.{Word}
 
 -- ---- results
 

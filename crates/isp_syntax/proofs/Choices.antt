@@ -10,11 +10,11 @@ use Rattle.isp_syntax.proofs.Basics.{ok_is, err_is, ok_err, err_ok, bind_ok, bin
 use Rattle.isp_syntax.proofs.Forms.{Form, Found, IsSound, IsComplete, Can, made_sound, made_complete, Behind, Follows, Free, follows, behind_is, is_behind}
 use Rattle.isp_syntax.proofs.FormsComplete.{EndsByHead, read_again, StartsOff}
 use Rattle.isp_syntax.proofs.Refused.{Refused, FailsForm, IsRefused, lift, refused_here, deep_here, raise, made_refused, made_err, made_fails}
-use Rattle.isp_syntax.specs.Reading.{Reader, ◌>>=◌, refusal, refuse, head, on_head, both, at_limit}
-use Rattle.isp_syntax.specs.ReadingChoices.{begins_with, sign_from, sign_at, maybe_from, maybe_at, perhaps_from, perhaps_at, either_from, either_at, counted_at}
+use Rattle.isp_syntax.specs.reader.Readers.{Reader, ◌>>=◌, refusal, refuse, head, on_head, both, at_limit}
+use Rattle.isp_syntax.specs.reader.Choices.{begins_with, sign_from, sign_at, maybe_from, maybe_at, perhaps_from, perhaps_at, either_from, either_at, counted_at}
 use Rattle.isp_syntax.specs.declared.stop.Why.TheVariants.{Unexpected, TooDeep}
 use Rattle.isp_syntax.specs.declared.stop.Refusal.{Refusal}
-use Rattle.isp_syntax.specs.declared.tree.Word.{Word}
+use Rattle.isp_tree.specs.declared.types.Word.{Word}
 
 -- some place
 abbrev pub nowhere : Span

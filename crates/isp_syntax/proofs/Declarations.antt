@@ -18,17 +18,17 @@ use Rattle.isp_syntax.proofs.ListForms.{listed_by_head, listed_refused, listed_e
 use Rattle.isp_syntax.proofs.Refused.{IsRefused, one_refused, named_refused, both_refused}
 use Rattle.isp_syntax.proofs.Starts.{begins_off}
 use Rattle.isp_syntax.proofs.TypesRead.{Types, types_sound, types_complete, types_by_head, types_refused, ends_type}
-use Rattle.isp_syntax.specs.Depth.{depth_of_item, depth_of_declaration}
+use Rattle.isp_tree.specs.Depth.{depth_of_item, depth_of_declaration}
 use Rattle.isp_syntax.specs.Grammar.{IsSize, is_number_size, is_count_size, IsItem, is_plain, is_with_value, is_with_size, IsDeclaration, is_declaration}
-use Rattle.isp_syntax.specs.Reading.{is_word}
-use Rattle.isp_syntax.specs.ReadingChoices.{begins_with}
-use Rattle.isp_syntax.specs.ReadingStmts.{size_of, size_from, size_at, is_item_sign, ItemTail, item_tail_at, item_from, item_at, items_at, declaration_from, declaration_at}
-use Rattle.isp_syntax.specs.ReadingTypes.{begins_type}
+use Rattle.isp_syntax.specs.reader.Readers.{is_word}
+use Rattle.isp_syntax.specs.reader.Choices.{begins_with}
+use Rattle.isp_syntax.specs.reader.Stmts.{size_of, size_from, size_at, is_item_sign, ItemTail, item_tail_at, item_from, item_at, items_at, declaration_from, declaration_at}
+use Rattle.isp_syntax.specs.reader.Types.{begins_type}
 use Rattle.isp_syntax.specs.Signs.{word, loosest}
-use Rattle.isp_syntax.specs.Tree.{Expr, TypeTree, Item, plain, with_value, with_size, Declaration}
-use Rattle.isp_syntax.specs.declared.tree.Word.{Word}
-use Rattle.isp_syntax.specs.declared.tree.Size.{Size}
-use Rattle.isp_syntax.specs.declared.tree.Size.TheVariants as size
+use Rattle.isp_tree.specs.Tree.{Expr, TypeTree, Item, plain, with_value, with_size, Declaration}
+use Rattle.isp_tree.specs.declared.types.Word.{Word}
+use Rattle.isp_tree.specs.declared.stmt.Size.{Size}
+use Rattle.isp_tree.specs.declared.stmt.Size.TheVariants as size
 
 -- some expression
 pub some_expr : (k : ℕ) → (ts : List Token) × Can (Exprs k) ts

@@ -11,7 +11,7 @@ use Rattle.isp_syntax.proofs.ExprsSound.{expr_sound}
 use Rattle.isp_syntax.proofs.Forms.{IsSound, IsComplete, Can}
 use Rattle.isp_syntax.proofs.FormsComplete.{EndsByHead}
 use Rattle.isp_syntax.proofs.Refused.{IsRefused}
-use Rattle.isp_syntax.specs.ReadingExprs.{begins_expr}
+use Rattle.isp_syntax.specs.reader.Exprs.{begins_expr}
 
 pub exprs_sound : (k n : ℕ) → IsSound (Exprs k) n
 exprs_sound k n = expr_sound n k

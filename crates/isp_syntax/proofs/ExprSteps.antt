@@ -1,5 +1,5 @@
 -- Steps of reading expressions.
-use Rattle.std.proofs.Common.{◌≡◌, ℕ, zero, suc, ◌+◌, ◌-◌, ◌≤◌, ◌<◌, max, Bool, true, false, ltb, List, [], ◌∷◌, ◌++◌, drop, Some, None, Ok, Err, refl, sym, ap, subst, ◌∙◌, arith}
+use Rattle.std.proofs.Common.{◌≡◌, ℕ, zero, suc, ◌+◌, ◌-◌, ◌≤◌, ◌<◌, max, Bool, true, false, ltb, List, [], ◌∷◌, ◌++◌, drop, Some, None, Ok, Err, refl, sym, ap, subst, ◌∙◌, arith, inl, inr}
 use Rattle.std.proofs.lemmas.Bool.{lt-ltb, le-ltb}
 use Rattle.isp_base.specs.declared.types.Span.{Span}
 use Rattle.isp_lex.specs.Tokens.{starts_with}
@@ -8,30 +8,35 @@ use Rattle.isp_lex.specs.declared.token.TokenKind.{TokenKind}
 use Rattle.isp_lex.specs.declared.token.Token.{Token}
 use Rattle.isp_syntax.proofs.Basics.{choice_fails}
 use Rattle.isp_syntax.proofs.Choices.{limit_off, limit_deep}
-use Rattle.isp_syntax.specs.Depth.{depth, depth_of_all}
-use Rattle.isp_syntax.specs.Reading.{Read, Reader, ◌>>=◌, Fails, refusal, refuse, at_limit, is_word}
-use Rattle.isp_syntax.specs.ReadingChoices.{begins_with}
-use Rattle.isp_syntax.specs.ReadingExprs.{start_of, is_start, begins_expr, operator_at, place_at, operand_from, operand_at, joined, more_at, binary_at, choice_of, parts_at, choice_at, level_from, level_at, expr_at, target_at}
+use Rattle.isp_syntax.proofs.ListForms.{mapped_twice}
+use Rattle.isp_tree.specs.Depth.{depth, depth_of_argument, depth_of_all}
+use Rattle.isp_syntax.specs.reader.Readers.{Read, Reader, ◌>>=◌, Fails, refusal, refuse, mark_at, both, at_limit, is_word}
+use Rattle.isp_syntax.specs.reader.Choices.{begins_with, either_at}
+use Rattle.isp_syntax.specs.reader.Types.{begins_type, type_at}
+use Rattle.isp_syntax.specs.reader.Exprs.{start_of, is_start, begins_expr, operator_at, place_at, bracket_of, cast_at, closed_at, bracket_at, operand_from, operand_at, joined, more_at, binary_at, choice_of, parts_at, choice_at, level_from, level_at, expr_at, target_at}
 use Rattle.isp_syntax.specs.Signs.{joined_level, loosest}
-use Rattle.isp_syntax.specs.Tree.{Expr, expr_of, exprs_of, number, truth, program_index, program_count, name, item, call, reference, brackets, cast, prefix, binary, choose}
-use Rattle.isp_syntax.specs.declared.tree.Expr as rust
+use Rattle.isp_tree.specs.Tree.{TypeTree, Expr, number, truth, program_index, program_count, place, call, brackets, cast, prefix, binary, choose, Place, variable, element, Argument}
+use Rattle.isp_tree.specs.Views.{argument_of, arguments_of}
+use Rattle.isp_tree.specs.declared.expr.Argument as rust
 use Rattle.isp_syntax.specs.declared.expr.Start.{Start}
 use Rattle.isp_syntax.specs.declared.expr.Start.TheVariants as by
 use Rattle.isp_syntax.specs.declared.stop.Why.TheVariants.{Unexpected, TooDeep}
 use Rattle.isp_syntax.specs.declared.stop.Refusal.{Refusal}
 use Rattle.isp_syntax.specs.declared.stop.Stop.{Stop}
 use Rattle.isp_syntax.specs.declared.stop.Stop.TheVariants as stops
-use Rattle.isp_syntax.specs.declared.tree.Operator.{Operator}
+use Rattle.isp_tree.specs.declared.expr.Operator.{Operator}
+
+place_depth_pos : (p : Place) → 0 < depth (place p)
+place_depth_pos (variable w) = omega arith
+place_depth_pos (element w x s) = omega arith
 
 pub depth_pos : (x : Expr) → 0 < depth x
 depth_pos (number v s) = omega arith
 depth_pos (truth b s) = omega arith
 depth_pos (program_index s) = omega arith
 depth_pos (program_count s) = omega arith
-depth_pos (name w) = omega arith
-depth_pos (item w x s) = omega arith
+depth_pos (place p) = place_depth_pos p
 depth_pos (call w xs s) = omega arith
-depth_pos (reference x s) = depth_pos x
 depth_pos (brackets x s) = omega arith
 depth_pos (cast t x s) = omega arith
 depth_pos (prefix p x s) = omega arith
@@ -39,16 +44,16 @@ depth_pos (binary op x y s) = omega arith
 depth_pos (choose x y z s) = omega arith
 
 -- one more at the end of the arguments
-pub deepest_past : (xs : List Expr) (x : Expr) → depth_of_all (xs ++ x ∷ []) ≡ max (depth_of_all xs) (depth x)
+pub deepest_past : (xs : List Argument) (x : Argument) → depth_of_all (xs ++ x ∷ []) ≡ max (depth_of_all xs) (depth_of_argument x)
 deepest_past [] x = omega arith
 deepest_past (y ∷ ys) x = omega (arith, deepest_past ys x)
 
-pub exprs_past : (xs : List rust.Expr) (x : rust.Expr) → exprs_of (xs ++ x ∷ []) ≡ exprs_of xs ++ expr_of x ∷ []
-exprs_past [] x = refl
-exprs_past (y ∷ ys) x = ap (λ (l : List Expr). expr_of y ∷ l) (exprs_past ys x)
+pub arguments_past : (xs : List rust.Argument) (x : rust.Argument) → arguments_of (xs ++ x ∷ []) ≡ arguments_of xs ++ argument_of x ∷ []
+arguments_past [] x = refl
+arguments_past (y ∷ ys) x = ap (λ (l : List Argument). argument_of y ∷ l) (arguments_past ys x)
 
-pub depth_past : (xs : List rust.Expr) (x : rust.Expr) → depth_of_all (exprs_of (xs ++ x ∷ [])) ≡ max (depth_of_all (exprs_of xs)) (depth (expr_of x))
-depth_past xs x = ap depth_of_all (exprs_past xs x) ∙ deepest_past (exprs_of xs) (expr_of x)
+pub depth_past : (xs : List rust.Argument) (x : rust.Argument) → depth_of_all (arguments_of (xs ++ x ∷ [])) ≡ max (depth_of_all (arguments_of xs)) (depth_of_argument (argument_of x))
+depth_past xs x = ap depth_of_all (arguments_past xs x) ∙ deepest_past (arguments_of xs) (argument_of x)
 
 at_limit_fails : {A : Type 0} (b : TokenKind → Bool) (ts : List Token) → (r : Refusal) × (at_limit {A = A} b ts ≡ Err r)
 unfolding at_limit
@@ -195,6 +200,16 @@ unfolding target_at
 target_step zero ts h = absurd (omega arith)
 target_step (suc n) ts h = let e : suc n - 1 ≡ n = omega arith in rw e refl
 
+-- ---- brackets
+
+pub bracket_typed : (inner : ℕ → Reader Expr) (o : Span) (ts : List Token) → begins_with begins_type ts ≡ true → bracket_at inner o ts ≡ cast_at inner o ts
+unfolding bracket_at either_at cast_at
+bracket_typed inner o ts e = rw e (mapped_twice inl (bracket_of o) (both type_at (both (mark_at mark.ParenClose) (inner zero)) ts))
+
+pub bracket_closed : (inner : ℕ → Reader Expr) (o : Span) (ts : List Token) → begins_with begins_type ts ≡ false → bracket_at inner o ts ≡ closed_at inner o ts
+unfolding bracket_at either_at closed_at
+bracket_closed inner o ts e = rw e (mapped_twice inr (bracket_of o) (both (inner loosest) (mark_at mark.ParenClose) ts))
+
 -- ---- where nothing begins, or the limit is reached
 
 pub target_none : (u : List Token) → begins_with is_word u ≡ false → target_at zero u ≡ refuse Unexpected u
@@ -205,7 +220,7 @@ pub target_deep : (u : List Token) → begins_with is_word u ≡ true → target
 unfolding target_at
 target_deep u e = limit_deep is_word u e
 
-from_off : (inner : ℕ → Reader Expr) (target : Reader Expr) (c : Start) (t : Token) (u : List Token) → is_start c ≡ false → operand_from inner target c t u ≡ refuse Unexpected (t ∷ u)
+from_off : (inner : ℕ → Reader Expr) (target : Reader Place) (c : Start) (t : Token) (u : List Token) → is_start c ≡ false → operand_from inner target c t u ≡ refuse Unexpected (t ∷ u)
 from_off inner target (by.Number v) t u e = absurd cc
 from_off inner target (by.Truth b) t u e = absurd cc
 from_off inner target by.ProgramIndex t u e = absurd cc
@@ -215,17 +230,17 @@ from_off inner target by.Bracket t u e = absurd cc
 from_off inner target (by.Prefix p) t u e = absurd cc
 from_off inner target by.Nothing t u e = refl
 
-operand_off : (inner : ℕ → Reader Expr) (target : Reader Expr) (u : List Token) → begins_with begins_expr u ≡ false → operand_at inner target u ≡ refuse Unexpected u
+operand_off : (inner : ℕ → Reader Expr) (target : Reader Place) (u : List Token) → begins_with begins_expr u ≡ false → operand_at inner target u ≡ refuse Unexpected u
 unfolding operand_at
 operand_off inner target [] e = refl
 operand_off inner target (t ∷ u) e = from_off inner target (start_of t.kind) t u e
 
-pub binary_off : (inner : ℕ → Reader Expr) (target : Reader Expr) (n k : ℕ) (u : List Token) → begins_with begins_expr u ≡ false → binary_at inner target n k u ≡ refuse Unexpected u
+pub binary_off : (inner : ℕ → Reader Expr) (target : Reader Place) (n k : ℕ) (u : List Token) → begins_with begins_expr u ≡ false → binary_at inner target n k u ≡ refuse Unexpected u
 unfolding binary_at
 binary_off inner target n zero u e = operand_off inner target u e
 binary_off inner target n (suc k) u e = let p = binary_off inner target n k u e in rw p refl
 
-level_off : (inner : ℕ → Reader Expr) (target : Reader Expr) (n k : ℕ) (u : List Token) (b : Bool) → begins_with begins_expr u ≡ false → level_from inner target n k u b ≡ refuse Unexpected u
+level_off : (inner : ℕ → Reader Expr) (target : Reader Place) (n k : ℕ) (u : List Token) (b : Bool) → begins_with begins_expr u ≡ false → level_from inner target n k u b ≡ refuse Unexpected u
 level_off inner target n k u true e = let p = binary_off inner target n joined_level u e in rw p refl
 level_off inner target n k u false e = binary_off inner target n k u e
 

@@ -16,18 +16,22 @@ use Rattle.isp_syntax.proofs.Basics.{token, ok_is, some_is, none_some, bind_ok, 
 use Rattle.isp_syntax.proofs.Choices.{nowhere, nameless, Either, then_behind}
 use Rattle.isp_syntax.proofs.Forms.{Follows, Form, Found, IsSound, Can, One, Named, Both, Free, Behind, one_then, behind_is, NameThen, named_then, name_then_is, Before, then_one, before_is, Optional, deepest, AreListed, IsSeries, Series}
 use Rattle.isp_syntax.proofs.TypesRead.{Types, ends_type}
-use Rattle.isp_syntax.specs.Depth.{depth, depth_of_row}
-use Rattle.isp_syntax.specs.Grammar.{IsPlace, is_variable, is_item, IsExpr, is_number, is_place, is_call, is_brackets, is_cast, is_tighter, is_choose, IsArgument, is_value_argument, is_reference, IsArguments, is_no_argument, is_some_arguments, IsArgumentList, is_last_argument, is_more_arguments}
-use Rattle.isp_syntax.specs.Reading.{◌>>=◌}
-use Rattle.isp_syntax.specs.ReadingTypes.{begins_type}
-use Rattle.isp_syntax.specs.ReadingExprs.{start_of, operator_of, of_level, operator_at, bracketed_at, index_at, place_of, place_at, argument_of, argument_at, arguments_at, Suffix, by_nothing, by_index, by_arguments, suffix_from, suffix_at, named, named_at, bracket_of, bracket_at, choice_of, parts_at, expr_at, target_at}
+use Rattle.isp_tree.specs.Depth.{depth, depth_of_place, depth_of_argument, depth_of_row}
+use Rattle.isp_syntax.specs.Grammar.{IsPlace, is_variable, is_element, IsExpr, is_number, is_place, is_call, is_brackets, is_cast, is_tighter, is_choose, IsArgument, is_value_argument, is_reference, IsArguments, is_no_argument, is_some_arguments, IsArgumentList, is_last_argument, is_more_arguments}
+use Rattle.isp_syntax.specs.reader.Readers.{◌>>=◌}
+use Rattle.isp_syntax.specs.reader.Types.{begins_type}
+use Rattle.isp_syntax.specs.reader.Exprs.{start_of, operator_of, of_level, operator_at, bracketed_at, index_at, place_by, place_at, argument_by, argument_at, arguments_at, Suffix, by_nothing, by_index, by_arguments, suffix_from, suffix_at, named, named_at, bracket_of, bracket_at, choice_of, parts_at, expr_at, target_at}
 use Rattle.isp_syntax.specs.Signs.{numeral, word, truth_mark, prefix_mark, sign, level, joined_level, loosest}
-use Rattle.isp_syntax.specs.Tree.{TypeTree, Expr, number, truth, program_index, program_count, name, item, call, reference, brackets, cast, prefix, binary, choose, listed}
+use Rattle.isp_tree.specs.Tree.{TypeTree, Expr, number, truth, program_index, program_count, place, call, brackets, cast, prefix, binary, choose, listed, Place, variable, element, span_of_place, Argument, by_value, by_reference}
 use Rattle.isp_syntax.specs.declared.expr.Start.{Start}
 use Rattle.isp_syntax.specs.declared.expr.Start.TheVariants as by
-use Rattle.isp_syntax.specs.declared.tree.Word.{Word}
-use Rattle.isp_syntax.specs.declared.tree.Operator.{Operator}
-use Rattle.isp_syntax.specs.declared.tree.Operator.TheVariants as operator
+use Rattle.isp_tree.specs.declared.types.Word.{Word}
+use Rattle.isp_tree.specs.declared.expr.Operator.{Operator}
+use Rattle.isp_tree.specs.declared.expr.Operator.TheVariants as operator
+
+abbrev pub is_name : Place → Bool
+is_name (variable w) = true
+is_name (element w x s) = false
 
 -- the last token is a name, which an opening bracket would go on
 abbrev pub ends_in_name : Expr → Bool
@@ -35,10 +39,8 @@ ends_in_name (number v s) = false
 ends_in_name (truth b s) = false
 ends_in_name (program_index s) = false
 ends_in_name (program_count s) = false
-ends_in_name (name w) = true
-ends_in_name (item w x s) = false
+ends_in_name (place p) = is_name p
 ends_in_name (call w xs s) = false
-ends_in_name (reference x s) = ends_in_name x
 ends_in_name (brackets x s) = false
 ends_in_name (cast t x s) = ends_in_name x
 ends_in_name (prefix p x s) = ends_in_name x
@@ -214,29 +216,29 @@ abbrev pub Placed : Form (Word × Option (Expr × Span))
 Placed = NameThen Index
 
 -- a place to which a reference is
-abbrev pub Target : Form Expr
-Target = record { is = λ ts x. IsPlace ts x; deep = depth; ends = λ x rest. ends_in_name x ≡ true → starts_with mark.BracketOpen rest ≡ false; read = λ n ts. target_at n ts }
+abbrev pub Target : Form Place
+Target = record { is = λ ts x. IsPlace ts x; deep = depth_of_place; ends = λ x rest. is_name x ≡ true → starts_with mark.BracketOpen rest ≡ false; read = λ n ts. target_at n ts }
 
-place_from : (w : Word) (b : List Token) (i : Option (Expr × Span)) → Index.is b i → IsPlace (word w ∷ b) (place_of w i)
-place_from w b None i = subst (λ (l : List Token). IsPlace (word w ∷ l) (name w)) (sym i) (is_variable w)
+place_from : (w : Word) (b : List Token) (i : Option (Expr × Span)) → Index.is b i → IsPlace (word w ∷ b) (place_by w i)
+place_from w b None i = subst (λ (l : List Token). IsPlace (word w ∷ l) (variable w)) (sym i) (is_variable w)
 place_from w b (Some x) i =
     let p = before_is (Exprs loosest) mark.BracketClose i.1 x i.3 in
-    subst (λ (l : List Token). IsPlace (word w ∷ l) (item w x.0 (span_to w.span x.1))) (sym (i.2 ∙ ap (λ (l : List Token). at mark.BracketOpen i.0 ∷ l) p.1)) (is_item w i.0 x.1 p.0 x.0 p.2)
+    subst (λ (l : List Token). IsPlace (word w ∷ l) (element w x.0 (span_to w.span x.1))) (sym (i.2 ∙ ap (λ (l : List Token). at mark.BracketOpen i.0 ∷ l) p.1)) (is_element w i.0 x.1 p.0 x.0 p.2)
 
-pub placed_makes : (ts : List Token) (p : Word × Option (Expr × Span)) → Placed.is ts p → IsPlace ts (place_of p.0 p.1)
+pub placed_makes : (ts : List Token) (p : Word × Option (Expr × Span)) → Placed.is ts p → IsPlace ts (place_by p.0 p.1)
 placed_makes ts p i =
     let j = name_then_is Index ts p i in
-    subst (λ (l : List Token). IsPlace l (place_of p.0 p.1)) (sym j.1) (place_from p.0 j.0 p.1 j.2)
+    subst (λ (l : List Token). IsPlace l (place_by p.0 p.1)) (sym j.1) (place_from p.0 j.0 p.1 j.2)
 
-pub place_depth : (w : Word) (i : Option (Expr × Span)) (n : ℕ) → Index.deep i ≤ n → depth (place_of w i) ≤ suc n
+pub place_depth : (w : Word) (i : Option (Expr × Span)) (n : ℕ) → Index.deep i ≤ n → depth_of_place (place_by w i) ≤ suc n
 place_depth w None n h = omega arith
 place_depth w (Some x) n h = omega arith
 
-pub place_ends : (w : Word) (i : Option (Expr × Span)) (rest : List Token) → Index.ends i rest → ends_in_name (place_of w i) ≡ true → starts_with mark.BracketOpen rest ≡ false
+pub place_ends : (w : Word) (i : Option (Expr × Span)) (rest : List Token) → Index.ends i rest → is_name (place_by w i) ≡ true → starts_with mark.BracketOpen rest ≡ false
 place_ends w None rest h = λ b. h
 place_ends w (Some x) rest h = λ b. absurd cc
 
-pub place_reads : (n : ℕ) (ts : List Token) → target_at (suc n) ts ≡ (Placed.read n ts >>= λ p. Ok (place_of p.0.0 p.0.1, p.1))
+pub place_reads : (n : ℕ) (ts : List Token) → target_at (suc n) ts ≡ (Placed.read n ts >>= λ p. Ok (place_by p.0.0 p.0.1, p.1))
 unfolding target_at place_at index_at bracketed_at
 place_reads n ts = refl
 
@@ -251,82 +253,70 @@ bracket_then = then_one (Exprs loosest) mark.BracketClose (λ x s rest. closes_e
 
 -- ---- arguments
 
--- a reference, which stands as an argument alone
-abbrev pub is_referring : Expr → Bool
-is_referring (number v s) = false
-is_referring (truth b s) = false
-is_referring (program_index s) = false
-is_referring (program_count s) = false
-is_referring (name w) = false
-is_referring (item w x s) = false
-is_referring (call w xs s) = false
-is_referring (reference x s) = true
-is_referring (brackets x s) = false
-is_referring (cast t x s) = false
-is_referring (prefix p x s) = false
-is_referring (binary op x y s) = false
-is_referring (choose x y z s) = false
+abbrev pub EndsArgument : Argument → List Token → Type 0
+EndsArgument (by_value x) rest = Ends loosest x rest
+EndsArgument (by_reference p s) rest = is_name p ≡ true → starts_with mark.BracketOpen rest ≡ false
 
-pub record EndsArgument (x : Expr) (rest : List Token) : Type 0 where
-  pub place : ends_in_name x ≡ true → starts_with mark.BracketOpen rest ≡ false
-  pub value : is_referring x ≡ false → Ends loosest x rest
+abbrev pub ArgumentForm : Form Argument
+ArgumentForm = record { is = λ ts x. IsArgument ts x; deep = depth_of_argument; ends = λ x rest. EndsArgument x rest; read = λ n ts. argument_at (expr_at n loosest) (target_at n) ts }
 
-abbrev pub Argument : Form Expr
-Argument = record { is = λ ts x. IsArgument ts x; deep = depth; ends = λ x rest. EndsArgument x rest; read = λ n ts. argument_at (expr_at n loosest) (target_at n) ts }
-
-abbrev pub Referring : Form (Span × Expr)
+abbrev pub Referring : Form (Span × Place)
 Referring = Behind mark.And Target
 
-abbrev pub Passed : Form ((Span × Expr) ⊎ Expr)
+abbrev pub Passed : Form ((Span × Place) ⊎ Expr)
 Passed = Either (is_mark mark.And) Referring (Exprs loosest)
 
-abbrev pub Arguments : Form (List Expr)
-Arguments = Series Argument mark.ParenClose
+abbrev pub ArgumentForms : Form (List Argument)
+ArgumentForms = Series ArgumentForm mark.ParenClose
 
-abbrev pub Called : Form (List Expr × Span)
-Called = Before Arguments mark.ParenClose
+abbrev pub Called : Form (List Argument × Span)
+Called = Before ArgumentForms mark.ParenClose
 
-pub argument_reads : (n : ℕ) (ts : List Token) → Argument.read n ts ≡ (Passed.read n ts >>= λ p. Ok (argument_of p.0, p.1))
+pub argument_reads : (n : ℕ) (ts : List Token) → ArgumentForm.read n ts ≡ (Passed.read n ts >>= λ p. Ok (argument_by p.0, p.1))
 unfolding argument_at
 argument_reads n ts = refl
 
-pub passed_makes : (a : List Token) (p : (Span × Expr) ⊎ Expr) → Passed.is a p → IsArgument a (argument_of p)
+pub passed_makes : (a : List Token) (p : (Span × Place) ⊎ Expr) → Passed.is a p → IsArgument a (argument_by p)
 passed_makes a (inl r) i =
     let j = behind_is mark.And Target a r i in
-    subst (λ (l : List Token). IsArgument l (argument_of (inl r))) (sym j.1) (is_reference r.0 j.0 r.1 j.2)
+    subst (λ (l : List Token). IsArgument l (argument_by (inl r))) (sym j.1) (is_reference r.0 j.0 r.1 j.2)
 passed_makes a (inr x) i = is_value_argument a x i
 
-pub passed_depth : (p : (Span × Expr) ⊎ Expr) (n : ℕ) → Passed.deep p ≤ n → depth (argument_of p) ≤ n
+pub passed_depth : (p : (Span × Place) ⊎ Expr) (n : ℕ) → Passed.deep p ≤ n → depth_of_argument (argument_by p) ≤ n
 passed_depth (inl r) n h = omega arith
 passed_depth (inr x) n h = h
 
-pub passed_ends : (p : (Span × Expr) ⊎ Expr) (rest : List Token) → Passed.ends p rest → EndsArgument (argument_of p) rest
-passed_ends (inl r) rest h = record { place = h; value = λ e. absurd cc }
-passed_ends (inr x) rest h = record { place = h.index; value = λ e. h }
+pub passed_ends : (p : (Span × Place) ⊎ Expr) (rest : List Token) → Passed.ends p rest → EndsArgument (argument_by p) rest
+passed_ends (inl r) rest h = h
+passed_ends (inr x) rest h = h
 
-variable : (w : Word) → Can Target (word w ∷ [])
-variable w = (name w, is_variable w)
+pub some_variable : (w : Word) → Can Target (word w ∷ [])
+some_variable w = (variable w, is_variable w)
 
 pub referring_then : Follows (One mark.And) Target Free
-referring_then = one_then mark.And Target (word nameless ∷ []) (variable nameless)
+referring_then = one_then mark.And Target (word nameless ∷ []) (some_variable nameless)
 
-pub called_then : Follows Arguments (One mark.ParenClose) Free
-called_then = then_one Arguments mark.ParenClose (λ xs s rest. arguments_end xs s rest)
+pub called_then : Follows ArgumentForms (One mark.ParenClose) Free
+called_then = then_one ArgumentForms mark.ParenClose (λ xs s rest. arguments_end xs s rest)
   where
-    arguments_end : (xs : List Expr) (s : Span) (rest : List Token) → Arguments.ends xs (at mark.ParenClose s ∷ rest)
+    argument_ends : (x : Argument) (s : Span) (rest : List Token) → EndsArgument x (at mark.ParenClose s ∷ rest)
+    argument_ends (by_value x) s rest = closes_ends loosest mark.ParenClose refl x s rest
+    argument_ends (by_reference p t) s rest = λ b. refl
+
+    arguments_end : (xs : List Argument) (s : Span) (rest : List Token) → ArgumentForms.ends xs (at mark.ParenClose s ∷ rest)
     arguments_end [] s rest = refl
-    arguments_end (x ∷ []) s rest = (record { place = λ b. refl; value = λ b. closes_ends loosest mark.ParenClose refl x s rest }, refl)
+    arguments_end (x ∷ []) s rest = (argument_ends x s rest, refl)
     arguments_end (x ∷ y ∷ ys) s rest = arguments_end (y ∷ ys) s rest
 
-arguments_of_list : (ts : List Token) (x : Expr) (xs : List Expr) → AreListed Argument ts (x ∷ xs) → IsArgumentList ts (x ∷ xs)
+arguments_of_list : (ts : List Token) (x : Argument) (xs : List Argument) → AreListed ArgumentForm ts (x ∷ xs) → IsArgumentList ts (x ∷ xs)
 arguments_of_list ts x [] i = is_last_argument ts x i
 arguments_of_list ts x (y ∷ ys) i = subst (λ (l : List Token). IsArgumentList l (x ∷ y ∷ ys)) (sym i.3) (is_more_arguments i.0 i.2 i.1 x (y ∷ ys) i.4 (arguments_of_list i.2 y ys i.5))
 
-arguments_of : (ts : List Token) (xs : List Expr) → IsSeries Argument ts xs → IsArguments ts xs
+arguments_of : (ts : List Token) (xs : List Argument) → IsSeries ArgumentForm ts xs → IsArguments ts xs
 arguments_of ts [] i = subst (λ (l : List Token). IsArguments l []) (sym i) is_no_argument
 arguments_of ts (x ∷ xs) i = is_some_arguments ts (x ∷ xs) (arguments_of_list ts x xs i)
 
-pub row_deep : (xs : List Expr) → depth_of_row (listed xs) ≡ deepest Argument xs
+pub row_deep : (xs : List Argument) → depth_of_row (listed xs) ≡ deepest ArgumentForm xs
 row_deep [] = refl
 row_deep (x ∷ xs) = omega (arith, row_deep xs)
 
@@ -337,10 +327,10 @@ IsSuffix ts by_nothing = ts ≡ []
 IsSuffix ts (by_index i) = (s : Span) × (b : List Token) × (ts ≡ at mark.BracketOpen s ∷ b) × Bracketed.is b i
 IsSuffix ts (by_arguments a) = (s : Span) × (b : List Token) × (ts ≡ at mark.ParenOpen s ∷ b) × Called.is b a
 
-abbrev pub depth_of_suffix : Suffix → ℕ
-depth_of_suffix by_nothing = 0
-depth_of_suffix (by_index i) = Bracketed.deep i
-depth_of_suffix (by_arguments a) = Called.deep a
+abbrev pub deep_of_suffix : Suffix → ℕ
+deep_of_suffix by_nothing = 0
+deep_of_suffix (by_index i) = Bracketed.deep i
+deep_of_suffix (by_arguments a) = Called.deep a
 
 abbrev pub EndsSuffix : Suffix → List Token → Type 0
 EndsSuffix by_nothing rest = (starts_with mark.BracketOpen rest ≡ false) × (starts_with mark.ParenOpen rest ≡ false)
@@ -348,7 +338,7 @@ EndsSuffix (by_index i) rest = Unit {0}
 EndsSuffix (by_arguments a) rest = Unit {0}
 
 abbrev pub Suffixes : Form Suffix
-Suffixes = record { is = IsSuffix; deep = depth_of_suffix; ends = EndsSuffix; read = λ n ts. suffix_at (Bracketed.read n) (Called.read n) ts }
+Suffixes = record { is = IsSuffix; deep = deep_of_suffix; ends = EndsSuffix; read = λ n ts. suffix_at (Bracketed.read n) (Called.read n) ts }
 
 abbrev pub NamedForm : Form (Word × Suffix)
 NamedForm = NameThen Suffixes
@@ -395,12 +385,12 @@ unfolding suffix_at
 suffix_sound n f g ts y rest e = suffix_from_sound n f g ts (starts_with mark.BracketOpen ts) (starts_with mark.ParenOpen ts) y rest refl refl e
 
 named_from : (w : Word) (b : List Token) (s : Suffix) → IsSuffix b s → IsExpr zero (word w ∷ b) (named w s)
-named_from w b by_nothing i = subst (λ (l : List Token). IsExpr zero (word w ∷ l) (name w)) (sym i) (is_place (word w ∷ []) (name w) (is_variable w))
+named_from w b by_nothing i = subst (λ (l : List Token). IsExpr zero (word w ∷ l) (place (variable w))) (sym i) (is_place (word w ∷ []) (variable w) (is_variable w))
 named_from w b (by_index x) i =
     let p = before_is (Exprs loosest) mark.BracketClose i.1 x i.3 in
-    subst (λ (l : List Token). IsExpr zero (word w ∷ l) (named w (by_index x))) (sym (i.2 ∙ ap (λ (l : List Token). at mark.BracketOpen i.0 ∷ l) p.1)) (is_place _ _ (is_item w i.0 x.1 p.0 x.0 p.2))
+    subst (λ (l : List Token). IsExpr zero (word w ∷ l) (named w (by_index x))) (sym (i.2 ∙ ap (λ (l : List Token). at mark.BracketOpen i.0 ∷ l) p.1)) (is_place _ _ (is_element w i.0 x.1 p.0 x.0 p.2))
 named_from w b (by_arguments a) i =
-    let p = before_is Arguments mark.ParenClose i.1 a i.3 in
+    let p = before_is ArgumentForms mark.ParenClose i.1 a i.3 in
     subst (λ (l : List Token). IsExpr zero (word w ∷ l) (named w (by_arguments a))) (sym (i.2 ∙ ap (λ (l : List Token). at mark.ParenOpen i.0 ∷ l) p.1)) (is_call w i.0 a.1 p.0 a.0 (arguments_of p.0 a.0 p.2))
 
 pub named_makes : (ts : List Token) (p : Word × Suffix) → NamedForm.is ts p → IsExpr zero ts (named p.0 p.1)
@@ -408,13 +398,13 @@ named_makes ts p i =
     let j = name_then_is Suffixes ts p i in
     subst (λ (l : List Token). IsExpr zero l (named p.0 p.1)) (sym j.1) (named_from p.0 j.0 p.1 j.2)
 
-pub named_depth : (w : Word) (s : Suffix) (n : ℕ) → depth_of_suffix s ≤ n → depth (named w s) ≤ suc n
+pub named_depth : (w : Word) (s : Suffix) (n : ℕ) → deep_of_suffix s ≤ n → depth (named w s) ≤ suc n
 named_depth w by_nothing n h = omega arith
 named_depth w (by_index i) n h = omega arith
 named_depth w (by_arguments a) n h = omega (arith, row_deep a.0)
 
 pub named_ends : (w : Word) (s : Suffix) (rest : List Token) → EndsSuffix s rest → Ends zero (named w s) rest
-named_ends w by_nothing rest h = name_ends (name w) rest (λ b. h.0) (λ b. h.1)
+named_ends w by_nothing rest h = name_ends (place (variable w)) rest (λ b. h.0) (λ b. h.1)
 named_ends w (by_index i) rest h = no_name_ends (named w (by_index i)) rest refl
 named_ends w (by_arguments a) rest h = no_name_ends (named w (by_arguments a)) rest refl
 

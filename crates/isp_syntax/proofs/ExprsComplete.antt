@@ -12,24 +12,24 @@ use Rattle.isp_syntax.proofs.Basics.{starts_same}
 use Rattle.isp_syntax.proofs.Choices.{either_complete}
 use Rattle.isp_syntax.proofs.Forms.{IsComplete, One, one_complete, Named, named_complete, Free, both_complete, Behind, is_behind, is_name_then, is_before, made_complete, AreListed, IsSeries}
 use Rattle.isp_syntax.proofs.FormsComplete.{EndsByHead, optional_complete, TakesComma, StartsOff, series_complete}
-use Rattle.isp_syntax.proofs.Exprs.{Ends, Exprs, level_small, closes_ends, Bracketed, Index, Placed, Target, place_reads, place_then, bracket_then, is_referring, Argument, Referring, Passed, Arguments, Called, argument_reads, referring_then, called_then, row_deep, IsSuffix, depth_of_suffix, EndsSuffix, Suffixes, NamedForm, name_then, named_reads, Closed, Typed, Bracket, bracket_reads, closed_then, cast_then, typed_then, Parts, colon_then, parts_then, parts_read}
+use Rattle.isp_syntax.proofs.Exprs.{Ends, Exprs, level_small, closes_ends, Bracketed, Index, Placed, Target, place_reads, place_then, bracket_then, EndsArgument, ArgumentForm, Referring, Passed, ArgumentForms, Called, argument_reads, referring_then, called_then, row_deep, IsSuffix, deep_of_suffix, EndsSuffix, Suffixes, NamedForm, name_then, named_reads, Closed, Typed, Bracket, bracket_reads, closed_then, cast_then, typed_then, Parts, colon_then, parts_then, parts_read}
 use Rattle.isp_syntax.proofs.ExprSteps.{depth_pos, at_level, at_choice, more_stop, more_step, choice_stops, choice_made}
 use Rattle.isp_syntax.proofs.Starts.{begins_off, starts_off}
 use Rattle.isp_syntax.proofs.TypesRead.{Types, types_complete, type_starts}
-use Rattle.isp_syntax.specs.Depth.{depth}
-use Rattle.isp_syntax.specs.Grammar.{IsPlace, is_variable, is_item, IsExpr, is_number, is_truth, is_program_index, is_program_count, is_place, is_call, is_brackets, is_cast, is_prefix, is_tighter, is_binary, is_choose, IsArgument, is_value_argument, is_reference, IsArguments, is_no_argument, is_some_arguments, IsArgumentList, is_last_argument, is_more_arguments}
-use Rattle.isp_syntax.specs.Reading.{◌>>=◌, head, on_head}
-use Rattle.isp_syntax.specs.ReadingChoices.{begins_with}
-use Rattle.isp_syntax.specs.ReadingTypes.{begins_type}
-use Rattle.isp_syntax.specs.ReadingExprs.{start_of, begins_expr, operator_of, of_level, operator_at, place_of, argument_of, Suffix, by_nothing, by_index, by_arguments, suffix_at, named, named_at, bracket_of, bracket_at, operand_at, more_at, binary_at, choice_at, expr_at, target_at}
+use Rattle.isp_tree.specs.Depth.{depth, depth_of_place, depth_of_argument}
+use Rattle.isp_syntax.specs.Grammar.{IsPlace, is_variable, is_element, IsExpr, is_number, is_truth, is_program_index, is_program_count, is_place, is_call, is_brackets, is_cast, is_prefix, is_tighter, is_binary, is_choose, IsArgument, is_value_argument, is_reference, IsArguments, is_no_argument, is_some_arguments, IsArgumentList, is_last_argument, is_more_arguments}
+use Rattle.isp_syntax.specs.reader.Readers.{◌>>=◌, head, on_head}
+use Rattle.isp_syntax.specs.reader.Choices.{begins_with}
+use Rattle.isp_syntax.specs.reader.Types.{begins_type}
+use Rattle.isp_syntax.specs.reader.Exprs.{start_of, begins_expr, operator_of, of_level, operator_at, place_by, argument_by, Suffix, by_nothing, by_index, by_arguments, suffix_at, named, named_at, bracket_of, bracket_at, operand_at, more_at, binary_at, choice_at, expr_at, target_at}
 use Rattle.isp_syntax.specs.Signs.{word, truth_mark, prefix_mark, sign, level, joined_level, loosest}
-use Rattle.isp_syntax.specs.Tree.{TypeTree, Expr}
+use Rattle.isp_tree.specs.Tree.{TypeTree, Expr, place, Place, Argument, by_value, by_reference}
 use Rattle.isp_syntax.specs.declared.expr.Start.TheVariants as by
-use Rattle.isp_syntax.specs.declared.tree.Word.{Word}
-use Rattle.isp_syntax.specs.declared.tree.Prefix.{Prefix}
-use Rattle.isp_syntax.specs.declared.tree.Prefix.TheVariants.{Negative, Inverse, Not}
-use Rattle.isp_syntax.specs.declared.tree.Operator.{Operator}
-use Rattle.isp_syntax.specs.declared.tree.Operator.TheVariants as operator
+use Rattle.isp_tree.specs.declared.types.Word.{Word}
+use Rattle.isp_tree.specs.declared.expr.Prefix.{Prefix}
+use Rattle.isp_tree.specs.declared.expr.Prefix.TheVariants.{Negative, Inverse, Not}
+use Rattle.isp_tree.specs.declared.expr.Operator.{Operator}
+use Rattle.isp_tree.specs.declared.expr.Operator.TheVariants as operator
 
 -- ---- the next token
 
@@ -51,8 +51,9 @@ ends_same k x a b e h = record {
 pub target_same : EndsByHead Target
 target_same x a b e h = λ i. sym (starts_same mark.BracketOpen a b e) ∙ h i
 
-pub argument_same : EndsByHead Argument
-argument_same x a b e h = record { place = target_same x a b e h.place; value = λ i. ends_same loosest x a b e (h.value i) }
+pub argument_same : EndsByHead ArgumentForm
+argument_same (by_value x) a b e h = ends_same loosest x a b e h
+argument_same (by_reference p s) a b e h = target_same p a b e h
 
 -- ---- operators
 
@@ -128,9 +129,9 @@ start_prefix Negative = refl
 start_prefix Inverse = refl
 start_prefix Not = refl
 
-place_first : {ts : List Token} {x : Expr} → IsPlace ts x → (rest : List Token) → begins_with begins_expr (ts ++ rest) ≡ true
+place_first : {ts : List Token} {p : Place} → IsPlace ts p → (rest : List Token) → begins_with begins_expr (ts ++ rest) ≡ true
 place_first (is_variable w) rest = refl
-place_first (is_item w o c ts x i) rest = refl
+place_first (is_element w o c ts x i) rest = refl
 
 pub expr_first : {k : ℕ} {ts : List Token} {x : Expr} → IsExpr k ts x → (rest : List Token) → begins_with begins_expr (ts ++ rest) ≡ true
 expr_first (is_number v s) rest = refl
@@ -171,47 +172,30 @@ exprs_off k m o a x rest i = starts_off m begins_expr o (a ++ rest) (expr_first 
 
 -- ---- arguments
 
-place_no_reference : {ts : List Token} {x : Expr} → IsPlace ts x → is_referring x ≡ false
-place_no_reference (is_variable w) = refl
-place_no_reference (is_item w o c ts x i) = refl
-
-no_reference : {k : ℕ} {ts : List Token} {x : Expr} → IsExpr k ts x → is_referring x ≡ false
-no_reference (is_number v s) = refl
-no_reference (is_truth b s) = refl
-no_reference (is_program_index s) = refl
-no_reference (is_program_count s) = refl
-no_reference (is_place ts x i) = place_no_reference i
-no_reference (is_call w o c ts xs i) = refl
-no_reference (is_brackets o c ts x i) = refl
-no_reference (is_cast o c ts us t x i j) = refl
-no_reference (is_prefix p s ts x i) = refl
-no_reference (is_tighter k ts x i) = no_reference i
-no_reference (is_binary k a b x op s y e i j) = refl
-no_reference (is_choose q d a b c x y z i j l) = refl
-
-argument_first : {a : List Token} {x : Expr} → IsArgument a x → (rest : List Token) → starts_with mark.ParenClose (a ++ rest) ≡ false
+argument_first : {a : List Token} {x : Argument} → IsArgument a x → (rest : List Token) → starts_with mark.ParenClose (a ++ rest) ≡ false
 argument_first (is_value_argument ts x i) rest = exprs_off loosest mark.ParenClose refl ts x rest i
 argument_first (is_reference s ts x i) rest = refl
 
-pub argument_off : StartsOff Argument mark.ParenClose
+pub argument_off : StartsOff ArgumentForm mark.ParenClose
 argument_off a x rest i = argument_first i rest
 
-pub argument_comma : TakesComma Argument
-argument_comma x s rest = record { place = λ b. refl; value = λ b. closes_ends loosest mark.Comma refl x s rest }
+pub argument_comma : TakesComma ArgumentForm
+argument_comma (by_value x) s rest = closes_ends loosest mark.Comma refl x s rest
+argument_comma (by_reference p t) s rest = λ b. refl
 
-more_listed : (a b : List Token) (s : Span) (x : Expr) (xs : List Expr) → IsArgument a x → AreListed Argument b xs → AreListed Argument (a ++ at mark.Comma s ∷ b) (x ∷ xs)
+more_listed : (a b : List Token) (s : Span) (x : Argument) (xs : List Argument) → IsArgument a x → AreListed ArgumentForm b xs → AreListed ArgumentForm (a ++ at mark.Comma s ∷ b) (x ∷ xs)
 more_listed a b s x [] i j = absurd j
 more_listed a b s x (y ∷ ys) i j = (a, s, b, refl, i, j)
 
-list_of : {ts : List Token} {xs : List Expr} → IsArgumentList ts xs → AreListed Argument ts xs
+list_of : {ts : List Token} {xs : List Argument} → IsArgumentList ts xs → AreListed ArgumentForm ts xs
 list_of (is_last_argument ts x i) = i
 list_of (is_more_arguments a b s x xs i j) = more_listed a b s x xs i (list_of j)
 
-series_of_list : (ts : List Token) (xs : List Expr) → AreListed Argument ts xs → IsSeries Argument ts xs
+series_of_list : (ts : List Token) (xs : List Argument) → AreListed ArgumentForm ts xs → IsSeries ArgumentForm ts xs
 series_of_list ts [] i = absurd i
 series_of_list ts (x ∷ xs) i = i
 
-series_of : {ts : List Token} {xs : List Expr} → IsArguments ts xs → IsSeries Argument ts xs
+series_of : {ts : List Token} {xs : List Argument} → IsArguments ts xs → IsSeries ArgumentForm ts xs
 series_of is_no_argument = refl
 series_of (is_some_arguments ts xs i) = series_of_list ts xs (list_of i)
 
@@ -224,13 +208,13 @@ module _ (n : ℕ) (ih : (k : ℕ) → IsComplete (Exprs k) n) (target : IsCompl
   placed_complete : IsComplete Placed n
   placed_complete = both_complete Named Index Free place_then n (named_complete n) (optional_complete mark.BracketOpen Bracketed n bracketed_complete)
 
-  place_read : {used : List Token} {x : Expr} → IsPlace used x → (rest : List Token) → depth x ≤ suc n → Target.ends x rest → target_at (suc n) (used ++ rest) ≡ Ok (x, rest)
+  place_read : {used : List Token} {x : Place} → IsPlace used x → (rest : List Token) → depth_of_place x ≤ suc n → Target.ends x rest → target_at (suc n) (used ++ rest) ≡ Ok (x, rest)
   place_read (is_variable w) rest le h =
-      made_complete Placed Target (λ p. place_of p.0 p.1) [] n (target_at (suc n)) (word w ∷ []) (w, None) rest (place_reads n (word w ∷ rest)) placed_complete
+      made_complete Placed Target (λ p. place_by p.0 p.1) [] n (target_at (suc n)) (word w ∷ []) (w, None) rest (place_reads n (word w ∷ rest)) placed_complete
       (is_name_then Index w [] None refl) (omega arith) (h refl)
-  place_read (is_item w o c ts x i) rest le h =
+  place_read (is_element w o c ts x i) rest le h =
       let used : List Token = at mark.BracketOpen o ∷ (ts ++ at mark.BracketClose c ∷ []) in
-      made_complete Placed Target (λ p. place_of p.0 p.1) [] n (target_at (suc n)) (word w ∷ used) (w, Some (x, c)) rest (place_reads n (word w ∷ (used ++ rest))) placed_complete
+      made_complete Placed Target (λ p. place_by p.0 p.1) [] n (target_at (suc n)) (word w ∷ used) (w, Some (x, c)) rest (place_reads n (word w ∷ (used ++ rest))) placed_complete
       (is_name_then Index w used (Some (x, c)) (o, ts ++ at mark.BracketClose c ∷ [], refl, is_before (Exprs loosest) mark.BracketClose ts x c i)) (omega arith) tt
 
   place_complete : IsComplete Target (suc n)
@@ -241,7 +225,7 @@ module _ (n : ℕ) (ih : (k : ℕ) → IsComplete (Exprs k) n) (target : IsCompl
       either_complete (is_mark mark.And) Referring (Exprs loosest) (record { first = λ a x rest i. referring_first a x rest i; other = λ a x rest i. exprs_off_and a x rest i }) n
       (both_complete (One mark.And) Target Free referring_then n (one_complete mark.And n) target) (ih loosest)
     where
-      referring_first : (a : List Token) (x : Span × Expr) (rest : List Token) → Referring.is a x → begins_with (is_mark mark.And) (a ++ rest) ≡ true
+      referring_first : (a : List Token) (x : Span × Place) (rest : List Token) → Referring.is a x → begins_with (is_mark mark.And) (a ++ rest) ≡ true
       referring_first a x rest i = rw (i.2, i.3) refl
 
       and_by_head : (l : List Token) → begins_with (is_mark mark.And) l ≡ starts_with mark.And l
@@ -251,18 +235,18 @@ module _ (n : ℕ) (ih : (k : ℕ) → IsComplete (Exprs k) n) (target : IsCompl
       exprs_off_and : (a : List Token) (x : Expr) (rest : List Token) → IsExpr loosest a x → begins_with (is_mark mark.And) (a ++ rest) ≡ false
       exprs_off_and a x rest i = and_by_head (a ++ rest) ∙ exprs_off loosest mark.And refl a x rest i
 
-  argument_read : {used : List Token} {x : Expr} → IsArgument used x → (rest : List Token) → depth x ≤ n → Argument.ends x rest → Argument.read n (used ++ rest) ≡ Ok (x, rest)
+  argument_read : {used : List Token} {x : Argument} → IsArgument used x → (rest : List Token) → depth_of_argument x ≤ n → ArgumentForm.ends x rest → ArgumentForm.read n (used ++ rest) ≡ Ok (x, rest)
   argument_read (is_value_argument ts x i) rest le h =
-      made_complete Passed Argument argument_of [] n (Argument.read n) ts (inr x) rest (argument_reads n (ts ++ rest)) passed_complete i le (h.value (no_reference i))
+      made_complete Passed ArgumentForm argument_by [] n (ArgumentForm.read n) ts (inr x) rest (argument_reads n (ts ++ rest)) passed_complete i le h
   argument_read (is_reference s ts x i) rest le h =
-      made_complete Passed Argument argument_of [] n (Argument.read n) (at mark.And s ∷ ts) (inl (s, x)) rest (argument_reads n (at mark.And s ∷ (ts ++ rest))) passed_complete
-      (is_behind mark.And Target s ts x i) (omega arith) h.place
+      made_complete Passed ArgumentForm argument_by [] n (ArgumentForm.read n) (at mark.And s ∷ ts) (inl (s, x)) rest (argument_reads n (at mark.And s ∷ (ts ++ rest))) passed_complete
+      (is_behind mark.And Target s ts x i) (omega arith) h
 
-  pub argument_complete : IsComplete Argument n
+  pub argument_complete : IsComplete ArgumentForm n
   argument_complete used x rest i le h = argument_read i rest le h
 
   called_complete : IsComplete Called n
-  called_complete = both_complete Arguments (One mark.ParenClose) Free called_then n (series_complete Argument mark.ParenClose argument_comma argument_off n argument_complete) (one_complete mark.ParenClose n)
+  called_complete = both_complete ArgumentForms (One mark.ParenClose) Free called_then n (series_complete ArgumentForm mark.ParenClose argument_comma argument_off n argument_complete) (one_complete mark.ParenClose n)
 
   suffix_complete : IsComplete Suffixes n
   unfolding suffix_at
@@ -294,7 +278,7 @@ module _ (n : ℕ) (ih : (k : ℕ) → IsComplete (Exprs k) n) (target : IsCompl
 
   -- ---- operands
 
-  named_read : (w : Word) (s : Suffix) (b rest : List Token) → IsSuffix b s → depth_of_suffix s ≤ n → EndsSuffix s rest → operand_at (expr_at n) (target_at n) (word w ∷ (b ++ rest)) ≡ Ok (named w s, rest)
+  named_read : (w : Word) (s : Suffix) (b rest : List Token) → IsSuffix b s → deep_of_suffix s ≤ n → EndsSuffix s rest → operand_at (expr_at n) (target_at n) (word w ∷ (b ++ rest)) ≡ Ok (named w s, rest)
   unfolding operand_at
   named_read w s b rest i le h =
       made_complete NamedForm (Exprs zero) (λ p. named p.0 p.1) [] n (named_at (expr_at n loosest) (target_at n)) (word w ∷ b) (w, s) rest (named_reads n (word w ∷ (b ++ rest))) names_complete
@@ -304,9 +288,9 @@ module _ (n : ℕ) (ih : (k : ℕ) → IsComplete (Exprs k) n) (target : IsCompl
   unfolding operand_at
   bracket_read o a p rest i le h = made_complete Bracket (Exprs zero) (bracket_of o) [] n (bracket_at (expr_at n) o) a p rest (bracket_reads n o (a ++ rest)) brackets_complete i le h
 
-  variable_read : {used : List Token} {x : Expr} → IsPlace used x → (rest : List Token) → depth x ≤ suc n → Ends zero x rest → operand_at (expr_at n) (target_at n) (used ++ rest) ≡ Ok (x, rest)
+  variable_read : {used : List Token} {p : Place} → IsPlace used p → (rest : List Token) → depth_of_place p ≤ suc n → Ends zero (place p) rest → operand_at (expr_at n) (target_at n) (used ++ rest) ≡ Ok (place p, rest)
   variable_read (is_variable w) rest le h = named_read w by_nothing [] rest refl (omega arith) (h.index refl, h.arguments refl)
-  variable_read (is_item w o c ts x i) rest le h =
+  variable_read (is_element w o c ts x i) rest le h =
       named_read w (by_index (x, c)) (at mark.BracketOpen o ∷ (ts ++ at mark.BracketClose c ∷ [])) rest (o, ts ++ at mark.BracketClose c ∷ [], refl, is_before (Exprs loosest) mark.BracketClose ts x c i) (omega arith) tt
 
   -- by the levels of operators: what stands on the left of more operators
@@ -328,7 +312,7 @@ module _ (n : ℕ) (ih : (k : ℕ) → IsComplete (Exprs k) n) (target : IsCompl
   left (is_program_count s) lk le = λ rest h. refl
   left (is_place ts x i) lk le = λ rest h. variable_read i rest le h
   left (is_call w o c ts xs i) lk le = λ rest h.
-      named_read w (by_arguments (xs, c)) (at mark.ParenOpen o ∷ (ts ++ at mark.ParenClose c ∷ [])) rest (o, ts ++ at mark.ParenClose c ∷ [], refl, is_before Arguments mark.ParenClose ts xs c (series_of i)) (omega (arith, le, row_deep xs)) tt
+      named_read w (by_arguments (xs, c)) (at mark.ParenOpen o ∷ (ts ++ at mark.ParenClose c ∷ [])) rest (o, ts ++ at mark.ParenClose c ∷ [], refl, is_before ArgumentForms mark.ParenClose ts xs c (series_of i)) (omega (arith, le, row_deep xs)) tt
   left (is_brackets o c ts x i) lk le = λ rest h. bracket_read o (ts ++ at mark.ParenClose c ∷ []) (inr (x, c)) rest (is_before (Exprs loosest) mark.ParenClose ts x c i) (omega arith) tt
   left (is_cast o c ts us t x i j) lk le = λ rest h.
       bracket_read o (ts ++ at mark.ParenClose c ∷ us) (inl (t, (c, x))) rest (ts, at mark.ParenClose c ∷ us, refl, i, is_behind mark.ParenClose (Exprs zero) c us x j, tt) (omega arith)
@@ -416,7 +400,7 @@ each_complete n k a used x rest i le h =
     ]
 
 all_complete : (n : ℕ) → AllComplete n
-all_complete zero = record { exprs = λ k used x rest i le h. absurd (omega (arith, depth_pos x)); targets = λ used x rest i le h. absurd (omega (arith, depth_pos x)) }
+all_complete zero = record { exprs = λ k used x rest i le h. absurd (omega (arith, depth_pos x)); targets = λ used x rest i le h. absurd (omega (arith, depth_pos (place x))) }
 all_complete (suc n) = let a = all_complete n in record { exprs = λ k. each_complete n k a; targets = place_complete n a.exprs a.targets }
 
 -- What is an expression of a level, no deeper, is read.

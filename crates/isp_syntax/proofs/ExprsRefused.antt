@@ -14,26 +14,26 @@ use Rattle.isp_syntax.proofs.Choices.{nowhere, nameless, begins_same, either_ref
 use Rattle.isp_syntax.proofs.Forms.{IsSound, IsComplete, Can, One, one_sound, one_complete, Named, named_sound, named_complete, Free, Behind, is_behind, series_sound}
 use Rattle.isp_syntax.proofs.FormsComplete.{EndsByHead, one_by_head, named_by_head, read_again, series_complete}
 use Rattle.isp_syntax.proofs.Refused.{Completes, Refused, lift, refused_here, raise, FailsForm, IsRefused, one_refused, named_refused, both_refused, made_err, made_fails, made_refused, optional_refused, series_refused}
-use Rattle.isp_syntax.proofs.Exprs.{Exprs, started, with_kind, operator_is, Bracketed, Index, Placed, Target, placed_makes, place_reads, place_then, bracket_then, Argument, Referring, Passed, Arguments, Called, argument_reads, passed_makes, referring_then, called_then, Suffixes, NamedForm, name_then, named_reads, named_makes, Closed, Typed, Bracket, bracket_reads, bracket_makes, closed_then, cast_then, typed_then, zero_value, zero_tokens, number_at_level, zero_at, Parts, colon_then, parts_then, parts_read, choice_makes}
+use Rattle.isp_syntax.proofs.Exprs.{Exprs, started, with_kind, operator_is, Bracketed, Index, Placed, Target, placed_makes, place_reads, place_then, bracket_then, ArgumentForm, Referring, Passed, ArgumentForms, Called, argument_reads, passed_makes, referring_then, called_then, Suffixes, NamedForm, name_then, named_reads, named_makes, Closed, Typed, Bracket, bracket_reads, bracket_makes, closed_then, cast_then, typed_then, zero_value, zero_tokens, number_at_level, zero_at, Parts, colon_then, parts_then, parts_read, choice_makes}
 use Rattle.isp_syntax.proofs.ExprsSound.{argument_sound, expr_sound, target_sound, wider}
 use Rattle.isp_syntax.proofs.ExprsComplete.{operator_same, ends_same, argument_same, sign_at, argument_comma, argument_off, argument_complete, expr_complete, target_complete}
 use Rattle.isp_syntax.proofs.ExprSteps.{depth_pos, at_level, at_choice, more_deep, more_step, more_fails, choice_deep, choice_fails_later, target_none, binary_off, expr_off}
 use Rattle.isp_syntax.proofs.TypesRead.{Types, types_by_head, types_sound, types_complete, types_refused}
-use Rattle.isp_syntax.specs.Depth.{depth}
+use Rattle.isp_tree.specs.Depth.{depth}
 use Rattle.isp_syntax.specs.Grammar.{is_variable, IsExpr, is_number, is_truth, is_program_index, is_program_count, is_place, is_brackets, is_prefix, is_tighter, is_binary}
-use Rattle.isp_syntax.specs.Reading.{Reader, ◌>>=◌, refusal, refuse, head, on_head, is_word}
-use Rattle.isp_syntax.specs.ReadingChoices.{begins_with}
-use Rattle.isp_syntax.specs.ReadingTypes.{begins_type}
-use Rattle.isp_syntax.specs.ReadingExprs.{start_of, is_start, begins_expr, operator_at, place_of, argument_of, by_index, by_arguments, suffix_from, suffix_at, named, named_at, bracket_of, bracket_at, prefix_of, operand_from, operand_at, joined, step_at, more_at, binary_at, choice_of, parts_at, choice_from, choice_at, expr_at, target_at}
+use Rattle.isp_syntax.specs.reader.Readers.{Reader, ◌>>=◌, refusal, refuse, head, on_head, is_word}
+use Rattle.isp_syntax.specs.reader.Choices.{begins_with}
+use Rattle.isp_syntax.specs.reader.Types.{begins_type}
+use Rattle.isp_syntax.specs.reader.Exprs.{start_of, is_start, begins_expr, operator_at, place_by, argument_by, by_index, by_arguments, suffix_from, suffix_at, named, named_at, bracket_of, bracket_at, prefix_of, operand_from, operand_at, joined, step_at, more_at, binary_at, choice_of, parts_at, choice_from, choice_at, expr_at, target_at}
 use Rattle.isp_syntax.specs.Signs.{word, prefix_mark, sign, joined_level, loosest}
-use Rattle.isp_syntax.specs.Tree.{Expr, number, name}
+use Rattle.isp_tree.specs.Tree.{Expr, number, variable}
 use Rattle.isp_syntax.specs.declared.expr.Start.{Start}
 use Rattle.isp_syntax.specs.declared.expr.Start.TheVariants as by
 use Rattle.isp_syntax.specs.declared.stop.Why.TheVariants.{Unexpected, TooDeep}
 use Rattle.isp_syntax.specs.declared.stop.Refusal.{Refusal}
-use Rattle.isp_syntax.specs.declared.tree.Operator.{Operator}
-use Rattle.isp_syntax.specs.declared.tree.Prefix.{Prefix}
-use Rattle.isp_syntax.specs.declared.tree.Prefix.TheVariants.{Negative, Inverse, Not}
+use Rattle.isp_tree.specs.declared.expr.Operator.{Operator}
+use Rattle.isp_tree.specs.declared.expr.Prefix.{Prefix}
+use Rattle.isp_tree.specs.declared.expr.Prefix.TheVariants.{Negative, Inverse, Not}
 
 -- an operand, and a level of operators, with one more level of depth left
 abbrev FailsBinary : ℕ → ℕ → List Token → Refusal → Type 0
@@ -69,15 +69,15 @@ level_fails k m a x u d e f = rw e (f m (omega (arith, depth_pos x)))
 rest_regroup : (a b l : List Token) → (a ++ b) ++ l ≡ a ++ (b ++ (l ++ []))
 rest_regroup a b l = append_assoc a b l ∙ ap (λ (c : List Token). a ++ (b ++ c)) (sym (append-nil l))
 
-arguments_same : EndsByHead Arguments
+arguments_same : EndsByHead ArgumentForms
 arguments_same [] a b e h = sym (starts_same mark.ParenClose a b e) ∙ h
 arguments_same (x ∷ []) a b e h = (argument_same x a b e h.0, sym (starts_same mark.Comma a b e) ∙ h.1)
 arguments_same (x ∷ y ∷ ys) a b e h = arguments_same (y ∷ ys) a b e h
 
-each_argument_complete : (m : ℕ) → IsComplete Argument m
+each_argument_complete : (m : ℕ) → IsComplete ArgumentForm m
 each_argument_complete m = argument_complete m (λ k. expr_complete m k) (target_complete m)
 
-each_argument_sound : (m : ℕ) → IsSound Argument m
+each_argument_sound : (m : ℕ) → IsSound ArgumentForm m
 each_argument_sound m = argument_sound m (λ k. expr_sound m k) (target_sound m)
 
 module _ (n : ℕ) (ih : (k : ℕ) → IsRefused (Exprs k) n) (target : IsRefused Target n) where
@@ -89,23 +89,23 @@ module _ (n : ℕ) (ih : (k : ℕ) → IsRefused (Exprs k) n) (target : IsRefuse
 
   place_refused : (ts : List Token) (r : Refusal) → target_at (suc n) ts ≡ Err r → Refused (Can Target) (λ m u d. target_at (suc m) u ≡ Err d) n ts r
   place_refused ts r e =
-      made_refused Placed Target (λ p. place_of p.0 p.1) [] (λ m u d. target_at (suc m) u ≡ Err d) n ts r placed_refused (made_err (λ p. place_of p.0 p.1) (Placed.read n ts) r (sym (place_reads n ts) ∙ e))
-      (λ a p i. placed_makes a p i) (λ m u d le h w. made_fails (λ p. place_of p.0 p.1) (Placed.read m u) (target_at (suc m) u) d (place_reads m u) w)
+      made_refused Placed Target (λ p. place_by p.0 p.1) [] (λ m u d. target_at (suc m) u ≡ Err d) n ts r placed_refused (made_err (λ p. place_by p.0 p.1) (Placed.read n ts) r (sym (place_reads n ts) ∙ e))
+      (λ a p i. placed_makes a p i) (λ m u d le h w. made_fails (λ p. place_by p.0 p.1) (Placed.read m u) (target_at (suc m) u) d (place_reads m u) w)
 
   passed_refused : IsRefused Passed n
   passed_refused =
       either_refused (is_mark mark.And) Referring (Exprs loosest) n
       (both_refused (One mark.And) Target Free referring_then n (one_by_head mark.And) (λ m. one_complete mark.And m) (one_sound mark.And n) (one_refused mark.And n) target) (ih loosest)
 
-  argument_refused : IsRefused Argument n
+  argument_refused : IsRefused ArgumentForm n
   argument_refused ts r e =
-      made_refused Passed Argument argument_of [] (FailsForm Argument) n ts r passed_refused (made_err argument_of (Passed.read n ts) r (sym (argument_reads n ts) ∙ e))
-      (λ a p i. passed_makes a p i) (λ m u d le h w. made_fails argument_of (Passed.read m u) (Argument.read m u) d (argument_reads m u) w)
+      made_refused Passed ArgumentForm argument_by [] (FailsForm ArgumentForm) n ts r passed_refused (made_err argument_by (Passed.read n ts) r (sym (argument_reads n ts) ∙ e))
+      (λ a p i. passed_makes a p i) (λ m u d le h w. made_fails argument_by (Passed.read m u) (ArgumentForm.read m u) d (argument_reads m u) w)
 
   called_refused : IsRefused Called n
   called_refused =
-      both_refused Arguments (One mark.ParenClose) Free called_then n arguments_same (λ m. series_complete Argument mark.ParenClose argument_comma argument_off m (each_argument_complete m))
-      (series_sound Argument mark.ParenClose n (each_argument_sound n)) (series_refused Argument n argument_same argument_comma each_argument_complete (each_argument_sound n) argument_refused mark.ParenClose) (one_refused mark.ParenClose n)
+      both_refused ArgumentForms (One mark.ParenClose) Free called_then n arguments_same (λ m. series_complete ArgumentForm mark.ParenClose argument_comma argument_off m (each_argument_complete m))
+      (series_sound ArgumentForm mark.ParenClose n (each_argument_sound n)) (series_refused ArgumentForm n argument_same argument_comma each_argument_complete (each_argument_sound n) argument_refused mark.ParenClose) (one_refused mark.ParenClose n)
 
   suffix_from_refused : (ts : List Token) (b c : Bool) (r : Refusal) → starts_with mark.BracketOpen ts ≡ b → starts_with mark.ParenOpen ts ≡ c → suffix_from (Bracketed.read n) (Called.read n) ts b c ≡ Err r → Refused (Can Suffixes) (FailsForm Suffixes) n ts r
   unfolding suffix_at
@@ -415,7 +415,7 @@ unfolding target_at
 target_limits = record {
   limit = λ u. refl;
   off = λ m u e. target_off m u e;
-  some = (word nameless ∷ [], (name nameless, is_variable nameless));
+  some = (word nameless ∷ [], (variable nameless, is_variable nameless));
   completes = λ c s e. ([], word_completes c s e);
 }
 

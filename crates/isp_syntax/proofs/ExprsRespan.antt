@@ -5,12 +5,12 @@ use Rattle.isp_lex.specs.Tokens.{at}
 use Rattle.isp_lex.specs.declared.token.Mark.TheVariants as mark
 use Rattle.isp_lex.specs.declared.token.Token.{Token}
 use Rattle.isp_syntax.proofs.SameKinds.{Same, same_none, same_first, same_one, same_split, same_before, same_around, moved, Respans}
-use Rattle.isp_syntax.specs.Depth.{depth, depth_of_row}
-use Rattle.isp_syntax.specs.Grammar.{AreAll, IsQualifier, is_qualifier, IsType, is_based, is_signed, IsPlace, is_variable, is_item, IsExpr, is_number, is_truth, is_program_index, is_program_count, is_place, is_call, is_brackets, is_cast, is_prefix, is_tighter, is_binary, is_choose, IsArgument, is_value_argument, is_reference, IsArguments, is_no_argument, is_some_arguments, IsArgumentList, is_last_argument, is_more_arguments}
+use Rattle.isp_tree.specs.Depth.{depth, depth_of_place, depth_of_argument, depth_of_row}
+use Rattle.isp_syntax.specs.Grammar.{AreAll, IsQualifier, is_qualifier, IsType, is_based, is_signed, IsPlace, is_variable, is_element, IsExpr, is_number, is_truth, is_program_index, is_program_count, is_place, is_call, is_brackets, is_cast, is_prefix, is_tighter, is_binary, is_choose, IsArgument, is_value_argument, is_reference, IsArguments, is_no_argument, is_some_arguments, IsArgumentList, is_last_argument, is_more_arguments}
 use Rattle.isp_syntax.specs.Promise.{kinds}
 use Rattle.isp_syntax.specs.Signs.{word, numeral, qualifier_mark, base_mark, truth_mark, prefix_mark, sign, loosest}
-use Rattle.isp_syntax.specs.Tree.{TypeTree, Expr, number, truth, program_index, program_count, name, item, call, reference, brackets, cast, prefix, binary, choose, listed, span_of}
-use Rattle.isp_syntax.specs.declared.tree.Qualifier.{Qualifier}
+use Rattle.isp_tree.specs.Tree.{TypeTree, Expr, number, truth, program_index, program_count, place, call, brackets, cast, prefix, binary, choose, listed, span_of, Place, variable, element, span_of_place, Argument, by_value, by_reference}
+use Rattle.isp_tree.specs.declared.types.Qualifier.{Qualifier}
 
 -- ---- types
 
@@ -36,18 +36,18 @@ type_respan (is_signed ts qs i h) us e = (_, is_signed us qs (qualifiers_respan 
 -- ---- expressions
 
 mutual
-  pub place_respan : {ts : List Token} {x : Expr} → IsPlace ts x → (us : List Token) → Same us ts → (y : Expr) × IsPlace us y × (depth y ≡ depth x)
+  pub place_respan : {ts : List Token} {x : Place} → IsPlace ts x → (us : List Token) → Same us ts → (y : Place) × IsPlace us y × (depth_of_place y ≡ depth_of_place x)
   place_respan (is_variable w) us e =
       let p = same_one (word w) us e in
-      (name (moved w p.0), subst (λ (l : List Token). IsPlace l (name (moved w p.0))) (sym p.1) (is_variable (moved w p.0)), refl)
-  place_respan (is_item w o c ts x i) us e =
+      (variable (moved w p.0), subst (λ (l : List Token). IsPlace l (variable (moved w p.0))) (sym p.1) (is_variable (moved w p.0)), refl)
+  place_respan (is_element w o c ts x i) us e =
       let p = same_first (word w) (at mark.BracketOpen o ∷ (ts ++ at mark.BracketClose c ∷ [])) us e in
       let q = same_first (at mark.BracketOpen o) (ts ++ at mark.BracketClose c ∷ []) p.1 p.3 in
       let r = same_before ts (at mark.BracketClose c) q.1 q.3 in
       let y = expr_respan i r.0 r.3 in
       let v = moved w p.0 in
       let s = p.2 ∙ ap (λ (l : List Token). word v ∷ l) (q.2 ∙ ap (λ (l : List Token). at mark.BracketOpen q.0 ∷ l) r.2) in
-      (item v y.0 (span_to p.0 r.1), subst (λ (l : List Token). IsPlace l (item v y.0 (span_to p.0 r.1))) (sym s) (is_item v q.0 r.1 r.0 y.0 y.1), ap suc y.2)
+      (element v y.0 (span_to p.0 r.1), subst (λ (l : List Token). IsPlace l (element v y.0 (span_to p.0 r.1))) (sym s) (is_element v q.0 r.1 r.0 y.0 y.1), ap suc y.2)
 
   pub expr_respan : {k : ℕ} {ts : List Token} {x : Expr} → IsExpr k ts x → (us : List Token) → Same us ts → (y : Expr) × IsExpr k us y × (depth y ≡ depth x)
   expr_respan (is_number v s) us e =
@@ -62,7 +62,7 @@ mutual
   expr_respan (is_program_count s) us e =
       let p = same_one (at mark.ProgramCount s) us e in
       (program_count p.0, subst (λ (l : List Token). IsExpr zero l (program_count p.0)) (sym p.1) (is_program_count p.0), refl)
-  expr_respan (is_place ts x i) us e = let y = place_respan i us e in (y.0, is_place us y.0 y.1, y.2)
+  expr_respan (is_place ts x i) us e = let y = place_respan i us e in (place y.0, is_place us y.0 y.1, y.2)
   expr_respan (is_call w o c ts xs i) us e =
       let p = same_first (word w) (at mark.ParenOpen o ∷ (ts ++ at mark.ParenClose c ∷ [])) us e in
       let q = same_first (at mark.ParenOpen o) (ts ++ at mark.ParenClose c ∷ []) p.1 p.3 in
@@ -107,19 +107,19 @@ mutual
       let o = choose f.0 g.0 h.0 (span_to (span_of f.0) (span_of h.0)) in
       (o, subst (λ (m : List Token). IsExpr loosest m o) (sym s) (is_choose p.1 r.1 p.0 r.0 r.2 f.0 g.0 h.0 f.1 g.1 h.1), rw (f.2, g.2, h.2) refl)
 
-  argument_respan : {ts : List Token} {x : Expr} → IsArgument ts x → (us : List Token) → Same us ts → (y : Expr) × IsArgument us y × (depth y ≡ depth x)
-  argument_respan (is_value_argument ts x i) us e = let y = expr_respan i us e in (y.0, is_value_argument us y.0 y.1, y.2)
+  argument_respan : {ts : List Token} {x : Argument} → IsArgument ts x → (us : List Token) → Same us ts → (y : Argument) × IsArgument us y × (depth_of_argument y ≡ depth_of_argument x)
+  argument_respan (is_value_argument ts x i) us e = let y = expr_respan i us e in (by_value y.0, is_value_argument us y.0 y.1, y.2)
   argument_respan (is_reference s ts x i) us e =
       let q = same_first (at mark.And s) ts us e in
       let y = place_respan i q.1 q.3 in
-      let z = reference y.0 (span_to q.0 (span_of y.0)) in
+      let z = by_reference y.0 (span_to q.0 (span_of_place y.0)) in
       (z, subst (λ (l : List Token). IsArgument l z) (sym q.2) (is_reference q.0 q.1 y.0 y.1), y.2)
 
-  arguments_respan : {ts : List Token} {xs : List Expr} → IsArguments ts xs → (us : List Token) → Same us ts → (ys : List Expr) × IsArguments us ys × (depth_of_row (listed ys) ≡ depth_of_row (listed xs))
+  arguments_respan : {ts : List Token} {xs : List Argument} → IsArguments ts xs → (us : List Token) → Same us ts → (ys : List Argument) × IsArguments us ys × (depth_of_row (listed ys) ≡ depth_of_row (listed xs))
   arguments_respan is_no_argument us e = ([], subst (λ (l : List Token). IsArguments l []) (sym (same_none us e)) is_no_argument, refl)
   arguments_respan (is_some_arguments ts xs i) us e = let y = row_respan i us e in (y.0, is_some_arguments us y.0 y.1, y.2)
 
-  row_respan : {ts : List Token} {xs : List Expr} → IsArgumentList ts xs → (us : List Token) → Same us ts → (ys : List Expr) × IsArgumentList us ys × (depth_of_row (listed ys) ≡ depth_of_row (listed xs))
+  row_respan : {ts : List Token} {xs : List Argument} → IsArgumentList ts xs → (us : List Token) → Same us ts → (ys : List Argument) × IsArgumentList us ys × (depth_of_row (listed ys) ≡ depth_of_row (listed xs))
   row_respan (is_last_argument ts x i) us e = let y = argument_respan i us e in (y.0 ∷ [], is_last_argument us y.0 y.1, rw y.2 refl)
   row_respan (is_more_arguments a b s x xs i j) us e =
       let q = same_around a (at mark.Comma s) b us e in

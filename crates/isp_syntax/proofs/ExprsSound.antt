@@ -9,20 +9,20 @@ use Rattle.isp_lex.specs.declared.token.Token.{Token}
 use Rattle.isp_syntax.proofs.Basics.{ok_is, err_ok, bind_ok, chosen, starts_cons}
 use Rattle.isp_syntax.proofs.Choices.{either_sound, limit_reads_none}
 use Rattle.isp_syntax.proofs.Forms.{Found, IsSound, One, one_sound, Named, named_sound, Free, both_sound, Behind, made_sound, optional_sound, series_sound}
-use Rattle.isp_syntax.proofs.Exprs.{Ends, Exprs, started, with_kind, operator_is, over_none, no_name_ends, name_ends, Bracketed, Index, Placed, Target, placed_makes, place_depth, place_ends, place_reads, place_then, bracket_then, Argument, Referring, Passed, Arguments, Called, argument_reads, passed_makes, passed_depth, passed_ends, referring_then, called_then, Suffixes, NamedForm, name_then, named_reads, suffix_sound, named_makes, named_depth, named_ends, Closed, Typed, Bracket, bracket_reads, bracket_makes, bracket_depth, bracket_ends, closed_then, cast_then, typed_then, Parts, colon_then, parts_then, parts_read, choice_makes}
+use Rattle.isp_syntax.proofs.Exprs.{Ends, Exprs, started, with_kind, operator_is, over_none, no_name_ends, name_ends, Bracketed, Index, Placed, Target, placed_makes, place_depth, place_ends, place_reads, place_then, bracket_then, ArgumentForm, Referring, Passed, ArgumentForms, Called, argument_reads, passed_makes, passed_depth, passed_ends, referring_then, called_then, Suffixes, NamedForm, name_then, named_reads, suffix_sound, named_makes, named_depth, named_ends, Closed, Typed, Bracket, bracket_reads, bracket_makes, bracket_depth, bracket_ends, closed_then, cast_then, typed_then, Parts, colon_then, parts_then, parts_read, choice_makes}
 use Rattle.isp_syntax.proofs.ExprSteps.{at_level, at_choice}
 use Rattle.isp_syntax.proofs.TypesRead.{Types, types_sound}
-use Rattle.isp_syntax.specs.Depth.{depth}
+use Rattle.isp_tree.specs.Depth.{depth}
 use Rattle.isp_syntax.specs.Grammar.{IsExpr, is_number, is_truth, is_program_index, is_program_count, is_prefix, is_tighter, is_binary}
-use Rattle.isp_syntax.specs.Reading.{Reader, ◌>>=◌, refuse, is_word}
-use Rattle.isp_syntax.specs.ReadingTypes.{begins_type}
-use Rattle.isp_syntax.specs.ReadingExprs.{start_of, begins_expr, operator_at, place_of, argument_of, named, named_at, bracket_of, bracket_at, prefix_of, operand_from, operand_at, joined, step_at, more_at, binary_at, choice_of, parts_at, choice_from, choice_at, expr_at, target_at}
+use Rattle.isp_syntax.specs.reader.Readers.{Reader, ◌>>=◌, refuse, is_word}
+use Rattle.isp_syntax.specs.reader.Types.{begins_type}
+use Rattle.isp_syntax.specs.reader.Exprs.{start_of, begins_expr, operator_at, place_by, argument_by, named, named_at, bracket_of, bracket_at, prefix_of, operand_from, operand_at, joined, step_at, more_at, binary_at, choice_of, parts_at, choice_from, choice_at, expr_at, target_at}
 use Rattle.isp_syntax.specs.Signs.{numeral, truth_mark, prefix_mark, sign, joined_level, loosest}
-use Rattle.isp_syntax.specs.Tree.{Expr, number, truth, program_index, program_count}
+use Rattle.isp_tree.specs.Tree.{Expr, number, truth, program_index, program_count}
 use Rattle.isp_syntax.specs.declared.expr.Start.{Start}
 use Rattle.isp_syntax.specs.declared.expr.Start.TheVariants as by
 use Rattle.isp_syntax.specs.declared.stop.Why.TheVariants.{TooDeep}
-use Rattle.isp_syntax.specs.declared.tree.Operator.{Operator}
+use Rattle.isp_tree.specs.declared.expr.Operator.{Operator}
 
 -- a token alone
 alone : (n : ℕ) (t u : Token) (ts : List Token) (x y : Expr) (rest : List Token) → t ≡ u → IsExpr zero (u ∷ []) x → depth x ≤ suc n → Ends zero x ts → ◌≡◌ {A = Expr × List Token} (x, ts) (y, rest) → Found (Exprs zero) (suc n) (t ∷ ts) y rest
@@ -44,17 +44,17 @@ module _ (n : ℕ) (ih : (k : ℕ) → IsSound (Exprs k) n) (target : IsSound Ta
 
   place_sound : IsSound Target (suc n)
   place_sound ts x rest e =
-      made_sound Placed Target (λ p. place_of p.0 p.1) [] n (suc n) (target_at (suc n)) ts (place_reads n ts) placed_sound
+      made_sound Placed Target (λ p. place_by p.0 p.1) [] n (suc n) (target_at (suc n)) ts (place_reads n ts) placed_sound
       (λ a p i. placed_makes a p i) (λ p le. place_depth p.0 p.1 n (omega arith)) (λ p rest h. place_ends p.0 p.1 rest h) x rest e
 
-  pub argument_sound : IsSound Argument n
+  pub argument_sound : IsSound ArgumentForm n
   argument_sound ts x rest e =
-      made_sound Passed Argument argument_of [] n n (Argument.read n) ts (argument_reads n ts)
+      made_sound Passed ArgumentForm argument_by [] n n (ArgumentForm.read n) ts (argument_reads n ts)
       (either_sound (is_mark mark.And) Referring (Exprs loosest) n (both_sound (One mark.And) Target Free referring_then n (one_sound mark.And n) target) (ih loosest))
       (λ a p i. passed_makes a p i) (λ p le. passed_depth p n le) (λ p rest h. passed_ends p rest h) x rest e
 
   called_sound : IsSound Called n
-  called_sound = both_sound Arguments (One mark.ParenClose) Free called_then n (series_sound Argument mark.ParenClose n argument_sound) (one_sound mark.ParenClose n)
+  called_sound = both_sound ArgumentForms (One mark.ParenClose) Free called_then n (series_sound ArgumentForm mark.ParenClose n argument_sound) (one_sound mark.ParenClose n)
 
   names_sound : IsSound NamedForm n
   names_sound = both_sound Named Suffixes Free name_then n (named_sound n) (suffix_sound n bracketed_sound called_sound)

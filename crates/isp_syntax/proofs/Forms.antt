@@ -8,9 +8,9 @@ use Rattle.isp_lex.specs.declared.token.Token.{Token}
 use Rattle.isp_syntax.proofs.Basics.{ok_is, err_ok, bind_ok, chosen, starts_cons, mark_ok, mark_again, word_ok, word_again}
 use Rattle.isp_syntax.specs.Grammar.{AreListed as Separated, AreAll as InTurn}
 use Rattle.isp_syntax.specs.Signs.{word}
-use Rattle.isp_syntax.specs.Reading.{Reader, ◌>>=◌, mark_at, word_at, both, optional_from, optional, after_item, list_at, listed_at, until_from, until_at}
+use Rattle.isp_syntax.specs.reader.Readers.{Reader, ◌>>=◌, mark_at, word_at, both, optional_from, optional, after_item, list_at, listed_at, until_from, until_at}
 use Rattle.isp_syntax.specs.declared.stop.Refusal.{Refusal}
-use Rattle.isp_syntax.specs.declared.tree.Word.{Word}
+use Rattle.isp_tree.specs.declared.types.Word.{Word}
 
 -- A form: which tokens are which tree, how deep it is, what may follow it, and how it is read at a depth.
 pub record Form (A : Type 0) : Type 1 where

@@ -8,7 +8,7 @@ use Rattle.isp_lex.specs.declared.token.Mark.TheVariants as mark
 use Rattle.isp_lex.specs.declared.token.Token.{Token}
 use Rattle.isp_syntax.proofs.Basics.{is_mark_same}
 use Rattle.isp_syntax.proofs.Forms.{One, Named, Form, Found, IsComplete, Optional, deepest, AreListed, EndsListed, Listed, Series, AreAll, Until}
-use Rattle.isp_syntax.specs.Reading.{head, optional, list_at, listed_at, until_at}
+use Rattle.isp_syntax.specs.reader.Readers.{head, optional, list_at, listed_at, until_at}
 
 -- only the first token decides what may follow
 abbrev pub EndsByHead : {A : Type 0} → Form A → Type 0

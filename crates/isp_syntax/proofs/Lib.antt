@@ -29,6 +29,9 @@ pub mod SameKinds
 pub mod ExprsRespan
 pub mod Params
 pub mod Programs
+pub mod Places
+pub mod SoundExprs
+pub mod SoundStmts
 pub mod StmtsRespan
 pub mod Promised
 pub mod FunctionSteps

@@ -12,12 +12,12 @@ use Rattle.isp_syntax.proofs.Basics.{starts_same}
 use Rattle.isp_syntax.proofs.Forms.{Form, IsSound, IsComplete, deepest, AreListed, Listed, EndsListed, Series}
 use Rattle.isp_syntax.proofs.FormsComplete.{EndsByHead, TakesComma}
 use Rattle.isp_syntax.proofs.Refused.{IsRefused, list_refused}
-use Rattle.isp_syntax.specs.Depth.{deepest_of}
+use Rattle.isp_tree.specs.Depth.{deepest_of}
 use Rattle.isp_syntax.specs.Grammar.{span_of_last}
-use Rattle.isp_syntax.specs.Tree.{Item, span_of_item}
-use Rattle.isp_syntax.specs.ReadingStmts.{refusal_at_limit}
-use Rattle.isp_syntax.specs.Reading.{Read, Reader, ◌>>=◌, both, at_limit, refusal}
-use Rattle.isp_syntax.specs.ReadingChoices.{begins_with, maybe_from, maybe_at, either_from, either_at, counted_at}
+use Rattle.isp_tree.specs.Tree.{Item, span_of_item}
+use Rattle.isp_syntax.specs.reader.Stmts.{refusal_at_limit}
+use Rattle.isp_syntax.specs.reader.Readers.{Read, Reader, ◌>>=◌, both, at_limit, refusal}
+use Rattle.isp_syntax.specs.reader.Choices.{begins_with, maybe_from, maybe_at, either_from, either_at, counted_at}
 use Rattle.isp_syntax.specs.declared.stop.Refusal.{Refusal}
 use Rattle.isp_syntax.specs.declared.stop.Why.TheVariants.{Unexpected, TooDeep}
 

@@ -6,7 +6,7 @@ use Rattle.isp_lex.specs.declared.token.Mark.{Mark}
 use Rattle.isp_lex.specs.declared.token.Mark.TheVariants as mark
 use Rattle.isp_lex.specs.declared.token.Token.{Token}
 use Rattle.isp_syntax.proofs.Basics.{drop_shorter}
-use Rattle.isp_syntax.specs.Reading.{Read, Reader, ◌>>=◌, Fails, list_at, listed_at, until_at}
+use Rattle.isp_syntax.specs.reader.Readers.{Read, Reader, ◌>>=◌, Fails, list_at, listed_at, until_at}
 use Rattle.isp_syntax.specs.declared.stop.Stop.{Stop}
 use Rattle.isp_syntax.specs.declared.stop.Stop.TheVariants as stops
 

@@ -19,22 +19,22 @@ use Rattle.isp_syntax.proofs.Refused.{Allowed, Completes, FailsForm, IsRefused, 
 use Rattle.isp_syntax.proofs.Starts.{starts_off}
 use Rattle.isp_syntax.proofs.TypesRead.{one_qualifier, Types, types_sound, types_complete, types_by_head, types_refused, type_starts}
 use Rattle.isp_syntax.specs.Grammar.{AreAll, IsType, is_based, is_signed, IsLinkage, is_linkage, IsParam, is_scalar, is_array, IsParams, is_none, is_void, is_some}
-use Rattle.isp_syntax.specs.Reading.{refusal, head, is_word, listed_at}
-use Rattle.isp_syntax.specs.ReadingChoices.{begins_with, signs_from, signs_at}
-use Rattle.isp_syntax.specs.ReadingPrograms.{linkage_of, linkages_at, param_from, param_at, only_void, params_at}
-use Rattle.isp_syntax.specs.ReadingStmts.{stands}
-use Rattle.isp_syntax.specs.ReadingTypes.{begins_type}
+use Rattle.isp_syntax.specs.reader.Readers.{refusal, head, is_word, listed_at}
+use Rattle.isp_syntax.specs.reader.Choices.{begins_with, signs_from, signs_at}
+use Rattle.isp_syntax.specs.reader.Programs.{linkage_of, linkages_at, param_from, param_at, only_void, params_at}
+use Rattle.isp_syntax.specs.reader.Stmts.{stands}
+use Rattle.isp_syntax.specs.reader.Types.{begins_type}
 use Rattle.isp_syntax.specs.Signs.{word, qualifier_mark, base_mark, linkage_mark}
-use Rattle.isp_syntax.specs.Tree.{TypeTree, Param}
+use Rattle.isp_tree.specs.Tree.{TypeTree, Param}
 use Rattle.isp_syntax.specs.declared.stop.Refusal.{Refusal}
 use Rattle.isp_syntax.specs.declared.stop.Why.{Why}
 use Rattle.isp_syntax.specs.declared.stop.Why.TheVariants.{Unexpected, TooDeep}
-use Rattle.isp_syntax.specs.declared.tree.Base.TheVariants as base
-use Rattle.isp_syntax.specs.declared.tree.Qualifier.{Qualifier}
-use Rattle.isp_syntax.specs.declared.tree.Qualifier.TheVariants as qualifier
-use Rattle.isp_syntax.specs.declared.tree.Linkage.{Linkage}
-use Rattle.isp_syntax.specs.declared.tree.Linkage.TheVariants.{Export, Static, Inline}
-use Rattle.isp_syntax.specs.declared.tree.Word.{Word}
+use Rattle.isp_tree.specs.declared.types.Base.TheVariants as base
+use Rattle.isp_tree.specs.declared.types.Qualifier.{Qualifier}
+use Rattle.isp_tree.specs.declared.types.Qualifier.TheVariants as qualifier
+use Rattle.isp_tree.specs.declared.function.Linkage.{Linkage}
+use Rattle.isp_tree.specs.declared.function.Linkage.TheVariants.{Export, Static, Inline}
+use Rattle.isp_tree.specs.declared.types.Word.{Word}
 
 -- ---- the words before a function's type
 

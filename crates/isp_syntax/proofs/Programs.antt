@@ -16,23 +16,23 @@ use Rattle.isp_syntax.proofs.ListForms.{mapped, Maps, maps_id, mapped_twice, map
 use Rattle.isp_syntax.proofs.Params.{Linkages, linkages_sound, linkages_complete, linkages_by_head, linkages_refused, is_linkage_word, type_no_linkage, Params, params_sound, params_complete, params_by_head, params_close, params_refused}
 use Rattle.isp_syntax.proofs.Refused.{Refused, FailsForm, IsRefused, lift, one_refused, named_refused, both_refused}
 use Rattle.isp_syntax.proofs.Starts.{begins_off}
-use Rattle.isp_syntax.proofs.Stmts.{Block, some_block}
-use Rattle.isp_syntax.proofs.StmtsComplete.{block_complete, stmt_complete}
-use Rattle.isp_syntax.proofs.StmtsRefused.{block_refused, stmt_refused}
-use Rattle.isp_syntax.proofs.StmtsSound.{block_sound, stmt_sound}
+use Rattle.isp_syntax.proofs.Stmts.{BlockForm, some_block}
+use Rattle.isp_syntax.proofs.StmtsComplete.{block_complete}
+use Rattle.isp_syntax.proofs.StmtsRefused.{block_refused}
+use Rattle.isp_syntax.proofs.StmtsSound.{block_sound}
 use Rattle.isp_syntax.proofs.TypesRead.{Types, types_sound, types_complete, types_by_head, types_refused, type_starts, int_type}
-use Rattle.isp_syntax.specs.Depth.{depth_of_stmt, depth_of_functions}
+use Rattle.isp_tree.specs.Depth.{depth_of_block, depth_of_functions}
 use Rattle.isp_syntax.specs.Grammar.{IsType, IsParams, is_none, IsFunction, is_function, IsProgram}
-use Rattle.isp_syntax.specs.Reading.{Read, ◌>>=◌, head, is_word}
-use Rattle.isp_syntax.specs.ReadingChoices.{begins_with}
-use Rattle.isp_syntax.specs.ReadingPrograms.{Signature, signature_at, function_from, function_at, functions_at, program_at}
-use Rattle.isp_syntax.specs.ReadingStmts.{block_at, stmt_at}
-use Rattle.isp_syntax.specs.ReadingTypes.{begins_type}
+use Rattle.isp_syntax.specs.reader.Readers.{Read, ◌>>=◌, head, is_word}
+use Rattle.isp_syntax.specs.reader.Choices.{begins_with}
+use Rattle.isp_syntax.specs.reader.Programs.{Signature, signature_at, function_from, function_at, functions_at, program_at}
+use Rattle.isp_syntax.specs.reader.Stmts.{block_at}
+use Rattle.isp_syntax.specs.reader.Types.{begins_type}
 use Rattle.isp_syntax.specs.Signs.{word, first_span}
-use Rattle.isp_syntax.specs.Tree.{TypeTree, Stmt, Param, Function}
+use Rattle.isp_tree.specs.Tree.{TypeTree, Block, Param, Function}
 use Rattle.isp_syntax.specs.declared.stop.Refusal.{Refusal}
-use Rattle.isp_syntax.specs.declared.tree.Linkage.{Linkage}
-use Rattle.isp_syntax.specs.declared.tree.Word.{Word}
+use Rattle.isp_tree.specs.declared.function.Linkage.{Linkage}
+use Rattle.isp_tree.specs.declared.types.Word.{Word}
 
 -- ---- a function up to its body
 
@@ -110,41 +110,41 @@ heading_refused n =
 
 -- ---- functions
 
-abbrev FunctionParts : Form (SignatureTree × Stmt)
-FunctionParts = Both Heading Block Free
+abbrev FunctionParts : Form (SignatureTree × Block)
+FunctionParts = Both Heading BlockForm Free
 
 abbrev signature_of : SignatureTree → Signature
-signature_of p = (p.0, (p.1.0, (p.1.1.0, p.1.1.1.1.0)))
+signature_of p = record { linkages = p.0; answer = p.1.0; word = p.1.1.0; params = p.1.1.1.1.0 }
 
-abbrev function_of_parts : Span → SignatureTree × Stmt → Function
+abbrev function_of_parts : Span → SignatureTree × Block → Function
 function_of_parts s p = function_from s (signature_of p.0) p.1
 
 abbrev pub Definition : Form Function
-Definition = record { is = λ ts f. IsFunction ts f; deep = λ f. depth_of_stmt f.body; ends = λ f rest. Unit {0}; read = function_at }
+Definition = record { is = λ ts f. IsFunction ts f; deep = λ f. depth_of_block f.body; ends = λ f rest. Unit {0}; read = function_at }
 
-body_then : Follows Heading Block Free
-body_then = follows Heading Block (λ x y b rest i h. tt) some_block.0 some_block.1
+body_then : Follows Heading BlockForm Free
+body_then = follows Heading BlockForm (λ x y b rest i h. tt) some_block.0 some_block.1
 
 parts_sound : (n : ℕ) → IsSound FunctionParts n
-parts_sound n = both_sound Heading Block Free body_then n (heading_sound n) (block_sound n (stmt_sound n))
+parts_sound n = both_sound Heading BlockForm Free body_then n (heading_sound n) (block_sound n)
 
 parts_complete : (n : ℕ) → IsComplete FunctionParts n
-parts_complete n = both_complete Heading Block Free body_then n (heading_complete n) (block_complete n (stmt_complete n))
+parts_complete n = both_complete Heading BlockForm Free body_then n (heading_complete n) (block_complete n)
 
 parts_refused : (n : ℕ) → IsRefused FunctionParts n
-parts_refused n = both_refused Heading Block Free body_then n (λ x a b e h. tt) heading_complete (heading_sound n) (heading_refused n) (block_refused n (stmt_refused n))
+parts_refused n = both_refused Heading BlockForm Free body_then n (λ x a b e h. tt) heading_complete (heading_sound n) (heading_refused n) (block_refused n)
 
 signature_reads : (n : ℕ) → Maps (Heading.read n) signature_at signature_of
 unfolding signature_at
 signature_reads n ts = refl
 
-abbrev from_signature : Span → Signature × Stmt → Function
+abbrev from_signature : Span → Signature × Block → Function
 from_signature s p = function_from s p.0 p.1
 
 function_reads : (n : ℕ) (ts : List Token) → function_at n ts ≡ mapped (function_of_parts (first_span ts)) (FunctionParts.read n ts)
 unfolding function_at
 function_reads n ts =
-    ap (λ (r : Read (Signature × Stmt)). mapped (from_signature (first_span ts)) r) (maps_both signature_of (λ x. x) (Heading.read n) signature_at (block_at (stmt_at n)) (block_at (stmt_at n)) (signature_reads n) (maps_id (block_at (stmt_at n))) ts)
+    ap (λ (r : Read (Signature × Block)). mapped (from_signature (first_span ts)) r) (maps_both signature_of (λ x. x) (Heading.read n) signature_at (block_at n) (block_at n) (signature_reads n) (maps_id (block_at n)) ts)
     ∙ mapped_twice (λ p. (signature_of p.0, p.1)) (from_signature (first_span ts)) (FunctionParts.read n ts)
 
 -- the place of the first token is that of the first word of the type, or before it
@@ -165,14 +165,14 @@ function_regroup ls ts w o c ps bs = simp append_assoc
 front_regroup : (ls ts : List Token) (rest : List Token) → ls ++ (ts ++ rest) ≡ (ls ++ ts) ++ rest
 front_regroup ls ts rest = sym (append_assoc ls ts rest)
 
-function_is : (ts ls us ps bs : List Token) (w : Word) (o c : Span) (linkages : List Linkage) (t : TypeTree) (params : List Param) (b : Stmt) → ts ≡ ls ++ (us ++ word w ∷ at mark.ParenOpen o ∷ (ps ++ at mark.ParenClose c ∷ bs)) → Linkages.is ls linkages → IsType us t → IsParams ps params → Block.is bs b
-    → IsFunction ts (function_from (first_span ts) (linkages, (t, (w, params))) b)
+function_is : (ts ls us ps bs : List Token) (w : Word) (o c : Span) (linkages : List Linkage) (t : TypeTree) (params : List Param) (b : Block) → ts ≡ ls ++ (us ++ word w ∷ at mark.ParenOpen o ∷ (ps ++ at mark.ParenClose c ∷ bs)) → Linkages.is ls linkages → IsType us t → IsParams ps params → BlockForm.is bs b
+    → IsFunction ts (function_from (first_span ts) (record { linkages = linkages; answer = t; word = w; params = params }) b)
 function_is ts ls us ps bs w o c linkages t params b e i j k l =
     let s : first_span ts ≡ first_span (ls ++ us) = ap first_span (e ∙ front_regroup ls us (word w ∷ at mark.ParenOpen o ∷ (ps ++ at mark.ParenClose c ∷ bs))) ∙ first_of_front (ls ++ us) (word w ∷ at mark.ParenOpen o ∷ (ps ++ at mark.ParenClose c ∷ bs)) (front_long ls j) in
-    subst (λ (z : Span). IsFunction ts (function_from z (linkages, (t, (w, params))) b)) (sym s)
-    (subst (λ (l : List Token). IsFunction l (function_from (first_span (ls ++ us)) (linkages, (t, (w, params))) b)) (sym e) (is_function o c ls us ps bs linkages t w params b i j k l))
+    subst (λ (z : Span). IsFunction ts (function_from z (record { linkages = linkages; answer = t; word = w; params = params }) b)) (sym s)
+    (subst (λ (l : List Token). IsFunction l (function_from (first_span (ls ++ us)) (record { linkages = linkages; answer = t; word = w; params = params }) b)) (sym e) (is_function o c ls us ps bs linkages t w params b i j k l))
 
-function_makes : (ts : List Token) (p : SignatureTree × Stmt) → FunctionParts.is ts p → IsFunction ts (function_of_parts (first_span ts) p)
+function_makes : (ts : List Token) (p : SignatureTree × Block) → FunctionParts.is ts p → IsFunction ts (function_of_parts (first_span ts) p)
 function_makes ts p i =
     let h = i.3 in
     let t = h.4 in
@@ -184,7 +184,7 @@ function_makes ts p i =
     let whole = i.2 ∙ ap (λ (l : List Token). l ++ i.1) front ∙ function_regroup h.0 t.0 p.0.1.1.0 p.0.1.1.1.0 p.0.1.1.1.1.1 c.0 i.1 in
     function_is ts h.0 t.0 c.0 i.1 p.0.1.1.0 p.0.1.1.1.0 p.0.1.1.1.1.1 p.0.0 p.0.1.0 p.0.1.1.1.1.0 p.1 whole h.3 t.3 c.2 i.4
 
-function_unmakes : {ts : List Token} {f : Function} → IsFunction ts f → (p : SignatureTree × Stmt) × FunctionParts.is ts p × ((rest : List Token) → function_of_parts (first_span (ts ++ rest)) p ≡ f)
+function_unmakes : {ts : List Token} {f : Function} → IsFunction ts f → (p : SignatureTree × Block) × FunctionParts.is ts p × ((rest : List Token) → function_of_parts (first_span (ts ++ rest)) p ≡ f)
 function_unmakes (is_function o c ls ts ps bs linkages t w params b i j k l) =
     let closed = is_before Params mark.ParenClose ps params c k in
     let opened = is_behind mark.ParenOpen ClosedParams o (ps ++ at mark.ParenClose c ∷ []) (params, c) closed in
@@ -196,10 +196,10 @@ function_unmakes (is_function o c ls ts ps bs linkages t w params b i j k l) =
     ∙ ap first_span (append_assoc (ls ++ ts) (word w ∷ at mark.ParenOpen o ∷ (ps ++ at mark.ParenClose c ∷ bs)) rest) ∙ first_of_front (ls ++ ts) ((word w ∷ at mark.ParenOpen o ∷ (ps ++ at mark.ParenClose c ∷ bs)) ++ rest) (front_long ls j) in (
       ((linkages, (t, (w, (o, (params, c))))), b),
       (ls ++ (ts ++ word w ∷ at mark.ParenOpen o ∷ (ps ++ at mark.ParenClose c ∷ [])), bs, sym (function_regroup ls ts w o c ps bs), heading, l, tt),
-      λ rest. ap (λ (s : Span). function_from s (linkages, (t, (w, params))) b) (place rest),
+      λ rest. ap (λ (s : Span). function_from s (record { linkages = linkages; answer = t; word = w; params = params }) b) (place rest),
     )
 
-parts_deep : (p : SignatureTree × Stmt) → FunctionParts.deep p ≡ depth_of_stmt p.1
+parts_deep : (p : SignatureTree × Block) → FunctionParts.deep p ≡ depth_of_block p.1
 parts_deep p = omega arith
 
 pub function_sound : (n : ℕ) → IsSound Definition n
@@ -217,7 +217,7 @@ function_sound n ts f rest e =
       ends = tt;
     })
   where
-    parts_long : (ts : List Token) (p : SignatureTree × Stmt) → FunctionParts.is ts p → 0 < length ts
+    parts_long : (ts : List Token) (p : SignatureTree × Block) → FunctionParts.is ts p → 0 < length ts
     parts_long ts p i =
         let h = i.3 in
         omega (arith, ap length i.2, length-append i.0 i.1, ap length h.2, length-append h.0 h.1, begun_long begins_type h.1 (typed_starts h.1 p.0.1 [] h.4))
@@ -225,7 +225,7 @@ function_sound n ts f rest e =
 pub function_complete : (n : ℕ) → IsComplete Definition n
 function_complete n used f rest i le h =
     let u = function_unmakes i in
-    let e = ap (λ (g : Function). depth_of_stmt g.body) (u.2 rest) in
+    let e = ap (λ (g : Function). depth_of_block g.body) (u.2 rest) in
     let one = parts_complete n used u.0 rest u.1 (omega (arith, le, parts_deep u.0, e)) tt in
     function_reads n (used ++ rest) ∙ rw one (ap (λ (g : Function). Ok (g, rest)) (u.2 rest))
 

@@ -12,11 +12,12 @@ use Rattle.isp_syntax.proofs.Programs.{IsSomeProgram, FailsProgram, program_comp
 use Rattle.isp_syntax.proofs.Refused.{Completes, Refused}
 use Rattle.isp_syntax.proofs.StmtsRespan.{program_respan}
 use Rattle.isp_syntax.specs.Grammar.{IsProgram}
-use Rattle.isp_syntax.specs.Promise.{limit, kinds, Begins, IsFirstBad, IsTooDeep, Refuses}
-use Rattle.isp_syntax.specs.Reading.{refusal, head, fault_of}
-use Rattle.isp_syntax.specs.ReadingPrograms.{program_at}
-use Rattle.isp_syntax.specs.Depth.{depth_of_functions}
-use Rattle.isp_syntax.specs.Tree.{Function}
+use Rattle.isp_syntax.specs.Promise.{kinds, Begins, IsFirstBad, IsTooDeep, Refuses}
+use Rattle.isp_tree.specs.Depth.{limit}
+use Rattle.isp_syntax.specs.reader.Readers.{refusal, head, fault_of}
+use Rattle.isp_syntax.specs.reader.Programs.{program_at}
+use Rattle.isp_tree.specs.Depth.{depth_of_functions}
+use Rattle.isp_tree.specs.Tree.{Function}
 use Rattle.isp_syntax.specs.declared.stop.Why.{Why}
 use Rattle.isp_syntax.specs.declared.stop.Why.TheVariants.{Unexpected, TooDeep}
 use Rattle.isp_syntax.specs.declared.stop.Refusal.{Refusal}

@@ -5,10 +5,10 @@ use Rattle.isp_base.specs.declared.types.Span.{Span}
 use Rattle.isp_lex.specs.Tokens.{is_mark}
 use Rattle.isp_lex.specs.declared.token.Mark.TheVariants as mark
 use Rattle.isp_lex.specs.declared.token.Token.{Token}
-use Rattle.isp_syntax.specs.Reading.{Read, ◌>>=◌, mark_at}
-use Rattle.isp_syntax.specs.ReadingChoices.{begins_with, perhaps_at}
-use Rattle.isp_syntax.specs.ReadingStmts.{range_at, last_range, with_last, last_range_at, with_more, more_ranges_at}
-use Rattle.isp_syntax.specs.Tree.{Range}
+use Rattle.isp_syntax.specs.reader.Readers.{Read, ◌>>=◌, mark_at}
+use Rattle.isp_syntax.specs.reader.Choices.{begins_with, perhaps_at}
+use Rattle.isp_syntax.specs.reader.Stmts.{range_at, last_range, with_last, last_range_at, with_more, more_ranges_at}
+use Rattle.isp_tree.specs.Tree.{Range}
 
 pub comma_first : (ts : List Token) (t : Token) → 1 ≤ length ts → t ≡ get_or ts 0 t → is_mark mark.Comma t.kind ≡ true → begins_with (is_mark mark.Comma) ts ≡ true
 comma_first [] t h e c = absurd (omega (arith, h))

@@ -15,13 +15,13 @@ use Rattle.isp_syntax.proofs.Forms.{Form, IsSound, IsComplete, Can, One, one_sou
 use Rattle.isp_syntax.proofs.FormsComplete.{EndsByHead, one_by_head, named_by_head, Stands, until_complete}
 use Rattle.isp_syntax.proofs.Refused.{IsRefused, one_refused, named_refused, both_refused, until_refused}
 use Rattle.isp_syntax.proofs.Wrapped.{After, after_sound, after_complete, after_refused, Bracketed, bracketed_sound, bracketed_complete, bracketed_refused, some_bracketed}
-use Rattle.isp_syntax.specs.Depth.{depth_of_range, deepest_of}
+use Rattle.isp_tree.specs.Depth.{depth_of_range, deepest_of}
 use Rattle.isp_syntax.specs.Grammar.{AreListed, IsRange, is_range}
-use Rattle.isp_syntax.specs.ReadingChoices.{begins_with}
-use Rattle.isp_syntax.specs.ReadingStmts.{range_from, range_at, more_ranges, last_range_at, more_ranges_at, ranges_at, text_of}
+use Rattle.isp_syntax.specs.reader.Choices.{begins_with}
+use Rattle.isp_syntax.specs.reader.Stmts.{range_from, range_at, more_ranges, last_range_at, more_ranges_at, ranges_at, text_of}
 use Rattle.isp_syntax.specs.Signs.{word, loosest}
-use Rattle.isp_syntax.specs.Tree.{Expr, Range}
-use Rattle.isp_syntax.specs.declared.tree.Word.{Word}
+use Rattle.isp_tree.specs.Tree.{Expr, Range}
+use Rattle.isp_tree.specs.declared.types.Word.{Word}
 
 -- ---- one range
 

@@ -11,11 +11,11 @@ use Rattle.isp_syntax.proofs.Basics.{err_is, ok_err, bind_err, chosen, starts_sa
 use Rattle.isp_syntax.proofs.Forms.{Form, IsSound, IsComplete, Can, One, Named, Both, Follows, Optional, Listed, AreListed, Series, AreAll, Until}
 use Rattle.isp_syntax.proofs.FormsComplete.{EndsByHead, read_again, mark_starts, TakesComma, StartsOff, item_long}
 use Rattle.isp_syntax.specs.Signs.{word}
-use Rattle.isp_syntax.specs.Reading.{Read, Reader, ◌>>=◌, refusal, head, on_head, is_word, optional_from, optional, after_item, list_at, listed_at, until_from, until_at}
+use Rattle.isp_syntax.specs.reader.Readers.{Read, Reader, ◌>>=◌, refusal, head, on_head, is_word, optional_from, optional, after_item, list_at, listed_at, until_from, until_at}
 use Rattle.isp_syntax.specs.declared.stop.Why.{Why}
 use Rattle.isp_syntax.specs.declared.stop.Why.TheVariants.{Unexpected, TooDeep}
 use Rattle.isp_syntax.specs.declared.stop.Refusal.{Refusal}
-use Rattle.isp_syntax.specs.declared.tree.Word.{Word}
+use Rattle.isp_tree.specs.declared.types.Word.{Word}
 
 -- A refusal of a token stays with more depth left, one of depth does not.
 abbrev pub Allowed : Why → ℕ → ℕ → Type 0

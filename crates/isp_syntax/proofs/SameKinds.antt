@@ -6,10 +6,10 @@ use Rattle.isp_lex.specs.declared.token.Mark.TheVariants as mark
 use Rattle.isp_lex.specs.declared.token.Token.{Token}
 use Rattle.isp_lex.specs.declared.token.TokenKind.{TokenKind}
 use Rattle.isp_syntax.proofs.Basics.{token}
-use Rattle.isp_syntax.specs.Depth.{deepest_of}
+use Rattle.isp_tree.specs.Depth.{deepest_of}
 use Rattle.isp_syntax.specs.Grammar.{AreAll, AreListed}
 use Rattle.isp_syntax.specs.Promise.{kinds}
-use Rattle.isp_syntax.specs.declared.tree.Word.{Word}
+use Rattle.isp_tree.specs.declared.types.Word.{Word}
 
 abbrev pub Same : List Token → List Token → Type 0
 Same us ts = kinds us ≡ kinds ts

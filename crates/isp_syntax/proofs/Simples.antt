@@ -17,18 +17,18 @@ use Rattle.isp_syntax.proofs.Forms.{Form, IsSound, IsComplete, Both, Free, Follo
 use Rattle.isp_syntax.proofs.FormsComplete.{EndsByHead}
 use Rattle.isp_syntax.proofs.Refused.{IsRefused, both_refused}
 use Rattle.isp_syntax.proofs.Starts.{begins_off, change_found, change_again, assignment_found, assignment_again}
-use Rattle.isp_syntax.specs.Depth.{depth_of_simple}
+use Rattle.isp_tree.specs.Depth.{depth_of_simple}
 use Rattle.isp_syntax.specs.Grammar.{IsExpr, IsSimple, is_value, is_assign, is_change_after, is_change_before}
-use Rattle.isp_syntax.specs.Reading.{◌>>=◌}
-use Rattle.isp_syntax.specs.ReadingChoices.{begins_with}
-use Rattle.isp_syntax.specs.ReadingExprs.{begins_expr}
-use Rattle.isp_syntax.specs.ReadingStmts.{stands, assignment_of, change_of, is_assignment, is_change, is_ending, Ending, ending_at, ended_from, simple_from, simple_at}
+use Rattle.isp_syntax.specs.reader.Readers.{◌>>=◌}
+use Rattle.isp_syntax.specs.reader.Choices.{begins_with}
+use Rattle.isp_syntax.specs.reader.Exprs.{begins_expr}
+use Rattle.isp_syntax.specs.reader.Stmts.{stands, assignment_of, change_of, is_assignment, is_change, is_ending, Ending, ending_at, ended_from, simple_from, simple_at}
 use Rattle.isp_syntax.specs.Signs.{loosest, assignment_mark, change_mark}
-use Rattle.isp_syntax.specs.Tree.{Expr, Simple}
-use Rattle.isp_syntax.specs.declared.tree.Assignment.{Assignment}
-use Rattle.isp_syntax.specs.declared.tree.Assignment.TheVariants as assignment
-use Rattle.isp_syntax.specs.declared.tree.Change.{Change}
-use Rattle.isp_syntax.specs.declared.tree.Change.TheVariants.{Increment, Decrement}
+use Rattle.isp_tree.specs.Tree.{Expr, Simple}
+use Rattle.isp_tree.specs.declared.stmt.Assignment.{Assignment}
+use Rattle.isp_tree.specs.declared.stmt.Assignment.TheVariants as assignment
+use Rattle.isp_tree.specs.declared.stmt.Change.{Change}
+use Rattle.isp_tree.specs.declared.stmt.Change.TheVariants.{Increment, Decrement}
 
 -- ---- signs
 

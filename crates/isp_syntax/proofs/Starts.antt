@@ -13,22 +13,22 @@ use Rattle.isp_syntax.proofs.Choices.{nowhere}
 use Rattle.isp_syntax.proofs.Forms.{Can}
 use Rattle.isp_syntax.proofs.TypesRead.{Types}
 use Rattle.isp_syntax.specs.Grammar.{is_based, is_qualifier}
-use Rattle.isp_syntax.specs.ReadingChoices.{begins_with}
-use Rattle.isp_syntax.specs.ReadingExprs.{begins_expr}
-use Rattle.isp_syntax.specs.ReadingStarts.{start_of}
-use Rattle.isp_syntax.specs.ReadingStmts.{assignment_of, change_of, is_change}
-use Rattle.isp_syntax.specs.ReadingTypes.{begins_type}
+use Rattle.isp_syntax.specs.reader.Choices.{begins_with}
+use Rattle.isp_syntax.specs.reader.Exprs.{begins_expr}
+use Rattle.isp_syntax.specs.reader.Starts.{start_of}
+use Rattle.isp_syntax.specs.reader.Stmts.{assignment_of, change_of, is_change}
+use Rattle.isp_syntax.specs.reader.Types.{begins_type}
 use Rattle.isp_syntax.specs.Signs.{qualifier_mark, base_mark, if_mark, while_mark, do_mark, for_mark, foreach_mark, jump_mark, assignment_mark, change_mark}
 use Rattle.isp_syntax.specs.declared.start.Start.{Start}
 use Rattle.isp_syntax.specs.declared.start.Start.TheVariants as by
-use Rattle.isp_syntax.specs.declared.tree.Qualifier.{Qualifier}
-use Rattle.isp_syntax.specs.declared.tree.Qualifier.TheVariants as qualifier
-use Rattle.isp_syntax.specs.declared.tree.Base.{Base}
-use Rattle.isp_syntax.specs.declared.tree.Base.TheVariants as base
-use Rattle.isp_syntax.specs.declared.tree.Assignment.{Assignment}
-use Rattle.isp_syntax.specs.declared.tree.Assignment.TheVariants as assignment
-use Rattle.isp_syntax.specs.declared.tree.Change.{Change}
-use Rattle.isp_syntax.specs.declared.tree.Change.TheVariants.{Increment, Decrement}
+use Rattle.isp_tree.specs.declared.types.Qualifier.{Qualifier}
+use Rattle.isp_tree.specs.declared.types.Qualifier.TheVariants as qualifier
+use Rattle.isp_tree.specs.declared.types.Base.{Base}
+use Rattle.isp_tree.specs.declared.types.Base.TheVariants as base
+use Rattle.isp_tree.specs.declared.stmt.Assignment.{Assignment}
+use Rattle.isp_tree.specs.declared.stmt.Assignment.TheVariants as assignment
+use Rattle.isp_tree.specs.declared.stmt.Change.{Change}
+use Rattle.isp_tree.specs.declared.stmt.Change.TheVariants.{Increment, Decrement}
 
 -- ---- kinds of tokens
 

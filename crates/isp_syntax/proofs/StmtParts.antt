@@ -14,9 +14,9 @@ use Rattle.isp_syntax.proofs.Choices.{nowhere, nameless, Maybe, maybe_sound, may
 use Rattle.isp_syntax.proofs.Declarations.{some_expr, Declaring, declaration_sound, declaration_complete, declaration_refused, declaration_by_head, declaration_end}
 use Rattle.isp_syntax.proofs.ExprLaws.{exprs_sound, exprs_complete, exprs_by_head, exprs_refused, expr_completes}
 use Rattle.isp_syntax.proofs.ExprSteps.{expr_off}
-use Rattle.isp_syntax.proofs.Exprs.{Exprs, closes_ends}
+use Rattle.isp_syntax.proofs.Exprs.{Exprs, closes_ends, Closed, closed_then}
 use Rattle.isp_syntax.proofs.ExprsComplete.{expr_no_type, exprs_off}
-use Rattle.isp_syntax.proofs.Forms.{Form, IsSound, IsComplete, Can, One, one_sound, one_complete, Both, Free, Follows, both_sound, both_complete, Behind, one_then, is_behind, Before, then_one}
+use Rattle.isp_syntax.proofs.Forms.{Form, IsSound, IsComplete, Can, One, one_sound, one_complete, Both, Free, Follows, both_sound, both_complete, Behind, one_then, is_behind, Before, then_one, is_before}
 use Rattle.isp_syntax.proofs.FormsComplete.{EndsByHead, one_by_head, StartsOff}
 use Rattle.isp_syntax.proofs.ListForms.{mapped, Maps, maps_id, mapped_twice, maps_both, maps_maybe, maps_counted, either_map, maps_either}
 use Rattle.isp_syntax.proofs.Refused.{IsRefused, one_refused, both_refused}
@@ -24,21 +24,21 @@ use Rattle.isp_syntax.proofs.Simples.{change_kind, change_is, SimpleTree, Simple
 use Rattle.isp_syntax.proofs.Starts.{begins_off, begins_on, starts_off, Fits, start_fits, expr_start, type_start, type_completes}
 use Rattle.isp_syntax.proofs.TypesRead.{type_starts}
 use Rattle.isp_syntax.proofs.Wrapped.{Bracketed, bracketed_sound, bracketed_complete, bracketed_refused, some_bracketed}
-use Rattle.isp_syntax.specs.Depth.{depth_of_first}
+use Rattle.isp_tree.specs.Depth.{depth_of_first}
 use Rattle.isp_syntax.specs.Grammar.{IsDeclaration, is_declaration, is_plain, IsFirst, is_first_declare, is_first_simple}
-use Rattle.isp_syntax.specs.Reading.{Reader, refuse, mark_at, both}
-use Rattle.isp_syntax.specs.ReadingChoices.{begins_with, either_at, maybe_at}
-use Rattle.isp_syntax.specs.ReadingExprs.{begins_expr, expr_at}
-use Rattle.isp_syntax.specs.ReadingStarts.{start_of, is_first_start, is_simple_start, begins_first, begins_simple}
-use Rattle.isp_syntax.specs.ReadingStmts.{is_change, declaration_at, simple_from, simple_at, first_from, first_at, first_part_at, step_part_at, Head, head_at}
-use Rattle.isp_syntax.specs.ReadingTypes.{begins_type}
+use Rattle.isp_syntax.specs.reader.Readers.{Reader, refuse, mark_at, both}
+use Rattle.isp_syntax.specs.reader.Choices.{begins_with, either_at, maybe_at}
+use Rattle.isp_syntax.specs.reader.Exprs.{begins_expr, expr_at}
+use Rattle.isp_syntax.specs.reader.Starts.{start_of, is_first_start, is_simple_start, begins_first, begins_simple}
+use Rattle.isp_syntax.specs.reader.Stmts.{is_change, declaration_at, simple_from, simple_at, first_from, first_at, first_part_at, step_part_at, Head, head_at}
+use Rattle.isp_syntax.specs.reader.Types.{begins_type}
 use Rattle.isp_syntax.specs.Signs.{word, loosest, change_mark}
-use Rattle.isp_syntax.specs.Tree.{Expr, plain, Declaration, Simple, First, first_simple}
+use Rattle.isp_tree.specs.Tree.{Expr, plain, Declaration, Simple, First, first_simple}
 use Rattle.isp_syntax.specs.declared.start.Start.{Start}
 use Rattle.isp_syntax.specs.declared.start.Start.TheVariants as by
 use Rattle.isp_syntax.specs.declared.stop.Why.TheVariants.{Unexpected}
-use Rattle.isp_syntax.specs.declared.tree.Change.{Change}
-use Rattle.isp_syntax.specs.declared.tree.Change.TheVariants.{Increment, Decrement}
+use Rattle.isp_tree.specs.declared.stmt.Change.{Change}
+use Rattle.isp_tree.specs.declared.stmt.Change.TheVariants.{Increment, Decrement}
 
 -- ---- a test in brackets
 
@@ -59,6 +59,38 @@ test_refused n = bracketed_refused (Exprs loosest) close_expr (some_expr loosest
 
 pub some_test : (b : List Token) × Can Test b
 some_test = some_bracketed (Exprs loosest) close_expr (some_expr loosest)
+
+-- ---- the same with the place of the closing bracket
+
+abbrev pub ClosedTest : Form (Span × (Expr × Span))
+ClosedTest = Behind mark.ParenOpen Closed
+
+abbrev closed_tokens : List Token
+closed_tokens = (some_expr loosest).0 ++ at mark.ParenClose nowhere ∷ []
+
+some_closed : Can Closed closed_tokens
+some_closed = (((some_expr loosest).1.0, nowhere), is_before (Exprs loosest) mark.ParenClose (some_expr loosest).0 (some_expr loosest).1.0 nowhere (some_expr loosest).1.1)
+
+closed_behind : Follows (One mark.ParenOpen) Closed Free
+closed_behind = one_then mark.ParenOpen Closed closed_tokens some_closed
+
+pub some_closed_test : (b : List Token) × Can ClosedTest b
+some_closed_test = (at mark.ParenOpen nowhere ∷ closed_tokens, ((nowhere, some_closed.0), is_behind mark.ParenOpen Closed nowhere closed_tokens some_closed.0 some_closed.1))
+
+pub closed_test_sound : (n : ℕ) → IsSound ClosedTest n
+closed_test_sound n =
+    both_sound (One mark.ParenOpen) Closed Free closed_behind n (one_sound mark.ParenOpen n)
+    (both_sound (Exprs loosest) (One mark.ParenClose) Free closed_then n (exprs_sound loosest n) (one_sound mark.ParenClose n))
+
+pub closed_test_complete : (n : ℕ) → IsComplete ClosedTest n
+closed_test_complete n =
+    both_complete (One mark.ParenOpen) Closed Free closed_behind n (one_complete mark.ParenOpen n)
+    (both_complete (Exprs loosest) (One mark.ParenClose) Free closed_then n (exprs_complete loosest n) (one_complete mark.ParenClose n))
+
+pub closed_test_refused : (n : ℕ) → IsRefused ClosedTest n
+closed_test_refused n =
+    both_refused (One mark.ParenOpen) Closed Free closed_behind n (one_by_head mark.ParenOpen) (one_complete mark.ParenOpen) (one_sound mark.ParenOpen n) (one_refused mark.ParenOpen n)
+    (both_refused (Exprs loosest) (One mark.ParenClose) Free closed_then n (exprs_by_head loosest) (exprs_complete loosest) (exprs_sound loosest n) (exprs_refused loosest n) (one_refused mark.ParenClose n))
 
 -- ---- the first part and the step of a `for`
 
@@ -401,7 +433,7 @@ first_deep (inl d) = refl
 first_deep (inr p) = ap suc (simple_deep p)
 
 abbrev pub head_tree : Span × (Option FirstTree × (Span × (Option Expr × (Span × (Option SimpleTree × Span))))) → Head
-head_tree p = (option_map first_tree p.1.0, (p.1.1.1.0, option_map simple_from p.1.1.1.1.1.0))
+head_tree p = record { first = option_map first_tree p.1.0; test = p.1.1.1.0; step = option_map simple_from p.1.1.1.1.1.0 }
 
 maps_first : (n : ℕ) → Maps (FirstParts.read n) (first_at n) first_tree
 unfolding first_at
@@ -423,6 +455,9 @@ raw_head n = both (mark_at mark.ParenOpen) (both (maybe_at mark.Semicolon (first
 abbrev raw_tree : Span × (Option FirstTree × (Span × (Option Expr × (Span × (Option SimpleTree × Span))))) → Span × (Option First × (Span × (Option Expr × (Span × (Option Simple × Span)))))
 raw_tree p = (p.0, (option_map first_tree p.1.0, (p.1.1.0, (p.1.1.1.0, (p.1.1.1.1.0, (option_map simple_from p.1.1.1.1.1.0, p.1.1.1.1.1.1))))))
 
+abbrev head_from : Span × (Option First × (Span × (Option Expr × (Span × (Option Simple × Span))))) → Head
+head_from p = record { first = p.1.0; test = p.1.1.1.0; step = p.1.1.1.1.1.0 }
+
 maps_raw : (n : ℕ) → Maps (HeadParts.read n) (raw_head n) raw_tree
 maps_raw n =
     maps_both (λ x. x) _ (mark_at mark.ParenOpen) (mark_at mark.ParenOpen) (HeadFirst.read n) _ (maps_id (mark_at mark.ParenOpen))
@@ -434,4 +469,4 @@ maps_raw n =
 
 pub maps_head : (n : ℕ) → Maps (HeadParts.read n) (head_at n) head_tree
 unfolding head_at
-maps_head n ts = ap (λ (r : _). mapped (λ p. (p.1.0, (p.1.1.1.0, p.1.1.1.1.1.0))) r) (maps_raw n ts) ∙ mapped_twice raw_tree (λ p. (p.1.0, (p.1.1.1.0, p.1.1.1.1.1.0))) (HeadParts.read n ts)
+maps_head n ts = ap (λ (r : _). mapped head_from r) (maps_raw n ts) ∙ mapped_twice raw_tree head_from (HeadParts.read n ts)

@@ -7,27 +7,28 @@ use Rattle.isp_lex.specs.declared.token.Mark.{Mark}
 use Rattle.isp_lex.specs.declared.token.Mark.TheVariants as mark
 use Rattle.isp_lex.specs.declared.token.Token.{Token}
 use Rattle.isp_syntax.proofs.Forms.{Form, Found, IsSound, IsComplete, Can, One, made_sound, made_complete}
-use Rattle.isp_syntax.proofs.ListForms.{mapped, maps_id, mapped_twice, maps_both}
+use Rattle.isp_syntax.proofs.Basics.{mark_again}
+use Rattle.isp_syntax.proofs.ListForms.{Maps, mapped, maps_id, mapped_twice, maps_both}
 use Rattle.isp_syntax.proofs.Refused.{Refused, IsRefused, made_refused, made_err, made_fails}
 use Rattle.isp_syntax.proofs.Simples.{SimpleParts, simple_reads}
-use Rattle.isp_syntax.proofs.StmtParts.{HeadParts, head_tree, maps_head}
-use Rattle.isp_syntax.proofs.Stmts.{EndsStmt, Statement, Nothing, BraceEnd, block_of, braces_make, block_deep, Block, Conditional, if_of, if_makes, if_deep, if_ends, Looping, while_of, while_makes, Tested, Doing, do_of, do_makes, ForLoop, for_of, for_makes, for_deep, Spreading, foreach_of, foreach_makes, Activity, active_of, active_makes, unmasked_of, DeclareStmt, declare_of, SimpleStmt, simple_of, jump_of, Returning, return_of, return_makes, return_deep, Printing, print_of, print_makes, print_deep, assert_of, assert_makes}
-use Rattle.isp_syntax.specs.Depth.{depth_of_stmt}
+use Rattle.isp_syntax.proofs.StmtParts.{ClosedTest, HeadParts, head_tree, maps_head}
+use Rattle.isp_syntax.proofs.Stmts.{EndsStmt, Statement, Nothing, BraceEnd, braces_make, block_deep, braced_of, BlockForm, Conditional, if_of, if_makes, if_deep, if_ends, Looping, while_of, while_makes, Doing, do_of, do_makes, ForLoop, for_of, for_makes, for_deep, Spreading, foreach_of, foreach_makes, Activity, active_of, active_makes, unmasked_of, DeclareStmt, declare_of, SimpleStmt, simple_of, jump_of, Returning, return_of, return_makes, return_deep, Printing, print_of, print_makes, print_deep, Asserting, assert_of, assert_makes}
+use Rattle.isp_tree.specs.Depth.{depth_of_stmt}
 use Rattle.isp_syntax.specs.Grammar.{IsStmt, is_block, is_empty, is_unmasked, is_jump}
-use Rattle.isp_syntax.specs.Reading.{Read, ◌>>=◌, mark_at}
-use Rattle.isp_syntax.specs.ReadingStarts.{start_of}
-use Rattle.isp_syntax.specs.ReadingStmts.{Head, simple_at, test_at, head_at, ranges_head_at, active_head_at, values_at, next_value_at, do_end_at, declare_at, simple_stmt_at, jump_at, return_at, print_at, assert_at, stmts_at, braces_at, if_at, while_at, do_at, for_at, foreach_at, active_at, unmasked_at, stmt_by, stmt_at}
+use Rattle.isp_syntax.specs.reader.Readers.{Read, ◌>>=◌, mark_at}
+use Rattle.isp_syntax.specs.reader.Starts.{start_of}
+use Rattle.isp_syntax.specs.reader.Stmts.{Head, simple_at, closed_test_at, test_at, head_at, ranges_head_at, active_head_at, values_at, next_value_at, do_end_at, declare_at, simple_stmt_at, jump_at, return_at, print_at, assert_at, stmts_at, block_from, braced_at, block_stmt_at, if_at, while_at, do_at, for_at, foreach_at, active_at, unmasked_at, stmt_by, stmt_at}
 use Rattle.isp_syntax.specs.Signs.{if_mark, while_mark, do_mark, for_mark, foreach_mark, jump_mark}
-use Rattle.isp_syntax.specs.Tree.{Stmt, empty, loop_for, simple, Simple, span_of_simple, span_of_stmt}
+use Rattle.isp_tree.specs.Tree.{Expr, Stmt, Block, block, empty, loop_for, simple, assert, Simple, span_of_simple, span_of_stmt}
 use Rattle.isp_base.specs.Types.{span_to}
 use Rattle.isp_syntax.specs.declared.start.Start.TheVariants as by
 use Rattle.isp_syntax.specs.declared.stop.Refusal.{Refusal}
-use Rattle.isp_syntax.specs.declared.tree.Form.{Form as Shape}
-use Rattle.isp_syntax.specs.declared.tree.Form.TheVariants as shape
-use Rattle.isp_syntax.specs.declared.tree.Tiling.{Tiling}
-use Rattle.isp_syntax.specs.declared.tree.Tiling.TheVariants as tiling
-use Rattle.isp_syntax.specs.declared.tree.Jump.{Jump}
-use Rattle.isp_syntax.specs.declared.tree.Jump.TheVariants.{Break, Continue}
+use Rattle.isp_tree.specs.declared.stmt.Form.{Form as Shape}
+use Rattle.isp_tree.specs.declared.stmt.Form.TheVariants as shape
+use Rattle.isp_tree.specs.declared.stmt.Tiling.{Tiling}
+use Rattle.isp_tree.specs.declared.stmt.Tiling.TheVariants as tiling
+use Rattle.isp_tree.specs.declared.stmt.Jump.{Jump}
+use Rattle.isp_tree.specs.declared.stmt.Jump.TheVariants.{Break, Continue}
 
 -- a statement with one more level of depth left
 abbrev pub FailsNext : ℕ → List Token → Refusal → Type 0
@@ -57,9 +58,19 @@ module _ {A : Type 0} (m : Mark) (F : Form A) (g : Span → A → Stmt) where
 
 -- ---- each of them
 
-pub block_production : Production mark.BraceOpen BraceEnd block_of
-unfolding stmt_at stmt_by braces_at stmts_at
-block_production = record { reads = λ n s ts. refl; makes = λ s ts x i. is_block (at mark.BraceOpen s ∷ ts) (block_of s x) (braces_make s ts x i); deep = λ s x. block_deep s x; ends = λ s x rest h. λ o. absurd cc }
+abbrev pub block_stmt_of : Span → List Stmt × Span → Stmt
+block_stmt_of s p = block (block_from s p)
+
+with_brace : Span → List Stmt × Span → Span × (List Stmt × Span)
+with_brace s p = (s, p)
+
+block_maps : (n : ℕ) (s : Span) (ts : List Token) → stmt_at (suc n) (at mark.BraceOpen s ∷ ts) ≡ (BraceEnd.read n ts >>= λ x. Ok (block_stmt_of s x.0, x.1))
+unfolding stmt_at stmt_by block_stmt_at braced_at stmts_at with_brace
+block_maps n s ts =
+    rw (mark_again mark.BraceOpen s ts) (ap (λ (r : Read Block). mapped block r) (mapped_twice (with_brace s) braced_of (BraceEnd.read n ts)) ∙ mapped_twice (block_from s) block (BraceEnd.read n ts))
+
+pub block_production : Production mark.BraceOpen BraceEnd block_stmt_of
+block_production = record { reads = λ n s ts. block_maps n s ts; makes = λ s ts x i. is_block (at mark.BraceOpen s ∷ ts) (block_from s x) (braces_make s ts x i); deep = λ s x. block_deep s x; ends = λ s x rest h. λ o. absurd cc }
 
 abbrev pub empty_of : Span → ⊤ → Stmt
 empty_of s x = empty s
@@ -96,7 +107,7 @@ pub do_production : (f : Shape) → Production (do_mark f) Doing (do_of f)
 do_production f = record { reads = λ n s ts. do_reads f n s ts; makes = λ s ts x i. do_makes f s ts x i; deep = λ s x. omega arith; ends = λ s x rest h. λ o. absurd cc }
 
 abbrev for_from : Shape → Span → Head × Stmt → Stmt
-for_from f w p = loop_for f p.0.0 p.0.1.0 p.0.1.1 p.1 (span_to w (span_of_stmt p.1))
+for_from f w p = loop_for f p.0.first p.0.test p.0.step p.1 (span_to w (span_of_stmt p.1))
 
 for_maps : (f : Shape) (n : ℕ) (s : Span) (ts : List Token) → for_at (stmt_at n) n f s ts ≡ mapped (for_of f s) (ForLoop.read n ts)
 unfolding for_at
@@ -124,7 +135,7 @@ pub active_production : Production mark.ForeachActive Activity active_of
 unfolding stmt_at stmt_by active_at active_head_at
 active_production = record { reads = λ n s ts. refl; makes = λ s ts x i. active_makes s ts x i; deep = λ s x. omega arith; ends = λ s x rest h. h }
 
-pub unmasked_production : Production mark.Unmasked Block unmasked_of
+pub unmasked_production : Production mark.Unmasked BlockForm unmasked_of
 unfolding stmt_at stmt_by unmasked_at
 unmasked_production = record { reads = λ n s ts. refl; makes = λ s ts x i. is_unmasked s ts x i; deep = λ s x. refl; ends = λ s x rest h. λ o. absurd cc }
 
@@ -147,9 +158,28 @@ pub print_production : Production mark.Print Printing print_of
 unfolding stmt_at stmt_by print_at values_at next_value_at
 print_production = record { reads = λ n s ts. refl; makes = λ s ts x i. print_makes s ts x i; deep = λ s x. print_deep s x; ends = λ s x rest h. λ o. absurd cc }
 
-pub assert_production : Production mark.Assert Tested assert_of
-unfolding stmt_at stmt_by assert_at test_at
-assert_production = record { reads = λ n s ts. refl; makes = λ s ts x i. assert_makes s ts x i; deep = λ s x. omega arith; ends = λ s x rest h. λ o. absurd cc }
+abbrev assert_from : Span → (Expr × Span) × Span → Stmt
+assert_from s p = assert p.0.0 (span_to s p.0.1) (span_to s p.1)
+
+abbrev behind_bracket : Span × (Expr × Span) → Expr × Span
+behind_bracket p = p.1
+
+closed_maps : (n : ℕ) → Maps (ClosedTest.read n) (closed_test_at n) behind_bracket
+unfolding closed_test_at
+closed_maps n ts = refl
+
+assert_parts : (n : ℕ) (s : Span) (ts : List Token) → assert_at n s ts ≡ mapped (assert_of s) (Asserting.read n ts)
+unfolding assert_at
+assert_parts n s ts =
+    ap (λ (r : Read ((Expr × Span) × Span)). mapped (assert_from s) r) (maps_both behind_bracket (λ x. x) (ClosedTest.read n) (closed_test_at n) (mark_at mark.Semicolon) (mark_at mark.Semicolon) (closed_maps n) (maps_id (mark_at mark.Semicolon)) ts)
+    ∙ mapped_twice (λ p. (behind_bracket p.0, p.1)) (assert_from s) (Asserting.read n ts)
+
+assert_maps : (n : ℕ) (s : Span) (ts : List Token) → stmt_at (suc n) (at mark.Assert s ∷ ts) ≡ (Asserting.read n ts >>= λ x. Ok (assert_of s x.0, x.1))
+unfolding stmt_at stmt_by
+assert_maps n s ts = assert_parts n s ts
+
+pub assert_production : Production mark.Assert Asserting assert_of
+assert_production = record { reads = λ n s ts. assert_maps n s ts; makes = λ s ts x i. assert_makes s ts x i; deep = λ s x. omega arith; ends = λ s x rest h. λ o. absurd cc }
 
 -- ---- declarations and simple statements, which no single mark begins
 

@@ -10,22 +10,23 @@ use Rattle.isp_lex.specs.declared.token.Token.{Token}
 use Rattle.isp_syntax.proofs.Basics.{starts_same}
 use Rattle.isp_syntax.proofs.Choices.{nowhere}
 use Rattle.isp_syntax.proofs.Declarations.{Declaring}
-use Rattle.isp_syntax.proofs.Exprs.{Exprs}
+use Rattle.isp_syntax.proofs.Exprs.{Exprs, Closed}
 use Rattle.isp_syntax.proofs.Forms.{Form, Can, One, Both, Free, Follows, Behind, behind_is, Before, then_one, before_is, Optional, deepest, AreAll, Until}
 use Rattle.isp_syntax.proofs.FormsComplete.{EndsByHead}
 use Rattle.isp_syntax.proofs.Ranges.{RangesHead, ActiveHead, Texts, NextValue, Values}
 use Rattle.isp_syntax.proofs.Simples.{SimpleTree, SimpleParts, simple_makes, simple_deep}
-use Rattle.isp_syntax.proofs.StmtParts.{Test, MaybeTest, FirstTree, MaybeFirst, MaybeStep, HeadStep, HeadTest, HeadFirst, HeadParts, first_tree, first_makes, first_deep}
+use Rattle.isp_syntax.proofs.StmtParts.{Test, ClosedTest, MaybeTest, FirstTree, MaybeFirst, MaybeStep, HeadStep, HeadTest, HeadFirst, HeadParts, first_tree, first_makes, first_deep}
 use Rattle.isp_syntax.proofs.Wrapped.{After, Bracketed}
-use Rattle.isp_syntax.specs.Depth.{depth_of_option, depth_of_first, depth_of_step, deepest_of, depth_of_stmt, depth_of_stmts, depth}
+use Rattle.isp_tree.specs.Depth.{depth_of_option, depth_of_first, depth_of_step, deepest_of, depth_of_stmt, depth_of_block, depth_of_stmts, depth}
 use Rattle.isp_syntax.specs.Grammar.{IsMaybe, IsExpr, IsFirst, IsSimple, is_open, IsBlock, is_braces, IsStmts, is_end, is_next, IsStmt, is_empty, is_declare, is_simple, is_if, is_if_else, is_while, is_do, is_for, is_foreach, is_foreach_active, is_return, is_print, is_assert}
-use Rattle.isp_syntax.specs.ReadingStmts.{simple_from, if_from, block_at, stmt_at}
+use Rattle.isp_syntax.specs.reader.Stmts.{simple_from, if_from, block_from, stmts_at, braced_at, block_at, stmt_at}
 use Rattle.isp_syntax.specs.Signs.{textual, loosest, if_mark, while_mark, do_mark, for_mark, foreach_mark}
-use Rattle.isp_syntax.specs.Tree.{Expr, Declaration, span_of_simple, Range, Stmt, block, empty, declare, simple, loop_while, loop_do, loop_for, foreach, foreach_active, unmasked, jump, returning, print, assert, all, span_of_stmt}
-use Rattle.isp_syntax.specs.declared.tree.Word.{Word}
-use Rattle.isp_syntax.specs.declared.tree.Form.{Form as Shape}
-use Rattle.isp_syntax.specs.declared.tree.Tiling.{Tiling}
-use Rattle.isp_syntax.specs.declared.tree.Jump.{Jump}
+use Rattle.isp_syntax.specs.reader.Readers.{◌>>=◌}
+use Rattle.isp_tree.specs.Tree.{Expr, Declaration, span_of_simple, Range, Stmt, empty, declare, simple, loop_while, loop_do, loop_for, foreach, foreach_active, unmasked, jump, returning, print, assert, Block, all, span_of_block, span_of_stmt}
+use Rattle.isp_tree.specs.declared.types.Word.{Word}
+use Rattle.isp_tree.specs.declared.stmt.Form.{Form as Shape}
+use Rattle.isp_tree.specs.declared.stmt.Tiling.{Tiling}
+use Rattle.isp_tree.specs.declared.stmt.Jump.{Jump}
 
 -- no `else` may follow a statement that ends in an `if` without one
 abbrev pub EndsStmt : Stmt → List Token → Type 0
@@ -68,22 +69,34 @@ BraceEnd = Before Several mark.BraceClose
 pub brace_then : Follows Several (One mark.BraceClose) Free
 brace_then = then_one Several mark.BraceClose (λ x s rest. refl)
 
-abbrev pub block_of : Span → List Stmt × Span → Stmt
-block_of s p = block (all p.0) (span_to s p.1)
-
-pub braces_make : (s : Span) (ts : List Token) (p : List Stmt × Span) → BraceEnd.is ts p → IsBlock (at mark.BraceOpen s ∷ ts) (block_of s p)
+pub braces_make : (s : Span) (ts : List Token) (p : List Stmt × Span) → BraceEnd.is ts p → IsBlock (at mark.BraceOpen s ∷ ts) (block_from s p)
 braces_make s ts p i =
     let j = before_is Several mark.BraceClose ts p i in
-    subst (λ (l : List Token). IsBlock (at mark.BraceOpen s ∷ l) (block_of s p)) (sym j.1) (is_braces s p.1 j.0 p.0 (all_are j.0 p.0 j.2))
+    subst (λ (l : List Token). IsBlock (at mark.BraceOpen s ∷ l) (block_from s p)) (sym j.1) (is_braces s p.1 j.0 p.0 (all_are j.0 p.0 j.2))
 
-pub block_deep : (s : Span) (p : List Stmt × Span) → depth_of_stmt (block_of s p) ≡ suc (BraceEnd.deep p)
+pub block_deep : (s : Span) (p : List Stmt × Span) → depth_of_block (block_from s p) ≡ suc (BraceEnd.deep p)
 block_deep s p = omega (arith, deepest_is p.0)
 
--- a statement that is a block
-abbrev pub Block : Form Stmt
-Block = record { is = λ ts b. IsBlock ts b; deep = depth_of_stmt; ends = λ b rest. Unit {0}; read = λ n ts. block_at (stmt_at n) ts }
+-- the statements of a block between its braces
+abbrev pub Braced : Form (Span × (List Stmt × Span))
+Braced = Behind mark.BraceOpen BraceEnd
 
-pub some_block : (b : List Token) × Can Block b
+abbrev pub braced_of : Span × (List Stmt × Span) → Block
+braced_of p = block_from p.0 p.1
+
+pub braced_makes : (ts : List Token) (p : Span × (List Stmt × Span)) → Braced.is ts p → IsBlock ts (braced_of p)
+braced_makes ts p i =
+    let j = behind_is mark.BraceOpen BraceEnd ts p i in
+    subst (λ (l : List Token). IsBlock l (braced_of p)) (sym j.1) (braces_make p.0 j.0 p.1 j.2)
+
+abbrev pub BlockForm : Form Block
+BlockForm = record { is = λ ts b. IsBlock ts b; deep = depth_of_block; ends = λ b rest. Unit {0}; read = block_at }
+
+pub block_reads : (n : ℕ) (ts : List Token) → block_at (suc n) ts ≡ (Braced.read n ts >>= λ p. Ok (braced_of p.0, p.1))
+unfolding block_at braced_at stmts_at
+block_reads n ts = refl
+
+pub some_block : (b : List Token) × Can BlockForm b
 some_block = (at mark.BraceOpen nowhere ∷ at mark.BraceClose nowhere ∷ [], (_, is_braces nowhere nowhere [] [] is_end))
 
 -- ---- brackets before other tokens
@@ -247,8 +260,8 @@ active_makes w ts p c =
     let e = c.2 ∙ ap (λ (l : List Token). l ++ c.1) (h.3 ∙ ap (λ (l : List Token). at mark.ParenOpen h.0 ∷ (l ++ at mark.ParenClose h.1 ∷ [])) h.4) in
     subst (λ (l : List Token). IsStmt (at mark.ForeachActive w ∷ l) (active_of w p)) (sym e) (is_foreach_active w h.0 h.1 p.0 c.1 p.1 c.4)
 
-abbrev pub unmasked_of : Span → Stmt → Stmt
-unmasked_of u b = unmasked u b (span_to u (span_of_stmt b))
+abbrev pub unmasked_of : Span → Block → Stmt
+unmasked_of u b = unmasked u b (span_to u (span_of_block b))
 
 -- ---- statements without statements in them
 
@@ -321,11 +334,19 @@ deepest_expr (x ∷ xs) = ap (λ (n : ℕ). max (depth x) n) (deepest_expr xs)
 pub print_deep : (w : Span) (p : Span × ((List ℕ × Span) × (List Expr × (Span × Span)))) → depth_of_stmt (print_of w p) ≡ suc (Printing.deep p)
 print_deep w p = omega (arith, deepest_expr p.1.1.0)
 
-abbrev pub assert_of : Span → Expr × Span → Stmt
-assert_of w p = assert p.0 (span_to w p.1)
+abbrev pub Asserting : Form ((Span × (Expr × Span)) × Span)
+Asserting = Before ClosedTest mark.Semicolon
 
-pub assert_makes : (w : Span) (ts : List Token) (p : Expr × Span) → Tested.is ts p → IsStmt (at mark.Assert w ∷ ts) (assert_of w p)
+abbrev pub assert_of : Span → (Span × (Expr × Span)) × Span → Stmt
+assert_of w p = assert p.0.1.0 (span_to w p.0.1.1) (span_to w p.1)
+
+assert_regroup : (o c e : Span) (ts : List Token) → (at mark.ParenOpen o ∷ (ts ++ at mark.ParenClose c ∷ [])) ++ at mark.Semicolon e ∷ [] ≡ at mark.ParenOpen o ∷ (ts ++ at mark.ParenClose c ∷ at mark.Semicolon e ∷ [])
+assert_regroup o c e ts = simp append_assoc
+
+pub assert_makes : (w : Span) (ts : List Token) (p : (Span × (Expr × Span)) × Span) → Asserting.is ts p → IsStmt (at mark.Assert w ∷ ts) (assert_of w p)
 assert_makes w ts p i =
-    let b = before_is Test mark.Semicolon ts p i in
-    let t = bracketed_front (Exprs loosest) ts b.0 (at mark.Semicolon p.1 ∷ []) p.0 b.1 b.2 in
-    subst (λ (l : List Token). IsStmt (at mark.Assert w ∷ l) (assert_of w p)) (sym t.3) (is_assert w t.0 t.1 p.1 t.2 p.0 t.4)
+    let a = before_is ClosedTest mark.Semicolon ts p i in
+    let b = behind_is mark.ParenOpen Closed a.0 p.0 a.2 in
+    let c = before_is (Exprs loosest) mark.ParenClose b.0 p.0.1 b.2 in
+    let e = a.1 ∙ ap (λ (l : List Token). l ++ at mark.Semicolon p.1 ∷ []) (b.1 ∙ ap (λ (l : List Token). at mark.ParenOpen p.0.0 ∷ l) c.1) ∙ assert_regroup p.0.0 p.0.1.1 p.1 c.0 in
+    subst (λ (l : List Token). IsStmt (at mark.Assert w ∷ l) (assert_of w p)) (sym e) (is_assert w p.0.0 p.0.1.1 p.1 c.0 p.0.1.0 c.2)

@@ -16,26 +16,30 @@ use Rattle.isp_syntax.proofs.FormsComplete.{EndsByHead, optional_complete, Stand
 use Rattle.isp_syntax.proofs.Ranges.{RangesHead, ranges_head_complete, ActiveHead, active_head_complete, Texts, text_complete, Values, values_complete}
 use Rattle.isp_syntax.proofs.Simples.{SimpleTree, SimpleParts, simple_complete, simple_unmakes, simple_deep, simple_starts}
 use Rattle.isp_syntax.proofs.Starts.{expr_start, type_start}
-use Rattle.isp_syntax.proofs.StmtParts.{declaration_starts, Test, test_complete, MaybeTest, maybe_test_complete, is_change_start, FirstTree, MaybeFirst, MaybeStep, HeadStep, HeadTest, HeadFirst, HeadParts, head_complete, first_tree, first_unmakes}
-use Rattle.isp_syntax.proofs.StmtReads.{production_complete, block_production, empty_production, if_production, while_production, do_production, for_production, foreach_production, active_production, unmasked_production, jump_production, return_production, print_production, assert_production, declare_reads, simple_stmt_reads, empty_of}
-use Rattle.isp_syntax.proofs.Stmts.{head_regroup, EndsStmt, Statement, Nothing, Several, are_all, BraceEnd, brace_then, block_of, Block, Else, FitsElse, Branches, Conditional, if_of, Looping, while_of, Tested, DoEnd, Doing, do_of, ForLoop, for_of, Spreading, foreach_of, Activity, active_of, unmasked_of, DeclareStmt, declare_of, SimpleStmt, simple_of, jump_of, Returning, return_of, PrintEnd, PrintValues, PrintText, Printing, print_of, assert_of}
-use Rattle.isp_syntax.proofs.StmtsSound.{then_else, branches_then, body_then, tested_then, some_tested, do_then, for_then, foreach_then, active_then, declare_then, simple_then, return_then, print_behind, text_then, values_then, print_end_behind, brace_close_foreign, else_foreign, block_closed, block_starts, stmt_off_mark}
+use Rattle.isp_syntax.proofs.StmtParts.{declaration_starts, Test, test_complete, ClosedTest, closed_test_complete, MaybeTest, maybe_test_complete, is_change_start, FirstTree, MaybeFirst, MaybeStep, HeadStep, HeadTest, HeadFirst, HeadParts, head_complete, first_tree, first_unmakes}
+use Rattle.isp_syntax.proofs.StmtReads.{production_complete, block_stmt_of, block_production, empty_production, if_production, while_production, do_production, for_production, foreach_production, active_production, unmasked_production, jump_production, return_production, print_production, assert_production, declare_reads, simple_stmt_reads, empty_of}
+use Rattle.isp_syntax.proofs.Stmts.{head_regroup, EndsStmt, Statement, Nothing, Several, are_all, BraceEnd, brace_then, block_deep, Braced, braced_of, BlockForm, block_reads, Else, FitsElse, Branches, Conditional, if_of, Looping, while_of, Tested, DoEnd, Doing, do_of, ForLoop, for_of, Spreading, foreach_of, Activity, active_of, unmasked_of, DeclareStmt, declare_of, SimpleStmt, simple_of, jump_of, Returning, return_of, PrintEnd, PrintValues, PrintText, Printing, print_of, Asserting, assert_of}
+use Rattle.isp_syntax.proofs.StmtsSound.{then_else, branches_then, body_then, tested_then, some_tested, do_then, for_then, foreach_then, active_then, declare_then, simple_then, return_then, print_behind, text_then, values_then, print_end_behind, brace_close_foreign, else_foreign, asserted_then, brace_behind, stmt_off_mark}
 use Rattle.isp_syntax.proofs.Wrapped.{after_complete}
-use Rattle.isp_syntax.specs.Depth.{depth_of_stmt}
+use Rattle.isp_tree.specs.Depth.{depth_of_stmt, depth_of_block}
+use Rattle.isp_syntax.proofs.Exprs.{Exprs, Closed}
 use Rattle.isp_syntax.specs.Grammar.{IsMaybe, IsExpr, IsFirst, IsSimple, IsDeclaration, IsBlock, is_braces, IsStmt, is_block, is_empty, is_declare, is_simple, is_if, is_if_else, is_while, is_do, is_for, is_foreach, is_foreach_active, is_unmasked, is_jump, is_return, is_print, is_assert}
-use Rattle.isp_syntax.specs.Reading.{◌>>=◌, head, on_head}
-use Rattle.isp_syntax.specs.ReadingChoices.{begins_with}
-use Rattle.isp_syntax.specs.ReadingStarts.{start_of}
-use Rattle.isp_syntax.specs.ReadingStmts.{simple_from, block_at, stmt_at}
-use Rattle.isp_syntax.specs.ReadingTypes.{begins_type}
+use Rattle.isp_syntax.specs.reader.Readers.{◌>>=◌, head, on_head}
+use Rattle.isp_syntax.specs.reader.Choices.{begins_with}
+use Rattle.isp_syntax.specs.reader.Starts.{start_of}
+use Rattle.isp_syntax.specs.reader.Stmts.{simple_from, block_at, stmt_at}
+use Rattle.isp_syntax.specs.reader.Types.{begins_type}
 use Rattle.isp_syntax.specs.Signs.{word, textual, loosest, if_mark, while_mark, do_mark, for_mark, foreach_mark, jump_mark}
-use Rattle.isp_syntax.specs.Tree.{Expr, Simple, First, Declaration, Stmt, block, empty, declare, simple, if_then, if_else, loop_while, loop_do, loop_for, foreach, foreach_active, unmasked, jump, returning, print, assert, span_of_simple, span_of_stmt}
+use Rattle.isp_tree.specs.Tree.{Expr, Simple, First, Declaration, Stmt, block, empty, declare, simple, if_then, if_else, loop_while, loop_do, loop_for, foreach, foreach_active, unmasked, jump, returning, print, assert, Block, braces, span_of_simple, span_of_stmt}
 use Rattle.isp_syntax.specs.declared.start.Start.{Start}
 use Rattle.isp_syntax.specs.declared.start.Start.TheVariants as by
-use Rattle.isp_syntax.specs.declared.tree.Form.{Form as Shape}
+use Rattle.isp_tree.specs.declared.stmt.Form.{Form as Shape}
+
+depth_of_block_pos : (b : Block) → 0 < depth_of_block b
+depth_of_block_pos (braces ss s) = omega arith
 
 depth_of_stmt_pos : (s : Stmt) → 0 < depth_of_stmt s
-depth_of_stmt_pos (block ss s) = omega arith
+depth_of_stmt_pos (block b) = depth_of_block_pos b
 depth_of_stmt_pos (empty s) = omega arith
 depth_of_stmt_pos (declare d s) = omega arith
 depth_of_stmt_pos (simple p s) = omega arith
@@ -50,15 +54,15 @@ depth_of_stmt_pos (unmasked w a s) = omega arith
 depth_of_stmt_pos (jump j w s) = omega arith
 depth_of_stmt_pos (returning w x s) = omega arith
 depth_of_stmt_pos (print w t p xs s) = omega arith
-depth_of_stmt_pos (assert x s) = omega arith
+depth_of_stmt_pos (assert x c s) = omega arith
 
 -- ---- lists of statements
 
 -- no `else` begins what stands behind a statement of a list
 pub stmt_stands : Stands Statement mark.BraceClose
 stmt_stands = record {
-  first = λ a s rest i. stmt_off_mark mark.BraceClose brace_close_foreign refl i rest;
-  next = λ x y b rest i. λ o. stmt_off_mark mark.Else else_foreign refl i rest;
+  first = λ a s rest i. stmt_off_mark mark.BraceClose brace_close_foreign i rest;
+  next = λ x y b rest i. λ o. stmt_off_mark mark.Else else_foreign i rest;
   last = λ x rest h. λ o. let c = starts_is mark.BraceClose rest h in subst (λ (l : List Token). starts_with mark.Else l ≡ false) (sym c.2) refl;
 }
 
@@ -101,11 +105,19 @@ module _ (n : ℕ) (ih : IsComplete Statement n) where
   pub nothing_complete : IsComplete Nothing n
   nothing_complete used x rest i le h = rw i refl
 
-  pub block_complete : IsComplete Block n
-  unfolding block_at
-  block_complete used b rest i le h =
-      let e = block_starts i rest in
-      rw e (ih used b rest (is_block used b i) le (λ o. absurd (false≢true (sym (block_closed i) ∙ o))))
+  pub braced_complete : IsComplete Braced n
+  braced_complete = both_complete (One mark.BraceOpen) BraceEnd Free brace_behind n (one_complete mark.BraceOpen n) brace_end_complete
+
+  braces_again : {used : List Token} {b : Block} → IsBlock used b → depth_of_block b ≤ suc n → (rest : List Token) → block_at (suc n) (used ++ rest) ≡ Ok (b, rest)
+  braces_again (is_braces o c ts ss i) le rest =
+      made_complete Braced BlockForm braced_of [] n (block_at (suc n)) (at mark.BraceOpen o ∷ (ts ++ at mark.BraceClose c ∷ [])) (o, (ss, c)) rest (block_reads n (at mark.BraceOpen o ∷ ((ts ++ at mark.BraceClose c ∷ []) ++ rest))) braced_complete
+      (is_behind mark.BraceOpen BraceEnd o (ts ++ at mark.BraceClose c ∷ []) (ss, c) (is_before Several mark.BraceClose ts ss c (are_all i))) (omega (arith, le, block_deep o (ss, c))) tt
+
+  pub next_block_complete : IsComplete BlockForm (suc n)
+  next_block_complete used b rest i le h = braces_again i le rest
+
+pub asserting_complete : (n : ℕ) → IsComplete Asserting n
+asserting_complete n = both_complete ClosedTest (One mark.Semicolon) Free asserted_then n (closed_test_complete n) (one_complete mark.Semicolon n)
 
 pub declare_stmt_complete : (n : ℕ) → IsComplete DeclareStmt n
 declare_stmt_complete n = both_complete Declaring (One mark.Semicolon) Free declare_then n (declaration_complete n) (one_complete mark.Semicolon n)
@@ -183,10 +195,10 @@ starts_as : (f : TokenKind → Bool) (c : Start) → ((k : TokenKind) → f k �
 starts_as f c g [] e = absurd cc
 starts_as f c g (t ∷ ts) e = g t.kind e
 
-module _ (n : ℕ) (ih : IsComplete Statement n) where
-  block_again : {used : List Token} {b : Stmt} → IsBlock used b → depth_of_stmt b ≤ suc n → (rest : List Token) → stmt_at (suc n) (used ++ rest) ≡ Ok (b, rest)
+module _ (n : ℕ) (ih : IsComplete Statement n) (blocks : IsComplete BlockForm n) where
+  block_again : {used : List Token} {b : Block} → IsBlock used b → depth_of_block b ≤ suc n → (rest : List Token) → stmt_at (suc n) (used ++ rest) ≡ Ok (block b, rest)
   block_again (is_braces o c ts ss i) le rest =
-      production_complete mark.BraceOpen BraceEnd block_of block_production n o (brace_end_complete n ih) (ts ++ at mark.BraceClose c ∷ []) (ss, c) rest (is_before Several mark.BraceClose ts ss c (are_all i)) le tt
+      production_complete mark.BraceOpen BraceEnd block_stmt_of block_production n o (brace_end_complete n ih) (ts ++ at mark.BraceClose c ∷ []) (ss, c) rest (is_before Several mark.BraceClose ts ss c (are_all i)) le tt
 
   declare_again : (e : Span) (ts : List Token) (d : Declaration) → IsDeclaration ts d → depth_of_stmt (declare_of (d, e)) ≤ suc n → (rest : List Token) → stmt_at (suc n) ((ts ++ at mark.Semicolon e ∷ []) ++ rest) ≡ Ok (declare_of (d, e), rest)
   declare_again e ts d i le rest =
@@ -244,7 +256,7 @@ module _ (n : ℕ) (ih : IsComplete Statement n) where
   next_complete (is_foreach_active f o c w a s i) le rest h =
       production_complete mark.ForeachActive Activity active_of active_production n f (activity_complete n ih) (at mark.ParenOpen o ∷ word w ∷ at mark.ParenClose c ∷ a) (w, s) rest
       (at mark.ParenOpen o ∷ word w ∷ at mark.ParenClose c ∷ [], a, refl, (o, c, word w ∷ [], refl, refl), i, tt) le h
-  next_complete (is_unmasked u ts b i) le rest h = production_complete mark.Unmasked Block unmasked_of unmasked_production n u (block_complete n ih) ts b rest i le tt
+  next_complete (is_unmasked u ts b i) le rest h = production_complete mark.Unmasked BlockForm unmasked_of unmasked_production n u blocks ts b rest i le tt
   next_complete (is_jump j w e) le rest h = production_complete (jump_mark j) (One mark.Semicolon) (jump_of j) (jump_production j) n w (one_complete mark.Semicolon n) (at mark.Semicolon e ∷ []) e rest refl le tt
   next_complete (is_return w e ts x i) le rest h =
       production_complete mark.Return Returning return_of return_production n w (returning_complete n) (ts ++ at mark.Semicolon e ∷ []) (x, e) rest (is_before MaybeTest mark.Semicolon ts x e (maybe_test_of ts x i)) le tt
@@ -252,10 +264,16 @@ module _ (n : ℕ) (ih : IsComplete Statement n) where
       production_complete mark.Print Printing print_of print_production n w (printing_complete n) (at mark.ParenOpen o ∷ textual t p ∷ (ts ++ at mark.ParenClose c ∷ at mark.Semicolon e ∷ [])) (o, ((t, p), (xs, (c, e)))) rest
       (print_text_of w o p c e t ts xs i) le tt
   next_complete (is_assert w o c e ts x i) le rest h =
-      production_complete mark.Assert Tested assert_of assert_production n w (tested_complete n ih) (at mark.ParenOpen o ∷ (ts ++ at mark.ParenClose c ∷ at mark.Semicolon e ∷ [])) (x, e) rest
-      (closed o c ts, at mark.Semicolon e ∷ [], closed_split o c ts (at mark.Semicolon e ∷ []), (o, c, ts, refl, i), refl, tt) le tt
+      let inside = is_behind mark.ParenOpen Closed o (ts ++ at mark.ParenClose c ∷ []) (x, c) (is_before (Exprs loosest) mark.ParenClose ts x c i) in
+      production_complete mark.Assert Asserting assert_of assert_production n w (asserting_complete n) (at mark.ParenOpen o ∷ (ts ++ at mark.ParenClose c ∷ at mark.Semicolon e ∷ [])) ((o, (x, c)), e) rest
+      (closed o c ts, at mark.Semicolon e ∷ [], closed_split o c ts (at mark.Semicolon e ∷ []), inside, refl, tt) le tt
 
--- What is a statement, no deeper, is read.
-pub stmt_complete : (n : ℕ) → IsComplete Statement n
-stmt_complete zero used s rest i le h = absurd (omega (arith, le, depth_of_stmt_pos s))
-stmt_complete (suc n) used s rest i le h = next_complete n (stmt_complete n) i le rest h
+-- What is a statement or a block, no deeper, is read.
+mutual
+  pub stmt_complete : (n : ℕ) → IsComplete Statement n
+  stmt_complete zero used s rest i le h = absurd (omega (arith, le, depth_of_stmt_pos s))
+  stmt_complete (suc n) used s rest i le h = next_complete n (stmt_complete n) (block_complete n) i le rest h
+
+  pub block_complete : (n : ℕ) → IsComplete BlockForm n
+  block_complete zero used b rest i le h = absurd (omega (arith, le, depth_of_block_pos b))
+  block_complete (suc n) used b rest i le h = next_block_complete n (stmt_complete n) used b rest i le h

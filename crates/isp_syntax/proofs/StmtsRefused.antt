@@ -1,13 +1,13 @@
 -- What a refusal of a statement means.
 use Rattle.std.proofs.Common.{◌≡◌, ℕ, zero, suc, true, false, List, [], ◌∷◌, ◌++◌, Option, None, Err, refl, sym, ap, subst, ◌∙◌, append_assoc, inl, inr}
 use Rattle.isp_base.specs.declared.types.Span.{Span}
-use Rattle.isp_lex.specs.Tokens.{at, starts_with}
+use Rattle.isp_lex.specs.Tokens.{is_mark, at}
 use Rattle.isp_lex.specs.declared.token.Mark.{Mark}
 use Rattle.isp_lex.specs.declared.token.Mark.TheVariants as mark
 use Rattle.isp_lex.specs.declared.token.TokenKind.{TokenKind}
 use Rattle.isp_lex.specs.declared.token.TokenKind.TheVariants as kind
 use Rattle.isp_lex.specs.declared.token.Token.{Token}
-use Rattle.isp_syntax.proofs.Basics.{token, err_is, ok_err, chosen, starts_same, head_past}
+use Rattle.isp_syntax.proofs.Basics.{token, err_is, ok_err, mark_off, is_mark_is, starts_by_head}
 use Rattle.isp_syntax.proofs.Choices.{nowhere, begins_same, limit_off, Limits, limit_refused}
 use Rattle.isp_syntax.proofs.Declarations.{Declaring, declaration_sound, declaration_complete, declaration_by_head, declaration_refused}
 use Rattle.isp_syntax.proofs.Forms.{Form, Can, One, one_sound, one_complete, Both, Free, Follows}
@@ -16,19 +16,19 @@ use Rattle.isp_syntax.proofs.Ranges.{RangesHead, ranges_head_sound, ranges_head_
 use Rattle.isp_syntax.proofs.Refused.{Completes, Refused, refused_here, raise, FailsForm, IsRefused, one_refused, both_refused, made_refused, made_err, made_fails, optional_refused, until_refused}
 use Rattle.isp_syntax.proofs.Simples.{SimpleParts, simple_sound, simple_complete, simple_by_head, simple_refused, simple_makes}
 use Rattle.isp_syntax.proofs.Starts.{Fits, start_fits}
-use Rattle.isp_syntax.proofs.StmtParts.{Test, test_sound, test_complete, test_refused, some_test, MaybeTest, maybe_test_sound, maybe_test_complete, maybe_test_refused, maybe_test_by_head, HeadParts, head_sound, head_complete, head_refused, some_head, declaration_completes, simple_opens}
-use Rattle.isp_syntax.proofs.StmtReads.{FailsNext, Production, production_refused, block_production, empty_production, if_production, while_production, do_production, for_production, foreach_production, active_production, unmasked_production, jump_production, return_production, print_production, assert_production, empty_of}
-use Rattle.isp_syntax.proofs.Stmts.{Statement, stmt_by_head, some_stmt, Nothing, Several, BraceEnd, brace_then, block_of, Block, some_block, Else, FitsElse, Branches, Conditional, if_of, Looping, while_of, Tested, DoEnd, Doing, do_of, ForLoop, for_of, Spreading, foreach_of, Activity, active_of, unmasked_of, DeclareStmt, declare_of, declare_makes, SimpleStmt, simple_of, simple_stmt_makes, jump_of, Returning, return_of, PrintEnd, PrintValues, PrintText, Printing, print_of, assert_of}
+use Rattle.isp_syntax.proofs.StmtParts.{Test, test_sound, test_complete, test_refused, some_test, ClosedTest, closed_test_sound, closed_test_complete, closed_test_refused, some_closed_test, MaybeTest, maybe_test_sound, maybe_test_complete, maybe_test_refused, maybe_test_by_head, HeadParts, head_sound, head_complete, head_refused, some_head, declaration_completes, simple_opens}
+use Rattle.isp_syntax.proofs.StmtReads.{FailsNext, Production, production_refused, block_stmt_of, block_production, empty_production, if_production, while_production, do_production, for_production, foreach_production, active_production, unmasked_production, jump_production, return_production, print_production, assert_production, empty_of}
+use Rattle.isp_syntax.proofs.Stmts.{Statement, stmt_by_head, some_stmt, Nothing, Several, BraceEnd, brace_then, Braced, braced_of, braced_makes, BlockForm, block_reads, some_block, Else, FitsElse, Branches, Conditional, if_of, Looping, while_of, Tested, DoEnd, Doing, do_of, ForLoop, for_of, Spreading, foreach_of, Activity, active_of, unmasked_of, DeclareStmt, declare_of, declare_makes, SimpleStmt, simple_of, simple_stmt_makes, jump_of, Returning, return_of, PrintEnd, PrintValues, PrintText, Printing, print_of, Asserting, assert_of}
 use Rattle.isp_syntax.proofs.StmtsComplete.{stmt_stands, several_by_head, several_complete, declare_start, simple_start, stmt_complete}
-use Rattle.isp_syntax.proofs.StmtsSound.{then_else, branches_then, body_then, tested_then, some_tested, do_then, for_then, foreach_then, active_then, declare_then, simple_then, return_then, print_behind, text_then, values_then, print_end_behind, is_only_block, several_sound, stmt_sound}
+use Rattle.isp_syntax.proofs.StmtsSound.{then_else, branches_then, body_then, tested_then, some_tested, do_then, for_then, foreach_then, active_then, declare_then, simple_then, return_then, print_behind, text_then, values_then, print_end_behind, asserted_then, brace_behind, several_sound, stmt_sound, block_sound}
 use Rattle.isp_syntax.proofs.Wrapped.{after_refused}
-use Rattle.isp_syntax.specs.Grammar.{IsStmt, is_declare, is_simple}
-use Rattle.isp_syntax.specs.Reading.{refuse, head, on_head}
-use Rattle.isp_syntax.specs.ReadingChoices.{begins_with}
-use Rattle.isp_syntax.specs.ReadingStarts.{start_of, is_start, begins_stmt}
-use Rattle.isp_syntax.specs.ReadingStmts.{simple_from, block_at, stmt_from, stmt_by, stmt_at}
+use Rattle.isp_syntax.specs.Grammar.{IsBlock, is_braces, is_end, IsStmt, is_declare, is_simple}
+use Rattle.isp_syntax.specs.reader.Readers.{refuse, head, on_head}
+use Rattle.isp_syntax.specs.reader.Choices.{begins_with}
+use Rattle.isp_syntax.specs.reader.Starts.{start_of, is_start, begins_stmt}
+use Rattle.isp_syntax.specs.reader.Stmts.{simple_from, block_from, braced_at, block_at, stmt_from, stmt_by, stmt_at}
 use Rattle.isp_syntax.specs.Signs.{if_mark, while_mark, do_mark, for_mark, foreach_mark, jump_mark}
-use Rattle.isp_syntax.specs.Tree.{Stmt}
+use Rattle.isp_tree.specs.Tree.{Stmt}
 use Rattle.isp_syntax.specs.declared.start.Start.{Start}
 use Rattle.isp_syntax.specs.declared.start.Start.TheVariants as by
 use Rattle.isp_syntax.specs.declared.stop.Why.{Why}
@@ -53,7 +53,7 @@ produced : {A : Type 0} (m : Mark) (F : Form A) (g : Span → A → Stmt) → Pr
 produced m F g p b k s e = (b.0, (g s b.1.0, subst (λ (c : TokenKind). IsStmt (token c s ∷ b.0) (g s b.1.0)) (sym e) (p.makes s b.0 b.1.0 b.1.1)))
 
 opens : (c : Start) (k : TokenKind) (s : Span) → Fits c k → is_start c ≡ true → (closing : List Token) × Can Statement (token k s ∷ closing)
-opens by.Block k s f h = produced mark.BraceOpen BraceEnd block_of block_production (some_both Several (One mark.BraceClose) Free brace_then some_several) k s f
+opens by.Block k s f h = produced mark.BraceOpen BraceEnd block_stmt_of block_production (some_both Several (One mark.BraceClose) Free brace_then some_several) k s f
 opens by.Empty k s f h = produced mark.Semicolon Nothing empty_of empty_production ([], (tt, refl)) k s f
 opens by.Declare k s f h =
     let c = declaration_completes k s f in
@@ -67,16 +67,16 @@ opens (by.Do g) k s f h = produced (do_mark g) Doing (do_of g) (do_production g)
 opens (by.For g) k s f h = produced (for_mark g) ForLoop (for_of g) (for_production g) (some_both HeadParts Statement Free for_then some_head) k s f
 opens (by.Foreach t) k s f h = produced (foreach_mark t) Spreading (foreach_of t) (foreach_production t) (some_both RangesHead Statement Free foreach_then some_ranges_head) k s f
 opens by.ForeachActive k s f h = produced mark.ForeachActive Activity active_of active_production (some_both ActiveHead Statement Free active_then some_active_head) k s f
-opens by.Unmasked k s f h = produced mark.Unmasked Block unmasked_of unmasked_production some_block k s f
+opens by.Unmasked k s f h = produced mark.Unmasked BlockForm unmasked_of unmasked_production some_block k s f
 opens (by.Jump j) k s f h = produced (jump_mark j) (One mark.Semicolon) (jump_of j) (jump_production j) (some_one mark.Semicolon) k s f
 opens by.Return k s f h = produced mark.Return Returning return_of return_production (some_both MaybeTest (One mark.Semicolon) Free return_then some_maybe) k s f
 opens by.Print k s f h = produced mark.Print Printing print_of print_production (some_both (One mark.ParenOpen) PrintText Free print_behind (some_one mark.ParenOpen)) k s f
-opens by.Assert k s f h = produced mark.Assert Tested assert_of assert_production some_tested k s f
+opens by.Assert k s f h = produced mark.Assert Asserting assert_of assert_production (some_both ClosedTest (One mark.Semicolon) Free asserted_then some_closed_test) k s f
 opens by.Nothing k s f h = absurd cc
 
 -- ---- where no statement begins
 
-from_off : (n : ℕ) (c : Start) (t : Token) (u : List Token) → is_start c ≡ false → stmt_from (stmt_at n) n c t u ≡ refuse Unexpected (t ∷ u)
+from_off : (n : ℕ) (c : Start) (t : Token) (u : List Token) → is_start c ≡ false → stmt_from (stmt_at n) (block_at n) n c t u ≡ refuse Unexpected (t ∷ u)
 from_off n by.Block t u e = absurd cc
 from_off n by.Empty t u e = absurd cc
 from_off n by.Declare t u e = absurd cc
@@ -131,21 +131,29 @@ nothing_refused n ts r e = absurd (ok_err e)
 
 -- ---- refusals of statements with statements in them
 
--- what begins with a brace and is completed to a statement is completed to a block
-block_completes : (why : Why) (used after : List Token) → starts_with mark.BraceOpen (used ++ after) ≡ true → Completes (Can Statement) why used after → Completes (Can Block) why used after
-block_completes Unexpected [] after s c = (some_block.0, some_block.1)
-block_completes Unexpected (t ∷ used) after s c = (c.0, (c.1.0, is_only_block c.1.1 [] s))
-block_completes TooDeep used [] s c = absurd c
-block_completes TooDeep used (t ∷ after) s c =
-    let b : starts_with mark.BraceOpen ((used ++ t ∷ c.0) ++ []) ≡ true = ap (λ (l : List Token). starts_with mark.BraceOpen l) (append_assoc used (t ∷ c.0) []) ∙ starts_same mark.BraceOpen (used ++ t ∷ (c.0 ++ [])) (used ++ t ∷ after) (head_past used (t ∷ (c.0 ++ [])) (t ∷ after) refl) ∙ s in
-    (c.0, (c.1.0, is_only_block c.1.1 [] b))
+asserting_refused : (n : ℕ) → IsRefused Asserting n
+asserting_refused n = both_refused ClosedTest (One mark.Semicolon) Free asserted_then n (λ x a b e h. tt) closed_test_complete (closed_test_sound n) (closed_test_refused n) (one_refused mark.Semicolon n)
 
-module _ (n : ℕ) (ih : IsRefused Statement n) where
+-- where no block begins
+block_off : (m : ℕ) (u : List Token) → begins_with (is_mark mark.BraceOpen) u ≡ false → block_at m u ≡ refuse Unexpected u
+unfolding block_at braced_at
+block_off zero u e = limit_off (is_mark mark.BraceOpen) u e
+block_off (suc m) u e = let p = mark_off mark.BraceOpen u (starts_by_head mark.BraceOpen u ∙ e) in rw p refl
+
+block_completes : (k : TokenKind) (s : Span) → is_mark mark.BraceOpen k ≡ true → (closing : List Token) × Can BlockForm (token k s ∷ closing)
+block_completes k s e =
+    (at mark.BraceClose nowhere ∷ [], (_, subst (λ (c : TokenKind). IsBlock (token c s ∷ at mark.BraceClose nowhere ∷ []) (block_from s ([], nowhere))) (sym (is_mark_is mark.BraceOpen k e)) (is_braces s nowhere [] [] is_end)))
+
+block_limits : Limits (is_mark mark.BraceOpen) BlockForm
+unfolding block_at
+block_limits = record { limit = λ u. refl; off = λ m u e. block_off m u e; some = some_block; completes = λ k s e. block_completes k s e }
+
+module _ (n : ℕ) (ih : IsRefused Statement n) (blocks : IsRefused BlockForm n) where
   pub several_refused : IsRefused Several n
   several_refused = until_refused Statement mark.BraceClose n stmt_stands.first stmt_by_head stmt_complete (stmt_sound n) ih
 
   brace_end_refused : IsRefused BraceEnd n
-  brace_end_refused = both_refused Several (One mark.BraceClose) Free brace_then n several_by_head (λ m. several_complete m (stmt_complete m)) (several_sound n (stmt_sound n)) several_refused (one_refused mark.BraceClose n)
+  brace_end_refused = both_refused Several (One mark.BraceClose) Free brace_then n several_by_head (λ m. several_complete m (stmt_complete m)) (several_sound n (stmt_sound n) (block_sound n)) several_refused (one_refused mark.BraceClose n)
 
   branches_refused : IsRefused Branches n
   branches_refused = both_refused Statement Else FitsElse then_else n stmt_by_head stmt_complete (stmt_sound n) ih (optional_refused mark.Else Statement n ih)
@@ -168,31 +176,12 @@ module _ (n : ℕ) (ih : IsRefused Statement n) where
   activity_refused : IsRefused Activity n
   activity_refused = both_refused ActiveHead Statement Free active_then n (λ x a b e h. tt) active_head_complete (active_head_sound n) (active_head_refused n) ih
 
-  block_from_refused : (ts : List Token) (r : Refusal) → starts_with mark.BraceOpen ts ≡ true → stmt_at n ts ≡ Err r → Refused (Can Block) (FailsForm Block) n ts r
-  unfolding block_at
-  block_from_refused ts r s e =
-      let q = ih ts r e in
-      let b = subst (λ (l : List Token). starts_with mark.BraceOpen l ≡ true) q.split s in
-      record {
-        used = q.used;
-        after = q.after;
-        split = q.split;
-        place = q.place;
-        viable = block_completes r.why q.used q.after b q.viable;
-        stays = λ m more a h.
-            let o = sym (starts_same mark.BraceOpen (q.used ++ q.after) (q.used ++ more) (head_past q.used q.after more h)) ∙ b in
-            rw (o, q.stays m more a h) refl;
-      }
-
-  pub block_refused : IsRefused Block n
-  unfolding block_at
-  block_refused ts r e =
-      elim (chosen (starts_with mark.BraceOpen ts) (stmt_at n ts) (refuse Unexpected ts) (Err r) e) [
-        | inl p ↦ block_from_refused ts r p.0 p.1
-        | inr p ↦
-            subst (λ (d : Refusal). Refused (Can Block) (FailsForm Block) n ts d) (err_is p.1)
-            (refused_here (Can Block) (FailsForm Block) n ts some_block.0 some_block.1 (λ m more le h. let o = sym (starts_same mark.BraceOpen ts more h) ∙ p.0 in rw o refl))
-      ]
+  next_block_refused : (ts : List Token) (r : Refusal) → block_at (suc n) ts ≡ Err r → Refused (Can BlockForm) (λ m u d. block_at (suc m) u ≡ Err d) n ts r
+  next_block_refused ts r e =
+      made_refused Braced BlockForm braced_of [] (λ m u d. block_at (suc m) u ≡ Err d) n ts r
+      (both_refused (One mark.BraceOpen) BraceEnd Free brace_behind n (one_by_head mark.BraceOpen) (one_complete mark.BraceOpen) (one_sound mark.BraceOpen n) (one_refused mark.BraceOpen n) brace_end_refused)
+      (made_err braced_of (Braced.read n ts) r (sym (block_reads n ts) ∙ e)) (λ a p i. braced_makes a p i)
+      (λ m u d le h w. made_fails braced_of (Braced.read m u) (block_at (suc m) u) d (block_reads m u) w)
 
   by_mark : (m : Mark) (t : Token) (ts : List Token) (r : Refusal) → t.kind ≡ kind.Mark m → ((s : Span) → stmt_at (suc n) (at m s ∷ ts) ≡ Err r → Refused (Can Statement) FailsNext n (at m s ∷ ts) r)
       → stmt_at (suc n) (t ∷ ts) ≡ Err r → Refused (Can Statement) FailsNext n (t ∷ ts) r
@@ -208,7 +197,7 @@ module _ (n : ℕ) (ih : IsRefused Statement n) where
   same_start t ts u c s h = ap (λ (o : Option TokenKind). on_head by.Nothing start_of o) (sym h) ∙ s
 
   next_refused : (c : Start) (t : Token) (ts : List Token) (r : Refusal) → start_of t.kind ≡ c → Fits c t.kind → stmt_at (suc n) (t ∷ ts) ≡ Err r → Refused (Can Statement) FailsNext n (t ∷ ts) r
-  next_refused by.Block t ts r s k = by_mark mark.BraceOpen t ts r k (λ s e. production_refused mark.BraceOpen BraceEnd block_of block_production n s brace_end_refused ts r e)
+  next_refused by.Block t ts r s k = by_mark mark.BraceOpen t ts r k (λ s e. production_refused mark.BraceOpen BraceEnd block_stmt_of block_production n s brace_end_refused ts r e)
   next_refused by.Empty t ts r s k = by_mark mark.Semicolon t ts r k (λ s e. production_refused mark.Semicolon Nothing empty_of empty_production n s (nothing_refused n) ts r e)
   next_refused by.Declare t ts r s k = λ e.
       made_refused DeclareStmt Statement declare_of [] FailsNext n (t ∷ ts) r (declare_stmt_refused n) (made_err declare_of (DeclareStmt.read n (t ∷ ts)) r (sym (declare_start n (t ∷ ts) s) ∙ e)) (λ a p i. declare_makes a p i)
@@ -222,15 +211,20 @@ module _ (n : ℕ) (ih : IsRefused Statement n) where
   next_refused (by.For f) t ts r s k = by_mark (for_mark f) t ts r k (λ s e. production_refused (for_mark f) ForLoop (for_of f) (for_production f) n s for_loop_refused ts r e)
   next_refused (by.Foreach f) t ts r s k = by_mark (foreach_mark f) t ts r k (λ s e. production_refused (foreach_mark f) Spreading (foreach_of f) (foreach_production f) n s spreading_refused ts r e)
   next_refused by.ForeachActive t ts r s k = by_mark mark.ForeachActive t ts r k (λ s e. production_refused mark.ForeachActive Activity active_of active_production n s activity_refused ts r e)
-  next_refused by.Unmasked t ts r s k = by_mark mark.Unmasked t ts r k (λ s e. production_refused mark.Unmasked Block unmasked_of unmasked_production n s block_refused ts r e)
+  next_refused by.Unmasked t ts r s k = by_mark mark.Unmasked t ts r k (λ s e. production_refused mark.Unmasked BlockForm unmasked_of unmasked_production n s blocks ts r e)
   next_refused (by.Jump j) t ts r s k = by_mark (jump_mark j) t ts r k (λ s e. production_refused (jump_mark j) (One mark.Semicolon) (jump_of j) (jump_production j) n s (one_refused mark.Semicolon n) ts r e)
   next_refused by.Return t ts r s k = by_mark mark.Return t ts r k (λ s e. production_refused mark.Return Returning return_of return_production n s (returning_refused n) ts r e)
   next_refused by.Print t ts r s k = by_mark mark.Print t ts r k (λ s e. production_refused mark.Print Printing print_of print_production n s (printing_refused n) ts r e)
-  next_refused by.Assert t ts r s k = by_mark mark.Assert t ts r k (λ s e. production_refused mark.Assert Tested assert_of assert_production n s (tested_refused n) ts r e)
+  next_refused by.Assert t ts r s k = by_mark mark.Assert t ts r k (λ s e. production_refused mark.Assert Asserting assert_of assert_production n s (asserting_refused n) ts r e)
   next_refused by.Nothing t ts r s k = λ e. next_off (t ∷ ts) r (ap is_start s) e
 
--- What a refusal of a statement means.
-pub stmt_refused : (n : ℕ) → IsRefused Statement n
-stmt_refused zero ts r e = limit_refused begins_stmt Statement stmt_limits ts r e
-stmt_refused (suc n) [] r e = raise n (Can Statement) (FailsForm Statement) [] r (next_off n (stmt_refused n) [] r refl e)
-stmt_refused (suc n) (t ∷ ts) r e = raise n (Can Statement) (FailsForm Statement) (t ∷ ts) r (next_refused n (stmt_refused n) (start_of t.kind) t ts r refl (start_fits t.kind) e)
+-- What a refusal of a statement or a block means.
+mutual
+  pub stmt_refused : (n : ℕ) → IsRefused Statement n
+  stmt_refused zero ts r e = limit_refused begins_stmt Statement stmt_limits ts r e
+  stmt_refused (suc n) [] r e = raise n (Can Statement) (FailsForm Statement) [] r (next_off n (stmt_refused n) (block_refused n) [] r refl e)
+  stmt_refused (suc n) (t ∷ ts) r e = raise n (Can Statement) (FailsForm Statement) (t ∷ ts) r (next_refused n (stmt_refused n) (block_refused n) (start_of t.kind) t ts r refl (start_fits t.kind) e)
+
+  pub block_refused : (n : ℕ) → IsRefused BlockForm n
+  block_refused zero ts r e = limit_refused (is_mark mark.BraceOpen) BlockForm block_limits ts r e
+  block_refused (suc n) ts r e = raise n (Can BlockForm) (FailsForm BlockForm) ts r (next_block_refused n (stmt_refused n) (block_refused n) ts r e)

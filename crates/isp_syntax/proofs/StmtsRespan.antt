@@ -7,14 +7,14 @@ use Rattle.isp_lex.specs.declared.token.Mark.TheVariants as mark
 use Rattle.isp_lex.specs.declared.token.Token.{Token}
 use Rattle.isp_syntax.proofs.ExprsRespan.{type_respan, expr_respan, exprs_respan}
 use Rattle.isp_syntax.proofs.SameKinds.{Same, same_none, same_first, same_one, same_split, same_before, same_around, moved, Respans, all_respan, listed_respan}
-use Rattle.isp_syntax.specs.Depth.{depth, depth_of_option, deepest_of, depth_of_item, depth_of_declaration, depth_of_simple, depth_of_first, depth_of_step, depth_of_range, depth_of_stmt, depth_of_stmts, depth_of_functions}
+use Rattle.isp_tree.specs.Depth.{depth, depth_of_option, deepest_of, depth_of_item, depth_of_declaration, depth_of_simple, depth_of_first, depth_of_step, depth_of_range, depth_of_stmt, depth_of_block, depth_of_stmts, depth_of_functions}
 use Rattle.isp_syntax.specs.Grammar.{IsMaybe, AreListed, AreBehindCommas, IsExpr, IsSize, is_number_size, is_count_size, IsItem, is_plain, is_with_value, is_with_size, span_of_last, IsDeclaration, is_declaration, IsSimple, is_value, is_assign, is_change_after, is_change_before, IsFirst, is_first_declare, is_first_simple, IsRange, is_range, is_open, IsBlock, is_braces, IsStmts, is_end, is_next, IsStmt, is_block, is_empty, is_declare, is_simple, is_if, is_if_else, is_while, is_do, is_for, is_foreach, is_foreach_active, is_unmasked, is_jump, is_return, is_print, is_assert, IsLinkage, is_linkage, IsParam, is_scalar, is_array, IsParams, is_none, is_void, is_some, IsFunction, is_function, IsProgram}
 use Rattle.isp_syntax.specs.Promise.{kinds}
 use Rattle.isp_syntax.specs.Signs.{word, numeral, textual, loosest, assignment_mark, change_mark, if_mark, while_mark, do_mark, for_mark, foreach_mark, jump_mark, linkage_mark, first_span}
-use Rattle.isp_syntax.specs.Tree.{span_of, Item, plain, with_value, with_size, Declaration, Simple, value, assign, change, span_of_simple, First, first_declare, first_simple, Range, Stmt, block, empty, declare, simple, if_then, if_else, loop_while, loop_do, loop_for, foreach, foreach_active, unmasked, jump, returning, print, assert, all, span_of_stmt, Param, Function}
-use Rattle.isp_syntax.specs.declared.tree.Size.{Size}
-use Rattle.isp_syntax.specs.declared.tree.Size.TheVariants as size
-use Rattle.isp_syntax.specs.declared.tree.Linkage.{Linkage}
+use Rattle.isp_tree.specs.Tree.{span_of, Item, plain, with_value, with_size, Declaration, Simple, value, assign, change, span_of_simple, First, first_declare, first_simple, Range, Stmt, block, empty, declare, simple, if_then, if_else, loop_while, loop_do, loop_for, foreach, foreach_active, unmasked, jump, returning, print, assert, all, Block, braces, span_of_block, span_of_stmt, Param, Function}
+use Rattle.isp_tree.specs.declared.stmt.Size.{Size}
+use Rattle.isp_tree.specs.declared.stmt.Size.TheVariants as size
+use Rattle.isp_tree.specs.declared.function.Linkage.{Linkage}
 
 maybe_respan : {A : Type 0} (is : List Token → A → Type 0) (deep : A → ℕ) → Respans is deep → Respans (IsMaybe is) (depth_of_option deep)
 maybe_respan is deep f ts None i us e = (None, same_none us (e ∙ ap kinds i), refl)
@@ -125,13 +125,13 @@ abbrev Moved : List Token → Stmt → Type 0
 Moved us x = (y : Stmt) × IsStmt us y × (depth_of_stmt y ≡ depth_of_stmt x) × (is_open y ≡ is_open x)
 
 mutual
-  block_respan : {ts : List Token} {x : Stmt} → IsBlock ts x → (us : List Token) → Same us ts → (y : Stmt) × IsBlock us y × (depth_of_stmt y ≡ depth_of_stmt x) × (is_open y ≡ is_open x)
+  block_respan : {ts : List Token} {x : Block} → IsBlock ts x → (us : List Token) → Same us ts → (y : Block) × IsBlock us y × (depth_of_block y ≡ depth_of_block x)
   block_respan (is_braces o c ts ss i) us e =
       let p = same_first (at mark.BraceOpen o) (ts ++ at mark.BraceClose c ∷ []) us e in
       let q = same_before ts (at mark.BraceClose c) p.1 p.3 in
       let y = stmts_respan i q.0 q.3 in
-      let z = block (all y.0) (span_to p.0 q.1) in
-      (z, subst (λ (l : List Token). IsBlock l z) (sym (p.2 ∙ ap (λ (l : List Token). at mark.BraceOpen p.0 ∷ l) q.2)) (is_braces p.0 q.1 q.0 y.0 y.1), ap suc y.2, refl)
+      let z = braces (all y.0) (span_to p.0 q.1) in
+      (z, subst (λ (l : List Token). IsBlock l z) (sym (p.2 ∙ ap (λ (l : List Token). at mark.BraceOpen p.0 ∷ l) q.2)) (is_braces p.0 q.1 q.0 y.0 y.1), ap suc y.2)
 
   stmts_respan : {ts : List Token} {xs : List Stmt} → IsStmts ts xs → (us : List Token) → Same us ts → (ys : List Stmt) × IsStmts us ys × (depth_of_stmts (all ys) ≡ depth_of_stmts (all xs))
   stmts_respan is_end us e = ([], subst (λ (l : List Token). IsStmts l []) (sym (same_none us e)) is_end, refl)
@@ -142,7 +142,7 @@ mutual
       (v.0 ∷ w.0, subst (λ (l : List Token). IsStmts l (v.0 ∷ w.0)) (sym p.2) (is_next p.0 p.1 v.0 w.0 v.1 w.1), rw (v.2, w.2) refl)
 
   stmt_respan : {ts : List Token} {x : Stmt} → IsStmt ts x → (us : List Token) → Same us ts → Moved us x
-  stmt_respan (is_block ts b i) us e = let y = block_respan i us e in (y.0, is_block us y.0 y.1, y.2, y.3)
+  stmt_respan (is_block ts b i) us e = let y = block_respan i us e in (block y.0, is_block us y.0 y.1, y.2, refl)
   stmt_respan (is_empty s) us e = let p = same_one (at mark.Semicolon s) us e in (empty p.0, subst (λ (l : List Token). IsStmt l (empty p.0)) (sym p.1) (is_empty p.0), refl, refl)
   stmt_respan (is_declare s ts d i) us e =
       let p = same_before ts (at mark.Semicolon s) us e in
@@ -224,7 +224,7 @@ mutual
   stmt_respan (is_unmasked u ts b i) us e =
       let p = same_first (at mark.Unmasked u) ts us e in
       let y = block_respan i p.1 p.3 in
-      let z = unmasked p.0 y.0 (span_to p.0 (span_of_stmt y.0)) in
+      let z = unmasked p.0 y.0 (span_to p.0 (span_of_block y.0)) in
       (z, subst (λ (l : List Token). IsStmt l z) (sym p.2) (is_unmasked p.0 p.1 y.0 y.1), ap suc y.2, refl)
   stmt_respan (is_jump j w s) us e =
       let p = same_first (at (jump_mark j) w) (at mark.Semicolon s ∷ []) us e in
@@ -253,7 +253,7 @@ mutual
       let q = in_brackets o c ts (at mark.Semicolon s ∷ []) p.1 p.3 in
       let m = same_one (at mark.Semicolon s) q.3 q.6 in
       let y = expr_respan i q.2 q.5 in
-      let z = assert y.0 (span_to p.0 m.0) in
+      let z = assert y.0 (span_to p.0 q.1) (span_to p.0 m.0) in
       let l = p.2 ∙ ap (λ (l : List Token). at mark.Assert p.0 ∷ l) (q.4 ∙ ap (λ (l : List Token). at mark.ParenOpen q.0 ∷ (q.2 ++ at mark.ParenClose q.1 ∷ l)) m.1) in
       (z, subst (λ (l : List Token). IsStmt l z) (sym l) (is_assert p.0 q.0 q.1 m.0 q.2 y.0 y.1), ap suc y.2, refl)
 
@@ -286,7 +286,7 @@ params_respan is_none us e = ([], subst (λ (l : List Token). IsParams l []) (sy
 params_respan (is_void v) us e = let p = same_one (at mark.Void v) us e in ([], subst (λ (l : List Token). IsParams l []) (sym p.1) (is_void p.0))
 params_respan (is_some ts ps i) us e = let y = listed_respan IsParam (λ p. 0) (λ ts x i us e. param_respan i us e) ts ps i us e in (y.0, is_some us y.0 y.1)
 
-function_respan : {ts : List Token} {x : Function} → IsFunction ts x → (us : List Token) → Same us ts → (y : Function) × IsFunction us y × (depth_of_stmt y.body ≡ depth_of_stmt x.body)
+function_respan : {ts : List Token} {x : Function} → IsFunction ts x → (us : List Token) → Same us ts → (y : Function) × IsFunction us y × (depth_of_block y.body ≡ depth_of_block x.body)
 function_respan (is_function o c ls ts ps bs linkages t w params b i j k l) us e =
     let back : List Token = ps ++ at mark.ParenClose c ∷ bs in
     let p = same_split ls (ts ++ word w ∷ at mark.ParenOpen o ∷ back) us e in
@@ -297,10 +297,10 @@ function_respan (is_function o c ls ts ps bs linkages t w params b i j k l) us e
     let m = params_respan k r.2 r.5 in
     let n = block_respan l r.3 r.6 in
     let v = moved w q.1 in
-    let z : Function = record { linkages = a.0; answer = u.0; word = v; params = m.0; body = n.0; span = span_to (first_span (p.0 ++ q.0)) (span_of_stmt n.0) } in
+    let z : Function = record { linkages = a.0; answer = u.0; word = v; params = m.0; body = n.0; span = span_to (first_span (p.0 ++ q.0)) (span_of_block n.0) } in
     let s = p.2 ∙ ap (λ (l : List Token). p.0 ++ l) (q.3 ∙ ap (λ (l : List Token). q.0 ++ word v ∷ l) r.4) in
     (z, subst (λ (l : List Token). IsFunction l z) (sym s) (is_function r.0 r.1 p.0 q.0 r.2 r.3 a.0 u.0 v m.0 n.0 a.1 u.1 m.1 n.1), n.2)
 
 -- Tokens of the same kinds as a program's are a program of the same depth.
 pub program_respan : (ts : List Token) (fs : List Function) → IsProgram ts fs → (us : List Token) → Same us ts → (gs : List Function) × IsProgram us gs × (depth_of_functions gs ≡ depth_of_functions fs)
-program_respan ts fs i us e = all_respan IsFunction (λ f. depth_of_stmt f.body) (λ ts x i us e. function_respan i us e) ts fs i us e
+program_respan ts fs i us e = all_respan IsFunction (λ f. depth_of_block f.body) (λ ts x i us e. function_respan i us e) ts fs i us e

@@ -13,33 +13,33 @@ use Rattle.isp_lex.specs.declared.token.Token.{Token}
 use Rattle.isp_syntax.proofs.Basics.{token, ok_is, err_ok, chosen}
 use Rattle.isp_syntax.proofs.Choices.{nowhere, limit_reads_none}
 use Rattle.isp_syntax.proofs.Declarations.{Declaring, declaration_sound, declaration_end}
-use Rattle.isp_syntax.proofs.Forms.{Found, IsSound, Can, One, one_sound, Free, Follows, follows, both_sound, one_then, behind_is, is_behind, then_one, made_sound, optional_sound, until_sound}
+use Rattle.isp_syntax.proofs.Forms.{Found, IsSound, Can, One, one_sound, Free, Follows, follows, both_sound, one_then, behind_is, is_behind, then_one, is_before, made_sound, optional_sound, until_sound}
 use Rattle.isp_syntax.proofs.Ranges.{RangesHead, ranges_head_sound, ActiveHead, active_head_sound, Texts, text_sound, Values, values_sound}
 use Rattle.isp_syntax.proofs.Simples.{SimpleParts, simple_sound, simple_starts, simple_deep}
 use Rattle.isp_syntax.proofs.Starts.{Fits, start_fits, starts_off}
-use Rattle.isp_syntax.proofs.StmtParts.{declaration_starts, Test, test_sound, some_test, MaybeTest, maybe_test_sound, test_maybe_ends, simple_semicolon, HeadParts, head_sound}
-use Rattle.isp_syntax.proofs.StmtReads.{production_sound, block_production, empty_production, if_production, while_production, do_production, for_production, foreach_production, active_production, unmasked_production, jump_production, return_production, print_production, assert_production, declare_reads, simple_stmt_reads, empty_of}
-use Rattle.isp_syntax.proofs.Stmts.{EndsStmt, Statement, some_stmt, Nothing, Several, BraceEnd, brace_then, block_of, Block, Else, FitsElse, Branches, Conditional, if_of, Looping, while_of, Tested, DoEnd, Doing, do_of, ForLoop, for_of, Spreading, foreach_of, Activity, active_of, unmasked_of, DeclareStmt, declare_of, declare_makes, SimpleStmt, simple_of, simple_stmt_makes, jump_of, Returning, return_of, PrintEnd, PrintValues, PrintText, Printing, print_of, assert_of}
+use Rattle.isp_syntax.proofs.StmtParts.{declaration_starts, Test, test_sound, some_test, ClosedTest, closed_test_sound, MaybeTest, maybe_test_sound, test_maybe_ends, simple_semicolon, HeadParts, head_sound}
+use Rattle.isp_syntax.proofs.StmtReads.{production_sound, block_stmt_of, block_production, empty_production, if_production, while_production, do_production, for_production, foreach_production, active_production, unmasked_production, jump_production, return_production, print_production, assert_production, declare_reads, simple_stmt_reads, empty_of}
+use Rattle.isp_syntax.proofs.Stmts.{EndsStmt, Statement, some_stmt, Nothing, Several, BraceEnd, brace_then, block_deep, Braced, braced_of, braced_makes, BlockForm, block_reads, Else, FitsElse, Branches, Conditional, if_of, Looping, while_of, Tested, DoEnd, Doing, do_of, ForLoop, for_of, Spreading, foreach_of, Activity, active_of, unmasked_of, DeclareStmt, declare_of, declare_makes, SimpleStmt, simple_of, simple_stmt_makes, jump_of, Returning, return_of, PrintEnd, PrintValues, PrintText, Printing, print_of, Asserting, assert_of}
 use Rattle.isp_syntax.proofs.Wrapped.{after_sound}
 use Rattle.isp_syntax.specs.Grammar.{is_open, IsBlock, is_braces, IsStmt, is_block, is_empty, is_declare, is_simple, is_if, is_if_else, is_while, is_do, is_for, is_foreach, is_foreach_active, is_unmasked, is_jump, is_return, is_print, is_assert}
 use Rattle.isp_syntax.proofs.Simples.{simple_unmakes}
-use Rattle.isp_syntax.specs.Reading.{Reader, refuse, optional, optional_from}
-use Rattle.isp_syntax.specs.ReadingExprs.{begins_expr}
-use Rattle.isp_syntax.specs.ReadingStarts.{start_of, begins_stmt}
-use Rattle.isp_syntax.specs.ReadingStmts.{is_change, block_at, stmt_from, stmt_by, stmt_at}
-use Rattle.isp_syntax.specs.ReadingTypes.{begins_type}
+use Rattle.isp_syntax.specs.reader.Readers.{Reader, refuse, optional, optional_from}
+use Rattle.isp_syntax.specs.reader.Exprs.{begins_expr}
+use Rattle.isp_syntax.specs.reader.Starts.{start_of, begins_stmt}
+use Rattle.isp_syntax.specs.reader.Stmts.{is_change, block_at, stmt_from, stmt_by, stmt_at}
+use Rattle.isp_syntax.specs.reader.Types.{begins_type}
 use Rattle.isp_syntax.specs.Signs.{if_mark, while_mark, do_mark, for_mark, foreach_mark, jump_mark}
-use Rattle.isp_syntax.specs.Tree.{Stmt}
+use Rattle.isp_tree.specs.Tree.{Stmt, Block}
 use Rattle.isp_syntax.specs.declared.start.Start.{Start}
 use Rattle.isp_syntax.specs.declared.start.Start.TheVariants as by
 use Rattle.isp_syntax.specs.declared.stop.Why.TheVariants.{Unexpected}
 use Rattle.isp_syntax.specs.declared.stop.Refusal.{Refusal}
-use Rattle.isp_syntax.specs.declared.tree.Form.{Form as Shape}
-use Rattle.isp_syntax.specs.declared.tree.Form.TheVariants as shape
-use Rattle.isp_syntax.specs.declared.tree.Tiling.{Tiling}
-use Rattle.isp_syntax.specs.declared.tree.Tiling.TheVariants as tiling
-use Rattle.isp_syntax.specs.declared.tree.Jump.{Jump}
-use Rattle.isp_syntax.specs.declared.tree.Jump.TheVariants.{Break, Continue}
+use Rattle.isp_tree.specs.declared.stmt.Form.{Form as Shape}
+use Rattle.isp_tree.specs.declared.stmt.Form.TheVariants as shape
+use Rattle.isp_tree.specs.declared.stmt.Tiling.{Tiling}
+use Rattle.isp_tree.specs.declared.stmt.Tiling.TheVariants as tiling
+use Rattle.isp_tree.specs.declared.stmt.Jump.{Jump}
+use Rattle.isp_tree.specs.declared.stmt.Jump.TheVariants.{Break, Continue}
 use Rattle.isp_syntax.proofs.Basics.{ok_err}
 
 -- ---- `else`
@@ -111,6 +111,12 @@ simple_then = then_one SimpleParts mark.Semicolon simple_semicolon
 pub return_then : Follows MaybeTest (One mark.Semicolon) Free
 return_then = then_one MaybeTest mark.Semicolon test_maybe_ends
 
+pub asserted_then : Follows ClosedTest (One mark.Semicolon) Free
+asserted_then = then_one ClosedTest mark.Semicolon (λ x s rest. tt)
+
+pub brace_behind : Follows (One mark.BraceOpen) BraceEnd Free
+brace_behind = one_then mark.BraceOpen BraceEnd (at mark.BraceClose nowhere ∷ []) (([], nowhere), is_before Several mark.BraceClose [] [] nowhere refl)
+
 some_print_end : Can PrintEnd (at mark.ParenClose nowhere ∷ at mark.Semicolon nowhere ∷ [])
 some_print_end = ((nowhere, nowhere), is_behind mark.ParenClose (One mark.Semicolon) nowhere (at mark.Semicolon nowhere ∷ []) nowhere refl)
 
@@ -144,6 +150,7 @@ pub record Foreign (m : Mark) : Type 0 where
   pub type : begins_type (kind.Mark m) ≡ false
   pub expr : begins_expr (kind.Mark m) ≡ false
   pub change : is_change (kind.Mark m) ≡ false
+  pub brace : is_mark m (kind.Mark mark.BraceOpen) ≡ false
   pub semicolon : is_mark m (kind.Mark mark.Semicolon) ≡ false
   pub an_if : (f : Shape) → is_mark m (kind.Mark (if_mark f)) ≡ false
   pub a_while : (f : Shape) → is_mark m (kind.Mark (while_mark f)) ≡ false
@@ -157,30 +164,33 @@ pub record Foreign (m : Mark) : Type 0 where
   pub a_print : is_mark m (kind.Mark mark.Print) ≡ false
   pub an_assert : is_mark m (kind.Mark mark.Assert) ≡ false
 
--- what begins with such a mark is a block
-pub only_block : (m : Mark) → Foreign m → {ts : List Token} {s : Stmt} → IsStmt ts s → (rest : List Token) → (IsBlock ts s) ⊎ (starts_with m (ts ++ rest) ≡ false)
-only_block m f (is_block ts b i) rest = inl i
-only_block m f (is_empty e) rest = inr f.semicolon
-only_block m f (is_declare e ts d i) rest =
-    inr (ap (λ (l : List Token). starts_with m l) (append_assoc ts (at mark.Semicolon e ∷ []) rest) ∙ starts_off m begins_type f.type (ts ++ at mark.Semicolon e ∷ rest) (declaration_starts i (at mark.Semicolon e ∷ rest)))
-only_block m f (is_simple e ts p i) rest =
+block_off : (m : Mark) → is_mark m (kind.Mark mark.BraceOpen) ≡ false → {ts : List Token} {b : Block} → IsBlock ts b → (rest : List Token) → starts_with m (ts ++ rest) ≡ false
+block_off m f (is_braces o c ts ss i) rest = f
+
+-- no statement begins with such a mark
+pub stmt_off_mark : (m : Mark) → Foreign m → {ts : List Token} {s : Stmt} → IsStmt ts s → (rest : List Token) → starts_with m (ts ++ rest) ≡ false
+stmt_off_mark m f (is_block ts b i) rest = block_off m f.brace i rest
+stmt_off_mark m f (is_empty e) rest = f.semicolon
+stmt_off_mark m f (is_declare e ts d i) rest =
+    ap (λ (l : List Token). starts_with m l) (append_assoc ts (at mark.Semicolon e ∷ []) rest) ∙ starts_off m begins_type f.type (ts ++ at mark.Semicolon e ∷ rest) (declaration_starts i (at mark.Semicolon e ∷ rest))
+stmt_off_mark m f (is_simple e ts p i) rest =
     let q = simple_unmakes i in
-    inr (ap (λ (l : List Token). starts_with m l) (append_assoc ts (at mark.Semicolon e ∷ []) rest) ∙ (elim (simple_starts ts q.0 (at mark.Semicolon e ∷ rest) q.1) [
+    ap (λ (l : List Token). starts_with m l) (append_assoc ts (at mark.Semicolon e ∷ []) rest) ∙ (elim (simple_starts ts q.0 (at mark.Semicolon e ∷ rest) q.1) [
       | inl b ↦ starts_off m begins_expr f.expr (ts ++ at mark.Semicolon e ∷ rest) b
       | inr b ↦ starts_off m is_change f.change (ts ++ at mark.Semicolon e ∷ rest) b
-    ]))
-only_block m f (is_if g i o c ts a x s j k) rest = inr (f.an_if g)
-only_block m f (is_if_else g i o c e ts a b x s t j k l n) rest = inr (f.an_if g)
-only_block m f (is_while g w o c ts a x s j k) rest = inr (f.a_while g)
-only_block m f (is_do g d w o c e a ts s x i j) rest = inr (f.a_do g)
-only_block m f (is_for g w o d e c is ts us a i x p s j k l n) rest = inr (f.a_for g)
-only_block m f (is_foreach t w o c ts a rs s i j k) rest = inr (f.a_foreach t)
-only_block m f (is_foreach_active g o c w a s i) rest = inr f.active
-only_block m f (is_unmasked u ts b i) rest = inr f.an_unmasked
-only_block m f (is_jump j w e) rest = inr (f.a_jump j)
-only_block m f (is_return w e ts x i) rest = inr f.a_return
-only_block m f (is_print w o p c e t ts xs i) rest = inr f.a_print
-only_block m f (is_assert w o c e ts x i) rest = inr f.an_assert
+    ])
+stmt_off_mark m f (is_if g i o c ts a x s j k) rest = f.an_if g
+stmt_off_mark m f (is_if_else g i o c e ts a b x s t j k l n) rest = f.an_if g
+stmt_off_mark m f (is_while g w o c ts a x s j k) rest = f.a_while g
+stmt_off_mark m f (is_do g d w o c e a ts s x i j) rest = f.a_do g
+stmt_off_mark m f (is_for g w o d e c is ts us a i x p s j k l n) rest = f.a_for g
+stmt_off_mark m f (is_foreach t w o c ts a rs s i j k) rest = f.a_foreach t
+stmt_off_mark m f (is_foreach_active g o c w a s i) rest = f.active
+stmt_off_mark m f (is_unmasked u ts b i) rest = f.an_unmasked
+stmt_off_mark m f (is_jump j w e) rest = f.a_jump j
+stmt_off_mark m f (is_return w e ts x i) rest = f.a_return
+stmt_off_mark m f (is_print w o p c e t ts xs i) rest = f.a_print
+stmt_off_mark m f (is_assert w o c e ts x i) rest = f.an_assert
 
 form_off : (m : Mark) (g : Shape → Mark) → is_mark m (kind.Mark (g shape.Plain)) ≡ false → is_mark m (kind.Mark (g shape.Coherent)) ≡ false → (f : Shape) → is_mark m (kind.Mark (g f)) ≡ false
 form_off m g a b shape.Plain = a
@@ -194,30 +204,12 @@ jump_off : (m : Mark) (g : Jump → Mark) → is_mark m (kind.Mark (g Break)) �
 jump_off m g a b Break = a
 jump_off m g a b Continue = b
 
-brace_foreign : Foreign mark.BraceOpen
-brace_foreign = record {
-  type = refl;
-  expr = refl;
-  change = refl;
-  semicolon = refl;
-  an_if = form_off mark.BraceOpen if_mark refl refl;
-  a_while = form_off mark.BraceOpen while_mark refl refl;
-  a_do = form_off mark.BraceOpen do_mark refl refl;
-  a_for = form_off mark.BraceOpen for_mark refl refl;
-  a_foreach = tiling_off mark.BraceOpen foreach_mark refl refl;
-  active = refl;
-  an_unmasked = refl;
-  a_jump = jump_off mark.BraceOpen jump_mark refl refl;
-  a_return = refl;
-  a_print = refl;
-  an_assert = refl;
-}
-
 pub brace_close_foreign : Foreign mark.BraceClose
 brace_close_foreign = record {
   type = refl;
   expr = refl;
   change = refl;
+  brace = refl;
   semicolon = refl;
   an_if = form_off mark.BraceClose if_mark refl refl;
   a_while = form_off mark.BraceClose while_mark refl refl;
@@ -237,6 +229,7 @@ else_foreign = record {
   type = refl;
   expr = refl;
   change = refl;
+  brace = refl;
   semicolon = refl;
   an_if = form_off mark.Else if_mark refl refl;
   a_while = form_off mark.Else while_mark refl refl;
@@ -251,26 +244,9 @@ else_foreign = record {
   an_assert = refl;
 }
 
-block_off : (m : Mark) → is_mark m (kind.Mark mark.BraceOpen) ≡ false → {ts : List Token} {b : Stmt} → IsBlock ts b → (rest : List Token) → starts_with m (ts ++ rest) ≡ false
-block_off m f (is_braces o c ts ss i) rest = f
-
-pub block_closed : {ts : List Token} {b : Stmt} → IsBlock ts b → is_open b ≡ false
-block_closed (is_braces o c ts ss i) = refl
-
-pub block_starts : {ts : List Token} {b : Stmt} → IsBlock ts b → (rest : List Token) → starts_with mark.BraceOpen (ts ++ rest) ≡ true
-block_starts (is_braces o c ts ss i) rest = refl
-
--- no statement begins with a closing brace or `else`
-pub stmt_off_mark : (m : Mark) → Foreign m → is_mark m (kind.Mark mark.BraceOpen) ≡ false → {ts : List Token} {s : Stmt} → IsStmt ts s → (rest : List Token) → starts_with m (ts ++ rest) ≡ false
-stmt_off_mark m f b i rest = elim (only_block m f i rest) [ inl j ↦ block_off m b j rest | inr e ↦ e ]
-
--- a statement that begins with a brace is a block
-pub is_only_block : {ts : List Token} {s : Stmt} → IsStmt ts s → (rest : List Token) → starts_with mark.BraceOpen (ts ++ rest) ≡ true → IsBlock ts s
-is_only_block i rest e = elim (only_block mark.BraceOpen brace_foreign i rest) [ inl j ↦ j | inr n ↦ absurd (false≢true (sym n ∙ e)) ]
-
 -- ---- sound
 
-module _ (n : ℕ) (ih : IsSound Statement n) where
+module _ (n : ℕ) (ih : IsSound Statement n) (blocks : IsSound BlockForm n) where
   pub several_sound : IsSound Several n
   several_sound = until_sound Statement mark.BraceClose n ih
 
@@ -298,18 +274,14 @@ module _ (n : ℕ) (ih : IsSound Statement n) where
   nothing_sound ts x rest e =
       subst (λ (z : ⊤ × List Token). Found Nothing n ts z.0 z.1) (ok_is e) (record { used = []; split = refl; is = refl; shallow = omega arith; ends = tt })
 
-  block_from_sound : (ts : List Token) (y : Stmt) (rest : List Token) → starts_with mark.BraceOpen ts ≡ true → stmt_at n ts ≡ Ok (y, rest) → Found Block n ts y rest
-  block_from_sound ts y rest s e =
-      let x = ih ts y rest e in
-      record { used = x.used; split = x.split; is = is_only_block x.is rest (subst (λ (l : List Token). starts_with mark.BraceOpen l ≡ true) x.split s); shallow = x.shallow; ends = tt }
+  asserting_sound : IsSound Asserting n
+  asserting_sound = both_sound ClosedTest (One mark.Semicolon) Free asserted_then n (closed_test_sound n) (one_sound mark.Semicolon n)
 
-  pub block_sound : IsSound Block n
-  unfolding block_at
-  block_sound ts y rest e =
-      elim (chosen (starts_with mark.BraceOpen ts) (stmt_at n ts) (refuse Unexpected ts) (Ok (y, rest)) e) [
-        | inl p ↦ block_from_sound ts y rest p.0 p.1
-        | inr p ↦ absurd (err_ok p.1)
-      ]
+  next_block_sound : IsSound BlockForm (suc n)
+  next_block_sound ts y rest e =
+      made_sound Braced BlockForm braced_of [] n (suc n) (block_at (suc n)) ts (block_reads n ts)
+      (both_sound (One mark.BraceOpen) BraceEnd Free brace_behind n (one_sound mark.BraceOpen n) brace_end_sound)
+      (λ a p i. braced_makes a p i) (λ p le. omega (arith, le, block_deep p.0 p.1)) (λ p rest h. tt) y rest e
 
   by_mark : (m : Mark) (t : Token) (ts : List Token) (y : Stmt) (rest : List Token) → t.kind ≡ kind.Mark m → ((s : Span) → stmt_at (suc n) (at m s ∷ ts) ≡ Ok (y, rest) → Found Statement (suc n) (at m s ∷ ts) y rest)
       → stmt_at (suc n) (t ∷ ts) ≡ Ok (y, rest) → Found Statement (suc n) (t ∷ ts) y rest
@@ -318,7 +290,7 @@ module _ (n : ℕ) (ih : IsSound Statement n) where
 
   next_sound : (c : Start) (t : Token) (ts : List Token) (y : Stmt) (rest : List Token) → start_of t.kind ≡ c → Fits c t.kind → stmt_at (suc n) (t ∷ ts) ≡ Ok (y, rest) → Found Statement (suc n) (t ∷ ts) y rest
   unfolding stmt_at stmt_by
-  next_sound by.Block t ts y rest s k = by_mark mark.BraceOpen t ts y rest k (λ s e. production_sound mark.BraceOpen BraceEnd block_of block_production n s brace_end_sound ts y rest e)
+  next_sound by.Block t ts y rest s k = by_mark mark.BraceOpen t ts y rest k (λ s e. production_sound mark.BraceOpen BraceEnd block_stmt_of block_production n s brace_end_sound ts y rest e)
   next_sound by.Empty t ts y rest s k = by_mark mark.Semicolon t ts y rest k (λ s e. production_sound mark.Semicolon Nothing empty_of empty_production n s nothing_sound ts y rest e)
   next_sound by.Declare t ts y rest s k = λ e.
       made_sound DeclareStmt Statement declare_of [] n (suc n) (stmt_at (suc n)) (t ∷ ts) (declare_reads n t ts s) (both_sound Declaring (One mark.Semicolon) Free declare_then n (declaration_sound n) (one_sound mark.Semicolon n))
@@ -335,17 +307,23 @@ module _ (n : ℕ) (ih : IsSound Statement n) where
       by_mark (foreach_mark f) t ts y rest k (λ s e. production_sound (foreach_mark f) Spreading (foreach_of f) (foreach_production f) n s (both_sound RangesHead Statement Free foreach_then n (ranges_head_sound n) ih) ts y rest e)
   next_sound by.ForeachActive t ts y rest s k =
       by_mark mark.ForeachActive t ts y rest k (λ s e. production_sound mark.ForeachActive Activity active_of active_production n s (both_sound ActiveHead Statement Free active_then n (active_head_sound n) ih) ts y rest e)
-  next_sound by.Unmasked t ts y rest s k = by_mark mark.Unmasked t ts y rest k (λ s e. production_sound mark.Unmasked Block unmasked_of unmasked_production n s block_sound ts y rest e)
+  next_sound by.Unmasked t ts y rest s k = by_mark mark.Unmasked t ts y rest k (λ s e. production_sound mark.Unmasked BlockForm unmasked_of unmasked_production n s blocks ts y rest e)
   next_sound (by.Jump j) t ts y rest s k = by_mark (jump_mark j) t ts y rest k (λ s e. production_sound (jump_mark j) (One mark.Semicolon) (jump_of j) (jump_production j) n s (one_sound mark.Semicolon n) ts y rest e)
   next_sound by.Return t ts y rest s k =
       by_mark mark.Return t ts y rest k (λ s e. production_sound mark.Return Returning return_of return_production n s (both_sound MaybeTest (One mark.Semicolon) Free return_then n (maybe_test_sound n) (one_sound mark.Semicolon n)) ts y rest e)
   next_sound by.Print t ts y rest s k = by_mark mark.Print t ts y rest k (λ s e. production_sound mark.Print Printing print_of print_production n s printing_sound ts y rest e)
-  next_sound by.Assert t ts y rest s k = by_mark mark.Assert t ts y rest k (λ s e. production_sound mark.Assert Tested assert_of assert_production n s tested_sound ts y rest e)
-  next_sound by.Nothing t ts y rest s k = λ e. absurd (err_ok (subst (λ (c : Start). stmt_from (stmt_at n) n c t ts ≡ Ok (y, rest)) s e))
+  next_sound by.Assert t ts y rest s k = by_mark mark.Assert t ts y rest k (λ s e. production_sound mark.Assert Asserting assert_of assert_production n s asserting_sound ts y rest e)
+  next_sound by.Nothing t ts y rest s k = λ e. absurd (err_ok (subst (λ (c : Start). stmt_from (stmt_at n) (block_at n) n c t ts ≡ Ok (y, rest)) s e))
 
--- What is read at a depth is a statement, no deeper.
-pub stmt_sound : (n : ℕ) → IsSound Statement n
-unfolding stmt_at stmt_by
-stmt_sound zero ts y rest e = absurd (limit_reads_none begins_stmt ts y rest e)
-stmt_sound (suc n) [] y rest e = absurd (err_ok e)
-stmt_sound (suc n) (t ∷ ts) y rest e = next_sound n (stmt_sound n) (start_of t.kind) t ts y rest refl (start_fits t.kind) e
+-- What is read at a depth is a statement or a block, no deeper.
+mutual
+  unfolding stmt_at stmt_by block_at
+
+  pub stmt_sound : (n : ℕ) → IsSound Statement n
+  stmt_sound zero ts y rest e = absurd (limit_reads_none begins_stmt ts y rest e)
+  stmt_sound (suc n) [] y rest e = absurd (err_ok e)
+  stmt_sound (suc n) (t ∷ ts) y rest e = next_sound n (stmt_sound n) (block_sound n) (start_of t.kind) t ts y rest refl (start_fits t.kind) e
+
+  pub block_sound : (n : ℕ) → IsSound BlockForm n
+  block_sound zero ts y rest e = absurd (limit_reads_none (is_mark mark.BraceOpen) ts y rest e)
+  block_sound (suc n) ts y rest e = next_block_sound n (stmt_sound n) (block_sound n) ts y rest e

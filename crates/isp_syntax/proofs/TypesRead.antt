@@ -15,16 +15,17 @@ use Rattle.isp_syntax.proofs.Forms.{Form, Found, IsSound, IsComplete, Can}
 use Rattle.isp_syntax.proofs.FormsComplete.{EndsByHead}
 use Rattle.isp_syntax.proofs.Refused.{Refused, FailsForm, IsRefused}
 use Rattle.isp_syntax.specs.Grammar.{AreAll, IsQualifier, is_qualifier, IsType, is_based, is_signed}
-use Rattle.isp_syntax.specs.Reading.{refuse, head, on_head}
-use Rattle.isp_syntax.specs.ReadingTypes.{type_word_of, is_type_word, begins_type, type_end, type_by, type_more, type_at, type_word_at}
-use Rattle.isp_syntax.specs.Signs.{qualifier_mark, is_sign, has_sign, base_mark, first_span, last_span, spread}
-use Rattle.isp_syntax.specs.Tree.{TypeTree}
+use Rattle.isp_syntax.specs.reader.Readers.{refuse, head, on_head}
+use Rattle.isp_syntax.specs.reader.Types.{type_word_of, is_type_word, begins_type, type_end, type_by, type_more, type_at, type_word_at}
+use Rattle.isp_syntax.specs.Signs.{qualifier_mark, base_mark, first_span, last_span, spread}
+use Rattle.isp_tree.specs.Tree.{is_sign, has_sign}
+use Rattle.isp_tree.specs.Tree.{TypeTree}
 use Rattle.isp_syntax.specs.declared.stop.Why.TheVariants.{Unexpected}
 use Rattle.isp_syntax.specs.declared.stop.Refusal.{Refusal}
-use Rattle.isp_syntax.specs.declared.tree.Qualifier.{Qualifier}
-use Rattle.isp_syntax.specs.declared.tree.Qualifier.TheVariants as qualifier
-use Rattle.isp_syntax.specs.declared.tree.Base.{Base}
-use Rattle.isp_syntax.specs.declared.tree.Base.TheVariants as base
+use Rattle.isp_tree.specs.declared.types.Qualifier.{Qualifier}
+use Rattle.isp_tree.specs.declared.types.Qualifier.TheVariants as qualifier
+use Rattle.isp_tree.specs.declared.types.Base.{Base}
+use Rattle.isp_tree.specs.declared.types.Base.TheVariants as base
 use Rattle.isp_syntax.specs.declared.types.TypeWord.{TypeWord}
 use Rattle.isp_syntax.specs.declared.types.TypeWord.TheVariants as by
 

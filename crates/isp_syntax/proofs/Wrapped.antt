@@ -9,7 +9,7 @@ use Rattle.isp_syntax.proofs.Choices.{nowhere, Makes, makes_sound, makes_complet
 use Rattle.isp_syntax.proofs.Forms.{Form, IsSound, IsComplete, Can, One, one_sound, one_complete, Free, Follows, both_sound, both_complete, Behind, one_then, behind_is, is_behind, Before, then_one, before_is, is_before}
 use Rattle.isp_syntax.proofs.FormsComplete.{EndsByHead, one_by_head}
 use Rattle.isp_syntax.proofs.Refused.{IsRefused, one_refused, both_refused}
-use Rattle.isp_syntax.specs.Reading.{◌>>=◌, both, mark_at}
+use Rattle.isp_syntax.specs.reader.Readers.{◌>>=◌, both, mark_at}
 
 -- ---- behind a mark
 

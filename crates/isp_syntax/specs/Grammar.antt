@@ -1,4 +1,5 @@
--- The grammar: which tokens are which tree. One constructor a production.
+-- The grammar: which tokens are which tree. One constructor a production, which stands above it. Signs and reserved
+-- words stand in quotes, `{ }` is repetition, `[ ]` is optional.
 use Rattle.std.specs.Prelude.{◌≡◌, ℕ, zero, suc, ◌≤◌, List, [], ◌∷◌, ◌++◌, length, Bool, true, false, Option, Some, None}
 use Rattle.isp_base.specs.Types.{span_to}
 use Rattle.isp_base.specs.declared.types.Span.{Span}
@@ -6,21 +7,23 @@ use Rattle.isp_base.specs.declared.types.Value.{Value}
 use Rattle.isp_lex.specs.Tokens.{at}
 use Rattle.isp_lex.specs.declared.token.Mark.TheVariants as mark
 use Rattle.isp_lex.specs.declared.token.Token.{Token}
-use Rattle.isp_syntax.specs.Signs.{word, numeral, textual, qualifier_mark, has_sign, base_mark, truth_mark, prefix_mark, sign, level, joined_level, loosest, assignment_mark, change_mark, if_mark, while_mark, do_mark, for_mark, foreach_mark, jump_mark, linkage_mark, first_span, spread}
-use Rattle.isp_syntax.specs.Tree.{TypeTree, Expr, number, truth, program_index, program_count, name, item, call, reference, brackets, cast, prefix, binary, choose, listed, span_of, Item, plain, with_value, with_size, span_of_item, Declaration, Simple, value, assign, change, span_of_simple, First, first_declare, first_simple, Range, Stmt, block, empty, declare, simple, if_then, if_else, loop_while, loop_do, loop_for, foreach, foreach_active, unmasked, jump, returning, print, assert, all, span_of_stmt, Param, Function}
-use Rattle.isp_syntax.specs.declared.tree.Word.{Word}
-use Rattle.isp_syntax.specs.declared.tree.Qualifier.{Qualifier}
-use Rattle.isp_syntax.specs.declared.tree.Base.{Base}
-use Rattle.isp_syntax.specs.declared.tree.Prefix.{Prefix}
-use Rattle.isp_syntax.specs.declared.tree.Operator.{Operator}
-use Rattle.isp_syntax.specs.declared.tree.Size.{Size}
-use Rattle.isp_syntax.specs.declared.tree.Size.TheVariants as size
-use Rattle.isp_syntax.specs.declared.tree.Assignment.{Assignment}
-use Rattle.isp_syntax.specs.declared.tree.Change.{Change}
-use Rattle.isp_syntax.specs.declared.tree.Form.{Form}
-use Rattle.isp_syntax.specs.declared.tree.Tiling.{Tiling}
-use Rattle.isp_syntax.specs.declared.tree.Jump.{Jump}
-use Rattle.isp_syntax.specs.declared.tree.Linkage.{Linkage}
+use Rattle.isp_syntax.specs.Signs.{word, numeral, textual, qualifier_mark, base_mark, truth_mark, prefix_mark, sign, level, joined_level, loosest, assignment_mark, change_mark, if_mark, while_mark, do_mark, for_mark, foreach_mark, jump_mark, linkage_mark, first_span, spread}
+use Rattle.isp_tree.specs.Tree.{TypeTree, has_sign, Expr, number, truth, program_index, program_count, place, call, brackets, cast, prefix, binary, choose, Place, variable, element, Argument, by_value, by_reference, listed, span_of, span_of_place}
+use Rattle.isp_tree.specs.Tree.{Item, plain, with_value, with_size, span_of_item, Declaration, Simple, value, assign, change, span_of_simple, First, first_declare, first_simple, Range}
+use Rattle.isp_tree.specs.Tree.{Stmt, block, empty, declare, simple, if_then, if_else, loop_while, loop_do, loop_for, foreach, foreach_active, unmasked, jump, returning, print, assert, Block, braces, all, span_of_block, span_of_stmt, Param, Function}
+use Rattle.isp_tree.specs.declared.types.Word.{Word}
+use Rattle.isp_tree.specs.declared.types.Qualifier.{Qualifier}
+use Rattle.isp_tree.specs.declared.types.Base.{Base}
+use Rattle.isp_tree.specs.declared.expr.Prefix.{Prefix}
+use Rattle.isp_tree.specs.declared.expr.Operator.{Operator}
+use Rattle.isp_tree.specs.declared.stmt.Size.{Size}
+use Rattle.isp_tree.specs.declared.stmt.Size.TheVariants as size
+use Rattle.isp_tree.specs.declared.stmt.Assignment.{Assignment}
+use Rattle.isp_tree.specs.declared.stmt.Change.{Change}
+use Rattle.isp_tree.specs.declared.stmt.Form.{Form}
+use Rattle.isp_tree.specs.declared.stmt.Tiling.{Tiling}
+use Rattle.isp_tree.specs.declared.stmt.Jump.{Jump}
+use Rattle.isp_tree.specs.declared.function.Linkage.{Linkage}
 
 -- ---- repetition
 
@@ -46,63 +49,131 @@ AreBehindCommas is = AreAll (λ ts x. (s : Span) × (a : List Token) × (ts ≡ 
 
 -- ---- types
 
+-- a qualifier: "const" | "uniform" | "varying" | "signed" | "unsigned"
 pub data IsQualifier : List Token → Qualifier → Type 0 where
-  is_qualifier : (q : Qualifier) (s : Span) → IsQualifier (at (qualifier_mark q) s ∷ []) q
+  is_qualifier : (qualifier : Qualifier) (place : Span) → IsQualifier (at (qualifier_mark qualifier) place ∷ []) qualifier
 
--- A type ends in its base, which may be left out where `signed` or `unsigned` stands.
+-- type = { qualifier } [ base ], without a base only where `signed` or `unsigned` stands
 pub data IsType : List Token → TypeTree → Type 0 where
-  is_based : (b : Base) (s : Span) (ts : List Token) (qs : List Qualifier) → AreAll IsQualifier ts qs
-      → IsType (ts ++ at (base_mark b) s ∷ []) (record { qualifiers = qs; base = Some b; span = spread (ts ++ at (base_mark b) s ∷ []) })
-  is_signed : (ts : List Token) (qs : List Qualifier) → AreAll IsQualifier ts qs → has_sign qs ≡ true → IsType ts (record { qualifiers = qs; base = None; span = spread ts })
+  -- { qualifier } base
+  is_based : (base : Base) (place : Span) (words : List Token) (qualifiers : List Qualifier)
+      → AreAll IsQualifier words qualifiers
+      → IsType
+      (words ++ at (base_mark base) place ∷ [])
+      (record { qualifiers = qualifiers; base = Some base; span = spread (words ++ at (base_mark base) place ∷ []) })
+  -- { qualifier }
+  is_signed : (words : List Token) (qualifiers : List Qualifier)
+      → AreAll IsQualifier words qualifiers → has_sign qualifiers ≡ true
+      → IsType words (record { qualifiers = qualifiers; base = None; span = spread words })
 
 -- ---- expressions
 
 mutual
-  -- a variable, or an element of an array
-  pub data IsPlace : List Token → Expr → Type 0 where
-    is_variable : (w : Word) → IsPlace (word w ∷ []) (name w)
-    is_item : (w : Word) (o c : Span) (ts : List Token) (x : Expr) → IsExpr loosest ts x → IsPlace (word w ∷ at mark.BracketOpen o ∷ (ts ++ at mark.BracketClose c ∷ [])) (item w x (span_to w.span c))
+  -- WORD | WORD "[" expr "]"
+  pub data IsPlace : List Token → Place → Type 0 where
+    -- WORD
+    is_variable : (name : Word) → IsPlace (word name ∷ []) (variable name)
+    -- WORD "[" expr "]"
+    is_element : (array : Word) (opening closing : Span) (inside : List Token) (index : Expr)
+        → IsExpr loosest inside index
+        → IsPlace
+        (word array ∷ at mark.BracketOpen opening ∷ (inside ++ at mark.BracketClose closing ∷ []))
+        (element array index (span_to array.span closing))
 
   -- An expression of level 0 is an operand with the operators before it. One of a level above may be joined by
   -- operators of its level, which take one of their own level on the left and one of a tighter level on the right.
   pub data IsExpr : ℕ → List Token → Expr → Type 0 where
-    is_number : (v : Value) (s : Span) → IsExpr zero (numeral v s ∷ []) (number v s)
-    is_truth : (b : Bool) (s : Span) → IsExpr zero (at (truth_mark b) s ∷ []) (truth b s)
-    is_program_index : (s : Span) → IsExpr zero (at mark.ProgramIndex s ∷ []) (program_index s)
-    is_program_count : (s : Span) → IsExpr zero (at mark.ProgramCount s ∷ []) (program_count s)
-    is_place : (ts : List Token) (x : Expr) → IsPlace ts x → IsExpr zero ts x
-    is_call : (w : Word) (o c : Span) (ts : List Token) (xs : List Expr) → IsArguments ts xs → IsExpr zero (word w ∷ at mark.ParenOpen o ∷ (ts ++ at mark.ParenClose c ∷ [])) (call w (listed xs) (span_to w.span c))
-    is_brackets : (o c : Span) (ts : List Token) (x : Expr) → IsExpr loosest ts x → IsExpr zero (at mark.ParenOpen o ∷ (ts ++ at mark.ParenClose c ∷ [])) (brackets x (span_to o c))
-    is_cast : (o c : Span) (ts us : List Token) (t : TypeTree) (x : Expr) → IsType ts t → IsExpr zero us x → IsExpr zero (at mark.ParenOpen o ∷ (ts ++ at mark.ParenClose c ∷ us)) (cast t x (span_to o (span_of x)))
-    is_prefix : (p : Prefix) (s : Span) (ts : List Token) (x : Expr) → IsExpr zero ts x → IsExpr zero (at (prefix_mark p) s ∷ ts) (prefix p x (span_to s (span_of x)))
-    is_tighter : (k : ℕ) (ts : List Token) (x : Expr) → IsExpr k ts x → IsExpr (suc k) ts x
-    is_binary : (k : ℕ) (a b : List Token) (x : Expr) (op : Operator) (s : Span) (y : Expr) → level op ≡ suc k → IsExpr (suc k) a x → IsExpr k b y → IsExpr (suc k) (a ++ at (sign op) s ∷ b) (binary op x y (span_to (span_of x) (span_of y)))
-    is_choose : (q d : Span) (a b c : List Token) (x y z : Expr) → IsExpr joined_level a x → IsExpr loosest b y → IsExpr loosest c z
-        → IsExpr loosest (a ++ at mark.Question q ∷ (b ++ at mark.Colon d ∷ c)) (choose x y z (span_to (span_of x) (span_of z)))
+    -- NUMBER
+    is_number : (value : Value) (place : Span) → IsExpr zero (numeral value place ∷ []) (number value place)
+    -- "true" | "false"
+    is_truth : (value : Bool) (place : Span) → IsExpr zero (at (truth_mark value) place ∷ []) (truth value place)
+    -- "programIndex"
+    is_program_index : (place : Span) → IsExpr zero (at mark.ProgramIndex place ∷ []) (program_index place)
+    -- "programCount"
+    is_program_count : (place : Span) → IsExpr zero (at mark.ProgramCount place ∷ []) (program_count place)
+    -- WORD | WORD "[" expr "]"
+    is_place : (tokens : List Token) (inside : Place) → IsPlace tokens inside → IsExpr zero tokens (place inside)
+    -- WORD "(" [ arg { "," arg } ] ")"
+    is_call : (function : Word) (opening closing : Span) (inside : List Token) (arguments : List Argument)
+        → IsArguments inside arguments
+        → IsExpr zero
+        (word function ∷ at mark.ParenOpen opening ∷ (inside ++ at mark.ParenClose closing ∷ []))
+        (call function (listed arguments) (span_to function.span closing))
+    -- "(" expr ")"
+    is_brackets : (opening closing : Span) (tokens : List Token) (inside : Expr)
+        → IsExpr loosest tokens inside
+        → IsExpr zero
+        (at mark.ParenOpen opening ∷ (tokens ++ at mark.ParenClose closing ∷ []))
+        (brackets inside (span_to opening closing))
+    -- "(" type ")" unary
+    is_cast : (opening closing : Span) (words rest : List Token) (ty : TypeTree) (operand : Expr)
+        → IsType words ty → IsExpr zero rest operand
+        → IsExpr zero
+        (at mark.ParenOpen opening ∷ (words ++ at mark.ParenClose closing ∷ rest))
+        (cast ty operand (span_to opening (span_of operand)))
+    -- ("-" | "~" | "!") unary
+    is_prefix : (operator : Prefix) (place : Span) (rest : List Token) (operand : Expr)
+        → IsExpr zero rest operand
+        → IsExpr zero
+        (at (prefix_mark operator) place ∷ rest)
+        (prefix operator operand (span_to place (span_of operand)))
+    -- what binds tighter
+    is_tighter : (below : ℕ) (tokens : List Token) (inside : Expr) → IsExpr below tokens inside → IsExpr (suc below) tokens inside
+    -- two operands, and an operator of the level between them
+    is_binary : (below : ℕ) (front back : List Token) (left : Expr) (operator : Operator) (place : Span) (right : Expr)
+        → level operator ≡ suc below → IsExpr (suc below) front left → IsExpr below back right
+        → IsExpr (suc below)
+        (front ++ at (sign operator) place ∷ back)
+        (binary operator left right (span_to (span_of left) (span_of right)))
+    -- binary "?" expr ":" expr
+    is_choose : (question colon : Span) (front middle back : List Token) (test first second : Expr)
+        → IsExpr joined_level front test → IsExpr loosest middle first → IsExpr loosest back second
+        → IsExpr loosest
+        (front ++ at mark.Question question ∷ (middle ++ at mark.Colon colon ∷ back))
+        (choose test first second (span_to (span_of test) (span_of second)))
 
-  pub data IsArgument : List Token → Expr → Type 0 where
-    is_value_argument : (ts : List Token) (x : Expr) → IsExpr loosest ts x → IsArgument ts x
-    is_reference : (s : Span) (ts : List Token) (x : Expr) → IsPlace ts x → IsArgument (at mark.And s ∷ ts) (reference x (span_to s (span_of x)))
+  -- arg = expr | "&" WORD [ "[" expr "]" ]
+  pub data IsArgument : List Token → Argument → Type 0 where
+    is_value_argument : (tokens : List Token) (inside : Expr) → IsExpr loosest tokens inside → IsArgument tokens (by_value inside)
+    is_reference : (ampersand : Span) (rest : List Token) (target : Place)
+        → IsPlace rest target
+        → IsArgument (at mark.And ampersand ∷ rest) (by_reference target (span_to ampersand (span_of_place target)))
 
-  -- nothing, or one or more with commas
-  pub data IsArguments : List Token → List Expr → Type 0 where
+  -- [ arg { "," arg } ]
+  pub data IsArguments : List Token → List Argument → Type 0 where
     is_no_argument : IsArguments [] []
-    is_some_arguments : (ts : List Token) (xs : List Expr) → IsArgumentList ts xs → IsArguments ts xs
+    is_some_arguments : (tokens : List Token) (arguments : List Argument) → IsArgumentList tokens arguments → IsArguments tokens arguments
 
-  pub data IsArgumentList : List Token → List Expr → Type 0 where
-    is_last_argument : (ts : List Token) (x : Expr) → IsArgument ts x → IsArgumentList ts (x ∷ [])
-    is_more_arguments : (a b : List Token) (s : Span) (x : Expr) (xs : List Expr) → IsArgument a x → IsArgumentList b xs → IsArgumentList (a ++ at mark.Comma s ∷ b) (x ∷ xs)
+  -- arg { "," arg }
+  pub data IsArgumentList : List Token → List Argument → Type 0 where
+    is_last_argument : (tokens : List Token) (last : Argument) → IsArgument tokens last → IsArgumentList tokens (last ∷ [])
+    is_more_arguments : (front back : List Token) (comma : Span) (first : Argument) (more : List Argument)
+        → IsArgument front first → IsArgumentList back more
+        → IsArgumentList (front ++ at mark.Comma comma ∷ back) (first ∷ more)
 
 -- ---- declarations, and what stands before a semicolon
 
+-- NUMBER | "programCount"
 pub data IsSize : List Token → Size → Type 0 where
-  is_number_size : (v : Value) (s : Span) → IsSize (numeral v s ∷ []) (size.Number v s)
-  is_count_size : (s : Span) → IsSize (at mark.ProgramCount s ∷ []) (size.ProgramCount s)
+  is_number_size : (value : Value) (place : Span) → IsSize (numeral value place ∷ []) (size.Number value place)
+  is_count_size : (place : Span) → IsSize (at mark.ProgramCount place ∷ []) (size.ProgramCount place)
 
+-- item = WORD [ "=" expr | "[" (NUMBER | "programCount") "]" ]
 pub data IsItem : List Token → Item → Type 0 where
-  is_plain : (w : Word) → IsItem (word w ∷ []) (plain w)
-  is_with_value : (w : Word) (e : Span) (ts : List Token) (x : Expr) → IsExpr loosest ts x → IsItem (word w ∷ at mark.Assign e ∷ ts) (with_value w x (span_to w.span (span_of x)))
-  is_with_size : (w : Word) (o c : Span) (ts : List Token) (n : Size) → IsSize ts n → IsItem (word w ∷ at mark.BracketOpen o ∷ (ts ++ at mark.BracketClose c ∷ [])) (with_size w n (span_to w.span c))
+  -- WORD
+  is_plain : (name : Word) → IsItem (word name ∷ []) (plain name)
+  -- WORD "=" expr
+  is_with_value : (name : Word) (equals : Span) (rest : List Token) (initial : Expr)
+      → IsExpr loosest rest initial
+      → IsItem
+      (word name ∷ at mark.Assign equals ∷ rest)
+      (with_value name initial (span_to name.span (span_of initial)))
+  -- WORD "[" (NUMBER | "programCount") "]"
+  is_with_size : (name : Word) (opening closing : Span) (inside : List Token) (size : Size)
+      → IsSize inside size
+      → IsItem
+      (word name ∷ at mark.BracketOpen opening ∷ (inside ++ at mark.BracketClose closing ∷ []))
+      (with_size name size (span_to name.span closing))
 
 -- where the last item ends
 abbrev pub span_of_last : List Item → Span
@@ -110,28 +181,49 @@ span_of_last [] = record { start = 0; end = 0 }
 span_of_last (i ∷ []) = span_of_item i
 span_of_last (i ∷ j ∷ js) = span_of_last (j ∷ js)
 
+-- decl = type item { "," item }
 pub data IsDeclaration : List Token → Declaration → Type 0 where
-  is_declaration : (ts us : List Token) (t : TypeTree) (is : List Item) → IsType ts t → AreListed IsItem us is → IsDeclaration (ts ++ us) (record { ty = t; items = is; span = span_to t.span (span_of_last is) })
+  is_declaration : (words rest : List Token) (ty : TypeTree) (items : List Item)
+      → IsType words ty → AreListed IsItem rest items
+      → IsDeclaration (words ++ rest) (record { ty = ty; items = items; span = span_to ty.span (span_of_last items) })
 
+-- simple = expr [ assign expr | "++" | "--" ] | ("++" | "--") unary
 pub data IsSimple : List Token → Simple → Type 0 where
-  is_value : (ts : List Token) (x : Expr) → IsExpr loosest ts x → IsSimple ts (value x)
-  is_assign : (op : Assignment) (s : Span) (a b : List Token) (t x : Expr) → IsExpr loosest a t → IsExpr loosest b x → IsSimple (a ++ at (assignment_mark op) s ∷ b) (assign op t x (span_to (span_of t) (span_of x)))
-  is_change_after : (c : Change) (s : Span) (a : List Token) (t : Expr) → IsExpr loosest a t → IsSimple (a ++ at (change_mark c) s ∷ []) (change c t (span_to (span_of t) s))
-  is_change_before : (c : Change) (s : Span) (a : List Token) (t : Expr) → IsExpr zero a t → IsSimple (at (change_mark c) s ∷ a) (change c t (span_to s (span_of t)))
+  -- expr
+  is_value : (tokens : List Token) (inside : Expr) → IsExpr loosest tokens inside → IsSimple tokens (value inside)
+  -- expr assign expr
+  is_assign : (operator : Assignment) (place : Span) (front back : List Token) (target source : Expr)
+      → IsExpr loosest front target → IsExpr loosest back source
+      → IsSimple
+      (front ++ at (assignment_mark operator) place ∷ back)
+      (assign operator target source (span_to (span_of target) (span_of source)))
+  -- expr ("++" | "--")
+  is_change_after : (step : Change) (place : Span) (front : List Token) (target : Expr)
+      → IsExpr loosest front target
+      → IsSimple (front ++ at (change_mark step) place ∷ []) (change step target (span_to (span_of target) place))
+  -- ("++" | "--") unary
+  is_change_before : (step : Change) (place : Span) (back : List Token) (target : Expr)
+      → IsExpr zero back target
+      → IsSimple (at (change_mark step) place ∷ back) (change step target (span_to place (span_of target)))
 
+-- decl | simple
 pub data IsFirst : List Token → First → Type 0 where
-  is_first_declare : (ts : List Token) (d : Declaration) → IsDeclaration ts d → IsFirst ts (first_declare d)
-  is_first_simple : (ts : List Token) (p : Simple) → IsSimple ts p → IsFirst ts (first_simple p)
+  is_first_declare : (tokens : List Token) (inside : Declaration) → IsDeclaration tokens inside → IsFirst tokens (first_declare inside)
+  is_first_simple : (tokens : List Token) (inside : Simple) → IsSimple tokens inside → IsFirst tokens (first_simple inside)
 
+-- range = WORD "=" expr "..." expr
 pub data IsRange : List Token → Range → Type 0 where
-  is_range : (w : Word) (e d : Span) (a b : List Token) (x y : Expr) → IsExpr loosest a x → IsExpr loosest b y
-      → IsRange (word w ∷ at mark.Assign e ∷ (a ++ at mark.Ellipsis d ∷ b)) (record { word = w; start = x; end = y; span = span_to w.span (span_of y) })
+  is_range : (name : Word) (equals dots : Span) (front back : List Token) (from until : Expr)
+      → IsExpr loosest front from → IsExpr loosest back until
+      → IsRange
+      (word name ∷ at mark.Assign equals ∷ (front ++ at mark.Ellipsis dots ∷ back))
+      (record { word = name; start = from; end = until; span = span_to name.span (span_of until) })
 
 -- ---- statements
 
 -- it ends in an `if` without `else`
 abbrev pub is_open : Stmt → Bool
-is_open (block ss s) = false
+is_open (block b) = false
 is_open (empty s) = false
 is_open (declare d s) = false
 is_open (simple p s) = false
@@ -140,71 +232,146 @@ is_open (if_else f x a b s) = is_open b
 is_open (loop_while f x a s) = is_open a
 is_open (loop_do f a x s) = false
 is_open (loop_for f i x p a s) = is_open a
-is_open (foreach t w rs a s) = is_open a
-is_open (foreach_active w i a s) = is_open a
-is_open (unmasked w a s) = false
-is_open (jump j w s) = false
-is_open (returning w x s) = false
-is_open (print w t p xs s) = false
-is_open (assert x s) = false
+is_open (foreach t k rs a s) = is_open a
+is_open (foreach_active k w a s) = is_open a
+is_open (unmasked k b s) = false
+is_open (jump j k s) = false
+is_open (returning k x s) = false
+is_open (print k t p xs s) = false
+is_open (assert x c s) = false
 
 mutual
-  pub data IsBlock : List Token → Stmt → Type 0 where
-    is_braces : (o c : Span) (ts : List Token) (ss : List Stmt) → IsStmts ts ss → IsBlock (at mark.BraceOpen o ∷ (ts ++ at mark.BraceClose c ∷ [])) (block (all ss) (span_to o c))
+  -- block = "{" { stmt } "}"
+  pub data IsBlock : List Token → Block → Type 0 where
+    is_braces : (opening closing : Span) (tokens : List Token) (inside : List Stmt)
+        → IsStmts tokens inside
+        → IsBlock
+        (at mark.BraceOpen opening ∷ (tokens ++ at mark.BraceClose closing ∷ []))
+        (braces (all inside) (span_to opening closing))
 
+  -- { stmt }
   pub data IsStmts : List Token → List Stmt → Type 0 where
     is_end : IsStmts [] []
-    is_next : (a b : List Token) (s : Stmt) (ss : List Stmt) → IsStmt a s → IsStmts b ss → IsStmts (a ++ b) (s ∷ ss)
+    is_next : (front back : List Token) (first : Stmt) (more : List Stmt)
+        → IsStmt front first → IsStmts back more → IsStmts (front ++ back) (first ∷ more)
 
   -- An `else` belongs to the nearest `if`: none follows a statement that ends in an `if` without one.
   pub data IsStmt : List Token → Stmt → Type 0 where
-    is_block : (ts : List Token) (b : Stmt) → IsBlock ts b → IsStmt ts b
-    is_empty : (e : Span) → IsStmt (at mark.Semicolon e ∷ []) (empty e)
-    is_declare : (e : Span) (ts : List Token) (d : Declaration) → IsDeclaration ts d → IsStmt (ts ++ at mark.Semicolon e ∷ []) (declare d (span_to d.span e))
-    is_simple : (e : Span) (ts : List Token) (p : Simple) → IsSimple ts p → IsStmt (ts ++ at mark.Semicolon e ∷ []) (simple p (span_to (span_of_simple p) e))
-    is_if : (f : Form) (i o c : Span) (ts a : List Token) (x : Expr) (s : Stmt) → IsExpr loosest ts x → IsStmt a s
-        → IsStmt (at (if_mark f) i ∷ at mark.ParenOpen o ∷ (ts ++ at mark.ParenClose c ∷ a)) (if_then f x s (span_to i (span_of_stmt s)))
-    is_if_else : (f : Form) (i o c e : Span) (ts a b : List Token) (x : Expr) (s t : Stmt) → IsExpr loosest ts x → IsStmt a s → is_open s ≡ false → IsStmt b t
-        → IsStmt (at (if_mark f) i ∷ at mark.ParenOpen o ∷ (ts ++ at mark.ParenClose c ∷ (a ++ at mark.Else e ∷ b))) (if_else f x s t (span_to i (span_of_stmt t)))
-    is_while : (f : Form) (w o c : Span) (ts a : List Token) (x : Expr) (s : Stmt) → IsExpr loosest ts x → IsStmt a s
-        → IsStmt (at (while_mark f) w ∷ at mark.ParenOpen o ∷ (ts ++ at mark.ParenClose c ∷ a)) (loop_while f x s (span_to w (span_of_stmt s)))
-    is_do : (f : Form) (d w o c e : Span) (a ts : List Token) (s : Stmt) (x : Expr) → IsStmt a s → IsExpr loosest ts x
-        → IsStmt (at (do_mark f) d ∷ (a ++ at mark.While w ∷ at mark.ParenOpen o ∷ (ts ++ at mark.ParenClose c ∷ at mark.Semicolon e ∷ []))) (loop_do f s x (span_to d e))
-    is_for : (f : Form) (w o d e c : Span) (is ts us a : List Token) (i : Option First) (x : Option Expr) (p : Option Simple) (s : Stmt)
-        → IsMaybe IsFirst is i → IsMaybe (IsExpr loosest) ts x → IsMaybe IsSimple us p → IsStmt a s
-        → IsStmt (at (for_mark f) w ∷ at mark.ParenOpen o ∷ (is ++ at mark.Semicolon d ∷ (ts ++ at mark.Semicolon e ∷ (us ++ at mark.ParenClose c ∷ a)))) (loop_for f i x p s (span_to w (span_of_stmt s)))
-    is_foreach : (t : Tiling) (w o c : Span) (ts a : List Token) (rs : List Range) (s : Stmt) → AreListed IsRange ts rs → length rs ≤ 3 → IsStmt a s
-        → IsStmt (at (foreach_mark t) w ∷ at mark.ParenOpen o ∷ (ts ++ at mark.ParenClose c ∷ a)) (foreach t w rs s (span_to w (span_of_stmt s)))
-    is_foreach_active : (f o c : Span) (w : Word) (a : List Token) (s : Stmt) → IsStmt a s
-        → IsStmt (at mark.ForeachActive f ∷ at mark.ParenOpen o ∷ word w ∷ at mark.ParenClose c ∷ a) (foreach_active f w s (span_to f (span_of_stmt s)))
-    is_unmasked : (u : Span) (ts : List Token) (b : Stmt) → IsBlock ts b → IsStmt (at mark.Unmasked u ∷ ts) (unmasked u b (span_to u (span_of_stmt b)))
-    is_jump : (j : Jump) (w e : Span) → IsStmt (at (jump_mark j) w ∷ at mark.Semicolon e ∷ []) (jump j w (span_to w e))
-    is_return : (w e : Span) (ts : List Token) (x : Option Expr) → IsMaybe (IsExpr loosest) ts x → IsStmt (at mark.Return w ∷ (ts ++ at mark.Semicolon e ∷ [])) (returning w x (span_to w e))
-    is_print : (w o p c e : Span) (t : List ℕ) (ts : List Token) (xs : List Expr) → AreBehindCommas (IsExpr loosest) ts xs
-        → IsStmt (at mark.Print w ∷ at mark.ParenOpen o ∷ textual t p ∷ (ts ++ at mark.ParenClose c ∷ at mark.Semicolon e ∷ [])) (print w t p xs (span_to w e))
-    is_assert : (w o c e : Span) (ts : List Token) (x : Expr) → IsExpr loosest ts x
-        → IsStmt (at mark.Assert w ∷ at mark.ParenOpen o ∷ (ts ++ at mark.ParenClose c ∷ at mark.Semicolon e ∷ [])) (assert x (span_to w e))
+    -- block
+    is_block : (tokens : List Token) (inside : Block) → IsBlock tokens inside → IsStmt tokens (block inside)
+    -- ";"
+    is_empty : (semicolon : Span) → IsStmt (at mark.Semicolon semicolon ∷ []) (empty semicolon)
+    -- decl ";"
+    is_declare : (semicolon : Span) (tokens : List Token) (inside : Declaration)
+        → IsDeclaration tokens inside
+        → IsStmt (tokens ++ at mark.Semicolon semicolon ∷ []) (declare inside (span_to inside.span semicolon))
+    -- simple ";"
+    is_simple : (semicolon : Span) (tokens : List Token) (inside : Simple)
+        → IsSimple tokens inside
+        → IsStmt (tokens ++ at mark.Semicolon semicolon ∷ []) (simple inside (span_to (span_of_simple inside) semicolon))
+    -- ("if" | "cif") "(" expr ")" stmt
+    is_if : (form : Form) (keyword opening closing : Span) (condition rest : List Token) (test : Expr) (body : Stmt)
+        → IsExpr loosest condition test → IsStmt rest body
+        → IsStmt
+        (at (if_mark form) keyword ∷ at mark.ParenOpen opening ∷ (condition ++ at mark.ParenClose closing ∷ rest))
+        (if_then form test body (span_to keyword (span_of_stmt body)))
+    -- ("if" | "cif") "(" expr ")" stmt "else" stmt
+    is_if_else : (form : Form) (keyword opening closing middle : Span) (condition front back : List Token) (test : Expr) (body otherwise : Stmt)
+        → IsExpr loosest condition test → IsStmt front body → is_open body ≡ false → IsStmt back otherwise
+        → IsStmt
+        (at (if_mark form) keyword ∷ at mark.ParenOpen opening ∷ (condition ++ at mark.ParenClose closing ∷ (front ++ at mark.Else middle ∷ back)))
+        (if_else form test body otherwise (span_to keyword (span_of_stmt otherwise)))
+    -- ("while" | "cwhile") "(" expr ")" stmt
+    is_while : (form : Form) (keyword opening closing : Span) (condition rest : List Token) (test : Expr) (body : Stmt)
+        → IsExpr loosest condition test → IsStmt rest body
+        → IsStmt
+        (at (while_mark form) keyword ∷ at mark.ParenOpen opening ∷ (condition ++ at mark.ParenClose closing ∷ rest))
+        (loop_while form test body (span_to keyword (span_of_stmt body)))
+    -- ("do" | "cdo") stmt "while" "(" expr ")" ";"
+    is_do : (form : Form) (keyword while opening closing semicolon : Span) (front condition : List Token) (body : Stmt) (test : Expr)
+        → IsStmt front body → IsExpr loosest condition test
+        → IsStmt
+        (at (do_mark form) keyword ∷ (front ++ at mark.While while ∷ at mark.ParenOpen opening ∷ (condition ++ at mark.ParenClose closing ∷ at mark.Semicolon semicolon ∷ [])))
+        (loop_do form body test (span_to keyword semicolon))
+    -- ("for" | "cfor") "(" [ decl | simple ] ";" [ expr ] ";" [ simple ] ")" stmt
+    is_for : (form : Form) (keyword opening behind_first behind_test closing : Span) (front condition last rest : List Token) (first : Option First) (test : Option Expr) (step : Option Simple) (body : Stmt)
+        → IsMaybe IsFirst front first → IsMaybe (IsExpr loosest) condition test → IsMaybe IsSimple last step → IsStmt rest body
+        → IsStmt
+        (at (for_mark form) keyword ∷ at mark.ParenOpen opening ∷ (front ++ at mark.Semicolon behind_first ∷ (condition ++ at mark.Semicolon behind_test ∷ (last ++ at mark.ParenClose closing ∷ rest))))
+        (loop_for form first test step body (span_to keyword (span_of_stmt body)))
+    -- ("foreach" | "foreach_tiled") "(" range [ "," range [ "," range ] ] ")" stmt
+    is_foreach : (tiling : Tiling) (keyword opening closing : Span) (inside rest : List Token) (ranges : List Range) (body : Stmt)
+        → AreListed IsRange inside ranges → length ranges ≤ 3 → IsStmt rest body
+        → IsStmt
+        (at (foreach_mark tiling) keyword ∷ at mark.ParenOpen opening ∷ (inside ++ at mark.ParenClose closing ∷ rest))
+        (foreach tiling keyword ranges body (span_to keyword (span_of_stmt body)))
+    -- "foreach_active" "(" WORD ")" stmt
+    is_foreach_active : (keyword opening closing : Span) (name : Word) (rest : List Token) (body : Stmt)
+        → IsStmt rest body
+        → IsStmt
+        (at mark.ForeachActive keyword ∷ at mark.ParenOpen opening ∷ word name ∷ at mark.ParenClose closing ∷ rest)
+        (foreach_active keyword name body (span_to keyword (span_of_stmt body)))
+    -- "unmasked" block
+    is_unmasked : (keyword : Span) (rest : List Token) (body : Block)
+        → IsBlock rest body
+        → IsStmt (at mark.Unmasked keyword ∷ rest) (unmasked keyword body (span_to keyword (span_of_block body)))
+    -- "break" ";" | "continue" ";"
+    is_jump : (jump_word : Jump) (keyword semicolon : Span)
+        → IsStmt
+        (at (jump_mark jump_word) keyword ∷ at mark.Semicolon semicolon ∷ [])
+        (jump jump_word keyword (span_to keyword semicolon))
+    -- "return" [ expr ] ";"
+    is_return : (keyword semicolon : Span) (inside : List Token) (answer : Option Expr)
+        → IsMaybe (IsExpr loosest) inside answer
+        → IsStmt
+        (at mark.Return keyword ∷ (inside ++ at mark.Semicolon semicolon ∷ []))
+        (returning keyword answer (span_to keyword semicolon))
+    -- "print" "(" TEXT { "," expr } ")" ";"
+    is_print : (keyword opening text_place closing semicolon : Span) (text : List ℕ) (inside : List Token) (values : List Expr)
+        → AreBehindCommas (IsExpr loosest) inside values
+        → IsStmt
+        (at mark.Print keyword ∷ at mark.ParenOpen opening ∷ textual text text_place ∷ (inside ++ at mark.ParenClose closing ∷ at mark.Semicolon semicolon ∷ []))
+        (print keyword text text_place values (span_to keyword semicolon))
+    -- "assert" "(" expr ")" ";"
+    is_assert : (keyword opening closing semicolon : Span) (inside : List Token) (test : Expr)
+        → IsExpr loosest inside test
+        → IsStmt
+        (at mark.Assert keyword ∷ at mark.ParenOpen opening ∷ (inside ++ at mark.ParenClose closing ∷ at mark.Semicolon semicolon ∷ []))
+        (assert test (span_to keyword closing) (span_to keyword semicolon))
 
 -- ---- functions
 
+-- "export" | "static" | "inline"
 pub data IsLinkage : List Token → Linkage → Type 0 where
-  is_linkage : (l : Linkage) (s : Span) → IsLinkage (at (linkage_mark l) s ∷ []) l
+  is_linkage : (linkage : Linkage) (place : Span) → IsLinkage (at (linkage_mark linkage) place ∷ []) linkage
 
+-- param = type WORD [ "[" "]" ]
 pub data IsParam : List Token → Param → Type 0 where
-  is_scalar : (ts : List Token) (t : TypeTree) (w : Word) → IsType ts t → IsParam (ts ++ word w ∷ []) (record { ty = t; word = w; is_array = false; span = span_to t.span w.span })
-  is_array : (ts : List Token) (t : TypeTree) (w : Word) (o c : Span) → IsType ts t → IsParam (ts ++ word w ∷ at mark.BracketOpen o ∷ at mark.BracketClose c ∷ []) (record { ty = t; word = w; is_array = true; span = span_to t.span c })
+  -- type WORD
+  is_scalar : (words : List Token) (ty : TypeTree) (name : Word)
+      → IsType words ty
+      → IsParam (words ++ word name ∷ []) (record { ty = ty; word = name; is_array = false; span = span_to ty.span name.span })
+  -- type WORD "[" "]"
+  is_array : (words : List Token) (ty : TypeTree) (name : Word) (opening closing : Span)
+      → IsType words ty
+      → IsParam
+      (words ++ word name ∷ at mark.BracketOpen opening ∷ at mark.BracketClose closing ∷ [])
+      (record { ty = ty; word = name; is_array = true; span = span_to ty.span closing })
 
+-- params = "void" | param { "," param }, or nothing
 pub data IsParams : List Token → List Param → Type 0 where
   is_none : IsParams [] []
-  is_void : (v : Span) → IsParams (at mark.Void v ∷ []) []
-  is_some : (ts : List Token) (ps : List Param) → AreListed IsParam ts ps → IsParams ts ps
+  is_void : (place : Span) → IsParams (at mark.Void place ∷ []) []
+  is_some : (tokens : List Token) (params : List Param) → AreListed IsParam tokens params → IsParams tokens params
 
+-- function = { "export" | "static" | "inline" } type WORD "(" [ params ] ")" block
 pub data IsFunction : List Token → Function → Type 0 where
-  is_function : (o c : Span) (ls ts ps bs : List Token) (linkages : List Linkage) (t : TypeTree) (w : Word) (params : List Param) (b : Stmt)
-      → AreAll IsLinkage ls linkages → IsType ts t → IsParams ps params → IsBlock bs b
-      → IsFunction (ls ++ (ts ++ word w ∷ at mark.ParenOpen o ∷ (ps ++ at mark.ParenClose c ∷ bs)))
-      (record { linkages = linkages; answer = t; word = w; params = params; body = b; span = span_to (first_span (ls ++ ts)) (span_of_stmt b) })
+  is_function : (opening closing : Span) (front words inside rest : List Token) (linkages : List Linkage) (answer : TypeTree) (name : Word) (params : List Param) (body : Block)
+      → AreAll IsLinkage front linkages → IsType words answer → IsParams inside params → IsBlock rest body
+      → IsFunction
+      (front ++ (words ++ word name ∷ at mark.ParenOpen opening ∷ (inside ++ at mark.ParenClose closing ∷ rest)))
+      (record { linkages = linkages; answer = answer; word = name; params = params; body = body; span = span_to (first_span (front ++ words)) (span_of_block body) })
 
--- a program is its functions, one after another
+-- program = { function }
 abbrev pub IsProgram : List Token → List Function → Type 0
 IsProgram = AreAll IsFunction

@@ -1,12 +1,4 @@
-pub mod Tree
-pub mod Depth
 pub mod Signs
 pub mod Grammar
 pub mod Promise
-pub mod Reading
-pub mod ReadingChoices
-pub mod ReadingStarts
-pub mod ReadingTypes
-pub mod ReadingExprs
-pub mod ReadingStmts
-pub mod ReadingPrograms
+pub mod reader

@@ -12,9 +12,10 @@ use Rattle.isp_lex.specs.declared.token.Token.{Token}
 use Rattle.isp_lex.specs.declared.token.TokenKind.{TokenKind}
 use Rattle.isp_lex.specs.declared.token.TokenKind.TheVariants as kind
 use Rattle.isp_syntax.specs.Grammar.{IsProgram}
-use Rattle.isp_syntax.specs.Depth.{depth_of_functions}
-use Rattle.isp_syntax.specs.Tree.{Function, functions_of}
-use Rattle.isp_syntax.specs.declared.tree.Tree.{Tree}
+use Rattle.isp_tree.specs.Depth.{depth_of_functions}
+use Rattle.isp_tree.specs.Tree.{Function}
+use Rattle.isp_tree.specs.Views.{functions_of}
+use Rattle.isp_tree.specs.declared.tree.Tree.{Tree}
 
 -- how deep a tree may be
 abbrev pub limit : ℕ
@@ -32,9 +33,9 @@ pub record Begins (front : List TokenKind) : Type 0 where
   pub is : IsProgram tokens functions
 
 -- where the first of these tokens stands: at the end of the text an empty span
-abbrev pub place : ℕ → List Token → Span
-place end [] = record { start = end; end = end }
-place end (t ∷ ts) = t.span
+abbrev pub refused_span : ℕ → List Token → Span
+refused_span end [] = record { start = end; end = end }
+refused_span end (t ∷ ts) = t.span
 
 -- the rule that a token breaks which may not stand where it stands
 abbrev pub rule_of : TokenKind → Rule
@@ -54,7 +55,7 @@ pub record IsFirstBad (text : TokenList) (f : Fault) : Type 0 where
   pub before : List Token
   pub after : List Token
   pub split : text.items ≡ before ++ after
-  pub is : f ≡ fault (rule_at after) (place text.end after)
+  pub is : f ≡ fault (rule_at after) (refused_span text.end after)
   pub begins : Begins (kinds before)
   pub no_further : (t : Token) (rest : List Token) → after ≡ t ∷ rest → Begins (kinds before ++ t.kind ∷ []) → ⊥
   pub no_program : (fs : List Function) → IsProgram text.items fs → ⊥
@@ -76,6 +77,6 @@ Refuses (Refused f) text = IsFirstBad text f ⊎ IsTooDeep text f
 
 -- That tree was given, unless memory ran out.
 abbrev pub GivesTree : Result Tree SourceFault → List Function → Type 0
-GivesTree (Ok t) fs = functions_of t.functions.items ≡ fs
+GivesTree (Ok t) fs = functions_of t ≡ fs
 GivesTree (Err Memory) fs = Unit {0}
 GivesTree (Err (Refused f)) fs = ⊥

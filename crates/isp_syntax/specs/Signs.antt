@@ -7,27 +7,27 @@ use Rattle.isp_lex.specs.declared.token.Mark.{Mark}
 use Rattle.isp_lex.specs.declared.token.Mark.TheVariants as mark
 use Rattle.isp_lex.specs.declared.token.TokenKind.TheVariants as kind
 use Rattle.isp_lex.specs.declared.token.Token.{Token}
-use Rattle.isp_syntax.specs.declared.tree.Word.{Word}
-use Rattle.isp_syntax.specs.declared.tree.Qualifier.{Qualifier}
-use Rattle.isp_syntax.specs.declared.tree.Qualifier.TheVariants as qualifier
-use Rattle.isp_syntax.specs.declared.tree.Base.{Base}
-use Rattle.isp_syntax.specs.declared.tree.Base.TheVariants as base
-use Rattle.isp_syntax.specs.declared.tree.Prefix.{Prefix}
-use Rattle.isp_syntax.specs.declared.tree.Prefix.TheVariants as prefix
-use Rattle.isp_syntax.specs.declared.tree.Operator.{Operator}
-use Rattle.isp_syntax.specs.declared.tree.Operator.TheVariants as op
-use Rattle.isp_syntax.specs.declared.tree.Assignment.{Assignment}
-use Rattle.isp_syntax.specs.declared.tree.Assignment.TheVariants as assignment
-use Rattle.isp_syntax.specs.declared.tree.Change.{Change}
-use Rattle.isp_syntax.specs.declared.tree.Change.TheVariants.{Increment, Decrement}
-use Rattle.isp_syntax.specs.declared.tree.Form.{Form}
-use Rattle.isp_syntax.specs.declared.tree.Form.TheVariants as form
-use Rattle.isp_syntax.specs.declared.tree.Tiling.{Tiling}
-use Rattle.isp_syntax.specs.declared.tree.Tiling.TheVariants as tiling
-use Rattle.isp_syntax.specs.declared.tree.Jump.{Jump}
-use Rattle.isp_syntax.specs.declared.tree.Jump.TheVariants.{Break, Continue}
-use Rattle.isp_syntax.specs.declared.tree.Linkage.{Linkage}
-use Rattle.isp_syntax.specs.declared.tree.Linkage.TheVariants.{Export, Static, Inline}
+use Rattle.isp_tree.specs.declared.types.Word.{Word}
+use Rattle.isp_tree.specs.declared.types.Qualifier.{Qualifier}
+use Rattle.isp_tree.specs.declared.types.Qualifier.TheVariants as qualifier
+use Rattle.isp_tree.specs.declared.types.Base.{Base}
+use Rattle.isp_tree.specs.declared.types.Base.TheVariants as base
+use Rattle.isp_tree.specs.declared.expr.Prefix.{Prefix}
+use Rattle.isp_tree.specs.declared.expr.Prefix.TheVariants as prefix
+use Rattle.isp_tree.specs.declared.expr.Operator.{Operator}
+use Rattle.isp_tree.specs.declared.expr.Operator.TheVariants as op
+use Rattle.isp_tree.specs.declared.stmt.Assignment.{Assignment}
+use Rattle.isp_tree.specs.declared.stmt.Assignment.TheVariants as assignment
+use Rattle.isp_tree.specs.declared.stmt.Change.{Change}
+use Rattle.isp_tree.specs.declared.stmt.Change.TheVariants.{Increment, Decrement}
+use Rattle.isp_tree.specs.declared.stmt.Form.{Form}
+use Rattle.isp_tree.specs.declared.stmt.Form.TheVariants as form
+use Rattle.isp_tree.specs.declared.stmt.Tiling.{Tiling}
+use Rattle.isp_tree.specs.declared.stmt.Tiling.TheVariants as tiling
+use Rattle.isp_tree.specs.declared.stmt.Jump.{Jump}
+use Rattle.isp_tree.specs.declared.stmt.Jump.TheVariants.{Break, Continue}
+use Rattle.isp_tree.specs.declared.function.Linkage.{Linkage}
+use Rattle.isp_tree.specs.declared.function.Linkage.TheVariants.{Export, Static, Inline}
 
 -- the token of a name
 abbrev pub word : Word → Token

@@ -1,25 +1,25 @@
 //! Declarations.
-ghost use Rattle.std.specs.Prelude.{◌≡◌, ◌≤◌, ◌<◌, ◌+◌, IfOk, length, map};
+ghost use Rattle.std.specs.Prelude.{◌≡◌, ◌≤◌, ◌<◌, ◌+◌, IfOk, Some, length, map};
 ghost use Rattle.isp_syntax.specs.Grammar.{span_of_last};
-ghost use Rattle.isp_syntax.specs.Tree.{item_of, declaration_of};
-ghost use Rattle.isp_syntax.specs.Reading.{Gives};
-ghost use Rattle.isp_syntax.specs.ReadingChoices.{begins_with};
-ghost use Rattle.isp_syntax.specs.ReadingStmts.{is_item_sign, item_tail_of, size_at, item_tail_at, item_at, items_at, declaration_at};
+ghost use Rattle.isp_tree.specs.Views.{item_of, declaration_of};
+ghost use Rattle.isp_syntax.specs.reader.Readers.{Gives};
+ghost use Rattle.isp_syntax.specs.reader.Choices.{begins_with};
+ghost use Rattle.isp_syntax.specs.reader.Stmts.{is_item_sign, item_tail_of, size_at, item_tail_at, item_from, item_at, items_at, declaration_at};
 
 use crate::expr::expr;
 use crate::reading::{mark, refuse, starts_with, tail, word};
 use crate::stop::{Stop, Why};
-use crate::tree::{Declaration, Expr, Item, Size};
 use crate::types::type_words;
 use isp_base::Span;
 use isp_lex::{Mark, Token, TokenKind};
+use isp_tree::{Declaration, Expr, Item, Size, Word};
 use std::alloc::Global;
 
 /// What stands behind the name of an item, with the places of its signs.
 #[derive(Drop)]
 pub enum ItemTail {
     /// `= e`
-    Value(Span, Expr),
+    Value(Span, Box<Expr>),
     /// `[size]`
     Size(Span, Size, Span),
 }
@@ -35,7 +35,7 @@ fn goes_on(tokens: &[Token]) -> bool
 }
 
 /// How many elements an array has.
-#[tactic(auto, unfolding(crate::specs::ReadingStmts::size_at, crate::specs::ReadingChoices::sign_at))]
+#[tactic(auto, unfolding(crate::specs::reader::Stmts::size_at, crate::specs::reader::Choices::sign_at))]
 fn size(tokens: &[Token]) -> Result<(Size, &[Token]), Stop>
     ensures value { Gives (λ r. (r.0, r.1.now)) result (size_at tokens.now) }
     ensures rest { IfOk result (λ r. length r.1.now < length tokens.now) }
@@ -44,14 +44,23 @@ fn size(tokens: &[Token]) -> Result<(Size, &[Token]), Stop>
         return Err(refuse(Why::Unexpected, tokens));
     };
     match &first.kind {
-        TokenKind::Number(value) => Ok((Size::Number(*value, first.span), rest)),
-        TokenKind::Mark(Mark::ProgramCount) => Ok((Size::ProgramCount(first.span), rest)),
+        TokenKind::Number(value) => {
+            let size = Size::Number {
+                value: *value,
+                span: first.span,
+            };
+            Ok((size, rest))
+        }
+        TokenKind::Mark(Mark::ProgramCount) => {
+            let size = Size::ProgramCount { span: first.span };
+            Ok((size, rest))
+        }
         _ => Err(refuse(Why::Unexpected, tokens)),
     }
 }
 
 /// A value behind `=`, or a size in brackets.
-#[tactic(auto, unfolding(crate::specs::ReadingStmts::item_tail_at, crate::specs::ReadingChoices::either_at, crate::specs::Reading::mark_at))]
+#[tactic(auto, unfolding(crate::specs::reader::Stmts::item_tail_at, crate::specs::reader::Choices::either_at, crate::specs::reader::Readers::mark_at))]
 fn item_tail(alloc: Global, left: usize, tokens: &[Token]) -> Result<(ItemTail, &[Token]), Stop>
     requires { left ≤ 128 }
     ensures value { Gives (λ r. (item_tail_of r.0, r.1.now)) result (item_tail_at left tokens.now) }
@@ -71,8 +80,25 @@ fn item_tail(alloc: Global, left: usize, tokens: &[Token]) -> Result<(ItemTail, 
     }
 }
 
+/// A name with what stands behind it.
+fn with_tail(word: Word, tail: ItemTail) -> Item
+    ensures { item_of result ≡ item_from word (Some (item_tail_of tail)) }
+{
+    match tail {
+        ItemTail::Value(_sign, value) => {
+            let span = word.span.to(value.span());
+            let value = Box::into_inner(value);
+            Item::Value { word, value, span }
+        }
+        ItemTail::Size(_open, size, close) => {
+            let span = word.span.to(close);
+            Item::Array { word, size, span }
+        }
+    }
+}
+
 /// One declared variable.
-#[tactic(auto, unfolding(crate::specs::ReadingStmts::item_at, crate::specs::ReadingChoices::perhaps_at))]
+#[tactic(auto, unfolding(crate::specs::reader::Stmts::item_at, crate::specs::reader::Choices::perhaps_at))]
 fn item(alloc: Global, left: usize, tokens: &[Token]) -> Result<(Item, &[Token]), Stop>
     requires { left ≤ 128 }
     ensures value { Gives (λ r. (item_of r.0, r.1.now)) result (item_at left tokens.now) }
@@ -83,16 +109,7 @@ fn item(alloc: Global, left: usize, tokens: &[Token]) -> Result<(Item, &[Token])
         return Ok((Item::Plain(word), rest));
     }
     let (tail, rest) = item_tail(alloc, left, rest)?;
-    match tail {
-        ItemTail::Value(_sign, value) => {
-            let span = word.span.to(value.span());
-            Ok((Item::Value(word, value, span), rest))
-        }
-        ItemTail::Size(_open, size, close) => {
-            let span = word.span.to(close);
-            Ok((Item::Array(word, size, span), rest))
-        }
-    }
+    Ok((with_tail(word, tail), rest))
 }
 
 /// One declared variable or more, with commas, and where the last one ends.
@@ -116,18 +133,18 @@ fn items(alloc: Global, left: usize, tokens: &[Token]) -> Result<(Vec<Item>, Spa
 }
 
 /// A type and the variables declared with it.
-#[tactic(auto, unfolding(crate::specs::ReadingStmts::declaration_at))]
+#[tactic(auto, unfolding(crate::specs::reader::Stmts::declaration_at))]
 pub fn declaration(
     alloc: Global,
     left: usize,
     tokens: &[Token],
-) -> Result<(Declaration, &[Token]), Stop>
+) -> Result<(Box<Declaration>, &[Token]), Stop>
     requires { left ≤ 128 }
-    ensures value { Gives (λ r. (declaration_of r.0, r.1.now)) result (declaration_at left tokens.now) }
+    ensures value { Gives (λ r. (declaration_of r.0.value, r.1.now)) result (declaration_at left tokens.now) }
     ensures rest { IfOk result (λ r. length r.1.now < length tokens.now) }
 {
     let (ty, rest) = type_words(alloc, tokens)?;
     let (items, end, rest) = items(alloc, left, rest)?;
     let span = ty.span.to(end);
-    Ok((Declaration { ty, items, span }, rest))
+    Ok((Box::new(alloc, Declaration { ty, items, span })?, rest))
 }

@@ -2,18 +2,18 @@
 ghost use Rattle.std.specs.Prelude.{◌≡◌, ◌≤◌, ◌+◌, ◌<◌, IfOk, IfErr, max, length, ◌∷◌};
 ghost use Rattle.isp_lex.specs.Tokens.{starts_with};
 ghost use Rattle.isp_syntax.specs.Signs.{level, joined_level, loosest};
-ghost use Rattle.isp_syntax.specs.Tree.{expr_of, exprs_of, span_of};
-ghost use Rattle.isp_syntax.specs.Depth.{depth, depth_of_all};
-ghost use Rattle.isp_syntax.specs.Reading.{Gives, is_word, listed_at};
-ghost use Rattle.isp_syntax.specs.ReadingChoices.{begins_with};
-ghost use Rattle.isp_syntax.specs.ReadingExprs.{start_of, begins_expr, operator_of, operator_at, bracketed_at, place_at, argument_at, named_at, bracket_at, operand_from, joined, parts_at, choice_of, expr_at, target_at};
+ghost use Rattle.isp_tree.specs.Views.{expr_of, place_of, argument_of, arguments_of};
+ghost use Rattle.isp_tree.specs.Depth.{depth, depth_of_place, depth_of_argument, depth_of_all};
+ghost use Rattle.isp_syntax.specs.reader.Readers.{Gives, is_word, listed_at};
+ghost use Rattle.isp_syntax.specs.reader.Choices.{begins_with};
+ghost use Rattle.isp_syntax.specs.reader.Exprs.{start_of, begins_expr, operator_of, operator_at, bracketed_at, place_at, argument_at, arguments_at, suffix_of, depth_of_suffix, suffix_at, named, named_at, cast_at, closed_at, bracket_at, prefixed_at, operand_from, joined, parts_of, parts_at, choice_of, expr_at, target_at};
 
 use crate::reading::{larger, mark, refuse, starts_with, tail, word};
 use crate::stop::{Stop, Why};
-use crate::tree::{Expr, Operator, Prefix, Word};
 use crate::types::{begins_type, type_words};
 use isp_base::{Span, Value};
 use isp_lex::{Mark, Token, TokenKind};
+use isp_tree::{Argument, Expr, Operator, Place, Prefix, Word};
 use std::alloc::Global;
 
 /// The level of the operators that bind loosest.
@@ -132,44 +132,61 @@ fn names(tokens: &[Token]) -> bool
     }
 }
 
-fn join(alloc: Global, left: Expr, op: Operator, right: Expr) -> Result<Expr, Stop>
-    ensures value { IfOk result (λ z. expr_of z ≡ joined (expr_of left) op (expr_of right)) }
+/// Two operands and the operator between them.
+fn join(
+    alloc: Global,
+    left: Box<Expr>,
+    operator: Operator,
+    right: Box<Expr>,
+) -> Result<Box<Expr>, Stop>
+    ensures value { IfOk result (λ z. expr_of z.value ≡ joined (expr_of left.value) operator (expr_of right.value)) }
     ensures memory { IfErr result (λ e. e ≡ Stop.Memory) }
 {
     let span = left.span().to(right.span());
-    Ok(Expr::Binary(op, Box::new(alloc, left)?, Box::new(alloc, right)?, span))
+    let joined = Expr::Binary {
+        operator,
+        left,
+        right,
+        span,
+    };
+    Ok(Box::new(alloc, joined)?)
 }
 
 /// Both parts of a choice, with the colon's place between.
-type Parts = (Expr, (Span, Expr));
-
-fn choose(alloc: Global, test: Expr, parts: Parts) -> Result<Expr, Stop>
-    ensures value { IfOk result (λ z. expr_of z ≡ choice_of (expr_of test) (expr_of parts.0, (parts.1.0, expr_of parts.1.1))) }
-    ensures memory { IfErr result (λ e. e ≡ Stop.Memory) }
-{
-    let (first, (_colon, second)) = parts;
-    let span = test.span().to(second.span());
-    Ok(Expr::Choose(
-        Box::new(alloc, test)?,
-        Box::new(alloc, first)?,
-        Box::new(alloc, second)?,
-        span,
-    ))
+#[derive(Drop)]
+pub struct Branches {
+    pub then: Box<Expr>,
+    pub colon: Span,
+    pub otherwise: Box<Expr>,
 }
 
-/// An expression, its depth, and the tokens after it.
-pub type Found<'a> = (Expr, usize, &'a [Token]);
+fn choose(alloc: Global, test: Box<Expr>, parts: Branches) -> Result<Box<Expr>, Stop>
+    ensures value { IfOk result (λ z. expr_of z.value ≡ choice_of (expr_of test.value) (parts_of parts)) }
+    ensures memory { IfErr result (λ e. e ≡ Stop.Memory) }
+{
+    let span = test.span().to(parts.otherwise.span());
+    let choice = Expr::Choose {
+        test,
+        then: parts.then,
+        otherwise: parts.otherwise,
+        span,
+    };
+    Ok(Box::new(alloc, choice)?)
+}
+
+/// An expression in a box, its depth, and the tokens after it.
+pub type Found<'a> = (Box<Expr>, usize, &'a [Token]);
 
 /// An index with its closing bracket, its depth, and the tokens after it.
-type Index<'a> = ((Expr, Span), usize, &'a [Token]);
+type Index<'a> = ((Box<Expr>, Span), usize, &'a [Token]);
 
 /// What is behind `[`.
 #[cycle(expr)]
-#[tactic(auto, unfolding(crate::specs::ReadingExprs::bracketed_at))]
+#[tactic(auto, unfolding(crate::specs::reader::Exprs::bracketed_at))]
 fn index(alloc: Global, left: usize, tokens: &[Token]) -> Result<Index<'_>, Stop>
     requires { left ≤ 128 }
-    ensures value { Gives (λ r. ((expr_of r.0.0, r.0.1), r.2.now)) result (bracketed_at (expr_at left loosest) tokens.now) }
-    ensures height { IfOk result (λ r. r.1 ≡ depth (expr_of r.0.0)) }
+    ensures value { Gives (λ r. ((expr_of r.0.0.value, r.0.1), r.2.now)) result (bracketed_at (expr_at left loosest) tokens.now) }
+    ensures height { IfOk result (λ r. r.1 ≡ depth (expr_of r.0.0.value)) }
     ensures rest { IfOk result (λ r. length r.2.now < length tokens.now) }
     ensures bounded { IfOk result (λ r. r.1 ≤ left) }
 {
@@ -178,35 +195,40 @@ fn index(alloc: Global, left: usize, tokens: &[Token]) -> Result<Index<'_>, Stop
     Ok(((value, close), height, rest))
 }
 
-/// A variable, or an item of an array.
+/// A variable, or an element of an array.
 #[cycle(expr)]
-#[tactic(auto, unfolding(crate::specs::ReadingExprs::place_at, crate::specs::ReadingExprs::index_at, crate::specs::Reading::optional))]
-fn place_from(alloc: Global, inner: usize, tokens: &[Token]) -> Result<Found<'_>, Stop>
+#[tactic(auto, unfolding(crate::specs::reader::Exprs::place_at, crate::specs::reader::Exprs::index_at, crate::specs::reader::Readers::optional))]
+fn place_from(
+    alloc: Global,
+    inner: usize,
+    tokens: &[Token],
+) -> Result<(Place, usize, &[Token]), Stop>
     requires { inner < 128 }
-    ensures value { Gives (λ r. (expr_of r.0, r.2.now)) result (place_at (expr_at inner loosest) tokens.now) }
-    ensures height { IfOk result (λ r. r.1 ≡ depth (expr_of r.0)) }
+    ensures value { Gives (λ r. (place_of r.0, r.2.now)) result (place_at (expr_at inner loosest) tokens.now) }
+    ensures height { IfOk result (λ r. r.1 ≡ depth_of_place (place_of r.0)) }
     ensures rest { IfOk result (λ r. length r.2.now < length tokens.now) }
     ensures bounded { IfOk result (λ r. r.1 ≤ inner + 1) }
 {
     let (word, rest) = word(tokens)?;
     if !starts_with(Mark::BracketOpen, rest) {
-        return Ok((Expr::Name(word), 1, rest));
+        return Ok((Place::Variable(word), 1, rest));
     }
-    let ((value, close), height, rest) = index(alloc, inner, tail(rest))?;
+    let ((index, close), height, rest) = index(alloc, inner, tail(rest))?;
     let span = word.span.to(close);
-    Ok((
-        Expr::Item(word, Box::new(alloc, value)?, span),
-        height + 1,
-        rest,
-    ))
+    let element = Place::Element {
+        array: word,
+        index,
+        span,
+    };
+    Ok((element, height + 1, rest))
 }
 
 /// What a reference is to.
 #[cycle(expr)]
-fn place(alloc: Global, left: usize, tokens: &[Token]) -> Result<Found<'_>, Stop>
+fn place(alloc: Global, left: usize, tokens: &[Token]) -> Result<(Place, usize, &[Token]), Stop>
     requires { left ≤ 128 }
-    ensures value { Gives (λ r. (expr_of r.0, r.2.now)) result (target_at left tokens.now) }
-    ensures height { IfOk result (λ r. r.1 ≡ depth (expr_of r.0)) }
+    ensures value { Gives (λ r. (place_of r.0, r.2.now)) result (target_at left tokens.now) }
+    ensures height { IfOk result (λ r. r.1 ≡ depth_of_place (place_of r.0)) }
     ensures rest { IfOk result (λ r. length r.2.now < length tokens.now) }
     ensures bounded { IfOk result (λ r. r.1 ≤ left) }
 {
@@ -221,21 +243,28 @@ fn place(alloc: Global, left: usize, tokens: &[Token]) -> Result<Found<'_>, Stop
 
 /// One argument: a value, or a reference.
 #[cycle(expr)]
-#[tactic(auto, unfolding(crate::specs::ReadingExprs::argument_at, crate::specs::ReadingChoices::either_at, crate::specs::Reading::mark_at))]
-fn argument(alloc: Global, left: usize, tokens: &[Token]) -> Result<Found<'_>, Stop>
+#[tactic(auto, unfolding(crate::specs::reader::Exprs::argument_at, crate::specs::reader::Choices::either_at, crate::specs::reader::Readers::mark_at))]
+fn argument(
+    alloc: Global,
+    left: usize,
+    tokens: &[Token],
+) -> Result<(Argument, usize, &[Token]), Stop>
     requires { left ≤ 128 }
-    ensures value { Gives (λ r. (expr_of r.0, r.2.now)) result (argument_at (expr_at left loosest) (target_at left) tokens.now) }
-    ensures height { IfOk result (λ r. r.1 ≡ depth (expr_of r.0)) }
+    ensures value { Gives (λ r. (argument_of r.0, r.2.now)) result (argument_at (expr_at left loosest) (target_at left) tokens.now) }
+    ensures height { IfOk result (λ r. r.1 ≡ depth_of_argument (argument_of r.0)) }
     ensures rest { IfOk result (λ r. length r.2.now < length tokens.now) }
     ensures bounded { IfOk result (λ r. r.1 ≤ left) }
 {
     match tokens {
         [first, rest @ ..] if first.kind.is(Mark::And) => {
-            let (value, height, rest) = place(alloc, left, rest)?;
-            let span = first.span.to(value.span());
-            Ok((Expr::Reference(Box::new(alloc, value)?, span), height, rest))
+            let (place, height, rest) = place(alloc, left, rest)?;
+            let span = first.span.to(place.span());
+            Ok((Argument::Reference { place, span }, height, rest))
         }
-        _ => expr(alloc, left, tokens),
+        _ => {
+            let (value, height, rest) = expr(alloc, left, tokens)?;
+            Ok((Argument::Value(Box::into_inner(value)), height, rest))
+        }
     }
 }
 
@@ -245,10 +274,10 @@ fn arguments(
     alloc: Global,
     left: usize,
     tokens: &[Token],
-) -> Result<(Vec<Expr>, usize, &[Token]), Stop>
+) -> Result<(Vec<Argument>, usize, &[Token]), Stop>
     requires { left ≤ 128 }
-    ensures value { Gives (λ r. (exprs_of r.0.items, r.2.now)) result (listed_at Mark.ParenClose (argument_at (expr_at left loosest) (target_at left)) tokens.now) }
-    ensures height { IfOk result (λ r. r.1 ≡ depth_of_all (exprs_of r.0.items)) }
+    ensures value { Gives (λ r. (arguments_of r.0.items, r.2.now)) result (listed_at Mark.ParenClose (argument_at (expr_at left loosest) (target_at left)) tokens.now) }
+    ensures height { IfOk result (λ r. r.1 ≡ depth_of_all (arguments_of r.0.items)) }
     ensures rest { IfOk result (λ r. length r.2.now ≤ length tokens.now) }
     ensures bounded { IfOk result (λ r. r.1 ≤ left) }
 {
@@ -269,54 +298,184 @@ fn arguments(
     }
 }
 
-/// A variable, an item of an array, or a call.
+/// The arguments of a call with the closing bracket, and the depth of the deepest.
 #[cycle(expr)]
-#[tactic(auto, unfolding(crate::specs::ReadingExprs::named_at, crate::specs::ReadingExprs::suffix_at, crate::specs::ReadingExprs::arguments_at))]
+#[tactic(auto, unfolding(crate::specs::reader::Exprs::arguments_at))]
+fn closed_arguments(
+    alloc: Global,
+    left: usize,
+    tokens: &[Token],
+) -> Result<((Vec<Argument>, Span), usize, &[Token]), Stop>
+    requires { left ≤ 128 }
+    ensures value { Gives (λ r. ((arguments_of r.0.0.items, r.0.1), r.2.now)) result (arguments_at (expr_at left loosest) (target_at left) tokens.now) }
+    ensures height { IfOk result (λ r. r.1 ≡ depth_of_all (arguments_of r.0.0.items)) }
+    ensures rest { IfOk result (λ r. length r.2.now < length tokens.now) }
+    ensures bounded { IfOk result (λ r. r.1 ≤ left) }
+{
+    let (all, height, rest) = arguments(alloc, left, tokens)?;
+    let (close, rest) = mark(Mark::ParenClose, rest)?;
+    Ok(((all, close), height, rest))
+}
+
+/// What stands behind a name in an expression.
+#[derive(Drop)]
+pub enum Behind {
+    Nothing,
+    /// `[e]`
+    Index(Box<Expr>, Span),
+    /// `(e, ..)`
+    Arguments(Vec<Argument>, Span),
+}
+
+/// An index or arguments, if they stand here.
+#[cycle(expr)]
+#[tactic(auto, unfolding(crate::specs::reader::Exprs::suffix_at))]
+fn suffix(alloc: Global, left: usize, tokens: &[Token]) -> Result<(Behind, usize, &[Token]), Stop>
+    requires { left ≤ 128 }
+    ensures value { Gives (λ r. (suffix_of r.0, r.2.now)) result (suffix_at (bracketed_at (expr_at left loosest)) (arguments_at (expr_at left loosest) (target_at left)) tokens.now) }
+    ensures height { IfOk result (λ r. r.1 ≡ depth_of_suffix (suffix_of r.0)) }
+    ensures rest { IfOk result (λ r. length r.2.now ≤ length tokens.now) }
+    ensures bounded { IfOk result (λ r. r.1 ≤ left) }
+{
+    if starts_with(Mark::BracketOpen, tokens) {
+        let ((value, close), height, rest) = index(alloc, left, tail(tokens))?;
+        return Ok((Behind::Index(value, close), height, rest));
+    }
+    if starts_with(Mark::ParenOpen, tokens) {
+        let ((all, close), height, rest) = closed_arguments(alloc, left, tail(tokens))?;
+        return Ok((Behind::Arguments(all, close), height, rest));
+    }
+    Ok((Behind::Nothing, 0, tokens))
+}
+
+/// A name with what stands behind it.
+fn with_suffix(word: Word, suffix: Behind) -> Expr
+    ensures { expr_of result ≡ named word (suffix_of suffix) }
+{
+    match suffix {
+        Behind::Nothing => Expr::Place(Place::Variable(word)),
+        Behind::Index(index, close) => {
+            let span = word.span.to(close);
+            let array = word;
+            Expr::Place(Place::Element { array, index, span })
+        }
+        Behind::Arguments(arguments, close) => {
+            let span = word.span.to(close);
+            Expr::Call {
+                function: word,
+                arguments,
+                span,
+            }
+        }
+    }
+}
+
+/// A variable, an element of an array, or a call.
+#[cycle(expr)]
+#[tactic(auto, unfolding(crate::specs::reader::Exprs::named_at))]
 fn named(alloc: Global, inner: usize, tokens: &[Token]) -> Result<Found<'_>, Stop>
     requires { inner < 128 }
-    ensures value { Gives (λ r. (expr_of r.0, r.2.now)) result (named_at (expr_at inner loosest) (target_at inner) tokens.now) }
-    ensures height { IfOk result (λ r. r.1 ≡ depth (expr_of r.0)) }
+    ensures value { Gives (λ r. (expr_of r.0.value, r.2.now)) result (named_at (expr_at inner loosest) (target_at inner) tokens.now) }
+    ensures height { IfOk result (λ r. r.1 ≡ depth (expr_of r.0.value)) }
     ensures rest { IfOk result (λ r. length r.2.now < length tokens.now) }
     ensures bounded { IfOk result (λ r. r.1 ≤ inner + 1) }
 {
     let (word, rest) = word(tokens)?;
-    if starts_with(Mark::BracketOpen, rest) {
-        let ((value, close), height, rest) = index(alloc, inner, tail(rest))?;
-        let span = word.span.to(close);
-        let item = Expr::Item(word, Box::new(alloc, value)?, span);
-        return Ok((item, height + 1, rest));
-    }
-    if starts_with(Mark::ParenOpen, rest) {
-        let (values, height, rest) = arguments(alloc, inner, tail(rest))?;
-        let (close, rest) = mark(Mark::ParenClose, rest)?;
-        let span = word.span.to(close);
-        return Ok((Expr::Call(word, values, span), height + 1, rest));
-    }
-    Ok((Expr::Name(word), 1, rest))
+    let (suffix, height, rest) = suffix(alloc, inner, rest)?;
+    let found = Box::new(alloc, with_suffix(word, suffix))?;
+    Ok((found, height + 1, rest))
+}
+
+/// A type, a closing bracket, and what is cast, behind an opening bracket.
+#[cycle(expr)]
+#[tactic(auto, unfolding(crate::specs::reader::Exprs::cast_at))]
+fn cast(alloc: Global, inner: usize, opening: Span, tokens: &[Token]) -> Result<Found<'_>, Stop>
+    requires { inner < 128 }
+    ensures value { Gives (λ r. (expr_of r.0.value, r.2.now)) result (cast_at (expr_at inner) opening tokens.now) }
+    ensures height { IfOk result (λ r. r.1 ≡ depth (expr_of r.0.value)) }
+    ensures rest { IfOk result (λ r. length r.2.now < length tokens.now) }
+    ensures bounded { IfOk result (λ r. r.1 ≤ inner + 1) }
+{
+    let (ty, rest) = type_words(alloc, tokens)?;
+    let (_close, rest) = mark(Mark::ParenClose, rest)?;
+    let (operand, height, rest) = unary(alloc, inner, rest)?;
+    let span = opening.to(operand.span());
+    let cast = Box::new(alloc, Expr::Cast { ty, operand, span })?;
+    Ok((cast, height + 1, rest))
+}
+
+/// An expression and a closing bracket, behind an opening bracket.
+#[cycle(expr)]
+#[tactic(auto, unfolding(crate::specs::reader::Exprs::closed_at))]
+fn closed(alloc: Global, inner: usize, opening: Span, tokens: &[Token]) -> Result<Found<'_>, Stop>
+    requires { inner < 128 }
+    ensures value { Gives (λ r. (expr_of r.0.value, r.2.now)) result (closed_at (expr_at inner) opening tokens.now) }
+    ensures height { IfOk result (λ r. r.1 ≡ depth (expr_of r.0.value)) }
+    ensures rest { IfOk result (λ r. length r.2.now < length tokens.now) }
+    ensures bounded { IfOk result (λ r. r.1 ≤ inner + 1) }
+{
+    let (inside, height, rest) = expr(alloc, inner, tokens)?;
+    let (close, rest) = mark(Mark::ParenClose, rest)?;
+    let span = opening.to(close);
+    let brackets = Box::new(
+        alloc,
+        Expr::Brackets {
+            inner: inside,
+            span,
+        },
+    )?;
+    Ok((brackets, height + 1, rest))
 }
 
 /// What is behind `(`: a type and what is cast to it, or an expression.
 #[cycle(expr)]
-#[tactic(auto, unfolding(crate::specs::ReadingExprs::bracket_at, crate::specs::ReadingChoices::either_at))]
 fn bracket(alloc: Global, inner: usize, opening: Span, tokens: &[Token]) -> Result<Found<'_>, Stop>
     requires { inner < 128 }
-    ensures value { Gives (λ r. (expr_of r.0, r.2.now)) result (bracket_at (expr_at inner) opening tokens.now) }
-    ensures height { IfOk result (λ r. r.1 ≡ depth (expr_of r.0)) }
+    ensures value { Gives (λ r. (expr_of r.0.value, r.2.now)) result (bracket_at (expr_at inner) opening tokens.now) }
+    ensures height { IfOk result (λ r. r.1 ≡ depth (expr_of r.0.value)) }
     ensures rest { IfOk result (λ r. length r.2.now < length tokens.now) }
     ensures bounded { IfOk result (λ r. r.1 ≤ inner + 1) }
 {
     if begins_type(tokens) {
-        let (ty, rest) = type_words(alloc, tokens)?;
-        let (_close, rest) = mark(Mark::ParenClose, rest)?;
-        let (value, height, rest) = unary(alloc, inner, rest)?;
-        let span = opening.to(value.span());
-        let cast = Expr::Cast(ty, Box::new(alloc, value)?, span);
-        return Ok((cast, height + 1, rest));
+        return cast(alloc, inner, opening, tokens);
     }
-    let (value, height, rest) = expr(alloc, inner, tokens)?;
-    let (close, rest) = mark(Mark::ParenClose, rest)?;
-    let brackets = Expr::Brackets(Box::new(alloc, value)?, opening.to(close));
-    Ok((brackets, height + 1, rest))
+    closed(alloc, inner, opening, tokens)
+}
+
+/// One token that is an operand of its own.
+fn single(alloc: Global, found: Expr, rest: &[Token]) -> Result<Found<'_>, Stop>
+    requires { depth (expr_of found) ≡ 1 }
+    ensures value { IfOk result (λ r. expr_of r.0.value ≡ expr_of found) }
+    ensures height { IfOk result (λ r. r.1 ≡ 1) }
+    ensures rest { IfOk result (λ r. r.2.now ≡ rest.now) }
+    ensures memory { IfErr result (λ e. e ≡ Stop.Memory) }
+{
+    Ok((Box::new(alloc, found)?, 1, rest))
+}
+
+/// An operand behind an operator that stands before it.
+#[cycle(expr)]
+fn prefixed(
+    alloc: Global,
+    inner: usize,
+    operator: Prefix,
+    place: Span,
+    tokens: &[Token],
+) -> Result<Found<'_>, Stop>
+    requires { inner < 128 }
+    ensures value { Gives (λ r. (expr_of r.0.value, r.2.now)) result (prefixed_at (expr_at inner) operator place tokens.now) }
+    ensures height { IfOk result (λ r. r.1 ≡ depth (expr_of r.0.value)) }
+    ensures rest { IfOk result (λ r. length r.2.now < length tokens.now) }
+    ensures bounded { IfOk result (λ r. r.1 ≤ inner + 1) }
+{
+    let (operand, height, rest) = unary(alloc, inner, tokens)?;
+    let span = place.to(operand.span());
+    let found = Expr::Prefix {
+        operator,
+        operand,
+        span,
+    };
+    Ok((Box::new(alloc, found)?, height + 1, rest))
 }
 
 #[cycle(expr)]
@@ -329,26 +488,21 @@ fn unary_from<'a>(
 ) -> Result<Found<'a>, Stop>
     requires whole { tokens.now ≡ first.now ∷ rest.now }
     requires room { inner < 128 }
-    ensures value { Gives (λ r. (expr_of r.0, r.2.now)) result
+    ensures value { Gives (λ r. (expr_of r.0.value, r.2.now)) result
         (operand_from (expr_at inner) (target_at inner) (start_of first.now.kind) first.now rest.now) }
-    ensures height { IfOk result (λ r. r.1 ≡ depth (expr_of r.0)) }
+    ensures height { IfOk result (λ r. r.1 ≡ depth (expr_of r.0.value)) }
     ensures rest { IfOk result (λ r. length r.2.now < length tokens.now) }
     ensures bounded { IfOk result (λ r. r.1 ≤ inner + 1) }
 {
     let span = first.span;
     match start_of(&first.kind) {
-        Start::Number(value) => Ok((Expr::Number(value, span), 1, rest)),
-        Start::Truth(truth) => Ok((Expr::Truth(truth, span), 1, rest)),
-        Start::ProgramIndex => Ok((Expr::ProgramIndex(span), 1, rest)),
-        Start::ProgramCount => Ok((Expr::ProgramCount(span), 1, rest)),
+        Start::Number(value) => single(alloc, Expr::Number { value, span }, rest),
+        Start::Truth(value) => single(alloc, Expr::Truth { value, span }, rest),
+        Start::ProgramIndex => single(alloc, Expr::ProgramIndex { span }, rest),
+        Start::ProgramCount => single(alloc, Expr::ProgramCount { span }, rest),
         Start::Word => named(alloc, inner, tokens),
         Start::Bracket => bracket(alloc, inner, span, rest),
-        Start::Prefix(prefix) => {
-            let (value, height, rest) = unary(alloc, inner, rest)?;
-            let span = span.to(value.span());
-            let found = Expr::Prefix(prefix, Box::new(alloc, value)?, span);
-            Ok((found, height + 1, rest))
-        }
+        Start::Prefix(operator) => prefixed(alloc, inner, operator, span, rest),
         Start::Nothing => Err(refuse(Why::Unexpected, tokens)),
     }
 }
@@ -357,8 +511,8 @@ fn unary_from<'a>(
 #[cycle(expr)]
 pub fn unary(alloc: Global, left: usize, tokens: &[Token]) -> Result<Found<'_>, Stop>
     requires { left ≤ 128 }
-    ensures value { Gives (λ r. (expr_of r.0, r.2.now)) result (expr_at left 0 tokens.now) }
-    ensures height { IfOk result (λ r. r.1 ≡ depth (expr_of r.0)) }
+    ensures value { Gives (λ r. (expr_of r.0.value, r.2.now)) result (expr_at left 0 tokens.now) }
+    ensures height { IfOk result (λ r. r.1 ≡ depth (expr_of r.0.value)) }
     ensures rest { IfOk result (λ r. length r.2.now < length tokens.now) }
     ensures bounded { IfOk result (λ r. r.1 ≤ left) }
 {
@@ -379,8 +533,8 @@ pub fn unary(alloc: Global, left: usize, tokens: &[Token]) -> Result<Found<'_>, 
 fn binary(alloc: Global, looseness: usize, left: usize, tokens: &[Token]) -> Result<Found<'_>, Stop>
     requires level { looseness ≤ joined_level }
     requires room { left ≤ 128 }
-    ensures value { Gives (λ r. (expr_of r.0, r.2.now)) result (expr_at left looseness tokens.now) }
-    ensures height { IfOk result (λ r. r.1 ≡ depth (expr_of r.0)) }
+    ensures value { Gives (λ r. (expr_of r.0.value, r.2.now)) result (expr_at left looseness tokens.now) }
+    ensures height { IfOk result (λ r. r.1 ≡ depth (expr_of r.0.value)) }
     ensures rest { IfOk result (λ r. length r.2.now < length tokens.now) }
     ensures bounded { IfOk result (λ r. r.1 ≤ left) }
 {
@@ -402,30 +556,31 @@ fn binary(alloc: Global, looseness: usize, left: usize, tokens: &[Token]) -> Res
 
 /// What is behind `?`, the depth of the deeper part, and the tokens after it.
 #[cycle(expr)]
-#[tactic(auto, unfolding(crate::specs::ReadingExprs::parts_at))]
-fn parts(alloc: Global, left: usize, tokens: &[Token]) -> Result<(Parts, usize, &[Token]), Stop>
+#[tactic(auto, unfolding(crate::specs::reader::Exprs::parts_at))]
+fn parts(alloc: Global, left: usize, tokens: &[Token]) -> Result<(Branches, usize, &[Token]), Stop>
     requires { left ≤ 128 }
-    ensures value { Gives (λ r. ((expr_of r.0.0, (r.0.1.0, expr_of r.0.1.1)), r.2.now)) result (parts_at (expr_at left loosest) tokens.now) }
-    ensures height { IfOk result (λ r. r.1 ≡ max (depth (expr_of r.0.0)) (depth (expr_of r.0.1.1))) }
+    ensures value { Gives (λ r. (parts_of r.0, r.2.now)) result (parts_at (expr_at left loosest) tokens.now) }
+    ensures height { IfOk result (λ r. r.1 ≡ max (depth (expr_of r.0.then.value)) (depth (expr_of r.0.otherwise.value))) }
     ensures rest { IfOk result (λ r. length r.2.now < length tokens.now) }
     ensures bounded { IfOk result (λ r. r.1 ≤ left) }
 {
-    let (first, height, rest) = expr(alloc, left, tokens)?;
+    let (then, height, rest) = expr(alloc, left, tokens)?;
     let (colon, rest) = mark(Mark::Colon, rest)?;
-    let (second, second_height, rest) = expr(alloc, left, rest)?;
-    Ok((
-        (first, (colon, second)),
-        larger(height, second_height),
-        rest,
-    ))
+    let (otherwise, otherwise_height, rest) = expr(alloc, left, rest)?;
+    let parts = Branches {
+        then,
+        colon,
+        otherwise,
+    };
+    Ok((parts, larger(height, otherwise_height), rest))
 }
 
 /// An expression, no deeper than `left`.
 #[cycle(expr)]
 pub fn expr(alloc: Global, left: usize, tokens: &[Token]) -> Result<Found<'_>, Stop>
     requires { left ≤ 128 }
-    ensures value { Gives (λ r. (expr_of r.0, r.2.now)) result (expr_at left loosest tokens.now) }
-    ensures height { IfOk result (λ r. r.1 ≡ depth (expr_of r.0)) }
+    ensures value { Gives (λ r. (expr_of r.0.value, r.2.now)) result (expr_at left loosest tokens.now) }
+    ensures height { IfOk result (λ r. r.1 ≡ depth (expr_of r.0.value)) }
     ensures rest { IfOk result (λ r. length r.2.now < length tokens.now) }
     ensures bounded { IfOk result (λ r. r.1 ≤ left) }
 {

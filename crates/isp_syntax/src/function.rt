@@ -1,17 +1,17 @@
 //! Functions.
 ghost use Rattle.std.specs.Prelude.{◌≡◌, ◌≤◌, ◌<◌, ◌+◌, IfOk, length, map, Ok};
-ghost use Rattle.isp_syntax.specs.Tree.{type_of, param_of, function_of};
-ghost use Rattle.isp_syntax.specs.Reading.{Gives, optional, mark_at, list_at};
-ghost use Rattle.isp_syntax.specs.ReadingChoices.{signs_at};
-ghost use Rattle.isp_syntax.specs.ReadingPrograms.{linkage_of, linkage_at, linkages_at, param_at, only_void, params_at, signature_at, function_at};
+ghost use Rattle.isp_tree.specs.Views.{type_of, block_of, param_of, function_of};
+ghost use Rattle.isp_syntax.specs.reader.Readers.{Gives, optional, mark_at, list_at};
+ghost use Rattle.isp_syntax.specs.reader.Choices.{signs_at};
+ghost use Rattle.isp_syntax.specs.reader.Programs.{linkage_of, linkage_at, linkages_at, param_at, only_void, params_at, signature_of, signature_at, function_from, function_at};
 
 use crate::reading::{mark, starts_with, tail, word};
 use crate::stmt::block;
 use crate::stop::Stop;
-use crate::tree::{Function, Linkage, Param, TypeWords, Word};
 use crate::types::{first_span, type_words};
 use isp_base::Span;
 use isp_lex::{Mark, Token, TokenKind};
+use isp_tree::{Block, Function, Linkage, Param, TypeWords, Word};
 use std::alloc::Global;
 
 fn linkage_of(kind: &TokenKind) -> Option<Linkage>
@@ -51,7 +51,7 @@ fn linkages(alloc: Global, tokens: &[Token]) -> Result<(Vec<Linkage>, &[Token]),
 }
 
 /// `[]`, where it ends.
-#[tactic(auto, unfolding(crate::specs::Reading::optional))]
+#[tactic(auto, unfolding(crate::specs::reader::Readers::optional))]
 fn array_sign(tokens: &[Token]) -> Result<(Option<Span>, &[Token]), Stop>
     ensures value { Gives (λ r. (r.0, r.1.now)) result (optional Mark.BracketOpen (mark_at Mark.BracketClose) tokens.now) }
     ensures rest { IfOk result (λ r. length r.1.now ≤ length tokens.now) }
@@ -64,7 +64,7 @@ fn array_sign(tokens: &[Token]) -> Result<(Option<Span>, &[Token]), Stop>
 }
 
 /// One parameter.
-#[tactic(auto, unfolding(crate::specs::ReadingPrograms::param_at))]
+#[tactic(auto, unfolding(crate::specs::reader::Programs::param_at))]
 fn param(alloc: Global, tokens: &[Token]) -> Result<(Param, &[Token]), Stop>
     ensures value { Gives (λ r. (param_of r.0, r.1.now)) result (param_at tokens.now) }
     ensures rest { IfOk result (λ r. length r.1.now < length tokens.now) }
@@ -116,7 +116,7 @@ fn only_void(tokens: &[Token]) -> bool
 }
 
 /// The parameters before a closing bracket: `void` alone is none.
-#[tactic(auto, unfolding(crate::specs::ReadingPrograms::params_at, crate::specs::Reading::listed_at))]
+#[tactic(auto, unfolding(crate::specs::reader::Programs::params_at, crate::specs::reader::Readers::listed_at))]
 fn params(alloc: Global, tokens: &[Token]) -> Result<(Vec<Param>, &[Token]), Stop>
     ensures value { Gives (λ r. (map param_of r.0.items, r.1.now)) result (params_at tokens.now) }
     ensures rest { IfOk result (λ r. length r.1.now ≤ length tokens.now) }
@@ -131,42 +131,59 @@ fn params(alloc: Global, tokens: &[Token]) -> Result<(Vec<Param>, &[Token]), Sto
 }
 
 /// A function up to its body: its words, its type, its name and its parameters.
-type Signature = (Vec<Linkage>, (TypeWords, (Word, Vec<Param>)));
+#[derive(Drop)]
+pub struct Heading {
+    pub linkages: Vec<Linkage>,
+    pub result: TypeWords,
+    pub word: Word,
+    pub params: Vec<Param>,
+}
 
-#[tactic(auto, unfolding(crate::specs::ReadingPrograms::signature_at))]
-fn signature(alloc: Global, tokens: &[Token]) -> Result<(Signature, &[Token]), Stop>
-    ensures value { Gives (λ r. ((r.0.0.items, (type_of r.0.1.0, (r.0.1.1.0, map param_of r.0.1.1.1.items))), r.1.now)) result (signature_at tokens.now) }
+#[tactic(auto, unfolding(crate::specs::reader::Programs::signature_at))]
+fn signature(alloc: Global, tokens: &[Token]) -> Result<(Box<Heading>, &[Token]), Stop>
+    ensures value { Gives (λ r. (signature_of r.0.value, r.1.now)) result (signature_at tokens.now) }
     ensures rest { IfOk result (λ r. length r.1.now < length tokens.now) }
 {
     let (linkages, rest) = linkages(alloc, tokens)?;
-    let (ty, rest) = type_words(alloc, rest)?;
+    let (result, rest) = type_words(alloc, rest)?;
     let (word, rest) = word(rest)?;
     let (_open, rest) = mark(Mark::ParenOpen, rest)?;
     let (params, rest) = params(alloc, rest)?;
     let (_close, rest) = mark(Mark::ParenClose, rest)?;
-    Ok(((linkages, (ty, (word, params))), rest))
+    let heading = Heading {
+        linkages,
+        result,
+        word,
+        params,
+    };
+    Ok((Box::new(alloc, heading)?, rest))
+}
+
+/// A function made of its parts.
+fn with_body(start: Span, heading: Box<Heading>, body: Block) -> Function
+    ensures { function_of result ≡ function_from start (signature_of heading.value) (block_of body) }
+{
+    let heading = Box::into_inner(heading);
+    let span = start.to(body.span);
+    Function {
+        linkages: heading.linkages,
+        result: heading.result,
+        word: heading.word,
+        params: heading.params,
+        body,
+        span,
+    }
 }
 
 /// A function with a body no deeper than `left`.
-#[tactic(auto, unfolding(crate::specs::ReadingPrograms::function_at))]
+#[tactic(auto, unfolding(crate::specs::reader::Programs::function_at))]
 pub fn function(alloc: Global, left: usize, tokens: &[Token]) -> Result<(Function, &[Token]), Stop>
     requires { left ≤ 128 }
     ensures value { Gives (λ r. (function_of r.0, r.1.now)) result (function_at left tokens.now) }
     ensures rest { IfOk result (λ r. length r.1.now < length tokens.now) }
 {
     let start = first_span(tokens);
-    let ((linkages, (ty, (word, params))), rest) = signature(alloc, tokens)?;
+    let (heading, rest) = signature(alloc, tokens)?;
     let (body, rest) = block(alloc, left, rest)?;
-    let span = start.to(body.span());
-    Ok((
-        Function {
-            linkages,
-            result: ty,
-            word,
-            params,
-            body,
-            span,
-        },
-        rest,
-    ))
+    Ok((with_body(start, heading, body), rest))
 }

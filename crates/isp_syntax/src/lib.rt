@@ -1,4 +1,4 @@
-//! Trees: from tokens to the one tree that the grammar gives them.
+//! The parser: from tokens to the one tree that the grammar gives them.
 #![tactic(auto)]
 
 mod declaration;
@@ -13,11 +13,11 @@ mod single;
 mod start;
 mod stmt;
 mod stop;
-mod tree;
 mod types;
 
-pub use program::{DEPTH_LIMIT, one_tree, parse};
-pub use tree::{
-    Assignment, Base, Change, Declaration, Expr, First, Form, Function, Item, Jump, Linkage,
-    Operator, Param, Prefix, Qualifier, Range, Simple, Size, Stmt, Tiling, Tree, TypeWords, Word,
+pub use isp_tree::{
+    Argument, Assignment, Base, Block, Change, DEPTH_LIMIT, Declaration, Expr, First, Form,
+    Function, Item, Jump, Linkage, NODE_LIMIT, Operator, Param, Place, Prefix, Qualifier, Range,
+    Simple, Size, Stmt, Tiling, Tree, TypeWords, Word,
 };
+pub use program::{one_tree, parse};

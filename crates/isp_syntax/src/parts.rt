@@ -1,12 +1,12 @@
 //! Parts of statements.
 ghost use Rattle.std.specs.Prelude.{◌≡◌, ◌≤◌, ◌<◌, ◌+◌, IfOk, length, map, option_map};
-ghost use Rattle.isp_syntax.specs.Tree.{expr_of, exprs_of, simple_of, first_of, range_of};
+ghost use Rattle.isp_tree.specs.Views.{expr_of, exprs_of, simple_of, first_of, range_of};
 ghost use Rattle.isp_syntax.specs.Signs.{loosest};
-ghost use Rattle.isp_syntax.specs.Reading.{Gives};
-ghost use Rattle.isp_syntax.specs.ReadingChoices.{begins_with, sign_at, maybe_at};
-ghost use Rattle.isp_syntax.specs.ReadingExprs.{expr_at};
-ghost use Rattle.isp_syntax.specs.ReadingStarts.{begins_first, begins_simple};
-ghost use Rattle.isp_syntax.specs.ReadingStmts.{test_at, first_at, first_part_at, step_part_at, head_at, range_at, with_last, last_range_at, with_more, more_ranges_at, ranges_at, ranges_head_at, active_head_at, text_of, next_value_at, values_at, do_end_at, refusal_at_limit};
+ghost use Rattle.isp_syntax.specs.reader.Readers.{Gives, mark_at, both};
+ghost use Rattle.isp_syntax.specs.reader.Choices.{begins_with, sign_at, maybe_at};
+ghost use Rattle.isp_syntax.specs.reader.Exprs.{expr_at};
+ghost use Rattle.isp_syntax.specs.reader.Starts.{begins_first, begins_simple};
+ghost use Rattle.isp_syntax.specs.reader.Stmts.{closed_test_at, test_at, head_of, first_at, first_part_at, step_part_at, head_at, range_at, with_last, last_range_at, with_more, more_ranges_at, ranges_at, ranges_head_at, active_head_at, text_of, next_value_at, values_at, do_end_at, refusal_at_limit};
 
 use crate::declaration::declaration;
 use crate::expr::expr;
@@ -14,17 +14,34 @@ use crate::reading::{mark, refuse, starts_with, word};
 use crate::simple::simple;
 use crate::start::{Start, stmt_start};
 use crate::stop::{Stop, Why};
-use crate::tree::{Expr, First, Range, Simple, Word};
 use crate::types::begins_type;
 use isp_base::Span;
 use isp_lex::{Mark, Text, Token, TokenKind};
+use isp_tree::{Expr, First, Range, Simple, Word};
 use std::alloc::Global;
 
-/// An expression in brackets.
-#[tactic(auto, unfolding(crate::specs::ReadingStmts::test_at))]
-pub fn test(alloc: Global, left: usize, tokens: &[Token]) -> Result<(Expr, &[Token]), Stop>
+/// An expression in brackets, and where the closing one stands.
+#[tactic(auto, unfolding(crate::specs::reader::Stmts::closed_test_at))]
+pub fn closed_test(
+    alloc: Global,
+    left: usize,
+    tokens: &[Token],
+) -> Result<((Box<Expr>, Span), &[Token]), Stop>
     requires { left ≤ 128 }
-    ensures value { Gives (λ r. (expr_of r.0, r.1.now)) result (test_at left tokens.now) }
+    ensures value { Gives (λ r. ((expr_of r.0.0.value, r.0.1), r.1.now)) result (closed_test_at left tokens.now) }
+    ensures rest { IfOk result (λ r. length r.1.now < length tokens.now) }
+{
+    let (_open, rest) = mark(Mark::ParenOpen, tokens)?;
+    let (value, _height, rest) = expr(alloc, left, rest)?;
+    let (close, rest) = mark(Mark::ParenClose, rest)?;
+    Ok(((value, close), rest))
+}
+
+/// An expression in brackets.
+#[tactic(auto, unfolding(crate::specs::reader::Stmts::test_at))]
+pub fn test(alloc: Global, left: usize, tokens: &[Token]) -> Result<(Box<Expr>, &[Token]), Stop>
+    requires { left ≤ 128 }
+    ensures value { Gives (λ r. (expr_of r.0.value, r.1.now)) result (test_at left tokens.now) }
     ensures rest { IfOk result (λ r. length r.1.now < length tokens.now) }
 {
     let (_open, rest) = mark(Mark::ParenOpen, tokens)?;
@@ -34,14 +51,14 @@ pub fn test(alloc: Global, left: usize, tokens: &[Token]) -> Result<(Expr, &[Tok
 }
 
 /// An expression, or nothing before a semicolon.
-#[tactic(auto, unfolding(crate::specs::ReadingChoices::maybe_at))]
+#[tactic(auto, unfolding(crate::specs::reader::Choices::maybe_at))]
 pub fn maybe_expr(
     alloc: Global,
     left: usize,
     tokens: &[Token],
-) -> Result<(Option<Expr>, &[Token]), Stop>
+) -> Result<(Option<Box<Expr>>, &[Token]), Stop>
     requires { left ≤ 128 }
-    ensures value { Gives (λ r. (option_map expr_of r.0, r.1.now)) result (maybe_at Mark.Semicolon (expr_at left loosest) tokens.now) }
+    ensures value { Gives (λ r. (option_map (λ b. expr_of b.value) r.0, r.1.now)) result (maybe_at Mark.Semicolon (expr_at left loosest) tokens.now) }
     ensures rest { IfOk result (λ r. length r.1.now ≤ length tokens.now) }
 {
     if starts_with(Mark::Semicolon, tokens) {
@@ -78,18 +95,20 @@ fn begins_simple(tokens: &[Token]) -> bool
 }
 
 /// A declaration or a simple statement.
-#[tactic(auto, unfolding(crate::specs::ReadingStmts::first_at, crate::specs::ReadingChoices::either_at))]
-fn first(alloc: Global, left: usize, tokens: &[Token]) -> Result<(First, &[Token]), Stop>
+#[tactic(auto, unfolding(crate::specs::reader::Stmts::first_at, crate::specs::reader::Choices::either_at))]
+fn first(alloc: Global, left: usize, tokens: &[Token]) -> Result<(Box<First>, &[Token]), Stop>
     requires { left ≤ 128 }
-    ensures value { Gives (λ r. (first_of r.0, r.1.now)) result (first_at left tokens.now) }
+    ensures value { Gives (λ r. (first_of r.0.value, r.1.now)) result (first_at left tokens.now) }
     ensures rest { IfOk result (λ r. length r.1.now < length tokens.now) }
 {
     if begins_type(tokens) {
         let (declaration, rest) = declaration(alloc, left, tokens)?;
-        return Ok((First::Declare(declaration), rest));
+        let first = First::Declare(Box::into_inner(declaration));
+        return Ok((Box::new(alloc, first)?, rest));
     }
     let (simple, rest) = simple(alloc, left, tokens)?;
-    Ok((First::Simple(simple), rest))
+    let first = First::Simple(Box::into_inner(simple));
+    Ok((Box::new(alloc, first)?, rest))
 }
 
 /// The refusal where nothing more may be read: of what begins here, if it does.
@@ -104,9 +123,9 @@ pub fn refuse_at_limit(begins: bool, tokens: &[Token]) -> Stop
 }
 
 /// The first part of a `for`, which counts as a statement.
-fn first_part(alloc: Global, left: usize, tokens: &[Token]) -> Result<(First, &[Token]), Stop>
+fn first_part(alloc: Global, left: usize, tokens: &[Token]) -> Result<(Box<First>, &[Token]), Stop>
     requires { left ≤ 128 }
-    ensures value { Gives (λ r. (first_of r.0, r.1.now)) result (first_part_at left tokens.now) }
+    ensures value { Gives (λ r. (first_of r.0.value, r.1.now)) result (first_part_at left tokens.now) }
     ensures rest { IfOk result (λ r. length r.1.now < length tokens.now) }
 {
     if left == 0 {
@@ -116,9 +135,9 @@ fn first_part(alloc: Global, left: usize, tokens: &[Token]) -> Result<(First, &[
 }
 
 /// The step of a `for`, which counts as a statement.
-fn step_part(alloc: Global, left: usize, tokens: &[Token]) -> Result<(Simple, &[Token]), Stop>
+fn step_part(alloc: Global, left: usize, tokens: &[Token]) -> Result<(Box<Simple>, &[Token]), Stop>
     requires { left ≤ 128 }
-    ensures value { Gives (λ r. (simple_of r.0, r.1.now)) result (step_part_at left tokens.now) }
+    ensures value { Gives (λ r. (simple_of r.0.value, r.1.now)) result (step_part_at left tokens.now) }
     ensures rest { IfOk result (λ r. length r.1.now < length tokens.now) }
 {
     if left == 0 {
@@ -127,14 +146,14 @@ fn step_part(alloc: Global, left: usize, tokens: &[Token]) -> Result<(Simple, &[
     simple(alloc, left - 1, tokens)
 }
 
-#[tactic(auto, unfolding(crate::specs::ReadingChoices::maybe_at))]
+#[tactic(auto, unfolding(crate::specs::reader::Choices::maybe_at))]
 fn maybe_first(
     alloc: Global,
     left: usize,
     tokens: &[Token],
-) -> Result<(Option<First>, &[Token]), Stop>
+) -> Result<(Option<Box<First>>, &[Token]), Stop>
     requires { left ≤ 128 }
-    ensures value { Gives (λ r. (option_map first_of r.0, r.1.now)) result (maybe_at Mark.Semicolon (first_part_at left) tokens.now) }
+    ensures value { Gives (λ r. (option_map (λ b. first_of b.value) r.0, r.1.now)) result (maybe_at Mark.Semicolon (first_part_at left) tokens.now) }
     ensures rest { IfOk result (λ r. length r.1.now ≤ length tokens.now) }
 {
     if starts_with(Mark::Semicolon, tokens) {
@@ -144,14 +163,14 @@ fn maybe_first(
     Ok((Some(first), rest))
 }
 
-#[tactic(auto, unfolding(crate::specs::ReadingChoices::maybe_at))]
+#[tactic(auto, unfolding(crate::specs::reader::Choices::maybe_at))]
 fn maybe_step(
     alloc: Global,
     left: usize,
     tokens: &[Token],
-) -> Result<(Option<Simple>, &[Token]), Stop>
+) -> Result<(Option<Box<Simple>>, &[Token]), Stop>
     requires { left ≤ 128 }
-    ensures value { Gives (λ r. (option_map simple_of r.0, r.1.now)) result (maybe_at Mark.ParenClose (step_part_at left) tokens.now) }
+    ensures value { Gives (λ r. (option_map (λ b. simple_of b.value) r.0, r.1.now)) result (maybe_at Mark.ParenClose (step_part_at left) tokens.now) }
     ensures rest { IfOk result (λ r. length r.1.now ≤ length tokens.now) }
 {
     if starts_with(Mark::ParenClose, tokens) {
@@ -161,14 +180,19 @@ fn maybe_step(
     Ok((Some(step), rest))
 }
 
-/// The first part, the test and the step of a `for`.
-pub type Head = (Option<First>, (Option<Expr>, Option<Simple>));
+/// The first part, the test and the step of a `for`, each in a box of its own.
+#[derive(Drop)]
+pub struct ForHead {
+    pub first: Option<Box<First>>,
+    pub test: Option<Box<Expr>>,
+    pub step: Option<Box<Simple>>,
+}
 
 /// What stands in the brackets of a `for`, and the brackets.
-#[tactic(auto, unfolding(crate::specs::ReadingStmts::head_at))]
-pub fn head(alloc: Global, left: usize, tokens: &[Token]) -> Result<(Head, &[Token]), Stop>
+#[tactic(auto, unfolding(crate::specs::reader::Stmts::head_at))]
+pub fn head(alloc: Global, left: usize, tokens: &[Token]) -> Result<(Box<ForHead>, &[Token]), Stop>
     requires { left ≤ 128 }
-    ensures value { Gives (λ r. ((option_map first_of r.0.0, (option_map expr_of r.0.1.0, option_map simple_of r.0.1.1)), r.1.now)) result (head_at left tokens.now) }
+    ensures value { Gives (λ r. (head_of r.0.value, r.1.now)) result (head_at left tokens.now) }
     ensures rest { IfOk result (λ r. length r.1.now < length tokens.now) }
 {
     let (_open, rest) = mark(Mark::ParenOpen, tokens)?;
@@ -178,11 +202,11 @@ pub fn head(alloc: Global, left: usize, tokens: &[Token]) -> Result<(Head, &[Tok
     let (_semicolon, rest) = mark(Mark::Semicolon, rest)?;
     let (step, rest) = maybe_step(alloc, left, rest)?;
     let (_close, rest) = mark(Mark::ParenClose, rest)?;
-    Ok(((first, (test, step)), rest))
+    Ok((Box::new(alloc, ForHead { first, test, step })?, rest))
 }
 
 /// One dimension of a `foreach`.
-#[tactic(auto, unfolding(crate::specs::ReadingStmts::range_at))]
+#[tactic(auto, unfolding(crate::specs::reader::Stmts::range_at))]
 fn range(alloc: Global, left: usize, tokens: &[Token]) -> Result<(Range, &[Token]), Stop>
     requires { left ≤ 128 }
     ensures value { Gives (λ r. (range_of r.0, r.1.now)) result (range_at left tokens.now) }
@@ -194,19 +218,17 @@ fn range(alloc: Global, left: usize, tokens: &[Token]) -> Result<(Range, &[Token
     let (_dots, rest) = mark(Mark::Ellipsis, rest)?;
     let (end, _height, rest) = expr(alloc, left, rest)?;
     let span = word.span.to(end.span());
-    Ok((
-        Range {
-            word,
-            start,
-            end,
-            span,
-        },
-        rest,
-    ))
+    let range = Range {
+        word,
+        start: Box::into_inner(start),
+        end: Box::into_inner(end),
+        span,
+    };
+    Ok((range, rest))
 }
 
 /// The ranges before, and the third range if there is one.
-#[tactic(auto, unfolding(crate::specs::ReadingStmts::last_range_at, crate::specs::ReadingChoices::perhaps_at, crate::specs::Reading::mark_at))]
+#[tactic(auto, unfolding(crate::specs::reader::Stmts::last_range_at, crate::specs::reader::Choices::perhaps_at, crate::specs::reader::Readers::mark_at))]
 fn last_range(
     alloc: Global,
     left: usize,
@@ -228,7 +250,7 @@ fn last_range(
 }
 
 /// The range before, and the second and the third range if there are any.
-#[tactic(auto, unfolding(crate::specs::ReadingStmts::more_ranges_at, crate::specs::ReadingChoices::perhaps_at, crate::specs::Reading::mark_at))]
+#[tactic(auto, unfolding(crate::specs::reader::Stmts::more_ranges_at, crate::specs::reader::Choices::perhaps_at, crate::specs::reader::Readers::mark_at))]
 fn more_ranges(
     alloc: Global,
     left: usize,
@@ -250,7 +272,7 @@ fn more_ranges(
 }
 
 /// One to three ranges.
-#[tactic(auto, unfolding(crate::specs::ReadingStmts::ranges_at))]
+#[tactic(auto, unfolding(crate::specs::reader::Stmts::ranges_at))]
 fn ranges(alloc: Global, left: usize, tokens: &[Token]) -> Result<(Vec<Range>, &[Token]), Stop>
     requires { left ≤ 128 }
     ensures value { Gives (λ r. (map range_of r.0.items, r.1.now)) result (ranges_at left tokens.now) }
@@ -263,7 +285,7 @@ fn ranges(alloc: Global, left: usize, tokens: &[Token]) -> Result<(Vec<Range>, &
 }
 
 /// The ranges of a `foreach` in brackets.
-#[tactic(auto, unfolding(crate::specs::ReadingStmts::ranges_head_at))]
+#[tactic(auto, unfolding(crate::specs::reader::Stmts::ranges_head_at))]
 pub fn ranges_head(
     alloc: Global,
     left: usize,
@@ -280,7 +302,7 @@ pub fn ranges_head(
 }
 
 /// The name of a `foreach_active` in brackets.
-#[tactic(auto, unfolding(crate::specs::ReadingStmts::active_head_at))]
+#[tactic(auto, unfolding(crate::specs::reader::Stmts::active_head_at))]
 pub fn active_head(tokens: &[Token]) -> Result<(Word, &[Token]), Stop>
     ensures value { Gives (λ r. (r.0, r.1.now)) result (active_head_at tokens.now) }
     ensures rest { IfOk result (λ r. length r.1.now < length tokens.now) }
@@ -292,7 +314,7 @@ pub fn active_head(tokens: &[Token]) -> Result<(Word, &[Token]), Stop>
 }
 
 /// A text in quotes, and where it stands.
-#[tactic(auto, unfolding(crate::specs::ReadingChoices::sign_at))]
+#[tactic(auto, unfolding(crate::specs::reader::Choices::sign_at))]
 pub fn text(tokens: &[Token]) -> Result<((Text, Span), &[Token]), Stop>
     ensures value { Gives (λ r. (r.0, r.1.now)) result (sign_at text_of tokens.now) }
     ensures rest { IfOk result (λ r. length r.1.now < length tokens.now) }
@@ -307,7 +329,7 @@ pub fn text(tokens: &[Token]) -> Result<((Text, Span), &[Token]), Stop>
 }
 
 /// A comma and a value.
-#[tactic(auto, unfolding(crate::specs::ReadingStmts::next_value_at))]
+#[tactic(auto, unfolding(crate::specs::reader::Stmts::next_value_at))]
 fn next_value(alloc: Global, left: usize, tokens: &[Token]) -> Result<(Expr, &[Token]), Stop>
     requires { left ≤ 128 }
     ensures value { Gives (λ r. (expr_of r.0, r.1.now)) result (next_value_at left tokens.now) }
@@ -315,7 +337,7 @@ fn next_value(alloc: Global, left: usize, tokens: &[Token]) -> Result<(Expr, &[T
 {
     let (_comma, rest) = mark(Mark::Comma, tokens)?;
     let (value, _height, rest) = expr(alloc, left, rest)?;
-    Ok((value, rest))
+    Ok((Box::into_inner(value), rest))
 }
 
 /// The values behind a text, each behind a comma, up to a closing bracket.
@@ -334,15 +356,25 @@ pub fn values(alloc: Global, left: usize, tokens: &[Token]) -> Result<(Vec<Expr>
     Ok((all, rest))
 }
 
+/// A closing bracket and a semicolon.
+pub fn closing(tokens: &[Token]) -> Result<((Span, Span), &[Token]), Stop>
+    ensures value { Gives (λ r. (r.0, r.1.now)) result (both (mark_at Mark.ParenClose) (mark_at Mark.Semicolon) tokens.now) }
+    ensures rest { IfOk result (λ r. length r.1.now < length tokens.now) }
+{
+    let (close, rest) = mark(Mark::ParenClose, tokens)?;
+    let (end, rest) = mark(Mark::Semicolon, rest)?;
+    Ok(((close, end), rest))
+}
+
 /// `while`, a test and a semicolon: the test, and where the semicolon stands.
-#[tactic(auto, unfolding(crate::specs::ReadingStmts::do_end_at))]
+#[tactic(auto, unfolding(crate::specs::reader::Stmts::do_end_at))]
 pub fn do_end(
     alloc: Global,
     left: usize,
     tokens: &[Token],
-) -> Result<((Expr, Span), &[Token]), Stop>
+) -> Result<((Box<Expr>, Span), &[Token]), Stop>
     requires { left ≤ 128 }
-    ensures value { Gives (λ r. ((expr_of r.0.0, r.0.1), r.1.now)) result (do_end_at left tokens.now) }
+    ensures value { Gives (λ r. ((expr_of r.0.0.value, r.0.1), r.1.now)) result (do_end_at left tokens.now) }
     ensures rest { IfOk result (λ r. length r.1.now < length tokens.now) }
 {
     let (_while, rest) = mark(Mark::While, tokens)?;

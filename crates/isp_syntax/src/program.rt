@@ -1,24 +1,21 @@
 //! From tokens to the tree.
 ghost use Rattle.std.specs.Prelude.{◌≡◌, ◌≤◌, ◌-◌, IfOk, IfErr, List, length, drop};
-ghost use Rattle.isp_syntax.specs.Depth.{depth_of_functions};
-ghost use Rattle.isp_syntax.specs.Tree.{functions_of};
-ghost use Rattle.isp_syntax.specs.Tree.{Function as FunctionTree};
+ghost use Rattle.isp_tree.specs.Depth.{depth_of_functions};
+ghost use Rattle.isp_tree.specs.Views.{functions_of};
+ghost use Rattle.isp_tree.specs.Tree.{Function as FunctionTree};
 ghost use Rattle.isp_lex.specs.declared.token.Token.{Token};
 ghost use Rattle.isp_syntax.specs.Grammar.{IsProgram};
-ghost use Rattle.isp_syntax.specs.Promise.{limit, rule_of, GivesTree, Refuses};
-ghost use Rattle.isp_syntax.specs.Reading.{Gives, fault_of};
-ghost use Rattle.isp_syntax.specs.ReadingPrograms.{program_at};
+ghost use Rattle.isp_syntax.specs.Promise.{rule_of, GivesTree, Refuses};
+ghost use Rattle.isp_tree.specs.Depth.{limit};
+ghost use Rattle.isp_syntax.specs.reader.Readers.{Gives, fault_of};
+ghost use Rattle.isp_syntax.specs.reader.Programs.{program_at};
 
 use crate::function::function;
 use crate::stop::{Refusal, Stop, Why};
-use crate::tree::{Function, Tree};
 use isp_base::Span;
 use isp_lex::{Fault, Rule, SourceFault, Token, TokenKind, Tokens};
+use isp_tree::{DEPTH_LIMIT, Function, Tree};
 use std::alloc::Global;
-
-/// The deepest tree that is taken: a function's body counts one, and so does each statement and each
-/// node of an expression.
-pub const DEPTH_LIMIT: usize = 128;
 
 /// The functions up to the end of the text.
 fn program(alloc: Global, tokens: &[Token]) -> Result<Vec<Function>, Stop>
@@ -74,15 +71,15 @@ fn fault_at(tokens: &Tokens, refusal: Refusal) -> Fault
 /// the language leaves out. 11 TooDeep: the tree would be deeper than 128. 0 Memory.
 pub fn parse(alloc: Global, tokens: &Tokens) -> Result<Tree, SourceFault>
     // It is a tree of the tokens, and no deeper than the limit.
-    ensures found { IfOk result (λ t. IsProgram tokens.now.items (functions_of t.functions.items)) }
-    ensures shallow { IfOk result (λ t. depth_of_functions (functions_of t.functions.items) ≤ limit) }
+    ensures found { IfOk result (λ t. IsProgram tokens.now.items (functions_of t)) }
+    ensures shallow { IfOk result (λ t. depth_of_functions (functions_of t) ≤ limit) }
     // Where there is such a tree, it is given, unless memory runs out.
     ensures only { (fs : List FunctionTree) → IsProgram tokens.now.items fs → depth_of_functions fs ≤ limit → GivesTree result fs }
     // What a refusal means: 10 or 12, 11, or memory.
     ensures refused { IfErr result (λ e. Refuses e tokens.now) }
 {
     match program(alloc, tokens.as_slice()) {
-        Ok(functions) => Ok(Tree { functions }),
+        Ok(functions) => Ok(Tree::new(functions)),
         Err(Stop::Memory) => Err(SourceFault::Memory),
         Err(Stop::Refused(refusal)) => Err(SourceFault::Refused(fault_at(tokens, refusal))),
     }

@@ -1,12 +1,12 @@
 //! Single tokens.
 ghost use Rattle.std.specs.Prelude.{◌≡◌, ◌<◌, IfOk, length, drop, max};
 ghost use Rattle.isp_lex.specs.Tokens.{starts_with};
-ghost use Rattle.isp_syntax.specs.Reading.{Gives, refusal, mark_at, word_at};
+ghost use Rattle.isp_syntax.specs.reader.Readers.{Gives, refusal, mark_at, word_at};
 
 use crate::stop::{Refusal, Stop, Why};
-use crate::tree::Word;
 use isp_base::Span;
 use isp_lex::{Mark, Token, TokenKind};
+use isp_tree::Word;
 
 /// The refusal of the first of these tokens, or of the end.
 pub fn refuse(why: Why, tokens: &[Token]) -> Stop
@@ -37,7 +37,7 @@ pub fn tail(tokens: &[Token]) -> &[Token]
 }
 
 /// One token of this mark: where it stands, and the tokens after it.
-#[tactic(auto, unfolding(crate::specs::Reading::mark_at))]
+#[tactic(auto, unfolding(crate::specs::reader::Readers::mark_at))]
 pub fn mark(mark: Mark, tokens: &[Token]) -> Result<(Span, &[Token]), Stop>
     ensures value { Gives (λ r. (r.0, r.1.now)) result (mark_at mark tokens.now) }
     ensures rest { IfOk result (λ r. length r.1.now < length tokens.now) }
@@ -49,7 +49,7 @@ pub fn mark(mark: Mark, tokens: &[Token]) -> Result<(Span, &[Token]), Stop>
 }
 
 /// One name, and the tokens after it.
-#[tactic(auto, unfolding(crate::specs::Reading::word_at))]
+#[tactic(auto, unfolding(crate::specs::reader::Readers::word_at))]
 pub fn word(tokens: &[Token]) -> Result<(Word, &[Token]), Stop>
     ensures value { Gives (λ r. (r.0, r.1.now)) result (word_at tokens.now) }
     ensures rest { IfOk result (λ r. length r.1.now < length tokens.now) }

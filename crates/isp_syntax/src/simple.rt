@@ -1,22 +1,23 @@
 //! Expressions, assignments and steps by one, as they stand before a semicolon.
-ghost use Rattle.std.specs.Prelude.{◌≡◌, ◌≤◌, ◌<◌, IfOk, length};
-ghost use Rattle.isp_syntax.specs.Tree.{simple_of};
-ghost use Rattle.isp_syntax.specs.Reading.{Gives};
-ghost use Rattle.isp_syntax.specs.ReadingChoices.{begins_with, sign_at};
-ghost use Rattle.isp_syntax.specs.ReadingStmts.{assignment_of, change_of, is_assignment, is_change, is_ending, ending_of, ending_at, simple_at};
+ghost use Rattle.std.specs.Prelude.{◌≡◌, ◌≤◌, ◌<◌, IfOk, length, option_map};
+ghost use mathlib.Core.Logic.{inl};
+ghost use Rattle.isp_tree.specs.Views.{expr_of, simple_of};
+ghost use Rattle.isp_syntax.specs.reader.Readers.{Gives};
+ghost use Rattle.isp_syntax.specs.reader.Choices.{begins_with, sign_at, perhaps_at};
+ghost use Rattle.isp_syntax.specs.reader.Stmts.{assignment_of, change_of, is_assignment, is_change, is_ending, ending_of, ending_at, ended_from, simple_from, simple_at};
 
 use crate::expr::{expr, unary};
 use crate::reading::refuse;
 use crate::stop::{Stop, Why};
-use crate::tree::{Assignment, Change, Expr, Simple};
 use isp_base::Span;
 use isp_lex::{Mark, Token, TokenKind};
+use isp_tree::{Assignment, Change, Expr, Simple};
 use std::alloc::Global;
 
 /// What stands behind an expression, with the place of its sign.
 #[derive(Drop)]
 pub enum Ending {
-    Assign(Assignment, Span, Expr),
+    Assign(Assignment, Span, Box<Expr>),
     Change(Change, Span),
 }
 
@@ -70,7 +71,7 @@ fn changes(tokens: &[Token]) -> bool
 }
 
 /// The sign of an assignment, and where it stands.
-#[tactic(auto, unfolding(crate::specs::ReadingChoices::sign_at))]
+#[tactic(auto, unfolding(crate::specs::reader::Choices::sign_at))]
 fn assignment(tokens: &[Token]) -> Result<((Assignment, Span), &[Token]), Stop>
     ensures value { Gives (λ r. (r.0, r.1.now)) result (sign_at assignment_of tokens.now) }
     ensures rest { IfOk result (λ r. length r.1.now < length tokens.now) }
@@ -85,7 +86,7 @@ fn assignment(tokens: &[Token]) -> Result<((Assignment, Span), &[Token]), Stop>
 }
 
 /// `++` or `--`, and where it stands.
-#[tactic(auto, unfolding(crate::specs::ReadingChoices::sign_at))]
+#[tactic(auto, unfolding(crate::specs::reader::Choices::sign_at))]
 fn change(tokens: &[Token]) -> Result<((Change, Span), &[Token]), Stop>
     ensures value { Gives (λ r. (r.0, r.1.now)) result (sign_at change_of tokens.now) }
     ensures rest { IfOk result (λ r. length r.1.now < length tokens.now) }
@@ -100,7 +101,7 @@ fn change(tokens: &[Token]) -> Result<((Change, Span), &[Token]), Stop>
 }
 
 /// The sign of an assignment and a value, or a step by one.
-#[tactic(auto, unfolding(crate::specs::ReadingStmts::ending_at, crate::specs::ReadingChoices::either_at))]
+#[tactic(auto, unfolding(crate::specs::reader::Stmts::ending_at, crate::specs::reader::Choices::either_at))]
 fn simple_end(alloc: Global, left: usize, tokens: &[Token]) -> Result<(Ending, &[Token]), Stop>
     requires { left ≤ 128 }
     ensures value { Gives (λ r. (ending_of r.0, r.1.now)) result (ending_at left tokens.now) }
@@ -125,32 +126,75 @@ fn goes_on(tokens: &[Token]) -> bool
     }
 }
 
-/// An expression, an assignment or a step by one.
-#[tactic(auto, unfolding(crate::specs::ReadingStmts::simple_at, crate::specs::ReadingChoices::either_at, crate::specs::ReadingChoices::perhaps_at))]
-pub fn simple(alloc: Global, left: usize, tokens: &[Token]) -> Result<(Simple, &[Token]), Stop>
+/// The ending of an expression, if one stands here.
+#[tactic(auto, unfolding(crate::specs::reader::Choices::perhaps_at))]
+fn maybe_end(
+    alloc: Global,
+    left: usize,
+    tokens: &[Token],
+) -> Result<(Option<Ending>, &[Token]), Stop>
     requires { left ≤ 128 }
-    ensures value { Gives (λ r. (simple_of r.0, r.1.now)) result (simple_at left tokens.now) }
+    ensures value { Gives (λ r. (option_map ending_of r.0, r.1.now)) result (perhaps_at is_ending (ending_at left) tokens.now) }
+    ensures rest { IfOk result (λ r. length r.1.now ≤ length tokens.now) }
+{
+    if !goes_on(tokens) {
+        return Ok((None, tokens));
+    }
+    let (ending, rest) = simple_end(alloc, left, tokens)?;
+    Ok((Some(ending), rest))
+}
+
+/// A step by one, written before its target.
+fn stepped(change: Change, place: Span, target: Box<Expr>) -> Simple
+    ensures { simple_of result ≡ simple_from (inl ((change, place), expr_of target.value)) }
+{
+    let span = place.to(target.span());
+    Simple::Change {
+        change,
+        target: Box::into_inner(target),
+        span,
+    }
+}
+
+/// An expression with what stands behind it.
+fn ended(target: Box<Expr>, ending: Option<Ending>) -> Simple
+    ensures { simple_of result ≡ ended_from (expr_of target.value) (option_map ending_of ending) }
+{
+    match ending {
+        None => Simple::Value(Box::into_inner(target)),
+        Some(Ending::Assign(assignment, _place, value)) => {
+            let span = target.span().to(value.span());
+            Simple::Assign {
+                assignment,
+                target: Box::into_inner(target),
+                value: Box::into_inner(value),
+                span,
+            }
+        }
+        Some(Ending::Change(change, place)) => {
+            let span = target.span().to(place);
+            Simple::Change {
+                change,
+                target: Box::into_inner(target),
+                span,
+            }
+        }
+    }
+}
+
+/// An expression, an assignment or a step by one.
+#[tactic(auto, unfolding(crate::specs::reader::Stmts::simple_at, crate::specs::reader::Choices::either_at))]
+pub fn simple(alloc: Global, left: usize, tokens: &[Token]) -> Result<(Box<Simple>, &[Token]), Stop>
+    requires { left ≤ 128 }
+    ensures value { Gives (λ r. (simple_of r.0.value, r.1.now)) result (simple_at left tokens.now) }
     ensures rest { IfOk result (λ r. length r.1.now < length tokens.now) }
 {
     if changes(tokens) {
         let ((sign, place), rest) = change(tokens)?;
         let (target, _height, rest) = unary(alloc, left, rest)?;
-        let span = place.to(target.span());
-        return Ok((Simple::Change(sign, target, span), rest));
+        return Ok((Box::new(alloc, stepped(sign, place, target))?, rest));
     }
     let (target, _height, rest) = expr(alloc, left, tokens)?;
-    if !goes_on(rest) {
-        return Ok((Simple::Value(target), rest));
-    }
-    let (ending, rest) = simple_end(alloc, left, rest)?;
-    match ending {
-        Ending::Assign(sign, _place, value) => {
-            let span = target.span().to(value.span());
-            Ok((Simple::Assign(sign, target, value, span), rest))
-        }
-        Ending::Change(sign, place) => {
-            let span = target.span().to(place);
-            Ok((Simple::Change(sign, target, span), rest))
-        }
-    }
+    let (ending, rest) = maybe_end(alloc, left, rest)?;
+    Ok((Box::new(alloc, ended(target, ending))?, rest))
 }

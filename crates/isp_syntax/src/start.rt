@@ -1,9 +1,9 @@
 //! How statements begin.
 ghost use Rattle.std.specs.Prelude.{◌≡◌};
-ghost use Rattle.isp_syntax.specs.ReadingStarts.{start_of_mark, start_of};
+ghost use Rattle.isp_syntax.specs.reader.Starts.{start_of_mark, start_of};
 
-use crate::tree::{Form, Jump, Tiling};
 use isp_lex::{Mark, TokenKind};
+use isp_tree::{Form, Jump, Tiling};
 
 /// What a first token says of its statement.
 #[derive(Clone, Copy)]

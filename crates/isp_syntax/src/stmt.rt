@@ -1,10 +1,11 @@
 //! Statements.
 ghost use Rattle.std.specs.Prelude.{◌≡◌, ◌≤◌, ◌<◌, ◌∷◌, IfOk, length, option_map};
-ghost use Rattle.isp_syntax.specs.Tree.{stmt_of, stmts_of};
-ghost use Rattle.isp_syntax.specs.Reading.{Gives, optional};
-ghost use Rattle.isp_syntax.specs.ReadingChoices.{begins_with};
-ghost use Rattle.isp_syntax.specs.ReadingStarts.{start_of, begins_stmt};
-ghost use Rattle.isp_syntax.specs.ReadingStmts.{stmts_at, braces_at, block_at, if_at, while_at, do_at, for_at, foreach_at, active_at, unmasked_at, stmt_from, stmt_at};
+ghost use Rattle.isp_lex.specs.Tokens.{is_mark};
+ghost use Rattle.isp_tree.specs.Views.{stmt_of, block_of, stmts_of};
+ghost use Rattle.isp_syntax.specs.reader.Readers.{Gives, optional};
+ghost use Rattle.isp_syntax.specs.reader.Choices.{begins_with};
+ghost use Rattle.isp_syntax.specs.reader.Starts.{start_of, begins_stmt};
+ghost use Rattle.isp_syntax.specs.reader.Stmts.{stmts_at, braced_at, block_at, block_stmt_at, if_at, while_at, do_at, for_at, foreach_at, active_at, unmasked_at, stmt_from, stmt_at};
 
 use crate::make::{
     make_active, make_do, make_for, make_foreach, make_if, make_if_else, make_unmasked, make_while,
@@ -14,9 +15,9 @@ use crate::reading::{mark, refuse, starts_with, tail};
 use crate::single::{assert_stmt, declare_stmt, jump_stmt, print_stmt, return_stmt, simple_stmt};
 use crate::start::{Start, stmt_start};
 use crate::stop::{Stop, Why};
-use crate::tree::{Form, Stmt, Tiling};
 use isp_base::Span;
 use isp_lex::{Mark, Token};
+use isp_tree::{Block, Form, Stmt, Tiling};
 use std::alloc::Global;
 
 /// Whether a statement begins here.
@@ -29,6 +30,16 @@ fn begins_stmt(tokens: &[Token]) -> bool
             Start::Nothing => false,
             _ => true,
         },
+    }
+}
+
+/// Whether a block begins here.
+fn begins_block(tokens: &[Token]) -> bool
+    ensures { result ≡ begins_with (is_mark Mark.BraceOpen) tokens.now }
+{
+    match tokens {
+        [] => false,
+        [first, ..] => first.kind.is(Mark::BraceOpen),
     }
 }
 
@@ -49,36 +60,44 @@ fn stmts(alloc: Global, left: usize, tokens: &[Token]) -> Result<(Vec<Stmt>, &[T
     Ok((all, rest))
 }
 
-/// A block behind its brace.
+/// A block with its braces, its statements no deeper than `inner`.
 #[cycle(stmt)]
-#[tactic(auto, unfolding(crate::specs::ReadingStmts::braces_at))]
-fn braces(
-    alloc: Global,
-    inner: usize,
-    brace: Span,
-    tokens: &[Token],
-) -> Result<(Stmt, &[Token]), Stop>
+#[tactic(auto, unfolding(crate::specs::reader::Stmts::braced_at))]
+fn braced(alloc: Global, inner: usize, tokens: &[Token]) -> Result<(Block, &[Token]), Stop>
     requires { inner ≤ 128 }
-    ensures value { Gives (λ r. (stmt_of r.0, r.1.now)) result (braces_at (stmt_at inner) brace tokens.now) }
+    ensures value { Gives (λ r. (block_of r.0, r.1.now)) result (braced_at (stmt_at inner) tokens.now) }
     ensures rest { IfOk result (λ r. length r.1.now < length tokens.now) }
 {
-    let (all, rest) = stmts(alloc, inner, tokens)?;
+    let (brace, rest) = mark(Mark::BraceOpen, tokens)?;
+    let (statements, rest) = stmts(alloc, inner, rest)?;
     let (end, rest) = mark(Mark::BraceClose, rest)?;
-    Ok((Stmt::Block(all, brace.to(end)), rest))
+    let span = brace.to(end);
+    Ok((Block { statements, span }, rest))
 }
 
-/// A block with its brace, no deeper than `left`.
+/// A block no deeper than `left`.
 #[cycle(stmt)]
-#[tactic(auto, unfolding(crate::specs::ReadingStmts::block_at))]
-pub fn block(alloc: Global, left: usize, tokens: &[Token]) -> Result<(Stmt, &[Token]), Stop>
+pub fn block(alloc: Global, left: usize, tokens: &[Token]) -> Result<(Block, &[Token]), Stop>
     requires { left ≤ 128 }
-    ensures value { Gives (λ r. (stmt_of r.0, r.1.now)) result (block_at (stmt_at left) tokens.now) }
+    ensures value { Gives (λ r. (block_of r.0, r.1.now)) result (block_at left tokens.now) }
     ensures rest { IfOk result (λ r. length r.1.now < length tokens.now) }
 {
-    if !starts_with(Mark::BraceOpen, tokens) {
-        return Err(refuse(Why::Unexpected, tokens));
+    if left == 0 {
+        return Err(refuse_at_limit(begins_block(tokens), tokens));
     }
-    stmt(alloc, left, tokens)
+    braced(alloc, left - 1, tokens)
+}
+
+/// A block as a statement.
+#[cycle(stmt)]
+#[tactic(auto, unfolding(crate::specs::reader::Stmts::block_stmt_at))]
+fn block_stmt(alloc: Global, inner: usize, tokens: &[Token]) -> Result<(Stmt, &[Token]), Stop>
+    requires { inner ≤ 128 }
+    ensures value { Gives (λ r. (stmt_of r.0, r.1.now)) result (block_stmt_at (stmt_at inner) tokens.now) }
+    ensures rest { IfOk result (λ r. length r.1.now < length tokens.now) }
+{
+    let (block, rest) = braced(alloc, inner, tokens)?;
+    Ok((Stmt::Block(block), rest))
 }
 
 /// A statement in another: while more is read, a box holds it.
@@ -94,7 +113,7 @@ fn boxed(alloc: Global, inner: usize, tokens: &[Token]) -> Result<(Box<Stmt>, &[
 
 /// `else` and its statement, where `else` stands: it belongs to the nearest `if`.
 #[cycle(stmt)]
-#[tactic(auto, unfolding(crate::specs::Reading::optional))]
+#[tactic(auto, unfolding(crate::specs::reader::Readers::optional))]
 fn else_branch(
     alloc: Global,
     inner: usize,
@@ -113,136 +132,136 @@ fn else_branch(
 
 /// What stands behind `if` at this place.
 #[cycle(stmt)]
-#[tactic(auto, unfolding(crate::specs::ReadingStmts::if_at))]
+#[tactic(auto, unfolding(crate::specs::reader::Stmts::if_at))]
 fn conditional(
     alloc: Global,
     inner: usize,
     form: Form,
-    word: Span,
+    keyword: Span,
     tokens: &[Token],
 ) -> Result<(Stmt, &[Token]), Stop>
     requires { inner ≤ 128 }
-    ensures value { Gives (λ r. (stmt_of r.0, r.1.now)) result (if_at (stmt_at inner) inner form word tokens.now) }
+    ensures value { Gives (λ r. (stmt_of r.0, r.1.now)) result (if_at (stmt_at inner) inner form keyword tokens.now) }
     ensures rest { IfOk result (λ r. length r.1.now < length tokens.now) }
 {
     let (test, rest) = test(alloc, inner, tokens)?;
     let (then, rest) = boxed(alloc, inner, rest)?;
     let (other, rest) = else_branch(alloc, inner, rest)?;
     match other {
-        None => Ok((make_if(form, word, test, then), rest)),
-        Some(other) => Ok((make_if_else(form, word, test, then, other), rest)),
+        None => Ok((make_if(form, keyword, test, then), rest)),
+        Some(other) => Ok((make_if_else(form, keyword, test, then, other), rest)),
     }
 }
 
 /// What stands behind `while` at this place.
 #[cycle(stmt)]
-#[tactic(auto, unfolding(crate::specs::ReadingStmts::while_at))]
+#[tactic(auto, unfolding(crate::specs::reader::Stmts::while_at))]
 fn while_loop(
     alloc: Global,
     inner: usize,
     form: Form,
-    word: Span,
+    keyword: Span,
     tokens: &[Token],
 ) -> Result<(Stmt, &[Token]), Stop>
     requires { inner ≤ 128 }
-    ensures value { Gives (λ r. (stmt_of r.0, r.1.now)) result (while_at (stmt_at inner) inner form word tokens.now) }
+    ensures value { Gives (λ r. (stmt_of r.0, r.1.now)) result (while_at (stmt_at inner) inner form keyword tokens.now) }
     ensures rest { IfOk result (λ r. length r.1.now < length tokens.now) }
 {
     let (test, rest) = test(alloc, inner, tokens)?;
     let (body, rest) = boxed(alloc, inner, rest)?;
-    Ok((make_while(form, word, test, body), rest))
+    Ok((make_while(form, keyword, test, body), rest))
 }
 
 /// What stands behind `do` at this place.
 #[cycle(stmt)]
-#[tactic(auto, unfolding(crate::specs::ReadingStmts::do_at))]
+#[tactic(auto, unfolding(crate::specs::reader::Stmts::do_at))]
 fn do_loop(
     alloc: Global,
     inner: usize,
     form: Form,
-    word: Span,
+    keyword: Span,
     tokens: &[Token],
 ) -> Result<(Stmt, &[Token]), Stop>
     requires { inner ≤ 128 }
-    ensures value { Gives (λ r. (stmt_of r.0, r.1.now)) result (do_at (stmt_at inner) inner form word tokens.now) }
+    ensures value { Gives (λ r. (stmt_of r.0, r.1.now)) result (do_at (stmt_at inner) inner form keyword tokens.now) }
     ensures rest { IfOk result (λ r. length r.1.now < length tokens.now) }
 {
     let (body, rest) = boxed(alloc, inner, tokens)?;
     let ((test, end), rest) = do_end(alloc, inner, rest)?;
-    Ok((make_do(form, word, body, test, end), rest))
+    Ok((make_do(form, keyword, body, test, end), rest))
 }
 
 /// What stands behind `for` at this place.
 #[cycle(stmt)]
-#[tactic(auto, unfolding(crate::specs::ReadingStmts::for_at))]
+#[tactic(auto, unfolding(crate::specs::reader::Stmts::for_at))]
 fn for_loop(
     alloc: Global,
     inner: usize,
     form: Form,
-    word: Span,
+    keyword: Span,
     tokens: &[Token],
 ) -> Result<(Stmt, &[Token]), Stop>
     requires { inner ≤ 128 }
-    ensures value { Gives (λ r. (stmt_of r.0, r.1.now)) result (for_at (stmt_at inner) inner form word tokens.now) }
+    ensures value { Gives (λ r. (stmt_of r.0, r.1.now)) result (for_at (stmt_at inner) inner form keyword tokens.now) }
     ensures rest { IfOk result (λ r. length r.1.now < length tokens.now) }
 {
     let (head, rest) = head(alloc, inner, tokens)?;
     let (body, rest) = boxed(alloc, inner, rest)?;
-    Ok((make_for(form, word, head, body), rest))
+    Ok((make_for(form, keyword, head, body), rest))
 }
 
 /// What stands behind `foreach` at this place.
 #[cycle(stmt)]
-#[tactic(auto, unfolding(crate::specs::ReadingStmts::foreach_at))]
+#[tactic(auto, unfolding(crate::specs::reader::Stmts::foreach_at))]
 fn foreach(
     alloc: Global,
     inner: usize,
     tiling: Tiling,
-    word: Span,
+    keyword: Span,
     tokens: &[Token],
 ) -> Result<(Stmt, &[Token]), Stop>
     requires { inner ≤ 128 }
-    ensures value { Gives (λ r. (stmt_of r.0, r.1.now)) result (foreach_at (stmt_at inner) inner tiling word tokens.now) }
+    ensures value { Gives (λ r. (stmt_of r.0, r.1.now)) result (foreach_at (stmt_at inner) inner tiling keyword tokens.now) }
     ensures rest { IfOk result (λ r. length r.1.now < length tokens.now) }
 {
     let (ranges, rest) = ranges_head(alloc, inner, tokens)?;
     let (body, rest) = boxed(alloc, inner, rest)?;
-    Ok((make_foreach(tiling, word, ranges, body), rest))
+    Ok((make_foreach(tiling, keyword, ranges, body), rest))
 }
 
 /// What stands behind `foreach_active` at this place.
 #[cycle(stmt)]
-#[tactic(auto, unfolding(crate::specs::ReadingStmts::active_at))]
+#[tactic(auto, unfolding(crate::specs::reader::Stmts::active_at))]
 fn foreach_active(
     alloc: Global,
     inner: usize,
-    word: Span,
+    keyword: Span,
     tokens: &[Token],
 ) -> Result<(Stmt, &[Token]), Stop>
     requires { inner ≤ 128 }
-    ensures value { Gives (λ r. (stmt_of r.0, r.1.now)) result (active_at (stmt_at inner) word tokens.now) }
+    ensures value { Gives (λ r. (stmt_of r.0, r.1.now)) result (active_at (stmt_at inner) keyword tokens.now) }
     ensures rest { IfOk result (λ r. length r.1.now < length tokens.now) }
 {
     let (index, rest) = active_head(tokens)?;
     let (body, rest) = boxed(alloc, inner, rest)?;
-    Ok((make_active(word, index, body), rest))
+    Ok((make_active(keyword, index, body), rest))
 }
 
 /// What stands behind `unmasked` at this place.
 #[cycle(stmt)]
-#[tactic(auto, unfolding(crate::specs::ReadingStmts::unmasked_at))]
+#[tactic(auto, unfolding(crate::specs::reader::Stmts::unmasked_at))]
 fn unmasked(
     alloc: Global,
     inner: usize,
-    word: Span,
+    keyword: Span,
     tokens: &[Token],
 ) -> Result<(Stmt, &[Token]), Stop>
     requires { inner ≤ 128 }
-    ensures value { Gives (λ r. (stmt_of r.0, r.1.now)) result (unmasked_at (stmt_at inner) word tokens.now) }
+    ensures value { Gives (λ r. (stmt_of r.0, r.1.now)) result (unmasked_at (block_at inner) keyword tokens.now) }
     ensures rest { IfOk result (λ r. length r.1.now < length tokens.now) }
 {
     let (body, rest) = block(alloc, inner, tokens)?;
-    Ok((make_unmasked(word, Box::new(alloc, body)?), rest))
+    Ok((make_unmasked(keyword, body), rest))
 }
 
 /// A statement by its first token, its parts no deeper than `inner`.
@@ -257,26 +276,26 @@ fn stmt_from<'a>(
     requires whole { tokens.now ≡ first.now ∷ rest.now }
     requires room { inner < 128 }
     ensures value { Gives (λ r. (stmt_of r.0, r.1.now)) result
-        (stmt_from (stmt_at inner) inner (start_of first.now.kind) first.now rest.now) }
+        (stmt_from (stmt_at inner) (block_at inner) inner (start_of first.now.kind) first.now rest.now) }
     ensures rest { IfOk result (λ r. length r.1.now < length tokens.now) }
 {
-    let word = first.span;
+    let keyword = first.span;
     match stmt_start(&first.kind) {
-        Start::Block => braces(alloc, inner, word, rest),
-        Start::Empty => Ok((Stmt::Empty(word), rest)),
+        Start::Block => block_stmt(alloc, inner, tokens),
+        Start::Empty => Ok((Stmt::Empty { span: keyword }, rest)),
         Start::Declare => declare_stmt(alloc, inner, tokens),
         Start::Simple => simple_stmt(alloc, inner, tokens),
-        Start::If(form) => conditional(alloc, inner, form, word, rest),
-        Start::While(form) => while_loop(alloc, inner, form, word, rest),
-        Start::Do(form) => do_loop(alloc, inner, form, word, rest),
-        Start::For(form) => for_loop(alloc, inner, form, word, rest),
-        Start::Foreach(tiling) => foreach(alloc, inner, tiling, word, rest),
-        Start::ForeachActive => foreach_active(alloc, inner, word, rest),
-        Start::Unmasked => unmasked(alloc, inner, word, rest),
-        Start::Jump(jump) => jump_stmt(jump, word, rest),
-        Start::Return => return_stmt(alloc, inner, word, rest),
-        Start::Print => print_stmt(alloc, inner, word, rest),
-        Start::Assert => assert_stmt(alloc, inner, word, rest),
+        Start::If(form) => conditional(alloc, inner, form, keyword, rest),
+        Start::While(form) => while_loop(alloc, inner, form, keyword, rest),
+        Start::Do(form) => do_loop(alloc, inner, form, keyword, rest),
+        Start::For(form) => for_loop(alloc, inner, form, keyword, rest),
+        Start::Foreach(tiling) => foreach(alloc, inner, tiling, keyword, rest),
+        Start::ForeachActive => foreach_active(alloc, inner, keyword, rest),
+        Start::Unmasked => unmasked(alloc, inner, keyword, rest),
+        Start::Jump(jump) => jump_stmt(jump, keyword, rest),
+        Start::Return => return_stmt(alloc, inner, keyword, rest),
+        Start::Print => print_stmt(alloc, inner, keyword, rest),
+        Start::Assert => assert_stmt(alloc, inner, keyword, rest),
         Start::Nothing => Err(refuse(Why::Unexpected, tokens)),
     }
 }

@@ -1,16 +1,17 @@
 //! Types.
 ghost use Rattle.std.specs.Prelude.{◌≡◌, ◌<◌, IfOk, IfErr, length};
-ghost use Rattle.isp_syntax.specs.Signs.{is_sign, first_span};
-ghost use Rattle.isp_syntax.specs.Tree.{type_of};
-ghost use Rattle.isp_syntax.specs.Reading.{Gives};
-ghost use Rattle.isp_syntax.specs.ReadingChoices.{begins_with};
-ghost use Rattle.isp_syntax.specs.ReadingTypes.{type_word_of, type_word_at, begins_type, type_at};
+ghost use Rattle.isp_syntax.specs.Signs.{first_span};
+ghost use Rattle.isp_tree.specs.Tree.{is_sign};
+ghost use Rattle.isp_tree.specs.Views.{type_of};
+ghost use Rattle.isp_syntax.specs.reader.Readers.{Gives};
+ghost use Rattle.isp_syntax.specs.reader.Choices.{begins_with};
+ghost use Rattle.isp_syntax.specs.reader.Types.{type_word_of, type_word_at, begins_type, type_at};
 
 use crate::reading::{refuse, tail};
 use crate::stop::{Stop, Why};
-use crate::tree::{Base, Qualifier, TypeWords};
 use isp_base::Span;
 use isp_lex::{Mark, Token, TokenKind};
+use isp_tree::{Base, Qualifier, TypeWords};
 use std::alloc::Global;
 
 /// What a token is in a type.

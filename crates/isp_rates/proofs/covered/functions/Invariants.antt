@@ -1,5 +1,5 @@
 use Rattle.std.proofs.Common.{◌≡◌, drop}
-use Rattle.isp_syntax.specs.Tree.{functions_of as read_functions}
+use Rattle.isp_tree.specs.Views.{functions_of as read_functions}
 use Rattle.isp_rates.specs.Thin.{functions_of}
 use Rattle.isp_rates.specs.Covered.{thin_of}
 use Rattle.isp_rates.proofs.Readings.{behind}

@@ -1,5 +1,5 @@
 use Rattle.std.proofs.Common.{◌≡◌, drop, map}
-use Rattle.isp_syntax.specs.Tree.{param_of}
+use Rattle.isp_tree.specs.Views.{param_of}
 use Rattle.isp_rates.specs.Covered.{each, param_in}
 use Rattle.isp_rates.proofs.Readings.{behind}
 use Rattle.isp_rates.proofs.covered.params.Given as goal

@@ -1,5 +1,5 @@
 use Rattle.std.proofs.Common.{◌≡◌, drop}
-use Rattle.isp_syntax.specs.Tree.{stmts_of as read_stmts}
+use Rattle.isp_tree.specs.Views.{stmts_of as read_stmts}
 use Rattle.isp_rates.specs.Thin.{stmts_of}
 use Rattle.isp_rates.specs.Covered.{each, stmt_in}
 use Rattle.isp_rates.proofs.Readings.{behind}

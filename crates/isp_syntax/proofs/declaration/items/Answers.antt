@@ -2,8 +2,8 @@ use Rattle.std.proofs.Common.{◌≡◌, ◌∷◌, ◌++◌, [], suc, length, s
 use Rattle.std.specs.Prelude.{map}
 use Rattle.std.proofs.lemmas.Result.{err_from_is_err_and}
 use Rattle.std.proofs.lemmas.List.{map_push}
-use Rattle.isp_syntax.specs.Tree.{item_of}
-use Rattle.isp_syntax.specs.ReadingStmts.{item_at, items_at}
+use Rattle.isp_tree.specs.Views.{item_of}
+use Rattle.isp_syntax.specs.reader.Stmts.{item_at, items_at}
 use Rattle.isp_syntax.proofs.Loops.{list_fails, list_last, list_step, list_begins}
 use Rattle.isp_syntax.proofs.ListForms.{last_item}
 use Rattle.isp_syntax.proofs.declaration.items.Goals as goal

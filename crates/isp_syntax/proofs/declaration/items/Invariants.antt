@@ -1,8 +1,8 @@
 use Rattle.std.proofs.Common.{◌≡◌, ◌≤◌, ◌<◌, ℕ, length}
 use Rattle.std.specs.Prelude.{map}
-use Rattle.isp_syntax.specs.Reading.{list_at}
-use Rattle.isp_syntax.specs.ReadingStmts.{item_at, items_at}
-use Rattle.isp_syntax.specs.Tree.{item_of}
+use Rattle.isp_syntax.specs.reader.Readers.{list_at}
+use Rattle.isp_syntax.specs.reader.Stmts.{item_at, items_at}
+use Rattle.isp_tree.specs.Views.{item_of}
 use Rattle.isp_syntax.proofs.Loops.{with_front}
 use Rattle.isp_syntax.proofs.declaration.items.Given as goal
 

@@ -1,6 +1,6 @@
 use Rattle.std.proofs.Common.{arith}
-use Rattle.isp_syntax.specs.ReadingStarts.{begins_first}
-use Rattle.isp_syntax.specs.ReadingStmts.{first_at, first_part_at}
+use Rattle.isp_syntax.specs.reader.Starts.{begins_first}
+use Rattle.isp_syntax.specs.reader.Stmts.{first_at, first_part_at}
 use Rattle.isp_syntax.proofs.ListForms.{counted_limit, counted_step}
 use Rattle.isp_syntax.proofs.parts.first_part.Goals as goal
 

@@ -1,7 +1,7 @@
 use Rattle.std.proofs.Common.{◌≡◌, ◌∷◌, ◌++◌, [], map, Ok, subst, sym, ◌∙◌}
 use Rattle.std.proofs.lemmas.List.{map_push, take_rest}
-use Rattle.isp_syntax.specs.ReadingStmts.{range_at}
-use Rattle.isp_syntax.specs.Tree.{range_of}
+use Rattle.isp_syntax.specs.reader.Stmts.{range_at}
+use Rattle.isp_tree.specs.Views.{range_of}
 use Rattle.isp_syntax.proofs.RangeSteps.{comma_first, more_step}
 use Rattle.isp_syntax.proofs.parts.more_ranges.Goals as goal
 

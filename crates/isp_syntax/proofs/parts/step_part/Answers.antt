@@ -1,6 +1,6 @@
 use Rattle.std.proofs.Common.{arith}
-use Rattle.isp_syntax.specs.ReadingStarts.{begins_simple}
-use Rattle.isp_syntax.specs.ReadingStmts.{simple_at, step_part_at}
+use Rattle.isp_syntax.specs.reader.Starts.{begins_simple}
+use Rattle.isp_syntax.specs.reader.Stmts.{simple_at, step_part_at}
 use Rattle.isp_syntax.proofs.ListForms.{counted_limit, counted_step}
 use Rattle.isp_syntax.proofs.parts.step_part.Goals as goal
 

@@ -2,8 +2,8 @@ use Rattle.std.proofs.Common.{◌≡◌, ◌∷◌, ◌++◌, [], suc, length, s
 use Rattle.std.proofs.lemmas.Result.{err_from_is_err_and}
 use Rattle.std.proofs.lemmas.List.{map_push}
 use Rattle.isp_lex.specs.declared.token.Mark.TheVariants as mark
-use Rattle.isp_syntax.specs.Tree.{expr_of, exprs_of}
-use Rattle.isp_syntax.specs.ReadingStmts.{next_value_at, values_at}
+use Rattle.isp_tree.specs.Views.{expr_of, exprs_of}
+use Rattle.isp_syntax.specs.reader.Stmts.{next_value_at, values_at}
 use Rattle.isp_syntax.proofs.Loops.{until_fails, until_end, until_step, until_begins}
 use Rattle.isp_syntax.proofs.parts.values.Goals as goal
 

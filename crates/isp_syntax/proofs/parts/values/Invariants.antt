@@ -1,8 +1,8 @@
 use Rattle.std.proofs.Common.{◌≡◌, ◌≤◌, ◌<◌, ℕ, length}
 use Rattle.isp_lex.specs.declared.token.Mark.TheVariants as mark
-use Rattle.isp_syntax.specs.Tree.{exprs_of}
-use Rattle.isp_syntax.specs.Reading.{until_at}
-use Rattle.isp_syntax.specs.ReadingStmts.{next_value_at, values_at}
+use Rattle.isp_tree.specs.Views.{exprs_of}
+use Rattle.isp_syntax.specs.reader.Readers.{until_at}
+use Rattle.isp_syntax.specs.reader.Stmts.{next_value_at, values_at}
 use Rattle.isp_syntax.proofs.Loops.{with_front}
 use Rattle.isp_syntax.proofs.parts.values.Given as goal
 

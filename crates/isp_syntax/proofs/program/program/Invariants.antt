@@ -1,7 +1,7 @@
 use Rattle.std.proofs.Common.{◌≡◌, ◌≤◌, ◌<◌, ℕ, length}
-use Rattle.isp_syntax.specs.Tree.{functions_of}
-use Rattle.isp_syntax.specs.Promise.{limit}
-use Rattle.isp_syntax.specs.ReadingPrograms.{functions_at, program_at}
+use Rattle.isp_tree.specs.Views.{functions_of}
+use Rattle.isp_tree.specs.Depth.{limit}
+use Rattle.isp_syntax.specs.reader.Programs.{functions_at, program_at}
 use Rattle.isp_syntax.proofs.FunctionSteps.{functions_then}
 use Rattle.isp_syntax.proofs.program.program.Given as goal
 

@@ -2,11 +2,11 @@ use Rattle.std.proofs.Common.{◌≡◌, ◌-◌, ◌∷◌, ◌++◌, [], suc, 
 use Rattle.std.proofs.lemmas.Result.{err_from_is_err_and}
 use Rattle.std.proofs.lemmas.List.{map_push}
 use Rattle.isp_lex.specs.declared.token.Mark.TheVariants as mark
-use Rattle.isp_syntax.specs.Tree.{stmt_of, stmts_of}
-use Rattle.isp_syntax.specs.ReadingStarts.{start_of}
-use Rattle.isp_syntax.specs.ReadingStmts.{stmts_at, stmt_from, stmt_at}
+use Rattle.isp_tree.specs.Views.{stmt_of, stmts_of}
+use Rattle.isp_syntax.specs.reader.Starts.{start_of}
+use Rattle.isp_syntax.specs.reader.Stmts.{stmts_at, stmt_from, stmt_at, block_at}
 use Rattle.isp_syntax.proofs.Loops.{until_fails, until_end, until_step, until_begins}
-use Rattle.isp_syntax.proofs.StmtSteps.{stmt_at_limit, stmt_none, stmt_step}
+use Rattle.isp_syntax.proofs.StmtSteps.{stmt_at_limit, stmt_none, stmt_step, block_at_limit, block_step}
 use Rattle.isp_syntax.proofs.stmt.+stmt.Goals as goal
 
 -- ---- one statement
@@ -20,8 +20,16 @@ stmt-returns-in_default-clause-value t c = rw c.refuse.ensures (stmt_none c.args
 pub stmt-returns-clause-value : goal.stmt-returns-clause-value
 stmt-returns-clause-value t c =
     let w : c.args.tokens.now ≡ c.in-Some.first.now ∷ c.in-Some.rest.now = search rules in
-    let p : stmt_at c.args.left c.args.tokens.now ≡ stmt_from (stmt_at (c.args.left - 1)) (c.args.left - 1) (start_of c.in-Some.first.now.kind) c.in-Some.first.now c.in-Some.rest.now = rw w (stmt_step c.args.left c.in-Some.first.now c.in-Some.rest.now (omega arith)) in
+    let p : stmt_at c.args.left c.args.tokens.now ≡ stmt_from (stmt_at (c.args.left - 1)) (block_at (c.args.left - 1)) (c.args.left - 1) (start_of c.in-Some.first.now.kind) c.in-Some.first.now c.in-Some.rest.now = rw w (stmt_step c.args.left c.in-Some.first.now c.in-Some.rest.now (omega arith)) in
     rw p c.stmt_from.ensures.value
+
+-- ---- blocks
+
+pub block-returns-then-left-eq0-clause-value : goal.block-returns-then-left-eq0-clause-value
+block-returns-then-left-eq0-clause-value t c = rw (c.refuse_at_limit.ensures, c.begins_block.ensures, c.if-left-eq0.true) (block_at_limit c.args.tokens.now)
+
+pub block-returns-clause-value : goal.block-returns-clause-value
+block-returns-clause-value t c = rw (block_step c.args.left c.args.tokens.now (omega arith)) c.braced.ensures.value
 
 -- ---- statements up to a brace
 

@@ -1,8 +1,8 @@
 use Rattle.std.proofs.Common.{◌≡◌, ◌≤◌, ◌+◌, ◌<◌, ℕ, ◌*◌, length}
 use Rattle.isp_lex.specs.declared.token.Mark.TheVariants as mark
-use Rattle.isp_syntax.specs.Tree.{stmts_of}
-use Rattle.isp_syntax.specs.Reading.{until_at}
-use Rattle.isp_syntax.specs.ReadingStmts.{stmts_at, stmt_at}
+use Rattle.isp_tree.specs.Views.{stmts_of}
+use Rattle.isp_syntax.specs.reader.Readers.{until_at}
+use Rattle.isp_syntax.specs.reader.Stmts.{stmts_at, stmt_at}
 use Rattle.isp_syntax.proofs.Loops.{with_front}
 use Rattle.isp_syntax.proofs.stmt.+stmt.Given as goal
 
@@ -15,11 +15,14 @@ decreases-stmt_from l = 8 * l.inner + 7
 abbrev pub decreases-stmts : goal.decreases-stmts
 decreases-stmts l = 8 * l.left + 1
 
-abbrev pub decreases-braces : goal.decreases-braces
-decreases-braces l = 8 * l.inner + 2
+abbrev pub decreases-braced : goal.decreases-braced
+decreases-braced l = 8 * l.inner + 2
 
 abbrev pub decreases-block : goal.decreases-block
-decreases-block l = 8 * l.left + 1
+decreases-block l = 8 * l.left
+
+abbrev pub decreases-block_stmt : goal.decreases-block_stmt
+decreases-block_stmt l = 8 * l.inner + 3
 
 abbrev pub decreases-else_branch : goal.decreases-else_branch
 decreases-else_branch l = 8 * l.inner + 2

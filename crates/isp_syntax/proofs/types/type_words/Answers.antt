@@ -1,6 +1,6 @@
 use Rattle.std.proofs.Common.{Bool, refl, sym, ap, ◌∙◌, arith}
 use Rattle.std.specs.Prelude.{◌||◌}
-use Rattle.isp_syntax.specs.Signs.{is_sign}
+use Rattle.isp_tree.specs.Tree.{is_sign}
 use Rattle.isp_syntax.proofs.TypesRead.{type_begins, word_shorter, more_qualifier, more_base, more_signed, more_fails, sign_past}
 use Rattle.isp_syntax.proofs.types.type_words.Goals as goal
 

@@ -1,6 +1,6 @@
 use Rattle.std.proofs.Common.{◌≡◌, ◌<◌, length, ◌≤◌, true}
-use Rattle.isp_syntax.specs.Signs.{has_sign}
-use Rattle.isp_syntax.specs.ReadingTypes.{type_more, type_at}
+use Rattle.isp_tree.specs.Tree.{has_sign}
+use Rattle.isp_syntax.specs.reader.Types.{type_more, type_at}
 use Rattle.isp_syntax.proofs.types.type_words.Given as goal
 
 abbrev pub invariant-each : goal.invariant-each

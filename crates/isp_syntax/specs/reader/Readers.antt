@@ -1,4 +1,4 @@
--- How the parser reads, for the contracts of its own functions: no part of what `parse` promises.
+-- Readers, and those of any kind.
 use Rattle.std.specs.Prelude.{◌≡◌, ℕ, zero, suc, List, [], ◌∷◌, length, drop, Bool, true, false, if◌then◌else◌, Option, Some, None, Result, Ok, Err}
 use Rattle.isp_base.specs.declared.types.Span.{Span}
 use Rattle.isp_lex.specs.Tokens.{is_mark, starts_with}
@@ -10,13 +10,13 @@ use Rattle.isp_lex.specs.declared.token.Mark.TheVariants as mark
 use Rattle.isp_lex.specs.declared.token.TokenKind.{TokenKind}
 use Rattle.isp_lex.specs.declared.token.TokenKind.TheVariants as kind
 use Rattle.isp_lex.specs.declared.token.Token.{Token}
-use Rattle.isp_syntax.specs.Promise.{place, rule_at}
+use Rattle.isp_syntax.specs.Promise.{refused_span, rule_at}
 use Rattle.isp_syntax.specs.declared.stop.Why.{Why}
 use Rattle.isp_syntax.specs.declared.stop.Why.TheVariants.{Unexpected, TooDeep}
 use Rattle.isp_syntax.specs.declared.stop.Refusal.{Refusal}
 use Rattle.isp_syntax.specs.declared.stop.Stop.{Stop}
 use Rattle.isp_syntax.specs.declared.stop.Stop.TheVariants as stops
-use Rattle.isp_syntax.specs.declared.tree.Word.{Word}
+use Rattle.isp_tree.specs.declared.types.Word.{Word}
 
 -- a value and the tokens after it, or a refusal
 abbrev pub Read : Type 0 → Type 0
@@ -122,5 +122,5 @@ is_word kind.LeftOut = false
 
 -- the fault of a refusal whose first token stands at the front
 abbrev pub fault_of : Why → ℕ → List Token → Fault
-fault_of Unexpected end ts = fault (rule_at ts) (place end ts)
-fault_of TooDeep end ts = fault rule.TooDeep (place end ts)
+fault_of Unexpected end ts = fault (rule_at ts) (refused_span end ts)
+fault_of TooDeep end ts = fault rule.TooDeep (refused_span end ts)

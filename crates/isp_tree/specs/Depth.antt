@@ -1,7 +1,13 @@
 -- How deep a tree is: the statements and the nodes of expressions on the longest way down.
--- A type, a size, a text, a declared item and the sign of an assignment count none.
+-- A type, a size, a text, a declared item, the sign of an assignment and `&` count none.
 use Rattle.std.specs.Prelude.{ℕ, suc, max, List, [], ◌∷◌, Option, Some, None}
-use Rattle.isp_syntax.specs.Tree.{Expr, number, truth, program_index, program_count, name, item, call, reference, brackets, cast, prefix, binary, choose, Exprs, no_exprs, expr_then, listed, Item, plain, with_value, with_size, Declaration, Simple, value, assign, change, First, first_declare, first_simple, Range, Stmt, block, empty, declare, simple, if_then, if_else, loop_while, loop_do, loop_for, foreach, foreach_active, unmasked, jump, returning, print, assert, Stmts, no_stmts, stmt_then, Function}
+use Rattle.isp_tree.specs.Tree.{Expr, number, truth, program_index, program_count, place, call, brackets, cast, prefix, binary, choose, Place, variable, element, Argument, by_value, by_reference, Arguments, no_arguments, argument_then, listed}
+use Rattle.isp_tree.specs.Tree.{Item, plain, with_value, with_size, Declaration, Simple, value, assign, change, First, first_declare, first_simple, Range}
+use Rattle.isp_tree.specs.Tree.{Stmt, block, empty, declare, simple, if_then, if_else, loop_while, loop_do, loop_for, foreach, foreach_active, unmasked, jump, returning, print, assert, Block, braces, Stmts, no_stmts, stmt_then, Function}
+
+-- how deep a tree may be
+abbrev pub limit : ℕ
+limit = 128
 
 abbrev mutual
   pub depth : Expr → ℕ
@@ -9,21 +15,27 @@ abbrev mutual
   depth (truth b s) = 1
   depth (program_index s) = 1
   depth (program_count s) = 1
-  depth (name w) = 1
-  depth (item w x s) = suc (depth x)
+  depth (place p) = depth_of_place p
   depth (call w xs s) = suc (depth_of_row xs)
-  depth (reference x s) = depth x
   depth (brackets x s) = suc (depth x)
   depth (cast t x s) = suc (depth x)
   depth (prefix p x s) = suc (depth x)
   depth (binary op x y s) = suc (max (depth x) (depth y))
   depth (choose x y z s) = suc (max (depth x) (max (depth y) (depth z)))
 
-  pub depth_of_row : Exprs → ℕ
-  depth_of_row no_exprs = 0
-  depth_of_row (expr_then x xs) = max (depth x) (depth_of_row xs)
+  pub depth_of_place : Place → ℕ
+  depth_of_place (variable w) = 1
+  depth_of_place (element w x s) = suc (depth x)
 
-abbrev pub depth_of_all : List Expr → ℕ
+  pub depth_of_argument : Argument → ℕ
+  depth_of_argument (by_value x) = depth x
+  depth_of_argument (by_reference p s) = depth_of_place p
+
+  pub depth_of_row : Arguments → ℕ
+  depth_of_row no_arguments = 0
+  depth_of_row (argument_then x xs) = max (depth_of_argument x) (depth_of_row xs)
+
+abbrev pub depth_of_all : List Argument → ℕ
 depth_of_all xs = depth_of_row (listed xs)
 
 -- the depth of what may be left out
@@ -61,7 +73,7 @@ depth_of_range r = max (depth r.start) (depth r.end)
 
 abbrev mutual
   pub depth_of_stmt : Stmt → ℕ
-  depth_of_stmt (block ss s) = suc (depth_of_stmts ss)
+  depth_of_stmt (block b) = depth_of_block b
   depth_of_stmt (empty s) = 1
   depth_of_stmt (declare d s) = suc (depth_of_declaration d)
   depth_of_stmt (simple p s) = suc (depth_of_simple p)
@@ -69,14 +81,18 @@ abbrev mutual
   depth_of_stmt (if_else f x a b s) = suc (max (depth x) (max (depth_of_stmt a) (depth_of_stmt b)))
   depth_of_stmt (loop_while f x a s) = suc (max (depth x) (depth_of_stmt a))
   depth_of_stmt (loop_do f a x s) = suc (max (depth_of_stmt a) (depth x))
-  depth_of_stmt (loop_for f i x p a s) = suc (max (depth_of_option depth_of_first i) (max (depth_of_option depth x) (max (depth_of_option depth_of_step p) (depth_of_stmt a))))
-  depth_of_stmt (foreach t w rs a s) = suc (max (deepest_of depth_of_range rs) (depth_of_stmt a))
-  depth_of_stmt (foreach_active w i a s) = suc (depth_of_stmt a)
-  depth_of_stmt (unmasked w a s) = suc (depth_of_stmt a)
-  depth_of_stmt (jump j w s) = 1
-  depth_of_stmt (returning w x s) = suc (depth_of_option depth x)
-  depth_of_stmt (print w t p xs s) = suc (deepest_of depth xs)
-  depth_of_stmt (assert x s) = suc (depth x)
+  depth_of_stmt (loop_for f i x p a s) =
+      suc (max (depth_of_option depth_of_first i) (max (depth_of_option depth x) (max (depth_of_option depth_of_step p) (depth_of_stmt a))))
+  depth_of_stmt (foreach t k rs a s) = suc (max (deepest_of depth_of_range rs) (depth_of_stmt a))
+  depth_of_stmt (foreach_active k w a s) = suc (depth_of_stmt a)
+  depth_of_stmt (unmasked k b s) = suc (depth_of_block b)
+  depth_of_stmt (jump j k s) = 1
+  depth_of_stmt (returning k x s) = suc (depth_of_option depth x)
+  depth_of_stmt (print k t p xs s) = suc (deepest_of depth xs)
+  depth_of_stmt (assert x c s) = suc (depth x)
+
+  pub depth_of_block : Block → ℕ
+  depth_of_block (braces ss s) = suc (depth_of_stmts ss)
 
   pub depth_of_stmts : Stmts → ℕ
   depth_of_stmts no_stmts = 0
@@ -84,4 +100,4 @@ abbrev mutual
 
 -- from a function's body on, which counts
 abbrev pub depth_of_functions : List Function → ℕ
-depth_of_functions = deepest_of (λ f. depth_of_stmt f.body)
+depth_of_functions = deepest_of (λ f. depth_of_block f.body)

@@ -1,4 +1,4 @@
--- What the first token says: no part of what `parse` promises.
+-- What the first token says.
 use Rattle.std.specs.Prelude.{Bool, true, false}
 use Rattle.isp_lex.specs.declared.token.Mark.{Mark}
 use Rattle.isp_lex.specs.declared.token.Mark.TheVariants as mark
@@ -6,9 +6,9 @@ use Rattle.isp_lex.specs.declared.token.TokenKind.{TokenKind}
 use Rattle.isp_lex.specs.declared.token.TokenKind.TheVariants as kind
 use Rattle.isp_syntax.specs.declared.start.Start.{Start}
 use Rattle.isp_syntax.specs.declared.start.Start.TheVariants as by
-use Rattle.isp_syntax.specs.declared.tree.Form.TheVariants as form
-use Rattle.isp_syntax.specs.declared.tree.Tiling.TheVariants as tiling
-use Rattle.isp_syntax.specs.declared.tree.Jump.TheVariants as jump
+use Rattle.isp_tree.specs.declared.stmt.Form.TheVariants as form
+use Rattle.isp_tree.specs.declared.stmt.Tiling.TheVariants as tiling
+use Rattle.isp_tree.specs.declared.stmt.Jump.TheVariants as jump
 
 -- what a mark says of a statement that begins with it
 abbrev pub start_of_mark : Mark → Start

@@ -1,4 +1,4 @@
--- How the words of a type are read: no part of what `parse` promises.
+-- How the words of a type are read.
 use Rattle.std.specs.Prelude.{List, [], ◌∷◌, ◌++◌, Bool, true, false, if◌then◌else◌, Some, None, Ok}
 use Rattle.isp_base.specs.Types.{span_to}
 use Rattle.isp_base.specs.declared.types.Span.{Span}
@@ -6,13 +6,14 @@ use Rattle.isp_lex.specs.declared.token.Mark.TheVariants as mark
 use Rattle.isp_lex.specs.declared.token.TokenKind.{TokenKind}
 use Rattle.isp_lex.specs.declared.token.TokenKind.TheVariants as kind
 use Rattle.isp_lex.specs.declared.token.Token.{Token}
-use Rattle.isp_syntax.specs.Reading.{Read, Reader, refuse}
-use Rattle.isp_syntax.specs.Signs.{has_sign, first_span}
-use Rattle.isp_syntax.specs.Tree.{TypeTree}
+use Rattle.isp_syntax.specs.reader.Readers.{Read, Reader, refuse}
+use Rattle.isp_syntax.specs.Signs.{first_span}
+use Rattle.isp_tree.specs.Tree.{has_sign}
+use Rattle.isp_tree.specs.Tree.{TypeTree}
 use Rattle.isp_syntax.specs.declared.stop.Why.TheVariants.{Unexpected}
-use Rattle.isp_syntax.specs.declared.tree.Qualifier.{Qualifier}
-use Rattle.isp_syntax.specs.declared.tree.Qualifier.TheVariants as qualifier
-use Rattle.isp_syntax.specs.declared.tree.Base.TheVariants as base
+use Rattle.isp_tree.specs.declared.types.Qualifier.{Qualifier}
+use Rattle.isp_tree.specs.declared.types.Qualifier.TheVariants as qualifier
+use Rattle.isp_tree.specs.declared.types.Base.TheVariants as base
 use Rattle.isp_syntax.specs.declared.types.TypeWord.{TypeWord}
 use Rattle.isp_syntax.specs.declared.types.TypeWord.TheVariants as by
 

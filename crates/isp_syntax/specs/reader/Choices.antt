@@ -1,4 +1,4 @@
--- Readers of what the first token decides: no part of what `parse` promises.
+-- Readers of what the first token decides.
 use Rattle.std.specs.Prelude.{◌⊎◌, List, [], ◌∷◌, ℕ, zero, suc, Bool, true, false, Option, Some, None, Ok}
 use mathlib.Core.Logic.{inl, inr}
 use Rattle.isp_base.specs.declared.types.Span.{Span}
@@ -6,7 +6,7 @@ use Rattle.isp_lex.specs.Tokens.{starts_with}
 use Rattle.isp_lex.specs.declared.token.Mark.{Mark}
 use Rattle.isp_lex.specs.declared.token.TokenKind.{TokenKind}
 use Rattle.isp_lex.specs.declared.token.Token.{Token}
-use Rattle.isp_syntax.specs.Reading.{Read, Reader, ◌>>=◌, refuse, head, on_head, at_limit}
+use Rattle.isp_syntax.specs.reader.Readers.{Read, Reader, ◌>>=◌, refuse, head, on_head, at_limit}
 use Rattle.isp_syntax.specs.declared.stop.Why.TheVariants.{Unexpected}
 
 -- whether there is a first token, and it is one of these

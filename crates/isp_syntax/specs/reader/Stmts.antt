@@ -1,5 +1,5 @@
--- How statements are read: no part of what `parse` promises.
-use Rattle.std.specs.Prelude.{◌⊎◌, ℕ, zero, suc, List, [], ◌∷◌, ◌++◌, length, Bool, true, false, ◌||◌, if◌then◌else◌, Option, Some, None, Ok}
+-- How statements are read.
+use Rattle.std.specs.Prelude.{option_map, ◌⊎◌, ℕ, zero, suc, List, [], ◌∷◌, ◌++◌, length, Bool, true, false, ◌||◌, if◌then◌else◌, Option, Some, None, Ok}
 use mathlib.Core.Logic.{inl, inr}
 use Rattle.isp_base.specs.Types.{span_to}
 use Rattle.isp_base.specs.declared.types.Span.{Span}
@@ -10,31 +10,33 @@ use Rattle.isp_lex.specs.declared.token.TokenKind.{TokenKind}
 use Rattle.isp_lex.specs.declared.token.TokenKind.TheVariants as kind
 use Rattle.isp_lex.specs.declared.token.Token.{Token}
 use Rattle.isp_syntax.specs.Grammar.{span_of_last}
-use Rattle.isp_syntax.specs.Reading.{Read, Reader, ◌>>=◌, refusal, refuse, mark_at, word_at, both, optional, list_at, until_at, at_limit}
-use Rattle.isp_syntax.specs.ReadingChoices.{sign_at, maybe_at, perhaps_at, either_at, counted_at}
-use Rattle.isp_syntax.specs.ReadingExprs.{expr_at}
-use Rattle.isp_syntax.specs.ReadingStarts.{start_of, begins_first, begins_simple, begins_stmt}
-use Rattle.isp_syntax.specs.ReadingTypes.{begins_type, type_at}
+use Rattle.isp_syntax.specs.reader.Readers.{Read, Reader, ◌>>=◌, refusal, refuse, mark_at, word_at, both, optional, list_at, until_at, at_limit}
+use Rattle.isp_syntax.specs.reader.Choices.{sign_at, maybe_at, perhaps_at, either_at, counted_at}
+use Rattle.isp_syntax.specs.reader.Exprs.{expr_at}
+use Rattle.isp_syntax.specs.reader.Starts.{start_of, begins_first, begins_simple, begins_stmt}
+use Rattle.isp_syntax.specs.reader.Types.{begins_type, type_at}
 use Rattle.isp_syntax.specs.Signs.{loosest}
-use Rattle.isp_syntax.specs.Tree.{TypeTree, Expr, expr_of, span_of, Item, plain, with_value, with_size, Declaration, Simple, value, assign, change, First, first_declare, first_simple, Range, Stmt, block, empty, declare, simple, if_then, if_else, loop_while, loop_do, loop_for, foreach, foreach_active, unmasked, jump, returning, print, assert, all, span_of_stmt, span_of_simple}
+use Rattle.isp_tree.specs.Tree.{TypeTree, Expr, span_of, Item, plain, with_value, with_size, Declaration, Simple, value, assign, change, First, first_declare, first_simple, Range, Stmt, block, empty, declare, simple, if_then, if_else, loop_while, loop_do, loop_for, foreach, foreach_active, unmasked, jump, returning, print, assert, Block, braces, all, span_of_block, span_of_stmt, span_of_simple}
+use Rattle.isp_tree.specs.Views.{expr_of, simple_of, first_of}
 use Rattle.isp_syntax.specs.declared.declaration.ItemTail as rust_item
 use Rattle.isp_syntax.specs.declared.declaration.ItemTail.TheVariants as one
+use Rattle.isp_syntax.specs.declared.parts.ForHead as rust_head
 use Rattle.isp_syntax.specs.declared.simple.Ending as rust_ending
 use Rattle.isp_syntax.specs.declared.simple.Ending.TheVariants as ending
 use Rattle.isp_syntax.specs.declared.start.Start.{Start}
 use Rattle.isp_syntax.specs.declared.start.Start.TheVariants as by
 use Rattle.isp_syntax.specs.declared.stop.Why.TheVariants.{Unexpected, TooDeep}
 use Rattle.isp_syntax.specs.declared.stop.Refusal.{Refusal}
-use Rattle.isp_syntax.specs.declared.tree.Word.{Word}
-use Rattle.isp_syntax.specs.declared.tree.Size.{Size}
-use Rattle.isp_syntax.specs.declared.tree.Size.TheVariants as size
-use Rattle.isp_syntax.specs.declared.tree.Assignment.{Assignment}
-use Rattle.isp_syntax.specs.declared.tree.Assignment.TheVariants as assignment
-use Rattle.isp_syntax.specs.declared.tree.Change.{Change}
-use Rattle.isp_syntax.specs.declared.tree.Change.TheVariants.{Increment, Decrement}
-use Rattle.isp_syntax.specs.declared.tree.Form.{Form}
-use Rattle.isp_syntax.specs.declared.tree.Tiling.{Tiling}
-use Rattle.isp_syntax.specs.declared.tree.Jump.{Jump}
+use Rattle.isp_tree.specs.declared.types.Word.{Word}
+use Rattle.isp_tree.specs.declared.stmt.Size.{Size}
+use Rattle.isp_tree.specs.declared.stmt.Size.TheVariants as size
+use Rattle.isp_tree.specs.declared.stmt.Assignment.{Assignment}
+use Rattle.isp_tree.specs.declared.stmt.Assignment.TheVariants as assignment
+use Rattle.isp_tree.specs.declared.stmt.Change.{Change}
+use Rattle.isp_tree.specs.declared.stmt.Change.TheVariants.{Increment, Decrement}
+use Rattle.isp_tree.specs.declared.stmt.Form.{Form}
+use Rattle.isp_tree.specs.declared.stmt.Tiling.{Tiling}
+use Rattle.isp_tree.specs.declared.stmt.Jump.{Jump}
 
 abbrev pub stands : {A : Type 0} → Option A → Bool
 stands None = false
@@ -66,7 +68,7 @@ abbrev pub ItemTail : Type 0
 ItemTail = (Span × Expr) ⊎ (Span × (Size × Span))
 
 abbrev pub item_tail_of : rust_item.ItemTail → ItemTail
-item_tail_of (one.Value s x) = inl (s, expr_of x)
+item_tail_of (one.Value s x) = inl (s, expr_of x.value)
 item_tail_of (one.Size o n c) = inr (o, (n, c))
 
 unfoldable pub item_tail_at : ℕ → Reader ItemTail
@@ -132,7 +134,7 @@ abbrev pub Ending : Type 0
 Ending = ((Assignment × Span) × Expr) ⊎ (Change × Span)
 
 abbrev pub ending_of : rust_ending.Ending → Ending
-ending_of (ending.Assign op s x) = inl ((op, s), expr_of x)
+ending_of (ending.Assign op s x) = inl ((op, s), expr_of x.value)
 ending_of (ending.Change c s) = inr (c, s)
 
 unfoldable pub ending_at : ℕ → Reader Ending
@@ -151,6 +153,10 @@ unfoldable pub simple_at : ℕ → Reader Simple
 simple_at n ts = either_at is_change (both (sign_at change_of) (expr_at n zero)) (both (expr_at n loosest) (perhaps_at is_ending (ending_at n))) ts >>= λ p. Ok (simple_from p.0, p.1)
 
 -- ---- parts of statements
+
+-- an expression in brackets, and where the closing one stands
+unfoldable pub closed_test_at : ℕ → Reader (Expr × Span)
+closed_test_at n ts = both (mark_at mark.ParenOpen) (both (expr_at n loosest) (mark_at mark.ParenClose)) ts >>= λ p. Ok (p.0.1, p.1)
 
 -- an expression in brackets
 unfoldable pub test_at : ℕ → Reader Expr
@@ -176,12 +182,17 @@ unfoldable pub step_part_at : ℕ → Reader Simple
 step_part_at n ts = counted_at begins_simple simple_at n ts
 
 -- what stands in the brackets of a `for`
-abbrev pub Head : Type 0
-Head = Option First × (Option Expr × Option Simple)
+pub record Head : Type 0 where
+  pub first : Option First
+  pub test : Option Expr
+  pub step : Option Simple
+
+abbrev pub head_of : rust_head.ForHead → Head
+head_of h = record { first = option_map (λ b. first_of b.value) h.first; test = option_map (λ b. expr_of b.value) h.test; step = option_map (λ b. simple_of b.value) h.step }
 
 unfoldable pub head_at : ℕ → Reader Head
 head_at n ts = both (mark_at mark.ParenOpen) (both (maybe_at mark.Semicolon (first_part_at n)) (both (mark_at mark.Semicolon) (both (maybe_at mark.Semicolon (expr_at n loosest)) (both (mark_at mark.Semicolon) (both (maybe_at mark.ParenClose (step_part_at n)) (mark_at mark.ParenClose)))))) ts
-    >>= λ p. Ok ((p.0.1.0, (p.0.1.1.1.0, p.0.1.1.1.1.1.0)), p.1)
+    >>= λ p. Ok (record { first = p.0.1.0; test = p.0.1.1.1.0; step = p.0.1.1.1.1.1.0 }, p.1)
 
 abbrev pub range_from : Word → Expr → Expr → Range
 range_from w x y = record { word = w; start = x; end = y; span = span_to w.span (span_of y) }
@@ -257,19 +268,22 @@ print_at n s ts = both (mark_at mark.ParenOpen) (both (sign_at text_of) (both (v
     >>= λ p. Ok (print s p.0.1.0.0 p.0.1.0.1 p.0.1.1.0 (span_to s p.0.1.1.1.1), p.1)
 
 unfoldable pub assert_at : ℕ → Span → Reader Stmt
-assert_at n s ts = both (test_at n) (mark_at mark.Semicolon) ts >>= λ p. Ok (assert p.0.0 (span_to s p.0.1), p.1)
+assert_at n s ts = both (closed_test_at n) (mark_at mark.Semicolon) ts >>= λ p. Ok (assert p.0.0.0 (span_to s p.0.0.1) (span_to s p.0.1), p.1)
 
 -- ---- statements with statements in them, behind their first token
 
 unfoldable pub stmts_at : Reader Stmt → Reader (List Stmt)
 stmts_at stmt ts = until_at mark.BraceClose stmt (suc (length ts)) ts
 
-unfoldable pub braces_at : Reader Stmt → Span → Reader Stmt
-braces_at stmt s ts = both (stmts_at stmt) (mark_at mark.BraceClose) ts >>= λ p. Ok (block (all p.0.0) (span_to s p.0.1), p.1)
+abbrev pub block_from : Span → List Stmt × Span → Block
+block_from s p = braces (all p.0) (span_to s p.1)
 
--- a statement that is a block
-unfoldable pub block_at : Reader Stmt → Reader Stmt
-block_at stmt ts = if starts_with mark.BraceOpen ts then stmt ts else refuse Unexpected ts
+-- a block with its braces
+unfoldable pub braced_at : Reader Stmt → Reader Block
+braced_at stmt ts = both (mark_at mark.BraceOpen) (both (stmts_at stmt) (mark_at mark.BraceClose)) ts >>= λ p. Ok (block_from p.0.0 p.0.1, p.1)
+
+unfoldable pub block_stmt_at : Reader Stmt → Reader Stmt
+block_stmt_at stmt ts = braced_at stmt ts >>= λ b. Ok (block b.0, b.1)
 
 abbrev pub if_from : Form → Span → Expr → Stmt → Option Stmt → Stmt
 if_from f i x s None = if_then f x s (span_to i (span_of_stmt s))
@@ -291,7 +305,7 @@ unfoldable pub do_at : Reader Stmt → ℕ → Form → Span → Reader Stmt
 do_at stmt n f d ts = both stmt (do_end_at n) ts >>= λ p. Ok (do_from f d p.0.0 p.0.1.0 p.0.1.1, p.1)
 
 abbrev pub for_from : Form → Span → Head → Stmt → Stmt
-for_from f w h s = loop_for f h.0 h.1.0 h.1.1 s (span_to w (span_of_stmt s))
+for_from f w h s = loop_for f h.first h.test h.step s (span_to w (span_of_stmt s))
 
 unfoldable pub for_at : Reader Stmt → ℕ → Form → Span → Reader Stmt
 for_at stmt n f w ts = both (head_at n) stmt ts >>= λ p. Ok (for_from f w p.0.0 p.0.1, p.1)
@@ -308,36 +322,42 @@ active_from w i s = foreach_active w i s (span_to w (span_of_stmt s))
 unfoldable pub active_at : Reader Stmt → Span → Reader Stmt
 active_at stmt w ts = both active_head_at stmt ts >>= λ p. Ok (active_from w p.0.0 p.0.1, p.1)
 
-abbrev pub unmasked_from : Span → Stmt → Stmt
-unmasked_from u s = unmasked u s (span_to u (span_of_stmt s))
+abbrev pub unmasked_from : Span → Block → Stmt
+unmasked_from u b = unmasked u b (span_to u (span_of_block b))
 
-unfoldable pub unmasked_at : Reader Stmt → Span → Reader Stmt
-unmasked_at stmt u ts = block_at stmt ts >>= λ b. Ok (unmasked_from u b.0, b.1)
+unfoldable pub unmasked_at : Reader Block → Span → Reader Stmt
+unmasked_at blocks u ts = blocks ts >>= λ b. Ok (unmasked_from u b.0, b.1)
 
 -- a statement with parts no deeper than the number, by what its first token says
-abbrev pub stmt_from : Reader Stmt → ℕ → Start → Token → List Token → Read Stmt
-stmt_from stmt n by.Block t ts = braces_at stmt t.span ts
-stmt_from stmt n by.Empty t ts = Ok (empty t.span, ts)
-stmt_from stmt n by.Declare t ts = declare_at n (t ∷ ts)
-stmt_from stmt n by.Simple t ts = simple_stmt_at n (t ∷ ts)
-stmt_from stmt n (by.If f) t ts = if_at stmt n f t.span ts
-stmt_from stmt n (by.While f) t ts = while_at stmt n f t.span ts
-stmt_from stmt n (by.Do f) t ts = do_at stmt n f t.span ts
-stmt_from stmt n (by.For f) t ts = for_at stmt n f t.span ts
-stmt_from stmt n (by.Foreach f) t ts = foreach_at stmt n f t.span ts
-stmt_from stmt n by.ForeachActive t ts = active_at stmt t.span ts
-stmt_from stmt n by.Unmasked t ts = unmasked_at stmt t.span ts
-stmt_from stmt n (by.Jump j) t ts = jump_at j t.span ts
-stmt_from stmt n by.Return t ts = return_at n t.span ts
-stmt_from stmt n by.Print t ts = print_at n t.span ts
-stmt_from stmt n by.Assert t ts = assert_at n t.span ts
-stmt_from stmt n by.Nothing t ts = refuse Unexpected (t ∷ ts)
+abbrev pub stmt_from : Reader Stmt → Reader Block → ℕ → Start → Token → List Token → Read Stmt
+stmt_from stmt blocks n by.Block t ts = block_stmt_at stmt (t ∷ ts)
+stmt_from stmt blocks n by.Empty t ts = Ok (empty t.span, ts)
+stmt_from stmt blocks n by.Declare t ts = declare_at n (t ∷ ts)
+stmt_from stmt blocks n by.Simple t ts = simple_stmt_at n (t ∷ ts)
+stmt_from stmt blocks n (by.If f) t ts = if_at stmt n f t.span ts
+stmt_from stmt blocks n (by.While f) t ts = while_at stmt n f t.span ts
+stmt_from stmt blocks n (by.Do f) t ts = do_at stmt n f t.span ts
+stmt_from stmt blocks n (by.For f) t ts = for_at stmt n f t.span ts
+stmt_from stmt blocks n (by.Foreach f) t ts = foreach_at stmt n f t.span ts
+stmt_from stmt blocks n by.ForeachActive t ts = active_at stmt t.span ts
+stmt_from stmt blocks n by.Unmasked t ts = unmasked_at blocks t.span ts
+stmt_from stmt blocks n (by.Jump j) t ts = jump_at j t.span ts
+stmt_from stmt blocks n by.Return t ts = return_at n t.span ts
+stmt_from stmt blocks n by.Print t ts = print_at n t.span ts
+stmt_from stmt blocks n by.Assert t ts = assert_at n t.span ts
+stmt_from stmt blocks n by.Nothing t ts = refuse Unexpected (t ∷ ts)
 
-unfoldable pub stmt_by : Reader Stmt → ℕ → Reader Stmt
-stmt_by stmt n [] = refuse Unexpected []
-stmt_by stmt n (t ∷ ts) = stmt_from stmt n (start_of t.kind) t ts
+unfoldable pub stmt_by : Reader Stmt → Reader Block → ℕ → Reader Stmt
+stmt_by stmt blocks n [] = refuse Unexpected []
+stmt_by stmt blocks n (t ∷ ts) = stmt_from stmt blocks n (start_of t.kind) t ts
 
--- a statement no deeper than the number
-unfoldable pub stmt_at : ℕ → Reader Stmt
-stmt_at zero ts = at_limit begins_stmt ts
-stmt_at (suc n) ts = stmt_by (stmt_at n) n ts
+unfoldable mutual
+  -- a statement no deeper than the number
+  pub stmt_at : ℕ → Reader Stmt
+  stmt_at zero ts = at_limit begins_stmt ts
+  stmt_at (suc n) ts = stmt_by (stmt_at n) (block_at n) n ts
+
+  -- a block no deeper than the number
+  pub block_at : ℕ → Reader Block
+  block_at zero ts = at_limit (is_mark mark.BraceOpen) ts
+  block_at (suc n) ts = braced_at (stmt_at n) ts

@@ -1,5 +1,5 @@
--- How functions and programs are read: no part of what `parse` promises.
-use Rattle.std.specs.Prelude.{ℕ, zero, suc, List, [], ◌∷◌, length, drop, Bool, true, false, ◌&&◌, if◌then◌else◌, Option, Some, None, Result, Ok, Err}
+-- How functions and programs are read.
+use Rattle.std.specs.Prelude.{map, ℕ, zero, suc, List, [], ◌∷◌, length, drop, Bool, true, false, ◌&&◌, if◌then◌else◌, Option, Some, None, Result, Ok, Err}
 use Rattle.isp_base.specs.Types.{span_to}
 use Rattle.isp_base.specs.declared.types.Span.{Span}
 use Rattle.isp_lex.specs.Tokens.{starts_with}
@@ -7,17 +7,19 @@ use Rattle.isp_lex.specs.declared.token.Mark.TheVariants as mark
 use Rattle.isp_lex.specs.declared.token.TokenKind.{TokenKind}
 use Rattle.isp_lex.specs.declared.token.TokenKind.TheVariants as kind
 use Rattle.isp_lex.specs.declared.token.Token.{Token}
-use Rattle.isp_syntax.specs.Reading.{Reader, ◌>>=◌, refusal, mark_at, word_at, both, optional, listed_at}
-use Rattle.isp_syntax.specs.ReadingChoices.{signs_at}
-use Rattle.isp_syntax.specs.ReadingStmts.{block_at, stmt_at}
-use Rattle.isp_syntax.specs.ReadingTypes.{type_at}
+use Rattle.isp_syntax.specs.reader.Readers.{Reader, ◌>>=◌, refusal, mark_at, word_at, both, optional, listed_at}
+use Rattle.isp_syntax.specs.reader.Choices.{signs_at}
+use Rattle.isp_syntax.specs.reader.Stmts.{block_at}
+use Rattle.isp_syntax.specs.reader.Types.{type_at}
 use Rattle.isp_syntax.specs.Signs.{first_span}
-use Rattle.isp_syntax.specs.Tree.{TypeTree, Stmt, span_of_stmt, Param, Function}
+use Rattle.isp_tree.specs.Tree.{TypeTree, Block, span_of_block, Param, Function}
+use Rattle.isp_tree.specs.Views.{type_of, param_of}
+use Rattle.isp_syntax.specs.declared.function.Heading as rust_heading
 use Rattle.isp_syntax.specs.declared.stop.Refusal.{Refusal}
 use Rattle.isp_syntax.specs.declared.stop.Why.TheVariants.{Unexpected}
-use Rattle.isp_syntax.specs.declared.tree.Linkage.{Linkage}
-use Rattle.isp_syntax.specs.declared.tree.Linkage.TheVariants.{Export, Static, Inline}
-use Rattle.isp_syntax.specs.declared.tree.Word.{Word}
+use Rattle.isp_tree.specs.declared.function.Linkage.{Linkage}
+use Rattle.isp_tree.specs.declared.function.Linkage.TheVariants.{Export, Static, Inline}
+use Rattle.isp_tree.specs.declared.types.Word.{Word}
 
 abbrev pub linkage_of : TokenKind → Option Linkage
 linkage_of (kind.Word n) = None
@@ -57,18 +59,24 @@ params_at ts = if only_void ts then Ok ([], drop 1 ts) else listed_at mark.Paren
 -- ---- functions
 
 -- a function up to its body: its words, type, name and parameters
-abbrev pub Signature : Type 0
-Signature = List Linkage × (TypeTree × (Word × List Param))
+pub record Signature : Type 0 where
+  pub linkages : List Linkage
+  pub answer : TypeTree
+  pub word : Word
+  pub params : List Param
+
+abbrev pub signature_of : rust_heading.Heading → Signature
+signature_of h = record { linkages = h.linkages.items; answer = type_of h.result; word = h.word; params = map param_of h.params.items }
 
 unfoldable pub signature_at : Reader Signature
-signature_at ts = both linkages_at (both type_at (both word_at (both (mark_at mark.ParenOpen) (both params_at (mark_at mark.ParenClose))))) ts >>= λ p. Ok ((p.0.0, (p.0.1.0, (p.0.1.1.0, p.0.1.1.1.1.0))), p.1)
+signature_at ts = both linkages_at (both type_at (both word_at (both (mark_at mark.ParenOpen) (both params_at (mark_at mark.ParenClose))))) ts >>= λ p. Ok (record { linkages = p.0.0; answer = p.0.1.0; word = p.0.1.1.0; params = p.0.1.1.1.1.0 }, p.1)
 
-abbrev pub function_from : Span → Signature → Stmt → Function
-function_from s h b = record { linkages = h.0; answer = h.1.0; word = h.1.1.0; params = h.1.1.1; body = b; span = span_to s (span_of_stmt b) }
+abbrev pub function_from : Span → Signature → Block → Function
+function_from s h b = record { linkages = h.linkages; answer = h.answer; word = h.word; params = h.params; body = b; span = span_to s (span_of_block b) }
 
 -- a function with a body no deeper than the number
 unfoldable pub function_at : ℕ → Reader Function
-function_at n ts = both signature_at (block_at (stmt_at n)) ts >>= λ p. Ok (function_from (first_span ts) p.0.0 p.0.1, p.1)
+function_at n ts = both signature_at (block_at n) ts >>= λ p. Ok (function_from (first_span ts) p.0.0 p.0.1, p.1)
 
 -- ---- programs
 
