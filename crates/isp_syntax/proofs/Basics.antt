@@ -1,12 +1,13 @@
 -- Small laws of reading.
-use Rattle.std.proofs.Common.{◌≡◌, ℕ, zero, suc, ◌<◌, Bool, true, false, cond, eqb, List, [], ◌∷◌, ◌++◌, length, drop, Option, Some, None, Result, Ok, Err, refl, sym, ap, ◌∙◌, arith, inl, inr, ◌⊎◌, eqb-true, eq-eqb}
+use Rattle.std.proofs.Common.{◌≡◌, ℕ, zero, suc, ◌<◌, Bool, true, false, cond, List, [], ◌∷◌, ◌++◌, length, drop, Option, Some, None, Result, Ok, Err, refl, sym, ap, ◌∙◌, arith, inl, inr, ◌⊎◌}
 use Rattle.isp_base.specs.declared.types.Span.{Span}
-use Rattle.isp_lex.specs.Tokens.{rank, is_mark, at, starts_with}
+use Rattle.isp_lex.specs.Tokens.{is_mark, at, starts_with}
 use Rattle.isp_lex.specs.declared.token.Mark.{Mark}
 use Rattle.isp_lex.specs.declared.token.Mark.TheVariants as mark
 use Rattle.isp_lex.specs.declared.token.TokenKind.{TokenKind}
 use Rattle.isp_lex.specs.declared.token.TokenKind.TheVariants as kind
 use Rattle.isp_lex.specs.declared.token.Token.{Token}
+pub use Rattle.isp_lex.proofs.Marks.{is_mark_is, is_mark_same}
 use Rattle.isp_syntax.specs.Signs.{word}
 use Rattle.isp_syntax.specs.reader.Readers.{◌>>=◌, refusal, refuse, head, on_head, is_word, mark_at, word_from, word_at}
 use Rattle.isp_syntax.specs.declared.stop.Why.TheVariants.{Unexpected}
@@ -74,35 +75,6 @@ pub head_some : {A : Type 0} (none : A) (f : TokenKind → A) (u : List Token) (
 head_some none f u t rest b w e = rw w e
 
 -- ---- marks
-
-marks : List Mark
-marks = mark.ParenOpen ∷ mark.ParenClose ∷ mark.BraceOpen ∷ mark.BraceClose ∷ mark.BracketOpen ∷ mark.BracketClose ∷ mark.Semicolon ∷ mark.Comma ∷ mark.Question ∷ mark.Colon ∷ mark.Ellipsis ∷ mark.Assign ∷ mark.Equal ∷ mark.NotEqual ∷ mark.Less ∷ mark.LessEqual ∷ mark.Greater ∷ mark.GreaterEqual ∷ mark.ShiftLeft ∷ mark.ShiftRight ∷ mark.ShiftLeftAssign ∷ mark.ShiftRightAssign ∷ mark.Plus ∷ mark.Increment ∷ mark.PlusAssign ∷ mark.Minus ∷ mark.Decrement ∷ mark.MinusAssign ∷ mark.Star ∷ mark.StarAssign ∷ mark.Slash ∷ mark.SlashAssign ∷ mark.Percent ∷ mark.PercentAssign ∷ mark.And ∷ mark.AndAnd ∷ mark.AndAssign ∷ mark.Or ∷ mark.OrOr ∷ mark.OrAssign ∷ mark.Xor ∷ mark.XorAssign ∷ mark.Inverse ∷ mark.Not ∷ mark.Void ∷ mark.Bool ∷ mark.Int ∷ mark.Int8 ∷ mark.Int16 ∷ mark.Int32 ∷ mark.Int64 ∷ mark.Uint ∷ mark.Uint8 ∷ mark.Uint16 ∷ mark.Uint32 ∷ mark.Uint64 ∷ mark.Signed ∷ mark.Unsigned ∷ mark.Const ∷ mark.Uniform ∷ mark.Varying ∷ mark.Export ∷ mark.Static ∷ mark.Inline ∷ mark.If ∷ mark.Cif ∷ mark.Else ∷ mark.While ∷ mark.Cwhile ∷ mark.Do ∷ mark.Cdo ∷ mark.For ∷ mark.Cfor ∷ mark.Foreach ∷ mark.ForeachTiled ∷ mark.ForeachActive ∷ mark.Unmasked ∷ mark.Break ∷ mark.Continue ∷ mark.Return ∷ mark.Print ∷ mark.Assert ∷ mark.True ∷ mark.False ∷ mark.ProgramIndex ∷ mark.ProgramCount ∷ []
-
-pick : List Mark → ℕ → Mark
-pick [] n = mark.ParenOpen
-pick (m ∷ ms) zero = m
-pick (m ∷ ms) (suc n) = pick ms n
-
-pick_rank : (m : Mark) → pick marks (rank m) ≡ m
-unfolding marks pick
-pick_rank mark.ParenOpen = refl
-pick_rank m = refl
-
-pub same_mark : (m l : Mark) → rank m ≡ rank l → m ≡ l
-same_mark m l e = sym (pick_rank m) ∙ ap (pick marks) e ∙ pick_rank l
-
-eqb_is : (a b : ℕ) → eqb a b ≡ true → a ≡ b
-eqb_is a b e = omega (arith, eqb-true _ _ e)
-
-pub is_mark_is : (m : Mark) (k : TokenKind) → is_mark m k ≡ true → k ≡ kind.Mark m
-is_mark_is m (kind.Word w) e = absurd cc
-is_mark_is m (kind.Number n) e = absurd cc
-is_mark_is m (kind.Text t) e = absurd cc
-is_mark_is m (kind.Mark l) e = ap kind.Mark (sym (same_mark m l (eqb_is _ _ e)))
-is_mark_is m kind.LeftOut e = absurd cc
-
-pub is_mark_same : (m : Mark) → is_mark m (kind.Mark m) ≡ true
-is_mark_same m = eq-eqb (rank m) (rank m) refl
 
 abbrev pub token : TokenKind → Span → Token
 token k s = record { kind = k; span = s }
