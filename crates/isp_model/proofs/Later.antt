@@ -1,8 +1,8 @@
 -- The thin language has no loops: the number of turns changes nothing.
-use Rattle.std.proofs.Common.{◌≡◌, refl, sym, ap, ◌∙◌, subst, ℕ, List, [], ◌∷◌, append-nil}
+use Rattle.std.proofs.Common.{◌≡◌, refl, ap, ◌∙◌, subst, ℕ, List, [], ◌∷◌, append-nil}
 use Rattle.isp_base.specs.Outcomes.{Outcome, Ends, Traps, GoesOn}
 use Rattle.isp_rates.specs.Typed.{TStmt, t_declare, t_assign, t_assign_item}
-use Rattle.isp_model.specs.Gang.{Mask, any, everyone}
+use Rattle.isp_base.specs.Sets.{Mask, any, everyone}
 use Rattle.isp_model.specs.State.{State, Stores, tick, Res, then_run, unless_empty}
 use Rattle.isp_model.specs.Expressions.{Calls}
 use Rattle.isp_model.specs.Statements.{run, run_all}
@@ -25,7 +25,7 @@ module _ (gang : ℕ) (stores : Stores) (calls : Calls) (n m : ℕ) where
 later_self : (o : Outcome) → Later o o
 later_self (Ends arrays answer out) = refl
 later_self (Traps trap arrays out) = refl
-later_self (GoesOn out) = ([], sym (append-nil out))
+later_self (GoesOn out) = ([], append-nil out)
 
 pub more_turns : MoreTurns
 more_turns gang f n m xs le =
