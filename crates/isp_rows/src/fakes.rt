@@ -1,5 +1,5 @@
 //! Files and sinks that stand for the system's.
-ghost use Rattle.std.specs.Prelude.{false};
+ghost use Rattle.std.specs.Prelude.{◌≡◌, false, Some, find, bytes_eq, option_map};
 
 use isp_engine::{FileFault, Sink, SinkFault, SourceFiles};
 use std::alloc::Global;
@@ -11,6 +11,9 @@ pub(crate) struct Shelf<'a> {
 }
 
 impl SourceFiles for Shelf<'_> {
+    // The text of the first file of that name, or none.
+    ghost holds = { λ shelf name text. text ≡ option_map (λ file. file.1.now) (find (λ file. bytes_eq file.0.now name) shelf.files.now) };
+
     fn read(&self, alloc: Global, name: &str) -> Result<String, FileFault> {
         for (known, text) in self.files {
             if *known == name {
@@ -31,6 +34,8 @@ pub(crate) struct Page {
 }
 
 impl Sink for Page {
+    ghost written = { λ p. Some p.bytes.items };
+
     ghost has_failed = { λ p. p.has_failed };
 
     fn write(&mut self, bytes: &[u8]) -> Result<usize, SinkFault> {
