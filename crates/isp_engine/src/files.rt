@@ -48,11 +48,7 @@ pub fn read_source<R: Read>(alloc: Global, reader: &mut R) -> Result<String, Fil
 /// `most` bytes, where a read fails otherwise, and where the bytes are not UTF-8; nothing is read
 /// behind that.
 #[tactic(auto, using(crate::proofs::Reading::consumes_more))]
-pub fn read_text<R: Read>(
-    alloc: Global,
-    reader: &mut R,
-    most: usize,
-) -> Result<String, FileFault>
+pub fn read_text<R: Read>(alloc: Global, reader: &mut R, most: usize) -> Result<String, FileFault>
     ensures whole { IfOk result (λ s. IfSome (R.remaining reader.old) (λ bytes. string_bytes s
         ≡ bytes)) }
     ensures short { IfOk result (λ s. length (string_bytes s) ≤ most) }

@@ -88,9 +88,12 @@ fn texts_for_an_array_and_a_value(rt: HostRuntime) -> Result<(), Fail> {
     let alloc = rt.alloc();
     for line in CASES.lines() {
         let mut fields = line.split('|');
-        let (Some(array), Some(value), Some(text), Some(wanted)) =
-            (fields.next(), fields.next(), fields.next(), fields.next())
-        else {
+        let (Some(array), Some(value), Some(text), Some(wanted)) = (
+            fields.next(),
+            fields.next(),
+            fields.next(),
+            fields.next(),
+        ) else {
             return Err(Fail::from("a line with another number of fields"));
         };
         let signature = array_and_value(alloc, elem_named(array), elem_named(value))?;
@@ -107,19 +110,54 @@ fn blanks(rt: HostRuntime) -> Result<(), Fail> {
         ("uint16", "uint32", "{\"a\":[1, 0],\nn\":1}", "70 NotJson"),
         ("bool", "int64", "{\"a\"\t:[1, 0],\"n\":1}", "74 WrongKind"),
         ("int16", "uint16", "{\"a\"\n[1, 0],\"n\":1}", "70 NotJson"),
-        ("int32", "uint32", "{\"a\":[1, 0],\"n\":\u{a0}}", "70 NotJson"),
+        (
+            "int32",
+            "uint32",
+            "{\"a\":[1, 0],\"n\":\u{a0}}",
+            "70 NotJson",
+        ),
         ("int16", "int8", "\u{feff}{}", "70 NotJson"),
         ("bool", "uint16", "{\"a\":[1, \t0],\"n\":1}", "74 WrongKind"),
-        ("uint16", "int16", "{\"a\":[1, \n0],\"n\":1}", "{\"arrays\":{\"a\":[1,0]},\"result\":1}"),
-        ("uint8", "int64", "{\"a\":[1, 0],\u{a0}\"n\":1}", "70 NotJson"),
+        (
+            "uint16",
+            "int16",
+            "{\"a\":[1, \n0],\"n\":1}",
+            "{\"arrays\":{\"a\":[1,0]},\"result\":1}",
+        ),
+        (
+            "uint8",
+            "int64",
+            "{\"a\":[1, 0],\u{a0}\"n\":1}",
+            "70 NotJson",
+        ),
         ("uint16", "bool", "{\"a\":[1, 0],\u{a0}n\":1}", "70 NotJson"),
         ("uint32", "int8", "{\"a\":[1, \t],\"n\":1}", "70 NotJson"),
         ("int64", "uint64", "{\"a\":[1, \t],\"n\":1}", "70 NotJson"),
-        ("int16", "int64", "{\"a\"\n:[1, 0],\"n\":1}", "{\"arrays\":{\"a\":[1,0]},\"result\":1}"),
+        (
+            "int16",
+            "int64",
+            "{\"a\"\n:[1, 0],\"n\":1}",
+            "{\"arrays\":{\"a\":[1,0]},\"result\":1}",
+        ),
         ("int8", "int8", "\u{feff}{}", "70 NotJson"),
-        ("uint64", "uint64", "{\"a\"\u{a0}:[1, 0],\"n\":1}", "70 NotJson"),
-        ("int8", "uint32", "{\"a\":[1, 0],\u{a0}\"n\":1}", "70 NotJson"),
-        ("int64", "uint64", "{\"a\":[1, 0]\u{a0},\"n\":1}", "70 NotJson"),
+        (
+            "uint64",
+            "uint64",
+            "{\"a\"\u{a0}:[1, 0],\"n\":1}",
+            "70 NotJson",
+        ),
+        (
+            "int8",
+            "uint32",
+            "{\"a\":[1, 0],\u{a0}\"n\":1}",
+            "70 NotJson",
+        ),
+        (
+            "int64",
+            "uint64",
+            "{\"a\":[1, 0]\u{a0},\"n\":1}",
+            "70 NotJson",
+        ),
     ] {
         let signature = array_and_value(alloc, elem_named(array), elem_named(value))?;
         expect(&rt, alloc, &signature, text, wanted)?;
@@ -136,9 +174,21 @@ fn ends_of_each_type(rt: HostRuntime) -> Result<(), Fail> {
         (Elem::U8, "-1", "0", "255", "256"),
         (Elem::I16, "-32769", "-32768", "32767", "32768"),
         (Elem::U16, "-1", "0", "65535", "65536"),
-        (Elem::I32, "-2147483649", "-2147483648", "2147483647", "2147483648"),
+        (
+            Elem::I32,
+            "-2147483649",
+            "-2147483648",
+            "2147483647",
+            "2147483648",
+        ),
         (Elem::U32, "-1", "0", "4294967295", "4294967296"),
-        (Elem::I64, "", "-9223372036854775808", "9223372036854775807", "9223372036854775808"),
+        (
+            Elem::I64,
+            "",
+            "-9223372036854775808",
+            "9223372036854775807",
+            "9223372036854775808",
+        ),
         (Elem::U64, "-1", "0", "18446744073709551615", ""),
     ] {
         let signature = one_value(alloc, elem)?;
@@ -162,8 +212,16 @@ fn ends_of_each_type(rt: HostRuntime) -> Result<(), Fail> {
 fn kinds(rt: HostRuntime) -> Result<(), Fail> {
     let alloc = rt.alloc();
     for (elem, text, wanted) in [
-        (Elem::Bool, "{\"x\":true}", "{\"arrays\":{},\"result\":true}"),
-        (Elem::Bool, "{\"x\":false}", "{\"arrays\":{},\"result\":false}"),
+        (
+            Elem::Bool,
+            "{\"x\":true}",
+            "{\"arrays\":{},\"result\":true}",
+        ),
+        (
+            Elem::Bool,
+            "{\"x\":false}",
+            "{\"arrays\":{},\"result\":false}",
+        ),
         (Elem::Bool, "{\"x\":1}", "74 WrongKind"),
         (Elem::Bool, "{\"x\":0}", "74 WrongKind"),
         (Elem::I32, "{\"x\":true}", "74 WrongKind"),
@@ -192,9 +250,15 @@ fn names(rt: HostRuntime) -> Result<(), Fail> {
     let alloc = rt.alloc();
     let signature = array_and_value(alloc, Elem::I16, Elem::U8)?;
     for (text, wanted) in [
-        ("{\"n\":1.5,\"a\":[],\"n\":7}", "{\"arrays\":{\"a\":[]},\"result\":7}"),
+        (
+            "{\"n\":1.5,\"a\":[],\"n\":7}",
+            "{\"arrays\":{\"a\":[]},\"result\":7}",
+        ),
         ("{\"n\":7,\"a\":[],\"n\":1.5}", "74 WrongKind"),
-        ("{\"\\u0061\":[3],\"\\u006e\":4}", "{\"arrays\":{\"a\":[3]},\"result\":4}"),
+        (
+            "{\"\\u0061\":[3],\"\\u006e\":4}",
+            "{\"arrays\":{\"a\":[3]},\"result\":4}",
+        ),
         ("{\"A\":[3],\"n\":4}", "72 Missing"),
         ("{\"b\":1}", "72 Missing"),
         ("{\"b\":1,\"a\":[40000],\"n\":4}", "75 OutOfRange"),
@@ -209,10 +273,15 @@ fn names(rt: HostRuntime) -> Result<(), Fail> {
     Ok(())
 }
 
+fn push_number(array: &mut Array, number: i128) -> Result<(), AllocError> {
+    let elem = array.elem();
+    array.push(wrap(elem, number))
+}
+
 fn array_of(alloc: Global, elem: Elem, numbers: &[i128]) -> Result<Array, AllocError> {
     let mut array = Array::empty(alloc, elem);
     for number in numbers {
-        array.push(wrap(elem, *number))?;
+        push_number(&mut array, *number)?;
     }
     Ok(array)
 }
@@ -242,7 +311,10 @@ fn answer_of_each_type(rt: HostRuntime) -> Result<(), Fail> {
         result: None,
     };
     let text = answer(alloc, &signature, arrays.as_slice(), None)?;
-    assert_eq!(rt; text.as_str(), "{\"arrays\":{\"B\":[-9223372036854775808,9223372036854775807],\"_\":[0,18446744073709551615],\"a\":[-32768,32767],\"a0\":[0,4294967295],\"aB\":[-2147483648,2147483647],\"a_\":[0,255],\"aa\":[0,65535],\"ab\":[-128,127],\"b\":[false,true]},\"result\":null}");
+    assert_eq!(rt;
+        text.as_str(),
+        "{\"arrays\":{\"B\":[-9223372036854775808,9223372036854775807],\"_\":[0,18446744073709551615],\"a\":[-32768,32767],\"a0\":[0,4294967295],\"aB\":[-2147483648,2147483647],\"a_\":[0,255],\"aa\":[0,65535],\"ab\":[-128,127],\"b\":[false,true]},\"result\":null}"
+    );
     Ok(())
 }
 
@@ -310,7 +382,10 @@ fn refused_memory(rt: HostRuntime) -> Result<(), Fail> {
             }
         }
         if let Ok(text) = answer(alloc, &signature, arrays.as_slice(), None) {
-            assert_eq!(rt; text.as_str(), "{\"arrays\":{\"a\":[1,2,3,4,5]},\"result\":null}");
+            assert_eq!(rt;
+                text.as_str(),
+                "{\"arrays\":{\"a\":[1,2,3,4,5]},\"result\":null}"
+            );
             assert!(rt; step > 0, "nothing was refused");
             return Ok(());
         }

@@ -15,13 +15,23 @@ impl SourceFiles for Shelf<'_> {
     ghost holds = { λ shelf name text. text ≡ option_map (λ file. file.1.now) (find (λ file. bytes_eq file.0.now name) shelf.files.now) };
 
     fn read(&self, alloc: Global, name: &str) -> Result<String, FileFault> {
-        for (known, text) in self.files {
-            if *known == name {
-                return String::from_str(alloc, text).map_err(|_| FileFault::Memory);
-            }
+        match text_of(self.files, name) {
+            Some(text) => String::from_str(alloc, text).map_err(|_| FileFault::Memory),
+            None => Err(FileFault::CannotRead),
         }
-        Err(FileFault::CannotRead)
     }
+}
+
+fn text_of<'a>(files: &[(&'a str, &'a str)], name: &str) -> Option<&'a str>
+    ensures { option_map (λ text. text.now) result ≡ option_map (λ file. file.1.now)
+        (find (λ file. bytes_eq file.0.now name.now) files.now) }
+{
+    for (known, text) in files {
+        if *known == name {
+            return Some(*text);
+        }
+    }
+    None
 }
 
 /// Takes at most `step` bytes a write, and fails once `room` bytes are taken.

@@ -66,7 +66,13 @@ const TEXT: &str = "caf\u{e9} = 1;";
 fn a_few_bytes_at_a_time(rt: HostRuntime) -> Result<(), Fail> {
     let alloc = rt.alloc();
     for step in [1, 2, 4, 5, 9, 10, 11, 100] {
-        expect(&rt, alloc, &mut gives(TEXT.as_bytes(), step), 100, Some(TEXT))?;
+        expect(
+            &rt,
+            alloc,
+            &mut gives(TEXT.as_bytes(), step),
+            100,
+            Some(TEXT),
+        )?;
         let text = read_source(alloc, &mut gives(TEXT.as_bytes(), step))?;
         assert_eq!(rt; text.as_str(), TEXT);
     }
@@ -105,8 +111,20 @@ fn limit(rt: HostRuntime) -> Result<(), Fail> {
     let alloc = rt.alloc();
     let length = TEXT.len();
     for step in [1, 3, length, 100] {
-        expect(&rt, alloc, &mut gives(TEXT.as_bytes(), step), length, Some(TEXT))?;
-        expect(&rt, alloc, &mut gives(TEXT.as_bytes(), step), length - 1, None)?;
+        expect(
+            &rt,
+            alloc,
+            &mut gives(TEXT.as_bytes(), step),
+            length,
+            Some(TEXT),
+        )?;
+        expect(
+            &rt,
+            alloc,
+            &mut gives(TEXT.as_bytes(), step),
+            length - 1,
+            None,
+        )?;
     }
     Ok(())
 }
