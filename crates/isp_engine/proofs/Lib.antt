@@ -1,6 +1,3 @@
-pub mod Floats
-pub mod Members
-pub mod Numbers
 pub mod Reading
 pub mod Steps
 pub mod Lanes

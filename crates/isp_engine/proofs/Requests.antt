@@ -34,5 +34,5 @@ source_fails holds q files (Refused f) h = (files, h f refl)
 
 pub run_fails : (holds : List ℕ → Option (List ℕ) → Type 0) (q : Request) (files : Reads holds q) (image : Image) (compiles : Compiles files.source W4 image) (f : RunFault) → IsAnswer files.source W4 image compiles q.entry files.arguments budget (Err f) → Fails holds q (run_failure f)
 run_fails holds q files image k NoRunMemory h = tt
-run_fails holds q files image k NoEntry h = (files, image, k, h)
-run_fails holds q files image k (Arguments f) h = (files, image, k, h)
+run_fails holds q files image k NoEntry h = (λ e. let none : ⊥ = cc in none, files, image, k, h)
+run_fails holds q files image k (Arguments f) h = (λ e. let none : ⊥ = cc in none, files, image, k, h)

@@ -5,12 +5,13 @@
 --     Delivers r old new b e   what went out of the report r, and how the program ends
 --     Commands ..              all of that, and the exit status
 -- `holds name text` says that under a name a text may be found, or nothing that can be read.
-use Rattle.std.specs.Prelude.{◌≡◌, ◌⊎◌, ℕ, ◌++◌, List, [], ◌∷◌, Bool, Option, Some, None, Result, Ok, Err, String, string_bytes, codes, if◌then◌else◌, ⊤}
+use Rattle.std.specs.Prelude.{◌≡◌, ◌≢◌, ◌⊎◌, ℕ, ◌++◌, List, [], ◌∷◌, Bool, Option, Some, None, Result, Ok, Err, String, string_bytes, codes, if◌then◌else◌, ⊤}
 use Rattle.std.specs.Str.{bytes_eq}
 use Rattle.std.specs.declared.alloc.Global.{Global}
 use Rattle.isp_base.specs.declared.types.Gang.TheVariants.{W4}
 use Rattle.isp_engine.specs.declared.failure.Failure.{Failure}
 use Rattle.isp_engine.specs.declared.failure.Failure.TheVariants.{Source, Words, Trapped, BudgetUsed, Run, CannotRead, CannotWrite, Memory}
+use Rattle.isp_engine.specs.declared.fault.RunFault.TheVariants.{Memory as NoRunMemory}
 use Rattle.isp_engine.specs.declared.image.Image.{Image}
 use Rattle.isp_engine.specs.declared.report.Ending.TheVariants.{Ended, Trapped as Stopped, Running}
 use Rattle.isp_engine.specs.declared.report.Report.{Report}
@@ -62,12 +63,13 @@ Unread holds file (Trapped t) = ⊥
 Unread holds file BudgetUsed = ⊥
 Unread holds file CannotWrite = ⊥
 
--- one of the two files cannot be read, the source is refused, or the entry or the arguments are
+-- SOURCE cannot be read, or ARGUMENTS where SOURCE was read; the source is refused; or the entry or the arguments are, for
+-- another reason than memory
 abbrev pub Fails : (List ℕ → Option (List ℕ) → Type 0) → Request → Failure → Type 0
-Fails holds q (CannotRead name) = Unread holds q.source (CannotRead name) ⊎ Unread holds q.arguments (CannotRead name)
+Fails holds q (CannotRead name) = Unread holds q.source (CannotRead name) ⊎ (((source : List ℕ) × holds q.source (Some source)) × Unread holds q.arguments (CannotRead name))
 Fails holds q (Source f) = (files : Reads holds q) × IsFaulty files.source f
 Fails holds q (Run f) =
-    (files : Reads holds q) × (image : Image) × (compiles : Compiles files.source W4 image) × IsAnswer files.source W4 image compiles q.entry files.arguments budget (Err f)
+    (f ≢ NoRunMemory) × (files : Reads holds q) × (image : Image) × (compiles : Compiles files.source W4 image) × IsAnswer files.source W4 image compiles q.entry files.arguments budget (Err f)
 Fails holds q Memory = Unit {0}
 Fails holds q Words = ⊥
 Fails holds q (Trapped t) = ⊥

@@ -1,6 +1,4 @@
 pub mod Faults
-pub mod Binding
-pub mod Answering
 pub mod Sinks
 pub mod Files
 pub mod Machine

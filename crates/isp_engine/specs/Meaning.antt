@@ -6,14 +6,14 @@ use Rattle.isp_base.specs.Outcomes.{out_of, IsOver}
 use Rattle.isp_base.specs.declared.signature.Argument.{Argument}
 use Rattle.isp_rates.specs.Typed.{Function}
 use Rattle.isp_model.specs.Runs.{run_of}
-use Rattle.isp_engine.specs.declared.fault.BindFault.{BindFault}
+use Rattle.isp_bind.specs.declared.fault.BindFault.{BindFault}
 use Rattle.isp_engine.specs.declared.fault.RunFault.{RunFault}
 use Rattle.isp_engine.specs.declared.fault.RunFault.TheVariants.{Memory, NoEntry}
 use Rattle.isp_engine.specs.declared.report.Ending.TheVariants.{Running}
 use Rattle.isp_engine.specs.declared.report.Report.{Report}
 use Rattle.isp_engine.specs.Faults.{run_fault}
-use Rattle.isp_engine.specs.Binding.{bound_of}
 use Rattle.isp_base.specs.Prefixes.{IsPrefix}
+use Rattle.isp_bind.specs.Binding.{bound_of}
 use Rattle.isp_engine.specs.Agreement.{enough}
 use Rattle.isp_engine.specs.Reports.{Reports}
 

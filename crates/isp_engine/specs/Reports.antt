@@ -3,14 +3,14 @@ use Rattle.std.specs.Prelude.{◌≡◌, ◌≢◌, ℕ, List, Option, Some, Non
 use Rattle.isp_base.specs.Outcomes.{Outcome, Ends, Traps, GoesOn}
 use Rattle.isp_base.specs.declared.signature.Parameter.{Parameter}
 use Rattle.isp_base.specs.declared.signature.Argument.{Argument}
-use Rattle.isp_engine.specs.declared.fault.BindFault.{BindFault}
+use Rattle.isp_bind.specs.declared.fault.BindFault.{BindFault}
 use Rattle.isp_engine.specs.declared.fault.RunFault.{RunFault}
 use Rattle.isp_engine.specs.declared.fault.RunFault.TheVariants.{Memory, NoEntry}
 use Rattle.isp_engine.specs.declared.report.Ending.TheVariants.{Ended, Trapped, Running}
 use Rattle.isp_engine.specs.declared.report.Report.{Report}
 use Rattle.isp_engine.specs.Faults.{run_fault}
-use Rattle.isp_engine.specs.Binding.{bound_of}
-use Rattle.isp_engine.specs.Answering.{answer_text}
+use Rattle.isp_bind.specs.Binding.{bound_of}
+use Rattle.isp_bind.specs.Answering.{answer_text}
 use Rattle.isp_engine.specs.Machine.{after}
 use Rattle.isp_engine.specs.Images.{Entry}
 

@@ -5,36 +5,50 @@ ghost use Rattle.isp_engine.specs.Failures.{status_of, source_failure, run_failu
 use crate::fault::RunFault;
 use isp_base::Trap;
 use isp_lex::{Fault, SourceFault};
-use thiserror::Error;
+use std::error::Error;
+use std::fmt;
 
 /// Why the program ends with a status other than 0. It is shown as the line on standard error.
-#[derive(Clone, Copy, Debug, Error)]
+#[derive(Clone, Copy, Debug)]
 pub enum Failure<'a> {
     /// 1: the source is refused.
-    #[error("isp: {0}")]
     Source(Fault),
     /// 2: the words ask for nothing that there is.
-    #[error("usage: isp run SOURCE ENTRY ARGUMENTS")]
     Words,
     /// 3: a trap.
-    #[error("isp: {0}")]
     Trapped(Trap),
     /// 4: as many instructions as may be run have not been enough.
-    #[error("isp: budget used")]
     BudgetUsed,
     /// 5: no such entry, or the arguments are refused.
-    #[error("isp: {0}")]
     Run(RunFault),
     /// 6: the file of this name cannot be read.
-    #[error("isp: cannot read {0}")]
     CannotRead(&'a str),
     /// 6: the output cannot be written.
-    #[error("isp: cannot write")]
     CannotWrite,
     /// 7: memory was refused.
-    #[error("isp: memory")]
     Memory,
 }
+
+impl fmt::Display for Failure<'_> {
+    ghost use Rattle.isp_engine.specs.Failures.{failure_text};
+
+    ghost output = { failure_text };
+
+    fn fmt<W: fmt::Write>(&self, f: &mut fmt::Formatter<W>) -> fmt::Result {
+        match self {
+            Failure::Source(fault) => write!(f, "isp: {fault}"),
+            Failure::Words => f.write_str("usage: isp run SOURCE ENTRY ARGUMENTS"),
+            Failure::Trapped(trap) => write!(f, "isp: {trap}"),
+            Failure::BudgetUsed => f.write_str("isp: budget used"),
+            Failure::Run(fault) => write!(f, "isp: {fault}"),
+            Failure::CannotRead(name) => write!(f, "isp: cannot read {name}"),
+            Failure::CannotWrite => f.write_str("isp: cannot write"),
+            Failure::Memory => f.write_str("isp: memory"),
+        }
+    }
+}
+
+impl Error for Failure<'_> {}
 
 impl Failure<'_> {
     /// The exit status.

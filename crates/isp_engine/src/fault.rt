@@ -1,72 +1,38 @@
-//! Why arguments are refused, and why a run is.
+//! Why a run gives no report.
 ghost use Rattle.std.specs.Prelude.{◌≡◌};
 
+use isp_bind::BindFault;
 use std::alloc::{AllocError, AllocFailed};
-use thiserror::Error;
+use std::error::Error;
+use std::fmt;
 
-/// Why a JSON text gives no arguments.
-#[derive(Clone, Copy, Debug, PartialEq, Eq, Error)]
-pub enum BindFault {
-    /// 0: memory was refused.
-    #[error("memory")]
-    Memory,
-    /// 70: the text is no JSON.
-    #[error("70 NotJson")]
-    NotJson,
-    /// 71: the text is no object.
-    #[error("71 NotObject")]
-    NotObject,
-    /// 72: a parameter has no argument.
-    #[error("72 Missing")]
-    Missing,
-    /// 73: an argument has no parameter.
-    #[error("73 Extra")]
-    Extra,
-    /// 74: an argument or an element is not of the parameter's kind: a whole number, `true` or
-    /// `false`, or an array.
-    #[error("74 WrongKind")]
-    WrongKind,
-    /// 75: a whole number that the element type has not.
-    #[error("75 OutOfRange")]
-    OutOfRange,
-    /// 76: an array of more than 16,777,216 elements.
-    #[error("76 TooLong")]
-    TooLong,
-}
-
-impl From<AllocError> for BindFault {
-    ghost use Rattle.isp_engine.specs.declared.fault.BindFault.TheVariants.{Memory};
-
-    ghost from_gives = { λ _ e. e ≡ Memory };
-
-    fn from(_error: AllocError) -> BindFault {
-        BindFault::Memory
-    }
-}
-
-impl<T: Drop> From<AllocFailed<T>> for BindFault {
-    ghost use Rattle.isp_engine.specs.declared.fault.BindFault.TheVariants.{Memory};
-
-    ghost from_gives = { λ _ e. e ≡ Memory };
-
-    fn from(_error: AllocFailed<T>) -> BindFault {
-        BindFault::Memory
-    }
-}
-
-/// Why a run gives no report.
-#[derive(Clone, Copy, Debug, PartialEq, Eq, Error)]
+/// Why a run gives no report. It is shown as its number and its name.
+#[derive(Clone, Copy, Debug, PartialEq, Eq)]
 pub enum RunFault {
     /// 0: memory was refused.
-    #[error("memory")]
     Memory,
     /// 50: no exported function has the entry's name.
-    #[error("50 NoEntry")]
     NoEntry,
     /// 70 to 76: the arguments are refused. Of memory `Memory` tells, and never this.
-    #[error("{0}")]
     Arguments(BindFault),
 }
+
+impl fmt::Display for RunFault {
+    ghost use Rattle.std.specs.Prelude.{Some};
+    ghost use Rattle.isp_engine.specs.Faults.{run_fault_text};
+
+    ghost output = { λ f. Some (run_fault_text f) };
+
+    fn fmt<W: fmt::Write>(&self, f: &mut fmt::Formatter<W>) -> fmt::Result {
+        match self {
+            RunFault::Memory => f.write_str("memory"),
+            RunFault::NoEntry => f.write_str("50 NoEntry"),
+            RunFault::Arguments(fault) => write!(f, "{fault}"),
+        }
+    }
+}
+
+impl Error for RunFault {}
 
 impl From<AllocError> for RunFault {
     ghost use Rattle.isp_engine.specs.declared.fault.RunFault.TheVariants.{Memory};

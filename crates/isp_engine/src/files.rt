@@ -24,7 +24,7 @@ pub trait SourceFiles {
         ensures { Found (holds self.now name.now) result };
 }
 
-/// The greatest number of bytes, and of reads.
+/// The greatest number of bytes of a file, and of reads.
 const MOST: usize = 1_073_741_824;
 
 /// The bytes of one read.
@@ -34,18 +34,31 @@ const STEP: usize = 65_536;
 ///
 /// `CannotRead` comes where it gives more, where a read fails other than by a signal, and where the
 /// bytes are not UTF-8.
-#[tactic(auto, using(crate::proofs::Reading::consumes_more))]
 pub fn read_source<R: Read>(alloc: Global, reader: &mut R) -> Result<String, FileFault>
     ensures whole { IfOk result (λ s. IfSome (R.remaining reader.old) (λ bytes. string_bytes s
         ≡ bytes)) }
     ensures short { IfOk result (λ s. length (string_bytes s) ≤ 1073741824) }
+{
+    read_text(alloc, reader, MOST)
+}
+
+/// The whole text that a reader gives, in at most `most` bytes and 1,073,741,824 reads.
+///
+/// A read that a signal broke off is made again. `CannotRead` comes where the reader gives more than
+/// `most` bytes, where a read fails otherwise, and where the bytes are not UTF-8; nothing is read
+/// behind that.
+#[tactic(auto, using(crate::proofs::Reading::consumes_more))]
+pub fn read_text<R: Read>(alloc: Global, reader: &mut R, most: usize) -> Result<String, FileFault>
+    ensures whole { IfOk result (λ s. IfSome (R.remaining reader.old) (λ bytes. string_bytes s
+        ≡ bytes)) }
+    ensures short { IfOk result (λ s. length (string_bytes s) ≤ most) }
 {
     let mut buffer = buffer(alloc)?;
     let mut bytes = Vec::new(alloc);
     for _ in 0..MOST {
         match reader.read(buffer.as_mut_slice()) {
             Ok(0) => return String::from_utf8(bytes).map_err(|_| FileFault::CannotRead),
-            Ok(count) => keep(&mut bytes, &buffer[..count])?,
+            Ok(count) => keep(&mut bytes, &buffer[..count], most)?,
             Err(error) => {
                 if error.kind() != ErrorKind::Interrupted {
                     return Err(FileFault::CannotRead);
@@ -62,13 +75,13 @@ fn buffer(alloc: Global) -> Result<Vec<u8>, FileFault>
     vec![in alloc; 0u8; STEP].map_err(|_| FileFault::Memory)
 }
 
-// Puts more bytes behind those that were read, as many as may be.
-fn keep(bytes: &mut Vec<u8>, more: &[u8]) -> Result<(), FileFault>
-    requires { length bytes.old.items ≤ 1073741824 }
+// Puts more bytes behind those that were read, up to `most`.
+fn keep(bytes: &mut Vec<u8>, more: &[u8], most: usize) -> Result<(), FileFault>
+    requires { length bytes.old.items ≤ most }
     ensures bytes { OnOk result (bytes.new.items ≡ bytes.old.items ++ more.now) }
-    ensures short { OnOk result (length bytes.new.items ≤ 1073741824) }
+    ensures short { OnOk result (length bytes.new.items ≤ most) }
 {
-    if more.len() > MOST - bytes.len() {
+    if more.len() > most - bytes.len() {
         return Err(FileFault::CannotRead);
     }
     bytes.extend_from_slice(more).map_err(|_| FileFault::Memory)

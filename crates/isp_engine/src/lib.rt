@@ -1,9 +1,7 @@
 //! The whole way: from a source text and arguments to a report, and from words to an exit status.
 #![tactic(auto)]
 
-mod answers;
 mod arguments;
-mod bind;
 mod code;
 mod commands;
 mod emitter;
@@ -20,11 +18,10 @@ mod sink;
 mod source;
 mod straight;
 
-pub use answers::answer;
 pub use commands::command;
 pub use failure::Failure;
-pub use fault::{BindFault, RunFault};
-pub use files::{FileFault, SourceFiles, read_source};
+pub use fault::RunFault;
+pub use files::{FileFault, SourceFiles, read_source, read_text};
 pub use image::{Image, compile};
 pub use report::{Ending, Report};
 pub use run::execute;

@@ -10,13 +10,12 @@ ghost use Rattle.isp_engine.specs.Entries.{entry_of};
 ghost use Rattle.isp_engine.specs.Reports.{Reports, Executes};
 ghost use Rattle.isp_engine.specs.Meaning.{Means};
 
-use crate::answers::answer;
-use crate::bind::bind;
 use crate::fault::RunFault;
 use crate::image::{Exported, Image};
 use crate::machine::Machine;
 use crate::report::{Ending, Report};
 use isp_base::{Bound, Gang, Signature};
+use isp_bind::{answer, bind};
 use std::alloc::{AllocError, Global};
 
 // The report of a machine that came to an ending.

@@ -1,5 +1,5 @@
 //! Files and sinks that stand for the system's.
-ghost use Rattle.std.specs.Prelude.{false};
+ghost use Rattle.std.specs.Prelude.{◌≡◌, false, Some, find, bytes_eq, option_map};
 
 use isp_engine::{FileFault, Sink, SinkFault, SourceFiles};
 use std::alloc::Global;
@@ -11,14 +11,27 @@ pub(crate) struct Shelf<'a> {
 }
 
 impl SourceFiles for Shelf<'_> {
+    // The text of the first file of that name, or none.
+    ghost holds = { λ shelf name text. text ≡ option_map (λ file. file.1.now) (find (λ file. bytes_eq file.0.now name) shelf.files.now) };
+
     fn read(&self, alloc: Global, name: &str) -> Result<String, FileFault> {
-        for (known, text) in self.files {
-            if *known == name {
-                return String::from_str(alloc, text).map_err(|_| FileFault::Memory);
-            }
+        match text_of(self.files, name) {
+            Some(text) => String::from_str(alloc, text).map_err(|_| FileFault::Memory),
+            None => Err(FileFault::CannotRead),
         }
-        Err(FileFault::CannotRead)
     }
+}
+
+fn text_of<'a>(files: &[(&'a str, &'a str)], name: &str) -> Option<&'a str>
+    ensures { option_map (λ text. text.now) result ≡ option_map (λ file. file.1.now)
+        (find (λ file. bytes_eq file.0.now name.now) files.now) }
+{
+    for (known, text) in files {
+        if *known == name {
+            return Some(*text);
+        }
+    }
+    None
 }
 
 /// Takes at most `step` bytes a write, and fails once `room` bytes are taken.
@@ -31,6 +44,8 @@ pub(crate) struct Page {
 }
 
 impl Sink for Page {
+    ghost written = { λ p. Some p.bytes.items };
+
     ghost has_failed = { λ p. p.has_failed };
 
     fn write(&mut self, bytes: &[u8]) -> Result<usize, SinkFault> {

@@ -2,6 +2,8 @@
 #![tactic(auto)]
 
 #[cfg(test)]
+mod arguments;
+#[cfg(test)]
 mod calls;
 #[cfg(test)]
 mod commands;
@@ -17,6 +19,8 @@ mod lanes;
 mod lexer;
 #[cfg(test)]
 mod operators;
+#[cfg(test)]
+mod reading;
 #[cfg(test)]
 mod runs;
 #[cfg(test)]

@@ -1,0 +1,4 @@
+pub mod Members
+pub mod Binds
+pub mod Texts
+pub mod Promised

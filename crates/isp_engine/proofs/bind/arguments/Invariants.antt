@@ -1,9 +1,0 @@
-use Rattle.std.proofs.Common.{◌≡◌, drop}
-use Rattle.serde_json.specs.View.{view}
-use Rattle.isp_engine.specs.Binding.{arguments_of}
-use Rattle.isp_engine.proofs.Members.{with_done}
-use Rattle.isp_engine.proofs.bind.arguments.Given as goal
-
-abbrev pub invariant-loop-param : goal.invariant-loop-param
-invariant-loop-param l =
-    arguments_of l.params (view l.value) ≡ with_done l.arguments.items (arguments_of (drop l.param-index l.params) (view l.value))
