@@ -1,0 +1,4 @@
+pub mod Listing
+pub mod Registers
+pub mod Operands
+pub mod Writable
