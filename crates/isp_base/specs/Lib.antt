@@ -8,3 +8,4 @@ pub mod Rounding
 pub mod Binding
 pub mod Outcomes
 pub mod Words
+pub mod Prints
