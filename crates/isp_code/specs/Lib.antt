@@ -6,3 +6,4 @@ pub mod Conf
 pub mod Calls
 pub mod Lines
 pub mod Machine
+pub mod Entries
