@@ -121,9 +121,9 @@ abbrev pub routine_fits : Routine → Bool
 routine_fits h =
     name_fits h.name && list_all param_fits h.params && list_all local_fits h.locals && number_fits h.masks && list_all instr_fits h.code
 
--- the tables of places and texts, which are named by numbers
-abbrev pub table_fits : {A : Type 0} → List A → Bool
-table_fits xs = nat_le (length xs) (2 ^ 32)
+-- places and texts are named by numbers, and one more can be
+abbrev pub table_has_room : {A : Type 0} → List A → Bool → Bool
+table_has_room xs fits = number_fits (length xs) && fits
 
 -- code that a text can have
 pub record IsWritable (c : Listing) : Type 0 where

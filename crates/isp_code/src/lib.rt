@@ -7,6 +7,7 @@ mod instr;
 mod limit;
 mod operand;
 mod register;
+mod writable;
 
 pub use code::Code;
 pub use function::{Function, Local, Param, ParamKind, Returns, Sharing};
