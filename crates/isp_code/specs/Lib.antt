@@ -7,3 +7,4 @@ pub mod Calls
 pub mod Lines
 pub mod Machine
 pub mod Entries
+pub mod Fine
