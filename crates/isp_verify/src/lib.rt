@@ -1,0 +1,8 @@
+//! Which code is well formed.
+#![tactic(auto)]
+
+mod fault;
+mod registers;
+
+pub use fault::{Fault, Rule, VerifyFault};
+pub use registers::Registers;
