@@ -8,7 +8,7 @@ use Rattle.isp_base.specs.declared.types.Elem.TheVariants.{Bool as Truth}
 use Rattle.isp_code.specs.Fine.{has_value}
 use Rattle.isp_code.specs.Listing.{Listing, Routine}
 use Rattle.isp_code.specs.Operands.{operands}
-use Rattle.isp_code.specs.Registers.{count_of, elem_of, is_per_lane, is_local, same_class, class_of}
+use Rattle.isp_code.specs.Registers.{Table, table_of, count_in, elem_in, elem_of, is_per_lane, is_local, same_class, class_of}
 use Rattle.isp_code.specs.declared.function.Param.{Param}
 use Rattle.isp_code.specs.declared.function.ParamKind.{ParamKind}
 use Rattle.isp_code.specs.declared.function.ParamKind.TheVariants as kind
@@ -43,77 +43,80 @@ unless false rule = Some rule
 abbrev pub there : ℕ → ℕ → Bool → Option Rule
 there n count fits = or_later (unless (nat_lt n count) BadRegister) (unless fits BadKind)
 
-module _ (code : Listing) (h : Routine) where
+-- in a function with these registers
+module _ (t : Table) where
   abbrev pub register_fault : Register → Bool → Option Rule
-  register_fault r fits = there r.number (count_of h r.class) fits
+  register_fault r fits = there r.number (count_in t r.class) fits
 
   -- a type is the one that is wanted
   abbrev pub is_wanted : Want → Elem → Bool
-  is_wanted Any t = true
-  is_wanted (Is u) t = same_elem t u
-  is_wanted Integer t = not (same_elem t Truth)
-  is_wanted (Like r) t = same_elem t (elem_of h r)
+  is_wanted Any e = true
+  is_wanted (Is u) e = same_elem e u
+  is_wanted Integer e = not (same_elem e Truth)
+  is_wanted (Like r) e = same_elem e (elem_in t r)
 
-  abbrev pub is_wanted_array : ArrayWant → Register → Bool
-  is_wanted_array array.Any a = true
-  is_wanted_array array.Shared a = not (is_per_lane h a)
-  is_wanted_array array.Local a = is_local h a
-
-  -- a register has this class and type
-  abbrev pub has_kind : Class → Register → Elem → Bool
-  has_kind c r t = same_class r.class c && same_elem (elem_of h r) t
+  -- a register has this class, and a type that is wanted
+  abbrev pub is_a : Class → Want → Register → Bool
+  is_a c w r = same_class r.class c && is_wanted w (elem_in t r)
 
   abbrev pub back_fault : Returns → Option Register → Option Rule
   back_fault Nothing None = None
   back_fault g None = Some BadKind
   back_fault Nothing (Some x) = register_fault x false
-  back_fault (GivesScalar t) (Some x) = register_fault x (has_kind class.Scalar x t)
-  back_fault (GivesVector t) (Some x) = register_fault x (has_kind class.Vector x t)
+  back_fault (GivesScalar e) (Some x) = register_fault x (is_a class.Scalar (Is e) x)
+  back_fault (GivesVector e) (Some x) = register_fault x (is_a class.Vector (Is e) x)
 
+  -- the result of a call goes where one of its type fits, or nowhere if there is none
+  abbrev pub result_fits : Returns → Option Register → Bool
+  result_fits Nothing None = true
+  result_fits (GivesScalar e) (Some d) = is_a class.Scalar (Is e) d
+  result_fits (GivesVector e) (Some d) = is_a class.Vector (Is e) d
+  result_fits g d = false
+
+abbrev pub is_wanted_array : Routine → ArrayWant → Register → Bool
+is_wanted_array h array.Any a = true
+is_wanted_array h array.Shared a = not (is_per_lane h a)
+is_wanted_array h array.Local a = is_local h a
+
+-- an array that is passed is one that all lanes share
+abbrev pub is_passed : Routine → ParamKind → Register → Bool
+is_passed h kind.Array x = not (is_per_lane h x)
+is_passed h k x = true
+
+abbrev pub argument_fits : Routine → Param → Register → Bool
+argument_fits h p x = is_a (table_of h) (class_of p.kind) (Is p.elem) x && is_passed h p.kind x
+
+abbrev pub arguments_fit : Routine → List Param → List Register → Bool
+arguments_fit h [] [] = true
+arguments_fit h [] (x ∷ xs) = false
+arguments_fit h (p ∷ ps) [] = false
+arguments_fit h (p ∷ ps) (x ∷ xs) = argument_fits h p x && arguments_fit h ps xs
+
+abbrev pub call_fits : Routine → Call → Option Routine → Bool
+call_fits h c None = false
+call_fits h c (Some g) = result_fits (table_of h) g.returns c.result && arguments_fit h g.params c.arguments
+
+module _ (code : Listing) (h : Routine) where
   abbrev pub operand_fault : Operand → Option Rule
-  operand_fault (AnyRegister r) = register_fault r true
-  operand_fault (Scalar r w) = register_fault r (same_class r.class class.Scalar && is_wanted w (elem_of h r))
-  operand_fault (Vector r w) = register_fault r (same_class r.class class.Vector && is_wanted w (elem_of h r))
-  operand_fault (Mask r) = register_fault r (same_class r.class class.Mask)
-  operand_fault (Array r k w) = register_fault r (same_class r.class class.Array && (is_wanted_array k r && is_wanted w (elem_of h r)))
+  operand_fault (AnyRegister r) = register_fault (table_of h) r true
+  operand_fault (Scalar r w) = register_fault (table_of h) r (is_a (table_of h) class.Scalar w r)
+  operand_fault (Vector r w) = register_fault (table_of h) r (is_a (table_of h) class.Vector w r)
+  operand_fault (Mask r) = register_fault (table_of h) r (same_class r.class class.Mask)
+  operand_fault (Array r k w) = register_fault (table_of h) r (is_a (table_of h) class.Array w r && is_wanted_array h k r)
   operand_fault (Number z r) = unless (has_value (elem_of h r) z) BadKind
   operand_fault (Place q) = there q (length code.places) true
   operand_fault (Text t) = there t (length code.texts) true
   operand_fault (Target to) = unless (nat_lt to (length h.code)) BadJump
-  operand_fault (Back x) = back_fault h.returns x
+  operand_fault (Back x) = back_fault (table_of h) h.returns x
 
   -- the operands go from left to right
   abbrev pub operands_fault : List Operand → Option Rule
   operands_fault [] = None
   operands_fault (o ∷ os) = or_later (operand_fault o) (operands_fault os)
 
-  -- the result of a call goes where one of its type fits, or nowhere if there is none
-  abbrev pub result_fits : Returns → Option Register → Bool
-  result_fits Nothing None = true
-  result_fits (GivesScalar t) (Some d) = has_kind class.Scalar d t
-  result_fits (GivesVector t) (Some d) = has_kind class.Vector d t
-  result_fits g d = false
-
-  -- an array that is passed is one that all lanes share
-  abbrev pub is_passed : ParamKind → Register → Bool
-  is_passed kind.Array x = not (is_per_lane h x)
-  is_passed k x = true
-
-  abbrev pub argument_fits : Param → Register → Bool
-  argument_fits p x = has_kind (class_of p.kind) x p.elem && is_passed p.kind x
-
-  abbrev pub arguments_fit : List Param → List Register → Bool
-  arguments_fit [] [] = true
-  arguments_fit (p ∷ ps) (x ∷ xs) = argument_fits p x && arguments_fit ps xs
-  arguments_fit ps xs = false
-
-  abbrev pub call_fits : Call → Option Routine → Bool
-  call_fits c None = false
-  call_fits c (Some g) = result_fits g.returns c.result && arguments_fit g.params c.arguments
-
   -- a call is compared with the function that it calls when all its operands are there
   abbrev pub call_fault : Instr → Option Rule
-  call_fault (instr.Call c) = unless (call_fits c (slice_get code.routines c.function)) BadCall
+  call_fault (instr.Call c) = unless (call_fits h c (slice_get code.routines c.function)) BadCall
   call_fault i = None
 
   abbrev pub instr_fault : Instr → Option Rule

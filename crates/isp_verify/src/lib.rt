@@ -2,6 +2,7 @@
 #![tactic(auto)]
 
 mod fault;
+mod operands;
 mod registers;
 
 pub use fault::{Fault, Rule, VerifyFault};
