@@ -7,7 +7,7 @@ use Rattle.isp_base.specs.declared.types.Elem.{Elem}
 use Rattle.isp_base.specs.declared.types.Elem.TheVariants.{Bool as Truth}
 use Rattle.isp_code.specs.Fine.{has_value}
 use Rattle.isp_code.specs.Listing.{Listing, Routine}
-use Rattle.isp_code.specs.Operands.{operands}
+use Rattle.isp_code.specs.Operands.{operands, call_operands}
 use Rattle.isp_code.specs.Registers.{Table, table_of, count_in, elem_in, elem_of, is_per_lane, is_local, same_class, class_of}
 use Rattle.isp_code.specs.declared.function.Param.{Param}
 use Rattle.isp_code.specs.declared.function.ParamKind.{ParamKind}
@@ -115,12 +115,12 @@ module _ (code : Listing) (h : Routine) where
   operands_fault (o ∷ os) = or_later (operand_fault o) (operands_fault os)
 
   -- a call is compared with the function that it calls when all its operands are there
-  abbrev pub call_fault : Instr → Option Rule
-  call_fault (instr.Call c) = unless (call_fits h c (slice_get code.routines c.function)) BadCall
-  call_fault i = None
+  abbrev pub call_fault : Call → Option Rule
+  call_fault c = or_later (operands_fault (call_operands c)) (unless (call_fits h c (slice_get code.routines c.function)) BadCall)
 
   abbrev pub instr_fault : Instr → Option Rule
-  instr_fault i = or_later (operands_fault (operands i)) (call_fault i)
+  instr_fault (instr.Call c) = call_fault c
+  instr_fault i = operands_fault (operands i)
 
 -- no parameter's name stands twice
 abbrev pub is_named : List ℕ → Param → Bool
@@ -170,15 +170,15 @@ instrs_fault code k h n (i ∷ is) = or_later (at_instruction k n (instr_fault c
 abbrev pub last : Routine → ℕ
 last h = length h.code - 1
 
-abbrev pub header_fault : Listing → ℕ → Routine → Option Rule
-header_fault code k h = unless (header_fits (take k code.routines) h) BadEntry
+abbrev pub header_fault : List Routine → Routine → Option Rule
+header_fault earlier h = unless (header_fits earlier h) BadEntry
 
 abbrev pub last_fault : Routine → Option Rule
 last_fault h = unless (stays (slice_get h.code (last h))) FallsOff
 
 abbrev pub function_fault : Listing → ℕ → Routine → Option Fault
 function_fault code k h =
-    or_later (at_instruction k 0 (header_fault code k h)) (or_later (instrs_fault code k h 0 h.code) (at_instruction k (last h) (last_fault h)))
+    or_later (at_instruction k 0 (header_fault (take k code.routines) h)) (or_later (instrs_fault code k h 0 h.code) (at_instruction k (last h) (last_fault h)))
 
 abbrev pub functions_fault : Listing → ℕ → List Routine → Option Fault
 functions_fault code k [] = None

@@ -1,7 +1,11 @@
 //! Which code is well formed.
 #![tactic(auto)]
 
+mod calls;
+mod check;
 mod fault;
+mod header;
+mod instrs;
 mod operands;
 mod registers;
 
