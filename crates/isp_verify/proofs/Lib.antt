@@ -1,2 +1,3 @@
 pub mod CallParts
 pub mod Tables
+pub mod Exports

@@ -8,6 +8,9 @@ mod header;
 mod instrs;
 mod operands;
 mod registers;
+mod signatures;
+mod verified;
 
 pub use fault::{Fault, Rule, VerifyFault};
 pub use registers::Registers;
+pub use verified::{Verified, verify};
