@@ -1,3 +1,5 @@
 pub mod CallParts
 pub mod Tables
 pub mod Exports
+pub mod Tests
+pub mod FineLaws
