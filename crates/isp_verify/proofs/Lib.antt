@@ -3,3 +3,4 @@ pub mod Tables
 pub mod Exports
 pub mod Tests
 pub mod FineLaws
+pub mod ProgressLaws

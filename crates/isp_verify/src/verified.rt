@@ -4,6 +4,7 @@ ghost use Rattle.isp_code.specs.Entries.{IsExport, is_export, parameters_of, res
 ghost use Rattle.isp_code.specs.Listing.{Routine, routine_of};
 ghost use Rattle.isp_code.specs.Registers.{table_of};
 ghost use Rattle.isp_verify.specs.Faults.{code_fault};
+ghost use Rattle.isp_verify.specs.Progress.{NeverStuck};
 ghost use Rattle.isp_verify.specs.Signatures.{handed, signature_of};
 ghost use Rattle.isp_verify.specs.declared.fault.Fault.{Fault};
 ghost use Rattle.isp_verify.specs.declared.fault.VerifyFault.TheVariants.{Refused};
@@ -101,6 +102,8 @@ impl Verified {
     pub fn code(&self) -> &Code
         ensures same { result.now ≡ self.now }
         ensures fine { code_fault self.now ≡ None }
+        // Each state of the machine that is not an end has a line of the table that applies.
+        ensures goes_on { NeverStuck self.now }
     {
         &self.code
     }
