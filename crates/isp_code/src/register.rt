@@ -20,6 +20,16 @@ pub struct Register {
     pub number: u32,
 }
 
+impl Default for Register {
+    /// The first scalar register, which fills places of a list that are not used.
+    fn default() -> Register {
+        Register {
+            class: Class::Scalar,
+            number: 0,
+        }
+    }
+}
+
 /// The registers that a call passes, in the order of the parameters. Contracts see the list.
 #[derive(Drop)]
 pub struct Arguments {
