@@ -14,3 +14,4 @@ pub mod Access
 pub mod Arguments
 pub mod Prefixes
 pub mod Words
+pub mod Prints

@@ -1,0 +1,6 @@
+pub mod CallParts
+pub mod Tables
+pub mod Exports
+pub mod Tests
+pub mod FineLaws
+pub mod ProgressLaws

@@ -1,0 +1,16 @@
+//! Which code is well formed.
+#![tactic(auto)]
+
+mod calls;
+mod check;
+mod fault;
+mod header;
+mod instrs;
+mod operands;
+mod registers;
+mod signatures;
+mod verified;
+
+pub use fault::{Fault, Rule, VerifyFault};
+pub use registers::Registers;
+pub use verified::{Verified, verify};
