@@ -5,6 +5,7 @@
 mod arguments;
 #[cfg(test)]
 mod calls;
+mod codes;
 #[cfg(test)]
 mod commands;
 #[cfg(test)]

@@ -7,10 +7,35 @@ use isp_syntax::{
 };
 use std::alloc::AllocError;
 
+fn digit(number: usize) -> &'static str {
+    match number {
+        0 => "0",
+        1 => "1",
+        2 => "2",
+        3 => "3",
+        4 => "4",
+        5 => "5",
+        6 => "6",
+        7 => "7",
+        8 => "8",
+        _ => "9",
+    }
+}
+
+/// A number below 100.
+fn decimal(out: &mut String, number: usize) -> Result<(), AllocError> {
+    if number >= 10 {
+        out.push_str(digit(number / 10))?;
+    }
+    out.push_str(digit(number % 10))
+}
+
 /// A place, as `3..5`, behind a blank.
 fn span(out: &mut String, span: Span) -> Result<(), AllocError> {
-    let alloc = out.allocator();
-    out.push_str(&format!(in alloc; " {}..{}", span.start, span.end)?)
+    out.push_str(" ")?;
+    decimal(out, span.start)?;
+    out.push_str("..")?;
+    decimal(out, span.end)
 }
 
 fn word(out: &mut String, text: &str) -> Result<(), AllocError> {
@@ -129,9 +154,13 @@ fn type_words(out: &mut String, ty: &TypeWords) -> Result<(), AllocError> {
     closing(out)
 }
 
+/// A number, its value below 100.
 fn number(out: &mut String, bits: u64) -> Result<(), AllocError> {
-    let alloc = out.allocator();
-    out.push_str(&format!(in alloc; " {}", bits)?)
+    out.push_str(" ")?;
+    if bits < 100 {
+        decimal(out, bits as usize)?;
+    }
+    Ok(())
 }
 
 #[cycle(expr)]
