@@ -5,6 +5,7 @@
 mod arguments;
 #[cfg(test)]
 mod calls;
+#[cfg(test)]
 mod codes;
 #[cfg(test)]
 mod commands;
