@@ -7,7 +7,7 @@ use Rattle.isp_base.specs.declared.signature.Argument.TheVariants.{Value as AVal
 use Rattle.isp_bind.specs.Binding.{bound_of}
 use Rattle.isp_bind.specs.Bounds.{HasValues}
 use Rattle.isp_bind.proofs.Binds as bind
-use Rattle.isp_model.specs.Runs.{rows}
+use Rattle.isp_base.specs.Arguments.{rows}
 use Rattle.isp_engine.specs.Agreement.{AllFit, AreBound}
 
 arrays_fit : (xs : List Argument) → AllByRecursion HasValues xs → AllFit (rows xs)
