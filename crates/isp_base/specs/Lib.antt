@@ -14,3 +14,5 @@ pub mod Access
 pub mod Arguments
 pub mod Prefixes
 pub mod Words
+pub mod Cells
+pub mod Held
