@@ -1,5 +1,5 @@
 -- The type in which two operands meet.
-use Rattle.std.proofs.Common.{◌≡◌, refl, ℕ, ◌≤◌, nat_lt, Bool, true, false, cond, arith, ltb-true, ltb-false, ◌⊎◌, inl, inr}
+use Rattle.std.proofs.Common.{◌≡◌, refl, ◌≤◌, nat_lt, Bool, true, false, cond, arith, ltb-true, ltb-false, ◌⊎◌, inl, inr}
 use Rattle.isp_base.specs.declared.types.Elem.{Elem}
 use Rattle.isp_base.specs.Ranks.{rank, operand, common}
 

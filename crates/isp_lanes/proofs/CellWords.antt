@@ -1,7 +1,7 @@
 -- What one lane of a kernel computes, in words of the width w that the element type takes.
-use Rattle.std.proofs.Common.{not, mod-eq_of_lt, ◌≡◌, refl, sym, ap, ap₂, ◌∙◌, ℕ, ◌+◌, ◌-◌, ◌*◌, ◌/◌, ◌%◌, ◌^◌, ◌<◌, ◌≤◌, Bool, true, false, cond, nat_lt, ◌==◌, arith, lit≤, bit_and, div-le_self, subst, lt-ltb, le-ltb, ltb-true}
+use Rattle.std.proofs.Common.{not, mod-eq_of_lt, ◌≡◌, refl, sym, ap, ap₂, ◌∙◌, ℕ, ◌+◌, ◌-◌, ◌*◌, ◌/◌, ◌%◌, ◌^◌, ◌<◌, ◌≤◌, Bool, true, false, cond, nat_lt, ◌==◌, arith, lit≤, bit_and, subst, lt-ltb, le-ltb, ltb-true}
 use Rattle.std.proofs.Math.Pow.{mod-mod-pow}
-use native.Mathlib.Nat.{add-mul-mod_self_right, zero-mod}
+use native.Mathlib.Nat.{add-mul-mod_self_right}
 use lib.Bits.{and_mask}
 use Rattle.isp_base.specs.declared.types.Elem.{Elem}
 use Rattle.isp_base.specs.declared.types.Elem.TheVariants.{Bool as Truth, I8, U8, I16, U16, I32, U32, I64, U64}

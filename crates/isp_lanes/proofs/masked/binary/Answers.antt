@@ -1,9 +1,9 @@
-use Rattle.std.proofs.Common.{◌≡◌, sym, ap, ◌∙◌, subst, List, ℕ, ◌<◌, ◌^◌, true, length, get_or, replicate, cond}
+use Rattle.std.proofs.Common.{◌≡◌, sym, ap, ◌∙◌, subst, List, ℕ, ◌<◌, ◌^◌, true, length, get_or}
 use Rattle.std.specs.Simd.Lanes.{zip2, sel_l}
 use Rattle.isp_base.specs.Values.{width, divides, op_bits}
 use Rattle.isp_lanes.specs.Held.{IsRow}
 use Rattle.isp_lanes.proofs.CellWords.{some_bits}
-use Rattle.isp_lanes.proofs.Divisors.{stand_in, stand_in_fits, stand_in_nonzero, stand_in_same, stand_in_length}
+use Rattle.isp_lanes.proofs.Divisors.{stand_in_fits, stand_in_nonzero, stand_in_same, stand_in_length}
 use Rattle.isp_lanes.proofs.masked.binary.Goals as goal
 
 pub binary-requires-clause-y_row : goal.binary-requires-clause-y_row

@@ -1,4 +1,4 @@
-use Rattle.std.proofs.Common.{◌≡◌, ap, ◌∙◌, ◌+◌, ◌-◌, ◌*◌, ◌%◌, ◌^◌, ◌<◌, arith, bit_and, length}
+use Rattle.std.proofs.Common.{◌≡◌, ap, ◌∙◌, ◌-◌, ◌*◌, ◌%◌, ◌^◌, ◌<◌, arith, bit_and, length}
 use Rattle.isp_base.specs.Values.{width}
 use Rattle.isp_lanes.proofs.CellWords.{mask_in, lane_mul}
 use Rattle.isp_lanes.proofs.Rows.{row_op2, row_same, row_splat_as}

@@ -1,11 +1,9 @@
-use Rattle.std.proofs.Common.{map-id, ◌≡◌, refl, sym, ap, ap₂, ◌∙◌, ℕ, ◌+◌, ◌-◌, ◌*◌, ◌/◌, ◌%◌, ◌^◌, ◌<◌, ◌==◌, cond, not, nat_lt, arith, bit_and, subst, rules, length, List, map, get_or, pow_pos, div-le_self, Bool, true, false, replicate}
-use Rattle.std.specs.Simd.Lanes.{zip2, sel_l, Each2}
+use Rattle.std.proofs.Common.{◌≡◌, sym, ap, ◌∙◌, ℕ, ◌-◌, ◌^◌, ◌<◌, ◌==◌, cond, not, nat_lt, arith, length}
+use Rattle.std.specs.Simd.Lanes.{zip2}
 use Rattle.isp_base.specs.Values.{width, greatest}
-use Rattle.isp_base.specs.Words.{turned, magnitude}
-use Rattle.isp_lanes.specs.Lanes.{is_on}
-use native.Mathlib.Nat.{zero-mod}
+use Rattle.isp_base.specs.Words.{turned}
 use Rattle.isp_lanes.proofs.CellWords as cell
-use Rattle.isp_lanes.proofs.Rows.{zeros, row_left, row_right, row_op1, row_op2, row_select, row_same, row_same_in, row_splat_as, row_map_left, row_map_right, each_pair, each_lane, map_same, each_below}
+use Rattle.isp_lanes.proofs.Rows.{row_op1, row_op2, row_same, row_map_left, row_map_right}
 use Rattle.isp_base.specs.Values.{number, compare_to}
 use Rattle.isp_lanes.proofs.Flags.{equal_is, not_equal_is, less_is, greater_is}
 use Rattle.isp_lanes.proofs.kernels.order.holds.Goals as goal

@@ -1,11 +1,8 @@
-use Rattle.std.proofs.Common.{map-id, ◌≡◌, refl, sym, ap, ap₂, ◌∙◌, ℕ, ◌+◌, ◌-◌, ◌*◌, ◌/◌, ◌%◌, ◌^◌, ◌<◌, ◌==◌, cond, not, nat_lt, arith, bit_and, subst, rules, length, List, map, get_or, pow_pos, div-le_self, Bool, true, false, replicate}
-use Rattle.std.specs.Simd.Lanes.{zip2, sel_l, Each2}
-use Rattle.isp_base.specs.Values.{width, greatest}
-use Rattle.isp_base.specs.Words.{turned, magnitude}
-use Rattle.isp_lanes.specs.Lanes.{is_on}
-use native.Mathlib.Nat.{zero-mod}
+use Rattle.std.proofs.Common.{◌≡◌, sym, ap, ◌∙◌, ℕ, ◌-◌, ◌*◌, ◌%◌, ◌^◌, ◌<◌, arith, bit_and, subst, length, List}
+use Rattle.std.specs.Simd.Lanes.{Each2}
+use Rattle.isp_base.specs.Values.{width}
 use Rattle.isp_lanes.proofs.CellWords as cell
-use Rattle.isp_lanes.proofs.Rows.{zeros, row_left, row_right, row_op1, row_op2, row_select, row_same, row_same_in, row_splat_as, row_map_left, row_map_right, each_pair, each_lane, map_same, each_below}
+use Rattle.isp_lanes.proofs.Rows.{row_left, row_right, row_op2, row_same, row_splat_as, each_below}
 use Rattle.isp_lanes.proofs.kernels.shifts.shl.Goals as goal
 
 pub left-requires : goal.left-requires

@@ -1,17 +1,10 @@
-use Rattle.std.proofs.Common.{◌≡◌, sym, ap, ◌∙◌, rules, subst, List, ℕ, ◌<◌, ◌^◌, map, length, get_or, replicate, pow_pos}
-use Rattle.std.specs.List.{range_with_len}
-use Rattle.std.specs.Simd.Lanes.{zip2, sel_l}
-use Rattle.std.proofs.lemmas.List.{length-map, length-replicate}
-use Rattle.std.proofs.lemmas.List.FromFn.{length-range_with_len}
-use Rattle.isp_base.specs.Rows.{Row, Fit}
-use Rattle.isp_base.specs.Values.{width, op_bits, compare_bits, convert_bits, number}
-use Rattle.isp_base.specs.Unary.{unary_bits}
-use Rattle.isp_lanes.specs.Lanes.{is_on}
-use Rattle.isp_base.specs.declared.types.Elem.TheVariants.{Bool as Truth, I32}
-use Rattle.isp_lanes.specs.Held.{held, held_width}
+use Rattle.std.proofs.Common.{◌≡◌, ap, ◌∙◌}
+use Rattle.std.specs.Simd.Lanes.{zip2}
+use Rattle.isp_base.specs.Rows.{Row}
+use Rattle.isp_base.specs.Values.{op_bits}
+use Rattle.isp_lanes.specs.Held.{held}
 use Rattle.isp_lanes.proofs.Rows.{length_zip2}
-use Rattle.isp_lanes.proofs.Divisors.{length_sel, sel_fits, replicate_fits}
-use Rattle.isp_lanes.proofs.Fits.{op_fits, unary_fits, compare_fits, convert_fits, numbers_fit, settled, room_of}
+use Rattle.isp_lanes.proofs.Fits.{op_fits, settled}
 use Rattle.isp_lanes.proofs.lanes.Lanes.binary.Goals as goal
 
 pub invariant_of-self : goal.invariant_of-self

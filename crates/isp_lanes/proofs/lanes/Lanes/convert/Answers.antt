@@ -1,17 +1,8 @@
-use Rattle.std.proofs.Common.{◌≡◌, sym, ap, ◌∙◌, rules, subst, List, ℕ, ◌<◌, ◌^◌, map, length, get_or, replicate, pow_pos}
-use Rattle.std.specs.List.{range_with_len}
-use Rattle.std.specs.Simd.Lanes.{zip2, sel_l}
-use Rattle.std.proofs.lemmas.List.{length-map, length-replicate}
-use Rattle.std.proofs.lemmas.List.FromFn.{length-range_with_len}
+use Rattle.std.proofs.Common.{◌≡◌, sym, ap, ◌∙◌, rules, subst, length}
+use Rattle.std.proofs.lemmas.List.{length-map}
 use Rattle.isp_base.specs.Rows.{Row, Fit}
-use Rattle.isp_base.specs.Values.{width, op_bits, compare_bits, convert_bits, number}
-use Rattle.isp_base.specs.Unary.{unary_bits}
-use Rattle.isp_lanes.specs.Lanes.{is_on}
-use Rattle.isp_base.specs.declared.types.Elem.TheVariants.{Bool as Truth, I32}
 use Rattle.isp_lanes.specs.Held.{held, held_width}
-use Rattle.isp_lanes.proofs.Rows.{length_zip2}
-use Rattle.isp_lanes.proofs.Divisors.{length_sel, sel_fits, replicate_fits}
-use Rattle.isp_lanes.proofs.Fits.{op_fits, unary_fits, compare_fits, convert_fits, numbers_fit, settled, room_of}
+use Rattle.isp_lanes.proofs.Fits.{convert_fits, settled, room_of}
 use Rattle.isp_lanes.proofs.lanes.Lanes.convert.Goals as goal
 
 pub keep-requires : goal.keep-requires
