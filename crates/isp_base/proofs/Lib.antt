@@ -8,3 +8,4 @@ pub mod Converts
 pub mod Laws
 pub mod Roundings
 pub mod Bindings
+pub mod RankLaws

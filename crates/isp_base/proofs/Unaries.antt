@@ -1,13 +1,16 @@
 -- The operators on one value, on bits that fit their element type.
-use Rattle.std.proofs.Common.{◌≡◌, refl, sym, ap, ◌∙◌, ℕ, suc, zero, ◌+◌, ◌-◌, ◌*◌, ◌%◌, ◌^◌, ◌<◌, ◌≤◌, ◌==◌, Bool, true, false, cond, pos, neg_ℤ, ◌-ℤ◌, nat_lt, arith, unsigned_abs, mod-eq_of_lt, mod-lt, pow_pos, bit_and}
+use Rattle.std.proofs.Common.{◌≡◌, refl, sym, ap, ◌∙◌, ℕ, suc, zero, ◌+◌, ◌-◌, ◌*◌, ◌%◌, ◌^◌, ◌<◌, ◌≤◌, ◌==◌, Bool, true, false, cond, pos, neg_ℤ, ◌-ℤ◌, nat_lt, arith, unsigned_abs, mod-eq_of_lt, mod-lt, pow_pos, bit_and, w8, w16, w32, w64}
+use Rattle.std.specs.Int.{bit_at}
+use Rattle.std.proofs.lemmas.Nat.Bits.{bit_at_not}
 use Rattle.std.specs.Ordering.{int_eq}
 use borrow.Author.Differences.{same_in, same_out, sum_is_lem, neg_is}
 use native.Mathlib.Nat.{add-mul-mod_self_right, zero-mod}
 use lib.Bits.{and_mask}
 use mir.Val.{bool_byte}
 use Rattle.isp_base.specs.declared.types.Elem.{Elem}
+use Rattle.isp_base.specs.declared.types.Elem.TheVariants.{Bool as Truth, I8, U8, I16, U16, I32, U32, I64, U64}
 use Rattle.isp_base.specs.declared.operators.UnaryOp.{UnaryOp}
-use Rattle.isp_base.specs.declared.operators.UnaryOp.TheVariants.{Not}
+use Rattle.isp_base.specs.declared.operators.UnaryOp.TheVariants.{Invert, Not}
 use Rattle.isp_base.specs.Values.{width, greatest, number, number_to, wrap_to, wrap}
 use Rattle.isp_base.specs.Unary.{unary_to, unary_bits}
 use Rattle.isp_base.specs.Words.{magnitude}
@@ -75,3 +78,23 @@ small w false h = wrap_to-pos w 0 ∙ zero-mod (2 ^ w)
 
 pub not_is : (t : Elem) (x : ℕ) → x < 2 ^ width t → wrap t (unary_to Not (number_to (width t) (greatest t) x)) ≡ cond (x == 0) 1 0
 not_is t x h = ap (λ b. wrap t (cond b (pos 1) (pos 0))) (zero_is t x h) ∙ small (width t) (x == 0) (one_lt t)
+
+-- `~` turns each bit
+turned_at : (t : Elem) (b k : ℕ) → b < 2 ^ width t → k < width t → bit_at (2 ^ width t - 1 - b) k ≡ 1 - bit_at b k
+turned_at Truth zero zero p q = refl
+turned_at Truth (suc zero) zero p q = refl
+turned_at Truth (suc (suc b)) zero p q = absurd (omega arith)
+turned_at Truth b (suc k) p q = absurd (omega arith)
+turned_at I8 b k p q = bit_at_not w8 b k p q
+turned_at U8 b k p q = bit_at_not w8 b k p q
+turned_at I16 b k p q = bit_at_not w16 b k p q
+turned_at U16 b k p q = bit_at_not w16 b k p q
+turned_at I32 b k p q = bit_at_not w32 b k p q
+turned_at U32 b k p q = bit_at_not w32 b k p q
+turned_at I64 b k p q = bit_at_not w64 b k p q
+turned_at U64 b k p q = bit_at_not w64 b k p q
+
+pub invert_turns : (t : Elem) (b k : ℕ) → b < 2 ^ width t → k < width t → bit_at (unary_bits Invert t b) k ≡ 1 - bit_at b k
+invert_turns t b k p q =
+    ap (λ n. bit_at n k) (ap (λ a. wrap t (unary_to Invert (number_to (width t) (greatest t) a))) (mod-eq_of_lt p) ∙ invert_is (width t) (greatest t) b p)
+    ∙ turned_at t b k p q

@@ -15,3 +15,5 @@ pub mod Arguments
 pub mod Prefixes
 pub mod Words
 pub mod Prints
+pub mod Cells
+pub mod Held

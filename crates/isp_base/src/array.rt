@@ -1,6 +1,8 @@
 //! Lists of values of one element type.
 ghost use Rattle.std.specs.Prelude.{◌≡◌, ◌<◌, ◌^◌, ◌++◌, ◌∷◌, [], length, slice_index, slice_set, OnOk, OnErr};
 ghost use Rattle.isp_base.specs.Values.{width};
+ghost use Rattle.isp_base.specs.Cells.{cell_width};
+ghost use Rattle.isp_base.specs.Held.{held, held_width};
 
 use crate::types::Elem;
 use std::alloc::{AllocError, Global};
@@ -8,20 +10,34 @@ use std::marker::Model;
 
 /// An array of a program: an element type and the bits of each element, zero above the element
 /// type's width. Contracts see a `Row`.
+///
+/// An element takes as many bits as its type has, and a `bool` takes 8.
 #[derive(Debug, Drop)]
 pub struct Array {
     elem: Elem,
-    bits: Vec<u64>,
+    cells: Cells,
+}
+
+// The elements' bits, in words of the width that their type takes.
+#[derive(Debug, Drop)]
+enum Cells {
+    W8(Vec<u8>),
+    W16(Vec<u16>),
+    W32(Vec<u32>),
+    W64(Vec<u64>),
 }
 
 impl Model for Array {
+    ghost use Rattle.std.specs.Prelude.{◌≡◌};
     ghost use Rattle.isp_base.specs.Rows.{Row, Fit};
+    ghost use Rattle.isp_base.specs.Cells.{cell_width};
+    ghost use Rattle.isp_base.specs.Held.{held, held_width};
 
     ghost Value = { Row };
 
-    ghost view = { λ a. record { elem = a.elem; bits = a.bits.items } };
+    ghost view = { λ a. record { elem = a.elem; bits = held a.cells } };
 
-    ghost invariant = { λ a. Fit a.elem a.bits.items };
+    ghost invariant = { λ a. Fit a.elem (held a.cells) × (held_width a.cells ≡ cell_width a.elem) };
 }
 
 impl Array {
@@ -31,7 +47,7 @@ impl Array {
     {
         Array {
             elem,
-            bits: Vec::new(alloc),
+            cells: Cells::empty(alloc, elem),
         }
     }
 
@@ -46,7 +62,12 @@ impl Array {
     pub fn len(&self) -> usize
         ensures { result ≡ length self.now.bits }
     {
-        self.bits.len()
+        match &self.cells {
+            Cells::W8(words) => words.len(),
+            Cells::W16(words) => words.len(),
+            Cells::W32(words) => words.len(),
+            Cells::W64(words) => words.len(),
+        }
     }
 
     /// The bits of one element.
@@ -55,7 +76,12 @@ impl Array {
         ensures value { result ≡ slice_index self.now.bits place }
         ensures fits { result < 2 ^ width self.now.elem }
     {
-        self.bits.as_slice()[place]
+        match &self.cells {
+            Cells::W8(words) => words.as_slice()[place] as u64,
+            Cells::W16(words) => words.as_slice()[place] as u64,
+            Cells::W32(words) => words.as_slice()[place] as u64,
+            Cells::W64(words) => words.as_slice()[place],
+        }
     }
 
     /// Writes one element.
@@ -64,7 +90,12 @@ impl Array {
         requires fits { bits < 2 ^ width self.old.elem }
         ensures { self.new ≡ record { elem = self.old.elem; bits = slice_set self.old.bits place bits } }
     {
-        self.bits[place] = bits;
+        match &mut self.cells {
+            Cells::W8(words) => words[place] = bits as u8,
+            Cells::W16(words) => words[place] = bits as u16,
+            Cells::W32(words) => words[place] = bits as u32,
+            Cells::W64(words) => words[place] = bits,
+        }
     }
 
     /// One more element, behind the others.
@@ -73,7 +104,27 @@ impl Array {
         ensures ok { OnOk result (self.new ≡ record { elem = self.old.elem; bits = self.old.bits ++ bits ∷ [] }) }
         ensures err { OnErr result (self.new ≡ self.old) }
     {
-        self.bits.push(bits)?;
+        match &mut self.cells {
+            Cells::W8(words) => words.push(bits as u8)?,
+            Cells::W16(words) => words.push(bits as u16)?,
+            Cells::W32(words) => words.push(bits as u32)?,
+            Cells::W64(words) => words.push(bits)?,
+        }
         Ok(())
+    }
+}
+
+impl Cells {
+    // No words, of the width that the type takes.
+    fn empty(alloc: Global, elem: Elem) -> Cells
+        ensures none { held result ≡ [] }
+        ensures wide { held_width result ≡ cell_width elem }
+    {
+        match elem {
+            Elem::Bool | Elem::I8 | Elem::U8 => Cells::W8(Vec::new(alloc)),
+            Elem::I16 | Elem::U16 => Cells::W16(Vec::new(alloc)),
+            Elem::I32 | Elem::U32 => Cells::W32(Vec::new(alloc)),
+            Elem::I64 | Elem::U64 => Cells::W64(Vec::new(alloc)),
+        }
     }
 }

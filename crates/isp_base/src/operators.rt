@@ -1,6 +1,7 @@
 //! The operators on values.
-ghost use Rattle.std.specs.Prelude.{◌≡◌, ◌^◌, ◌<◌, ◌≢◌, ◌<ℤ◌, pos, MatchResult, true, ℕ, ℤ, int_div, int_rem};
-ghost use Rattle.std.specs.Int.{int_shr};
+ghost use Rattle.std.specs.Prelude.{◌≡◌, ◌-◌, ◌^◌, ◌<◌, ◌≢◌, ◌<ℤ◌, pos, MatchResult, true, ℕ, ℤ, int_div, int_rem};
+ghost use Rattle.std.specs.Int.{int_shr, bit_at};
+ghost use Rattle.isp_base.specs.Unary.{unary_bits};
 ghost use Rattle.isp_base.specs.Values.{width, number, wrap, amount, op_bits, DividesByZero, divides};
 ghost use Rattle.isp_base.specs.Ranges.{SameModulo};
 ghost use Rattle.isp_base.specs.Rounding.{IsQuotient, IsFloor, IsLeast, IsItsNegative};
@@ -150,11 +151,12 @@ fn remainder(elem: Elem, x: u64, y: u64) -> u64
 }
 
 /// What holds of the operators: a quotient rounds toward zero and its remainder has the sign of
-/// the dividend, a shift to the right rounds down, a shift's amount is taken modulo the width, and
-/// the least value is its own negative.
+/// the dividend, a shift to the right rounds down, a shift's amount is taken modulo the width, `~`
+/// turns each bit, and the least value is its own negative.
 pub fn operator_laws()
     ensures quotient { (x y : ℤ) → y ≢ pos 0 → IsQuotient x y (int_div x y) (int_rem x y) }
     ensures shift { (x : ℤ) (k : ℕ) → IsFloor x k (int_shr x k) }
     ensures amount { (w : ℕ) (y : ℤ) → 0 < w → (amount w y < w) × SameModulo w (pos (amount w y)) y }
+    ensures invert { (t : Elem) (b k : ℕ) → b < 2 ^ width t → k < width t → bit_at (unary_bits UnaryOp.Invert t b) k ≡ 1 - bit_at b k }
     ensures least { (t : Elem) (z : ℤ) → IsLeast t z → z <ℤ pos 0 → IsItsNegative t (wrap t z) }
 {}

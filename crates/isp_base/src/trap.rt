@@ -45,7 +45,11 @@ impl fmt::Display for Trap {
     ghost output = { λ t. Some (trap_text t) };
 
     fn fmt<W: fmt::Write>(&self, f: &mut fmt::Formatter<W>) -> fmt::Result {
-        write!(f, "trap {} at {}, instance {}", self.kind, self.place, self.instance)
+        write!(
+            f,
+            "trap {} at {}, instance {}",
+            self.kind, self.place, self.instance
+        )
     }
 }
 

@@ -1,7 +1,8 @@
 //! Element types, rates, places and gangs.
-ghost use Rattle.std.specs.Prelude.{◌≡◌};
+ghost use Rattle.std.specs.Prelude.{◌≡◌, ◌≤◌, ◌⊎◌};
 ghost use Rattle.isp_base.specs.Types.{gang_width, span_to};
-ghost use Rattle.isp_base.specs.Ranks.{chosen, common, operand};
+ghost use Rattle.isp_base.specs.Ranks.{chosen, common, operand, rank};
+ghost use Rattle.isp_base.specs.declared.types.Elem.{Elem};
 
 use std::fmt;
 
@@ -48,6 +49,13 @@ pub fn chosen(x: Elem, y: Elem) -> Elem
         _ => common(x, y),
     }
 }
+
+/// What holds of the type in which two operands meet: it is that of one of them, and comes before
+/// neither in the order of the element types.
+pub fn common_laws()
+    ensures one { (a b : Elem) → (common a b ≡ operand a) ⊎ (common a b ≡ operand b) }
+    ensures late { (a b : Elem) → (rank (operand a) ≤ rank (common a b)) × (rank (operand b) ≤ rank (common a b)) }
+{}
 
 /// Whether the gang holds one value, or each instance its own.
 #[derive(Clone, Copy, Debug, PartialEq, Eq)]

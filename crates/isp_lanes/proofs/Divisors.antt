@@ -1,5 +1,6 @@
 -- Divisors with 1 in the lanes that are off.
-use Rattle.std.proofs.Common.{◌≡◌, refl, ap, ℕ, zero, suc, ◌+◌, ◌<◌, ◌≤◌, Bool, true, false, cond, not, ◌&&◌, ◌==◌, nat_lt, arith, List, [], ◌∷◌, length, get_or, replicate, Some, None, ltb-false, ne_eqb, subst}
+use Rattle.std.proofs.Common.{◌≡◌, ◌∙◌, refl, ap, ℕ, zero, suc, ◌+◌, ◌<◌, ◌≤◌, Bool, true, false, cond, not, ◌&&◌, ◌==◌, nat_lt, arith, List, [], ◌∷◌, length, get_or, replicate, Some, None, ltb-false, ne_eqb, subst}
+use Rattle.std.proofs.lemmas.List.{length-replicate}
 use Rattle.std.specs.List.{position, position_or_len}
 use Rattle.std.specs.Simd.Lanes.{zip2, sel_l}
 use Rattle.isp_base.specs.declared.operators.BinOp.{BinOp}
@@ -74,3 +75,22 @@ stand_in_same op f ms xs ys vs = by (divides op)
     by : (d : Bool) → sel_l ms (zip2 f xs (cond d (sel_l ms ys (replicate (length ys) 1)) ys)) vs ≡ sel_l ms (zip2 f xs ys) vs
     by true = same f ms xs ys vs
     by false = refl
+
+pub length_sel : (n : ℕ) (ms : List Bool) (us vs : List ℕ) → length ms ≡ n → length us ≡ n → length vs ≡ n → length (sel_l ms us vs) ≡ n
+length_sel n [] us vs p q r = p
+length_sel n (b ∷ bs) [] vs p q r = q
+length_sel n (b ∷ bs) (u ∷ us) [] p q r = r
+length_sel zero (b ∷ bs) (u ∷ us) (v ∷ vs) p q r = absurd (omega arith)
+length_sel (suc n) (b ∷ bs) (u ∷ us) (v ∷ vs) p q r = let rest = length_sel n bs us vs (omega arith) (omega arith) (omega arith) in omega arith
+
+pub replicate_fits : (m n x : ℕ) → x < m → (k : ℕ) → get_or (replicate n x) k 0 < m
+replicate_fits m zero x h k = omega arith
+replicate_fits m (suc n) x h zero = h
+replicate_fits m (suc n) x h (suc k) = replicate_fits m n x h k
+
+pub stand_in_length : (op : BinOp) (n : ℕ) (ms : List Bool) (ys : List ℕ) → length ms ≡ n → length ys ≡ n → length (stand_in op ms ys) ≡ n
+stand_in_length op n ms ys p q = by (divides op)
+  where
+    by : (d : Bool) → length (cond d (sel_l ms ys (replicate (length ys) 1)) ys) ≡ n
+    by true = length_sel n ms ys (replicate (length ys) 1) p q (length-replicate (length ys) 1 ∙ q)
+    by false = q

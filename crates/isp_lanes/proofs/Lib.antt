@@ -1,7 +1,8 @@
 pub mod Rows
-pub mod LaneWords
+pub mod CellWords
 pub mod MaskLanes
 pub mod Divisors
 pub mod Numbers
+pub mod Truths
 pub mod Flags
 pub mod Fits

@@ -128,3 +128,10 @@ map_same P f g e (x ∷ xs) p = ap₂ (λ c t. c ∷ t) (e x (p 0)) (map_same P 
 pub each_map : (R : ℕ → Type 0) (f : ℕ → ℕ) → ((a : ℕ) → R (f a)) → (xs : List ℕ) → Each1 R (map f xs)
 each_map R f h [] = tt
 each_map R f h (x ∷ xs) = (h x, each_map R f h xs)
+
+-- a row of zeros, of another row
+pub zeros : (n : ℕ) (xs : List ℕ) → length xs ≡ n → replicate {A = ℕ} n 0 ≡ map {A = ℕ} {B = ℕ} (λ _. 0) xs
+zeros zero [] p = refl
+zeros (suc n) [] p = absurd (omega arith)
+zeros zero (x ∷ xs) p = absurd (omega arith)
+zeros (suc n) (x ∷ xs) p = ap (λ t. 0 ∷ t) (zeros n xs (omega arith))

@@ -1,2 +1,4 @@
 pub mod Lanes
 pub mod Bytes
+pub mod Held
+pub mod RowsBack

@@ -1,12 +1,11 @@
-//! One operator on all lanes, each lane in a word of 64 bits.
+//! One operator on all lanes, each lane in a word of its type's width.
 ghost use Rattle.std.specs.Prelude.{◌≡◌, ℕ, ◌^◌, ◌<◌, ◌≤◌, length, map, slice_index, true, nat_lt, cond, int_lt, ◌+ℤ◌, pos};
 ghost use Rattle.std.specs.List.{range_with_len};
-ghost use Rattle.std.specs.Simd.Lanes.{zip2, sel_l};
+ghost use Rattle.std.specs.Simd.Lanes.{zip2};
 ghost use Rattle.isp_base.specs.declared.types.Elem.TheVariants.{I64};
-ghost use Rattle.isp_base.specs.Values.{op_bits, divides, number};
+ghost use Rattle.isp_base.specs.Values.{op_bits, compare_bits, divides, number};
 ghost use Rattle.isp_base.specs.Unary.{unary_bits};
-ghost use Rattle.isp_base.specs.Rows.{Fit};
-ghost use Rattle.isp_lanes.specs.Lanes.{is_on};
+ghost use Rattle.isp_lanes.specs.Held.{IsRow};
 
 mod arithmetic;
 mod convert;
@@ -14,9 +13,9 @@ mod order;
 mod shifts;
 mod signs;
 
+use crate::words::Words;
 pub(crate) use convert::convert;
 use isp_base::{BinOp, Compare, Elem, UnaryOp, low_mask};
-pub(crate) use order::compare;
 use std::simd::prelude::*;
 
 // The numbers of the lanes that a vector can have.
@@ -27,16 +26,11 @@ const NUMBERS: [u64; 64] = [
 ];
 
 // The operator on all lanes.
-pub(crate) fn binary<const N: usize>(
-    op: BinOp,
-    elem: Elem,
-    x: Simd<u64, N>,
-    y: Simd<u64, N>,
-) -> Simd<u64, N>
-    requires x_fits { Fit elem x }
-    requires y_fits { Fit elem y }
-    requires divisors { divides op ≡ true → (k : ℕ) → k < length y → 0 < slice_index y k }
-    ensures { result ≡ zip2 (op_bits op elem) x.entry y.entry }
+pub(crate) fn binary<const N: usize, V: Words<N>>(op: BinOp, elem: Elem, x: V, y: V) -> V
+    requires x_row { IsRow N V.width elem (V.words x) }
+    requires y_row { IsRow N V.width elem (V.words y) }
+    requires divisors { divides op ≡ true → (k : ℕ) → k < length (V.words y) → 0 < slice_index (V.words y) k }
+    ensures { V.words result ≡ zip2 (op_bits op elem) (V.words x) (V.words y) }
 {
     match op {
         BinOp::Add => arithmetic::add(elem, x, y),
@@ -44,9 +38,9 @@ pub(crate) fn binary<const N: usize>(
         BinOp::Mul => arithmetic::mul(elem, x, y),
         BinOp::Div => signs::div(elem, x, y),
         BinOp::Rem => signs::rem(elem, x, y),
-        BinOp::And => x & y,
-        BinOp::Or => x | y,
-        BinOp::Xor => x ^ y,
+        BinOp::And => x.and(y),
+        BinOp::Or => x.or(y),
+        BinOp::Xor => x.xor(y),
         BinOp::Shl => shifts::shl(elem, x, y),
         BinOp::Shr => shifts::shr(elem, x, y),
         BinOp::Min => order::min(elem, x, y),
@@ -55,38 +49,30 @@ pub(crate) fn binary<const N: usize>(
 }
 
 // The operator on one value, on all lanes.
-pub(crate) fn unary<const N: usize>(op: UnaryOp, elem: Elem, x: Simd<u64, N>) -> Simd<u64, N>
-    requires { Fit elem x }
-    ensures { result ≡ map (unary_bits op elem) x.entry }
+pub(crate) fn unary<const N: usize, V: Words<N>>(op: UnaryOp, elem: Elem, x: V) -> V
+    requires { IsRow N V.width elem (V.words x) }
+    ensures { V.words result ≡ map (unary_bits op elem) (V.words x) }
 {
     match op {
         UnaryOp::Negate => signs::negate(elem, x),
-        UnaryOp::Invert => !x & Simd::splat(low_mask(elem)),
+        UnaryOp::Invert => x.inverse().and(V::all(low_mask(elem))),
         UnaryOp::Absolute => signs::magnitudes(elem, x),
-        UnaryOp::Not => x
-            .simd_eq(Simd::splat(0))
-            .select(Simd::splat(1), Simd::splat(0)),
+        UnaryOp::Not => x.equal(V::all(0)).and(V::all(1)),
     }
 }
 
-// 1 in the lanes that have a word other than 0, and 0 in the others.
-pub(crate) fn flags<const N: usize>(words: Simd<u64, N>) -> Simd<u64, N>
-    ensures { result ≡ map (λ b. cond (is_on b) 1 0) words.entry }
+// 1 in the lanes where the comparison holds, and 0 in the others.
+pub(crate) fn compare<const N: usize, V: Words<N>>(
+    compare: Compare,
+    elem: Elem,
+    x: V,
+    y: V,
+) -> [u8; N]
+    requires x_row { IsRow N V.width elem (V.words x) }
+    requires y_row { IsRow N V.width elem (V.words y) }
+    ensures { result ≡ zip2 (compare_bits compare elem) (V.words x) (V.words y) }
 {
-    words
-        .simd_ne(Simd::splat(0))
-        .select(Simd::splat(1), Simd::splat(0))
-}
-
-// The lanes of x where a test is not 0, and of y where it is.
-pub(crate) fn select<const N: usize>(
-    test: Simd<u64, N>,
-    x: Simd<u64, N>,
-    y: Simd<u64, N>,
-) -> Simd<u64, N>
-    ensures { result ≡ sel_l (map is_on test.entry) x.entry y.entry }
-{
-    test.simd_ne(Simd::splat(0)).select(x, y)
+    order::holds(compare, elem, x, y).flags()
 }
 
 // The number of each lane.

@@ -1,5 +1,5 @@
 //! Vectors of N values of one element type.
-ghost use Rattle.std.specs.Prelude.{◌≡◌, ◌^◌, ◌<◌, length, map, replicate, slice_get, slice_set, Some, None, IfOk, IfErr, cond};
+ghost use Rattle.std.specs.Prelude.{◌≡◌, ◌^◌, ◌<◌, length, map, replicate, slice_get, slice_set, Some, None, IfOk, IfErr, ◌&&◌};
 ghost use Rattle.std.specs.List.{range_with_len};
 ghost use Rattle.std.specs.Simd.Lanes.{zip2, sel_l};
 ghost use Rattle.isp_base.specs.declared.types.Elem.TheVariants.{Bool as Truth, I32};
@@ -10,6 +10,7 @@ ghost use Rattle.isp_lanes.specs.Lanes.{is_on, first_zero, written};
 
 use crate::kernels;
 use crate::mask::LaneMask;
+use crate::row::Row;
 use isp_base::{BinOp, Compare, Elem, UnaryOp};
 use std::marker::Model;
 use std::simd::prelude::*;
@@ -20,17 +21,26 @@ use std::simd::prelude::*;
 #[derive(Clone, Copy, Debug)]
 pub struct Lanes<const N: usize> {
     elem: Elem,
-    lanes: [u64; N],
+    row: Row<N>,
 }
 
 impl<const N: usize> Model for Lanes<N> {
+    ghost use Rattle.std.proofs.Common.{ap};
+    ghost use Rattle.std.specs.Prelude.{◌≡◌, length};
+    ghost use Rattle.isp_base.specs.Rows.{Row, Fit};
+    ghost use Rattle.isp_base.specs.Cells.{cell_width};
+    ghost use Rattle.isp_lanes.specs.Held.{held, held_width, row_of};
+    ghost use Rattle.isp_lanes.specs.RowsBack.{row_back};
+
     ghost Value = { Row };
 
-    ghost view = { λ v. record { elem = v.elem; bits = v.lanes } };
+    ghost view = { λ v. record { elem = v.elem; bits = held v.row } };
 
-    ghost inverse = { λ r. record { elem = r.elem; lanes = r.bits } };
+    ghost inverse = { λ r. record { elem = r.elem; row = row_of r.elem r.bits } };
 
-    ghost invariant = { λ v. Fit v.elem v.lanes };
+    ghost inverse_ok = { λ a h. ap (λ r. record { elem = a.elem; row = r }) (row_back a.elem a.row h.1) };
+
+    ghost invariant = { λ v. (length (held v.row) ≡ N) × (held_width v.row ≡ cell_width v.elem) × Fit v.elem (held v.row) };
 }
 
 impl<const N: usize> Lanes<N> {
@@ -40,7 +50,7 @@ impl<const N: usize> Lanes<N> {
     {
         Lanes {
             elem,
-            lanes: [0; N],
+            row: Row::zero(elem),
         }
     }
 
@@ -49,7 +59,7 @@ impl<const N: usize> Lanes<N> {
         ensures long { length self.now.bits ≡ N }
         ensures fits { Fit self.now.elem self.now.bits }
     {
-        let _ = &self.lanes;
+        let _ = &self.row;
     }
 
     /// The element type.
@@ -65,7 +75,7 @@ impl<const N: usize> Lanes<N> {
         ensures value { slice_get self.now.bits lane ≡ Some result }
         ensures fits { result < 2 ^ width self.now.elem }
     {
-        self.lanes[lane]
+        self.row.get(lane)
     }
 
     /// Writes one lane.
@@ -74,7 +84,7 @@ impl<const N: usize> Lanes<N> {
         requires fits { bits < 2 ^ width self.old.elem }
         ensures { self.new ≡ record { elem = self.old.elem; bits = slice_set self.old.bits lane bits } }
     {
-        self.lanes[lane] = bits;
+        self.row.set(lane, bits);
     }
 
     /// The operator on one vector.
@@ -82,8 +92,8 @@ impl<const N: usize> Lanes<N> {
         requires { x.now.elem ≡ self.old.elem }
         ensures { self.new ≡ written mask.now (map (unary_bits op self.old.elem) x.now.bits) self.old }
     {
-        let value = kernels::unary(op, self.elem, x.row());
-        self.write(value, mask);
+        mask.told();
+        self.row.unary(op, self.elem, &x.row, mask);
     }
 
     /// The operator on two vectors.
@@ -98,13 +108,11 @@ impl<const N: usize> Lanes<N> {
         ensures lowest { IfErr result (λ lane. first_zero op mask.now y.now.bits ≡ Some lane) }
         ensures same { IfErr result (λ _. self.new ≡ self.old) }
     {
-        let divisors = y.row();
-        if let Some(lane) = fault(op, divisors, mask) {
+        mask.told();
+        if let Some(lane) = y.row.fault(op, mask) {
             return Err(lane);
         }
-        let divisors = safe_divisors(op, divisors, mask);
-        let value = kernels::binary(op, self.elem, x.row(), divisors);
-        self.write(value, mask);
+        self.row.binary(op, self.elem, &x.row, &y.row, mask);
         Ok(())
     }
 
@@ -114,16 +122,19 @@ impl<const N: usize> Lanes<N> {
         requires y_elem { y.now.elem ≡ x.now.elem }
         ensures { self.new ≡ written mask.now (zip2 (compare_bits compare x.now.elem) x.now.bits y.now.bits) self.old }
     {
-        let value = kernels::compare(compare, x.elem, x.row(), y.row());
-        self.write(value, mask);
+        mask.told();
+        let holds = x.row.compared(compare, x.elem, &y.row);
+        self.row.keep_bytes(&holds, mask);
     }
 
     /// The values of a vector of any element type, converted to this one's.
     pub fn convert(&mut self, x: &Self, mask: &LaneMask<N>)
         ensures { self.new ≡ written mask.now (map (λ b. convert_bits self.old.elem (number x.now.elem b)) x.now.bits) self.old }
     {
-        let value = kernels::convert(x.elem, self.elem, x.row());
-        self.write(value, mask);
+        mask.told();
+        let wide = Simd::from_array(x.row.wide());
+        let converted = kernels::convert(x.elem, self.elem, wide).to_array();
+        self.row.keep(&converted, mask);
     }
 
     /// The lanes of `x` where a vector of bools is true, and of `y` where it is false.
@@ -133,8 +144,9 @@ impl<const N: usize> Lanes<N> {
         requires y_elem { y.now.elem ≡ self.old.elem }
         ensures { self.new ≡ written mask.now (sel_l (map is_on test.now.bits) x.now.bits y.now.bits) self.old }
     {
-        let value = kernels::select(test.row(), x.row(), y.row());
-        self.write(value, mask);
+        mask.told();
+        let test = test.row.bytes();
+        self.row.select(&test, &x.row, &y.row, mask);
     }
 
     /// The lanes of another vector.
@@ -142,7 +154,8 @@ impl<const N: usize> Lanes<N> {
         requires { x.now.elem ≡ self.old.elem }
         ensures { self.new ≡ written mask.now x.now.bits self.old }
     {
-        self.write(x.row(), mask);
+        mask.told();
+        self.row.copy(&x.row, mask);
     }
 
     /// One value.
@@ -150,7 +163,8 @@ impl<const N: usize> Lanes<N> {
         requires { bits < 2 ^ width self.old.elem }
         ensures { self.new ≡ written mask.now (replicate N bits) self.old }
     {
-        self.write(Simd::splat(bits), mask);
+        mask.told();
+        self.row.splat(bits, mask);
     }
 
     /// The lanes' numbers, from 0, as int32.
@@ -159,50 +173,18 @@ impl<const N: usize> Lanes<N> {
         ensures { self.new ≡ written mask.now (range_with_len 0 N) self.old }
     {
         mask.told();
-        self.write(kernels::numbers(), mask);
+        let numbers = kernels::numbers().to_array();
+        self.row.keep(&numbers, mask);
     }
 }
 
 impl<const N: usize> Lanes<N> {
-    // The lanes as a vector of the processor.
-    pub(crate) fn row(&self) -> Simd<u64, N>
-        ensures value { result ≡ self.now.bits }
-        ensures fits { Fit self.now.elem result }
+    // The lanes of the mask in which a vector of bools is true.
+    pub(crate) fn truths(&self, mask: &LaneMask<N>) -> LaneMask<N>
+        requires { self.now.elem ≡ Truth }
+        ensures { result ≡ zip2 (λ m b. m && is_on b) mask.now self.now.bits }
     {
-        Simd::from_array(self.lanes)
-    }
-
-    // The new words in the lanes of the mask.
-    fn write(&mut self, new: Simd<u64, N>, mask: &LaneMask<N>)
-        requires { Fit self.old.elem new }
-        ensures { self.new ≡ written mask.now new.entry self.old }
-    {
-        self.lanes = mask.merge(new, Simd::from_array(self.lanes)).to_array();
-    }
-}
-
-// The lowest lane of the mask that would divide by zero.
-fn fault<const N: usize>(op: BinOp, divisors: Simd<u64, N>, mask: &LaneMask<N>) -> Option<usize>
-    ensures { result ≡ first_zero op mask.now divisors.entry }
-{
-    if op.divides() {
-        mask.zeros(divisors).first()
-    } else {
-        None
-    }
-}
-
-// The divisors with 1 in the lanes that are off, so that these divide by no zero.
-fn safe_divisors<const N: usize>(
-    op: BinOp,
-    divisors: Simd<u64, N>,
-    mask: &LaneMask<N>,
-) -> Simd<u64, N>
-    ensures { result ≡ cond (divides op) (sel_l mask.now divisors.entry (replicate (length divisors.entry) 1)) divisors.entry }
-{
-    if op.divides() {
-        mask.merge(divisors, Simd::splat(1))
-    } else {
-        divisors
+        let truths = self.row.bytes();
+        mask.nonzero(Simd::from_array(truths))
     }
 }

@@ -4,6 +4,9 @@
 mod kernels;
 mod lanes;
 mod mask;
+mod masked;
+mod row;
+mod words;
 
 pub use lanes::Lanes;
 pub use mask::LaneMask;

@@ -1,6 +1,6 @@
 //! Which of N lanes are on.
 ghost use Rattle.std.proofs.Common.{ap};
-ghost use Rattle.std.specs.Prelude.{◌≡◌, ℕ, ◌<◌, ◌≤◌, List, Bool, true, false, length, map, replicate, slice_index, slice_get, Some, IfSome, ◌&&◌, ◌||◌, not, slice_set, position, ◌^◌, ◌==◌};
+ghost use Rattle.std.specs.Prelude.{◌≡◌, ℕ, ◌<◌, ◌≤◌, List, Bool, true, false, length, map, replicate, slice_index, slice_get, Some, IfSome, ◌&&◌, ◌||◌, not, slice_set, position, unwrap_or, ◌^◌, ◌==◌};
 ghost use Rattle.std.specs.List.{list_any};
 ghost use Rattle.std.specs.Simd.Lanes.{zip2, sel_l, mask_l};
 ghost use Rattle.isp_base.specs.declared.types.Elem.TheVariants.{Bool as Truth};
@@ -9,6 +9,7 @@ ghost use Rattle.isp_lanes.specs.Bytes.{byte_of, bytes_back};
 
 use crate::kernels;
 use crate::lanes::Lanes;
+use crate::words::Words;
 use std::marker::Model;
 use std::simd::prelude::*;
 
@@ -105,7 +106,7 @@ impl<const N: usize> LaneMask<N> {
         requires { x.now.elem ≡ Truth }
         ensures { result ≡ zip2 (λ m b. m && is_on b) self.now x.now.bits }
     {
-        self.nonzero(x.row())
+        x.truths(self)
     }
 
     /// The lowest lane that is on, alone.
@@ -114,24 +115,17 @@ impl<const N: usize> LaneMask<N> {
     {
         self.told();
         let mut lone = LaneMask::none();
-        if let Some(lane) = self.first() {
+        if let Some(lane) = self.position() {
             lone.set(lane, true);
         }
         lone
     }
 
-    /// The number of the lowest lane that is on, where one is.
-    pub fn first(&self) -> Option<usize>
-        ensures value { result ≡ position (λ b. b) self.now }
-        ensures there { IfSome result (λ lane. lane < N) }
+    /// The number of the lowest lane that is on, 0 where none is.
+    pub fn first(&self) -> usize
+        ensures { result ≡ unwrap_or (position (λ b. b) self.now) 0 }
     {
-        self.told();
-        let bits = self.bits();
-        if bits == 0 {
-            None
-        } else {
-            Some(bits.trailing_zeros() as usize)
-        }
+        self.position().unwrap_or(0)
     }
 
     /// The lanes whose number, added to `start`, is below `end`. Both are the bits of an int64, and
@@ -154,6 +148,20 @@ impl<const N: usize> LaneMask<N> {
 
 // What the kernels ask of a mask.
 impl<const N: usize> LaneMask<N> {
+    // The number of the lowest lane that is on, where one is.
+    pub(crate) fn position(&self) -> Option<usize>
+        ensures value { result ≡ position (λ b. b) self.now }
+        ensures there { IfSome result (λ lane. lane < N) }
+    {
+        self.told();
+        let bits = self.bits();
+        if bits == 0 {
+            None
+        } else {
+            Some(bits.trailing_zeros() as usize)
+        }
+    }
+
     // One bit for each lane, that of lane 0 lowest.
     fn bits(&self) -> u64
         ensures { result ≡ mask_l self.now }
@@ -164,29 +172,28 @@ impl<const N: usize> LaneMask<N> {
     }
 
     // The lanes that are on and have a word other than 0.
-    fn nonzero(&self, words: Simd<u64, N>) -> Self
-        ensures { result ≡ zip2 (λ m b. m && is_on b) self.now words.entry }
+    pub(crate) fn nonzero<V: Words<N>>(&self, words: V) -> Self
+        requires { length (V.words words) ≡ N }
+        ensures { result ≡ zip2 (λ m b. m && is_on b) self.now (V.words words) }
     {
-        let flags = kernels::flags(words);
+        let flags = words.flags();
         LaneMask {
-            lanes: (Simd::from_array(self.lanes) & flags.cast::<u8>()).to_array(),
+            lanes: (Simd::from_array(self.lanes) & Simd::from_array(flags)).to_array(),
         }
     }
 
     // The lanes that are on and have the word 0.
-    pub(crate) fn zeros(&self, words: Simd<u64, N>) -> Self
-        ensures { result ≡ zip2 (λ m b. m && b == 0) self.now words.entry }
+    pub(crate) fn zeros<V: Words<N>>(&self, words: V) -> Self
+        requires { length (V.words words) ≡ N }
+        ensures { result ≡ zip2 (λ m b. m && b == 0) self.now (V.words words) }
     {
         self.and_not(&self.nonzero(words))
     }
 
     // The new words in the lanes that are on, the old ones in the others.
-    pub(crate) fn merge(&self, new: Simd<u64, N>, old: Simd<u64, N>) -> Simd<u64, N>
-        ensures { result ≡ sel_l self.now new.entry old.entry }
+    pub(crate) fn merge<V: Words<N>>(&self, new: V, old: V) -> V
+        ensures { V.words result ≡ sel_l self.now (V.words new) (V.words old) }
     {
-        Simd::from_array(self.lanes)
-            .cast::<u64>()
-            .simd_ne(Simd::splat(0))
-            .select(new, old)
+        new.over(&self.lanes, old)
     }
 }

@@ -359,7 +359,7 @@ fn masks(rt: HostRuntime) {
     assert_eq!(rt; on(&odd.lowest()), [false, true, false, false]);
     assert_eq!(rt;
         (odd.first(), LaneMask::<4>::none().first()),
-        (Some(1), None)
+        (1, 0)
     );
     assert_eq!(rt; (odd.any(), LaneMask::<4>::none().any()), (true, false));
     let mut flags = Lanes::<4>::zero(Elem::Bool);

@@ -1,9 +1,9 @@
 //! Conversion between element types.
-ghost use Rattle.std.specs.Prelude.{◌≡◌, map};
+ghost use Rattle.std.specs.Prelude.{◌≡◌, cond, map};
 ghost use Rattle.isp_base.specs.Values.{convert_bits, wrap, number};
 ghost use Rattle.isp_base.specs.Rows.{Fit};
+ghost use Rattle.isp_lanes.specs.Lanes.{is_on};
 
-use super::flags;
 use isp_base::{Elem, greatest_of, low_mask};
 use std::simd::prelude::*;
 
@@ -28,4 +28,13 @@ fn wrap<const N: usize>(from: Elem, to: Elem, x: Simd<u64, N>) -> Simd<u64, N>
         .simd_gt(Simd::splat(greatest_of(from)))
         .select(x + spread, x);
     wide & Simd::splat(low_mask(to))
+}
+
+// 1 in the lanes that have a word other than 0, and 0 in the others.
+fn flags<const N: usize>(words: Simd<u64, N>) -> Simd<u64, N>
+    ensures { result ≡ map (λ b. cond (is_on b) 1 0) words.entry }
+{
+    words
+        .simd_ne(Simd::splat(0))
+        .select(Simd::splat(1), Simd::splat(0))
 }

@@ -1,56 +1,50 @@
 //! The order of the numbers, by words that have it.
-ghost use Rattle.std.specs.Prelude.{◌≡◌, map};
+ghost use Rattle.std.specs.Prelude.{◌≡◌, ◌-◌, ◌^◌, cond, map};
 ghost use Rattle.std.specs.Simd.Lanes.{zip2};
-ghost use Rattle.isp_base.specs.Values.{width, greatest, op_bits, compare_bits};
+ghost use Rattle.isp_base.specs.Values.{width, greatest, number, op_bits, compare_to};
 ghost use Rattle.isp_base.specs.Words.{turned};
-ghost use Rattle.isp_base.specs.Rows.{Fit};
+ghost use Rattle.isp_lanes.specs.Held.{IsRow};
 
-use isp_base::{BinOp, Compare, Elem, greatest_of, low_mask};
-use std::simd::prelude::*;
+use super::signs::is_signed;
+use crate::words::Words;
+use isp_base::{BinOp, Compare, Elem};
 
 // Moves the least value to 0, so that the order is that of the words.
-fn turn<const N: usize>(elem: Elem, x: Simd<u64, N>) -> Simd<u64, N>
-    ensures { result ≡ map (turned (width elem) (greatest elem)) x.entry }
+fn turn<const N: usize, V: Words<N>>(elem: Elem, x: V) -> V
+    requires { IsRow N V.width elem (V.words x) }
+    ensures { V.words result ≡ map (turned (width elem) (greatest elem)) (V.words x) }
 {
-    (x + Simd::splat(low_mask(elem) - greatest_of(elem))) & Simd::splat(low_mask(elem))
+    if is_signed(elem) { x.turned() } else { x }
 }
 
-pub(super) fn min<const N: usize>(elem: Elem, x: Simd<u64, N>, y: Simd<u64, N>) -> Simd<u64, N>
-    requires x_fits { Fit elem x }
-    requires y_fits { Fit elem y }
-    ensures { result ≡ zip2 (op_bits BinOp.Min elem) x.entry y.entry }
+pub(super) fn min<const N: usize, V: Words<N>>(elem: Elem, x: V, y: V) -> V
+    requires x_row { IsRow N V.width elem (V.words x) }
+    requires y_row { IsRow N V.width elem (V.words y) }
+    ensures { V.words result ≡ zip2 (op_bits BinOp.Min elem) (V.words x) (V.words y) }
 {
-    turn(elem, y).simd_lt(turn(elem, x)).select(y, x)
+    turn(elem, y).less(turn(elem, x)).choose(y, x)
 }
 
-pub(super) fn max<const N: usize>(elem: Elem, x: Simd<u64, N>, y: Simd<u64, N>) -> Simd<u64, N>
-    requires x_fits { Fit elem x }
-    requires y_fits { Fit elem y }
-    ensures { result ≡ zip2 (op_bits BinOp.Max elem) x.entry y.entry }
+pub(super) fn max<const N: usize, V: Words<N>>(elem: Elem, x: V, y: V) -> V
+    requires x_row { IsRow N V.width elem (V.words x) }
+    requires y_row { IsRow N V.width elem (V.words y) }
+    ensures { V.words result ≡ zip2 (op_bits BinOp.Max elem) (V.words x) (V.words y) }
 {
-    turn(elem, y).simd_lt(turn(elem, x)).select(x, y)
+    turn(elem, y).less(turn(elem, x)).choose(x, y)
 }
 
-// 1 in the lanes where the comparison holds, and 0 in the others.
-pub(crate) fn compare<const N: usize>(
-    compare: Compare,
-    elem: Elem,
-    x: Simd<u64, N>,
-    y: Simd<u64, N>,
-) -> Simd<u64, N>
-    requires x_fits { Fit elem x }
-    requires y_fits { Fit elem y }
-    ensures { result ≡ zip2 (compare_bits compare elem) x.entry y.entry }
+// Whether the comparison holds.
+pub(super) fn holds<const N: usize, V: Words<N>>(compare: Compare, elem: Elem, x: V, y: V) -> V
+    requires x_row { IsRow N V.width elem (V.words x) }
+    requires y_row { IsRow N V.width elem (V.words y) }
+    ensures { V.words result ≡ zip2 (λ a b. cond (compare_to compare (number elem a) (number elem b)) (2 ^ V.width - 1) 0) (V.words x) (V.words y) }
 {
-    let left = turn(elem, x);
-    let right = turn(elem, y);
-    let holds = match compare {
-        Compare::Equal => x.simd_eq(y),
-        Compare::NotEqual => x.simd_ne(y),
-        Compare::Less => left.simd_lt(right),
-        Compare::LessOrEqual => left.simd_le(right),
-        Compare::Greater => left.simd_gt(right),
-        Compare::GreaterOrEqual => left.simd_ge(right),
-    };
-    holds.select(Simd::splat(1), Simd::splat(0))
+    match compare {
+        Compare::Equal => x.equal(y),
+        Compare::NotEqual => x.equal(y).inverse(),
+        Compare::Less => turn(elem, x).less(turn(elem, y)),
+        Compare::LessOrEqual => turn(elem, y).less(turn(elem, x)).inverse(),
+        Compare::Greater => turn(elem, y).less(turn(elem, x)),
+        Compare::GreaterOrEqual => turn(elem, x).less(turn(elem, y)).inverse(),
+    }
 }

@@ -2,28 +2,29 @@
 ghost use Rattle.std.specs.Prelude.{◌≡◌};
 ghost use Rattle.std.specs.Simd.Lanes.{zip2};
 ghost use Rattle.isp_base.specs.Values.{op_bits};
-ghost use Rattle.isp_base.specs.Rows.{Fit};
+ghost use Rattle.isp_lanes.specs.Held.{IsRow};
 
-use isp_base::{BinOp, Elem, amount_mask, greatest_of, low_mask};
-use std::simd::prelude::*;
+use super::signs::signs;
+use crate::words::Words;
+use isp_base::{BinOp, Elem, amount_mask, low_mask};
 
-pub(super) fn shl<const N: usize>(elem: Elem, x: Simd<u64, N>, y: Simd<u64, N>) -> Simd<u64, N>
-    requires x_fits { Fit elem x }
-    requires y_fits { Fit elem y }
-    ensures { result ≡ zip2 (op_bits BinOp.Shl elem) x.entry y.entry }
+pub(super) fn shl<const N: usize, V: Words<N>>(elem: Elem, x: V, y: V) -> V
+    requires x_row { IsRow N V.width elem (V.words x) }
+    requires y_row { IsRow N V.width elem (V.words y) }
+    ensures { V.words result ≡ zip2 (op_bits BinOp.Shl elem) (V.words x) (V.words y) }
 {
-    (x << (y & Simd::splat(amount_mask(elem)))) & Simd::splat(low_mask(elem))
+    let by = y.and(V::all(amount_mask(elem)));
+    x.left(by).and(V::all(low_mask(elem)))
 }
 
 // A negative number is shifted by its complement, so that ones come in from above.
-pub(super) fn shr<const N: usize>(elem: Elem, x: Simd<u64, N>, y: Simd<u64, N>) -> Simd<u64, N>
-    requires x_fits { Fit elem x }
-    requires y_fits { Fit elem y }
-    ensures { result ≡ zip2 (op_bits BinOp.Shr elem) x.entry y.entry }
+pub(super) fn shr<const N: usize, V: Words<N>>(elem: Elem, x: V, y: V) -> V
+    requires x_row { IsRow N V.width elem (V.words x) }
+    requires y_row { IsRow N V.width elem (V.words y) }
+    ensures { V.words result ≡ zip2 (op_bits BinOp.Shr elem) (V.words x) (V.words y) }
 {
-    let low = Simd::splat(low_mask(elem));
-    let by = y & Simd::splat(amount_mask(elem));
-    let is_negative = x.simd_gt(Simd::splat(greatest_of(elem)));
-    let shifted = is_negative.select(low - x, x) >> by;
-    is_negative.select(low - shifted, shifted)
+    let by = y.and(V::all(amount_mask(elem)));
+    let negative = signs(elem, x);
+    let shifted = negative.choose(x.inverse(), x).right(by);
+    negative.choose(shifted.inverse(), shifted)
 }

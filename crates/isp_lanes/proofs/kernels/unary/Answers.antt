@@ -1,28 +1,57 @@
-use Rattle.std.proofs.Common.{sym, ap, ◌∙◌, ℕ, ◌-◌, ◌^◌, ◌<◌, ◌==◌, bit_and, List, map}
-use Rattle.std.proofs.lemmas.Simd.{zip2_splat, map-map}
-use Rattle.std.proofs.lemmas.List.{length-map}
-use Rattle.isp_base.specs.declared.operators.UnaryOp.{UnaryOp}
+use Rattle.std.proofs.Common.{refl, sym, ap, ◌∙◌, ◌-◌, ◌%◌, ◌^◌, ◌<◌, ◌==◌, cond, bit_and, map}
 use Rattle.isp_base.specs.Values.{width}
+use native.Mathlib.Nat.{zero-mod}
+use Rattle.isp_lanes.proofs.CellWords as cell
+use Rattle.isp_lanes.proofs.Rows.{row_left, row_op2, row_splat_as, row_map_left, map_same}
 use Rattle.isp_base.specs.Unary.{unary_bits}
-use Rattle.isp_lanes.proofs.LaneWords.{unary_negate, unary_invert, unary_absolute, unary_not}
-use Rattle.isp_lanes.proofs.Rows.{map_same}
-use Rattle.isp_lanes.proofs.Flags.{flags_of_splat}
 use Rattle.isp_lanes.proofs.kernels.unary.Goals as goal
-use Rattle.isp_lanes.proofs.kernels.unary.Goals.{in-Negate, in-Invert, in-Absolute, in-Not}
 
-pub returns : goal.returns
-returns g c =
+pub returns-in-Negate : goal.returns-in-Negate
+returns-in-Negate g c =
     let t = c.args.elem in
-    let xs = c.args.x in
+    let w = g.V.Words.width in
+    let e = c.requires.wide in
+    let xs = g.V.Words.words c.args.x in
     let n = g.row.N in
-    let answer : UnaryOp → List ℕ = λ op. map (unary_bits op t) xs in
-    let Fits : ℕ → Type 0 = λ a. a < 2 ^ width t in
-    elim c.match-op.branch [
-      | in-Negate w ↦ w.result-is ∙ w.negate.ensures ∙ map_same Fits _ _ (unary_negate t) xs c.requires ∙ sym (ap answer w.in-Negate.is)
-      | in-Invert w ↦
-          w.result-is ∙ zip2_splat bit_and (map (λ a. 2 ^ 64 - 1 - a) xs) n w.low_mask.result (length-map xs _ ∙ c.fits-x.0)
-          ∙ map-map (λ b. bit_and b w.low_mask.result) (λ a. 2 ^ 64 - 1 - a) xs
-          ∙ map_same Fits _ _ (λ a p. ap (bit_and (2 ^ 64 - 1 - a)) w.low_mask.ensures ∙ unary_invert t a p) xs c.requires ∙ sym (ap answer w.in-Invert.is)
-      | in-Absolute w ↦ w.result-is ∙ w.magnitudes.ensures ∙ map_same Fits _ _ (unary_absolute t) xs c.requires ∙ sym (ap answer w.in-Absolute.is)
-      | in-Not w ↦ w.result-is ∙ flags_of_splat (λ a b. a == b) n 0 xs c.fits-x.0 ∙ map_same Fits _ _ (unary_not t) xs c.requires ∙ sym (ap answer w.in-Not.is)
-    ]
+    c.negate.ensures
+    ∙ map_same (λ a. a < 2 ^ width t) _ _ (cell.unary_negate t) xs c.requires.fits
+    ∙ ap (λ op. map (unary_bits op t) xs) (sym c.in-Negate.is)
+
+pub returns-in-Invert : goal.returns-in-Invert
+returns-in-Invert g c =
+    let t = c.args.elem in
+    let w = g.V.Words.width in
+    let e = c.requires.wide in
+    let xs = g.V.Words.words c.args.x in
+    let n = g.row.N in
+    c.and.ensures
+    ∙ row_op2 bit_and (λ a _. 2 ^ w - 1 - a) (λ _ _. 2 ^ width t - 1) xs xs (c.inverse.ensures ∙ row_map_left _ xs xs refl) (c.all.ensures ∙ row_splat_as _ (2 ^ width t - 1) (ap (λ k. k % 2 ^ w) c.low_mask.ensures ∙ cell.mask_in w t e) n xs xs c.requires.long c.requires.long)
+    ∙ sym (row_map_left _ xs xs refl)
+    ∙ map_same (λ a. a < 2 ^ width t) _ _ (cell.lane_invert w t e) xs c.requires.fits
+    ∙ ap (λ op. map (unary_bits op t) xs) (sym c.in-Invert.is)
+
+pub returns-in-Absolute : goal.returns-in-Absolute
+returns-in-Absolute g c =
+    let t = c.args.elem in
+    let w = g.V.Words.width in
+    let e = c.requires.wide in
+    let xs = g.V.Words.words c.args.x in
+    let n = g.row.N in
+    c.magnitudes.ensures
+    ∙ map_same (λ a. a < 2 ^ width t) _ _ (cell.unary_absolute t) xs c.requires.fits
+    ∙ ap (λ op. map (unary_bits op t) xs) (sym c.in-Absolute.is)
+
+pub returns-in-Not : goal.returns-in-Not
+returns-in-Not g c =
+    let t = c.args.elem in
+    let w = g.V.Words.width in
+    let e = c.requires.wide in
+    let xs = g.V.Words.words c.args.x in
+    let n = g.row.N in
+    c.and-in-Not.ensures
+    ∙ row_op2 bit_and (λ a _. cond (a == 0) (2 ^ w - 1) 0) (λ _ _. 1) xs xs
+    (c.equal.ensures ∙ row_op2 (λ a b. cond (a == b) (2 ^ w - 1) 0) (λ a _. a) (λ _ _. 0) xs xs (row_left xs xs refl) (c.all-in-Not.ensures ∙ row_splat_as _ 0 (zero-mod (2 ^ w)) n xs xs c.requires.long c.requires.long))
+    (c.all-in-Not-2.ensures ∙ row_splat_as _ 1 g.V.Words.holds_one n xs xs c.requires.long c.requires.long)
+    ∙ sym (row_map_left _ xs xs refl)
+    ∙ map_same (λ a. a < 2 ^ width t) _ _ (cell.lane_not w t e) xs c.requires.fits
+    ∙ ap (λ op. map (unary_bits op t) xs) (sym c.in-Not.is)

@@ -1,15 +1,18 @@
-use Rattle.std.proofs.Common.{◌≡◌, refl, ap, ◌∙◌, ◌+◌, ◌-◌, ◌%◌, ◌^◌, ◌<◌, arith, bit_and, length}
+use Rattle.std.proofs.Common.{◌≡◌, ap, ◌∙◌, ◌+◌, ◌-◌, ◌%◌, ◌^◌, ◌<◌, arith, bit_and, length}
 use Rattle.isp_base.specs.Values.{width}
-use Rattle.isp_base.proofs.Words.{word_sub}
-use Rattle.isp_lanes.proofs.Rows.{row_splat, row_op2, row_same}
+use Rattle.isp_lanes.proofs.CellWords.{mask_in, lane_sub}
+use Rattle.isp_lanes.proofs.Rows.{row_op2, row_same, row_splat_as}
 use Rattle.isp_lanes.proofs.kernels.arithmetic.sub.Goals as goal
 
 pub returns : goal.returns
 returns g c =
     let t = c.args.elem in
-    let xs = c.args.x in
-    let ys = c.args.y in
+    let w = g.V.Words.width in
+    let e = c.requires.x_row.wide in
+    let xs = g.V.Words.words c.args.x in
+    let ys = g.V.Words.words c.args.y in
     let n = g.row.N in
-    let same : length xs ≡ length ys = omega arith in
-    row_op2 bit_and (λ a b. (a + (2 ^ 64 - b)) % 2 ^ 64) (λ _ _. c.low_mask.result) xs ys refl (row_splat c.low_mask.result n xs ys c.fits-x.0 c.fits-y.0)
-    ∙ row_same (λ a. a < 2 ^ width t) (λ b. b < 2 ^ width t) _ _ (λ a b p q. ap (bit_and _) c.low_mask.ensures ∙ word_sub t a b p q) xs ys c.requires.x_fits c.requires.y_fits
+    let same : length xs ≡ length ys = omega (arith, c.requires.x_row.long, c.requires.y_row.long) in
+    c.and.ensures
+    ∙ row_op2 bit_and (λ a b. (a + (2 ^ w - b)) % 2 ^ w) (λ _ _. 2 ^ width t - 1) xs ys c.minus.ensures (c.all.ensures ∙ row_splat_as _ (2 ^ width t - 1) (ap (λ m. m % 2 ^ w) c.low_mask.ensures ∙ mask_in w t e) n xs ys c.requires.x_row.long c.requires.y_row.long)
+    ∙ row_same (λ a. a < 2 ^ width t) (λ b. b < 2 ^ width t) _ _ (lane_sub w t e) xs ys c.requires.x_row.fits c.requires.y_row.fits

@@ -3,7 +3,7 @@ use Rattle.isp_base.specs.declared.types.Elem.{Elem}
 use Rattle.isp_base.specs.Values.{width, convert_bits, number}
 use Rattle.isp_base.proofs.Converts.{no_truth}
 use Rattle.isp_lanes.proofs.Rows.{map_same}
-use Rattle.isp_lanes.proofs.LaneWords.{lane_truth}
+use Rattle.isp_lanes.proofs.CellWords.{lane_truth}
 use Rattle.isp_lanes.proofs.kernels.convert.convert.Goals as goal
 use Rattle.isp_lanes.proofs.kernels.convert.convert.Goals.{in-Bool, in_default}
 

@@ -2,7 +2,7 @@ use Rattle.std.proofs.Common.{◌≡◌, refl, sym, ◌∙◌, ◌+◌, ◌-◌,
 use Rattle.std.specs.Simd.Lanes.{top}
 use Rattle.isp_base.specs.Values.{width, greatest, wrap, number}
 use Rattle.isp_base.proofs.Elems.{width_le}
-use Rattle.isp_lanes.proofs.LaneWords.{lane_spread}
+use Rattle.isp_lanes.proofs.CellWords.{lane_spread}
 use Rattle.isp_lanes.proofs.Rows.{row_left, row_op1, row_op2, row_select, row_same, row_splat_as, row_map_left}
 use Rattle.isp_lanes.proofs.kernels.convert.wrap.Goals as goal
 

@@ -1,39 +1,39 @@
-use Rattle.std.proofs.Common.{◌≡◌, sym, ◌∙◌, ℕ, ◌+◌, ◌-◌, ◌/◌, ◌%◌, ◌^◌, ◌<◌, Bool, cond, nat_lt, arith, bit_and, subst, List, map, replicate, length}
-use Rattle.std.specs.Simd.Lanes.{zip2, sel_l, top, Each2}
+use Rattle.std.proofs.Common.{◌≡◌, sym, ap, ◌∙◌, ℕ, ◌-◌, ◌/◌, ◌%◌, ◌^◌, ◌<◌, cond, nat_lt, arith, bit_and, subst, length, List, map, Bool}
+use Rattle.std.specs.Simd.Lanes.{Each2}
 use Rattle.isp_base.specs.Values.{width, greatest}
-use Rattle.isp_base.proofs.Words.{amount_lt}
-use Rattle.isp_lanes.proofs.LaneWords.{lane_shr}
-use Rattle.isp_lanes.proofs.Rows.{row_left, row_right, row_op1, row_op2, row_select, row_same, row_splat_as, each_below}
+use Rattle.isp_lanes.specs.Lanes.{is_on}
+use Rattle.isp_lanes.proofs.CellWords as cell
+use Rattle.isp_lanes.proofs.Rows.{row_left, row_right, row_op1, row_op2, row_select, row_same, row_splat_as, row_map_left, each_below}
 use Rattle.isp_lanes.proofs.kernels.shifts.shr.Goals as goal
 
-pub overflow_shr-shifted : goal.overflow_shr-shifted
-overflow_shr-shifted g c =
+pub right-shifted-requires : goal.right-shifted-requires
+right-shifted-requires g c =
     let t = c.args.elem in
-    let xs = c.args.x in
-    let ys = c.args.y in
+    let w = g.V.Words.width in
+    let e = c.requires.x_row.wide in
+    let xs = g.V.Words.words c.args.x in
+    let ys = g.V.Words.words c.args.y in
     let n = g.row.N in
-    let same : length xs ≡ length ys = omega arith in
-    let signs : List Bool = map (top 63) (zip2 (λ a b. cond (nat_lt a b) (2 ^ 64 - 1) 0) (replicate n c.greatest_of.result) xs) in
-    let first : List ℕ = sel_l signs (zip2 (λ a b. (a + (2 ^ 64 - b)) % 2 ^ 64) (replicate n c.low_mask-low.result) xs) xs in
-    subst (λ (zs : List ℕ). Each2 (λ (a b : ℕ). b < 64) first zs) (sym (row_op2 bit_and (λ _ b. b) (λ _ _. width t - 1) xs ys (row_right xs ys same) (row_splat_as c.amount_mask.result (width t - 1) c.amount_mask.ensures n xs ys c.fits-x.0 c.fits-y.0))) (each_below 64 (λ _ b. bit_and b (width t - 1)) (λ _ b. amount_lt t b) first xs ys)
+    let same : length xs ≡ length ys = omega (arith, c.requires.x_row.long, c.requires.y_row.long) in
+    let first = g.V.Words.words c.choose.result in
+    subst (λ (zs : List ℕ). Each2 (λ (a b : ℕ). b < w) first zs) (sym (c.and-by.ensures ∙ (row_op2 bit_and (λ _ b. b) (λ _ _. width t - 1) xs ys (row_right xs ys same) (c.all.ensures ∙ row_splat_as _ (width t - 1) (ap (λ m. m % 2 ^ w) c.amount_mask.ensures ∙ cell.amount_mask_in w t e) n xs ys c.requires.x_row.long c.requires.y_row.long)))) (each_below w (λ _ b. bit_and b (width t - 1)) (λ _ b. cell.amount_lt_w w t e b) first xs ys)
 
 pub returns : goal.returns
 returns g c =
     let t = c.args.elem in
-    let xs = c.args.x in
-    let ys = c.args.y in
+    let w = g.V.Words.width in
+    let e = c.requires.x_row.wide in
+    let xs = g.V.Words.words c.args.x in
+    let ys = g.V.Words.words c.args.y in
     let n = g.row.N in
-    let same : length xs ≡ length ys = omega arith in
-    let m = 2 ^ width t - 1 in
-    let sign : ℕ → ℕ → Bool = λ a _. top 63 (cond (nat_lt (greatest t) a) (2 ^ 64 - 1) 0) in
-    let turned : ℕ → ℕ → ℕ = λ a b. cond (sign a b) ((m + (2 ^ 64 - a)) % 2 ^ 64) a in
-    let by = row_op2 bit_and (λ _ b. b) (λ _ _. width t - 1) xs ys (row_right xs ys same) (row_splat_as c.amount_mask.result (width t - 1) c.amount_mask.ensures n xs ys c.fits-x.0 c.fits-y.0) in
-    let low = row_splat_as c.low_mask-low.result m c.low_mask-low.ensures n xs ys c.fits-x.0 c.fits-y.0 in
-    let signs = row_op2 (λ a b. cond (nat_lt a b) (2 ^ 64 - 1) 0) (λ _ _. greatest t) (λ a _. a) xs ys (row_splat_as c.greatest_of.result (greatest t) c.greatest_of.ensures n xs ys c.fits-x.0 c.fits-y.0) (row_left xs ys same) in
-    let tops = row_op1 (top 63) (λ a _. cond (nat_lt (greatest t) a) (2 ^ 64 - 1) 0) xs ys signs in
-    let first = row_op2 (λ a b. (a + (2 ^ 64 - b)) % 2 ^ 64) (λ _ _. m) (λ a _. a) xs ys low (row_left xs ys same) in
-    let picked = row_select sign (λ a _. (m + (2 ^ 64 - a)) % 2 ^ 64) (λ a _. a) xs ys tops first (row_left xs ys same) in
-    let shifted = row_op2 (λ a b. a / 2 ^ b) turned (λ _ b. bit_and b (width t - 1)) xs ys picked by in
-    let back = row_op2 (λ a b. (a + (2 ^ 64 - b)) % 2 ^ 64) (λ _ _. m) (λ a b. turned a b / 2 ^ bit_and b (width t - 1)) xs ys low shifted in
-    row_select sign (λ a b. (m + (2 ^ 64 - turned a b / 2 ^ bit_and b (width t - 1))) % 2 ^ 64) (λ a b. turned a b / 2 ^ bit_and b (width t - 1)) xs ys tops back shifted
-    ∙ row_same (λ a. a < 2 ^ width t) (λ b. b < 2 ^ width t) _ _ (λ a b p q. lane_shr t a b p q) xs ys c.requires.x_fits c.requires.y_fits
+    let same : length xs ≡ length ys = omega (arith, c.requires.x_row.long, c.requires.y_row.long) in
+    let by = c.and-by.ensures ∙ (row_op2 bit_and (λ _ b. b) (λ _ _. width t - 1) xs ys (row_right xs ys same) (c.all.ensures ∙ row_splat_as _ (width t - 1) (ap (λ m. m % 2 ^ w) c.amount_mask.ensures ∙ cell.amount_mask_in w t e) n xs ys c.requires.x_row.long c.requires.y_row.long)) in
+    let sign : ℕ → ℕ → Bool = λ a _. is_on (cond (nat_lt (greatest t) a) (2 ^ w - 1) 0) in
+    let turned : ℕ → ℕ → ℕ = λ a b. cond (sign a b) (2 ^ w - 1 - a) a in
+    let signs = ap (map is_on) c.signs-negative.ensures ∙ row_op1 is_on (λ a _. cond (nat_lt (greatest t) a) (2 ^ w - 1) 0) xs ys (row_map_left (λ a. cond (nat_lt (greatest t) a) (2 ^ w - 1) 0) xs ys same) in
+    let picked = c.choose.ensures ∙ row_select sign (λ a _. 2 ^ w - 1 - a) (λ a _. a) xs ys signs (c.inverse.ensures ∙ row_map_left (λ a. 2 ^ w - 1 - a) xs ys same) (row_left xs ys same) in
+    let shifted = c.right-shifted.ensures ∙ row_op2 (λ a b. a / 2 ^ b) turned (λ _ b. bit_and b (width t - 1)) xs ys picked by in
+    let back = c.inverse-2.ensures ∙ row_op1 (λ a. 2 ^ w - 1 - a) (λ a b. turned a b / 2 ^ bit_and b (width t - 1)) xs ys shifted in
+    c.choose-2.ensures
+    ∙ row_select sign (λ a b. 2 ^ w - 1 - turned a b / 2 ^ bit_and b (width t - 1)) (λ a b. turned a b / 2 ^ bit_and b (width t - 1)) xs ys signs back shifted
+    ∙ row_same (λ a. a < 2 ^ width t) (λ b. b < 2 ^ width t) _ _ (cell.lane_shr w t e) xs ys c.requires.x_row.fits c.requires.y_row.fits

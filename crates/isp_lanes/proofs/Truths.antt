@@ -1,0 +1,72 @@
+-- Rows of truths, and what is read of them, at each width of words.
+use Rattle.std.proofs.Common.{◌≡◌, refl, sym, ap, ap₂, ◌∙◌, ℕ, zero, suc, ◌-◌, ◌^◌, ◌%◌, ◌<◌, Bool, cond, not, nat_lt, ◌==◌, arith, List, [], ◌∷◌, map, map-id, length, get_or, replicate, bit_and, mod-eq_of_lt, mod-lt, pow_pos, Fits, w8, subst}
+use Rattle.std.specs.Int.{Width}
+use Rattle.std.proofs.Math.Facts.{Fits-of_lt}
+use mir.Val.{bits, hbits}
+use Rattle.std.proofs.lemmas.Bool.Decides.{nat_tests}
+use Rattle.std.proofs.lemmas.Simd.{tops_compared, zip2_splat}
+use Rattle.std.proofs.lemmas.List.{length-replicate}
+use Rattle.std.specs.Simd.Lanes.{zip2, sel_l, top, Each1}
+use lib.Bits.{and_mask}
+use Rattle.isp_lanes.specs.Lanes.{is_on}
+use Rattle.isp_lanes.proofs.MaskLanes.{flag_fits}
+use Rattle.isp_lanes.proofs.Rows.{row_select, row_splat, map_same, each_map}
+
+module _ (w : Width) where
+  -- a test of two rows
+  pub picks : (t : ℕ → ℕ → Bool) (u v n : ℕ) (xs ys : List ℕ) → length xs ≡ n → length ys ≡ n
+      → sel_l {A = ℕ} (map (top (hbits w)) (zip2 (λ a b. cond (t a b) (2 ^ bits w - 1) 0) xs ys)) (replicate n u) (replicate n v) ≡ zip2 (λ a b. cond (t a b) u v) xs ys
+  picks t u v n xs ys p q =
+      ap (λ m. sel_l m (replicate n u) (replicate n v)) (tops_compared w t xs ys)
+      ∙ row_select t (λ _ _. u) (λ _ _. v) xs ys refl (row_splat u n xs ys p q) (row_splat v n xs ys p q)
+
+  pub truths : (t : ℕ → ℕ → Bool) (n : ℕ) (xs ys : List ℕ) → length xs ≡ n → length ys ≡ n
+      → sel_l {A = ℕ} (map (top (hbits w)) (zip2 (λ a b. cond (t a b) (2 ^ bits w - 1) 0) xs ys)) (replicate n (2 ^ bits w - 1)) (replicate n 0) ≡ zip2 (λ a b. cond (t a b) (2 ^ bits w - 1) 0) xs ys
+  truths t n xs ys p q = picks t (2 ^ bits w - 1) 0 n xs ys p q
+
+  zip2_splat_left : {C : Type 0} (h : ℕ → ℕ → C) (x n : ℕ) (ys : List ℕ) → length ys ≡ n → zip2 h (replicate n x) ys ≡ map (h x) ys
+  zip2_splat_left h x zero [] p = refl
+  zip2_splat_left h x (suc n) [] p = absurd (omega arith)
+  zip2_splat_left h x zero (y ∷ ys) p = absurd (omega arith)
+  zip2_splat_left h x (suc n) (y ∷ ys) p = ap (λ t. h x y ∷ t) (zip2_splat_left h x n ys (omega arith))
+
+  -- a word that is compared with each
+  pub sign_truths : (g n : ℕ) (xs : List ℕ) → length xs ≡ n
+      → sel_l {A = ℕ} (map (top (hbits w)) (zip2 (λ a b. cond (nat_lt a b) (2 ^ bits w - 1) 0) (replicate n g) xs)) (replicate n (2 ^ bits w - 1)) (replicate n 0) ≡ map (λ a. cond (nat_lt g a) (2 ^ bits w - 1) 0) xs
+  sign_truths g n xs p = truths nat_lt n (replicate n g) xs (length-replicate n g) p ∙ zip2_splat_left (λ a b. cond (nat_lt a b) (2 ^ bits w - 1) 0) g n xs p
+
+  on_is : (a : ℕ) → not (a == 0) ≡ is_on a
+  on_is a = grind (arith, nat_tests)
+
+  pub truth_of : (n : ℕ) (xs : List ℕ) → length xs ≡ n → map (top (hbits w)) (zip2 (λ a b. cond (not (a == b)) (2 ^ bits w - 1) 0) xs (replicate n 0)) ≡ map is_on xs
+  truth_of n xs p =
+      tops_compared w (λ a b. not (a == b)) xs (replicate n 0)
+      ∙ zip2_splat (λ a b. not (a == b)) xs n 0 p
+      ∙ map_same (λ _. Unit {0}) _ _ (λ a _. on_is a) xs (λ _. tt)
+
+  pub cast_truth_of : (n : ℕ) (xs : List ℕ) → length xs ≡ n → map (top (hbits w)) (zip2 (λ a b. cond (not (a == b)) (2 ^ bits w - 1) 0) (map (λ a. a) xs) (replicate n 0)) ≡ map is_on xs
+  cast_truth_of n xs p = ap (λ t. map (top (hbits w)) (zip2 (λ a b. cond (not (a == b)) (2 ^ bits w - 1) 0) t (replicate n 0))) (map-id xs) ∙ truth_of n xs p
+
+  flagged : (n : ℕ) (xs : List ℕ) → length xs ≡ n → sel_l {A = ℕ} (map is_on xs) (replicate n 1) (replicate n 0) ≡ map (λ a. cond (is_on a) 1 0) xs
+  flagged zero [] p = refl
+  flagged (suc n) [] p = refl
+  flagged zero (x ∷ xs) p = absurd (omega arith)
+  flagged (suc n) (x ∷ xs) p = ap (λ t. cond (is_on x) 1 0 ∷ t) (flagged n xs (omega arith))
+
+  pub flags_of : (n : ℕ) (xs : List ℕ) → length xs ≡ n → sel_l {A = ℕ} (map (top (hbits w)) (zip2 (λ a b. cond (not (a == b)) (2 ^ bits w - 1) 0) xs (replicate n 0))) (replicate n 1) (replicate n 0) ≡ map (λ a. cond (is_on a) 1 0) xs
+  flags_of n xs p = ap (λ m. sel_l m (replicate n 1) (replicate n 0)) (truth_of n xs p) ∙ flagged n xs p
+
+  pub flags_fit : (n : ℕ) (xs : List ℕ) → length xs ≡ n → Each1 (Fits w8) (sel_l {A = ℕ} (map (top (hbits w)) (zip2 (λ a b. cond (not (a == b)) (2 ^ bits w - 1) 0) xs (replicate n 0))) (replicate n 1) (replicate n 0))
+  flags_fit n xs p = subst (Each1 (Fits w8)) (sym (flags_of n xs p)) (each_map (Fits w8) (λ b. cond (is_on b) 1 0) (λ b. flag_fits (is_on b)) xs)
+
+-- words that fit already
+pub all_low : (w : ℕ) (xs : List ℕ) → ((k : ℕ) → get_or xs k 0 < 2 ^ w) → xs ≡ map (λ a. a % 2 ^ w) xs
+all_low w [] p = refl
+all_low w (x ∷ xs) p = ap₂ (λ c t. c ∷ t) (sym (mod-eq_of_lt (p 0))) (all_low w xs (λ k. p (suc k)))
+
+module _ (w : Width) where
+  pub cut_is : (n : ℕ) (xs : List ℕ) → length xs ≡ n → zip2 bit_and xs (replicate n (2 ^ bits w - 1)) ≡ map (λ a. a % 2 ^ bits w) xs
+  cut_is n xs p = zip2_splat bit_and xs n (2 ^ bits w - 1) p ∙ map_same (λ _. Unit {0}) _ _ (λ a _. and_mask a (bits w)) xs (λ _. tt)
+
+  pub cut_fits : (n : ℕ) (xs : List ℕ) → length xs ≡ n → Each1 (Fits w) (zip2 bit_and xs (replicate n (2 ^ bits w - 1)))
+  cut_fits n xs p = subst (Each1 (Fits w)) (sym (cut_is n xs p)) (each_map (Fits w) (λ a. a % 2 ^ bits w) (λ a. Fits-of_lt (mod-lt a (pow_pos (bits w)))) xs)

@@ -1,0 +1,6 @@
+use Rattle.std.proofs.Common.{w8, nat_lt}
+use Rattle.isp_lanes.proofs.Truths.{truths}
+use Rattle.isp_lanes.proofs.words.SimdU8Words.less.Goals as goal
+
+pub returns : goal.returns
+returns g c = truths w8 (λ a b. nat_lt a b) g.row.N c.args.self c.args.y c.fits-self.0 c.fits-y.0

@@ -1,0 +1,101 @@
+//! The operators on words under a mask: the lanes that are off keep their old words.
+ghost use Rattle.std.specs.Prelude.{◌≡◌, ℕ, ◌<◌, ◌^◌, slice_index, length, map, replicate, None, cond};
+ghost use Rattle.std.specs.Simd.Lanes.{zip2, sel_l};
+ghost use Rattle.isp_base.specs.Values.{divides, op_bits};
+ghost use Rattle.isp_base.specs.Unary.{unary_bits};
+ghost use Rattle.isp_lanes.specs.Lanes.{first_zero, is_on};
+ghost use Rattle.isp_lanes.specs.Held.{IsRow};
+
+use crate::kernels;
+use crate::mask::LaneMask;
+use crate::words::Words;
+use isp_base::{BinOp, Elem, UnaryOp};
+
+pub(crate) fn unary<const N: usize, V: Words<N>>(
+    op: UnaryOp,
+    elem: Elem,
+    x: V,
+    mask: &LaneMask<N>,
+    old: V,
+) -> V
+    requires { IsRow N V.width elem (V.words x) }
+    ensures { V.words result ≡ sel_l mask.now (map (unary_bits op elem) (V.words x)) (V.words old) }
+{
+    mask.merge(kernels::unary(op, elem, x), old)
+}
+
+// Where no lane of the mask divides by zero.
+pub(crate) fn binary<const N: usize, V: Words<N>>(
+    op: BinOp,
+    elem: Elem,
+    x: V,
+    y: V,
+    mask: &LaneMask<N>,
+    old: V,
+) -> V
+    requires x_row { IsRow N V.width elem (V.words x) }
+    requires y_row { IsRow N V.width elem (V.words y) }
+    requires divided { first_zero op mask.now (V.words y) ≡ None }
+    ensures { V.words result ≡ sel_l mask.now (zip2 (op_bits op elem) (V.words x) (V.words y)) (V.words old) }
+{
+    mask.told();
+    let divisors = safe_divisors(op, y, mask);
+    mask.merge(kernels::binary(op, elem, x, divisors), old)
+}
+
+// The lowest lane of the mask that would divide by zero.
+pub(crate) fn fault<const N: usize, V: Words<N>>(
+    op: BinOp,
+    divisors: V,
+    mask: &LaneMask<N>,
+) -> Option<usize>
+    requires { length (V.words divisors) ≡ N }
+    ensures { result ≡ first_zero op mask.now (V.words divisors) }
+{
+    if op.divides() {
+        mask.zeros(divisors).position()
+    } else {
+        None
+    }
+}
+
+// The divisors with 1 in the lanes that are off, so that these divide by no zero.
+fn safe_divisors<const N: usize, V: Words<N>>(op: BinOp, divisors: V, mask: &LaneMask<N>) -> V
+    requires { length (V.words divisors) ≡ N }
+    ensures { V.words result ≡ cond (divides op) (sel_l mask.now (V.words divisors) (replicate (length (V.words divisors)) 1)) (V.words divisors) }
+{
+    if op.divides() {
+        mask.merge(divisors, V::all(1))
+    } else {
+        divisors
+    }
+}
+
+// The words of x where a test's byte is not 0, and of y where it is.
+pub(crate) fn select<const N: usize, V: Words<N>>(
+    test: &[u8; N],
+    x: V,
+    y: V,
+    mask: &LaneMask<N>,
+    old: V,
+) -> V
+    ensures { V.words result ≡ sel_l mask.now (sel_l (map is_on test.now) (V.words x) (V.words y)) (V.words old) }
+{
+    mask.merge(x.over(test, y), old)
+}
+
+// One word.
+pub(crate) fn splat<const N: usize, V: Words<N>>(word: u64, mask: &LaneMask<N>, old: V) -> V
+    requires { word < 2 ^ V.width }
+    ensures { V.words result ≡ sel_l mask.now (replicate N word) (V.words old) }
+{
+    mask.merge(V::all(word), old)
+}
+
+// Words of 64 bits, which fit.
+pub(crate) fn keep<const N: usize, V: Words<N>>(wide: &[u64; N], mask: &LaneMask<N>, old: V) -> V
+    requires { (k : ℕ) → slice_index wide.now k < 2 ^ V.width }
+    ensures { V.words result ≡ sel_l mask.now wide.now (V.words old) }
+{
+    mask.merge(old.cut(wide), old)
+}

@@ -1,0 +1,372 @@
+//! The lanes of a vector in words of the width that their type takes.
+ghost use Rattle.std.specs.Prelude.{◌≡◌, ℕ, slice_index, ◌<◌, ◌^◌, length, map, replicate, slice_get, slice_set, Some, None};
+ghost use Rattle.std.specs.Simd.Lanes.{zip2, sel_l};
+ghost use Rattle.isp_base.specs.Values.{op_bits, compare_bits};
+ghost use Rattle.isp_base.specs.Unary.{unary_bits};
+ghost use Rattle.isp_lanes.specs.Lanes.{first_zero, is_on};
+ghost use Rattle.isp_base.specs.Cells.{cell_width};
+ghost use Rattle.isp_lanes.specs.Held.{held, held_width, IsRow};
+
+use crate::mask::LaneMask;
+use crate::words::Words;
+use crate::{kernels, masked};
+use isp_base::{BinOp, Compare, Elem, UnaryOp};
+use std::simd::prelude::*;
+
+// N words of 8, 16, 32 or 64 bits.
+#[derive(Clone, Copy, Debug)]
+pub(crate) enum Row<const N: usize> {
+    W8([u8; N]),
+    W16([u16; N]),
+    W32([u32; N]),
+    W64([u64; N]),
+}
+
+impl<const N: usize> Row<N> {
+    // Zeros, in words of the width that the type takes.
+    pub(crate) fn zero(elem: Elem) -> Self
+        ensures zero { held result ≡ replicate N 0 }
+        ensures wide { held_width result ≡ cell_width elem }
+    {
+        match elem {
+            Elem::Bool | Elem::I8 | Elem::U8 => Row::W8([0; N]),
+            Elem::I16 | Elem::U16 => Row::W16([0; N]),
+            Elem::I32 | Elem::U32 => Row::W32([0; N]),
+            Elem::I64 | Elem::U64 => Row::W64([0; N]),
+        }
+    }
+
+    // One word.
+    pub(crate) fn get(&self, lane: usize) -> u64
+        requires there { lane < N }
+        requires long { length (held self.now) ≡ N }
+        ensures { slice_get (held self.now) lane ≡ Some result }
+    {
+        match self {
+            Row::W8(words) => words[lane] as u64,
+            Row::W16(words) => words[lane] as u64,
+            Row::W32(words) => words[lane] as u64,
+            Row::W64(words) => words[lane],
+        }
+    }
+
+    // Writes one word.
+    pub(crate) fn set(&mut self, lane: usize, word: u64)
+        requires there { lane < N }
+        requires fits { word < 2 ^ held_width self.old }
+        ensures words { held self.new ≡ slice_set (held self.old) lane word }
+        ensures wide { held_width self.new ≡ held_width self.old }
+    {
+        match self {
+            Row::W8(words) => words[lane] = word as u8,
+            Row::W16(words) => words[lane] = word as u16,
+            Row::W32(words) => words[lane] = word as u32,
+            Row::W64(words) => words[lane] = word,
+        }
+    }
+}
+
+// The operators, under a mask.
+impl<const N: usize> Row<N> {
+    // The operator on one row.
+    pub(crate) fn unary(&mut self, op: UnaryOp, elem: Elem, x: &Self, mask: &LaneMask<N>)
+        requires x_row { IsRow N (held_width x.now) elem (held x.now) }
+        requires same { held_width self.old ≡ held_width x.now }
+        ensures words { held self.new ≡ sel_l mask.now (map (unary_bits op elem) (held x.now)) (held self.old) }
+        ensures wide { held_width self.new ≡ held_width self.old }
+    {
+        match (self, x) {
+            (Row::W8(old), Row::W8(x)) => {
+                *old = masked::unary(
+                    op,
+                    elem,
+                    Simd::from_array(*x),
+                    mask,
+                    Simd::from_array(*old),
+                ).to_array();
+            }
+            (Row::W16(old), Row::W16(x)) => {
+                *old = masked::unary(
+                    op,
+                    elem,
+                    Simd::from_array(*x),
+                    mask,
+                    Simd::from_array(*old),
+                ).to_array();
+            }
+            (Row::W32(old), Row::W32(x)) => {
+                *old = masked::unary(
+                    op,
+                    elem,
+                    Simd::from_array(*x),
+                    mask,
+                    Simd::from_array(*old),
+                ).to_array();
+            }
+            (Row::W64(old), Row::W64(x)) => {
+                *old = masked::unary(
+                    op,
+                    elem,
+                    Simd::from_array(*x),
+                    mask,
+                    Simd::from_array(*old),
+                ).to_array();
+            }
+            _ => unreachable!(),
+        }
+    }
+
+    // The lowest lane of the mask that would divide by zero.
+    pub(crate) fn fault(&self, op: BinOp, mask: &LaneMask<N>) -> Option<usize>
+        requires { length (held self.now) ≡ N }
+        ensures { result ≡ first_zero op mask.now (held self.now) }
+    {
+        match self {
+            Row::W8(words) => masked::fault(op, Simd::from_array(*words), mask),
+            Row::W16(words) => masked::fault(op, Simd::from_array(*words), mask),
+            Row::W32(words) => masked::fault(op, Simd::from_array(*words), mask),
+            Row::W64(words) => masked::fault(op, Simd::from_array(*words), mask),
+        }
+    }
+
+    // The operator on two rows, where no lane of the mask divides by zero.
+    pub(crate) fn binary(&mut self, op: BinOp, elem: Elem, x: &Self, y: &Self, mask: &LaneMask<N>)
+        requires x_row { IsRow N (held_width x.now) elem (held x.now) }
+        requires y_row { IsRow N (held_width y.now) elem (held y.now) }
+        requires same { held_width self.old ≡ held_width x.now }
+        requires divided { first_zero op mask.now (held y.now) ≡ None }
+        ensures words { held self.new ≡ sel_l mask.now (zip2 (op_bits op elem) (held x.now) (held y.now)) (held self.old) }
+        ensures wide { held_width self.new ≡ held_width self.old }
+    {
+        match (self, x, y) {
+            (Row::W8(old), Row::W8(x), Row::W8(y)) => {
+                *old = masked::binary(
+                    op,
+                    elem,
+                    Simd::from_array(*x),
+                    Simd::from_array(*y),
+                    mask,
+                    Simd::from_array(*old),
+                )
+                .to_array();
+            }
+            (Row::W16(old), Row::W16(x), Row::W16(y)) => {
+                *old = masked::binary(
+                    op,
+                    elem,
+                    Simd::from_array(*x),
+                    Simd::from_array(*y),
+                    mask,
+                    Simd::from_array(*old),
+                )
+                .to_array();
+            }
+            (Row::W32(old), Row::W32(x), Row::W32(y)) => {
+                *old = masked::binary(
+                    op,
+                    elem,
+                    Simd::from_array(*x),
+                    Simd::from_array(*y),
+                    mask,
+                    Simd::from_array(*old),
+                )
+                .to_array();
+            }
+            (Row::W64(old), Row::W64(x), Row::W64(y)) => {
+                *old = masked::binary(
+                    op,
+                    elem,
+                    Simd::from_array(*x),
+                    Simd::from_array(*y),
+                    mask,
+                    Simd::from_array(*old),
+                )
+                .to_array();
+            }
+            _ => unreachable!(),
+        }
+    }
+
+    // 1 in the lanes where the comparison holds, and 0 in the others.
+    pub(crate) fn compared(&self, compare: Compare, elem: Elem, y: &Self) -> [u8; N]
+        requires x_row { IsRow N (held_width self.now) elem (held self.now) }
+        requires y_row { IsRow N (held_width y.now) elem (held y.now) }
+        ensures { result ≡ zip2 (compare_bits compare elem) (held self.now) (held y.now) }
+    {
+        match (self, y) {
+            (Row::W8(x), Row::W8(y)) => kernels::compare(
+                compare,
+                elem,
+                Simd::from_array(*x),
+                Simd::from_array(*y),
+            ),
+            (Row::W16(x), Row::W16(y)) => kernels::compare(
+                compare,
+                elem,
+                Simd::from_array(*x),
+                Simd::from_array(*y),
+            ),
+            (Row::W32(x), Row::W32(y)) => kernels::compare(
+                compare,
+                elem,
+                Simd::from_array(*x),
+                Simd::from_array(*y),
+            ),
+            (Row::W64(x), Row::W64(y)) => kernels::compare(
+                compare,
+                elem,
+                Simd::from_array(*x),
+                Simd::from_array(*y),
+            ),
+            _ => unreachable!(),
+        }
+    }
+
+    // The lanes of x where a test's byte is not 0, and of y where it is.
+    pub(crate) fn select(&mut self, test: &[u8; N], x: &Self, y: &Self, mask: &LaneMask<N>)
+        requires x_same { held_width self.old ≡ held_width x.now }
+        requires y_same { held_width self.old ≡ held_width y.now }
+        ensures words { held self.new ≡ sel_l mask.now (sel_l (map is_on test.now) (held x.now) (held y.now)) (held self.old) }
+        ensures wide { held_width self.new ≡ held_width self.old }
+    {
+        match (self, x, y) {
+            (Row::W8(old), Row::W8(x), Row::W8(y)) => {
+                *old = masked::select(
+                    test,
+                    Simd::from_array(*x),
+                    Simd::from_array(*y),
+                    mask,
+                    Simd::from_array(*old),
+                )
+                .to_array();
+            }
+            (Row::W16(old), Row::W16(x), Row::W16(y)) => {
+                *old = masked::select(
+                    test,
+                    Simd::from_array(*x),
+                    Simd::from_array(*y),
+                    mask,
+                    Simd::from_array(*old),
+                )
+                .to_array();
+            }
+            (Row::W32(old), Row::W32(x), Row::W32(y)) => {
+                *old = masked::select(
+                    test,
+                    Simd::from_array(*x),
+                    Simd::from_array(*y),
+                    mask,
+                    Simd::from_array(*old),
+                )
+                .to_array();
+            }
+            (Row::W64(old), Row::W64(x), Row::W64(y)) => {
+                *old = masked::select(
+                    test,
+                    Simd::from_array(*x),
+                    Simd::from_array(*y),
+                    mask,
+                    Simd::from_array(*old),
+                )
+                .to_array();
+            }
+            _ => unreachable!(),
+        }
+    }
+
+    // The lanes of another row.
+    pub(crate) fn copy(&mut self, x: &Self, mask: &LaneMask<N>)
+        requires { held_width self.old ≡ held_width x.now }
+        ensures words { held self.new ≡ sel_l mask.now (held x.now) (held self.old) }
+        ensures wide { held_width self.new ≡ held_width self.old }
+    {
+        match (self, x) {
+            (Row::W8(old), Row::W8(x)) => {
+                *old = mask
+                    .merge(Simd::from_array(*x), Simd::from_array(*old))
+                    .to_array();
+            }
+            (Row::W16(old), Row::W16(x)) => {
+                *old = mask
+                    .merge(Simd::from_array(*x), Simd::from_array(*old))
+                    .to_array();
+            }
+            (Row::W32(old), Row::W32(x)) => {
+                *old = mask
+                    .merge(Simd::from_array(*x), Simd::from_array(*old))
+                    .to_array();
+            }
+            (Row::W64(old), Row::W64(x)) => {
+                *old = mask
+                    .merge(Simd::from_array(*x), Simd::from_array(*old))
+                    .to_array();
+            }
+            _ => unreachable!(),
+        }
+    }
+
+    // One word.
+    pub(crate) fn splat(&mut self, word: u64, mask: &LaneMask<N>)
+        requires { word < 2 ^ held_width self.old }
+        ensures words { held self.new ≡ sel_l mask.now (replicate N word) (held self.old) }
+        ensures wide { held_width self.new ≡ held_width self.old }
+    {
+        match self {
+            Row::W8(old) => *old = masked::splat(word, mask, Simd::from_array(*old)).to_array(),
+            Row::W16(old) => *old = masked::splat(word, mask, Simd::from_array(*old)).to_array(),
+            Row::W32(old) => *old = masked::splat(word, mask, Simd::from_array(*old)).to_array(),
+            Row::W64(old) => *old = masked::splat(word, mask, Simd::from_array(*old)).to_array(),
+        }
+    }
+
+    // The words, of 64 bits.
+    pub(crate) fn wide(&self) -> [u64; N]
+        ensures { result ≡ held self.now }
+    {
+        match self {
+            Row::W8(words) => Simd::from_array(*words).wide(),
+            Row::W16(words) => Simd::from_array(*words).wide(),
+            Row::W32(words) => Simd::from_array(*words).wide(),
+            Row::W64(words) => Simd::from_array(*words).wide(),
+        }
+    }
+
+    // Words of 64 bits, which fit.
+    pub(crate) fn keep(&mut self, wide: &[u64; N], mask: &LaneMask<N>)
+        requires { (k : ℕ) → slice_index wide.now k < 2 ^ held_width self.old }
+        ensures words { held self.new ≡ sel_l mask.now wide.now (held self.old) }
+        ensures wide { held_width self.new ≡ held_width self.old }
+    {
+        match self {
+            Row::W8(old) => *old = masked::keep(wide, mask, Simd::from_array(*old)).to_array(),
+            Row::W16(old) => *old = masked::keep(wide, mask, Simd::from_array(*old)).to_array(),
+            Row::W32(old) => *old = masked::keep(wide, mask, Simd::from_array(*old)).to_array(),
+            Row::W64(old) => *old = masked::keep(wide, mask, Simd::from_array(*old)).to_array(),
+        }
+    }
+
+    // The words, of 8 bits.
+    pub(crate) fn bytes(&self) -> [u8; N]
+        requires { held_width self.now ≡ 8 }
+        ensures { result ≡ held self.now }
+    {
+        match self {
+            Row::W8(words) => *words,
+            _ => unreachable!(),
+        }
+    }
+
+    // Words of 8 bits.
+    pub(crate) fn keep_bytes(&mut self, bytes: &[u8; N], mask: &LaneMask<N>)
+        requires { held_width self.old ≡ 8 }
+        ensures words { held self.new ≡ sel_l mask.now bytes.now (held self.old) }
+        ensures wide { held_width self.new ≡ held_width self.old }
+    {
+        match self {
+            Row::W8(old) => *old = mask
+                .merge(Simd::from_array(*bytes), Simd::from_array(*old))
+                .to_array(),
+            _ => unreachable!(),
+        }
+    }
+}
