@@ -12,6 +12,7 @@ the top of the repository:
 # The registers of the function that the tests use: class, number, type.
 #   s0 i32 (a parameter), s1 i32, s2 bool, s3 i64, s4 u8;  v0 i32, v1 i32, v2 bool, v3 i64, v4 u8;  m0, m1
 #   a0 i32 (a parameter), a1 i32 (shared), a2 i32 (of each lane), a3 u8 (shared);  p0;  t0;  two instructions
+FIVE = "(Five, Register, Register, Register, Register"
 OTHER_CLASS = {"s": "v", "v": "s", "m": "s", "a": "s"}
 
 
@@ -119,7 +120,7 @@ def five():
     fine, wrong = [], []
     for name, line, kinds in LINES["five"]:
         def row(ops):
-            return f"Five::{name}, [{', '.join(operand(w) for w in ops[:4])}], {operand(ops[4])}"
+            return f"Five::{name}, {', '.join(operand(w) for w in ops)}"
         fine.append(f"({row(words(line))})")
         for ops, rule in wrongs("five", name, line, kinds):
             wrong.append(f"({row(ops)}, Rule::{rule})")
@@ -178,8 +179,8 @@ pub enum Five {
         out += static(f"WRONG_{group.upper()}S", f"(Register, {kind}, Rule)", wrong, f"What is wrong of {group} instructions.")
     fine, wrong = five()
     total += len(wrong)
-    out += static("FIVES", "(Five, [Register; 4], u32)", fine, "What is right of the others of four registers and a place.")
-    out += static("WRONG_FIVES", "(Five, [Register; 4], u32, Rule)", wrong, "What is wrong of them.")
+    out += static("FIVES", FIVE + ", u32)", fine, "What is right of the others of four registers and a place.")
+    out += static("WRONG_FIVES", FIVE + ", u32, Rule)", wrong, "What is wrong of them.")
     with open("crates/isp_rows/src/codes/table.rt", "w") as file:
         file.write(out.rstrip() + "\n")
     print(total, "wrong instructions")

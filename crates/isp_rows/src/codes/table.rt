@@ -11,26 +11,105 @@ pub enum Five {
     Scatter,
 }
 
-const S0: Register = Register { class: Class::Scalar, number: 0 };
-const S1: Register = Register { class: Class::Scalar, number: 1 };
-const S2: Register = Register { class: Class::Scalar, number: 2 };
-const S3: Register = Register { class: Class::Scalar, number: 3 };
-const S4: Register = Register { class: Class::Scalar, number: 4 };
-const S9: Register = Register { class: Class::Scalar, number: 9 };
-const V0: Register = Register { class: Class::Vector, number: 0 };
-const V1: Register = Register { class: Class::Vector, number: 1 };
-const V2: Register = Register { class: Class::Vector, number: 2 };
-const V3: Register = Register { class: Class::Vector, number: 3 };
-const V4: Register = Register { class: Class::Vector, number: 4 };
-const V9: Register = Register { class: Class::Vector, number: 9 };
-const M0: Register = Register { class: Class::Mask, number: 0 };
-const M1: Register = Register { class: Class::Mask, number: 1 };
-const M9: Register = Register { class: Class::Mask, number: 9 };
-const A0: Register = Register { class: Class::Array, number: 0 };
-const A1: Register = Register { class: Class::Array, number: 1 };
-const A2: Register = Register { class: Class::Array, number: 2 };
-const A3: Register = Register { class: Class::Array, number: 3 };
-const A9: Register = Register { class: Class::Array, number: 9 };
+const S0: Register = Register {
+    class: Class::Scalar,
+    number: 0,
+};
+
+const S1: Register = Register {
+    class: Class::Scalar,
+    number: 1,
+};
+
+const S2: Register = Register {
+    class: Class::Scalar,
+    number: 2,
+};
+
+const S3: Register = Register {
+    class: Class::Scalar,
+    number: 3,
+};
+
+const S4: Register = Register {
+    class: Class::Scalar,
+    number: 4,
+};
+
+const S9: Register = Register {
+    class: Class::Scalar,
+    number: 9,
+};
+
+const V0: Register = Register {
+    class: Class::Vector,
+    number: 0,
+};
+
+const V1: Register = Register {
+    class: Class::Vector,
+    number: 1,
+};
+
+const V2: Register = Register {
+    class: Class::Vector,
+    number: 2,
+};
+
+const V3: Register = Register {
+    class: Class::Vector,
+    number: 3,
+};
+
+const V4: Register = Register {
+    class: Class::Vector,
+    number: 4,
+};
+
+const V9: Register = Register {
+    class: Class::Vector,
+    number: 9,
+};
+
+const M0: Register = Register {
+    class: Class::Mask,
+    number: 0,
+};
+
+const M1: Register = Register {
+    class: Class::Mask,
+    number: 1,
+};
+
+const M9: Register = Register {
+    class: Class::Mask,
+    number: 9,
+};
+
+const A0: Register = Register {
+    class: Class::Array,
+    number: 0,
+};
+
+const A1: Register = Register {
+    class: Class::Array,
+    number: 1,
+};
+
+const A2: Register = Register {
+    class: Class::Array,
+    number: 2,
+};
+
+const A3: Register = Register {
+    class: Class::Array,
+    number: 3,
+};
+
+const A9: Register = Register {
+    class: Class::Array,
+    number: 9,
+};
 
 /// What is right of scalar instructions.
 pub static SCALARS: [(Register, ScalarInstr); 21] = [
@@ -69,22 +148,46 @@ pub static WRONG_SCALARS: [(Register, ScalarInstr, Rule); 105] = [
     (V0, ScalarInstr::Convert(S3), Rule::BadKind),
     (S0, ScalarInstr::Convert(S9), Rule::BadRegister),
     (S0, ScalarInstr::Convert(V0), Rule::BadKind),
-    (S9, ScalarInstr::Unary(UnaryOp::Negate, S1), Rule::BadRegister),
+    (
+        S9,
+        ScalarInstr::Unary(UnaryOp::Negate, S1),
+        Rule::BadRegister,
+    ),
     (V0, ScalarInstr::Unary(UnaryOp::Negate, S1), Rule::BadKind),
     (S2, ScalarInstr::Unary(UnaryOp::Negate, S1), Rule::BadKind),
-    (S0, ScalarInstr::Unary(UnaryOp::Negate, S9), Rule::BadRegister),
+    (
+        S0,
+        ScalarInstr::Unary(UnaryOp::Negate, S9),
+        Rule::BadRegister,
+    ),
     (S0, ScalarInstr::Unary(UnaryOp::Negate, V0), Rule::BadKind),
     (S0, ScalarInstr::Unary(UnaryOp::Negate, S3), Rule::BadKind),
-    (S9, ScalarInstr::Unary(UnaryOp::Invert, S4), Rule::BadRegister),
+    (
+        S9,
+        ScalarInstr::Unary(UnaryOp::Invert, S4),
+        Rule::BadRegister,
+    ),
     (V0, ScalarInstr::Unary(UnaryOp::Invert, S4), Rule::BadKind),
     (S2, ScalarInstr::Unary(UnaryOp::Invert, S4), Rule::BadKind),
-    (S4, ScalarInstr::Unary(UnaryOp::Invert, S9), Rule::BadRegister),
+    (
+        S4,
+        ScalarInstr::Unary(UnaryOp::Invert, S9),
+        Rule::BadRegister,
+    ),
     (S4, ScalarInstr::Unary(UnaryOp::Invert, V0), Rule::BadKind),
     (S4, ScalarInstr::Unary(UnaryOp::Invert, S0), Rule::BadKind),
-    (S9, ScalarInstr::Unary(UnaryOp::Absolute, S3), Rule::BadRegister),
+    (
+        S9,
+        ScalarInstr::Unary(UnaryOp::Absolute, S3),
+        Rule::BadRegister,
+    ),
     (V0, ScalarInstr::Unary(UnaryOp::Absolute, S3), Rule::BadKind),
     (S2, ScalarInstr::Unary(UnaryOp::Absolute, S3), Rule::BadKind),
-    (S3, ScalarInstr::Unary(UnaryOp::Absolute, S9), Rule::BadRegister),
+    (
+        S3,
+        ScalarInstr::Unary(UnaryOp::Absolute, S9),
+        Rule::BadRegister,
+    ),
     (S3, ScalarInstr::Unary(UnaryOp::Absolute, V0), Rule::BadKind),
     (S3, ScalarInstr::Unary(UnaryOp::Absolute, S0), Rule::BadKind),
     (S9, ScalarInstr::Unary(UnaryOp::Not, S2), Rule::BadRegister),
@@ -93,40 +196,128 @@ pub static WRONG_SCALARS: [(Register, ScalarInstr, Rule); 105] = [
     (S2, ScalarInstr::Unary(UnaryOp::Not, S9), Rule::BadRegister),
     (S2, ScalarInstr::Unary(UnaryOp::Not, V0), Rule::BadKind),
     (S2, ScalarInstr::Unary(UnaryOp::Not, S0), Rule::BadKind),
-    (S9, ScalarInstr::Binary(Plain::Add, S1, S0), Rule::BadRegister),
+    (
+        S9,
+        ScalarInstr::Binary(Plain::Add, S1, S0),
+        Rule::BadRegister,
+    ),
     (V0, ScalarInstr::Binary(Plain::Add, S1, S0), Rule::BadKind),
     (S2, ScalarInstr::Binary(Plain::Add, S1, S0), Rule::BadKind),
-    (S0, ScalarInstr::Binary(Plain::Add, S9, S0), Rule::BadRegister),
+    (
+        S0,
+        ScalarInstr::Binary(Plain::Add, S9, S0),
+        Rule::BadRegister,
+    ),
     (S0, ScalarInstr::Binary(Plain::Add, V0, S0), Rule::BadKind),
     (S0, ScalarInstr::Binary(Plain::Add, S3, S0), Rule::BadKind),
-    (S0, ScalarInstr::Binary(Plain::Add, S1, S9), Rule::BadRegister),
+    (
+        S0,
+        ScalarInstr::Binary(Plain::Add, S1, S9),
+        Rule::BadRegister,
+    ),
     (S0, ScalarInstr::Binary(Plain::Add, S1, V0), Rule::BadKind),
     (S0, ScalarInstr::Binary(Plain::Add, S1, S3), Rule::BadKind),
-    (S9, ScalarInstr::Binary(Plain::Max, S4, S4), Rule::BadRegister),
+    (
+        S9,
+        ScalarInstr::Binary(Plain::Max, S4, S4),
+        Rule::BadRegister,
+    ),
     (V0, ScalarInstr::Binary(Plain::Max, S4, S4), Rule::BadKind),
     (S2, ScalarInstr::Binary(Plain::Max, S4, S4), Rule::BadKind),
-    (S4, ScalarInstr::Binary(Plain::Max, S9, S4), Rule::BadRegister),
+    (
+        S4,
+        ScalarInstr::Binary(Plain::Max, S9, S4),
+        Rule::BadRegister,
+    ),
     (S4, ScalarInstr::Binary(Plain::Max, V0, S4), Rule::BadKind),
     (S4, ScalarInstr::Binary(Plain::Max, S3, S4), Rule::BadKind),
-    (S4, ScalarInstr::Binary(Plain::Max, S4, S9), Rule::BadRegister),
+    (
+        S4,
+        ScalarInstr::Binary(Plain::Max, S4, S9),
+        Rule::BadRegister,
+    ),
     (S4, ScalarInstr::Binary(Plain::Max, S4, V0), Rule::BadKind),
     (S4, ScalarInstr::Binary(Plain::Max, S4, S3), Rule::BadKind),
-    (S9, ScalarInstr::Compare(Compare::Equal, S0, S1), Rule::BadRegister),
-    (V0, ScalarInstr::Compare(Compare::Equal, S0, S1), Rule::BadKind),
-    (S0, ScalarInstr::Compare(Compare::Equal, S0, S1), Rule::BadKind),
-    (S2, ScalarInstr::Compare(Compare::Equal, S9, S1), Rule::BadRegister),
-    (S2, ScalarInstr::Compare(Compare::Equal, V0, S1), Rule::BadKind),
-    (S2, ScalarInstr::Compare(Compare::Equal, S0, S9), Rule::BadRegister),
-    (S2, ScalarInstr::Compare(Compare::Equal, S0, V0), Rule::BadKind),
-    (S2, ScalarInstr::Compare(Compare::Equal, S0, S3), Rule::BadKind),
-    (S9, ScalarInstr::Compare(Compare::Less, S2, S2), Rule::BadRegister),
-    (V0, ScalarInstr::Compare(Compare::Less, S2, S2), Rule::BadKind),
-    (S4, ScalarInstr::Compare(Compare::Less, S2, S2), Rule::BadKind),
-    (S2, ScalarInstr::Compare(Compare::Less, S9, S2), Rule::BadRegister),
-    (S2, ScalarInstr::Compare(Compare::Less, V0, S2), Rule::BadKind),
-    (S2, ScalarInstr::Compare(Compare::Less, S2, S9), Rule::BadRegister),
-    (S2, ScalarInstr::Compare(Compare::Less, S2, V0), Rule::BadKind),
-    (S2, ScalarInstr::Compare(Compare::Less, S2, S3), Rule::BadKind),
+    (
+        S9,
+        ScalarInstr::Compare(Compare::Equal, S0, S1),
+        Rule::BadRegister,
+    ),
+    (
+        V0,
+        ScalarInstr::Compare(Compare::Equal, S0, S1),
+        Rule::BadKind,
+    ),
+    (
+        S0,
+        ScalarInstr::Compare(Compare::Equal, S0, S1),
+        Rule::BadKind,
+    ),
+    (
+        S2,
+        ScalarInstr::Compare(Compare::Equal, S9, S1),
+        Rule::BadRegister,
+    ),
+    (
+        S2,
+        ScalarInstr::Compare(Compare::Equal, V0, S1),
+        Rule::BadKind,
+    ),
+    (
+        S2,
+        ScalarInstr::Compare(Compare::Equal, S0, S9),
+        Rule::BadRegister,
+    ),
+    (
+        S2,
+        ScalarInstr::Compare(Compare::Equal, S0, V0),
+        Rule::BadKind,
+    ),
+    (
+        S2,
+        ScalarInstr::Compare(Compare::Equal, S0, S3),
+        Rule::BadKind,
+    ),
+    (
+        S9,
+        ScalarInstr::Compare(Compare::Less, S2, S2),
+        Rule::BadRegister,
+    ),
+    (
+        V0,
+        ScalarInstr::Compare(Compare::Less, S2, S2),
+        Rule::BadKind,
+    ),
+    (
+        S4,
+        ScalarInstr::Compare(Compare::Less, S2, S2),
+        Rule::BadKind,
+    ),
+    (
+        S2,
+        ScalarInstr::Compare(Compare::Less, S9, S2),
+        Rule::BadRegister,
+    ),
+    (
+        S2,
+        ScalarInstr::Compare(Compare::Less, V0, S2),
+        Rule::BadKind,
+    ),
+    (
+        S2,
+        ScalarInstr::Compare(Compare::Less, S2, S9),
+        Rule::BadRegister,
+    ),
+    (
+        S2,
+        ScalarInstr::Compare(Compare::Less, S2, V0),
+        Rule::BadKind,
+    ),
+    (
+        S2,
+        ScalarInstr::Compare(Compare::Less, S2, S3),
+        Rule::BadKind,
+    ),
     (S9, ScalarInstr::Select(S2, S1, S0), Rule::BadRegister),
     (V0, ScalarInstr::Select(S2, S1, S0), Rule::BadKind),
     (S0, ScalarInstr::Select(S9, S1, S0), Rule::BadRegister),
@@ -159,7 +350,11 @@ pub static WRONG_SCALARS: [(Register, ScalarInstr, Rule); 105] = [
     (S2, ScalarInstr::Constant(2), Rule::BadKind),
     (S0, ScalarInstr::Constant(-2147483649), Rule::BadKind),
     (S0, ScalarInstr::Constant(2147483648), Rule::BadKind),
-    (S3, ScalarInstr::Constant(9223372036854775808), Rule::BadKind),
+    (
+        S3,
+        ScalarInstr::Constant(9223372036854775808),
+        Rule::BadKind,
+    ),
     (S4, ScalarInstr::Constant(-1), Rule::BadKind),
     (S4, ScalarInstr::Constant(256), Rule::BadKind),
     (S9, ScalarInstr::Constant(0), Rule::BadRegister),
@@ -173,7 +368,10 @@ pub static VECTORS: [(Register, VectorInstr); 10] = [
     (V0, VectorInstr::Unary(UnaryOp::Negate, V1, M0)),
     (V2, VectorInstr::Unary(UnaryOp::Not, V2, M0)),
     (V0, VectorInstr::Binary(Plain::Sub, V1, V0, M0)),
-    (V2, VectorInstr::Compare(Compare::GreaterOrEqual, V0, V1, M0)),
+    (
+        V2,
+        VectorInstr::Compare(Compare::GreaterOrEqual, V0, V1, M0),
+    ),
     (V0, VectorInstr::Select(V2, V1, V0, M0)),
     (V0, VectorInstr::Splat(S1, M0)),
     (V0, VectorInstr::Index(M0)),
@@ -196,43 +394,171 @@ pub static WRONG_VECTORS: [(Register, VectorInstr, Rule); 87] = [
     (V0, VectorInstr::Convert(S0, M1), Rule::BadKind),
     (V0, VectorInstr::Convert(V3, M9), Rule::BadRegister),
     (V0, VectorInstr::Convert(V3, S0), Rule::BadKind),
-    (V9, VectorInstr::Unary(UnaryOp::Negate, V1, M0), Rule::BadRegister),
-    (S0, VectorInstr::Unary(UnaryOp::Negate, V1, M0), Rule::BadKind),
-    (V2, VectorInstr::Unary(UnaryOp::Negate, V1, M0), Rule::BadKind),
-    (V0, VectorInstr::Unary(UnaryOp::Negate, V9, M0), Rule::BadRegister),
-    (V0, VectorInstr::Unary(UnaryOp::Negate, S0, M0), Rule::BadKind),
-    (V0, VectorInstr::Unary(UnaryOp::Negate, V3, M0), Rule::BadKind),
-    (V0, VectorInstr::Unary(UnaryOp::Negate, V1, M9), Rule::BadRegister),
-    (V0, VectorInstr::Unary(UnaryOp::Negate, V1, S0), Rule::BadKind),
-    (V9, VectorInstr::Unary(UnaryOp::Not, V2, M0), Rule::BadRegister),
+    (
+        V9,
+        VectorInstr::Unary(UnaryOp::Negate, V1, M0),
+        Rule::BadRegister,
+    ),
+    (
+        S0,
+        VectorInstr::Unary(UnaryOp::Negate, V1, M0),
+        Rule::BadKind,
+    ),
+    (
+        V2,
+        VectorInstr::Unary(UnaryOp::Negate, V1, M0),
+        Rule::BadKind,
+    ),
+    (
+        V0,
+        VectorInstr::Unary(UnaryOp::Negate, V9, M0),
+        Rule::BadRegister,
+    ),
+    (
+        V0,
+        VectorInstr::Unary(UnaryOp::Negate, S0, M0),
+        Rule::BadKind,
+    ),
+    (
+        V0,
+        VectorInstr::Unary(UnaryOp::Negate, V3, M0),
+        Rule::BadKind,
+    ),
+    (
+        V0,
+        VectorInstr::Unary(UnaryOp::Negate, V1, M9),
+        Rule::BadRegister,
+    ),
+    (
+        V0,
+        VectorInstr::Unary(UnaryOp::Negate, V1, S0),
+        Rule::BadKind,
+    ),
+    (
+        V9,
+        VectorInstr::Unary(UnaryOp::Not, V2, M0),
+        Rule::BadRegister,
+    ),
     (S0, VectorInstr::Unary(UnaryOp::Not, V2, M0), Rule::BadKind),
     (V0, VectorInstr::Unary(UnaryOp::Not, V2, M0), Rule::BadKind),
-    (V2, VectorInstr::Unary(UnaryOp::Not, V9, M0), Rule::BadRegister),
+    (
+        V2,
+        VectorInstr::Unary(UnaryOp::Not, V9, M0),
+        Rule::BadRegister,
+    ),
     (V2, VectorInstr::Unary(UnaryOp::Not, S0, M0), Rule::BadKind),
     (V2, VectorInstr::Unary(UnaryOp::Not, V0, M0), Rule::BadKind),
-    (V2, VectorInstr::Unary(UnaryOp::Not, V2, M9), Rule::BadRegister),
+    (
+        V2,
+        VectorInstr::Unary(UnaryOp::Not, V2, M9),
+        Rule::BadRegister,
+    ),
     (V2, VectorInstr::Unary(UnaryOp::Not, V2, S0), Rule::BadKind),
-    (V9, VectorInstr::Binary(Plain::Sub, V1, V0, M0), Rule::BadRegister),
-    (S0, VectorInstr::Binary(Plain::Sub, V1, V0, M0), Rule::BadKind),
-    (V2, VectorInstr::Binary(Plain::Sub, V1, V0, M0), Rule::BadKind),
-    (V0, VectorInstr::Binary(Plain::Sub, V9, V0, M0), Rule::BadRegister),
-    (V0, VectorInstr::Binary(Plain::Sub, S0, V0, M0), Rule::BadKind),
-    (V0, VectorInstr::Binary(Plain::Sub, V3, V0, M0), Rule::BadKind),
-    (V0, VectorInstr::Binary(Plain::Sub, V1, V9, M0), Rule::BadRegister),
-    (V0, VectorInstr::Binary(Plain::Sub, V1, S0, M0), Rule::BadKind),
-    (V0, VectorInstr::Binary(Plain::Sub, V1, V3, M0), Rule::BadKind),
-    (V0, VectorInstr::Binary(Plain::Sub, V1, V0, M9), Rule::BadRegister),
-    (V0, VectorInstr::Binary(Plain::Sub, V1, V0, S0), Rule::BadKind),
-    (V9, VectorInstr::Compare(Compare::GreaterOrEqual, V0, V1, M0), Rule::BadRegister),
-    (S0, VectorInstr::Compare(Compare::GreaterOrEqual, V0, V1, M0), Rule::BadKind),
-    (V0, VectorInstr::Compare(Compare::GreaterOrEqual, V0, V1, M0), Rule::BadKind),
-    (V2, VectorInstr::Compare(Compare::GreaterOrEqual, V9, V1, M0), Rule::BadRegister),
-    (V2, VectorInstr::Compare(Compare::GreaterOrEqual, S0, V1, M0), Rule::BadKind),
-    (V2, VectorInstr::Compare(Compare::GreaterOrEqual, V0, V9, M0), Rule::BadRegister),
-    (V2, VectorInstr::Compare(Compare::GreaterOrEqual, V0, S0, M0), Rule::BadKind),
-    (V2, VectorInstr::Compare(Compare::GreaterOrEqual, V0, V3, M0), Rule::BadKind),
-    (V2, VectorInstr::Compare(Compare::GreaterOrEqual, V0, V1, M9), Rule::BadRegister),
-    (V2, VectorInstr::Compare(Compare::GreaterOrEqual, V0, V1, S0), Rule::BadKind),
+    (
+        V9,
+        VectorInstr::Binary(Plain::Sub, V1, V0, M0),
+        Rule::BadRegister,
+    ),
+    (
+        S0,
+        VectorInstr::Binary(Plain::Sub, V1, V0, M0),
+        Rule::BadKind,
+    ),
+    (
+        V2,
+        VectorInstr::Binary(Plain::Sub, V1, V0, M0),
+        Rule::BadKind,
+    ),
+    (
+        V0,
+        VectorInstr::Binary(Plain::Sub, V9, V0, M0),
+        Rule::BadRegister,
+    ),
+    (
+        V0,
+        VectorInstr::Binary(Plain::Sub, S0, V0, M0),
+        Rule::BadKind,
+    ),
+    (
+        V0,
+        VectorInstr::Binary(Plain::Sub, V3, V0, M0),
+        Rule::BadKind,
+    ),
+    (
+        V0,
+        VectorInstr::Binary(Plain::Sub, V1, V9, M0),
+        Rule::BadRegister,
+    ),
+    (
+        V0,
+        VectorInstr::Binary(Plain::Sub, V1, S0, M0),
+        Rule::BadKind,
+    ),
+    (
+        V0,
+        VectorInstr::Binary(Plain::Sub, V1, V3, M0),
+        Rule::BadKind,
+    ),
+    (
+        V0,
+        VectorInstr::Binary(Plain::Sub, V1, V0, M9),
+        Rule::BadRegister,
+    ),
+    (
+        V0,
+        VectorInstr::Binary(Plain::Sub, V1, V0, S0),
+        Rule::BadKind,
+    ),
+    (
+        V9,
+        VectorInstr::Compare(Compare::GreaterOrEqual, V0, V1, M0),
+        Rule::BadRegister,
+    ),
+    (
+        S0,
+        VectorInstr::Compare(Compare::GreaterOrEqual, V0, V1, M0),
+        Rule::BadKind,
+    ),
+    (
+        V0,
+        VectorInstr::Compare(Compare::GreaterOrEqual, V0, V1, M0),
+        Rule::BadKind,
+    ),
+    (
+        V2,
+        VectorInstr::Compare(Compare::GreaterOrEqual, V9, V1, M0),
+        Rule::BadRegister,
+    ),
+    (
+        V2,
+        VectorInstr::Compare(Compare::GreaterOrEqual, S0, V1, M0),
+        Rule::BadKind,
+    ),
+    (
+        V2,
+        VectorInstr::Compare(Compare::GreaterOrEqual, V0, V9, M0),
+        Rule::BadRegister,
+    ),
+    (
+        V2,
+        VectorInstr::Compare(Compare::GreaterOrEqual, V0, S0, M0),
+        Rule::BadKind,
+    ),
+    (
+        V2,
+        VectorInstr::Compare(Compare::GreaterOrEqual, V0, V3, M0),
+        Rule::BadKind,
+    ),
+    (
+        V2,
+        VectorInstr::Compare(Compare::GreaterOrEqual, V0, V1, M9),
+        Rule::BadRegister,
+    ),
+    (
+        V2,
+        VectorInstr::Compare(Compare::GreaterOrEqual, V0, V1, S0),
+        Rule::BadKind,
+    ),
     (V9, VectorInstr::Select(V2, V1, V0, M0), Rule::BadRegister),
     (S0, VectorInstr::Select(V2, V1, V0, M0), Rule::BadKind),
     (V0, VectorInstr::Select(V9, V1, V0, M0), Rule::BadRegister),
@@ -290,11 +616,23 @@ pub static WRONG_MASKS: [(Register, MaskInstr, Rule); 45] = [
     (S0, MaskInstr::Copy(M1), Rule::BadKind),
     (M0, MaskInstr::Copy(M9), Rule::BadRegister),
     (M0, MaskInstr::Copy(S0), Rule::BadKind),
-    (M9, MaskInstr::Binary(MaskOp::And, M1, M0), Rule::BadRegister),
+    (
+        M9,
+        MaskInstr::Binary(MaskOp::And, M1, M0),
+        Rule::BadRegister,
+    ),
     (S0, MaskInstr::Binary(MaskOp::And, M1, M0), Rule::BadKind),
-    (M0, MaskInstr::Binary(MaskOp::And, M9, M0), Rule::BadRegister),
+    (
+        M0,
+        MaskInstr::Binary(MaskOp::And, M9, M0),
+        Rule::BadRegister,
+    ),
     (M0, MaskInstr::Binary(MaskOp::And, S0, M0), Rule::BadKind),
-    (M0, MaskInstr::Binary(MaskOp::And, M1, M9), Rule::BadRegister),
+    (
+        M0,
+        MaskInstr::Binary(MaskOp::And, M1, M9),
+        Rule::BadRegister,
+    ),
     (M0, MaskInstr::Binary(MaskOp::And, M1, S0), Rule::BadKind),
     (M9, MaskInstr::Binary(MaskOp::Or, M1, M0), Rule::BadRegister),
     (S0, MaskInstr::Binary(MaskOp::Or, M1, M0), Rule::BadKind),
@@ -302,11 +640,23 @@ pub static WRONG_MASKS: [(Register, MaskInstr, Rule); 45] = [
     (M0, MaskInstr::Binary(MaskOp::Or, S0, M0), Rule::BadKind),
     (M0, MaskInstr::Binary(MaskOp::Or, M1, M9), Rule::BadRegister),
     (M0, MaskInstr::Binary(MaskOp::Or, M1, S0), Rule::BadKind),
-    (M9, MaskInstr::Binary(MaskOp::AndNot, M1, M0), Rule::BadRegister),
+    (
+        M9,
+        MaskInstr::Binary(MaskOp::AndNot, M1, M0),
+        Rule::BadRegister,
+    ),
     (S0, MaskInstr::Binary(MaskOp::AndNot, M1, M0), Rule::BadKind),
-    (M0, MaskInstr::Binary(MaskOp::AndNot, M9, M0), Rule::BadRegister),
+    (
+        M0,
+        MaskInstr::Binary(MaskOp::AndNot, M9, M0),
+        Rule::BadRegister,
+    ),
     (M0, MaskInstr::Binary(MaskOp::AndNot, S0, M0), Rule::BadKind),
-    (M0, MaskInstr::Binary(MaskOp::AndNot, M1, M9), Rule::BadRegister),
+    (
+        M0,
+        MaskInstr::Binary(MaskOp::AndNot, M1, M9),
+        Rule::BadRegister,
+    ),
     (M0, MaskInstr::Binary(MaskOp::AndNot, M1, S0), Rule::BadKind),
     (M9, MaskInstr::Full, Rule::BadRegister),
     (S0, MaskInstr::Full, Rule::BadKind),
@@ -334,60 +684,60 @@ pub static WRONG_MASKS: [(Register, MaskInstr, Rule); 45] = [
 ];
 
 /// What is right of the others of four registers and a place.
-pub static FIVES: [(Five, [Register; 4], u32); 4] = [
-    (Five::Divide, [S0, S1, S0, M0], 0),
-    (Five::Divide, [V0, V1, V0, M0], 0),
-    (Five::Store, [A0, S3, S1, M0], 0),
-    (Five::Scatter, [A2, V3, V1, M0], 0),
+pub static FIVES: [(Five, Register, Register, Register, Register, u32); 4] = [
+    (Five::Divide, S0, S1, S0, M0, 0),
+    (Five::Divide, V0, V1, V0, M0, 0),
+    (Five::Store, A0, S3, S1, M0, 0),
+    (Five::Scatter, A2, V3, V1, M0, 0),
 ];
 
 /// What is wrong of them.
-pub static WRONG_FIVES: [(Five, [Register; 4], u32, Rule); 47] = [
-    (Five::Divide, [S9, S1, S0, M0], 0, Rule::BadRegister),
-    (Five::Divide, [M0, S1, S0, M0], 0, Rule::BadKind),
-    (Five::Divide, [S2, S1, S0, M0], 0, Rule::BadKind),
-    (Five::Divide, [S0, S9, S0, M0], 0, Rule::BadRegister),
-    (Five::Divide, [S0, V0, S0, M0], 0, Rule::BadKind),
-    (Five::Divide, [S0, S3, S0, M0], 0, Rule::BadKind),
-    (Five::Divide, [S0, S1, S9, M0], 0, Rule::BadRegister),
-    (Five::Divide, [S0, S1, V0, M0], 0, Rule::BadKind),
-    (Five::Divide, [S0, S1, S3, M0], 0, Rule::BadKind),
-    (Five::Divide, [S0, S1, S0, M9], 0, Rule::BadRegister),
-    (Five::Divide, [S0, S1, S0, S0], 0, Rule::BadKind),
-    (Five::Divide, [S0, S1, S0, M0], 9, Rule::BadRegister),
-    (Five::Divide, [V9, V1, V0, M0], 0, Rule::BadRegister),
-    (Five::Divide, [M0, V1, V0, M0], 0, Rule::BadKind),
-    (Five::Divide, [V2, V1, V0, M0], 0, Rule::BadKind),
-    (Five::Divide, [V0, V9, V0, M0], 0, Rule::BadRegister),
-    (Five::Divide, [V0, S0, V0, M0], 0, Rule::BadKind),
-    (Five::Divide, [V0, V3, V0, M0], 0, Rule::BadKind),
-    (Five::Divide, [V0, V1, V9, M0], 0, Rule::BadRegister),
-    (Five::Divide, [V0, V1, S0, M0], 0, Rule::BadKind),
-    (Five::Divide, [V0, V1, V3, M0], 0, Rule::BadKind),
-    (Five::Divide, [V0, V1, V0, M9], 0, Rule::BadRegister),
-    (Five::Divide, [V0, V1, V0, S0], 0, Rule::BadKind),
-    (Five::Divide, [V0, V1, V0, M0], 9, Rule::BadRegister),
-    (Five::Store, [A9, S3, S1, M0], 0, Rule::BadRegister),
-    (Five::Store, [S0, S3, S1, M0], 0, Rule::BadKind),
-    (Five::Store, [A2, S3, S1, M0], 0, Rule::BadKind),
-    (Five::Store, [A0, S9, S1, M0], 0, Rule::BadRegister),
-    (Five::Store, [A0, V0, S1, M0], 0, Rule::BadKind),
-    (Five::Store, [A0, S0, S1, M0], 0, Rule::BadKind),
-    (Five::Store, [A0, S3, S9, M0], 0, Rule::BadRegister),
-    (Five::Store, [A0, S3, V0, M0], 0, Rule::BadKind),
-    (Five::Store, [A0, S3, S3, M0], 0, Rule::BadKind),
-    (Five::Store, [A0, S3, S1, M9], 0, Rule::BadRegister),
-    (Five::Store, [A0, S3, S1, S0], 0, Rule::BadKind),
-    (Five::Store, [A0, S3, S1, M0], 9, Rule::BadRegister),
-    (Five::Scatter, [A9, V3, V1, M0], 0, Rule::BadRegister),
-    (Five::Scatter, [S0, V3, V1, M0], 0, Rule::BadKind),
-    (Five::Scatter, [A2, V9, V1, M0], 0, Rule::BadRegister),
-    (Five::Scatter, [A2, S0, V1, M0], 0, Rule::BadKind),
-    (Five::Scatter, [A2, V0, V1, M0], 0, Rule::BadKind),
-    (Five::Scatter, [A2, V3, V9, M0], 0, Rule::BadRegister),
-    (Five::Scatter, [A2, V3, S0, M0], 0, Rule::BadKind),
-    (Five::Scatter, [A2, V3, V3, M0], 0, Rule::BadKind),
-    (Five::Scatter, [A2, V3, V1, M9], 0, Rule::BadRegister),
-    (Five::Scatter, [A2, V3, V1, S0], 0, Rule::BadKind),
-    (Five::Scatter, [A2, V3, V1, M0], 9, Rule::BadRegister),
+pub static WRONG_FIVES: [(Five, Register, Register, Register, Register, u32, Rule); 47] = [
+    (Five::Divide, S9, S1, S0, M0, 0, Rule::BadRegister),
+    (Five::Divide, M0, S1, S0, M0, 0, Rule::BadKind),
+    (Five::Divide, S2, S1, S0, M0, 0, Rule::BadKind),
+    (Five::Divide, S0, S9, S0, M0, 0, Rule::BadRegister),
+    (Five::Divide, S0, V0, S0, M0, 0, Rule::BadKind),
+    (Five::Divide, S0, S3, S0, M0, 0, Rule::BadKind),
+    (Five::Divide, S0, S1, S9, M0, 0, Rule::BadRegister),
+    (Five::Divide, S0, S1, V0, M0, 0, Rule::BadKind),
+    (Five::Divide, S0, S1, S3, M0, 0, Rule::BadKind),
+    (Five::Divide, S0, S1, S0, M9, 0, Rule::BadRegister),
+    (Five::Divide, S0, S1, S0, S0, 0, Rule::BadKind),
+    (Five::Divide, S0, S1, S0, M0, 9, Rule::BadRegister),
+    (Five::Divide, V9, V1, V0, M0, 0, Rule::BadRegister),
+    (Five::Divide, M0, V1, V0, M0, 0, Rule::BadKind),
+    (Five::Divide, V2, V1, V0, M0, 0, Rule::BadKind),
+    (Five::Divide, V0, V9, V0, M0, 0, Rule::BadRegister),
+    (Five::Divide, V0, S0, V0, M0, 0, Rule::BadKind),
+    (Five::Divide, V0, V3, V0, M0, 0, Rule::BadKind),
+    (Five::Divide, V0, V1, V9, M0, 0, Rule::BadRegister),
+    (Five::Divide, V0, V1, S0, M0, 0, Rule::BadKind),
+    (Five::Divide, V0, V1, V3, M0, 0, Rule::BadKind),
+    (Five::Divide, V0, V1, V0, M9, 0, Rule::BadRegister),
+    (Five::Divide, V0, V1, V0, S0, 0, Rule::BadKind),
+    (Five::Divide, V0, V1, V0, M0, 9, Rule::BadRegister),
+    (Five::Store, A9, S3, S1, M0, 0, Rule::BadRegister),
+    (Five::Store, S0, S3, S1, M0, 0, Rule::BadKind),
+    (Five::Store, A2, S3, S1, M0, 0, Rule::BadKind),
+    (Five::Store, A0, S9, S1, M0, 0, Rule::BadRegister),
+    (Five::Store, A0, V0, S1, M0, 0, Rule::BadKind),
+    (Five::Store, A0, S0, S1, M0, 0, Rule::BadKind),
+    (Five::Store, A0, S3, S9, M0, 0, Rule::BadRegister),
+    (Five::Store, A0, S3, V0, M0, 0, Rule::BadKind),
+    (Five::Store, A0, S3, S3, M0, 0, Rule::BadKind),
+    (Five::Store, A0, S3, S1, M9, 0, Rule::BadRegister),
+    (Five::Store, A0, S3, S1, S0, 0, Rule::BadKind),
+    (Five::Store, A0, S3, S1, M0, 9, Rule::BadRegister),
+    (Five::Scatter, A9, V3, V1, M0, 0, Rule::BadRegister),
+    (Five::Scatter, S0, V3, V1, M0, 0, Rule::BadKind),
+    (Five::Scatter, A2, V9, V1, M0, 0, Rule::BadRegister),
+    (Five::Scatter, A2, S0, V1, M0, 0, Rule::BadKind),
+    (Five::Scatter, A2, V0, V1, M0, 0, Rule::BadKind),
+    (Five::Scatter, A2, V3, V9, M0, 0, Rule::BadRegister),
+    (Five::Scatter, A2, V3, S0, M0, 0, Rule::BadKind),
+    (Five::Scatter, A2, V3, V3, M0, 0, Rule::BadKind),
+    (Five::Scatter, A2, V3, V1, M9, 0, Rule::BadRegister),
+    (Five::Scatter, A2, V3, V1, S0, 0, Rule::BadKind),
+    (Five::Scatter, A2, V3, V1, M0, 9, Rule::BadRegister),
 ];
