@@ -5,8 +5,8 @@ use Rattle.std.proofs.lemmas.Bool.{cases_lt}
 use Rattle.isp_base.specs.Rows.{Row}
 use Rattle.isp_base.specs.Outcomes.{Outcome, Ends, Traps, GoesOn, out_of, IsOver}
 use Rattle.isp_base.specs.declared.signature.Argument.{Argument}
-use Rattle.isp_rates.specs.Typed.{Function}
-use Rattle.isp_rates.specs.Fine.{IsFineFunction}
+use Rattle.isp_thin.specs.Typed.{Function}
+use Rattle.isp_thin.specs.Fine.{IsFineFunction}
 use Rattle.isp_base.specs.Sets.{everyone}
 use Rattle.isp_model.specs.State.{tick, Res, Went, Trapped, Cut}
 use Rattle.isp_model.specs.Statements.{run_all}

@@ -16,9 +16,9 @@ use Rattle.isp_base.specs.declared.types.Rate.TheVariants.{Uniform}
 use Rattle.isp_base.specs.declared.signature.Parameter.{Parameter}
 use Rattle.isp_base.specs.declared.signature.Argument.{Argument}
 use Rattle.isp_base.specs.declared.signature.Argument.TheVariants.{Value as AValue, Array as AnArray}
-use Rattle.isp_rates.specs.declared.typed.Holds.{Holds}
-use Rattle.isp_rates.specs.declared.typed.Holds.TheVariants.{One as OneValue, Many}
-use Rattle.isp_rates.specs.Fine.{holds_of}
+use Rattle.isp_thin.specs.declared.typed.Holds.{Holds}
+use Rattle.isp_thin.specs.declared.typed.Holds.TheVariants.{One as OneValue, Many}
+use Rattle.isp_thin.specs.Fine.{holds_of}
 use Rattle.isp_base.specs.Arguments.{rows, argument_bits, row_bits}
 use Rattle.isp_model.specs.Runs.{store_of}
 use Rattle.isp_engine.specs.Machine.{elem_at, size}

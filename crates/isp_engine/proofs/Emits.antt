@@ -2,10 +2,10 @@
 use Rattle.std.proofs.Common.{◌≡◌, ℕ, zero, suc, ◌+◌, ◌<◌, ◌≤◌, Bool, true, false, List, [], ◌∷◌, ◌++◌, length, get_or, refl, sym, ap, ap₂, ◌∙◌, append_assoc, length-append, arith}
 use Rattle.std.proofs.lemmas.Option.{slice_get_within}
 use Rattle.isp_base.specs.declared.signature.Parameter.{Parameter}
-use Rattle.isp_rates.specs.declared.typed.Holds.{Holds}
-use Rattle.isp_rates.specs.declared.typed.Holds.TheVariants.{One, Many}
-use Rattle.isp_rates.specs.Typed.{Typed, t_number, t_program_index, t_variable, t_item, t_brackets, t_binary, type_of, TStmt, t_declare, t_assign, t_assign_item}
-use Rattle.isp_rates.specs.Fine.{IsFine, IsFineStmt, AreFine}
+use Rattle.isp_thin.specs.declared.typed.Holds.{Holds}
+use Rattle.isp_thin.specs.declared.typed.Holds.TheVariants.{One, Many}
+use Rattle.isp_thin.specs.Typed.{Typed, t_number, t_program_index, t_variable, t_item, t_brackets, t_binary, type_of, TStmt, t_declare, t_assign, t_assign_item}
+use Rattle.isp_thin.specs.Fine.{IsFine, IsFineStmt, AreFine}
 use Rattle.isp_engine.specs.declared.code.Instr.{Instr}
 use Rattle.isp_engine.specs.Lowering.{copy, operate, read, write, widening, counted, array_number, expr_code, stmt_code, stmts_code, NamesBelow, StmtBelow, StmtsBelow}
 

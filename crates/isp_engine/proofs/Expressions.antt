@@ -14,10 +14,10 @@ use Rattle.isp_base.specs.declared.operators.BinOp.{BinOp}
 use Rattle.isp_base.specs.declared.trap.Trap.{Trap}
 use Rattle.isp_base.specs.declared.trap.TrapKind.{TrapKind}
 use Rattle.isp_base.specs.declared.trap.TrapKind.TheVariants.{Divide, Index}
-use Rattle.isp_rates.specs.declared.typed.Holds.{Holds}
-use Rattle.isp_rates.specs.declared.typed.Holds.TheVariants.{One as OneValue, Many}
-use Rattle.isp_rates.specs.Typed.{Typed, t_number, t_program_index, t_variable, t_item, t_brackets, t_binary, type_of}
-use Rattle.isp_rates.specs.Fine.{rate_or, goes_to, IsFine}
+use Rattle.isp_thin.specs.declared.typed.Holds.{Holds}
+use Rattle.isp_thin.specs.declared.typed.Holds.TheVariants.{One as OneValue, Many}
+use Rattle.isp_thin.specs.Typed.{Typed, t_number, t_program_index, t_variable, t_item, t_brackets, t_binary, type_of}
+use Rattle.isp_thin.specs.Fine.{rate_or, goes_to, IsFine}
 use Rattle.isp_base.specs.Sets.{everyone, lowest}
 use Rattle.isp_base.specs.Maps.{Lanes, Map, on, over, map1, map2, holds, where_true}
 use Rattle.isp_base.specs.Traps.{trap}

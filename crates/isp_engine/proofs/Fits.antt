@@ -10,8 +10,8 @@ use Rattle.isp_base.specs.declared.types.Elem.{Elem}
 use Rattle.isp_base.specs.declared.types.Ty.{Ty}
 use Rattle.isp_base.specs.declared.operators.BinOp.{BinOp}
 use Rattle.isp_base.proofs.Wraps.{wrap_to-lt}
-use Rattle.isp_rates.specs.declared.typed.Holds.{Holds}
-use Rattle.isp_rates.specs.declared.typed.Holds.TheVariants.{One as OneValue, Many}
+use Rattle.isp_thin.specs.declared.typed.Holds.{Holds}
+use Rattle.isp_thin.specs.declared.typed.Holds.TheVariants.{One as OneValue, Many}
 use Rattle.isp_base.specs.Sets.{Mask}
 use Rattle.isp_base.specs.Maps.{Lanes, Map, on, or_old, over, each1, each2, map1, map2, put}
 use Rattle.isp_base.specs.Access.{put_at, scatter}

@@ -11,10 +11,10 @@ use Rattle.isp_tree.specs.Depth.{depth_of_functions}
 use Rattle.isp_tree.specs.Tree.{Function as Read}
 use Rattle.isp_syntax.specs.Grammar.{IsProgram as IsTree}
 use Rattle.isp_tree.specs.Depth.{limit as deepest_tree}
-use Rattle.isp_rates.specs.declared.checked.Program.{Program}
-use Rattle.isp_rates.specs.Program.{Plain, plain, IsProgram, Breach}
-use Rattle.isp_rates.specs.Promise.{Accepts, Refuses}
-use Rattle.isp_rates.specs.Typed.{functions_of}
+use Rattle.isp_thin.specs.declared.checked.Program.{Program}
+use Rattle.isp_thin.specs.Program.{Plain, plain, IsProgram, Breach}
+use Rattle.isp_thin.specs.Promise.{Accepts, Refuses}
+use Rattle.isp_thin.specs.Typed.{functions_of}
 use Rattle.isp_engine.specs.Front.{HasTree, IsSource, IsFaulty}
 
 -- the program that is checked

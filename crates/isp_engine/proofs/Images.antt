@@ -4,9 +4,9 @@ use Rattle.std.proofs.Math.Seq.{take-suc}
 use Rattle.isp_base.specs.Types.{gang_width}
 use Rattle.isp_base.specs.declared.types.Gang.{Gang}
 use Rattle.isp_base.specs.declared.types.Gang.TheVariants.{W4, W8, W16}
-use Rattle.isp_rates.specs.declared.typed.TypedFunction.{TypedFunction}
-use Rattle.isp_rates.specs.Fine.{IsFineFunction, AreFineFunctions}
-use Rattle.isp_rates.specs.Typed.{Function, function_of, functions_of}
+use Rattle.isp_thin.specs.declared.typed.TypedFunction.{TypedFunction}
+use Rattle.isp_thin.specs.Fine.{IsFineFunction, AreFineFunctions}
+use Rattle.isp_thin.specs.Typed.{Function, function_of, functions_of}
 use Rattle.isp_engine.specs.declared.image.Exported.{Exported}
 use Rattle.isp_engine.specs.Agreement.{Agrees}
 use Rattle.isp_engine.specs.Images.{Entry, AreCompiled}

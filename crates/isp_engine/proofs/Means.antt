@@ -5,8 +5,8 @@ use Rattle.std.proofs.lemmas.Bool.{cases_lt}
 use Rattle.isp_base.specs.Outcomes.{Outcome, Ends, Traps, GoesOn, out_of, IsOver}
 use Rattle.isp_base.specs.declared.signature.Parameter.{Parameter}
 use Rattle.isp_base.specs.declared.signature.Argument.{Argument}
-use Rattle.isp_rates.specs.Program.{function_named}
-use Rattle.isp_rates.specs.Typed.{Function}
+use Rattle.isp_thin.specs.Program.{function_named}
+use Rattle.isp_thin.specs.Typed.{Function}
 use Rattle.isp_base.specs.Arguments.{rows}
 use Rattle.isp_model.specs.Runs.{run_of}
 use Rattle.isp_engine.specs.declared.code.Instr.{Instr}

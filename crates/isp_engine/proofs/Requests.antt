@@ -6,7 +6,7 @@ use Rattle.isp_base.specs.declared.types.Gang.TheVariants.{W4}
 use Rattle.isp_lex.specs.declared.fault.Fault.{Fault}
 use Rattle.isp_lex.specs.declared.fault.SourceFault.{SourceFault}
 use Rattle.isp_lex.specs.declared.fault.SourceFault.TheVariants.{Memory as NoMemory, Refused}
-use Rattle.isp_rates.specs.Program.{function_named}
+use Rattle.isp_thin.specs.Program.{function_named}
 use Rattle.isp_engine.specs.declared.fault.RunFault.{RunFault}
 use Rattle.isp_engine.specs.declared.fault.RunFault.TheVariants.{Memory as NoRunMemory, NoEntry, Arguments}
 use Rattle.isp_engine.specs.declared.image.Image.{Image}

@@ -11,10 +11,10 @@ use Rattle.isp_base.specs.declared.types.Rate.TheVariants.{Uniform, Varying}
 use Rattle.isp_base.specs.declared.types.Span.{Span}
 use Rattle.isp_base.specs.declared.trap.Trap.{Trap}
 use Rattle.isp_base.specs.declared.trap.TrapKind.TheVariants.{Index}
-use Rattle.isp_rates.specs.declared.typed.Holds.{Holds}
-use Rattle.isp_rates.specs.declared.typed.Holds.TheVariants.{One as OneValue, Many}
-use Rattle.isp_rates.specs.Typed.{Typed, type_of, TStmt, t_declare, t_assign, t_assign_item}
-use Rattle.isp_rates.specs.Fine.{goes_to, IsFine, FitsType, IsFineStmt, AreFine}
+use Rattle.isp_thin.specs.declared.typed.Holds.{Holds}
+use Rattle.isp_thin.specs.declared.typed.Holds.TheVariants.{One as OneValue, Many}
+use Rattle.isp_thin.specs.Typed.{Typed, type_of, TStmt, t_declare, t_assign, t_assign_item}
+use Rattle.isp_thin.specs.Fine.{goes_to, IsFine, FitsType, IsFineStmt, AreFine}
 use Rattle.isp_base.specs.Sets.{Mask, everyone, union, any, lowest}
 use Rattle.isp_base.specs.Maps.{Lanes, on, over, map1, where_true, put}
 use Rattle.isp_base.specs.Access.{scatter, is_outside, element}

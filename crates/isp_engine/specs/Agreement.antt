@@ -5,7 +5,7 @@ use Rattle.isp_base.specs.Rows.{Row, Fit}
 use Rattle.isp_base.specs.Outcomes.{Outcome, GoesOn, out_of, IsOver}
 use Rattle.isp_base.specs.declared.signature.Parameter.{Parameter}
 use Rattle.isp_base.specs.declared.signature.Argument.{Argument}
-use Rattle.isp_rates.specs.Typed.{Function}
+use Rattle.isp_thin.specs.Typed.{Function}
 use Rattle.isp_base.specs.Prefixes.{IsPrefix}
 use Rattle.isp_base.specs.Arguments.{rows}
 use Rattle.isp_model.specs.Runs.{run_of, work_of}

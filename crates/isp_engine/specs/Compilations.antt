@@ -2,7 +2,7 @@
 use Rattle.std.specs.Prelude.{◌≡◌, List, ℕ, Result}
 use Rattle.isp_base.specs.Types.{gang_width}
 use Rattle.isp_base.specs.declared.types.Gang.{Gang}
-use Rattle.isp_rates.specs.Program.{function_named}
+use Rattle.isp_thin.specs.Program.{function_named}
 use Rattle.isp_engine.specs.declared.fault.RunFault.{RunFault}
 use Rattle.isp_engine.specs.declared.report.Report.{Report}
 use Rattle.isp_engine.specs.Images.{Compiled, IsCompilation, entry_named}

@@ -1,6 +1,6 @@
 -- Functions with their code, as they lie in memory.
 use Rattle.std.specs.Prelude.{◌≡◌, List, [], ◌∷◌}
-use Rattle.isp_rates.specs.Typed.{Function}
+use Rattle.isp_thin.specs.Typed.{Function}
 use Rattle.isp_engine.specs.declared.image.Exported.{Exported}
 use Rattle.isp_engine.specs.Images.{Entry}
 use Rattle.isp_engine.specs.Lowering.{function_code}

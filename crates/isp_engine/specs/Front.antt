@@ -9,8 +9,8 @@ use Rattle.isp_tree.specs.Tree.{Function as Read}
 use Rattle.isp_syntax.specs.Grammar.{IsProgram as IsTree}
 use Rattle.isp_syntax.specs.Promise.{Refuses as TreeRefuses}
 use Rattle.isp_tree.specs.Depth.{limit as deepest_tree}
-use Rattle.isp_rates.specs.Program.{Plain, IsProgram, Breach}
-use Rattle.isp_rates.specs.Promise.{Accepts, Refuses}
+use Rattle.isp_thin.specs.Program.{Plain, IsProgram, Breach}
+use Rattle.isp_thin.specs.Promise.{Accepts, Refuses}
 
 pub record HasTokens (text : List ℕ) (tokens : TokenList) : Type 0 where
   pub lexes : Lexes 0 text tokens.items []

@@ -2,9 +2,9 @@
 use Rattle.std.specs.Prelude.{◌≡◌, ℕ, List, [], ◌∷◌, map, find, bytes_eq, Option}
 use Rattle.isp_base.specs.declared.types.Gang.{Gang}
 use Rattle.isp_base.specs.declared.signature.Parameter.{Parameter}
-use Rattle.isp_rates.specs.Typed.{Function}
+use Rattle.isp_thin.specs.Typed.{Function}
 use Rattle.isp_engine.specs.declared.code.Instr.{Instr}
-use Rattle.isp_rates.specs.Program.{plain}
+use Rattle.isp_thin.specs.Program.{plain}
 use Rattle.isp_engine.specs.Agreement.{Agrees}
 use Rattle.isp_engine.specs.Front.{IsSource}
 

@@ -3,7 +3,7 @@ use Rattle.std.specs.Prelude.{ℕ, zero, suc, ◌+◌, ◌<◌, Bool, true, fals
 use Rattle.isp_base.specs.declared.types.Rate.{Rate}
 use Rattle.isp_base.specs.declared.types.Rate.TheVariants.{Uniform, Varying}
 use Rattle.isp_base.specs.declared.signature.Parameter.{Parameter}
-use Rattle.isp_rates.specs.Typed.{Typed, t_number, t_program_index, t_variable, t_item, t_brackets, t_binary, type_of, TStmt, t_declare, t_assign, t_assign_item, Function}
+use Rattle.isp_thin.specs.Typed.{Typed, t_number, t_program_index, t_variable, t_item, t_brackets, t_binary, type_of, TStmt, t_declare, t_assign, t_assign_item, Function}
 use Rattle.isp_engine.specs.declared.code.Operation.{Operation}
 use Rattle.isp_engine.specs.declared.code.Access.{Access}
 use Rattle.isp_engine.specs.declared.code.ScalarInstr.TheVariants.{Constant, Copy, Binary, Load}

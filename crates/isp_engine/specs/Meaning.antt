@@ -4,7 +4,7 @@
 use Rattle.std.specs.Prelude.{◌≡◌, ◌≢◌, ℕ, ◌≤◌, List, Option, Some, None, Result, Ok, Err}
 use Rattle.isp_base.specs.Outcomes.{out_of, IsOver}
 use Rattle.isp_base.specs.declared.signature.Argument.{Argument}
-use Rattle.isp_rates.specs.Typed.{Function}
+use Rattle.isp_thin.specs.Typed.{Function}
 use Rattle.isp_model.specs.Runs.{run_of}
 use Rattle.isp_bind.specs.declared.fault.BindFault.{BindFault}
 use Rattle.isp_engine.specs.declared.fault.RunFault.{RunFault}

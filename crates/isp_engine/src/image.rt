@@ -2,9 +2,9 @@
 ghost use Rattle.std.specs.Prelude.{◌≡◌, List, map, option_map, IfOk, IfErr};
 ghost use Rattle.isp_base.specs.Types.{gang_width};
 ghost use Rattle.isp_lex.specs.declared.fault.Fault.{Fault};
-ghost use Rattle.isp_rates.specs.Fine.{AreFineFunctions};
-ghost use Rattle.isp_rates.specs.Program.{Plain};
-ghost use Rattle.isp_rates.specs.Typed.{functions_of};
+ghost use Rattle.isp_thin.specs.Fine.{AreFineFunctions};
+ghost use Rattle.isp_thin.specs.Program.{Plain};
+ghost use Rattle.isp_thin.specs.Typed.{functions_of};
 ghost use Rattle.isp_engine.specs.Front.{IsSource, IsFaulty};
 ghost use Rattle.isp_engine.specs.Images.{entry_named, IsCompilation};
 ghost use Rattle.isp_engine.specs.Entries.{entry_of, AreLowered};
@@ -14,7 +14,7 @@ use crate::source::front;
 use crate::straight::Code;
 use isp_base::{Gang, Name, Parameter, Signature};
 use isp_lex::SourceFault;
-use isp_rates::TypedFunction;
+use isp_thin::TypedFunction;
 use std::alloc::{AllocError, Global};
 use std::marker::Model;
 

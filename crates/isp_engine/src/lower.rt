@@ -1,15 +1,15 @@
 //! From a checked function to its code.
 ghost use Rattle.std.specs.Prelude.{◌≡◌, ℕ, ◌+◌, ◌-◌, ◌^◌, ◌<◌, ◌≤◌, ◌++◌, length, slice_index, OnOk, IfOk};
 ghost use Rattle.isp_base.specs.declared.types.Rate.TheVariants.{Uniform, Varying};
-ghost use Rattle.isp_rates.specs.Fine.{IsFineFunction};
-ghost use Rattle.isp_rates.specs.Typed.{typed_of, type_of, tstmt_of, tstmts_of, function_of};
+ghost use Rattle.isp_thin.specs.Fine.{IsFineFunction};
+ghost use Rattle.isp_thin.specs.Typed.{typed_of, type_of, tstmt_of, tstmts_of, function_of};
 ghost use Rattle.isp_engine.specs.Lowering.{copy, operate, read, write, widening, array_number, expr_code, wide_code, stmt_code, stmts_code, function_code, NamesBelow, StmtBelow, StmtsBelow};
 
 use crate::code::{Access, Instr, Operation, ScalarInstr, VectorInstr};
 use crate::emitter::Emitter;
 use crate::straight::Code;
 use isp_base::{Parameter, Rate};
-use isp_rates::{Typed, TypedFunction, TypedStmt};
+use isp_thin::{Typed, TypedFunction, TypedStmt};
 use std::alloc::{AllocError, Global};
 
 // A register of the rate's class is given what another has.

@@ -2,7 +2,7 @@
 ghost use Rattle.std.specs.Prelude.{◌≡◌, ℕ, ◌≤◌, List, IfOk};
 ghost use Rattle.isp_base.specs.Types.{gang_width};
 ghost use Rattle.isp_base.specs.Outcomes.{Outcome};
-ghost use Rattle.isp_rates.specs.Program.{function_named};
+ghost use Rattle.isp_thin.specs.Program.{function_named};
 ghost use Rattle.isp_engine.specs.Machine.{after};
 ghost use Rattle.isp_engine.specs.Held.{Came};
 ghost use Rattle.isp_engine.specs.Images.{entry_named, IsCompilation};

@@ -1,14 +1,14 @@
 //! From a source text to a checked program.
 ghost use Rattle.std.specs.Prelude.{◌≡◌, List, map, IfOk, IfErr, MatchResult};
 ghost use Rattle.isp_lex.specs.declared.fault.Fault.{Fault};
-ghost use Rattle.isp_rates.specs.Program.{Plain, plain};
-ghost use Rattle.isp_rates.specs.Typed.{functions_of};
+ghost use Rattle.isp_thin.specs.Program.{Plain, plain};
+ghost use Rattle.isp_thin.specs.Typed.{functions_of};
 ghost use Rattle.isp_engine.specs.Front.{IsSource, IsFaulty};
 
 use isp_base::Gang;
 use isp_lex::{SourceFault, lex};
-use isp_rates::{Checked, check_tree};
 use isp_syntax::parse;
+use isp_thin::{Checked, check_tree};
 use std::alloc::Global;
 
 /// The program of a source text: its tokens, its tree, and what the checker makes of it.

@@ -19,9 +19,9 @@ use Rattle.isp_base.specs.Ranks.{rank, same_elem}
 use Rattle.isp_base.specs.Types.{gang_width}
 use Rattle.isp_base.specs.Rows.{Row}
 use Rattle.isp_base.specs.Values.{width}
-use Rattle.isp_rates.specs.declared.typed.Holds.{Holds}
-use Rattle.isp_rates.specs.declared.typed.Holds.TheVariants.{One as OneValue, Many}
-use Rattle.isp_rates.specs.Fine.{holds_of}
+use Rattle.isp_thin.specs.declared.typed.Holds.{Holds}
+use Rattle.isp_thin.specs.declared.typed.Holds.TheVariants.{One as OneValue, Many}
+use Rattle.isp_thin.specs.Fine.{holds_of}
 use Rattle.isp_base.specs.Sets.{Mask, everyone}
 use Rattle.isp_base.specs.Maps.{Lanes}
 use Rattle.isp_model.specs.State.{tick}

@@ -12,7 +12,7 @@ use Rattle.isp_base.specs.declared.types.Rate.TheVariants.{Varying}
 use Rattle.isp_base.specs.declared.operators.BinOp.{BinOp}
 use Rattle.isp_base.specs.Values.{width, op_bits, divides}
 use Rattle.isp_base.proofs.Wraps.{wrap_to-lt}
-use Rattle.isp_rates.specs.Fine.{rate_or}
+use Rattle.isp_thin.specs.Fine.{rate_or}
 use Rattle.isp_base.specs.Sets.{Mask}
 use Rattle.isp_base.specs.Maps.{Lanes, Map, on, over, or_old, each1, each2, map1, map2, lane_of}
 use Rattle.isp_model.specs.State.{Each, spread}

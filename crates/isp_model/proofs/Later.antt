@@ -1,7 +1,7 @@
 -- The thin language has no loops: the number of turns changes nothing.
 use Rattle.std.proofs.Common.{◌≡◌, refl, ap, ◌∙◌, subst, ℕ, List, [], ◌∷◌, append-nil}
 use Rattle.isp_base.specs.Outcomes.{Outcome, Ends, Traps, GoesOn}
-use Rattle.isp_rates.specs.Typed.{TStmt, t_declare, t_assign, t_assign_item}
+use Rattle.isp_thin.specs.Typed.{TStmt, t_declare, t_assign, t_assign_item}
 use Rattle.isp_base.specs.Sets.{Mask, any, everyone}
 use Rattle.isp_model.specs.State.{State, Stores, tick, Res, then_run, unless_empty}
 use Rattle.isp_model.specs.Expressions.{Calls}

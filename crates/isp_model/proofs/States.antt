@@ -9,7 +9,7 @@ use Rattle.isp_base.specs.declared.types.Elem.{Elem}
 use Rattle.isp_base.specs.declared.types.Ty.{Ty}
 use Rattle.isp_base.specs.Values.{width}
 use Rattle.isp_base.specs.Rows.{Row}
-use Rattle.isp_rates.specs.declared.typed.Holds.TheVariants.{One as OneValue, Many}
+use Rattle.isp_thin.specs.declared.typed.Holds.TheVariants.{One as OneValue, Many}
 use Rattle.isp_base.specs.Sets.{Mask}
 use Rattle.isp_base.specs.Maps.{Lanes, over, put, lane_of}
 use Rattle.isp_model.specs.State.{spread}

@@ -5,10 +5,10 @@ use Rattle.isp_base.specs.declared.types.Span.{Span}
 use Rattle.isp_base.specs.declared.types.Ty.{Ty}
 use Rattle.isp_base.specs.declared.trap.Trap.{Trap}
 use Rattle.isp_base.specs.declared.trap.TrapKind.TheVariants.{Index}
-use Rattle.isp_rates.specs.declared.typed.Holds.{Holds}
-use Rattle.isp_rates.specs.declared.typed.TypedStmt as rust_stmt
-use Rattle.isp_rates.specs.Fine.{IsFineStmt, AreFine}
-use Rattle.isp_rates.specs.Typed.{Typed, type_of, tstmt_of, tstmts_of, TStmt, t_declare, t_assign, t_assign_item}
+use Rattle.isp_thin.specs.declared.typed.Holds.{Holds}
+use Rattle.isp_thin.specs.declared.typed.TypedStmt as rust_stmt
+use Rattle.isp_thin.specs.Fine.{IsFineStmt, AreFine}
+use Rattle.isp_thin.specs.Typed.{Typed, type_of, tstmt_of, tstmts_of, TStmt, t_declare, t_assign, t_assign_item}
 use Rattle.isp_base.specs.Sets.{Mask, any, nobody, union}
 use Rattle.isp_base.specs.Maps.{Lanes, put}
 use Rattle.isp_model.specs.State.{State, Stores, Payload, Res, Went, Trapped, Cut, with_value, go_on, then_run, went_all, unless_empty, offender}

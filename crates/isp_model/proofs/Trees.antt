@@ -4,10 +4,10 @@ use Rattle.isp_base.specs.declared.types.Span.{Span}
 use Rattle.isp_base.specs.declared.types.Ty.{Ty}
 use Rattle.isp_base.specs.declared.types.Value.{Value}
 use Rattle.isp_base.specs.declared.operators.BinOp.{BinOp}
-use Rattle.isp_rates.specs.declared.typed.Typed as rust
-use Rattle.isp_rates.specs.declared.typed.Typed.TheVariants as variant
-use Rattle.isp_rates.specs.declared.typed.Typed.TheFolds.{fold-roll-Typed}
-use Rattle.isp_rates.specs.Typed.{Typed, typed_of, typed_step, t_number, t_program_index, t_variable, t_item, t_brackets, t_binary}
+use Rattle.isp_thin.specs.declared.typed.Typed as rust
+use Rattle.isp_thin.specs.declared.typed.Typed.TheVariants as variant
+use Rattle.isp_thin.specs.declared.typed.Typed.TheFolds.{fold-roll-Typed}
+use Rattle.isp_thin.specs.Typed.{Typed, typed_of, typed_step, t_number, t_program_index, t_variable, t_item, t_brackets, t_binary}
 
 pub number_view : (v : Value) → typed_of (variant.Number v) ≡ t_number v
 number_view v = ap typed_of (sym (variant.rolls-Number v)) ∙ fold-roll-Typed Typed typed_step _

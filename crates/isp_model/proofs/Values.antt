@@ -11,9 +11,9 @@ use Rattle.isp_base.specs.declared.trap.Trap.{Trap}
 use Rattle.isp_base.specs.declared.trap.TrapKind.{TrapKind}
 use Rattle.isp_base.specs.declared.trap.TrapKind.TheVariants.{Divide, Index}
 use Rattle.isp_base.specs.Values.{width, op_bits}
-use Rattle.isp_rates.specs.declared.typed.Holds.TheVariants.{Many}
-use Rattle.isp_rates.specs.Fine.{goes_to, rate_or}
-use Rattle.isp_rates.specs.Typed.{Typed, t_number, t_program_index, t_variable, t_item, t_brackets, t_binary, type_of}
+use Rattle.isp_thin.specs.declared.typed.Holds.TheVariants.{Many}
+use Rattle.isp_thin.specs.Fine.{goes_to, rate_or}
+use Rattle.isp_thin.specs.Typed.{Typed, t_number, t_program_index, t_variable, t_item, t_brackets, t_binary, type_of}
 use Rattle.isp_base.specs.Sets.{Mask}
 use Rattle.isp_model.specs.State.{State, Payload, Each, Val, Gives, Fails, bind, checked, offender}
 use Rattle.isp_base.specs.Access.{is_outside, is_zero}

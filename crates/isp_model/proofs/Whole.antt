@@ -5,7 +5,7 @@ use Rattle.isp_base.specs.declared.signature.Argument.{Argument}
 use Rattle.isp_base.specs.declared.types.Elem.{Elem}
 use Rattle.isp_base.specs.Rows.{Row}
 use Rattle.isp_base.specs.Outcomes.{Ends, Traps}
-use Rattle.isp_rates.specs.Typed.{Function}
+use Rattle.isp_thin.specs.Typed.{Function}
 use Rattle.isp_base.specs.Sets.{Mask, everyone}
 use Rattle.isp_model.specs.State.{tick}
 use Rattle.isp_model.specs.Statements.{run_all}

@@ -2,8 +2,8 @@
 use Rattle.std.specs.Prelude.{◌≡◌, ℕ, List, Option, Some, None, if◌then◌else◌}
 use Rattle.isp_base.specs.Binding.{has_signature}
 use Rattle.isp_base.specs.declared.signature.Argument.{Argument}
-use Rattle.isp_rates.specs.Typed.{Function}
-use Rattle.isp_rates.specs.Program.{function_named}
+use Rattle.isp_thin.specs.Typed.{Function}
+use Rattle.isp_thin.specs.Program.{function_named}
 use Rattle.isp_model.specs.declared.fault.EvalFault.{EvalFault}
 use Rattle.isp_model.specs.declared.fault.EvalFault.TheVariants.{Memory, NoEntry}
 

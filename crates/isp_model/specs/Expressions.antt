@@ -7,7 +7,7 @@ use Rattle.isp_base.specs.declared.types.Rate.TheVariants.{Uniform, Varying}
 use Rattle.isp_base.specs.declared.types.Span.{Span}
 use Rattle.isp_base.specs.declared.operators.BinOp.{BinOp}
 use Rattle.isp_base.specs.declared.trap.TrapKind.TheVariants.{Divide, Index}
-use Rattle.isp_rates.specs.Typed.{Typed, t_number, t_program_index, t_variable, t_item, t_brackets, t_binary, type_of}
+use Rattle.isp_thin.specs.Typed.{Typed, t_number, t_program_index, t_variable, t_item, t_brackets, t_binary, type_of}
 use Rattle.isp_base.specs.Sets.{Mask}
 use Rattle.isp_base.specs.Access.{is_outside, element, is_zero}
 use Rattle.isp_base.specs.Maps.{on, map1, map2}

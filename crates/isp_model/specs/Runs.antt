@@ -5,7 +5,7 @@ use Rattle.isp_base.specs.Rows.{Row}
 use Rattle.isp_base.specs.Outcomes.{Outcome, Ends, Traps, GoesOn}
 use Rattle.isp_base.specs.declared.signature.Argument.{Argument}
 use Rattle.isp_base.specs.declared.signature.Argument.TheVariants.{Value as AValue, Array as AnArray}
-use Rattle.isp_rates.specs.Typed.{Function}
+use Rattle.isp_thin.specs.Typed.{Function}
 use Rattle.isp_base.specs.Sets.{everyone}
 use Rattle.isp_base.specs.Arguments.{rows, argument_bits, row_bits, rows_now}
 use Rattle.isp_model.specs.State.{State, Stores, tick, Stops, Res, Went, Trapped, Cut}

@@ -12,10 +12,10 @@ use Rattle.isp_base.specs.declared.operators.BinOp.{BinOp}
 use Rattle.isp_base.specs.declared.trap.Trap.{Trap}
 use Rattle.isp_base.specs.declared.trap.TrapKind.{TrapKind}
 use Rattle.isp_base.specs.declared.signature.Argument.{Argument}
-use Rattle.isp_rates.specs.declared.typed.Holds.{Holds}
-use Rattle.isp_rates.specs.declared.typed.Holds.TheVariants.{One as OneValue, Many}
-use Rattle.isp_rates.specs.Fine.{goes_to, rate_or}
-use Rattle.isp_rates.specs.Typed.{Typed, type_of, TStmt}
+use Rattle.isp_thin.specs.declared.typed.Holds.{Holds}
+use Rattle.isp_thin.specs.declared.typed.Holds.TheVariants.{One as OneValue, Many}
+use Rattle.isp_thin.specs.Fine.{goes_to, rate_or}
+use Rattle.isp_thin.specs.Typed.{Typed, type_of, TStmt}
 use Rattle.isp_base.specs.Sets.{Mask, flag_of, any}
 use Rattle.isp_base.specs.Maps.{Lanes, lane_of, on, put}
 use Rattle.isp_base.specs.Access.{scatter, is_outside, is_zero, element}

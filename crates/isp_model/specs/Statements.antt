@@ -5,7 +5,7 @@ use Rattle.isp_base.specs.declared.types.Rate.{Rate}
 use Rattle.isp_base.specs.declared.types.Rate.TheVariants.{Uniform, Varying}
 use Rattle.isp_base.specs.declared.types.Span.{Span}
 use Rattle.isp_base.specs.declared.trap.TrapKind.TheVariants.{Index}
-use Rattle.isp_rates.specs.Typed.{type_of, TStmt, t_declare, t_assign, t_assign_item}
+use Rattle.isp_thin.specs.Typed.{type_of, TStmt, t_declare, t_assign, t_assign_item}
 use Rattle.isp_base.specs.Sets.{Mask, any}
 use Rattle.isp_base.specs.Maps.{Lanes, over, put}
 use Rattle.isp_base.specs.Access.{scatter, is_outside, element}

@@ -3,7 +3,7 @@ use Rattle.std.specs.Prelude.{◌≡◌, ℕ, ◌≤◌, List, ◌++◌}
 use Rattle.isp_base.specs.Prefixes.{IsPrefix}
 use Rattle.isp_base.specs.Outcomes.{Outcome, Ends, Traps, GoesOn, out_of}
 use Rattle.isp_base.specs.declared.signature.Argument.{Argument}
-use Rattle.isp_rates.specs.Typed.{Function}
+use Rattle.isp_thin.specs.Typed.{Function}
 use Rattle.isp_model.specs.Runs.{run_of}
 
 abbrev pub Later : Outcome → Outcome → Type 0

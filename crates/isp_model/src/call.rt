@@ -1,7 +1,7 @@
 //! A call of a function by a gang: what its expressions give.
 ghost use Rattle.std.specs.Prelude.{◌≡◌, ◌<◌, ℕ, length, slice_get, Some, IfOk, IfErr, Bool};
-ghost use Rattle.isp_rates.specs.declared.typed.Holds.TheVariants as holds;
-ghost use Rattle.isp_rates.specs.Typed.{typed_of};
+ghost use Rattle.isp_thin.specs.declared.typed.Holds.TheVariants as holds;
+ghost use Rattle.isp_thin.specs.Typed.{typed_of};
 ghost use Rattle.isp_model.specs.State.{offender};
 ghost use Rattle.isp_base.specs.Access.{is_outside, is_zero};
 ghost use Rattle.isp_model.specs.Expressions.{variable};
@@ -14,7 +14,7 @@ use crate::computed::{joined, outside, undefined};
 use crate::lanes::{Active, Computed, instances};
 use crate::state::State;
 use isp_base::{BinOp, Elem, Rate, Span, Trap, TrapKind, Ty};
-use isp_rates::{Typed, TypedFunction};
+use isp_thin::{Typed, TypedFunction};
 
 /// What stays the same in a call: the function, the gang's size, how many turns each entry of a
 /// loop may take, and the array that each variable names.
@@ -27,8 +27,8 @@ pub struct Call<'a> {
 }
 
 impl Call<'_> {
-    ghost use Rattle.isp_rates.specs.Fine.{IsFine};
-    ghost use Rattle.isp_rates.specs.Typed.{type_of};
+    ghost use Rattle.isp_thin.specs.Fine.{IsFine};
+    ghost use Rattle.isp_thin.specs.Typed.{type_of};
     ghost use Rattle.isp_model.specs.Seen.{Shaped, Evaluates, Traps, variables_of, seen};
 
     /// What an expression gives over a set of instances.

@@ -1,7 +1,7 @@
 //! What is done to the values of a set of instances.
 ghost use Rattle.std.specs.Prelude.{◌≡◌, ◌<◌, ◌≤◌, ◌^◌, ℕ, true, false};
 ghost use Rattle.isp_base.specs.Values.{op_bits, width};
-ghost use Rattle.isp_rates.specs.Fine.{rate_or};
+ghost use Rattle.isp_thin.specs.Fine.{rate_or};
 ghost use Rattle.isp_base.specs.Maps.{over, lane_of};
 ghost use Rattle.isp_model.specs.State.{offender, spread};
 ghost use Rattle.isp_base.specs.Access.{is_outside, element, is_zero};

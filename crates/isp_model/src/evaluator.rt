@@ -2,8 +2,8 @@
 ghost use Rattle.std.specs.Prelude.{◌≡◌, ◌≤◌, ℕ, length, Some, None, IfOk, IfErr, true};
 ghost use Rattle.isp_base.specs.Binding.{has_signature};
 ghost use Rattle.isp_base.specs.Types.{gang_width};
-ghost use Rattle.isp_rates.specs.Fine.{IsFineFunction};
-ghost use Rattle.isp_rates.specs.Typed.{Function, function_of, functions_of};
+ghost use Rattle.isp_thin.specs.Fine.{IsFineFunction};
+ghost use Rattle.isp_thin.specs.Typed.{Function, function_of, functions_of};
 ghost use Rattle.isp_model.specs.Entry.{entry_of, IsRefused};
 ghost use Rattle.isp_model.specs.Outcomes.{outcome_seen};
 ghost use Rattle.isp_model.specs.Runs.{run_of};
@@ -14,7 +14,7 @@ use crate::lanes::everyone;
 use crate::outcome::Outcome;
 use crate::state::{State, stores};
 use isp_base::{Bound, Gang};
-use isp_rates::{Checked, TypedFunction};
+use isp_thin::{Checked, TypedFunction};
 use std::alloc::{AllocError, Global};
 
 /// The run of an entry from bound arguments, over all instances of the gang; each entry of a loop

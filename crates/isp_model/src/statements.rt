@@ -1,8 +1,8 @@
 //! What a call's statements do.
 ghost use Rattle.std.specs.Prelude.{◌≡◌, ◌<◌, ℕ, length, slice_get, Some, IfErr, OnOk, OnErr};
-ghost use Rattle.isp_rates.specs.Fine.{IsFineStmt, AreFine};
-ghost use Rattle.isp_rates.specs.declared.typed.Holds.TheVariants as holds;
-ghost use Rattle.isp_rates.specs.Typed.{tstmt_of, tstmts_of};
+ghost use Rattle.isp_thin.specs.Fine.{IsFineStmt, AreFine};
+ghost use Rattle.isp_thin.specs.declared.typed.Holds.TheVariants as holds;
+ghost use Rattle.isp_thin.specs.Typed.{tstmt_of, tstmts_of};
 ghost use Rattle.isp_model.specs.State.{offender};
 ghost use Rattle.isp_base.specs.Access.{is_outside};
 ghost use Rattle.isp_model.specs.Statements.{written};
@@ -16,7 +16,7 @@ use crate::computed::{merged, outside};
 use crate::lanes::{Active, Computed};
 use crate::state::State;
 use isp_base::{Elem, Rate, Span, Trap, TrapKind, Ty};
-use isp_rates::TypedStmt;
+use isp_thin::TypedStmt;
 
 impl Call<'_> {
     /// The statements of the body, one after the other, over a set of instances.

@@ -3,8 +3,8 @@ use isp_base::{Argument, Array, Bound, Elem, Gang};
 use isp_engine::front;
 use isp_lex::lex;
 use isp_model::{Outcome, evaluate};
-use isp_rates::check_tree;
 use isp_syntax::parse;
+use isp_thin::check_tree;
 use std::test::Fail;
 
 const DOUBLE: &str =

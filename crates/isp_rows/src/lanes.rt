@@ -357,10 +357,7 @@ fn masks(rt: HostRuntime) {
     assert_eq!(rt; on(&low.or(&odd)), [true; 4]);
     assert_eq!(rt; on(&low.and_not(&odd)), [true, false, true, false]);
     assert_eq!(rt; on(&odd.lowest()), [false, true, false, false]);
-    assert_eq!(rt;
-        (odd.first(), LaneMask::<4>::none().first()),
-        (1, 0)
-    );
+    assert_eq!(rt; (odd.first(), LaneMask::<4>::none().first()), (1, 0));
     assert_eq!(rt; (odd.any(), LaneMask::<4>::none().any()), (true, false));
     let mut flags = Lanes::<4>::zero(Elem::Bool);
     flags.set(0, 1);

@@ -1,9 +1,9 @@
 //! Trees as one line of text each: what a test compares.
 use isp_base::Span;
 use isp_syntax::{
-    Argument, Assignment, Base, Block, Change, Declaration, Expr, First, Form, Function, Item, Jump,
-    Linkage, Operator, Param, Place, Prefix, Qualifier, Range, Simple, Size, Stmt, Tiling, Tree,
-    TypeWords,
+    Argument, Assignment, Base, Block, Change, Declaration, Expr, First, Form, Function, Item,
+    Jump, Linkage, Operator, Param, Place, Prefix, Qualifier, Range, Simple, Size, Stmt, Tiling,
+    Tree, TypeWords,
 };
 use std::alloc::AllocError;
 
@@ -258,7 +258,9 @@ fn item(out: &mut String, item: &Item) -> Result<(), AllocError> {
     match item {
         Item::Plain(name) => word(out, name.name.as_str()),
         Item::Value {
-            word: name, value, ..
+            word: name,
+            value,
+            ..
         } => {
             opening(out, "is")?;
             word(out, name.name.as_str())?;
@@ -266,7 +268,9 @@ fn item(out: &mut String, item: &Item) -> Result<(), AllocError> {
             closing(out)
         }
         Item::Array {
-            word: name, size, ..
+            word: name,
+            size,
+            ..
         } => {
             opening(out, "array")?;
             word(out, name.name.as_str())?;
@@ -353,7 +357,10 @@ fn outer(out: &mut String, s: &Stmt) -> Result<(), AllocError> {
     match s {
         Stmt::Block(inside) => return block(out, inside),
         Stmt::If {
-            form, test, then, ..
+            form,
+            test,
+            then,
+            ..
         } => {
             formed(out, *form, "if")?;
             expr(out, test)?;
@@ -372,14 +379,20 @@ fn outer(out: &mut String, s: &Stmt) -> Result<(), AllocError> {
             stmt(out, otherwise)?;
         }
         Stmt::While {
-            form, test, body, ..
+            form,
+            test,
+            body,
+            ..
         } => {
             formed(out, *form, "while")?;
             expr(out, test)?;
             stmt(out, body)?;
         }
         Stmt::Do {
-            form, body, test, ..
+            form,
+            body,
+            test,
+            ..
         } => {
             formed(out, *form, "do")?;
             stmt(out, body)?;
@@ -415,7 +428,9 @@ fn outer(out: &mut String, s: &Stmt) -> Result<(), AllocError> {
             stmt(out, body)?;
         }
         Stmt::ForeachActive {
-            word: name, body, ..
+            word: name,
+            body,
+            ..
         } => {
             opening(out, "foreach_active")?;
             word(out, name.name.as_str())?;
@@ -440,7 +455,8 @@ fn leaf(out: &mut String, s: &Stmt) -> Result<(), AllocError> {
         } => declaration(out, declared),
         Stmt::Simple { simple: part, .. } => simple(out, part),
         Stmt::Jump {
-            jump: Jump::Break, ..
+            jump: Jump::Break,
+            ..
         } => word(out, "break"),
         Stmt::Jump {
             jump: Jump::Continue,

@@ -42,19 +42,37 @@ fn inside(alloc: Global, stmt: &str) -> Result<String, SourceFault> {
 fn functions(rt: HostRuntime) -> Result<(), Fail> {
     let alloc = rt.alloc();
     let linked = shape(alloc, "export static inline void f(void) { }")?;
-    assert_eq!(rt; linked.as_str(), " (function export static inline (type void) f (block))");
+    assert_eq!(rt;
+        linked.as_str(),
+        " (function export static inline (type void) f (block))"
+    );
     let given = shape(alloc, "int f(uniform int a[], bool b) { } void g() { }")?;
-    assert_eq!(rt; given.as_str(), " (function (type int) f (array (type uniform int) a) (value (type bool) b) (block)) (function (type void) g (block))");
+    assert_eq!(rt;
+        given.as_str(),
+        " (function (type int) f (array (type uniform int) a) (value (type bool) b) (block)) (function (type void) g (block))"
+    );
     Ok(())
 }
 
 #[test]
 fn types(rt: HostRuntime) -> Result<(), Fail> {
     let alloc = rt.alloc();
-    let words = inside(alloc, "const uniform int8 a; varying uint16 b; signed c; unsigned d;")?;
-    assert_eq!(rt; words.as_str(), " (declare (type const uniform int8) a) (declare (type varying uint16) b) (declare (type signed) c) (declare (type unsigned) d)");
-    let bases = inside(alloc, "int16 a; int32 b; int64 c; uint d; uint8 e; uint32 f; uint64 g;")?;
-    assert_eq!(rt; bases.as_str(), " (declare (type int16) a) (declare (type int32) b) (declare (type int64) c) (declare (type uint) d) (declare (type uint8) e) (declare (type uint32) f) (declare (type uint64) g)");
+    let words = inside(
+        alloc,
+        "const uniform int8 a; varying uint16 b; signed c; unsigned d;",
+    )?;
+    assert_eq!(rt;
+        words.as_str(),
+        " (declare (type const uniform int8) a) (declare (type varying uint16) b) (declare (type signed) c) (declare (type unsigned) d)"
+    );
+    let bases = inside(
+        alloc,
+        "int16 a; int32 b; int64 c; uint d; uint8 e; uint32 f; uint64 g;",
+    )?;
+    assert_eq!(rt;
+        bases.as_str(),
+        " (declare (type int16) a) (declare (type int32) b) (declare (type int64) c) (declare (type uint) d) (declare (type uint8) e) (declare (type uint32) f) (declare (type uint64) g)"
+    );
     Ok(())
 }
 
@@ -62,7 +80,10 @@ fn types(rt: HostRuntime) -> Result<(), Fail> {
 fn declarations(rt: HostRuntime) -> Result<(), Fail> {
     let alloc = rt.alloc();
     let items = inside(alloc, "int a, b = 1, c[8], d[programCount];")?;
-    assert_eq!(rt; items.as_str(), " (declare (type int) a (is b 1) (array c 8) (array d programCount))");
+    assert_eq!(rt;
+        items.as_str(),
+        " (declare (type int) a (is b 1) (array c 8) (array d programCount))"
+    );
     Ok(())
 }
 
@@ -81,7 +102,10 @@ fn operators_by_level(rt: HostRuntime) -> Result<(), Fail> {
         ("a | b ^ c;", " (or a (xor b c))"),
         ("a && b | c;", " (and_also a (or b c))"),
         ("a || b && c;", " (or_else a (and_also b c))"),
-        ("a || b ? c : d ? 1 : 2;", " (choose (or_else a b) c (choose d 1 2))"),
+        (
+            "a || b ? c : d ? 1 : 2;",
+            " (choose (or_else a b) c (choose d 1 2))",
+        ),
     ];
     for (text, expected) in rows {
         assert_eq!(rt; inside(alloc, text)?.as_str(), expected);
@@ -100,9 +124,15 @@ fn operands(rt: HostRuntime) -> Result<(), Fail> {
         ("programCount;", " programCount"),
         ("a[b + 1];", " (element a (plus b 1))"),
         ("f();", " (call f)"),
-        ("f(a, &b, &c[1]);", " (call f a (reference b) (reference (element c 1)))"),
+        (
+            "f(a, &b, &c[1]);",
+            " (call f a (reference b) (reference (element c 1)))",
+        ),
         ("(a);", " (brackets a)"),
-        ("(uniform int)a * b;", " (times (cast (type uniform int) a) b)"),
+        (
+            "(uniform int)a * b;",
+            " (times (cast (type uniform int) a) b)",
+        ),
         ("-~!a;", " (negative (inverse (not a)))"),
     ];
     for (text, expected) in rows {
@@ -152,10 +182,19 @@ fn statements(rt: HostRuntime) -> Result<(), Fail> {
         ("do ; while (a);", " (do empty a)"),
         ("cdo ; while (a);", " (cdo empty a)"),
         ("for (;;) ;", " (for nothing nothing nothing empty)"),
-        ("cfor (int i = 0; i < 4; ++i) ;", " (cfor (declare (type int) (is i 0)) (less i 4) (increment i) empty)"),
-        ("for (i = 0; ; i += 2) ;", " (for (set i 0) nothing (set_plus i 2) empty)"),
+        (
+            "cfor (int i = 0; i < 4; ++i) ;",
+            " (cfor (declare (type int) (is i 0)) (less i 4) (increment i) empty)",
+        ),
+        (
+            "for (i = 0; ; i += 2) ;",
+            " (for (set i 0) nothing (set_plus i 2) empty)",
+        ),
         ("foreach (i = 0 ... 4) ;", " (foreach (range i 0 4) empty)"),
-        ("foreach_tiled (i = 0 ... 4, j = a ... b, k = 1 ... 2) ;", " (foreach_tiled (range i 0 4) (range j a b) (range k 1 2) empty)"),
+        (
+            "foreach_tiled (i = 0 ... 4, j = a ... b, k = 1 ... 2) ;",
+            " (foreach_tiled (range i 0 4) (range j a b) (range k 1 2) empty)",
+        ),
         ("foreach_active (i) ;", " (foreach_active i empty)"),
         ("unmasked { ; }", " (unmasked (block empty))"),
         ("return;", " (return nothing)"),
@@ -173,8 +212,14 @@ fn statements(rt: HostRuntime) -> Result<(), Fail> {
 #[test]
 fn places_of_assert(rt: HostRuntime) -> Result<(), Fail> {
     let alloc = rt.alloc();
-    assert_eq!(rt; inside(alloc, "assert(a) ;")?.as_str(), " (assert a 10..19 10..21)");
-    assert_eq!(rt; inside(alloc, "assert(a );")?.as_str(), " (assert a 10..20 10..21)");
+    assert_eq!(rt;
+        inside(alloc, "assert(a) ;")?.as_str(),
+        " (assert a 10..19 10..21)"
+    );
+    assert_eq!(rt;
+        inside(alloc, "assert(a );")?.as_str(),
+        " (assert a 10..20 10..21)"
+    );
     Ok(())
 }
 

@@ -3,9 +3,9 @@ use Rattle.std.specs.Prelude.{IfErr}
 use Rattle.std.specs.Result.{IsErrAnd}
 use Rattle.isp_lex.specs.declared.fault.SourceFault.TheVariants.{Memory}
 use Rattle.isp_base.specs.Types.{gang_width}
-use Rattle.isp_rates.specs.declared.checked.Program.{Program}
-use Rattle.isp_rates.specs.declared.typed.TypedFunction.{TypedFunction}
-use Rattle.isp_rates.specs.Typed.{functions_of}
+use Rattle.isp_thin.specs.declared.checked.Program.{Program}
+use Rattle.isp_thin.specs.declared.typed.TypedFunction.{TypedFunction}
+use Rattle.isp_thin.specs.Typed.{functions_of}
 use Rattle.isp_engine.specs.Entries.{entry_of, AreLowered}
 use Rattle.isp_engine.proofs.Images.{compiled, width_some, width_few}
 use Rattle.isp_engine.proofs.image.compile.Goals as goal

@@ -1,5 +1,5 @@
 use Rattle.std.proofs.Common.{take, map}
-use Rattle.isp_rates.specs.Typed.{functions_of}
+use Rattle.isp_thin.specs.Typed.{functions_of}
 use Rattle.isp_engine.specs.Entries.{entry_of, AreLowered}
 use Rattle.isp_engine.proofs.image.lower_all.Given as goal
 

@@ -1,6 +1,6 @@
 use Rattle.std.proofs.Common.{◌≡◌, ◌++◌, drop, length}
 use Rattle.std.specs.Prelude.{slice_index}
-use Rattle.isp_rates.specs.Typed.{tstmts_of}
+use Rattle.isp_thin.specs.Typed.{tstmts_of}
 use Rattle.isp_engine.specs.Lowering.{stmts_code, StmtsBelow}
 use Rattle.isp_engine.proofs.lower.statements.Given as goal
 

@@ -1,8 +1,8 @@
 use Rattle.std.proofs.Common.{Some, None, sym, ap, ◌∙◌}
 use Rattle.std.specs.Prelude.{if◌then◌else◌}
 use Rattle.isp_base.specs.Types.{gang_width}
-use Rattle.isp_rates.specs.declared.checked.Program.{Program}
-use Rattle.isp_rates.specs.Typed.{function_of}
+use Rattle.isp_thin.specs.declared.checked.Program.{Program}
+use Rattle.isp_thin.specs.Typed.{function_of}
 use Rattle.isp_model.specs.Entry.{if_signed}
 use Rattle.isp_model.specs.Runs.{run_of}
 use Rattle.isp_model.proofs.evaluator.evaluate.Goals as goal

@@ -1,7 +1,7 @@
 use Rattle.std.proofs.Common.{◌≡◌, List, length, get_or, refl, ap, ◌∙◌, subst, arith}
 use Rattle.isp_base.specs.declared.signature.Argument.{Argument}
 use Rattle.isp_base.specs.Types.{gang_width}
-use Rattle.isp_rates.specs.Typed.{function_of}
+use Rattle.isp_thin.specs.Typed.{function_of}
 use Rattle.isp_base.specs.Sets.{everyone, flag_of}
 use Rattle.isp_model.specs.State.{tick}
 use Rattle.isp_model.specs.Runs.{store_of, stores_of, first_state}

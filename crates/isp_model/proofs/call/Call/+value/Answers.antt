@@ -5,9 +5,9 @@ use Rattle.std.proofs.lemmas.Option.{slice_get_within}
 use Rattle.isp_base.specs.declared.types.Elem.{Elem}
 use Rattle.isp_base.specs.declared.types.Ty.{Ty}
 use Rattle.isp_base.specs.declared.trap.TrapKind.TheVariants.{Index}
-use Rattle.isp_rates.specs.declared.typed.Typed as rust
-use Rattle.isp_rates.specs.Fine.{IsFine}
-use Rattle.isp_rates.specs.Typed.{typed_of, type_of, t_item, t_brackets, t_binary}
+use Rattle.isp_thin.specs.declared.typed.Typed as rust
+use Rattle.isp_thin.specs.Fine.{IsFine}
+use Rattle.isp_thin.specs.Typed.{typed_of, type_of, t_item, t_brackets, t_binary}
 use Rattle.isp_model.specs.State.{offender}
 use Rattle.isp_base.specs.Access.{is_outside}
 use Rattle.isp_base.specs.Arguments.{row_bits}

@@ -1,9 +1,9 @@
 use Rattle.std.proofs.Common.{◌≡◌, ◌<◌, ◌≤◌, ◌∷◌, ◌+◌, List, length, get_or, drop, subst, sym, ap, ◌∙◌}
 use Rattle.std.proofs.lemmas.Result.{err_from_is_err_and}
 use Rattle.std.proofs.lemmas.List.{drop_all}
-use Rattle.isp_rates.specs.declared.typed.TypedStmt as rust_stmt
-use Rattle.isp_rates.specs.Fine.{IsFineStmt}
-use Rattle.isp_rates.specs.Typed.{TStmt, tstmt_of, tstmts_of}
+use Rattle.isp_thin.specs.declared.typed.TypedStmt as rust_stmt
+use Rattle.isp_thin.specs.Fine.{IsFineStmt}
+use Rattle.isp_thin.specs.Typed.{TStmt, tstmt_of, tstmts_of}
 use Rattle.isp_model.specs.declared.state.State as rust
 use Rattle.isp_base.specs.Sets.{flag_of}
 use Rattle.isp_model.specs.Seen.{variables_of, TrapsIn}

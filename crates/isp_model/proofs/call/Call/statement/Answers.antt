@@ -7,8 +7,8 @@ use Rattle.isp_base.specs.declared.types.Ty.{Ty}
 use Rattle.isp_base.specs.declared.trap.TrapKind.TheVariants.{Index}
 use Rattle.isp_base.specs.Rows.{Row}
 use Rattle.isp_base.specs.Values.{width}
-use Rattle.isp_rates.specs.Fine.{IsFineStmt}
-use Rattle.isp_rates.specs.Typed.{typed_of, type_of, tstmt_of}
+use Rattle.isp_thin.specs.Fine.{IsFineStmt}
+use Rattle.isp_thin.specs.Typed.{typed_of, type_of, tstmt_of}
 use Rattle.isp_model.specs.State.{offender}
 use Rattle.isp_base.specs.Access.{is_outside}
 use Rattle.isp_base.specs.Arguments.{row_bits}

@@ -4,7 +4,7 @@ use Rattle.std.proofs.lemmas.Option.{slice_get_within}
 use Rattle.isp_base.specs.declared.types.Rate.{Rate}
 use Rattle.isp_base.specs.declared.types.Rate.TheVariants.{Varying}
 use Rattle.isp_base.specs.Values.{width}
-use Rattle.isp_rates.specs.Fine.{goes_to}
+use Rattle.isp_thin.specs.Fine.{goes_to}
 use Rattle.isp_base.specs.Maps.{lane_of}
 use Rattle.isp_model.proofs.call.Call.variable.Goals as goal
 
