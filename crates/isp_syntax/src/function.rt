@@ -5,7 +5,7 @@ ghost use Rattle.isp_syntax.specs.reader.Readers.{Gives, optional, mark_at, list
 ghost use Rattle.isp_syntax.specs.reader.Choices.{signs_at};
 ghost use Rattle.isp_syntax.specs.reader.Programs.{linkage_of, linkage_at, linkages_at, param_at, only_void, params_at, signature_of, signature_at, function_from, function_at};
 
-use crate::reading::{mark, starts_with, tail, word};
+use crate::reading::{in_box, mark, starts_with, tail, word};
 use crate::stmt::block;
 use crate::stop::Stop;
 use crate::types::{first_span, type_words};
@@ -156,7 +156,7 @@ fn signature(alloc: Global, tokens: &[Token]) -> Result<(Box<Heading>, &[Token])
         word,
         params,
     };
-    Ok((Box::new(alloc, heading)?, rest))
+    Ok((in_box(alloc, heading)?, rest))
 }
 
 /// A function made of its parts.

@@ -10,7 +10,7 @@ ghost use Rattle.isp_syntax.specs.reader.Stmts.{closed_test_at, test_at, head_of
 
 use crate::declaration::declaration;
 use crate::expr::expr;
-use crate::reading::{mark, refuse, starts_with, word};
+use crate::reading::{in_box, mark, refuse, starts_with, word};
 use crate::simple::simple;
 use crate::start::{Start, stmt_start};
 use crate::stop::{Stop, Why};
@@ -104,11 +104,11 @@ fn first(alloc: Global, left: usize, tokens: &[Token]) -> Result<(Box<First>, &[
     if begins_type(tokens) {
         let (declaration, rest) = declaration(alloc, left, tokens)?;
         let first = First::Declare(Box::into_inner(declaration));
-        return Ok((Box::new(alloc, first)?, rest));
+        return Ok((in_box(alloc, first)?, rest));
     }
     let (simple, rest) = simple(alloc, left, tokens)?;
     let first = First::Simple(Box::into_inner(simple));
-    Ok((Box::new(alloc, first)?, rest))
+    Ok((in_box(alloc, first)?, rest))
 }
 
 /// The refusal where nothing more may be read: of what begins here, if it does.
@@ -202,7 +202,7 @@ pub fn head(alloc: Global, left: usize, tokens: &[Token]) -> Result<(Box<ForHead
     let (_semicolon, rest) = mark(Mark::Semicolon, rest)?;
     let (step, rest) = maybe_step(alloc, left, rest)?;
     let (_close, rest) = mark(Mark::ParenClose, rest)?;
-    Ok((Box::new(alloc, ForHead { first, test, step })?, rest))
+    Ok((in_box(alloc, ForHead { first, test, step })?, rest))
 }
 
 /// One dimension of a `foreach`.

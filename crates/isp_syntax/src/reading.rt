@@ -1,5 +1,5 @@
 //! Single tokens.
-ghost use Rattle.std.specs.Prelude.{◌≡◌, ◌<◌, IfOk, length, drop, max};
+ghost use Rattle.std.specs.Prelude.{◌≡◌, ◌<◌, IfOk, IfErr, length, drop, max};
 ghost use Rattle.isp_lex.specs.Tokens.{starts_with};
 ghost use Rattle.isp_syntax.specs.reader.Readers.{Gives, refusal, mark_at, word_at};
 
@@ -7,6 +7,7 @@ use crate::stop::{Refusal, Stop, Why};
 use isp_base::Span;
 use isp_lex::{Mark, Token, TokenKind};
 use isp_tree::Word;
+use std::alloc::Global;
 
 /// The refusal of the first of these tokens, or of the end.
 pub fn refuse(why: Why, tokens: &[Token]) -> Stop
@@ -72,4 +73,12 @@ pub fn larger(a: usize, b: usize) -> usize
     ensures { result ≡ max a b }
 {
     if a < b { b } else { a }
+}
+
+/// A value in a box: a function that reads on holds less while memory may be refused.
+pub fn in_box<T: Drop>(alloc: Global, value: T) -> Result<Box<T>, Stop>
+    ensures value { IfOk result (λ b. b.value ≡ value) }
+    ensures memory { IfErr result (λ e. e ≡ Stop.Memory) }
+{
+    Ok(Box::new(alloc, value)?)
 }

@@ -7,7 +7,7 @@ ghost use Rattle.isp_syntax.specs.reader.Choices.{begins_with, sign_at, perhaps_
 ghost use Rattle.isp_syntax.specs.reader.Stmts.{assignment_of, change_of, is_assignment, is_change, is_ending, ending_of, ending_at, ended_from, simple_from, simple_at};
 
 use crate::expr::{expr, unary};
-use crate::reading::refuse;
+use crate::reading::{in_box, refuse};
 use crate::stop::{Stop, Why};
 use isp_base::Span;
 use isp_lex::{Mark, Token, TokenKind};
@@ -192,9 +192,9 @@ pub fn simple(alloc: Global, left: usize, tokens: &[Token]) -> Result<(Box<Simpl
     if changes(tokens) {
         let ((sign, place), rest) = change(tokens)?;
         let (target, _height, rest) = unary(alloc, left, rest)?;
-        return Ok((Box::new(alloc, stepped(sign, place, target))?, rest));
+        return Ok((in_box(alloc, stepped(sign, place, target))?, rest));
     }
     let (target, _height, rest) = expr(alloc, left, tokens)?;
     let (ending, rest) = maybe_end(alloc, left, rest)?;
-    Ok((Box::new(alloc, ended(target, ending))?, rest))
+    Ok((in_box(alloc, ended(target, ending))?, rest))
 }
