@@ -1,0 +1,297 @@
+//! Declarations and statements. Each has the span from its first byte to its last, its semicolon
+//! included.
+ghost use Rattle.std.specs.Prelude.{◌≡◌};
+
+use crate::expr::Expr;
+use crate::types::{TypeWords, Word};
+use isp_base::{Span, Value};
+use isp_lex::Text;
+
+/// How many elements a local array has, as it is written between its brackets.
+#[derive(Clone, Copy)]
+pub enum Size {
+    Number { value: Value, span: Span },
+    /// `programCount`.
+    ProgramCount { span: Span },
+}
+
+/// A declared variable.
+#[derive(Drop)]
+pub enum Item {
+    /// `x`
+    Plain(Word),
+    /// `x = e`
+    Value { word: Word, value: Expr, span: Span },
+    /// `a[size]`
+    Array { word: Word, size: Size, span: Span },
+}
+
+/// A type and the variables declared with it, one at least, without a semicolon.
+#[derive(Drop)]
+pub struct Declaration {
+    pub ty: TypeWords,
+    pub items: Vec<Item>,
+    pub span: Span,
+}
+
+/// How an assignment combines the target's old value with the value.
+#[derive(Clone, Copy)]
+pub enum Assignment {
+    /// `=`
+    Replace,
+    /// `+=`
+    Add,
+    Subtract,
+    Multiply,
+    Divide,
+    Remainder,
+    And,
+    Or,
+    Xor,
+    ShiftLeft,
+    ShiftRight,
+}
+
+/// A step by one.
+#[derive(Clone, Copy)]
+pub enum Change {
+    /// `++`
+    Increment,
+    /// `--`
+    Decrement,
+}
+
+/// What may stand as a statement of its own before a semicolon, and as the step of a `for`; without
+/// the semicolon.
+#[derive(Drop)]
+pub enum Simple {
+    /// An expression, whose value is not used.
+    Value(Expr),
+    /// `target = value`, `target += value`, ..
+    Assign {
+        assignment: Assignment,
+        target: Expr,
+        value: Expr,
+        span: Span,
+    },
+    /// `x++`, `x--`, `++x` or `--x`.
+    Change {
+        change: Change,
+        target: Expr,
+        span: Span,
+    },
+}
+
+/// The first part of a `for`.
+#[derive(Drop)]
+pub enum First {
+    Declare(Declaration),
+    Simple(Simple),
+}
+
+/// One dimension of a `foreach`: the index, where it starts, and where it ends.
+#[derive(Drop)]
+pub struct Range {
+    pub word: Word,
+    pub start: Expr,
+    pub end: Expr,
+    pub span: Span,
+}
+
+/// Whether a statement is written in its c-form, which says that the instances mostly agree on the test.
+#[derive(Clone, Copy)]
+pub enum Form {
+    Plain,
+    Coherent,
+}
+
+/// Whether `foreach` or `foreach_tiled` is written. Both mean the same.
+#[derive(Clone, Copy)]
+pub enum Tiling {
+    Plain,
+    Tiled,
+}
+
+/// `break` or `continue`.
+#[derive(Clone, Copy)]
+pub enum Jump {
+    Break,
+    Continue,
+}
+
+/// A statement. `keyword` is the place of its first word alone.
+#[cycle(stmt)]
+#[derive(Drop)]
+pub enum Stmt {
+    Block(Block),
+    /// `;`
+    Empty {
+        span: Span,
+    },
+    Declare {
+        declaration: Declaration,
+        span: Span,
+    },
+    Simple {
+        simple: Simple,
+        span: Span,
+    },
+    /// An `if` without `else`.
+    If {
+        form: Form,
+        test: Expr,
+        then: Box<Stmt>,
+        span: Span,
+    },
+    IfElse {
+        form: Form,
+        test: Expr,
+        then: Box<Stmt>,
+        otherwise: Box<Stmt>,
+        span: Span,
+    },
+    While {
+        form: Form,
+        test: Expr,
+        body: Box<Stmt>,
+        span: Span,
+    },
+    /// `do body while (test);`
+    Do {
+        form: Form,
+        body: Box<Stmt>,
+        test: Expr,
+        span: Span,
+    },
+    For {
+        form: Form,
+        first: Option<First>,
+        test: Option<Expr>,
+        step: Option<Simple>,
+        body: Box<Stmt>,
+        span: Span,
+    },
+    /// One to three ranges.
+    Foreach {
+        tiling: Tiling,
+        keyword: Span,
+        ranges: Vec<Range>,
+        body: Box<Stmt>,
+        span: Span,
+    },
+    ForeachActive {
+        keyword: Span,
+        word: Word,
+        body: Box<Stmt>,
+        span: Span,
+    },
+    Unmasked {
+        keyword: Span,
+        body: Block,
+        span: Span,
+    },
+    Jump {
+        jump: Jump,
+        keyword: Span,
+        span: Span,
+    },
+    Return {
+        keyword: Span,
+        value: Option<Expr>,
+        span: Span,
+    },
+    /// The text, where it stands, and the values for its places.
+    Print {
+        keyword: Span,
+        text: Text,
+        text_span: Span,
+        values: Vec<Expr>,
+        span: Span,
+    },
+    /// `call_span` is the place from the word to the closing bracket, which a trap names.
+    Assert {
+        test: Expr,
+        call_span: Span,
+        span: Span,
+    },
+}
+
+/// `{ .. }`
+#[cycle(stmt)]
+#[derive(Drop)]
+pub struct Block {
+    pub statements: Vec<Stmt>,
+    pub span: Span,
+}
+
+impl Size {
+    ghost use Rattle.isp_tree.specs.Tree.{span_of_size};
+
+    /// From the first byte to the last.
+    pub fn span(self) -> Span
+        ensures { result ≡ span_of_size self }
+    {
+        match self {
+            Size::Number { span, .. } | Size::ProgramCount { span } => span,
+        }
+    }
+}
+
+impl Item {
+    ghost use Rattle.isp_tree.specs.Tree.{span_of_item};
+    ghost use Rattle.isp_tree.specs.Views.{item_of};
+
+    /// From the first byte to the last.
+    pub fn span(&self) -> Span
+        ensures { result ≡ span_of_item (item_of self.now) }
+    {
+        match self {
+            Item::Plain(word) => word.span,
+            Item::Value { span, .. } | Item::Array { span, .. } => *span,
+        }
+    }
+}
+
+impl Simple {
+    ghost use Rattle.isp_tree.specs.Tree.{span_of_simple};
+    ghost use Rattle.isp_tree.specs.Views.{simple_of};
+
+    /// From the first byte to the last.
+    pub fn span(&self) -> Span
+        ensures { result ≡ span_of_simple (simple_of self.now) }
+    {
+        match self {
+            Simple::Value(value) => value.span(),
+            Simple::Assign { span, .. } | Simple::Change { span, .. } => *span,
+        }
+    }
+}
+
+impl Stmt {
+    ghost use Rattle.isp_tree.specs.Tree.{span_of_stmt};
+    ghost use Rattle.isp_tree.specs.Views.{stmt_of};
+
+    /// From the first byte to the last.
+    pub fn span(&self) -> Span
+        ensures { result ≡ span_of_stmt (stmt_of self.now) }
+    {
+        match self {
+            Stmt::Block(block) => block.span,
+            Stmt::Empty { span }
+            | Stmt::Declare { span, .. }
+            | Stmt::Simple { span, .. }
+            | Stmt::If { span, .. }
+            | Stmt::IfElse { span, .. }
+            | Stmt::While { span, .. }
+            | Stmt::Do { span, .. }
+            | Stmt::For { span, .. }
+            | Stmt::Foreach { span, .. }
+            | Stmt::ForeachActive { span, .. }
+            | Stmt::Unmasked { span, .. }
+            | Stmt::Jump { span, .. }
+            | Stmt::Return { span, .. }
+            | Stmt::Print { span, .. }
+            | Stmt::Assert { span, .. } => *span,
+        }
+    }
+}
