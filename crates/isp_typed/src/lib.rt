@@ -1,4 +1,5 @@
-//! Typed programs: what a tree means by its names and types.
+//! Typed programs: what a tree says, by its names and types. Each variable is known by its number, each
+//! conversion is written where it is made, and each node has its type and its place.
 #![tactic(auto)]
 
 mod expr;
@@ -7,8 +8,8 @@ mod library;
 mod stmt;
 mod variable;
 
-pub use expr::TypedExpr;
-pub use function::{Typed, TypedFunction};
+pub use expr::{TypedArgument, TypedBase, TypedCall, TypedExpr, TypedPlace};
+pub use function::{Program, Typed, TypedFunction};
 pub use library::Library;
-pub use stmt::{Target, TypedFirst, TypedItem, TypedRange, TypedSimple, TypedStmt};
+pub use stmt::{TypedBlock, TypedFirst, TypedItem, TypedRange, TypedSimple, TypedStmt};
 pub use variable::{ArrayVariable, Holds, Logic, Variable};

@@ -2,7 +2,7 @@
 
 /// A function of the library on values. Each has one element type, which its first value has (of
 /// `Select` the second), and what the others are converted to is said beside it.
-#[derive(Clone, Copy, Debug)]
+#[derive(Clone, Copy)]
 pub enum Library {
     /// The sum over the active instances, of a wider type.
     ReduceAdd,

@@ -1,51 +1,68 @@
 //! Statements over numbered variables.
 
-use crate::expr::TypedExpr;
+use crate::expr::{TypedCall, TypedExpr, TypedPlace};
 use crate::variable::ArrayVariable;
 use isp_base::{BinOp, Elem, Span, Ty};
 use isp_lex::Text;
-use isp_syntax::{Form, Jump};
+use isp_tree::{Form, Jump};
 
-/// A place that a value is stored to.
-#[derive(Drop)]
-pub enum Target {
-    /// A variable and its type.
-    Variable(usize, Ty, Span),
-    /// An element: the array, the index, and the type of the place, uniform where both are.
-    Item(ArrayVariable, TypedExpr, Ty, Span),
-}
-
-/// A declared variable.
+/// A declared variable, by its number.
 #[derive(Drop)]
 pub enum TypedItem {
-    /// The variable, its type, and the initial value of its element type; without one it is 0.
-    Value(usize, Ty, Option<TypedExpr>, Span),
-    /// An array, whose elements become 0.
-    Array(ArrayVariable, Span),
+    /// Without an initial value it is 0.
+    Plain { number: usize, ty: Ty, span: Span },
+    /// The initial value has the variable's element type.
+    Value {
+        number: usize,
+        ty: Ty,
+        value: TypedExpr,
+        span: Span,
+    },
+    /// Its elements are 0.
+    Array { array: ArrayVariable, span: Span },
 }
 
-/// What stands as a statement before a semicolon, and as the step of a `for`. Its span has no semicolon.
+/// What stands as a statement of its own before a semicolon, and as the step of a `for`; without the
+/// semicolon.
 #[derive(Drop)]
 pub enum TypedSimple {
     /// An expression, whose value is not used.
     Value(TypedExpr),
-    /// `=`: the target, and the value, of the target's element type.
-    Assign(Target, TypedExpr, Span),
-    /// `op=`: the operator, the element type in which it works, the target, and the value of that
-    /// type. The result is converted to the target's type.
-    Update(BinOp, Elem, Target, TypedExpr, Span),
-    /// `++` and `--`: as `Update` with a value of 1, which is no node.
-    Step(BinOp, Elem, Target, Span),
+    /// A call of a function without a result.
+    Call(TypedCall),
+    /// `target = value`, the value of the target's element type.
+    Assign {
+        target: TypedPlace,
+        value: TypedExpr,
+        span: Span,
+    },
+    /// `target op= value`. The operator works in the element type `elem`, which the value has; the target's
+    /// old value is converted to it, and the result to the target's.
+    Update {
+        operator: BinOp,
+        elem: Elem,
+        target: TypedPlace,
+        value: TypedExpr,
+        span: Span,
+    },
+    /// `++` and `--`: likewise, with the number 1 in the place of the value.
+    Step {
+        operator: BinOp,
+        elem: Elem,
+        target: TypedPlace,
+        span: Span,
+    },
 }
 
 /// The first part of a `for`.
 #[derive(Drop)]
 pub enum TypedFirst {
-    Declare(Vec<TypedItem>, Span),
+    Declare { items: Vec<TypedItem>, span: Span },
     Simple(TypedSimple),
 }
 
-/// One dimension of a `foreach`: the number of the index, and where it starts and ends, of type int32.
+/// One dimension of a `foreach`: its index, a constant varying int32, by its number, and where it starts
+/// and ends, each an int32.
 #[derive(Drop)]
 pub struct TypedRange {
     pub index: usize,
@@ -54,15 +71,22 @@ pub struct TypedRange {
     pub span: Span,
 }
 
-/// A statement. `before` is how many variables of the function were declared before it, so that a
-/// variable is declared outside it exactly where its number is less.
+/// A statement. `keyword` is the place of its first word. `before` is how many variables of the function
+/// are declared before it: a variable is declared outside it where its number is less.
+#[cycle(stmt)]
 #[derive(Drop)]
 pub enum TypedStmt {
-    /// `{ .. }`, and `;`, which is `{ }`.
-    Block(Vec<TypedStmt>, Span),
-    Declare(Vec<TypedItem>, Span),
-    Simple(TypedSimple, Span),
-    /// An `if` without `else`; the test is a bool.
+    /// `{ .. }`, and `;`, which is one without statements.
+    Block(TypedBlock),
+    Declare {
+        items: Vec<TypedItem>,
+        span: Span,
+    },
+    Simple {
+        simple: TypedSimple,
+        span: Span,
+    },
+    /// An `if` without `else`. The test is a bool, as in each statement below.
     If {
         form: Form,
         before: usize,
@@ -78,7 +102,13 @@ pub enum TypedStmt {
         otherwise: Box<TypedStmt>,
         span: Span,
     },
-    /// `do stmt while (e);`; the test is a bool.
+    While {
+        form: Form,
+        before: usize,
+        test: TypedExpr,
+        body: Box<TypedStmt>,
+        span: Span,
+    },
     Do {
         form: Form,
         before: usize,
@@ -86,8 +116,7 @@ pub enum TypedStmt {
         test: TypedExpr,
         span: Span,
     },
-    /// A `for`, and a `while`, which is a `for` with a test alone. `inside` is how many variables
-    /// were declared before its body, those of its first part included.
+    /// `inside` is how many variables are declared before its body, those of its first part included.
     For {
         form: Form,
         before: usize,
@@ -98,50 +127,57 @@ pub enum TypedStmt {
         body: Box<TypedStmt>,
         span: Span,
     },
-    /// A `foreach` or a `foreach_tiled`.
+    /// A `foreach` or a `foreach_tiled`, with one to three ranges.
     Foreach {
-        word: Span,
+        keyword: Span,
         before: usize,
         ranges: Vec<TypedRange>,
         body: Box<TypedStmt>,
         span: Span,
     },
-    /// The index is a constant uniform int64.
+    /// The index, by its number, is a constant uniform int64.
     ForeachActive {
-        word: Span,
+        keyword: Span,
         before: usize,
         index: usize,
         body: Box<TypedStmt>,
         span: Span,
     },
-    /// Its statement is a block.
     Unmasked {
-        word: Span,
-        body: Box<TypedStmt>,
+        keyword: Span,
+        body: TypedBlock,
         span: Span,
     },
     Jump {
         jump: Jump,
-        word: Span,
+        keyword: Span,
         span: Span,
     },
     /// The value has the element type of the function's result.
     Return {
-        word: Span,
+        keyword: Span,
         value: Option<TypedExpr>,
         span: Span,
     },
     /// Each `%` of the text stands for the next value.
     Print {
-        word: Span,
+        keyword: Span,
         text: Text,
         values: Vec<TypedExpr>,
         span: Span,
     },
-    /// `place` is from the word to the closing bracket.
+    /// `call_span` is the place from the word to the closing bracket, which a trap names.
     Assert {
         test: TypedExpr,
-        place: Span,
+        call_span: Span,
         span: Span,
     },
+}
+
+/// `{ .. }`
+#[cycle(stmt)]
+#[derive(Drop)]
+pub struct TypedBlock {
+    pub statements: Vec<TypedStmt>,
+    pub span: Span,
 }

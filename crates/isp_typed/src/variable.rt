@@ -3,7 +3,7 @@
 use isp_base::{Elem, Ty};
 
 /// What a variable of a function holds.
-#[derive(Clone, Copy, Debug)]
+#[derive(Clone, Copy)]
 pub enum Holds {
     /// A value: one for the gang, or one in each instance.
     Value(Ty),
@@ -15,7 +15,7 @@ pub enum Holds {
 
 /// A variable of a function. Its number is its place among the function's variables, which are
 /// numbered in the order of the text, the parameters first.
-#[derive(Clone, Copy, Debug)]
+#[derive(Clone, Copy)]
 pub struct Variable {
     pub holds: Holds,
     /// Nothing is assigned to it: it was declared `const`, or is the index of a `foreach`.
@@ -24,7 +24,7 @@ pub struct Variable {
 
 /// An array where it is used: the number of the variable, the type of its elements, and whether it
 /// is constant. A uniform one is one array for the gang; of a varying one each instance has its own.
-#[derive(Clone, Copy, Debug)]
+#[derive(Clone, Copy)]
 pub struct ArrayVariable {
     pub number: usize,
     pub ty: Ty,
@@ -32,7 +32,7 @@ pub struct ArrayVariable {
 }
 
 /// `&&` or `||`.
-#[derive(Clone, Copy, Debug)]
+#[derive(Clone, Copy)]
 pub enum Logic {
     And,
     Or,
