@@ -7,9 +7,11 @@ mod function;
 mod library;
 mod stmt;
 mod variable;
+mod verdict;
 
 pub use expr::{TypedArgument, TypedBase, TypedCall, TypedExpr, TypedPlace};
 pub use function::{Program, Typed, TypedFunction};
-pub use library::Library;
+pub use library::{Library, Part, widened};
 pub use stmt::{TypedBlock, TypedFirst, TypedItem, TypedRange, TypedSimple, TypedStmt};
 pub use variable::{ArrayVariable, Holds, Logic, Variable};
+pub use verdict::{Verdict, beside, both, earlier, first, unless};
