@@ -178,13 +178,15 @@ abbrev pub t_stmts : List TStmt → TStmts
 t_stmts [] = t_no_stmts
 t_stmts (s ∷ ss) = t_stmt_then s (t_stmts ss)
 
--- ---- functions: `variables` holds the parameters first, `params` is where their names stand
+-- ---- functions: what a caller of an exported one sees are `parameters` and what it gives, rates aside; `params` is
+-- where the names of the parameters stand, and the variables begin with them
 
 pub record TFunction : Type 0 where
   pub name : List ℕ
   pub span : Span
   pub exported : Bool
   pub parameters : List Parameter
+  pub gives : Option Elem
   pub params : List Span
   pub answer : Option Ty
   pub variables : List Variable

@@ -145,6 +145,7 @@ function_of f = record {
   span = f.span;
   exported = f.exported;
   parameters = f.signature.params.items;
+  gives = f.signature.result;
   params = f.params.items;
   answer = f.result;
   variables = f.variables.items;

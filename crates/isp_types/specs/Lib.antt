@@ -5,3 +5,4 @@ pub mod Places
 pub mod Calls
 pub mod Rules
 pub mod Statements
+pub mod Functions
