@@ -7,4 +7,11 @@ pub mod Unary
 pub mod Rounding
 pub mod Binding
 pub mod Outcomes
+pub mod Traps
+pub mod Sets
+pub mod Maps
+pub mod Access
+pub mod Arguments
+pub mod Prefixes
 pub mod Words
+pub mod Prints

@@ -26,3 +26,8 @@ operand t = t
 -- the later of the two types
 abbrev pub common : Elem → Elem → Elem
 common a b = if nat_lt (rank (operand a)) (rank (operand b)) then operand b else operand a
+
+-- the type of `?:` and of `select`: bool where both sides are bool, else the one in which they meet
+abbrev pub chosen : Elem → Elem → Elem
+chosen Truth Truth = Truth
+chosen a b = common a b

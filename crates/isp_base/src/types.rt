@@ -1,7 +1,7 @@
 //! Element types, rates, places and gangs.
 ghost use Rattle.std.specs.Prelude.{◌≡◌};
 ghost use Rattle.isp_base.specs.Types.{gang_width, span_to};
-ghost use Rattle.isp_base.specs.Ranks.{common, operand};
+ghost use Rattle.isp_base.specs.Ranks.{chosen, common, operand};
 
 use std::fmt;
 
@@ -36,6 +36,16 @@ pub fn operand(elem: Elem) -> Elem
     match elem {
         Elem::Bool => Elem::I32,
         _ => elem,
+    }
+}
+
+/// The type of `?:` and of `select` over two values: `bool` if both are `bool`, else `common`.
+pub fn chosen(x: Elem, y: Elem) -> Elem
+    ensures { result ≡ chosen x y }
+{
+    match (x, y) {
+        (Elem::Bool, Elem::Bool) => Elem::Bool,
+        _ => common(x, y),
     }
 }
 
@@ -105,7 +115,9 @@ impl Gang {
 }
 
 /// One value: the low bits of `bits`, as many as the element type has, stand for a whole number.
-#[derive(Clone, Copy, Debug, PartialEq, Eq)]
+///
+/// There is no `==`, since two values may differ in bits that stand for nothing.
+#[derive(Clone, Copy, Debug)]
 pub struct Value {
     pub elem: Elem,
     pub bits: u64,

@@ -7,14 +7,16 @@ use Rattle.isp_base.specs.Outcomes.{Outcome, Ends, Traps, GoesOn, out_of, IsOver
 use Rattle.isp_base.specs.declared.signature.Argument.{Argument}
 use Rattle.isp_rates.specs.Typed.{Function}
 use Rattle.isp_rates.specs.Fine.{IsFineFunction}
-use Rattle.isp_model.specs.Gang.{everyone}
+use Rattle.isp_base.specs.Sets.{everyone}
 use Rattle.isp_model.specs.State.{tick, Res, Went, Trapped, Cut}
 use Rattle.isp_model.specs.Statements.{run_all}
-use Rattle.isp_model.specs.Runs.{rows, store_of, rows_now, first_state, outcome_of, uncalled, meaning, state_of}
+use Rattle.isp_base.specs.Arguments.{rows, rows_now}
+use Rattle.isp_model.specs.Runs.{store_of, first_state, outcome_of, uncalled, meaning, state_of}
 use Rattle.isp_engine.specs.declared.code.Instr.{Instr}
 use Rattle.isp_engine.specs.declared.code.Instr.TheVariants.{Return}
 use Rattle.isp_engine.specs.Machine.{Conf, Move, Go, Fail, Over, act_at, size, follow, exec, first_conf, after}
-use Rattle.isp_engine.specs.Agreement.{AreBound, IsPrefix, Agrees}
+use Rattle.isp_base.specs.Prefixes.{IsPrefix}
+use Rattle.isp_engine.specs.Agreement.{AreBound, Agrees}
 use Rattle.isp_engine.proofs.Steps.{has_front, has_back, has_all}
 use Rattle.isp_engine.specs.Lowering.{array_number, stmts_code, function_code}
 use Rattle.isp_engine.proofs.Expressions.{NamesFit}

@@ -5,9 +5,10 @@ use Rattle.std.proofs.Math.Path.{fun_ext}
 use Rattle.std.proofs.lemmas.Bool.{cases_eq}
 use Rattle.isp_base.specs.Rows.{Row}
 use Rattle.isp_base.specs.declared.types.Elem.{Elem}
-use Rattle.isp_model.specs.Gang.{Lanes, everyone, lowest, on, map1, where_true, put, scatter}
-use Rattle.isp_model.specs.Runs.{row_bits, tabulate, rows_now}
-use Rattle.isp_model.specs.Expressions.{is_outside, element}
+use Rattle.isp_base.specs.Sets.{everyone, lowest}
+use Rattle.isp_base.specs.Maps.{Lanes, on, map1, where_true, put}
+use Rattle.isp_base.specs.Access.{scatter, is_outside, element}
+use Rattle.isp_base.specs.Arguments.{row_bits, tabulate, rows_now}
 use Rattle.isp_base.specs.declared.trap.TrapKind.TheVariants.{Index}
 use Rattle.isp_engine.specs.declared.code.ScalarInstr.TheVariants.{Constant, Copy, Binary, Load}
 use Rattle.isp_engine.specs.declared.code.VectorInstr.TheVariants.{Copy as CopyLanes, Splat, LaneIndex, Binary as BinaryLanes, Gather}

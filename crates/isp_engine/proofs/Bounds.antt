@@ -19,7 +19,8 @@ use Rattle.isp_base.specs.declared.signature.Argument.TheVariants.{Value as AVal
 use Rattle.isp_rates.specs.declared.typed.Holds.{Holds}
 use Rattle.isp_rates.specs.declared.typed.Holds.TheVariants.{One as OneValue, Many}
 use Rattle.isp_rates.specs.Fine.{holds_of}
-use Rattle.isp_model.specs.Runs.{rows, argument_bits, store_of, row_bits}
+use Rattle.isp_base.specs.Arguments.{rows, argument_bits, row_bits}
+use Rattle.isp_model.specs.Runs.{store_of}
 use Rattle.isp_engine.specs.Machine.{elem_at, size}
 use Rattle.isp_engine.specs.Agreement.{AllFit, AreBound}
 use Rattle.isp_engine.specs.Held.{value_bits}

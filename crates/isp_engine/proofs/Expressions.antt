@@ -18,9 +18,12 @@ use Rattle.isp_rates.specs.declared.typed.Holds.{Holds}
 use Rattle.isp_rates.specs.declared.typed.Holds.TheVariants.{One as OneValue, Many}
 use Rattle.isp_rates.specs.Typed.{Typed, t_number, t_program_index, t_variable, t_item, t_brackets, t_binary, type_of}
 use Rattle.isp_rates.specs.Fine.{rate_or, goes_to, IsFine}
-use Rattle.isp_model.specs.Gang.{Lanes, Map, everyone, lowest, on, over, map1, map2, holds, where_true}
-use Rattle.isp_model.specs.State.{State, Stores, tick, Payload, One, Each, Val, Gives, Fails, Stops, spread, offender, trap, bind, checked}
-use Rattle.isp_model.specs.Expressions.{Calls, is_outside, element, is_zero, joined, item, variable, value}
+use Rattle.isp_base.specs.Sets.{everyone, lowest}
+use Rattle.isp_base.specs.Maps.{Lanes, Map, on, over, map1, map2, holds, where_true}
+use Rattle.isp_base.specs.Traps.{trap}
+use Rattle.isp_model.specs.State.{State, Stores, tick, Payload, One, Each, Val, Gives, Fails, Stops, spread, offender, bind, checked}
+use Rattle.isp_base.specs.Access.{is_outside, element, is_zero}
+use Rattle.isp_model.specs.Expressions.{Calls, joined, item, variable, value}
 use Rattle.isp_engine.specs.declared.code.Access.{Access}
 use Rattle.isp_engine.specs.declared.code.Operation.{Operation}
 use Rattle.isp_engine.specs.declared.code.ScalarInstr.{ScalarInstr}

@@ -12,7 +12,9 @@ use Rattle.isp_base.specs.declared.operators.BinOp.{BinOp}
 use Rattle.isp_base.proofs.Wraps.{wrap_to-lt}
 use Rattle.isp_rates.specs.declared.typed.Holds.{Holds}
 use Rattle.isp_rates.specs.declared.typed.Holds.TheVariants.{One as OneValue, Many}
-use Rattle.isp_model.specs.Gang.{Mask, Lanes, Map, on, or_old, over, each1, each2, map1, map2, put, put_at, scatter}
+use Rattle.isp_base.specs.Sets.{Mask}
+use Rattle.isp_base.specs.Maps.{Lanes, Map, on, or_old, over, each1, each2, map1, map2, put}
+use Rattle.isp_base.specs.Access.{put_at, scatter}
 use Rattle.isp_model.specs.State.{Payload, One, Each, spread}
 use Rattle.isp_model.specs.Expressions.{mapped, joined}
 use Rattle.isp_engine.specs.Machine.{elem_at, low}

@@ -4,7 +4,9 @@ use Rattle.std.specs.Prelude.{slice_set, nat_lt, if◌then◌else◌}
 use Rattle.std.proofs.Math.Path.{fun_ext}
 use Rattle.std.proofs.lemmas.Bool.{cases_eq}
 use Rattle.std.proofs.lemmas.List.{get_or-set_other, get_or-set_same}
-use Rattle.isp_model.specs.Gang.{Mask, Lanes, everyone, or_this, lowest, on, each1, map1, map2, holds, where_true, put, put_at, scatter}
+use Rattle.isp_base.specs.Sets.{Mask, everyone, or_this, lowest}
+use Rattle.isp_base.specs.Maps.{Lanes, on, each1, map1, map2, holds, where_true, put}
+use Rattle.isp_base.specs.Access.{put_at, scatter}
 use Rattle.isp_base.specs.declared.types.Span.{Span}
 use Rattle.isp_base.specs.declared.trap.TrapKind.{TrapKind}
 use Rattle.isp_engine.specs.Machine.{unless}

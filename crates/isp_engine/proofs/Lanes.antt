@@ -3,11 +3,13 @@ use Rattle.std.proofs.Common.{◌≡◌, ℕ, zero, suc, ◌≤◌, Some, None, 
 use Rattle.std.specs.Prelude.{nat_lt, if◌then◌else◌, ◌&&◌, ◌||◌, not, int_lt, pos}
 use Rattle.std.proofs.Math.Path.{fun_ext}
 use Rattle.std.proofs.lemmas.Bool.{or_right, lt-ltb}
-use Rattle.isp_model.specs.Gang.{Mask, Lanes, Map, everyone, any, or_this, lowest, on, or_old, over, each1, each2, map1, map2, holds, where_true}
+use Rattle.isp_base.specs.Sets.{Mask, everyone, any, or_this, lowest}
+use Rattle.isp_base.specs.Maps.{Lanes, Map, on, or_old, over, each1, each2, map1, map2, holds, where_true}
 use Rattle.isp_model.specs.State.{Payload, One, Each, spread, if_fails, offender}
 use Rattle.isp_base.specs.declared.types.Elem.{Elem}
 use Rattle.isp_base.specs.Values.{number}
-use Rattle.isp_model.specs.Expressions.{is_outside, joined}
+use Rattle.isp_base.specs.Access.{is_outside}
+use Rattle.isp_model.specs.Expressions.{joined}
 use Rattle.isp_engine.specs.Machine.{first_if}
 
 -- a map over a set, written over old lanes and read again

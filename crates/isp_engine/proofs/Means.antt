@@ -7,12 +7,14 @@ use Rattle.isp_base.specs.declared.signature.Parameter.{Parameter}
 use Rattle.isp_base.specs.declared.signature.Argument.{Argument}
 use Rattle.isp_rates.specs.Program.{function_named}
 use Rattle.isp_rates.specs.Typed.{Function}
-use Rattle.isp_model.specs.Runs.{rows, run_of}
+use Rattle.isp_base.specs.Arguments.{rows}
+use Rattle.isp_model.specs.Runs.{run_of}
 use Rattle.isp_engine.specs.declared.code.Instr.{Instr}
 use Rattle.isp_engine.specs.declared.fault.RunFault.{RunFault}
 use Rattle.isp_engine.specs.declared.report.Ending.TheVariants.{Running}
 use Rattle.isp_engine.specs.declared.report.Report.{Report}
-use Rattle.isp_engine.specs.Agreement.{AreBound, IsPrefix, Agrees, enough}
+use Rattle.isp_base.specs.Prefixes.{IsPrefix}
+use Rattle.isp_engine.specs.Agreement.{AreBound, Agrees, enough}
 use Rattle.isp_engine.specs.Images.{Entry, entry_named, IsCompiled, AreCompiled, IsCompilation}
 use Rattle.isp_engine.specs.Machine.{first_conf, after}
 use Rattle.isp_engine.specs.Meaning.{Tells, Means}

@@ -5,10 +5,10 @@ use Rattle.std.proofs.Math.Path.{fun_ext}
 use Rattle.std.proofs.lemmas.Bool.{cases_lt}
 use Rattle.isp_base.specs.Rows.{Row}
 use Rattle.isp_base.specs.declared.signature.Argument.{Argument}
-use Rattle.isp_model.specs.Gang.{Lanes}
-use Rattle.isp_model.specs.Runs.{rows, argument_bits, row_bits}
+use Rattle.isp_base.specs.Maps.{Lanes, lane_of}
+use Rattle.isp_base.specs.Arguments.{rows, argument_bits, row_bits}
 use Rattle.isp_engine.specs.Machine.{Conf, first_conf}
-use Rattle.isp_engine.specs.Held.{lane_of, conf_of, value_bits}
+use Rattle.isp_engine.specs.Held.{conf_of, value_bits}
 use Rattle.isp_engine.proofs.Bounds.{bits_are}
 
 same_zero : (n p : ℕ) → lane_of (replicate n 0) p ≡ 0

@@ -15,9 +15,12 @@ use Rattle.isp_rates.specs.declared.typed.Holds.{Holds}
 use Rattle.isp_rates.specs.declared.typed.Holds.TheVariants.{One as OneValue, Many}
 use Rattle.isp_rates.specs.Typed.{Typed, type_of, TStmt, t_declare, t_assign, t_assign_item}
 use Rattle.isp_rates.specs.Fine.{goes_to, IsFine, FitsType, IsFineStmt, AreFine}
-use Rattle.isp_model.specs.Gang.{Mask, Lanes, everyone, union, any, lowest, on, over, map1, where_true, put, scatter}
-use Rattle.isp_model.specs.State.{State, tick, Payload, One, Each, Val, Gives, Fails, Stops, Res, Went, Trapped, Cut, spread, offender, trap, with_value, go_on, then_run, went_all, unless_empty}
-use Rattle.isp_model.specs.Expressions.{Calls, is_outside, element, value}
+use Rattle.isp_base.specs.Sets.{Mask, everyone, union, any, lowest}
+use Rattle.isp_base.specs.Maps.{Lanes, on, over, map1, where_true, put}
+use Rattle.isp_base.specs.Access.{scatter, is_outside, element}
+use Rattle.isp_base.specs.Traps.{trap}
+use Rattle.isp_model.specs.State.{State, tick, Payload, One, Each, Val, Gives, Fails, Stops, Res, Went, Trapped, Cut, spread, offender, with_value, go_on, then_run, went_all, unless_empty}
+use Rattle.isp_model.specs.Expressions.{Calls, value}
 use Rattle.isp_model.specs.Statements.{written, unless_outside, store, run, run_all}
 use Rattle.isp_engine.specs.declared.code.Access.{Access}
 use Rattle.isp_engine.specs.declared.code.ScalarInstr.TheVariants.{Copy}

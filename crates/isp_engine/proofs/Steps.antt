@@ -7,8 +7,8 @@ use Rattle.std.proofs.lemmas.Option.{slice_get-get_or}
 use Rattle.isp_base.specs.Rows.{Row}
 use Rattle.isp_base.specs.Outcomes.{Traps}
 use Rattle.isp_base.specs.declared.trap.Trap.{Trap}
-use Rattle.isp_model.specs.Gang.{Lanes, put}
-use Rattle.isp_model.specs.Runs.{rows_now}
+use Rattle.isp_base.specs.Maps.{Lanes, put}
+use Rattle.isp_base.specs.Arguments.{rows_now}
 use Rattle.isp_model.specs.State.{State}
 use Rattle.isp_engine.specs.declared.code.Instr.{Instr}
 use Rattle.isp_engine.specs.Machine.{Conf, Move, Go, Fail, act, act_at, follow, exec}

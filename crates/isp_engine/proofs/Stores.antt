@@ -5,12 +5,13 @@ use Rattle.isp_base.specs.Rows.{Row}
 use Rattle.isp_base.specs.Values.{width}
 use Rattle.isp_base.specs.declared.types.Elem.{Elem}
 use Rattle.isp_base.specs.declared.trap.TrapKind.TheVariants.{Index}
-use Rattle.isp_model.specs.Gang.{Map, everyone, lowest, on, map1, where_true, put, scatter}
-use Rattle.isp_model.specs.Expressions.{is_outside, element}
-use Rattle.isp_model.specs.Runs.{row_bits}
+use Rattle.isp_base.specs.Sets.{everyone, lowest}
+use Rattle.isp_base.specs.Maps.{Map, on, map1, where_true, put, lane_of}
+use Rattle.isp_base.specs.Access.{scatter, is_outside, element}
+use Rattle.isp_base.specs.Arguments.{row_bits}
 use Rattle.isp_engine.specs.declared.code.Access.{Access}
 use Rattle.isp_engine.specs.Machine.{unless, first_if, moved, elem_at, low, size, set_array, stored_scalar, stored_lanes}
-use Rattle.isp_engine.specs.Held.{Held, lane_of, conf_of}
+use Rattle.isp_engine.specs.Held.{Held, conf_of}
 use Rattle.isp_engine.proofs.Lanes.{map1_on}
 use Rattle.isp_engine.proofs.Kernels.{view_put, none_of, on_same}
 use Rattle.isp_engine.proofs.Arrays.{bits_at, type_at, size_at, there}

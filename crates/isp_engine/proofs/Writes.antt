@@ -4,9 +4,10 @@ use Rattle.std.specs.Prelude.{slice_index, slice_set, nat_lt, if◌then◌else�
 use Rattle.std.proofs.Math.Path.{fun_ext}
 use Rattle.isp_base.specs.Rows.{Row}
 use Rattle.isp_base.specs.declared.trap.Trap.{Trap}
-use Rattle.isp_model.specs.Gang.{Lanes, Map, everyone, on, or_old, over, put}
+use Rattle.isp_base.specs.Sets.{everyone}
+use Rattle.isp_base.specs.Maps.{Lanes, Map, on, or_old, over, put, lane_of}
 use Rattle.isp_engine.specs.Machine.{Move, Go, moved, set_scalar, set_vector, set_array}
-use Rattle.isp_engine.specs.Held.{Held, lane_of, conf_of, HaveLanes, Alike}
+use Rattle.isp_engine.specs.Held.{Held, conf_of, HaveLanes, Alike}
 use Rattle.isp_engine.proofs.Kernels.{view_put}
 use Rattle.isp_engine.proofs.Arrays.{rows_put, shape_self, shape_set}
 

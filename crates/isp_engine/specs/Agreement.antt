@@ -6,7 +6,9 @@ use Rattle.isp_base.specs.Outcomes.{Outcome, GoesOn, out_of, IsOver}
 use Rattle.isp_base.specs.declared.signature.Parameter.{Parameter}
 use Rattle.isp_base.specs.declared.signature.Argument.{Argument}
 use Rattle.isp_rates.specs.Typed.{Function}
-use Rattle.isp_model.specs.Runs.{rows, run_of, work_of}
+use Rattle.isp_base.specs.Prefixes.{IsPrefix}
+use Rattle.isp_base.specs.Arguments.{rows}
+use Rattle.isp_model.specs.Runs.{run_of, work_of}
 use Rattle.isp_engine.specs.Machine.{after}
 use Rattle.isp_engine.specs.declared.code.Instr.{Instr}
 
@@ -18,9 +20,6 @@ AllFit (r ∷ rs) = Fit r.elem r.bits × AllFit rs
 pub record AreBound (params : List Parameter) (xs : List Argument) : Type 0 where
   pub kinds : has_signature params xs ≡ true
   pub fit : AllFit (rows xs)
-
-abbrev pub IsPrefix : List ℕ → List ℕ → Type 0
-IsPrefix a b = (rest : List ℕ) × (a ++ rest ≡ b)
 
 -- enough instructions for the work of a run
 abbrev pub enough : ℕ → Function → ℕ → List Argument → ℕ

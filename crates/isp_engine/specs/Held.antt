@@ -6,8 +6,9 @@ use Rattle.isp_base.specs.Values.{width}
 use Rattle.isp_base.specs.declared.signature.Argument.{Argument}
 use Rattle.isp_base.specs.declared.signature.Argument.TheVariants.{Value as AValue, Array as AnArray}
 use Rattle.isp_base.specs.declared.trap.Trap.{Trap}
-use Rattle.isp_model.specs.Gang.{Lanes, Map, everyone, on}
-use Rattle.isp_model.specs.Runs.{row_bits}
+use Rattle.isp_base.specs.Sets.{everyone}
+use Rattle.isp_base.specs.Maps.{Lanes, Map, lane_of, on}
+use Rattle.isp_base.specs.Arguments.{row_bits}
 use Rattle.isp_engine.specs.declared.machine.Step.{Step}
 use Rattle.isp_engine.specs.declared.machine.Step.TheVariants.{Went, Failed, Finished}
 use Rattle.isp_engine.specs.declared.report.Ending.{Ending}
@@ -21,9 +22,6 @@ pub record Held : Type 0 where
   pub vectors : List (List ℕ)
   pub arrays : List Row
   pub out : List ℕ
-
-abbrev pub lane_of : List ℕ → Lanes
-lane_of xs p = get_or xs p 0
 
 abbrev pub conf_of : Held → Conf
 conf_of h =

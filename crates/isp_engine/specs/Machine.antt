@@ -9,10 +9,11 @@ use Rattle.isp_base.specs.declared.trap.Trap.{Trap}
 use Rattle.isp_base.specs.declared.trap.TrapKind.{TrapKind}
 use Rattle.isp_base.specs.declared.trap.TrapKind.TheVariants.{Divide, Index}
 use Rattle.isp_base.specs.declared.signature.Argument.{Argument}
-use Rattle.isp_model.specs.Gang.{Lanes, Map, everyone, lowest, on, over, map1, map2, where_true, put, scatter}
-use Rattle.isp_model.specs.State.{trap}
-use Rattle.isp_model.specs.Expressions.{is_outside, element, is_zero}
-use Rattle.isp_model.specs.Runs.{rows, argument_bits, row_bits, rows_now}
+use Rattle.isp_base.specs.Sets.{everyone, lowest}
+use Rattle.isp_base.specs.Maps.{Lanes, Map, on, over, map1, map2, where_true, put}
+use Rattle.isp_base.specs.Access.{scatter, is_outside, element, is_zero}
+use Rattle.isp_base.specs.Traps.{trap}
+use Rattle.isp_base.specs.Arguments.{rows, argument_bits, row_bits, rows_now}
 use Rattle.isp_engine.specs.declared.code.Access.{Access}
 use Rattle.isp_engine.specs.declared.code.ScalarInstr.{ScalarInstr}
 use Rattle.isp_engine.specs.declared.code.ScalarInstr.TheVariants.{Constant, Copy, Binary, Load}

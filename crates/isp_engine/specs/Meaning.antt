@@ -13,7 +13,8 @@ use Rattle.isp_engine.specs.declared.report.Ending.TheVariants.{Running}
 use Rattle.isp_engine.specs.declared.report.Report.{Report}
 use Rattle.isp_engine.specs.Faults.{run_fault}
 use Rattle.isp_engine.specs.Binding.{bound_of}
-use Rattle.isp_engine.specs.Agreement.{IsPrefix, enough}
+use Rattle.isp_base.specs.Prefixes.{IsPrefix}
+use Rattle.isp_engine.specs.Agreement.{enough}
 use Rattle.isp_engine.specs.Reports.{Reports}
 
 -- the report of so many instructions, and the runs of n turns for each number n

@@ -1,6 +1,6 @@
 //! What the bound arguments give to a machine before a run.
 ghost use Rattle.std.specs.Prelude.{◌≡◌, ℕ, ◌<◌, ◌≤◌, [], length, map, get_or, slice_index, replicate, IfOk, OnOk};
-ghost use Rattle.isp_model.specs.Runs.{rows};
+ghost use Rattle.isp_base.specs.Arguments.{rows};
 ghost use Rattle.isp_engine.specs.Held.{value_bits};
 
 use isp_base::{Argument, Array, low_bits};

@@ -1,11 +1,11 @@
 //! What instructions do in each lane of a gang, over plain arrays of lanes.
 ghost use Rattle.std.specs.Prelude.{◌≡◌, ℕ, ◌<◌, length, slice_index, true, false, None, Some, MatchOption, MatchResult};
 ghost use Rattle.isp_base.specs.Values.{op_bits};
-ghost use Rattle.isp_model.specs.Gang.{everyone, lowest, on, where_true, scatter, map1};
-ghost use Rattle.isp_model.specs.State.{trap};
-ghost use Rattle.isp_model.specs.Expressions.{is_outside, element, is_zero};
+ghost use Rattle.isp_base.specs.Sets.{everyone, lowest};
+ghost use Rattle.isp_base.specs.Maps.{on, where_true, map1, lane_of};
+ghost use Rattle.isp_base.specs.Access.{scatter, is_outside, element, is_zero};
+ghost use Rattle.isp_base.specs.Traps.{trap};
 ghost use Rattle.isp_engine.specs.Machine.{low};
-ghost use Rattle.isp_engine.specs.Held.{lane_of};
 ghost use Rattle.isp_base.specs.declared.trap.TrapKind.TheVariants.{Index};
 
 use crate::code::{Access, Operation};

@@ -1,9 +1,9 @@
 //! The machine: it runs straight code over registers and arrays.
 ghost use Rattle.std.specs.Prelude.{◌≡◌, ℕ, ◌+◌, ◌^◌, ◌<◌, ◌≤◌, [], length, get_or, slice_get, slice_index, IfOk};
-ghost use Rattle.isp_model.specs.State.{trap};
+ghost use Rattle.isp_base.specs.Traps.{trap};
 ghost use Rattle.isp_base.specs.declared.trap.TrapKind.TheVariants.{Divide, Index};
 ghost use Rattle.isp_engine.specs.Held.{conf_of, GivesLanes, Stepped, Came};
-ghost use Rattle.isp_model.specs.Runs.{rows, row_bits};
+ghost use Rattle.isp_base.specs.Arguments.{rows, row_bits};
 ghost use Rattle.isp_engine.specs.Machine.{size, scalar_value, vector_value, act, act_at, exec, first_conf};
 ghost use Rattle.isp_engine.specs.Straight.{ScalarBelow, VectorBelow, IsBelow};
 

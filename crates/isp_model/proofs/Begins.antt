@@ -22,9 +22,11 @@ use Rattle.isp_base.specs.Values.{width}
 use Rattle.isp_rates.specs.declared.typed.Holds.{Holds}
 use Rattle.isp_rates.specs.declared.typed.Holds.TheVariants.{One as OneValue, Many}
 use Rattle.isp_rates.specs.Fine.{holds_of}
-use Rattle.isp_model.specs.Gang.{Mask, Lanes, everyone}
+use Rattle.isp_base.specs.Sets.{Mask, everyone}
+use Rattle.isp_base.specs.Maps.{Lanes}
 use Rattle.isp_model.specs.State.{tick}
-use Rattle.isp_model.specs.Runs.{rows, row_bits, argument_bits, store_of, stores_of, first_state}
+use Rattle.isp_base.specs.Arguments.{rows, row_bits, argument_bits}
+use Rattle.isp_model.specs.Runs.{store_of, stores_of, first_state}
 use Rattle.isp_model.specs.declared.state.State as rust
 use Rattle.isp_model.specs.declared.call.Call.{Call}
 use Rattle.isp_model.specs.Seen.{store_bits, row_elem, store_named, stores_seen, variables_of, seen, IsFirst, Shaped, IsGroup}

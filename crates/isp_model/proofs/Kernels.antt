@@ -13,12 +13,14 @@ use Rattle.isp_base.specs.declared.operators.BinOp.{BinOp}
 use Rattle.isp_base.specs.Values.{width, op_bits, divides}
 use Rattle.isp_base.proofs.Wraps.{wrap_to-lt}
 use Rattle.isp_rates.specs.Fine.{rate_or}
-use Rattle.isp_model.specs.Gang.{Mask, Lanes, Map, on, over, or_old, each1, each2, map1, map2}
+use Rattle.isp_base.specs.Sets.{Mask}
+use Rattle.isp_base.specs.Maps.{Lanes, Map, on, over, or_old, each1, each2, map1, map2, lane_of}
 use Rattle.isp_model.specs.State.{Each, spread}
-use Rattle.isp_model.specs.Expressions.{is_zero, joined}
+use Rattle.isp_base.specs.Access.{is_zero}
+use Rattle.isp_model.specs.Expressions.{joined}
 use Rattle.isp_model.specs.declared.lanes.Computed.{Computed}
 use Rattle.isp_model.specs.declared.lanes.Computed.TheVariants as computed
-use Rattle.isp_model.specs.Seen.{lane_of, bits_in, rate_of, payload_of}
+use Rattle.isp_model.specs.Seen.{bits_in, rate_of, payload_of}
 
 pub op_fits : (op : BinOp) (t : Elem) (x y v : ℕ) → v ≡ op_bits op t x y → v < 2 ^ width t
 op_fits op t x y v e = subst (λ z. z < 2 ^ width t) (sym e) (wrap_to-lt (width t) _)

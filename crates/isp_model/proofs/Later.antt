@@ -2,7 +2,7 @@
 use Rattle.std.proofs.Common.{◌≡◌, refl, sym, ap, ◌∙◌, subst, ℕ, List, [], ◌∷◌, append-nil}
 use Rattle.isp_base.specs.Outcomes.{Outcome, Ends, Traps, GoesOn}
 use Rattle.isp_rates.specs.Typed.{TStmt, t_declare, t_assign, t_assign_item}
-use Rattle.isp_model.specs.Gang.{Mask, any, everyone}
+use Rattle.isp_base.specs.Sets.{Mask, any, everyone}
 use Rattle.isp_model.specs.State.{State, Stores, tick, Res, then_run, unless_empty}
 use Rattle.isp_model.specs.Expressions.{Calls}
 use Rattle.isp_model.specs.Statements.{run, run_all}

@@ -10,9 +10,10 @@ use Rattle.isp_base.specs.declared.signature.Argument.{Argument}
 use Rattle.isp_base.specs.declared.signature.Argument.TheVariants.{Value as AValue, Array as AnArray}
 use Rattle.isp_base.specs.Values.{width}
 use Rattle.isp_base.specs.Rows.{Row}
-use Rattle.isp_model.specs.Gang.{Lanes, put}
-use Rattle.isp_model.specs.Seen.{lane_of, store_bits, row_elem, shape_of, shapes}
-use Rattle.isp_model.specs.Runs.{rows, argument_bits, store_of, row_bits}
+use Rattle.isp_base.specs.Maps.{Lanes, put, lane_of}
+use Rattle.isp_model.specs.Seen.{store_bits, row_elem, shape_of, shapes}
+use Rattle.isp_base.specs.Arguments.{rows, argument_bits, row_bits}
+use Rattle.isp_model.specs.Runs.{store_of}
 
 pub bits_value : (xs : List Argument) (i : ℕ) (d : Argument) (v : Value) → i < length xs → get_or xs i d ≡ AValue v → argument_bits xs i ≡ v.bits % 2 ^ width v.elem
 bits_value [] i d v h e = absurd (omega arith)

@@ -2,11 +2,12 @@
 use Rattle.std.proofs.Common.{◌≡◌, refl, sym, ap, ap₂, ◌∙◌, subst, ⊎_elim, ℕ, zero, suc, ◌+◌, ◌<◌, Bool, true, false, ◌&&◌, ◌||◌, Option, Some, None, arith, add-one}
 use Rattle.std.specs.Prelude.{if◌then◌else◌}
 use Rattle.std.proofs.lemmas.Bool.{cases_eq}
-use Rattle.isp_model.specs.Gang.{Mask, Map, any, lowest, or_this, on, holds}
+use Rattle.isp_base.specs.Sets.{Mask, any, lowest, or_this}
+use Rattle.isp_base.specs.Maps.{Map, on, holds, lane_of}
 use Rattle.isp_model.specs.State.{if_fails, offender}
 use Rattle.isp_model.specs.declared.lanes.Computed.{Computed}
 use Rattle.isp_model.specs.declared.lanes.Computed.TheVariants as computed
-use Rattle.isp_model.specs.Seen.{lane_of, bits_in, payload_of}
+use Rattle.isp_model.specs.Seen.{bits_in, payload_of}
 
 pub lowest_found : (n p : ℕ) (m : Mask) → lowest p m ≡ None → m p ≡ true → p < n → lowest n m ≡ Some p
 lowest_found zero p m none is h = absurd (omega arith)

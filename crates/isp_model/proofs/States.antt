@@ -10,12 +10,13 @@ use Rattle.isp_base.specs.declared.types.Ty.{Ty}
 use Rattle.isp_base.specs.Values.{width}
 use Rattle.isp_base.specs.Rows.{Row}
 use Rattle.isp_rates.specs.declared.typed.Holds.TheVariants.{One as OneValue, Many}
-use Rattle.isp_model.specs.Gang.{Mask, Lanes, over, put}
+use Rattle.isp_base.specs.Sets.{Mask}
+use Rattle.isp_base.specs.Maps.{Lanes, over, put, lane_of}
 use Rattle.isp_model.specs.State.{spread}
 use Rattle.isp_model.specs.declared.lanes.Computed.{Computed}
 use Rattle.isp_model.specs.declared.state.State as rust
 use Rattle.isp_model.specs.declared.call.Call.{Call}
-use Rattle.isp_model.specs.Seen.{lane_of, bits_in, payload_of, FitsElem, shapes, row_elem, stores_seen, variables_of, Shaped}
+use Rattle.isp_model.specs.Seen.{bits_in, payload_of, FitsElem, shapes, row_elem, stores_seen, variables_of, Shaped}
 use Rattle.isp_model.proofs.Kernels.{over_lanes}
 use Rattle.isp_model.proofs.Stores.{same_count, same_elem, same_length}
 

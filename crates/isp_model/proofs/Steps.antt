@@ -9,11 +9,14 @@ use Rattle.isp_rates.specs.declared.typed.Holds.{Holds}
 use Rattle.isp_rates.specs.declared.typed.TypedStmt as rust_stmt
 use Rattle.isp_rates.specs.Fine.{IsFineStmt, AreFine}
 use Rattle.isp_rates.specs.Typed.{Typed, type_of, tstmt_of, tstmts_of, TStmt, t_declare, t_assign, t_assign_item}
-use Rattle.isp_model.specs.Gang.{Mask, Lanes, any, put, nobody, union}
+use Rattle.isp_base.specs.Sets.{Mask, any, nobody, union}
+use Rattle.isp_base.specs.Maps.{Lanes, put}
 use Rattle.isp_model.specs.State.{State, Stores, Payload, Res, Went, Trapped, Cut, with_value, go_on, then_run, went_all, unless_empty, offender}
-use Rattle.isp_model.specs.Expressions.{is_outside, element, mapped, value}
+use Rattle.isp_base.specs.Access.{is_outside, element}
+use Rattle.isp_model.specs.Expressions.{mapped, value}
 use Rattle.isp_model.specs.Statements.{written, stored, store, unless_outside, run, run_all}
-use Rattle.isp_model.specs.Runs.{row_bits, uncalled}
+use Rattle.isp_base.specs.Arguments.{row_bits}
+use Rattle.isp_model.specs.Runs.{uncalled}
 use Rattle.isp_model.specs.declared.lanes.Computed.{Computed}
 use Rattle.isp_model.specs.declared.state.State as rust
 use Rattle.isp_model.specs.declared.call.Call.{Call}

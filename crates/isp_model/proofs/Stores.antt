@@ -6,10 +6,12 @@ use Rattle.isp_base.specs.declared.types.Elem.{Elem}
 use Rattle.isp_base.specs.declared.types.Elem.TheVariants.{Bool as Truth}
 use Rattle.isp_base.specs.Rows.{Row}
 use Rattle.isp_base.specs.Values.{number}
-use Rattle.isp_model.specs.Gang.{Mask, Lanes, Map, on, any, put, put_at}
+use Rattle.isp_base.specs.Sets.{Mask, any}
+use Rattle.isp_base.specs.Maps.{Lanes, Map, on, put}
+use Rattle.isp_base.specs.Access.{put_at, is_outside, element}
 use Rattle.isp_model.specs.State.{spread}
-use Rattle.isp_model.specs.Expressions.{is_outside, element, mapped}
-use Rattle.isp_model.specs.Runs.{row_bits}
+use Rattle.isp_model.specs.Expressions.{mapped}
+use Rattle.isp_base.specs.Arguments.{row_bits}
 use Rattle.isp_model.specs.declared.lanes.Computed.{Computed}
 use Rattle.isp_model.specs.declared.lanes.Computed.TheVariants as computed
 use Rattle.isp_model.specs.Seen.{bits_in, payload_of, Shape, shapes, row_elem, scattered}

@@ -14,15 +14,18 @@ use Rattle.isp_base.specs.Values.{width, op_bits}
 use Rattle.isp_rates.specs.declared.typed.Holds.TheVariants.{Many}
 use Rattle.isp_rates.specs.Fine.{goes_to, rate_or}
 use Rattle.isp_rates.specs.Typed.{Typed, t_number, t_program_index, t_variable, t_item, t_brackets, t_binary, type_of}
-use Rattle.isp_model.specs.Gang.{Mask}
+use Rattle.isp_base.specs.Sets.{Mask}
 use Rattle.isp_model.specs.State.{State, Payload, Each, Val, Gives, Fails, bind, checked, offender}
-use Rattle.isp_model.specs.Expressions.{is_outside, is_zero, joined, variable, item, value}
-use Rattle.isp_model.specs.Runs.{row_bits, uncalled}
+use Rattle.isp_base.specs.Access.{is_outside, is_zero}
+use Rattle.isp_model.specs.Expressions.{joined, variable, item, value}
+use Rattle.isp_base.specs.Arguments.{row_bits}
+use Rattle.isp_model.specs.Runs.{uncalled}
 use Rattle.isp_model.specs.declared.lanes.Computed.{Computed}
 use Rattle.isp_model.specs.declared.lanes.Computed.TheVariants as computed
 use Rattle.isp_model.specs.declared.state.State as rust
 use Rattle.isp_model.specs.declared.call.Call.{Call}
-use Rattle.isp_model.specs.Seen.{lane_of, bits_in, payload_of, IsOf, IsGroup, IsTrapOf, Reads, Joins, seen, stores_seen, store_named, row_elem, variables_of, Shaped, Evaluates, Traps}
+use Rattle.isp_base.specs.Maps.{lane_of}
+use Rattle.isp_model.specs.Seen.{bits_in, payload_of, IsOf, IsGroup, IsTrapOf, Reads, Joins, seen, stores_seen, store_named, row_elem, variables_of, Shaped, Evaluates, Traps}
 use Rattle.isp_model.proofs.Kernels.{on_same}
 
 goes_or : (a b ra rb : Rate) → goes_to a ra ≡ true → goes_to b rb ≡ true → goes_to (rate_or a b) (rate_or ra rb) ≡ true

@@ -6,13 +6,15 @@ use Rattle.isp_base.specs.declared.types.Elem.{Elem}
 use Rattle.isp_base.specs.Rows.{Row}
 use Rattle.isp_base.specs.Outcomes.{Ends, Traps}
 use Rattle.isp_rates.specs.Typed.{Function}
-use Rattle.isp_model.specs.Gang.{Mask, everyone}
+use Rattle.isp_base.specs.Sets.{Mask, everyone}
 use Rattle.isp_model.specs.State.{tick}
 use Rattle.isp_model.specs.Statements.{run_all}
-use Rattle.isp_model.specs.Runs.{rows, tabulate, rows_now, stores_of, first_state, uncalled, meaning, outcome_of, run_of}
+use Rattle.isp_base.specs.Arguments.{rows, tabulate, rows_now}
+use Rattle.isp_model.specs.Runs.{stores_of, first_state, uncalled, meaning, outcome_of, run_of}
 use Rattle.isp_model.specs.declared.state.State as rust
 use Rattle.isp_model.specs.declared.call.Call.{Call}
-use Rattle.isp_model.specs.Seen.{lane_of, store_bits, Shape, shape_of, shapes, seen, stores_seen, GoesAll, TrapsIn}
+use Rattle.isp_base.specs.Maps.{lane_of}
+use Rattle.isp_model.specs.Seen.{store_bits, Shape, shape_of, shapes, seen, stores_seen, GoesAll, TrapsIn}
 
 tabulate_back : (xs : List ℕ) → tabulate (length xs) (lane_of xs) ≡ xs
 tabulate_back [] = refl

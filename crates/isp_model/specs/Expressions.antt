@@ -8,7 +8,9 @@ use Rattle.isp_base.specs.declared.types.Span.{Span}
 use Rattle.isp_base.specs.declared.operators.BinOp.{BinOp}
 use Rattle.isp_base.specs.declared.trap.TrapKind.TheVariants.{Divide, Index}
 use Rattle.isp_rates.specs.Typed.{Typed, t_number, t_program_index, t_variable, t_item, t_brackets, t_binary, type_of}
-use Rattle.isp_model.specs.Gang.{Mask, on, map1, map2}
+use Rattle.isp_base.specs.Sets.{Mask}
+use Rattle.isp_base.specs.Access.{is_outside, element, is_zero}
+use Rattle.isp_base.specs.Maps.{on, map1, map2}
 use Rattle.isp_model.specs.State.{State, Stores, tick, Payload, One, Each, Val, Gives, bind, checked, spread, offender}
 
 -- what is handed to a call: a value, or an array by its store
@@ -19,17 +21,6 @@ pub data Passed : Type 0 where
 -- what a call of a function by a set of instances gives
 abbrev pub Calls : Type 0
 Calls = ℕ → Mask → List Passed → State → Val
-
--- an index of n elements is a whole number from 0 up to n - 1
-abbrev pub is_outside : Elem → ℕ → ℕ → Bool
-is_outside t n x = int_lt (number t x) (pos 0) || not (int_lt (number t x) (pos n))
-
-abbrev pub element : Elem → ℕ → ℕ
-element t x = unsigned_abs (number t x)
-
--- the divisor is zero
-abbrev pub is_zero : BinOp → Elem → ℕ → Bool
-is_zero op t y = divides op && (y % 2 ^ width t) == 0
 
 -- a function of each value; of two values it is one value where both are
 abbrev pub mapped : (ℕ → ℕ) → Payload → Payload

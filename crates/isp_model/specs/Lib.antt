@@ -1,4 +1,3 @@
-pub mod Gang
 pub mod State
 pub mod Expressions
 pub mod Statements

@@ -6,23 +6,11 @@ use Rattle.isp_base.specs.Outcomes.{Outcome, Ends, Traps, GoesOn}
 use Rattle.isp_base.specs.declared.signature.Argument.{Argument}
 use Rattle.isp_base.specs.declared.signature.Argument.TheVariants.{Value as AValue, Array as AnArray}
 use Rattle.isp_rates.specs.Typed.{Function}
-use Rattle.isp_model.specs.Gang.{Lanes, everyone}
+use Rattle.isp_base.specs.Sets.{everyone}
+use Rattle.isp_base.specs.Arguments.{rows, argument_bits, row_bits, rows_now}
 use Rattle.isp_model.specs.State.{State, Stores, tick, Stops, Res, Went, Trapped, Cut}
 use Rattle.isp_model.specs.Expressions.{Calls}
 use Rattle.isp_model.specs.Statements.{run_all}
-
--- the arrays among the arguments, in order: array variable k names the store that comes k-th among them
-abbrev pub rows : List Argument → List Row
-rows [] = []
-rows (AValue v ∷ xs) = rows xs
-rows (AnArray a ∷ xs) = a ∷ rows xs
-
--- the value of the k-th argument, 0 for an array and past the last
-abbrev pub argument_bits : List Argument → ℕ → ℕ
-argument_bits [] k = 0
-argument_bits (AValue v ∷ xs) zero = v.bits % 2 ^ width v.elem
-argument_bits (AnArray a ∷ xs) zero = 0
-argument_bits (x ∷ xs) (suc k) = argument_bits xs k
 
 -- the store of the k-th argument: how many arrays come before it
 abbrev pub store_of : List Argument → ℕ → ℕ
@@ -31,11 +19,6 @@ store_of (x ∷ xs) zero = 0
 store_of (AValue v ∷ xs) (suc k) = store_of xs k
 store_of (AnArray a ∷ xs) (suc k) = suc (store_of xs k)
 
-abbrev pub row_bits : List Row → ℕ → List ℕ
-row_bits [] b = []
-row_bits (r ∷ rs) zero = r.bits
-row_bits (r ∷ rs) (suc b) = row_bits rs b
-
 abbrev pub stores_of : List Argument → Stores
 stores_of xs = record { named = store_of xs; sizes = λ b. length (row_bits (rows xs) b) }
 
@@ -43,16 +26,6 @@ stores_of xs = record { named = store_of xs; sizes = λ b. length (row_bits (row
 abbrev pub first_state : List Argument → State
 first_state xs =
     record { uniforms = argument_bits xs; varying = λ v p. 0; arrays = λ b i. slice_index (row_bits (rows xs) b) i; out = []; work = 0 }
-
--- the first n values of a function
-abbrev pub tabulate : ℕ → Lanes → List ℕ
-tabulate zero f = []
-tabulate (suc n) f = f 0 ∷ tabulate n (λ i. f (suc i))
-
--- the arrays as they are now, with the element types and lengths that they had
-abbrev pub rows_now : List Row → (ℕ → Lanes) → List Row
-rows_now [] f = []
-rows_now (r ∷ rs) f = record { elem = r.elem; bits = tabulate (length r.bits) (f 0) } ∷ rows_now rs (λ b. f (suc b))
 
 abbrev pub outcome_of : List Argument → Res → Outcome
 outcome_of xs (Went s g b c r) = Ends (rows_now (rows xs) s.arrays) None s.out

@@ -16,21 +16,19 @@ use Rattle.isp_rates.specs.declared.typed.Holds.{Holds}
 use Rattle.isp_rates.specs.declared.typed.Holds.TheVariants.{One as OneValue, Many}
 use Rattle.isp_rates.specs.Fine.{goes_to, rate_or}
 use Rattle.isp_rates.specs.Typed.{Typed, type_of, TStmt}
-use Rattle.isp_model.specs.Gang.{Mask, Lanes, on, any, put, scatter}
-use Rattle.isp_model.specs.State.{State, Stores, Payload, One, Each, Gives, Fails, Trapped, went_all, spread, offender, trap}
-use Rattle.isp_model.specs.Expressions.{is_outside, is_zero, element, mapped, joined, value}
+use Rattle.isp_base.specs.Sets.{Mask, flag_of, any}
+use Rattle.isp_base.specs.Maps.{Lanes, lane_of, on, put}
+use Rattle.isp_base.specs.Access.{scatter, is_outside, is_zero, element}
+use Rattle.isp_base.specs.Traps.{trap}
+use Rattle.isp_model.specs.State.{State, Stores, Payload, One, Each, Gives, Fails, Trapped, went_all, spread, offender}
+use Rattle.isp_model.specs.Expressions.{mapped, joined, value}
 use Rattle.isp_model.specs.Statements.{stored, run, run_all}
-use Rattle.isp_model.specs.Runs.{rows, row_bits, argument_bits, uncalled}
+use Rattle.isp_base.specs.Arguments.{rows, row_bits, argument_bits}
+use Rattle.isp_model.specs.Runs.{uncalled}
 use Rattle.isp_model.specs.declared.lanes.Computed.{Computed}
 use Rattle.isp_model.specs.declared.lanes.Computed.TheVariants as computed
 use Rattle.isp_model.specs.declared.state.State as rust
 use Rattle.isp_model.specs.declared.call.Call.{Call}
-
-abbrev pub lane_of : List ℕ → Lanes
-lane_of xs p = get_or xs p 0
-
-abbrev pub flag_of : List Bool → Mask
-flag_of bs p = get_or bs p false
 
 -- the bits in one instance
 abbrev pub bits_in : Computed → Lanes

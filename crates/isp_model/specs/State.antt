@@ -3,7 +3,9 @@ use Rattle.std.specs.Prelude.{ℕ, ◌+◌, List, Option, Some, None, Bool, true
 use Rattle.isp_base.specs.declared.types.Span.{Span}
 use Rattle.isp_base.specs.declared.trap.Trap.{Trap}
 use Rattle.isp_base.specs.declared.trap.TrapKind.{TrapKind}
-use Rattle.isp_model.specs.Gang.{Mask, Lanes, Map, nobody, union, on, lowest, where_true}
+use Rattle.isp_base.specs.Traps.{trap}
+use Rattle.isp_base.specs.Sets.{Mask, nobody, union, lowest}
+use Rattle.isp_base.specs.Maps.{Lanes, Map, on, lowest_failing}
 
 -- The variables of the call by number: one value for the gang, or one in each instance. The arrays by the number of
 -- their store, and the output, which all calls share. The work counts each node that is reached.
@@ -53,10 +55,7 @@ module _ (gang : ℕ) (fails : ℕ → Bool) (a : Mask) where
 
   abbrev pub offender : Payload → Option ℕ
   offender (One x) = if_fails (fails x)
-  offender (Each x) = lowest gang (where_true fails x)
-
-abbrev pub trap : TrapKind → Span → ℕ → Trap
-trap kind place p = record { kind = kind; place = place; instance = p }
+  offender (Each x) = lowest_failing gang fails x
 
 -- goes on with a value
 abbrev pub bind : Val → (Payload → State → Val) → Val

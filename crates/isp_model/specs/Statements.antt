@@ -6,9 +6,12 @@ use Rattle.isp_base.specs.declared.types.Rate.TheVariants.{Uniform, Varying}
 use Rattle.isp_base.specs.declared.types.Span.{Span}
 use Rattle.isp_base.specs.declared.trap.TrapKind.TheVariants.{Index}
 use Rattle.isp_rates.specs.Typed.{type_of, TStmt, t_declare, t_assign, t_assign_item}
-use Rattle.isp_model.specs.Gang.{Mask, Lanes, any, over, put, scatter}
-use Rattle.isp_model.specs.State.{State, Stores, tick, Payload, One, Each, Res, Trapped, with_value, then_run, went_all, unless_empty, spread, offender, trap}
-use Rattle.isp_model.specs.Expressions.{Calls, is_outside, element, mapped, value}
+use Rattle.isp_base.specs.Sets.{Mask, any}
+use Rattle.isp_base.specs.Maps.{Lanes, over, put}
+use Rattle.isp_base.specs.Access.{scatter, is_outside, element}
+use Rattle.isp_base.specs.Traps.{trap}
+use Rattle.isp_model.specs.State.{State, Stores, tick, Payload, One, Each, Res, Trapped, with_value, then_run, went_all, unless_empty, spread, offender}
+use Rattle.isp_model.specs.Expressions.{Calls, mapped, value}
 
 -- A variable is written for the members of a set. A uniform one is written once; no accepted program gives it more than one value.
 abbrev pub written : Rate → ℕ → Mask → Payload → State → State

@@ -1,13 +1,10 @@
 -- More turns: what is over stays, and the output of what goes on only grows.
 use Rattle.std.specs.Prelude.{◌≡◌, ℕ, ◌≤◌, List, ◌++◌}
+use Rattle.isp_base.specs.Prefixes.{IsPrefix}
 use Rattle.isp_base.specs.Outcomes.{Outcome, Ends, Traps, GoesOn, out_of}
 use Rattle.isp_base.specs.declared.signature.Argument.{Argument}
 use Rattle.isp_rates.specs.Typed.{Function}
 use Rattle.isp_model.specs.Runs.{run_of}
-
--- one list begins with another
-abbrev pub IsPrefix : List ℕ → List ℕ → Type 0
-IsPrefix xs ys = (zs : List ℕ) × (ys ≡ xs ++ zs)
 
 abbrev pub Later : Outcome → Outcome → Type 0
 Later (Ends arrays answer out) o = o ≡ Ends arrays answer out

@@ -1,11 +1,13 @@
 //! How the members of a set read and write arrays.
 ghost use Rattle.std.specs.Prelude.{◌≡◌, ◌<◌, ◌^◌, ℕ, true, false, length};
 ghost use Rattle.isp_base.specs.Values.{width};
-ghost use Rattle.isp_model.specs.Gang.{put};
-ghost use Rattle.isp_model.specs.Expressions.{is_outside, element, mapped};
+ghost use Rattle.isp_base.specs.Maps.{put, lane_of};
+ghost use Rattle.isp_base.specs.Access.{is_outside, element};
+ghost use Rattle.isp_model.specs.Expressions.{mapped};
 ghost use Rattle.isp_model.specs.Statements.{stored};
-ghost use Rattle.isp_model.specs.Runs.{row_bits};
-ghost use Rattle.isp_model.specs.Seen.{IsGroup, FitsElem, rate_of, lane_of, flag_of, bits_in, payload_of, store_bits, row_elem, shapes, scattered};
+ghost use Rattle.isp_base.specs.Arguments.{row_bits};
+ghost use Rattle.isp_base.specs.Sets.{flag_of};
+ghost use Rattle.isp_model.specs.Seen.{IsGroup, FitsElem, rate_of, bits_in, payload_of, store_bits, row_elem, shapes, scattered};
 
 use crate::computed::element;
 use crate::lanes::{Active, Computed, Lanes, WIDEST};

@@ -3,9 +3,11 @@ ghost use Rattle.std.specs.Prelude.{◌≡◌, ◌<◌, ℕ, length, slice_get, 
 ghost use Rattle.isp_rates.specs.declared.typed.Holds.TheVariants as holds;
 ghost use Rattle.isp_rates.specs.Typed.{typed_of};
 ghost use Rattle.isp_model.specs.State.{offender};
-ghost use Rattle.isp_model.specs.Expressions.{is_outside, is_zero, variable};
-ghost use Rattle.isp_model.specs.Runs.{row_bits};
-ghost use Rattle.isp_model.specs.Seen.{IsGroup, IsOf, FitsElem, flag_of, payload_of, Reads, Joins, IsTrapOf};
+ghost use Rattle.isp_base.specs.Access.{is_outside, is_zero};
+ghost use Rattle.isp_model.specs.Expressions.{variable};
+ghost use Rattle.isp_base.specs.Arguments.{row_bits};
+ghost use Rattle.isp_base.specs.Sets.{flag_of};
+ghost use Rattle.isp_model.specs.Seen.{IsGroup, IsOf, FitsElem, payload_of, Reads, Joins, IsTrapOf};
 
 use crate::arrays::{count, loaded};
 use crate::computed::{joined, outside, undefined};

@@ -2,10 +2,12 @@
 ghost use Rattle.std.specs.Prelude.{◌≡◌, ◌<◌, ◌≤◌, ◌^◌, ℕ, true, false};
 ghost use Rattle.isp_base.specs.Values.{op_bits, width};
 ghost use Rattle.isp_rates.specs.Fine.{rate_or};
-ghost use Rattle.isp_model.specs.Gang.{over};
+ghost use Rattle.isp_base.specs.Maps.{over, lane_of};
 ghost use Rattle.isp_model.specs.State.{offender, spread};
-ghost use Rattle.isp_model.specs.Expressions.{is_outside, element, is_zero, joined};
-ghost use Rattle.isp_model.specs.Seen.{IsGroup, FitsElem, rate_of, lane_of, flag_of, bits_in, payload_of};
+ghost use Rattle.isp_base.specs.Access.{is_outside, element, is_zero};
+ghost use Rattle.isp_model.specs.Expressions.{joined};
+ghost use Rattle.isp_base.specs.Sets.{flag_of};
+ghost use Rattle.isp_model.specs.Seen.{IsGroup, FitsElem, rate_of, bits_in, payload_of};
 
 use crate::lanes::{Active, Computed, Lanes, WIDEST, lowest};
 use isp_base::{BinOp, Elem, apply_nonzero, low_bits, number};

@@ -1,7 +1,7 @@
 //! Rows of lanes, sets of instances, and what an expression gives over a set.
 ghost use Rattle.std.specs.Prelude.{◌≡◌, ◌<◌, ◌≤◌, ℕ, true};
-ghost use Rattle.isp_model.specs.Gang.{everyone, lowest};
-ghost use Rattle.isp_model.specs.Seen.{lane_of, flag_of};
+ghost use Rattle.isp_base.specs.Sets.{everyone, lowest, flag_of};
+ghost use Rattle.isp_base.specs.Maps.{lane_of};
 
 /// The number of instances of the widest gang.
 pub const WIDEST: usize = 16;

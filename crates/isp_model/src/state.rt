@@ -1,8 +1,9 @@
 //! What a run changes.
 ghost use Rattle.std.specs.Prelude.{◌≡◌, ◌<◌, ◌≤◌, ◌^◌, ◌++◌, ◌∷◌, ℕ, [], length, get_or, IfOk};
 ghost use Rattle.isp_base.specs.Values.{width};
-ghost use Rattle.isp_model.specs.Runs.{rows, argument_bits, store_of};
-ghost use Rattle.isp_model.specs.Seen.{lane_of};
+ghost use Rattle.isp_base.specs.Arguments.{rows, argument_bits};
+ghost use Rattle.isp_model.specs.Runs.{store_of};
+ghost use Rattle.isp_base.specs.Maps.{lane_of};
 
 use crate::lanes::{Lanes, WIDEST};
 use isp_base::{Argument, Array, low_bits};

@@ -4,10 +4,11 @@ ghost use Rattle.isp_rates.specs.Fine.{IsFineStmt, AreFine};
 ghost use Rattle.isp_rates.specs.declared.typed.Holds.TheVariants as holds;
 ghost use Rattle.isp_rates.specs.Typed.{tstmt_of, tstmts_of};
 ghost use Rattle.isp_model.specs.State.{offender};
-ghost use Rattle.isp_model.specs.Expressions.{is_outside};
+ghost use Rattle.isp_base.specs.Access.{is_outside};
 ghost use Rattle.isp_model.specs.Statements.{written};
-ghost use Rattle.isp_model.specs.Runs.{row_bits};
-ghost use Rattle.isp_model.specs.Seen.{IsGroup, IsOf, FitsElem, Shaped, IsTrapOf, Stores_all, Goes, GoesAll, TrapsAt, TrapsIn, flag_of, payload_of, variables_of, seen, row_elem};
+ghost use Rattle.isp_base.specs.Arguments.{row_bits};
+ghost use Rattle.isp_base.specs.Sets.{flag_of};
+ghost use Rattle.isp_model.specs.Seen.{IsGroup, IsOf, FitsElem, Shaped, IsTrapOf, Stores_all, Goes, GoesAll, TrapsAt, TrapsIn, payload_of, variables_of, seen, row_elem};
 
 use crate::arrays::{count, store_all};
 use crate::call::Call;

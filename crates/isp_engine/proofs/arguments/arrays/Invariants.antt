@@ -1,5 +1,5 @@
 use Rattle.std.proofs.Common.{◌≡◌}
-use Rattle.isp_model.specs.Runs.{rows}
+use Rattle.isp_base.specs.Arguments.{rows}
 use Rattle.isp_engine.proofs.arguments.arrays.Given as goal
 
 abbrev pub invariant-loop-argument : goal.invariant-loop-argument

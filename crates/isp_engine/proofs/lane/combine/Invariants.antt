@@ -1,6 +1,6 @@
 use Rattle.std.proofs.Common.{◌≡◌, ℕ, ◌<◌, length}
 use Rattle.isp_base.specs.Values.{op_bits}
-use Rattle.isp_engine.specs.Held.{lane_of}
+use Rattle.isp_base.specs.Maps.{lane_of}
 use Rattle.isp_engine.proofs.lane.combine.Given as goal
 
 abbrev pub invariant-loop-lane : goal.invariant-loop-lane

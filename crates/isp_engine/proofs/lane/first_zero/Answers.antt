@@ -1,6 +1,6 @@
 use Rattle.std.proofs.Common.{sym, ◌∙◌, arith}
-use Rattle.isp_model.specs.Expressions.{is_zero}
-use Rattle.isp_engine.specs.Held.{lane_of}
+use Rattle.isp_base.specs.Access.{is_zero}
+use Rattle.isp_base.specs.Maps.{lane_of}
 use Rattle.isp_engine.proofs.Kernels.{first_of, none_of}
 use Rattle.isp_engine.proofs.lane.first_zero.Goals as goal
 

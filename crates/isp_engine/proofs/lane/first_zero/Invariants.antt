@@ -1,6 +1,6 @@
 use Rattle.std.proofs.Common.{◌≡◌, ℕ, ◌<◌, false}
-use Rattle.isp_model.specs.Expressions.{is_zero}
-use Rattle.isp_engine.specs.Held.{lane_of}
+use Rattle.isp_base.specs.Access.{is_zero}
+use Rattle.isp_base.specs.Maps.{lane_of}
 use Rattle.isp_engine.proofs.lane.first_zero.Given as goal
 
 abbrev pub invariant-loop-lane : goal.invariant-loop-lane

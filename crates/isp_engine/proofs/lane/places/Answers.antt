@@ -1,6 +1,6 @@
 use Rattle.std.proofs.Common.{refl}
-use Rattle.isp_model.specs.Expressions.{is_outside}
-use Rattle.isp_engine.specs.Held.{lane_of}
+use Rattle.isp_base.specs.Access.{is_outside}
+use Rattle.isp_base.specs.Maps.{lane_of}
 use Rattle.isp_engine.proofs.Kernels.{first_of}
 use Rattle.isp_engine.proofs.lane.places.Goals as goal
 

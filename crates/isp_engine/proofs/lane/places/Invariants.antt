@@ -1,6 +1,6 @@
 use Rattle.std.proofs.Common.{◌≡◌, ℕ, ◌<◌, length, false}
-use Rattle.isp_model.specs.Expressions.{is_outside, element}
-use Rattle.isp_engine.specs.Held.{lane_of}
+use Rattle.isp_base.specs.Access.{is_outside, element}
+use Rattle.isp_base.specs.Maps.{lane_of}
 use Rattle.isp_engine.proofs.lane.places.Given as goal
 
 abbrev pub invariant-loop-lane : goal.invariant-loop-lane

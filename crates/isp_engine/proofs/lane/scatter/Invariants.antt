@@ -1,8 +1,9 @@
 use Rattle.std.proofs.Common.{◌≡◌, length, Some}
 use Rattle.std.specs.Prelude.{slice_index}
-use Rattle.isp_model.specs.Gang.{everyone, on, map1, scatter}
+use Rattle.isp_base.specs.Sets.{everyone}
+use Rattle.isp_base.specs.Maps.{on, map1, lane_of}
+use Rattle.isp_base.specs.Access.{scatter}
 use Rattle.isp_engine.specs.Machine.{low}
-use Rattle.isp_engine.specs.Held.{lane_of}
 use Rattle.isp_engine.proofs.lane.scatter.Given as goal
 
 abbrev pub invariant-loop-lane : goal.invariant-loop-lane

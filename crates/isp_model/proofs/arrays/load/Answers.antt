@@ -2,7 +2,7 @@ use Rattle.std.proofs.Common.{◌<◌, ◌^◌, sym, ap, ◌∙◌, length, subs
 use Rattle.isp_base.specs.declared.types.Elem.{Elem}
 use Rattle.isp_base.specs.Values.{width}
 use Rattle.isp_base.specs.Rows.{Row}
-use Rattle.isp_model.specs.Seen.{lane_of}
+use Rattle.isp_base.specs.Maps.{lane_of}
 use Rattle.isp_model.proofs.Rows.{row_bits_at, row_elem_at, row_there}
 use Rattle.isp_model.proofs.arrays.load.Goals as goal
 

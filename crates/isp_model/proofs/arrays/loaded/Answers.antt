@@ -1,6 +1,6 @@
 use Rattle.std.proofs.Common.{ap, ◌∙◌}
-use Rattle.isp_model.specs.Expressions.{is_outside}
-use Rattle.isp_model.specs.Seen.{flag_of}
+use Rattle.isp_base.specs.Access.{is_outside}
+use Rattle.isp_base.specs.Sets.{flag_of}
 use Rattle.isp_model.proofs.Stores.{one_inside}
 use Rattle.isp_model.proofs.arrays.loaded.Goals as goal
 

@@ -1,5 +1,7 @@
-use Rattle.isp_model.specs.Expressions.{element}
-use Rattle.isp_model.specs.Seen.{flag_of, lane_of, store_bits, row_elem}
+use Rattle.isp_base.specs.Access.{element}
+use Rattle.isp_base.specs.Sets.{flag_of}
+use Rattle.isp_base.specs.Maps.{lane_of}
+use Rattle.isp_model.specs.Seen.{store_bits, row_elem}
 use Rattle.isp_model.proofs.Kernels.{Row_so_far}
 use Rattle.isp_model.proofs.arrays.loaded_row.Given as goal
 

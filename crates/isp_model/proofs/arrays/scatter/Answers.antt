@@ -1,9 +1,10 @@
 use Rattle.std.proofs.Common.{◌<◌, ◌^◌, subst, sym, ap, ◌∙◌}
 use Rattle.isp_base.specs.declared.types.Elem.{Elem}
 use Rattle.isp_base.specs.Values.{width}
-use Rattle.isp_model.specs.Gang.{Lanes, put}
-use Rattle.isp_model.specs.Expressions.{element}
-use Rattle.isp_model.specs.Seen.{flag_of, store_bits, shapes, row_elem}
+use Rattle.isp_base.specs.Maps.{Lanes, put}
+use Rattle.isp_base.specs.Access.{element}
+use Rattle.isp_base.specs.Sets.{flag_of}
+use Rattle.isp_model.specs.Seen.{store_bits, shapes, row_elem}
 use Rattle.isp_model.proofs.Stores.{same_count, same_elem, scattered_step, scattered_off}
 use Rattle.isp_model.proofs.arrays.scatter.Goals as goal
 use Rattle.isp_model.proofs.arrays.scatter.Goals.{then-set-instance, else-set-instance}

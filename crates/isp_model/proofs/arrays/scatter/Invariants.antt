@@ -1,6 +1,7 @@
 use Rattle.std.proofs.Common.{◌≡◌}
-use Rattle.isp_model.specs.Gang.{put}
-use Rattle.isp_model.specs.Seen.{flag_of, store_bits, shapes, scattered}
+use Rattle.isp_base.specs.Maps.{put}
+use Rattle.isp_base.specs.Sets.{flag_of}
+use Rattle.isp_model.specs.Seen.{store_bits, shapes, scattered}
 use Rattle.isp_model.proofs.arrays.scatter.Given as goal
 
 abbrev pub invariant-loop-instance : goal.invariant-loop-instance

@@ -1,7 +1,8 @@
 use Rattle.std.proofs.Common.{subst, ap, ◌∙◌}
-use Rattle.isp_model.specs.Expressions.{is_outside}
+use Rattle.isp_base.specs.Access.{is_outside}
 use Rattle.isp_model.specs.declared.lanes.Computed.{Computed}
-use Rattle.isp_model.specs.Seen.{flag_of, row_elem, FitsElem}
+use Rattle.isp_base.specs.Sets.{flag_of}
+use Rattle.isp_model.specs.Seen.{row_elem, FitsElem}
 use Rattle.isp_model.proofs.Stores.{one_inside}
 use Rattle.isp_model.proofs.arrays.store_all.Goals as goal
 

@@ -1,7 +1,8 @@
 use Rattle.std.proofs.Common.{ap, subst, ◌∙◌, sym}
-use Rattle.isp_model.specs.Expressions.{is_zero}
+use Rattle.isp_base.specs.Access.{is_zero}
 use Rattle.isp_model.specs.declared.lanes.Computed.{Computed}
-use Rattle.isp_model.specs.Seen.{FitsElem, flag_of, bits_in}
+use Rattle.isp_base.specs.Sets.{flag_of}
+use Rattle.isp_model.specs.Seen.{FitsElem, bits_in}
 use Rattle.isp_model.proofs.Sets.{any_member}
 use Rattle.isp_model.proofs.Kernels.{nonzero}
 use Rattle.isp_model.proofs.computed.joined.Goals as goal

@@ -1,7 +1,8 @@
 use Rattle.std.proofs.Common.{sym, subst, ◌∙◌, ◌+◌, List, ℕ, ap₂, arith}
 use Rattle.isp_base.specs.Values.{op_bits}
-use Rattle.isp_model.specs.Gang.{Lanes}
-use Rattle.isp_model.specs.Seen.{flag_of, bits_in}
+use Rattle.isp_base.specs.Maps.{Lanes}
+use Rattle.isp_base.specs.Sets.{flag_of}
+use Rattle.isp_model.specs.Seen.{bits_in}
 use Rattle.isp_model.proofs.Kernels.{Row_so_far, row_on, row_off, op_fits}
 use Rattle.isp_model.proofs.computed.joined_row.Goals as goal
 use Rattle.isp_model.proofs.computed.joined_row.Goals.{then-set-instance, else-set-instance}

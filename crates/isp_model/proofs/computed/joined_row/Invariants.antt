@@ -1,5 +1,6 @@
 use Rattle.isp_base.specs.Values.{op_bits}
-use Rattle.isp_model.specs.Seen.{flag_of, bits_in}
+use Rattle.isp_base.specs.Sets.{flag_of}
+use Rattle.isp_model.specs.Seen.{bits_in}
 use Rattle.isp_model.proofs.Kernels.{Row_so_far}
 use Rattle.isp_model.proofs.computed.joined_row.Given as goal
 

@@ -1,6 +1,8 @@
 use Rattle.std.proofs.Common.{◌≡◌, ◌<◌, ◌≤◌, ℕ, length}
 use Rattle.std.specs.Prelude.{if◌then◌else◌}
-use Rattle.isp_model.specs.Seen.{lane_of, flag_of, bits_in}
+use Rattle.isp_base.specs.Sets.{flag_of}
+use Rattle.isp_base.specs.Maps.{lane_of}
+use Rattle.isp_model.specs.Seen.{bits_in}
 use Rattle.isp_model.proofs.computed.merged.Given as goal
 
 abbrev pub invariant-loop-instance : goal.invariant-loop-instance

@@ -1,6 +1,6 @@
 use Rattle.std.proofs.Common.{sym, ◌∙◌, arith}
-use Rattle.isp_model.specs.Expressions.{is_outside}
-use Rattle.isp_model.specs.Seen.{flag_of}
+use Rattle.isp_base.specs.Access.{is_outside}
+use Rattle.isp_base.specs.Sets.{flag_of}
 use Rattle.isp_model.proofs.Sets.{offender_lanes, lowest_same}
 use Rattle.isp_model.proofs.computed.outside.Goals as goal
 

@@ -1,6 +1,7 @@
 use Rattle.std.proofs.Common.{◌≡◌, ◌<◌, ℕ, ◌&&◌, length}
-use Rattle.isp_model.specs.Expressions.{is_zero}
-use Rattle.isp_model.specs.Seen.{flag_of, bits_in}
+use Rattle.isp_base.specs.Access.{is_zero}
+use Rattle.isp_base.specs.Sets.{flag_of}
+use Rattle.isp_model.specs.Seen.{bits_in}
 use Rattle.isp_model.proofs.computed.undefined.Given as goal
 
 abbrev pub invariant-loop-instance : goal.invariant-loop-instance

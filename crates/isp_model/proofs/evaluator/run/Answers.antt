@@ -2,11 +2,11 @@ use Rattle.std.proofs.Common.{◌≡◌, List, length, get_or, refl, ap, ◌∙�
 use Rattle.isp_base.specs.declared.signature.Argument.{Argument}
 use Rattle.isp_base.specs.Types.{gang_width}
 use Rattle.isp_rates.specs.Typed.{function_of}
-use Rattle.isp_model.specs.Gang.{everyone}
+use Rattle.isp_base.specs.Sets.{everyone, flag_of}
 use Rattle.isp_model.specs.State.{tick}
 use Rattle.isp_model.specs.Runs.{store_of, stores_of, first_state}
 use Rattle.isp_model.specs.declared.call.Call.{Call}
-use Rattle.isp_model.specs.Seen.{flag_of, seen, stores_seen, IsFirst}
+use Rattle.isp_model.specs.Seen.{seen, stores_seen, IsFirst}
 use Rattle.isp_model.proofs.Begins.{signature_length, params_fewer, everyone_group, first_shaped, first_stores, first_seen}
 use Rattle.isp_model.proofs.Whole.{whole_ends, whole_traps}
 use Rattle.isp_model.proofs.evaluator.run.Goals as goal

@@ -1,5 +1,5 @@
 use Rattle.std.proofs.Common.{◌≡◌, ◌<◌, ◌≤◌, ℕ, true, false, length}
-use Rattle.isp_model.specs.Seen.{flag_of}
+use Rattle.isp_base.specs.Sets.{flag_of}
 use Rattle.isp_model.proofs.lanes.everyone.Given as goal
 
 abbrev pub invariant-loop-instance : goal.invariant-loop-instance

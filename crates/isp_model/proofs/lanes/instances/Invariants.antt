@@ -1,5 +1,5 @@
 use Rattle.std.proofs.Common.{◌≡◌, ◌<◌, ℕ, length}
-use Rattle.isp_model.specs.Seen.{lane_of}
+use Rattle.isp_base.specs.Maps.{lane_of}
 use Rattle.isp_model.proofs.lanes.instances.Given as goal
 
 abbrev pub invariant-loop-instance : goal.invariant-loop-instance

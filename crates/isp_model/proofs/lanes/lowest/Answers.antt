@@ -1,5 +1,5 @@
 use Rattle.std.proofs.Common.{sym}
-use Rattle.isp_model.specs.Seen.{flag_of}
+use Rattle.isp_base.specs.Sets.{flag_of}
 use Rattle.isp_model.proofs.Sets.{lowest_found}
 use Rattle.isp_model.proofs.lanes.lowest.Goals as goal
 

@@ -1,6 +1,5 @@
 use Rattle.std.proofs.Common.{◌≡◌, None}
-use Rattle.isp_model.specs.Gang.{lowest}
-use Rattle.isp_model.specs.Seen.{flag_of}
+use Rattle.isp_base.specs.Sets.{lowest, flag_of}
 use Rattle.isp_model.proofs.lanes.lowest.Given as goal
 
 abbrev pub invariant-loop-instance : goal.invariant-loop-instance

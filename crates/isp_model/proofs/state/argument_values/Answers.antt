@@ -1,5 +1,5 @@
 use Rattle.std.proofs.Common.{sym, ◌∙◌, ◌+◌, arith, subst, Vec, Global, ℕ}
-use Rattle.isp_model.specs.Runs.{argument_bits}
+use Rattle.isp_base.specs.Arguments.{argument_bits}
 use Rattle.isp_model.proofs.Rows.{Filled, filled_put, filled_skip, filled_all, bits_value, bits_array, bits_past}
 use Rattle.isp_model.proofs.state.argument_values.Goals as goal
 use Rattle.isp_model.proofs.state.argument_values.Goals.{in-Value, in_default}

@@ -1,4 +1,4 @@
-use Rattle.isp_model.specs.Runs.{argument_bits}
+use Rattle.isp_base.specs.Arguments.{argument_bits}
 use Rattle.isp_model.proofs.Rows.{Filled}
 use Rattle.isp_model.proofs.state.argument_values.Given as goal
 

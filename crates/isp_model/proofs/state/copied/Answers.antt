@@ -1,6 +1,6 @@
 use Rattle.std.proofs.Common.{sym, ap, ◌∙◌, ◌∷◌, ◌++◌, [], take, add-one, Vec, Global, List}
 use Rattle.isp_base.specs.Rows.{Row}
-use Rattle.isp_model.specs.Runs.{rows}
+use Rattle.isp_base.specs.Arguments.{rows}
 use Rattle.isp_model.proofs.Rows.{rows_value, rows_array}
 use Rattle.isp_model.proofs.state.copied.Goals as goal
 use Rattle.isp_model.proofs.state.copied.Goals.{in-Array+in_ok-copy_of+in_ok-push, in_default}

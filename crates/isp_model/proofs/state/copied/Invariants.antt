@@ -1,5 +1,5 @@
 use Rattle.std.proofs.Common.{◌≡◌, take}
-use Rattle.isp_model.specs.Runs.{rows}
+use Rattle.isp_base.specs.Arguments.{rows}
 use Rattle.isp_model.proofs.state.copied.Given as goal
 
 abbrev pub invariant-loop-argument : goal.invariant-loop-argument

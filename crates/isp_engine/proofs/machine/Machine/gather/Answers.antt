@@ -1,10 +1,10 @@
 use Rattle.std.proofs.Common.{◌≡◌, ℕ, List, false, ap, ap₂, ◌∙◌, subst}
 use Rattle.std.specs.Prelude.{get_or, slice_index, []}
 use Rattle.isp_base.specs.declared.trap.TrapKind.TheVariants.{Index}
-use Rattle.isp_model.specs.Expressions.{is_outside, element}
-use Rattle.isp_model.specs.Runs.{row_bits}
+use Rattle.isp_base.specs.Access.{is_outside, element}
+use Rattle.isp_base.specs.Arguments.{row_bits}
 use Rattle.isp_engine.specs.Machine.{size}
-use Rattle.isp_engine.specs.Held.{lane_of}
+use Rattle.isp_base.specs.Maps.{lane_of}
 use Rattle.isp_engine.proofs.Kernels.{given1}
 use Rattle.isp_engine.proofs.machine.Machine.gather.Goals as goal
 

@@ -1,6 +1,6 @@
 use Rattle.std.proofs.Common.{sym, rules}
-use Rattle.isp_model.specs.Expressions.{is_zero}
-use Rattle.isp_engine.specs.Held.{lane_of}
+use Rattle.isp_base.specs.Access.{is_zero}
+use Rattle.isp_base.specs.Maps.{lane_of}
 use Rattle.isp_engine.proofs.Kernels.{each_false}
 use Rattle.isp_engine.proofs.machine.Machine.operate_lanes.Goals as goal
 

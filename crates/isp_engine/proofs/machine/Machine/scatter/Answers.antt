@@ -1,5 +1,5 @@
 use Rattle.std.proofs.Common.{◌<◌, length, rules}
-use Rattle.isp_engine.specs.Held.{lane_of}
+use Rattle.isp_base.specs.Maps.{lane_of}
 use Rattle.isp_engine.proofs.Stores.{array_there, place_there, lanes_stored}
 use Rattle.isp_engine.proofs.machine.Machine.scatter.Goals as goal
 

@@ -9,9 +9,10 @@ use Rattle.isp_rates.specs.declared.typed.Typed as rust
 use Rattle.isp_rates.specs.Fine.{IsFine}
 use Rattle.isp_rates.specs.Typed.{typed_of, type_of, t_item, t_brackets, t_binary}
 use Rattle.isp_model.specs.State.{offender}
-use Rattle.isp_model.specs.Expressions.{is_outside}
-use Rattle.isp_model.specs.Runs.{row_bits}
-use Rattle.isp_model.specs.Seen.{flag_of, payload_of, variables_of, store_named, Reads, IsTrapOf}
+use Rattle.isp_base.specs.Access.{is_outside}
+use Rattle.isp_base.specs.Arguments.{row_bits}
+use Rattle.isp_base.specs.Sets.{flag_of}
+use Rattle.isp_model.specs.Seen.{payload_of, variables_of, store_named, Reads, IsTrapOf}
 use Rattle.isp_model.proofs.Trees.{number_view, index_view, variable_view, item_view, brackets_view, binary_view}
 use Rattle.isp_model.proofs.Values.{store_elem, gives_at, traps_at, number_gives, index_gives, variable_gives, brackets_give, brackets_trap, index_traps, item_traps, item_gives, left_traps, right_traps, binary_traps, binary_gives}
 use Rattle.isp_model.proofs.call.Call.+value.Goals as goal

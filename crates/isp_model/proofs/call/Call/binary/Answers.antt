@@ -1,6 +1,6 @@
 use Rattle.std.proofs.Common.{sym, ◌∙◌}
-use Rattle.isp_model.specs.Expressions.{is_zero}
-use Rattle.isp_model.specs.Seen.{flag_of}
+use Rattle.isp_base.specs.Access.{is_zero}
+use Rattle.isp_base.specs.Sets.{flag_of}
 use Rattle.isp_model.proofs.Sets.{no_offender}
 use Rattle.isp_model.proofs.call.Call.binary.Goals as goal
 

@@ -5,7 +5,8 @@ use Rattle.isp_rates.specs.declared.typed.TypedStmt as rust_stmt
 use Rattle.isp_rates.specs.Fine.{IsFineStmt}
 use Rattle.isp_rates.specs.Typed.{TStmt, tstmt_of, tstmts_of}
 use Rattle.isp_model.specs.declared.state.State as rust
-use Rattle.isp_model.specs.Seen.{flag_of, variables_of, TrapsIn}
+use Rattle.isp_base.specs.Sets.{flag_of}
+use Rattle.isp_model.specs.Seen.{variables_of, TrapsIn}
 use Rattle.isp_model.proofs.Steps.{So_far, so_far_begins, so_far_step, so_far_traps, so_far_ends, behind, fine_at}
 use Rattle.isp_model.proofs.call.Call.body.Goals as goal
 use Rattle.isp_model.proofs.call.Call.body.Goals.{After-statement}

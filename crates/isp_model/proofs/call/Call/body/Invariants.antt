@@ -1,6 +1,6 @@
 use Rattle.std.proofs.Common.{drop}
 use Rattle.isp_rates.specs.Typed.{tstmts_of}
-use Rattle.isp_model.specs.Seen.{flag_of}
+use Rattle.isp_base.specs.Sets.{flag_of}
 use Rattle.isp_model.proofs.Steps.{So_far}
 use Rattle.isp_model.proofs.call.Call.body.Given as goal
 

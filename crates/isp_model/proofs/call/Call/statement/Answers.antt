@@ -10,10 +10,11 @@ use Rattle.isp_base.specs.Values.{width}
 use Rattle.isp_rates.specs.Fine.{IsFineStmt}
 use Rattle.isp_rates.specs.Typed.{typed_of, type_of, tstmt_of}
 use Rattle.isp_model.specs.State.{offender}
-use Rattle.isp_model.specs.Expressions.{is_outside}
-use Rattle.isp_model.specs.Runs.{row_bits}
+use Rattle.isp_base.specs.Access.{is_outside}
+use Rattle.isp_base.specs.Arguments.{row_bits}
 use Rattle.isp_model.specs.declared.state.State as rust
-use Rattle.isp_model.specs.Seen.{flag_of, bits_in, payload_of, variables_of, store_named, shapes, Shaped, Stores_all, IsTrapOf}
+use Rattle.isp_base.specs.Sets.{flag_of}
+use Rattle.isp_model.specs.Seen.{bits_in, payload_of, variables_of, store_named, shapes, Shaped, Stores_all, IsTrapOf}
 use Rattle.isp_model.proofs.Values.{store_elem}
 use Rattle.isp_model.proofs.States.{arrays_shaped}
 use Rattle.isp_model.proofs.Steps.{goes_at, stops_at, declare_goes, assign_goes, declare_traps, assign_traps, place_traps, stored_traps, store_traps, store_goes}

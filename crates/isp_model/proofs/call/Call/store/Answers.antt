@@ -1,9 +1,10 @@
 use Rattle.std.proofs.Common.{◌≡◌, true, false, ℕ, List, length, None, subst, sym, ap, ◌∙◌}
 use Rattle.isp_base.specs.Rows.{Row}
 use Rattle.isp_model.specs.State.{offender}
-use Rattle.isp_model.specs.Expressions.{is_outside}
-use Rattle.isp_model.specs.Runs.{row_bits}
-use Rattle.isp_model.specs.Seen.{FitsElem, flag_of, bits_in, payload_of, row_elem}
+use Rattle.isp_base.specs.Access.{is_outside}
+use Rattle.isp_base.specs.Arguments.{row_bits}
+use Rattle.isp_base.specs.Sets.{flag_of}
+use Rattle.isp_model.specs.Seen.{FitsElem, bits_in, payload_of, row_elem}
 use Rattle.isp_model.proofs.Sets.{no_offender}
 use Rattle.isp_model.proofs.Stores.{store_there}
 use Rattle.isp_model.proofs.call.Call.store.Goals as goal

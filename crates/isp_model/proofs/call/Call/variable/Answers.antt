@@ -5,7 +5,7 @@ use Rattle.isp_base.specs.declared.types.Rate.{Rate}
 use Rattle.isp_base.specs.declared.types.Rate.TheVariants.{Varying}
 use Rattle.isp_base.specs.Values.{width}
 use Rattle.isp_rates.specs.Fine.{goes_to}
-use Rattle.isp_model.specs.Seen.{lane_of}
+use Rattle.isp_base.specs.Maps.{lane_of}
 use Rattle.isp_model.proofs.call.Call.variable.Goals as goal
 
 pub returns-in-Varying-clause-typed : goal.returns-in-Varying-clause-typed

@@ -2,11 +2,12 @@ use Rattle.std.proofs.Common.{◌≡◌, ℕ, List, [], get_or, sym, ap, ◌∙�
 use Rattle.std.proofs.lemmas.List.{get_or_default}
 use Rattle.std.proofs.lemmas.Option.{slice_get_within}
 use Rattle.isp_base.specs.declared.types.Rate.{Rate}
-use Rattle.isp_model.specs.Gang.{Lanes, over, put}
+use Rattle.isp_base.specs.Maps.{Lanes, over, put, lane_of}
 use Rattle.isp_model.specs.State.{spread}
 use Rattle.isp_model.specs.Statements.{written}
 use Rattle.isp_model.specs.declared.lanes.Computed.{Computed}
-use Rattle.isp_model.specs.Seen.{FitsElem, lane_of, flag_of, payload_of, seen}
+use Rattle.isp_base.specs.Sets.{flag_of}
+use Rattle.isp_model.specs.Seen.{FitsElem, payload_of, seen}
 use Rattle.isp_model.proofs.States.{row_put, over_fits, uniform_shaped, varying_shaped}
 use Rattle.isp_model.proofs.call.Call.write.Goals as goal
 use Rattle.isp_model.proofs.call.Call.write.Goals.{After-merged-row}

@@ -1,5 +1,5 @@
 use Rattle.std.proofs.Common.{◌≡◌, ap, ◌∙◌, get_or, replicate, List, [], ℕ, rules}
-use Rattle.isp_model.specs.Seen.{lane_of}
+use Rattle.isp_base.specs.Maps.{lane_of}
 use Rattle.isp_model.proofs.Rows.{zero_rows}
 use Rattle.isp_model.proofs.state.State.first.Goals as goal
 

@@ -1,0 +1,195 @@
+//! Instructions.
+//!
+//! An instruction that writes a register is grouped by the class of the register, which comes first; then by its
+//! shape. Operands stand in the order of the table of `docs/MACHINE.md`. Whether a register is of the class and the
+//! type that the table asks is no matter of these types: code is a text that may have any register at any place,
+//! and the verifier tells.
+ghost use Rattle.std.specs.Prelude.{◌≡◌, IfOk, IfErr};
+
+use crate::register::{Arguments, Register};
+use isp_base::{Compare, UnaryOp};
+use std::alloc::{AllocFailed, Global};
+use std::marker::Model;
+
+/// An operator on two values that has a result for all values.
+#[derive(Clone, Copy)]
+pub enum Plain {
+    Add,
+    Sub,
+    Mul,
+    And,
+    Or,
+    Xor,
+    Shl,
+    Shr,
+    Min,
+    Max,
+}
+
+/// An operator on two values that has no result for the divisor 0.
+#[derive(Clone, Copy)]
+pub enum Division {
+    Div,
+    Rem,
+}
+
+/// An operator on two sets of lanes.
+#[derive(Clone, Copy)]
+pub enum MaskOp {
+    And,
+    Or,
+    AndNot,
+}
+
+/// When control jumps: where a scalar is false or true, where a set of lanes has none or some.
+#[derive(Clone, Copy)]
+pub enum JumpTest {
+    False,
+    True,
+    Off,
+    On,
+}
+
+/// What a scalar register is set to.
+#[derive(Clone, Copy)]
+pub enum ScalarInstr {
+    /// This number.
+    Constant(i128),
+    /// What another register has.
+    Copy(Register),
+    /// What another register has, as a value of the type of the register that is written.
+    Convert(Register),
+    /// The result of an operator on one value.
+    Unary(UnaryOp, Register),
+    /// The result of an operator on two values.
+    Binary(Plain, Register, Register),
+    /// Whether two values compare so.
+    Compare(Compare, Register, Register),
+    /// The second register where the first is true, else the third.
+    Select(Register, Register, Register),
+    /// The number of the lowest lane of a mask.
+    First(Register),
+    /// An element: the array, the index, the mask and the place of a trap.
+    Load(Register, Register, Register, u32),
+}
+
+/// What the lanes of a vector register are set to under a mask, which comes last, but for the place of a trap.
+#[derive(Clone, Copy)]
+pub enum VectorInstr {
+    /// What the lanes of another register have.
+    Copy(Register, Register),
+    /// The same as values of the type of the register that is written.
+    Convert(Register, Register),
+    /// The result of an operator on one value.
+    Unary(UnaryOp, Register, Register),
+    /// The result of an operator on two values.
+    Binary(Plain, Register, Register, Register),
+    /// Whether two values compare so.
+    Compare(Compare, Register, Register, Register),
+    /// The second register where the first is true, else the third.
+    Select(Register, Register, Register, Register),
+    /// The value of a scalar register in each lane.
+    Splat(Register, Register),
+    /// The number of each lane.
+    Index(Register),
+    /// The element at each lane's index: the array, the indices, the mask and the place of a trap.
+    Gather(Register, Register, Register, u32),
+}
+
+/// What a mask register is set to.
+#[derive(Clone, Copy)]
+pub enum MaskInstr {
+    /// What another mask has.
+    Copy(Register),
+    /// What an operator gives.
+    Binary(MaskOp, Register, Register),
+    /// All lanes.
+    Full,
+    /// No lane.
+    Off,
+    /// The lanes of the mask, the second, where the vector is true.
+    Test(Register, Register),
+    /// The lowest lane of another mask, alone.
+    Lowest(Register),
+    /// The lanes whose number, added to the first, is below the second.
+    Range(Register, Register),
+}
+
+/// A call: the function's number, where the result goes, the mask, the place of a trap, and what is passed.
+#[derive(Drop)]
+pub struct Call {
+    pub function: u32,
+    pub result: Option<Register>,
+    pub mask: Register,
+    pub place: u32,
+    pub arguments: Arguments,
+}
+
+/// A call in a place of its own, which keeps an instruction small. Contracts see the call.
+#[derive(Drop)]
+pub struct CallBox {
+    call: Box<Call>,
+}
+
+impl Model for CallBox {
+    ghost use Rattle.isp_code.specs.declared.instr.Call.{Call};
+
+    ghost Value = { Call };
+
+    ghost view = { λ b. b.call.value };
+}
+
+impl CallBox {
+    /// The call, moved to a place of its own.
+    pub fn new(alloc: Global, call: Call) -> Result<CallBox, AllocFailed<Call>>
+        ensures ok { IfOk result (λ b. b ≡ call) }
+        ensures err { IfErr result (λ e. e.value ≡ call) }
+    {
+        Ok(CallBox {
+            call: Box::new(alloc, call)?,
+        })
+    }
+
+    /// The call.
+    pub fn get(&self) -> &Call
+        ensures { result.now ≡ self.now }
+    {
+        &self.call
+    }
+}
+
+/// One instruction. A number without a class names a place, a text, or the instruction to jump to.
+#[derive(Drop)]
+pub enum Instr {
+    /// Writes a scalar register.
+    Scalar(Register, ScalarInstr),
+    /// Writes lanes of a vector register.
+    Vector(Register, VectorInstr),
+    /// Writes a mask register.
+    Mask(Register, MaskInstr),
+    /// Divides scalars or lanes, as the class of the first register says: what is written, the dividend, the
+    /// divisor, the mask and the place of a trap.
+    Divide(Division, Register, Register, Register, Register, u32),
+    /// Stores a scalar: the array, the index, what is stored, the mask and the place of a trap.
+    Store(Register, Register, Register, Register, u32),
+    /// Stores lanes at each lane's index, the highest last.
+    Scatter(Register, Register, Register, Register, u32),
+    /// Zeroes a local array.
+    Clear(Register, Register),
+    /// Jumps.
+    Jump(u32),
+    /// Jumps where the register passes the test.
+    JumpIf(JumpTest, Register, u32),
+    /// Writes a text.
+    Say(u32),
+    /// Writes a value.
+    PrintScalar(Register),
+    /// Writes the lanes of a mask.
+    PrintVector(Register, Register),
+    /// Traps where a mask has a lane: the mask and the place.
+    Fail(Register, u32),
+    /// Calls a function.
+    Call(CallBox),
+    /// Goes back to the caller, or ends the run.
+    Return(Option<Register>),
+}

@@ -1,0 +1,143 @@
+//! Whether the operands of an instruction are what the table of instructions asks.
+ghost use Rattle.std.specs.Prelude.{◌≡◌, length};
+ghost use Rattle.isp_code.specs.Fine.{has_value};
+ghost use Rattle.isp_code.specs.Listing.{routine_of};
+ghost use Rattle.isp_code.specs.Registers.{table_of, is_per_lane};
+ghost use Rattle.isp_verify.specs.Faults.{there, register_fault, is_wanted, is_a, is_wanted_array, back_fault, operand_fault, operands_fault};
+
+use crate::fault::Rule;
+use crate::registers::{Registers, same_class};
+use isp_base::{Elem, greatest_of, low_mask};
+use isp_code::{ArrayWant, Class, Code, Function, Operand, Register, Returns, Sharing, Want};
+
+// What is named is to be there, and then to be of its kind.
+fn found(number: u32, count: usize, fits: bool) -> Option<Rule>
+    ensures { result ≡ there number count fits }
+{
+    if number as usize >= count {
+        Some(Rule::BadRegister)
+    } else if fits {
+        None
+    } else {
+        Some(Rule::BadKind)
+    }
+}
+
+fn check_register(registers: &Registers, register: Register, fits: bool) -> Option<Rule>
+    ensures { result ≡ register_fault registers.now register fits }
+{
+    found(register.number, registers.count(register.class), fits)
+}
+
+fn is_wanted(registers: &Registers, want: Want, elem: Elem) -> bool
+    ensures { result ≡ is_wanted registers.now want elem }
+{
+    match want {
+        Want::Any => true,
+        Want::Is(other) => elem == other,
+        Want::Integer => elem != Elem::Bool,
+        Want::Like(register) => elem == registers.elem(register),
+    }
+}
+
+/// Whether a register has this class, and a type that is wanted.
+pub(crate) fn is_a(registers: &Registers, class: Class, want: Want, register: Register) -> bool
+    ensures { result ≡ is_a registers.now class want register }
+{
+    same_class(register.class, class) && is_wanted(registers, want, registers.elem(register))
+}
+
+/// Whether each lane has its own copy of an array.
+pub(crate) fn is_per_lane(function: &Function, registers: &Registers, array: Register) -> bool
+    requires { registers.now ≡ table_of (routine_of function.now) }
+    ensures { result ≡ is_per_lane (routine_of function.now) array }
+{
+    let place = array.number as usize;
+    if place < registers.passed() {
+        return false;
+    }
+    match function.locals.get(place - registers.passed()) {
+        Some(local) => matches!(local.sharing, Sharing::PerInstance),
+        None => false,
+    }
+}
+
+fn is_wanted_array(function: &Function, registers: &Registers, want: ArrayWant, array: Register) -> bool
+    requires { registers.now ≡ table_of (routine_of function.now) }
+    ensures { result ≡ is_wanted_array (routine_of function.now) want array }
+{
+    match want {
+        ArrayWant::Any => true,
+        ArrayWant::Shared => !is_per_lane(function, registers, array),
+        ArrayWant::Local => registers.passed() <= array.number as usize,
+    }
+}
+
+fn has_value(elem: Elem, number: i128) -> bool
+    ensures { result ≡ has_value elem number }
+{
+    let greatest = greatest_of(elem) as i128;
+    number <= greatest && greatest - low_mask(elem) as i128 <= number
+}
+
+fn check_back(registers: &Registers, returns: Returns, back: Option<Register>) -> Option<Rule>
+    ensures { result ≡ back_fault registers.now returns back }
+{
+    match (returns, back) {
+        (Returns::Nothing, None) => None,
+        (_, None) => Some(Rule::BadKind),
+        (Returns::Nothing, Some(x)) => check_register(registers, x, false),
+        (Returns::Scalar(elem), Some(x)) => {
+            check_register(registers, x, is_a(registers, Class::Scalar, Want::Is(elem), x))
+        }
+        (Returns::Vector(elem), Some(x)) => {
+            check_register(registers, x, is_a(registers, Class::Vector, Want::Is(elem), x))
+        }
+    }
+}
+
+fn check_operand(code: &Code, function: &Function, registers: &Registers, operand: Operand) -> Option<Rule>
+    requires { registers.now ≡ table_of (routine_of function.now) }
+    ensures { result ≡ operand_fault code.now (routine_of function.now) operand }
+{
+    match operand {
+        Operand::Any(r) => check_register(registers, r, true),
+        Operand::Scalar(r, want) => check_register(registers, r, is_a(registers, Class::Scalar, want, r)),
+        Operand::Vector(r, want) => check_register(registers, r, is_a(registers, Class::Vector, want, r)),
+        Operand::Mask(r) => check_register(registers, r, same_class(r.class, Class::Mask)),
+        Operand::Array(r, array, want) => {
+            let fits = is_a(registers, Class::Array, want, r) && is_wanted_array(function, registers, array, r);
+            check_register(registers, r, fits)
+        }
+        Operand::Number(number, r) => {
+            if has_value(registers.elem(r), number) {
+                None
+            } else {
+                Some(Rule::BadKind)
+            }
+        }
+        Operand::Place(place) => found(place, code.places().len(), true),
+        Operand::Text(text) => found(text, code.text_count(), true),
+        Operand::Target(to) => {
+            if (to as usize) < function.code.len() {
+                None
+            } else {
+                Some(Rule::BadJump)
+            }
+        }
+        Operand::Back(back) => check_back(registers, function.returns, back),
+    }
+}
+
+/// The first fault of some operands, from left to right.
+pub(crate) fn check_all(code: &Code, function: &Function, registers: &Registers, operands: &[Operand]) -> Option<Rule>
+    requires { registers.now ≡ table_of (routine_of function.now) }
+    ensures { result ≡ operands_fault code.now (routine_of function.now) operands.now }
+{
+    for operand in operands {
+        if let Some(rule) = check_operand(code, function, registers, *operand) {
+            return Some(rule);
+        }
+    }
+    None
+}
