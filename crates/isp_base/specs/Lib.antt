@@ -15,3 +15,4 @@ pub mod Arguments
 pub mod Prefixes
 pub mod Words
 pub mod Prints
+pub mod Cross

@@ -1,0 +1,2 @@
+//! What programs mean: the run of a function over a gang, as definitions.
+#![tactic(auto)]
