@@ -4,3 +4,10 @@ pub mod Outcomes
 pub mod Library
 pub mod Places
 pub mod Expressions
+pub mod Simple
+pub mod Loops
+pub mod Rounds
+pub mod Printing
+pub mod Statements
+pub mod Calls
+pub mod Runs
