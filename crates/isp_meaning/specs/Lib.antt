@@ -11,3 +11,4 @@ pub mod Printing
 pub mod Statements
 pub mod Calls
 pub mod Runs
+pub mod Laws
