@@ -63,7 +63,7 @@ went_grown s g b c r = record { from = prefix_self s.out; later = refl }
 
 -- ---- one after the other
 
-bind_from : {A B : Type 0} (o : List ℕ) (v : Val A) (go : A → State → Val B) → IsPrefix o (out_val v) → ((x : A) (s : State) → IsPrefix s.out (out_val (go x s))) → IsPrefix o (out_val (bind v go))
+pub bind_from : {A B : Type 0} (o : List ℕ) (v : Val A) (go : A → State → Val B) → IsPrefix o (out_val v) → ((x : A) (s : State) → IsPrefix s.out (out_val (go x s))) → IsPrefix o (out_val (bind v go))
 bind_from o (Gives x s) go p f = prefix_on o s.out _ p (f x s)
 bind_from o (Fails t s) go p f = p
 bind_from o (Stops s) go p f = p
@@ -76,7 +76,7 @@ bind_later (Stops s) v' go go' l f = bind_from s.out v' go' l (λ x s1. (f x s1)
 pub bind_grown : {A B : Type 0} (o : List ℕ) (v v' : Val A) (go go' : A → State → Val B) → Grown o v v' → ((x : A) (s : State) → Grown s.out (go x s) (go' x s)) → Grown o (bind v go) (bind v' go')
 bind_grown o v v' go go' l f = record { from = bind_from o v' go' l.from (λ x s. (f x s).from); later = bind_later v v' go go' l.later f }
 
-with_from : {A : Type 0} (o : List ℕ) (v : Val A) (go : A → State → Res) → IsPrefix o (out_val v) → ((x : A) (s : State) → IsPrefix s.out (out_res (go x s))) → IsPrefix o (out_res (with_value v go))
+pub with_from : {A : Type 0} (o : List ℕ) (v : Val A) (go : A → State → Res) → IsPrefix o (out_val v) → ((x : A) (s : State) → IsPrefix s.out (out_res (go x s))) → IsPrefix o (out_res (with_value v go))
 with_from o (Gives x s) go p f = prefix_on o s.out _ p (f x s)
 with_from o (Fails t s) go p f = p
 with_from o (Stops s) go p f = p
@@ -89,7 +89,7 @@ with_later (Stops s) v' go go' l f = with_from s.out v' go' l (λ x s1. (f x s1)
 pub with_grown : {A : Type 0} (o : List ℕ) (v v' : Val A) (go go' : A → State → Res) → Grown o v v' → ((x : A) (s : State) → GrownRes s.out (go x s) (go' x s)) → GrownRes o (with_value v go) (with_value v' go')
 with_grown o v v' go go' l f = record { from = with_from o v' go' l.from (λ x s. (f x s).from); later = with_later v v' go go' l.later f }
 
-go_from : (o : List ℕ) (v : Res) (go : State → Mask → Mask → Mask → Mask → Res) → IsPrefix o (out_res v) → ((s : State) (g b c r : Mask) → IsPrefix s.out (out_res (go s g b c r))) → IsPrefix o (out_res (go_on v go))
+pub go_from : (o : List ℕ) (v : Res) (go : State → Mask → Mask → Mask → Mask → Res) → IsPrefix o (out_res v) → ((s : State) (g b c r : Mask) → IsPrefix s.out (out_res (go s g b c r))) → IsPrefix o (out_res (go_on v go))
 go_from o (Went s g b c r) go p f = prefix_on o s.out _ p (f s g b c r)
 go_from o (Trapped t s) go p f = p
 go_from o (Cut s) go p f = p
@@ -112,8 +112,8 @@ pub if_res_grown : (o : List ℕ) (t : Bool) (m m' n n' : State → Res) (s : St
 if_res_grown o true m m' n n' s p q = p
 if_res_grown o false m m' n n' s p q = q
 
-pub unless_grown : (gang : ℕ) (a : Mask) (s : State) (f f' : Mask → State → Res) → GrownRes s.out (f a s) (f' a s) → GrownRes s.out (unless_empty gang a s f) (unless_empty gang a s f')
-unless_grown gang a s f f' p = if_res_grown s.out (any gang a) (f a) (f' a) (went_all a) (went_all a) s p (went_grown s a _ _ _)
+pub unless_grown : (gang : ℕ) (a : Mask) (s : State) (f f' : Mask → State → Res) → ((b : Mask) (t : State) → GrownRes t.out (f b t) (f' b t)) → GrownRes s.out (unless_empty gang a s f) (unless_empty gang a s f')
+unless_grown gang a s f f' p = if_res_grown s.out (any gang a) (f a) (f' a) (went_all a) (went_all a) s (p a s) (went_grown s a _ _ _)
 
-pub value_unless_grown : (gang : ℕ) (a : Mask) (s : State) (f f' : Mask → State → Val Payload) → Grown s.out (f a s) (f' a s) → Grown s.out (value_unless_empty gang a s f) (value_unless_empty gang a s f')
-value_unless_grown gang a s f f' p = if_grown s.out (any gang a) (f a) (f' a) (Gives nothing) (Gives nothing) s p (gives_grown nothing s)
+pub value_unless_grown : (gang : ℕ) (a : Mask) (s : State) (f f' : Mask → State → Val Payload) → ((b : Mask) (t : State) → Grown t.out (f b t) (f' b t)) → Grown s.out (value_unless_empty gang a s f) (value_unless_empty gang a s f')
+value_unless_grown gang a s f f' p = if_grown s.out (any gang a) (f a) (f' a) (Gives nothing) (Gives nothing) s (p a s) (gives_grown nothing s)

@@ -1,3 +1,5 @@
 pub mod Programs
 pub mod Examples
 pub mod Grown
+pub mod Later
+pub mod Small

@@ -11,4 +11,5 @@ pub mod Printing
 pub mod Statements
 pub mod Calls
 pub mod Runs
+pub mod Samples
 pub mod Laws

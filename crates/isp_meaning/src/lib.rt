@@ -1,2 +1,6 @@
-//! What programs mean: the run of a function over a gang, as definitions.
+//! What programs mean: the run of a function over a gang, as definitions, and what holds of every run.
 #![tactic(auto)]
+
+mod laws;
+
+pub use laws::{counts_work, more_turns, nobody_acts};

@@ -1,0 +1,19 @@
+//! What holds of every program. No code is run here: each function carries a law in its contract.
+ghost use Rattle.isp_meaning.specs.Laws.{CountsWork, MoreTurns, NobodyActs};
+
+/// A run that has ended or trapped stays so for every greater number of turns, and the output of a
+/// run that is cut is the beginning of its output for every greater number.
+pub fn more_turns()
+    ensures { MoreTurns }
+{}
+
+/// A statement over a set of instances without members does nothing: the state stays as it is.
+pub fn nobody_acts()
+    ensures { NobodyActs }
+{}
+
+/// What the work counts, on two programs: `a[programIndex] = a[programIndex] * 2 + 1;` has work 10
+/// in a body, and an empty body 1.
+pub fn counts_work()
+    ensures { CountsWork }
+{}
