@@ -3,3 +3,4 @@ pub mod Examples
 pub mod Grown
 pub mod Later
 pub mod Small
+pub mod Outside

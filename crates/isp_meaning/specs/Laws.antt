@@ -31,6 +31,10 @@ abbrev pub NobodyActs : Type 0
 NobodyActs =
     (gang : ℕ) (frame : Frame) (calls : Calls) (most : ℕ) (x : TStmt) (a : Mask) (s : State) → any gang a ≡ false → unless_empty gang a s (run gang frame calls most x) ≡ went_all a s
 
+-- nothing of an instance changes: its variables, its part of the arrays of which each has its own, what it returned
+abbrev pub Untouched : ℕ → State → State → Type 0
+Untouched p s s1 = ((v : ℕ) → s1.varying v p ≡ s.varying v p) × ((v e : ℕ) → s1.own v e p ≡ s.own v e p) × (s1.results p ≡ s.results p)
+
 -- `a[programIndex] = a[programIndex] * 2 + 1;` has work 10 in a body, an empty body 1
 pub record CountsWork : Type 0 where
   pub doubling : (most w x y z : ℕ) → work_of (doubles W4) 0 most (row (w ∷ x ∷ y ∷ z ∷ []) ∷ []) ≡ 10
