@@ -4,3 +4,4 @@ pub mod Grown
 pub mod Later
 pub mod Small
 pub mod Outside
+pub mod Parts

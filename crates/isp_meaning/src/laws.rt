@@ -1,5 +1,5 @@
 //! What holds of every program. No code is run here: each function carries a law in its contract.
-ghost use Rattle.isp_meaning.specs.Laws.{CountsWork, MoreTurns, NobodyActs};
+ghost use Rattle.isp_meaning.specs.Laws.{CountsWork, FourSets, MoreTurns, NobodyActs};
 
 /// A run that has ended or trapped stays so for every greater number of turns, and the output of a
 /// run that is cut is the beginning of its output for every greater number.
@@ -16,4 +16,10 @@ pub fn nobody_acts()
 /// in a body, and an empty body 1.
 pub fn counts_work()
     ensures { CountsWork }
+{}
+
+/// Of the instances over which a statement runs each goes on, breaks, continues or returns, and does
+/// one of these alone; no other instance does any.
+pub fn four_sets()
+    ensures { FourSets }
 {}
