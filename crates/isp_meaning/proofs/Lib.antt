@@ -5,3 +5,4 @@ pub mod Later
 pub mod Small
 pub mod Outside
 pub mod Parts
+pub mod Others

@@ -68,11 +68,11 @@ module _ (p : ℕ) where
   spread_none a (One x) h k = on_none a x h
   spread_none a (Each x) h k = k
 
-  mapped_absent : (f : ℕ → ℕ) (m : Payload) → Absent m → Absent (mapped f m)
+  pub mapped_absent : (f : ℕ → ℕ) (m : Payload) → Absent m → Absent (mapped f m)
   mapped_absent f (One x) k = tt
   mapped_absent f (Each x) k = ap (each1 f) k
 
-  joined_absent : (f : ℕ → ℕ → ℕ) (a : Mask) (m n : Payload) → a p ≡ false → Absent m → Absent (joined f a m n)
+  pub joined_absent : (f : ℕ → ℕ → ℕ) (a : Mask) (m n : Payload) → a p ≡ false → Absent m → Absent (joined f a m n)
   joined_absent f a (One x) (One y) h k = tt
   joined_absent f a (One x) (Each y) h k = ap (λ z. each2 f z (y p)) (on_none a x h)
   joined_absent f a (Each x) n h k = ap (λ z. each2 f z (spread a n p)) k
@@ -155,7 +155,7 @@ module _ (p : ℕ) where
   written_off Varying v a m s h k =
       (λ w. put_lane s.varying v (over (spread a m) (s.varying v)) p w (ap (λ z. or_old z (s.varying v p)) (spread_none a m h k)), λ w e. refl, refl)
 
-  kept_off_at : (gang : ℕ) (frame : Frame) (q : Place) (a : Mask) (m : Payload) (s : State) → a p ≡ false → AbsentPlace q → Absent m → Untouched p s (kept gang frame q a m s)
+  pub kept_off_at : (gang : ℕ) (frame : Frame) (q : Place) (a : Mask) (m : Payload) (s : State) → a p ≡ false → AbsentPlace q → Absent m → Untouched p s (kept gang frame q a m s)
   kept_off_at gang frame (Variable v t) a m s h i k = written_off t.rate v a m s h k
   kept_off_at gang frame (Element b t i) a m s h j k = by b.ty.rate
     where
@@ -164,7 +164,7 @@ module _ (p : ℕ) where
     by Varying =
         (λ w. refl, λ w e. put_own s.own b.number (own_stored (spread a (mapped (element t) i)) (spread a m) (s.own b.number)) p w e (ap (λ z. if holds (λ x. nat_eq x e) z then or_old (spread a m p) (s.own b.number e p) else s.own b.number e p) (spread_none a (mapped (element t) i) h (mapped_absent (element t) i j))), refl)
 
-  held_absent : (gang : ℕ) (frame : Frame) (q : Place) (a : Mask) (s : State) → a p ≡ false → AbsentPlace q → Absent (held gang frame q a s)
+  pub held_absent : (gang : ℕ) (frame : Frame) (q : Place) (a : Mask) (s : State) → a p ≡ false → AbsentPlace q → Absent (held gang frame q a s)
   held_absent gang frame (Variable v t) a s h k = by t.rate
     where
     by : (r : Rate) → Absent (variable r v a s)
@@ -176,7 +176,7 @@ module _ (p : ℕ) where
     by Uniform = mapped_absent _ i k
     by Varying = ap (each1 (λ x. s.own b.number (element t x) p)) (spread_none a i h k)
 
-  cleared_off : (frame : Frame) (r : Rate) (v : ℕ) (a : Mask) (s : State) → a p ≡ false → Untouched p s (cleared frame r v a s)
+  pub cleared_off : (frame : Frame) (r : Rate) (v : ℕ) (a : Mask) (s : State) → a p ≡ false → Untouched p s (cleared frame r v a s)
   cleared_off frame Uniform v a s h = same s
   cleared_off frame Varying v a s h =
       (λ w. refl, λ w e. put_own s.own v (λ d q. if a q then 0 else s.own v d q) p w e (ap (λ t. if t then 0 else s.own v e p) h), refl)
@@ -201,7 +201,7 @@ module _ (p : ℕ) where
   bind_off Q R s (Fails t s1) go h f = tt
   bind_off Q R s (Stops s1) go h f = tt
 
-  checked_off : {A : Type 0} (Q : A → Type 0) (o : Option ℕ) (k : TrapKind) (pl : Span) (s : State) (x : A) → Q x → Off Q s (checked o k pl s x)
+  pub checked_off : {A : Type 0} (Q : A → Type 0) (o : Option ℕ) (k : TrapKind) (pl : Span) (s : State) (x : A) → Q x → Off Q s (checked o k pl s x)
   checked_off Q None k pl s x h = (h, same s)
   checked_off Q (Some i) k pl s x h = tt
 
