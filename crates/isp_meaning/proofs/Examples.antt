@@ -1,12 +1,12 @@
 -- What small programs do, worked by hand from the rules of the language and computed from the definitions. The gang
 -- has four instances; `a` is the entry's array, x its varying variable, u its uniform one.
-use Rattle.std.specs.Prelude.{◌≡◌, ℕ, ◌+◌, ◌++◌, List, [], ◌∷◌, Option, Some, None, codes}
+use Rattle.std.specs.Prelude.{◌≡◌, ℕ, zero, suc, ◌+◌, List, [], ◌∷◌, Some, None, codes}
 use Rattle.std.proofs.Common.{refl}
 use Rattle.std.specs.Fmt.{digits}
 use Rattle.isp_base.specs.Values.{number_to, wrap_to}
 use Rattle.isp_base.specs.Outcomes.{Outcome, Ends, Traps, GoesOn}
 use Rattle.isp_base.specs.Traps.{trap}
-use Rattle.isp_base.specs.declared.types.Elem.TheVariants.{Bool as Truth, I32}
+use Rattle.isp_base.specs.declared.types.Elem.TheVariants.{I32}
 use Rattle.isp_base.specs.declared.types.Rate.TheVariants.{Uniform, Varying}
 use Rattle.isp_base.specs.declared.types.Span.{Span}
 use Rattle.isp_base.specs.declared.trap.TrapKind.TheVariants as kind
@@ -16,9 +16,9 @@ use Rattle.isp_tree.specs.declared.stmt.Form.TheVariants.{Plain}
 use Rattle.isp_typed.specs.declared.library.Library.TheVariants as library
 use Rattle.isp_typed.specs.declared.variable.Holds.TheVariants.{Local}
 use Rattle.isp_typed.specs.declared.variable.Logic.TheVariants.{And}
-use Rattle.isp_typed.specs.Typed.{TExpr, t_binary, t_logic, t_choose, t_library, t_exprs, t_packed_store, t_packed_load, t_whole, t_call, t_called, t_arguments, TStmt, t_declare, t_with_size, t_plain, t_simple, t_run, t_value, t_step, t_update, t_variable, t_element, t_do, t_unmasked, t_foreach_active, t_assert, TFunction, t_by_value, t_by_name, ty_of}
+use Rattle.isp_typed.specs.Typed.{t_binary, t_logic, t_choose, t_library, t_exprs, t_packed_store, t_packed_load, t_whole, t_called, t_arguments, TStmt, t_declare, t_with_size, t_simple, t_run, t_value, t_step, t_update, t_variable, t_element, t_do, t_unmasked, t_foreach_active, t_assert, TFunction, t_by_value, t_by_name, ty_of}
 use Rattle.isp_meaning.specs.Runs.{run_of, work_of}
-use Rattle.isp_meaning.proofs.Programs.{at, number, truth, index, varying, uniform, array, item, own_item, join, plus, test, uniform_test, call, set, set_item, set_own, body, block, if_then, if_else, while, count, range, foreach, break, continue, return, print, holding, each, one, given, function, program, row, with_row}
+use Rattle.isp_meaning.proofs.Programs.{at, number, truth, index, varying, uniform, array, item, own_item, join, plus, test, call, set, set_item, set_own, body, block, if_then, if_else, while, count, range, foreach, break, continue, return, print, holding, each, one, given, function, program, row, with_row}
 
 -- a[programIndex] = x
 abbrev give : TStmt
@@ -43,6 +43,11 @@ gives p q r s = Ends (row (p ∷ q ∷ r ∷ s ∷ []) ∷ []) None []
 
 abbrev prints : List ℕ → Outcome
 prints text = Ends (row (0 ∷ 0 ∷ 0 ∷ 0 ∷ []) ∷ []) None text
+
+-- so many times the letter y
+abbrev ys : ℕ → List ℕ
+ys zero = []
+ys (suc n) = 121 ∷ ys n
 
 abbrev place : ℕ → Span
 place n = record { start = n; end = n + 1 }
@@ -151,6 +156,16 @@ assert_traps = refl
 depth : with_calls (function None [] (t_simple (t_run (t_called 1 (t_arguments []) (place 3))) at ∷ [])) (if_then (test Greater index (number 1)) (t_simple (t_run (t_called 1 (t_arguments []) at)) at ∷ []) ∷ []) 9 ≡ Traps (trap kind.Depth (place 3) 2) (row (0 ∷ 0 ∷ 0 ∷ 0 ∷ []) ∷ []) []
 unfolding digits number_to wrap_to
 depth = refl
+
+-- void f() { print("y"); f(); }: it runs 255 times below the entry
+depth_counted : with_calls (function None [] (print (codes "y") [] ∷ t_simple (t_run (t_called 1 (t_arguments []) (place 3))) at ∷ [])) (t_simple (t_run (t_called 1 (t_arguments []) at)) at ∷ []) 9 ≡ Traps (trap kind.Depth (place 3) 0) (row (0 ∷ 0 ∷ 0 ∷ 0 ∷ []) ∷ []) (ys 255)
+unfolding digits number_to wrap_to
+depth_counted = refl
+
+-- if (programIndex > 1) foreach_active (v) print("% ", v);: from the lowest
+active_in_order : answers (if_then (test Greater index (number 1)) (t_foreach_active at 0 3 (print (codes "% ") (uniform 3 ∷ [])) at ∷ []) ∷ []) 9 ≡ prints (codes "2 3 ")
+unfolding digits number_to wrap_to
+active_in_order = refl
 
 -- while (true) print("y"); with two turns
 cut : answers (while (truth) (print (codes "y") [] ∷ []) ∷ []) 2 ≡ GoesOn (codes "yy")

@@ -1,5 +1,5 @@
 -- More turns change nothing of a run that is over, and go on with what a cut run printed.
-use Rattle.std.specs.Prelude.{◌≡◌, ℕ, zero, suc, ◌+◌, ◌≤◌, List, [], ◌∷◌, ◌++◌, map, Option, Some, None, Bool, true, false, ℤ, slice_get}
+use Rattle.std.specs.Prelude.{ℕ, zero, suc, ◌+◌, ◌≤◌, List, [], ◌∷◌, map, Option, Some, None, ℤ, slice_get}
 use Rattle.std.proofs.Common.{refl, ap, arith}
 use Rattle.isp_base.specs.Access.{is_zero}
 use Rattle.isp_base.specs.Prefixes.{IsPrefix}
@@ -16,22 +16,22 @@ use Rattle.isp_base.specs.declared.types.Ty.{Ty}
 use Rattle.isp_base.specs.declared.trap.TrapKind.TheVariants.{Divide, Index, Assert}
 use Rattle.isp_tree.specs.declared.stmt.Jump.{Jump}
 use Rattle.isp_tree.specs.declared.stmt.Jump.TheVariants.{Break, Continue}
-use Rattle.isp_typed.specs.Typed.{TExpr, t_constant, t_program_index, t_place, t_convert, t_cast, t_unary, t_binary, t_compare, t_logic, t_choose, t_call, t_library, t_packed_store, t_packed_load, TPlace, t_variable, t_element, TBase, t_whole, t_from, TArgument, t_by_value, t_by_name, TCall, t_called, TArguments, t_no_arguments, t_argument_then, TExprs, t_exprs, t_no_exprs, t_expr_then, type_of, place_type, place_span}
+use Rattle.isp_typed.specs.Typed.{TExpr, t_constant, t_program_index, t_place, t_convert, t_cast, t_unary, t_binary, t_compare, t_logic, t_choose, t_call, t_library, t_packed_store, t_packed_load, TPlace, t_variable, t_element, TBase, t_whole, t_from, TArgument, t_by_value, t_by_name, TCall, t_called, TArguments, t_no_arguments, t_argument_then, TExprs, t_exprs, t_no_exprs, t_expr_then, place_span}
 use Rattle.isp_typed.specs.Typed.{TItem, t_plain, t_with_value, t_with_size, TSimple, t_value, t_run, t_assign, t_update, t_step, TFirst, t_first_declare, t_first_simple, TRange, TStmt, t_block, t_declare, t_simple, t_if, t_if_else, t_while, t_do, t_for, t_foreach, t_foreach_active, t_unmasked, t_jump, t_return, t_print, t_assert, TBlock, t_braces, TStmts, t_no_stmts, t_stmt_then, TFunction, Program}
 use Rattle.isp_meaning.specs.State.{State, Frame, tick, extent}
-use Rattle.isp_meaning.specs.Payloads.{Payload, One, Each, is_true, is_false, kept_by, mapped, joined, converted, offender}
-use Rattle.isp_meaning.specs.Outcomes.{Val, Gives, Fails, Stops, Res, Went, Trapped, Cut, Done, bind, with_value, checked, go_on, went_all, then_run, both_sides, if_so, unless_empty, value_unless_empty}
-use Rattle.isp_meaning.specs.Places.{Place, Variable, Element, written, with_elements, outside, held, kept}
-use Rattle.isp_meaning.specs.Expressions.{Passed, Calls, needs, base_array, packed_outside, packed_held, value, place, first_element, values, call, arguments, passed}
+use Rattle.isp_meaning.specs.Payloads.{Payload, One, Each, is_true, is_false, kept_by, offender}
+use Rattle.isp_meaning.specs.Outcomes.{Val, Gives, Fails, Stops, Res, Went, Trapped, Cut, Done, go_on, if_so}
+use Rattle.isp_meaning.specs.Places.{Place, Variable, Element, written, with_elements, outside, kept}
+use Rattle.isp_meaning.specs.Expressions.{Passed, Calls, needs, base_array, packed_outside, value, place, first_element, values, call, arguments, passed}
 use Rattle.isp_meaning.specs.Simple.{cleared, update, simple, item, items, first_part, step_part}
 use Rattle.isp_meaning.specs.Loops.{loop_end, tested, stepped, turns}
-use Rattle.isp_meaning.specs.Rounds.{Range, Round, rounds, round_of_one, active_rounds, members, Run, round_of_run, runs_of, foreach_rounds, set_indices, counted}
+use Rattle.isp_meaning.specs.Rounds.{Round, rounds, round_of_one, active_rounds, members, Run, round_of_run, runs_of, foreach_rounds, set_indices, counted}
 use Rattle.isp_meaning.specs.Printing.{print_text, shown_all}
 use Rattle.isp_meaning.specs.Statements.{all_go, branches, answered, answered_at, jumped, ranges, test_part, run, block, run_all}
 use Rattle.isp_meaning.specs.Calls.{frame_of, begun, ended, called, calls_at, most_calls}
 use Rattle.isp_meaning.specs.Runs.{handed, first_frame, first_state, no_place, outcome_of}
 use Rattle.isp_meaning.specs.Laws.{Later, MoreTurns}
-use Rattle.isp_meaning.proofs.Grown.{prefix_self, prefix_on, out_val, out_res, LaterVal, LaterRes, Grown, GrownRes, gives_grown, checked_grown, went_grown, bind_grown, with_grown, go_grown, if_grown, if_res_grown, unless_grown, value_unless_grown}
+use Rattle.isp_meaning.proofs.Grown.{prefix_self, prefix_on, out_val, out_res, LaterVal, LaterRes, Grown, GrownRes, gives_grown, checked_grown, went_grown, bind_grown, with_grown, go_grown, if_res_grown, unless_grown, value_unless_grown}
 
 -- ---- what changes no output
 
@@ -43,9 +43,9 @@ elements_out : (gang : ℕ) (frame : Frame) (q : Place) (a : Mask) (x : Payload)
 elements_out gang frame (Variable v t) a x s = written_out t.rate v a x s
 elements_out gang frame (Element b t i) a x s = by_rate b.ty.rate
   where
-  by_rate : (r : Rate) → IsPrefix s.out (with_elements frame b t i a gang r x s).out
-  by_rate Uniform = prefix_self s.out
-  by_rate Varying = prefix_self s.out
+    by_rate : (r : Rate) → IsPrefix s.out (with_elements frame b t i a gang r x s).out
+    by_rate Uniform = prefix_self s.out
+    by_rate Varying = prefix_self s.out
 
 cleared_out : (frame : Frame) (r : Rate) (v : ℕ) (a : Mask) (s : State) → IsPrefix s.out (cleared frame r v a s).out
 cleared_out frame Uniform v a s = prefix_self s.out
@@ -59,9 +59,9 @@ answered_out : (t : Option Ty) (a : Mask) (x : Payload) (s : State) → IsPrefix
 answered_out None a x s = prefix_self s.out
 answered_out (Some t) a x s = by_rate t.rate
   where
-  by_rate : (r : Rate) → IsPrefix s.out (answered_at r a x s).out
-  by_rate Uniform = prefix_self s.out
-  by_rate Varying = prefix_self s.out
+    by_rate : (r : Rate) → IsPrefix s.out (answered_at r a x s).out
+    by_rate Uniform = prefix_self s.out
+    by_rate Varying = prefix_self s.out
 
 gives_on : {A : Type 0} (o : List ℕ) (x : A) (s : State) → IsPrefix o s.out → Grown o (Gives x s) (Gives x s)
 gives_on o x s p = record { from = p; later = refl }

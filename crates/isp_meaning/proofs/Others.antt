@@ -1,10 +1,10 @@
 -- Nothing of an instance outside the set changes by a statement, unless a `foreach` or an `unmasked` stands in it.
-use Rattle.std.specs.Prelude.{◌≡◌, ℕ, zero, suc, ◌+◌, List, [], ◌∷◌, ◌++◌, map, Option, Some, None, Bool, true, false, not, ◌&&◌, ◌||◌, nat_eq}
+use Rattle.std.specs.Prelude.{◌≡◌, ℕ, zero, suc, List, [], ◌∷◌, ◌++◌, map, Option, Some, None, Bool, true, false, not, ◌&&◌, ◌||◌, nat_eq}
 use Rattle.std.proofs.Common.{refl, sym, ap, ◌∙◌, arith}
 use Rattle.std.proofs.lemmas.Bool.{ne_eqb}
 use Rattle.isp_base.specs.Access.{is_zero}
 use Rattle.isp_base.specs.Sets.{Mask, nobody, union, without, any, lone}
-use Rattle.isp_base.specs.Maps.{over, or_old, holds, where_true}
+use Rattle.isp_base.specs.Maps.{or_old, holds, where_true}
 use Rattle.isp_base.specs.Types.{gang_width}
 use Rattle.isp_base.specs.declared.operators.BinOp.{BinOp}
 use Rattle.isp_base.specs.declared.types.Elem.{Elem}
@@ -15,19 +15,18 @@ use Rattle.isp_base.specs.declared.types.Ty.{Ty}
 use Rattle.isp_base.specs.declared.trap.TrapKind.TheVariants.{Divide, Index, Assert}
 use Rattle.isp_tree.specs.declared.stmt.Jump.{Jump}
 use Rattle.isp_tree.specs.declared.stmt.Jump.TheVariants.{Break, Continue}
-use Rattle.isp_typed.specs.Typed.{TExpr, t_exprs, TPlace, place_type, place_span, TItem, t_plain, t_with_value, t_with_size, TSimple, t_value, t_run, t_assign, t_update, t_step, TFirst, t_first_declare, t_first_simple, TStmt, t_block, t_declare, t_simple, t_if, t_if_else, t_while, t_do, t_for, t_foreach, t_foreach_active, t_unmasked, t_jump, t_return, t_print, t_assert, TBlock, t_braces, TStmts, t_no_stmts, t_stmt_then, Program}
+use Rattle.isp_typed.specs.Typed.{TExpr, t_exprs, TPlace, place_type, place_span, TItem, t_plain, t_with_value, t_with_size, TSimple, t_value, t_run, t_assign, t_update, t_step, TFirst, t_first_declare, t_first_simple, TStmt, t_block, t_declare, t_simple, t_if, t_if_else, t_while, t_do, t_for, t_foreach, t_foreach_active, t_unmasked, t_jump, t_return, t_print, t_assert, TBlock, t_braces, TStmts, t_no_stmts, t_stmt_then}
 use Rattle.isp_meaning.specs.State.{State, Frame, tick}
-use Rattle.isp_meaning.specs.Payloads.{Payload, One, Each, is_true, is_false, kept_by, offender, mapped, joined, converted, spread}
-use Rattle.isp_meaning.specs.Outcomes.{Val, Gives, Fails, Stops, Res, Went, Trapped, Cut, Done, bind, with_value, checked, go_on, went_all, if_so, unless_empty}
-use Rattle.isp_meaning.specs.Places.{Place, outside, held, kept}
+use Rattle.isp_meaning.specs.Payloads.{Payload, One, Each, is_true, is_false, kept_by, offender, mapped, converted}
+use Rattle.isp_meaning.specs.Outcomes.{Val, Gives, Fails, Stops, Res, Went, Trapped, Cut, Done, with_value, checked, go_on, went_all, if_so, unless_empty}
+use Rattle.isp_meaning.specs.Places.{Place, outside, held}
 use Rattle.isp_meaning.specs.Expressions.{Calls, value, values}
 use Rattle.isp_meaning.specs.Simple.{update, simple, item, items, first_part, step_part}
-use Rattle.isp_meaning.specs.Loops.{loop_end, tested, stepped, turns}
-use Rattle.isp_meaning.specs.Rounds.{Round, rounds, round_of_one, members, if_listed}
+use Rattle.isp_meaning.specs.Loops.{loop_end, tested, turns}
+use Rattle.isp_meaning.specs.Rounds.{rounds, round_of_one, members, if_listed}
 use Rattle.isp_meaning.specs.Statements.{all_go, answered, answered_at, branches, jumped, test_part, run, block, run_all}
-use Rattle.isp_meaning.specs.Printing.{print_text, shown_all}
 use Rattle.isp_meaning.specs.Calls.{calls_at}
-use Rattle.isp_meaning.specs.Laws.{Untouched, Masked, MaskedBlock, MaskedAll, HasNone, LeavesBy, Leaves, OthersStay}
+use Rattle.isp_meaning.specs.Laws.{Untouched, Masked, MaskedBlock, MaskedAll, LeavesBy, Leaves, OthersStay}
 use Rattle.isp_meaning.proofs.Outside.{Absent, AbsentPlace, AbsentAll, Any, Off, CallsOff, same, touch_on, kept_off, spread_none, mapped_absent, joined_absent, held_absent, checked_off, written_off, kept_off_at, cleared_off, bind_off, value_off, place_off, values_off, call_off, calls_off}
 
 -- ---- simple statements
@@ -150,9 +149,9 @@ module _ (p : ℕ) where
   other : (a : Mask) (q : ℕ) → a p ≡ false → a q ≡ true → nat_eq p q ≡ false
   other a q h k = ne_eqb p q (λ e. let z : 0 ≡ 1 = ap bit_of (sym h ∙ ap a e ∙ k) in absurd (omega arith))
     where
-    bit_of : Bool → ℕ
-    bit_of true = 1
-    bit_of false = 0
+      bit_of : Bool → ℕ
+      bit_of true = 1
+      bit_of false = 0
 
   listed_other : (a : Mask) (n : ℕ) → a p ≡ false → (t : Bool) → a n ≡ t → Others (if_listed t n)
   listed_other a n h true e = (other a n h e, tt)
@@ -171,9 +170,9 @@ module _ (p : ℕ) where
   answered_off None a m s h k = same p s
   answered_off (Some t) a m s h k = by t.rate
     where
-    by : (r : Rate) → Untouched p s (answered_at r a m s)
-    by Uniform = same p s
-    by Varying = (λ v. refl, λ v e. refl, ap (λ z. or_old z (s.results p)) (spread_none p a m h k))
+      by : (r : Rate) → Untouched p s (answered_at r a m s)
+      by Uniform = same p s
+      by Varying = (λ v. refl, λ v e. refl, ap (λ z. or_old z (s.results p)) (spread_none p a m h k))
 
   jumped_stays : (j : Jump) (a : Mask) (s : State) → a p ≡ false → Stays s (jumped j a s)
   jumped_stays Break a s h = record { by = (same p s, refl, h, refl, refl) }

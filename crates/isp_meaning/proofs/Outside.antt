@@ -1,12 +1,11 @@
 -- An instance outside the set has no value of an expression, and nothing of it changes: its variables, its part of the
 -- arrays of which each has its own, and what it returned.
-use Rattle.std.specs.Prelude.{◌≡◌, ℕ, List, [], ◌∷◌, Option, Some, None, Bool, true, false, nat_eq, ◌&&◌, ℤ, if◌then◌else◌, slice_get, zero, suc}
+use Rattle.std.specs.Prelude.{◌≡◌, ℕ, List, [], ◌∷◌, Option, Some, None, Bool, true, false, nat_eq, if◌then◌else◌, slice_get, zero, suc}
 use Rattle.std.proofs.Common.{refl, sym, ap, ◌∙◌, subst, ◌≢◌, ⊎_elim, eq-eqb}
 use Rattle.std.proofs.lemmas.Bool.{ne_eqb, cond-true, cond-false, cases_eq}
-use Rattle.isp_base.specs.Access.{is_zero, is_outside, element}
+use Rattle.isp_base.specs.Access.{is_zero, element}
 use Rattle.isp_base.specs.Sets.{Mask, nobody, any, lowest}
-use Rattle.isp_base.specs.Maps.{Lanes, Map, on, over, or_old, each1, each2, holds, where_true, put}
-use Rattle.isp_base.specs.declared.operators.BinOp.{BinOp}
+use Rattle.isp_base.specs.Maps.{Lanes, over, or_old, each1, each2, holds, where_true, put}
 use Rattle.isp_base.specs.declared.types.Elem.{Elem}
 use Rattle.isp_base.specs.declared.types.Rate.{Rate}
 use Rattle.isp_base.specs.declared.types.Rate.TheVariants.{Uniform, Varying}
@@ -14,19 +13,18 @@ use Rattle.isp_base.specs.declared.types.Span.{Span}
 use Rattle.isp_base.specs.declared.types.Ty.{Ty}
 use Rattle.isp_base.specs.declared.trap.TrapKind.{TrapKind}
 use Rattle.isp_base.specs.declared.trap.TrapKind.TheVariants.{Divide, Index}
-use Rattle.isp_typed.specs.Typed.{TExpr, t_constant, t_program_index, t_place, t_convert, t_cast, t_unary, t_binary, t_compare, t_logic, t_choose, t_call, t_library, t_packed_store, t_packed_load, TPlace, t_variable, t_element, TBase, t_whole, t_from, TArgument, t_by_value, t_by_name, TCall, t_called, TArguments, t_no_arguments, t_argument_then, TExprs, t_no_exprs, t_expr_then, type_of, place_type, place_span}
-use Rattle.isp_typed.specs.Typed.{TItem, t_plain, t_with_value, t_with_size, TSimple, t_value, t_run, t_assign, t_update, t_step, TFirst, t_first_declare, t_first_simple, TRange, TFunction, Program}
+use Rattle.isp_typed.specs.Typed.{TExpr, t_constant, t_program_index, t_place, t_convert, t_cast, t_unary, t_binary, t_compare, t_logic, t_choose, t_call, t_library, t_packed_store, t_packed_load, TPlace, t_variable, t_element, TBase, t_whole, t_from, TArgument, t_by_value, t_by_name, TCall, t_called, TArguments, t_no_arguments, t_argument_then, TExprs, t_no_exprs, t_expr_then, place_span}
+use Rattle.isp_typed.specs.Typed.{TFunction, Program}
 use Rattle.isp_typed.specs.declared.library.Library.{Library}
 use Rattle.isp_typed.specs.declared.library.Library.TheVariants as library
 use Rattle.isp_typed.specs.declared.variable.Logic.{Logic}
 use Rattle.isp_meaning.specs.State.{State, Frame, tick, extent}
-use Rattle.isp_meaning.specs.Payloads.{Payload, One, Each, is_true, is_false, spread, mapped, joined, kept_by, layer, selected, nothing, offender, first_of_two}
-use Rattle.isp_meaning.specs.Outcomes.{Val, Gives, Fails, Stops, Res, Went, Trapped, Cut, Done, bind, checked, if_so, value_unless_empty}
+use Rattle.isp_meaning.specs.Payloads.{Payload, One, Each, is_true, is_false, spread, mapped, joined, kept_by, selected, nothing, offender, first_of_two}
+use Rattle.isp_meaning.specs.Outcomes.{Val, Gives, Fails, Stops, Res, Went, Trapped, Cut, bind, checked, if_so, value_unless_empty}
 use Rattle.isp_meaning.specs.Places.{Place, Variable, Element, variable, written, own_stored, elements, with_elements, outside, held, kept}
-use Rattle.isp_meaning.specs.Library.{library_value, argument, or_none, chosen_one, chosen_by}
-use Rattle.isp_meaning.specs.Expressions.{Passed, Calls, needs, settled, base_array, packed_outside, packed_held, value, place, first_element, values, call, arguments, passed}
-use Rattle.isp_meaning.specs.Simple.{cleared, update, simple, item, items, first_part, step_part}
-use Rattle.isp_meaning.specs.Statements.{ranges, test_part}
+use Rattle.isp_meaning.specs.Library.{library_value, argument, chosen_one, chosen_by}
+use Rattle.isp_meaning.specs.Expressions.{Passed, Calls, needs, settled, base_array, packed_outside, value, place, first_element, values, call, arguments, passed}
+use Rattle.isp_meaning.specs.Simple.{cleared}
 use Rattle.isp_meaning.specs.Calls.{ended, called, calls_at, answer_of, answer_at}
 use Rattle.isp_meaning.specs.Laws.{Untouched}
 
@@ -80,9 +78,9 @@ module _ (p : ℕ) where
   pub kept_off : (f : ℕ → Bool) (a : Mask) (m : Payload) → a p ≡ false → Absent m → kept_by f a m p ≡ false
   kept_off f a (One x) h k = by (f x)
     where
-    by : (t : Bool) → (if t then a else nobody) p ≡ false
-    by true = h
-    by false = refl
+      by : (t : Bool) → (if t then a else nobody) p ≡ false
+      by true = h
+      by false = refl
   kept_off f a (Each x) h k = ap (holds f) k
 
   layer_none : (x y : Option ℕ) → x ≡ None → y ≡ None → first_of_two x y ≡ None
@@ -91,26 +89,26 @@ module _ (p : ℕ) where
   settled_absent : (l : Logic) (a : Mask) (m n : Payload) → a p ≡ false → Absent m → Absent n → Absent (settled l a m n)
   settled_absent l a (One x) n h k j = by (needs l x)
     where
-    by : (t : Bool) → Absent (if t then n else One x)
-    by true = j
-    by false = tt
+      by : (t : Bool) → Absent (if t then n else One x)
+      by true = j
+      by false = tt
   settled_absent l a (Each x) n h k j = layer_none _ (x p) (spread_none (where_true (needs l) x) n (ap (holds (needs l)) k) j) k
 
   selected_absent : (a : Mask) (c m n : Payload) → a p ≡ false → Absent c → Absent m → Absent n → Absent (selected a c m n)
   selected_absent a (One c) m n h k i j = by (is_true c)
     where
-    by : (t : Bool) → Absent (if t then m else n)
-    by true = i
-    by false = j
+      by : (t : Bool) → Absent (if t then m else n)
+      by true = i
+      by false = j
   selected_absent a (Each c) m n h k i j =
       layer_none _ _ (spread_none (where_true is_true c) m (ap (holds is_true) k) i) (spread_none (where_true is_false c) n (ap (holds is_false) k) j)
 
   chosen_absent : (a : Mask) (c m n : Payload) → Absent c → Absent m → Absent n → Absent (chosen_by a c m n)
   chosen_absent a (One c) m n k i j = by (is_true c)
     where
-    by : (t : Bool) → Absent (if t then m else n)
-    by true = i
-    by false = j
+      by : (t : Bool) → Absent (if t then m else n)
+      by true = i
+      by false = j
   chosen_absent a (Each c) m n k i j = ap (λ z. chosen_one z (spread a m p) (spread a n p)) k
 
   library_absent : (gang : ℕ) (t : Elem) (a : Mask) (f : Library) (x y z : Payload) → a p ≡ false → Absent x → Absent y → Absent z → Absent (library_value gang t a f x y z)
@@ -159,22 +157,22 @@ module _ (p : ℕ) where
   kept_off_at gang frame (Variable v t) a m s h i k = written_off t.rate v a m s h k
   kept_off_at gang frame (Element b t i) a m s h j k = by b.ty.rate
     where
-    by : (r : Rate) → Untouched p s (with_elements frame b t i a gang r m s)
-    by Uniform = same s
-    by Varying =
-        (λ w. refl, λ w e. put_own s.own b.number (own_stored (spread a (mapped (element t) i)) (spread a m) (s.own b.number)) p w e (ap (λ z. if holds (λ x. nat_eq x e) z then or_old (spread a m p) (s.own b.number e p) else s.own b.number e p) (spread_none a (mapped (element t) i) h (mapped_absent (element t) i j))), refl)
+      by : (r : Rate) → Untouched p s (with_elements frame b t i a gang r m s)
+      by Uniform = same s
+      by Varying =
+          (λ w. refl, λ w e. put_own s.own b.number (own_stored (spread a (mapped (element t) i)) (spread a m) (s.own b.number)) p w e (ap (λ z. if holds (λ x. nat_eq x e) z then or_old (spread a m p) (s.own b.number e p) else s.own b.number e p) (spread_none a (mapped (element t) i) h (mapped_absent (element t) i j))), refl)
 
   pub held_absent : (gang : ℕ) (frame : Frame) (q : Place) (a : Mask) (s : State) → a p ≡ false → AbsentPlace q → Absent (held gang frame q a s)
   held_absent gang frame (Variable v t) a s h k = by t.rate
     where
-    by : (r : Rate) → Absent (variable r v a s)
-    by Uniform = tt
-    by Varying = on_none a (s.varying v p) h
+      by : (r : Rate) → Absent (variable r v a s)
+      by Uniform = tt
+      by Varying = on_none a (s.varying v p) h
   held_absent gang frame (Element b t i) a s h k = by b.ty.rate
     where
-    by : (r : Rate) → Absent (elements frame b t i a r s)
-    by Uniform = mapped_absent _ i k
-    by Varying = ap (each1 (λ x. s.own b.number (element t x) p)) (spread_none a i h k)
+      by : (r : Rate) → Absent (elements frame b t i a r s)
+      by Uniform = mapped_absent _ i k
+      by Varying = ap (each1 (λ x. s.own b.number (element t x) p)) (spread_none a i h k)
 
   pub cleared_off : (frame : Frame) (r : Rate) (v : ℕ) (a : Mask) (s : State) → a p ≡ false → Untouched p s (cleared frame r v a s)
   cleared_off frame Uniform v a s h = same s
@@ -208,9 +206,9 @@ module _ (p : ℕ) where
   unless_off : (gang : ℕ) (a : Mask) (s : State) (f : Mask → State → Val Payload) → Off Absent s (f a s) → Off Absent s (value_unless_empty gang a s f)
   unless_off gang a s f h = by (any gang a)
     where
-    by : (t : Bool) → Off Absent s (if_so t (f a) (Gives nothing) s)
-    by true = h
-    by false = (refl, same s)
+      by : (t : Bool) → Off Absent s (if_so t (f a) (Gives nothing) s)
+      by true = h
+      by false = (refl, same s)
 
 abbrev pub CallsOff : Calls → Type 0
 CallsOff calls = (f : ℕ) (sp : Span) (a : Mask) (xs : List Passed) (frame : Frame) (s : State) (p : ℕ) → a p ≡ false → Off p (Absent p) s (calls f sp a xs frame s)
@@ -271,9 +269,9 @@ answer_absent : (p : ℕ) (t : Option Ty) (a : Mask) (s : State) → a p ≡ fal
 answer_absent p None a s h = tt
 answer_absent p (Some t) a s h = by t.rate
   where
-  by : (r : Rate) → Absent p (answer_at r a s)
-  by Uniform = tt
-  by Varying = on_none p a (s.results p) h
+    by : (r : Rate) → Absent p (answer_at r a s)
+    by Uniform = tt
+    by Varying = on_none p a (s.results p) h
 
 ended_off : (p : ℕ) (t : Option Ty) (frame : Frame) (a : Mask) (before : State) (v : Res) → a p ≡ false → Off p (Absent p) before (ended t frame a before v)
 ended_off p t frame a before (Went s g b c r) h = (answer_absent p t a s h, same p before)
@@ -284,6 +282,6 @@ pub calls_off : (program : Program) (most left : ℕ) → CallsOff (calls_at pro
 calls_off program most zero f sp a xs frame s p h = tt
 calls_off program most (suc left) f sp a xs frame s p h = by (slice_get program.functions f)
   where
-  by : (o : Option TFunction) → Off p (Absent p) s (called program most (calls_at program most left) o a xs frame s)
-  by None = tt
-  by (Some g) = ended_off p g.answer frame a s _ h
+    by : (o : Option TFunction) → Off p (Absent p) s (called program most (calls_at program most left) o a xs frame s)
+    by None = tt
+    by (Some g) = ended_off p g.answer frame a s _ h

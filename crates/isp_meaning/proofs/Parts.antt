@@ -1,19 +1,19 @@
 -- The four sets of a statement: each member of the set that ran is in one of them, and nobody else in any.
 use Rattle.std.specs.Prelude.{◌≡◌, ℕ, zero, suc, ◌+◌, ◌≤◌, List, [], ◌∷◌, ◌++◌, Option, Some, None, Bool, true, false, not, ◌&&◌, ◌||◌}
-use Rattle.std.proofs.Common.{refl, sym, ap, ◌∙◌, arith}
+use Rattle.std.proofs.Common.{refl, ap, ◌∙◌, arith}
 use Rattle.isp_base.specs.Sets.{Mask, nobody, everyone, union, without, any}
 use Rattle.isp_base.specs.Maps.{holds, where_true}
 use Rattle.isp_base.specs.Types.{gang_width}
 use Rattle.isp_base.specs.declared.trap.TrapKind.TheVariants.{Assert}
 use Rattle.isp_tree.specs.declared.stmt.Jump.{Jump}
 use Rattle.isp_tree.specs.declared.stmt.Jump.TheVariants.{Break, Continue}
-use Rattle.isp_typed.specs.Typed.{TExpr, t_exprs, TStmt, t_block, t_declare, t_simple, t_if, t_if_else, t_while, t_do, t_for, t_foreach, t_foreach_active, t_unmasked, t_jump, t_return, t_print, t_assert, TBlock, t_braces, TStmts, t_no_stmts, t_stmt_then, Program}
+use Rattle.isp_typed.specs.Typed.{TExpr, t_exprs, TStmt, t_block, t_declare, t_simple, t_if, t_if_else, t_while, t_do, t_for, t_foreach, t_foreach_active, t_unmasked, t_jump, t_return, t_print, t_assert, TBlock, t_braces, TStmts, t_no_stmts, t_stmt_then}
 use Rattle.isp_meaning.specs.State.{State, Frame, tick}
 use Rattle.isp_meaning.specs.Payloads.{Payload, One, Each, is_true, is_false, bit, kept_by, offender}
-use Rattle.isp_meaning.specs.Outcomes.{Val, Gives, Fails, Stops, Res, Went, Trapped, Cut, Done, with_value, checked, go_on, went_all, then_run, both_sides, if_so, unless_empty}
+use Rattle.isp_meaning.specs.Outcomes.{Val, Gives, Fails, Stops, Res, Went, Trapped, Cut, Done, with_value, checked, go_on, went_all, if_so, unless_empty}
 use Rattle.isp_meaning.specs.Expressions.{Calls, value, values}
 use Rattle.isp_meaning.specs.Simple.{simple, items, first_part, step_part}
-use Rattle.isp_meaning.specs.Loops.{loop_end, tested, stepped, turns}
+use Rattle.isp_meaning.specs.Loops.{loop_end, tested, turns}
 use Rattle.isp_meaning.specs.Rounds.{Round, rounds, foreach_rounds, counted}
 use Rattle.isp_meaning.specs.Statements.{all_go, answered, branches, jumped, ranges, test_part, run, block, run_all}
 use Rattle.isp_meaning.specs.Printing.{print_text, shown_all}
@@ -167,10 +167,10 @@ module _ (p : ℕ) where
     turns_parted zero k r s l w = record { by = tt }
     turns_parted (suc n) k r s l w =
         go_parted all k _ _ (bodies k (tick s)) (λ s1 g b c r1 e.
-          let none : all p ≡ false → count (g p) (b p) (c p) (r1 p) ≡ 0 = λ z. e ∙ ap bit (l z) in
-          let live : Within (union g c) = λ z. ap (λ y. y || c p) (none_first (g p) (b p) (c p) (r1 p) (none z)) ∙ none_third (g p) (b p) (c p) (r1 p) (none z) in
-          let back : Within (union r r1) = λ z. ap (λ y. y || r1 p) (w z) ∙ none_last (g p) (b p) (c p) (r1 p) (none z) in
-          if_parted all (any gang (union g c)) _ _ s1 (any_parted all (step (union g c) s1) _ (λ _ s2. tested_parted _ (turns_parted n) (union g c) (union r r1) s2 live back)) (end_parted (union r r1) s1 back))
+        let none : all p ≡ false → count (g p) (b p) (c p) (r1 p) ≡ 0 = λ z. e ∙ ap bit (l z) in
+        let live : Within (union g c) = λ z. ap (λ y. y || c p) (none_first (g p) (b p) (c p) (r1 p) (none z)) ∙ none_third (g p) (b p) (c p) (r1 p) (none z) in
+        let back : Within (union r r1) = λ z. ap (λ y. y || r1 p) (w z) ∙ none_last (g p) (b p) (c p) (r1 p) (none z) in
+        if_parted all (any gang (union g c)) _ _ s1 (any_parted all (step (union g c) s1) _ (λ _ s2. tested_parted _ (turns_parted n) (union g c) (union r r1) s2 live back)) (end_parted (union r r1) s1 back))
 
   -- whoever leaves a round, the next one runs
   round_parted : (all : Mask) (v : Res) (go : State → Res) → ((s : State) → PartedAt all (go s)) → PartedAt all (go_on v (λ s g b c r. go s))

@@ -1,16 +1,14 @@
 -- Small programs, written as typed trees, on which the meaning is tried.
-use Rattle.std.specs.Prelude.{ℕ, List, [], ◌∷◌, Option, Some, None, Bool, true, false, codes}
+use Rattle.std.specs.Prelude.{ℕ, List, [], ◌∷◌, Option, Some, None, true, false, codes}
 use Rattle.isp_base.specs.Rows.{Row}
-use Rattle.isp_base.specs.declared.types.Elem.{Elem}
-use Rattle.isp_base.specs.declared.types.Elem.TheVariants.{Bool as Truth, I32, I64, U32}
+use Rattle.isp_base.specs.declared.types.Elem.TheVariants.{Bool as Truth, I32}
 use Rattle.isp_base.specs.declared.types.Gang.TheVariants.{W4}
 use Rattle.isp_base.specs.declared.types.Rate.{Rate}
 use Rattle.isp_base.specs.declared.types.Rate.TheVariants.{Uniform, Varying}
 use Rattle.isp_base.specs.declared.types.Span.{Span}
 use Rattle.isp_base.specs.declared.types.Ty.{Ty}
-use Rattle.isp_base.specs.declared.types.Value.{Value}
 use Rattle.isp_base.specs.declared.signature.Argument.{Argument}
-use Rattle.isp_base.specs.declared.signature.Argument.TheVariants.{Value as AValue, Array as AnArray}
+use Rattle.isp_base.specs.declared.signature.Argument.TheVariants.{Array as AnArray}
 use Rattle.isp_base.specs.declared.operators.BinOp.{BinOp}
 use Rattle.isp_base.specs.declared.operators.BinOp.TheVariants as op
 use Rattle.isp_base.specs.declared.operators.Compare.{Compare}
@@ -18,9 +16,9 @@ use Rattle.isp_tree.specs.declared.stmt.Form.TheVariants.{Plain}
 use Rattle.isp_tree.specs.declared.stmt.Jump.TheVariants.{Break, Continue}
 use Rattle.isp_typed.specs.declared.variable.ArrayVariable.{ArrayVariable}
 use Rattle.isp_typed.specs.declared.variable.Holds.{Holds}
-use Rattle.isp_typed.specs.declared.variable.Holds.TheVariants.{Value as AVariable, Given, Local}
+use Rattle.isp_typed.specs.declared.variable.Holds.TheVariants.{Value as AVariable, Given}
 use Rattle.isp_typed.specs.declared.variable.Variable.{Variable}
-use Rattle.isp_typed.specs.Typed.{TExpr, t_constant, t_program_index, t_place, t_binary, t_compare, t_call, TPlace, t_variable, t_element, t_called, t_arguments, TArgument, t_by_value, ty_of, TItem, t_plain, t_with_value, t_with_size, TSimple, t_assign, t_step, TFirst, t_first_declare, TRange, TStmt, t_block, t_declare, t_simple, t_if, t_if_else, t_while, t_for, t_foreach, t_jump, t_return, t_print, TBlock, t_braces, t_stmts, TFunction, Program}
+use Rattle.isp_typed.specs.Typed.{TExpr, t_constant, t_program_index, t_place, t_binary, t_compare, t_call, t_variable, t_element, t_called, t_arguments, TArgument, ty_of, t_with_value, t_assign, t_step, t_first_declare, TRange, TStmt, t_block, t_simple, t_if, t_if_else, t_while, t_for, t_foreach, t_jump, t_return, t_print, TBlock, t_braces, t_stmts, TFunction, Program}
 
 abbrev pub at : Span
 at = record { start = 0; end = 0 }

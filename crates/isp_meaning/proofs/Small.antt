@@ -1,15 +1,11 @@
 -- That nothing happens for no instance, and what the work counts.
-use Rattle.std.specs.Prelude.{◌≡◌, ℕ, List, [], ◌∷◌, Bool, false}
+use Rattle.std.specs.Prelude.{◌≡◌, ℕ, List, [], ◌∷◌}
 use Rattle.std.proofs.Common.{refl, ap}
 use Rattle.isp_base.specs.Values.{number_to, wrap_to}
-use Rattle.isp_base.specs.Sets.{Mask, any}
 use Rattle.isp_base.specs.declared.signature.Argument.{Argument}
 use Rattle.isp_base.specs.declared.types.Gang.{Gang}
 use Rattle.isp_base.specs.declared.types.Gang.TheVariants.{W4}
-use Rattle.isp_typed.specs.Typed.{TStmt}
-use Rattle.isp_meaning.specs.State.{State, Frame}
 use Rattle.isp_meaning.specs.Outcomes.{went_all, if_so}
-use Rattle.isp_meaning.specs.Expressions.{Calls}
 use Rattle.isp_meaning.specs.Statements.{run}
 use Rattle.isp_meaning.specs.Runs.{work_of}
 use Rattle.isp_meaning.specs.Samples.{doubles, does_nothing, row}

@@ -9,7 +9,6 @@ use Rattle.isp_base.specs.declared.trap.TrapKind.TheVariants.{Depth}
 use Rattle.isp_base.specs.declared.types.Rate.{Rate}
 use Rattle.isp_base.specs.declared.types.Rate.TheVariants.{Uniform, Varying}
 use Rattle.isp_base.specs.declared.types.Ty.{Ty}
-use Rattle.isp_base.specs.declared.types.Span.{Span}
 use Rattle.isp_typed.specs.Typed.{TFunction, Program}
 use Rattle.isp_typed.specs.declared.variable.Holds.{Holds}
 use Rattle.isp_typed.specs.declared.variable.Holds.TheVariants.{Value as AValue, Given, Local}

@@ -1,13 +1,12 @@
 -- What an expression gives over a set of instances that is not empty. Each node that is reached counts for the work
 -- before its parts; a conversion is no node.
-use Rattle.std.specs.Prelude.{ℕ, ◌%◌, ◌^◌, List, [], ◌∷◌, Option, Bool, not, if◌then◌else◌, ◌&&◌, ◌||◌, ℤ, pos, int_lt, unsigned_abs}
+use Rattle.std.specs.Prelude.{ℕ, ◌%◌, ◌^◌, List, [], ◌∷◌, Bool, not, if◌then◌else◌, ◌&&◌, ◌||◌, ℤ, pos, int_lt, unsigned_abs}
 use Rattle.isp_base.specs.Access.{is_zero, scatter}
 use Rattle.isp_base.specs.Cross.{rank, packed_index}
-use Rattle.isp_base.specs.Sets.{Mask, any, lowest, both}
-use Rattle.isp_base.specs.Maps.{Lanes, Map, on, where_true, put}
+use Rattle.isp_base.specs.Sets.{Mask, lowest}
+use Rattle.isp_base.specs.Maps.{Map, on, where_true, put}
 use Rattle.isp_base.specs.Unary.{unary_bits}
 use Rattle.isp_base.specs.Values.{width, number, op_bits, compare_bits}
-use Rattle.isp_base.specs.declared.types.Elem.{Elem}
 use Rattle.isp_base.specs.declared.types.Rate.TheVariants.{Varying}
 use Rattle.isp_base.specs.declared.types.Span.{Span}
 use Rattle.isp_base.specs.declared.trap.TrapKind.TheVariants.{Divide, Index}

@@ -4,7 +4,7 @@
 --     FourSets      the sets of a statement are disjoint and make up the set that it ran over
 --     OthersStay    nothing of an instance outside the set changes
 --     CountsWork    the work of two small programs
-use Rattle.std.specs.Prelude.{◌≡◌, ℕ, ◌+◌, ◌≤◌, List, [], ◌∷◌, None, Bool, false}
+use Rattle.std.specs.Prelude.{◌≡◌, ℕ, ◌+◌, ◌≤◌, List, [], ◌∷◌, None, false}
 use Rattle.isp_base.specs.Outcomes.{Outcome, Ends, Traps, GoesOn, out_of}
 use Rattle.isp_base.specs.Prefixes.{IsPrefix}
 use Rattle.isp_base.specs.Sets.{Mask, any}

@@ -1,7 +1,7 @@
 -- What the library's functions give over a set of instances, from the values of their arguments.
-use Rattle.std.specs.Prelude.{ℕ, Option, Some, None, Bool, not, if◌then◌else◌, slice_get, List}
+use Rattle.std.specs.Prelude.{ℕ, Option, Some, None, not, if◌then◌else◌, slice_get, List}
 use Rattle.isp_base.specs.Sets.{Mask}
-use Rattle.isp_base.specs.Maps.{Map, on}
+use Rattle.isp_base.specs.Maps.{on}
 use Rattle.isp_base.specs.Values.{number, op_bits}
 use Rattle.isp_base.specs.Unary.{unary_bits}
 use Rattle.isp_base.specs.Cross.{extract, broadcast, rotate, shift, shuffle, shuffle_two, insert, exclusive_scan, reduce_add, reduce_best, any_of, all_of, reduce_equal}

@@ -1,5 +1,5 @@
 -- The places that assignments write: variables and elements of arrays, what is held there, and what is kept there.
-use Rattle.std.specs.Prelude.{ℕ, Option, None, Bool, nat_eq, if◌then◌else◌}
+use Rattle.std.specs.Prelude.{ℕ, Option, None, nat_eq, if◌then◌else◌}
 use Rattle.isp_base.specs.Access.{is_outside, element, scatter}
 use Rattle.isp_base.specs.Sets.{Mask}
 use Rattle.isp_base.specs.Maps.{Lanes, Map, on, over, or_old, each1, holds, put}

@@ -1,7 +1,7 @@
 -- Bodies that run over each of a list of sets: `foreach` and `foreach_active`.
 use Rattle.std.specs.Prelude.{ℕ, zero, suc, ◌+◌, ◌-◌, ◌*◌, ◌/◌, List, [], ◌∷◌, ◌++◌, map, Bool, true, false, ◌&&◌, nat_lt, ℤ, pos, negsuc, ◌+ℤ◌, ◌-ℤ◌, int_lt}
 use Rattle.isp_base.specs.Sets.{Mask, lone}
-use Rattle.isp_base.specs.Maps.{on, put}
+use Rattle.isp_base.specs.Maps.{on}
 use Rattle.isp_base.specs.Values.{wrap}
 use Rattle.isp_base.specs.declared.types.Elem.TheVariants.{I32}
 use Rattle.isp_base.specs.declared.types.Rate.TheVariants.{Uniform, Varying}

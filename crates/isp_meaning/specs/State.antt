@@ -1,5 +1,5 @@
 -- The state of a call over a gang, and what stays as it is during a call.
-use Rattle.std.specs.Prelude.{ℕ, ◌+◌, List, Option, Bool, if◌then◌else◌, nat_lt}
+use Rattle.std.specs.Prelude.{ℕ, ◌+◌, List, Option, if◌then◌else◌, nat_lt}
 use Rattle.isp_base.specs.declared.types.Rate.{Rate}
 use Rattle.isp_base.specs.declared.types.Rate.TheVariants.{Uniform, Varying}
 use Rattle.isp_base.specs.declared.types.Ty.{Ty}

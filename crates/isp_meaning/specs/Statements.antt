@@ -1,6 +1,6 @@
 -- What a statement does over a set of instances that is not empty.
-use Rattle.std.specs.Prelude.{ℕ, zero, suc, ◌+◌, List, [], ◌∷◌, ◌++◌, Option, Some, None}
-use Rattle.isp_base.specs.Sets.{Mask, nobody, everyone, without, any}
+use Rattle.std.specs.Prelude.{ℕ, ◌+◌, List, [], ◌∷◌, ◌++◌, Option, Some, None}
+use Rattle.isp_base.specs.Sets.{Mask, nobody, everyone, without}
 use Rattle.isp_base.specs.Maps.{where_true, over}
 use Rattle.isp_base.specs.Values.{number}
 use Rattle.isp_base.specs.declared.types.Elem.TheVariants.{I32}
