@@ -17,3 +17,4 @@ pub mod Words
 pub mod Prints
 pub mod Cells
 pub mod Held
+pub mod Cross

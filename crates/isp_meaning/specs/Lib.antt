@@ -1,0 +1,15 @@
+pub mod State
+pub mod Payloads
+pub mod Outcomes
+pub mod Library
+pub mod Places
+pub mod Expressions
+pub mod Simple
+pub mod Loops
+pub mod Rounds
+pub mod Printing
+pub mod Statements
+pub mod Calls
+pub mod Runs
+pub mod Samples
+pub mod Laws

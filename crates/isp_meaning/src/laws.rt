@@ -1,0 +1,33 @@
+//! What holds of every program. No code is run here: each function carries a law in its contract.
+ghost use Rattle.isp_meaning.specs.Laws.{CountsWork, FourSets, MoreTurns, NobodyActs, OthersStay};
+
+/// A run that has ended or trapped stays so for every greater number of turns, and the output of a
+/// run that is cut is the beginning of its output for every greater number.
+pub fn more_turns()
+    ensures { MoreTurns }
+{}
+
+/// A statement over a set of instances without members does nothing: the state stays as it is.
+pub fn nobody_acts()
+    ensures { NobodyActs }
+{}
+
+/// What the work counts, on two programs: `a[programIndex] = a[programIndex] * 2 + 1;` has work 10
+/// in a body, and an empty body 1.
+pub fn counts_work()
+    ensures { CountsWork }
+{}
+
+/// Of the instances over which a statement runs each goes on, breaks, continues or returns, and does
+/// one of these alone; no other instance does any.
+pub fn four_sets()
+    ensures { FourSets }
+{}
+
+/// An instance outside the set over which an expression is evaluated has no value of it. Neither an
+/// expression nor a statement changes anything of it, whatever is called: its variables, its part of
+/// the local arrays of which each instance has its own, and what it returned. Statements with a
+/// `foreach` or an `unmasked` in them are left out, since all instances take part in these.
+pub fn others_stay()
+    ensures { OthersStay }
+{}

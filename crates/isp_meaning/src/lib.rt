@@ -1,0 +1,6 @@
+//! What programs mean: the run of a function over a gang, as definitions, and what holds of every run.
+#![tactic(auto)]
+
+mod laws;
+
+pub use laws::{counts_work, four_sets, more_turns, nobody_acts, others_stay};

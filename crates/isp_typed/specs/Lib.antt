@@ -1,0 +1,7 @@
+pub mod Typed
+pub mod Views
+pub mod Library
+pub mod Order
+pub mod Promise
+pub mod Forms
+pub mod Verdicts
