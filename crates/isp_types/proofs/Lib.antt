@@ -1,0 +1,3 @@
+pub mod Exprs
+pub mod Stmts
+pub mod Functions

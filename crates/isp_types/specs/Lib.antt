@@ -6,3 +6,4 @@ pub mod Calls
 pub mod Rules
 pub mod Statements
 pub mod Functions
+pub mod reader

@@ -1,0 +1,3 @@
+pub mod Judge
+pub mod JudgeStmts
+pub mod JudgeFunctions
