@@ -1,0 +1,7 @@
+pub mod Breaches
+pub mod Rates
+pub mod Exits
+pub mod Program
+pub mod Covered
+pub mod Reaches
+pub mod reader

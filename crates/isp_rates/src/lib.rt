@@ -1,0 +1,16 @@
+//! Checked programs: nothing that the rules of rates, exits and exports forbid.
+#![tactic(auto)]
+
+mod calls;
+mod checked;
+mod checker;
+mod covered;
+mod demand;
+mod exits;
+mod expr;
+mod function;
+mod simple;
+mod stmt;
+
+pub use checked::Checked;
+pub use checker::check;
