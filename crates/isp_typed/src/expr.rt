@@ -124,7 +124,10 @@ pub enum TypedPlace {
 #[derive(Drop)]
 pub enum TypedBase {
     /// `a` or `&a`: from its first element on.
-    Whole { array: ArrayVariable, span: Span },
+    Whole {
+        array: ArrayVariable,
+        span: Span,
+    },
     /// `&a[e]`: from an index on.
     From {
         array: ArrayVariable,

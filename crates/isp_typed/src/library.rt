@@ -108,8 +108,10 @@ impl Library {
             | Library::ScanOr
             | Library::Abs => &[Part::Own],
             Library::Any | Library::All | Library::None => &[Part::Truth],
-            Library::Broadcast | Library::Rotate | Library::Shift | Library::Extract =>
-                &[Part::Own, Part::Number],
+            Library::Broadcast | Library::Rotate | Library::Shift | Library::Extract => &[
+                Part::Own,
+                Part::Number,
+            ],
             Library::Shuffle => &[Part::Own, Part::Index],
             Library::ShuffleTwo => &[Part::Own, Part::Own, Part::Index],
             Library::Insert => &[Part::Own, Part::Number, Part::Same],
@@ -126,8 +128,10 @@ impl Library {
         let (rate, elem) = match self {
             Library::ReduceAdd => (Rate::Uniform, widened(worked)),
             Library::ReduceMin | Library::ReduceMax | Library::Extract => (Rate::Uniform, worked),
-            Library::ReduceEqual | Library::Any | Library::All | Library::None =>
-                (Rate::Uniform, Elem::Bool),
+            Library::ReduceEqual | Library::Any | Library::All | Library::None => (
+                Rate::Uniform,
+                Elem::Bool,
+            ),
             Library::ScanAdd
             | Library::ScanAnd
             | Library::ScanOr
@@ -137,8 +141,9 @@ impl Library {
             | Library::Shuffle
             | Library::ShuffleTwo
             | Library::Insert => (Rate::Varying, worked),
-            Library::Min | Library::Max | Library::Clamp | Library::Abs | Library::Select =>
-                (rate, worked),
+            Library::Min | Library::Max | Library::Clamp | Library::Abs | Library::Select => (
+                rate, worked,
+            ),
         };
         Ty { rate, elem }
     }

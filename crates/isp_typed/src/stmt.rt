@@ -10,7 +10,11 @@ use isp_tree::{Form, Jump};
 #[derive(Drop)]
 pub enum TypedItem {
     /// Without an initial value it is 0.
-    Plain { number: usize, ty: Ty, span: Span },
+    Plain {
+        number: usize,
+        ty: Ty,
+        span: Span,
+    },
     /// The initial value has the variable's element type.
     Value {
         number: usize,
@@ -19,7 +23,10 @@ pub enum TypedItem {
         span: Span,
     },
     /// Its elements are 0.
-    Array { array: ArrayVariable, span: Span },
+    Array {
+        array: ArrayVariable,
+        span: Span,
+    },
 }
 
 /// What stands as a statement of its own before a semicolon, and as the step of a `for`; without the
