@@ -48,7 +48,8 @@ fn name_fits(name: &[u8]) -> bool
 {
     match name {
         [] => false,
-        [first, rest @ ..] => (first.is_ascii_alphabetic() || *first == b'_') && are_word_bytes(rest),
+        [first, rest @ ..] => (first.is_ascii_alphabetic() || *first == b'_')
+            && are_word_bytes(rest),
     }
 }
 

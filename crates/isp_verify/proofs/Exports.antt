@@ -53,6 +53,7 @@ none_at code name fs n f made low at test before j h below x = go (eq-or-lt_of_l
     here e =
         let same = some_same (sym x.found ∙ ap (slice_get code.routines) e ∙ routine_at code fs n f made low at) in
         let t = test ∙ ap (is_export name) (sym same) ∙ export_test code name j h x in cc
+
     go : (j ≡ n) ⊎ (j < n) → ⊥
     go (inl e) = here e
     go (inr lt) = before j h lt x

@@ -95,6 +95,7 @@ follows h pc i ends at low off = go (nat_lt (pc + 1) (length h.code)) refl
   where
     past : (length h.code - 1 ≡ pc) → ⊥
     past e = let f = sym (ap stays at ∙ off) ∙ ap (λ n. stays (slice_get h.code n)) (sym e) ∙ ends in cc
+
     go : (b : Bool) → nat_lt (pc + 1) (length h.code) ≡ b → pc + 1 < length h.code
     go true e = ltb-true (pc + 1) (length h.code) e
     go false e = absurd (past (omega (arith, low, ltb-false (pc + 1) (length h.code) e)))
@@ -121,8 +122,10 @@ line_applies code none fn pc h found low = go (slice_get h.code pc) refl
   where
     fine : Fine code h
     fine = function_fine code fn h none found
+
     missing : slice_get h.code pc ≡ None → ⊥
     missing e = let f = sym (slice_get-get_or h.code pc (instr.Say 0) low) ∙ e in cc
+
     go : (o : Option Instr) → slice_get h.code pc ≡ o → LineApplies code fn pc
     go None e = absurd (missing e)
     go (Some i) e =
@@ -211,6 +214,7 @@ module _ (code : Listing) where
     where
       begins : Stands code k.function 0
       begins = record { routine = fine.callee; found = fine.found; low = not_empty fine.callee (function_fine code k.function fine.callee none fine.found).ends }
+
       go : (b : Bool) → SoundMove code (if b then Go (called c k fine.callee) else Fail (trap Depth (place_at code k.place) (or_zero (lowest (gang_width code.gang) (c.masks k.mask.number)))))
       go true = (begins, (stands, sound))
       go false = tt
@@ -220,9 +224,11 @@ module _ (code : Listing) where
     where
       at : (pc : ℕ) → pc < length h.code → Stands code c.home.fn pc
       at pc low = record { routine = h; found = found; low = low }
+
       after_this : c.pc + 1 < length h.code → (c1 : Conf) → c1.home ≡ c.home → c1.waiting ≡ c.waiting → c1.pc ≡ c.pc + 1 → IsSound code c1
       after_this low c1 home waiting pc =
           (subst (λ z. Stands code z.fn c1.pc) (sym home) (subst (λ z. Stands code c.home.fn z) (sym pc) (at (c.pc + 1) low)), subst (AllStand code) (sym waiting) sound)
+
       go : (i : Instr) → AllFine code h (operands i) → CallsFine code h i → GoesOn h c.pc i → SoundMove code (act code h c i)
       go (instr.Scalar d i) fine calls on = moved_sound (scalar_value code h c d i) (set_scalar c d) (λ v. (at (c.pc + 1) on, sound))
       go (instr.Vector d i) fine calls on = moved_sound (vector_value code h c d i) (set_vector c d) (λ v. (at (c.pc + 1) on, sound))

@@ -33,7 +33,12 @@ fn argument_fits(function: &Function, registers: &Registers, param: &Param, x: R
     }
 }
 
-fn arguments_fit(function: &Function, registers: &Registers, params: &[Param], arguments: &[Register]) -> bool
+fn arguments_fit(
+    function: &Function,
+    registers: &Registers,
+    params: &[Param],
+    arguments: &[Register],
+) -> bool
     requires { registers.now ≡ table_of (routine_of function.now) }
     ensures { result ≡ arguments_fit (routine_of function.now) params.now arguments.now }
 {
@@ -53,11 +58,21 @@ fn call_fits(function: &Function, registers: &Registers, call: &Call, callee: &F
     ensures { result ≡ call_fits (routine_of function.now) call.now (Some (routine_of callee.now)) }
 {
     result_fits(registers, callee.returns, call.result)
-        && arguments_fit(function, registers, &callee.params, call.arguments.as_slice())
+        && arguments_fit(
+            function,
+            registers,
+            &callee.params,
+            call.arguments.as_slice(),
+        )
 }
 
 // Whether all registers are there.
-fn check_passed(code: &Code, function: &Function, registers: &Registers, passed: &[Register]) -> Option<Rule>
+fn check_passed(
+    code: &Code,
+    function: &Function,
+    registers: &Registers,
+    passed: &[Register],
+) -> Option<Rule>
     requires { registers.now ≡ table_of (routine_of function.now) }
     ensures { result ≡ operands_fault code.now (routine_of function.now) (map any_register passed.now) }
 {
@@ -70,7 +85,12 @@ fn check_passed(code: &Code, function: &Function, registers: &Registers, passed:
 }
 
 // Whether where the result goes is there.
-fn check_result(code: &Code, function: &Function, registers: &Registers, to: Option<Register>) -> Option<Rule>
+fn check_result(
+    code: &Code,
+    function: &Function,
+    registers: &Registers,
+    to: Option<Register>,
+) -> Option<Rule>
     requires { registers.now ≡ table_of (routine_of function.now) }
     ensures { result ≡ operands_fault code.now (routine_of function.now) (result_operands to) }
 {
@@ -81,7 +101,12 @@ fn check_result(code: &Code, function: &Function, registers: &Registers, to: Opt
 }
 
 // Whether all operands of a call are there, and its mask is one.
-fn check_operands(code: &Code, function: &Function, registers: &Registers, call: &Call) -> Option<Rule>
+fn check_operands(
+    code: &Code,
+    function: &Function,
+    registers: &Registers,
+    call: &Call,
+) -> Option<Rule>
     requires { registers.now ≡ table_of (routine_of function.now) }
     ensures { result ≡ operands_fault code.now (routine_of function.now) (call_operands call.now) }
 {
@@ -99,7 +124,12 @@ fn check_operands(code: &Code, function: &Function, registers: &Registers, call:
 }
 
 /// The first fault of a call.
-pub(crate) fn check_call(code: &Code, function: &Function, registers: &Registers, call: &Call) -> Option<Rule>
+pub(crate) fn check_call(
+    code: &Code,
+    function: &Function,
+    registers: &Registers,
+    call: &Call,
+) -> Option<Rule>
     requires { registers.now ≡ table_of (routine_of function.now) }
     ensures { result ≡ call_fault code.now (routine_of function.now) call.now }
 {

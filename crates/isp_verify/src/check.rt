@@ -45,7 +45,12 @@ fn check_last(function: &Function) -> Option<Rule>
     }
 }
 
-fn check_function(code: &Code, earlier: &[Function], function: &Function, registers: &Registers) -> Option<Fault>
+fn check_function(
+    code: &Code,
+    earlier: &[Function],
+    function: &Function,
+    registers: &Registers,
+) -> Option<Fault>
     requires table { registers.now ≡ table_of (routine_of function.now) }
     requires earlier { map routine_of earlier.now ≡ take (length earlier.now) code.now.routines }
     ensures { result ≡ function_fault code.now (length earlier.now) (routine_of function.now) }

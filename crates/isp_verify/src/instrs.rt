@@ -11,7 +11,8 @@ use crate::operands::check_all;
 use crate::registers::Registers;
 use isp_base::{Elem, UnaryOp};
 use isp_code::{
-    ArrayWant, Class, Code, Function, Instr, JumpTest, MaskInstr, Operand, Register, ScalarInstr, VectorInstr, Want,
+    ArrayWant, Class, Code, Function, Instr, JumpTest, MaskInstr, Operand, Register, ScalarInstr,
+    VectorInstr, Want,
 };
 
 // `!` is an operator on bool, the others are on whole numbers.
@@ -39,9 +40,24 @@ fn check_scalar(
     let truth = Operand::Scalar(d, Want::Is(Elem::Bool));
     let like = Want::Like(d);
     match *instr {
-        ScalarInstr::Constant(n) => check_all(code, function, registers, &[any, Operand::Number(n, d)]),
-        ScalarInstr::Copy(x) => check_all(code, function, registers, &[any, Operand::Scalar(x, like)]),
-        ScalarInstr::Convert(x) => check_all(code, function, registers, &[any, Operand::Scalar(x, Want::Any)]),
+        ScalarInstr::Constant(n) => check_all(
+            code,
+            function,
+            registers,
+            &[any, Operand::Number(n, d)],
+        ),
+        ScalarInstr::Copy(x) => check_all(
+            code,
+            function,
+            registers,
+            &[any, Operand::Scalar(x, like)],
+        ),
+        ScalarInstr::Convert(x) => check_all(
+            code,
+            function,
+            registers,
+            &[any, Operand::Scalar(x, Want::Any)],
+        ),
         ScalarInstr::Unary(op, x) => check_all(
             code,
             function,
@@ -58,7 +74,11 @@ fn check_scalar(
             code,
             function,
             registers,
-            &[truth, Operand::Scalar(x, Want::Any), Operand::Scalar(y, Want::Like(x))],
+            &[
+                truth,
+                Operand::Scalar(x, Want::Any),
+                Operand::Scalar(y, Want::Like(x)),
+            ],
         ),
         ScalarInstr::Select(c, x, y) => check_all(
             code,
@@ -215,7 +235,11 @@ fn check_mask(
             code,
             function,
             registers,
-            &[to, Operand::Vector(x, Want::Is(Elem::Bool)), Operand::Mask(y)],
+            &[
+                to,
+                Operand::Vector(x, Want::Is(Elem::Bool)),
+                Operand::Mask(y),
+            ],
         ),
         MaskInstr::Lowest(x) => check_all(code, function, registers, &[to, Operand::Mask(x)]),
         MaskInstr::Range(x, y) => check_all(
@@ -253,7 +277,12 @@ fn tested(test: JumpTest, register: Register) -> Operand
 }
 
 /// The first fault of an instruction.
-pub(crate) fn check_instr(code: &Code, function: &Function, registers: &Registers, instr: &Instr) -> Option<Rule>
+pub(crate) fn check_instr(
+    code: &Code,
+    function: &Function,
+    registers: &Registers,
+    instr: &Instr,
+) -> Option<Rule>
     requires { registers.now ≡ table_of (routine_of function.now) }
     ensures { result ≡ instr_fault code.now (routine_of function.now) instr.now }
 {
@@ -301,14 +330,27 @@ pub(crate) fn check_instr(code: &Code, function: &Function, registers: &Register
             code,
             function,
             registers,
-            &[Operand::Array(*a, ArrayWant::Local, Want::Any), Operand::Mask(*k)],
+            &[
+                Operand::Array(*a, ArrayWant::Local, Want::Any),
+                Operand::Mask(*k),
+            ],
         ),
         Instr::Jump(to) => check_all(code, function, registers, &[Operand::Target(*to)]),
         Instr::JumpIf(test, x, to) => {
-            check_all(code, function, registers, &[tested(*test, *x), Operand::Target(*to)])
+            check_all(
+                code,
+                function,
+                registers,
+                &[tested(*test, *x), Operand::Target(*to)],
+            )
         }
         Instr::Say(text) => check_all(code, function, registers, &[Operand::Text(*text)]),
-        Instr::PrintScalar(x) => check_all(code, function, registers, &[Operand::Scalar(*x, Want::Any)]),
+        Instr::PrintScalar(x) => check_all(
+            code,
+            function,
+            registers,
+            &[Operand::Scalar(*x, Want::Any)],
+        ),
         Instr::PrintVector(x, k) => check_all(
             code,
             function,
@@ -316,7 +358,12 @@ pub(crate) fn check_instr(code: &Code, function: &Function, registers: &Register
             &[Operand::Vector(*x, Want::Any), Operand::Mask(*k)],
         ),
         Instr::Fail(x, place) => {
-            check_all(code, function, registers, &[Operand::Mask(*x), Operand::Place(*place)])
+            check_all(
+                code,
+                function,
+                registers,
+                &[Operand::Mask(*x), Operand::Place(*place)],
+            )
         }
         Instr::Call(call) => check_call(code, function, registers, call.get()),
         Instr::Return(back) => check_all(code, function, registers, &[Operand::Back(*back)]),

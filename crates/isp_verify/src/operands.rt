@@ -62,7 +62,12 @@ pub(crate) fn is_per_lane(function: &Function, registers: &Registers, array: Reg
     }
 }
 
-fn is_wanted_array(function: &Function, registers: &Registers, want: ArrayWant, array: Register) -> bool
+fn is_wanted_array(
+    function: &Function,
+    registers: &Registers,
+    want: ArrayWant,
+    array: Register,
+) -> bool
     requires { registers.now ≡ table_of (routine_of function.now) }
     ensures { result ≡ is_wanted_array (routine_of function.now) want array }
 {
@@ -88,25 +93,47 @@ fn check_back(registers: &Registers, returns: Returns, back: Option<Register>) -
         (_, None) => Some(Rule::BadKind),
         (Returns::Nothing, Some(x)) => check_register(registers, x, false),
         (Returns::Scalar(elem), Some(x)) => {
-            check_register(registers, x, is_a(registers, Class::Scalar, Want::Is(elem), x))
+            check_register(
+                registers,
+                x,
+                is_a(registers, Class::Scalar, Want::Is(elem), x),
+            )
         }
         (Returns::Vector(elem), Some(x)) => {
-            check_register(registers, x, is_a(registers, Class::Vector, Want::Is(elem), x))
+            check_register(
+                registers,
+                x,
+                is_a(registers, Class::Vector, Want::Is(elem), x),
+            )
         }
     }
 }
 
-fn check_operand(code: &Code, function: &Function, registers: &Registers, operand: Operand) -> Option<Rule>
+fn check_operand(
+    code: &Code,
+    function: &Function,
+    registers: &Registers,
+    operand: Operand,
+) -> Option<Rule>
     requires { registers.now ≡ table_of (routine_of function.now) }
     ensures { result ≡ operand_fault code.now (routine_of function.now) operand }
 {
     match operand {
         Operand::Any(r) => check_register(registers, r, true),
-        Operand::Scalar(r, want) => check_register(registers, r, is_a(registers, Class::Scalar, want, r)),
-        Operand::Vector(r, want) => check_register(registers, r, is_a(registers, Class::Vector, want, r)),
+        Operand::Scalar(r, want) => check_register(
+            registers,
+            r,
+            is_a(registers, Class::Scalar, want, r),
+        ),
+        Operand::Vector(r, want) => check_register(
+            registers,
+            r,
+            is_a(registers, Class::Vector, want, r),
+        ),
         Operand::Mask(r) => check_register(registers, r, same_class(r.class, Class::Mask)),
         Operand::Array(r, array, want) => {
-            let fits = is_a(registers, Class::Array, want, r) && is_wanted_array(function, registers, array, r);
+            let fits = is_a(registers, Class::Array, want, r)
+                && is_wanted_array(function, registers, array, r);
             check_register(registers, r, fits)
         }
         Operand::Number(number, r) => {
@@ -130,7 +157,12 @@ fn check_operand(code: &Code, function: &Function, registers: &Registers, operan
 }
 
 /// The first fault of some operands, from left to right.
-pub(crate) fn check_all(code: &Code, function: &Function, registers: &Registers, operands: &[Operand]) -> Option<Rule>
+pub(crate) fn check_all(
+    code: &Code,
+    function: &Function,
+    registers: &Registers,
+    operands: &[Operand],
+) -> Option<Rule>
     requires { registers.now ≡ table_of (routine_of function.now) }
     ensures { result ≡ operands_fault code.now (routine_of function.now) operands.now }
 {

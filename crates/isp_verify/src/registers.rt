@@ -154,7 +154,10 @@ impl Registers {
 }
 
 /// The registers of each function.
-pub(crate) fn registers_of(alloc: Global, functions: &[Function]) -> Result<Vec<Registers>, AllocError>
+pub(crate) fn registers_of(
+    alloc: Global,
+    functions: &[Function],
+) -> Result<Vec<Registers>, AllocError>
     ensures { IfOk result (λ v. v.items ≡ map table_of (map routine_of functions.now)) }
 {
     let mut all = Vec::new(alloc);

@@ -54,7 +54,10 @@ fn signature_of(alloc: Global, function: &Function) -> Result<Signature, AllocEr
 }
 
 /// The signature of each function.
-pub(crate) fn signatures_of(alloc: Global, functions: &[Function]) -> Result<Vec<Signature>, AllocError>
+pub(crate) fn signatures_of(
+    alloc: Global,
+    functions: &[Function],
+) -> Result<Vec<Signature>, AllocError>
     ensures { IfOk result (λ v. map handed v.items ≡ map signature_of (map routine_of functions.now)) }
 {
     let mut all = Vec::new(alloc);
