@@ -1,3 +1,0 @@
-pub mod Exprs
-pub mod Stmts
-pub mod Functions

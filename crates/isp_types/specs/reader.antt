@@ -1,3 +1,0 @@
-pub mod Judge
-pub mod JudgeStmts
-pub mod JudgeFunctions
