@@ -11,5 +11,6 @@ pub mod Printing
 pub mod Statements
 pub mod Calls
 pub mod Runs
+pub mod Entries
 pub mod Samples
 pub mod Laws
