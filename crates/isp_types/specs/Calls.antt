@@ -21,7 +21,7 @@ use Rattle.isp_typed.specs.declared.variable.Holds.{Holds}
 use Rattle.isp_typed.specs.declared.variable.Holds.TheVariants as holds
 use Rattle.isp_typed.specs.declared.variable.Variable.{Variable}
 use Rattle.isp_typed.specs.Library.{parts, part_elem, library_type}
-use Rattle.isp_typed.specs.Typed.{TExpr, t_place, t_variable, t_call, t_library, t_packed_store, t_packed_load, TExprs, t_no_exprs, t_expr_then, TBase, t_whole, t_from, TArgument, t_by_value, t_by_name, TArguments, t_no_arguments, t_argument_then, TCall, t_called, ty_of, type_of}
+use Rattle.isp_typed.specs.Typed.{TExpr, t_place, t_variable, t_call, t_library, t_packed_store, t_packed_load, TExprs, t_no_exprs, t_expr_then, TBase, t_whole, t_from, base_array, TArgument, t_by_value, t_by_name, TArguments, t_no_arguments, t_argument_then, TCall, t_called, ty_of, type_of}
 use Rattle.isp_types.specs.declared.scope.Known.{Known}
 use Rattle.isp_types.specs.declared.callee.Callee.{Callee}
 use Rattle.isp_types.specs.declared.callee.Callee.TheVariants.{Unknown, Miscounted, Function, Library as OfLibrary, PackedStore, PackedLoad}
@@ -238,10 +238,6 @@ abbrev pub library_call : Library → Span → List TExpr → TExpr
 library_call f s xs =
     let t = worked_in f (map elem_of xs) in
     t_library f t (as_parts t (parts f) xs) (library_type f t (rate_all xs)) s
-
-abbrev pub base_array : TBase → ArrayVariable
-base_array (t_whole a s) = a
-base_array (t_from a x s) = a
 
 -- what is stored is converted to the array's element type
 abbrev pub packed_store : Span → List Passed → Result Called Fault

@@ -179,23 +179,33 @@ stated (runs c) = t_run c
 abbrev pub updated : BinOp → Span → TPlace × TExpr → TSimple
 updated op s p = let e = common (place_type p.0).elem (elem_of p.1) in t_update op e p.0 (converted e p.1) s
 
+abbrev pub assignment_operator : Assignment → Option BinOp
+assignment_operator with.Replace = None
+assignment_operator with.Add = Some bin.Add
+assignment_operator with.Subtract = Some bin.Sub
+assignment_operator with.Multiply = Some bin.Mul
+assignment_operator with.Divide = Some bin.Div
+assignment_operator with.Remainder = Some bin.Rem
+assignment_operator with.And = Some bin.And
+assignment_operator with.Or = Some bin.Or
+assignment_operator with.Xor = Some bin.Xor
+assignment_operator with.ShiftLeft = Some bin.Shl
+assignment_operator with.ShiftRight = Some bin.Shr
+
 abbrev pub assigned : Assignment → Span → TPlace × TExpr → TSimple
-assigned with.Replace s p = t_assign p.0 (converted (place_type p.0).elem p.1) s
-assigned with.Add s p = updated bin.Add s p
-assigned with.Subtract s p = updated bin.Sub s p
-assigned with.Multiply s p = updated bin.Mul s p
-assigned with.Divide s p = updated bin.Div s p
-assigned with.Remainder s p = updated bin.Rem s p
-assigned with.And s p = updated bin.And s p
-assigned with.Or s p = updated bin.Or s p
-assigned with.Xor s p = updated bin.Xor s p
-assigned with.ShiftLeft s p = updated bin.Shl s p
-assigned with.ShiftRight s p = updated bin.Shr s p
+assigned a s p = by_operator (assignment_operator a)
+  where
+    by_operator : Option BinOp → TSimple
+    by_operator None = t_assign p.0 (converted (place_type p.0).elem p.1) s
+    by_operator (Some op) = updated op s p
 
 -- `x++` is `x += 1`, where 1 is an int32
+abbrev pub change_operator : Change → BinOp
+change_operator Increment = bin.Add
+change_operator Decrement = bin.Sub
+
 abbrev pub stepped : Change → Span → TPlace → TSimple
-stepped Increment s p = t_step bin.Add (common (place_type p).elem I32) p s
-stepped Decrement s p = t_step bin.Sub (common (place_type p).elem I32) p s
+stepped c s p = t_step (change_operator c) (common (place_type p).elem I32) p s
 
 abbrev pub range_made : ℕ → Span → TExpr × TExpr → TRange
 range_made k s p = record { index = k; start = as_bound p.0; end = as_bound p.1; span = s }

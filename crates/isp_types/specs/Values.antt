@@ -23,6 +23,8 @@ use Rattle.isp_tree.specs.declared.expr.Prefix.TheVariants as sign
 use Rattle.isp_typed.specs.declared.variable.Logic.{Logic}
 use Rattle.isp_typed.specs.declared.variable.Logic.TheVariants as logic
 use Rattle.isp_typed.specs.Typed.{TExpr, t_constant, t_convert, t_cast, t_unary, t_binary, t_compare, t_logic, t_choose, type_of, ty_of}
+use Rattle.isp_types.specs.declared.values.Joining.{Joining}
+use Rattle.isp_types.specs.declared.values.Joining.TheVariants as joined_as
 use Rattle.isp_types.specs.declared.words.ValueWords.{ValueWords}
 
 abbrev pub elem_of : TExpr → Elem
@@ -72,7 +74,7 @@ with_sign sign.Negative s x = unary_as unary.Negate (operand (elem_of x)) s x
 with_sign sign.Inverse s x = unary_as unary.Invert (operand (elem_of x)) s x
 with_sign sign.Not s x = unary_as unary.Not Truth s x
 
--- two operands
+-- what an operator of two operands does
 module _ (s : Span) (x y : TExpr) where
   abbrev pub rate_both : Rate
   rate_both = rate_or (rate_of x) (rate_of y)
@@ -92,28 +94,33 @@ module _ (s : Span) (x y : TExpr) where
   abbrev pub decides : Logic → TExpr
   decides l = t_logic l (converted Truth x) (converted Truth y) rate_both s
 
-  abbrev pub joins : Operator → TExpr
-  joins op.Multiply = computes bin.Mul
-  joins op.Divide = computes bin.Div
-  joins op.Remainder = computes bin.Rem
-  joins op.Add = computes bin.Add
-  joins op.Subtract = computes bin.Sub
-  joins op.ShiftLeft = computes bin.Shl
-  joins op.ShiftRight = computes bin.Shr
-  joins op.Less = compares compare.Less
-  joins op.LessEqual = compares compare.LessOrEqual
-  joins op.Greater = compares compare.Greater
-  joins op.GreaterEqual = compares compare.GreaterOrEqual
-  joins op.Equal = compares compare.Equal
-  joins op.NotEqual = compares compare.NotEqual
-  joins op.And = computes bin.And
-  joins op.Xor = computes bin.Xor
-  joins op.Or = computes bin.Or
-  joins op.AndAlso = decides logic.And
-  joins op.OrElse = decides logic.Or
+  abbrev pub joins : Joining → TExpr
+  joins (joined_as.Computes b) = computes b
+  joins (joined_as.Compares c) = compares c
+  joins (joined_as.Decides l) = decides l
+
+abbrev pub joining : Operator → Joining
+joining op.Multiply = joined_as.Computes bin.Mul
+joining op.Divide = joined_as.Computes bin.Div
+joining op.Remainder = joined_as.Computes bin.Rem
+joining op.Add = joined_as.Computes bin.Add
+joining op.Subtract = joined_as.Computes bin.Sub
+joining op.ShiftLeft = joined_as.Computes bin.Shl
+joining op.ShiftRight = joined_as.Computes bin.Shr
+joining op.Less = joined_as.Compares compare.Less
+joining op.LessEqual = joined_as.Compares compare.LessOrEqual
+joining op.Greater = joined_as.Compares compare.Greater
+joining op.GreaterEqual = joined_as.Compares compare.GreaterOrEqual
+joining op.Equal = joined_as.Compares compare.Equal
+joining op.NotEqual = joined_as.Compares compare.NotEqual
+joining op.And = joined_as.Computes bin.And
+joining op.Xor = joined_as.Computes bin.Xor
+joining op.Or = joined_as.Computes bin.Or
+joining op.AndAlso = joined_as.Decides logic.And
+joining op.OrElse = joined_as.Decides logic.Or
 
 abbrev pub joined : Operator → Span → TExpr × TExpr → TExpr
-joined o s p = joins s p.0 p.1 o
+joined o s p = joins s p.0 p.1 (joining o)
 
 -- `?:` is of a bool and of two values of one type; varying where one of the three is
 abbrev pub choice : Span → TExpr × (TExpr × TExpr) → TExpr

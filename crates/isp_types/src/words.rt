@@ -2,9 +2,9 @@
 ghost use Rattle.std.specs.Prelude.{◌≡◌};
 ghost use Rattle.std.specs.List.{list_any};
 ghost use Rattle.isp_tree.specs.Views.{type_of};
-ghost use Rattle.isp_types.specs.Words.{contradicts, elem_said, excludes, is_constant, base_elem, unsigned_elem, has_rate, has_sign, has_unsigned, is_const, is_signed, is_uniform, is_unsigned, is_varying, is_void, misfits, rate_or_varying, rate_said, repeats, said, stands_twice, takes_sign};
+ghost use Rattle.isp_types.specs.Words.{contradicts, elem_said, excludes, is_constant, base_elem, unsigned_elem, has_rate, has_sign, has_unsigned, is_const, is_signed, is_uniform, is_unsigned, is_varying, is_void, misfits, rate_or_varying, rate_said, repeats, said, stands_twice, takes_sign, answer_said, type_declared, value_said};
 
-use isp_base::{Elem, Rate};
+use isp_base::{Elem, Rate, Ty};
 use isp_lex::{Fault, Rule};
 use isp_tree::{Base, Qualifier, TypeWords};
 use isp_typed::Verdict;
@@ -235,5 +235,51 @@ pub fn rate_or_varying(rate: Option<Rate>) -> Rate
     match rate {
         None => Rate::Varying,
         Some(rate) => rate,
+    }
+}
+
+/// What the words of a value's type say. 22 Mismatch at them where they contradict each other or say `void`.
+pub fn value_said(ty: &TypeWords) -> Verdict<ValueWords>
+    ensures { result ≡ value_said (type_of ty.now) }
+{
+    match type_said(ty) {
+        Ok(words) => match words.elem {
+            Some(elem) => Ok(ValueWords {
+                constant: words.constant,
+                rate: words.rate,
+                elem,
+            }),
+            None => Err(Fault {
+                rule: Rule::Mismatch,
+                span: ty.span,
+            }),
+        },
+        Err(fault) => Err(fault),
+    }
+}
+
+/// The type of a declared variable.
+pub fn type_declared(words: ValueWords) -> Ty
+    ensures { result ≡ type_declared words }
+{
+    Ty {
+        rate: rate_or_varying(words.rate),
+        elem: words.elem,
+    }
+}
+
+/// The type of a function's result, if it has one. 22 Mismatch at the words where they contradict each other.
+pub fn answer_said(ty: &TypeWords) -> Verdict<Option<Ty>>
+    ensures { result ≡ answer_said (type_of ty.now) }
+{
+    match type_said(ty) {
+        Ok(words) => match words.elem {
+            Some(elem) => Ok(Some(Ty {
+                rate: rate_or_varying(words.rate),
+                elem,
+            })),
+            None => Ok(None),
+        },
+        Err(fault) => Err(fault),
     }
 }
