@@ -14,9 +14,9 @@ use Rattle.isp_types.specs.declared.scope.Binding.{Binding}
 use Rattle.isp_types.specs.Words.{value_said, answer_said}
 use Rattle.isp_types.specs.Scopes.{is_new, with_name}
 use Rattle.isp_types.specs.Calls.{Heading}
-use Rattle.isp_types.specs.Rules.{pair_then}
+use Rattle.isp_types.specs.Rules.{second, pair_then}
 use Rattle.isp_types.specs.Statements.{declared}
-use Rattle.isp_types.specs.Functions.{param_variable, param_fits, heading, is_free, function_made, second, program_made, IsBody, BodyBreach, AreFunctions, FunctionsBreach, IsProgram, Breach}
+use Rattle.isp_types.specs.Functions.{param_variable, param_fits, heading, is_free, function_made, program_made, IsBody, BodyBreach, AreFunctions, FunctionsBreach, IsProgram, Breach}
 use Rattle.isp_types.specs.reader.JudgeFunctions.{judge_body, judge_functions, judge_program}
 use Rattle.isp_types.proofs.Stmts.{block_right}
 

@@ -40,7 +40,7 @@ use Rattle.isp_types.specs.Scopes.{named, is_new, with_name}
 use Rattle.isp_types.specs.Values.{elem_of, converted}
 use Rattle.isp_types.specs.Places.{mismatch, variable_target, element_target}
 use Rattle.isp_types.specs.Calls.{Heading, Called, gives, runs}
-use Rattle.isp_types.specs.Rules.{callee_at, pair_then, ExprBreach}
+use Rattle.isp_types.specs.Rules.{second, callee_at, pair_then, ExprBreach}
 use Rattle.isp_types.specs.Statements.{or_nothing, declared, array_sized, item_names, item_variables, first_names, first_variables, index, active_index, range_names, range_variables, names_after, variables_after, with_initial, sized_item, as_test, stated, assigned, stepped, range_made, places, agrees, as_answer}
 use Rattle.isp_types.specs.Statements.{no_place, declared_first, declared_stmt, simple_stmt, if_stmt, if_else_stmt, while_stmt, do_stmt, for_stmt, foreach_stmt, active_stmt, unmasked_stmt, return_stmt, print_stmt, assert_stmt, braces_made, stmts_made}
 use Rattle.isp_types.specs.Statements.{IsItem, ItemBreach, AreItems, ItemsBreach, IsDeclaration, DeclarationBreach, IsTarget, TargetBreach, IsSimple, SimpleBreach, IsFirst, FirstBreach, IsTest, AreRanges, RangesBreach, AreValues, ValuesBreach, IsReturned, ReturnedBreach, IsStmt, StmtBreach, IsBlock, BlockBreach, AreStmts, StmtsBreach}
@@ -65,7 +65,7 @@ module _ (gang : Gang) (hs : List Heading) where
 
   declaration_right : (ns : List Binding) (start : ℕ) (vars : List Variable) (d : Declaration)
       → Right (judge_declaration gang hs ns start vars d) (IsDeclaration gang hs ns start vars d) (DeclarationBreach gang hs ns start vars d)
-  declaration_right ns start vars d = made_right (λ p. p.1) _ _ _ (both_right _ _ _ _ _ _ (given_right (value_said d.ty)) (items_right (value_said d.ty) start ns vars d.items))
+  declaration_right ns start vars d = made_right second _ _ _ (both_right _ _ _ _ _ _ (given_right (value_said d.ty)) (items_right (value_said d.ty) start ns vars d.items))
 
   target_right : (ns : List Binding) (x : Expr) → Right (judge_target gang hs ns x) (IsTarget gang hs ns x) (TargetBreach gang hs ns x)
   target_right ns (place (variable w)) = found_right (variable_target w.span) _ _ _ (given_right (named ns w))

@@ -39,20 +39,33 @@ pub record Heading : Type 0 where
 
 -- ---- what a name calls
 
--- the library's functions by their names
-abbrev pub library : List (List ℕ × Callee)
-library =
+-- the library's functions by their names: those that look at the whole gang, and those by instance
+abbrev pub cross_library : List (List ℕ × Callee)
+cross_library =
     (codes "reduce_add", OfLibrary the.ReduceAdd) ∷ (codes "reduce_min", OfLibrary the.ReduceMin) ∷ (codes "reduce_max", OfLibrary the.ReduceMax)
     ∷ (codes "reduce_equal", OfLibrary the.ReduceEqual) ∷ (codes "any", OfLibrary the.Any) ∷ (codes "all", OfLibrary the.All) ∷ (codes "none", OfLibrary the.None)
-    ∷ (codes "exclusive_scan_add", OfLibrary the.ScanAdd) ∷ (codes "exclusive_scan_and", OfLibrary the.ScanAnd) ∷ (codes "exclusive_scan_or", OfLibrary the.ScanOr)
-    ∷ (codes "broadcast", OfLibrary the.Broadcast) ∷ (codes "rotate", OfLibrary the.Rotate) ∷ (codes "shift", OfLibrary the.Shift)
+    ∷ (codes "exclusive_scan_add", OfLibrary the.ScanAdd) ∷ (codes "exclusive_scan_and", OfLibrary the.ScanAnd) ∷ (codes "exclusive_scan_or", OfLibrary the.ScanOr) ∷ []
+
+abbrev pub move_library : List (List ℕ × Callee)
+move_library =
+    (codes "broadcast", OfLibrary the.Broadcast) ∷ (codes "rotate", OfLibrary the.Rotate) ∷ (codes "shift", OfLibrary the.Shift)
     ∷ (codes "shuffle", OfLibrary the.Shuffle) ∷ (codes "extract", OfLibrary the.Extract) ∷ (codes "insert", OfLibrary the.Insert)
-    ∷ (codes "packed_store_active", PackedStore) ∷ (codes "packed_load_active", PackedLoad)
-    ∷ (codes "min", OfLibrary the.Min) ∷ (codes "max", OfLibrary the.Max) ∷ (codes "clamp", OfLibrary the.Clamp) ∷ (codes "abs", OfLibrary the.Abs)
+    ∷ (codes "packed_store_active", PackedStore) ∷ (codes "packed_load_active", PackedLoad) ∷ []
+
+abbrev pub instance_library : List (List ℕ × Callee)
+instance_library =
+    (codes "min", OfLibrary the.Min) ∷ (codes "max", OfLibrary the.Max) ∷ (codes "clamp", OfLibrary the.Clamp) ∷ (codes "abs", OfLibrary the.Abs)
     ∷ (codes "select", OfLibrary the.Select) ∷ []
 
+abbrev pub named_in : List (List ℕ × Callee) → List ℕ → Option Callee
+named_in entries w = option_map (λ e. e.1) (find (λ e. bytes_eq e.0 w) entries)
+
+abbrev pub or_else : {A : Type 0} → Option A → Option A → Option A
+or_else (Some a) o = Some a
+or_else None o = o
+
 abbrev pub library_named : List ℕ → Option Callee
-library_named w = option_map (λ e. e.1) (find (λ e. bytes_eq e.0 w) library)
+library_named w = or_else (named_in cross_library w) (or_else (named_in move_library w) (named_in instance_library w))
 
 -- `shuffle` of three arguments is of two values
 abbrev pub by_count : ℕ → Callee → Callee

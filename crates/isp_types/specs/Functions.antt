@@ -4,6 +4,7 @@ use Rattle.std.specs.List.{list_any}
 use Rattle.isp_base.specs.declared.types.Gang.{Gang}
 use Rattle.isp_base.specs.declared.types.Rate.{Rate}
 use Rattle.isp_base.specs.declared.types.Rate.TheVariants.{Uniform, Varying}
+use Rattle.isp_base.specs.declared.types.Span.{Span}
 use Rattle.isp_base.specs.declared.types.Ty.{Ty}
 use Rattle.isp_base.specs.declared.signature.Parameter.{Parameter}
 use Rattle.isp_lex.specs.declared.fault.Fault.{Fault}
@@ -23,7 +24,7 @@ use Rattle.isp_types.specs.declared.words.ValueWords.{ValueWords}
 use Rattle.isp_types.specs.Words.{value_said, answer_said, rate_or_varying, type_declared}
 use Rattle.isp_types.specs.Scopes.{is_new, with_name}
 use Rattle.isp_types.specs.Calls.{Heading, library_named}
-use Rattle.isp_types.specs.Rules.{pair_then}
+use Rattle.isp_types.specs.Rules.{second, pair_then}
 use Rattle.isp_types.specs.Statements.{or_nothing, declared, value_variable, block_variables, IsBlock, BlockBreach}
 
 -- ---- parameters
@@ -32,12 +33,12 @@ abbrev pub param_words : Param → ValueWords
 param_words p = or_nothing (value_said p.ty)
 
 -- what a parameter holds: a value, or an array by reference
+abbrev pub variable_for : Bool → ValueWords → Variable
+variable_for true w = record { holds = holds.Given w.elem; constant = w.constant }
+variable_for false w = value_variable w
+
 abbrev pub param_variable : Param → Variable
-param_variable p = held p.is_array (param_words p)
-  where
-    held : Bool → ValueWords → Variable
-    held true w = record { holds = holds.Given w.elem; constant = w.constant }
-    held false w = value_variable w
+param_variable p = variable_for p.is_array (param_words p)
 
 -- what it asks of an argument; nothing where its type is not found
 abbrev pub param_want : Param → Want
@@ -82,6 +83,10 @@ is_export l = false
 abbrev pub variables_of : Gang → Function → List Variable
 variables_of gang f = block_variables gang (map param_variable f.params) f.body
 
+-- where the name of a parameter stands
+abbrev pub param_span : Param → Span
+param_span p = p.word.span
+
 abbrev pub function_made : Gang → Function → Option Ty × TBlock → TFunction
 function_made gang f p = record {
   name = f.word.name;
@@ -89,14 +94,11 @@ function_made gang f p = record {
   exported = list_any is_export f.linkages;
   parameters = map parameter_of f.params;
   gives = option_map (λ t. t.elem) p.0;
-  params = map (λ q. q.word.span) f.params;
+  params = map param_span f.params;
   answer = p.0;
   variables = variables_of gang f;
   body = p.1;
 }
-
-abbrev pub second : {A B : Type 0} → A × B → B
-second p = p.1
 
 module _ (gang : Gang) (hs : List Heading) where
   -- Parameters and the body's outermost declarations are one scope.

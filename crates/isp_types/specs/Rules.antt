@@ -30,6 +30,9 @@ handed_reference s k = h_name k s
 abbrev pub handed_element : Span → Known × TExpr → Handed
 handed_element s p = h_element p.0 s p.1
 
+abbrev pub second : {A B : Type 0} → A × B → B
+second p = p.1
+
 abbrev pub pair_then : {A : Type 0} → A × List A → List A
 pair_then p = p.0 ∷ p.1
 

@@ -41,7 +41,7 @@ use Rattle.isp_types.specs.Scopes.{named, is_new, with_name}
 use Rattle.isp_types.specs.Values.{elem_of, converted}
 use Rattle.isp_types.specs.Places.{mismatch, variable_target, element_target}
 use Rattle.isp_types.specs.Calls.{Heading, Called, gives, runs}
-use Rattle.isp_types.specs.Rules.{callee_at, IsCall, CallBreach, IsExpr, ExprBreach, AreArguments, ArgumentsBreach, pair_then}
+use Rattle.isp_types.specs.Rules.{second, callee_at, IsCall, CallBreach, IsExpr, ExprBreach, AreArguments, ArgumentsBreach, pair_then}
 
 -- ---- declarations
 
@@ -192,12 +192,12 @@ assignment_operator with.Xor = Some bin.Xor
 assignment_operator with.ShiftLeft = Some bin.Shl
 assignment_operator with.ShiftRight = Some bin.Shr
 
+abbrev pub assigned_by : Option BinOp → Span → TPlace × TExpr → TSimple
+assigned_by None s p = t_assign p.0 (converted (place_type p.0).elem p.1) s
+assigned_by (Some op) s p = updated op s p
+
 abbrev pub assigned : Assignment → Span → TPlace × TExpr → TSimple
-assigned a s p = by_operator (assignment_operator a)
-  where
-    by_operator : Option BinOp → TSimple
-    by_operator None = t_assign p.0 (converted (place_type p.0).elem p.1) s
-    by_operator (Some op) = updated op s p
+assigned a = assigned_by (assignment_operator a)
 
 -- `x++` is `x += 1`, where 1 is an int32
 abbrev pub change_operator : Change → BinOp
@@ -306,7 +306,7 @@ module _ (gang : Gang) (hs : List Heading) where
     ItemsBreach ns vars (i ∷ is) = Either (ItemBreach ns vars i) (ItemsBreach (item_names gang r ns vars i) (item_variables gang r vars i) is)
 
   abbrev pub IsDeclaration : List Binding → ℕ → List Variable → Declaration → List TItem → Type 0
-  IsDeclaration ns start vars d = Made (λ p. p.1) (Both (Given (value_said d.ty)) (AreItems (value_said d.ty) start ns vars d.items))
+  IsDeclaration ns start vars d = Made second (Both (Given (value_said d.ty)) (AreItems (value_said d.ty) start ns vars d.items))
 
   -- 22 at words that contradict each other
   abbrev pub DeclarationBreach : List Binding → ℕ → List Variable → Declaration → Fault → Type 0

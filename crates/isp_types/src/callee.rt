@@ -1,6 +1,6 @@
 //! What a call's name means, and what it asks of each argument.
 ghost use Rattle.std.specs.Prelude.{◌≡◌, ℕ, IfOk, OnOk, OnErr, option_map, ◌++◌, ◌∷◌, [], map};
-ghost use Rattle.isp_types.specs.Calls.{by_count, callee, function_from, library_named, library_wants, unless_unknown};
+ghost use Rattle.isp_types.specs.Calls.{by_count, callee, counted, cross_library, function_from, instance_library, library_named, library_wants, move_library, named_in, unless_unknown};
 ghost use Rattle.isp_types.specs.reader.Headings.{heading_of};
 
 use isp_base::{Elem, Name, Ty};
@@ -75,11 +75,11 @@ impl Model for Headers {
     ghost invariant = { λ h. (w : List ℕ) → get_by_text h.numbers w ≡ option_map (λ f. f.0) (function_from w 0 (headings_of h.all.items)) };
 }
 
-/// What the library calls by a name.
-pub fn library_named(name: &Name) -> Option<Callee>
-    ensures { result ≡ library_named name.now }
+/// What the library calls by a name, of what looks at the whole gang.
+fn cross_named(name: &str) -> Option<Callee>
+    ensures { result ≡ named_in cross_library name.now }
 {
-    match name.as_str() {
+    match name {
         "reduce_add" => Some(Callee::Library(Library::ReduceAdd)),
         "reduce_min" => Some(Callee::Library(Library::ReduceMin)),
         "reduce_max" => Some(Callee::Library(Library::ReduceMax)),
@@ -90,6 +90,15 @@ pub fn library_named(name: &Name) -> Option<Callee>
         "exclusive_scan_add" => Some(Callee::Library(Library::ScanAdd)),
         "exclusive_scan_and" => Some(Callee::Library(Library::ScanAnd)),
         "exclusive_scan_or" => Some(Callee::Library(Library::ScanOr)),
+        _ => None,
+    }
+}
+
+/// What the library calls by a name, of what moves values between instances.
+fn move_named(name: &str) -> Option<Callee>
+    ensures { result ≡ named_in move_library name.now }
+{
+    match name {
         "broadcast" => Some(Callee::Library(Library::Broadcast)),
         "rotate" => Some(Callee::Library(Library::Rotate)),
         "shift" => Some(Callee::Library(Library::Shift)),
@@ -98,12 +107,35 @@ pub fn library_named(name: &Name) -> Option<Callee>
         "insert" => Some(Callee::Library(Library::Insert)),
         "packed_store_active" => Some(Callee::PackedStore),
         "packed_load_active" => Some(Callee::PackedLoad),
+        _ => None,
+    }
+}
+
+/// What the library calls by a name, of what goes by instance.
+fn instance_named(name: &str) -> Option<Callee>
+    ensures { result ≡ named_in instance_library name.now }
+{
+    match name {
         "min" => Some(Callee::Library(Library::Min)),
         "max" => Some(Callee::Library(Library::Max)),
         "clamp" => Some(Callee::Library(Library::Clamp)),
         "abs" => Some(Callee::Library(Library::Abs)),
         "select" => Some(Callee::Library(Library::Select)),
         _ => None,
+    }
+}
+
+/// What the library calls by a name.
+pub fn library_named(name: &Name) -> Option<Callee>
+    ensures { result ≡ library_named name.now }
+{
+    let name = name.as_str();
+    match cross_named(name) {
+        Some(callee) => Some(callee),
+        None => match move_named(name) {
+            Some(callee) => Some(callee),
+            None => instance_named(name),
+        },
     }
 }
 

@@ -1,4 +1,14 @@
 //! Declarations.
+ghost use Rattle.std.specs.Prelude.{◌≡◌, IfOk, map};
+ghost use Rattle.isp_tree.specs.Views.{declaration_of as read_declaration, item_of as read_item, type_of as read_type};
+ghost use Rattle.isp_tree.specs.Tree.{all, ty};
+ghost use Rattle.isp_typed.specs.Verdicts.{both, made};
+ghost use Rattle.isp_typed.specs.Views.{expr_of, item_of, items_of};
+ghost use Rattle.isp_types.specs.Rules.{second};
+ghost use Rattle.isp_types.specs.Statements.{array_sized, declared, item_names, item_variable, item_variables, item_word, items_names, items_variables, or_nothing, size_number, sized_item, value_variable, with_initial};
+ghost use Rattle.isp_types.specs.Words.{value_said};
+ghost use Rattle.isp_types.specs.reader.JudgeStmts.{judge_declaration, judge_item, judge_items, twice};
+ghost use Rattle.isp_types.specs.reader.Lists.{and_one, judge_item_with, known_next};
 
 use crate::expr::{Setting, expr};
 use crate::places::mismatch;
@@ -14,7 +24,9 @@ use isp_typed::{
 use std::alloc::{AllocError, Global};
 
 /// Words that contradict each other say nothing: varying int32 stands in their place, in no accepted program.
-pub fn or_nothing(words: Verdict<ValueWords>) -> ValueWords {
+pub fn or_nothing(words: Verdict<ValueWords>) -> ValueWords
+    ensures { result ≡ or_nothing words }
+{
     match words {
         Ok(words) => words,
         Err(_) => ValueWords {
@@ -26,7 +38,9 @@ pub fn or_nothing(words: Verdict<ValueWords>) -> ValueWords {
 }
 
 /// What the next variable's name stands for: the variable, or the fault of the words of its type.
-pub fn declared(words: Verdict<ValueWords>, number: usize, variable: Variable) -> Verdict<Known> {
+pub fn declared(words: Verdict<ValueWords>, number: usize, variable: Variable) -> Verdict<Known>
+    ensures { result ≡ known_next number (declared words variable) }
+{
     match words {
         Ok(_) => Ok(Known { number, variable }),
         Err(fault) => Err(fault),
@@ -34,7 +48,9 @@ pub fn declared(words: Verdict<ValueWords>, number: usize, variable: Variable) -
 }
 
 /// The fault of a name that stands in its scope already.
-pub fn twice(scope: &Scope, start: usize, word: &Word) -> Option<Fault> {
+pub fn twice(scope: &Scope, start: usize, word: &Word) -> Option<Fault>
+    ensures { result ≡ twice word.now start scope.now }
+{
     unless(
         scope.is_new(&word.name, start),
         Fault {
@@ -44,7 +60,9 @@ pub fn twice(scope: &Scope, start: usize, word: &Word) -> Option<Fault> {
     )
 }
 
-fn size_number(gang: Gang, size: Size) -> u64 {
+fn size_number(gang: Gang, size: Size) -> u64
+    ensures { result ≡ size_number gang size }
+{
     match size {
         Size::Number { value, .. } => value.bits,
         Size::ProgramCount { .. } => gang.width() as u64,
@@ -52,14 +70,18 @@ fn size_number(gang: Gang, size: Size) -> u64 {
 }
 
 /// A variable that holds a value.
-pub fn value_variable(words: ValueWords) -> Variable {
+pub fn value_variable(words: ValueWords) -> Variable
+    ensures { result ≡ value_variable words }
+{
     Variable {
         holds: Holds::Value(type_declared(words)),
         constant: words.constant,
     }
 }
 
-fn item_word(item: &Item) -> &Word {
+fn item_word(item: &Item) -> &Word
+    ensures { result.now ≡ item_word (read_item item.now) }
+{
     match item {
         Item::Plain(word) => word,
         Item::Value { word, .. } | Item::Array { word, .. } => word,
@@ -67,7 +89,9 @@ fn item_word(item: &Item) -> &Word {
 }
 
 /// The variable that an item declares.
-fn item_variable(gang: Gang, words: ValueWords, item: &Item) -> Variable {
+fn item_variable(gang: Gang, words: ValueWords, item: &Item) -> Variable
+    ensures { result ≡ item_variable gang words (read_item item.now) }
+{
     match item {
         Item::Plain(_) | Item::Value { .. } => value_variable(words),
         Item::Array { size, .. } => Variable {
@@ -78,7 +102,9 @@ fn item_variable(gang: Gang, words: ValueWords, item: &Item) -> Variable {
 }
 
 /// A local array, of 1 to 65,536 elements. 22 Mismatch at another size.
-fn array_sized(gang: Gang, number: usize, words: ValueWords, size: Size) -> Verdict<ArrayVariable> {
+fn array_sized(gang: Gang, number: usize, words: ValueWords, size: Size) -> Verdict<ArrayVariable>
+    ensures { result ≡ array_sized gang number words size }
+{
     let count = size_number(gang, size);
     if 0 < count && count < 65_537 {
         Ok(ArrayVariable {
@@ -97,7 +123,9 @@ fn with_initial(
     ty: Ty,
     value: Verdict<TypedExpr>,
     span: Span,
-) -> Result<Verdict<TypedItem>, AllocError> {
+) -> Result<Verdict<TypedItem>, AllocError>
+    ensures { IfOk result (λ v. made item_of v ≡ made (with_initial number ty span) (made expr_of value)) }
+{
     match value {
         Ok(value) => {
             let value = converted(alloc, ty.elem, value)?;
@@ -112,7 +140,9 @@ fn with_initial(
     }
 }
 
-fn sized_item(array: Verdict<ArrayVariable>, span: Span) -> Verdict<TypedItem> {
+fn sized_item(array: Verdict<ArrayVariable>, span: Span) -> Verdict<TypedItem>
+    ensures { made item_of result ≡ made (sized_item span) array }
+{
     match array {
         Ok(array) => Ok(TypedItem::Array { array, span }),
         Err(fault) => Err(fault),
@@ -127,7 +157,9 @@ fn item(
     number: usize,
     words: ValueWords,
     item: &Item,
-) -> Result<Verdict<TypedItem>, AllocError> {
+) -> Result<Verdict<TypedItem>, AllocError>
+    ensures { IfOk result (λ v. made item_of v ≡ judge_item_with setting.now.gang setting.now.headers.now scope.now seen number words (read_item item.now)) }
+{
     match item {
         Item::Plain(word) => Ok(beside(
             seen,
@@ -156,7 +188,11 @@ fn declare(
     variables: &mut Vec<Variable>,
     words: Verdict<ValueWords>,
     declared_item: &Item,
-) -> Result<Verdict<TypedItem>, AllocError> {
+) -> Result<Verdict<TypedItem>, AllocError>
+    ensures value { IfOk result (λ v. made item_of v ≡ judge_item setting.now.gang setting.now.headers.now words start scope.old variables.old.items (read_item declared_item.now)) }
+    ensures names { IfOk result (λ v. scope.new ≡ item_names setting.now.gang words scope.old variables.old.items (read_item declared_item.now)) }
+    ensures variables { IfOk result (λ v. variables.new.items ≡ item_variables setting.now.gang words variables.old.items (read_item declared_item.now)) }
+{
     let word = item_word(declared_item);
     let seen = twice(scope, start, word);
     let number = variables.len();
@@ -171,7 +207,9 @@ fn declare(
 fn push(
     so_far: Verdict<Vec<TypedItem>>,
     part: Verdict<TypedItem>,
-) -> Result<Verdict<Vec<TypedItem>>, AllocError> {
+) -> Result<Verdict<Vec<TypedItem>>, AllocError>
+    ensures { IfOk result (λ v. made (λ l. items_of l.items) v ≡ made and_one (both (made (λ l. items_of l.items) so_far) (made item_of part))) }
+{
     match both(so_far, part) {
         Ok((mut all, typed)) => {
             all.push(typed)?;
@@ -188,7 +226,11 @@ fn items(
     variables: &mut Vec<Variable>,
     words: Verdict<ValueWords>,
     all: &[Item],
-) -> Result<Verdict<Vec<TypedItem>>, AllocError> {
+) -> Result<Verdict<Vec<TypedItem>>, AllocError>
+    ensures value { IfOk result (λ v. made (λ l. items_of l.items) v ≡ judge_items setting.now.gang setting.now.headers.now words start scope.old variables.old.items (map read_item all.now)) }
+    ensures names { IfOk result (λ v. scope.new ≡ items_names setting.now.gang words scope.old variables.old.items (map read_item all.now)) }
+    ensures variables { IfOk result (λ v. variables.new.items ≡ items_variables setting.now.gang words variables.old.items (map read_item all.now)) }
+{
     let mut done = Ok(Vec::new(setting.alloc));
     for x in all {
         let part = declare(setting, scope, start, variables, words, x)?;
@@ -200,7 +242,9 @@ fn items(
 fn behind_words(
     words: Verdict<ValueWords>,
     items: Verdict<Vec<TypedItem>>,
-) -> Verdict<Vec<TypedItem>> {
+) -> Verdict<Vec<TypedItem>>
+    ensures { made (λ l. items_of l.items) result ≡ made second (both words (made (λ l. items_of l.items) items)) }
+{
     match both(words, items) {
         Ok((_, items)) => Ok(items),
         Err(fault) => Err(fault),
@@ -214,7 +258,11 @@ pub fn declaration(
     start: usize,
     variables: &mut Vec<Variable>,
     d: &Declaration,
-) -> Result<Verdict<Vec<TypedItem>>, AllocError> {
+) -> Result<Verdict<Vec<TypedItem>>, AllocError>
+    ensures value { IfOk result (λ v. made (λ l. items_of l.items) v ≡ judge_declaration setting.now.gang setting.now.headers.now scope.old start variables.old.items (read_declaration d.now)) }
+    ensures names { IfOk result (λ v. scope.new ≡ items_names setting.now.gang (value_said (read_type d.now.ty)) scope.old variables.old.items (map read_item d.now.items.items)) }
+    ensures variables { IfOk result (λ v. variables.new.items ≡ items_variables setting.now.gang (value_said (read_type d.now.ty)) variables.old.items (map read_item d.now.items.items)) }
+{
     let words = value_said(&d.ty);
     let items = items(setting, scope, start, variables, words, &d.items)?;
     Ok(behind_words(words, items))

@@ -7,6 +7,18 @@ ghost use Rattle.isp_typed.specs.Views.{expr_of, place_of};
 ghost use Rattle.isp_types.specs.Rules.{callee_at};
 ghost use Rattle.isp_types.specs.reader.Parts.{called_of, handed_of, list_passed, passed_of};
 ghost use Rattle.isp_types.specs.reader.Judge.{judge, judge_argument, judge_arguments, judge_call, judge_place};
+ghost use Rattle.std.specs.Prelude.{◌≡◌, IfOk, drop};
+ghost use Rattle.isp_tree.specs.Views.{argument_of as read_argument, arguments_of as read_arguments, expr_of as read_expr, place_of as read_place};
+ghost use Rattle.isp_tree.specs.Tree.{all, listed};
+ghost use Rattle.isp_typed.specs.Typed.{t_place};
+ghost use Rattle.isp_typed.specs.Verdicts.{both, made};
+ghost use Rattle.isp_typed.specs.Views.{expr_of, place_of};
+ghost use Rattle.isp_types.specs.Calls.{first_want, h_value, wants};
+ghost use Rattle.isp_types.specs.Rules.{handed_element, handed_reference};
+ghost use Rattle.isp_types.specs.Statements.{index};
+ghost use Rattle.isp_types.specs.reader.Judge.{judge, judge_argument, judge_arguments, judge_place};
+ghost use Rattle.isp_types.specs.reader.Lists.{and_one, judged_call};
+ghost use Rattle.isp_types.specs.reader.Parts.{called_of, handed_of, list_passed, passed_of};
 
 use crate::call::{
     Called, Handed, Passed, call_of, handed_call, handed_name, suits, value_called,
@@ -33,6 +45,7 @@ pub struct Setting<'a> {
 
 /// A place as an expression.
 fn of_place(place: Verdict<TypedPlace>) -> Verdict<TypedExpr>
+    ensures { made expr_of result ≡ made t_place (made place_of place) }
 {
     match place {
         Ok(place) => Ok(TypedExpr::Place(place)),
@@ -42,6 +55,7 @@ fn of_place(place: Verdict<TypedPlace>) -> Verdict<TypedExpr>
 
 /// A value as an argument.
 fn handed_value(value: Verdict<TypedExpr>) -> Verdict<Handed>
+    ensures { made handed_of result ≡ made h_value (made expr_of value) }
 {
     match value {
         Ok(value) => Ok(Handed::Value(value)),
@@ -51,6 +65,7 @@ fn handed_value(value: Verdict<TypedExpr>) -> Verdict<Handed>
 
 /// `&x` as an argument.
 fn handed_reference(known: Verdict<Known>, span: Span) -> Verdict<Handed>
+    ensures { made handed_of result ≡ made (handed_reference span) known }
 {
     match known {
         Ok(known) => Ok(Handed::Name(known, span)),
@@ -60,6 +75,7 @@ fn handed_reference(known: Verdict<Known>, span: Span) -> Verdict<Handed>
 
 /// `&a[e]` as an argument.
 fn handed_element(known: Verdict<Known>, index: Verdict<TypedExpr>, span: Span) -> Verdict<Handed>
+    ensures { made handed_of result ≡ made (handed_element span) (both known (made expr_of index)) }
 {
     match both(known, index) {
         Ok((known, index)) => Ok(Handed::Element(known, span, index)),
@@ -69,6 +85,7 @@ fn handed_element(known: Verdict<Known>, index: Verdict<TypedExpr>, span: Span) 
 
 /// What is asked in a place; past the last, anything is let through.
 fn want_at(wants: &[Want], place: usize) -> Want
+    ensures { result ≡ first_want (drop place wants.now) }
 {
     match wants.get(place) {
         Some(want) => *want,
@@ -81,6 +98,7 @@ fn push(
     so_far: Verdict<Vec<Passed>>,
     part: Verdict<Passed>,
 ) -> Result<Verdict<Vec<Passed>>, AllocError>
+    ensures { IfOk result (λ v. made (λ l. list_passed l.items) v ≡ made and_one (both (made (λ l. list_passed l.items) so_far) (made passed_of part))) }
 {
     match both(so_far, part) {
         Ok((mut all, passed)) => {
@@ -98,6 +116,7 @@ pub fn place(
     scope: &Scope,
     p: &Place,
 ) -> Result<Verdict<TypedPlace>, AllocError>
+    ensures { IfOk result (λ v. made place_of v ≡ judge_place setting.now.gang setting.now.headers.now scope.now (read_place p.now)) }
 {
     match p {
         Place::Variable(word) => Ok(variable_at(scope.named(word), word.span)),
@@ -115,6 +134,7 @@ fn argument(
     scope: &Scope,
     x: &Argument,
 ) -> Result<Verdict<Handed>, AllocError>
+    ensures { IfOk result (λ v. made handed_of v ≡ judge_argument setting.now.gang setting.now.headers.now scope.now (read_argument x.now)) }
 {
     match x {
         Argument::Value(Expr::Place(Place::Variable(word))) =>
@@ -153,6 +173,7 @@ fn arguments(
     wants: &[Want],
     all: &[Argument],
 ) -> Result<Verdict<Vec<Passed>>, AllocError>
+    ensures { IfOk result (λ v. made (λ l. list_passed l.items) v ≡ judge_arguments setting.now.gang setting.now.headers.now scope.now wants.now (listed (read_arguments all.now))) }
 {
     let mut done = Ok(Vec::new(setting.alloc));
     for (place, x) in all.iter().enumerate() {
@@ -172,6 +193,7 @@ pub fn call(
     all: &[Argument],
     span: Span,
 ) -> Result<Verdict<Called>, AllocError>
+    ensures { IfOk result (λ v. made called_of v ≡ judged_call setting.now.gang setting.now.headers.now scope.now function.now (listed (read_arguments all.now)) span) }
 {
     let (callee, wants) = setting.headers.called(&function.name, all.len());
     let passed = arguments(setting, scope, wants, all)?;
@@ -181,6 +203,7 @@ pub fn call(
 /// An expression with its types, by the names in scope.
 #[cycle(expr)]
 pub fn expr(setting: &Setting, scope: &Scope, x: &Expr) -> Result<Verdict<TypedExpr>, AllocError>
+    ensures { IfOk result (λ v. made expr_of v ≡ judge setting.now.gang setting.now.headers.now scope.now (read_expr x.now)) }
 {
     let alloc = setting.alloc;
     match x {

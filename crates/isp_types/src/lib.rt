@@ -10,11 +10,11 @@ mod library;
 mod make;
 mod parts;
 mod places;
-mod resolve;
+mod program;
 mod scope;
 mod simple;
 mod stmt;
 mod values;
 mod words;
 
-pub use resolve::resolve;
+pub use program::resolve;

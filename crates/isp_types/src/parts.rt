@@ -1,4 +1,15 @@
 //! Parts of statements: tests, bounds, values that are printed or given back.
+ghost use Rattle.std.specs.Prelude.{◌≡◌, IfOk, length, map, option_map, ◌==◌};
+ghost use Rattle.isp_lex.specs.Faults.{fault};
+ghost use Rattle.isp_tree.specs.Views.{expr_of as read_expr, exprs_of as read_exprs, first_of as read_first, range_of as read_range, simple_of as read_simple};
+ghost use Rattle.isp_tree.specs.Tree.{all};
+ghost use Rattle.isp_typed.specs.Verdicts.{beside, both, fault_unless, found, made, perhaps};
+ghost use Rattle.isp_typed.specs.Views.{expr_of, exprs_of, first_of, range_of, ranges_of, simple_of};
+ghost use Rattle.isp_types.specs.Statements.{active_index, as_answer, first_names, first_variables, index, places, range_made, range_names, range_variables};
+ghost use Rattle.isp_types.specs.Values.{converted};
+ghost use Rattle.isp_types.specs.reader.Judge.{judge};
+ghost use Rattle.isp_types.specs.reader.JudgeStmts.{judge_first, judge_ranges, judge_returned, judge_simple, judge_test, judge_values};
+ghost use Rattle.isp_types.specs.reader.Lists.{agrees_with, and_one, judge_bounds};
 
 use crate::declaration::twice;
 use crate::expr::{Setting, expr};
@@ -19,7 +30,9 @@ fn converted_to(
     alloc: Global,
     elem: Elem,
     value: Verdict<TypedExpr>,
-) -> Result<Verdict<TypedExpr>, AllocError> {
+) -> Result<Verdict<TypedExpr>, AllocError>
+    ensures { IfOk result (λ v. made expr_of v ≡ made (converted elem) (made expr_of value)) }
+{
     match value {
         Ok(value) => Ok(Ok(converted(alloc, elem, value)?)),
         Err(fault) => Ok(Err(fault)),
@@ -27,12 +40,16 @@ fn converted_to(
 }
 
 /// A test, which is converted to bool.
-pub fn test(setting: &Setting, scope: &Scope, x: &Expr) -> Result<Verdict<TypedExpr>, AllocError> {
+pub fn test(setting: &Setting, scope: &Scope, x: &Expr) -> Result<Verdict<TypedExpr>, AllocError>
+    ensures { IfOk result (λ v. made expr_of v ≡ judge_test setting.now.gang setting.now.headers.now scope.now (read_expr x.now)) }
+{
     let value = expr(setting, scope, x)?;
     converted_to(setting.alloc, Elem::Bool, value)
 }
 
-fn some<T: Drop>(found: Verdict<T>) -> Verdict<Option<T>> {
+fn some<T: Drop>(found: Verdict<T>) -> Verdict<Option<T>>
+    ensures { result ≡ made (λ t. Some t) found }
+{
     match found {
         Ok(found) => Ok(Some(found)),
         Err(fault) => Err(fault),
@@ -44,7 +61,9 @@ pub fn test_if(
     setting: &Setting,
     scope: &Scope,
     x: &Option<Expr>,
-) -> Result<Verdict<Option<TypedExpr>>, AllocError> {
+) -> Result<Verdict<Option<TypedExpr>>, AllocError>
+    ensures { IfOk result (λ v. made (option_map expr_of) v ≡ perhaps (judge_test setting.now.gang setting.now.headers.now scope.now) (option_map read_expr x.now)) }
+{
     match x {
         None => Ok(Ok(None)),
         Some(x) => {
@@ -59,7 +78,9 @@ pub fn simple_if(
     setting: &Setting,
     scope: &Scope,
     x: &Option<Simple>,
-) -> Result<Verdict<Option<TypedSimple>>, AllocError> {
+) -> Result<Verdict<Option<TypedSimple>>, AllocError>
+    ensures { IfOk result (λ v. made (option_map simple_of) v ≡ perhaps (judge_simple setting.now.gang setting.now.headers.now scope.now) (option_map read_simple x.now)) }
+{
     match x {
         None => Ok(Ok(None)),
         Some(x) => {
@@ -76,7 +97,11 @@ pub fn first_if(
     start: usize,
     variables: &mut Vec<Variable>,
     x: &Option<First>,
-) -> Result<Verdict<Option<TypedFirst>>, AllocError> {
+) -> Result<Verdict<Option<TypedFirst>>, AllocError>
+    ensures value { IfOk result (λ v. made (option_map first_of) v ≡ perhaps (judge_first setting.now.gang setting.now.headers.now scope.old start variables.old.items) (option_map read_first x.now)) }
+    ensures names { IfOk result (λ v. scope.new ≡ first_names setting.now.gang scope.old variables.old.items (option_map read_first x.now)) }
+    ensures variables { IfOk result (λ v. variables.new.items ≡ first_variables setting.now.gang variables.old.items (option_map read_first x.now)) }
+{
     match x {
         None => Ok(Ok(None)),
         Some(x) => {
@@ -87,7 +112,9 @@ pub fn first_if(
 }
 
 /// The index of a `foreach`: a constant varying int32.
-fn index() -> Variable {
+fn index() -> Variable
+    ensures { result ≡ index }
+{
     Variable {
         holds: Holds::Value(Ty {
             rate: Rate::Varying,
@@ -98,7 +125,9 @@ fn index() -> Variable {
 }
 
 /// The index of a `foreach_active`: a constant uniform int64.
-pub fn active_index() -> Variable {
+pub fn active_index() -> Variable
+    ensures { result ≡ active_index }
+{
     Variable {
         holds: Holds::Value(Ty {
             rate: Rate::Uniform,
@@ -114,7 +143,9 @@ fn make_range(
     start: TypedExpr,
     end: TypedExpr,
     span: Span,
-) -> Result<TypedRange, AllocError> {
+) -> Result<TypedRange, AllocError>
+    ensures { IfOk result (λ r. range_of r ≡ range_made index span (expr_of start, expr_of end)) }
+{
     let start = converted(alloc, Elem::I32, start)?;
     let end = converted(alloc, Elem::I32, end)?;
     Ok(TypedRange {
@@ -131,7 +162,9 @@ fn range_made(
     index: usize,
     bounds: Verdict<(TypedExpr, TypedExpr)>,
     span: Span,
-) -> Result<Verdict<TypedRange>, AllocError> {
+) -> Result<Verdict<TypedRange>, AllocError>
+    ensures { IfOk result (λ v. made range_of v ≡ made (range_made index span) (made (λ p. (expr_of p.0, expr_of p.1)) bounds)) }
+{
     match bounds {
         Ok((start, end)) => Ok(Ok(make_range(alloc, index, start, end, span)?)),
         Err(fault) => Ok(Err(fault)),
@@ -143,7 +176,9 @@ fn bounds(
     setting: &Setting,
     scope: &Scope,
     r: &Range,
-) -> Result<Verdict<(TypedExpr, TypedExpr)>, AllocError> {
+) -> Result<Verdict<(TypedExpr, TypedExpr)>, AllocError>
+    ensures { IfOk result (λ v. made (λ p. (expr_of p.0, expr_of p.1)) v ≡ both (judge setting.now.gang setting.now.headers.now scope.now (read_expr r.now.start)) (judge setting.now.gang setting.now.headers.now scope.now (read_expr r.now.end))) }
+{
     let start = expr(setting, scope, &r.start)?;
     let end = expr(setting, scope, &r.end)?;
     Ok(both(start, end))
@@ -154,7 +189,9 @@ fn all_bounds(
     setting: &Setting,
     scope: &Scope,
     all: &[Range],
-) -> Result<Vec<Verdict<(TypedExpr, TypedExpr)>>, AllocError> {
+) -> Result<Vec<Verdict<(TypedExpr, TypedExpr)>>, AllocError>
+    ensures { IfOk result (λ l. map (made (λ p. (expr_of p.0, expr_of p.1))) l.items ≡ map (judge_bounds setting.now.gang setting.now.headers.now scope.now) (map read_range all.now)) }
+{
     let mut done = Vec::new(setting.alloc);
     for r in all {
         let part = bounds(setting, scope, r)?;
@@ -166,7 +203,9 @@ fn all_bounds(
 fn push_range(
     so_far: Verdict<Vec<TypedRange>>,
     part: Verdict<TypedRange>,
-) -> Result<Verdict<Vec<TypedRange>>, AllocError> {
+) -> Result<Verdict<Vec<TypedRange>>, AllocError>
+    ensures { IfOk result (λ v. made (λ l. ranges_of l.items) v ≡ made and_one (both (made (λ l. ranges_of l.items) so_far) (made range_of part))) }
+{
     match both(so_far, part) {
         Ok((mut all, typed)) => {
             all.push(typed)?;
@@ -182,7 +221,11 @@ pub fn ranges(
     scope: &mut Scope,
     variables: &mut Vec<Variable>,
     all: &[Range],
-) -> Result<Verdict<Vec<TypedRange>>, AllocError> {
+) -> Result<Verdict<Vec<TypedRange>>, AllocError>
+    ensures value { IfOk result (λ v. made (λ l. ranges_of l.items) v ≡ judge_ranges setting.now.gang setting.now.headers.now scope.old (length scope.old) scope.old variables.old.items (map read_range all.now)) }
+    ensures names { IfOk result (λ v. scope.new ≡ range_names scope.old variables.old.items (map read_range all.now)) }
+    ensures variables { IfOk result (λ v. variables.new.items ≡ range_variables variables.old.items (map read_range all.now)) }
+{
     let start = scope.len();
     let found = all_bounds(setting, scope, all)?;
     let mut done = Ok(Vec::new(setting.alloc));
@@ -201,7 +244,9 @@ pub fn ranges(
 fn push_value(
     so_far: Verdict<Vec<TypedExpr>>,
     part: Verdict<TypedExpr>,
-) -> Result<Verdict<Vec<TypedExpr>>, AllocError> {
+) -> Result<Verdict<Vec<TypedExpr>>, AllocError>
+    ensures { IfOk result (λ v. made (λ l. exprs_of l.items) v ≡ made and_one (both (made (λ l. exprs_of l.items) so_far) (made expr_of part))) }
+{
     match both(so_far, part) {
         Ok((mut all, typed)) => {
             all.push(typed)?;
@@ -216,7 +261,9 @@ fn values(
     setting: &Setting,
     scope: &Scope,
     all: &[Expr],
-) -> Result<Verdict<Vec<TypedExpr>>, AllocError> {
+) -> Result<Verdict<Vec<TypedExpr>>, AllocError>
+    ensures { IfOk result (λ v. made (λ l. exprs_of l.items) v ≡ judge_values setting.now.gang setting.now.headers.now scope.now (read_exprs all.now)) }
+{
     let mut done = Ok(Vec::new(setting.alloc));
     for x in all {
         let part = expr(setting, scope, x)?;
@@ -226,7 +273,9 @@ fn values(
 }
 
 /// How many places a text has for values.
-fn places(text: &Text) -> usize {
+fn places(text: &Text) -> usize
+    ensures { result ≡ places text.now }
+{
     text.as_slice().iter().filter(|c| **c == b'%').count()
 }
 
@@ -237,7 +286,9 @@ pub fn printed(
     text: &Text,
     text_span: Span,
     all: &[Expr],
-) -> Result<Verdict<Vec<TypedExpr>>, AllocError> {
+) -> Result<Verdict<Vec<TypedExpr>>, AllocError>
+    ensures { IfOk result (λ v. made (λ l. exprs_of l.items) v ≡ beside (fault_unless (places text.now == length all.now) (fault Rule.BadPrint text_span)) (judge_values setting.now.gang setting.now.headers.now scope.now (read_exprs all.now))) }
+{
     let seen = unless(
         places(text) == all.len(),
         Fault {
@@ -249,7 +300,9 @@ pub fn printed(
     Ok(beside(seen, found))
 }
 
-fn agrees(answer: Verdict<Option<Ty>>, has_value: bool) -> bool {
+fn agrees(answer: Verdict<Option<Ty>>, has_value: bool) -> bool
+    ensures { result ≡ agrees_with answer has_value }
+{
     match answer {
         Err(_) => true,
         Ok(None) => !has_value,
@@ -261,7 +314,9 @@ fn as_answer(
     alloc: Global,
     answer: Verdict<Option<Ty>>,
     value: Verdict<TypedExpr>,
-) -> Result<Verdict<TypedExpr>, AllocError> {
+) -> Result<Verdict<TypedExpr>, AllocError>
+    ensures { IfOk result (λ v. made expr_of v ≡ made (as_answer answer) (made expr_of value)) }
+{
     match answer {
         Ok(Some(ty)) => converted_to(alloc, ty.elem, value),
         _ => Ok(value),
@@ -276,7 +331,9 @@ pub fn returned(
     scope: &Scope,
     keyword: Span,
     x: &Option<Expr>,
-) -> Result<Verdict<Option<TypedExpr>>, AllocError> {
+) -> Result<Verdict<Option<TypedExpr>>, AllocError>
+    ensures { IfOk result (λ v. made (option_map expr_of) v ≡ judge_returned setting.now.gang setting.now.headers.now answer scope.now keyword (option_map read_expr x.now)) }
+{
     let seen = unless(agrees(answer, x.is_some()), mismatch(keyword));
     match x {
         None => Ok(beside(seen, Ok(None))),

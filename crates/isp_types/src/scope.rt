@@ -1,5 +1,5 @@
 //! The names in scope.
-ghost use Rattle.std.specs.Prelude.{◌≡◌, option_map, slice_get, OnErr, OnOk, ◌++◌, ◌∷◌, [], length, take, IfOk};
+ghost use Rattle.std.specs.Prelude.{◌≡◌, option_map, slice_get, OnErr, OnOk, ◌++◌, ◌∷◌, [], ◌-◌, length, take};
 ghost use Rattle.isp_types.specs.Scopes.{Meaning, is_new, named, visible, next_known, with_name};
 
 use isp_base::Name;
@@ -143,25 +143,32 @@ impl Scope {
         }
     }
 
+    /// The last name is gone, and what it hid is seen again.
+    fn pop(&mut self)
+        ensures { self.new ≡ take (length self.old - 1) self.old }
+    {
+        let hidden = self.hidden.pop();
+        let Some(binding) = self.names.pop() else {
+            return;
+        };
+        match hidden {
+            Some(Some(place)) => {
+                if let Some(known) = self.places.get_mut(binding.name.as_str()) {
+                    *known = place;
+                }
+            }
+            _ => {
+                self.places.remove(binding.name.as_str());
+            }
+        }
+    }
+
     /// Leaves a scope: the names from `start` on are gone.
     pub fn leave(&mut self, start: usize)
         ensures { self.new ≡ take start self.old }
     {
         while self.names.len() > start {
-            let binding = self.names.pop();
-            let before = self.hidden.pop();
-            if let (Some(binding), Some(before)) = (binding, before) {
-                match before {
-                    Some(place) => {
-                        if let Some(known) = self.places.get_mut(binding.name.as_str()) {
-                            *known = place;
-                        }
-                    }
-                    None => {
-                        self.places.remove(binding.name.as_str());
-                    }
-                }
-            }
+            self.pop();
         }
     }
 }

@@ -1,4 +1,12 @@
 //! What stands before a semicolon.
+ghost use Rattle.std.specs.Prelude.{◌≡◌, IfOk};
+ghost use Rattle.isp_tree.specs.Views.{expr_of as read_expr, first_of as read_first, simple_of as read_simple};
+ghost use Rattle.isp_typed.specs.Typed.{t_first_simple, t_value};
+ghost use Rattle.isp_typed.specs.Verdicts.{both, found, made};
+ghost use Rattle.isp_typed.specs.Views.{expr_of, first_of, items_of, place_of, simple_of};
+ghost use Rattle.isp_types.specs.Statements.{assigned, assigned_by, assignment_operator, change_operator, declared_first, first_names, first_variables, no_place, stated, stepped};
+ghost use Rattle.isp_types.specs.reader.JudgeStmts.{judge_first, judge_simple, judge_target};
+ghost use Rattle.isp_types.specs.reader.Parts.{called_of};
 
 use crate::call::Called;
 use crate::declaration::declaration;
@@ -13,7 +21,9 @@ use isp_typed::{
 };
 use std::alloc::{AllocError, Global};
 
-fn no_place(value: Verdict<TypedExpr>, span: Span) -> Verdict<TypedPlace> {
+fn no_place(value: Verdict<TypedExpr>, span: Span) -> Verdict<TypedPlace>
+    ensures { made place_of result ≡ found (no_place span) (made expr_of value) }
+{
     match value {
         Ok(_) => Err(mismatch(span)),
         Err(fault) => Err(fault),
@@ -25,7 +35,9 @@ fn target(
     setting: &Setting,
     scope: &Scope,
     x: &Expr,
-) -> Result<Verdict<TypedPlace>, AllocError> {
+) -> Result<Verdict<TypedPlace>, AllocError>
+    ensures { IfOk result (λ v. made place_of v ≡ judge_target setting.now.gang setting.now.headers.now scope.now (read_expr x.now)) }
+{
     match x {
         Expr::Place(Place::Variable(word)) => Ok(variable_target(scope.named(word), word.span)),
         Expr::Place(Place::Element { array, index, span }) => {
@@ -39,7 +51,9 @@ fn target(
     }
 }
 
-fn assignment_operator(assignment: Assignment) -> Option<BinOp> {
+fn assignment_operator(assignment: Assignment) -> Option<BinOp>
+    ensures { result ≡ assignment_operator assignment }
+{
     match assignment {
         Assignment::Replace => None,
         Assignment::Add => Some(BinOp::Add),
@@ -61,7 +75,9 @@ fn assign(
     target: TypedPlace,
     value: TypedExpr,
     span: Span,
-) -> Result<TypedSimple, AllocError> {
+) -> Result<TypedSimple, AllocError>
+    ensures { IfOk result (λ t. simple_of t ≡ assigned_by operator span (place_of target, expr_of value)) }
+{
     match operator {
         None => {
             let value = converted(alloc, target.ty().elem, value)?;
@@ -91,7 +107,9 @@ fn assigned(
     target: Verdict<TypedPlace>,
     value: Verdict<TypedExpr>,
     span: Span,
-) -> Result<Verdict<TypedSimple>, AllocError> {
+) -> Result<Verdict<TypedSimple>, AllocError>
+    ensures { IfOk result (λ v. made simple_of v ≡ made (assigned assignment span) (both (made place_of target) (made expr_of value))) }
+{
     match both(target, value) {
         Ok((target, value)) => Ok(Ok(assign(
             alloc,
@@ -104,14 +122,18 @@ fn assigned(
     }
 }
 
-fn change_operator(change: Change) -> BinOp {
+fn change_operator(change: Change) -> BinOp
+    ensures { result ≡ change_operator change }
+{
     match change {
         Change::Increment => BinOp::Add,
         Change::Decrement => BinOp::Sub,
     }
 }
 
-fn stepped(change: Change, target: Verdict<TypedPlace>, span: Span) -> Verdict<TypedSimple> {
+fn stepped(change: Change, target: Verdict<TypedPlace>, span: Span) -> Verdict<TypedSimple>
+    ensures { made simple_of result ≡ made (stepped change span) (made place_of target) }
+{
     match target {
         Ok(target) => {
             let elem = common(target.ty().elem, Elem::I32);
@@ -126,7 +148,9 @@ fn stepped(change: Change, target: Verdict<TypedPlace>, span: Span) -> Verdict<T
     }
 }
 
-fn stated(called: Verdict<Called>) -> Verdict<TypedSimple> {
+fn stated(called: Verdict<Called>) -> Verdict<TypedSimple>
+    ensures { made simple_of result ≡ made stated (made called_of called) }
+{
     match called {
         Ok(Called::Value(value)) => Ok(TypedSimple::Value(value)),
         Ok(Called::Run(call)) => Ok(TypedSimple::Call(call)),
@@ -134,7 +158,9 @@ fn stated(called: Verdict<Called>) -> Verdict<TypedSimple> {
     }
 }
 
-fn value_stated(value: Verdict<TypedExpr>) -> Verdict<TypedSimple> {
+fn value_stated(value: Verdict<TypedExpr>) -> Verdict<TypedSimple>
+    ensures { made simple_of result ≡ made t_value (made expr_of value) }
+{
     match value {
         Ok(value) => Ok(TypedSimple::Value(value)),
         Err(fault) => Err(fault),
@@ -146,7 +172,9 @@ pub fn simple(
     setting: &Setting,
     scope: &Scope,
     x: &Simple,
-) -> Result<Verdict<TypedSimple>, AllocError> {
+) -> Result<Verdict<TypedSimple>, AllocError>
+    ensures { IfOk result (λ v. made simple_of v ≡ judge_simple setting.now.gang setting.now.headers.now scope.now (read_simple x.now)) }
+{
     match x {
         Simple::Value(Expr::Call {
             function,
@@ -181,14 +209,18 @@ pub fn simple(
     }
 }
 
-fn declared_first(items: Verdict<Vec<TypedItem>>, span: Span) -> Verdict<TypedFirst> {
+fn declared_first(items: Verdict<Vec<TypedItem>>, span: Span) -> Verdict<TypedFirst>
+    ensures { made first_of result ≡ made (declared_first span) (made (λ l. items_of l.items) items) }
+{
     match items {
         Ok(items) => Ok(TypedFirst::Declare { items, span }),
         Err(fault) => Err(fault),
     }
 }
 
-fn simple_first(simple: Verdict<TypedSimple>) -> Verdict<TypedFirst> {
+fn simple_first(simple: Verdict<TypedSimple>) -> Verdict<TypedFirst>
+    ensures { made first_of result ≡ made t_first_simple (made simple_of simple) }
+{
     match simple {
         Ok(simple) => Ok(TypedFirst::Simple(simple)),
         Err(fault) => Err(fault),
@@ -202,7 +234,11 @@ pub fn first_part(
     start: usize,
     variables: &mut Vec<Variable>,
     x: &First,
-) -> Result<Verdict<TypedFirst>, AllocError> {
+) -> Result<Verdict<TypedFirst>, AllocError>
+    ensures value { IfOk result (λ v. made first_of v ≡ judge_first setting.now.gang setting.now.headers.now scope.old start variables.old.items (read_first x.now)) }
+    ensures names { IfOk result (λ v. scope.new ≡ first_names setting.now.gang scope.old variables.old.items (Some (read_first x.now))) }
+    ensures variables { IfOk result (λ v. variables.new.items ≡ first_variables setting.now.gang variables.old.items (Some (read_first x.now))) }
+{
     match x {
         First::Declare(d) => {
             let items = declaration(setting, scope, start, variables, d)?;

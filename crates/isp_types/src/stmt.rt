@@ -1,4 +1,10 @@
 //! Statements.
+ghost use Rattle.std.specs.Prelude.{◌≡◌, IfOk, length, take};
+ghost use Rattle.isp_tree.specs.Views.{block_of as read_block, stmt_of as read_stmt};
+ghost use Rattle.isp_typed.specs.Verdicts.{made};
+ghost use Rattle.isp_typed.specs.Views.{block_of, stmt_of};
+ghost use Rattle.isp_types.specs.Statements.{block_variables, names_after, variables_after};
+ghost use Rattle.isp_types.specs.reader.JudgeStmts.{judge_block, judge_stmt};
 
 use crate::declaration::declaration;
 use crate::expr::Setting;
@@ -22,7 +28,11 @@ fn body(
     scope: &mut Scope,
     variables: &mut Vec<Variable>,
     s: &Stmt,
-) -> Result<Verdict<TypedStmt>, AllocError> {
+) -> Result<Verdict<TypedStmt>, AllocError>
+    ensures value { IfOk result (λ v. made stmt_of v ≡ judge_stmt setting.now.gang setting.now.headers.now answer scope.old (length scope.old) variables.old.items (read_stmt s.now)) }
+    ensures names { IfOk result (λ v. scope.new ≡ scope.old) }
+    ensures variables { IfOk result (λ v. variables.new.items ≡ variables_after setting.now.gang variables.old.items (read_stmt s.now)) }
+{
     let start = scope.len();
     let found = stmt(setting, answer, scope, start, variables, s)?;
     scope.leave(start);
@@ -38,7 +48,11 @@ pub fn block(
     start: usize,
     variables: &mut Vec<Variable>,
     b: &Block,
-) -> Result<Verdict<TypedBlock>, AllocError> {
+) -> Result<Verdict<TypedBlock>, AllocError>
+    ensures value { IfOk result (λ v. made block_of v ≡ judge_block setting.now.gang setting.now.headers.now answer scope.old start variables.old.items (read_block b.now)) }
+    ensures names { IfOk result (λ v. take (length scope.old) scope.new ≡ scope.old) }
+    ensures variables { IfOk result (λ v. variables.new.items ≡ block_variables setting.now.gang variables.old.items (read_block b.now)) }
+{
     let mut done = Ok(Vec::new(setting.alloc));
     for s in &b.statements {
         let part = stmt(setting, answer, scope, start, variables, s)?;
@@ -55,7 +69,11 @@ fn inner_block(
     scope: &mut Scope,
     variables: &mut Vec<Variable>,
     b: &Block,
-) -> Result<Verdict<TypedBlock>, AllocError> {
+) -> Result<Verdict<TypedBlock>, AllocError>
+    ensures value { IfOk result (λ v. made block_of v ≡ judge_block setting.now.gang setting.now.headers.now answer scope.old (length scope.old) variables.old.items (read_block b.now)) }
+    ensures names { IfOk result (λ v. scope.new ≡ scope.old) }
+    ensures variables { IfOk result (λ v. variables.new.items ≡ block_variables setting.now.gang variables.old.items (read_block b.now)) }
+{
     let start = scope.len();
     let found = block(setting, answer, scope, start, variables, b)?;
     scope.leave(start);
@@ -72,7 +90,11 @@ fn stmt(
     start: usize,
     variables: &mut Vec<Variable>,
     s: &Stmt,
-) -> Result<Verdict<TypedStmt>, AllocError> {
+) -> Result<Verdict<TypedStmt>, AllocError>
+    ensures value { IfOk result (λ v. made stmt_of v ≡ judge_stmt setting.now.gang setting.now.headers.now answer scope.old start variables.old.items (read_stmt s.now)) }
+    ensures names { IfOk result (λ v. scope.new ≡ names_after setting.now.gang scope.old variables.old.items (read_stmt s.now)) }
+    ensures variables { IfOk result (λ v. variables.new.items ≡ variables_after setting.now.gang variables.old.items (read_stmt s.now)) }
+{
     let alloc = setting.alloc;
     let before = variables.len();
     match s {

@@ -39,7 +39,7 @@ use Rattle.isp_types.specs.Scopes.{named, is_new, with_name}
 use Rattle.isp_types.specs.Values.{elem_of, converted}
 use Rattle.isp_types.specs.Places.{mismatch, variable_target, element_target}
 use Rattle.isp_types.specs.Calls.{Heading, Called, gives, runs}
-use Rattle.isp_types.specs.Rules.{callee_at, pair_then}
+use Rattle.isp_types.specs.Rules.{second, callee_at, pair_then}
 use Rattle.isp_types.specs.Statements.{or_nothing, declared, array_sized, item_names, item_variables, first_names, first_variables, index, active_index, range_names, range_variables, names_after, variables_after, with_initial, sized_item, as_test, stated, assigned, stepped, range_made, places, agrees, as_answer}
 use Rattle.isp_types.specs.Statements.{no_place, declared_first, declared_stmt, simple_stmt, if_stmt, if_else_stmt, while_stmt, do_stmt, for_stmt, foreach_stmt, active_stmt, unmasked_stmt, return_stmt, print_stmt, assert_stmt, braces_made, stmts_made}
 use Rattle.isp_types.specs.reader.Judge.{judge_call, judge, judge_arguments}
@@ -64,7 +64,7 @@ module _ (gang : Gang) (hs : List Heading) where
     judge_items ns vars (i ∷ is) = made pair_then (both (judge_item ns vars i) (judge_items (item_names gang r ns vars i) (item_variables gang r vars i) is))
 
   abbrev pub judge_declaration : List Binding → ℕ → List Variable → Declaration → Result (List TItem) Fault
-  judge_declaration ns start vars d = made (λ p. p.1) (both (value_said d.ty) (judge_items (value_said d.ty) start ns vars d.items))
+  judge_declaration ns start vars d = made second (both (value_said d.ty) (judge_items (value_said d.ty) start ns vars d.items))
 
   -- ---- what stands before a semicolon
 
