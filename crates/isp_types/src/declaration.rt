@@ -1,7 +1,6 @@
 //! Declarations.
 ghost use Rattle.std.specs.Prelude.{◌≡◌, IfOk, map};
 ghost use Rattle.isp_tree.specs.Views.{declaration_of as read_declaration, item_of as read_item, type_of as read_type};
-ghost use Rattle.isp_tree.specs.Tree.{all, ty};
 ghost use Rattle.isp_typed.specs.Verdicts.{both, made};
 ghost use Rattle.isp_typed.specs.Views.{expr_of, item_of, items_of};
 ghost use Rattle.isp_types.specs.Rules.{second};

@@ -1,21 +1,12 @@
 //! Expressions.
-ghost use Rattle.std.specs.Prelude.{◌≡◌, IfOk, List};
-ghost use Rattle.isp_tree.specs.Tree.{listed};
-ghost use Rattle.isp_tree.specs.Views.{expr_of as read_expr, place_of as read_place, argument_of as read_argument, arguments_of as read_arguments};
-ghost use Rattle.isp_typed.specs.Verdicts.{both, made};
-ghost use Rattle.isp_typed.specs.Views.{expr_of, place_of};
-ghost use Rattle.isp_types.specs.Rules.{callee_at};
-ghost use Rattle.isp_types.specs.reader.Parts.{called_of, handed_of, list_passed, passed_of};
-ghost use Rattle.isp_types.specs.reader.Judge.{judge, judge_argument, judge_arguments, judge_call, judge_place};
 ghost use Rattle.std.specs.Prelude.{◌≡◌, IfOk, drop};
 ghost use Rattle.isp_tree.specs.Views.{argument_of as read_argument, arguments_of as read_arguments, expr_of as read_expr, place_of as read_place};
-ghost use Rattle.isp_tree.specs.Tree.{all, listed};
+ghost use Rattle.isp_tree.specs.Tree.{listed};
 ghost use Rattle.isp_typed.specs.Typed.{t_place};
 ghost use Rattle.isp_typed.specs.Verdicts.{both, made};
 ghost use Rattle.isp_typed.specs.Views.{expr_of, place_of};
-ghost use Rattle.isp_types.specs.Calls.{first_want, h_value, wants};
+ghost use Rattle.isp_types.specs.Calls.{first_want, h_value};
 ghost use Rattle.isp_types.specs.Rules.{handed_element, handed_reference};
-ghost use Rattle.isp_types.specs.Statements.{index};
 ghost use Rattle.isp_types.specs.reader.Judge.{judge, judge_argument, judge_arguments, judge_place};
 ghost use Rattle.isp_types.specs.reader.Lists.{and_one, judged_call};
 ghost use Rattle.isp_types.specs.reader.Parts.{called_of, handed_of, list_passed, passed_of};

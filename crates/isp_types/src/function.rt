@@ -7,7 +7,7 @@ ghost use Rattle.isp_lex.specs.declared.fault.Fault.{Fault};
 ghost use Rattle.isp_base.specs.declared.types.Gang.{Gang};
 ghost use Rattle.isp_base.specs.declared.types.Ty.{Ty};
 ghost use Rattle.isp_tree.specs.Views.{function_of as read_function, param_of as read_param};
-ghost use Rattle.isp_tree.specs.Tree.{Block, all, is_array};
+ghost use Rattle.isp_tree.specs.Tree.{Block};
 ghost use Rattle.isp_typed.specs.Verdicts.{beside, both, fault_unless, made};
 ghost use Rattle.isp_typed.specs.Views.{block_of, function_of, functions_of};
 ghost use Rattle.isp_types.specs.Calls.{Heading, library_named};

@@ -2,7 +2,6 @@
 ghost use Rattle.std.specs.Prelude.{◌≡◌, IfOk, length, map, option_map, ◌==◌};
 ghost use Rattle.isp_lex.specs.Faults.{fault};
 ghost use Rattle.isp_tree.specs.Views.{expr_of as read_expr, exprs_of as read_exprs, first_of as read_first, range_of as read_range, simple_of as read_simple};
-ghost use Rattle.isp_tree.specs.Tree.{all};
 ghost use Rattle.isp_typed.specs.Verdicts.{beside, both, fault_unless, found, made, perhaps};
 ghost use Rattle.isp_typed.specs.Views.{expr_of, exprs_of, first_of, range_of, ranges_of, simple_of};
 ghost use Rattle.isp_types.specs.Statements.{active_index, as_answer, first_names, first_variables, index, places, range_made, range_names, range_variables};

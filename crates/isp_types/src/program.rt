@@ -2,8 +2,7 @@
 ghost use Rattle.std.specs.Prelude.{◌≡◌, IfErr, IfOk, map};
 ghost use Rattle.isp_lex.specs.declared.fault.Fault.{Fault};
 ghost use Rattle.isp_tree.specs.Views.{function_of as read_function};
-ghost use Rattle.isp_tree.specs.Tree.{all};
-ghost use Rattle.isp_typed.specs.Forms.{Refused};
+ghost use Rattle.isp_typed.specs.Promise.{Accepts, Refuses};
 ghost use Rattle.isp_typed.specs.Views.{program_of};
 ghost use Rattle.isp_types.specs.Functions.{Breach, IsProgram, heading};
 
