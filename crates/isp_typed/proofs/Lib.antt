@@ -1,2 +1,4 @@
 pub mod Order
 pub mod Right
+pub mod Verdicts
+pub mod StmtViews

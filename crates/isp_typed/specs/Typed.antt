@@ -86,6 +86,10 @@ abbrev pub place_span : TPlace → Span
 place_span (t_variable v t s) = s
 place_span (t_element a i t s) = s
 
+abbrev pub base_array : TBase → ArrayVariable
+base_array (t_whole a s) = a
+base_array (t_from a x s) = a
+
 abbrev pub call_span : TCall → Span
 call_span (t_called f xs s) = s
 

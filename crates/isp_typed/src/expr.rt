@@ -178,6 +178,20 @@ impl TypedPlace {
     }
 }
 
+impl TypedBase {
+    ghost use Rattle.isp_typed.specs.Typed.{base_array};
+    ghost use Rattle.isp_typed.specs.Views.{base_of};
+
+    /// The array.
+    pub fn array(&self) -> ArrayVariable
+        ensures { result ≡ base_array (base_of self.now) }
+    {
+        match self {
+            TypedBase::Whole { array, .. } | TypedBase::From { array, .. } => *array,
+        }
+    }
+}
+
 impl TypedExpr {
     ghost use Rattle.isp_typed.specs.Typed.{type_of, span_of};
     ghost use Rattle.isp_typed.specs.Views.{expr_of};
