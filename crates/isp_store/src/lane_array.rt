@@ -1,0 +1,138 @@
+//! Arrays of which each lane has its own.
+ghost use Rattle.std.specs.Prelude.{◌≡◌, ℕ, ◌<◌, true, false, Some, None, IfOk, IfErr, if◌then◌else◌, length, slice_get};
+ghost use Rattle.isp_base.specs.declared.types.Elem.TheVariants.{I64};
+ghost use Rattle.isp_base.specs.Access.{is_outside, element};
+ghost use Rattle.isp_base.specs.Maps.{lane_of, on, over, map1, each1, lowest_failing};
+ghost use Rattle.isp_base.specs.Sets.{flag_of};
+ghost use Rattle.isp_store.specs.Own.{own, size, own_put};
+
+use crate::index::{IndexTrap, outside};
+use isp_base::Elem;
+use isp_lanes::{LaneMask, Lanes};
+use std::alloc::{AllocError, Global};
+use std::marker::Model;
+
+/// A local array of which each of N lanes has its own: one vector for each element.
+///
+/// Such an array is never passed on, so it has no number among the `Arrays`: the frame of the call
+/// that it is local to owns it, and drops it.
+#[derive(Drop)]
+pub struct LaneArray<const N: usize> {
+    elem: Elem,
+    rows: Vec<Lanes<N>>,
+}
+
+impl<const N: usize> Model for LaneArray<N> {
+    ghost use Rattle.isp_store.specs.Own.{Own, AllOf};
+
+    ghost Value = { Own };
+
+    ghost view = { λ a. record { elem = a.elem; rows = a.rows.items } };
+
+    ghost invariant = { λ a. AllOf a.elem a.rows.items };
+}
+
+impl<const N: usize> LaneArray<N> {
+    /// An array of `size` elements, zero in each lane. 0 where memory is refused.
+    pub fn new(alloc: Global, elem: Elem, size: usize) -> Result<Self, AllocError>
+        ensures elem { IfOk result (λ a. a.elem ≡ elem) }
+        ensures size { IfOk result (λ a. size a ≡ size) }
+        ensures zeros { IfOk result (λ a. own a ≡ (λ e p. 0)) }
+    {
+        let mut rows = Vec::new(alloc);
+        for _ in 0..size {
+            rows.push(Lanes::zero(elem))?;
+        }
+        Ok(LaneArray { elem, rows })
+    }
+
+    /// In each lane of the mask the lane's own element at the lane's index.
+    ///
+    /// Index where one is outside, with the lowest such lane, and then nothing changes.
+    pub fn gather(
+        &self,
+        index: &Lanes<N>,
+        mask: &LaneMask<N>,
+        into: &mut Lanes<N>,
+    ) -> Result<(), IndexTrap>
+        requires { into.old.elem ≡ self.now.elem }
+        ensures inside { IfOk result (λ _. lowest_failing N (is_outside I64 (size self.now)) (on (flag_of mask.now) (lane_of index.now.bits)) ≡ None) }
+        ensures lanes { IfOk result (λ _. lane_of into.new.bits ≡ over (λ p. each1 (λ x. own self.now (element I64 x) p) (on (flag_of mask.now) (lane_of index.now.bits) p)) (lane_of into.old.bits)) }
+        ensures elem { into.new.elem ≡ into.old.elem }
+        ensures lowest { IfErr result (λ t. lowest_failing N (is_outside I64 (size self.now)) (on (flag_of mask.now) (lane_of index.now.bits)) ≡ Some t.instance) }
+        ensures same { IfErr result (λ t. into.new ≡ into.old) }
+    {
+        if let Some(instance) = outside(index, mask, self.rows.len()) {
+            return Err(IndexTrap { instance });
+        }
+        self.read(index, mask, into);
+        Ok(())
+    }
+
+    /// Each lane of the mask writes its value into its own array, at its index.
+    ///
+    /// Index where one is outside, with the lowest such lane, and then nothing changes.
+    pub fn scatter(
+        &mut self,
+        index: &Lanes<N>,
+        value: &Lanes<N>,
+        mask: &LaneMask<N>,
+    ) -> Result<(), IndexTrap>
+        requires { value.now.elem ≡ self.old.elem }
+        ensures inside { IfOk result (λ _. lowest_failing N (is_outside I64 (size self.old)) (on (flag_of mask.now) (lane_of index.now.bits)) ≡ None) }
+        ensures elements { IfOk result (λ _. own self.new ≡ own_put (map1 (element I64) (on (flag_of mask.now) (lane_of index.now.bits))) (lane_of value.now.bits) (own self.old)) }
+        ensures elem { self.new.elem ≡ self.old.elem }
+        ensures size { size self.new ≡ size self.old }
+        ensures lowest { IfErr result (λ t. lowest_failing N (is_outside I64 (size self.old)) (on (flag_of mask.now) (lane_of index.now.bits)) ≡ Some t.instance) }
+        ensures same { IfErr result (λ t. self.new ≡ self.old) }
+    {
+        if let Some(instance) = outside(index, mask, self.rows.len()) {
+            return Err(IndexTrap { instance });
+        }
+        self.write(index, mask, value);
+        Ok(())
+    }
+
+    /// Zero in the lanes of the mask, in each element.
+    pub fn clear(&mut self, mask: &LaneMask<N>)
+        ensures elements { own self.new ≡ (λ e p. if flag_of mask.now p then 0 else own self.old e p) }
+        ensures elem { self.new.elem ≡ self.old.elem }
+        ensures size { size self.new ≡ size self.old }
+    {
+        for place in 0..self.rows.len() {
+            self.rows[place].splat(0, mask);
+        }
+    }
+
+    // Each lane of the mask gets its own element at its index.
+    fn read(&self, index: &Lanes<N>, mask: &LaneMask<N>, into: &mut Lanes<N>)
+        requires elem { into.old.elem ≡ self.now.elem }
+        requires inside { (p : ℕ) → p < N → flag_of mask.now p ≡ true → lane_of index.now.bits p < size self.now }
+        ensures elem { into.new.elem ≡ into.old.elem }
+        ensures lanes { (p : ℕ) → p < N → lane_of into.new.bits p ≡ (if flag_of mask.now p then own self.now (lane_of index.now.bits p) p else lane_of into.old.bits p) }
+    {
+        into.told();
+        for lane in 0..N {
+            let is_on = mask.get(lane);
+            if is_on {
+                into.set(lane, self.rows[index.get(lane) as usize].get(lane));
+            }
+        }
+    }
+
+    // Each lane of the mask writes its value at its own index.
+    fn write(&mut self, index: &Lanes<N>, mask: &LaneMask<N>, value: &Lanes<N>)
+        requires elem { value.now.elem ≡ self.old.elem }
+        requires inside { (p : ℕ) → p < N → flag_of mask.now p ≡ true → lane_of index.now.bits p < size self.old }
+        ensures elements { own self.new ≡ own_put (on (flag_of mask.now) (lane_of index.now.bits)) (lane_of value.now.bits) (own self.old) }
+        ensures elem { self.new.elem ≡ self.old.elem }
+        ensures size { size self.new ≡ size self.old }
+    {
+        for lane in 0..N {
+            let is_on = mask.get(lane);
+            if is_on {
+                self.rows[index.get(lane) as usize].set(lane, value.get(lane));
+            }
+        }
+    }
+}
