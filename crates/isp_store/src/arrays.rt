@@ -8,7 +8,7 @@ ghost use Rattle.isp_base.specs.Values.{width};
 ghost use Rattle.isp_store.specs.Held.{elements, size, elem, shapes, named};
 
 use crate::index::{IndexTrap, limit, outside, trap_under};
-use crate::moves::{read, write};
+use crate::rows;
 use isp_base::{Array, Elem};
 use isp_lanes::{LaneMask, Lanes};
 use std::alloc::{AllocError, Global};
@@ -70,12 +70,12 @@ impl Arrays {
         self.items.len() - self.params
     }
 
-    /// One more local array, all zero. 0 where memory is refused, and then nothing changes.
-    pub fn open_local(&mut self, elem: Elem, size: usize) -> Result<(), AllocError>
-        ensures ok { OnOk result (self.new ≡ record self.old { rows = self.old.rows ++ record { elem = elem; bits = replicate size 0 } ∷ [] }) }
+    /// One more local array, of `count` elements, all zero. 0 where memory is refused, and then nothing changes.
+    pub fn open_local(&mut self, elem: Elem, count: usize) -> Result<(), AllocError>
+        ensures ok { OnOk result (self.new ≡ record self.old { rows = self.old.rows ++ record { elem = elem; bits = replicate count 0 } ∷ [] }) }
         ensures err { OnErr result (self.new ≡ self.old) }
     {
-        let array = zeros(self.alloc, elem, size)?;
+        let array = rows::zeros(self.alloc, elem, count)?;
         self.items.push(array)?;
         Ok(())
     }
@@ -95,7 +95,7 @@ impl Arrays {
         ensures elements { elements self.new ≡ put (elements self.old) array (λ e. 0) }
         ensures shapes { shapes self.new ≡ shapes self.old }
     {
-        zero(&mut self.items[array]);
+        rows::clear(&mut self.items, array);
     }
 
     /// The element at an index that all lanes share.
@@ -114,11 +114,10 @@ impl Arrays {
         ensures outside { IfErr result (λ t. is_outside I64 (size self.now array) index ≡ true) }
         ensures lane { IfErr result (λ t. t.instance ≡ named N (flag_of mask.now)) }
     {
-        let items = &self.items[array];
-        if index >= limit(items.len()) {
+        if index >= limit(rows::count(&self.items, array)) {
             return Err(trap_under(mask));
         }
-        Ok(items.at(index as usize))
+        Ok(rows::load(&self.items, array, index as usize))
     }
 
     /// Writes the element at an index that all lanes share.
@@ -141,11 +140,10 @@ impl Arrays {
         ensures lane { IfErr result (λ t. t.instance ≡ named N (flag_of mask.now)) }
         ensures same { IfErr result (λ t. self.new ≡ self.old) }
     {
-        let items = &mut self.items[array];
-        if index >= limit(items.len()) {
+        if index >= limit(rows::count(&self.items, array)) {
             return Err(trap_under(mask));
         }
-        items.put(index as usize, bits);
+        rows::put(&mut self.items, array, index as usize, bits);
         Ok(())
     }
 
@@ -160,6 +158,7 @@ impl Arrays {
         into: &mut Lanes<N>,
     ) -> Result<(), IndexTrap>
         requires there { array < length self.now.rows }
+        requires index { index.now.elem ≡ I64 }
         requires elem { into.old.elem ≡ elem self.now array }
         ensures inside { IfOk result (λ _. lowest_failing N (is_outside I64 (size self.now array)) (on (flag_of mask.now) (lane_of index.now.bits)) ≡ None) }
         ensures lanes { IfOk result (λ _. lane_of into.new.bits ≡ over (map1 (λ x. elements self.now array (element I64 x)) (on (flag_of mask.now) (lane_of index.now.bits))) (lane_of into.old.bits)) }
@@ -167,11 +166,11 @@ impl Arrays {
         ensures lowest { IfErr result (λ t. lowest_failing N (is_outside I64 (size self.now array)) (on (flag_of mask.now) (lane_of index.now.bits)) ≡ Some t.instance) }
         ensures same { IfErr result (λ t. into.new ≡ into.old) }
     {
-        let items = &self.items[array];
-        if let Some(instance) = outside(index, mask, items.len()) {
+        let count = rows::count(&self.items, array);
+        if let Some(instance) = outside(index, mask, count) {
             return Err(IndexTrap { instance });
         }
-        read(items, index, mask, into);
+        rows::gather(&self.items, array, index, mask, into);
         Ok(())
     }
 
@@ -186,6 +185,7 @@ impl Arrays {
         mask: &LaneMask<N>,
     ) -> Result<(), IndexTrap>
         requires there { array < length self.old.rows }
+        requires index { index.now.elem ≡ I64 }
         requires elem { value.now.elem ≡ elem self.old array }
         ensures inside { IfOk result (λ _. lowest_failing N (is_outside I64 (size self.old array)) (on (flag_of mask.now) (lane_of index.now.bits)) ≡ None) }
         ensures elements { IfOk result (λ _. elements self.new ≡ put (elements self.old) array (scatter N (map1 (element I64) (on (flag_of mask.now) (lane_of index.now.bits))) (on (flag_of mask.now) (lane_of value.now.bits)) (elements self.old array))) }
@@ -193,32 +193,11 @@ impl Arrays {
         ensures lowest { IfErr result (λ t. lowest_failing N (is_outside I64 (size self.old array)) (on (flag_of mask.now) (lane_of index.now.bits)) ≡ Some t.instance) }
         ensures same { IfErr result (λ t. self.new ≡ self.old) }
     {
-        let items = &mut self.items[array];
-        if let Some(instance) = outside(index, mask, items.len()) {
+        let count = rows::count(&self.items, array);
+        if let Some(instance) = outside(index, mask, count) {
             return Err(IndexTrap { instance });
         }
-        write(items, index, mask, value);
+        rows::scatter(&mut self.items, array, index, mask, value);
         Ok(())
-    }
-}
-
-// An array of zeros.
-fn zeros(alloc: Global, elem: Elem, size: usize) -> Result<Array, AllocError>
-    ensures { IfOk result (λ a. a ≡ record { elem = elem; bits = replicate size 0 }) }
-{
-    let mut array = Array::empty(alloc, elem);
-    for _ in 0..size {
-        array.push(0)?;
-    }
-    Ok(array)
-}
-
-// Zero in each element.
-fn zero(array: &mut Array)
-    ensures elem { array.new.elem ≡ array.old.elem }
-    ensures bits { array.new.bits ≡ replicate (length array.old.bits) 0 }
-{
-    for place in 0..array.len() {
-        array.put(place, 0);
     }
 }

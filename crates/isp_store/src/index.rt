@@ -1,10 +1,11 @@
 //! Which indices are outside an array.
-ghost use Rattle.std.specs.Prelude.{◌≡◌, ℕ, ◌<◌, ◌^◌, not, nat_lt};
+ghost use Rattle.std.specs.Prelude.{◌≡◌, ℕ, ◌<◌, ◌^◌, not, nat_lt, None};
 ghost use Rattle.isp_base.specs.declared.types.Elem.TheVariants.{I64};
 ghost use Rattle.isp_base.specs.Access.{is_outside};
 ghost use Rattle.isp_base.specs.Maps.{lane_of, on, lowest_failing};
 ghost use Rattle.isp_base.specs.Sets.{flag_of};
 ghost use Rattle.isp_store.specs.Held.{named};
+ghost use Rattle.isp_store.specs.Inside.{AreInside};
 
 use isp_lanes::{LaneMask, Lanes};
 use thiserror::Error;
@@ -21,7 +22,8 @@ pub struct IndexTrap {
 pub(crate) fn limit(count: usize) -> u64
     ensures { (x : ℕ) → x < 2 ^ 64 → is_outside I64 count x ≡ not (nat_lt x result) }
 {
-    (count as u64).min(1 << 63)
+    let count = count as u64;
+    if count < 1 << 63 { count } else { 1 << 63 }
 }
 
 // The lowest lane of the mask whose index is outside an array of so many elements.
@@ -30,13 +32,18 @@ pub(crate) fn outside<const N: usize>(
     mask: &LaneMask<N>,
     count: usize,
 ) -> Option<usize>
-    ensures { result ≡ lowest_failing N (is_outside I64 count) (on (flag_of mask.now) (lane_of index.now.bits)) }
+    requires { index.now.elem ≡ I64 }
+    ensures value { result ≡ lowest_failing N (is_outside I64 count) (on (flag_of mask.now) (lane_of index.now.bits)) }
+    ensures inside { result ≡ None → AreInside count (flag_of mask.now) (lane_of index.now.bits) }
 {
     let limit = limit(count);
+    index.told();
+    mask.told();
     for lane in 0..N {
-        let is_on = mask.get(lane);
-        if is_on && index.get(lane) >= limit {
-            return Some(lane);
+        if mask.get(lane) {
+            if index.get(lane) >= limit {
+                return Some(lane);
+            }
         }
     }
     None
@@ -46,7 +53,10 @@ pub(crate) fn outside<const N: usize>(
 pub(crate) fn trap_under<const N: usize>(mask: &LaneMask<N>) -> IndexTrap
     ensures { result.instance ≡ named N (flag_of mask.now) }
 {
-    IndexTrap {
-        instance: mask.first().unwrap_or(0),
-    }
+    mask.told();
+    let instance = match mask.first() {
+        Some(lane) => lane,
+        None => 0,
+    };
+    IndexTrap { instance }
 }

@@ -1,10 +1,14 @@
 //! Arrays of which each lane has its own.
-ghost use Rattle.std.specs.Prelude.{◌≡◌, ℕ, ◌<◌, true, false, Some, None, IfOk, IfErr, if◌then◌else◌, length, slice_get};
+ghost use Rattle.std.specs.Prelude.{◌≡◌, ℕ, ◌<◌, ◌^◌, ◌&&◌, nat_eq, Some, None, IfOk, IfErr, if◌then◌else◌, length, slice_get};
 ghost use Rattle.isp_base.specs.declared.types.Elem.TheVariants.{I64};
 ghost use Rattle.isp_base.specs.Access.{is_outside, element};
 ghost use Rattle.isp_base.specs.Maps.{lane_of, on, over, map1, each1, lowest_failing};
 ghost use Rattle.isp_base.specs.Sets.{flag_of};
-ghost use Rattle.isp_store.specs.Own.{own, size, own_put};
+ghost use Rattle.isp_base.specs.Rows.{Row};
+ghost use Rattle.isp_base.specs.Values.{width};
+ghost use Rattle.isp_store.specs.Held.{bits_of};
+ghost use Rattle.isp_store.specs.Inside.{AreInside};
+ghost use Rattle.isp_store.specs.Own.{own, size, own_put, AllOf};
 
 use crate::index::{IndexTrap, outside};
 use isp_base::Elem;
@@ -33,16 +37,13 @@ impl<const N: usize> Model for LaneArray<N> {
 }
 
 impl<const N: usize> LaneArray<N> {
-    /// An array of `size` elements, zero in each lane. 0 where memory is refused.
-    pub fn new(alloc: Global, elem: Elem, size: usize) -> Result<Self, AllocError>
+    /// An array of `count` elements, zero in each lane. 0 where memory is refused.
+    pub fn new(alloc: Global, elem: Elem, count: usize) -> Result<Self, AllocError>
         ensures elem { IfOk result (λ a. a.elem ≡ elem) }
-        ensures size { IfOk result (λ a. size a ≡ size) }
+        ensures size { IfOk result (λ a. size a ≡ count) }
         ensures zeros { IfOk result (λ a. own a ≡ (λ e p. 0)) }
     {
-        let mut rows = Vec::new(alloc);
-        for _ in 0..size {
-            rows.push(Lanes::zero(elem))?;
-        }
+        let rows = vec![in alloc; Lanes::zero(elem); count]?;
         Ok(LaneArray { elem, rows })
     }
 
@@ -55,7 +56,8 @@ impl<const N: usize> LaneArray<N> {
         mask: &LaneMask<N>,
         into: &mut Lanes<N>,
     ) -> Result<(), IndexTrap>
-        requires { into.old.elem ≡ self.now.elem }
+        requires index { index.now.elem ≡ I64 }
+        requires elem { into.old.elem ≡ self.now.elem }
         ensures inside { IfOk result (λ _. lowest_failing N (is_outside I64 (size self.now)) (on (flag_of mask.now) (lane_of index.now.bits)) ≡ None) }
         ensures lanes { IfOk result (λ _. lane_of into.new.bits ≡ over (λ p. each1 (λ x. own self.now (element I64 x) p) (on (flag_of mask.now) (lane_of index.now.bits) p)) (lane_of into.old.bits)) }
         ensures elem { into.new.elem ≡ into.old.elem }
@@ -65,7 +67,7 @@ impl<const N: usize> LaneArray<N> {
         if let Some(instance) = outside(index, mask, self.rows.len()) {
             return Err(IndexTrap { instance });
         }
-        self.read(index, mask, into);
+        read(&self.rows, index, mask, into);
         Ok(())
     }
 
@@ -78,7 +80,8 @@ impl<const N: usize> LaneArray<N> {
         value: &Lanes<N>,
         mask: &LaneMask<N>,
     ) -> Result<(), IndexTrap>
-        requires { value.now.elem ≡ self.old.elem }
+        requires index { index.now.elem ≡ I64 }
+        requires elem { value.now.elem ≡ self.old.elem }
         ensures inside { IfOk result (λ _. lowest_failing N (is_outside I64 (size self.old)) (on (flag_of mask.now) (lane_of index.now.bits)) ≡ None) }
         ensures elements { IfOk result (λ _. own self.new ≡ own_put (map1 (element I64) (on (flag_of mask.now) (lane_of index.now.bits))) (lane_of value.now.bits) (own self.old)) }
         ensures elem { self.new.elem ≡ self.old.elem }
@@ -89,7 +92,7 @@ impl<const N: usize> LaneArray<N> {
         if let Some(instance) = outside(index, mask, self.rows.len()) {
             return Err(IndexTrap { instance });
         }
-        self.write(index, mask, value);
+        write(&mut self.rows, index, mask, value);
         Ok(())
     }
 
@@ -99,40 +102,86 @@ impl<const N: usize> LaneArray<N> {
         ensures elem { self.new.elem ≡ self.old.elem }
         ensures size { size self.new ≡ size self.old }
     {
-        for place in 0..self.rows.len() {
-            self.rows[place].splat(0, mask);
-        }
+        clear(&mut self.rows, mask);
     }
+}
 
-    // Each lane of the mask gets its own element at its index.
-    fn read(&self, index: &Lanes<N>, mask: &LaneMask<N>, into: &mut Lanes<N>)
-        requires elem { into.old.elem ≡ self.now.elem }
-        requires inside { (p : ℕ) → p < N → flag_of mask.now p ≡ true → lane_of index.now.bits p < size self.now }
-        ensures elem { into.new.elem ≡ into.old.elem }
-        ensures lanes { (p : ℕ) → p < N → lane_of into.new.bits p ≡ (if flag_of mask.now p then own self.now (lane_of index.now.bits p) p else lane_of into.old.bits p) }
-    {
-        into.told();
-        for lane in 0..N {
-            let is_on = mask.get(lane);
-            if is_on {
-                into.set(lane, self.rows[index.get(lane) as usize].get(lane));
-            }
+// Each lane of the mask gets its own element at its index.
+fn read<const N: usize>(
+    rows: &[Lanes<N>],
+    index: &Lanes<N>,
+    mask: &LaneMask<N>,
+    into: &mut Lanes<N>,
+)
+    requires elem { AllOf into.old.elem rows.now }
+    requires inside { AreInside (length rows.now) (flag_of mask.now) (lane_of index.now.bits) }
+    ensures elem { into.new.elem ≡ into.old.elem }
+    ensures lanes { lane_of into.new.bits ≡ over (λ p. each1 (λ x. bits_of rows.now (element I64 x) p) (on (flag_of mask.now) (lane_of index.now.bits) p)) (lane_of into.old.bits) }
+{
+    into.told();
+    mask.told();
+    for lane in 0..N {
+        if mask.get(lane) {
+            let place = index.get(lane) as usize;
+            into.set(lane, rows[place].get(lane));
         }
     }
+}
 
-    // Each lane of the mask writes its value at its own index.
-    fn write(&mut self, index: &Lanes<N>, mask: &LaneMask<N>, value: &Lanes<N>)
-        requires elem { value.now.elem ≡ self.old.elem }
-        requires inside { (p : ℕ) → p < N → flag_of mask.now p ≡ true → lane_of index.now.bits p < size self.old }
-        ensures elements { own self.new ≡ own_put (on (flag_of mask.now) (lane_of index.now.bits)) (lane_of value.now.bits) (own self.old) }
-        ensures elem { self.new.elem ≡ self.old.elem }
-        ensures size { size self.new ≡ size self.old }
-    {
-        for lane in 0..N {
-            let is_on = mask.get(lane);
-            if is_on {
-                self.rows[index.get(lane) as usize].set(lane, value.get(lane));
-            }
+// Each lane of the mask writes its value into its own array, at its index.
+fn write<const N: usize>(
+    rows: &mut [Lanes<N>],
+    index: &Lanes<N>,
+    mask: &LaneMask<N>,
+    value: &Lanes<N>,
+)
+    requires elem { AllOf value.now.elem rows.old }
+    requires inside { AreInside (length rows.old) (flag_of mask.now) (lane_of index.now.bits) }
+    ensures elements { bits_of rows.new ≡ own_put (map1 (element I64) (on (flag_of mask.now) (lane_of index.now.bits))) (lane_of value.now.bits) (bits_of rows.old) }
+    ensures elem { AllOf value.now.elem rows.new }
+    ensures size { length rows.new ≡ length rows.old }
+{
+    mask.told();
+    for lane in 0..N {
+        if mask.get(lane) {
+            let place = index.get(lane) as usize;
+            put(rows, place, lane, value.get(lane));
         }
     }
+}
+
+// Writes one lane's element.
+fn put<const N: usize>(rows: &mut [Lanes<N>], place: usize, lane: usize, bits: u64)
+    requires there { place < length rows.old }
+    requires lane { lane < N }
+    requires fits { (r : Row) → slice_get rows.old place ≡ Some r → bits < 2 ^ width r.elem }
+    ensures elements { (e p : ℕ) → bits_of rows.new e p ≡ (if nat_eq e place && nat_eq p lane then bits else bits_of rows.old e p) }
+    ensures elem { (t : Elem) → AllOf t rows.old → AllOf t rows.new }
+    ensures size { length rows.new ≡ length rows.old }
+{
+    rows[place].told();
+    rows[place].set(lane, bits);
+}
+
+// Zero in the lanes of the mask, in each element.
+fn clear<const N: usize>(rows: &mut [Lanes<N>], mask: &LaneMask<N>)
+    ensures elements { bits_of rows.new ≡ (λ e p. if flag_of mask.now p then 0 else bits_of rows.old e p) }
+    ensures elem { (t : Elem) → AllOf t rows.old → AllOf t rows.new }
+    ensures size { length rows.new ≡ length rows.old }
+{
+    for place in 0..rows.len() {
+        clear_row(rows, place, mask);
+    }
+}
+
+// Zero in the lanes of the mask, in one element.
+fn clear_row<const N: usize>(rows: &mut [Lanes<N>], place: usize, mask: &LaneMask<N>)
+    requires { place < length rows.old }
+    ensures elements { (e p : ℕ) → bits_of rows.new e p ≡ (if nat_eq e place && flag_of mask.now p then 0 else bits_of rows.old e p) }
+    ensures elem { (t : Elem) → AllOf t rows.old → AllOf t rows.new }
+    ensures size { length rows.new ≡ length rows.old }
+{
+    rows[place].told();
+    mask.told();
+    rows[place].splat(0, mask);
 }

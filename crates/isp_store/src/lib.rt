@@ -5,6 +5,7 @@ mod arrays;
 mod index;
 mod lane_array;
 mod moves;
+mod rows;
 
 pub use arrays::Arrays;
 pub use index::IndexTrap;

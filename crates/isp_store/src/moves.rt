@@ -1,8 +1,10 @@
 //! Elements from an array into lanes, and back.
-ghost use Rattle.std.specs.Prelude.{◌≡◌, ℕ, ◌<◌, true, length, if◌then◌else◌};
-ghost use Rattle.isp_base.specs.Access.{scatter};
-ghost use Rattle.isp_base.specs.Maps.{lane_of, on};
+ghost use Rattle.std.specs.Prelude.{◌≡◌, length};
+ghost use Rattle.isp_base.specs.declared.types.Elem.TheVariants.{I64};
+ghost use Rattle.isp_base.specs.Access.{element, scatter};
+ghost use Rattle.isp_base.specs.Maps.{lane_of, map1, on, over};
 ghost use Rattle.isp_base.specs.Sets.{flag_of};
+ghost use Rattle.isp_store.specs.Inside.{AreInside};
 
 use isp_base::Array;
 use isp_lanes::{LaneMask, Lanes};
@@ -15,14 +17,14 @@ pub(crate) fn read<const N: usize>(
     into: &mut Lanes<N>,
 )
     requires elem { array.now.elem ≡ into.old.elem }
-    requires inside { (p : ℕ) → p < N → flag_of mask.now p ≡ true → lane_of index.now.bits p < length array.now.bits }
+    requires inside { AreInside (length array.now.bits) (flag_of mask.now) (lane_of index.now.bits) }
     ensures elem { into.new.elem ≡ into.old.elem }
-    ensures lanes { (p : ℕ) → p < N → lane_of into.new.bits p ≡ (if flag_of mask.now p then lane_of array.now.bits (lane_of index.now.bits p) else lane_of into.old.bits p) }
+    ensures lanes { lane_of into.new.bits ≡ over (map1 (λ x. lane_of array.now.bits (element I64 x)) (on (flag_of mask.now) (lane_of index.now.bits))) (lane_of into.old.bits) }
 {
     into.told();
+    mask.told();
     for lane in 0..N {
-        let is_on = mask.get(lane);
-        if is_on {
+        if mask.get(lane) {
             into.set(lane, array.at(index.get(lane) as usize));
         }
     }
@@ -36,14 +38,13 @@ pub(crate) fn write<const N: usize>(
     value: &Lanes<N>,
 )
     requires elem { array.old.elem ≡ value.now.elem }
-    requires inside { (p : ℕ) → p < N → flag_of mask.now p ≡ true → lane_of index.now.bits p < length array.old.bits }
+    requires inside { AreInside (length array.old.bits) (flag_of mask.now) (lane_of index.now.bits) }
     ensures elem { array.new.elem ≡ array.old.elem }
     ensures size { length array.new.bits ≡ length array.old.bits }
-    ensures elements { lane_of array.new.bits ≡ scatter N (on (flag_of mask.now) (lane_of index.now.bits)) (on (flag_of mask.now) (lane_of value.now.bits)) (lane_of array.old.bits) }
+    ensures elements { lane_of array.new.bits ≡ scatter N (map1 (element I64) (on (flag_of mask.now) (lane_of index.now.bits))) (on (flag_of mask.now) (lane_of value.now.bits)) (lane_of array.old.bits) }
 {
     for lane in 0..N {
-        let is_on = mask.get(lane);
-        if is_on {
+        if mask.get(lane) {
             array.put(index.get(lane) as usize, value.get(lane));
         }
     }
