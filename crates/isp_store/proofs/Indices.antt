@@ -139,12 +139,18 @@ lowest_first (suc n) a = ap (λ o. or_this o (a (suc n)) (suc n)) (lowest_first 
     by false None true = refl
     by false None false = refl
 
-one_more : (k n : ℕ) → cond (nat_lt (suc k) (suc n)) (Some (suc k)) None ≡ shift (cond (nat_lt k n) (Some k) None)
+one_more : (k n : ℕ) → cond (nat_lt (1 + k) (suc n)) (Some (1 + k)) None ≡ shift (cond (nat_lt k n) (Some k) None)
 one_more k n =
-    ⊎_elim (λ (h : k < n). ap (λ b. cond b (Some (suc k)) None) (lt-ltb (suc k) (suc n) (omega (arith, h))) ∙ sym (ap (λ b. shift (cond b (Some k) None)) (lt-ltb k n h)))
+    let e : 1 + k ≡ suc k = omega arith in
+    ap (λ m. cond (nat_lt m (suc n)) (Some m) None) e
+    ∙ ⊎_elim (λ (h : k < n). ap (λ b. cond b (Some (suc k)) None) (lt-ltb (suc k) (suc n) (omega (arith, h))) ∙ sym (ap (λ b. shift (cond b (Some k) None)) (lt-ltb k n h)))
     (λ (h : n ≤ k). ap (λ b. cond b (Some (suc k)) None) (le-ltb (suc k) (suc n) (omega (arith, h))) ∙ sym (ap (λ b. shift (cond b (Some k) None)) (le-ltb k n h))) (cases_lt k n)
 
 pub lowest_is : (bs : List Bool) → position (λ b. b) bs ≡ lowest (length bs) (flag_of bs)
 lowest_is [] = refl
 lowest_is (true ∷ bs) = ap (λ b. cond b (Some 0) None) (lt-ltb 0 (suc (length bs)) (omega arith)) ∙ sym (lowest_first (length bs) (flag_of (true ∷ bs)))
 lowest_is (false ∷ bs) = one_more (position_or_len (λ b. b) bs) (length bs) ∙ ap shift (lowest_is bs) ∙ sym (lowest_first (length bs) (flag_of (false ∷ bs)))
+
+-- one index below the limit is inside
+pub one_inside : (count limit size : ℕ) → ((x : ℕ) → x < 2 ^ 64 → is_outside I64 count x ≡ not (nat_lt x limit)) → count ≡ size → (x : ℕ) → x < 2 ^ 64 → x < limit → IsInside size x
+one_inside count limit size is same x fits h = subst (λ n. IsInside n x) same (inside_is count x fits (within count limit is x fits h))

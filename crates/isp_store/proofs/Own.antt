@@ -1,11 +1,19 @@
 -- The lanes' own arrays after the first few lanes have written.
-use Rattle.std.proofs.Common.{◌≡◌, refl, sym, ap, ◌∙◌, ⊎_elim, ℕ, ◌+◌, ◌<◌, ◌≤◌, Bool, true, false, ◌&&◌, Some, None, arith, ne_eqb, ◌≢◌, eq-eqb}
-use Rattle.std.specs.Prelude.{nat_eq, if◌then◌else◌}
+use Rattle.std.proofs.Common.{◌≡◌, refl, sym, ap, ◌∙◌, ⊎_elim, ℕ, ◌+◌, ◌<◌, ◌≤◌, Bool, true, false, ◌&&◌, Some, None, arith, ne_eqb, ◌≢◌, eq-eqb, List, [], ◌∷◌, zero, suc, length, get_or, replicate}
+use Rattle.std.specs.Prelude.{nat_eq, if◌then◌else◌, slice_set}
+use Rattle.std.specs.Simd.Lanes.{sel_l}
+use Rattle.std.proofs.Math.ListN.{length-set}
+use Rattle.std.proofs.lemmas.List.{get_or-set_other, get_or-set_same}
+use Rattle.isp_base.specs.declared.types.Elem.{Elem}
+use Rattle.isp_base.specs.Rows.{Row}
+use Rattle.isp_base.specs.Arguments.{row_bits}
+use Rattle.isp_store.specs.Held.{bits_of}
+use Rattle.isp_store.proofs.RowLists.{row_bits_at, rows_put}
 use Rattle.std.proofs.Math.Path.{fun_ext}
 use Rattle.std.proofs.lemmas.Bool.{cases_eq, cases_lt}
-use Rattle.isp_base.specs.Maps.{Lanes, on, map1, each1, holds}
-use Rattle.isp_base.specs.Sets.{Mask}
-use Rattle.isp_store.specs.Own.{own_put}
+use Rattle.isp_base.specs.Maps.{Lanes, on, map1, each1, holds, put, lane_of}
+use Rattle.isp_base.specs.Sets.{Mask, flag_of}
+use Rattle.isp_store.specs.Own.{own_put, AllOf}
 
 -- in the first i lanes new, in the others old
 pub record Upto (new old now : ℕ → Lanes) (i : ℕ) : Type 0 where
@@ -60,3 +68,49 @@ upto_put f a x y old now after i place v u is at val w =
 
     here : (e p : ℕ) → p ≡ i → after e p ≡ own_put (map1 f (on a x)) y old e p
     here e p s = ap (λ k. after e k) s ∙ at_i e ∙ ap (λ k. own_put (map1 f (on a x)) y old e k) (sym s)
+
+-- one row changed in some lanes
+pub set_row : (rs : List Row) (place v : ℕ) (d new : Row) (t : ℕ → Bool) → place < length rs → ((p : ℕ) → lane_of new.bits p ≡ (if t p then v else lane_of (get_or rs place d).bits p))
+    → (e p : ℕ) → bits_of (slice_set rs place new) e p ≡ (if nat_eq e place && t p then v else bits_of rs e p)
+set_row rs place v d new t h w e p = ap (λ (f : ℕ → Lanes). f e p) (rows_put rs place new h) ∙ ⊎_elim (λ (s : e ≡ place). same s) (λ ne. other ne) (cases_eq e place)
+  where
+    same : e ≡ place → put (bits_of rs) place (lane_of new.bits) e p ≡ (if nat_eq e place && t p then v else bits_of rs e p)
+    same s =
+        ap (λ b. (if b then lane_of new.bits else bits_of rs e) p) (eq-eqb e place s) ∙ w p ∙ ap (λ xs. if t p then v else lane_of xs p) (sym (row_bits_at rs place d h))
+        ∙ ap (λ k. if t p then v else bits_of rs k p) (sym s) ∙ sym (ap (λ b. if b && t p then v else bits_of rs e p) (eq-eqb e place s))
+
+    other : e ≢ place → put (bits_of rs) place (lane_of new.bits) e p ≡ (if nat_eq e place && t p then v else bits_of rs e p)
+    other ne = ap (λ b. (if b then lane_of new.bits else bits_of rs e) p) (ne_eqb e place ne) ∙ sym (ap (λ b. if b && t p then v else bits_of rs e p) (ne_eqb e place ne))
+
+pub all_set : (t : Elem) (rs : List Row) (place : ℕ) (new : Row) → place < length rs → new.elem ≡ t → AllOf t rs → AllOf t (slice_set rs place new)
+all_set t rs place new h same all e d l =
+    ⊎_elim (λ (s : e ≡ place). ap (λ k. (get_or (slice_set rs place new) k d).elem) s ∙ ap (λ (r : Row). r.elem) (get_or-set_same rs place new d h) ∙ same)
+    (λ ne. ap (λ (r : Row). r.elem) (get_or-set_other rs place e new d ne) ∙ all e d (omega (arith, l, length-set rs place new))) (cases_eq e place)
+
+pub sel_zero : (n : ℕ) (ms : List Bool) (xs : List ℕ) (p : ℕ) → length ms ≡ n → length xs ≡ n → lane_of (sel_l ms (replicate n 0) xs) p ≡ (if flag_of ms p then 0 else lane_of xs p)
+sel_zero zero [] [] p a b = refl
+sel_zero zero [] (x ∷ xs) p a b = absurd (omega (arith, b))
+sel_zero zero (m ∷ ms) xs p a b = absurd (omega (arith, a))
+sel_zero (suc n) [] xs p a b = absurd (omega (arith, a))
+sel_zero (suc n) (m ∷ ms) [] p a b = absurd (omega (arith, b))
+sel_zero (suc n) (true ∷ ms) (x ∷ xs) zero a b = refl
+sel_zero (suc n) (false ∷ ms) (x ∷ xs) zero a b = refl
+sel_zero (suc n) (m ∷ ms) (x ∷ xs) (suc p) a b = sel_zero n ms xs p (omega (arith, a)) (omega (arith, b))
+
+pub all_same : (n : ℕ) (r : Row) → AllOf r.elem (replicate n r)
+all_same zero r e d l = absurd (omega (arith, l))
+all_same (suc n) r zero d l = refl
+all_same (suc n) r (suc e) d l = all_same n r e d (omega (arith, l))
+
+zero_lane : (m p : ℕ) → lane_of (replicate m 0) p ≡ 0
+zero_lane zero p = refl
+zero_lane (suc m) zero = refl
+zero_lane (suc m) (suc p) = zero_lane m p
+
+zero_at : (n m : ℕ) (t : Elem) (e p : ℕ) → bits_of (replicate n (record { elem = t; bits = replicate m 0 })) e p ≡ 0
+zero_at zero m t e p = refl
+zero_at (suc n) m t zero p = zero_lane m p
+zero_at (suc n) m t (suc e) p = zero_at n m t e p
+
+pub zero_rows : (n m : ℕ) (t : Elem) → bits_of (replicate n (record { elem = t; bits = replicate m 0 })) ≡ (λ e p. 0)
+zero_rows n m t = fun_ext (λ e. fun_ext (λ p. zero_at n m t e p))

@@ -1,14 +1,18 @@
 -- Rows by their numbers, and one written anew.
-use Rattle.std.proofs.Common.{◌≡◌, refl, sym, subst, ap, ◌∙◌, ℕ, zero, suc, ◌+◌, ◌<◌, ◌≤◌, List, [], ◌∷◌, length, map, get_or, arith, ⊎_elim, ◌≢◌, eq-eqb, ne_eqb}
+use Rattle.std.proofs.Common.{◌≡◌, refl, sym, subst, ap, ap₂, ◌∙◌, ℕ, zero, suc, ◌+◌, ◌<◌, ◌≤◌, List, [], ◌∷◌, length, map, get_or, arith, ⊎_elim, ◌≢◌, eq-eqb, ne_eqb}
 use Rattle.std.specs.Prelude.{slice_set, if◌then◌else◌}
 use Rattle.std.proofs.Math.Path.{fun_ext}
 use Rattle.std.proofs.Math.ListN.{length-set}
 use Rattle.std.proofs.lemmas.Bool.{cases_eq}
 use Rattle.std.proofs.lemmas.List.{get_or-set_other, get_or-set_same}
+use Rattle.isp_base.specs.declared.types.Elem.{Elem}
 use Rattle.isp_base.specs.Rows.{Row}
 use Rattle.isp_base.specs.Maps.{Lanes, put, lane_of}
 use Rattle.isp_base.specs.Arguments.{row_bits}
-use Rattle.isp_store.specs.Held.{shape_of, shapes_of, type_of, bits_of}
+use Rattle.isp_store.specs.Held.{Shape, shape_of, shapes_of, type_of, bits_of}
+
+abbrev shape : Elem → ℕ → Shape
+shape t n = record { elem = t; count = n }
 
 pub row_bits_at : (rs : List Row) (b : ℕ) (d : Row) → b < length rs → row_bits rs b ≡ (get_or rs b d).bits
 row_bits_at [] b d h = absurd (omega arith)
@@ -80,3 +84,6 @@ module _ (rs : List Row) (b i v : ℕ) (d new : Row) (is : new ≡ record { elem
   element_shapes =
       let old = get_or rs b d in
       shapes_put rs b d new (row_there rs b i there) (ap shape_of is ∙ ap (λ n. record { elem = old.elem; count = n }) (length-set old.bits i v))
+
+pub row_shapes : (rs : List Row) (b : ℕ) (d new : Row) → b < length rs → new.elem ≡ (get_or rs b d).elem → length new.bits ≡ length (get_or rs b d).bits → shapes_of (slice_set rs b new) ≡ shapes_of rs
+row_shapes rs b d new h e n = shapes_put rs b d new h (ap₂ (λ (t : Elem) (k : ℕ). shape t k) e n)

@@ -1,10 +1,9 @@
 //! Arrays of which each lane has its own.
-ghost use Rattle.std.specs.Prelude.{◌≡◌, ℕ, ◌<◌, ◌^◌, ◌&&◌, nat_eq, Some, None, IfOk, IfErr, if◌then◌else◌, length, slice_get};
+ghost use Rattle.std.specs.Prelude.{◌≡◌, ℕ, ◌<◌, ◌≤◌, ◌^◌, ◌&&◌, nat_eq, Some, None, IfOk, IfErr, if◌then◌else◌, length};
 ghost use Rattle.isp_base.specs.declared.types.Elem.TheVariants.{I64};
 ghost use Rattle.isp_base.specs.Access.{is_outside, element};
 ghost use Rattle.isp_base.specs.Maps.{lane_of, on, over, map1, each1, lowest_failing};
 ghost use Rattle.isp_base.specs.Sets.{flag_of};
-ghost use Rattle.isp_base.specs.Rows.{Row};
 ghost use Rattle.isp_base.specs.Values.{width};
 ghost use Rattle.isp_store.specs.Held.{bits_of};
 ghost use Rattle.isp_store.specs.Inside.{AreInside};
@@ -39,6 +38,7 @@ impl<const N: usize> Model for LaneArray<N> {
 impl<const N: usize> LaneArray<N> {
     /// An array of `count` elements, zero in each lane. 0 where memory is refused.
     pub fn new(alloc: Global, elem: Elem, count: usize) -> Result<Self, AllocError>
+        requires { N ≤ 64 }
         ensures elem { IfOk result (λ a. a.elem ≡ elem) }
         ensures size { IfOk result (λ a. size a ≡ count) }
         ensures zeros { IfOk result (λ a. own a ≡ (λ e p. 0)) }
@@ -102,6 +102,7 @@ impl<const N: usize> LaneArray<N> {
         ensures elem { self.new.elem ≡ self.old.elem }
         ensures size { size self.new ≡ size self.old }
     {
+        mask.told();
         clear(&mut self.rows, mask);
     }
 }
@@ -123,7 +124,7 @@ fn read<const N: usize>(
     for lane in 0..N {
         if mask.get(lane) {
             let place = index.get(lane) as usize;
-            into.set(lane, rows[place].get(lane));
+            into.set(lane, get(rows, place, lane));
         }
     }
 }
@@ -145,22 +146,32 @@ fn write<const N: usize>(
     for lane in 0..N {
         if mask.get(lane) {
             let place = index.get(lane) as usize;
-            put(rows, place, lane, value.get(lane));
+            put(rows, place, lane, value);
         }
     }
 }
 
-// Writes one lane's element.
-fn put<const N: usize>(rows: &mut [Lanes<N>], place: usize, lane: usize, bits: u64)
+// A lane's own element.
+fn get<const N: usize>(rows: &[Lanes<N>], place: usize, lane: usize) -> u64
+    requires there { place < length rows.now }
+    requires lane { lane < N }
+    ensures value { result ≡ bits_of rows.now place lane }
+    ensures fits { (t : Elem) → AllOf t rows.now → result < 2 ^ width t }
+{
+    rows[place].get(lane)
+}
+
+// One lane writes its own element.
+fn put<const N: usize>(rows: &mut [Lanes<N>], place: usize, lane: usize, value: &Lanes<N>)
     requires there { place < length rows.old }
     requires lane { lane < N }
-    requires fits { (r : Row) → slice_get rows.old place ≡ Some r → bits < 2 ^ width r.elem }
-    ensures elements { (e p : ℕ) → bits_of rows.new e p ≡ (if nat_eq e place && nat_eq p lane then bits else bits_of rows.old e p) }
-    ensures elem { (t : Elem) → AllOf t rows.old → AllOf t rows.new }
+    requires elem { AllOf value.now.elem rows.old }
+    ensures elements { (e p : ℕ) → bits_of rows.new e p ≡ (if nat_eq e place && nat_eq p lane then lane_of value.now.bits lane else bits_of rows.old e p) }
+    ensures elem { AllOf value.now.elem rows.new }
     ensures size { length rows.new ≡ length rows.old }
 {
     rows[place].told();
-    rows[place].set(lane, bits);
+    rows[place].set(lane, value.get(lane));
 }
 
 // Zero in the lanes of the mask, in each element.
@@ -169,6 +180,7 @@ fn clear<const N: usize>(rows: &mut [Lanes<N>], mask: &LaneMask<N>)
     ensures elem { (t : Elem) → AllOf t rows.old → AllOf t rows.new }
     ensures size { length rows.new ≡ length rows.old }
 {
+    mask.told();
     for place in 0..rows.len() {
         clear_row(rows, place, mask);
     }

@@ -64,6 +64,7 @@ pub(crate) fn gather<const N: usize>(
     ensures elem { into.new.elem ≡ into.old.elem }
     ensures lanes { lane_of into.new.bits ≡ over (map1 (λ x. bits_of rows.now array (element I64 x)) (on (flag_of mask.now) (lane_of index.now.bits))) (lane_of into.old.bits) }
 {
+    mask.told();
     read(&rows[array], index, mask, into);
 }
 
@@ -81,6 +82,7 @@ pub(crate) fn scatter<const N: usize>(
     ensures elements { bits_of rows.new ≡ put (bits_of rows.old) array (scatter N (map1 (element I64) (on (flag_of mask.now) (lane_of index.now.bits))) (on (flag_of mask.now) (lane_of value.now.bits)) (bits_of rows.old array)) }
     ensures shapes { shapes_of rows.new ≡ shapes_of rows.old }
 {
+    mask.told();
     write(&mut rows[array], index, mask, value);
 }
 
