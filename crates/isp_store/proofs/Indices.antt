@@ -86,7 +86,7 @@ module _ (fails : ℕ → Bool) (a : Mask) (x : Lanes) where
       let both = or_none (lowest_failing n fails (on a x)) (where_true fails (on a x) n) n e in
       ⊎_elim (λ (s : p ≡ n). sym (at p true is) ∙ subst (λ k. where_true fails (on a x) k ≡ false) (sym s) both.1) (λ ne. none_fails n both.0 p (omega (arith, h, ne)) is) (cases_eq p n)
 
-past_end : (bs : List Bool) (p : ℕ) → length bs ≤ p → flag_of bs p ≡ false
+pub past_end : (bs : List Bool) (p : ℕ) → length bs ≤ p → flag_of bs p ≡ false
 past_end bs p h = get_or_past bs p false h
 
 pub on_there : (bs : List Bool) (n p : ℕ) → length bs ≡ n → flag_of bs p ≡ true → p < n

@@ -8,12 +8,12 @@ use Rattle.isp_base.specs.declared.types.Elem.{Elem}
 use Rattle.isp_base.specs.Rows.{Row}
 use Rattle.isp_base.specs.Arguments.{row_bits}
 use Rattle.isp_store.specs.Held.{bits_of}
-use Rattle.isp_store.proofs.RowLists.{row_bits_at, rows_put}
+use Rattle.isp_store.proofs.RowLists.{row_bits_at, row_bits_past, rows_put}
 use Rattle.std.proofs.Math.Path.{fun_ext}
 use Rattle.std.proofs.lemmas.Bool.{cases_eq, cases_lt}
 use Rattle.isp_base.specs.Maps.{Lanes, on, map1, each1, holds, put, lane_of}
 use Rattle.isp_base.specs.Sets.{Mask, flag_of}
-use Rattle.isp_store.specs.Own.{own_put, AllOf}
+use Rattle.isp_store.specs.Own.{Own, own_put, AllOf}
 
 -- in the first i lanes new, in the others old
 pub record Upto (new old now : ℕ → Lanes) (i : ℕ) : Type 0 where
@@ -114,3 +114,29 @@ zero_at (suc n) m t (suc e) p = zero_at n m t e p
 
 pub zero_rows : (n m : ℕ) (t : Elem) → bits_of (replicate n (record { elem = t; bits = replicate m 0 })) ≡ (λ e p. 0)
 zero_rows n m t = fun_ext (λ e. fun_ext (λ p. zero_at n m t e p))
+
+abbrev pub own_in : Elem → List Row → Own
+own_in t rs = record { elem = t; rows = rs }
+
+-- one row more is clear
+abbrev pub Cleared : Mask → (ℕ → Lanes) → (ℕ → Lanes) → ℕ → Type 0
+Cleared a old now i = ((e p : ℕ) → e < i → now e p ≡ (if a p then 0 else old e p)) × ((e p : ℕ) → i ≤ e → now e p ≡ old e p)
+
+pub clear_one : (a : Mask) (old now after : ℕ → Lanes) (i : ℕ) → Cleared a old now i → ((e p : ℕ) → after e p ≡ (if nat_eq e i && a p then 0 else now e p)) → Cleared a old after (i + 1)
+clear_one a old now after i u w =
+    (λ e p h. ⊎_elim (λ (s : e ≡ i). here e p s) (λ ne. w e p ∙ ap (λ b. if b && a p then 0 else now e p) (ne_eqb e i ne) ∙ u.0 e p (omega (arith, h, ne))) (cases_eq e i),
+      λ e p h. w e p ∙ ap (λ b. if b && a p then 0 else now e p) (ne_eqb e i (λ s. absurd (omega (arith, h, s)))) ∙ u.1 e p (omega (arith, h)))
+  where
+    here : (e p : ℕ) → e ≡ i → after e p ≡ (if a p then 0 else old e p)
+    here e p s = w e p ∙ ap (λ b. if b && a p then 0 else now e p) (eq-eqb e i s) ∙ ap (λ k. if a p then 0 else k) (u.1 e p (omega (arith, s)))
+
+pub clear_all : (rows : List Row) (a : Mask) (old : ℕ → Lanes) (i : ℕ) → i ≡ length rows → Cleared a old (bits_of rows) i → ((e p : ℕ) → length rows ≤ e → old e p ≡ 0) → bits_of rows ≡ (λ e p. if a p then 0 else old e p)
+clear_all rows a old i all u past =
+    fun_ext (λ e. fun_ext (λ p. ⊎_elim (λ (h : e < i). u.0 e p h) (λ (h : i ≤ e). u.1 e p h ∙ past e p (omega (arith, h, all)) ∙ sym (zero_either (a p) (past e p (omega (arith, h, all))))) (cases_lt e i)))
+  where
+    zero_either : {k : ℕ} → (b : Bool) → k ≡ 0 → (if b then 0 else k) ≡ 0
+    zero_either true e = refl
+    zero_either false e = e
+
+pub none_past : (rows : List Row) (e p : ℕ) → length rows ≤ e → bits_of rows e p ≡ 0
+none_past rows e p h = ap (λ xs. lane_of xs p) (row_bits_past rows e h)

@@ -1,7 +1,8 @@
 -- Rows by their numbers, and one written anew.
-use Rattle.std.proofs.Common.{◌≡◌, refl, sym, subst, ap, ap₂, ◌∙◌, ℕ, zero, suc, ◌+◌, ◌<◌, ◌≤◌, List, [], ◌∷◌, length, map, get_or, arith, ⊎_elim, ◌≢◌, eq-eqb, ne_eqb}
+use Rattle.std.proofs.Common.{◌≡◌, refl, sym, subst, ap, ap₂, ◌∙◌, ℕ, zero, suc, ◌+◌, ◌<◌, ◌≤◌, List, [], ◌∷◌, length, map, take, drop, ◌++◌, get_or, arith, ⊎_elim, ◌≢◌, eq-eqb, ne_eqb}
 use Rattle.std.specs.Prelude.{slice_set, if◌then◌else◌}
 use Rattle.std.proofs.Math.Path.{fun_ext}
+use Rattle.std.proofs.Math.Seq.{take-append_seam}
 use Rattle.std.proofs.Math.ListN.{length-set}
 use Rattle.std.proofs.lemmas.Bool.{cases_eq}
 use Rattle.std.proofs.lemmas.List.{get_or-set_other, get_or-set_same}
@@ -9,7 +10,7 @@ use Rattle.isp_base.specs.declared.types.Elem.{Elem}
 use Rattle.isp_base.specs.Rows.{Row}
 use Rattle.isp_base.specs.Maps.{Lanes, put, lane_of}
 use Rattle.isp_base.specs.Arguments.{row_bits}
-use Rattle.isp_store.specs.Held.{Shape, shape_of, shapes_of, type_of, bits_of}
+use Rattle.isp_store.specs.Held.{Held, Shape, shape_of, shapes_of, type_of, bits_of}
 
 abbrev shape : Elem → ℕ → Shape
 shape t n = record { elem = t; count = n }
@@ -87,3 +88,10 @@ module _ (rs : List Row) (b i v : ℕ) (d new : Row) (is : new ≡ record { elem
 
 pub row_shapes : (rs : List Row) (b : ℕ) (d new : Row) → b < length rs → new.elem ≡ (get_or rs b d).elem → length new.bits ≡ length (get_or rs b d).bits → shapes_of (slice_set rs b new) ≡ shapes_of rs
 row_shapes rs b d new h e n = shapes_put rs b d new h (ap₂ (λ (t : Elem) (k : ℕ). shape t k) e n)
+
+abbrev pub held : ℕ → List Row → Held
+held n rs = record { params = n; rows = rs }
+
+-- a Vec lent as a slice and handed back
+pub handed_back : (n : ℕ) (new items : List Row) → length new ≡ n → take n (new ++ drop (length new) items) ≡ new
+handed_back n new items e = ap (λ k. take k (new ++ drop (length new) items)) (sym e) ∙ take-append_seam new (drop (length new) items)
