@@ -1,15 +1,14 @@
 -- Which bits are indices outside an array, and the lowest lane that has such an index.
-use Rattle.std.proofs.Common.{◌≡◌, refl, sym, ap, ap₂, ◌∙◌, subst, ⊎_elim, ℕ, zero, suc, ◌+◌, ◌-◌, ◌%◌, ◌^◌, ◌<◌, ◌≤◌, Bool, true, false, ◌||◌, not, Option, Some, None, List, [], ◌∷◌, length, get_or, nat_lt, int_lt, pos, negsuc, ℤ, unsigned_abs, arith, add-one, mod-eq_of_lt, ltb-true, ltb-false, lt-ltb, le-ltb}
+use Rattle.std.proofs.Common.{◌≡◌, refl, sym, ap, ap₂, ◌∙◌, subst, ⊎_elim, ℕ, zero, suc, ◌+◌, ◌-◌, ◌^◌, ◌<◌, ◌≤◌, Bool, true, false, ◌||◌, not, Option, Some, None, List, [], ◌∷◌, length, get_or, nat_lt, int_lt, pos, ℤ, unsigned_abs, arith, add-one, mod-eq_of_lt, ltb-true, lt-ltb, le-ltb}
 use Rattle.std.specs.Prelude.{if◌then◌else◌, slice_get, position, cond}
 use Rattle.std.specs.List.{position_or_len}
 use Rattle.isp_base.proofs.Signs.{test_is}
 use Rattle.std.proofs.lemmas.Bool.{cases_eq, cases_lt}
 use Rattle.std.proofs.lemmas.Int.{ints}
 use Rattle.std.proofs.lemmas.List.{get_or_past}
-use Rattle.std.proofs.lemmas.List.Quantifiers.{position-Some}
 use Rattle.std.proofs.lemmas.Option.{get_or_from_slice_get}
-use Rattle.isp_base.specs.Access.{is_outside, element}
-use Rattle.isp_base.specs.Maps.{Lanes, Map, on, holds, where_true, lane_of, lowest_failing}
+use Rattle.isp_base.specs.Access.{is_outside}
+use Rattle.isp_base.specs.Maps.{Lanes, on, holds, where_true, lane_of, lowest_failing}
 use Rattle.isp_base.specs.Sets.{Mask, lowest, or_this, flag_of}
 use Rattle.isp_base.specs.Values.{number, number_to}
 use Rattle.isp_base.specs.declared.types.Elem.TheVariants.{I64}

@@ -1,12 +1,12 @@
 -- What lanes have read and written, after the first few.
-use Rattle.std.proofs.Common.{◌≡◌, refl, sym, ap, ap₂, ◌∙◌, ⊎_elim, ℕ, zero, suc, ◌+◌, ◌<◌, ◌≤◌, List, length, get_or, Bool, true, false, Some, None, arith, add-one}
+use Rattle.std.proofs.Common.{◌≡◌, sym, ap, ◌∙◌, ⊎_elim, ℕ, ◌+◌, ◌<◌, ◌≤◌, List, length, get_or, Bool, true, false, Some, None, arith, add-one}
 use Rattle.std.specs.Prelude.{slice_set, if◌then◌else◌}
 use Rattle.std.proofs.Math.Path.{fun_ext}
 use Rattle.std.proofs.Math.ListN.{length-set}
 use Rattle.std.proofs.lemmas.Bool.{cases_eq, cases_lt}
 use Rattle.std.proofs.lemmas.List.{get_or-set_other, get_or-set_same}
 use Rattle.isp_base.specs.Access.{put_at, scatter}
-use Rattle.isp_base.specs.Maps.{Lanes, Map, on, map1, each1, or_old, put, lane_of}
+use Rattle.isp_base.specs.Maps.{Lanes, on, map1, each1, or_old, put, lane_of}
 use Rattle.isp_base.specs.Sets.{Mask}
 
 -- n lanes, the first i of which are new, and the others old

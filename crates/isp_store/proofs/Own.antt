@@ -6,7 +6,6 @@ use Rattle.std.proofs.Math.ListN.{length-set}
 use Rattle.std.proofs.lemmas.List.{get_or-set_other, get_or-set_same}
 use Rattle.isp_base.specs.declared.types.Elem.{Elem}
 use Rattle.isp_base.specs.Rows.{Row}
-use Rattle.isp_base.specs.Arguments.{row_bits}
 use Rattle.isp_store.specs.Held.{bits_of}
 use Rattle.isp_store.proofs.RowLists.{row_bits_at, row_bits_past, rows_put}
 use Rattle.std.proofs.Math.Path.{fun_ext}
@@ -123,9 +122,10 @@ abbrev pub Cleared : Mask → (ℕ → Lanes) → (ℕ → Lanes) → ℕ → Ty
 Cleared a old now i = ((e p : ℕ) → e < i → now e p ≡ (if a p then 0 else old e p)) × ((e p : ℕ) → i ≤ e → now e p ≡ old e p)
 
 pub clear_one : (a : Mask) (old now after : ℕ → Lanes) (i : ℕ) → Cleared a old now i → ((e p : ℕ) → after e p ≡ (if nat_eq e i && a p then 0 else now e p)) → Cleared a old after (i + 1)
-clear_one a old now after i u w =
-    (λ e p h. ⊎_elim (λ (s : e ≡ i). here e p s) (λ ne. w e p ∙ ap (λ b. if b && a p then 0 else now e p) (ne_eqb e i ne) ∙ u.0 e p (omega (arith, h, ne))) (cases_eq e i),
-      λ e p h. w e p ∙ ap (λ b. if b && a p then 0 else now e p) (ne_eqb e i (λ s. absurd (omega (arith, h, s)))) ∙ u.1 e p (omega (arith, h)))
+clear_one a old now after i u w = (
+  λ e p h. ⊎_elim (λ (s : e ≡ i). here e p s) (λ ne. w e p ∙ ap (λ b. if b && a p then 0 else now e p) (ne_eqb e i ne) ∙ u.0 e p (omega (arith, h, ne))) (cases_eq e i),
+  λ e p h. w e p ∙ ap (λ b. if b && a p then 0 else now e p) (ne_eqb e i (λ s. absurd (omega (arith, h, s)))) ∙ u.1 e p (omega (arith, h)),
+)
   where
     here : (e p : ℕ) → e ≡ i → after e p ≡ (if a p then 0 else old e p)
     here e p s = w e p ∙ ap (λ b. if b && a p then 0 else now e p) (eq-eqb e i s) ∙ ap (λ k. if a p then 0 else k) (u.1 e p (omega (arith, s)))

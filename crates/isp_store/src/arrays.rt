@@ -193,8 +193,8 @@ impl Arrays {
         ensures lowest { IfErr result (λ t. lowest_failing N (is_outside I64 (size self.old array)) (on (flag_of mask.now) (lane_of index.now.bits)) ≡ Some t.instance) }
         ensures same { IfErr result (λ t. self.new ≡ self.old) }
     {
-        let count = rows::count(&self.items, array);
-        if let Some(instance) = outside(index, mask, count) {
+        let size = rows::count(&self.items, array);
+        if let Some(instance) = outside(index, mask, size) {
             return Err(IndexTrap { instance });
         }
         rows::scatter(&mut self.items, array, index, mask, value);

@@ -19,7 +19,7 @@ returns-clause-elements g c =
     let a = c.args in
     rows_put a.rows.now a.array c.write.new.array c.requires.there
     ∙ ap (λ (f : Lanes). put (bits_of a.rows.now) a.array f)
-      (c.write.ensures.elements ∙ ap (λ xs. scatter g.row.N (map1 (element I64) (on (flag_of a.mask.now) (lane_of a.index.now.bits))) (on (flag_of a.mask.now) (lane_of a.value.now.bits)) (lane_of xs)) (sym (row_bits_at a.rows.now a.array _ c.requires.there)))
+    (c.write.ensures.elements ∙ ap (λ xs. scatter g.row.N (map1 (element I64) (on (flag_of a.mask.now) (lane_of a.index.now.bits))) (on (flag_of a.mask.now) (lane_of a.value.now.bits)) (lane_of xs)) (sym (row_bits_at a.rows.now a.array _ c.requires.there)))
 
 pub returns-clause-shapes : goal.returns-clause-shapes
 returns-clause-shapes g c = row_shapes c.args.rows.now c.args.array _ c.write.new.array c.requires.there c.write.ensures.elem c.write.ensures.size

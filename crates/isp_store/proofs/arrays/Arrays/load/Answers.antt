@@ -1,8 +1,6 @@
 use Rattle.std.proofs.Common.{◌<◌, List, length, sym, ap, ◌∙◌, subst}
-use Rattle.isp_base.specs.Access.{element}
 use Rattle.isp_base.specs.Arguments.{row_bits}
 use Rattle.isp_base.specs.Rows.{Row}
-use Rattle.isp_base.specs.declared.types.Elem.TheVariants.{I64}
 use Rattle.isp_store.specs.Held.{Held, elements, bits_of}
 use Rattle.isp_store.proofs.Indices.{one_inside}
 use Rattle.isp_store.proofs.arrays.Arrays.load.Goals as goal

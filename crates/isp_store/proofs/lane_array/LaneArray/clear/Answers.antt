@@ -4,7 +4,6 @@ use Rattle.isp_base.specs.Sets.{flag_of}
 use Rattle.isp_store.specs.Own.{Own, own, AllOf}
 use Rattle.isp_store.specs.Held.{bits_of}
 use Rattle.isp_base.specs.Rows.{Row}
-use Rattle.isp_base.specs.Maps.{Lanes}
 use Rattle.isp_store.proofs.RowLists.{handed_back}
 use Rattle.isp_store.proofs.lane_array.LaneArray.clear.Goals as goal
 
