@@ -70,7 +70,8 @@ impl Arrays {
         self.items.len() - self.params
     }
 
-    /// One more local array, of `count` elements, all zero. 0 where memory is refused, and then nothing changes.
+    /// One more local array, of `count` elements, all zero. 0 where memory is refused, and then
+    /// nothing changes.
     pub fn open_local(&mut self, elem: Elem, count: usize) -> Result<(), AllocError>
         ensures ok { OnOk result (self.new ≡ record self.old { rows = self.old.rows ++ record { elem = elem; bits = replicate count 0 } ∷ [] }) }
         ensures err { OnErr result (self.new ≡ self.old) }

@@ -1,0 +1,4 @@
+//! The machine that runs verified code.
+#![tactic(auto)]
+
+mod frame;
