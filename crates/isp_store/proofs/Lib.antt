@@ -1,0 +1,4 @@
+mod Indices
+mod RowLists
+mod Lanes
+mod Own

@@ -1,0 +1,14 @@
+use Rattle.std.proofs.Common.{◌≡◌}
+use Rattle.isp_base.specs.Access.{element}
+use Rattle.isp_base.specs.Maps.{lane_of, map1, on, over}
+use Rattle.isp_base.specs.Sets.{flag_of}
+use Rattle.isp_base.specs.declared.types.Elem.TheVariants.{I64}
+use Rattle.isp_store.proofs.Lanes.{Mixed}
+use Rattle.isp_store.proofs.moves.read.Given as goal
+
+abbrev pub invariant-loop-lane : goal.invariant-loop-lane
+invariant-loop-lane g l =
+    record {
+      elem : l.into.elem ≡ l.initial.into.elem;
+      lanes : Mixed (over (map1 (λ x. lane_of l.array.bits (element I64 x)) (on (flag_of l.mask) (lane_of l.index.bits))) (lane_of l.initial.into.bits)) (lane_of l.initial.into.bits) l.into.bits g.row.N l.lane;
+    }

@@ -1,0 +1,204 @@
+//! The arrays that all lanes share.
+ghost use Rattle.std.specs.Prelude.{◌≡◌, ℕ, ◌+◌, ◌<◌, ◌≤◌, ◌^◌, ◌++◌, ◌∷◌, [], length, take, replicate, true, false, Some, None, IfOk, IfErr, OnOk, OnErr};
+ghost use Rattle.isp_base.specs.declared.types.Elem.TheVariants.{I64};
+ghost use Rattle.isp_base.specs.Access.{is_outside, element, scatter};
+ghost use Rattle.isp_base.specs.Maps.{lane_of, on, over, map1, lowest_failing, put};
+ghost use Rattle.isp_base.specs.Sets.{flag_of};
+ghost use Rattle.isp_base.specs.Values.{width};
+ghost use Rattle.isp_store.specs.Held.{elements, size, elem, shapes, named};
+
+use crate::index::{IndexTrap, limit, outside, trap_under};
+use crate::rows;
+use isp_base::{Array, Elem};
+use isp_lanes::{LaneMask, Lanes};
+use std::alloc::{AllocError, Global};
+use std::marker::Model;
+
+/// The arrays of a run that all lanes share, by number: first the parameters, then the local arrays
+/// in the order in which they were opened.
+///
+/// Indices are int64, in elements from 0. An array and its number are there, and types agree: that
+/// the caller knows. Indices it does not know, so they are looked at here, and only here.
+#[derive(Drop)]
+pub struct Arrays {
+    items: Vec<Array>,
+    params: usize,
+    alloc: Global,
+}
+
+impl Model for Arrays {
+    ghost use Rattle.std.specs.Prelude.{◌≤◌, length};
+    ghost use Rattle.isp_store.specs.Held.{Held};
+
+    ghost Value = { Held };
+
+    ghost view = { λ a. record { params = a.params; rows = a.items.items } };
+
+    ghost invariant = { λ a. a.params ≤ length a.items.items };
+}
+
+impl Arrays {
+    /// The parameters of a run, and no local array.
+    pub fn new(alloc: Global, params: Vec<Array>) -> Arrays
+        ensures { result ≡ record { params = length params.items; rows = params.items } }
+    {
+        Arrays {
+            params: params.len(),
+            items: params,
+            alloc,
+        }
+    }
+
+    /// The parameters as they are now.
+    pub fn params(&self) -> &[Array]
+        ensures { result.now ≡ take self.now.params self.now.rows }
+    {
+        &self.items[..self.params]
+    }
+
+    /// The number of arrays. The next one to be opened has this number.
+    pub fn count(&self) -> usize
+        ensures { result ≡ length self.now.rows }
+    {
+        self.items.len()
+    }
+
+    /// The number of local arrays.
+    pub fn locals(&self) -> usize
+        ensures { self.now.params + result ≡ length self.now.rows }
+    {
+        self.items.len() - self.params
+    }
+
+    /// One more local array, of `count` elements, all zero. 0 where memory is refused, and then
+    /// nothing changes.
+    pub fn open_local(&mut self, elem: Elem, count: usize) -> Result<(), AllocError>
+        ensures ok { OnOk result (self.new ≡ record self.old { rows = self.old.rows ++ record { elem = elem; bits = replicate count 0 } ∷ [] }) }
+        ensures err { OnErr result (self.new ≡ self.old) }
+    {
+        let array = rows::zeros(self.alloc, elem, count)?;
+        self.items.push(array)?;
+        Ok(())
+    }
+
+    /// Drops the local arrays behind the first `count`, those that were opened last.
+    pub fn close_locals(&mut self, count: usize)
+        ensures { self.new ≡ record self.old { rows = take (self.old.params + count) self.old.rows } }
+    {
+        if count < self.items.len() - self.params {
+            self.items.truncate(self.params + count);
+        }
+    }
+
+    /// An array all zero.
+    pub fn clear(&mut self, array: usize)
+        requires { array < length self.old.rows }
+        ensures elements { elements self.new ≡ put (elements self.old) array (λ e. 0) }
+        ensures shapes { shapes self.new ≡ shapes self.old }
+    {
+        rows::clear(&mut self.items, array);
+    }
+
+    /// The element at an index that all lanes share.
+    ///
+    /// Index where it is outside, with the lowest lane of the mask, or 0 under no lane.
+    pub fn load<const N: usize>(
+        &self,
+        array: usize,
+        index: u64,
+        mask: &LaneMask<N>,
+    ) -> Result<u64, IndexTrap>
+        requires { array < length self.now.rows }
+        ensures inside { IfOk result (λ bits. is_outside I64 (size self.now array) index ≡ false) }
+        ensures value { IfOk result (λ bits. bits ≡ elements self.now array (element I64 index)) }
+        ensures fits { IfOk result (λ bits. bits < 2 ^ width (elem self.now array)) }
+        ensures outside { IfErr result (λ t. is_outside I64 (size self.now array) index ≡ true) }
+        ensures lane { IfErr result (λ t. t.instance ≡ named N (flag_of mask.now)) }
+    {
+        if index >= limit(rows::count(&self.items, array)) {
+            return Err(trap_under(mask));
+        }
+        Ok(rows::load(&self.items, array, index as usize))
+    }
+
+    /// Writes the element at an index that all lanes share.
+    ///
+    /// Index where it is outside, with the lowest lane of the mask, or 0 under no lane, and then
+    /// nothing changes.
+    pub fn store<const N: usize>(
+        &mut self,
+        array: usize,
+        index: u64,
+        bits: u64,
+        mask: &LaneMask<N>,
+    ) -> Result<(), IndexTrap>
+        requires there { array < length self.old.rows }
+        requires fits { bits < 2 ^ width (elem self.old array) }
+        ensures inside { IfOk result (λ _. is_outside I64 (size self.old array) index ≡ false) }
+        ensures elements { IfOk result (λ _. elements self.new ≡ put (elements self.old) array (put (elements self.old array) (element I64 index) bits)) }
+        ensures shapes { shapes self.new ≡ shapes self.old }
+        ensures outside { IfErr result (λ t. is_outside I64 (size self.old array) index ≡ true) }
+        ensures lane { IfErr result (λ t. t.instance ≡ named N (flag_of mask.now)) }
+        ensures same { IfErr result (λ t. self.new ≡ self.old) }
+    {
+        if index >= limit(rows::count(&self.items, array)) {
+            return Err(trap_under(mask));
+        }
+        rows::put(&mut self.items, array, index as usize, bits);
+        Ok(())
+    }
+
+    /// In each lane of the mask the element at the lane's index.
+    ///
+    /// Index where one is outside, with the lowest such lane, and then nothing changes.
+    pub fn gather<const N: usize>(
+        &self,
+        array: usize,
+        index: &Lanes<N>,
+        mask: &LaneMask<N>,
+        into: &mut Lanes<N>,
+    ) -> Result<(), IndexTrap>
+        requires there { array < length self.now.rows }
+        requires index { index.now.elem ≡ I64 }
+        requires elem { into.old.elem ≡ elem self.now array }
+        ensures inside { IfOk result (λ _. lowest_failing N (is_outside I64 (size self.now array)) (on (flag_of mask.now) (lane_of index.now.bits)) ≡ None) }
+        ensures lanes { IfOk result (λ _. lane_of into.new.bits ≡ over (map1 (λ x. elements self.now array (element I64 x)) (on (flag_of mask.now) (lane_of index.now.bits))) (lane_of into.old.bits)) }
+        ensures elem { into.new.elem ≡ into.old.elem }
+        ensures lowest { IfErr result (λ t. lowest_failing N (is_outside I64 (size self.now array)) (on (flag_of mask.now) (lane_of index.now.bits)) ≡ Some t.instance) }
+        ensures same { IfErr result (λ t. into.new ≡ into.old) }
+    {
+        let count = rows::count(&self.items, array);
+        if let Some(instance) = outside(index, mask, count) {
+            return Err(IndexTrap { instance });
+        }
+        rows::gather(&self.items, array, index, mask, into);
+        Ok(())
+    }
+
+    /// Each lane of the mask writes its value at its index. Where two write at one, the higher wins.
+    ///
+    /// Index where one is outside, with the lowest such lane, and then nothing changes.
+    pub fn scatter<const N: usize>(
+        &mut self,
+        array: usize,
+        index: &Lanes<N>,
+        value: &Lanes<N>,
+        mask: &LaneMask<N>,
+    ) -> Result<(), IndexTrap>
+        requires there { array < length self.old.rows }
+        requires index { index.now.elem ≡ I64 }
+        requires elem { value.now.elem ≡ elem self.old array }
+        ensures inside { IfOk result (λ _. lowest_failing N (is_outside I64 (size self.old array)) (on (flag_of mask.now) (lane_of index.now.bits)) ≡ None) }
+        ensures elements { IfOk result (λ _. elements self.new ≡ put (elements self.old) array (scatter N (map1 (element I64) (on (flag_of mask.now) (lane_of index.now.bits))) (on (flag_of mask.now) (lane_of value.now.bits)) (elements self.old array))) }
+        ensures shapes { shapes self.new ≡ shapes self.old }
+        ensures lowest { IfErr result (λ t. lowest_failing N (is_outside I64 (size self.old array)) (on (flag_of mask.now) (lane_of index.now.bits)) ≡ Some t.instance) }
+        ensures same { IfErr result (λ t. self.new ≡ self.old) }
+    {
+        let size = rows::count(&self.items, array);
+        if let Some(instance) = outside(index, mask, size) {
+            return Err(IndexTrap { instance });
+        }
+        rows::scatter(&mut self.items, array, index, mask, value);
+        Ok(())
+    }
+}

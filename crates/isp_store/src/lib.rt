@@ -1,0 +1,12 @@
+//! The arrays of a run, and how lanes read and write them by checked indices.
+#![tactic(auto)]
+
+mod arrays;
+mod index;
+mod lane_array;
+mod moves;
+mod rows;
+
+pub use arrays::Arrays;
+pub use index::IndexTrap;
+pub use lane_array::LaneArray;
