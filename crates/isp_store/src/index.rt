@@ -54,9 +54,7 @@ pub(crate) fn trap_under<const N: usize>(mask: &LaneMask<N>) -> IndexTrap
     ensures { result.instance ≡ named N (flag_of mask.now) }
 {
     mask.told();
-    let instance = match mask.first() {
-        Some(lane) => lane,
-        None => 0,
-    };
-    IndexTrap { instance }
+    IndexTrap {
+        instance: mask.first(),
+    }
 }
