@@ -1,5 +1,5 @@
 #!/usr/bin/env python3
-"""Writes crates/isp_rows/src/codes/table.rt: instructions that the verifier takes, and wrong ones.
+"""Writes crates/isp_rows_code/src/codes/table.rt: instructions that the verifier takes, and wrong ones.
 
 Each line of the table of instructions in docs/MACHINE.md stands here once with what it asks of each
 operand. A wrong instruction differs from a right one in one operand: it is not there (40), has
@@ -181,7 +181,7 @@ pub enum Five {
     total += len(wrong)
     out += static("FIVES", FIVE + ", u32)", fine, "What is right of the others of four registers and a place.")
     out += static("WRONG_FIVES", FIVE + ", u32, Rule)", wrong, "What is wrong of them.")
-    with open("crates/isp_rows/src/codes/table.rt", "w") as file:
+    with open("crates/isp_rows_code/src/codes/table.rt", "w") as file:
         file.write(out.rstrip() + "\n")
     print(total, "wrong instructions")
 

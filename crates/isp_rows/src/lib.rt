@@ -6,26 +6,16 @@ mod arguments;
 #[cfg(test)]
 mod calls;
 #[cfg(test)]
-mod codes;
-#[cfg(test)]
 mod commands;
 #[cfg(test)]
 mod covered;
 #[cfg(test)]
 mod fakes;
 #[cfg(test)]
-mod grammar;
-#[cfg(test)]
 mod lanes;
-#[cfg(test)]
-mod lexer;
 #[cfg(test)]
 mod operators;
 #[cfg(test)]
 mod reading;
 #[cfg(test)]
 mod runs;
-#[cfg(test)]
-mod shapes;
-#[cfg(test)]
-mod trees;

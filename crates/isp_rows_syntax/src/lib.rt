@@ -1,0 +1,11 @@
+//! Worked examples of tokens and trees: what texts give, against answers that were found without the crates.
+#![tactic(auto)]
+
+#[cfg(test)]
+mod grammar;
+#[cfg(test)]
+mod lexer;
+#[cfg(test)]
+mod shapes;
+#[cfg(test)]
+mod trees;
