@@ -1,0 +1,9 @@
+mod Expressions
+mod Branches
+mod Loops
+mod Functions
+mod Rounds
+mod Library
+mod Prints
+mod Traps
+mod Mixed
