@@ -18,3 +18,6 @@ pub mod Prints
 pub mod Cells
 pub mod Held
 pub mod Cross
+pub mod Stores
+pub mod Truths
+pub mod Depths

@@ -6,7 +6,7 @@ ghost use Rattle.isp_bind.specs.Bounds.{AreBound};
 ghost use Rattle.isp_bind.specs.Binding.{element_bits, whole_bits, elements_bits, array_argument, argument_of, arguments_of, is_parameter, has_extra, bound_of};
 
 use crate::fault::BindFault;
-use isp_base::{Argument, Array, Bound, Elem, Parameter, Signature, Value, number, wrap};
+use isp_base::{Argument, Array, Bound, Elem, Parameter, Signature, Value, greatest_of, low_mask};
 use serde_json::{Category, Map, Number, Value as Json};
 use std::alloc::Global;
 
@@ -142,15 +142,19 @@ fn element(elem: Elem, value: &Json) -> Result<u64, BindFault>
     }
 }
 
-// The bits of a whole number, where they stand for it.
+// The bits of a whole number, where the type has it. Those of a negative one stand above the greatest value.
 fn whole_bits(elem: Elem, whole: i128) -> Result<u64, BindFault>
     ensures bits { result ≡ whole_bits elem whole }
     ensures fits { IfOk result (λ b. b < 2 ^ width elem) }
 {
-    let bits = wrap(elem, whole);
-    if number(elem, bits) == whole {
-        Ok(bits)
+    let greatest = i128::from(greatest_of(elem));
+    let all_bits = i128::from(low_mask(elem));
+    if whole > greatest || whole < greatest - all_bits {
+        return Err(BindFault::OutOfRange);
+    }
+    if whole < 0 {
+        Ok((whole + all_bits + 1) as u64)
     } else {
-        Err(BindFault::OutOfRange)
+        Ok(whole as u64)
     }
 }

@@ -1,13 +1,11 @@
 -- What has no fault is fine.
-use Rattle.std.proofs.Common.{◌≡◌, sym, ◌∙◌, ap, refl, subst, ℕ, ◌<◌, ◌++◌, List, [], ◌∷◌, length, map, Option, Some, None, Bool, true, false, not, ◌&&◌}
-use Rattle.std.specs.Prelude.{nat_lt, slice_get}
-use Rattle.isp_base.specs.Ranks.{same_elem}
+use Rattle.std.proofs.Common.{◌≡◌, sym, ◌∙◌, refl, subst, ◌<◌, List, [], ◌∷◌, length, map, Option, Some, None, true, false, ◌&&◌}
+use Rattle.std.specs.Prelude.{slice_get}
 use Rattle.isp_base.specs.declared.types.Elem.{Elem}
-use Rattle.isp_base.specs.declared.types.Elem.TheVariants.{Bool as Truth}
 use Rattle.isp_code.specs.Fine.{has_value, IsThere, IsWanted, IsWantedArray, IsGiven, OperandFine, AllFine, IsPassed, ArePassed, CallFine, CallsFine}
 use Rattle.isp_code.specs.Listing.{Listing, Routine}
 use Rattle.isp_code.specs.Operands.{operands, call_operands, result_operands, any_register}
-use Rattle.isp_code.specs.Registers.{table_of, count_of, elem_of, is_per_lane, is_local, same_class, class_of}
+use Rattle.isp_code.specs.Registers.{table_of, count_of, elem_of, is_per_lane, same_class, class_of}
 use Rattle.isp_code.specs.declared.function.Param.{Param}
 use Rattle.isp_code.specs.declared.function.ParamKind.{ParamKind}
 use Rattle.isp_code.specs.declared.function.ParamKind.TheVariants as kind
@@ -25,7 +23,7 @@ use Rattle.isp_code.specs.declared.operand.Want.TheVariants.{Any, Is, Integer, L
 use Rattle.isp_code.specs.declared.register.Class.{Class}
 use Rattle.isp_code.specs.declared.register.Class.TheVariants as class
 use Rattle.isp_code.specs.declared.register.Register.{Register}
-use Rattle.isp_verify.specs.Faults.{or_later, unless, there, register_fault, is_wanted, is_a, back_fault, result_fits, is_wanted_array, is_passed, argument_fits, arguments_fit, call_fits, operand_fault, operands_fault, call_fault, instr_fault}
+use Rattle.isp_verify.specs.Faults.{unless, register_fault, is_wanted, is_a, back_fault, result_fits, is_wanted_array, is_passed, argument_fits, arguments_fit, call_fits, operand_fault, operands_fault, instr_fault}
 use Rattle.isp_verify.specs.declared.fault.Rule.TheVariants.{BadKind, BadJump, BadCall}
 use Rattle.isp_verify.proofs.CallParts.{call_parts}
 use Rattle.isp_verify.proofs.Tests.{same_elem-is, same_elem-not, same_class-is, both_first, both_second, not_true, none_first, none_later, unless_none, below, there_low, there_kind}

@@ -1,25 +1,23 @@
 -- Accepted code goes on: each state of a run stands at an instruction, whose line applies.
-use Rattle.std.proofs.Common.{◌≡◌, sym, ◌∙◌, ap, refl, subst, ℕ, zero, suc, ◌+◌, ◌-◌, ◌<◌, ◌≤◌, ◌++◌, List, [], ◌∷◌, length, take, Option, Some, None, Bool, true, false, not, ◌&&◌, ◌==◌, if◌then◌else◌, ltb-true, arith}
+use Rattle.std.proofs.Common.{◌≡◌, sym, ◌∙◌, ap, refl, subst, ℕ, zero, suc, ◌+◌, ◌-◌, ◌<◌, List, [], ◌∷◌, length, take, Option, Some, None, Bool, true, false, not, ◌==◌, if◌then◌else◌, ltb-true, arith}
 use Rattle.std.specs.Prelude.{nat_lt, slice_get, Result, Ok, Err}
 use Rattle.std.specs.List.{list_any}
 use Rattle.std.proofs.lemmas.Bool.{ltb-false}
-use Rattle.std.proofs.lemmas.Option.{slice_get_within, slice_get-get_or}
+use Rattle.std.proofs.lemmas.Option.{slice_get-get_or}
+use Rattle.isp_base.specs.Cross.{or_zero}
+use Rattle.isp_base.specs.Depths.{most_calls}
 use Rattle.isp_base.specs.Traps.{trap}
 use Rattle.isp_base.specs.Sets.{Mask, lowest}
-use Rattle.isp_base.specs.Access.{is_zero}
-use Rattle.isp_base.specs.Maps.{lowest_failing, map2}
-use Rattle.isp_base.specs.Values.{op_bits}
 use Rattle.isp_base.specs.declared.operators.BinOp.{BinOp}
 use Rattle.isp_base.specs.declared.signature.Argument.{Argument}
 use Rattle.isp_base.specs.declared.trap.Trap.{Trap}
 use Rattle.isp_base.specs.declared.trap.TrapKind.{TrapKind}
 use Rattle.isp_base.specs.declared.trap.TrapKind.TheVariants.{Index, Assert, Depth}
 use Rattle.isp_base.specs.Types.{gang_width}
-use Rattle.isp_code.specs.Calls.{called, entered, left, resumed, with_result, put_result, depth, most_calls, or_zero, place_at}
+use Rattle.isp_code.specs.Calls.{called, entered, left, resumed, with_result, put_result, depth, place_at}
 use Rattle.isp_code.specs.Conf.{Frame, Conf, Move, Go, Say, Fail, Over, State, Runs, Trapped, Ended}
-use Rattle.isp_code.specs.Entries.{IsEntry}
 use Rattle.isp_code.specs.Fine.{AllFine, CallFine, CallsFine, GoesOn, LineApplies, CanGoOn}
-use Rattle.isp_code.specs.Lines.{moved, unless as trap_unless, scalar_value, vector_value, mask_value, set_scalar, set_vector, set_mask, set_array, set_own, divided, scattered, cleared, jumps, next, act}
+use Rattle.isp_code.specs.Lines.{moved, unless as trap_unless, scalar_value, vector_value, set_scalar, set_vector, divided, scattered, cleared, jumps, next, act}
 use Rattle.isp_code.specs.Listing.{Listing, Routine}
 use Rattle.isp_code.specs.Machine.{step, act_in, act_at, arrive, advance, after, first_conf}
 use Rattle.isp_code.specs.Operands.{operands}
@@ -30,13 +28,12 @@ use Rattle.isp_code.specs.declared.instr.Instr.TheVariants as instr
 use Rattle.isp_code.specs.declared.register.Class.{Class}
 use Rattle.isp_code.specs.declared.register.Class.TheVariants as class
 use Rattle.isp_code.specs.declared.register.Register.{Register}
-use Rattle.isp_verify.specs.Faults.{or_later, unless, is_function, names_differ, export_fits, header_fits, header_fault, stays, at_instruction, instr_fault, instrs_fault, last, last_fault, function_fault, functions_fault, code_fault}
+use Rattle.isp_verify.specs.Faults.{is_function, names_differ, export_fits, header_fits, header_fault, stays, at_instruction, instr_fault, instrs_fault, last, last_fault, function_fault, functions_fault, code_fault}
 use Rattle.isp_verify.specs.Progress.{NeverStuck}
-use Rattle.isp_verify.specs.declared.fault.Fault.{Fault}
 use Rattle.isp_verify.specs.declared.fault.Rule.{Rule}
 use Rattle.isp_verify.specs.declared.fault.Rule.TheVariants.{BadEntry, FallsOff}
 use Rattle.isp_verify.proofs.FineLaws.{instr_fine}
-use Rattle.isp_verify.proofs.Tests.{both_second, not_true, none_first, none_later, unless_none}
+use Rattle.isp_verify.proofs.Tests.{both_second, none_first, none_later, unless_none}
 
 some_same : {A : Type 0} {x y : A} → Some x ≡ Some y → x ≡ y
 some_same e = cc

@@ -1,6 +1,6 @@
 -- Which code has a fault, and which fault is the first. Functions go in order; in each the header comes first, then the
 -- instructions in order, last whether control falls off the end.
-use Rattle.std.specs.Prelude.{◌≡◌, ℕ, suc, ◌-◌, ℤ, List, [], ◌∷◌, length, take, bytes_eq, Option, Some, None, Bool, true, false, not, ◌&&◌, ◌==◌, if◌then◌else◌, nat_lt, slice_get}
+use Rattle.std.specs.Prelude.{ℕ, suc, ◌-◌, List, [], ◌∷◌, length, take, bytes_eq, Option, Some, None, Bool, true, false, not, ◌&&◌, ◌==◌, nat_lt, slice_get}
 use Rattle.std.specs.List.{list_any}
 use Rattle.isp_base.specs.Ranks.{same_elem}
 use Rattle.isp_base.specs.declared.types.Elem.{Elem}

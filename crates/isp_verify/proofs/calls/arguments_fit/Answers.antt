@@ -1,4 +1,4 @@
-use Rattle.std.proofs.Common.{sym, ◌∙◌}
+use Rattle.std.proofs.Common.{sym}
 use Rattle.isp_code.specs.Listing.{routine_of}
 use Rattle.isp_verify.proofs.CallParts.{unlike}
 use Rattle.isp_verify.proofs.calls.arguments_fit.Goals as goal

@@ -1,4 +1,4 @@
-use Rattle.std.proofs.Common.{sym, ◌∙◌, ap, map, length, get_or, subst, arith, ◌≡◌, ◌<◌}
+use Rattle.std.proofs.Common.{arith}
 use Rattle.isp_code.specs.Listing.{routine_of}
 use Rattle.isp_code.specs.Registers.{table_of}
 use Rattle.isp_verify.proofs.Tables.{at_maps, before_map}

@@ -1,6 +1,5 @@
-use Rattle.std.proofs.Common.{◌≡◌, ◌∙◌, sym}
 use Rattle.isp_code.specs.Listing.{routine_of}
-use Rattle.isp_verify.proofs.Exports.{export_at, none_at, none_past}
+use Rattle.isp_verify.proofs.Exports.{export_at, none_at}
 use Rattle.isp_verify.proofs.verified.exported.Goals as goal
 
 pub loop-number-preserved : goal.loop-number-preserved

@@ -1,6 +1,6 @@
-use Rattle.std.proofs.Common.{◌≡◌, ◌<◌, ℕ, map}
+use Rattle.std.proofs.Common.{◌<◌, ℕ}
 use Rattle.isp_code.specs.Entries.{IsExport}
-use Rattle.isp_code.specs.Listing.{Routine, routine_of}
+use Rattle.isp_code.specs.Listing.{Routine}
 use Rattle.isp_verify.proofs.verified.exported.Given as goal
 
 abbrev pub invariant-loop-number : goal.invariant-loop-number

@@ -1,4 +1,4 @@
-use Rattle.std.proofs.Common.{sym, subst}
+use Rattle.std.proofs.Common.{subst}
 use Rattle.isp_verify.specs.Progress.{NeverStuck}
 use Rattle.isp_verify.proofs.ProgressLaws.{never_stuck}
 use Rattle.isp_verify.proofs.verified.Verified.code.Goals as goal
