@@ -14,7 +14,7 @@ use isp_base::{BinOp, Compare, Elem, UnaryOp};
 use std::simd::prelude::*;
 
 // N words of 8, 16, 32 or 64 bits.
-#[derive(Clone, Copy, Debug)]
+#[derive(Clone, Copy)]
 pub(crate) enum Row<const N: usize> {
     Bits8([u8; N]),
     Bits16([u16; N]),
