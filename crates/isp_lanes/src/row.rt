@@ -121,6 +121,9 @@ impl<const N: usize> Row<N> {
         requires { length (held self.now) ≡ N }
         ensures { result ≡ first_zero op mask.now (held self.now) }
     {
+        if !op.divides() {
+            return None;
+        }
         match self {
             Row::Bits8(words) => masked::fault(op, Simd::from_array(*words), mask),
             Row::Bits16(words) => masked::fault(op, Simd::from_array(*words), mask),
