@@ -21,10 +21,10 @@ pub struct Array {
 // The elements' bits, in words of the width that their type takes.
 #[derive(Debug, Drop)]
 enum Cells {
-    W8(Vec<u8>),
-    W16(Vec<u16>),
-    W32(Vec<u32>),
-    W64(Vec<u64>),
+    Bits8(Vec<u8>),
+    Bits16(Vec<u16>),
+    Bits32(Vec<u32>),
+    Bits64(Vec<u64>),
 }
 
 impl Model for Array {
@@ -63,10 +63,10 @@ impl Array {
         ensures { result ≡ length self.now.bits }
     {
         match &self.cells {
-            Cells::W8(words) => words.len(),
-            Cells::W16(words) => words.len(),
-            Cells::W32(words) => words.len(),
-            Cells::W64(words) => words.len(),
+            Cells::Bits8(words) => words.len(),
+            Cells::Bits16(words) => words.len(),
+            Cells::Bits32(words) => words.len(),
+            Cells::Bits64(words) => words.len(),
         }
     }
 
@@ -77,10 +77,10 @@ impl Array {
         ensures fits { result < 2 ^ width self.now.elem }
     {
         match &self.cells {
-            Cells::W8(words) => words.as_slice()[place] as u64,
-            Cells::W16(words) => words.as_slice()[place] as u64,
-            Cells::W32(words) => words.as_slice()[place] as u64,
-            Cells::W64(words) => words.as_slice()[place],
+            Cells::Bits8(words) => words.as_slice()[place] as u64,
+            Cells::Bits16(words) => words.as_slice()[place] as u64,
+            Cells::Bits32(words) => words.as_slice()[place] as u64,
+            Cells::Bits64(words) => words.as_slice()[place],
         }
     }
 
@@ -91,10 +91,10 @@ impl Array {
         ensures { self.new ≡ record { elem = self.old.elem; bits = slice_set self.old.bits place bits } }
     {
         match &mut self.cells {
-            Cells::W8(words) => words[place] = bits as u8,
-            Cells::W16(words) => words[place] = bits as u16,
-            Cells::W32(words) => words[place] = bits as u32,
-            Cells::W64(words) => words[place] = bits,
+            Cells::Bits8(words) => words[place] = bits as u8,
+            Cells::Bits16(words) => words[place] = bits as u16,
+            Cells::Bits32(words) => words[place] = bits as u32,
+            Cells::Bits64(words) => words[place] = bits,
         }
     }
 
@@ -105,10 +105,10 @@ impl Array {
         ensures err { OnErr result (self.new ≡ self.old) }
     {
         match &mut self.cells {
-            Cells::W8(words) => words.push(bits as u8)?,
-            Cells::W16(words) => words.push(bits as u16)?,
-            Cells::W32(words) => words.push(bits as u32)?,
-            Cells::W64(words) => words.push(bits)?,
+            Cells::Bits8(words) => words.push(bits as u8)?,
+            Cells::Bits16(words) => words.push(bits as u16)?,
+            Cells::Bits32(words) => words.push(bits as u32)?,
+            Cells::Bits64(words) => words.push(bits)?,
         }
         Ok(())
     }
@@ -121,10 +121,10 @@ impl Cells {
         ensures wide { held_width result ≡ cell_width elem }
     {
         match elem {
-            Elem::Bool | Elem::I8 | Elem::U8 => Cells::W8(Vec::new(alloc)),
-            Elem::I16 | Elem::U16 => Cells::W16(Vec::new(alloc)),
-            Elem::I32 | Elem::U32 => Cells::W32(Vec::new(alloc)),
-            Elem::I64 | Elem::U64 => Cells::W64(Vec::new(alloc)),
+            Elem::Bool | Elem::I8 | Elem::U8 => Cells::Bits8(Vec::new(alloc)),
+            Elem::I16 | Elem::U16 => Cells::Bits16(Vec::new(alloc)),
+            Elem::I32 | Elem::U32 => Cells::Bits32(Vec::new(alloc)),
+            Elem::I64 | Elem::U64 => Cells::Bits64(Vec::new(alloc)),
         }
     }
 }

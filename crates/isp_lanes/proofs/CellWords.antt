@@ -1,8 +1,10 @@
 -- What one lane of a kernel computes, in words of the width w that the element type takes.
-use Rattle.std.proofs.Common.{not, mod-eq_of_lt, ◌≡◌, refl, sym, ap, ap₂, ◌∙◌, ℕ, ◌+◌, ◌-◌, ◌*◌, ◌/◌, ◌%◌, ◌^◌, ◌<◌, ◌≤◌, Bool, true, false, cond, nat_lt, ◌==◌, arith, lit≤, bit_and, subst, lt-ltb, le-ltb, ltb-true}
+use Rattle.std.proofs.Common.{not, bit_xor, div-le_self, pow_pos, ltb-false, mod-eq_of_lt, ◌≡◌, refl, sym, ap, ap₂, ◌∙◌, ℕ, ◌+◌, ◌-◌, ◌*◌, ◌/◌, ◌%◌, ◌^◌, ◌<◌, ◌≤◌, Bool, true, false, cond, nat_lt, ◌==◌, arith, lit≤, bit_and, subst, lt-ltb, le-ltb, ltb-true}
 use Rattle.std.proofs.Math.Pow.{mod-mod-pow}
 use native.Mathlib.Nat.{add-mul-mod_self_right}
 use lib.Bits.{and_mask}
+use Rattle.std.specs.Int.Bits.{xor_add_and, xor_zero_r, and_zero_r}
+use Rattle.std.proofs.lemmas.Nat.{and_block}
 use Rattle.isp_base.specs.declared.types.Elem.{Elem}
 use Rattle.isp_base.specs.declared.types.Elem.TheVariants.{Bool as Truth, I8, U8, I16, U16, I32, U32, I64, U64}
 use Rattle.isp_base.specs.declared.operators.BinOp.TheVariants.{Add, Sub, Mul, Div, Rem, Shl, Shr, Min, Max}
@@ -15,10 +17,9 @@ use Rattle.isp_base.specs.Cells.{cell_width}
 use Rattle.isp_base.proofs.Unaries.{negate_is, invert_is, absolute_is, not_is}
 use Rattle.isp_base.proofs.Signs.{differ}
 use Rattle.isp_base.proofs.Words.{low_of, word_add, word_sub, word_mul, word_minus, word_shl, word_shr, word_div, word_rem, word_min, word_max, word_magnitude}
-use Rattle.std.specs.Simd.Lanes.{top}
 use Rattle.isp_base.proofs.Converts.{truth_is}
 use Rattle.isp_base.proofs.Unaries.{bit_of}
-use Rattle.isp_base.proofs.Words.{word_spread, set_top}
+use Rattle.isp_base.proofs.Words.{word_spread}
 use Rattle.isp_lanes.proofs.Flags.{on_is}
 use Rattle.isp_lanes.specs.Lanes.{is_on}
 
@@ -183,6 +184,17 @@ module _ (w : ℕ) (t : Elem) (e : w ≡ cell_width t) where
   once true h u v k = refl
   once false h u v k = refl
 
+  -- a truth turns all bits or none
+  xor_truth : (b : Bool) (n : ℕ) → n < 2 ^ w → bit_xor n (cond b (2 ^ w - 1) 0) ≡ cond b (2 ^ w - 1 - n) n
+  xor_truth true n p =
+      let all : bit_and n (2 ^ w - 1) ≡ n = and_mask n w ∙ mod-eq_of_lt p in
+      omega (arith, xor_add_and n (2 ^ w - 1), all, p)
+  xor_truth false n p = xor_zero_r n
+
+  turned_in : (b : Bool) (n : ℕ) → n < 2 ^ w → cond b (2 ^ w - 1 - n) n < 2 ^ w
+  turned_in true n p = omega (arith, p)
+  turned_in false n p = p
+
   -- the sign's truth
   pub sign : ℕ → ℕ
   sign x = cond (nat_lt (greatest t) x) (2 ^ w - 1) 0
@@ -203,15 +215,16 @@ module _ (w : ℕ) (t : Elem) (e : w ≡ cell_width t) where
     pub lane_shl : bit_and ((x * 2 ^ bit_and y (width t - 1)) % 2 ^ w) (2 ^ width t - 1) ≡ op_bits Shl t x y
     lane_shl = same_low (x * 2 ^ bit_and y (width t - 1)) ∙ word_shl t x y p q
 
-    pub lane_shr : cond (is_on (cond (nat_lt (greatest t) x) (2 ^ w - 1) 0))
-        (2 ^ w - 1 - cond (is_on (cond (nat_lt (greatest t) x) (2 ^ w - 1) 0)) (2 ^ w - 1 - x) x / 2 ^ bit_and y (width t - 1))
-        (cond (is_on (cond (nat_lt (greatest t) x) (2 ^ w - 1) 0)) (2 ^ w - 1 - x) x / 2 ^ bit_and y (width t - 1))
-        ≡ op_bits Shr t x y
+    pub lane_shr : bit_xor (bit_xor x (cond (nat_lt (greatest t) x) (2 ^ w - 1) 0) / 2 ^ bit_and y (width t - 1)) (cond (nat_lt (greatest t) x) (2 ^ w - 1) 0) ≡ op_bits Shr t x y
     lane_shr =
         let k = bit_and y (width t - 1) in
-        ap (λ b. cond b (2 ^ w - 1 - cond b (2 ^ w - 1 - x) x / 2 ^ k) (cond b (2 ^ w - 1 - x) x / 2 ^ k)) (sign_is x)
-        ∙ ap (λ n. cond (nat_lt (greatest t) x) (2 ^ w - 1 - n / 2 ^ k) (n / 2 ^ k)) (complement x x p x)
-        ∙ once (nat_lt (greatest t) x) (λ n. 2 ^ w - 1 - n) (2 ^ width t - 1 - x) x k
+        let b = nat_lt (greatest t) x in
+        let inside : x < 2 ^ w = omega (arith, w_room, p) in
+        let half : cond b (2 ^ w - 1 - x) x / 2 ^ k < 2 ^ w = omega (arith, div-le_self (cond b (2 ^ w - 1 - x) x) (2 ^ k), turned_in b x inside) in
+        ap (λ n. bit_xor (n / 2 ^ k) (cond b (2 ^ w - 1) 0)) (xor_truth b x inside)
+        ∙ xor_truth b (cond b (2 ^ w - 1 - x) x / 2 ^ k) half
+        ∙ ap (λ n. cond b (2 ^ w - 1 - n / 2 ^ k) (n / 2 ^ k)) (complement x x p x)
+        ∙ once b (λ n. 2 ^ w - 1 - n) (2 ^ width t - 1 - x) x k
         ∙ complement x (x / 2 ^ k) p ((2 ^ width t - 1 - x) / 2 ^ k)
         ∙ word_shr t x y p q
 
@@ -342,8 +355,59 @@ module _ (t : Elem) (x : ℕ) (p : x < 2 ^ width t) where
 
 -- ---- conversion, in words of 64 bits
 
-pub lane_spread : (t v : Elem) (x : ℕ) → x < 2 ^ width t → bit_and (cond (top 63 (cond (nat_lt (greatest t) x) (2 ^ 64 - 1) 0)) ((x + (2 ^ 64 - 2 ^ width t)) % 2 ^ 64) x) (2 ^ width v - 1) ≡ wrap v (number t x)
-lane_spread t v x p = ap (λ b. bit_and (cond b ((x + (2 ^ 64 - 2 ^ width t)) % 2 ^ 64) x) (2 ^ width v - 1)) (set_top (nat_lt (greatest t) x)) ∙ word_spread t v x p
+-- the highest bit turned, and its worth taken away
+flipped : (k m x : ℕ) → m ≡ 2 ^ k → bit_and x m ≡ cond (nat_lt (m - 1) x) m 0 → x < 2 * m → 2 * m ≤ 2 ^ 64 → (bit_xor x m + (2 ^ 64 - m)) % 2 ^ 64 ≡ cond (nat_lt (m - 1) x) ((x + (2 ^ 64 - 2 * m)) % 2 ^ 64) x
+flipped k m x d a p q = by (nat_lt (m - 1) x) refl
+  where
+    some : 0 < m
+    some = omega (arith, d, pow_pos k)
+
+    by : (b : Bool) → nat_lt (m - 1) x ≡ b → (bit_xor x m + (2 ^ 64 - m)) % 2 ^ 64 ≡ cond b ((x + (2 ^ 64 - 2 * m)) % 2 ^ 64) x
+    by true e =
+        let both : bit_and x m ≡ m = a ∙ ap (λ b. cond b m 0) e in
+        ap (λ n. n % 2 ^ 64) (omega (arith, xor_add_and x m, both, ltb-true (m - 1) x e, some, q))
+    by false e =
+        let none : bit_and x m ≡ 0 = a ∙ ap (λ b. cond b m 0) e in
+        let sum : bit_xor x m + (2 ^ 64 - m) ≡ x + 1 * 2 ^ 64 = omega (arith, xor_add_and x m, none, q) in
+        ap (λ n. n % 2 ^ 64) sum ∙ add-mul-mod_self_right x 1 (2 ^ 64) ∙ mod-eq_of_lt (omega (arith, ltb-false (m - 1) x e, some, p, q))
+
+kept : (x : ℕ) → x < 2 ^ 64 → (bit_xor x 0 + (2 ^ 64 - 0)) % 2 ^ 64 ≡ x
+kept x p =
+    let sum : bit_xor x 0 + 2 ^ 64 ≡ x + 1 * 2 ^ 64 = omega (arith, xor_zero_r x) in
+    ap (λ n. n % 2 ^ 64) sum ∙ add-mul-mod_self_right x 1 (2 ^ 64) ∙ mod-eq_of_lt p
+
+-- a number of less than w bits has bit k, the highest, or not
+bit_of_two : (k x : ℕ) → x < 2 * 2 ^ k → bit_and x (2 ^ k) ≡ cond (nat_lt (2 ^ k - 1) x) (2 ^ k) 0
+bit_of_two k x p = by (nat_lt (2 ^ k - 1) x) refl
+  where
+    block : (a r : ℕ) → r < 2 ^ k → bit_and (a * 2 ^ k + r) (1 * 2 ^ k + 0) ≡ bit_and a 1 * 2 ^ k + bit_and r 0
+    block a r h = and_block k a 1 r 0 h (pow_pos k)
+
+    by : (b : Bool) → nat_lt (2 ^ k - 1) x ≡ b → bit_and x (2 ^ k) ≡ cond b (2 ^ k) 0
+    by true e =
+        let h : x - 2 ^ k < 2 ^ k = omega (arith, p, ltb-true (2 ^ k - 1) x e, pow_pos k) in
+        let same : x ≡ 1 * 2 ^ k + (x - 2 ^ k) = omega (arith, ltb-true (2 ^ k - 1) x e, pow_pos k) in
+        let one : 2 ^ k ≡ 1 * 2 ^ k + 0 = omega arith in
+        ap₂ bit_and same one ∙ block 1 (x - 2 ^ k) h ∙ omega (arith, and_zero_r (x - 2 ^ k))
+    by false e =
+        let h : x < 2 ^ k = omega (arith, ltb-false (2 ^ k - 1) x e, pow_pos k) in
+        let same : x ≡ 0 * 2 ^ k + x = omega arith in
+        let one : 2 ^ k ≡ 1 * 2 ^ k + 0 = omega arith in
+        ap₂ bit_and same one ∙ block 0 x h ∙ omega (arith, and_zero_r x)
+
+spread_is : (t : Elem) (x : ℕ) → x < 2 ^ width t → (bit_xor x (2 ^ width t - 1 - greatest t) + (2 ^ 64 - (2 ^ width t - 1 - greatest t))) % 2 ^ 64 ≡ cond (nat_lt (greatest t) x) ((x + (2 ^ 64 - 2 ^ width t)) % 2 ^ 64) x
+spread_is Truth x p = kept x (omega (arith, p)) ∙ ap (λ b. cond b ((x + (2 ^ 64 - 2)) % 2 ^ 64) x) (sym (no_sign Truth refl x p))
+spread_is I8 x p = flipped 7 (2 ^ 7) x refl (bit_of_two 7 x p) p (lit≤ tt)
+spread_is U8 x p = kept x (omega (arith, p)) ∙ ap (λ b. cond b ((x + (2 ^ 64 - 2 ^ 8)) % 2 ^ 64) x) (sym (no_sign U8 refl x p))
+spread_is I16 x p = flipped 15 (2 ^ 15) x refl (bit_of_two 15 x p) p (lit≤ tt)
+spread_is U16 x p = kept x (omega (arith, p)) ∙ ap (λ b. cond b ((x + (2 ^ 64 - 2 ^ 16)) % 2 ^ 64) x) (sym (no_sign U16 refl x p))
+spread_is I32 x p = flipped 31 (2 ^ 31) x refl (bit_of_two 31 x p) p (lit≤ tt)
+spread_is U32 x p = kept x (omega (arith, p)) ∙ ap (λ b. cond b ((x + (2 ^ 64 - 2 ^ 32)) % 2 ^ 64) x) (sym (no_sign U32 refl x p))
+spread_is I64 x p = flipped 63 (2 ^ 63) x refl (bit_of_two 63 x p) p (lit≤ tt)
+spread_is U64 x p = kept x (omega (arith, p)) ∙ ap (λ b. cond b ((x + (2 ^ 64 - 2 ^ 64)) % 2 ^ 64) x) (sym (no_sign U64 refl x p))
+
+pub lane_spread : (t v : Elem) (x : ℕ) → x < 2 ^ width t → bit_and ((bit_xor x (2 ^ width t - 1 - greatest t) + (2 ^ 64 - (2 ^ width t - 1 - greatest t))) % 2 ^ 64) (2 ^ width v - 1) ≡ wrap v (number t x)
+lane_spread t v x p = ap (λ n. bit_and n (2 ^ width v - 1)) (spread_is t x p) ∙ word_spread t v x p
 
 -- to bool: the bits are 0 just where the number is
 pub lane_truth : (t : Elem) (x : ℕ) → x < 2 ^ width t → cond (is_on x) 1 0 ≡ not_zero (number t x)

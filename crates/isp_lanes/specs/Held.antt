@@ -5,20 +5,20 @@ use Rattle.isp_base.specs.declared.types.Elem.TheVariants.{Bool as Truth, I8, U8
 use Rattle.isp_base.specs.Rows.{Fit}
 use Rattle.isp_base.specs.Cells.{cell_width}
 use Rattle.isp_lanes.specs.declared.row.Row.{Row}
-use Rattle.isp_lanes.specs.declared.row.Row.TheVariants.{W8, W16, W32, W64}
+use Rattle.isp_lanes.specs.declared.row.Row.TheVariants.{Bits8, Bits16, Bits32, Bits64}
 
 -- the lanes
 abbrev pub held : {n : ℕ} → Row n → List ℕ
-held (W8 words) = words
-held (W16 words) = words
-held (W32 words) = words
-held (W64 words) = words
+held (Bits8 words) = words
+held (Bits16 words) = words
+held (Bits32 words) = words
+held (Bits64 words) = words
 
 abbrev pub held_width : {n : ℕ} → Row n → ℕ
-held_width (W8 words) = 8
-held_width (W16 words) = 16
-held_width (W32 words) = 32
-held_width (W64 words) = 64
+held_width (Bits8 words) = 8
+held_width (Bits16 words) = 16
+held_width (Bits32 words) = 32
+held_width (Bits64 words) = 64
 
 -- n lanes of an element type, in words of w bits
 pub record IsRow (n w : ℕ) (t : Elem) (xs : List ℕ) : Type 0 where
@@ -28,12 +28,12 @@ pub record IsRow (n w : ℕ) (t : Elem) (xs : List ℕ) : Type 0 where
 
 -- the lanes of an element type, in words of its width
 abbrev pub row_of : {n : ℕ} → Elem → List ℕ → Row n
-row_of Truth xs = W8 xs
-row_of I8 xs = W8 xs
-row_of U8 xs = W8 xs
-row_of I16 xs = W16 xs
-row_of U16 xs = W16 xs
-row_of I32 xs = W32 xs
-row_of U32 xs = W32 xs
-row_of I64 xs = W64 xs
-row_of U64 xs = W64 xs
+row_of Truth xs = Bits8 xs
+row_of I8 xs = Bits8 xs
+row_of U8 xs = Bits8 xs
+row_of I16 xs = Bits16 xs
+row_of U16 xs = Bits16 xs
+row_of I32 xs = Bits32 xs
+row_of U32 xs = Bits32 xs
+row_of I64 xs = Bits64 xs
+row_of U64 xs = Bits64 xs

@@ -18,7 +18,7 @@ use std::simd::prelude::*;
 /// A value of one element type in each of N lanes. Contracts see a `Row` of N values' bits.
 ///
 /// The calls with a mask write the lanes that are on. The others keep their old value.
-#[derive(Clone, Copy, Debug)]
+#[derive(Clone, Copy)]
 pub struct Lanes<const N: usize> {
     elem: Elem,
     row: Row<N>,

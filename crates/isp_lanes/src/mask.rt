@@ -15,7 +15,7 @@ use std::simd::prelude::*;
 
 /// The lanes of a vector that an operator works on: each of the N lanes, 64 at most, is on or off.
 /// Contracts see the list of the lanes.
-#[derive(Clone, Copy, Debug)]
+#[derive(Clone, Copy)]
 pub struct LaneMask<const N: usize> {
     lanes: [u8; N],
 }

@@ -14,12 +14,12 @@ use isp_base::{BinOp, Compare, Elem, UnaryOp};
 use std::simd::prelude::*;
 
 // N words of 8, 16, 32 or 64 bits.
-#[derive(Clone, Copy, Debug)]
+#[derive(Clone, Copy)]
 pub(crate) enum Row<const N: usize> {
-    W8([u8; N]),
-    W16([u16; N]),
-    W32([u32; N]),
-    W64([u64; N]),
+    Bits8([u8; N]),
+    Bits16([u16; N]),
+    Bits32([u32; N]),
+    Bits64([u64; N]),
 }
 
 impl<const N: usize> Row<N> {
@@ -29,10 +29,10 @@ impl<const N: usize> Row<N> {
         ensures wide { held_width result ≡ cell_width elem }
     {
         match elem {
-            Elem::Bool | Elem::I8 | Elem::U8 => Row::W8([0; N]),
-            Elem::I16 | Elem::U16 => Row::W16([0; N]),
-            Elem::I32 | Elem::U32 => Row::W32([0; N]),
-            Elem::I64 | Elem::U64 => Row::W64([0; N]),
+            Elem::Bool | Elem::I8 | Elem::U8 => Row::Bits8([0; N]),
+            Elem::I16 | Elem::U16 => Row::Bits16([0; N]),
+            Elem::I32 | Elem::U32 => Row::Bits32([0; N]),
+            Elem::I64 | Elem::U64 => Row::Bits64([0; N]),
         }
     }
 
@@ -43,10 +43,10 @@ impl<const N: usize> Row<N> {
         ensures { slice_get (held self.now) lane ≡ Some result }
     {
         match self {
-            Row::W8(words) => words[lane] as u64,
-            Row::W16(words) => words[lane] as u64,
-            Row::W32(words) => words[lane] as u64,
-            Row::W64(words) => words[lane],
+            Row::Bits8(words) => words[lane] as u64,
+            Row::Bits16(words) => words[lane] as u64,
+            Row::Bits32(words) => words[lane] as u64,
+            Row::Bits64(words) => words[lane],
         }
     }
 
@@ -58,10 +58,10 @@ impl<const N: usize> Row<N> {
         ensures wide { held_width self.new ≡ held_width self.old }
     {
         match self {
-            Row::W8(words) => words[lane] = word as u8,
-            Row::W16(words) => words[lane] = word as u16,
-            Row::W32(words) => words[lane] = word as u32,
-            Row::W64(words) => words[lane] = word,
+            Row::Bits8(words) => words[lane] = word as u8,
+            Row::Bits16(words) => words[lane] = word as u16,
+            Row::Bits32(words) => words[lane] = word as u32,
+            Row::Bits64(words) => words[lane] = word,
         }
     }
 }
@@ -76,7 +76,7 @@ impl<const N: usize> Row<N> {
         ensures wide { held_width self.new ≡ held_width self.old }
     {
         match (self, x) {
-            (Row::W8(old), Row::W8(x)) => {
+            (Row::Bits8(old), Row::Bits8(x)) => {
                 *old = masked::unary(
                     op,
                     elem,
@@ -85,7 +85,7 @@ impl<const N: usize> Row<N> {
                     Simd::from_array(*old),
                 ).to_array();
             }
-            (Row::W16(old), Row::W16(x)) => {
+            (Row::Bits16(old), Row::Bits16(x)) => {
                 *old = masked::unary(
                     op,
                     elem,
@@ -94,7 +94,7 @@ impl<const N: usize> Row<N> {
                     Simd::from_array(*old),
                 ).to_array();
             }
-            (Row::W32(old), Row::W32(x)) => {
+            (Row::Bits32(old), Row::Bits32(x)) => {
                 *old = masked::unary(
                     op,
                     elem,
@@ -103,7 +103,7 @@ impl<const N: usize> Row<N> {
                     Simd::from_array(*old),
                 ).to_array();
             }
-            (Row::W64(old), Row::W64(x)) => {
+            (Row::Bits64(old), Row::Bits64(x)) => {
                 *old = masked::unary(
                     op,
                     elem,
@@ -121,11 +121,14 @@ impl<const N: usize> Row<N> {
         requires { length (held self.now) ≡ N }
         ensures { result ≡ first_zero op mask.now (held self.now) }
     {
+        if !op.divides() {
+            return None;
+        }
         match self {
-            Row::W8(words) => masked::fault(op, Simd::from_array(*words), mask),
-            Row::W16(words) => masked::fault(op, Simd::from_array(*words), mask),
-            Row::W32(words) => masked::fault(op, Simd::from_array(*words), mask),
-            Row::W64(words) => masked::fault(op, Simd::from_array(*words), mask),
+            Row::Bits8(words) => masked::fault(op, Simd::from_array(*words), mask),
+            Row::Bits16(words) => masked::fault(op, Simd::from_array(*words), mask),
+            Row::Bits32(words) => masked::fault(op, Simd::from_array(*words), mask),
+            Row::Bits64(words) => masked::fault(op, Simd::from_array(*words), mask),
         }
     }
 
@@ -139,7 +142,7 @@ impl<const N: usize> Row<N> {
         ensures wide { held_width self.new ≡ held_width self.old }
     {
         match (self, x, y) {
-            (Row::W8(old), Row::W8(x), Row::W8(y)) => {
+            (Row::Bits8(old), Row::Bits8(x), Row::Bits8(y)) => {
                 *old = masked::binary(
                     op,
                     elem,
@@ -150,7 +153,7 @@ impl<const N: usize> Row<N> {
                 )
                 .to_array();
             }
-            (Row::W16(old), Row::W16(x), Row::W16(y)) => {
+            (Row::Bits16(old), Row::Bits16(x), Row::Bits16(y)) => {
                 *old = masked::binary(
                     op,
                     elem,
@@ -161,7 +164,7 @@ impl<const N: usize> Row<N> {
                 )
                 .to_array();
             }
-            (Row::W32(old), Row::W32(x), Row::W32(y)) => {
+            (Row::Bits32(old), Row::Bits32(x), Row::Bits32(y)) => {
                 *old = masked::binary(
                     op,
                     elem,
@@ -172,7 +175,7 @@ impl<const N: usize> Row<N> {
                 )
                 .to_array();
             }
-            (Row::W64(old), Row::W64(x), Row::W64(y)) => {
+            (Row::Bits64(old), Row::Bits64(x), Row::Bits64(y)) => {
                 *old = masked::binary(
                     op,
                     elem,
@@ -194,25 +197,25 @@ impl<const N: usize> Row<N> {
         ensures { result ≡ zip2 (compare_bits compare elem) (held self.now) (held y.now) }
     {
         match (self, y) {
-            (Row::W8(x), Row::W8(y)) => kernels::compare(
+            (Row::Bits8(x), Row::Bits8(y)) => kernels::compare(
                 compare,
                 elem,
                 Simd::from_array(*x),
                 Simd::from_array(*y),
             ),
-            (Row::W16(x), Row::W16(y)) => kernels::compare(
+            (Row::Bits16(x), Row::Bits16(y)) => kernels::compare(
                 compare,
                 elem,
                 Simd::from_array(*x),
                 Simd::from_array(*y),
             ),
-            (Row::W32(x), Row::W32(y)) => kernels::compare(
+            (Row::Bits32(x), Row::Bits32(y)) => kernels::compare(
                 compare,
                 elem,
                 Simd::from_array(*x),
                 Simd::from_array(*y),
             ),
-            (Row::W64(x), Row::W64(y)) => kernels::compare(
+            (Row::Bits64(x), Row::Bits64(y)) => kernels::compare(
                 compare,
                 elem,
                 Simd::from_array(*x),
@@ -230,7 +233,7 @@ impl<const N: usize> Row<N> {
         ensures wide { held_width self.new ≡ held_width self.old }
     {
         match (self, x, y) {
-            (Row::W8(old), Row::W8(x), Row::W8(y)) => {
+            (Row::Bits8(old), Row::Bits8(x), Row::Bits8(y)) => {
                 *old = masked::select(
                     test,
                     Simd::from_array(*x),
@@ -240,7 +243,7 @@ impl<const N: usize> Row<N> {
                 )
                 .to_array();
             }
-            (Row::W16(old), Row::W16(x), Row::W16(y)) => {
+            (Row::Bits16(old), Row::Bits16(x), Row::Bits16(y)) => {
                 *old = masked::select(
                     test,
                     Simd::from_array(*x),
@@ -250,7 +253,7 @@ impl<const N: usize> Row<N> {
                 )
                 .to_array();
             }
-            (Row::W32(old), Row::W32(x), Row::W32(y)) => {
+            (Row::Bits32(old), Row::Bits32(x), Row::Bits32(y)) => {
                 *old = masked::select(
                     test,
                     Simd::from_array(*x),
@@ -260,7 +263,7 @@ impl<const N: usize> Row<N> {
                 )
                 .to_array();
             }
-            (Row::W64(old), Row::W64(x), Row::W64(y)) => {
+            (Row::Bits64(old), Row::Bits64(x), Row::Bits64(y)) => {
                 *old = masked::select(
                     test,
                     Simd::from_array(*x),
@@ -281,22 +284,22 @@ impl<const N: usize> Row<N> {
         ensures wide { held_width self.new ≡ held_width self.old }
     {
         match (self, x) {
-            (Row::W8(old), Row::W8(x)) => {
+            (Row::Bits8(old), Row::Bits8(x)) => {
                 *old = mask
                     .merge(Simd::from_array(*x), Simd::from_array(*old))
                     .to_array();
             }
-            (Row::W16(old), Row::W16(x)) => {
+            (Row::Bits16(old), Row::Bits16(x)) => {
                 *old = mask
                     .merge(Simd::from_array(*x), Simd::from_array(*old))
                     .to_array();
             }
-            (Row::W32(old), Row::W32(x)) => {
+            (Row::Bits32(old), Row::Bits32(x)) => {
                 *old = mask
                     .merge(Simd::from_array(*x), Simd::from_array(*old))
                     .to_array();
             }
-            (Row::W64(old), Row::W64(x)) => {
+            (Row::Bits64(old), Row::Bits64(x)) => {
                 *old = mask
                     .merge(Simd::from_array(*x), Simd::from_array(*old))
                     .to_array();
@@ -312,10 +315,10 @@ impl<const N: usize> Row<N> {
         ensures wide { held_width self.new ≡ held_width self.old }
     {
         match self {
-            Row::W8(old) => *old = masked::splat(word, mask, Simd::from_array(*old)).to_array(),
-            Row::W16(old) => *old = masked::splat(word, mask, Simd::from_array(*old)).to_array(),
-            Row::W32(old) => *old = masked::splat(word, mask, Simd::from_array(*old)).to_array(),
-            Row::W64(old) => *old = masked::splat(word, mask, Simd::from_array(*old)).to_array(),
+            Row::Bits8(old) => *old = masked::splat(word, mask, Simd::from_array(*old)).to_array(),
+            Row::Bits16(old) => *old = masked::splat(word, mask, Simd::from_array(*old)).to_array(),
+            Row::Bits32(old) => *old = masked::splat(word, mask, Simd::from_array(*old)).to_array(),
+            Row::Bits64(old) => *old = masked::splat(word, mask, Simd::from_array(*old)).to_array(),
         }
     }
 
@@ -324,10 +327,10 @@ impl<const N: usize> Row<N> {
         ensures { result ≡ held self.now }
     {
         match self {
-            Row::W8(words) => Simd::from_array(*words).wide(),
-            Row::W16(words) => Simd::from_array(*words).wide(),
-            Row::W32(words) => Simd::from_array(*words).wide(),
-            Row::W64(words) => Simd::from_array(*words).wide(),
+            Row::Bits8(words) => Simd::from_array(*words).wide(),
+            Row::Bits16(words) => Simd::from_array(*words).wide(),
+            Row::Bits32(words) => Simd::from_array(*words).wide(),
+            Row::Bits64(words) => Simd::from_array(*words).wide(),
         }
     }
 
@@ -338,10 +341,10 @@ impl<const N: usize> Row<N> {
         ensures wide { held_width self.new ≡ held_width self.old }
     {
         match self {
-            Row::W8(old) => *old = masked::keep(wide, mask, Simd::from_array(*old)).to_array(),
-            Row::W16(old) => *old = masked::keep(wide, mask, Simd::from_array(*old)).to_array(),
-            Row::W32(old) => *old = masked::keep(wide, mask, Simd::from_array(*old)).to_array(),
-            Row::W64(old) => *old = masked::keep(wide, mask, Simd::from_array(*old)).to_array(),
+            Row::Bits8(old) => *old = masked::keep(wide, mask, Simd::from_array(*old)).to_array(),
+            Row::Bits16(old) => *old = masked::keep(wide, mask, Simd::from_array(*old)).to_array(),
+            Row::Bits32(old) => *old = masked::keep(wide, mask, Simd::from_array(*old)).to_array(),
+            Row::Bits64(old) => *old = masked::keep(wide, mask, Simd::from_array(*old)).to_array(),
         }
     }
 
@@ -351,7 +354,7 @@ impl<const N: usize> Row<N> {
         ensures { result ≡ held self.now }
     {
         match self {
-            Row::W8(words) => *words,
+            Row::Bits8(words) => *words,
             _ => unreachable!(),
         }
     }
@@ -363,7 +366,7 @@ impl<const N: usize> Row<N> {
         ensures wide { held_width self.new ≡ held_width self.old }
     {
         match self {
-            Row::W8(old) => *old = mask
+            Row::Bits8(old) => *old = mask
                 .merge(Simd::from_array(*bytes), Simd::from_array(*old))
                 .to_array(),
             _ => unreachable!(),

@@ -18,15 +18,14 @@ pub(crate) fn convert<const N: usize>(from: Elem, to: Elem, x: Simd<u64, N>) -> 
     }
 }
 
-// The numbers, wrapped to another type: their sign is spread to 64 bits and the word cut to the width.
+// The numbers, wrapped to another type: their sign, a bit of its own or none, is spread to 64 bits, and the word cut to the
+// width.
 fn wrap<const N: usize>(from: Elem, to: Elem, x: Simd<u64, N>) -> Simd<u64, N>
     requires { Fit from x }
     ensures { result ≡ map (λ a. wrap to (number from a)) x.entry }
 {
-    let spread = Simd::splat(u64::MAX - low_mask(from));
-    let wide = x
-        .simd_gt(Simd::splat(greatest_of(from)))
-        .select(x + spread, x);
+    let half = Simd::splat(low_mask(from) - greatest_of(from));
+    let wide = (x ^ half) - half;
     wide & Simd::splat(low_mask(to))
 }
 

@@ -17,7 +17,7 @@ pub(super) fn shl<const N: usize, V: Words<N>>(elem: Elem, x: V, y: V) -> V
     x.left(by).and(V::all(low_mask(elem)))
 }
 
-// A negative number is shifted by its complement, so that ones come in from above.
+// The bits of a negative number are turned before and after, so that ones come in from above.
 pub(super) fn shr<const N: usize, V: Words<N>>(elem: Elem, x: V, y: V) -> V
     requires x_row { IsRow N V.width elem (V.words x) }
     requires y_row { IsRow N V.width elem (V.words y) }
@@ -25,6 +25,6 @@ pub(super) fn shr<const N: usize, V: Words<N>>(elem: Elem, x: V, y: V) -> V
 {
     let by = y.and(V::all(amount_mask(elem)));
     let negative = signs(elem, x);
-    let shifted = negative.choose(x.inverse(), x).right(by);
-    negative.choose(shifted.inverse(), shifted)
+    let shifted = x.xor(negative).right(by);
+    shifted.xor(negative)
 }

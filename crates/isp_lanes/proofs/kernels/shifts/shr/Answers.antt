@@ -1,9 +1,8 @@
-use Rattle.std.proofs.Common.{◌≡◌, sym, ap, ◌∙◌, ℕ, ◌-◌, ◌/◌, ◌%◌, ◌^◌, ◌<◌, cond, nat_lt, arith, bit_and, subst, length, List, map, Bool}
+use Rattle.std.proofs.Common.{◌≡◌, sym, ap, ◌∙◌, ℕ, ◌-◌, ◌/◌, ◌%◌, ◌^◌, ◌<◌, cond, nat_lt, arith, bit_and, bit_xor, subst, length, List}
 use Rattle.std.specs.Simd.Lanes.{Each2}
 use Rattle.isp_base.specs.Values.{width, greatest}
-use Rattle.isp_lanes.specs.Lanes.{is_on}
 use Rattle.isp_lanes.proofs.CellWords as cell
-use Rattle.isp_lanes.proofs.Rows.{row_left, row_right, row_op1, row_op2, row_select, row_same, row_splat_as, row_map_left, each_below}
+use Rattle.isp_lanes.proofs.Rows.{row_left, row_right, row_op2, row_same, row_splat_as, row_map_left, each_below}
 use Rattle.isp_lanes.proofs.kernels.shifts.shr.Goals as goal
 
 pub right-shifted-requires : goal.right-shifted-requires
@@ -15,7 +14,7 @@ right-shifted-requires g c =
     let ys = g.V.Words.words c.args.y in
     let n = g.row.N in
     let same : length xs ≡ length ys = omega (arith, c.requires.x_row.long, c.requires.y_row.long) in
-    let first = g.V.Words.words c.choose.result in
+    let first = g.V.Words.words c.xor.result in
     subst (λ (zs : List ℕ). Each2 (λ (a b : ℕ). b < w) first zs) (sym (c.and-by.ensures ∙ (row_op2 bit_and (λ _ b. b) (λ _ _. width t - 1) xs ys (row_right xs ys same) (c.all.ensures ∙ row_splat_as _ (width t - 1) (ap (λ m. m % 2 ^ w) c.amount_mask.ensures ∙ cell.amount_mask_in w t e) n xs ys c.requires.x_row.long c.requires.y_row.long)))) (each_below w (λ _ b. bit_and b (width t - 1)) (λ _ b. cell.amount_lt_w w t e b) first xs ys)
 
 pub returns : goal.returns
@@ -28,12 +27,10 @@ returns g c =
     let n = g.row.N in
     let same : length xs ≡ length ys = omega (arith, c.requires.x_row.long, c.requires.y_row.long) in
     let by = c.and-by.ensures ∙ (row_op2 bit_and (λ _ b. b) (λ _ _. width t - 1) xs ys (row_right xs ys same) (c.all.ensures ∙ row_splat_as _ (width t - 1) (ap (λ m. m % 2 ^ w) c.amount_mask.ensures ∙ cell.amount_mask_in w t e) n xs ys c.requires.x_row.long c.requires.y_row.long)) in
-    let sign : ℕ → ℕ → Bool = λ a _. is_on (cond (nat_lt (greatest t) a) (2 ^ w - 1) 0) in
-    let turned : ℕ → ℕ → ℕ = λ a b. cond (sign a b) (2 ^ w - 1 - a) a in
-    let signs = ap (map is_on) c.signs-negative.ensures ∙ row_op1 is_on (λ a _. cond (nat_lt (greatest t) a) (2 ^ w - 1) 0) xs ys (row_map_left (λ a. cond (nat_lt (greatest t) a) (2 ^ w - 1) 0) xs ys same) in
-    let picked = c.choose.ensures ∙ row_select sign (λ a _. 2 ^ w - 1 - a) (λ a _. a) xs ys signs (c.inverse.ensures ∙ row_map_left (λ a. 2 ^ w - 1 - a) xs ys same) (row_left xs ys same) in
-    let shifted = c.right-shifted.ensures ∙ row_op2 (λ a b. a / 2 ^ b) turned (λ _ b. bit_and b (width t - 1)) xs ys picked by in
-    let back = c.inverse-2.ensures ∙ row_op1 (λ a. 2 ^ w - 1 - a) (λ a b. turned a b / 2 ^ bit_and b (width t - 1)) xs ys shifted in
-    c.choose-2.ensures
-    ∙ row_select sign (λ a b. 2 ^ w - 1 - turned a b / 2 ^ bit_and b (width t - 1)) (λ a b. turned a b / 2 ^ bit_and b (width t - 1)) xs ys signs back shifted
+    let sign : ℕ → ℕ → ℕ = λ a _. cond (nat_lt (greatest t) a) (2 ^ w - 1) 0 in
+    let signs = c.signs-negative.ensures ∙ row_map_left (λ a. cond (nat_lt (greatest t) a) (2 ^ w - 1) 0) xs ys same in
+    let picked = c.xor.ensures ∙ row_op2 bit_xor (λ a _. a) sign xs ys (row_left xs ys same) signs in
+    let shifted = c.right-shifted.ensures ∙ row_op2 (λ a b. a / 2 ^ b) (λ a b. bit_xor a (sign a b)) (λ _ b. bit_and b (width t - 1)) xs ys picked by in
+    c.xor-2.ensures
+    ∙ row_op2 bit_xor (λ a b. bit_xor a (sign a b) / 2 ^ bit_and b (width t - 1)) sign xs ys shifted signs
     ∙ row_same (λ a. a < 2 ^ width t) (λ b. b < 2 ^ width t) _ _ (cell.lane_shr w t e) xs ys c.requires.x_row.fits c.requires.y_row.fits
