@@ -7,7 +7,7 @@ ghost use Rattle.isp_syntax.specs.reader.Choices.{begins_with};
 ghost use Rattle.isp_syntax.specs.reader.Stmts.{is_item_sign, item_tail_of, size_at, item_tail_at, item_from, item_at, items_at, declaration_at};
 
 use crate::expr::expr;
-use crate::reading::{mark, refuse, starts_with, tail, word};
+use crate::reading::{in_box, mark, refuse, starts_with, tail, word};
 use crate::stop::{Stop, Why};
 use crate::types::type_words;
 use isp_base::Span;
@@ -146,5 +146,5 @@ pub fn declaration(
     let (ty, rest) = type_words(alloc, tokens)?;
     let (items, end, rest) = items(alloc, left, rest)?;
     let span = ty.span.to(end);
-    Ok((Box::new(alloc, Declaration { ty, items, span })?, rest))
+    in_box(alloc, Declaration { ty, items, span }, rest)
 }

@@ -8,7 +8,7 @@ ghost use Rattle.isp_syntax.specs.reader.Readers.{Gives, is_word, listed_at};
 ghost use Rattle.isp_syntax.specs.reader.Choices.{begins_with};
 ghost use Rattle.isp_syntax.specs.reader.Exprs.{start_of, begins_expr, operator_of, operator_at, bracketed_at, place_at, argument_at, arguments_at, suffix_of, depth_of_suffix, suffix_at, named, named_at, cast_at, closed_at, bracket_at, prefixed_at, operand_from, joined, parts_of, parts_at, choice_of, expr_at, target_at};
 
-use crate::reading::{larger, mark, refuse, starts_with, tail, word};
+use crate::reading::{larger, mark, refuse, starts_with, tail, with_item, word};
 use crate::stop::{Stop, Why};
 use crate::types::{begins_type, type_words};
 use isp_base::{Span, Value};
@@ -152,6 +152,16 @@ fn join(
     Ok(Box::new(alloc, joined)?)
 }
 
+/// An expression put in a box, its depth, and the tokens after it: what was read is given on by one call.
+fn made(alloc: Global, node: Expr, height: usize, rest: &[Token]) -> Result<Found<'_>, Stop>
+    ensures value { IfOk result (λ r. expr_of r.0.value ≡ expr_of node) }
+    ensures height { IfOk result (λ r. r.1 ≡ height) }
+    ensures rest { IfOk result (λ r. r.2.now ≡ rest.now) }
+    ensures memory { IfErr result (λ e. e ≡ Stop.Memory) }
+{
+    Ok((Box::new(alloc, node)?, height, rest))
+}
+
 /// Both parts of a choice, with the colon's place between.
 #[derive(Drop)]
 pub struct Branches {
@@ -289,7 +299,7 @@ fn arguments(
     }
     'each: loop {
         let (next, next_height, after) = argument(alloc, left, rest)?;
-        all.push(next)?;
+        all = with_item(all, next)?;
         height = larger(height, next_height);
         if !starts_with(Mark::Comma, after) {
             return Ok((all, height, after));
@@ -382,8 +392,7 @@ fn named(alloc: Global, inner: usize, tokens: &[Token]) -> Result<Found<'_>, Sto
 {
     let (word, rest) = word(tokens)?;
     let (suffix, height, rest) = suffix(alloc, inner, rest)?;
-    let found = Box::new(alloc, with_suffix(word, suffix))?;
-    Ok((found, height + 1, rest))
+    made(alloc, with_suffix(word, suffix), height + 1, rest)
 }
 
 /// A type, a closing bracket, and what is cast, behind an opening bracket.
@@ -400,8 +409,7 @@ fn cast(alloc: Global, inner: usize, opening: Span, tokens: &[Token]) -> Result<
     let (_close, rest) = mark(Mark::ParenClose, rest)?;
     let (operand, height, rest) = unary(alloc, inner, rest)?;
     let span = opening.to(operand.span());
-    let cast = Box::new(alloc, Expr::Cast { ty, operand, span })?;
-    Ok((cast, height + 1, rest))
+    made(alloc, Expr::Cast { ty, operand, span }, height + 1, rest)
 }
 
 /// An expression and a closing bracket, behind an opening bracket.
@@ -417,14 +425,11 @@ fn closed(alloc: Global, inner: usize, opening: Span, tokens: &[Token]) -> Resul
     let (inside, height, rest) = expr(alloc, inner, tokens)?;
     let (close, rest) = mark(Mark::ParenClose, rest)?;
     let span = opening.to(close);
-    let brackets = Box::new(
-        alloc,
-        Expr::Brackets {
-            inner: inside,
-            span,
-        },
-    )?;
-    Ok((brackets, height + 1, rest))
+    let brackets = Expr::Brackets {
+        inner: inside,
+        span,
+    };
+    made(alloc, brackets, height + 1, rest)
 }
 
 /// What is behind `(`: a type and what is cast to it, or an expression.
@@ -440,17 +445,6 @@ fn bracket(alloc: Global, inner: usize, opening: Span, tokens: &[Token]) -> Resu
         return cast(alloc, inner, opening, tokens);
     }
     closed(alloc, inner, opening, tokens)
-}
-
-/// One token that is an operand of its own.
-fn single(alloc: Global, found: Expr, rest: &[Token]) -> Result<Found<'_>, Stop>
-    requires { depth (expr_of found) ≡ 1 }
-    ensures value { IfOk result (λ r. expr_of r.0.value ≡ expr_of found) }
-    ensures height { IfOk result (λ r. r.1 ≡ 1) }
-    ensures rest { IfOk result (λ r. r.2.now ≡ rest.now) }
-    ensures memory { IfErr result (λ e. e ≡ Stop.Memory) }
-{
-    Ok((Box::new(alloc, found)?, 1, rest))
 }
 
 /// An operand behind an operator that stands before it.
@@ -470,12 +464,12 @@ fn prefixed(
 {
     let (operand, height, rest) = unary(alloc, inner, tokens)?;
     let span = place.to(operand.span());
-    let found = Expr::Prefix {
+    let prefixed = Expr::Prefix {
         operator,
         operand,
         span,
     };
-    Ok((Box::new(alloc, found)?, height + 1, rest))
+    made(alloc, prefixed, height + 1, rest)
 }
 
 #[cycle(expr)]
@@ -496,10 +490,10 @@ fn unary_from<'a>(
 {
     let span = first.span;
     match start_of(&first.kind) {
-        Start::Number(value) => single(alloc, Expr::Number { value, span }, rest),
-        Start::Truth(value) => single(alloc, Expr::Truth { value, span }, rest),
-        Start::ProgramIndex => single(alloc, Expr::ProgramIndex { span }, rest),
-        Start::ProgramCount => single(alloc, Expr::ProgramCount { span }, rest),
+        Start::Number(value) => made(alloc, Expr::Number { value, span }, 1, rest),
+        Start::Truth(value) => made(alloc, Expr::Truth { value, span }, 1, rest),
+        Start::ProgramIndex => made(alloc, Expr::ProgramIndex { span }, 1, rest),
+        Start::ProgramCount => made(alloc, Expr::ProgramCount { span }, 1, rest),
         Start::Word => named(alloc, inner, tokens),
         Start::Bracket => bracket(alloc, inner, span, rest),
         Start::Prefix(operator) => prefixed(alloc, inner, operator, span, rest),

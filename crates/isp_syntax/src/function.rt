@@ -156,7 +156,7 @@ fn signature(alloc: Global, tokens: &[Token]) -> Result<(Box<Heading>, &[Token])
         word,
         params,
     };
-    Ok((in_box(alloc, heading)?, rest))
+    in_box(alloc, heading, rest)
 }
 
 /// A function made of its parts.

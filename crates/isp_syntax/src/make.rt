@@ -1,5 +1,5 @@
 //! Statements made of their parts, each from its first word to the end of its last part.
-ghost use Rattle.std.specs.Prelude.{◌≡◌, Some, None, map, option_map};
+ghost use Rattle.std.specs.Prelude.{◌≡◌, map, option_map};
 ghost use Rattle.isp_tree.specs.Views.{expr_of, stmt_of, block_of, range_of};
 ghost use Rattle.isp_syntax.specs.reader.Stmts.{head_of, if_from, while_from, do_from, for_from, foreach_from, active_from, unmasked_from};
 
@@ -35,34 +35,36 @@ fn unboxed_step(step: Option<Box<Simple>>) -> Option<Simple>
     }
 }
 
-pub fn make_if(form: Form, keyword: Span, test: Box<Expr>, then: Box<Stmt>) -> Stmt
-    ensures { stmt_of result ≡ if_from form keyword (expr_of test.value) (stmt_of then.value) None }
-{
-    let span = keyword.to(then.span());
-    Stmt::If {
-        form,
-        test: Box::into_inner(test),
-        then,
-        span,
-    }
-}
-
-pub fn make_if_else(
+pub fn make_if(
     form: Form,
     keyword: Span,
     test: Box<Expr>,
     then: Box<Stmt>,
-    otherwise: Box<Stmt>,
+    other: Option<Box<Stmt>>,
 ) -> Stmt
-    ensures { stmt_of result ≡ if_from form keyword (expr_of test.value) (stmt_of then.value) (Some (stmt_of otherwise.value)) }
+    ensures { stmt_of result ≡ if_from form keyword (expr_of test.value) (stmt_of then.value) (option_map (λ b. stmt_of b.value) other) }
 {
-    let span = keyword.to(otherwise.span());
-    Stmt::IfElse {
-        form,
-        test: Box::into_inner(test),
-        then,
-        otherwise,
-        span,
+    let test = Box::into_inner(test);
+    match other {
+        None => {
+            let span = keyword.to(then.span());
+            Stmt::If {
+                form,
+                test,
+                then,
+                span,
+            }
+        }
+        Some(otherwise) => {
+            let span = keyword.to(otherwise.span());
+            Stmt::IfElse {
+                form,
+                test,
+                then,
+                otherwise,
+                span,
+            }
+        }
     }
 }
 

@@ -104,11 +104,11 @@ fn first(alloc: Global, left: usize, tokens: &[Token]) -> Result<(Box<First>, &[
     if begins_type(tokens) {
         let (declaration, rest) = declaration(alloc, left, tokens)?;
         let first = First::Declare(Box::into_inner(declaration));
-        return Ok((in_box(alloc, first)?, rest));
+        return in_box(alloc, first, rest);
     }
     let (simple, rest) = simple(alloc, left, tokens)?;
     let first = First::Simple(Box::into_inner(simple));
-    Ok((in_box(alloc, first)?, rest))
+    in_box(alloc, first, rest)
 }
 
 /// The refusal where nothing more may be read: of what begins here, if it does.
@@ -202,7 +202,7 @@ pub fn head(alloc: Global, left: usize, tokens: &[Token]) -> Result<(Box<ForHead
     let (_semicolon, rest) = mark(Mark::Semicolon, rest)?;
     let (step, rest) = maybe_step(alloc, left, rest)?;
     let (_close, rest) = mark(Mark::ParenClose, rest)?;
-    Ok((in_box(alloc, ForHead { first, test, step })?, rest))
+    in_box(alloc, ForHead { first, test, step }, rest)
 }
 
 /// One dimension of a `foreach`.

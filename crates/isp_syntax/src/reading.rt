@@ -1,5 +1,5 @@
 //! Single tokens.
-ghost use Rattle.std.specs.Prelude.{◌≡◌, ◌<◌, IfOk, IfErr, length, drop, max};
+ghost use Rattle.std.specs.Prelude.{◌≡◌, ◌<◌, ◌∷◌, ◌++◌, [], IfOk, IfErr, length, drop, max};
 ghost use Rattle.isp_lex.specs.Tokens.{starts_with};
 ghost use Rattle.isp_syntax.specs.reader.Readers.{Gives, refusal, mark_at, word_at};
 
@@ -75,10 +75,20 @@ pub fn larger(a: usize, b: usize) -> usize
     if a < b { b } else { a }
 }
 
-/// A value in a box: a function that reads on holds less while memory may be refused.
-pub fn in_box<T: Drop>(alloc: Global, value: T) -> Result<Box<T>, Stop>
-    ensures value { IfOk result (λ b. b.value ≡ value) }
+/// A list with one more item behind.
+pub fn with_item<T: Drop>(mut all: Vec<T>, item: T) -> Result<Vec<T>, Stop>
+    ensures items { IfOk result (λ r. r.items ≡ all.items ++ item ∷ []) }
     ensures memory { IfErr result (λ e. e ≡ Stop.Memory) }
 {
-    Ok(Box::new(alloc, value)?)
+    all.push(item)?;
+    Ok(all)
+}
+
+/// A value in a box, and the tokens after it: what was read is given on by one call.
+pub fn in_box<T: Drop>(alloc: Global, value: T, rest: &[Token]) -> Result<(Box<T>, &[Token]), Stop>
+    ensures value { IfOk result (λ r. r.0.value ≡ value) }
+    ensures rest { IfOk result (λ r. r.1.now ≡ rest.now) }
+    ensures memory { IfErr result (λ e. e ≡ Stop.Memory) }
+{
+    Ok((Box::new(alloc, value)?, rest))
 }

@@ -192,9 +192,9 @@ pub fn simple(alloc: Global, left: usize, tokens: &[Token]) -> Result<(Box<Simpl
     if changes(tokens) {
         let ((sign, place), rest) = change(tokens)?;
         let (target, _height, rest) = unary(alloc, left, rest)?;
-        return Ok((in_box(alloc, stepped(sign, place, target))?, rest));
+        return in_box(alloc, stepped(sign, place, target), rest);
     }
     let (target, _height, rest) = expr(alloc, left, tokens)?;
     let (ending, rest) = maybe_end(alloc, left, rest)?;
-    Ok((in_box(alloc, ended(target, ending))?, rest))
+    in_box(alloc, ended(target, ending), rest)
 }

@@ -8,10 +8,10 @@ ghost use Rattle.isp_syntax.specs.reader.Starts.{start_of, begins_stmt};
 ghost use Rattle.isp_syntax.specs.reader.Stmts.{stmts_at, braced_at, block_at, block_stmt_at, if_at, while_at, do_at, for_at, foreach_at, active_at, unmasked_at, stmt_from, stmt_at};
 
 use crate::make::{
-    make_active, make_do, make_for, make_foreach, make_if, make_if_else, make_unmasked, make_while,
+    make_active, make_do, make_for, make_foreach, make_if, make_unmasked, make_while,
 };
 use crate::parts::{active_head, do_end, head, ranges_head, refuse_at_limit, test};
-use crate::reading::{mark, refuse, starts_with, tail};
+use crate::reading::{in_box, mark, refuse, starts_with, tail, with_item};
 use crate::single::{assert_stmt, declare_stmt, jump_stmt, print_stmt, return_stmt, simple_stmt};
 use crate::start::{Start, stmt_start};
 use crate::stop::{Stop, Why};
@@ -54,7 +54,7 @@ fn stmts(alloc: Global, left: usize, tokens: &[Token]) -> Result<(Vec<Stmt>, &[T
     let mut rest = tokens;
     'each: while !starts_with(Mark::BraceClose, rest) {
         let (next, after) = stmt(alloc, left, rest)?;
-        all.push(next)?;
+        all = with_item(all, next)?;
         rest = after;
     }
     Ok((all, rest))
@@ -108,7 +108,7 @@ fn boxed(alloc: Global, inner: usize, tokens: &[Token]) -> Result<(Box<Stmt>, &[
     ensures rest { IfOk result (λ r. length r.1.now < length tokens.now) }
 {
     let (inside, rest) = stmt(alloc, inner, tokens)?;
-    Ok((Box::new(alloc, inside)?, rest))
+    in_box(alloc, inside, rest)
 }
 
 /// `else` and its statement, where `else` stands: it belongs to the nearest `if`.
@@ -147,10 +147,7 @@ fn conditional(
     let (test, rest) = test(alloc, inner, tokens)?;
     let (then, rest) = boxed(alloc, inner, rest)?;
     let (other, rest) = else_branch(alloc, inner, rest)?;
-    match other {
-        None => Ok((make_if(form, keyword, test, then), rest)),
-        Some(other) => Ok((make_if_else(form, keyword, test, then, other), rest)),
-    }
+    Ok((make_if(form, keyword, test, then, other), rest))
 }
 
 /// What stands behind `while` at this place.

@@ -5,20 +5,20 @@ ghost use Rattle.isp_syntax.specs.declared.stop.Stop.TheVariants.{Memory};
 use std::alloc::{AllocError, AllocFailed};
 
 /// What is wrong with the refused token.
-#[derive(Clone, Copy, Debug)]
+#[derive(Clone, Copy)]
 pub enum Why {
     Unexpected,
     TooDeep,
 }
 
 /// A refusal, and how many tokens are left from the refused one on.
-#[derive(Clone, Copy, Debug)]
+#[derive(Clone, Copy)]
 pub struct Refusal {
     pub why: Why,
     pub left: usize,
 }
 
-#[derive(Debug, Drop)]
+#[derive(Drop)]
 pub enum Stop {
     Memory,
     Refused(Refusal),

@@ -33,12 +33,12 @@ arguments-returns-then-not-starts_with-clause-value t c =
     let v = c.each.invariant.value in
     let one = argument_at (expr_at c.args.left loosest) (target_at c.args.left) in
     let w = listed_some mark.ParenClose one c.args.tokens.now (sym c.starts_with.ensures ∙ c.if-starts_with.false) in
-    rw (w, c.in_ok-push.ensures.items, arguments_past c.each.all.items c.in_ok-next.next)
+    rw (w, c.in_ok-all.ensures.items, arguments_past c.each.all.items c.in_ok-next.next)
     (list_last one v.0 (arguments_of c.each.all.items) c.each.rest.now (argument_of c.in_ok-next.next) c.in_ok-next.after.now (list_at one (length c.args.tokens.now + 1) c.args.tokens.now) v.1 c.in_ok-next.ensures.value (sym c.starts_with-in-each.ensures ∙ c.if-not-starts_with.true) v.2)
 
 pub arguments-returns-then-not-starts_with-clause-height : goal.arguments-returns-then-not-starts_with-clause-height
 arguments-returns-then-not-starts_with-clause-height t c =
-    rw (c.in_ok-push.ensures.items, depth_past c.each.all.items c.in_ok-next.next) (omega (arith, c.larger-height.ensures, c.each.invariant.height, c.in_ok-next.ensures.height))
+    rw (c.in_ok-all.ensures.items, depth_past c.each.all.items c.in_ok-next.next) (omega (arith, c.larger-height.ensures, c.each.invariant.height, c.in_ok-next.ensures.height))
 
 pub arguments-each-preserved : goal.arguments-each-preserved
 arguments-each-preserved t c =
@@ -47,9 +47,9 @@ arguments-each-preserved t c =
     let s = list_step one v.0 (arguments_of c.each.all.items) c.each.rest.now (argument_of c.in_ok-next.next) c.in_ok-next.after.now (list_at one (length c.args.tokens.now + 1) c.args.tokens.now) v.1 (omega (arith, c.in_ok-next.ensures.rest)) c.in_ok-next.ensures.value (sym c.starts_with-in-each.ensures ∙ c.if-not-starts_with.false) v.2 in
     record {
       rest = omega (arith, c.each.invariant.rest, c.in_ok-next.ensures.rest, ap length c.tail-rest.ensures, length-drop 1 c.in_ok-next.after.now);
-      height = rw (c.in_ok-push.ensures.items, depth_past c.each.all.items c.in_ok-next.next) (omega (arith, c.larger-height.ensures, c.each.invariant.height, c.in_ok-next.ensures.height));
+      height = rw (c.in_ok-all.ensures.items, depth_past c.each.all.items c.in_ok-next.next) (omega (arith, c.larger-height.ensures, c.each.invariant.height, c.in_ok-next.ensures.height));
       bounded = omega (arith, c.larger-height.ensures, c.each.invariant.bounded, c.in_ok-next.ensures.bounded);
-      value = rw (c.in_ok-push.ensures.items, arguments_past c.each.all.items c.in_ok-next.next, c.tail-rest.ensures) s;
+      value = rw (c.in_ok-all.ensures.items, arguments_past c.each.all.items c.in_ok-next.next, c.tail-rest.ensures) s;
     }
 
 -- ---- operators

@@ -49,7 +49,7 @@ stmts-returns-in_err-next-clause-value t c =
 pub stmts-each-preserved : goal.stmts-each-preserved
 stmts-each-preserved t c =
     let v = c.each.invariant.value in
-    let e : stmts_of c.push.new.self.items ≡ stmts_of c.each.all.items ++ stmt_of c.in_ok-next.next ∷ [] = rw c.in_ok-push.ensures.items (map_push _ c.each.all.items c.in_ok-next.next) in
+    let e : stmts_of c.in_ok-all.all.items ≡ stmts_of c.each.all.items ++ stmt_of c.in_ok-next.next ∷ [] = rw c.in_ok-all.ensures.items (map_push _ c.each.all.items c.in_ok-next.next) in
     let s = until_step mark.BraceClose (stmt_at c.args.left) v.0 (stmts_of c.each.all.items) c.each.rest.now (stmt_of c.in_ok-next.next) c.in_ok-next.after.now (stmts_at (stmt_at c.args.left) c.args.tokens.now) v.1 c.in_ok-next.ensures.rest (sym c.starts_with.ensures ∙ c.each-test.true) c.in_ok-next.ensures.value v.2 in
     record {
       rest = omega (arith, c.each.invariant.rest, c.in_ok-next.ensures.rest);
