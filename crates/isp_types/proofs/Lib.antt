@@ -1,0 +1,4 @@
+pub mod Exprs
+pub mod Stmts
+pub mod Functions
+pub mod Bindings
