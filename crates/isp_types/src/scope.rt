@@ -1,5 +1,6 @@
 //! The names in scope.
-ghost use Rattle.std.specs.Prelude.{◌≡◌, option_map, slice_get, OnErr, OnOk, ◌++◌, ◌∷◌, [], ◌-◌, length, take};
+ghost use Rattle.std.specs.Prelude.{◌≡◌, ℕ, List, IsSome, bytes_eq, cond, option_map, slice_get, OnErr, OnOk, ◌++◌, ◌∷◌, [], ◌-◌, length, take};
+ghost use Rattle.std.specs.BTreeMap.{get_by_text};
 ghost use Rattle.isp_types.specs.Scopes.{Meaning, is_new, named, visible, next_known, with_name};
 
 use isp_base::Name;
@@ -53,6 +54,23 @@ fn meaning_at(names: &[Binding], place: usize) -> Option<Verdict<Known>>
     match names.get(place) {
         Some(binding) => Some(binding.meaning),
         None => None,
+    }
+}
+
+/// The binding that a gone one hid is seen again under its name. Where it hid none, the name is gone.
+fn seen_again(places: &mut BTreeMap<String, usize>, name: &Name, hidden: Option<usize>)
+    ensures { IsSome (get_by_text places.old name.now)
+        → (w : List ℕ) → get_by_text places.new w ≡ cond (bytes_eq name.now w) hidden (get_by_text places.old w) }
+{
+    match hidden {
+        Some(place) => {
+            if let Some(known) = places.get_mut(name.as_str()) {
+                *known = place;
+            }
+        }
+        None => {
+            places.remove(name.as_str());
+        }
     }
 }
 
@@ -121,10 +139,7 @@ impl Scope {
         let key = String::from_str(alloc, name.as_str())?;
         let name = name.copied()?;
         let place = self.names.len();
-        let before = match self.places.get(name.as_str()) {
-            Some(before) => Some(*before),
-            None => None,
-        };
+        let before = self.places.get(name.as_str()).copied();
         self.hidden.push(before)?;
         match self.names.push(Binding { name, meaning }) {
             Ok(()) => {}
@@ -151,23 +166,14 @@ impl Scope {
         let Some(binding) = self.names.pop() else {
             return;
         };
-        match hidden {
-            Some(Some(place)) => {
-                if let Some(known) = self.places.get_mut(binding.name.as_str()) {
-                    *known = place;
-                }
-            }
-            _ => {
-                self.places.remove(binding.name.as_str());
-            }
-        }
+        seen_again(&mut self.places, &binding.name, hidden.flatten());
     }
 
     /// Leaves a scope: the names from `start` on are gone.
     pub fn leave(&mut self, start: usize)
         ensures { self.new ≡ take start self.old }
     {
-        while self.names.len() > start {
+        while self.len() > start {
             self.pop();
         }
     }
