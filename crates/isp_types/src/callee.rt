@@ -1,6 +1,6 @@
 //! What a call's name means, and what it asks of each argument.
-ghost use Rattle.std.specs.Prelude.{◌≡◌, ℕ, IfOk, OnOk, OnErr, option_map, ◌++◌, ◌∷◌, [], map};
-ghost use Rattle.isp_types.specs.Calls.{by_count, callee, counted, cross_library, function_from, instance_library, library_named, library_wants, move_library, named_in, unless_unknown};
+ghost use Rattle.std.specs.Prelude.{◌≡◌, ℕ, IfOk, OnOk, OnErr, option_map, slice_get, ◌++◌, ◌∷◌, [], map};
+ghost use Rattle.isp_types.specs.Calls.{by_count, callee, counted, cross_library, function_from, instance_library, library_named, library_wants, move_library, named_in, of_function, of_library, unless_unknown};
 ghost use Rattle.isp_types.specs.reader.Headings.{heading_of};
 
 use isp_base::{Elem, Name, Ty};
@@ -177,8 +177,11 @@ fn library_wants(callee: Callee) -> &'static [Want]
             | Library::Extract
             | Library::Min
             | Library::Max => &[Want::AnyValue, Want::AnyValue],
-            Library::ShuffleTwo | Library::Insert | Library::Clamp | Library::Select =>
-                &[Want::AnyValue, Want::AnyValue, Want::AnyValue],
+            Library::ShuffleTwo | Library::Insert | Library::Clamp | Library::Select => &[
+                Want::AnyValue,
+                Want::AnyValue,
+                Want::AnyValue,
+            ],
         },
         Callee::PackedStore => &[Want::Base { stored: true }, Want::AnyValue],
         Callee::PackedLoad => &[Want::Base { stored: false }, Want::Destination],
@@ -207,6 +210,30 @@ fn counted(count: usize, callee: Callee, wants: &[Want]) -> (Callee, &[Want])
         (callee, wants)
     } else {
         (Callee::Miscounted, &[])
+    }
+}
+
+/// A call of the library with so many arguments, and what it asks of each.
+fn of_library(count: usize, callee: Callee) -> (Callee, &'static [Want])
+    ensures { (result.0, result.1.now) ≡ of_library count callee }
+{
+    let callee = by_count(count, callee);
+    counted(count, callee, library_wants(callee))
+}
+
+/// A call of the function of a number, and what it asks of each argument.
+fn function_at(all: &[Header], number: usize, count: usize) -> (Callee, &[Want])
+    ensures { (result.0, result.1.now) ≡ of_function count (option_map (λ h. (number, heading_of h)) (slice_get all.entry.now number)) }
+{
+    match all.get(number) {
+        Some(header) => {
+            let callee = Callee::Function {
+                number,
+                answer: header.answer,
+            };
+            counted(count, callee, &header.wants)
+        }
+        None => (Callee::Unknown, &[]),
     }
 }
 
@@ -247,21 +274,9 @@ impl Headers {
         ensures { (result.0, result.1.now) ≡ callee self.entry.now name.entry.now count }
     {
         match library_named(name) {
-            Some(callee) => {
-                let callee = by_count(count, callee);
-                counted(count, callee, library_wants(callee))
-            }
+            Some(callee) => of_library(count, callee),
             None => match self.numbers.get(name.as_str()) {
-                Some(number) => match self.all.get(*number) {
-                    Some(header) => {
-                        let callee = Callee::Function {
-                            number: *number,
-                            answer: header.answer,
-                        };
-                        counted(count, callee, &header.wants)
-                    }
-                    None => (Callee::Unknown, &[]),
-                },
+                Some(number) => function_at(&self.all, *number, count),
                 None => (Callee::Unknown, &[]),
             },
         }
