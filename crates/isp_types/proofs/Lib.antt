@@ -2,3 +2,9 @@ pub mod Exprs
 pub mod Stmts
 pub mod Functions
 pub mod Bindings
+pub mod Shadows
+pub mod Headings
+pub mod LibraryParts
+pub mod PassedParts
+pub mod CallViews
+pub mod LibraryNames

@@ -1,10 +1,10 @@
 //! Arguments that suit what is asked of them, and calls of what is passed.
-ghost use Rattle.std.specs.Prelude.{◌≡◌, IfOk};
+ghost use Rattle.std.specs.Prelude.{◌≡◌, ◌++◌, IfOk, OnOk, option_map, slice_get};
 ghost use Rattle.isp_typed.specs.Verdicts.{both, found, made};
 ghost use Rattle.isp_typed.specs.Typed.{t_arguments};
 ghost use Rattle.isp_typed.specs.Views.{expr_of, exprs_of, base_of, arguments_of, call_of as typed_call};
 ghost use Rattle.isp_types.specs.Calls.{arguments_among, answered, array_fits, base_fits, call_of, destination, function_call, handed_call, handed_name, loaded, packed_load, packed_store, suits, value_called, values_among};
-ghost use Rattle.isp_types.specs.reader.Parts.{called_of, handed_of, list_passed, passed_of};
+ghost use Rattle.isp_types.specs.reader.Parts.{argument_in, base_passed, called_of, destination_passed, handed_of, list_passed, passed_of, value_in, value_passed};
 
 use crate::callee::{Callee, Want};
 use crate::library::library_call;
@@ -95,12 +95,7 @@ pub fn handed_name(known: Verdict<Known>, span: Span) -> Verdict<Handed>
 }
 
 /// An array for a parameter of an element type; a constant one for a constant parameter alone.
-fn array_fits(
-    elem: Elem,
-    constant: bool,
-    span: Span,
-    array: ArrayVariable,
-) -> Verdict<Passed>
+fn array_fits(elem: Elem, constant: bool, span: Span, array: ArrayVariable) -> Verdict<Passed>
     ensures { made passed_of result ≡ array_fits elem constant span array }
 {
     if array.ty.elem != elem {
@@ -135,11 +130,19 @@ fn as_base(
     ensures { IfOk result (λ v. made passed_of v ≡ suits (Want.Base stored) span (handed_of handed)) }
 {
     match handed {
-        Handed::Array(array, name) =>
-            Ok(base_fits(stored, span, array, TypedBase::Whole { array, span: name })),
+        Handed::Array(array, name) => Ok(base_fits(
+            stored,
+            span,
+            array,
+            TypedBase::Whole { array, span: name },
+        )),
         Handed::Name(known, name) => match array_of(known) {
-            Some(array) =>
-                Ok(base_fits(stored, span, array, TypedBase::Whole { array, span: name })),
+            Some(array) => Ok(base_fits(
+                stored,
+                span,
+                array,
+                TypedBase::Whole { array, span: name },
+            )),
             None => Ok(Err(mismatch(span))),
         },
         Handed::Element(known, name, index) => match array_of(known) {
@@ -249,30 +252,56 @@ pub fn handed_call(called: Verdict<Called>) -> Verdict<Handed>
     }
 }
 
+/// One value more, if a value is passed.
+fn push_value(values: &mut Vec<TypedExpr>, passed: Passed) -> Result<(), AllocError>
+    ensures { OnOk result (exprs_of values.new.items ≡ exprs_of values.old.items ++ value_in (passed_of passed)) }
+{
+    match passed {
+        Passed::Value(x) => {
+            values.push(x)?;
+            Ok(())
+        }
+        Passed::Array(_, _) | Passed::Base(_) | Passed::Destination(_, _, _) | Passed::Unasked =>
+            Ok(()),
+    }
+}
+
 /// The values among what is passed.
 fn values_among(alloc: Global, passed: Vec<Passed>) -> Result<Vec<TypedExpr>, AllocError>
     ensures { IfOk result (λ l. exprs_of l.items ≡ values_among (list_passed passed.items)) }
 {
     let mut values = Vec::new(alloc);
     for part in passed {
-        if let Passed::Value(x) = part {
-            values.push(x)?;
-        }
+        push_value(&mut values, part)?;
     }
     Ok(values)
 }
 
+/// One argument more, if a value or an array is passed.
+fn push_argument(arguments: &mut Vec<TypedArgument>, passed: Passed) -> Result<(), AllocError>
+    ensures { OnOk result (arguments_of arguments.new.items ≡ arguments_of arguments.old.items ++ argument_in (passed_of passed)) }
+{
+    match passed {
+        Passed::Value(x) => {
+            arguments.push(TypedArgument::Value(x))?;
+            Ok(())
+        }
+        Passed::Array(array, span) => {
+            arguments.push(TypedArgument::Array { array, span })?;
+            Ok(())
+        }
+        Passed::Base(_) | Passed::Destination(_, _, _) | Passed::Unasked => Ok(()),
+    }
+}
+
 /// The arguments of a function among what is passed.
+#[tactic(auto, using(crate::proofs::PassedParts::arguments_are))]
 fn arguments_among(alloc: Global, passed: Vec<Passed>) -> Result<Vec<TypedArgument>, AllocError>
     ensures { IfOk result (λ l. t_arguments (arguments_of l.items) ≡ arguments_among (list_passed passed.items)) }
 {
     let mut arguments = Vec::new(alloc);
     for part in passed {
-        match part {
-            Passed::Value(x) => arguments.push(TypedArgument::Value(x))?,
-            Passed::Array(array, span) => arguments.push(TypedArgument::Array { array, span })?,
-            Passed::Base(_) | Passed::Destination(_, _, _) | Passed::Unasked => {}
-        }
+        push_argument(&mut arguments, part)?;
     }
     Ok(arguments)
 }
@@ -299,6 +328,46 @@ fn function_call(
     }
 }
 
+/// The first two of what is passed.
+fn first_two(passed: Vec<Passed>) -> (Option<Passed>, Option<Passed>)
+    ensures { result ≡ (slice_get passed.items 0, slice_get passed.items 1) }
+{
+    let mut parts = passed.into_iter();
+    let first = parts.next();
+    let second = parts.next();
+    (first, second)
+}
+
+/// The base that is passed, if it is one.
+fn base_passed(passed: Option<Passed>) -> Option<TypedBase>
+    ensures { option_map base_of result ≡ base_passed (option_map passed_of passed) }
+{
+    match passed {
+        Some(Passed::Base(base)) => Some(base),
+        _ => None,
+    }
+}
+
+/// The value that is passed, if it is one.
+fn value_passed(passed: Option<Passed>) -> Option<TypedExpr>
+    ensures { option_map expr_of result ≡ value_passed (option_map passed_of passed) }
+{
+    match passed {
+        Some(Passed::Value(x)) => Some(x),
+        _ => None,
+    }
+}
+
+/// The variable that is passed to be loaded, if it is one.
+fn destination_passed(passed: Option<Passed>) -> Option<(Known, Ty, Span)>
+    ensures { result ≡ destination_passed (option_map passed_of passed) }
+{
+    match passed {
+        Some(Passed::Destination(known, ty, span)) => Some((known, ty, span)),
+        _ => None,
+    }
+}
+
 /// `packed_store_active` of what is passed.
 fn packed_store(
     alloc: Global,
@@ -307,17 +376,19 @@ fn packed_store(
 ) -> Result<Verdict<Called>, AllocError>
     ensures { IfOk result (λ v. made called_of v ≡ packed_store span (list_passed passed.items)) }
 {
-    let mut parts = passed.into_iter();
-    let first = parts.next();
-    let second = parts.next();
-    match (first, second) {
-        (Some(Passed::Base(base)), Some(Passed::Value(x))) => {
-            let value = converted(alloc, base.array().ty.elem, x)?;
-            let value = Box::new(alloc, value)?;
-            Ok(Ok(Called::Value(TypedExpr::PackedStore { base, value, span })))
-        }
-        _ => Ok(Err(mismatch(span))),
-    }
+    let (first, second) = first_two(passed);
+    let Some(base) = base_passed(first) else {
+        return Ok(Err(mismatch(span)));
+    };
+    let Some(x) = value_passed(second) else {
+        return Ok(Err(mismatch(span)));
+    };
+    let value = converted(alloc, base.array().ty.elem, x)?;
+    Ok(Ok(Called::Value(TypedExpr::PackedStore {
+        base,
+        value: Box::new(alloc, value)?,
+        span,
+    })))
 }
 
 /// What a packed call loads: a variable of the array's element type, not constant.
@@ -341,14 +412,14 @@ fn loaded(base: TypedBase, known: Known, ty: Ty, place: Span, span: Span) -> Ver
 fn packed_load(passed: Vec<Passed>, span: Span) -> Verdict<Called>
     ensures { made called_of result ≡ packed_load span (list_passed passed.items) }
 {
-    let mut parts = passed.into_iter();
-    let first = parts.next();
-    let second = parts.next();
-    match (first, second) {
-        (Some(Passed::Base(base)), Some(Passed::Destination(known, ty, place))) =>
-            loaded(base, known, ty, place, span),
-        _ => Err(mismatch(span)),
-    }
+    let (first, second) = first_two(passed);
+    let Some(base) = base_passed(first) else {
+        return Err(mismatch(span));
+    };
+    let Some((known, ty, place)) = destination_passed(second) else {
+        return Err(mismatch(span));
+    };
+    loaded(base, known, ty, place, span)
 }
 
 /// A call of what is passed. 23 Arguments at the call where their number is wrong.
