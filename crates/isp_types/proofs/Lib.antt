@@ -8,3 +8,5 @@ pub mod LibraryParts
 pub mod PassedParts
 pub mod CallViews
 pub mod LibraryNames
+pub mod Gathered
+pub mod Judged

@@ -170,7 +170,13 @@ fn item(
         )),
         Item::Value { value, span, .. } => {
             let value = expr(setting, scope, value)?;
-            with_initial(setting.alloc, number, type_declared(words), beside(seen, value), *span)
+            with_initial(
+                setting.alloc,
+                number,
+                type_declared(words),
+                beside(seen, value),
+                *span,
+            )
         }
         Item::Array { size, span, .. } => {
             let array = array_sized(setting.gang, number, words, *size);
@@ -195,7 +201,14 @@ fn declare(
     let word = item_word(declared_item);
     let seen = twice(scope, start, word);
     let number = variables.len();
-    let part = item(setting, scope, seen, number, or_nothing(words), declared_item)?;
+    let part = item(
+        setting,
+        scope,
+        seen,
+        number,
+        or_nothing(words),
+        declared_item,
+    )?;
     let variable = item_variable(setting.gang, or_nothing(words), declared_item);
     variables.push(variable)?;
     scope.push(setting.alloc, &word.name, declared(words, number, variable))?;

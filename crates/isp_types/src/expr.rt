@@ -11,15 +11,11 @@ ghost use Rattle.isp_types.specs.reader.Judge.{judge, judge_argument, judge_argu
 ghost use Rattle.isp_types.specs.reader.Lists.{and_one, judged_call};
 ghost use Rattle.isp_types.specs.reader.Parts.{called_of, handed_of, list_passed, passed_of};
 
-use crate::call::{
-    Called, Handed, Passed, call_of, handed_call, handed_name, suits, value_called,
-};
+use crate::call::{Called, Handed, Passed, call_of, handed_call, handed_name, suits, value_called};
 use crate::callee::{Headers, Want, unless_unknown};
 use crate::places::{element_at, variable_at};
 use crate::scope::{Known, Scope};
-use crate::values::{
-    cast_to, choice, count_value, in_brackets, joined, truth_value, with_sign,
-};
+use crate::values::{cast_to, choice, count_value, in_brackets, joined, truth_value, with_sign};
 use crate::words::value_said;
 use isp_base::{Gang, Span};
 use isp_tree::{Argument, Expr, Place, Word};
@@ -102,11 +98,7 @@ fn push(
 
 /// A variable or an element, with its type.
 #[cycle(expr)]
-pub fn place(
-    setting: &Setting,
-    scope: &Scope,
-    p: &Place,
-) -> Result<Verdict<TypedPlace>, AllocError>
+pub fn place(setting: &Setting, scope: &Scope, p: &Place) -> Result<Verdict<TypedPlace>, AllocError>
     ensures { IfOk result (λ v. made place_of v ≡ judge_place setting.now.gang setting.now.headers.now scope.now (read_place p.now)) }
 {
     match p {
@@ -120,28 +112,34 @@ pub fn place(
 
 /// What an argument is by itself.
 #[cycle(expr)]
-fn argument(
-    setting: &Setting,
-    scope: &Scope,
-    x: &Argument,
-) -> Result<Verdict<Handed>, AllocError>
+fn argument(setting: &Setting, scope: &Scope, x: &Argument) -> Result<Verdict<Handed>, AllocError>
     ensures { IfOk result (λ v. made handed_of v ≡ judge_argument setting.now.gang setting.now.headers.now scope.now (read_argument x.now)) }
 {
     match x {
-        Argument::Value(Expr::Place(Place::Variable(word))) =>
-            Ok(handed_name(scope.named(word), word.span)),
-        Argument::Value(Expr::Call {
-            function,
-            arguments,
-            span,
-        }) => {
-            let called = call(setting, scope, function, arguments, *span)?;
-            Ok(handed_call(called))
-        }
-        Argument::Value(x) => {
-            let value = expr(setting, scope, x)?;
-            Ok(handed_value(value))
-        }
+        Argument::Value(value) => match value {
+            Expr::Place(Place::Variable(word)) => Ok(handed_name(scope.named(word), word.span)),
+            Expr::Call {
+                function,
+                arguments,
+                span,
+            } => {
+                let called = call(setting, scope, function, arguments, *span)?;
+                Ok(handed_call(called))
+            }
+            Expr::Number { .. }
+            | Expr::Truth { .. }
+            | Expr::ProgramIndex { .. }
+            | Expr::ProgramCount { .. }
+            | Expr::Place(Place::Element { .. })
+            | Expr::Brackets { .. }
+            | Expr::Cast { .. }
+            | Expr::Prefix { .. }
+            | Expr::Binary { .. }
+            | Expr::Choose { .. } => {
+                let value = expr(setting, scope, value)?;
+                Ok(handed_value(value))
+            }
+        },
         Argument::Reference {
             place: Place::Variable(word),
             ..
@@ -188,7 +186,12 @@ pub fn call(
 {
     let (callee, wants) = setting.headers.called(&function.name, all.len());
     let passed = arguments(setting, scope, wants, all)?;
-    call_of(setting.alloc, unless_unknown(function, callee), passed, span)
+    call_of(
+        setting.alloc,
+        unless_unknown(function, callee),
+        passed,
+        span,
+    )
 }
 
 /// An expression with its types, by the names in scope.

@@ -102,12 +102,7 @@ fn rate_cast(said: Option<Rate>, rate: Rate) -> Rate
     }
 }
 
-fn cast(
-    alloc: Global,
-    words: ValueWords,
-    x: TypedExpr,
-    span: Span,
-) -> Result<TypedExpr, AllocError>
+fn cast(alloc: Global, words: ValueWords, x: TypedExpr, span: Span) -> Result<TypedExpr, AllocError>
     ensures { IfOk result (λ t. expr_of t ≡ cast_to span (words, expr_of x)) }
 {
     let ty = Ty {
