@@ -1,13 +1,13 @@
 -- Parts of statements: steps of their loops.
 use Rattle.std.proofs.Common.{◌≡◌, ℕ, ◌+◌, refl, sym, ap, subst, ◌∙◌, ◌++◌, map, inl, inr, ◌⊎◌, arith}
-use Rattle.core.specs.declared.iter.adapters.Zip.{Zip}
-use Rattle.core.specs.declared.iter.slices.Iter.{Iter}
+use Rattle.std.specs.declared.iter.Zip.{Zip}
+use Rattle.std.specs.declared.slice.Iter.{Iter}
 use denote.Ref.{Bor}
-use Rattle.std_alloc.specs.declared.vec.into_iter.IntoIter.{IntoIter}
+use Rattle.std.specs.declared.vec.IntoIter.{IntoIter}
 use Rattle.std.specs.Iterator.Adapters.{zip_first, zip_second}
 use Rattle.std.specs.Slice.Iter.{iter_rest}
 use Rattle.std.specs.Vec.Iter.{into_iter_items, into_iter_len, into_iter_steps}
-use Rattle.core.proofs.iter.Yields.{fronts}
+use Rattle.std.proofs.iter.Yields.{fronts}
 use Rattle.std.proofs.lemmas.Iterator.{zips}
 use Rattle.std.proofs.lemmas.List.{nil_from_length, length-map}
 use Rattle.std.specs.Prelude.{Result, Ok, Err, Option, Some, None, option_map, true, List, [], ◌∷◌, length}
