@@ -1,6 +1,6 @@
 -- Functions: steps of their loops, and what is made of their parts.
 use Rattle.std.proofs.Common.{◌≡◌, ℕ, ◌+◌, refl, sym, ap, subst, ◌∙◌, ◌++◌, map}
-use Rattle.std.specs.Prelude.{Result, Ok, Err, Option, Some, None, List, [], ◌∷◌, Bool, true, false, cond, bytes_eq, ◌||◌}
+use Rattle.std.specs.Prelude.{Result, Ok, Err, Option, List, [], ◌∷◌, Bool, true, false, cond, bytes_eq, ◌||◌}
 use Rattle.std.specs.List.{list_any}
 use Rattle.std.proofs.lemmas.List.Folds.{list_any-append}
 use Rattle.isp_base.specs.declared.types.Gang.{Gang}

@@ -1,12 +1,12 @@
 -- Steps of loops over lists: what is found so far, joined with what the rest gives.
-use Rattle.std.proofs.Common.{◌≡◌, ℕ, ◌+◌, ◌<◌, refl, sym, ap, subst, ◌∙◌, drop, drop-cons, add-one, get_or, ◌++◌, append_assoc, map, take}
+use Rattle.std.proofs.Common.{◌≡◌, ℕ, ◌+◌, ◌<◌, refl, sym, ap, ◌∙◌, drop, drop-cons, add-one, get_or, ◌++◌, append_assoc, map, take}
 use Rattle.std.specs.Prelude.{Result, Ok, Err, Option, Some, None, option_map, List, [], ◌∷◌, length}
 use Rattle.std.proofs.Math.Seq.{take-suc}
 use Rattle.std.proofs.lemmas.List.{map-append}
 use Rattle.isp_lex.specs.declared.fault.Fault.{Fault}
 use Rattle.isp_typed.specs.Verdicts.{both, made, beside, first_of}
 use Rattle.isp_typed.proofs.Order.{earlier_assoc}
-use Rattle.isp_typed.proofs.Verdicts.{both_made, both_found, both_fails}
+use Rattle.isp_typed.proofs.Verdicts.{both_found}
 use Rattle.isp_types.specs.Rules.{pair_then}
 use Rattle.isp_types.specs.reader.Lists.{and_one}
 

@@ -1,7 +1,5 @@
-use Rattle.std.proofs.Common.{◌≡◌, ap, ◌∙◌, sym}
-use Rattle.std.specs.Prelude.{Ok, Err}
 use Rattle.isp_tree.specs.Views.{function_of as read_function, block_of as read_block}
-use Rattle.isp_typed.specs.Verdicts.{beside, both}
+use Rattle.isp_typed.specs.Verdicts.{beside}
 use Rattle.isp_typed.specs.Views.{block_of, function_of}
 use Rattle.isp_types.proofs.FunctionSteps.{function_found, function_fails, body_seen}
 use Rattle.isp_types.proofs.function.function.Goals as goal

@@ -1,4 +1,4 @@
-use Rattle.std.proofs.Common.{◌+◌, drop, take, map, List, ℕ}
+use Rattle.std.proofs.Common.{◌+◌, drop, take, map}
 use Rattle.isp_tree.specs.declared.function.Function.{Function}
 use Rattle.isp_types.proofs.Joined.{split_at, map_step}
 use Rattle.isp_types.proofs.FunctionSteps.{functions_step, taken_step}

@@ -1,4 +1,3 @@
-use Rattle.std.proofs.Common.{◌≡◌, ap, ◌∙◌}
 use Rattle.isp_tree.specs.Views.{expr_of as read_expr}
 use Rattle.isp_types.proofs.PartSteps.{returned_is}
 use Rattle.isp_types.proofs.parts.returned.Goals as goal

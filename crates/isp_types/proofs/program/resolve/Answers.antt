@@ -1,9 +1,8 @@
-use Rattle.std.proofs.Common.{map, subst, ap, sym, ◌∙◌}
+use Rattle.std.proofs.Common.{map, subst}
 use Rattle.isp_tree.specs.Views.{function_of as read_function}
 use Rattle.isp_typed.specs.Promise.{Refuses}
 use Rattle.isp_typed.specs.Views.{functions_of}
-use Rattle.isp_types.specs.Functions.{IsProgram, Breach, heading}
-use Rattle.isp_types.specs.reader.JudgeFunctions.{judge_functions}
+use Rattle.isp_types.specs.Functions.{IsProgram, Breach}
 use Rattle.isp_types.proofs.FunctionSteps.{accepted, refused, ok_seen, err_seen, fault_is}
 use Rattle.isp_types.proofs.program.resolve.Goals as goal
 
