@@ -10,3 +10,6 @@ pub mod CallViews
 pub mod LibraryNames
 pub mod Gathered
 pub mod Judged
+pub mod Joined
+pub mod PartSteps
+pub mod FunctionSteps

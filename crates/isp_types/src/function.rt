@@ -27,9 +27,7 @@ use crate::words::{ValueWords, answer_said, rate_or_varying, value_said};
 use isp_base::{Elem, Name, Parameter, Rate, Signature, Span, Ty};
 use isp_lex::{Fault, Rule};
 use isp_tree::{Function, Linkage, Param, Word};
-use isp_typed::{
-    Holds, TypedBlock, TypedFunction, Variable, Verdict, beside, both, first, unless,
-};
+use isp_typed::{Holds, TypedBlock, TypedFunction, Variable, Verdict, beside, both, first, unless};
 use std::alloc::{AllocError, Global};
 use std::collections::BTreeSet;
 
