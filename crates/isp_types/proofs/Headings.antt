@@ -7,9 +7,8 @@ use Rattle.std.proofs.lemmas.List.{map-append, length-map}
 use Rattle.std.proofs.lemmas.Option.{slice_get-map}
 use Rattle.isp_types.specs.declared.callee.Header.{Header}
 use Rattle.isp_types.specs.declared.callee.Callee.{Callee}
-use Rattle.isp_types.specs.declared.callee.Callee.TheVariants.{Unknown}
 use Rattle.isp_types.specs.declared.callee.Want.{Want}
-use Rattle.isp_types.specs.Calls.{Heading, function_from, or_else, library_named, of_library, of_function, callee}
+use Rattle.isp_types.specs.Calls.{Heading, function_from, or_else, library_named, of_function, callee}
 use Rattle.isp_types.specs.reader.Headings.{heading_of, headings_of}
 
 -- the first function of a name stands where its number says
@@ -26,7 +25,7 @@ found_at w k (h ∷ hs) p e = go (bytes_eq h.name w) (found_at w (suc k) hs p) e
     go false f q = let r = f q in let n = r.1.0 in (suc r.0, (omega arith, r.1.1))
 
 -- a number that is known for a name, and what stands there
-pub numbered : (w : List ℕ) (hs : List Heading) (n : ℕ) (h : Heading) → Some n ≡ option_map (λ (f : ℕ × Heading). f.0) (function_from w 0 hs) → slice_get hs n ≡ Some h
+numbered : (w : List ℕ) (hs : List Heading) (n : ℕ) (h : Heading) → Some n ≡ option_map (λ (f : ℕ × Heading). f.0) (function_from w 0 hs) → slice_get hs n ≡ Some h
     → function_from w 0 hs ≡ Some (n, h)
 numbered w hs n h e at = go (function_from w 0 hs) refl e
   where
@@ -38,15 +37,8 @@ numbered w hs n h e at = go (function_from w 0 hs) refl e
         let what : p.1 ≡ h = cc (ap (slice_get hs) place, r.1.1, at) in
         ap Some (ap₂ (λ (a : ℕ) (b : Heading). (a, b)) (sym same) what)
 
-pub not_numbered : (w : List ℕ) (hs : List Heading) → None ≡ option_map (λ (f : ℕ × Heading). f.0) (function_from w 0 hs) → function_from w 0 hs ≡ None
-not_numbered w hs e = go (function_from w 0 hs) e
-  where
-    go : (o : Option (ℕ × Heading)) → None ≡ option_map (λ (f : ℕ × Heading). f.0) o → o ≡ None
-    go None m = refl
-    go (Some p) m = cc
-
 -- at a known number stands a function
-pub numbered_there : (w : List ℕ) (hs : List Heading) (n : ℕ) → Some n ≡ option_map (λ (f : ℕ × Heading). f.0) (function_from w 0 hs) → slice_get hs n ≡ None → ⊥
+numbered_there : (w : List ℕ) (hs : List Heading) (n : ℕ) → Some n ≡ option_map (λ (f : ℕ × Heading). f.0) (function_from w 0 hs) → slice_get hs n ≡ None → ⊥
 numbered_there w hs n e at = go (function_from w 0 hs) refl e
   where
     go : (o : Option (ℕ × Heading)) → function_from w 0 hs ≡ o → Some n ≡ option_map (λ (f : ℕ × Heading). f.0) o → ⊥
@@ -101,7 +93,7 @@ number_new w hs h key n before after k l e u a = a ∙ (rw (k, l, e) (go (number
     go None q true d = refl
 
 -- what stands at a known number is the first function of the name
-pub placed : (w : List ℕ) (all : List Header) (n : ℕ) → Some n ≡ number_of w (headings_of all)
+placed : (w : List ℕ) (all : List Header) (n : ℕ) → Some n ≡ number_of w (headings_of all)
     → option_map (λ (h : Header). (n, heading_of h)) (slice_get all n) ≡ function_from w 0 (headings_of all)
 placed w all n e = go (slice_get all n) refl
   where
@@ -113,15 +105,9 @@ placed w all n e = go (slice_get all n) refl
     go (Some h) q = sym (numbered w (headings_of all) n (heading_of h) e (seen (Some h) q))
 
 -- what a name calls
-pub called_library : (hs : List Heading) (w : List ℕ) (n : ℕ) (c : Callee) (r : Callee × List Want) → library_named w ≡ Some c → r ≡ of_library n c → r ≡ callee hs w n
-called_library hs w n c r l e = e ∙ sym (rw l refl)
-
 pub called_function : (all : List Header) (w : List ℕ) (n k : ℕ) (r : Callee × List Want) → library_named w ≡ None → Some k ≡ number_of w (headings_of all)
     → r ≡ of_function n (option_map (λ (h : Header). (k, heading_of h)) (slice_get all k)) → r ≡ callee (headings_of all) w n
 called_function all w n k r l s e = e ∙ (ap (of_function n) (placed w all k s) ∙ sym (rw l refl))
-
-pub called_nothing : (hs : List Heading) (w : List ℕ) (n : ℕ) → library_named w ≡ None → None ≡ number_of w hs → (Unknown, []) ≡ callee hs w n
-called_nothing hs w n l s = sym (rw (l, not_numbered w hs s) refl)
 
 -- headings with one more behind them
 pub headings_more : (all more : List Header) (h : Header) → more ≡ all ++ h ∷ [] → headings_of more ≡ headings_of all ++ heading_of h ∷ []

@@ -1,6 +1,6 @@
 -- A name that is none of a list's.
-use Rattle.std.proofs.Common.{◌≡◌, ℕ, true, false, refl, sym, ◌∙◌}
-use Rattle.std.specs.Prelude.{List, [], ◌∷◌, Option, Some, None, bytes_eq}
+use Rattle.std.proofs.Common.{◌≡◌, ℕ, false, refl, sym, ◌∙◌}
+use Rattle.std.specs.Prelude.{List, [], ◌∷◌, None, bytes_eq}
 use Rattle.std.specs.Bool.{⊤}
 use Rattle.std.proofs.lemmas.Bool.{false_from_ne_true}
 use Rattle.std.proofs.lemmas.Slice.Eq.{bytes_eq-Decides}

@@ -1,10 +1,10 @@
 -- Values and arguments among what is passed, one by one.
 use Rattle.std.proofs.Common.{◌≡◌, ◌++◌, refl, sym, ap, ◌∙◌}
-use Rattle.std.specs.Prelude.{List, [], ◌∷◌, map}
+use Rattle.std.specs.Prelude.{List, [], ◌∷◌}
 use Rattle.std.proofs.lemmas.List.{map-append}
 use Rattle.isp_typed.specs.declared.expr.TypedExpr as rust
 use Rattle.isp_typed.specs.declared.expr.TypedArgument as rust_argument
-use Rattle.isp_typed.specs.Typed.{TExpr, TArgument, t_by_value, t_by_name, TArguments, t_argument_then, t_arguments}
+use Rattle.isp_typed.specs.Typed.{TArgument, t_by_value, t_by_name, t_argument_then, t_arguments}
 use Rattle.isp_typed.specs.Views.{exprs_of, arguments_of}
 use Rattle.isp_types.specs.declared.call.Passed as rust_passed
 use Rattle.isp_types.specs.Calls.{Passed, p_value, p_array, p_base, p_destination, p_unasked, values_among, arguments_among}
@@ -67,7 +67,3 @@ pub arguments_step : (vs ws : List rust_argument.TypedArgument) (ys : List rust_
     → arguments_of ws ≡ arguments_of vs ++ argument_in (passed_of y) → arguments_of ws ≡ arguments_listed (list_passed (ys ++ y ∷ []))
 arguments_step vs ws ys y e v = v ∙ (ap (λ z. z ++ argument_in (passed_of y)) e
     ∙ sym (ap arguments_listed (map-append passed_of ys (y ∷ [])) ∙ arguments_more (list_passed ys) (passed_of y)))
-
--- at the end
-pub arguments_end : (vs : List rust_argument.TypedArgument) (ys : List rust_passed.Passed) → arguments_of vs ≡ arguments_listed (list_passed ys) → t_arguments (arguments_of vs) ≡ arguments_among (list_passed ys)
-arguments_end vs ys e = ap t_arguments e ∙ arguments_are (list_passed ys)

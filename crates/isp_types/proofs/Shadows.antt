@@ -1,8 +1,8 @@
 -- One binding more, and one less: where the last ones stand, and what they hide.
-use Rattle.std.proofs.Common.{◌≡◌, ℕ, zero, suc, ◌-◌, ◌<◌, ◌≤◌, ◌++◌, Bool, true, false, cond, take, refl, sym, ap, ◌∙◌, arith, length-append, String, Global}
+use Rattle.std.proofs.Common.{◌≡◌, ℕ, ◌-◌, ◌<◌, ◌++◌, Bool, true, false, cond, take, refl, sym, ap, ◌∙◌, arith, length-append, String, Global}
 use Rattle.std.specs.Prelude.{Option, Some, None, IsSome, List, [], ◌∷◌, length, bytes_eq}
 use Rattle.std.specs.Option.{option_to_list}
-use Rattle.std.proofs.lemmas.List.{append-nil, append_assoc, take_all}
+use Rattle.std.proofs.lemmas.List.{append-nil, append_assoc}
 use Rattle.std.proofs.Math.Seq.{take-append_seam}
 use Rattle.std.proofs.lemmas.Slice.Eq.{bytes_eq-Decides}
 use Rattle.std.specs.BTreeMap.{BTreeMap, get_by_text}
@@ -16,7 +16,7 @@ hidden_behind_more before (c ∷ ns) b = ap (λ z. last_place c.name before ∷ 
     (hidden_behind_more (before ++ c ∷ []) ns b ∙ ap (λ z. hidden_behind (before ++ c ∷ []) ns ++ last_place b.name z ∷ []) (append_assoc before (c ∷ []) ns))
 
 -- what one more binding hides
-pub hidden_more : (ns : List Binding) (b : Binding) → hidden_places (ns ++ b ∷ []) ≡ hidden_places ns ++ last_place b.name ns ∷ []
+hidden_more : (ns : List Binding) (b : Binding) → hidden_places (ns ++ b ∷ []) ≡ hidden_places ns ++ last_place b.name ns ∷ []
 hidden_more ns b = hidden_behind_more [] ns b
 
 some_there : {A : Type 0} (ys : List A) (y : A) → [] ≡ ys ++ y ∷ [] → ⊥
@@ -30,14 +30,14 @@ tail_same : {A : Type 0} (x y : A) (xs ys : List A) → x ∷ xs ≡ y ∷ ys �
 tail_same x y xs ys e = cc
 
 -- two lists with one more each are equal: so are the lists, and what they have more
-pub lists_same : {A : Type 0} (xs ys : List A) (x y : A) → xs ++ x ∷ [] ≡ ys ++ y ∷ [] → xs ≡ ys
+lists_same : {A : Type 0} (xs ys : List A) (x y : A) → xs ++ x ∷ [] ≡ ys ++ y ∷ [] → xs ≡ ys
 lists_same [] [] x y e = refl
 lists_same [] (b ∷ ys) x y e = absurd (some_there ys y (tail_same x b [] (ys ++ y ∷ []) e))
 lists_same (a ∷ xs) [] x y e = absurd (some_there xs x (sym (tail_same a y (xs ++ x ∷ []) [] e)))
 lists_same (a ∷ xs) (b ∷ ys) x y e = let h = head_same a b (xs ++ x ∷ []) (ys ++ y ∷ []) e in
     let t = lists_same xs ys x y (tail_same a b (xs ++ x ∷ []) (ys ++ y ∷ []) e) in cc
 
-pub ends_same : {A : Type 0} (xs ys : List A) (x y : A) → xs ++ x ∷ [] ≡ ys ++ y ∷ [] → x ≡ y
+ends_same : {A : Type 0} (xs ys : List A) (x y : A) → xs ++ x ∷ [] ≡ ys ++ y ∷ [] → x ≡ y
 ends_same [] [] x y e = head_same x y [] [] e
 ends_same [] (b ∷ ys) x y e = absurd (some_there ys y (tail_same x b [] (ys ++ y ∷ []) e))
 ends_same (a ∷ xs) [] x y e = absurd (some_there xs x (sym (tail_same a y (xs ++ x ∷ []) [] e)))
@@ -82,20 +82,6 @@ pub popped_back : {A : Type 0} (xs more less : List A) (x : A) (n : ℕ) → mor
 popped_back xs more less x n m l e =
     let k : n - 1 ≡ length xs = omega (arith, simp length-append at (ap length m)) in
     e ∙ (rw (k, m) (take-append_seam xs (x ∷ [])))
-
-take_take : {A : Type 0} (n k : ℕ) (xs : List A) → n ≤ k → take n (take k xs) ≡ take n xs
-take_take zero k xs h = refl
-take_take (suc n) zero xs h = absurd (omega arith)
-take_take (suc n) (suc k) [] h = refl
-take_take (suc n) (suc k) (x ∷ xs) h = ap (λ z. x ∷ z) (take_take n k xs (omega arith))
-
--- one turn of leaving a scope
-pub left_more : {A : Type 0} (start : ℕ) (xs ys zs : List A) → start < length ys → take start ys ≡ take start xs → zs ≡ take (length ys - 1) ys → take start zs ≡ take start xs
-left_more start xs ys zs h e z = rw z (take_take start (length ys - 1) ys (omega arith) ∙ e)
-
--- and its end
-pub left_all : {A : Type 0} (start : ℕ) (xs ys : List A) → length ys ≤ start → take start ys ≡ take start xs → ys ≡ take start xs
-left_all start xs ys h e = sym (take_all start ys h) ∙ e
 
 -- a map that stayed as it was
 pub same_places : (w : List ℕ) (old new : BTreeMap (String Global) ℕ) → new.entries ≡ old.entries → get_by_text new w ≡ get_by_text old w

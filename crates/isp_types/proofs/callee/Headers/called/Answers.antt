@@ -1,5 +1,5 @@
 use Rattle.std.proofs.Common.{◌∙◌, sym, ap}
-use Rattle.std.specs.Prelude.{Some, option_copied}
+use Rattle.std.specs.Prelude.{option_copied}
 use Rattle.isp_types.proofs.Headings.{called_function}
 use Rattle.isp_types.proofs.callee.Headers.called.Goals as goal
 
