@@ -4,3 +4,4 @@ pub mod Functions
 pub mod Bindings
 pub mod Gathered
 pub mod Judged
+pub mod ItemSteps

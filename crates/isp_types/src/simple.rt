@@ -32,11 +32,7 @@ fn no_place(value: Verdict<TypedExpr>, span: Span) -> Verdict<TypedPlace>
 }
 
 /// What is assigned.
-fn target(
-    setting: &Setting,
-    scope: &Scope,
-    x: &Expr,
-) -> Result<Verdict<TypedPlace>, AllocError>
+fn target(setting: &Setting, scope: &Scope, x: &Expr) -> Result<Verdict<TypedPlace>, AllocError>
     ensures { IfOk result (λ v. made place_of v ≡ judge_target setting.now.gang setting.now.headers.now scope.now (read_expr x.now)) }
 {
     match x {
