@@ -13,3 +13,4 @@ pub mod Judged
 pub mod Joined
 pub mod PartSteps
 pub mod FunctionSteps
+pub mod ItemSteps

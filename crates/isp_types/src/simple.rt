@@ -1,5 +1,6 @@
 //! What stands before a semicolon.
 ghost use Rattle.std.specs.Prelude.{◌≡◌, IfOk};
+ghost use Rattle.isp_tree.specs.Tree.{value as read_value};
 ghost use Rattle.isp_tree.specs.Views.{expr_of as read_expr, first_of as read_first, simple_of as read_simple};
 ghost use Rattle.isp_typed.specs.Typed.{t_first_simple, t_value};
 ghost use Rattle.isp_typed.specs.Verdicts.{both, found, made};
@@ -31,11 +32,7 @@ fn no_place(value: Verdict<TypedExpr>, span: Span) -> Verdict<TypedPlace>
 }
 
 /// What is assigned.
-fn target(
-    setting: &Setting,
-    scope: &Scope,
-    x: &Expr,
-) -> Result<Verdict<TypedPlace>, AllocError>
+fn target(setting: &Setting, scope: &Scope, x: &Expr) -> Result<Verdict<TypedPlace>, AllocError>
     ensures { IfOk result (λ v. made place_of v ≡ judge_target setting.now.gang setting.now.headers.now scope.now (read_expr x.now)) }
 {
     match x {
@@ -44,7 +41,16 @@ fn target(
             let index = expr(setting, scope, index)?;
             element_target(setting.alloc, scope.named(array), index, *span)
         }
-        _ => {
+        Expr::Number { .. }
+        | Expr::Truth { .. }
+        | Expr::ProgramIndex { .. }
+        | Expr::ProgramCount { .. }
+        | Expr::Call { .. }
+        | Expr::Brackets { .. }
+        | Expr::Cast { .. }
+        | Expr::Prefix { .. }
+        | Expr::Binary { .. }
+        | Expr::Choose { .. } => {
             let value = expr(setting, scope, x)?;
             Ok(no_place(value, x.span()))
         }
@@ -167,6 +173,39 @@ fn value_stated(value: Verdict<TypedExpr>) -> Verdict<TypedSimple>
     }
 }
 
+/// An expression as a statement: a call may be without a result.
+fn expression(
+    setting: &Setting,
+    scope: &Scope,
+    x: &Expr,
+) -> Result<Verdict<TypedSimple>, AllocError>
+    ensures { IfOk result (λ v. made simple_of v ≡ judge_simple setting.now.gang setting.now.headers.now scope.now (read_value (read_expr x.now))) }
+{
+    match x {
+        Expr::Call {
+            function,
+            arguments,
+            span,
+        } => {
+            let called = call(setting, scope, function, arguments, *span)?;
+            Ok(stated(called))
+        }
+        Expr::Number { .. }
+        | Expr::Truth { .. }
+        | Expr::ProgramIndex { .. }
+        | Expr::ProgramCount { .. }
+        | Expr::Place(_)
+        | Expr::Brackets { .. }
+        | Expr::Cast { .. }
+        | Expr::Prefix { .. }
+        | Expr::Binary { .. }
+        | Expr::Choose { .. } => {
+            let value = expr(setting, scope, x)?;
+            Ok(value_stated(value))
+        }
+    }
+}
+
 /// An expression, an assignment, or a step by one.
 pub fn simple(
     setting: &Setting,
@@ -176,18 +215,7 @@ pub fn simple(
     ensures { IfOk result (λ v. made simple_of v ≡ judge_simple setting.now.gang setting.now.headers.now scope.now (read_simple x.now)) }
 {
     match x {
-        Simple::Value(Expr::Call {
-            function,
-            arguments,
-            span,
-        }) => {
-            let called = call(setting, scope, function, arguments, *span)?;
-            Ok(stated(called))
-        }
-        Simple::Value(value) => {
-            let value = expr(setting, scope, value)?;
-            Ok(value_stated(value))
-        }
+        Simple::Value(value) => expression(setting, scope, value),
         Simple::Assign {
             assignment,
             target: place,
