@@ -14,3 +14,6 @@ pub mod Joined
 pub mod PartSteps
 pub mod FunctionSteps
 pub mod ItemSteps
+pub mod NamesKept
+pub mod StmtTrees
+pub mod StmtSteps

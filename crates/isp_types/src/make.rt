@@ -1,6 +1,6 @@
 //! Statements of their parts.
 ghost use Rattle.std.specs.Prelude.{◌≡◌, IfOk, option_map};
-ghost use Rattle.isp_typed.specs.Typed.{call_span, t_block, t_stmts};
+ghost use Rattle.isp_typed.specs.Typed.{call_span, t_block, t_braces, t_no_stmts, t_stmts};
 ghost use Rattle.isp_typed.specs.Verdicts.{both, made};
 ghost use Rattle.isp_typed.specs.Views.{block_of, expr_of, exprs_of, first_of, items_of, ranges_of, simple_of, stmt_of, stmts_of};
 ghost use Rattle.isp_types.specs.Statements.{active_stmt, assert_stmt, braces_made, declared_stmt, do_stmt, for_stmt, foreach_stmt, if_else_stmt, if_stmt, print_stmt, return_stmt, simple_stmt, unmasked_stmt, while_stmt};
@@ -41,6 +41,16 @@ pub fn block_stmt(block: Verdict<TypedBlock>) -> Verdict<TypedStmt>
     }
 }
 
+/// A `;`, which is a block without statements.
+pub fn empty_stmt(alloc: Global, span: Span) -> TypedStmt
+    ensures { stmt_of result ≡ t_block (t_braces t_no_stmts span) }
+{
+    TypedStmt::Block(TypedBlock {
+        statements: Vec::new(alloc),
+        span,
+    })
+}
+
 fn if_node(
     alloc: Global,
     form: Form,
@@ -76,6 +86,25 @@ pub fn if_stmt(
     }
 }
 
+fn boxed(alloc: Global, inner: TypedStmt) -> Result<Box<TypedStmt>, AllocError>
+    ensures { IfOk result (λ b. b.value ≡ inner) }
+{
+    Ok(Box::new(alloc, inner)?)
+}
+
+fn both_boxed(
+    alloc: Global,
+    then: TypedStmt,
+    otherwise: TypedStmt,
+) -> Result<(Box<TypedStmt>, Box<TypedStmt>), AllocError>
+    ensures then { IfOk result (λ p. p.0.value ≡ then) }
+    ensures otherwise { IfOk result (λ p. p.1.value ≡ otherwise) }
+{
+    let then = boxed(alloc, then);
+    let otherwise = boxed(alloc, otherwise);
+    Ok((then?, otherwise?))
+}
+
 fn if_else_node(
     alloc: Global,
     form: Form,
@@ -87,13 +116,13 @@ fn if_else_node(
 ) -> Result<TypedStmt, AllocError>
     ensures { IfOk result (λ t. stmt_of t ≡ if_else_stmt form before span (expr_of test, (stmt_of then, stmt_of otherwise))) }
 {
-    let then = Box::new(alloc, then)?;
+    let (then, otherwise) = both_boxed(alloc, then, otherwise)?;
     Ok(TypedStmt::IfElse {
         form,
         before,
         test,
         then,
-        otherwise: Box::new(alloc, otherwise)?,
+        otherwise,
         span,
     })
 }
@@ -109,7 +138,9 @@ pub fn if_else_stmt(
     ensures { IfOk result (λ v. made stmt_of v ≡ made (if_else_stmt form before span) (both (made expr_of test) (made (λ p. (stmt_of p.0, stmt_of p.1)) branches))) }
 {
     match both(test, branches) {
-        Ok((test, (then, otherwise))) => Ok(Ok(if_else_node(alloc, form, before, test, then, otherwise, span)?)),
+        Ok((test, (then, otherwise))) => Ok(Ok(if_else_node(
+            alloc, form, before, test, then, otherwise, span,
+        )?)),
         Err(fault) => Ok(Err(fault)),
     }
 }
@@ -183,7 +214,6 @@ pub fn do_stmt(
         Err(fault) => Ok(Err(fault)),
     }
 }
-
 
 /// What stands between the brackets of a `for`.
 #[derive(Drop)]

@@ -9,8 +9,9 @@ ghost use Rattle.isp_types.specs.reader.JudgeStmts.{judge_block, judge_stmt};
 use crate::declaration::declaration;
 use crate::expr::Setting;
 use crate::make::{
-    active_stmt, assert_stmt, block_stmt, braces, declared_stmt, do_stmt, for_stmt, foreach_stmt,
-    if_else_stmt, if_stmt, print_stmt, push, return_stmt, simple_stmt, unmasked_stmt, while_stmt,
+    active_stmt, assert_stmt, block_stmt, braces, declared_stmt, do_stmt, empty_stmt, for_stmt,
+    foreach_stmt, if_else_stmt, if_stmt, print_stmt, push, return_stmt, simple_stmt, unmasked_stmt,
+    while_stmt,
 };
 use crate::parts::{active_index, first_if, printed, ranges, returned, simple_if, test, test_if};
 use crate::scope::{Known, Scope};
@@ -102,11 +103,11 @@ fn stmt(
             let found = inner_block(setting, answer, scope, variables, b)?;
             Ok(block_stmt(found))
         }
-        Stmt::Empty { span } => Ok(Ok(TypedStmt::Block(TypedBlock {
-            statements: Vec::new(alloc),
-            span: *span,
-        }))),
-        Stmt::Declare { declaration: d, span } => {
+        Stmt::Empty { span } => Ok(Ok(empty_stmt(alloc, *span))),
+        Stmt::Declare {
+            declaration: d,
+            span,
+        } => {
             let items = declaration(setting, scope, start, variables, d)?;
             Ok(declared_stmt(items, *span))
         }
@@ -171,7 +172,15 @@ fn stmt(
             let step = simple_if(setting, scope, step)?;
             let done = body(setting, answer, scope, variables, s)?;
             scope.leave(outer);
-            for_stmt(alloc, *form, before, inside, first, both(found, both(step, done)), *span)
+            for_stmt(
+                alloc,
+                *form,
+                before,
+                inside,
+                first,
+                both(found, both(step, done)),
+                *span,
+            )
         }
         Stmt::Foreach {
             keyword,
