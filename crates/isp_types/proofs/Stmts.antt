@@ -1,0 +1,165 @@
+-- The judge is right on statements.
+use Rattle.std.specs.Prelude.{◌≡◌, ℕ, List, [], ◌∷◌, ◌++◌, length, ◌==◌, Option, Some, None, Result, Ok, Err}
+use Rattle.isp_base.specs.declared.types.Elem.{Elem}
+use Rattle.isp_base.specs.declared.types.Elem.TheVariants.{Bool as Truth, I32, I64}
+use Rattle.isp_base.specs.declared.types.Gang.{Gang}
+use Rattle.isp_base.specs.declared.types.Rate.TheVariants.{Uniform, Varying}
+use Rattle.isp_base.specs.declared.types.Span.{Span}
+use Rattle.isp_base.specs.declared.types.Ty.{Ty}
+use Rattle.isp_base.specs.declared.types.Value.{Value}
+use Rattle.isp_base.specs.Types.{gang_width}
+use Rattle.isp_base.specs.Ranks.{common}
+use Rattle.isp_base.specs.declared.operators.BinOp.{BinOp}
+use Rattle.isp_base.specs.declared.operators.BinOp.TheVariants as bin
+use Rattle.isp_lex.specs.declared.fault.Fault.{Fault}
+use Rattle.isp_lex.specs.declared.fault.Rule.TheVariants.{NameTwice, Mismatch, BadPrint}
+use Rattle.isp_lex.specs.Faults.{fault}
+use Rattle.isp_tree.specs.declared.types.Word.{Word}
+use Rattle.isp_tree.specs.declared.stmt.Size.{Size}
+use Rattle.isp_tree.specs.declared.stmt.Size.TheVariants as size
+use Rattle.isp_tree.specs.declared.stmt.Form.{Form}
+use Rattle.isp_tree.specs.declared.stmt.Assignment.{Assignment}
+use Rattle.isp_tree.specs.declared.stmt.Assignment.TheVariants as with
+use Rattle.isp_tree.specs.declared.stmt.Change.{Change}
+use Rattle.isp_tree.specs.declared.stmt.Change.TheVariants.{Increment, Decrement}
+use Rattle.isp_tree.specs.Tree.{Expr, number, truth, program_index, program_count, place, call, brackets, cast, prefix, binary, choose, Place, variable, element, Item, plain, with_value, with_size, Declaration, Simple, value, assign, change, First, first_declare, first_simple, Range, span_of, span_of_size}
+use Rattle.isp_tree.specs.Tree.{Stmt, block, empty, declare, simple, if_then, if_else, loop_while, loop_do, loop_for, foreach, foreach_active, unmasked, jump, returning, print, assert, Block, braces, Stmts, no_stmts, stmt_then}
+use Rattle.isp_typed.specs.declared.variable.ArrayVariable.{ArrayVariable}
+use Rattle.isp_typed.specs.declared.variable.Holds.{Holds}
+use Rattle.isp_typed.specs.declared.variable.Holds.TheVariants as holds
+use Rattle.isp_typed.specs.declared.variable.Variable.{Variable}
+use Rattle.isp_typed.specs.Promise.{Right}
+use Rattle.isp_typed.proofs.Right.{just_right, given_right, made_right, found_right, both_right, beside_right, perhaps_right}
+use Rattle.isp_typed.specs.Typed.{TExpr, TPlace, place_type, TCall, ty_of, TItem, t_plain, t_with_value, t_with_size, TSimple, t_value, t_run, t_assign, t_update, t_step, TFirst, t_first_declare, t_first_simple, TRange}
+use Rattle.isp_typed.specs.Typed.{TStmt, t_block, t_declare, t_simple, t_if, t_if_else, t_while, t_do, t_for, t_foreach, t_foreach_active, t_unmasked, t_jump, t_return, t_print, t_assert, TBlock, t_braces, TStmts, t_no_stmts, t_stmt_then}
+use Rattle.isp_types.specs.declared.scope.Known.{Known}
+use Rattle.isp_types.specs.declared.scope.Binding.{Binding}
+use Rattle.isp_types.specs.declared.words.ValueWords.{ValueWords}
+use Rattle.isp_types.specs.Words.{value_said, type_declared}
+use Rattle.isp_types.specs.Scopes.{named, is_new, with_name}
+use Rattle.isp_types.specs.Values.{elem_of, converted}
+use Rattle.isp_types.specs.Places.{mismatch, variable_target, element_target}
+use Rattle.isp_types.specs.Calls.{Heading, Called, gives, runs}
+use Rattle.isp_types.specs.Rules.{second, callee_at, pair_then, ExprBreach}
+use Rattle.isp_types.specs.Statements.{or_nothing, declared, array_sized, item_names, item_variables, first_names, first_variables, index, active_index, range_names, range_variables, names_after, variables_after, with_initial, sized_item, as_test, stated, assigned, stepped, range_made, places, agrees, as_answer}
+use Rattle.isp_types.specs.Statements.{no_place, declared_first, declared_stmt, simple_stmt, if_stmt, if_else_stmt, while_stmt, do_stmt, for_stmt, foreach_stmt, active_stmt, unmasked_stmt, return_stmt, print_stmt, assert_stmt, braces_made, stmts_made}
+use Rattle.isp_types.specs.Statements.{IsItem, ItemBreach, AreItems, ItemsBreach, IsDeclaration, DeclarationBreach, IsTarget, TargetBreach, IsSimple, SimpleBreach, IsFirst, FirstBreach, IsTest, AreRanges, RangesBreach, AreValues, ValuesBreach, IsReturned, ReturnedBreach, IsStmt, StmtBreach, IsBlock, BlockBreach, AreStmts, StmtsBreach}
+use Rattle.isp_types.specs.reader.JudgeStmts.{judge_item, judge_items, judge_declaration, judge_target, judge_simple, judge_first, judge_test, judge_ranges, judge_values, judge_returned, judge_stmt, judge_block, judge_stmts}
+use Rattle.isp_types.proofs.Exprs.{call_right, expr_right, arguments_right}
+
+module _ (gang : Gang) (hs : List Heading) where
+  module _ (r : Result ValueWords Fault) (start : ℕ) where
+    item_right : (ns : List Binding) (vars : List Variable) (i : Item)
+        → Right (judge_item gang hs r start ns vars i) (IsItem gang hs r start ns vars i) (ItemBreach gang hs r start ns vars i)
+    item_right ns vars (plain w) = beside_right (is_new w.name start ns) (fault NameTwice w.span) _ _ _ (just_right _)
+    item_right ns vars (with_value w x s) = made_right (with_initial (length vars) (type_declared (or_nothing r)) s) _ _ _
+        (beside_right (is_new w.name start ns) (fault NameTwice w.span) _ _ _ (expr_right gang hs ns x))
+    item_right ns vars (with_size w n s) = made_right (sized_item s) _ _ _
+        (beside_right (is_new w.name start ns) (fault NameTwice w.span) _ _ _ (given_right (array_sized gang (length vars) (or_nothing r) n)))
+
+    items_right : (ns : List Binding) (vars : List Variable) (is : List Item)
+        → Right (judge_items gang hs r start ns vars is) (AreItems gang hs r start ns vars is) (ItemsBreach gang hs r start ns vars is)
+    items_right ns vars [] = just_right []
+    items_right ns vars (i ∷ is) = made_right pair_then _ _ _
+        (both_right _ _ _ _ _ _ (item_right ns vars i) (items_right (item_names gang r ns vars i) (item_variables gang r vars i) is))
+
+  declaration_right : (ns : List Binding) (start : ℕ) (vars : List Variable) (d : Declaration)
+      → Right (judge_declaration gang hs ns start vars d) (IsDeclaration gang hs ns start vars d) (DeclarationBreach gang hs ns start vars d)
+  declaration_right ns start vars d = made_right second _ _ _ (both_right _ _ _ _ _ _ (given_right (value_said d.ty)) (items_right (value_said d.ty) start ns vars d.items))
+
+  target_right : (ns : List Binding) (x : Expr) → Right (judge_target gang hs ns x) (IsTarget gang hs ns x) (TargetBreach gang hs ns x)
+  target_right ns (place (variable w)) = found_right (variable_target w.span) _ _ _ (given_right (named ns w))
+  target_right ns (place (element w x s)) = found_right (element_target s) _ _ _ (both_right _ _ _ _ _ _ (given_right (named ns w)) (expr_right gang hs ns x))
+  target_right ns (number v s) = found_right (no_place s) _ _ _ (expr_right gang hs ns (number v s))
+  target_right ns (truth b s) = found_right (no_place s) _ _ _ (expr_right gang hs ns (truth b s))
+  target_right ns (program_index s) = found_right (no_place s) _ _ _ (expr_right gang hs ns (program_index s))
+  target_right ns (program_count s) = found_right (no_place s) _ _ _ (expr_right gang hs ns (program_count s))
+  target_right ns (brackets x s) = found_right (no_place s) _ _ _ (expr_right gang hs ns (brackets x s))
+  target_right ns (cast t x s) = found_right (no_place s) _ _ _ (expr_right gang hs ns (cast t x s))
+  target_right ns (prefix op x s) = found_right (no_place s) _ _ _ (expr_right gang hs ns (prefix op x s))
+  target_right ns (binary op x y s) = found_right (no_place s) _ _ _ (expr_right gang hs ns (binary op x y s))
+  target_right ns (choose c x y s) = found_right (no_place s) _ _ _ (expr_right gang hs ns (choose c x y s))
+  target_right ns (call w xs s) = found_right (no_place s) _ _ _ (expr_right gang hs ns (call w xs s))
+
+  simple_right : (ns : List Binding) (p : Simple) → Right (judge_simple gang hs ns p) (IsSimple gang hs ns p) (SimpleBreach gang hs ns p)
+  simple_right ns (value (call w xs s)) = made_right stated _ _ _ (call_right hs w xs s _ _ _ (arguments_right gang hs ns (callee_at hs w xs).1 xs))
+  simple_right ns (value (number v s)) = made_right t_value _ _ _ (expr_right gang hs ns (number v s))
+  simple_right ns (value (truth b s)) = made_right t_value _ _ _ (expr_right gang hs ns (truth b s))
+  simple_right ns (value (program_index s)) = made_right t_value _ _ _ (expr_right gang hs ns (program_index s))
+  simple_right ns (value (program_count s)) = made_right t_value _ _ _ (expr_right gang hs ns (program_count s))
+  simple_right ns (value (brackets x s)) = made_right t_value _ _ _ (expr_right gang hs ns (brackets x s))
+  simple_right ns (value (cast t x s)) = made_right t_value _ _ _ (expr_right gang hs ns (cast t x s))
+  simple_right ns (value (prefix op x s)) = made_right t_value _ _ _ (expr_right gang hs ns (prefix op x s))
+  simple_right ns (value (binary op x y s)) = made_right t_value _ _ _ (expr_right gang hs ns (binary op x y s))
+  simple_right ns (value (choose c x y s)) = made_right t_value _ _ _ (expr_right gang hs ns (choose c x y s))
+  simple_right ns (value (place p)) = made_right t_value _ _ _ (expr_right gang hs ns (place p))
+  simple_right ns (assign a t x s) = made_right (assigned a s) _ _ _ (both_right _ _ _ _ _ _ (target_right ns t) (expr_right gang hs ns x))
+  simple_right ns (change c t s) = made_right (stepped c s) _ _ _ (target_right ns t)
+
+  first_right : (ns : List Binding) (start : ℕ) (vars : List Variable) (i : First)
+      → Right (judge_first gang hs ns start vars i) (IsFirst gang hs ns start vars i) (FirstBreach gang hs ns start vars i)
+  first_right ns start vars (first_declare d) = made_right (declared_first d.span) _ _ _ (declaration_right ns start vars d)
+  first_right ns start vars (first_simple s) = made_right t_first_simple _ _ _ (simple_right ns s)
+
+  test_right : (ns : List Binding) (x : Expr) → Right (judge_test gang hs ns x) (IsTest gang hs ns x) (ExprBreach gang hs ns x)
+  test_right ns x = made_right as_test _ _ _ (expr_right gang hs ns x)
+
+  ranges_right : (ns : List Binding) (start : ℕ) (is : List Binding) (vars : List Variable) (rs : List Range)
+      → Right (judge_ranges gang hs ns start is vars rs) (AreRanges gang hs ns start is vars rs) (RangesBreach gang hs ns start is vars rs)
+  ranges_right ns start is vars [] = just_right []
+  ranges_right ns start is vars (r ∷ rs) = made_right pair_then _ _ _ (both_right _ _ _ _ _ _
+      (made_right (range_made (length vars) r.span) _ _ _ (beside_right (is_new r.word.name start is) (fault NameTwice r.word.span) _ _ _
+      (both_right _ _ _ _ _ _ (expr_right gang hs ns r.start) (expr_right gang hs ns r.end))))
+      (ranges_right ns start (with_name is vars r.word.name (Ok index)) (vars ++ index ∷ []) rs))
+
+  values_right : (ns : List Binding) (xs : List Expr) → Right (judge_values gang hs ns xs) (AreValues gang hs ns xs) (ValuesBreach gang hs ns xs)
+  values_right ns [] = just_right []
+  values_right ns (x ∷ xs) = made_right pair_then _ _ _ (both_right _ _ _ _ _ _ (expr_right gang hs ns x) (values_right ns xs))
+
+  module _ (answer : Result (Option Ty) Fault) where
+    returned_right : (ns : List Binding) (k : Span) (x : Option Expr)
+        → Right (judge_returned gang hs answer ns k x) (IsReturned gang hs answer ns x) (ReturnedBreach gang hs answer ns k x)
+    returned_right ns k x = beside_right (agrees answer x) (fault Mismatch k) _ _ _
+        (perhaps_right _ _ _ (λ y. made_right (as_answer answer) _ _ _ (expr_right gang hs ns y)) x)
+
+    mutual
+      pub stmt_right : (ns : List Binding) (start : ℕ) (vars : List Variable) (x : Stmt)
+          → Right (judge_stmt gang hs answer ns start vars x) (IsStmt gang hs answer ns start vars x) (StmtBreach gang hs answer ns start vars x)
+      stmt_right ns start vars (block b) = made_right t_block _ _ _ (block_right ns (length ns) vars b)
+      stmt_right ns start vars (empty s) = just_right _
+      stmt_right ns start vars (declare d s) = made_right (declared_stmt s) _ _ _ (declaration_right ns start vars d)
+      stmt_right ns start vars (simple p s) = made_right (simple_stmt s) _ _ _ (simple_right ns p)
+      stmt_right ns start vars (if_then f x a s) = made_right (if_stmt f (length vars) s) _ _ _
+          (both_right _ _ _ _ _ _ (test_right ns x) (stmt_right ns (length ns) vars a))
+      stmt_right ns start vars (if_else f x a b s) = made_right (if_else_stmt f (length vars) s) _ _ _
+          (both_right _ _ _ _ _ _ (test_right ns x) (both_right _ _ _ _ _ _ (stmt_right ns (length ns) vars a) (stmt_right ns (length ns) (variables_after gang vars a) b)))
+      stmt_right ns start vars (loop_while f x a s) = made_right (while_stmt f (length vars) s) _ _ _
+          (both_right _ _ _ _ _ _ (test_right ns x) (stmt_right ns (length ns) vars a))
+      stmt_right ns start vars (loop_do f a x s) = made_right (do_stmt f (length vars) s) _ _ _
+          (both_right _ _ _ _ _ _ (stmt_right ns (length ns) vars a) (test_right ns x))
+      stmt_right ns start vars (loop_for f i x p a s) = made_right (for_stmt f (length vars) (length (first_variables gang vars i)) s) _ _ _
+          (both_right _ _ _ _ _ _ (perhaps_right _ _ _ (first_right ns (length ns) vars) i)
+          (both_right _ _ _ _ _ _ (perhaps_right _ _ _ (test_right (first_names gang ns vars i)) x)
+          (both_right _ _ _ _ _ _ (perhaps_right _ _ _ (simple_right (first_names gang ns vars i)) p)
+          (stmt_right (first_names gang ns vars i) (length (first_names gang ns vars i)) (first_variables gang vars i) a))))
+      stmt_right ns start vars (foreach t k rs a s) = made_right (foreach_stmt k (length vars) s) _ _ _
+          (both_right _ _ _ _ _ _ (ranges_right ns (length ns) ns vars rs)
+          (stmt_right (range_names ns vars rs) (length (range_names ns vars rs)) (range_variables vars rs) a))
+      stmt_right ns start vars (foreach_active k w a s) = made_right (active_stmt k (length vars) s) _ _ _
+          (stmt_right (with_name ns vars w.name (Ok active_index)) (length (with_name ns vars w.name (Ok active_index))) (vars ++ active_index ∷ []) a)
+      stmt_right ns start vars (unmasked k b s) = made_right (unmasked_stmt k s) _ _ _ (block_right ns (length ns) vars b)
+      stmt_right ns start vars (jump j k s) = just_right _
+      stmt_right ns start vars (returning k x s) = made_right (return_stmt k s) _ _ _ (returned_right ns k x)
+      stmt_right ns start vars (print k t p xs s) = made_right (print_stmt k t s) _ _ _
+          (beside_right (places t == length xs) (fault BadPrint p) _ _ _ (values_right ns xs))
+      stmt_right ns start vars (assert x c s) = made_right (assert_stmt c s) _ _ _ (test_right ns x)
+
+      pub block_right : (ns : List Binding) (start : ℕ) (vars : List Variable) (b : Block)
+          → Right (judge_block gang hs answer ns start vars b) (IsBlock gang hs answer ns start vars b) (BlockBreach gang hs answer ns start vars b)
+      block_right ns start vars (braces ss s) = made_right (braces_made s) _ _ _ (stmts_right ns start vars ss)
+
+      pub stmts_right : (ns : List Binding) (start : ℕ) (vars : List Variable) (ss : Stmts)
+          → Right (judge_stmts gang hs answer ns start vars ss) (AreStmts gang hs answer ns start vars ss) (StmtsBreach gang hs answer ns start vars ss)
+      stmts_right ns start vars no_stmts = just_right t_no_stmts
+      stmts_right ns start vars (stmt_then s ss) = made_right stmts_made _ _ _
+          (both_right _ _ _ _ _ _ (stmt_right ns start vars s) (stmts_right (names_after gang ns vars s) start (variables_after gang vars s) ss))

@@ -1,0 +1,20 @@
+use Rattle.std.proofs.Common.{◌≡◌, drop, take, map, List, ◌++◌}
+use Rattle.std.specs.Prelude.{Option, Result}
+use Rattle.isp_base.specs.declared.types.Gang.{Gang}
+use Rattle.isp_base.specs.declared.types.Ty.{Ty}
+use Rattle.isp_lex.specs.declared.fault.Fault.{Fault}
+use Rattle.isp_tree.specs.Tree.{Block}
+use Rattle.isp_tree.specs.Views.{param_of as read_param}
+use Rattle.isp_typed.specs.Verdicts.{beside}
+use Rattle.isp_types.specs.Calls.{Heading}
+use Rattle.isp_types.specs.Functions.{param_variable}
+use Rattle.isp_types.specs.reader.JudgeFunctions.{judge_body}
+use Rattle.isp_types.proofs.function.declare_all.Given as goal
+
+abbrev pub invariant-loop-p : goal.invariant-loop-p
+invariant-loop-p l = record {
+  fault : (gang : Gang) (hs : List Heading) (answer : Result (Option Ty) Fault) (b : Block)
+      → beside l.seen (judge_body gang hs answer l.scope l.variables.items (map read_param (drop l.p-index l.all)) b)
+      ≡ judge_body gang hs answer l.initial.scope l.initial.variables.items (map read_param l.all) b;
+  variables : l.variables.items ≡ l.initial.variables.items ++ map param_variable (map read_param (take l.p-index l.all));
+}

@@ -1,0 +1,80 @@
+-- What further functions of the code give. No part of the promise.
+use Rattle.std.specs.Prelude.{ℕ, List, [], ◌∷◌, ◌++◌, map, Bool, true, false, not, Option, Some, None, option_map, Result, Ok, Err}
+use Rattle.std.specs.List.{list_any}
+use Rattle.isp_base.specs.declared.types.Gang.{Gang}
+use Rattle.isp_base.specs.declared.types.Span.{Span}
+use Rattle.isp_base.specs.declared.types.Ty.{Ty}
+use Rattle.isp_lex.specs.declared.fault.Fault.{Fault}
+use Rattle.isp_lex.specs.declared.fault.Rule.TheVariants.{Mismatch}
+use Rattle.isp_lex.specs.Faults.{fault}
+use Rattle.isp_tree.specs.declared.types.Word.{Word}
+use Rattle.isp_tree.specs.Tree.{Arguments, Item, plain, with_value, with_size, Range, Param, Function}
+use Rattle.isp_typed.specs.declared.variable.Variable.{Variable}
+use Rattle.isp_typed.specs.Verdicts.{both, made, beside, first_of, fault_unless}
+use Rattle.isp_typed.specs.Typed.{TExpr, TItem, t_plain, TBlock, TFunction}
+use Rattle.isp_types.specs.declared.scope.Known.{Known}
+use Rattle.isp_types.specs.declared.scope.Binding.{Binding}
+use Rattle.isp_types.specs.declared.words.ValueWords.{ValueWords}
+use Rattle.isp_types.specs.Words.{value_said, type_declared}
+use Rattle.isp_types.specs.Scopes.{Meaning, with_name}
+use Rattle.isp_types.specs.Calls.{Heading, Called}
+use Rattle.isp_types.specs.Rules.{callee_at}
+use Rattle.isp_types.specs.Statements.{declared, array_sized, with_initial, sized_item}
+use Rattle.isp_types.specs.Functions.{param_variable, param_fits, parameter_of, param_span, is_export}
+use Rattle.isp_types.specs.reader.Judge.{judge_call, judge, judge_arguments}
+use Rattle.isp_types.specs.reader.JudgeStmts.{twice}
+
+-- one more behind the others
+abbrev pub and_one : {A : Type 0} → List A × A → List A
+and_one p = p.0 ++ p.1 ∷ []
+
+-- a variable by its number, where its type is found
+abbrev pub known_next : ℕ → Result Variable Fault → Meaning
+known_next k (Ok v) = Ok (record { number = k; variable = v })
+known_next k (Err f) = Err f
+
+-- whether a value given back, or none, agrees with what the function gives back
+abbrev pub agrees_with : Result (Option Ty) Fault → Bool → Bool
+agrees_with (Err f) has = true
+agrees_with (Ok None) has = not has
+agrees_with (Ok (Some t)) has = has
+
+module _ (gang : Gang) (hs : List Heading) (ns : List Binding) where
+  abbrev pub judged_call : Word → Arguments → Span → Result Called Fault
+  judged_call w xs s = judge_call hs w xs s (judge_arguments gang hs ns (callee_at hs w xs).1 xs)
+
+  abbrev pub judge_bounds : Range → Result (TExpr × TExpr) Fault
+  judge_bounds r = both (judge gang hs ns r.start) (judge gang hs ns r.end)
+
+  -- an item, of which the fault of its name and the words of its type are given
+  abbrev pub judge_item_with : Option Fault → ℕ → ValueWords → Item → Result TItem Fault
+  judge_item_with seen k v (plain w) = beside seen (Ok (t_plain k (type_declared v) w.span))
+  judge_item_with seen k v (with_value w x s) = made (with_initial k (type_declared v) s) (beside seen (judge gang hs ns x))
+  judge_item_with seen k v (with_size w n s) = made (sized_item s) (beside seen (array_sized gang k v n))
+
+-- ---- functions
+
+abbrev pub fault_of : {A : Type 0} → Result A Fault → Option Fault
+fault_of (Ok a) = None
+fault_of (Err f) = Some f
+
+-- the first fault of a parameter, and the names after it
+abbrev pub param_fault : List Binding → Param → Option Fault
+param_fault ns p = first_of (first_of (twice p.word 0 ns) (fault_unless (param_fits p) (fault Mismatch p.word.span))) (fault_of (value_said p.ty))
+
+abbrev pub param_names : List Binding → List Variable → Param → List Binding
+param_names ns vars p = with_name ns vars p.word.name (declared (value_said p.ty) (param_variable p))
+
+-- a function of its result, variables and body
+abbrev pub function_of_parts : Function → Option Ty → List Variable → TBlock → TFunction
+function_of_parts f t vars b = record {
+  name = f.word.name;
+  span = f.word.span;
+  exported = list_any is_export f.linkages;
+  parameters = map parameter_of f.params;
+  gives = option_map (λ u. u.elem) t;
+  params = map param_span f.params;
+  answer = t;
+  variables = vars;
+  body = b;
+}

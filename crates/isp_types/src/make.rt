@@ -1,0 +1,423 @@
+//! Statements of their parts.
+ghost use Rattle.std.specs.Prelude.{◌≡◌, IfOk, option_map};
+ghost use Rattle.isp_typed.specs.Typed.{call_span, t_block, t_braces, t_no_stmts, t_stmts};
+ghost use Rattle.isp_typed.specs.Verdicts.{both, made};
+ghost use Rattle.isp_typed.specs.Views.{block_of, expr_of, exprs_of, first_of, items_of, ranges_of, simple_of, stmt_of, stmts_of};
+ghost use Rattle.isp_types.specs.Statements.{active_stmt, assert_stmt, braces_made, declared_stmt, do_stmt, for_stmt, foreach_stmt, if_else_stmt, if_stmt, print_stmt, return_stmt, simple_stmt, unmasked_stmt, while_stmt};
+ghost use Rattle.isp_types.specs.reader.Lists.{and_one};
+
+use isp_base::Span;
+use isp_lex::Text;
+use isp_tree::Form;
+use isp_typed::{
+    TypedBlock, TypedExpr, TypedFirst, TypedItem, TypedRange, TypedSimple, TypedStmt, Verdict, both,
+};
+use std::alloc::{AllocError, Global};
+
+pub fn declared_stmt(items: Verdict<Vec<TypedItem>>, span: Span) -> Verdict<TypedStmt>
+    ensures { made stmt_of result ≡ made (declared_stmt span) (made (λ l. items_of l.items) items) }
+{
+    match items {
+        Ok(items) => Ok(TypedStmt::Declare { items, span }),
+        Err(fault) => Err(fault),
+    }
+}
+
+pub fn simple_stmt(simple: Verdict<TypedSimple>, span: Span) -> Verdict<TypedStmt>
+    ensures { made stmt_of result ≡ made (simple_stmt span) (made simple_of simple) }
+{
+    match simple {
+        Ok(simple) => Ok(TypedStmt::Simple { simple, span }),
+        Err(fault) => Err(fault),
+    }
+}
+
+pub fn block_stmt(block: Verdict<TypedBlock>) -> Verdict<TypedStmt>
+    ensures { made stmt_of result ≡ made t_block (made block_of block) }
+{
+    match block {
+        Ok(block) => Ok(TypedStmt::Block(block)),
+        Err(fault) => Err(fault),
+    }
+}
+
+/// A `;`, which is a block without statements.
+pub fn empty_stmt(alloc: Global, span: Span) -> TypedStmt
+    ensures { stmt_of result ≡ t_block (t_braces t_no_stmts span) }
+{
+    TypedStmt::Block(TypedBlock {
+        statements: Vec::new(alloc),
+        span,
+    })
+}
+
+fn if_node(
+    alloc: Global,
+    form: Form,
+    before: usize,
+    test: TypedExpr,
+    then: TypedStmt,
+    span: Span,
+) -> Result<TypedStmt, AllocError>
+    ensures { IfOk result (λ t. stmt_of t ≡ if_stmt form before span (expr_of test, stmt_of then)) }
+{
+    Ok(TypedStmt::If {
+        form,
+        before,
+        test,
+        then: Box::new(alloc, then)?,
+        span,
+    })
+}
+
+pub fn if_stmt(
+    alloc: Global,
+    form: Form,
+    before: usize,
+    test: Verdict<TypedExpr>,
+    then: Verdict<TypedStmt>,
+    span: Span,
+) -> Result<Verdict<TypedStmt>, AllocError>
+    ensures { IfOk result (λ v. made stmt_of v ≡ made (if_stmt form before span) (both (made expr_of test) (made stmt_of then))) }
+{
+    match both(test, then) {
+        Ok((test, then)) => Ok(Ok(if_node(alloc, form, before, test, then, span)?)),
+        Err(fault) => Ok(Err(fault)),
+    }
+}
+
+fn boxed(alloc: Global, inner: TypedStmt) -> Result<Box<TypedStmt>, AllocError>
+    ensures { IfOk result (λ b. b.value ≡ inner) }
+{
+    Ok(Box::new(alloc, inner)?)
+}
+
+fn both_boxed(
+    alloc: Global,
+    then: TypedStmt,
+    otherwise: TypedStmt,
+) -> Result<(Box<TypedStmt>, Box<TypedStmt>), AllocError>
+    ensures then { IfOk result (λ p. p.0.value ≡ then) }
+    ensures otherwise { IfOk result (λ p. p.1.value ≡ otherwise) }
+{
+    let then = boxed(alloc, then);
+    let otherwise = boxed(alloc, otherwise);
+    Ok((then?, otherwise?))
+}
+
+fn if_else_node(
+    alloc: Global,
+    form: Form,
+    before: usize,
+    test: TypedExpr,
+    then: TypedStmt,
+    otherwise: TypedStmt,
+    span: Span,
+) -> Result<TypedStmt, AllocError>
+    ensures { IfOk result (λ t. stmt_of t ≡ if_else_stmt form before span (expr_of test, (stmt_of then, stmt_of otherwise))) }
+{
+    let (then, otherwise) = both_boxed(alloc, then, otherwise)?;
+    Ok(TypedStmt::IfElse {
+        form,
+        before,
+        test,
+        then,
+        otherwise,
+        span,
+    })
+}
+
+pub fn if_else_stmt(
+    alloc: Global,
+    form: Form,
+    before: usize,
+    test: Verdict<TypedExpr>,
+    branches: Verdict<(TypedStmt, TypedStmt)>,
+    span: Span,
+) -> Result<Verdict<TypedStmt>, AllocError>
+    ensures { IfOk result (λ v. made stmt_of v ≡ made (if_else_stmt form before span) (both (made expr_of test) (made (λ p. (stmt_of p.0, stmt_of p.1)) branches))) }
+{
+    match both(test, branches) {
+        Ok((test, (then, otherwise))) => Ok(Ok(if_else_node(
+            alloc, form, before, test, then, otherwise, span,
+        )?)),
+        Err(fault) => Ok(Err(fault)),
+    }
+}
+
+fn while_node(
+    alloc: Global,
+    form: Form,
+    before: usize,
+    test: TypedExpr,
+    body: TypedStmt,
+    span: Span,
+) -> Result<TypedStmt, AllocError>
+    ensures { IfOk result (λ t. stmt_of t ≡ while_stmt form before span (expr_of test, stmt_of body)) }
+{
+    Ok(TypedStmt::While {
+        form,
+        before,
+        test,
+        body: Box::new(alloc, body)?,
+        span,
+    })
+}
+
+pub fn while_stmt(
+    alloc: Global,
+    form: Form,
+    before: usize,
+    test: Verdict<TypedExpr>,
+    body: Verdict<TypedStmt>,
+    span: Span,
+) -> Result<Verdict<TypedStmt>, AllocError>
+    ensures { IfOk result (λ v. made stmt_of v ≡ made (while_stmt form before span) (both (made expr_of test) (made stmt_of body))) }
+{
+    match both(test, body) {
+        Ok((test, body)) => Ok(Ok(while_node(alloc, form, before, test, body, span)?)),
+        Err(fault) => Ok(Err(fault)),
+    }
+}
+
+fn do_node(
+    alloc: Global,
+    form: Form,
+    before: usize,
+    body: TypedStmt,
+    test: TypedExpr,
+    span: Span,
+) -> Result<TypedStmt, AllocError>
+    ensures { IfOk result (λ t. stmt_of t ≡ do_stmt form before span (stmt_of body, expr_of test)) }
+{
+    Ok(TypedStmt::Do {
+        form,
+        before,
+        body: Box::new(alloc, body)?,
+        test,
+        span,
+    })
+}
+
+pub fn do_stmt(
+    alloc: Global,
+    form: Form,
+    before: usize,
+    body: Verdict<TypedStmt>,
+    test: Verdict<TypedExpr>,
+    span: Span,
+) -> Result<Verdict<TypedStmt>, AllocError>
+    ensures { IfOk result (λ v. made stmt_of v ≡ made (do_stmt form before span) (both (made stmt_of body) (made expr_of test))) }
+{
+    match both(body, test) {
+        Ok((body, test)) => Ok(Ok(do_node(alloc, form, before, body, test, span)?)),
+        Err(fault) => Ok(Err(fault)),
+    }
+}
+
+/// What stands between the brackets of a `for`.
+#[derive(Drop)]
+pub struct Head {
+    pub first: Option<TypedFirst>,
+    pub test: Option<TypedExpr>,
+    pub step: Option<TypedSimple>,
+}
+
+fn for_node(
+    alloc: Global,
+    form: Form,
+    before: usize,
+    inside: usize,
+    head: Head,
+    body: TypedStmt,
+    span: Span,
+) -> Result<TypedStmt, AllocError>
+    ensures { IfOk result (λ t. stmt_of t ≡ for_stmt form before inside span (option_map first_of head.first, (option_map expr_of head.test, (option_map simple_of head.step, stmt_of body)))) }
+{
+    let body = Box::new(alloc, body)?;
+    Ok(TypedStmt::For {
+        form,
+        before,
+        first: head.first,
+        test: head.test,
+        step: head.step,
+        inside,
+        body,
+        span,
+    })
+}
+
+pub fn for_stmt(
+    alloc: Global,
+    form: Form,
+    before: usize,
+    inside: usize,
+    first: Verdict<Option<TypedFirst>>,
+    rest: Verdict<(Option<TypedExpr>, (Option<TypedSimple>, TypedStmt))>,
+    span: Span,
+) -> Result<Verdict<TypedStmt>, AllocError>
+    ensures { IfOk result (λ v. made stmt_of v ≡ made (for_stmt form before inside span) (both (made (option_map first_of) first) (made (λ p. (option_map expr_of p.0, (option_map simple_of p.1.0, stmt_of p.1.1))) rest))) }
+{
+    match both(first, rest) {
+        Ok((first, (test, (step, body)))) => {
+            let head = Head { first, test, step };
+            Ok(Ok(for_node(alloc, form, before, inside, head, body, span)?))
+        }
+        Err(fault) => Ok(Err(fault)),
+    }
+}
+
+fn foreach_node(
+    alloc: Global,
+    keyword: Span,
+    before: usize,
+    ranges: Vec<TypedRange>,
+    body: TypedStmt,
+    span: Span,
+) -> Result<TypedStmt, AllocError>
+    ensures { IfOk result (λ t. stmt_of t ≡ foreach_stmt keyword before span (ranges_of ranges.items, stmt_of body)) }
+{
+    Ok(TypedStmt::Foreach {
+        keyword,
+        before,
+        ranges,
+        body: Box::new(alloc, body)?,
+        span,
+    })
+}
+
+pub fn foreach_stmt(
+    alloc: Global,
+    keyword: Span,
+    before: usize,
+    ranges: Verdict<Vec<TypedRange>>,
+    body: Verdict<TypedStmt>,
+    span: Span,
+) -> Result<Verdict<TypedStmt>, AllocError>
+    ensures { IfOk result (λ v. made stmt_of v ≡ made (foreach_stmt keyword before span) (both (made (λ l. ranges_of l.items) ranges) (made stmt_of body))) }
+{
+    match both(ranges, body) {
+        Ok((ranges, body)) => Ok(Ok(foreach_node(alloc, keyword, before, ranges, body, span)?)),
+        Err(fault) => Ok(Err(fault)),
+    }
+}
+
+fn active_node(
+    alloc: Global,
+    keyword: Span,
+    before: usize,
+    body: TypedStmt,
+    span: Span,
+) -> Result<TypedStmt, AllocError>
+    ensures { IfOk result (λ t. stmt_of t ≡ active_stmt keyword before span (stmt_of body)) }
+{
+    Ok(TypedStmt::ForeachActive {
+        keyword,
+        before,
+        index: before,
+        body: Box::new(alloc, body)?,
+        span,
+    })
+}
+
+pub fn active_stmt(
+    alloc: Global,
+    keyword: Span,
+    before: usize,
+    body: Verdict<TypedStmt>,
+    span: Span,
+) -> Result<Verdict<TypedStmt>, AllocError>
+    ensures { IfOk result (λ v. made stmt_of v ≡ made (active_stmt keyword before span) (made stmt_of body)) }
+{
+    match body {
+        Ok(body) => Ok(Ok(active_node(alloc, keyword, before, body, span)?)),
+        Err(fault) => Ok(Err(fault)),
+    }
+}
+
+pub fn unmasked_stmt(keyword: Span, body: Verdict<TypedBlock>, span: Span) -> Verdict<TypedStmt>
+    ensures { made stmt_of result ≡ made (unmasked_stmt keyword span) (made block_of body) }
+{
+    match body {
+        Ok(body) => Ok(TypedStmt::Unmasked {
+            keyword,
+            body,
+            span,
+        }),
+        Err(fault) => Err(fault),
+    }
+}
+
+pub fn return_stmt(
+    keyword: Span,
+    value: Verdict<Option<TypedExpr>>,
+    span: Span,
+) -> Verdict<TypedStmt>
+    ensures { made stmt_of result ≡ made (return_stmt keyword span) (made (option_map expr_of) value) }
+{
+    match value {
+        Ok(value) => Ok(TypedStmt::Return {
+            keyword,
+            value,
+            span,
+        }),
+        Err(fault) => Err(fault),
+    }
+}
+
+pub fn print_stmt(
+    keyword: Span,
+    text: &Text,
+    values: Verdict<Vec<TypedExpr>>,
+    span: Span,
+) -> Result<Verdict<TypedStmt>, AllocError>
+    ensures { IfOk result (λ v. made stmt_of v ≡ made (print_stmt keyword text.now span) (made (λ l. exprs_of l.items) values)) }
+{
+    match values {
+        Ok(values) => Ok(Ok(TypedStmt::Print {
+            keyword,
+            text: text.copied()?,
+            values,
+            span,
+        })),
+        Err(fault) => Ok(Err(fault)),
+    }
+}
+
+pub fn assert_stmt(test: Verdict<TypedExpr>, call_span: Span, span: Span) -> Verdict<TypedStmt>
+    ensures { made stmt_of result ≡ made (assert_stmt call_span span) (made expr_of test) }
+{
+    match test {
+        Ok(test) => Ok(TypedStmt::Assert {
+            test,
+            call_span,
+            span,
+        }),
+        Err(fault) => Err(fault),
+    }
+}
+
+pub fn braces(statements: Verdict<Vec<TypedStmt>>, span: Span) -> Verdict<TypedBlock>
+    ensures { made block_of result ≡ made (braces_made span) (made t_stmts (made (λ l. stmts_of l.items) statements)) }
+{
+    match statements {
+        Ok(statements) => Ok(TypedBlock { statements, span }),
+        Err(fault) => Err(fault),
+    }
+}
+
+/// One more statement behind the others.
+pub fn push(
+    so_far: Verdict<Vec<TypedStmt>>,
+    part: Verdict<TypedStmt>,
+) -> Result<Verdict<Vec<TypedStmt>>, AllocError>
+    ensures { IfOk result (λ v. made (λ l. stmts_of l.items) v ≡ made and_one (both (made (λ l. stmts_of l.items) so_far) (made stmt_of part))) }
+{
+    match both(so_far, part) {
+        Ok((mut all, typed)) => {
+            all.push(typed)?;
+            Ok(Ok(all))
+        }
+        Err(fault) => Ok(Err(fault)),
+    }
+}

@@ -1,0 +1,345 @@
+//! Parts of statements: tests, bounds, values that are printed or given back.
+ghost use Rattle.std.specs.Prelude.{◌≡◌, IfOk, length, map, option_map, ◌==◌};
+ghost use Rattle.isp_lex.specs.Faults.{fault};
+ghost use Rattle.isp_tree.specs.Views.{expr_of as read_expr, exprs_of as read_exprs, first_of as read_first, range_of as read_range, simple_of as read_simple};
+ghost use Rattle.isp_typed.specs.Verdicts.{beside, both, fault_unless, found, made, perhaps};
+ghost use Rattle.isp_typed.specs.Views.{expr_of, exprs_of, first_of, range_of, ranges_of, simple_of};
+ghost use Rattle.isp_types.specs.Statements.{active_index, as_answer, first_names, first_variables, index, places, range_made, range_names, range_variables};
+ghost use Rattle.isp_types.specs.Values.{converted};
+ghost use Rattle.isp_types.specs.reader.Judge.{judge};
+ghost use Rattle.isp_types.specs.reader.JudgeStmts.{judge_first, judge_ranges, judge_returned, judge_simple, judge_test, judge_values};
+ghost use Rattle.isp_types.specs.reader.Lists.{agrees_with, and_one, judge_bounds};
+
+use crate::declaration::twice;
+use crate::expr::{Setting, expr};
+use crate::places::mismatch;
+use crate::scope::{Known, Scope};
+use crate::simple::{first_part, simple};
+use crate::values::converted;
+use isp_base::{Elem, Rate, Span, Ty};
+use isp_lex::{Fault, Rule, Text};
+use isp_tree::{Expr, First, Range, Simple};
+use isp_typed::{
+    Holds, TypedExpr, TypedFirst, TypedRange, TypedSimple, TypedStmt, Variable, Verdict, beside,
+    both, unless,
+};
+use std::alloc::{AllocError, Global};
+
+fn converted_to(
+    alloc: Global,
+    elem: Elem,
+    value: Verdict<TypedExpr>,
+) -> Result<Verdict<TypedExpr>, AllocError>
+    ensures { IfOk result (λ v. made expr_of v ≡ made (converted elem) (made expr_of value)) }
+{
+    match value {
+        Ok(value) => Ok(Ok(converted(alloc, elem, value)?)),
+        Err(fault) => Ok(Err(fault)),
+    }
+}
+
+/// A test, which is converted to bool.
+pub fn test(setting: &Setting, scope: &Scope, x: &Expr) -> Result<Verdict<TypedExpr>, AllocError>
+    ensures { IfOk result (λ v. made expr_of v ≡ judge_test setting.now.gang setting.now.headers.now scope.now (read_expr x.now)) }
+{
+    let value = expr(setting, scope, x)?;
+    converted_to(setting.alloc, Elem::Bool, value)
+}
+
+fn some<T: Drop>(found: Verdict<T>) -> Verdict<Option<T>>
+    ensures { result ≡ made (λ t. Some t) found }
+{
+    match found {
+        Ok(found) => Ok(Some(found)),
+        Err(fault) => Err(fault),
+    }
+}
+
+/// A test that may be left out.
+pub fn test_if(
+    setting: &Setting,
+    scope: &Scope,
+    x: &Option<Expr>,
+) -> Result<Verdict<Option<TypedExpr>>, AllocError>
+    ensures { IfOk result (λ v. made (option_map expr_of) v ≡ perhaps (judge_test setting.now.gang setting.now.headers.now scope.now) (option_map read_expr x.now)) }
+{
+    match x {
+        None => Ok(Ok(None)),
+        Some(x) => {
+            let found = test(setting, scope, x)?;
+            Ok(some(found))
+        }
+    }
+}
+
+/// A step that may be left out.
+pub fn simple_if(
+    setting: &Setting,
+    scope: &Scope,
+    x: &Option<Simple>,
+) -> Result<Verdict<Option<TypedSimple>>, AllocError>
+    ensures { IfOk result (λ v. made (option_map simple_of) v ≡ perhaps (judge_simple setting.now.gang setting.now.headers.now scope.now) (option_map read_simple x.now)) }
+{
+    match x {
+        None => Ok(Ok(None)),
+        Some(x) => {
+            let found = simple(setting, scope, x)?;
+            Ok(some(found))
+        }
+    }
+}
+
+/// A first part that may be left out.
+pub fn first_if(
+    setting: &Setting,
+    scope: &mut Scope,
+    start: usize,
+    variables: &mut Vec<Variable>,
+    x: &Option<First>,
+) -> Result<Verdict<Option<TypedFirst>>, AllocError>
+    ensures value { IfOk result (λ v. made (option_map first_of) v ≡ perhaps (judge_first setting.now.gang setting.now.headers.now scope.old start variables.old.items) (option_map read_first x.now)) }
+    ensures names { IfOk result (λ v. scope.new ≡ first_names setting.now.gang scope.old variables.old.items (option_map read_first x.now)) }
+    ensures variables { IfOk result (λ v. variables.new.items ≡ first_variables setting.now.gang variables.old.items (option_map read_first x.now)) }
+{
+    match x {
+        None => Ok(Ok(None)),
+        Some(x) => {
+            let found = first_part(setting, scope, start, variables, x)?;
+            Ok(some(found))
+        }
+    }
+}
+
+/// The index of a `foreach`: a constant varying int32.
+fn index() -> Variable
+    ensures { result ≡ index }
+{
+    Variable {
+        holds: Holds::Value(Ty {
+            rate: Rate::Varying,
+            elem: Elem::I32,
+        }),
+        constant: true,
+    }
+}
+
+/// The index of a `foreach_active`: a constant uniform int64.
+pub fn active_index() -> Variable
+    ensures { result ≡ active_index }
+{
+    Variable {
+        holds: Holds::Value(Ty {
+            rate: Rate::Uniform,
+            elem: Elem::I64,
+        }),
+        constant: true,
+    }
+}
+
+fn make_range(
+    alloc: Global,
+    index: usize,
+    start: TypedExpr,
+    end: TypedExpr,
+    span: Span,
+) -> Result<TypedRange, AllocError>
+    ensures { IfOk result (λ r. range_of r ≡ range_made index span (expr_of start, expr_of end)) }
+{
+    let start = converted(alloc, Elem::I32, start)?;
+    let end = converted(alloc, Elem::I32, end)?;
+    Ok(TypedRange {
+        index,
+        start,
+        end,
+        span,
+    })
+}
+
+/// A range of its bounds.
+fn range_made(
+    alloc: Global,
+    index: usize,
+    bounds: Verdict<(TypedExpr, TypedExpr)>,
+    span: Span,
+) -> Result<Verdict<TypedRange>, AllocError>
+    ensures { IfOk result (λ v. made range_of v ≡ made (range_made index span) (made (λ p. (expr_of p.0, expr_of p.1)) bounds)) }
+{
+    match bounds {
+        Ok((start, end)) => Ok(Ok(make_range(alloc, index, start, end, span)?)),
+        Err(fault) => Ok(Err(fault)),
+    }
+}
+
+/// The bounds of a range, before its index has a name.
+fn bounds(
+    setting: &Setting,
+    scope: &Scope,
+    r: &Range,
+) -> Result<Verdict<(TypedExpr, TypedExpr)>, AllocError>
+    ensures { IfOk result (λ v. made (λ p. (expr_of p.0, expr_of p.1)) v ≡ both (judge setting.now.gang setting.now.headers.now scope.now (read_expr r.now.start)) (judge setting.now.gang setting.now.headers.now scope.now (read_expr r.now.end))) }
+{
+    let start = expr(setting, scope, &r.start)?;
+    let end = expr(setting, scope, &r.end)?;
+    Ok(both(start, end))
+}
+
+/// The bounds of all ranges.
+fn all_bounds(
+    setting: &Setting,
+    scope: &Scope,
+    all: &[Range],
+) -> Result<Vec<Verdict<(TypedExpr, TypedExpr)>>, AllocError>
+    ensures { IfOk result (λ l. map (made (λ p. (expr_of p.0, expr_of p.1))) l.items ≡ map (judge_bounds setting.now.gang setting.now.headers.now scope.now) (map read_range all.now)) }
+{
+    let mut done = Vec::new(setting.alloc);
+    for r in all {
+        let part = bounds(setting, scope, r)?;
+        done.push(part)?;
+    }
+    Ok(done)
+}
+
+fn push_range(
+    so_far: Verdict<Vec<TypedRange>>,
+    part: Verdict<TypedRange>,
+) -> Result<Verdict<Vec<TypedRange>>, AllocError>
+    ensures { IfOk result (λ v. made (λ l. ranges_of l.items) v ≡ made and_one (both (made (λ l. ranges_of l.items) so_far) (made range_of part))) }
+{
+    match both(so_far, part) {
+        Ok((mut all, typed)) => {
+            all.push(typed)?;
+            Ok(Ok(all))
+        }
+        Err(fault) => Ok(Err(fault)),
+    }
+}
+
+/// The ranges of a `foreach`, whose indices join the names and variables.
+pub fn ranges(
+    setting: &Setting,
+    scope: &mut Scope,
+    variables: &mut Vec<Variable>,
+    all: &[Range],
+) -> Result<Verdict<Vec<TypedRange>>, AllocError>
+    ensures value { IfOk result (λ v. made (λ l. ranges_of l.items) v ≡ judge_ranges setting.now.gang setting.now.headers.now scope.old (length scope.old) scope.old variables.old.items (map read_range all.now)) }
+    ensures names { IfOk result (λ v. scope.new ≡ range_names scope.old variables.old.items (map read_range all.now)) }
+    ensures variables { IfOk result (λ v. variables.new.items ≡ range_variables variables.old.items (map read_range all.now)) }
+{
+    let start = scope.len();
+    let found = all_bounds(setting, scope, all)?;
+    let mut done = Ok(Vec::new(setting.alloc));
+    for (r, bounds) in all.iter().zip(found) {
+        let seen = twice(scope, start, &r.word);
+        let number = variables.len();
+        let variable = index();
+        let part = range_made(setting.alloc, number, beside(seen, bounds), r.span)?;
+        variables.push(variable)?;
+        scope.push(setting.alloc, &r.word.name, Ok(Known { number, variable }))?;
+        done = push_range(done, part)?;
+    }
+    Ok(done)
+}
+
+fn push_value(
+    so_far: Verdict<Vec<TypedExpr>>,
+    part: Verdict<TypedExpr>,
+) -> Result<Verdict<Vec<TypedExpr>>, AllocError>
+    ensures { IfOk result (λ v. made (λ l. exprs_of l.items) v ≡ made and_one (both (made (λ l. exprs_of l.items) so_far) (made expr_of part))) }
+{
+    match both(so_far, part) {
+        Ok((mut all, typed)) => {
+            all.push(typed)?;
+            Ok(Ok(all))
+        }
+        Err(fault) => Ok(Err(fault)),
+    }
+}
+
+/// Values that are printed.
+fn values(
+    setting: &Setting,
+    scope: &Scope,
+    all: &[Expr],
+) -> Result<Verdict<Vec<TypedExpr>>, AllocError>
+    ensures { IfOk result (λ v. made (λ l. exprs_of l.items) v ≡ judge_values setting.now.gang setting.now.headers.now scope.now (read_exprs all.now)) }
+{
+    let mut done = Ok(Vec::new(setting.alloc));
+    for x in all {
+        let part = expr(setting, scope, x)?;
+        done = push_value(done, part)?;
+    }
+    Ok(done)
+}
+
+/// How many places a text has for values.
+fn places(text: &Text) -> usize
+    ensures { result ≡ places text.now }
+{
+    text.as_slice().iter().filter(|c| **c == b'%').count()
+}
+
+/// The values of a `print`. 25 BadPrint at the text where they are not as many as its places.
+pub fn printed(
+    setting: &Setting,
+    scope: &Scope,
+    text: &Text,
+    text_span: Span,
+    all: &[Expr],
+) -> Result<Verdict<Vec<TypedExpr>>, AllocError>
+    ensures { IfOk result (λ v. made (λ l. exprs_of l.items) v ≡ beside (fault_unless (places text.now == length all.now) (fault Rule.BadPrint text_span)) (judge_values setting.now.gang setting.now.headers.now scope.now (read_exprs all.now))) }
+{
+    let seen = unless(
+        places(text) == all.len(),
+        Fault {
+            rule: Rule::BadPrint,
+            span: text_span,
+        },
+    );
+    let found = values(setting, scope, all)?;
+    Ok(beside(seen, found))
+}
+
+fn agrees(answer: Verdict<Option<Ty>>, has_value: bool) -> bool
+    ensures { result ≡ agrees_with answer has_value }
+{
+    match answer {
+        Err(_) => true,
+        Ok(None) => !has_value,
+        Ok(Some(_)) => has_value,
+    }
+}
+
+fn as_answer(
+    alloc: Global,
+    answer: Verdict<Option<Ty>>,
+    value: Verdict<TypedExpr>,
+) -> Result<Verdict<TypedExpr>, AllocError>
+    ensures { IfOk result (λ v. made expr_of v ≡ made (as_answer answer) (made expr_of value)) }
+{
+    match answer {
+        Ok(Some(ty)) => converted_to(alloc, ty.elem, value),
+        _ => Ok(value),
+    }
+}
+
+/// What is given back. 22 Mismatch at the word where the function gives back a value and none stands
+/// there, or the other way round.
+pub fn returned(
+    setting: &Setting,
+    answer: Verdict<Option<Ty>>,
+    scope: &Scope,
+    keyword: Span,
+    x: &Option<Expr>,
+) -> Result<Verdict<Option<TypedExpr>>, AllocError>
+    ensures { IfOk result (λ v. made (option_map expr_of) v ≡ judge_returned setting.now.gang setting.now.headers.now answer scope.now keyword (option_map read_expr x.now)) }
+{
+    let seen = unless(agrees(answer, x.is_some()), mismatch(keyword));
+    match x {
+        None => Ok(beside(seen, Ok(None))),
+        Some(x) => {
+            let value = expr(setting, scope, x)?;
+            let value = as_answer(setting.alloc, answer, value)?;
+            Ok(beside(seen, some(value)))
+        }
+    }
+}

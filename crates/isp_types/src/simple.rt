@@ -1,0 +1,280 @@
+//! What stands before a semicolon.
+ghost use Rattle.std.specs.Prelude.{◌≡◌, IfOk};
+ghost use Rattle.isp_tree.specs.Tree.{value as read_value};
+ghost use Rattle.isp_tree.specs.Views.{expr_of as read_expr, first_of as read_first, simple_of as read_simple};
+ghost use Rattle.isp_typed.specs.Typed.{t_first_simple, t_value};
+ghost use Rattle.isp_typed.specs.Verdicts.{both, found, made};
+ghost use Rattle.isp_typed.specs.Views.{expr_of, first_of, items_of, place_of, simple_of};
+ghost use Rattle.isp_types.specs.Statements.{assigned, assigned_by, assignment_operator, change_operator, declared_first, first_names, first_variables, no_place, stated, stepped};
+ghost use Rattle.isp_types.specs.reader.JudgeStmts.{judge_first, judge_simple, judge_target};
+ghost use Rattle.isp_types.specs.reader.Parts.{called_of};
+
+use crate::call::Called;
+use crate::declaration::declaration;
+use crate::expr::{Setting, call, expr};
+use crate::places::{element_target, mismatch, variable_target};
+use crate::scope::Scope;
+use crate::values::converted;
+use isp_base::{BinOp, Elem, Span, common};
+use isp_tree::{Assignment, Change, Expr, First, Place, Simple};
+use isp_typed::{
+    TypedExpr, TypedFirst, TypedItem, TypedPlace, TypedSimple, Variable, Verdict, both,
+};
+use std::alloc::{AllocError, Global};
+
+fn no_place(value: Verdict<TypedExpr>, span: Span) -> Verdict<TypedPlace>
+    ensures { made place_of result ≡ found (no_place span) (made expr_of value) }
+{
+    match value {
+        Ok(_) => Err(mismatch(span)),
+        Err(fault) => Err(fault),
+    }
+}
+
+/// What is assigned.
+fn target(setting: &Setting, scope: &Scope, x: &Expr) -> Result<Verdict<TypedPlace>, AllocError>
+    ensures { IfOk result (λ v. made place_of v ≡ judge_target setting.now.gang setting.now.headers.now scope.now (read_expr x.now)) }
+{
+    match x {
+        Expr::Place(Place::Variable(word)) => Ok(variable_target(scope.named(word), word.span)),
+        Expr::Place(Place::Element { array, index, span }) => {
+            let index = expr(setting, scope, index)?;
+            element_target(setting.alloc, scope.named(array), index, *span)
+        }
+        Expr::Number { .. }
+        | Expr::Truth { .. }
+        | Expr::ProgramIndex { .. }
+        | Expr::ProgramCount { .. }
+        | Expr::Call { .. }
+        | Expr::Brackets { .. }
+        | Expr::Cast { .. }
+        | Expr::Prefix { .. }
+        | Expr::Binary { .. }
+        | Expr::Choose { .. } => {
+            let value = expr(setting, scope, x)?;
+            Ok(no_place(value, x.span()))
+        }
+    }
+}
+
+fn assignment_operator(assignment: Assignment) -> Option<BinOp>
+    ensures { result ≡ assignment_operator assignment }
+{
+    match assignment {
+        Assignment::Replace => None,
+        Assignment::Add => Some(BinOp::Add),
+        Assignment::Subtract => Some(BinOp::Sub),
+        Assignment::Multiply => Some(BinOp::Mul),
+        Assignment::Divide => Some(BinOp::Div),
+        Assignment::Remainder => Some(BinOp::Rem),
+        Assignment::And => Some(BinOp::And),
+        Assignment::Or => Some(BinOp::Or),
+        Assignment::Xor => Some(BinOp::Xor),
+        Assignment::ShiftLeft => Some(BinOp::Shl),
+        Assignment::ShiftRight => Some(BinOp::Shr),
+    }
+}
+
+fn assign(
+    alloc: Global,
+    operator: Option<BinOp>,
+    target: TypedPlace,
+    value: TypedExpr,
+    span: Span,
+) -> Result<TypedSimple, AllocError>
+    ensures { IfOk result (λ t. simple_of t ≡ assigned_by operator span (place_of target, expr_of value)) }
+{
+    match operator {
+        None => {
+            let value = converted(alloc, target.ty().elem, value)?;
+            Ok(TypedSimple::Assign {
+                target,
+                value,
+                span,
+            })
+        }
+        Some(operator) => {
+            let elem = common(target.ty().elem, value.ty().elem);
+            let value = converted(alloc, elem, value)?;
+            Ok(TypedSimple::Update {
+                operator,
+                elem,
+                target,
+                value,
+                span,
+            })
+        }
+    }
+}
+
+fn assigned(
+    alloc: Global,
+    assignment: Assignment,
+    target: Verdict<TypedPlace>,
+    value: Verdict<TypedExpr>,
+    span: Span,
+) -> Result<Verdict<TypedSimple>, AllocError>
+    ensures { IfOk result (λ v. made simple_of v ≡ made (assigned assignment span) (both (made place_of target) (made expr_of value))) }
+{
+    match both(target, value) {
+        Ok((target, value)) => Ok(Ok(assign(
+            alloc,
+            assignment_operator(assignment),
+            target,
+            value,
+            span,
+        )?)),
+        Err(fault) => Ok(Err(fault)),
+    }
+}
+
+fn change_operator(change: Change) -> BinOp
+    ensures { result ≡ change_operator change }
+{
+    match change {
+        Change::Increment => BinOp::Add,
+        Change::Decrement => BinOp::Sub,
+    }
+}
+
+fn stepped(change: Change, target: Verdict<TypedPlace>, span: Span) -> Verdict<TypedSimple>
+    ensures { made simple_of result ≡ made (stepped change span) (made place_of target) }
+{
+    match target {
+        Ok(target) => {
+            let elem = common(target.ty().elem, Elem::I32);
+            Ok(TypedSimple::Step {
+                operator: change_operator(change),
+                elem,
+                target,
+                span,
+            })
+        }
+        Err(fault) => Err(fault),
+    }
+}
+
+fn stated(called: Verdict<Called>) -> Verdict<TypedSimple>
+    ensures { made simple_of result ≡ made stated (made called_of called) }
+{
+    match called {
+        Ok(Called::Value(value)) => Ok(TypedSimple::Value(value)),
+        Ok(Called::Run(call)) => Ok(TypedSimple::Call(call)),
+        Err(fault) => Err(fault),
+    }
+}
+
+fn value_stated(value: Verdict<TypedExpr>) -> Verdict<TypedSimple>
+    ensures { made simple_of result ≡ made t_value (made expr_of value) }
+{
+    match value {
+        Ok(value) => Ok(TypedSimple::Value(value)),
+        Err(fault) => Err(fault),
+    }
+}
+
+/// An expression as a statement: a call may be without a result.
+fn expression(
+    setting: &Setting,
+    scope: &Scope,
+    x: &Expr,
+) -> Result<Verdict<TypedSimple>, AllocError>
+    ensures { IfOk result (λ v. made simple_of v ≡ judge_simple setting.now.gang setting.now.headers.now scope.now (read_value (read_expr x.now))) }
+{
+    match x {
+        Expr::Call {
+            function,
+            arguments,
+            span,
+        } => {
+            let called = call(setting, scope, function, arguments, *span)?;
+            Ok(stated(called))
+        }
+        Expr::Number { .. }
+        | Expr::Truth { .. }
+        | Expr::ProgramIndex { .. }
+        | Expr::ProgramCount { .. }
+        | Expr::Place(_)
+        | Expr::Brackets { .. }
+        | Expr::Cast { .. }
+        | Expr::Prefix { .. }
+        | Expr::Binary { .. }
+        | Expr::Choose { .. } => {
+            let value = expr(setting, scope, x)?;
+            Ok(value_stated(value))
+        }
+    }
+}
+
+/// An expression, an assignment, or a step by one.
+pub fn simple(
+    setting: &Setting,
+    scope: &Scope,
+    x: &Simple,
+) -> Result<Verdict<TypedSimple>, AllocError>
+    ensures { IfOk result (λ v. made simple_of v ≡ judge_simple setting.now.gang setting.now.headers.now scope.now (read_simple x.now)) }
+{
+    match x {
+        Simple::Value(value) => expression(setting, scope, value),
+        Simple::Assign {
+            assignment,
+            target: place,
+            value,
+            span,
+        } => {
+            let place = target(setting, scope, place)?;
+            let value = expr(setting, scope, value)?;
+            assigned(setting.alloc, *assignment, place, value, *span)
+        }
+        Simple::Change {
+            change,
+            target: place,
+            span,
+        } => {
+            let place = target(setting, scope, place)?;
+            Ok(stepped(*change, place, *span))
+        }
+    }
+}
+
+fn declared_first(items: Verdict<Vec<TypedItem>>, span: Span) -> Verdict<TypedFirst>
+    ensures { made first_of result ≡ made (declared_first span) (made (λ l. items_of l.items) items) }
+{
+    match items {
+        Ok(items) => Ok(TypedFirst::Declare { items, span }),
+        Err(fault) => Err(fault),
+    }
+}
+
+fn simple_first(simple: Verdict<TypedSimple>) -> Verdict<TypedFirst>
+    ensures { made first_of result ≡ made t_first_simple (made simple_of simple) }
+{
+    match simple {
+        Ok(simple) => Ok(TypedFirst::Simple(simple)),
+        Err(fault) => Err(fault),
+    }
+}
+
+/// The first part of a `for`.
+pub fn first_part(
+    setting: &Setting,
+    scope: &mut Scope,
+    start: usize,
+    variables: &mut Vec<Variable>,
+    x: &First,
+) -> Result<Verdict<TypedFirst>, AllocError>
+    ensures value { IfOk result (λ v. made first_of v ≡ judge_first setting.now.gang setting.now.headers.now scope.old start variables.old.items (read_first x.now)) }
+    ensures names { IfOk result (λ v. scope.new ≡ first_names setting.now.gang scope.old variables.old.items (Some (read_first x.now))) }
+    ensures variables { IfOk result (λ v. variables.new.items ≡ first_variables setting.now.gang variables.old.items (Some (read_first x.now))) }
+{
+    match x {
+        First::Declare(d) => {
+            let items = declaration(setting, scope, start, variables, d)?;
+            Ok(declared_first(items, d.span))
+        }
+        First::Simple(x) => {
+            let part = simple(setting, scope, x)?;
+            Ok(simple_first(part))
+        }
+    }
+}

@@ -1,0 +1,260 @@
+//! Statements.
+ghost use Rattle.std.specs.Prelude.{◌≡◌, IfOk, length, take};
+ghost use Rattle.isp_tree.specs.Views.{block_of as read_block, stmt_of as read_stmt};
+ghost use Rattle.isp_typed.specs.Verdicts.{made};
+ghost use Rattle.isp_typed.specs.Views.{block_of, stmt_of};
+ghost use Rattle.isp_types.specs.Statements.{block_variables, names_after, variables_after};
+ghost use Rattle.isp_types.specs.reader.JudgeStmts.{judge_block, judge_stmt};
+
+use crate::declaration::declaration;
+use crate::expr::Setting;
+use crate::make::{
+    active_stmt, assert_stmt, block_stmt, braces, declared_stmt, do_stmt, empty_stmt, for_stmt,
+    foreach_stmt, if_else_stmt, if_stmt, print_stmt, push, return_stmt, simple_stmt, unmasked_stmt,
+    while_stmt,
+};
+use crate::parts::{active_index, first_if, printed, ranges, returned, simple_if, test, test_if};
+use crate::scope::{Known, Scope};
+use crate::simple::simple;
+use isp_base::{Span, Ty};
+use isp_tree::{Block, Stmt};
+use isp_typed::{TypedBlock, TypedStmt, Variable, Verdict, both};
+use std::alloc::{AllocError, Global};
+
+/// A body, which is a scope of its own.
+#[cycle(stmt)]
+fn body(
+    setting: &Setting,
+    answer: Verdict<Option<Ty>>,
+    scope: &mut Scope,
+    variables: &mut Vec<Variable>,
+    s: &Stmt,
+) -> Result<Verdict<TypedStmt>, AllocError>
+    ensures value { IfOk result (λ v. made stmt_of v ≡ judge_stmt setting.now.gang setting.now.headers.now answer scope.old (length scope.old) variables.old.items (read_stmt s.now)) }
+    ensures names { IfOk result (λ v. scope.new ≡ scope.old) }
+    ensures variables { IfOk result (λ v. variables.new.items ≡ variables_after setting.now.gang variables.old.items (read_stmt s.now)) }
+{
+    let start = scope.len();
+    let found = stmt(setting, answer, scope, start, variables, s)?;
+    scope.leave(start);
+    Ok(found)
+}
+
+/// A block, whose names from `start` on are its scope's.
+#[cycle(stmt)]
+pub fn block(
+    setting: &Setting,
+    answer: Verdict<Option<Ty>>,
+    scope: &mut Scope,
+    start: usize,
+    variables: &mut Vec<Variable>,
+    b: &Block,
+) -> Result<Verdict<TypedBlock>, AllocError>
+    ensures value { IfOk result (λ v. made block_of v ≡ judge_block setting.now.gang setting.now.headers.now answer scope.old start variables.old.items (read_block b.now)) }
+    ensures names { IfOk result (λ v. take (length scope.old) scope.new ≡ scope.old) }
+    ensures variables { IfOk result (λ v. variables.new.items ≡ block_variables setting.now.gang variables.old.items (read_block b.now)) }
+{
+    let mut done = Ok(Vec::new(setting.alloc));
+    for s in &b.statements {
+        let part = stmt(setting, answer, scope, start, variables, s)?;
+        done = push(done, part)?;
+    }
+    Ok(braces(done, b.span))
+}
+
+/// A block that is a scope of its own.
+#[cycle(stmt)]
+fn inner_block(
+    setting: &Setting,
+    answer: Verdict<Option<Ty>>,
+    scope: &mut Scope,
+    variables: &mut Vec<Variable>,
+    b: &Block,
+) -> Result<Verdict<TypedBlock>, AllocError>
+    ensures value { IfOk result (λ v. made block_of v ≡ judge_block setting.now.gang setting.now.headers.now answer scope.old (length scope.old) variables.old.items (read_block b.now)) }
+    ensures names { IfOk result (λ v. scope.new ≡ scope.old) }
+    ensures variables { IfOk result (λ v. variables.new.items ≡ block_variables setting.now.gang variables.old.items (read_block b.now)) }
+{
+    let start = scope.len();
+    let found = block(setting, answer, scope, start, variables, b)?;
+    scope.leave(start);
+    Ok(found)
+}
+
+/// A statement. Of the names in scope, those from `start` on are the innermost scope's; `variables`
+/// are those of the function so far, and `answer` is what it gives back.
+#[cycle(stmt)]
+fn stmt(
+    setting: &Setting,
+    answer: Verdict<Option<Ty>>,
+    scope: &mut Scope,
+    start: usize,
+    variables: &mut Vec<Variable>,
+    s: &Stmt,
+) -> Result<Verdict<TypedStmt>, AllocError>
+    ensures value { IfOk result (λ v. made stmt_of v ≡ judge_stmt setting.now.gang setting.now.headers.now answer scope.old start variables.old.items (read_stmt s.now)) }
+    ensures names { IfOk result (λ v. scope.new ≡ names_after setting.now.gang scope.old variables.old.items (read_stmt s.now)) }
+    ensures variables { IfOk result (λ v. variables.new.items ≡ variables_after setting.now.gang variables.old.items (read_stmt s.now)) }
+{
+    let alloc = setting.alloc;
+    let before = variables.len();
+    match s {
+        Stmt::Block(b) => {
+            let found = inner_block(setting, answer, scope, variables, b)?;
+            Ok(block_stmt(found))
+        }
+        Stmt::Empty { span } => Ok(Ok(empty_stmt(alloc, *span))),
+        Stmt::Declare {
+            declaration: d,
+            span,
+        } => {
+            let items = declaration(setting, scope, start, variables, d)?;
+            Ok(declared_stmt(items, *span))
+        }
+        Stmt::Simple { simple: x, span } => {
+            let found = simple(setting, scope, x)?;
+            Ok(simple_stmt(found, *span))
+        }
+        Stmt::If {
+            form,
+            test: x,
+            then,
+            span,
+        } => {
+            let found = test(setting, scope, x)?;
+            let then = body(setting, answer, scope, variables, then)?;
+            if_stmt(alloc, *form, before, found, then, *span)
+        }
+        Stmt::IfElse {
+            form,
+            test: x,
+            then,
+            otherwise,
+            span,
+        } => {
+            let found = test(setting, scope, x)?;
+            let then = body(setting, answer, scope, variables, then)?;
+            let otherwise = body(setting, answer, scope, variables, otherwise)?;
+            if_else_stmt(alloc, *form, before, found, both(then, otherwise), *span)
+        }
+        Stmt::While {
+            form,
+            test: x,
+            body: s,
+            span,
+        } => {
+            let found = test(setting, scope, x)?;
+            let done = body(setting, answer, scope, variables, s)?;
+            while_stmt(alloc, *form, before, found, done, *span)
+        }
+        Stmt::Do {
+            form,
+            body: s,
+            test: x,
+            span,
+        } => {
+            let done = body(setting, answer, scope, variables, s)?;
+            let found = test(setting, scope, x)?;
+            do_stmt(alloc, *form, before, done, found, *span)
+        }
+        Stmt::For {
+            form,
+            first,
+            test: x,
+            step,
+            body: s,
+            span,
+        } => {
+            let outer = scope.len();
+            let first = first_if(setting, scope, outer, variables, first)?;
+            let inside = variables.len();
+            let found = test_if(setting, scope, x)?;
+            let step = simple_if(setting, scope, step)?;
+            let done = body(setting, answer, scope, variables, s)?;
+            scope.leave(outer);
+            for_stmt(
+                alloc,
+                *form,
+                before,
+                inside,
+                first,
+                both(found, both(step, done)),
+                *span,
+            )
+        }
+        Stmt::Foreach {
+            keyword,
+            ranges: all,
+            body: s,
+            span,
+            ..
+        } => {
+            let outer = scope.len();
+            let found = ranges(setting, scope, variables, all)?;
+            let done = body(setting, answer, scope, variables, s)?;
+            scope.leave(outer);
+            foreach_stmt(alloc, *keyword, before, found, done, *span)
+        }
+        Stmt::ForeachActive {
+            keyword,
+            word,
+            body: s,
+            span,
+        } => {
+            let outer = scope.len();
+            let variable = active_index();
+            variables.push(variable)?;
+            let known = Known {
+                number: before,
+                variable,
+            };
+            scope.push(alloc, &word.name, Ok(known))?;
+            let done = body(setting, answer, scope, variables, s)?;
+            scope.leave(outer);
+            active_stmt(alloc, *keyword, before, done, *span)
+        }
+        Stmt::Unmasked {
+            keyword,
+            body: b,
+            span,
+        } => {
+            let found = inner_block(setting, answer, scope, variables, b)?;
+            Ok(unmasked_stmt(*keyword, found, *span))
+        }
+        Stmt::Jump {
+            jump,
+            keyword,
+            span,
+        } => Ok(Ok(TypedStmt::Jump {
+            jump: *jump,
+            keyword: *keyword,
+            span: *span,
+        })),
+        Stmt::Return {
+            keyword,
+            value,
+            span,
+        } => {
+            let found = returned(setting, answer, scope, *keyword, value)?;
+            Ok(return_stmt(*keyword, found, *span))
+        }
+        Stmt::Print {
+            keyword,
+            text,
+            text_span,
+            values,
+            span,
+        } => {
+            let found = printed(setting, scope, text, *text_span, values)?;
+            print_stmt(*keyword, text, found, *span)
+        }
+        Stmt::Assert {
+            test: x,
+            call_span,
+            span,
+        } => {
+            let found = test(setting, scope, x)?;
+            Ok(assert_stmt(found, *call_span, *span))
+        }
+    }
+}
