@@ -1,0 +1,98 @@
+#!/usr/bin/env python3
+"""Writes crates/isp_rows_types/src/tables/library.rt and pairs.rt: sources and what comes out.
+
+Each call of the library stands here once with what it takes and gives, as docs/LANGUAGE.md has it,
+and each fault of names, types and rates once; the tables hold each call with each kind of wrong
+argument, and each two faults in either order. Nothing is taken from the crates. Run it at the top
+of the repository:
+
+    python3 tools/source_table.py
+"""
+
+# What each argument is: x a value, i a uniform value. What comes out: uniform, varying, or as the arguments are.
+CALLS = {
+    "reduce_add": ("x", "uniform"),
+    "reduce_min": ("x", "uniform"),
+    "reduce_max": ("x", "uniform"),
+    "reduce_equal": ("x", "uniform"),
+    "any": ("x", "uniform"),
+    "all": ("x", "uniform"),
+    "none": ("x", "uniform"),
+    "exclusive_scan_add": ("x", "varying"),
+    "exclusive_scan_and": ("x", "varying"),
+    "exclusive_scan_or": ("x", "varying"),
+    "broadcast": ("xi", "varying"),
+    "rotate": ("xi", "varying"),
+    "shift": ("xi", "varying"),
+    "shuffle": ("xx", "varying"),
+    "shuffle of two": ("xxx", "varying"),
+    "extract": ("xi", "uniform"),
+    "insert": ("xii", "varying"),
+    "min": ("xx", "as they are"),
+    "max": ("xx", "as they are"),
+    "clamp": ("xxx", "as they are"),
+    "abs": ("x", "as they are"),
+    "select": ("xxx", "as they are"),
+}
+NO_VALUES = ["a", "g()", "&v"]
+FAULTS = {
+    "20 UnknownName": "v = ⟦zz⟧;",
+    "21 NameTwice": "int ⟦v⟧;",
+    "22 Mismatch": "v = ⟦a⟧;",
+    "23 Arguments": "⟦g(1)⟧;",
+    "24 ConstAssigned": "⟦c[0]⟧ = 1;",
+    "25 BadPrint": 'print(⟦"%"⟧);',
+    "30 VaryingToUniform": "u = ⟦v⟧;",
+    "31 BadExit": "⟦break⟧;",
+    "32 NestedForeach": "foreach (i = 0 ... 4) ⟦foreach⟧ (j = 0 ... 4) ;",
+}
+
+
+def file(path, says, what, lines):
+    head = f"//! {says}\n\n/// Each line: what comes out, and statements of the function `f` that stands in the frame; the place is in brackets.\n"
+    body = "".join(f"{line}\n" for line in lines)
+    with open(f"crates/isp_rows_types/src/tables/{path}.rt", "w") as out:
+        out.write(f'{head}pub(crate) const {what}: &str = r##"{body}"##;\n')
+
+
+def call(name, arguments):
+    return f"{name.split()[0]}({', '.join(arguments)})"
+
+
+def library():
+    for name, (kinds, gives) in CALLS.items():
+        right = ["v" if kind == "x" else "u" for kind in kinds]
+        uniform = ["u"] * len(kinds)
+        yield f"accepted|v = {call(name, right)}; v = {call(name, uniform)};"
+        if gives == "varying":
+            yield f"30 VaryingToUniform|u = ⟦{call(name, uniform)}⟧;"
+        else:
+            yield f"accepted|u = {call(name, right if gives == 'uniform' else uniform)};"
+        for place, kind in enumerate(kinds):
+            for wrong in NO_VALUES:
+                yield f"22 Mismatch|{call(name, right[:place] + [f'⟦{wrong}⟧'] + right[place + 1:])};"
+            if kind == "i":
+                yield f"30 VaryingToUniform|{call(name, right[:place] + ['⟦v⟧'] + right[place + 1:])};"
+            if gives == "as they are":
+                yield f"30 VaryingToUniform|u = ⟦{call(name, uniform[:place] + ['v'] + uniform[place + 1:])}⟧;"
+        if name != "shuffle of two":
+            yield f"23 Arguments|⟦{call(name, right[1:])}⟧;"
+        if name != "shuffle":
+            yield f"23 Arguments|⟦{call(name, right + ['v'])}⟧;"
+
+
+def pairs():
+    bare = str.maketrans("", "", "⟦⟧")
+    for first, one in FAULTS.items():
+        for second, other in FAULTS.items():
+            if first == second:
+                continue
+            # names and types come before rates and exits; else the place that ends first
+            if first >= "30" and second < "30":
+                yield f"{second}|{one.translate(bare)} {other}"
+            else:
+                yield f"{first}|{one} {other.translate(bare)}"
+
+
+file("library", "Each call of the library, with each kind of wrong argument.", "CALLS", library())
+file("pairs", "Each two faults, in either order.", "PAIRS", pairs())
