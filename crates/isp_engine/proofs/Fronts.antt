@@ -1,6 +1,8 @@
--- A source text is the source of one program.
-use Rattle.std.proofs.Common.{◌≡◌, ℕ, ◌≤◌, List, [], length, map, Ok, Err, refl, sym, subst, inr, Result}
+-- A source text is the source of one program, and is compiled or not.
+use Rattle.std.proofs.Common.{◌≡◌, ℕ, ◌≤◌, List, [], length, Ok, Err, Some, refl, sym, subst, inl, inr, Result, ◌∙◌}
 use Rattle.std.specs.Prelude.{IfOk, IfErr, MatchResult}
+use Rattle.std.specs.Result.{IsErrAnd}
+use Rattle.isp_base.specs.declared.types.Gang.{Gang}
 use Rattle.isp_lex.specs.Lexing.{Lexes, limit as longest_text}
 use Rattle.isp_lex.specs.Tokens.{TokenList}
 use Rattle.isp_lex.specs.declared.fault.Fault.{Fault}
@@ -9,39 +11,106 @@ use Rattle.isp_lex.specs.declared.fault.SourceFault.TheVariants.{Memory, Refused
 use Rattle.isp_lex.specs.declared.token.Token.{Token}
 use Rattle.isp_tree.specs.Depth.{depth_of_functions}
 use Rattle.isp_tree.specs.Tree.{Function as Read}
+use Rattle.isp_tree.specs.Views.{functions_of as tree_of}
+use Rattle.isp_tree.specs.declared.tree.Tree.{Tree}
 use Rattle.isp_syntax.specs.Grammar.{IsProgram as IsTree}
+use Rattle.isp_syntax.specs.Promise.{GivesTree}
 use Rattle.isp_tree.specs.Depth.{limit as deepest_tree}
-use Rattle.isp_thin.specs.declared.checked.Program.{Program}
-use Rattle.isp_thin.specs.Program.{Plain, plain, IsProgram, Breach}
-use Rattle.isp_thin.specs.Promise.{Accepts, Refuses}
-use Rattle.isp_thin.specs.Typed.{functions_of}
-use Rattle.isp_engine.specs.Front.{HasTree, IsSource, IsFaulty}
+use Rattle.isp_typed.specs.Promise.{Accepts}
+use Rattle.isp_typed.specs.Typed.{Program}
+use Rattle.isp_typed.specs.Views.{program_of}
+use Rattle.isp_typed.specs.declared.function.Program as rust_program
+use Rattle.isp_types.specs.Functions.{IsProgram, Breach}
+use Rattle.isp_rates.specs.Breaches.{Least}
+use Rattle.isp_rates.specs.Program.{ProgramBreach}
+use Rattle.isp_thin.specs.Program.{Plain, IsProgram as IsThin, Breach as ThinBreach}
+use Rattle.isp_thin.specs.Promise.{Accepts as ThinAccepts, Refuses as ThinRefuses}
+use Rattle.isp_engine.specs.Front.{HasTree, IsChecked, IsSource, IsUnsound, IsFaulty}
+use Rattle.isp_engine.specs.Covered.{IsCovered, IsNotCompiled}
 
--- the program that is checked
-abbrev program_of : Program → List Plain
-program_of c = map plain (functions_of c.functions.items)
+-- ---- a refusal that is handed on
 
-pub accepted : (text : List ℕ) (tree : List Read) (r : Result Program SourceFault) → HasTree text tree → IfOk r (λ c. Accepts (IsProgram tree) (Breach tree) (program_of c)) → IfOk r (λ c. IsSource text (program_of c))
-accepted text tree (Ok c) h a = record { tree = tree; has = h; accepted = a }
-accepted text tree (Err e) h a = tt
+pub err_match : {A E : Type 0} (r : Result A E) (x y : E) (P : A → Type 0) → IsErrAnd r (λ e. e ≡ x) → x ≡ y → MatchResult r P (λ e. e ≡ y)
+err_match (Ok a) x y P h e = absurd h
+err_match (Err z) x y P h e = h ∙ e
 
-pub refused : (text : List ℕ) (tree : List Read) (r : Result Program SourceFault) → HasTree text tree → IfErr r (λ e. (f : Fault) → e ≡ Refused f → Refuses (IsProgram tree) (Breach tree) f) → IfErr r (λ e. (f : Fault) → e ≡ Refused f → IsFaulty text f)
-refused text tree (Ok c) h a = tt
-refused text tree (Err e) h a = λ f is. inr (inr (tree, h, a f is))
+pub err_is : {A E : Type 0} (r : Result A E) (x y : E) → IsErrAnd r (λ e. e ≡ x) → x ≡ y → IfErr r (λ e. e ≡ y)
+err_is (Ok a) x y h e = tt
+err_is (Err z) x y h e = h ∙ e
 
-pub only : (text : List ℕ) (tokens : TokenList) (tree : List Read) (r : Result Program SourceFault) → ((ts : List Token) → Lexes 0 text ts [] → length text ≤ longest_text → tokens.items ≡ ts) → ((fs : List Read) → IsTree tokens.items fs → depth_of_functions fs ≤ deepest_tree → tree ≡ fs) → IfOk r (λ c. Accepts (IsProgram tree) (Breach tree) (program_of c)) → IfErr r (λ e. (f : Fault) → e ≡ Refused f → Refuses (IsProgram tree) (Breach tree) f) → (program : List Plain) → IsSource text program → MatchResult r (λ c. program_of c ≡ program) (λ e. e ≡ Memory)
-only text tokens tree r lexes trees a b program s = at r a b
+pub err_refused : {A : Type 0} (r : Result A SourceFault) (x : SourceFault) (P : Fault → Type 0) → IsErrAnd r (λ e. e ≡ x) → ((f : Fault) → x ≡ Refused f → P f) → IfErr r (λ e. (f : Fault) → e ≡ Refused f → P f)
+err_refused (Ok a) x P h g = tt
+err_refused (Err z) x P h g = λ f is. g f (sym h ∙ is)
+
+-- ---- the tree of a text
+
+abbrev pub Checked : Type 0
+Checked = rust_program.Program
+
+pub tree_only : (text : List ℕ) (tokens : TokenList) (r : Result Tree SourceFault) → ((ts : List Token) → Lexes 0 text ts [] → length text ≤ longest_text → tokens.items ≡ ts) → ((fs : List Read) → IsTree tokens.items fs → depth_of_functions fs ≤ deepest_tree → GivesTree r fs) → (tree : List Read) → HasTree text tree → MatchResult r (λ t. tree_of t ≡ tree) (λ e. e ≡ Memory)
+tree_only text tokens r lexes trees tree h = at r (trees tree (subst (λ z. IsTree z tree) (sym same) h.is) h.shallow)
   where
-    same_tokens : tokens.items ≡ s.has.tokens.items
-    same_tokens = lexes s.has.tokens.items s.has.has.lexes s.has.has.short
+    same : tokens.items ≡ h.tokens.items
+    same = lexes h.tokens.items h.has.lexes h.has.short
 
-    same_tree : tree ≡ s.tree
-    same_tree = trees s.tree (subst (λ z. IsTree z s.tree) (sym same_tokens) s.has.is) s.has.shallow
+    at : (r : Result Tree SourceFault) → GivesTree r tree → MatchResult r (λ t. tree_of t ≡ tree) (λ e. e ≡ Memory)
+    at (Ok t) g = g
+    at (Err Memory) g = refl
+    at (Err (Refused f)) g = absurd g
 
-    is : IsProgram tree program
-    is = subst (λ z. IsProgram z program) (sym same_tree) s.accepted.is
+-- ---- the program of a tree
 
-    at : (r : Result Program SourceFault) → IfOk r (λ c. Accepts (IsProgram tree) (Breach tree) (program_of c)) → IfErr r (λ e. (f : Fault) → e ≡ Refused f → Refuses (IsProgram tree) (Breach tree) f) → MatchResult r (λ c. program_of c ≡ program) (λ e. e ≡ Memory)
-    at (Ok c) a b = sym (a.only program is)
+-- a program is the only one
+pub one_program : (gang : Gang) (tree : List Read) (p q : Program) → IsChecked gang tree p → IsChecked gang tree q → p ≡ q
+one_program gang tree p q a b = b.typed.only p a.typed.is
+
+-- what is unsound is no program
+pub no_program : (gang : Gang) (tree : List Read) (f : Fault) (p : Program) → IsUnsound gang tree f → IsChecked gang tree p → ⊥
+no_program gang tree f p (inl r) c = r.nothing p c.typed.is
+no_program gang tree f p (inr (q, a, l)) c = c.sound f (subst (λ z. ProgramBreach z f) (c.typed.only q a.is) l.by.0)
+
+-- a fault of rates is one of the program that the tree is
+pub rate_fault : (gang : Gang) (tree : List Read) (p : Program) (r : Result Checked SourceFault) → Accepts (IsProgram gang tree) (Breach gang tree) p → IfErr r (λ e. (f : Fault) → e ≡ Refused f → Least (Some f) (ProgramBreach p)) → IfErr r (λ e. (f : Fault) → e ≡ Refused f → IsUnsound gang tree f)
+rate_fault gang tree p (Ok c) a h = tt
+rate_fault gang tree p (Err e) a h = λ f is. inr (p, a, h f is)
+
+-- ---- a text
+
+pub judged : (gang : Gang) (text : List ℕ) (tree : List Read) (r : Result Checked SourceFault) → HasTree text tree → IfOk r (λ c. IsChecked gang tree (program_of c)) → IfOk r (λ c. IsSource gang text (program_of c))
+judged gang text tree (Ok c) h a = record { tree = tree; has = h; checked = a }
+judged gang text tree (Err e) h a = tt
+
+pub unsound : (gang : Gang) (text : List ℕ) (tree : List Read) (r : Result Checked SourceFault) → HasTree text tree → IfErr r (λ e. (f : Fault) → e ≡ Refused f → IsUnsound gang tree f) → IfErr r (λ e. (f : Fault) → e ≡ Refused f → IsFaulty gang text f)
+unsound gang text tree (Ok c) h a = tt
+unsound gang text tree (Err e) h a = λ f is. inr (tree, h, a f is)
+
+pub only : (gang : Gang) (text : List ℕ) (tree : List Read) (r : Result Checked SourceFault) → IfOk r (λ c. IsChecked gang tree (program_of c)) → IfErr r (λ e. (f : Fault) → e ≡ Refused f → IsUnsound gang tree f) → (program : Program) (s : IsSource gang text program) → tree ≡ s.tree → MatchResult r (λ c. program_of c ≡ program) (λ e. e ≡ Memory)
+only gang text tree r a b program s same = at r a b
+  where
+    is : IsChecked gang tree program
+    is = subst (λ z. IsChecked gang z program) (sym same) s.checked
+
+    at : (r : Result Checked SourceFault) → IfOk r (λ c. IsChecked gang tree (program_of c)) → IfErr r (λ e. (f : Fault) → e ≡ Refused f → IsUnsound gang tree f) → MatchResult r (λ c. program_of c ≡ program) (λ e. e ≡ Memory)
+    at (Ok c) a b = one_program gang tree (program_of c) program a is
     at (Err Memory) a b = refl
-    at (Err (Refused f)) a b = absurd ((b f refl).nothing program is)
+    at (Err (Refused f)) a b = absurd (no_program gang tree f program (b f refl) is)
+
+-- ---- what is compiled
+
+-- a tree that is no program is not that of a program all of which is compiled
+pub judge_only : (gang : Gang) (text : List ℕ) (tree : List Read) (e : SourceFault) → ((f : Fault) → e ≡ Refused f → IsUnsound gang tree f) → ((other : List Read) → HasTree text other → tree ≡ other) → (functions : List Plain) → IsCovered gang text functions → e ≡ Memory
+judge_only gang text tree Memory refused same functions c = refl
+judge_only gang text tree (Refused f) refused same functions c =
+    absurd (no_program gang tree f c.program (refused f refl) (subst (λ z. IsChecked gang z c.program) (sym (same c.source.tree c.source.has)) c.source.checked))
+
+-- nor is one of which the first path's checker does not take all
+pub thin_only : (gang : Gang) (text : List ℕ) (tree : List Read) (e : SourceFault) → ((f : Fault) → e ≡ Refused f → ThinRefuses (IsThin tree) (ThinBreach tree) f) → ((other : List Read) → HasTree text other → tree ≡ other) → (functions : List Plain) → IsCovered gang text functions → e ≡ Memory
+thin_only gang text tree Memory refused same functions c = refl
+thin_only gang text tree (Refused f) refused same functions c =
+    absurd ((refused f refl).nothing functions (subst (λ z. IsThin z functions) (sym (same c.source.tree c.source.has)) c.accepted.is))
+
+pub covered : (gang : Gang) (text : List ℕ) (tree : List Read) (p : Program) (functions : List Plain) → HasTree text tree → IsChecked gang tree p → ThinAccepts (IsThin tree) (ThinBreach tree) functions → IsCovered gang text functions
+covered gang text tree p functions h c a = record { program = p; source = record { tree = tree; has = h; checked = c }; accepted = a }
+
+pub left : (gang : Gang) (text : List ℕ) (tree : List Read) (p : Program) (f : Fault) → HasTree text tree → IsChecked gang tree p → ThinRefuses (IsThin tree) (ThinBreach tree) f → IsNotCompiled gang text f
+left gang text tree p f h c r = inr (record { program = p; source = record { tree = tree; has = h; checked = c }; refused = r })

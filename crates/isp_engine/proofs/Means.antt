@@ -15,6 +15,8 @@ use Rattle.isp_engine.specs.declared.report.Ending.TheVariants.{Running}
 use Rattle.isp_engine.specs.declared.report.Report.{Report}
 use Rattle.isp_base.specs.Prefixes.{IsPrefix}
 use Rattle.isp_engine.specs.Agreement.{AreBound, Agrees, enough}
+use Rattle.isp_base.specs.Types.{gang_width}
+use Rattle.isp_base.specs.declared.types.Gang.{Gang}
 use Rattle.isp_engine.specs.Images.{Entry, entry_named, IsCompiled, AreCompiled, IsCompilation}
 use Rattle.isp_engine.specs.Machine.{first_conf, after}
 use Rattle.isp_engine.specs.Meaning.{Tells, Means}
@@ -116,6 +118,6 @@ means_of gang (Some f) (Some e) json budget (Ok r) p h =
     let k : Runs gang (record e { params = f.signature.params.items }) json budget (Ok r) = subst (λ ps. Runs gang (record e { params = ps }) json budget (Ok r)) p.params h in
     (k.0, k.1, tells gang f e.code p.code k.0 (text_bound f.signature.params.items json k.0 k.1) budget r k.2)
 
-pub means : (gang : ℕ) (text : List ℕ) (es : List Entry) (program : IsCompilation gang text es) (name json : List ℕ) (budget : ℕ) (answer : Result Report RunFault) → Executes gang (entry_named name es) json budget answer → Means gang (function_named name program.functions) json budget answer
+pub means : (gang : Gang) (text : List ℕ) (es : List Entry) (program : IsCompilation gang text es) (name json : List ℕ) (budget : ℕ) (answer : Result Report RunFault) → Executes (gang_width gang) (entry_named name es) json budget answer → Means (gang_width gang) (function_named name program.functions) json budget answer
 means gang text es program name json budget answer h =
-    means_of gang (function_named name program.functions) (entry_named name es) json budget answer (paired gang name program.functions es program.code) h
+    means_of (gang_width gang) (function_named name program.functions) (entry_named name es) json budget answer (paired (gang_width gang) name program.functions es program.code) h

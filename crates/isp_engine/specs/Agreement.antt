@@ -1,5 +1,5 @@
 -- When code does what a function of a program means, and in how many instructions.
-use Rattle.std.specs.Prelude.{◌≡◌, ℕ, ◌+◌, ◌*◌, ◌≤◌, List, [], ◌∷◌, ◌++◌, true}
+use Rattle.std.specs.Prelude.{◌≡◌, ℕ, ◌+◌, ◌*◌, ◌≤◌, List, [], ◌∷◌, true}
 use Rattle.isp_base.specs.Binding.{has_signature}
 use Rattle.isp_base.specs.Rows.{Row, Fit}
 use Rattle.isp_base.specs.Outcomes.{Outcome, GoesOn, out_of, IsOver}

@@ -18,7 +18,7 @@ use Rattle.isp_engine.specs.declared.report.Report.{Report}
 use Rattle.isp_engine.specs.Failures.{status_of}
 use Rattle.isp_engine.specs.Sinks.{TookAll, TookSome}
 use Rattle.isp_engine.specs.Compilations.{Compiles, IsAnswer}
-use Rattle.isp_engine.specs.Front.{IsFaulty}
+use Rattle.isp_engine.specs.Covered.{IsNotCompiled}
 
 -- ---- the words
 
@@ -63,11 +63,11 @@ Unread holds file (Trapped t) = ⊥
 Unread holds file BudgetUsed = ⊥
 Unread holds file CannotWrite = ⊥
 
--- SOURCE cannot be read, or ARGUMENTS where SOURCE was read; the source is refused; or the entry or the arguments are, for
+-- SOURCE cannot be read, or ARGUMENTS where SOURCE was read; the source is refused, or not compiled yet; or the entry or the arguments are, for
 -- another reason than memory
 abbrev pub Fails : (List ℕ → Option (List ℕ) → Type 0) → Request → Failure → Type 0
 Fails holds q (CannotRead name) = Unread holds q.source (CannotRead name) ⊎ (((source : List ℕ) × holds q.source (Some source)) × Unread holds q.arguments (CannotRead name))
-Fails holds q (Source f) = (files : Reads holds q) × IsFaulty files.source f
+Fails holds q (Source f) = (files : Reads holds q) × IsNotCompiled W4 files.source f
 Fails holds q (Run f) =
     (f ≢ NoRunMemory) × (files : Reads holds q) × (image : Image) × (compiles : Compiles files.source W4 image) × IsAnswer files.source W4 image compiles q.entry files.arguments budget (Err f)
 Fails holds q Memory = Unit {0}

@@ -12,7 +12,7 @@ use Rattle.isp_engine.specs.Reports.{Executes}
 -- the image is for that gang, and has the program's functions with code that agrees with them
 pub record Compiles (text : List ℕ) (gang : Gang) (image : Compiled) : Type 0 where
   pub made_for : image.gang ≡ gang
-  pub is : IsCompilation (gang_width gang) text image.functions
+  pub is : IsCompilation gang text image.functions
 
 -- the answer of so many instructions of the first function of that name, from the arguments that a text gives it
 pub record IsAnswer (text : List ℕ) (gang : Gang) (image : Compiled) (compiled : Compiles text gang image) (entry json : List ℕ) (budget : ℕ) (answer : Result Report RunFault) : Type 0 where

@@ -7,7 +7,7 @@ use Rattle.isp_base.specs.declared.signature.Argument.{Argument}
 use Rattle.isp_base.specs.declared.signature.Argument.TheVariants.{Value as AValue, Array as AnArray}
 use Rattle.isp_base.specs.declared.trap.Trap.{Trap}
 use Rattle.isp_base.specs.Sets.{everyone}
-use Rattle.isp_base.specs.Maps.{Lanes, Map, lane_of, on}
+use Rattle.isp_base.specs.Maps.{Map, lane_of, on}
 use Rattle.isp_base.specs.Arguments.{row_bits}
 use Rattle.isp_engine.specs.declared.machine.Step.{Step}
 use Rattle.isp_engine.specs.declared.machine.Step.TheVariants.{Went, Failed, Finished}

@@ -1,12 +1,13 @@
 -- A compiled program, and when it does what its source means.
 use Rattle.std.specs.Prelude.{◌≡◌, ℕ, List, [], ◌∷◌, map, find, bytes_eq, Option}
+use Rattle.isp_base.specs.Types.{gang_width}
 use Rattle.isp_base.specs.declared.types.Gang.{Gang}
 use Rattle.isp_base.specs.declared.signature.Parameter.{Parameter}
 use Rattle.isp_thin.specs.Typed.{Function}
 use Rattle.isp_engine.specs.declared.code.Instr.{Instr}
 use Rattle.isp_thin.specs.Program.{plain}
 use Rattle.isp_engine.specs.Agreement.{Agrees}
-use Rattle.isp_engine.specs.Front.{IsSource}
+use Rattle.isp_engine.specs.Covered.{IsCovered}
 
 -- an exported function and its code
 pub record Entry : Type 0 where
@@ -35,8 +36,8 @@ AreCompiled gang [] (e ∷ es) = ⊥
 AreCompiled gang (f ∷ fs) [] = ⊥
 AreCompiled gang (f ∷ fs) (e ∷ es) = IsCompiled gang f e × AreCompiled gang fs es
 
--- the text is the source of a program, and these are its functions with their code
-pub record IsCompilation (gang : ℕ) (text : List ℕ) (es : List Entry) : Type 0 where
+-- the text is the source of a program all of which is compiled, and these are its functions with their code
+pub record IsCompilation (gang : Gang) (text : List ℕ) (es : List Entry) : Type 0 where
   pub functions : List Function
-  pub source : IsSource text (map plain functions)
-  pub code : AreCompiled gang functions es
+  pub source : IsCovered gang text (map plain functions)
+  pub code : AreCompiled (gang_width gang) functions es

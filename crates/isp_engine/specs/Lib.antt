@@ -7,6 +7,7 @@ pub mod Held
 pub mod Straight
 pub mod Lowering
 pub mod Front
+pub mod Covered
 pub mod Images
 pub mod Entries
 pub mod Reports

@@ -5,16 +5,16 @@ ghost use Rattle.isp_lex.specs.declared.fault.Fault.{Fault};
 ghost use Rattle.isp_thin.specs.Fine.{AreFineFunctions};
 ghost use Rattle.isp_thin.specs.Program.{Plain};
 ghost use Rattle.isp_thin.specs.Typed.{functions_of};
-ghost use Rattle.isp_engine.specs.Front.{IsSource, IsFaulty};
+ghost use Rattle.isp_engine.specs.Covered.{IsCovered, IsNotCompiled};
 ghost use Rattle.isp_engine.specs.Images.{entry_named, IsCompilation};
 ghost use Rattle.isp_engine.specs.Entries.{entry_of, AreLowered};
 
 use crate::lower::lower;
-use crate::source::front;
+use crate::source::{judge, read};
 use crate::straight::Code;
 use isp_base::{Gang, Name, Parameter, Signature};
 use isp_lex::SourceFault;
-use isp_thin::TypedFunction;
+use isp_thin::{TypedFunction, check_tree};
 use std::alloc::{AllocError, Global};
 use std::marker::Model;
 
@@ -110,15 +110,18 @@ fn lower_all(alloc: Global, functions: &[TypedFunction]) -> Result<Vec<Exported>
 /// Compiles a source text for a gang.
 ///
 /// Of each function of the program that the text is the image has the code, which does what the
-/// function means for all arguments of its signature. Refusals are those of `front`.
+/// function means for all arguments of its signature. Refusals are those of `front`; 90 NotYet of a program of which not
+/// all is compiled, at the first node in the text that is not.
 pub fn compile(alloc: Global, text: &str, gang: Gang) -> Result<Image, SourceFault>
-    ensures compiled { IfOk result (λ image. IsCompilation (gang_width gang) text.now image.functions) }
+    ensures compiled { IfOk result (λ image. IsCompilation gang text.now image.functions) }
     ensures gang { IfOk result (λ image. image.gang ≡ gang) }
-    // What has a program is not refused, but for memory.
-    ensures only { (program : List Plain) → IsSource text.now program → IfErr result (λ e. e ≡ SourceFault.Memory) }
-    ensures refused { IfErr result (λ e. (f : Fault) → e ≡ SourceFault.Refused f → IsFaulty text.now f) }
+    // What has a program all of which is compiled is not refused, but for memory.
+    ensures only { (functions : List Plain) → IsCovered gang text.now functions → IfErr result (λ e. e ≡ SourceFault.Memory) }
+    ensures refused { IfErr result (λ e. (f : Fault) → e ≡ SourceFault.Refused f → IsNotCompiled gang text.now f) }
 {
-    let checked = front(alloc, text, gang)?;
+    let tree = read(alloc, text)?;
+    judge(alloc, &tree, gang)?;
+    let checked = check_tree(alloc, tree, gang)?;
     let functions = lower_all(alloc, &checked.program().functions)?;
     Ok(Image { gang, functions })
 }

@@ -69,7 +69,7 @@ pub fn execute(
 ) -> Result<Report, RunFault>
     ensures machine { Executes (gang_width image.now.gang) (entry_named entry.now image.now.functions) json.now budget result }
     // For each text of which the image is a compilation, this is what the program of that text means.
-    ensures means { (text : List ℕ) (program : IsCompilation (gang_width image.now.gang) text image.now.functions)
+    ensures means { (text : List ℕ) (program : IsCompilation image.now.gang text image.now.functions)
         → Means (gang_width image.now.gang) (function_named entry.now program.functions) json.now budget result }
 {
     let Some(function) = image.function(entry) else {

@@ -347,13 +347,13 @@ fn result_of_each_type(rt: HostRuntime) -> Result<(), Fail> {
 #[test]
 fn refusals_of_a_source(rt: HostRuntime) -> Result<(), Fail> {
     let alloc = rt.alloc();
-    let checked = front(alloc, "export void f(uniform int x) { }", Gang::W4)?;
+    let checked = front(alloc, "export void f(uniform int8 x) { }", Gang::W4)?;
     let Some(signature) = checked.signature("f") else {
         return Err(Fail::from("no entry"));
     };
     for (text, wanted) in [
         ("{\"x\":-128}", "{\"arrays\":{},\"result\":-128}"),
-        ("{\"x\":2147483648}", "75 OutOfRange"),
+        ("{\"x\":128}", "75 OutOfRange"),
         ("{}", "72 Missing"),
         ("{\"x\":1.5}", "74 WrongKind"),
         ("{\"x\":1,\"y\":2}", "73 Extra"),

@@ -29,7 +29,8 @@ fn front_end(rt: HostRuntime) -> Result<(), Fail> {
 #[test]
 fn evaluator(rt: HostRuntime) -> Result<(), Fail> {
     let alloc = rt.alloc();
-    let checked = front(alloc, DOUBLE, Gang::W4)?;
+    let tokens = lex(alloc, DOUBLE)?;
+    let checked = check_tree(alloc, parse(alloc, &tokens)?, Gang::W4)?;
     let mut a = Array::empty(alloc, Elem::I32);
     a.push(5)?;
     a.push(6)?;

@@ -67,6 +67,21 @@ fn run(rt: &impl Abort, alloc: Global, case: &Case<'_>, room: usize) -> Result<(
     Ok(())
 }
 
+// Runs the program on a source that it refuses.
+fn refuse(rt: &impl Abort, alloc: Global, source: &str, line: &str) -> Result<(), Fail> {
+    let words = words(alloc, "isp run s.ispc f a.json")?;
+    let mut out = Count { bytes: 0 };
+    let mut err: Vec<u8> = Vec::new(alloc);
+    let files = Shelf {
+        files: &[("s.ispc", source), ("a.json", "{}")],
+    };
+    let status = command(alloc, words.as_slice(), &files, &mut out, &mut err);
+    assert_eq!(rt; status, 1, "{source}");
+    assert_eq!(rt; out.bytes, 0);
+    assert!(rt; err.as_slice() == line.as_bytes(), "{source}");
+    Ok(())
+}
+
 #[test]
 fn status_output_and_line(rt: HostRuntime) -> Result<(), Fail> {
     let alloc = rt.alloc();
@@ -153,6 +168,57 @@ fn status_output_and_line(rt: HostRuntime) -> Result<(), Fail> {
             err,
         };
         run(&rt, alloc, &case, 1000)?;
+    }
+    Ok(())
+}
+
+// What the program says of a source that is refused.
+#[test]
+fn refused_sources(rt: HostRuntime) -> Result<(), Fail> {
+    let alloc = rt.alloc();
+    for (source, line) in [
+        ("export void f() { @ }", "isp: 1 BadByte at 18..19\n"),
+        ("export void f() { 08 }", "isp: 2 BadNumber at 18..20\n"),
+        (
+            "export void f() { x = 1; }",
+            "isp: 20 UnknownName at 18..19\n",
+        ),
+        (
+            "export void f() { int x; int x; }",
+            "isp: 21 NameTwice at 29..30\n",
+        ),
+        (
+            "export void f() { uniform int u = f(); }",
+            "isp: 22 Mismatch at 34..37\n",
+        ),
+        ("export void f() { f(1); }", "isp: 23 Arguments at 18..22\n"),
+        (
+            "export void f() { const int c = 1; c = 2; }",
+            "isp: 24 ConstAssigned at 35..36\n",
+        ),
+        (
+            "export void f() { print(\"%\"); }",
+            "isp: 25 BadPrint at 24..27\n",
+        ),
+        (
+            "export void f() { uniform int u = programIndex; }",
+            "isp: 30 VaryingToUniform at 34..46\n",
+        ),
+        (
+            "export void f() { foreach (i = 0 ... 4) break; }",
+            "isp: 31 BadExit at 40..45\n",
+        ),
+        (
+            "export void f() { foreach (i = 0 ... 4) foreach (j = 0 ... 4) ; }",
+            "isp: 32 NestedForeach at 40..47\n",
+        ),
+        ("export int f() { }", "isp: 33 BadExport at 11..12\n"),
+        (
+            "export void f() { print(\"\"); }",
+            "isp: 90 NotYet at 18..28\n",
+        ),
+    ] {
+        refuse(&rt, alloc, source, line)?;
     }
     Ok(())
 }

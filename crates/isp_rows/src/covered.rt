@@ -1,6 +1,6 @@
 //! Programs of the whole language: what is compiled today, and where 90 stands for what is not.
 use isp_base::Gang;
-use isp_engine::front;
+use isp_engine::{compile, front};
 use std::test::Fail;
 
 // The refusal of each text: the first node that is not compiled yet, an outer node before its parts.
@@ -17,10 +17,13 @@ fn first_node_not_yet(rt: HostRuntime) -> Result<(), Fail> {
             "export void f() { const int x = 1; }",
             "90 NotYet at 18..27",
         ),
-        ("export void f(int x) { }", "90 NotYet at 14..17"),
+        (
+            "export void f(const uniform int x) { }",
+            "90 NotYet at 14..31",
+        ),
         ("export void f(uniform int8 a[]) { }", "90 NotYet at 14..26"),
-        ("export int f() { return 1; }", "90 NotYet at 7..10"),
-        ("void f() { x = 1 / 0; }", "90 NotYet at 0..23"),
+        ("export uniform int f() { return 1; }", "90 NotYet at 7..18"),
+        ("void f() { 1 / 0; }", "90 NotYet at 0..19"),
         ("static export void f() { }", "90 NotYet at 0..26"),
         (
             "export void f(uniform int a[]) { a[0] += a[1] / 2; }",
@@ -47,7 +50,7 @@ fn first_node_not_yet(rt: HostRuntime) -> Result<(), Fail> {
             "90 NotYet at 26..38",
         ),
     ] {
-        let Err(fault) = front(alloc, text, Gang::W4) else {
+        let Err(fault) = compile(alloc, text, Gang::W4) else {
             return Err(Fail::from("not refused"));
         };
         let found = format!(in alloc; "{fault}")?;
@@ -56,26 +59,30 @@ fn first_node_not_yet(rt: HostRuntime) -> Result<(), Fail> {
     Ok(())
 }
 
-// 90 comes before 20 to 30, wherever they stand; a target that is no place is 22 at once.
+// 90 comes after all other refusals, wherever they stand.
 #[test]
-fn before_names_and_types(rt: HostRuntime) -> Result<(), Fail> {
+fn after_all_other_refusals(rt: HostRuntime) -> Result<(), Fail> {
     let alloc = rt.alloc();
     for (text, line) in [
         (
             "export void f() { y = 1; if (true) ; }",
-            "90 NotYet at 25..36",
+            "20 UnknownName at 18..19",
         ),
         (
             "export void f() { x = 1; } export void g() { { } }",
-            "90 NotYet at 45..48",
+            "20 UnknownName at 18..19",
         ),
         (
             "export void f(uniform int x) { (x) = 1; }",
             "22 Mismatch at 31..34",
         ),
+        (
+            "export void f() { int x; } export void g() { break; }",
+            "31 BadExit at 45..50",
+        ),
         ("export void f() { 1 = 2; }", "22 Mismatch at 18..19"),
     ] {
-        let Err(fault) = front(alloc, text, Gang::W4) else {
+        let Err(fault) = compile(alloc, text, Gang::W4) else {
             return Err(Fail::from("not refused"));
         };
         let found = format!(in alloc; "{fault}")?;
