@@ -1,9 +1,9 @@
 -- Lists whose parts are judged one by one, gathered from the front.
-use Rattle.std.proofs.Common.{◌≡◌, ℕ, zero, suc, ◌+◌, ◌<◌, ◌≤◌, ◌++◌, refl, sym, ap, ◌∙◌, arith, drop, drop-cons, add-one, get_or, append_assoc}
+use Rattle.std.proofs.Common.{◌≡◌, ℕ, zero, suc, ◌+◌, ◌<◌, ◌++◌, refl, sym, ap, ◌∙◌, drop, drop-cons, add-one, get_or, append_assoc}
 use Rattle.std.proofs.lemmas.List.{append-nil}
 use Rattle.std.specs.Prelude.{List, [], ◌∷◌, length, map, Result, Ok, Err}
 use Rattle.isp_lex.specs.declared.fault.Fault.{Fault}
-use Rattle.isp_typed.specs.Verdicts.{both, made, earlier}
+use Rattle.isp_typed.specs.Verdicts.{both, made}
 use Rattle.isp_typed.proofs.Order.{earlier_assoc}
 use Rattle.isp_types.specs.Calls.{rest_of}
 use Rattle.isp_types.specs.Rules.{pair_then}

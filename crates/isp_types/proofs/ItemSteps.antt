@@ -1,6 +1,6 @@
 -- The judge at an item, and at one more item of a declaration.
 use Rattle.std.proofs.Common.{◌≡◌, ℕ, ◌+◌, ◌<◌, refl, sym, ap, ◌∙◌, drop, get_or}
-use Rattle.std.specs.Prelude.{List, [], ◌∷◌, length, map, Option, Result}
+use Rattle.std.specs.Prelude.{List, length, map, Option, Result}
 use Rattle.isp_base.specs.declared.types.Gang.{Gang}
 use Rattle.isp_lex.specs.declared.fault.Fault.{Fault}
 use Rattle.isp_tree.specs.declared.types.Word.{Word}

@@ -1,6 +1,6 @@
 -- The judge at an argument and at a call.
 use Rattle.std.proofs.Common.{◌≡◌, ℕ, suc, refl, sym, ap, ◌∙◌}
-use Rattle.std.specs.Prelude.{List, [], ◌∷◌, length, Result, Ok, Err}
+use Rattle.std.specs.Prelude.{List, [], ◌∷◌, length, Result}
 use Rattle.isp_base.specs.declared.types.Gang.{Gang}
 use Rattle.isp_base.specs.declared.types.Span.{Span}
 use Rattle.isp_lex.specs.declared.fault.Fault.{Fault}
