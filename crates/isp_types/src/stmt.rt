@@ -1,10 +1,10 @@
 //! Statements.
-ghost use Rattle.std.specs.Prelude.{◌≡◌, IfOk, IsTrue, length, take};
-ghost use Rattle.isp_tree.specs.Views.{block_of as read_block, stmt_of as read_stmt};
-ghost use Rattle.isp_typed.specs.Verdicts.{made};
-ghost use Rattle.isp_typed.specs.Views.{block_of, stmt_of};
+ghost use Rattle.std.specs.Prelude.{◌≡◌, IfOk, IsTrue, length, option_map, take};
+ghost use Rattle.isp_tree.specs.Views.{block_of as read_block, expr_of as read_expr, simple_of as read_simple, stmt_of as read_stmt};
+ghost use Rattle.isp_typed.specs.Verdicts.{both, made, perhaps};
+ghost use Rattle.isp_typed.specs.Views.{block_of, expr_of, simple_of, stmt_of};
 ghost use Rattle.isp_types.specs.Statements.{block_variables, names_after, variables_after};
-ghost use Rattle.isp_types.specs.reader.JudgeStmts.{judge_block, judge_stmt};
+ghost use Rattle.isp_types.specs.reader.JudgeStmts.{judge_block, judge_simple, judge_stmt, judge_test};
 ghost use Rattle.isp_types.specs.reader.Kinds.{is_active, is_branch, is_called, is_for, is_foreach, is_repeated};
 
 use crate::declaration::declaration;
@@ -18,8 +18,8 @@ use crate::parts::{active_index, first_if, printed, ranges, returned, simple_if,
 use crate::scope::{Known, Scope};
 use crate::simple::simple;
 use isp_base::Ty;
-use isp_tree::{Block, Stmt};
-use isp_typed::{TypedBlock, TypedStmt, Variable, Verdict, both};
+use isp_tree::{Block, Expr, Simple, Stmt};
+use isp_typed::{TypedBlock, TypedExpr, TypedSimple, TypedStmt, Variable, Verdict, both};
 use std::alloc::AllocError;
 
 /// A body, which is a scope of its own.
@@ -166,6 +166,45 @@ fn repeated(
     }
 }
 
+/// The step of a `for` and its body.
+#[cycle(stmt)]
+fn step_and_body(
+    setting: &Setting,
+    answer: Verdict<Option<Ty>>,
+    scope: &mut Scope,
+    variables: &mut Vec<Variable>,
+    step: &Option<Simple>,
+    inner: &Stmt,
+) -> Result<Verdict<(Option<TypedSimple>, Box<TypedStmt>)>, AllocError>
+    ensures value { IfOk result (λ v. made (λ p. (option_map simple_of p.0, stmt_of p.1.value)) v ≡ both (perhaps (judge_simple setting.now.gang setting.now.headers.now scope.old) (option_map read_simple step.now)) (judge_stmt setting.now.gang setting.now.headers.now answer scope.old (length scope.old) variables.old.items (read_stmt inner.now))) }
+    ensures names { IfOk result (λ v. scope.new ≡ scope.old) }
+    ensures variables { IfOk result (λ v. variables.new.items ≡ variables_after setting.now.gang variables.old.items (read_stmt inner.now)) }
+{
+    let done = body(setting, answer, scope, variables, inner)?;
+    let next = simple_if(setting, scope, step)?;
+    Ok(both(next, done))
+}
+
+/// The test of a `for`, its step and its body.
+#[cycle(stmt)]
+fn behind_first(
+    setting: &Setting,
+    answer: Verdict<Option<Ty>>,
+    scope: &mut Scope,
+    variables: &mut Vec<Variable>,
+    x: &Option<Expr>,
+    step: &Option<Simple>,
+    inner: &Stmt,
+) -> Result<Verdict<(Option<TypedExpr>, (Option<TypedSimple>, Box<TypedStmt>))>, AllocError>
+    ensures value { IfOk result (λ v. made (λ p. (option_map expr_of p.0, (option_map simple_of p.1.0, stmt_of p.1.1.value))) v ≡ both (perhaps (judge_test setting.now.gang setting.now.headers.now scope.old) (option_map read_expr x.now)) (both (perhaps (judge_simple setting.now.gang setting.now.headers.now scope.old) (option_map read_simple step.now)) (judge_stmt setting.now.gang setting.now.headers.now answer scope.old (length scope.old) variables.old.items (read_stmt inner.now)))) }
+    ensures names { IfOk result (λ v. scope.new ≡ scope.old) }
+    ensures variables { IfOk result (λ v. variables.new.items ≡ variables_after setting.now.gang variables.old.items (read_stmt inner.now)) }
+{
+    let rest = step_and_body(setting, answer, scope, variables, step, inner)?;
+    let found = test_if(setting, scope, x)?;
+    Ok(both(found, rest))
+}
+
 /// A `for`, which is a scope of its own.
 #[cycle(stmt)]
 fn for_loop(
@@ -196,18 +235,9 @@ fn for_loop(
     let outer = scope.len();
     let first = first_if(setting, scope, outer, variables, first)?;
     let inside = variables.len();
-    let found = test_if(setting, scope, x)?;
-    let step = simple_if(setting, scope, step)?;
-    let done = body(setting, answer, scope, variables, inner)?;
+    let rest = behind_first(setting, answer, scope, variables, x, step, inner)?;
     scope.leave(outer);
-    Ok(for_stmt(
-        *form,
-        before,
-        inside,
-        first,
-        both(found, both(step, done)),
-        *span,
-    ))
+    Ok(for_stmt(*form, before, inside, first, rest, *span))
 }
 
 /// A `foreach`, whose indices are a scope of their own.
