@@ -5,3 +5,4 @@ pub mod Bindings
 pub mod NamesKept
 pub mod StmtTrees
 pub mod StmtSteps
+pub mod StmtParts
