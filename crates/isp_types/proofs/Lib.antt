@@ -17,3 +17,4 @@ pub mod ItemSteps
 pub mod NamesKept
 pub mod StmtTrees
 pub mod StmtSteps
+pub mod StmtParts

@@ -6,3 +6,4 @@ pub mod Scopes
 pub mod Headings
 pub mod Parts
 pub mod Lists
+pub mod Kinds

@@ -51,287 +51,167 @@ pub fn empty_stmt(alloc: Global, span: Span) -> TypedStmt
     })
 }
 
-fn if_node(
+/// A body in a box.
+pub fn boxed(
     alloc: Global,
-    form: Form,
-    before: usize,
-    test: TypedExpr,
-    then: TypedStmt,
-    span: Span,
-) -> Result<TypedStmt, AllocError>
-    ensures { IfOk result (λ t. stmt_of t ≡ if_stmt form before span (expr_of test, stmt_of then)) }
+    inner: Verdict<TypedStmt>,
+) -> Result<Verdict<Box<TypedStmt>>, AllocError>
+    ensures { IfOk result (λ v. made (λ b. stmt_of b.value) v ≡ made stmt_of inner) }
 {
-    Ok(TypedStmt::If {
-        form,
-        before,
-        test,
-        then: Box::new(alloc, then)?,
-        span,
-    })
+    match inner {
+        Ok(inner) => Ok(Ok(Box::new(alloc, inner)?)),
+        Err(fault) => Ok(Err(fault)),
+    }
 }
 
 pub fn if_stmt(
-    alloc: Global,
     form: Form,
     before: usize,
     test: Verdict<TypedExpr>,
-    then: Verdict<TypedStmt>,
+    then: Verdict<Box<TypedStmt>>,
     span: Span,
-) -> Result<Verdict<TypedStmt>, AllocError>
-    ensures { IfOk result (λ v. made stmt_of v ≡ made (if_stmt form before span) (both (made expr_of test) (made stmt_of then))) }
+) -> Verdict<TypedStmt>
+    ensures { made stmt_of result ≡ made (if_stmt form before span) (both (made expr_of test) (made (λ b. stmt_of b.value) then)) }
 {
     match both(test, then) {
-        Ok((test, then)) => Ok(Ok(if_node(alloc, form, before, test, then, span)?)),
-        Err(fault) => Ok(Err(fault)),
+        Ok((test, then)) => Ok(TypedStmt::If {
+            form,
+            before,
+            test,
+            then,
+            span,
+        }),
+        Err(fault) => Err(fault),
     }
-}
-
-fn boxed(alloc: Global, inner: TypedStmt) -> Result<Box<TypedStmt>, AllocError>
-    ensures { IfOk result (λ b. b.value ≡ inner) }
-{
-    Ok(Box::new(alloc, inner)?)
-}
-
-fn both_boxed(
-    alloc: Global,
-    then: TypedStmt,
-    otherwise: TypedStmt,
-) -> Result<(Box<TypedStmt>, Box<TypedStmt>), AllocError>
-    ensures then { IfOk result (λ p. p.0.value ≡ then) }
-    ensures otherwise { IfOk result (λ p. p.1.value ≡ otherwise) }
-{
-    let then = boxed(alloc, then);
-    let otherwise = boxed(alloc, otherwise);
-    Ok((then?, otherwise?))
-}
-
-fn if_else_node(
-    alloc: Global,
-    form: Form,
-    before: usize,
-    test: TypedExpr,
-    then: TypedStmt,
-    otherwise: TypedStmt,
-    span: Span,
-) -> Result<TypedStmt, AllocError>
-    ensures { IfOk result (λ t. stmt_of t ≡ if_else_stmt form before span (expr_of test, (stmt_of then, stmt_of otherwise))) }
-{
-    let (then, otherwise) = both_boxed(alloc, then, otherwise)?;
-    Ok(TypedStmt::IfElse {
-        form,
-        before,
-        test,
-        then,
-        otherwise,
-        span,
-    })
 }
 
 pub fn if_else_stmt(
-    alloc: Global,
     form: Form,
     before: usize,
     test: Verdict<TypedExpr>,
-    branches: Verdict<(TypedStmt, TypedStmt)>,
+    branches: Verdict<(Box<TypedStmt>, Box<TypedStmt>)>,
     span: Span,
-) -> Result<Verdict<TypedStmt>, AllocError>
-    ensures { IfOk result (λ v. made stmt_of v ≡ made (if_else_stmt form before span) (both (made expr_of test) (made (λ p. (stmt_of p.0, stmt_of p.1)) branches))) }
+) -> Verdict<TypedStmt>
+    ensures { made stmt_of result ≡ made (if_else_stmt form before span) (both (made expr_of test) (made (λ p. (stmt_of p.0.value, stmt_of p.1.value)) branches)) }
 {
     match both(test, branches) {
-        Ok((test, (then, otherwise))) => Ok(Ok(if_else_node(
-            alloc, form, before, test, then, otherwise, span,
-        )?)),
-        Err(fault) => Ok(Err(fault)),
+        Ok((test, (then, otherwise))) => Ok(TypedStmt::IfElse {
+            form,
+            before,
+            test,
+            then,
+            otherwise,
+            span,
+        }),
+        Err(fault) => Err(fault),
     }
-}
-
-fn while_node(
-    alloc: Global,
-    form: Form,
-    before: usize,
-    test: TypedExpr,
-    body: TypedStmt,
-    span: Span,
-) -> Result<TypedStmt, AllocError>
-    ensures { IfOk result (λ t. stmt_of t ≡ while_stmt form before span (expr_of test, stmt_of body)) }
-{
-    Ok(TypedStmt::While {
-        form,
-        before,
-        test,
-        body: Box::new(alloc, body)?,
-        span,
-    })
 }
 
 pub fn while_stmt(
-    alloc: Global,
     form: Form,
     before: usize,
     test: Verdict<TypedExpr>,
-    body: Verdict<TypedStmt>,
+    body: Verdict<Box<TypedStmt>>,
     span: Span,
-) -> Result<Verdict<TypedStmt>, AllocError>
-    ensures { IfOk result (λ v. made stmt_of v ≡ made (while_stmt form before span) (both (made expr_of test) (made stmt_of body))) }
+) -> Verdict<TypedStmt>
+    ensures { made stmt_of result ≡ made (while_stmt form before span) (both (made expr_of test) (made (λ b. stmt_of b.value) body)) }
 {
     match both(test, body) {
-        Ok((test, body)) => Ok(Ok(while_node(alloc, form, before, test, body, span)?)),
-        Err(fault) => Ok(Err(fault)),
+        Ok((test, body)) => Ok(TypedStmt::While {
+            form,
+            before,
+            test,
+            body,
+            span,
+        }),
+        Err(fault) => Err(fault),
     }
-}
-
-fn do_node(
-    alloc: Global,
-    form: Form,
-    before: usize,
-    body: TypedStmt,
-    test: TypedExpr,
-    span: Span,
-) -> Result<TypedStmt, AllocError>
-    ensures { IfOk result (λ t. stmt_of t ≡ do_stmt form before span (stmt_of body, expr_of test)) }
-{
-    Ok(TypedStmt::Do {
-        form,
-        before,
-        body: Box::new(alloc, body)?,
-        test,
-        span,
-    })
 }
 
 pub fn do_stmt(
-    alloc: Global,
     form: Form,
     before: usize,
-    body: Verdict<TypedStmt>,
+    body: Verdict<Box<TypedStmt>>,
     test: Verdict<TypedExpr>,
     span: Span,
-) -> Result<Verdict<TypedStmt>, AllocError>
-    ensures { IfOk result (λ v. made stmt_of v ≡ made (do_stmt form before span) (both (made stmt_of body) (made expr_of test))) }
+) -> Verdict<TypedStmt>
+    ensures { made stmt_of result ≡ made (do_stmt form before span) (both (made (λ b. stmt_of b.value) body) (made expr_of test)) }
 {
     match both(body, test) {
-        Ok((body, test)) => Ok(Ok(do_node(alloc, form, before, body, test, span)?)),
-        Err(fault) => Ok(Err(fault)),
+        Ok((body, test)) => Ok(TypedStmt::Do {
+            form,
+            before,
+            body,
+            test,
+            span,
+        }),
+        Err(fault) => Err(fault),
     }
 }
 
-/// What stands between the brackets of a `for`.
-#[derive(Drop)]
-pub struct Head {
-    pub first: Option<TypedFirst>,
-    pub test: Option<TypedExpr>,
-    pub step: Option<TypedSimple>,
-}
-
-fn for_node(
-    alloc: Global,
-    form: Form,
-    before: usize,
-    inside: usize,
-    head: Head,
-    body: TypedStmt,
-    span: Span,
-) -> Result<TypedStmt, AllocError>
-    ensures { IfOk result (λ t. stmt_of t ≡ for_stmt form before inside span (option_map first_of head.first, (option_map expr_of head.test, (option_map simple_of head.step, stmt_of body)))) }
-{
-    let body = Box::new(alloc, body)?;
-    Ok(TypedStmt::For {
-        form,
-        before,
-        first: head.first,
-        test: head.test,
-        step: head.step,
-        inside,
-        body,
-        span,
-    })
-}
-
 pub fn for_stmt(
-    alloc: Global,
     form: Form,
     before: usize,
     inside: usize,
     first: Verdict<Option<TypedFirst>>,
-    rest: Verdict<(Option<TypedExpr>, (Option<TypedSimple>, TypedStmt))>,
+    rest: Verdict<(Option<TypedExpr>, (Option<TypedSimple>, Box<TypedStmt>))>,
     span: Span,
-) -> Result<Verdict<TypedStmt>, AllocError>
-    ensures { IfOk result (λ v. made stmt_of v ≡ made (for_stmt form before inside span) (both (made (option_map first_of) first) (made (λ p. (option_map expr_of p.0, (option_map simple_of p.1.0, stmt_of p.1.1))) rest))) }
+) -> Verdict<TypedStmt>
+    ensures { made stmt_of result ≡ made (for_stmt form before inside span) (both (made (option_map first_of) first) (made (λ p. (option_map expr_of p.0, (option_map simple_of p.1.0, stmt_of p.1.1.value))) rest)) }
 {
     match both(first, rest) {
-        Ok((first, (test, (step, body)))) => {
-            let head = Head { first, test, step };
-            Ok(Ok(for_node(alloc, form, before, inside, head, body, span)?))
-        }
-        Err(fault) => Ok(Err(fault)),
+        Ok((first, (test, (step, body)))) => Ok(TypedStmt::For {
+            form,
+            before,
+            first,
+            test,
+            step,
+            inside,
+            body,
+            span,
+        }),
+        Err(fault) => Err(fault),
     }
-}
-
-fn foreach_node(
-    alloc: Global,
-    keyword: Span,
-    before: usize,
-    ranges: Vec<TypedRange>,
-    body: TypedStmt,
-    span: Span,
-) -> Result<TypedStmt, AllocError>
-    ensures { IfOk result (λ t. stmt_of t ≡ foreach_stmt keyword before span (ranges_of ranges.items, stmt_of body)) }
-{
-    Ok(TypedStmt::Foreach {
-        keyword,
-        before,
-        ranges,
-        body: Box::new(alloc, body)?,
-        span,
-    })
 }
 
 pub fn foreach_stmt(
-    alloc: Global,
     keyword: Span,
     before: usize,
     ranges: Verdict<Vec<TypedRange>>,
-    body: Verdict<TypedStmt>,
+    body: Verdict<Box<TypedStmt>>,
     span: Span,
-) -> Result<Verdict<TypedStmt>, AllocError>
-    ensures { IfOk result (λ v. made stmt_of v ≡ made (foreach_stmt keyword before span) (both (made (λ l. ranges_of l.items) ranges) (made stmt_of body))) }
+) -> Verdict<TypedStmt>
+    ensures { made stmt_of result ≡ made (foreach_stmt keyword before span) (both (made (λ l. ranges_of l.items) ranges) (made (λ b. stmt_of b.value) body)) }
 {
     match both(ranges, body) {
-        Ok((ranges, body)) => Ok(Ok(foreach_node(alloc, keyword, before, ranges, body, span)?)),
-        Err(fault) => Ok(Err(fault)),
+        Ok((ranges, body)) => Ok(TypedStmt::Foreach {
+            keyword,
+            before,
+            ranges,
+            body,
+            span,
+        }),
+        Err(fault) => Err(fault),
     }
 }
 
-fn active_node(
-    alloc: Global,
-    keyword: Span,
-    before: usize,
-    body: TypedStmt,
-    span: Span,
-) -> Result<TypedStmt, AllocError>
-    ensures { IfOk result (λ t. stmt_of t ≡ active_stmt keyword before span (stmt_of body)) }
-{
-    Ok(TypedStmt::ForeachActive {
-        keyword,
-        before,
-        index: before,
-        body: Box::new(alloc, body)?,
-        span,
-    })
-}
-
 pub fn active_stmt(
-    alloc: Global,
     keyword: Span,
     before: usize,
-    body: Verdict<TypedStmt>,
+    body: Verdict<Box<TypedStmt>>,
     span: Span,
-) -> Result<Verdict<TypedStmt>, AllocError>
-    ensures { IfOk result (λ v. made stmt_of v ≡ made (active_stmt keyword before span) (made stmt_of body)) }
+) -> Verdict<TypedStmt>
+    ensures { made stmt_of result ≡ made (active_stmt keyword before span) (made (λ b. stmt_of b.value) body) }
 {
     match body {
-        Ok(body) => Ok(Ok(active_node(alloc, keyword, before, body, span)?)),
-        Err(fault) => Ok(Err(fault)),
+        Ok(body) => Ok(TypedStmt::ForeachActive {
+            keyword,
+            before,
+            index: before,
+            body,
+            span,
+        }),
+        Err(fault) => Err(fault),
     }
 }
 

@@ -1,25 +1,26 @@
 //! Statements.
-ghost use Rattle.std.specs.Prelude.{◌≡◌, IfOk, length, take};
-ghost use Rattle.isp_tree.specs.Views.{block_of as read_block, stmt_of as read_stmt};
-ghost use Rattle.isp_typed.specs.Verdicts.{made};
-ghost use Rattle.isp_typed.specs.Views.{block_of, stmt_of};
+ghost use Rattle.std.specs.Prelude.{◌≡◌, IfOk, IsTrue, length, option_map, take};
+ghost use Rattle.isp_tree.specs.Views.{block_of as read_block, expr_of as read_expr, simple_of as read_simple, stmt_of as read_stmt};
+ghost use Rattle.isp_typed.specs.Verdicts.{both, made, perhaps};
+ghost use Rattle.isp_typed.specs.Views.{block_of, expr_of, simple_of, stmt_of};
 ghost use Rattle.isp_types.specs.Statements.{block_variables, names_after, variables_after};
-ghost use Rattle.isp_types.specs.reader.JudgeStmts.{judge_block, judge_stmt};
+ghost use Rattle.isp_types.specs.reader.JudgeStmts.{judge_block, judge_simple, judge_stmt, judge_test};
+ghost use Rattle.isp_types.specs.reader.Kinds.{is_active, is_branch, is_called, is_for, is_foreach, is_repeated};
 
 use crate::declaration::declaration;
 use crate::expr::Setting;
 use crate::make::{
-    active_stmt, assert_stmt, block_stmt, braces, declared_stmt, do_stmt, empty_stmt, for_stmt,
-    foreach_stmt, if_else_stmt, if_stmt, print_stmt, push, return_stmt, simple_stmt, unmasked_stmt,
-    while_stmt,
+    active_stmt, assert_stmt, block_stmt, boxed, braces, declared_stmt, do_stmt, empty_stmt,
+    for_stmt, foreach_stmt, if_else_stmt, if_stmt, print_stmt, push, return_stmt, simple_stmt,
+    unmasked_stmt, while_stmt,
 };
 use crate::parts::{active_index, first_if, printed, ranges, returned, simple_if, test, test_if};
 use crate::scope::{Known, Scope};
 use crate::simple::simple;
-use isp_base::{Span, Ty};
-use isp_tree::{Block, Stmt};
-use isp_typed::{TypedBlock, TypedStmt, Variable, Verdict, both};
-use std::alloc::{AllocError, Global};
+use isp_base::Ty;
+use isp_tree::{Block, Expr, Simple, Stmt};
+use isp_typed::{TypedBlock, TypedExpr, TypedSimple, TypedStmt, Variable, Verdict, both};
+use std::alloc::AllocError;
 
 /// A body, which is a scope of its own.
 #[cycle(stmt)]
@@ -29,15 +30,15 @@ fn body(
     scope: &mut Scope,
     variables: &mut Vec<Variable>,
     s: &Stmt,
-) -> Result<Verdict<TypedStmt>, AllocError>
-    ensures value { IfOk result (λ v. made stmt_of v ≡ judge_stmt setting.now.gang setting.now.headers.now answer scope.old (length scope.old) variables.old.items (read_stmt s.now)) }
+) -> Result<Verdict<Box<TypedStmt>>, AllocError>
+    ensures value { IfOk result (λ v. made (λ b. stmt_of b.value) v ≡ judge_stmt setting.now.gang setting.now.headers.now answer scope.old (length scope.old) variables.old.items (read_stmt s.now)) }
     ensures names { IfOk result (λ v. scope.new ≡ scope.old) }
     ensures variables { IfOk result (λ v. variables.new.items ≡ variables_after setting.now.gang variables.old.items (read_stmt s.now)) }
 {
     let start = scope.len();
     let found = stmt(setting, answer, scope, start, variables, s)?;
     scope.leave(start);
-    Ok(found)
+    boxed(setting.alloc, found)
 }
 
 /// A block, whose names from `start` on are its scope's.
@@ -81,10 +82,9 @@ fn inner_block(
     Ok(found)
 }
 
-/// A statement. Of the names in scope, those from `start` on are the innermost scope's; `variables`
-/// are those of the function so far, and `answer` is what it gives back.
+/// A statement with a test and one body or two.
 #[cycle(stmt)]
-fn stmt(
+fn branch(
     setting: &Setting,
     answer: Verdict<Option<Ty>>,
     scope: &mut Scope,
@@ -92,38 +92,22 @@ fn stmt(
     variables: &mut Vec<Variable>,
     s: &Stmt,
 ) -> Result<Verdict<TypedStmt>, AllocError>
+    requires { IsTrue (is_branch (read_stmt s.now)) }
     ensures value { IfOk result (λ v. made stmt_of v ≡ judge_stmt setting.now.gang setting.now.headers.now answer scope.old start variables.old.items (read_stmt s.now)) }
     ensures names { IfOk result (λ v. scope.new ≡ names_after setting.now.gang scope.old variables.old.items (read_stmt s.now)) }
     ensures variables { IfOk result (λ v. variables.new.items ≡ variables_after setting.now.gang variables.old.items (read_stmt s.now)) }
 {
-    let alloc = setting.alloc;
     let before = variables.len();
     match s {
-        Stmt::Block(b) => {
-            let found = inner_block(setting, answer, scope, variables, b)?;
-            Ok(block_stmt(found))
-        }
-        Stmt::Empty { span } => Ok(Ok(empty_stmt(alloc, *span))),
-        Stmt::Declare {
-            declaration: d,
-            span,
-        } => {
-            let items = declaration(setting, scope, start, variables, d)?;
-            Ok(declared_stmt(items, *span))
-        }
-        Stmt::Simple { simple: x, span } => {
-            let found = simple(setting, scope, x)?;
-            Ok(simple_stmt(found, *span))
-        }
         Stmt::If {
             form,
             test: x,
             then,
             span,
         } => {
+            let done = body(setting, answer, scope, variables, then)?;
             let found = test(setting, scope, x)?;
-            let then = body(setting, answer, scope, variables, then)?;
-            if_stmt(alloc, *form, before, found, then, *span)
+            Ok(if_stmt(*form, before, found, done, *span))
         }
         Stmt::IfElse {
             form,
@@ -132,104 +116,212 @@ fn stmt(
             otherwise,
             span,
         } => {
+            let chosen = body(setting, answer, scope, variables, then)?;
+            let other = body(setting, answer, scope, variables, otherwise)?;
             let found = test(setting, scope, x)?;
-            let then = body(setting, answer, scope, variables, then)?;
-            let otherwise = body(setting, answer, scope, variables, otherwise)?;
-            if_else_stmt(alloc, *form, before, found, both(then, otherwise), *span)
+            Ok(if_else_stmt(*form, before, found, both(chosen, other), *span))
         }
+        _ => unreachable!(),
+    }
+}
+
+/// A `while` or a `do`.
+#[cycle(stmt)]
+fn repeated(
+    setting: &Setting,
+    answer: Verdict<Option<Ty>>,
+    scope: &mut Scope,
+    start: usize,
+    variables: &mut Vec<Variable>,
+    s: &Stmt,
+) -> Result<Verdict<TypedStmt>, AllocError>
+    requires { IsTrue (is_repeated (read_stmt s.now)) }
+    ensures value { IfOk result (λ v. made stmt_of v ≡ judge_stmt setting.now.gang setting.now.headers.now answer scope.old start variables.old.items (read_stmt s.now)) }
+    ensures names { IfOk result (λ v. scope.new ≡ names_after setting.now.gang scope.old variables.old.items (read_stmt s.now)) }
+    ensures variables { IfOk result (λ v. variables.new.items ≡ variables_after setting.now.gang variables.old.items (read_stmt s.now)) }
+{
+    let before = variables.len();
+    match s {
         Stmt::While {
             form,
             test: x,
-            body: s,
+            body: inner,
             span,
         } => {
+            let done = body(setting, answer, scope, variables, inner)?;
             let found = test(setting, scope, x)?;
-            let done = body(setting, answer, scope, variables, s)?;
-            while_stmt(alloc, *form, before, found, done, *span)
+            Ok(while_stmt(*form, before, found, done, *span))
         }
         Stmt::Do {
             form,
-            body: s,
+            body: inner,
             test: x,
             span,
         } => {
-            let done = body(setting, answer, scope, variables, s)?;
+            let done = body(setting, answer, scope, variables, inner)?;
             let found = test(setting, scope, x)?;
-            do_stmt(alloc, *form, before, done, found, *span)
+            Ok(do_stmt(*form, before, done, found, *span))
         }
-        Stmt::For {
-            form,
-            first,
-            test: x,
-            step,
-            body: s,
-            span,
-        } => {
-            let outer = scope.len();
-            let first = first_if(setting, scope, outer, variables, first)?;
-            let inside = variables.len();
-            let found = test_if(setting, scope, x)?;
-            let step = simple_if(setting, scope, step)?;
-            let done = body(setting, answer, scope, variables, s)?;
-            scope.leave(outer);
-            for_stmt(
-                alloc,
-                *form,
-                before,
-                inside,
-                first,
-                both(found, both(step, done)),
-                *span,
-            )
-        }
-        Stmt::Foreach {
-            keyword,
-            ranges: all,
-            body: s,
-            span,
-            ..
-        } => {
-            let outer = scope.len();
-            let found = ranges(setting, scope, variables, all)?;
-            let done = body(setting, answer, scope, variables, s)?;
-            scope.leave(outer);
-            foreach_stmt(alloc, *keyword, before, found, done, *span)
-        }
-        Stmt::ForeachActive {
-            keyword,
-            word,
-            body: s,
-            span,
-        } => {
-            let outer = scope.len();
-            let variable = active_index();
-            variables.push(variable)?;
-            let known = Known {
-                number: before,
-                variable,
-            };
-            scope.push(alloc, &word.name, Ok(known))?;
-            let done = body(setting, answer, scope, variables, s)?;
-            scope.leave(outer);
-            active_stmt(alloc, *keyword, before, done, *span)
-        }
-        Stmt::Unmasked {
-            keyword,
-            body: b,
-            span,
-        } => {
-            let found = inner_block(setting, answer, scope, variables, b)?;
-            Ok(unmasked_stmt(*keyword, found, *span))
-        }
-        Stmt::Jump {
-            jump,
-            keyword,
-            span,
-        } => Ok(Ok(TypedStmt::Jump {
-            jump: *jump,
-            keyword: *keyword,
-            span: *span,
-        })),
+        _ => unreachable!(),
+    }
+}
+
+/// The step of a `for` and its body.
+#[cycle(stmt)]
+fn step_and_body(
+    setting: &Setting,
+    answer: Verdict<Option<Ty>>,
+    scope: &mut Scope,
+    variables: &mut Vec<Variable>,
+    step: &Option<Simple>,
+    inner: &Stmt,
+) -> Result<Verdict<(Option<TypedSimple>, Box<TypedStmt>)>, AllocError>
+    ensures value { IfOk result (λ v. made (λ p. (option_map simple_of p.0, stmt_of p.1.value)) v ≡ both (perhaps (judge_simple setting.now.gang setting.now.headers.now scope.old) (option_map read_simple step.now)) (judge_stmt setting.now.gang setting.now.headers.now answer scope.old (length scope.old) variables.old.items (read_stmt inner.now))) }
+    ensures names { IfOk result (λ v. scope.new ≡ scope.old) }
+    ensures variables { IfOk result (λ v. variables.new.items ≡ variables_after setting.now.gang variables.old.items (read_stmt inner.now)) }
+{
+    let done = body(setting, answer, scope, variables, inner)?;
+    let next = simple_if(setting, scope, step)?;
+    Ok(both(next, done))
+}
+
+/// The test of a `for`, its step and its body.
+#[cycle(stmt)]
+fn behind_first(
+    setting: &Setting,
+    answer: Verdict<Option<Ty>>,
+    scope: &mut Scope,
+    variables: &mut Vec<Variable>,
+    x: &Option<Expr>,
+    step: &Option<Simple>,
+    inner: &Stmt,
+) -> Result<Verdict<(Option<TypedExpr>, (Option<TypedSimple>, Box<TypedStmt>))>, AllocError>
+    ensures value { IfOk result (λ v. made (λ p. (option_map expr_of p.0, (option_map simple_of p.1.0, stmt_of p.1.1.value))) v ≡ both (perhaps (judge_test setting.now.gang setting.now.headers.now scope.old) (option_map read_expr x.now)) (both (perhaps (judge_simple setting.now.gang setting.now.headers.now scope.old) (option_map read_simple step.now)) (judge_stmt setting.now.gang setting.now.headers.now answer scope.old (length scope.old) variables.old.items (read_stmt inner.now)))) }
+    ensures names { IfOk result (λ v. scope.new ≡ scope.old) }
+    ensures variables { IfOk result (λ v. variables.new.items ≡ variables_after setting.now.gang variables.old.items (read_stmt inner.now)) }
+{
+    let rest = step_and_body(setting, answer, scope, variables, step, inner)?;
+    let found = test_if(setting, scope, x)?;
+    Ok(both(found, rest))
+}
+
+/// A `for`, which is a scope of its own.
+#[cycle(stmt)]
+fn for_loop(
+    setting: &Setting,
+    answer: Verdict<Option<Ty>>,
+    scope: &mut Scope,
+    start: usize,
+    variables: &mut Vec<Variable>,
+    s: &Stmt,
+) -> Result<Verdict<TypedStmt>, AllocError>
+    requires { IsTrue (is_for (read_stmt s.now)) }
+    ensures value { IfOk result (λ v. made stmt_of v ≡ judge_stmt setting.now.gang setting.now.headers.now answer scope.old start variables.old.items (read_stmt s.now)) }
+    ensures names { IfOk result (λ v. scope.new ≡ names_after setting.now.gang scope.old variables.old.items (read_stmt s.now)) }
+    ensures variables { IfOk result (λ v. variables.new.items ≡ variables_after setting.now.gang variables.old.items (read_stmt s.now)) }
+{
+    let Stmt::For {
+        form,
+        first,
+        test: x,
+        step,
+        body: inner,
+        span,
+    } = s
+    else {
+        unreachable!()
+    };
+    let before = variables.len();
+    let outer = scope.len();
+    let first = first_if(setting, scope, outer, variables, first)?;
+    let inside = variables.len();
+    let rest = behind_first(setting, answer, scope, variables, x, step, inner)?;
+    scope.leave(outer);
+    Ok(for_stmt(*form, before, inside, first, rest, *span))
+}
+
+/// A `foreach`, whose indices are a scope of their own.
+#[cycle(stmt)]
+fn foreach(
+    setting: &Setting,
+    answer: Verdict<Option<Ty>>,
+    scope: &mut Scope,
+    start: usize,
+    variables: &mut Vec<Variable>,
+    s: &Stmt,
+) -> Result<Verdict<TypedStmt>, AllocError>
+    requires { IsTrue (is_foreach (read_stmt s.now)) }
+    ensures value { IfOk result (λ v. made stmt_of v ≡ judge_stmt setting.now.gang setting.now.headers.now answer scope.old start variables.old.items (read_stmt s.now)) }
+    ensures names { IfOk result (λ v. scope.new ≡ names_after setting.now.gang scope.old variables.old.items (read_stmt s.now)) }
+    ensures variables { IfOk result (λ v. variables.new.items ≡ variables_after setting.now.gang variables.old.items (read_stmt s.now)) }
+{
+    let Stmt::Foreach {
+        keyword,
+        ranges: all,
+        body: inner,
+        span,
+        ..
+    } = s
+    else {
+        unreachable!()
+    };
+    let before = variables.len();
+    let outer = scope.len();
+    let found = ranges(setting, scope, variables, all)?;
+    let done = body(setting, answer, scope, variables, inner)?;
+    scope.leave(outer);
+    Ok(foreach_stmt(*keyword, before, found, done, *span))
+}
+
+/// A `foreach_active`, whose index is a scope of its own.
+#[cycle(stmt)]
+fn foreach_active(
+    setting: &Setting,
+    answer: Verdict<Option<Ty>>,
+    scope: &mut Scope,
+    start: usize,
+    variables: &mut Vec<Variable>,
+    s: &Stmt,
+) -> Result<Verdict<TypedStmt>, AllocError>
+    requires { IsTrue (is_active (read_stmt s.now)) }
+    ensures value { IfOk result (λ v. made stmt_of v ≡ judge_stmt setting.now.gang setting.now.headers.now answer scope.old start variables.old.items (read_stmt s.now)) }
+    ensures names { IfOk result (λ v. scope.new ≡ names_after setting.now.gang scope.old variables.old.items (read_stmt s.now)) }
+    ensures variables { IfOk result (λ v. variables.new.items ≡ variables_after setting.now.gang variables.old.items (read_stmt s.now)) }
+{
+    let Stmt::ForeachActive {
+        keyword,
+        word,
+        body: inner,
+        span,
+    } = s
+    else {
+        unreachable!()
+    };
+    let number = variables.len();
+    let outer = scope.len();
+    let variable = active_index();
+    variables.push(variable)?;
+    scope.push(setting.alloc, &word.name, Ok(Known { number, variable }))?;
+    let done = body(setting, answer, scope, variables, inner)?;
+    scope.leave(outer);
+    Ok(active_stmt(*keyword, number, done, *span))
+}
+
+/// A `return`, a `print` or an `assert`.
+fn called(
+    setting: &Setting,
+    answer: Verdict<Option<Ty>>,
+    scope: &mut Scope,
+    start: usize,
+    variables: &mut Vec<Variable>,
+    s: &Stmt,
+) -> Result<Verdict<TypedStmt>, AllocError>
+    requires { IsTrue (is_called (read_stmt s.now)) }
+    ensures value { IfOk result (λ v. made stmt_of v ≡ judge_stmt setting.now.gang setting.now.headers.now answer scope.old start variables.old.items (read_stmt s.now)) }
+    ensures names { IfOk result (λ v. scope.new ≡ names_after setting.now.gang scope.old variables.old.items (read_stmt s.now)) }
+    ensures variables { IfOk result (λ v. variables.new.items ≡ variables_after setting.now.gang variables.old.items (read_stmt s.now)) }
+{
+    match s {
         Stmt::Return {
             keyword,
             value,
@@ -255,6 +347,71 @@ fn stmt(
         } => {
             let found = test(setting, scope, x)?;
             Ok(assert_stmt(found, *call_span, *span))
+        }
+        _ => unreachable!(),
+    }
+}
+
+/// A statement. Of the names in scope, those from `start` on are the innermost scope's; `variables`
+/// are those of the function so far, and `answer` is what it gives back.
+#[cycle(stmt)]
+fn stmt(
+    setting: &Setting,
+    answer: Verdict<Option<Ty>>,
+    scope: &mut Scope,
+    start: usize,
+    variables: &mut Vec<Variable>,
+    s: &Stmt,
+) -> Result<Verdict<TypedStmt>, AllocError>
+    ensures value { IfOk result (λ v. made stmt_of v ≡ judge_stmt setting.now.gang setting.now.headers.now answer scope.old start variables.old.items (read_stmt s.now)) }
+    ensures names { IfOk result (λ v. scope.new ≡ names_after setting.now.gang scope.old variables.old.items (read_stmt s.now)) }
+    ensures variables { IfOk result (λ v. variables.new.items ≡ variables_after setting.now.gang variables.old.items (read_stmt s.now)) }
+{
+    match s {
+        Stmt::Block(b) => {
+            let found = inner_block(setting, answer, scope, variables, b)?;
+            Ok(block_stmt(found))
+        }
+        Stmt::Empty { span } => Ok(Ok(empty_stmt(setting.alloc, *span))),
+        Stmt::Declare {
+            declaration: d,
+            span,
+        } => {
+            let items = declaration(setting, scope, start, variables, d)?;
+            Ok(declared_stmt(items, *span))
+        }
+        Stmt::Simple { simple: x, span } => {
+            let found = simple(setting, scope, x)?;
+            Ok(simple_stmt(found, *span))
+        }
+        Stmt::If { .. } | Stmt::IfElse { .. } => {
+            branch(setting, answer, scope, start, variables, s)
+        }
+        Stmt::While { .. } | Stmt::Do { .. } => {
+            repeated(setting, answer, scope, start, variables, s)
+        }
+        Stmt::For { .. } => for_loop(setting, answer, scope, start, variables, s),
+        Stmt::Foreach { .. } => foreach(setting, answer, scope, start, variables, s),
+        Stmt::ForeachActive { .. } => foreach_active(setting, answer, scope, start, variables, s),
+        Stmt::Unmasked {
+            keyword,
+            body: b,
+            span,
+        } => {
+            let found = inner_block(setting, answer, scope, variables, b)?;
+            Ok(unmasked_stmt(*keyword, found, *span))
+        }
+        Stmt::Jump {
+            jump,
+            keyword,
+            span,
+        } => Ok(Ok(TypedStmt::Jump {
+            jump: *jump,
+            keyword: *keyword,
+            span: *span,
+        })),
+        Stmt::Return { .. } | Stmt::Print { .. } | Stmt::Assert { .. } => {
+            called(setting, answer, scope, start, variables, s)
         }
     }
 }

@@ -1,0 +1,44 @@
+-- Statements of judged parts: what a part was judged to be where names and variables are known to be others.
+use Rattle.std.proofs.Common.{◌≡◌, ℕ}
+use Rattle.std.specs.Prelude.{Result, Ok, Err, Option, List, length, take}
+use Rattle.isp_base.specs.declared.types.Gang.{Gang}
+use Rattle.isp_base.specs.declared.types.Ty.{Ty}
+use Rattle.isp_lex.specs.declared.fault.Fault.{Fault}
+use Rattle.isp_tree.specs.Tree.{Expr, Simple, Stmt}
+use Rattle.isp_typed.specs.declared.variable.Variable.{Variable}
+use Rattle.isp_typed.specs.Typed.{TExpr, TSimple, TStmt}
+use Rattle.isp_typed.specs.Verdicts.{both, made, perhaps}
+use Rattle.isp_types.specs.declared.scope.Binding.{Binding}
+use Rattle.isp_types.specs.Calls.{Heading}
+use Rattle.isp_types.specs.reader.JudgeStmts.{judge_test, judge_simple, judge_stmt}
+
+-- what is made of two parts, behind so many variables
+pub joined_parts : {A B T : Type 0} (make : ℕ → A × B → T) (r : Result T Fault) (n k : ℕ) (f g : Result A Fault) (d e : Result B Fault)
+    → r ≡ made (make n) (both f d) → n ≡ k → f ≡ g → d ≡ e → r ≡ made (make k) (both g e)
+joined_parts make r n k f g d e a b c h = cc
+
+pub joined_for : {A B T : Type 0} (make : ℕ → ℕ → A × B → T) (r : Result T Fault) (n k m l : ℕ) (f g : Result A Fault) (d e : Result B Fault)
+    → r ≡ made (make n m) (both f d) → n ≡ k → m ≡ l → f ≡ g → d ≡ e → r ≡ made (make k l) (both g e)
+joined_for make r n k m l f g d e a b c h i = cc
+
+pub both_are : {A B : Type 0} (f g : Result A Fault) (d e : Result B Fault) → f ≡ g → d ≡ e → both f d ≡ both g e
+both_are f g d e a b = cc
+
+-- the names at a scope's end, left again
+pub left_again : (new : List Binding) (start : ℕ) (later ns all : List Binding) → new ≡ take start later → start ≡ length ns → later ≡ all → take (length ns) all ≡ ns → new ≡ ns
+left_again new start later ns all a b c d = cc
+
+module _ (gang : Gang) (hs : List Heading) where
+  pub test_judged : (f : Result TExpr Fault) (ns ms : List Binding) (x : Expr) → f ≡ judge_test gang hs ns x → ns ≡ ms → f ≡ judge_test gang hs ms x
+  test_judged f ns ms x a b = cc
+
+  module _ (answer : Result (Option Ty) Fault) where
+    pub body_judged : (d : Result TStmt Fault) (ns ms : List Binding) (vars more : List Variable) (a b : Stmt)
+        → d ≡ judge_stmt gang hs answer ns (length ns) vars a → ns ≡ ms → vars ≡ more → a ≡ b → d ≡ judge_stmt gang hs answer ms (length ms) more b
+    body_judged d ns ms vars more a b e f g h = cc
+
+    pub rest_judged : (d : Result (Option TExpr × (Option TSimple × TStmt)) Fault) (ns ms : List Binding) (vars more : List Variable) (x : Option Expr) (p : Option Simple) (a b : Stmt)
+        → d ≡ both (perhaps (judge_test gang hs ns) x) (both (perhaps (judge_simple gang hs ns) p) (judge_stmt gang hs answer ns (length ns) vars a))
+        → ns ≡ ms → vars ≡ more → a ≡ b
+        → d ≡ both (perhaps (judge_test gang hs ms) x) (both (perhaps (judge_simple gang hs ms) p) (judge_stmt gang hs answer ms (length ms) more b))
+    rest_judged d ns ms vars more x p a b e f g h = cc

@@ -1,6 +1,0 @@
-use Rattle.std.proofs.Common.{refl}
-use Rattle.isp_typed.proofs.StmtViews.{if_view}
-use Rattle.isp_types.proofs.make.if_node.Goals as goal
-
-pub returns : goal.returns
-returns c = rw (if_view c.args.form c.args.before c.args.test c.in_ok-new.field-0 c.args.span, c.in_ok-new.ensures.ok) refl
