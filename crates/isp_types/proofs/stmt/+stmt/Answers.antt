@@ -79,7 +79,7 @@ branch-returns-in_ok-found-in-If-clause-value t c =
     let done = c.in_ok-done-in-If.ensures in
     let x = read_expr c.in-If.x in
     joined_parts (λ n. if_stmt c.in-If.form n c.in-If.span) _ _ (length vars) _ (judge_test gang hs ns x) _ (judge_stmt gang hs answer ns (length ns) vars (read_stmt c.in-If.then.value))
-        c.if_stmt.ensures (c.len-before.ensures ∙ c.args.variables.now.ok.0) (test_judged gang hs _ _ ns x c.in_ok-found-in-If.ensures done.names) (done.value ∙ ap (λ z. judge_stmt gang hs answer ns (length ns) vars (read_stmt z)) c.deref.ensures)
+    c.if_stmt.ensures (c.len-before.ensures ∙ c.args.variables.now.ok.0) (test_judged gang hs _ _ ns x c.in_ok-found-in-If.ensures done.names) (done.value ∙ ap (λ z. judge_stmt gang hs answer ns (length ns) vars (read_stmt z)) c.deref.ensures)
     ∙ sym (ap (judge_stmt gang hs answer ns c.args.start vars) (ap read_stmt c.in-If.is ∙ if_view c.in-If.form c.in-If.x c.in-If.then c.in-If.span))
 
 pub branch-returns-in_ok-found-in-IfElse-clause-value : goal.branch-returns-in_ok-found-in-IfElse-clause-value
@@ -100,7 +100,7 @@ branch-returns-in_ok-found-in-IfElse-clause-value t c =
     let bodies = pair_seen (λ z. typed_stmt_of z.value) (λ z. typed_stmt_of z.value) c.in_ok-chosen-in-IfElse.chosen c.in_ok-other-in-IfElse.other c.both.result c.both.ensures in
     let judged = both_are _ (judge_stmt gang hs answer ns (length ns) vars a) _ (judge_stmt gang hs answer ns (length ns) (variables_after gang vars a) b) first otherwise in
     joined_parts (λ n. if_else_stmt c.in-IfElse.form n c.in-IfElse.span) _ _ (length vars) _ (judge_test gang hs ns x) _ _
-        c.if_else_stmt.ensures (c.len-before.ensures ∙ c.args.variables.now.ok.0) (test_judged gang hs _ _ ns x c.in_ok-found-in-IfElse.ensures (other.names ∙ chosen.names)) (bodies ∙ judged)
+    c.if_else_stmt.ensures (c.len-before.ensures ∙ c.args.variables.now.ok.0) (test_judged gang hs _ _ ns x c.in_ok-found-in-IfElse.ensures (other.names ∙ chosen.names)) (bodies ∙ judged)
     ∙ sym (ap (judge_stmt gang hs answer ns c.args.start vars) (ap read_stmt c.in-IfElse.is ∙ if_else_view c.in-IfElse.form c.in-IfElse.x c.in-IfElse.then c.in-IfElse.otherwise c.in-IfElse.span))
 
 pub for_loop-returns-clause-value : goal.for_loop-returns-clause-value
@@ -118,8 +118,8 @@ for_loop-returns-clause-value t c =
     let a = read_stmt c.in-For.inner.value in
     let judged : ℕ → Result (Option TFirst) Fault = λ n. perhaps (judge_first gang hs ns n vars) i in
     joined_for (λ n m. for_stmt c.in-For.form n m c.in-For.span) _ _ (length vars) _ (length (first_variables gang vars i)) _ (judged (length ns)) _ _
-        c.for_stmt.ensures (c.len-before.ensures ∙ c.args.variables.now.ok.0) (c.len-inside.ensures ∙ c.first_if.new.variables.ok.0 ∙ ap length first.variables) (first.value ∙ ap judged c.len-outer.ensures)
-        (rest_judged gang hs answer _ _ (first_names gang ns vars i) _ (first_variables gang vars i) x p _ a rest.value first.names first.variables (ap read_stmt c.deref.ensures))
+    c.for_stmt.ensures (c.len-before.ensures ∙ c.args.variables.now.ok.0) (c.len-inside.ensures ∙ c.first_if.new.variables.ok.0 ∙ ap length first.variables) (first.value ∙ ap judged c.len-outer.ensures)
+    (rest_judged gang hs answer _ _ (first_names gang ns vars i) _ (first_variables gang vars i) x p _ a rest.value first.names first.variables (ap read_stmt c.deref.ensures))
     ∙ sym (ap (judge_stmt gang hs answer ns c.args.start vars) (ap read_stmt c.in-For.is ∙ for_view c.in-For.form c.in-For.first c.in-For.x c.in-For.step c.in-For.inner c.in-For.span))
 
 pub for_loop-returns-clause-names : goal.for_loop-returns-clause-names
@@ -150,7 +150,7 @@ repeated-returns-in_ok-found-in-While-clause-value t c =
     let done = c.in_ok-done-in-While.ensures in
     let x = read_expr c.in-While.x in
     joined_parts (λ n. while_stmt c.in-While.form n c.in-While.span) _ _ (length vars) _ (judge_test gang hs ns x) _ (judge_stmt gang hs answer ns (length ns) vars (read_stmt c.in-While.inner.value))
-        c.while_stmt.ensures (c.len-before.ensures ∙ c.args.variables.now.ok.0) (test_judged gang hs _ _ ns x c.in_ok-found-in-While.ensures done.names) (done.value ∙ ap (λ z. judge_stmt gang hs answer ns (length ns) vars (read_stmt z)) c.deref.ensures)
+    c.while_stmt.ensures (c.len-before.ensures ∙ c.args.variables.now.ok.0) (test_judged gang hs _ _ ns x c.in_ok-found-in-While.ensures done.names) (done.value ∙ ap (λ z. judge_stmt gang hs answer ns (length ns) vars (read_stmt z)) c.deref.ensures)
     ∙ sym (ap (judge_stmt gang hs answer ns c.args.start vars) (ap read_stmt c.in-While.is ∙ while_view c.in-While.form c.in-While.x c.in-While.inner c.in-While.span))
 
 pub repeated-returns-in_ok-found-in-Do-clause-value : goal.repeated-returns-in_ok-found-in-Do-clause-value
@@ -163,5 +163,5 @@ repeated-returns-in_ok-found-in-Do-clause-value t c =
     let done = c.in_ok-done-in-Do.ensures in
     let x = read_expr c.in-Do.x in
     joined_parts (λ n. do_stmt c.in-Do.form n c.in-Do.span) _ _ (length vars) _ (judge_stmt gang hs answer ns (length ns) vars (read_stmt c.in-Do.inner.value)) _ (judge_test gang hs ns x)
-        c.do_stmt.ensures (c.len-before.ensures ∙ c.args.variables.now.ok.0) (done.value ∙ ap (λ z. judge_stmt gang hs answer ns (length ns) vars (read_stmt z)) c.deref-in-Do.ensures) (test_judged gang hs _ _ ns x c.in_ok-found-in-Do.ensures done.names)
+    c.do_stmt.ensures (c.len-before.ensures ∙ c.args.variables.now.ok.0) (done.value ∙ ap (λ z. judge_stmt gang hs answer ns (length ns) vars (read_stmt z)) c.deref-in-Do.ensures) (test_judged gang hs _ _ ns x c.in_ok-found-in-Do.ensures done.names)
     ∙ sym (ap (judge_stmt gang hs answer ns c.args.start vars) (ap read_stmt c.in-Do.is ∙ do_view c.in-Do.form c.in-Do.inner c.in-Do.x c.in-Do.span))
