@@ -4,10 +4,9 @@ use Rattle.std.specs.Prelude.{Option, Some, None, List, [], ◌∷◌, length, f
 use Rattle.std.specs.List.{list_any}
 use Rattle.std.proofs.lemmas.List.{reverse-append}
 use Rattle.std.proofs.lemmas.Bool.Decides.{nat_tests}
-use Rattle.isp_types.specs.declared.scope.Known.{Known}
 use Rattle.isp_types.specs.declared.scope.Binding.{Binding}
 use Rattle.isp_types.specs.Scopes.{Meaning, visible, is_new}
-use Rattle.isp_types.specs.reader.Scopes.{one_later, last_place, hidden_behind, hidden_places}
+use Rattle.isp_types.specs.reader.Scopes.{one_later, last_place}
 
 -- a name that comes last
 pub last_more : (w : List ℕ) (ns : List Binding) (b : Binding) → last_place w (ns ++ b ∷ []) ≡ cond (bytes_eq b.name w) (Some (length ns)) (last_place w ns)

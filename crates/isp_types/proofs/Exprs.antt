@@ -1,5 +1,5 @@
 -- The judge is right on expressions.
-use Rattle.std.specs.Prelude.{List, [], ◌∷◌, Result}
+use Rattle.std.specs.Prelude.{List, [], Result}
 use Rattle.isp_base.specs.declared.types.Gang.{Gang}
 use Rattle.isp_base.specs.declared.types.Span.{Span}
 use Rattle.isp_lex.specs.declared.fault.Fault.{Fault}
@@ -14,7 +14,7 @@ use Rattle.isp_types.specs.Words.{value_said}
 use Rattle.isp_types.specs.Scopes.{named}
 use Rattle.isp_types.specs.Values.{truth_value, count_value, in_brackets, cast_to, with_sign, joined, choice}
 use Rattle.isp_types.specs.Places.{variable_at, element_at}
-use Rattle.isp_types.specs.Calls.{Heading, h_value, Passed, Called, unless_unknown, suits, first_want, rest_of, call_of, value_called, handed_call, handed_name}
+use Rattle.isp_types.specs.Calls.{Heading, h_value, Passed, unless_unknown, suits, first_want, rest_of, call_of, value_called, handed_call, handed_name}
 use Rattle.isp_types.specs.Rules.{callee_at, handed_reference, handed_element, pair_then, IsCall, CallBreach, IsExpr, ExprBreach, IsPlace, PlaceBreach, IsArgument, ArgumentBreach, AreArguments, ArgumentsBreach}
 use Rattle.isp_types.specs.reader.Judge.{judge_call, judge, judge_place, judge_argument, judge_arguments}
 

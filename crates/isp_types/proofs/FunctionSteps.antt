@@ -1,5 +1,5 @@
 -- Functions: steps of their loops, and what is made of their parts.
-use Rattle.std.proofs.Common.{◌≡◌, ℕ, ◌+◌, refl, sym, ap, subst, ◌∙◌, ◌++◌, map}
+use Rattle.std.proofs.Common.{◌≡◌, ℕ, refl, sym, ap, subst, ◌∙◌, ◌++◌, map}
 use Rattle.std.specs.Prelude.{Result, Ok, Err, Option, List, [], ◌∷◌, Bool, true, false, cond, bytes_eq, ◌||◌}
 use Rattle.std.specs.List.{list_any}
 use Rattle.std.proofs.lemmas.List.Folds.{list_any-append}

@@ -1,5 +1,5 @@
 -- The judge is right on functions and programs.
-use Rattle.std.specs.Prelude.{ℕ, List, [], ◌∷◌, ◌++◌, map, Option, Result, Ok, Err}
+use Rattle.std.specs.Prelude.{ℕ, List, [], ◌∷◌, ◌++◌, map, Option, Result}
 use Rattle.isp_base.specs.declared.types.Gang.{Gang}
 use Rattle.isp_base.specs.declared.types.Ty.{Ty}
 use Rattle.isp_lex.specs.declared.fault.Fault.{Fault}
@@ -9,7 +9,6 @@ use Rattle.isp_tree.specs.Tree.{Param, Block, Function}
 use Rattle.isp_typed.specs.declared.variable.Variable.{Variable}
 use Rattle.isp_typed.specs.Promise.{Right}
 use Rattle.isp_typed.proofs.Right.{just_right, given_right, made_right, both_right, beside_right}
-use Rattle.isp_typed.specs.Typed.{TBlock, TFunction, Program}
 use Rattle.isp_types.specs.declared.scope.Binding.{Binding}
 use Rattle.isp_types.specs.Words.{value_said, answer_said}
 use Rattle.isp_types.specs.Scopes.{is_new, with_name}

@@ -12,7 +12,7 @@ use Rattle.isp_typed.specs.Verdicts.{both, found}
 use Rattle.isp_types.specs.declared.scope.Binding.{Binding}
 use Rattle.isp_types.specs.declared.callee.Callee.{Callee}
 use Rattle.isp_types.specs.declared.callee.Want.{Want}
-use Rattle.isp_types.specs.Calls.{Heading, Handed, Passed, Called, callee, unless_unknown, call_of, suits}
+use Rattle.isp_types.specs.Calls.{Heading, Handed, Passed, callee, unless_unknown, call_of, suits}
 use Rattle.isp_types.specs.Rules.{count}
 use Rattle.isp_types.specs.reader.Judge.{judge_arguments}
 use Rattle.isp_types.specs.reader.Lists.{judged_call}

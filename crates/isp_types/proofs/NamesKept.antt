@@ -10,8 +10,7 @@ use Rattle.isp_typed.specs.declared.variable.Variable.{Variable}
 use Rattle.isp_types.specs.declared.scope.Binding.{Binding}
 use Rattle.isp_types.specs.declared.words.ValueWords.{ValueWords}
 use Rattle.isp_types.specs.Words.{value_said}
-use Rattle.isp_types.specs.Scopes.{next_known}
-use Rattle.isp_types.specs.Statements.{or_nothing, declared, item_word, item_variable, item_names, item_variables, items_names, first_names, index, range_names, names_after}
+use Rattle.isp_types.specs.Statements.{item_names, item_variables, items_names, first_names, range_names, names_after}
 
 -- one list is another with more behind it
 pub record Grown {A : Type 0} (before after : List A) : Type 0 where

@@ -1,6 +1,6 @@
 -- Statements of judged parts: what a part was judged to be where names and variables are known to be others.
 use Rattle.std.proofs.Common.{◌≡◌, ℕ}
-use Rattle.std.specs.Prelude.{Result, Ok, Err, Option, List, length, take}
+use Rattle.std.specs.Prelude.{Result, Option, List, length, take}
 use Rattle.isp_base.specs.declared.types.Gang.{Gang}
 use Rattle.isp_base.specs.declared.types.Ty.{Ty}
 use Rattle.isp_lex.specs.declared.fault.Fault.{Fault}

@@ -2,10 +2,8 @@
 use Rattle.std.proofs.Common.{◌≡◌, sym, ap, ◌∙◌, Vec, Global, Box, Option}
 use Rattle.std.specs.Prelude.{map, option_map}
 use Rattle.isp_base.specs.declared.types.Span.{Span}
-use Rattle.isp_lex.specs.declared.text.Text.{Text}
 use Rattle.isp_tree.specs.declared.types.Word.{Word}
 use Rattle.isp_tree.specs.declared.expr.Expr as rust_expr
-use Rattle.isp_tree.specs.declared.stmt.Declaration as rust_declaration
 use Rattle.isp_tree.specs.declared.stmt.First as rust_first
 use Rattle.isp_tree.specs.declared.stmt.Form.{Form}
 use Rattle.isp_tree.specs.declared.stmt.Range as rust_range
@@ -15,13 +13,13 @@ use Rattle.isp_tree.specs.declared.stmt.Stmt as rust
 use Rattle.isp_tree.specs.declared.stmt.Stmt.TheVariants as variant
 use Rattle.isp_tree.specs.declared.stmt.Stmt.TheFolds.{fold-roll-Stmt, fold_out-Block}
 use Rattle.isp_tree.specs.declared.stmt.Block as rust_block
-use Rattle.isp_tree.specs.Tree.{Stmt, block, empty, declare, simple, if_then, if_else, loop_while, loop_do, loop_for, foreach, foreach_active, unmasked, returning, print, assert, Block, braces, all}
+use Rattle.isp_tree.specs.Tree.{Stmt, block, if_then, if_else, loop_while, loop_do, loop_for, foreach, foreach_active, unmasked, Block, braces, all}
 use Rattle.isp_typed.specs.declared.stmt.TypedBlock as typed_block
 use Rattle.isp_typed.specs.declared.stmt.TypedStmt.TheVariants as typed
 use Rattle.isp_typed.specs.declared.stmt.TypedStmt.TheFolds.{fold-roll-TypedStmt, fold_out-TypedBlock}
 use Rattle.isp_typed.specs.Typed.{TStmt, TBlock, t_block, t_braces, t_stmts}
 use Rattle.isp_typed.specs.Views.{stmt_step as typed_stmt_step, block_step as typed_block_step, stmt_of as typed_stmt_of, block_of as typed_block_of, stmts_of as typed_stmts_of}
-use Rattle.isp_tree.specs.Views.{expr_of, exprs_of, declaration_of, simple_of, first_of, range_of, stmt_step, block_step, stmt_of, block_of, stmts_of}
+use Rattle.isp_tree.specs.Views.{expr_of, simple_of, first_of, range_of, stmt_step, block_step, stmt_of, block_of, stmts_of}
 
 pub block_view : (b : rust_block.Block) → block_of b ≡ braces (all (stmts_of b.statements.items)) b.span
 block_view b = fold_out-Block Stmt Block stmt_step block_step b

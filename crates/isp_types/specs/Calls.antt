@@ -1,6 +1,6 @@
 -- Calls: what a name calls, what it asks of each argument, and what a call is.
 --     hs   the functions of the program in the order of the text, as callers see them
-use Rattle.std.specs.Prelude.{◌≡◌, ℕ, suc, List, [], ◌∷◌, length, map, find, codes, bytes_eq, Bool, true, false, cond, if◌then◌else◌, ◌==◌, ◌&&◌, ◌||◌, not, Option, Some, None, option_map, Result, Ok, Err}
+use Rattle.std.specs.Prelude.{ℕ, suc, List, [], ◌∷◌, length, map, find, codes, bytes_eq, Bool, true, false, if◌then◌else◌, ◌==◌, ◌&&◌, ◌||◌, not, Option, Some, None, option_map, Result, Ok, Err}
 use Rattle.isp_base.specs.declared.types.Elem.{Elem}
 use Rattle.isp_base.specs.declared.types.Elem.TheVariants.{Bool as Truth, I32, U32}
 use Rattle.isp_base.specs.declared.types.Rate.{Rate}
@@ -9,19 +9,17 @@ use Rattle.isp_base.specs.declared.types.Span.{Span}
 use Rattle.isp_base.specs.declared.types.Ty.{Ty}
 use Rattle.isp_base.specs.Ranks.{same_elem, operand, common}
 use Rattle.isp_lex.specs.declared.fault.Fault.{Fault}
-use Rattle.isp_lex.specs.declared.fault.Rule.TheVariants.{UnknownName, Mismatch, Arguments, ConstAssigned}
+use Rattle.isp_lex.specs.declared.fault.Rule.TheVariants.{UnknownName, Arguments, ConstAssigned}
 use Rattle.isp_lex.specs.Faults.{fault}
 use Rattle.isp_tree.specs.declared.types.Word.{Word}
 use Rattle.isp_typed.specs.declared.library.Library.{Library}
 use Rattle.isp_typed.specs.declared.library.Library.TheVariants as the
 use Rattle.isp_typed.specs.declared.library.Part.{Part}
-use Rattle.isp_typed.specs.declared.library.Part.TheVariants.{Own}
 use Rattle.isp_typed.specs.declared.variable.ArrayVariable.{ArrayVariable}
 use Rattle.isp_typed.specs.declared.variable.Holds.{Holds}
 use Rattle.isp_typed.specs.declared.variable.Holds.TheVariants as holds
-use Rattle.isp_typed.specs.declared.variable.Variable.{Variable}
 use Rattle.isp_typed.specs.Library.{parts, part_elem, library_type}
-use Rattle.isp_typed.specs.Typed.{TExpr, t_place, t_variable, t_call, t_library, t_packed_store, t_packed_load, TExprs, t_no_exprs, t_expr_then, TBase, t_whole, t_from, base_array, TArgument, t_by_value, t_by_name, TArguments, t_no_arguments, t_argument_then, TCall, t_called, ty_of, type_of}
+use Rattle.isp_typed.specs.Typed.{TExpr, t_place, t_variable, t_call, t_library, t_packed_store, t_packed_load, TExprs, t_no_exprs, t_expr_then, TBase, t_whole, t_from, base_array, t_by_value, t_by_name, TArguments, t_no_arguments, t_argument_then, TCall, t_called, ty_of}
 use Rattle.isp_types.specs.declared.scope.Known.{Known}
 use Rattle.isp_types.specs.declared.callee.Callee.{Callee}
 use Rattle.isp_types.specs.declared.callee.Callee.TheVariants.{Unknown, Miscounted, Function, Library as OfLibrary, PackedStore, PackedLoad}

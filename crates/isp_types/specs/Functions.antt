@@ -1,5 +1,5 @@
 -- Functions and programs: which typed tree each is, and its breaches.
-use Rattle.std.specs.Prelude.{◌≡◌, ◌⊎◌, ℕ, List, [], ◌∷◌, ◌++◌, length, map, bytes_eq, Bool, true, false, not, ◌||◌, ◌&&◌, Option, Some, None, option_map, is_some, Result, Ok, Err}
+use Rattle.std.specs.Prelude.{ℕ, List, [], ◌∷◌, ◌++◌, map, bytes_eq, Bool, true, false, not, ◌||◌, Option, option_map, is_some, Result, Ok, Err}
 use Rattle.std.specs.List.{list_any}
 use Rattle.isp_base.specs.declared.types.Gang.{Gang}
 use Rattle.isp_base.specs.declared.types.Rate.{Rate}
@@ -21,7 +21,7 @@ use Rattle.isp_types.specs.declared.callee.Want.{Want}
 use Rattle.isp_types.specs.declared.callee.Want.TheVariants.{ValueOf, ArrayOf, Anything}
 use Rattle.isp_types.specs.declared.scope.Binding.{Binding}
 use Rattle.isp_types.specs.declared.words.ValueWords.{ValueWords}
-use Rattle.isp_types.specs.Words.{value_said, answer_said, rate_or_varying, type_declared}
+use Rattle.isp_types.specs.Words.{value_said, answer_said, rate_or_varying}
 use Rattle.isp_types.specs.Scopes.{is_new, with_name}
 use Rattle.isp_types.specs.Calls.{Heading, library_named}
 use Rattle.isp_types.specs.Rules.{second, pair_then}

@@ -1,6 +1,5 @@
 -- What a name is where it stands: a value, an array, a place that is stored to.
-use Rattle.std.specs.Prelude.{ℕ, Bool, true, false, cond, Option, Some, None, Result, Ok, Err}
-use Rattle.isp_base.specs.declared.types.Elem.{Elem}
+use Rattle.std.specs.Prelude.{Bool, true, false, Option, Some, None, Result, Ok, Err}
 use Rattle.isp_base.specs.declared.types.Rate.TheVariants.{Uniform}
 use Rattle.isp_base.specs.declared.types.Span.{Span}
 use Rattle.isp_base.specs.declared.types.Ty.{Ty}

@@ -1,11 +1,11 @@
 -- Expressions: which typed tree each is, and its breaches.
 --     gang   the gang's size       hs   the functions of the program, as callers see them       ns   the names in scope
-use Rattle.std.specs.Prelude.{◌≡◌, ℕ, suc, List, [], ◌∷◌}
+use Rattle.std.specs.Prelude.{ℕ, suc, List, [], ◌∷◌}
 use Rattle.isp_base.specs.declared.types.Gang.{Gang}
 use Rattle.isp_base.specs.declared.types.Span.{Span}
 use Rattle.isp_lex.specs.declared.fault.Fault.{Fault}
 use Rattle.isp_tree.specs.declared.types.Word.{Word}
-use Rattle.isp_tree.specs.Tree.{TypeTree, Expr, number, truth, program_index, program_count, place, call, brackets, cast, prefix, binary, choose, Place, variable, element, Argument, by_value, by_reference, Arguments, no_arguments, argument_then, span_of, span_of_argument}
+use Rattle.isp_tree.specs.Tree.{Expr, number, truth, program_index, program_count, place, call, brackets, cast, prefix, binary, choose, Place, variable, element, Argument, by_value, by_reference, Arguments, no_arguments, argument_then, span_of_argument}
 use Rattle.isp_typed.specs.Forms.{Both, Either, No_breach, Just, Made, Found, Wrong, Given, Refused}
 use Rattle.isp_typed.specs.Typed.{TExpr, t_constant, t_program_index, t_place, TPlace}
 use Rattle.isp_types.specs.declared.scope.Known.{Known}

@@ -1,7 +1,7 @@
 -- The names in scope, the oldest first, and the variables of a function in the order of the text.
 --     ns     the names in scope; those from `start` on are the innermost scope's
 --     vars   the variables that were declared so far
-use Rattle.std.specs.Prelude.{◌≡◌, ◌⊎◌, ℕ, List, [], ◌∷◌, ◌++◌, length, drop, find, reverse, bytes_eq, Bool, not, Option, Some, None, option_map, Result, Ok, Err}
+use Rattle.std.specs.Prelude.{ℕ, List, [], ◌∷◌, ◌++◌, length, drop, find, reverse, bytes_eq, Bool, not, Option, Some, None, option_map, Result, Ok, Err}
 use Rattle.std.specs.List.{list_any}
 use Rattle.isp_lex.specs.declared.fault.Fault.{Fault}
 use Rattle.isp_lex.specs.declared.fault.Rule.TheVariants.{UnknownName}

@@ -1,14 +1,12 @@
 -- Statements: which typed tree each is, and its breaches.
 --     answer   what the function gives back       start   names from here on are the innermost scope's
 --     vars     the variables that were declared so far
-use Rattle.std.specs.Prelude.{◌≡◌, ◌⊎◌, ℕ, List, [], ◌∷◌, ◌++◌, length, map, count_by, Bool, true, false, not, ◌==◌, ◌&&◌, nat_lt, if◌then◌else◌, Option, Some, None, Result, Ok, Err}
-use Rattle.isp_base.specs.declared.types.Elem.{Elem}
+use Rattle.std.specs.Prelude.{ℕ, List, [], ◌∷◌, ◌++◌, length, count_by, Bool, true, false, ◌==◌, ◌&&◌, nat_lt, if◌then◌else◌, Option, Some, None, Result, Ok, Err}
 use Rattle.isp_base.specs.declared.types.Elem.TheVariants.{Bool as Truth, I32, I64}
 use Rattle.isp_base.specs.declared.types.Gang.{Gang}
 use Rattle.isp_base.specs.declared.types.Rate.TheVariants.{Uniform, Varying}
 use Rattle.isp_base.specs.declared.types.Span.{Span}
 use Rattle.isp_base.specs.declared.types.Ty.{Ty}
-use Rattle.isp_base.specs.declared.types.Value.{Value}
 use Rattle.isp_base.specs.Types.{gang_width}
 use Rattle.isp_base.specs.Ranks.{common}
 use Rattle.isp_base.specs.declared.operators.BinOp.{BinOp}
@@ -24,16 +22,14 @@ use Rattle.isp_tree.specs.declared.stmt.Assignment.{Assignment}
 use Rattle.isp_tree.specs.declared.stmt.Assignment.TheVariants as with
 use Rattle.isp_tree.specs.declared.stmt.Change.{Change}
 use Rattle.isp_tree.specs.declared.stmt.Change.TheVariants.{Increment, Decrement}
-use Rattle.isp_tree.specs.Tree.{Expr, number, truth, program_index, program_count, place, call, brackets, cast, prefix, binary, choose, Place, variable, element, Item, plain, with_value, with_size, Declaration, Simple, value, assign, change, First, first_declare, first_simple, Range, span_of, span_of_size}
+use Rattle.isp_tree.specs.Tree.{Expr, place, call, variable, element, Item, plain, with_value, with_size, Declaration, Simple, value, assign, change, First, first_declare, first_simple, Range, span_of, span_of_size}
 use Rattle.isp_tree.specs.Tree.{Stmt, block, empty, declare, simple, if_then, if_else, loop_while, loop_do, loop_for, foreach, foreach_active, unmasked, jump, returning, print, assert, Block, braces, Stmts, no_stmts, stmt_then}
 use Rattle.isp_typed.specs.declared.variable.ArrayVariable.{ArrayVariable}
-use Rattle.isp_typed.specs.declared.variable.Holds.{Holds}
 use Rattle.isp_typed.specs.declared.variable.Holds.TheVariants as holds
 use Rattle.isp_typed.specs.declared.variable.Variable.{Variable}
 use Rattle.isp_typed.specs.Forms.{Both, Either, No_breach, Just, Made, Found, Wrong, Given, Refused, Provided, Unless, Perhaps, OfPerhaps}
-use Rattle.isp_typed.specs.Typed.{TExpr, TPlace, place_type, TCall, ty_of, TItem, t_plain, t_with_value, t_with_size, TSimple, t_value, t_run, t_assign, t_update, t_step, TFirst, t_first_declare, t_first_simple, TRange}
+use Rattle.isp_typed.specs.Typed.{TExpr, TPlace, place_type, ty_of, TItem, t_plain, t_with_value, t_with_size, TSimple, t_value, t_run, t_assign, t_update, t_step, TFirst, t_first_declare, t_first_simple, TRange}
 use Rattle.isp_typed.specs.Typed.{TStmt, t_block, t_declare, t_simple, t_if, t_if_else, t_while, t_do, t_for, t_foreach, t_foreach_active, t_unmasked, t_jump, t_return, t_print, t_assert, TBlock, t_braces, TStmts, t_no_stmts, t_stmt_then}
-use Rattle.isp_types.specs.declared.scope.Known.{Known}
 use Rattle.isp_types.specs.declared.scope.Binding.{Binding}
 use Rattle.isp_types.specs.declared.words.ValueWords.{ValueWords}
 use Rattle.isp_types.specs.Words.{value_said, type_declared}

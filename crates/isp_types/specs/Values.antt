@@ -1,11 +1,10 @@
 -- Typed expressions of typed parts: conversions, and the type of each operator.
-use Rattle.std.specs.Prelude.{ℕ, List, [], ◌∷◌, Bool, true, false, cond, if◌then◌else◌, ◌&&◌, Option, Some, None}
+use Rattle.std.specs.Prelude.{Bool, cond, if◌then◌else◌, Option, Some, None}
 use Rattle.isp_base.specs.declared.types.Elem.{Elem}
 use Rattle.isp_base.specs.declared.types.Elem.TheVariants.{Bool as Truth, I32}
 use Rattle.isp_base.specs.declared.types.Rate.{Rate}
 use Rattle.isp_base.specs.declared.types.Rate.TheVariants.{Uniform, Varying}
 use Rattle.isp_base.specs.declared.types.Span.{Span}
-use Rattle.isp_base.specs.declared.types.Ty.{Ty}
 use Rattle.isp_base.specs.declared.types.Value.{Value}
 use Rattle.isp_base.specs.declared.types.Gang.{Gang}
 use Rattle.isp_base.specs.Types.{gang_width}
@@ -22,7 +21,7 @@ use Rattle.isp_tree.specs.declared.expr.Prefix.{Prefix}
 use Rattle.isp_tree.specs.declared.expr.Prefix.TheVariants as sign
 use Rattle.isp_typed.specs.declared.variable.Logic.{Logic}
 use Rattle.isp_typed.specs.declared.variable.Logic.TheVariants as logic
-use Rattle.isp_typed.specs.Typed.{TExpr, t_constant, t_convert, t_cast, t_unary, t_binary, t_compare, t_logic, t_choose, type_of, ty_of}
+use Rattle.isp_typed.specs.Typed.{TExpr, t_convert, t_cast, t_unary, t_binary, t_compare, t_logic, t_choose, type_of, ty_of}
 use Rattle.isp_types.specs.declared.values.Joining.{Joining}
 use Rattle.isp_types.specs.declared.values.Joining.TheVariants as joined_as
 use Rattle.isp_types.specs.declared.words.ValueWords.{ValueWords}

@@ -1,21 +1,19 @@
 -- What the code computes of expressions: the typed tree, or the breach that is answered. No part of the promise.
-use Rattle.std.specs.Prelude.{◌≡◌, ℕ, suc, List, [], ◌∷◌, Result, Ok, Err}
+use Rattle.std.specs.Prelude.{List, [], Result, Ok}
 use Rattle.isp_base.specs.declared.types.Gang.{Gang}
 use Rattle.isp_base.specs.declared.types.Span.{Span}
 use Rattle.isp_lex.specs.declared.fault.Fault.{Fault}
 use Rattle.isp_tree.specs.declared.types.Word.{Word}
-use Rattle.isp_tree.specs.Tree.{TypeTree, Expr, number, truth, program_index, program_count, place, call, brackets, cast, prefix, binary, choose, Place, variable, element, Argument, by_value, by_reference, Arguments, no_arguments, argument_then, span_of, span_of_argument}
+use Rattle.isp_tree.specs.Tree.{Expr, number, truth, program_index, program_count, place, call, brackets, cast, prefix, binary, choose, Place, variable, element, Argument, by_value, by_reference, Arguments, no_arguments, argument_then, span_of_argument}
 use Rattle.isp_typed.specs.Verdicts.{both, made, found}
 use Rattle.isp_typed.specs.Typed.{TExpr, t_constant, t_program_index, t_place, TPlace}
-use Rattle.isp_types.specs.declared.scope.Known.{Known}
 use Rattle.isp_types.specs.declared.scope.Binding.{Binding}
-use Rattle.isp_types.specs.declared.callee.Callee.{Callee}
 use Rattle.isp_types.specs.declared.callee.Want.{Want}
 use Rattle.isp_types.specs.Words.{value_said}
 use Rattle.isp_types.specs.Scopes.{named}
 use Rattle.isp_types.specs.Values.{truth_value, count_value, in_brackets, cast_to, with_sign, joined, choice}
 use Rattle.isp_types.specs.Places.{variable_at, element_at}
-use Rattle.isp_types.specs.Calls.{Heading, Handed, h_value, h_name, h_element, Passed, Called, callee, unless_unknown, suits, first_want, rest_of, call_of, value_called, handed_call, handed_name}
+use Rattle.isp_types.specs.Calls.{Heading, Handed, h_value, Passed, Called, unless_unknown, suits, first_want, rest_of, call_of, value_called, handed_call, handed_name}
 use Rattle.isp_types.specs.Rules.{callee_at, handed_reference, handed_element, pair_then}
 
 abbrev pub judge_call : List Heading → Word → Arguments → Span → Result (List Passed) Fault → Result Called Fault

@@ -1,46 +1,26 @@
 -- What the code computes of statements. No part of the promise.
-use Rattle.std.specs.Prelude.{◌≡◌, ℕ, List, [], ◌∷◌, ◌++◌, length, ◌==◌, Option, Some, None, Result, Ok, Err}
-use Rattle.isp_base.specs.declared.types.Elem.{Elem}
-use Rattle.isp_base.specs.declared.types.Elem.TheVariants.{Bool as Truth, I32, I64}
+use Rattle.std.specs.Prelude.{ℕ, List, [], ◌∷◌, ◌++◌, length, ◌==◌, Option, Result, Ok}
 use Rattle.isp_base.specs.declared.types.Gang.{Gang}
-use Rattle.isp_base.specs.declared.types.Rate.TheVariants.{Uniform, Varying}
 use Rattle.isp_base.specs.declared.types.Span.{Span}
 use Rattle.isp_base.specs.declared.types.Ty.{Ty}
-use Rattle.isp_base.specs.declared.types.Value.{Value}
-use Rattle.isp_base.specs.Types.{gang_width}
-use Rattle.isp_base.specs.Ranks.{common}
-use Rattle.isp_base.specs.declared.operators.BinOp.{BinOp}
-use Rattle.isp_base.specs.declared.operators.BinOp.TheVariants as bin
 use Rattle.isp_lex.specs.declared.fault.Fault.{Fault}
 use Rattle.isp_lex.specs.declared.fault.Rule.TheVariants.{NameTwice, Mismatch, BadPrint}
 use Rattle.isp_lex.specs.Faults.{fault}
 use Rattle.isp_tree.specs.declared.types.Word.{Word}
-use Rattle.isp_tree.specs.declared.stmt.Size.{Size}
-use Rattle.isp_tree.specs.declared.stmt.Size.TheVariants as size
-use Rattle.isp_tree.specs.declared.stmt.Form.{Form}
-use Rattle.isp_tree.specs.declared.stmt.Assignment.{Assignment}
-use Rattle.isp_tree.specs.declared.stmt.Assignment.TheVariants as with
-use Rattle.isp_tree.specs.declared.stmt.Change.{Change}
-use Rattle.isp_tree.specs.declared.stmt.Change.TheVariants.{Increment, Decrement}
-use Rattle.isp_tree.specs.Tree.{Expr, number, truth, program_index, program_count, place, call, brackets, cast, prefix, binary, choose, Place, variable, element, Item, plain, with_value, with_size, Declaration, Simple, value, assign, change, First, first_declare, first_simple, Range, span_of, span_of_size}
+use Rattle.isp_tree.specs.Tree.{Expr, place, call, variable, element, Item, plain, with_value, with_size, Declaration, Simple, value, assign, change, First, first_declare, first_simple, Range, span_of}
 use Rattle.isp_tree.specs.Tree.{Stmt, block, empty, declare, simple, if_then, if_else, loop_while, loop_do, loop_for, foreach, foreach_active, unmasked, jump, returning, print, assert, Block, braces, Stmts, no_stmts, stmt_then}
-use Rattle.isp_typed.specs.declared.variable.ArrayVariable.{ArrayVariable}
-use Rattle.isp_typed.specs.declared.variable.Holds.{Holds}
-use Rattle.isp_typed.specs.declared.variable.Holds.TheVariants as holds
 use Rattle.isp_typed.specs.declared.variable.Variable.{Variable}
 use Rattle.isp_typed.specs.Verdicts.{both, made, found, beside, fault_unless, perhaps}
-use Rattle.isp_typed.specs.Typed.{TExpr, TPlace, place_type, TCall, ty_of, TItem, t_plain, t_with_value, t_with_size, TSimple, t_value, t_run, t_assign, t_update, t_step, TFirst, t_first_declare, t_first_simple, TRange}
-use Rattle.isp_typed.specs.Typed.{TStmt, t_block, t_declare, t_simple, t_if, t_if_else, t_while, t_do, t_for, t_foreach, t_foreach_active, t_unmasked, t_jump, t_return, t_print, t_assert, TBlock, t_braces, TStmts, t_no_stmts, t_stmt_then}
-use Rattle.isp_types.specs.declared.scope.Known.{Known}
+use Rattle.isp_typed.specs.Typed.{TExpr, TPlace, TItem, t_plain, TSimple, t_value, TFirst, t_first_simple, TRange}
+use Rattle.isp_typed.specs.Typed.{TStmt, t_block, t_jump, TBlock, t_braces, TStmts, t_no_stmts}
 use Rattle.isp_types.specs.declared.scope.Binding.{Binding}
 use Rattle.isp_types.specs.declared.words.ValueWords.{ValueWords}
 use Rattle.isp_types.specs.Words.{value_said, type_declared}
 use Rattle.isp_types.specs.Scopes.{named, is_new, with_name}
-use Rattle.isp_types.specs.Values.{elem_of, converted}
-use Rattle.isp_types.specs.Places.{mismatch, variable_target, element_target}
-use Rattle.isp_types.specs.Calls.{Heading, Called, gives, runs}
+use Rattle.isp_types.specs.Places.{variable_target, element_target}
+use Rattle.isp_types.specs.Calls.{Heading}
 use Rattle.isp_types.specs.Rules.{second, callee_at, pair_then}
-use Rattle.isp_types.specs.Statements.{or_nothing, declared, array_sized, item_names, item_variables, first_names, first_variables, index, active_index, range_names, range_variables, names_after, variables_after, with_initial, sized_item, as_test, stated, assigned, stepped, range_made, places, agrees, as_answer}
+use Rattle.isp_types.specs.Statements.{or_nothing, array_sized, item_names, item_variables, first_names, first_variables, index, active_index, range_names, range_variables, names_after, variables_after, with_initial, sized_item, as_test, stated, assigned, stepped, range_made, places, agrees, as_answer}
 use Rattle.isp_types.specs.Statements.{no_place, declared_first, declared_stmt, simple_stmt, if_stmt, if_else_stmt, while_stmt, do_stmt, for_stmt, foreach_stmt, active_stmt, unmasked_stmt, return_stmt, print_stmt, assert_stmt, braces_made, stmts_made}
 use Rattle.isp_types.specs.reader.Judge.{judge_call, judge, judge_arguments}
 

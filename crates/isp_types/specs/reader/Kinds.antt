@@ -1,6 +1,6 @@
 -- Groups of statements. No part of the promise.
 use Rattle.std.specs.Prelude.{Bool, true, false}
-use Rattle.isp_tree.specs.Tree.{Stmt, block, empty, declare, simple, if_then, if_else, loop_while, loop_do, loop_for, foreach, foreach_active, unmasked, jump, returning, print, assert}
+use Rattle.isp_tree.specs.Tree.{Stmt, if_then, if_else, loop_while, loop_do, loop_for, foreach, foreach_active, returning, print, assert}
 
 abbrev pub is_branch : Stmt → Bool
 is_branch (if_then f x a s) = true

@@ -1,5 +1,5 @@
 -- What further functions of the code give. No part of the promise.
-use Rattle.std.specs.Prelude.{ℕ, List, [], ◌∷◌, ◌++◌, map, Bool, true, false, not, Option, Some, None, option_map, Result, Ok, Err}
+use Rattle.std.specs.Prelude.{ℕ, List, [], ◌∷◌, ◌++◌, map, Bool, true, not, Option, Some, None, option_map, Result, Ok, Err}
 use Rattle.std.specs.List.{list_any}
 use Rattle.isp_base.specs.declared.types.Gang.{Gang}
 use Rattle.isp_base.specs.declared.types.Span.{Span}
@@ -12,7 +12,6 @@ use Rattle.isp_tree.specs.Tree.{Arguments, Item, plain, with_value, with_size, R
 use Rattle.isp_typed.specs.declared.variable.Variable.{Variable}
 use Rattle.isp_typed.specs.Verdicts.{both, made, beside, first_of, fault_unless}
 use Rattle.isp_typed.specs.Typed.{TExpr, TItem, t_plain, TBlock, TFunction}
-use Rattle.isp_types.specs.declared.scope.Known.{Known}
 use Rattle.isp_types.specs.declared.scope.Binding.{Binding}
 use Rattle.isp_types.specs.declared.words.ValueWords.{ValueWords}
 use Rattle.isp_types.specs.Words.{value_said, type_declared}

@@ -1,5 +1,5 @@
 -- Where bindings stand.
-use Rattle.std.specs.Prelude.{ℕ, suc, List, [], ◌∷◌, ◌++◌, length, bytes_eq, Bool, true, false, Option, Some, None}
+use Rattle.std.specs.Prelude.{ℕ, suc, List, [], ◌∷◌, ◌++◌, bytes_eq, Bool, true, false, Option, Some, None}
 use Rattle.isp_types.specs.declared.scope.Binding.{Binding}
 
 -- where the last binding of a name stands

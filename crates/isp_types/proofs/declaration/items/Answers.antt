@@ -1,4 +1,3 @@
-use Rattle.std.proofs.Common.{◌≡◌}
 use Rattle.isp_typed.specs.Verdicts.{made}
 use Rattle.isp_typed.specs.Views.{items_of}
 use Rattle.isp_types.proofs.ItemSteps.{items_step, names_step, variables_step}

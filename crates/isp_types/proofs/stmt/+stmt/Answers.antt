@@ -1,10 +1,9 @@
-use Rattle.std.proofs.Common.{◌≡◌, ◌≤◌, ◌+◌, ℕ, length, sym, ap, ◌∙◌, refl, arith, drop, drop_of_length-le}
+use Rattle.std.proofs.Common.{◌≤◌, ◌+◌, ℕ, length, sym, ap, ◌∙◌, arith, drop, drop_of_length-le}
 use Rattle.std.specs.Prelude.{Result, Option, option_map, map}
 use Rattle.isp_lex.specs.declared.fault.Fault.{Fault}
-use Rattle.isp_tree.specs.Tree.{all}
-use Rattle.isp_tree.specs.Views.{expr_of as read_expr, first_of as read_first, range_of as read_range, simple_of as read_simple, stmt_of as read_stmt, stmts_of as read_stmts}
+use Rattle.isp_tree.specs.Views.{expr_of as read_expr, first_of as read_first, range_of as read_range, simple_of as read_simple, stmt_of as read_stmt}
 use Rattle.isp_typed.specs.Typed.{TFirst, TStmt}
-use Rattle.isp_typed.specs.Verdicts.{made, both, perhaps}
+use Rattle.isp_typed.specs.Verdicts.{made, perhaps}
 use Rattle.isp_typed.specs.Views.{stmt_of as typed_stmt_of}
 use Rattle.isp_types.specs.Statements.{braces_made, block_variables, first_names, first_variables, range_names, names_after, variables_after, if_stmt, if_else_stmt, while_stmt, do_stmt, for_stmt}
 use Rattle.isp_types.specs.reader.JudgeStmts.{judge_block, judge_first, judge_stmt, judge_test}

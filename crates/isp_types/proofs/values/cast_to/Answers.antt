@@ -1,4 +1,3 @@
-use Rattle.std.proofs.Common.{sym, ap, ◌∙◌}
 use Rattle.isp_typed.specs.Views.{expr_of}
 use Rattle.isp_types.specs.Values.{cast_to}
 use Rattle.isp_typed.proofs.Verdicts.{kept_found}

@@ -1,4 +1,3 @@
-use Rattle.std.proofs.Common.{sym, ◌∙◌}
 use Rattle.isp_typed.specs.Views.{expr_of}
 use Rattle.isp_types.specs.Values.{choice}
 use Rattle.isp_typed.proofs.Verdicts.{three_fail}
