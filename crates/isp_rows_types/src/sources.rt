@@ -44,14 +44,17 @@ fn compare(rt: &impl Abort, alloc: Global, record: &str) -> Result<(), Fail> {
 }
 
 fn compare_all(rt: &impl Abort, alloc: Global, table: &str, count: usize) -> Result<(), Fail> {
-    let mut seen = 0;
+    let mut left = count;
     for record in table.split("=== ") {
         if !record.is_empty() {
             compare(rt, alloc, record)?;
-            seen += 1;
+            let Some(fewer) = left.checked_sub(1) else {
+                return Err(Fail::from("more records than there should be"));
+            };
+            left = fewer;
         }
     }
-    assert!(rt; seen == count, "{seen} records");
+    assert!(rt; left == 0, "{left} records are not there");
     Ok(())
 }
 
