@@ -13,7 +13,7 @@ use Rattle.isp_tree.specs.Depth.{depth_of_functions}
 use Rattle.isp_tree.specs.Tree.{Function as Read}
 use Rattle.isp_tree.specs.Views.{functions_of as tree_of}
 use Rattle.isp_tree.specs.declared.tree.Tree.{Tree}
-use Rattle.isp_syntax.specs.Grammar.{IsProgram as IsTree}
+use Rattle.isp_grammar.specs.Grammar.{IsProgram as IsTree}
 use Rattle.isp_syntax.specs.Promise.{GivesTree}
 use Rattle.isp_tree.specs.Depth.{limit as deepest_tree}
 use Rattle.isp_typed.specs.Promise.{Accepts}

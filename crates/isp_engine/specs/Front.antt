@@ -8,7 +8,7 @@ use Rattle.isp_lex.specs.declared.fault.Fault.{Fault}
 use Rattle.isp_lex.specs.declared.fault.SourceFault.TheVariants.{Refused}
 use Rattle.isp_tree.specs.Depth.{depth_of_functions}
 use Rattle.isp_tree.specs.Tree.{Function as Read}
-use Rattle.isp_syntax.specs.Grammar.{IsProgram as IsTree}
+use Rattle.isp_grammar.specs.Grammar.{IsProgram as IsTree}
 use Rattle.isp_syntax.specs.Promise.{Refuses as TreeRefuses}
 use Rattle.isp_tree.specs.Depth.{limit as deepest_tree}
 use Rattle.isp_typed.specs.Promise.{Accepts, Refuses}

@@ -3,13 +3,13 @@ use Rattle.std.proofs.Common.{◌≡◌, ℕ, zero, suc, ◌<◌, true, false, L
 use Rattle.std.specs.Prelude.{◌==◌}
 use Rattle.std.proofs.lemmas.List.{append-nil}
 use Rattle.isp_lex.specs.declared.token.Token.{Token}
-use Rattle.isp_syntax.specs.reader.Readers.{◌>>=◌, Fails}
-use Rattle.isp_syntax.specs.reader.Choices.{signs_from, signs_at}
+use Rattle.isp_grammar.specs.reader.Readers.{◌>>=◌, Fails}
+use Rattle.isp_grammar.specs.reader.Choices.{signs_from, signs_at}
 use Rattle.isp_syntax.specs.reader.Programs.{linkage_of, linkage_at, linkages_at, function_at, functions_at, program_at}
 use Rattle.isp_tree.specs.Tree.{Function}
-use Rattle.isp_syntax.specs.declared.stop.Refusal.{Refusal}
-use Rattle.isp_syntax.specs.declared.stop.Stop.{Stop}
-use Rattle.isp_syntax.specs.declared.stop.Stop.TheVariants as stops
+use Rattle.isp_grammar.specs.declared.stop.Refusal.{Refusal}
+use Rattle.isp_grammar.specs.declared.stop.Stop.{Stop}
+use Rattle.isp_grammar.specs.declared.stop.Stop.TheVariants as stops
 use Rattle.isp_tree.specs.declared.function.Linkage.{Linkage}
 
 -- ---- linkages

@@ -8,27 +8,27 @@ use Rattle.isp_lex.specs.declared.token.Mark.TheVariants as mark
 use Rattle.isp_lex.specs.declared.token.TokenKind.{TokenKind}
 use Rattle.isp_lex.specs.declared.token.TokenKind.TheVariants as kind
 use Rattle.isp_lex.specs.declared.token.Token.{Token}
-use Rattle.isp_syntax.proofs.Basics.{token, ok_is, ok_err, chosen, starts_same, starts_is, starts_cons}
-use Rattle.isp_syntax.proofs.Choices.{nowhere, nameless, begins_same, Makes, makes_sound, makes_complete, makes_refused}
-use Rattle.isp_syntax.proofs.Declarations.{word_ends_type}
-use Rattle.isp_syntax.proofs.Exprs.{both_true}
-use Rattle.isp_syntax.proofs.Forms.{Form, Found, IsSound, IsComplete, Can, One, one_sound, one_complete, Named, named_sound, named_complete, Both, Free, Follows, follows, both_sound, both_complete, NameThen, named_then, name_then_is, is_name_then, Optional, optional_sound, AreListed, Series, series_sound}
-use Rattle.isp_syntax.proofs.FormsComplete.{EndsByHead, named_by_head, optional_complete, TakesComma, StartsOff, series_complete}
-use Rattle.isp_syntax.proofs.ListForms.{listed_ends, series_by_head}
-use Rattle.isp_syntax.proofs.Refused.{Allowed, Completes, FailsForm, IsRefused, one_refused, named_refused, both_refused, optional_refused, series_refused}
-use Rattle.isp_syntax.proofs.Starts.{starts_off}
-use Rattle.isp_syntax.proofs.TypesRead.{one_qualifier, Types, types_sound, types_complete, types_by_head, types_refused, type_starts}
-use Rattle.isp_syntax.specs.Grammar.{AreAll, IsType, is_based, is_signed, IsLinkage, is_linkage, IsParam, is_scalar, is_array, IsParams, is_none, is_void, is_some}
-use Rattle.isp_syntax.specs.reader.Readers.{refusal, head, is_word, listed_at}
-use Rattle.isp_syntax.specs.reader.Choices.{begins_with, signs_from, signs_at}
+use Rattle.isp_grammar.proofs.Basics.{token, ok_is, ok_err, chosen, starts_same, starts_is, starts_cons}
+use Rattle.isp_grammar.proofs.Choices.{nowhere, nameless, begins_same, Makes, makes_sound, makes_complete, makes_refused}
+use Rattle.isp_grammar.proofs.Declarations.{word_ends_type}
+use Rattle.isp_grammar.proofs.Exprs.{both_true}
+use Rattle.isp_grammar.proofs.Forms.{Form, Found, IsSound, IsComplete, Can, One, one_sound, one_complete, Named, named_sound, named_complete, Both, Free, Follows, follows, both_sound, both_complete, NameThen, named_then, name_then_is, is_name_then, Optional, optional_sound, AreListed, Series, series_sound}
+use Rattle.isp_grammar.proofs.FormsComplete.{EndsByHead, named_by_head, optional_complete, TakesComma, StartsOff, series_complete}
+use Rattle.isp_grammar.proofs.ListForms.{listed_ends, series_by_head}
+use Rattle.isp_grammar.proofs.Refused.{Allowed, Completes, FailsForm, IsRefused, one_refused, named_refused, both_refused, optional_refused, series_refused}
+use Rattle.isp_grammar.proofs.Starts.{starts_off}
+use Rattle.isp_grammar.proofs.TypesRead.{one_qualifier, Types, types_sound, types_complete, types_by_head, types_refused, type_starts}
+use Rattle.isp_grammar.specs.Grammar.{AreAll, IsType, is_based, is_signed, IsLinkage, is_linkage, IsParam, is_scalar, is_array, IsParams, is_none, is_void, is_some}
+use Rattle.isp_grammar.specs.reader.Readers.{refusal, head, is_word, listed_at}
+use Rattle.isp_grammar.specs.reader.Choices.{begins_with, signs_from, signs_at}
 use Rattle.isp_syntax.specs.reader.Programs.{linkage_of, linkages_at, param_from, param_at, only_void, params_at}
-use Rattle.isp_syntax.specs.reader.Stmts.{stands}
-use Rattle.isp_syntax.specs.reader.Types.{begins_type}
-use Rattle.isp_syntax.specs.Signs.{word, qualifier_mark, base_mark, linkage_mark}
+use Rattle.isp_grammar.specs.reader.Stmts.{stands}
+use Rattle.isp_grammar.specs.reader.Types.{begins_type}
+use Rattle.isp_grammar.specs.Signs.{word, qualifier_mark, base_mark, linkage_mark}
 use Rattle.isp_tree.specs.Tree.{TypeTree, Param}
-use Rattle.isp_syntax.specs.declared.stop.Refusal.{Refusal}
-use Rattle.isp_syntax.specs.declared.stop.Why.{Why}
-use Rattle.isp_syntax.specs.declared.stop.Why.TheVariants.{Unexpected, TooDeep}
+use Rattle.isp_grammar.specs.declared.stop.Refusal.{Refusal}
+use Rattle.isp_grammar.specs.declared.stop.Why.{Why}
+use Rattle.isp_grammar.specs.declared.stop.Why.TheVariants.{Unexpected, TooDeep}
 use Rattle.isp_tree.specs.declared.types.Base.TheVariants as base
 use Rattle.isp_tree.specs.declared.types.Qualifier.{Qualifier}
 use Rattle.isp_tree.specs.declared.types.Qualifier.TheVariants as qualifier

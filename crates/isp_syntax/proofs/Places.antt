@@ -8,7 +8,7 @@ use Rattle.isp_lex.specs.Lexing.{limit as longest}
 use Rattle.isp_lex.specs.Listed.{AreTokens, InOrder, IsKind, IsToken}
 use Rattle.isp_lex.specs.Tokens.{TokenList}
 use Rattle.isp_lex.specs.declared.token.Token.{Token}
-use Rattle.isp_syntax.specs.Signs.{first_span, last_span, spread}
+use Rattle.isp_grammar.specs.Signs.{first_span, last_span, spread}
 use Rattle.isp_tree.specs.Sound.{InText}
 
 -- some bytes between two places

@@ -7,30 +7,30 @@ use Rattle.isp_lex.specs.Tokens.{at}
 use Rattle.isp_lex.specs.declared.token.Mark.TheVariants as mark
 use Rattle.isp_lex.specs.declared.token.TokenKind.{TokenKind}
 use Rattle.isp_lex.specs.declared.token.Token.{Token}
-use Rattle.isp_syntax.proofs.Basics.{ok_is, err_ok, ok_err, bind_ok, bind_err}
-use Rattle.isp_syntax.proofs.Choices.{nowhere, nameless}
-use Rattle.isp_syntax.proofs.Declarations.{word_ends_type}
-use Rattle.isp_syntax.proofs.Forms.{Form, Found, IsSound, IsComplete, Can, One, one_sound, one_complete, Named, named_sound, named_complete, Both, Free, Follows, follows, both_sound, both_complete, Behind, one_then, behind_is, is_behind, NameThen, named_then, name_then_is, is_name_then, Before, then_one, before_is, is_before}
-use Rattle.isp_syntax.proofs.FormsComplete.{one_by_head, named_by_head, read_again}
-use Rattle.isp_syntax.proofs.ListForms.{mapped, Maps, maps_id, mapped_twice, maps_both}
+use Rattle.isp_grammar.proofs.Basics.{ok_is, err_ok, ok_err, bind_ok, bind_err}
+use Rattle.isp_grammar.proofs.Choices.{nowhere, nameless}
+use Rattle.isp_grammar.proofs.Declarations.{word_ends_type}
+use Rattle.isp_grammar.proofs.Forms.{Form, Found, IsSound, IsComplete, Can, One, one_sound, one_complete, Named, named_sound, named_complete, Both, Free, Follows, follows, both_sound, both_complete, Behind, one_then, behind_is, is_behind, NameThen, named_then, name_then_is, is_name_then, Before, then_one, before_is, is_before}
+use Rattle.isp_grammar.proofs.FormsComplete.{one_by_head, named_by_head, read_again}
+use Rattle.isp_grammar.proofs.ListForms.{mapped, Maps, maps_id, mapped_twice, maps_both}
 use Rattle.isp_syntax.proofs.Params.{Linkages, linkages_sound, linkages_complete, linkages_by_head, linkages_refused, is_linkage_word, type_no_linkage, Params, params_sound, params_complete, params_by_head, params_close, params_refused}
-use Rattle.isp_syntax.proofs.Refused.{Refused, FailsForm, IsRefused, lift, one_refused, named_refused, both_refused}
-use Rattle.isp_syntax.proofs.Starts.{begins_off}
-use Rattle.isp_syntax.proofs.Stmts.{BlockForm, some_block}
-use Rattle.isp_syntax.proofs.StmtsComplete.{block_complete}
-use Rattle.isp_syntax.proofs.StmtsRefused.{block_refused}
-use Rattle.isp_syntax.proofs.StmtsSound.{block_sound}
-use Rattle.isp_syntax.proofs.TypesRead.{Types, types_sound, types_complete, types_by_head, types_refused, type_starts, int_type}
+use Rattle.isp_grammar.proofs.Refused.{Refused, FailsForm, IsRefused, lift, one_refused, named_refused, both_refused}
+use Rattle.isp_grammar.proofs.Starts.{begins_off}
+use Rattle.isp_grammar.proofs.Stmts.{BlockForm, some_block}
+use Rattle.isp_grammar.proofs.StmtsComplete.{block_complete}
+use Rattle.isp_grammar.proofs.StmtsRefused.{block_refused}
+use Rattle.isp_grammar.proofs.StmtsSound.{block_sound}
+use Rattle.isp_grammar.proofs.TypesRead.{Types, types_sound, types_complete, types_by_head, types_refused, type_starts, int_type}
 use Rattle.isp_tree.specs.Depth.{depth_of_block, depth_of_functions}
-use Rattle.isp_syntax.specs.Grammar.{IsType, IsParams, is_none, IsFunction, is_function, IsProgram}
-use Rattle.isp_syntax.specs.reader.Readers.{Read, ◌>>=◌, head, is_word}
-use Rattle.isp_syntax.specs.reader.Choices.{begins_with}
+use Rattle.isp_grammar.specs.Grammar.{IsType, IsParams, is_none, IsFunction, is_function, IsProgram}
+use Rattle.isp_grammar.specs.reader.Readers.{Read, ◌>>=◌, head, is_word}
+use Rattle.isp_grammar.specs.reader.Choices.{begins_with}
 use Rattle.isp_syntax.specs.reader.Programs.{Signature, signature_at, function_from, function_at, functions_at, program_at}
-use Rattle.isp_syntax.specs.reader.Stmts.{block_at}
-use Rattle.isp_syntax.specs.reader.Types.{begins_type}
-use Rattle.isp_syntax.specs.Signs.{word, first_span}
+use Rattle.isp_grammar.specs.reader.Stmts.{block_at}
+use Rattle.isp_grammar.specs.reader.Types.{begins_type}
+use Rattle.isp_grammar.specs.Signs.{word, first_span}
 use Rattle.isp_tree.specs.Tree.{TypeTree, Block, Param, Function}
-use Rattle.isp_syntax.specs.declared.stop.Refusal.{Refusal}
+use Rattle.isp_grammar.specs.declared.stop.Refusal.{Refusal}
 use Rattle.isp_tree.specs.declared.function.Linkage.{Linkage}
 use Rattle.isp_tree.specs.declared.types.Word.{Word}
 

@@ -6,21 +6,21 @@ use Rattle.isp_lex.specs.Tokens.{TokenList}
 use Rattle.isp_lex.specs.declared.token.Token.{Token}
 use Rattle.isp_lex.specs.declared.token.TokenKind.{TokenKind}
 use Rattle.isp_lex.specs.declared.fault.SourceFault.TheVariants.{Refused as Refusing}
-use Rattle.isp_syntax.proofs.Basics.{token, err_ok, ok_is}
-use Rattle.isp_syntax.proofs.Choices.{nowhere}
+use Rattle.isp_grammar.proofs.Basics.{token, err_ok, ok_is}
+use Rattle.isp_grammar.proofs.Choices.{nowhere}
 use Rattle.isp_syntax.proofs.Programs.{IsSomeProgram, FailsProgram, program_complete, program_refused}
-use Rattle.isp_syntax.proofs.Refused.{Completes, Refused}
+use Rattle.isp_grammar.proofs.Refused.{Completes, Refused}
 use Rattle.isp_syntax.proofs.StmtsRespan.{program_respan}
-use Rattle.isp_syntax.specs.Grammar.{IsProgram}
+use Rattle.isp_grammar.specs.Grammar.{IsProgram}
 use Rattle.isp_syntax.specs.Promise.{kinds, Begins, IsFirstBad, IsTooDeep, Refuses}
 use Rattle.isp_tree.specs.Depth.{limit}
-use Rattle.isp_syntax.specs.reader.Readers.{refusal, head, fault_of}
-use Rattle.isp_syntax.specs.reader.Programs.{program_at}
+use Rattle.isp_grammar.specs.reader.Readers.{refusal, head}
+use Rattle.isp_syntax.specs.reader.Programs.{program_at, fault_of}
 use Rattle.isp_tree.specs.Depth.{depth_of_functions}
 use Rattle.isp_tree.specs.Tree.{Function}
-use Rattle.isp_syntax.specs.declared.stop.Why.{Why}
-use Rattle.isp_syntax.specs.declared.stop.Why.TheVariants.{Unexpected, TooDeep}
-use Rattle.isp_syntax.specs.declared.stop.Refusal.{Refusal}
+use Rattle.isp_grammar.specs.declared.stop.Why.{Why}
+use Rattle.isp_grammar.specs.declared.stop.Why.TheVariants.{Unexpected, TooDeep}
+use Rattle.isp_grammar.specs.declared.stop.Refusal.{Refusal}
 
 -- ---- kinds
 

@@ -5,9 +5,9 @@ use Rattle.isp_lex.specs.Tokens.{at}
 use Rattle.isp_lex.specs.declared.token.Mark.TheVariants as mark
 use Rattle.isp_lex.specs.declared.token.Token.{Token}
 use Rattle.isp_lex.specs.declared.token.TokenKind.{TokenKind}
-use Rattle.isp_syntax.proofs.Basics.{token}
+use Rattle.isp_grammar.proofs.Basics.{token}
 use Rattle.isp_tree.specs.Depth.{deepest_of}
-use Rattle.isp_syntax.specs.Grammar.{AreAll, AreListed}
+use Rattle.isp_grammar.specs.Grammar.{AreAll, AreListed}
 use Rattle.isp_syntax.specs.Promise.{kinds}
 use Rattle.isp_tree.specs.declared.types.Word.{Word}
 

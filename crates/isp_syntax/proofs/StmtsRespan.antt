@@ -8,9 +8,9 @@ use Rattle.isp_lex.specs.declared.token.Token.{Token}
 use Rattle.isp_syntax.proofs.ExprsRespan.{type_respan, expr_respan, exprs_respan}
 use Rattle.isp_syntax.proofs.SameKinds.{Same, same_none, same_first, same_one, same_split, same_before, same_around, moved, Respans, all_respan, listed_respan}
 use Rattle.isp_tree.specs.Depth.{depth, depth_of_option, deepest_of, depth_of_item, depth_of_declaration, depth_of_simple, depth_of_first, depth_of_step, depth_of_range, depth_of_stmt, depth_of_block, depth_of_stmts, depth_of_functions}
-use Rattle.isp_syntax.specs.Grammar.{IsMaybe, AreListed, AreBehindCommas, IsExpr, IsSize, is_number_size, is_count_size, IsItem, is_plain, is_with_value, is_with_size, span_of_last, IsDeclaration, is_declaration, IsSimple, is_value, is_assign, is_change_after, is_change_before, IsFirst, is_first_declare, is_first_simple, IsRange, is_range, is_open, IsBlock, is_braces, IsStmts, is_end, is_next, IsStmt, is_block, is_empty, is_declare, is_simple, is_if, is_if_else, is_while, is_do, is_for, is_foreach, is_foreach_active, is_unmasked, is_jump, is_return, is_print, is_assert, IsLinkage, is_linkage, IsParam, is_scalar, is_array, IsParams, is_none, is_void, is_some, IsFunction, is_function, IsProgram}
+use Rattle.isp_grammar.specs.Grammar.{IsMaybe, AreListed, AreBehindCommas, IsExpr, IsSize, is_number_size, is_count_size, IsItem, is_plain, is_with_value, is_with_size, span_of_last, IsDeclaration, is_declaration, IsSimple, is_value, is_assign, is_change_after, is_change_before, IsFirst, is_first_declare, is_first_simple, IsRange, is_range, is_open, IsBlock, is_braces, IsStmts, is_end, is_next, IsStmt, is_block, is_empty, is_declare, is_simple, is_if, is_if_else, is_while, is_do, is_for, is_foreach, is_foreach_active, is_unmasked, is_jump, is_return, is_print, is_assert, IsLinkage, is_linkage, IsParam, is_scalar, is_array, IsParams, is_none, is_void, is_some, IsFunction, is_function, IsProgram}
 use Rattle.isp_syntax.specs.Promise.{kinds}
-use Rattle.isp_syntax.specs.Signs.{word, numeral, textual, loosest, assignment_mark, change_mark, if_mark, while_mark, do_mark, for_mark, foreach_mark, jump_mark, linkage_mark, first_span}
+use Rattle.isp_grammar.specs.Signs.{word, numeral, textual, loosest, assignment_mark, change_mark, if_mark, while_mark, do_mark, for_mark, foreach_mark, jump_mark, linkage_mark, first_span}
 use Rattle.isp_tree.specs.Tree.{span_of, Item, plain, with_value, with_size, Declaration, Simple, value, assign, change, span_of_simple, First, first_declare, first_simple, Range, Stmt, block, empty, declare, simple, if_then, if_else, loop_while, loop_do, loop_for, foreach, foreach_active, unmasked, jump, returning, print, assert, all, Block, braces, span_of_block, span_of_stmt, Param, Function}
 use Rattle.isp_tree.specs.declared.stmt.Size.{Size}
 use Rattle.isp_tree.specs.declared.stmt.Size.TheVariants as size

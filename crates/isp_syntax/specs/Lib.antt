@@ -1,4 +1,2 @@
-pub mod Signs
-pub mod Grammar
 pub mod Promise
 pub mod reader

@@ -11,7 +11,7 @@ use Rattle.isp_lex.specs.declared.fault.SourceFault.TheVariants.{Memory, Refused
 use Rattle.isp_lex.specs.declared.token.Token.{Token}
 use Rattle.isp_lex.specs.declared.token.TokenKind.{TokenKind}
 use Rattle.isp_lex.specs.declared.token.TokenKind.TheVariants as kind
-use Rattle.isp_syntax.specs.Grammar.{IsProgram}
+use Rattle.isp_grammar.specs.Grammar.{IsProgram}
 use Rattle.isp_tree.specs.Depth.{depth_of_functions}
 use Rattle.isp_tree.specs.Tree.{Function}
 use Rattle.isp_tree.specs.Views.{functions_of}

@@ -1,15 +1,12 @@
 //! Functions.
 ghost use Rattle.std.specs.Prelude.{◌≡◌, ◌≤◌, ◌<◌, ◌+◌, IfOk, length, map, Ok};
 ghost use Rattle.isp_tree.specs.Views.{type_of, block_of, param_of, function_of};
-ghost use Rattle.isp_syntax.specs.reader.Readers.{Gives, optional, mark_at, list_at};
-ghost use Rattle.isp_syntax.specs.reader.Choices.{signs_at};
+ghost use Rattle.isp_grammar.specs.reader.Readers.{Gives, optional, mark_at, list_at};
+ghost use Rattle.isp_grammar.specs.reader.Choices.{signs_at};
 ghost use Rattle.isp_syntax.specs.reader.Programs.{linkage_of, linkage_at, linkages_at, param_at, only_void, params_at, signature_of, signature_at, function_from, function_at};
 
-use crate::reading::{in_box, mark, starts_with, tail, word};
-use crate::stmt::block;
-use crate::stop::Stop;
-use crate::types::{first_span, type_words};
 use isp_base::Span;
+use isp_grammar::{Stop, block, first_span, in_box, mark, starts_with, tail, type_words, word};
 use isp_lex::{Mark, Token, TokenKind};
 use isp_tree::{Block, Function, Linkage, Param, TypeWords, Word};
 use std::alloc::Global;
@@ -51,7 +48,7 @@ fn linkages(alloc: Global, tokens: &[Token]) -> Result<(Vec<Linkage>, &[Token]),
 }
 
 /// `[]`, where it ends.
-#[tactic(auto, unfolding(crate::specs::reader::Readers::optional))]
+#[tactic(auto, unfolding(isp_grammar::specs::reader::Readers::optional))]
 fn array_sign(tokens: &[Token]) -> Result<(Option<Span>, &[Token]), Stop>
     ensures value { Gives (λ r. (r.0, r.1.now)) result (optional Mark.BracketOpen (mark_at Mark.BracketClose) tokens.now) }
     ensures rest { IfOk result (λ r. length r.1.now ≤ length tokens.now) }
@@ -116,7 +113,7 @@ fn only_void(tokens: &[Token]) -> bool
 }
 
 /// The parameters before a closing bracket: `void` alone is none.
-#[tactic(auto, unfolding(crate::specs::reader::Programs::params_at, crate::specs::reader::Readers::listed_at))]
+#[tactic(auto, unfolding(crate::specs::reader::Programs::params_at, isp_grammar::specs::reader::Readers::listed_at))]
 fn params(alloc: Global, tokens: &[Token]) -> Result<(Vec<Param>, &[Token]), Stop>
     ensures value { Gives (λ r. (map param_of r.0.items, r.1.now)) result (params_at tokens.now) }
     ensures rest { IfOk result (λ r. length r.1.now ≤ length tokens.now) }

@@ -1,19 +1,8 @@
 //! The parser: from tokens to the one tree that the grammar gives them.
 #![tactic(auto)]
 
-mod declaration;
-mod expr;
 mod function;
-mod make;
-mod parts;
 mod program;
-mod reading;
-mod simple;
-mod single;
-mod start;
-mod stmt;
-mod stop;
-mod types;
 
 pub use isp_tree::{
     Argument, Assignment, Base, Block, Change, DEPTH_LIMIT, Declaration, Expr, First, Form,

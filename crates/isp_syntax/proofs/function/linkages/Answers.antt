@@ -1,5 +1,5 @@
 use Rattle.std.proofs.Common.{Ok, sym, ap, ◌∙◌, arith}
-use Rattle.isp_syntax.specs.reader.Choices.{signs_at}
+use Rattle.isp_grammar.specs.reader.Choices.{signs_at}
 use Rattle.isp_syntax.specs.reader.Programs.{linkage_of}
 use Rattle.isp_syntax.proofs.FunctionSteps.{linkages_are, linkages_end, linkages_step, linkage_shorter}
 use Rattle.isp_syntax.proofs.function.linkages.Goals as goal

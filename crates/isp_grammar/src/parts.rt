@@ -1,0 +1,384 @@
+//! Parts of statements.
+ghost use Rattle.std.specs.Prelude.{◌≡◌, ◌≤◌, ◌<◌, ◌+◌, IfOk, length, map, option_map};
+ghost use Rattle.isp_tree.specs.Views.{expr_of, exprs_of, simple_of, first_of, range_of};
+ghost use Rattle.isp_grammar.specs.Signs.{loosest};
+ghost use Rattle.isp_grammar.specs.reader.Readers.{Gives, mark_at, both};
+ghost use Rattle.isp_grammar.specs.reader.Choices.{begins_with, sign_at, maybe_at};
+ghost use Rattle.isp_grammar.specs.reader.Exprs.{expr_at};
+ghost use Rattle.isp_grammar.specs.reader.Starts.{begins_first, begins_simple};
+ghost use Rattle.isp_grammar.specs.reader.Stmts.{closed_test_at, test_at, head_of, first_at, first_part_at, step_part_at, head_at, range_at, with_last, last_range_at, with_more, more_ranges_at, ranges_at, ranges_head_at, active_head_at, text_of, next_value_at, values_at, do_end_at, refusal_at_limit};
+
+use crate::declaration::declaration;
+use crate::expr::expr;
+use crate::reading::{in_box, mark, refuse, starts_with, word};
+use crate::simple::simple;
+use crate::start::{Start, stmt_start};
+use crate::stop::{Stop, Why};
+use crate::types::begins_type;
+use isp_base::Span;
+use isp_lex::{Mark, Text, Token, TokenKind};
+use isp_tree::{Expr, First, Range, Simple, Word};
+use std::alloc::Global;
+
+/// An expression in brackets, and where the closing one stands.
+#[tactic(auto, unfolding(crate::specs::reader::Stmts::closed_test_at))]
+pub fn closed_test(
+    alloc: Global,
+    left: usize,
+    tokens: &[Token],
+) -> Result<((Box<Expr>, Span), &[Token]), Stop>
+    requires { left ≤ 128 }
+    ensures value { Gives (λ r. ((expr_of r.0.0.value, r.0.1), r.1.now)) result (closed_test_at left tokens.now) }
+    ensures rest { IfOk result (λ r. length r.1.now < length tokens.now) }
+{
+    let (_open, rest) = mark(Mark::ParenOpen, tokens)?;
+    let (value, _height, rest) = expr(alloc, left, rest)?;
+    let (close, rest) = mark(Mark::ParenClose, rest)?;
+    Ok(((value, close), rest))
+}
+
+/// An expression in brackets.
+#[tactic(auto, unfolding(crate::specs::reader::Stmts::test_at))]
+pub fn test(alloc: Global, left: usize, tokens: &[Token]) -> Result<(Box<Expr>, &[Token]), Stop>
+    requires { left ≤ 128 }
+    ensures value { Gives (λ r. (expr_of r.0.value, r.1.now)) result (test_at left tokens.now) }
+    ensures rest { IfOk result (λ r. length r.1.now < length tokens.now) }
+{
+    let (_open, rest) = mark(Mark::ParenOpen, tokens)?;
+    let (value, _height, rest) = expr(alloc, left, rest)?;
+    let (_close, rest) = mark(Mark::ParenClose, rest)?;
+    Ok((value, rest))
+}
+
+/// An expression, or nothing before a semicolon.
+#[tactic(auto, unfolding(crate::specs::reader::Choices::maybe_at))]
+pub fn maybe_expr(
+    alloc: Global,
+    left: usize,
+    tokens: &[Token],
+) -> Result<(Option<Box<Expr>>, &[Token]), Stop>
+    requires { left ≤ 128 }
+    ensures value { Gives (λ r. (option_map (λ b. expr_of b.value) r.0, r.1.now)) result (maybe_at Mark.Semicolon (expr_at left loosest) tokens.now) }
+    ensures rest { IfOk result (λ r. length r.1.now ≤ length tokens.now) }
+{
+    if starts_with(Mark::Semicolon, tokens) {
+        return Ok((None, tokens));
+    }
+    let (value, _height, rest) = expr(alloc, left, tokens)?;
+    Ok((Some(value), rest))
+}
+
+/// Whether a declaration or a simple statement begins here.
+fn begins_first(tokens: &[Token]) -> bool
+    ensures { result ≡ begins_with begins_first tokens.now }
+{
+    match tokens {
+        [] => false,
+        [first, ..] => match stmt_start(&first.kind) {
+            Start::Declare | Start::Simple => true,
+            _ => false,
+        },
+    }
+}
+
+/// Whether a simple statement begins here.
+fn begins_simple(tokens: &[Token]) -> bool
+    ensures { result ≡ begins_with begins_simple tokens.now }
+{
+    match tokens {
+        [] => false,
+        [first, ..] => match stmt_start(&first.kind) {
+            Start::Simple => true,
+            _ => false,
+        },
+    }
+}
+
+/// A declaration or a simple statement.
+#[tactic(auto, unfolding(crate::specs::reader::Stmts::first_at, crate::specs::reader::Choices::either_at))]
+fn first(alloc: Global, left: usize, tokens: &[Token]) -> Result<(Box<First>, &[Token]), Stop>
+    requires { left ≤ 128 }
+    ensures value { Gives (λ r. (first_of r.0.value, r.1.now)) result (first_at left tokens.now) }
+    ensures rest { IfOk result (λ r. length r.1.now < length tokens.now) }
+{
+    if begins_type(tokens) {
+        let (declaration, rest) = declaration(alloc, left, tokens)?;
+        let first = First::Declare(Box::into_inner(declaration));
+        return in_box(alloc, first, rest);
+    }
+    let (simple, rest) = simple(alloc, left, tokens)?;
+    let first = First::Simple(Box::into_inner(simple));
+    in_box(alloc, first, rest)
+}
+
+/// The refusal where nothing more may be read: of what begins here, if it does.
+pub fn refuse_at_limit(begins: bool, tokens: &[Token]) -> Stop
+    ensures { result ≡ Stop.Refused (refusal_at_limit begins tokens.now) }
+{
+    if begins {
+        refuse(Why::TooDeep, tokens)
+    } else {
+        refuse(Why::Unexpected, tokens)
+    }
+}
+
+/// The first part of a `for`, which counts as a statement.
+fn first_part(alloc: Global, left: usize, tokens: &[Token]) -> Result<(Box<First>, &[Token]), Stop>
+    requires { left ≤ 128 }
+    ensures value { Gives (λ r. (first_of r.0.value, r.1.now)) result (first_part_at left tokens.now) }
+    ensures rest { IfOk result (λ r. length r.1.now < length tokens.now) }
+{
+    if left == 0 {
+        return Err(refuse_at_limit(begins_first(tokens), tokens));
+    }
+    first(alloc, left - 1, tokens)
+}
+
+/// The step of a `for`, which counts as a statement.
+fn step_part(alloc: Global, left: usize, tokens: &[Token]) -> Result<(Box<Simple>, &[Token]), Stop>
+    requires { left ≤ 128 }
+    ensures value { Gives (λ r. (simple_of r.0.value, r.1.now)) result (step_part_at left tokens.now) }
+    ensures rest { IfOk result (λ r. length r.1.now < length tokens.now) }
+{
+    if left == 0 {
+        return Err(refuse_at_limit(begins_simple(tokens), tokens));
+    }
+    simple(alloc, left - 1, tokens)
+}
+
+#[tactic(auto, unfolding(crate::specs::reader::Choices::maybe_at))]
+fn maybe_first(
+    alloc: Global,
+    left: usize,
+    tokens: &[Token],
+) -> Result<(Option<Box<First>>, &[Token]), Stop>
+    requires { left ≤ 128 }
+    ensures value { Gives (λ r. (option_map (λ b. first_of b.value) r.0, r.1.now)) result (maybe_at Mark.Semicolon (first_part_at left) tokens.now) }
+    ensures rest { IfOk result (λ r. length r.1.now ≤ length tokens.now) }
+{
+    if starts_with(Mark::Semicolon, tokens) {
+        return Ok((None, tokens));
+    }
+    let (first, rest) = first_part(alloc, left, tokens)?;
+    Ok((Some(first), rest))
+}
+
+#[tactic(auto, unfolding(crate::specs::reader::Choices::maybe_at))]
+fn maybe_step(
+    alloc: Global,
+    left: usize,
+    tokens: &[Token],
+) -> Result<(Option<Box<Simple>>, &[Token]), Stop>
+    requires { left ≤ 128 }
+    ensures value { Gives (λ r. (option_map (λ b. simple_of b.value) r.0, r.1.now)) result (maybe_at Mark.ParenClose (step_part_at left) tokens.now) }
+    ensures rest { IfOk result (λ r. length r.1.now ≤ length tokens.now) }
+{
+    if starts_with(Mark::ParenClose, tokens) {
+        return Ok((None, tokens));
+    }
+    let (step, rest) = step_part(alloc, left, tokens)?;
+    Ok((Some(step), rest))
+}
+
+/// The first part, the test and the step of a `for`, each in a box of its own.
+#[derive(Drop)]
+pub struct ForHead {
+    pub first: Option<Box<First>>,
+    pub test: Option<Box<Expr>>,
+    pub step: Option<Box<Simple>>,
+}
+
+/// What stands in the brackets of a `for`, and the brackets.
+#[tactic(auto, unfolding(crate::specs::reader::Stmts::head_at))]
+pub fn head(alloc: Global, left: usize, tokens: &[Token]) -> Result<(Box<ForHead>, &[Token]), Stop>
+    requires { left ≤ 128 }
+    ensures value { Gives (λ r. (head_of r.0.value, r.1.now)) result (head_at left tokens.now) }
+    ensures rest { IfOk result (λ r. length r.1.now < length tokens.now) }
+{
+    let (_open, rest) = mark(Mark::ParenOpen, tokens)?;
+    let (first, rest) = maybe_first(alloc, left, rest)?;
+    let (_semicolon, rest) = mark(Mark::Semicolon, rest)?;
+    let (test, rest) = maybe_expr(alloc, left, rest)?;
+    let (_semicolon, rest) = mark(Mark::Semicolon, rest)?;
+    let (step, rest) = maybe_step(alloc, left, rest)?;
+    let (_close, rest) = mark(Mark::ParenClose, rest)?;
+    in_box(alloc, ForHead { first, test, step }, rest)
+}
+
+/// One dimension of a `foreach`.
+#[tactic(auto, unfolding(crate::specs::reader::Stmts::range_at))]
+fn range(alloc: Global, left: usize, tokens: &[Token]) -> Result<(Range, &[Token]), Stop>
+    requires { left ≤ 128 }
+    ensures value { Gives (λ r. (range_of r.0, r.1.now)) result (range_at left tokens.now) }
+    ensures rest { IfOk result (λ r. length r.1.now < length tokens.now) }
+{
+    let (word, rest) = word(tokens)?;
+    let (_sign, rest) = mark(Mark::Assign, rest)?;
+    let (start, _height, rest) = expr(alloc, left, rest)?;
+    let (_dots, rest) = mark(Mark::Ellipsis, rest)?;
+    let (end, _height, rest) = expr(alloc, left, rest)?;
+    let span = word.span.to(end.span());
+    let range = Range {
+        word,
+        start: Box::into_inner(start),
+        end: Box::into_inner(end),
+        span,
+    };
+    Ok((range, rest))
+}
+
+/// The ranges before, and the third range if there is one.
+#[tactic(auto, unfolding(crate::specs::reader::Stmts::last_range_at, crate::specs::reader::Choices::perhaps_at, crate::specs::reader::Readers::mark_at))]
+fn last_range(
+    alloc: Global,
+    left: usize,
+    mut all: Vec<Range>,
+    tokens: &[Token],
+) -> Result<(Vec<Range>, &[Token]), Stop>
+    requires { left ≤ 128 }
+    ensures value { Gives (λ r. (map range_of r.0.items, r.1.now)) result (with_last (map range_of all.items) (last_range_at left tokens.now)) }
+    ensures rest { IfOk result (λ r. length r.1.now ≤ length tokens.now) }
+{
+    match tokens {
+        [first, rest @ ..] if first.kind.is(Mark::Comma) => {
+            let (range, rest) = range(alloc, left, rest)?;
+            all.push(range)?;
+            Ok((all, rest))
+        }
+        _ => Ok((all, tokens)),
+    }
+}
+
+/// The range before, and the second and the third range if there are any.
+#[tactic(auto, unfolding(crate::specs::reader::Stmts::more_ranges_at, crate::specs::reader::Choices::perhaps_at, crate::specs::reader::Readers::mark_at))]
+fn more_ranges(
+    alloc: Global,
+    left: usize,
+    mut all: Vec<Range>,
+    tokens: &[Token],
+) -> Result<(Vec<Range>, &[Token]), Stop>
+    requires { left ≤ 128 }
+    ensures value { Gives (λ r. (map range_of r.0.items, r.1.now)) result (with_more (map range_of all.items) (more_ranges_at left tokens.now)) }
+    ensures rest { IfOk result (λ r. length r.1.now ≤ length tokens.now) }
+{
+    match tokens {
+        [first, rest @ ..] if first.kind.is(Mark::Comma) => {
+            let (range, rest) = range(alloc, left, rest)?;
+            all.push(range)?;
+            last_range(alloc, left, all, rest)
+        }
+        _ => Ok((all, tokens)),
+    }
+}
+
+/// One to three ranges.
+#[tactic(auto, unfolding(crate::specs::reader::Stmts::ranges_at))]
+fn ranges(alloc: Global, left: usize, tokens: &[Token]) -> Result<(Vec<Range>, &[Token]), Stop>
+    requires { left ≤ 128 }
+    ensures value { Gives (λ r. (map range_of r.0.items, r.1.now)) result (ranges_at left tokens.now) }
+    ensures rest { IfOk result (λ r. length r.1.now < length tokens.now) }
+{
+    let (first, rest) = range(alloc, left, tokens)?;
+    let mut all = Vec::new(alloc);
+    all.push(first)?;
+    more_ranges(alloc, left, all, rest)
+}
+
+/// The ranges of a `foreach` in brackets.
+#[tactic(auto, unfolding(crate::specs::reader::Stmts::ranges_head_at))]
+pub fn ranges_head(
+    alloc: Global,
+    left: usize,
+    tokens: &[Token],
+) -> Result<(Vec<Range>, &[Token]), Stop>
+    requires { left ≤ 128 }
+    ensures value { Gives (λ r. (map range_of r.0.items, r.1.now)) result (ranges_head_at left tokens.now) }
+    ensures rest { IfOk result (λ r. length r.1.now < length tokens.now) }
+{
+    let (_open, rest) = mark(Mark::ParenOpen, tokens)?;
+    let (ranges, rest) = ranges(alloc, left, rest)?;
+    let (_close, rest) = mark(Mark::ParenClose, rest)?;
+    Ok((ranges, rest))
+}
+
+/// The name of a `foreach_active` in brackets.
+#[tactic(auto, unfolding(crate::specs::reader::Stmts::active_head_at))]
+pub fn active_head(tokens: &[Token]) -> Result<(Word, &[Token]), Stop>
+    ensures value { Gives (λ r. (r.0, r.1.now)) result (active_head_at tokens.now) }
+    ensures rest { IfOk result (λ r. length r.1.now < length tokens.now) }
+{
+    let (_open, rest) = mark(Mark::ParenOpen, tokens)?;
+    let (word, rest) = word(rest)?;
+    let (_close, rest) = mark(Mark::ParenClose, rest)?;
+    Ok((word, rest))
+}
+
+/// A text in quotes, and where it stands.
+#[tactic(auto, unfolding(crate::specs::reader::Choices::sign_at))]
+pub fn text(tokens: &[Token]) -> Result<((Text, Span), &[Token]), Stop>
+    ensures value { Gives (λ r. (r.0, r.1.now)) result (sign_at text_of tokens.now) }
+    ensures rest { IfOk result (λ r. length r.1.now < length tokens.now) }
+{
+    let Some((first, rest)) = tokens.split_first() else {
+        return Err(refuse(Why::Unexpected, tokens));
+    };
+    match &first.kind {
+        TokenKind::Text(text) => Ok(((text.copied()?, first.span), rest)),
+        _ => Err(refuse(Why::Unexpected, tokens)),
+    }
+}
+
+/// A comma and a value.
+#[tactic(auto, unfolding(crate::specs::reader::Stmts::next_value_at))]
+fn next_value(alloc: Global, left: usize, tokens: &[Token]) -> Result<(Expr, &[Token]), Stop>
+    requires { left ≤ 128 }
+    ensures value { Gives (λ r. (expr_of r.0, r.1.now)) result (next_value_at left tokens.now) }
+    ensures rest { IfOk result (λ r. length r.1.now < length tokens.now) }
+{
+    let (_comma, rest) = mark(Mark::Comma, tokens)?;
+    let (value, _height, rest) = expr(alloc, left, rest)?;
+    Ok((Box::into_inner(value), rest))
+}
+
+/// The values behind a text, each behind a comma, up to a closing bracket.
+pub fn values(alloc: Global, left: usize, tokens: &[Token]) -> Result<(Vec<Expr>, &[Token]), Stop>
+    requires { left ≤ 128 }
+    ensures value { Gives (λ r. (exprs_of r.0.items, r.1.now)) result (values_at left tokens.now) }
+    ensures rest { IfOk result (λ r. length r.1.now ≤ length tokens.now) }
+{
+    let mut all = Vec::new(alloc);
+    let mut rest = tokens;
+    'each: while !starts_with(Mark::ParenClose, rest) {
+        let (next, after) = next_value(alloc, left, rest)?;
+        all.push(next)?;
+        rest = after;
+    }
+    Ok((all, rest))
+}
+
+/// A closing bracket and a semicolon.
+pub fn closing(tokens: &[Token]) -> Result<((Span, Span), &[Token]), Stop>
+    ensures value { Gives (λ r. (r.0, r.1.now)) result (both (mark_at Mark.ParenClose) (mark_at Mark.Semicolon) tokens.now) }
+    ensures rest { IfOk result (λ r. length r.1.now < length tokens.now) }
+{
+    let (close, rest) = mark(Mark::ParenClose, tokens)?;
+    let (end, rest) = mark(Mark::Semicolon, rest)?;
+    Ok(((close, end), rest))
+}
+
+/// `while`, a test and a semicolon: the test, and where the semicolon stands.
+#[tactic(auto, unfolding(crate::specs::reader::Stmts::do_end_at))]
+pub fn do_end(
+    alloc: Global,
+    left: usize,
+    tokens: &[Token],
+) -> Result<((Box<Expr>, Span), &[Token]), Stop>
+    requires { left ≤ 128 }
+    ensures value { Gives (λ r. ((expr_of r.0.0.value, r.0.1), r.1.now)) result (do_end_at left tokens.now) }
+    ensures rest { IfOk result (λ r. length r.1.now < length tokens.now) }
+{
+    let (_while, rest) = mark(Mark::While, tokens)?;
+    let (test, rest) = test(alloc, left, rest)?;
+    let (end, rest) = mark(Mark::Semicolon, rest)?;
+    Ok(((test, end), rest))
+}
