@@ -1,9 +1,8 @@
 -- Small laws of reading.
-use Rattle.std.proofs.Common.{◌≡◌, ℕ, zero, suc, ◌<◌, Bool, true, false, cond, List, [], ◌∷◌, ◌++◌, length, drop, Option, Some, None, Result, Ok, Err, refl, sym, ap, ◌∙◌, arith, inl, inr, ◌⊎◌}
+use Rattle.std.proofs.Common.{◌≡◌, ◌<◌, Bool, true, false, cond, List, [], ◌∷◌, ◌++◌, length, drop, Option, Some, None, Result, Ok, Err, refl, sym, ap, ◌∙◌, arith, inl, inr, ◌⊎◌}
 use Rattle.isp_base.specs.declared.types.Span.{Span}
 use Rattle.isp_lex.specs.Tokens.{is_mark, at, starts_with}
 use Rattle.isp_lex.specs.declared.token.Mark.{Mark}
-use Rattle.isp_lex.specs.declared.token.Mark.TheVariants as mark
 use Rattle.isp_lex.specs.declared.token.TokenKind.{TokenKind}
 use Rattle.isp_lex.specs.declared.token.TokenKind.TheVariants as kind
 use Rattle.isp_lex.specs.declared.token.Token.{Token}

@@ -15,7 +15,7 @@ use Rattle.isp_grammar.specs.reader.Choices.{begins_with, either_at}
 use Rattle.isp_grammar.specs.reader.Types.{begins_type, type_at}
 use Rattle.isp_grammar.specs.reader.Exprs.{start_of, is_start, begins_expr, operator_at, place_at, bracket_of, cast_at, closed_at, bracket_at, operand_from, operand_at, joined, more_at, binary_at, choice_of, parts_at, choice_at, level_from, level_at, expr_at, target_at}
 use Rattle.isp_grammar.specs.Signs.{joined_level, loosest}
-use Rattle.isp_tree.specs.Tree.{TypeTree, Expr, number, truth, program_index, program_count, place, call, brackets, cast, prefix, binary, choose, Place, variable, element, Argument}
+use Rattle.isp_tree.specs.Tree.{Expr, number, truth, program_index, program_count, place, call, brackets, cast, prefix, binary, choose, Place, variable, element, Argument}
 use Rattle.isp_tree.specs.Views.{argument_of, arguments_of}
 use Rattle.isp_tree.specs.declared.expr.Argument as rust
 use Rattle.isp_grammar.specs.declared.expr.Start.{Start}

@@ -22,7 +22,7 @@ use Rattle.isp_grammar.specs.reader.Readers.{◌>>=◌}
 use Rattle.isp_grammar.specs.reader.Types.{begins_type}
 use Rattle.isp_grammar.specs.reader.Exprs.{start_of, operator_of, of_level, operator_at, bracketed_at, index_at, place_by, place_at, argument_by, argument_at, arguments_at, Suffix, by_nothing, by_index, by_arguments, suffix_from, suffix_at, named, named_at, bracket_of, bracket_at, choice_of, parts_at, expr_at, target_at}
 use Rattle.isp_grammar.specs.Signs.{numeral, word, truth_mark, prefix_mark, sign, level, joined_level, loosest}
-use Rattle.isp_tree.specs.Tree.{TypeTree, Expr, number, truth, program_index, program_count, place, call, brackets, cast, prefix, binary, choose, listed, Place, variable, element, span_of_place, Argument, by_value, by_reference}
+use Rattle.isp_tree.specs.Tree.{TypeTree, Expr, number, truth, program_index, program_count, place, call, brackets, cast, prefix, binary, choose, listed, Place, variable, element, Argument, by_value, by_reference}
 use Rattle.isp_grammar.specs.declared.expr.Start.{Start}
 use Rattle.isp_grammar.specs.declared.expr.Start.TheVariants as by
 use Rattle.isp_tree.specs.declared.types.Word.{Word}

@@ -12,7 +12,7 @@ use Rattle.isp_grammar.proofs.Basics.{starts_same}
 use Rattle.isp_grammar.proofs.Choices.{either_complete}
 use Rattle.isp_grammar.proofs.Forms.{IsComplete, One, one_complete, Named, named_complete, Free, both_complete, Behind, is_behind, is_name_then, is_before, made_complete, AreListed, IsSeries}
 use Rattle.isp_grammar.proofs.FormsComplete.{EndsByHead, optional_complete, TakesComma, StartsOff, series_complete}
-use Rattle.isp_grammar.proofs.Exprs.{Ends, Exprs, level_small, closes_ends, Bracketed, Index, Placed, Target, place_reads, place_then, bracket_then, EndsArgument, ArgumentForm, Referring, Passed, ArgumentForms, Called, argument_reads, referring_then, called_then, row_deep, IsSuffix, deep_of_suffix, EndsSuffix, Suffixes, NamedForm, name_then, named_reads, Closed, Typed, Bracket, bracket_reads, closed_then, cast_then, typed_then, Parts, colon_then, parts_then, parts_read}
+use Rattle.isp_grammar.proofs.Exprs.{Ends, Exprs, level_small, closes_ends, Bracketed, Index, Placed, Target, place_reads, place_then, bracket_then, ArgumentForm, Referring, Passed, ArgumentForms, Called, argument_reads, referring_then, called_then, row_deep, IsSuffix, deep_of_suffix, EndsSuffix, Suffixes, NamedForm, name_then, named_reads, Closed, Typed, Bracket, bracket_reads, closed_then, cast_then, typed_then, Parts, colon_then, parts_then, parts_read}
 use Rattle.isp_grammar.proofs.ExprSteps.{depth_pos, at_level, at_choice, more_stop, more_step, choice_stops, choice_made}
 use Rattle.isp_grammar.proofs.Starts.{begins_off, starts_off}
 use Rattle.isp_grammar.proofs.TypesRead.{Types, types_complete, type_starts}

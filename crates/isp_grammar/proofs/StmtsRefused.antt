@@ -1,5 +1,5 @@
 -- What a refusal of a statement means.
-use Rattle.std.proofs.Common.{◌≡◌, ℕ, zero, suc, true, false, List, [], ◌∷◌, ◌++◌, Option, None, Err, refl, sym, ap, subst, ◌∙◌, append_assoc, inl, inr}
+use Rattle.std.proofs.Common.{◌≡◌, ℕ, zero, suc, true, false, List, [], ◌∷◌, ◌++◌, Option, None, Err, refl, sym, ap, subst, ◌∙◌}
 use Rattle.isp_base.specs.declared.types.Span.{Span}
 use Rattle.isp_lex.specs.Tokens.{is_mark, at}
 use Rattle.isp_lex.specs.declared.token.Mark.{Mark}
@@ -13,7 +13,7 @@ use Rattle.isp_grammar.proofs.Declarations.{Declaring, declaration_sound, declar
 use Rattle.isp_grammar.proofs.Forms.{Form, Can, One, one_sound, one_complete, Both, Free, Follows}
 use Rattle.isp_grammar.proofs.FormsComplete.{one_by_head}
 use Rattle.isp_grammar.proofs.Ranges.{RangesHead, ranges_head_sound, ranges_head_complete, ranges_head_refused, some_ranges_head, ActiveHead, active_head_sound, active_head_complete, active_head_refused, some_active_head, Texts, text_sound, text_complete, text_refused, Values, values_sound, values_complete, values_refused, values_by_head}
-use Rattle.isp_grammar.proofs.Refused.{Completes, Refused, refused_here, raise, FailsForm, IsRefused, one_refused, both_refused, made_refused, made_err, made_fails, optional_refused, until_refused}
+use Rattle.isp_grammar.proofs.Refused.{Refused, refused_here, raise, FailsForm, IsRefused, one_refused, both_refused, made_refused, made_err, made_fails, optional_refused, until_refused}
 use Rattle.isp_grammar.proofs.Simples.{SimpleParts, simple_sound, simple_complete, simple_by_head, simple_refused, simple_makes}
 use Rattle.isp_grammar.proofs.Starts.{Fits, start_fits}
 use Rattle.isp_grammar.proofs.StmtParts.{Test, test_sound, test_complete, test_refused, some_test, ClosedTest, closed_test_sound, closed_test_complete, closed_test_refused, some_closed_test, MaybeTest, maybe_test_sound, maybe_test_complete, maybe_test_refused, maybe_test_by_head, HeadParts, head_sound, head_complete, head_refused, some_head, declaration_completes, simple_opens}
@@ -31,8 +31,7 @@ use Rattle.isp_grammar.specs.Signs.{if_mark, while_mark, do_mark, for_mark, fore
 use Rattle.isp_tree.specs.Tree.{Stmt}
 use Rattle.isp_grammar.specs.declared.start.Start.{Start}
 use Rattle.isp_grammar.specs.declared.start.Start.TheVariants as by
-use Rattle.isp_grammar.specs.declared.stop.Why.{Why}
-use Rattle.isp_grammar.specs.declared.stop.Why.TheVariants.{Unexpected, TooDeep}
+use Rattle.isp_grammar.specs.declared.stop.Why.TheVariants.{Unexpected}
 use Rattle.isp_grammar.specs.declared.stop.Refusal.{Refusal}
 
 -- ---- what begins a statement can be completed

@@ -1,5 +1,5 @@
 -- What is read as a statement is one.
-use Rattle.std.proofs.Common.{◌≡◌, ℕ, zero, suc, Bool, true, false, List, [], ◌∷◌, ◌++◌, Option, Some, None, Ok, Err, refl, sym, ap, subst, ◌∙◌, append_assoc, arith, inl, inr, ◌⊎◌}
+use Rattle.std.proofs.Common.{◌≡◌, ℕ, zero, suc, Bool, true, false, List, [], ◌∷◌, ◌++◌, Option, Some, None, Ok, Err, refl, sym, ap, subst, ◌∙◌, append_assoc, arith, inl, inr}
 use Rattle.std.specs.Prelude.{⊤}
 use Rattle.std.proofs.lemmas.Bool.{false≢true, false_from_ne_true}
 use Rattle.std.proofs.lemmas.List.{append-nil}
@@ -10,7 +10,7 @@ use Rattle.isp_lex.specs.declared.token.Mark.TheVariants as mark
 use Rattle.isp_lex.specs.declared.token.TokenKind.{TokenKind}
 use Rattle.isp_lex.specs.declared.token.TokenKind.TheVariants as kind
 use Rattle.isp_lex.specs.declared.token.Token.{Token}
-use Rattle.isp_grammar.proofs.Basics.{token, ok_is, err_ok, chosen}
+use Rattle.isp_grammar.proofs.Basics.{token, ok_is, err_ok}
 use Rattle.isp_grammar.proofs.Choices.{nowhere, limit_reads_none}
 use Rattle.isp_grammar.proofs.Declarations.{Declaring, declaration_sound, declaration_end}
 use Rattle.isp_grammar.proofs.Forms.{Found, IsSound, Can, One, one_sound, Free, Follows, follows, both_sound, one_then, behind_is, is_behind, then_one, is_before, made_sound, optional_sound, until_sound}
@@ -23,7 +23,7 @@ use Rattle.isp_grammar.proofs.Stmts.{EndsStmt, Statement, some_stmt, Nothing, Se
 use Rattle.isp_grammar.proofs.Wrapped.{after_sound}
 use Rattle.isp_grammar.specs.Grammar.{is_open, IsBlock, is_braces, IsStmt, is_block, is_empty, is_declare, is_simple, is_if, is_if_else, is_while, is_do, is_for, is_foreach, is_foreach_active, is_unmasked, is_jump, is_return, is_print, is_assert}
 use Rattle.isp_grammar.proofs.Simples.{simple_unmakes}
-use Rattle.isp_grammar.specs.reader.Readers.{Reader, refuse, optional, optional_from}
+use Rattle.isp_grammar.specs.reader.Readers.{Reader, optional, optional_from}
 use Rattle.isp_grammar.specs.reader.Exprs.{begins_expr}
 use Rattle.isp_grammar.specs.reader.Starts.{start_of, begins_stmt}
 use Rattle.isp_grammar.specs.reader.Stmts.{is_change, block_at, stmt_from, stmt_by, stmt_at}
@@ -32,7 +32,6 @@ use Rattle.isp_grammar.specs.Signs.{if_mark, while_mark, do_mark, for_mark, fore
 use Rattle.isp_tree.specs.Tree.{Stmt, Block}
 use Rattle.isp_grammar.specs.declared.start.Start.{Start}
 use Rattle.isp_grammar.specs.declared.start.Start.TheVariants as by
-use Rattle.isp_grammar.specs.declared.stop.Why.TheVariants.{Unexpected}
 use Rattle.isp_grammar.specs.declared.stop.Refusal.{Refusal}
 use Rattle.isp_tree.specs.declared.stmt.Form.{Form as Shape}
 use Rattle.isp_tree.specs.declared.stmt.Form.TheVariants as shape

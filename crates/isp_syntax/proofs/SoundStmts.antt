@@ -1,23 +1,22 @@
 -- Declarations, statements and functions of tokens in the order of a text are sound, and have no more nodes than tokens.
-use Rattle.std.proofs.Common.{◌≡◌, ℕ, zero, suc, ◌+◌, ◌<◌, ◌≤◌, List, [], ◌∷◌, ◌++◌, length, Option, Some, None, refl, sym, ap, subst, arith, length-append, append_assoc}
+use Rattle.std.proofs.Common.{◌≡◌, ℕ, suc, ◌<◌, ◌≤◌, List, [], ◌∷◌, ◌++◌, length, Option, Some, None, refl, sym, ap, subst, arith, length-append, append_assoc}
 use Rattle.std.specs.List.{All}
 use Rattle.std.proofs.lemmas.List.Elements.{All-cons, All-nil}
 use Rattle.isp_base.specs.Types.{span_to}
 use Rattle.isp_base.specs.declared.types.Span.{Span}
-use Rattle.isp_lex.specs.Lexing.{limit as longest}
 use Rattle.isp_lex.specs.Listed.{AreTokens}
 use Rattle.isp_lex.specs.Tokens.{TokenList, at}
 use Rattle.isp_lex.specs.declared.token.Mark.TheVariants as mark
 use Rattle.isp_lex.specs.declared.token.Token.{Token}
-use Rattle.isp_syntax.proofs.Places.{Within, InLine, line_up, line_end, Cut, cut, in_text, within_to, wider, later, first_of_line, tokens_in_line, all_one}
+use Rattle.isp_syntax.proofs.Places.{Within, InLine, line_up, line_end, cut, in_text, within_to, wider, later, first_of_line, tokens_in_line, all_one}
 use Rattle.isp_syntax.proofs.SoundExprs.{name_in, token_in, type_in, type_long, Good, expr_in}
-use Rattle.isp_grammar.specs.Grammar.{IsMaybe, AreAll, AreListed, AreBehindCommas, IsType, IsExpr, IsSize, is_number_size, is_count_size, IsItem, is_plain, is_with_value, is_with_size, span_of_last, IsDeclaration, is_declaration, IsSimple, is_value, is_assign, is_change_after, is_change_before, IsFirst, is_first_declare, is_first_simple, IsRange, is_range}
+use Rattle.isp_grammar.specs.Grammar.{IsMaybe, AreAll, AreListed, AreBehindCommas, IsExpr, IsSize, is_number_size, is_count_size, IsItem, is_plain, is_with_value, is_with_size, span_of_last, IsDeclaration, is_declaration, IsSimple, is_value, is_assign, is_change_after, is_change_before, IsFirst, is_first_declare, is_first_simple, IsRange, is_range}
 use Rattle.isp_grammar.specs.Grammar.{IsBlock, is_braces, IsStmts, is_end, is_next, IsStmt, is_block, is_empty, is_declare, is_simple, is_if, is_if_else, is_while, is_do, is_for, is_foreach, is_foreach_active, is_unmasked, is_jump, is_return, is_print, is_assert, IsParam, is_scalar, is_array, IsParams, is_none, is_void, is_some, IsFunction, is_function, IsProgram}
-use Rattle.isp_grammar.specs.Signs.{word, numeral, textual, sign, assignment_mark, change_mark, if_mark, while_mark, do_mark, for_mark, foreach_mark, jump_mark, loosest, first_span}
+use Rattle.isp_grammar.specs.Signs.{word, numeral, textual, assignment_mark, change_mark, foreach_mark, jump_mark, loosest, first_span}
 use Rattle.isp_tree.specs.Depth.{depth_of_functions, limit}
-use Rattle.isp_tree.specs.Nodes.{most, nodes, nodes_of_option, nodes_of_all, nodes_of_item, nodes_of_declaration, nodes_of_simple, nodes_of_first, nodes_of_step, nodes_of_range, nodes_of_stmt, nodes_of_block, nodes_of_stmts, nodes_of_function, nodes_of_functions}
-use Rattle.isp_tree.specs.Sound.{InText, IsName, Fits, IfAny, IsSoundType, IsSoundExpr, IsSoundSize, IsSoundItem, IsSoundDeclaration, IsSoundSimple, IsSoundFirst, IsSoundRange, AreSoundRanges, IsSoundStmt, IsSoundBlock, AreSoundStmts, IsSoundParam, IsSoundFunction, IsSound}
-use Rattle.isp_tree.specs.Tree.{TypeTree, Expr, span_of, Item, span_of_item, Declaration, Simple, span_of_simple, First, Range, Stmt, Block, all, span_of_block, span_of_stmt, Param, Function}
+use Rattle.isp_tree.specs.Nodes.{nodes, nodes_of_option, nodes_of_all, nodes_of_item, nodes_of_declaration, nodes_of_simple, nodes_of_first, nodes_of_step, nodes_of_range, nodes_of_stmt, nodes_of_block, nodes_of_stmts, nodes_of_function}
+use Rattle.isp_tree.specs.Sound.{IfAny, IsSoundExpr, IsSoundSize, IsSoundItem, IsSoundDeclaration, IsSoundSimple, IsSoundFirst, IsSoundRange, IsSoundStmt, IsSoundBlock, AreSoundStmts, IsSoundParam, IsSoundFunction, IsSound}
+use Rattle.isp_tree.specs.Tree.{Expr, span_of, Item, span_of_item, Declaration, Simple, span_of_simple, First, Range, Stmt, Block, all, span_of_block, span_of_stmt, Param, Function}
 use Rattle.isp_tree.specs.declared.stmt.Size.{Size}
 
 -- ---- sizes and items
