@@ -27,13 +27,14 @@ use Rattle.isp_typed.specs.declared.expr.TypedExpr.{TypedExpr}
 use Rattle.isp_typed.specs.Typed.{TExpr, TRange}
 use Rattle.isp_typed.specs.Views.{expr_of}
 use Rattle.isp_typed.proofs.Verdicts.{beside_made}
-use Rattle.isp_types.specs.declared.scope.Binding.{Binding}
-use Rattle.isp_types.specs.Scopes.{with_name}
-use Rattle.isp_types.specs.Calls.{Heading}
+use Rattle.isp_exprs.specs.declared.scope.Binding.{Binding}
+use Rattle.isp_exprs.specs.Scopes.{with_name}
+use Rattle.isp_exprs.specs.Calls.{Heading}
 use Rattle.isp_types.specs.Statements.{index, range_made, range_names, range_variables, agrees, as_answer}
-use Rattle.isp_types.specs.reader.Judge.{judge}
+use Rattle.isp_exprs.specs.reader.Judge.{judge}
 use Rattle.isp_types.specs.reader.JudgeStmts.{twice, judge_ranges, judge_returned, judge_values}
-use Rattle.isp_types.specs.reader.Lists.{and_one, agrees_with, judge_bounds}
+use Rattle.isp_exprs.specs.reader.Lists.{and_one}
+use Rattle.isp_types.specs.reader.Lists.{agrees_with, judge_bounds}
 use Rattle.isp_types.proofs.Joined.{joined, joined_step, joined_last, some_made}
 
 module _ (gang : Gang) (hs : List Heading) (ns : List Binding) where

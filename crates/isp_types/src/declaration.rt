@@ -3,18 +3,17 @@ ghost use Rattle.std.specs.Prelude.{◌≡◌, IfOk, map};
 ghost use Rattle.isp_tree.specs.Views.{declaration_of as read_declaration, item_of as read_item, type_of as read_type};
 ghost use Rattle.isp_typed.specs.Verdicts.{both, made};
 ghost use Rattle.isp_typed.specs.Views.{expr_of, item_of, items_of};
-ghost use Rattle.isp_types.specs.Rules.{second};
+ghost use Rattle.isp_exprs.specs.Rules.{second};
 ghost use Rattle.isp_types.specs.Statements.{array_sized, declared, item_names, item_variable, item_variables, item_word, items_names, items_variables, or_nothing, size_number, sized_item, value_variable, with_initial};
-ghost use Rattle.isp_types.specs.Words.{value_said};
+ghost use Rattle.isp_exprs.specs.Words.{value_said};
 ghost use Rattle.isp_types.specs.reader.JudgeStmts.{judge_declaration, judge_item, judge_items, twice};
-ghost use Rattle.isp_types.specs.reader.Lists.{and_one, judge_item_with, known_next};
+ghost use Rattle.isp_exprs.specs.reader.Lists.{and_one};
+ghost use Rattle.isp_types.specs.reader.Lists.{judge_item_with, known_next};
 
-use crate::expr::{Setting, expr};
-use crate::places::mismatch;
-use crate::scope::{Known, Scope};
-use crate::values::converted;
-use crate::words::{ValueWords, type_declared, value_said};
 use isp_base::{Elem, Gang, Span, Ty};
+use isp_exprs::{
+    Known, Scope, Setting, ValueWords, converted, expr, mismatch, type_declared, value_said,
+};
 use isp_lex::{Fault, Rule};
 use isp_tree::{Declaration, Item, Size, Word};
 use isp_typed::{

@@ -5,18 +5,16 @@ ghost use Rattle.isp_tree.specs.Views.{expr_of as read_expr, exprs_of as read_ex
 ghost use Rattle.isp_typed.specs.Verdicts.{beside, both, fault_unless, found, made, perhaps};
 ghost use Rattle.isp_typed.specs.Views.{expr_of, exprs_of, first_of, range_of, ranges_of, simple_of};
 ghost use Rattle.isp_types.specs.Statements.{active_index, as_answer, first_names, first_variables, index, places, range_made, range_names, range_variables};
-ghost use Rattle.isp_types.specs.Values.{converted};
-ghost use Rattle.isp_types.specs.reader.Judge.{judge};
+ghost use Rattle.isp_exprs.specs.Values.{converted};
+ghost use Rattle.isp_exprs.specs.reader.Judge.{judge};
 ghost use Rattle.isp_types.specs.reader.JudgeStmts.{judge_first, judge_ranges, judge_returned, judge_simple, judge_test, judge_values};
-ghost use Rattle.isp_types.specs.reader.Lists.{agrees_with, and_one, judge_bounds};
+ghost use Rattle.isp_exprs.specs.reader.Lists.{and_one};
+ghost use Rattle.isp_types.specs.reader.Lists.{agrees_with, judge_bounds};
 
 use crate::declaration::twice;
-use crate::expr::{Setting, expr};
-use crate::places::mismatch;
-use crate::scope::{Known, Scope};
 use crate::simple::{first_part, simple};
-use crate::values::converted;
 use isp_base::{Elem, Rate, Span, Ty};
+use isp_exprs::{Known, Scope, Setting, converted, expr, mismatch};
 use isp_lex::{Fault, Rule, Text};
 use isp_tree::{Expr, First, Range, Simple};
 use isp_typed::{

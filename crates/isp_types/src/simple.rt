@@ -7,15 +7,13 @@ ghost use Rattle.isp_typed.specs.Verdicts.{both, found, made};
 ghost use Rattle.isp_typed.specs.Views.{expr_of, first_of, items_of, place_of, simple_of};
 ghost use Rattle.isp_types.specs.Statements.{assigned, assigned_by, assignment_operator, change_operator, declared_first, first_names, first_variables, no_place, stated, stepped};
 ghost use Rattle.isp_types.specs.reader.JudgeStmts.{judge_first, judge_simple, judge_target};
-ghost use Rattle.isp_types.specs.reader.Parts.{called_of};
+ghost use Rattle.isp_exprs.specs.reader.Parts.{called_of};
 
-use crate::call::Called;
 use crate::declaration::declaration;
-use crate::expr::{Setting, call, expr};
-use crate::places::{element_target, mismatch, variable_target};
-use crate::scope::Scope;
-use crate::values::converted;
 use isp_base::{BinOp, Elem, Span, common};
+use isp_exprs::{
+    Called, Scope, Setting, call, converted, element_target, expr, mismatch, variable_target,
+};
 use isp_tree::{Assignment, Change, Expr, First, Place, Simple};
 use isp_typed::{
     TypedExpr, TypedFirst, TypedItem, TypedPlace, TypedSimple, Variable, Verdict, both,

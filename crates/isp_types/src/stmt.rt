@@ -8,16 +8,15 @@ ghost use Rattle.isp_types.specs.reader.JudgeStmts.{judge_block, judge_simple, j
 ghost use Rattle.isp_types.specs.reader.Kinds.{is_active, is_branch, is_called, is_for, is_foreach, is_repeated};
 
 use crate::declaration::declaration;
-use crate::expr::Setting;
 use crate::make::{
     active_stmt, assert_stmt, block_stmt, boxed, braces, declared_stmt, do_stmt, empty_stmt,
     for_stmt, foreach_stmt, if_else_stmt, if_stmt, print_stmt, push, return_stmt, simple_stmt,
     unmasked_stmt, while_stmt,
 };
 use crate::parts::{active_index, first_if, printed, ranges, returned, simple_if, test, test_if};
-use crate::scope::{Known, Scope};
 use crate::simple::simple;
 use isp_base::Ty;
+use isp_exprs::{Known, Scope, Setting};
 use isp_tree::{Block, Expr, Simple, Stmt};
 use isp_typed::{TypedBlock, TypedExpr, TypedSimple, TypedStmt, Variable, Verdict, both};
 use std::alloc::AllocError;
