@@ -20,7 +20,7 @@ use Rattle.isp_exprs.specs.declared.scope.Known.{Known}
 use Rattle.isp_exprs.specs.Values.{converted}
 use Rattle.isp_exprs.specs.Places.{mismatch}
 use Rattle.isp_exprs.specs.Calls.{Passed, p_value, p_array, p_base, p_destination, p_unasked, Called, gives, packed_store, packed_load, loaded, function_call, arguments_among}
-use Rattle.isp_exprs.specs.reader.Parts.{passed_of, list_passed, base_passed, value_passed, destination_passed}
+use Rattle.isp_exprs.specs.reader.Parts.{boxed_of, passed_of, list_passed, base_passed, value_passed, destination_passed}
 
 store_view : (b : rust_base.TypedBase) (x : Box rust.TypedExpr Global) (s : Span) → expr_of (variant.PackedStore b x s) ≡ t_packed_store (base_of b) (expr_of x.value) s
 store_view b x s = ap expr_of (sym (variant.rolls-PackedStore b x s)) ∙ fold-roll-TypedExpr TArgument TBase TExpr TPlace TCall argument_step base_step expr_step place_step call_step _
@@ -93,16 +93,16 @@ module _ (s : Span) (ps : List rust_passed.Passed) (two : Option rust_passed.Pas
   pub load_no_base : (f : Fault) → b ≡ None → f ≡ fault Mismatch s → Err f ≡ packed_load s (list_passed ps)
   load_no_base f n m = loaded_is s ps (option_map base_of b) (destination_passed (option_map passed_of (slice_get ps 1))) (Err f) base_there refl (rw (n, m) refl)
 
-  module _ (x : Option rust.TypedExpr) (value : option_map expr_of x ≡ value_passed (option_map passed_of two.1)) where
-    value_there : option_map expr_of x ≡ value_passed (option_map passed_of (slice_get ps 1))
+  module _ (x : Option (Box rust.TypedExpr Global)) (value : option_map boxed_of x ≡ value_passed (option_map passed_of two.1)) where
+    value_there : option_map boxed_of x ≡ value_passed (option_map passed_of (slice_get ps 1))
     value_there = value ∙ ap (λ (z : Option rust_passed.Passed × Option rust_passed.Passed). value_passed (option_map passed_of z.1)) firsts
 
     pub store_no_value : (y : rust_base.TypedBase) (f : Fault) → b ≡ Some y → x ≡ None → f ≡ fault Mismatch s → Err f ≡ packed_store s (list_passed ps)
-    store_no_value y f h n m = stored_is s ps (option_map base_of b) (option_map expr_of x) (Err f) base_there value_there (rw (h, n, m) refl)
+    store_no_value y f h n m = stored_is s ps (option_map base_of b) (option_map boxed_of x) (Err f) base_there value_there (rw (h, n, m) refl)
 
-    pub store_both : (y : rust_base.TypedBase) (z : rust.TypedExpr) (v : Box rust.TypedExpr Global) → b ≡ Some y → x ≡ Some z → expr_of v.value ≡ converted (base_array (base_of y)).ty.elem (expr_of z)
+    pub store_both : (y : rust_base.TypedBase) (z : Box rust.TypedExpr Global) (v : Box rust.TypedExpr Global) → b ≡ Some y → x ≡ Some z → expr_of v.value ≡ converted (base_array (base_of y)).ty.elem (boxed_of z)
         → Ok (gives (expr_of (variant.PackedStore y v s))) ≡ packed_store s (list_passed ps)
-    store_both y z v h n e = stored_is s ps (option_map base_of b) (option_map expr_of x) (Ok (gives (expr_of (variant.PackedStore y v s)))) base_there value_there
+    store_both y z v h n e = stored_is s ps (option_map base_of b) (option_map boxed_of x) (Ok (gives (expr_of (variant.PackedStore y v s)))) base_there value_there
         (ap (λ (w : TExpr). Ok (gives w)) (store_view y v s ∙ ap (λ (w : TExpr). t_packed_store (base_of y) w s) e) ∙ sym (rw (h, n) refl))
 
   module _ (d : Option (Known × Ty × Span)) (what : d ≡ destination_passed (option_map passed_of two.1)) where

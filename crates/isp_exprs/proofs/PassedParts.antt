@@ -1,14 +1,15 @@
 -- Values and arguments among what is passed, one by one.
 use Rattle.std.proofs.Common.{◌≡◌, ◌++◌, refl, sym, ap, ◌∙◌}
 use Rattle.std.specs.Prelude.{List, [], ◌∷◌}
+use Rattle.std.specs.Global.{Box}
 use Rattle.std.proofs.lemmas.List.{map-append}
 use Rattle.isp_typed.specs.declared.expr.TypedExpr as rust
 use Rattle.isp_typed.specs.declared.expr.TypedArgument as rust_argument
 use Rattle.isp_typed.specs.Typed.{TArgument, t_by_value, t_by_name, t_argument_then, t_arguments}
-use Rattle.isp_typed.specs.Views.{exprs_of, arguments_of}
+use Rattle.isp_typed.specs.Views.{arguments_of}
 use Rattle.isp_exprs.specs.declared.calls.Passed as rust_passed
 use Rattle.isp_exprs.specs.Calls.{Passed, p_value, p_array, p_base, p_destination, p_unasked, values_among, arguments_among}
-use Rattle.isp_exprs.specs.reader.Parts.{passed_of, list_passed, value_in, argument_in}
+use Rattle.isp_exprs.specs.reader.Parts.{boxes_of, passed_of, list_passed, value_in, argument_in}
 
 -- the arguments as a list
 abbrev pub arguments_listed : List Passed → List TArgument
@@ -58,8 +59,8 @@ arguments_more (p_destination k t s ∷ ps) p = arguments_more ps p
 arguments_more (p_unasked ∷ ps) p = arguments_more ps p
 
 -- one part more
-pub values_step : (vs ws : List rust.TypedExpr) (ys : List rust_passed.Passed) (y : rust_passed.Passed) → exprs_of vs ≡ values_among (list_passed ys) → exprs_of ws ≡ exprs_of vs ++ value_in (passed_of y)
-    → exprs_of ws ≡ values_among (list_passed (ys ++ y ∷ []))
+pub values_step : (vs ws : List (Box rust.TypedExpr)) (ys : List rust_passed.Passed) (y : rust_passed.Passed) → boxes_of vs ≡ values_among (list_passed ys) → boxes_of ws ≡ boxes_of vs ++ value_in (passed_of y)
+    → boxes_of ws ≡ values_among (list_passed (ys ++ y ∷ []))
 values_step vs ws ys y e v = v ∙ (ap (λ z. z ++ value_in (passed_of y)) e
     ∙ sym (ap values_among (map-append passed_of ys (y ∷ [])) ∙ values_more (list_passed ys) (passed_of y)))
 

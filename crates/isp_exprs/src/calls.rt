@@ -2,9 +2,9 @@
 ghost use Rattle.std.specs.Prelude.{◌≡◌, ◌++◌, IfOk, OnOk, option_map, slice_get};
 ghost use Rattle.isp_typed.specs.Verdicts.{both, found, made};
 ghost use Rattle.isp_typed.specs.Typed.{t_arguments};
-ghost use Rattle.isp_typed.specs.Views.{expr_of, exprs_of, base_of, arguments_of, call_of as typed_call};
+ghost use Rattle.isp_typed.specs.Views.{base_of, arguments_of};
 ghost use Rattle.isp_exprs.specs.Calls.{arguments_among, answered, array_fits, base_fits, call_of, destination, function_call, handed_call, handed_name, loaded, packed_load, packed_store, suits, value_called, values_among};
-ghost use Rattle.isp_exprs.specs.reader.Parts.{argument_in, base_passed, called_of, destination_passed, handed_of, list_passed, passed_of, value_in, value_passed};
+ghost use Rattle.isp_exprs.specs.reader.Parts.{argument_in, base_passed, boxed_of, boxes_of, called_of, destination_passed, handed_of, list_passed, passed_of, value_in, value_passed};
 
 use crate::callee::{Callee, Want};
 use crate::library::library_call;
@@ -21,7 +21,7 @@ use std::alloc::{AllocError, Global};
 /// What an argument is by itself. A span is that of the name.
 #[derive(Drop)]
 pub enum Handed {
-    Value(TypedExpr),
+    Value(Box<TypedExpr>),
     /// A call of a function without a result.
     Run(TypedCall),
     /// An array's name.
@@ -29,13 +29,13 @@ pub enum Handed {
     /// `&x` or `&a`.
     Name(Known, Span),
     /// `&a[e]`.
-    Element(Known, Span, TypedExpr),
+    Element(Known, Span, Box<TypedExpr>),
 }
 
 /// What an argument is where it fits what is asked.
 #[derive(Drop)]
 pub enum Passed {
-    Value(TypedExpr),
+    Value(Box<TypedExpr>),
     Array(ArrayVariable, Span),
     Base(TypedBase),
     /// The variable that a packed call loads, its type, and where the argument stands.
@@ -47,20 +47,23 @@ pub enum Passed {
 /// What a call is: a value, or a call of a function without a result.
 #[derive(Drop)]
 pub enum Called {
-    Value(TypedExpr),
+    Value(Box<TypedExpr>),
     Run(TypedCall),
 }
 
 /// A name as an argument: the value of a variable, or an array.
-fn name_handed(known: Known, span: Span) -> Handed
-    ensures { handed_of result ≡ handed_name span known }
+fn name_handed(alloc: Global, known: Known, span: Span) -> Result<Handed, AllocError>
+    ensures { IfOk result (λ h. handed_of h ≡ handed_name span known) }
 {
     match known.variable.holds {
-        Holds::Value(ty) => Handed::Value(TypedExpr::Place(TypedPlace::Variable {
-            number: known.number,
-            ty,
-            span,
-        })),
+        Holds::Value(ty) => {
+            let value = TypedExpr::Place(TypedPlace::Variable {
+                number: known.number,
+                ty,
+                span,
+            });
+            Ok(Handed::Value(Box::new(alloc, value)?))
+        }
         Holds::Given(elem) => {
             let ty = Ty {
                 rate: Rate::Uniform,
@@ -71,7 +74,7 @@ fn name_handed(known: Known, span: Span) -> Handed
                 ty,
                 constant: known.variable.constant,
             };
-            Handed::Array(array, span)
+            Ok(Handed::Array(array, span))
         }
         Holds::Local(ty, _) => {
             let array = ArrayVariable {
@@ -79,18 +82,22 @@ fn name_handed(known: Known, span: Span) -> Handed
                 ty,
                 constant: known.variable.constant,
             };
-            Handed::Array(array, span)
+            Ok(Handed::Array(array, span))
         }
     }
 }
 
 /// A name as an argument.
-pub fn handed_name(known: Verdict<Known>, span: Span) -> Verdict<Handed>
-    ensures { made handed_of result ≡ made (handed_name span) known }
+pub fn handed_name(
+    alloc: Global,
+    known: Verdict<Known>,
+    span: Span,
+) -> Result<Verdict<Handed>, AllocError>
+    ensures { IfOk result (λ v. made handed_of v ≡ made (handed_name span) known) }
 {
     match known {
-        Ok(known) => Ok(name_handed(known, span)),
-        Err(fault) => Err(fault),
+        Ok(known) => Ok(Ok(name_handed(alloc, known, span)?)),
+        Err(fault) => Ok(Err(fault)),
     }
 }
 
@@ -121,43 +128,32 @@ fn base_fits(stored: bool, span: Span, array: ArrayVariable, base: TypedBase) ->
 }
 
 /// An argument as the base of a packed call.
-fn as_base(
-    alloc: Global,
-    stored: bool,
-    span: Span,
-    handed: Handed,
-) -> Result<Verdict<Passed>, AllocError>
-    ensures { IfOk result (λ v. made passed_of v ≡ suits (Want.Base stored) span (handed_of handed)) }
+fn as_base(stored: bool, span: Span, handed: Handed) -> Verdict<Passed>
+    ensures { made passed_of result ≡ suits (Want.Base stored) span (handed_of handed) }
 {
     match handed {
-        Handed::Array(array, name) => Ok(base_fits(
+        Handed::Array(array, name) => base_fits(
             stored,
             span,
             array,
             TypedBase::Whole { array, span: name },
-        )),
+        ),
         Handed::Name(known, name) => match array_of(known) {
-            Some(array) => Ok(base_fits(
-                stored,
-                span,
-                array,
-                TypedBase::Whole { array, span: name },
-            )),
-            None => Ok(Err(mismatch(span))),
+            Some(array) => base_fits(stored, span, array, TypedBase::Whole { array, span: name }),
+            None => Err(mismatch(span)),
         },
         Handed::Element(known, name, index) => match array_of(known) {
             Some(array) => {
-                let index = Box::new(alloc, index)?;
                 let base = TypedBase::From {
                     array,
                     index,
                     span: name,
                 };
-                Ok(base_fits(stored, span, array, base))
+                base_fits(stored, span, array, base)
             }
-            None => Ok(Err(mismatch(span))),
+            None => Err(mismatch(span)),
         },
-        Handed::Value(_) | Handed::Run(_) => Ok(Err(mismatch(span))),
+        Handed::Value(_) | Handed::Run(_) => Err(mismatch(span)),
     }
 }
 
@@ -206,7 +202,7 @@ fn suit(
             Handed::Array(array, _) => Ok(array_fits(elem, constant, span, array)),
             _ => Ok(Err(mismatch(span))),
         },
-        Want::Base { stored } => as_base(alloc, stored, span, handed),
+        Want::Base { stored } => Ok(as_base(stored, span, handed)),
         Want::Destination => match handed {
             Handed::Name(known, _) => Ok(destination(span, known)),
             _ => Ok(Err(mismatch(span))),
@@ -231,8 +227,8 @@ pub fn suits(
 }
 
 /// The value that a call gives. 22 Mismatch at the call where it gives none.
-pub fn value_called(called: Verdict<Called>, span: Span) -> Verdict<TypedExpr>
-    ensures { made expr_of result ≡ found (value_called span) (made called_of called) }
+pub fn value_called(called: Verdict<Called>, span: Span) -> Verdict<Box<TypedExpr>>
+    ensures { made boxed_of result ≡ found (value_called span) (made called_of called) }
 {
     match called {
         Ok(Called::Value(x)) => Ok(x),
@@ -253,8 +249,8 @@ pub fn handed_call(called: Verdict<Called>) -> Verdict<Handed>
 }
 
 /// One value more, if a value is passed.
-fn push_value(values: &mut Vec<TypedExpr>, passed: Passed) -> Result<(), AllocError>
-    ensures { OnOk result (exprs_of values.new.items ≡ exprs_of values.old.items ++ value_in (passed_of passed)) }
+fn push_value(values: &mut Vec<Box<TypedExpr>>, passed: Passed) -> Result<(), AllocError>
+    ensures { OnOk result (boxes_of values.new.items ≡ boxes_of values.old.items ++ value_in (passed_of passed)) }
 {
     match passed {
         Passed::Value(x) => {
@@ -267,8 +263,8 @@ fn push_value(values: &mut Vec<TypedExpr>, passed: Passed) -> Result<(), AllocEr
 }
 
 /// The values among what is passed.
-fn values_among(alloc: Global, passed: Vec<Passed>) -> Result<Vec<TypedExpr>, AllocError>
-    ensures { IfOk result (λ l. exprs_of l.items ≡ values_among (list_passed passed.items)) }
+fn values_among(alloc: Global, passed: Vec<Passed>) -> Result<Vec<Box<TypedExpr>>, AllocError>
+    ensures { IfOk result (λ l. boxes_of l.items ≡ values_among (list_passed passed.items)) }
 {
     let mut values = Vec::new(alloc);
     for part in passed {
@@ -283,7 +279,7 @@ fn push_argument(arguments: &mut Vec<TypedArgument>, passed: Passed) -> Result<(
 {
     match passed {
         Passed::Value(x) => {
-            arguments.push(TypedArgument::Value(x))?;
+            arguments.push(TypedArgument::Value(Box::into_inner(x)))?;
             Ok(())
         }
         Passed::Array(array, span) => {
@@ -324,7 +320,7 @@ fn function_call(
     };
     match answer {
         None => Ok(Called::Run(call)),
-        Some(ty) => Ok(Called::Value(TypedExpr::Call { call, ty })),
+        Some(ty) => Ok(Called::Value(Box::new(alloc, TypedExpr::Call { call, ty })?)),
     }
 }
 
@@ -349,8 +345,8 @@ fn base_passed(passed: Option<Passed>) -> Option<TypedBase>
 }
 
 /// The value that is passed, if it is one.
-fn value_passed(passed: Option<Passed>) -> Option<TypedExpr>
-    ensures { option_map expr_of result ≡ value_passed (option_map passed_of passed) }
+fn value_passed(passed: Option<Passed>) -> Option<Box<TypedExpr>>
+    ensures { option_map boxed_of result ≡ value_passed (option_map passed_of passed) }
 {
     match passed {
         Some(Passed::Value(x)) => Some(x),
@@ -384,42 +380,51 @@ fn packed_store(
         return Ok(Err(mismatch(span)));
     };
     let value = converted(alloc, base.array().ty.elem, x)?;
-    Ok(Ok(Called::Value(TypedExpr::PackedStore {
-        base,
-        value: Box::new(alloc, value)?,
-        span,
-    })))
+    let store = TypedExpr::PackedStore { base, value, span };
+    Ok(Ok(Called::Value(Box::new(alloc, store)?)))
 }
 
 /// What a packed call loads: a variable of the array's element type, not constant.
-fn loaded(base: TypedBase, known: Known, ty: Ty, place: Span, span: Span) -> Verdict<Called>
-    ensures { made called_of result ≡ loaded span (base_of base) known ty place }
+fn loaded(
+    alloc: Global,
+    base: TypedBase,
+    known: Known,
+    ty: Ty,
+    place: Span,
+    span: Span,
+) -> Result<Verdict<Called>, AllocError>
+    ensures { IfOk result (λ v. made called_of v ≡ loaded span (base_of base) known ty place) }
 {
     if ty.elem != base.array().ty.elem {
-        Err(mismatch(place))
-    } else if known.variable.constant {
-        Err(const_assigned(place))
-    } else {
-        Ok(Called::Value(TypedExpr::PackedLoad {
-            base,
-            variable: known.number,
-            span,
-        }))
+        return Ok(Err(mismatch(place)));
     }
+    if known.variable.constant {
+        return Ok(Err(const_assigned(place)));
+    }
+    let load = TypedExpr::PackedLoad {
+        base,
+        variable: known.number,
+        span,
+    };
+    Ok(Ok(Called::Value(Box::new(alloc, load)?)))
 }
 
 /// `packed_load_active` of what is passed.
-fn packed_load(passed: Vec<Passed>, span: Span) -> Verdict<Called>
-    ensures { made called_of result ≡ packed_load span (list_passed passed.items) }
+fn packed_load(
+    alloc: Global,
+    passed: Vec<Passed>,
+    span: Span,
+) -> Result<Verdict<Called>, AllocError>
+    ensures { IfOk result (λ v. made called_of v ≡ packed_load span (list_passed passed.items)) }
 {
     let (first, second) = first_two(passed);
     let Some(base) = base_passed(first) else {
-        return Err(mismatch(span));
+        return Ok(Err(mismatch(span)));
     };
     let Some((known, ty, place)) = destination_passed(second) else {
-        return Err(mismatch(span));
+        return Ok(Err(mismatch(span)));
     };
-    loaded(base, known, ty, place, span)
+    loaded(alloc, base, known, ty, place, span)
 }
 
 /// A call of what is passed. 23 Arguments at the call where their number is wrong.
@@ -446,7 +451,7 @@ fn make_call(
             Ok(Ok(Called::Value(library_call(alloc, function, values, span)?)))
         }
         Callee::PackedStore => packed_store(alloc, passed, span),
-        Callee::PackedLoad => Ok(packed_load(passed, span)),
+        Callee::PackedLoad => packed_load(alloc, passed, span),
     }
 }
 

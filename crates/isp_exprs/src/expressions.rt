@@ -1,15 +1,15 @@
 //! Expressions.
-ghost use Rattle.std.specs.Prelude.{◌≡◌, IfOk, drop};
+ghost use Rattle.std.specs.Prelude.{◌≡◌, IfOk, Ok, drop};
 ghost use Rattle.isp_tree.specs.Views.{argument_of as read_argument, arguments_of as read_arguments, expr_of as read_expr, place_of as read_place};
 ghost use Rattle.isp_tree.specs.Tree.{listed};
-ghost use Rattle.isp_typed.specs.Typed.{t_place};
+ghost use Rattle.isp_typed.specs.Typed.{t_constant, t_place, t_program_index};
 ghost use Rattle.isp_typed.specs.Verdicts.{both, made};
-ghost use Rattle.isp_typed.specs.Views.{expr_of, place_of};
+ghost use Rattle.isp_typed.specs.Views.{place_of};
 ghost use Rattle.isp_exprs.specs.Calls.{first_want, h_value};
 ghost use Rattle.isp_exprs.specs.Rules.{handed_element, handed_reference};
 ghost use Rattle.isp_exprs.specs.reader.Judge.{judge, judge_argument, judge_arguments, judge_place};
 ghost use Rattle.isp_exprs.specs.reader.Lists.{and_one, judged_call};
-ghost use Rattle.isp_exprs.specs.reader.Parts.{called_of, handed_of, list_passed, passed_of};
+ghost use Rattle.isp_exprs.specs.reader.Parts.{boxed_of, called_of, handed_of, list_passed, passed_of};
 
 use crate::callee::{Headers, Want, unless_unknown};
 use crate::calls::{
@@ -19,7 +19,7 @@ use crate::places::{element_at, variable_at};
 use crate::scope::{Known, Scope};
 use crate::values::{cast_to, choice, count_value, in_brackets, joined, truth_value, with_sign};
 use crate::words::value_said;
-use isp_base::{Gang, Span};
+use isp_base::{Gang, Span, Value};
 use isp_tree::{Argument, Expr, Place, Word};
 use isp_typed::{TypedExpr, TypedPlace, Verdict, both};
 use std::alloc::{AllocError, Global};
@@ -33,18 +33,35 @@ pub struct Setting<'a> {
 }
 
 /// A place as an expression.
-fn of_place(place: Verdict<TypedPlace>) -> Verdict<TypedExpr>
-    ensures { made expr_of result ≡ made t_place (made place_of place) }
+fn of_place(
+    alloc: Global,
+    place: Verdict<TypedPlace>,
+) -> Result<Verdict<Box<TypedExpr>>, AllocError>
+    ensures { IfOk result (λ v. made boxed_of v ≡ made t_place (made place_of place)) }
 {
     match place {
-        Ok(place) => Ok(TypedExpr::Place(place)),
-        Err(fault) => Err(fault),
+        Ok(place) => Ok(Ok(Box::new(alloc, TypedExpr::Place(place))?)),
+        Err(fault) => Ok(Err(fault)),
     }
 }
 
+/// A number.
+fn constant(alloc: Global, value: Value, span: Span) -> Result<Verdict<Box<TypedExpr>>, AllocError>
+    ensures { IfOk result (λ v. made boxed_of v ≡ Ok (t_constant value span)) }
+{
+    Ok(Ok(Box::new(alloc, TypedExpr::Constant { value, span })?))
+}
+
+/// `programIndex`.
+fn index(alloc: Global, span: Span) -> Result<Verdict<Box<TypedExpr>>, AllocError>
+    ensures { IfOk result (λ v. made boxed_of v ≡ Ok (t_program_index span)) }
+{
+    Ok(Ok(Box::new(alloc, TypedExpr::ProgramIndex { span })?))
+}
+
 /// A value as an argument.
-fn handed_value(value: Verdict<TypedExpr>) -> Verdict<Handed>
-    ensures { made handed_of result ≡ made h_value (made expr_of value) }
+fn handed_value(value: Verdict<Box<TypedExpr>>) -> Verdict<Handed>
+    ensures { made handed_of result ≡ made h_value (made boxed_of value) }
 {
     match value {
         Ok(value) => Ok(Handed::Value(value)),
@@ -63,8 +80,12 @@ fn handed_reference(known: Verdict<Known>, span: Span) -> Verdict<Handed>
 }
 
 /// `&a[e]` as an argument.
-fn handed_element(known: Verdict<Known>, index: Verdict<TypedExpr>, span: Span) -> Verdict<Handed>
-    ensures { made handed_of result ≡ made (handed_element span) (both known (made expr_of index)) }
+fn handed_element(
+    known: Verdict<Known>,
+    index: Verdict<Box<TypedExpr>>,
+    span: Span,
+) -> Verdict<Handed>
+    ensures { made handed_of result ≡ made (handed_element span) (both known (made boxed_of index)) }
 {
     match both(known, index) {
         Ok((known, index)) => Ok(Handed::Element(known, span, index)),
@@ -107,7 +128,7 @@ pub fn place(setting: &Setting, scope: &Scope, p: &Place) -> Result<Verdict<Type
         Place::Variable(word) => Ok(variable_at(scope.named(word), word.span)),
         Place::Element { array, index, span } => {
             let index = expr(setting, scope, index)?;
-            element_at(setting.alloc, scope.named(array), index, *span)
+            Ok(element_at(scope.named(array), index, *span))
         }
     }
 }
@@ -119,7 +140,9 @@ fn argument(setting: &Setting, scope: &Scope, x: &Argument) -> Result<Verdict<Ha
 {
     match x {
         Argument::Value(value) => match value {
-            Expr::Place(Place::Variable(word)) => Ok(handed_name(scope.named(word), word.span)),
+            Expr::Place(Place::Variable(word)) => {
+                handed_name(setting.alloc, scope.named(word), word.span)
+            }
             Expr::Call {
                 function,
                 arguments,
@@ -198,27 +221,22 @@ pub fn call(
 
 /// An expression with its types, by the names in scope.
 #[cycle(expr)]
-pub fn expr(setting: &Setting, scope: &Scope, x: &Expr) -> Result<Verdict<TypedExpr>, AllocError>
-    ensures { IfOk result (λ v. made expr_of v ≡ judge setting.now.gang setting.now.headers.now scope.now (read_expr x.now)) }
+pub fn expr(
+    setting: &Setting,
+    scope: &Scope,
+    x: &Expr,
+) -> Result<Verdict<Box<TypedExpr>>, AllocError>
+    ensures { IfOk result (λ v. made boxed_of v ≡ judge setting.now.gang setting.now.headers.now scope.now (read_expr x.now)) }
 {
     let alloc = setting.alloc;
     match x {
-        Expr::Number { value, span } => Ok(Ok(TypedExpr::Constant {
-            value: *value,
-            span: *span,
-        })),
-        Expr::Truth { value, span } => Ok(Ok(TypedExpr::Constant {
-            value: truth_value(*value),
-            span: *span,
-        })),
-        Expr::ProgramIndex { span } => Ok(Ok(TypedExpr::ProgramIndex { span: *span })),
-        Expr::ProgramCount { span } => Ok(Ok(TypedExpr::Constant {
-            value: count_value(setting.gang),
-            span: *span,
-        })),
+        Expr::Number { value, span } => constant(alloc, *value, *span),
+        Expr::Truth { value, span } => constant(alloc, truth_value(*value), *span),
+        Expr::ProgramIndex { span } => index(alloc, *span),
+        Expr::ProgramCount { span } => constant(alloc, count_value(setting.gang), *span),
         Expr::Place(p) => {
             let found = place(setting, scope, p)?;
-            Ok(of_place(found))
+            of_place(alloc, found)
         }
         Expr::Call {
             function,

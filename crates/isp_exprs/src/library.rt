@@ -1,7 +1,8 @@
 //! Calls of the library's functions on values.
 ghost use Rattle.std.specs.Prelude.{◌≡◌, IfOk, map};
 ghost use Rattle.isp_typed.specs.Typed.{t_exprs};
-ghost use Rattle.isp_typed.specs.Views.{expr_of, exprs_of};
+ghost use Rattle.isp_typed.specs.Views.{exprs_of};
+ghost use Rattle.isp_exprs.specs.reader.Parts.{boxed_of, boxes_of};
 ghost use Rattle.isp_exprs.specs.Values.{elem_of};
 ghost use Rattle.isp_exprs.specs.Calls.{as_parts, library_call, rate_all, worked_in};
 
@@ -11,8 +12,8 @@ use isp_typed::{Library, Part, TypedExpr};
 use std::alloc::{AllocError, Global};
 
 /// The element types of values.
-fn elems(alloc: Global, values: &[TypedExpr]) -> Result<Vec<Elem>, AllocError>
-    ensures { IfOk result (λ l. l.items ≡ map elem_of (exprs_of values.now)) }
+fn elems(alloc: Global, values: &[Box<TypedExpr>]) -> Result<Vec<Elem>, AllocError>
+    ensures { IfOk result (λ l. l.items ≡ map elem_of (boxes_of values.now)) }
 {
     let mut all = Vec::new(alloc);
     for value in values {
@@ -36,8 +37,8 @@ fn worked_in(function: Library, elems: &[Elem]) -> Elem
 }
 
 /// Varying where one of the values is.
-fn rate_all(values: &[TypedExpr]) -> Rate
-    ensures { result ≡ rate_all (exprs_of values.now) }
+fn rate_all(values: &[Box<TypedExpr>]) -> Rate
+    ensures { result ≡ rate_all (boxes_of values.now) }
 {
     let mut rate = Rate::Uniform;
     for value in values {
@@ -51,14 +52,14 @@ fn as_parts(
     alloc: Global,
     worked: Elem,
     parts: &[Part],
-    values: Vec<TypedExpr>,
+    values: Vec<Box<TypedExpr>>,
 ) -> Result<Vec<TypedExpr>, AllocError>
-    ensures { IfOk result (λ l. t_exprs (exprs_of l.items) ≡ as_parts worked parts.now (exprs_of values.items)) }
+    ensures { IfOk result (λ l. t_exprs (exprs_of l.items) ≡ as_parts worked parts.now (boxes_of values.items)) }
 {
     let mut all = Vec::new(alloc);
     for (part, value) in parts.iter().zip(values) {
         let value = converted(alloc, part.elem(worked), value)?;
-        all.push(value)?;
+        all.push(Box::into_inner(value))?;
     }
     Ok(all)
 }
@@ -67,20 +68,21 @@ fn as_parts(
 pub fn library_call(
     alloc: Global,
     function: Library,
-    values: Vec<TypedExpr>,
+    values: Vec<Box<TypedExpr>>,
     span: Span,
-) -> Result<TypedExpr, AllocError>
-    ensures { IfOk result (λ t. expr_of t ≡ library_call function span (exprs_of values.items)) }
+) -> Result<Box<TypedExpr>, AllocError>
+    ensures { IfOk result (λ t. boxed_of t ≡ library_call function span (boxes_of values.items)) }
 {
     let elems = elems(alloc, &values)?;
     let elem = worked_in(function, &elems);
     let ty = function.ty(elem, rate_all(&values));
     let values = as_parts(alloc, elem, function.parts(), values)?;
-    Ok(TypedExpr::Library {
+    let call = TypedExpr::Library {
         function,
         elem,
         values,
         ty,
         span,
-    })
+    };
+    Ok(Box::new(alloc, call)?)
 }

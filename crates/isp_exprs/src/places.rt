@@ -1,7 +1,8 @@
 //! What a name is where it stands: a value, an array, a place that is stored to.
-ghost use Rattle.std.specs.Prelude.{◌≡◌, IfOk};
+ghost use Rattle.std.specs.Prelude.{◌≡◌};
 ghost use Rattle.isp_typed.specs.Verdicts.{both, found, made};
-ghost use Rattle.isp_typed.specs.Views.{expr_of, place_of};
+ghost use Rattle.isp_typed.specs.Views.{place_of};
+ghost use Rattle.isp_exprs.specs.reader.Parts.{boxed_of};
 ghost use Rattle.isp_exprs.specs.Places.{array_of, as_array, element_at, element_target, mismatch, variable_at, variable_target};
 
 use crate::scope::Known;
@@ -9,7 +10,6 @@ use crate::values::rate_or;
 use isp_base::{Rate, Span, Ty};
 use isp_lex::{Fault, Rule};
 use isp_typed::{ArrayVariable, Holds, TypedExpr, TypedPlace, Verdict, both};
-use std::alloc::{AllocError, Global};
 
 /// 22 Mismatch at a place.
 pub fn mismatch(span: Span) -> Fault
@@ -83,41 +83,35 @@ pub fn variable_at(known: Verdict<Known>, span: Span) -> Verdict<TypedPlace>
 }
 
 /// The element of an array at an index.
-fn element_of(
-    alloc: Global,
-    known: Known,
-    index: TypedExpr,
-    span: Span,
-) -> Result<Verdict<TypedPlace>, AllocError>
-    ensures { IfOk result (λ v. made place_of v ≡ element_at span (known, expr_of index)) }
+fn element_of(known: Known, index: Box<TypedExpr>, span: Span) -> Verdict<TypedPlace>
+    ensures { made place_of result ≡ element_at span (known, boxed_of index) }
 {
     let Some(array) = array_of(known) else {
-        return Ok(Err(mismatch(span)));
+        return Err(mismatch(span));
     };
     let ty = Ty {
         rate: rate_or(array.ty.rate, index.ty().rate),
         elem: array.ty.elem,
     };
-    Ok(Ok(TypedPlace::Element {
+    Ok(TypedPlace::Element {
         array,
-        index: Box::new(alloc, index)?,
+        index,
         ty,
         span,
-    }))
+    })
 }
 
 /// The element at an index of the array that a name stands for.
 pub fn element_at(
-    alloc: Global,
     known: Verdict<Known>,
-    index: Verdict<TypedExpr>,
+    index: Verdict<Box<TypedExpr>>,
     span: Span,
-) -> Result<Verdict<TypedPlace>, AllocError>
-    ensures { IfOk result (λ v. made place_of v ≡ found (element_at span) (both known (made expr_of index))) }
+) -> Verdict<TypedPlace>
+    ensures { made place_of result ≡ found (element_at span) (both known (made boxed_of index)) }
 {
     match both(known, index) {
-        Ok((known, index)) => element_of(alloc, known, index, span),
-        Err(fault) => Ok(Err(fault)),
+        Ok((known, index)) => element_of(known, index, span),
+        Err(fault) => Err(fault),
     }
 }
 
@@ -140,22 +134,21 @@ pub fn variable_target(known: Verdict<Known>, span: Span) -> Verdict<TypedPlace>
 
 /// The element at an index of the array that a name stands for, to be assigned.
 pub fn element_target(
-    alloc: Global,
     known: Verdict<Known>,
-    index: Verdict<TypedExpr>,
+    index: Verdict<Box<TypedExpr>>,
     span: Span,
-) -> Result<Verdict<TypedPlace>, AllocError>
-    ensures { IfOk result (λ v. made place_of v ≡ found (element_target span) (both known (made expr_of index))) }
+) -> Verdict<TypedPlace>
+    ensures { made place_of result ≡ found (element_target span) (both known (made boxed_of index)) }
 {
     match both(known, index) {
-        Ok((known, index)) => match element_of(alloc, known, index, span)? {
+        Ok((known, index)) => match element_of(known, index, span) {
             Ok(place) => if known.variable.constant {
-                Ok(Err(const_assigned(span)))
+                Err(const_assigned(span))
             } else {
-                Ok(Ok(place))
+                Ok(place)
             },
-            Err(fault) => Ok(Err(fault)),
+            Err(fault) => Err(fault),
         },
-        Err(fault) => Ok(Err(fault)),
+        Err(fault) => Err(fault),
     }
 }

@@ -1,7 +1,7 @@
 //! Typed expressions of typed parts: conversions, and the type of each operator.
 ghost use Rattle.std.specs.Prelude.{◌≡◌, IfOk};
 ghost use Rattle.isp_typed.specs.Verdicts.{both, made};
-ghost use Rattle.isp_typed.specs.Views.{expr_of};
+ghost use Rattle.isp_exprs.specs.reader.Parts.{boxed_of};
 ghost use Rattle.isp_exprs.specs.Values.{cast_to, choice, chosen, converted, count_value, in_brackets, joined, joining, joins, rate_cast, rate_or, truth_value, unary_as, with_sign, computes, compares, decides};
 
 use crate::words::ValueWords;
@@ -30,16 +30,13 @@ pub fn rate_or(a: Rate, b: Rate) -> Rate
 }
 
 /// A value as one of an element type: a conversion where it has another.
-pub fn converted(alloc: Global, elem: Elem, x: TypedExpr) -> Result<TypedExpr, AllocError>
-    ensures { IfOk result (λ t. expr_of t ≡ converted elem (expr_of x)) }
+pub fn converted(alloc: Global, elem: Elem, x: Box<TypedExpr>) -> Result<Box<TypedExpr>, AllocError>
+    ensures { IfOk result (λ t. boxed_of t ≡ converted elem (boxed_of x)) }
 {
     if x.ty().elem == elem {
         return Ok(x);
     }
-    Ok(TypedExpr::Convert {
-        elem,
-        operand: Box::new(alloc, x)?,
-    })
+    Ok(Box::new(alloc, TypedExpr::Convert { elem, operand: x })?)
 }
 
 /// The type of `?:` and of `select`: bool where both are, else the common type.
@@ -75,19 +72,20 @@ pub fn count_value(gang: Gang) -> Value
 /// A value in brackets.
 pub fn in_brackets(
     alloc: Global,
-    inner: Verdict<TypedExpr>,
+    inner: Verdict<Box<TypedExpr>>,
     span: Span,
-) -> Result<Verdict<TypedExpr>, AllocError>
-    ensures { IfOk result (λ v. made expr_of v ≡ made (in_brackets span) (made expr_of inner)) }
+) -> Result<Verdict<Box<TypedExpr>>, AllocError>
+    ensures { IfOk result (λ v. made boxed_of v ≡ made (in_brackets span) (made boxed_of inner)) }
 {
     match inner {
         Ok(inner) => {
             let ty = inner.ty();
-            Ok(Ok(TypedExpr::Cast {
-                operand: Box::new(alloc, inner)?,
+            let cast = TypedExpr::Cast {
+                operand: inner,
                 ty,
                 span,
-            }))
+            };
+            Ok(Ok(Box::new(alloc, cast)?))
         }
         Err(fault) => Ok(Err(fault)),
     }
@@ -102,29 +100,30 @@ fn rate_cast(said: Option<Rate>, rate: Rate) -> Rate
     }
 }
 
-fn cast(alloc: Global, words: ValueWords, x: TypedExpr, span: Span) -> Result<TypedExpr, AllocError>
-    ensures { IfOk result (λ t. expr_of t ≡ cast_to span (words, expr_of x)) }
+fn cast(
+    alloc: Global,
+    words: ValueWords,
+    x: Box<TypedExpr>,
+    span: Span,
+) -> Result<Box<TypedExpr>, AllocError>
+    ensures { IfOk result (λ t. boxed_of t ≡ cast_to span (words, boxed_of x)) }
 {
     let ty = Ty {
         rate: rate_cast(words.rate, x.ty().rate),
         elem: words.elem,
     };
-    let x = converted(alloc, words.elem, x)?;
-    Ok(TypedExpr::Cast {
-        operand: Box::new(alloc, x)?,
-        ty,
-        span,
-    })
+    let operand = converted(alloc, words.elem, x)?;
+    Ok(Box::new(alloc, TypedExpr::Cast { operand, ty, span })?)
 }
 
 /// A cast to what words say.
 pub fn cast_to(
     alloc: Global,
     words: Verdict<ValueWords>,
-    x: Verdict<TypedExpr>,
+    x: Verdict<Box<TypedExpr>>,
     span: Span,
-) -> Result<Verdict<TypedExpr>, AllocError>
-    ensures { IfOk result (λ v. made expr_of v ≡ made (cast_to span) (both words (made expr_of x))) }
+) -> Result<Verdict<Box<TypedExpr>>, AllocError>
+    ensures { IfOk result (λ v. made boxed_of v ≡ made (cast_to span) (both words (made boxed_of x))) }
 {
     match both(words, x) {
         Ok((words, x)) => Ok(Ok(cast(alloc, words, x, span)?)),
@@ -137,32 +136,33 @@ fn unary_as(
     alloc: Global,
     operator: UnaryOp,
     elem: Elem,
-    x: TypedExpr,
+    x: Box<TypedExpr>,
     span: Span,
-) -> Result<TypedExpr, AllocError>
-    ensures { IfOk result (λ t. expr_of t ≡ unary_as operator elem span (expr_of x)) }
+) -> Result<Box<TypedExpr>, AllocError>
+    ensures { IfOk result (λ t. boxed_of t ≡ unary_as operator elem span (boxed_of x)) }
 {
     let ty = Ty {
         rate: x.ty().rate,
         elem,
     };
-    let x = converted(alloc, elem, x)?;
-    Ok(TypedExpr::Unary {
+    let operand = converted(alloc, elem, x)?;
+    let unary = TypedExpr::Unary {
         operator,
-        operand: Box::new(alloc, x)?,
+        operand,
         ty,
         span,
-    })
+    };
+    Ok(Box::new(alloc, unary)?)
 }
 
 /// An operator and its operand.
 pub fn with_sign(
     alloc: Global,
     prefix: Prefix,
-    x: Verdict<TypedExpr>,
+    x: Verdict<Box<TypedExpr>>,
     span: Span,
-) -> Result<Verdict<TypedExpr>, AllocError>
-    ensures { IfOk result (λ v. made expr_of v ≡ made (with_sign prefix span) (made expr_of x)) }
+) -> Result<Verdict<Box<TypedExpr>>, AllocError>
+    ensures { IfOk result (λ v. made boxed_of v ≡ made (with_sign prefix span) (made boxed_of x)) }
 {
     match x {
         Ok(x) => {
@@ -208,83 +208,83 @@ fn make_joining(operator: Operator) -> Joining
 fn computes(
     alloc: Global,
     operator: BinOp,
-    x: TypedExpr,
-    y: TypedExpr,
+    x: Box<TypedExpr>,
+    y: Box<TypedExpr>,
     span: Span,
-) -> Result<TypedExpr, AllocError>
-    ensures { IfOk result (λ t. expr_of t ≡ computes span (expr_of x) (expr_of y) operator) }
+) -> Result<Box<TypedExpr>, AllocError>
+    ensures { IfOk result (λ t. boxed_of t ≡ computes span (boxed_of x) (boxed_of y) operator) }
 {
     let ty = Ty {
         rate: rate_or(x.ty().rate, y.ty().rate),
         elem: common(x.ty().elem, y.ty().elem),
     };
-    let x = converted(alloc, ty.elem, x)?;
-    let y = converted(alloc, ty.elem, y)?;
-    let left = Box::new(alloc, x)?;
-    Ok(TypedExpr::Binary {
+    let left = converted(alloc, ty.elem, x)?;
+    let right = converted(alloc, ty.elem, y)?;
+    let binary = TypedExpr::Binary {
         operator,
         left,
-        right: Box::new(alloc, y)?,
+        right,
         ty,
         span,
-    })
+    };
+    Ok(Box::new(alloc, binary)?)
 }
 
 /// Two values of the common type, a comparison between them.
 fn compares(
     alloc: Global,
     comparison: Compare,
-    x: TypedExpr,
-    y: TypedExpr,
+    x: Box<TypedExpr>,
+    y: Box<TypedExpr>,
     span: Span,
-) -> Result<TypedExpr, AllocError>
-    ensures { IfOk result (λ t. expr_of t ≡ compares span (expr_of x) (expr_of y) comparison) }
+) -> Result<Box<TypedExpr>, AllocError>
+    ensures { IfOk result (λ t. boxed_of t ≡ compares span (boxed_of x) (boxed_of y) comparison) }
 {
     let rate = rate_or(x.ty().rate, y.ty().rate);
     let elem = common(x.ty().elem, y.ty().elem);
-    let x = converted(alloc, elem, x)?;
-    let y = converted(alloc, elem, y)?;
-    let left = Box::new(alloc, x)?;
-    Ok(TypedExpr::Compare {
+    let left = converted(alloc, elem, x)?;
+    let right = converted(alloc, elem, y)?;
+    let compare = TypedExpr::Compare {
         comparison,
         left,
-        right: Box::new(alloc, y)?,
+        right,
         rate,
         span,
-    })
+    };
+    Ok(Box::new(alloc, compare)?)
 }
 
 /// Two bools, `&&` or `||` between them.
 fn decides(
     alloc: Global,
     logic: Logic,
-    x: TypedExpr,
-    y: TypedExpr,
+    x: Box<TypedExpr>,
+    y: Box<TypedExpr>,
     span: Span,
-) -> Result<TypedExpr, AllocError>
-    ensures { IfOk result (λ t. expr_of t ≡ decides span (expr_of x) (expr_of y) logic) }
+) -> Result<Box<TypedExpr>, AllocError>
+    ensures { IfOk result (λ t. boxed_of t ≡ decides span (boxed_of x) (boxed_of y) logic) }
 {
     let rate = rate_or(x.ty().rate, y.ty().rate);
-    let x = converted(alloc, Elem::Bool, x)?;
-    let y = converted(alloc, Elem::Bool, y)?;
-    let left = Box::new(alloc, x)?;
-    Ok(TypedExpr::Logic {
+    let left = converted(alloc, Elem::Bool, x)?;
+    let right = converted(alloc, Elem::Bool, y)?;
+    let decision = TypedExpr::Logic {
         logic,
         left,
-        right: Box::new(alloc, y)?,
+        right,
         rate,
         span,
-    })
+    };
+    Ok(Box::new(alloc, decision)?)
 }
 
 fn joins(
     alloc: Global,
     joining: Joining,
-    x: TypedExpr,
-    y: TypedExpr,
+    x: Box<TypedExpr>,
+    y: Box<TypedExpr>,
     span: Span,
-) -> Result<TypedExpr, AllocError>
-    ensures { IfOk result (λ t. expr_of t ≡ joins span (expr_of x) (expr_of y) joining) }
+) -> Result<Box<TypedExpr>, AllocError>
+    ensures { IfOk result (λ t. boxed_of t ≡ joins span (boxed_of x) (boxed_of y) joining) }
 {
     match joining {
         Joining::Computes(operator) => computes(alloc, operator, x, y, span),
@@ -297,11 +297,11 @@ fn joins(
 pub fn joined(
     alloc: Global,
     operator: Operator,
-    x: Verdict<TypedExpr>,
-    y: Verdict<TypedExpr>,
+    x: Verdict<Box<TypedExpr>>,
+    y: Verdict<Box<TypedExpr>>,
     span: Span,
-) -> Result<Verdict<TypedExpr>, AllocError>
-    ensures { IfOk result (λ v. made expr_of v ≡ made (joined operator span) (both (made expr_of x) (made expr_of y))) }
+) -> Result<Verdict<Box<TypedExpr>>, AllocError>
+    ensures { IfOk result (λ v. made boxed_of v ≡ made (joined operator span) (both (made boxed_of x) (made boxed_of y))) }
 {
     match both(x, y) {
         Ok((x, y)) => Ok(Ok(joins(alloc, make_joining(operator), x, y, span)?)),
@@ -312,40 +312,39 @@ pub fn joined(
 /// A bool, and two values of one type.
 fn choose(
     alloc: Global,
-    test: TypedExpr,
-    x: TypedExpr,
-    y: TypedExpr,
+    test: Box<TypedExpr>,
+    x: Box<TypedExpr>,
+    y: Box<TypedExpr>,
     span: Span,
-) -> Result<TypedExpr, AllocError>
-    ensures { IfOk result (λ t. expr_of t ≡ choice span (expr_of test, (expr_of x, expr_of y))) }
+) -> Result<Box<TypedExpr>, AllocError>
+    ensures { IfOk result (λ t. boxed_of t ≡ choice span (boxed_of test, (boxed_of x, boxed_of y))) }
 {
     let ty = Ty {
         rate: rate_or(test.ty().rate, rate_or(x.ty().rate, y.ty().rate)),
         elem: chosen(x.ty().elem, y.ty().elem),
     };
     let test = converted(alloc, Elem::Bool, test)?;
-    let x = converted(alloc, ty.elem, x)?;
-    let y = converted(alloc, ty.elem, y)?;
-    let test = Box::new(alloc, test)?;
-    let then = Box::new(alloc, x)?;
-    Ok(TypedExpr::Choose {
+    let then = converted(alloc, ty.elem, x)?;
+    let otherwise = converted(alloc, ty.elem, y)?;
+    let choice = TypedExpr::Choose {
         test,
         then,
-        otherwise: Box::new(alloc, y)?,
+        otherwise,
         ty,
         span,
-    })
+    };
+    Ok(Box::new(alloc, choice)?)
 }
 
 /// `test ? x : y`.
 pub fn choice(
     alloc: Global,
-    test: Verdict<TypedExpr>,
-    x: Verdict<TypedExpr>,
-    y: Verdict<TypedExpr>,
+    test: Verdict<Box<TypedExpr>>,
+    x: Verdict<Box<TypedExpr>>,
+    y: Verdict<Box<TypedExpr>>,
     span: Span,
-) -> Result<Verdict<TypedExpr>, AllocError>
-    ensures { IfOk result (λ v. made expr_of v ≡ made (choice span) (both (made expr_of test) (both (made expr_of x) (made expr_of y)))) }
+) -> Result<Verdict<Box<TypedExpr>>, AllocError>
+    ensures { IfOk result (λ v. made boxed_of v ≡ made (choice span) (both (made boxed_of test) (both (made boxed_of x) (made boxed_of y)))) }
 {
     match both(test, both(x, y)) {
         Ok((test, (x, y))) => Ok(Ok(choose(alloc, test, x, y, span)?)),

@@ -3,3 +3,4 @@ pub mod JudgeStmts
 pub mod JudgeFunctions
 pub mod Lists
 pub mod Kinds
+pub mod Boxes
