@@ -18,14 +18,15 @@ use Rattle.isp_typed.specs.Promise.{Right, Accepts, Refuses}
 use Rattle.isp_typed.specs.Typed.{TBlock, TFunction}
 use Rattle.isp_typed.specs.Verdicts.{both, made, beside, fault_unless, first_of}
 use Rattle.isp_typed.proofs.Verdicts.{beside_made, kept_made}
-use Rattle.isp_types.specs.declared.scope.Binding.{Binding}
-use Rattle.isp_types.specs.Calls.{Heading}
-use Rattle.isp_types.specs.Words.{value_said, answer_said}
-use Rattle.isp_types.specs.Rules.{second}
+use Rattle.isp_exprs.specs.declared.scope.Binding.{Binding}
+use Rattle.isp_exprs.specs.Calls.{Heading}
+use Rattle.isp_exprs.specs.Words.{value_said, answer_said}
+use Rattle.isp_exprs.specs.Rules.{second}
 use Rattle.isp_types.specs.Functions.{param_variable, param_fits, heading, is_free, variables_of, function_made, program_made, IsProgram, Breach}
 use Rattle.isp_types.specs.reader.JudgeStmts.{twice}
 use Rattle.isp_types.specs.reader.JudgeFunctions.{judge_body, judge_function, judge_functions}
-use Rattle.isp_types.specs.reader.Lists.{and_one, fault_of, param_fault, param_names, function_of_parts}
+use Rattle.isp_exprs.specs.reader.Lists.{and_one}
+use Rattle.isp_types.specs.reader.Lists.{fault_of, param_fault, param_names, function_of_parts}
 use Rattle.isp_types.proofs.Functions.{program_right}
 use Rattle.isp_types.proofs.Joined.{joined, joined_step, beside_assoc}
 

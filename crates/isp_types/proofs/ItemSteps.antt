@@ -10,13 +10,14 @@ use Rattle.isp_tree.specs.Views.{item_of}
 use Rattle.isp_typed.specs.declared.variable.Variable.{Variable}
 use Rattle.isp_typed.specs.Verdicts.{both, made}
 use Rattle.isp_typed.specs.Typed.{TItem}
-use Rattle.isp_types.specs.declared.scope.Binding.{Binding}
-use Rattle.isp_types.specs.declared.words.ValueWords.{ValueWords}
-use Rattle.isp_types.specs.Calls.{Heading}
+use Rattle.isp_exprs.specs.declared.scope.Binding.{Binding}
+use Rattle.isp_exprs.specs.declared.words.ValueWords.{ValueWords}
+use Rattle.isp_exprs.specs.Calls.{Heading}
 use Rattle.isp_types.specs.Statements.{or_nothing, item_word, item_names, item_variables, items_names, items_variables}
 use Rattle.isp_types.specs.reader.JudgeStmts.{judge_item, judge_items, twice}
-use Rattle.isp_types.specs.reader.Lists.{and_one, judge_item_with}
-use Rattle.isp_types.proofs.Gathered.{before, before_one, split_at}
+use Rattle.isp_exprs.specs.reader.Lists.{and_one}
+use Rattle.isp_types.specs.reader.Lists.{judge_item_with}
+use Rattle.isp_exprs.proofs.Gathered.{before, before_one, split_at}
 
 module _ (gang : Gang) (r : Result ValueWords Fault) (all : List rust_item.Item) (i : ℕ) (x : rust_item.Item) (h : i < length all) (e : x ≡ get_or all i x)
     (ns after : List Binding) (vars later : List Variable) (n : after ≡ item_names gang r ns vars (item_of x)) (v : later ≡ item_variables gang r vars (item_of x)) where

@@ -7,8 +7,8 @@ use Rattle.isp_lex.specs.declared.fault.Fault.{Fault}
 use Rattle.isp_typed.specs.Verdicts.{both, made, beside, first_of}
 use Rattle.isp_typed.proofs.Order.{earlier_assoc}
 use Rattle.isp_typed.proofs.Verdicts.{both_found}
-use Rattle.isp_types.specs.Rules.{pair_then}
-use Rattle.isp_types.specs.reader.Lists.{and_one}
+use Rattle.isp_exprs.specs.Rules.{pair_then}
+use Rattle.isp_exprs.specs.reader.Lists.{and_one}
 
 -- one list behind another, each with its fault
 abbrev pub joined : {E : Type 0} → Result (List E) Fault → Result (List E) Fault → Result (List E) Fault

@@ -1,15 +1,5 @@
-pub mod Exprs
 pub mod Stmts
 pub mod Functions
-pub mod Bindings
-pub mod Shadows
-pub mod Headings
-pub mod LibraryParts
-pub mod PassedParts
-pub mod CallViews
-pub mod LibraryNames
-pub mod Gathered
-pub mod Judged
 pub mod Joined
 pub mod PartSteps
 pub mod FunctionSteps

@@ -7,9 +7,9 @@ use Rattle.isp_base.specs.declared.types.Gang.{Gang}
 use Rattle.isp_lex.specs.declared.fault.Fault.{Fault}
 use Rattle.isp_tree.specs.Tree.{Item, First, first_declare, first_simple, Range, Stmt, block, empty, declare, simple, if_then, if_else, loop_while, loop_do, loop_for, foreach, foreach_active, unmasked, jump, returning, print, assert}
 use Rattle.isp_typed.specs.declared.variable.Variable.{Variable}
-use Rattle.isp_types.specs.declared.scope.Binding.{Binding}
-use Rattle.isp_types.specs.declared.words.ValueWords.{ValueWords}
-use Rattle.isp_types.specs.Words.{value_said}
+use Rattle.isp_exprs.specs.declared.scope.Binding.{Binding}
+use Rattle.isp_exprs.specs.declared.words.ValueWords.{ValueWords}
+use Rattle.isp_exprs.specs.Words.{value_said}
 use Rattle.isp_types.specs.Statements.{item_names, item_variables, items_names, first_names, range_names, names_after}
 
 -- one list is another with more behind it

@@ -1,5 +1,6 @@
 -- Parts of statements: steps of their loops.
 use Rattle.std.proofs.Common.{◌≡◌, ℕ, ◌+◌, refl, sym, ap, subst, ◌∙◌, ◌++◌, map, inl, inr, ◌⊎◌, arith}
+use Rattle.std.specs.Global.{Box}
 use Rattle.std.specs.declared.iter.Zip.{Zip}
 use Rattle.std.specs.declared.slice.Iter.{Iter}
 use denote.Ref.{Bor}
@@ -25,15 +26,17 @@ use Rattle.isp_typed.specs.declared.variable.Variable.{Variable}
 use Rattle.isp_typed.specs.Verdicts.{both, made, beside, fault_unless}
 use Rattle.isp_typed.specs.declared.expr.TypedExpr.{TypedExpr}
 use Rattle.isp_typed.specs.Typed.{TExpr, TRange}
-use Rattle.isp_typed.specs.Views.{expr_of}
+use Rattle.isp_exprs.specs.reader.Parts.{boxed_of}
+use Rattle.isp_types.specs.reader.Boxes.{boxed_pair}
 use Rattle.isp_typed.proofs.Verdicts.{beside_made}
-use Rattle.isp_types.specs.declared.scope.Binding.{Binding}
-use Rattle.isp_types.specs.Scopes.{with_name}
-use Rattle.isp_types.specs.Calls.{Heading}
+use Rattle.isp_exprs.specs.declared.scope.Binding.{Binding}
+use Rattle.isp_exprs.specs.Scopes.{with_name}
+use Rattle.isp_exprs.specs.Calls.{Heading}
 use Rattle.isp_types.specs.Statements.{index, range_made, range_names, range_variables, agrees, as_answer}
-use Rattle.isp_types.specs.reader.Judge.{judge}
+use Rattle.isp_exprs.specs.reader.Judge.{judge}
 use Rattle.isp_types.specs.reader.JudgeStmts.{twice, judge_ranges, judge_returned, judge_values}
-use Rattle.isp_types.specs.reader.Lists.{and_one, agrees_with, judge_bounds}
+use Rattle.isp_exprs.specs.reader.Lists.{and_one}
+use Rattle.isp_types.specs.reader.Lists.{agrees_with, judge_bounds}
 use Rattle.isp_types.proofs.Joined.{joined, joined_step, joined_last, some_made}
 
 module _ (gang : Gang) (hs : List Heading) (ns : List Binding) where
@@ -69,8 +72,8 @@ pub range_variables_step : (vars : List Variable) (rest more : List rust_range.R
 range_variables_step vars rest more total r split e = subst (λ (z : List rust_range.Range). range_variables vars (map read_range z) ≡ total) split e
 
 -- the bounds of a range as the rules see them
-abbrev pub bounds_of : Result (TypedExpr × TypedExpr) Fault → Result (TExpr × TExpr) Fault
-bounds_of = made (λ p. (expr_of p.0, expr_of p.1))
+abbrev pub bounds_of : Result (Box TypedExpr × Box TypedExpr) Fault → Result (TExpr × TExpr) Fault
+bounds_of = made boxed_pair
 
 -- a range of bounds that are seen by a view, with a fault beside them
 pub bounds_part : {A : Type 0} (view : A → TExpr × TExpr) (k : ℕ) (s : Span) (o : Option Fault) (b : Result A Fault) (j : Result (TExpr × TExpr) Fault) → made view b ≡ j
@@ -115,10 +118,10 @@ agrees_same (Ok None) y = refl
 agrees_same (Ok (Some t)) y = refl
 
 module _ (gang : Gang) (hs : List Heading) (ns : List Binding) where
-  pub returned_is : (answer : Result (Option Ty) Fault) (k : Span) (y : Expr) (seen : Option Fault) (v w : Result TypedExpr Fault)
-      → seen ≡ fault_unless (agrees_with answer true) (fault Mismatch k) → made expr_of w ≡ made (as_answer answer) (made expr_of v) → made expr_of v ≡ judge gang hs ns y
-      → made (option_map expr_of) (beside seen (made (λ t. Some t) w)) ≡ judge_returned gang hs answer ns k (Some y)
+  pub returned_is : (answer : Result (Option Ty) Fault) (k : Span) (y : Expr) (seen : Option Fault) (v w : Result (Box TypedExpr) Fault)
+      → seen ≡ fault_unless (agrees_with answer true) (fault Mismatch k) → made boxed_of w ≡ made (as_answer answer) (made boxed_of v) → made boxed_of v ≡ judge gang hs ns y
+      → made (option_map boxed_of) (beside seen (made (λ t. Some t) w)) ≡ judge_returned gang hs answer ns k (Some y)
   returned_is answer k y seen v w s p q =
-      beside_made (option_map expr_of) seen (made (λ t. Some t) w)
-      ∙ (ap (beside seen) (some_made expr_of w ∙ ap (made (λ b. Some b)) (p ∙ ap (made (as_answer answer)) q))
+      beside_made (option_map boxed_of) seen (made (λ t. Some t) w)
+      ∙ (ap (beside seen) (some_made boxed_of w ∙ ap (made (λ b. Some b)) (p ∙ ap (made (as_answer answer)) q))
       ∙ ap (λ o. beside o (made (λ b. Some b) (made (as_answer answer) (judge gang hs ns y)))) (s ∙ ap (λ b. fault_unless b (fault Mismatch k)) (agrees_same answer y)))

@@ -14,11 +14,11 @@ use Rattle.isp_typed.specs.Typed.{TStmt, TStmts, t_no_stmts, t_stmt_then, t_stmt
 use Rattle.isp_typed.specs.Verdicts.{both, made}
 use Rattle.isp_typed.proofs.Order.{earlier_assoc}
 use Rattle.isp_typed.proofs.Verdicts.{both_made}
-use Rattle.isp_types.specs.declared.scope.Binding.{Binding}
-use Rattle.isp_types.specs.Calls.{Heading}
+use Rattle.isp_exprs.specs.declared.scope.Binding.{Binding}
+use Rattle.isp_exprs.specs.Calls.{Heading}
 use Rattle.isp_types.specs.Statements.{names_after, variables_after, stmts_variables, stmts_made}
 use Rattle.isp_types.specs.reader.JudgeStmts.{judge_stmt, judge_stmts}
-use Rattle.isp_types.specs.reader.Lists.{and_one}
+use Rattle.isp_exprs.specs.reader.Lists.{and_one}
 
 -- statements before others
 abbrev pub before : List TStmt → TStmts → TStmts

@@ -17,14 +17,14 @@ use Rattle.isp_typed.specs.declared.variable.Holds.TheVariants as holds
 use Rattle.isp_typed.specs.declared.variable.Variable.{Variable}
 use Rattle.isp_typed.specs.Forms.{Both, Either, No_breach, Just, Made, Given, Refused, Provided, Unless}
 use Rattle.isp_typed.specs.Typed.{TBlock, TFunction, Program}
-use Rattle.isp_types.specs.declared.callee.Want.{Want}
-use Rattle.isp_types.specs.declared.callee.Want.TheVariants.{ValueOf, ArrayOf, Anything}
-use Rattle.isp_types.specs.declared.scope.Binding.{Binding}
-use Rattle.isp_types.specs.declared.words.ValueWords.{ValueWords}
-use Rattle.isp_types.specs.Words.{value_said, answer_said, rate_or_varying}
-use Rattle.isp_types.specs.Scopes.{is_new, with_name}
-use Rattle.isp_types.specs.Calls.{Heading, library_named}
-use Rattle.isp_types.specs.Rules.{second, pair_then}
+use Rattle.isp_exprs.specs.declared.callee.Want.{Want}
+use Rattle.isp_exprs.specs.declared.callee.Want.TheVariants.{ValueOf, ArrayOf, Anything}
+use Rattle.isp_exprs.specs.declared.scope.Binding.{Binding}
+use Rattle.isp_exprs.specs.declared.words.ValueWords.{ValueWords}
+use Rattle.isp_exprs.specs.Words.{value_said, answer_said, rate_or_varying}
+use Rattle.isp_exprs.specs.Scopes.{is_new, with_name}
+use Rattle.isp_exprs.specs.Calls.{Heading, library_named}
+use Rattle.isp_exprs.specs.Rules.{second, pair_then}
 use Rattle.isp_types.specs.Statements.{or_nothing, declared, value_variable, block_variables, IsBlock, BlockBreach}
 
 -- ---- parameters

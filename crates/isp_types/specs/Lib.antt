@@ -1,9 +1,3 @@
-pub mod Words
-pub mod Scopes
-pub mod Values
-pub mod Places
-pub mod Calls
-pub mod Rules
 pub mod Statements
 pub mod Functions
 pub mod reader

@@ -1,9 +1,6 @@
 -- What the functions of the code give. Nothing here is promised: proofs/ ties it to the rules.
-pub mod Judge
 pub mod JudgeStmts
 pub mod JudgeFunctions
-pub mod Scopes
-pub mod Headings
-pub mod Parts
 pub mod Lists
 pub mod Kinds
+pub mod Boxes

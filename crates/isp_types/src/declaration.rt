@@ -2,19 +2,20 @@
 ghost use Rattle.std.specs.Prelude.{◌≡◌, IfOk, map};
 ghost use Rattle.isp_tree.specs.Views.{declaration_of as read_declaration, item_of as read_item, type_of as read_type};
 ghost use Rattle.isp_typed.specs.Verdicts.{both, made};
-ghost use Rattle.isp_typed.specs.Views.{expr_of, item_of, items_of};
-ghost use Rattle.isp_types.specs.Rules.{second};
+ghost use Rattle.isp_typed.specs.Views.{items_of};
+ghost use Rattle.isp_exprs.specs.reader.Parts.{boxed_of};
+ghost use Rattle.isp_types.specs.reader.Boxes.{boxed_item};
+ghost use Rattle.isp_exprs.specs.Rules.{second};
 ghost use Rattle.isp_types.specs.Statements.{array_sized, declared, item_names, item_variable, item_variables, item_word, items_names, items_variables, or_nothing, size_number, sized_item, value_variable, with_initial};
-ghost use Rattle.isp_types.specs.Words.{value_said};
+ghost use Rattle.isp_exprs.specs.Words.{value_said};
 ghost use Rattle.isp_types.specs.reader.JudgeStmts.{judge_declaration, judge_item, judge_items, twice};
-ghost use Rattle.isp_types.specs.reader.Lists.{and_one, judge_item_with, known_next};
+ghost use Rattle.isp_exprs.specs.reader.Lists.{and_one};
+ghost use Rattle.isp_types.specs.reader.Lists.{judge_item_with, known_next};
 
-use crate::expr::{Setting, expr};
-use crate::places::mismatch;
-use crate::scope::{Known, Scope};
-use crate::values::converted;
-use crate::words::{ValueWords, type_declared, value_said};
 use isp_base::{Elem, Gang, Span, Ty};
+use isp_exprs::{
+    Known, Scope, Setting, ValueWords, converted, expr, mismatch, type_declared, value_said,
+};
 use isp_lex::{Fault, Rule};
 use isp_tree::{Declaration, Item, Size, Word};
 use isp_typed::{
@@ -120,31 +121,36 @@ fn with_initial(
     alloc: Global,
     number: usize,
     ty: Ty,
-    value: Verdict<TypedExpr>,
+    value: Verdict<Box<TypedExpr>>,
     span: Span,
-) -> Result<Verdict<TypedItem>, AllocError>
-    ensures { IfOk result (λ v. made item_of v ≡ made (with_initial number ty span) (made expr_of value)) }
+) -> Result<Verdict<Box<TypedItem>>, AllocError>
+    ensures { IfOk result (λ v. made boxed_item v ≡ made (with_initial number ty span) (made boxed_of value)) }
 {
     match value {
         Ok(value) => {
             let value = converted(alloc, ty.elem, value)?;
-            Ok(Ok(TypedItem::Value {
+            let item = TypedItem::Value {
                 number,
                 ty,
-                value,
+                value: Box::into_inner(value),
                 span,
-            }))
+            };
+            Ok(Ok(Box::new(alloc, item)?))
         }
         Err(fault) => Ok(Err(fault)),
     }
 }
 
-fn sized_item(array: Verdict<ArrayVariable>, span: Span) -> Verdict<TypedItem>
-    ensures { made item_of result ≡ made (sized_item span) array }
+fn sized_item(
+    alloc: Global,
+    array: Verdict<ArrayVariable>,
+    span: Span,
+) -> Result<Verdict<Box<TypedItem>>, AllocError>
+    ensures { IfOk result (λ v. made boxed_item v ≡ made (sized_item span) array) }
 {
     match array {
-        Ok(array) => Ok(TypedItem::Array { array, span }),
-        Err(fault) => Err(fault),
+        Ok(array) => Ok(Ok(Box::new(alloc, TypedItem::Array { array, span })?)),
+        Err(fault) => Ok(Err(fault)),
     }
 }
 
@@ -156,18 +162,19 @@ fn item(
     number: usize,
     words: ValueWords,
     item: &Item,
-) -> Result<Verdict<TypedItem>, AllocError>
-    ensures { IfOk result (λ v. made item_of v ≡ judge_item_with setting.now.gang setting.now.headers.now scope.now seen number words (read_item item.now)) }
+) -> Result<Verdict<Box<TypedItem>>, AllocError>
+    ensures { IfOk result (λ v. made boxed_item v ≡ judge_item_with setting.now.gang setting.now.headers.now scope.now seen number words (read_item item.now)) }
 {
     match item {
-        Item::Plain(word) => Ok(beside(
-            seen,
-            Ok(TypedItem::Plain {
+        Item::Plain(word) => {
+            let plain = TypedItem::Plain {
                 number,
                 ty: type_declared(words),
                 span: word.span,
-            }),
-        )),
+            };
+            let plain = Box::new(setting.alloc, plain)?;
+            Ok(beside(seen, Ok(plain)))
+        }
         Item::Value { value, span, .. } => {
             let value = expr(setting, scope, value)?;
             with_initial(
@@ -180,7 +187,7 @@ fn item(
         }
         Item::Array { size, span, .. } => {
             let array = array_sized(setting.gang, number, words, *size);
-            Ok(sized_item(beside(seen, array), *span))
+            sized_item(setting.alloc, beside(seen, array), *span)
         }
     }
 }
@@ -193,8 +200,8 @@ fn declare(
     variables: &mut Vec<Variable>,
     words: Verdict<ValueWords>,
     declared_item: &Item,
-) -> Result<Verdict<TypedItem>, AllocError>
-    ensures value { IfOk result (λ v. made item_of v ≡ judge_item setting.now.gang setting.now.headers.now words start scope.old variables.old.items (read_item declared_item.now)) }
+) -> Result<Verdict<Box<TypedItem>>, AllocError>
+    ensures value { IfOk result (λ v. made boxed_item v ≡ judge_item setting.now.gang setting.now.headers.now words start scope.old variables.old.items (read_item declared_item.now)) }
     ensures names { IfOk result (λ v. scope.new ≡ item_names setting.now.gang words scope.old variables.old.items (read_item declared_item.now)) }
     ensures variables { IfOk result (λ v. variables.new.items ≡ item_variables setting.now.gang words variables.old.items (read_item declared_item.now)) }
 {
@@ -218,13 +225,13 @@ fn declare(
 /// One more item behind the others.
 fn push(
     so_far: Verdict<Vec<TypedItem>>,
-    part: Verdict<TypedItem>,
+    part: Verdict<Box<TypedItem>>,
 ) -> Result<Verdict<Vec<TypedItem>>, AllocError>
-    ensures { IfOk result (λ v. made (λ l. items_of l.items) v ≡ made and_one (both (made (λ l. items_of l.items) so_far) (made item_of part))) }
+    ensures { IfOk result (λ v. made (λ l. items_of l.items) v ≡ made and_one (both (made (λ l. items_of l.items) so_far) (made boxed_item part))) }
 {
     match both(so_far, part) {
         Ok((mut all, typed)) => {
-            all.push(typed)?;
+            all.push(Box::into_inner(typed))?;
             Ok(Ok(all))
         }
         Err(fault) => Ok(Err(fault)),

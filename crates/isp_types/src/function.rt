@@ -10,21 +10,21 @@ ghost use Rattle.isp_tree.specs.Views.{function_of as read_function, param_of as
 ghost use Rattle.isp_tree.specs.Tree.{Block};
 ghost use Rattle.isp_typed.specs.Verdicts.{beside, both, fault_unless, made};
 ghost use Rattle.isp_typed.specs.Views.{block_of, function_of, functions_of};
-ghost use Rattle.isp_types.specs.Calls.{Heading, library_named};
+ghost use Rattle.isp_exprs.specs.Calls.{Heading, library_named};
 ghost use Rattle.isp_types.specs.Functions.{heading, is_export, param_fits, param_span, param_variable, param_want, parameter_of, variable_for};
-ghost use Rattle.isp_types.specs.reader.Headings.{heading_of};
+ghost use Rattle.isp_exprs.specs.reader.Headings.{heading_of};
 ghost use Rattle.isp_types.specs.reader.JudgeFunctions.{judge_body, judge_function, judge_functions};
 ghost use Rattle.isp_types.specs.reader.JudgeStmts.{judge_block};
-ghost use Rattle.isp_types.specs.reader.Lists.{and_one, fault_of, function_of_parts, param_fault, param_names};
+ghost use Rattle.isp_exprs.specs.reader.Lists.{and_one};
+ghost use Rattle.isp_types.specs.reader.Lists.{fault_of, function_of_parts, param_fault, param_names};
 
-use crate::callee::{Header, Want, library_named};
 use crate::declaration::{declared, or_nothing, twice, value_variable};
-use crate::expr::Setting;
-use crate::places::mismatch;
-use crate::scope::Scope;
 use crate::stmt::block;
-use crate::words::{ValueWords, answer_said, rate_or_varying, value_said};
 use isp_base::{Elem, Name, Parameter, Rate, Signature, Span, Ty};
+use isp_exprs::{
+    Header, Scope, Setting, ValueWords, Want, answer_said, library_named, mismatch,
+    rate_or_varying, value_said,
+};
 use isp_lex::{Fault, Rule};
 use isp_tree::{Function, Linkage, Param, Word};
 use isp_typed::{Holds, TypedBlock, TypedFunction, Variable, Verdict, beside, both, first, unless};

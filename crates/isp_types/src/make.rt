@@ -3,8 +3,10 @@ ghost use Rattle.std.specs.Prelude.{◌≡◌, IfOk, option_map};
 ghost use Rattle.isp_typed.specs.Typed.{call_span, t_block, t_braces, t_no_stmts, t_stmts};
 ghost use Rattle.isp_typed.specs.Verdicts.{both, made};
 ghost use Rattle.isp_typed.specs.Views.{block_of, expr_of, exprs_of, first_of, items_of, ranges_of, simple_of, stmt_of, stmts_of};
+ghost use Rattle.isp_exprs.specs.reader.Parts.{boxed_of};
+ghost use Rattle.isp_types.specs.reader.Boxes.{boxed_first, boxed_simple};
 ghost use Rattle.isp_types.specs.Statements.{active_stmt, assert_stmt, braces_made, declared_stmt, do_stmt, for_stmt, foreach_stmt, if_else_stmt, if_stmt, print_stmt, return_stmt, simple_stmt, unmasked_stmt, while_stmt};
-ghost use Rattle.isp_types.specs.reader.Lists.{and_one};
+ghost use Rattle.isp_exprs.specs.reader.Lists.{and_one};
 
 use isp_base::Span;
 use isp_lex::Text;
@@ -23,11 +25,14 @@ pub fn declared_stmt(items: Verdict<Vec<TypedItem>>, span: Span) -> Verdict<Type
     }
 }
 
-pub fn simple_stmt(simple: Verdict<TypedSimple>, span: Span) -> Verdict<TypedStmt>
-    ensures { made stmt_of result ≡ made (simple_stmt span) (made simple_of simple) }
+pub fn simple_stmt(simple: Verdict<Box<TypedSimple>>, span: Span) -> Verdict<TypedStmt>
+    ensures { made stmt_of result ≡ made (simple_stmt span) (made boxed_simple simple) }
 {
     match simple {
-        Ok(simple) => Ok(TypedStmt::Simple { simple, span }),
+        Ok(simple) => Ok(TypedStmt::Simple {
+            simple: Box::into_inner(simple),
+            span,
+        }),
         Err(fault) => Err(fault),
     }
 }
@@ -67,17 +72,17 @@ pub fn boxed(
 pub fn if_stmt(
     form: Form,
     before: usize,
-    test: Verdict<TypedExpr>,
+    test: Verdict<Box<TypedExpr>>,
     then: Verdict<Box<TypedStmt>>,
     span: Span,
 ) -> Verdict<TypedStmt>
-    ensures { made stmt_of result ≡ made (if_stmt form before span) (both (made expr_of test) (made (λ b. stmt_of b.value) then)) }
+    ensures { made stmt_of result ≡ made (if_stmt form before span) (both (made boxed_of test) (made (λ b. stmt_of b.value) then)) }
 {
     match both(test, then) {
         Ok((test, then)) => Ok(TypedStmt::If {
             form,
             before,
-            test,
+            test: Box::into_inner(test),
             then,
             span,
         }),
@@ -88,17 +93,17 @@ pub fn if_stmt(
 pub fn if_else_stmt(
     form: Form,
     before: usize,
-    test: Verdict<TypedExpr>,
+    test: Verdict<Box<TypedExpr>>,
     branches: Verdict<(Box<TypedStmt>, Box<TypedStmt>)>,
     span: Span,
 ) -> Verdict<TypedStmt>
-    ensures { made stmt_of result ≡ made (if_else_stmt form before span) (both (made expr_of test) (made (λ p. (stmt_of p.0.value, stmt_of p.1.value)) branches)) }
+    ensures { made stmt_of result ≡ made (if_else_stmt form before span) (both (made boxed_of test) (made (λ p. (stmt_of p.0.value, stmt_of p.1.value)) branches)) }
 {
     match both(test, branches) {
         Ok((test, (then, otherwise))) => Ok(TypedStmt::IfElse {
             form,
             before,
-            test,
+            test: Box::into_inner(test),
             then,
             otherwise,
             span,
@@ -110,17 +115,17 @@ pub fn if_else_stmt(
 pub fn while_stmt(
     form: Form,
     before: usize,
-    test: Verdict<TypedExpr>,
+    test: Verdict<Box<TypedExpr>>,
     body: Verdict<Box<TypedStmt>>,
     span: Span,
 ) -> Verdict<TypedStmt>
-    ensures { made stmt_of result ≡ made (while_stmt form before span) (both (made expr_of test) (made (λ b. stmt_of b.value) body)) }
+    ensures { made stmt_of result ≡ made (while_stmt form before span) (both (made boxed_of test) (made (λ b. stmt_of b.value) body)) }
 {
     match both(test, body) {
         Ok((test, body)) => Ok(TypedStmt::While {
             form,
             before,
-            test,
+            test: Box::into_inner(test),
             body,
             span,
         }),
@@ -132,20 +137,50 @@ pub fn do_stmt(
     form: Form,
     before: usize,
     body: Verdict<Box<TypedStmt>>,
-    test: Verdict<TypedExpr>,
+    test: Verdict<Box<TypedExpr>>,
     span: Span,
 ) -> Verdict<TypedStmt>
-    ensures { made stmt_of result ≡ made (do_stmt form before span) (both (made (λ b. stmt_of b.value) body) (made expr_of test)) }
+    ensures { made stmt_of result ≡ made (do_stmt form before span) (both (made (λ b. stmt_of b.value) body) (made boxed_of test)) }
 {
     match both(body, test) {
         Ok((body, test)) => Ok(TypedStmt::Do {
             form,
             before,
             body,
-            test,
+            test: Box::into_inner(test),
             span,
         }),
         Err(fault) => Err(fault),
+    }
+}
+
+/// A value that may be left out, out of its box.
+fn value_out(value: Option<Box<TypedExpr>>) -> Option<TypedExpr>
+    ensures { option_map expr_of result ≡ option_map boxed_of value }
+{
+    match value {
+        Some(value) => Some(Box::into_inner(value)),
+        None => None,
+    }
+}
+
+/// A step that may be left out, out of its box.
+fn step_out(step: Option<Box<TypedSimple>>) -> Option<TypedSimple>
+    ensures { option_map simple_of result ≡ option_map boxed_simple step }
+{
+    match step {
+        Some(step) => Some(Box::into_inner(step)),
+        None => None,
+    }
+}
+
+/// A first part that may be left out, out of its box.
+fn first_out(first: Option<Box<TypedFirst>>) -> Option<TypedFirst>
+    ensures { option_map first_of result ≡ option_map boxed_first first }
+{
+    match first {
+        Some(first) => Some(Box::into_inner(first)),
+        None => None,
     }
 }
 
@@ -153,19 +188,24 @@ pub fn for_stmt(
     form: Form,
     before: usize,
     inside: usize,
-    first: Verdict<Option<TypedFirst>>,
-    rest: Verdict<(Option<TypedExpr>, (Option<TypedSimple>, Box<TypedStmt>))>,
+    first: Verdict<Option<Box<TypedFirst>>>,
+    rest: Verdict<
+        (
+            Option<Box<TypedExpr>>,
+            (Option<Box<TypedSimple>>, Box<TypedStmt>),
+        ),
+    >,
     span: Span,
 ) -> Verdict<TypedStmt>
-    ensures { made stmt_of result ≡ made (for_stmt form before inside span) (both (made (option_map first_of) first) (made (λ p. (option_map expr_of p.0, (option_map simple_of p.1.0, stmt_of p.1.1.value))) rest)) }
+    ensures { made stmt_of result ≡ made (for_stmt form before inside span) (both (made (option_map boxed_first) first) (made (λ p. (option_map boxed_of p.0, (option_map boxed_simple p.1.0, stmt_of p.1.1.value))) rest)) }
 {
     match both(first, rest) {
         Ok((first, (test, (step, body)))) => Ok(TypedStmt::For {
             form,
             before,
-            first,
-            test,
-            step,
+            first: first_out(first),
+            test: value_out(test),
+            step: step_out(step),
             inside,
             body,
             span,
@@ -230,15 +270,15 @@ pub fn unmasked_stmt(keyword: Span, body: Verdict<TypedBlock>, span: Span) -> Ve
 
 pub fn return_stmt(
     keyword: Span,
-    value: Verdict<Option<TypedExpr>>,
+    value: Verdict<Option<Box<TypedExpr>>>,
     span: Span,
 ) -> Verdict<TypedStmt>
-    ensures { made stmt_of result ≡ made (return_stmt keyword span) (made (option_map expr_of) value) }
+    ensures { made stmt_of result ≡ made (return_stmt keyword span) (made (option_map boxed_of) value) }
 {
     match value {
         Ok(value) => Ok(TypedStmt::Return {
             keyword,
-            value,
+            value: value_out(value),
             span,
         }),
         Err(fault) => Err(fault),
@@ -264,12 +304,12 @@ pub fn print_stmt(
     }
 }
 
-pub fn assert_stmt(test: Verdict<TypedExpr>, call_span: Span, span: Span) -> Verdict<TypedStmt>
-    ensures { made stmt_of result ≡ made (assert_stmt call_span span) (made expr_of test) }
+pub fn assert_stmt(test: Verdict<Box<TypedExpr>>, call_span: Span, span: Span) -> Verdict<TypedStmt>
+    ensures { made stmt_of result ≡ made (assert_stmt call_span span) (made boxed_of test) }
 {
     match test {
         Ok(test) => Ok(TypedStmt::Assert {
-            test,
+            test: Box::into_inner(test),
             call_span,
             span,
         }),

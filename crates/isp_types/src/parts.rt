@@ -3,20 +3,20 @@ ghost use Rattle.std.specs.Prelude.{◌≡◌, IfOk, length, map, option_map, �
 ghost use Rattle.isp_lex.specs.Faults.{fault};
 ghost use Rattle.isp_tree.specs.Views.{expr_of as read_expr, exprs_of as read_exprs, first_of as read_first, range_of as read_range, simple_of as read_simple};
 ghost use Rattle.isp_typed.specs.Verdicts.{beside, both, fault_unless, found, made, perhaps};
-ghost use Rattle.isp_typed.specs.Views.{expr_of, exprs_of, first_of, range_of, ranges_of, simple_of};
+ghost use Rattle.isp_typed.specs.Views.{exprs_of, ranges_of};
+ghost use Rattle.isp_exprs.specs.reader.Parts.{boxed_of};
+ghost use Rattle.isp_types.specs.reader.Boxes.{boxed_first, boxed_pair, boxed_range, boxed_simple};
 ghost use Rattle.isp_types.specs.Statements.{active_index, as_answer, first_names, first_variables, index, places, range_made, range_names, range_variables};
-ghost use Rattle.isp_types.specs.Values.{converted};
-ghost use Rattle.isp_types.specs.reader.Judge.{judge};
+ghost use Rattle.isp_exprs.specs.Values.{converted};
+ghost use Rattle.isp_exprs.specs.reader.Judge.{judge};
 ghost use Rattle.isp_types.specs.reader.JudgeStmts.{judge_first, judge_ranges, judge_returned, judge_simple, judge_test, judge_values};
-ghost use Rattle.isp_types.specs.reader.Lists.{agrees_with, and_one, judge_bounds};
+ghost use Rattle.isp_exprs.specs.reader.Lists.{and_one};
+ghost use Rattle.isp_types.specs.reader.Lists.{agrees_with, judge_bounds};
 
 use crate::declaration::twice;
-use crate::expr::{Setting, expr};
-use crate::places::mismatch;
-use crate::scope::{Known, Scope};
 use crate::simple::{first_part, simple};
-use crate::values::converted;
 use isp_base::{Elem, Rate, Span, Ty};
+use isp_exprs::{Known, Scope, Setting, converted, expr, mismatch};
 use isp_lex::{Fault, Rule, Text};
 use isp_tree::{Expr, First, Range, Simple};
 use isp_typed::{
@@ -28,9 +28,9 @@ use std::alloc::{AllocError, Global};
 fn converted_to(
     alloc: Global,
     elem: Elem,
-    value: Verdict<TypedExpr>,
-) -> Result<Verdict<TypedExpr>, AllocError>
-    ensures { IfOk result (λ v. made expr_of v ≡ made (converted elem) (made expr_of value)) }
+    value: Verdict<Box<TypedExpr>>,
+) -> Result<Verdict<Box<TypedExpr>>, AllocError>
+    ensures { IfOk result (λ v. made boxed_of v ≡ made (converted elem) (made boxed_of value)) }
 {
     match value {
         Ok(value) => Ok(Ok(converted(alloc, elem, value)?)),
@@ -39,8 +39,12 @@ fn converted_to(
 }
 
 /// A test, which is converted to bool.
-pub fn test(setting: &Setting, scope: &Scope, x: &Expr) -> Result<Verdict<TypedExpr>, AllocError>
-    ensures { IfOk result (λ v. made expr_of v ≡ judge_test setting.now.gang setting.now.headers.now scope.now (read_expr x.now)) }
+pub fn test(
+    setting: &Setting,
+    scope: &Scope,
+    x: &Expr,
+) -> Result<Verdict<Box<TypedExpr>>, AllocError>
+    ensures { IfOk result (λ v. made boxed_of v ≡ judge_test setting.now.gang setting.now.headers.now scope.now (read_expr x.now)) }
 {
     let value = expr(setting, scope, x)?;
     converted_to(setting.alloc, Elem::Bool, value)
@@ -60,8 +64,8 @@ pub fn test_if(
     setting: &Setting,
     scope: &Scope,
     x: &Option<Expr>,
-) -> Result<Verdict<Option<TypedExpr>>, AllocError>
-    ensures { IfOk result (λ v. made (option_map expr_of) v ≡ perhaps (judge_test setting.now.gang setting.now.headers.now scope.now) (option_map read_expr x.now)) }
+) -> Result<Verdict<Option<Box<TypedExpr>>>, AllocError>
+    ensures { IfOk result (λ v. made (option_map boxed_of) v ≡ perhaps (judge_test setting.now.gang setting.now.headers.now scope.now) (option_map read_expr x.now)) }
 {
     match x {
         None => Ok(Ok(None)),
@@ -77,8 +81,8 @@ pub fn simple_if(
     setting: &Setting,
     scope: &Scope,
     x: &Option<Simple>,
-) -> Result<Verdict<Option<TypedSimple>>, AllocError>
-    ensures { IfOk result (λ v. made (option_map simple_of) v ≡ perhaps (judge_simple setting.now.gang setting.now.headers.now scope.now) (option_map read_simple x.now)) }
+) -> Result<Verdict<Option<Box<TypedSimple>>>, AllocError>
+    ensures { IfOk result (λ v. made (option_map boxed_simple) v ≡ perhaps (judge_simple setting.now.gang setting.now.headers.now scope.now) (option_map read_simple x.now)) }
 {
     match x {
         None => Ok(Ok(None)),
@@ -96,8 +100,8 @@ pub fn first_if(
     start: usize,
     variables: &mut Vec<Variable>,
     x: &Option<First>,
-) -> Result<Verdict<Option<TypedFirst>>, AllocError>
-    ensures value { IfOk result (λ v. made (option_map first_of) v ≡ perhaps (judge_first setting.now.gang setting.now.headers.now scope.old start variables.old.items) (option_map read_first x.now)) }
+) -> Result<Verdict<Option<Box<TypedFirst>>>, AllocError>
+    ensures value { IfOk result (λ v. made (option_map boxed_first) v ≡ perhaps (judge_first setting.now.gang setting.now.headers.now scope.old start variables.old.items) (option_map read_first x.now)) }
     ensures names { IfOk result (λ v. scope.new ≡ first_names setting.now.gang scope.old variables.old.items (option_map read_first x.now)) }
     ensures variables { IfOk result (λ v. variables.new.items ≡ first_variables setting.now.gang variables.old.items (option_map read_first x.now)) }
 {
@@ -139,30 +143,31 @@ pub fn active_index() -> Variable
 fn make_range(
     alloc: Global,
     index: usize,
-    start: TypedExpr,
-    end: TypedExpr,
+    start: Box<TypedExpr>,
+    end: Box<TypedExpr>,
     span: Span,
-) -> Result<TypedRange, AllocError>
-    ensures { IfOk result (λ r. range_of r ≡ range_made index span (expr_of start, expr_of end)) }
+) -> Result<Box<TypedRange>, AllocError>
+    ensures { IfOk result (λ r. boxed_range r ≡ range_made index span (boxed_of start, boxed_of end)) }
 {
     let start = converted(alloc, Elem::I32, start)?;
     let end = converted(alloc, Elem::I32, end)?;
-    Ok(TypedRange {
+    let range = TypedRange {
         index,
-        start,
-        end,
+        start: Box::into_inner(start),
+        end: Box::into_inner(end),
         span,
-    })
+    };
+    Ok(Box::new(alloc, range)?)
 }
 
 /// A range of its bounds.
 fn range_made(
     alloc: Global,
     index: usize,
-    bounds: Verdict<(TypedExpr, TypedExpr)>,
+    bounds: Verdict<(Box<TypedExpr>, Box<TypedExpr>)>,
     span: Span,
-) -> Result<Verdict<TypedRange>, AllocError>
-    ensures { IfOk result (λ v. made range_of v ≡ made (range_made index span) (made (λ p. (expr_of p.0, expr_of p.1)) bounds)) }
+) -> Result<Verdict<Box<TypedRange>>, AllocError>
+    ensures { IfOk result (λ v. made boxed_range v ≡ made (range_made index span) (made boxed_pair bounds)) }
 {
     match bounds {
         Ok((start, end)) => Ok(Ok(make_range(alloc, index, start, end, span)?)),
@@ -175,8 +180,8 @@ fn bounds(
     setting: &Setting,
     scope: &Scope,
     r: &Range,
-) -> Result<Verdict<(TypedExpr, TypedExpr)>, AllocError>
-    ensures { IfOk result (λ v. made (λ p. (expr_of p.0, expr_of p.1)) v ≡ both (judge setting.now.gang setting.now.headers.now scope.now (read_expr r.now.start)) (judge setting.now.gang setting.now.headers.now scope.now (read_expr r.now.end))) }
+) -> Result<Verdict<(Box<TypedExpr>, Box<TypedExpr>)>, AllocError>
+    ensures { IfOk result (λ v. made boxed_pair v ≡ both (judge setting.now.gang setting.now.headers.now scope.now (read_expr r.now.start)) (judge setting.now.gang setting.now.headers.now scope.now (read_expr r.now.end))) }
 {
     let start = expr(setting, scope, &r.start)?;
     let end = expr(setting, scope, &r.end)?;
@@ -188,8 +193,8 @@ fn all_bounds(
     setting: &Setting,
     scope: &Scope,
     all: &[Range],
-) -> Result<Vec<Verdict<(TypedExpr, TypedExpr)>>, AllocError>
-    ensures { IfOk result (λ l. map (made (λ p. (expr_of p.0, expr_of p.1))) l.items ≡ map (judge_bounds setting.now.gang setting.now.headers.now scope.now) (map read_range all.now)) }
+) -> Result<Vec<Verdict<(Box<TypedExpr>, Box<TypedExpr>)>>, AllocError>
+    ensures { IfOk result (λ l. map (made boxed_pair) l.items ≡ map (judge_bounds setting.now.gang setting.now.headers.now scope.now) (map read_range all.now)) }
 {
     let mut done = Vec::new(setting.alloc);
     for r in all {
@@ -201,13 +206,13 @@ fn all_bounds(
 
 fn push_range(
     so_far: Verdict<Vec<TypedRange>>,
-    part: Verdict<TypedRange>,
+    part: Verdict<Box<TypedRange>>,
 ) -> Result<Verdict<Vec<TypedRange>>, AllocError>
-    ensures { IfOk result (λ v. made (λ l. ranges_of l.items) v ≡ made and_one (both (made (λ l. ranges_of l.items) so_far) (made range_of part))) }
+    ensures { IfOk result (λ v. made (λ l. ranges_of l.items) v ≡ made and_one (both (made (λ l. ranges_of l.items) so_far) (made boxed_range part))) }
 {
     match both(so_far, part) {
         Ok((mut all, typed)) => {
-            all.push(typed)?;
+            all.push(Box::into_inner(typed))?;
             Ok(Ok(all))
         }
         Err(fault) => Ok(Err(fault)),
@@ -242,13 +247,13 @@ pub fn ranges(
 
 fn push_value(
     so_far: Verdict<Vec<TypedExpr>>,
-    part: Verdict<TypedExpr>,
+    part: Verdict<Box<TypedExpr>>,
 ) -> Result<Verdict<Vec<TypedExpr>>, AllocError>
-    ensures { IfOk result (λ v. made (λ l. exprs_of l.items) v ≡ made and_one (both (made (λ l. exprs_of l.items) so_far) (made expr_of part))) }
+    ensures { IfOk result (λ v. made (λ l. exprs_of l.items) v ≡ made and_one (both (made (λ l. exprs_of l.items) so_far) (made boxed_of part))) }
 {
     match both(so_far, part) {
         Ok((mut all, typed)) => {
-            all.push(typed)?;
+            all.push(Box::into_inner(typed))?;
             Ok(Ok(all))
         }
         Err(fault) => Ok(Err(fault)),
@@ -312,9 +317,9 @@ fn agrees(answer: Verdict<Option<Ty>>, has_value: bool) -> bool
 fn as_answer(
     alloc: Global,
     answer: Verdict<Option<Ty>>,
-    value: Verdict<TypedExpr>,
-) -> Result<Verdict<TypedExpr>, AllocError>
-    ensures { IfOk result (λ v. made expr_of v ≡ made (as_answer answer) (made expr_of value)) }
+    value: Verdict<Box<TypedExpr>>,
+) -> Result<Verdict<Box<TypedExpr>>, AllocError>
+    ensures { IfOk result (λ v. made boxed_of v ≡ made (as_answer answer) (made boxed_of value)) }
 {
     match answer {
         Ok(Some(ty)) => converted_to(alloc, ty.elem, value),
@@ -330,8 +335,8 @@ pub fn returned(
     scope: &Scope,
     keyword: Span,
     x: &Option<Expr>,
-) -> Result<Verdict<Option<TypedExpr>>, AllocError>
-    ensures { IfOk result (λ v. made (option_map expr_of) v ≡ judge_returned setting.now.gang setting.now.headers.now answer scope.now keyword (option_map read_expr x.now)) }
+) -> Result<Verdict<Option<Box<TypedExpr>>>, AllocError>
+    ensures { IfOk result (λ v. made (option_map boxed_of) v ≡ judge_returned setting.now.gang setting.now.headers.now answer scope.now keyword (option_map read_expr x.now)) }
 {
     let seen = unless(agrees(answer, x.is_some()), mismatch(keyword));
     match x {

@@ -6,10 +6,9 @@ ghost use Rattle.isp_typed.specs.Promise.{Accepts, Refuses};
 ghost use Rattle.isp_typed.specs.Views.{program_of};
 ghost use Rattle.isp_types.specs.Functions.{Breach, IsProgram, heading};
 
-use crate::callee::Headers;
-use crate::expr::Setting;
 use crate::function::{functions, header};
 use isp_base::Gang;
+use isp_exprs::{Headers, Setting};
 use isp_lex::SourceFault;
 use isp_tree::{Function, Tree};
 use isp_typed::{Program, Typed};

@@ -4,26 +4,25 @@ ghost use Rattle.isp_tree.specs.Tree.{value as read_value};
 ghost use Rattle.isp_tree.specs.Views.{expr_of as read_expr, first_of as read_first, simple_of as read_simple};
 ghost use Rattle.isp_typed.specs.Typed.{t_first_simple, t_value};
 ghost use Rattle.isp_typed.specs.Verdicts.{both, found, made};
-ghost use Rattle.isp_typed.specs.Views.{expr_of, first_of, items_of, place_of, simple_of};
+ghost use Rattle.isp_typed.specs.Views.{items_of, place_of};
 ghost use Rattle.isp_types.specs.Statements.{assigned, assigned_by, assignment_operator, change_operator, declared_first, first_names, first_variables, no_place, stated, stepped};
 ghost use Rattle.isp_types.specs.reader.JudgeStmts.{judge_first, judge_simple, judge_target};
-ghost use Rattle.isp_types.specs.reader.Parts.{called_of};
+ghost use Rattle.isp_exprs.specs.reader.Parts.{boxed_of, called_of};
+ghost use Rattle.isp_types.specs.reader.Boxes.{boxed_first, boxed_simple};
 
-use crate::call::Called;
 use crate::declaration::declaration;
-use crate::expr::{Setting, call, expr};
-use crate::places::{element_target, mismatch, variable_target};
-use crate::scope::Scope;
-use crate::values::converted;
 use isp_base::{BinOp, Elem, Span, common};
+use isp_exprs::{
+    Called, Scope, Setting, call, converted, element_target, expr, mismatch, variable_target,
+};
 use isp_tree::{Assignment, Change, Expr, First, Place, Simple};
 use isp_typed::{
     TypedExpr, TypedFirst, TypedItem, TypedPlace, TypedSimple, Variable, Verdict, both,
 };
 use std::alloc::{AllocError, Global};
 
-fn no_place(value: Verdict<TypedExpr>, span: Span) -> Verdict<TypedPlace>
-    ensures { made place_of result ≡ found (no_place span) (made expr_of value) }
+fn no_place(value: Verdict<Box<TypedExpr>>, span: Span) -> Verdict<TypedPlace>
+    ensures { made place_of result ≡ found (no_place span) (made boxed_of value) }
 {
     match value {
         Ok(_) => Err(mismatch(span)),
@@ -39,7 +38,7 @@ fn target(setting: &Setting, scope: &Scope, x: &Expr) -> Result<Verdict<TypedPla
         Expr::Place(Place::Variable(word)) => Ok(variable_target(scope.named(word), word.span)),
         Expr::Place(Place::Element { array, index, span }) => {
             let index = expr(setting, scope, index)?;
-            element_target(setting.alloc, scope.named(array), index, *span)
+            Ok(element_target(scope.named(array), index, *span))
         }
         Expr::Number { .. }
         | Expr::Truth { .. }
@@ -79,30 +78,32 @@ fn assign(
     alloc: Global,
     operator: Option<BinOp>,
     target: TypedPlace,
-    value: TypedExpr,
+    value: Box<TypedExpr>,
     span: Span,
-) -> Result<TypedSimple, AllocError>
-    ensures { IfOk result (λ t. simple_of t ≡ assigned_by operator span (place_of target, expr_of value)) }
+) -> Result<Box<TypedSimple>, AllocError>
+    ensures { IfOk result (λ t. boxed_simple t ≡ assigned_by operator span (place_of target, boxed_of value)) }
 {
     match operator {
         None => {
             let value = converted(alloc, target.ty().elem, value)?;
-            Ok(TypedSimple::Assign {
+            let assign = TypedSimple::Assign {
                 target,
-                value,
+                value: Box::into_inner(value),
                 span,
-            })
+            };
+            Ok(Box::new(alloc, assign)?)
         }
         Some(operator) => {
             let elem = common(target.ty().elem, value.ty().elem);
             let value = converted(alloc, elem, value)?;
-            Ok(TypedSimple::Update {
+            let update = TypedSimple::Update {
                 operator,
                 elem,
                 target,
-                value,
+                value: Box::into_inner(value),
                 span,
-            })
+            };
+            Ok(Box::new(alloc, update)?)
         }
     }
 }
@@ -111,10 +112,10 @@ fn assigned(
     alloc: Global,
     assignment: Assignment,
     target: Verdict<TypedPlace>,
-    value: Verdict<TypedExpr>,
+    value: Verdict<Box<TypedExpr>>,
     span: Span,
-) -> Result<Verdict<TypedSimple>, AllocError>
-    ensures { IfOk result (λ v. made simple_of v ≡ made (assigned assignment span) (both (made place_of target) (made expr_of value))) }
+) -> Result<Verdict<Box<TypedSimple>>, AllocError>
+    ensures { IfOk result (λ v. made boxed_simple v ≡ made (assigned assignment span) (both (made place_of target) (made boxed_of value))) }
 {
     match both(target, value) {
         Ok((target, value)) => Ok(Ok(assign(
@@ -137,39 +138,54 @@ fn change_operator(change: Change) -> BinOp
     }
 }
 
-fn stepped(change: Change, target: Verdict<TypedPlace>, span: Span) -> Verdict<TypedSimple>
-    ensures { made simple_of result ≡ made (stepped change span) (made place_of target) }
+fn stepped(
+    alloc: Global,
+    change: Change,
+    target: Verdict<TypedPlace>,
+    span: Span,
+) -> Result<Verdict<Box<TypedSimple>>, AllocError>
+    ensures { IfOk result (λ v. made boxed_simple v ≡ made (stepped change span) (made place_of target)) }
 {
     match target {
         Ok(target) => {
             let elem = common(target.ty().elem, Elem::I32);
-            Ok(TypedSimple::Step {
+            let step = TypedSimple::Step {
                 operator: change_operator(change),
                 elem,
                 target,
                 span,
-            })
+            };
+            Ok(Ok(Box::new(alloc, step)?))
         }
-        Err(fault) => Err(fault),
+        Err(fault) => Ok(Err(fault)),
     }
 }
 
-fn stated(called: Verdict<Called>) -> Verdict<TypedSimple>
-    ensures { made simple_of result ≡ made stated (made called_of called) }
+fn stated(alloc: Global, called: Verdict<Called>) -> Result<Verdict<Box<TypedSimple>>, AllocError>
+    ensures { IfOk result (λ v. made boxed_simple v ≡ made stated (made called_of called)) }
 {
     match called {
-        Ok(Called::Value(value)) => Ok(TypedSimple::Value(value)),
-        Ok(Called::Run(call)) => Ok(TypedSimple::Call(call)),
-        Err(fault) => Err(fault),
+        Ok(Called::Value(value)) => {
+            let value = TypedSimple::Value(Box::into_inner(value));
+            Ok(Ok(Box::new(alloc, value)?))
+        }
+        Ok(Called::Run(call)) => Ok(Ok(Box::new(alloc, TypedSimple::Call(call))?)),
+        Err(fault) => Ok(Err(fault)),
     }
 }
 
-fn value_stated(value: Verdict<TypedExpr>) -> Verdict<TypedSimple>
-    ensures { made simple_of result ≡ made t_value (made expr_of value) }
+fn value_stated(
+    alloc: Global,
+    value: Verdict<Box<TypedExpr>>,
+) -> Result<Verdict<Box<TypedSimple>>, AllocError>
+    ensures { IfOk result (λ v. made boxed_simple v ≡ made t_value (made boxed_of value)) }
 {
     match value {
-        Ok(value) => Ok(TypedSimple::Value(value)),
-        Err(fault) => Err(fault),
+        Ok(value) => {
+            let value = TypedSimple::Value(Box::into_inner(value));
+            Ok(Ok(Box::new(alloc, value)?))
+        }
+        Err(fault) => Ok(Err(fault)),
     }
 }
 
@@ -178,8 +194,8 @@ fn expression(
     setting: &Setting,
     scope: &Scope,
     x: &Expr,
-) -> Result<Verdict<TypedSimple>, AllocError>
-    ensures { IfOk result (λ v. made simple_of v ≡ judge_simple setting.now.gang setting.now.headers.now scope.now (read_value (read_expr x.now))) }
+) -> Result<Verdict<Box<TypedSimple>>, AllocError>
+    ensures { IfOk result (λ v. made boxed_simple v ≡ judge_simple setting.now.gang setting.now.headers.now scope.now (read_value (read_expr x.now))) }
 {
     match x {
         Expr::Call {
@@ -188,7 +204,7 @@ fn expression(
             span,
         } => {
             let called = call(setting, scope, function, arguments, *span)?;
-            Ok(stated(called))
+            stated(setting.alloc, called)
         }
         Expr::Number { .. }
         | Expr::Truth { .. }
@@ -201,7 +217,7 @@ fn expression(
         | Expr::Binary { .. }
         | Expr::Choose { .. } => {
             let value = expr(setting, scope, x)?;
-            Ok(value_stated(value))
+            value_stated(setting.alloc, value)
         }
     }
 }
@@ -211,8 +227,8 @@ pub fn simple(
     setting: &Setting,
     scope: &Scope,
     x: &Simple,
-) -> Result<Verdict<TypedSimple>, AllocError>
-    ensures { IfOk result (λ v. made simple_of v ≡ judge_simple setting.now.gang setting.now.headers.now scope.now (read_simple x.now)) }
+) -> Result<Verdict<Box<TypedSimple>>, AllocError>
+    ensures { IfOk result (λ v. made boxed_simple v ≡ judge_simple setting.now.gang setting.now.headers.now scope.now (read_simple x.now)) }
 {
     match x {
         Simple::Value(value) => expression(setting, scope, value),
@@ -232,26 +248,36 @@ pub fn simple(
             span,
         } => {
             let place = target(setting, scope, place)?;
-            Ok(stepped(*change, place, *span))
+            stepped(setting.alloc, *change, place, *span)
         }
     }
 }
 
-fn declared_first(items: Verdict<Vec<TypedItem>>, span: Span) -> Verdict<TypedFirst>
-    ensures { made first_of result ≡ made (declared_first span) (made (λ l. items_of l.items) items) }
+fn declared_first(
+    alloc: Global,
+    items: Verdict<Vec<TypedItem>>,
+    span: Span,
+) -> Result<Verdict<Box<TypedFirst>>, AllocError>
+    ensures { IfOk result (λ v. made boxed_first v ≡ made (declared_first span) (made (λ l. items_of l.items) items)) }
 {
     match items {
-        Ok(items) => Ok(TypedFirst::Declare { items, span }),
-        Err(fault) => Err(fault),
+        Ok(items) => Ok(Ok(Box::new(alloc, TypedFirst::Declare { items, span })?)),
+        Err(fault) => Ok(Err(fault)),
     }
 }
 
-fn simple_first(simple: Verdict<TypedSimple>) -> Verdict<TypedFirst>
-    ensures { made first_of result ≡ made t_first_simple (made simple_of simple) }
+fn simple_first(
+    alloc: Global,
+    simple: Verdict<Box<TypedSimple>>,
+) -> Result<Verdict<Box<TypedFirst>>, AllocError>
+    ensures { IfOk result (λ v. made boxed_first v ≡ made t_first_simple (made boxed_simple simple)) }
 {
     match simple {
-        Ok(simple) => Ok(TypedFirst::Simple(simple)),
-        Err(fault) => Err(fault),
+        Ok(simple) => {
+            let first = TypedFirst::Simple(Box::into_inner(simple));
+            Ok(Ok(Box::new(alloc, first)?))
+        }
+        Err(fault) => Ok(Err(fault)),
     }
 }
 
@@ -262,19 +288,19 @@ pub fn first_part(
     start: usize,
     variables: &mut Vec<Variable>,
     x: &First,
-) -> Result<Verdict<TypedFirst>, AllocError>
-    ensures value { IfOk result (λ v. made first_of v ≡ judge_first setting.now.gang setting.now.headers.now scope.old start variables.old.items (read_first x.now)) }
+) -> Result<Verdict<Box<TypedFirst>>, AllocError>
+    ensures value { IfOk result (λ v. made boxed_first v ≡ judge_first setting.now.gang setting.now.headers.now scope.old start variables.old.items (read_first x.now)) }
     ensures names { IfOk result (λ v. scope.new ≡ first_names setting.now.gang scope.old variables.old.items (Some (read_first x.now))) }
     ensures variables { IfOk result (λ v. variables.new.items ≡ first_variables setting.now.gang variables.old.items (Some (read_first x.now))) }
 {
     match x {
         First::Declare(d) => {
             let items = declaration(setting, scope, start, variables, d)?;
-            Ok(declared_first(items, d.span))
+            declared_first(setting.alloc, items, d.span)
         }
         First::Simple(x) => {
             let part = simple(setting, scope, x)?;
-            Ok(simple_first(part))
+            simple_first(setting.alloc, part)
         }
     }
 }

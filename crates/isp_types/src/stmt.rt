@@ -2,22 +2,23 @@
 ghost use Rattle.std.specs.Prelude.{◌≡◌, IfOk, IsTrue, length, option_map, take};
 ghost use Rattle.isp_tree.specs.Views.{block_of as read_block, expr_of as read_expr, simple_of as read_simple, stmt_of as read_stmt};
 ghost use Rattle.isp_typed.specs.Verdicts.{both, made, perhaps};
-ghost use Rattle.isp_typed.specs.Views.{block_of, expr_of, simple_of, stmt_of};
+ghost use Rattle.isp_typed.specs.Views.{block_of, stmt_of};
+ghost use Rattle.isp_exprs.specs.reader.Parts.{boxed_of};
+ghost use Rattle.isp_types.specs.reader.Boxes.{boxed_simple};
 ghost use Rattle.isp_types.specs.Statements.{block_variables, names_after, variables_after};
 ghost use Rattle.isp_types.specs.reader.JudgeStmts.{judge_block, judge_simple, judge_stmt, judge_test};
 ghost use Rattle.isp_types.specs.reader.Kinds.{is_active, is_branch, is_called, is_for, is_foreach, is_repeated};
 
 use crate::declaration::declaration;
-use crate::expr::Setting;
 use crate::make::{
     active_stmt, assert_stmt, block_stmt, boxed, braces, declared_stmt, do_stmt, empty_stmt,
     for_stmt, foreach_stmt, if_else_stmt, if_stmt, print_stmt, push, return_stmt, simple_stmt,
     unmasked_stmt, while_stmt,
 };
 use crate::parts::{active_index, first_if, printed, ranges, returned, simple_if, test, test_if};
-use crate::scope::{Known, Scope};
 use crate::simple::simple;
 use isp_base::Ty;
+use isp_exprs::{Known, Scope, Setting};
 use isp_tree::{Block, Expr, Simple, Stmt};
 use isp_typed::{TypedBlock, TypedExpr, TypedSimple, TypedStmt, Variable, Verdict, both};
 use std::alloc::AllocError;
@@ -175,8 +176,8 @@ fn step_and_body(
     variables: &mut Vec<Variable>,
     step: &Option<Simple>,
     inner: &Stmt,
-) -> Result<Verdict<(Option<TypedSimple>, Box<TypedStmt>)>, AllocError>
-    ensures value { IfOk result (λ v. made (λ p. (option_map simple_of p.0, stmt_of p.1.value)) v ≡ both (perhaps (judge_simple setting.now.gang setting.now.headers.now scope.old) (option_map read_simple step.now)) (judge_stmt setting.now.gang setting.now.headers.now answer scope.old (length scope.old) variables.old.items (read_stmt inner.now))) }
+) -> Result<Verdict<(Option<Box<TypedSimple>>, Box<TypedStmt>)>, AllocError>
+    ensures value { IfOk result (λ v. made (λ p. (option_map boxed_simple p.0, stmt_of p.1.value)) v ≡ both (perhaps (judge_simple setting.now.gang setting.now.headers.now scope.old) (option_map read_simple step.now)) (judge_stmt setting.now.gang setting.now.headers.now answer scope.old (length scope.old) variables.old.items (read_stmt inner.now))) }
     ensures names { IfOk result (λ v. scope.new ≡ scope.old) }
     ensures variables { IfOk result (λ v. variables.new.items ≡ variables_after setting.now.gang variables.old.items (read_stmt inner.now)) }
 {
@@ -195,8 +196,16 @@ fn behind_first(
     x: &Option<Expr>,
     step: &Option<Simple>,
     inner: &Stmt,
-) -> Result<Verdict<(Option<TypedExpr>, (Option<TypedSimple>, Box<TypedStmt>))>, AllocError>
-    ensures value { IfOk result (λ v. made (λ p. (option_map expr_of p.0, (option_map simple_of p.1.0, stmt_of p.1.1.value))) v ≡ both (perhaps (judge_test setting.now.gang setting.now.headers.now scope.old) (option_map read_expr x.now)) (both (perhaps (judge_simple setting.now.gang setting.now.headers.now scope.old) (option_map read_simple step.now)) (judge_stmt setting.now.gang setting.now.headers.now answer scope.old (length scope.old) variables.old.items (read_stmt inner.now)))) }
+) -> Result<
+    Verdict<
+        (
+            Option<Box<TypedExpr>>,
+            (Option<Box<TypedSimple>>, Box<TypedStmt>),
+        ),
+    >,
+    AllocError,
+>
+    ensures value { IfOk result (λ v. made (λ p. (option_map boxed_of p.0, (option_map boxed_simple p.1.0, stmt_of p.1.1.value))) v ≡ both (perhaps (judge_test setting.now.gang setting.now.headers.now scope.old) (option_map read_expr x.now)) (both (perhaps (judge_simple setting.now.gang setting.now.headers.now scope.old) (option_map read_simple step.now)) (judge_stmt setting.now.gang setting.now.headers.now answer scope.old (length scope.old) variables.old.items (read_stmt inner.now)))) }
     ensures names { IfOk result (λ v. scope.new ≡ scope.old) }
     ensures variables { IfOk result (λ v. variables.new.items ≡ variables_after setting.now.gang variables.old.items (read_stmt inner.now)) }
 {

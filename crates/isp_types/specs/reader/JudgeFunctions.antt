@@ -9,11 +9,11 @@ use Rattle.isp_tree.specs.Tree.{Param, Block, Function}
 use Rattle.isp_typed.specs.declared.variable.Variable.{Variable}
 use Rattle.isp_typed.specs.Verdicts.{both, made, beside, fault_unless}
 use Rattle.isp_typed.specs.Typed.{TBlock, TFunction, Program}
-use Rattle.isp_types.specs.declared.scope.Binding.{Binding}
-use Rattle.isp_types.specs.Words.{value_said, answer_said}
-use Rattle.isp_types.specs.Scopes.{with_name}
-use Rattle.isp_types.specs.Calls.{Heading}
-use Rattle.isp_types.specs.Rules.{second, pair_then}
+use Rattle.isp_exprs.specs.declared.scope.Binding.{Binding}
+use Rattle.isp_exprs.specs.Words.{value_said, answer_said}
+use Rattle.isp_exprs.specs.Scopes.{with_name}
+use Rattle.isp_exprs.specs.Calls.{Heading}
+use Rattle.isp_exprs.specs.Rules.{second, pair_then}
 use Rattle.isp_types.specs.Statements.{declared}
 use Rattle.isp_types.specs.Functions.{param_variable, param_fits, heading, is_free, function_made, program_made}
 use Rattle.isp_types.specs.reader.JudgeStmts.{twice, judge_block}

@@ -13,16 +13,16 @@ use Rattle.isp_typed.specs.declared.variable.Variable.{Variable}
 use Rattle.isp_typed.specs.Verdicts.{both, made, found, beside, fault_unless, perhaps}
 use Rattle.isp_typed.specs.Typed.{TExpr, TPlace, TItem, t_plain, TSimple, t_value, TFirst, t_first_simple, TRange}
 use Rattle.isp_typed.specs.Typed.{TStmt, t_block, t_jump, TBlock, t_braces, TStmts, t_no_stmts}
-use Rattle.isp_types.specs.declared.scope.Binding.{Binding}
-use Rattle.isp_types.specs.declared.words.ValueWords.{ValueWords}
-use Rattle.isp_types.specs.Words.{value_said, type_declared}
-use Rattle.isp_types.specs.Scopes.{named, is_new, with_name}
-use Rattle.isp_types.specs.Places.{variable_target, element_target}
-use Rattle.isp_types.specs.Calls.{Heading}
-use Rattle.isp_types.specs.Rules.{second, callee_at, pair_then}
+use Rattle.isp_exprs.specs.declared.scope.Binding.{Binding}
+use Rattle.isp_exprs.specs.declared.words.ValueWords.{ValueWords}
+use Rattle.isp_exprs.specs.Words.{value_said, type_declared}
+use Rattle.isp_exprs.specs.Scopes.{named, is_new, with_name}
+use Rattle.isp_exprs.specs.Places.{variable_target, element_target}
+use Rattle.isp_exprs.specs.Calls.{Heading}
+use Rattle.isp_exprs.specs.Rules.{second, callee_at, pair_then}
 use Rattle.isp_types.specs.Statements.{or_nothing, array_sized, item_names, item_variables, first_names, first_variables, index, active_index, range_names, range_variables, names_after, variables_after, with_initial, sized_item, as_test, stated, assigned, stepped, range_made, places, agrees, as_answer}
 use Rattle.isp_types.specs.Statements.{no_place, declared_first, declared_stmt, simple_stmt, if_stmt, if_else_stmt, while_stmt, do_stmt, for_stmt, foreach_stmt, active_stmt, unmasked_stmt, return_stmt, print_stmt, assert_stmt, braces_made, stmts_made}
-use Rattle.isp_types.specs.reader.Judge.{judge_call, judge, judge_arguments}
+use Rattle.isp_exprs.specs.reader.Judge.{judge_call, judge, judge_arguments}
 
 -- the fault of a name that is not new
 abbrev pub twice : Word → ℕ → List Binding → Option Fault

@@ -1,31 +1,24 @@
 -- What further functions of the code give. No part of the promise.
-use Rattle.std.specs.Prelude.{ℕ, List, [], ◌∷◌, ◌++◌, map, Bool, true, not, Option, Some, None, option_map, Result, Ok, Err}
+use Rattle.std.specs.Prelude.{ℕ, List, map, Bool, true, not, Option, Some, None, option_map, Result, Ok, Err}
 use Rattle.std.specs.List.{list_any}
 use Rattle.isp_base.specs.declared.types.Gang.{Gang}
-use Rattle.isp_base.specs.declared.types.Span.{Span}
 use Rattle.isp_base.specs.declared.types.Ty.{Ty}
 use Rattle.isp_lex.specs.declared.fault.Fault.{Fault}
 use Rattle.isp_lex.specs.declared.fault.Rule.TheVariants.{Mismatch}
 use Rattle.isp_lex.specs.Faults.{fault}
-use Rattle.isp_tree.specs.declared.types.Word.{Word}
-use Rattle.isp_tree.specs.Tree.{Arguments, Item, plain, with_value, with_size, Range, Param, Function}
+use Rattle.isp_tree.specs.Tree.{Item, plain, with_value, with_size, Range, Param, Function}
 use Rattle.isp_typed.specs.declared.variable.Variable.{Variable}
 use Rattle.isp_typed.specs.Verdicts.{both, made, beside, first_of, fault_unless}
 use Rattle.isp_typed.specs.Typed.{TExpr, TItem, t_plain, TBlock, TFunction}
-use Rattle.isp_types.specs.declared.scope.Binding.{Binding}
-use Rattle.isp_types.specs.declared.words.ValueWords.{ValueWords}
-use Rattle.isp_types.specs.Words.{value_said, type_declared}
-use Rattle.isp_types.specs.Scopes.{Meaning, with_name}
-use Rattle.isp_types.specs.Calls.{Heading, Called}
-use Rattle.isp_types.specs.Rules.{callee_at}
+use Rattle.isp_exprs.specs.declared.scope.Binding.{Binding}
+use Rattle.isp_exprs.specs.declared.words.ValueWords.{ValueWords}
+use Rattle.isp_exprs.specs.Words.{value_said, type_declared}
+use Rattle.isp_exprs.specs.Scopes.{Meaning, with_name}
+use Rattle.isp_exprs.specs.Calls.{Heading}
 use Rattle.isp_types.specs.Statements.{declared, array_sized, with_initial, sized_item}
 use Rattle.isp_types.specs.Functions.{param_variable, param_fits, parameter_of, param_span, is_export}
-use Rattle.isp_types.specs.reader.Judge.{judge_call, judge, judge_arguments}
+use Rattle.isp_exprs.specs.reader.Judge.{judge}
 use Rattle.isp_types.specs.reader.JudgeStmts.{twice}
-
--- one more behind the others
-abbrev pub and_one : {A : Type 0} → List A × A → List A
-and_one p = p.0 ++ p.1 ∷ []
 
 -- a variable by its number, where its type is found
 abbrev pub known_next : ℕ → Result Variable Fault → Meaning
@@ -39,9 +32,6 @@ agrees_with (Ok None) has = not has
 agrees_with (Ok (Some t)) has = has
 
 module _ (gang : Gang) (hs : List Heading) (ns : List Binding) where
-  abbrev pub judged_call : Word → Arguments → Span → Result Called Fault
-  judged_call w xs s = judge_call hs w xs s (judge_arguments gang hs ns (callee_at hs w xs).1 xs)
-
   abbrev pub judge_bounds : Range → Result (TExpr × TExpr) Fault
   judge_bounds r = both (judge gang hs ns r.start) (judge gang hs ns r.end)
 

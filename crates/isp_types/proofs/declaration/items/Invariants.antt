@@ -4,7 +4,7 @@ use Rattle.isp_typed.specs.Verdicts.{made}
 use Rattle.isp_typed.specs.Views.{items_of}
 use Rattle.isp_types.specs.Statements.{items_names, items_variables}
 use Rattle.isp_types.specs.reader.JudgeStmts.{judge_items}
-use Rattle.isp_types.proofs.Gathered.{before}
+use Rattle.isp_exprs.proofs.Gathered.{before}
 use Rattle.isp_types.proofs.declaration.items.Given as goal
 
 abbrev pub invariant-loop-x : goal.invariant-loop-x

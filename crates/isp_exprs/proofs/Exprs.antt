@@ -1,0 +1,63 @@
+-- The judge is right on expressions.
+use Rattle.std.specs.Prelude.{List, [], Result}
+use Rattle.isp_base.specs.declared.types.Gang.{Gang}
+use Rattle.isp_base.specs.declared.types.Span.{Span}
+use Rattle.isp_lex.specs.declared.fault.Fault.{Fault}
+use Rattle.isp_tree.specs.declared.types.Word.{Word}
+use Rattle.isp_tree.specs.Tree.{Expr, number, truth, program_index, program_count, place, call, brackets, cast, prefix, binary, choose, Place, variable, element, Argument, by_value, by_reference, Arguments, no_arguments, argument_then, span_of_argument}
+use Rattle.isp_typed.specs.Promise.{Right}
+use Rattle.isp_typed.specs.Typed.{t_constant, t_program_index, t_place}
+use Rattle.isp_typed.proofs.Right.{just_right, given_right, made_right, found_right, both_right}
+use Rattle.isp_exprs.specs.declared.scope.Binding.{Binding}
+use Rattle.isp_exprs.specs.declared.callee.Want.{Want}
+use Rattle.isp_exprs.specs.Words.{value_said}
+use Rattle.isp_exprs.specs.Scopes.{named}
+use Rattle.isp_exprs.specs.Values.{truth_value, count_value, in_brackets, cast_to, with_sign, joined, choice}
+use Rattle.isp_exprs.specs.Places.{variable_at, element_at}
+use Rattle.isp_exprs.specs.Calls.{Heading, h_value, Passed, unless_unknown, suits, first_want, rest_of, call_of, value_called, handed_call, handed_name}
+use Rattle.isp_exprs.specs.Rules.{callee_at, handed_reference, handed_element, pair_then, IsCall, CallBreach, IsExpr, ExprBreach, IsPlace, PlaceBreach, IsArgument, ArgumentBreach, AreArguments, ArgumentsBreach}
+use Rattle.isp_exprs.specs.reader.Judge.{judge_call, judge, judge_place, judge_argument, judge_arguments}
+
+pub call_right : (hs : List Heading) (w : Word) (xs : Arguments) (s : Span) (v : Result (List Passed) Fault) (P : List Passed → Type 0) (F : Fault → Type 0)
+    → Right v P F → Right (judge_call hs w xs s v) (IsCall hs w xs s P) (CallBreach hs w xs s P F)
+call_right hs w xs s v P F r = found_right (call_of s) _ _ _ (both_right _ _ _ _ _ _ (given_right (unless_unknown w (callee_at hs w xs).0)) r)
+
+module _ (gang : Gang) (hs : List Heading) (ns : List Binding) where
+  mutual
+    pub expr_right : (x : Expr) → Right (judge gang hs ns x) (IsExpr gang hs ns x) (ExprBreach gang hs ns x)
+    expr_right (number v s) = just_right (t_constant v s)
+    expr_right (truth b s) = just_right (t_constant (truth_value b) s)
+    expr_right (program_index s) = just_right (t_program_index s)
+    expr_right (program_count s) = just_right (t_constant (count_value gang) s)
+    expr_right (place p) = made_right t_place _ _ _ (place_right p)
+    expr_right (call w xs s) = found_right (value_called s) _ _ _ (call_right hs w xs s _ _ _ (arguments_right (callee_at hs w xs).1 xs))
+    expr_right (brackets x s) = made_right (in_brackets s) _ _ _ (expr_right x)
+    expr_right (cast t x s) = made_right (cast_to s) _ _ _ (both_right _ _ _ _ _ _ (given_right (value_said t)) (expr_right x))
+    expr_right (prefix op x s) = made_right (with_sign op s) _ _ _ (expr_right x)
+    expr_right (binary op x y s) = made_right (joined op s) _ _ _ (both_right _ _ _ _ _ _ (expr_right x) (expr_right y))
+    expr_right (choose c x y s) = made_right (choice s) _ _ _ (both_right _ _ _ _ _ _ (expr_right c) (both_right _ _ _ _ _ _ (expr_right x) (expr_right y)))
+
+    pub place_right : (p : Place) → Right (judge_place gang hs ns p) (IsPlace gang hs ns p) (PlaceBreach gang hs ns p)
+    place_right (variable w) = found_right (variable_at w.span) _ _ _ (given_right (named ns w))
+    place_right (element w x s) = found_right (element_at s) _ _ _ (both_right _ _ _ _ _ _ (given_right (named ns w)) (expr_right x))
+
+    pub argument_right : (x : Argument) → Right (judge_argument gang hs ns x) (IsArgument gang hs ns x) (ArgumentBreach gang hs ns x)
+    argument_right (by_value (place (variable w))) = made_right (handed_name w.span) _ _ _ (given_right (named ns w))
+    argument_right (by_value (call w xs s)) = made_right handed_call _ _ _ (call_right hs w xs s _ _ _ (arguments_right (callee_at hs w xs).1 xs))
+    argument_right (by_value (number v s)) = made_right h_value _ _ _ (expr_right (number v s))
+    argument_right (by_value (truth b s)) = made_right h_value _ _ _ (expr_right (truth b s))
+    argument_right (by_value (program_index s)) = made_right h_value _ _ _ (expr_right (program_index s))
+    argument_right (by_value (program_count s)) = made_right h_value _ _ _ (expr_right (program_count s))
+    argument_right (by_value (brackets x s)) = made_right h_value _ _ _ (expr_right (brackets x s))
+    argument_right (by_value (cast t x s)) = made_right h_value _ _ _ (expr_right (cast t x s))
+    argument_right (by_value (prefix op x s)) = made_right h_value _ _ _ (expr_right (prefix op x s))
+    argument_right (by_value (binary op x y s)) = made_right h_value _ _ _ (expr_right (binary op x y s))
+    argument_right (by_value (choose c x y s)) = made_right h_value _ _ _ (expr_right (choose c x y s))
+    argument_right (by_value (place (element w x s))) = made_right h_value _ _ _ (expr_right (place (element w x s)))
+    argument_right (by_reference (variable w) s) = made_right (handed_reference w.span) _ _ _ (given_right (named ns w))
+    argument_right (by_reference (element w x e) s) = made_right (handed_element w.span) _ _ _ (both_right _ _ _ _ _ _ (given_right (named ns w)) (expr_right x))
+
+    pub arguments_right : (ws : List Want) (xs : Arguments) → Right (judge_arguments gang hs ns ws xs) (AreArguments gang hs ns ws xs) (ArgumentsBreach gang hs ns ws xs)
+    arguments_right ws no_arguments = just_right []
+    arguments_right ws (argument_then x xs) = made_right pair_then _ _ _
+        (both_right _ _ _ _ _ _ (found_right (suits (first_want ws) (span_of_argument x)) _ _ _ (argument_right x)) (arguments_right (rest_of ws) xs))

@@ -1,0 +1,7 @@
+pub mod Words
+pub mod Scopes
+pub mod Values
+pub mod Places
+pub mod Calls
+pub mod Rules
+pub mod reader

@@ -1,0 +1,6 @@
+-- What the functions of the code give. Nothing here is promised: proofs/ ties it to the rules.
+pub mod Judge
+pub mod Scopes
+pub mod Headings
+pub mod Parts
+pub mod Lists

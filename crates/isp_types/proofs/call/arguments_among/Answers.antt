@@ -1,5 +1,0 @@
-use Rattle.isp_types.proofs.PassedParts.{arguments_step}
-use Rattle.isp_types.proofs.call.arguments_among.Goals as goal
-
-pub loop-part-preserved : goal.loop-part-preserved
-loop-part-preserved c = arguments_step c.loop-part.arguments.items c.push_argument.new.arguments.items c.loop-part.yielded c.in-Some.part c.loop-part.invariant c.in_ok-push_argument.ensures

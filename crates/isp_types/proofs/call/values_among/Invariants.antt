@@ -1,8 +1,0 @@
-use Rattle.std.proofs.Common.{◌≡◌}
-use Rattle.isp_typed.specs.Views.{exprs_of}
-use Rattle.isp_types.specs.Calls.{values_among}
-use Rattle.isp_types.specs.reader.Parts.{list_passed}
-use Rattle.isp_types.proofs.call.values_among.Given as goal
-
-abbrev pub invariant-loop-part : goal.invariant-loop-part
-invariant-loop-part l = exprs_of l.values.items ≡ values_among (list_passed l.yielded)

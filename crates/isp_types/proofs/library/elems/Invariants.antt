@@ -1,7 +1,0 @@
-use Rattle.std.proofs.Common.{◌≡◌, map, take}
-use Rattle.isp_typed.specs.Views.{exprs_of}
-use Rattle.isp_types.specs.Values.{elem_of}
-use Rattle.isp_types.proofs.library.elems.Given as goal
-
-abbrev pub invariant-loop-value : goal.invariant-loop-value
-invariant-loop-value l = l.all.items ≡ map elem_of (exprs_of (take l.value-index l.values))

@@ -1,8 +1,0 @@
-use Rattle.std.proofs.Common.{◌≡◌, drop}
-use Rattle.isp_typed.specs.Views.{exprs_of}
-use Rattle.isp_types.specs.Values.{rate_or}
-use Rattle.isp_types.specs.Calls.{rate_all}
-use Rattle.isp_types.proofs.library.rate_all.Given as goal
-
-abbrev pub invariant-loop-value : goal.invariant-loop-value
-invariant-loop-value l = rate_or l.rate (rate_all (exprs_of (drop l.value-index l.values))) ≡ rate_all (exprs_of l.values)

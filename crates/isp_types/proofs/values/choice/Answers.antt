@@ -1,7 +1,0 @@
-use Rattle.isp_typed.specs.Views.{expr_of}
-use Rattle.isp_types.specs.Values.{choice}
-use Rattle.isp_typed.proofs.Verdicts.{three_fail}
-use Rattle.isp_types.proofs.values.choice.Goals as goal
-
-pub returns-in-Err : goal.returns-in-Err
-returns-in-Err c = three_fail expr_of expr_of expr_of (choice c.args.span) c.args.test c.args.x c.args.y c.in-Err.fault (cc)
