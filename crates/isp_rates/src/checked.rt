@@ -1,6 +1,7 @@
 //! Checked programs.
 ghost use Rattle.std.specs.Prelude.{◌≡◌, ◌&&◌, bytes_eq, filter, find, map, option_map, slice_get};
 ghost use Rattle.isp_lex.specs.declared.fault.Fault.{Fault};
+ghost use Rattle.isp_typed.specs.Fine.{IsFine};
 ghost use Rattle.isp_typed.specs.Views.{functions_of, program_of};
 ghost use Rattle.isp_rates.specs.Reaches.{function_calls};
 ghost use Rattle.isp_rates.specs.reader.Lists.{lists_of};
@@ -64,6 +65,7 @@ impl Checked {
     pub fn program(&self) -> &Program
         ensures same { result.now ≡ self.now }
         ensures sound { (f : Fault) → ProgramBreach (program_of result.now) f → ⊥ }
+        ensures fine { IsFine (program_of self.now) }
     {
         self.typed.program()
     }

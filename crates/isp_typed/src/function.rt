@@ -1,5 +1,7 @@
 //! Functions and programs.
 ghost use Rattle.std.specs.Prelude.{◌≡◌};
+ghost use Rattle.isp_typed.specs.Fine.{IsFine};
+ghost use Rattle.isp_typed.specs.Views.{program_of};
 
 use crate::stmt::TypedBlock;
 use crate::variable::Variable;
@@ -31,6 +33,9 @@ pub struct Program {
 }
 
 /// A program whose names and types are found. Contracts see the program.
+///
+/// Each is fine: a variable is used as what it holds, an operand has the element type that its node
+/// works in, a call fits the function that it calls, a local array has 1 to 65,536 elements.
 #[derive(Drop)]
 pub struct Typed {
     program: Program,
@@ -45,12 +50,18 @@ impl Model for Typed {
 
     ghost coded = { Prim.hlevel (codes, function_code.the_row.coded) };
 
+    ghost use Rattle.isp_typed.specs.Fine.{IsFine};
+    ghost use Rattle.isp_typed.specs.Views.{program_of};
+
     ghost view = { λ t. t.program };
+
+    ghost invariant = { λ t. IsFine (program_of t.program) };
 }
 
 impl Typed {
     /// The program of these functions.
     pub fn new(program: Program) -> Typed
+        requires fine { IsFine (program_of program) }
         ensures { result ≡ program }
     {
         Typed { program }
@@ -58,7 +69,8 @@ impl Typed {
 
     /// The gang size and the functions.
     pub fn program(&self) -> &Program
-        ensures { result.now ≡ self.now }
+        ensures same { result.now ≡ self.now }
+        ensures fine { IsFine (program_of self.now) }
     {
         &self.program
     }

@@ -8,3 +8,4 @@ pub mod NamesKept
 pub mod StmtTrees
 pub mod StmtSteps
 pub mod StmtParts
+pub mod fine

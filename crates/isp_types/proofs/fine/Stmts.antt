@@ -1,0 +1,165 @@
+-- Every statement that names and types accept is fine.
+use Rattle.std.proofs.Common.{◌≡◌, ℕ, zero, suc, ◌++◌, ◌≤◌, Bool, true, false, refl, sym, ap, subst, ◌∙◌, arith}
+use Rattle.std.specs.Prelude.{Option, Some, None, List, [], ◌∷◌, length, Result, Ok, Err}
+use Rattle.std.specs.List.{All}
+use Rattle.std.proofs.lemmas.Bool.{eqb-true}
+use Rattle.isp_base.specs.declared.types.Elem.TheVariants.{Bool as Truth}
+use Rattle.isp_base.specs.declared.types.Gang.{Gang}
+use Rattle.isp_base.specs.declared.types.Ty.{Ty}
+use Rattle.isp_tree.specs.Sound.{IfAny, IsSoundExpr, IsSoundFirst, IsSoundSimple, IsSoundStmt, IsSoundBlock, AreSoundStmts}
+use Rattle.isp_tree.specs.Tree.{Expr, First, Simple, Stmt, block, empty, declare, simple, if_then, if_else, loop_while, loop_do, loop_for, foreach, foreach_active, unmasked, jump, returning, print, assert, Block, braces, Stmts, no_stmts, stmt_then}
+use Rattle.isp_typed.specs.declared.variable.Variable.{Variable}
+use Rattle.isp_typed.specs.Typed.{TExpr, TFirst, TSimple, TStmt, TBlock, TStmts, TFunction}
+use Rattle.isp_typed.specs.Fine.{FineExpr, FineValue, FineFirst, FineSimple, FineReturned, FineStmt, FineBlock, FineStmts}
+use Rattle.isp_exprs.specs.declared.scope.Binding.{Binding}
+use Rattle.isp_exprs.specs.Scopes.{with_name}
+use Rattle.isp_exprs.specs.Values.{converted}
+use Rattle.isp_exprs.specs.Calls.{Heading}
+use Rattle.isp_exprs.specs.Rules.{IsExpr}
+use Rattle.isp_types.specs.Statements.{first_names, first_variables, active_index, range_names, range_variables, names_after, variables_after, block_variables, stmts_variables, agrees, as_answer, places, IsTest, IsSimple, IsFirst, AreValues, IsReturned, IsStmt, IsBlock, AreStmts}
+use Rattle.isp_exprs.specs.Words.{value_said}
+use Rattle.isp_typed.specs.Forms.{Perhaps}
+use Rattle.isp_types.proofs.NamesKept.{Grown, same, then as and_then, one_more}
+use Rattle.isp_types.proofs.fine.Names.{InScope, name_added, get_next, grown_length}
+use Rattle.isp_types.proofs.fine.Callees.{Headed}
+use Rattle.isp_types.proofs.fine.Exprs.{expr_fine}
+use Rattle.isp_types.proofs.fine.Simples.{items_grow_variables, ranges_grow_variables, first_grows_variables, value_is_fine, simple_fine, values_fine, declaration_fine, first_fine, ranges_fine}
+
+-- ---- variables only grow
+
+module _ (gang : Gang) where
+  mutual
+    pub stmt_grows : (vars : List Variable) (s : Stmt) → Grown vars (variables_after gang vars s)
+    stmt_grows vars (block b) = block_grows vars b
+    stmt_grows vars (empty s) = same vars
+    stmt_grows vars (declare d s) = items_grow_variables gang (value_said d.ty) vars d.items
+    stmt_grows vars (simple p s) = same vars
+    stmt_grows vars (if_then f x a s) = stmt_grows vars a
+    stmt_grows vars (if_else f x a b s) = and_then _ _ _ (stmt_grows vars a) (stmt_grows (variables_after gang vars a) b)
+    stmt_grows vars (loop_while f x a s) = stmt_grows vars a
+    stmt_grows vars (loop_do f a x s) = stmt_grows vars a
+    stmt_grows vars (loop_for f i x p a s) = and_then _ _ _ (first_grows_variables gang vars i) (stmt_grows (first_variables gang vars i) a)
+    stmt_grows vars (foreach t k rs a s) = and_then _ _ _ (ranges_grow_variables vars rs) (stmt_grows (range_variables vars rs) a)
+    stmt_grows vars (foreach_active k w a s) = and_then _ _ _ (one_more vars active_index) (stmt_grows (vars ++ active_index ∷ []) a)
+    stmt_grows vars (unmasked k b s) = block_grows vars b
+    stmt_grows vars (jump j k s) = same vars
+    stmt_grows vars (returning k x s) = same vars
+    stmt_grows vars (print k t p xs s) = same vars
+    stmt_grows vars (assert x c s) = same vars
+
+    pub block_grows : (vars : List Variable) (b : Block) → Grown vars (block_variables gang vars b)
+    block_grows vars (braces ss s) = stmts_grow vars ss
+
+    pub stmts_grow : (vars : List Variable) (ss : Stmts) → Grown vars (stmts_variables gang vars ss)
+    stmts_grow vars no_stmts = same vars
+    stmts_grow vars (stmt_then s ss) = and_then _ _ _ (stmt_grows vars s) (stmts_grow (variables_after gang vars s) ss)
+
+module _ (gang : Gang) (hs : List Heading) (gs : List TFunction) (all : List Variable) (headed : Headed hs gs) (answer : Option Ty) where
+  low : (vars after : List Variable) → Grown vars after → Grown after all → length vars ≤ length all
+  low vars after g h = grown_length vars all (and_then _ _ _ g h)
+
+  test_fine : (ns : List Binding) → InScope all ns → (x : Expr) → IsSoundExpr x → (t : TExpr) → IsTest gang hs ns x t → FineValue gs all Truth t
+  test_fine ns scope x h t i = subst (FineValue gs all Truth) (sym i.2) (value_is_fine gang hs gs all headed Truth i.0 (expr_fine gang hs gs all ns headed scope x h i.0 i.1))
+
+  -- what may be left out
+  maybe_test : (ns : List Binding) → InScope all ns → (x : Option Expr) → IfAny IsSoundExpr x → (t : Option TExpr) → Perhaps (IsTest gang hs ns) x t → IfAny (FineValue gs all Truth) t
+  maybe_test ns scope None h t i = subst (IfAny (FineValue gs all Truth)) (sym i) tt
+  maybe_test ns scope (Some x) h t i = subst (IfAny (FineValue gs all Truth)) (sym i.2) (test_fine ns scope x h i.0 i.1)
+
+  maybe_simple : (ns : List Binding) → InScope all ns → (x : Option Simple) → IfAny IsSoundSimple x → (t : Option TSimple) → Perhaps (IsSimple gang hs ns) x t → IfAny (FineSimple gs all) t
+  maybe_simple ns scope None h t i = subst (IfAny (FineSimple gs all)) (sym i) tt
+  maybe_simple ns scope (Some x) h t i = subst (IfAny (FineSimple gs all)) (sym i.2) (simple_fine gang hs gs all headed ns scope x h i.0 i.1)
+
+  maybe_first : (start : ℕ) (ns : List Binding) (vars : List Variable) → InScope all ns → (x : Option First) → IfAny IsSoundFirst x → Grown (first_variables gang vars x) all
+      → (t : Option TFirst) → Perhaps (IsFirst gang hs ns start vars) x t → IfAny (FineFirst gs all) t × InScope all (first_names gang ns vars x)
+  maybe_first start ns vars scope None h g t i = (subst (IfAny (FineFirst gs all)) (sym i) tt, scope)
+  maybe_first start ns vars scope (Some x) h g t i =
+      let f = first_fine gang hs gs all headed start ns vars x h scope g i.0 i.1 in
+      (subst (IfAny (FineFirst gs all)) (sym i.2) f.0, f.1)
+
+  returned_fine : (ns : List Binding) → InScope all ns → (o : Option Ty) (x : Option Expr) → IfAny IsSoundExpr x → (t : Option TExpr) → IsReturned gang hs (Ok o) ns x t → FineReturned gs all o t
+  returned_fine ns scope None None h t i = subst (FineReturned gs all None) (sym i.1) tt
+  returned_fine ns scope (Some a) (Some x) h t i =
+      let one = i.1 in
+      subst (FineReturned gs all (Some a)) (sym (one.2 ∙ ap (λ z. Some z) one.1.2)) (value_is_fine gang hs gs all headed a.elem one.1.0 (expr_fine gang hs gs all ns headed scope x h one.1.0 one.1.1))
+  returned_fine ns scope None (Some x) h t i = absurd (let no : ⊥ = cc in no)
+  returned_fine ns scope (Some a) None h t i = absurd (let no : ⊥ = cc in no)
+
+  values_length : (ns : List Binding) (xs : List Expr) (ts : List TExpr) → AreValues gang hs ns xs ts → length xs ≡ length ts
+  values_length ns [] ts i = ap length (sym i)
+  values_length ns (x ∷ xs) ts i = ap suc (values_length ns xs i.0.1 i.1.1) ∙ ap length (sym i.2)
+
+  -- the names after a statement are those of variables too
+  names_scope : (ns : List Binding) (start : ℕ) (vars : List Variable) (s : Stmt) → IsSoundStmt s → InScope all ns → Grown (variables_after gang vars s) all → (t : TStmt) → IsStmt gang hs (Ok answer) ns start vars s t
+      → InScope all (names_after gang ns vars s)
+  names_scope ns start vars (declare d s) h scope g t i = (declaration_fine gang hs gs all headed start ns vars d h.0 scope g i.0 i.1).1
+  names_scope ns start vars (block b) h scope g t i = scope
+  names_scope ns start vars (empty s) h scope g t i = scope
+  names_scope ns start vars (simple p s) h scope g t i = scope
+  names_scope ns start vars (if_then f x a s) h scope g t i = scope
+  names_scope ns start vars (if_else f x a b s) h scope g t i = scope
+  names_scope ns start vars (loop_while f x a s) h scope g t i = scope
+  names_scope ns start vars (loop_do f a x s) h scope g t i = scope
+  names_scope ns start vars (loop_for f j x p a s) h scope g t i = scope
+  names_scope ns start vars (foreach k w rs a s) h scope g t i = scope
+  names_scope ns start vars (foreach_active k w a s) h scope g t i = scope
+  names_scope ns start vars (unmasked k b s) h scope g t i = scope
+  names_scope ns start vars (jump j k s) h scope g t i = scope
+  names_scope ns start vars (returning k x s) h scope g t i = scope
+  names_scope ns start vars (print k w p xs s) h scope g t i = scope
+  names_scope ns start vars (assert x c s) h scope g t i = scope
+
+  mutual
+    pub stmt_fine : (ns : List Binding) (start : ℕ) (vars : List Variable) (s : Stmt) → IsSoundStmt s → InScope all ns → Grown (variables_after gang vars s) all → (t : TStmt) → IsStmt gang hs (Ok answer) ns start vars s t
+        → FineStmt gs all answer t
+    stmt_fine ns start vars (block b) h scope g t i = subst (FineStmt gs all answer) (sym i.2) (block_fine ns (length ns) vars b h scope g i.0 i.1)
+    stmt_fine ns start vars (empty s) h scope g t i = subst (FineStmt gs all answer) (sym i) tt
+    stmt_fine ns start vars (declare d s) h scope g t i = subst (FineStmt gs all answer) (sym i.2) (declaration_fine gang hs gs all headed start ns vars d h.0 scope g i.0 i.1).0
+    stmt_fine ns start vars (simple p s) h scope g t i = subst (FineStmt gs all answer) (sym i.2) (simple_fine gang hs gs all headed ns scope p h.0 i.0 i.1)
+    stmt_fine ns start vars (if_then f x a s) h scope g t i = subst (FineStmt gs all answer) (sym i.2)
+        (low vars _ (stmt_grows gang vars a) g, test_fine ns scope x h.0 i.0.0 i.1.0, stmt_fine ns (length ns) vars a h.1 scope g i.0.1 i.1.1)
+    stmt_fine ns start vars (if_else f x a b s) h scope g t i = subst (FineStmt gs all answer) (sym i.2)
+        (low vars _ (stmt_grows gang vars (if_else f x a b s)) g, test_fine ns scope x h.0 i.0.0 i.1.0,
+        stmt_fine ns (length ns) vars a h.1 scope (and_then _ _ _ (stmt_grows gang (variables_after gang vars a) b) g) i.0.1.0 i.1.1.0,
+        stmt_fine ns (length ns) (variables_after gang vars a) b h.2 scope g i.0.1.1 i.1.1.1)
+    stmt_fine ns start vars (loop_while f x a s) h scope g t i = subst (FineStmt gs all answer) (sym i.2)
+        (low vars _ (stmt_grows gang vars a) g, test_fine ns scope x h.0 i.0.0 i.1.0, stmt_fine ns (length ns) vars a h.1 scope g i.0.1 i.1.1)
+    stmt_fine ns start vars (loop_do f a x s) h scope g t i = subst (FineStmt gs all answer) (sym i.2)
+        (low vars _ (stmt_grows gang vars a) g, stmt_fine ns (length ns) vars a h.0 scope g i.0.0 i.1.0, test_fine ns scope x h.1 i.0.1 i.1.1)
+    stmt_fine ns start vars (loop_for f j x p a s) h scope g t i =
+        let after = stmt_grows gang (first_variables gang vars j) a in
+        let first = maybe_first (length ns) ns vars scope j h.0 (and_then _ _ _ after g) i.0.0 i.1.0 in
+        subst (FineStmt gs all answer) (sym i.2)
+        (grown_length vars _ (first_grows_variables gang vars j), low (first_variables gang vars j) _ after g, first.0,
+        maybe_test (first_names gang ns vars j) first.1 x h.1 i.0.1.0 i.1.1.0, maybe_simple (first_names gang ns vars j) first.1 p h.2 i.0.1.1.0 i.1.1.1.0,
+        stmt_fine (first_names gang ns vars j) (length (first_names gang ns vars j)) (first_variables gang vars j) a h.3 first.1 g i.0.1.1.1 i.1.1.1.1)
+    stmt_fine ns start vars (foreach k w rs a s) h scope g t i =
+        let after = stmt_grows gang (range_variables vars rs) a in
+        let ranges = ranges_fine gang hs gs all headed (length ns) ns ns vars rs h.1.each scope scope (and_then _ _ _ after g) i.0.0 i.1.0 in
+        subst (FineStmt gs all answer) (sym i.2)
+        (low vars _ (stmt_grows gang vars (foreach k w rs a s)) g, ranges.0,
+        stmt_fine (range_names ns vars rs) (length (range_names ns vars rs)) (range_variables vars rs) a h.2 ranges.1 g i.0.1 i.1.1)
+    stmt_fine ns start vars (foreach_active k w a s) h scope g t i =
+        let g1 = and_then _ _ _ (stmt_grows gang (vars ++ active_index ∷ []) a) g in
+        subst (FineStmt gs all answer) (sym i.2)
+        (low vars _ (one_more vars active_index) g1, get_next vars active_index all g1,
+        stmt_fine (with_name ns vars w.name (Ok active_index)) (length (with_name ns vars w.name (Ok active_index))) (vars ++ active_index ∷ []) a h.2 (name_added all ns vars w.name active_index scope g1) g i.0 i.1)
+    stmt_fine ns start vars (unmasked k b s) h scope g t i = subst (FineStmt gs all answer) (sym i.2) (block_fine ns (length ns) vars b h.1 scope g i.0 i.1)
+    stmt_fine ns start vars (jump j k s) h scope g t i = subst (FineStmt gs all answer) (sym i) tt
+    stmt_fine ns start vars (returning k x s) h scope g t i = subst (FineStmt gs all answer) (sym i.2) (returned_fine ns scope answer x h.1 i.0 i.1)
+    stmt_fine ns start vars (print k w p xs s) h scope g t i = subst (FineStmt gs all answer) (sym i.2)
+        (eqb-true (places w) (length xs) i.1.0 ∙ values_length ns xs i.0 i.1.1, values_fine gang hs gs all headed ns scope xs h.2 i.0 i.1.1)
+    stmt_fine ns start vars (assert x c s) h scope g t i = subst (FineStmt gs all answer) (sym i.2) (test_fine ns scope x h.0 i.0 i.1, h.1)
+
+    pub block_fine : (ns : List Binding) (start : ℕ) (vars : List Variable) (b : Block) → IsSoundBlock b → InScope all ns → Grown (block_variables gang vars b) all → (t : TBlock) → IsBlock gang hs (Ok answer) ns start vars b t
+        → FineBlock gs all answer t
+    block_fine ns start vars (braces ss s) h scope g t i = subst (FineBlock gs all answer) (sym i.2) (stmts_fine ns start vars ss h.0 scope g i.0 i.1)
+
+    stmts_fine : (ns : List Binding) (start : ℕ) (vars : List Variable) (ss : Stmts) → AreSoundStmts ss → InScope all ns → Grown (stmts_variables gang vars ss) all → (t : TStmts) → AreStmts gang hs (Ok answer) ns start vars ss t
+        → FineStmts gs all answer t
+    stmts_fine ns start vars no_stmts h scope g t i = subst (FineStmts gs all answer) (sym i) tt
+    stmts_fine ns start vars (stmt_then s ss) h scope g t i =
+        let g1 = and_then _ _ _ (stmts_grow gang (variables_after gang vars s) ss) g in
+        subst (FineStmts gs all answer) (sym i.2)
+        (stmt_fine ns start vars s h.0 scope g1 i.0.0 i.1.0,
+        stmts_fine (names_after gang ns vars s) start (variables_after gang vars s) ss h.1 (names_scope ns start vars s h.0 scope g1 i.0.0 i.1.0) g i.0.1 i.1.1)

@@ -1,0 +1,135 @@
+-- Typed expressions made of fine parts are fine.
+use Rattle.std.proofs.Common.{◌≡◌, ℕ, ◌≤◌, Bool, true, false, cond, refl, sym, ap, subst, ◌∙◌, arith, ◌⊎◌, inl, inr}
+use Rattle.std.specs.Prelude.{Option, Some, None, List, [], ◌∷◌, length, map, ◌==◌, if◌then◌else◌}
+use Rattle.std.proofs.lemmas.Bool.{eqb-true}
+use Rattle.isp_base.specs.declared.types.Elem.{Elem}
+use Rattle.isp_base.specs.declared.types.Elem.TheVariants.{Bool as Truth, I8, U8, I16, U16, I32, U32, I64, U64}
+use Rattle.isp_base.specs.declared.types.Gang.{Gang}
+use Rattle.isp_base.specs.declared.types.Gang.TheVariants as gangs
+use Rattle.isp_base.specs.declared.types.Rate.{Rate}
+use Rattle.isp_base.specs.declared.types.Rate.TheVariants.{Uniform, Varying}
+use Rattle.isp_base.specs.declared.types.Span.{Span}
+use Rattle.isp_base.specs.declared.types.Ty.{Ty}
+use Rattle.isp_base.specs.Types.{gang_width}
+use Rattle.isp_base.specs.Ranks.{rank, same_elem, operand, common}
+use Rattle.isp_base.specs.Values.{greatest}
+use Rattle.isp_base.proofs.RankLaws.{common_one}
+use Rattle.isp_tree.specs.Sound.{InText}
+use Rattle.isp_tree.specs.declared.expr.Operator.{Operator}
+use Rattle.isp_tree.specs.declared.expr.Prefix.{Prefix}
+use Rattle.isp_tree.specs.declared.expr.Prefix.TheVariants as sign
+use Rattle.isp_typed.specs.declared.variable.Variable.{Variable}
+use Rattle.isp_typed.specs.Typed.{TExpr, TFunction, type_of, ty_of}
+use Rattle.isp_typed.specs.Fine as fine
+use Rattle.isp_typed.specs.Fine.{FineExpr, IsWhole}
+use Rattle.isp_exprs.specs.declared.values.Joining.{Joining}
+use Rattle.isp_exprs.specs.declared.values.Joining.TheVariants as joined_as
+use Rattle.isp_exprs.specs.declared.words.ValueWords.{ValueWords}
+use Rattle.isp_exprs.specs.Values.{elem_of, rate_of, rate_or, converted, chosen, in_brackets, cast_to, with_sign, joins, joining, joined, choice, truth_value, count_value}
+
+-- ---- element types and rates
+
+abbrev of_rank : ℕ → Elem
+of_rank n = if n == 0 then Truth else (if n == 1 then I8 else (if n == 2 then U8 else (if n == 3 then I16 else (if n == 4 then U16 else (if n == 5 then I32 else (if n == 6 then U32 else (if n == 7 then I64 else U64)))))))
+
+ranked : (e : Elem) → of_rank (rank e) ≡ e
+ranked Truth = refl
+ranked I8 = refl
+ranked U8 = refl
+ranked I16 = refl
+ranked U16 = refl
+ranked I32 = refl
+ranked U32 = refl
+ranked I64 = refl
+ranked U64 = refl
+
+pub same_is : (a b : Elem) → same_elem a b ≡ true → a ≡ b
+same_is a b e = sym (ranked a) ∙ (ap of_rank (eqb-true (rank a) (rank b) e) ∙ ranked b)
+
+pub operand_whole : (e : Elem) → IsWhole (operand e)
+operand_whole Truth = refl
+operand_whole I8 = refl
+operand_whole U8 = refl
+operand_whole I16 = refl
+operand_whole U16 = refl
+operand_whole I32 = refl
+operand_whole U32 = refl
+operand_whole I64 = refl
+operand_whole U64 = refl
+
+pub common_whole : (a b : Elem) → IsWhole (common a b)
+common_whole a b = elim (common_one a b) as (λ z. IsWhole (common a b)) [ inl e ↦ rw e (operand_whole a) | inr e ↦ rw e (operand_whole b) ]
+
+pub rate_same : (a b : Rate) → rate_or a b ≡ fine.rate_or a b
+rate_same Uniform b = refl
+rate_same Varying b = refl
+
+-- ---- conversions
+
+pub converted_elem : (e : Elem) (x : TExpr) → elem_of (converted e x) ≡ e
+converted_elem e x = go (same_elem (elem_of x) e) refl
+  where
+    go : (t : Bool) → same_elem (elem_of x) e ≡ t → elem_of (converted e x) ≡ e
+    go true q = rw q (same_is (elem_of x) e q)
+    go false q = rw q refl
+
+pub converted_rate : (e : Elem) (x : TExpr) → rate_of (converted e x) ≡ rate_of x
+converted_rate e x = go (same_elem (elem_of x) e) refl
+  where
+    go : (t : Bool) → same_elem (elem_of x) e ≡ t → rate_of (converted e x) ≡ rate_of x
+    go true q = rw q refl
+    go false q = rw q refl
+
+pub converted_type : (e : Elem) (x : TExpr) → type_of (converted e x) ≡ ty_of (rate_of x) e
+converted_type e x = go (same_elem (elem_of x) e) refl
+  where
+    go : (t : Bool) → same_elem (elem_of x) e ≡ t → type_of (converted e x) ≡ ty_of (rate_of x) e
+    go true q = rw q (ap (λ z. ty_of (rate_of x) z) (same_is (elem_of x) e q))
+    go false q = rw q refl
+
+module _ (gs : List TFunction) (all : List Variable) where
+  pub converted_fine : (e : Elem) (x : TExpr) → FineExpr gs all x → FineExpr gs all (converted e x)
+  converted_fine e x f = go (same_elem (elem_of x) e) refl
+    where
+      go : (t : Bool) → same_elem (elem_of x) e ≡ t → FineExpr gs all (converted e x)
+      go true q = rw q f
+      go false q = rw q f
+
+  pub truth_fine : (b : Bool) (s : Span) → (truth_value b).bits ≤ greatest (truth_value b).elem
+  truth_fine true s = omega arith
+  truth_fine false s = omega arith
+
+  pub count_fine : (g : Gang) → (count_value g).bits ≤ greatest (count_value g).elem
+  count_fine gangs.W4 = omega arith
+  count_fine gangs.W8 = omega arith
+  count_fine gangs.W16 = omega arith
+
+  pub cast_fine : (s : Span) (w : ValueWords) (x : TExpr) → FineExpr gs all x → FineExpr gs all (cast_to s (w, x))
+  cast_fine s w x f = (converted_fine w.elem x f, converted_elem w.elem x)
+
+  pub sign_fine : (p : Prefix) (s : Span) (x : TExpr) → FineExpr gs all x → FineExpr gs all (with_sign p s x)
+  sign_fine sign.Negative s x f = (converted_fine (operand (elem_of x)) x f, converted_type (operand (elem_of x)) x, operand_whole (elem_of x))
+  sign_fine sign.Inverse s x f = (converted_fine (operand (elem_of x)) x f, converted_type (operand (elem_of x)) x, operand_whole (elem_of x))
+  sign_fine sign.Not s x f = (converted_fine Truth x f, converted_type Truth x, refl)
+
+  operands : (e : Elem) (x y : TExpr) → fine.AreOperands (converted e x) (converted e y) e (rate_or (rate_of x) (rate_of y))
+  operands e x y = record {
+    left = converted_elem e x;
+    right = converted_elem e y;
+    rate = rw (converted_rate e x, converted_rate e y) (rate_same (rate_of x) (rate_of y));
+  }
+
+  pub joined_fine : (s : Span) → InText s → (x y : TExpr) → FineExpr gs all x → FineExpr gs all y → (j : Joining) → FineExpr gs all (joins s x y j)
+  joined_fine s i x y f g (joined_as.Computes b) =
+      let e = common (elem_of x) (elem_of y) in
+      (converted_fine e x f, converted_fine e y g, operands e x y, common_whole (elem_of x) (elem_of y), i)
+  joined_fine s i x y f g (joined_as.Compares c) =
+      let e = common (elem_of x) (elem_of y) in
+      (converted_fine e x f, converted_fine e y g, rw (converted_elem e x) (operands e x y))
+  joined_fine s i x y f g (joined_as.Decides l) = (converted_fine Truth x f, converted_fine Truth y g, operands Truth x y)
+
+  pub choice_fine : (s : Span) (c x y : TExpr) → FineExpr gs all c → FineExpr gs all x → FineExpr gs all y → FineExpr gs all (choice s (c, (x, y)))
+  choice_fine s c x y f g h =
+      let e = chosen (elem_of x) (elem_of y) in
+      (converted_fine Truth c f, converted_fine e x g, converted_fine e y h, converted_elem Truth c, converted_elem e x, converted_elem e y,
+      rw (converted_rate Truth c, converted_rate e x, converted_rate e y) (rate_same (rate_of c) (rate_or (rate_of x) (rate_of y)) ∙ ap (λ z. fine.rate_or (rate_of c) z) (rate_same (rate_of x) (rate_of y))))
