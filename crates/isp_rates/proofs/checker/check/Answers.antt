@@ -15,9 +15,9 @@ refused_is d f e = cc
 
 pub new-requires-clause-sound : goal.new-requires-clause-sound
 new-requires-clause-sound c =
-    (answered None (program_of c.args.typed) (sym c.in-None.is ∙ (c.program-2.ensures ∙ ap (λ (p : Program). program_fault (program_of p)) c.program.ensures))).by
+    (answered None (program_of c.args.typed) (sym c.in-None.is ∙ (c.program-2.ensures ∙ ap (λ (p : Program). program_fault (program_of p)) c.program.ensures.same))).by
 
 pub returns-in-Some-clause-refused : goal.returns-in-Some-clause-refused
 returns-in-Some-clause-refused c f e =
     subst (λ (z : Fault). Least (Some z) (ProgramBreach (program_of c.args.typed))) (refused_is _ _ e)
-    (answered (Some c.in-Some.fault) (program_of c.args.typed) (sym c.in-Some.is ∙ (c.program-2.ensures ∙ ap (λ (p : Program). program_fault (program_of p)) c.program.ensures)))
+    (answered (Some c.in-Some.fault) (program_of c.args.typed) (sym c.in-Some.is ∙ (c.program-2.ensures ∙ ap (λ (p : Program). program_fault (program_of p)) c.program.ensures.same)))
