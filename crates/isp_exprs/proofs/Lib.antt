@@ -1,10 +1,10 @@
 pub mod Exprs
-pub mod Bindings
-pub mod Shadows
-pub mod Headings
-pub mod LibraryParts
-pub mod PassedParts
-pub mod CallViews
-pub mod LibraryNames
+mod Bindings
+mod Shadows
+mod Headings
+mod LibraryParts
+mod PassedParts
+mod CallViews
+mod LibraryNames
 pub mod Gathered
-pub mod Judged
+mod Judged

@@ -10,7 +10,7 @@ use crate::callee::{Callee, Want};
 use crate::library::library_call;
 use crate::places::{array_of, const_assigned, mismatch};
 use crate::scope::Known;
-use crate::values::converted;
+use crate::values::{boxed, converted};
 use isp_base::{Elem, Rate, Span, Ty};
 use isp_lex::{Fault, Rule};
 use isp_typed::{
@@ -62,7 +62,7 @@ fn name_handed(alloc: Global, known: Known, span: Span) -> Result<Handed, AllocE
                 ty,
                 span,
             });
-            Ok(Handed::Value(Box::new(alloc, value)?))
+            Ok(Handed::Value(boxed(alloc, value)?))
         }
         Holds::Given(elem) => {
             let ty = Ty {
@@ -320,7 +320,7 @@ fn function_call(
     };
     match answer {
         None => Ok(Called::Run(call)),
-        Some(ty) => Ok(Called::Value(Box::new(alloc, TypedExpr::Call { call, ty })?)),
+        Some(ty) => Ok(Called::Value(boxed(alloc, TypedExpr::Call { call, ty })?)),
     }
 }
 
@@ -381,7 +381,7 @@ fn packed_store(
     };
     let value = converted(alloc, base.array().ty.elem, x)?;
     let store = TypedExpr::PackedStore { base, value, span };
-    Ok(Ok(Called::Value(Box::new(alloc, store)?)))
+    Ok(Ok(Called::Value(boxed(alloc, store)?)))
 }
 
 /// What a packed call loads: a variable of the array's element type, not constant.
@@ -406,7 +406,7 @@ fn loaded(
         variable: known.number,
         span,
     };
-    Ok(Ok(Called::Value(Box::new(alloc, load)?)))
+    Ok(Ok(Called::Value(boxed(alloc, load)?)))
 }
 
 /// `packed_load_active` of what is passed.

@@ -17,7 +17,9 @@ use crate::calls::{
 };
 use crate::places::{element_at, variable_at};
 use crate::scope::{Known, Scope};
-use crate::values::{cast_to, choice, count_value, in_brackets, joined, truth_value, with_sign};
+use crate::values::{
+    boxed, cast_to, choice, count_value, in_brackets, joined, truth_value, with_sign,
+};
 use crate::words::value_said;
 use isp_base::{Gang, Span, Value};
 use isp_tree::{Argument, Expr, Place, Word};
@@ -40,7 +42,7 @@ fn of_place(
     ensures { IfOk result (λ v. made boxed_of v ≡ made t_place (made place_of place)) }
 {
     match place {
-        Ok(place) => Ok(Ok(Box::new(alloc, TypedExpr::Place(place))?)),
+        Ok(place) => Ok(Ok(boxed(alloc, TypedExpr::Place(place))?)),
         Err(fault) => Ok(Err(fault)),
     }
 }
@@ -49,14 +51,14 @@ fn of_place(
 fn constant(alloc: Global, value: Value, span: Span) -> Result<Verdict<Box<TypedExpr>>, AllocError>
     ensures { IfOk result (λ v. made boxed_of v ≡ Ok (t_constant value span)) }
 {
-    Ok(Ok(Box::new(alloc, TypedExpr::Constant { value, span })?))
+    Ok(Ok(boxed(alloc, TypedExpr::Constant { value, span })?))
 }
 
 /// `programIndex`.
 fn index(alloc: Global, span: Span) -> Result<Verdict<Box<TypedExpr>>, AllocError>
     ensures { IfOk result (λ v. made boxed_of v ≡ Ok (t_program_index span)) }
 {
-    Ok(Ok(Box::new(alloc, TypedExpr::ProgramIndex { span })?))
+    Ok(Ok(boxed(alloc, TypedExpr::ProgramIndex { span })?))
 }
 
 /// A value as an argument.

@@ -6,7 +6,7 @@ ghost use Rattle.isp_exprs.specs.reader.Parts.{boxed_of, boxes_of};
 ghost use Rattle.isp_exprs.specs.Values.{elem_of};
 ghost use Rattle.isp_exprs.specs.Calls.{as_parts, library_call, rate_all, worked_in};
 
-use crate::values::{chosen, converted, rate_or};
+use crate::values::{boxed, chosen, converted, rate_or};
 use isp_base::{Elem, Rate, Span, common, operand};
 use isp_typed::{Library, Part, TypedExpr};
 use std::alloc::{AllocError, Global};
@@ -84,5 +84,5 @@ pub fn library_call(
         ty,
         span,
     };
-    Ok(Box::new(alloc, call)?)
+    Ok(boxed(alloc, call)?)
 }

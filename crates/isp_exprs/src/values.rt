@@ -29,6 +29,13 @@ pub fn rate_or(a: Rate, b: Rate) -> Rate
     }
 }
 
+/// An expression in a box.
+pub fn boxed(alloc: Global, x: TypedExpr) -> Result<Box<TypedExpr>, AllocError>
+    ensures { IfOk result (λ b. b.value ≡ x) }
+{
+    Ok(Box::new(alloc, x)?)
+}
+
 /// A value as one of an element type: a conversion where it has another.
 pub fn converted(alloc: Global, elem: Elem, x: Box<TypedExpr>) -> Result<Box<TypedExpr>, AllocError>
     ensures { IfOk result (λ t. boxed_of t ≡ converted elem (boxed_of x)) }
@@ -36,7 +43,7 @@ pub fn converted(alloc: Global, elem: Elem, x: Box<TypedExpr>) -> Result<Box<Typ
     if x.ty().elem == elem {
         return Ok(x);
     }
-    Ok(Box::new(alloc, TypedExpr::Convert { elem, operand: x })?)
+    Ok(boxed(alloc, TypedExpr::Convert { elem, operand: x })?)
 }
 
 /// The type of `?:` and of `select`: bool where both are, else the common type.
@@ -85,7 +92,7 @@ pub fn in_brackets(
                 ty,
                 span,
             };
-            Ok(Ok(Box::new(alloc, cast)?))
+            Ok(Ok(boxed(alloc, cast)?))
         }
         Err(fault) => Ok(Err(fault)),
     }
@@ -113,7 +120,7 @@ fn cast(
         elem: words.elem,
     };
     let operand = converted(alloc, words.elem, x)?;
-    Ok(Box::new(alloc, TypedExpr::Cast { operand, ty, span })?)
+    Ok(boxed(alloc, TypedExpr::Cast { operand, ty, span })?)
 }
 
 /// A cast to what words say.
@@ -152,7 +159,7 @@ fn unary_as(
         ty,
         span,
     };
-    Ok(Box::new(alloc, unary)?)
+    Ok(boxed(alloc, unary)?)
 }
 
 /// An operator and its operand.
@@ -227,7 +234,7 @@ fn computes(
         ty,
         span,
     };
-    Ok(Box::new(alloc, binary)?)
+    Ok(boxed(alloc, binary)?)
 }
 
 /// Two values of the common type, a comparison between them.
@@ -251,7 +258,7 @@ fn compares(
         rate,
         span,
     };
-    Ok(Box::new(alloc, compare)?)
+    Ok(boxed(alloc, compare)?)
 }
 
 /// Two bools, `&&` or `||` between them.
@@ -274,7 +281,7 @@ fn decides(
         rate,
         span,
     };
-    Ok(Box::new(alloc, decision)?)
+    Ok(boxed(alloc, decision)?)
 }
 
 fn joins(
@@ -333,7 +340,7 @@ fn choose(
         ty,
         span,
     };
-    Ok(Box::new(alloc, choice)?)
+    Ok(boxed(alloc, choice)?)
 }
 
 /// `test ? x : y`.

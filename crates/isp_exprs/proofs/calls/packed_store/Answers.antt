@@ -19,7 +19,7 @@ returns-in_default-value_passed c = store_no_value c.args.span c.args.passed.ite
 
 pub returns : goal.returns
 returns c =
-    ap (λ (z : TypedExpr). Ok (gives (expr_of z))) c.in_ok-new.ensures.ok
+    ap (λ (z : TypedExpr). Ok (gives (expr_of z))) c.in_ok-boxed.ensures
     ∙ store_both c.args.span c.args.passed.items c.first_two-first.result c.base_passed.result c.first_two-first.ensures c.base_passed.ensures
     c.value_passed.result c.value_passed.ensures c.in-Some.base c.in-Some-value_passed.x c.in_ok-value.value c.in-Some.is c.in-Some-value_passed.is
     (c.in_ok-value.ensures ∙ ap (λ (a : ArrayVariable). converted a.ty.elem (boxed_of c.in-Some-value_passed.x)) c.array.ensures)
