@@ -1,8 +1,8 @@
 -- What names and types promise of every program that they accept, in the words of its meaning: a variable is used as what
 -- it holds, an operand has the element type that its node works in, a call fits what it calls.
 --     fs   the functions of the program        vars   the variables of the function        answer   what it gives back
-use Rattle.std.specs.Prelude.{◌≡◌, ℕ, ◌≤◌, List, [], ◌∷◌, length, take, drop, count_by, slice_get, Bool, true, false, ◌==◌, ◌&&◌, ◌||◌, not, Option, Some, None, option_map}
-use Rattle.std.specs.List.{All}
+use Rattle.std.specs.Prelude.{◌≡◌, ℕ, ◌≤◌, ◌<◌, List, [], ◌∷◌, ◌++◌, length, map, take, drop, count_by, slice_get, bytes_eq, Bool, true, false, ◌==◌, ◌&&◌, ◌||◌, not, Option, Some, None, option_map}
+use Rattle.std.specs.List.{All, list_any}
 use Rattle.isp_base.specs.declared.types.Elem.{Elem}
 use Rattle.isp_base.specs.declared.types.Elem.TheVariants.{Bool as Truth, I32, U32, I64}
 use Rattle.isp_base.specs.declared.types.Rate.{Rate}
@@ -22,6 +22,7 @@ use Rattle.isp_typed.specs.declared.variable.Holds.{Holds}
 use Rattle.isp_typed.specs.declared.variable.Holds.TheVariants as holds
 use Rattle.isp_typed.specs.declared.variable.Variable.{Variable}
 use Rattle.isp_typed.specs.Library.{parts, part_elem, library_type}
+use Rattle.isp_typed.specs.Nodes.{program_nodes}
 use Rattle.isp_typed.specs.Typed.{TExpr, t_constant, t_program_index, t_place, t_convert, t_cast, t_unary, t_binary, t_compare, t_logic, t_choose, t_call, t_library, t_packed_store, t_packed_load, TPlace, t_variable, t_element, TBase, t_whole, t_from, base_array, TArgument, t_by_value, t_by_name, TCall, t_called, TArguments, t_no_arguments, t_argument_then, TExprs, t_no_exprs, t_expr_then, type_of, place_type, ty_of}
 use Rattle.isp_typed.specs.Typed.{TItem, t_plain, t_with_value, t_with_size, TSimple, t_value, t_run, t_assign, t_update, t_step, TFirst, t_first_declare, t_first_simple, TRange}
 use Rattle.isp_typed.specs.Typed.{TStmt, t_block, t_declare, t_simple, t_if, t_if_else, t_while, t_do, t_for, t_foreach, t_foreach_active, t_unmasked, t_jump, t_return, t_print, t_assert, TBlock, t_braces, TStmts, t_no_stmts, t_stmt_then, TFunction, Program}
@@ -239,6 +240,11 @@ AreParams [] (v ∷ vs) = ⊥
 AreParams (p ∷ ps) [] = ⊥
 AreParams (p ∷ ps) (v ∷ vs) = IsParam p v.holds × AreParams ps vs
 
+-- each name is another than those before it
+abbrev pub all_new : List (List ℕ) → List (List ℕ) → Bool
+all_new earlier [] = true
+all_new earlier (w ∷ ws) = not (list_any (λ n. bytes_eq n w) earlier) && all_new (earlier ++ w ∷ []) ws
+
 -- what a function declares in its body: a value or a local array
 abbrev pub IsDeclared : Variable → Type 0
 IsDeclared v = of v.holds where
@@ -249,9 +255,16 @@ IsDeclared v = of v.holds where
 
 pub record FineFunction (fs : List TFunction) (f : TFunction) : Type 0 where
   pub params : AreParams f.parameters (params_of f)
+  pub names : all_new [] (map (λ p. p.name) f.parameters) ≡ true
   pub declared : All IsDeclared (drop (length f.params) f.variables)
   pub gives : f.gives ≡ option_map (λ t. t.elem) f.answer
   pub body : FineBlock fs f.variables f.answer f.body
 
+-- there are fewer nodes, conversions included
+abbrev pub most_nodes : ℕ
+most_nodes = 16777216
+
 pub record IsFine (p : Program) : Type 0 where
   pub each : All (FineFunction p.functions) p.functions
+  pub names : all_new [] (map (λ f. f.name) p.functions) ≡ true
+  pub few : program_nodes p < most_nodes

@@ -1,4 +1,5 @@
 pub mod Typed
+pub mod Nodes
 pub mod Fine
 pub mod Views
 pub mod Library

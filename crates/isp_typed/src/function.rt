@@ -35,7 +35,8 @@ pub struct Program {
 /// A program whose names and types are found. Contracts see the program.
 ///
 /// Each is fine: a variable is used as what it holds, an operand has the element type that its node
-/// works in, a call fits the function that it calls, a local array has 1 to 65,536 elements.
+/// works in, a call fits the function that it calls, a local array has 1 to 65,536 elements. Names
+/// differ, and there are fewer than 16,777,216 nodes.
 #[derive(Drop)]
 pub struct Typed {
     program: Program,

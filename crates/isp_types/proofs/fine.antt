@@ -8,4 +8,7 @@ pub mod Exprs
 pub mod Simples
 pub mod Stmts
 pub mod Declared
+pub mod Differ
+pub mod FewExprs
+pub mod FewStmts
 pub mod Functions

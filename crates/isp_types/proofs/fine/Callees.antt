@@ -1,11 +1,9 @@
 -- What a call's name means, and what it asks, for calls that fit.
-use Rattle.std.proofs.Common.{◌≡◌, ℕ, zero, suc, ◌+◌, Bool, true, false, cond, refl, sym, ap, subst, ◌∙◌, arith}
+use Rattle.std.proofs.Common.{◌≡◌, ℕ, suc, ◌+◌, Bool, true, false, cond, refl, subst, arith}
 use Rattle.std.specs.Prelude.{Option, Some, None, List, [], ◌∷◌, length, map, find, bytes_eq, option_map, slice_get, ◌==◌, ◌&&◌, if◌then◌else◌, Result}
 use Rattle.std.specs.List.{list_all}
 use Rattle.std.proofs.lemmas.Bool.{eqb-true}
 use Rattle.isp_base.specs.declared.types.Ty.{Ty}
-use Rattle.isp_lex.specs.declared.fault.Fault.{Fault}
-use Rattle.isp_typed.specs.declared.library.Library.{Library}
 use Rattle.isp_typed.specs.declared.library.Library.TheVariants as the
 use Rattle.isp_typed.specs.declared.variable.Holds.TheVariants as holds
 use Rattle.isp_typed.specs.declared.variable.Variable.{Variable}
@@ -16,7 +14,7 @@ use Rattle.isp_exprs.specs.declared.callee.Callee.{Callee}
 use Rattle.isp_exprs.specs.declared.callee.Callee.TheVariants.{Unknown, Miscounted, Function, Library as OfLibrary, PackedStore, PackedLoad}
 use Rattle.isp_exprs.specs.declared.callee.Want.{Want}
 use Rattle.isp_exprs.specs.declared.callee.Want.TheVariants.{AnyValue, ValueOf, ArrayOf, Base, Destination, Anything}
-use Rattle.isp_exprs.specs.Calls.{Heading, cross_library, move_library, instance_library, named_in, or_else, library_named, by_count, library_wants, counted, function_from, of_function, of_library, callee}
+use Rattle.isp_exprs.specs.Calls.{Heading, cross_library, move_library, instance_library, or_else, library_named, by_count, library_wants, counted, function_from, of_function, of_library, callee}
 
 -- what is asked for a parameter, by what it holds
 abbrev pub IsWant : Want → Variable → Type 0

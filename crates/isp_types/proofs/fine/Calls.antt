@@ -1,10 +1,9 @@
 -- A call of what fits is fine.
-use Rattle.std.proofs.Common.{◌≡◌, ℕ, zero, suc, Bool, true, false, cond, refl, sym, ap, subst, ◌∙◌, arith}
+use Rattle.std.proofs.Common.{◌≡◌, ℕ, suc, Bool, true, false, refl, sym, ap, subst, ◌∙◌, arith}
 use Rattle.std.proofs.lemmas.List.{length-map}
 use Rattle.std.specs.Prelude.{Option, Some, None, List, [], ◌∷◌, length, map, slice_get, ◌&&◌, not, if◌then◌else◌, Result, Ok, Err}
 use Rattle.isp_base.specs.declared.types.Elem.{Elem}
-use Rattle.isp_base.specs.declared.types.Rate.{Rate}
-use Rattle.isp_base.specs.declared.types.Rate.TheVariants.{Uniform, Varying}
+use Rattle.isp_base.specs.declared.types.Rate.TheVariants.{Varying}
 use Rattle.isp_base.specs.declared.types.Span.{Span}
 use Rattle.isp_base.specs.declared.types.Ty.{Ty}
 use Rattle.isp_base.specs.Ranks.{same_elem, operand, common}
@@ -16,17 +15,16 @@ use Rattle.isp_typed.specs.declared.library.Part.{Part}
 use Rattle.isp_typed.specs.declared.variable.Holds.TheVariants as holds
 use Rattle.isp_typed.specs.declared.variable.Variable.{Variable}
 use Rattle.isp_typed.specs.Library.{parts, part_elem, library_type}
-use Rattle.isp_typed.specs.Typed.{TExpr, t_call, TCall, t_called, TFunction, TBase, base_array, t_packed_store, t_packed_load, type_of, ty_of}
-use Rattle.isp_typed.specs.Fine as fine
+use Rattle.isp_typed.specs.Typed.{TExpr, TFunction, TBase, base_array, t_packed_store, t_packed_load, ty_of}
 use Rattle.isp_typed.specs.Fine.{FineExpr, FineBase, FineCall, FineArguments, FineParts, LibraryWorksIn, IsWhole, rates_of, params_of}
 use Rattle.isp_exprs.specs.declared.scope.Known.{Known}
 use Rattle.isp_exprs.specs.declared.callee.Callee.{Callee}
 use Rattle.isp_exprs.specs.declared.callee.Callee.TheVariants.{Unknown, Miscounted, Function, Library as OfLibrary, PackedStore, PackedLoad}
 use Rattle.isp_exprs.specs.declared.callee.Want.{Want}
 use Rattle.isp_exprs.specs.declared.callee.Want.TheVariants.{AnyValue, ValueOf, ArrayOf, Base, Destination, Anything}
-use Rattle.isp_exprs.specs.Values.{elem_of, rate_of, rate_or, converted}
-use Rattle.isp_exprs.specs.Calls.{Heading, Passed, p_value, p_array, p_base, p_destination, p_unasked, first_want, rest_of, Called, gives, runs, value_called, handed_call, values_among, arguments_among, function_call, worked_in, rate_all, as_parts, library_call, packed_store, loaded, packed_load, answered, call_of}
-use Rattle.isp_types.proofs.fine.Callees.{AreWants, IsWant, Headed, Fits}
+use Rattle.isp_exprs.specs.Values.{elem_of, rate_of, converted}
+use Rattle.isp_exprs.specs.Calls.{Heading, Passed, p_value, p_array, p_base, p_destination, first_want, rest_of, Called, gives, runs, value_called, handed_call, values_among, arguments_among, function_call, worked_in, rate_all, as_parts, library_call, packed_store, loaded, packed_load, call_of}
+use Rattle.isp_types.proofs.fine.Callees.{AreWants, Headed, Fits}
 use Rattle.isp_types.proofs.fine.Passed.{ok_is, no_ok, IsKnown, Suited, FineHanded}
 use Rattle.isp_types.proofs.fine.Values.{same_is, operand_whole, common_whole, converted_elem, converted_rate, converted_fine, rate_same}
 

@@ -1,5 +1,5 @@
 -- What a body declares: values, and local arrays of 1 to 65,536 elements.
-use Rattle.std.proofs.Common.{◌≡◌, ℕ, zero, suc, ◌++◌, ◌<◌, Bool, true, false, refl, sym, ap, subst, ◌∙◌, arith, append_assoc}
+use Rattle.std.proofs.Common.{◌≡◌, ℕ, ◌++◌, refl, sym, ap, ◌∙◌, append_assoc}
 use Rattle.std.specs.Prelude.{Option, Some, None, List, [], ◌∷◌, length, Result, Ok, Err}
 use Rattle.std.specs.List.{All}
 use Rattle.std.proofs.lemmas.List.{append-nil}
@@ -16,7 +16,7 @@ use Rattle.isp_exprs.specs.declared.scope.Binding.{Binding}
 use Rattle.isp_exprs.specs.declared.words.ValueWords.{ValueWords}
 use Rattle.isp_exprs.specs.Words.{value_said}
 use Rattle.isp_exprs.specs.Calls.{Heading}
-use Rattle.isp_types.specs.Statements.{item_variable, item_names, item_variables, items_variables, first_variables, index, active_index, range_variables, names_after, variables_after, block_variables, stmts_variables, IsItem, AreItems, IsDeclaration, IsFirst, IsStmt, IsBlock, AreStmts}
+use Rattle.isp_types.specs.Statements.{item_names, item_variables, items_variables, first_variables, index, active_index, range_variables, names_after, variables_after, block_variables, stmts_variables, IsItem, AreItems, IsFirst, IsStmt, IsBlock, AreStmts}
 use Rattle.isp_types.proofs.fine.Passed.{no_ok}
 use Rattle.isp_types.proofs.fine.Simples.{no_all, array_bounds}
 

@@ -1,24 +1,20 @@
 -- Every expression that names and types accept is fine.
-use Rattle.std.proofs.Common.{◌≡◌, ℕ, zero, suc, Bool, true, false, refl, sym, ap, subst, ◌∙◌, arith}
-use Rattle.std.specs.Prelude.{Option, Some, None, List, [], ◌∷◌, length, slice_get, Result, Ok, Err}
+use Rattle.std.proofs.Common.{◌≡◌, suc, refl, sym, ap, subst}
+use Rattle.std.specs.Prelude.{List, length, Ok}
 use Rattle.isp_base.specs.declared.types.Gang.{Gang}
 use Rattle.isp_base.specs.declared.types.Span.{Span}
-use Rattle.isp_lex.specs.declared.fault.Fault.{Fault}
-use Rattle.isp_tree.specs.declared.expr.Operator.{Operator}
 use Rattle.isp_tree.specs.declared.types.Word.{Word}
 use Rattle.isp_tree.specs.Sound.{InText, IsSoundExpr, IsSoundPlace, IsSoundArgument, AreSoundArguments}
 use Rattle.isp_tree.specs.Tree.{Expr, number, truth, program_index, program_count, place, call, brackets, cast, prefix, binary, choose, Place, variable, element, Argument, by_value, by_reference, Arguments, no_arguments, argument_then, span_of_argument}
 use Rattle.isp_typed.specs.declared.variable.Variable.{Variable}
-use Rattle.isp_typed.specs.Typed.{TExpr, t_constant, t_place, TPlace, TFunction}
+use Rattle.isp_typed.specs.Typed.{TExpr, TPlace, TFunction}
 use Rattle.isp_typed.specs.Fine.{FineExpr, FinePlace}
 use Rattle.isp_exprs.specs.declared.callee.Callee.{Callee}
 use Rattle.isp_exprs.specs.declared.callee.Callee.TheVariants as callees
 use Rattle.isp_exprs.specs.declared.callee.Want.{Want}
-use Rattle.isp_exprs.specs.declared.scope.Known.{Known}
 use Rattle.isp_exprs.specs.declared.scope.Binding.{Binding}
-use Rattle.isp_exprs.specs.Scopes.{named}
-use Rattle.isp_exprs.specs.Values.{joining, joins}
-use Rattle.isp_exprs.specs.Calls.{Heading, Handed, h_value, Passed, Called, callee, unless_unknown, first_want, rest_of, call_of, suits}
+use Rattle.isp_exprs.specs.Values.{joining}
+use Rattle.isp_exprs.specs.Calls.{Heading, Handed, Passed, Called, unless_unknown, first_want, rest_of}
 use Rattle.isp_exprs.specs.Rules.{count, callee_at, IsCall, IsExpr, IsPlace, IsArgument, AreArguments}
 use Rattle.isp_types.proofs.fine.Names.{InScope, named_is}
 use Rattle.isp_types.proofs.fine.Callees.{Headed, Fits, callee_fits}

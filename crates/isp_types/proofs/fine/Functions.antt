@@ -1,6 +1,6 @@
 -- Every program that names and types accept is fine.
 use Rattle.std.proofs.Common.{◌≡◌, ℕ, zero, suc, ◌++◌, Bool, true, false, refl, sym, ap, subst, ◌∙◌, arith, append_assoc, take, drop}
-use Rattle.std.specs.Prelude.{Option, Some, None, List, [], ◌∷◌, length, map, slice_get, Result, Ok, Err}
+use Rattle.std.specs.Prelude.{Option, List, [], ◌∷◌, length, map, Result, Ok, Err}
 use Rattle.std.specs.List.{All}
 use Rattle.std.proofs.Math.Seq.{take-append_seam, drop-append_seam}
 use Rattle.std.proofs.lemmas.List.{append-nil, length-map}
@@ -10,23 +10,23 @@ use Rattle.isp_base.specs.declared.types.Ty.{Ty}
 use Rattle.isp_lex.specs.declared.fault.Fault.{Fault}
 use Rattle.isp_tree.specs.Sound.{IsSoundBlock, IsSoundFunction, IsSound}
 use Rattle.isp_tree.specs.Tree.{Param, Block, Function}
-use Rattle.isp_typed.specs.declared.variable.Holds.TheVariants as holds
 use Rattle.isp_typed.specs.declared.variable.Variable.{Variable}
 use Rattle.isp_typed.specs.Typed.{TBlock, TFunction, Program}
-use Rattle.isp_typed.specs.Fine.{FineBlock, FineFunction, IsFine, IsDeclared, IsParam, AreParams, params_of}
-use Rattle.isp_exprs.specs.declared.callee.Want.{Want}
+use Rattle.isp_typed.specs.Fine.{FineBlock, FineFunction, IsFine, IsDeclared, IsParam, AreParams}
 use Rattle.isp_exprs.specs.declared.scope.Binding.{Binding}
 use Rattle.isp_exprs.specs.declared.words.ValueWords.{ValueWords}
 use Rattle.isp_exprs.specs.Words.{value_said, answer_said, type_declared}
 use Rattle.isp_exprs.specs.Scopes.{with_name}
 use Rattle.isp_exprs.specs.Calls.{Heading}
-use Rattle.isp_types.specs.Statements.{or_nothing, declared, value_variable, block_variables}
-use Rattle.isp_types.specs.Functions.{param_words, variable_for, param_variable, param_want, parameter_of, heading, variables_of, param_span, function_made, IsBody, IsFunction, AreFunctions, IsProgram}
+use Rattle.isp_types.specs.Statements.{declared, block_variables}
+use Rattle.isp_types.specs.Functions.{param_variable, param_want, parameter_of, heading, variables_of, param_span, IsBody, IsFunction, AreFunctions, IsProgram}
 use Rattle.isp_types.proofs.NamesKept.{Grown, same, then as and_then}
 use Rattle.isp_types.proofs.fine.Names.{InScope, no_names, name_added}
 use Rattle.isp_types.proofs.fine.Callees.{IsWant, AreWants, Headed}
 use Rattle.isp_types.proofs.fine.Passed.{ok_is, no_ok, some_is, no_some}
 use Rattle.isp_types.proofs.fine.Simples.{no_all}
+use Rattle.isp_types.proofs.fine.Differ.{params_differ, functions_differ}
+use Rattle.isp_types.proofs.fine.FewStmts.{functions_few}
 use Rattle.isp_types.proofs.fine.Declared.{Declares, block_declares}
 use Rattle.isp_types.proofs.fine.Stmts.{block_grows, block_fine}
 
@@ -113,6 +113,7 @@ module _ (gang : Gang) (hs : List Heading) (gs : List TFunction) (headed : Heade
         params = subst (AreParams (map parameter_of f.params)) (sym split.0) (all_seen f.params);
         declared = split.1;
         gives = refl;
+        names = params_differ gang hs (answer_said f.answer) [] [] f.params f.body i.0.1 i.1.1.1;
         body = body_fine gang hs gs (variables_of gang f) headed i.0.0 [] [] f.params f.body h.body (no_names (variables_of gang f)) (rw (params_are [] f.params) (same (variables_of gang f))) i.0.1
             (subst (λ r. IsBody gang hs r [] [] f.params f.body i.0.1) i.1.1.0 i.1.1.1);
       })
@@ -135,4 +136,4 @@ headings_right gang hs earlier (f ∷ fs) gs i (suc k) h t e a =
     rw i.2 (headings_right gang hs (earlier ++ f.word.name ∷ []) fs i.0.1 i.1.1 k h t e a)
 
 pub program_fine : (gang : Gang) (fs : List Function) (p : Program) → IsSound fs → IsProgram gang fs p → IsFine p
-program_fine gang fs p h i = subst IsFine (sym i.2) (record { each = functions_fine gang (map heading fs) i.0 (headings_right gang (map heading fs) [] fs i.0 i.1) [] fs h.each i.0 i.1 })
+program_fine gang fs p h i = subst IsFine (sym i.2) (record { each = functions_fine gang (map heading fs) i.0 (headings_right gang (map heading fs) [] fs i.0 i.1) [] fs h.each i.0 i.1; names = functions_differ gang (map heading fs) [] fs i.0 i.1; few = omega (arith, h.few, functions_few gang (map heading fs) [] fs i.0 i.1) })

@@ -1,6 +1,6 @@
 -- What is passed to a call is fine where it suits what is asked.
-use Rattle.std.proofs.Common.{◌≡◌, ℕ, zero, suc, Bool, true, false, cond, refl, sym, ap, subst, ◌∙◌, arith}
-use Rattle.std.specs.Prelude.{Option, Some, None, List, [], ◌∷◌, length, map, slice_get, ◌&&◌, ◌||◌, not, if◌then◌else◌, Result, Ok, Err}
+use Rattle.std.proofs.Common.{◌≡◌, Bool, true, false, refl, ap, subst, ◌∙◌}
+use Rattle.std.specs.Prelude.{Option, Some, None, List, slice_get, ◌&&◌, ◌||◌, not, if◌then◌else◌, Result, Ok, Err}
 use Rattle.isp_base.specs.declared.types.Elem.{Elem}
 use Rattle.isp_base.specs.declared.types.Elem.TheVariants.{I32, U32}
 use Rattle.isp_base.specs.declared.types.Rate.{Rate}
@@ -10,19 +10,17 @@ use Rattle.isp_base.specs.declared.types.Ty.{Ty}
 use Rattle.isp_base.specs.Ranks.{same_elem}
 use Rattle.isp_tree.specs.Sound.{InText}
 use Rattle.isp_lex.specs.declared.fault.Fault.{Fault}
-use Rattle.isp_lex.specs.declared.fault.Rule.TheVariants.{ConstAssigned}
-use Rattle.isp_lex.specs.Faults.{fault}
 use Rattle.isp_typed.specs.declared.variable.ArrayVariable.{ArrayVariable}
 use Rattle.isp_typed.specs.declared.variable.Holds.{Holds}
 use Rattle.isp_typed.specs.declared.variable.Holds.TheVariants as holds
 use Rattle.isp_typed.specs.declared.variable.Variable.{Variable}
-use Rattle.isp_typed.specs.Typed.{TExpr, TPlace, t_variable, t_element, TFunction, TBase, t_whole, t_from, base_array, type_of, ty_of}
+use Rattle.isp_typed.specs.Typed.{TExpr, TPlace, TFunction, TBase, t_whole, t_from, base_array, ty_of}
 use Rattle.isp_typed.specs.Fine.{FineExpr, FinePlace, FineBase, FineCall, HoldsArray, HoldsValue, array_type}
 use Rattle.isp_exprs.specs.declared.scope.Known.{Known}
 use Rattle.isp_exprs.specs.declared.callee.Want.{Want}
 use Rattle.isp_exprs.specs.declared.callee.Want.TheVariants.{AnyValue, ValueOf, ArrayOf, Base, Destination, Anything}
-use Rattle.isp_exprs.specs.Values.{elem_of, rate_of, rate_or, converted}
-use Rattle.isp_exprs.specs.Places.{as_array, array_of, variable_at, element_at, mismatch}
+use Rattle.isp_exprs.specs.Values.{elem_of, rate_of}
+use Rattle.isp_exprs.specs.Places.{as_array, array_of, variable_at, element_at}
 use Rattle.isp_exprs.specs.Calls.{Handed, h_value, h_run, h_array, h_name, h_element, handed_name, Passed, p_value, p_array, p_base, p_destination, p_unasked, array_fits, base_fits, base_named, destination, suits}
 use Rattle.isp_types.proofs.fine.Values.{same_is, converted_elem, converted_fine, rate_same}
 

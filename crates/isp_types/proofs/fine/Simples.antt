@@ -1,36 +1,35 @@
 -- Declarations, what stands before a semicolon, and parts of statements are fine.
-use Rattle.std.proofs.Common.{◌≡◌, ℕ, zero, suc, ◌++◌, ◌≤◌, ◌<◌, Bool, true, false, refl, sym, ap, subst, ◌∙◌, arith, ltb-true}
-use Rattle.std.specs.Prelude.{Option, Some, None, List, [], ◌∷◌, length, slice_get, nat_lt, ◌&&◌, if◌then◌else◌, Result, Ok, Err}
+use Rattle.std.proofs.Common.{◌≡◌, ℕ, ◌++◌, ◌<◌, Bool, true, false, refl, sym, ap, subst, ◌∙◌, arith, ltb-true}
+use Rattle.std.specs.Prelude.{Option, Some, None, List, [], ◌∷◌, length, slice_get, nat_lt, ◌&&◌, Result, Ok, Err}
 use Rattle.std.specs.List.{All}
 use Rattle.std.proofs.lemmas.List.Elements.{All-cons, All-head, All-tail}
 use Rattle.isp_base.specs.declared.types.Elem.{Elem}
-use Rattle.isp_base.specs.declared.types.Elem.TheVariants.{Bool as Truth, I32}
+use Rattle.isp_base.specs.declared.types.Elem.TheVariants.{I32}
 use Rattle.isp_base.specs.declared.types.Gang.{Gang}
 use Rattle.isp_base.specs.declared.types.Span.{Span}
 use Rattle.isp_base.specs.declared.types.Ty.{Ty}
 use Rattle.isp_base.specs.declared.operators.BinOp.{BinOp}
-use Rattle.isp_base.specs.Ranks.{common, operand}
+use Rattle.isp_base.specs.Ranks.{common}
 use Rattle.isp_lex.specs.declared.fault.Fault.{Fault}
-use Rattle.isp_tree.specs.declared.types.Word.{Word}
 use Rattle.isp_tree.specs.declared.stmt.Size.{Size}
-use Rattle.isp_tree.specs.Sound.{InText, IfAny, IsSoundExpr, IsSoundItem, IsSoundDeclaration, IsSoundSimple, IsSoundFirst, IsSoundRange}
+use Rattle.isp_tree.specs.Sound.{InText, IsSoundExpr, IsSoundItem, IsSoundDeclaration, IsSoundSimple, IsSoundFirst, IsSoundRange}
 use Rattle.isp_tree.specs.Tree.{Expr, number, truth, program_index, program_count, place, call, brackets, cast, prefix, binary, choose, variable, element, Item, plain, with_value, with_size, Declaration, Simple, value, assign, change, First, first_declare, first_simple, Range}
 use Rattle.isp_typed.specs.declared.variable.ArrayVariable.{ArrayVariable}
 use Rattle.isp_typed.specs.declared.variable.Holds.{Holds}
 use Rattle.isp_typed.specs.declared.variable.Holds.TheVariants as holds
 use Rattle.isp_typed.specs.declared.variable.Variable.{Variable}
-use Rattle.isp_typed.specs.Typed.{TExpr, TPlace, place_type, TItem, t_plain, t_with_value, t_with_size, TSimple, TFirst, TRange, TFunction}
-use Rattle.isp_typed.specs.Fine.{FineExpr, FinePlace, FineValue, FineTarget, FineItem, FineSimple, FineFirst, FineRange, IsSized, IsWhole}
+use Rattle.isp_typed.specs.Typed.{TExpr, TPlace, place_type, TItem, t_with_size, TSimple, TFirst, TRange, TFunction}
+use Rattle.isp_typed.specs.Fine.{FineExpr, FinePlace, FineValue, FineTarget, FineItem, FineSimple, FineFirst, FineRange, IsSized}
 use Rattle.isp_exprs.specs.declared.scope.Known.{Known}
 use Rattle.isp_exprs.specs.declared.scope.Binding.{Binding}
 use Rattle.isp_exprs.specs.declared.words.ValueWords.{ValueWords}
 use Rattle.isp_exprs.specs.Words.{value_said, type_declared}
-use Rattle.isp_exprs.specs.Scopes.{named, with_name}
+use Rattle.isp_exprs.specs.Scopes.{with_name}
 use Rattle.isp_exprs.specs.Values.{elem_of, converted}
-use Rattle.isp_exprs.specs.Places.{array_of, variable_at, element_at, unless_constant, variable_target, element_target}
+use Rattle.isp_exprs.specs.Places.{array_of, variable_at, element_at, unless_constant}
 use Rattle.isp_exprs.specs.Calls.{Heading, Called, gives, runs}
-use Rattle.isp_exprs.specs.Rules.{callee_at, IsExpr, AreArguments}
-use Rattle.isp_types.specs.Statements.{size_number, item_variable, array_sized, item_names, item_variables, items_names, items_variables, first_names, first_variables, index, range_names, range_variables, stated, updated, assigned, assigned_by, assignment_operator, change_operator, stepped, IsItem, AreItems, IsDeclaration, IsTarget, IsSimple, IsFirst, AreRanges, AreValues}
+use Rattle.isp_exprs.specs.Rules.{callee_at}
+use Rattle.isp_types.specs.Statements.{size_number, array_sized, item_names, item_variables, items_names, items_variables, first_names, first_variables, index, range_names, range_variables, stated, assigned_by, assignment_operator, IsItem, AreItems, IsDeclaration, IsTarget, IsSimple, IsFirst, AreRanges, AreValues}
 use Rattle.isp_types.proofs.NamesKept.{Grown, same, then as and_then, one_more}
 use Rattle.isp_types.proofs.fine.Names.{InScope, named_is, name_added, get_next}
 use Rattle.isp_types.proofs.fine.Callees.{Headed}

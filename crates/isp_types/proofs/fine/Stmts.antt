@@ -1,7 +1,6 @@
 -- Every statement that names and types accept is fine.
-use Rattle.std.proofs.Common.{◌≡◌, ℕ, zero, suc, ◌++◌, ◌≤◌, Bool, true, false, refl, sym, ap, subst, ◌∙◌, arith}
-use Rattle.std.specs.Prelude.{Option, Some, None, List, [], ◌∷◌, length, Result, Ok, Err}
-use Rattle.std.specs.List.{All}
+use Rattle.std.proofs.Common.{◌≡◌, ℕ, suc, ◌++◌, ◌≤◌, sym, ap, subst, ◌∙◌}
+use Rattle.std.specs.Prelude.{Option, Some, None, List, [], ◌∷◌, length, Ok}
 use Rattle.std.proofs.lemmas.Bool.{eqb-true}
 use Rattle.isp_base.specs.declared.types.Elem.TheVariants.{Bool as Truth}
 use Rattle.isp_base.specs.declared.types.Gang.{Gang}
@@ -10,13 +9,11 @@ use Rattle.isp_tree.specs.Sound.{IfAny, IsSoundExpr, IsSoundFirst, IsSoundSimple
 use Rattle.isp_tree.specs.Tree.{Expr, First, Simple, Stmt, block, empty, declare, simple, if_then, if_else, loop_while, loop_do, loop_for, foreach, foreach_active, unmasked, jump, returning, print, assert, Block, braces, Stmts, no_stmts, stmt_then}
 use Rattle.isp_typed.specs.declared.variable.Variable.{Variable}
 use Rattle.isp_typed.specs.Typed.{TExpr, TFirst, TSimple, TStmt, TBlock, TStmts, TFunction}
-use Rattle.isp_typed.specs.Fine.{FineExpr, FineValue, FineFirst, FineSimple, FineReturned, FineStmt, FineBlock, FineStmts}
+use Rattle.isp_typed.specs.Fine.{FineValue, FineFirst, FineSimple, FineReturned, FineStmt, FineBlock, FineStmts}
 use Rattle.isp_exprs.specs.declared.scope.Binding.{Binding}
 use Rattle.isp_exprs.specs.Scopes.{with_name}
-use Rattle.isp_exprs.specs.Values.{converted}
 use Rattle.isp_exprs.specs.Calls.{Heading}
-use Rattle.isp_exprs.specs.Rules.{IsExpr}
-use Rattle.isp_types.specs.Statements.{first_names, first_variables, active_index, range_names, range_variables, names_after, variables_after, block_variables, stmts_variables, agrees, as_answer, places, IsTest, IsSimple, IsFirst, AreValues, IsReturned, IsStmt, IsBlock, AreStmts}
+use Rattle.isp_types.specs.Statements.{first_names, first_variables, active_index, range_names, range_variables, names_after, variables_after, block_variables, stmts_variables, places, IsTest, IsSimple, IsFirst, AreValues, IsReturned, IsStmt, IsBlock, AreStmts}
 use Rattle.isp_exprs.specs.Words.{value_said}
 use Rattle.isp_typed.specs.Forms.{Perhaps}
 use Rattle.isp_types.proofs.NamesKept.{Grown, same, then as and_then, one_more}

@@ -1,6 +1,6 @@
 -- Typed expressions made of fine parts are fine.
-use Rattle.std.proofs.Common.{◌≡◌, ℕ, ◌≤◌, Bool, true, false, cond, refl, sym, ap, subst, ◌∙◌, arith, ◌⊎◌, inl, inr}
-use Rattle.std.specs.Prelude.{Option, Some, None, List, [], ◌∷◌, length, map, ◌==◌, if◌then◌else◌}
+use Rattle.std.proofs.Common.{◌≡◌, ℕ, ◌≤◌, Bool, true, false, refl, sym, ap, ◌∙◌, arith, inl, inr}
+use Rattle.std.specs.Prelude.{List, ◌==◌, if◌then◌else◌}
 use Rattle.std.proofs.lemmas.Bool.{eqb-true}
 use Rattle.isp_base.specs.declared.types.Elem.{Elem}
 use Rattle.isp_base.specs.declared.types.Elem.TheVariants.{Bool as Truth, I8, U8, I16, U16, I32, U32, I64, U64}
@@ -9,13 +9,10 @@ use Rattle.isp_base.specs.declared.types.Gang.TheVariants as gangs
 use Rattle.isp_base.specs.declared.types.Rate.{Rate}
 use Rattle.isp_base.specs.declared.types.Rate.TheVariants.{Uniform, Varying}
 use Rattle.isp_base.specs.declared.types.Span.{Span}
-use Rattle.isp_base.specs.declared.types.Ty.{Ty}
-use Rattle.isp_base.specs.Types.{gang_width}
 use Rattle.isp_base.specs.Ranks.{rank, same_elem, operand, common}
 use Rattle.isp_base.specs.Values.{greatest}
 use Rattle.isp_base.proofs.RankLaws.{common_one}
 use Rattle.isp_tree.specs.Sound.{InText}
-use Rattle.isp_tree.specs.declared.expr.Operator.{Operator}
 use Rattle.isp_tree.specs.declared.expr.Prefix.{Prefix}
 use Rattle.isp_tree.specs.declared.expr.Prefix.TheVariants as sign
 use Rattle.isp_typed.specs.declared.variable.Variable.{Variable}
@@ -25,7 +22,7 @@ use Rattle.isp_typed.specs.Fine.{FineExpr, IsWhole}
 use Rattle.isp_exprs.specs.declared.values.Joining.{Joining}
 use Rattle.isp_exprs.specs.declared.values.Joining.TheVariants as joined_as
 use Rattle.isp_exprs.specs.declared.words.ValueWords.{ValueWords}
-use Rattle.isp_exprs.specs.Values.{elem_of, rate_of, rate_or, converted, chosen, in_brackets, cast_to, with_sign, joins, joining, joined, choice, truth_value, count_value}
+use Rattle.isp_exprs.specs.Values.{elem_of, rate_of, rate_or, converted, chosen, cast_to, with_sign, joins, choice, truth_value, count_value}
 
 -- ---- element types and rates
 
