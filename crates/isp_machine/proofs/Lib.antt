@@ -1,0 +1,5 @@
+pub mod LaneViews
+pub mod MaskViews
+pub mod Finds
+pub mod Shaping
+pub mod Stored
