@@ -1,5 +1,5 @@
-use Rattle.std.proofs.Common.{◌≡◌, sym, ap, ◌∙◌, ℕ, ◌+◌, Option, Some, None, true, false}
-use Rattle.isp_base.specs.Sets.{flag_of, lowest, any}
+use Rattle.std.proofs.Common.{◌≡◌, sym, ap, ◌∙◌, ℕ, ◌+◌, Option, Some, None}
+use Rattle.isp_base.specs.Sets.{flag_of, lowest}
 use Rattle.isp_base.specs.Types.{gang_width}
 use Rattle.isp_base.specs.declared.trap.Trap.{Trap}
 use Rattle.isp_base.specs.declared.trap.TrapKind.TheVariants.{Assert}

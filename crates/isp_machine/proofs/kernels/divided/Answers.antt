@@ -1,5 +1,4 @@
-use Rattle.std.proofs.Common.{◌≡◌, sym, ap, ◌∙◌, length, List, ℕ}
-use Rattle.isp_base.specs.Access.{is_zero}
+use Rattle.std.proofs.Common.{sym, ap, ◌∙◌}
 use Rattle.isp_base.specs.Maps.{lane_of, over, map2, on}
 use Rattle.isp_base.specs.Sets.{flag_of}
 use Rattle.isp_base.specs.Rows.{Row, Fit}

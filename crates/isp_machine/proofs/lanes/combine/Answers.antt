@@ -1,12 +1,9 @@
-use Rattle.std.proofs.Common.{◌∙◌, refl, ℕ}
-use Rattle.std.specs.Prelude.{if◌then◌else◌}
-use Rattle.isp_base.specs.Maps.{lane_of, on, over, map1, map2}
-use Rattle.isp_base.specs.Unary.{unary_bits}
-use Rattle.isp_base.specs.Values.{number, convert_bits, op_bits, compare_bits}
+use Rattle.std.proofs.Common.{◌∙◌, refl}
+use Rattle.isp_base.specs.Maps.{lane_of, on, over, map2}
+use Rattle.isp_base.specs.Values.{op_bits}
 use Rattle.isp_code.specs.Lines.{plain_of}
-use Rattle.isp_base.specs.Truths.{is_true}
 use Rattle.isp_code.specs.Registers.{elem_of}
-use Rattle.isp_machine.specs.Views.{masks_at, vectors_at, scalars_at}
+use Rattle.isp_machine.specs.Views.{masks_at, vectors_at}
 use Rattle.isp_machine.proofs.lanes.combine.Goals as goal
 
 pub returns-clause-written : goal.returns-clause-written

@@ -1,4 +1,4 @@
-use Rattle.std.proofs.Common.{ap, ◌∙◌, sym, refl, Bool, not, ◌&&◌, ◌||◌}
+use Rattle.std.proofs.Common.{ap, ◌∙◌, sym, refl, not, ◌&&◌, ◌||◌}
 use Rattle.isp_base.specs.Sets.{flag_of}
 use Rattle.isp_code.specs.Lines.{combined}
 use Rattle.isp_code.specs.declared.instr.MaskOp.{MaskOp}

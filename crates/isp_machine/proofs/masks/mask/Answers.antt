@@ -1,4 +1,4 @@
-use Rattle.std.proofs.Common.{ap, ◌∙◌, ◌+◌, ℕ}
+use Rattle.std.proofs.Common.{ap, ◌∙◌, ◌+◌}
 use Rattle.isp_machine.specs.Rows.{FrameRows}
 use Rattle.isp_machine.proofs.Shaping.{dest_mask, goes_mask}
 use Rattle.isp_machine.proofs.masks.mask.Goals as goal

@@ -1,4 +1,4 @@
-use Rattle.std.proofs.Common.{◌≡◌, sym, ap, ◌∙◌, pos, ◌+ℤ◌, int_lt, nat_lt, ◌&&◌}
+use Rattle.std.proofs.Common.{sym, ap, ◌∙◌, pos, ◌+ℤ◌, int_lt, nat_lt, ◌&&◌}
 use Rattle.isp_base.specs.Values.{number}
 use Rattle.isp_base.specs.declared.types.Elem.TheVariants.{I64}
 use Rattle.isp_code.specs.Lines.{mask_value}

@@ -1,10 +1,9 @@
-use Rattle.std.proofs.Common.{sym, ap, List, ℕ, []}
-use Rattle.std.specs.Prelude.{slice_index_or}
+use Rattle.std.proofs.Common.{sym, ap}
 use Rattle.isp_code.specs.Conf.{Say}
 use Rattle.isp_base.specs.Prints.{value_text}
 use Rattle.isp_code.specs.Registers.{elem_of}
 use Rattle.isp_machine.specs.Rows.{FrameRows}
-use Rattle.isp_machine.specs.Views.{conf_of, scalars_at, vectors_at, masks_at}
+use Rattle.isp_machine.specs.Views.{conf_of, scalars_at}
 use Rattle.isp_machine.proofs.says.print_scalar.Goals as goal
 
 pub returns-clause-ok : goal.returns-clause-ok

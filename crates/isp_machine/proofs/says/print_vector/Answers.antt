@@ -1,12 +1,11 @@
-use Rattle.std.proofs.Common.{sym, ap, List, ℕ, []}
-use Rattle.std.specs.Prelude.{slice_index_or}
+use Rattle.std.proofs.Common.{sym, ap}
 use Rattle.isp_code.specs.Conf.{Say}
 use Rattle.isp_base.specs.Maps.{on}
 use Rattle.isp_base.specs.Prints.{list_text}
 use Rattle.isp_base.specs.Types.{gang_width}
 use Rattle.isp_code.specs.Registers.{elem_of}
 use Rattle.isp_machine.specs.Rows.{FrameRows}
-use Rattle.isp_machine.specs.Views.{conf_of, scalars_at, vectors_at, masks_at}
+use Rattle.isp_machine.specs.Views.{conf_of, vectors_at, masks_at}
 use Rattle.isp_machine.proofs.says.print_vector.Goals as goal
 
 pub returns-clause-ok : goal.returns-clause-ok

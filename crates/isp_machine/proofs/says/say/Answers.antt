@@ -1,8 +1,8 @@
-use Rattle.std.proofs.Common.{sym, ap, List, ℕ, []}
+use Rattle.std.proofs.Common.{sym, ap, []}
 use Rattle.std.specs.Prelude.{slice_index_or}
 use Rattle.isp_code.specs.Conf.{Say}
 use Rattle.isp_machine.specs.Rows.{FrameRows}
-use Rattle.isp_machine.specs.Views.{conf_of, scalars_at, vectors_at, masks_at}
+use Rattle.isp_machine.specs.Views.{conf_of}
 use Rattle.isp_machine.proofs.says.say.Goals as goal
 
 pub returns-clause-ok : goal.returns-clause-ok

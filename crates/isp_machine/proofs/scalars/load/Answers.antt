@@ -1,4 +1,4 @@
-use Rattle.std.proofs.Common.{◌≡◌, sym, ap, ◌∙◌, subst, ℕ, ◌<◌, ◌^◌, Err}
+use Rattle.std.proofs.Common.{sym, ◌∙◌, subst, ◌<◌, ◌^◌, Err}
 use Rattle.isp_base.specs.Sets.{flag_of}
 use Rattle.isp_base.specs.Values.{width}
 use Rattle.isp_base.specs.declared.trap.Trap.{Trap}

@@ -1,4 +1,4 @@
-use Rattle.std.proofs.Common.{◌≡◌, sym, subst, Err, ℕ}
+use Rattle.std.proofs.Common.{sym, subst, Err, ℕ}
 use Rattle.isp_base.specs.Maps.{lane_of}
 use Rattle.isp_base.specs.Sets.{flag_of}
 use Rattle.isp_base.specs.declared.trap.Trap.{Trap}

@@ -1,8 +1,8 @@
-use Rattle.std.proofs.Common.{◌≡◌, sym, ap, ◌∙◌, subst, map, length, ℕ, ◌<◌, List, Option, Some}
-use Rattle.std.specs.Prelude.{slice_get, option_map}
+use Rattle.std.proofs.Common.{◌≡◌, sym, ap, ◌∙◌, subst, map, length, ℕ, ◌<◌}
+use Rattle.std.specs.Prelude.{option_map}
 use Rattle.std.proofs.lemmas.List.{length-map}
 use Rattle.std.proofs.lemmas.Option.{slice_get-map}
-use Rattle.isp_code.specs.Listing.{Listing, Routine, routine_of}
+use Rattle.isp_code.specs.Listing.{Listing, routine_of}
 use Rattle.isp_code.specs.Registers.{table_of}
 use Rattle.isp_verify.proofs.Exports.{routine_at}
 use Rattle.isp_machine.proofs.Finds.{some_same}

@@ -1,4 +1,4 @@
-use Rattle.std.proofs.Common.{◌≡◌, sym, ap, ◌∙◌, Option, Some, None}
+use Rattle.std.proofs.Common.{sym, ap, ◌∙◌}
 use Rattle.isp_machine.specs.Rows.{Named}
 use Rattle.isp_machine.proofs.Stored.{own_found, own_missing}
 use Rattle.isp_machine.proofs.here.Here.own.Goals as goal

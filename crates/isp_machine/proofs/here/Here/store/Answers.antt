@@ -1,6 +1,4 @@
 use Rattle.std.proofs.Common.{◌≡◌, sym, ap, ◌∙◌, subst, ℕ, ◌<◌, length}
-use Rattle.isp_code.specs.Fine.{IsThere}
-use Rattle.isp_code.specs.declared.register.Class.TheVariants as class
 use Rattle.isp_store.specs.Held.{shapes, elem, size}
 use Rattle.isp_machine.specs.Rows.{Named}
 use Rattle.isp_machine.specs.Views.{home_at}
