@@ -3,3 +3,4 @@ pub mod MaskViews
 pub mod Finds
 pub mod Shaping
 pub mod Stored
+pub mod Begins

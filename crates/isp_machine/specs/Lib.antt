@@ -2,3 +2,4 @@ pub mod Rows
 pub mod Shapes
 pub mod Views
 pub mod Moves
+pub mod Begun

@@ -274,6 +274,7 @@ module _ (code : Listing) where
   pub never_stuck : code_fault code ≡ None → NeverStuck code
   never_stuck none =
       record {
+        begins = λ fn h found. not_empty h (function_fine code fn h none found).ends;
         lines = line_applies code none;
         runs = λ name xs f h entry m. applies none _ (after_sound none m (Runs (first_conf code f h xs)) (first_sound none f h xs entry.export.found));
       }
