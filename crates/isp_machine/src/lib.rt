@@ -2,6 +2,7 @@
 #![tactic(auto)]
 
 mod array;
+mod calls;
 mod divide;
 mod frame;
 mod here;
@@ -11,6 +12,7 @@ mod lanes;
 mod locals;
 mod masks;
 mod passed;
+mod returns;
 mod says;
 mod scalars;
 mod stop;
