@@ -3,3 +3,5 @@ pub mod MaskViews
 pub mod Finds
 pub mod Shaping
 pub mod Stored
+pub mod Rewrites
+pub mod Written

@@ -1,4 +1,5 @@
 pub mod Rows
 pub mod Shapes
 pub mod Views
+pub mod Arrays
 pub mod Moves
