@@ -3,3 +3,4 @@ pub mod Shapes
 pub mod Views
 pub mod Arrays
 pub mod Moves
+pub mod Steps

@@ -11,6 +11,7 @@ mod lanes;
 mod masks;
 mod says;
 mod scalars;
+mod step;
 mod stop;
 mod stores;
 mod texts;
