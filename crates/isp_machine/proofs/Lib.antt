@@ -4,3 +4,5 @@ pub mod Finds
 pub mod Shaping
 pub mod Stored
 pub mod Begins
+pub mod Rewrites
+pub mod Written

@@ -1,6 +1,8 @@
 pub mod Rows
 pub mod Shapes
 pub mod Views
+pub mod Arrays
 pub mod Moves
 pub mod Begun
 pub mod Switches
+pub mod Steps

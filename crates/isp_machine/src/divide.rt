@@ -105,3 +105,28 @@ fn divide_lanes<const N: usize>(
         Err(lane) => Err(here.trap(TrapKind::Divide, place, lane)),
     }
 }
+
+/// Divides, and goes on to the next instruction.
+pub(crate) fn divide<const N: usize>(
+    here: &Here,
+    frame: &mut Frame<N>,
+    op: Division,
+    d: Register,
+    x: Register,
+    y: Register,
+    k: Register,
+    place: u32,
+) -> Result<(), Trap>
+    requires gang { N ≡ gang_width here.now.code.gang }
+    requires shaped { Shaped here.now.routine frame.old }
+    requires operands { AllFine here.now.code here.now.routine (operands (Instr.Divide op d x y k place)) }
+    requires next { frame.old.pc + 1 < length here.now.routine.code }
+    ensures ok { IfOk result (λ _. (s : Held) → Opened here.now.routine (shapes s) frame.old → Goes here.now (Instr.Divide op d x y k place) s frame.old s frame.new) }
+    ensures err { IfErr result (λ t. (s : Held) → Fails here.now (Instr.Divide op d x y k place) s frame.old t) }
+    ensures same { IfErr result (λ t. frame.new ≡ frame.old) }
+{
+    match d.class {
+        Class::Vector => divide_lanes(here, frame, op, d, x, y, k, place),
+        _ => divide_scalars(here, frame, op, d, x, y, k, place),
+    }
+}

@@ -1,10 +1,16 @@
 //! A call: where it stands, and its registers.
-ghost use Rattle.std.specs.Prelude.{◌≡◌, ◌<◌, ◌+◌, ◌^◌, [], length, get_or, slice_set, None};
-ghost use Rattle.isp_machine.specs.Views.{no_row, no_array};
+ghost use Rattle.std.specs.Prelude.{◌≡◌, ◌<◌, ◌+◌, ◌^◌, [], length, get_or, slice_set, None, Some, IfOk, IfErr, if◌then◌else◌};
+ghost use Rattle.isp_base.specs.Access.{is_outside, element, scatter};
+ghost use Rattle.isp_base.specs.Maps.{on, map1, lowest_failing};
+ghost use Rattle.isp_base.specs.Stores.{own_put};
+ghost use Rattle.isp_base.specs.declared.types.Elem.TheVariants.{I64};
+ghost use Rattle.isp_machine.specs.Arrays.{ArrayThere, Rewritten, array_count, array_elem, array_in, vector_in};
+ghost use Rattle.isp_machine.specs.Views.{no_row, no_array, vectors_at, masks_at};
 
 use crate::array::FrameArray;
 use isp_code::Register;
 use isp_lanes::{LaneMask, Lanes};
+use isp_store::{Arrays, IndexTrap};
 use std::marker::Model;
 
 /// The registers of a call by class, each by its number.
@@ -171,5 +177,48 @@ impl<const N: usize> Frame<N> {
         ensures { self.new ≡ record self.old { masks = slice_set self.old.masks r value.entry } }
     {
         self.masks[r as usize] = value;
+    }
+    /// Each lane of a mask writes its value at its index in an array.
+    ///
+    /// Index where one is outside, with the lowest such lane, and then nothing changes.
+    pub(crate) fn scatter(
+        &mut self,
+        stores: &mut Arrays,
+        a: u32,
+        i: u32,
+        y: u32,
+        k: u32,
+    ) -> Result<(), IndexTrap>
+        requires a { a < length self.old.arrays }
+        requires i { i < length self.old.vectors }
+        requires y { y < length self.old.vectors }
+        requires k { k < length self.old.masks }
+        requires there { ArrayThere stores.old (array_in self.old a) }
+        requires index { (vector_in self.old i).elem ≡ I64 }
+        requires elem { (vector_in self.old y).elem ≡ array_elem stores.old (array_in self.old a) }
+        ensures inside { IfOk result (λ _. lowest_failing N (is_outside I64 (array_count stores.old (array_in self.old a))) (on (masks_at self.old k) (vectors_at self.old i)) ≡ None) }
+        ensures written { IfOk result (λ _. let places = map1 (element I64) (on (masks_at self.old k) (vectors_at self.old i)) in Rewritten stores.old (array_in self.old a) stores.new (array_in self.new a) (scatter N places (on (masks_at self.old k) (vectors_at self.old y))) (own_put places (vectors_at self.old y))) }
+        ensures others { IfOk result (λ _. self.new ≡ record self.old { arrays = slice_set self.old.arrays a (array_in self.new a) }) }
+        ensures lowest { IfErr result (λ t. lowest_failing N (is_outside I64 (array_count stores.old (array_in self.old a))) (on (masks_at self.old k) (vectors_at self.old i)) ≡ Some t.instance) }
+        ensures same { IfErr result (λ t. self.new ≡ self.old) }
+        ensures same_stores { IfErr result (λ t. stores.new ≡ stores.old) }
+    {
+        let index = &self.vectors[i as usize];
+        let value = &self.vectors[y as usize];
+        let mask = &self.masks[k as usize];
+        mask.told();
+        self.arrays[a as usize].scatter(stores, index, value, mask)
+    }
+
+    /// Zeroes an array that all lanes share, or the lanes' own in a mask.
+    pub(crate) fn clear(&mut self, stores: &mut Arrays, a: u32, k: u32)
+        requires a { a < length self.old.arrays }
+        requires k { k < length self.old.masks }
+        requires there { ArrayThere stores.old (array_in self.old a) }
+        ensures written { Rewritten stores.old (array_in self.old a) stores.new (array_in self.new a) (λ f e. 0) (λ f e p. if masks_at self.old k p then 0 else f e p) }
+        ensures others { self.new ≡ record self.old { arrays = slice_set self.old.arrays a (array_in self.new a) } }
+    {
+        let mask = &self.masks[k as usize];
+        self.arrays[a as usize].clear(stores, mask);
     }
 }

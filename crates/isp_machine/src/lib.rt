@@ -15,6 +15,7 @@ mod passed;
 mod returns;
 mod says;
 mod scalars;
+mod step;
 mod stop;
 mod stores;
 mod texts;

@@ -46,3 +46,53 @@ pub(crate) fn store<const N: usize>(
         Err(trap) => Err(here.trap(TrapKind::Index, place, trap.instance)),
     }
 }
+
+/// Stores lanes, and goes on to the next instruction.
+pub(crate) fn scatter<const N: usize>(
+    here: &Here,
+    frame: &mut Frame<N>,
+    stores: &mut Arrays,
+    a: Register,
+    i: Register,
+    y: Register,
+    k: Register,
+    place: u32,
+) -> Result<(), Trap>
+    requires gang { N ≡ gang_width here.now.code.gang }
+    requires shaped { Shaped here.now.routine frame.old }
+    requires arrays { Opened here.now.routine (shapes stores.old) frame.old }
+    requires operands { AllFine here.now.code here.now.routine (operands (Instr.Scatter a i y k place)) }
+    requires next { frame.old.pc + 1 < length here.now.routine.code }
+    ensures ok { IfOk result (λ _. Goes here.now (Instr.Scatter a i y k place) stores.old frame.old stores.new frame.new) }
+    ensures err { IfErr result (λ t. Fails here.now (Instr.Scatter a i y k place) stores.old frame.old t) }
+    ensures same { IfErr result (λ t. frame.new ≡ frame.old) }
+    ensures same_stores { IfErr result (λ t. stores.new ≡ stores.old) }
+{
+    match frame.scatter(stores, a.number, i.number, y.number, k.number) {
+        Ok(()) => {
+            let _count = here.count();
+            frame.next();
+            Ok(())
+        }
+        Err(trap) => Err(here.trap(TrapKind::Index, place, trap.instance)),
+    }
+}
+
+/// Zeroes a local array, and goes on to the next instruction.
+pub(crate) fn clear<const N: usize>(
+    here: &Here,
+    frame: &mut Frame<N>,
+    stores: &mut Arrays,
+    a: Register,
+    k: Register,
+)
+    requires shaped { Shaped here.now.routine frame.old }
+    requires arrays { Opened here.now.routine (shapes stores.old) frame.old }
+    requires operands { AllFine here.now.code here.now.routine (operands (Instr.Clear a k)) }
+    requires next { frame.old.pc + 1 < length here.now.routine.code }
+    ensures { Goes here.now (Instr.Clear a k) stores.old frame.old stores.new frame.new }
+{
+    let _count = here.count();
+    frame.clear(stores, a.number, k.number);
+    frame.next();
+}
