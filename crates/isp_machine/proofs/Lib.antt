@@ -6,3 +6,5 @@ pub mod Stored
 pub mod Begins
 pub mod Rewrites
 pub mod Written
+pub mod Alike
+pub mod Lasts

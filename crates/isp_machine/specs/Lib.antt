@@ -4,5 +4,5 @@ pub mod Views
 pub mod Arrays
 pub mod Moves
 pub mod Begun
-pub mod Switches
+pub mod Receives
 pub mod Steps

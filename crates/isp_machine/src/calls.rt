@@ -1,10 +1,11 @@
 //! Calls.
-ghost use Rattle.std.specs.Prelude.{◌≡◌, ◌+◌, ◌<◌, ◌^◌, ◌++◌, ◌∷◌, [], length, slice_get, Some, IfOk, OnOk, OnErr, MatchResult};
+ghost use Rattle.std.specs.Prelude.{◌≡◌, ◌+◌, ◌<◌, ◌^◌, ◌++◌, ◌∷◌, [], length, slice_get, Some, IfOk, OnOk, OnErr, ℕ, List};
 ghost use Rattle.isp_code.specs.Fine.{IsThere, CallFine};
 ghost use Rattle.isp_code.specs.Listing.{Routine};
 ghost use Rattle.isp_machine.specs.Begun.{Begun, given, new_stores};
+ghost use Rattle.isp_machine.specs.Rows.{run_of};
 ghost use Rattle.isp_machine.specs.Shapes.{Sound};
-ghost use Rattle.isp_machine.specs.Switches.{Does};
+ghost use Rattle.isp_machine.specs.Steps.{Done};
 
 use crate::frame::Frame;
 use crate::here::Here;
@@ -83,7 +84,7 @@ pub(crate) fn call<const N: usize>(
     requires place { call.now.place < length here.now.code.places }
     requires fine { CallFine here.now.code here.now.routine call.now }
     requires next { frame.old.pc + 1 < length here.now.routine.code }
-    ensures ok { IfOk result (λ step. Does N here.now (Instr.Call call.now) (record { stores = stores.old; frame = frame.old; waiting = waiting.old.items }) (record { stores = stores.new; frame = frame.new; waiting = waiting.new.items }) step) }
+    ensures ok { IfOk result (λ step. (out : List ℕ) → Done N here.now (Instr.Call call.now) (run_of stores.old frame.old waiting.old.items out) (run_of stores.new frame.new waiting.new.items out) step) }
     ensures same_frame { OnErr result (frame.new ≡ frame.old) }
     ensures same_waiting { OnErr result (waiting.new.items ≡ waiting.old.items) }
     ensures same_stores { OnErr result (stores.new ≡ stores.old) }

@@ -33,7 +33,7 @@ use Rattle.isp_verify.specs.Progress.{NeverStuck}
 use Rattle.isp_verify.specs.declared.fault.Rule.{Rule}
 use Rattle.isp_verify.specs.declared.fault.Rule.TheVariants.{BadEntry, FallsOff}
 use Rattle.isp_verify.proofs.FineLaws.{instr_fine}
-use Rattle.isp_verify.proofs.Tests.{both_second, none_first, none_later, unless_none}
+use Rattle.isp_verify.proofs.Tests.{both_first, both_second, none_first, none_later, unless_none}
 
 some_same : {A : Type 0} {x y : A} → Some x ≡ Some y → x ≡ y
 some_same e = cc
@@ -59,6 +59,7 @@ record Fine (code : Listing) (h : Routine) : Type 0 where
   instrs : (pc : ℕ) (i : Instr) → slice_get h.code pc ≡ Some i → instr_fault code h i ≡ None
   ends : stays (slice_get h.code (last h)) ≡ true
   masks : 0 < h.masks
+  export : export_fits h.exported h ≡ true
 
 some_mask : (n : ℕ) → not (n == 0) ≡ true → 0 < n
 some_mask zero e = cc
@@ -67,6 +68,9 @@ some_mask (suc n) e = omega arith
 header_masks : (earlier : List Routine) (h : Routine) → header_fits earlier h ≡ true → 0 < h.masks
 header_masks earlier h e =
     some_mask h.masks (both_second (export_fits h.exported h) (not (h.masks == 0)) (both_second (names_differ h.params) _ (both_second (not (list_any (is_function h.name) earlier)) _ e)))
+
+header_export : (earlier : List Routine) (h : Routine) → header_fits earlier h ≡ true → export_fits h.exported h ≡ true
+header_export earlier h e = both_first (export_fits h.exported h) (not (h.masks == 0)) (both_second (names_differ h.params) _ (both_second (not (list_any (is_function h.name) earlier)) _ e))
 
 function_fine : (code : Listing) (f : ℕ) (h : Routine) → code_fault code ≡ None → slice_get code.routines f ≡ Some h → Fine code h
 function_fine code f h e at =
@@ -77,6 +81,7 @@ function_fine code f h e at =
       instrs = λ pc i there. instrs_fine code found.0 h 0 h.code pc i (none_first (instrs_fault code found.0 h 0 h.code) _ rest) there;
       ends = unless_none (stays (slice_get h.code (last h))) FallsOff (none_at found.0 (last h) (last_fault h) (none_later (instrs_fault code found.0 h 0 h.code) _ rest));
       masks = header_masks (take found.0 code.routines) h (unless_none (header_fits (take found.0 code.routines) h) BadEntry (none_at found.0 0 _ header));
+      export = header_export (take found.0 code.routines) h (unless_none (header_fits (take found.0 code.routines) h) BadEntry (none_at found.0 0 _ header));
     }
 
 -- there is an instruction, and control does not fall off the last
@@ -275,6 +280,7 @@ module _ (code : Listing) where
   never_stuck none =
       record {
         begins = λ fn h found. not_empty h (function_fine code fn h none found).ends;
+        exports = λ fn h found. (function_fine code fn h none found).export;
         lines = line_applies code none;
         runs = λ name xs f h entry m. applies none _ (after_sound none m (Runs (first_conf code f h xs)) (first_sound none f h xs entry.export.found));
       }
