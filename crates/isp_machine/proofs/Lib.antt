@@ -8,3 +8,5 @@ pub mod Rewrites
 pub mod Written
 pub mod Alike
 pub mod Lasts
+pub mod LocalArrays
+pub mod Firsts

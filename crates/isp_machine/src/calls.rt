@@ -90,6 +90,7 @@ pub(crate) fn call<const N: usize>(
     ensures same_stores { OnErr result (stores.new ≡ stores.old) }
 {
     let mask = *here.mask(frame, call.mask);
+    mask.told();
     if waiting.len() >= MOST_CALLS - 1 {
         let lane = first_lane(&mask);
         return Ok(Step::Trapped(here.trap(TrapKind::Depth, call.place, lane)));
