@@ -10,3 +10,5 @@ pub mod Alike
 pub mod Lasts
 pub mod LocalArrays
 pub mod Firsts
+pub mod Passes
+pub mod Called
