@@ -10,3 +10,7 @@ pub mod Alike
 pub mod Lasts
 pub mod Doing
 pub mod Stays
+pub mod LocalArrays
+pub mod Firsts
+pub mod Passes
+pub mod Called

@@ -38,6 +38,7 @@ pub(crate) fn first_frame<const N: usize>(
     ensures stores { OnOk result ((g : Routine) → slice_get code.now.routines number ≡ Some g → stores.new ≡ record stores.old { rows = stores.old.rows ++ new_stores g.locals }) }
     ensures all { IfOk result (λ f. stores.new.params + f.locals ≡ length stores.new.rows) }
     ensures starts { (g : Routine) → slice_get code.now.routines number ≡ Some g → 0 < length g.code }
+    ensures masks { (g : Routine) → slice_get code.now.routines number ≡ Some g → 0 < g.masks }
     ensures err { OnErr result (stores.new ≡ stores.old) }
 {
     mask.told();
@@ -90,6 +91,7 @@ pub(crate) fn call<const N: usize>(
     ensures same_stores { OnErr result (stores.new ≡ stores.old) }
 {
     let mask = *here.mask(frame, call.mask);
+    mask.told();
     if waiting.len() >= MOST_CALLS - 1 {
         let lane = first_lane(&mask);
         return Ok(Step::Trapped(here.trap(TrapKind::Depth, call.place, lane)));

@@ -33,3 +33,6 @@ returns-clause-stores g c =
     let low : c.args.number < length fs = subst (λ (n : ℕ). c.args.number < n) (ap length (sym made) ∙ length-map fs routine_of) c.requires in
     let found : slice_get c.args.code.now.routines c.args.number ≡ Some (routine_of c.index-functions-number.result) = routine_at c.args.code.now fs c.args.number c.index-functions-number.result made low c.index-functions-number.is in
     on_ok_weaker c.frame.result (λ b h e. subst (λ (z : Routine). c.frame.new.stores ≡ record c.args.stores.now { rows = c.args.stores.now.rows ++ new_stores z.locals }) (some_same (sym found ∙ e)) b) c.frame.ensures.stores
+
+pub returns-clause-masks : goal.returns-clause-masks
+returns-clause-masks g c = λ h found. masks_of c.args.code.now c.args.number h c.code.ensures.goes_on found
