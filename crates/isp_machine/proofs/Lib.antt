@@ -14,3 +14,4 @@ pub mod LocalArrays
 pub mod Firsts
 pub mod Passes
 pub mod Called
+pub mod Starting

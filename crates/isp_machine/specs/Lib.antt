@@ -8,3 +8,4 @@ pub mod Receives
 pub mod Steps
 pub mod Kept
 pub mod Runs
+pub mod Starts

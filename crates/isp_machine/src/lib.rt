@@ -16,6 +16,7 @@ mod passed;
 mod returns;
 mod says;
 mod scalars;
+mod start;
 mod step;
 mod stop;
 mod stores;
