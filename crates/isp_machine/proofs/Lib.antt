@@ -12,3 +12,4 @@ pub mod LocalArrays
 pub mod Firsts
 pub mod Passes
 pub mod Called
+pub mod Returned
