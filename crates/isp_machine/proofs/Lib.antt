@@ -8,6 +8,8 @@ pub mod Rewrites
 pub mod Written
 pub mod Alike
 pub mod Lasts
+pub mod Doing
+pub mod Stays
 pub mod LocalArrays
 pub mod Firsts
 pub mod Passes

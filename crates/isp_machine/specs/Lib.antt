@@ -6,3 +6,5 @@ pub mod Moves
 pub mod Begun
 pub mod Receives
 pub mod Steps
+pub mod Kept
+pub mod Runs

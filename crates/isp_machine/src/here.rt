@@ -11,6 +11,7 @@ ghost use Rattle.isp_code.specs.Registers.{elem_of, is_per_lane};
 ghost use Rattle.isp_machine.specs.Shapes.{Shaped, Opened, IsOwn};
 ghost use Rattle.isp_machine.specs.Views.{scalars_at, vectors_at, masks_at, home_at};
 ghost use Rattle.isp_store.specs.Held.{shapes, elem, size};
+ghost use Rattle.isp_verify.specs.Progress.{NeverStuck};
 
 use crate::frame::Frame;
 use isp_base::{Elem, Trap, TrapKind};
@@ -46,6 +47,7 @@ impl<'a> Here<'a> {
     pub(crate) fn new(code: &'a Verified, number: usize) -> Here<'a>
         requires { number < length code.now.routines }
         ensures code { result.code ≡ code.now }
+        ensures goes_on { NeverStuck code.now }
         ensures found { slice_get code.now.routines number ≡ Some result.routine }
     {
         Here {

@@ -10,6 +10,7 @@ mod jumps;
 mod kernels;
 mod lanes;
 mod locals;
+mod machine;
 mod masks;
 mod passed;
 mod returns;
@@ -20,3 +21,6 @@ mod stop;
 mod stores;
 mod texts;
 mod vectors;
+
+pub use machine::Machine;
+pub use stop::{StartFault, Stop};
