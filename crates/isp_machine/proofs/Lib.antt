@@ -15,3 +15,4 @@ pub mod Firsts
 pub mod Passes
 pub mod Called
 pub mod Starting
+pub mod Returned

@@ -49,8 +49,10 @@ fn receive_lanes<const N: usize>(
     requires takes { TakesLanes (elem_of here.now.routine x) caller.old d }
     ensures { (k : Routine) → Shaped k caller.old → IsThere k Class.Vector d → elem_of k d ≡ elem_of here.now.routine x → caller.old.to ≡ Some d → Receives k callee.now (Some x) caller.old caller.new }
 {
+    let under = caller.under();
+    under.told();
     let mut value = *caller.vector(d.number);
-    copied(&mut value, here.vector(callee, x), &caller.under());
+    copied(&mut value, here.vector(callee, x), &under);
     caller.set_vector(d.number, value);
 }
 
