@@ -16,3 +16,4 @@ pub mod Passes
 pub mod Called
 pub mod Starting
 pub mod Returned
+pub mod Readies

@@ -3,7 +3,7 @@ ghost use Rattle.std.specs.Prelude.{◌≡◌, ℕ, ◌<◌, ◌≤◌, ◌++◌
 ghost use Rattle.isp_base.specs.Arguments.{rows};
 ghost use Rattle.isp_code.specs.Entries.{IsEntry};
 ghost use Rattle.isp_code.specs.Listing.{Routine};
-ghost use Rattle.isp_machine.specs.Starts.{Starts};
+ghost use Rattle.isp_machine.specs.Starts.{NoEntryFor, Ready};
 
 use crate::calls::first_frame;
 use crate::passed::Passed;
@@ -47,7 +47,7 @@ pub(crate) fn hand_over(stores: &mut Arrays, bound: Bound)
 /// The exported function of this name, where it takes the arguments.
 pub(crate) fn entry_for(code: &Verified, entry: &str, bound: &Bound) -> Option<usize>
     ensures some { IfSome result (λ f. (h : Routine) × IsEntry code.now entry.now bound.now.arguments.items f h) }
-    ensures none { IfNone result ((f : ℕ) (h : Routine) → IsEntry code.now entry.now bound.now.arguments.items f h → ⊥) }
+    ensures none { IfNone result (NoEntryFor code.now entry.now bound.now.arguments.items) }
 {
     let _code = code.code();
     match code.signature(entry) {
@@ -65,7 +65,7 @@ pub(crate) fn begun<const N: usize>(
 ) -> Result<Run<N>, AllocError>
     requires few { N ≤ 64 }
     requires there { number < length code.now.routines }
-    ensures { IfOk result (λ r. (g : Routine) → slice_get code.now.routines number ≡ Some g → Starts N g number arguments.now r) }
+    ensures { IfOk result (λ r. (g : Routine) → slice_get code.now.routines number ≡ Some g → Ready N g number arguments.now r) }
 {
     let mut stores = Arrays::new(alloc, places(alloc, arguments)?);
     let passed = Passed::by_run(alloc, arguments, stores.count())?;

@@ -10,14 +10,14 @@ returns g c = λ h found.
     let long : length c.new-stores.result.rows ≡ length (rows c.args.arguments.now) = ap (λ (s : Held). length s.rows) c.new-stores.ensures ∙ c.in_ok-places.ensures in
     let same = c.in_ok-frame.ensures.stores h found in
     record {
-      begun = along (λ j. Begun g.row.N h c.args.number (c.full.ensures j) (long j) (c.in_ok-passed.ensures j) c.in_ok-frame.frame) (c.in_ok-frame.ensures.begun h found);
+      frame_begun = along (λ j. Begun g.row.N h c.args.number (c.full.ensures j) (long j) (c.in_ok-passed.ensures j) c.in_ok-frame.frame) (c.in_ok-frame.ensures.begun h found);
       places = c.new-stores.result.rows;
-      places_long = long;
+      place_count = long;
       rows_are = ap (λ (s : Held). s.rows) same;
       params_are = ap (λ (s : Held). s.params) same ∙ ap (λ (s : Held). s.params) c.new-stores.ensures ∙ c.in_ok-places.ensures;
-      all = c.in_ok-frame.ensures.all;
-      none_waits = c.new.ensures.items;
-      no_output = c.new-2.ensures.items;
-      begins = c.in_ok-frame.ensures.starts h found;
-      masks = c.in_ok-frame.ensures.masks h found;
+      all_open = c.in_ok-frame.ensures.all;
+      none_wait = c.new.ensures.items;
+      none_written = c.new-2.ensures.items;
+      starts = c.in_ok-frame.ensures.starts h found;
+      some_mask = c.in_ok-frame.ensures.masks h found;
     }
