@@ -1,4 +1,4 @@
-use Rattle.std.proofs.Common.{◌≡◌, sym, ap, ◌∙◌, subst, ℕ, ◌+◌, ◌<◌, List, ◌++◌, length, take, Some, rules, arith}
+use Rattle.std.proofs.Common.{◌≡◌, sym, ap, ◌∙◌, subst, ◌+◌, ◌<◌, List, length, take, Some, rules, arith}
 use Rattle.std.specs.Prelude.{slice_get}
 use Rattle.isp_base.specs.Sets.{flag_of}
 use Rattle.isp_code.specs.Listing.{Listing}

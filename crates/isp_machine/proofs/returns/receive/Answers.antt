@@ -4,7 +4,6 @@ use Rattle.isp_base.specs.declared.types.Elem.{Elem}
 use Rattle.isp_code.specs.Fine.{IsGiven}
 use Rattle.isp_code.specs.declared.register.Register.{Register}
 use Rattle.isp_machine.specs.Receives.{Receives}
-use Rattle.isp_machine.specs.Rows.{FrameRows}
 use Rattle.isp_machine.proofs.Returned.{lanes_taken, scalar_taken, receives_scalar}
 use Rattle.isp_machine.proofs.returns.receive.Goals as goal
 

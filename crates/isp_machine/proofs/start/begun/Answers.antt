@@ -1,4 +1,4 @@
-use Rattle.std.proofs.Common.{◌≡◌, sym, ap, ◌∙◌, length, []}
+use Rattle.std.proofs.Common.{◌≡◌, ap, ◌∙◌, length}
 use Rattle.isp_base.specs.Arguments.{rows}
 use Rattle.isp_store.specs.Held.{Held}
 use Rattle.isp_machine.specs.Begun.{Begun}

@@ -1,4 +1,4 @@
-use Rattle.std.proofs.Common.{◌≡◌, sym, ap, ◌∙◌, subst, ◌+◌, ◌<◌, length, [], rules, Some}
+use Rattle.std.proofs.Common.{◌≡◌, sym, ap, ◌∙◌, subst, [], rules, Some}
 use Rattle.std.specs.Prelude.{slice_get, slice_index_or}
 use Rattle.isp_base.specs.Maps.{on}
 use Rattle.isp_base.specs.Prints.{value_text, list_text}
@@ -7,7 +7,6 @@ use Rattle.isp_code.specs.Fine.{AllFine, CallsFine, CallFine, GoesOn}
 use Rattle.isp_code.specs.Listing.{Listing}
 use Rattle.isp_code.specs.Operands.{operands, call_operands}
 use Rattle.isp_code.specs.Registers.{elem_of}
-use Rattle.isp_code.specs.declared.instr.Call.{Call}
 use Rattle.isp_code.specs.declared.instr.Instr.{Instr}
 use Rattle.isp_code.specs.declared.instr.Instr.TheVariants as instr
 use Rattle.isp_machine.specs.Moves.{Computes}

@@ -1,4 +1,4 @@
-use Rattle.std.proofs.Common.{sym, ap, ◌∙◌, subst, ◌+◌, ◌<◌, rules}
+use Rattle.std.proofs.Common.{sym, ap, ◌∙◌, subst, ◌+◌, rules}
 use Rattle.isp_base.specs.declared.trap.Trap.{Trap}
 use Rattle.isp_code.specs.declared.instr.Instr.TheVariants as instr
 use Rattle.isp_machine.specs.Moves.{Fails}

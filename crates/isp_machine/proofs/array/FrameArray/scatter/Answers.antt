@@ -1,4 +1,4 @@
-use Rattle.std.proofs.Common.{◌≡◌, sym, ap, ◌∙◌, subst, Some, None}
+use Rattle.std.proofs.Common.{sym, ap, ◌∙◌, subst}
 use Rattle.std.specs.Prelude.{IfOk}
 use Rattle.isp_base.specs.Access.{element, scatter}
 use Rattle.isp_base.specs.Maps.{lane_of, on, map1, put}
@@ -6,7 +6,6 @@ use Rattle.isp_base.specs.Sets.{flag_of}
 use Rattle.isp_base.specs.Stores.{own_put}
 use Rattle.isp_base.specs.declared.types.Elem.TheVariants.{I64}
 use Rattle.isp_store.specs.Held.{shapes, elements}
-use Rattle.isp_store.specs.Own.{own, size}
 use Rattle.isp_machine.specs.Arrays.{Rewritten}
 use Rattle.isp_machine.specs.Rows.{Named}
 use Rattle.isp_machine.proofs.Rewrites.{by_own, by_store, if_ok}

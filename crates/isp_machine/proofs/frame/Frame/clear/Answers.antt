@@ -1,4 +1,4 @@
-use Rattle.std.proofs.Common.{◌≡◌, sym, ap, ◌∙◌, subst, ◌<◌, [], length}
+use Rattle.std.proofs.Common.{sym, ap, ◌∙◌, subst, ◌<◌, [], length}
 use Rattle.std.specs.Prelude.{if◌then◌else◌}
 use Rattle.std.proofs.lemmas.List.{get_or_read, get_or-set_same}
 use Rattle.isp_base.specs.Sets.{flag_of}
