@@ -1,5 +1,5 @@
 //! The arrays that all lanes share.
-ghost use Rattle.std.specs.Prelude.{◌≡◌, ℕ, ◌+◌, ◌<◌, ◌≤◌, ◌^◌, ◌++◌, ◌∷◌, [], length, take, replicate, true, false, Some, None, IfOk, IfErr, OnOk, OnErr};
+ghost use Rattle.std.specs.Prelude.{◌≡◌, ℕ, ◌+◌, ◌<◌, ◌≤◌, ◌^◌, ◌++◌, ◌∷◌, [], length, take, replicate, slice_set, true, false, Some, None, IfOk, IfErr, OnOk, OnErr};
 ghost use Rattle.isp_base.specs.declared.types.Elem.TheVariants.{I64};
 ghost use Rattle.isp_base.specs.Access.{is_outside, element, scatter};
 ghost use Rattle.isp_base.specs.Maps.{lane_of, on, over, map1, lowest_failing, put};
@@ -54,6 +54,14 @@ impl Arrays {
         ensures { result.now ≡ take self.now.params self.now.rows }
     {
         &self.items[..self.params]
+    }
+
+    /// Another array in the place of a parameter.
+    pub fn set_param(&mut self, number: usize, array: Array)
+        requires { number < self.old.params }
+        ensures { self.new ≡ record self.old { rows = slice_set self.old.rows number array } }
+    {
+        self.items[number] = array;
     }
 
     /// The number of arrays. The next one to be opened has this number.

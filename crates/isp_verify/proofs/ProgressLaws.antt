@@ -1,9 +1,10 @@
 -- Accepted code goes on: each state of a run stands at an instruction, whose line applies.
-use Rattle.std.proofs.Common.{◌≡◌, sym, ◌∙◌, ap, refl, subst, ℕ, zero, suc, ◌+◌, ◌-◌, ◌<◌, List, [], ◌∷◌, length, take, Option, Some, None, Bool, true, false, not, ◌==◌, if◌then◌else◌, ltb-true, arith}
+use Rattle.std.proofs.Common.{◌≡◌, sym, ◌∙◌, ap, refl, subst, ℕ, zero, suc, ◌+◌, ◌-◌, ◌<◌, List, [], ◌∷◌, length, take, Option, Some, None, Bool, true, false, not, ◌==◌, ◌&&◌, ◌||◌, if◌then◌else◌, ltb-true, arith}
 use Rattle.std.specs.Prelude.{nat_lt, slice_get, Result, Ok, Err}
 use Rattle.std.specs.List.{list_any}
 use Rattle.std.proofs.lemmas.Bool.{ltb-false}
 use Rattle.std.proofs.lemmas.Option.{slice_get-get_or}
+use Rattle.std.proofs.lemmas.Slice.Eq.{bytes_eq-Decides}
 use Rattle.isp_base.specs.Cross.{or_zero}
 use Rattle.isp_base.specs.Depths.{most_calls}
 use Rattle.isp_base.specs.Traps.{trap}
@@ -16,6 +17,7 @@ use Rattle.isp_base.specs.declared.trap.TrapKind.TheVariants.{Index, Assert, Dep
 use Rattle.isp_base.specs.Types.{gang_width}
 use Rattle.isp_code.specs.Calls.{called, entered, left, resumed, with_result, put_result, depth, place_at}
 use Rattle.isp_code.specs.Conf.{Frame, Conf, Move, Go, Say, Fail, Over, State, Runs, Trapped, Ended}
+use Rattle.isp_code.specs.Entries.{IsExport}
 use Rattle.isp_code.specs.Fine.{AllFine, CallFine, CallsFine, GoesOn, LineApplies, CanGoOn}
 use Rattle.isp_code.specs.Lines.{moved, unless as trap_unless, scalar_value, vector_value, set_scalar, set_vector, divided, scattered, cleared, jumps, next, act}
 use Rattle.isp_code.specs.Listing.{Listing, Routine}
@@ -33,7 +35,7 @@ use Rattle.isp_verify.specs.Progress.{NeverStuck}
 use Rattle.isp_verify.specs.declared.fault.Rule.{Rule}
 use Rattle.isp_verify.specs.declared.fault.Rule.TheVariants.{BadEntry, FallsOff}
 use Rattle.isp_verify.proofs.FineLaws.{instr_fine}
-use Rattle.isp_verify.proofs.Tests.{both_second, none_first, none_later, unless_none}
+use Rattle.isp_verify.proofs.Tests.{both_first, both_second, none_first, none_later, unless_none}
 
 some_same : {A : Type 0} {x y : A} → Some x ≡ Some y → x ≡ y
 some_same e = cc
@@ -59,6 +61,7 @@ record Fine (code : Listing) (h : Routine) : Type 0 where
   instrs : (pc : ℕ) (i : Instr) → slice_get h.code pc ≡ Some i → instr_fault code h i ≡ None
   ends : stays (slice_get h.code (last h)) ≡ true
   masks : 0 < h.masks
+  export : export_fits h.exported h ≡ true
 
 some_mask : (n : ℕ) → not (n == 0) ≡ true → 0 < n
 some_mask zero e = cc
@@ -67,6 +70,9 @@ some_mask (suc n) e = omega arith
 header_masks : (earlier : List Routine) (h : Routine) → header_fits earlier h ≡ true → 0 < h.masks
 header_masks earlier h e =
     some_mask h.masks (both_second (export_fits h.exported h) (not (h.masks == 0)) (both_second (names_differ h.params) _ (both_second (not (list_any (is_function h.name) earlier)) _ e)))
+
+header_export : (earlier : List Routine) (h : Routine) → header_fits earlier h ≡ true → export_fits h.exported h ≡ true
+header_export earlier h e = both_first (export_fits h.exported h) (not (h.masks == 0)) (both_second (names_differ h.params) _ (both_second (not (list_any (is_function h.name) earlier)) _ e))
 
 function_fine : (code : Listing) (f : ℕ) (h : Routine) → code_fault code ≡ None → slice_get code.routines f ≡ Some h → Fine code h
 function_fine code f h e at =
@@ -77,6 +83,7 @@ function_fine code f h e at =
       instrs = λ pc i there. instrs_fine code found.0 h 0 h.code pc i (none_first (instrs_fault code found.0 h 0 h.code) _ rest) there;
       ends = unless_none (stays (slice_get h.code (last h))) FallsOff (none_at found.0 (last h) (last_fault h) (none_later (instrs_fault code found.0 h 0 h.code) _ rest));
       masks = header_masks (take found.0 code.routines) h (unless_none (header_fits (take found.0 code.routines) h) BadEntry (none_at found.0 0 _ header));
+      export = header_export (take found.0 code.routines) h (unless_none (header_fits (take found.0 code.routines) h) BadEntry (none_at found.0 0 _ header));
     }
 
 -- there is an instruction, and control does not fall off the last
@@ -137,6 +144,46 @@ line_applies code none fn pc h found low = go (slice_get h.code pc) refl
           calls_fine = is.1;
           goes_on = goes_on h pc i (follows h pc i fine.ends e low);
         }
+
+-- an exported function is the only one of its name
+function_at : (code : Listing) (k : ℕ) (hs : List Routine) (j : ℕ) (h : Routine) → functions_fault code k hs ≡ None → slice_get hs j ≡ Some h → function_fault code (k + j) h ≡ None
+function_at code k [] j h e at = cc
+function_at code k (x ∷ hs) zero h e at =
+    let same : k ≡ k + 0 = omega arith in
+    subst (λ q. function_fault code q h ≡ None) same (subst (λ z. function_fault code k z ≡ None) (some_same at) (none_first (function_fault code k x) (functions_fault code (suc k) hs) e))
+function_at code k (x ∷ hs) (suc j) h e at =
+    let same : suc k + j ≡ k + suc j = omega arith in
+    subst (λ q. function_fault code q h ≡ None) same (function_at code (suc k) hs j h (none_later (function_fault code k x) (functions_fault code (suc k) hs) e) at)
+
+any_before : (p : Routine → Bool) (hs : List Routine) (j q : ℕ) (h : Routine) → slice_get hs j ≡ Some h → j < q → p h ≡ true → list_any p (take q hs) ≡ true
+any_before p hs j zero h at low e = absurd (omega (arith, low))
+any_before p [] j (suc q) h at low e = cc
+any_before p (x ∷ hs) zero (suc q) h at low e = ap (λ b. b || list_any p (take q hs)) (ap p (some_same at) ∙ e)
+any_before p (x ∷ hs) (suc j) (suc q) h at low e = ap (λ b. p x || b) (any_before p hs j q h at (omega (arith, low)) e) ∙ either (p x)
+  where
+    either : (b : Bool) → (b || true) ≡ true
+    either true = refl
+    either false = refl
+
+not_before : (code : Listing) (name : List ℕ) (f f1 : ℕ) (h h1 : Routine) → code_fault code ≡ None → IsExport code name f h → IsExport code name f1 h1 → f < f1 → ⊥
+not_before code name f f1 h h1 none x x1 low =
+    let number : 0 + f1 ≡ f1 = omega arith in
+    let header = none_first (at_instruction f1 0 (header_fault (take f1 code.routines) h1)) _ (subst (λ q. function_fault code q h1 ≡ None) number (function_at code 0 code.routines f1 h1 none x1.found)) in
+    let fits : header_fits (take f1 code.routines) h1 ≡ true = unless_none (header_fits (take f1 code.routines) h1) BadEntry (none_at f1 0 _ header) in
+    let any = any_before (is_function h1.name) code.routines f f1 h x.found low ((bytes_eq-Decides h.name h1.name).1 (x.named ∙ sym x1.named)) in
+    differs (list_any (is_function h1.name) (take f1 code.routines)) _ fits any
+  where
+    differs : (b c : Bool) → (not b && c) ≡ true → b ≡ true → ⊥
+    differs true c e t = cc
+    differs false c e t = cc
+
+only_one : (code : Listing) → code_fault code ≡ None → (name : List ℕ) (f f1 : ℕ) (h h1 : Routine) → IsExport code name f h → IsExport code name f1 h1 → f ≡ f1
+only_one code none name f f1 h h1 x x1 = by (nat_lt f f1) (nat_lt f1 f) refl refl
+  where
+    by : (b c : Bool) → nat_lt f f1 ≡ b → nat_lt f1 f ≡ c → f ≡ f1
+    by true c e d = absurd (not_before code name f f1 h h1 none x x1 (ltb-true f f1 e))
+    by false true e d = absurd (not_before code name f1 f h1 h none x1 x (ltb-true f1 f d))
+    by false false e d = let a = ltb-false f f1 e in let b = ltb-false f1 f d in omega (arith, a, b)
 
 -- control stands at an instruction of a function
 record Stands (code : Listing) (fn pc : ℕ) : Type 0 where
@@ -274,6 +321,9 @@ module _ (code : Listing) where
   pub never_stuck : code_fault code ≡ None → NeverStuck code
   never_stuck none =
       record {
+        once = only_one code none;
+        begins = λ fn h found. not_empty h (function_fine code fn h none found).ends;
+        exports = λ fn h found. (function_fine code fn h none found).export;
         lines = line_applies code none;
         runs = λ name xs f h entry m. applies none _ (after_sound none m (Runs (first_conf code f h xs)) (first_sound none f h xs entry.export.found));
       }

@@ -1,0 +1,10 @@
+use Rattle.std.proofs.Common.{ap, ◌∙◌}
+use Rattle.isp_base.specs.Maps.{lane_of}
+use Rattle.isp_base.specs.Rows.{Row}
+use Rattle.isp_machine.proofs.LaneViews.{zipped}
+use Rattle.isp_machine.proofs.kernels.compared.Goals as goal
+
+pub returns-clause-lanes : goal.returns-clause-lanes
+returns-clause-lanes g c =
+    ap (λ (r : Row). lane_of r.bits) c.compare.ensures
+    ∙ zipped g.row.N _ c.args.mask.now c.args.x.now.bits c.args.y.now.bits c.args.value.now.bits c.told-4.ensures.long c.told-2.ensures.long c.told-3.ensures.long c.told.ensures.long

@@ -1,0 +1,74 @@
+use Rattle.std.proofs.Common.{◌≡◌, sym, ap, ◌∙◌, subst, [], rules, Some}
+use Rattle.std.specs.Prelude.{slice_get, slice_index_or}
+use Rattle.isp_base.specs.Maps.{on}
+use Rattle.isp_base.specs.Prints.{value_text, list_text}
+use Rattle.isp_base.specs.Types.{gang_width}
+use Rattle.isp_code.specs.Fine.{AllFine, CallsFine, CallFine, GoesOn}
+use Rattle.isp_code.specs.Listing.{Listing}
+use Rattle.isp_code.specs.Operands.{operands, call_operands}
+use Rattle.isp_code.specs.Registers.{elem_of}
+use Rattle.isp_code.specs.declared.instr.Instr.{Instr}
+use Rattle.isp_code.specs.declared.instr.Instr.TheVariants as instr
+use Rattle.isp_machine.specs.Moves.{Computes}
+use Rattle.isp_machine.specs.Rows.{RunRows}
+use Rattle.isp_machine.specs.Steps.{Steady}
+use Rattle.isp_machine.specs.Views.{scalars_at, vectors_at, masks_at}
+use Rattle.isp_machine.proofs.Doing.{spoken, computed, called, call_mask, call_place}
+use Rattle.isp_machine.proofs.step.execute.Goals as goal
+
+pub call-requires : goal.call-requires
+call-requires g c =
+    let h = c.args.here.now in
+    let is : c.args.instr.now ≡ instr.Call c.get.result.now = c.in-Call.is ∙ ap instr.Call (sym c.get.ensures) in
+    let fine : AllFine h.code h.routine (call_operands c.get.result.now) = subst (λ (i : Instr). AllFine h.code h.routine (operands i)) is c.requires.operands in
+    let calls : CallFine h.code h.routine c.get.result.now = subst (λ (i : Instr). CallsFine h.code h.routine i) is c.requires.calls in
+    let found = subst (λ (z : RunRows). slice_get h.code.routines z.frame.function ≡ Some h.routine) (sym c.run.view_is) c.requires.found in
+    let sound = subst (λ (z : RunRows). Steady g.row.N h.code z) (sym c.run.view_is) c.requires.sound in
+    let next = subst (λ (z : RunRows). GoesOn h.routine z.frame.pc (instr.Call c.get.result.now)) (sym c.run.view_is) (subst (λ (i : Instr). GoesOn h.routine c.args.run.now.frame.pc i) is c.requires.next) in (
+      search rules,
+      (
+        c.requires.code,
+        (
+          subst (λ (p : Listing). slice_get p.routines c.run.inside.frame.function ≡ Some h.routine) c.requires.code found,
+          (
+            subst (λ (p : Listing). Steady g.row.N p (record { frame = c.run.inside.frame; waiting = c.run.inside.waiting.items; stores = c.run.inside.stores; out = c.run.inside.out.items })) c.requires.code sound,
+            (call_mask h.code h.routine c.get.result.now fine, (call_place h.code h.routine c.get.result.now fine, (calls, next))),
+          ),
+        ),
+      ),
+    )
+
+pub returns-in_ok-say-in-Say-clause-done : goal.returns-in_ok-say-in-Say-clause-done
+returns-in_ok-say-in-Say-clause-done g c =
+    let h = c.args.here.now in
+    let low = subst (λ (i : Instr). GoesOn h.routine c.args.run.now.frame.pc i) c.in-Say.is c.requires.next in
+    spoken g.row.N h c.args.instr.now c.args.run.now c.requires.found c.requires.sound _ c.run.view_is (instr.Say c.in-Say.text) c.in-Say.is low (slice_index_or h.code.texts c.in-Say.text []) c.say.new.frame c.say.new.out.items c.in_ok-say-in-Say.ensures.ok c.in_ok-say-in-Say.ensures.written
+
+pub returns-in_ok-print_scalar-in-PrintScalar-clause-done : goal.returns-in_ok-print_scalar-in-PrintScalar-clause-done
+returns-in_ok-print_scalar-in-PrintScalar-clause-done g c =
+    let h = c.args.here.now in
+    let low = subst (λ (i : Instr). GoesOn h.routine c.args.run.now.frame.pc i) c.in-PrintScalar.is c.requires.next in
+    spoken g.row.N h c.args.instr.now c.args.run.now c.requires.found c.requires.sound _ c.run.view_is (instr.PrintScalar c.in-PrintScalar.x) c.in-PrintScalar.is low
+    (value_text (elem_of h.routine c.in-PrintScalar.x) (scalars_at c.run.inside.frame c.in-PrintScalar.x.number)) c.print_scalar.new.frame c.print_scalar.new.out.items c.in_ok-print_scalar-in-PrintScalar.ensures.ok c.in_ok-print_scalar-in-PrintScalar.ensures.written
+
+pub returns-in_ok-print_vector-in-PrintVector-clause-done : goal.returns-in_ok-print_vector-in-PrintVector-clause-done
+returns-in_ok-print_vector-in-PrintVector-clause-done g c =
+    let h = c.args.here.now in
+    let low = subst (λ (i : Instr). GoesOn h.routine c.args.run.now.frame.pc i) c.in-PrintVector.is c.requires.next in
+    spoken g.row.N h c.args.instr.now c.args.run.now c.requires.found c.requires.sound _ c.run.view_is (instr.PrintVector c.in-PrintVector.x c.in-PrintVector.k) c.in-PrintVector.is low
+    (list_text (elem_of h.routine c.in-PrintVector.x) (gang_width h.code.gang) (on (masks_at c.run.inside.frame c.in-PrintVector.k.number) (vectors_at c.run.inside.frame c.in-PrintVector.x.number)))
+    c.print_vector.new.frame c.print_vector.new.out.items c.in_ok-print_vector-in-PrintVector.ensures.ok c.in_ok-print_vector-in-PrintVector.ensures.written
+
+pub returns-in-Return-clause-done : goal.returns-in-Return-clause-done
+returns-in-Return-clause-done g c =
+    called g.row.N c.args.here.now c.args.instr.now c.args.run.now c.requires.found c.requires.sound _ c.run.view_is (instr.Return c.in-Return.x) c.in-Return.is c.give_back.new.stores c.give_back.new.frame c.give_back.new.waiting.items c.give_back.result c.give_back.ensures
+
+pub returns-in_default : goal.returns-in_default
+returns-in_default g c =
+    let computes : Computes c.args.instr.now = search rules in
+    record {
+      done = computed g.row.N c.args.here.now c.args.instr.now c.args.run.now c.requires.found c.requires.sound _ c.run.view_is computes c.requires.operands c.requires.next
+          c.compute.result c.after.result c.compute.new.stores c.compute.new.frame c.compute.ensures.ok c.compute.ensures.err c.compute.ensures.same c.compute.ensures.same_stores c.after.ensures.ok c.after.ensures.err;
+      same = tt;
+      refused = tt;
+    }

@@ -1,0 +1,11 @@
+pub mod Rows
+pub mod Shapes
+pub mod Views
+pub mod Arrays
+pub mod Moves
+pub mod Begun
+pub mod Receives
+pub mod Steps
+pub mod Kept
+pub mod Runs
+pub mod Starts

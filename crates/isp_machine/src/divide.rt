@@ -1,0 +1,132 @@
+//! Divisions, of scalars and of lanes.
+ghost use Rattle.std.specs.Prelude.{◌≡◌, ◌+◌, ◌<◌, ◌^◌, length, IfOk, IfErr};
+ghost use Rattle.isp_base.specs.Types.{gang_width};
+ghost use Rattle.isp_base.specs.Values.{width, op_bits};
+ghost use Rattle.isp_code.specs.Fine.{AllFine, IsThere};
+ghost use Rattle.isp_code.specs.Lines.{division_of};
+ghost use Rattle.isp_code.specs.Operands.{operands};
+ghost use Rattle.isp_code.specs.Registers.{elem_of};
+ghost use Rattle.isp_machine.specs.Moves.{Goes, Fails};
+ghost use Rattle.isp_machine.specs.Shapes.{Shaped, Opened};
+ghost use Rattle.isp_store.specs.Held.{Held, shapes};
+
+use crate::frame::Frame;
+use crate::here::Here;
+use crate::kernels::{divided, division_operator, first_lane};
+use isp_base::{Elem, Trap, TrapKind, apply_nonzero};
+use isp_code::{Class, Division, Instr, Register};
+
+fn quotient(op: Division, elem: Elem, x: u64, y: u64) -> u64
+    requires x_fits { x < 2 ^ width elem }
+    requires y_fits { y < 2 ^ width elem }
+    requires divisor { 0 < y }
+    ensures value { result ≡ op_bits (division_of op) elem x y }
+    ensures fits { result < 2 ^ width elem }
+{
+    apply_nonzero(division_operator(op), elem, x, y)
+}
+
+// Divides scalars. The trap names the lowest lane of the mask, or lane 0.
+fn divide_scalars<const N: usize>(
+    here: &Here,
+    frame: &mut Frame<N>,
+    op: Division,
+    d: Register,
+    x: Register,
+    y: Register,
+    k: Register,
+    place: u32,
+) -> Result<(), Trap>
+    requires gang { N ≡ gang_width here.now.code.gang }
+    requires shaped { Shaped here.now.routine frame.old }
+    requires next { frame.old.pc + 1 < length here.now.routine.code }
+    requires place { place < length here.now.code.places }
+    requires d { IsThere here.now.routine Class.Scalar d }
+    requires x { IsThere here.now.routine Class.Scalar x }
+    requires y { IsThere here.now.routine Class.Scalar y }
+    requires like_x { elem_of here.now.routine x ≡ elem_of here.now.routine d }
+    requires like_y { elem_of here.now.routine y ≡ elem_of here.now.routine d }
+    requires k { IsThere here.now.routine Class.Mask k }
+    ensures ok { IfOk result (λ _. (s : Held) → Opened here.now.routine (shapes s) frame.old → Goes here.now (Instr.Divide op d x y k place) s frame.old s frame.new) }
+    ensures err { IfErr result (λ t. (s : Held) → Fails here.now (Instr.Divide op d x y k place) s frame.old t) }
+    ensures same { IfErr result (λ t. frame.new ≡ frame.old) }
+{
+    let divisor = here.scalar(frame, y);
+    if divisor == 0 {
+        let lane = first_lane(here.mask(frame, k));
+        return Err(here.trap(TrapKind::Divide, place, lane));
+    }
+    let bits = quotient(op, here.elem(d), here.scalar(frame, x), divisor);
+    let _count = here.count();
+    frame.set_scalar(d.number, bits);
+    frame.next();
+    Ok(())
+}
+
+// Divides the lanes of a mask. The trap names the lowest of them that divides by zero.
+fn divide_lanes<const N: usize>(
+    here: &Here,
+    frame: &mut Frame<N>,
+    op: Division,
+    d: Register,
+    x: Register,
+    y: Register,
+    k: Register,
+    place: u32,
+) -> Result<(), Trap>
+    requires gang { N ≡ gang_width here.now.code.gang }
+    requires shaped { Shaped here.now.routine frame.old }
+    requires next { frame.old.pc + 1 < length here.now.routine.code }
+    requires place { place < length here.now.code.places }
+    requires d { IsThere here.now.routine Class.Vector d }
+    requires x { IsThere here.now.routine Class.Vector x }
+    requires y { IsThere here.now.routine Class.Vector y }
+    requires like_x { elem_of here.now.routine x ≡ elem_of here.now.routine d }
+    requires like_y { elem_of here.now.routine y ≡ elem_of here.now.routine d }
+    requires k { IsThere here.now.routine Class.Mask k }
+    ensures ok { IfOk result (λ _. (s : Held) → Opened here.now.routine (shapes s) frame.old → Goes here.now (Instr.Divide op d x y k place) s frame.old s frame.new) }
+    ensures err { IfErr result (λ t. (s : Held) → Fails here.now (Instr.Divide op d x y k place) s frame.old t) }
+    ensures same { IfErr result (λ t. frame.new ≡ frame.old) }
+{
+    let mut value = *here.vector(frame, d);
+    match divided(
+        &mut value,
+        op,
+        here.vector(frame, x),
+        here.vector(frame, y),
+        here.mask(frame, k),
+    ) {
+        Ok(()) => {
+            let _count = here.count();
+            frame.set_vector(d.number, value);
+            frame.next();
+            Ok(())
+        }
+        Err(lane) => Err(here.trap(TrapKind::Divide, place, lane)),
+    }
+}
+
+/// Divides, and goes on to the next instruction.
+pub(crate) fn divide<const N: usize>(
+    here: &Here,
+    frame: &mut Frame<N>,
+    op: Division,
+    d: Register,
+    x: Register,
+    y: Register,
+    k: Register,
+    place: u32,
+) -> Result<(), Trap>
+    requires gang { N ≡ gang_width here.now.code.gang }
+    requires shaped { Shaped here.now.routine frame.old }
+    requires operands { AllFine here.now.code here.now.routine (operands (Instr.Divide op d x y k place)) }
+    requires next { frame.old.pc + 1 < length here.now.routine.code }
+    ensures ok { IfOk result (λ _. (s : Held) → Opened here.now.routine (shapes s) frame.old → Goes here.now (Instr.Divide op d x y k place) s frame.old s frame.new) }
+    ensures err { IfErr result (λ t. (s : Held) → Fails here.now (Instr.Divide op d x y k place) s frame.old t) }
+    ensures same { IfErr result (λ t. frame.new ≡ frame.old) }
+{
+    match d.class {
+        Class::Vector => divide_lanes(here, frame, op, d, x, y, k, place),
+        _ => divide_scalars(here, frame, op, d, x, y, k, place),
+    }
+}

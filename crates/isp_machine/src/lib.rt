@@ -1,0 +1,27 @@
+//! The machine: so many instructions are so many steps of the table.
+#![tactic(auto)]
+
+mod array;
+mod calls;
+mod divide;
+mod frame;
+mod here;
+mod jumps;
+mod kernels;
+mod lanes;
+mod locals;
+mod machine;
+mod masks;
+mod passed;
+mod returns;
+mod says;
+mod scalars;
+mod start;
+mod step;
+mod stop;
+mod stores;
+mod texts;
+mod vectors;
+
+pub use machine::Machine;
+pub use stop::{StartFault, Stop};

@@ -1,0 +1,101 @@
+//! Returns.
+ghost use Rattle.std.specs.Prelude.{◌≡◌, ℕ, List, slice_get, Some};
+ghost use Rattle.isp_code.specs.Calls.{answer};
+ghost use Rattle.isp_code.specs.Fine.{IsGiven, IsThere};
+ghost use Rattle.isp_code.specs.Listing.{Routine};
+ghost use Rattle.isp_code.specs.Registers.{elem_of};
+ghost use Rattle.isp_machine.specs.Receives.{Takes, TakesLanes, Receives};
+ghost use Rattle.isp_machine.specs.Rows.{run_of, FrameRows};
+ghost use Rattle.isp_machine.specs.Shapes.{Shaped, GivesOne, Sound};
+ghost use Rattle.isp_machine.specs.Steps.{Done};
+ghost use Rattle.isp_machine.specs.Views.{conf_of};
+ghost use Rattle.isp_store.specs.Held.{Held};
+
+use crate::frame::Frame;
+use crate::here::Here;
+use crate::kernels::copied;
+use crate::stop::Step;
+use isp_base::Value;
+use isp_code::{Class, Instr, Register};
+use isp_store::Arrays;
+use std::mem;
+
+// The value that a run ends with.
+fn answer<const N: usize>(here: &Here, frame: &Frame<N>, x: Option<Register>) -> Option<Value>
+    requires shaped { Shaped here.now.routine frame.now }
+    requires given { IsGiven here.now.routine here.now.routine.returns x }
+    requires one { GivesOne here.now.routine.returns }
+    ensures { (s : Held) (ws : List FrameRows) (out : List ℕ) → result ≡ answer here.now.routine (conf_of s frame.now ws out) x }
+{
+    match x {
+        None => None,
+        Some(x) => Some(Value {
+            elem: here.elem(x),
+            bits: here.scalar(frame, x),
+        }),
+    }
+}
+
+// The lanes that called get those of the result.
+fn receive_lanes<const N: usize>(
+    here: &Here,
+    callee: &Frame<N>,
+    x: Register,
+    caller: &mut Frame<N>,
+    d: Register,
+)
+    requires shaped { Shaped here.now.routine callee.now }
+    requires x { IsThere here.now.routine Class.Vector x }
+    requires takes { TakesLanes (elem_of here.now.routine x) caller.old d }
+    ensures { (k : Routine) → Shaped k caller.old → IsThere k Class.Vector d → elem_of k d ≡ elem_of here.now.routine x → caller.old.to ≡ Some d → Receives k callee.now (Some x) caller.old caller.new }
+{
+    let under = caller.under();
+    under.told();
+    let mut value = *caller.vector(d.number);
+    copied(&mut value, here.vector(callee, x), &under);
+    caller.set_vector(d.number, value);
+}
+
+// A register of the caller gets the result.
+fn receive<const N: usize>(
+    here: &Here,
+    callee: &Frame<N>,
+    x: Option<Register>,
+    caller: &mut Frame<N>,
+)
+    requires shaped { Shaped here.now.routine callee.now }
+    requires given { IsGiven here.now.routine here.now.routine.returns x }
+    requires takes { Takes here.now.routine caller.old }
+    ensures { (t : Takes here.now.routine caller.old) → Receives t.routine callee.now x caller.old caller.new }
+{
+    let Some(x) = x else { return };
+    let Some(d) = caller.to() else { return };
+    match d.class {
+        Class::Vector => receive_lanes(here, callee, x, caller, d),
+        _ => caller.set_scalar(d.number, here.scalar(callee, x)),
+    }
+}
+
+/// Goes back to the call that waits, or ends the run.
+pub(crate) fn give_back<const N: usize>(
+    here: &Here,
+    frame: &mut Frame<N>,
+    waiting: &mut Vec<Frame<N>>,
+    stores: &mut Arrays,
+    x: Option<Register>,
+) -> Step
+    requires found { slice_get here.now.code.routines frame.old.function ≡ Some here.now.routine }
+    requires sound { Sound N here.now.code stores.old frame.old waiting.old.items }
+    requires given { IsGiven here.now.routine here.now.routine.returns x }
+    ensures { (out : List ℕ) → Done N here.now (Instr.Return x) (run_of stores.old frame.old waiting.old.items out) (run_of stores.new frame.new waiting.new.items out) result }
+{
+    match waiting.pop() {
+        None => Step::Ended(answer(here, frame, x)),
+        Some(caller) => {
+            let callee = mem::replace(frame, caller);
+            receive(here, &callee, x, frame);
+            stores.close_locals(frame.locals());
+            Step::Went
+        }
+    }
+}

@@ -1,0 +1,166 @@
+//! Instructions that write a scalar register.
+ghost use Rattle.std.specs.Prelude.{◌≡◌, ◌+◌, ◌<◌, ◌^◌, ℕ, List, Ok, Err, IfOk, IfErr, if◌then◌else◌, true, slice_get, length};
+ghost use Rattle.isp_base.specs.Types.{gang_width};
+ghost use Rattle.isp_base.specs.Unary.{unary_bits};
+ghost use Rattle.isp_base.specs.Values.{width, number, wrap, convert_bits, op_bits};
+ghost use Rattle.isp_code.specs.Fine.{AllFine, IsThere};
+ghost use Rattle.isp_code.specs.Lines.{plain_of, scalar_value};
+ghost use Rattle.isp_base.specs.Truths.{is_true};
+ghost use Rattle.isp_code.specs.Operands.{scalar_operands};
+ghost use Rattle.isp_code.specs.Registers.{elem_of};
+ghost use Rattle.isp_machine.specs.Moves.{ScalarIs, Goes, Fails};
+ghost use Rattle.isp_machine.specs.Shapes.{Shaped, Opened};
+ghost use Rattle.isp_machine.specs.Views.{conf_of, scalars_at};
+ghost use Rattle.isp_store.specs.Held.{shapes};
+ghost use Rattle.isp_base.specs.declared.types.Elem.{Elem};
+
+use crate::frame::Frame;
+use crate::here::Here;
+use crate::kernels::{first_lane, plain_operator};
+use isp_base::{Elem, Trap, TrapKind, UnaryOp, apply_nonzero, apply_unary, compare, convert, wrap};
+use isp_code::{Class, Instr, Plain, Register, ScalarInstr};
+use isp_store::Arrays;
+
+// A number, which the type may not have.
+fn constant(elem: Elem, value: i128) -> u64
+    ensures value { result ≡ wrap elem value }
+    ensures fits { result < 2 ^ width elem }
+{
+    wrap(elem, value)
+}
+
+// A value as one of another type.
+fn converted(from: Elem, to: Elem, bits: u64) -> u64
+    ensures value { result ≡ convert_bits to (number from bits) }
+    ensures fits { result < 2 ^ width to }
+{
+    convert(from, to, bits)
+}
+
+// An operator on one value.
+fn unary(op: UnaryOp, elem: Elem, x: u64) -> u64
+    ensures value { result ≡ unary_bits op elem x }
+    ensures fits { result < 2 ^ width elem }
+{
+    apply_unary(op, elem, x)
+}
+
+// An operator on two values that has a result for all of them.
+fn binary(op: Plain, elem: Elem, x: u64, y: u64) -> u64
+    requires x_fits { x < 2 ^ width elem }
+    requires y_fits { y < 2 ^ width elem }
+    ensures value { result ≡ op_bits (plain_of op) elem x y }
+    ensures fits { result < 2 ^ width elem }
+{
+    apply_nonzero(plain_operator(op), elem, x, y)
+}
+
+// One of two.
+fn select<const N: usize>(
+    here: &Here,
+    frame: &Frame<N>,
+    test: Register,
+    x: Register,
+    y: Register,
+) -> u64
+    requires shaped { Shaped here.now.routine frame.now }
+    requires test { IsThere here.now.routine Class.Scalar test }
+    requires x { IsThere here.now.routine Class.Scalar x }
+    requires y { IsThere here.now.routine Class.Scalar y }
+    ensures value { result ≡ (if is_true (scalars_at frame.now test.number) then scalars_at frame.now x.number else scalars_at frame.now y.number) }
+    ensures fits { (t : Elem) → elem_of here.now.routine x ≡ t → elem_of here.now.routine y ≡ t → result < 2 ^ width t }
+{
+    if here.scalar(frame, test) != 0 {
+        here.scalar(frame, x)
+    } else {
+        here.scalar(frame, y)
+    }
+}
+
+// What the instruction gives.
+fn scalar_value<const N: usize>(
+    here: &Here,
+    frame: &Frame<N>,
+    stores: &Arrays,
+    d: Register,
+    instr: ScalarInstr,
+) -> Result<u64, Trap>
+    requires gang { N ≡ gang_width here.now.code.gang }
+    requires shaped { Shaped here.now.routine frame.now }
+    requires arrays { Opened here.now.routine (shapes stores.now) frame.now }
+    requires operands { AllFine here.now.code here.now.routine (scalar_operands d instr) }
+    ensures value { ScalarIs here.now stores.now frame.now d instr result }
+    ensures fits { IfOk result (λ bits. bits < 2 ^ width (elem_of here.now.routine d)) }
+{
+    let elem = here.elem(d);
+    match instr {
+        ScalarInstr::Constant(number) => Ok(constant(elem, number)),
+        ScalarInstr::Copy(x) => Ok(here.scalar(frame, x)),
+        ScalarInstr::Convert(x) => Ok(converted(here.elem(x), elem, here.scalar(frame, x))),
+        ScalarInstr::Unary(op, x) => Ok(unary(op, elem, here.scalar(frame, x))),
+        ScalarInstr::Binary(op, x, y) => {
+            Ok(binary(op, elem, here.scalar(frame, x), here.scalar(frame, y)))
+        }
+        ScalarInstr::Compare(op, x, y) => {
+            let holds = compare(
+                op,
+                here.elem(x),
+                here.scalar(frame, x),
+                here.scalar(frame, y),
+            );
+            Ok(u64::from(holds))
+        }
+        ScalarInstr::Select(test, x, y) => Ok(select(here, frame, test, x, y)),
+        ScalarInstr::First(k) => Ok(first_lane(here.mask(frame, k)) as u64),
+        ScalarInstr::Load(a, i, k, place) => load(here, frame, stores, d, a, i, k, place),
+    }
+}
+
+// An element.
+fn load<const N: usize>(
+    here: &Here,
+    frame: &Frame<N>,
+    stores: &Arrays,
+    d: Register,
+    a: Register,
+    i: Register,
+    k: Register,
+    place: u32,
+) -> Result<u64, Trap>
+    requires gang { N ≡ gang_width here.now.code.gang }
+    requires shaped { Shaped here.now.routine frame.now }
+    requires arrays { Opened here.now.routine (shapes stores.now) frame.now }
+    requires operands { AllFine here.now.code here.now.routine (scalar_operands d (ScalarInstr.Load a i k place)) }
+    ensures value { ScalarIs here.now stores.now frame.now d (ScalarInstr.Load a i k place) result }
+    ensures fits { IfOk result (λ bits. bits < 2 ^ width (elem_of here.now.routine d)) }
+{
+    let store = here.store(frame, stores, a);
+    match stores.load(store, here.scalar(frame, i), here.mask(frame, k)) {
+        Ok(bits) => Ok(bits),
+        Err(trap) => Err(here.trap(TrapKind::Index, place, trap.instance)),
+    }
+}
+
+/// Writes a scalar register, and goes on to the next instruction.
+pub(crate) fn scalar<const N: usize>(
+    here: &Here,
+    frame: &mut Frame<N>,
+    stores: &Arrays,
+    d: Register,
+    instr: ScalarInstr,
+) -> Result<(), Trap>
+    requires gang { N ≡ gang_width here.now.code.gang }
+    requires shaped { Shaped here.now.routine frame.old }
+    requires arrays { Opened here.now.routine (shapes stores.now) frame.old }
+    requires operands { AllFine here.now.code here.now.routine (scalar_operands d instr) }
+    requires next { frame.old.pc + 1 < length here.now.routine.code }
+    ensures ok { IfOk result (λ _. Goes here.now (Instr.Scalar d instr) stores.now frame.old stores.now frame.new) }
+    ensures err { IfErr result (λ t. Fails here.now (Instr.Scalar d instr) stores.now frame.old t) }
+    ensures same { IfErr result (λ t. frame.new ≡ frame.old) }
+{
+    let bits = scalar_value(here, frame, stores, d, instr)?;
+    let _count = here.count();
+    frame.set_scalar(d.number, bits);
+    frame.next();
+    Ok(())
+}

@@ -1,0 +1,160 @@
+//! One instruction.
+ghost use Rattle.std.specs.Prelude.{◌≡◌, Some, slice_get, IfOk, IfErr, OnErr};
+ghost use Rattle.isp_base.specs.Types.{gang_width};
+ghost use Rattle.isp_code.specs.Fine.{AllFine, CallsFine, GoesOn};
+ghost use Rattle.isp_code.specs.Machine.{arrive, step};
+ghost use Rattle.isp_code.specs.Operands.{operands};
+ghost use Rattle.isp_machine.specs.Moves.{Computes, Goes, Fails};
+ghost use Rattle.isp_machine.specs.Shapes.{Shaped, Opened};
+ghost use Rattle.isp_machine.specs.Steps.{Done, MayRefuse, Refuses, Steady, conf_now, given_shapes, stands_as};
+ghost use Rattle.isp_store.specs.Held.{shapes};
+
+use crate::calls::call;
+use crate::divide::divide;
+use crate::frame::Frame;
+use crate::here::Here;
+use crate::jumps::{fail, jump, jump_if};
+use crate::masks::mask;
+use crate::returns::give_back;
+use crate::says::{print_scalar, print_vector, say};
+use crate::scalars::scalar;
+use crate::stop::Step;
+use crate::stores::{clear, scatter, store};
+use crate::vectors::vector;
+use isp_base::Trap;
+use isp_code::Instr;
+use isp_store::Arrays;
+use isp_verify::Verified;
+use std::alloc::{AllocError, Global};
+use std::marker::Model;
+
+/// The machine between two instructions: the call that runs, the calls that wait, the innermost
+/// last, the arrays that all lanes share, and the output.
+#[derive(Drop)]
+pub(crate) struct Run<const N: usize> {
+    pub(crate) frame: Frame<N>,
+    pub(crate) waiting: Vec<Frame<N>>,
+    pub(crate) stores: Arrays,
+    pub(crate) out: Vec<u8>,
+}
+
+impl<const N: usize> Model for Run<N> {
+    ghost use Rattle.isp_machine.specs.Rows.{RunRows};
+
+    ghost Value = { RunRows };
+
+    ghost view = { λ r. record { frame = r.frame; waiting = r.waiting.items; stores = r.stores; out = r.out.items } };
+}
+
+// The instructions that neither write text nor call nor return.
+fn compute<const N: usize>(
+    here: &Here,
+    frame: &mut Frame<N>,
+    stores: &mut Arrays,
+    instr: &Instr,
+) -> Result<(), Trap>
+    requires gang { N ≡ gang_width here.now.code.gang }
+    requires shaped { Shaped here.now.routine frame.old }
+    requires arrays { Opened here.now.routine (shapes stores.old) frame.old }
+    requires operands { AllFine here.now.code here.now.routine (operands instr.now) }
+    requires next { GoesOn here.now.routine frame.old.pc instr.now }
+    requires computes { Computes instr.now }
+    ensures ok { IfOk result (λ _. Goes here.now instr.now stores.old frame.old stores.new frame.new) }
+    ensures err { IfErr result (λ t. Fails here.now instr.now stores.old frame.old t) }
+    ensures same { IfErr result (λ t. frame.new ≡ frame.old) }
+    ensures same_stores { IfErr result (λ t. stores.new ≡ stores.old) }
+{
+    match instr {
+        Instr::Scalar(d, instr) => scalar(here, frame, stores, *d, *instr)?,
+        Instr::Vector(d, instr) => vector(here, frame, stores, *d, *instr)?,
+        Instr::Mask(d, instr) => mask(here, frame, *d, *instr),
+        Instr::Divide(op, d, x, y, k, place) => divide(here, frame, *op, *d, *x, *y, *k, *place)?,
+        Instr::Store(a, i, y, k, place) => store(here, frame, stores, *a, *i, *y, *k, *place)?,
+        Instr::Scatter(a, i, y, k, place) => scatter(here, frame, stores, *a, *i, *y, *k, *place)?,
+        Instr::Clear(a, k) => clear(here, frame, stores, *a, *k),
+        Instr::Jump(to) => jump(here, frame, *to),
+        Instr::JumpIf(test, x, to) => jump_if(here, frame, *test, *x, *to),
+        Instr::Fail(x, place) => fail(here, frame, *x, *place)?,
+        _ => unreachable!(),
+    }
+    Ok(())
+}
+
+fn after(done: Result<(), Trap>) -> Step
+    ensures ok { IfOk done (λ _. result ≡ Step.Went) }
+    ensures err { IfErr done (λ t. result ≡ Step.Trapped t) }
+{
+    match done {
+        Ok(()) => Step::Went,
+        Err(trap) => Step::Trapped(trap),
+    }
+}
+
+// One instruction. Where memory is refused nothing changes.
+fn execute<const N: usize>(
+    alloc: Global,
+    code: &Verified,
+    here: &Here,
+    run: &mut Run<N>,
+    instr: &Instr,
+) -> Result<Step, AllocError>
+    requires code { here.now.code ≡ code.now }
+    requires found { slice_get here.now.code.routines run.old.frame.function ≡ Some here.now.routine }
+    requires sound { Steady N here.now.code run.old }
+    requires operands { AllFine here.now.code here.now.routine (operands instr.now) }
+    requires calls { CallsFine here.now.code here.now.routine instr.now }
+    requires next { GoesOn here.now.routine run.old.frame.pc instr.now }
+    ensures done { IfOk result (λ step. Done N here.now instr.now run.old run.new step) }
+    ensures same { OnErr result (run.new ≡ run.old) }
+    ensures refused { OnErr result (MayRefuse instr.now) }
+{
+    match instr {
+        Instr::Say(text) => {
+            say(here, &mut run.frame, &mut run.out, *text)?;
+            Ok(Step::Went)
+        }
+        Instr::PrintScalar(x) => {
+            print_scalar(here, &mut run.frame, &mut run.out, *x)?;
+            Ok(Step::Went)
+        }
+        Instr::PrintVector(x, k) => {
+            print_vector(alloc, here, &mut run.frame, &mut run.out, *x, *k)?;
+            Ok(Step::Went)
+        }
+        Instr::Call(c) => call(
+            alloc,
+            code,
+            here,
+            &mut run.frame,
+            &mut run.waiting,
+            &mut run.stores,
+            c.get(),
+        ),
+        Instr::Return(x) => Ok(give_back(
+            here,
+            &mut run.frame,
+            &mut run.waiting,
+            &mut run.stores,
+            *x,
+        )),
+        _ => Ok(after(compute(here, &mut run.frame, &mut run.stores, instr))),
+    }
+}
+
+/// The instruction before which the run stands. Where memory is refused nothing changes.
+pub(crate) fn step<const N: usize>(
+    alloc: Global,
+    code: &Verified,
+    run: &mut Run<N>,
+) -> Result<Step, AllocError>
+    requires { Steady N code.now run.old }
+    ensures arrives { IfOk result (λ done. arrive code.now (step code.now (conf_now run.old)) (conf_now run.old) ≡ stands_as done (conf_now run.new)) }
+    ensures steady { IfOk result (λ _. Steady N code.now run.new) }
+    ensures given { IfOk result (λ _. given_shapes run.new.stores ≡ given_shapes run.old.stores) }
+    ensures same { OnErr result (run.new ≡ run.old) }
+    ensures refused { OnErr result (Refuses code.now (conf_now run.old)) }
+{
+    let here = Here::new(code, run.frame.function());
+    let instr = here.instr(run.frame.pc());
+    execute(alloc, code, &here, run, instr)
+}

@@ -1,0 +1,162 @@
+//! Instructions that write lanes of a vector register.
+ghost use Rattle.std.specs.Prelude.{◌≡◌, ◌+◌, ◌<◌, ◌≤◌, length, Ok, Err, IfOk, IfErr, false};
+ghost use Rattle.isp_base.specs.Types.{gang_width};
+ghost use Rattle.isp_code.specs.Fine.{AllFine};
+ghost use Rattle.isp_code.specs.Operands.{vector_operands};
+ghost use Rattle.isp_code.specs.Registers.{elem_of, is_per_lane};
+ghost use Rattle.isp_machine.specs.Moves.{VectorIs, Written, Goes, Fails};
+ghost use Rattle.isp_machine.specs.Shapes.{Shaped, Opened, IsOwn};
+ghost use Rattle.isp_store.specs.Held.{shapes};
+
+use crate::frame::Frame;
+use crate::here::Here;
+use crate::kernels::{copied, numbered};
+use crate::lanes::{apply, combine, compare, convert, select, splat};
+use isp_base::{Trap, TrapKind};
+use isp_code::{Instr, Register, VectorInstr};
+use isp_lanes::Lanes;
+use isp_store::{Arrays, LaneArray};
+
+// What the instruction leaves in the lanes of the register.
+fn vector_value<const N: usize>(
+    here: &Here,
+    frame: &Frame<N>,
+    stores: &Arrays,
+    value: &mut Lanes<N>,
+    d: Register,
+    instr: VectorInstr,
+) -> Result<(), Trap>
+    requires gang { N ≡ gang_width here.now.code.gang }
+    requires shaped { Shaped here.now.routine frame.now }
+    requires arrays { Opened here.now.routine (shapes stores.now) frame.now }
+    requires operands { AllFine here.now.code here.now.routine (vector_operands d instr) }
+    requires elem { value.old.elem ≡ elem_of here.now.routine d }
+    ensures elem { value.new.elem ≡ value.old.elem }
+    ensures ok { IfOk result (λ _. Written here.now stores.now frame.now d instr value.old value.new) }
+    ensures err { IfErr result (λ t. VectorIs here.now stores.now frame.now d instr (Err t)) }
+{
+    match instr {
+        VectorInstr::Copy(x, k) => copied(value, here.vector(frame, x), here.mask(frame, k)),
+        VectorInstr::Convert(x, k) => convert(here, frame, value, d, x, k),
+        VectorInstr::Unary(op, x, k) => apply(here, frame, value, d, op, x, k),
+        VectorInstr::Binary(op, x, y, k) => combine(here, frame, value, d, op, x, y, k),
+        VectorInstr::Compare(op, x, y, k) => compare(here, frame, value, d, op, x, y, k),
+        VectorInstr::Select(test, x, y, k) => select(here, frame, value, d, test, x, y, k),
+        VectorInstr::Splat(x, k) => splat(here, frame, value, d, x, k),
+        VectorInstr::Index(k) => numbered(value, here.mask(frame, k)),
+        VectorInstr::Gather(a, i, k, place) => return gather(
+            here, frame, stores, value, d, a, i, k, place,
+        ),
+    }
+    Ok(())
+}
+
+// The elements at the lanes' indices, of the array that all share.
+fn gather_shared<const N: usize>(
+    here: &Here,
+    frame: &Frame<N>,
+    stores: &Arrays,
+    value: &mut Lanes<N>,
+    d: Register,
+    a: Register,
+    i: Register,
+    k: Register,
+    place: u32,
+) -> Result<(), Trap>
+    requires gang { N ≡ gang_width here.now.code.gang }
+    requires shaped { Shaped here.now.routine frame.now }
+    requires arrays { Opened here.now.routine (shapes stores.now) frame.now }
+    requires operands { AllFine here.now.code here.now.routine (vector_operands d (VectorInstr.Gather a i k place)) }
+    requires elem { value.old.elem ≡ elem_of here.now.routine d }
+    requires shared { is_per_lane here.now.routine a ≡ false }
+    ensures elem { value.new.elem ≡ value.old.elem }
+    ensures ok { IfOk result (λ _. Written here.now stores.now frame.now d (VectorInstr.Gather a i k place) value.old value.new) }
+    ensures err { IfErr result (λ t. VectorIs here.now stores.now frame.now d (VectorInstr.Gather a i k place) (Err t)) }
+{
+    let store = here.store(frame, stores, a);
+    match stores.gather(store, here.vector(frame, i), here.mask(frame, k), value) {
+        Ok(()) => Ok(()),
+        Err(trap) => Err(here.trap(TrapKind::Index, place, trap.instance)),
+    }
+}
+
+// The elements at the lanes' indices, of the lanes' own arrays.
+fn gather_own<const N: usize>(
+    here: &Here,
+    frame: &Frame<N>,
+    stores: &Arrays,
+    own: &LaneArray<N>,
+    value: &mut Lanes<N>,
+    d: Register,
+    a: Register,
+    i: Register,
+    k: Register,
+    place: u32,
+) -> Result<(), Trap>
+    requires gang { N ≡ gang_width here.now.code.gang }
+    requires shaped { Shaped here.now.routine frame.now }
+    requires arrays { Opened here.now.routine (shapes stores.now) frame.now }
+    requires operands { AllFine here.now.code here.now.routine (vector_operands d (VectorInstr.Gather a i k place)) }
+    requires elem { value.old.elem ≡ elem_of here.now.routine d }
+    requires own { IsOwn here.now.routine a frame.now own.now }
+    ensures elem { value.new.elem ≡ value.old.elem }
+    ensures ok { IfOk result (λ _. Written here.now stores.now frame.now d (VectorInstr.Gather a i k place) value.old value.new) }
+    ensures err { IfErr result (λ t. VectorIs here.now stores.now frame.now d (VectorInstr.Gather a i k place) (Err t)) }
+{
+    match own.gather(here.vector(frame, i), here.mask(frame, k), value) {
+        Ok(()) => Ok(()),
+        Err(trap) => Err(here.trap(TrapKind::Index, place, trap.instance)),
+    }
+}
+
+// The elements at the lanes' indices.
+fn gather<const N: usize>(
+    here: &Here,
+    frame: &Frame<N>,
+    stores: &Arrays,
+    value: &mut Lanes<N>,
+    d: Register,
+    a: Register,
+    i: Register,
+    k: Register,
+    place: u32,
+) -> Result<(), Trap>
+    requires gang { N ≡ gang_width here.now.code.gang }
+    requires shaped { Shaped here.now.routine frame.now }
+    requires arrays { Opened here.now.routine (shapes stores.now) frame.now }
+    requires operands { AllFine here.now.code here.now.routine (vector_operands d (VectorInstr.Gather a i k place)) }
+    requires elem { value.old.elem ≡ elem_of here.now.routine d }
+    ensures elem { value.new.elem ≡ value.old.elem }
+    ensures ok { IfOk result (λ _. Written here.now stores.now frame.now d (VectorInstr.Gather a i k place) value.old value.new) }
+    ensures err { IfErr result (λ t. VectorIs here.now stores.now frame.now d (VectorInstr.Gather a i k place) (Err t)) }
+{
+    match here.own(frame, stores, a) {
+        Some(own) => gather_own(here, frame, stores, own, value, d, a, i, k, place),
+        None => gather_shared(here, frame, stores, value, d, a, i, k, place),
+    }
+}
+
+/// Writes the lanes of a mask in a vector register, and goes on to the next instruction.
+pub(crate) fn vector<const N: usize>(
+    here: &Here,
+    frame: &mut Frame<N>,
+    stores: &Arrays,
+    d: Register,
+    instr: VectorInstr,
+) -> Result<(), Trap>
+    requires gang { N ≡ gang_width here.now.code.gang }
+    requires shaped { Shaped here.now.routine frame.old }
+    requires arrays { Opened here.now.routine (shapes stores.now) frame.old }
+    requires operands { AllFine here.now.code here.now.routine (vector_operands d instr) }
+    requires next { frame.old.pc + 1 < length here.now.routine.code }
+    ensures ok { IfOk result (λ _. Goes here.now (Instr.Vector d instr) stores.now frame.old stores.now frame.new) }
+    ensures err { IfErr result (λ t. Fails here.now (Instr.Vector d instr) stores.now frame.old t) }
+    ensures same { IfErr result (λ t. frame.new ≡ frame.old) }
+{
+    let mut value = *here.vector(frame, d);
+    vector_value(here, frame, stores, &mut value, d, instr)?;
+    let _count = here.count();
+    frame.set_vector(d.number, value);
+    frame.next();
+    Ok(())
+}

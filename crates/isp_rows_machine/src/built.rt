@@ -1,0 +1,142 @@
+//! Code for the examples.
+use isp_base::{Argument, Array, Bound, Elem, Gang, Name, Span};
+use isp_code::{
+    Arguments, Call, CallBox, Class, Code, Function, Instr, Local, Param, ParamKind, Register,
+    Returns, Sharing,
+};
+use isp_verify::{Verified, verify};
+use smallvec::SmallVec;
+use std::alloc::Global;
+use std::test::Fail;
+
+pub const fn s(number: u32) -> Register {
+    Register {
+        class: Class::Scalar,
+        number,
+    }
+}
+
+pub const fn v(number: u32) -> Register {
+    Register {
+        class: Class::Vector,
+        number,
+    }
+}
+
+pub const fn m(number: u32) -> Register {
+    Register {
+        class: Class::Mask,
+        number,
+    }
+}
+
+pub const fn a(number: u32) -> Register {
+    Register {
+        class: Class::Array,
+        number,
+    }
+}
+
+pub fn named(alloc: Global, text: &str) -> Result<Name, Fail> {
+    Ok(Name::new(String::from_str(alloc, text)?))
+}
+
+pub fn params(alloc: Global, list: &[(&str, ParamKind, Elem)]) -> Result<Vec<Param>, Fail> {
+    let mut all = Vec::new(alloc);
+    for (name, kind, elem) in list {
+        all.push(Param {
+            name: named(alloc, name)?,
+            kind: *kind,
+            elem: *elem,
+        })?;
+    }
+    Ok(all)
+}
+
+/// A function without parameters, locals and registers but one mask.
+pub fn function(alloc: Global, name: &str) -> Result<Function, Fail> {
+    Ok(Function {
+        name: named(alloc, name)?,
+        exported: true,
+        returns: Returns::Nothing,
+        params: Vec::new(alloc),
+        locals: Vec::new(alloc),
+        scalars: Vec::new(alloc),
+        vectors: Vec::new(alloc),
+        masks: 1,
+        code: Vec::new(alloc),
+    })
+}
+
+pub fn local(sharing: Sharing, elem: Elem, size: u32) -> Local {
+    Local {
+        sharing,
+        elem,
+        size,
+    }
+}
+
+pub fn call(
+    alloc: Global,
+    function: u32,
+    to: Option<Register>,
+    mask: Register,
+    registers: &[Register],
+) -> Result<Instr, Fail> {
+    let mut list = SmallVec::new(alloc);
+    for register in registers {
+        list.push(*register)?;
+    }
+    let call = Call {
+        function,
+        result: to,
+        mask,
+        place: 0,
+        arguments: Arguments::new(list),
+    };
+    match CallBox::new(alloc, call) {
+        Ok(boxed) => Ok(Instr::Call(boxed)),
+        Err(_failed) => Err(Fail::from("memory")),
+    }
+}
+
+pub fn array(alloc: Global, elem: Elem, items: &[u64]) -> Result<Argument, Fail> {
+    let mut array = Array::empty(alloc, elem);
+    for bits in items {
+        array.push(*bits)?;
+    }
+    Ok(Argument::Array(array))
+}
+
+pub fn bound(alloc: Global, argument: Argument) -> Result<Bound, Fail> {
+    let mut arguments = Vec::new(alloc);
+    arguments.push(argument)?;
+    Ok(Bound { arguments })
+}
+
+pub fn nothing(alloc: Global) -> Bound {
+    Bound {
+        arguments: Vec::new(alloc),
+    }
+}
+
+pub fn new(alloc: Global, gang: Gang) -> Result<Code, Fail> {
+    let mut code = Code::new(alloc, gang);
+    code.add_place(Span { start: 0, end: 4 })?;
+    code.add_text(b"x")?;
+    Ok(code)
+}
+
+pub fn add(code: &mut Code, function: Function) -> Result<(), Fail> {
+    match code.add_function(function) {
+        Ok(()) => Ok(()),
+        Err((_function, _limit)) => Err(Fail::from("the function was refused")),
+    }
+}
+
+pub fn verified(alloc: Global, code: Code) -> Result<Verified, Fail> {
+    match verify(alloc, code) {
+        Ok(verified) => Ok(verified),
+        Err((_code, _fault)) => Err(Fail::from("the code was refused")),
+    }
+}
