@@ -84,5 +84,5 @@ pub fn library_call(
         ty,
         span,
     };
-    Ok(boxed(alloc, call)?)
+    boxed(alloc, call)
 }

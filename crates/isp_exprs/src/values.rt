@@ -43,7 +43,7 @@ pub fn converted(alloc: Global, elem: Elem, x: Box<TypedExpr>) -> Result<Box<Typ
     if x.ty().elem == elem {
         return Ok(x);
     }
-    Ok(boxed(alloc, TypedExpr::Convert { elem, operand: x })?)
+    boxed(alloc, TypedExpr::Convert { elem, operand: x })
 }
 
 /// The type of `?:` and of `select`: bool where both are, else the common type.
@@ -120,7 +120,7 @@ fn cast(
         elem: words.elem,
     };
     let operand = converted(alloc, words.elem, x)?;
-    Ok(boxed(alloc, TypedExpr::Cast { operand, ty, span })?)
+    boxed(alloc, TypedExpr::Cast { operand, ty, span })
 }
 
 /// A cast to what words say.
@@ -159,7 +159,7 @@ fn unary_as(
         ty,
         span,
     };
-    Ok(boxed(alloc, unary)?)
+    boxed(alloc, unary)
 }
 
 /// An operator and its operand.
@@ -234,7 +234,7 @@ fn computes(
         ty,
         span,
     };
-    Ok(boxed(alloc, binary)?)
+    boxed(alloc, binary)
 }
 
 /// Two values of the common type, a comparison between them.
@@ -258,7 +258,7 @@ fn compares(
         rate,
         span,
     };
-    Ok(boxed(alloc, compare)?)
+    boxed(alloc, compare)
 }
 
 /// Two bools, `&&` or `||` between them.
@@ -281,7 +281,7 @@ fn decides(
         rate,
         span,
     };
-    Ok(boxed(alloc, decision)?)
+    boxed(alloc, decision)
 }
 
 fn joins(
@@ -340,7 +340,7 @@ fn choose(
         ty,
         span,
     };
-    Ok(boxed(alloc, choice)?)
+    boxed(alloc, choice)
 }
 
 /// `test ? x : y`.
