@@ -1,9 +1,13 @@
 //! Code for the examples.
-use isp_base::{Argument, Array, Bound, Elem, Gang, Name, Span};
+ghost use Rattle.std.specs.Prelude.{◌≡◌};
+ghost use Rattle.isp_base.specs.Types.{gang_width};
+
+use isp_base::{Argument, Array, Bound, Elem, Gang, Name, Span, low_bits};
 use isp_code::{
     Arguments, Call, CallBox, Class, Code, Function, Instr, Local, Param, ParamKind, Register,
     Returns, Sharing,
 };
+use isp_machine::Machine;
 use isp_verify::{Verified, verify};
 use smallvec::SmallVec;
 use std::alloc::Global;
@@ -103,7 +107,7 @@ pub fn call(
 pub fn array(alloc: Global, elem: Elem, items: &[u64]) -> Result<Argument, Fail> {
     let mut array = Array::empty(alloc, elem);
     for bits in items {
-        array.push(*bits)?;
+        array.push(low_bits(elem, *bits))?;
     }
     Ok(Argument::Array(array))
 }
@@ -138,5 +142,43 @@ pub fn verified(alloc: Global, code: Code) -> Result<Verified, Fail> {
     match verify(alloc, code) {
         Ok(verified) => Ok(verified),
         Err((_code, _fault)) => Err(Fail::from("the code was refused")),
+    }
+}
+
+/// A run of the function `f` of some code.
+pub fn started<'a, const N: usize>(
+    alloc: Global,
+    code: &'a Verified,
+    bound: Bound,
+) -> Result<Machine<'a, N>, Fail>
+    requires { N ≡ gang_width code.now.gang }
+{
+    match Machine::start(alloc, code, "f", bound) {
+        Ok(machine) => Ok(machine),
+        Err((_bound, _fault)) => Err(Fail::from("the run did not start")),
+    }
+}
+
+/// The same of code for a gang of 4.
+pub fn started_4(alloc: Global, code: &Verified, bound: Bound) -> Result<Machine<'_, 4>, Fail> {
+    match code.gang() {
+        Gang::W4 => started::<4>(alloc, code, bound),
+        _ => Err(Fail::from("another gang")),
+    }
+}
+
+/// The same of code for a gang of 8.
+pub fn started_8(alloc: Global, code: &Verified, bound: Bound) -> Result<Machine<'_, 8>, Fail> {
+    match code.gang() {
+        Gang::W8 => started::<8>(alloc, code, bound),
+        _ => Err(Fail::from("another gang")),
+    }
+}
+
+/// The same of code for a gang of 16.
+pub fn started_16(alloc: Global, code: &Verified, bound: Bound) -> Result<Machine<'_, 16>, Fail> {
+    match code.gang() {
+        Gang::W16 => started::<16>(alloc, code, bound),
+        _ => Err(Fail::from("another gang")),
     }
 }

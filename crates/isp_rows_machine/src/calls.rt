@@ -1,12 +1,13 @@
 //! Calls, one in the other.
 use crate::built::{
-    a, add, array, bound, call, function, local, m, new, nothing, params, s, v, verified,
+    a, add, array, bound, call, function, local, m, new, nothing, params, s, started_4, started_8,
+    v, verified,
 };
 use isp_base::{Argument, Elem, Gang, TrapKind, Value};
 use isp_code::{
     Instr, JumpTest, MaskInstr, ParamKind, Plain, Returns, ScalarInstr, Sharing, VectorInstr,
 };
-use isp_machine::{Machine, Stop};
+use isp_machine::Stop;
 use isp_verify::Verified;
 use std::alloc::Global;
 use std::test::Fail;
@@ -51,18 +52,14 @@ fn of_n(alloc: Global, n: u64) -> Result<isp_base::Bound, Fail> {
 fn depth(rt: HostRuntime) -> Result<(), Fail> {
     let alloc = rt.alloc();
     let code = nested(alloc)?;
-    let Ok(mut machine) = Machine::<'_, 8>::start(alloc, &code, "f", of_n(alloc, 255)?) else {
-        return Err(Fail::from("not started"));
-    };
+    let mut machine = started_8(alloc, &code, of_n(alloc, 255)?)?;
     assert!(rt; matches!(machine.run(255 * 11 + 2), Stop::Running));
     assert!(rt; matches!(machine.run(1), Stop::Ended));
     let Some(result) = machine.result() else {
         return Err(Fail::from("no result"));
     };
     assert!(rt; result.bits == 32_640);
-    let Ok(mut machine) = Machine::<'_, 8>::start(alloc, &code, "f", of_n(alloc, 256)?) else {
-        return Err(Fail::from("not started"));
-    };
+    let mut machine = started_8(alloc, &code, of_n(alloc, 256)?)?;
     assert!(rt; matches!(machine.run(255 * 7 + 6), Stop::Running));
     let Stop::Trapped(trap) = machine.run(1) else {
         return Err(Fail::from("no trap"));
@@ -126,9 +123,7 @@ fn calls_under_lanes(rt: HostRuntime) -> Result<(), Fail> {
     let alloc = rt.alloc();
     let code = lanes(alloc)?;
     let four = bound(alloc, array(alloc, Elem::I32, &[9, 9])?)?;
-    let Ok(mut machine) = Machine::<'_, 4>::start(alloc, &code, "f", four) else {
-        return Err(Fail::from("not started"));
-    };
+    let mut machine = started_4(alloc, &code, four)?;
     assert!(rt; matches!(machine.run(31), Stop::Ended));
     assert!(rt; machine.output() == b"[0,1,0,0][0,0,_,_][5,6,2,3][5,6,0,0][0,0,_,_]".as_slice());
     let arrays = machine.arrays();

@@ -6,4 +6,8 @@ mod built;
 #[cfg(test)]
 mod calls;
 #[cfg(test)]
+mod refused;
+#[cfg(test)]
 mod runs;
+#[cfg(test)]
+mod table;

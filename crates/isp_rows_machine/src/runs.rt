@@ -1,6 +1,8 @@
 //! Texts, arrays, divisions, and budgets.
-use crate::built::{a, add, array, bound, function, m, new, nothing, params, s, v, verified};
-use isp_base::{Argument, Elem, Gang, Trap, TrapKind, Value};
+use crate::built::{
+    a, add, array, bound, function, m, new, nothing, params, s, started_4, started_16, v, verified,
+};
+use isp_base::{Argument, Bound, Elem, Gang, TrapKind, Value};
 use isp_code::{Division, Instr, MaskInstr, MaskOp, ParamKind, Returns, ScalarInstr, VectorInstr};
 use isp_machine::{Machine, StartFault, Stop};
 use isp_verify::Verified;
@@ -16,19 +18,6 @@ fn endless_say(alloc: Global) -> Result<Verified, Fail> {
     verified(alloc, code)
 }
 
-fn started<const N: usize>(
-    alloc: Global,
-    code: &Verified,
-    bound: isp_base::Bound,
-) -> Result<Machine<'_, N>, Fail>
-    requires { N ≤ 64 }
-{
-    match Machine::start(alloc, code, "f", bound) {
-        Ok(machine) => Ok(machine),
-        Err((_bound, _fault)) => Err(Fail::from("the run did not start")),
-    }
-}
-
 // A budget of b writes a text for each two instructions, the first at once.
 #[test]
 fn endless_texts(rt: HostRuntime) -> Result<(), Fail> {
@@ -36,7 +25,7 @@ fn endless_texts(rt: HostRuntime) -> Result<(), Fail> {
     let code = endless_say(alloc)?;
     let lengths = [0, 1, 1, 2, 2, 3, 3, 4];
     for (budget, length) in lengths.iter().enumerate() {
-        let mut machine = started::<4>(alloc, &code, nothing(alloc))?;
+        let mut machine = started_4(alloc, &code, nothing(alloc))?;
         assert!(rt; matches!(machine.run(budget as u64), Stop::Running));
         assert!(rt; machine.output().len() == *length);
         assert!(rt; matches!(machine.run(7 - budget as u64), Stop::Running));
@@ -78,7 +67,7 @@ fn hand_written_scatter(rt: HostRuntime) -> Result<(), Fail> {
     let alloc = rt.alloc();
     let code = scatter(alloc)?;
     let four = bound(alloc, array(alloc, Elem::I32, &[9, 9, 9, 9])?)?;
-    let mut machine = started::<4>(alloc, &code, four)?;
+    let mut machine = started_4(alloc, &code, four)?;
     assert!(rt; matches!(machine.run(2), Stop::Running));
     assert!(rt; holds(&machine, &[9, 9, 9, 9]));
     assert!(rt; matches!(machine.run(1), Stop::Running));
@@ -90,7 +79,7 @@ fn hand_written_scatter(rt: HostRuntime) -> Result<(), Fail> {
     assert!(rt; holds(&machine, &[0, 1, 2, 3]));
     assert!(rt; machine.result().is_none());
     let two = bound(alloc, array(alloc, Elem::I32, &[9, 9])?)?;
-    let mut machine = started::<4>(alloc, &code, two)?;
+    let mut machine = started_4(alloc, &code, two)?;
     assert!(rt; is_trap(machine.run(9), TrapKind::Index, 2));
     assert!(rt; is_trap(machine.run(0), TrapKind::Index, 2));
     assert!(rt; holds(&machine, &[9, 9]));
@@ -106,21 +95,47 @@ fn is_trap(stop: Stop, kind: TrapKind, instance: usize) -> bool {
     }
 }
 
+// 50, and the arguments come back.
+fn is_refused(alloc: Global, code: &Verified, entry: &str, bound: Bound) -> bool {
+    let count = bound.arguments.len();
+    match code.gang() {
+        Gang::W4 => match Machine::<'_, 4>::start(alloc, code, entry, bound) {
+            Ok(_machine) => false,
+            Err((bound, fault)) => fault == StartFault::NoEntry && bound.arguments.len() == count,
+        },
+        _ => false,
+    }
+}
+
 #[test]
 fn no_entry(rt: HostRuntime) -> Result<(), Fail> {
     let alloc = rt.alloc();
     let code = scatter(alloc)?;
     let other = bound(alloc, array(alloc, Elem::U32, &[9])?)?;
-    match Machine::<'_, 4>::start(alloc, &code, "f", other) {
-        Ok(_machine) => return Err(Fail::from("started")),
-        Err((bound, fault)) => {
-            assert!(rt; fault == StartFault::NoEntry);
-            assert!(rt; bound.arguments.len() == 1);
-        }
-    }
-    match Machine::<'_, 4>::start(alloc, &code, "g", nothing(alloc)) {
-        Ok(_machine) => return Err(Fail::from("started")),
-        Err((_bound, fault)) => assert!(rt; fault == StartFault::NoEntry),
+    assert!(rt; is_refused(alloc, &code, "f", other));
+    assert!(rt; is_refused(alloc, &code, "f", nothing(alloc)));
+    let right = bound(alloc, array(alloc, Elem::I32, &[9])?)?;
+    assert!(rt; is_refused(alloc, &code, "g", right));
+    Ok(())
+}
+
+// Each budget from 0 on, and from there to the end.
+#[test]
+fn scatter_by_parts(rt: HostRuntime) -> Result<(), Fail> {
+    let alloc = rt.alloc();
+    let code = scatter(alloc)?;
+    for budget in 0..4u64 {
+        let four = bound(alloc, array(alloc, Elem::I32, &[9, 9, 9, 9])?)?;
+        let mut machine = started_4(alloc, &code, four)?;
+        assert!(rt; matches!(machine.run(budget), Stop::Running));
+        let before = if budget < 3 {
+            [9, 9, 9, 9]
+        } else {
+            [0, 1, 2, 3]
+        };
+        assert!(rt; holds(&machine, &before));
+        assert!(rt; matches!(machine.run(4 - budget), Stop::Ended));
+        assert!(rt; holds(&machine, &[0, 1, 2, 3]));
     }
     Ok(())
 }
@@ -171,12 +186,12 @@ fn divisions(rt: HostRuntime) -> Result<(), Fail> {
     let alloc = rt.alloc();
     let code = division(alloc, false)?;
     let by = bound(alloc, array(alloc, Elem::I32, &[0, 3, 0, 4])?)?;
-    let mut machine = started::<4>(alloc, &code, by)?;
+    let mut machine = started_4(alloc, &code, by)?;
     assert!(rt; is_trap(machine.run(100), TrapKind::Assert, 0));
     assert!(rt; machine.output() == b"[0,4,0,3][_,4,_,3][false,_,false,_]".as_slice());
     let code = division(alloc, true)?;
     let by = bound(alloc, array(alloc, Elem::I32, &[1, 3, 0, 4])?)?;
-    let mut machine = started::<4>(alloc, &code, by)?;
+    let mut machine = started_4(alloc, &code, by)?;
     assert!(rt; matches!(machine.run(7), Stop::Running));
     assert!(rt; is_trap(machine.run(1), TrapKind::Divide, 2));
     assert!(rt; is_trap(machine.run(1), TrapKind::Divide, 2));
@@ -200,7 +215,7 @@ fn results(rt: HostRuntime) -> Result<(), Fail> {
         elem: Elem::I8,
         bits: 0x380,
     };
-    let mut machine = started::<16>(alloc, &code, bound(alloc, Argument::Value(value))?)?;
+    let mut machine = started_16(alloc, &code, bound(alloc, Argument::Value(value))?)?;
     assert!(rt; machine.result().is_none());
     assert!(rt; matches!(machine.run(2), Stop::Ended));
     assert!(rt; machine.output() == b"-128".as_slice());
