@@ -107,7 +107,8 @@ pub fn call(
 pub fn array(alloc: Global, elem: Elem, items: &[u64]) -> Result<Argument, Fail> {
     let mut array = Array::empty(alloc, elem);
     for bits in items {
-        array.push(low_bits(elem, *bits))?;
+        let low = low_bits(array.elem(), *bits);
+        array.push(low)?;
     }
     Ok(Argument::Array(array))
 }
