@@ -1,0 +1,363 @@
+//! What expressions give. Each node that is reached counts before its parts; a conversion is no node.
+
+use crate::computed::{
+    Computed, binary, compared, dividing_by_zero, needing, numbers, selected, settled,
+};
+use crate::library::called;
+use crate::places::Place;
+use crate::row::nothing;
+use crate::sets::{Active, any};
+use crate::state::{Evaluator, Stop, checked};
+use crate::tasks::{Gathering, Joining, Packing, Task};
+use isp_base::{Elem, Span, TrapKind, low_bits};
+use isp_typed::{ArrayVariable, Logic, TypedExpr, TypedPlace};
+
+impl<'a> Evaluator<'a> {
+    /// An expression over a set.
+    pub fn value(&mut self, x: &'a TypedExpr, set: Active) -> Result<(), Stop> {
+        match x {
+            TypedExpr::Constant { value, .. } => {
+                self.tick();
+                self.value = Computed::One(low_bits(value.elem, value.bits));
+                Ok(())
+            }
+            TypedExpr::ProgramIndex { .. } => {
+                self.tick();
+                self.value = numbers(&set);
+                Ok(())
+            }
+            TypedExpr::Place(place) => self.place(place, set),
+            TypedExpr::Convert { elem, operand } => {
+                self.later(Task::Convert {
+                    from: operand.ty().elem,
+                    to: *elem,
+                })?;
+                self.later(Task::Value(operand, set))
+            }
+            TypedExpr::Cast { operand, .. } => {
+                self.tick();
+                self.later(Task::Value(operand, set))
+            }
+            TypedExpr::Unary {
+                operator,
+                operand,
+                ty,
+                ..
+            } => {
+                self.tick();
+                self.later(Task::Unary {
+                    operator: *operator,
+                    elem: ty.elem,
+                })?;
+                self.later(Task::Value(operand, set))
+            }
+            x => self.value_of_several(x, set),
+        }
+    }
+
+    // An expression with several operands.
+    fn value_of_several(&mut self, x: &'a TypedExpr, set: Active) -> Result<(), Stop> {
+        match x {
+            TypedExpr::Binary {
+                operator,
+                left,
+                right,
+                ty,
+                span,
+            } => {
+                let joining = Joining::Operate {
+                    operator: *operator,
+                    elem: ty.elem,
+                    span: *span,
+                };
+                self.left(joining, left, right, set)
+            }
+            TypedExpr::Compare {
+                comparison,
+                left,
+                right,
+                ..
+            } => {
+                let joining = Joining::Compare {
+                    comparison: *comparison,
+                    elem: left.ty().elem,
+                };
+                self.left(joining, left, right, set)
+            }
+            TypedExpr::Logic {
+                logic,
+                left,
+                right,
+                ..
+            } => {
+                self.tick();
+                self.later(Task::Logic {
+                    logic: *logic,
+                    right,
+                    set,
+                })?;
+                self.later(Task::Value(left, set))
+            }
+            TypedExpr::Choose {
+                test,
+                then,
+                otherwise,
+                ..
+            } => {
+                self.tick();
+                self.later(Task::Choose {
+                    then,
+                    otherwise,
+                    set,
+                })?;
+                self.later(Task::Value(test, set))
+            }
+            x => self.value_of_call(x, set),
+        }
+    }
+
+    // A call.
+    fn value_of_call(&mut self, x: &'a TypedExpr, set: Active) -> Result<(), Stop> {
+        match x {
+            TypedExpr::Call { call, .. } => self.later(Task::Call(call, set)),
+            TypedExpr::Library {
+                function,
+                elem,
+                values,
+                ..
+            } => {
+                self.tick();
+                let gathering = Gathering::Library {
+                    function: *function,
+                    elem: *elem,
+                };
+                let done = Vec::new(self.alloc);
+                self.values(gathering, values.as_slice(), done, set)
+            }
+            TypedExpr::PackedStore { base, value, span } => {
+                self.tick();
+                self.base(Packing::Store(value), base, *span, set)
+            }
+            TypedExpr::PackedLoad {
+                base,
+                variable,
+                span,
+            } => {
+                self.tick();
+                self.base(Packing::Load(*variable), base, *span, set)
+            }
+            _ => Ok(()),
+        }
+    }
+
+    // What is held at a place.
+    fn place(&mut self, place: &'a TypedPlace, set: Active) -> Result<(), Stop> {
+        self.tick();
+        match place {
+            TypedPlace::Variable { number, ty, .. } => {
+                let place = Place::Variable {
+                    number: *number,
+                    ty: *ty,
+                };
+                self.value = self.held(&place, &set);
+                Ok(())
+            }
+            TypedPlace::Element {
+                array,
+                index,
+                span,
+                ..
+            } => {
+                self.later(Task::Load {
+                    array: *array,
+                    elem: index.ty().elem,
+                    span: *span,
+                    set,
+                })?;
+                self.later(Task::Value(index, set))
+            }
+        }
+    }
+
+    /// The element at the index that was found.
+    pub fn load(
+        &mut self,
+        array: ArrayVariable,
+        elem: Elem,
+        span: Span,
+        set: Active,
+    ) -> Result<(), Stop> {
+        let place = Place::Element {
+            array,
+            elem,
+            index: self.value,
+        };
+        checked(self.outside(&place, &set), TrapKind::Index, span)?;
+        self.value = self.held(&place, &set);
+        Ok(())
+    }
+
+    // The left one of two operands.
+    fn left(
+        &mut self,
+        joining: Joining,
+        left: &'a TypedExpr,
+        right: &'a TypedExpr,
+        set: Active,
+    ) -> Result<(), Stop> {
+        self.tick();
+        self.later(Task::Right {
+            joining,
+            right,
+            set,
+        })?;
+        self.later(Task::Value(left, set))
+    }
+
+    /// The right one of two operands.
+    pub fn right(
+        &mut self,
+        joining: Joining,
+        right: &'a TypedExpr,
+        set: Active,
+    ) -> Result<(), Stop> {
+        self.later(Task::Join {
+            joining,
+            left: self.value,
+            set,
+        })?;
+        self.later(Task::Value(right, set))
+    }
+
+    /// The operator, both operands being found.
+    pub fn join(&mut self, joining: Joining, left: Computed, set: Active) -> Result<(), Stop> {
+        let right = self.value;
+        match joining {
+            Joining::Operate {
+                operator,
+                elem,
+                span,
+            } => {
+                let offender = dividing_by_zero(self.gang(), operator, elem, &set, &right);
+                checked(offender, TrapKind::Divide, span)?;
+                self.value = binary(operator, elem, &set, &left, &right);
+            }
+            Joining::Compare { comparison, elem } => {
+                self.value = compared(comparison, elem, &set, &left, &right);
+            }
+        }
+        Ok(())
+    }
+
+    // An expression over a set that may be empty.
+    fn unless_empty(&mut self, x: &'a TypedExpr, set: Active) -> Result<(), Stop> {
+        if any(self.gang(), &set) {
+            self.later(Task::Value(x, set))
+        } else {
+            self.value = Computed::Each(nothing());
+            Ok(())
+        }
+    }
+
+    /// The right operand of `&&` or `||`, over the members that need it.
+    pub fn logic(
+        &mut self,
+        logic: Logic,
+        right: &'a TypedExpr,
+        set: Active,
+    ) -> Result<(), Stop> {
+        let left = self.value;
+        self.later(Task::Settle { logic, left, set })?;
+        self.unless_empty(right, needing(logic, &set, &left))
+    }
+
+    /// `&&` or `||`, both operands being found.
+    pub fn settle(&mut self, logic: Logic, left: Computed, set: Active) -> Result<(), Stop> {
+        self.value = settled(logic, &set, &left, &self.value);
+        Ok(())
+    }
+
+    /// The first value of `?:`, over the members whose test is true.
+    pub fn choose(
+        &mut self,
+        then: &'a TypedExpr,
+        otherwise: &'a TypedExpr,
+        set: Active,
+    ) -> Result<(), Stop> {
+        let test = self.value;
+        self.later(Task::Otherwise {
+            test,
+            otherwise,
+            set,
+        })?;
+        self.unless_empty(then, test.members(true, &set))
+    }
+
+    /// The second value of `?:`, over the members whose test is false.
+    pub fn otherwise(
+        &mut self,
+        test: Computed,
+        otherwise: &'a TypedExpr,
+        set: Active,
+    ) -> Result<(), Stop> {
+        let then = self.value;
+        self.later(Task::Select { test, then })?;
+        self.unless_empty(otherwise, test.members(false, &set))
+    }
+
+    /// `?:`, all being found.
+    pub fn select(&mut self, test: Computed, then: Computed) -> Result<(), Stop> {
+        self.value = selected(&test, &then, &self.value);
+        Ok(())
+    }
+
+    /// The rest of several values.
+    pub fn values(
+        &mut self,
+        gathering: Gathering<'a>,
+        rest: &'a [TypedExpr],
+        done: Vec<Computed>,
+        set: Active,
+    ) -> Result<(), Stop> {
+        match rest {
+            [] => self.gathered(gathering, done.as_slice(), set),
+            [next, rest @ ..] => {
+                self.later(Task::Values {
+                    gathering,
+                    rest,
+                    done,
+                    set,
+                })?;
+                self.later(Task::Value(next, set))
+            }
+        }
+    }
+
+    /// One of several values was found.
+    pub fn one_more(
+        &mut self,
+        gathering: Gathering<'a>,
+        rest: &'a [TypedExpr],
+        mut done: Vec<Computed>,
+        set: Active,
+    ) -> Result<(), Stop> {
+        done.push(self.value)?;
+        self.values(gathering, rest, done, set)
+    }
+
+    // All values were found.
+    fn gathered(
+        &mut self,
+        gathering: Gathering<'a>,
+        values: &[Computed],
+        set: Active,
+    ) -> Result<(), Stop> {
+        match gathering {
+            Gathering::Library { function, elem } => {
+                self.value = called(self.gang(), function, elem, &set, values);
+                Ok(())
+            }
+            Gathering::Print { text, values: shown } => self.print(text, shown, values, set),
+        }
+    }
+}

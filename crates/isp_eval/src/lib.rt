@@ -1,0 +1,27 @@
+//! A plain evaluator: what a program does over a gang, by its meaning.
+#![tactic(auto)]
+
+mod activation;
+mod calls;
+mod computed;
+mod evaluator;
+mod expressions;
+mod fault;
+mod growing;
+mod library;
+mod loops;
+mod outcome;
+mod packed;
+mod places;
+mod printing;
+mod rounds;
+mod row;
+mod sets;
+mod simple;
+mod state;
+mod statements;
+mod tasks;
+
+pub use evaluator::{evaluate, work};
+pub use fault::EvalFault;
+pub use outcome::Outcome;

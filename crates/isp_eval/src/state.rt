@@ -1,0 +1,124 @@
+//! The evaluator and its registers.
+
+use crate::activation::Activation;
+use crate::computed::Computed;
+use crate::sets::{Active, nobody};
+use crate::tasks::Task;
+use isp_base::{Gang, Span, Trap, TrapKind};
+use isp_typed::Program;
+use std::alloc::{AllocError, AllocFailed, Global};
+
+/// Why a run stops before its tasks are done.
+#[derive(Clone, Copy)]
+pub enum Stop {
+    /// Memory was refused.
+    Memory,
+    /// It trapped.
+    Trapped(Trap),
+    /// A loop would take one turn too many.
+    Cut,
+}
+
+impl From<AllocError> for Stop {
+    ghost from_gives = { λ _ e. e ≡ Stop.Memory };
+
+    fn from(_error: AllocError) -> Stop {
+        Stop::Memory
+    }
+}
+
+impl<T: Drop> From<AllocFailed<T>> for Stop {
+    ghost from_gives = { λ _ e. e ≡ Stop.Memory };
+
+    fn from(_error: AllocFailed<T>) -> Stop {
+        Stop::Memory
+    }
+}
+
+/// Where the members of a set went by a statement that did not go on.
+#[derive(Clone, Copy)]
+pub struct Exits {
+    pub broke: Active,
+    pub continued: Active,
+    pub returned: Active,
+}
+
+/// Where the members of a set went.
+#[derive(Clone, Copy)]
+pub struct Sets {
+    pub went: Active,
+    pub exits: Exits,
+}
+
+impl Exits {
+    /// Nobody.
+    pub fn none() -> Exits {
+        Exits {
+            broke: nobody(),
+            continued: nobody(),
+            returned: nobody(),
+        }
+    }
+}
+
+impl Sets {
+    /// All of a set went on.
+    pub fn all(set: &Active) -> Sets {
+        Sets {
+            went: *set,
+            exits: Exits::none(),
+        }
+    }
+}
+
+/// A run: its program, the call that runs, what all calls share, what is left to do, and two registers.
+#[derive(Drop)]
+pub struct Evaluator<'a> {
+    pub alloc: Global,
+    pub program: &'a Program,
+    /// How many turns a loop makes each time it is entered.
+    pub turns: u64,
+    /// How many more calls may run, one in the other.
+    pub left: usize,
+    pub here: Activation<'a>,
+    pub stores: Vec<Vec<u64>>,
+    pub output: Vec<u8>,
+    /// How many nodes were reached, up to the greatest number.
+    pub work: u64,
+    /// What the last expression gave.
+    pub value: Computed,
+    /// Where the last statement left its members.
+    pub sets: Sets,
+    /// What is left to do, the next last.
+    pub tasks: Vec<Task<'a>>,
+}
+
+impl<'a> Evaluator<'a> {
+    /// The gang's size.
+    pub fn gang(&self) -> Gang {
+        self.program.gang
+    }
+
+    /// One more node is reached.
+    pub fn tick(&mut self) {
+        self.work = self.work.saturating_add(1);
+    }
+
+    /// One more task, to be done before the others.
+    pub fn later(&mut self, task: Task<'a>) -> Result<(), Stop> {
+        self.tasks.push(task)?;
+        Ok(())
+    }
+}
+
+/// A trap, if an instance caused it.
+pub fn checked(offender: Option<usize>, kind: TrapKind, place: Span) -> Result<(), Stop> {
+    match offender {
+        Some(instance) => Err(Stop::Trapped(Trap {
+            kind,
+            place,
+            instance,
+        })),
+        None => Ok(()),
+    }
+}
