@@ -1,6 +1,6 @@
 //! The running call: what its variables are, and what stays during it.
 
-use crate::row::Lanes;
+use isp_gang::row::Lanes;
 use isp_base::{Rate, Ty};
 use isp_typed::{ArrayVariable, Holds, TypedFunction};
 

@@ -1,9 +1,9 @@
 //! Calls: what they begin with and what they leave.
 
 use crate::activation::Activation;
-use crate::computed::Computed;
-use crate::row::{Lanes, on, over};
-use crate::sets::{Active, WIDEST, lowest};
+use isp_gang::computed::Computed;
+use isp_gang::row::{Lanes, on, over};
+use isp_gang::sets::{Active, WIDEST, lowest};
 use crate::state::{Evaluator, Stop};
 use crate::tasks::{Passed, Task};
 use isp_base::{Rate, Span, Trap, TrapKind, Ty};

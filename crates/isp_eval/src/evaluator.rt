@@ -1,11 +1,11 @@
 //! The run of an entry.
 
 use crate::activation::Activation;
-use crate::computed::Computed;
+use isp_gang::computed::Computed;
 use crate::fault::EvalFault;
-use crate::growing::element_at;
+use isp_gang::growing::element_at;
 use crate::outcome::Outcome;
-use crate::sets::{WIDEST, everyone, nobody};
+use isp_gang::sets::{WIDEST, everyone, nobody};
 use crate::state::{Evaluator, Sets, Stop};
 use crate::tasks::Passed;
 use isp_base::{Argument, Array, Bound, Elem, Value, low_bits};

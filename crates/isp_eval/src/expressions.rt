@@ -1,12 +1,12 @@
 //! What expressions give. Each node that is reached counts before its parts; a conversion is no node.
 
-use crate::computed::{
+use isp_gang::computed::{
     Computed, binary, compared, dividing_by_zero, needing, numbers, selected, settled,
 };
-use crate::library::called;
+use isp_gang::library::called;
 use crate::places::Place;
-use crate::row::nothing;
-use crate::sets::{Active, any};
+use isp_gang::row::nothing;
+use isp_gang::sets::{Active, any};
 use crate::state::{Evaluator, Stop, checked};
 use crate::tasks::{Gathering, Joining, Packing, Task};
 use isp_base::{Elem, Span, TrapKind, low_bits};

@@ -3,20 +3,15 @@
 
 mod activation;
 mod calls;
-mod computed;
 mod evaluator;
 mod expressions;
 mod fault;
-mod growing;
-mod library;
 mod loops;
 mod outcome;
 mod packed;
 mod places;
 mod printing;
 mod rounds;
-mod row;
-mod sets;
 mod simple;
 mod state;
 mod statements;

@@ -1,7 +1,7 @@
 //! Loops whose body runs while a test keeps some.
 
-use crate::computed::Computed;
-use crate::sets::{Active, any, nobody, union, without};
+use isp_gang::computed::Computed;
+use isp_gang::sets::{Active, any, nobody, union, without};
 use crate::state::{Evaluator, Exits, Sets, Stop};
 use crate::tasks::Task;
 use isp_typed::{TypedExpr, TypedSimple, TypedStmt};

@@ -1,9 +1,9 @@
 //! Packed calls: the members of a set and consecutive elements.
 
-use crate::computed::Computed;
-use crate::growing::{element_at, put_element};
-use crate::row::{Row, nothing};
-use crate::sets::{Active, WIDEST, lowest, nobody, rank};
+use isp_gang::computed::Computed;
+use isp_gang::growing::{element_at, put_element};
+use isp_gang::row::{Row, nothing};
+use isp_gang::sets::{Active, WIDEST, lowest, nobody, rank};
 use crate::state::{Evaluator, Stop, checked};
 use crate::tasks::{Packing, Task};
 use isp_base::{Elem, Rate, Span, TrapKind, number};

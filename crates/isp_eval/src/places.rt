@@ -1,10 +1,10 @@
 //! The places that assignments write: what is held there, and what is kept there.
 
-use crate::computed::Computed;
-use crate::growing::{clear, element_at, lanes_at, own_at, put, put_element, put_lanes, put_own};
-use crate::growing;
-use crate::row::{Lanes, Row, nothing, on, over};
-use crate::sets::{Active, WIDEST, lowest, nobody};
+use isp_gang::computed::Computed;
+use isp_gang::growing::{clear, element_at, lanes_at, own_at, put, put_element, put_lanes, put_own};
+use isp_gang::growing;
+use isp_gang::row::{Lanes, Row, nothing, on, over};
+use isp_gang::sets::{Active, WIDEST, lowest, nobody};
 use crate::state::{Evaluator, Stop};
 use isp_base::{BinOp, Elem, Rate, Span, Ty, number};
 use isp_typed::{ArrayVariable, TypedExpr};

@@ -1,8 +1,8 @@
 //! What a `print` writes.
 
-use crate::computed::Computed;
-use crate::row::Row;
-use crate::sets::Active;
+use isp_gang::computed::Computed;
+use isp_gang::row::Row;
+use isp_gang::sets::Active;
 use crate::state::{Evaluator, Sets, Stop};
 use isp_base::{Elem, Gang, Rate, number};
 use isp_typed::TypedExpr;

@@ -1,8 +1,8 @@
 //! Bodies that run over each of a list of sets: `foreach` and `foreach_active`.
 
-use crate::computed::Computed;
-use crate::row::{Row, nothing};
-use crate::sets::{Active, WIDEST, alone, nobody};
+use isp_gang::computed::Computed;
+use isp_gang::row::{Row, nothing};
+use isp_gang::sets::{Active, WIDEST, alone, nobody};
 use crate::state::{Evaluator, Sets, Stop};
 use crate::tasks::Task;
 use isp_base::{Elem, Gang, Rate, number, wrap};

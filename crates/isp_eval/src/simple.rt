@@ -1,8 +1,8 @@
 //! Statements after which all of the set go on: values, calls, assignments and declarations.
 
-use crate::computed::{Computed, binary, dividing_by_zero};
+use isp_gang::computed::{Computed, binary, dividing_by_zero};
 use crate::places::{Place, Writing};
-use crate::sets::Active;
+use isp_gang::sets::Active;
 use crate::state::{Evaluator, Stop, checked};
 use crate::tasks::Task;
 use isp_base::{BinOp, Elem, Span, TrapKind, Ty};

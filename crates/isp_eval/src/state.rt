@@ -1,8 +1,8 @@
 //! The evaluator and its registers.
 
 use crate::activation::Activation;
-use crate::computed::Computed;
-use crate::sets::{Active, nobody};
+use isp_gang::computed::Computed;
+use isp_gang::sets::{Active, nobody};
 use crate::tasks::Task;
 use isp_base::{Gang, Span, Trap, TrapKind};
 use isp_typed::Program;

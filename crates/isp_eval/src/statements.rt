@@ -1,10 +1,10 @@
 //! What statements do.
 
-use crate::computed::Computed;
+use isp_gang::computed::Computed;
 use crate::loops::{Looping, Turning};
 use crate::rounds::Members;
-use crate::row::{over, where_is};
-use crate::sets::{Active, any, everyone, lowest, nobody, union, without};
+use isp_gang::row::{over, where_is};
+use isp_gang::sets::{Active, any, everyone, lowest, nobody, union, without};
 use crate::state::{Evaluator, Exits, Sets, Stop, checked};
 use crate::tasks::{Branches, Gathering, Statements, Task};
 use isp_base::{Rate, Span, TrapKind};

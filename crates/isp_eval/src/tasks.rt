@@ -1,12 +1,12 @@
 //! What is left to do.
 
 use crate::activation::Activation;
-use crate::computed::Computed;
+use isp_gang::computed::Computed;
 use crate::places::{Place, Writing};
 use crate::rounds::{Bounds, Members, Rounds};
 use crate::state::{Evaluator, Exits, Sets, Stop};
 use crate::loops::Turning;
-use crate::sets::Active;
+use isp_gang::sets::Active;
 use isp_base::{BinOp, Compare, Elem, Span, Ty, UnaryOp};
 use isp_typed::{
     ArrayVariable, Library, Logic, TypedArgument, TypedCall, TypedExpr, TypedItem,
