@@ -3,7 +3,7 @@
 use crate::activation::Activation;
 use isp_gang::computed::Computed;
 use crate::fault::EvalFault;
-use isp_gang::growing::element_at;
+use crate::stores::element_at;
 use crate::outcome::Outcome;
 use isp_gang::sets::{WIDEST, everyone, nobody};
 use crate::state::{Evaluator, Sets, Stop};

@@ -3,9 +3,8 @@
 use isp_gang::computed::{
     Computed, binary, compared, dividing_by_zero, needing, numbers, selected, settled,
 };
-use isp_gang::library::called;
+use crate::library::called;
 use crate::places::Place;
-use isp_gang::row::nothing;
 use isp_gang::sets::{Active, any};
 use crate::state::{Evaluator, Stop, checked};
 use crate::tasks::{Gathering, Joining, Packing, Task};
@@ -254,7 +253,7 @@ impl<'a> Evaluator<'a> {
         if any(self.gang(), &set) {
             self.later(Task::Value(x, set))
         } else {
-            self.value = Computed::Each(nothing());
+            self.value = Computed::nothing();
             Ok(())
         }
     }
@@ -301,13 +300,13 @@ impl<'a> Evaluator<'a> {
         set: Active,
     ) -> Result<(), Stop> {
         let then = self.value;
-        self.later(Task::Select { test, then })?;
+        self.later(Task::Select { test, then, set })?;
         self.unless_empty(otherwise, test.members(false, &set))
     }
 
     /// `?:`, all being found.
-    pub fn select(&mut self, test: Computed, then: Computed) -> Result<(), Stop> {
-        self.value = selected(&test, &then, &self.value);
+    pub fn select(&mut self, test: Computed, then: Computed, set: Active) -> Result<(), Stop> {
+        self.value = selected(&set, &test, &then, &self.value);
         Ok(())
     }
 

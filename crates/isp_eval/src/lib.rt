@@ -6,6 +6,7 @@ mod calls;
 mod evaluator;
 mod expressions;
 mod fault;
+mod library;
 mod loops;
 mod outcome;
 mod packed;
@@ -15,6 +16,7 @@ mod rounds;
 mod simple;
 mod state;
 mod statements;
+mod stores;
 mod tasks;
 
 pub use evaluator::{evaluate, work};

@@ -1,7 +1,7 @@
 //! Packed calls: the members of a set and consecutive elements.
 
 use isp_gang::computed::Computed;
-use isp_gang::growing::{element_at, put_element};
+use crate::stores::{element_at, put_element};
 use isp_gang::row::{Row, nothing};
 use isp_gang::sets::{Active, WIDEST, lowest, nobody, rank};
 use crate::state::{Evaluator, Stop, checked};

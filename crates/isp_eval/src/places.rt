@@ -1,8 +1,8 @@
 //! The places that assignments write: what is held there, and what is kept there.
 
 use isp_gang::computed::Computed;
-use isp_gang::growing::{clear, element_at, lanes_at, own_at, put, put_element, put_lanes, put_own};
-use isp_gang::growing;
+use crate::stores::{clear, element_at, own_at, put_element, put_own};
+use isp_gang::growing::{self, lanes_at, put, put_lanes};
 use isp_gang::row::{Lanes, Row, nothing, on, over};
 use isp_gang::sets::{Active, WIDEST, lowest, nobody};
 use crate::state::{Evaluator, Stop};

@@ -1,10 +1,10 @@
 //! What statements do.
 
-use isp_gang::computed::Computed;
+use isp_gang::computed::{Computed, lowest_false};
 use crate::loops::{Looping, Turning};
 use crate::rounds::Members;
 use isp_gang::row::{over, where_is};
-use isp_gang::sets::{Active, any, everyone, lowest, nobody, union, without};
+use isp_gang::sets::{Active, any, everyone, nobody, union, without};
 use crate::state::{Evaluator, Exits, Sets, Stop, checked};
 use crate::tasks::{Branches, Gathering, Statements, Task};
 use isp_base::{Rate, Span, TrapKind};
@@ -304,8 +304,8 @@ impl<'a> Evaluator<'a> {
 
     /// The test of an `assert` was found.
     pub fn assert(&mut self, span: Span, set: Active) -> Result<(), Stop> {
-        let failing = self.value.members(false, &set);
-        checked(lowest(self.gang(), &failing), TrapKind::Assert, span)?;
+        let offender = lowest_false(self.gang(), &set, &self.value);
+        checked(offender, TrapKind::Assert, span)?;
         self.sets = Sets::all(&set);
         Ok(())
     }

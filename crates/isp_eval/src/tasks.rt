@@ -121,6 +121,7 @@ pub enum Task<'a> {
     Select {
         test: Computed,
         then: Computed,
+        set: Active,
     },
     /// One of several values was found.
     Values {
@@ -265,7 +266,7 @@ impl<'a> Evaluator<'a> {
                 otherwise,
                 set,
             } => self.otherwise(test, otherwise, set),
-            Task::Select { test, then } => self.select(test, then),
+            Task::Select { test, then, set } => self.select(test, then, set),
             Task::Values {
                 gathering,
                 rest,

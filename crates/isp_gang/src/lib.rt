@@ -2,5 +2,7 @@
 //! in code.
 #![tactic(auto)]
 
+pub mod computed;
+pub mod growing;
 pub mod row;
 pub mod sets;

@@ -10,7 +10,7 @@ ghost use Rattle.isp_meaning.specs.Payloads.{converted, layer};
 ghost use Rattle.isp_gang.specs.Seen.{is_bool, map_of};
 
 use crate::sets::{Active, WIDEST};
-use isp_base::{BinOp, Compare, Elem, UnaryOp, apply_unary, compare, convert, low_bits};
+use isp_base::{BinOp, Compare, Elem, UnaryOp, apply, apply_unary, compare, convert, low_bits};
 
 /// The bits in each instance of a set.
 pub type Row = [Option<u64>; WIDEST];
@@ -50,6 +50,22 @@ pub fn repeated(set: &Active, bits: u64) -> Row
     let mut row = [None; WIDEST];
     for instance in 0..WIDEST {
         row[instance] = if set[instance] { Some(bits) } else { None };
+    }
+    row
+}
+
+/// The number of each member of a set.
+#[tactic(auto, using(crate::proofs::Rows::begun, crate::proofs::Rows::on_made))]
+pub fn numbers(set: &Active) -> Row
+    ensures { map_of result ≡ on (flag_of set.now) (λ p. p) }
+{
+    let mut row = [None; WIDEST];
+    for instance in 0..WIDEST {
+        row[instance] = if set[instance] {
+            Some(instance as u64)
+        } else {
+            None
+        };
     }
     row
 }
@@ -109,6 +125,35 @@ pub fn unary(operator: UnaryOp, elem: Elem, operand: &Row) -> Row
         row[instance] = match operand[instance] {
             Some(bits) => Some(apply_unary(operator, elem, bits)),
             None => None,
+        };
+    }
+    row
+}
+
+/// An operator's result. Where a divisor is 0 the quotient is 0 and the remainder is the dividend, as whole numbers have
+/// it; a run traps before it asks.
+pub fn operated(operator: BinOp, elem: Elem, x: u64, y: u64) -> u64
+    ensures { result ≡ op_bits operator elem x y }
+{
+    match apply(operator, elem, x, y) {
+        Ok(bits) => bits,
+        Err(_) => match operator {
+            BinOp::Rem => low_bits(elem, x),
+            _ => 0,
+        },
+    }
+}
+
+/// An operator on the values of both.
+#[tactic(auto, using(crate::proofs::Rows::begun, crate::proofs::Rows::map2_made))]
+pub fn binary(operator: BinOp, elem: Elem, left: &Row, right: &Row) -> Row
+    ensures { map_of result ≡ map2 (op_bits operator elem) (map_of left.now) (map_of right.now) }
+{
+    let mut row = [None; WIDEST];
+    for instance in 0..WIDEST {
+        row[instance] = match (left[instance], right[instance]) {
+            (Some(x), Some(y)) => Some(operated(operator, elem, x, y)),
+            _ => None,
         };
     }
     row
