@@ -1,4 +1,8 @@
 //! What expressions give. Each node that is reached counts before its parts; a conversion is no node.
+ghost use Rattle.std.specs.Prelude.{◌≡◌, IfErr, OnOk};
+ghost use Rattle.isp_eval.specs.Tasks.{Does, Traps};
+ghost use Rattle.isp_eval.specs.declared.state.Stop.TheVariants as Stop;
+ghost use Rattle.isp_eval.specs.declared.tasks.Task.TheVariants as Task;
 
 use isp_gang::computed::{
     Computed, binary, compared, dividing_by_zero, needing, numbers, selected, settled,
@@ -219,7 +223,10 @@ impl<'a> Evaluator<'a> {
         joining: Joining,
         right: &'a TypedExpr,
         set: Active,
-    ) -> Result<(), Stop> {
+    ) -> Result<(), Stop>
+        ensures ok { OnOk result (Does self.old self.new (Task.Right joining right.entry set)) }
+        ensures err { IfErr result (λ e. e ≡ Stop.Memory) }
+    {
         self.later(Task::Join {
             joining,
             left: self.value,

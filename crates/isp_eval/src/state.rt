@@ -1,4 +1,5 @@
 //! The evaluator and its registers.
+ghost use Rattle.std.specs.Prelude.{◌≡◌, ◌++◌, ◌∷◌, [], IfErr, OnOk};
 
 use crate::activation::Activation;
 use isp_gang::computed::Computed;
@@ -20,7 +21,10 @@ pub enum Stop {
 }
 
 impl From<AllocError> for Stop {
-    ghost from_gives = { λ _ e. e ≡ Stop.Memory };
+    ghost use Rattle.std.specs.Prelude.{◌≡◌};
+    ghost use Rattle.isp_eval.specs.declared.state.Stop.TheVariants.{Memory};
+
+    ghost from_gives = { λ _ e. e ≡ Memory };
 
     fn from(_error: AllocError) -> Stop {
         Stop::Memory
@@ -28,7 +32,10 @@ impl From<AllocError> for Stop {
 }
 
 impl<T: Drop> From<AllocFailed<T>> for Stop {
-    ghost from_gives = { λ _ e. e ≡ Stop.Memory };
+    ghost use Rattle.std.specs.Prelude.{◌≡◌};
+    ghost use Rattle.isp_eval.specs.declared.state.Stop.TheVariants.{Memory};
+
+    ghost from_gives = { λ _ e. e ≡ Memory };
 
     fn from(_error: AllocFailed<T>) -> Stop {
         Stop::Memory
@@ -95,17 +102,25 @@ pub struct Evaluator<'a> {
 
 impl<'a> Evaluator<'a> {
     /// The gang's size.
-    pub fn gang(&self) -> Gang {
+    pub fn gang(&self) -> Gang
+        ensures { result ≡ self.now.program.now.gang }
+    {
         self.program.gang
     }
 
     /// One more node is reached.
-    pub fn tick(&mut self) {
+    pub fn tick(&mut self)
+        ensures { self.new ≡ record self.old { work = self.new.work } }
+    {
         self.work = self.work.saturating_add(1);
     }
 
     /// One more task, to be done before the others.
-    pub fn later(&mut self, task: Task<'a>) -> Result<(), Stop> {
+    pub fn later(&mut self, task: Task<'a>) -> Result<(), Stop>
+        ensures ok { OnOk result (self.new.tasks.items ≡ self.old.tasks.items ++ task.entry ∷ []) }
+        ensures rest { OnOk result (self.new ≡ record self.old { tasks = self.new.tasks }) }
+        ensures err { IfErr result (λ e. e ≡ Stop.Memory) }
+    {
         self.tasks.push(task)?;
         Ok(())
     }
