@@ -6,7 +6,7 @@ use Rattle.isp_typed.specs.Views.{program_of}
 use Rattle.isp_meaning.specs.State.{State}
 use Rattle.isp_meaning.specs.Payloads.{Payload}
 use Rattle.isp_meaning.specs.Outcomes.{Val, Gives, Fails, Stops, bind}
-use Rattle.isp_eval.specs.Tasks.{Store, Goes, On, Trapped, Cut, go, given, store_seen, act, finish, does, rest}
+use Rattle.isp_eval.specs.Tasks.{Store, Goes, On, Trapped, Cut, go, given, act, finish, does, rest, First, FirstValue, Does, Traps, value_at, perhaps, join, store_seen}
 use Rattle.isp_eval.specs.declared.state.Evaluator.{Evaluator}
 use Rattle.isp_eval.specs.declared.tasks.Task.{Task}
 
@@ -50,6 +50,9 @@ pub two_later : (old mid new : Evaluator) (t u : Task) → Later old mid t → L
 two_later old mid new t u l m w =
     ap₂ (λ (f : Store → Goes) (r : Store). f r) (later_rest mid new u m) (later_store mid new u m w ∙ later_store old mid t l w)
     ∙ ap₂ (λ (d : Task → Store → Goes) (f : Store → Goes). go (d u (store_seen old w)) f) (later_does old mid t l) (later_rest old mid t l)
+
+pub two_first : (old mid new : Evaluator) (t u : Task) → mid.tasks.items ≡ old.tasks.items ++ t ∷ [] → mid ≡ record old { tasks = mid.tasks } → new.tasks.items ≡ mid.tasks.items ++ u ∷ [] → new ≡ record mid { tasks = new.tasks } → First old new u t
+two_first old mid new t u i s i' s' = record { by = two_later old mid new t u (record { items = i; same = s }) (record { items = i'; same = s' }) }
 
 -- ---- a value, and what is done with it
 

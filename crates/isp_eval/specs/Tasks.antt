@@ -64,6 +64,10 @@ module _ (program : Program) (most : ℕ) where
   abbrev pub value_at : Store → TExpr → Mask → State → Val Payload
   value_at r x a s = value gang_of r.frame (calls_at program most r.left) x a s
 
+  -- likewise over a set that may be empty
+  abbrev pub perhaps : Store → TExpr → Mask → State → Val Payload
+  perhaps r x a s = value_unless_empty gang_of a s (value_at r x)
+
   abbrev pub act : Task → Store → Goes
   act (task.Value x set) r = given r (value_at r (expr_of x.now) (flag_of set) r.state)
   act (task.Load b t span set) r =
@@ -74,12 +78,12 @@ module _ (program : Program) (most : ℕ) where
       given r (bind (value_at r (expr_of y.now) (flag_of set) r.state) (λ n s. join gang_of j (flag_of set) r.value n s))
   act (task.Join j m set) r = given r (join gang_of j (flag_of set) (payload_of m) r.value r.state)
   act (task.Logic l y set) r =
-      given r (bind (value_unless_empty gang_of (kept_by (needs l) (flag_of set) r.value) r.state (value_at r (expr_of y.now))) (λ n s. Gives (settled l (flag_of set) r.value n) s))
+      given r (bind (perhaps r (expr_of y.now) (kept_by (needs l) (flag_of set) r.value) r.state) (λ n s. Gives (settled l (flag_of set) r.value n) s))
   act (task.Settle l m set) r = given r (Gives (settled l (flag_of set) (payload_of m) r.value) r.state)
   act (task.Choose x y set) r =
-      given r (bind (value_unless_empty gang_of (kept_by is_true (flag_of set) r.value) r.state (value_at r (expr_of x.now))) (λ m s1. bind (value_unless_empty gang_of (kept_by is_false (flag_of set) r.value) s1 (value_at r (expr_of y.now))) (λ n s2. Gives (selected (flag_of set) r.value m n) s2)))
+      given r (bind (perhaps r (expr_of x.now) (kept_by is_true (flag_of set) r.value) r.state) (λ m s1. bind (perhaps r (expr_of y.now) (kept_by is_false (flag_of set) r.value) s1) (λ n s2. Gives (selected (flag_of set) r.value m n) s2)))
   act (task.Otherwise k y set) r =
-      given r (bind (value_unless_empty gang_of (kept_by is_false (flag_of set) (payload_of k)) r.state (value_at r (expr_of y.now))) (λ n s. Gives (selected (flag_of set) (payload_of k) r.value n) s))
+      given r (bind (perhaps r (expr_of y.now) (kept_by is_false (flag_of set) (payload_of k)) r.state) (λ n s. Gives (selected (flag_of set) (payload_of k) r.value n) s))
   act (task.Select k m set) r = given r (Gives (selected (flag_of set) (payload_of k) (payload_of m) r.value) r.state)
   act (task.Call c set) r =
       given r (call gang_of r.frame (calls_at program most r.left) (call_of c.now) (flag_of set) r.state)
@@ -99,6 +103,14 @@ rest e = finish (program_of e.program.now) e.turns e.tasks.items
 -- all that the one has still to do comes to what a task and then the other's tasks come to
 pub record Does (old new : Evaluator) (t : Task) : Type 0 where
   pub by : (w : ℕ) → (w' : ℕ) × (go (does old t (store_seen old w)) (rest old) ≡ rest new (store_seen new w'))
+
+-- first the one task, then the other, then what the old one had to do
+pub record First (old new : Evaluator) (u t : Task) : Type 0 where
+  pub by : (w : ℕ) → rest new (store_seen new w) ≡ go (does old u (store_seen old w)) (λ r. go (does old t r) (rest old))
+
+-- likewise, where the first is an expression over a set that may be empty
+pub record FirstValue (old new : Evaluator) (x : TExpr) (a : Mask) (t : Task) : Type 0 where
+  pub by : (w : ℕ) → rest new (store_seen new w) ≡ go (given (store_seen old w) (perhaps (program_of old.program.now) old.turns (store_seen old w) x a (state_seen old w))) (λ r. go (does old t r) (rest old))
 
 pub record Traps (old new : Evaluator) (t : Task) (trap : Trap) : Type 0 where
   pub by : (w : ℕ) → (w' : ℕ) × (does old t (store_seen old w) ≡ Trapped trap (state_seen new w'))

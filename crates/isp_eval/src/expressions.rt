@@ -218,6 +218,7 @@ impl<'a> Evaluator<'a> {
     }
 
     /// The right one of two operands.
+    #[tactic(auto, using(crate::proofs::Nodes::right_does))]
     pub fn right(
         &mut self,
         joining: Joining,
@@ -227,12 +228,9 @@ impl<'a> Evaluator<'a> {
         ensures ok { OnOk result (Does self.old self.new (Task.Right joining right.entry set)) }
         ensures err { IfErr result (λ e. e ≡ Stop.Memory) }
     {
-        self.later(Task::Join {
-            joining,
-            left: self.value,
-            set,
-        })?;
-        self.later(Task::Value(right, set))
+        let left = self.value;
+        self.both(Task::Value(right, set), Task::Join { joining, left, set })?;
+        Ok(())
     }
 
     /// The operator, both operands being found.

@@ -1,5 +1,7 @@
 //! The evaluator and its registers.
-ghost use Rattle.std.specs.Prelude.{◌≡◌, ◌++◌, ◌∷◌, [], IfErr, OnOk};
+ghost use Rattle.std.specs.Prelude.{◌≡◌, ◌++◌, ◌∷◌, [], ℕ, IfErr, OnOk, None, Some};
+ghost use Rattle.isp_base.specs.Traps.{trap};
+ghost use Rattle.isp_eval.specs.Tasks.{First};
 
 use crate::activation::Activation;
 use isp_gang::computed::Computed;
@@ -126,8 +128,25 @@ impl<'a> Evaluator<'a> {
     }
 }
 
+impl<'a> Evaluator<'a> {
+    /// Two more tasks, of which the first is done before the second.
+    #[tactic(auto, using(crate::proofs::Steps::two_first))]
+    pub fn both(&mut self, first: Task<'a>, second: Task<'a>) -> Result<(), Stop>
+        ensures ok { OnOk result (First self.old self.new first.entry second.entry) }
+        ensures rest { OnOk result (self.new ≡ record self.old { tasks = self.new.tasks }) }
+        ensures err { IfErr result (λ e. e ≡ Stop.Memory) }
+    {
+        self.later(second)?;
+        self.later(first)?;
+        Ok(())
+    }
+}
+
 /// A trap, if an instance caused it.
-pub fn checked(offender: Option<usize>, kind: TrapKind, place: Span) -> Result<(), Stop> {
+pub fn checked(offender: Option<usize>, kind: TrapKind, place: Span) -> Result<(), Stop>
+    ensures ok { OnOk result (offender ≡ None) }
+    ensures err { IfErr result (λ e. (p : ℕ) × (offender ≡ Some p) × (e ≡ Stop.Trapped (trap kind place p))) }
+{
     match offender {
         Some(instance) => Err(Stop::Trapped(Trap {
             kind,
