@@ -13,7 +13,28 @@ use Rattle.isp_eval.specs.declared.state.Evaluator.{Evaluator}
 use Rattle.isp_eval.specs.declared.tasks.Joining.{Joining}
 use Rattle.isp_eval.specs.declared.tasks.Task.{Task}
 use Rattle.isp_eval.specs.declared.tasks.Task.TheVariants as task
-use Rattle.isp_eval.proofs.Steps.{then_given}
+use Rattle.isp_eval.proofs.Steps.{then_given, then_given_in, later_store, later_rest}
+use Rattle.std.proofs.Common.{Option, Some, None, true, false}
+use Rattle.isp_base.specs.Access.{is_zero}
+use Rattle.isp_base.specs.Sets.{any}
+use Rattle.isp_base.specs.Traps.{trap}
+use Rattle.isp_base.specs.Types.{gang_width}
+use Rattle.isp_base.specs.Unary.{unary_bits}
+use Rattle.isp_base.specs.Values.{op_bits, compare_bits}
+use Rattle.isp_base.specs.declared.types.Elem.{Elem}
+use Rattle.isp_base.specs.declared.types.Span.{Span}
+use Rattle.isp_base.specs.declared.operators.BinOp.{BinOp}
+use Rattle.isp_base.specs.declared.operators.Compare.{Compare}
+use Rattle.isp_base.specs.declared.operators.UnaryOp.{UnaryOp}
+use Rattle.isp_base.specs.declared.trap.TrapKind.TheVariants.{Divide}
+use Rattle.isp_typed.specs.Typed.{TExpr}
+use Rattle.isp_typed.specs.declared.variable.Logic.{Logic}
+use Rattle.isp_meaning.specs.Expressions.{needs, settled}
+use Rattle.isp_meaning.specs.Outcomes.{checked, if_so}
+use Rattle.isp_meaning.specs.Payloads.{nothing, mapped, converted, joined, selected, offender, kept_by, is_true, is_false}
+use Rattle.isp_gang.specs.declared.computed.Computed.{Computed}
+use Rattle.isp_eval.specs.Tasks.{Traps, Trapped}
+use Rattle.isp_eval.specs.declared.tasks.Joining.TheVariants as joining
 
 module _ (old new : Evaluator) where
   pub right_does : (j : Joining) (y : Bor TypedExpr) (set : List Bool) → First old new (task.Value y set) (task.Join j old.value set) → Does old new (task.Right j y set)
@@ -22,3 +43,76 @@ module _ (old new : Evaluator) where
         by = λ w. (w, then_given (store_seen old w) (value_at (program_of old.program.now) old.turns (store_seen old w) (expr_of y.now) (flag_of set) (state_seen old w))
             (λ n s. join (gang_of (program_of old.program.now) old.turns) j (flag_of set) (payload_of old.value) n s) (rest old) ∙ sym (f.by w));
       }
+
+  -- ---- what is done with a value alone
+
+  valued : new ≡ record old { value = new.value } → (m : Payload) → payload_of new.value ≡ m → (w : ℕ) → go (given (store_seen old w) (Gives m (state_seen old w))) (rest old) ≡ rest new (store_seen new w)
+  valued same m e w =
+      ap (λ n. rest old (record (store_seen old w) { value = n })) (sym e)
+      ∙ sym (ap (λ (x : Evaluator). rest x (store_seen x w)) same)
+
+  pub convert_does : (from to : Elem) → new ≡ record old { value = new.value } → payload_of new.value ≡ mapped (converted from to) (payload_of old.value) → Does old new (task.Convert from to)
+  convert_does from to same e = record { by = λ w. (w, valued same _ e w) }
+
+  pub unary_does : (op : UnaryOp) (t : Elem) → new ≡ record old { value = new.value } → payload_of new.value ≡ mapped (unary_bits op t) (payload_of old.value) → Does old new (task.Unary op t)
+  unary_does op t same e = record { by = λ w. (w, valued same _ e w) }
+
+  pub settle_does : (l : Logic) (m : Computed) (set : List Bool) → new ≡ record old { value = new.value } → payload_of new.value ≡ settled l (flag_of set) (payload_of m) (payload_of old.value) → Does old new (task.Settle l m set)
+  settle_does l m set same e = record { by = λ w. (w, valued same _ e w) }
+
+  pub select_does : (k m : Computed) (set : List Bool) → new ≡ record old { value = new.value } → payload_of new.value ≡ selected (flag_of set) (payload_of k) (payload_of m) (payload_of old.value) → Does old new (task.Select k m set)
+  select_does k m set same e = record { by = λ w. (w, valued same _ e w) }
+
+  pub compare_does : (c : Compare) (t : Elem) (m : Computed) (set : List Bool) → new ≡ record old { value = new.value } → payload_of new.value ≡ joined (compare_bits c t) (flag_of set) (payload_of m) (payload_of old.value) → Does old new (task.Join (joining.Compare c t) m set)
+  compare_does c t m set same e = record { by = λ w. (w, valued same _ e w) }
+
+  pub operate_does : (op : BinOp) (t : Elem) (span : Span) (m : Computed) (set : List Bool) → offender (gang_width old.program.now.gang) (is_zero op t) (flag_of set) (payload_of old.value) ≡ None
+      → new ≡ record old { value = new.value } → payload_of new.value ≡ joined (op_bits op t) (flag_of set) (payload_of m) (payload_of old.value) → Does old new (task.Join (joining.Operate op t span) m set)
+  operate_does op t span m set none same e =
+      record { by = λ w. (w, ap (λ o. go (given (store_seen old w) (checked o Divide span (state_seen old w) (joined (op_bits op t) (flag_of set) (payload_of m) (payload_of old.value)))) (rest old)) none ∙ valued same _ e w) }
+
+  pub operate_traps : (op : BinOp) (t : Elem) (span : Span) (m : Computed) (set : List Bool) (p : ℕ) → offender (gang_width old.program.now.gang) (is_zero op t) (flag_of set) (payload_of old.value) ≡ Some p
+      → new ≡ old → Traps old new (task.Join (joining.Operate op t span) m set) (trap Divide span p)
+  operate_traps op t span m set p some same =
+      record { by = λ w. (w, ap (λ o. given (store_seen old w) (checked o Divide span (state_seen old w) (joined (op_bits op t) (flag_of set) (payload_of m) (payload_of old.value)))) some ∙ sym (ap (λ (x : Evaluator). Trapped (trap Divide span p) (state_seen x w)) same)) }
+
+  -- ---- a value over a set that may be empty
+
+  pub some_value : (x : Bor TypedExpr) (set : List Bool) (t : Task) → any (gang_width old.program.now.gang) (flag_of set) ≡ true → First old new (task.Value x set) t → FirstValue old new (expr_of x.now) (flag_of set) t
+  some_value x set t is f =
+      record {
+        by = λ w. f.by w ∙ sym (ap (λ b. go (given (store_seen old w) (if_so b (value_at (program_of old.program.now) old.turns (store_seen old w) (expr_of x.now) (flag_of set)) (Gives nothing) (state_seen old w))) (λ r. go (does old t r) (rest old))) is);
+      }
+
+  pub logic_does : (l : Logic) (y : Bor TypedExpr) (set needed : List Bool) → flag_of needed ≡ kept_by (needs l) (flag_of set) (payload_of old.value) → FirstValue old new (expr_of y.now) (flag_of needed) (task.Settle l old.value set) → Does old new (task.Logic l y set)
+  logic_does l y set needed e f =
+      record {
+        by = λ w. (w, then_given (store_seen old w) (perhaps (program_of old.program.now) old.turns (store_seen old w) (expr_of y.now) (kept_by (needs l) (flag_of set) (payload_of old.value)) (state_seen old w))
+            (λ n s. Gives (settled l (flag_of set) (payload_of old.value) n) s) (rest old)
+            ∙ sym (f.by w ∙ ap (λ a. go (given (store_seen old w) (perhaps (program_of old.program.now) old.turns (store_seen old w) (expr_of y.now) a (state_seen old w))) (λ r. go (does old (task.Settle l old.value set) r) (rest old))) e));
+      }
+
+  pub otherwise_does : (k : Computed) (y : Bor TypedExpr) (set others : List Bool) → flag_of others ≡ kept_by is_false (flag_of set) (payload_of k) → FirstValue old new (expr_of y.now) (flag_of others) (task.Select k old.value set) → Does old new (task.Otherwise k y set)
+  otherwise_does k y set others e f =
+      record {
+        by = λ w. (w, then_given (store_seen old w) (perhaps (program_of old.program.now) old.turns (store_seen old w) (expr_of y.now) (kept_by is_false (flag_of set) (payload_of k)) (state_seen old w))
+            (λ n s. Gives (selected (flag_of set) (payload_of k) (payload_of old.value) n) s) (rest old)
+            ∙ sym (f.by w ∙ ap (λ a. go (given (store_seen old w) (perhaps (program_of old.program.now) old.turns (store_seen old w) (expr_of y.now) a (state_seen old w))) (λ r. go (does old (task.Select k old.value set) r) (rest old))) e));
+      }
+
+  pub choose_does : (x y : Bor TypedExpr) (set chosen : List Bool) → flag_of chosen ≡ kept_by is_true (flag_of set) (payload_of old.value) → FirstValue old new (expr_of x.now) (flag_of chosen) (task.Otherwise old.value y set) → Does old new (task.Choose x y set)
+  choose_does x y set chosen e f =
+      record {
+        by = λ w. (w, then_given_in (store_seen old w) (perhaps (program_of old.program.now) old.turns (store_seen old w) (expr_of x.now) (kept_by is_true (flag_of set) (payload_of old.value)) (state_seen old w))
+            (λ fr l m s1. bind (perhaps (program_of old.program.now) old.turns (record { frame = fr; left = l; state = s1; value = m }) (expr_of y.now) (kept_by is_false (flag_of set) (payload_of old.value)) s1) (λ n s2. Gives (selected (flag_of set) (payload_of old.value) m n) s2)) (rest old)
+            ∙ sym (f.by w ∙ ap (λ a. go (given (store_seen old w) (perhaps (program_of old.program.now) old.turns (store_seen old w) (expr_of x.now) a (state_seen old w))) (λ r. go (does old (task.Otherwise old.value y set) r) (rest old))) e));
+      }
+
+pub no_value : (old mid new : Evaluator) (x : TExpr) (set : List Bool) (t : Task) → any (gang_width old.program.now.gang) (flag_of set) ≡ false → mid.tasks.items ≡ old.tasks.items ++ t ∷ [] → mid ≡ record old { tasks = mid.tasks }
+    → new ≡ record mid { value = new.value } → payload_of new.value ≡ nothing → FirstValue old new x (flag_of set) t
+no_value old mid new x set t isnt i s same e =
+    record {
+      by = λ w. sym (valued mid new same nothing e w)
+          ∙ ap₂ (λ (r : Store) (f : Store → Goes). go (given r (Gives nothing r.state)) f) (later_store old mid t (record { items = i; same = s }) w) (later_rest old mid t (record { items = i; same = s }))
+          ∙ sym (ap (λ b. go (given (store_seen old w) (if_so b (value_at (program_of old.program.now) old.turns (store_seen old w) x (flag_of set)) (Gives nothing) (state_seen old w))) (λ r. go (does old t r) (rest old))) isnt);
+    }

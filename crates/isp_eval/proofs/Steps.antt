@@ -3,7 +3,7 @@ use Rattle.std.proofs.Common.{◌≡◌, refl, sym, ap, ap₂, ◌∙◌, ℕ, L
 use Rattle.std.proofs.Math.Path.{fun_ext}
 use Rattle.isp_typed.specs.Typed.{Program}
 use Rattle.isp_typed.specs.Views.{program_of}
-use Rattle.isp_meaning.specs.State.{State}
+use Rattle.isp_meaning.specs.State.{State, Frame}
 use Rattle.isp_meaning.specs.Payloads.{Payload}
 use Rattle.isp_meaning.specs.Outcomes.{Val, Gives, Fails, Stops, bind}
 use Rattle.isp_eval.specs.Tasks.{Store, Goes, On, Trapped, Cut, go, given, act, finish, does, rest, First, FirstValue, Does, Traps, value_at, perhaps, join, store_seen}
@@ -66,3 +66,10 @@ pub then_given : (r : Store) (v : Val Payload) (f : Payload → State → Val Pa
 then_given r (Gives m s) f next = ap (λ g. go g next) (sym (regiven r m s (f m s)))
 then_given r (Fails t s) f next = refl
 then_given r (Stops s) f next = refl
+
+-- likewise, where what is done with it looks at the frame and the level
+pub then_given_in : (r : Store) (v : Val Payload) (f : Frame → ℕ → Payload → State → Val Payload) (next : Store → Goes)
+    → go (given r (bind v (f r.frame r.left))) next ≡ go (given r v) (λ q. go (given q (f q.frame q.left q.value q.state)) next)
+then_given_in r (Gives m s) f next = ap (λ g. go g next) (sym (regiven r m s (f r.frame r.left m s)))
+then_given_in r (Fails t s) f next = refl
+then_given_in r (Stops s) f next = refl

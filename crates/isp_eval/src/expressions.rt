@@ -1,6 +1,10 @@
 //! What expressions give. Each node that is reached counts before its parts; a conversion is no node.
 ghost use Rattle.std.specs.Prelude.{◌≡◌, IfErr, OnOk};
-ghost use Rattle.isp_eval.specs.Tasks.{Does, Traps};
+ghost use Rattle.isp_base.specs.Sets.{flag_of};
+ghost use Rattle.isp_base.specs.declared.trap.Trap.{Trap};
+ghost use Rattle.isp_typed.specs.Views.{expr_of};
+ghost use Rattle.isp_eval.specs.Tasks.{Does, FirstValue, Traps};
+ghost use Rattle.isp_eval.specs.declared.tasks.Joining.TheVariants as Joining;
 ghost use Rattle.isp_eval.specs.declared.state.Stop.TheVariants as Stop;
 ghost use Rattle.isp_eval.specs.declared.tasks.Task.TheVariants as Task;
 
@@ -12,7 +16,7 @@ use crate::places::Place;
 use isp_gang::sets::{Active, any};
 use crate::state::{Evaluator, Stop, checked};
 use crate::tasks::{Gathering, Joining, Packing, Task};
-use isp_base::{Elem, Span, TrapKind, low_bits};
+use isp_base::{BinOp, Compare, Elem, Span, TrapKind, UnaryOp, low_bits};
 use isp_typed::{ArrayVariable, Logic, TypedExpr, TypedPlace};
 
 impl<'a> Evaluator<'a> {
@@ -234,85 +238,151 @@ impl<'a> Evaluator<'a> {
     }
 
     /// The operator, both operands being found.
-    pub fn join(&mut self, joining: Joining, left: Computed, set: Active) -> Result<(), Stop> {
-        let right = self.value;
+    pub fn join(&mut self, joining: Joining, left: Computed, set: Active) -> Result<(), Stop>
+        ensures ok { OnOk result (Does self.old self.new (Task.Join joining left set)) }
+        ensures err { IfErr result (λ e. (t : Trap) × (e ≡ Stop.Trapped t) × Traps self.old self.new (Task.Join joining left set) t) }
+    {
         match joining {
             Joining::Operate {
                 operator,
                 elem,
                 span,
-            } => {
-                let offender = dividing_by_zero(self.gang(), operator, elem, &set, &right);
-                checked(offender, TrapKind::Divide, span)?;
-                self.value = binary(operator, elem, &set, &left, &right);
-            }
+            } => self.operate(operator, elem, span, left, set),
             Joining::Compare { comparison, elem } => {
-                self.value = compared(comparison, elem, &set, &left, &right);
+                self.compare(comparison, elem, left, set);
+                Ok(())
             }
         }
+    }
+
+    // An operator, both operands being found.
+    #[tactic(auto, using(crate::proofs::Nodes::operate_does, crate::proofs::Nodes::operate_traps))]
+    fn operate(
+        &mut self,
+        operator: BinOp,
+        elem: Elem,
+        span: Span,
+        left: Computed,
+        set: Active,
+    ) -> Result<(), Stop>
+        ensures ok { OnOk result (Does self.old self.new (Task.Join (Joining.Operate operator elem span) left set)) }
+        ensures err { IfErr result (λ e. (t : Trap) × (e ≡ Stop.Trapped t) × Traps self.old self.new (Task.Join (Joining.Operate operator elem span) left set) t) }
+    {
+        let offender = dividing_by_zero(self.gang(), operator, elem, &set, &self.value);
+        checked(offender, TrapKind::Divide, span)?;
+        self.value = binary(operator, elem, &set, &left, &self.value);
         Ok(())
     }
 
-    // An expression over a set that may be empty.
-    fn unless_empty(&mut self, x: &'a TypedExpr, set: Active) -> Result<(), Stop> {
+    // A comparison, both operands being found.
+    #[tactic(auto, using(crate::proofs::Nodes::compare_does))]
+    fn compare(&mut self, comparison: Compare, elem: Elem, left: Computed, set: Active)
+        ensures { Does self.old self.new (Task.Join (Joining.Compare comparison elem) left set) }
+    {
+        self.value = compared(comparison, elem, &set, &left, &self.value);
+    }
+
+    // An expression over a set that may be empty, and then a task.
+    #[tactic(auto, using(crate::proofs::Nodes::some_value, crate::proofs::Nodes::no_value))]
+    fn unless_empty(
+        &mut self,
+        x: &'a TypedExpr,
+        set: Active,
+        after: Task<'a>,
+    ) -> Result<(), Stop>
+        ensures ok { OnOk result (FirstValue self.old self.new (expr_of x.now) (flag_of set) after.entry) }
+        ensures err { IfErr result (λ e. e ≡ Stop.Memory) }
+    {
         if any(self.gang(), &set) {
-            self.later(Task::Value(x, set))
+            self.both(Task::Value(x, set), after)?;
         } else {
+            self.later(after)?;
             self.value = Computed::nothing();
-            Ok(())
         }
+        Ok(())
     }
 
     /// The right operand of `&&` or `||`, over the members that need it.
-    pub fn logic(
-        &mut self,
-        logic: Logic,
-        right: &'a TypedExpr,
-        set: Active,
-    ) -> Result<(), Stop> {
+    #[tactic(auto, using(crate::proofs::Nodes::logic_does))]
+    pub fn logic(&mut self, logic: Logic, right: &'a TypedExpr, set: Active) -> Result<(), Stop>
+        ensures ok { OnOk result (Does self.old self.new (Task.Logic logic right.entry set)) }
+        ensures err { IfErr result (λ e. e ≡ Stop.Memory) }
+    {
         let left = self.value;
-        self.later(Task::Settle { logic, left, set })?;
-        self.unless_empty(right, needing(logic, &set, &left))
-    }
-
-    /// `&&` or `||`, both operands being found.
-    pub fn settle(&mut self, logic: Logic, left: Computed, set: Active) -> Result<(), Stop> {
-        self.value = settled(logic, &set, &left, &self.value);
+        let needed = needing(logic, &set, &left);
+        self.unless_empty(right, needed, Task::Settle { logic, left, set })?;
         Ok(())
     }
 
+    /// `&&` or `||`, both operands being found.
+    #[tactic(auto, using(crate::proofs::Nodes::settle_does))]
+    pub fn settle(&mut self, logic: Logic, left: Computed, set: Active)
+        ensures { Does self.old self.new (Task.Settle logic left set) }
+    {
+        self.value = settled(logic, &set, &left, &self.value);
+    }
+
     /// The first value of `?:`, over the members whose test is true.
+    #[tactic(auto, using(crate::proofs::Nodes::choose_does))]
     pub fn choose(
         &mut self,
         then: &'a TypedExpr,
         otherwise: &'a TypedExpr,
         set: Active,
-    ) -> Result<(), Stop> {
+    ) -> Result<(), Stop>
+        ensures ok { OnOk result (Does self.old self.new (Task.Choose then.entry otherwise.entry set)) }
+        ensures err { IfErr result (λ e. e ≡ Stop.Memory) }
+    {
         let test = self.value;
-        self.later(Task::Otherwise {
+        let chosen = test.members(true, &set);
+        let after = Task::Otherwise {
             test,
             otherwise,
             set,
-        })?;
-        self.unless_empty(then, test.members(true, &set))
+        };
+        self.unless_empty(then, chosen, after)?;
+        Ok(())
     }
 
     /// The second value of `?:`, over the members whose test is false.
+    #[tactic(auto, using(crate::proofs::Nodes::otherwise_does))]
     pub fn otherwise(
         &mut self,
         test: Computed,
         otherwise: &'a TypedExpr,
         set: Active,
-    ) -> Result<(), Stop> {
+    ) -> Result<(), Stop>
+        ensures ok { OnOk result (Does self.old self.new (Task.Otherwise test otherwise.entry set)) }
+        ensures err { IfErr result (λ e. e ≡ Stop.Memory) }
+    {
         let then = self.value;
-        self.later(Task::Select { test, then, set })?;
-        self.unless_empty(otherwise, test.members(false, &set))
+        let others = test.members(false, &set);
+        self.unless_empty(otherwise, others, Task::Select { test, then, set })?;
+        Ok(())
     }
 
     /// `?:`, all being found.
-    pub fn select(&mut self, test: Computed, then: Computed, set: Active) -> Result<(), Stop> {
+    #[tactic(auto, using(crate::proofs::Nodes::select_does))]
+    pub fn select(&mut self, test: Computed, then: Computed, set: Active)
+        ensures { Does self.old self.new (Task.Select test then set) }
+    {
         self.value = selected(&set, &test, &then, &self.value);
-        Ok(())
+    }
+
+    /// The value converted to another element type.
+    #[tactic(auto, using(crate::proofs::Nodes::convert_does))]
+    pub fn convert(&mut self, from: Elem, to: Elem)
+        ensures { Does self.old self.new (Task.Convert from to) }
+    {
+        self.value = self.value.converted(from, to);
+    }
+
+    /// An operator on the value.
+    #[tactic(auto, using(crate::proofs::Nodes::unary_does))]
+    pub fn unary(&mut self, operator: UnaryOp, elem: Elem)
+        ensures { Does self.old self.new (Task.Unary operator elem) }
+    {
+        self.value = self.value.unary(operator, elem);
     }
 
     /// The rest of several values.

@@ -241,11 +241,11 @@ impl<'a> Evaluator<'a> {
                 set,
             } => self.load(array, elem, span, set),
             Task::Convert { from, to } => {
-                self.value = self.value.converted(from, to);
+                self.convert(from, to);
                 Ok(())
             }
             Task::Unary { operator, elem } => {
-                self.value = self.value.unary(operator, elem);
+                self.unary(operator, elem);
                 Ok(())
             }
             Task::Right {
@@ -255,7 +255,10 @@ impl<'a> Evaluator<'a> {
             } => self.right(joining, right, set),
             Task::Join { joining, left, set } => self.join(joining, left, set),
             Task::Logic { logic, right, set } => self.logic(logic, right, set),
-            Task::Settle { logic, left, set } => self.settle(logic, left, set),
+            Task::Settle { logic, left, set } => {
+                self.settle(logic, left, set);
+                Ok(())
+            }
             Task::Choose {
                 then,
                 otherwise,
@@ -266,7 +269,10 @@ impl<'a> Evaluator<'a> {
                 otherwise,
                 set,
             } => self.otherwise(test, otherwise, set),
-            Task::Select { test, then, set } => self.select(test, then, set),
+            Task::Select { test, then, set } => {
+                self.select(test, then, set);
+                Ok(())
+            }
             Task::Values {
                 gathering,
                 rest,
