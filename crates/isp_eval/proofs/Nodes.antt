@@ -13,7 +13,16 @@ use Rattle.isp_eval.specs.declared.state.Evaluator.{Evaluator}
 use Rattle.isp_eval.specs.declared.tasks.Joining.{Joining}
 use Rattle.isp_eval.specs.declared.tasks.Task.{Task}
 use Rattle.isp_eval.specs.declared.tasks.Task.TheVariants as task
-use Rattle.isp_eval.proofs.Steps.{then_given, then_given_in, later_store, later_rest}
+use Rattle.isp_eval.proofs.Steps.{regiven, then_given, then_given_in, later_store, later_rest}
+use Rattle.std.proofs.Common.{◌+◌}
+use Rattle.std.proofs.Math.Path.{fun_ext}
+use Rattle.isp_base.specs.declared.types.Ty.{Ty}
+use Rattle.isp_base.specs.declared.types.Rate.{Rate}
+use Rattle.isp_typed.specs.Typed.{t_unary, t_binary, t_compare, t_logic, t_choose, type_of}
+use Rattle.isp_meaning.specs.State.{Frame, tick}
+use Rattle.isp_meaning.specs.Expressions.{value}
+use Rattle.isp_meaning.specs.Calls.{calls_at}
+use Rattle.isp_meaning.specs.Outcomes.{value_unless_empty}
 use Rattle.std.proofs.Common.{Option, Some, None, true, false}
 use Rattle.isp_base.specs.Access.{is_zero}
 use Rattle.isp_base.specs.Sets.{any}
@@ -107,6 +116,56 @@ module _ (old new : Evaluator) where
             (λ fr l m s1. bind (perhaps (program_of old.program.now) old.turns (record { frame = fr; left = l; state = s1; value = m }) (expr_of y.now) (kept_by is_false (flag_of set) (payload_of old.value)) s1) (λ n s2. Gives (selected (flag_of set) (payload_of old.value) m n) s2)) (rest old)
             ∙ sym (f.by w ∙ ap (λ a. go (given (store_seen old w) (perhaps (program_of old.program.now) old.turns (store_seen old w) (expr_of x.now) a (state_seen old w))) (λ r. go (does old (task.Otherwise old.value y set) r) (rest old))) e));
       }
+
+-- ---- nodes: each counts, and its first operand comes first
+
+pub first_ticked : (old mid new : Evaluator) (u t : Task) → mid ≡ record old { work = mid.work } → First mid new u t → First old new u t
+first_ticked old mid new u t same f =
+    record { by = λ w. f.by w ∙ ap (λ (e : Evaluator). go (does e u (store_seen e w)) (λ r. go (does e t r) (rest e))) same }
+
+module _ (old new : Evaluator) (x y : Bor TypedExpr) (set : List Bool) where
+  node : (after : Task) (n : TExpr) (f : Frame → ℕ → Payload → State → Val Payload)
+      → ((q : Store) → does old after q ≡ given q (f q.frame q.left q.value q.state))
+      → ((r : Store) (s : State) → value_at (program_of old.program.now) old.turns r n (flag_of set) s ≡ bind (value_at (program_of old.program.now) old.turns r (expr_of y.now) (flag_of set) (tick s)) (f r.frame r.left))
+      → expr_of x.now ≡ n → First old new (task.Value y set) after → Does old new (task.Value x set)
+  node after n f later whole is first =
+      record {
+        by = λ w. (w + 1,
+            ap (λ m. go (given (store_seen old w) (value_at (program_of old.program.now) old.turns (store_seen old w) m (flag_of set) (state_seen old w))) (rest old)) is
+            ∙ ap (λ v. go (given (store_seen old w) v) (rest old)) (whole (store_seen old w) (state_seen old w))
+            ∙ ap (λ g. go g (rest old)) (sym (regiven (store_seen old w) (payload_of old.value) (state_seen old (w + 1)) (bind (value_at (program_of old.program.now) old.turns (store_seen old w) (expr_of y.now) (flag_of set) (state_seen old (w + 1))) (f (store_seen old w).frame (store_seen old w).left))))
+            ∙ then_given_in (store_seen old (w + 1)) (value_at (program_of old.program.now) old.turns (store_seen old w) (expr_of y.now) (flag_of set) (state_seen old (w + 1))) f (rest old)
+            ∙ ap (λ (h : Store → Goes). go (does old (task.Value y set) (store_seen old (w + 1))) (λ q. go (h q) (rest old))) (sym (fun_ext later))
+            ∙ sym (first.by (w + 1)));
+      }
+
+  pub unary_node : (op : UnaryOp) (t : Ty) (sp : Span) → expr_of x.now ≡ t_unary op (expr_of y.now) t sp → First old new (task.Value y set) (task.Unary op t.elem) → Does old new (task.Value x set)
+  unary_node op t sp is first =
+      node (task.Unary op t.elem) (t_unary op (expr_of y.now) t sp) (λ fr l m s. Gives (mapped (unary_bits op t.elem) m) s) (λ q. refl) (λ r s. refl) is first
+
+  pub binary_node : (op : BinOp) (z : Bor TypedExpr) (t : Ty) (sp : Span) → expr_of x.now ≡ t_binary op (expr_of y.now) (expr_of z.now) t sp → First old new (task.Value y set) (task.Right (joining.Operate op t.elem sp) z set) → Does old new (task.Value x set)
+  binary_node op z t sp is first =
+      node (task.Right (joining.Operate op t.elem sp) z set) (t_binary op (expr_of y.now) (expr_of z.now) t sp)
+        (λ fr l m s. bind (value (gang_width old.program.now.gang) fr (calls_at (program_of old.program.now) old.turns l) (expr_of z.now) (flag_of set) s) (λ n s2. join (gang_width old.program.now.gang) (joining.Operate op t.elem sp) (flag_of set) m n s2))
+        (λ q. refl) (λ r s. refl) is first
+
+  pub compare_node : (o : Compare) (z : Bor TypedExpr) (k : Rate) (sp : Span) → expr_of x.now ≡ t_compare o (expr_of y.now) (expr_of z.now) k sp → First old new (task.Value y set) (task.Right (joining.Compare o (type_of (expr_of y.now)).elem) z set) → Does old new (task.Value x set)
+  compare_node o z k sp is first =
+      node (task.Right (joining.Compare o (type_of (expr_of y.now)).elem) z set) (t_compare o (expr_of y.now) (expr_of z.now) k sp)
+        (λ fr l m s. bind (value (gang_width old.program.now.gang) fr (calls_at (program_of old.program.now) old.turns l) (expr_of z.now) (flag_of set) s) (λ n s2. join (gang_width old.program.now.gang) (joining.Compare o (type_of (expr_of y.now)).elem) (flag_of set) m n s2))
+        (λ q. refl) (λ r s. refl) is first
+
+  pub logic_node : (l : Logic) (z : Bor TypedExpr) (k : Rate) (sp : Span) → expr_of x.now ≡ t_logic l (expr_of y.now) (expr_of z.now) k sp → First old new (task.Value y set) (task.Logic l z set) → Does old new (task.Value x set)
+  logic_node l z k sp is first =
+      node (task.Logic l z set) (t_logic l (expr_of y.now) (expr_of z.now) k sp)
+        (λ fr d m s. bind (value_unless_empty (gang_width old.program.now.gang) (kept_by (needs l) (flag_of set) m) s (value (gang_width old.program.now.gang) fr (calls_at (program_of old.program.now) old.turns d) (expr_of z.now))) (λ n s2. Gives (settled l (flag_of set) m n) s2))
+        (λ q. refl) (λ r s. refl) is first
+
+  pub choose_node : (z u : Bor TypedExpr) (t : Ty) (sp : Span) → expr_of x.now ≡ t_choose (expr_of y.now) (expr_of z.now) (expr_of u.now) t sp → First old new (task.Value y set) (task.Choose z u set) → Does old new (task.Value x set)
+  choose_node z u t sp is first =
+      node (task.Choose z u set) (t_choose (expr_of y.now) (expr_of z.now) (expr_of u.now) t sp)
+        (λ fr d k s. bind (value_unless_empty (gang_width old.program.now.gang) (kept_by is_true (flag_of set) k) s (value (gang_width old.program.now.gang) fr (calls_at (program_of old.program.now) old.turns d) (expr_of z.now))) (λ m s1. bind (value_unless_empty (gang_width old.program.now.gang) (kept_by is_false (flag_of set) k) s1 (value (gang_width old.program.now.gang) fr (calls_at (program_of old.program.now) old.turns d) (expr_of u.now))) (λ n s2. Gives (selected (flag_of set) k m n) s2)))
+        (λ q. refl) (λ r s. refl) is first
 
 pub no_value : (old mid new : Evaluator) (x : TExpr) (set : List Bool) (t : Task) → any (gang_width old.program.now.gang) (flag_of set) ≡ false → mid.tasks.items ≡ old.tasks.items ++ t ∷ [] → mid ≡ record old { tasks = mid.tasks }
     → new ≡ record mid { value = new.value } → payload_of new.value ≡ nothing → FirstValue old new x (flag_of set) t

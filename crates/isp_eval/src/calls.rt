@@ -1,4 +1,5 @@
 //! Calls: what they begin with and what they leave.
+ghost use Rattle.std.specs.Prelude.{◌<◌};
 
 use crate::activation::Activation;
 use isp_gang::computed::Computed;

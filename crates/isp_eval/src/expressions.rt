@@ -3,7 +3,7 @@ ghost use Rattle.std.specs.Prelude.{◌≡◌, IfErr, OnOk};
 ghost use Rattle.isp_base.specs.Sets.{flag_of};
 ghost use Rattle.isp_base.specs.declared.trap.Trap.{Trap};
 ghost use Rattle.isp_typed.specs.Views.{expr_of};
-ghost use Rattle.isp_eval.specs.Tasks.{Does, FirstValue, Traps};
+ghost use Rattle.isp_eval.specs.Tasks.{Does, First, FirstValue, Traps};
 ghost use Rattle.isp_eval.specs.declared.tasks.Joining.TheVariants as Joining;
 ghost use Rattle.isp_eval.specs.declared.state.Stop.TheVariants as Stop;
 ghost use Rattle.isp_eval.specs.declared.tasks.Task.TheVariants as Task;
@@ -51,19 +51,22 @@ impl<'a> Evaluator<'a> {
                 ty,
                 ..
             } => {
-                self.tick();
-                self.later(Task::Unary {
+                let after = Task::Unary {
                     operator: *operator,
                     elem: ty.elem,
-                })?;
-                self.later(Task::Value(operand, set))
+                };
+                self.reach(operand, set, after)?;
+                Ok(())
             }
             x => self.value_of_several(x, set),
         }
     }
 
     // An expression with several operands.
-    fn value_of_several(&mut self, x: &'a TypedExpr, set: Active) -> Result<(), Stop> {
+    #[tactic(auto, using(crate::proofs::Nodes::binary_node, crate::proofs::Nodes::compare_node, crate::proofs::Nodes::logic_node, crate::proofs::Nodes::choose_node))]
+    fn value_of_several(&mut self, x: &'a TypedExpr, set: Active) -> Result<(), Stop>
+        ensures ok { OnOk result (Does self.old self.new (Task.Value x.entry set)) }
+    {
         match x {
             TypedExpr::Binary {
                 operator,
@@ -77,7 +80,13 @@ impl<'a> Evaluator<'a> {
                     elem: ty.elem,
                     span: *span,
                 };
-                self.left(joining, left, right, set)
+                let after = Task::Right {
+                    joining,
+                    right,
+                    set,
+                };
+                self.reach(left, set, after)?;
+                Ok(())
             }
             TypedExpr::Compare {
                 comparison,
@@ -89,7 +98,13 @@ impl<'a> Evaluator<'a> {
                     comparison: *comparison,
                     elem: left.ty().elem,
                 };
-                self.left(joining, left, right, set)
+                let after = Task::Right {
+                    joining,
+                    right,
+                    set,
+                };
+                self.reach(left, set, after)?;
+                Ok(())
             }
             TypedExpr::Logic {
                 logic,
@@ -97,13 +112,13 @@ impl<'a> Evaluator<'a> {
                 right,
                 ..
             } => {
-                self.tick();
-                self.later(Task::Logic {
+                let after = Task::Logic {
                     logic: *logic,
                     right,
                     set,
-                })?;
-                self.later(Task::Value(left, set))
+                };
+                self.reach(left, set, after)?;
+                Ok(())
             }
             TypedExpr::Choose {
                 test,
@@ -111,20 +126,22 @@ impl<'a> Evaluator<'a> {
                 otherwise,
                 ..
             } => {
-                self.tick();
-                self.later(Task::Choose {
+                let after = Task::Choose {
                     then,
                     otherwise,
                     set,
-                })?;
-                self.later(Task::Value(test, set))
+                };
+                self.reach(test, set, after)?;
+                Ok(())
             }
             x => self.value_of_call(x, set),
         }
     }
 
     // A call.
-    fn value_of_call(&mut self, x: &'a TypedExpr, set: Active) -> Result<(), Stop> {
+    fn value_of_call(&mut self, x: &'a TypedExpr, set: Active) -> Result<(), Stop>
+        ensures ok { OnOk result (Does self.old self.new (Task.Value x.entry set)) }
+    {
         match x {
             TypedExpr::Call { call, .. } => self.later(Task::Call(call, set)),
             TypedExpr::Library {
@@ -204,21 +221,15 @@ impl<'a> Evaluator<'a> {
         Ok(())
     }
 
-    // The left one of two operands.
-    fn left(
-        &mut self,
-        joining: Joining,
-        left: &'a TypedExpr,
-        right: &'a TypedExpr,
-        set: Active,
-    ) -> Result<(), Stop> {
+    // A node is reached: its first operand comes first, then a task.
+    #[tactic(auto, using(crate::proofs::Nodes::first_ticked))]
+    fn reach(&mut self, first: &'a TypedExpr, set: Active, after: Task<'a>) -> Result<(), Stop>
+        ensures ok { OnOk result (First self.old self.new (Task.Value first.entry set) after.entry) }
+        ensures err { IfErr result (λ e. e ≡ Stop.Memory) }
+    {
         self.tick();
-        self.later(Task::Right {
-            joining,
-            right,
-            set,
-        })?;
-        self.later(Task::Value(left, set))
+        self.both(Task::Value(first, set), after)?;
+        Ok(())
     }
 
     /// The right one of two operands.

@@ -1,4 +1,5 @@
 //! What the library's functions give, from the values of their arguments.
+ghost use Rattle.std.specs.Prelude.{◌<◌, ◌≤◌};
 
 use isp_gang::computed::{Computed, binary};
 use isp_gang::row::{Lanes, Row, on, or_zero};

@@ -1,4 +1,5 @@
 //! Packed calls: the members of a set and consecutive elements.
+ghost use Rattle.std.specs.Prelude.{◌<◌};
 
 use isp_gang::computed::Computed;
 use crate::stores::{element_at, put_element};
