@@ -14,7 +14,7 @@ use Rattle.isp_eval.specs.declared.tasks.Joining.{Joining}
 use Rattle.isp_eval.specs.declared.tasks.Task.{Task}
 use Rattle.isp_eval.specs.declared.tasks.Task.TheVariants as task
 use Rattle.isp_eval.proofs.Steps.{regiven, then_given, then_given_in, later_store, later_rest}
-use Rattle.std.proofs.Common.{◌+◌}
+use Rattle.std.proofs.Common.{◌+◌, subst}
 use Rattle.std.proofs.Math.Path.{fun_ext}
 use Rattle.isp_base.specs.declared.types.Ty.{Ty}
 use Rattle.isp_base.specs.declared.types.Rate.{Rate}
@@ -49,8 +49,11 @@ module _ (old new : Evaluator) where
   pub right_does : (j : Joining) (y : Bor TypedExpr) (set : List Bool) → First old new (task.Value y set) (task.Join j old.value set) → Does old new (task.Right j y set)
   right_does j y set f =
       record {
-        by = λ w. (w, then_given (store_seen old w) (value_at (program_of old.program.now) old.turns (store_seen old w) (expr_of y.now) (flag_of set) (state_seen old w))
-            (λ n s. join (gang_of (program_of old.program.now) old.turns) j (flag_of set) (payload_of old.value) n s) (rest old) ∙ sym (f.by w));
+        by = λ w. (
+          w,
+          then_given (store_seen old w) (value_at (program_of old.program.now) old.turns (store_seen old w) (expr_of y.now) (flag_of set) (state_seen old w))
+              (λ n s. join (gang_of (program_of old.program.now) old.turns) j (flag_of set) (payload_of old.value) n s) (rest old) ∙ sym (f.by w),
+        );
       }
 
   -- ---- what is done with a value alone
@@ -96,25 +99,34 @@ module _ (old new : Evaluator) where
   pub logic_does : (l : Logic) (y : Bor TypedExpr) (set needed : List Bool) → flag_of needed ≡ kept_by (needs l) (flag_of set) (payload_of old.value) → FirstValue old new (expr_of y.now) (flag_of needed) (task.Settle l old.value set) → Does old new (task.Logic l y set)
   logic_does l y set needed e f =
       record {
-        by = λ w. (w, then_given (store_seen old w) (perhaps (program_of old.program.now) old.turns (store_seen old w) (expr_of y.now) (kept_by (needs l) (flag_of set) (payload_of old.value)) (state_seen old w))
-            (λ n s. Gives (settled l (flag_of set) (payload_of old.value) n) s) (rest old)
-            ∙ sym (f.by w ∙ ap (λ a. go (given (store_seen old w) (perhaps (program_of old.program.now) old.turns (store_seen old w) (expr_of y.now) a (state_seen old w))) (λ r. go (does old (task.Settle l old.value set) r) (rest old))) e));
+        by = λ w. (
+          w,
+          then_given (store_seen old w) (perhaps (program_of old.program.now) old.turns (store_seen old w) (expr_of y.now) (kept_by (needs l) (flag_of set) (payload_of old.value)) (state_seen old w))
+              (λ n s. Gives (settled l (flag_of set) (payload_of old.value) n) s) (rest old)
+              ∙ sym (f.by w ∙ ap (λ a. go (given (store_seen old w) (perhaps (program_of old.program.now) old.turns (store_seen old w) (expr_of y.now) a (state_seen old w))) (λ r. go (does old (task.Settle l old.value set) r) (rest old))) e),
+        );
       }
 
   pub otherwise_does : (k : Computed) (y : Bor TypedExpr) (set others : List Bool) → flag_of others ≡ kept_by is_false (flag_of set) (payload_of k) → FirstValue old new (expr_of y.now) (flag_of others) (task.Select k old.value set) → Does old new (task.Otherwise k y set)
   otherwise_does k y set others e f =
       record {
-        by = λ w. (w, then_given (store_seen old w) (perhaps (program_of old.program.now) old.turns (store_seen old w) (expr_of y.now) (kept_by is_false (flag_of set) (payload_of k)) (state_seen old w))
-            (λ n s. Gives (selected (flag_of set) (payload_of k) (payload_of old.value) n) s) (rest old)
-            ∙ sym (f.by w ∙ ap (λ a. go (given (store_seen old w) (perhaps (program_of old.program.now) old.turns (store_seen old w) (expr_of y.now) a (state_seen old w))) (λ r. go (does old (task.Select k old.value set) r) (rest old))) e));
+        by = λ w. (
+          w,
+          then_given (store_seen old w) (perhaps (program_of old.program.now) old.turns (store_seen old w) (expr_of y.now) (kept_by is_false (flag_of set) (payload_of k)) (state_seen old w))
+              (λ n s. Gives (selected (flag_of set) (payload_of k) (payload_of old.value) n) s) (rest old)
+              ∙ sym (f.by w ∙ ap (λ a. go (given (store_seen old w) (perhaps (program_of old.program.now) old.turns (store_seen old w) (expr_of y.now) a (state_seen old w))) (λ r. go (does old (task.Select k old.value set) r) (rest old))) e),
+        );
       }
 
   pub choose_does : (x y : Bor TypedExpr) (set chosen : List Bool) → flag_of chosen ≡ kept_by is_true (flag_of set) (payload_of old.value) → FirstValue old new (expr_of x.now) (flag_of chosen) (task.Otherwise old.value y set) → Does old new (task.Choose x y set)
   choose_does x y set chosen e f =
       record {
-        by = λ w. (w, then_given_in (store_seen old w) (perhaps (program_of old.program.now) old.turns (store_seen old w) (expr_of x.now) (kept_by is_true (flag_of set) (payload_of old.value)) (state_seen old w))
-            (λ fr l m s1. bind (perhaps (program_of old.program.now) old.turns (record { frame = fr; left = l; state = s1; value = m }) (expr_of y.now) (kept_by is_false (flag_of set) (payload_of old.value)) s1) (λ n s2. Gives (selected (flag_of set) (payload_of old.value) m n) s2)) (rest old)
-            ∙ sym (f.by w ∙ ap (λ a. go (given (store_seen old w) (perhaps (program_of old.program.now) old.turns (store_seen old w) (expr_of x.now) a (state_seen old w))) (λ r. go (does old (task.Otherwise old.value y set) r) (rest old))) e));
+        by = λ w. (
+          w,
+          then_given_in (store_seen old w) (perhaps (program_of old.program.now) old.turns (store_seen old w) (expr_of x.now) (kept_by is_true (flag_of set) (payload_of old.value)) (state_seen old w))
+              (λ fr l m s1. bind (perhaps (program_of old.program.now) old.turns (record { frame = fr; left = l; state = s1; value = m }) (expr_of y.now) (kept_by is_false (flag_of set) (payload_of old.value)) s1) (λ n s2. Gives (selected (flag_of set) (payload_of old.value) m n) s2)) (rest old)
+              ∙ sym (f.by w ∙ ap (λ a. go (given (store_seen old w) (perhaps (program_of old.program.now) old.turns (store_seen old w) (expr_of x.now) a (state_seen old w))) (λ r. go (does old (task.Otherwise old.value y set) r) (rest old))) e),
+        );
       }
 
 -- ---- nodes: each counts, and its first operand comes first
@@ -130,13 +142,15 @@ module _ (old new : Evaluator) (x y : Bor TypedExpr) (set : List Bool) where
       → expr_of x.now ≡ n → First old new (task.Value y set) after → Does old new (task.Value x set)
   node after n f later whole is first =
       record {
-        by = λ w. (w + 1,
-            ap (λ m. go (given (store_seen old w) (value_at (program_of old.program.now) old.turns (store_seen old w) m (flag_of set) (state_seen old w))) (rest old)) is
-            ∙ ap (λ v. go (given (store_seen old w) v) (rest old)) (whole (store_seen old w) (state_seen old w))
-            ∙ ap (λ g. go g (rest old)) (sym (regiven (store_seen old w) (payload_of old.value) (state_seen old (w + 1)) (bind (value_at (program_of old.program.now) old.turns (store_seen old w) (expr_of y.now) (flag_of set) (state_seen old (w + 1))) (f (store_seen old w).frame (store_seen old w).left))))
-            ∙ then_given_in (store_seen old (w + 1)) (value_at (program_of old.program.now) old.turns (store_seen old w) (expr_of y.now) (flag_of set) (state_seen old (w + 1))) f (rest old)
-            ∙ ap (λ (h : Store → Goes). go (does old (task.Value y set) (store_seen old (w + 1))) (λ q. go (h q) (rest old))) (sym (fun_ext later))
-            ∙ sym (first.by (w + 1)));
+        by = λ w. (
+          w + 1,
+          ap (λ m. go (given (store_seen old w) (value_at (program_of old.program.now) old.turns (store_seen old w) m (flag_of set) (state_seen old w))) (rest old)) is
+              ∙ ap (λ v. go (given (store_seen old w) v) (rest old)) (whole (store_seen old w) (state_seen old w))
+              ∙ ap (λ g. go g (rest old)) (sym (regiven (store_seen old w) (payload_of old.value) (state_seen old (w + 1)) (bind (value_at (program_of old.program.now) old.turns (store_seen old w) (expr_of y.now) (flag_of set) (state_seen old (w + 1))) (f (store_seen old w).frame (store_seen old w).left))))
+              ∙ then_given_in (store_seen old (w + 1)) (value_at (program_of old.program.now) old.turns (store_seen old w) (expr_of y.now) (flag_of set) (state_seen old (w + 1))) f (rest old)
+              ∙ ap (λ (h : Store → Goes). go (does old (task.Value y set) (store_seen old (w + 1))) (λ q. go (h q) (rest old))) (sym (fun_ext later))
+              ∙ sym (first.by (w + 1)),
+        );
       }
 
   pub unary_node : (op : UnaryOp) (t : Ty) (sp : Span) → expr_of x.now ≡ t_unary op (expr_of y.now) t sp → First old new (task.Value y set) (task.Unary op t.elem) → Does old new (task.Value x set)
@@ -146,26 +160,26 @@ module _ (old new : Evaluator) (x y : Bor TypedExpr) (set : List Bool) where
   pub binary_node : (op : BinOp) (z : Bor TypedExpr) (t : Ty) (sp : Span) → expr_of x.now ≡ t_binary op (expr_of y.now) (expr_of z.now) t sp → First old new (task.Value y set) (task.Right (joining.Operate op t.elem sp) z set) → Does old new (task.Value x set)
   binary_node op z t sp is first =
       node (task.Right (joining.Operate op t.elem sp) z set) (t_binary op (expr_of y.now) (expr_of z.now) t sp)
-        (λ fr l m s. bind (value (gang_width old.program.now.gang) fr (calls_at (program_of old.program.now) old.turns l) (expr_of z.now) (flag_of set) s) (λ n s2. join (gang_width old.program.now.gang) (joining.Operate op t.elem sp) (flag_of set) m n s2))
-        (λ q. refl) (λ r s. refl) is first
+      (λ fr l m s. bind (value (gang_width old.program.now.gang) fr (calls_at (program_of old.program.now) old.turns l) (expr_of z.now) (flag_of set) s) (λ n s2. join (gang_width old.program.now.gang) (joining.Operate op t.elem sp) (flag_of set) m n s2))
+      (λ q. refl) (λ r s. refl) is first
 
-  pub compare_node : (o : Compare) (z : Bor TypedExpr) (k : Rate) (sp : Span) → expr_of x.now ≡ t_compare o (expr_of y.now) (expr_of z.now) k sp → First old new (task.Value y set) (task.Right (joining.Compare o (type_of (expr_of y.now)).elem) z set) → Does old new (task.Value x set)
-  compare_node o z k sp is first =
+  pub compare_node : (o : Compare) (e : Elem) (z : Bor TypedExpr) (k : Rate) (sp : Span) → e ≡ (type_of (expr_of y.now)).elem → expr_of x.now ≡ t_compare o (expr_of y.now) (expr_of z.now) k sp → First old new (task.Value y set) (task.Right (joining.Compare o e) z set) → Does old new (task.Value x set)
+  compare_node o e z k sp typed is first =
       node (task.Right (joining.Compare o (type_of (expr_of y.now)).elem) z set) (t_compare o (expr_of y.now) (expr_of z.now) k sp)
-        (λ fr l m s. bind (value (gang_width old.program.now.gang) fr (calls_at (program_of old.program.now) old.turns l) (expr_of z.now) (flag_of set) s) (λ n s2. join (gang_width old.program.now.gang) (joining.Compare o (type_of (expr_of y.now)).elem) (flag_of set) m n s2))
-        (λ q. refl) (λ r s. refl) is first
+      (λ fr l m s. bind (value (gang_width old.program.now.gang) fr (calls_at (program_of old.program.now) old.turns l) (expr_of z.now) (flag_of set) s) (λ n s2. join (gang_width old.program.now.gang) (joining.Compare o (type_of (expr_of y.now)).elem) (flag_of set) m n s2))
+      (λ q. refl) (λ r s. refl) is (subst (λ t. First old new (task.Value y set) (task.Right (joining.Compare o t) z set)) typed first)
 
   pub logic_node : (l : Logic) (z : Bor TypedExpr) (k : Rate) (sp : Span) → expr_of x.now ≡ t_logic l (expr_of y.now) (expr_of z.now) k sp → First old new (task.Value y set) (task.Logic l z set) → Does old new (task.Value x set)
   logic_node l z k sp is first =
       node (task.Logic l z set) (t_logic l (expr_of y.now) (expr_of z.now) k sp)
-        (λ fr d m s. bind (value_unless_empty (gang_width old.program.now.gang) (kept_by (needs l) (flag_of set) m) s (value (gang_width old.program.now.gang) fr (calls_at (program_of old.program.now) old.turns d) (expr_of z.now))) (λ n s2. Gives (settled l (flag_of set) m n) s2))
-        (λ q. refl) (λ r s. refl) is first
+      (λ fr d m s. bind (value_unless_empty (gang_width old.program.now.gang) (kept_by (needs l) (flag_of set) m) s (value (gang_width old.program.now.gang) fr (calls_at (program_of old.program.now) old.turns d) (expr_of z.now))) (λ n s2. Gives (settled l (flag_of set) m n) s2))
+      (λ q. refl) (λ r s. refl) is first
 
   pub choose_node : (z u : Bor TypedExpr) (t : Ty) (sp : Span) → expr_of x.now ≡ t_choose (expr_of y.now) (expr_of z.now) (expr_of u.now) t sp → First old new (task.Value y set) (task.Choose z u set) → Does old new (task.Value x set)
   choose_node z u t sp is first =
       node (task.Choose z u set) (t_choose (expr_of y.now) (expr_of z.now) (expr_of u.now) t sp)
-        (λ fr d k s. bind (value_unless_empty (gang_width old.program.now.gang) (kept_by is_true (flag_of set) k) s (value (gang_width old.program.now.gang) fr (calls_at (program_of old.program.now) old.turns d) (expr_of z.now))) (λ m s1. bind (value_unless_empty (gang_width old.program.now.gang) (kept_by is_false (flag_of set) k) s1 (value (gang_width old.program.now.gang) fr (calls_at (program_of old.program.now) old.turns d) (expr_of u.now))) (λ n s2. Gives (selected (flag_of set) k m n) s2)))
-        (λ q. refl) (λ r s. refl) is first
+      (λ fr d k s. bind (value_unless_empty (gang_width old.program.now.gang) (kept_by is_true (flag_of set) k) s (value (gang_width old.program.now.gang) fr (calls_at (program_of old.program.now) old.turns d) (expr_of z.now))) (λ m s1. bind (value_unless_empty (gang_width old.program.now.gang) (kept_by is_false (flag_of set) k) s1 (value (gang_width old.program.now.gang) fr (calls_at (program_of old.program.now) old.turns d) (expr_of u.now))) (λ n s2. Gives (selected (flag_of set) k m n) s2)))
+      (λ q. refl) (λ r s. refl) is first
 
 pub no_value : (old mid new : Evaluator) (x : TExpr) (set : List Bool) (t : Task) → any (gang_width old.program.now.gang) (flag_of set) ≡ false → mid.tasks.items ≡ old.tasks.items ++ t ∷ [] → mid ≡ record old { tasks = mid.tasks }
     → new ≡ record mid { value = new.value } → payload_of new.value ≡ nothing → FirstValue old new x (flag_of set) t

@@ -1,7 +1,7 @@
 //! The running call: what its variables are, and what stays during it.
 
-use isp_gang::row::Lanes;
 use isp_base::{Rate, Ty};
+use isp_gang::row::Lanes;
 use isp_typed::{ArrayVariable, Holds, TypedFunction};
 
 /// A call: its function (none where the run begins), the store that each of its array variables is, how

@@ -2,12 +2,12 @@
 ghost use Rattle.std.specs.Prelude.{◌<◌};
 
 use crate::activation::Activation;
-use isp_gang::computed::Computed;
-use isp_gang::row::{Lanes, on, over};
-use isp_gang::sets::{Active, WIDEST, lowest};
 use crate::state::{Evaluator, Stop};
 use crate::tasks::{Passed, Task};
 use isp_base::{Rate, Span, Trap, TrapKind, Ty};
+use isp_gang::computed::Computed;
+use isp_gang::row::{Lanes, on, over};
+use isp_gang::sets::{Active, WIDEST, lowest};
 use isp_typed::{Holds, TypedArgument, TypedCall, TypedFunction, Variable};
 use std::alloc::{AllocError, Global};
 use std::mem;

@@ -1,14 +1,14 @@
 //! The run of an entry.
 
 use crate::activation::Activation;
-use isp_gang::computed::Computed;
 use crate::fault::EvalFault;
-use crate::stores::element_at;
 use crate::outcome::Outcome;
-use isp_gang::sets::{WIDEST, everyone, nobody};
 use crate::state::{Evaluator, Sets, Stop};
+use crate::stores::element_at;
 use crate::tasks::Passed;
 use isp_base::{Argument, Array, Bound, Elem, Value, low_bits};
+use isp_gang::computed::Computed;
+use isp_gang::sets::{WIDEST, everyone, nobody};
 use isp_rates::Checked;
 use isp_typed::{Program, TypedFunction};
 use std::alloc::{AllocError, Global};

@@ -8,15 +8,15 @@ ghost use Rattle.isp_eval.specs.declared.tasks.Joining.TheVariants as Joining;
 ghost use Rattle.isp_eval.specs.declared.state.Stop.TheVariants as Stop;
 ghost use Rattle.isp_eval.specs.declared.tasks.Task.TheVariants as Task;
 
-use isp_gang::computed::{
-    Computed, binary, compared, dividing_by_zero, needing, numbers, selected, settled,
-};
 use crate::library::called;
 use crate::places::Place;
-use isp_gang::sets::{Active, any};
 use crate::state::{Evaluator, Stop, checked};
 use crate::tasks::{Gathering, Joining, Packing, Task};
 use isp_base::{BinOp, Compare, Elem, Span, TrapKind, UnaryOp, low_bits};
+use isp_gang::computed::{
+    Computed, binary, compared, dividing_by_zero, needing, numbers, selected, settled,
+};
+use isp_gang::sets::{Active, any};
 use isp_typed::{ArrayVariable, Logic, TypedExpr, TypedPlace};
 
 impl<'a> Evaluator<'a> {
@@ -63,7 +63,6 @@ impl<'a> Evaluator<'a> {
     }
 
     // An expression with several operands.
-    #[tactic(auto, using(crate::proofs::Nodes::binary_node, crate::proofs::Nodes::compare_node, crate::proofs::Nodes::logic_node, crate::proofs::Nodes::choose_node))]
     fn value_of_several(&mut self, x: &'a TypedExpr, set: Active) -> Result<(), Stop>
         ensures ok { OnOk result (Does self.old self.new (Task.Value x.entry set)) }
     {
@@ -234,12 +233,7 @@ impl<'a> Evaluator<'a> {
 
     /// The right one of two operands.
     #[tactic(auto, using(crate::proofs::Nodes::right_does))]
-    pub fn right(
-        &mut self,
-        joining: Joining,
-        right: &'a TypedExpr,
-        set: Active,
-    ) -> Result<(), Stop>
+    pub fn right(&mut self, joining: Joining, right: &'a TypedExpr, set: Active) -> Result<(), Stop>
         ensures ok { OnOk result (Does self.old self.new (Task.Right joining right.entry set)) }
         ensures err { IfErr result (λ e. e ≡ Stop.Memory) }
     {
@@ -295,12 +289,7 @@ impl<'a> Evaluator<'a> {
 
     // An expression over a set that may be empty, and then a task.
     #[tactic(auto, using(crate::proofs::Nodes::some_value, crate::proofs::Nodes::no_value))]
-    fn unless_empty(
-        &mut self,
-        x: &'a TypedExpr,
-        set: Active,
-        after: Task<'a>,
-    ) -> Result<(), Stop>
+    fn unless_empty(&mut self, x: &'a TypedExpr, set: Active, after: Task<'a>) -> Result<(), Stop>
         ensures ok { OnOk result (FirstValue self.old self.new (expr_of x.now) (flag_of set) after.entry) }
         ensures err { IfErr result (λ e. e ≡ Stop.Memory) }
     {
@@ -442,7 +431,10 @@ impl<'a> Evaluator<'a> {
                 self.value = called(self.gang(), function, elem, &set, values);
                 Ok(())
             }
-            Gathering::Print { text, values: shown } => self.print(text, shown, values, set),
+            Gathering::Print {
+                text,
+                values: shown,
+            } => self.print(text, shown, values, set),
         }
     }
 }

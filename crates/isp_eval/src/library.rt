@@ -1,10 +1,10 @@
 //! What the library's functions give, from the values of their arguments.
 ghost use Rattle.std.specs.Prelude.{◌<◌, ◌≤◌};
 
+use isp_base::{BinOp, Elem, Gang, UnaryOp, apply, low_mask, number, wrap};
 use isp_gang::computed::{Computed, binary};
 use isp_gang::row::{Lanes, Row, on, or_zero};
 use isp_gang::sets::{Active, WIDEST};
-use isp_base::{BinOp, Elem, Gang, UnaryOp, apply, low_mask, number, wrap};
 use isp_typed::{Library, widened};
 
 /// A call in an element type over a set.
@@ -253,13 +253,7 @@ fn inserted(place: usize, row: &Row, bits: u64) -> Lanes {
 // One of two values by a test, in each instance.
 fn chosen(set: &Active, test: &Computed, x: &Computed, y: &Computed) -> Computed {
     match test {
-        Computed::One(bits) => {
-            if *bits != 0 {
-                *x
-            } else {
-                *y
-            }
-        }
+        Computed::One(bits) => { if *bits != 0 { *x } else { *y } }
         Computed::Each(tests) => Computed::Each(chosen_row(tests, &x.spread(set), &y.spread(set))),
     }
 }

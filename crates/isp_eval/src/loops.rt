@@ -1,9 +1,9 @@
 //! Loops whose body runs while a test keeps some.
 
-use isp_gang::computed::Computed;
-use isp_gang::sets::{Active, any, nobody, union, without};
 use crate::state::{Evaluator, Exits, Sets, Stop};
 use crate::tasks::Task;
+use isp_gang::computed::Computed;
+use isp_gang::sets::{Active, any, nobody, union, without};
 use isp_typed::{TypedExpr, TypedSimple, TypedStmt};
 use std::alloc::{AllocError, Global};
 

@@ -1,17 +1,23 @@
 //! Packed calls: the members of a set and consecutive elements.
 ghost use Rattle.std.specs.Prelude.{◌<◌};
 
-use isp_gang::computed::Computed;
-use crate::stores::{element_at, put_element};
-use isp_gang::row::{Row, nothing};
-use isp_gang::sets::{Active, WIDEST, lowest, nobody, rank};
 use crate::state::{Evaluator, Stop, checked};
+use crate::stores::{element_at, put_element};
 use crate::tasks::{Packing, Task};
 use isp_base::{Elem, Rate, Span, TrapKind, number};
+use isp_gang::computed::Computed;
+use isp_gang::row::{Row, nothing};
+use isp_gang::sets::{Active, WIDEST, lowest, nobody, rank};
 use isp_typed::{ArrayVariable, TypedBase};
 
 // The number of the element of a member, if it is one of an array of so many.
-fn packed_index(elem: Elem, first: u64, count: usize, set: &Active, instance: usize) -> Option<usize>
+fn packed_index(
+    elem: Elem,
+    first: u64,
+    count: usize,
+    set: &Active,
+    instance: usize,
+) -> Option<usize>
     requires { instance < 16 }
 {
     let index = number(elem, first) + rank(set, instance) as i128;
@@ -33,8 +39,7 @@ fn outside(
     let count = evaluator.here.extent(array);
     let mut out = nobody();
     for instance in 0..WIDEST {
-        out[instance] = set[instance]
-            && packed_index(elem, first, count, set, instance).is_none();
+        out[instance] = set[instance] && packed_index(elem, first, count, set, instance).is_none();
     }
     lowest(evaluator.gang(), &out)
 }
@@ -90,7 +95,11 @@ impl<'a> Evaluator<'a> {
             }
             Packing::Load(variable) => {
                 self.tick();
-                checked(outside(self, elem, first, array, &set), TrapKind::Index, span)?;
+                checked(
+                    outside(self, elem, first, array, &set),
+                    TrapKind::Index,
+                    span,
+                )?;
                 let row = self.packed_held(elem, first, array, &set);
                 self.write(variable, Rate::Varying, &set, &Computed::Each(row))?;
                 self.value = self.count(&set);
@@ -128,7 +137,11 @@ impl<'a> Evaluator<'a> {
         span: Span,
         set: Active,
     ) -> Result<(), Stop> {
-        checked(outside(self, elem, first, array, &set), TrapKind::Index, span)?;
+        checked(
+            outside(self, elem, first, array, &set),
+            TrapKind::Index,
+            span,
+        )?;
         let row = self.value.spread(&set);
         let store = self.here.store(array.number);
         let count = self.here.extent(array);

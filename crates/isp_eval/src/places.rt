@@ -1,12 +1,12 @@
 //! The places that assignments write: what is held there, and what is kept there.
 
-use isp_gang::computed::Computed;
+use crate::state::{Evaluator, Stop};
 use crate::stores::{clear, element_at, own_at, put_element, put_own};
+use isp_base::{BinOp, Elem, Rate, Span, Ty, number};
+use isp_gang::computed::Computed;
 use isp_gang::growing::{self, lanes_at, put, put_lanes};
 use isp_gang::row::{Lanes, Row, nothing, on, over};
 use isp_gang::sets::{Active, WIDEST, lowest, nobody};
-use crate::state::{Evaluator, Stop};
-use isp_base::{BinOp, Elem, Rate, Span, Ty, number};
 use isp_typed::{ArrayVariable, TypedExpr};
 
 /// A variable, or the element of an array at an index, whose type is said.

@@ -1,10 +1,10 @@
 //! What a `print` writes.
 
+use crate::state::{Evaluator, Sets, Stop};
+use isp_base::{Elem, Gang, Rate, number};
 use isp_gang::computed::Computed;
 use isp_gang::row::Row;
 use isp_gang::sets::Active;
-use crate::state::{Evaluator, Sets, Stop};
-use isp_base::{Elem, Gang, Rate, number};
 use isp_typed::TypedExpr;
 use std::alloc::{AllocError, Global};
 

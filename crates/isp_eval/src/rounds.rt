@@ -1,11 +1,11 @@
 //! Bodies that run over each of a list of sets: `foreach` and `foreach_active`.
 
-use isp_gang::computed::Computed;
-use isp_gang::row::{Row, nothing};
-use isp_gang::sets::{Active, WIDEST, alone, nobody};
 use crate::state::{Evaluator, Sets, Stop};
 use crate::tasks::Task;
 use isp_base::{Elem, Gang, Rate, number, wrap};
+use isp_gang::computed::Computed;
+use isp_gang::row::{Row, nothing};
+use isp_gang::sets::{Active, WIDEST, alone, nobody};
 use isp_typed::{TypedRange, TypedStmt};
 
 /// An index, and the whole numbers from the start to below the end, of which `next` comes next.
@@ -75,7 +75,9 @@ impl<'a> Evaluator<'a> {
                     set,
                     ..
                 } = Box::into_inner(bounds);
-                self.work = self.work.saturating_add(counted(self.gang(), ranges.as_slice()));
+                self.work = self
+                    .work
+                    .saturating_add(counted(self.gang(), ranges.as_slice()));
                 let rounds = Rounds { ranges, body, set };
                 self.rounds(Box::new(self.alloc, rounds)?)
             }

@@ -1,11 +1,11 @@
 //! Statements after which all of the set go on: values, calls, assignments and declarations.
 
-use isp_gang::computed::{Computed, binary, dividing_by_zero};
 use crate::places::{Place, Writing};
-use isp_gang::sets::Active;
 use crate::state::{Evaluator, Stop, checked};
 use crate::tasks::Task;
 use isp_base::{BinOp, Elem, Span, TrapKind, Ty};
+use isp_gang::computed::{Computed, binary, dividing_by_zero};
+use isp_gang::sets::Active;
 use isp_typed::{ArrayVariable, TypedItem, TypedPlace, TypedSimple};
 
 impl<'a> Evaluator<'a> {

@@ -4,10 +4,10 @@ ghost use Rattle.isp_base.specs.Traps.{trap};
 ghost use Rattle.isp_eval.specs.Tasks.{First};
 
 use crate::activation::Activation;
-use isp_gang::computed::Computed;
-use isp_gang::sets::{Active, nobody};
 use crate::tasks::Task;
 use isp_base::{Gang, Span, Trap, TrapKind};
+use isp_gang::computed::Computed;
+use isp_gang::sets::{Active, nobody};
 use isp_typed::Program;
 use std::alloc::{AllocError, AllocFailed, Global};
 

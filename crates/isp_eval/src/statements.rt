@@ -1,13 +1,13 @@
 //! What statements do.
 
-use isp_gang::computed::{Computed, lowest_false};
 use crate::loops::{Looping, Turning};
 use crate::rounds::Members;
-use isp_gang::row::{over, where_is};
-use isp_gang::sets::{Active, any, everyone, nobody, union, without};
 use crate::state::{Evaluator, Exits, Sets, Stop, checked};
 use crate::tasks::{Branches, Gathering, Statements, Task};
 use isp_base::{Rate, Span, TrapKind};
+use isp_gang::computed::{Computed, lowest_false};
+use isp_gang::row::{over, where_is};
+use isp_gang::sets::{Active, any, everyone, nobody, union, without};
 use isp_tree::Jump;
 use isp_typed::{TypedBlock, TypedExpr, TypedFirst, TypedStmt};
 
@@ -31,17 +31,13 @@ impl<'a> Evaluator<'a> {
                 self.later(Task::Went(set))?;
                 self.later(Task::Simple(simple, set))
             }
-            TypedStmt::If { test, then, .. } => {
-                self.choice(test, then, None, set)
-            }
+            TypedStmt::If { test, then, .. } => { self.choice(test, then, None, set) }
             TypedStmt::IfElse {
                 test,
                 then,
                 otherwise,
                 ..
-            } => {
-                self.choice(test, then, Some(otherwise), set)
-            }
+            } => { self.choice(test, then, Some(otherwise), set) }
             statement => self.run_loop(statement, set),
         }
     }
@@ -170,7 +166,9 @@ impl<'a> Evaluator<'a> {
                 self.values(gathering, values, done, set)
             }
             TypedStmt::Assert {
-                test, call_span, ..
+                test,
+                call_span,
+                ..
             } => {
                 self.later(Task::Assert {
                     span: *call_span,
@@ -193,11 +191,7 @@ impl<'a> Evaluator<'a> {
     }
 
     // One statement after the other, where some left by those before.
-    fn statements(
-        &mut self,
-        mut statements: Box<Statements<'a>>,
-        set: Active,
-    ) -> Result<(), Stop> {
+    fn statements(&mut self, mut statements: Box<Statements<'a>>, set: Active) -> Result<(), Stop> {
         match statements.rest {
             [] => {
                 self.sets = Sets {

@@ -1,16 +1,16 @@
 //! What is left to do.
 
 use crate::activation::Activation;
-use isp_gang::computed::Computed;
+use crate::loops::Turning;
 use crate::places::{Place, Writing};
 use crate::rounds::{Bounds, Members, Rounds};
 use crate::state::{Evaluator, Exits, Sets, Stop};
-use crate::loops::Turning;
-use isp_gang::sets::Active;
 use isp_base::{BinOp, Compare, Elem, Span, Ty, UnaryOp};
+use isp_gang::computed::Computed;
+use isp_gang::sets::Active;
 use isp_typed::{
-    ArrayVariable, Library, Logic, TypedArgument, TypedCall, TypedExpr, TypedItem,
-    TypedPlace, TypedSimple, TypedStmt,
+    ArrayVariable, Library, Logic, TypedArgument, TypedCall, TypedExpr, TypedItem, TypedPlace,
+    TypedSimple, TypedStmt,
 };
 
 /// An operator on two values.
@@ -30,8 +30,14 @@ pub enum Joining {
 /// What is done with several values.
 #[derive(Clone, Copy)]
 pub enum Gathering<'a> {
-    Library { function: Library, elem: Elem },
-    Print { text: &'a [u8], values: &'a [TypedExpr] },
+    Library {
+        function: Library,
+        elem: Elem,
+    },
+    Print {
+        text: &'a [u8],
+        values: &'a [TypedExpr],
+    },
 }
 
 /// What is handed to a call.

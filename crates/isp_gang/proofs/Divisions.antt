@@ -1,5 +1,5 @@
 -- What whole numbers have where a divisor is 0.
-use Rattle.std.proofs.Common.{◌≡◌, refl, sym, ap, ◌∙◌, ℕ, zero, suc, ◌%◌, ◌^◌, Bool, true, false, arith, ℤ, pos, negsuc, ◌+ℤ◌, ◌*ℤ◌, int_div, int_rem}
+use Rattle.std.proofs.Common.{◌≡◌, refl, sym, ap, ◌∙◌, ℕ, suc, ◌%◌, ◌^◌, arith, ℤ, pos, negsuc, int_div, int_rem}
 use Rattle.std.proofs.lemmas.Int.{ints, quot-rem}
 use Rattle.std.proofs.Math.Nat.{div-zero}
 use native.Mathlib.Nat.{zero-mod, mod-mod}
@@ -8,7 +8,7 @@ use Rattle.std.proofs.lemmas.Bool.{false≢true}
 use Rattle.isp_base.specs.declared.types.Elem.{Elem}
 use Rattle.isp_base.specs.declared.operators.BinOp.{BinOp}
 use Rattle.isp_base.specs.declared.operators.BinOp.TheVariants as op
-use Rattle.isp_base.specs.Values.{width, greatest, number, wrap, op_bits, divides, DividesByZero}
+use Rattle.isp_base.specs.Values.{width, greatest, number, wrap, op_bits, DividesByZero}
 use Rattle.isp_base.proofs.Wraps.{wrap-number, wrap_to-pos}
 
 rem_zero : (a : ℤ) → int_rem a (pos 0) ≡ a

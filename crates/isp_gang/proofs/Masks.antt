@@ -1,12 +1,12 @@
 -- Sets that are made place by place.
-use Rattle.std.proofs.Common.{◌≡◌, refl, sym, ap, ap₂, ◌∙◌, ℕ, ◌+◌, ◌<◌, ◌≤◌, Bool, true, false, ◌&&◌, ◌||◌, not, List, arith, length, get_or, Some, nat_lt, nat_eq, replicate}
+use Rattle.std.proofs.Common.{◌≡◌, sym, ap, ap₂, ◌∙◌, ℕ, ◌<◌, Bool, true, false, ◌&&◌, ◌||◌, not, List, arith, length, Some, replicate}
 use Rattle.std.proofs.Math.Path.{fun_ext}
 use Rattle.std.proofs.Common.{⊎_elim, eq-eqb, ne_eqb}
 use Rattle.std.proofs.lemmas.Bool.{cases_eq, le-ltb}
 use Rattle.std.proofs.lemmas.List.{get_or-set_other, get_or-set_same, length-replicate}
 use Rattle.std.specs.Prelude.{slice_set}
-use Rattle.isp_base.specs.Sets.{Mask, everyone, flag_of, lone, nobody, union, without}
-use Rattle.isp_gang.proofs.Made.{Made, begins, next, skip, made, past, repeated}
+use Rattle.isp_base.specs.Sets.{Mask, everyone, flag_of, lone, union, without}
+use Rattle.isp_gang.proofs.Made.{Made, begins, made, past, repeated}
 
 pub begun : (f : Mask) → Made false f (replicate 16 false) 0
 begun f = begins false f (replicate 16 false) (length-replicate 16 false) (λ p. repeated 16 p false)

@@ -1,9 +1,9 @@
 -- Rows that are made place by place.
-use Rattle.std.proofs.Common.{◌≡◌, refl, sym, ap, ap₂, ◌∙◌, ℕ, ◌+◌, ◌<◌, ◌≤◌, Bool, true, false, List, arith, length, get_or, Option, Some, None, replicate}
+use Rattle.std.proofs.Common.{◌≡◌, ap, ap₂, ℕ, ◌≤◌, Bool, false, List, arith, length, Option, Some, None, replicate}
 use Rattle.std.specs.Prelude.{if◌then◌else◌}
 use Rattle.std.proofs.Math.Path.{fun_ext}
 use Rattle.std.proofs.lemmas.List.{length-replicate}
-use Rattle.isp_base.specs.Sets.{Mask, flag_of}
+use Rattle.isp_base.specs.Sets.{flag_of}
 use Rattle.isp_base.specs.Maps.{Lanes, Map, each1, each2, holds, lane_of, map1, map2, on, over, or_old, where_true}
 use Rattle.isp_meaning.specs.Payloads.{first_of_two, layer}
 use Rattle.isp_gang.specs.Seen.{map_of}

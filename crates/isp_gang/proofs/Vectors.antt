@@ -1,10 +1,10 @@
 -- Vectors that grow.
-use Rattle.std.proofs.Common.{◌≡◌, refl, sym, ap, ap₂, ◌∙◌, ⊎_elim, ℕ, zero, suc, ◌+◌, ◌<◌, ◌≤◌, Bool, true, false, List, [], ◌∷◌, ◌++◌, arith, length, get_or, nat_eq, ◌==◌, eq-eqb, ne_eqb, ◌≢◌, replicate}
+use Rattle.std.proofs.Common.{◌≡◌, refl, sym, ap, ◌∙◌, ℕ, zero, suc, ◌+◌, ◌<◌, ◌≤◌, Bool, false, List, [], ◌∷◌, ◌++◌, arith, length, get_or, nat_eq, replicate}
 use Rattle.std.specs.Prelude.{slice_set, if◌then◌else◌}
 use Rattle.std.proofs.Math.Path.{fun_ext}
 use Rattle.std.proofs.Math.Dec.{eqb-suc-zero, eqb-zero-suc, eqb-suc-suc}
 use Rattle.isp_base.specs.Maps.{put, lane_of}
-use Rattle.isp_gang.specs.Growing.{at_each, values_of, lanes_of}
+use Rattle.isp_gang.specs.Growing.{at_each}
 use Rattle.isp_gang.proofs.Made.{repeated}
 
 other : {B : Type 0} (x y : B) (b : Bool) → b ≡ false → y ≡ (if b then x else y)

@@ -94,13 +94,7 @@ pub fn lowest_false(gang: Gang, set: &Active, value: &Computed) -> Option<usize>
     ensures { result ≡ offender (gang_width gang) is_false (flag_of set.now) (payload_of value.now) }
 {
     match value {
-        Computed::One(bits) => {
-            if *bits == 0 {
-                lowest(gang, set)
-            } else {
-                None
-            }
-        }
+        Computed::One(bits) => { if *bits == 0 { lowest(gang, set) } else { None } }
         Computed::Each(row) => lowest(gang, &where_is(false, row)),
     }
 }
@@ -188,13 +182,7 @@ pub fn needing(logic: Logic, set: &Active, left: &Computed) -> Active
     ensures { flag_of result ≡ kept_by (needs logic) (flag_of set.now) (payload_of left.now) }
 {
     match left {
-        Computed::One(bits) => {
-            if needed(logic, *bits) {
-                *set
-            } else {
-                nobody()
-            }
-        }
+        Computed::One(bits) => { if needed(logic, *bits) { *set } else { nobody() } }
         Computed::Each(row) => where_needed(logic, row),
     }
 }
@@ -204,13 +192,7 @@ pub fn settled(logic: Logic, set: &Active, left: &Computed, right: &Computed) ->
     ensures { payload_of result ≡ settled logic (flag_of set.now) (payload_of left.now) (payload_of right.now) }
 {
     match left {
-        Computed::One(bits) => {
-            if needed(logic, *bits) {
-                *right
-            } else {
-                *left
-            }
-        }
+        Computed::One(bits) => { if needed(logic, *bits) { *right } else { *left } }
         Computed::Each(row) => {
             let over = right.spread(&where_needed(logic, row));
             Computed::Each(layer(&over, row))
@@ -223,13 +205,7 @@ pub fn selected(set: &Active, test: &Computed, then: &Computed, otherwise: &Comp
     ensures { payload_of result ≡ selected (flag_of set.now) (payload_of test.now) (payload_of then.now) (payload_of otherwise.now) }
 {
     match test {
-        Computed::One(bits) => {
-            if *bits != 0 {
-                *then
-            } else {
-                *otherwise
-            }
-        }
+        Computed::One(bits) => { if *bits != 0 { *then } else { *otherwise } }
         Computed::Each(row) => {
             let first = then.spread(&where_is(true, row));
             let second = otherwise.spread(&where_is(false, row));

@@ -1,4 +1,4 @@
-use Rattle.std.proofs.Common.{sym, ◌∙◌, [], ℕ}
+use Rattle.std.proofs.Common.{sym, ◌∙◌, []}
 use Rattle.isp_base.specs.Maps.{lane_of}
 use Rattle.isp_gang.proofs.Vectors.{at_there, at_past, zeros}
 use Rattle.isp_gang.proofs.growing.lanes_at.Goals as goal

@@ -1,7 +1,7 @@
-use Rattle.std.proofs.Common.{sym, ap, refl, length, ◌∙◌, ℕ, arith, replicate}
-use Rattle.isp_base.specs.Maps.{lane_of, put}
+use Rattle.std.proofs.Common.{ap, refl, length, ◌∙◌, arith}
+use Rattle.isp_base.specs.Maps.{put}
 use Rattle.isp_gang.specs.Growing.{values_of}
-use Rattle.isp_gang.proofs.Vectors.{padded_all, pushed, written, longer, zeros}
+use Rattle.isp_gang.proofs.Vectors.{padded_all, pushed, written, longer}
 use Rattle.isp_gang.proofs.growing.put.Goals as goal
 
 pub loop-next-preserved : goal.loop-next-preserved

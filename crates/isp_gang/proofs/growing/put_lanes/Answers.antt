@@ -1,4 +1,4 @@
-use Rattle.std.proofs.Common.{sym, ap, refl, length, ◌∙◌, ℕ, arith, replicate}
+use Rattle.std.proofs.Common.{ap, length, ◌∙◌, arith, replicate}
 use Rattle.isp_base.specs.Maps.{lane_of, put}
 use Rattle.isp_gang.specs.Growing.{lanes_of}
 use Rattle.isp_gang.proofs.Vectors.{padded_all, pushed, written, longer, zeros}

@@ -1,4 +1,4 @@
-use Rattle.std.proofs.Common.{◌≡◌, ◌≤◌, length}
+use Rattle.std.proofs.Common.{◌≡◌, length}
 use Rattle.isp_gang.specs.Growing.{lanes_of}
 use Rattle.isp_gang.proofs.growing.put_lanes.Given as goal
 

@@ -1,7 +1,5 @@
-use Rattle.std.proofs.Common.{◌≡◌, ◌<◌, ◌≤◌, ℕ, ◌+◌, None, true, false, length}
-use Rattle.isp_base.specs.Cross.{rank}
-use Rattle.isp_base.specs.Sets.{any, everyone, flag_of, lone, lowest, nobody, union, without}
-use Rattle.isp_gang.proofs.Made.{Made}
+use Rattle.std.proofs.Common.{◌≡◌, None}
+use Rattle.isp_base.specs.Sets.{flag_of, lowest}
 use Rattle.isp_gang.proofs.sets.lowest.Given as goal
 
 abbrev pub invariant-loop-instance : goal.invariant-loop-instance

@@ -1,6 +1,5 @@
-use Rattle.std.proofs.Common.{◌≡◌, ◌<◌, ◌≤◌, ℕ, ◌+◌, None, true, false, length}
-use Rattle.isp_base.specs.Cross.{rank}
-use Rattle.isp_base.specs.Sets.{any, everyone, flag_of, lone, lowest, nobody, union, without}
+use Rattle.std.proofs.Common.{false}
+use Rattle.isp_base.specs.Sets.{flag_of, without}
 use Rattle.isp_gang.proofs.Made.{Made}
 use Rattle.isp_gang.proofs.sets.without.Given as goal
 

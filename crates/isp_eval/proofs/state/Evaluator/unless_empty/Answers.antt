@@ -8,5 +8,5 @@ use Rattle.isp_eval.proofs.state.Evaluator.unless_empty.Goals as goal
 pub returns-in_ok-later-clause-ok : goal.returns-in_ok-later-clause-ok
 returns-in_ok-later-clause-ok c =
     no_value c.args.self.now c.later.new.self _ (expr_of c.args.x.now) c.args.set c.args.after
-      (ap (λ g. any (gang_width g) (flag_of c.args.set)) (sym c.gang.ensures) ∙ sym c.any.ensures ∙ c.if-any.false)
-      c.in_ok-later.ensures.ok c.in_ok-later.ensures.rest refl c.nothing-self.ensures
+    (ap (λ g. any (gang_width g) (flag_of c.args.set)) (sym c.gang.ensures) ∙ sym c.any.ensures ∙ c.if-any.false)
+    c.in_ok-later.ensures.ok c.in_ok-later.ensures.rest refl c.nothing-self.ensures
