@@ -1,0 +1,5 @@
+pub mod Made
+pub mod Masks
+pub mod Rows
+pub mod Divisions
+pub mod Vectors

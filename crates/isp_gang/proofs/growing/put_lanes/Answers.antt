@@ -1,0 +1,21 @@
+use Rattle.std.proofs.Common.{ap, length, ◌∙◌, arith, replicate}
+use Rattle.isp_base.specs.Maps.{lane_of, put}
+use Rattle.isp_gang.specs.Growing.{lanes_of}
+use Rattle.isp_gang.proofs.Vectors.{padded_all, pushed, written, longer, zeros}
+use Rattle.isp_gang.proofs.growing.put_lanes.Goals as goal
+
+pub loop-next-preserved : goal.loop-next-preserved
+loop-next-preserved c =
+    record {
+      same = ap lanes_of c.in_ok-push.ensures.items ∙ padded_all lane_of (λ p. 0) c.loop-next.values.items (replicate 16 0) zeros ∙ c.loop-next.invariant.same;
+      long = ap length c.in_ok-push.ensures.items ∙ longer c.loop-next.values.items (replicate 16 0) c.loop-next._next c.loop-next.invariant.long;
+    }
+
+pub returns-then-place-len : goal.returns-then-place-len
+returns-then-place-len c = written lane_of (λ p. 0) c.loop-next.values.items c.args.lanes.now c.args.place (omega (arith, c.if-place-len.true, c.len.ensures)) ∙ ap (λ f. put f c.args.place (lane_of c.args.lanes.now)) c.loop-next.invariant.same
+
+pub returns-in_ok-push-2 : goal.returns-in_ok-push-2
+returns-in_ok-push-2 c =
+    ap lanes_of c.in_ok-push-2.ensures.items
+    ∙ pushed lane_of (λ p. 0) c.loop-next.values.items c.args.lanes.now c.args.place (omega (arith, c.loop-next.invariant.long, c.loop-next-test.false, c.if-place-len.false, c.len.ensures))
+    ∙ ap (λ f. put f c.args.place (lane_of c.args.lanes.now)) c.loop-next.invariant.same
