@@ -159,7 +159,7 @@ module _ (hs : List Heading) (gs : List TFunction) (all : List Variable) where
       by true d true m = absurd (no_ok (rw (d, m) at e))
       by true d false m =
           let is : slice_get all k.number ≡ Some (record { holds = holds.Value (ty_of Varying (base_array b).ty.elem); constant = false }) =
-                known ∙ held_is k.variable t (base_array b).ty.elem h v (same_is t.elem (base_array b).ty.elem d) m in
+          known ∙ held_is k.variable t (base_array b).ty.elem h v (same_is t.elem (base_array b).ty.elem d) m in
           let done : FineCalled (gives (t_packed_load b k.number s)) = (f, is, i) in
           subst FineCalled (ok_is (gives (t_packed_load b k.number s)) r (opened d m)) done
         where

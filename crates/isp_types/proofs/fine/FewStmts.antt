@@ -86,8 +86,14 @@ module _ (gang : Gang) (hs : List Heading) where
   ranges_few start ns is vars [] ts i = rw i (omega arith)
   ranges_few start ns is vars (r ∷ rs) ts i =
       let one = i.1.0 in
-      rw (i.2, one.2) (omega (arith, expr_few gang hs ns r.start one.0.0 one.1.1.0, expr_few gang hs ns r.end one.0.1 one.1.1.1, converted_few I32 one.0.0, converted_few I32 one.0.1,
-      ranges_few start ns (with_name is vars r.word.name (Ok index)) (vars ++ index ∷ []) rs i.0.1 i.1.1))
+      rw (i.2, one.2) (omega (
+        arith,
+        expr_few gang hs ns r.start one.0.0 one.1.1.0,
+        expr_few gang hs ns r.end one.0.1 one.1.1.1,
+        converted_few I32 one.0.0,
+        converted_few I32 one.0.1,
+        ranges_few start ns (with_name is vars r.word.name (Ok index)) (vars ++ index ∷ []) rs i.0.1 i.1.1,
+      ))
 
   module _ (r : Result ValueWords Fault) (start : ℕ) where
     item_few : (ns : List Binding) (vars : List Variable) (x : Item) (t : TItem) → IsItem gang hs r start ns vars x t → item_nodes t ≤ 3 * nodes_of_item x
@@ -129,9 +135,13 @@ module _ (gang : Gang) (hs : List Heading) where
       stmt_few ns start vars (loop_do f a x s) t i = rw i.2 (omega (arith, test_few ns x i.0.1 i.1.1, stmt_few ns (length ns) vars a i.0.0 i.1.0))
       stmt_few ns start vars (loop_for f j x p a s) t i =
           let inner = first_names gang ns vars j in
-          rw i.2 (omega (arith, maybe_few (IsFirst gang hs ns (length ns) vars) nodes_of_first first_nodes (first_few (length ns) ns vars) j i.0.0 i.1.0,
-          maybe_few (IsTest gang hs inner) nodes typed_nodes (test_few inner) x i.0.1.0 i.1.1.0, maybe_few (IsSimple gang hs inner) nodes_of_step step_nodes (step_few inner) p i.0.1.1.0 i.1.1.1.0,
-          stmt_few inner (length inner) (first_variables gang vars j) a i.0.1.1.1 i.1.1.1.1))
+          rw i.2 (omega (
+            arith,
+            maybe_few (IsFirst gang hs ns (length ns) vars) nodes_of_first first_nodes (first_few (length ns) ns vars) j i.0.0 i.1.0,
+            maybe_few (IsTest gang hs inner) nodes typed_nodes (test_few inner) x i.0.1.0 i.1.1.0,
+            maybe_few (IsSimple gang hs inner) nodes_of_step step_nodes (step_few inner) p i.0.1.1.0 i.1.1.1.0,
+            stmt_few inner (length inner) (first_variables gang vars j) a i.0.1.1.1 i.1.1.1.1,
+          ))
       stmt_few ns start vars (foreach k w rs a s) t i =
           rw i.2 (omega (arith, ranges_few (length ns) ns ns vars rs i.0.0 i.1.0, stmt_few (range_names ns vars rs) (length (range_names ns vars rs)) (range_variables vars rs) a i.0.1 i.1.1))
       stmt_few ns start vars (foreach_active k w a s) t i =

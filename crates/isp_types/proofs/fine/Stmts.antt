@@ -115,10 +115,12 @@ module _ (gang : Gang) (hs : List Heading) (gs : List TFunction) (all : List Var
     stmt_fine ns start vars (simple p s) h scope g t i = subst (FineStmt gs all answer) (sym i.2) (simple_fine gang hs gs all headed ns scope p h.0 i.0 i.1)
     stmt_fine ns start vars (if_then f x a s) h scope g t i = subst (FineStmt gs all answer) (sym i.2)
         (low vars _ (stmt_grows gang vars a) g, test_fine ns scope x h.0 i.0.0 i.1.0, stmt_fine ns (length ns) vars a h.1 scope g i.0.1 i.1.1)
-    stmt_fine ns start vars (if_else f x a b s) h scope g t i = subst (FineStmt gs all answer) (sym i.2)
-        (low vars _ (stmt_grows gang vars (if_else f x a b s)) g, test_fine ns scope x h.0 i.0.0 i.1.0,
-        stmt_fine ns (length ns) vars a h.1 scope (and_then _ _ _ (stmt_grows gang (variables_after gang vars a) b) g) i.0.1.0 i.1.1.0,
-        stmt_fine ns (length ns) (variables_after gang vars a) b h.2 scope g i.0.1.1 i.1.1.1)
+    stmt_fine ns start vars (if_else f x a b s) h scope g t i = subst (FineStmt gs all answer) (sym i.2) (
+      low vars _ (stmt_grows gang vars (if_else f x a b s)) g,
+      test_fine ns scope x h.0 i.0.0 i.1.0,
+      stmt_fine ns (length ns) vars a h.1 scope (and_then _ _ _ (stmt_grows gang (variables_after gang vars a) b) g) i.0.1.0 i.1.1.0,
+      stmt_fine ns (length ns) (variables_after gang vars a) b h.2 scope g i.0.1.1 i.1.1.1,
+    )
     stmt_fine ns start vars (loop_while f x a s) h scope g t i = subst (FineStmt gs all answer) (sym i.2)
         (low vars _ (stmt_grows gang vars a) g, test_fine ns scope x h.0 i.0.0 i.1.0, stmt_fine ns (length ns) vars a h.1 scope g i.0.1 i.1.1)
     stmt_fine ns start vars (loop_do f a x s) h scope g t i = subst (FineStmt gs all answer) (sym i.2)
@@ -126,21 +128,29 @@ module _ (gang : Gang) (hs : List Heading) (gs : List TFunction) (all : List Var
     stmt_fine ns start vars (loop_for f j x p a s) h scope g t i =
         let after = stmt_grows gang (first_variables gang vars j) a in
         let first = maybe_first (length ns) ns vars scope j h.0 (and_then _ _ _ after g) i.0.0 i.1.0 in
-        subst (FineStmt gs all answer) (sym i.2)
-        (grown_length vars _ (first_grows_variables gang vars j), low (first_variables gang vars j) _ after g, first.0,
-        maybe_test (first_names gang ns vars j) first.1 x h.1 i.0.1.0 i.1.1.0, maybe_simple (first_names gang ns vars j) first.1 p h.2 i.0.1.1.0 i.1.1.1.0,
-        stmt_fine (first_names gang ns vars j) (length (first_names gang ns vars j)) (first_variables gang vars j) a h.3 first.1 g i.0.1.1.1 i.1.1.1.1)
+        subst (FineStmt gs all answer) (sym i.2) (
+          grown_length vars _ (first_grows_variables gang vars j),
+          low (first_variables gang vars j) _ after g,
+          first.0,
+          maybe_test (first_names gang ns vars j) first.1 x h.1 i.0.1.0 i.1.1.0,
+          maybe_simple (first_names gang ns vars j) first.1 p h.2 i.0.1.1.0 i.1.1.1.0,
+          stmt_fine (first_names gang ns vars j) (length (first_names gang ns vars j)) (first_variables gang vars j) a h.3 first.1 g i.0.1.1.1 i.1.1.1.1,
+        )
     stmt_fine ns start vars (foreach k w rs a s) h scope g t i =
         let after = stmt_grows gang (range_variables vars rs) a in
         let ranges = ranges_fine gang hs gs all headed (length ns) ns ns vars rs h.1.each scope scope (and_then _ _ _ after g) i.0.0 i.1.0 in
-        subst (FineStmt gs all answer) (sym i.2)
-        (low vars _ (stmt_grows gang vars (foreach k w rs a s)) g, ranges.0,
-        stmt_fine (range_names ns vars rs) (length (range_names ns vars rs)) (range_variables vars rs) a h.2 ranges.1 g i.0.1 i.1.1)
+        subst (FineStmt gs all answer) (sym i.2) (
+          low vars _ (stmt_grows gang vars (foreach k w rs a s)) g,
+          ranges.0,
+          stmt_fine (range_names ns vars rs) (length (range_names ns vars rs)) (range_variables vars rs) a h.2 ranges.1 g i.0.1 i.1.1,
+        )
     stmt_fine ns start vars (foreach_active k w a s) h scope g t i =
         let g1 = and_then _ _ _ (stmt_grows gang (vars ++ active_index ∷ []) a) g in
-        subst (FineStmt gs all answer) (sym i.2)
-        (low vars _ (one_more vars active_index) g1, get_next vars active_index all g1,
-        stmt_fine (with_name ns vars w.name (Ok active_index)) (length (with_name ns vars w.name (Ok active_index))) (vars ++ active_index ∷ []) a h.2 (name_added all ns vars w.name active_index scope g1) g i.0 i.1)
+        subst (FineStmt gs all answer) (sym i.2) (
+          low vars _ (one_more vars active_index) g1,
+          get_next vars active_index all g1,
+          stmt_fine (with_name ns vars w.name (Ok active_index)) (length (with_name ns vars w.name (Ok active_index))) (vars ++ active_index ∷ []) a h.2 (name_added all ns vars w.name active_index scope g1) g i.0 i.1,
+        )
     stmt_fine ns start vars (unmasked k b s) h scope g t i = subst (FineStmt gs all answer) (sym i.2) (block_fine ns (length ns) vars b h.1 scope g i.0 i.1)
     stmt_fine ns start vars (jump j k s) h scope g t i = subst (FineStmt gs all answer) (sym i) tt
     stmt_fine ns start vars (returning k x s) h scope g t i = subst (FineStmt gs all answer) (sym i.2) (returned_fine ns scope answer x h.1 i.0 i.1)
@@ -157,6 +167,7 @@ module _ (gang : Gang) (hs : List Heading) (gs : List TFunction) (all : List Var
     stmts_fine ns start vars no_stmts h scope g t i = subst (FineStmts gs all answer) (sym i) tt
     stmts_fine ns start vars (stmt_then s ss) h scope g t i =
         let g1 = and_then _ _ _ (stmts_grow gang (variables_after gang vars s) ss) g in
-        subst (FineStmts gs all answer) (sym i.2)
-        (stmt_fine ns start vars s h.0 scope g1 i.0.0 i.1.0,
-        stmts_fine (names_after gang ns vars s) start (variables_after gang vars s) ss h.1 (names_scope ns start vars s h.0 scope g1 i.0.0 i.1.0) g i.0.1 i.1.1)
+        subst (FineStmts gs all answer) (sym i.2) (
+          stmt_fine ns start vars s h.0 scope g1 i.0.0 i.1.0,
+          stmts_fine (names_after gang ns vars s) start (variables_after gang vars s) ss h.1 (names_scope ns start vars s h.0 scope g1 i.0.0 i.1.0) g i.0.1 i.1.1,
+        )

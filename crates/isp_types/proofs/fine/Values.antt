@@ -127,6 +127,12 @@ module _ (gs : List TFunction) (all : List Variable) where
 
   pub choice_fine : (s : Span) (c x y : TExpr) → FineExpr gs all c → FineExpr gs all x → FineExpr gs all y → FineExpr gs all (choice s (c, (x, y)))
   choice_fine s c x y f g h =
-      let e = chosen (elem_of x) (elem_of y) in
-      (converted_fine Truth c f, converted_fine e x g, converted_fine e y h, converted_elem Truth c, converted_elem e x, converted_elem e y,
-      rw (converted_rate Truth c, converted_rate e x, converted_rate e y) (rate_same (rate_of c) (rate_or (rate_of x) (rate_of y)) ∙ ap (λ z. fine.rate_or (rate_of c) z) (rate_same (rate_of x) (rate_of y))))
+      let e = chosen (elem_of x) (elem_of y) in (
+        converted_fine Truth c f,
+        converted_fine e x g,
+        converted_fine e y h,
+        converted_elem Truth c,
+        converted_elem e x,
+        converted_elem e y,
+        rw (converted_rate Truth c, converted_rate e x, converted_rate e y) (rate_same (rate_of c) (rate_or (rate_of x) (rate_of y)) ∙ ap (λ z. fine.rate_or (rate_of c) z) (rate_same (rate_of x) (rate_of y))),
+      )

@@ -24,5 +24,5 @@ pub new-requires : goal.new-requires
 new-requires c =
     let fs = map read_function c.args.tree.now in
     let a = accepted c.args.gang fs (functions_of c.in-Ok.functions.items)
-        (ok_seen (λ l. functions_of l.items) _ _ _ c.in-Ok.is (rw (c.in_ok-headers.ensures, c.functions.ensures.functions, c.functions-2.ensures.functions) at c.in_ok-functions.ensures)) in
+    (ok_seen (λ l. functions_of l.items) _ _ _ c.in-Ok.is (rw (c.in_ok-headers.ensures, c.functions.ensures.functions, c.functions-2.ensures.functions) at c.in_ok-functions.ensures)) in
     record { fine = program_fine c.args.gang fs _ c.functions.ensures.sound a.is }
