@@ -21,20 +21,20 @@ begun_lanes f = begins 0 f (replicate 16 0) (length-replicate {A = ℕ} 16 0) (�
 none_past : (xs : List (Option ℕ)) → length xs ≡ 16 → (p : ℕ) → 16 ≤ p → map_of xs p ≡ None
 none_past xs long p h = past xs p None (omega (arith, long, h))
 
-pub on_made : (set : List Bool) (f : Lanes) (row : List (Option ℕ)) → length set ≡ 16 → Made None (on (flag_of set) f) row 16 → map_of row ≡ on (flag_of set) f
-on_made set f row long m = made None _ row 16 m (λ p h. ap (λ b. if b then Some (f p) else None) (past set p false (omega (arith, long, h))))
+pub on_made : (set : List Bool) (f : Lanes) (zs : List (Option ℕ)) → length set ≡ 16 → Made None (on (flag_of set) f) zs 16 → map_of zs ≡ on (flag_of set) f
+on_made set f zs long m = made None _ zs 16 m (λ p h. ap (λ b. if b then Some (f p) else None) (past set p false (omega (arith, long, h))))
 
 pub over_made : (xs : List (Option ℕ)) (old lanes : List ℕ) → length xs ≡ 16 → length old ≡ 16 → Made 0 (over (map_of xs) (lane_of old)) lanes 16 → lane_of lanes ≡ over (map_of xs) (lane_of old)
 over_made xs old lanes long long' m = made 0 _ lanes 16 m (λ p h. ap₂ or_old (none_past xs long p h) (past old p 0 (omega (arith, long', h))))
 
-pub layer_made : (xs ys row : List (Option ℕ)) → length xs ≡ 16 → length ys ≡ 16 → Made None (layer (map_of xs) (map_of ys)) row 16 → map_of row ≡ layer (map_of xs) (map_of ys)
-layer_made xs ys row long long' m = made None _ row 16 m (λ p h. ap₂ first_of_two (none_past xs long p h) (none_past ys long' p h))
+pub layer_made : (xs ys zs : List (Option ℕ)) → length xs ≡ 16 → length ys ≡ 16 → Made None (layer (map_of xs) (map_of ys)) zs 16 → map_of zs ≡ layer (map_of xs) (map_of ys)
+layer_made xs ys zs long long' m = made None _ zs 16 m (λ p h. ap₂ first_of_two (none_past xs long p h) (none_past ys long' p h))
 
-pub map1_made : (f : ℕ → ℕ) (xs row : List (Option ℕ)) → length xs ≡ 16 → Made None (map1 f (map_of xs)) row 16 → map_of row ≡ map1 f (map_of xs)
-map1_made f xs row long m = made None _ row 16 m (λ p h. ap (each1 f) (none_past xs long p h))
+pub map1_made : (f : ℕ → ℕ) (xs zs : List (Option ℕ)) → length xs ≡ 16 → Made None (map1 f (map_of xs)) zs 16 → map_of zs ≡ map1 f (map_of xs)
+map1_made f xs zs long m = made None _ zs 16 m (λ p h. ap (each1 f) (none_past xs long p h))
 
-pub map2_made : (f : ℕ → ℕ → ℕ) (xs ys row : List (Option ℕ)) → length xs ≡ 16 → Made None (map2 f (map_of xs) (map_of ys)) row 16 → map_of row ≡ map2 f (map_of xs) (map_of ys)
-map2_made f xs ys row long m = made None _ row 16 m (λ p h. ap (λ x. each2 f x (map_of ys p)) (none_past xs long p h))
+pub map2_made : (f : ℕ → ℕ → ℕ) (xs ys zs : List (Option ℕ)) → length xs ≡ 16 → Made None (map2 f (map_of xs) (map_of ys)) zs 16 → map_of zs ≡ map2 f (map_of xs) (map_of ys)
+map2_made f xs ys zs long m = made None _ zs 16 m (λ p h. ap (λ x. each2 f x (map_of ys p)) (none_past xs long p h))
 
 pub where_made : (f : ℕ → Bool) (xs : List (Option ℕ)) (set : List Bool) → length xs ≡ 16 → Made false (where_true f (map_of xs)) set 16 → flag_of set ≡ where_true f (map_of xs)
 where_made f xs set long m = made false _ set 16 m (λ p h. ap (holds f) (none_past xs long p h))
