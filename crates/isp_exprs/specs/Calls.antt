@@ -7,7 +7,7 @@ use Rattle.isp_base.specs.declared.types.Rate.{Rate}
 use Rattle.isp_base.specs.declared.types.Rate.TheVariants.{Uniform, Varying}
 use Rattle.isp_base.specs.declared.types.Span.{Span}
 use Rattle.isp_base.specs.declared.types.Ty.{Ty}
-use Rattle.isp_base.specs.Ranks.{same_elem, operand, common}
+use Rattle.isp_base.specs.Ranks.{same_elem, operand, common, chosen}
 use Rattle.isp_lex.specs.declared.fault.Fault.{Fault}
 use Rattle.isp_lex.specs.declared.fault.Rule.TheVariants.{UnknownName, Arguments, ConstAssigned}
 use Rattle.isp_lex.specs.Faults.{fault}
@@ -19,13 +19,13 @@ use Rattle.isp_typed.specs.declared.variable.ArrayVariable.{ArrayVariable}
 use Rattle.isp_typed.specs.declared.variable.Holds.{Holds}
 use Rattle.isp_typed.specs.declared.variable.Holds.TheVariants as holds
 use Rattle.isp_typed.specs.Library.{parts, part_elem, library_type}
-use Rattle.isp_typed.specs.Typed.{TExpr, t_place, t_variable, t_call, t_library, t_packed_store, t_packed_load, TExprs, t_no_exprs, t_expr_then, TBase, t_whole, t_from, base_array, t_by_value, t_by_name, TArguments, t_no_arguments, t_argument_then, TCall, t_called, ty_of}
+use Rattle.isp_typed.specs.Typed.{TExpr, t_place, t_variable, t_call, t_library, t_packed_store, t_packed_load, TExprs, t_no_exprs, t_expr_then, TBase, t_whole, t_from, base_array, t_by_value, t_by_name, TArguments, t_no_arguments, t_argument_then, TCall, t_called, ty_of, elem_of, rate_of, rate_or}
 use Rattle.isp_exprs.specs.declared.scope.Known.{Known}
 use Rattle.isp_exprs.specs.declared.callee.Callee.{Callee}
 use Rattle.isp_exprs.specs.declared.callee.Callee.TheVariants.{Unknown, Miscounted, Function, Library as OfLibrary, PackedStore, PackedLoad}
 use Rattle.isp_exprs.specs.declared.callee.Want.{Want}
 use Rattle.isp_exprs.specs.declared.callee.Want.TheVariants.{AnyValue, ValueOf, ArrayOf, Base, Destination, Anything}
-use Rattle.isp_exprs.specs.Values.{elem_of, rate_of, rate_or, converted, chosen}
+use Rattle.isp_exprs.specs.Values.{converted}
 use Rattle.isp_exprs.specs.Places.{mismatch, as_array, array_of}
 
 -- what callers see of a function: its name, the type of its result (a fault where the words of it contradict each

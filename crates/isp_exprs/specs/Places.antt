@@ -9,9 +9,8 @@ use Rattle.isp_lex.specs.Faults.{fault}
 use Rattle.isp_typed.specs.declared.variable.ArrayVariable.{ArrayVariable}
 use Rattle.isp_typed.specs.declared.variable.Holds.{Holds}
 use Rattle.isp_typed.specs.declared.variable.Holds.TheVariants as holds
-use Rattle.isp_typed.specs.Typed.{TExpr, TPlace, t_variable, t_element, ty_of}
+use Rattle.isp_typed.specs.Typed.{TExpr, TPlace, t_variable, t_element, ty_of, rate_or, rate_of}
 use Rattle.isp_exprs.specs.declared.scope.Known.{Known}
-use Rattle.isp_exprs.specs.Values.{rate_or, rate_of}
 
 abbrev pub mismatch : {A : Type 0} → Span → Result A Fault
 mismatch s = Err (fault Mismatch s)

@@ -8,7 +8,7 @@ use Rattle.isp_base.specs.declared.types.Span.{Span}
 use Rattle.isp_base.specs.declared.types.Value.{Value}
 use Rattle.isp_base.specs.declared.types.Gang.{Gang}
 use Rattle.isp_base.specs.Types.{gang_width}
-use Rattle.isp_base.specs.Ranks.{same_elem, operand, common}
+use Rattle.isp_base.specs.Ranks.{same_elem, operand, common, chosen}
 use Rattle.isp_base.specs.declared.operators.BinOp.{BinOp}
 use Rattle.isp_base.specs.declared.operators.BinOp.TheVariants as bin
 use Rattle.isp_base.specs.declared.operators.Compare.{Compare}
@@ -21,30 +21,14 @@ use Rattle.isp_tree.specs.declared.expr.Prefix.{Prefix}
 use Rattle.isp_tree.specs.declared.expr.Prefix.TheVariants as sign
 use Rattle.isp_typed.specs.declared.variable.Logic.{Logic}
 use Rattle.isp_typed.specs.declared.variable.Logic.TheVariants as logic
-use Rattle.isp_typed.specs.Typed.{TExpr, t_convert, t_cast, t_unary, t_binary, t_compare, t_logic, t_choose, type_of, ty_of}
+use Rattle.isp_typed.specs.Typed.{TExpr, t_convert, t_cast, t_unary, t_binary, t_compare, t_logic, t_choose, type_of, ty_of, elem_of, rate_of, rate_or}
 use Rattle.isp_exprs.specs.declared.values.Joining.{Joining}
 use Rattle.isp_exprs.specs.declared.values.Joining.TheVariants as joined_as
 use Rattle.isp_exprs.specs.declared.words.ValueWords.{ValueWords}
 
-abbrev pub elem_of : TExpr → Elem
-elem_of x = (type_of x).elem
-
-abbrev pub rate_of : TExpr → Rate
-rate_of x = (type_of x).rate
-
--- varying where one of the two is
-abbrev pub rate_or : Rate → Rate → Rate
-rate_or Uniform r = r
-rate_or Varying r = Varying
-
 -- a value as one of an element type: a conversion where it has another
 abbrev pub converted : Elem → TExpr → TExpr
 converted e x = if same_elem (elem_of x) e then x else t_convert e x
-
--- the type of `?:` and of `select`: bool where both are, else the common type
-abbrev pub chosen : Elem → Elem → Elem
-chosen Truth Truth = Truth
-chosen a b = common a b
 
 -- `true` is 1, `false` is 0, and `programCount` the number of instances, an int32
 abbrev pub truth_value : Bool → Value

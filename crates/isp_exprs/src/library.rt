@@ -1,9 +1,8 @@
 //! Calls of the library's functions on values.
 ghost use Rattle.std.specs.Prelude.{◌≡◌, IfOk, map};
-ghost use Rattle.isp_typed.specs.Typed.{t_exprs};
+ghost use Rattle.isp_typed.specs.Typed.{t_exprs, elem_of};
 ghost use Rattle.isp_typed.specs.Views.{exprs_of};
 ghost use Rattle.isp_exprs.specs.reader.Parts.{boxed_of, boxes_of};
-ghost use Rattle.isp_exprs.specs.Values.{elem_of};
 ghost use Rattle.isp_exprs.specs.Calls.{as_parts, library_call, rate_all, worked_in};
 
 use crate::values::{boxed, chosen, converted, rate_or};

@@ -2,7 +2,9 @@
 ghost use Rattle.std.specs.Prelude.{◌≡◌, IfOk};
 ghost use Rattle.isp_typed.specs.Verdicts.{both, made};
 ghost use Rattle.isp_exprs.specs.reader.Parts.{boxed_of};
-ghost use Rattle.isp_exprs.specs.Values.{cast_to, choice, chosen, converted, count_value, in_brackets, joined, joining, joins, rate_cast, rate_or, truth_value, unary_as, with_sign, computes, compares, decides};
+ghost use Rattle.isp_exprs.specs.Values.{cast_to, choice, converted, count_value, in_brackets, joined, joining, joins, rate_cast, truth_value, unary_as, with_sign, computes, compares, decides};
+ghost use Rattle.isp_base.specs.Ranks.{chosen};
+ghost use Rattle.isp_typed.specs.Typed.{rate_or};
 
 use crate::words::ValueWords;
 use isp_base::{BinOp, Compare, Elem, Gang, Rate, Span, Ty, UnaryOp, Value, common, operand};

@@ -1,5 +1,5 @@
 //! Vectors that read 0 where nothing was written, and grow where something is.
-ghost use Rattle.std.specs.Prelude.{◌≡◌, ◌<◌, ◌≤◌, ℕ, length, slice_index_or, OnOk};
+ghost use Rattle.std.specs.Prelude.{◌≡◌, ◌<◌, ◌≤◌, ℕ, length, slice_index_or, OnErr, OnOk};
 ghost use Rattle.isp_base.specs.Maps.{lane_of, put};
 ghost use Rattle.isp_gang.specs.Growing.{lanes_of, values_of};
 
@@ -18,9 +18,10 @@ pub fn at(values: &[u64], place: usize) -> u64
     }
 }
 
-/// Writes the number at a place.
+/// Writes the number at a place; a vector whose memory is refused reads as before.
 pub fn put(values: &mut Vec<u64>, place: usize, bits: u64) -> Result<(), AllocError>
-    ensures { OnOk result (values_of values.new.items ≡ put (values_of values.old.items) place bits) }
+    ensures ok { OnOk result (values_of values.new.items ≡ put (values_of values.old.items) place bits) }
+    ensures same { OnErr result (values_of values.new.items ≡ values_of values.old.items) }
 {
     for _next in values.len()..place {
         values.push(0)?;
@@ -44,9 +45,10 @@ pub fn lanes_at(values: &[Lanes], place: usize) -> Lanes
     }
 }
 
-/// Writes the lanes at a place.
+/// Writes the lanes at a place; a vector whose memory is refused reads as before.
 pub fn put_lanes(values: &mut Vec<Lanes>, place: usize, lanes: &Lanes) -> Result<(), AllocError>
-    ensures { OnOk result (lanes_of values.new.items ≡ put (lanes_of values.old.items) place (lane_of lanes.now)) }
+    ensures ok { OnOk result (lanes_of values.new.items ≡ put (lanes_of values.old.items) place (lane_of lanes.now)) }
+    ensures same { OnErr result (lanes_of values.new.items ≡ lanes_of values.old.items) }
 {
     for _next in values.len()..place {
         values.push([0; WIDEST])?;

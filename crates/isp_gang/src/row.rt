@@ -189,7 +189,7 @@ pub fn where_is(truth: bool, row: &Row) -> Active
     set
 }
 
-/// The instances whose value is 0 in an element type.
+/// The instances in which the operator would divide by zero: those whose value is a divisor and 0 in the element type.
 #[tactic(auto, using(crate::proofs::Masks::begun, crate::proofs::Rows::where_made))]
 pub fn where_zero(operator: BinOp, elem: Elem, row: &Row) -> Active
     ensures { flag_of result ≡ where_true (is_zero operator elem) (map_of row.now) }

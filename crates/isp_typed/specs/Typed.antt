@@ -110,6 +110,17 @@ type_of (t_library f e xs t s) = t
 type_of (t_packed_store b x s) = ty_of Uniform I32
 type_of (t_packed_load b v s) = ty_of Uniform I32
 
+abbrev pub elem_of : TExpr → Elem
+elem_of x = (type_of x).elem
+
+abbrev pub rate_of : TExpr → Rate
+rate_of x = (type_of x).rate
+
+-- varying where one of the two is
+abbrev pub rate_or : Rate → Rate → Rate
+rate_or Uniform r = r
+rate_or Varying r = Varying
+
 abbrev pub span_of : TExpr → Span
 span_of (t_constant v s) = s
 span_of (t_program_index s) = s

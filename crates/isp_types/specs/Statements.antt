@@ -28,13 +28,14 @@ use Rattle.isp_typed.specs.declared.variable.ArrayVariable.{ArrayVariable}
 use Rattle.isp_typed.specs.declared.variable.Holds.TheVariants as holds
 use Rattle.isp_typed.specs.declared.variable.Variable.{Variable}
 use Rattle.isp_typed.specs.Forms.{Both, Either, No_breach, Just, Made, Found, Wrong, Given, Refused, Provided, Unless, Perhaps, OfPerhaps}
-use Rattle.isp_typed.specs.Typed.{TExpr, TPlace, place_type, ty_of, TItem, t_plain, t_with_value, t_with_size, TSimple, t_value, t_run, t_assign, t_update, t_step, TFirst, t_first_declare, t_first_simple, TRange}
+use Rattle.isp_typed.specs.Fine.{foreach_index as index, active_index}
+use Rattle.isp_typed.specs.Typed.{TExpr, TPlace, place_type, ty_of, TItem, t_plain, t_with_value, t_with_size, TSimple, t_value, t_run, t_assign, t_update, t_step, TFirst, t_first_declare, t_first_simple, TRange, elem_of}
 use Rattle.isp_typed.specs.Typed.{TStmt, t_block, t_declare, t_simple, t_if, t_if_else, t_while, t_do, t_for, t_foreach, t_foreach_active, t_unmasked, t_jump, t_return, t_print, t_assert, TBlock, t_braces, TStmts, t_no_stmts, t_stmt_then}
 use Rattle.isp_exprs.specs.declared.scope.Binding.{Binding}
 use Rattle.isp_exprs.specs.declared.words.ValueWords.{ValueWords}
 use Rattle.isp_exprs.specs.Words.{value_said, type_declared}
 use Rattle.isp_exprs.specs.Scopes.{named, is_new, with_name}
-use Rattle.isp_exprs.specs.Values.{elem_of, converted}
+use Rattle.isp_exprs.specs.Values.{converted}
 use Rattle.isp_exprs.specs.Places.{mismatch, variable_target, element_target}
 use Rattle.isp_exprs.specs.Calls.{Heading, Called, gives, runs}
 use Rattle.isp_exprs.specs.Rules.{second, callee_at, IsCall, CallBreach, IsExpr, ExprBreach, AreArguments, ArgumentsBreach, pair_then}
@@ -103,13 +104,6 @@ abbrev pub first_variables : Gang → List Variable → Option First → List Va
 first_variables gang vars None = vars
 first_variables gang vars (Some (first_declare d)) = items_variables gang (value_said d.ty) vars d.items
 first_variables gang vars (Some (first_simple s)) = vars
-
--- the index of a `foreach` is a constant varying int32, that of a `foreach_active` a constant uniform int64
-abbrev pub index : Variable
-index = record { holds = holds.Value (ty_of Varying I32); constant = true }
-
-abbrev pub active_index : Variable
-active_index = record { holds = holds.Value (ty_of Uniform I64); constant = true }
 
 abbrev pub range_names : List Binding → List Variable → List Range → List Binding
 range_names ns vars [] = ns

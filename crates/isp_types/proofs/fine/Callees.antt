@@ -47,7 +47,7 @@ Fits hs n Miscounted ws = Unit {0}
 
 -- ---- the library
 
-and_true : (a b : Bool) → (a && b) ≡ true → (a ≡ true) × (b ≡ true)
+pub and_true : (a b : Bool) → (a && b) ≡ true → (a ≡ true) × (b ≡ true)
 and_true true b e = (refl, e)
 and_true false b e = absurd (no e)
   where

@@ -15,23 +15,21 @@ use Rattle.isp_typed.specs.declared.library.Part.{Part}
 use Rattle.isp_typed.specs.declared.variable.Holds.TheVariants as holds
 use Rattle.isp_typed.specs.declared.variable.Variable.{Variable}
 use Rattle.isp_typed.specs.Library.{parts, part_elem, library_type}
-use Rattle.isp_typed.specs.Typed.{TExpr, TFunction, TBase, base_array, t_packed_store, t_packed_load, ty_of}
+use Rattle.isp_typed.specs.Typed.{TExpr, TFunction, TBase, base_array, t_packed_store, t_packed_load, ty_of, elem_of, rate_of}
 use Rattle.isp_typed.specs.Fine.{FineExpr, FineBase, FineCall, FineArguments, FineParts, LibraryWorksIn, IsWhole, rates_of, params_of}
 use Rattle.isp_exprs.specs.declared.scope.Known.{Known}
 use Rattle.isp_exprs.specs.declared.callee.Callee.{Callee}
 use Rattle.isp_exprs.specs.declared.callee.Callee.TheVariants.{Unknown, Miscounted, Function, Library as OfLibrary, PackedStore, PackedLoad}
 use Rattle.isp_exprs.specs.declared.callee.Want.{Want}
 use Rattle.isp_exprs.specs.declared.callee.Want.TheVariants.{AnyValue, ValueOf, ArrayOf, Base, Destination, Anything}
-use Rattle.isp_exprs.specs.Values.{elem_of, rate_of, converted}
+use Rattle.isp_exprs.specs.Values.{converted}
 use Rattle.isp_exprs.specs.Calls.{Heading, Passed, p_value, p_array, p_base, p_destination, first_want, rest_of, Called, gives, runs, value_called, handed_call, values_among, arguments_among, function_call, worked_in, rate_all, as_parts, library_call, packed_store, loaded, packed_load, call_of}
 use Rattle.isp_types.proofs.fine.Callees.{AreWants, Headed, Fits}
 use Rattle.isp_types.proofs.fine.Passed.{ok_is, no_ok, IsKnown, Suited, FineHanded}
-use Rattle.isp_types.proofs.fine.Values.{same_is, operand_whole, common_whole, converted_elem, converted_rate, converted_fine, rate_same}
+use Rattle.isp_base.proofs.RankLaws.{same_is}
+use Rattle.isp_types.proofs.fine.Values.{operand_whole, common_whole, converted_elem, converted_rate, converted_fine}
 
 -- ---- the library's element type
-
-worked_whole : (a : Elem) (es : List Elem) → IsWhole (operand a)
-worked_whole a es = operand_whole a
 
 pub works_in : (f : Library) (es : List Elem) → LibraryWorksIn f (worked_in f es)
 works_in the.Any es = refl
@@ -50,7 +48,7 @@ rates_are t [] [] l = refl
 rates_are t [] (x ∷ xs) l = absurd (let no : ⊥ = cc in no)
 rates_are t (p ∷ qs) [] l = absurd (let no : ⊥ = cc in no)
 rates_are t (p ∷ qs) (x ∷ xs) l =
-    rate_same (rate_of x) (rate_all xs) ∙ rw (converted_rate (part_elem t p) x, rates_are t qs xs (omega (arith, l))) refl
+    rw (converted_rate (part_elem t p) x, rates_are t qs xs (omega (arith, l))) refl
 
 and_false : (b : Bool) → (b && true) ≡ false → b ≡ false
 and_false true e = e

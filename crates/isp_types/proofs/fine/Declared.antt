@@ -11,12 +11,12 @@ use Rattle.isp_tree.specs.Tree.{Item, plain, with_value, with_size, First, first
 use Rattle.isp_typed.specs.declared.variable.Variable.{Variable}
 use Rattle.isp_typed.specs.Forms.{Perhaps}
 use Rattle.isp_typed.specs.Typed.{TItem, TFirst, TStmt, TBlock, TStmts}
-use Rattle.isp_typed.specs.Fine.{IsDeclared}
+use Rattle.isp_typed.specs.Fine.{IsDeclared, foreach_index as index, active_index}
 use Rattle.isp_exprs.specs.declared.scope.Binding.{Binding}
 use Rattle.isp_exprs.specs.declared.words.ValueWords.{ValueWords}
 use Rattle.isp_exprs.specs.Words.{value_said}
 use Rattle.isp_exprs.specs.Calls.{Heading}
-use Rattle.isp_types.specs.Statements.{item_names, item_variables, items_variables, first_variables, index, active_index, range_variables, names_after, variables_after, block_variables, stmts_variables, IsItem, AreItems, IsFirst, IsStmt, IsBlock, AreStmts}
+use Rattle.isp_types.specs.Statements.{item_names, item_variables, items_variables, first_variables, range_variables, names_after, variables_after, block_variables, stmts_variables, IsItem, AreItems, IsFirst, IsStmt, IsBlock, AreStmts}
 use Rattle.isp_types.proofs.fine.Passed.{no_ok}
 use Rattle.isp_types.proofs.fine.Simples.{no_all, array_bounds}
 

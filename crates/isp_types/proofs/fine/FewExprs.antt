@@ -8,7 +8,7 @@ use Rattle.isp_base.specs.declared.types.Rate.{Rate}
 use Rattle.isp_base.specs.declared.types.Rate.TheVariants.{Uniform, Varying}
 use Rattle.isp_base.specs.declared.types.Span.{Span}
 use Rattle.isp_base.specs.declared.types.Ty.{Ty}
-use Rattle.isp_base.specs.Ranks.{same_elem, operand, common}
+use Rattle.isp_base.specs.Ranks.{same_elem, operand, common, chosen}
 use Rattle.isp_lex.specs.declared.fault.Fault.{Fault}
 use Rattle.isp_lex.specs.declared.fault.Rule.TheVariants.{Mismatch, ConstAssigned}
 use Rattle.isp_lex.specs.Faults.{fault}
@@ -23,7 +23,7 @@ use Rattle.isp_typed.specs.declared.variable.Holds.{Holds}
 use Rattle.isp_typed.specs.declared.variable.Holds.TheVariants as holds
 use Rattle.isp_typed.specs.Library.{parts, part_elem}
 use Rattle.isp_typed.specs.Nodes.{typed_nodes, place_nodes, base_nodes, call_nodes, arguments_nodes, exprs_nodes}
-use Rattle.isp_typed.specs.Typed.{TExpr, TPlace, TBase, t_whole, t_from, base_array, t_packed_store, t_packed_load}
+use Rattle.isp_typed.specs.Typed.{TExpr, TPlace, TBase, t_whole, t_from, base_array, t_packed_store, t_packed_load, elem_of}
 use Rattle.isp_exprs.specs.declared.callee.Callee.{Callee}
 use Rattle.isp_exprs.specs.declared.callee.Callee.TheVariants as callees
 use Rattle.isp_exprs.specs.declared.callee.Want.{Want}
@@ -32,7 +32,7 @@ use Rattle.isp_exprs.specs.declared.scope.Known.{Known}
 use Rattle.isp_exprs.specs.declared.scope.Binding.{Binding}
 use Rattle.isp_exprs.specs.declared.values.Joining.{Joining}
 use Rattle.isp_exprs.specs.declared.values.Joining.TheVariants as joined_as
-use Rattle.isp_exprs.specs.Values.{elem_of, converted, chosen, with_sign, joins, joining, choice}
+use Rattle.isp_exprs.specs.Values.{converted, with_sign, joins, joining, choice}
 use Rattle.isp_exprs.specs.Places.{array_of, variable_at, element_at}
 use Rattle.isp_exprs.specs.Calls.{Heading, Handed, h_value, h_run, h_array, h_name, h_element, handed_name, Passed, p_value, p_array, p_base, p_destination, p_unasked, first_want, rest_of, Called, gives, runs, value_called, handed_call, values_among, arguments_among, function_call, worked_in, as_parts, library_call, loaded, call_of, array_fits, base_fits, base_named, destination, suits}
 use Rattle.isp_exprs.specs.Rules.{callee_at, IsCall, IsExpr, IsPlace, IsArgument, AreArguments}

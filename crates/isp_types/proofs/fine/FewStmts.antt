@@ -14,25 +14,21 @@ use Rattle.isp_tree.specs.Tree.{Expr, number, truth, program_index, program_coun
 use Rattle.isp_tree.specs.Tree.{Stmt, block, empty, declare, simple, if_then, if_else, loop_while, loop_do, loop_for, foreach, foreach_active, unmasked, jump, returning, print, assert, Block, braces, Stmts, no_stmts, stmt_then, Param, Function}
 use Rattle.isp_typed.specs.Forms.{Perhaps}
 use Rattle.isp_typed.specs.Nodes.{typed_nodes, place_nodes, item_nodes, simple_nodes, first_nodes, step_nodes, range_nodes, stmt_nodes, block_nodes, stmts_nodes, function_nodes}
-use Rattle.isp_typed.specs.Typed.{TExpr, TPlace, place_type, TItem, TSimple, TFirst, TRange, TStmt, TBlock, TStmts, TFunction}
+use Rattle.isp_typed.specs.Typed.{TExpr, TPlace, place_type, TItem, TSimple, TFirst, TRange, TStmt, TBlock, TStmts, TFunction, elem_of}
 use Rattle.isp_typed.specs.declared.variable.Variable.{Variable}
 use Rattle.isp_exprs.specs.declared.scope.Binding.{Binding}
 use Rattle.isp_exprs.specs.declared.words.ValueWords.{ValueWords}
 use Rattle.isp_exprs.specs.Words.{value_said, answer_said, type_declared}
 use Rattle.isp_exprs.specs.Scopes.{with_name}
-use Rattle.isp_exprs.specs.Values.{elem_of}
 use Rattle.isp_exprs.specs.Places.{variable_at, element_at, unless_constant}
 use Rattle.isp_exprs.specs.Calls.{Heading, Called, gives, runs}
 use Rattle.isp_exprs.specs.Rules.{callee_at}
-use Rattle.isp_types.specs.Statements.{declared, or_nothing, item_names, item_variables, first_names, first_variables, index, active_index, range_names, range_variables, names_after, variables_after, stated, assigned_by, assignment_operator, as_answer, IsItem, AreItems, IsDeclaration, IsTarget, IsSimple, IsFirst, IsTest, AreRanges, AreValues, IsReturned, IsStmt, IsBlock, AreStmts}
+use Rattle.isp_types.specs.Statements.{declared, or_nothing, item_names, item_variables, first_names, first_variables, range_names, range_variables, names_after, variables_after, stated, assigned_by, assignment_operator, as_answer, IsItem, AreItems, IsDeclaration, IsTarget, IsSimple, IsFirst, IsTest, AreRanges, AreValues, IsReturned, IsStmt, IsBlock, AreStmts}
+use Rattle.isp_typed.specs.Fine.{foreach_index as index, active_index}
 use Rattle.isp_types.specs.Functions.{param_variable, param_span, IsBody, IsFunction, AreFunctions}
+use Rattle.isp_types.proofs.fine.Simples.{open_is}
 use Rattle.isp_types.proofs.fine.Passed.{no_ok}
 use Rattle.isp_types.proofs.fine.FewExprs.{FewPlace, converted_few, place_few, element_few, called_nodes, made_few, expr_few, arguments_are_few}
-
-open_one : {A : Type 0} (c : Bool) (s : Span) (r : Result A Fault) (a : A) → unless_constant c s r ≡ Ok a → r ≡ Ok a
-open_one c s (Err f) a e = absurd (no_ok e)
-open_one true s (Ok b) a e = absurd (no_ok e)
-open_one false s (Ok b) a e = e
 
 assigned_few : (o : Option BinOp) (s : Span) (p : TPlace) (x : TExpr) → simple_nodes (assigned_by o s (p, x)) ≤ suc (place_nodes p + typed_nodes x)
 assigned_few None s p x = omega (arith, converted_few (place_type p).elem x)
@@ -49,9 +45,9 @@ stated_is (runs c) = refl
 
 module _ (gang : Gang) (hs : List Heading) where
   target_few : (ns : List Binding) (x : Expr) (p : TPlace) → IsTarget gang hs ns x p → FewPlace p (nodes x)
-  target_few ns (place (variable w)) p i = place_few w.span i.0 p (open_one i.0.variable.constant w.span (variable_at w.span i.0) p i.2)
+  target_few ns (place (variable w)) p i = place_few w.span i.0 p (open_is i.0.variable.constant w.span (variable_at w.span i.0) p i.2).1
   target_few ns (place (element w x s)) p i =
-      element_few s i.0.0 i.0.1 (nodes x) (expr_few gang hs ns x i.0.1 i.1.1) p (open_one i.0.0.variable.constant s (element_at s i.0) p i.2)
+      element_few s i.0.0 i.0.1 (nodes x) (expr_few gang hs ns x i.0.1 i.1.1) p (open_is i.0.0.variable.constant s (element_at s i.0) p i.2).1
   target_few ns (number v s) p i = absurd (no_ok i.2)
   target_few ns (truth b s) p i = absurd (no_ok i.2)
   target_few ns (program_index s) p i = absurd (no_ok i.2)

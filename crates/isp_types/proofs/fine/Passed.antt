@@ -14,15 +14,15 @@ use Rattle.isp_typed.specs.declared.variable.ArrayVariable.{ArrayVariable}
 use Rattle.isp_typed.specs.declared.variable.Holds.{Holds}
 use Rattle.isp_typed.specs.declared.variable.Holds.TheVariants as holds
 use Rattle.isp_typed.specs.declared.variable.Variable.{Variable}
-use Rattle.isp_typed.specs.Typed.{TExpr, TPlace, TFunction, TBase, t_whole, t_from, base_array, ty_of}
+use Rattle.isp_typed.specs.Typed.{TExpr, TPlace, TFunction, TBase, t_whole, t_from, base_array, ty_of, elem_of, rate_of}
 use Rattle.isp_typed.specs.Fine.{FineExpr, FinePlace, FineBase, FineCall, HoldsArray, HoldsValue, array_type}
 use Rattle.isp_exprs.specs.declared.scope.Known.{Known}
 use Rattle.isp_exprs.specs.declared.callee.Want.{Want}
 use Rattle.isp_exprs.specs.declared.callee.Want.TheVariants.{AnyValue, ValueOf, ArrayOf, Base, Destination, Anything}
-use Rattle.isp_exprs.specs.Values.{elem_of, rate_of}
 use Rattle.isp_exprs.specs.Places.{as_array, array_of, variable_at, element_at}
 use Rattle.isp_exprs.specs.Calls.{Handed, h_value, h_run, h_array, h_name, h_element, handed_name, Passed, p_value, p_array, p_base, p_destination, p_unasked, array_fits, base_fits, base_named, destination, suits}
-use Rattle.isp_types.proofs.fine.Values.{same_is, converted_elem, converted_fine, rate_same}
+use Rattle.isp_base.proofs.RankLaws.{same_is}
+use Rattle.isp_types.proofs.fine.Values.{converted_elem, converted_fine}
 
 pub ok_is : {A : Type 0} (a b : A) → ◌≡◌ {A = Result A Fault} (Ok a) (Ok b) → a ≡ b
 ok_is a b e = cc
@@ -68,7 +68,7 @@ module _ (gs : List TFunction) (all : List Variable) where
     where
       go : (o : Option ArrayVariable) → array_of k ≡ o → FinePlace gs all p
       go None q = absurd (no_ok (rw q at e))
-      go (Some a) q = subst (FinePlace gs all) (ok_is _ p (rw q at e)) (array_known all k known a q, f, ap (λ z. ty_of z a.ty.elem) (rate_same a.ty.rate (rate_of x)), i)
+      go (Some a) q = subst (FinePlace gs all) (ok_is _ p (rw q at e)) (array_known all k known a q, f, refl, i)
 
   -- ---- arguments
 

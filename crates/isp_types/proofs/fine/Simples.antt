@@ -18,21 +18,21 @@ use Rattle.isp_typed.specs.declared.variable.ArrayVariable.{ArrayVariable}
 use Rattle.isp_typed.specs.declared.variable.Holds.{Holds}
 use Rattle.isp_typed.specs.declared.variable.Holds.TheVariants as holds
 use Rattle.isp_typed.specs.declared.variable.Variable.{Variable}
-use Rattle.isp_typed.specs.Typed.{TExpr, TPlace, place_type, TItem, t_with_size, TSimple, TFirst, TRange, TFunction}
-use Rattle.isp_typed.specs.Fine.{FineExpr, FinePlace, FineValue, FineTarget, FineItem, FineSimple, FineFirst, FineRange, IsSized}
+use Rattle.isp_typed.specs.Typed.{TExpr, TPlace, place_type, TItem, t_with_size, TSimple, TFirst, TRange, TFunction, elem_of}
+use Rattle.isp_typed.specs.Fine.{FineExpr, FinePlace, FineValue, FineTarget, FineItem, FineSimple, FineFirst, FineRange, IsSized, foreach_index as index}
 use Rattle.isp_exprs.specs.declared.scope.Known.{Known}
 use Rattle.isp_exprs.specs.declared.scope.Binding.{Binding}
 use Rattle.isp_exprs.specs.declared.words.ValueWords.{ValueWords}
 use Rattle.isp_exprs.specs.Words.{value_said, type_declared}
 use Rattle.isp_exprs.specs.Scopes.{with_name}
-use Rattle.isp_exprs.specs.Values.{elem_of, converted}
+use Rattle.isp_exprs.specs.Values.{converted}
 use Rattle.isp_exprs.specs.Places.{array_of, variable_at, element_at, unless_constant}
 use Rattle.isp_exprs.specs.Calls.{Heading, Called, gives, runs}
 use Rattle.isp_exprs.specs.Rules.{callee_at}
-use Rattle.isp_types.specs.Statements.{size_number, array_sized, item_names, item_variables, items_names, items_variables, first_names, first_variables, index, range_names, range_variables, stated, assigned_by, assignment_operator, IsItem, AreItems, IsDeclaration, IsTarget, IsSimple, IsFirst, AreRanges, AreValues}
+use Rattle.isp_types.specs.Statements.{size_number, array_sized, item_names, item_variables, items_names, items_variables, first_names, first_variables, range_names, range_variables, stated, assigned_by, assignment_operator, IsItem, AreItems, IsDeclaration, IsTarget, IsSimple, IsFirst, AreRanges, AreValues}
 use Rattle.isp_types.proofs.NamesKept.{Grown, same, then as and_then, one_more}
 use Rattle.isp_types.proofs.fine.Names.{InScope, named_is, name_added, get_next}
-use Rattle.isp_types.proofs.fine.Callees.{Headed}
+use Rattle.isp_types.proofs.fine.Callees.{Headed, and_true}
 use Rattle.isp_types.proofs.fine.Values.{converted_elem, converted_fine, common_whole}
 use Rattle.isp_types.proofs.fine.Passed.{ok_is, no_ok, some_is, no_some, IsKnown, element_known}
 use Rattle.isp_types.proofs.fine.Calls.{FineCalled}
@@ -61,11 +61,7 @@ no_all P = λ k d lt. absurd (none k lt)
 
 -- ---- targets
 
-both_true : (a b : Bool) → (a && b) ≡ true → (a ≡ true) × (b ≡ true)
-both_true true b e = (refl, e)
-both_true false b e = absurd (let no : ⊥ = cc in no)
-
-open_is : {A : Type 0} (c : Bool) (s : Span) (r : Result A Fault) (a : A) → unless_constant c s r ≡ Ok a → (c ≡ false) × (r ≡ Ok a)
+pub open_is : {A : Type 0} (c : Bool) (s : Span) (r : Result A Fault) (a : A) → unless_constant c s r ≡ Ok a → (c ≡ false) × (r ≡ Ok a)
 open_is c s (Err f) a e = absurd (no_ok e)
 open_is true s (Ok b) a e = absurd (no_ok e)
 open_is false s (Ok b) a e = (refl, e)
@@ -86,7 +82,7 @@ array_bounds gang k w n a e = go (nat_lt 0 (size_number gang n) && nat_lt (size_
   where
     go : (t : Bool) → (nat_lt 0 (size_number gang n) && nat_lt (size_number gang n) 65537) ≡ t → IsSized (size_number gang n)
     go false q = absurd (no_ok (rw q at e))
-    go true q = let b : (nat_lt 0 (size_number gang n) ≡ true) × (nat_lt (size_number gang n) 65537 ≡ true) = both_true _ _ q in record {
+    go true q = let b : (nat_lt 0 (size_number gang n) ≡ true) × (nat_lt (size_number gang n) 65537 ≡ true) = and_true _ _ q in record {
       some = omega (arith, ltb-true 0 (size_number gang n) b.0);
       few = omega (arith, ltb-true (size_number gang n) 65537 b.1);
     }

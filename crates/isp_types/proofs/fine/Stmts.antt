@@ -9,11 +9,11 @@ use Rattle.isp_tree.specs.Sound.{IfAny, IsSoundExpr, IsSoundFirst, IsSoundSimple
 use Rattle.isp_tree.specs.Tree.{Expr, First, Simple, Stmt, block, empty, declare, simple, if_then, if_else, loop_while, loop_do, loop_for, foreach, foreach_active, unmasked, jump, returning, print, assert, Block, braces, Stmts, no_stmts, stmt_then}
 use Rattle.isp_typed.specs.declared.variable.Variable.{Variable}
 use Rattle.isp_typed.specs.Typed.{TExpr, TFirst, TSimple, TStmt, TBlock, TStmts, TFunction}
-use Rattle.isp_typed.specs.Fine.{FineValue, FineFirst, FineSimple, FineReturned, FineStmt, FineBlock, FineStmts}
+use Rattle.isp_typed.specs.Fine.{FineValue, FineFirst, FineSimple, FineReturned, FineStmt, FineBlock, FineStmts, active_index}
 use Rattle.isp_exprs.specs.declared.scope.Binding.{Binding}
 use Rattle.isp_exprs.specs.Scopes.{with_name}
 use Rattle.isp_exprs.specs.Calls.{Heading}
-use Rattle.isp_types.specs.Statements.{first_names, first_variables, active_index, range_names, range_variables, names_after, variables_after, block_variables, stmts_variables, places, IsTest, IsSimple, IsFirst, AreValues, IsReturned, IsStmt, IsBlock, AreStmts}
+use Rattle.isp_types.specs.Statements.{first_names, first_variables, range_names, range_variables, names_after, variables_after, block_variables, stmts_variables, places, IsTest, IsSimple, IsFirst, AreValues, IsReturned, IsStmt, IsBlock, AreStmts}
 use Rattle.isp_exprs.specs.Words.{value_said}
 use Rattle.isp_typed.specs.Forms.{Perhaps}
 use Rattle.isp_types.proofs.NamesKept.{Grown, same, then as and_then, one_more}

@@ -9,39 +9,22 @@ use Rattle.isp_base.specs.declared.types.Gang.TheVariants as gangs
 use Rattle.isp_base.specs.declared.types.Rate.{Rate}
 use Rattle.isp_base.specs.declared.types.Rate.TheVariants.{Uniform, Varying}
 use Rattle.isp_base.specs.declared.types.Span.{Span}
-use Rattle.isp_base.specs.Ranks.{rank, same_elem, operand, common}
+use Rattle.isp_base.specs.Ranks.{rank, same_elem, operand, common, chosen}
 use Rattle.isp_base.specs.Values.{greatest}
-use Rattle.isp_base.proofs.RankLaws.{common_one}
+use Rattle.isp_base.proofs.RankLaws.{common_one, same_is}
 use Rattle.isp_tree.specs.Sound.{InText}
 use Rattle.isp_tree.specs.declared.expr.Prefix.{Prefix}
 use Rattle.isp_tree.specs.declared.expr.Prefix.TheVariants as sign
 use Rattle.isp_typed.specs.declared.variable.Variable.{Variable}
-use Rattle.isp_typed.specs.Typed.{TExpr, TFunction, type_of, ty_of}
+use Rattle.isp_typed.specs.Typed.{TExpr, TFunction, type_of, ty_of, elem_of, rate_of, rate_or}
 use Rattle.isp_typed.specs.Fine as fine
 use Rattle.isp_typed.specs.Fine.{FineExpr, IsWhole}
 use Rattle.isp_exprs.specs.declared.values.Joining.{Joining}
 use Rattle.isp_exprs.specs.declared.values.Joining.TheVariants as joined_as
 use Rattle.isp_exprs.specs.declared.words.ValueWords.{ValueWords}
-use Rattle.isp_exprs.specs.Values.{elem_of, rate_of, rate_or, converted, chosen, cast_to, with_sign, joins, choice, truth_value, count_value}
+use Rattle.isp_exprs.specs.Values.{converted, cast_to, with_sign, joins, choice, truth_value, count_value}
 
--- ---- element types and rates
-
-abbrev of_rank : ℕ → Elem
-of_rank n = if n == 0 then Truth else (if n == 1 then I8 else (if n == 2 then U8 else (if n == 3 then I16 else (if n == 4 then U16 else (if n == 5 then I32 else (if n == 6 then U32 else (if n == 7 then I64 else U64)))))))
-
-ranked : (e : Elem) → of_rank (rank e) ≡ e
-ranked Truth = refl
-ranked I8 = refl
-ranked U8 = refl
-ranked I16 = refl
-ranked U16 = refl
-ranked I32 = refl
-ranked U32 = refl
-ranked I64 = refl
-ranked U64 = refl
-
-pub same_is : (a b : Elem) → same_elem a b ≡ true → a ≡ b
-same_is a b e = sym (ranked a) ∙ (ap of_rank (eqb-true (rank a) (rank b) e) ∙ ranked b)
+-- ---- element types
 
 pub operand_whole : (e : Elem) → IsWhole (operand e)
 operand_whole Truth = refl
@@ -56,10 +39,6 @@ operand_whole U64 = refl
 
 pub common_whole : (a b : Elem) → IsWhole (common a b)
 common_whole a b = elim (common_one a b) as (λ z. IsWhole (common a b)) [ inl e ↦ rw e (operand_whole a) | inr e ↦ rw e (operand_whole b) ]
-
-pub rate_same : (a b : Rate) → rate_or a b ≡ fine.rate_or a b
-rate_same Uniform b = refl
-rate_same Varying b = refl
 
 -- ---- conversions
 
@@ -113,7 +92,7 @@ module _ (gs : List TFunction) (all : List Variable) where
   operands e x y = record {
     left = converted_elem e x;
     right = converted_elem e y;
-    rate = rw (converted_rate e x, converted_rate e y) (rate_same (rate_of x) (rate_of y));
+    rate = rw (converted_rate e x, converted_rate e y) refl;
   }
 
   pub joined_fine : (s : Span) → InText s → (x y : TExpr) → FineExpr gs all x → FineExpr gs all y → (j : Joining) → FineExpr gs all (joins s x y j)
@@ -134,5 +113,5 @@ module _ (gs : List TFunction) (all : List Variable) where
         converted_elem Truth c,
         converted_elem e x,
         converted_elem e y,
-        rw (converted_rate Truth c, converted_rate e x, converted_rate e y) (rate_same (rate_of c) (rate_or (rate_of x) (rate_of y)) ∙ ap (λ z. fine.rate_or (rate_of c) z) (rate_same (rate_of x) (rate_of y))),
+        rw (converted_rate Truth c, converted_rate e x, converted_rate e y) refl,
       )

@@ -20,7 +20,8 @@ use Rattle.isp_exprs.specs.Scopes.{named, is_new, with_name}
 use Rattle.isp_exprs.specs.Places.{variable_target, element_target}
 use Rattle.isp_exprs.specs.Calls.{Heading}
 use Rattle.isp_exprs.specs.Rules.{second, callee_at, pair_then}
-use Rattle.isp_types.specs.Statements.{or_nothing, array_sized, item_names, item_variables, first_names, first_variables, index, active_index, range_names, range_variables, names_after, variables_after, with_initial, sized_item, as_test, stated, assigned, stepped, range_made, places, agrees, as_answer}
+use Rattle.isp_types.specs.Statements.{or_nothing, array_sized, item_names, item_variables, first_names, first_variables, range_names, range_variables, names_after, variables_after, with_initial, sized_item, as_test, stated, assigned, stepped, range_made, places, agrees, as_answer}
+use Rattle.isp_typed.specs.Fine.{foreach_index as index, active_index}
 use Rattle.isp_types.specs.Statements.{no_place, declared_first, declared_stmt, simple_stmt, if_stmt, if_else_stmt, while_stmt, do_stmt, for_stmt, foreach_stmt, active_stmt, unmasked_stmt, return_stmt, print_stmt, assert_stmt, braces_made, stmts_made}
 use Rattle.isp_exprs.specs.reader.Judge.{judge_call, judge, judge_arguments}
 

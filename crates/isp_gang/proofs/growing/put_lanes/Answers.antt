@@ -11,11 +11,11 @@ loop-next-preserved c =
       long = ap length c.in_ok-push.ensures.items ∙ longer c.loop-next.values.items (replicate 16 0) c.loop-next._next c.loop-next.invariant.long;
     }
 
-pub returns-then-place-len : goal.returns-then-place-len
-returns-then-place-len c = written lane_of (λ p. 0) c.loop-next.values.items c.args.lanes.now c.args.place (omega (arith, c.if-place-len.true, c.len.ensures)) ∙ ap (λ f. put f c.args.place (lane_of c.args.lanes.now)) c.loop-next.invariant.same
+pub returns-then-place-len-clause-ok : goal.returns-then-place-len-clause-ok
+returns-then-place-len-clause-ok c = written lane_of (λ p. 0) c.loop-next.values.items c.args.lanes.now c.args.place (omega (arith, c.if-place-len.true, c.len.ensures)) ∙ ap (λ f. put f c.args.place (lane_of c.args.lanes.now)) c.loop-next.invariant.same
 
-pub returns-in_ok-push-2 : goal.returns-in_ok-push-2
-returns-in_ok-push-2 c =
+pub returns-in_ok-push-2-clause-ok : goal.returns-in_ok-push-2-clause-ok
+returns-in_ok-push-2-clause-ok c =
     ap lanes_of c.in_ok-push-2.ensures.items
     ∙ pushed lane_of (λ p. 0) c.loop-next.values.items c.args.lanes.now c.args.place (omega (arith, c.loop-next.invariant.long, c.loop-next-test.false, c.if-place-len.false, c.len.ensures))
     ∙ ap (λ f. put f c.args.place (lane_of c.args.lanes.now)) c.loop-next.invariant.same
