@@ -48,6 +48,7 @@ impl<const N: usize> FrameArray<N> {
     {
         &self.own
     }
+
     /// Each lane of the mask writes its value at its index, into the array that all share or into
     /// its own. Where two write at one element, the higher wins.
     ///

@@ -178,6 +178,7 @@ impl<const N: usize> Frame<N> {
     {
         self.masks[r as usize] = value;
     }
+
     /// Each lane of a mask writes its value at its index in an array.
     ///
     /// Index where one is outside, with the lowest such lane, and then nothing changes.

@@ -137,6 +137,7 @@ pub(crate) fn divided<const N: usize>(
     ensures none { IfOk result (λ _. lowest_failing N (is_zero (division_of op) value.old.elem) (on (flag_of mask.now) (lane_of y.now.bits)) ≡ None) }
     ensures lanes { IfOk result (λ _. lane_of value.new.bits ≡ over (map2 (op_bits (division_of op) value.old.elem) (on (flag_of mask.now) (lane_of x.now.bits)) (on (flag_of mask.now) (lane_of y.now.bits))) (lane_of value.old.bits)) }
     ensures lowest { IfErr result (λ lane. lowest_failing N (is_zero (division_of op) value.old.elem) (on (flag_of mask.now) (lane_of y.now.bits)) ≡ Some lane) }
+    ensures same { IfErr result (λ _. value.new ≡ value.old) }
 {
     value.told();
     x.told();

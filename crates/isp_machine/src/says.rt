@@ -57,7 +57,8 @@ pub(crate) fn print_scalar<const N: usize>(
     Ok(())
 }
 
-/// Writes the lanes of a mask, with `_` for each other lane. The text is made before any of it is written. Where memory is refused nothing changes.
+/// Writes the lanes of a mask, with `_` for each other lane. The text is made before any of it is
+/// written. Where memory is refused nothing changes.
 pub(crate) fn print_vector<const N: usize>(
     alloc: Global,
     here: &Here,
