@@ -1,6 +1,7 @@
 //! The grammar: which texts are programs, and where others are refused.
-use crate::outcomes::{compare_each, outcome};
+use crate::outcomes::{comes_to, compare_each};
 use std::alloc::{AllocError, Global};
+use std::process::Abort;
 use std::test::Fail;
 
 /// What each source comes to.
@@ -37,8 +38,7 @@ const SOURCES: &[(&str, &str)] = &[
     ("export void f() {", "10 Unexpected at 17..17"),
 ];
 
-/// What stands so many times between two texts.
-#[derive(Clone, Copy)]
+/// A source in which a text stands so many times between two others, and how what it comes to begins.
 struct Nested {
     before: &'static str,
     open: &'static str,
@@ -46,39 +46,90 @@ struct Nested {
     middle: &'static str,
     close: &'static str,
     after: &'static str,
+    wanted: &'static str,
 }
 
-/// Brackets around a number.
-fn brackets(count: usize) -> Nested {
+/// The deepest source that is taken, and deeper ones.
+const DEEP: &[Nested] = &[
     Nested {
         before: "export void f() { int x = ",
         open: "(",
-        count,
+        count: 125,
         middle: "1",
         close: ")",
         after: "; }",
-    }
-}
-
-/// Braces, closed or left open.
-fn blocks(before: &'static str, count: usize, close: &'static str) -> Nested {
+        wanted: "taken",
+    },
     Nested {
-        before,
-        open: "{",
-        count,
+        before: "export void f() { int x = ",
+        open: "(",
+        count: 126,
+        middle: "1",
+        close: ")",
+        after: "; }",
+        wanted: "11 TooDeep at ",
+    },
+    Nested {
+        before: "void f() { x = a",
+        open: " + a",
+        count: 130,
         middle: "",
-        close,
+        close: "",
+        after: "; }",
+        wanted: "11 TooDeep at ",
+    },
+    Nested {
+        before: "void f() ",
+        open: "{",
+        count: 200,
+        middle: "",
+        close: "}",
         after: "",
-    }
-}
+        wanted: "11 TooDeep at ",
+    },
+];
+
+/// Sources of as many bytes as there may be.
+const LONGEST: &[Nested] = &[
+    Nested {
+        before: "",
+        open: "{",
+        count: 1_048_576,
+        middle: "",
+        close: "",
+        after: "",
+        wanted: "10 Unexpected at 0..1",
+    },
+    Nested {
+        before: "void f() ",
+        open: "{",
+        count: 1_048_567,
+        middle: "",
+        close: "",
+        after: "",
+        wanted: "11 TooDeep at ",
+    },
+];
 
 fn text_of(alloc: Global, nested: &Nested) -> Result<String, AllocError> {
-    let mut text = nested.before.to_string(alloc)?;
-    text.push_str(&nested.open.repeat(alloc, nested.count)?)?;
-    text.push_str(nested.middle)?;
-    text.push_str(&nested.close.repeat(alloc, nested.count)?)?;
-    text.push_str(nested.after)?;
-    Ok(text)
+    let opened = nested.open.repeat(alloc, nested.count)?;
+    let closed = nested.close.repeat(alloc, nested.count)?;
+    format!(in alloc;
+        "{}{opened}{}{closed}{}",
+        nested.before, nested.middle, nested.after
+    )
+}
+
+fn compare_nested(rt: &impl Abort, alloc: Global, rows: &[Nested]) -> Result<(), Fail> {
+    for nested in rows {
+        let source = text_of(alloc, nested)?;
+        assert!(rt;
+            comes_to(alloc, &source, nested.wanted)?,
+            "{}",
+            nested.wanted
+        );
+    }
+    Ok(())
 }
 
 #[test]
@@ -86,36 +137,12 @@ fn sources(rt: HostRuntime) -> Result<(), Fail> {
     compare_each(&rt, rt.alloc(), SOURCES)
 }
 
-/// How the outcome of a text begins.
-fn begins(alloc: Global, nested: &Nested, wanted: &str) -> Result<bool, Fail> {
-    let source = text_of(alloc, nested)?;
-    let found = outcome(alloc, &source)?;
-    Ok(found.starts_with(wanted))
-}
-
 #[test]
 fn depth(rt: HostRuntime) -> Result<(), Fail> {
-    let alloc = rt.alloc();
-    assert!(rt; begins(alloc, &brackets(125), "taken")?);
-    let chain = Nested {
-        before: "void f() { x = a",
-        open: " + a",
-        count: 130,
-        middle: "",
-        close: "",
-        after: "; }",
-    };
-    for deep in [brackets(126), chain, blocks("void f() ", 200, "}")] {
-        assert!(rt; begins(alloc, &deep, "11 TooDeep at ")?, "{}", deep.before);
-    }
-    Ok(())
+    compare_nested(&rt, rt.alloc(), DEEP)
 }
 
 #[test]
 fn the_longest_sources(rt: HostRuntime) -> Result<(), Fail> {
-    let alloc = rt.alloc();
-    let braces = text_of(alloc, &blocks("", 1_048_576, ""))?;
-    compare_each(&rt, alloc, &[(&braces, "10 Unexpected at 0..1")])?;
-    assert!(rt; begins(alloc, &blocks("void f() ", 1_048_567, ""), "11 TooDeep at ")?);
-    Ok(())
+    compare_nested(&rt, rt.alloc(), LONGEST)
 }

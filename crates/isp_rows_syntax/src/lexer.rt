@@ -1,11 +1,14 @@
 //! The lexer: tokens, their values, bytes and places, and the first fault.
-use crate::outcomes::compare_each;
+use crate::outcomes::{comes_to, compare_each};
 use isp_base::{Elem, Span};
 use isp_lex::{Mark, SourceFault, Token, TokenKind, lex};
 use std::alloc::Global;
+use std::process::Abort;
 use std::test::Fail;
 
 const LIMIT: usize = 1_048_576;
+
+const LONGER: usize = 1_048_577;
 
 /// What a token is to be.
 enum Kind {
@@ -376,28 +379,32 @@ fn is_token(found: &Token, kind: &Kind, start: usize, end: usize) -> bool {
     found.span == Span { start, end } && is_kind(&found.kind, kind)
 }
 
-/// Whether a source is one token of this kind.
-fn is_one(alloc: Global, source: &str, kind: &Kind) -> Result<bool, SourceFault> {
+/// A source that is one token of this kind.
+fn compare_one(rt: &impl Abort, alloc: Global, source: &str, kind: &Kind) -> Result<(), Fail> {
     let tokens = lex(alloc, source)?;
-    match tokens.as_slice() {
-        [token] => Ok(is_token(token, kind, 0, source.len())),
-        _ => Ok(false),
-    }
+    let same = match tokens.as_slice() {
+        [token] => is_token(token, kind, 0, source.len()),
+        _ => false,
+    };
+    assert!(rt; same, "{source}");
+    Ok(())
 }
 
-/// Whether a source is these tokens.
-fn is_each(
-    alloc: Global,
-    source: &str,
-    kinds: &[(Kind, usize, usize)],
-) -> Result<bool, SourceFault> {
-    let tokens = lex(alloc, source)?;
-    let found = tokens.as_slice();
+/// Whether tokens are of these kinds, where they are to stand.
+fn are_tokens(found: &[Token], kinds: &[(Kind, usize, usize)]) -> bool {
     let mut same = found.len() == kinds.len();
     for (token, (kind, start, end)) in found.iter().zip(kinds) {
         same = same && is_token(token, kind, *start, *end);
     }
-    Ok(same)
+    same
+}
+
+fn compare_several(rt: &impl Abort, alloc: Global) -> Result<(), Fail> {
+    for (source, kinds) in SEVERAL {
+        let tokens = lex(alloc, source)?;
+        assert!(rt; are_tokens(tokens.as_slice(), kinds), "{source}");
+    }
+    Ok(())
 }
 
 /// Whether a source has so many tokens.
@@ -410,7 +417,7 @@ fn has_tokens(alloc: Global, source: &str, count: usize) -> Result<bool, SourceF
 fn single_tokens(rt: HostRuntime) -> Result<(), Fail> {
     for table in [SIGNS, WORDS, LEFT_OUT, NAMES, NUMBERS, TEXTS] {
         for (source, kind) in table {
-            assert!(rt; is_one(rt.alloc(), source, kind)?, "{source}");
+            compare_one(&rt, rt.alloc(), source, kind)?;
         }
     }
     Ok(())
@@ -418,9 +425,7 @@ fn single_tokens(rt: HostRuntime) -> Result<(), Fail> {
 
 #[test]
 fn several_tokens(rt: HostRuntime) -> Result<(), Fail> {
-    for (source, kinds) in SEVERAL {
-        assert!(rt; is_each(rt.alloc(), source, kinds)?, "{source}");
-    }
+    compare_several(&rt, rt.alloc())?;
     for (source, count) in COUNTS {
         assert!(rt; has_tokens(rt.alloc(), source, *count)?, "{source}");
     }
@@ -435,11 +440,11 @@ fn faults(rt: HostRuntime) -> Result<(), Fail> {
     Ok(())
 }
 
+/// The longest source, and one that is longer by one byte.
 #[test]
 fn the_longest_source(rt: HostRuntime) -> Result<(), Fail> {
     let alloc = rt.alloc();
-    let mut source = " ".repeat(alloc, LIMIT)?;
-    assert!(rt; has_tokens(alloc, &source, 0)?);
-    source.push('@')?;
-    compare_each(&rt, alloc, &[(&source, "5 TooLong at 0..0")])
+    assert!(rt; has_tokens(alloc, &" ".repeat(alloc, LIMIT)?, 0)?);
+    assert!(rt; comes_to(alloc, &"@".repeat(alloc, LONGER)?, "5 TooLong at 0..0")?);
+    Ok(())
 }

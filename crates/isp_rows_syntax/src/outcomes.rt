@@ -11,21 +11,28 @@ pub fn tree(alloc: Global, source: &str) -> Result<Tree, SourceFault> {
 }
 
 /// `taken`, or the fault's number, name and place.
-pub fn outcome(alloc: Global, source: &str) -> Result<String, Fail> {
+fn outcome(alloc: Global, source: &str) -> Result<String, Fail> {
     match tree(alloc, source) {
         Ok(_tree) => Ok(String::from_str(alloc, "taken")?),
         Err(fault) => Ok(format!(in alloc; "{fault}")?),
     }
 }
 
+pub fn assert_same(rt: &impl Abort, source: &str, found: &str, wanted: &str) {
+    assert!(rt; found == wanted, "{source}: {found}, not {wanted}");
+}
+
 /// Each source with what it is to come to.
 pub fn compare_each(rt: &impl Abort, alloc: Global, rows: &[(&str, &str)]) -> Result<(), Fail> {
     for (source, wanted) in rows {
         let found = outcome(alloc, source)?;
-        assert!(rt;
-            found.as_str() == *wanted,
-            "{source}: {found}, not {wanted}"
-        );
+        assert_same(rt, source, &found, wanted);
     }
     Ok(())
+}
+
+/// Whether what a source comes to begins so.
+pub fn comes_to(alloc: Global, source: &str, wanted: &str) -> Result<bool, Fail> {
+    let found = outcome(alloc, source)?;
+    Ok(found.starts_with(wanted))
 }

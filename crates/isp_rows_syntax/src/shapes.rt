@@ -453,10 +453,15 @@ fn stmt(out: &mut Line, s: &Stmt) {
 #[cycle(stmt)]
 fn block(out: &mut Line, block: &Block) {
     out.open("block");
-    for each in &block.statements {
+    statements(out, &block.statements);
+    out.close();
+}
+
+#[cycle(stmt)]
+fn statements(out: &mut Line, statements: &[Stmt]) {
+    for each in statements {
         stmt(out, each);
     }
-    out.close();
 }
 
 fn param(out: &mut Line, param: &Param) {
@@ -466,8 +471,10 @@ fn param(out: &mut Line, param: &Param) {
     out.close();
 }
 
+/// The spans are the function's and its body's.
 fn function(out: &mut Line, function: &Function) {
     out.open("function");
+    out.place(function.span);
     for each in &function.linkages {
         out.word(linkage(*each));
     }
@@ -476,6 +483,7 @@ fn function(out: &mut Line, function: &Function) {
     for each in &function.params {
         param(out, each);
     }
+    out.place(function.body.span);
     block(out, &function.body);
     out.close();
 }
@@ -485,6 +493,15 @@ pub fn shape(alloc: Global, tree: &Tree) -> Result<String, AllocError> {
     let mut out = Line::new(alloc);
     for each in tree.functions() {
         function(&mut out, each);
+    }
+    out.finish()
+}
+
+/// The statements of a tree's functions alone.
+pub fn shape_of_statements(alloc: Global, tree: &Tree) -> Result<String, AllocError> {
+    let mut out = Line::new(alloc);
+    for each in tree.functions() {
+        statements(&mut out, &each.body.statements);
     }
     out.finish()
 }

@@ -1,7 +1,6 @@
 //! The tree of one text for each production, operator, qualifier and form of statement.
-use crate::outcomes::tree;
-use crate::shapes::shape;
-use isp_base::Span;
+use crate::outcomes::{assert_same, tree};
+use crate::shapes::{shape, shape_of_statements};
 use isp_lex::SourceFault;
 use std::alloc::Global;
 use std::process::Abort;
@@ -10,12 +9,16 @@ use std::test::Fail;
 /// Functions, each with the line of its tree.
 const FUNCTIONS: &[(&str, &str)] = &[
     (
+        "void f() { print ( \"%\", a ) ; }",
+        " (function 0..31 (type void) f 9..31 (block (print 11..16 19..22 11..29 a)))",
+    ),
+    (
         "export static inline void f(void) { }",
-        " (function export static inline (type void) f (block))",
+        " (function 0..37 export static inline (type void) f 34..37 (block))",
     ),
     (
         "int f(uniform int a[], bool b) { } void g() { }",
-        " (function (type int) f (array (type uniform int) a) (value (type bool) b) (block)) (function (type void) g (block))",
+        " (function 0..34 (type int) f (array (type uniform int) a) (value (type bool) b) 31..34 (block)) (function 35..47 (type void) g 44..47 (block))",
     ),
 ];
 
@@ -129,37 +132,29 @@ const STATEMENTS: &[(&str, &str)] = &[
     ("return a;", " (return a)"),
     ("print(\"\");", " (print 10..15 16..18 10..20)"),
     ("print(\"% %\", a, 1);", " (print 10..15 16..21 10..29 a 1)"),
-    (" print ( \"%\", a ) ; ", " (print 11..16 19..22 11..29 a)"),
     ("assert(a) ;", " (assert a 10..19 10..21)"),
     ("assert(a );", " (assert a 10..20 10..21)"),
 ];
 
-/// The tree of a text as one line.
-fn shape_of(alloc: Global, source: &str) -> Result<String, SourceFault> {
-    let tree = tree(alloc, source)?;
-    Ok(shape(alloc, &tree)?)
-}
-
-fn compare(rt: &impl Abort, alloc: Global, source: &str, wanted: &str) -> Result<(), Fail> {
-    let found = shape_of(alloc, source)?;
-    assert!(rt; found.as_str() == wanted, "{source}: {found}, not {wanted}");
-    Ok(())
-}
-
 #[test]
 fn functions(rt: HostRuntime) -> Result<(), Fail> {
     for (source, wanted) in FUNCTIONS {
-        compare(&rt, rt.alloc(), source, wanted)?;
+        let tree = tree(rt.alloc(), source)?;
+        assert_same(&rt, source, &shape(rt.alloc(), &tree)?, wanted);
     }
     Ok(())
 }
 
-/// Statements, in a function whose tree stands around theirs.
-fn compare_each(rt: &impl Abort, alloc: Global, rows: &[(&str, &str)]) -> Result<(), Fail> {
-    for (stmt, wanted) in rows {
-        let source = format!(in alloc; "void f() {{{stmt}}}")?;
-        let whole = format!(in alloc; " (function (type void) f (block{wanted}))")?;
-        compare(rt, alloc, &source, &whole)?;
+/// The line of the statements of a function.
+fn inside(alloc: Global, stmts: &str) -> Result<String, SourceFault> {
+    let source = format!(in alloc; "void f() {{{stmts}}}")?;
+    let tree = tree(alloc, &source)?;
+    Ok(shape_of_statements(alloc, &tree)?)
+}
+
+fn compare_inside(rt: &impl Abort, alloc: Global, rows: &[(&str, &str)]) -> Result<(), Fail> {
+    for (stmts, wanted) in rows {
+        assert_same(rt, stmts, &inside(alloc, stmts)?, wanted);
     }
     Ok(())
 }
@@ -167,18 +162,7 @@ fn compare_each(rt: &impl Abort, alloc: Global, rows: &[(&str, &str)]) -> Result
 #[test]
 fn statements(rt: HostRuntime) -> Result<(), Fail> {
     for table in [DECLARATIONS, OPERATORS, OPERANDS, ASSIGNMENTS, STATEMENTS] {
-        compare_each(&rt, rt.alloc(), table)?;
+        compare_inside(&rt, rt.alloc(), table)?;
     }
-    Ok(())
-}
-
-#[test]
-fn places_of_a_function(rt: HostRuntime) -> Result<(), Fail> {
-    let tree = tree(rt.alloc(), "void f() { print ( \"%\", a ) ; }")?;
-    let [function] = tree.functions() else {
-        return Err(Fail::from("there is no function, or another one"));
-    };
-    assert!(rt; function.span == Span { start: 0, end: 31 });
-    assert!(rt; function.body.span == Span { start: 9, end: 31 });
     Ok(())
 }
