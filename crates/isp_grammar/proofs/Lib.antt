@@ -25,3 +25,4 @@ pub mod ExprsComplete
 pub mod ExprsRefused
 pub mod ExprLaws
 pub mod StmtSteps
+pub mod SimpleSteps

@@ -3,12 +3,12 @@ ghost use Rattle.std.specs.Prelude.{◌≡◌, ◌≤◌, ◌<◌, IfOk, length,
 ghost use mathlib.Core.Logic.{inl};
 ghost use Rattle.isp_tree.specs.Views.{expr_of, simple_of};
 ghost use Rattle.isp_grammar.specs.reader.Readers.{Gives};
-ghost use Rattle.isp_grammar.specs.reader.Choices.{begins_with, sign_at, perhaps_at};
-ghost use Rattle.isp_grammar.specs.reader.Stmts.{assignment_of, change_of, is_assignment, is_change, is_ending, ending_of, ending_at, ended_from, simple_from, simple_at};
+ghost use Rattle.isp_grammar.specs.reader.Choices.{found_at, perhaps_at};
+ghost use Rattle.isp_grammar.specs.reader.Stmts.{assignment_of, change_of, is_ending, ending_of, ending_at, ended_from, simple_from, simple_at};
 
 use crate::expr::{expr, unary};
-use crate::reading::{in_box, refuse};
-use crate::stop::{Stop, Why};
+use crate::reading::{in_box, tail};
+use crate::stop::Stop;
 use isp_base::Span;
 use isp_lex::{Mark, Token, TokenKind};
 use isp_tree::{Assignment, Change, Expr, Simple};
@@ -50,84 +50,33 @@ fn change_of(kind: &TokenKind) -> Option<Change>
     }
 }
 
-/// Whether the sign of an assignment stands first.
-fn assigns(tokens: &[Token]) -> bool
-    ensures { result ≡ begins_with is_assignment tokens.now }
+/// The sign of an assignment, if one stands first, and where it stands.
+fn assignment_at(tokens: &[Token]) -> Option<(Assignment, Span)>
+    ensures { result ≡ found_at assignment_of tokens.now }
 {
     match tokens {
-        [] => false,
-        [first, ..] => assignment_of(&first.kind).is_some(),
+        [] => None,
+        [first, ..] => match assignment_of(&first.kind) {
+            Some(sign) => Some((sign, first.span)),
+            None => None,
+        },
     }
 }
 
-/// Whether `++` or `--` stands first.
-fn changes(tokens: &[Token]) -> bool
-    ensures { result ≡ begins_with is_change tokens.now }
+/// `++` or `--`, if one stands first, and where it stands.
+fn change_at(tokens: &[Token]) -> Option<(Change, Span)>
+    ensures { result ≡ found_at change_of tokens.now }
 {
     match tokens {
-        [] => false,
-        [first, ..] => change_of(&first.kind).is_some(),
+        [] => None,
+        [first, ..] => match change_of(&first.kind) {
+            Some(sign) => Some((sign, first.span)),
+            None => None,
+        },
     }
 }
 
-/// The sign of an assignment, and where it stands.
-#[tactic(auto, unfolding(crate::specs::reader::Choices::sign_at))]
-fn assignment(tokens: &[Token]) -> Result<((Assignment, Span), &[Token]), Stop>
-    ensures value { Gives (λ r. (r.0, r.1.now)) result (sign_at assignment_of tokens.now) }
-    ensures rest { IfOk result (λ r. length r.1.now < length tokens.now) }
-{
-    let Some((first, rest)) = tokens.split_first() else {
-        return Err(refuse(Why::Unexpected, tokens));
-    };
-    match assignment_of(&first.kind) {
-        Some(sign) => Ok(((sign, first.span), rest)),
-        None => Err(refuse(Why::Unexpected, tokens)),
-    }
-}
-
-/// `++` or `--`, and where it stands.
-#[tactic(auto, unfolding(crate::specs::reader::Choices::sign_at))]
-fn change(tokens: &[Token]) -> Result<((Change, Span), &[Token]), Stop>
-    ensures value { Gives (λ r. (r.0, r.1.now)) result (sign_at change_of tokens.now) }
-    ensures rest { IfOk result (λ r. length r.1.now < length tokens.now) }
-{
-    let Some((first, rest)) = tokens.split_first() else {
-        return Err(refuse(Why::Unexpected, tokens));
-    };
-    match change_of(&first.kind) {
-        Some(sign) => Ok(((sign, first.span), rest)),
-        None => Err(refuse(Why::Unexpected, tokens)),
-    }
-}
-
-/// The sign of an assignment and a value, or a step by one.
-#[tactic(auto, unfolding(crate::specs::reader::Stmts::ending_at, crate::specs::reader::Choices::either_at))]
-fn simple_end(alloc: Global, left: usize, tokens: &[Token]) -> Result<(Ending, &[Token]), Stop>
-    requires { left ≤ 128 }
-    ensures value { Gives (λ r. (ending_of r.0, r.1.now)) result (ending_at left tokens.now) }
-    ensures rest { IfOk result (λ r. length r.1.now < length tokens.now) }
-{
-    if assigns(tokens) {
-        let ((sign, place), rest) = assignment(tokens)?;
-        let (value, _height, rest) = expr(alloc, left, rest)?;
-        return Ok((Ending::Assign(sign, place, value), rest));
-    }
-    let ((sign, place), rest) = change(tokens)?;
-    Ok((Ending::Change(sign, place), rest))
-}
-
-/// Whether an assignment or a step by one goes on with an expression here.
-fn goes_on(tokens: &[Token]) -> bool
-    ensures { result ≡ begins_with is_ending tokens.now }
-{
-    match tokens {
-        [] => false,
-        [first, ..] => assignment_of(&first.kind).is_some() || change_of(&first.kind).is_some(),
-    }
-}
-
-/// The ending of an expression, if one stands here.
-#[tactic(auto, unfolding(crate::specs::reader::Choices::perhaps_at))]
+/// The ending of an expression, if one stands here: the sign of an assignment and a value, or a step by one.
 fn maybe_end(
     alloc: Global,
     left: usize,
@@ -137,11 +86,14 @@ fn maybe_end(
     ensures value { Gives (λ r. (option_map ending_of r.0, r.1.now)) result (perhaps_at is_ending (ending_at left) tokens.now) }
     ensures rest { IfOk result (λ r. length r.1.now ≤ length tokens.now) }
 {
-    if !goes_on(tokens) {
-        return Ok((None, tokens));
+    if let Some((sign, place)) = assignment_at(tokens) {
+        let (value, _height, rest) = expr(alloc, left, tail(tokens))?;
+        return Ok((Some(Ending::Assign(sign, place, value)), rest));
     }
-    let (ending, rest) = simple_end(alloc, left, tokens)?;
-    Ok((Some(ending), rest))
+    if let Some((sign, place)) = change_at(tokens) {
+        return Ok((Some(Ending::Change(sign, place)), tail(tokens)));
+    }
+    Ok((None, tokens))
 }
 
 /// A step by one, written before its target.
@@ -183,15 +135,13 @@ fn ended(target: Box<Expr>, ending: Option<Ending>) -> Simple
 }
 
 /// An expression, an assignment or a step by one.
-#[tactic(auto, unfolding(crate::specs::reader::Stmts::simple_at, crate::specs::reader::Choices::either_at))]
 pub fn simple(alloc: Global, left: usize, tokens: &[Token]) -> Result<(Box<Simple>, &[Token]), Stop>
     requires { left ≤ 128 }
     ensures value { Gives (λ r. (simple_of r.0.value, r.1.now)) result (simple_at left tokens.now) }
     ensures rest { IfOk result (λ r. length r.1.now < length tokens.now) }
 {
-    if changes(tokens) {
-        let ((sign, place), rest) = change(tokens)?;
-        let (target, _height, rest) = unary(alloc, left, rest)?;
+    if let Some((sign, place)) = change_at(tokens) {
+        let (target, _height, rest) = unary(alloc, left, tail(tokens))?;
         return in_box(alloc, stepped(sign, place, target), rest);
     }
     let (target, _height, rest) = expr(alloc, left, tokens)?;

@@ -1,144 +1,148 @@
 //! The grammar: which texts are programs, and where others are refused.
-use isp_base::Span;
-use isp_lex::{Fault, Rule, SourceFault, lex};
-use isp_syntax::{Stmt, Tree, parse};
+use crate::outcomes::{comes_to, compare_each};
 use std::alloc::{AllocError, Global};
+use std::process::Abort;
 use std::test::Fail;
 
-/// The fault of a text, if it has one.
-fn fault(alloc: Global, source: &str) -> Result<Option<Fault>, SourceFault> {
-    let tokens = lex(alloc, source)?;
-    match parse(alloc, &tokens) {
-        Ok(_tree) => Ok(None),
-        Err(SourceFault::Refused(fault)) => Ok(Some(fault)),
-        Err(SourceFault::Memory) => Err(SourceFault::Memory),
-    }
-}
-
-fn tree(alloc: Global, source: &str) -> Result<Tree, SourceFault> {
-    let tokens = lex(alloc, source)?;
-    parse(alloc, &tokens)
-}
-
-/// A text so many times between two others.
-fn nested(
-    alloc: Global,
-    before: &str,
-    open: &str,
-    count: usize,
-    middle: &str,
-    close: &str,
-    after: &str,
-) -> Result<String, AllocError> {
-    let mut text = String::new(alloc);
-    text.push_str(before)?;
-    for _ in 0..count {
-        text.push_str(open)?;
-    }
-    text.push_str(middle)?;
-    for _ in 0..count {
-        text.push_str(close)?;
-    }
-    text.push_str(after)?;
-    Ok(text)
-}
-
-#[test]
-fn first_bad_token(rt: HostRuntime) -> Result<(), Fail> {
-    let alloc = rt.alloc();
-    let plus = fault(alloc, "export void f() { x = 1 +; }")?;
-    let rule = Rule::Unexpected;
-    let span = Span { start: 25, end: 26 };
-    assert_eq!(rt; plus, Some(Fault { rule, span }));
-    let float = fault(alloc, "export void f(uniform float a[]) { }")?;
-    let rule = Rule::LeftOut;
-    let span = Span { start: 22, end: 27 };
-    assert_eq!(rt; float, Some(Fault { rule, span }));
-    let cut = fault(alloc, "export void f() {")?;
-    let rule = Rule::Unexpected;
-    let span = Span { start: 17, end: 17 };
-    assert_eq!(rt; cut, Some(Fault { rule, span }));
-    Ok(())
-}
-
-#[test]
-fn programs(rt: HostRuntime) -> Result<(), Fail> {
-    let alloc = rt.alloc();
-    assert_eq!(rt; tree(alloc, "")?.functions().len(), 0);
-    let texts = [
-        "void f() { int x = (int)(a) + (uniform int) -b; }",
-        "void f() { foreach (i = 0 ... 4) ; }",
-        "void f() { foreach (i = 0 ... 4, j = 0 ... n) ; }",
+/// What each source comes to.
+const SOURCES: &[(&str, &str)] = &[
+    ("", "taken"),
+    ("void f() { int x = (int)(a) + (uniform int) -b; }", "taken"),
+    ("void f() { foreach (i = 0 ... 4) ; }", "taken"),
+    ("void f() { foreach (i = 0 ... 4, j = 0 ... n) ; }", "taken"),
+    (
         "void f() { foreach_tiled (i = 0 ... 4, j = 0 ... n, k = 1 ... 2) { } }",
-        "void f() { for (;;) ; }",
-        "void f() { for (int i = 0; i < 4; i++) x += i; }",
-        "void f() { do ; while (a); }",
-        "void f() { unmasked { } }",
-        "void f() { ++x; x--; }",
-        "void f() { g(&a[1], &b, c); }",
-        "void f() { const const int x; }",
-        "static inline int g(void) { return a ? b : c; }",
+        "taken",
+    ),
+    ("void f() { for (;;) ; }", "taken"),
+    ("void f() { for (int i = 0; i < 4; i++) x += i; }", "taken"),
+    ("void f() { do ; while (a); }", "taken"),
+    ("void f() { unmasked { } }", "taken"),
+    ("void f() { ++x; x--; }", "taken"),
+    ("void f() { g(&a[1], &b, c); }", "taken"),
+    ("void f() { const const int x; }", "taken"),
+    ("static inline int g(void) { return a ? b : c; }", "taken"),
+    (
         "void f(void x) { print(\"% %\", a, b); assert(a); }",
-    ];
-    for text in texts {
-        assert!(rt; fault(alloc, text)?.is_none());
+        "taken",
+    ),
+    (
+        "void f() { foreach (i = 0 ... 4, j = 0 ... 4, k = 0 ... 4, l = 0 ... 4) ; }",
+        "10 Unexpected at 57..58",
+    ),
+    ("export void f() { x = 1 +; }", "10 Unexpected at 25..26"),
+    (
+        "export void f(uniform float a[]) { }",
+        "12 LeftOut at 22..27",
+    ),
+    ("export void f() {", "10 Unexpected at 17..17"),
+];
+
+/// A source in which a text stands so many times between two others, and how what it comes to begins.
+struct Nested {
+    before: &'static str,
+    open: &'static str,
+    count: usize,
+    middle: &'static str,
+    close: &'static str,
+    after: &'static str,
+    wanted: &'static str,
+}
+
+/// The deepest source that is taken, and deeper ones.
+const DEEP: &[Nested] = &[
+    Nested {
+        before: "export void f() { int x = ",
+        open: "(",
+        count: 125,
+        middle: "1",
+        close: ")",
+        after: "; }",
+        wanted: "taken",
+    },
+    Nested {
+        before: "export void f() { int x = ",
+        open: "(",
+        count: 126,
+        middle: "1",
+        close: ")",
+        after: "; }",
+        wanted: "11 TooDeep at ",
+    },
+    Nested {
+        before: "void f() { x = a",
+        open: " + a",
+        count: 130,
+        middle: "",
+        close: "",
+        after: "; }",
+        wanted: "11 TooDeep at ",
+    },
+    Nested {
+        before: "void f() ",
+        open: "{",
+        count: 200,
+        middle: "",
+        close: "}",
+        after: "",
+        wanted: "11 TooDeep at ",
+    },
+];
+
+/// Sources of as many bytes as there may be.
+const LONGEST: &[Nested] = &[
+    Nested {
+        before: "",
+        open: "{",
+        count: 1_048_576,
+        middle: "",
+        close: "",
+        after: "",
+        wanted: "10 Unexpected at 0..1",
+    },
+    Nested {
+        before: "void f() ",
+        open: "{",
+        count: 1_048_567,
+        middle: "",
+        close: "",
+        after: "",
+        wanted: "11 TooDeep at ",
+    },
+];
+
+fn text_of(alloc: Global, nested: &Nested) -> Result<String, AllocError> {
+    let opened = nested.open.repeat(alloc, nested.count)?;
+    let closed = nested.close.repeat(alloc, nested.count)?;
+    format!(in alloc;
+        "{}{opened}{}{closed}{}",
+        nested.before, nested.middle, nested.after
+    )
+}
+
+fn compare_nested(rt: &impl Abort, alloc: Global, rows: &[Nested]) -> Result<(), Fail> {
+    for nested in rows {
+        let source = text_of(alloc, nested)?;
+        assert!(rt;
+            comes_to(alloc, &source, nested.wanted)?,
+            "{}",
+            nested.wanted
+        );
     }
-    let fourth = "void f() { foreach (i = 0 ... 4, j = 0 ... 4, k = 0 ... 4, l = 0 ... 4) ; }";
-    assert!(rt; fault(alloc, fourth)?.is_some());
     Ok(())
 }
 
 #[test]
-fn nearest_if(rt: HostRuntime) -> Result<(), Fail> {
-    let alloc = rt.alloc();
-    let tree = tree(alloc, "void f() { if (a) if (b) x = 1; else x = 2; }")?;
-    let [function] = tree.functions() else {
-        return Err(Fail::from("there is no function, or another one"));
-    };
-    let [Stmt::If { then: inner, .. }] = function.body.statements.as_slice() else {
-        return Err(Fail::from("the outer if has an else"));
-    };
-    let Stmt::IfElse { .. } = &**inner else {
-        return Err(Fail::from("the inner if has no else"));
-    };
-    Ok(())
+fn sources(rt: HostRuntime) -> Result<(), Fail> {
+    compare_each(&rt, rt.alloc(), SOURCES)
 }
 
 #[test]
 fn depth(rt: HostRuntime) -> Result<(), Fail> {
-    let alloc = rt.alloc();
-    let front = "export void f() { int x = ";
-    let taken = nested(alloc, front, "(", 125, "1", ")", "; }")?;
-    assert!(rt; fault(alloc, &taken)?.is_none());
-    let deep = nested(alloc, front, "(", 126, "1", ")", "; }")?;
-    let Some(found) = fault(alloc, &deep)? else {
-        return Err(Fail::from("126 brackets are taken"));
-    };
-    assert_eq!(rt; found.rule, Rule::TooDeep);
-    let chain = nested(alloc, "void f() { x = a", " + a", 130, "", "", "; }")?;
-    let Some(found) = fault(alloc, &chain)? else {
-        return Err(Fail::from("130 additions are taken"));
-    };
-    assert_eq!(rt; found.rule, Rule::TooDeep);
-    let blocks = nested(alloc, "void f() ", "{", 200, "", "}", "")?;
-    let Some(found) = fault(alloc, &blocks)? else {
-        return Err(Fail::from("200 blocks are taken"));
-    };
-    assert_eq!(rt; found.rule, Rule::TooDeep);
-    Ok(())
+    compare_nested(&rt, rt.alloc(), DEEP)
 }
 
 #[test]
 fn the_longest_sources(rt: HostRuntime) -> Result<(), Fail> {
-    let alloc = rt.alloc();
-    let braces = nested(alloc, "", "{", 1_048_576, "", "", "")?;
-    let rule = Rule::Unexpected;
-    let span = Span { start: 0, end: 1 };
-    assert_eq!(rt; fault(alloc, &braces)?, Some(Fault { rule, span }));
-    let blocks = nested(alloc, "void f() ", "{", 1_048_567, "", "", "")?;
-    let Some(found) = fault(alloc, &blocks)? else {
-        return Err(Fail::from("a million blocks are taken"));
-    };
-    assert_eq!(rt; found.rule, Rule::TooDeep);
-    Ok(())
+    compare_nested(&rt, rt.alloc(), LONGEST)
 }

@@ -1,5 +1,6 @@
 //! The lexer: tokens, their values, bytes and places, and the first fault.
-use isp_base::Elem;
+use crate::outcomes::{comes_to, compare_each};
+use isp_base::{Elem, Span};
 use isp_lex::{Mark, SourceFault, Token, TokenKind, lex};
 use std::alloc::Global;
 use std::process::Abort;
@@ -7,447 +8,443 @@ use std::test::Fail;
 
 const LIMIT: usize = 1_048_576;
 
+const LONGER: usize = 1_048_577;
+
+/// What a token is to be.
+enum Kind {
+    Mark(Mark),
+    LeftOut,
+    Name(&'static str),
+    Number(Elem, u64),
+    Text(&'static str),
+}
+
 /// Each sign, by its spelling.
-const SIGNS: [(&str, Mark); 44] = [
-    ("(", Mark::ParenOpen),
-    (")", Mark::ParenClose),
-    ("{", Mark::BraceOpen),
-    ("}", Mark::BraceClose),
-    ("[", Mark::BracketOpen),
-    ("]", Mark::BracketClose),
-    (";", Mark::Semicolon),
-    (",", Mark::Comma),
-    ("?", Mark::Question),
-    (":", Mark::Colon),
-    ("=", Mark::Assign),
-    ("==", Mark::Equal),
-    ("!=", Mark::NotEqual),
-    ("<", Mark::Less),
-    ("<=", Mark::LessEqual),
-    (">", Mark::Greater),
-    (">=", Mark::GreaterEqual),
-    ("<<", Mark::ShiftLeft),
-    (">>", Mark::ShiftRight),
-    ("<<=", Mark::ShiftLeftAssign),
-    (">>=", Mark::ShiftRightAssign),
-    ("+", Mark::Plus),
-    ("++", Mark::Increment),
-    ("+=", Mark::PlusAssign),
-    ("-", Mark::Minus),
-    ("--", Mark::Decrement),
-    ("-=", Mark::MinusAssign),
-    ("*", Mark::Star),
-    ("*=", Mark::StarAssign),
-    ("/", Mark::Slash),
-    ("/=", Mark::SlashAssign),
-    ("%", Mark::Percent),
-    ("%=", Mark::PercentAssign),
-    ("&", Mark::And),
-    ("&&", Mark::AndAnd),
-    ("&=", Mark::AndAssign),
-    ("|", Mark::Or),
-    ("||", Mark::OrOr),
-    ("|=", Mark::OrAssign),
-    ("^", Mark::Xor),
-    ("^=", Mark::XorAssign),
-    ("~", Mark::Inverse),
-    ("!", Mark::Not),
-    ("...", Mark::Ellipsis),
+const SIGNS: &[(&str, Kind)] = &[
+    ("(", Kind::Mark(Mark::ParenOpen)),
+    (")", Kind::Mark(Mark::ParenClose)),
+    ("{", Kind::Mark(Mark::BraceOpen)),
+    ("}", Kind::Mark(Mark::BraceClose)),
+    ("[", Kind::Mark(Mark::BracketOpen)),
+    ("]", Kind::Mark(Mark::BracketClose)),
+    (";", Kind::Mark(Mark::Semicolon)),
+    (",", Kind::Mark(Mark::Comma)),
+    ("?", Kind::Mark(Mark::Question)),
+    (":", Kind::Mark(Mark::Colon)),
+    ("=", Kind::Mark(Mark::Assign)),
+    ("==", Kind::Mark(Mark::Equal)),
+    ("!=", Kind::Mark(Mark::NotEqual)),
+    ("<", Kind::Mark(Mark::Less)),
+    ("<=", Kind::Mark(Mark::LessEqual)),
+    (">", Kind::Mark(Mark::Greater)),
+    (">=", Kind::Mark(Mark::GreaterEqual)),
+    ("<<", Kind::Mark(Mark::ShiftLeft)),
+    (">>", Kind::Mark(Mark::ShiftRight)),
+    ("<<=", Kind::Mark(Mark::ShiftLeftAssign)),
+    (">>=", Kind::Mark(Mark::ShiftRightAssign)),
+    ("+", Kind::Mark(Mark::Plus)),
+    ("++", Kind::Mark(Mark::Increment)),
+    ("+=", Kind::Mark(Mark::PlusAssign)),
+    ("-", Kind::Mark(Mark::Minus)),
+    ("--", Kind::Mark(Mark::Decrement)),
+    ("-=", Kind::Mark(Mark::MinusAssign)),
+    ("*", Kind::Mark(Mark::Star)),
+    ("*=", Kind::Mark(Mark::StarAssign)),
+    ("/", Kind::Mark(Mark::Slash)),
+    ("/=", Kind::Mark(Mark::SlashAssign)),
+    ("%", Kind::Mark(Mark::Percent)),
+    ("%=", Kind::Mark(Mark::PercentAssign)),
+    ("&", Kind::Mark(Mark::And)),
+    ("&&", Kind::Mark(Mark::AndAnd)),
+    ("&=", Kind::Mark(Mark::AndAssign)),
+    ("|", Kind::Mark(Mark::Or)),
+    ("||", Kind::Mark(Mark::OrOr)),
+    ("|=", Kind::Mark(Mark::OrAssign)),
+    ("^", Kind::Mark(Mark::Xor)),
+    ("^=", Kind::Mark(Mark::XorAssign)),
+    ("~", Kind::Mark(Mark::Inverse)),
+    ("!", Kind::Mark(Mark::Not)),
+    ("...", Kind::Mark(Mark::Ellipsis)),
 ];
 
 /// Each reserved word in use.
-const WORDS: [(&str, Mark); 42] = [
-    ("void", Mark::Void),
-    ("bool", Mark::Bool),
-    ("int", Mark::Int),
-    ("int8", Mark::Int8),
-    ("int16", Mark::Int16),
-    ("int32", Mark::Int32),
-    ("int64", Mark::Int64),
-    ("uint", Mark::Uint),
-    ("uint8", Mark::Uint8),
-    ("uint16", Mark::Uint16),
-    ("uint32", Mark::Uint32),
-    ("uint64", Mark::Uint64),
-    ("signed", Mark::Signed),
-    ("unsigned", Mark::Unsigned),
-    ("const", Mark::Const),
-    ("uniform", Mark::Uniform),
-    ("varying", Mark::Varying),
-    ("export", Mark::Export),
-    ("static", Mark::Static),
-    ("inline", Mark::Inline),
-    ("if", Mark::If),
-    ("cif", Mark::Cif),
-    ("else", Mark::Else),
-    ("while", Mark::While),
-    ("cwhile", Mark::Cwhile),
-    ("do", Mark::Do),
-    ("cdo", Mark::Cdo),
-    ("for", Mark::For),
-    ("cfor", Mark::Cfor),
-    ("foreach", Mark::Foreach),
-    ("foreach_tiled", Mark::ForeachTiled),
-    ("foreach_active", Mark::ForeachActive),
-    ("unmasked", Mark::Unmasked),
-    ("break", Mark::Break),
-    ("continue", Mark::Continue),
-    ("return", Mark::Return),
-    ("print", Mark::Print),
-    ("assert", Mark::Assert),
-    ("true", Mark::True),
-    ("false", Mark::False),
-    ("programIndex", Mark::ProgramIndex),
-    ("programCount", Mark::ProgramCount),
+const WORDS: &[(&str, Kind)] = &[
+    ("void", Kind::Mark(Mark::Void)),
+    ("bool", Kind::Mark(Mark::Bool)),
+    ("int", Kind::Mark(Mark::Int)),
+    ("int8", Kind::Mark(Mark::Int8)),
+    ("int16", Kind::Mark(Mark::Int16)),
+    ("int32", Kind::Mark(Mark::Int32)),
+    ("int64", Kind::Mark(Mark::Int64)),
+    ("uint", Kind::Mark(Mark::Uint)),
+    ("uint8", Kind::Mark(Mark::Uint8)),
+    ("uint16", Kind::Mark(Mark::Uint16)),
+    ("uint32", Kind::Mark(Mark::Uint32)),
+    ("uint64", Kind::Mark(Mark::Uint64)),
+    ("signed", Kind::Mark(Mark::Signed)),
+    ("unsigned", Kind::Mark(Mark::Unsigned)),
+    ("const", Kind::Mark(Mark::Const)),
+    ("uniform", Kind::Mark(Mark::Uniform)),
+    ("varying", Kind::Mark(Mark::Varying)),
+    ("export", Kind::Mark(Mark::Export)),
+    ("static", Kind::Mark(Mark::Static)),
+    ("inline", Kind::Mark(Mark::Inline)),
+    ("if", Kind::Mark(Mark::If)),
+    ("cif", Kind::Mark(Mark::Cif)),
+    ("else", Kind::Mark(Mark::Else)),
+    ("while", Kind::Mark(Mark::While)),
+    ("cwhile", Kind::Mark(Mark::Cwhile)),
+    ("do", Kind::Mark(Mark::Do)),
+    ("cdo", Kind::Mark(Mark::Cdo)),
+    ("for", Kind::Mark(Mark::For)),
+    ("cfor", Kind::Mark(Mark::Cfor)),
+    ("foreach", Kind::Mark(Mark::Foreach)),
+    ("foreach_tiled", Kind::Mark(Mark::ForeachTiled)),
+    ("foreach_active", Kind::Mark(Mark::ForeachActive)),
+    ("unmasked", Kind::Mark(Mark::Unmasked)),
+    ("break", Kind::Mark(Mark::Break)),
+    ("continue", Kind::Mark(Mark::Continue)),
+    ("return", Kind::Mark(Mark::Return)),
+    ("print", Kind::Mark(Mark::Print)),
+    ("assert", Kind::Mark(Mark::Assert)),
+    ("true", Kind::Mark(Mark::True)),
+    ("false", Kind::Mark(Mark::False)),
+    ("programIndex", Kind::Mark(Mark::ProgramIndex)),
+    ("programCount", Kind::Mark(Mark::ProgramCount)),
 ];
 
 /// Each word that the language leaves out.
-const LEFT_OUT: [&str; 30] = [
-    "float",
-    "double",
-    "float16",
-    "struct",
-    "enum",
-    "typedef",
-    "switch",
-    "case",
-    "default",
-    "goto",
-    "new",
-    "delete",
-    "task",
-    "launch",
-    "sync",
-    "soa",
-    "extern",
-    "sizeof",
-    "template",
-    "typename",
-    "operator",
-    "NULL",
-    "size_t",
-    "ptrdiff_t",
-    "intptr_t",
-    "uintptr_t",
-    "cbreak",
-    "ccontinue",
-    "creturn",
-    "foreach_unique",
+const LEFT_OUT: &[(&str, Kind)] = &[
+    ("float", Kind::LeftOut),
+    ("double", Kind::LeftOut),
+    ("float16", Kind::LeftOut),
+    ("struct", Kind::LeftOut),
+    ("enum", Kind::LeftOut),
+    ("typedef", Kind::LeftOut),
+    ("switch", Kind::LeftOut),
+    ("case", Kind::LeftOut),
+    ("default", Kind::LeftOut),
+    ("goto", Kind::LeftOut),
+    ("new", Kind::LeftOut),
+    ("delete", Kind::LeftOut),
+    ("task", Kind::LeftOut),
+    ("launch", Kind::LeftOut),
+    ("sync", Kind::LeftOut),
+    ("soa", Kind::LeftOut),
+    ("extern", Kind::LeftOut),
+    ("sizeof", Kind::LeftOut),
+    ("template", Kind::LeftOut),
+    ("typename", Kind::LeftOut),
+    ("operator", Kind::LeftOut),
+    ("NULL", Kind::LeftOut),
+    ("size_t", Kind::LeftOut),
+    ("ptrdiff_t", Kind::LeftOut),
+    ("intptr_t", Kind::LeftOut),
+    ("uintptr_t", Kind::LeftOut),
+    ("cbreak", Kind::LeftOut),
+    ("ccontinue", Kind::LeftOut),
+    ("creturn", Kind::LeftOut),
+    ("foreach_unique", Kind::LeftOut),
 ];
 
-// The number and the place of the fault of a source: number, start and end; zeros where it has none.
-fn fault_of(alloc: Global, source: &str) -> Result<(u8, usize, usize), Fail> {
-    match lex(alloc, source) {
-        Ok(_) => Ok((0, 0, 0)),
-        Err(SourceFault::Refused(fault)) => {
-            Ok((fault.rule.number(), fault.span.start, fault.span.end))
-        }
-        Err(SourceFault::Memory) => Err(Fail::from("memory was refused")),
+const NAMES: &[(&str, Kind)] = &[
+    ("x", Kind::Name("x")),
+    ("_", Kind::Name("_")),
+    ("__", Kind::Name("__")),
+    ("Z9", Kind::Name("Z9")),
+    ("_1", Kind::Name("_1")),
+    ("a_b", Kind::Name("a_b")),
+    ("iff", Kind::Name("iff")),
+    ("Int", Kind::Name("Int")),
+    ("VOID", Kind::Name("VOID")),
+    ("int128", Kind::Name("int128")),
+    ("uint1", Kind::Name("uint1")),
+    ("float32", Kind::Name("float32")),
+    ("programindex", Kind::Name("programindex")),
+    ("foreach_", Kind::Name("foreach_")),
+    ("null", Kind::Name("null")),
+    ("nu", Kind::Name("nu")),
+];
+
+const NUMBERS: &[(&str, Kind)] = &[
+    ("0", Kind::Number(Elem::I32, 0)),
+    ("2147483647", Kind::Number(Elem::I32, 2_147_483_647)),
+    ("2147483648", Kind::Number(Elem::I64, 2_147_483_648)),
+    ("4294967296", Kind::Number(Elem::I64, 4_294_967_296)),
+    (
+        "9223372036854775807",
+        Kind::Number(Elem::I64, 9_223_372_036_854_775_807),
+    ),
+    (
+        "9223372036854775808",
+        Kind::Number(Elem::U64, 9_223_372_036_854_775_808),
+    ),
+    ("18446744073709551615", Kind::Number(Elem::U64, u64::MAX)),
+    ("0x7fffffff", Kind::Number(Elem::I32, 2_147_483_647)),
+    ("0xffffffff", Kind::Number(Elem::U32, 4_294_967_295)),
+    ("0x100000000", Kind::Number(Elem::I64, 4_294_967_296)),
+    ("0xFFFFffffFFFFffff", Kind::Number(Elem::U64, u64::MAX)),
+    ("0x00", Kind::Number(Elem::I32, 0)),
+    ("0b101", Kind::Number(Elem::I32, 5)),
+    ("0xAbCdEf", Kind::Number(Elem::I32, 11_259_375)),
+    (
+        "0b10000000000000000000000000000000",
+        Kind::Number(Elem::U32, 2_147_483_648),
+    ),
+    ("1u", Kind::Number(Elem::U32, 1)),
+    ("4294967296U", Kind::Number(Elem::U64, 4_294_967_296)),
+    ("1l", Kind::Number(Elem::I64, 1)),
+    ("1lL", Kind::Number(Elem::I64, 1)),
+    ("1uL", Kind::Number(Elem::U64, 1)),
+    ("7LL", Kind::Number(Elem::I64, 7)),
+    ("7ul", Kind::Number(Elem::U64, 7)),
+    ("7lu", Kind::Number(Elem::U64, 7)),
+    ("7llu", Kind::Number(Elem::U64, 7)),
+    ("0b11u", Kind::Number(Elem::U32, 3)),
+    ("1Lu", Kind::Number(Elem::U64, 1)),
+    ("1ull", Kind::Number(Elem::U64, 1)),
+    ("0x10LLU", Kind::Number(Elem::U64, 16)),
+];
+
+const TEXTS: &[(&str, Kind)] = &[
+    ("\"\"", Kind::Text("")),
+    ("\"% é // /*\"", Kind::Text("% é // /*")),
+    ("\"\\n\"", Kind::Text("\n")),
+    ("\"\\t\"", Kind::Text("\t")),
+    ("\"\\r\"", Kind::Text("\r")),
+    ("\"\\\\\"", Kind::Text("\\")),
+    ("\"\\\"\"", Kind::Text("\"")),
+    ("\"\\n\\t\\r\\\\\\\"\"", Kind::Text("\n\t\r\\\"")),
+    ("\" ~}\"", Kind::Text(" ~}")),
+];
+
+/// Several tokens, each with where it begins and ends: a sign is the longest one that stands there.
+const SEVERAL: &[(&str, &[(Kind, usize, usize)])] = &[
+    (
+        "<<==",
+        &[
+            (Kind::Mark(Mark::ShiftLeftAssign), 0, 3),
+            (Kind::Mark(Mark::Assign), 3, 4),
+        ],
+    ),
+    (
+        ">>>",
+        &[
+            (Kind::Mark(Mark::ShiftRight), 0, 2),
+            (Kind::Mark(Mark::Greater), 2, 3),
+        ],
+    ),
+    (
+        "+++",
+        &[
+            (Kind::Mark(Mark::Increment), 0, 2),
+            (Kind::Mark(Mark::Plus), 2, 3),
+        ],
+    ),
+    (
+        "!==",
+        &[
+            (Kind::Mark(Mark::NotEqual), 0, 2),
+            (Kind::Mark(Mark::Assign), 2, 3),
+        ],
+    ),
+    (
+        "&&=",
+        &[
+            (Kind::Mark(Mark::AndAnd), 0, 2),
+            (Kind::Mark(Mark::Assign), 2, 3),
+        ],
+    ),
+    (
+        "*/",
+        &[
+            (Kind::Mark(Mark::Star), 0, 1),
+            (Kind::Mark(Mark::Slash), 1, 2),
+        ],
+    ),
+    (
+        "if{",
+        &[
+            (Kind::Mark(Mark::If), 0, 2),
+            (Kind::Mark(Mark::BraceOpen), 2, 3),
+        ],
+    ),
+    (
+        "_a9 uniform foreach_unique",
+        &[
+            (Kind::Name("_a9"), 0, 3),
+            (Kind::Mark(Mark::Uniform), 4, 11),
+            (Kind::LeftOut, 12, 26),
+        ],
+    ),
+];
+
+/// How many tokens there are between blanks and comments.
+const COUNTS: &[(&str, usize)] = &[
+    ("", 0),
+    ("//", 0),
+    ("// at the end é", 0),
+    ("//x\ry", 0),
+    ("//x\ny", 1),
+    ("x// é\n// z\ny", 2),
+    ("/**/", 0),
+    ("/***/x", 1),
+    ("/* é \n ** /* */ x", 1),
+    ("x/**/y", 2),
+    ("x/y", 3),
+    ("_a9 uniform float foreach_unique", 4),
+    ("x \"\\t%\", 1) }", 6),
+];
+
+/// What each source comes to.
+const FAULTS: &[(&str, &str)] = &[
+    ("export void f() { @ }", "1 BadByte at 18..19"),
+    ("export void f() { 08 }", "2 BadNumber at 18..20"),
+    ("/*", "4 OpenComment at 0..2"),
+    (
+        "export void f() { print(\"a\\q\"); }",
+        "3 BadText at 24..27",
+    ),
+    (".", "1 BadByte at 0..1"),
+    ("..", "1 BadByte at 0..1"),
+    ("....", "1 BadByte at 3..4"),
+    ("1.5", "1 BadByte at 1..2"),
+    ("é", "1 BadByte at 0..2"),
+    ("x € y", "1 BadByte at 2..5"),
+    ("x/**/😀", "1 BadByte at 5..9"),
+    ("\\", "1 BadByte at 0..1"),
+    ("a'", "1 BadByte at 1..2"),
+    ("$5", "1 BadByte at 0..1"),
+    ("x = x\u{7f};", "1 BadByte at 5..6"),
+    ("n++99999999999999999999;", "2 BadNumber at 3..23"),
+    ("9foreach x", "2 BadNumber at 0..8"),
+    ("(\"abc) }\n", "3 BadText at 1..8"),
+    ("return /*x; }", "4 OpenComment at 7..13"),
+    ("@ 08", "1 BadByte at 0..1"),
+    ("08 @", "2 BadNumber at 0..2"),
+    ("x /* y", "4 OpenComment at 2..6"),
+    ("/*/", "4 OpenComment at 0..3"),
+    ("/* * / é", "4 OpenComment at 0..9"),
+];
+
+const BAD_TEXTS: &[(&str, &str)] = &[
+    ("\"", "3 BadText at 0..1"),
+    ("\"abc", "3 BadText at 0..4"),
+    ("x \"a\\", "3 BadText at 2..5"),
+    ("\"a\nb\"", "3 BadText at 0..2"),
+    ("\"a\tb\"", "3 BadText at 0..2"),
+    ("\"é\\é\"", "3 BadText at 0..4"),
+    ("\"\\0\"", "3 BadText at 0..2"),
+    ("\"x\n\"x", "3 BadText at 0..2"),
+    ("print(\"a\u{7f}\")", "3 BadText at 6..8"),
+];
+
+const BAD_NUMBERS: &[(&str, &str)] = &[
+    ("0X1", "2 BadNumber at 0..3"),
+    ("0B1", "2 BadNumber at 0..3"),
+    ("0x", "2 BadNumber at 0..2"),
+    ("0b", "2 BadNumber at 0..2"),
+    ("0xu", "2 BadNumber at 0..3"),
+    ("0b2", "2 BadNumber at 0..3"),
+    ("0xg", "2 BadNumber at 0..3"),
+    ("00", "2 BadNumber at 0..2"),
+    ("00u", "2 BadNumber at 0..3"),
+    ("12ab", "2 BadNumber at 0..4"),
+    ("1_0", "2 BadNumber at 0..3"),
+    ("1e5", "2 BadNumber at 0..3"),
+    ("1lul", "2 BadNumber at 0..4"),
+    ("1uu", "2 BadNumber at 0..3"),
+    ("1lll", "2 BadNumber at 0..4"),
+    ("18446744073709551616", "2 BadNumber at 0..20"),
+    ("18446744073709551616ull", "2 BadNumber at 0..23"),
+    ("9223372036854775808l", "2 BadNumber at 0..20"),
+    ("0x10000000000000000", "2 BadNumber at 0..19"),
+];
+
+fn is_kind(found: &TokenKind, kind: &Kind) -> bool {
+    match kind {
+        Kind::Mark(mark) => found.is(*mark),
+        Kind::LeftOut => matches!(found, TokenKind::LeftOut),
+        Kind::Name(name) => matches!(found, TokenKind::Word(word) if word.is(name)),
+        Kind::Text(says) =>
+            matches!(found, TokenKind::Text(text) if text.as_slice() == says.as_bytes()),
+        Kind::Number(elem, bits) => match found {
+            TokenKind::Number(value) => value.elem == *elem && value.bits == *bits,
+            _ => false,
+        },
     }
 }
 
-fn assert_place(rt: &impl Abort, token: &Token, start: usize, end: usize, source: &str) {
-    assert_eq!(rt;
-        (token.span.start, token.span.end),
-        (start, end),
-        "{source}"
-    );
+fn is_token(found: &Token, kind: &Kind, start: usize, end: usize) -> bool {
+    found.span == Span { start, end } && is_kind(&found.kind, kind)
+}
+
+/// A source that is one token of this kind.
+fn compare_one(rt: &impl Abort, alloc: Global, source: &str, kind: &Kind) -> Result<(), Fail> {
+    let tokens = lex(alloc, source)?;
+    let same = match tokens.as_slice() {
+        [token] => is_token(token, kind, 0, source.len()),
+        _ => false,
+    };
+    assert!(rt; same, "{source}");
+    Ok(())
+}
+
+/// Whether tokens are of these kinds, where they are to stand.
+fn are_tokens(found: &[Token], kinds: &[(Kind, usize, usize)]) -> bool {
+    let mut same = found.len() == kinds.len();
+    for (token, (kind, start, end)) in found.iter().zip(kinds) {
+        same = same && is_token(token, kind, *start, *end);
+    }
+    same
+}
+
+fn compare_several(rt: &impl Abort, alloc: Global) -> Result<(), Fail> {
+    for (source, kinds) in SEVERAL {
+        let tokens = lex(alloc, source)?;
+        assert!(rt; are_tokens(tokens.as_slice(), kinds), "{source}");
+    }
+    Ok(())
+}
+
+/// Whether a source has so many tokens.
+fn has_tokens(alloc: Global, source: &str, count: usize) -> Result<bool, SourceFault> {
+    let tokens = lex(alloc, source)?;
+    Ok(tokens.as_slice().len() == count && tokens.end() == source.len())
+}
+
+#[test]
+fn single_tokens(rt: HostRuntime) -> Result<(), Fail> {
+    for table in [SIGNS, WORDS, LEFT_OUT, NAMES, NUMBERS, TEXTS] {
+        for (source, kind) in table {
+            compare_one(&rt, rt.alloc(), source, kind)?;
+        }
+    }
+    Ok(())
+}
+
+#[test]
+fn several_tokens(rt: HostRuntime) -> Result<(), Fail> {
+    compare_several(&rt, rt.alloc())?;
+    for (source, count) in COUNTS {
+        assert!(rt; has_tokens(rt.alloc(), source, *count)?, "{source}");
+    }
+    Ok(())
 }
 
 #[test]
 fn faults(rt: HostRuntime) -> Result<(), Fail> {
-    for (source, number, start, end) in [
-        ("export void f() { @ }", 1, 18, 19),
-        ("export void f() { 08 }", 2, 18, 20),
-        ("/*", 4, 0, 2),
-        ("export void f() { print(\"a\\q\"); }", 3, 24, 27),
-        (".", 1, 0, 1),
-        ("..", 1, 0, 1),
-        ("....", 1, 3, 4),
-        ("1.5", 1, 1, 2),
-        ("é", 1, 0, 2),
-        ("x € y", 1, 2, 5),
-        ("x/**/😀", 1, 5, 9),
-        ("\\", 1, 0, 1),
-        ("a'", 1, 1, 2),
-        ("$5", 1, 0, 1),
-        ("x = x\u{7f};", 1, 5, 6),
-        ("n++99999999999999999999;", 2, 3, 23),
-        ("9foreach x", 2, 0, 8),
-        ("x \"\\t%\", 1) }", 0, 0, 0),
-        ("(\"abc) }\n", 3, 1, 8),
-        ("return /*x; }", 4, 7, 13),
-        ("@ 08", 1, 0, 1),
-        ("08 @", 2, 0, 2),
-        ("x /* y", 4, 2, 6),
-        ("/*/", 4, 0, 3),
-        ("/* * / é", 4, 0, 9),
-    ] {
-        let found = fault_of(rt.alloc(), source)?;
-        assert_eq!(rt; found, (number, start, end), "{source}");
+    for table in [FAULTS, BAD_TEXTS, BAD_NUMBERS] {
+        compare_each(&rt, rt.alloc(), table)?;
     }
     Ok(())
 }
 
-#[test]
-fn bad_texts(rt: HostRuntime) -> Result<(), Fail> {
-    for (source, start, end) in [
-        ("\"", 0, 1),
-        ("\"abc", 0, 4),
-        ("x \"a\\", 2, 5),
-        ("\"a\nb\"", 0, 2),
-        ("\"a\tb\"", 0, 2),
-        ("\"é\\é\"", 0, 4),
-        ("\"\\0\"", 0, 2),
-        ("\"x\n\"x", 0, 2),
-        ("print(\"a\u{7f}\")", 6, 8),
-    ] {
-        let found = fault_of(rt.alloc(), source)?;
-        assert_eq!(rt; found, (3, start, end), "{source}");
-    }
-    Ok(())
-}
-
-#[test]
-fn bad_numbers(rt: HostRuntime) -> Result<(), Fail> {
-    for source in [
-        "0X1",
-        "0B1",
-        "0x",
-        "0b",
-        "0xu",
-        "0b2",
-        "0xg",
-        "00",
-        "00u",
-        "12ab",
-        "1_0",
-        "1e5",
-        "1lul",
-        "1uu",
-        "1lll",
-        "18446744073709551616",
-        "18446744073709551616ull",
-        "9223372036854775808l",
-        "0x10000000000000000",
-    ] {
-        let found = fault_of(rt.alloc(), source)?;
-        assert_eq!(rt; found, (2, 0, source.len()), "{source}");
-    }
-    Ok(())
-}
-
-#[test]
-fn numbers(rt: HostRuntime) -> Result<(), Fail> {
-    for (source, elem, bits) in [
-        ("0", Elem::I32, 0),
-        ("2147483647", Elem::I32, 2_147_483_647),
-        ("2147483648", Elem::I64, 2_147_483_648),
-        ("4294967296", Elem::I64, 4_294_967_296),
-        ("9223372036854775807", Elem::I64, 9_223_372_036_854_775_807),
-        ("9223372036854775808", Elem::U64, 9_223_372_036_854_775_808),
-        ("18446744073709551615", Elem::U64, u64::MAX),
-        ("0x7fffffff", Elem::I32, 2_147_483_647),
-        ("0xffffffff", Elem::U32, 4_294_967_295),
-        ("0x100000000", Elem::I64, 4_294_967_296),
-        ("0xFFFFffffFFFFffff", Elem::U64, u64::MAX),
-        ("0x00", Elem::I32, 0),
-        ("0b101", Elem::I32, 5),
-        ("0xAbCdEf", Elem::I32, 11_259_375),
-        (
-            "0b10000000000000000000000000000000",
-            Elem::U32,
-            2_147_483_648,
-        ),
-        ("1u", Elem::U32, 1),
-        ("4294967296U", Elem::U64, 4_294_967_296),
-        ("1l", Elem::I64, 1),
-        ("1lL", Elem::I64, 1),
-        ("1uL", Elem::U64, 1),
-        ("7LL", Elem::I64, 7),
-        ("7ul", Elem::U64, 7),
-        ("7lu", Elem::U64, 7),
-        ("7llu", Elem::U64, 7),
-        ("0b11u", Elem::U32, 3),
-        ("1Lu", Elem::U64, 1),
-        ("1ull", Elem::U64, 1),
-        ("0x10LLU", Elem::U64, 16),
-    ] {
-        let tokens = lex(rt.alloc(), source)?;
-        let [token] = tokens.as_slice() else {
-            return Err(Fail::from("not one token"));
-        };
-        let TokenKind::Number(value) = &token.kind else {
-            return Err(Fail::from("no number"));
-        };
-        assert_eq!(rt; (value.elem, value.bits), (elem, bits), "{source}");
-        assert_place(&rt, token, 0, source.len(), source);
-    }
-    Ok(())
-}
-
-#[test]
-fn texts(rt: HostRuntime) -> Result<(), Fail> {
-    for (source, says) in [
-        ("\"\"", ""),
-        ("\"% é // /*\"", "% é // /*"),
-        ("\"\\n\"", "\n"),
-        ("\"\\t\"", "\t"),
-        ("\"\\r\"", "\r"),
-        ("\"\\\\\"", "\\"),
-        ("\"\\\"\"", "\""),
-        ("\"\\n\\t\\r\\\\\\\"\"", "\n\t\r\\\""),
-        ("\" ~}\"", " ~}"),
-    ] {
-        let tokens = lex(rt.alloc(), source)?;
-        let [token] = tokens.as_slice() else {
-            return Err(Fail::from("not one token"));
-        };
-        let TokenKind::Text(text) = &token.kind else {
-            return Err(Fail::from("no text"));
-        };
-        let copy = text.copied()?;
-        assert!(rt; copy.as_slice() == says.as_bytes(), "{source}");
-        assert_place(&rt, token, 0, source.len(), source);
-    }
-    Ok(())
-}
-
-#[test]
-fn signs(rt: HostRuntime) -> Result<(), Fail> {
-    for (source, mark) in SIGNS {
-        let tokens = lex(rt.alloc(), source)?;
-        let [token] = tokens.as_slice() else {
-            return Err(Fail::from("not one token"));
-        };
-        assert!(rt; token.kind.is(mark), "{source}");
-        assert_place(&rt, token, 0, source.len(), source);
-    }
-    Ok(())
-}
-
-#[test]
-fn reserved_words(rt: HostRuntime) -> Result<(), Fail> {
-    for (source, mark) in WORDS {
-        let tokens = lex(rt.alloc(), source)?;
-        let [token] = tokens.as_slice() else {
-            return Err(Fail::from("not one token"));
-        };
-        assert!(rt; token.kind.is(mark), "{source}");
-        assert_place(&rt, token, 0, source.len(), source);
-    }
-    Ok(())
-}
-
-#[test]
-fn left_out_words(rt: HostRuntime) -> Result<(), Fail> {
-    for source in LEFT_OUT {
-        let tokens = lex(rt.alloc(), source)?;
-        let [token] = tokens.as_slice() else {
-            return Err(Fail::from("not one token"));
-        };
-        assert!(rt; matches!(&token.kind, TokenKind::LeftOut), "{source}");
-        assert_place(&rt, token, 0, source.len(), source);
-    }
-    Ok(())
-}
-
-#[test]
-fn names(rt: HostRuntime) -> Result<(), Fail> {
-    for source in [
-        "x",
-        "_",
-        "__",
-        "Z9",
-        "_1",
-        "a_b",
-        "iff",
-        "Int",
-        "VOID",
-        "int128",
-        "uint1",
-        "float32",
-        "programindex",
-        "foreach_",
-        "null",
-        "nu",
-    ] {
-        let tokens = lex(rt.alloc(), source)?;
-        let [token] = tokens.as_slice() else {
-            return Err(Fail::from("not one token"));
-        };
-        assert!(rt;
-            matches!(&token.kind, TokenKind::Word(name) if name.is(source)),
-            "{source}"
-        );
-        assert_place(&rt, token, 0, source.len(), source);
-    }
-    Ok(())
-}
-
-#[test]
-fn the_longest_sign(rt: HostRuntime) -> Result<(), Fail> {
-    for (source, first, cut, second) in [
-        ("<<==", Mark::ShiftLeftAssign, 3, Mark::Assign),
-        (">>>", Mark::ShiftRight, 2, Mark::Greater),
-        ("+++", Mark::Increment, 2, Mark::Plus),
-        ("!==", Mark::NotEqual, 2, Mark::Assign),
-        ("&&=", Mark::AndAnd, 2, Mark::Assign),
-        ("*/", Mark::Star, 1, Mark::Slash),
-        ("if{", Mark::If, 2, Mark::BraceOpen),
-    ] {
-        let tokens = lex(rt.alloc(), source)?;
-        let [one, two] = tokens.as_slice() else {
-            return Err(Fail::from("not two tokens"));
-        };
-        assert!(rt; one.kind.is(first), "{source}");
-        assert!(rt; two.kind.is(second), "{source}");
-        assert_place(&rt, one, 0, cut, source);
-        assert_place(&rt, two, cut, source.len(), source);
-    }
-    Ok(())
-}
-
-#[test]
-fn comments_and_words(rt: HostRuntime) -> Result<(), Fail> {
-    for (source, count) in [
-        ("", 0),
-        ("//", 0),
-        ("// at the end é", 0),
-        ("//x\ry", 0),
-        ("//x\ny", 1),
-        ("x// é\n// z\ny", 2),
-        ("/**/", 0),
-        ("/***/x", 1),
-        ("/* é \n ** /* */ x", 1),
-        ("x/**/y", 2),
-        ("x/y", 3),
-        ("_a9 uniform float foreach_unique", 4),
-    ] {
-        let tokens = lex(rt.alloc(), source)?;
-        assert_eq!(rt; tokens.as_slice().len(), count, "{source}");
-        assert_eq!(rt; tokens.end(), source.len(), "{source}");
-    }
-    let tokens = lex(rt.alloc(), "_a9 uniform foreach_unique")?;
-    let [word, mark, left_out] = tokens.as_slice() else {
-        return Err(Fail::from("not three tokens"));
-    };
-    assert!(rt; matches!(&word.kind, TokenKind::Word(name) if name.is("_a9")));
-    assert!(rt; mark.kind.is(Mark::Uniform));
-    assert!(rt; matches!(&left_out.kind, TokenKind::LeftOut));
-    Ok(())
-}
-
+/// The longest source, and one that is longer by one byte.
 #[test]
 fn the_longest_source(rt: HostRuntime) -> Result<(), Fail> {
-    let mut spaces = String::new(rt.alloc());
-    for _ in 0..LIMIT {
-        spaces.push(' ')?;
-    }
-    let tokens = lex(rt.alloc(), &spaces)?;
-    assert_eq!(rt; tokens.as_slice().len(), 0);
-    assert_eq!(rt; tokens.end(), LIMIT);
-    spaces.push('@')?;
-    assert_eq!(rt; fault_of(rt.alloc(), &spaces)?, (5, 0, 0));
+    let alloc = rt.alloc();
+    assert!(rt; has_tokens(alloc, &" ".repeat(alloc, LIMIT)?, 0)?);
+    assert!(rt; comes_to(alloc, &"@".repeat(alloc, LONGER)?, "5 TooLong at 0..0")?);
     Ok(())
 }

@@ -6,6 +6,10 @@ mod grammar;
 #[cfg(test)]
 mod lexer;
 #[cfg(test)]
+mod line;
+#[cfg(test)]
+mod outcomes;
+#[cfg(test)]
 mod shapes;
 #[cfg(test)]
 mod trees;

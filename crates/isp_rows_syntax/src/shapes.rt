@@ -1,56 +1,11 @@
 //! Trees as one line of text each: what a test compares.
-use isp_base::Span;
+use crate::line::Line;
 use isp_syntax::{
     Argument, Assignment, Base, Block, Change, Declaration, Expr, First, Form, Function, Item,
     Jump, Linkage, Operator, Param, Place, Prefix, Qualifier, Range, Simple, Size, Stmt, Tiling,
     Tree, TypeWords,
 };
-use std::alloc::AllocError;
-
-fn digit(number: usize) -> &'static str {
-    match number {
-        0 => "0",
-        1 => "1",
-        2 => "2",
-        3 => "3",
-        4 => "4",
-        5 => "5",
-        6 => "6",
-        7 => "7",
-        8 => "8",
-        _ => "9",
-    }
-}
-
-/// A number below 100.
-fn decimal(out: &mut String, number: usize) -> Result<(), AllocError> {
-    if number >= 10 {
-        out.push_str(digit(number / 10))?;
-    }
-    out.push_str(digit(number % 10))
-}
-
-/// A place, as `3..5`, behind a blank.
-fn span(out: &mut String, span: Span) -> Result<(), AllocError> {
-    out.push_str(" ")?;
-    decimal(out, span.start)?;
-    out.push_str("..")?;
-    decimal(out, span.end)
-}
-
-fn word(out: &mut String, text: &str) -> Result<(), AllocError> {
-    out.push_str(" ")?;
-    out.push_str(text)
-}
-
-fn opening(out: &mut String, text: &str) -> Result<(), AllocError> {
-    out.push_str(" (")?;
-    out.push_str(text)
-}
-
-fn closing(out: &mut String) -> Result<(), AllocError> {
-    out.push_str(")")
-}
+use std::alloc::{AllocError, Global};
 
 fn qualifier(qualifier: Qualifier) -> &'static str {
     match qualifier {
@@ -134,99 +89,90 @@ fn linkage(linkage: Linkage) -> &'static str {
     }
 }
 
-/// A name by its form: the c-form has a c before it.
-fn formed(out: &mut String, form: Form, text: &str) -> Result<(), AllocError> {
+/// The bracket of a node and its name by the form: the c-form has a c before it.
+fn formed(out: &mut Line, form: Form, name: &str) {
     match form {
-        Form::Plain => out.push_str(" (")?,
-        Form::Coherent => out.push_str(" (c")?,
+        Form::Plain => out.open(""),
+        Form::Coherent => out.open("c"),
     }
-    out.push_str(text)
+    out.add(name);
 }
 
-fn type_words(out: &mut String, ty: &TypeWords) -> Result<(), AllocError> {
-    opening(out, "type")?;
+fn type_words(out: &mut Line, ty: &TypeWords) {
+    out.open("type");
     for each in &ty.qualifiers {
-        word(out, qualifier(*each))?;
+        out.word(qualifier(*each));
     }
     if let Some(named) = ty.base {
-        word(out, base(named))?;
+        out.word(base(named));
     }
-    closing(out)
-}
-
-/// A number, its value below 100.
-fn number(out: &mut String, bits: u64) -> Result<(), AllocError> {
-    out.push_str(" ")?;
-    if bits < 100 {
-        decimal(out, bits as usize)?;
-    }
-    Ok(())
+    out.close();
 }
 
 #[cycle(expr)]
-fn place(out: &mut String, place: &Place) -> Result<(), AllocError> {
+fn place(out: &mut Line, place: &Place) {
     match place {
-        Place::Variable(name) => word(out, name.name.as_str()),
+        Place::Variable(name) => out.word(name.name.as_str()),
         Place::Element { array, index, .. } => {
-            opening(out, "element")?;
-            word(out, array.name.as_str())?;
-            expr(out, index)?;
-            closing(out)
+            out.open("element");
+            out.word(array.name.as_str());
+            expr(out, index);
+            out.close();
         }
     }
 }
 
 #[cycle(expr)]
-fn argument(out: &mut String, argument: &Argument) -> Result<(), AllocError> {
+fn argument(out: &mut Line, argument: &Argument) {
     match argument {
         Argument::Value(value) => expr(out, value),
         Argument::Reference { place: inside, .. } => {
-            opening(out, "reference")?;
-            place(out, inside)?;
-            closing(out)
+            out.open("reference");
+            place(out, inside);
+            out.close();
         }
     }
 }
 
 #[cycle(expr)]
-fn expr(out: &mut String, x: &Expr) -> Result<(), AllocError> {
+fn expr(out: &mut Line, x: &Expr) {
     match x {
-        Expr::Number { value, .. } => number(out, value.bits),
-        Expr::Truth { value, .. } => word(out, if *value { "true" } else { "false" }),
-        Expr::ProgramIndex { .. } => word(out, "programIndex"),
-        Expr::ProgramCount { .. } => word(out, "programCount"),
+        Expr::Number { value, .. } => out.number(value.bits),
+        Expr::Truth { value, .. } => out.word(if *value { "true" } else { "false" }),
+        Expr::ProgramIndex { .. } => out.word("programIndex"),
+        Expr::ProgramCount { .. } => out.word("programCount"),
         Expr::Place(inside) => place(out, inside),
         Expr::Call {
             function,
             arguments,
             ..
         } => {
-            opening(out, "call")?;
-            word(out, function.name.as_str())?;
+            out.open("call");
+            out.word(function.name.as_str());
             for each in arguments {
-                argument(out, each)?;
+                argument(out, each);
             }
-            closing(out)
+            out.close();
         }
         Expr::Brackets { inner, .. } => {
-            opening(out, "brackets")?;
-            expr(out, inner)?;
-            closing(out)
+            out.open("brackets");
+            expr(out, inner);
+            out.close();
         }
         Expr::Cast { ty, operand, .. } => {
-            opening(out, "cast")?;
-            type_words(out, ty)?;
-            expr(out, operand)?;
-            closing(out)
+            out.open("cast");
+            type_words(out, ty);
+            expr(out, operand);
+            out.close();
         }
         Expr::Prefix {
             operator: sign,
             operand,
             ..
         } => {
-            opening(out, prefix(*sign))?;
-            expr(out, operand)?;
-            closing(out)
+            out.open(prefix(*sign));
+            expr(out, operand);
+            out.close();
         }
         Expr::Binary {
             operator: sign,
@@ -234,10 +180,10 @@ fn expr(out: &mut String, x: &Expr) -> Result<(), AllocError> {
             right,
             ..
         } => {
-            opening(out, operator(*sign))?;
-            expr(out, left)?;
-            expr(out, right)?;
-            closing(out)
+            out.open(operator(*sign));
+            expr(out, left);
+            expr(out, right);
+            out.close();
         }
         Expr::Choose {
             test,
@@ -245,54 +191,54 @@ fn expr(out: &mut String, x: &Expr) -> Result<(), AllocError> {
             otherwise,
             ..
         } => {
-            opening(out, "choose")?;
-            expr(out, test)?;
-            expr(out, then)?;
-            expr(out, otherwise)?;
-            closing(out)
+            out.open("choose");
+            expr(out, test);
+            expr(out, then);
+            expr(out, otherwise);
+            out.close();
         }
     }
 }
 
-fn item(out: &mut String, item: &Item) -> Result<(), AllocError> {
+fn item(out: &mut Line, item: &Item) {
     match item {
-        Item::Plain(name) => word(out, name.name.as_str()),
+        Item::Plain(name) => out.word(name.name.as_str()),
         Item::Value {
             word: name,
             value,
             ..
         } => {
-            opening(out, "is")?;
-            word(out, name.name.as_str())?;
-            expr(out, value)?;
-            closing(out)
+            out.open("is");
+            out.word(name.name.as_str());
+            expr(out, value);
+            out.close();
         }
         Item::Array {
             word: name,
             size,
             ..
         } => {
-            opening(out, "array")?;
-            word(out, name.name.as_str())?;
+            out.open("array");
+            out.word(name.name.as_str());
             match size {
-                Size::Number { value, .. } => number(out, value.bits)?,
-                Size::ProgramCount { .. } => word(out, "programCount")?,
+                Size::Number { value, .. } => out.number(value.bits),
+                Size::ProgramCount { .. } => out.word("programCount"),
             }
-            closing(out)
+            out.close();
         }
     }
 }
 
-fn declaration(out: &mut String, declaration: &Declaration) -> Result<(), AllocError> {
-    opening(out, "declare")?;
-    type_words(out, &declaration.ty)?;
+fn declaration(out: &mut Line, declaration: &Declaration) {
+    out.open("declare");
+    type_words(out, &declaration.ty);
     for each in &declaration.items {
-        item(out, each)?;
+        item(out, each);
     }
-    closing(out)
+    out.close();
 }
 
-fn simple(out: &mut String, simple: &Simple) -> Result<(), AllocError> {
+fn simple(out: &mut Line, simple: &Simple) {
     match simple {
         Simple::Value(value) => expr(out, value),
         Simple::Assign {
@@ -301,34 +247,34 @@ fn simple(out: &mut String, simple: &Simple) -> Result<(), AllocError> {
             value,
             ..
         } => {
-            opening(out, assignment(*sign))?;
-            expr(out, target)?;
-            expr(out, value)?;
-            closing(out)
+            out.open(assignment(*sign));
+            expr(out, target);
+            expr(out, value);
+            out.close();
         }
         Simple::Change { change, target, .. } => {
             match change {
-                Change::Increment => opening(out, "increment")?,
-                Change::Decrement => opening(out, "decrement")?,
+                Change::Increment => out.open("increment"),
+                Change::Decrement => out.open("decrement"),
             }
-            expr(out, target)?;
-            closing(out)
+            expr(out, target);
+            out.close();
         }
     }
 }
 
-fn nothing(out: &mut String) -> Result<(), AllocError> {
-    word(out, "nothing")
+fn nothing(out: &mut Line) {
+    out.word("nothing")
 }
 
-fn maybe_expr(out: &mut String, x: &Option<Expr>) -> Result<(), AllocError> {
+fn maybe_expr(out: &mut Line, x: &Option<Expr>) {
     match x {
         Some(x) => expr(out, x),
         None => nothing(out),
     }
 }
 
-fn first(out: &mut String, first: &Option<First>) -> Result<(), AllocError> {
+fn first(out: &mut Line, first: &Option<First>) {
     match first {
         Some(First::Declare(declared)) => declaration(out, declared),
         Some(First::Simple(part)) => simple(out, part),
@@ -336,24 +282,24 @@ fn first(out: &mut String, first: &Option<First>) -> Result<(), AllocError> {
     }
 }
 
-fn step(out: &mut String, step: &Option<Simple>) -> Result<(), AllocError> {
+fn step(out: &mut Line, step: &Option<Simple>) {
     match step {
         Some(part) => simple(out, part),
         None => nothing(out),
     }
 }
 
-fn range(out: &mut String, range: &Range) -> Result<(), AllocError> {
-    opening(out, "range")?;
-    word(out, range.word.name.as_str())?;
-    expr(out, &range.start)?;
-    expr(out, &range.end)?;
-    closing(out)
+fn range(out: &mut Line, range: &Range) {
+    out.open("range");
+    out.word(range.word.name.as_str());
+    expr(out, &range.start);
+    expr(out, &range.end);
+    out.close();
 }
 
 /// The statements that have others in them.
 #[cycle(stmt)]
-fn outer(out: &mut String, s: &Stmt) -> Result<(), AllocError> {
+fn outer(out: &mut Line, s: &Stmt) {
     match s {
         Stmt::Block(inside) => return block(out, inside),
         Stmt::If {
@@ -362,9 +308,9 @@ fn outer(out: &mut String, s: &Stmt) -> Result<(), AllocError> {
             then,
             ..
         } => {
-            formed(out, *form, "if")?;
-            expr(out, test)?;
-            stmt(out, then)?;
+            formed(out, *form, "if");
+            expr(out, test);
+            stmt(out, then);
         }
         Stmt::IfElse {
             form,
@@ -373,10 +319,10 @@ fn outer(out: &mut String, s: &Stmt) -> Result<(), AllocError> {
             otherwise,
             ..
         } => {
-            formed(out, *form, "if_else")?;
-            expr(out, test)?;
-            stmt(out, then)?;
-            stmt(out, otherwise)?;
+            formed(out, *form, "if_else");
+            expr(out, test);
+            stmt(out, then);
+            stmt(out, otherwise);
         }
         Stmt::While {
             form,
@@ -384,9 +330,9 @@ fn outer(out: &mut String, s: &Stmt) -> Result<(), AllocError> {
             body,
             ..
         } => {
-            formed(out, *form, "while")?;
-            expr(out, test)?;
-            stmt(out, body)?;
+            formed(out, *form, "while");
+            expr(out, test);
+            stmt(out, body);
         }
         Stmt::Do {
             form,
@@ -394,9 +340,9 @@ fn outer(out: &mut String, s: &Stmt) -> Result<(), AllocError> {
             test,
             ..
         } => {
-            formed(out, *form, "do")?;
-            stmt(out, body)?;
-            expr(out, test)?;
+            formed(out, *form, "do");
+            stmt(out, body);
+            expr(out, test);
         }
         Stmt::For {
             form,
@@ -406,11 +352,11 @@ fn outer(out: &mut String, s: &Stmt) -> Result<(), AllocError> {
             body,
             ..
         } => {
-            formed(out, *form, "for")?;
-            first(out, begin)?;
-            maybe_expr(out, test)?;
-            step(out, next)?;
-            stmt(out, body)?;
+            formed(out, *form, "for");
+            first(out, begin);
+            maybe_expr(out, test);
+            step(out, next);
+            stmt(out, body);
         }
         Stmt::Foreach {
             tiling,
@@ -419,36 +365,36 @@ fn outer(out: &mut String, s: &Stmt) -> Result<(), AllocError> {
             ..
         } => {
             match tiling {
-                Tiling::Plain => opening(out, "foreach")?,
-                Tiling::Tiled => opening(out, "foreach_tiled")?,
+                Tiling::Plain => out.open("foreach"),
+                Tiling::Tiled => out.open("foreach_tiled"),
             }
             for each in ranges {
-                range(out, each)?;
+                range(out, each);
             }
-            stmt(out, body)?;
+            stmt(out, body);
         }
         Stmt::ForeachActive {
             word: name,
             body,
             ..
         } => {
-            opening(out, "foreach_active")?;
-            word(out, name.name.as_str())?;
-            stmt(out, body)?;
+            out.open("foreach_active");
+            out.word(name.name.as_str());
+            stmt(out, body);
         }
         Stmt::Unmasked { body, .. } => {
-            opening(out, "unmasked")?;
-            block(out, body)?;
+            out.open("unmasked");
+            block(out, body);
         }
-        _ => return Ok(()),
+        _ => return,
     }
-    closing(out)
+    out.close();
 }
 
 /// The statements that have none in them.
-fn leaf(out: &mut String, s: &Stmt) -> Result<(), AllocError> {
+fn leaf(out: &mut Line, s: &Stmt) {
     match s {
-        Stmt::Empty { .. } => word(out, "empty"),
+        Stmt::Empty { .. } => out.word("empty"),
         Stmt::Declare {
             declaration: declared,
             ..
@@ -457,78 +403,105 @@ fn leaf(out: &mut String, s: &Stmt) -> Result<(), AllocError> {
         Stmt::Jump {
             jump: Jump::Break,
             ..
-        } => word(out, "break"),
+        } => out.word("break"),
         Stmt::Jump {
             jump: Jump::Continue,
             ..
-        } => word(out, "continue"),
+        } => out.word("continue"),
         Stmt::Return { value, .. } => {
-            opening(out, "return")?;
-            maybe_expr(out, value)?;
-            closing(out)
+            out.open("return");
+            maybe_expr(out, value);
+            out.close();
         }
-        Stmt::Print { values, .. } => {
-            opening(out, "print")?;
+        Stmt::Print {
+            keyword,
+            text_span,
+            values,
+            span,
+            ..
+        } => {
+            out.open("print");
+            out.place(*keyword);
+            out.place(*text_span);
+            out.place(*span);
             for each in values {
-                expr(out, each)?;
+                expr(out, each);
             }
-            closing(out)
+            out.close();
         }
         Stmt::Assert {
             test,
             call_span,
-            span: whole,
+            span,
         } => {
-            opening(out, "assert")?;
-            expr(out, test)?;
-            span(out, *call_span)?;
-            span(out, *whole)?;
-            closing(out)
+            out.open("assert");
+            expr(out, test);
+            out.place(*call_span);
+            out.place(*span);
+            out.close();
         }
-        _ => Ok(()),
+        _ => {},
     }
 }
 
 #[cycle(stmt)]
-fn stmt(out: &mut String, s: &Stmt) -> Result<(), AllocError> {
-    leaf(out, s)?;
+fn stmt(out: &mut Line, s: &Stmt) {
+    leaf(out, s);
     outer(out, s)
 }
 
 #[cycle(stmt)]
-fn block(out: &mut String, block: &Block) -> Result<(), AllocError> {
-    opening(out, "block")?;
-    for each in &block.statements {
-        stmt(out, each)?;
+fn block(out: &mut Line, block: &Block) {
+    out.open("block");
+    statements(out, &block.statements);
+    out.close();
+}
+
+#[cycle(stmt)]
+fn statements(out: &mut Line, statements: &[Stmt]) {
+    for each in statements {
+        stmt(out, each);
     }
-    closing(out)
 }
 
-fn param(out: &mut String, param: &Param) -> Result<(), AllocError> {
-    opening(out, if param.is_array { "array" } else { "value" })?;
-    type_words(out, &param.ty)?;
-    word(out, param.word.name.as_str())?;
-    closing(out)
+fn param(out: &mut Line, param: &Param) {
+    out.open(if param.is_array { "array" } else { "value" });
+    type_words(out, &param.ty);
+    out.word(param.word.name.as_str());
+    out.close();
 }
 
-fn function(out: &mut String, function: &Function) -> Result<(), AllocError> {
-    opening(out, "function")?;
+/// The spans are the function's and its body's.
+fn function(out: &mut Line, function: &Function) {
+    out.open("function");
+    out.place(function.span);
     for each in &function.linkages {
-        word(out, linkage(*each))?;
+        out.word(linkage(*each));
     }
-    type_words(out, &function.result)?;
-    word(out, function.word.name.as_str())?;
+    type_words(out, &function.result);
+    out.word(function.word.name.as_str());
     for each in &function.params {
-        param(out, each)?;
+        param(out, each);
     }
-    block(out, &function.body)?;
-    closing(out)
+    out.place(function.body.span);
+    block(out, &function.body);
+    out.close();
 }
 
 /// A whole tree.
-pub fn tree(out: &mut String, tree: &Tree) -> Result<(), AllocError> {
+pub fn shape(alloc: Global, tree: &Tree) -> Result<String, AllocError> {
+    let mut out = Line::new(alloc);
     for each in tree.functions() {
-        function(out, each)?;
+        function(&mut out, each);
     }
-    Ok(())
+    out.finish()
+}
+
+/// The statements of a tree's functions alone.
+pub fn shape_of_statements(alloc: Global, tree: &Tree) -> Result<String, AllocError> {
+    let mut out = Line::new(alloc);
+    for each in tree.functions() {
+        statements(&mut out, &each.body.statements);
+    }
+    out.finish()
 }

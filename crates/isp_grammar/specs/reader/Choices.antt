@@ -22,6 +22,15 @@ unfoldable pub sign_at : {C : Type 0} → (TokenKind → Option C) → Reader (C
 sign_at pick [] = refuse Unexpected []
 sign_at pick (t ∷ ts) = sign_from (pick t.kind) t ts
 
+-- one sign of several, where one stands
+abbrev pub found_from : {C : Type 0} → Option C → Span → Option (C × Span)
+found_from None s = None
+found_from (Some c) s = Some (c, s)
+
+abbrev pub found_at : {C : Type 0} → (TokenKind → Option C) → List Token → Option (C × Span)
+found_at pick [] = None
+found_at pick (t ∷ ts) = found_from (pick t.kind) t.span
+
 -- any number of signs
 abbrev pub signs_from : {C : Type 0} → List C × List Token → Option C → Token → List Token → List C × List Token
 signs_from more None t ts = ([], t ∷ ts)
