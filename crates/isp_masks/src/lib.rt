@@ -1,0 +1,2 @@
+//! Code of statements and of functions: what is emitted, and that it does what they mean.
+#![tactic(auto)]
