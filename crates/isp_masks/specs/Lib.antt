@@ -1,0 +1,5 @@
+pub mod Simples
+pub mod Statements
+pub mod Fits
+pub mod StmtRuns
+pub mod Laws

@@ -1,0 +1,19 @@
+-- What holds of the code of every statement that fits.
+use Rattle.std.specs.Prelude.{ℕ, ◌+◌, length}
+use Rattle.isp_base.specs.Sets.{Mask}
+use Rattle.isp_code.specs.Conf.{Conf}
+use Rattle.isp_typed.specs.Typed.{TStmt, TBlock}
+use Rattle.isp_meaning.specs.State.{State}
+use Rattle.isp_meaning.specs.Statements.{run, block}
+use Rattle.isp_lower.specs.Setting.{Setting, IsSettled, gang_of, AreAt}
+use Rattle.isp_lower.specs.Runs.{Enters}
+use Rattle.isp_masks.specs.Statements.{stays, stmt_code, stmt_places}
+use Rattle.isp_masks.specs.Fits.{StmtFits}
+use Rattle.isp_masks.specs.StmtRuns.{AreThree, aside, StmtRuns}
+
+-- From registers that stand for a state and a mask that stands for a set with members, the code of a statement leaves
+-- registers that stand for the state after it and masks for those that went on, continued and returned; it traps as the
+-- statement traps, and goes on where it is cut.
+abbrev pub StatementRuns : Type 0
+StatementRuns =
+    (w : Setting) → IsSettled w → (x : TStmt) (pc p k co rr n q : ℕ) (a : Mask) (s : State) (c : Conf) → StmtFits w x n → AreAt w.routine.code pc (stmt_code w.layout w.frame.answer x pc p k co rr n) → AreAt w.code.places p (stmt_places w.layout w.frame.answer x) → AreThree k co rr n → Enters w pc k n a s c q → StmtRuns w w.turns c (pc + length (stmt_code w.layout w.frame.answer x pc p k co rr n)) k co rr n (aside (stays x) + q) (run (gang_of w) w.frame w.calls w.turns x a s)
