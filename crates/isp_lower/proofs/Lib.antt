@@ -1,17 +1,17 @@
-mod Splits
-mod Base
-mod Rates
-mod Lines
-mod Combine
-mod Values
-mod Found
-mod Nodes
-mod Access
-mod Jumps
-mod Logic
-mod Choose
-mod Exprs
-mod Writes
-mod Assigns
-mod Updates
-mod Counts
+pub mod Splits
+pub mod Base
+pub mod Rates
+pub mod Lines
+pub mod Combine
+pub mod Values
+pub mod Found
+pub mod Nodes
+pub mod Access
+pub mod Jumps
+pub mod Logic
+pub mod Choose
+pub mod Exprs
+pub mod Writes
+pub mod Assigns
+pub mod Updates
+pub mod Counts
