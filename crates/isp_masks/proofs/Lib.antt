@@ -1,2 +1,3 @@
 mod Unions
 mod Combine
+mod Choices
