@@ -59,7 +59,7 @@ branches_parts gang a first second (One c) s some = go (is_true c)
         (ap (λ z. both_sides (if_so z (first nobody) (went_all nobody) s) (λ s1. unless_empty gang (without a nobody) s1 second)) (any_nobody gang)
         ∙ second_alone (unless_empty gang (without a nobody) s second) ∙ ap (λ z. unless_empty gang z s second) (without_nobody a) ∙ ap (λ z. if_so z (second a) (went_all a) s) some)
 
-nobody_left : (gang : ℕ) (a : Mask) (s : State) → went_all a s ≡ unless_empty gang a s went_all
+pub nobody_left : (gang : ℕ) (a : Mask) (s : State) → went_all a s ≡ unless_empty gang a s went_all
 nobody_left gang a s = go (any gang a)
   where
     go : (b : Bool) → went_all a s ≡ if_so b (went_all a) (went_all a) s

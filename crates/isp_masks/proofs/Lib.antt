@@ -1,3 +1,7 @@
 mod Unions
 mod Combine
 mod Choices
+mod Simples
+mod Leaves
+mod Sequences
+mod Stmts
