@@ -31,7 +31,7 @@ use Rattle.isp_masks.proofs.Sequences.{SomeLeft, some_stay, rest_runs, then_runs
 
 module _ (w : Setting) (ready : IsSettled w) where
   -- a test, and what follows it for the same set
-  tested_runs : (e : TExpr) (pc p k co rr n q : ℕ) (a : Mask) (s : State) (c : Conf) (code : ℕ → List Instr) (go : Payload → State → Res) → ExprFits w e n → AreAt w.routine.code pc (expr_code w.layout e pc p k n ++ code (pc + length (expr_code w.layout e pc p k n))) → AreAt w.code.places p (expr_places w.layout e) → AreThree k co rr n → Enters w pc k n a s c q → ((m : Payload) (s1 : State) (c1 : Conf) (q1 : ℕ) → (ok : Ok w c (pc + length (expr_code w.layout e pc p k n)) n (5 + (1 + q)) (Holds (type_of e).rate a (found w.layout e n) m) s1) → c1 ≡ ok.conf → q1 ≡ ok.steps + (1 + q) → StmtRuns w w.turns ok.conf (pc + length (expr_code w.layout e pc p k n) + length (code (pc + length (expr_code w.layout e pc p k n)))) k co rr n (ok.steps + (1 + q)) (go m s1)) → StmtRuns w w.turns c (pc + length (expr_code w.layout e pc p k n ++ code (pc + length (expr_code w.layout e pc p k n)))) k co rr n (1 + q) (with_value (value (gang_of w) w.frame w.calls e a (tick s)) go)
+  tested_runs : (e : TExpr) (pc p k co rr n q : ℕ) (a : Mask) (s : State) (c : Conf) (code : ℕ → List Instr) (go : Payload → State → Res) → ExprFits w e n → AreAt w.routine.code pc (expr_code w.layout e pc p k n ++ code (pc + length (expr_code w.layout e pc p k n))) → AreAt w.code.places p (expr_places w.layout e) → AreThree k co rr n → Enters w pc k n a s c q → ((m : Payload) (s1 : State) (ok : Ok w c (pc + length (expr_code w.layout e pc p k n)) n (5 + (1 + q)) (Holds (type_of e).rate a (found w.layout e n) m) s1) → StmtRuns w w.turns ok.conf (pc + length (expr_code w.layout e pc p k n) + length (code (pc + length (expr_code w.layout e pc p k n)))) k co rr n (ok.steps + (1 + q)) (go m s1)) → StmtRuns w w.turns c (pc + length (expr_code w.layout e pc p k n ++ code (pc + length (expr_code w.layout e pc p k n)))) k co rr n (1 + q) (with_value (value (gang_of w) w.frame w.calls e a (tick s)) go)
   tested_runs e pc p k co rr n q a s c code go fit has places three b f =
       let fe : heads e ≤ 1 = few w e n fit in
       let ce = expr_code w.layout e pc p k n in
@@ -40,13 +40,12 @@ module _ (w : Setting) (ready : IsSettled w) where
       subst (λ z. StmtRuns w w.turns c z k co rr n (1 + q) (with_value (value (gang_of w) w.frame w.calls e a (tick s)) go)) to
       (with_runs w ready c pc1 n 5 (1 + q) (Holds (type_of e).rate a (found w.layout e n)) (value (gang_of w) w.frame w.calls e a (tick s)) go (pc1 + length (code pc1)) k co rr n
       (expr_runs w ready e pc p k n (5 + (1 + q)) a (tick s) c fit (are_front w.routine.code pc ce _ has) places (enters_part w ready pc k n (heads e + (5 + (1 + q))) q a s c (omega arith) b))
-      (λ m s1 ok. stmt_after w ready w.turns c ok.conf ok.steps (pc1 + length (code pc1)) k co rr n (1 + q) (go m s1) ok.comes (spares_kept w ready n c ok.conf ok.keeps) (λ r lt ne. ok.masks r lt) three (f m s1 ok.conf (ok.steps + (1 + q)) ok refl refl)))
+      (λ m s1 ok. stmt_after w ready w.turns c ok.conf ok.steps (pc1 + length (code pc1)) k co rr n (1 + q) (go m s1) ok.comes (spares_kept w ready n c ok.conf ok.keeps) (λ r lt ne. ok.masks r lt) three (f m s1 ok)))
 
   mutual
     pub stmt_runs : (x : TStmt) (pc p k co rr n q : ℕ) (a : Mask) (s : State) (c : Conf) → StmtFits w x n → AreAt w.routine.code pc (stmt_code w.layout w.frame.answer x pc p k co rr n) → AreAt w.code.places p (stmt_places w.layout w.frame.answer x) → AreThree k co rr n → Enters w pc k n a s c q → StmtRuns w w.turns c (pc + length (stmt_code w.layout w.frame.answer x pc p k co rr n)) k co rr n (aside (stays x) + q) (run (gang_of w) w.frame w.calls w.turns x a s)
     stmt_runs (t_block z) pc p k co rr n q a s c fit has places three b = block_runs z pc p k co rr n q a s c fit has places three b
     stmt_runs (t_declare xs sp) pc p k co rr n q a s c fit has places three b =
-        let e : 0 + q ≡ q = omega arith in
         all_runs w ready c _ k co rr n (0 + q) a _ three b.mask b.inside (items_runs w ready xs pc p k n (0 + q) a (tick s) c fit has places (enters_part w ready pc k n (0 + q) q a s c (omega arith) b))
     stmt_runs (t_simple x sp) pc p k co rr n q a s c fit has places three b =
         all_runs w ready c _ k co rr n (0 + q) a _ three b.mask b.inside (simple_runs w ready x pc p k n (0 + q) a s c fit has places (record { at = b.at; mask = b.mask; some = b.some; inside = b.inside; stands = b.stands; used = omega (arith, b.used); low = b.low }))
@@ -56,7 +55,7 @@ module _ (w : Setting) (ready : IsSettled w) where
         let part = λ (pc2 m i : ℕ). stmt_code w.layout w.frame.answer x pc2 (p + length pl) m co rr i in
         let plx = are_back w.code.places p pl _ places in
         tested_runs e pc p k co rr n q a s c (λ pc1. if_code (type_of e).rate (found w.layout e n) pc1 k n part) (branches (gang_of w) a (run (gang_of w) w.frame w.calls w.turns x) went_all) fit.0 has (are_front w.code.places p pl _ places) three b
-        (λ m s1 c1 q1 ok _ _. if_runs w ready (type_of e).rate (found w.layout e n) (pc + length ce) k co rr n (ok.steps + (1 + q)) a m s1 ok.conf part (run (gang_of w) w.frame w.calls w.turns x) ok.at (ok.masks k b.low ∙ b.mask) b.some b.inside ok.stands ok.holds (omega (arith, ok.bound)) three (are_back w.routine.code pc ce _ has) (λ j T s2 c2 pc2 z th h en. stmt_less w ready w.turns c2 _ _ j co rr _ (aside (stays x)) z _ refl (stmt_runs x pc2 (p + length pl) j co rr (first_slot (type_of e).rate n) z T s2 c2 fit.1 h plx th en)))
+        (λ m s1 ok. if_runs w ready (type_of e).rate (found w.layout e n) (pc + length ce) k co rr n (ok.steps + (1 + q)) a m s1 ok.conf part (run (gang_of w) w.frame w.calls w.turns x) ok.at (ok.masks k b.low ∙ b.mask) b.some b.inside ok.stands ok.holds (omega (arith, ok.bound)) three (are_back w.routine.code pc ce _ has) (λ j T s2 c2 pc2 z th h en. stmt_less w ready w.turns c2 _ _ j co rr _ (aside (stays x)) z _ refl (stmt_runs x pc2 (p + length pl) j co rr (first_slot (type_of e).rate n) z T s2 c2 fit.1 h plx th en)))
     stmt_runs (t_if_else f g e x y sp) pc p k co rr n q a s c fit has places three b =
         let ce = expr_code w.layout e pc p k n in
         let pl = expr_places w.layout e in
@@ -65,7 +64,7 @@ module _ (w : Setting) (ready : IsSettled w) where
         let other = λ (pc2 m i : ℕ). stmt_code w.layout w.frame.answer y pc2 (p + length pl + length px) m co rr i in
         let plx = are_back w.code.places p pl _ places in
         tested_runs e pc p k co rr n q a s c (λ pc1. if_else_code (type_of e).rate (found w.layout e n) pc1 k n part other) (branches (gang_of w) a (run (gang_of w) w.frame w.calls w.turns x) (run (gang_of w) w.frame w.calls w.turns y)) fit.0 has (are_front w.code.places p pl _ places) three b
-        (λ m s1 c1 q1 ok _ _. if_else_runs w ready (type_of e).rate (found w.layout e n) (pc + length ce) k co rr n (ok.steps + (1 + q)) a m s1 ok.conf part other (run (gang_of w) w.frame w.calls w.turns x) (run (gang_of w) w.frame w.calls w.turns y) ok.at (ok.masks k b.low ∙ b.mask) b.some b.inside ok.stands ok.holds (omega (arith, ok.bound)) three (are_back w.routine.code pc ce _ has) (λ j T s2 c2 pc2 z th h en. stmt_less w ready w.turns c2 _ _ j co rr _ (aside (stays x)) z _ refl (stmt_runs x pc2 (p + length pl) j co rr (first_slot (type_of e).rate n) z T s2 c2 fit.1 h (are_front w.code.places (p + length pl) px _ plx) th en)) (λ j T s2 c2 pc2 z th h en. stmt_less w ready w.turns c2 _ _ j co rr _ (aside (stays y)) z _ refl (stmt_runs y pc2 (p + length pl + length px) j co rr (first_slot (type_of e).rate n) z T s2 c2 fit.2 h (are_back w.code.places (p + length pl) px _ plx) th en)))
+        (λ m s1 ok. if_else_runs w ready (type_of e).rate (found w.layout e n) (pc + length ce) k co rr n (ok.steps + (1 + q)) a m s1 ok.conf part other (run (gang_of w) w.frame w.calls w.turns x) (run (gang_of w) w.frame w.calls w.turns y) ok.at (ok.masks k b.low ∙ b.mask) b.some b.inside ok.stands ok.holds (omega (arith, ok.bound)) three (are_back w.routine.code pc ce _ has) (λ j T s2 c2 pc2 z th h en. stmt_less w ready w.turns c2 _ _ j co rr _ (aside (stays x)) z _ refl (stmt_runs x pc2 (p + length pl) j co rr (first_slot (type_of e).rate n) z T s2 c2 fit.1 h (are_front w.code.places (p + length pl) px _ plx) th en)) (λ j T s2 c2 pc2 z th h en. stmt_less w ready w.turns c2 _ _ j co rr _ (aside (stays y)) z _ refl (stmt_runs y pc2 (p + length pl + length px) j co rr (first_slot (type_of e).rate n) z T s2 c2 fit.2 h (are_back w.code.places (p + length pl) px _ plx) th en)))
     stmt_runs (t_while f g e x sp) pc p k co rr n q a s c fit has places three b = absurd fit
     stmt_runs (t_do f g x e sp) pc p k co rr n q a s c fit has places three b = absurd fit
     stmt_runs (t_for f g first e step i x sp) pc p k co rr n q a s c fit has places three b = absurd fit

@@ -1,2 +1,6 @@
 //! Code of statements and of functions: what is emitted, and that it does what they mean.
 #![tactic(auto)]
+
+mod laws;
+
+pub use laws::statements_run;

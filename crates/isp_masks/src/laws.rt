@@ -1,0 +1,10 @@
+//! What holds of all code. No code is run here: each function carries a law in its contract.
+ghost use Rattle.isp_masks.specs.Laws.{StatementRuns};
+
+/// The code of a statement does it for the instances of a mask that has members: afterwards the mask
+/// has those that went on, and two others have grown by those that continued and that returned. It
+/// traps as the statement traps, and goes on where it is cut, within 32 instructions for each unit of
+/// work. No other mask and no register that code before it uses has changed.
+pub fn statements_run()
+    ensures { StatementRuns }
+{}
