@@ -1,12 +1,18 @@
 -- What holds of the code of every statement that fits.
-use Rattle.std.specs.Prelude.{ℕ, ◌+◌, length}
+use Rattle.std.specs.Prelude.{◌≡◌, ℕ, ◌+◌, List, length, true}
+use Rattle.isp_base.specs.Binding.{has_signature}
+use Rattle.isp_base.specs.declared.signature.Argument.{Argument}
 use Rattle.isp_base.specs.Sets.{Mask}
 use Rattle.isp_code.specs.Conf.{Conf}
-use Rattle.isp_typed.specs.Typed.{TStmt, TBlock}
+use Rattle.isp_code.specs.Listing.{Listing, Routine}
+use Rattle.isp_typed.specs.Typed.{TStmt, Program, TFunction}
 use Rattle.isp_meaning.specs.State.{State}
-use Rattle.isp_meaning.specs.Statements.{run, block}
+use Rattle.isp_meaning.specs.Statements.{run}
 use Rattle.isp_lower.specs.Setting.{Setting, IsSettled, gang_of, AreAt}
+use Rattle.isp_lower.specs.Layout.{Layout}
 use Rattle.isp_lower.specs.Runs.{Enters}
+use Rattle.isp_masks.specs.Agreement.{AreShort, RunsAgree}
+use Rattle.isp_masks.specs.Compiled.{IsCompiled}
 use Rattle.isp_masks.specs.Statements.{stays, stmt_code, stmt_places}
 use Rattle.isp_masks.specs.Fits.{StmtFits}
 use Rattle.isp_masks.specs.StmtRuns.{AreThree, aside, StmtRuns}
@@ -17,3 +23,8 @@ use Rattle.isp_masks.specs.StmtRuns.{AreThree, aside, StmtRuns}
 abbrev pub StatementRuns : Type 0
 StatementRuns =
     (w : Setting) → IsSettled w → (x : TStmt) (pc p k co rr n q : ℕ) (a : Mask) (s : State) (c : Conf) → StmtFits w x n → AreAt w.routine.code pc (stmt_code w.layout w.frame.answer x pc p k co rr n) → AreAt w.code.places p (stmt_places w.layout w.frame.answer x) → AreThree k co rr n → Enters w pc k n a s c q → StmtRuns w w.turns c (pc + length (stmt_code w.layout w.frame.answer x pc p k co rr n)) k co rr n (aside (stays x) + q) (run (gang_of w) w.frame w.calls w.turns x a s)
+
+-- The code of a function agrees with it, whatever the arguments are.
+abbrev pub EntryRuns : Type 0
+EntryRuns =
+    (program : Program) (code : Listing) (f : ℕ) (h : TFunction) (g : Routine) (l : Layout) (p : ℕ) → IsCompiled program code f h g l p → (xs : List Argument) → has_signature h.parameters xs ≡ true → AreShort xs → RunsAgree program code f g xs

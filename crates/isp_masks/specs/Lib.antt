@@ -2,4 +2,6 @@ pub mod Simples
 pub mod Statements
 pub mod Fits
 pub mod StmtRuns
+pub mod Agreement
+pub mod Compiled
 pub mod Laws

@@ -1,0 +1,56 @@
+-- A function and the routine that is its code.
+use Rattle.std.specs.Prelude.{◌≡◌, ℕ, List, [], Option, Some, None, true, slice_get}
+use Rattle.isp_base.specs.Binding.{has_signature}
+use Rattle.isp_base.specs.Sets.{everyone}
+use Rattle.isp_base.specs.Types.{gang_width}
+use Rattle.isp_base.specs.declared.signature.Argument.{Argument}
+use Rattle.isp_base.specs.declared.types.Elem.{Elem}
+use Rattle.isp_base.specs.declared.types.Rate.TheVariants.{Uniform}
+use Rattle.isp_base.specs.declared.types.Ty.{Ty}
+use Rattle.isp_code.specs.Listing.{Listing, Routine}
+use Rattle.isp_code.specs.Machine.{first_conf}
+use Rattle.isp_code.specs.Registers.{elem_of}
+use Rattle.isp_typed.specs.Typed.{Program, TFunction}
+use Rattle.isp_meaning.specs.Calls.{frame_of, begun, calls_at}
+use Rattle.isp_meaning.specs.Runs.{handed, first_frame, first_state}
+use Rattle.isp_meaning.specs.State.{State}
+use Rattle.isp_lower.specs.Layout.{Layout, IsApart, register}
+use Rattle.isp_lower.specs.Setting.{Setting, AreAt, Stands}
+use Rattle.isp_masks.specs.Agreement.{AreShort}
+use Rattle.isp_masks.specs.Fits.{BlockFits}
+use Rattle.isp_masks.specs.Statements.{block_places, function_code}
+
+-- the state in which the entry's body begins, and the setting: nothing waits, and 255 more calls may run
+abbrev pub entry_state : Program → TFunction → List Argument → State
+entry_state program h xs = begun h (handed 0 xs) (first_frame xs) (everyone (gang_width program.gang)) (first_state xs)
+
+abbrev pub entry_setting : Program → Listing → ℕ → TFunction → Routine → Layout → ℕ → List Argument → Setting
+entry_setting program code f h g l turns xs =
+    record {
+      code = code;
+      routine = g;
+      layout = l;
+      home = (first_conf code f g xs).home;
+      waiting = [];
+      frame = frame_of h (handed 0 xs) (first_frame xs);
+      calls = calls_at program turns 255;
+      turns = turns;
+    }
+
+-- what the function gives stands in a scalar of its type
+abbrev pub ResultFits : Routine → Layout → Option Ty → Option Elem → Type 0
+ResultFits g l None gives = gives ≡ None
+ResultFits g l (Some t) gives = (t.rate ≡ Uniform) × (gives ≡ Some t.elem) × (elem_of g (register Uniform (l.result Uniform)) ≡ t.elem)
+
+-- Routine f is the code of function f, by this layout; the places that it names begin at number p. Whatever the arguments
+-- are, parameters stand where they are passed, and the tree and the table of registers fit.
+pub record IsCompiled (program : Program) (code : Listing) (f : ℕ) (h : TFunction) (g : Routine) (l : Layout) (p : ℕ) : Type 0 where
+  pub gang : code.gang ≡ program.gang
+  pub source : slice_get program.functions f ≡ Some h
+  pub found : slice_get code.routines f ≡ Some g
+  pub apart : IsApart l
+  pub code_is : AreAt g.code 0 (function_code l h.answer h.body p)
+  pub places_are : AreAt code.places p (block_places l h.answer h.body)
+  pub result : ResultFits g l h.answer h.gives
+  pub begins : (turns : ℕ) (xs : List Argument) → has_signature h.parameters xs ≡ true → Stands (entry_setting program code f h g l turns xs) (entry_state program h xs) (first_conf code f g xs)
+  pub fits : (turns : ℕ) (xs : List Argument) → has_signature h.parameters xs ≡ true → AreShort xs → BlockFits (entry_setting program code f h g l turns xs) h.body 3
