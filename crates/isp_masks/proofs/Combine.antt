@@ -1,5 +1,5 @@
 -- How code of statements is put together: what comes before, what follows, and what is jumped over.
-use Rattle.std.proofs.Common.{◌≡◌, ◌≢◌, ℕ, ◌+◌, ◌*◌, ◌<◌, ◌≤◌, List, [], ◌∷◌, ◌++◌, length, Some, Bool, true, false, refl, sym, ap, ◌∙◌, subst, arith}
+use Rattle.std.proofs.Common.{◌≡◌, ◌≢◌, ℕ, ◌+◌, ◌*◌, ◌<◌, ◌≤◌, List, length, Some, Bool, true, false, refl, sym, ap, ◌∙◌, subst, arith}
 use Rattle.std.specs.Prelude.{slice_get, not}
 use Rattle.isp_base.specs.Sets.{Mask, nobody, union, any}
 use Rattle.isp_code.specs.Conf.{Conf}
@@ -12,9 +12,9 @@ use Rattle.isp_meaning.specs.Outcomes.{Val, Gives, Fails, Stops, Done, Res, Went
 use Rattle.isp_meaning.specs.Statements.{all_go}
 use Rattle.isp_lower.specs.Code.{guard, jump_off}
 use Rattle.isp_lower.specs.Layout.{mask_register}
-use Rattle.isp_lower.specs.Runs.{Comes, Enters, Ok, Runs, Failed, Stopped, DoneRuns}
+use Rattle.isp_lower.specs.Runs.{Comes, Enters, Ok, Runs, DoneRuns}
 use Rattle.isp_lower.specs.Setting.{Setting, IsSettled, gang_of, AreAt, At, Stands, Spares}
-use Rattle.isp_lower.proofs.Assigns.{spares_less, spares_on}
+use Rattle.isp_lower.proofs.Assigns.{spares_on}
 use Rattle.isp_lower.proofs.Base.{comes_none, comes_on, step_go, at_to}
 use Rattle.isp_lower.proofs.Combine.{failed_after, stopped_after, failed_less, stopped_less}
 use Rattle.isp_lower.proofs.Jumps.{jumped, jump_comes, jump_at}

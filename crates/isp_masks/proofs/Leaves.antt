@@ -1,7 +1,6 @@
 -- Those that leave: `break`, `continue` and `return`.
-use Rattle.std.proofs.Common.{◌≡◌, ◌≢◌, ℕ, ◌+◌, ◌*◌, ◌<◌, ◌≤◌, List, [], ◌∷◌, ◌++◌, length, Option, Some, None, refl, sym, ap, ◌∙◌, subst, arith, length-append}
-use Rattle.std.specs.Prelude.{slice_get}
-use Rattle.isp_base.specs.Maps.{over, put}
+use Rattle.std.proofs.Common.{◌≡◌, ◌≢◌, ℕ, ◌+◌, ◌*◌, ◌<◌, ◌≤◌, [], ◌∷◌, ◌++◌, length, Option, Some, None, refl, sym, ap, ◌∙◌, subst, arith, length-append}
+use Rattle.isp_base.specs.Maps.{over}
 use Rattle.isp_base.specs.Sets.{Mask, nobody, union}
 use Rattle.isp_base.specs.declared.types.Rate.{Rate}
 use Rattle.isp_base.specs.declared.types.Rate.TheVariants.{Uniform, Varying}
@@ -17,10 +16,10 @@ use Rattle.isp_meaning.specs.Expressions.{value}
 use Rattle.isp_meaning.specs.Statements.{answered, answered_at, jumped}
 use Rattle.isp_lower.specs.Code.{copy, found, operand, operand_of, expr_places, expr_code}
 use Rattle.isp_lower.specs.Fits.{heads}
-use Rattle.isp_lower.specs.Runs.{Comes, Enters, Ok}
+use Rattle.isp_lower.specs.Runs.{Comes, Enters}
 use Rattle.isp_lower.specs.Setting.{Setting, IsSettled, gang_of, AreAt, At, Stands, Spares, at_rate, held_at, Holds}
 use Rattle.isp_lower.proofs.Assigns.{spares_kept, spares_on}
-use Rattle.isp_lower.proofs.Base.{are_front, are_back, put_same, put_other, comes_none, comes_on, step_go, at_to}
+use Rattle.isp_lower.proofs.Base.{are_front, are_back, put_same, put_other, comes_on, step_go, at_to}
 use Rattle.isp_lower.proofs.Combine.{set_comes, set_goes, set_masks}
 use Rattle.isp_lower.proofs.Found.{few}
 use Rattle.isp_lower.proofs.Jumps.{masked, masked_at}
@@ -29,9 +28,9 @@ use Rattle.isp_lower.proofs.Nodes.{enters_part, operand_runs}
 use Rattle.isp_lower.proofs.Exprs.{expr_runs}
 use Rattle.isp_masks.specs.Statements.{unite, clear_mask, leave_code, jump_code, answer_code}
 use Rattle.isp_masks.specs.Fits.{AnswerFits}
-use Rattle.isp_masks.specs.StmtRuns.{AreThree, Inside, StmtOk, StmtRuns}
+use Rattle.isp_masks.specs.StmtRuns.{AreThree, StmtOk, StmtRuns}
 use Rattle.isp_masks.proofs.Unions.{union_nobody, below_nobody}
-use Rattle.isp_masks.proofs.Combine.{spares_all, stmt_after, with_runs}
+use Rattle.isp_masks.proofs.Combine.{spares_all, with_runs}
 
 module _ (w : Setting) (ready : IsSettled w) where
   -- after those of mask k left into mask m
@@ -146,7 +145,7 @@ module _ (w : Setting) (ready : IsSettled w) where
   answered_work Uniform a m s = refl
   answered_work Varying a m s = refl
 
-  pub return_runs : (answer : Option Ty) (x : TExpr) (pc p k co rr n q : ℕ) (a : Mask) (s : State) (c : Conf) → AnswerFits w answer x n → AreAt w.routine.code pc (answer_code w.layout answer answer x pc p k n ++ leave_code rr k) → AreAt w.code.places p (expr_places w.layout x) → AreThree k co rr n → Enters w pc k n a s c q → StmtRuns w w.turns c (pc + length (answer_code w.layout answer answer x pc p k n ++ leave_code rr k)) k co rr n (1 + q) (with_value (value (gang_of w) w.frame w.calls x a (tick s)) (λ m s1. Went (answered answer a m s1) nobody nobody nobody a))
+  pub return_runs : (answer : Option Ty) (x : TExpr) (pc p k co rr n q : ℕ) (a : Mask) (s : State) (c : Conf) → AnswerFits w answer x n → AreAt w.routine.code pc (answer_code w.layout answer x pc p k n ++ leave_code rr k) → AreAt w.code.places p (expr_places w.layout x) → AreThree k co rr n → Enters w pc k n a s c q → StmtRuns w w.turns c (pc + length (answer_code w.layout answer x pc p k n ++ leave_code rr k)) k co rr n (1 + q) (with_value (value (gang_of w) w.frame w.calls x a (tick s)) (λ m s1. Went (answered answer a m s1) nobody nobody nobody a))
   return_runs None x pc p k co rr n q a s c fit has places three b =
       let fx : heads x ≤ 1 = few w x n fit in
       let cx = expr_code w.layout x pc p k n in

@@ -5,3 +5,5 @@ mod Simples
 mod Leaves
 mod Sequences
 mod Stmts
+mod Endings
+mod Agree

@@ -1,5 +1,5 @@
 -- One statement after the other.
-use Rattle.std.proofs.Common.{◌≡◌, ◌≢◌, ℕ, ◌+◌, ◌*◌, ◌<◌, ◌≤◌, List, [], ◌∷◌, ◌++◌, length, Bool, true, false, refl, sym, ap, ◌∙◌, subst, arith, length-append}
+use Rattle.std.proofs.Common.{◌≡◌, ℕ, ◌+◌, ◌*◌, ◌≤◌, List, ◌++◌, length, Bool, true, false, refl, sym, ap, ◌∙◌, subst, arith, length-append}
 use Rattle.isp_base.specs.Sets.{Mask, union, any}
 use Rattle.isp_code.specs.Conf.{Conf}
 use Rattle.isp_code.specs.declared.instr.Instr.{Instr}
@@ -12,11 +12,11 @@ use Rattle.isp_meaning.specs.Printing.{shown_all, print_text}
 use Rattle.isp_base.specs.declared.trap.TrapKind.TheVariants.{Assert}
 use Rattle.isp_meaning.specs.Outcomes.{Val, Gives, Fails, Stops, Done, Res, Went, Trapped, Cut, checked, with_value, go_on, went_all, then_run, unless_empty, if_so}
 use Rattle.isp_meaning.specs.Statements.{all_go, run, run_all}
-use Rattle.isp_lower.specs.Code.{guard, jump_off, two}
+use Rattle.isp_lower.specs.Code.{two}
 use Rattle.isp_lower.specs.Runs.{Enters}
 use Rattle.isp_lower.specs.Setting.{Setting, IsSettled, gang_of, AreAt, At, Stands}
 use Rattle.isp_lower.proofs.Assigns.{spares_on}
-use Rattle.isp_lower.proofs.Base.{are_front, are_back, comes_none, comes_on, at_to}
+use Rattle.isp_lower.proofs.Base.{comes_none, comes_on, at_to}
 use Rattle.isp_lower.proofs.Combine.{failed_after, stopped_after}
 use Rattle.isp_masks.specs.Statements.{stays, rest_code}
 use Rattle.isp_masks.specs.StmtRuns.{AreThree, aside, Inside, StmtOk, StmtRuns}

@@ -1,14 +1,13 @@
 -- The code of a statement does what the statement means.
-use Rattle.std.proofs.Common.{◌≡◌, ℕ, ◌+◌, ◌*◌, ◌<◌, ◌≤◌, List, [], ◌∷◌, ◌++◌, length, Option, Some, None, Bool, true, false, refl, sym, ap, ◌∙◌, subst, arith, length-append}
-use Rattle.isp_base.specs.Sets.{Mask, any}
+use Rattle.std.proofs.Common.{◌≡◌, ℕ, ◌+◌, ◌≤◌, List, ◌++◌, length, Some, None, refl, ◌∙◌, subst, arith, length-append}
+use Rattle.isp_base.specs.Sets.{Mask}
 use Rattle.isp_code.specs.Conf.{Conf}
 use Rattle.isp_code.specs.declared.instr.Instr.{Instr}
 use Rattle.isp_typed.specs.Typed.{TExpr, type_of, TStmt, t_block, t_declare, t_simple, t_if, t_if_else, t_while, t_do, t_for, t_foreach, t_foreach_active, t_unmasked, t_jump, t_return, t_print, t_assert, TBlock, t_braces, TStmts, t_no_stmts, t_stmt_then}
 use Rattle.isp_meaning.specs.State.{State, tick}
 use Rattle.isp_meaning.specs.Payloads.{Payload}
-use Rattle.isp_meaning.specs.Outcomes.{Res, Went, went_all, with_value, then_run, unless_empty}
+use Rattle.isp_meaning.specs.Outcomes.{Res, went_all, with_value, unless_empty}
 use Rattle.isp_meaning.specs.Expressions.{value}
-use Rattle.isp_meaning.specs.Simple.{simple, items}
 use Rattle.isp_meaning.specs.Statements.{branches, run, block, run_all}
 use Rattle.isp_lower.specs.Code.{found, expr_places, expr_code}
 use Rattle.isp_lower.specs.Fits.{heads, first_slot, ExprFits}
@@ -19,12 +18,11 @@ use Rattle.isp_lower.proofs.Base.{are_front, are_back, comes_none, at_to}
 use Rattle.isp_lower.proofs.Exprs.{expr_runs}
 use Rattle.isp_lower.proofs.Found.{few}
 use Rattle.isp_lower.proofs.Nodes.{enters_part}
-use Rattle.isp_masks.specs.Statements.{stays, rest_code, if_code, if_else_code, leave_code, stmt_places, block_places, stmts_places, stmt_code, block_code, stmts_code}
+use Rattle.isp_masks.specs.Statements.{stays, rest_code, if_code, if_else_code, stmt_places, block_places, stmts_places, stmt_code, block_code, stmts_code}
 use Rattle.isp_masks.specs.Fits.{StmtFits, BlockFits, StmtsFit}
-use Rattle.isp_masks.specs.StmtRuns.{AreThree, aside, StmtOk, StmtRuns}
-use Rattle.isp_masks.specs.Simples.{simple_code, simple_places, items_code, items_places}
+use Rattle.isp_masks.specs.StmtRuns.{AreThree, aside, StmtRuns}
 use Rattle.isp_masks.proofs.Combine.{spares_all, stmt_after, stmt_less, with_runs, all_runs, plain_ok}
-use Rattle.isp_masks.proofs.Choices.{PartRuns, if_runs, if_else_runs}
+use Rattle.isp_masks.proofs.Choices.{if_runs, if_else_runs}
 use Rattle.isp_masks.proofs.Simples.{simple_runs, items_runs}
 use Rattle.isp_masks.proofs.Leaves.{jump_runs, return_ok, return_runs}
 use Rattle.isp_masks.proofs.Sequences.{SomeLeft, some_stay, rest_runs, then_runs}
@@ -43,7 +41,7 @@ module _ (w : Setting) (ready : IsSettled w) where
       (λ m s1 ok. stmt_after w ready w.turns c ok.conf ok.steps (pc1 + length (code pc1)) k co rr n (1 + q) (go m s1) ok.comes (spares_kept w ready n c ok.conf ok.keeps) (λ r lt ne. ok.masks r lt) three (f m s1 ok)))
 
   mutual
-    pub stmt_runs : (x : TStmt) (pc p k co rr n q : ℕ) (a : Mask) (s : State) (c : Conf) → StmtFits w x n → AreAt w.routine.code pc (stmt_code w.layout w.frame.answer x pc p k co rr n) → AreAt w.code.places p (stmt_places w.layout w.frame.answer x) → AreThree k co rr n → Enters w pc k n a s c q → StmtRuns w w.turns c (pc + length (stmt_code w.layout w.frame.answer x pc p k co rr n)) k co rr n (aside (stays x) + q) (run (gang_of w) w.frame w.calls w.turns x a s)
+    pub stmt_runs : (x : TStmt) (pc p k co rr n q : ℕ) (a : Mask) (s : State) (c : Conf) → StmtFits w x n → AreAt w.routine.code pc (stmt_code w.layout w.frame.answer x pc p k co rr n) → AreAt w.code.places p (stmt_places w.layout x) → AreThree k co rr n → Enters w pc k n a s c q → StmtRuns w w.turns c (pc + length (stmt_code w.layout w.frame.answer x pc p k co rr n)) k co rr n (aside (stays x) + q) (run (gang_of w) w.frame w.calls w.turns x a s)
     stmt_runs (t_block z) pc p k co rr n q a s c fit has places three b = block_runs z pc p k co rr n q a s c fit has places three b
     stmt_runs (t_declare xs sp) pc p k co rr n q a s c fit has places three b =
         all_runs w ready c _ k co rr n (0 + q) a _ three b.mask b.inside (items_runs w ready xs pc p k n (0 + q) a (tick s) c fit has places (enters_part w ready pc k n (0 + q) q a s c (omega arith) b))
@@ -59,7 +57,7 @@ module _ (w : Setting) (ready : IsSettled w) where
     stmt_runs (t_if_else f g e x y sp) pc p k co rr n q a s c fit has places three b =
         let ce = expr_code w.layout e pc p k n in
         let pl = expr_places w.layout e in
-        let px = stmt_places w.layout w.frame.answer x in
+        let px = stmt_places w.layout x in
         let part = λ (pc2 m i : ℕ). stmt_code w.layout w.frame.answer x pc2 (p + length pl) m co rr i in
         let other = λ (pc2 m i : ℕ). stmt_code w.layout w.frame.answer y pc2 (p + length pl + length px) m co rr i in
         let plx = are_back w.code.places p pl _ places in
@@ -78,16 +76,16 @@ module _ (w : Setting) (ready : IsSettled w) where
     stmt_runs (t_print v text xs sp) pc p k co rr n q a s c fit has places three b = absurd fit
     stmt_runs (t_assert x z sp) pc p k co rr n q a s c fit has places three b = absurd fit
 
-    pub block_runs : (x : TBlock) (pc p k co rr n q : ℕ) (a : Mask) (s : State) (c : Conf) → BlockFits w x n → AreAt w.routine.code pc (block_code w.layout w.frame.answer x pc p k co rr n) → AreAt w.code.places p (block_places w.layout w.frame.answer x) → AreThree k co rr n → Enters w pc k n a s c q → StmtRuns w w.turns c (pc + length (block_code w.layout w.frame.answer x pc p k co rr n)) k co rr n (1 + q) (block (gang_of w) w.frame w.calls w.turns x a s)
+    pub block_runs : (x : TBlock) (pc p k co rr n q : ℕ) (a : Mask) (s : State) (c : Conf) → BlockFits w x n → AreAt w.routine.code pc (block_code w.layout w.frame.answer x pc p k co rr n) → AreAt w.code.places p (block_places w.layout x) → AreThree k co rr n → Enters w pc k n a s c q → StmtRuns w w.turns c (pc + length (block_code w.layout w.frame.answer x pc p k co rr n)) k co rr n (1 + q) (block (gang_of w) w.frame w.calls w.turns x a s)
     block_runs (t_braces xs sp) pc p k co rr n q a s c fit has places three b = stmts_runs xs pc p k co rr n (1 + q) a (tick s) c fit has places three (enters_part w ready pc k n (1 + q) q a s c (omega arith) b)
 
-    pub stmts_runs : (xs : TStmts) (pc p k co rr n q : ℕ) (a : Mask) (s : State) (c : Conf) → StmtsFit w xs n → AreAt w.routine.code pc (stmts_code w.layout w.frame.answer xs pc p k co rr n) → AreAt w.code.places p (stmts_places w.layout w.frame.answer xs) → AreThree k co rr n → Enters w pc k n a s c q → StmtRuns w w.turns c (pc + length (stmts_code w.layout w.frame.answer xs pc p k co rr n)) k co rr n q (run_all (gang_of w) w.frame w.calls w.turns xs a s)
+    pub stmts_runs : (xs : TStmts) (pc p k co rr n q : ℕ) (a : Mask) (s : State) (c : Conf) → StmtsFit w xs n → AreAt w.routine.code pc (stmts_code w.layout w.frame.answer xs pc p k co rr n) → AreAt w.code.places p (stmts_places w.layout xs) → AreThree k co rr n → Enters w pc k n a s c q → StmtRuns w w.turns c (pc + length (stmts_code w.layout w.frame.answer xs pc p k co rr n)) k co rr n q (run_all (gang_of w) w.frame w.calls w.turns xs a s)
     stmts_runs t_no_stmts pc p k co rr n q a s c fit has places three b =
         let e : pc ≡ pc + 0 = omega arith in
         plain_ok w ready c c 0 (pc + 0) k co rr n q a s (comes_none w c) (at_to w c pc (pc + 0) b.at e) b.stands (spares_all w ready n c) (λ r lt. refl) three b.mask b.inside (omega (arith, b.used))
     stmts_runs (t_stmt_then x xs) pc p k co rr n q a s c fit has places three b =
         let ca = stmt_code w.layout w.frame.answer x pc p k co rr n in
-        let px = stmt_places w.layout w.frame.answer x in
+        let px = stmt_places w.layout x in
         let code = λ (pc2 : ℕ). stmts_code w.layout w.frame.answer xs pc2 (p + length px) k co rr n in
         let pc1 = pc + length ca in
         let v = run (gang_of w) w.frame w.calls w.turns x a s in

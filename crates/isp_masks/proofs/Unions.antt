@@ -1,5 +1,5 @@
 -- Sets that grow, and sets of a gang.
-use Rattle.std.proofs.Common.{◌≡◌, ℕ, ◌<◌, Bool, true, false, refl, sym, ap, ◌∙◌}
+use Rattle.std.proofs.Common.{◌≡◌, ℕ, ◌<◌, Bool, true, false, refl}
 use Rattle.std.specs.Prelude.{◌||◌, ◌&&◌, not}
 use Rattle.std.proofs.Math.Path.{fun_ext}
 use Rattle.isp_base.specs.Sets.{Mask, nobody, union, without}

@@ -50,7 +50,7 @@ pub record IsCompiled (program : Program) (code : Listing) (f : ℕ) (h : TFunct
   pub found : slice_get code.routines f ≡ Some g
   pub apart : IsApart l
   pub code_is : AreAt g.code 0 (function_code l h.answer h.body p)
-  pub places_are : AreAt code.places p (block_places l h.answer h.body)
+  pub places_are : AreAt code.places p (block_places l h.body)
   pub result : ResultFits g l h.answer h.gives
   pub begins : (turns : ℕ) (xs : List Argument) → has_signature h.parameters xs ≡ true → Stands (entry_setting program code f h g l turns xs) (entry_state program h xs) (first_conf code f g xs)
   pub fits : (turns : ℕ) (xs : List Argument) → has_signature h.parameters xs ≡ true → AreShort xs → BlockFits (entry_setting program code f h g l turns xs) h.body 3

@@ -80,12 +80,18 @@ if_else_code Uniform x pc k n first second = choice (jump_on jump.False x) pc (�
 if_else_code Varying x pc k n first second =
     parted_code x pc k n (λ pc1. first pc1 n (n + 1)) (λ pc1. guard (jump_off k) pc1 (λ pc2. second pc2 k (n + 1)))
 
--- the code of a function with this layout and this result
-module _ (l : Layout) (answer : Option Ty) where
-  -- a `return` with a value: it stands where results do
+module _ (l : Layout) where
+  -- ---- what a function gives back: a `return` with a value stands it where results do
+
   abbrev pub answer_code : Option Ty → TExpr → ℕ → ℕ → ℕ → ℕ → List Instr
   answer_code None x pc p k n = expr_code l x pc p k n
   answer_code (Some t) x pc p k n = operand_of l t.rate x k n (expr_code l x pc p k n) ++ copy t.rate (l.result t.rate) (operand l t.rate x n) k ∷ []
+
+  abbrev pub returned : Option Ty → Option Register
+  returned None = None
+  returned (Some t) = Some (register t.rate (l.result t.rate))
+
+  -- ---- the places that code names, in order
 
   abbrev mutual
     pub stmt_places : TStmt → List Span
@@ -113,6 +119,8 @@ module _ (l : Layout) (answer : Option Ty) where
     stmts_places t_no_stmts = []
     stmts_places (t_stmt_then x xs) = stmt_places x ++ stmts_places xs
 
+-- the code of a function with this layout and this result
+module _ (l : Layout) (answer : Option Ty) where
   abbrev mutual
     pub stmt_code : TStmt → ℕ → ℕ → ℕ → ℕ → ℕ → ℕ → List Instr
     stmt_code (t_block b) pc p k co rr n = block_code b pc p k co rr n
@@ -121,7 +129,7 @@ module _ (l : Layout) (answer : Option Ty) where
     stmt_code (t_if f g e x sp) pc p k co rr n =
         two pc (expr_code l e pc p k n) (λ pc1. if_code (type_of e).rate (found l e n) pc1 k n (λ pc2 m i. stmt_code x pc2 (p + length (expr_places l e)) m co rr i))
     stmt_code (t_if_else f g e x y sp) pc p k co rr n =
-        two pc (expr_code l e pc p k n) (λ pc1. if_else_code (type_of e).rate (found l e n) pc1 k n (λ pc2 m i. stmt_code x pc2 (p + length (expr_places l e)) m co rr i) (λ pc2 m i. stmt_code y pc2 (p + length (expr_places l e) + length (stmt_places x)) m co rr i))
+        two pc (expr_code l e pc p k n) (λ pc1. if_else_code (type_of e).rate (found l e n) pc1 k n (λ pc2 m i. stmt_code x pc2 (p + length (expr_places l e)) m co rr i) (λ pc2 m i. stmt_code y pc2 (p + length (expr_places l e) + length (stmt_places l x)) m co rr i))
     stmt_code (t_while f g e x sp) pc p k co rr n = []
     stmt_code (t_do f g x e sp) pc p k co rr n = []
     stmt_code (t_for f g first e step i x sp) pc p k co rr n = []
@@ -130,7 +138,7 @@ module _ (l : Layout) (answer : Option Ty) where
     stmt_code (t_unmasked w b sp) pc p k co rr n = []
     stmt_code (t_jump j w sp) pc p k co rr n = jump_code j k co
     stmt_code (t_return w None sp) pc p k co rr n = leave_code rr k
-    stmt_code (t_return w (Some x) sp) pc p k co rr n = answer_code answer x pc p k n ++ leave_code rr k
+    stmt_code (t_return w (Some x) sp) pc p k co rr n = answer_code l answer x pc p k n ++ leave_code rr k
     stmt_code (t_print w text xs sp) pc p k co rr n = []
     stmt_code (t_assert x c sp) pc p k co rr n = []
 
@@ -140,13 +148,8 @@ module _ (l : Layout) (answer : Option Ty) where
     pub stmts_code : TStmts → ℕ → ℕ → ℕ → ℕ → ℕ → ℕ → List Instr
     stmts_code t_no_stmts pc p k co rr n = []
     stmts_code (t_stmt_then x xs) pc p k co rr n =
-        two pc (stmt_code x pc p k co rr n) (λ pc1. rest_code (stays x) xs k pc1 (λ pc2. stmts_code xs pc2 (p + length (stmt_places x)) k co rr n))
+        two pc (stmt_code x pc p k co rr n) (λ pc1. rest_code (stays x) xs k pc1 (λ pc2. stmts_code xs pc2 (p + length (stmt_places l x)) k co rr n))
 
-  -- ---- functions: mask 0 has those that called, masks 1 and 2 those that continued and returned
-
-  abbrev pub returned : Option Ty → Option Register
-  returned None = None
-  returned (Some t) = Some (register t.rate (l.result t.rate))
-
+  -- mask 0 has those that called, masks 1 and 2 get those that continued and returned
   abbrev pub function_code : TBlock → ℕ → List Instr
-  function_code b p = block_code b 0 p 0 1 2 3 ++ instr.Return (returned answer) ∷ []
+  function_code b p = block_code b 0 p 0 1 2 3 ++ instr.Return (returned l answer) ∷ []

@@ -1,5 +1,5 @@
 //! What holds of all code. No code is run here: each function carries a law in its contract.
-ghost use Rattle.isp_masks.specs.Laws.{StatementRuns};
+ghost use Rattle.isp_masks.specs.Laws.{EntryRuns, StatementRuns};
 
 /// The code of a statement does it for the instances of a mask that has members: afterwards the mask
 /// has those that went on, and two others have grown by those that continued and that returned. It
@@ -7,4 +7,12 @@ ghost use Rattle.isp_masks.specs.Laws.{StatementRuns};
 /// work. No other mask and no register that code before it uses has changed.
 pub fn statements_run()
     ensures { StatementRuns }
+{}
+
+/// The code of a function agrees with it, whatever the arguments are: it ends or traps where the
+/// function does, with the same arrays, value and output, and only there; where the function goes on,
+/// so does it, with the same output so far. An ending or trap of work w has come after 32 w + 32
+/// instructions, and what a cut run of work w wrote is written by then.
+pub fn entries_run()
+    ensures { EntryRuns }
 {}
