@@ -1,0 +1,17 @@
+mod Splits
+mod Base
+mod Rates
+mod Lines
+mod Combine
+mod Values
+mod Found
+mod Nodes
+mod Access
+mod Jumps
+mod Logic
+mod Choose
+mod Exprs
+mod Writes
+mod Assigns
+mod Updates
+mod Counts
