@@ -12,6 +12,9 @@ mod Logic
 mod Choose
 mod Exprs
 mod Writes
+mod Done
+mod Places
 mod Assigns
 mod Updates
+mod Items
 mod Counts

@@ -80,6 +80,9 @@ write Varying b i x k p = instr.Scatter (array_register b) (register Varying i) 
 abbrev pub constant : ℕ → Elem → ℕ → Instr
 constant d t bits = instr.Scalar (register Uniform d) (scalar.Constant (number t bits))
 
+abbrev pub splat : ℕ → ℕ → ℕ → Instr
+splat d x k = instr.Vector (register Varying d) (vector.Splat (register Uniform x) (mask_register k))
+
 abbrev pub select : ℕ → ℕ → ℕ → ℕ → ℕ → Instr
 select d c x y k = instr.Vector (register Varying d) (vector.Select (register Varying c) (register Varying x) (register Varying y) (mask_register k))
 
@@ -184,7 +187,7 @@ module _ (l : Layout) where
 
   abbrev pub lift_code : Rate → Rate → Elem → ℕ → ℕ → ℕ → List Instr
   lift_code Uniform given t x k n = []
-  lift_code Varying Uniform t x k n = instr.Vector (register Varying (l.spare Varying t n)) (vector.Splat (register Uniform x) (mask_register k)) ∷ []
+  lift_code Varying Uniform t x k n = splat (l.spare Varying t n) x k ∷ []
   lift_code Varying Varying t x k n = []
 
   -- ---- a value of one type where another is wanted: a constant is loaded as one of that type
