@@ -25,9 +25,6 @@ use Rattle.isp_lower.specs.Simple.{assign_code}
 use Rattle.isp_lower.proofs.Base.{are_front, are_back, put_other, low_spare, comes_on, at_to}
 use Rattle.isp_lower.proofs.Lines.{set_at}
 use Rattle.isp_lower.proofs.Combine.{failed_after, stopped_after, failed_less, stopped_less, held_kept, set_goes}
-use Rattle.isp_lower.proofs.Found.{few, index_low}
-use Rattle.isp_lower.proofs.Nodes.{enters_part, enters_later, operand_runs}
-use Rattle.isp_lower.proofs.Exprs.{means, PlaceHolds, index_runs, expr_runs}
 use Rattle.isp_lower.proofs.Writes.{written_stands, step_done, element_done}
 
 module _ (w : Setting) (ready : IsSettled w) where

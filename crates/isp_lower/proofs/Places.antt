@@ -17,6 +17,7 @@ use Rattle.isp_lower.specs.Simple.{beyond, held_in, fetch_code, write_code}
 use Rattle.isp_lower.proofs.Base.{are_front, keeps_all, comes_none, at_to}
 use Rattle.isp_lower.proofs.Combine.{held_kept}
 use Rattle.isp_lower.proofs.Found.{few, index_low}
+use Rattle.isp_lower.proofs.Targets.{InSlot}
 use Rattle.isp_lower.proofs.Nodes.{enters_part}
 use Rattle.isp_lower.proofs.Exprs.{PlaceHolds, variable_held, index_runs, element_runs, expr_runs}
 use Rattle.isp_lower.proofs.Writes.{element_done}
@@ -64,7 +65,7 @@ module _ (w : Setting) (ready : IsSettled w) where
       })
   fetch_runs (t_element y i t sv) at pc k n j q p a s c fit here has places stands em some inside le h =
       subst (λ g. Runs w c (pc + 1) j q (Holds t.rate a (w.layout.spare t.rate t.elem j)) (checked (outside (gang_of w) w.frame g a) Index sv s (held (gang_of w) w.frame g a s))) (sym h.1)
-      (element_runs w ready y i t sv c c 0 pc (pc + 1) k j n p q a s h.0 fit.0 fit.1 (comes_none w c) here refl has.0 places.0 stands (keeps_all w j c) (λ r lt. refl) em some inside (omega (arith, le)) h.2)
+      (element_runs w ready InSlot y i t sv c c 0 pc (pc + 1) k j n p q a s h.0 fit.0 fit.1 (comes_none w c) here refl has.0 places.0 stands (keeps_all w j c) (λ r lt. refl) em some inside (omega (arith, le)) h.2)
 
   -- a place gets a value
   pub write_done : (z : TPlace) (at : Place) (m : Payload) (a : Mask) (s : State) (c c2 : Conf) (st pc pc' k x n q p : ℕ) → PlaceFits w z n → any (gang_of w) a ≡ true → ((r : ℕ) → a r ≡ true → r < gang_of w) → Comes w c st c2 → At w c2 pc → pc + 1 ≡ pc' → AreAt w.routine.code pc (write_code w.layout z x p k n) → AreAt w.code.places p (read_places w.layout z) → Stands w s c2 → Spares w n c c2 → ((r : ℕ) → r < n → c2.masks r ≡ c.masks r) → c2.masks k ≡ a → st + 1 + q ≤ 32 * s.work → PlaceHolds w ready z n a at c2 → Holds (place_type z).rate a x m c2 → DoneRuns w c pc' n q (bind (checked (outside (gang_of w) w.frame at a) Index (place_span z) s m) (λ b s3. Gives tt (kept (gang_of w) w.frame at a b s3)))

@@ -50,6 +50,7 @@ use Rattle.isp_lower.proofs.Base.{are_front, are_back, low_spare, keeps_all, kee
 use Rattle.isp_lower.proofs.Rates.{at_mapped, at_joined, at_offender, filled_mapped, filled_joined}
 use Rattle.isp_lower.proofs.Lines.{set_at, value_at, convert_line, operate_at}
 use Rattle.isp_lower.proofs.Combine.{write_runs, held_kept, lift_runs}
+use Rattle.isp_lower.proofs.Targets.{InSlot}
 use Rattle.isp_lower.proofs.Nodes.{one_runs}
 use Rattle.isp_lower.proofs.Values.{number_is, wrap_bits}
 
@@ -150,7 +151,7 @@ module _ (w : Setting) (ready : IsSettled w) where
       let to : pc + 1 + 1 ≡ pc + length (convert r d h k ∷ operate r o d d y k p ∷ []) = omega arith in
       let va = checked out Divide sp s (joined f a x1 z) in
       let run2 : Runs w c (pc + 1 + 1) i (1 + q) (Holds r a d) va = write_runs w ready c c1 ok1.steps (pc + 1) (pc + 1 + 1) i (1 + q) a s (operate r o d d y k p) r t out Divide sp (joined f a x1 z) Y ok1.comes ok1.at refl has.1.0 ok1.stands ok1.keeps ok1.masks (omega (arith, ok1.bound)) (at_joined r a f x1 z ∙ ap (λ g. joined f a g (at_rate r a z)) ok1.holds ∙ ap (joined f a (held_at r c1.scalars c1.vectors a d)) hy) (filled_joined r a f c1.scalars c1.vectors d y) line in
-      one_runs w ready c pc k i q a va r u d (convert r d h k ∷ operate r o d d y k p ∷ []) (convert r e d k) (converted t u) em lt has (λ c2. converts c2 d e t u tt tu) (subst (λ g. Runs w c g i (1 + q) (Holds r a d) va) to run2)
+      one_runs w ready InSlot c pc k i q a va r u d (convert r d h k ∷ operate r o d d y k p ∷ []) (convert r e d k) (converted t u) em lt has (λ c2. converts c2 d e t u tt tu) (subst (λ g. Runs w c g i (1 + q) (Holds r a d) va) to run2)
 
   abbrev done : (Payload → State → State) → Payload → State → Val Done
   done f m s = Gives tt (f m s)
