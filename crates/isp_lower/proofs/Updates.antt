@@ -23,29 +23,36 @@ use Rattle.isp_code.specs.Registers.{elem_of}
 use Rattle.isp_meaning.specs.State.{State, tick}
 use Rattle.isp_meaning.specs.Payloads.{offender}
 use Rattle.isp_meaning.specs.Outcomes.{Val, Gives, Done, bind, checked}
-use Rattle.isp_base.specs.declared.types.Ty.{Ty}
-use Rattle.isp_typed.specs.Typed.{TExpr, t_variable, t_update}
-use Rattle.isp_meaning.specs.Places.{variable, written}
-use Rattle.isp_meaning.specs.Simple.{simple}
+use Rattle.isp_base.specs.Ranks.{same_elem}
+use Rattle.isp_base.specs.declared.trap.TrapKind.TheVariants.{Index}
+use Rattle.isp_base.specs.declared.types.Rate.TheVariants.{Uniform}
+use Rattle.isp_typed.specs.Typed.{TExpr, TPlace, t_variable, t_element, place_type, place_span, TSimple, t_value, t_run, t_assign, t_update, t_step}
+use Rattle.isp_meaning.specs.Places.{Place, outside, held, kept}
+use Rattle.isp_meaning.specs.Expressions.{place}
+use Rattle.isp_meaning.specs.Simple.{simple, update}
 use Rattle.isp_lower.specs.Runs.{Enters, DoneRuns}
 use Rattle.isp_lower.specs.Fits.{heads, OperandFits, ExprFits}
-use Rattle.isp_lower.specs.Code.{copy, operand, operand_of, expr_places, expr_code}
-use Rattle.isp_lower.proofs.Found.{few, operand_low}
-use Rattle.isp_lower.proofs.Exprs.{means, variable_held, expr_runs}
-use Rattle.isp_lower.proofs.Assigns.{spares_kept, spares_less, done_after, bind_done, variable_done}
-use Rattle.isp_lower.proofs.Nodes.{enters_part, operand_runs}
+use Rattle.isp_lower.specs.Code.{constant, lift_code, operand, operand_of, index_code, index_places, read_places, expr_places, expr_code}
+use Rattle.isp_lower.proofs.Splits.{same_elem-is}
+use Rattle.isp_lower.proofs.Found.{few, lifted_low, operand_low}
+use Rattle.isp_lower.proofs.Exprs.{means, PlaceHolds, expr_runs}
+use Rattle.isp_lower.proofs.Done.{spares_kept, spares_less, done_after, bind_done, bind_checked}
+use Rattle.isp_lower.proofs.Places.{place_runs, place_kept, fetch_runs, write_done}
+use Rattle.isp_lower.proofs.Assigns.{beyond_more, write_one, assign_runs, value_runs}
+use Rattle.isp_lower.proofs.Nodes.{enters_part, enters_later, operand_runs}
 use Rattle.isp_lower.specs.Layout.{register}
-use Rattle.isp_lower.specs.Setting.{Setting, IsSettled, gang_of, AreAt, At, Stands, Low, at_rate, held_at, Holds}
+use Rattle.isp_lower.specs.Setting.{Setting, IsSettled, gang_of, AreAt, At, Stands, Low, Keeps, at_rate, held_at, Holds}
 use Rattle.isp_lower.specs.Runs.{Runs, Ok}
 use Rattle.isp_lower.specs.Fits.{IsTyped, SpareFits}
 use Rattle.isp_lower.specs.Code.{convert, operate, operate_places}
-use Rattle.isp_lower.specs.Simple.{IsNumber, fitted, update_code, update_variable_code}
-use Rattle.isp_lower.proofs.Base.{are_front, are_back, keeps_all, comes_none, moved_by}
+use Rattle.isp_lower.specs.Simple.{IsNumber, ChangeFits, SimpleFits, beyond, held_in, fetch_code, write_code, fitted, update_code, change_code, change_by_code, change_places, one_in, one_code, step_code, simple_code, simple_places}
+use Rattle.isp_lower.proofs.Base.{are_front, are_back, low_spare, keeps_all, keeps_on, keeps_less, comes_none, moved_by}
 use Rattle.isp_lower.proofs.Rates.{at_mapped, at_joined, at_offender, filled_mapped, filled_joined}
 use Rattle.isp_lower.proofs.Lines.{set_at, value_at, convert_line, operate_at}
-use Rattle.isp_lower.proofs.Combine.{write_runs, held_kept}
+use Rattle.isp_lower.proofs.Combine.{write_runs, held_kept, lift_runs}
+use Rattle.isp_lower.proofs.Targets.{InSlot}
 use Rattle.isp_lower.proofs.Nodes.{one_runs}
-use Rattle.isp_lower.proofs.Values.{number_is}
+use Rattle.isp_lower.proofs.Values.{number_is, wrap_bits}
 
 plainly : (t : Elem) (z : ℤ) → IsNumber t → convert_bits t z ≡ wrap t z
 plainly Truth z n = absurd n
@@ -100,6 +107,18 @@ mapped_same f g a (Each x) y e = ap Each (fun_ext (λ p. at (x p) (spread a y p)
 
 -- ---- the code of an operator on what a place holds
 
+-- the number 1 is a value of each type
+pub one_is : (t : Elem) → IsNumber t → wrap t (number t 1) ≡ 1
+one_is Truth n = absurd n
+one_is I8 n = wrap_bits I8 1
+one_is U8 n = wrap_bits U8 1
+one_is I16 n = wrap_bits I16 1
+one_is U16 n = wrap_bits U16 1
+one_is I32 n = wrap_bits I32 1
+one_is U32 n = wrap_bits U32 1
+one_is I64 n = wrap_bits I64 1
+one_is U64 n = wrap_bits U64 1
+
 checked_mapped : (o : Option ℕ) (kind : TrapKind) (sp : Span) (s : State) (v : Payload) (g : Payload → Payload) → bind (checked o kind sp s v) (λ z s2. Gives (g z) s2) ≡ checked o kind sp s (g v)
 checked_mapped None kind sp s v g = refl
 checked_mapped (Some p) kind sp s v g = refl
@@ -132,7 +151,7 @@ module _ (w : Setting) (ready : IsSettled w) where
       let to : pc + 1 + 1 ≡ pc + length (convert r d h k ∷ operate r o d d y k p ∷ []) = omega arith in
       let va = checked out Divide sp s (joined f a x1 z) in
       let run2 : Runs w c (pc + 1 + 1) i (1 + q) (Holds r a d) va = write_runs w ready c c1 ok1.steps (pc + 1) (pc + 1 + 1) i (1 + q) a s (operate r o d d y k p) r t out Divide sp (joined f a x1 z) Y ok1.comes ok1.at refl has.1.0 ok1.stands ok1.keeps ok1.masks (omega (arith, ok1.bound)) (at_joined r a f x1 z ∙ ap (λ g. joined f a g (at_rate r a z)) ok1.holds ∙ ap (joined f a (held_at r c1.scalars c1.vectors a d)) hy) (filled_joined r a f c1.scalars c1.vectors d y) line in
-      one_runs w ready c pc k i q a va r u d (convert r d h k ∷ operate r o d d y k p ∷ []) (convert r e d k) (converted t u) em lt has (λ c2. converts c2 d e t u tt tu) (subst (λ g. Runs w c g i (1 + q) (Holds r a d) va) to run2)
+      one_runs w ready InSlot c pc k i q a va r u d (convert r d h k ∷ operate r o d d y k p ∷ []) (convert r e d k) (converted t u) em lt has (λ c2. converts c2 d e t u tt tu) (subst (λ g. Runs w c g i (1 + q) (Holds r a d) va) to run2)
 
   abbrev done : (Payload → State → State) → Payload → State → Val Done
   done f m s = Gives tt (f m s)
@@ -141,35 +160,126 @@ module _ (w : Setting) (ready : IsSettled w) where
   twice None kind sp s v g f = refl
   twice (Some p) kind sp s v g f = refl
 
-  pub update_variable_runs : (same : Bool) (o : BinOp) (t : Elem) (v : ℕ) (u : Ty) (sv sp : Span) (x : TExpr) (pc p k n q : ℕ) (a : Mask) (s : State) (c : Conf) → IsNumber t → (same ≡ true → u.elem ≡ t) → IsTyped w u.rate (w.layout.variable u.rate v) u.elem → SpareFits w u.rate t (n + 1) → SpareFits w u.rate u.elem (n + 1) → OperandFits w u.rate t x n → ExprFits w x n → AreAt w.routine.code pc (update_variable_code w.layout same o t v u x pc p k n) → AreAt w.code.places p (expr_places w.layout x ++ operate_places o sp) → Enters w pc k n a s c q → DoneRuns w c (pc + length (update_variable_code w.layout same o t v u x pc p k n)) n q (simple (gang_of w) w.frame w.calls (t_update o t (t_variable v u sv) x sp) a s)
-  update_variable_runs same o t v u sv sp x pc p k n q a s c num eq tv tt tu ofit fit has places b =
-      let fx : heads x ≤ 1 = few w x n fit in
-      let r = u.rate in
-      let cx = expr_code w.layout x pc p k n in
-      let ca = operand_of w.layout r x k n cx in
-      let y = operand w.layout r x n in
-      let h = w.layout.variable r v in
-      let p1 = p + length (expr_places w.layout x) in
-      let cu = update_code w.layout same o t u.elem r h y k (n + 1) p1 in
-      let res = fitted w.layout same r u.elem (w.layout.spare r t (n + 1)) (n + 1) in
-      let last = copy r h res k ∷ [] in
-      let end = pc + length (ca ++ (cu ++ last)) in
-      let to : pc + length ca + length cu + 1 ≡ end = omega (arith, length-append ca (cu ++ last), length-append cu last) in
-      let ha : AreAt w.routine.code pc ca = are_front w.routine.code pc ca _ has in
-      let hb : AreAt w.routine.code (pc + length ca) (cu ++ last) = are_back w.routine.code pc ca _ has in
-      bind_done w ready c (pc + length ca) n 4 q (Holds r a y) (means w ready x a (tick (tick s))) _ end n
-      (operand_runs w ready c pc k n (4 + q) a (means w ready x a (tick (tick s))) r t x cx ofit b.mask b.low ha
-      (expr_runs w ready x pc p k n (1 + (4 + q)) a (tick (tick s)) c fit (are_front w.routine.code pc cx _ ha) (are_front w.code.places p (expr_places w.layout x) _ places) (enters_part w ready pc k n (heads x + (1 + (4 + q))) (heads x + (1 + (4 + q))) a (tick s) c (omega arith) (enters_part w ready pc k n (heads x + (1 + (4 + q))) q a s c (omega arith) b))))
-      (λ z s2 ok.
+  -- the place is read, the operator works, the place is written
+  pub change_runs : (o : BinOp) (t : Elem) (z : TPlace) (sp : Span) (at : Place) (v : Payload) (pc p k n i y q : ℕ) (a : Mask) (s : State) (c : Conf) → ChangeFits w t z n i → n ≤ i → beyond z n ≤ i → k < n → Low w.layout (place_type z).rate i y → At w c pc → c.masks k ≡ a → any (gang_of w) a ≡ true → ((r : ℕ) → a r ≡ true → r < gang_of w) → Stands w s c → 6 + q ≤ 32 * s.work → PlaceHolds w ready z n a at c → Holds (place_type z).rate a y v c → AreAt w.routine.code pc (change_code w.layout o t z y p k n i) → AreAt w.code.places p (change_places w.layout o z sp) → DoneRuns w c (pc + length (change_code w.layout o t z y p k n i)) n q (update (gang_of w) w.frame w.calls o t z at v sp a s)
+  change_runs o t z sp at v pc p k n i y q a s c fit le lz lk low here em some inside st us h hy has places =
+      let u = (place_type z).elem in
+      let r = (place_type z).rate in
+      let same = same_elem u t in
+      let d = w.layout.spare r t i in
+      let f = held_in w.layout z i in
+      let cf = fetch_code w.layout z p k n i in
+      let p1 = p + length (read_places w.layout z) in
+      let cu = update_code w.layout same o t u r f y k i p1 in
+      let res = fitted w.layout same r u d i in
+      let last = write_code w.layout z res p k n in
+      let pc1 = pc + length cf in
+      let pc2 = pc1 + length cu in
+      let end = pc + length (cf ++ (cu ++ last)) in
+      let to : pc2 + 1 ≡ end = omega (arith, length-append cf (cu ++ last), length-append cu last, write_one w.layout z res p k n) in
+      let hb : AreAt w.routine.code pc1 (cu ++ last) = are_back w.routine.code pc cf _ has in
+      let pr : AreAt w.code.places p (read_places w.layout z) = are_front w.code.places p (read_places w.layout z) _ places in
+      let x = held (gang_of w) w.frame at a s in
+      let who = offender (gang_of w) (is_zero o t) a v in
+      let val = joined (op_bits o t) a (mapped (converted u t) x) v in
+      let put_there = λ (m : Payload) (s2 : State). kept (gang_of w) w.frame at a m s2 in
+      bind_checked w ready c pc1 i 5 q (Holds r a f) (outside (gang_of w) w.frame at a) Index (place_span z) s x (λ x1 s1. bind (checked who Divide sp s1 (joined (op_bits o t) a (mapped (converted u t) x1) v)) (λ m s2. done put_there (mapped (converted t u) m) s2)) end n
+      (fetch_runs w ready z at pc k n i (5 + q) p a s c fit.target here (are_front w.routine.code pc cf _ has) pr st em some inside (omega (arith, us)) h)
+      (λ none ok.
       let c1 = ok.conf in
-      let lk : k < n = b.low in
-      let e1 : c1.masks k ≡ a = ok.masks k lk ∙ b.mask in
       let q1 = ok.steps + q in
-      let held = variable r v a s2 in
-      let out = offender (gang_of w) (is_zero o t) a z in
-      let val = joined (op_bits o t) a (mapped (converted u.elem t) held) z in
+      let k1 : Keeps w n c c1 = keeps_less w n i c c1 le ok.keeps in
+      let e1 : c1.masks k ≡ a = ok.masks k (omega arith) ∙ em in
+      done_after w ready c c1 ok.steps end n q _ ok.comes (spares_kept w ready n c c1 k1) (λ g l. ok.masks g (omega arith))
+      (subst (λ g. DoneRuns w c1 end n q1 g) (sym (twice who Divide sp s val (mapped (converted t u)) put_there))
+      (bind_done w ready c1 pc2 i 1 q1 (Holds r a res) (bind (checked who Divide sp s val) (λ m s3. Gives (mapped (converted t u) m) s3)) (done put_there) end n
+      (update_value same o t u r f y c1 pc1 k i (1 + q1) p1 a s x v sp fit.number (same_elem-is u t) (held_typed z n i fit) fit.working fit.back low ok.at e1 some (omega arith) ok.stands (omega (arith, ok.bound)) ok.holds (hy ∙ sym (held_kept w ready r i c c1 a y ok.keeps low)) (are_front w.routine.code pc1 cu last hb) (are_back w.code.places p (read_places w.layout z) _ places))
+      (λ m s3 ok2.
+      subst (λ g. DoneRuns w c1 end n q1 (bind (checked g Index (place_span z) s3 m) (done put_there))) none
+      (write_done w ready z at m a s3 c1 ok2.conf ok2.steps pc2 end k res n q1 p fit.target some inside ok2.comes ok2.at to (are_back w.routine.code pc1 cu last hb) pr ok2.stands (spares_less w ready n i c1 ok2.conf le (spares_kept w ready i c1 ok2.conf ok2.keeps)) (λ g l. ok2.masks g (omega arith)) (ok2.masks k (omega arith) ∙ e1) (omega (arith, ok2.bound)) (place_kept w ready z n a at c ok2.conf fit.target (keeps_on w (beyond z n) i c c1 ok2.conf lz (keeps_less w (beyond z n) i c c1 lz ok.keeps) ok2.keeps) h) ok2.holds)))))
+    where
+      held_typed : (z : TPlace) (n i : ℕ) → ChangeFits w t z n i → IsTyped w (place_type z).rate (held_in w.layout z i) (place_type z).elem
+      held_typed (t_variable v ty sv) n i f = f.target
+      held_typed (t_element b j ty sv) n i f = f.back
+
+  -- ---- `op=`
+
+  pub change_by_runs : (o : BinOp) (t : Elem) (z : TPlace) (x : TExpr) (sp : Span) (pc p k n q : ℕ) (a : Mask) (s : State) (c : Conf) → SimpleFits w (t_update o t z x sp) n → AreAt w.routine.code pc (change_by_code w.layout o t z x pc p k n) → AreAt w.code.places p (simple_places w.layout (t_update o t z x sp)) → Enters w pc k n a s c q → DoneRuns w c (pc + length (change_by_code w.layout o t z x pc p k n)) n q (simple (gang_of w) w.frame w.calls (t_update o t z x sp) a s)
+  change_by_runs o t z x sp pc p k n q a s c fit has places b =
+      let r = (place_type z).rate in
+      let m = beyond z n in
+      let more = beyond_more z n in
+      let lk : k < n = b.low in
+      let fx : heads x ≤ 1 = few w x m fit.2 in
+      let ci = index_code w.layout z pc p k n in
+      let pc1 = pc + length ci in
+      let p1 = p + length (index_places w.layout z) in
+      let cx = expr_code w.layout x pc1 p1 k m in
+      let ca = operand_of w.layout r x k m cx in
+      let y = operand w.layout r x m in
+      let pw = p1 + length (expr_places w.layout x) in
+      let last = change_code w.layout o t z y pw k n (m + 1) in
+      let end = pc + length (ci ++ (ca ++ last)) in
+      let to : pc1 + length ca + length last ≡ end = omega (arith, length-append ci (ca ++ last), length-append ca last) in
+      let h1 : AreAt w.routine.code pc1 (ca ++ last) = are_back w.routine.code pc ci (ca ++ last) has in
+      let ha : AreAt w.routine.code pc1 ca = are_front w.routine.code pc1 ca last h1 in
+      let pl = are_back w.code.places p (index_places w.layout z) _ places in
+      bind_done w ready c pc1 n 9 q (PlaceHolds w ready z n a) (place (gang_of w) w.frame w.calls z a (tick s)) _ end n
+      (place_runs w ready z pc p k n 9 q a (tick s) c (omega arith) fit.0.target (are_front w.routine.code pc ci _ has) (are_front w.code.places p (index_places w.layout z) _ places) (enters_part w ready pc k n q q a s c (omega arith) b))
+      (λ at s1 ok.
+      let c1 = ok.conf in
       done_after w ready c c1 ok.steps end n q _ ok.comes (spares_kept w ready n c c1 ok.keeps) ok.masks
-      (subst (λ g. DoneRuns w c1 end n q1 g) (sym (twice out Divide sp s2 val (mapped (converted t u.elem)) (written r v a)))
-      (bind_done w ready c1 (pc + length ca + length cu) (n + 1) 1 q1 (Holds r a res) (bind (checked out Divide sp s2 val) (λ m s3. Gives (mapped (converted t u.elem) m) s3)) _ end n
-      (update_value same o t u.elem r h y c1 (pc + length ca) k (n + 1) (1 + q1) p1 a s2 held z sp num eq tv tt tu (operand_low w ready r t x n ofit fit) ok.at e1 b.some (omega arith) ok.stands (omega (arith, ok.bound)) (variable_held w ready r v a s2 c1 ok.stands) ok.holds (are_front w.routine.code (pc + length ca) cu last hb) (are_back w.code.places p (expr_places w.layout x) _ places))
-      (λ m s3 ok2. variable_done w ready r v m a s3 c1 ok2.conf ok2.steps (pc + length ca + length cu) end k res n q1 ok2.comes ok2.at to (are_back w.routine.code (pc + length ca) cu last hb).0 ok2.stands (spares_less w ready n (n + 1) c1 ok2.conf (omega arith) (spares_kept w ready (n + 1) c1 ok2.conf ok2.keeps)) (λ g l. ok2.masks g (omega arith)) (ok2.masks k (omega arith) ∙ e1) (omega (arith, ok2.bound)) ok2.holds))))
+      (bind_done w ready c1 (pc1 + length ca) m 6 (ok.steps + q) (Holds r a y) (means w ready x a s1) _ end n
+      (operand_runs w ready c1 pc1 k m (6 + (ok.steps + q)) a (means w ready x a s1) r t x cx fit.1 (ok.masks k lk ∙ b.mask) (omega (arith, more.0)) ha
+      (expr_runs w ready x pc1 p1 k m (1 + (6 + (ok.steps + q))) a s1 c1 fit.2 (are_front w.routine.code pc1 cx _ ha) (are_front w.code.places p1 (expr_places w.layout x) _ pl) (enters_later w ready pc pc1 k n m (heads x + (1 + (6 + (ok.steps + q)))) q (9 + q) a s s1 c more.0 b ok (omega arith))))
+      (λ v s2 ok2.
+      done_after w ready c1 ok2.conf ok2.steps end n (ok.steps + q) _ ok2.comes (spares_less w ready n m c1 ok2.conf more.0 (spares_kept w ready m c1 ok2.conf ok2.keeps)) (λ g l. ok2.masks g (omega (arith, more.0)))
+      (subst (λ g. DoneRuns w ok2.conf g n (ok2.steps + (ok.steps + q)) (update (gang_of w) w.frame w.calls o t z at v sp a s2)) to
+      (change_runs o t z sp at v (pc1 + length ca) pw k n (m + 1) y (ok2.steps + (ok.steps + q)) a s2 ok2.conf fit.0 (omega (arith, more.0)) (omega arith) lk (operand_low w ready r t x m fit.1 fit.2) ok2.at (ok2.masks k (omega (arith, more.0)) ∙ ok.masks k lk ∙ b.mask) b.some b.inside ok2.stands (omega (arith, ok2.bound)) (place_kept w ready z n a at c1 ok2.conf fit.0.target ok2.keeps ok.holds) ok2.holds (are_back w.routine.code pc1 ca last h1) (are_back w.code.places p1 (expr_places w.layout x) _ pl))))))
+
+  -- ---- `++` and `--`
+
+  -- the number 1
+  one_ok : (r : Rate) (t : Elem) (pc k m q : ℕ) (a : Mask) (s : State) (c : Conf) → IsNumber t → SpareFits w Uniform t m → k < m → c.masks k ≡ a → At w c pc → Stands w s c → 2 + q ≤ 32 * s.work → AreAt w.routine.code pc (one_code w.layout r t k m) → Runs w c (pc + length (one_code w.layout r t k m)) m q (Holds r a (one_in w.layout r t m)) (Gives (One 1) s)
+  one_ok r t pc k m q a s c num ty lk em at st us has =
+      let d = w.layout.spare Uniform t m in
+      let lift = lift_code w.layout r Uniform t d k m in
+      let to : pc + 1 + length lift ≡ pc + length (one_code w.layout r t k m) = omega arith in
+      subst (λ g. Runs w c g m q (Holds r a (one_in w.layout r t m)) (Gives (One 1) s)) to
+      (lift_runs w ready c (pc + 1) k m q a (Gives (One 1) s) r Uniform t d tt em lk has.1
+      (write_runs w ready c c 0 pc (pc + 1) m (1 + q) a s (constant d t 1) Uniform t None Divide no_place (One 1) (One 1) (comes_none w c) at refl has.0 st (keeps_all w m c) (λ g l. refl) (omega (arith, us)) refl refl
+      (ap (λ u. Go (set_at Uniform c d (One (wrap u (number t 1))))) ty ∙ ap (λ z. Go (set_at Uniform c d (One z))) (one_is t num))))
+
+  pub step_runs : (o : BinOp) (t : Elem) (z : TPlace) (sp : Span) (pc p k n q : ℕ) (a : Mask) (s : State) (c : Conf) → SimpleFits w (t_step o t z sp) n → AreAt w.routine.code pc (step_code w.layout o t z pc p k n) → AreAt w.code.places p (simple_places w.layout (t_step o t z sp)) → Enters w pc k n a s c q → DoneRuns w c (pc + length (step_code w.layout o t z pc p k n)) n q (simple (gang_of w) w.frame w.calls (t_step o t z sp) a s)
+  step_runs o t z sp pc p k n q a s c fit has places b =
+      let r = (place_type z).rate in
+      let m = beyond z n in
+      let more = beyond_more z n in
+      let lk : k < n = b.low in
+      let ci = index_code w.layout z pc p k n in
+      let pc1 = pc + length ci in
+      let p1 = p + length (index_places w.layout z) in
+      let ca = one_code w.layout r t k m in
+      let y = one_in w.layout r t m in
+      let last = change_code w.layout o t z y p1 k n (m + 1) in
+      let end = pc + length (ci ++ (ca ++ last)) in
+      let to : pc1 + length ca + length last ≡ end = omega (arith, length-append ci (ca ++ last), length-append ca last) in
+      let h1 : AreAt w.routine.code pc1 (ca ++ last) = are_back w.routine.code pc ci (ca ++ last) has in
+      let ha : AreAt w.routine.code pc1 ca = are_front w.routine.code pc1 ca last h1 in
+      bind_done w ready c pc1 n 9 q (PlaceHolds w ready z n a) (place (gang_of w) w.frame w.calls z a (tick s)) _ end n
+      (place_runs w ready z pc p k n 9 q a (tick s) c (omega arith) fit.0.target (are_front w.routine.code pc ci _ has) (are_front w.code.places p (index_places w.layout z) _ places) (enters_part w ready pc k n q q a s c (omega arith) b))
+      (λ at s1 ok.
+      let c1 = ok.conf in
+      let e1 : c1.masks k ≡ a = ok.masks k lk ∙ b.mask in
+      let ok2 : Ok w c1 (pc1 + length ca) m (6 + (ok.steps + q)) (Holds r a y (One 1)) s1 = one_ok r t pc1 k m (6 + (ok.steps + q)) a s1 c1 fit.0.number fit.1 (omega (arith, more.0)) e1 ok.at ok.stands (omega (arith, ok.bound)) ha in
+      done_after w ready c c1 ok.steps end n q _ ok.comes (spares_kept w ready n c c1 ok.keeps) ok.masks
+      (done_after w ready c1 ok2.conf ok2.steps end n (ok.steps + q) _ ok2.comes (spares_less w ready n m c1 ok2.conf more.0 (spares_kept w ready m c1 ok2.conf ok2.keeps)) (λ g l. ok2.masks g (omega (arith, more.0)))
+      (subst (λ g. DoneRuns w ok2.conf g n (ok2.steps + (ok.steps + q)) (update (gang_of w) w.frame w.calls o t z at (One 1) sp a s1)) to
+      (change_runs o t z sp at (One 1) (pc1 + length ca) p1 k n (m + 1) y (ok2.steps + (ok.steps + q)) a s1 ok2.conf fit.0 (omega (arith, more.0)) (omega arith) lk (lifted_low w ready r Uniform t (w.layout.spare Uniform t m) m tt (low_spare w.layout Uniform t (m + 1) m ready.apart (omega arith))) ok2.at (ok2.masks k (omega (arith, more.0)) ∙ e1) b.some b.inside ok2.stands (omega (arith, ok2.bound)) (place_kept w ready z n a at c1 ok2.conf fit.0.target ok2.keeps ok.holds) ok2.holds (are_back w.routine.code pc1 ca last h1) (are_back w.code.places p (index_places w.layout z) _ places)))))
+
+  pub simple_runs : (x : TSimple) (pc p k n q : ℕ) (a : Mask) (s : State) (c : Conf) → SimpleFits w x n → AreAt w.routine.code pc (simple_code w.layout x pc p k n) → AreAt w.code.places p (simple_places w.layout x) → Enters w pc k n a s c q → DoneRuns w c (pc + length (simple_code w.layout x pc p k n)) n q (simple (gang_of w) w.frame w.calls x a s)
+  simple_runs (t_value x) pc p k n q a s c fit has places b = value_runs w ready x pc p k n q a s c fit has places b
+  simple_runs (t_run e) pc p k n q a s c fit has places b = absurd fit
+  simple_runs (t_assign z x sp) pc p k n q a s c fit has places b = assign_runs w ready z x sp pc p k n q a s c fit has places b
+  simple_runs (t_update o t z x sp) pc p k n q a s c fit has places b = change_by_runs o t z x sp pc p k n q a s c fit has places b
+  simple_runs (t_step o t z sp) pc p k n q a s c fit has places b = step_runs o t z sp pc p k n q a s c fit has places b

@@ -41,7 +41,7 @@ use Rattle.isp_lower.proofs.Rates.{at_offender}
 use Rattle.isp_lower.proofs.Lines.{set_at, value_at, unless_is, failing_is, place_named}
 
 -- functions that agree, changed at one place each, where one numbers the other
-put_through : {A : Type 0} (f g : ℕ → A) (h : ℕ → ℕ) (d : ℕ) (x y : A) → ((u v : ℕ) → u ≢ v → h u ≢ h v) → ((u : ℕ) → f (h u) ≡ g u) → x ≡ y → (u : ℕ) → put f (h d) x (h u) ≡ put g d y u
+pub put_through : {A : Type 0} (f g : ℕ → A) (h : ℕ → ℕ) (d : ℕ) (x y : A) → ((u v : ℕ) → u ≢ v → h u ≢ h v) → ((u : ℕ) → f (h u) ≡ g u) → x ≡ y → (u : ℕ) → put f (h d) x (h u) ≡ put g d y u
 put_through f g h d x y apart same ex u = go (nat_eq u d) refl
   where
     go : (b : Bool) → nat_eq u d ≡ b → put f (h d) x (h u) ≡ put g d y u

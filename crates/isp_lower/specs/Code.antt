@@ -80,6 +80,9 @@ write Varying b i x k p = instr.Scatter (array_register b) (register Varying i) 
 abbrev pub constant : ℕ → Elem → ℕ → Instr
 constant d t bits = instr.Scalar (register Uniform d) (scalar.Constant (number t bits))
 
+abbrev pub splat : ℕ → ℕ → ℕ → Instr
+splat d x k = instr.Vector (register Varying d) (vector.Splat (register Uniform x) (mask_register k))
+
 abbrev pub select : ℕ → ℕ → ℕ → ℕ → ℕ → Instr
 select d c x y k = instr.Vector (register Varying d) (vector.Select (register Varying c) (register Varying x) (register Varying y) (mask_register k))
 
@@ -184,14 +187,25 @@ module _ (l : Layout) where
 
   abbrev pub lift_code : Rate → Rate → Elem → ℕ → ℕ → ℕ → List Instr
   lift_code Uniform given t x k n = []
-  lift_code Varying Uniform t x k n = instr.Vector (register Varying (l.spare Varying t n)) (vector.Splat (register Uniform x) (mask_register k)) ∷ []
+  lift_code Varying Uniform t x k n = splat (l.spare Varying t n) x k ∷ []
   lift_code Varying Varying t x k n = []
+
+  -- The same where register d is to have the value: a splat writes it there, or the part itself does.
+  abbrev pub part_to : Rate → Rate → ℕ → ℕ → ℕ
+  part_to Uniform given d x = d
+  part_to Varying Uniform d x = x
+  part_to Varying Varying d x = d
+
+  abbrev pub lift_to : Rate → Rate → ℕ → ℕ → ℕ → List Instr
+  lift_to Uniform given d x k = []
+  lift_to Varying Uniform d x k = splat d x k ∷ []
+  lift_to Varying Varying d x k = []
 
   -- ---- a value of one type where another is wanted: a constant is loaded as one of that type
 
-  abbrev pub convert_code : Option Value → Elem → Rate → ℕ → ℕ → ℕ → List Instr → List Instr
-  convert_code None e r x k n code = code ++ convert r (l.spare r e n) x k ∷ []
-  convert_code (Some v) e r x k n code = constant (l.spare Uniform e n) e (converted v.elem e v.bits) ∷ []
+  abbrev pub convert_to : Option Value → Elem → Rate → ℕ → ℕ → ℕ → List Instr → List Instr
+  convert_to None e r d x k code = code ++ convert r d x k ∷ []
+  convert_to (Some v) e r d x k code = constant d e (converted v.elem e v.bits) ∷ []
 
   -- ---- where an expression's value is found: a variable in place, all else in slot n
 
@@ -229,7 +243,7 @@ module _ (l : Layout) where
 
   abbrev pub whole_of : Bool → TExpr → ℕ → ℕ → List Instr → List Instr
   whole_of true i k n code = code
-  whole_of false i k n code = convert_code (constant_of i) I64 (type_of i).rate (found i n) k n code
+  whole_of false i k n code = convert_to (constant_of i) I64 (type_of i).rate (l.spare (type_of i).rate I64 n) (found i n) k code
 
   abbrev pub index : Rate → TExpr → ℕ → ℕ
   index r i n = lifted r (type_of i).rate I64 (whole (is_whole (type_of i).elem) i n) n
@@ -266,9 +280,9 @@ module _ (l : Layout) where
 
   -- ---- expressions
 
-  abbrev pub read_code : TPlace → ℕ → ℕ → ℕ → List Instr
-  read_code (t_variable v t sp) p k n = []
-  read_code (t_element b i t sp) p k n = read t.rate (l.spare t.rate t.elem n) (l.array b.number) (index t.rate i n) k p ∷ []
+  abbrev pub read_code : ℕ → TPlace → ℕ → ℕ → ℕ → List Instr
+  read_code d (t_variable v t sp) p k n = []
+  read_code d (t_element b i t sp) p k n = read t.rate d (l.array b.number) (index t.rate i n) k p ∷ []
 
   abbrev pub choose_code : Rate → Rate → Elem → TExpr → TExpr → ℕ → ℕ → ℕ → ℕ → List Instr → (ℕ → ℕ → ℕ → List Instr) → (ℕ → ℕ → ℕ → List Instr) → List Instr
   choose_code Uniform r t x y c pc k n test a b =
@@ -276,29 +290,69 @@ module _ (l : Layout) where
   choose_code Varying r t x y c pc k n test a b =
       two pc test (λ pc1. choose_rest (l.spare r t n) c (operand r x (n + 1)) (operand r y (n + 2)) pc1 k n a b)
 
+  -- The last instruction writes register d, but for variables, which stay in place, for `&&`, `||` and `?:`, and for
+  -- what a cast leaves as it is of these.
   abbrev mutual
-    pub expr_code : TExpr → ℕ → ℕ → ℕ → ℕ → List Instr
-    expr_code (t_constant v sp) pc p k n = constant (l.spare Uniform v.elem n) v.elem v.bits ∷ []
-    expr_code (t_program_index sp) pc p k n = instr.Vector (register Varying (l.spare Varying I32 n)) (vector.Index (mask_register k)) ∷ []
-    expr_code (t_place q) pc p k n = index_code q pc p k n ++ read_code q (p + length (index_places q)) k n
-    expr_code (t_convert e x) pc p k n = convert_code (constant_of x) e (type_of x).rate (found x n) k n (expr_code x pc p k n)
-    expr_code (t_cast x t sp) pc p k n = operand_of t.rate x k n (expr_code x pc p k n)
-    expr_code (t_unary o x t sp) pc p k n =
-        operand_of t.rate x k n (expr_code x pc p k n) ++ unary t.rate o (l.spare t.rate t.elem n) (operand t.rate x n) k ∷ []
-    expr_code (t_binary o x y t sp) pc p k n =
-        pair_code pc (operand_of t.rate x k n (expr_code x pc p k n)) (λ pc1. operand_of t.rate y k (n + 1) (expr_code y pc1 (p + length (expr_places x)) k (n + 1))) (operate t.rate o (l.spare t.rate t.elem n) (operand t.rate x n) (operand t.rate y (n + 1)) k (p + length (expr_places x) + length (expr_places y)))
-    expr_code (t_compare c x y r sp) pc p k n =
-        pair_code pc (operand_of r x k n (expr_code x pc p k n)) (λ pc1. operand_of r y k (n + 1) (expr_code y pc1 (p + length (expr_places x)) k (n + 1))) (compare r c (l.spare r Truth n) (operand r x n) (operand r y (n + 1)) k)
-    expr_code (t_logic g x y r sp) pc p k n =
-        logic_code r g (l.spare r Truth n) (operand r x n) (operand r y (n + 1)) pc k n (operand_of r x k n (expr_code x pc p k n)) (λ pc1 m. operand_of r y m (n + 1) (expr_code y pc1 (p + length (expr_places x)) m (n + 1)))
-    expr_code (t_choose c x y t sp) pc p k n =
-        choose_code (type_of c).rate t.rate t.elem x y (found c n) pc k n (expr_code c pc p k n) (λ pc1 m i. operand_of t.rate x m i (expr_code x pc1 (p + length (expr_places c)) m i)) (λ pc1 m i. operand_of t.rate y m i (expr_code y pc1 (p + length (expr_places c) + length (expr_places x)) m i))
-    expr_code (t_call c t) pc p k n = []
-    expr_code (t_library f e xs t sp) pc p k n = []
-    expr_code (t_packed_store b x sp) pc p k n = []
-    expr_code (t_packed_load b v sp) pc p k n = []
+    pub expr_to : ℕ → TExpr → ℕ → ℕ → ℕ → ℕ → List Instr
+    expr_to d (t_constant v sp) pc p k n = constant d v.elem v.bits ∷ []
+    expr_to d (t_program_index sp) pc p k n = instr.Vector (register Varying d) (vector.Index (mask_register k)) ∷ []
+    expr_to d (t_place q) pc p k n = index_code q pc p k n ++ read_code d q (p + length (index_places q)) k n
+    expr_to d (t_convert e x) pc p k n =
+        convert_to (constant_of x) e (type_of x).rate d (found x n) k (expr_to (found x n) x pc p k n)
+    expr_to d (t_cast x t sp) pc p k n =
+        expr_to (part_to t.rate (type_of x).rate d (found x n)) x pc p k n ++ lift_to t.rate (type_of x).rate d (found x n) k
+    expr_to d (t_unary o x t sp) pc p k n =
+        operand_of t.rate x k n (expr_to (found x n) x pc p k n) ++ unary t.rate o d (operand t.rate x n) k ∷ []
+    expr_to d (t_binary o x y t sp) pc p k n =
+        pair_code pc (operand_of t.rate x k n (expr_to (found x n) x pc p k n)) (λ pc1. operand_of t.rate y k (n + 1) (expr_to (found y (n + 1)) y pc1 (p + length (expr_places x)) k (n + 1))) (operate t.rate o d (operand t.rate x n) (operand t.rate y (n + 1)) k (p + length (expr_places x) + length (expr_places y)))
+    expr_to d (t_compare c x y r sp) pc p k n =
+        pair_code pc (operand_of r x k n (expr_to (found x n) x pc p k n)) (λ pc1. operand_of r y k (n + 1) (expr_to (found y (n + 1)) y pc1 (p + length (expr_places x)) k (n + 1))) (compare r c d (operand r x n) (operand r y (n + 1)) k)
+    expr_to d (t_logic g x y r sp) pc p k n =
+        logic_code r g (l.spare r Truth n) (operand r x n) (operand r y (n + 1)) pc k n (operand_of r x k n (expr_to (found x n) x pc p k n)) (λ pc1 m. operand_of r y m (n + 1) (expr_to (found y (n + 1)) y pc1 (p + length (expr_places x)) m (n + 1)))
+    expr_to d (t_choose c x y t sp) pc p k n =
+        choose_code (type_of c).rate t.rate t.elem x y (found c n) pc k n (expr_to (found c n) c pc p k n) (λ pc1 m i. operand_of t.rate x m i (expr_to (found x i) x pc1 (p + length (expr_places c)) m i)) (λ pc1 m i. operand_of t.rate y m i (expr_to (found y i) y pc1 (p + length (expr_places c) + length (expr_places x)) m i))
+    expr_to d (t_call c t) pc p k n = []
+    expr_to d (t_library f e xs t sp) pc p k n = []
+    expr_to d (t_packed_store b x sp) pc p k n = []
+    expr_to d (t_packed_load b v sp) pc p k n = []
 
     -- the index of a place
     pub index_code : TPlace → ℕ → ℕ → ℕ → ℕ → List Instr
     index_code (t_variable v t sp) pc p k n = []
-    index_code (t_element b i t sp) pc p k n = index_of t.rate i k n (expr_code i pc p k n)
+    index_code (t_element b i t sp) pc p k n = index_of t.rate i k n (expr_to (found i n) i pc p k n)
+
+  -- the value is left in slot n or in place
+  abbrev pub expr_code : TExpr → ℕ → ℕ → ℕ → ℕ → List Instr
+  expr_code x pc p k n = expr_to (found x n) x pc p k n
+
+  -- whether the last instruction writes the value, where one of another rate may be wanted
+  abbrev pub writes_part : Rate → Rate → Bool → Bool
+  writes_part Uniform given b = b
+  writes_part Varying Uniform b = true
+  writes_part Varying Varying b = b
+
+  abbrev pub writes_last : TExpr → Bool
+  writes_last (t_constant v sp) = true
+  writes_last (t_program_index sp) = true
+  writes_last (t_place (t_variable v t sp)) = false
+  writes_last (t_place (t_element b i t sp)) = true
+  writes_last (t_convert e x) = true
+  writes_last (t_cast x t sp) = writes_part t.rate (type_of x).rate (writes_last x)
+  writes_last (t_unary o x t sp) = true
+  writes_last (t_binary o x y t sp) = true
+  writes_last (t_compare c x y r sp) = true
+  writes_last (t_logic g x y r sp) = false
+  writes_last (t_choose c x y t sp) = false
+  writes_last (t_call c t) = false
+  writes_last (t_library f e xs t sp) = false
+  writes_last (t_packed_store b x sp) = false
+  writes_last (t_packed_load b v sp) = false
+
+  -- a variable gets a value: its last instruction writes the variable, or a copy does
+  abbrev pub variable_from : Bool → Rate → ℕ → TExpr → ℕ → ℕ → ℕ → ℕ → List Instr
+  variable_from true r d x pc p k n =
+      expr_to (part_to r (type_of x).rate d (found x n)) x pc p k n ++ lift_to r (type_of x).rate d (found x n) k
+  variable_from false r d x pc p k n = operand_of r x k n (expr_code x pc p k n) ++ copy r d (operand r x n) k ∷ []
+
+  abbrev pub variable_code : Rate → ℕ → TExpr → ℕ → ℕ → ℕ → ℕ → List Instr
+  variable_code r v x pc p k n = variable_from (writes_part r (type_of x).rate (writes_last x)) r (l.variable r v) x pc p k n

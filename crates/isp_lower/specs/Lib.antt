@@ -4,4 +4,5 @@ pub mod Setting
 pub mod Runs
 pub mod Fits
 pub mod Simple
+pub mod Items
 pub mod Laws

@@ -18,7 +18,7 @@ use Rattle.isp_lower.specs.Fits.{first_slot}
 use Rattle.isp_lower.specs.Layout.{register}
 use Rattle.isp_lower.specs.Runs.{Enters}
 use Rattle.isp_lower.specs.Setting.{Setting, IsSettled, gang_of, AreAt, At, Stands, Holds}
-use Rattle.isp_lower.proofs.Assigns.{spares_less, spares_on}
+use Rattle.isp_lower.proofs.Done.{spares_all, spares_less, spares_on}
 use Rattle.isp_lower.proofs.Base.{are_front, are_back, put_same, put_other, comes_none, comes_on, step_go, at_to}
 use Rattle.isp_lower.proofs.Combine.{failed_after, stopped_after, failed_less, stopped_less}
 use Rattle.isp_lower.proofs.Jumps.{jumped, jump_comes, jump_at, masked, where_comes, others_comes, masked_at}
@@ -27,7 +27,7 @@ use Rattle.isp_lower.proofs.Rates.{at_kept}
 use Rattle.isp_masks.specs.Statements.{unite, parted_code, if_code, if_else_code}
 use Rattle.isp_masks.specs.StmtRuns.{AreThree, Inside, StmtOk, StmtRuns}
 use Rattle.isp_masks.proofs.Unions.{union_nobody, union_assoc, without_nobody, without_self, below_union, below_without}
-use Rattle.isp_masks.proofs.Combine.{spares_all, stmt_after, go_runs, plain_ok, jump_after, guard_runs}
+use Rattle.isp_masks.proofs.Combine.{stmt_after, go_runs, plain_ok, jump_after, guard_runs}
 
 -- ---- one value chooses as two parts do
 

@@ -14,7 +14,7 @@ use Rattle.isp_lower.specs.Code.{guard, jump_off}
 use Rattle.isp_lower.specs.Layout.{mask_register}
 use Rattle.isp_lower.specs.Runs.{Comes, Enters, Ok, Runs, DoneRuns}
 use Rattle.isp_lower.specs.Setting.{Setting, IsSettled, gang_of, AreAt, At, Stands, Spares}
-use Rattle.isp_lower.proofs.Assigns.{spares_on}
+use Rattle.isp_lower.proofs.Done.{spares_all, spares_on}
 use Rattle.isp_lower.proofs.Base.{comes_none, comes_on, step_go, at_to}
 use Rattle.isp_lower.proofs.Combine.{failed_after, stopped_after, failed_less, stopped_less}
 use Rattle.isp_lower.proofs.Jumps.{jumped, jump_comes, jump_at}
@@ -22,9 +22,6 @@ use Rattle.isp_masks.specs.StmtRuns.{AreThree, Inside, StmtOk, StmtRuns}
 use Rattle.isp_masks.proofs.Unions.{union_nobody, below_nobody}
 
 module _ (w : Setting) (ready : IsSettled w) where
-  pub spares_all : (n : ℕ) (c : Conf) → Spares w n c c
-  spares_all n c = record { scalars_stay = λ t j lt. refl; vectors_stay = λ t j lt. refl }
-
   -- ---- a stretch before
 
   pub stmt_after : (t : ℕ) (c c1 : Conf) (d pc k co rr n q : ℕ) (v : Res) → Comes w c d c1 → Spares w n c c1 → ((r : ℕ) → r < n → r ≢ k → c1.masks r ≡ c.masks r) → AreThree k co rr n → StmtRuns w t c1 pc k co rr n (d + q) v → StmtRuns w t c pc k co rr n q v
@@ -120,7 +117,7 @@ module _ (w : Setting) (ready : IsSettled w) where
 
   pub guard_runs : (t pc j co rr n q : ℕ) (a : Mask) (s : State) (c : Conf) (body : ℕ → List Instr) (v : Mask → State → Res) → At w c pc → c.masks j ≡ a → Inside w a → Stands w s c → 1 + q ≤ 32 * s.work → AreThree j co rr n → AreAt w.routine.code pc (guard (jump_off j) pc body) → ((c1 : Conf) (z : ℕ) → Enters w (pc + 1) j n a s c1 z → StmtRuns w t c1 (pc + 1 + length (body (pc + 1))) j co rr n z (v a s)) → StmtRuns w t c (pc + length (guard (jump_off j) pc body)) j co rr n q (unless_empty (gang_of w) a s v)
   guard_runs t pc j co rr n q a s c body v at em inside st le m has rb =
-      stmt_after t c c4 1 end j co rr n q _ (jump_comes w ready c pc jump.Off (mask_register j) to at has.0) (spares_all n c) (λ r h ne. refl) m (go (any (gang_of w) a) refl)
+      stmt_after t c c4 1 end j co rr n q _ (jump_comes w ready c pc jump.Off (mask_register j) to at has.0) (spares_all w ready n c) (λ r h ne. refl) m (go (any (gang_of w) a) refl)
     where
       to : ℕ
       to = pc + 1 + length (body (pc + 1))
@@ -139,4 +136,4 @@ module _ (w : Setting) (ready : IsSettled w) where
 
       go : (b : Bool) → any (gang_of w) a ≡ b → StmtRuns w t c4 end j co rr n (1 + q) (if_so b (v a) (went_all a) s)
       go true e = subst (λ z. StmtRuns w t c4 z j co rr n (1 + q) (v a s)) ends (rb c4 (1 + q) (record { at = jump_at w ready c pc jump.Off (mask_register j) to false at (off_is true e); mask = em; some = e; inside = inside; stands = st; used = le; low = m.low_k }))
-      go false e = plain_ok c4 c4 0 end j co rr n (1 + q) a s (comes_none w c4) (at_to w c4 to end (jump_at w ready c pc jump.Off (mask_register j) to true at (off_is false e)) ends) st (spares_all n c4) (λ r h. refl) m em inside (omega arith)
+      go false e = plain_ok c4 c4 0 end j co rr n (1 + q) a s (comes_none w c4) (at_to w c4 to end (jump_at w ready c pc jump.Off (mask_register j) to true at (off_is false e)) ends) st (spares_all w ready n c4) (λ r h. refl) m em inside (omega arith)

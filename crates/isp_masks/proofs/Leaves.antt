@@ -18,7 +18,7 @@ use Rattle.isp_lower.specs.Code.{copy, found, operand, operand_of, expr_places, 
 use Rattle.isp_lower.specs.Fits.{heads}
 use Rattle.isp_lower.specs.Runs.{Comes, Enters}
 use Rattle.isp_lower.specs.Setting.{Setting, IsSettled, gang_of, AreAt, At, Stands, Spares, at_rate, held_at, Holds}
-use Rattle.isp_lower.proofs.Assigns.{spares_kept, spares_on}
+use Rattle.isp_lower.proofs.Done.{spares_all, spares_kept, spares_on}
 use Rattle.isp_lower.proofs.Base.{are_front, are_back, put_same, put_other, comes_on, step_go, at_to}
 use Rattle.isp_lower.proofs.Combine.{set_comes, set_goes, set_masks}
 use Rattle.isp_lower.proofs.Found.{few}
@@ -30,7 +30,7 @@ use Rattle.isp_masks.specs.Statements.{unite, clear_mask, leave_code, jump_code,
 use Rattle.isp_masks.specs.Fits.{AnswerFits}
 use Rattle.isp_masks.specs.StmtRuns.{AreThree, StmtOk, StmtRuns}
 use Rattle.isp_masks.proofs.Unions.{union_nobody, below_nobody}
-use Rattle.isp_masks.proofs.Combine.{spares_all, with_runs}
+use Rattle.isp_masks.proofs.Combine.{with_runs}
 
 module _ (w : Setting) (ready : IsSettled w) where
   -- after those of mask k left into mask m

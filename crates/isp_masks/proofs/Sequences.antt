@@ -15,13 +15,13 @@ use Rattle.isp_meaning.specs.Statements.{all_go, run, run_all}
 use Rattle.isp_lower.specs.Code.{two}
 use Rattle.isp_lower.specs.Runs.{Enters}
 use Rattle.isp_lower.specs.Setting.{Setting, IsSettled, gang_of, AreAt, At, Stands}
-use Rattle.isp_lower.proofs.Assigns.{spares_on}
+use Rattle.isp_lower.proofs.Done.{spares_all, spares_on}
 use Rattle.isp_lower.proofs.Base.{comes_none, comes_on, at_to}
 use Rattle.isp_lower.proofs.Combine.{failed_after, stopped_after}
 use Rattle.isp_masks.specs.Statements.{stays, rest_code}
 use Rattle.isp_masks.specs.StmtRuns.{AreThree, aside, Inside, StmtOk, StmtRuns}
 use Rattle.isp_masks.proofs.Unions.{union_assoc, below_union}
-use Rattle.isp_masks.proofs.Combine.{spares_all, go_runs, plain_ok, guard_runs}
+use Rattle.isp_masks.proofs.Combine.{go_runs, plain_ok, guard_runs}
 use Rattle.isp_masks.proofs.Choices.{nobody_left}
 
 -- somebody goes on

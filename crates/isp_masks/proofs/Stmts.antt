@@ -13,7 +13,7 @@ use Rattle.isp_lower.specs.Code.{found, expr_places, expr_code}
 use Rattle.isp_lower.specs.Fits.{heads, first_slot, ExprFits}
 use Rattle.isp_lower.specs.Runs.{Enters, Ok}
 use Rattle.isp_lower.specs.Setting.{Setting, IsSettled, gang_of, AreAt, Holds}
-use Rattle.isp_lower.proofs.Assigns.{spares_kept}
+use Rattle.isp_lower.proofs.Done.{spares_all, spares_kept}
 use Rattle.isp_lower.proofs.Base.{are_front, are_back, comes_none, at_to}
 use Rattle.isp_lower.proofs.Exprs.{expr_runs}
 use Rattle.isp_lower.proofs.Found.{few}
@@ -21,9 +21,10 @@ use Rattle.isp_lower.proofs.Nodes.{enters_part}
 use Rattle.isp_masks.specs.Statements.{stays, rest_code, if_code, if_else_code, stmt_places, block_places, stmts_places, stmt_code, block_code, stmts_code}
 use Rattle.isp_masks.specs.Fits.{StmtFits, BlockFits, StmtsFit}
 use Rattle.isp_masks.specs.StmtRuns.{AreThree, aside, StmtRuns}
-use Rattle.isp_masks.proofs.Combine.{spares_all, stmt_after, stmt_less, with_runs, all_runs, plain_ok}
+use Rattle.isp_masks.proofs.Combine.{stmt_after, stmt_less, with_runs, all_runs, plain_ok}
 use Rattle.isp_masks.proofs.Choices.{if_runs, if_else_runs}
-use Rattle.isp_masks.proofs.Simples.{simple_runs, items_runs}
+use Rattle.isp_lower.proofs.Items.{items_run}
+use Rattle.isp_lower.proofs.Updates.{simple_runs}
 use Rattle.isp_masks.proofs.Leaves.{jump_runs, return_ok, return_runs}
 use Rattle.isp_masks.proofs.Sequences.{SomeLeft, some_stay, rest_runs, then_runs}
 
@@ -44,7 +45,7 @@ module _ (w : Setting) (ready : IsSettled w) where
     pub stmt_runs : (x : TStmt) (pc p k co rr n q : ℕ) (a : Mask) (s : State) (c : Conf) → StmtFits w x n → AreAt w.routine.code pc (stmt_code w.layout w.frame.answer x pc p k co rr n) → AreAt w.code.places p (stmt_places w.layout x) → AreThree k co rr n → Enters w pc k n a s c q → StmtRuns w w.turns c (pc + length (stmt_code w.layout w.frame.answer x pc p k co rr n)) k co rr n (aside (stays x) + q) (run (gang_of w) w.frame w.calls w.turns x a s)
     stmt_runs (t_block z) pc p k co rr n q a s c fit has places three b = block_runs z pc p k co rr n q a s c fit has places three b
     stmt_runs (t_declare xs sp) pc p k co rr n q a s c fit has places three b =
-        all_runs w ready c _ k co rr n (0 + q) a _ three b.mask b.inside (items_runs w ready xs pc p k n (0 + q) a (tick s) c fit has places (enters_part w ready pc k n (0 + q) q a s c (omega arith) b))
+        all_runs w ready c _ k co rr n (0 + q) a _ three b.mask b.inside (items_run w ready xs pc p k n (0 + q) a (tick s) c fit has places (enters_part w ready pc k n (0 + q) q a s c (omega arith) b))
     stmt_runs (t_simple x sp) pc p k co rr n q a s c fit has places three b =
         all_runs w ready c _ k co rr n (0 + q) a _ three b.mask b.inside (simple_runs w ready x pc p k n (0 + q) a s c fit has places (record { at = b.at; mask = b.mask; some = b.some; inside = b.inside; stands = b.stands; used = omega (arith, b.used); low = b.low }))
     stmt_runs (t_if f g e x sp) pc p k co rr n q a s c fit has places three b =

@@ -4,7 +4,8 @@ use Rattle.isp_base.specs.declared.types.Ty.{Ty}
 use Rattle.isp_typed.specs.Typed.{TExpr, type_of, TStmt, t_block, t_declare, t_simple, t_if, t_if_else, t_while, t_do, t_for, t_foreach, t_foreach_active, t_unmasked, t_jump, t_return, t_print, t_assert, TBlock, t_braces, TStmts, t_no_stmts, t_stmt_then}
 use Rattle.isp_lower.specs.Fits.{first_slot, OperandFits, ExprFits}
 use Rattle.isp_lower.specs.Setting.{Setting}
-use Rattle.isp_masks.specs.Simples.{SimpleFits, ItemsFit}
+use Rattle.isp_lower.specs.Items.{ItemsFit}
+use Rattle.isp_lower.specs.Simple.{SimpleFits}
 
 module _ (w : Setting) where
   -- what is returned is one of what the function gives
@@ -15,7 +16,7 @@ module _ (w : Setting) where
   abbrev mutual
     pub StmtFits : TStmt → ℕ → Type 0
     StmtFits (t_block b) n = BlockFits b n
-    StmtFits (t_declare xs sp) n = ItemsFit w xs n
+    StmtFits (t_declare xs sp) n = ItemsFit w n xs
     StmtFits (t_simple x sp) n = SimpleFits w x n
     StmtFits (t_if f g e x sp) n = ExprFits w e n × StmtFits x (first_slot (type_of e).rate n)
     StmtFits (t_if_else f g e x y sp) n = ExprFits w e n × StmtFits x (first_slot (type_of e).rate n) × StmtFits y (first_slot (type_of e).rate n)

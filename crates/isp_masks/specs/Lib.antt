@@ -1,4 +1,3 @@
-pub mod Simples
 pub mod Statements
 pub mod Fits
 pub mod StmtRuns

@@ -17,7 +17,8 @@ use Rattle.isp_tree.specs.declared.stmt.Jump.TheVariants.{Break, Continue}
 use Rattle.isp_typed.specs.Typed.{TExpr, type_of, TStmt, t_block, t_declare, t_simple, t_if, t_if_else, t_while, t_do, t_for, t_foreach, t_foreach_active, t_unmasked, t_jump, t_return, t_print, t_assert, TBlock, t_braces, TStmts, t_no_stmts, t_stmt_then}
 use Rattle.isp_lower.specs.Layout.{Layout, register, mask_register}
 use Rattle.isp_lower.specs.Code.{copy, where_so, the_others, jump_off, jump_on, two, guard, choice, found, operand, operand_of, expr_places, expr_code}
-use Rattle.isp_masks.specs.Simples.{simple_code, simple_places, items_code, items_places}
+use Rattle.isp_lower.specs.Items.{items_code, items_places}
+use Rattle.isp_lower.specs.Simple.{simple_code, simple_places}
 
 -- ---- sets
 
