@@ -41,6 +41,7 @@ use Rattle.isp_masks.specs.Agreement.{AreShort, RunsAgree}
 use Rattle.isp_masks.specs.Compiled.{entry_state, entry_setting, ResultFits, IsCompiled}
 use Rattle.isp_masks.specs.Statements.{block_code, returned}
 use Rattle.isp_masks.specs.StmtRuns.{StmtRuns}
+use Rattle.isp_masks.proofs.Begins.{begins}
 use Rattle.isp_masks.proofs.Endings.{longer, one_end, grows, rows_same}
 use Rattle.isp_masks.proofs.Stmts.{block_runs}
 
@@ -131,7 +132,7 @@ module _ (program : Program) (code : Listing) (f : ℕ) (h : TFunction) (g : Rou
         mask = put_same (λ k. nobody) 0 (everyone (gang_width code.gang));
         some = all_some code.gang;
         inside = all_inside (gang_width code.gang);
-        stands = subst (λ z. Stands (world n) (begin z) c) (sym is.gang) (is.begins n xs sig);
+        stands = subst (λ z. Stands (world n) (begin z) c) (sym is.gang) (begins program code f h g l n xs is.passed sig);
         used = omega arith;
         low = omega arith;
       }))

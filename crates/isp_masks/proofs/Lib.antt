@@ -5,4 +5,6 @@ mod Leaves
 mod Sequences
 mod Stmts
 mod Endings
+mod Begins
 mod Agree
+mod Programs

@@ -1,21 +1,26 @@
 -- A function and the routine that is its code.
-use Rattle.std.specs.Prelude.{◌≡◌, ℕ, List, [], Option, Some, None, true, slice_get}
+use Rattle.std.specs.Prelude.{◌≡◌, ◌≤◌, ℕ, suc, List, [], ◌∷◌, length, take, Option, Some, None, Bool, true, false, slice_get}
 use Rattle.isp_base.specs.Binding.{has_signature}
 use Rattle.isp_base.specs.Sets.{everyone}
 use Rattle.isp_base.specs.Types.{gang_width}
 use Rattle.isp_base.specs.declared.signature.Argument.{Argument}
+use Rattle.isp_base.specs.declared.signature.Parameter.{Parameter}
 use Rattle.isp_base.specs.declared.types.Elem.{Elem}
 use Rattle.isp_base.specs.declared.types.Rate.TheVariants.{Uniform}
 use Rattle.isp_base.specs.declared.types.Ty.{Ty}
+use Rattle.isp_code.specs.Entries.{parameters_of, result_of}
 use Rattle.isp_code.specs.Listing.{Listing, Routine}
 use Rattle.isp_code.specs.Machine.{first_conf}
 use Rattle.isp_code.specs.Registers.{elem_of}
 use Rattle.isp_typed.specs.Typed.{Program, TFunction}
+use Rattle.isp_typed.specs.declared.variable.Holds.{Holds}
+use Rattle.isp_typed.specs.declared.variable.Holds.TheVariants.{Value as AValue, Given, Local}
+use Rattle.isp_typed.specs.declared.variable.Variable.{Variable}
 use Rattle.isp_meaning.specs.Calls.{frame_of, begun, calls_at}
 use Rattle.isp_meaning.specs.Runs.{handed, first_frame, first_state}
 use Rattle.isp_meaning.specs.State.{State}
 use Rattle.isp_lower.specs.Layout.{Layout, IsApart, register}
-use Rattle.isp_lower.specs.Setting.{Setting, AreAt, Stands}
+use Rattle.isp_lower.specs.Setting.{Setting, AreAt}
 use Rattle.isp_masks.specs.Agreement.{AreShort}
 use Rattle.isp_masks.specs.Fits.{BlockFits}
 use Rattle.isp_masks.specs.Statements.{block_places, function_code}
@@ -42,15 +47,52 @@ abbrev pub ResultFits : Routine → Layout → Option Ty → Option Elem → Typ
 ResultFits g l None gives = gives ≡ None
 ResultFits g l (Some t) gives = (t.rate ≡ Uniform) × (gives ≡ Some t.elem) × (elem_of g (register Uniform (l.result Uniform)) ≡ t.elem)
 
+-- how many of the parameters are values
+abbrev pub value_then : Bool → ℕ → ℕ
+value_then true n = n
+value_then false n = suc n
+
+abbrev pub value_count : List Parameter → ℕ
+value_count [] = 0
+value_count (p ∷ ps) = value_then p.is_array (value_count ps)
+
+-- a variable that holds one value for the gang
+abbrev pub HoldsOne : Holds → Type 0
+HoldsOne (AValue t) = t.rate ≡ Uniform
+HoldsOne (Given t) = ⊥
+HoldsOne (Local t n) = ⊥
+
+-- Values are passed in the first scalars, in the order of the parameters; every other scalar comes behind them.
+pub record PassedFirst (h : TFunction) (l : Layout) : Type 0 where
+  pub value : (v : ℕ) (p : Parameter) → slice_get h.parameters v ≡ Some p → p.is_array ≡ false → l.variable Uniform v ≡ value_count (take v h.parameters)
+  pub array : (v : ℕ) (p : Parameter) → slice_get h.parameters v ≡ Some p → p.is_array ≡ true → value_count h.parameters ≤ l.variable Uniform v
+  pub other : (v : ℕ) → slice_get h.parameters v ≡ None → value_count h.parameters ≤ l.variable Uniform v
+  pub result : value_count h.parameters ≤ l.result Uniform
+  pub uniform : (v : ℕ) (p : Parameter) → slice_get h.parameters v ≡ Some p → p.is_array ≡ false → (x : Variable) × (slice_get h.variables v ≡ Some x) × HoldsOne x.holds
+
 -- Routine f is the code of function f, by this layout; the places that it names begin at number p. Whatever the arguments
--- are, parameters stand where they are passed, and the tree and the table of registers fit.
+-- are, the tree and the table of registers fit.
 pub record IsCompiled (program : Program) (code : Listing) (f : ℕ) (h : TFunction) (g : Routine) (l : Layout) (p : ℕ) : Type 0 where
   pub gang : code.gang ≡ program.gang
   pub source : slice_get program.functions f ≡ Some h
   pub found : slice_get code.routines f ≡ Some g
   pub apart : IsApart l
+  pub passed : PassedFirst h l
+  pub result : ResultFits g l h.answer h.gives
   pub code_is : AreAt g.code 0 (function_code l h.answer h.body p)
   pub places_are : AreAt code.places p (block_places l h.body)
-  pub result : ResultFits g l h.answer h.gives
-  pub begins : (turns : ℕ) (xs : List Argument) → has_signature h.parameters xs ≡ true → Stands (entry_setting program code f h g l turns xs) (entry_state program h xs) (first_conf code f g xs)
   pub fits : (turns : ℕ) (xs : List Argument) → has_signature h.parameters xs ≡ true → AreShort xs → BlockFits (entry_setting program code f h g l turns xs) h.body 3
+
+-- The code has the functions of a program by number, and those that are exported with their names and signatures.
+pub record IsEntryCode (program : Program) (code : Listing) (f : ℕ) (h : TFunction) (g : Routine) : Type 0 where
+  pub parameters : parameters_of g ≡ h.parameters
+  pub result : result_of g.returns ≡ h.gives
+  pub layout : Layout
+  pub place : ℕ
+  pub compiled : IsCompiled program code f h g layout place
+
+pub record IsProgramCode (program : Program) (code : Listing) : Type 0 where
+  pub gang : code.gang ≡ program.gang
+  pub count : length code.routines ≡ length program.functions
+  pub named : (f : ℕ) (h : TFunction) (g : Routine) → slice_get program.functions f ≡ Some h → slice_get code.routines f ≡ Some g → (g.name ≡ h.name) × (g.exported ≡ h.exported)
+  pub each : (f : ℕ) (h : TFunction) (g : Routine) → slice_get program.functions f ≡ Some h → slice_get code.routines f ≡ Some g → h.exported ≡ true → IsEntryCode program code f h g

@@ -11,8 +11,8 @@ use Rattle.isp_meaning.specs.Statements.{run}
 use Rattle.isp_lower.specs.Setting.{Setting, IsSettled, gang_of, AreAt}
 use Rattle.isp_lower.specs.Layout.{Layout}
 use Rattle.isp_lower.specs.Runs.{Enters}
-use Rattle.isp_masks.specs.Agreement.{AreShort, RunsAgree}
-use Rattle.isp_masks.specs.Compiled.{IsCompiled}
+use Rattle.isp_masks.specs.Agreement.{AreShort, RunsAgree, Agrees}
+use Rattle.isp_masks.specs.Compiled.{IsCompiled, IsProgramCode}
 use Rattle.isp_masks.specs.Statements.{stays, stmt_code, stmt_places}
 use Rattle.isp_masks.specs.Fits.{StmtFits}
 use Rattle.isp_masks.specs.StmtRuns.{AreThree, aside, StmtRuns}
@@ -28,3 +28,7 @@ StatementRuns =
 abbrev pub EntryRuns : Type 0
 EntryRuns =
     (program : Program) (code : Listing) (f : ℕ) (h : TFunction) (g : Routine) (l : Layout) (p : ℕ) → IsCompiled program code f h g l p → (xs : List Argument) → has_signature h.parameters xs ≡ true → AreShort xs → RunsAgree program code f g xs
+
+-- Code that has the functions of a program agrees with it.
+abbrev pub ProgramRuns : Type 0
+ProgramRuns = (program : Program) (code : Listing) → IsProgramCode program code → Agrees program code

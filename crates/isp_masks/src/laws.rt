@@ -1,5 +1,5 @@
 //! What holds of all code. No code is run here: each function carries a law in its contract.
-ghost use Rattle.isp_masks.specs.Laws.{EntryRuns, StatementRuns};
+ghost use Rattle.isp_masks.specs.Laws.{EntryRuns, ProgramRuns, StatementRuns};
 
 /// The code of a statement does it for the instances of a mask that has members: afterwards the mask
 /// has those that went on, and two others have grown by those that continued and that returned. It
@@ -15,4 +15,10 @@ pub fn statements_run()
 /// instructions, and what a cut run of work w wrote is written by then.
 pub fn entries_run()
     ensures { EntryRuns }
+{}
+
+/// Code that has the functions of a program agrees with it: it exports what the program exports, with
+/// the same signatures, and each run agrees.
+pub fn programs_run()
+    ensures { ProgramRuns }
 {}
