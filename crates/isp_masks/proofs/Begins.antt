@@ -21,11 +21,8 @@ use Rattle.isp_meaning.specs.Payloads.{One}
 use Rattle.isp_meaning.specs.Runs.{handed}
 use Rattle.isp_lower.specs.Layout.{Layout}
 use Rattle.isp_lower.specs.Setting.{Stands}
+use Rattle.isp_masks.proofs.Unions.{both_so}
 use Rattle.isp_masks.specs.Compiled.{entry_state, entry_setting, value_then, value_count, HoldsOne, PassedFirst}
-
-both_so : (a b : Bool) → (a && b) ≡ true → (a ≡ true) × (b ≡ true)
-both_so true b e = (refl, e)
-both_so false b e = absurd (cc)
 
 not_so : (a : Bool) → not a ≡ true → a ≡ false
 not_so true e = absurd (cc)

@@ -1,5 +1,6 @@
 -- The code of a statement does what the statement means.
 use Rattle.std.proofs.Common.{◌≡◌, ℕ, ◌+◌, ◌≤◌, List, ◌++◌, length, Some, None, refl, ◌∙◌, subst, arith, length-append}
+use Rattle.std.specs.Prelude.{◌&&◌}
 use Rattle.isp_base.specs.Sets.{Mask}
 use Rattle.isp_code.specs.Conf.{Conf}
 use Rattle.isp_code.specs.declared.instr.Instr.{Instr}
@@ -18,7 +19,7 @@ use Rattle.isp_lower.proofs.Base.{are_front, are_back, comes_none, at_to}
 use Rattle.isp_lower.proofs.Exprs.{expr_runs}
 use Rattle.isp_lower.proofs.Found.{few}
 use Rattle.isp_lower.proofs.Nodes.{enters_part}
-use Rattle.isp_masks.specs.Statements.{stays, rest_code, if_code, if_else_code, stmt_places, block_places, stmts_places, stmt_code, block_code, stmts_code}
+use Rattle.isp_masks.specs.Statements.{stays, block_stays, rest_code, if_code, if_else_code, stmt_places, block_places, stmts_places, stmt_code, block_code, stmts_code}
 use Rattle.isp_masks.specs.Fits.{StmtFits, BlockFits, StmtsFit}
 use Rattle.isp_masks.specs.StmtRuns.{AreThree, aside, StmtRuns}
 use Rattle.isp_masks.proofs.Combine.{stmt_after, stmt_less, with_runs, all_runs, plain_ok}
@@ -26,7 +27,7 @@ use Rattle.isp_masks.proofs.Choices.{if_runs, if_else_runs}
 use Rattle.isp_lower.proofs.Items.{items_run}
 use Rattle.isp_lower.proofs.Updates.{simple_runs}
 use Rattle.isp_masks.proofs.Leaves.{jump_runs, return_ok, return_runs}
-use Rattle.isp_masks.proofs.Sequences.{SomeLeft, some_stay, rest_runs, then_runs}
+use Rattle.isp_masks.proofs.Sequences.{SomeLeft, some_stay, set_aside, rest_runs, then_runs}
 
 module _ (w : Setting) (ready : IsSettled w) where
   -- a test, and what follows it for the same set
@@ -43,7 +44,7 @@ module _ (w : Setting) (ready : IsSettled w) where
 
   mutual
     pub stmt_runs : (x : TStmt) (pc p k co rr n q : ℕ) (a : Mask) (s : State) (c : Conf) → StmtFits w x n → AreAt w.routine.code pc (stmt_code w.layout w.frame.answer x pc p k co rr n) → AreAt w.code.places p (stmt_places w.layout x) → AreThree k co rr n → Enters w pc k n a s c q → StmtRuns w w.turns c (pc + length (stmt_code w.layout w.frame.answer x pc p k co rr n)) k co rr n (aside (stays x) + q) (run (gang_of w) w.frame w.calls w.turns x a s)
-    stmt_runs (t_block z) pc p k co rr n q a s c fit has places three b = block_runs z pc p k co rr n q a s c fit has places three b
+    stmt_runs (t_block z) pc p k co rr n q a s c fit has places three b = set_aside w ready (block_stays z) c _ k co rr n q _ (block_runs z pc p k co rr n q a s c fit has places three b)
     stmt_runs (t_declare xs sp) pc p k co rr n q a s c fit has places three b =
         all_runs w ready c _ k co rr n (0 + q) a _ three b.mask b.inside (items_run w ready xs pc p k n (0 + q) a (tick s) c fit has places (enters_part w ready pc k n (0 + q) q a s c (omega arith) b))
     stmt_runs (t_simple x sp) pc p k co rr n q a s c fit has places three b =
@@ -53,8 +54,9 @@ module _ (w : Setting) (ready : IsSettled w) where
         let pl = expr_places w.layout e in
         let part = λ (pc2 m i : ℕ). stmt_code w.layout w.frame.answer x pc2 (p + length pl) m co rr i in
         let plx = are_back w.code.places p pl _ places in
-        tested_runs e pc p k co rr n q a s c (λ pc1. if_code (type_of e).rate (found w.layout e n) pc1 k n part) (branches (gang_of w) a (run (gang_of w) w.frame w.calls w.turns x) went_all) fit.0 has (are_front w.code.places p pl _ places) three b
-        (λ m s1 ok. if_runs w ready (type_of e).rate (found w.layout e n) (pc + length ce) k co rr n (ok.steps + (1 + q)) a m s1 ok.conf part (run (gang_of w) w.frame w.calls w.turns x) ok.at (ok.masks k b.low ∙ b.mask) b.some b.inside ok.stands ok.holds (omega (arith, ok.bound)) three (are_back w.routine.code pc ce _ has) (λ j T s2 c2 pc2 z th h en. stmt_less w ready w.turns c2 _ _ j co rr _ (aside (stays x)) z _ refl (stmt_runs x pc2 (p + length pl) j co rr (first_slot (type_of e).rate n) z T s2 c2 fit.1 h plx th en)))
+        set_aside w ready (stays x) c _ k co rr n q _
+        (tested_runs e pc p k co rr n q a s c (λ pc1. if_code (type_of e).rate (found w.layout e n) pc1 k n part) (branches (gang_of w) a (run (gang_of w) w.frame w.calls w.turns x) went_all) fit.0 has (are_front w.code.places p pl _ places) three b
+        (λ m s1 ok. if_runs w ready (type_of e).rate (found w.layout e n) (pc + length ce) k co rr n (ok.steps + (1 + q)) a m s1 ok.conf part (run (gang_of w) w.frame w.calls w.turns x) ok.at (ok.masks k b.low ∙ b.mask) b.some b.inside ok.stands ok.holds (omega (arith, ok.bound)) three (are_back w.routine.code pc ce _ has) (λ j T s2 c2 pc2 z th h en. stmt_less w ready w.turns c2 _ _ j co rr _ (aside (stays x)) z _ refl (stmt_runs x pc2 (p + length pl) j co rr (first_slot (type_of e).rate n) z T s2 c2 fit.1 h plx th en))))
     stmt_runs (t_if_else f g e x y sp) pc p k co rr n q a s c fit has places three b =
         let ce = expr_code w.layout e pc p k n in
         let pl = expr_places w.layout e in
@@ -62,8 +64,9 @@ module _ (w : Setting) (ready : IsSettled w) where
         let part = λ (pc2 m i : ℕ). stmt_code w.layout w.frame.answer x pc2 (p + length pl) m co rr i in
         let other = λ (pc2 m i : ℕ). stmt_code w.layout w.frame.answer y pc2 (p + length pl + length px) m co rr i in
         let plx = are_back w.code.places p pl _ places in
-        tested_runs e pc p k co rr n q a s c (λ pc1. if_else_code (type_of e).rate (found w.layout e n) pc1 k n part other) (branches (gang_of w) a (run (gang_of w) w.frame w.calls w.turns x) (run (gang_of w) w.frame w.calls w.turns y)) fit.0 has (are_front w.code.places p pl _ places) three b
-        (λ m s1 ok. if_else_runs w ready (type_of e).rate (found w.layout e n) (pc + length ce) k co rr n (ok.steps + (1 + q)) a m s1 ok.conf part other (run (gang_of w) w.frame w.calls w.turns x) (run (gang_of w) w.frame w.calls w.turns y) ok.at (ok.masks k b.low ∙ b.mask) b.some b.inside ok.stands ok.holds (omega (arith, ok.bound)) three (are_back w.routine.code pc ce _ has) (λ j T s2 c2 pc2 z th h en. stmt_less w ready w.turns c2 _ _ j co rr _ (aside (stays x)) z _ refl (stmt_runs x pc2 (p + length pl) j co rr (first_slot (type_of e).rate n) z T s2 c2 fit.1 h (are_front w.code.places (p + length pl) px _ plx) th en)) (λ j T s2 c2 pc2 z th h en. stmt_less w ready w.turns c2 _ _ j co rr _ (aside (stays y)) z _ refl (stmt_runs y pc2 (p + length pl + length px) j co rr (first_slot (type_of e).rate n) z T s2 c2 fit.2 h (are_back w.code.places (p + length pl) px _ plx) th en)))
+        set_aside w ready (stays x && stays y) c _ k co rr n q _
+        (tested_runs e pc p k co rr n q a s c (λ pc1. if_else_code (type_of e).rate (found w.layout e n) pc1 k n part other) (branches (gang_of w) a (run (gang_of w) w.frame w.calls w.turns x) (run (gang_of w) w.frame w.calls w.turns y)) fit.0 has (are_front w.code.places p pl _ places) three b
+        (λ m s1 ok. if_else_runs w ready (type_of e).rate (found w.layout e n) (pc + length ce) k co rr n (ok.steps + (1 + q)) a m s1 ok.conf part other (run (gang_of w) w.frame w.calls w.turns x) (run (gang_of w) w.frame w.calls w.turns y) ok.at (ok.masks k b.low ∙ b.mask) b.some b.inside ok.stands ok.holds (omega (arith, ok.bound)) three (are_back w.routine.code pc ce _ has) (λ j T s2 c2 pc2 z th h en. stmt_less w ready w.turns c2 _ _ j co rr _ (aside (stays x)) z _ refl (stmt_runs x pc2 (p + length pl) j co rr (first_slot (type_of e).rate n) z T s2 c2 fit.1 h (are_front w.code.places (p + length pl) px _ plx) th en)) (λ j T s2 c2 pc2 z th h en. stmt_less w ready w.turns c2 _ _ j co rr _ (aside (stays y)) z _ refl (stmt_runs y pc2 (p + length pl + length px) j co rr (first_slot (type_of e).rate n) z T s2 c2 fit.2 h (are_back w.code.places (p + length pl) px _ plx) th en))))
     stmt_runs (t_while f g e x sp) pc p k co rr n q a s c fit has places three b = absurd fit
     stmt_runs (t_do f g x e sp) pc p k co rr n q a s c fit has places three b = absurd fit
     stmt_runs (t_for f g first e step i x sp) pc p k co rr n q a s c fit has places three b = absurd fit

@@ -1,7 +1,7 @@
 -- The code of statements, as a function of their trees. Three mask registers go with it: k has the set, and afterwards
 -- those that went on; co and rr grow by those that continued and by those that returned; who broke is in none. As for
 -- expressions, code begins at instruction pc, its first place in the source has number p, and slots from n on are free.
-use Rattle.std.specs.Prelude.{ℕ, ◌+◌, List, [], ◌∷◌, ◌++◌, length, Option, Some, None, Bool, true, false}
+use Rattle.std.specs.Prelude.{ℕ, ◌+◌, List, [], ◌∷◌, ◌++◌, length, Option, Some, None, Bool, true, false, ◌&&◌}
 use Rattle.isp_base.specs.declared.types.Rate.{Rate}
 use Rattle.isp_base.specs.declared.types.Rate.TheVariants.{Uniform, Varying}
 use Rattle.isp_base.specs.declared.types.Span.{Span}
@@ -39,26 +39,34 @@ jump_code Continue k co = leave_code co k
 
 -- ---- one statement after the other
 
--- all of the set go on, whatever happens
-abbrev pub stays : TStmt → Bool
-stays (t_block b) = false
-stays (t_declare xs sp) = true
-stays (t_simple x sp) = true
-stays (t_if f g e x sp) = false
-stays (t_if_else f g e x y sp) = false
-stays (t_while f g e x sp) = false
-stays (t_do f g x e sp) = false
-stays (t_for f g first e step i x sp) = false
-stays (t_foreach w g rs x sp) = false
-stays (t_foreach_active w g i x sp) = false
-stays (t_unmasked w b sp) = false
-stays (t_jump j w sp) = false
-stays (t_return w x sp) = false
-stays (t_print w text xs sp) = true
-stays (t_assert x c sp) = true
+-- some of the set go on, whatever happens: nobody leaves
+abbrev mutual
+  pub stays : TStmt → Bool
+  stays (t_block b) = block_stays b
+  stays (t_declare xs sp) = true
+  stays (t_simple x sp) = true
+  stays (t_if f g e x sp) = stays x
+  stays (t_if_else f g e x y sp) = stays x && stays y
+  stays (t_while f g e x sp) = false
+  stays (t_do f g x e sp) = false
+  stays (t_for f g first e step i x sp) = false
+  stays (t_foreach w g rs x sp) = false
+  stays (t_foreach_active w g i x sp) = false
+  stays (t_unmasked w b sp) = false
+  stays (t_jump j w sp) = false
+  stays (t_return w x sp) = false
+  stays (t_print w text xs sp) = true
+  stays (t_assert x c sp) = true
 
--- What follows a statement is jumped over where nobody is left: this is not asked where all go on, and not where nothing
--- follows.
+  pub block_stays : TBlock → Bool
+  block_stays (t_braces xs sp) = all_stay xs
+
+  pub all_stay : TStmts → Bool
+  all_stay t_no_stmts = true
+  all_stay (t_stmt_then x xs) = stays x && all_stay xs
+
+-- What follows a statement is jumped over where nobody is left: this is not asked where nobody leaves, and not where
+-- nothing follows.
 abbrev pub rest_code : Bool → TStmts → ℕ → ℕ → (ℕ → List Instr) → List Instr
 rest_code true xs k pc code = code pc
 rest_code false t_no_stmts k pc code = []
