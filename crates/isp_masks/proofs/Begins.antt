@@ -1,6 +1,6 @@
 -- Where a run begins: what is passed stands where the layout says.
 use Rattle.std.proofs.Common.{◌≡◌, ℕ, zero, suc, ◌≤◌, List, [], ◌∷◌, length, take, Option, Some, None, Bool, true, false, refl, sym, ap, ◌∙◌, arith}
-use Rattle.std.specs.Prelude.{slice_get, slice_index, ◌&&◌, not}
+use Rattle.std.specs.Prelude.{slice_get, slice_index, not}
 use Rattle.std.proofs.lemmas.List.{get_or_past}
 use Rattle.isp_base.specs.Binding.{is_for, has_signature}
 use Rattle.isp_base.specs.Sets.{Mask, everyone}

@@ -8,3 +8,5 @@ mod Endings
 mod Begins
 mod Agree
 mod Programs
+mod Sound
+mod Counts

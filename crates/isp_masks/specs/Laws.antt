@@ -1,11 +1,13 @@
 -- What holds of the code of every statement that fits.
-use Rattle.std.specs.Prelude.{◌≡◌, ℕ, ◌+◌, List, length, true}
+use Rattle.std.specs.Prelude.{◌≡◌, ◌≤◌, ℕ, ◌+◌, List, length, Option, true}
 use Rattle.isp_base.specs.Binding.{has_signature}
 use Rattle.isp_base.specs.declared.signature.Argument.{Argument}
 use Rattle.isp_base.specs.Sets.{Mask}
 use Rattle.isp_code.specs.Conf.{Conf}
+use Rattle.isp_base.specs.declared.types.Ty.{Ty}
+use Rattle.isp_code.specs.Fine.{IsGiven}
 use Rattle.isp_code.specs.Listing.{Listing, Routine}
-use Rattle.isp_typed.specs.Typed.{TStmt, Program, TFunction}
+use Rattle.isp_typed.specs.Typed.{TStmt, TBlock, Program, TFunction}
 use Rattle.isp_meaning.specs.State.{State}
 use Rattle.isp_meaning.specs.Statements.{run}
 use Rattle.isp_lower.specs.Setting.{Setting, IsSettled, gang_of, AreAt}
@@ -13,7 +15,8 @@ use Rattle.isp_lower.specs.Layout.{Layout}
 use Rattle.isp_lower.specs.Runs.{Enters}
 use Rattle.isp_masks.specs.Agreement.{AreShort, RunsAgree, Agrees}
 use Rattle.isp_masks.specs.Compiled.{IsCompiled, IsProgramCode}
-use Rattle.isp_masks.specs.Statements.{stays, stmt_code, stmt_places}
+use Rattle.isp_masks.specs.Statements.{stays, stmt_code, stmt_places, block_places, returned, function_code}
+use Rattle.isp_masks.specs.Sound.{AreSound, BlockSound}
 use Rattle.isp_masks.specs.Fits.{StmtFits}
 use Rattle.isp_masks.specs.StmtRuns.{AreThree, aside, StmtRuns}
 
@@ -32,3 +35,8 @@ EntryRuns =
 -- Code that has the functions of a program agrees with it.
 abbrev pub ProgramRuns : Type 0
 ProgramRuns = (program : Program) (code : Listing) → IsProgramCode program code → Agrees program code
+
+-- Each instruction of a function's code has its operands, if its parts have and its result is one of the function.
+abbrev pub FunctionSound : Type 0
+FunctionSound =
+    (code : Listing) (h : Routine) (l : Layout) (answer : Option Ty) (b : TBlock) (p : ℕ) → h.code ≡ function_code l answer b p → BlockSound code h l answer b 3 → 3 ≤ h.masks → p + length (block_places l b) ≤ length code.places → IsGiven h h.returns (returned l answer) → AreSound code h h.code

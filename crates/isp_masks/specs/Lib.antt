@@ -3,4 +3,5 @@ pub mod Fits
 pub mod StmtRuns
 pub mod Agreement
 pub mod Compiled
+pub mod Sound
 pub mod Laws

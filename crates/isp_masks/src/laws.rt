@@ -1,5 +1,5 @@
 //! What holds of all code. No code is run here: each function carries a law in its contract.
-ghost use Rattle.isp_masks.specs.Laws.{EntryRuns, ProgramRuns, StatementRuns};
+ghost use Rattle.isp_masks.specs.Laws.{EntryRuns, FunctionSound, ProgramRuns, StatementRuns};
 
 /// The code of a statement does it for the instances of a mask that has members: afterwards the mask
 /// has those that went on, and two others have grown by those that continued and that returned. It
@@ -21,4 +21,10 @@ pub fn entries_run()
 /// the same signatures, and each run agrees.
 pub fn programs_run()
     ensures { ProgramRuns }
+{}
+
+/// Each instruction of a function's code has registers that are there and of their kinds, and its
+/// jumps go to instructions of the function, if this holds of its expressions and assignments.
+pub fn functions_sound()
+    ensures { FunctionSound }
 {}
