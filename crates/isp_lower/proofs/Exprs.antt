@@ -136,7 +136,7 @@ module _ (w : Setting) (ready : IsSettled w) where
 
   -- ---- one node, given what holds of its parts
 
-  abbrev RunsHere : TExpr → Type 0
+  abbrev pub RunsHere : TExpr → Type 0
   RunsHere x =
       (pc p k n q : ℕ) (a : Mask) (s : State) (c : Conf) → ExprFits w x n → AreAt w.routine.code pc (expr_code w.layout x pc p k n) → AreAt w.code.places p (expr_places w.layout x) → Enters w pc k n a s c (heads x + q) → Runs w c (pc + length (expr_code w.layout x pc p k n)) n q (Holds (type_of x).rate a (found w.layout x n)) (means x a s)
 
@@ -145,15 +145,15 @@ module _ (w : Setting) (ready : IsSettled w) where
   NodeRuns u z =
       (pc p k n q : ℕ) (a : Mask) (s : State) (c : Conf) → ExprFits w z n → IsTyped w (type_of z).rate (target w.layout u (type_of z).rate (type_of z).elem n) (type_of z).elem → AreAt w.routine.code pc (expr_to w.layout (target w.layout u (type_of z).rate (type_of z).elem n) z pc p k n) → AreAt w.code.places p (expr_places w.layout z) → Enters w pc k n a s c (heads z + q) → Leaves w u (target w.layout u (type_of z).rate (type_of z).elem n) c (pc + length (expr_to w.layout (target w.layout u (type_of z).rate (type_of z).elem n) z pc p k n)) n q (type_of z).rate a (means z a s)
 
-  number_node : (u : Target) (v : Value) (sp : Span) → NodeRuns u (t_constant v sp)
+  pub number_node : (u : Target) (v : Value) (sp : Span) → NodeRuns u (t_constant v sp)
   number_node u v sp pc p k n q a s c fit ty has places b =
       constant_runs u pc k n q a s c v.elem v.bits (v.bits % 2 ^ width v.elem) (enters_less w ready pc k n q _ a s c (omega arith) b) ty has.0 (wrap_bits v.elem v.bits)
 
-  index_node : (u : Target) (sp : Span) → NodeRuns u (t_program_index sp)
+  pub index_node : (u : Target) (sp : Span) → NodeRuns u (t_program_index sp)
   index_node u sp pc p k n q a s c fit ty has places b =
       leaf_runs w ready u pc k n q a s c _ Varying I32 (Each (on a (λ i. i))) (Each (on a (λ i. i))) (enters_less w ready pc k n q _ a s c (omega arith) b) has.0 refl (λ old. ap Each (filled_on a (λ i. i) old)) (ap (λ m. Go (set_at Varying c (target w.layout u Varying I32 n) (Each (on m (λ i. i))))) b.mask)
 
-  element_node : (u : Target) (y : ArrayVariable) (i : TExpr) (t : Ty) (sp : Span) → RunsHere i → NodeRuns u (t_place (t_element y i t sp))
+  pub element_node : (u : Target) (y : ArrayVariable) (i : TExpr) (t : Ty) (sp : Span) → RunsHere i → NodeRuns u (t_place (t_element y i t sp))
   element_node u y i t sp ih pc p k n q a s c fit ty has places b =
       let fi : heads i ≤ 1 = few w i n fit.0.4 in
       let ci = expr_code w.layout i pc p k n in
@@ -169,12 +169,12 @@ module _ (w : Setting) (ready : IsSettled w) where
       subst (λ g. Leaves w u d c (pc + length (cj ++ rd ∷ [])) n q t.rate a (checked (outside (gang_of w) w.frame g a) Index sp s1 (held (gang_of w) w.frame g a s1))) (sym h.1)
       (element_runs u y i t sp c ok.conf ok.steps (pc + length cj) _ k n n (p + length (expr_places w.layout i)) q a s1 h.0 fit.0.0 fit.0.1 ok.comes ok.at to (are_back w.routine.code pc cj (rd ∷ []) has).0 (are_back w.code.places p (expr_places w.layout i) _ places).0 ok.stands ok.keeps ok.masks (ok.masks k b.low ∙ b.mask) b.some b.inside (omega (arith, ok.bound)) h.2))
 
-  convert_node : (u : Target) (e : Elem) (x : TExpr) → RunsHere x → NodeRuns u (t_convert e x)
+  pub convert_node : (u : Target) (e : Elem) (x : TExpr) → RunsHere x → NodeRuns u (t_convert e x)
   convert_node u e x ih pc p k n q a s c fit ty has places b =
       convert_runs u x e pc k n q a s c (expr_code w.layout x pc p k n) (enters_less w ready pc k n (1 + q) _ a s c (omega arith) b) (found_typed w x n fit.2) ty has
       (λ at. ih pc p k n (1 + q) a s c fit.2 at places (enters_less w ready pc k n (heads x + (1 + q)) _ a s c (omega arith) b))
 
-  unary_node : (u : Target) (o : UnaryOp) (x : TExpr) (t : Ty) (sp : Span) → RunsHere x → NodeRuns u (t_unary o x t sp)
+  pub unary_node : (u : Target) (o : UnaryOp) (x : TExpr) (t : Ty) (sp : Span) → RunsHere x → NodeRuns u (t_unary o x t sp)
   unary_node u o x t sp ih pc p k n q a s c fit ty has places b =
       let f : heads x ≤ 1 = few w x n fit.2 in
       let cx = expr_code w.layout x pc p k n in
@@ -185,7 +185,7 @@ module _ (w : Setting) (ready : IsSettled w) where
       (operand_runs w ready c pc k n (1 + q) a (means x a (tick s)) t.rate t.elem x cx fit.0 b.mask b.low ha
       (ih pc p k n (1 + (1 + q)) a (tick s) c fit.2 (are_front w.routine.code pc cx _ ha) places (enters_part w ready pc k n (heads x + (1 + (1 + q))) _ a s c (omega arith) b)))
 
-  binary_node : (u : Target) (o : BinOp) (x y : TExpr) (t : Ty) (sp : Span) → RunsHere x → RunsHere y → NodeRuns u (t_binary o x y t sp)
+  pub binary_node : (u : Target) (o : BinOp) (x y : TExpr) (t : Ty) (sp : Span) → RunsHere x → RunsHere y → NodeRuns u (t_binary o x y t sp)
   binary_node u o x y t sp ihx ihy pc p k n q a s c fit ty has places b =
       let fx : heads x ≤ 1 = few w x n fit.3 in
       let fy : heads y ≤ 1 = few w y (n + 1) fit.4 in
@@ -205,7 +205,7 @@ module _ (w : Setting) (ready : IsSettled w) where
       operand_runs w ready ok.conf (pc + length ca) k (n + 1) (1 + (ok.steps + q)) a (means y a s1) t.rate t.elem y (cy (pc + length ca)) fit.1 (ok.masks k lk ∙ b.mask) (omega arith) hb
       (ihy (pc + length ca) p1 k (n + 1) (1 + (1 + (ok.steps + q))) a s1 ok.conf fit.4 (are_front w.routine.code (pc + length ca) (cy (pc + length ca)) _ hb) (are_front w.code.places p1 (expr_places w.layout y) _ pl) (enters_later w ready pc (pc + length ca) k n (n + 1) (heads y + (1 + (1 + (ok.steps + q)))) _ (3 + q) a s s1 c (omega arith) b ok (omega arith))))
 
-  compare_node : (u : Target) (o : Compare) (x y : TExpr) (r : Rate) (sp : Span) → RunsHere x → RunsHere y → NodeRuns u (t_compare o x y r sp)
+  pub compare_node : (u : Target) (o : Compare) (x y : TExpr) (r : Rate) (sp : Span) → RunsHere x → RunsHere y → NodeRuns u (t_compare o x y r sp)
   compare_node u o x y r sp ihx ihy pc p k n q a s c fit ty has places b =
       let fx : heads x ≤ 1 = few w x n fit.3 in
       let fy : heads y ≤ 1 = few w y (n + 1) fit.4 in

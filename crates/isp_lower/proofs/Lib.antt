@@ -15,6 +15,7 @@ mod Logic
 mod Choose
 mod Exprs
 mod Places
+mod Variables
 mod Assigns
 mod Updates
 mod Items
