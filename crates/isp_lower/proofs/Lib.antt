@@ -13,6 +13,7 @@ mod Nodes
 mod Jumps
 mod Logic
 mod Choose
+mod Short
 mod Exprs
 mod Places
 mod Variables

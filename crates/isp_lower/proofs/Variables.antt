@@ -14,13 +14,13 @@ use Rattle.isp_meaning.specs.Places.{written}
 use Rattle.isp_lower.specs.Setting.{Setting, IsSettled, AreAt, Holds}
 use Rattle.isp_lower.specs.Runs.{Enters, Runs, DoneRuns}
 use Rattle.isp_lower.specs.Fits.{Reaches, heads, IsTyped, OperandFits, ExprFits}
-use Rattle.isp_lower.specs.Code.{copy, part_to, lift_to, writes_part, writes_last, found, operand, operand_of, expr_places, expr_code, expr_to, variable_from, variable_code}
+use Rattle.isp_lower.specs.Code.{copy, part_to, lift_to, writes_part, writes_last, found, operand, operand_of, expr_places, expr_code, expr_to, is_short, choose_to, variable_from, variable_code}
 use Rattle.isp_lower.proofs.Base.{are_front, are_back}
 use Rattle.isp_lower.proofs.Done.{spares_kept, bind_done, variable_done, splat_done}
 use Rattle.isp_lower.proofs.Found.{few}
 use Rattle.isp_lower.proofs.Targets.{InVariable}
 use Rattle.isp_lower.proofs.Nodes.{enters_less, enters_part, operand_runs}
-use Rattle.isp_lower.proofs.Exprs.{means, NodeRuns, number_node, index_node, element_node, convert_node, unary_node, binary_node, compare_node, expr_runs}
+use Rattle.isp_lower.proofs.Exprs.{means, NodeRuns, number_node, index_node, element_node, convert_node, unary_node, binary_node, compare_node, choose_node, expr_runs}
 
 module _ (w : Setting) (ready : IsSettled w) where
   -- a part that may be of another rate
@@ -59,7 +59,14 @@ module _ (w : Setting) (ready : IsSettled w) where
   direct_runs v (t_binary o x y t sp) e pc p k n q a s c fit ty has places b = binary_node w ready (InVariable v) o x y t sp (expr_runs w ready x) (expr_runs w ready y) pc p k n q a s c fit ty has places b
   direct_runs v (t_compare o x y r sp) e pc p k n q a s c fit ty has places b = compare_node w ready (InVariable v) o x y r sp (expr_runs w ready x) (expr_runs w ready y) pc p k n q a s c fit ty has places b
   direct_runs v (t_logic g x y r sp) e pc p k n q a s c fit ty has places b = absurd (cc)
-  direct_runs v (t_choose d x y t sp) e pc p k n q a s c fit ty has places b = absurd (cc)
+  direct_runs v (t_choose d x y t sp) e pc p k n q a s c fit ty has places b = go (is_short w.layout t.rate d x y) refl e has
+    where
+      code : Bool → List Instr
+      code z = choose_to w.layout z (w.layout.variable t.rate v) d x y t pc k n (expr_code w.layout d pc p k n) (λ pc1 m i. operand_of w.layout t.rate x m i (expr_code w.layout x pc1 (p + length (expr_places w.layout d)) m i)) (λ pc1 m i. operand_of w.layout t.rate y m i (expr_code w.layout y pc1 (p + length (expr_places w.layout d) + length (expr_places w.layout x)) m i))
+
+      go : (z : Bool) → is_short w.layout t.rate d x y ≡ z → z ≡ true → AreAt w.routine.code pc (code z) → DoneRuns w c (pc + length (code z)) n q (bind (means w ready (t_choose d x y t sp) a s) (λ m s. Gives tt (written t.rate v a m s)))
+      go true ez h at = choose_node w ready (InVariable v) d x y t sp (expr_runs w ready d) ez pc p k n q a s c fit.5 at (are_front w.code.places p (expr_places w.layout d) _ places) b
+      go false ez h at = absurd (cc)
   direct_runs v (t_call d t) e pc p k n q a s c fit ty has places b = absurd (cc)
   direct_runs v (t_library g u xs t sp) e pc p k n q a s c fit ty has places b = absurd (cc)
   direct_runs v (t_packed_store d x sp) e pc p k n q a s c fit ty has places b = absurd (cc)
