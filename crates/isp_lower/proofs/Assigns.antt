@@ -3,7 +3,7 @@ use Rattle.std.proofs.Common.{◌≡◌, ℕ, ◌+◌, ◌<◌, ◌≤◌, [], �
 use Rattle.isp_base.specs.Sets.{Mask}
 use Rattle.isp_base.specs.declared.types.Span.{Span}
 use Rattle.isp_code.specs.Conf.{Conf}
-use Rattle.isp_typed.specs.Typed.{TExpr, TPlace, t_variable, t_element, t_assign, t_value, place_type, type_of}
+use Rattle.isp_typed.specs.Typed.{TExpr, TPlace, t_variable, t_element, t_assign, t_value, type_of}
 use Rattle.isp_meaning.specs.State.{State, tick}
 use Rattle.isp_base.specs.declared.trap.TrapKind.TheVariants.{Index}
 use Rattle.isp_meaning.specs.Outcomes.{Gives, bind, checked}

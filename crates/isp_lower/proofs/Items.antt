@@ -1,9 +1,8 @@
 -- Declared variables and arrays.
-use Rattle.std.proofs.Common.{◌≡◌, ℕ, ◌+◌, ◌*◌, ◌<◌, ◌≤◌, List, [], ◌∷◌, ◌++◌, length, Some, None, Bool, true, refl, sym, ap, ◌∙◌, subst, arith, length-append}
+use Rattle.std.proofs.Common.{◌≡◌, ℕ, ◌+◌, ◌≤◌, List, [], ◌∷◌, ◌++◌, length, Some, None, refl, ap, ◌∙◌, subst, arith, length-append}
 use Rattle.std.specs.Prelude.{slice_get, if◌then◌else◌}
-use Rattle.std.proofs.Math.Path.{fun_ext}
-use Rattle.isp_base.specs.Maps.{Lanes, on, over, put}
-use Rattle.isp_base.specs.Sets.{Mask, any}
+use Rattle.isp_base.specs.Maps.{Lanes, put}
+use Rattle.isp_base.specs.Sets.{Mask}
 use Rattle.isp_base.specs.Values.{number, wrap}
 use Rattle.isp_base.specs.declared.trap.TrapKind.TheVariants.{Divide}
 use Rattle.isp_base.specs.declared.types.Elem.{Elem}
@@ -15,29 +14,28 @@ use Rattle.isp_code.specs.Conf.{Conf, Go}
 use Rattle.isp_code.specs.Lines.{set_array, set_own}
 use Rattle.isp_code.specs.Lines as lines
 use Rattle.isp_code.specs.declared.instr.Instr.TheVariants as instr
-use Rattle.isp_typed.specs.Typed.{TItem, t_plain, t_with_value, t_with_size, type_of}
+use Rattle.isp_typed.specs.Typed.{TItem, t_plain, t_with_value, t_with_size}
 use Rattle.isp_typed.specs.declared.variable.ArrayVariable.{ArrayVariable}
 use Rattle.isp_meaning.specs.State.{State, tick}
-use Rattle.isp_meaning.specs.Payloads.{Payload, One, Each, spread}
+use Rattle.isp_meaning.specs.Payloads.{One}
 use Rattle.isp_meaning.specs.Outcomes.{Gives}
 use Rattle.isp_meaning.specs.Places.{written}
 use Rattle.isp_meaning.specs.Simple.{cleared, item, items}
 use Rattle.isp_lower.specs.Layout.{mask_register, array_register}
-use Rattle.isp_lower.specs.Setting.{Setting, IsSettled, gang_of, AreAt, At, Stands, held_at, Holds}
+use Rattle.isp_lower.specs.Setting.{Setting, IsSettled, gang_of, AreAt, Holds}
 use Rattle.isp_lower.specs.Runs.{Enters, Ok, DoneRuns}
 use Rattle.isp_lower.specs.Fits.{heads, ArrayFitsAt}
-use Rattle.isp_lower.specs.Code.{copy, constant, operand, operand_of, expr_places, expr_code}
+use Rattle.isp_lower.specs.Code.{constant}
 use Rattle.isp_lower.specs.Items.{zero_code, item_code, item_places, items_code, items_places, ZeroFits, ItemFits, ItemsFit}
 use Rattle.isp_lower.proofs.Base.{are_front, are_back, keeps_all, comes_none, next_at, at_to}
-use Rattle.isp_lower.proofs.Rates.{filled_on}
 use Rattle.isp_lower.proofs.Values.{wrap_bits}
 use Rattle.isp_lower.proofs.Found.{few}
 use Rattle.isp_lower.proofs.Lines.{set_at}
 use Rattle.isp_lower.proofs.Combine.{set_goes, write_runs}
-use Rattle.isp_lower.proofs.Nodes.{enters_part, operand_runs}
+use Rattle.isp_lower.proofs.Nodes.{enters_part}
 use Rattle.isp_lower.proofs.Variables.{variable_runs}
 use Rattle.isp_lower.proofs.Writes.{put_through, written_stands, step_done}
-use Rattle.isp_lower.proofs.Done.{spares_all, spares_kept, spares_on, done_after, done_on, bind_done, variable_spares, variable_done, splat_done}
+use Rattle.isp_lower.proofs.Done.{spares_all, spares_kept, done_after, done_on, variable_spares, splat_done}
 
 zero_is : (t : Elem) → wrap t (number t 0) ≡ 0
 zero_is Truth = wrap_bits Truth 0

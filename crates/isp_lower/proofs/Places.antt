@@ -1,27 +1,21 @@
 -- A place: its index is taken, what it holds is read, and it is written.
-use Rattle.std.proofs.Common.{◌≡◌, ℕ, ◌+◌, ◌*◌, ◌<◌, ◌≤◌, [], ◌∷◌, length, Option, Some, None, true, refl, sym, ap, ◌∙◌, subst, arith}
-use Rattle.isp_base.specs.Sets.{Mask, any}
-use Rattle.isp_base.specs.declared.trap.TrapKind.TheVariants.{Index}
+use Rattle.std.proofs.Common.{ℕ, ◌+◌, ◌≤◌, length, refl, sym, ◌∙◌, arith}
+use Rattle.isp_base.specs.Sets.{Mask}
 use Rattle.isp_code.specs.Conf.{Conf}
-use Rattle.isp_typed.specs.Typed.{TPlace, t_variable, t_element, place_type, place_span, type_of}
+use Rattle.isp_typed.specs.Typed.{TPlace, t_variable, t_element}
 use Rattle.isp_meaning.specs.State.{State, tick}
-use Rattle.isp_meaning.specs.Payloads.{Payload}
-use Rattle.isp_meaning.specs.Outcomes.{Gives, bind, checked}
-use Rattle.isp_meaning.specs.Places.{Place, outside, held, kept}
+use Rattle.isp_meaning.specs.Places.{Place}
 use Rattle.isp_meaning.specs.Expressions.{place}
-use Rattle.isp_lower.specs.Setting.{Setting, IsSettled, gang_of, AreAt, At, Stands, Spares, Keeps, Holds}
-use Rattle.isp_lower.specs.Runs.{Comes, Enters, Runs, DoneRuns}
+use Rattle.isp_lower.specs.Setting.{Setting, IsSettled, gang_of, AreAt, Keeps}
+use Rattle.isp_lower.specs.Runs.{Enters, Runs}
 use Rattle.isp_lower.specs.Fits.{heads, PlaceFits}
-use Rattle.isp_lower.specs.Code.{index, expr_code, index_code, index_places, read_places}
+use Rattle.isp_lower.specs.Code.{index, expr_code, index_code, index_places}
 use Rattle.isp_lower.specs.Simple.{beyond}
-use Rattle.isp_lower.proofs.Base.{are_front, keeps_all, comes_none, at_to}
+use Rattle.isp_lower.proofs.Base.{keeps_all, comes_none, at_to}
 use Rattle.isp_lower.proofs.Combine.{held_kept}
 use Rattle.isp_lower.proofs.Found.{few, index_low}
-use Rattle.isp_lower.proofs.Targets.{InSlot}
 use Rattle.isp_lower.proofs.Nodes.{enters_part}
-use Rattle.isp_lower.proofs.Exprs.{PlaceHolds, variable_held, index_runs, element_runs, expr_runs}
-use Rattle.isp_lower.proofs.Writes.{element_done}
-use Rattle.isp_lower.proofs.Done.{variable_done}
+use Rattle.isp_lower.proofs.Exprs.{PlaceHolds, index_runs, expr_runs}
 
 module _ (w : Setting) (ready : IsSettled w) where
   -- the index goes first

@@ -1,8 +1,7 @@
 -- `?:` between two variables: one instruction after the test.
-use Rattle.std.proofs.Common.{◌≡◌, ℕ, ◌+◌, ◌*◌, ◌<◌, ◌≤◌, List, [], ◌∷◌, ◌++◌, length, Some, None, Bool, true, false, refl, sym, ap, ◌∙◌, subst, arith, length-append}
+use Rattle.std.proofs.Common.{◌≡◌, ℕ, ◌+◌, ◌<◌, ◌≤◌, List, [], ◌∷◌, ◌++◌, length, None, Bool, true, false, refl, sym, ap, ◌∙◌, subst, arith, length-append}
 use Rattle.std.specs.Prelude.{if◌then◌else◌, not, ◌&&◌}
-use Rattle.std.proofs.Math.Path.{fun_ext}
-use Rattle.isp_base.specs.Maps.{Lanes, on, where_true}
+use Rattle.isp_base.specs.Maps.{on, where_true}
 use Rattle.isp_base.specs.Sets.{Mask, nobody, any}
 use Rattle.isp_base.specs.declared.trap.TrapKind.TheVariants.{Divide}
 use Rattle.isp_base.specs.declared.types.Elem.{Elem}
@@ -14,12 +13,12 @@ use Rattle.isp_code.specs.Lines.{act}
 use Rattle.isp_code.specs.declared.instr.Instr.{Instr}
 use Rattle.isp_typed.specs.Typed.{TExpr, t_constant, t_program_index, t_place, t_convert, t_cast, t_unary, t_binary, t_compare, t_logic, t_choose, t_call, t_library, t_packed_store, t_packed_load, t_variable, t_element, type_of}
 use Rattle.isp_meaning.specs.State.{State, tick}
-use Rattle.isp_meaning.specs.Payloads.{Payload, One, Each, nothing, is_true, is_false, spread, kept_by, selected, layer}
+use Rattle.isp_meaning.specs.Payloads.{Payload, One, Each, nothing, is_true, is_false, spread, kept_by, selected}
 use Rattle.isp_meaning.specs.Outcomes.{Val, Gives, bind, value_unless_empty}
 use Rattle.isp_meaning.specs.Places.{variable}
 use Rattle.isp_meaning.specs.Expressions.{value}
 use Rattle.isp_lower.specs.Setting.{Setting, IsSettled, gang_of, AreAt, Stands, at_rate, held_at, Holds}
-use Rattle.isp_lower.specs.Runs.{Ok, Runs}
+use Rattle.isp_lower.specs.Runs.{Runs}
 use Rattle.isp_lower.specs.Code.{same_rate, stays, lifted, found, select}
 use Rattle.isp_lower.proofs.Base.{are_back}
 use Rattle.isp_lower.proofs.Rates.{Filled, at_kept, filled_on}

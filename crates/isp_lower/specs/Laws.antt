@@ -1,21 +1,17 @@
 -- What holds of the code of every expression and assignment.
-use Rattle.std.specs.Prelude.{ℕ, List, ◌+◌, ◌++◌, length}
+use Rattle.std.specs.Prelude.{ℕ, List, ◌+◌, length}
 use Rattle.isp_base.specs.Sets.{Mask}
 use Rattle.isp_code.specs.Conf.{Conf}
-use Rattle.isp_typed.specs.Typed.{TExpr, TPlace, TSimple, TItem, type_of}
+use Rattle.isp_typed.specs.Typed.{TExpr, TSimple, TItem, type_of}
 use Rattle.isp_meaning.specs.State.{State}
 use Rattle.isp_meaning.specs.Expressions.{value}
-use Rattle.isp_base.specs.declared.operators.BinOp.{BinOp}
-use Rattle.isp_base.specs.declared.types.Elem.{Elem}
-use Rattle.isp_base.specs.declared.types.Span.{Span}
-use Rattle.isp_base.specs.declared.types.Ty.{Ty}
 use Rattle.isp_meaning.specs.Simple.{simple, items}
 use Rattle.isp_lower.specs.Items.{items_code, items_places, ItemsFit}
 use Rattle.isp_lower.specs.Simple.{simple_code, simple_places, SimpleFits}
 use Rattle.isp_lower.specs.Setting.{Setting, IsSettled, gang_of, AreAt, Holds}
 use Rattle.isp_lower.specs.Runs.{Enters, Runs, DoneRuns}
-use Rattle.isp_lower.specs.Fits.{heads, OperandFits, ExprFits}
-use Rattle.isp_lower.specs.Code.{operate_places, found, expr_places, expr_code}
+use Rattle.isp_lower.specs.Fits.{heads, ExprFits}
+use Rattle.isp_lower.specs.Code.{found, expr_places, expr_code}
 
 -- From registers that stand for a state and a mask that stands for a set with members, the code of an expression gives
 -- its value and its state, traps as it traps, or goes on where it is cut.

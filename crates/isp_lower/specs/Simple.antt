@@ -1,13 +1,12 @@
 -- The code of what stands before a semicolon, as a function of its tree, and what is demanded of these.
-use Rattle.std.specs.Prelude.{◌≡◌, Bool, true, false, ℕ, ◌+◌, ◌∷◌, [], ◌++◌, List, length}
+use Rattle.std.specs.Prelude.{Bool, true, false, ℕ, ◌+◌, ◌∷◌, [], ◌++◌, List, length}
 use Rattle.isp_base.specs.declared.operators.BinOp.{BinOp}
 use Rattle.isp_base.specs.declared.types.Elem.{Elem}
 use Rattle.isp_base.specs.declared.types.Rate.{Rate}
 use Rattle.isp_base.specs.declared.types.Span.{Span}
-use Rattle.isp_base.specs.declared.types.Ty.{Ty}
 use Rattle.isp_code.specs.declared.instr.Instr.{Instr}
 use Rattle.isp_base.specs.Ranks.{same_elem}
-use Rattle.isp_base.specs.declared.types.Rate.TheVariants.{Uniform, Varying}
+use Rattle.isp_base.specs.declared.types.Rate.TheVariants.{Uniform}
 use Rattle.isp_typed.specs.Typed.{TExpr, TPlace, t_variable, t_element, place_type, TSimple, t_value, t_run, t_assign, t_update, t_step}
 use Rattle.isp_lower.specs.Layout.{Layout}
 use Rattle.isp_lower.specs.Setting.{Setting}
