@@ -23,7 +23,6 @@ use Rattle.isp_lower.proofs.Combine.{failed_after, stopped_after, failed_less, s
 use Rattle.isp_lower.proofs.Writes.{written_stands, step_done}
 
 module _ (w : Setting) (ready : IsSettled w) where
-
   pub spares_kept : (n : ℕ) (c c' : Conf) → Keeps w n c c' → Spares w n c c'
   spares_kept n c c' k = record {
     scalars_stay = λ t j lt. k.scalars_stay _ (low_spare w.layout Uniform t n j ready.apart lt);

@@ -20,4 +20,5 @@ mod Variables
 mod Assigns
 mod Updates
 mod Items
+mod Fitting
 mod Counts

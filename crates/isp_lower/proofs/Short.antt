@@ -127,11 +127,16 @@ module _ (w : Setting) where
       let h = side T s c va x (where_inside (gang_of w) a is_true v inside) hx st in
       let g = side F h.1 c vb y (where_inside (gang_of w) a is_false v inside) hy (h.3.stands c st) in
       let le1 = h.3.work in
-      let le2 = g.3.work in
-      (selected a b h.0 g.0, g.1, ap (λ u. bind (value_unless_empty (gang_of w) u s va) (λ m s2. bind (value_unless_empty (gang_of w) (kept_by is_false a b) s2 vb) (λ z s3. Gives (selected a b m z) s3))) (at_kept Varying a is_true b ∙ ap (kept_by is_true a) hold)
-      ∙ ap (λ u. bind (value_unless_empty (gang_of w) T s va) (λ m s2. bind (value_unless_empty (gang_of w) u s2 vb) (λ z s3. Gives (selected a b m z) s3))) (at_kept Varying a is_false b ∙ ap (kept_by is_false a) hold)
-      ∙ ap (λ u. bind u (λ m s2. bind (value_unless_empty (gang_of w) F s2 vb) (λ z s3. Gives (selected a b m z) s3))) h.2
-      ∙ ap (λ u. bind u (λ z s3. Gives (selected a b h.0 z) s3)) g.2, record { stands = λ c st. g.3.stands c (h.3.stands c st); work = omega (arith, le1, le2) }, selected_at a b h.0 g.0 (c.vectors x) (c.vectors y) v hold h.4 g.4 ∙ sym (ap Each (select_is a (c.vectors x) (c.vectors y) v)))
+      let le2 = g.3.work in (
+        selected a b h.0 g.0,
+        g.1,
+        ap (λ u. bind (value_unless_empty (gang_of w) u s va) (λ m s2. bind (value_unless_empty (gang_of w) (kept_by is_false a b) s2 vb) (λ z s3. Gives (selected a b m z) s3))) (at_kept Varying a is_true b ∙ ap (kept_by is_true a) hold)
+            ∙ ap (λ u. bind (value_unless_empty (gang_of w) T s va) (λ m s2. bind (value_unless_empty (gang_of w) u s2 vb) (λ z s3. Gives (selected a b m z) s3))) (at_kept Varying a is_false b ∙ ap (kept_by is_false a) hold)
+            ∙ ap (λ u. bind u (λ m s2. bind (value_unless_empty (gang_of w) F s2 vb) (λ z s3. Gives (selected a b m z) s3))) h.2
+            ∙ ap (λ u. bind u (λ z s3. Gives (selected a b h.0 z) s3)) g.2,
+        record { stands = λ c st. g.3.stands c (h.3.stands c st); work = omega (arith, le1, le2) },
+        selected_at a b h.0 g.0 (c.vectors x) (c.vectors y) v hold h.4 g.4 ∙ sym (ap Each (select_is a (c.vectors x) (c.vectors y) v)),
+      )
 
   filled_picked : (r : Rate) (c : Conf) (a : Mask) (f x y : ℕ) → Filled r a (picked r c a f x y)
   filled_picked Uniform c a f x y = refl

@@ -2,10 +2,14 @@
 use Rattle.std.specs.Prelude.{ℕ, List, ◌+◌, length}
 use Rattle.isp_base.specs.Sets.{Mask}
 use Rattle.isp_code.specs.Conf.{Conf}
-use Rattle.isp_typed.specs.Typed.{TExpr, TSimple, TItem, type_of}
+use Rattle.isp_typed.specs.Typed.{TExpr, TSimple, TItem, TFunction, type_of}
 use Rattle.isp_meaning.specs.State.{State}
 use Rattle.isp_meaning.specs.Expressions.{value}
 use Rattle.isp_meaning.specs.Simple.{simple, items}
+use Rattle.isp_typed.specs.Fine.{FineExpr, FineSimple, FineItem}
+use Rattle.isp_typed.specs.declared.variable.Variable.{Variable}
+use Rattle.isp_lower.specs.Trees.{ExprTree, SimpleTree, ItemTree, ItemsTree, IsPlain, IsPlainSimple, IsPlainItem}
+use Rattle.isp_lower.specs.Tables.{ExprTable, SimpleTable, ItemsTable}
 use Rattle.isp_lower.specs.Items.{items_code, items_places, ItemsFit}
 use Rattle.isp_lower.specs.Simple.{simple_code, simple_places, SimpleFits}
 use Rattle.isp_lower.specs.Setting.{Setting, IsSettled, gang_of, AreAt, Holds}
@@ -30,3 +34,13 @@ SimpleRuns =
 abbrev pub ItemsRun : Type 0
 ItemsRun =
     (w : Setting) → IsSettled w → (xs : List TItem) (pc p k n q : ℕ) (a : Mask) (s : State) (c : Conf) → ItemsFit w n xs → AreAt w.routine.code pc (items_code w.layout xs pc p k n) → AreAt w.code.places p (items_places w.layout xs) → Enters w pc k n a s c q → DoneRuns w c (pc + length (items_code w.layout xs pc p k n)) n q (items (gang_of w) w.frame w.calls xs a s)
+
+-- What code asks is what it asks of trees, and what it asks of the table of registers.
+abbrev pub PartsFit : Type 0
+PartsFit =
+    (w : Setting) (n : ℕ) → ((x : TExpr) → ExprTree x → ExprTable w x n → ExprFits w x n) × ((x : TSimple) → SimpleTree x → SimpleTable w x n → SimpleFits w x n) × ((xs : List TItem) → ItemsTree xs → ItemsTable w n xs → ItemsFit w n xs)
+
+-- The trees of a fine program are as code asks, but for what fineness leaves open.
+abbrev pub TreesFit : Type 0
+TreesFit =
+    (fs : List TFunction) (vars : List Variable) → ((x : TExpr) → FineExpr fs vars x → IsPlain x → ExprTree x) × ((x : TSimple) → FineSimple fs vars x → IsPlainSimple x → SimpleTree x) × ((x : TItem) → FineItem fs vars x → IsPlainItem x → ItemTree x)

@@ -5,4 +5,6 @@ pub mod Runs
 pub mod Fits
 pub mod Simple
 pub mod Items
+pub mod Trees
+pub mod Tables
 pub mod Laws

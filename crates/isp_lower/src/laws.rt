@@ -1,5 +1,5 @@
 //! What holds of all code. No code is run here: each function carries a law in its contract.
-ghost use Rattle.isp_lower.specs.Laws.{ExprRuns, ItemsRun, SimpleRuns};
+ghost use Rattle.isp_lower.specs.Laws.{ExprRuns, ItemsRun, PartsFit, SimpleRuns, TreesFit};
 
 /// The code of an expression gives its value in the lanes of a mask, traps as it traps, and goes on
 /// where it is cut, within 32 instructions for each unit of work. Variables, and the registers that
@@ -19,4 +19,16 @@ pub fn assignments_run()
 /// alone; an array that all lanes share is set whole.
 pub fn declarations_run()
     ensures { ItemsRun }
+{}
+
+/// What the laws ask of a tree and its registers falls in two: what is asked of the tree alone, and that
+/// each register has its type.
+pub fn parts_fit()
+    ensures { PartsFit }
+{}
+
+/// The trees of every accepted program are as the laws ask, where no conversion converts a conversion,
+/// casts and assignments have the rates that are checked by themselves, and nothing is a call.
+pub fn trees_fit()
+    ensures { TreesFit }
 {}

@@ -3,4 +3,4 @@
 
 mod laws;
 
-pub use laws::{assignments_run, declarations_run, expressions_run};
+pub use laws::{assignments_run, declarations_run, expressions_run, parts_fit, trees_fit};
