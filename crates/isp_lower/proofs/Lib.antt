@@ -21,4 +21,5 @@ mod Assigns
 mod Updates
 mod Items
 mod Fitting
+mod Rows
 mod Counts

@@ -7,4 +7,5 @@ pub mod Simple
 pub mod Items
 pub mod Trees
 pub mod Tables
+pub mod Rows
 pub mod Laws
