@@ -43,7 +43,7 @@ layer_none x = fun_ext (λ p. at (x p))
     at (Some z) = refl
 
 -- what is chosen, where each side was taken in its lanes
-selected_at : (a : Mask) (k m z : Payload) (u y v : Lanes) → at_rate Varying a k ≡ Each (on a v) → spread (where_true is_true (on a v)) m ≡ on (where_true is_true (on a v)) u → spread (where_true is_false (on a v)) z ≡ on (where_true is_false (on a v)) y → at_rate Varying a (selected a k m z) ≡ Each (layer (on (where_true is_true (on a v)) u) (on (where_true is_false (on a v)) y))
+pub selected_at : (a : Mask) (k m z : Payload) (u y v : Lanes) → at_rate Varying a k ≡ Each (on a v) → spread (where_true is_true (on a v)) m ≡ on (where_true is_true (on a v)) u → spread (where_true is_false (on a v)) z ≡ on (where_true is_false (on a v)) y → at_rate Varying a (selected a k m z) ≡ Each (layer (on (where_true is_true (on a v)) u) (on (where_true is_false (on a v)) y))
 selected_at a (Each x) m z u y v hk hm hz =
     let ex : x ≡ on a v = ap (spread nobody) hk in
     ap (λ x. Each (layer (spread (where_true is_true x) m) (spread (where_true is_false x) z))) ex
@@ -60,7 +60,7 @@ selected_at a (One x) m z u y v hk hm hz =
     go false h1 h2 = ap Each h2
 
 -- what the instruction chooses
-select_is : (a : Mask) (u y v : Lanes) → on a (λ p. if is_true (v p) then u p else y p) ≡ layer (on (where_true is_true (on a v)) u) (on (where_true is_false (on a v)) y)
+pub select_is : (a : Mask) (u y v : Lanes) → on a (λ p. if is_true (v p) then u p else y p) ≡ layer (on (where_true is_true (on a v)) u) (on (where_true is_false (on a v)) y)
 select_is a u y v = fun_ext (λ p. at (a p) (is_true (v p)) p refl)
   where
     at : (b d : Bool) (p : ℕ) → is_true (v p) ≡ d → (if b then Some (if is_true (v p) then u p else y p) else None) ≡ first_of_two (if holds is_true (if b then Some (v p) else None) then Some (u p) else None) (if holds is_false (if b then Some (v p) else None) then Some (y p) else None)
@@ -194,23 +194,23 @@ module _ (w : Setting) (ready : IsSettled w) where
       end : ℕ
       end = pc + length (two pc ct (λ p1. choose_rest d f x y p1 k n ca cb))
 
-      at1 : AreAt w.routine.code p1 (where_so n f k ∷ (side ++ the_others (n + 1) k n ∷ (other ++ select d f x y k ∷ [])))
+      at1 : AreAt w.routine.code p1 (where_so n f k ∷ (side ++ the_others (n + 1) k n ∷ (other ++ select Varying d f x y k ∷ [])))
       at1 = are_back w.routine.code pc ct _ has
 
       at_side : AreAt w.routine.code (p1 + 1) side
       at_side = are_front w.routine.code (p1 + 1) side _ at1.1
 
-      at2 : AreAt w.routine.code p2 (the_others (n + 1) k n ∷ (other ++ select d f x y k ∷ []))
+      at2 : AreAt w.routine.code p2 (the_others (n + 1) k n ∷ (other ++ select Varying d f x y k ∷ []))
       at2 = are_back w.routine.code (p1 + 1) side _ at1.1
 
       at_other : AreAt w.routine.code (p2 + 1) other
       at_other = are_front w.routine.code (p2 + 1) other _ at2.1
 
-      at3 : AreAt w.routine.code p3 (select d f x y k ∷ [])
+      at3 : AreAt w.routine.code p3 (select Varying d f x y k ∷ [])
       at3 = are_back w.routine.code (p2 + 1) other _ at2.1
 
       ends : p3 + 1 ≡ end
-      ends = omega (arith, length-append ct (where_so n f k ∷ (side ++ the_others (n + 1) k n ∷ (other ++ select d f x y k ∷ []))), length-append side (the_others (n + 1) k n ∷ (other ++ select d f x y k ∷ [])), length-append other (select d f x y k ∷ []))
+      ends = omega (arith, length-append ct (where_so n f k ∷ (side ++ the_others (n + 1) k n ∷ (other ++ select Varying d f x y k ∷ []))), length-append side (the_others (n + 1) k n ∷ (other ++ select Varying d f x y k ∷ [])), length-append other (select Varying d f x y k ∷ []))
 
       rest : (b : Payload) (s : State) (ok : Ok w c p1 n (11 + q) (Holds Varying a f b) s) → Runs w c end n q (Holds Varying a d) (bind (value_unless_empty (gang_of w) (kept_by is_true a b) s va) (λ m s2. bind (value_unless_empty (gang_of w) (kept_by is_false a b) s2 vb) (λ z s3. Gives (selected a b m z) s3)))
       rest b s ok =
@@ -283,7 +283,7 @@ module _ (w : Setting) (ready : IsSettled w) where
                   let hm : spread T m ≡ on T (c5.vectors x) = ap (spread nobody) ok2.holds ∙ ap (on T) (sym eu) in
                   let hz : spread F z ≡ on F (c5.vectors y) = ap (spread nobody) ok3.holds in
                   let ec : on a chosen ≡ layer (on T (c5.vectors x)) (on F (c5.vectors y)) = select_is a (c5.vectors x) (c5.vectors y) (c5.vectors f) ∙ ap (λ g. layer (on (where_true is_true (on a g)) (c5.vectors x)) (on (where_true is_false (on a g)) (c5.vectors y))) ev in
-                  write_runs w ready c4 c5 ok3.steps p3 end n q2 a s3 (select d f x y k) Varying t None Divide no_place (selected a b m z) (Each (on a chosen)) ok3.comes ok3.at ends at3.0 ok3.stands (keeps_less w n (n + 2) c4 c5 (omega arith) ok3.keeps) (λ r h. ok3.masks r (omega arith)) (omega (arith, ok3.bound)) (selected_at a b m z (c5.vectors x) (c5.vectors y) v ok.holds hm hz ∙ sym (ap Each ec)) (λ old. ap Each (filled_on a chosen old)) (ap (λ g. Go (set_at Varying c5 d (Each (on g chosen)))) (ok3.masks k (omega arith) ∙ put_other c3.masks (n + 1) x4 k kn1 ∙ ek))
+                  write_runs w ready c4 c5 ok3.steps p3 end n q2 a s3 (select Varying d f x y k) Varying t None Divide no_place (selected a b m z) (Each (on a chosen)) ok3.comes ok3.at ends at3.0 ok3.stands (keeps_less w n (n + 2) c4 c5 (omega arith) ok3.keeps) (λ r h. ok3.masks r (omega arith)) (omega (arith, ok3.bound)) (selected_at a b m z (c5.vectors x) (c5.vectors y) v ok.holds hm hz ∙ sym (ap Each ec)) (λ old. ap Each (filled_on a chosen old)) (ap (λ g. Go (set_at Varying c5 d (Each (on g chosen)))) (ok3.masks k (omega arith) ∙ put_other c3.masks (n + 1) x4 k kn1 ∙ ek))
 
   -- a choice by a test of either rate; the sides are taken at the slots that this leaves
   pub choose_runs : (g r : Rate) (t : Elem) (x y : TExpr) (c : Conf) (pc k n q : ℕ) (a : Mask) (vt : Val Payload) (va vb : Mask → State → Val Payload) (f : ℕ) (ct : List Instr) (ca cb : ℕ → ℕ → ℕ → List Instr) → Reaches g r → c.masks k ≡ a → k < n → any (gang_of w) a ≡ true → ((p : ℕ) → a p ≡ true → p < gang_of w) → Low w.layout g (n + 1) f → Low w.layout r (first_slot g n + 1) (operand w.layout r x (first_slot g n)) → AreAt w.routine.code pc (choose_code w.layout g r t x y f pc k n ct ca cb) → Runs w c (pc + length ct) n (11 + q) (Holds g a f) vt → ((T : Mask) (s : State) (c1 : Conf) (pc1 z j : ℕ) → AreAt w.routine.code pc1 (ca pc1 j (first_slot g n)) → Enters w pc1 j (first_slot g n) T s c1 (2 + z) → Runs w c1 (pc1 + length (ca pc1 j (first_slot g n))) (first_slot g n) z (Holds r T (operand w.layout r x (first_slot g n))) (va T s)) → ((T : Mask) (s : State) (c1 : Conf) (pc1 z j : ℕ) → AreAt w.routine.code pc1 (cb pc1 j (second_slot g n)) → Enters w pc1 j (second_slot g n) T s c1 (2 + z) → Runs w c1 (pc1 + length (cb pc1 j (second_slot g n))) (second_slot g n) z (Holds r T (operand w.layout r y (second_slot g n))) (vb T s)) → Runs w c (pc + length (choose_code w.layout g r t x y f pc k n ct ca cb)) n q (Holds r a (w.layout.spare r t n)) (bind vt (λ x s1. bind (value_unless_empty (gang_of w) (kept_by is_true a x) s1 va) (λ m s2. bind (value_unless_empty (gang_of w) (kept_by is_false a x) s2 vb) (λ z s3. Gives (selected a x m z) s3))))

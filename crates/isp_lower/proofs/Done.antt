@@ -1,5 +1,5 @@
 -- What is done after code that writes variables: one thing after another, and a variable that gets a value.
-use Rattle.std.proofs.Common.{◌≡◌, ℕ, ◌+◌, ◌*◌, ◌<◌, ◌≤◌, [], ◌∷◌, ◌++◌, length, Option, Some, None, refl, sym, ap, ◌∙◌, subst, arith, length-append}
+use Rattle.std.proofs.Common.{◌≡◌, ℕ, ◌+◌, ◌*◌, ◌<◌, ◌≤◌, Option, Some, None, refl, sym, ap, ◌∙◌, arith}
 use Rattle.std.specs.Prelude.{slice_get}
 use Rattle.isp_base.specs.Maps.{on, over}
 use Rattle.isp_base.specs.Sets.{Mask, nobody}
@@ -8,27 +8,21 @@ use Rattle.isp_base.specs.declared.trap.TrapKind.TheVariants.{Index}
 use Rattle.isp_base.specs.declared.types.Rate.{Rate}
 use Rattle.isp_base.specs.declared.types.Rate.TheVariants.{Uniform, Varying}
 use Rattle.isp_base.specs.declared.types.Span.{Span}
-use Rattle.isp_base.specs.declared.types.Ty.{Ty}
 use Rattle.isp_code.specs.Calls.{no_place}
 use Rattle.isp_code.specs.Conf.{Conf, Go}
-use Rattle.isp_typed.specs.Typed.{TExpr, TPlace, t_variable, t_element, t_assign, t_value, t_with_value, type_of}
-use Rattle.isp_meaning.specs.State.{State, tick}
+use Rattle.isp_meaning.specs.State.{State}
 use Rattle.isp_meaning.specs.Payloads.{Payload, Each, sole, spread}
 use Rattle.isp_meaning.specs.Outcomes.{Val, Gives, Fails, Stops, Done, bind, checked}
-use Rattle.isp_meaning.specs.Places.{Element, written, outside, kept}
-use Rattle.isp_meaning.specs.Simple.{simple, item}
-use Rattle.isp_lower.specs.Setting.{Setting, IsSettled, gang_of, AreAt, At, Stands, Spares, Keeps, held_at, Holds}
-use Rattle.isp_lower.specs.Runs.{Comes, Enters, Ok, Runs, DoneOk, DoneRuns}
-use Rattle.isp_lower.specs.Fits.{heads, OperandFits, ExprFits}
-use Rattle.isp_lower.specs.Code.{copy, splat, write, operand, operand_of, index, index_of, found, expr_places, expr_code}
-use Rattle.isp_lower.specs.Simple.{assign_code}
-use Rattle.isp_lower.proofs.Base.{are_front, are_back, put_other, low_spare, comes_on, at_to}
+use Rattle.isp_meaning.specs.Places.{written}
+use Rattle.isp_lower.specs.Setting.{Setting, IsSettled, At, Stands, Spares, Keeps, held_at, Holds}
+use Rattle.isp_lower.specs.Runs.{Comes, Ok, Runs, DoneOk, DoneRuns}
+use Rattle.isp_lower.specs.Code.{copy, splat}
+use Rattle.isp_lower.proofs.Base.{put_other, low_spare, comes_on}
 use Rattle.isp_lower.proofs.Lines.{set_at}
-use Rattle.isp_lower.proofs.Combine.{failed_after, stopped_after, failed_less, stopped_less, held_kept, set_goes}
-use Rattle.isp_lower.proofs.Writes.{written_stands, step_done, element_done}
+use Rattle.isp_lower.proofs.Combine.{failed_after, stopped_after, failed_less, stopped_less, set_goes}
+use Rattle.isp_lower.proofs.Writes.{written_stands, step_done}
 
 module _ (w : Setting) (ready : IsSettled w) where
-
   pub spares_kept : (n : ℕ) (c c' : Conf) → Keeps w n c c' → Spares w n c c'
   spares_kept n c c' k = record {
     scalars_stay = λ t j lt. k.scalars_stay _ (low_spare w.layout Uniform t n j ready.apart lt);

@@ -1,6 +1,6 @@
 -- The code of an expression gives the expression's value.
 use Rattle.std.proofs.Common.{◌≡◌, ℕ, ◌+◌, ◌*◌, ◌<◌, ◌≤◌, ◌%◌, ◌^◌, List, [], ◌∷◌, ◌++◌, length, Option, Some, None, Bool, true, false, refl, sym, ap, ◌∙◌, subst, arith, length-append}
-use Rattle.std.specs.Prelude.{slice_get}
+use Rattle.std.specs.Prelude.{slice_get, ◌&&◌}
 use Rattle.isp_base.specs.Access.{is_zero, is_outside}
 use Rattle.isp_base.specs.Maps.{on}
 use Rattle.isp_base.specs.Sets.{Mask, any}
@@ -33,7 +33,7 @@ use Rattle.isp_lower.specs.Layout.{register, array_register}
 use Rattle.isp_lower.specs.Setting.{Setting, IsSettled, gang_of, AreAt, At, Stands, Keeps, at_rate, held_at, Holds}
 use Rattle.isp_lower.specs.Runs.{Comes, Enters, Runs}
 use Rattle.isp_lower.specs.Fits.{Reaches, first_slot, second_slot, heads, IsTyped, SpareFits, ArrayFits, ExprFits}
-use Rattle.isp_lower.specs.Code.{convert, constant, constant_of, convert_to, part_to, lift_to, lifted, found, operand, operand_of, lift_code, is_whole, whole, whole_of, index, index_of, read, expr_places, expr_code, expr_to}
+use Rattle.isp_lower.specs.Code.{convert, constant, constant_of, convert_to, part_to, lift_to, lifted, found, operand, operand_of, lift_code, is_whole, whole, whole_of, index, index_of, read, expr_places, expr_code, expr_to, select, same_rate, stays, stays_at, is_short, choose_code, choose_to}
 use Rattle.isp_lower.proofs.Base.{are_front, are_back, keeps_all, comes_none, at_to, moved_by}
 use Rattle.isp_lower.proofs.Rates.{held_same, at_mapped, at_offender, filled_on}
 use Rattle.isp_lower.proofs.Lines.{set_at, value_at, convert_line, unary_line, compare_line, operate_at, place_named}
@@ -42,6 +42,7 @@ use Rattle.isp_lower.proofs.Values.{wrap_bits, constant_is}
 use Rattle.isp_lower.proofs.Combine.{runs_on, ok_less, renamed, lift_runs}
 use Rattle.isp_lower.proofs.Found.{few, constant_is_one, found_typed, found_low, operand_typed, operand_low}
 use Rattle.isp_lower.proofs.Choose.{choose_front, choose_runs}
+use Rattle.isp_lower.proofs.Short.{same_rate-is, InPlace, stays_in_place, short_runs}
 use Rattle.isp_lower.proofs.Logic.{logic_one, logic_each}
 use Rattle.isp_lower.proofs.Targets.{Target, InSlot, target, Leaves, bind_leaves, write_leaves}
 use Rattle.isp_lower.proofs.Nodes.{enters_less, enters_part, enters_later, leaf_runs, operand_runs, one_runs, pair_runs}
@@ -136,7 +137,7 @@ module _ (w : Setting) (ready : IsSettled w) where
 
   -- ---- one node, given what holds of its parts
 
-  abbrev RunsHere : TExpr → Type 0
+  abbrev pub RunsHere : TExpr → Type 0
   RunsHere x =
       (pc p k n q : ℕ) (a : Mask) (s : State) (c : Conf) → ExprFits w x n → AreAt w.routine.code pc (expr_code w.layout x pc p k n) → AreAt w.code.places p (expr_places w.layout x) → Enters w pc k n a s c (heads x + q) → Runs w c (pc + length (expr_code w.layout x pc p k n)) n q (Holds (type_of x).rate a (found w.layout x n)) (means x a s)
 
@@ -145,15 +146,15 @@ module _ (w : Setting) (ready : IsSettled w) where
   NodeRuns u z =
       (pc p k n q : ℕ) (a : Mask) (s : State) (c : Conf) → ExprFits w z n → IsTyped w (type_of z).rate (target w.layout u (type_of z).rate (type_of z).elem n) (type_of z).elem → AreAt w.routine.code pc (expr_to w.layout (target w.layout u (type_of z).rate (type_of z).elem n) z pc p k n) → AreAt w.code.places p (expr_places w.layout z) → Enters w pc k n a s c (heads z + q) → Leaves w u (target w.layout u (type_of z).rate (type_of z).elem n) c (pc + length (expr_to w.layout (target w.layout u (type_of z).rate (type_of z).elem n) z pc p k n)) n q (type_of z).rate a (means z a s)
 
-  number_node : (u : Target) (v : Value) (sp : Span) → NodeRuns u (t_constant v sp)
+  pub number_node : (u : Target) (v : Value) (sp : Span) → NodeRuns u (t_constant v sp)
   number_node u v sp pc p k n q a s c fit ty has places b =
       constant_runs u pc k n q a s c v.elem v.bits (v.bits % 2 ^ width v.elem) (enters_less w ready pc k n q _ a s c (omega arith) b) ty has.0 (wrap_bits v.elem v.bits)
 
-  index_node : (u : Target) (sp : Span) → NodeRuns u (t_program_index sp)
+  pub index_node : (u : Target) (sp : Span) → NodeRuns u (t_program_index sp)
   index_node u sp pc p k n q a s c fit ty has places b =
       leaf_runs w ready u pc k n q a s c _ Varying I32 (Each (on a (λ i. i))) (Each (on a (λ i. i))) (enters_less w ready pc k n q _ a s c (omega arith) b) has.0 refl (λ old. ap Each (filled_on a (λ i. i) old)) (ap (λ m. Go (set_at Varying c (target w.layout u Varying I32 n) (Each (on m (λ i. i))))) b.mask)
 
-  element_node : (u : Target) (y : ArrayVariable) (i : TExpr) (t : Ty) (sp : Span) → RunsHere i → NodeRuns u (t_place (t_element y i t sp))
+  pub element_node : (u : Target) (y : ArrayVariable) (i : TExpr) (t : Ty) (sp : Span) → RunsHere i → NodeRuns u (t_place (t_element y i t sp))
   element_node u y i t sp ih pc p k n q a s c fit ty has places b =
       let fi : heads i ≤ 1 = few w i n fit.0.4 in
       let ci = expr_code w.layout i pc p k n in
@@ -169,12 +170,12 @@ module _ (w : Setting) (ready : IsSettled w) where
       subst (λ g. Leaves w u d c (pc + length (cj ++ rd ∷ [])) n q t.rate a (checked (outside (gang_of w) w.frame g a) Index sp s1 (held (gang_of w) w.frame g a s1))) (sym h.1)
       (element_runs u y i t sp c ok.conf ok.steps (pc + length cj) _ k n n (p + length (expr_places w.layout i)) q a s1 h.0 fit.0.0 fit.0.1 ok.comes ok.at to (are_back w.routine.code pc cj (rd ∷ []) has).0 (are_back w.code.places p (expr_places w.layout i) _ places).0 ok.stands ok.keeps ok.masks (ok.masks k b.low ∙ b.mask) b.some b.inside (omega (arith, ok.bound)) h.2))
 
-  convert_node : (u : Target) (e : Elem) (x : TExpr) → RunsHere x → NodeRuns u (t_convert e x)
+  pub convert_node : (u : Target) (e : Elem) (x : TExpr) → RunsHere x → NodeRuns u (t_convert e x)
   convert_node u e x ih pc p k n q a s c fit ty has places b =
       convert_runs u x e pc k n q a s c (expr_code w.layout x pc p k n) (enters_less w ready pc k n (1 + q) _ a s c (omega arith) b) (found_typed w x n fit.2) ty has
       (λ at. ih pc p k n (1 + q) a s c fit.2 at places (enters_less w ready pc k n (heads x + (1 + q)) _ a s c (omega arith) b))
 
-  unary_node : (u : Target) (o : UnaryOp) (x : TExpr) (t : Ty) (sp : Span) → RunsHere x → NodeRuns u (t_unary o x t sp)
+  pub unary_node : (u : Target) (o : UnaryOp) (x : TExpr) (t : Ty) (sp : Span) → RunsHere x → NodeRuns u (t_unary o x t sp)
   unary_node u o x t sp ih pc p k n q a s c fit ty has places b =
       let f : heads x ≤ 1 = few w x n fit.2 in
       let cx = expr_code w.layout x pc p k n in
@@ -185,7 +186,7 @@ module _ (w : Setting) (ready : IsSettled w) where
       (operand_runs w ready c pc k n (1 + q) a (means x a (tick s)) t.rate t.elem x cx fit.0 b.mask b.low ha
       (ih pc p k n (1 + (1 + q)) a (tick s) c fit.2 (are_front w.routine.code pc cx _ ha) places (enters_part w ready pc k n (heads x + (1 + (1 + q))) _ a s c (omega arith) b)))
 
-  binary_node : (u : Target) (o : BinOp) (x y : TExpr) (t : Ty) (sp : Span) → RunsHere x → RunsHere y → NodeRuns u (t_binary o x y t sp)
+  pub binary_node : (u : Target) (o : BinOp) (x y : TExpr) (t : Ty) (sp : Span) → RunsHere x → RunsHere y → NodeRuns u (t_binary o x y t sp)
   binary_node u o x y t sp ihx ihy pc p k n q a s c fit ty has places b =
       let fx : heads x ≤ 1 = few w x n fit.3 in
       let fy : heads y ≤ 1 = few w y (n + 1) fit.4 in
@@ -205,7 +206,7 @@ module _ (w : Setting) (ready : IsSettled w) where
       operand_runs w ready ok.conf (pc + length ca) k (n + 1) (1 + (ok.steps + q)) a (means y a s1) t.rate t.elem y (cy (pc + length ca)) fit.1 (ok.masks k lk ∙ b.mask) (omega arith) hb
       (ihy (pc + length ca) p1 k (n + 1) (1 + (1 + (ok.steps + q))) a s1 ok.conf fit.4 (are_front w.routine.code (pc + length ca) (cy (pc + length ca)) _ hb) (are_front w.code.places p1 (expr_places w.layout y) _ pl) (enters_later w ready pc (pc + length ca) k n (n + 1) (heads y + (1 + (1 + (ok.steps + q)))) _ (3 + q) a s s1 c (omega arith) b ok (omega arith))))
 
-  compare_node : (u : Target) (o : Compare) (x y : TExpr) (r : Rate) (sp : Span) → RunsHere x → RunsHere y → NodeRuns u (t_compare o x y r sp)
+  pub compare_node : (u : Target) (o : Compare) (x y : TExpr) (r : Rate) (sp : Span) → RunsHere x → RunsHere y → NodeRuns u (t_compare o x y r sp)
   compare_node u o x y r sp ihx ihy pc p k n q a s c fit ty has places b =
       let fx : heads x ≤ 1 = few w x n fit.3 in
       let fy : heads y ≤ 1 = few w y (n + 1) fit.4 in
@@ -239,6 +240,64 @@ module _ (w : Setting) (ready : IsSettled w) where
   cast_runs c pc k n q a v Uniform Varying e f code re em lk has run = absurd re
   cast_runs c pc k n q a v Varying Uniform e f code re em lk has run = cast_on c pc k n q a v Varying Uniform e f (code f) re em lk has run
   cast_runs c pc k n q a v Varying Varying e f code re em lk has run = cast_on c pc k n q a v Varying Varying e f (code f) re em lk has run
+
+  abbrev choosing : TExpr → TExpr → TExpr → Ty → ℕ → ℕ → ℕ → ℕ → List Instr
+  choosing e x y t pc p k n =
+      choose_code w.layout (type_of e).rate t.rate t.elem x y (found w.layout e n) pc k n (expr_code w.layout e pc p k n) (λ pc1 m i. operand_of w.layout t.rate x m i (expr_code w.layout x pc1 (p + length (expr_places w.layout e)) m i)) (λ pc1 m i. operand_of w.layout t.rate y m i (expr_code w.layout y pc1 (p + length (expr_places w.layout e) + length (expr_places w.layout x)) m i))
+
+  -- both sides may have code
+  long_node : (e x y : TExpr) (t : Ty) (sp : Span) → RunsHere e → RunsHere x → RunsHere y → (pc p k n q : ℕ) (a : Mask) (s : State) (c : Conf) → ExprFits w (t_choose e x y t sp) n → AreAt w.routine.code pc (choosing e x y t pc p k n) → AreAt w.code.places p (expr_places w.layout (t_choose e x y t sp)) → Enters w pc k n a s c (0 + q) → Runs w c (pc + length (choosing e x y t pc p k n)) n q (Holds t.rate a (w.layout.spare t.rate t.elem n)) (means (t_choose e x y t sp) a s)
+  long_node e x y t sp ihe ihx ihy pc p k n q a s c fit has places b =
+      let g = (type_of e).rate in
+      let n1 = first_slot g n in
+      let n2 = second_slot g n in
+      let fe : heads e ≤ 1 = few w e n fit.5 in
+      let fx : heads x ≤ 1 = few w x n1 fit.6 in
+      let fy : heads y ≤ 1 = few w y n2 fit.7 in
+      let ce = expr_code w.layout e pc p k n in
+      let he : AreAt w.routine.code pc ce = choose_front w ready g t.rate t.elem x y (found w.layout e n) pc k n ce _ _ has in
+      let p1 = p + length (expr_places w.layout e) in
+      let p2 = p1 + length (expr_places w.layout x) in
+      let pl = are_back w.code.places p (expr_places w.layout e) _ places in
+      let ply = are_back w.code.places p1 (expr_places w.layout x) _ pl in
+      choose_runs w ready g t.rate t.elem x y c pc k n q a (means e a (tick s)) (λ z s1. means x z s1) (λ z s1. means y z s1) (found w.layout e n) ce (λ pc1 m i. operand_of w.layout t.rate x m i (expr_code w.layout x pc1 p1 m i)) (λ pc1 m i. operand_of w.layout t.rate y m i (expr_code w.layout y pc1 p2 m i)) fit.1 b.mask b.low b.some b.inside (found_low w ready e n fit.5) (operand_low w ready t.rate t.elem x n1 fit.3 fit.6) has
+      (ihe pc p k n (11 + q) a (tick s) c fit.5 he (are_front w.code.places p (expr_places w.layout e) _ places) (enters_part w ready pc k n (heads e + (11 + q)) _ a s c (omega arith) b))
+      (λ T s1 c1 pc1 z j at en. operand_runs w ready c1 pc1 j n1 z T (means x T s1) t.rate t.elem x (expr_code w.layout x pc1 p1 j n1) fit.3 en.mask en.low at (ihx pc1 p1 j n1 (1 + z) T s1 c1 fit.6 (are_front w.routine.code pc1 (expr_code w.layout x pc1 p1 j n1) _ at) (are_front w.code.places p1 (expr_places w.layout x) _ pl) (enters_less w ready pc1 j n1 (heads x + (1 + z)) _ T s1 c1 (omega arith) en)))
+      (λ T s1 c1 pc1 z j at en. operand_runs w ready c1 pc1 j n2 z T (means y T s1) t.rate t.elem y (expr_code w.layout y pc1 p2 j n2) fit.4 en.mask en.low at (ihy pc1 p2 j n2 (1 + z) T s1 c1 fit.7 (are_front w.routine.code pc1 (expr_code w.layout y pc1 p2 j n2) _ at) ply (enters_less w ready pc1 j n2 (heads y + (1 + z)) _ T s1 c1 (omega arith) en)))
+
+  -- neither side has code
+  short_on : (u : Target) (e x y : TExpr) (t : Ty) (sp : Span) → RunsHere e → t.rate ≡ (type_of e).rate → stays_at w.layout t.rate x ≡ true → stays_at w.layout t.rate y ≡ true → (pc p k n q : ℕ) (a : Mask) (s : State) (c : Conf) → ExprFits w e n → AreAt w.routine.code pc (expr_code w.layout e pc p k n ++ select t.rate (target w.layout u t.rate t.elem n) (found w.layout e n) (found w.layout x n) (found w.layout y n) k ∷ []) → AreAt w.code.places p (expr_places w.layout e) → Enters w pc k n a s c (0 + q) → Leaves w u (target w.layout u t.rate t.elem n) c (pc + length (expr_code w.layout e pc p k n ++ select t.rate (target w.layout u t.rate t.elem n) (found w.layout e n) (found w.layout x n) (found w.layout y n) k ∷ [])) n q t.rate a (means (t_choose e x y t sp) a s)
+  short_on u e x y t sp ih er ex ey pc p k n q a s c fit has places b =
+      let fe : heads e ≤ 1 = few w e n fit in
+      short_runs w ready u t.rate t.elem (found w.layout e n) (found w.layout x n) (found w.layout y n) (means x) (means y) c pc k n q a (means e a (tick s)) (expr_code w.layout e pc p k n) b.mask b.low b.some b.inside (there x ex) (there y ey) has
+      (subst (λ r. Runs w c (pc + length (expr_code w.layout e pc p k n)) n (1 + q) (Holds r a (found w.layout e n)) (means e a (tick s))) (sym er)
+      (ih pc p k n (1 + q) a (tick s) c fit (are_front w.routine.code pc (expr_code w.layout e pc p k n) _ has) places (enters_part w ready pc k n (heads e + (1 + q)) _ a s c (omega arith) b)))
+    where
+      there : (z : TExpr) → stays_at w.layout t.rate z ≡ true → InPlace w t.rate (found w.layout z n) (means z)
+      there z h = go (same_rate t.rate (type_of z).rate) refl h
+        where
+          go : (d : Bool) → same_rate t.rate (type_of z).rate ≡ d → (d && stays w.layout z) ≡ true → InPlace w t.rate (found w.layout z n) (means z)
+          go true ed hz = subst (λ r. InPlace w r (found w.layout z n) (means z)) (sym (same_rate-is t.rate (type_of z).rate ed)) (stays_in_place w z n hz)
+          go false ed hz = absurd (cc)
+
+  pub choose_node : (u : Target) (e x y : TExpr) (t : Ty) (sp : Span) → RunsHere e → is_short w.layout t.rate e x y ≡ true → (pc p k n q : ℕ) (a : Mask) (s : State) (c : Conf) → ExprFits w e n → AreAt w.routine.code pc (expr_code w.layout e pc p k n ++ select t.rate (target w.layout u t.rate t.elem n) (found w.layout e n) (found w.layout x n) (found w.layout y n) k ∷ []) → AreAt w.code.places p (expr_places w.layout e) → Enters w pc k n a s c (0 + q) → Leaves w u (target w.layout u t.rate t.elem n) c (pc + length (expr_code w.layout e pc p k n ++ select t.rate (target w.layout u t.rate t.elem n) (found w.layout e n) (found w.layout x n) (found w.layout y n) k ∷ [])) n q t.rate a (means (t_choose e x y t sp) a s)
+  choose_node u e x y t sp ih ez pc p k n q a s c fit has places b = go (same_rate t.rate (type_of e).rate) (stays_at w.layout t.rate x) (stays_at w.layout t.rate y) refl refl refl ez
+    where
+      go : (d1 d2 d3 : Bool) → same_rate t.rate (type_of e).rate ≡ d1 → stays_at w.layout t.rate x ≡ d2 → stays_at w.layout t.rate y ≡ d3 → (d1 && (d2 && d3)) ≡ true → Leaves w u (target w.layout u t.rate t.elem n) c (pc + length (expr_code w.layout e pc p k n ++ select t.rate (target w.layout u t.rate t.elem n) (found w.layout e n) (found w.layout x n) (found w.layout y n) k ∷ [])) n q t.rate a (means (t_choose e x y t sp) a s)
+      go true true true e1 e2 e3 h = short_on u e x y t sp ih (same_rate-is t.rate (type_of e).rate e1) e2 e3 pc p k n q a s c fit has places b
+      go true true false e1 e2 e3 h = absurd (cc)
+      go true false d3 e1 e2 e3 h = absurd (cc)
+      go false d2 d3 e1 e2 e3 h = absurd (cc)
+
+  choose_any : (e x y : TExpr) (t : Ty) (sp : Span) → RunsHere e → RunsHere x → RunsHere y → RunsHere (t_choose e x y t sp)
+  choose_any e x y t sp ihe ihx ihy pc p k n q a s c fit has places b = go (is_short w.layout t.rate e x y) refl has
+    where
+      code : Bool → List Instr
+      code z = choose_to w.layout z (w.layout.spare t.rate t.elem n) e x y t pc k n (expr_code w.layout e pc p k n) (λ pc1 m i. operand_of w.layout t.rate x m i (expr_code w.layout x pc1 (p + length (expr_places w.layout e)) m i)) (λ pc1 m i. operand_of w.layout t.rate y m i (expr_code w.layout y pc1 (p + length (expr_places w.layout e) + length (expr_places w.layout x)) m i))
+
+      go : (z : Bool) → is_short w.layout t.rate e x y ≡ z → AreAt w.routine.code pc (code z) → Runs w c (pc + length (code z)) n q (Holds t.rate a (w.layout.spare t.rate t.elem n)) (means (t_choose e x y t sp) a s)
+      go true ez at = choose_node InSlot e x y t sp ihe ez pc p k n q a s c fit.5 at (are_front w.code.places p (expr_places w.layout e) _ places) b
+      go false ez at = long_node e x y t sp ihe ihx ihy pc p k n q a s c fit at places b
 
   pub expr_runs : (x : TExpr) (pc p k n q : ℕ) (a : Mask) (s : State) (c : Conf) → ExprFits w x n → AreAt w.routine.code pc (expr_code w.layout x pc p k n) → AreAt w.code.places p (expr_places w.layout x) → Enters w pc k n a s c (heads x + q) → Runs w c (pc + length (expr_code w.layout x pc p k n)) n q (Holds (type_of x).rate a (found w.layout x n)) (means x a s)
   expr_runs (t_constant v sp) pc p k n q a s c fit has places b = number_node InSlot v sp pc p k n q a s c fit fit has places b
@@ -289,23 +348,7 @@ module _ (w : Setting) (ready : IsSettled w) where
       (operand_runs w ready c pc k n (1 + (2 + (4 + q))) a (means x a (tick s)) Varying Truth x cx fit.0 b.mask lk ha
       (expr_runs x pc p k n (1 + (1 + (2 + (4 + q)))) a (tick s) c fit.3 (are_front w.routine.code pc cx _ ha) (are_front w.code.places p (expr_places w.layout x) _ places) (enters_part w ready pc k n (heads x + (1 + (1 + (2 + (4 + q))))) _ a s c (omega arith) b)))
       (λ T s1 c1 pc1 z at en. operand_runs w ready c1 pc1 n (n + 1) (1 + z) T (means y T s1) Varying Truth y (expr_code w.layout y pc1 p1 n (n + 1)) fit.1 en.mask en.low at (expr_runs y pc1 p1 n (n + 1) (1 + (1 + z)) T s1 c1 fit.4 (are_front w.routine.code pc1 (expr_code w.layout y pc1 p1 n (n + 1)) _ at) pl (enters_less w ready pc1 n (n + 1) (heads y + (1 + (1 + z))) _ T s1 c1 (omega arith) en)))
-  expr_runs (t_choose e x y t sp) pc p k n q a s c fit has places b =
-      let g = (type_of e).rate in
-      let n1 = first_slot g n in
-      let n2 = second_slot g n in
-      let fe : heads e ≤ 1 = few w e n fit.5 in
-      let fx : heads x ≤ 1 = few w x n1 fit.6 in
-      let fy : heads y ≤ 1 = few w y n2 fit.7 in
-      let ce = expr_code w.layout e pc p k n in
-      let he : AreAt w.routine.code pc ce = choose_front w ready g t.rate t.elem x y (found w.layout e n) pc k n ce _ _ has in
-      let p1 = p + length (expr_places w.layout e) in
-      let p2 = p1 + length (expr_places w.layout x) in
-      let pl = are_back w.code.places p (expr_places w.layout e) _ places in
-      let ply = are_back w.code.places p1 (expr_places w.layout x) _ pl in
-      choose_runs w ready g t.rate t.elem x y c pc k n q a (means e a (tick s)) (λ z s1. means x z s1) (λ z s1. means y z s1) (found w.layout e n) ce (λ pc1 m i. operand_of w.layout t.rate x m i (expr_code w.layout x pc1 p1 m i)) (λ pc1 m i. operand_of w.layout t.rate y m i (expr_code w.layout y pc1 p2 m i)) fit.1 b.mask b.low b.some b.inside (found_low w ready e n fit.5) (operand_low w ready t.rate t.elem x n1 fit.3 fit.6) has
-      (expr_runs e pc p k n (11 + q) a (tick s) c fit.5 he (are_front w.code.places p (expr_places w.layout e) _ places) (enters_part w ready pc k n (heads e + (11 + q)) _ a s c (omega arith) b))
-      (λ T s1 c1 pc1 z j at en. operand_runs w ready c1 pc1 j n1 z T (means x T s1) t.rate t.elem x (expr_code w.layout x pc1 p1 j n1) fit.3 en.mask en.low at (expr_runs x pc1 p1 j n1 (1 + z) T s1 c1 fit.6 (are_front w.routine.code pc1 (expr_code w.layout x pc1 p1 j n1) _ at) (are_front w.code.places p1 (expr_places w.layout x) _ pl) (enters_less w ready pc1 j n1 (heads x + (1 + z)) _ T s1 c1 (omega arith) en)))
-      (λ T s1 c1 pc1 z j at en. operand_runs w ready c1 pc1 j n2 z T (means y T s1) t.rate t.elem y (expr_code w.layout y pc1 p2 j n2) fit.4 en.mask en.low at (expr_runs y pc1 p2 j n2 (1 + z) T s1 c1 fit.7 (are_front w.routine.code pc1 (expr_code w.layout y pc1 p2 j n2) _ at) ply (enters_less w ready pc1 j n2 (heads y + (1 + z)) _ T s1 c1 (omega arith) en)))
+  expr_runs (t_choose e x y t sp) pc p k n q a s c fit has places b = choose_any e x y t sp (λ pc p k n q a s c f h pl z. expr_runs e pc p k n q a s c f h pl z) (λ pc p k n q a s c f h pl e. expr_runs x pc p k n q a s c f h pl e) (λ pc p k n q a s c f h pl e. expr_runs y pc p k n q a s c f h pl e) pc p k n q a s c fit has places b
   expr_runs (t_call e t) pc p k n q a s c fit has places b = absurd fit
   expr_runs (t_library g e xs t sp) pc p k n q a s c fit has places b = absurd fit
   expr_runs (t_packed_store d x sp) pc p k n q a s c fit has places b = absurd fit

@@ -1,9 +1,8 @@
 -- Declared variables and arrays.
-use Rattle.std.proofs.Common.{◌≡◌, ℕ, ◌+◌, ◌*◌, ◌<◌, ◌≤◌, List, [], ◌∷◌, ◌++◌, length, Some, None, Bool, true, refl, sym, ap, ◌∙◌, subst, arith, length-append}
+use Rattle.std.proofs.Common.{◌≡◌, ℕ, ◌+◌, ◌≤◌, List, [], ◌∷◌, ◌++◌, length, Some, None, refl, ap, ◌∙◌, subst, arith, length-append}
 use Rattle.std.specs.Prelude.{slice_get, if◌then◌else◌}
-use Rattle.std.proofs.Math.Path.{fun_ext}
-use Rattle.isp_base.specs.Maps.{Lanes, on, over, put}
-use Rattle.isp_base.specs.Sets.{Mask, any}
+use Rattle.isp_base.specs.Maps.{Lanes, put}
+use Rattle.isp_base.specs.Sets.{Mask}
 use Rattle.isp_base.specs.Values.{number, wrap}
 use Rattle.isp_base.specs.declared.trap.TrapKind.TheVariants.{Divide}
 use Rattle.isp_base.specs.declared.types.Elem.{Elem}
@@ -15,29 +14,28 @@ use Rattle.isp_code.specs.Conf.{Conf, Go}
 use Rattle.isp_code.specs.Lines.{set_array, set_own}
 use Rattle.isp_code.specs.Lines as lines
 use Rattle.isp_code.specs.declared.instr.Instr.TheVariants as instr
-use Rattle.isp_typed.specs.Typed.{TItem, t_plain, t_with_value, t_with_size, type_of}
+use Rattle.isp_typed.specs.Typed.{TItem, t_plain, t_with_value, t_with_size}
 use Rattle.isp_typed.specs.declared.variable.ArrayVariable.{ArrayVariable}
 use Rattle.isp_meaning.specs.State.{State, tick}
-use Rattle.isp_meaning.specs.Payloads.{Payload, One, Each, spread}
+use Rattle.isp_meaning.specs.Payloads.{One}
 use Rattle.isp_meaning.specs.Outcomes.{Gives}
 use Rattle.isp_meaning.specs.Places.{written}
 use Rattle.isp_meaning.specs.Simple.{cleared, item, items}
 use Rattle.isp_lower.specs.Layout.{mask_register, array_register}
-use Rattle.isp_lower.specs.Setting.{Setting, IsSettled, gang_of, AreAt, At, Stands, held_at, Holds}
+use Rattle.isp_lower.specs.Setting.{Setting, IsSettled, gang_of, AreAt, Holds}
 use Rattle.isp_lower.specs.Runs.{Enters, Ok, DoneRuns}
 use Rattle.isp_lower.specs.Fits.{heads, ArrayFitsAt}
-use Rattle.isp_lower.specs.Code.{copy, constant, operand, operand_of, expr_places, expr_code}
+use Rattle.isp_lower.specs.Code.{constant}
 use Rattle.isp_lower.specs.Items.{zero_code, item_code, item_places, items_code, items_places, ZeroFits, ItemFits, ItemsFit}
 use Rattle.isp_lower.proofs.Base.{are_front, are_back, keeps_all, comes_none, next_at, at_to}
-use Rattle.isp_lower.proofs.Rates.{filled_on}
 use Rattle.isp_lower.proofs.Values.{wrap_bits}
 use Rattle.isp_lower.proofs.Found.{few}
 use Rattle.isp_lower.proofs.Lines.{set_at}
 use Rattle.isp_lower.proofs.Combine.{set_goes, write_runs}
-use Rattle.isp_lower.proofs.Nodes.{enters_part, operand_runs}
-use Rattle.isp_lower.proofs.Exprs.{means, expr_runs}
+use Rattle.isp_lower.proofs.Nodes.{enters_part}
+use Rattle.isp_lower.proofs.Variables.{variable_runs}
 use Rattle.isp_lower.proofs.Writes.{put_through, written_stands, step_done}
-use Rattle.isp_lower.proofs.Done.{spares_all, spares_kept, spares_on, done_after, done_on, bind_done, variable_spares, variable_done, splat_done}
+use Rattle.isp_lower.proofs.Done.{spares_all, spares_kept, done_after, done_on, variable_spares, splat_done}
 
 zero_is : (t : Elem) → wrap t (number t 0) ≡ 0
 zero_is Truth = wrap_bits Truth 0
@@ -95,16 +93,8 @@ module _ (w : Setting) (ready : IsSettled w) where
   item_runs : (x : TItem) (pc p k n q : ℕ) (a : Mask) (s : State) (c : Conf) → ItemFits w n x → AreAt w.routine.code pc (item_code w.layout x pc p k n) → AreAt w.code.places p (item_places w.layout x) → Enters w pc k n a s c q → DoneRuns w c (pc + length (item_code w.layout x pc p k n)) n q (item (gang_of w) w.frame w.calls x a s)
   item_runs (t_plain v t sp) pc p k n q a s c fit has places b = zero_runs t.rate t.elem v pc k n q a s c fit has b
   item_runs (t_with_value v t x sp) pc p k n q a s c fit has places b =
-      let fx : heads x ≤ 1 = few w x n fit.1 in
-      let cx = expr_code w.layout x pc p k n in
-      let ca = operand_of w.layout t.rate x k n cx in
-      let last = copy t.rate (w.layout.variable t.rate v) (operand w.layout t.rate x n) k ∷ [] in
-      let ha : AreAt w.routine.code pc ca = are_front w.routine.code pc ca last has in
-      let to : pc + length ca + 1 ≡ pc + length (ca ++ last) = omega (arith, length-append ca last) in
-      bind_done w ready c (pc + length ca) n 1 q (Holds t.rate a (operand w.layout t.rate x n)) (means w ready x a (tick s)) _ _ n
-      (operand_runs w ready c pc k n (1 + q) a (means w ready x a (tick s)) t.rate t.elem x cx fit.0 b.mask b.low ha
-      (expr_runs w ready x pc p k n (1 + (1 + q)) a (tick s) c fit.1 (are_front w.routine.code pc cx _ ha) places (enters_part w ready pc k n (heads x + (1 + (1 + q))) q a s c (omega arith) b)))
-      (λ m s2 ok. variable_done w ready t.rate v m a s2 c ok.conf ok.steps (pc + length ca) _ k (operand w.layout t.rate x n) n q ok.comes ok.at to (are_back w.routine.code pc ca last has).0 ok.stands (spares_kept w ready n c ok.conf ok.keeps) ok.masks (ok.masks k b.low ∙ b.mask) (omega (arith, ok.bound)) ok.holds)
+      let fx : heads x ≤ 1 = few w x n fit.2 in
+      variable_runs w ready t.rate t.elem v x pc p k n q a (tick s) c fit.0 fit.1 fit.2 has places (enters_part w ready pc k n (heads x + (2 + q)) q a s c (omega arith) b)
   item_runs (t_with_size y sp) pc p k n q a s c fit has places b = cleared_runs y.ty.rate y pc k n q a s c fit.is has.0 b
 
   pub items_run : (xs : List TItem) (pc p k n q : ℕ) (a : Mask) (s : State) (c : Conf) → ItemsFit w n xs → AreAt w.routine.code pc (items_code w.layout xs pc p k n) → AreAt w.code.places p (items_places w.layout xs) → Enters w pc k n a s c q → DoneRuns w c (pc + length (items_code w.layout xs pc p k n)) n q (items (gang_of w) w.frame w.calls xs a s)

@@ -13,9 +13,13 @@ pub mod Nodes
 pub mod Jumps
 pub mod Logic
 pub mod Choose
+pub mod Short
 pub mod Exprs
 pub mod Places
+pub mod Variables
 pub mod Assigns
 pub mod Updates
 pub mod Items
+pub mod Fitting
+pub mod Rows
 pub mod Counts

@@ -1,27 +1,21 @@
 -- A place: its index is taken, what it holds is read, and it is written.
-use Rattle.std.proofs.Common.{◌≡◌, ℕ, ◌+◌, ◌*◌, ◌<◌, ◌≤◌, [], ◌∷◌, length, Option, Some, None, true, refl, sym, ap, ◌∙◌, subst, arith}
-use Rattle.isp_base.specs.Sets.{Mask, any}
-use Rattle.isp_base.specs.declared.trap.TrapKind.TheVariants.{Index}
+use Rattle.std.proofs.Common.{ℕ, ◌+◌, ◌≤◌, length, refl, sym, ◌∙◌, arith}
+use Rattle.isp_base.specs.Sets.{Mask}
 use Rattle.isp_code.specs.Conf.{Conf}
-use Rattle.isp_typed.specs.Typed.{TPlace, t_variable, t_element, place_type, place_span, type_of}
+use Rattle.isp_typed.specs.Typed.{TPlace, t_variable, t_element}
 use Rattle.isp_meaning.specs.State.{State, tick}
-use Rattle.isp_meaning.specs.Payloads.{Payload}
-use Rattle.isp_meaning.specs.Outcomes.{Gives, bind, checked}
-use Rattle.isp_meaning.specs.Places.{Place, outside, held, kept}
+use Rattle.isp_meaning.specs.Places.{Place}
 use Rattle.isp_meaning.specs.Expressions.{place}
-use Rattle.isp_lower.specs.Setting.{Setting, IsSettled, gang_of, AreAt, At, Stands, Spares, Keeps, Holds}
-use Rattle.isp_lower.specs.Runs.{Comes, Enters, Runs, DoneRuns}
+use Rattle.isp_lower.specs.Setting.{Setting, IsSettled, gang_of, AreAt, Keeps}
+use Rattle.isp_lower.specs.Runs.{Enters, Runs}
 use Rattle.isp_lower.specs.Fits.{heads, PlaceFits}
-use Rattle.isp_lower.specs.Code.{index, expr_code, index_code, index_places, read_places}
-use Rattle.isp_lower.specs.Simple.{beyond, held_in, fetch_code, write_code}
-use Rattle.isp_lower.proofs.Base.{are_front, keeps_all, comes_none, at_to}
+use Rattle.isp_lower.specs.Code.{index, expr_code, index_code, index_places}
+use Rattle.isp_lower.specs.Simple.{beyond}
+use Rattle.isp_lower.proofs.Base.{keeps_all, comes_none, at_to}
 use Rattle.isp_lower.proofs.Combine.{held_kept}
 use Rattle.isp_lower.proofs.Found.{few, index_low}
-use Rattle.isp_lower.proofs.Targets.{InSlot}
 use Rattle.isp_lower.proofs.Nodes.{enters_part}
-use Rattle.isp_lower.proofs.Exprs.{PlaceHolds, variable_held, index_runs, element_runs, expr_runs}
-use Rattle.isp_lower.proofs.Writes.{element_done}
-use Rattle.isp_lower.proofs.Done.{variable_done}
+use Rattle.isp_lower.proofs.Exprs.{PlaceHolds, index_runs, expr_runs}
 
 module _ (w : Setting) (ready : IsSettled w) where
   -- the index goes first
@@ -47,31 +41,3 @@ module _ (w : Setting) (ready : IsSettled w) where
   pub place_kept : (z : TPlace) (n : ℕ) (a : Mask) (at : Place) (c c' : Conf) → PlaceFits w z n → Keeps w (beyond z n) c c' → PlaceHolds w ready z n a at c → PlaceHolds w ready z n a at c'
   place_kept (t_variable v t sv) n a at c c' fit k h = h
   place_kept (t_element y i t sv) n a at c c' fit k h = (h.0, h.1, h.2 ∙ sym (held_kept w ready t.rate (n + 1) c c' a (index w.layout t.rate i n) k (index_low w ready t.rate i n fit.2 fit.4)))
-
-  -- what a place holds
-  pub fetch_runs : (z : TPlace) (at : Place) (pc k n i q p : ℕ) (a : Mask) (s : State) (c : Conf) → PlaceFits w z n → At w c pc → AreAt w.routine.code pc (fetch_code w.layout z p k n i) → AreAt w.code.places p (read_places w.layout z) → Stands w s c → c.masks k ≡ a → any (gang_of w) a ≡ true → ((r : ℕ) → a r ≡ true → r < gang_of w) → 1 + q ≤ 32 * s.work → PlaceHolds w ready z n a at c → Runs w c (pc + length (fetch_code w.layout z p k n i)) i q (Holds (place_type z).rate a (held_in w.layout z i)) (checked (outside (gang_of w) w.frame at a) Index (place_span z) s (held (gang_of w) w.frame at a s))
-  fetch_runs (t_variable v t sv) at pc k n i q p a s c fit here has places stands em some inside le h =
-      subst (λ g. Runs w c (pc + 0) i q (Holds t.rate a (w.layout.variable t.rate v)) (checked (outside (gang_of w) w.frame g a) Index sv s (held (gang_of w) w.frame g a s))) (sym h)
-      (record {
-        conf = c;
-        steps = 0;
-        comes = comes_none w c;
-        at = at_to w c pc _ here (omega arith);
-        stands = stands;
-        keeps = keeps_all w i c;
-        masks = λ r lt. refl;
-        holds = variable_held w ready t.rate v a s c stands;
-        bound = omega (arith, le);
-      })
-  fetch_runs (t_element y i t sv) at pc k n j q p a s c fit here has places stands em some inside le h =
-      subst (λ g. Runs w c (pc + 1) j q (Holds t.rate a (w.layout.spare t.rate t.elem j)) (checked (outside (gang_of w) w.frame g a) Index sv s (held (gang_of w) w.frame g a s))) (sym h.1)
-      (element_runs w ready InSlot y i t sv c c 0 pc (pc + 1) k j n p q a s h.0 fit.0 fit.1 (comes_none w c) here refl has.0 places.0 stands (keeps_all w j c) (λ r lt. refl) em some inside (omega (arith, le)) h.2)
-
-  -- a place gets a value
-  pub write_done : (z : TPlace) (at : Place) (m : Payload) (a : Mask) (s : State) (c c2 : Conf) (st pc pc' k x n q p : ℕ) → PlaceFits w z n → any (gang_of w) a ≡ true → ((r : ℕ) → a r ≡ true → r < gang_of w) → Comes w c st c2 → At w c2 pc → pc + 1 ≡ pc' → AreAt w.routine.code pc (write_code w.layout z x p k n) → AreAt w.code.places p (read_places w.layout z) → Stands w s c2 → Spares w n c c2 → ((r : ℕ) → r < n → c2.masks r ≡ c.masks r) → c2.masks k ≡ a → st + 1 + q ≤ 32 * s.work → PlaceHolds w ready z n a at c2 → Holds (place_type z).rate a x m c2 → DoneRuns w c pc' n q (bind (checked (outside (gang_of w) w.frame at a) Index (place_span z) s m) (λ b s3. Gives tt (kept (gang_of w) w.frame at a b s3)))
-  write_done (t_variable v t sv) at m a s c c2 st pc pc' k x n q p fit some inside comes here to has places stands spares masks em le h hx =
-      subst (λ g. DoneRuns w c pc' n q (bind (checked (outside (gang_of w) w.frame g a) Index sv s m) (λ b s3. Gives tt (kept (gang_of w) w.frame g a b s3)))) (sym h)
-      (variable_done w ready t.rate v m a s c c2 st pc pc' k x n q comes here to has.0 stands spares masks em le hx)
-  write_done (t_element y i t sv) at m a s c c2 st pc pc' k x n q p fit some inside comes here to has places stands spares masks em le h hx =
-      subst (λ g. DoneRuns w c pc' n q (bind (checked (outside (gang_of w) w.frame g a) Index sv s m) (λ b s3. Gives tt (kept (gang_of w) w.frame g a b s3)))) (sym h.1)
-      (element_done w ready t.rate y.ty.rate y (type_of i).elem h.0 m a s c c2 st pc pc' k (index w.layout t.rate i n) x n q p sv fit.0.is fit.1 fit.0.few some inside comes here to has.0 places.0 stands spares masks em le h.2 hx)

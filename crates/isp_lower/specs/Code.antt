@@ -1,6 +1,6 @@
 -- The code of expressions and of assignments, as a function of their trees. Code begins at instruction pc; the first
 -- place in the source that it names has number p; it works for the lanes of mask register k; slots from n on are free.
-use Rattle.std.specs.Prelude.{ℕ, ◌+◌, ◌∷◌, [], ◌++◌, List, length, Option, Some, None, Bool, true, false, if◌then◌else◌, nat_eq}
+use Rattle.std.specs.Prelude.{ℕ, ◌+◌, ◌∷◌, [], ◌++◌, List, length, Option, Some, None, Bool, true, false, ◌&&◌, if◌then◌else◌, nat_eq}
 use Rattle.isp_base.specs.Values.{number, divides}
 use Rattle.isp_base.specs.declared.operators.BinOp.{BinOp}
 use Rattle.isp_base.specs.declared.operators.BinOp.TheVariants as op
@@ -11,6 +11,7 @@ use Rattle.isp_base.specs.declared.types.Elem.TheVariants.{Bool as Truth, I8, U8
 use Rattle.isp_base.specs.declared.types.Rate.{Rate}
 use Rattle.isp_base.specs.declared.types.Rate.TheVariants.{Uniform, Varying}
 use Rattle.isp_base.specs.declared.types.Span.{Span}
+use Rattle.isp_base.specs.declared.types.Ty.{Ty}
 use Rattle.isp_base.specs.declared.types.Value.{Value}
 use Rattle.isp_code.specs.declared.instr.Division.TheVariants as division
 use Rattle.isp_code.specs.declared.instr.Instr.{Instr}
@@ -83,8 +84,9 @@ constant d t bits = instr.Scalar (register Uniform d) (scalar.Constant (number t
 abbrev pub splat : ℕ → ℕ → ℕ → Instr
 splat d x k = instr.Vector (register Varying d) (vector.Splat (register Uniform x) (mask_register k))
 
-abbrev pub select : ℕ → ℕ → ℕ → ℕ → ℕ → Instr
-select d c x y k = instr.Vector (register Varying d) (vector.Select (register Varying c) (register Varying x) (register Varying y) (mask_register k))
+abbrev pub select : Rate → ℕ → ℕ → ℕ → ℕ → ℕ → Instr
+select Uniform d c x y k = instr.Scalar (register Uniform d) (scalar.Select (register Uniform c) (register Uniform x) (register Uniform y))
+select Varying d c x y k = instr.Vector (register Varying d) (vector.Select (register Varying c) (register Varying x) (register Varying y) (mask_register k))
 
 -- the lanes of mask k where a vector is true, into mask m; those of mask k that are not in mask x
 abbrev pub where_so : ℕ → ℕ → ℕ → Instr
@@ -121,6 +123,12 @@ move false r d x k = copy r d x k ∷ []
 
 abbrev pub move_code : Rate → ℕ → ℕ → ℕ → List Instr
 move_code r d x k = move (nat_eq d x) r d x k
+
+abbrev pub same_rate : Rate → Rate → Bool
+same_rate Uniform Uniform = true
+same_rate Uniform Varying = false
+same_rate Varying Uniform = false
+same_rate Varying Varying = true
 
 abbrev pub is_whole : Elem → Bool
 is_whole Truth = false
@@ -175,7 +183,7 @@ logic_code Varying g d x y pc k n a b =
 -- a choice by a test in register c: by a jump where it is uniform, else both sides under two masks from the one test
 abbrev pub choose_rest : ℕ → ℕ → ℕ → ℕ → ℕ → ℕ → ℕ → (ℕ → ℕ → ℕ → List Instr) → (ℕ → ℕ → ℕ → List Instr) → List Instr
 choose_rest d c x y pc k n a b =
-    where_so n c k ∷ two (pc + 1) (guard (jump_off n) (pc + 1) (λ pc1. a pc1 n (n + 1))) (λ pc1. the_others (n + 1) k n ∷ (guard (jump_off (n + 1)) (pc1 + 1) (λ pc2. b pc2 (n + 1) (n + 2)) ++ select d c x y k ∷ []))
+    where_so n c k ∷ two (pc + 1) (guard (jump_off n) (pc + 1) (λ pc1. a pc1 n (n + 1))) (λ pc1. the_others (n + 1) k n ∷ (guard (jump_off (n + 1)) (pc1 + 1) (λ pc2. b pc2 (n + 1) (n + 2)) ++ select Varying d c x y k ∷ []))
 
 module _ (l : Layout) where
   -- ---- a value of one rate where another is wanted
@@ -290,8 +298,37 @@ module _ (l : Layout) where
   choose_code Varying r t x y c pc k n test a b =
       two pc test (λ pc1. choose_rest (l.spare r t n) c (operand r x (n + 1)) (operand r y (n + 2)) pc1 k n a b)
 
-  -- The last instruction writes register d, but for variables, which stay in place, for `&&`, `||` and `?:`, and for
-  -- what a cast leaves as it is of these.
+  -- a variable, in brackets or not: it has no code where its own rate is wanted
+  abbrev pub stays : TExpr → Bool
+  stays (t_constant v sp) = false
+  stays (t_program_index sp) = false
+  stays (t_place (t_variable v t sp)) = true
+  stays (t_place (t_element b i t sp)) = false
+  stays (t_convert e x) = false
+  stays (t_cast x t sp) = same_rate t.rate (type_of x).rate && stays x
+  stays (t_unary o x t sp) = false
+  stays (t_binary o x y t sp) = false
+  stays (t_compare c x y r sp) = false
+  stays (t_logic g x y r sp) = false
+  stays (t_choose c x y t sp) = false
+  stays (t_call c t) = false
+  stays (t_library f e xs t sp) = false
+  stays (t_packed_store b x sp) = false
+  stays (t_packed_load b v sp) = false
+
+  abbrev pub stays_at : Rate → TExpr → Bool
+  stays_at r x = same_rate r (type_of x).rate && stays x
+
+  -- a choice between two variables by a test of their rate is one instruction
+  abbrev pub is_short : Rate → TExpr → TExpr → TExpr → Bool
+  is_short r c x y = same_rate r (type_of c).rate && (stays_at r x && stays_at r y)
+
+  abbrev pub choose_to : Bool → ℕ → TExpr → TExpr → TExpr → Ty → ℕ → ℕ → ℕ → List Instr → (ℕ → ℕ → ℕ → List Instr) → (ℕ → ℕ → ℕ → List Instr) → List Instr
+  choose_to true d c x y t pc k n test a b = test ++ select t.rate d (found c n) (found x n) (found y n) k ∷ []
+  choose_to false d c x y t pc k n test a b = choose_code (type_of c).rate t.rate t.elem x y (found c n) pc k n test a b
+
+  -- The last instruction writes register d, but for variables, which stay in place, for `&&`, `||` and a `?:` that is
+  -- not short, and for what a cast leaves as it is of these.
   abbrev mutual
     pub expr_to : ℕ → TExpr → ℕ → ℕ → ℕ → ℕ → List Instr
     expr_to d (t_constant v sp) pc p k n = constant d v.elem v.bits ∷ []
@@ -310,7 +347,7 @@ module _ (l : Layout) where
     expr_to d (t_logic g x y r sp) pc p k n =
         logic_code r g (l.spare r Truth n) (operand r x n) (operand r y (n + 1)) pc k n (operand_of r x k n (expr_to (found x n) x pc p k n)) (λ pc1 m. operand_of r y m (n + 1) (expr_to (found y (n + 1)) y pc1 (p + length (expr_places x)) m (n + 1)))
     expr_to d (t_choose c x y t sp) pc p k n =
-        choose_code (type_of c).rate t.rate t.elem x y (found c n) pc k n (expr_to (found c n) c pc p k n) (λ pc1 m i. operand_of t.rate x m i (expr_to (found x i) x pc1 (p + length (expr_places c)) m i)) (λ pc1 m i. operand_of t.rate y m i (expr_to (found y i) y pc1 (p + length (expr_places c) + length (expr_places x)) m i))
+        choose_to (is_short t.rate c x y) d c x y t pc k n (expr_to (found c n) c pc p k n) (λ pc1 m i. operand_of t.rate x m i (expr_to (found x i) x pc1 (p + length (expr_places c)) m i)) (λ pc1 m i. operand_of t.rate y m i (expr_to (found y i) y pc1 (p + length (expr_places c) + length (expr_places x)) m i))
     expr_to d (t_call c t) pc p k n = []
     expr_to d (t_library f e xs t sp) pc p k n = []
     expr_to d (t_packed_store b x sp) pc p k n = []
@@ -342,7 +379,7 @@ module _ (l : Layout) where
   writes_last (t_binary o x y t sp) = true
   writes_last (t_compare c x y r sp) = true
   writes_last (t_logic g x y r sp) = false
-  writes_last (t_choose c x y t sp) = false
+  writes_last (t_choose c x y t sp) = is_short t.rate c x y
   writes_last (t_call c t) = false
   writes_last (t_library f e xs t sp) = false
   writes_last (t_packed_store b x sp) = false

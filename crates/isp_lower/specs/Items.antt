@@ -9,7 +9,7 @@ use Rattle.isp_code.specs.declared.instr.Instr.TheVariants as instr
 use Rattle.isp_typed.specs.Typed.{TItem, t_plain, t_with_value, t_with_size}
 use Rattle.isp_lower.specs.Layout.{Layout, mask_register, array_register}
 use Rattle.isp_lower.specs.Setting.{Setting}
-use Rattle.isp_lower.specs.Code.{copy, constant, splat, two, operand, operand_of, expr_places, expr_code}
+use Rattle.isp_lower.specs.Code.{constant, splat, two, expr_places, variable_code}
 use Rattle.isp_lower.specs.Fits.{IsTyped, SpareFits, OperandFits, ExprFits, ArrayFits}
 
 module _ (l : Layout) where
@@ -20,7 +20,7 @@ module _ (l : Layout) where
 
   abbrev pub item_code : TItem → ℕ → ℕ → ℕ → ℕ → List Instr
   item_code (t_plain v t sp) pc p k n = zero_code t.rate t.elem v k n
-  item_code (t_with_value v t x sp) pc p k n = operand_of l t.rate x k n (expr_code l x pc p k n) ++ copy t.rate (l.variable t.rate v) (operand l t.rate x n) k ∷ []
+  item_code (t_with_value v t x sp) pc p k n = variable_code l t.rate v x pc p k n
   item_code (t_with_size b sp) pc p k n = instr.Clear (array_register (l.array b.number)) (mask_register k) ∷ []
 
   abbrev pub item_places : TItem → List Span
@@ -43,7 +43,7 @@ module _ (w : Setting) where
 
   abbrev pub ItemFits : ℕ → TItem → Type 0
   ItemFits n (t_plain v t sp) = ZeroFits t.rate t.elem v n
-  ItemFits n (t_with_value v t x sp) = OperandFits w t.rate t.elem x n × ExprFits w x n
+  ItemFits n (t_with_value v t x sp) = IsTyped w t.rate (w.layout.variable t.rate v) t.elem × OperandFits w t.rate t.elem x n × ExprFits w x n
   ItemFits n (t_with_size b sp) = ArrayFits w b
 
   abbrev pub ItemsFit : ℕ → List TItem → Type 0

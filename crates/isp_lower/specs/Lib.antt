@@ -5,4 +5,7 @@ pub mod Runs
 pub mod Fits
 pub mod Simple
 pub mod Items
+pub mod Trees
+pub mod Tables
+pub mod Rows
 pub mod Laws

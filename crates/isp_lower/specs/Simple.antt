@@ -1,17 +1,16 @@
 -- The code of what stands before a semicolon, as a function of its tree, and what is demanded of these.
-use Rattle.std.specs.Prelude.{◌≡◌, Bool, true, false, ℕ, ◌+◌, ◌∷◌, [], ◌++◌, List, length}
+use Rattle.std.specs.Prelude.{Bool, true, false, ℕ, ◌+◌, ◌∷◌, [], ◌++◌, List, length}
 use Rattle.isp_base.specs.declared.operators.BinOp.{BinOp}
 use Rattle.isp_base.specs.declared.types.Elem.{Elem}
 use Rattle.isp_base.specs.declared.types.Rate.{Rate}
 use Rattle.isp_base.specs.declared.types.Span.{Span}
-use Rattle.isp_base.specs.declared.types.Ty.{Ty}
 use Rattle.isp_code.specs.declared.instr.Instr.{Instr}
 use Rattle.isp_base.specs.Ranks.{same_elem}
-use Rattle.isp_base.specs.declared.types.Rate.TheVariants.{Uniform, Varying}
+use Rattle.isp_base.specs.declared.types.Rate.TheVariants.{Uniform}
 use Rattle.isp_typed.specs.Typed.{TExpr, TPlace, t_variable, t_element, place_type, TSimple, t_value, t_run, t_assign, t_update, t_step}
 use Rattle.isp_lower.specs.Layout.{Layout}
 use Rattle.isp_lower.specs.Setting.{Setting}
-use Rattle.isp_lower.specs.Code.{copy, convert, operate, operate_places, read, write, constant, lifted, lift_code, two, operand, operand_of, index, expr_places, index_places, read_places, expr_code, index_code}
+use Rattle.isp_lower.specs.Code.{convert, operate, operate_places, read, write, constant, lifted, lift_code, two, operand, operand_of, index, expr_places, index_places, read_places, expr_code, index_code, variable_code}
 use Rattle.isp_base.specs.declared.types.Elem.TheVariants.{Bool as Truth}
 use Rattle.isp_lower.specs.Fits.{SpareFits, LiftFits, OperandFits, ExprFits, PlaceFits}
 
@@ -21,47 +20,29 @@ beyond (t_variable v t sp) n = n
 beyond (t_element b i t sp) n = n + 1
 
 module _ (l : Layout) where
-  -- a place gets what register x of its rate has
-  abbrev pub write_code : TPlace → ℕ → ℕ → ℕ → ℕ → List Instr
-  write_code (t_variable v t sp) x p k n = copy t.rate (l.variable t.rate v) x k ∷ []
-  write_code (t_element b i t sp) x p k n = write t.rate (l.array b.number) (index l t.rate i n) x k p ∷ []
-
   -- the target's index, the right side, the access
   abbrev pub assign_code : TPlace → TExpr → ℕ → ℕ → ℕ → ℕ → List Instr
-  assign_code z x pc p k n =
-      two pc (index_code l z pc p k n) (λ pc1. operand_of l (place_type z).rate x k (beyond z n) (expr_code l x pc1 (p + length (index_places l z)) k (beyond z n)) ++ write_code z (operand l (place_type z).rate x (beyond z n)) (p + length (index_places l z) + length (expr_places l x)) k n)
+  assign_code (t_variable v t sp) x pc p k n = variable_code l t.rate v x pc p k n
+  assign_code (t_element b i t sp) x pc p k n =
+      two pc (index_code l (t_element b i t sp) pc p k n) (λ pc1. operand_of l t.rate x k (n + 1) (expr_code l x pc1 (p + length (expr_places l i)) k (n + 1)) ++ write t.rate (l.array b.number) (index l t.rate i n) (operand l t.rate x (n + 1)) k (p + length (expr_places l i) + length (expr_places l x)) ∷ [])
 
   abbrev pub assign_places : TPlace → TExpr → List Span
   assign_places z x = index_places l z ++ (expr_places l x ++ read_places l z)
 
-  -- a value as one of type t in slot i; where it is one it stays where it is
-  abbrev pub fitted : Bool → Rate → Elem → ℕ → ℕ → ℕ
-  fitted true r t x i = x
-  fitted false r t x i = l.spare r t i
+  -- Register d gets an operator of type t on what register h of type u has and on register y, as a value of type u; a
+  -- conversion stands on either side where the types are not said to be the same.
+  abbrev pub update_to : Bool → BinOp → Elem → Rate → ℕ → ℕ → ℕ → ℕ → ℕ → ℕ → List Instr
+  update_to true o t r d h y k i p = operate r o d h y k p ∷ []
+  update_to false o t r d h y k i p =
+      convert r (l.spare r t i) h k ∷ (operate r o (l.spare r t i) (l.spare r t i) y k p ∷ convert r d (l.spare r t i) k ∷ [])
 
-  abbrev pub fit_code : Bool → Rate → Elem → ℕ → ℕ → ℕ → List Instr
-  fit_code true r t x k i = []
-  fit_code false r t x k i = convert r (l.spare r t i) x k ∷ []
-
-  -- an operator of type t on what register h of type u has and on register y; the result has type u
-  abbrev pub update_code : Bool → BinOp → Elem → Elem → Rate → ℕ → ℕ → ℕ → ℕ → ℕ → List Instr
-  update_code same o t u r h y k i p =
-      fit_code same r t h k i ++ (operate r o (l.spare r t i) (fitted same r t h i) y k p ∷ fit_code same r u (l.spare r t i) k i)
-
-  -- what a place holds: a variable in place, an element in slot i, read there by its index at slot n
-  abbrev pub held_in : TPlace → ℕ → ℕ
-  held_in (t_variable v t sp) i = l.variable t.rate v
-  held_in (t_element b j t sp) i = l.spare t.rate t.elem i
-
-  abbrev pub fetch_code : TPlace → ℕ → ℕ → ℕ → ℕ → List Instr
-  fetch_code (t_variable v t sp) p k n i = []
-  fetch_code (t_element b j t sp) p k n i = read t.rate (l.spare t.rate t.elem i) (l.array b.number) (index l t.rate j n) k p ∷ []
-
-  -- An operator of type t on what a place holds and on register y: the place is read, converted where it has another
-  -- type, and written. Both accesses of an element name one place of the source.
+  -- An operator of type t on what a place holds and on register y: a variable is read and written in place, an element is
+  -- read into slot i by its index at slot n. Both accesses of an element name one place of the source.
   abbrev pub change_code : BinOp → Elem → TPlace → ℕ → ℕ → ℕ → ℕ → ℕ → List Instr
-  change_code o t z y p k n i =
-      fetch_code z p k n i ++ (update_code (same_elem (place_type z).elem t) o t (place_type z).elem (place_type z).rate (held_in z i) y k i (p + length (read_places l z)) ++ write_code z (fitted (same_elem (place_type z).elem t) (place_type z).rate (place_type z).elem (l.spare (place_type z).rate t i) i) p k n)
+  change_code o t (t_variable v u sp) y p k n i =
+      update_to (same_elem u.elem t) o t u.rate (l.variable u.rate v) (l.variable u.rate v) y k i p
+  change_code o t (t_element b j u sp) y p k n i =
+      read u.rate (l.spare u.rate u.elem i) (l.array b.number) (index l u.rate j n) k p ∷ (update_to (same_elem u.elem t) o t u.rate (l.spare u.rate u.elem i) (l.spare u.rate u.elem i) y k i (p + 1) ++ write u.rate (l.array b.number) (index l u.rate j n) (l.spare u.rate u.elem i) k p ∷ [])
 
   -- `op=`: the target's index, the right side, then the place is read
   abbrev pub change_by_code : BinOp → Elem → TPlace → TExpr → ℕ → ℕ → ℕ → ℕ → List Instr
@@ -104,12 +85,21 @@ IsNumber Truth = ⊥
 IsNumber t = Unit {0}
 
 module _ (w : Setting) where
-  -- a place that an operator of type t reads and writes, with slot i free: no conversion where it has that type
+  -- slot i has a register of the operator's type where that is another, and one of an element's
+  abbrev pub WorkFits : Bool → Rate → Elem → ℕ → Type 0
+  WorkFits true r t i = Unit {0}
+  WorkFits false r t i = SpareFits w r t i
+
+  abbrev pub ReadFits : TPlace → ℕ → Type 0
+  ReadFits (t_variable v u sp) i = Unit {0}
+  ReadFits (t_element b j u sp) i = SpareFits w u.rate u.elem i
+
+  -- a place with its index at slot n, that an operator of type t reads and writes
   pub record ChangeFits (t : Elem) (z : TPlace) (n i : ℕ) : Type 0 where
     pub number : IsNumber t
     pub target : PlaceFits w z n
-    pub working : SpareFits w (place_type z).rate t i
-    pub back : SpareFits w (place_type z).rate (place_type z).elem i
+    pub working : WorkFits (same_elem (place_type z).elem t) (place_type z).rate t i
+    pub back : ReadFits z i
 
   abbrev pub SimpleFits : TSimple → ℕ → Type 0
   SimpleFits (t_value x) n = ExprFits w x n
