@@ -8,5 +8,6 @@ mod Endings
 mod Begins
 mod Agree
 mod Programs
+mod Parts
 mod Sound
 mod Counts

@@ -17,7 +17,10 @@ use Rattle.isp_masks.specs.Agreement.{AreShort, RunsAgree, Agrees}
 use Rattle.isp_masks.specs.Compiled.{IsCompiled, IsProgramCode}
 use Rattle.isp_masks.specs.Statements.{stays, stmt_code, stmt_places, block_places, returned, function_code}
 use Rattle.isp_masks.specs.Sound.{AreSound, BlockSound}
-use Rattle.isp_masks.specs.Fits.{StmtFits}
+use Rattle.isp_masks.specs.Fits.{StmtFits, BlockFits}
+use Rattle.isp_masks.specs.Parts.{BlockTree, BlockTable, IsPlainBlock}
+use Rattle.isp_typed.specs.Fine.{FineBlock}
+use Rattle.isp_typed.specs.declared.variable.Variable.{Variable}
 use Rattle.isp_masks.specs.StmtRuns.{AreThree, aside, StmtRuns}
 
 -- From registers that stand for a state and a mask that stands for a set with members, the code of a statement leaves
@@ -40,3 +43,9 @@ ProgramRuns = (program : Program) (code : Listing) → IsProgramCode program cod
 abbrev pub FunctionSound : Type 0
 FunctionSound =
     (code : Listing) (h : Routine) (l : Layout) (answer : Option Ty) (b : TBlock) (p : ℕ) → h.code ≡ function_code l answer b p → BlockSound code h l answer b 3 → 3 ≤ h.masks → p + length (block_places l b) ≤ length code.places → IsGiven h h.returns (returned l answer) → AreSound code h h.code
+
+-- What is demanded of a body is what is asked of its tree, and what is asked of the table of registers; and the tree of a
+-- body of an accepted program is as asked, but for what that leaves open.
+pub record BodiesFit : Type 0 where
+  pub parts : (w : Setting) (b : TBlock) (n : ℕ) → BlockTree w.frame.answer b → BlockTable w b n → BlockFits w b n
+  pub tree : (fs : List TFunction) (vars : List Variable) (answer : Option Ty) (b : TBlock) → FineBlock fs vars answer b → IsPlainBlock answer b → BlockTree answer b

@@ -3,5 +3,6 @@ pub mod Fits
 pub mod StmtRuns
 pub mod Agreement
 pub mod Compiled
+pub mod Parts
 pub mod Sound
 pub mod Laws

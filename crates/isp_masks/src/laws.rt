@@ -1,5 +1,5 @@
 //! What holds of all code. No code is run here: each function carries a law in its contract.
-ghost use Rattle.isp_masks.specs.Laws.{EntryRuns, FunctionSound, ProgramRuns, StatementRuns};
+ghost use Rattle.isp_masks.specs.Laws.{BodiesFit, EntryRuns, FunctionSound, ProgramRuns, StatementRuns};
 
 /// The code of a statement does it for the instances of a mask that has members: afterwards the mask
 /// has those that went on, and two others have grown by those that continued and that returned. It
@@ -27,4 +27,11 @@ pub fn programs_run()
 /// jumps go to instructions of the function, if this holds of its expressions and assignments.
 pub fn functions_sound()
     ensures { FunctionSound }
+{}
+
+/// What the laws ask of a body and its registers falls in two: what is asked of the tree alone, and
+/// that each register has its type. The bodies of every accepted program are as the first asks, where
+/// they have the statements that are covered, and their parts are as isp_lower asks.
+pub fn bodies_fit()
+    ensures { BodiesFit }
 {}
