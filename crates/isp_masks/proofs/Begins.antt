@@ -51,11 +51,11 @@ handed_none (p ∷ ps) (x ∷ xs) b zero e n = absurd (cc)
 handed_none (p ∷ ps) (AValue y ∷ xs) b (suc v) e n = handed_none ps xs b v (both_so (is_for p (AValue y)) (has_signature ps xs) e).1 n
 handed_none (p ∷ ps) (AnArray y ∷ xs) b (suc v) e n = handed_none ps xs (suc b) v (both_so (is_for p (AnArray y)) (has_signature ps xs) e).1 n
 
-abbrev from_some : {A : Type 0} → Option A → A → A
+abbrev pub from_some : {A : Type 0} → Option A → A → A
 from_some (Some x) d = x
 from_some None d = d
 
-some_same : {A : Type 0} (x y : A) → Some x ≡ Some y → x ≡ y
+pub some_same : {A : Type 0} (x y : A) → Some x ≡ Some y → x ≡ y
 some_same x y e = ap (λ o. from_some o x) e
 
 handed_array : (ps : List Parameter) (xs : List Argument) (b v : ℕ) (p : Parameter) → has_signature ps xs ≡ true → slice_get ps v ≡ Some p → p.is_array ≡ true → (z : ℕ) × (slice_get (handed b xs) v ≡ Some (Store z))

@@ -6,6 +6,7 @@ mod Sequences
 mod Stmts
 mod Endings
 mod Begins
+mod Firsts
 mod Agree
 mod Programs
 mod Parts

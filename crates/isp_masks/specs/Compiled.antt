@@ -15,11 +15,12 @@ use Rattle.isp_code.specs.Registers.{elem_of}
 use Rattle.isp_typed.specs.Typed.{Program, TFunction}
 use Rattle.isp_typed.specs.declared.variable.Holds.{Holds}
 use Rattle.isp_typed.specs.declared.variable.Holds.TheVariants.{Value as AValue, Given, Local}
-use Rattle.isp_typed.specs.declared.variable.Variable.{Variable}
+use Rattle.isp_typed.specs.declared.variable.Variable.{Variable as Declared}
 use Rattle.isp_meaning.specs.Calls.{frame_of, begun, calls_at}
 use Rattle.isp_meaning.specs.Runs.{handed, first_frame, first_state}
 use Rattle.isp_meaning.specs.State.{State}
 use Rattle.isp_lower.specs.Layout.{Layout, IsApart, register}
+use Rattle.isp_lower.specs.Rows.{Row, Variable}
 use Rattle.isp_lower.specs.Setting.{Setting, AreAt}
 use Rattle.isp_masks.specs.Agreement.{AreShort}
 use Rattle.isp_masks.specs.Fits.{BlockFits}
@@ -62,13 +63,26 @@ HoldsOne (AValue t) = t.rate ≡ Uniform
 HoldsOne (Given t) = ⊥
 HoldsOne (Local t n) = ⊥
 
+-- each parameter that is a value is a variable with one value for the gang
+abbrev pub PassedUniform : TFunction → Type 0
+PassedUniform h = (v : ℕ) (p : Parameter) → slice_get h.parameters v ≡ Some p → p.is_array ≡ false → (x : Declared) × (slice_get h.variables v ≡ Some x) × HoldsOne x.holds
+
 -- Values are passed in the first scalars, in the order of the parameters; every other scalar comes behind them.
 pub record PassedFirst (h : TFunction) (l : Layout) : Type 0 where
   pub value : (v : ℕ) (p : Parameter) → slice_get h.parameters v ≡ Some p → p.is_array ≡ false → l.variable Uniform v ≡ value_count (take v h.parameters)
   pub array : (v : ℕ) (p : Parameter) → slice_get h.parameters v ≡ Some p → p.is_array ≡ true → value_count h.parameters ≤ l.variable Uniform v
   pub other : (v : ℕ) → slice_get h.parameters v ≡ None → value_count h.parameters ≤ l.variable Uniform v
   pub result : value_count h.parameters ≤ l.result Uniform
-  pub uniform : (v : ℕ) (p : Parameter) → slice_get h.parameters v ≡ Some p → p.is_array ≡ false → (x : Variable) × (slice_get h.variables v ≡ Some x) × HoldsOne x.holds
+  pub uniform : PassedUniform h
+
+-- the rows of the values among parameters, whose numbers begin at v
+abbrev pub row_then : Bool → ℕ → Elem → List Row → List Row
+row_then true v t rows = rows
+row_then false v t rows = record { name = Variable v; elem = t } ∷ rows
+
+abbrev pub parameter_rows : ℕ → List Parameter → List Row
+parameter_rows v [] = []
+parameter_rows v (p ∷ ps) = row_then p.is_array v p.elem (parameter_rows (suc v) ps)
 
 -- Routine f is the code of function f, by this layout; the places that it names begin at number p. Whatever the arguments
 -- are, the tree and the table of registers fit.

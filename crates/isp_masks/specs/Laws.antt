@@ -1,5 +1,5 @@
 -- What holds of the code of every statement that fits.
-use Rattle.std.specs.Prelude.{◌≡◌, ◌≤◌, ℕ, ◌+◌, List, length, Option, true}
+use Rattle.std.specs.Prelude.{◌≡◌, ◌≤◌, ℕ, ◌+◌, List, ◌++◌, length, Option, true}
 use Rattle.isp_base.specs.Binding.{has_signature}
 use Rattle.isp_base.specs.declared.signature.Argument.{Argument}
 use Rattle.isp_base.specs.Sets.{Mask}
@@ -14,7 +14,8 @@ use Rattle.isp_lower.specs.Setting.{Setting, IsSettled, gang_of, AreAt}
 use Rattle.isp_lower.specs.Layout.{Layout}
 use Rattle.isp_lower.specs.Runs.{Enters}
 use Rattle.isp_masks.specs.Agreement.{AreShort, RunsAgree, Agrees}
-use Rattle.isp_masks.specs.Compiled.{IsCompiled, IsProgramCode}
+use Rattle.isp_masks.specs.Compiled.{IsCompiled, IsProgramCode, PassedUniform, PassedFirst, parameter_rows}
+use Rattle.isp_lower.specs.Rows.{Row, Rows, layout_of}
 use Rattle.isp_masks.specs.Statements.{stays, stmt_code, stmt_places, block_places, returned, function_code}
 use Rattle.isp_masks.specs.Sound.{AreSound, BlockSound}
 use Rattle.isp_masks.specs.Fits.{StmtFits, BlockFits}
@@ -49,3 +50,8 @@ FunctionSound =
 pub record BodiesFit : Type 0 where
   pub parts : (w : Setting) (b : TBlock) (n : ℕ) → BlockTree w.frame.answer b → BlockTable w b n → BlockFits w b n
   pub tree : (fs : List TFunction) (vars : List Variable) (answer : Option Ty) (b : TBlock) → FineBlock fs vars answer b → IsPlainBlock answer b → BlockTree answer b
+
+-- A layout from rows passes values first, if the rows of the parameters come first.
+abbrev pub ParametersFirst : Type 0
+ParametersFirst =
+    (h : TFunction) (rows : Rows) (more : List Row) → rows.scalars ≡ parameter_rows 0 h.parameters ++ more → PassedUniform h → PassedFirst h (layout_of rows)

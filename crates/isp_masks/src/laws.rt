@@ -1,5 +1,5 @@
 //! What holds of all code. No code is run here: each function carries a law in its contract.
-ghost use Rattle.isp_masks.specs.Laws.{BodiesFit, EntryRuns, FunctionSound, ProgramRuns, StatementRuns};
+ghost use Rattle.isp_masks.specs.Laws.{BodiesFit, EntryRuns, FunctionSound, ParametersFirst, ProgramRuns, StatementRuns};
 
 /// The code of a statement does it for the instances of a mask that has members: afterwards the mask
 /// has those that went on, and two others have grown by those that continued and that returned. It
@@ -34,4 +34,10 @@ pub fn functions_sound()
 /// they have the statements that are covered, and their parts are as isp_lower asks.
 pub fn bodies_fit()
     ensures { BodiesFit }
+{}
+
+/// A layout from rows in which the parameters that are values come first passes them where a run
+/// begins with them.
+pub fn parameters_first()
+    ensures { ParametersFirst }
 {}
