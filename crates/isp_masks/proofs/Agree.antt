@@ -43,6 +43,7 @@ use Rattle.isp_masks.specs.Statements.{block_code, returned}
 use Rattle.isp_masks.specs.StmtRuns.{StmtRuns}
 use Rattle.isp_masks.proofs.Begins.{begins}
 use Rattle.isp_masks.proofs.Endings.{longer, one_end, grows, rows_same}
+use Rattle.isp_masks.proofs.Parts.{block_fits}
 use Rattle.isp_masks.proofs.Stmts.{block_runs}
 
 all_some : (g : Gang) → any (gang_width g) (everyone (gang_width g)) ≡ true
@@ -126,7 +127,7 @@ module _ (program : Program) (code : Listing) (f : ℕ) (h : TFunction) (g : Rou
       let n02 : ◌≢◌ {A = ℕ} 0 2 = omega arith in
       let n12 : ◌≢◌ {A = ℕ} 1 2 = omega arith in
       subst (λ z. StmtRuns (world n) n c (0 + length body) 0 1 2 3 (1 + 0) (block (gang_width z) (frame_of h (handed 0 xs) (first_frame xs)) (calls_at program n 255) n h.body (everyone (gang_width z)) (begin z))) is.gang
-      (block_runs (world n) (settled n) h.body 0 p 0 1 2 3 0 (everyone (gang_width code.gang)) (begin code.gang) c (is.fits n xs sig short) (are_front g.code 0 body (last ∷ []) is.code_is) is.places_are (record { low_k = omega arith; low_co = omega arith; low_rr = omega arith; k_co = n01; k_rr = n02; co_rr = n12 })
+      (block_runs (world n) (settled n) h.body 0 p 0 1 2 3 0 (everyone (gang_width code.gang)) (begin code.gang) c (block_fits (world n) h.body 3 is.tree (is.table n xs sig short)) (are_front g.code 0 body (last ∷ []) is.code_is) is.places_are (record { low_k = omega arith; low_co = omega arith; low_rr = omega arith; k_co = n01; k_rr = n02; co_rr = n12 })
       (record {
         at = record { home_is = refl; waiting_is = refl; pc_is = refl };
         mask = put_same (λ k. nobody) 0 (everyone (gang_width code.gang));

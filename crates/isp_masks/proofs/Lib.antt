@@ -4,11 +4,11 @@ mod Choices
 mod Leaves
 mod Sequences
 mod Stmts
+mod Parts
 mod Endings
 mod Begins
 mod Firsts
 mod Agree
 mod Programs
-mod Parts
 mod Sound
 mod Counts

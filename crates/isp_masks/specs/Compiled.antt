@@ -23,7 +23,7 @@ use Rattle.isp_lower.specs.Layout.{Layout, IsApart, register}
 use Rattle.isp_lower.specs.Rows.{Row, Variable}
 use Rattle.isp_lower.specs.Setting.{Setting, AreAt}
 use Rattle.isp_masks.specs.Agreement.{AreShort}
-use Rattle.isp_masks.specs.Fits.{BlockFits}
+use Rattle.isp_masks.specs.Parts.{BlockTree, BlockTable}
 use Rattle.isp_masks.specs.Statements.{block_places, function_code}
 
 -- the state in which the entry's body begins, and the setting: nothing waits, and 255 more calls may run
@@ -84,8 +84,8 @@ abbrev pub parameter_rows : ℕ → List Parameter → List Row
 parameter_rows v [] = []
 parameter_rows v (p ∷ ps) = row_then p.is_array v p.elem (parameter_rows (suc v) ps)
 
--- Routine f is the code of function f, by this layout; the places that it names begin at number p. Whatever the arguments
--- are, the tree and the table of registers fit.
+-- Routine f is the code of function f, by this layout; the places that it names begin at number p. The tree is as code
+-- asks, and so is the table of registers, whatever the arguments are: of these only arrays ask, for their sizes.
 pub record IsCompiled (program : Program) (code : Listing) (f : ℕ) (h : TFunction) (g : Routine) (l : Layout) (p : ℕ) : Type 0 where
   pub gang : code.gang ≡ program.gang
   pub source : slice_get program.functions f ≡ Some h
@@ -95,7 +95,8 @@ pub record IsCompiled (program : Program) (code : Listing) (f : ℕ) (h : TFunct
   pub result : ResultFits g l h.answer h.gives
   pub code_is : AreAt g.code 0 (function_code l h.answer h.body p)
   pub places_are : AreAt code.places p (block_places l h.body)
-  pub fits : (turns : ℕ) (xs : List Argument) → has_signature h.parameters xs ≡ true → AreShort xs → BlockFits (entry_setting program code f h g l turns xs) h.body 3
+  pub tree : BlockTree h.answer h.body
+  pub table : (turns : ℕ) (xs : List Argument) → has_signature h.parameters xs ≡ true → AreShort xs → BlockTable (entry_setting program code f h g l turns xs) h.body 3
 
 -- The code has the functions of a program by number, and those that are exported with their names and signatures.
 pub record IsEntryCode (program : Program) (code : Listing) (f : ℕ) (h : TFunction) (g : Routine) : Type 0 where

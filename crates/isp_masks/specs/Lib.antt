@@ -1,8 +1,8 @@
 pub mod Statements
 pub mod Fits
+pub mod Parts
 pub mod StmtRuns
 pub mod Agreement
 pub mod Compiled
-pub mod Parts
 pub mod Sound
 pub mod Laws

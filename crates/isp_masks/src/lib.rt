@@ -3,4 +3,6 @@
 
 mod laws;
 
-pub use laws::{bodies_fit, entries_run, functions_sound, parameters_first, programs_run, statements_run};
+pub use laws::{
+    bodies_fit, entries_run, functions_sound, parameters_first, programs_run, statements_run,
+};
