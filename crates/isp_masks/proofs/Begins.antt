@@ -24,7 +24,7 @@ use Rattle.isp_lower.specs.Setting.{Stands}
 use Rattle.isp_masks.proofs.Unions.{both_so}
 use Rattle.isp_masks.specs.Compiled.{entry_state, entry_setting, value_then, value_count, HoldsOne, PassedFirst}
 
-not_so : (a : Bool) → not a ≡ true → a ≡ false
+pub not_so : (a : Bool) → not a ≡ true → a ≡ false
 not_so true e = absurd (cc)
 not_so false e = refl
 

@@ -8,6 +8,7 @@ mod Parts
 mod Endings
 mod Begins
 mod Firsts
+mod Arrays
 mod Agree
 mod Programs
 mod Sound

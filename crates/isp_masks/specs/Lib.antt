@@ -4,5 +4,6 @@ pub mod Parts
 pub mod StmtRuns
 pub mod Agreement
 pub mod Compiled
+pub mod Arrays
 pub mod Sound
 pub mod Laws
