@@ -43,7 +43,7 @@ count_is (p ∷ ps) (AnArray r ∷ xs) e =
     let kind : p.is_array ≡ true = (both_so p.is_array _ h.0).0 in
     count_is ps xs h.1 ∙ ap (λ b. value_then b (value_count ps)) (sym kind)
 
-handed_none : (ps : List Parameter) (xs : List Argument) (b v : ℕ) → has_signature ps xs ≡ true → slice_get ps v ≡ None → slice_get (handed b xs) v ≡ None
+pub handed_none : (ps : List Parameter) (xs : List Argument) (b v : ℕ) → has_signature ps xs ≡ true → slice_get ps v ≡ None → slice_get (handed b xs) v ≡ None
 handed_none [] [] b v e n = refl
 handed_none [] (x ∷ xs) b v e n = absurd (cc)
 handed_none (p ∷ ps) [] b v e n = absurd (cc)

@@ -14,13 +14,16 @@ use Rattle.isp_lower.specs.Setting.{Setting, IsSettled, gang_of, AreAt}
 use Rattle.isp_lower.specs.Layout.{Layout}
 use Rattle.isp_lower.specs.Runs.{Enters}
 use Rattle.isp_masks.specs.Agreement.{AreShort, RunsAgree, Agrees}
-use Rattle.isp_masks.specs.Compiled.{IsCompiled, IsProgramCode, PassedUniform, PassedFirst, parameter_rows}
+use Rattle.isp_masks.specs.Compiled.{entry_setting, IsCompiled, IsProgramCode, PassedUniform, PassedFirst, parameter_rows}
 use Rattle.isp_lower.specs.Rows.{Row, Rows, layout_of}
 use Rattle.isp_masks.specs.Statements.{stays, stmt_code, stmt_places, block_places, returned, function_code}
 use Rattle.isp_masks.specs.Sound.{AreSound, BlockSound}
 use Rattle.isp_masks.specs.Fits.{StmtFits, BlockFits}
 use Rattle.isp_masks.specs.Parts.{BlockTree, BlockTable, IsPlainBlock}
-use Rattle.isp_typed.specs.Fine.{FineBlock}
+use Rattle.isp_lower.specs.Fits.{ArrayFits}
+use Rattle.isp_masks.specs.Arrays.{ArraysStand}
+use Rattle.isp_typed.specs.Fine.{HoldsArray, FineBlock}
+use Rattle.isp_typed.specs.declared.variable.ArrayVariable.{ArrayVariable}
 use Rattle.isp_typed.specs.declared.variable.Variable.{Variable}
 use Rattle.isp_masks.specs.StmtRuns.{AreThree, aside, StmtRuns}
 
@@ -55,3 +58,8 @@ pub record BodiesFit : Type 0 where
 abbrev pub ParametersFirst : Type 0
 ParametersFirst =
     (h : TFunction) (rows : Rows) (more : List Row) → rows.scalars ≡ parameter_rows 0 h.parameters ++ more → PassedUniform h → PassedFirst h (layout_of rows)
+
+-- The registers of an entry's arrays are what its variables are, whatever the arguments are.
+abbrev pub EntryArraysFit : Type 0
+EntryArraysFit =
+    (program : Program) (code : Listing) (f : ℕ) (h : TFunction) (g : Routine) (l : Layout) (turns : ℕ) (xs : List Argument) → ArraysStand h g l → has_signature h.parameters xs ≡ true → AreShort xs → (b : ArrayVariable) → HoldsArray h.variables b → ArrayFits (entry_setting program code f h g l turns xs) b

@@ -1,5 +1,5 @@
 //! What holds of all code. No code is run here: each function carries a law in its contract.
-ghost use Rattle.isp_masks.specs.Laws.{BodiesFit, EntryRuns, FunctionSound, ParametersFirst, ProgramRuns, StatementRuns};
+ghost use Rattle.isp_masks.specs.Laws.{BodiesFit, EntryArraysFit, EntryRuns, FunctionSound, ParametersFirst, ProgramRuns, StatementRuns};
 
 /// The code of a statement does it for the instances of a mask that has members: afterwards the mask
 /// has those that went on, and two others have grown by those that continued and that returned. It
@@ -40,4 +40,10 @@ pub fn bodies_fit()
 /// begins with them.
 pub fn parameters_first()
     ensures { ParametersFirst }
+{}
+
+/// The array registers of an entry are what its variables are, whatever the arguments are, where
+/// arrays that are passed come first and the local ones are declared in their order.
+pub fn arrays_fit()
+    ensures { EntryArraysFit }
 {}
