@@ -1,25 +1,25 @@
 mod Splits
-mod Base
-mod Rates
+pub mod Base
+pub mod Rates
 mod Lines
-mod Combine
+pub mod Combine
 mod Values
-mod Found
+pub mod Found
 mod Access
 mod Writes
-mod Done
+pub mod Done
 mod Targets
-mod Nodes
-mod Jumps
-mod Logic
-mod Choose
+pub mod Nodes
+pub mod Jumps
+pub mod Logic
+pub mod Choose
 mod Short
-mod Exprs
+pub mod Exprs
 mod Places
 mod Variables
 mod Assigns
-mod Updates
-mod Items
+pub mod Updates
+pub mod Items
 mod Fitting
 mod Rows
 mod Counts

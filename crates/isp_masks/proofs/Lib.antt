@@ -1,0 +1,2 @@
+mod Combine
+mod Stmts
