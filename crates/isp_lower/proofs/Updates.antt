@@ -39,7 +39,7 @@ use Rattle.isp_lower.proofs.Exprs.{means, PlaceHolds, variable_held, element_run
 use Rattle.isp_lower.proofs.Done.{spares_kept, spares_less, done_after, bind_done, bind_checked}
 use Rattle.isp_lower.proofs.Places.{place_runs, place_kept}
 use Rattle.isp_lower.proofs.Assigns.{beyond_more, assign_runs, value_runs}
-use Rattle.isp_lower.proofs.Nodes.{enters_part, enters_later, operand_runs}
+use Rattle.isp_lower.proofs.Nodes.{enters_less, enters_later, operand_runs}
 use Rattle.isp_lower.specs.Layout.{register}
 use Rattle.isp_lower.specs.Setting.{Setting, IsSettled, gang_of, AreAt, At, Stands, Low, at_rate, held_at, Holds}
 use Rattle.isp_lower.specs.Runs.{Runs, Ok}
@@ -214,7 +214,7 @@ module _ (w : Setting) (ready : IsSettled w) where
 
   -- ---- `op=`
 
-  pub change_by_runs : (o : BinOp) (t : Elem) (z : TPlace) (x : TExpr) (sp : Span) (pc p k n q : ℕ) (a : Mask) (s : State) (c : Conf) → SimpleFits w (t_update o t z x sp) n → AreAt w.routine.code pc (change_by_code w.layout o t z x pc p k n) → AreAt w.code.places p (simple_places w.layout (t_update o t z x sp)) → Enters w pc k n a s c q → DoneRuns w c (pc + length (change_by_code w.layout o t z x pc p k n)) n q (simple (gang_of w) w.frame w.calls (t_update o t z x sp) a s)
+  pub change_by_runs : (o : BinOp) (t : Elem) (z : TPlace) (x : TExpr) (sp : Span) (pc p k n q : ℕ) (a : Mask) (s : State) (c : Conf) → SimpleFits w (t_update o t z x sp) n → AreAt w.routine.code pc (change_by_code w.layout o t z x pc p k n) → AreAt w.code.places p (simple_places w.layout (t_update o t z x sp)) → Enters w pc k n a (tick s) c (3 + q) → DoneRuns w c (pc + length (change_by_code w.layout o t z x pc p k n)) n q (simple (gang_of w) w.frame w.calls (t_update o t z x sp) a s)
   change_by_runs o t z x sp pc p k n q a s c fit has places b =
       let r = (place_type z).rate in
       let m = beyond z n in
@@ -235,13 +235,13 @@ module _ (w : Setting) (ready : IsSettled w) where
       let ha : AreAt w.routine.code pc1 ca = are_front w.routine.code pc1 ca last h1 in
       let pl = are_back w.code.places p (index_places w.layout z) _ places in
       bind_done w ready c pc1 n 9 q (PlaceHolds w ready z n a) (place (gang_of w) w.frame w.calls z a (tick s)) _ end n
-      (place_runs w ready z pc p k n 9 q a (tick s) c (omega arith) fit.0.target (are_front w.routine.code pc ci _ has) (are_front w.code.places p (index_places w.layout z) _ places) (enters_part w ready pc k n q q a s c (omega arith) b))
+      (place_runs w ready z pc p k n 9 q a (tick s) c (omega arith) fit.0.target (are_front w.routine.code pc ci _ has) (are_front w.code.places p (index_places w.layout z) _ places) (enters_less w ready pc k n q (3 + q) a (tick s) c (omega arith) b))
       (λ at s1 ok.
       let c1 = ok.conf in
       done_after w ready c c1 ok.steps end n q _ ok.comes (spares_kept w ready n c c1 ok.keeps) ok.masks
       (bind_done w ready c1 (pc1 + length ca) m 6 (ok.steps + q) (Holds r a y) (means w ready x a s1) _ end n
       (operand_runs w ready c1 pc1 k m (6 + (ok.steps + q)) a (means w ready x a s1) r t x cx fit.1 (ok.masks k lk ∙ b.mask) (omega (arith, more.0)) ha
-      (expr_runs w ready x pc1 p1 k m (1 + (6 + (ok.steps + q))) a s1 c1 fit.2 (are_front w.routine.code pc1 cx _ ha) (are_front w.code.places p1 (expr_places w.layout x) _ pl) (enters_later w ready pc pc1 k n m (heads x + (1 + (6 + (ok.steps + q)))) q (9 + q) a s s1 c more.0 b ok (omega arith))))
+      (expr_runs w ready x pc1 p1 k m (1 + (6 + (ok.steps + q))) a s1 c1 fit.2 (are_front w.routine.code pc1 cx _ ha) (are_front w.code.places p1 (expr_places w.layout x) _ pl) (enters_later w ready pc pc1 k n m (heads x + (1 + (6 + (ok.steps + q)))) (3 + q) (9 + q) a (tick s) s1 c more.0 b ok (omega arith))))
       (λ v s2 ok2.
       done_after w ready c1 ok2.conf ok2.steps end n (ok.steps + q) _ ok2.comes (spares_less w ready n m c1 ok2.conf more.0 (spares_kept w ready m c1 ok2.conf ok2.keeps)) (λ g l. ok2.masks g (omega (arith, more.0)))
       (subst (λ g. DoneRuns w ok2.conf g n (ok2.steps + (ok.steps + q)) (update (gang_of w) w.frame w.calls o t z at v sp a s2)) to
@@ -260,7 +260,7 @@ module _ (w : Setting) (ready : IsSettled w) where
       (write_runs w ready c c 0 pc (pc + 1) m (1 + q) a s (constant d t 1) Uniform t None Divide no_place (One 1) (One 1) (comes_none w c) at refl has.0 st (keeps_all w m c) (λ g l. refl) (omega (arith, us)) refl refl
       (ap (λ u. Go (set_at Uniform c d (One (wrap u (number t 1))))) ty ∙ ap (λ z. Go (set_at Uniform c d (One z))) (one_is t num))))
 
-  pub step_runs : (o : BinOp) (t : Elem) (z : TPlace) (sp : Span) (pc p k n q : ℕ) (a : Mask) (s : State) (c : Conf) → SimpleFits w (t_step o t z sp) n → AreAt w.routine.code pc (step_code w.layout o t z pc p k n) → AreAt w.code.places p (simple_places w.layout (t_step o t z sp)) → Enters w pc k n a s c q → DoneRuns w c (pc + length (step_code w.layout o t z pc p k n)) n q (simple (gang_of w) w.frame w.calls (t_step o t z sp) a s)
+  pub step_runs : (o : BinOp) (t : Elem) (z : TPlace) (sp : Span) (pc p k n q : ℕ) (a : Mask) (s : State) (c : Conf) → SimpleFits w (t_step o t z sp) n → AreAt w.routine.code pc (step_code w.layout o t z pc p k n) → AreAt w.code.places p (simple_places w.layout (t_step o t z sp)) → Enters w pc k n a (tick s) c (3 + q) → DoneRuns w c (pc + length (step_code w.layout o t z pc p k n)) n q (simple (gang_of w) w.frame w.calls (t_step o t z sp) a s)
   step_runs o t z sp pc p k n q a s c fit has places b =
       let r = (place_type z).rate in
       let m = beyond z n in
@@ -277,7 +277,7 @@ module _ (w : Setting) (ready : IsSettled w) where
       let h1 : AreAt w.routine.code pc1 (ca ++ last) = are_back w.routine.code pc ci (ca ++ last) has in
       let ha : AreAt w.routine.code pc1 ca = are_front w.routine.code pc1 ca last h1 in
       bind_done w ready c pc1 n 9 q (PlaceHolds w ready z n a) (place (gang_of w) w.frame w.calls z a (tick s)) _ end n
-      (place_runs w ready z pc p k n 9 q a (tick s) c (omega arith) fit.0.target (are_front w.routine.code pc ci _ has) (are_front w.code.places p (index_places w.layout z) _ places) (enters_part w ready pc k n q q a s c (omega arith) b))
+      (place_runs w ready z pc p k n 9 q a (tick s) c (omega arith) fit.0.target (are_front w.routine.code pc ci _ has) (are_front w.code.places p (index_places w.layout z) _ places) (enters_less w ready pc k n q (3 + q) a (tick s) c (omega arith) b))
       (λ at s1 ok.
       let c1 = ok.conf in
       let e1 : c1.masks k ≡ a = ok.masks k lk ∙ b.mask in
@@ -287,7 +287,7 @@ module _ (w : Setting) (ready : IsSettled w) where
       (subst (λ g. DoneRuns w ok2.conf g n (ok2.steps + (ok.steps + q)) (update (gang_of w) w.frame w.calls o t z at (One 1) sp a s1)) to
       (change_runs o t z sp at (One 1) (pc1 + length ca) p1 k n (m + 1) y (ok2.steps + (ok.steps + q)) a s1 ok2.conf fit.0 (omega arith) (omega (arith, more.0)) lk (lifted_low w ready r Uniform t (w.layout.spare Uniform t m) m tt (low_spare w.layout Uniform t (m + 1) m ready.apart (omega arith))) ok2.at (ok2.masks k (omega (arith, more.0)) ∙ e1) b.some b.inside ok2.stands (omega (arith, ok2.bound)) (place_kept w ready z n a at c1 ok2.conf fit.0.target ok2.keeps ok.holds) ok2.holds (are_back w.routine.code pc1 ca last h1) (are_back w.code.places p (index_places w.layout z) _ places)))))
 
-  pub simple_runs : (x : TSimple) (pc p k n q : ℕ) (a : Mask) (s : State) (c : Conf) → SimpleFits w x n → AreAt w.routine.code pc (simple_code w.layout x pc p k n) → AreAt w.code.places p (simple_places w.layout x) → Enters w pc k n a s c q → DoneRuns w c (pc + length (simple_code w.layout x pc p k n)) n q (simple (gang_of w) w.frame w.calls x a s)
+  pub simple_runs : (x : TSimple) (pc p k n q : ℕ) (a : Mask) (s : State) (c : Conf) → SimpleFits w x n → AreAt w.routine.code pc (simple_code w.layout x pc p k n) → AreAt w.code.places p (simple_places w.layout x) → Enters w pc k n a (tick s) c (3 + q) → DoneRuns w c (pc + length (simple_code w.layout x pc p k n)) n q (simple (gang_of w) w.frame w.calls x a s)
   simple_runs (t_value x) pc p k n q a s c fit has places b = value_runs w ready x pc p k n q a s c fit has places b
   simple_runs (t_run e) pc p k n q a s c fit has places b = absurd fit
   simple_runs (t_assign z x sp) pc p k n q a s c fit has places b = assign_runs w ready z x sp pc p k n q a s c fit has places b

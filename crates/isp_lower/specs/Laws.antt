@@ -3,7 +3,7 @@ use Rattle.std.specs.Prelude.{◌≡◌, ℕ, List, ◌+◌, ◌++◌, length, m
 use Rattle.isp_base.specs.Sets.{Mask}
 use Rattle.isp_code.specs.Conf.{Conf}
 use Rattle.isp_typed.specs.Typed.{TExpr, TSimple, TItem, TFunction, type_of}
-use Rattle.isp_meaning.specs.State.{State}
+use Rattle.isp_meaning.specs.State.{State, tick}
 use Rattle.isp_meaning.specs.Expressions.{value}
 use Rattle.isp_meaning.specs.Simple.{simple, items}
 use Rattle.isp_typed.specs.Fine.{FineExpr, FineSimple, FineItem}
@@ -30,10 +30,10 @@ ExprRuns =
 
 -- The code of what stands before a semicolon leaves registers that stand for the state after it: a place is written for
 -- the members of the set alone, after its index and the right side, and the highest instance wins in one element; an
--- operator reads its place after the right side.
+-- operator reads its place after the right side. The statement's own unit of work pays for three steps.
 abbrev pub SimpleRuns : Type 0
 SimpleRuns =
-    (w : Setting) → IsSettled w → (x : TSimple) (pc p k n q : ℕ) (a : Mask) (s : State) (c : Conf) → SimpleFits w x n → AreAt w.routine.code pc (simple_code w.layout x pc p k n) → AreAt w.code.places p (simple_places w.layout x) → Enters w pc k n a s c q → DoneRuns w c (pc + length (simple_code w.layout x pc p k n)) n q (simple (gang_of w) w.frame w.calls x a s)
+    (w : Setting) → IsSettled w → (x : TSimple) (pc p k n q : ℕ) (a : Mask) (s : State) (c : Conf) → SimpleFits w x n → AreAt w.routine.code pc (simple_code w.layout x pc p k n) → AreAt w.code.places p (simple_places w.layout x) → Enters w pc k n a (tick s) c (3 + q) → DoneRuns w c (pc + length (simple_code w.layout x pc p k n)) n q (simple (gang_of w) w.frame w.calls x a s)
 
 -- The same of declared variables, which begin with their value or with 0, and of arrays, which begin with zeros.
 abbrev pub ItemsRun : Type 0

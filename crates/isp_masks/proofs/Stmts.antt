@@ -48,7 +48,7 @@ module _ (w : Setting) (ready : IsSettled w) where
     stmt_runs (t_declare xs sp) pc p k co rr n q a s c fit has places three b =
         all_runs w ready c _ k co rr n (0 + q) a _ three b.mask b.inside (items_run w ready xs pc p k n (0 + q) a (tick s) c fit has places (enters_part w ready pc k n (0 + q) q a s c (omega arith) b))
     stmt_runs (t_simple x sp) pc p k co rr n q a s c fit has places three b =
-        all_runs w ready c _ k co rr n (0 + q) a _ three b.mask b.inside (simple_runs w ready x pc p k n (0 + q) a s c fit has places (record { at = b.at; mask = b.mask; some = b.some; inside = b.inside; stands = b.stands; used = omega (arith, b.used); low = b.low }))
+        all_runs w ready c _ k co rr n (0 + q) a _ three b.mask b.inside (simple_runs w ready x pc p k n (0 + q) a s c fit has places (enters_part w ready pc k n (3 + (0 + q)) q a s c (omega arith) b))
     stmt_runs (t_if f g e x sp) pc p k co rr n q a s c fit has places three b =
         let ce = expr_code w.layout e pc p k n in
         let pl = expr_places w.layout e in
