@@ -1,0 +1,123 @@
+-- Where values are found: registers of the right type that later code leaves as they are.
+use Rattle.std.proofs.Common.{◌≡◌, ℕ, ◌+◌, ◌≤◌, Some, Bool, true, false, refl, sym, ap, ◌∙◌, subst, arith}
+use Rattle.isp_base.specs.declared.types.Elem.{Elem}
+use Rattle.isp_base.specs.declared.types.Elem.TheVariants.{Bool as Truth, I8, U8, I16, U16, I32, U32, I64, U64}
+use Rattle.isp_base.specs.declared.types.Rate.{Rate}
+use Rattle.isp_base.specs.declared.types.Rate.TheVariants.{Uniform, Varying}
+use Rattle.isp_base.specs.declared.types.Span.{Span}
+use Rattle.isp_base.specs.declared.types.Value.{Value}
+use Rattle.isp_typed.specs.Typed.{TExpr, t_constant, t_program_index, t_place, t_convert, t_cast, t_unary, t_binary, t_compare, t_logic, t_choose, t_call, t_library, t_packed_store, t_packed_load, t_variable, t_element, type_of}
+use Rattle.isp_lower.specs.Setting.{Setting, IsSettled, Low}
+use Rattle.isp_lower.specs.Code.{lifted, found, operand, constant_of, is_whole, whole, index}
+use Rattle.isp_lower.specs.Fits.{Reaches, heads, IsTyped, LiftFits, OperandFits, ExprFits}
+use Rattle.isp_lower.proofs.Base.{low_spare, low_variable}
+
+-- a conversion converts no conversion
+pub few : (w : Setting) (x : TExpr) (n : ℕ) → ExprFits w x n → heads x ≤ 1
+few w (t_constant v sp) n f = omega arith
+few w (t_program_index sp) n f = omega arith
+few w (t_place p) n f = omega arith
+few w (t_convert e x) n f = omega (arith, f.0)
+few w (t_cast x t sp) n f = omega arith
+few w (t_unary o x t sp) n f = omega arith
+few w (t_binary o x y t sp) n f = omega arith
+few w (t_compare c x y r sp) n f = omega arith
+few w (t_logic g x y r sp) n f = omega arith
+few w (t_choose c x y t sp) n f = omega arith
+few w (t_call c t) n f = omega arith
+few w (t_library g e xs t sp) n f = omega arith
+few w (t_packed_store b x sp) n f = omega arith
+few w (t_packed_load b v sp) n f = omega arith
+
+pub constant_is_one : (x : TExpr) (v : Value) → constant_of x ≡ Some v → (sp : Span) × (x ≡ t_constant v sp)
+constant_is_one (t_constant u sp) v e = let h : u ≡ v = cc in (sp, ap (λ z. t_constant z sp) h)
+constant_is_one (t_program_index sp) v e = absurd (cc)
+constant_is_one (t_place p) v e = absurd (cc)
+constant_is_one (t_convert t x) v e = absurd (cc)
+constant_is_one (t_cast x t sp) v e = absurd (cc)
+constant_is_one (t_unary o x t sp) v e = absurd (cc)
+constant_is_one (t_binary o x y t sp) v e = absurd (cc)
+constant_is_one (t_compare c x y r sp) v e = absurd (cc)
+constant_is_one (t_logic g x y r sp) v e = absurd (cc)
+constant_is_one (t_choose c x y t sp) v e = absurd (cc)
+constant_is_one (t_call c t) v e = absurd (cc)
+constant_is_one (t_library g t xs u sp) v e = absurd (cc)
+constant_is_one (t_packed_store b x sp) v e = absurd (cc)
+constant_is_one (t_packed_load b u sp) v e = absurd (cc)
+
+pub whole_is : (t : Elem) → is_whole t ≡ true → t ≡ I64
+whole_is Truth e = absurd (cc)
+whole_is I8 e = absurd (cc)
+whole_is U8 e = absurd (cc)
+whole_is I16 e = absurd (cc)
+whole_is U16 e = absurd (cc)
+whole_is I32 e = absurd (cc)
+whole_is U32 e = absurd (cc)
+whole_is I64 e = refl
+whole_is U64 e = absurd (cc)
+
+module _ (w : Setting) where
+  pub lifted_typed : (r given : Rate) (t : Elem) (f n : ℕ) → Reaches given r → LiftFits w given r t n → IsTyped w given f t → IsTyped w r (lifted w.layout r given t f n) t
+  lifted_typed Uniform Uniform t f n re lf ty = ty
+  lifted_typed Uniform Varying t f n re lf ty = absurd re
+  lifted_typed Varying Uniform t f n re lf ty = lf
+  lifted_typed Varying Varying t f n re lf ty = ty
+
+  pub found_typed : (x : TExpr) (n : ℕ) → ExprFits w x n → IsTyped w (type_of x).rate (found w.layout x n) (type_of x).elem
+  found_typed (t_constant v sp) n f = f
+  found_typed (t_program_index sp) n f = f
+  found_typed (t_place (t_variable v t sp)) n f = f.0
+  found_typed (t_place (t_element b i t sp)) n f = f.1
+  found_typed (t_convert e x) n f = f.1
+  found_typed (t_cast x t sp) n f =
+      subst (λ u. IsTyped w t.rate (lifted w.layout t.rate (type_of x).rate u (found w.layout x n) n) t.elem) (sym f.0.elem) (lifted_typed t.rate (type_of x).rate t.elem (found w.layout x n) n f.0.reaches f.0.lift (found_typed x n f.1 ∙ f.0.elem))
+  found_typed (t_unary o x t sp) n f = f.1
+  found_typed (t_binary o x y t sp) n f = f.2
+  found_typed (t_compare c x y r sp) n f = f.2
+  found_typed (t_logic g x y r sp) n f = f.2
+  found_typed (t_choose c x y t sp) n f = f.2
+  found_typed (t_call c t) n f = absurd f
+  found_typed (t_library g e xs t sp) n f = absurd f
+  found_typed (t_packed_store b x sp) n f = absurd f
+  found_typed (t_packed_load b v sp) n f = absurd f
+
+  pub operand_typed : (r : Rate) (t : Elem) (x : TExpr) (n : ℕ) → OperandFits w r t x n → ExprFits w x n → IsTyped w r (operand w.layout r x n) t
+  operand_typed r t x n o f =
+      subst (λ u. IsTyped w r (lifted w.layout r (type_of x).rate u (found w.layout x n) n) t) (sym o.elem) (lifted_typed r (type_of x).rate t (found w.layout x n) n o.reaches o.lift (found_typed x n f ∙ o.elem))
+
+module _ (w : Setting) (ready : IsSettled w) where
+  spare_low : (r : Rate) (t : Elem) (n : ℕ) → Low w.layout r (n + 1) (w.layout.spare r t n)
+  spare_low r t n = low_spare w.layout r t (n + 1) n ready.apart (omega arith)
+
+  pub lifted_low : (r given : Rate) (t : Elem) (f n : ℕ) → Reaches given r → Low w.layout given (n + 1) f → Low w.layout r (n + 1) (lifted w.layout r given t f n)
+  lifted_low Uniform Uniform t f n re low = low
+  lifted_low Uniform Varying t f n re low = absurd re
+  lifted_low Varying Uniform t f n re low = spare_low Varying t n
+  lifted_low Varying Varying t f n re low = low
+
+  pub found_low : (x : TExpr) (n : ℕ) → ExprFits w x n → Low w.layout (type_of x).rate (n + 1) (found w.layout x n)
+  found_low (t_constant v sp) n f = spare_low Uniform v.elem n
+  found_low (t_program_index sp) n f = spare_low Varying I32 n
+  found_low (t_place (t_variable v t sp)) n f = low_variable w.layout t.rate (n + 1) v ready.apart
+  found_low (t_place (t_element b i t sp)) n f = spare_low t.rate t.elem n
+  found_low (t_convert e x) n f = spare_low (type_of x).rate e n
+  found_low (t_cast x t sp) n f = lifted_low t.rate (type_of x).rate (type_of x).elem (found w.layout x n) n f.0.reaches (found_low x n f.1)
+  found_low (t_unary o x t sp) n f = spare_low t.rate t.elem n
+  found_low (t_binary o x y t sp) n f = spare_low t.rate t.elem n
+  found_low (t_compare c x y r sp) n f = spare_low r Truth n
+  found_low (t_logic g x y r sp) n f = spare_low r Truth n
+  found_low (t_choose c x y t sp) n f = spare_low t.rate t.elem n
+  found_low (t_call c t) n f = absurd f
+  found_low (t_library g e xs t sp) n f = absurd f
+  found_low (t_packed_store b x sp) n f = absurd f
+  found_low (t_packed_load b v sp) n f = absurd f
+
+  pub operand_low : (r : Rate) (t : Elem) (x : TExpr) (n : ℕ) → OperandFits w r t x n → ExprFits w x n → Low w.layout r (n + 1) (operand w.layout r x n)
+  operand_low r t x n o f = lifted_low r (type_of x).rate (type_of x).elem (found w.layout x n) n o.reaches (found_low x n f)
+
+  whole_low : (z : Bool) (i : TExpr) (n : ℕ) → ExprFits w i n → Low w.layout (type_of i).rate (n + 1) (whole w.layout z i n)
+  whole_low true i n f = found_low i n f
+  whole_low false i n f = spare_low (type_of i).rate I64 n
+
+  pub index_low : (r : Rate) (i : TExpr) (n : ℕ) → Reaches (type_of i).rate r → ExprFits w i n → Low w.layout r (n + 1) (index w.layout r i n)
+  index_low r i n re f = lifted_low r (type_of i).rate I64 (whole w.layout (is_whole (type_of i).elem) i n) n re (whole_low (is_whole (type_of i).elem) i n f)

@@ -1,0 +1,51 @@
+-- The code of declared variables and arrays, as a function of their trees, and what is demanded of these.
+use Rattle.std.specs.Prelude.{ℕ, ◌+◌, ◌∷◌, [], ◌++◌, List, length}
+use Rattle.isp_base.specs.declared.types.Rate.{Rate}
+use Rattle.isp_base.specs.declared.types.Rate.TheVariants.{Uniform, Varying}
+use Rattle.isp_base.specs.declared.types.Elem.{Elem}
+use Rattle.isp_base.specs.declared.types.Span.{Span}
+use Rattle.isp_code.specs.declared.instr.Instr.{Instr}
+use Rattle.isp_code.specs.declared.instr.Instr.TheVariants as instr
+use Rattle.isp_typed.specs.Typed.{TItem, t_plain, t_with_value, t_with_size}
+use Rattle.isp_lower.specs.Layout.{Layout, mask_register, array_register}
+use Rattle.isp_lower.specs.Setting.{Setting}
+use Rattle.isp_lower.specs.Code.{constant, splat, two, expr_places, variable_code}
+use Rattle.isp_lower.specs.Fits.{IsTyped, SpareFits, OperandFits, ExprFits, ArrayFits}
+
+module _ (l : Layout) where
+  -- a variable begins with 0
+  abbrev pub zero_code : Rate → Elem → ℕ → ℕ → ℕ → List Instr
+  zero_code Uniform t v k n = constant (l.variable Uniform v) t 0 ∷ []
+  zero_code Varying t v k n = constant (l.spare Uniform t n) t 0 ∷ splat (l.variable Varying v) (l.spare Uniform t n) k ∷ []
+
+  abbrev pub item_code : TItem → ℕ → ℕ → ℕ → ℕ → List Instr
+  item_code (t_plain v t sp) pc p k n = zero_code t.rate t.elem v k n
+  item_code (t_with_value v t x sp) pc p k n = variable_code l t.rate v x pc p k n
+  item_code (t_with_size b sp) pc p k n = instr.Clear (array_register (l.array b.number)) (mask_register k) ∷ []
+
+  abbrev pub item_places : TItem → List Span
+  item_places (t_plain v t sp) = []
+  item_places (t_with_value v t x sp) = expr_places l x
+  item_places (t_with_size b sp) = []
+
+  abbrev pub items_code : List TItem → ℕ → ℕ → ℕ → ℕ → List Instr
+  items_code [] pc p k n = []
+  items_code (x ∷ xs) pc p k n = two pc (item_code x pc p k n) (λ pc1. items_code xs pc1 (p + length (item_places x)) k n)
+
+  abbrev pub items_places : List TItem → List Span
+  items_places [] = []
+  items_places (x ∷ xs) = item_places x ++ items_places xs
+
+module _ (w : Setting) where
+  abbrev pub ZeroFits : Rate → Elem → ℕ → ℕ → Type 0
+  ZeroFits Uniform t v n = IsTyped w Uniform (w.layout.variable Uniform v) t
+  ZeroFits Varying t v n = SpareFits w Uniform t n
+
+  abbrev pub ItemFits : ℕ → TItem → Type 0
+  ItemFits n (t_plain v t sp) = ZeroFits t.rate t.elem v n
+  ItemFits n (t_with_value v t x sp) = IsTyped w t.rate (w.layout.variable t.rate v) t.elem × OperandFits w t.rate t.elem x n × ExprFits w x n
+  ItemFits n (t_with_size b sp) = ArrayFits w b
+
+  abbrev pub ItemsFit : ℕ → List TItem → Type 0
+  ItemsFit n [] = Unit {0}
+  ItemsFit n (x ∷ xs) = ItemFits n x × ItemsFit n xs

@@ -1,0 +1,65 @@
+-- What holds of the code of every expression and assignment.
+use Rattle.std.specs.Prelude.{◌≡◌, ℕ, List, ◌+◌, ◌++◌, length, map, Some}
+use Rattle.isp_base.specs.Sets.{Mask}
+use Rattle.isp_code.specs.Conf.{Conf}
+use Rattle.isp_typed.specs.Typed.{TExpr, TSimple, TItem, TFunction, type_of}
+use Rattle.isp_meaning.specs.State.{State, tick}
+use Rattle.isp_meaning.specs.Expressions.{value}
+use Rattle.isp_meaning.specs.Simple.{simple, items}
+use Rattle.isp_typed.specs.Fine.{FineExpr, FineSimple, FineItem}
+use Rattle.isp_typed.specs.declared.variable.Variable.{Variable}
+use Rattle.isp_base.specs.declared.types.Elem.{Elem}
+use Rattle.isp_base.specs.declared.types.Rate.{Rate}
+use Rattle.isp_code.specs.Registers.{table_of, types_in}
+use Rattle.isp_lower.specs.Layout.{IsApart, class_at}
+use Rattle.isp_lower.specs.Rows.{Name, Row, Rows, rows_at, number_in, elem_in, layout_of}
+use Rattle.isp_lower.specs.Trees.{ExprTree, SimpleTree, ItemTree, ItemsTree, IsPlain, IsPlainSimple, IsPlainItem}
+use Rattle.isp_lower.specs.Tables.{ExprTable, SimpleTable, ItemsTable}
+use Rattle.isp_lower.specs.Items.{items_code, items_places, ItemsFit}
+use Rattle.isp_lower.specs.Simple.{simple_code, simple_places, SimpleFits}
+use Rattle.isp_lower.specs.Setting.{Setting, IsSettled, gang_of, AreAt, Holds}
+use Rattle.isp_lower.specs.Runs.{Enters, Runs, DoneRuns}
+use Rattle.isp_lower.specs.Fits.{heads, IsTyped, ExprFits}
+use Rattle.isp_lower.specs.Code.{found, expr_places, expr_code}
+
+-- From registers that stand for a state and a mask that stands for a set with members, the code of an expression gives
+-- its value and its state, traps as it traps, or goes on where it is cut.
+abbrev pub ExprRuns : Type 0
+ExprRuns =
+    (w : Setting) → IsSettled w → (x : TExpr) (pc p k n q : ℕ) (a : Mask) (s : State) (c : Conf) → ExprFits w x n → AreAt w.routine.code pc (expr_code w.layout x pc p k n) → AreAt w.code.places p (expr_places w.layout x) → Enters w pc k n a s c (heads x + q) → Runs w c (pc + length (expr_code w.layout x pc p k n)) n q (Holds (type_of x).rate a (found w.layout x n)) (value (gang_of w) w.frame w.calls x a s)
+
+-- The code of what stands before a semicolon leaves registers that stand for the state after it: a place is written for
+-- the members of the set alone, after its index and the right side, and the highest instance wins in one element; an
+-- operator reads its place after the right side. The statement's own unit of work pays for three steps.
+abbrev pub SimpleRuns : Type 0
+SimpleRuns =
+    (w : Setting) → IsSettled w → (x : TSimple) (pc p k n q : ℕ) (a : Mask) (s : State) (c : Conf) → SimpleFits w x n → AreAt w.routine.code pc (simple_code w.layout x pc p k n) → AreAt w.code.places p (simple_places w.layout x) → Enters w pc k n a (tick s) c (3 + q) → DoneRuns w c (pc + length (simple_code w.layout x pc p k n)) n q (simple (gang_of w) w.frame w.calls x a s)
+
+-- The same of declared variables, which begin with their value or with 0, and of arrays, which begin with zeros.
+abbrev pub ItemsRun : Type 0
+ItemsRun =
+    (w : Setting) → IsSettled w → (xs : List TItem) (pc p k n q : ℕ) (a : Mask) (s : State) (c : Conf) → ItemsFit w n xs → AreAt w.routine.code pc (items_code w.layout xs pc p k n) → AreAt w.code.places p (items_places w.layout xs) → Enters w pc k n a s c q → DoneRuns w c (pc + length (items_code w.layout xs pc p k n)) n q (items (gang_of w) w.frame w.calls xs a s)
+
+-- What code asks is what it asks of trees, and what it asks of the table of registers.
+abbrev pub PartsFit : Type 0
+PartsFit =
+    (w : Setting) (n : ℕ) → ((x : TExpr) → ExprTree x → ExprTable w x n → ExprFits w x n) × ((x : TSimple) → SimpleTree x → SimpleTable w x n → SimpleFits w x n) × ((xs : List TItem) → ItemsTree xs → ItemsTable w n xs → ItemsFit w n xs)
+
+-- The trees of a fine program are as code asks, but for what fineness leaves open.
+abbrev pub TreesFit : Type 0
+TreesFit =
+    (fs : List TFunction) (vars : List Variable) → ((x : TExpr) → FineExpr fs vars x → IsPlain x → ExprTree x) × ((x : TSimple) → FineSimple fs vars x → IsPlainSimple x → SimpleTree x) × ((x : TItem) → FineItem fs vars x → IsPlainItem x → ItemTree x)
+
+-- A layout from rows gives each name a register of its own.
+abbrev pub LayoutsAreApart : Type 0
+LayoutsAreApart = (rows : Rows) → IsApart (layout_of rows)
+
+-- A register has the type of its row, where a function has the types of the rows.
+abbrev pub RowsAreTyped : Type 0
+RowsAreTyped =
+    (w : Setting) (rows : Rows) (r : Rate) (x : Name) (t : Elem) → types_in (table_of w.routine) (class_at r) ≡ map (λ y. y.elem) (rows_at rows r) → elem_in (rows_at rows r) x ≡ Some t → IsTyped w r (number_in (rows_at rows r) x) t
+
+-- Rows that are added change nothing of a name that has a row.
+abbrev pub RowsStay : Type 0
+RowsStay =
+    (rows more : List Row) (x : Name) (t : Elem) → elem_in rows x ≡ Some t → (number_in (rows ++ more) x ≡ number_in rows x) × (elem_in (rows ++ more) x ≡ Some t)

@@ -1,0 +1,37 @@
+-- The registers of a function's frame. A uniform variable is a scalar register, a varying one a vector register, and so
+-- are what the function gives back and the spare registers of each type. Spare registers come in slots, which code uses
+-- as a stack; slot j has mask register j too. Each of these is another register.
+use Rattle.std.specs.Prelude.{◌≢◌, ℕ}
+use Rattle.isp_base.specs.declared.types.Elem.{Elem}
+use Rattle.isp_base.specs.declared.types.Rate.{Rate}
+use Rattle.isp_base.specs.declared.types.Rate.TheVariants.{Uniform, Varying}
+use Rattle.isp_code.specs.declared.register.Class.{Class}
+use Rattle.isp_code.specs.declared.register.Class.TheVariants as class
+use Rattle.isp_code.specs.declared.register.Register.{Register}
+
+pub record Layout : Type 0 where
+  pub variable : Rate → ℕ → ℕ
+  pub result : Rate → ℕ
+  pub spare : Rate → Elem → ℕ → ℕ
+  pub array : ℕ → ℕ
+
+pub record IsApart (l : Layout) : Type 0 where
+  pub variables : (r : Rate) (v w : ℕ) → v ≢ w → l.variable r v ≢ l.variable r w
+  pub spares : (r : Rate) (t u : Elem) (i j : ℕ) → i ≢ j → l.spare r t i ≢ l.spare r u j
+  pub variable_spare : (r : Rate) (t : Elem) (v j : ℕ) → l.variable r v ≢ l.spare r t j
+  pub result_variable : (r : Rate) (v : ℕ) → l.result r ≢ l.variable r v
+  pub result_spare : (r : Rate) (t : Elem) (j : ℕ) → l.result r ≢ l.spare r t j
+  pub arrays : (v w : ℕ) → v ≢ w → l.array v ≢ l.array w
+
+abbrev pub class_at : Rate → Class
+class_at Uniform = class.Scalar
+class_at Varying = class.Vector
+
+abbrev pub register : Rate → ℕ → Register
+register r x = record { class = class_at r; number = x }
+
+abbrev pub mask_register : ℕ → Register
+mask_register k = record { class = class.Mask; number = k }
+
+abbrev pub array_register : ℕ → Register
+array_register a = record { class = class.Array; number = a }

@@ -1,0 +1,11 @@
+pub mod Layout
+pub mod Code
+pub mod Setting
+pub mod Runs
+pub mod Fits
+pub mod Simple
+pub mod Items
+pub mod Trees
+pub mod Tables
+pub mod Rows
+pub mod Laws

@@ -1,0 +1,45 @@
+-- A layout from lists of rows: a register has the number of the first row of its class that has its name. So rows are
+-- added at the end, as names come up, and no number changes. A name that no row has gets a number past the last row.
+use Rattle.std.specs.Prelude.{ℕ, ◌+◌, ◌*◌, ◌==◌, List, [], ◌∷◌, Option, Some, None, if◌then◌else◌}
+use Rattle.isp_base.specs.Ranks.{rank}
+use Rattle.isp_base.specs.declared.types.Elem.{Elem}
+use Rattle.isp_base.specs.declared.types.Rate.{Rate}
+use Rattle.isp_base.specs.declared.types.Rate.TheVariants.{Uniform, Varying}
+use Rattle.isp_lower.specs.Layout.{Layout}
+
+pub data Name : Type 0 where
+  Variable : ℕ → Name
+  Result : Name
+  Spare : Elem → ℕ → Name
+
+-- each name has another number
+abbrev pub name_number : Name → ℕ
+name_number Result = 0
+name_number (Variable v) = 1 + 2 * v
+name_number (Spare t j) = 2 + 2 * (9 * j + rank t)
+
+pub record Row : Type 0 where
+  pub name : Name
+  pub elem : Elem
+
+abbrev pub number_in : List Row → Name → ℕ
+number_in [] x = name_number x
+number_in (y ∷ ys) x = if name_number y.name == name_number x then 0 else 1 + number_in ys x
+
+-- the type of the register of a name, where there is one
+abbrev pub elem_in : List Row → Name → Option Elem
+elem_in [] x = None
+elem_in (y ∷ ys) x = if name_number y.name == name_number x then Some y.elem else elem_in ys x
+
+pub record Rows : Type 0 where
+  pub scalars : List Row
+  pub vectors : List Row
+  pub arrays : List Row
+
+abbrev pub rows_at : Rows → Rate → List Row
+rows_at rows Uniform = rows.scalars
+rows_at rows Varying = rows.vectors
+
+abbrev pub layout_of : Rows → Layout
+layout_of rows =
+    record { variable = λ r v. number_in (rows_at rows r) (Variable v); result = λ r. number_in (rows_at rows r) Result; spare = λ r t j. number_in (rows_at rows r) (Spare t j); array = λ v. number_in rows.arrays (Variable v) }

@@ -1,0 +1,111 @@
+-- The code of what stands before a semicolon, as a function of its tree, and what is demanded of these.
+use Rattle.std.specs.Prelude.{Bool, true, false, ℕ, ◌+◌, ◌∷◌, [], ◌++◌, List, length}
+use Rattle.isp_base.specs.declared.operators.BinOp.{BinOp}
+use Rattle.isp_base.specs.declared.types.Elem.{Elem}
+use Rattle.isp_base.specs.declared.types.Rate.{Rate}
+use Rattle.isp_base.specs.declared.types.Span.{Span}
+use Rattle.isp_code.specs.declared.instr.Instr.{Instr}
+use Rattle.isp_base.specs.Ranks.{same_elem}
+use Rattle.isp_base.specs.declared.types.Rate.TheVariants.{Uniform}
+use Rattle.isp_typed.specs.Typed.{TExpr, TPlace, t_variable, t_element, place_type, TSimple, t_value, t_run, t_assign, t_update, t_step}
+use Rattle.isp_lower.specs.Layout.{Layout}
+use Rattle.isp_lower.specs.Setting.{Setting}
+use Rattle.isp_lower.specs.Code.{convert, operate, operate_places, read, write, constant, lifted, lift_code, two, operand, operand_of, index, expr_places, index_places, read_places, expr_code, index_code, variable_code}
+use Rattle.isp_base.specs.declared.types.Elem.TheVariants.{Bool as Truth}
+use Rattle.isp_lower.specs.Fits.{SpareFits, LiftFits, OperandFits, ExprFits, PlaceFits}
+
+-- the slot after that of a place's index
+abbrev pub beyond : TPlace → ℕ → ℕ
+beyond (t_variable v t sp) n = n
+beyond (t_element b i t sp) n = n + 1
+
+module _ (l : Layout) where
+  -- the target's index, the right side, the access
+  abbrev pub assign_code : TPlace → TExpr → ℕ → ℕ → ℕ → ℕ → List Instr
+  assign_code (t_variable v t sp) x pc p k n = variable_code l t.rate v x pc p k n
+  assign_code (t_element b i t sp) x pc p k n =
+      two pc (index_code l (t_element b i t sp) pc p k n) (λ pc1. operand_of l t.rate x k (n + 1) (expr_code l x pc1 (p + length (expr_places l i)) k (n + 1)) ++ write t.rate (l.array b.number) (index l t.rate i n) (operand l t.rate x (n + 1)) k (p + length (expr_places l i) + length (expr_places l x)) ∷ [])
+
+  abbrev pub assign_places : TPlace → TExpr → List Span
+  assign_places z x = index_places l z ++ (expr_places l x ++ read_places l z)
+
+  -- Register d gets an operator of type t on what register h of type u has and on register y, as a value of type u; a
+  -- conversion stands on either side where the types are not said to be the same.
+  abbrev pub update_to : Bool → BinOp → Elem → Rate → ℕ → ℕ → ℕ → ℕ → ℕ → ℕ → List Instr
+  update_to true o t r d h y k i p = operate r o d h y k p ∷ []
+  update_to false o t r d h y k i p =
+      convert r (l.spare r t i) h k ∷ (operate r o (l.spare r t i) (l.spare r t i) y k p ∷ convert r d (l.spare r t i) k ∷ [])
+
+  -- An operator of type t on what a place holds and on register y: a variable is read and written in place, an element is
+  -- read into slot i by its index at slot n. Both accesses of an element name one place of the source.
+  abbrev pub change_code : BinOp → Elem → TPlace → ℕ → ℕ → ℕ → ℕ → ℕ → List Instr
+  change_code o t (t_variable v u sp) y p k n i =
+      update_to (same_elem u.elem t) o t u.rate (l.variable u.rate v) (l.variable u.rate v) y k i p
+  change_code o t (t_element b j u sp) y p k n i =
+      read u.rate (l.spare u.rate u.elem i) (l.array b.number) (index l u.rate j n) k p ∷ (update_to (same_elem u.elem t) o t u.rate (l.spare u.rate u.elem i) (l.spare u.rate u.elem i) y k i (p + 1) ++ write u.rate (l.array b.number) (index l u.rate j n) (l.spare u.rate u.elem i) k p ∷ [])
+
+  -- `op=`: the target's index, the right side, then the place is read
+  abbrev pub change_by_code : BinOp → Elem → TPlace → TExpr → ℕ → ℕ → ℕ → ℕ → List Instr
+  change_by_code o t z x pc p k n =
+      two pc (index_code l z pc p k n) (λ pc1. operand_of l (place_type z).rate x k (beyond z n) (expr_code l x pc1 (p + length (index_places l z)) k (beyond z n)) ++ change_code o t z (operand l (place_type z).rate x (beyond z n)) (p + length (index_places l z) + length (expr_places l x)) k n (beyond z n + 1))
+
+  abbrev pub change_places : BinOp → TPlace → Span → List Span
+  change_places o z sp = read_places l z ++ operate_places o sp
+
+  -- `++` and `--`: the number 1 is the right side
+  abbrev pub one_in : Rate → Elem → ℕ → ℕ
+  one_in r t m = lifted l r Uniform t (l.spare Uniform t m) m
+
+  abbrev pub one_code : Rate → Elem → ℕ → ℕ → List Instr
+  one_code r t k m = constant (l.spare Uniform t m) t 1 ∷ lift_code l r Uniform t (l.spare Uniform t m) k m
+
+  abbrev pub step_code : BinOp → Elem → TPlace → ℕ → ℕ → ℕ → ℕ → List Instr
+  step_code o t z pc p k n =
+      index_code l z pc p k n ++ (one_code (place_type z).rate t k (beyond z n) ++ change_code o t z (one_in (place_type z).rate t (beyond z n)) (p + length (index_places l z)) k n (beyond z n + 1))
+
+  -- ---- what stands before a semicolon
+
+  abbrev pub simple_code : TSimple → ℕ → ℕ → ℕ → ℕ → List Instr
+  simple_code (t_value x) pc p k n = expr_code l x pc p k n
+  simple_code (t_run c) pc p k n = []
+  simple_code (t_assign z x sp) pc p k n = assign_code z x pc p k n
+  simple_code (t_update o t z x sp) pc p k n = change_by_code o t z x pc p k n
+  simple_code (t_step o t z sp) pc p k n = step_code o t z pc p k n
+
+  abbrev pub simple_places : TSimple → List Span
+  simple_places (t_value x) = expr_places l x
+  simple_places (t_run c) = []
+  simple_places (t_assign z x sp) = assign_places z x
+  simple_places (t_update o t z x sp) = index_places l z ++ (expr_places l x ++ change_places o z sp)
+  simple_places (t_step o t z sp) = index_places l z ++ change_places o z sp
+
+-- every type but bool: operators work in these
+abbrev pub IsNumber : Elem → Type 0
+IsNumber Truth = ⊥
+IsNumber t = Unit {0}
+
+module _ (w : Setting) where
+  -- slot i has a register of the operator's type where that is another, and one of an element's
+  abbrev pub WorkFits : Bool → Rate → Elem → ℕ → Type 0
+  WorkFits true r t i = Unit {0}
+  WorkFits false r t i = SpareFits w r t i
+
+  abbrev pub ReadFits : TPlace → ℕ → Type 0
+  ReadFits (t_variable v u sp) i = Unit {0}
+  ReadFits (t_element b j u sp) i = SpareFits w u.rate u.elem i
+
+  -- a place with its index at slot n, that an operator of type t reads and writes
+  pub record ChangeFits (t : Elem) (z : TPlace) (n i : ℕ) : Type 0 where
+    pub number : IsNumber t
+    pub target : PlaceFits w z n
+    pub working : WorkFits (same_elem (place_type z).elem t) (place_type z).rate t i
+    pub back : ReadFits z i
+
+  abbrev pub SimpleFits : TSimple → ℕ → Type 0
+  SimpleFits (t_value x) n = ExprFits w x n
+  SimpleFits (t_run c) n = ⊥
+  SimpleFits (t_assign z x sp) n = PlaceFits w z n × OperandFits w (place_type z).rate (place_type z).elem x (beyond z n) × ExprFits w x (beyond z n)
+  SimpleFits (t_update o t z x sp) n =
+      ChangeFits t z n (beyond z n + 1) × OperandFits w (place_type z).rate t x (beyond z n) × ExprFits w x (beyond z n)
+  SimpleFits (t_step o t z sp) n =
+      ChangeFits t z n (beyond z n + 1) × SpareFits w Uniform t (beyond z n) × LiftFits w Uniform (place_type z).rate t (beyond z n)

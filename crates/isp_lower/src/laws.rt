@@ -1,0 +1,50 @@
+//! What holds of all code. No code is run here: each function carries a law in its contract.
+ghost use Rattle.isp_lower.specs.Laws.{ExprRuns, ItemsRun, LayoutsAreApart, PartsFit, RowsAreTyped, RowsStay, SimpleRuns, TreesFit};
+
+/// The code of an expression gives its value in the lanes of a mask, traps as it traps, and goes on
+/// where it is cut, within 32 instructions for each unit of work. Variables, and the registers that
+/// code before it uses, are as they were.
+pub fn expressions_run()
+    ensures { ExprRuns }
+{}
+
+/// The code of a value, of an assignment, and of `op=`, `++` and `--`, on variables and elements, writes
+/// its place for the lanes of a mask, after its index and the right side, or traps as the assignment
+/// traps; nothing is stored where an index is outside.
+pub fn assignments_run()
+    ensures { SimpleRuns }
+{}
+
+/// The code of declared variables and arrays sets each to its value, or to 0, for the lanes of a mask
+/// alone; an array that all lanes share is set whole.
+pub fn declarations_run()
+    ensures { ItemsRun }
+{}
+
+/// What the laws ask of a tree and its registers falls in two: what is asked of the tree alone, and that
+/// each register has its type.
+pub fn parts_fit()
+    ensures { PartsFit }
+{}
+
+/// The trees of every accepted program are as the laws ask, where no conversion converts a conversion,
+/// casts and assignments have the rates that are checked by themselves, and nothing is a call.
+pub fn trees_fit()
+    ensures { TreesFit }
+{}
+
+/// A layout from lists of rows, in which a register has the number of the first row of its name, gives
+/// each name a register of its own.
+pub fn layouts_are_apart()
+    ensures { LayoutsAreApart }
+{}
+
+/// A register has the type of its row, where a function has the types of the rows.
+pub fn rows_are_typed()
+    ensures { RowsAreTyped }
+{}
+
+/// Rows that are added change neither the number nor the type of a name that has a row.
+pub fn rows_stay()
+    ensures { RowsStay }
+{}

@@ -1,0 +1,178 @@
+-- Agreement in both directions, from what the code of a body does and from there being one run of the machine alone.
+use Rattle.std.proofs.Common.{◌≡◌, ◌≢◌, ℕ, ◌+◌, ◌*◌, ◌<◌, ◌≤◌, List, [], ◌∷◌, length, Option, Some, None, true, refl, sym, ap, ◌∙◌, subst, arith}
+use Rattle.std.specs.Prelude.{slice_get, nat_lt}
+use Rattle.std.proofs.lemmas.Bool.{lt-ltb, ltb-true, cond-true}
+use Rattle.isp_base.specs.Arguments.{rows, rows_now}
+use Rattle.isp_base.specs.Binding.{has_signature}
+use Rattle.isp_base.specs.Outcomes.{Outcome, Ends, Traps, GoesOn, IsOver, out_of}
+use Rattle.isp_base.specs.Prefixes.{IsPrefix}
+use Rattle.isp_base.specs.Sets.{Mask, nobody, everyone, any}
+use Rattle.isp_base.specs.Types.{gang_width}
+use Rattle.isp_base.specs.declared.signature.Argument.{Argument}
+use Rattle.isp_base.specs.declared.types.Elem.{Elem}
+use Rattle.isp_base.specs.declared.types.Gang.{Gang}
+use Rattle.isp_base.specs.declared.types.Gang.TheVariants.{W4, W8, W16}
+use Rattle.isp_base.specs.declared.types.Rate.{Rate}
+use Rattle.isp_base.specs.declared.types.Rate.TheVariants.{Uniform, Varying}
+use Rattle.isp_base.specs.declared.types.Ty.{Ty}
+use Rattle.isp_base.specs.declared.types.Value.{Value}
+use Rattle.isp_code.specs.Calls.{answer}
+use Rattle.isp_code.specs.Conf as machine
+use Rattle.isp_code.specs.Conf.{Conf}
+use Rattle.isp_code.specs.Calls.{left}
+use Rattle.isp_code.specs.Listing.{Listing, Routine}
+use Rattle.isp_code.specs.Machine.{arrive, after, step, first_conf, outcome, outcome_after}
+use Rattle.isp_code.specs.Registers.{elem_of}
+use Rattle.isp_code.specs.declared.instr.Instr.{Instr}
+use Rattle.isp_code.specs.declared.instr.Instr.TheVariants as instr
+use Rattle.isp_typed.specs.Typed.{Program, TFunction}
+use Rattle.isp_meaning.specs.Calls.{frame_of, begun, ended, answer_at, answer_of, called, calls_at}
+use Rattle.isp_meaning.specs.Outcomes.{Val, Gives, Fails, Stops, Res, Went, Trapped, Cut}
+use Rattle.isp_meaning.specs.Payloads.{Payload, One}
+use Rattle.isp_meaning.specs.Runs.{handed, first_frame, first_state, meaning, gives_of, answer_as, outcome_of, run_of, state_of, work_of}
+use Rattle.isp_meaning.specs.State.{State, below}
+use Rattle.isp_meaning.specs.Statements.{block}
+use Rattle.isp_meaning.proofs.Grown.{prefix_self}
+use Rattle.isp_lower.specs.Layout.{Layout, register}
+use Rattle.isp_lower.specs.Setting.{Setting, IsSettled, Stands}
+use Rattle.isp_lower.proofs.Base.{are_front, are_back, put_same, step_is}
+use Rattle.isp_code.proofs.Steps.{after-sum}
+use Rattle.isp_masks.specs.Agreement.{AreShort, RunsAgree}
+use Rattle.isp_masks.specs.Compiled.{entry_state, entry_setting, ResultFits, IsCompiled}
+use Rattle.isp_masks.specs.Statements.{block_code, returned}
+use Rattle.isp_masks.specs.StmtRuns.{StmtRuns}
+use Rattle.isp_masks.proofs.Begins.{begins}
+use Rattle.isp_masks.proofs.Endings.{longer, one_end, grows, rows_same}
+use Rattle.isp_masks.proofs.Parts.{block_fits}
+use Rattle.isp_masks.proofs.Stmts.{block_runs}
+
+all_some : (g : Gang) → any (gang_width g) (everyone (gang_width g)) ≡ true
+all_some W4 = refl
+all_some W8 = refl
+all_some W16 = refl
+
+all_inside : (n p : ℕ) → everyone n p ≡ true → p < n
+all_inside n p h = ltb-true p n h
+
+below_same : (n b : ℕ) (f : ℕ → ℕ → ℕ) → b < n → below n f b ≡ f b
+below_same n b f lt = cond-true (nat_lt b n) (f b) (λ e. 0) (lt-ltb b n lt)
+
+module _ (program : Program) (code : Listing) (f : ℕ) (h : TFunction) (g : Routine) (l : Layout) (p : ℕ) (is : IsCompiled program code f h g l p) (xs : List Argument) where
+  abbrev world : ℕ → Setting
+  world n = entry_setting program code f h g l n xs
+
+  abbrev start : machine.State
+  start = machine.Runs (first_conf code f g xs)
+
+  settled : (n : ℕ) → IsSettled (world n)
+  settled n = record { found = is.found; apart = is.apart }
+
+  -- what a run is, by how it stands: late where it was cut
+  abbrev Late : ℕ → ℕ → Val Payload → Type 0
+  Late n m (Gives x s) = Unit {0}
+  Late n m (Fails t s) = Unit {0}
+  Late n m (Stops s) = n ≤ m
+
+  abbrev Follows : ℕ → Val Payload → Type 0
+  Follows n v = (m : ℕ) × (m ≤ 32 * (state_of v).work + 32) × (outcome_after code f g xs m ≡ outcome_of h.gives xs v) × Late n m v
+
+  -- what the function gives
+  abbrev value_of : Elem → ℕ → Option Value
+  value_of t b = Some (record { elem = t; bits = b })
+
+  answer_is : (t : Option Ty) (gives : Option Elem) (a : Mask) (s : State) (c : Conf) → ResultFits g l t gives → c.scalars (l.result Uniform) ≡ s.result → answer g c (returned l t) ≡ answer_as gives (answer_of t a s)
+  answer_is None gives a s c fit e = ap (λ z. answer_as z (answer_of None a s)) (sym fit)
+  answer_is (Some t) gives a s c fit e = go t.rate fit.0
+    where
+      go : (r : Rate) → r ≡ Uniform → value_of (elem_of g (register r (l.result r))) (c.scalars (l.result r)) ≡ answer_as gives (answer_at r a s)
+      go Uniform er = ap (λ z. value_of z (c.scalars (l.result Uniform))) fit.2 ∙ ap (value_of t.elem) e ∙ sym (ap (λ z. answer_as z (One s.result)) fit.1)
+      go Varying er = absurd (cc)
+
+  abbrev body : List Instr
+  body = block_code l h.answer h.body 0 p 0 1 2 3
+
+  abbrev last : Instr
+  last = instr.Return (returned l h.answer)
+
+  abbrev everybody : Mask
+  everybody = everyone (gang_width program.gang)
+
+  follows_from : (n : ℕ) (v : Res) → StmtRuns (world n) n (first_conf code f g xs) (0 + length (block_code l h.answer h.body 0 p 0 1 2 3)) 0 1 2 3 (1 + 0) v → Follows n (ended h.answer (first_frame xs) everybody (first_state xs) v)
+  follows_from n (Went s g1 b ct rt) r =
+      let c = r.conf in
+      let pc = 0 + length body in
+      let has : slice_get g.code pc ≡ Some last = (are_back g.code 0 body (last ∷ []) is.code_is).0 in
+      let acts : step code c ≡ machine.Over (answer g c (returned l h.answer)) = step_is (world n) c pc last (settled n) r.at has ∙ ap (left g c (returned l h.answer)) r.at.waiting_is in
+      let ends : after code (r.steps + 1) start ≡ machine.Ended (answer g c (returned l h.answer)) c =
+      (let e : r.steps + 1 ≡ 1 + r.steps = omega arith in ap (λ k. after code k start) e) ∙ after-sum code 1 r.steps start ∙ ap (after code 1) r.comes ∙ ap (λ m. arrive code m c) acts in
+      let arrays : rows_now (rows xs) c.arrays ≡ rows_now (rows xs) (below (length (rows xs)) s.arrays) =
+      ap (rows_now (rows xs)) r.stands.arrays_are ∙ rows_same (rows xs) s.arrays (below (length (rows xs)) s.arrays) (λ b lt. sym (below_same (length (rows xs)) b s.arrays lt)) in (
+        r.steps + 1,
+        omega (arith, r.bound),
+        ap (outcome (rows xs)) ends
+            ∙ ap (λ z. Ends z (answer g c (returned l h.answer)) c.out) arrays
+            ∙ ap (λ z. Ends (rows_now (rows xs) (below (length (rows xs)) s.arrays)) z c.out) (answer_is h.answer h.gives everybody s c is.result r.stands.result)
+            ∙ ap (Ends (rows_now (rows xs) (below (length (rows xs)) s.arrays)) (answer_as h.gives (answer_of h.answer everybody s))) r.stands.out_is,
+        tt,
+      )
+  follows_from n (Trapped t s) r =
+      (r.steps, omega (arith, r.bound), ap (outcome (rows xs)) r.fails ∙ ap (λ z. Traps t (rows_now (rows xs) z) r.conf.out) r.arrays_are ∙ ap (Traps t (rows_now (rows xs) s.arrays)) r.out_is, tt)
+  follows_from n (Cut s) r = (r.steps, omega (arith, r.bound), ap (outcome (rows xs)) r.goes ∙ ap GoesOn r.out_is, r.far)
+
+  body_runs : (n : ℕ) → has_signature h.parameters xs ≡ true → AreShort xs → StmtRuns (world n) n (first_conf code f g xs) (0 + length (block_code l h.answer h.body 0 p 0 1 2 3)) 0 1 2 3 (1 + 0) (block (gang_width program.gang) (frame_of h (handed 0 xs) (first_frame xs)) (calls_at program n 255) n h.body everybody (entry_state program h xs))
+  body_runs n sig short =
+      let c = first_conf code f g xs in
+      let begin = λ (z : Gang). begun h (handed 0 xs) (first_frame xs) (everyone (gang_width z)) (first_state xs) in
+      let n01 : ◌≢◌ {A = ℕ} 0 1 = omega arith in
+      let n02 : ◌≢◌ {A = ℕ} 0 2 = omega arith in
+      let n12 : ◌≢◌ {A = ℕ} 1 2 = omega arith in
+      subst (λ z. StmtRuns (world n) n c (0 + length body) 0 1 2 3 (1 + 0) (block (gang_width z) (frame_of h (handed 0 xs) (first_frame xs)) (calls_at program n 255) n h.body (everyone (gang_width z)) (begin z))) is.gang
+      (block_runs (world n) (settled n) h.body 0 p 0 1 2 3 0 (everyone (gang_width code.gang)) (begin code.gang) c (block_fits (world n) h.body 3 is.tree (is.table n xs sig short)) (are_front g.code 0 body (last ∷ []) is.code_is) is.places_are (record { low_k = omega arith; low_co = omega arith; low_rr = omega arith; k_co = n01; k_rr = n02; co_rr = n12 })
+      (record {
+        at = record { home_is = refl; waiting_is = refl; pc_is = refl };
+        mask = put_same (λ k. nobody) 0 (everyone (gang_width code.gang));
+        some = all_some code.gang;
+        inside = all_inside (gang_width code.gang);
+        stands = subst (λ z. Stands (world n) (begin z) c) (sym is.gang) (begins program code f h g l n xs is.passed sig);
+        used = omega arith;
+        low = omega arith;
+      }))
+
+  follows : has_signature h.parameters xs ≡ true → AreShort xs → (n : ℕ) → Follows n (meaning program f n xs)
+  follows sig short n =
+      subst (λ o. Follows n (called program n (calls_at program n 255) o everybody (handed 0 xs) (first_frame xs) (first_state xs))) (sym is.source)
+      (follows_from n (block (gang_width program.gang) (frame_of h (handed 0 xs) (first_frame xs)) (calls_at program n 255) n h.body everybody (entry_state program h xs)) (body_runs n sig short))
+
+  -- ---- both directions
+
+  run_is : (n : ℕ) → outcome_of h.gives xs (meaning program f n xs) ≡ run_of program f n xs
+  run_is n = ap (λ o. outcome_of (gives_of o) xs (meaning program f n xs)) (sym is.source)
+
+  -- a run that goes on was cut, and late
+  cut_late : (n m : ℕ) (v : Val Payload) (out : List ℕ) → Late n m v → outcome_of h.gives xs v ≡ GoesOn out → n ≤ m
+  cut_late n m (Gives x s) out late e = absurd (subst IsOver e tt)
+  cut_late n m (Fails t s) out late e = absurd (subst IsOver e tt)
+  cut_late n m (Stops s) out late e = late
+
+  -- the code's run is over after m instructions, so that of m turns is not cut
+  over_too : (m : ℕ) (o : Outcome) (v : Val Payload) → IsOver o → outcome_after code f g xs m ≡ o → Follows m v → outcome_of h.gives xs v ≡ o
+  over_too m o (Gives x s) over e r = one_end code (rows xs) r.0 m start (outcome_of h.gives xs (Gives x s)) o tt over r.2 e
+  over_too m o (Fails t s) over e r = one_end code (rows xs) r.0 m start (Traps t (rows_now (rows xs) s.arrays) s.out) o tt over r.2 e
+  over_too m o (Stops s) over e r =
+      let same = longer code (rows xs) m r.0 start o r.3 over e in
+      absurd (subst IsOver (sym same ∙ r.2) over)
+
+  pub agrees : has_signature h.parameters xs ≡ true → AreShort xs → RunsAgree program code f g xs
+  agrees sig short = record {
+    over = λ n o over e. let r = follows sig short n in (r.0, r.2 ∙ run_is n ∙ e);
+    over_only = λ m o over e. (m, sym (run_is m) ∙ over_too m o (meaning program f m xs) over e (follows sig short m));
+    goes_on = λ n out e. let r = follows sig short n in (r.0, subst (λ z. IsPrefix out (out_of z)) (sym (r.2 ∙ run_is n ∙ e)) (prefix_self out));
+    goes_on_only = λ all m.
+        let r = follows sig short m in
+        let late = cut_late m r.0 (meaning program f m xs) (all m).0 r.3 (run_is m ∙ (all m).1) in
+        (m, subst (λ z. IsPrefix (out_of (outcome_after code f g xs m)) (out_of z)) (r.2 ∙ run_is m) (grows code (rows xs) m r.0 start late));
+    soon = λ n o over e. let r = follows sig short n in longer code (rows xs) r.0 (32 * work_of program f n xs + 32) start o r.1 over (r.2 ∙ run_is n ∙ e);
+    soon_goes_on = λ n out e.
+        let r = follows sig short n in
+        subst (λ z. IsPrefix (out_of z) (out_of (outcome_after code f g xs (32 * work_of program f n xs + 32)))) (r.2 ∙ run_is n ∙ e) (grows code (rows xs) r.0 (32 * work_of program f n xs + 32) start r.1);
+  }

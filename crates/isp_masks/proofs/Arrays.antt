@@ -1,0 +1,255 @@
+-- The arrays of an entry are what its variables are.
+use Rattle.std.proofs.Common.{◌≡◌, ℕ, zero, suc, ◌+◌, ◌<◌, ◌≤◌, ◌^◌, List, [], ◌∷◌, length, take, Some, None, Bool, true, false, refl, sym, ap, ◌∙◌, subst, arith}
+use Rattle.std.specs.Prelude.{slice_get, slice_index, nat_lt, ◌-◌, ◌&&◌, if◌then◌else◌}
+use Rattle.std.proofs.lemmas.Bool.{lt-ltb, le-ltb, lt-leb, le-leb, cond-true, cond-false}
+use Rattle.isp_base.specs.Arguments.{rows, row_bits}
+use Rattle.isp_base.specs.Binding.{is_for, has_signature}
+use Rattle.isp_base.specs.declared.signature.Argument.{Argument}
+use Rattle.isp_base.specs.declared.signature.Argument.TheVariants.{Value as AValue, Array as AnArray}
+use Rattle.isp_base.specs.declared.signature.Parameter.{Parameter}
+use Rattle.isp_base.specs.declared.types.Elem.{Elem}
+use Rattle.isp_base.specs.declared.types.Rate.{Rate}
+use Rattle.isp_base.specs.declared.types.Rate.TheVariants.{Uniform, Varying}
+use Rattle.isp_base.specs.declared.types.Ty.{Ty}
+use Rattle.isp_code.specs.Calls as code
+use Rattle.isp_code.specs.Lines.{local_size}
+use Rattle.isp_code.specs.Listing.{Listing, Routine}
+use Rattle.isp_code.specs.Registers.{is_per_instance, is_own, is_per_lane, passed}
+use Rattle.isp_code.specs.declared.function.Local.{Local}
+use Rattle.isp_meaning.specs.Calls as meaning
+use Rattle.isp_meaning.specs.Expressions.{Store}
+use Rattle.isp_meaning.specs.Runs.{handed}
+use Rattle.isp_meaning.specs.State.{extent_at}
+use Rattle.isp_typed.specs.Fine.{array_type, HoldsArray}
+use Rattle.isp_typed.specs.Typed.{ty_of, Program, TFunction}
+use Rattle.isp_typed.specs.declared.variable.ArrayVariable.{ArrayVariable}
+use Rattle.isp_lower.specs.Fits.{ArrayFitsAt, ArrayFits}
+use Rattle.isp_lower.specs.Layout.{Layout, array_register}
+use Rattle.isp_lower.specs.Setting.{Setting}
+use Rattle.isp_masks.specs.Agreement.{AreShort}
+use Rattle.isp_masks.specs.Compiled.{entry_setting}
+use Rattle.isp_typed.specs.declared.variable.Holds.{Holds}
+use Rattle.isp_typed.specs.declared.variable.Holds.TheVariants as holds
+use Rattle.isp_typed.specs.declared.variable.Variable.{Variable}
+use Rattle.isp_masks.specs.Arrays.{array_then, array_count, sharing_of, local_of, local_then, locals_of, count_then, local_count, ArraysStand}
+use Rattle.isp_masks.proofs.Begins.{some_same, not_so, handed_none}
+use Rattle.isp_masks.proofs.Unions.{both_so}
+
+-- ---- local arrays
+
+shared_is : (vs : List Variable) → code.shared_sizes (locals_of vs) ≡ meaning.shared_sizes vs
+shared_is [] = refl
+shared_is (v ∷ vs) = go v.holds (shared_is vs)
+  where
+    go : (x : Holds) → code.shared_sizes (locals_of vs) ≡ meaning.shared_sizes vs → code.shared_sizes (local_then x (locals_of vs)) ≡ meaning.size_of x (meaning.shared_sizes vs)
+    go (holds.Value t) e = e
+    go (holds.Given t) e = e
+    go (holds.Local t n) e = at t.rate
+      where
+        at : (r : Rate) → code.if_shared (is_per_instance (sharing_of r)) n (code.shared_sizes (locals_of vs)) ≡ meaning.size_at r n (meaning.shared_sizes vs)
+        at Uniform = ap (λ z. n ∷ z) e
+        at Varying = e
+
+take_locals : (vs : List Variable) (v : ℕ) → take (local_count (take v vs)) (locals_of vs) ≡ locals_of (take v vs)
+take_locals [] zero = refl
+take_locals [] (suc v) = refl
+take_locals (x ∷ vs) zero = go (local_then x.holds (locals_of vs))
+  where
+    go : (ls : List Local) → take 0 ls ≡ []
+    go [] = refl
+    go (l ∷ ls) = refl
+take_locals (x ∷ vs) (suc v) = go x.holds (take_locals vs v)
+  where
+    go : (y : Holds) → take (local_count (take v vs)) (locals_of vs) ≡ locals_of (take v vs) → take (count_then y (local_count (take v vs))) (local_then y (locals_of vs)) ≡ local_then y (locals_of (take v vs))
+    go (holds.Value t) e = e
+    go (holds.Given t) e = e
+    go (holds.Local t n) e = ap (λ z. local_of t n ∷ z) e
+
+local_at : (vs : List Variable) (v : ℕ) (x : Variable) (t : Ty) (n : ℕ) → slice_get vs v ≡ Some x → x.holds ≡ holds.Local t n → slice_get (locals_of vs) (local_count (take v vs)) ≡ Some (local_of t n)
+local_at [] v x t n e k = absurd (cc)
+local_at (y ∷ vs) zero x t n e k = ap (λ z. slice_get (local_then z (locals_of vs)) 0) (ap (λ z. z.holds) (some_same y x e) ∙ k)
+local_at (y ∷ vs) (suc v) x t n e k = go y.holds (local_at vs v x t n e k)
+  where
+    go : (z : Holds) → slice_get (locals_of vs) (local_count (take v vs)) ≡ Some (local_of t n) → slice_get (local_then z (locals_of vs)) (count_then z (local_count (take v vs))) ≡ Some (local_of t n)
+    go (holds.Value u) ih = ih
+    go (holds.Given u) ih = ih
+    go (holds.Local u m) ih = ih
+
+-- the size of a shared one, by how many shared ones stand before it
+size_is : (vs : List Variable) (v : ℕ) (x : Variable) (t : Ty) (n : ℕ) → slice_get vs v ≡ Some x → x.holds ≡ holds.Local t n → t.rate ≡ Uniform → slice_index (meaning.shared_sizes vs) (length (meaning.shared_sizes (take v vs))) ≡ n
+size_is [] v x t n e k r = absurd (cc)
+size_is (y ∷ vs) zero x t n e k r = ap (λ z. slice_index (meaning.size_of z (meaning.shared_sizes vs)) 0) (ap (λ z. z.holds) (some_same y x e) ∙ k) ∙ ap (λ z. slice_index (meaning.size_at z n (meaning.shared_sizes vs)) 0) r
+size_is (y ∷ vs) (suc v) x t n e k r = go y.holds (size_is vs v x t n e k r)
+  where
+    go : (z : Holds) → slice_index (meaning.shared_sizes vs) (length (meaning.shared_sizes (take v vs))) ≡ n → slice_index (meaning.size_of z (meaning.shared_sizes vs)) (length (meaning.size_of z (meaning.shared_sizes (take v vs)))) ≡ n
+    go (holds.Value u) ih = ih
+    go (holds.Given u) ih = ih
+    go (holds.Local u m) ih = at u.rate
+      where
+        at : (q : Rate) → slice_index (meaning.size_at q m (meaning.shared_sizes vs)) (length (meaning.size_at q m (meaning.shared_sizes (take v vs)))) ≡ n
+        at Uniform = ih
+        at Varying = ih
+
+-- ---- arrays that are handed over
+
+-- the store, by how many arrays stand before it, and its size
+store_is : (ps : List Parameter) (xs : List Argument) (b v : ℕ) (p : Parameter) → has_signature ps xs ≡ true → slice_get ps v ≡ Some p → p.is_array ≡ true → slice_get (handed b xs) v ≡ Some (Store (b + array_count (take v ps)))
+store_is [] [] b v p e n k = absurd (cc)
+store_is [] (x ∷ xs) b v p e n k = absurd (cc)
+store_is (p1 ∷ ps) [] b v p e n k = absurd (cc)
+store_is (p1 ∷ ps) (AValue y ∷ xs) b zero p e n k =
+    let h = both_so (is_for p1 (AValue y)) (has_signature ps xs) e in
+    let kind : p1.is_array ≡ false = not_so p1.is_array (both_so _ _ h.0).0 in
+    let no : true ≡ false = sym k ∙ ap (λ z. z.is_array) (sym (some_same p1 p n)) ∙ kind in
+    absurd (cc)
+store_is (p1 ∷ ps) (AnArray y ∷ xs) b zero p e n k = let b0 : b ≡ b + 0 = omega arith in ap (λ z. Some (Store z)) b0
+store_is (p1 ∷ ps) (AValue y ∷ xs) b (suc v) p e n k =
+    let h = both_so (is_for p1 (AValue y)) (has_signature ps xs) e in
+    let kind : p1.is_array ≡ false = not_so p1.is_array (both_so _ _ h.0).0 in
+    store_is ps xs b v p h.1 n k ∙ ap (λ z. Some (Store (b + array_then z (array_count (take v ps))))) (sym kind)
+store_is (p1 ∷ ps) (AnArray y ∷ xs) b (suc v) p e n k =
+    let h = both_so (is_for p1 (AnArray y)) (has_signature ps xs) e in
+    let kind : p1.is_array ≡ true = (both_so p1.is_array _ h.0).0 in
+    let moved : suc b + array_count (take v ps) ≡ b + suc (array_count (take v ps)) = omega arith in
+    store_is ps xs (suc b) v p h.1 n k ∙ ap (λ z. Some (Store z)) moved ∙ ap (λ z. Some (Store (b + array_then z (array_count (take v ps))))) (sym kind)
+
+-- there are as many arrays as the parameters say, and each is one of them
+array_below : (ps : List Parameter) (v : ℕ) (p : Parameter) → slice_get ps v ≡ Some p → p.is_array ≡ true → array_count (take v ps) < array_count ps
+array_below [] v p e k = absurd (cc)
+array_below (p1 ∷ ps) zero p e k =
+    let kind : p1.is_array ≡ true = ap (λ z. z.is_array) (some_same p1 p e) ∙ k in
+    let n : array_then p1.is_array (array_count ps) ≡ suc (array_count ps) = ap (λ z. array_then z (array_count ps)) kind in
+    omega (arith, n)
+array_below (p1 ∷ ps) (suc v) p e k = go p1.is_array (array_below ps v p e k)
+  where
+    go : (z : Bool) → array_count (take v ps) < array_count ps → array_then z (array_count (take v ps)) < array_then z (array_count ps)
+    go true lt = omega arith
+    go false lt = lt
+
+rows_count : (ps : List Parameter) (xs : List Argument) → has_signature ps xs ≡ true → length (rows xs) ≡ array_count ps
+rows_count [] [] e = refl
+rows_count [] (x ∷ xs) e = absurd (cc)
+rows_count (p ∷ ps) [] e = absurd (cc)
+rows_count (p ∷ ps) (AValue y ∷ xs) e =
+    let h = both_so (is_for p (AValue y)) (has_signature ps xs) e in
+    let kind : p.is_array ≡ false = not_so p.is_array (both_so _ _ h.0).0 in
+    rows_count ps xs h.1 ∙ ap (λ b. array_then b (array_count ps)) (sym kind)
+rows_count (p ∷ ps) (AnArray y ∷ xs) e =
+    let h = both_so (is_for p (AnArray y)) (has_signature ps xs) e in
+    let kind : p.is_array ≡ true = (both_so p.is_array _ h.0).0 in
+    ap suc (rows_count ps xs h.1) ∙ ap (λ b. array_then b (array_count ps)) (sym kind)
+
+module _ (program : Program) (listing : Listing) (f : ℕ) (h : TFunction) (g : Routine) (l : Layout) (turns : ℕ) (xs : List Argument) (stand : ArraysStand h g l) (sig : has_signature h.parameters xs ≡ true) (short : AreShort xs) where
+  abbrev world : Setting
+  world = entry_setting program listing f h g l turns xs
+
+  abbrev opened : ℕ
+  opened = length (rows xs)
+
+  abbrev sizes : List ℕ
+  sizes = meaning.shared_sizes h.variables
+
+  same_sizes : code.shared_sizes g.locals ≡ meaning.shared_sizes h.variables
+  same_sizes = ap code.shared_sizes stand.locals_are ∙ shared_is h.variables
+
+  sizes_same : (z : ℕ) → world.home.sizes z ≡ world.frame.sizes z
+  sizes_same z = ap (λ s. if nat_lt z opened then length (row_bits (rows xs) z) else slice_index s (z - opened)) same_sizes
+
+  given_fits : (b : ArrayVariable) (x : Variable) (e : Elem) → slice_get h.variables b.number ≡ Some x → x.holds ≡ holds.Given e → b.ty.rate ≡ Uniform → ArrayFits world b
+  given_fits b x e ex k er = record { is = subst (λ z. ArrayFitsAt world z b) (sym er) (per_lane, named, sizes_same (world.frame.named v)); few = subst (λ z. extent_at z world.frame v ≤ 2 ^ 63) (sym er) small }
+    where
+      v : ℕ
+      v = b.number
+
+      n : ℕ
+      n = array_count (take b.number h.parameters)
+
+      a_is : l.array b.number ≡ n
+      a_is = (stand.given b.number x e ex k).3
+
+      under : n < array_count h.parameters
+      under = array_below h.parameters b.number (stand.given b.number x e ex k).0 (stand.given b.number x e ex k).1 (stand.given b.number x e ex k).2
+
+      low : l.array b.number < passed g
+      low = omega (arith, a_is, under, stand.passed_is)
+
+      per_lane : is_per_lane g (array_register (l.array b.number)) ≡ false
+      per_lane = ap (λ z. z && is_own (slice_get g.locals (l.array b.number - passed g))) (lt-leb (passed g) (l.array b.number) low)
+
+      frame_named : world.frame.named b.number ≡ n
+      frame_named =
+          let e0 : 0 + n ≡ n = omega arith in
+          ap (λ o. meaning.store_or o (opened + length (meaning.shared_sizes (take b.number h.variables)))) (store_is h.parameters xs 0 b.number (stand.given b.number x e ex k).0 sig (stand.given b.number x e ex k).1 (stand.given b.number x e ex k).2) ∙ e0
+
+      named : world.home.named (l.array b.number) ≡ world.frame.named b.number
+      named = cond-true (nat_lt (l.array b.number) (passed g)) (l.array b.number) (opened + length (code.shared_sizes (take (l.array b.number - passed g) g.locals))) (lt-ltb (l.array b.number) (passed g) low) ∙ a_is ∙ sym frame_named
+
+      small : extent_at Uniform world.frame b.number ≤ 2 ^ 63
+      small =
+          let inside : n < opened = omega (arith, under, rows_count h.parameters xs sig) in
+          subst (λ z. z ≤ 2 ^ 63) (sym (ap world.frame.sizes frame_named ∙ cond-true (nat_lt n opened) (length (row_bits (rows xs) n)) (slice_index sizes (n - opened)) (lt-ltb n opened inside))) (short n)
+
+  local_fits : (b : ArrayVariable) (x : Variable) (n : ℕ) → slice_get h.variables b.number ≡ Some x → x.holds ≡ holds.Local b.ty n → ArrayFits world b
+  local_fits b x n ex k = go b.ty.rate refl
+    where
+      has : (slice_get h.parameters b.number ≡ None) × (l.array b.number ≡ passed g + local_count (take b.number h.variables)) × (n ≤ 65536)
+      has = stand.local b.number x b.ty n ex k
+
+      j : ℕ
+      j = local_count (take b.number h.variables)
+
+      there : l.array b.number - passed g ≡ j
+      there = omega (arith, has.1)
+
+      at : slice_get g.locals (l.array b.number - passed g) ≡ Some (local_of b.ty n)
+      at = ap (slice_get g.locals) there ∙ ap (λ z. slice_get z j) stand.locals_are ∙ local_at h.variables b.number x b.ty n ex k
+
+      per_lane : is_per_lane g (array_register (l.array b.number)) ≡ is_per_instance (sharing_of b.ty.rate)
+      per_lane = ap (λ z. z && is_own (slice_get g.locals (l.array b.number - passed g))) (le-leb (passed g) (l.array b.number) (omega (arith, has.1))) ∙ ap is_own at
+
+      few_elements : n ≤ 2 ^ 63
+      few_elements = let big : 65536 ≤ 2 ^ 63 = omega arith in omega (arith, has.2, big)
+
+      place : ℕ
+      place = length (meaning.shared_sizes (take b.number h.variables))
+
+      frame_named : world.frame.named b.number ≡ opened + place
+      frame_named = ap (λ o. meaning.store_or o (opened + place)) (handed_none h.parameters xs 0 b.number sig has.0)
+
+      home_named : world.home.named (l.array b.number) ≡ opened + place
+      home_named =
+          cond-false (nat_lt (l.array b.number) (passed g)) (l.array b.number) (opened + length (code.shared_sizes (take (l.array b.number - passed g) g.locals))) (le-ltb (l.array b.number) (passed g) (omega (arith, has.1)))
+          ∙ ap (λ z. opened + length (code.shared_sizes (take z g.locals))) there
+          ∙ ap (λ z. opened + length (code.shared_sizes (take j z))) stand.locals_are
+          ∙ ap (λ z. opened + length (code.shared_sizes z)) (take_locals h.variables b.number)
+          ∙ ap (λ z. opened + length z) (shared_is (take b.number h.variables))
+
+      own_is : world.frame.own_sizes b.number ≡ n
+      own_is = ap meaning.own_size ex ∙ ap meaning.local_size k
+
+      shared_size : b.ty.rate ≡ Uniform → extent_at Uniform world.frame b.number ≡ n
+      shared_size er =
+          let off : opened + place - opened ≡ place = omega arith in
+          ap world.frame.sizes frame_named ∙ cond-false (nat_lt (opened + place) opened) (length (row_bits (rows xs) (opened + place))) (slice_index sizes (opened + place - opened)) (le-ltb (opened + place) opened (omega arith)) ∙ ap (slice_index sizes) off ∙ size_is h.variables b.number x b.ty n ex k er
+
+      go : (r : Rate) → b.ty.rate ≡ r → ArrayFits world b
+      go Uniform er = record {
+        is = subst (λ z. ArrayFitsAt world z b) (sym er) (per_lane ∙ ap (λ z. is_per_instance (sharing_of z)) er, home_named ∙ sym frame_named, sizes_same (world.frame.named b.number));
+        few = subst (λ z. extent_at z world.frame b.number ≤ 2 ^ 63) (sym er) (subst (λ z. z ≤ 2 ^ 63) (sym (shared_size er)) few_elements);
+      }
+      go Varying er = record {
+        is = subst (λ z. ArrayFitsAt world z b) (sym er) (per_lane ∙ ap (λ z. is_per_instance (sharing_of z)) er, ap local_size at ∙ sym own_is);
+        few = subst (λ z. extent_at z world.frame b.number ≤ 2 ^ 63) (sym er) (subst (λ z. z ≤ 2 ^ 63) (sym own_is) few_elements);
+      }
+
+  pub arrays_fit : (b : ArrayVariable) → HoldsArray h.variables b → ArrayFits world b
+  arrays_fit b has = go has.variable.holds refl
+    where
+      go : (y : Holds) → has.variable.holds ≡ y → ArrayFits world b
+      go (holds.Value t) e = let no : None ≡ Some b.ty = ap array_type (sym e) ∙ has.ty in absurd (cc)
+      go (holds.Given t) e =
+          let same : ty_of Uniform t ≡ b.ty = some_same (ty_of Uniform t) b.ty (ap array_type (sym e) ∙ has.ty) in
+          given_fits b has.variable t has.is e (ap (λ z. z.rate) (sym same))
+      go (holds.Local t n) e =
+          let same : t ≡ b.ty = some_same t b.ty (ap array_type (sym e) ∙ has.ty) in
+          local_fits b has.variable n has.is (e ∙ ap (λ z. holds.Local z n) same)

@@ -1,0 +1,139 @@
+-- How code of statements is put together: what comes before, what follows, and what is jumped over.
+use Rattle.std.proofs.Common.{◌≡◌, ◌≢◌, ℕ, ◌+◌, ◌*◌, ◌<◌, ◌≤◌, List, length, Some, Bool, true, false, refl, sym, ap, ◌∙◌, subst, arith}
+use Rattle.std.specs.Prelude.{slice_get, not}
+use Rattle.isp_base.specs.Sets.{Mask, nobody, union, any}
+use Rattle.isp_code.specs.Conf.{Conf}
+use Rattle.isp_code.specs.Lines.{jumps}
+use Rattle.isp_code.specs.declared.instr.Instr.{Instr}
+use Rattle.isp_code.specs.declared.instr.Instr.TheVariants as instr
+use Rattle.isp_code.specs.declared.instr.JumpTest.TheVariants as jump
+use Rattle.isp_meaning.specs.State.{State}
+use Rattle.isp_meaning.specs.Outcomes.{Val, Gives, Fails, Stops, Done, Res, Went, Trapped, Cut, with_value, go_on, went_all, unless_empty, if_so}
+use Rattle.isp_meaning.specs.Statements.{all_go}
+use Rattle.isp_lower.specs.Code.{guard, jump_off}
+use Rattle.isp_lower.specs.Layout.{mask_register}
+use Rattle.isp_lower.specs.Runs.{Comes, Enters, Ok, Runs, DoneRuns}
+use Rattle.isp_lower.specs.Setting.{Setting, IsSettled, gang_of, AreAt, At, Stands, Spares}
+use Rattle.isp_lower.proofs.Done.{spares_all, spares_on}
+use Rattle.isp_lower.proofs.Base.{comes_none, comes_on, step_go, at_to}
+use Rattle.isp_lower.proofs.Combine.{failed_after, stopped_after, failed_less, stopped_less}
+use Rattle.isp_lower.proofs.Jumps.{jumped, jump_comes, jump_at}
+use Rattle.isp_masks.specs.StmtRuns.{AreThree, Inside, StmtOk, StmtRuns}
+use Rattle.isp_masks.proofs.Unions.{union_nobody, below_nobody}
+
+module _ (w : Setting) (ready : IsSettled w) where
+  -- ---- a stretch before
+
+  pub stmt_after : (t : ℕ) (c c1 : Conf) (d pc k co rr n q : ℕ) (v : Res) → Comes w c d c1 → Spares w n c c1 → ((r : ℕ) → r < n → r ≢ k → c1.masks r ≡ c.masks r) → AreThree k co rr n → StmtRuns w t c1 pc k co rr n (d + q) v → StmtRuns w t c pc k co rr n q v
+  stmt_after t c c1 d pc k co rr n q (Went s g b ct rt) h sp ma m r =
+      let ck : co ≢ k = λ e. m.k_co (sym e) in
+      let rk : rr ≢ k = λ e. m.k_rr (sym e) in
+      record {
+        conf = r.conf;
+        steps = d + r.steps;
+        comes = comes_on w c c1 r.conf d r.steps h r.comes;
+        at = r.at;
+        stands = r.stands;
+        spares = spares_on w ready n c c1 r.conf sp r.spares;
+        went = r.went;
+        continued = r.continued ∙ ap (λ z. union z ct) (ma co m.low_co ck);
+        returned = r.returned ∙ ap (λ z. union z rt) (ma rr m.low_rr rk);
+        masks = λ i lt x y z. r.masks i lt x y z ∙ ma i lt x;
+        inside = r.inside;
+        back = r.back;
+        bound = omega (arith, r.bound);
+      }
+  stmt_after t c c1 d pc k co rr n q (Trapped p s) h sp ma m r = failed_after w ready c c1 d q p s h r
+  stmt_after t c c1 d pc k co rr n q (Cut s) h sp ma m r = stopped_after w ready t c c1 d q s h r
+
+  -- ---- what follows; d steps are set aside for it
+
+  pub stmt_less : (t : ℕ) (c : Conf) (pc pc' k co rr n d q : ℕ) (v : Res) → pc ≡ pc' → StmtRuns w t c pc k co rr n (d + q) v → StmtRuns w t c pc' k co rr n q v
+  stmt_less t c pc pc' k co rr n d q (Went s g b ct rt) e r = record { conf = r.conf; steps = r.steps; comes = r.comes; at = at_to w r.conf pc pc' r.at e; stands = r.stands; spares = r.spares; went = r.went; continued = r.continued; returned = r.returned; masks = r.masks; inside = r.inside; back = r.back; bound = omega (arith, r.bound) }
+  stmt_less t c pc pc' k co rr n d q (Trapped p s) e r = failed_less w ready c d q p s r
+  stmt_less t c pc pc' k co rr n d q (Cut s) e r = stopped_less w ready t c d q s r
+
+  -- a value, and what follows it
+  pub with_runs : {A : Type 0} (c : Conf) (pc n d q : ℕ) (P : A → Conf → Type 0) (v : Val A) (go : A → State → Res) (pc' k co rr n' : ℕ) → Runs w c pc n (d + q) P v → ((x : A) (s : State) → Ok w c pc n (d + q) (P x) s → StmtRuns w w.turns c pc' k co rr n' q (go x s)) → StmtRuns w w.turns c pc' k co rr n' q (with_value v go)
+  with_runs c pc n d q P (Gives x s) go pc' k co rr n' r f = f x s r
+  with_runs c pc n d q P (Fails p s) go pc' k co rr n' r f = failed_less w ready c d q p s r
+  with_runs c pc n d q P (Stops s) go pc' k co rr n' r f = stopped_less w ready w.turns c d q s r
+
+  -- a statement, and what follows it
+  pub go_runs : (t : ℕ) (c : Conf) (pc k co rr n d q : ℕ) (v : Res) (go : State → Mask → Mask → Mask → Mask → Res) (pc' k' co' rr' n' : ℕ) → StmtRuns w t c pc k co rr n (d + q) v → ((s : State) (g b ct rt : Mask) → v ≡ Went s g b ct rt → StmtOk w c pc k co rr n (d + q) s g ct rt → StmtRuns w t c pc' k' co' rr' n' q (go s g b ct rt)) → StmtRuns w t c pc' k' co' rr' n' q (go_on v go)
+  go_runs t c pc k co rr n d q (Went s g b ct rt) go pc' k' co' rr' n' r f = f s g b ct rt refl r
+  go_runs t c pc k co rr n d q (Trapped p s) go pc' k' co' rr' n' r f = failed_less w ready c d q p s r
+  go_runs t c pc k co rr n d q (Cut s) go pc' k' co' rr' n' r f = stopped_less w ready t c d q s r
+
+  -- ---- all go on
+
+  pub plain_ok : (c c1 : Conf) (d pc k co rr n q : ℕ) (a : Mask) (s : State) → Comes w c d c1 → At w c1 pc → Stands w s c1 → Spares w n c c1 → ((r : ℕ) → r < n → c1.masks r ≡ c.masks r) → AreThree k co rr n → c.masks k ≡ a → Inside w a → d + q ≤ 32 * s.work → StmtOk w c pc k co rr n q s a nobody nobody
+  plain_ok c c1 d pc k co rr n q a s h at st sp ma m em inside le = record {
+    conf = c1;
+    steps = d;
+    comes = h;
+    at = at;
+    stands = st;
+    spares = sp;
+    went = ma k m.low_k ∙ em;
+    continued = ma co m.low_co ∙ sym (union_nobody (c.masks co));
+    returned = ma rr m.low_rr ∙ sym (union_nobody (c.masks rr));
+    masks = λ r lt x y z. ma r lt;
+    inside = inside;
+    back = below_nobody (gang_of w);
+    bound = le;
+  }
+
+  pub all_runs : (c : Conf) (pc k co rr n q : ℕ) (a : Mask) (v : Val Done) → AreThree k co rr n → c.masks k ≡ a → Inside w a → DoneRuns w c pc n q v → StmtRuns w w.turns c pc k co rr n q (all_go a v)
+  all_runs c pc k co rr n q a (Gives x s) m em inside r = plain_ok c r.conf r.steps pc k co rr n q a s r.comes r.at r.stands r.spares r.masks m em inside r.bound
+  all_runs c pc k co rr n q a (Fails p s) m em inside r = r
+  all_runs c pc k co rr n q a (Stops s) m em inside r = r
+
+  -- ---- a jump after what is done
+
+  pub jump_after : (t : ℕ) (c : Conf) (pc to k co rr n q : ℕ) (v : Res) → slice_get w.routine.code pc ≡ Some (instr.Jump to) → StmtRuns w t c pc k co rr n (1 + q) v → StmtRuns w t c to k co rr n q v
+  jump_after t c pc to k co rr n q (Went s g b ct rt) has r =
+      let c2 = r.conf in
+      let c3 : Conf = record c2 { pc = to } in
+      record {
+        conf = c3;
+        steps = r.steps + 1;
+        comes = comes_on w c c2 c3 r.steps 1 r.comes (step_go w c2 pc (instr.Jump to) c3 ready r.at has refl);
+        at = record { home_is = r.at.home_is; waiting_is = r.at.waiting_is; pc_is = refl };
+        stands = r.stands;
+        spares = r.spares;
+        went = r.went;
+        continued = r.continued;
+        returned = r.returned;
+        masks = r.masks;
+        inside = r.inside;
+        back = r.back;
+        bound = omega (arith, r.bound);
+      }
+  jump_after t c pc to k co rr n q (Trapped p s) has r = failed_less w ready c 1 q p s r
+  jump_after t c pc to k co rr n q (Cut s) has r = stopped_less w ready t c 1 q s r
+
+  -- ---- code that is jumped over where its set is empty
+
+  pub guard_runs : (t pc j co rr n q : ℕ) (a : Mask) (s : State) (c : Conf) (body : ℕ → List Instr) (v : Mask → State → Res) → At w c pc → c.masks j ≡ a → Inside w a → Stands w s c → 1 + q ≤ 32 * s.work → AreThree j co rr n → AreAt w.routine.code pc (guard (jump_off j) pc body) → ((c1 : Conf) (z : ℕ) → Enters w (pc + 1) j n a s c1 z → StmtRuns w t c1 (pc + 1 + length (body (pc + 1))) j co rr n z (v a s)) → StmtRuns w t c (pc + length (guard (jump_off j) pc body)) j co rr n q (unless_empty (gang_of w) a s v)
+  guard_runs t pc j co rr n q a s c body v at em inside st le m has rb =
+      stmt_after t c c4 1 end j co rr n q _ (jump_comes w ready c pc jump.Off (mask_register j) to at has.0) (spares_all w ready n c) (λ r h ne. refl) m (go (any (gang_of w) a) refl)
+    where
+      to : ℕ
+      to = pc + 1 + length (body (pc + 1))
+
+      end : ℕ
+      end = pc + length (guard (jump_off j) pc body)
+
+      ends : to ≡ end
+      ends = omega arith
+
+      c4 : Conf
+      c4 = jumped w ready c jump.Off (mask_register j) to
+
+      off_is : (b : Bool) → any (gang_of w) a ≡ b → jumps w.code w.routine c jump.Off (mask_register j) ≡ not b
+      off_is b e = ap (λ z. not (any (gang_of w) z)) em ∙ ap not e
+
+      go : (b : Bool) → any (gang_of w) a ≡ b → StmtRuns w t c4 end j co rr n (1 + q) (if_so b (v a) (went_all a) s)
+      go true e = subst (λ z. StmtRuns w t c4 z j co rr n (1 + q) (v a s)) ends (rb c4 (1 + q) (record { at = jump_at w ready c pc jump.Off (mask_register j) to false at (off_is true e); mask = em; some = e; inside = inside; stands = st; used = le; low = m.low_k }))
+      go false e = plain_ok c4 c4 0 end j co rr n (1 + q) a s (comes_none w c4) (at_to w c4 to end (jump_at w ready c pc jump.Off (mask_register j) to true at (off_is false e)) ends) st (spares_all w ready n c4) (λ r h. refl) m em inside (omega arith)

@@ -1,0 +1,26 @@
+-- How many instructions the forms have, besides their tests and parts.
+use Rattle.std.proofs.Common.{◌≡◌, ℕ, [], length, refl}
+use Rattle.isp_base.specs.declared.types.Rate.TheVariants.{Uniform, Varying}
+use Rattle.isp_tree.specs.declared.stmt.Jump.TheVariants.{Break, Continue}
+use Rattle.isp_masks.specs.Statements.{leave_code, jump_code, if_code, if_else_code}
+
+uniform_if : (x pc k n : ℕ) → length (if_code Uniform x pc k n (λ p m i. [])) ≡ 1
+uniform_if x pc k n = refl
+
+uniform_if_else : (x pc k n : ℕ) → length (if_else_code Uniform x pc k n (λ p m i. []) (λ p m i. [])) ≡ 2
+uniform_if_else x pc k n = refl
+
+varying_if : (x pc k n : ℕ) → length (if_code Varying x pc k n (λ p m i. [])) ≡ 4
+varying_if x pc k n = refl
+
+varying_if_else : (x pc k n : ℕ) → length (if_else_code Varying x pc k n (λ p m i. []) (λ p m i. [])) ≡ 5
+varying_if_else x pc k n = refl
+
+break_count : (k co : ℕ) → length (jump_code Break k co) ≡ 1
+break_count k co = refl
+
+continue_count : (k co : ℕ) → length (jump_code Continue k co) ≡ 2
+continue_count k co = refl
+
+return_count : (rr k : ℕ) → length (leave_code rr k) ≡ 2
+return_count rr k = refl

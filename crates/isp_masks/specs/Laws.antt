@@ -1,0 +1,65 @@
+-- What holds of the code of every statement that fits.
+use Rattle.std.specs.Prelude.{◌≡◌, ◌≤◌, ℕ, ◌+◌, List, ◌++◌, length, Option, true}
+use Rattle.isp_base.specs.Binding.{has_signature}
+use Rattle.isp_base.specs.declared.signature.Argument.{Argument}
+use Rattle.isp_base.specs.Sets.{Mask}
+use Rattle.isp_code.specs.Conf.{Conf}
+use Rattle.isp_base.specs.declared.types.Ty.{Ty}
+use Rattle.isp_code.specs.Fine.{IsGiven}
+use Rattle.isp_code.specs.Listing.{Listing, Routine}
+use Rattle.isp_typed.specs.Typed.{TStmt, TBlock, Program, TFunction}
+use Rattle.isp_meaning.specs.State.{State}
+use Rattle.isp_meaning.specs.Statements.{run}
+use Rattle.isp_lower.specs.Setting.{Setting, IsSettled, gang_of, AreAt}
+use Rattle.isp_lower.specs.Layout.{Layout}
+use Rattle.isp_lower.specs.Runs.{Enters}
+use Rattle.isp_masks.specs.Agreement.{AreShort, RunsAgree, Agrees}
+use Rattle.isp_masks.specs.Compiled.{entry_setting, IsCompiled, IsProgramCode, PassedUniform, PassedFirst, parameter_rows}
+use Rattle.isp_lower.specs.Rows.{Row, Rows, layout_of}
+use Rattle.isp_masks.specs.Statements.{stays, stmt_code, stmt_places, block_places, returned, function_code}
+use Rattle.isp_masks.specs.Sound.{AreSound, BlockSound}
+use Rattle.isp_masks.specs.Fits.{StmtFits, BlockFits}
+use Rattle.isp_masks.specs.Parts.{BlockTree, BlockTable, IsPlainBlock}
+use Rattle.isp_lower.specs.Fits.{ArrayFits}
+use Rattle.isp_masks.specs.Arrays.{ArraysStand}
+use Rattle.isp_typed.specs.Fine.{HoldsArray, FineBlock}
+use Rattle.isp_typed.specs.declared.variable.ArrayVariable.{ArrayVariable}
+use Rattle.isp_typed.specs.declared.variable.Variable.{Variable}
+use Rattle.isp_masks.specs.StmtRuns.{AreThree, aside, StmtRuns}
+
+-- From registers that stand for a state and a mask that stands for a set with members, the code of a statement leaves
+-- registers that stand for the state after it and masks for those that went on, continued and returned; it traps as the
+-- statement traps, and goes on where it is cut.
+abbrev pub StatementRuns : Type 0
+StatementRuns =
+    (w : Setting) → IsSettled w → (x : TStmt) (pc p k co rr n q : ℕ) (a : Mask) (s : State) (c : Conf) → StmtFits w x n → AreAt w.routine.code pc (stmt_code w.layout w.frame.answer x pc p k co rr n) → AreAt w.code.places p (stmt_places w.layout x) → AreThree k co rr n → Enters w pc k n a s c q → StmtRuns w w.turns c (pc + length (stmt_code w.layout w.frame.answer x pc p k co rr n)) k co rr n (aside (stays x) + q) (run (gang_of w) w.frame w.calls w.turns x a s)
+
+-- The code of a function agrees with it, whatever the arguments are.
+abbrev pub EntryRuns : Type 0
+EntryRuns =
+    (program : Program) (code : Listing) (f : ℕ) (h : TFunction) (g : Routine) (l : Layout) (p : ℕ) → IsCompiled program code f h g l p → (xs : List Argument) → has_signature h.parameters xs ≡ true → AreShort xs → RunsAgree program code f g xs
+
+-- Code that has the functions of a program agrees with it.
+abbrev pub ProgramRuns : Type 0
+ProgramRuns = (program : Program) (code : Listing) → IsProgramCode program code → Agrees program code
+
+-- Each instruction of a function's code has its operands, if its parts have and its result is one of the function.
+abbrev pub FunctionSound : Type 0
+FunctionSound =
+    (code : Listing) (h : Routine) (l : Layout) (answer : Option Ty) (b : TBlock) (p : ℕ) → h.code ≡ function_code l answer b p → BlockSound code h l answer b 3 → 3 ≤ h.masks → p + length (block_places l b) ≤ length code.places → IsGiven h h.returns (returned l answer) → AreSound code h h.code
+
+-- What is demanded of a body is what is asked of its tree, and what is asked of the table of registers; and the tree of a
+-- body of an accepted program is as asked, but for what that leaves open.
+pub record BodiesFit : Type 0 where
+  pub parts : (w : Setting) (b : TBlock) (n : ℕ) → BlockTree w.frame.answer b → BlockTable w b n → BlockFits w b n
+  pub tree : (fs : List TFunction) (vars : List Variable) (answer : Option Ty) (b : TBlock) → FineBlock fs vars answer b → IsPlainBlock answer b → BlockTree answer b
+
+-- A layout from rows passes values first, if the rows of the parameters come first.
+abbrev pub ParametersFirst : Type 0
+ParametersFirst =
+    (h : TFunction) (rows : Rows) (more : List Row) → rows.scalars ≡ parameter_rows 0 h.parameters ++ more → PassedUniform h → PassedFirst h (layout_of rows)
+
+-- The registers of an entry's arrays are what its variables are, whatever the arguments are.
+abbrev pub EntryArraysFit : Type 0
+EntryArraysFit =
+    (program : Program) (code : Listing) (f : ℕ) (h : TFunction) (g : Routine) (l : Layout) (turns : ℕ) (xs : List Argument) → ArraysStand h g l → has_signature h.parameters xs ≡ true → AreShort xs → (b : ArrayVariable) → HoldsArray h.variables b → ArrayFits (entry_setting program code f h g l turns xs) b
