@@ -1,2 +1,4 @@
 mod Combine
+mod Branches
+mod Parts
 mod Stmts
