@@ -46,7 +46,7 @@ module _ (w : Setting) (ready : IsSettled w) where
       }
 
   -- a step that was set aside is not made
-  stmt_less : (c : Conf) (pc pc' k co rr n q : ℕ) (v : Res) → pc ≡ pc' → StmtRuns w c pc k co rr n (1 + q) v → StmtRuns w c pc' k co rr n q v
+  pub stmt_less : (c : Conf) (pc pc' k co rr n q : ℕ) (v : Res) → pc ≡ pc' → StmtRuns w c pc k co rr n (1 + q) v → StmtRuns w c pc' k co rr n q v
   stmt_less c pc pc' k co rr n q (Trapped p s) to r = failed_less w ready c 1 q p s r
   stmt_less c pc pc' k co rr n q (Cut s) to r = stopped_less w ready w.turns c 1 q s r
   stmt_less c pc pc' k co rr n q (Went s g b ct rt) to r = record {
@@ -64,9 +64,9 @@ module _ (w : Setting) (ready : IsSettled w) where
     bound = omega (arith, r.bound);
   }
 
-  pub branch_one : (first second : Mask → State → Res) (c : Conf) (pc k co rr n q : ℕ) (a : Mask) (vt : Val Payload) (f : ℕ) (ct : List Instr) (ca cb : ℕ → List Instr) → Masks k co rr n → c.masks k ≡ a → k < n → any (gang_of w) a ≡ true → Inside w ready a → AreAt w.routine.code pc (two pc ct (λ p1. choice (jump_on jump.False f) p1 ca cb)) → Runs w c (pc + length ct) n (3 + q) (Holds Uniform a f) vt → ((s : State) (c1 : Conf) (pc1 z : ℕ) → AreAt w.routine.code pc1 (ca pc1) → Enters w pc1 k n a s c1 z → StmtRuns w c1 (pc1 + length (ca pc1)) k co rr n (1 + z) (first a s)) → ((s : State) (c1 : Conf) (pc1 z : ℕ) → AreAt w.routine.code pc1 (cb pc1) → Enters w pc1 k n a s c1 z → StmtRuns w c1 (pc1 + length (cb pc1)) k co rr n (1 + z) (second a s)) → StmtRuns w c (pc + length (two pc ct (λ p1. choice (jump_on jump.False f) p1 ca cb))) k co rr n q (with_value vt (λ m s1. branches (gang_of w) a first second m s1))
+  pub branch_one : (first second : Mask → State → Res) (c : Conf) (pc k co rr n q : ℕ) (a : Mask) (vt : Val Payload) (f : ℕ) (ct : List Instr) (ca cb : ℕ → List Instr) → Masks k co rr n → c.masks k ≡ a → k < n → any (gang_of w) a ≡ true → Inside w ready a → AreAt w.routine.code pc (two pc ct (λ p1. choice (jump_on jump.False f) p1 ca cb)) → Runs w c (pc + length ct) n (7 + q) (Holds Uniform a f) vt → ((s : State) (c1 : Conf) (pc1 z : ℕ) → AreAt w.routine.code pc1 (ca pc1) → Enters w pc1 k n a s c1 z → StmtRuns w c1 (pc1 + length (ca pc1)) k co rr n (1 + z) (first a s)) → ((s : State) (c1 : Conf) (pc1 z : ℕ) → AreAt w.routine.code pc1 (cb pc1) → Enters w pc1 k n a s c1 z → StmtRuns w c1 (pc1 + length (cb pc1)) k co rr n z (second a s)) → StmtRuns w c (pc + length (two pc ct (λ p1. choice (jump_on jump.False f) p1 ca cb))) k co rr n q (with_value vt (λ m s1. branches (gang_of w) a first second m s1))
   branch_one first second c pc k co rr n q a vt f ct ca cb ms em lk some inside has rt ra rb =
-      with_runs w ready c p1 n 3 q (Holds Uniform a f) vt _ end k co rr n rt
+      with_runs w ready c p1 n 7 q (Holds Uniform a f) vt _ end k co rr n rt
       (λ m s ok. subst (λ x. StmtRuns w c end k co rr n q (branches (gang_of w) a first second x s)) (sym ok.holds) (rest m s ok))
     where
       p1 : ℕ
@@ -90,7 +90,7 @@ module _ (w : Setting) (ready : IsSettled w) where
       ends : to ≡ end
       ends = omega (arith, length-append ct (jump_on jump.False f pb ∷ (ca (p1 + 1) ++ instr.Jump to ∷ cb pb)), length-append (ca (p1 + 1)) (instr.Jump to ∷ cb pb))
 
-      rest : (m : Payload) (s : State) (ok : Ok w c p1 n (3 + q) (Holds Uniform a f m) s) → StmtRuns w c end k co rr n q (branches (gang_of w) a first second (One (ok.conf.scalars f)) s)
+      rest : (m : Payload) (s : State) (ok : Ok w c p1 n (7 + q) (Holds Uniform a f m) s) → StmtRuns w c end k co rr n q (branches (gang_of w) a first second (One (ok.conf.scalars f)) s)
       rest m s ok = stmt_after w ready c c4 (ok.steps + 1) end k co rr n q _ (comes_on w c c1 c4 ok.steps 1 ok.comes (jump_comes w ready c1 p1 jump.False (register Uniform f) pb ok.at at1.0)) (spares_kept w ready n c c1 ok.keeps) (λ r lt x. ok.masks r lt) ms (go (is_true (c1.scalars f)) refl)
         where
           c1 : Conf
@@ -108,5 +108,5 @@ module _ (w : Setting) (ready : IsSettled w) where
               (jump_after c4 (p1 + 1 + length (ca (p1 + 1))) to k co rr n q1 (first a s) at2.0
               (ra s c4 (p1 + 1) q1 (are_front w.routine.code (p1 + 1) (ca (p1 + 1)) _ at1.1) (record { at = jump_at w ready c1 p1 jump.False (register Uniform f) pb false ok.at (ap not e); mask = ok.masks k lk ∙ em; some = some; inside = inside; stands = ok.stands; used = omega (arith, ok.bound); low = lk })))
           go false e =
-              stmt_less c4 to end k co rr n q1 (second a s) ends
+              subst (λ z. StmtRuns w c4 z k co rr n q1 (second a s)) ends
               (rb s c4 pb q1 at2.1 (record { at = jump_at w ready c1 p1 jump.False (register Uniform f) pb true ok.at (ap not e); mask = ok.masks k lk ∙ em; some = some; inside = inside; stands = ok.stands; used = omega (arith, ok.bound); low = lk }))

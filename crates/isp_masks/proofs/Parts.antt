@@ -4,7 +4,8 @@ use Rattle.std.specs.Prelude.{slice_get, not, ◌||◌, ◌&&◌, if◌then◌el
 use Rattle.std.proofs.Math.Path.{fun_ext}
 use Rattle.isp_base.specs.Maps.{Lanes, on, where_true}
 use Rattle.isp_base.specs.Sets.{Mask, nobody, union, without, any}
-use Rattle.isp_base.specs.declared.types.Rate.TheVariants.{Varying}
+use Rattle.isp_base.specs.declared.types.Rate.{Rate}
+use Rattle.isp_base.specs.declared.types.Rate.TheVariants.{Uniform, Varying}
 use Rattle.isp_code.specs.Conf.{Conf}
 use Rattle.isp_code.specs.declared.instr.Instr.{Instr}
 use Rattle.isp_meaning.specs.State.{State}
@@ -21,8 +22,9 @@ use Rattle.isp_lower.proofs.Done.{spares_kept, spares_on, spares_less}
 use Rattle.isp_lower.proofs.Jumps.{masked, where_comes, others_comes, masked_at}
 use Rattle.isp_lower.proofs.Logic.{any_nobody, where_inside}
 use Rattle.isp_lower.proofs.Nodes.{enters_less}
-use Rattle.isp_masks.specs.Statements.{both_of, branch_code}
+use Rattle.isp_masks.specs.Statements.{both_of, branch_code, branch_slot}
 use Rattle.isp_masks.specs.Runs.{Masks, StmtOk, StmtRuns}
+use Rattle.isp_masks.proofs.Branches.{branch_one}
 use Rattle.isp_masks.proofs.Combine.{Inside, union_none, union_assoc, stmt_after, with_runs, guard_runs}
 
 none_union : (a : Mask) → union nobody a ≡ a
@@ -139,7 +141,7 @@ module _ (w : Setting) (ready : IsSettled w) where
             bound = omega (arith, h.bound);
           }
 
-  pub branch_each : (first second : Mask → State → Res) (c : Conf) (pc k co rr n q : ℕ) (a : Mask) (vt : Val Payload) (f : ℕ) (ct : List Instr) (ca cb : ℕ → ℕ → ℕ → List Instr) → Masks k co rr n → c.masks k ≡ a → k < n → any (gang_of w) a ≡ true → Inside w ready a → AreAt w.routine.code pc (branch_code Varying f pc k n ct ca cb) → Runs w c (pc + length ct) n (7 + q) (Holds Varying a f) vt → ((T : Mask) (s : State) (c1 : Conf) (pc1 z : ℕ) → AreAt w.routine.code pc1 (ca pc1 n (n + 2)) → Enters w pc1 n (n + 2) T s c1 z → StmtRuns w c1 (pc1 + length (ca pc1 n (n + 2))) n co rr (n + 2) (1 + z) (first T s)) → ((T : Mask) (s : State) (c1 : Conf) (pc1 z : ℕ) → AreAt w.routine.code pc1 (cb pc1 (n + 1) (n + 2)) → Enters w pc1 (n + 1) (n + 2) T s c1 z → StmtRuns w c1 (pc1 + length (cb pc1 (n + 1) (n + 2))) (n + 1) co rr (n + 2) (1 + z) (second T s)) → StmtRuns w c (pc + length (branch_code Varying f pc k n ct ca cb)) k co rr n q (with_value vt (λ m s1. branches (gang_of w) a first second m s1))
+  pub branch_each : (first second : Mask → State → Res) (c : Conf) (pc k co rr n q : ℕ) (a : Mask) (vt : Val Payload) (f : ℕ) (ct : List Instr) (ca cb : ℕ → ℕ → ℕ → List Instr) → Masks k co rr n → c.masks k ≡ a → k < n → any (gang_of w) a ≡ true → Inside w ready a → AreAt w.routine.code pc (branch_code Varying f pc k n ct ca cb) → Runs w c (pc + length ct) n (7 + q) (Holds Varying a f) vt → ((T : Mask) (s : State) (c1 : Conf) (pc1 z : ℕ) → AreAt w.routine.code pc1 (ca pc1 n (n + 2)) → Enters w pc1 n (n + 2) T s c1 z → StmtRuns w c1 (pc1 + length (ca pc1 n (n + 2))) n co rr (n + 2) (1 + z) (first T s)) → ((T : Mask) (s : State) (c1 : Conf) (pc1 z : ℕ) → AreAt w.routine.code pc1 (cb pc1 (n + 1) (n + 2)) → Enters w pc1 (n + 1) (n + 2) T s c1 z → StmtRuns w c1 (pc1 + length (cb pc1 (n + 1) (n + 2))) (n + 1) co rr (n + 2) z (second T s)) → StmtRuns w c (pc + length (branch_code Varying f pc k n ct ca cb)) k co rr n q (with_value vt (λ m s1. branches (gang_of w) a first second m s1))
   branch_each first second c pc k co rr n q a vt f ct ca cb ms em lk some inside has rt ra rb = with_runs w ready c p1 n 7 q (Holds Varying a f) vt _ end k co rr n rt rest
     where
       p1 : ℕ
@@ -184,7 +186,7 @@ module _ (w : Setting) (ready : IsSettled w) where
           (λ c4 en. ra T s c4 (p2 + 1) (3 + q1) (are_front w.routine.code p2 side _ at1.1.1).1 (enters_less w ready (p2 + 1) n (n + 2) (3 + q1) (1 + (3 + q1)) T s c4 (omega arith) en)))
           (λ s1 g ct2 rt2 r1.
           guard_runs w ready r1.conf p3 (n + 1) co rr (n + 2) (1 + (r1.steps + q1)) F s1 (λ pc3. cb pc3 (n + 1) (n + 2)) second r1.at (r1.masks (n + 1) (omega arith) n1_n n1_c n1_r ∙ e3) (others_inside a T inside) r1.stands (omega (arith, r1.bound)) (omega arith) masks_1 (are_front w.routine.code p3 other _ at3)
-          (λ c4 en. rb F s1 c4 (p3 + 1) (1 + (r1.steps + q1)) (are_front w.routine.code p3 other _ at3).1 (enters_less w ready (p3 + 1) (n + 1) (n + 2) (1 + (r1.steps + q1)) (1 + (1 + (r1.steps + q1))) F s1 c4 (omega arith) en)))))
+          (λ c4 en. rb F s1 c4 (p3 + 1) (1 + (1 + (r1.steps + q1))) (are_front w.routine.code p3 other _ at3).1 en))))
         where
           c1 : Conf
           c1 = ok.conf
@@ -245,3 +247,21 @@ module _ (w : Setting) (ready : IsSettled w) where
 
           masks_1 : Masks (n + 1) co rr (n + 2)
           masks_1 = let lc : co < n = ms.low_c in let lr : rr < n = ms.low_r in record { low_c = omega arith; low_r = omega arith; k_c = omega arith; k_r = omega arith; c_r = ms.c_r }
+
+  -- a test of either rate; the branches are at the slot that it leaves
+  pub branch_runs : (g : Rate) (first second : Mask → State → Res) (c : Conf) (pc k co rr n q : ℕ) (a : Mask) (vt : Val Payload) (f : ℕ) (ct : List Instr) (ca cb : ℕ → ℕ → ℕ → List Instr) → Masks k co rr n → c.masks k ≡ a → k < n → any (gang_of w) a ≡ true → Inside w ready a → AreAt w.routine.code pc (branch_code g f pc k n ct ca cb) → Runs w c (pc + length ct) n (7 + q) (Holds g a f) vt → ((T : Mask) (s : State) (c1 : Conf) (pc1 z j : ℕ) → AreAt w.routine.code pc1 (ca pc1 j (branch_slot g n)) → Masks j co rr (branch_slot g n) → Enters w pc1 j (branch_slot g n) T s c1 z → StmtRuns w c1 (pc1 + length (ca pc1 j (branch_slot g n))) j co rr (branch_slot g n) (1 + z) (first T s)) → ((T : Mask) (s : State) (c1 : Conf) (pc1 z j : ℕ) → AreAt w.routine.code pc1 (cb pc1 j (branch_slot g n)) → Masks j co rr (branch_slot g n) → Enters w pc1 j (branch_slot g n) T s c1 z → StmtRuns w c1 (pc1 + length (cb pc1 j (branch_slot g n))) j co rr (branch_slot g n) z (second T s)) → StmtRuns w c (pc + length (branch_code g f pc k n ct ca cb)) k co rr n q (with_value vt (λ m s1. branches (gang_of w) a first second m s1))
+  branch_runs Uniform first second c pc k co rr n q a vt f ct ca cb ms em lk some inside has rt ra rb =
+      branch_one w ready first second c pc k co rr n q a vt f ct (λ pc2. ca pc2 k n) (λ pc2. cb pc2 k n) ms em lk some inside has rt (λ s c1 pc1 z at en. ra a s c1 pc1 z k at ms en) (λ s c1 pc1 z at en. rb a s c1 pc1 z k at ms en)
+  branch_runs Varying first second c pc k co rr n q a vt f ct ca cb ms em lk some inside has rt ra rb =
+      branch_each first second c pc k co rr n q a vt f ct ca cb ms em lk some inside has rt (λ T s c1 pc1 z at en. ra T s c1 pc1 z n at first_masks en) (λ T s c1 pc1 z at en. rb T s c1 pc1 z (n + 1) at second_masks en)
+    where
+      first_masks : Masks n co rr (n + 2)
+      first_masks = let lc : co < n = ms.low_c in let lr : rr < n = ms.low_r in record { low_c = omega arith; low_r = omega arith; k_c = omega arith; k_r = omega arith; c_r = ms.c_r }
+
+      second_masks : Masks (n + 1) co rr (n + 2)
+      second_masks = let lc : co < n = ms.low_c in let lr : rr < n = ms.low_r in record { low_c = omega arith; low_r = omega arith; k_c = omega arith; k_r = omega arith; c_r = ms.c_r }
+
+  -- the test comes first
+  pub branch_front : (g : Rate) (f pc k n : ℕ) (ct : List Instr) (ca cb : ℕ → ℕ → ℕ → List Instr) → AreAt w.routine.code pc (branch_code g f pc k n ct ca cb) → AreAt w.routine.code pc ct
+  branch_front Uniform f pc k n ct ca cb has = are_front w.routine.code pc ct _ has
+  branch_front Varying f pc k n ct ca cb has = are_front w.routine.code pc ct _ has

@@ -13,8 +13,14 @@ use Rattle.isp_lower.proofs.Base.{are_front, are_back}
 use Rattle.isp_lower.proofs.Nodes.{enters_less, enters_part}
 use Rattle.isp_lower.proofs.Updates.{simple_runs}
 use Rattle.isp_lower.proofs.Items.{items_run}
-use Rattle.isp_masks.specs.Statements.{stmt_code, stmt_places, block_code, block_places, stmts_code, stmts_places, rest_code, StmtFits, BlockFits, StmtsFit}
+use Rattle.isp_masks.specs.Statements.{branch_slot, stmt_code, stmt_places, block_code, block_places, stmts_code, stmts_places, rest_code, StmtFits, BlockFits, StmtsFit}
 use Rattle.isp_masks.specs.Runs.{Masks, StmtOk, StmtRuns}
+use Rattle.isp_lower.specs.Fits.{heads}
+use Rattle.isp_lower.specs.Code.{found, expr_places, expr_code}
+use Rattle.isp_lower.proofs.Found.{few}
+use Rattle.isp_lower.proofs.Exprs.{means, expr_runs}
+use Rattle.isp_masks.proofs.Branches.{stmt_less}
+use Rattle.isp_masks.proofs.Parts.{branch_runs, branch_front}
 use Rattle.isp_masks.proofs.Combine.{Inside, all_runs, none_ok, then_runs, guard_runs}
 
 module _ (w : Setting) (ready : IsSettled w) where
@@ -64,8 +70,26 @@ module _ (w : Setting) (ready : IsSettled w) where
     stmt_runs (t_simple x sp) pc p k co rr n q a s c fit has places m e =
         all_runs w ready c _ k co rr n (1 + q) a (simple (gang_of w) w.frame w.calls x a s) m e.low e.mask e.inside
         (simple_runs w ready x pc p k n (1 + q) a s c fit has places (enters_part w ready pc k n (3 + (1 + q)) q a s c (omega arith) e))
-    stmt_runs (t_if f v e x sp) pc p k co rr n q a s c fit has places m en = absurd fit
-    stmt_runs (t_if_else f v e x y sp) pc p k co rr n q a s c fit has places m en = absurd fit
+    stmt_runs (t_if f v e x sp) pc p k co rr n q a s c fit has places m en =
+        let fe : heads e ≤ 1 = few w e n fit.0 in
+        let g = (type_of e).rate in
+        let ce = expr_code w.layout e pc p k n in
+        let p1 = p + length (expr_places w.layout e) in
+        let pl = are_back w.code.places p (expr_places w.layout e) _ places in
+        branch_runs w ready g (does x) went_all c pc k co rr n (1 + q) a (means w ready e a (tick s)) (found w.layout e n) ce (λ pc1 j i. stmt_code w.layout x pc1 p1 j co rr i) (λ pc1 j i. []) m en.mask en.low en.some en.inside has
+        (expr_runs w ready e pc p k n (7 + (1 + q)) a (tick s) c fit.0 (branch_front w ready g (found w.layout e n) pc k n ce (λ pc1 j i. stmt_code w.layout x pc1 p1 j co rr i) (λ pc1 j i. []) has) (are_front w.code.places p (expr_places w.layout e) _ places) (enters_part w ready pc k n (heads e + (7 + (1 + q))) q a s c (omega arith) en))
+        (λ T s1 c1 pc1 z j at ms e1. stmt_runs x pc1 p1 j co rr (branch_slot g n) z T s1 c1 fit.1 (at) (are_front w.code.places p1 (stmt_places w.layout x) _ pl) ms e1)
+        (λ T s1 c1 pc1 z j at ms e1. none_ok w ready c1 pc1 _ j co rr (branch_slot g n) z T s1 e1.at (omega arith) e1.mask e1.inside e1.stands e1.used)
+    stmt_runs (t_if_else f v e x y sp) pc p k co rr n q a s c fit has places m en =
+        let fe : heads e ≤ 1 = few w e n fit.0 in
+        let g = (type_of e).rate in
+        let ce = expr_code w.layout e pc p k n in
+        let p1 = p + length (expr_places w.layout e) in
+        let pl = are_back w.code.places p (expr_places w.layout e) _ places in
+        branch_runs w ready g (does x) (does y) c pc k co rr n (1 + q) a (means w ready e a (tick s)) (found w.layout e n) ce (λ pc1 j i. stmt_code w.layout x pc1 p1 j co rr i) (λ pc1 j i. stmt_code w.layout y pc1 (p1 + length (stmt_places w.layout x)) j co rr i) m en.mask en.low en.some en.inside has
+        (expr_runs w ready e pc p k n (7 + (1 + q)) a (tick s) c fit.0 (branch_front w ready g (found w.layout e n) pc k n ce (λ pc1 j i. stmt_code w.layout x pc1 p1 j co rr i) (λ pc1 j i. stmt_code w.layout y pc1 (p1 + length (stmt_places w.layout x)) j co rr i) has) (are_front w.code.places p (expr_places w.layout e) _ places) (enters_part w ready pc k n (heads e + (7 + (1 + q))) q a s c (omega arith) en))
+        (λ T s1 c1 pc1 z j at ms e1. stmt_runs x pc1 p1 j co rr (branch_slot g n) z T s1 c1 fit.1 (at) (are_front w.code.places p1 (stmt_places w.layout x) _ pl) ms e1)
+        (λ T s1 c1 pc1 z j at ms e1. stmt_less w ready c1 _ _ j co rr (branch_slot g n) z (does y T s1) refl (stmt_runs y pc1 (p1 + length (stmt_places w.layout x)) j co rr (branch_slot g n) z T s1 c1 fit.2 at (are_back w.code.places p1 (stmt_places w.layout x) _ pl) ms e1))
     stmt_runs (t_while f v e x sp) pc p k co rr n q a s c fit has places m en = absurd fit
     stmt_runs (t_do f v x e sp) pc p k co rr n q a s c fit has places m en = absurd fit
     stmt_runs (t_for f v i e st m x sp) pc p k co rr n q a s c fit has places ms en = absurd fit

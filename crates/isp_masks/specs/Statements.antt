@@ -100,8 +100,9 @@ module _ (w : Setting) where
     StmtFits (t_block b) n = BlockFits b n
     StmtFits (t_declare xs sp) n = ItemsFit w n xs
     StmtFits (t_simple x sp) n = SimpleFits w x n
-    StmtFits (t_if f v e x sp) n = ⊥
-    StmtFits (t_if_else f v e x y sp) n = ⊥
+    StmtFits (t_if f v e x sp) n = ExprFits w e n × StmtFits x (branch_slot (type_of e).rate n)
+    StmtFits (t_if_else f v e x y sp) n =
+        ExprFits w e n × StmtFits x (branch_slot (type_of e).rate n) × StmtFits y (branch_slot (type_of e).rate n)
     StmtFits (t_while f v e x sp) n = ⊥
     StmtFits (t_do f v x e sp) n = ⊥
     StmtFits (t_for f v i e s m x sp) n = ⊥
