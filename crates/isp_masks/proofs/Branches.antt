@@ -1,5 +1,5 @@
 -- `if` by a uniform test: a jump chooses a branch.
-use Rattle.std.proofs.Common.{◌≡◌, ℕ, ◌+◌, ◌*◌, ◌<◌, ◌≤◌, List, ◌∷◌, ◌++◌, length, Some, Bool, true, false, refl, sym, ap, ◌∙◌, subst, arith, length-append}
+use Rattle.std.proofs.Common.{◌≡◌, ℕ, ◌+◌, ◌<◌, List, ◌∷◌, ◌++◌, length, Some, Bool, true, false, refl, sym, ap, ◌∙◌, subst, arith, length-append}
 use Rattle.std.specs.Prelude.{slice_get, not}
 use Rattle.isp_base.specs.Sets.{Mask, any}
 use Rattle.isp_base.specs.declared.types.Rate.TheVariants.{Uniform}
@@ -19,7 +19,7 @@ use Rattle.isp_lower.proofs.Base.{are_front, are_back, comes_on, at_to, step_go}
 use Rattle.isp_lower.proofs.Combine.{failed_less, stopped_less}
 use Rattle.isp_lower.proofs.Done.{spares_kept}
 use Rattle.isp_lower.proofs.Jumps.{jumped, jump_comes, jump_at}
-use Rattle.isp_masks.specs.Runs.{Masks, StmtOk, StmtRuns}
+use Rattle.isp_masks.specs.Runs.{Masks, StmtRuns}
 use Rattle.isp_masks.proofs.Combine.{Inside, stmt_after, with_runs}
 
 module _ (w : Setting) (ready : IsSettled w) where

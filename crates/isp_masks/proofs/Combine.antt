@@ -1,6 +1,6 @@
 -- How statements are put together: what all of a set did, one after the other, and what is jumped over.
 use Rattle.std.proofs.Common.{◌≡◌, ◌≢◌, ℕ, ◌+◌, ◌*◌, ◌<◌, ◌≤◌, List, length, Bool, true, false, refl, sym, ap, ◌∙◌, subst, arith}
-use Rattle.std.specs.Prelude.{◌||◌, not, if◌then◌else◌}
+use Rattle.std.specs.Prelude.{◌||◌, not}
 use Rattle.std.proofs.Math.Path.{fun_ext}
 use Rattle.isp_base.specs.Sets.{Mask, nobody, union, any}
 use Rattle.isp_code.specs.Conf.{Conf}
@@ -18,7 +18,6 @@ use Rattle.isp_lower.proofs.Base.{comes_on, at_to}
 use Rattle.isp_lower.proofs.Combine.{failed_after, stopped_after, failed_less, stopped_less}
 use Rattle.isp_lower.proofs.Done.{spares_all, spares_on}
 use Rattle.isp_lower.proofs.Jumps.{jumped, jump_comes, jump_at}
-use Rattle.isp_lower.proofs.Logic.{is_nobody}
 use Rattle.isp_masks.specs.Runs.{Masks, StmtOk, StmtRuns}
 
 pub union_none : (a : Mask) → a ≡ union a nobody

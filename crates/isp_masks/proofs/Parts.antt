@@ -1,5 +1,5 @@
 -- `if` by a varying test: each branch under its mask, those that went on are of either.
-use Rattle.std.proofs.Common.{◌≡◌, ◌≢◌, ℕ, ◌+◌, ◌*◌, ◌<◌, ◌≤◌, List, [], ◌∷◌, ◌++◌, length, Some, Bool, true, false, refl, sym, ap, ◌∙◌, subst, arith, length-append}
+use Rattle.std.proofs.Common.{◌≡◌, ◌≢◌, ℕ, ◌+◌, ◌<◌, List, [], ◌∷◌, ◌++◌, length, Some, Bool, true, false, refl, sym, ap, ◌∙◌, subst, arith, length-append}
 use Rattle.std.specs.Prelude.{slice_get, not, ◌||◌, ◌&&◌, if◌then◌else◌}
 use Rattle.std.proofs.Math.Path.{fun_ext}
 use Rattle.isp_base.specs.Maps.{Lanes, on, where_true}
@@ -14,7 +14,7 @@ use Rattle.isp_meaning.specs.Outcomes.{Val, Res, Went, Trapped, Cut, with_value,
 use Rattle.isp_meaning.specs.Statements.{branches}
 use Rattle.isp_lower.specs.Setting.{Setting, IsSettled, gang_of, AreAt, At, Holds, at_rate}
 use Rattle.isp_lower.specs.Runs.{Enters, Ok, Runs}
-use Rattle.isp_lower.specs.Code.{guard, jump_off, where_so, the_others, two}
+use Rattle.isp_lower.specs.Code.{guard, jump_off, where_so, the_others}
 use Rattle.isp_lower.proofs.Base.{are_front, are_back, comes_on, at_to, step_go, put_same, put_other}
 use Rattle.isp_lower.proofs.Rates.{one_holds}
 use Rattle.isp_lower.proofs.Combine.{failed_less, stopped_less, failed_after, stopped_after}

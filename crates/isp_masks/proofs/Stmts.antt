@@ -1,20 +1,20 @@
 -- The code of a statement does what the statement means.
-use Rattle.std.proofs.Common.{◌≡◌, ℕ, ◌+◌, ◌*◌, ◌<◌, ◌≤◌, List, [], ◌∷◌, ◌++◌, length, Bool, true, false, refl, sym, ap, ◌∙◌, subst, arith, length-append}
-use Rattle.isp_base.specs.Sets.{Mask, nobody, any}
+use Rattle.std.proofs.Common.{◌≡◌, ℕ, ◌+◌, ◌*◌, ◌<◌, ◌≤◌, [], ◌++◌, length, Bool, true, false, refl, sym, subst, arith, length-append}
+use Rattle.isp_base.specs.Sets.{Mask, any}
 use Rattle.isp_code.specs.Conf.{Conf}
-use Rattle.isp_typed.specs.Typed.{TExpr, TStmt, t_block, t_declare, t_simple, t_if, t_if_else, t_while, t_do, t_for, t_foreach, t_foreach_active, t_unmasked, t_jump, t_return, t_print, t_assert, TBlock, t_braces, TStmts, t_no_stmts, t_stmt_then, type_of}
+use Rattle.isp_typed.specs.Typed.{TStmt, t_block, t_declare, t_simple, t_if, t_if_else, t_while, t_do, t_for, t_foreach, t_foreach_active, t_unmasked, t_jump, t_return, t_print, t_assert, TBlock, t_braces, TStmts, t_no_stmts, t_stmt_then, type_of}
 use Rattle.isp_meaning.specs.State.{State, tick}
-use Rattle.isp_meaning.specs.Outcomes.{Res, Went, went_all, then_run, unless_empty, if_so}
+use Rattle.isp_meaning.specs.Outcomes.{Res, went_all, unless_empty, if_so}
 use Rattle.isp_meaning.specs.Simple.{simple, items}
 use Rattle.isp_meaning.specs.Statements.{run, block, run_all}
 use Rattle.isp_lower.specs.Setting.{Setting, IsSettled, gang_of, AreAt, At, Stands}
 use Rattle.isp_lower.specs.Runs.{Enters}
 use Rattle.isp_lower.proofs.Base.{are_front, are_back}
-use Rattle.isp_lower.proofs.Nodes.{enters_less, enters_part}
+use Rattle.isp_lower.proofs.Nodes.{enters_part}
 use Rattle.isp_lower.proofs.Updates.{simple_runs}
 use Rattle.isp_lower.proofs.Items.{items_run}
 use Rattle.isp_masks.specs.Statements.{branch_slot, stmt_code, stmt_places, block_code, block_places, stmts_code, stmts_places, rest_code, StmtFits, BlockFits, StmtsFit}
-use Rattle.isp_masks.specs.Runs.{Masks, StmtOk, StmtRuns}
+use Rattle.isp_masks.specs.Runs.{Masks, StmtRuns}
 use Rattle.isp_lower.specs.Fits.{heads}
 use Rattle.isp_lower.specs.Code.{found, expr_places, expr_code}
 use Rattle.isp_lower.proofs.Found.{few}

@@ -6,7 +6,7 @@ use Rattle.isp_code.specs.Conf.{Conf}
 use Rattle.isp_meaning.specs.State.{State}
 use Rattle.isp_meaning.specs.Outcomes.{Res, Went, Trapped, Cut}
 use Rattle.isp_lower.specs.Setting.{Setting, gang_of, At, Stands, Spares}
-use Rattle.isp_lower.specs.Runs.{Comes, Enters, Failed, Stopped}
+use Rattle.isp_lower.specs.Runs.{Comes, Failed, Stopped}
 
 -- three mask registers below slot n
 pub record Masks (k co rr n : ℕ) : Type 0 where

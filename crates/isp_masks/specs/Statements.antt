@@ -1,7 +1,6 @@
 -- The code of statements, as a function of their trees. Mask register k has those that run, and afterwards those that
 -- went on; those that continued or returned are added to mask registers co and rr.
-use Rattle.std.specs.Prelude.{◌≡◌, ℕ, ◌+◌, List, [], ◌∷◌, ◌++◌, length}
-use Rattle.isp_base.specs.declared.types.Elem.TheVariants.{Bool as Truth}
+use Rattle.std.specs.Prelude.{ℕ, ◌+◌, List, [], ◌∷◌, ◌++◌, length}
 use Rattle.isp_base.specs.declared.types.Rate.{Rate}
 use Rattle.isp_base.specs.declared.types.Rate.TheVariants.{Uniform, Varying}
 use Rattle.isp_base.specs.declared.types.Span.{Span}
@@ -10,7 +9,7 @@ use Rattle.isp_code.specs.declared.instr.Instr.TheVariants as instr
 use Rattle.isp_code.specs.declared.instr.JumpTest.TheVariants as jump
 use Rattle.isp_code.specs.declared.instr.MaskInstr.TheVariants as mask
 use Rattle.isp_code.specs.declared.instr.MaskOp.TheVariants as mask_op
-use Rattle.isp_typed.specs.Typed.{TExpr, TStmt, t_block, t_declare, t_simple, t_if, t_if_else, t_while, t_do, t_for, t_foreach, t_foreach_active, t_unmasked, t_jump, t_return, t_print, t_assert, TBlock, t_braces, TStmts, t_no_stmts, t_stmt_then, type_of}
+use Rattle.isp_typed.specs.Typed.{TStmt, t_block, t_declare, t_simple, t_if, t_if_else, t_while, t_do, t_for, t_foreach, t_foreach_active, t_unmasked, t_jump, t_return, t_print, t_assert, TBlock, t_braces, TStmts, t_no_stmts, t_stmt_then, type_of}
 use Rattle.isp_lower.specs.Layout.{Layout, mask_register}
 use Rattle.isp_lower.specs.Setting.{Setting}
 use Rattle.isp_lower.specs.Code.{jump_on, jump_off, guard, choice, two, where_so, the_others, found, expr_places, expr_code}
