@@ -8,13 +8,13 @@ ghost use Rattle.isp_base.specs.Unary.{unary_bits};
 ghost use Rattle.isp_lanes.specs.Held.{IsRow};
 
 mod arithmetic;
-mod convert;
+pub(crate) mod operators;
 mod order;
 mod shifts;
 mod signs;
 
 use crate::words::Words;
-pub(crate) use convert::convert;
+pub(crate) use signs::is_signed;
 use isp_base::{BinOp, Compare, Elem, UnaryOp, low_mask};
 use std::simd::prelude::*;
 
@@ -25,26 +25,18 @@ const NUMBERS: [u64; 64] = [
     50, 51, 52, 53, 54, 55, 56, 57, 58, 59, 60, 61, 62, 63,
 ];
 
-// The operator on all lanes.
-pub(crate) fn binary<const N: usize, V: Words<N>>(op: BinOp, elem: Elem, x: V, y: V) -> V
+// The division on all lanes.
+pub(crate) fn divide<const N: usize, V: Words<N>>(op: BinOp, elem: Elem, x: V, y: V) -> V
     requires x_row { IsRow N V.width elem (V.words x) }
     requires y_row { IsRow N V.width elem (V.words y) }
-    requires divisors { divides op ≡ true → (k : ℕ) → k < length (V.words y) → 0 < slice_index (V.words y) k }
+    requires division { divides op ≡ true }
+    requires divisors { (k : ℕ) → k < length (V.words y) → 0 < slice_index (V.words y) k }
     ensures { V.words result ≡ zip2 (op_bits op elem) (V.words x) (V.words y) }
 {
     match op {
-        BinOp::Add => arithmetic::add(elem, x, y),
-        BinOp::Sub => arithmetic::sub(elem, x, y),
-        BinOp::Mul => arithmetic::mul(elem, x, y),
         BinOp::Div => signs::div(elem, x, y),
         BinOp::Rem => signs::rem(elem, x, y),
-        BinOp::And => x.and(y),
-        BinOp::Or => x.or(y),
-        BinOp::Xor => x.xor(y),
-        BinOp::Shl => shifts::shl(elem, x, y),
-        BinOp::Shr => shifts::shr(elem, x, y),
-        BinOp::Min => order::min(elem, x, y),
-        BinOp::Max => order::max(elem, x, y),
+        _ => unreachable!(),
     }
 }
 

@@ -9,7 +9,7 @@ use crate::words::Words;
 use isp_base::{BinOp, Elem, low_mask};
 
 // Whether the type has negative values.
-pub(super) fn is_signed(elem: Elem) -> bool
+pub(crate) fn is_signed(elem: Elem) -> bool
     ensures { result ≡ nat_lt (greatest elem) (2 ^ width elem - 1) }
 {
     match elem {
