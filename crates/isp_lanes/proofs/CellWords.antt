@@ -338,6 +338,29 @@ no_sign U32 e x p = le-ltb (2 ^ 32 - 1) x (omega arith)
 no_sign I64 e x p = absurd cc
 no_sign U64 e x p = le-ltb (2 ^ 64 - 1) x (omega arith)
 
+-- of words that a type fills nothing is cut
+pub not_cut : (w : ℕ) (t : Elem) → w ≡ cell_width t → (t ≡ Truth → ⊥) → (x : ℕ) → x < 2 ^ w → x ≡ bit_and x (2 ^ width t - 1)
+not_cut w t e n x p = sym (and_mask x (width t) ∙ mod-eq_of_lt (subst (λ k. x < 2 ^ k) (e ∙ filled t n) p))
+  where
+    filled : (t : Elem) → (t ≡ Truth → ⊥) → cell_width t ≡ width t
+    filled Truth n = absurd (n refl)
+    filled I8 n = refl
+    filled U8 n = refl
+    filled I16 n = refl
+    filled U16 n = refl
+    filled I32 n = refl
+    filled U32 n = refl
+    filled I64 n = refl
+    filled U64 n = refl
+
+-- of a type without negative values
+module _ (t : Elem) (s : nat_lt (greatest t) (2 ^ width t - 1) ≡ false) (x : ℕ) (p : x < 2 ^ width t) where
+  pub plain_magnitude : x ≡ magnitude (width t) (greatest t) x
+  plain_magnitude = ap (λ b. cond b ((2 ^ width t - x) % 2 ^ width t) x) (sym (no_sign t s x p)) ∙ word_magnitude t x p
+
+  pub plain_shr : (y : ℕ) → y < 2 ^ width t → x / 2 ^ bit_and y (width t - 1) ≡ op_bits Shr t x y
+  plain_shr y q = ap (λ b. cond b (2 ^ width t - 1 - (2 ^ width t - 1 - x) / 2 ^ bit_and y (width t - 1)) (x / 2 ^ bit_and y (width t - 1))) (sym (no_sign t s x p)) ∙ word_shr t x y p q
+
 -- ---- the operators on one value
 
 module _ (t : Elem) (x : ℕ) (p : x < 2 ^ width t) where

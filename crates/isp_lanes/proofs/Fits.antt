@@ -16,13 +16,13 @@ use Rattle.isp_lanes.proofs.CellWords.{w_room, some_bits}
 use Rattle.isp_lanes.proofs.Divisors.{length_sel, sel_fits}
 use Rattle.isp_base.proofs.Wraps.{wrap_to-lt}
 
-zip2_fits : (m : ℕ) (f : ℕ → ℕ → ℕ) → 0 < m → ((a b : ℕ) → f a b < m) → (xs ys : List ℕ) (k : ℕ) → get_or (zip2 f xs ys) k 0 < m
+pub zip2_fits : (m : ℕ) (f : ℕ → ℕ → ℕ) → 0 < m → ((a b : ℕ) → f a b < m) → (xs ys : List ℕ) (k : ℕ) → get_or (zip2 f xs ys) k 0 < m
 zip2_fits m f z h [] ys k = z
 zip2_fits m f z h (x ∷ xs) [] k = z
 zip2_fits m f z h (x ∷ xs) (y ∷ ys) zero = h x y
 zip2_fits m f z h (x ∷ xs) (y ∷ ys) (suc k) = zip2_fits m f z h xs ys k
 
-map_fits : (m : ℕ) (f : ℕ → ℕ) → 0 < m → ((a : ℕ) → f a < m) → (xs : List ℕ) (k : ℕ) → get_or (map f xs) k 0 < m
+pub map_fits : (m : ℕ) (f : ℕ → ℕ) → 0 < m → ((a : ℕ) → f a < m) → (xs : List ℕ) (k : ℕ) → get_or (map f xs) k 0 < m
 map_fits m f z h [] k = z
 map_fits m f z h (x ∷ xs) zero = h x
 map_fits m f z h (x ∷ xs) (suc k) = map_fits m f z h xs k

@@ -15,7 +15,7 @@ mod signs;
 
 use crate::words::Words;
 pub(crate) use signs::is_signed;
-use isp_base::{BinOp, Compare, Elem, UnaryOp, low_mask};
+use isp_base::{BinOp, Compare, Elem, UnaryOp};
 use std::simd::prelude::*;
 
 // The numbers of the lanes that a vector can have.
@@ -47,7 +47,7 @@ pub(crate) fn unary<const N: usize, V: Words<N>>(op: UnaryOp, elem: Elem, x: V) 
 {
     match op {
         UnaryOp::Negate => signs::negate(elem, x),
-        UnaryOp::Invert => x.inverse().and(V::all(low_mask(elem))),
+        UnaryOp::Invert => arithmetic::low(elem, x.inverse()),
         UnaryOp::Absolute => signs::magnitudes(elem, x),
         UnaryOp::Not => x.equal(V::all(0)).and(V::all(1)),
     }
