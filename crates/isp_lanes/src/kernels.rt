@@ -14,8 +14,8 @@ mod shifts;
 mod signs;
 
 use crate::words::Words;
-pub(crate) use signs::is_signed;
 use isp_base::{BinOp, Compare, Elem, UnaryOp};
+pub(crate) use signs::is_signed;
 use std::simd::prelude::*;
 
 // The numbers of the lanes that a vector can have.

@@ -24,7 +24,7 @@ returns-then-is_signed g c =
     let n = g.W.Words.width in
     let xs = g.V.Words.words c.args.x in
     let new = c.cut.ensures ∙ ap (map (λ a. a % 2 ^ n)) c.spread.ensures ∙ map_twice (λ a. a % 2 ^ n) (λ a. (bit_xor a (2 ^ (w - 1)) + (2 ^ 64 - 2 ^ (w - 1))) % 2 ^ 64) xs
-        ∙ map_same (λ a. a < 2 ^ width t) _ _ (λ a p. cell.lane_spread w n t c.args.to c.requires.x_row.wide c.requires.wide a p (sym c.is_signed.ensures ∙ c.if-is_signed.true)) xs c.requires.x_row.fits in
+    ∙ map_same (λ a. a < 2 ^ width t) _ _ (λ a p. cell.lane_spread w n t c.args.to c.requires.x_row.wide c.requires.wide a p (sym c.is_signed.ensures ∙ c.if-is_signed.true)) xs c.requires.x_row.fits in
     c.merge.ensures ∙ ap (λ (r : List ℕ). sel_l c.args.mask.now r (g.W.Words.words c.args.old)) new
 
 pub returns-else-is_signed : goal.returns-else-is_signed
@@ -33,5 +33,5 @@ returns-else-is_signed g c =
     let n = g.W.Words.width in
     let xs = g.V.Words.words c.args.x in
     let new = c.cut-else-is_signed.ensures ∙ ap (map (λ a. a % 2 ^ n)) c.wide.ensures
-        ∙ map_same (λ a. a < 2 ^ width t) _ _ (λ a p. cell.lane_wide g.V.Words.width n t c.args.to c.requires.x_row.wide c.requires.wide a p (sym c.is_signed.ensures ∙ c.if-is_signed.false)) xs c.requires.x_row.fits in
+    ∙ map_same (λ a. a < 2 ^ width t) _ _ (λ a p. cell.lane_wide g.V.Words.width n t c.args.to c.requires.x_row.wide c.requires.wide a p (sym c.is_signed.ensures ∙ c.if-is_signed.false)) xs c.requires.x_row.fits in
     c.merge-else-is_signed.ensures ∙ ap (λ (r : List ℕ). sel_l c.args.mask.now r (g.W.Words.words c.args.old)) new
