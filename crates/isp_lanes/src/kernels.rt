@@ -4,7 +4,6 @@ ghost use Rattle.std.specs.List.{range_with_len};
 ghost use Rattle.std.specs.Simd.Lanes.{zip2};
 ghost use Rattle.isp_base.specs.declared.types.Elem.TheVariants.{I64};
 ghost use Rattle.isp_base.specs.Values.{op_bits, compare_bits, divides, number};
-ghost use Rattle.isp_base.specs.Unary.{unary_bits};
 ghost use Rattle.isp_lanes.specs.Held.{IsRow};
 
 mod arithmetic;
@@ -14,7 +13,7 @@ mod shifts;
 mod signs;
 
 use crate::words::Words;
-use isp_base::{BinOp, Compare, Elem, UnaryOp};
+use isp_base::{BinOp, Compare, Elem};
 pub(crate) use signs::is_signed;
 use std::simd::prelude::*;
 
@@ -37,19 +36,6 @@ pub(crate) fn divide<const N: usize, V: Words<N>>(op: BinOp, elem: Elem, x: V, y
         BinOp::Div => signs::div(elem, x, y),
         BinOp::Rem => signs::rem(elem, x, y),
         _ => unreachable!(),
-    }
-}
-
-// The operator on one value, on all lanes.
-pub(crate) fn unary<const N: usize, V: Words<N>>(op: UnaryOp, elem: Elem, x: V) -> V
-    requires { IsRow N V.width elem (V.words x) }
-    ensures { V.words result ≡ map (unary_bits op elem) (V.words x) }
-{
-    match op {
-        UnaryOp::Negate => signs::negate(elem, x),
-        UnaryOp::Invert => arithmetic::low(elem, x.inverse()),
-        UnaryOp::Absolute => signs::magnitudes(elem, x),
-        UnaryOp::Not => x.equal(V::all(0)).and(V::all(1)),
     }
 }
 

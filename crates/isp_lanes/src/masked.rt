@@ -2,27 +2,13 @@
 ghost use Rattle.std.specs.Prelude.{◌≡◌, ℕ, ◌<◌, ◌^◌, slice_index, length, map, replicate, None, cond, true};
 ghost use Rattle.std.specs.Simd.Lanes.{zip2, sel_l};
 ghost use Rattle.isp_base.specs.Values.{divides, number, op_bits, width, wrap};
-ghost use Rattle.isp_base.specs.Unary.{unary_bits};
 ghost use Rattle.isp_lanes.specs.Lanes.{first_zero, is_on};
 ghost use Rattle.isp_lanes.specs.Held.{IsRow};
 
 use crate::kernels::{self, is_signed};
 use crate::mask::LaneMask;
 use crate::words::Words;
-use isp_base::{BinOp, Elem, UnaryOp};
-
-pub(crate) fn unary<const N: usize, V: Words<N>>(
-    op: UnaryOp,
-    elem: Elem,
-    x: V,
-    mask: &LaneMask<N>,
-    old: V,
-) -> V
-    requires { IsRow N V.width elem (V.words x) }
-    ensures { V.words result ≡ sel_l mask.now (map (unary_bits op elem) (V.words x)) (V.words old) }
-{
-    mask.merge(kernels::unary(op, elem, x), old)
-}
+use isp_base::{BinOp, Elem};
 
 // A division, where no lane of the mask divides by zero.
 pub(crate) fn divide<const N: usize, V: Words<N>>(

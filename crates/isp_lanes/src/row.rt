@@ -7,7 +7,7 @@ ghost use Rattle.isp_lanes.specs.Lanes.{first_zero, is_on};
 ghost use Rattle.isp_base.specs.Cells.{cell_width};
 ghost use Rattle.isp_lanes.specs.Held.{held, held_width, IsRow};
 
-use crate::kernels::operators::{self, Operator};
+use crate::kernels::operators::{self, Operator, UnaryOperator};
 use crate::mask::LaneMask;
 use crate::words::Words;
 use crate::{kernels, masked};
@@ -69,49 +69,45 @@ impl<const N: usize> Row<N> {
 
 // The operators, under a mask.
 impl<const N: usize> Row<N> {
-    // The operator on one row.
+    // The operator on one row, found before the width of the words as that on two rows is.
     pub(crate) fn unary(&mut self, op: UnaryOp, elem: Elem, x: &Self, mask: &LaneMask<N>)
         requires x_row { IsRow N (held_width x.now) elem (held x.now) }
         requires same { held_width self.old ≡ held_width x.now }
         ensures words { held self.new ≡ sel_l mask.now (map (unary_bits op elem) (held x.now)) (held self.old) }
         ensures wide { held_width self.new ≡ held_width self.old }
     {
+        match op {
+            UnaryOp::Negate => self.mapped::<operators::Negate>(elem, x, mask),
+            UnaryOp::Invert => self.mapped::<operators::Invert>(elem, x, mask),
+            UnaryOp::Absolute => self.mapped::<operators::Absolute>(elem, x, mask),
+            UnaryOp::Not => self.mapped::<operators::Not>(elem, x, mask),
+        }
+    }
+
+    // One operator on one row.
+    #[inline(never)]
+    fn mapped<K: UnaryOperator<N>>(&mut self, elem: Elem, x: &Self, mask: &LaneMask<N>)
+        requires x_row { IsRow N (held_width x.now) elem (held x.now) }
+        requires same { held_width self.old ≡ held_width x.now }
+        ensures words { held self.new ≡ sel_l mask.now (map (unary_bits K.op elem) (held x.now)) (held self.old) }
+        ensures wide { held_width self.new ≡ held_width self.old }
+    {
         match (self, x) {
             (Row::Bits8(old), Row::Bits8(x)) => {
-                *old = masked::unary(
-                    op,
-                    elem,
-                    Simd::from_array(*x),
-                    mask,
-                    Simd::from_array(*old),
-                ).to_array();
+                let new = K::on(elem, Simd::from_array(*x));
+                *old = mask.merge(new, Simd::from_array(*old)).to_array();
             }
             (Row::Bits16(old), Row::Bits16(x)) => {
-                *old = masked::unary(
-                    op,
-                    elem,
-                    Simd::from_array(*x),
-                    mask,
-                    Simd::from_array(*old),
-                ).to_array();
+                let new = K::on(elem, Simd::from_array(*x));
+                *old = mask.merge(new, Simd::from_array(*old)).to_array();
             }
             (Row::Bits32(old), Row::Bits32(x)) => {
-                *old = masked::unary(
-                    op,
-                    elem,
-                    Simd::from_array(*x),
-                    mask,
-                    Simd::from_array(*old),
-                ).to_array();
+                let new = K::on(elem, Simd::from_array(*x));
+                *old = mask.merge(new, Simd::from_array(*old)).to_array();
             }
             (Row::Bits64(old), Row::Bits64(x)) => {
-                *old = masked::unary(
-                    op,
-                    elem,
-                    Simd::from_array(*x),
-                    mask,
-                    Simd::from_array(*old),
-                ).to_array();
+                let new = K::on(elem, Simd::from_array(*x));
+                *old = mask.merge(new, Simd::from_array(*old)).to_array();
             }
             _ => unreachable!(),
         }

@@ -1,14 +1,17 @@
-//! The operators that do not divide, each as a type, so that a kernel over any of them is compiled for each by itself.
-ghost use Rattle.std.specs.Prelude.{◌≡◌};
+//! The operators that do not divide, each as a type, so that what is generic over one is compiled for each by itself.
+ghost use Rattle.std.specs.Prelude.{◌≡◌, map};
 ghost use Rattle.std.specs.Simd.Lanes.{zip2};
 ghost use Rattle.isp_base.specs.declared.operators.BinOp.{BinOp};
+ghost use Rattle.isp_base.specs.declared.operators.UnaryOp.{UnaryOp};
+ghost use Rattle.isp_base.specs.Unary.{unary_bits};
 ghost use Rattle.isp_base.specs.Values.{op_bits};
 ghost use Rattle.isp_lanes.specs.Held.{IsRow};
 
-use super::{arithmetic, order, shifts};
+use super::{arithmetic, order, shifts, signs};
 use crate::words::Words;
 use isp_base::Elem;
 
+// An operator on two values.
 pub(crate) trait Operator<const N: usize> {
     ghost op: { BinOp };
 
@@ -116,5 +119,55 @@ impl<const N: usize> Operator<N> for Max {
 
     fn on<V: Words<N>>(elem: Elem, x: V, y: V) -> V {
         order::max(elem, x, y)
+    }
+}
+
+// An operator on one value.
+pub(crate) trait UnaryOperator<const N: usize> {
+    ghost op: { UnaryOp };
+
+    // The operator on all lanes.
+    fn on<V: Words<N>>(elem: Elem, x: V) -> V
+        requires { IsRow N V.width elem (V.words x) }
+        ensures { V.words result ≡ map (unary_bits op elem) (V.words x) };
+}
+
+pub(crate) struct Negate;
+
+impl<const N: usize> UnaryOperator<N> for Negate {
+    ghost op = { UnaryOp.Negate };
+
+    fn on<V: Words<N>>(elem: Elem, x: V) -> V {
+        signs::negate(elem, x)
+    }
+}
+
+pub(crate) struct Invert;
+
+impl<const N: usize> UnaryOperator<N> for Invert {
+    ghost op = { UnaryOp.Invert };
+
+    fn on<V: Words<N>>(elem: Elem, x: V) -> V {
+        arithmetic::low(elem, x.inverse())
+    }
+}
+
+pub(crate) struct Absolute;
+
+impl<const N: usize> UnaryOperator<N> for Absolute {
+    ghost op = { UnaryOp.Absolute };
+
+    fn on<V: Words<N>>(elem: Elem, x: V) -> V {
+        signs::magnitudes(elem, x)
+    }
+}
+
+pub(crate) struct Not;
+
+impl<const N: usize> UnaryOperator<N> for Not {
+    ghost op = { UnaryOp.Not };
+
+    fn on<V: Words<N>>(_elem: Elem, x: V) -> V {
+        x.equal(V::all(0)).and(V::all(1))
     }
 }
