@@ -452,6 +452,7 @@ impl<const N: usize> Row<N> {
     }
 
     // Words of 8 bits.
+    #[inline(always)]
     pub(crate) fn keep_bytes(&mut self, bytes: &[u8; N], mask: &LaneMask<N>)
         requires { held_width self.old ≡ 8 }
         ensures words { held self.new ≡ sel_l mask.now bytes.now (held self.old) }
