@@ -338,6 +338,29 @@ no_sign U32 e x p = le-ltb (2 ^ 32 - 1) x (omega arith)
 no_sign I64 e x p = absurd cc
 no_sign U64 e x p = le-ltb (2 ^ 64 - 1) x (omega arith)
 
+-- of words that a type fills nothing is cut
+pub not_cut : (w : ℕ) (t : Elem) → w ≡ cell_width t → (t ≡ Truth → ⊥) → (x : ℕ) → x < 2 ^ w → x ≡ bit_and x (2 ^ width t - 1)
+not_cut w t e n x p = sym (and_mask x (width t) ∙ mod-eq_of_lt (subst (λ k. x < 2 ^ k) (e ∙ filled t n) p))
+  where
+    filled : (t : Elem) → (t ≡ Truth → ⊥) → cell_width t ≡ width t
+    filled Truth n = absurd (n refl)
+    filled I8 n = refl
+    filled U8 n = refl
+    filled I16 n = refl
+    filled U16 n = refl
+    filled I32 n = refl
+    filled U32 n = refl
+    filled I64 n = refl
+    filled U64 n = refl
+
+-- of a type without negative values
+module _ (t : Elem) (s : nat_lt (greatest t) (2 ^ width t - 1) ≡ false) (x : ℕ) (p : x < 2 ^ width t) where
+  pub plain_magnitude : x ≡ magnitude (width t) (greatest t) x
+  plain_magnitude = ap (λ b. cond b ((2 ^ width t - x) % 2 ^ width t) x) (sym (no_sign t s x p)) ∙ word_magnitude t x p
+
+  pub plain_shr : (y : ℕ) → y < 2 ^ width t → x / 2 ^ bit_and y (width t - 1) ≡ op_bits Shr t x y
+  plain_shr y q = ap (λ b. cond b (2 ^ width t - 1 - (2 ^ width t - 1 - x) / 2 ^ bit_and y (width t - 1)) (x / 2 ^ bit_and y (width t - 1))) (sym (no_sign t s x p)) ∙ word_shr t x y p q
+
 -- ---- the operators on one value
 
 module _ (t : Elem) (x : ℕ) (p : x < 2 ^ width t) where
@@ -406,8 +429,34 @@ spread_is U32 x p = kept x (omega (arith, p)) ∙ ap (λ b. cond b ((x + (2 ^ 64
 spread_is I64 x p = flipped 63 (2 ^ 63) x refl (bit_of_two 63 x p) p (lit≤ tt)
 spread_is U64 x p = kept x (omega (arith, p)) ∙ ap (λ b. cond b ((x + (2 ^ 64 - 2 ^ 64)) % 2 ^ 64) x) (sym (no_sign U64 refl x p))
 
-pub lane_spread : (t v : Elem) (x : ℕ) → x < 2 ^ width t → bit_and ((bit_xor x (2 ^ width t - 1 - greatest t) + (2 ^ 64 - (2 ^ width t - 1 - greatest t))) % 2 ^ 64) (2 ^ width v - 1) ≡ wrap v (number t x)
-lane_spread t v x p = ap (λ n. bit_and n (2 ^ width v - 1)) (spread_is t x p) ∙ word_spread t v x p
+half_is : (t : Elem) → nat_lt (greatest t) (2 ^ width t - 1) ≡ true → 2 ^ (cell_width t - 1) ≡ 2 ^ width t - 1 - greatest t
+half_is Truth e = absurd cc
+half_is I8 e = refl
+half_is U8 e = absurd cc
+half_is I16 e = refl
+half_is U16 e = absurd cc
+half_is I32 e = refl
+half_is U32 e = absurd cc
+half_is I64 e = refl
+half_is U64 e = absurd cc
+
+cut_as : (m n : ℕ) (v : Elem) → n ≡ width v → m % 2 ^ n ≡ bit_and m (2 ^ width v - 1)
+cut_as m n v d = ap (λ k. m % 2 ^ k) d ∙ sym (and_mask m (width v))
+
+module _ (w n : ℕ) (t v : Elem) (e : w ≡ cell_width t) (d : n ≡ width v) (x : ℕ) (p : x < 2 ^ width t) where
+  pub lane_spread : nat_lt (greatest t) (2 ^ width t - 1) ≡ true → (bit_xor x (2 ^ (w - 1)) + (2 ^ 64 - 2 ^ (w - 1))) % 2 ^ 64 % 2 ^ n ≡ wrap v (number t x)
+  lane_spread s =
+      let half : 2 ^ (w - 1) ≡ 2 ^ width t - 1 - greatest t = subst (λ k. 2 ^ (k - 1) ≡ 2 ^ width t - 1 - greatest t) (sym e) (half_is t s) in
+      cut_as ((bit_xor x (2 ^ (w - 1)) + (2 ^ 64 - 2 ^ (w - 1))) % 2 ^ 64) n v d
+      ∙ ap (λ h. bit_and ((bit_xor x h + (2 ^ 64 - h)) % 2 ^ 64) (2 ^ width v - 1)) half
+      ∙ ap (λ k. bit_and k (2 ^ width v - 1)) (spread_is t x p)
+      ∙ word_spread t v x p
+
+  pub lane_wide : nat_lt (greatest t) (2 ^ width t - 1) ≡ false → x % 2 ^ n ≡ wrap v (number t x)
+  lane_wide s =
+      cut_as x n v d
+      ∙ ap (λ b. bit_and (cond b ((x + (2 ^ 64 - 2 ^ width t)) % 2 ^ 64) x) (2 ^ width v - 1)) (sym (no_sign t s x p))
+      ∙ word_spread t v x p
 
 -- to bool: the bits are 0 just where the number is
 pub lane_truth : (t : Elem) (x : ℕ) → x < 2 ^ width t → cond (is_on x) 1 0 ≡ not_zero (number t x)

@@ -1,27 +1,28 @@
 -- What the kernels answer fits the element type.
-use Rattle.std.proofs.Common.{◌≡◌, sym, ℕ, zero, suc, ◌+◌, ◌^◌, ◌<◌, ◌≤◌, Bool, true, false, cond, arith, lit≤, List, [], ◌∷◌, map, get_or, length, ap, ◌∙◌, pow_pos, ℤ, pos, negsuc, subst}
+use Rattle.std.proofs.Common.{◌≡◌, sym, ℕ, zero, suc, ◌+◌, ◌^◌, ◌<◌, ◌≤◌, Bool, true, false, cond, arith, lit≤, List, [], ◌∷◌, map, get_or, length, ap, ◌∙◌, pow_pos, subst}
 use Rattle.std.specs.List.{range_with_len}
 use Rattle.std.specs.Simd.Lanes.{zip2, sel_l}
 use Rattle.isp_base.specs.declared.types.Elem.{Elem}
 use Rattle.isp_base.specs.declared.types.Elem.TheVariants.{Bool as Truth, I8, U8, I16, U16, I32, U32, I64, U64}
 use Rattle.isp_base.specs.declared.operators.BinOp.{BinOp}
 use Rattle.isp_base.specs.declared.operators.Compare.{Compare}
-use Rattle.isp_base.specs.Values.{width, op_bits, compare_bits, compare_to, convert_bits, number, not_zero}
+use Rattle.isp_base.specs.Values.{width, op_bits, compare_bits, compare_to, number, wrap}
 use Rattle.isp_base.specs.declared.operators.UnaryOp.{UnaryOp}
 use Rattle.isp_base.specs.Unary.{unary_bits}
 use Rattle.isp_base.specs.Rows.{Fit}
 use Rattle.isp_base.specs.Cells.{cell_width}
-use Rattle.isp_lanes.proofs.CellWords.{w_room}
+use Rattle.isp_lanes.specs.Lanes.{is_on}
+use Rattle.isp_lanes.proofs.CellWords.{w_room, some_bits}
 use Rattle.isp_lanes.proofs.Divisors.{length_sel, sel_fits}
 use Rattle.isp_base.proofs.Wraps.{wrap_to-lt}
 
-zip2_fits : (m : ℕ) (f : ℕ → ℕ → ℕ) → 0 < m → ((a b : ℕ) → f a b < m) → (xs ys : List ℕ) (k : ℕ) → get_or (zip2 f xs ys) k 0 < m
+pub zip2_fits : (m : ℕ) (f : ℕ → ℕ → ℕ) → 0 < m → ((a b : ℕ) → f a b < m) → (xs ys : List ℕ) (k : ℕ) → get_or (zip2 f xs ys) k 0 < m
 zip2_fits m f z h [] ys k = z
 zip2_fits m f z h (x ∷ xs) [] k = z
 zip2_fits m f z h (x ∷ xs) (y ∷ ys) zero = h x y
 zip2_fits m f z h (x ∷ xs) (y ∷ ys) (suc k) = zip2_fits m f z h xs ys k
 
-map_fits : (m : ℕ) (f : ℕ → ℕ) → 0 < m → ((a : ℕ) → f a < m) → (xs : List ℕ) (k : ℕ) → get_or (map f xs) k 0 < m
+pub map_fits : (m : ℕ) (f : ℕ → ℕ) → 0 < m → ((a : ℕ) → f a < m) → (xs : List ℕ) (k : ℕ) → get_or (map f xs) k 0 < m
 map_fits m f z h [] k = z
 map_fits m f z h (x ∷ xs) zero = h x
 map_fits m f z h (x ∷ xs) (suc k) = map_fits m f z h xs k
@@ -39,25 +40,11 @@ flag_lt false = lit≤ tt
 pub compare_fits : (c : Compare) (t : Elem) (xs ys : List ℕ) → Fit Truth (zip2 (compare_bits c t) xs ys)
 compare_fits c t xs ys = zip2_fits (2 ^ 1) (compare_bits c t) (lit≤ tt) (λ a b. flag_lt (compare_to c (number t a) (number t b))) xs ys
 
-truth_lt : (z : ℤ) → not_zero z < 2 ^ 1
-unfolding not_zero
-truth_lt (pos zero) = lit≤ tt
-truth_lt (pos (suc n)) = lit≤ tt
-truth_lt (negsuc n) = lit≤ tt
+pub flags_fit : (t : Elem) (xs : List ℕ) → Fit t (map (λ a. cond (is_on a) 1 0) xs)
+flags_fit t xs = map_fits (2 ^ width t) (λ a. cond (is_on a) 1 0) (pow_pos (width t)) (λ a. omega (arith, flag_lt (is_on a), some_bits t)) xs
 
-convert_lt : (t : Elem) (z : ℤ) → convert_bits t z < 2 ^ width t
-convert_lt Truth z = truth_lt z
-convert_lt I8 z = wrap_to-lt 8 z
-convert_lt U8 z = wrap_to-lt 8 z
-convert_lt I16 z = wrap_to-lt 16 z
-convert_lt U16 z = wrap_to-lt 16 z
-convert_lt I32 z = wrap_to-lt 32 z
-convert_lt U32 z = wrap_to-lt 32 z
-convert_lt I64 z = wrap_to-lt 64 z
-convert_lt U64 z = wrap_to-lt 64 z
-
-pub convert_fits : (t v : Elem) (xs : List ℕ) → Fit v (map (λ b. convert_bits v (number t b)) xs)
-convert_fits t v xs = map_fits (2 ^ width v) (λ b. convert_bits v (number t b)) (pow_pos (width v)) (λ a. convert_lt v (number t a)) xs
+pub wrap_fits : (t v : Elem) (xs : List ℕ) → Fit v (map (λ a. wrap v (number t a)) xs)
+wrap_fits t v xs = map_fits (2 ^ width v) (λ a. wrap v (number t a)) (pow_pos (width v)) (λ a. wrap_to-lt (width v) (number t a)) xs
 
 below_lt : (a n m : ℕ) → a + n ≤ m → 0 < m → (k : ℕ) → get_or (range_with_len a n) k 0 < m
 below_lt a zero m h z k = z

@@ -135,3 +135,7 @@ zeros zero [] p = refl
 zeros (suc n) [] p = absurd (omega arith)
 zeros zero (x ∷ xs) p = absurd (omega arith)
 zeros (suc n) (x ∷ xs) p = ap (λ t. 0 ∷ t) (zeros n xs (omega arith))
+
+pub map_twice : (f g : ℕ → ℕ) (xs : List ℕ) → map f (map g xs) ≡ map (λ a. f (g a)) xs
+map_twice f g [] = refl
+map_twice f g (x ∷ xs) = ap (λ t. f (g x) ∷ t) (map_twice f g xs)

@@ -1,5 +1,5 @@
 -- Rows of truths, and what is read of them, at each width of words.
-use Rattle.std.proofs.Common.{◌≡◌, refl, sym, ap, ap₂, ◌∙◌, ℕ, zero, suc, ◌-◌, ◌^◌, ◌%◌, ◌<◌, Bool, cond, not, nat_lt, ◌==◌, arith, List, [], ◌∷◌, map, map-id, length, get_or, replicate, bit_and, mod-eq_of_lt, mod-lt, pow_pos, Fits, w8, subst}
+use Rattle.std.proofs.Common.{◌≡◌, refl, sym, ap, ap₂, ◌∙◌, ℕ, zero, suc, ◌+◌, ◌-◌, ◌^◌, ◌%◌, ◌<◌, Bool, cond, not, nat_lt, ◌==◌, arith, List, [], ◌∷◌, map, map-id, length, get_or, replicate, bit_and, bit_xor, mod-eq_of_lt, mod-lt, pow_pos, Fits, w8, subst}
 use Rattle.std.specs.Int.{Width}
 use Rattle.std.proofs.Math.Facts.{Fits-of_lt}
 use mir.Val.{bits, hbits}
@@ -70,3 +70,15 @@ module _ (w : Width) where
 
   pub cut_fits : (n : ℕ) (xs : List ℕ) → length xs ≡ n → Each1 (Fits w) (zip2 bit_and xs (replicate n (2 ^ bits w - 1)))
   cut_fits n xs p = subst (Each1 (Fits w)) (sym (cut_is n xs p)) (each_map (Fits w) (λ a. a % 2 ^ bits w) (λ a. Fits-of_lt (mod-lt a (pow_pos (bits w)))) xs)
+
+-- a number is turned at a bit, and the bit's worth taken away
+pub spread_of : (h n : ℕ) (xs : List ℕ) → length xs ≡ n
+    → zip2 (λ a b. (a + (2 ^ 64 - b)) % 2 ^ 64) (zip2 bit_xor xs (replicate n h)) (replicate n h) ≡ map (λ a. (bit_xor a h + (2 ^ 64 - h)) % 2 ^ 64) xs
+spread_of h zero [] p = refl
+spread_of h (suc n) [] p = absurd (omega arith)
+spread_of h zero (x ∷ xs) p = absurd (omega arith)
+spread_of h (suc n) (x ∷ xs) p = ap (λ t. (bit_xor x h + (2 ^ 64 - h)) % 2 ^ 64 ∷ t) (spread_of h n xs (omega arith))
+
+pub cast_spread_of : (h n : ℕ) (xs : List ℕ) → length xs ≡ n
+    → zip2 (λ a b. (a + (2 ^ 64 - b)) % 2 ^ 64) (zip2 bit_xor (map (λ a. a) xs) (replicate n h)) (replicate n h) ≡ map (λ a. (bit_xor a h + (2 ^ 64 - h)) % 2 ^ 64) xs
+cast_spread_of h n xs p = ap (λ us. zip2 (λ a b. (a + (2 ^ 64 - b)) % 2 ^ 64) (zip2 bit_xor us (replicate n h)) (replicate n h)) (map-id xs) ∙ spread_of h n xs p

@@ -4,18 +4,17 @@ ghost use Rattle.std.specs.List.{range_with_len};
 ghost use Rattle.std.specs.Simd.Lanes.{zip2};
 ghost use Rattle.isp_base.specs.declared.types.Elem.TheVariants.{I64};
 ghost use Rattle.isp_base.specs.Values.{op_bits, compare_bits, divides, number};
-ghost use Rattle.isp_base.specs.Unary.{unary_bits};
 ghost use Rattle.isp_lanes.specs.Held.{IsRow};
 
 mod arithmetic;
-mod convert;
+pub(crate) mod operators;
 mod order;
 mod shifts;
 mod signs;
 
 use crate::words::Words;
-pub(crate) use convert::convert;
-use isp_base::{BinOp, Compare, Elem, UnaryOp, low_mask};
+use isp_base::{BinOp, Compare, Elem};
+pub(crate) use signs::is_signed;
 use std::simd::prelude::*;
 
 // The numbers of the lanes that a vector can have.
@@ -25,39 +24,18 @@ const NUMBERS: [u64; 64] = [
     50, 51, 52, 53, 54, 55, 56, 57, 58, 59, 60, 61, 62, 63,
 ];
 
-// The operator on all lanes.
-pub(crate) fn binary<const N: usize, V: Words<N>>(op: BinOp, elem: Elem, x: V, y: V) -> V
+// The division on all lanes.
+pub(crate) fn divide<const N: usize, V: Words<N>>(op: BinOp, elem: Elem, x: V, y: V) -> V
     requires x_row { IsRow N V.width elem (V.words x) }
     requires y_row { IsRow N V.width elem (V.words y) }
-    requires divisors { divides op ≡ true → (k : ℕ) → k < length (V.words y) → 0 < slice_index (V.words y) k }
+    requires division { divides op ≡ true }
+    requires divisors { (k : ℕ) → k < length (V.words y) → 0 < slice_index (V.words y) k }
     ensures { V.words result ≡ zip2 (op_bits op elem) (V.words x) (V.words y) }
 {
     match op {
-        BinOp::Add => arithmetic::add(elem, x, y),
-        BinOp::Sub => arithmetic::sub(elem, x, y),
-        BinOp::Mul => arithmetic::mul(elem, x, y),
         BinOp::Div => signs::div(elem, x, y),
         BinOp::Rem => signs::rem(elem, x, y),
-        BinOp::And => x.and(y),
-        BinOp::Or => x.or(y),
-        BinOp::Xor => x.xor(y),
-        BinOp::Shl => shifts::shl(elem, x, y),
-        BinOp::Shr => shifts::shr(elem, x, y),
-        BinOp::Min => order::min(elem, x, y),
-        BinOp::Max => order::max(elem, x, y),
-    }
-}
-
-// The operator on one value, on all lanes.
-pub(crate) fn unary<const N: usize, V: Words<N>>(op: UnaryOp, elem: Elem, x: V) -> V
-    requires { IsRow N V.width elem (V.words x) }
-    ensures { V.words result ≡ map (unary_bits op elem) (V.words x) }
-{
-    match op {
-        UnaryOp::Negate => signs::negate(elem, x),
-        UnaryOp::Invert => x.inverse().and(V::all(low_mask(elem))),
-        UnaryOp::Absolute => signs::magnitudes(elem, x),
-        UnaryOp::Not => x.equal(V::all(0)).and(V::all(1)),
+        _ => unreachable!(),
     }
 }
 

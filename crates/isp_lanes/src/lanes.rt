@@ -1,5 +1,5 @@
 //! Vectors of N values of one element type.
-ghost use Rattle.std.specs.Prelude.{◌≡◌, ◌^◌, ◌<◌, length, map, replicate, slice_get, slice_set, Some, None, IfOk, IfErr, ◌&&◌};
+ghost use Rattle.std.specs.Prelude.{◌≡◌, ◌^◌, ◌<◌, length, map, replicate, slice_get, slice_set, Some, None, IfOk, IfErr, ◌&&◌, true};
 ghost use Rattle.std.specs.List.{range_with_len};
 ghost use Rattle.std.specs.Simd.Lanes.{zip2, sel_l};
 ghost use Rattle.isp_base.specs.declared.types.Elem.TheVariants.{Bool as Truth, I32};
@@ -109,8 +109,8 @@ impl<const N: usize> Lanes<N> {
         ensures same { IfErr result (λ _. self.new ≡ self.old) }
     {
         mask.told();
-        if let Some(lane) = y.row.fault(op, mask) {
-            return Err(lane);
+        if op.divides() {
+            return self.divide(op, x, y, mask);
         }
         self.row.binary(op, self.elem, &x.row, &y.row, mask);
         Ok(())
@@ -132,9 +132,13 @@ impl<const N: usize> Lanes<N> {
         ensures { self.new ≡ written mask.now (map (λ b. convert_bits self.old.elem (number x.now.elem b)) x.now.bits) self.old }
     {
         mask.told();
-        let wide = Simd::from_array(x.row.wide());
-        let converted = kernels::convert(x.elem, self.elem, wide).to_array();
-        self.row.keep(&converted, mask);
+        match self.elem {
+            Elem::Bool => {
+                let truths = x.row.flags();
+                self.row.keep_bytes(&truths, mask);
+            }
+            _ => self.row.convert(x.elem, self.elem, &x.row, mask),
+        }
     }
 
     /// The lanes of `x` where a vector of bools is true, and of `y` where it is false.
@@ -179,6 +183,25 @@ impl<const N: usize> Lanes<N> {
 }
 
 impl<const N: usize> Lanes<N> {
+    // The division of two vectors, apart from the other operators, so that these need not save the registers that it takes.
+    #[inline(never)]
+    fn divide(&mut self, op: BinOp, x: &Self, y: &Self, mask: &LaneMask<N>) -> Result<(), usize>
+        requires division { divides op ≡ true }
+        requires x_elem { x.now.elem ≡ self.old.elem }
+        requires y_elem { y.now.elem ≡ self.old.elem }
+        ensures divided { IfOk result (λ _. first_zero op mask.now y.now.bits ≡ None) }
+        ensures value { IfOk result (λ _. self.new ≡ written mask.now (zip2 (op_bits op self.old.elem) x.now.bits y.now.bits) self.old) }
+        ensures lowest { IfErr result (λ lane. first_zero op mask.now y.now.bits ≡ Some lane) }
+        ensures same { IfErr result (λ _. self.new ≡ self.old) }
+    {
+        mask.told();
+        if let Some(lane) = y.row.fault(op, mask) {
+            return Err(lane);
+        }
+        self.row.divide(op, self.elem, &x.row, &y.row, mask);
+        Ok(())
+    }
+
     // The lanes of the mask in which a vector of bools is true.
     pub(crate) fn truths(&self, mask: &LaneMask<N>) -> LaneMask<N>
         requires { self.now.elem ≡ Truth }

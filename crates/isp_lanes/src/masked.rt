@@ -1,31 +1,17 @@
 //! The operators on words under a mask: the lanes that are off keep their old words.
-ghost use Rattle.std.specs.Prelude.{◌≡◌, ℕ, ◌<◌, ◌^◌, slice_index, length, map, replicate, None, cond};
+ghost use Rattle.std.specs.Prelude.{◌≡◌, ℕ, ◌<◌, ◌^◌, slice_index, length, map, replicate, None, cond, true};
 ghost use Rattle.std.specs.Simd.Lanes.{zip2, sel_l};
-ghost use Rattle.isp_base.specs.Values.{divides, op_bits};
-ghost use Rattle.isp_base.specs.Unary.{unary_bits};
+ghost use Rattle.isp_base.specs.Values.{divides, number, op_bits, width, wrap};
 ghost use Rattle.isp_lanes.specs.Lanes.{first_zero, is_on};
 ghost use Rattle.isp_lanes.specs.Held.{IsRow};
 
-use crate::kernels;
+use crate::kernels::{self, is_signed};
 use crate::mask::LaneMask;
 use crate::words::Words;
-use isp_base::{BinOp, Elem, UnaryOp};
+use isp_base::{BinOp, Elem};
 
-pub(crate) fn unary<const N: usize, V: Words<N>>(
-    op: UnaryOp,
-    elem: Elem,
-    x: V,
-    mask: &LaneMask<N>,
-    old: V,
-) -> V
-    requires { IsRow N V.width elem (V.words x) }
-    ensures { V.words result ≡ sel_l mask.now (map (unary_bits op elem) (V.words x)) (V.words old) }
-{
-    mask.merge(kernels::unary(op, elem, x), old)
-}
-
-// Where no lane of the mask divides by zero.
-pub(crate) fn binary<const N: usize, V: Words<N>>(
+// A division, where no lane of the mask divides by zero.
+pub(crate) fn divide<const N: usize, V: Words<N>>(
     op: BinOp,
     elem: Elem,
     x: V,
@@ -35,12 +21,13 @@ pub(crate) fn binary<const N: usize, V: Words<N>>(
 ) -> V
     requires x_row { IsRow N V.width elem (V.words x) }
     requires y_row { IsRow N V.width elem (V.words y) }
+    requires division { divides op ≡ true }
     requires divided { first_zero op mask.now (V.words y) ≡ None }
     ensures { V.words result ≡ sel_l mask.now (zip2 (op_bits op elem) (V.words x) (V.words y)) (V.words old) }
 {
     mask.told();
     let divisors = safe_divisors(op, y, mask);
-    mask.merge(kernels::binary(op, elem, x, divisors), old)
+    mask.merge(kernels::divide(op, elem, x, divisors), old)
 }
 
 // The lowest lane of the mask that would divide by zero.
@@ -98,4 +85,25 @@ pub(crate) fn keep<const N: usize, V: Words<N>>(wide: &[u64; N], mask: &LaneMask
     ensures { V.words result ≡ sel_l mask.now wide.now (V.words old) }
 {
     mask.merge(old.cut(wide), old)
+}
+
+// The numbers of one element type as values of another, not bool, for which the old words are. Through 64 bits, of which the
+// compiler leaves no more than the wider of the two takes.
+pub(crate) fn convert<const N: usize, V: Words<N>, W: Words<N>>(
+    from: Elem,
+    to: Elem,
+    x: V,
+    mask: &LaneMask<N>,
+    old: W,
+) -> W
+    requires x_row { IsRow N V.width from (V.words x) }
+    requires wide { W.width ≡ width to }
+    ensures { W.words result ≡ sel_l mask.now (map (λ a. wrap to (number from a)) (V.words x)) (W.words old) }
+{
+    mask.told();
+    if is_signed(from) {
+        mask.merge(old.cut(&x.spread()), old)
+    } else {
+        mask.merge(old.cut(&x.wide()), old)
+    }
 }

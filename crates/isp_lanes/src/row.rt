@@ -1,12 +1,13 @@
 //! The lanes of a vector in words of the width that their type takes.
-ghost use Rattle.std.specs.Prelude.{◌≡◌, ℕ, slice_index, ◌<◌, ◌^◌, length, map, replicate, slice_get, slice_set, Some, None};
+ghost use Rattle.std.specs.Prelude.{◌≡◌, ℕ, slice_index, ◌<◌, ◌^◌, length, map, replicate, slice_get, slice_set, Some, None, true, false, cond};
 ghost use Rattle.std.specs.Simd.Lanes.{zip2, sel_l};
-ghost use Rattle.isp_base.specs.Values.{op_bits, compare_bits};
+ghost use Rattle.isp_base.specs.Values.{op_bits, compare_bits, divides, number, width, wrap};
 ghost use Rattle.isp_base.specs.Unary.{unary_bits};
 ghost use Rattle.isp_lanes.specs.Lanes.{first_zero, is_on};
 ghost use Rattle.isp_base.specs.Cells.{cell_width};
 ghost use Rattle.isp_lanes.specs.Held.{held, held_width, IsRow};
 
+use crate::kernels::operators::{self, Operator, UnaryOperator};
 use crate::mask::LaneMask;
 use crate::words::Words;
 use crate::{kernels, masked};
@@ -68,49 +69,45 @@ impl<const N: usize> Row<N> {
 
 // The operators, under a mask.
 impl<const N: usize> Row<N> {
-    // The operator on one row.
+    // The operator on one row, found before the width of the words as that on two rows is.
     pub(crate) fn unary(&mut self, op: UnaryOp, elem: Elem, x: &Self, mask: &LaneMask<N>)
         requires x_row { IsRow N (held_width x.now) elem (held x.now) }
         requires same { held_width self.old ≡ held_width x.now }
         ensures words { held self.new ≡ sel_l mask.now (map (unary_bits op elem) (held x.now)) (held self.old) }
         ensures wide { held_width self.new ≡ held_width self.old }
     {
+        match op {
+            UnaryOp::Negate => self.mapped::<operators::Negate>(elem, x, mask),
+            UnaryOp::Invert => self.mapped::<operators::Invert>(elem, x, mask),
+            UnaryOp::Absolute => self.mapped::<operators::Absolute>(elem, x, mask),
+            UnaryOp::Not => self.mapped::<operators::Not>(elem, x, mask),
+        }
+    }
+
+    // One operator on one row.
+    #[inline(never)]
+    fn mapped<K: UnaryOperator<N>>(&mut self, elem: Elem, x: &Self, mask: &LaneMask<N>)
+        requires x_row { IsRow N (held_width x.now) elem (held x.now) }
+        requires same { held_width self.old ≡ held_width x.now }
+        ensures words { held self.new ≡ sel_l mask.now (map (unary_bits K.op elem) (held x.now)) (held self.old) }
+        ensures wide { held_width self.new ≡ held_width self.old }
+    {
         match (self, x) {
             (Row::Bits8(old), Row::Bits8(x)) => {
-                *old = masked::unary(
-                    op,
-                    elem,
-                    Simd::from_array(*x),
-                    mask,
-                    Simd::from_array(*old),
-                ).to_array();
+                let new = K::on(elem, Simd::from_array(*x));
+                *old = mask.merge(new, Simd::from_array(*old)).to_array();
             }
             (Row::Bits16(old), Row::Bits16(x)) => {
-                *old = masked::unary(
-                    op,
-                    elem,
-                    Simd::from_array(*x),
-                    mask,
-                    Simd::from_array(*old),
-                ).to_array();
+                let new = K::on(elem, Simd::from_array(*x));
+                *old = mask.merge(new, Simd::from_array(*old)).to_array();
             }
             (Row::Bits32(old), Row::Bits32(x)) => {
-                *old = masked::unary(
-                    op,
-                    elem,
-                    Simd::from_array(*x),
-                    mask,
-                    Simd::from_array(*old),
-                ).to_array();
+                let new = K::on(elem, Simd::from_array(*x));
+                *old = mask.merge(new, Simd::from_array(*old)).to_array();
             }
             (Row::Bits64(old), Row::Bits64(x)) => {
-                *old = masked::unary(
-                    op,
-                    elem,
-                    Simd::from_array(*x),
-                    mask,
-                    Simd::from_array(*old),
-                ).to_array();
+                let new = K::on(elem, Simd::from_array(*x));
+                *old = mask.merge(new, Simd::from_array(*old)).to_array();
             }
             _ => unreachable!(),
         }
@@ -132,18 +129,74 @@ impl<const N: usize> Row<N> {
         }
     }
 
-    // The operator on two rows, where no lane of the mask divides by zero.
+    // The operator on two rows, if it is no division. It is found before the width of the words, so that what runs then has nothing
+    // in common with another operator's, and its vectors stay in registers.
     pub(crate) fn binary(&mut self, op: BinOp, elem: Elem, x: &Self, y: &Self, mask: &LaneMask<N>)
         requires x_row { IsRow N (held_width x.now) elem (held x.now) }
         requires y_row { IsRow N (held_width y.now) elem (held y.now) }
         requires same { held_width self.old ≡ held_width x.now }
+        requires division { divides op ≡ false }
+        ensures words { held self.new ≡ sel_l mask.now (zip2 (op_bits op elem) (held x.now) (held y.now)) (held self.old) }
+        ensures wide { held_width self.new ≡ held_width self.old }
+    {
+        match op {
+            BinOp::Add => self.zipped::<operators::Add>(elem, x, y, mask),
+            BinOp::Sub => self.zipped::<operators::Sub>(elem, x, y, mask),
+            BinOp::Mul => self.zipped::<operators::Mul>(elem, x, y, mask),
+            BinOp::And => self.zipped::<operators::And>(elem, x, y, mask),
+            BinOp::Or => self.zipped::<operators::Or>(elem, x, y, mask),
+            BinOp::Xor => self.zipped::<operators::Xor>(elem, x, y, mask),
+            BinOp::Shl => self.zipped::<operators::Shl>(elem, x, y, mask),
+            BinOp::Shr => self.zipped::<operators::Shr>(elem, x, y, mask),
+            BinOp::Min => self.zipped::<operators::Min>(elem, x, y, mask),
+            BinOp::Max => self.zipped::<operators::Max>(elem, x, y, mask),
+            BinOp::Div | BinOp::Rem => unreachable!(),
+        }
+    }
+
+    // One operator on two rows.
+    #[inline(never)]
+    fn zipped<K: Operator<N>>(&mut self, elem: Elem, x: &Self, y: &Self, mask: &LaneMask<N>)
+        requires x_row { IsRow N (held_width x.now) elem (held x.now) }
+        requires y_row { IsRow N (held_width y.now) elem (held y.now) }
+        requires same { held_width self.old ≡ held_width x.now }
+        ensures words { held self.new ≡ sel_l mask.now (zip2 (op_bits K.op elem) (held x.now) (held y.now)) (held self.old) }
+        ensures wide { held_width self.new ≡ held_width self.old }
+    {
+        match (self, x, y) {
+            (Row::Bits8(old), Row::Bits8(x), Row::Bits8(y)) => {
+                let new = K::on(elem, Simd::from_array(*x), Simd::from_array(*y));
+                *old = mask.merge(new, Simd::from_array(*old)).to_array();
+            }
+            (Row::Bits16(old), Row::Bits16(x), Row::Bits16(y)) => {
+                let new = K::on(elem, Simd::from_array(*x), Simd::from_array(*y));
+                *old = mask.merge(new, Simd::from_array(*old)).to_array();
+            }
+            (Row::Bits32(old), Row::Bits32(x), Row::Bits32(y)) => {
+                let new = K::on(elem, Simd::from_array(*x), Simd::from_array(*y));
+                *old = mask.merge(new, Simd::from_array(*old)).to_array();
+            }
+            (Row::Bits64(old), Row::Bits64(x), Row::Bits64(y)) => {
+                let new = K::on(elem, Simd::from_array(*x), Simd::from_array(*y));
+                *old = mask.merge(new, Simd::from_array(*old)).to_array();
+            }
+            _ => unreachable!(),
+        }
+    }
+
+    // The division of two rows, where no lane of the mask divides by zero.
+    pub(crate) fn divide(&mut self, op: BinOp, elem: Elem, x: &Self, y: &Self, mask: &LaneMask<N>)
+        requires x_row { IsRow N (held_width x.now) elem (held x.now) }
+        requires y_row { IsRow N (held_width y.now) elem (held y.now) }
+        requires same { held_width self.old ≡ held_width x.now }
+        requires division { divides op ≡ true }
         requires divided { first_zero op mask.now (held y.now) ≡ None }
         ensures words { held self.new ≡ sel_l mask.now (zip2 (op_bits op elem) (held x.now) (held y.now)) (held self.old) }
         ensures wide { held_width self.new ≡ held_width self.old }
     {
         match (self, x, y) {
             (Row::Bits8(old), Row::Bits8(x), Row::Bits8(y)) => {
-                *old = masked::binary(
+                *old = masked::divide(
                     op,
                     elem,
                     Simd::from_array(*x),
@@ -154,7 +207,7 @@ impl<const N: usize> Row<N> {
                 .to_array();
             }
             (Row::Bits16(old), Row::Bits16(x), Row::Bits16(y)) => {
-                *old = masked::binary(
+                *old = masked::divide(
                     op,
                     elem,
                     Simd::from_array(*x),
@@ -165,7 +218,7 @@ impl<const N: usize> Row<N> {
                 .to_array();
             }
             (Row::Bits32(old), Row::Bits32(x), Row::Bits32(y)) => {
-                *old = masked::binary(
+                *old = masked::divide(
                     op,
                     elem,
                     Simd::from_array(*x),
@@ -176,7 +229,7 @@ impl<const N: usize> Row<N> {
                 .to_array();
             }
             (Row::Bits64(old), Row::Bits64(x), Row::Bits64(y)) => {
-                *old = masked::binary(
+                *old = masked::divide(
                     op,
                     elem,
                     Simd::from_array(*x),
@@ -322,15 +375,54 @@ impl<const N: usize> Row<N> {
         }
     }
 
-    // The words, of 64 bits.
-    pub(crate) fn wide(&self) -> [u64; N]
-        ensures { result ≡ held self.now }
+    // The numbers of one element type as values of another, not bool, for which the row is.
+    pub(crate) fn convert(&mut self, from: Elem, to: Elem, x: &Self, mask: &LaneMask<N>)
+        requires x_row { IsRow N (held_width x.now) from (held x.now) }
+        requires wide { held_width self.old ≡ width to }
+        ensures words { held self.new ≡ sel_l mask.now (map (λ a. wrap to (number from a)) (held x.now)) (held self.old) }
+        ensures wide { held_width self.new ≡ held_width self.old }
+    {
+        match x {
+            Row::Bits8(x) => self.converted(from, to, Simd::from_array(*x), mask),
+            Row::Bits16(x) => self.converted(from, to, Simd::from_array(*x), mask),
+            Row::Bits32(x) => self.converted(from, to, Simd::from_array(*x), mask),
+            Row::Bits64(x) => self.converted(from, to, Simd::from_array(*x), mask),
+        }
+    }
+
+    // The same of words whose width is known.
+    fn converted<V: Words<N>>(&mut self, from: Elem, to: Elem, x: V, mask: &LaneMask<N>)
+        requires x_row { IsRow N V.width from (V.words x) }
+        requires wide { held_width self.old ≡ width to }
+        ensures words { held self.new ≡ sel_l mask.now (map (λ a. wrap to (number from a)) (V.words x)) (held self.old) }
+        ensures wide { held_width self.new ≡ held_width self.old }
     {
         match self {
-            Row::Bits8(words) => Simd::from_array(*words).wide(),
-            Row::Bits16(words) => Simd::from_array(*words).wide(),
-            Row::Bits32(words) => Simd::from_array(*words).wide(),
-            Row::Bits64(words) => Simd::from_array(*words).wide(),
+            Row::Bits8(old) => {
+                *old = masked::convert(from, to, x, mask, Simd::from_array(*old)).to_array();
+            }
+            Row::Bits16(old) => {
+                *old = masked::convert(from, to, x, mask, Simd::from_array(*old)).to_array();
+            }
+            Row::Bits32(old) => {
+                *old = masked::convert(from, to, x, mask, Simd::from_array(*old)).to_array();
+            }
+            Row::Bits64(old) => {
+                *old = masked::convert(from, to, x, mask, Simd::from_array(*old)).to_array();
+            }
+        }
+    }
+
+    // 1 in the lanes whose word is not 0, and 0 in the others.
+    pub(crate) fn flags(&self) -> [u8; N]
+        requires { length (held self.now) ≡ N }
+        ensures { result ≡ map (λ a. cond (is_on a) 1 0) (held self.now) }
+    {
+        match self {
+            Row::Bits8(words) => Simd::from_array(*words).flags(),
+            Row::Bits16(words) => Simd::from_array(*words).flags(),
+            Row::Bits32(words) => Simd::from_array(*words).flags(),
+            Row::Bits64(words) => Simd::from_array(*words).flags(),
         }
     }
 
@@ -360,6 +452,7 @@ impl<const N: usize> Row<N> {
     }
 
     // Words of 8 bits.
+    #[inline(always)]
     pub(crate) fn keep_bytes(&mut self, bytes: &[u8; N], mask: &LaneMask<N>)
         requires { held_width self.old ≡ 8 }
         ensures words { held self.new ≡ sel_l mask.now bytes.now (held self.old) }

@@ -85,6 +85,10 @@ pub(crate) trait Words<const N: usize>: Copy {
     fn wide(self) -> [u64; N]
         ensures { result ≡ words self };
 
+    // The signed numbers that the words are, in words of 64 bits.
+    fn spread(self) -> [u64; N]
+        ensures { result ≡ map (λ a. (bit_xor a (2 ^ (width - 1)) + (2 ^ 64 - 2 ^ (width - 1))) % 2 ^ 64) (words self) };
+
     // The low bits of words of 64 bits, in the place of these.
     fn cut(self, wide: &[u64; N]) -> Self
         ensures { words result ≡ map (λ a. a % 2 ^ width) wide.now };
@@ -180,6 +184,11 @@ impl<const N: usize> Words<N> for Simd<u8, N> {
 
     fn wide(self) -> [u64; N] {
         self.cast::<u64>().to_array()
+    }
+
+    fn spread(self) -> [u64; N] {
+        let half = Simd::splat(0x80);
+        ((self.cast::<u64>() ^ half) - half).to_array()
     }
 
     fn cut(self, wide: &[u64; N]) -> Self {
@@ -283,6 +292,11 @@ impl<const N: usize> Words<N> for Simd<u16, N> {
         self.cast::<u64>().to_array()
     }
 
+    fn spread(self) -> [u64; N] {
+        let half = Simd::splat(0x8000);
+        ((self.cast::<u64>() ^ half) - half).to_array()
+    }
+
     fn cut(self, wide: &[u64; N]) -> Self {
         (Simd::from_array(*wide) & Simd::splat(0xffff)).cast::<u16>()
     }
@@ -384,6 +398,11 @@ impl<const N: usize> Words<N> for Simd<u32, N> {
         self.cast::<u64>().to_array()
     }
 
+    fn spread(self) -> [u64; N] {
+        let half = Simd::splat(0x8000_0000);
+        ((self.cast::<u64>() ^ half) - half).to_array()
+    }
+
     fn cut(self, wide: &[u64; N]) -> Self {
         (Simd::from_array(*wide) & Simd::splat(0xffffffff)).cast::<u32>()
     }
@@ -483,6 +502,11 @@ impl<const N: usize> Words<N> for Simd<u64, N> {
 
     fn wide(self) -> [u64; N] {
         self.to_array()
+    }
+
+    fn spread(self) -> [u64; N] {
+        let half = Simd::splat(0x8000_0000_0000_0000);
+        ((self ^ half) - half).to_array()
     }
 
     fn cut(self, wide: &[u64; N]) -> Self {

@@ -1,5 +1,6 @@
-//! The order of the numbers, by words that have it.
-ghost use Rattle.std.specs.Prelude.{◌≡◌, ◌-◌, ◌^◌, cond, map};
+//! The order of the numbers, by words that have it. The least and the greatest ask for the sign before they compare, so that no vector
+//! but the result lives from one branch on.
+ghost use Rattle.std.specs.Prelude.{◌≡◌, ◌-◌, ◌^◌, cond, nat_lt, true, false};
 ghost use Rattle.std.specs.Simd.Lanes.{zip2};
 ghost use Rattle.isp_base.specs.Values.{width, greatest, number, op_bits, compare_to};
 ghost use Rattle.isp_base.specs.Words.{turned};
@@ -9,12 +10,37 @@ use super::signs::is_signed;
 use crate::words::Words;
 use isp_base::{BinOp, Compare, Elem};
 
-// Moves the least value to 0, so that the order is that of the words.
-fn turn<const N: usize, V: Words<N>>(elem: Elem, x: V) -> V
-    requires { IsRow N V.width elem (V.words x) }
-    ensures { V.words result ≡ map (turned (width elem) (greatest elem)) (V.words x) }
+// Whether x is less than y, both of a signed type, whose words are in order once each is moved by half of their range.
+fn less_signed<const N: usize, V: Words<N>>(elem: Elem, x: V, y: V) -> V
+    requires x_row { IsRow N V.width elem (V.words x) }
+    requires y_row { IsRow N V.width elem (V.words y) }
+    requires signed { nat_lt (greatest elem) (2 ^ width elem - 1) ≡ true }
+    ensures { V.words result ≡ zip2 (λ a b. cond (nat_lt (turned (width elem) (greatest elem) a) (turned (width elem) (greatest elem) b)) (2 ^ V.width - 1) 0) (V.words x) (V.words y) }
 {
-    if is_signed(elem) { x.turned() } else { x }
+    x.turned().less(y.turned())
+}
+
+// Whether x is less than y, both of a type whose words are in order as they are.
+fn less_unsigned<const N: usize, V: Words<N>>(elem: Elem, x: V, y: V) -> V
+    requires x_row { IsRow N V.width elem (V.words x) }
+    requires y_row { IsRow N V.width elem (V.words y) }
+    requires unsigned { nat_lt (greatest elem) (2 ^ width elem - 1) ≡ false }
+    ensures { V.words result ≡ zip2 (λ a b. cond (nat_lt (turned (width elem) (greatest elem) a) (turned (width elem) (greatest elem) b)) (2 ^ V.width - 1) 0) (V.words x) (V.words y) }
+{
+    x.less(y)
+}
+
+// Whether x is less than y.
+fn less<const N: usize, V: Words<N>>(elem: Elem, x: V, y: V) -> V
+    requires x_row { IsRow N V.width elem (V.words x) }
+    requires y_row { IsRow N V.width elem (V.words y) }
+    ensures { V.words result ≡ zip2 (λ a b. cond (nat_lt (turned (width elem) (greatest elem) a) (turned (width elem) (greatest elem) b)) (2 ^ V.width - 1) 0) (V.words x) (V.words y) }
+{
+    if is_signed(elem) {
+        less_signed(elem, x, y)
+    } else {
+        less_unsigned(elem, x, y)
+    }
 }
 
 pub(super) fn min<const N: usize, V: Words<N>>(elem: Elem, x: V, y: V) -> V
@@ -22,7 +48,11 @@ pub(super) fn min<const N: usize, V: Words<N>>(elem: Elem, x: V, y: V) -> V
     requires y_row { IsRow N V.width elem (V.words y) }
     ensures { V.words result ≡ zip2 (op_bits BinOp.Min elem) (V.words x) (V.words y) }
 {
-    turn(elem, y).less(turn(elem, x)).choose(y, x)
+    if is_signed(elem) {
+        less_signed(elem, y, x).choose(y, x)
+    } else {
+        less_unsigned(elem, y, x).choose(y, x)
+    }
 }
 
 pub(super) fn max<const N: usize, V: Words<N>>(elem: Elem, x: V, y: V) -> V
@@ -30,7 +60,11 @@ pub(super) fn max<const N: usize, V: Words<N>>(elem: Elem, x: V, y: V) -> V
     requires y_row { IsRow N V.width elem (V.words y) }
     ensures { V.words result ≡ zip2 (op_bits BinOp.Max elem) (V.words x) (V.words y) }
 {
-    turn(elem, y).less(turn(elem, x)).choose(x, y)
+    if is_signed(elem) {
+        less_signed(elem, y, x).choose(x, y)
+    } else {
+        less_unsigned(elem, y, x).choose(x, y)
+    }
 }
 
 // Whether the comparison holds.
@@ -42,9 +76,9 @@ pub(super) fn holds<const N: usize, V: Words<N>>(compare: Compare, elem: Elem, x
     match compare {
         Compare::Equal => x.equal(y),
         Compare::NotEqual => x.equal(y).inverse(),
-        Compare::Less => turn(elem, x).less(turn(elem, y)),
-        Compare::LessOrEqual => turn(elem, y).less(turn(elem, x)).inverse(),
-        Compare::Greater => turn(elem, y).less(turn(elem, x)),
-        Compare::GreaterOrEqual => turn(elem, x).less(turn(elem, y)).inverse(),
+        Compare::Less => less(elem, x, y),
+        Compare::LessOrEqual => less(elem, y, x).inverse(),
+        Compare::Greater => less(elem, y, x),
+        Compare::GreaterOrEqual => less(elem, x, y).inverse(),
     }
 }

@@ -4,9 +4,10 @@ ghost use Rattle.std.specs.Simd.Lanes.{zip2};
 ghost use Rattle.isp_base.specs.Values.{op_bits};
 ghost use Rattle.isp_lanes.specs.Held.{IsRow};
 
-use super::signs::signs;
+use super::arithmetic::low;
+use super::signs::{is_signed, signs};
 use crate::words::Words;
-use isp_base::{BinOp, Elem, amount_mask, low_mask};
+use isp_base::{BinOp, Elem, amount_mask};
 
 pub(super) fn shl<const N: usize, V: Words<N>>(elem: Elem, x: V, y: V) -> V
     requires x_row { IsRow N V.width elem (V.words x) }
@@ -14,7 +15,7 @@ pub(super) fn shl<const N: usize, V: Words<N>>(elem: Elem, x: V, y: V) -> V
     ensures { V.words result ≡ zip2 (op_bits BinOp.Shl elem) (V.words x) (V.words y) }
 {
     let by = y.and(V::all(amount_mask(elem)));
-    x.left(by).and(V::all(low_mask(elem)))
+    low(elem, x.left(by))
 }
 
 // The bits of a negative number are turned before and after, so that ones come in from above.
@@ -24,7 +25,11 @@ pub(super) fn shr<const N: usize, V: Words<N>>(elem: Elem, x: V, y: V) -> V
     ensures { V.words result ≡ zip2 (op_bits BinOp.Shr elem) (V.words x) (V.words y) }
 {
     let by = y.and(V::all(amount_mask(elem)));
-    let negative = signs(elem, x);
-    let shifted = x.xor(negative).right(by);
-    shifted.xor(negative)
+    if is_signed(elem) {
+        let negative = signs(elem, x);
+        let shifted = x.xor(negative).right(by);
+        shifted.xor(negative)
+    } else {
+        x.right(by)
+    }
 }

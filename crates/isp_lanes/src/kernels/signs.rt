@@ -5,11 +5,12 @@ ghost use Rattle.isp_base.specs.Values.{width, greatest, op_bits};
 ghost use Rattle.isp_base.specs.Words.{magnitude};
 ghost use Rattle.isp_lanes.specs.Held.{IsRow};
 
+use super::arithmetic::low;
 use crate::words::Words;
-use isp_base::{BinOp, Elem, low_mask};
+use isp_base::{BinOp, Elem};
 
 // Whether the type has negative values.
-pub(super) fn is_signed(elem: Elem) -> bool
+pub(crate) fn is_signed(elem: Elem) -> bool
     ensures { result ≡ nat_lt (greatest elem) (2 ^ width elem - 1) }
 {
     match elem {
@@ -35,7 +36,7 @@ pub(super) fn negate<const N: usize, V: Words<N>>(elem: Elem, x: V) -> V
     requires { IsRow N V.width elem (V.words x) }
     ensures { V.words result ≡ map (λ a. (2 ^ width elem - a) % 2 ^ width elem) (V.words x) }
 {
-    V::all(0).minus(x).and(V::all(low_mask(elem)))
+    low(elem, V::all(0).minus(x))
 }
 
 // The numbers without their signs.
@@ -43,7 +44,11 @@ pub(super) fn magnitudes<const N: usize, V: Words<N>>(elem: Elem, x: V) -> V
     requires { IsRow N V.width elem (V.words x) }
     ensures { V.words result ≡ map (magnitude (width elem) (greatest elem)) (V.words x) }
 {
-    signs(elem, x).choose(negate(elem, x), x)
+    if is_signed(elem) {
+        signs(elem, x).choose(negate(elem, x), x)
+    } else {
+        x
+    }
 }
 
 pub(super) fn div<const N: usize, V: Words<N>>(elem: Elem, x: V, y: V) -> V

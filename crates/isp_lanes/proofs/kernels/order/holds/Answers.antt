@@ -5,7 +5,7 @@ use Rattle.isp_base.specs.Words.{turned}
 use Rattle.isp_lanes.proofs.CellWords as cell
 use Rattle.isp_lanes.proofs.Rows.{row_op1, row_op2, row_same, row_map_left, row_map_right}
 use Rattle.isp_base.specs.Values.{number, compare_to}
-use Rattle.isp_lanes.proofs.Flags.{equal_is, not_equal_is, less_is, greater_is}
+use Rattle.isp_lanes.proofs.Flags.{zip2_swap, equal_is, not_equal_is, less_is, greater_is}
 use Rattle.isp_lanes.proofs.kernels.order.holds.Goals as goal
 
 pub returns-in-Equal : goal.returns-in-Equal
@@ -46,7 +46,7 @@ returns-in-Less g c =
     let n = g.row.N in
     let same : length xs ≡ length ys = omega (arith, c.requires.x_row.long, c.requires.y_row.long) in
     let f : ℕ → ℕ = turned (width t) (greatest t) in
-    c.less.ensures ∙ row_op2 (λ a b. cond (nat_lt a b) (2 ^ w - 1) 0) (λ a _. f a) (λ _ b. f b) xs ys (c.turn.ensures ∙ row_map_left f xs ys same) (c.turn-in-Less.ensures ∙ row_map_right f xs ys same)
+    c.less.ensures
     ∙ row_same (λ a. a < 2 ^ width t) (λ b. b < 2 ^ width t) _ _ (λ a b p q. ap (λ s. cond s (2 ^ w - 1) 0) (less_is t a b p q)) xs ys c.requires.x_row.fits c.requires.y_row.fits
     ∙ ap (λ k. zip2 (λ a b. cond (compare_to k (number t a) (number t b)) (2 ^ w - 1) 0) xs ys) (sym c.in-Less.is)
 
@@ -60,7 +60,7 @@ returns-in-LessOrEqual g c =
     let n = g.row.N in
     let same : length xs ≡ length ys = omega (arith, c.requires.x_row.long, c.requires.y_row.long) in
     let f : ℕ → ℕ = turned (width t) (greatest t) in
-    c.inverse-in-LessOrEqual.ensures ∙ row_op1 (λ a. 2 ^ w - 1 - a) (λ a b. cond (nat_lt (f b) (f a)) (2 ^ w - 1) 0) xs ys (c.less-in-LessOrEqual.ensures ∙ row_op2 (λ a b. cond (nat_lt a b) (2 ^ w - 1) 0) (λ _ b. f b) (λ a _. f a) xs ys (c.turn-in-LessOrEqual.ensures ∙ row_map_right f xs ys same) (c.turn-in-LessOrEqual-2.ensures ∙ row_map_left f xs ys same))
+    c.inverse-in-LessOrEqual.ensures ∙ row_op1 (λ a. 2 ^ w - 1 - a) (λ a b. cond (nat_lt (f b) (f a)) (2 ^ w - 1) 0) xs ys (c.less-in-LessOrEqual.ensures ∙ zip2_swap (λ a b. cond (nat_lt (f a) (f b)) (2 ^ w - 1) 0) xs ys)
     ∙ row_same (λ a. a < 2 ^ width t) (λ b. b < 2 ^ width t) _ _ (λ a b p q. cell.inverse_truth w _ ∙ ap (λ s. cond s (2 ^ w - 1) 0) (ap not (greater_is t a b p q))) xs ys c.requires.x_row.fits c.requires.y_row.fits
     ∙ ap (λ k. zip2 (λ a b. cond (compare_to k (number t a) (number t b)) (2 ^ w - 1) 0) xs ys) (sym c.in-LessOrEqual.is)
 
@@ -74,7 +74,7 @@ returns-in-Greater g c =
     let n = g.row.N in
     let same : length xs ≡ length ys = omega (arith, c.requires.x_row.long, c.requires.y_row.long) in
     let f : ℕ → ℕ = turned (width t) (greatest t) in
-    c.less-in-Greater.ensures ∙ row_op2 (λ a b. cond (nat_lt a b) (2 ^ w - 1) 0) (λ _ b. f b) (λ a _. f a) xs ys (c.turn-in-Greater.ensures ∙ row_map_right f xs ys same) (c.turn-in-Greater-2.ensures ∙ row_map_left f xs ys same)
+    c.less-in-Greater.ensures ∙ zip2_swap (λ a b. cond (nat_lt (f a) (f b)) (2 ^ w - 1) 0) xs ys
     ∙ row_same (λ a. a < 2 ^ width t) (λ b. b < 2 ^ width t) _ _ (λ a b p q. ap (λ s. cond s (2 ^ w - 1) 0) (greater_is t a b p q)) xs ys c.requires.x_row.fits c.requires.y_row.fits
     ∙ ap (λ k. zip2 (λ a b. cond (compare_to k (number t a) (number t b)) (2 ^ w - 1) 0) xs ys) (sym c.in-Greater.is)
 
@@ -88,6 +88,6 @@ returns-in-GreaterOrEqual g c =
     let n = g.row.N in
     let same : length xs ≡ length ys = omega (arith, c.requires.x_row.long, c.requires.y_row.long) in
     let f : ℕ → ℕ = turned (width t) (greatest t) in
-    c.inverse-in-GreaterOrEqual.ensures ∙ row_op1 (λ a. 2 ^ w - 1 - a) (λ a b. cond (nat_lt (f a) (f b)) (2 ^ w - 1) 0) xs ys (c.less-in-GreaterOrEqual.ensures ∙ row_op2 (λ a b. cond (nat_lt a b) (2 ^ w - 1) 0) (λ a _. f a) (λ _ b. f b) xs ys (c.turn-in-GreaterOrEqual.ensures ∙ row_map_left f xs ys same) (c.turn-in-GreaterOrEqual-2.ensures ∙ row_map_right f xs ys same))
+    c.inverse-in-GreaterOrEqual.ensures ∙ row_op1 (λ a. 2 ^ w - 1 - a) (λ a b. cond (nat_lt (f a) (f b)) (2 ^ w - 1) 0) xs ys c.less-in-GreaterOrEqual.ensures
     ∙ row_same (λ a. a < 2 ^ width t) (λ b. b < 2 ^ width t) _ _ (λ a b p q. cell.inverse_truth w _ ∙ ap (λ s. cond s (2 ^ w - 1) 0) (ap not (less_is t a b p q))) xs ys c.requires.x_row.fits c.requires.y_row.fits
     ∙ ap (λ k. zip2 (λ a b. cond (compare_to k (number t a) (number t b)) (2 ^ w - 1) 0) xs ys) (sym c.in-GreaterOrEqual.is)

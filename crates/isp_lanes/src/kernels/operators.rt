@@ -1,0 +1,173 @@
+//! The operators that do not divide, each as a type, so that what is generic over one is compiled for each by itself.
+ghost use Rattle.std.specs.Prelude.{◌≡◌, map};
+ghost use Rattle.std.specs.Simd.Lanes.{zip2};
+ghost use Rattle.isp_base.specs.declared.operators.BinOp.{BinOp};
+ghost use Rattle.isp_base.specs.declared.operators.UnaryOp.{UnaryOp};
+ghost use Rattle.isp_base.specs.Unary.{unary_bits};
+ghost use Rattle.isp_base.specs.Values.{op_bits};
+ghost use Rattle.isp_lanes.specs.Held.{IsRow};
+
+use super::{arithmetic, order, shifts, signs};
+use crate::words::Words;
+use isp_base::Elem;
+
+// An operator on two values.
+pub(crate) trait Operator<const N: usize> {
+    ghost op: { BinOp };
+
+    // The operator on all lanes.
+    fn on<V: Words<N>>(elem: Elem, x: V, y: V) -> V
+        requires x_row { IsRow N V.width elem (V.words x) }
+        requires y_row { IsRow N V.width elem (V.words y) }
+        ensures { V.words result ≡ zip2 (op_bits op elem) (V.words x) (V.words y) };
+}
+
+pub(crate) struct Add;
+
+impl<const N: usize> Operator<N> for Add {
+    ghost op = { BinOp.Add };
+
+    fn on<V: Words<N>>(elem: Elem, x: V, y: V) -> V {
+        arithmetic::add(elem, x, y)
+    }
+}
+
+pub(crate) struct Sub;
+
+impl<const N: usize> Operator<N> for Sub {
+    ghost op = { BinOp.Sub };
+
+    fn on<V: Words<N>>(elem: Elem, x: V, y: V) -> V {
+        arithmetic::sub(elem, x, y)
+    }
+}
+
+pub(crate) struct Mul;
+
+impl<const N: usize> Operator<N> for Mul {
+    ghost op = { BinOp.Mul };
+
+    fn on<V: Words<N>>(elem: Elem, x: V, y: V) -> V {
+        arithmetic::mul(elem, x, y)
+    }
+}
+
+pub(crate) struct And;
+
+impl<const N: usize> Operator<N> for And {
+    ghost op = { BinOp.And };
+
+    fn on<V: Words<N>>(_elem: Elem, x: V, y: V) -> V {
+        x.and(y)
+    }
+}
+
+pub(crate) struct Or;
+
+impl<const N: usize> Operator<N> for Or {
+    ghost op = { BinOp.Or };
+
+    fn on<V: Words<N>>(_elem: Elem, x: V, y: V) -> V {
+        x.or(y)
+    }
+}
+
+pub(crate) struct Xor;
+
+impl<const N: usize> Operator<N> for Xor {
+    ghost op = { BinOp.Xor };
+
+    fn on<V: Words<N>>(_elem: Elem, x: V, y: V) -> V {
+        x.xor(y)
+    }
+}
+
+pub(crate) struct Shl;
+
+impl<const N: usize> Operator<N> for Shl {
+    ghost op = { BinOp.Shl };
+
+    fn on<V: Words<N>>(elem: Elem, x: V, y: V) -> V {
+        shifts::shl(elem, x, y)
+    }
+}
+
+pub(crate) struct Shr;
+
+impl<const N: usize> Operator<N> for Shr {
+    ghost op = { BinOp.Shr };
+
+    fn on<V: Words<N>>(elem: Elem, x: V, y: V) -> V {
+        shifts::shr(elem, x, y)
+    }
+}
+
+pub(crate) struct Min;
+
+impl<const N: usize> Operator<N> for Min {
+    ghost op = { BinOp.Min };
+
+    fn on<V: Words<N>>(elem: Elem, x: V, y: V) -> V {
+        order::min(elem, x, y)
+    }
+}
+
+pub(crate) struct Max;
+
+impl<const N: usize> Operator<N> for Max {
+    ghost op = { BinOp.Max };
+
+    fn on<V: Words<N>>(elem: Elem, x: V, y: V) -> V {
+        order::max(elem, x, y)
+    }
+}
+
+// An operator on one value.
+pub(crate) trait UnaryOperator<const N: usize> {
+    ghost op: { UnaryOp };
+
+    // The operator on all lanes.
+    fn on<V: Words<N>>(elem: Elem, x: V) -> V
+        requires { IsRow N V.width elem (V.words x) }
+        ensures { V.words result ≡ map (unary_bits op elem) (V.words x) };
+}
+
+pub(crate) struct Negate;
+
+impl<const N: usize> UnaryOperator<N> for Negate {
+    ghost op = { UnaryOp.Negate };
+
+    fn on<V: Words<N>>(elem: Elem, x: V) -> V {
+        signs::negate(elem, x)
+    }
+}
+
+pub(crate) struct Invert;
+
+impl<const N: usize> UnaryOperator<N> for Invert {
+    ghost op = { UnaryOp.Invert };
+
+    fn on<V: Words<N>>(elem: Elem, x: V) -> V {
+        arithmetic::low(elem, x.inverse())
+    }
+}
+
+pub(crate) struct Absolute;
+
+impl<const N: usize> UnaryOperator<N> for Absolute {
+    ghost op = { UnaryOp.Absolute };
+
+    fn on<V: Words<N>>(elem: Elem, x: V) -> V {
+        signs::magnitudes(elem, x)
+    }
+}
+
+pub(crate) struct Not;
+
+impl<const N: usize> UnaryOperator<N> for Not {
+    ghost op = { UnaryOp.Not };
+
+    fn on<V: Words<N>>(_elem: Elem, x: V) -> V {
+        x.equal(V::all(0)).and(V::all(1))
+    }
+}
