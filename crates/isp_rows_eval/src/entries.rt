@@ -1,5 +1,5 @@
 //! Entries that are not there.
-use crate::rows::checked;
+use crate::rows::front;
 use isp_base::{Bound, Gang};
 use isp_bind::bind;
 use isp_eval::{EvalFault, evaluate, work};
@@ -180,7 +180,7 @@ fn compare(rt: &impl Abort, alloc: Global, checked: &Checked, asked: &Asked) -> 
 #[test]
 fn entries_that_are_not_there(rt: HostRuntime) -> Result<(), Fail> {
     let alloc = rt.alloc();
-    let checked = checked(alloc, TEXT, Gang::W4)?;
+    let checked = front(alloc, TEXT, Gang::W4)?;
     for asked in &ASKED {
         compare(&rt, alloc, &checked, asked)?;
     }

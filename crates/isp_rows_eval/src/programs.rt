@@ -1,8 +1,8 @@
 //! The programs of the tables, each run.
 use crate::rows::{compare_all, count_all};
 use crate::tables::{
-    breaks, continues, counted, deep, divergent_prints, divergent_traps, independent, masks,
-    nested, returns, worked,
+    breaks, continues, counted, deep, divergent_prints, divergent_traps, effects, independent,
+    masks, nested, returns, worked,
 };
 use std::test::Fail;
 
@@ -59,4 +59,9 @@ fn programs_of_an_independent_implementation(rt: HostRuntime) -> Result<(), Fail
 #[test]
 fn work_counted_by_hand(rt: HostRuntime) -> Result<(), Fail> {
     count_all(&rt, rt.alloc(), &counted::ROWS)
+}
+
+#[test]
+fn order_of_effects(rt: HostRuntime) -> Result<(), Fail> {
+    compare_all(&rt, rt.alloc(), &effects::ROWS)
 }

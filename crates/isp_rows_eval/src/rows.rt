@@ -54,7 +54,7 @@ struct Unmarked {
     end: usize,
 }
 
-fn unmarked(alloc: Global, marked: &str) -> Result<Unmarked, AllocError> {
+fn without_marks(alloc: Global, marked: &str) -> Result<Unmarked, AllocError> {
     let mut source = String::new(alloc);
     let Some((before, rest)) = marked.split_once('⟦') else {
         source.push_str(marked)?;
@@ -81,7 +81,7 @@ fn unmarked(alloc: Global, marked: &str) -> Result<Unmarked, AllocError> {
 }
 
 /// The program of a source.
-pub(crate) fn checked(alloc: Global, source: &str, gang: Gang) -> Result<Checked, SourceFault> {
+pub(crate) fn front(alloc: Global, source: &str, gang: Gang) -> Result<Checked, SourceFault> {
     let tokens = lex(alloc, source)?;
     let tree = parse(alloc, &tokens)?;
     check(alloc, resolve(alloc, &tree, gang)?)
@@ -167,9 +167,9 @@ fn run(alloc: Global, row: &Row, checked: &Checked) -> Result<Found, Fail> {
 
 /// Runs the program of a row and compares what comes out.
 fn compare(rt: &impl Abort, alloc: Global, row: &Row) -> Result<(), Fail> {
-    let unmarked = unmarked(alloc, row.text)?;
+    let unmarked = without_marks(alloc, row.text)?;
     let wanted = wanted(alloc, row, &unmarked)?;
-    let checked = checked(alloc, unmarked.source.as_str(), row.gang)?;
+    let checked = front(alloc, unmarked.source.as_str(), row.gang)?;
     let found = run(alloc, row, &checked)?;
     assert!(rt;
         found.line == wanted,
@@ -188,8 +188,8 @@ fn compare(rt: &impl Abort, alloc: Global, row: &Row) -> Result<(), Fail> {
 /// Counts the nodes that the run of a row reaches.
 fn count(rt: &impl Abort, alloc: Global, counted: &Counted) -> Result<(), Fail> {
     let row = &counted.row;
-    let unmarked = unmarked(alloc, row.text)?;
-    let checked = checked(alloc, unmarked.source.as_str(), row.gang)?;
+    let unmarked = without_marks(alloc, row.text)?;
+    let checked = front(alloc, unmarked.source.as_str(), row.gang)?;
     let bound = arguments(alloc, row, &checked)?;
     let found = work(alloc, &checked, row.entry, &bound, row.turns)?;
     assert!(rt;

@@ -5,6 +5,7 @@ pub(crate) mod counted;
 pub(crate) mod deep;
 pub(crate) mod divergent_prints;
 pub(crate) mod divergent_traps;
+pub(crate) mod effects;
 pub(crate) mod independent;
 pub(crate) mod masks;
 pub(crate) mod nested;

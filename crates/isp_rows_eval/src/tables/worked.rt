@@ -155,7 +155,7 @@ pub(crate) static ROWS: [Row; 52] = [
         entry: "f",
         arguments: r#"{"x":[5,-1,7,0],"b":[0,0,0]}"#,
         turns: 1000,
-        ending: Ending::Ends(r#"{"arrays":{"x":[5,-1,7,0],"b":[0,5,7]},"result":2}"#),
+        ending: Ending::Ends(r#"{"arrays":{"b":[0,5,7],"x":[5,-1,7,0]},"result":2}"#),
         output: "",
     },
     // The second element would be b[2] of two, for instance 2.
@@ -169,7 +169,7 @@ pub(crate) static ROWS: [Row; 52] = [
         ending: Ending::Traps(
             "index",
             2,
-            r#"{"arrays":{"x":[5,-1,7,0],"b":[0,0]},"result":null}"#,
+            r#"{"arrays":{"b":[0,0],"x":[5,-1,7,0]},"result":null}"#,
         ),
         output: "",
     },
