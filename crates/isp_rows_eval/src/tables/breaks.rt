@@ -2,7 +2,7 @@
 use crate::rows::{Ending, Row};
 use isp_base::Gang;
 
-/// Each row: the program, what comes out.
+/// Each row: the working, in which p is the number of each instance, then the program and what comes out.
 pub(crate) static ROWS: [Row; 24] = [
     // In turn i the instance i leaves: instance p makes p turns of 11 and one of 10.
     Row {
@@ -15,7 +15,7 @@ pub(crate) static ROWS: [Row; 24] = [
         ending: Ending::Ends(r#"{"arrays":{"a":[10,21,32,43]},"result":null}"#),
         output: "",
     },
-    // T is 1, 2, 3: instance t - 1 leaves, the others add t; t is 3 after the loop.
+    // t is 1, 2, 3: instance t - 1 leaves, the others add t; t is 3 after the loop.
     Row {
         name: "break of some in a while with a uniform test",
         gang: Gang::W4,
@@ -26,7 +26,7 @@ pub(crate) static ROWS: [Row; 24] = [
         ending: Ending::Ends(r#"{"arrays":{"a":[3,13,33,63]},"result":null}"#),
         output: "",
     },
-    // I begins with p and gains 2 in each of two turns; in the third 0 and 1 are left, t is 3 and they leave.
+    // i begins with p and gains 2 in each of two turns; in the third 0 and 1 are left, t is 3 and they leave.
     Row {
         name: "break of all in a while with a varying test",
         gang: Gang::W4,
@@ -70,7 +70,7 @@ pub(crate) static ROWS: [Row; 24] = [
         ending: Ending::Ends(r#"{"arrays":{"a":[3,1,0,6]},"result":null}"#),
         output: "",
     },
-    // I is 0, 2, 4, 6 after two turns; 0 and 1 begin a third, in which t is 3 and they leave.
+    // i is 0, 2, 4, 6 after two turns; 0 and 1 begin a third, in which t is 3 and they leave.
     Row {
         name: "break of all in a do with a varying test",
         gang: Gang::W4,
@@ -114,7 +114,7 @@ pub(crate) static ROWS: [Row; 24] = [
         ending: Ending::Ends(r#"{"arrays":{"a":[33,23,13,3]},"result":null}"#),
         output: "",
     },
-    // I is 5, 3, 1, -1, and an instance leaves at the first that is at most p.
+    // i is 5, 3, 1, -1, and an instance leaves at the first that is at most p.
     Row {
         name: "break in a for without a test",
         gang: Gang::W4,
@@ -125,7 +125,7 @@ pub(crate) static ROWS: [Row; 24] = [
         ending: Ending::Ends(r#"{"arrays":{"a":[-1,1,1,3]},"result":null}"#),
         output: "",
     },
-    // I is 2, 3, 4, 4 and s is 0, 2, 4, 3 when 0 and 1 begin a third turn, in which u is 3 and they leave.
+    // i is 2, 3, 4, 4 and s is 0, 2, 4, 3 when 0 and 1 begin a third turn, in which u is 3 and they leave.
     Row {
         name: "break of all in a for with a varying test",
         gang: Gang::W4,
@@ -147,7 +147,7 @@ pub(crate) static ROWS: [Row; 24] = [
         ending: Ending::Ends(r#"{"arrays":{"a":[2,2,3,4]},"result":null}"#),
         output: "",
     },
-    // T = 1 drops 0 which has 1, t = 2 drops 1 which has 3, 2 and 3 have 6 when t is 3.
+    // t = 1 drops 0 which has 1, t = 2 drops 1 which has 3, 2 and 3 have 6 when t is 3.
     Row {
         name: "break of some in a cwhile with a uniform test",
         gang: Gang::W4,
@@ -169,7 +169,7 @@ pub(crate) static ROWS: [Row; 24] = [
         ending: Ending::Ends(r#"{"arrays":{"a":[12,4,10,6]},"result":null}"#),
         output: "",
     },
-    // T is 3 (drops 0), 1 (drops 2), -1 (drops nobody): 0; 3 + 1 - 1; 3; 3 + 1 - 1.
+    // t is 3 (drops 0), 1 (drops 2), -1 (drops nobody): 0; 3 + 1 - 1; 3; 3 + 1 - 1.
     Row {
         name: "break of some in a cdo with a uniform test",
         gang: Gang::W4,
@@ -191,7 +191,7 @@ pub(crate) static ROWS: [Row; 24] = [
         ending: Ending::Ends(r#"{"arrays":{"a":[3,2,0,10]},"result":null}"#),
         output: "",
     },
-    // T is 1, 2, 4: u is 1, 3, 7, and at 7 they leave with s = 3 p.
+    // t is 1, 2, 4: u is 1, 3, 7, and at 7 they leave with s = 3 p.
     Row {
         name: "break of all in a cfor with a uniform test",
         gang: Gang::W4,
@@ -213,7 +213,7 @@ pub(crate) static ROWS: [Row; 24] = [
         ending: Ending::Ends(r#"{"arrays":{"a":[30,0,11,22]},"result":null}"#),
         output: "",
     },
-    // P makes p turns of 5.
+    // p makes p turns of 5.
     Row {
         name: "break in the first branch, work in the second",
         gang: Gang::W4,
@@ -224,7 +224,7 @@ pub(crate) static ROWS: [Row; 24] = [
         ending: Ending::Ends(r#"{"arrays":{"a":[0,51,102,153]},"result":null}"#),
         output: "",
     },
-    // P makes p turns of 2; who broke does not add 100.
+    // p makes p turns of 2; who broke does not add 100.
     Row {
         name: "break in the second branch, work in the first",
         gang: Gang::W4,
@@ -235,7 +235,7 @@ pub(crate) static ROWS: [Row; 24] = [
         ending: Ending::Ends(r#"{"arrays":{"a":[0,102,204,306]},"result":null}"#),
         output: "",
     },
-    // T = 1: 0 leaves; t = 2: 1 leaves; t = 3: a uniform break of 2 and 3: s is 0, 1, 3, 3.
+    // t = 1: 0 leaves; t = 2: 1 leaves; t = 3: a uniform break of 2 and 3: s is 0, 1, 3, 3.
     Row {
         name: "break of some, and a break of all that are left",
         gang: Gang::W4,

@@ -2,9 +2,9 @@
 use crate::rows::{Ending, Row};
 use isp_base::Gang;
 
-/// Each row: the program, what comes out.
+/// Each row: the working, in which p is the number of each instance, then the program and what comes out.
 pub(crate) static ROWS: [Row; 22] = [
-    // I is 1 to 4, and p leaves out i = p: 10 - p.
+    // i is 1 to 4, and p leaves out i = p: 10 - p.
     Row {
         name: "continue of some in a while",
         gang: Gang::W4,
@@ -26,7 +26,7 @@ pub(crate) static ROWS: [Row; 22] = [
         ending: Ending::Ends(r#"{"arrays":{"a":[42,21,42,21]},"result":null}"#),
         output: "",
     },
-    // P makes 5 - p turns, and turn 2 adds nothing: 1 + 3 + 4 + 5, 1 + 3 + 4, 1 + 3, 1.
+    // p makes 5 - p turns, and turn 2 adds nothing: 1 + 3 + 4 + 5, 1 + 3 + 4, 1 + 3, 1.
     Row {
         name: "continue of all in a while with a varying test",
         gang: Gang::W4,
@@ -37,7 +37,7 @@ pub(crate) static ROWS: [Row; 22] = [
         ending: Ending::Ends(r#"{"arrays":{"a":[13,8,4,1]},"result":null}"#),
         output: "",
     },
-    // T is 1 to 4, and the even ones are left out: 1 + 3 for 1, times p.
+    // t is 1 to 4, and the even ones are left out: 1 + 3 for 1, times p.
     Row {
         name: "continue of all in a while with a uniform test",
         gang: Gang::W4,
@@ -59,7 +59,7 @@ pub(crate) static ROWS: [Row; 22] = [
         ending: Ending::Ends(r#"{"arrays":{"a":[3,13,23,33]},"result":null}"#),
         output: "",
     },
-    // P adds the t of 1 to 4 that are above p.
+    // p adds the t of 1 to 4 that are above p.
     Row {
         name: "continue of some in a do with a uniform test",
         gang: Gang::W4,
@@ -81,7 +81,7 @@ pub(crate) static ROWS: [Row; 22] = [
         ending: Ending::Ends(r#"{"arrays":{"a":[9,9,5,4]},"result":null}"#),
         output: "",
     },
-    // T = 1 and t = 2 go on at once, t = 3 adds p + 1.
+    // t = 1 and t = 2 go on at once, t = 3 adds p + 1.
     Row {
         name: "continue of all in a do with a uniform test",
         gang: Gang::W4,
@@ -125,7 +125,7 @@ pub(crate) static ROWS: [Row; 22] = [
         ending: Ending::Ends(r#"{"arrays":{"a":[3,3,3,3]},"result":null}"#),
         output: "",
     },
-    // T is 0, 2, 3: 5 p.
+    // t is 0, 2, 3: 5 p.
     Row {
         name: "continue of all in a for with a uniform test",
         gang: Gang::W4,
@@ -147,7 +147,7 @@ pub(crate) static ROWS: [Row; 22] = [
         ending: Ending::Ends(r#"{"arrays":{"a":[49,49,52,52]},"result":null}"#),
         output: "",
     },
-    // T is 3, 2, 1, 0, the powers of 2 but that of p: 15 - 2 ^ p.
+    // t is 3, 2, 1, 0, the powers of 2 but that of p: 15 - 2 ^ p.
     Row {
         name: "continue of some in a cwhile with a uniform test",
         gang: Gang::W4,
@@ -180,7 +180,7 @@ pub(crate) static ROWS: [Row; 22] = [
         ending: Ending::Ends(r#"{"arrays":{"a":[0,0,26,26]},"result":null}"#),
         output: "",
     },
-    // I = 1 adds nothing: 1; 1 + 3; 1 + 3 + 4; 1 + 3 + 4 + 5 for the ends 2, 3, 4, 5.
+    // i = 1 adds nothing: 1; 1 + 3; 1 + 3 + 4; 1 + 3 + 4 + 5 for the ends 2, 3, 4, 5.
     Row {
         name: "continue of some in a cfor",
         gang: Gang::W4,
@@ -224,7 +224,7 @@ pub(crate) static ROWS: [Row; 22] = [
         ending: Ending::Ends(r#"{"arrays":{"a":[94,13,74,64]},"result":null}"#),
         output: "",
     },
-    // T is 0, 1, 2, 3, and at 2 all go on by a varying test before the count.
+    // t is 0, 1, 2, 3, and at 2 all go on by a varying test before the count.
     Row {
         name: "the rest of a turn in which everyone went on",
         gang: Gang::W4,

@@ -2,7 +2,7 @@
 use crate::rows::{Counted, Ending, Row};
 use isp_base::Gang;
 
-/// Each row: the program, what comes out and the work.
+/// Each row: the nodes, then the program, what comes out and the work.
 pub(crate) static ROWS: [Counted; 11] = [
     // The body.
     Counted {

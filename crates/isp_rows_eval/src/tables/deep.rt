@@ -2,7 +2,7 @@
 use crate::rows::{Ending, Row};
 use isp_base::Gang;
 
-/// Each row: the program, what comes out.
+/// Each row: the working, in which p is the number of each instance, then the program and what comes out.
 pub(crate) static ROWS: [Row; 14] = [
     // An even number of complements: each call adds 1.
     Row {
@@ -136,7 +136,7 @@ pub(crate) static ROWS: [Row; 14] = [
         ending: Ending::Traps("depth", 0, r#"{"arrays":{},"result":null}"#),
         output: "",
     },
-    // G(n) is n from 1 on; the deepest is the 256th call with the entry's.
+    // g(n) is n from 1 on; the deepest is the 256th call with the entry's.
     Row {
         name: "a call of some under a hundred complements",
         gang: Gang::W4,

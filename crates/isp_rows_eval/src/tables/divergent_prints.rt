@@ -2,9 +2,9 @@
 use crate::rows::{Ending, Row};
 use isp_base::Gang;
 
-/// Each row: the program, what comes out.
+/// Each row: the working, in which p is the number of each instance, then the program and what comes out.
 pub(crate) static ROWS: [Row; 19] = [
-    // I goes on in turn i.
+    // i goes on in turn i.
     Row {
         name: "print after a continue",
         gang: Gang::W4,
@@ -15,7 +15,7 @@ pub(crate) static ROWS: [Row; 19] = [
         ending: Ending::Ends(r#"{"arrays":{},"result":null}"#),
         output: "[_,0,0,0];[1,_,1,1];[2,2,_,2];",
     },
-    // T is 0 to 3: instance t leaves before the text.
+    // t is 0 to 3: instance t leaves before the text.
     Row {
         name: "print after a break",
         gang: Gang::W4,

@@ -2,7 +2,7 @@
 use crate::rows::{Ending, Row};
 use isp_base::Gang;
 
-/// Each row: the program, what comes out.
+/// Each row: the working, in which p is the number of each instance, then the program and what comes out.
 pub(crate) static ROWS: [Row; 13] = [
     // 0 and 1 break; 2 and 3 have the indices 4 and 5 of 4.
     Row {
@@ -15,7 +15,7 @@ pub(crate) static ROWS: [Row; 13] = [
         ending: Ending::Traps("index", 2, r#"{"arrays":{"a":[0,0,0,0]},"result":null}"#),
         output: "",
     },
-    // D is 3, 2, 1, 0 and p leaves at p: 4 + 6 + 12, 6 + 12, 12, nothing.
+    // d is 3, 2, 1, 0 and p leaves at p: 4 + 6 + 12, 6 + 12, 12, nothing.
     Row {
         name: "a divisor is 0 only for those that have left",
         gang: Gang::W4,
@@ -70,7 +70,7 @@ pub(crate) static ROWS: [Row; 13] = [
         ending: Ending::Traps("divide", 3, r#"{"arrays":{"a":[1,1,1,1]},"result":null}"#),
         output: "",
     },
-    // I is 2 in the first test, and 2 - 2 p is 0 in instance 1.
+    // i is 2 in the first test, and 2 - 2 p is 0 in instance 1.
     Row {
         name: "a trap in the test of a do",
         gang: Gang::W4,

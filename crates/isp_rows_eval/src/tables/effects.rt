@@ -2,9 +2,9 @@
 use crate::rows::{Ending, Row};
 use isp_base::Gang;
 
-/// Each row: the program, what comes out.
+/// Each row: the working, in which p is the number of each instance, then the program and what comes out.
 pub(crate) static ROWS: [Row; 29] = [
-    // G gives 0 and is called once.
+    // g gives 0 and is called once.
     Row {
         name: "the index of a compound assignment is taken once",
         gang: Gang::W4,
@@ -15,7 +15,7 @@ pub(crate) static ROWS: [Row; 29] = [
         ending: Ending::Ends(r#"{"arrays":{"a":[6,2],"b":[1]},"result":null}"#),
         output: "",
     },
-    // G gives 0 and is called once.
+    // g gives 0 and is called once.
     Row {
         name: "the index of an increment is taken once",
         gang: Gang::W4,
@@ -26,7 +26,7 @@ pub(crate) static ROWS: [Row; 29] = [
         ending: Ending::Ends(r#"{"arrays":{"a":[2,2],"b":[1]},"result":null}"#),
         output: "",
     },
-    // G stores 10 and gives 1: 10 + 1.
+    // g stores 10 and gives 1: 10 + 1.
     Row {
         name: "a place is read after the right side",
         gang: Gang::W4,
@@ -37,7 +37,7 @@ pub(crate) static ROWS: [Row; 29] = [
         ending: Ending::Ends(r#"{"arrays":{"a":[11,0]},"result":null}"#),
         output: "",
     },
-    // G stores 10 + p and gives 1: 11 + p.
+    // g stores 10 + p and gives 1: 11 + p.
     Row {
         name: "a place of each instance is read after the right side",
         gang: Gang::W4,
@@ -48,7 +48,7 @@ pub(crate) static ROWS: [Row; 29] = [
         ending: Ending::Ends(r#"{"arrays":{"a":[11,12,13,14]},"result":null}"#),
         output: "",
     },
-    // A[9] is outside, but 1 / 0 comes first.
+    // a[9] is outside, but 1 / 0 comes first.
     Row {
         name: "the right side comes before the store",
         gang: Gang::W4,
@@ -59,7 +59,7 @@ pub(crate) static ROWS: [Row; 29] = [
         ending: Ending::Traps("divide", 0, r#"{"arrays":{"a":[0,0,0,0]},"result":null}"#),
         output: "",
     },
-    // B[9] is the index, and 1 / 0 would come after it.
+    // b[9] is the index, and 1 / 0 would come after it.
     Row {
         name: "the index comes before the right side",
         gang: Gang::W4,
@@ -81,7 +81,7 @@ pub(crate) static ROWS: [Row; 29] = [
         ending: Ending::Traps("divide", 0, r#"{"arrays":{"a":[5,0]},"result":null}"#),
         output: "",
     },
-    // A[9], then 1 / 0 would come.
+    // a[9], then 1 / 0 would come.
     Row {
         name: "the left operand first, an index",
         gang: Gang::W4,
@@ -103,7 +103,7 @@ pub(crate) static ROWS: [Row; 29] = [
         ending: Ending::Traps("divide", 2, r#"{"arrays":{"a":[0,0,0,0]},"result":null}"#),
         output: "",
     },
-    // N is the depth: at 256 the argument divides by 0.
+    // n is the depth: at 256 the argument divides by 0.
     Row {
         name: "arguments come before a call too many",
         gang: Gang::W4,
@@ -114,7 +114,7 @@ pub(crate) static ROWS: [Row; 29] = [
         ending: Ending::Traps("divide", 0, r#"{"arrays":{},"result":null}"#),
         output: "",
     },
-    // N is the depth: the argument of the call from 256 is fine.
+    // n is the depth: the argument of the call from 256 is fine.
     Row {
         name: "a call too many, after its arguments",
         gang: Gang::W4,
@@ -180,7 +180,7 @@ pub(crate) static ROWS: [Row; 29] = [
         ending: Ending::Ends(r#"{"arrays":{"a":[1,0,0,1]},"result":null}"#),
         output: "[0,1,2,3][1,2,3,4]",
     },
-    // N > 0 is false, so nobody is asked.
+    // n > 0 is false, so nobody is asked.
     Row {
         name: "a uniform && in a branch",
         gang: Gang::W4,
@@ -268,7 +268,7 @@ pub(crate) static ROWS: [Row; 29] = [
         ending: Ending::Ends(r#"{"arrays":{"a":[52,22,52,32]},"result":null}"#),
         output: "",
     },
-    // N is 0 after the first round, and six are stored.
+    // n is 0 after the first round, and six are stored.
     Row {
         name: "the bounds of a foreach are taken once",
         gang: Gang::W4,
@@ -279,7 +279,7 @@ pub(crate) static ROWS: [Row; 29] = [
         ending: Ending::Ends(r#"{"arrays":{"a":[1,1,1,1,1,1]},"result":null}"#),
         output: "",
     },
-    // G prints 0, 2, 2, 5; y is 0 and 1, x is 2, 3, 4.
+    // g prints 0, 2, 2, 5; y is 0 and 1, x is 2, 3, 4.
     Row {
         name: "the bounds of a foreach from left to right",
         gang: Gang::W4,

@@ -2,7 +2,7 @@
 use crate::rows::{Ending, Row};
 use isp_base::Gang;
 
-/// Each row: the program, what comes out.
+/// Each row: the working, in which p is the number of each instance, then the program and what comes out.
 pub(crate) static ROWS: [Row; 33] = [
     // Each of two turns adds 1 to all and 10 to instance 0.
     Row {
@@ -248,7 +248,7 @@ pub(crate) static ROWS: [Row; 33] = [
         ),
         output: "",
     },
-    // P + 1 calls; each adds 1 to all elements, whoever calls: 4 calls in all.
+    // p + 1 calls; each adds 1 to all elements, whoever calls: 4 calls in all.
     Row {
         name: "a foreach in a called function, under a loop",
         gang: Gang::W4,

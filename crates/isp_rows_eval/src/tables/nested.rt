@@ -2,7 +2,7 @@
 use crate::rows::{Ending, Row};
 use isp_base::Gang;
 
-/// Each row: the program, what comes out.
+/// Each row: the working, in which p is the number of each instance, then the program and what comes out.
 pub(crate) static ROWS: [Row; 21] = [
     // Counts 0 + 1 + 2, 1 + 2 + 3, 2 + 3 + 3, 3 + 3 + 3, and 10 for each of three outer turns.
     Row {
@@ -15,7 +15,7 @@ pub(crate) static ROWS: [Row; 21] = [
         ending: Ending::Ends(r#"{"arrays":{"a":[33,36,38,39]},"result":null}"#),
         output: "",
     },
-    // Q is 6 without p: 6, 5, 4, 3; first 2 q, then (2 q + q) 2.
+    // q is 6 without p: 6, 5, 4, 3; first 2 q, then (2 q + q) 2.
     Row {
         name: "continue of the inner loop alone",
         gang: Gang::W4,
@@ -26,7 +26,7 @@ pub(crate) static ROWS: [Row; 21] = [
         ending: Ending::Ends(r#"{"arrays":{"a":[36,30,24,18]},"result":null}"#),
         output: "",
     },
-    // N grows by 2 an outer turn; p leaves when n is 2 p, and 0 after its first turn.
+    // n grows by 2 an outer turn; p leaves when n is 2 p, and 0 after its first turn.
     Row {
         name: "two breaks, one for each loop",
         gang: Gang::W4,
@@ -48,7 +48,7 @@ pub(crate) static ROWS: [Row; 21] = [
         ending: Ending::Ends(r#"{"arrays":{"a":[6,2,2,4]},"result":null}"#),
         output: "",
     },
-    // P leaves in turn p: the inner loop adds 3 in each turn before.
+    // p leaves in turn p: the inner loop adds 3 in each turn before.
     Row {
         name: "who broke the outer loop is off in the inner one",
         gang: Gang::W4,
@@ -70,7 +70,7 @@ pub(crate) static ROWS: [Row; 21] = [
         ending: Ending::Ends(r#"{"arrays":{"a":[6,6,6,9]},"result":null}"#),
         output: "",
     },
-    // P makes p inner turns in each of two outer ones, and 10 for each outer one.
+    // p makes p inner turns in each of two outer ones, and 10 for each outer one.
     Row {
         name: "an inner test that only some take",
         gang: Gang::W4,
@@ -125,7 +125,7 @@ pub(crate) static ROWS: [Row; 21] = [
         ending: Ending::Ends(r#"{"arrays":{"a":[0,1,3,6]},"result":null}"#),
         output: "",
     },
-    // H(n) is 1 and the sum of h below n: 1, 2, 4, 8.
+    // h(n) is 1 and the sum of h below n: 1, 2, 4, 8.
     Row {
         name: "recursion in a loop",
         gang: Gang::W4,
@@ -136,7 +136,7 @@ pub(crate) static ROWS: [Row; 21] = [
         ending: Ending::Ends(r#"{"arrays":{"a":[1,2,4,8]},"result":null}"#),
         output: "",
     },
-    // Even(p) and odd(p) by turns: even gives 1 for even p.
+    // even(p) and odd(p) by turns: even gives 1 for even p.
     Row {
         name: "functions that call each other, under a break",
         gang: Gang::W4,
@@ -147,7 +147,7 @@ pub(crate) static ROWS: [Row; 21] = [
         ending: Ending::Ends(r#"{"arrays":{"a":[1,0,1,0]},"result":null}"#),
         output: "",
     },
-    // G is 1 from 2 on: i + p is 2 first at i = 2 for 0 and at i = 1 for the others.
+    // g is 1 from 2 on: i + p is 2 first at i = 2 for 0 and at i = 1 for the others.
     Row {
         name: "a return in a called function leaves the caller's loop alone",
         gang: Gang::W4,
@@ -158,7 +158,7 @@ pub(crate) static ROWS: [Row; 21] = [
         ending: Ending::Ends(r#"{"arrays":{"a":[2,1,1,1]},"result":null}"#),
         output: "",
     },
-    // H is the number of halvings: 0, 1, 2, 2, 3 for 0 to 4; g leaves out h(1): 0; 0 + 2; 2 + 2; 2 + 2 + 3.
+    // h is the number of halvings: 0, 1, 2, 2, 3 for 0 to 4; g leaves out h(1): 0; 0 + 2; 2 + 2; 2 + 2 + 3.
     Row {
         name: "a loop in a function that a loop calls",
         gang: Gang::W4,
@@ -202,7 +202,7 @@ pub(crate) static ROWS: [Row; 21] = [
         ending: Ending::Ends(r#"{"arrays":{},"result":11}"#),
         output: "",
     },
-    // T[0] is p + 1 in both calls: 2 p + 2.
+    // t[0] is p + 1 in both calls: 2 p + 2.
     Row {
         name: "each instance's own array is new in each call",
         gang: Gang::W4,
@@ -213,7 +213,7 @@ pub(crate) static ROWS: [Row; 21] = [
         ending: Ending::Ends(r#"{"arrays":{"a":[2,4,6,8]},"result":null}"#),
         output: "",
     },
-    // X is 0 for those that declare it anew: each turn adds p + 1, three times for 0, 1, 2, and 3 leaves after one.
+    // x is 0 for those that declare it anew: each turn adds p + 1, three times for 0, 1, 2, and 3 leaves after one.
     Row {
         name: "a variable is 0 again in each turn",
         gang: Gang::W4,

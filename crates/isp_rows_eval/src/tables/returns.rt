@@ -2,9 +2,9 @@
 use crate::rows::{Ending, Row};
 use isp_base::Gang;
 
-/// Each row: the program, what comes out.
+/// Each row: the working, in which p is the number of each instance, then the program and what comes out.
 pub(crate) static ROWS: [Row; 20] = [
-    // P returns in turn p, after it has stored p.
+    // p returns in turn p, after it has stored p.
     Row {
         name: "return of the entry in a while",
         gang: Gang::W4,
@@ -26,7 +26,7 @@ pub(crate) static ROWS: [Row; 20] = [
         ending: Ending::Ends(r#"{"arrays":{"a":[0,0,9,9]},"result":null}"#),
         output: "",
     },
-    // T is 1, 2, 3: 1, 2, 3 return 10 t; 0 ends the loop and returns 7.
+    // t is 1, 2, 3: 1, 2, 3 return 10 t; 0 ends the loop and returns 7.
     Row {
         name: "return of some in a while with a uniform test",
         gang: Gang::W4,
@@ -48,7 +48,7 @@ pub(crate) static ROWS: [Row; 20] = [
         ending: Ending::Ends(r#"{"arrays":{"a":[-6,7,-5,-6]},"result":null}"#),
         output: "",
     },
-    // T is 10 (nobody), 6 (3, since 9 > 6), 2 (1 and 2); 0 ends the loop with t = -2 and returns 1.
+    // t is 10 (nobody), 6 (3, since 9 > 6), 2 (1 and 2); 0 ends the loop with t = -2 and returns 1.
     Row {
         name: "return of some in a do with a uniform test",
         gang: Gang::W4,
@@ -59,7 +59,7 @@ pub(crate) static ROWS: [Row; 20] = [
         ending: Ending::Ends(r#"{"arrays":{"a":[1,2,2,6]},"result":null}"#),
         output: "",
     },
-    // N = 2: sums 0, 1; n = 3: 0, 1, 3; n = 4: 0, 1, 3, 6 > 4; n = 5: 0, 1, 3, 6 > 5.
+    // n = 2: sums 0, 1; n = 3: 0, 1, 3; n = 4: 0, 1, 3, 6 > 4; n = 5: 0, 1, 3, 6 > 5.
     Row {
         name: "return of some in a for",
         gang: Gang::W4,
@@ -70,7 +70,7 @@ pub(crate) static ROWS: [Row; 20] = [
         ending: Ending::Ends(r#"{"arrays":{"a":[1,3,106,106]},"result":null}"#),
         output: "",
     },
-    // X + t is 5 first where t is 5 - p.
+    // x + t is 5 first where t is 5 - p.
     Row {
         name: "return of each in a for without a test",
         gang: Gang::W4,
@@ -103,7 +103,7 @@ pub(crate) static ROWS: [Row; 20] = [
         ending: Ending::Ends(r#"{"arrays":{"a":[2,1,50,1]},"result":null}"#),
         output: "",
     },
-    // X = 1: s = 2; x = 2: s = 4; x = 3 and x = 4: s = 8 where i is 2.
+    // x = 1: s = 2; x = 2: s = 4; x = 3 and x = 4: s = 8 where i is 2.
     Row {
         name: "return of some in a cfor",
         gang: Gang::W4,
@@ -114,7 +114,7 @@ pub(crate) static ROWS: [Row; 20] = [
         ending: Ending::Ends(r#"{"arrays":{"a":[20,40,2,2]},"result":null}"#),
         output: "",
     },
-    // T is 1, 2, 3: s is p + 1, then 3 p + 3 at t = 2 where they return.
+    // t is 1, 2, 3: s is p + 1, then 3 p + 3 at t = 2 where they return.
     Row {
         name: "return of all in a cfor with a uniform test",
         gang: Gang::W4,
@@ -125,7 +125,7 @@ pub(crate) static ROWS: [Row; 20] = [
         ending: Ending::Ends(r#"{"arrays":{"a":[3,6,9,12]},"result":null}"#),
         output: "",
     },
-    // T is 1, 3, 9, 27, the first above 10.
+    // t is 1, 3, 9, 27, the first above 10.
     Row {
         name: "return of a uniform loop",
         gang: Gang::W4,
@@ -180,7 +180,7 @@ pub(crate) static ROWS: [Row; 20] = [
         ending: Ending::Ends(r#"{"arrays":{},"result":30}"#),
         output: "",
     },
-    // X = 0: i 0, j 0; x = 1: i 1, j 1; x = 2: i 1, j 2; x = 3: i 2, j 2, since i 1 breaks at j 2.
+    // x = 0: i 0, j 0; x = 1: i 1, j 1; x = 2: i 1, j 2; x = 3: i 2, j 2, since i 1 breaks at j 2.
     Row {
         name: "return leaves two loops",
         gang: Gang::W4,

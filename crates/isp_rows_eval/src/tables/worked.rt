@@ -2,7 +2,7 @@
 use crate::rows::{Ending, Row};
 use isp_base::Gang;
 
-/// Each row: the program, what comes out.
+/// Each row: the working, in which p is the number of each instance, then the program and what comes out.
 pub(crate) static ROWS: [Row; 52] = [
     // Each element gains 1.
     Row {
@@ -59,7 +59,7 @@ pub(crate) static ROWS: [Row; 52] = [
         ending: Ending::Cut,
         output: "",
     },
-    // P adds 0 + 1 + 2 + 3 without p.
+    // p adds 0 + 1 + 2 + 3 without p.
     Row {
         name: "a varying continue in a for",
         gang: Gang::W4,
@@ -70,7 +70,7 @@ pub(crate) static ROWS: [Row; 52] = [
         ending: Ending::Ends(r#"{"arrays":{"a":[6,5,4,3]},"result":null}"#),
         output: "",
     },
-    // X grows by p + 1 from 0 until it is above 3.
+    // x grows by p + 1 from 0 until it is above 3.
     Row {
         name: "a varying return in a while",
         gang: Gang::W4,
@@ -406,7 +406,7 @@ pub(crate) static ROWS: [Row; 52] = [
         ),
         output: "",
     },
-    // P adds 1 + 2 + 3 without p.
+    // p adds 1 + 2 + 3 without p.
     Row {
         name: "a varying continue in a do",
         gang: Gang::W4,
@@ -417,7 +417,7 @@ pub(crate) static ROWS: [Row; 52] = [
         ending: Ending::Ends(r#"{"arrays":{"a":[6,5,4,3]},"result":null}"#),
         output: "",
     },
-    // J stops at i or at p + 1: the least of both, for i of 0, 1, 2.
+    // j stops at i or at p + 1: the least of both, for i of 0, 1, 2.
     Row {
         name: "two breaks in an inner loop",
         gang: Gang::W4,
@@ -505,7 +505,7 @@ pub(crate) static ROWS: [Row; 52] = [
         ending: Ending::Ends(r#"{"arrays":{"a":[0,1,0,1,0,1]},"result":null}"#),
         output: "",
     },
-    // P has the value of p + 1, and 0 comes in.
+    // p has the value of p + 1, and 0 comes in.
     Row {
         name: "shift the other way",
         gang: Gang::W4,
@@ -573,7 +573,7 @@ pub(crate) static ROWS: [Row; 52] = [
         ),
         output: "",
     },
-    // P is below k for k of p + 1 to 20.
+    // p is below k for k of p + 1 to 20.
     Row {
         name: "twenty cif",
         gang: Gang::W4,
