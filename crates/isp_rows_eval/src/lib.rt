@@ -4,6 +4,8 @@
 #[cfg(test)]
 mod entries;
 #[cfg(test)]
+mod marks;
+#[cfg(test)]
 mod programs;
 #[cfg(test)]
 mod rows;

@@ -1,4 +1,5 @@
-//! What a row of a table says, and its comparison with a run.
+//! What a record of a table says, and its comparison with a run.
+use crate::marks::without_marks;
 use isp_base::{Array, Bound, Gang, Signature, Value};
 use isp_bind::{answer, bind};
 use isp_eval::{Outcome, evaluate, work};
@@ -10,74 +11,77 @@ use std::alloc::{AllocError, Global};
 use std::process::Abort;
 use std::test::Fail;
 
-/// How a run stands after its turns.
-#[derive(Clone, Copy)]
-pub(crate) enum Ending {
-    /// It has ended, with this answer.
-    Ends(&'static str),
-    /// A trap of this kind at the marked place names this instance; then the arrays, as an answer without a result.
-    Traps(&'static str, usize, &'static str),
-    /// A loop would take one turn too many.
-    Cut,
-}
-
 /// A program, how its entry is called, and what comes out.
 #[derive(Clone, Copy)]
-pub(crate) struct Row {
+pub(crate) struct Row<'a> {
     /// What the program shows.
-    pub name: &'static str,
+    pub name: &'a str,
+    pub call: Call<'a>,
+    /// How the run stands after its turns: the first word, and what it is said with.
+    pub ending: &'a str,
+    /// What is written.
+    pub output: &'a str,
+    /// The source, with the place of a trap in brackets.
+    pub source: &'a str,
+}
+
+/// How a program is run.
+#[derive(Clone, Copy)]
+pub(crate) struct Call<'a> {
     pub gang: Gang,
-    /// The source; where the run traps, the trap's place stands in double brackets.
-    pub text: &'static str,
-    pub entry: &'static str,
-    /// The arguments in JSON.
-    pub arguments: &'static str,
+    pub entry: &'a str,
     /// How many turns each loop may make each time it is entered.
     pub turns: u64,
-    pub ending: Ending,
-    /// What is written.
-    pub output: &'static str,
+    /// How many nodes the run reaches, where that is known.
+    pub work: Option<u64>,
+    /// The arguments in JSON.
+    pub arguments: &'a str,
 }
 
-/// A program, and how many nodes its run reaches.
-#[derive(Clone, Copy)]
-pub(crate) struct Counted {
-    pub row: Row,
-    pub work: u64,
+fn gang_named(lanes: &str) -> Gang {
+    match lanes {
+        "4" => Gang::W4,
+        "8" => Gang::W8,
+        _ => Gang::W16,
+    }
 }
 
-/// A source without the brackets around a place, and where the place begins and ends in it.
-#[derive(Drop)]
-struct Unmarked {
-    source: String,
-    start: usize,
-    end: usize,
+fn number(text: &str) -> Option<u64> {
+    match text.parse::<u64>() {
+        Ok(number) => Some(number),
+        Err(_fault) => None,
+    }
 }
 
-fn without_marks(alloc: Global, marked: &str) -> Result<Unmarked, AllocError> {
-    let mut source = String::new(alloc);
-    let Some((before, rest)) = marked.split_once('⟦') else {
-        source.push_str(marked)?;
-        return Ok(Unmarked {
-            source,
-            start: 0,
-            end: 0,
-        });
-    };
-    source.push_str(before)?;
-    let start = source.len();
-    let Some((place, after)) = rest.split_once('⟧') else {
-        source.push_str(rest)?;
-        return Ok(Unmarked {
-            source,
-            start,
-            end: start,
-        });
-    };
-    source.push_str(place)?;
-    let end = source.len();
-    source.push_str(after)?;
-    Ok(Unmarked { source, start, end })
+// How the third line of a record says that a program is run.
+fn called(line: &str) -> Option<Call<'_>> {
+    let (lanes, rest) = line.split_once(' ')?;
+    let (entry, rest) = rest.split_once(' ')?;
+    let (turns, rest) = rest.split_once(' ')?;
+    let (work, arguments) = rest.split_once(' ')?;
+    Some(Call {
+        gang: gang_named(lanes),
+        entry,
+        turns: number(turns)?,
+        work: number(work),
+        arguments,
+    })
+}
+
+// What a record says: the working is for the reader alone.
+fn read(record: &str) -> Option<Row<'_>> {
+    let (name, rest) = record.split_once('\n')?;
+    let (_working, rest) = rest.split_once('\n')?;
+    let (line, rest) = rest.split_once('\n')?;
+    let (ending, rest) = rest.split_once('\n')?;
+    let (output, source) = rest.split_once('\n')?;
+    Some(Row {
+        name,
+        call: called(line)?,
+        ending,
+        output,
+        source,
+    })
 }
 
 /// The program of a source.
@@ -87,133 +91,147 @@ pub(crate) fn front(alloc: Global, source: &str, gang: Gang) -> Result<Checked, 
     check(alloc, resolve(alloc, &tree, gang)?)
 }
 
-/// How a run stands, as text, and what it wrote.
+/// How a run stands, as a record says it, what it wrote, and its work where that is asked for.
 #[derive(Drop)]
 struct Found {
-    line: String,
+    ending: String,
     output: Vec<u8>,
+    work: Option<u64>,
 }
 
-// What comes out, as text.
-fn line(
+fn told(
     alloc: Global,
     signature: &Signature,
-    arrays: &[Array],
-    returned: Option<Value>,
-    before: &str,
-) -> Result<String, AllocError> {
-    let text = answer(alloc, signature, arrays, returned)?;
-    format!(in alloc; "{before}{text}")
-}
-
-fn told(alloc: Global, signature: &Signature, outcome: Outcome) -> Result<Found, AllocError> {
+    outcome: Outcome,
+    work: Option<u64>,
+) -> Result<Found, AllocError> {
     match outcome {
         Outcome::Ends {
             arrays,
-            answer,
+            answer: returned,
             output,
         } => Ok(Found {
-            line: line(alloc, signature, arrays.as_slice(), answer, "")?,
+            ending: ended(alloc, signature, arrays.as_slice(), returned)?,
             output,
+            work,
         }),
         Outcome::Traps {
             trap,
             arrays,
             output,
         } => {
-            let before = format!(in alloc; "{trap}: ")?;
+            let text = answer(alloc, signature, arrays.as_slice(), None)?;
             Ok(Found {
-                line: line(alloc, signature, arrays.as_slice(), None, before.as_str())?,
+                ending: format!(in alloc; "{trap}: {text}")?,
                 output,
+                work,
             })
         }
         Outcome::Cut { output } => Ok(Found {
-            line: String::from_str(alloc, "cut")?,
+            ending: String::from_str(alloc, "cut")?,
             output,
+            work,
         }),
     }
 }
 
-// What a row wants.
-fn wanted(alloc: Global, row: &Row, unmarked: &Unmarked) -> Result<String, AllocError> {
-    match row.ending {
-        Ending::Ends(answer) => String::from_str(alloc, answer),
-        Ending::Traps(kind, instance, arrays) => {
-            format!(in alloc;
-                "trap {kind} at {}..{}, instance {instance}: {arrays}",
-                unmarked.start, unmarked.end
-            )
+fn ended(
+    alloc: Global,
+    signature: &Signature,
+    arrays: &[Array],
+    returned: Option<Value>,
+) -> Result<String, AllocError> {
+    let text = answer(alloc, signature, arrays, returned)?;
+    format!(in alloc; "ends {text}")
+}
+
+fn run_bound(
+    alloc: Global,
+    checked: &Checked,
+    signature: &Signature,
+    bound: &Bound,
+    call: Call<'_>,
+) -> Result<Found, Fail> {
+    let outcome = evaluate(alloc, checked, call.entry, bound, call.turns)?;
+    let work = match call.work {
+        Some(_) => Some(work(alloc, checked, call.entry, bound, call.turns)?),
+        None => None,
+    };
+    Ok(told(alloc, signature, outcome, work)?)
+}
+
+fn run(alloc: Global, source: &str, call: Call<'_>) -> Result<Found, Fail> {
+    let checked = front(alloc, source, call.gang)?;
+    match checked.signature(call.entry) {
+        Some(signature) => {
+            let bound = bind(alloc, signature, call.arguments)?;
+            run_bound(alloc, &checked, signature, &bound, call)
         }
-        Ending::Cut => String::from_str(alloc, "cut"),
-    }
-}
-
-/// The arguments of a row, for the entry of a program.
-fn arguments(alloc: Global, row: &Row, checked: &Checked) -> Result<Bound, Fail> {
-    match checked.signature(row.entry) {
-        Some(signature) => Ok(bind(alloc, signature, row.arguments)?),
         None => Err(Fail::from("no such entry")),
     }
 }
 
-fn run(alloc: Global, row: &Row, checked: &Checked) -> Result<Found, Fail> {
-    let bound = arguments(alloc, row, checked)?;
-    let outcome = evaluate(alloc, checked, row.entry, &bound, row.turns)?;
-    match checked.signature(row.entry) {
-        Some(signature) => Ok(told(alloc, signature, outcome)?),
-        None => Err(Fail::from("no such entry")),
-    }
+fn same_ending(rt: &impl Abort, name: &str, found: &str, wanted: &str) {
+    assert!(rt; found == wanted, "{name}: {found}, not {wanted}");
+}
+
+fn same_output(rt: &impl Abort, name: &str, found: &[u8], wanted: &[u8]) {
+    assert!(rt; found == wanted, "{name}: another output");
+}
+
+fn same_work(rt: &impl Abort, name: &str, found: Option<u64>, wanted: Option<u64>) {
+    assert!(rt; found == wanted, "{name}: another work");
 }
 
 /// Runs the program of a row and compares what comes out.
-fn compare(rt: &impl Abort, alloc: Global, row: &Row) -> Result<(), Fail> {
-    let unmarked = without_marks(alloc, row.text)?;
-    let wanted = wanted(alloc, row, &unmarked)?;
-    let checked = front(alloc, unmarked.source.as_str(), row.gang)?;
-    let found = run(alloc, row, &checked)?;
-    assert!(rt;
-        found.line == wanted,
-        "{}: {}, not {wanted}",
-        row.name,
-        found.line
-    );
-    assert!(rt;
-        found.output.as_slice() == row.output.as_bytes(),
-        "{}: another output",
-        row.name
-    );
+fn compare(rt: &impl Abort, alloc: Global, row: Row<'_>) -> Result<(), Fail> {
+    let marked = without_marks(alloc, row.source)?;
+    let wanted = marked.wanted(alloc, row.ending)?;
+    let found = run(alloc, marked.source.as_str(), row.call)?;
+    same_ending(rt, row.name, found.ending.as_str(), wanted.as_str());
+    let output = written(alloc, row.output)?;
+    same_output(rt, row.name, found.output.as_slice(), output.as_bytes());
+    same_work(rt, row.name, found.work, row.call.work);
     Ok(())
 }
 
-/// Counts the nodes that the run of a row reaches.
-fn count(rt: &impl Abort, alloc: Global, counted: &Counted) -> Result<(), Fail> {
-    let row = &counted.row;
-    let unmarked = without_marks(alloc, row.text)?;
-    let checked = front(alloc, unmarked.source.as_str(), row.gang)?;
-    let bound = arguments(alloc, row, &checked)?;
-    let found = work(alloc, &checked, row.entry, &bound, row.turns)?;
-    assert!(rt;
-        found == counted.work,
-        "{}: {found}, not {}",
-        row.name,
-        counted.work
-    );
-    Ok(())
-}
-
-/// Each row of a table.
-pub(crate) fn compare_all(rt: &impl Abort, alloc: Global, rows: &[Row]) -> Result<(), Fail> {
-    for row in rows {
-        compare(rt, alloc, row)?;
+// What a record says that is written.
+fn written(alloc: Global, output: &str) -> Result<String, AllocError> {
+    let mut text = String::new(alloc);
+    for c in output.chars() {
+        match c {
+            '␤' => text.push('\n')?,
+            '␉' => text.push('\t')?,
+            _ => text.push(c)?,
+        }
     }
-    Ok(())
+    Ok(text)
 }
 
-/// Each row of a table whose work is known.
-pub(crate) fn count_all(rt: &impl Abort, alloc: Global, rows: &[Counted]) -> Result<(), Fail> {
-    for counted in rows {
-        compare(rt, alloc, &counted.row)?;
-        count(rt, alloc, counted)?;
+fn compare_record(rt: &impl Abort, alloc: Global, record: &str) -> Result<(), Fail> {
+    match read(record) {
+        Some(row) => compare(rt, alloc, row),
+        None => Err(Fail::from("a record that says too little")),
     }
+}
+
+/// Each of so many records of a table.
+pub(crate) fn compare_all(
+    rt: &impl Abort,
+    alloc: Global,
+    table: &str,
+    count: usize,
+) -> Result<(), Fail> {
+    let mut left = count;
+    for record in table.split("=== ") {
+        if !record.is_empty() {
+            compare_record(rt, alloc, record)?;
+            let Some(fewer) = left.checked_sub(1) else {
+                return Err(Fail::from("more records than there should be"));
+            };
+            left = fewer;
+        }
+    }
+    assert!(rt; left == 0, "{left} records are not there");
     Ok(())
 }

@@ -1,587 +1,319 @@
 //! Worked examples of the language's parts.
-use crate::rows::{Ending, Row};
-use isp_base::Gang;
 
-/// Each row: the working, in which p is the number of each instance, then the program and what comes out.
-pub(crate) static ROWS: [Row; 52] = [
-    // Each element gains 1.
-    Row {
-        name: "a foreach over an array",
-        gang: Gang::W4,
-        text: "export void inc(uniform int a[], uniform int n) { foreach (i = 0 ... n) a[i] = a[i] + 1; }",
-        entry: "inc",
-        arguments: r#"{"a":[1,2,3,4,5],"n":5}"#,
-        turns: 0,
-        ending: Ending::Ends(r#"{"arrays":{"a":[2,3,4,5,6]},"result":null}"#),
-        output: "",
-    },
-    // No round.
-    Row {
-        name: "a foreach over nothing",
-        gang: Gang::W4,
-        text: "export void inc(uniform int a[], uniform int n) { foreach (i = 0 ... n) a[i] = a[i] + 1; }",
-        entry: "inc",
-        arguments: r#"{"a":[],"n":0}"#,
-        turns: 0,
-        ending: Ending::Ends(r#"{"arrays":{"a":[]},"result":null}"#),
-        output: "",
-    },
-    // The second run has 4 in instance 0 and 5 in instance 1; the first run is stored.
-    Row {
-        name: "a foreach past the end",
-        gang: Gang::W4,
-        text: "export void inc(uniform int a[], uniform int n) { foreach (i = 0 ... n) a[i] = ⟦a[i]⟧ + 1; }",
-        entry: "inc",
-        arguments: r#"{"a":[1,2,3,4,5],"n":6}"#,
-        turns: 0,
-        ending: Ending::Traps("index", 1, r#"{"arrays":{"a":[2,3,4,5,5]},"result":null}"#),
-        output: "",
-    },
-    // 2 and 3 leave in turn 1, 1 in turn 2, 0 in turn 3: two counts.
-    Row {
-        name: "a uniform counter in a varying while",
-        gang: Gang::W4,
-        text: "export uniform int f() { int x = programIndex; uniform int t = 0; while (true) { if (x >= 2) break; x++; t++; } return t; }",
-        entry: "f",
-        arguments: "{}",
-        turns: 3,
-        ending: Ending::Ends(r#"{"arrays":{},"result":2}"#),
-        output: "",
-    },
-    // The third turn is needed for 0 to leave.
-    Row {
-        name: "a uniform counter in a varying while, cut",
-        gang: Gang::W4,
-        text: "export uniform int f() { int x = programIndex; uniform int t = 0; while (true) { if (x >= 2) break; x++; t++; } return t; }",
-        entry: "f",
-        arguments: "{}",
-        turns: 2,
-        ending: Ending::Cut,
-        output: "",
-    },
-    // p adds 0 + 1 + 2 + 3 without p.
-    Row {
-        name: "a varying continue in a for",
-        gang: Gang::W4,
-        text: "export void f(uniform int a[]) { int s = 0; for (int i = 0; i < 4; i++) { if (i == programIndex) continue; s += i; } a[programIndex] = s; }",
-        entry: "f",
-        arguments: r#"{"a":[0,0,0,0]}"#,
-        turns: 1000,
-        ending: Ending::Ends(r#"{"arrays":{"a":[6,5,4,3]},"result":null}"#),
-        output: "",
-    },
-    // x grows by p + 1 from 0 until it is above 3.
-    Row {
-        name: "a varying return in a while",
-        gang: Gang::W4,
-        text: "int g(int x) { while (true) { if (x > 3) return x; x += programIndex + 1; } } export void f(uniform int a[]) { a[programIndex] = g(0); }",
-        entry: "f",
-        arguments: r#"{"a":[0,0,0,0]}"#,
-        turns: 1000,
-        ending: Ending::Ends(r#"{"arrays":{"a":[4,4,6,4]},"result":null}"#),
-        output: "",
-    },
-    // The divisor is asked of 1 and 3 alone.
-    Row {
-        name: "a division behind a select",
-        gang: Gang::W4,
-        text: "export void f(uniform int a[], uniform int b[]) { b[programIndex] = a[programIndex] != 0 ? 12 / a[programIndex] : 7; }",
-        entry: "f",
-        arguments: r#"{"a":[0,3,0,5],"b":[0,0,0,0]}"#,
-        turns: 1000,
-        ending: Ending::Ends(r#"{"arrays":{"a":[0,3,0,5],"b":[7,4,7,2]},"result":null}"#),
-        output: "",
-    },
-    // All are below 4.
-    Row {
-        name: "a uniform assigned in the first branch alone",
-        gang: Gang::W4,
-        text: "export uniform int f(uniform int k) { uniform int u = 0; if (programIndex < k) u = 1; else u = 2; return u; }",
-        entry: "f",
-        arguments: r#"{"k":4}"#,
-        turns: 1000,
-        ending: Ending::Ends(r#"{"arrays":{},"result":1}"#),
-        output: "",
-    },
-    // The second branch comes last.
-    Row {
-        name: "a uniform assigned in both branches",
-        gang: Gang::W4,
-        text: "export uniform int f(uniform int k) { uniform int u = 0; if (programIndex < k) u = 1; else u = 2; return u; }",
-        entry: "f",
-        arguments: r#"{"k":2}"#,
-        turns: 1000,
-        ending: Ending::Ends(r#"{"arrays":{},"result":2}"#),
-        output: "",
-    },
-    // 4 times 2147483647.
-    Row {
-        name: "a widening sum",
-        gang: Gang::W4,
-        text: "export uniform int64 f() { int x = 2147483647; return reduce_add(x); }",
-        entry: "f",
-        arguments: "{}",
-        turns: 1000,
-        ending: Ending::Ends(r#"{"arrays":{},"result":8589934588}"#),
-        output: "",
-    },
-    // Instance p has the value of p - 1.
-    Row {
-        name: "rotate",
-        gang: Gang::W8,
-        text: r#"export void f() { print("%\n", rotate(programIndex + 1, -1)); }"#,
-        entry: "f",
-        arguments: "{}",
-        turns: 1000,
-        ending: Ending::Ends(r#"{"arrays":{},"result":null}"#),
-        output: "[8,1,2,3,4,5,6,7]\n",
-    },
-    // Instance p has the value of p - 1, and 0 comes in.
-    Row {
-        name: "shift",
-        gang: Gang::W8,
-        text: r#"export void f() { print("%\n", shift(programIndex + 1, -1)); }"#,
-        entry: "f",
-        arguments: "{}",
-        turns: 1000,
-        ending: Ending::Ends(r#"{"arrays":{},"result":null}"#),
-        output: "[0,1,2,3,4,5,6,7]\n",
-    },
-    // 0 and 2 store 5 and 7 from b[1] on.
-    Row {
-        name: "a packed store",
-        gang: Gang::W4,
-        text: "export uniform int f(uniform int x[], uniform int b[]) { uniform int c = 0; int v = x[programIndex]; if (v > 0) c = packed_store_active(&b[1], v); return c; }",
-        entry: "f",
-        arguments: r#"{"x":[5,-1,7,0],"b":[0,0,0]}"#,
-        turns: 1000,
-        ending: Ending::Ends(r#"{"arrays":{"b":[0,5,7],"x":[5,-1,7,0]},"result":2}"#),
-        output: "",
-    },
-    // The second element would be b[2] of two, for instance 2.
-    Row {
-        name: "a packed store past the end",
-        gang: Gang::W4,
-        text: "export uniform int f(uniform int x[], uniform int b[]) { uniform int c = 0; int v = x[programIndex]; if (v > 0) c = ⟦packed_store_active(&b[1], v)⟧; return c; }",
-        entry: "f",
-        arguments: r#"{"x":[5,-1,7,0],"b":[0,0]}"#,
-        turns: 1000,
-        ending: Ending::Traps(
-            "index",
-            2,
-            r#"{"arrays":{"b":[0,0],"x":[5,-1,7,0]},"result":null}"#,
-        ),
-        output: "",
-    },
-    // The highest instance wins.
-    Row {
-        name: "a scatter to one element",
-        gang: Gang::W4,
-        text: "export void f(uniform int a[]) { int j = 0; a[j] = programIndex; }",
-        entry: "f",
-        arguments: r#"{"a":[9]}"#,
-        turns: 1000,
-        ending: Ending::Ends(r#"{"arrays":{"a":[3]},"result":null}"#),
-        output: "",
-    },
-    // Two numbers are below the end.
-    Row {
-        name: "a foreach at the top of int32",
-        gang: Gang::W4,
-        text: r#"export void f() { foreach (i = 2147483645 ... 2147483647) print("%\n", i); }"#,
-        entry: "f",
-        arguments: "{}",
-        turns: 1000,
-        ending: Ending::Ends(r#"{"arrays":{},"result":null}"#),
-        output: "[2147483645,2147483646,_,_]\n",
-    },
-    // 1 is off.
-    Row {
-        name: "a foreach_active under a mask",
-        gang: Gang::W4,
-        text: r#"export void f() { if (programIndex != 1) foreach_active (i) print("%,", i); }"#,
-        entry: "f",
-        arguments: "{}",
-        turns: 1000,
-        ending: Ending::Ends(r#"{"arrays":{},"result":null}"#),
-        output: "0,2,3,",
-    },
-    // 256 calls, each adds 1.
-    Row {
-        name: "as many calls as may be",
-        gang: Gang::W4,
-        text: "export uniform int f(uniform int n) { if (n <= 1) return 1; return 1 + f(n - 1); }",
-        entry: "f",
-        arguments: r#"{"n":256}"#,
-        turns: 1000,
-        ending: Ending::Ends(r#"{"arrays":{},"result":256}"#),
-        output: "",
-    },
-    // The call from the 256th traps.
-    Row {
-        name: "one call too many",
-        gang: Gang::W4,
-        text: "export uniform int f(uniform int n) { if (n <= 1) return 1; return 1 + ⟦f(n - 1)⟧; }",
-        entry: "f",
-        arguments: r#"{"n":257}"#,
-        turns: 1000,
-        ending: Ending::Traps("depth", 0, r#"{"arrays":{},"result":null}"#),
-        output: "",
-    },
-    // Cut before the first body.
-    Row {
-        name: "an endless print without turns",
-        gang: Gang::W4,
-        text: r#"export void f() { while (true) print("x"); }"#,
-        entry: "f",
-        arguments: "{}",
-        turns: 0,
-        ending: Ending::Cut,
-        output: "",
-    },
-    // One x a turn.
-    Row {
-        name: "an endless print of nine turns",
-        gang: Gang::W4,
-        text: r#"export void f() { while (true) print("x"); }"#,
-        entry: "f",
-        arguments: "{}",
-        turns: 9,
-        ending: Ending::Cut,
-        output: "xxxxxxxxx",
-    },
-    // It is bound, and nothing is done.
-    Row {
-        name: "the least int8 as an argument",
-        gang: Gang::W4,
-        text: "export void f(uniform int8 x) { }",
-        entry: "f",
-        arguments: r#"{"x":-128}"#,
-        turns: 1000,
-        ending: Ending::Ends(r#"{"arrays":{},"result":null}"#),
-        output: "",
-    },
-    // The least value, remainder 0; 33 is 1 modulo 32.
-    Row {
-        name: "the least value by minus one",
-        gang: Gang::W4,
-        text: "export void f(uniform int a[]) { uniform int x = -2147483647 - 1; uniform int y = 0 - 1; a[0] = x / y; a[1] = x % y; a[2] = 1 << 33; }",
-        entry: "f",
-        arguments: r#"{"a":[9,9,9]}"#,
-        turns: 1000,
-        ending: Ending::Ends(r#"{"arrays":{"a":[-2147483648,0,2]},"result":null}"#),
-        output: "",
-    },
-    // 10 + 1, 12 + 1, 14 + 1, 16 + 1.
-    Row {
-        name: "double plus one",
-        gang: Gang::W4,
-        text: "export void f(uniform int a[]) { a[programIndex] = a[programIndex] * 2 + 1; }",
-        entry: "f",
-        arguments: r#"{"a":[5,6,7,8]}"#,
-        turns: 1000,
-        ending: Ending::Ends(r#"{"arrays":{"a":[11,13,15,17]},"result":null}"#),
-        output: "",
-    },
-    // The right side reads before the store: 3 is outside.
-    Row {
-        name: "double plus one of three elements",
-        gang: Gang::W4,
-        text: "export void f(uniform int a[]) { a[programIndex] = ⟦a[programIndex]⟧ * 2 + 1; }",
-        entry: "f",
-        arguments: r#"{"a":[5,6,7]}"#,
-        turns: 1000,
-        ending: Ending::Traps("index", 3, r#"{"arrays":{"a":[5,6,7]},"result":null}"#),
-        output: "",
-    },
-    // 2 n + 1.
-    Row {
-        name: "double plus one by eight",
-        gang: Gang::W8,
-        text: "export void f(uniform int a[]) { a[programIndex] = a[programIndex] * 2 + 1; }",
-        entry: "f",
-        arguments: r#"{"a":[1,2,3,4,5,6,7,8]}"#,
-        turns: 1000,
-        ending: Ending::Ends(r#"{"arrays":{"a":[3,5,7,9,11,13,15,17]},"result":null}"#),
-        output: "",
-    },
-    // 10 y + x at 5 y + x.
-    Row {
-        name: "a foreach of two ranges",
-        gang: Gang::W4,
-        text: "export void f(uniform int a[]) { foreach (y = 0 ... 2, x = 0 ... 5) a[y * 5 + x] = 10 * y + x; }",
-        entry: "f",
-        arguments: r#"{"a":[9,9,9,9,9,9,9,9,9,9]}"#,
-        turns: 1000,
-        ending: Ending::Ends(r#"{"arrays":{"a":[0,1,2,3,4,10,11,12,13,14]},"result":null}"#),
-        output: "",
-    },
-    // Sums of 1, 3, 4 below each; the value of 1 is 0.
-    Row {
-        name: "a scan and a rotation under a mask",
-        gang: Gang::W4,
-        text: r#"export void f() { int x = programIndex + 1; if (programIndex != 1) { print("%\n", exclusive_scan_add(x)); print("%\n", rotate(x, 1)); } }"#,
-        entry: "f",
-        arguments: "{}",
-        turns: 1000,
-        ending: Ending::Ends(r#"{"arrays":{},"result":null}"#),
-        output: "[0,_,1,4]\n[0,_,4,1]\n",
-    },
-    // 0 and 2 write t[0] again.
-    Row {
-        name: "an array of each instance",
-        gang: Gang::W4,
-        text: "export void f(uniform int a[]) { int t[2]; t[0] = programIndex; t[programIndex & 1] = 9; a[programIndex] = t[0]; }",
-        entry: "f",
-        arguments: r#"{"a":[0,0,0,0]}"#,
-        turns: 1000,
-        ending: Ending::Ends(r#"{"arrays":{"a":[9,1,9,3]},"result":null}"#),
-        output: "",
-    },
-    // The sum of 1 over all four.
-    Row {
-        name: "unmasked under an if",
-        gang: Gang::W4,
-        text: "export uniform int f() { uniform int c; if (programIndex == 0) unmasked { c = reduce_add(1); } return c; }",
-        entry: "f",
-        arguments: "{}",
-        turns: 1000,
-        ending: Ending::Ends(r#"{"arrays":{},"result":4}"#),
-        output: "",
-    },
-    // 2 is the first that is not below 2.
-    Row {
-        name: "a print, then an assert",
-        gang: Gang::W4,
-        text: r#"export void f() { print("a"); ⟦assert(programIndex < 2)⟧; }"#,
-        entry: "f",
-        arguments: "{}",
-        turns: 1000,
-        ending: Ending::Traps("assert", 2, r#"{"arrays":{},"result":null}"#),
-        output: "a",
-    },
-    // 127 + 1.
-    Row {
-        name: "an int8 wraps",
-        gang: Gang::W4,
-        text: "export uniform int8 f() { uniform int8 x = 127; x += 1; return x; }",
-        entry: "f",
-        arguments: "{}",
-        turns: 1000,
-        ending: Ending::Ends(r#"{"arrays":{},"result":-128}"#),
-        output: "",
-    },
-    // 1 is negative, 3 is not asked for an element.
-    Row {
-        name: "a condition with &&",
-        gang: Gang::W4,
-        text: "export void f(uniform int a[], uniform int b[]) { b[programIndex] = programIndex < 3 && a[programIndex] > 0 ? 1 : 0; }",
-        entry: "f",
-        arguments: r#"{"a":[5,-1,2],"b":[9,9,9,9]}"#,
-        turns: 1000,
-        ending: Ending::Ends(r#"{"arrays":{"a":[5,-1,2],"b":[1,0,1,0]},"result":null}"#),
-        output: "",
-    },
-    // No instance is above 9.
-    Row {
-        name: "a uniform under an if that nobody takes",
-        gang: Gang::W4,
-        text: "export uniform int f() { uniform int u = 0; if (programIndex > 9) u = 5; return u; }",
-        entry: "f",
-        arguments: "{}",
-        turns: 1000,
-        ending: Ending::Ends(r#"{"arrays":{},"result":0}"#),
-        output: "",
-    },
-    // An odd number of complements of 1.
-    Row {
-        name: "forty-one complements",
-        gang: Gang::W16,
-        text: "export void f(uniform int a[]) { a[programIndex] = ~~~~~~~~~~~~~~~~~~~~~~~~~~~~~~~~~~~~~~~~~a[programIndex]; }",
-        entry: "f",
-        arguments: r#"{"a":[1,1,1,1,1,1,1,1,1,1,1,1,1,1,1,1]}"#,
-        turns: 1000,
-        ending: Ending::Ends(
-            r#"{"arrays":{"a":[-2,-2,-2,-2,-2,-2,-2,-2,-2,-2,-2,-2,-2,-2,-2,-2]},"result":null}"#,
-        ),
-        output: "",
-    },
-    // p adds 1 + 2 + 3 without p.
-    Row {
-        name: "a varying continue in a do",
-        gang: Gang::W4,
-        text: "export void f(uniform int a[]) { int s = 0; int i = 0; do { i++; if (i == programIndex) continue; s += i; } while (i < 3); a[programIndex] = s; }",
-        entry: "f",
-        arguments: r#"{"a":[0,0,0,0]}"#,
-        turns: 1000,
-        ending: Ending::Ends(r#"{"arrays":{"a":[6,5,4,3]},"result":null}"#),
-        output: "",
-    },
-    // j stops at i or at p + 1: the least of both, for i of 0, 1, 2.
-    Row {
-        name: "two breaks in an inner loop",
-        gang: Gang::W4,
-        text: "export void f(uniform int a[]) { int s = 0; for (int i = 0; i < 3; i++) { int j = 0; while (true) { if (j > programIndex) break; if (j == i) break; j++; } s += j; } a[programIndex] = s; }",
-        entry: "f",
-        arguments: r#"{"a":[0,0,0,0]}"#,
-        turns: 1000,
-        ending: Ending::Ends(r#"{"arrays":{"a":[2,3,3,3]},"result":null}"#),
-        output: "",
-    },
-    // Nothing is printed.
-    Row {
-        name: "an endless loop of a thousand turns",
-        gang: Gang::W4,
-        text: "export void f() { while (true) ; }",
-        entry: "f",
-        arguments: "{}",
-        turns: 1000,
-        ending: Ending::Cut,
-        output: "",
-    },
-    // 2 and 3 return last.
-    Row {
-        name: "a uniform result of two returns",
-        gang: Gang::W4,
-        text: "uniform int g(int x) { if (x < 2) return 1; return 2; } export uniform int f(uniform int k) { return g(programIndex * k); }",
-        entry: "f",
-        arguments: r#"{"k":1}"#,
-        turns: 1000,
-        ending: Ending::Ends(r#"{"arrays":{},"result":2}"#),
-        output: "",
-    },
-    // All are below 2.
-    Row {
-        name: "a uniform result of one return",
-        gang: Gang::W4,
-        text: "uniform int g(int x) { if (x < 2) return 1; return 2; } export uniform int f(uniform int k) { return g(programIndex * k); }",
-        entry: "f",
-        arguments: r#"{"k":0}"#,
-        turns: 1000,
-        ending: Ending::Ends(r#"{"arrays":{},"result":1}"#),
-        output: "",
-    },
-    // The digits 1, 3, 4.
-    Row {
-        name: "turns of a foreach_active",
-        gang: Gang::W4,
-        text: "export uniform int f() { uniform int t = 0; if (programIndex != 1) foreach_active (i) { t = t * 10 + (int)i + 1; } return t; }",
-        entry: "f",
-        arguments: "{}",
-        turns: 1000,
-        ending: Ending::Ends(r#"{"arrays":{},"result":134}"#),
-        output: "",
-    },
-    // All store.
-    Row {
-        name: "unmasked stores",
-        gang: Gang::W4,
-        text: "export void f(uniform int a[]) { if (programIndex == 0) unmasked { a[programIndex] = 7; } }",
-        entry: "f",
-        arguments: r#"{"a":[0,0,0,0]}"#,
-        turns: 1000,
-        ending: Ending::Ends(r#"{"arrays":{"a":[7,7,7,7]},"result":null}"#),
-        output: "",
-    },
-    // All take part.
-    Row {
-        name: "a foreach under an if",
-        gang: Gang::W4,
-        text: "export void f(uniform int a[]) { if (programIndex == 0) foreach (i = 0 ... 4) a[i] = i; }",
-        entry: "f",
-        arguments: r#"{"a":[9,9,9,9]}"#,
-        turns: 1000,
-        ending: Ending::Ends(r#"{"arrays":{"a":[0,1,2,3]},"result":null}"#),
-        output: "",
-    },
-    // The even go on at once.
-    Row {
-        name: "continue in a foreach",
-        gang: Gang::W4,
-        text: "export void f(uniform int a[]) { foreach (i = 0 ... 6) { if (i % 2 == 0) continue; a[i] = 1; } }",
-        entry: "f",
-        arguments: r#"{"a":[0,0,0,0,0,0]}"#,
-        turns: 1000,
-        ending: Ending::Ends(r#"{"arrays":{"a":[0,1,0,1,0,1]},"result":null}"#),
-        output: "",
-    },
-    // p has the value of p + 1, and 0 comes in.
-    Row {
-        name: "shift the other way",
-        gang: Gang::W4,
-        text: r#"export void f() { print("%\n", shift(programIndex + 1, 1)); }"#,
-        entry: "f",
-        arguments: "{}",
-        turns: 1000,
-        ending: Ending::Ends(r#"{"arrays":{},"result":null}"#),
-        output: "[2,3,4,0]\n",
-    },
-    // 7 - p is in the second for all: 13, 12, 11, 10.
-    Row {
-        name: "a shuffle of two values",
-        gang: Gang::W4,
-        text: r#"export void f() { int x = programIndex; int y = programIndex + 10; print("%\n", shuffle(x, y, 7 - programIndex)); }"#,
-        entry: "f",
-        arguments: "{}",
-        turns: 1000,
-        ending: Ending::Ends(r#"{"arrays":{},"result":null}"#),
-        output: "[13,12,11,10]\n",
-    },
-    // -128 in instance 2, 0 elsewhere.
-    Row {
-        name: "the least int8 of a gang",
-        gang: Gang::W4,
-        text: "export uniform int8 f() { int8 x = 0; if (programIndex == 2) x = -128; return reduce_min(x); }",
-        entry: "f",
-        arguments: "{}",
-        turns: 1000,
-        ending: Ending::Ends(r#"{"arrays":{},"result":-128}"#),
-        output: "",
-    },
-    // Each call of 0 and 1 calls again; the 256th traps.
-    Row {
-        name: "the entry calls itself without end",
-        gang: Gang::W4,
-        text: "export void f(uniform int n) { foreach (i = 0 ... n) ; if (programIndex < 2) ⟦f(0)⟧; }",
-        entry: "f",
-        arguments: r#"{"n":3}"#,
-        turns: 1000,
-        ending: Ending::Traps("depth", 0, r#"{"arrays":{},"result":null}"#),
-        output: "",
-    },
-    // All read 7 and store it.
-    Row {
-        name: "one element for all",
-        gang: Gang::W4,
-        text: "export void f(uniform int a[]) { int x = a[0]; a[programIndex] = x; }",
-        entry: "f",
-        arguments: r#"{"a":[7,1,2,3]}"#,
-        turns: 1000,
-        ending: Ending::Ends(r#"{"arrays":{"a":[7,7,7,7]},"result":null}"#),
-        output: "",
-    },
-    // 100 + 100 - 256.
-    Row {
-        name: "sixteen int8 wrap",
-        gang: Gang::W16,
-        text: "export void f(uniform int8 a[]) { a[programIndex] += 100; }",
-        entry: "f",
-        arguments: r#"{"a":[100,100,100,100,100,100,100,100,100,100,100,100,100,100,100,100]}"#,
-        turns: 1000,
-        ending: Ending::Ends(
-            r#"{"arrays":{"a":[-56,-56,-56,-56,-56,-56,-56,-56,-56,-56,-56,-56,-56,-56,-56,-56]},"result":null}"#,
-        ),
-        output: "",
-    },
-    // p is below k for k of p + 1 to 20.
-    Row {
-        name: "twenty cif",
-        gang: Gang::W4,
-        text: "export void f(uniform int a[]) { cif (programIndex < 1) a[programIndex]++; cif (programIndex < 2) a[programIndex]++; cif (programIndex < 3) a[programIndex]++; cif (programIndex < 4) a[programIndex]++; cif (programIndex < 5) a[programIndex]++; cif (programIndex < 6) a[programIndex]++; cif (programIndex < 7) a[programIndex]++; cif (programIndex < 8) a[programIndex]++; cif (programIndex < 9) a[programIndex]++; cif (programIndex < 10) a[programIndex]++; cif (programIndex < 11) a[programIndex]++; cif (programIndex < 12) a[programIndex]++; cif (programIndex < 13) a[programIndex]++; cif (programIndex < 14) a[programIndex]++; cif (programIndex < 15) a[programIndex]++; cif (programIndex < 16) a[programIndex]++; cif (programIndex < 17) a[programIndex]++; cif (programIndex < 18) a[programIndex]++; cif (programIndex < 19) a[programIndex]++; cif (programIndex < 20) a[programIndex]++; }",
-        entry: "f",
-        arguments: r#"{"a":[0,0,0,0]}"#,
-        turns: 1000,
-        ending: Ending::Ends(r#"{"arrays":{"a":[20,19,18,17]},"result":null}"#),
-        output: "",
-    },
-];
+/// How many records there are.
+pub(crate) const COUNT: usize = 52;
+
+/// The records.
+pub(crate) const ROWS: &str = r##"=== a foreach over an array
+Each element gains 1.
+4 inc 0 - {"a":[1,2,3,4,5],"n":5}
+ends {"arrays":{"a":[2,3,4,5,6]},"result":null}
+
+export void inc(uniform int a[], uniform int n) { foreach (i = 0 ... n) a[i] = a[i] + 1; }
+=== a foreach over nothing
+No round.
+4 inc 0 - {"a":[],"n":0}
+ends {"arrays":{"a":[]},"result":null}
+
+export void inc(uniform int a[], uniform int n) { foreach (i = 0 ... n) a[i] = a[i] + 1; }
+=== a foreach past the end
+The second run has 4 in instance 0 and 5 in instance 1; the first run is stored.
+4 inc 0 - {"a":[1,2,3,4,5],"n":6}
+traps index 1 {"arrays":{"a":[2,3,4,5,5]},"result":null}
+
+export void inc(uniform int a[], uniform int n) { foreach (i = 0 ... n) a[i] = ⟦a[i]⟧ + 1; }
+=== a uniform counter in a varying while
+2 and 3 leave in turn 1, 1 in turn 2, 0 in turn 3: two counts.
+4 f 3 - {}
+ends {"arrays":{},"result":2}
+
+export uniform int f() { int x = programIndex; uniform int t = 0; while (true) { if (x >= 2) break; x++; t++; } return t; }
+=== a uniform counter in a varying while, cut
+The third turn is needed for 0 to leave.
+4 f 2 - {}
+cut
+
+export uniform int f() { int x = programIndex; uniform int t = 0; while (true) { if (x >= 2) break; x++; t++; } return t; }
+=== a varying continue in a for
+p adds 0 + 1 + 2 + 3 without p.
+4 f 1000 - {"a":[0,0,0,0]}
+ends {"arrays":{"a":[6,5,4,3]},"result":null}
+
+export void f(uniform int a[]) { int s = 0; for (int i = 0; i < 4; i++) { if (i == programIndex) continue; s += i; } a[programIndex] = s; }
+=== a varying return in a while
+x grows by p + 1 from 0 until it is above 3.
+4 f 1000 - {"a":[0,0,0,0]}
+ends {"arrays":{"a":[4,4,6,4]},"result":null}
+
+int g(int x) { while (true) { if (x > 3) return x; x += programIndex + 1; } } export void f(uniform int a[]) { a[programIndex] = g(0); }
+=== a division behind a select
+The divisor is asked of 1 and 3 alone.
+4 f 1000 - {"a":[0,3,0,5],"b":[0,0,0,0]}
+ends {"arrays":{"a":[0,3,0,5],"b":[7,4,7,2]},"result":null}
+
+export void f(uniform int a[], uniform int b[]) { b[programIndex] = a[programIndex] != 0 ? 12 / a[programIndex] : 7; }
+=== a uniform assigned in the first branch alone
+All are below 4.
+4 f 1000 - {"k":4}
+ends {"arrays":{},"result":1}
+
+export uniform int f(uniform int k) { uniform int u = 0; if (programIndex < k) u = 1; else u = 2; return u; }
+=== a uniform assigned in both branches
+The second branch comes last.
+4 f 1000 - {"k":2}
+ends {"arrays":{},"result":2}
+
+export uniform int f(uniform int k) { uniform int u = 0; if (programIndex < k) u = 1; else u = 2; return u; }
+=== a widening sum
+4 times 2147483647.
+4 f 1000 - {}
+ends {"arrays":{},"result":8589934588}
+
+export uniform int64 f() { int x = 2147483647; return reduce_add(x); }
+=== rotate
+Instance p has the value of p - 1.
+8 f 1000 - {}
+ends {"arrays":{},"result":null}
+[8,1,2,3,4,5,6,7]␤
+export void f() { print("%\n", rotate(programIndex + 1, -1)); }
+=== shift
+Instance p has the value of p - 1, and 0 comes in.
+8 f 1000 - {}
+ends {"arrays":{},"result":null}
+[0,1,2,3,4,5,6,7]␤
+export void f() { print("%\n", shift(programIndex + 1, -1)); }
+=== a packed store
+0 and 2 store 5 and 7 from b[1] on.
+4 f 1000 - {"x":[5,-1,7,0],"b":[0,0,0]}
+ends {"arrays":{"b":[0,5,7],"x":[5,-1,7,0]},"result":2}
+
+export uniform int f(uniform int x[], uniform int b[]) { uniform int c = 0; int v = x[programIndex]; if (v > 0) c = packed_store_active(&b[1], v); return c; }
+=== a packed store past the end
+The second element would be b[2] of two, for instance 2.
+4 f 1000 - {"x":[5,-1,7,0],"b":[0,0]}
+traps index 2 {"arrays":{"b":[0,0],"x":[5,-1,7,0]},"result":null}
+
+export uniform int f(uniform int x[], uniform int b[]) { uniform int c = 0; int v = x[programIndex]; if (v > 0) c = ⟦packed_store_active(&b[1], v)⟧; return c; }
+=== a scatter to one element
+The highest instance wins.
+4 f 1000 - {"a":[9]}
+ends {"arrays":{"a":[3]},"result":null}
+
+export void f(uniform int a[]) { int j = 0; a[j] = programIndex; }
+=== a foreach at the top of int32
+Two numbers are below the end.
+4 f 1000 - {}
+ends {"arrays":{},"result":null}
+[2147483645,2147483646,_,_]␤
+export void f() { foreach (i = 2147483645 ... 2147483647) print("%\n", i); }
+=== a foreach_active under a mask
+1 is off.
+4 f 1000 - {}
+ends {"arrays":{},"result":null}
+0,2,3,
+export void f() { if (programIndex != 1) foreach_active (i) print("%,", i); }
+=== as many calls as may be
+256 calls, each adds 1.
+4 f 1000 - {"n":256}
+ends {"arrays":{},"result":256}
+
+export uniform int f(uniform int n) { if (n <= 1) return 1; return 1 + f(n - 1); }
+=== one call too many
+The call from the 256th traps.
+4 f 1000 - {"n":257}
+traps depth 0 {"arrays":{},"result":null}
+
+export uniform int f(uniform int n) { if (n <= 1) return 1; return 1 + ⟦f(n - 1)⟧; }
+=== an endless print without turns
+Cut before the first body.
+4 f 0 - {}
+cut
+
+export void f() { while (true) print("x"); }
+=== an endless print of nine turns
+One x a turn.
+4 f 9 - {}
+cut
+xxxxxxxxx
+export void f() { while (true) print("x"); }
+=== the least int8 as an argument
+It is bound, and nothing is done.
+4 f 1000 - {"x":-128}
+ends {"arrays":{},"result":null}
+
+export void f(uniform int8 x) { }
+=== the least value by minus one
+The least value, remainder 0; 33 is 1 modulo 32.
+4 f 1000 - {"a":[9,9,9]}
+ends {"arrays":{"a":[-2147483648,0,2]},"result":null}
+
+export void f(uniform int a[]) { uniform int x = -2147483647 - 1; uniform int y = 0 - 1; a[0] = x / y; a[1] = x % y; a[2] = 1 << 33; }
+=== double plus one
+10 + 1, 12 + 1, 14 + 1, 16 + 1.
+4 f 1000 - {"a":[5,6,7,8]}
+ends {"arrays":{"a":[11,13,15,17]},"result":null}
+
+export void f(uniform int a[]) { a[programIndex] = a[programIndex] * 2 + 1; }
+=== double plus one of three elements
+The right side reads before the store: 3 is outside.
+4 f 1000 - {"a":[5,6,7]}
+traps index 3 {"arrays":{"a":[5,6,7]},"result":null}
+
+export void f(uniform int a[]) { a[programIndex] = ⟦a[programIndex]⟧ * 2 + 1; }
+=== double plus one by eight
+2 n + 1.
+8 f 1000 - {"a":[1,2,3,4,5,6,7,8]}
+ends {"arrays":{"a":[3,5,7,9,11,13,15,17]},"result":null}
+
+export void f(uniform int a[]) { a[programIndex] = a[programIndex] * 2 + 1; }
+=== a foreach of two ranges
+10 y + x at 5 y + x.
+4 f 1000 - {"a":[9,9,9,9,9,9,9,9,9,9]}
+ends {"arrays":{"a":[0,1,2,3,4,10,11,12,13,14]},"result":null}
+
+export void f(uniform int a[]) { foreach (y = 0 ... 2, x = 0 ... 5) a[y * 5 + x] = 10 * y + x; }
+=== a scan and a rotation under a mask
+Sums of 1, 3, 4 below each; the value of 1 is 0.
+4 f 1000 - {}
+ends {"arrays":{},"result":null}
+[0,_,1,4]␤[0,_,4,1]␤
+export void f() { int x = programIndex + 1; if (programIndex != 1) { print("%\n", exclusive_scan_add(x)); print("%\n", rotate(x, 1)); } }
+=== an array of each instance
+0 and 2 write t[0] again.
+4 f 1000 - {"a":[0,0,0,0]}
+ends {"arrays":{"a":[9,1,9,3]},"result":null}
+
+export void f(uniform int a[]) { int t[2]; t[0] = programIndex; t[programIndex & 1] = 9; a[programIndex] = t[0]; }
+=== unmasked under an if
+The sum of 1 over all four.
+4 f 1000 - {}
+ends {"arrays":{},"result":4}
+
+export uniform int f() { uniform int c; if (programIndex == 0) unmasked { c = reduce_add(1); } return c; }
+=== a print, then an assert
+2 is the first that is not below 2.
+4 f 1000 - {}
+traps assert 2 {"arrays":{},"result":null}
+a
+export void f() { print("a"); ⟦assert(programIndex < 2)⟧; }
+=== an int8 wraps
+127 + 1.
+4 f 1000 - {}
+ends {"arrays":{},"result":-128}
+
+export uniform int8 f() { uniform int8 x = 127; x += 1; return x; }
+=== a condition with &&
+1 is negative, 3 is not asked for an element.
+4 f 1000 - {"a":[5,-1,2],"b":[9,9,9,9]}
+ends {"arrays":{"a":[5,-1,2],"b":[1,0,1,0]},"result":null}
+
+export void f(uniform int a[], uniform int b[]) { b[programIndex] = programIndex < 3 && a[programIndex] > 0 ? 1 : 0; }
+=== a uniform under an if that nobody takes
+No instance is above 9.
+4 f 1000 - {}
+ends {"arrays":{},"result":0}
+
+export uniform int f() { uniform int u = 0; if (programIndex > 9) u = 5; return u; }
+=== forty-one complements
+An odd number of complements of 1.
+16 f 1000 - {"a":[1,1,1,1,1,1,1,1,1,1,1,1,1,1,1,1]}
+ends {"arrays":{"a":[-2,-2,-2,-2,-2,-2,-2,-2,-2,-2,-2,-2,-2,-2,-2,-2]},"result":null}
+
+export void f(uniform int a[]) { a[programIndex] = ~~~~~~~~~~~~~~~~~~~~~~~~~~~~~~~~~~~~~~~~~a[programIndex]; }
+=== a varying continue in a do
+p adds 1 + 2 + 3 without p.
+4 f 1000 - {"a":[0,0,0,0]}
+ends {"arrays":{"a":[6,5,4,3]},"result":null}
+
+export void f(uniform int a[]) { int s = 0; int i = 0; do { i++; if (i == programIndex) continue; s += i; } while (i < 3); a[programIndex] = s; }
+=== two breaks in an inner loop
+j stops at i or at p + 1: the least of both, for i of 0, 1, 2.
+4 f 1000 - {"a":[0,0,0,0]}
+ends {"arrays":{"a":[2,3,3,3]},"result":null}
+
+export void f(uniform int a[]) { int s = 0; for (int i = 0; i < 3; i++) { int j = 0; while (true) { if (j > programIndex) break; if (j == i) break; j++; } s += j; } a[programIndex] = s; }
+=== an endless loop of a thousand turns
+Nothing is printed.
+4 f 1000 - {}
+cut
+
+export void f() { while (true) ; }
+=== a uniform result of two returns
+2 and 3 return last.
+4 f 1000 - {"k":1}
+ends {"arrays":{},"result":2}
+
+uniform int g(int x) { if (x < 2) return 1; return 2; } export uniform int f(uniform int k) { return g(programIndex * k); }
+=== a uniform result of one return
+All are below 2.
+4 f 1000 - {"k":0}
+ends {"arrays":{},"result":1}
+
+uniform int g(int x) { if (x < 2) return 1; return 2; } export uniform int f(uniform int k) { return g(programIndex * k); }
+=== turns of a foreach_active
+The digits 1, 3, 4.
+4 f 1000 - {}
+ends {"arrays":{},"result":134}
+
+export uniform int f() { uniform int t = 0; if (programIndex != 1) foreach_active (i) { t = t * 10 + (int)i + 1; } return t; }
+=== unmasked stores
+All store.
+4 f 1000 - {"a":[0,0,0,0]}
+ends {"arrays":{"a":[7,7,7,7]},"result":null}
+
+export void f(uniform int a[]) { if (programIndex == 0) unmasked { a[programIndex] = 7; } }
+=== a foreach under an if
+All take part.
+4 f 1000 - {"a":[9,9,9,9]}
+ends {"arrays":{"a":[0,1,2,3]},"result":null}
+
+export void f(uniform int a[]) { if (programIndex == 0) foreach (i = 0 ... 4) a[i] = i; }
+=== continue in a foreach
+The even go on at once.
+4 f 1000 - {"a":[0,0,0,0,0,0]}
+ends {"arrays":{"a":[0,1,0,1,0,1]},"result":null}
+
+export void f(uniform int a[]) { foreach (i = 0 ... 6) { if (i % 2 == 0) continue; a[i] = 1; } }
+=== shift the other way
+p has the value of p + 1, and 0 comes in.
+4 f 1000 - {}
+ends {"arrays":{},"result":null}
+[2,3,4,0]␤
+export void f() { print("%\n", shift(programIndex + 1, 1)); }
+=== a shuffle of two values
+7 - p is in the second for all: 13, 12, 11, 10.
+4 f 1000 - {}
+ends {"arrays":{},"result":null}
+[13,12,11,10]␤
+export void f() { int x = programIndex; int y = programIndex + 10; print("%\n", shuffle(x, y, 7 - programIndex)); }
+=== the least int8 of a gang
+-128 in instance 2, 0 elsewhere.
+4 f 1000 - {}
+ends {"arrays":{},"result":-128}
+
+export uniform int8 f() { int8 x = 0; if (programIndex == 2) x = -128; return reduce_min(x); }
+=== the entry calls itself without end
+Each call of 0 and 1 calls again; the 256th traps.
+4 f 1000 - {"n":3}
+traps depth 0 {"arrays":{},"result":null}
+
+export void f(uniform int n) { foreach (i = 0 ... n) ; if (programIndex < 2) ⟦f(0)⟧; }
+=== one element for all
+All read 7 and store it.
+4 f 1000 - {"a":[7,1,2,3]}
+ends {"arrays":{"a":[7,7,7,7]},"result":null}
+
+export void f(uniform int a[]) { int x = a[0]; a[programIndex] = x; }
+=== sixteen int8 wrap
+100 + 100 - 256.
+16 f 1000 - {"a":[100,100,100,100,100,100,100,100,100,100,100,100,100,100,100,100]}
+ends {"arrays":{"a":[-56,-56,-56,-56,-56,-56,-56,-56,-56,-56,-56,-56,-56,-56,-56,-56]},"result":null}
+
+export void f(uniform int8 a[]) { a[programIndex] += 100; }
+=== twenty cif
+p is below k for k of p + 1 to 20.
+4 f 1000 - {"a":[0,0,0,0]}
+ends {"arrays":{"a":[20,19,18,17]},"result":null}
+
+export void f(uniform int a[]) { cif (programIndex < 1) a[programIndex]++; cif (programIndex < 2) a[programIndex]++; cif (programIndex < 3) a[programIndex]++; cif (programIndex < 4) a[programIndex]++; cif (programIndex < 5) a[programIndex]++; cif (programIndex < 6) a[programIndex]++; cif (programIndex < 7) a[programIndex]++; cif (programIndex < 8) a[programIndex]++; cif (programIndex < 9) a[programIndex]++; cif (programIndex < 10) a[programIndex]++; cif (programIndex < 11) a[programIndex]++; cif (programIndex < 12) a[programIndex]++; cif (programIndex < 13) a[programIndex]++; cif (programIndex < 14) a[programIndex]++; cif (programIndex < 15) a[programIndex]++; cif (programIndex < 16) a[programIndex]++; cif (programIndex < 17) a[programIndex]++; cif (programIndex < 18) a[programIndex]++; cif (programIndex < 19) a[programIndex]++; cif (programIndex < 20) a[programIndex]++; }
+"##;
