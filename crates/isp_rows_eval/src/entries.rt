@@ -12,133 +12,50 @@ use std::test::Fail;
 const TEXT: &str =
     "export void nothing() { } export void array(uniform int a[]) { } export void narrow(uniform int8 a[]) { } export void value(uniform int a) { } export void both(uniform int a[], uniform int n) { } export void turned(uniform int n, uniform int a[]) { } export uniform int result(uniform int a[]) { return 1; } void hidden() { }";
 
-/// An entry that is asked for, a function whose arguments it is given, these, and whether the entry takes them.
+/// Each line: whether the entry is there for them, the entry that is asked for, a function whose arguments it is given, and these.
+const LINES: &str = r##"found nothing nothing {}
+found array array {"a":[1,2]}
+found result result {"a":[]}
+refused dec nothing {}
+refused hidden nothing {}
+refused Nothing nothing {}
+refused noth nothing {}
+refused nothings nothing {}
+refused nothing array {"a":[1,2]}
+refused array nothing {}
+refused array narrow {"a":[1,2]}
+refused narrow array {"a":[1,2]}
+refused array value {"a":1}
+refused value array {"a":[1,2]}
+refused array both {"a":[1],"n":2}
+refused both array {"a":[1,2]}
+refused both turned {"n":2,"a":[1]}
+refused turned both {"a":[1],"n":2}
+found turned turned {"n":2,"a":[1]}
+"##;
+
+/// One line of the table.
 #[derive(Clone, Copy)]
-struct Asked {
-    entry: &'static str,
-    given: &'static str,
-    json: &'static str,
+struct Asked<'a> {
     takes: bool,
+    entry: &'a str,
+    given: &'a str,
+    json: &'a str,
 }
 
-static ASKED: [Asked; 19] = [
-    Asked {
-        entry: "nothing",
-        given: "nothing",
-        json: r#"{}"#,
-        takes: true,
-    },
-    Asked {
-        entry: "array",
-        given: "array",
-        json: r#"{"a":[1,2]}"#,
-        takes: true,
-    },
-    Asked {
-        entry: "result",
-        given: "result",
-        json: r#"{"a":[]}"#,
-        takes: true,
-    },
-    Asked {
-        entry: "dec",
-        given: "nothing",
-        json: r#"{}"#,
-        takes: false,
-    },
-    Asked {
-        entry: "hidden",
-        given: "nothing",
-        json: r#"{}"#,
-        takes: false,
-    },
-    Asked {
-        entry: "Nothing",
-        given: "nothing",
-        json: r#"{}"#,
-        takes: false,
-    },
-    Asked {
-        entry: "noth",
-        given: "nothing",
-        json: r#"{}"#,
-        takes: false,
-    },
-    Asked {
-        entry: "nothings",
-        given: "nothing",
-        json: r#"{}"#,
-        takes: false,
-    },
-    Asked {
-        entry: "nothing",
-        given: "array",
-        json: r#"{"a":[1,2]}"#,
-        takes: false,
-    },
-    Asked {
-        entry: "array",
-        given: "nothing",
-        json: r#"{}"#,
-        takes: false,
-    },
-    Asked {
-        entry: "array",
-        given: "narrow",
-        json: r#"{"a":[1,2]}"#,
-        takes: false,
-    },
-    Asked {
-        entry: "narrow",
-        given: "array",
-        json: r#"{"a":[1,2]}"#,
-        takes: false,
-    },
-    Asked {
-        entry: "array",
-        given: "value",
-        json: r#"{"a":1}"#,
-        takes: false,
-    },
-    Asked {
-        entry: "value",
-        given: "array",
-        json: r#"{"a":[1,2]}"#,
-        takes: false,
-    },
-    Asked {
-        entry: "array",
-        given: "both",
-        json: r#"{"a":[1],"n":2}"#,
-        takes: false,
-    },
-    Asked {
-        entry: "both",
-        given: "array",
-        json: r#"{"a":[1,2]}"#,
-        takes: false,
-    },
-    Asked {
-        entry: "both",
-        given: "turned",
-        json: r#"{"n":2,"a":[1]}"#,
-        takes: false,
-    },
-    Asked {
-        entry: "turned",
-        given: "both",
-        json: r#"{"a":[1],"n":2}"#,
-        takes: false,
-    },
-    Asked {
-        entry: "turned",
-        given: "turned",
-        json: r#"{"n":2,"a":[1]}"#,
-        takes: true,
-    },
-];
+fn read(line: &str) -> Option<Asked<'_>> {
+    let (word, rest) = line.split_once(' ')?;
+    let (entry, rest) = rest.split_once(' ')?;
+    let (given, json) = rest.split_once(' ')?;
+    Some(Asked {
+        takes: word == "found",
+        entry,
+        given,
+        json,
+    })
+}
 
-fn bound(alloc: Global, checked: &Checked, asked: &Asked) -> Result<Bound, Fail> {
+fn bound(alloc: Global, checked: &Checked, asked: Asked<'_>) -> Result<Bound, Fail> {
     match checked.signature(asked.given) {
         Some(signature) => Ok(bind(alloc, signature, asked.json)?),
         None => Err(Fail::from("no such function")),
@@ -159,21 +76,23 @@ fn is_found(alloc: Global, checked: &Checked, entry: &str, bound: &Bound) -> (bo
     )
 }
 
-fn compare(rt: &impl Abort, alloc: Global, checked: &Checked, asked: &Asked) -> Result<(), Fail> {
+fn same(rt: &impl Abort, asked: Asked<'_>, found: bool) {
+    assert!(rt;
+        found == asked.takes,
+        "{} with the arguments of {}",
+        asked.entry,
+        asked.given
+    );
+}
+
+fn compare(rt: &impl Abort, alloc: Global, checked: &Checked, line: &str) -> Result<(), Fail> {
+    let Some(asked) = read(line) else {
+        return Err(Fail::from("a line that says too little"));
+    };
     let bound = bound(alloc, checked, asked)?;
     let (run, counted) = is_found(alloc, checked, asked.entry, &bound);
-    assert!(rt;
-        run == asked.takes,
-        "{} with the arguments of {}",
-        asked.entry,
-        asked.given
-    );
-    assert!(rt;
-        counted == asked.takes,
-        "{} with the arguments of {}",
-        asked.entry,
-        asked.given
-    );
+    same(rt, asked, run);
+    same(rt, asked, counted);
     Ok(())
 }
 
@@ -181,9 +100,12 @@ fn compare(rt: &impl Abort, alloc: Global, checked: &Checked, asked: &Asked) -> 
 fn entries_that_are_not_there(rt: HostRuntime) -> Result<(), Fail> {
     let alloc = rt.alloc();
     let checked = front(alloc, TEXT, Gang::W4)?;
-    for asked in &ASKED {
-        compare(&rt, alloc, &checked, asked)?;
+    let mut left: usize = 19;
+    for line in LINES.lines() {
+        compare(&rt, alloc, &checked, line)?;
+        left = left.saturating_sub(1);
     }
+    assert_eq!(rt; left, 0);
     Ok(())
 }
 
