@@ -4,7 +4,6 @@ use Rattle.std.specs.Prelude.{slice_get, slice_index}
 use Rattle.std.proofs.Math.Path.{fun_ext}
 use Rattle.std.proofs.Math.Nat.{mod-lt}
 use Rattle.std.proofs.lemmas.Nat.{pow_pos}
-use Rattle.isp_base.proofs.RankLaws.{same_is}
 use Rattle.isp_base.specs.Binding.{is_for, has_signature}
 use Rattle.isp_base.specs.Ranks.{rank, same_elem}
 use Rattle.isp_base.specs.Rows.{Row}
@@ -39,6 +38,33 @@ and_right false b e = absurd (let x : ⊥ = cc in x)
 not_left : (b : Bool) → not b ≡ true → b ≡ false
 not_left true e = sym e
 not_left false e = refl
+
+-- an element type by its rank
+of_rank : ℕ → Elem
+of_rank zero = Truth
+of_rank (suc zero) = I8
+of_rank (suc (suc zero)) = U8
+of_rank (suc (suc (suc zero))) = I16
+of_rank (suc (suc (suc (suc zero)))) = U16
+of_rank (suc (suc (suc (suc (suc zero))))) = I32
+of_rank (suc (suc (suc (suc (suc (suc zero)))))) = U32
+of_rank (suc (suc (suc (suc (suc (suc (suc zero))))))) = I64
+of_rank (suc (suc (suc (suc (suc (suc (suc (suc n)))))))) = U64
+
+rank_back : (t : Elem) → of_rank (rank t) ≡ t
+unfolding of_rank
+rank_back Truth = refl
+rank_back I8 = refl
+rank_back U8 = refl
+rank_back I16 = refl
+rank_back U16 = refl
+rank_back I32 = refl
+rank_back U32 = refl
+rank_back I64 = refl
+rank_back U64 = refl
+
+same_is : (a b : Elem) → same_elem a b ≡ true → a ≡ b
+same_is a b e = sym (rank_back a) ∙ ap of_rank (eqb-true (rank a) (rank b) e) ∙ rank_back b
 
 -- what a parameter holds
 many_of : (p : Parameter) → p.is_array ≡ true → holds_of p ≡ Many p.elem

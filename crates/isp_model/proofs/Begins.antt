@@ -4,7 +4,6 @@ use Rattle.std.proofs.Math.Path.{fun_ext}
 use Rattle.std.proofs.lemmas.Bool.{false≢true}
 use Rattle.std.proofs.lemmas.List.{length-take}
 use Rattle.std.proofs.lemmas.Bool.Decides.{Decides-eqb}
-use Rattle.isp_base.proofs.RankLaws.{same_is}
 use Rattle.isp_base.specs.declared.types.Elem.{Elem}
 use Rattle.isp_base.specs.declared.types.Elem.TheVariants.{Bool as Truth, I8, U8, I16, U16, I32, U32, I64, U64}
 use Rattle.isp_base.specs.declared.types.Gang.{Gang}
@@ -50,6 +49,32 @@ map_length (p ∷ ps) = ap suc (map_length ps)
 -- the parameters are among the variables
 pub params_fewer : (ps : List Parameter) (vars : List Holds) → map holds_of ps ≡ take (length ps) vars → length ps ≤ length vars
 params_fewer ps vars e = let l = length-take (length ps) vars in let m = map_length ps in let n = ap length e in omega arith
+
+unrank : ℕ → Elem
+unrank zero = Truth
+unrank (suc zero) = I8
+unrank (suc (suc zero)) = U8
+unrank (suc (suc (suc zero))) = I16
+unrank (suc (suc (suc (suc zero)))) = U16
+unrank (suc (suc (suc (suc (suc zero))))) = I32
+unrank (suc (suc (suc (suc (suc (suc zero)))))) = U32
+unrank (suc (suc (suc (suc (suc (suc (suc zero))))))) = I64
+unrank (suc (suc (suc (suc (suc (suc (suc (suc n)))))))) = U64
+
+unrank_rank : (t : Elem) → unrank (rank t) ≡ t
+unfolding unrank
+unrank_rank Truth = refl
+unrank_rank I8 = refl
+unrank_rank U8 = refl
+unrank_rank I16 = refl
+unrank_rank U16 = refl
+unrank_rank I32 = refl
+unrank_rank U32 = refl
+unrank_rank I64 = refl
+unrank_rank U64 = refl
+
+same_is : (a b : Elem) → same_elem a b ≡ true → a ≡ b
+same_is a b e = sym (unrank_rank a) ∙ ap unrank ((Decides-eqb (rank a) (rank b)).0 e) ∙ unrank_rank b
 
 zero_lt : (t : Elem) → 0 < 2 ^ width t
 zero_lt t = pow_pos (width t)
