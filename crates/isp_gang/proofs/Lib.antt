@@ -3,3 +3,5 @@ pub mod Masks
 pub mod Rows
 pub mod Divisions
 pub mod Vectors
+pub mod Wholes
+pub mod Sums

@@ -5,6 +5,7 @@ use Rattle.std.proofs.Math.Path.{fun_ext}
 use Rattle.std.proofs.lemmas.List.{length-replicate}
 use Rattle.isp_base.specs.Sets.{flag_of}
 use Rattle.isp_base.specs.Maps.{Lanes, Map, each1, each2, holds, lane_of, map1, map2, on, over, or_old, where_true}
+use Rattle.isp_meaning.specs.Library.{chosen_one}
 use Rattle.isp_meaning.specs.Payloads.{first_of_two, layer}
 use Rattle.isp_gang.specs.Seen.{map_of}
 use Rattle.isp_gang.proofs.Made.{Made, begins, made, past, repeated}
@@ -38,3 +39,6 @@ map2_made f xs ys zs long m = made None _ zs 16 m (λ p h. ap (λ x. each2 f x (
 
 pub where_made : (f : ℕ → Bool) (xs : List (Option ℕ)) (set : List Bool) → length xs ≡ 16 → Made false (where_true f (map_of xs)) set 16 → flag_of set ≡ where_true f (map_of xs)
 where_made f xs set long m = made false _ set 16 m (λ p h. ap (holds f) (none_past xs long p h))
+
+pub chosen_made : (cs xs ys zs : List (Option ℕ)) → length cs ≡ 16 → Made None (λ p. chosen_one (map_of cs p) (map_of xs p) (map_of ys p)) zs 16 → map_of zs ≡ (λ p. chosen_one (map_of cs p) (map_of xs p) (map_of ys p))
+chosen_made cs xs ys zs long m = made None _ zs 16 m (λ p h. ap (λ c. chosen_one c (map_of xs p) (map_of ys p)) (none_past cs long p h))
