@@ -1,3 +1,4 @@
+pub mod Converts
 pub mod LaneViews
 pub mod MaskViews
 pub mod Finds
