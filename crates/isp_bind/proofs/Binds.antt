@@ -24,11 +24,11 @@ use Rattle.isp_base.proofs.Wraps.{wrap_to-lt}
 
 -- ---- what was done where the whole is Ok
 
-then_ok : {A B : Type 0} (f : A → Result B BindFault) (r : Result A BindFault) (y : B) → then_of f r ≡ Ok y → (x : A) × (r ≡ Ok x) × (f x ≡ Ok y)
+pub then_ok : {A B : Type 0} (f : A → Result B BindFault) (r : Result A BindFault) (y : B) → then_of f r ≡ Ok y → (x : A) × (r ≡ Ok x) × (f x ≡ Ok y)
 then_ok f (Ok a) y e = (a, refl, e)
 then_ok f (Err z) y e = absurd (let x : ⊥ = cc in x)
 
-unless_ok : {A : Type 0} (b : Bool) (z : BindFault) (r : Result A BindFault) (y : A) → (if b then Err z else r) ≡ Ok y → r ≡ Ok y
+pub unless_ok : {A : Type 0} (b : Bool) (z : BindFault) (r : Result A BindFault) (y : A) → (if b then Err z else r) ≡ Ok y → r ≡ Ok y
 unless_ok true z r y e = absurd (let x : ⊥ = cc in x)
 unless_ok false z r y e = e
 
@@ -36,10 +36,10 @@ when_ok : {A : Type 0} (b : Bool) (z : BindFault) (r : Result A BindFault) (y : 
 when_ok true z r y e = (refl, e)
 when_ok false z r y e = absurd (let x : ⊥ = cc in x)
 
-ok_same : {A : Type 0} (x y : A) → ◌≡◌ {A = Result A BindFault} (Ok x) (Ok y) → x ≡ y
+pub ok_same : {A : Type 0} (x y : A) → ◌≡◌ {A = Result A BindFault} (Ok x) (Ok y) → x ≡ y
 ok_same x y e = cc
 
-not_ok : {A : Type 0} (z : BindFault) (y : A) → ◌≡◌ {A = Result A BindFault} (Err z) (Ok y) → ⊥
+pub not_ok : {A : Type 0} (z : BindFault) (y : A) → ◌≡◌ {A = Result A BindFault} (Err z) (Ok y) → ⊥
 not_ok z y e = let x : ⊥ = cc in x
 
 -- ---- one element

@@ -1,5 +1,6 @@
 pub mod Members
 pub mod Binds
+pub mod Shorts
 pub mod Texts
 pub mod Promised
 pub mod Ends

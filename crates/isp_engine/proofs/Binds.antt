@@ -1,21 +1,27 @@
--- What a text binds are arguments of the signature.
-use Rattle.std.proofs.Common.{◌≡◌, ℕ, List, [], ◌∷◌, Ok}
+-- What a text binds are arguments of the signature, and no longer than arguments may be.
+use Rattle.std.proofs.Common.{◌≡◌, ℕ, zero, suc, ◌≤◌, ◌^◌, List, [], ◌∷◌, length, Ok, arith, true, lit≤}
 use Rattle.std.specs.List.{AllByRecursion}
+use Rattle.isp_base.specs.Arguments.{rows, row_bits}
+use Rattle.isp_base.specs.Binding.{has_signature}
 use Rattle.isp_base.specs.declared.signature.Parameter.{Parameter}
 use Rattle.isp_base.specs.declared.signature.Argument.{Argument}
 use Rattle.isp_base.specs.declared.signature.Argument.TheVariants.{Value as AValue, Array as AnArray}
-use Rattle.isp_bind.specs.Binding.{bound_of}
-use Rattle.isp_bind.specs.Bounds.{HasValues}
+use Rattle.isp_bind.specs.Binding.{bound_of, longest}
 use Rattle.isp_bind.proofs.Binds as bind
-use Rattle.isp_base.specs.Arguments.{rows}
-use Rattle.isp_engine.specs.Agreement.{AllFit, AreBound}
+use Rattle.isp_bind.proofs.Shorts.{IsShort, text_short}
+use Rattle.isp_masks.specs.Agreement.{AreShort}
 
-arrays_fit : (xs : List Argument) → AllByRecursion HasValues xs → AllFit (rows xs)
-arrays_fit [] h = tt
-arrays_fit (AValue v ∷ xs) h = arrays_fit xs h.1
-arrays_fit (AnArray a ∷ xs) h = (h.0, arrays_fit xs h.1)
+few : longest ≤ 2 ^ 63
+few = lit≤ tt
 
-pub text_bound : (ps : List Parameter) (text : List ℕ) (xs : List Argument) → bound_of ps text ≡ Ok xs → AreBound ps xs
-text_bound ps text xs e =
-    let b = bind.text_bound ps text xs e in
-    record { kinds = b.kinds; fit = arrays_fit xs b.values }
+are_short : (xs : List Argument) → AllByRecursion IsShort xs → AreShort xs
+are_short [] h b = omega arith
+are_short (AValue v ∷ xs) h b = are_short xs h.1 b
+are_short (AnArray a ∷ xs) h zero = omega (arith, h.0, few)
+are_short (AnArray a ∷ xs) h (suc b) = are_short xs h.1 b
+
+pub short : (ps : List Parameter) (text : List ℕ) (xs : List Argument) → bound_of ps text ≡ Ok xs → AreShort xs
+short ps text xs e = are_short xs (text_short ps text xs e)
+
+pub fits : (ps : List Parameter) (text : List ℕ) (xs : List Argument) → bound_of ps text ≡ Ok xs → has_signature ps xs ≡ true
+fits ps text xs e = (bind.text_bound ps text xs e).kinds

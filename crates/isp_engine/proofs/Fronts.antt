@@ -1,8 +1,9 @@
 -- A source text is the source of one program, and is compiled or not.
-use Rattle.std.proofs.Common.{◌≡◌, ℕ, ◌≤◌, List, [], length, Ok, Err, Some, refl, sym, subst, inl, inr, Result, ◌∙◌}
+use Rattle.std.proofs.Common.{◌≡◌, ℕ, ◌≤◌, List, [], length, Ok, Err, Some, None, refl, sym, ap, subst, inl, inr, Result, ◌∙◌}
 use Rattle.std.specs.Prelude.{IfOk, IfErr, MatchResult}
 use Rattle.std.specs.Result.{IsErrAnd}
 use Rattle.isp_base.specs.declared.types.Gang.{Gang}
+use Rattle.isp_base.specs.declared.types.Span.{Span}
 use Rattle.isp_lex.specs.Lexing.{Lexes, limit as longest_text}
 use Rattle.isp_lex.specs.Tokens.{TokenList}
 use Rattle.isp_lex.specs.declared.fault.Fault.{Fault}
@@ -23,10 +24,9 @@ use Rattle.isp_typed.specs.declared.function.Program as rust_program
 use Rattle.isp_types.specs.Functions.{IsProgram, Breach}
 use Rattle.isp_rates.specs.Breaches.{Least}
 use Rattle.isp_rates.specs.Program.{ProgramBreach}
-use Rattle.isp_thin.specs.Program.{Plain, IsProgram as IsThin, Breach as ThinBreach}
-use Rattle.isp_thin.specs.Promise.{Accepts as ThinAccepts, Refuses as ThinRefuses}
+use Rattle.isp_rates.specs.Covered.{program_left}
 use Rattle.isp_engine.specs.Front.{HasTree, IsChecked, IsSource, IsUnsound, IsFaulty}
-use Rattle.isp_engine.specs.Covered.{IsCovered, IsNotCompiled}
+use Rattle.isp_engine.specs.Covered.{IsCovered}
 
 -- ---- a refusal that is handed on
 
@@ -97,20 +97,14 @@ only gang text tree r a b program s same = at r a b
 
 -- ---- what is compiled
 
--- a tree that is no program is not that of a program all of which is compiled
-pub judge_only : (gang : Gang) (text : List ℕ) (tree : List Read) (e : SourceFault) → ((f : Fault) → e ≡ Refused f → IsUnsound gang tree f) → ((other : List Read) → HasTree text other → tree ≡ other) → (functions : List Plain) → IsCovered gang text functions → e ≡ Memory
-judge_only gang text tree Memory refused same functions c = refl
-judge_only gang text tree (Refused f) refused same functions c =
-    absurd (no_program gang tree f c.program (refused f refl) (subst (λ z. IsChecked gang z c.program) (sym (same c.source.tree c.source.has)) c.source.checked))
+-- a text that is refused is not that of a program all of which is compiled
+pub front_only : (gang : Gang) (text : List ℕ) (r : Result Checked SourceFault) → ((program : Program) → IsSource gang text program → MatchResult r (λ c. program_of c ≡ program) (λ e. e ≡ Memory)) → (program : Program) → IsCovered gang text program → IfErr r (λ e. e ≡ Memory)
+front_only gang text (Ok c) only program k = tt
+front_only gang text (Err e) only program k = only program k.source
 
--- nor is one of which the first path's checker does not take all
-pub thin_only : (gang : Gang) (text : List ℕ) (tree : List Read) (e : SourceFault) → ((f : Fault) → e ≡ Refused f → ThinRefuses (IsThin tree) (ThinBreach tree) f) → ((other : List Read) → HasTree text other → tree ≡ other) → (functions : List Plain) → IsCovered gang text functions → e ≡ Memory
-thin_only gang text tree Memory refused same functions c = refl
-thin_only gang text tree (Refused f) refused same functions c =
-    absurd ((refused f refl).nothing functions (subst (λ z. IsThin z functions) (sym (same c.source.tree c.source.has)) c.accepted.is))
-
-pub covered : (gang : Gang) (text : List ℕ) (tree : List Read) (p : Program) (functions : List Plain) → HasTree text tree → IsChecked gang tree p → ThinAccepts (IsThin tree) (ThinBreach tree) functions → IsCovered gang text functions
-covered gang text tree p functions h c a = record { program = p; source = record { tree = tree; has = h; checked = c }; accepted = a }
-
-pub left : (gang : Gang) (text : List ℕ) (tree : List Read) (p : Program) (f : Fault) → HasTree text tree → IsChecked gang tree p → ThinRefuses (IsThin tree) (ThinBreach tree) f → IsNotCompiled gang text f
-left gang text tree p f h c r = inr (record { program = p; source = record { tree = tree; has = h; checked = c }; refused = r })
+-- nor is one of which the first node without code stands somewhere
+pub left_only : (gang : Gang) (text : List ℕ) (p : Program) (at : Span) → program_left p ≡ Some at → ((program : Program) → IsSource gang text program → p ≡ program) → (program : Program) → IsCovered gang text program → ⊥
+left_only gang text p at first only program k =
+    let none : None ≡ Some at = sym k.whole ∙ ap program_left (sym (only program k.source)) ∙ first in
+    let no : ⊥ = cc in
+    no

@@ -9,16 +9,17 @@ use Rattle.std.specs.Prelude.{◌≡◌, ◌≢◌, ◌⊎◌, ℕ, ◌++◌, Li
 use Rattle.std.specs.Str.{bytes_eq}
 use Rattle.std.specs.declared.alloc.Global.{Global}
 use Rattle.isp_base.specs.declared.types.Gang.TheVariants.{W4}
+use Rattle.isp_code.specs.Listing.{Listing}
 use Rattle.isp_engine.specs.declared.failure.Failure.{Failure}
 use Rattle.isp_engine.specs.declared.failure.Failure.TheVariants.{Source, Words, Trapped, BudgetUsed, Run, CannotRead, CannotWrite, Memory}
 use Rattle.isp_engine.specs.declared.fault.RunFault.TheVariants.{Memory as NoRunMemory}
-use Rattle.isp_engine.specs.declared.image.Image.{Image}
 use Rattle.isp_engine.specs.declared.report.Ending.TheVariants.{Ended, Trapped as Stopped, Running}
 use Rattle.isp_engine.specs.declared.report.Report.{Report}
 use Rattle.isp_engine.specs.Failures.{status_of}
 use Rattle.isp_engine.specs.Sinks.{TookAll, TookSome}
-use Rattle.isp_engine.specs.Compilations.{Compiles, IsAnswer}
+use Rattle.isp_engine.specs.Compilations.{IsAnswer}
 use Rattle.isp_engine.specs.Covered.{IsNotCompiled}
+use Rattle.isp_engine.specs.Images.{IsCompilation}
 
 -- ---- the words
 
@@ -48,9 +49,9 @@ pub record Reads (holds : List ℕ → Option (List ℕ) → Type 0) (q : Reques
 -- the source is compiled for four instances, and its entry executed with the arguments
 pub record Reports (holds : List ℕ → Option (List ℕ) → Type 0) (q : Request) (r : Report) : Type 0 where
   pub files : Reads holds q
-  pub image : Image
-  pub compiles : Compiles files.source W4 image
-  pub answers : IsAnswer files.source W4 image compiles q.entry files.arguments budget (Ok r)
+  pub code : Listing
+  pub compiles : IsCompilation W4 files.source code
+  pub answers : IsAnswer W4 files.source code compiles q.entry files.arguments budget (Ok r)
 
 -- why a file gives no text
 abbrev pub Unread : (List ℕ → Option (List ℕ) → Type 0) → List ℕ → Failure → Type 0
@@ -69,7 +70,7 @@ abbrev pub Fails : (List ℕ → Option (List ℕ) → Type 0) → Request → F
 Fails holds q (CannotRead name) = Unread holds q.source (CannotRead name) ⊎ (((source : List ℕ) × holds q.source (Some source)) × Unread holds q.arguments (CannotRead name))
 Fails holds q (Source f) = (files : Reads holds q) × IsNotCompiled W4 files.source f
 Fails holds q (Run f) =
-    (f ≢ NoRunMemory) × (files : Reads holds q) × (image : Image) × (compiles : Compiles files.source W4 image) × IsAnswer files.source W4 image compiles q.entry files.arguments budget (Err f)
+    (f ≢ NoRunMemory) × (files : Reads holds q) × (code : Listing) × (compiles : IsCompilation W4 files.source code) × IsAnswer W4 files.source code compiles q.entry files.arguments budget (Err f)
 Fails holds q Memory = Unit {0}
 Fails holds q Words = ⊥
 Fails holds q (Trapped t) = ⊥

@@ -1,16 +1,11 @@
 pub mod Faults
 pub mod Sinks
 pub mod Files
-pub mod Machine
-pub mod Agreement
-pub mod Held
-pub mod Straight
-pub mod Lowering
 pub mod Front
 pub mod Covered
 pub mod Images
-pub mod Entries
 pub mod Reports
+pub mod Stops
 pub mod Meaning
 pub mod Failures
 pub mod Commands

@@ -1,127 +1,71 @@
 //! Compiled programs.
-ghost use Rattle.std.specs.Prelude.{◌≡◌, List, map, option_map, IfOk, IfErr};
-ghost use Rattle.isp_base.specs.Types.{gang_width};
+ghost use Rattle.std.specs.Prelude.{◌≡◌, List, IfOk, IfErr};
 ghost use Rattle.isp_lex.specs.declared.fault.Fault.{Fault};
-ghost use Rattle.isp_thin.specs.Fine.{AreFineFunctions};
-ghost use Rattle.isp_thin.specs.Program.{Plain};
-ghost use Rattle.isp_thin.specs.Typed.{functions_of};
+ghost use Rattle.isp_typed.specs.Typed.{Program};
 ghost use Rattle.isp_engine.specs.Covered.{IsCovered, IsNotCompiled};
-ghost use Rattle.isp_engine.specs.Images.{entry_named, IsCompilation};
-ghost use Rattle.isp_engine.specs.Entries.{entry_of, AreLowered};
+ghost use Rattle.isp_engine.specs.Images.{IsCompilation};
 
-use crate::lower::lower;
-use crate::source::{judge, read};
-use crate::straight::Code;
-use isp_base::{Gang, Name, Parameter, Signature};
-use isp_lex::SourceFault;
-use isp_thin::{TypedFunction, check_tree};
-use std::alloc::{AllocError, Global};
+use crate::source::front;
+use isp_base::Gang;
+use isp_code::Code;
+use isp_lex::{Fault, Rule, SourceFault};
+use isp_masks::lower;
+use isp_verify::{Verified, VerifyFault, verify};
+use std::alloc::Global;
 use std::marker::Model;
 
-/// An exported function: what its caller sees of it, and its code.
-#[derive(Drop)]
-pub struct Exported {
-    pub name: Name,
-    pub signature: Signature,
-    pub code: Code,
-}
-
-/// A compiled program, which `execute` runs.
+/// A compiled program, which `execute` runs. Contracts see its code.
 #[derive(Drop)]
 pub struct Image {
-    gang: Gang,
-    functions: Vec<Exported>,
+    verified: Verified,
 }
 
 impl Model for Image {
-    ghost use Rattle.std.specs.Prelude.{map};
-    ghost use Rattle.isp_engine.specs.Images.{Compiled};
+    ghost use Rattle.isp_code.specs.Listing.{Listing};
 
-    ghost Value = { Compiled };
+    ghost Value = { Listing };
 
-    ghost use Rattle.isp_engine.specs.Entries.{entry_of};
-
-    ghost view = { λ i. record { gang = i.gang; functions = map entry_of i.functions.items } };
-}
-
-// The first function of a name.
-fn named<'a>(functions: &'a [Exported], name: &str) -> Option<&'a Exported>
-    ensures { option_map (λ f. entry_of f.now) result ≡ entry_named name.now (map entry_of functions.now) }
-{
-    for f in functions {
-        if f.name.as_str() == name {
-            return Some(f);
-        }
-    }
-    None
+    ghost view = { λ i. i.verified };
 }
 
 impl Image {
-    /// The gang that the program was compiled for.
-    pub fn gang(&self) -> Gang
-        ensures { result ≡ self.now.gang }
+    /// The code, for the gang that the program was compiled for.
+    pub fn code(&self) -> &Code
+        ensures { result.now ≡ self.now }
     {
-        self.gang
+        self.verified.code()
     }
 
-    /// The first function of a name.
-    pub(crate) fn function(&self, name: &str) -> Option<&Exported>
-        ensures { option_map (λ f. entry_of f.now) result ≡ entry_named name.now self.now.functions }
+    /// The code, which is without a fault.
+    pub(crate) fn verified(&self) -> &Verified
+        ensures { result.now ≡ self.now }
     {
-        named(&self.functions, name)
+        &self.verified
     }
-}
-
-// A second copy of a signature.
-fn copied(alloc: Global, signature: &Signature) -> Result<Signature, AllocError>
-    ensures params { IfOk result (λ s. s.params.items ≡ signature.now.params.items) }
-    ensures result { IfOk result (λ s. s.result ≡ signature.now.result) }
-{
-    let mut params = Vec::new(alloc);
-    for param in &signature.params {
-        params.push(Parameter {
-            name: param.name.copied()?,
-            elem: param.elem,
-            is_array: param.is_array,
-        })?;
-    }
-    Ok(Signature {
-        params,
-        result: signature.result,
-    })
-}
-
-// The functions' code, for a gang of any size.
-fn lower_all(alloc: Global, functions: &[TypedFunction]) -> Result<Vec<Exported>, AllocError>
-    requires { AreFineFunctions (functions_of functions.now) }
-    ensures { IfOk result (λ v. AreLowered (functions_of functions.now) (map entry_of v.items)) }
-{
-    let mut all = Vec::new(alloc);
-    for function in functions {
-        all.push(Exported {
-            name: function.name.copied()?,
-            signature: copied(alloc, &function.signature)?,
-            code: lower(alloc, function)?,
-        })?;
-    }
-    Ok(all)
 }
 
 /// Compiles a source text for a gang.
 ///
-/// Of each function of the program that the text is the image has the code, which does what the
-/// function means for all arguments of its signature. Refusals are those of `front`; 90 NotYet of a program of which not
-/// all is compiled, at the first node in the text that is not.
+/// The image has the code of the program that the text is, which does what the program means for all arguments of the
+/// functions that it exports. Refusals are those of `front`; 90 NotYet of a program of which not all is compiled, at the
+/// first node in the text that is not. 0: memory was refused.
 pub fn compile(alloc: Global, text: &str, gang: Gang) -> Result<Image, SourceFault>
-    ensures compiled { IfOk result (λ image. IsCompilation gang text.now image.functions) }
-    ensures gang { IfOk result (λ image. image.gang ≡ gang) }
+    ensures compiled { IfOk result (λ image. IsCompilation gang text.now image) }
     // What has a program all of which is compiled is not refused, but for memory.
-    ensures only { (functions : List Plain) → IsCovered gang text.now functions → IfErr result (λ e. e ≡ SourceFault.Memory) }
+    ensures only { (program : Program) → IsCovered gang text.now program → IfErr result (λ e. e ≡ SourceFault.Memory) }
     ensures refused { IfErr result (λ e. (f : Fault) → e ≡ SourceFault.Refused f → IsNotCompiled gang text.now f) }
 {
-    let tree = read(alloc, text)?;
-    judge(alloc, &tree, gang)?;
-    let checked = check_tree(alloc, tree, gang)?;
-    let functions = lower_all(alloc, &checked.program().functions)?;
-    Ok(Image { gang, functions })
+    let checked = front(alloc, text, gang)?;
+    if let Some(span) = checked.covered() {
+        return Err(SourceFault::Refused(Fault {
+            rule: Rule::NotYet,
+            span,
+        }));
+    }
+    let code = lower(alloc, &checked)?;
+    match verify(alloc, code) {
+        Ok(verified) => Ok(Image { verified }),
+        Err((_code, VerifyFault::Memory)) => Err(SourceFault::Memory),
+        Err((_code, VerifyFault::Refused(_fault))) => unreachable!(),
+    }
 }

@@ -1,22 +1,15 @@
 //! The whole way: from a source text and arguments to a report, and from words to an exit status.
 #![tactic(auto)]
 
-mod arguments;
-mod code;
 mod commands;
-mod emitter;
 mod failure;
 mod fault;
 mod files;
 mod image;
-mod lane;
-mod lower;
-mod machine;
 mod report;
 mod run;
 mod sink;
 mod source;
-mod straight;
 
 pub use commands::command;
 pub use failure::Failure;

@@ -1,57 +1,82 @@
 //! Runs of compiled programs.
-ghost use Rattle.std.specs.Prelude.{◌≡◌, ℕ, ◌≤◌, List, IfOk};
+ghost use Rattle.std.specs.Prelude.{◌≡◌, ℕ, List, IfOk};
+ghost use Rattle.isp_base.specs.Rows.{Row};
 ghost use Rattle.isp_base.specs.Types.{gang_width};
-ghost use Rattle.isp_base.specs.Outcomes.{Outcome};
-ghost use Rattle.isp_thin.specs.Program.{function_named};
-ghost use Rattle.isp_engine.specs.Machine.{after};
-ghost use Rattle.isp_engine.specs.Held.{Came};
-ghost use Rattle.isp_engine.specs.Images.{entry_named, IsCompilation};
-ghost use Rattle.isp_engine.specs.Entries.{entry_of};
-ghost use Rattle.isp_engine.specs.Reports.{Reports, Executes};
+ghost use Rattle.isp_base.specs.declared.types.Gang.{Gang};
+ghost use Rattle.isp_code.specs.Entries.{IsEntry, IsExport};
+ghost use Rattle.isp_code.specs.Listing.{Routine};
+ghost use Rattle.isp_code.specs.Machine.{outcome, outcome_after};
+ghost use Rattle.isp_machine.specs.Kept.{given, state};
+ghost use Rattle.isp_store.specs.Held.{shapes_of};
+ghost use Rattle.isp_engine.specs.Images.{IsCompilation};
 ghost use Rattle.isp_engine.specs.Meaning.{Means};
+ghost use Rattle.isp_engine.specs.Reports.{Executes, Reports};
+ghost use Rattle.isp_engine.specs.Stops.{StopsAs};
 
 use crate::fault::RunFault;
-use crate::image::{Exported, Image};
-use crate::machine::Machine;
+use crate::image::Image;
 use crate::report::{Ending, Report};
 use isp_base::{Bound, Gang, Signature};
 use isp_bind::{answer, bind};
+use isp_machine::{Machine, StartFault, Stop};
+use isp_verify::Verified;
 use std::alloc::{AllocError, Global};
 
-// The report of a machine that came to an ending.
+// A second copy of bytes.
+fn copied(alloc: Global, bytes: &[u8]) -> Result<Vec<u8>, AllocError>
+    ensures { IfOk result (λ v. v.items ≡ bytes.now) }
+{
+    let mut copy = Vec::new(alloc);
+    copy.extend_from_slice(bytes)?;
+    Ok(copy)
+}
+
+// The report of a machine that stopped. Memory is wanted where the machine wanted it.
 fn report<const N: usize>(
     alloc: Global,
     signature: &Signature,
-    machine: Machine<N>,
-    ending: Ending,
+    machine: &Machine<'_, N>,
+    stop: Stop,
 ) -> Result<Report, AllocError>
-    ensures { IfOk result (λ r. (o : Outcome) → Came o machine.entry ending → Reports signature.now.params.items o r) }
+    ensures { IfOk result (λ r. (rs : List Row) → shapes_of rs ≡ given machine.now → StopsAs stop (state machine.now) → Reports signature.now.params.items (outcome rs (state machine.now)) r) }
 {
-    let answer = match ending {
-        Ending::Ended => Some(answer(alloc, signature, machine.arrays(), None)?),
-        Ending::Trapped(_) | Ending::Running => None,
+    let (ending, answer) = match stop {
+        Stop::Ended => {
+            let text = answer(alloc, signature, machine.arrays(), machine.result())?;
+            (Ending::Ended, Some(text))
+        }
+        Stop::Trapped(trap) => (Ending::Trapped(trap), None),
+        Stop::Running => (Ending::Running, None),
+        Stop::Memory => return Err(AllocError),
     };
     Ok(Report {
         ending,
-        output: machine.into_output(),
+        output: copied(alloc, machine.output())?,
         answer,
     })
 }
 
-// Runs a function from bound arguments.
+// Runs the function that is exported under a name from arguments that it takes.
 fn run<const N: usize>(
     alloc: Global,
-    function: &Exported,
+    code: &Verified,
+    entry: &str,
     bound: Bound,
     budget: u64,
+    signature: &Signature,
 ) -> Result<Report, AllocError>
-    requires some { 1 ≤ N }
-    requires few { N ≤ 64 }
-    ensures { IfOk result (λ r. Reports (entry_of function.now).params (after N (entry_of function.now).code bound.arguments.items budget) r) }
+    requires gang { N ≡ gang_width code.now.gang }
+    requires entry { (f : ℕ) × (g : Routine) × IsEntry code.now entry.now bound.arguments.items f g }
+    ensures { IfOk result (λ r. (f : ℕ) (g : Routine) → IsExport code.now entry.now f g → Reports signature.now.params.items (outcome_after code.now f g bound.arguments.items budget) r) }
 {
-    let mut machine = Machine::<N>::start(alloc, function.code.registers(), bound)?;
-    let ending = machine.run(&function.code, budget);
-    let report = report(alloc, &function.signature, machine, ending)?;
+    let _code = code.code();
+    let mut machine = match Machine::<N>::start(alloc, code, entry, bound) {
+        Ok(machine) => machine,
+        Err((_bound, StartFault::Memory)) => return Err(AllocError),
+        Err((_bound, StartFault::NoEntry)) => unreachable!(),
+    };
+    let stop = machine.run(budget);
+    let report = report(alloc, signature, &machine, stop)?;
     Ok(report)
 }
 
@@ -67,19 +92,20 @@ pub fn execute(
     json: &str,
     budget: u64,
 ) -> Result<Report, RunFault>
-    ensures machine { Executes (gang_width image.now.gang) (entry_named entry.now image.now.functions) json.now budget result }
+    ensures machine { Executes image.now entry.now json.now budget result }
     // For each text of which the image is a compilation, this is what the program of that text means.
-    ensures means { (text : List ℕ) (program : IsCompilation image.now.gang text image.now.functions)
-        → Means (gang_width image.now.gang) (function_named entry.now program.functions) json.now budget result }
+    ensures means { (gang : Gang) (text : List ℕ) (compiled : IsCompilation gang text image.now)
+        → Means compiled.program entry.now json.now budget result }
 {
-    let Some(function) = image.function(entry) else {
+    let code = image.verified();
+    let Some(signature) = code.signature(entry) else {
         return Err(RunFault::NoEntry);
     };
-    let bound = bind(alloc, &function.signature, json)?;
-    let report = match image.gang() {
-        Gang::W4 => run::<4>(alloc, function, bound, budget)?,
-        Gang::W8 => run::<8>(alloc, function, bound, budget)?,
-        Gang::W16 => run::<16>(alloc, function, bound, budget)?,
+    let bound = bind(alloc, signature, json)?;
+    let report = match code.gang() {
+        Gang::W4 => run::<4>(alloc, code, entry, bound, budget, signature)?,
+        Gang::W8 => run::<8>(alloc, code, entry, bound, budget, signature)?,
+        Gang::W16 => run::<16>(alloc, code, entry, bound, budget, signature)?,
     };
     Ok(report)
 }

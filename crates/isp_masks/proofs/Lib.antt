@@ -5,7 +5,7 @@ mod Leaves
 mod Sequences
 mod Stmts
 mod Parts
-mod Endings
+pub mod Endings
 mod Begins
 mod Firsts
 mod Arrays

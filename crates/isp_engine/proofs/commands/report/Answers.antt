@@ -1,7 +1,6 @@
 use Rattle.std.proofs.lemmas.Result.{err_from_is_err_and}
 use Rattle.isp_base.specs.declared.types.Gang.TheVariants.{W4}
 use Rattle.isp_engine.specs.Commands.{budget}
-use Rattle.isp_engine.specs.Compilations.{Compiles}
 use Rattle.isp_engine.proofs.Requests.{answered, source_fails, run_fails}
 use Rattle.isp_engine.proofs.commands.report.Goals as goal
 
@@ -13,15 +12,13 @@ returns-in_err-image-clause-err g c =
 pub returns-in_err-report-clause-err : goal.returns-in_err-report-clause-err
 returns-in_err-report-clause-err g c =
     let p = err_from_is_err_and c.from_residual-in_err-report.result c.from_residual-in_err-report.ensures.1 in
-    let k : Compiles c.as_str.result.now W4 c.in_ok-image.image = record { made_for = c.in_ok-image.ensures.gang; is = c.in_ok-image.ensures.compiled } in
-    rw (p.1, p.2) (run_fails _ _ (record { source = c.as_str.result.now; arguments = c.as_str-2.result.now; has_source = rw c.as_str.ensures.value c.in_ok-text.ensures.ok; has_arguments = rw c.as_str-2.ensures.value c.in_ok-json.ensures.ok }) _ k _ (answered _ W4 c.in_ok-image.image k _ _ budget _ c.in_err-report.ensures.machine c.in_err-report.ensures.means))
+    rw (p.1, p.2) (run_fails _ _ (record { source = c.as_str.result.now; arguments = c.as_str-2.result.now; has_source = rw c.as_str.ensures.value c.in_ok-text.ensures.ok; has_arguments = rw c.as_str-2.ensures.value c.in_ok-json.ensures.ok }) _ c.in_ok-image.ensures.compiled _ (answered W4 c.as_str.result.now _ c.in_ok-image.ensures.compiled _ _ budget _ c.in_err-report.ensures.machine c.in_err-report.ensures.means))
 
 pub returns-clause-ok : goal.returns-clause-ok
 returns-clause-ok g c =
-    let k : Compiles c.as_str.result.now W4 c.in_ok-image.image = record { made_for = c.in_ok-image.ensures.gang; is = c.in_ok-image.ensures.compiled } in
     record {
       files = record { source = c.as_str.result.now; arguments = c.as_str-2.result.now; has_source = rw c.as_str.ensures.value c.in_ok-text.ensures.ok; has_arguments = rw c.as_str-2.ensures.value c.in_ok-json.ensures.ok };
-      image = c.in_ok-image.image;
-      compiles = k;
-      answers = answered _ W4 c.in_ok-image.image k _ _ budget _ c.in_ok-report.ensures.machine c.in_ok-report.ensures.means;
+      code = c.in_ok-image.image;
+      compiles = c.in_ok-image.ensures.compiled;
+      answers = answered W4 c.as_str.result.now c.in_ok-image.image c.in_ok-image.ensures.compiled _ _ budget _ c.in_ok-report.ensures.machine c.in_ok-report.ensures.means;
     }

@@ -1,0 +1,57 @@
+-- Which run a machine made.
+use Rattle.std.proofs.Common.{◌≡◌, ℕ, List, Some, Result, Ok, Err, refl, sym, ap, ◌∙◌, subst}
+use Rattle.std.specs.Prelude.{slice_get}
+use Rattle.isp_base.specs.Arguments.{rows}
+use Rattle.isp_base.specs.Outcomes.{Outcome}
+use Rattle.isp_base.specs.Rows.{Row}
+use Rattle.isp_base.specs.declared.signature.Argument.{Argument}
+use Rattle.isp_base.specs.declared.signature.Parameter.{Parameter}
+use Rattle.isp_code.specs.Conf.{Runs as Going}
+use Rattle.isp_code.specs.Entries.{IsExport, parameters_of}
+use Rattle.isp_code.specs.Listing.{Listing, Routine}
+use Rattle.isp_code.specs.Machine.{after, first_conf, outcome, outcome_after}
+use Rattle.isp_machine.specs.Kept.{Kept, given, state}
+use Rattle.isp_machine.specs.Runs.{Made, RunGives}
+use Rattle.isp_machine.specs.Starts.{Starts}
+use Rattle.isp_machine.specs.declared.stop.Stop.{Stop}
+use Rattle.isp_machine.specs.declared.stop.Stop.TheVariants.{Running, Trapped, Ended, Memory}
+use Rattle.isp_store.specs.Held.{shapes_of}
+use Rattle.isp_verify.specs.Progress.{NeverStuck}
+use Rattle.isp_engine.specs.declared.report.Report.{Report}
+use Rattle.isp_engine.specs.Reports.{Reports}
+use Rattle.isp_engine.specs.Stops.{StopsAs}
+
+-- a run that memory did not stop is one of so many instructions, and stands as it stopped
+made : (b : ℕ) (old now : Kept) (stop : Stop) → RunGives b old now stop → (s : StopsAs stop (state now)) → Made b old now
+made b old now Running g s = g.0
+made b old now (Trapped t) g s = g.0
+made b old now Ended g s = g.0
+made b old now Memory g s = absurd s
+
+pub stops : (b : ℕ) (old now : Kept) (stop : Stop) → RunGives b old now stop → (stop ≡ Memory → ⊥) → StopsAs stop (state now)
+stops b old now Running g ne = g.1
+stops b old now (Trapped t) g ne = g.1
+stops b old now Ended g ne = g.1
+stops b old now Memory g ne = absurd (ne refl)
+
+-- the machine that began with an entry's first state is, after its run, where the entry is
+module _ (code : Listing) (entry : List ℕ) (xs : List Argument) (b : ℕ) (old now : Kept) (begins : Starts code entry xs old) (stop : Stop) (gives : RunGives b old now stop) (as : StopsAs stop (state now)) where
+  abbrev ran : Made b old now
+  ran = made b old now stop gives as
+
+  pub given_is : shapes_of (rows xs) ≡ given now
+  given_is = sym (ran.given_same ∙ begins.given_are)
+
+  one_routine : (f f1 : ℕ) (g g1 : Routine) → f ≡ f1 → slice_get code.routines f ≡ Some g → slice_get code.routines f1 ≡ Some g1 → g ≡ g1
+  one_routine f f1 g g1 same e e1 = some_same g g1 (sym e ∙ ap (slice_get code.routines) same ∙ e1)
+    where
+      some_same : (g g1 : Routine) → Some g ≡ Some g1 → g ≡ g1
+      some_same g g1 e = cc
+
+  pub outcome_is : NeverStuck code → (f : ℕ) (g : Routine) → IsExport code entry f g → outcome (rows xs) (state now) ≡ outcome_after code f g xs b
+  outcome_is fine f g x =
+      let same : begins.function ≡ f = fine.once entry begins.function f begins.routine g begins.entry.export x in
+      let routine : begins.routine ≡ g = one_routine begins.function f begins.routine g same begins.entry.export.found x.found in
+      ap (outcome (rows xs)) (ran.state_is ∙ ap (λ c. after c b (state old)) begins.code_is ∙ ap (after code b) begins.state_is)
+      ∙ ap (λ k. outcome_after code k begins.routine xs b) same
+      ∙ ap (λ h. outcome_after code f h xs b) routine
