@@ -109,9 +109,9 @@ module _ (fs : List TFunction) (vars : List Variable) where
     expr_tree (t_convert e x) f p = (p.0, expr_tree x f p.1)
     expr_tree (t_cast x t sp) f p = (record { elem = f.1; reaches = p.0 }, expr_tree x f.0 p.1)
     expr_tree (t_unary o x t sp) f p =
-        (record { elem = ap (λ u. u.elem) f.1; reaches = subst (λ u. Reaches (type_of x).rate u.rate) f.1 (reaches_itself (type_of x).rate) }, expr_tree x f.0 p)
+        (record { elem = ap (λ u. u.elem) f.1; reaches = subst (λ u. Reaches (type_of x).rate u.rate) f.1 (reaches_itself (type_of x).rate) }, expr_tree x f.0 p, f.2)
     expr_tree (t_binary o x y t sp) f p =
-        (first_operand x y t.elem t.rate f.2, second_operand x y t.elem t.rate f.2, expr_tree x f.0 p.0, expr_tree y f.1 p.1)
+        (first_operand x y t.elem t.rate f.2, second_operand x y t.elem t.rate f.2, expr_tree x f.0 p.0, expr_tree y f.1 p.1, whole_number t.elem f.3)
     expr_tree (t_compare c x y r sp) f p =
         (first_operand x y (type_of x).elem r f.2, second_operand x y (type_of x).elem r f.2, expr_tree x f.0 p.0, expr_tree y f.1 p.1)
     expr_tree (t_logic g x y r sp) f p =
@@ -129,7 +129,7 @@ module _ (fs : List TFunction) (vars : List Variable) where
     place_tree : (z : TPlace) → FinePlace fs vars z → IsPlainPlace z → PlaceTree z
     place_tree (t_variable v t sp) f p = tt
     place_tree (t_element b i t sp) f p =
-        (subst (λ u. Reaches b.ty.rate u.rate) (sym f.2) (reaches_first b.ty.rate (type_of i).rate), subst (λ u. Reaches (type_of i).rate u.rate) (sym f.2) (reaches_second b.ty.rate (type_of i).rate), expr_tree i f.1 p)
+        (subst (λ u. Reaches b.ty.rate u.rate) (sym f.2) (reaches_first b.ty.rate (type_of i).rate), subst (λ u. Reaches (type_of i).rate u.rate) (sym f.2) (reaches_second b.ty.rate (type_of i).rate), expr_tree i f.1 p, sym (ap (λ u. u.elem) f.2))
 
   target_tree : (z : TPlace) → FineTarget fs vars z → IsPlainPlace z → PlaceTree z
   target_tree (t_variable v t sp) f p = tt

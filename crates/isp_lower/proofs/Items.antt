@@ -62,7 +62,7 @@ module _ (w : Setting) (ready : IsSettled w) where
       let d = w.layout.spare Uniform t n in
       let e = w.layout.variable Varying v in
       let ok : Ok w c (pc + 1) n (1 + q) (Holds Uniform a d (One 0)) (tick s) = write_runs w ready c c 0 pc (pc + 1) n (1 + q) a (tick s) (constant d t 0) Uniform t None Divide no_place (One 0) (One 0) (comes_none w c) b.at refl has.0 b.stands (keeps_all w n c) (λ g l. refl) (omega (arith, b.used)) refl refl
-      (ap (λ u. Go (set_at Uniform c d (One (wrap u (number t 0))))) fit ∙ ap (λ z. Go (set_at Uniform c d (One z))) (zero_is t)) in
+      (ap (λ u. Go (set_at Uniform c d (One (wrap u (number t 0))))) fit.0 ∙ ap (λ z. Go (set_at Uniform c d (One z))) (zero_is t)) in
       splat_done w ready v (One 0) a (tick s) c ok.conf ok.steps (pc + 1) (pc + 2) k d n q ok.comes ok.at (omega arith) has.1.0 ok.stands (spares_kept w ready n c ok.conf ok.keeps) ok.masks (ok.masks k b.low ∙ b.mask) (omega (arith, ok.bound)) ok.holds
 
   -- ---- arrays

@@ -6,6 +6,7 @@ pub mod Fits
 pub mod Simple
 pub mod Items
 pub mod Trees
+pub mod Presence
 pub mod Tables
 pub mod Rows
 pub mod Laws

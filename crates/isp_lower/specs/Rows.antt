@@ -43,3 +43,9 @@ rows_at rows Varying = rows.vectors
 abbrev pub layout_of : Rows → Layout
 layout_of rows =
     record { variable = λ r v. number_in (rows_at rows r) (Variable v); result = λ r. number_in (rows_at rows r) Result; spare = λ r t j. number_in (rows_at rows r) (Spare t j); array = λ v. number_in rows.arrays (Variable v) }
+
+-- the number of the register that a layout has for a name
+abbrev pub numbered : Layout → Rate → Name → ℕ
+numbered l r (Variable v) = l.variable r v
+numbered l r Result = l.result r
+numbered l r (Spare t j) = l.spare r t j
