@@ -22,4 +22,9 @@ pub mod Updates
 pub mod Items
 pub mod Fitting
 pub mod Rows
+pub mod Numbers
+pub mod SoundLines
+pub mod SoundParts
+pub mod SoundExprs
+pub mod SoundSimples
 pub mod Counts

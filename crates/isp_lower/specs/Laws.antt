@@ -11,10 +11,12 @@ use Rattle.isp_typed.specs.declared.variable.Variable.{Variable}
 use Rattle.isp_base.specs.declared.types.Elem.{Elem}
 use Rattle.isp_base.specs.declared.types.Rate.{Rate}
 use Rattle.isp_code.specs.Registers.{table_of, types_in}
-use Rattle.isp_lower.specs.Layout.{IsApart, class_at}
+use Rattle.isp_code.specs.Listing.{Listing, Routine}
+use Rattle.isp_lower.specs.Layout.{Layout, IsApart, class_at}
 use Rattle.isp_lower.specs.Rows.{Name, Row, Rows, rows_at, number_in, elem_in, layout_of}
 use Rattle.isp_lower.specs.Trees.{ExprTree, SimpleTree, ItemTree, ItemsTree, IsPlain, IsPlainSimple, IsPlainItem}
 use Rattle.isp_lower.specs.Tables.{ExprTable, SimpleTable, ItemsTable}
+use Rattle.isp_lower.specs.Sound.{PartSound, IsRegister, ExprPresent, SimplePresent, ItemsPresent}
 use Rattle.isp_lower.specs.Items.{items_code, items_places, ItemsFit}
 use Rattle.isp_lower.specs.Simple.{simple_code, simple_places, SimpleFits}
 use Rattle.isp_lower.specs.Setting.{Setting, IsSettled, gang_of, AreAt, Holds}
@@ -63,3 +65,17 @@ RowsAreTyped =
 abbrev pub RowsStay : Type 0
 RowsStay =
     (rows more : List Row) (x : Name) (t : Elem) → elem_in rows x ≡ Some t → (number_in (rows ++ more) x ≡ number_in rows x) × (elem_in (rows ++ more) x ≡ Some t)
+
+-- The code of a tree has its operands, where the registers that it asks for are there; and so is the register in which
+-- the value of an expression is found, with the expression's type.
+pub record ExprSound : Type 0 where
+  pub part : (code : Listing) (h : Routine) (l : Layout) (x : TExpr) (n : ℕ) → ExprTree x → ExprPresent h l x n → PartSound code h (expr_places l x) (λ pc p k. expr_code l x pc p k n)
+  pub there : (h : Routine) (l : Layout) (x : TExpr) (n : ℕ) → ExprTree x → ExprPresent h l x n → IsRegister h (type_of x).rate (found l x n) (type_of x).elem
+
+abbrev pub SimpleSound : Type 0
+SimpleSound =
+    (code : Listing) (h : Routine) (l : Layout) (x : TSimple) (n : ℕ) → SimpleTree x → SimplePresent h l x n → PartSound code h (simple_places l x) (λ pc p k. simple_code l x pc p k n)
+
+abbrev pub ItemsSound : Type 0
+ItemsSound =
+    (code : Listing) (h : Routine) (l : Layout) (xs : List TItem) (n : ℕ) → ItemsTree xs → ItemsPresent h l n xs → PartSound code h (items_places l xs) (λ pc p k. items_code l xs pc p k n)

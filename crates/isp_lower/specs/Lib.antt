@@ -8,5 +8,6 @@ pub mod Items
 pub mod Trees
 pub mod Presence
 pub mod Tables
+pub mod Sound
 pub mod Rows
 pub mod Laws
