@@ -30,3 +30,5 @@ pub mod SoundParts
 pub mod SoundExprs
 pub mod SoundSimples
 pub mod Counts
+pub mod Presences
+pub mod Reserving

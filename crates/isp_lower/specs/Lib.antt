@@ -12,3 +12,4 @@ pub mod Tables
 pub mod Sound
 pub mod Rows
 pub mod Laws
+pub mod Reserved

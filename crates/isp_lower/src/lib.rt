@@ -9,6 +9,7 @@ mod expression;
 mod laws;
 mod leaves;
 mod registers;
+mod reserve;
 mod statements;
 mod truths;
 mod written;
@@ -23,4 +24,5 @@ pub use laws::{
 };
 pub use leaves::{after, copy, mask, scalar, the_others, vector, where_so};
 pub use registers::{RegisterName, RegisterRow, Registers};
+pub use reserve::Reserve;
 pub use statements::{declared, simple};

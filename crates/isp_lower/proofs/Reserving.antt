@@ -1,0 +1,58 @@
+-- Registers and masks that are there stay there.
+use Rattle.std.proofs.Common.{◌≡◌, ℕ, ◌+◌, ◌<◌, ◌≤◌, List, Some, arith, refl}
+use Rattle.isp_base.specs.declared.types.Elem.{Elem}
+use Rattle.isp_base.specs.declared.types.Rate.{Rate}
+use Rattle.isp_base.specs.declared.types.Rate.TheVariants.{Uniform, Varying}
+use Rattle.isp_typed.specs.Typed.{TExpr, TPlace, TSimple, TItem}
+use Rattle.isp_lower.specs.Emitted.{HasRow, Grows, rows_of}
+use Rattle.isp_lower.specs.Presence.{first_slot, second_slot, TestHas, SidesHave}
+use Rattle.isp_lower.specs.Reserved.{Adds, AnyArray, HasMask, HasLift, HasExpr, HasPlace, HasRead, HasChange, HasSimple, HasItem, HasItems}
+use Rattle.isp_lower.specs.Rows.{Name, rows_at}
+use Rattle.isp_lower.specs.declared.registers.Registers.{Registers}
+use Rattle.isp_lower.specs.declared.reserve.Reserve.{Reserve}
+use Rattle.isp_lower.proofs.Following.{grows_self, grows_then, stays_in}
+use Rattle.isp_lower.proofs.Presences.{test_more, sides_more, lift_more, read_more, expr_more, place_more, change_more, simple_more, item_more, items_more}
+
+pub adds_self : (a : Reserve) → Adds a a
+adds_self a = record { rows = grows_self a.registers; masks = omega arith }
+
+pub adds_then : (a b c : Reserve) → Adds a b → Adds b c → Adds a c
+adds_then a b c x y =
+    record { rows = grows_then a.registers b.registers c.registers x.rows y.rows; masks = omega (arith, x.masks, y.masks) }
+
+module _ (a b : Reserve) (is : Adds a b) where
+  pub row_stays : (r : Rate) (x : Name) (t : Elem) → HasRow a.registers r x t → HasRow b.registers r x t
+  row_stays Uniform x t h = (stays_in (rows_of a.registers).scalars (rows_of b.registers).scalars x t is.rows.scalars h).1
+  row_stays Varying x t h = (stays_in (rows_of a.registers).vectors (rows_of b.registers).vectors x t is.rows.vectors h).1
+
+  pub mask_stays : (k : ℕ) → HasMask a k → HasMask b k
+  mask_stays k h = omega (arith, h, is.masks)
+
+  pub test_stays : (r : Rate) (n : ℕ) → TestHas (HasMask a) r n → TestHas (HasMask b) r n
+  test_stays = test_more (HasMask a) (HasMask b) mask_stays
+
+  pub lift_stays : (given wanted : Rate) (t : Elem) (n : ℕ) → HasLift a given wanted t n → HasLift b given wanted t n
+  lift_stays = lift_more (HasRow a.registers) (HasRow b.registers) row_stays
+
+  pub read_stays : (z : TPlace) (n : ℕ) → HasRead a z n → HasRead b z n
+  read_stays = read_more (HasRow a.registers) (HasRow b.registers) row_stays
+
+  pub expr_stays : (x : TExpr) (n : ℕ) → HasExpr a x n → HasExpr b x n
+  expr_stays = expr_more (HasRow a.registers) (HasRow b.registers) row_stays AnyArray AnyArray AnyArray AnyArray (λ z h. h) (λ z h. h) (HasMask a) (HasMask b) mask_stays
+
+  pub place_stays : (z : TPlace) (n : ℕ) → HasPlace a z n → HasPlace b z n
+  place_stays = place_more (HasRow a.registers) (HasRow b.registers) row_stays AnyArray AnyArray AnyArray AnyArray (λ z h. h) (λ z h. h) (HasMask a) (HasMask b) mask_stays
+
+  pub change_stays : (t : Elem) (z : TPlace) (n i : ℕ) → HasChange a t z n i → HasChange b t z n i
+  change_stays = change_more (HasRow a.registers) (HasRow b.registers) row_stays AnyArray AnyArray AnyArray AnyArray (λ z h. h) (λ z h. h) (HasMask a) (HasMask b) mask_stays
+
+  pub simple_stays : (x : TSimple) (n : ℕ) → HasSimple a x n → HasSimple b x n
+  simple_stays = simple_more (HasRow a.registers) (HasRow b.registers) row_stays AnyArray AnyArray AnyArray AnyArray (λ z h. h) (λ z h. h) (HasMask a) (HasMask b) mask_stays
+
+  pub items_stay : (n : ℕ) (xs : List TItem) → HasItems a n xs → HasItems b n xs
+  items_stay = items_more (HasRow a.registers) (HasRow b.registers) row_stays AnyArray AnyArray AnyArray AnyArray (λ z h. h) (λ z h. h) (HasMask a) (HasMask b) mask_stays
+
+-- the second side's slot is the one behind the first's
+pub second_is : (r : Rate) (n : ℕ) → first_slot r (first_slot r n) ≡ second_slot r n
+second_is Uniform n = refl
+second_is Varying n = omega arith

@@ -1,0 +1,268 @@
+//! The registers that code asks for, before it is written.
+ghost use Rattle.std.specs.Prelude.{◌≡◌, ◌<◌, ◌+◌, IfOk, OnOk};
+ghost use Rattle.isp_base.specs.Ranks.{same_elem};
+ghost use Rattle.isp_base.specs.declared.types.Elem.TheVariants.{Bool as Truth};
+ghost use Rattle.isp_typed.specs.Typed.{place_type, type_of};
+ghost use Rattle.isp_typed.specs.Views.{expr_of, item_of, items_of, place_of, simple_of};
+ghost use Rattle.isp_lower.specs.Emitted.{HasRow};
+ghost use Rattle.isp_lower.specs.Presence.{SidesHave, TestHas, WorkHas, ZeroHas, beyond, first_slot, second_slot};
+ghost use Rattle.isp_lower.specs.Reserved.{Adds, HasChange, HasExpr, HasItem, HasItems, HasLift, HasMask, HasPair, HasPlace, HasRead, HasSimple};
+ghost use Rattle.isp_lower.specs.Rows.{Spare, Variable};
+
+use crate::leaves::after;
+use crate::registers::Registers;
+use isp_base::{Elem, Rate, Ty};
+use isp_typed::{TypedExpr, TypedItem, TypedPlace, TypedSimple};
+use std::alloc::AllocError;
+
+/// The registers of a function so far, and how many masks it has.
+#[derive(Drop)]
+pub struct Reserve {
+    pub registers: Registers,
+    pub masks: u32,
+}
+
+impl Reserve {
+    /// A register of a slot for values of a type.
+    pub fn spare(&mut self, rate: Rate, elem: Elem, slot: u32) -> Result<(), AllocError>
+        ensures adds { OnOk result (Adds self.old self.new) }
+        ensures has { OnOk result (HasRow self.new.registers rate (Spare elem slot) elem) }
+    {
+        self.registers.spare(rate, elem, slot)?;
+        Ok(())
+    }
+
+    /// The register of a variable's value. Memory is refused where the variable has none of its type.
+    pub fn variable(&mut self, number: usize, ty: Ty) -> Result<(), AllocError>
+        ensures adds { OnOk result (Adds self.old self.new) }
+        ensures has { OnOk result (HasRow self.new.registers ty.rate (Variable number) ty.elem) }
+    {
+        self.registers.variable(number, ty)?;
+        Ok(())
+    }
+
+    /// The mask register of a slot.
+    pub fn mask(&mut self, slot: u32) -> Result<(), AllocError>
+        ensures adds { OnOk result (Adds self.old self.new) }
+        ensures has { OnOk result (HasMask self.new slot) }
+    {
+        if self.masks <= slot {
+            self.masks = after(slot)?;
+        }
+        Ok(())
+    }
+
+    /// A register for a uniform value that a varying one is made of.
+    fn lift(&mut self, given: Rate, wanted: Rate, elem: Elem, slot: u32) -> Result<(), AllocError>
+        ensures adds { OnOk result (Adds self.old self.new) }
+        ensures has { OnOk result (HasLift self.new given wanted elem slot) }
+    {
+        match (given, wanted) {
+            (Rate::Uniform, Rate::Varying) => self.spare(Rate::Varying, elem, slot),
+            _ => Ok(()),
+        }
+    }
+
+    /// A mask for those that pass a varying test.
+    pub fn test(&mut self, rate: Rate, slot: u32) -> Result<(), AllocError>
+        ensures adds { OnOk result (Adds self.old self.new) }
+        ensures has { OnOk result (TestHas (HasMask self.new) rate slot) }
+    {
+        match rate {
+            Rate::Uniform => Ok(()),
+            Rate::Varying => self.mask(slot),
+        }
+    }
+
+    /// Masks for those that pass a varying test, and for the others.
+    fn sides(&mut self, rate: Rate, slot: u32) -> Result<(), AllocError>
+        ensures adds { OnOk result (Adds self.old self.new) }
+        ensures has { OnOk result (SidesHave (HasMask self.new) rate slot) }
+    {
+        match rate {
+            Rate::Uniform => Ok(()),
+            Rate::Varying => {
+                self.mask(slot)?;
+                let next = after(slot)?;
+                self.mask(next)?;
+                Ok(())
+            }
+        }
+    }
+
+    /// What the code of an expression asks for, in the slots from one on.
+    #[cycle(expr)]
+    pub fn expr(&mut self, x: &TypedExpr, slot: u32) -> Result<(), AllocError>
+        ensures adds { OnOk result (Adds self.old self.new) }
+        ensures has { OnOk result (HasExpr self.new (expr_of x.now) slot) }
+    {
+        match x {
+            TypedExpr::Constant { value, .. } => self.spare(Rate::Uniform, value.elem, slot),
+            TypedExpr::ProgramIndex { .. } => self.spare(Rate::Varying, Elem::I32, slot),
+            TypedExpr::Place(place) => self.read(place, slot),
+            TypedExpr::Convert { elem, operand } => self.converted(*elem, operand, slot),
+            TypedExpr::Cast { operand, ty, .. } => self.cast(*ty, operand, slot),
+            TypedExpr::Unary { operand, ty, .. } => self.unary(*ty, operand, slot),
+            TypedExpr::Binary {
+                left, right, ty, ..
+            } => self.pair(left, right, ty.rate, ty.elem, ty.elem, slot),
+            TypedExpr::Compare {
+                left, right, rate, ..
+            } => self.pair(left, right, *rate, left.ty().elem, Elem::Bool, slot),
+            TypedExpr::Logic {
+                left, right, rate, ..
+            } => {
+                self.pair(left, right, *rate, Elem::Bool, Elem::Bool, slot)?;
+                self.test(*rate, slot)?;
+                Ok(())
+            }
+            TypedExpr::Choose {
+                test,
+                then,
+                otherwise,
+                ty,
+                ..
+            } => self.choice(*ty, test, then, otherwise, slot),
+            TypedExpr::Call { .. }
+            | TypedExpr::Library { .. }
+            | TypedExpr::PackedStore { .. }
+            | TypedExpr::PackedLoad { .. } => Ok(()),
+        }
+    }
+
+    #[cycle(expr)]
+    fn converted(&mut self, elem: Elem, x: &TypedExpr, slot: u32) -> Result<(), AllocError>
+        ensures adds { OnOk result (Adds self.old self.new) }
+        ensures has { OnOk result (HasRow self.new.registers (type_of (expr_of x.now)).rate (Spare elem slot) elem × HasExpr self.new (expr_of x.now) slot) }
+    {
+        self.spare(x.ty().rate, elem, slot)?;
+        self.expr(x, slot)?;
+        Ok(())
+    }
+
+    #[cycle(expr)]
+    fn cast(&mut self, ty: Ty, x: &TypedExpr, slot: u32) -> Result<(), AllocError>
+        ensures adds { OnOk result (Adds self.old self.new) }
+        ensures has { OnOk result (HasLift self.new (type_of (expr_of x.now)).rate ty.rate ty.elem slot × HasExpr self.new (expr_of x.now) slot) }
+    {
+        self.lift(x.ty().rate, ty.rate, ty.elem, slot)?;
+        self.expr(x, slot)?;
+        Ok(())
+    }
+
+    #[cycle(expr)]
+    fn unary(&mut self, ty: Ty, x: &TypedExpr, slot: u32) -> Result<(), AllocError>
+        ensures adds { OnOk result (Adds self.old self.new) }
+        ensures has { OnOk result (HasLift self.new (type_of (expr_of x.now)).rate ty.rate ty.elem slot × HasRow self.new.registers ty.rate (Spare ty.elem slot) ty.elem × HasExpr self.new (expr_of x.now) slot) }
+    {
+        self.lift(x.ty().rate, ty.rate, ty.elem, slot)?;
+        self.spare(ty.rate, ty.elem, slot)?;
+        self.expr(x, slot)?;
+        Ok(())
+    }
+
+    /// Two operands that are taken at a rate and in a type, and what is made of them.
+    #[cycle(expr)]
+    fn pair(
+        &mut self,
+        left: &TypedExpr,
+        right: &TypedExpr,
+        rate: Rate,
+        taken: Elem,
+        made: Elem,
+        slot: u32,
+    ) -> Result<(), AllocError>
+        ensures adds { OnOk result (Adds self.old self.new) }
+        ensures has { OnOk result (HasPair self.new (expr_of left.now) (expr_of right.now) rate taken made slot) }
+    {
+        let next = after(slot)?;
+        self.lift(left.ty().rate, rate, taken, slot)?;
+        self.lift(right.ty().rate, rate, taken, next)?;
+        self.spare(rate, made, slot)?;
+        self.expr(left, slot)?;
+        self.expr(right, next)?;
+        Ok(())
+    }
+
+    /// A choice: its sides work in slots behind those of a varying test.
+    #[cycle(expr)]
+    fn choice(
+        &mut self,
+        ty: Ty,
+        test: &TypedExpr,
+        then: &TypedExpr,
+        otherwise: &TypedExpr,
+        slot: u32,
+    ) -> Result<(), AllocError>
+        ensures adds { OnOk result (Adds self.old self.new) }
+        ensures has { OnOk result (HasRow self.new.registers ty.rate (Spare ty.elem slot) ty.elem
+            × HasLift self.new (type_of (expr_of then.now)).rate ty.rate ty.elem (first_slot (type_of (expr_of test.now)).rate slot)
+            × HasLift self.new (type_of (expr_of otherwise.now)).rate ty.rate ty.elem (second_slot (type_of (expr_of test.now)).rate slot)
+            × HasExpr self.new (expr_of test.now) slot
+            × HasExpr self.new (expr_of then.now) (first_slot (type_of (expr_of test.now)).rate slot)
+            × HasExpr self.new (expr_of otherwise.now) (second_slot (type_of (expr_of test.now)).rate slot)
+            × SidesHave (HasMask self.new) (type_of (expr_of test.now)).rate slot) }
+    {
+        let rate = test.ty().rate;
+        let first = side(rate, slot)?;
+        let second = side(rate, first)?;
+        self.spare(ty.rate, ty.elem, slot)?;
+        self.lift(then.ty().rate, ty.rate, ty.elem, first)?;
+        self.lift(otherwise.ty().rate, ty.rate, ty.elem, second)?;
+        self.expr(test, slot)?;
+        self.expr(then, first)?;
+        self.expr(otherwise, second)?;
+        self.sides(rate, slot)?;
+        Ok(())
+    }
+
+    /// A place, and the register that its value is read into.
+    #[cycle(expr)]
+    fn read(&mut self, place: &TypedPlace, slot: u32) -> Result<(), AllocError>
+        ensures adds { OnOk result (Adds self.old self.new) }
+        ensures has { OnOk result (HasPlace self.new (place_of place.now) slot × HasRead self.new (place_of place.now) slot) }
+    {
+        self.place(place, slot)?;
+        self.element(place, slot)?;
+        Ok(())
+    }
+
+    /// The register that an element is read into; none for a variable.
+    fn element(&mut self, place: &TypedPlace, slot: u32) -> Result<(), AllocError>
+        ensures adds { OnOk result (Adds self.old self.new) }
+        ensures has { OnOk result (HasRead self.new (place_of place.now) slot) }
+    {
+        match place {
+            TypedPlace::Variable { .. } => Ok(()),
+            TypedPlace::Element { ty, .. } => self.spare(ty.rate, ty.elem, slot),
+        }
+    }
+
+    /// A place whose index is taken at a slot.
+    #[cycle(expr)]
+    fn place(&mut self, place: &TypedPlace, slot: u32) -> Result<(), AllocError>
+        ensures adds { OnOk result (Adds self.old self.new) }
+        ensures has { OnOk result (HasPlace self.new (place_of place.now) slot) }
+    {
+        match place {
+            TypedPlace::Variable { number, ty, .. } => self.variable(*number, *ty),
+            TypedPlace::Element { index, ty, .. } => {
+                let given = index.ty().rate;
+                self.spare(given, Elem::I64, slot)?;
+                self.expr(index, slot)?;
+                self.lift(given, ty.rate, Elem::I64, slot)?;
+                Ok(())
+            }
+        }
+    }
+}
+
+/// The slot behind that of a varying test.
+fn side(rate: Rate, slot: u32) -> Result<u32, AllocError>
+    ensures { IfOk result (λ n. n ≡ first_slot rate slot) }
+{
+    match rate {
+        Rate::Uniform => Ok(slot),
+        Rate::Varying => after(slot),
+    }
+}
