@@ -1,5 +1,6 @@
 mod Views
 mod Following
+mod Homes
 pub mod Splits
 pub mod Base
 pub mod Rates

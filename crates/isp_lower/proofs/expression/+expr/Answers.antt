@@ -1,4 +1,4 @@
-use Rattle.std.proofs.Common.{◌≡◌, ℕ, ◌+◌, true, false, [], ◌∷◌, ◌++◌, append-nil, refl, sym, ap, subst, ◌∙◌, IfOk, length}
+use Rattle.std.proofs.Common.{◌≡◌, ℕ, ◌+◌, true, false, [], ◌∷◌, ◌++◌, append-nil, refl, sym, ap, subst, ◌∙◌, arith, IfOk, length}
 use Rattle.std.specs.Prelude.{slice_set, OnOk}
 use Rattle.isp_code.specs.Listing.{Listing}
 use Rattle.isp_code.specs.declared.instr.Instr.{Instr}
@@ -13,9 +13,9 @@ use Rattle.isp_base.specs.declared.types.Ty.{Ty}
 use Rattle.isp_typed.specs.Typed.{TExpr, TPlace, t_compare, t_convert, t_place, type_of}
 use Rattle.isp_typed.specs.Views.{expr_of, place_of}
 use Rattle.isp_lower.specs.Code.{choice, choose_rest, is_short, jump_on, select, stays, the_others, where_so, compare, constant, constant_of, convert, convert_to, copy, decided, expr_code, expr_places, expr_to, found, guard, index, index_of, is_whole, jump_off, lift_code, lift_to, lifted, move_code, needing, operand, operand_of, operate, operate_places, part_to, read, splat, unary, whole, whole_of}
-use Rattle.isp_lower.specs.Emitted.{Computes, Emits, Puts, Writes}
+use Rattle.isp_lower.specs.Emitted.{Computes, Emits, Follows, Puts, Writes}
 use Rattle.isp_lower.specs.Layout.{register}
-use Rattle.isp_lower.proofs.Following.{after_one, chosen, emits_pair, landed_puts, put_in, puts_first, emits_so, landed, puts_end, puts_keep, puts_with, pushed_is}
+use Rattle.isp_lower.proofs.Following.{Code, after_one, before, chosen, ends_at, emits_pair, landed_puts, put_in, puts_first, emits_so, landed, puts_end, puts_keep, puts_with, pushed_is}
 use Rattle.isp_lower.proofs.Found.{constant_is_one}
 use Rattle.isp_lower.proofs.Views.{constant_view, index_view, cast_view, element_view}
 use Rattle.isp_lower.proofs.expression.+expr.Goals as goal
@@ -258,3 +258,57 @@ masked_side-returns t c =
     c.in_ok-push.ensures c.in_ok-from.ensures
     (c.in_ok-land.ensures.code ∙ ap (λ m. slice_set c.operand.new.b.code.items m (instr.JumpIf jump.Off c.mask-2.result (length c.operand.new.b.code.items))) (c.len-at.ensures ∙ c.args.b.now.code.ok.0) ∙ ap (λ h. slice_set c.operand.new.b.code.items (length c.args.b.now.code.items) (instr.JumpIf jump.Off h (length c.operand.new.b.code.items))) c.mask-2.ensures)
     (ap (λ (z : Listing). z.places) c.in_ok-land.ensures.same.0) c.in_ok-land.ensures.same.1
+
+pub choose_by_masks-returns : goal.choose_by_masks-returns
+choose_by_masks-returns t c =
+    let x = expr_of c.args.then.now in
+    let y = expr_of c.args.otherwise.now in
+    let r = c.args.ty.rate in
+    let e = c.args.ty.elem in
+    let k = c.args.k in
+    let n = c.args.slot in
+    let d = c.args.tested in
+    let at : c.in_ok-next.next ≡ n + 1 = c.in_ok-next.ensures in
+    let on : c.in_ok-last.last ≡ n + 2 = omega (arith, c.in_ok-last.ensures, c.in_ok-next.ensures) in
+    let first : Code = λ l pc p. guard (jump_off n) pc (λ pc1. operand_of l r x n (n + 1) (expr_code l x pc1 p n (n + 1))) in
+    let second : Code = λ l pc p. guard (jump_off (n + 1)) pc (λ pc1. operand_of l r y (n + 1) (n + 2) (expr_code l y pc1 p (n + 1) (n + 2))) in
+    let s1 : Puts c.push.new.self c.masked_side.new.b first (λ l. expr_places l x) (λ l. operand l r x (n + 1)) c.in_ok-first.first
+    = subst (λ m. Puts c.push.new.self c.masked_side.new.b (λ l pc p. guard (jump_off n) pc (λ pc1. operand_of l r x n m (expr_code l x pc1 p n m))) (λ l. expr_places l x) (λ l. operand l r x m) c.in_ok-first.first) at c.in_ok-first.ensures in
+    let s2 : Puts c.push-2.new.self c.masked_side-2.new.b second (λ l. expr_places l y) (λ l. operand l r y (n + 2)) c.in_ok-second.second
+    = subst (λ m. Puts c.push-2.new.self c.masked_side-2.new.b (λ l pc p. guard (jump_off m) pc (λ pc1. operand_of l r y m (n + 2) (expr_code l y pc1 p m (n + 2)))) (λ l. expr_places l y) (λ l. operand l r y (n + 2)) c.in_ok-second.second) at
+    (subst (λ m. Puts c.push-2.new.self c.masked_side-2.new.b (λ l pc p. guard (jump_off c.in_ok-next.next) pc (λ pc1. operand_of l r y c.in_ok-next.next m (expr_code l y pc1 p c.in_ok-next.next m))) (λ l. expr_places l y) (λ l. operand l r y m) c.in_ok-second.second) on c.in_ok-second.ensures) in
+    let chosen_one = put_in c.masked_side-2.new.b c.spare.new.self c.push-3.new.self (λ l. l.spare r e n) c.in_ok-to.to (λ w. select Varying w d c.in_ok-first.first c.in_ok-second.second k) c.select.result c.in_ok-to.ensures c.select.ensures c.in_ok-push-3.ensures in
+    let behind = puts_keep c.push-2.new.self c.masked_side-2.new.b c.push-3.new.self second (λ l. expr_places l y) (λ l. operand l r y (n + 2)) c.in_ok-second.second (λ w l pc p. select Varying (l.spare r e n) d c.in_ok-first.first w k ∷ []) (λ l. []) s2 chosen_one.emits in
+    let rest = after_one c.masked_side.new.b c.push-2.new.self c.push-3.new.self (the_others (n + 1) k n)
+        (λ l pc p. second l pc p ++ select Varying (l.spare r e n) d c.in_ok-first.first (operand l r y (n + 2)) k ∷ []) (λ l. expr_places l y ++ [])
+        (pushed_is _ _ _ (the_others (n + 1) k n) (c.the_others.ensures ∙ ap (λ m. the_others m k n) at) c.in_ok-push-2.ensures) behind.emits in
+    let both = puts_keep c.push.new.self c.masked_side.new.b c.push-3.new.self first (λ l. expr_places l x) (λ l. operand l r x (n + 1)) c.in_ok-first.first
+        (λ w l pc p. the_others (n + 1) k n ∷ (second l (pc + 1) p ++ select Varying (l.spare r e n) d w (operand l r y (n + 2)) k ∷ [])) (λ l. expr_places l y ++ []) s1 rest in
+    emits_so c.args.b.now c.push-3.new.self _ _ _ (λ l. expr_places l x ++ expr_places l y)
+    (after_one c.args.b.now c.push.new.self c.push-3.new.self (where_so n d k)
+    (λ l pc p. first l pc p ++ (the_others (n + 1) k n ∷ (second l (pc + length (first l pc p) + 1) (p + length (expr_places l x)) ++ select Varying (l.spare r e n) d (operand l r x (n + 1)) (operand l r y (n + 2)) k ∷ []))) (λ l. expr_places l x ++ (expr_places l y ++ []))
+    (pushed_is _ _ _ (where_so n d k) c.where_so.ensures c.in_ok-push.ensures) both.emits)
+    (λ l s. refl) (λ l s. ap (λ z. expr_places l x ++ z) (append-nil (expr_places l y)))
+
+pub choose_by_jump-returns : goal.choose_by_jump-returns
+choose_by_jump-returns t c =
+    let x = expr_of c.args.then.now in
+    let y = expr_of c.args.otherwise.now in
+    let r = c.args.ty.rate in
+    let e = c.args.ty.elem in
+    let k = c.args.k in
+    let n = c.args.slot in
+    let d = c.args.tested in
+    let one : Code = λ l pc p. operand_of l r x k n (expr_code l x pc p k n) ++ move_code r (l.spare r e n) (operand l r x n) k in
+    let two : Code = λ l pc p. operand_of l r y k n (expr_code l y pc p k n) ++ move_code r (l.spare r e n) (operand l r y n) k in
+    let to : c.land.new.self.registers ≡ c.push-2.new.self.registers = c.in_ok-land.ensures.same.1 in
+    let jumped = puts_end c.push.new.self c.side.new.b c.push-2.new.self one (λ l. expr_places l x) (λ l. l.spare r e n) _ (λ w. instr.Jump 0) (instr.Jump 0) c.in_ok-side.ensures refl c.in_ok-push-2.ensures in
+    chosen c.args.b.now c.land.new.self c.side-2.new.b c.land_always.new.self (instr.Jump 0) (jump_on jump.False d) one two (λ l. expr_places l x) (λ l. expr_places l y) c.len-over.result
+    (landed c.args.b.now c.push.new.self c.push-2.new.self c.land.new.self _ (jump_on jump.False d) (λ l pc p. one l pc p ++ instr.Jump 0 ∷ []) (λ l. expr_places l x)
+    c.in_ok-push.ensures jumped
+    (c.in_ok-land.ensures.code ∙ ap (λ m. slice_set c.push-2.new.self.code.items m (instr.JumpIf jump.False c.scalar-2.result (length c.push-2.new.self.code.items))) (c.len-at.ensures ∙ c.args.b.now.code.ok.0) ∙ ap (λ h. slice_set c.push-2.new.self.code.items (length c.args.b.now.code.items) (instr.JumpIf jump.False h (length c.push-2.new.self.code.items))) c.scalar-2.ensures)
+    (ap (λ (z : Listing). z.places) c.in_ok-land.ensures.same.0) to)
+    c.in_ok-side-2.ensures.emits
+    (λ l s. c.len-over.ensures ∙ c.side.new.b.code.ok.0 ∙ ends_at c.args.b.now c.push.new.self c.side.new.b _ one (λ l. expr_places l x) c.in_ok-push.ensures c.in_ok-side.ensures.emits l (before l _ _ c.in_ok-push-2.ensures.rows (subst (λ z. Follows l z) to s)))
+    c.in_ok-land_always.ensures.code
+    (ap (λ (z : Listing). z.places) c.in_ok-land_always.ensures.same.0) c.in_ok-land_always.ensures.same.1
