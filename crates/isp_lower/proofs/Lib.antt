@@ -1,5 +1,7 @@
 mod Views
 mod Following
+mod Sequels
+mod Staying
 mod Homes
 pub mod Splits
 pub mod Base

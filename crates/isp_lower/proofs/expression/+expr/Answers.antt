@@ -1,4 +1,4 @@
-use Rattle.std.proofs.Common.{◌≡◌, ℕ, ◌+◌, true, false, [], ◌∷◌, ◌++◌, append-nil, refl, sym, ap, subst, ◌∙◌, arith, IfOk, length}
+use Rattle.std.proofs.Common.{◌≡◌, ℕ, ◌+◌, true, false, List, [], ◌∷◌, ◌++◌, append-nil, refl, sym, ap, subst, ◌∙◌, arith, IfOk, length}
 use Rattle.std.specs.Prelude.{slice_set, OnOk}
 use Rattle.isp_code.specs.Listing.{Listing}
 use Rattle.isp_code.specs.declared.instr.Instr.{Instr}
@@ -10,14 +10,17 @@ use Rattle.isp_base.specs.declared.types.Elem.TheVariants.{Bool as Truth, I64}
 use Rattle.isp_base.specs.declared.types.Rate.{Rate}
 use Rattle.isp_base.specs.declared.types.Rate.TheVariants.{Uniform, Varying}
 use Rattle.isp_base.specs.declared.types.Ty.{Ty}
-use Rattle.isp_typed.specs.Typed.{TExpr, TPlace, t_compare, t_convert, t_place, type_of}
+use Rattle.isp_typed.specs.Typed.{TExpr, TPlace, t_choose, t_compare, t_convert, t_logic, t_place, t_unary, type_of}
 use Rattle.isp_typed.specs.Views.{expr_of, place_of}
-use Rattle.isp_lower.specs.Code.{choice, choose_rest, is_short, jump_on, select, stays, the_others, where_so, compare, constant, constant_of, convert, convert_to, copy, decided, expr_code, expr_places, expr_to, found, guard, index, index_of, is_whole, jump_off, lift_code, lift_to, lifted, move_code, needing, operand, operand_of, operate, operate_places, part_to, read, splat, unary, whole, whole_of}
+use Rattle.isp_lower.specs.Code.{choice, choose_code, choose_rest, choose_to, is_short, jump_on, select, stays, the_others, where_so, compare, constant, constant_of, convert, convert_to, copy, decided, expr_code, expr_places, expr_to, found, guard, index, index_of, is_whole, jump_off, lift_code, lift_to, lifted, move_code, needing, operand, operand_of, operate, operate_places, part_to, read, splat, unary, whole, whole_of}
 use Rattle.isp_lower.specs.Emitted.{Computes, Emits, Follows, Puts, Writes}
-use Rattle.isp_lower.specs.Layout.{register}
+use Rattle.isp_lower.specs.Layout.{Layout, register}
+use Rattle.std.proofs.lemmas.Result.{on_ok_weaker}
 use Rattle.isp_lower.proofs.Following.{Code, after_one, before, chosen, ends_at, emits_pair, landed_puts, put_in, puts_first, emits_so, landed, puts_end, puts_keep, puts_with, pushed_is}
 use Rattle.isp_lower.proofs.Found.{constant_is_one}
-use Rattle.isp_lower.proofs.Views.{constant_view, index_view, cast_view, element_view}
+use Rattle.isp_lower.proofs.Sequels.{code_so}
+use Rattle.isp_lower.proofs.Staying.{short_silent}
+use Rattle.isp_lower.proofs.Views.{constant_view, index_view, cast_view, unary_view, compare_view, logic_view, choose_view, element_view}
 use Rattle.isp_lower.proofs.expression.+expr.Goals as goal
 
 pub expr-returns : goal.expr-returns
@@ -312,3 +315,90 @@ choose_by_jump-returns t c =
     (λ l s. c.len-over.ensures ∙ c.side.new.b.code.ok.0 ∙ ends_at c.args.b.now c.push.new.self c.side.new.b _ one (λ l. expr_places l x) c.in_ok-push.ensures c.in_ok-side.ensures.emits l (before l _ _ c.in_ok-push-2.ensures.rows (subst (λ z. Follows l z) to s)))
     c.in_ok-land_always.ensures.code
     (ap (λ (z : Listing). z.places) c.in_ok-land_always.ensures.same.0) c.in_ok-land_always.ensures.same.1
+
+pub choose_to-returns-then-is_short : goal.choose_to-returns-then-is_short
+choose_to-returns-then-is_short t c = λ s.
+    let z = expr_of c.args.test.now in
+    let x = expr_of c.args.then.now in
+    let y = expr_of c.args.otherwise.now in
+    let r = c.args.ty.rate in
+    let d = c.args.to in
+    let k = c.args.k in
+    let n = c.args.slot in
+    let so : (l : Layout) → true ≡ is_short l r z x y = λ l. sym c.if-is_short.true ∙ c.is_short.ensures l in
+    let all = puts_keep c.args.b.now c.expr.new.b c.push.new.self (λ l pc p. expr_code l z pc p k n) (λ l. expr_places l z) (λ l. found l z n) c.in_ok-tested.tested (λ w l pc p. select r d w (found l x n) (found l y n) k ∷ []) (λ l. []) c.in_ok-tested.ensures
+        (puts_first c.expr.new.b c.found.new.b c.push.new.self (λ l. found l x n) c.in_ok-first.first (λ w l pc p. select r d c.in_ok-tested.tested w (found l y n) k ∷ []) (λ l. []) c.in_ok-first.ensures
+        (puts_first c.found.new.b c.found-2.new.b c.push.new.self (λ l. found l y n) c.in_ok-second.second (λ w l pc p. select r d c.in_ok-tested.tested c.in_ok-first.first w k ∷ []) (λ l. []) c.in_ok-second.ensures
+        (pushed_is _ _ _ (select r d c.in_ok-tested.tested c.in_ok-first.first c.in_ok-second.second k) c.select.ensures c.in_ok-push.ensures)).emits).emits in
+    emits_so c.args.b.now c.push.new.self (λ l pc p. expr_code l z pc p k n ++ select r d (found l z n) (found l x n) (found l y n) k ∷ []) (λ l pc p. expr_to l d (t_choose z x y c.args.ty s) pc p k n) (λ l. expr_places l z ++ []) (λ l. expr_places l z ++ (expr_places l x ++ expr_places l y)) all.emits
+    (λ l q.
+    let pc = length c.args.b.now.code.items in
+    let p = length c.args.b.now.listing.places in
+    ap (λ h. choose_to l h d z x y c.args.ty pc k n (expr_code l z pc p k n) (λ pc1 m i. operand_of l r x m i (expr_code l x pc1 (p + length (expr_places l z)) m i)) (λ pc1 m i. operand_of l r y m i (expr_code l y pc1 (p + length (expr_places l z) + length (expr_places l x)) m i))) (so l))
+    (λ l q. ap (λ h. expr_places l z ++ h) (sym (short_silent l r z x y (sym (so l)))))
+
+pub choose_to-returns-in_ok-choose_by_jump-in-Uniform : goal.choose_to-returns-in_ok-choose_by_jump-in-Uniform
+choose_to-returns-in_ok-choose_by_jump-in-Uniform t c = λ s.
+    let z = expr_of c.args.test.now in
+    let x = expr_of c.args.then.now in
+    let y = expr_of c.args.otherwise.now in
+    let r = c.args.ty.rate in
+    let e = c.args.ty.elem in
+    let d = c.args.to in
+    let k = c.args.k in
+    let n = c.args.slot in
+    let so : (l : Layout) → false ≡ is_short l r z x y = λ l. sym c.if-is_short.false ∙ c.is_short.ensures l in
+    let given : Uniform ≡ (type_of z).rate = sym (sym (ap (λ (h : Ty). h.rate) c.ty.ensures) ∙ c.in-Uniform.is) in
+    let all = puts_keep c.args.b.now c.expr.new.b c.choose_by_jump.new.b (λ l pc p. expr_code l z pc p k n) (λ l. expr_places l z) (λ l. found l z n) c.in_ok-tested.tested
+        (λ w l pc p. choice (jump_on jump.False w) pc (λ pc1. operand_of l r x k n (expr_code l x pc1 p k n) ++ move_code r (l.spare r e n) (operand l r x n) k) (λ pc1. operand_of l r y k n (expr_code l y pc1 (p + length (expr_places l x)) k n) ++ move_code r (l.spare r e n) (operand l r y n) k))
+        (λ l. expr_places l x ++ expr_places l y) c.in_ok-tested.ensures c.in_ok-choose_by_jump-in-Uniform.ensures in
+    code_so c.args.b.now c.choose_by_jump.new.b (λ l pc p. choose_code l Uniform r e x y (found l z n) pc k n (expr_code l z pc p k n) (λ pc1 m i. operand_of l r x m i (expr_code l x pc1 (p + length (expr_places l z)) m i)) (λ pc1 m i. operand_of l r y m i (expr_code l y pc1 (p + length (expr_places l z) + length (expr_places l x)) m i)))
+    (λ l pc p. expr_to l d (t_choose z x y c.args.ty s) pc p k n) (λ l. expr_places l z ++ (expr_places l x ++ expr_places l y)) all.emits
+    (λ l pc p.
+    let a : ℕ → ℕ → ℕ → List Instr = λ pc1 m i. operand_of l r x m i (expr_code l x pc1 (p + length (expr_places l z)) m i) in
+    let b : ℕ → ℕ → ℕ → List Instr = λ pc1 m i. operand_of l r y m i (expr_code l y pc1 (p + length (expr_places l z) + length (expr_places l x)) m i) in
+    ap (λ h. choose_code l h r e x y (found l z n) pc k n (expr_code l z pc p k n) a b) given
+    ∙ ap (λ h. choose_to l h d z x y c.args.ty pc k n (expr_code l z pc p k n) a b) (so l))
+
+pub choose_to-returns-in_ok-choose_by_masks-in-Varying : goal.choose_to-returns-in_ok-choose_by_masks-in-Varying
+choose_to-returns-in_ok-choose_by_masks-in-Varying t c = λ s.
+    let z = expr_of c.args.test.now in
+    let x = expr_of c.args.then.now in
+    let y = expr_of c.args.otherwise.now in
+    let r = c.args.ty.rate in
+    let e = c.args.ty.elem in
+    let d = c.args.to in
+    let k = c.args.k in
+    let n = c.args.slot in
+    let so : (l : Layout) → false ≡ is_short l r z x y = λ l. sym c.if-is_short.false ∙ c.is_short.ensures l in
+    let given : Varying ≡ (type_of z).rate = sym (sym (ap (λ (h : Ty). h.rate) c.ty.ensures) ∙ c.in-Varying.is) in
+    let all = puts_keep c.args.b.now c.expr.new.b c.choose_by_masks.new.b (λ l pc p. expr_code l z pc p k n) (λ l. expr_places l z) (λ l. found l z n) c.in_ok-tested.tested
+        (λ w l pc p. choose_rest (l.spare r e n) w (operand l r x (n + 1)) (operand l r y (n + 2)) pc k n (λ pc1 m i. operand_of l r x m i (expr_code l x pc1 p m i)) (λ pc1 m i. operand_of l r y m i (expr_code l y pc1 (p + length (expr_places l x)) m i)))
+        (λ l. expr_places l x ++ expr_places l y) c.in_ok-tested.ensures c.in_ok-choose_by_masks-in-Varying.ensures in
+    code_so c.args.b.now c.choose_by_masks.new.b (λ l pc p. choose_code l Varying r e x y (found l z n) pc k n (expr_code l z pc p k n) (λ pc1 m i. operand_of l r x m i (expr_code l x pc1 (p + length (expr_places l z)) m i)) (λ pc1 m i. operand_of l r y m i (expr_code l y pc1 (p + length (expr_places l z) + length (expr_places l x)) m i)))
+    (λ l pc p. expr_to l d (t_choose z x y c.args.ty s) pc p k n) (λ l. expr_places l z ++ (expr_places l x ++ expr_places l y)) all.emits
+    (λ l pc p.
+    let a : ℕ → ℕ → ℕ → List Instr = λ pc1 m i. operand_of l r x m i (expr_code l x pc1 (p + length (expr_places l z)) m i) in
+    let b : ℕ → ℕ → ℕ → List Instr = λ pc1 m i. operand_of l r y m i (expr_code l y pc1 (p + length (expr_places l z) + length (expr_places l x)) m i) in
+    ap (λ h. choose_code l h r e x y (found l z n) pc k n (expr_code l z pc p k n) a b) given
+    ∙ ap (λ h. choose_to l h d z x y c.args.ty pc k n (expr_code l z pc p k n) a b) (so l))
+
+pub write_to-returns-in-Unary : goal.write_to-returns-in-Unary
+write_to-returns-in-Unary t c =
+    let e = c.in-Unary in
+    on_ok_weaker c.unary_to.result
+    (λ w. subst (λ (z : TExpr). Writes c.args.b.now c.unary_to.new.b c.args.to z c.args.k c.args.slot) (sym (ap expr_of e.is ∙ unary_view e.operator e.operand e.ty e.span))
+    (subst (λ y. Writes c.args.b.now c.unary_to.new.b c.args.to (t_unary e.operator (expr_of y) e.ty e.span) c.args.k c.args.slot) c.deref-in-Unary.ensures (w e.span)))
+    c.unary_to.ensures
+
+pub write_to-returns-in-Compare : goal.write_to-returns-in-Compare
+write_to-returns-in-Compare t c = ?
+
+pub write_to-returns-in-Uniform : goal.write_to-returns-in-Uniform
+write_to-returns-in-Uniform t c = ?
+
+pub write_to-returns-in-Varying : goal.write_to-returns-in-Varying
+write_to-returns-in-Varying t c = ?
+
+pub write_to-returns-in-Choose : goal.write_to-returns-in-Choose
+write_to-returns-in-Choose t c = ?
