@@ -1,5 +1,8 @@
 mod Views
 mod Following
+mod Sequels
+mod Staying
+mod Homes
 pub mod Splits
 pub mod Base
 pub mod Rates
