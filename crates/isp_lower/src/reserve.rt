@@ -1,12 +1,12 @@
 //! The registers that code asks for, before it is written.
 ghost use Rattle.std.specs.Prelude.{◌≡◌, ◌<◌, ◌+◌, IfOk, OnOk};
 ghost use Rattle.isp_base.specs.Ranks.{same_elem};
-ghost use Rattle.isp_base.specs.declared.types.Elem.TheVariants.{Bool as Truth};
-ghost use Rattle.isp_typed.specs.Typed.{place_type, type_of};
+ghost use Rattle.isp_base.specs.declared.types.Rate.TheVariants.{Uniform};
+ghost use Rattle.isp_typed.specs.Typed.{type_of};
 ghost use Rattle.isp_typed.specs.Views.{expr_of, item_of, items_of, place_of, simple_of};
 ghost use Rattle.isp_lower.specs.Emitted.{HasRow};
-ghost use Rattle.isp_lower.specs.Presence.{SidesHave, TestHas, WorkHas, ZeroHas, beyond, first_slot, second_slot};
-ghost use Rattle.isp_lower.specs.Reserved.{Adds, HasChange, HasExpr, HasItem, HasItems, HasLift, HasMask, HasPair, HasPlace, HasRead, HasSimple};
+ghost use Rattle.isp_lower.specs.Presence.{SidesHave, TestHas, beyond, first_slot, second_slot};
+ghost use Rattle.isp_lower.specs.Reserved.{Adds, HasChange, HasAssign, HasExpr, HasIndex, HasItem, HasItems, HasLift, HasLogic, HasMask, HasPair, HasPlace, HasRead, HasSimple, HasStep, HasUpdate, HasWork, HasZero};
 ghost use Rattle.isp_lower.specs.Rows.{Spare, Variable};
 
 use crate::leaves::after;
@@ -111,11 +111,7 @@ impl Reserve {
             } => self.pair(left, right, *rate, left.ty().elem, Elem::Bool, slot),
             TypedExpr::Logic {
                 left, right, rate, ..
-            } => {
-                self.pair(left, right, *rate, Elem::Bool, Elem::Bool, slot)?;
-                self.test(*rate, slot)?;
-                Ok(())
-            }
+            } => self.logic(left, right, *rate, slot),
             TypedExpr::Choose {
                 test,
                 then,
@@ -184,6 +180,23 @@ impl Reserve {
         Ok(())
     }
 
+    /// Two bools, of which the second may be asked under a mask.
+    #[cycle(expr)]
+    fn logic(
+        &mut self,
+        left: &TypedExpr,
+        right: &TypedExpr,
+        rate: Rate,
+        slot: u32,
+    ) -> Result<(), AllocError>
+        ensures adds { OnOk result (Adds self.old self.new) }
+        ensures has { OnOk result (HasLogic self.new (expr_of left.now) (expr_of right.now) rate slot) }
+    {
+        self.pair(left, right, rate, Elem::Bool, Elem::Bool, slot)?;
+        self.test(rate, slot)?;
+        Ok(())
+    }
+
     /// A choice: its sides work in slots behind those of a varying test.
     #[cycle(expr)]
     fn choice(
@@ -246,14 +259,180 @@ impl Reserve {
     {
         match place {
             TypedPlace::Variable { number, ty, .. } => self.variable(*number, *ty),
-            TypedPlace::Element { index, ty, .. } => {
-                let given = index.ty().rate;
-                self.spare(given, Elem::I64, slot)?;
-                self.expr(index, slot)?;
-                self.lift(given, ty.rate, Elem::I64, slot)?;
-                Ok(())
-            }
+            TypedPlace::Element { index, ty, .. } => self.index(ty.rate, index, slot),
         }
+    }
+
+    /// An index, as int64, at the rate of the element.
+    #[cycle(expr)]
+    fn index(&mut self, rate: Rate, index: &TypedExpr, slot: u32) -> Result<(), AllocError>
+        ensures adds { OnOk result (Adds self.old self.new) }
+        ensures has { OnOk result (HasIndex self.new (expr_of index.now) rate slot) }
+    {
+        let given = index.ty().rate;
+        self.spare(given, Elem::I64, slot)?;
+        self.expr(index, slot)?;
+        self.lift(given, rate, Elem::I64, slot)?;
+        Ok(())
+    }
+
+    /// A place that an operator of a type reads and writes, at a slot of its own.
+    fn change(&mut self, elem: Elem, place: &TypedPlace, slot: u32, work: u32) -> Result<(), AllocError>
+        ensures adds { OnOk result (Adds self.old self.new) }
+        ensures has { OnOk result (HasChange self.new elem (place_of place.now) slot work) }
+    {
+        self.place(place, slot)?;
+        self.work(place.ty(), elem, work)?;
+        self.element(place, work)?;
+        Ok(())
+    }
+
+    /// The register in which an operator works whose type is not that of its place.
+    fn work(&mut self, ty: Ty, elem: Elem, slot: u32) -> Result<(), AllocError>
+        ensures adds { OnOk result (Adds self.old self.new) }
+        ensures has { OnOk result (HasWork self.new (same_elem ty.elem elem) ty.rate elem slot) }
+    {
+        if ty.elem == elem {
+            Ok(())
+        } else {
+            self.spare(ty.rate, elem, slot)
+        }
+    }
+
+    /// A right side that is taken at the rate of its place, in a type.
+    fn right(&mut self, rate: Rate, elem: Elem, x: &TypedExpr, slot: u32) -> Result<(), AllocError>
+        ensures adds { OnOk result (Adds self.old self.new) }
+        ensures has { OnOk result (HasLift self.new (type_of (expr_of x.now)).rate rate elem slot × HasExpr self.new (expr_of x.now) slot) }
+    {
+        self.lift(x.ty().rate, rate, elem, slot)?;
+        self.expr(x, slot)?;
+        Ok(())
+    }
+
+    /// What the code of an assignment asks for, and of what else stands before a semicolon.
+    pub fn simple(&mut self, x: &TypedSimple, slot: u32) -> Result<(), AllocError>
+        ensures adds { OnOk result (Adds self.old self.new) }
+        ensures has { OnOk result (HasSimple self.new (simple_of x.now) slot) }
+    {
+        match x {
+            TypedSimple::Value(value) => self.expr(value, slot),
+            TypedSimple::Call(_) => Ok(()),
+            TypedSimple::Assign { target, value, .. } => self.assign(target, value, slot),
+            TypedSimple::Update {
+                elem,
+                target,
+                value,
+                ..
+            } => self.update(*elem, target, value, slot),
+            TypedSimple::Step { elem, target, .. } => self.step(*elem, target, slot),
+        }
+    }
+
+    fn assign(&mut self, target: &TypedPlace, value: &TypedExpr, slot: u32) -> Result<(), AllocError>
+        ensures adds { OnOk result (Adds self.old self.new) }
+        ensures has { OnOk result (HasAssign self.new (place_of target.now) (expr_of value.now) slot) }
+    {
+        let ty = target.ty();
+        let next = beyond(target, slot)?;
+        self.place(target, slot)?;
+        self.right(ty.rate, ty.elem, value, next)?;
+        Ok(())
+    }
+
+    fn update(
+        &mut self,
+        elem: Elem,
+        target: &TypedPlace,
+        value: &TypedExpr,
+        slot: u32,
+    ) -> Result<(), AllocError>
+        ensures adds { OnOk result (Adds self.old self.new) }
+        ensures has { OnOk result (HasUpdate self.new elem (place_of target.now) (expr_of value.now) slot) }
+    {
+        let next = beyond(target, slot)?;
+        let work = after(next)?;
+        self.change(elem, target, slot, work)?;
+        self.right(target.ty().rate, elem, value, next)?;
+        Ok(())
+    }
+
+    fn step(&mut self, elem: Elem, target: &TypedPlace, slot: u32) -> Result<(), AllocError>
+        ensures adds { OnOk result (Adds self.old self.new) }
+        ensures has { OnOk result (HasStep self.new elem (place_of target.now) slot) }
+    {
+        let next = beyond(target, slot)?;
+        let work = after(next)?;
+        self.change(elem, target, slot, work)?;
+        self.spare(Rate::Uniform, elem, next)?;
+        self.lift(Rate::Uniform, target.ty().rate, elem, next)?;
+        Ok(())
+    }
+
+    /// A variable begins with 0: a varying one gets it from a slot.
+    fn zero(&mut self, number: usize, ty: Ty, slot: u32) -> Result<(), AllocError>
+        ensures adds { OnOk result (Adds self.old self.new) }
+        ensures has { OnOk result (HasZero self.new ty.rate ty.elem number slot) }
+    {
+        match ty.rate {
+            Rate::Uniform => self.variable(number, ty),
+            Rate::Varying => self.zero_lanes(number, ty, slot),
+        }
+    }
+
+    fn zero_lanes(&mut self, number: usize, ty: Ty, slot: u32) -> Result<(), AllocError>
+        ensures adds { OnOk result (Adds self.old self.new) }
+        ensures has { OnOk result (HasRow self.new.registers Uniform (Spare ty.elem slot) ty.elem × HasRow self.new.registers ty.rate (Variable number) ty.elem) }
+    {
+        self.spare(Rate::Uniform, ty.elem, slot)?;
+        self.variable(number, ty)?;
+        Ok(())
+    }
+
+    fn with_value(&mut self, number: usize, ty: Ty, value: &TypedExpr, slot: u32) -> Result<(), AllocError>
+        ensures adds { OnOk result (Adds self.old self.new) }
+        ensures has { OnOk result (HasRow self.new.registers ty.rate (Variable number) ty.elem
+            × HasLift self.new (type_of (expr_of value.now)).rate ty.rate ty.elem slot × HasExpr self.new (expr_of value.now) slot) }
+    {
+        self.variable(number, ty)?;
+        self.right(ty.rate, ty.elem, value, slot)?;
+        Ok(())
+    }
+
+    fn item(&mut self, x: &TypedItem, slot: u32) -> Result<(), AllocError>
+        ensures adds { OnOk result (Adds self.old self.new) }
+        ensures has { OnOk result (HasItem self.new slot (item_of x.now)) }
+    {
+        match x {
+            TypedItem::Plain { number, ty, .. } => self.zero(*number, *ty, slot),
+            TypedItem::Value {
+                number,
+                ty,
+                value,
+                ..
+            } => self.with_value(*number, *ty, value, slot),
+            TypedItem::Array { .. } => Ok(()),
+        }
+    }
+
+    /// What the code of declared variables and arrays asks for.
+    pub fn items(&mut self, all: &[TypedItem], slot: u32) -> Result<(), AllocError>
+        ensures adds { OnOk result (Adds self.old self.new) }
+        ensures has { OnOk result (HasItems self.new slot (items_of all.now)) }
+    {
+        for x in all {
+            self.item(x, slot)?;
+        }
+        Ok(())
+    }
+}
+
+/// The slot behind that of a place's index.
+fn beyond(place: &TypedPlace, slot: u32) -> Result<u32, AllocError>
+    ensures { IfOk result (λ n. n ≡ beyond (place_of place.now) slot) }
+{
+    match place {
+        TypedPlace::Variable { .. } => Ok(slot),
+        TypedPlace::Element { .. } => after(slot),
     }
 }
 

@@ -27,3 +27,9 @@ decreases-read l = 4 * place_nodes (place_of l.place.now) - 1
 
 abbrev pub decreases-place : goal.decreases-place
 decreases-place l = 4 * place_nodes (place_of l.place.now) - 2
+
+abbrev pub decreases-index : goal.decreases-index
+decreases-index l = 4 * typed_nodes (expr_of l.index.now) + 1
+
+abbrev pub decreases-logic : goal.decreases-logic
+decreases-logic l = 4 * (typed_nodes (expr_of l.left.now) + typed_nodes (expr_of l.right.now)) + 2
