@@ -1,17 +1,20 @@
 -- Registers and masks that are there stay there.
-use Rattle.std.proofs.Common.{◌≡◌, ℕ, ◌+◌, ◌<◌, ◌≤◌, List, Some, arith, refl}
+use Rattle.std.proofs.Common.{◌≡◌, ℕ, ◌+◌, ◌<◌, ◌≤◌, List, ◌∷◌, Some, Bool, length, drop, get_or, arith, refl, sym, subst}
+use Rattle.std.proofs.lemmas.List.{drop_more, drop_all}
 use Rattle.isp_base.specs.declared.types.Elem.{Elem}
 use Rattle.isp_base.specs.declared.types.Rate.{Rate}
 use Rattle.isp_base.specs.declared.types.Rate.TheVariants.{Uniform, Varying}
 use Rattle.isp_typed.specs.Typed.{TExpr, TPlace, TSimple, TItem}
+use Rattle.isp_typed.specs.Views.{item_of, items_of}
+use Rattle.isp_typed.specs.declared.stmt.TypedItem as rust
 use Rattle.isp_lower.specs.Emitted.{HasRow, Grows, rows_of}
 use Rattle.isp_lower.specs.Presence.{first_slot, second_slot, TestHas, SidesHave}
-use Rattle.isp_lower.specs.Reserved.{Adds, AnyArray, HasMask, HasLift, HasExpr, HasPlace, HasRead, HasChange, HasSimple, HasItem, HasItems}
+use Rattle.isp_lower.specs.Reserved.{Adds, AnyArray, HasMask, HasLift, HasExpr, HasPlace, HasRead, HasChange, HasSimple, HasItem, HasItems, HasWork}
 use Rattle.isp_lower.specs.Rows.{Name, rows_at}
 use Rattle.isp_lower.specs.declared.registers.Registers.{Registers}
 use Rattle.isp_lower.specs.declared.reserve.Reserve.{Reserve}
 use Rattle.isp_lower.proofs.Following.{grows_self, grows_then, stays_in}
-use Rattle.isp_lower.proofs.Presences.{test_more, sides_more, lift_more, read_more, expr_more, place_more, change_more, simple_more, item_more, items_more}
+use Rattle.isp_lower.proofs.Presences.{test_more, sides_more, lift_more, read_more, work_more, expr_more, place_more, change_more, simple_more, item_more, items_more}
 
 pub adds_self : (a : Reserve) → Adds a a
 adds_self a = record { rows = grows_self a.registers; masks = omega arith }
@@ -56,3 +59,17 @@ module _ (a b : Reserve) (is : Adds a b) where
 pub second_is : (r : Rate) (n : ℕ) → first_slot r (first_slot r n) ≡ second_slot r n
 second_is Uniform n = refl
 second_is Varying n = omega arith
+
+pub work_stays : (a b : Reserve) → Adds a b → (same : Bool) (r : Rate) (t : Elem) (i : ℕ) → HasWork a same r t i → HasWork b same r t i
+work_stays a b is = work_more (HasRow a.registers) (HasRow b.registers) (row_stays a b is)
+
+pub item_stays : (a b : Reserve) → Adds a b → (n : ℕ) (x : TItem) → HasItem a n x → HasItem b n x
+item_stays a b is = item_more (HasRow a.registers) (HasRow b.registers) (row_stays a b is) AnyArray AnyArray AnyArray AnyArray (λ z h. h) (λ z h. h) (HasMask a) (HasMask b) (mask_stays a b is)
+
+-- an item whose registers are there, and then those of the items behind it
+pub one_item_more : (c : Reserve) (n : ℕ) (all : List rust.TypedItem) (i : ℕ) (x : rust.TypedItem) → i < length all → x ≡ get_or all i x → HasItem c n (item_of x) → HasItems c n (items_of (drop (i + 1) all)) → HasItems c n (items_of (drop i all))
+one_item_more c n all i x lt is h hs =
+    subst (λ z. HasItems c n (items_of z)) (sym (drop_more all i x lt)) (subst (λ z. HasItem c n (item_of z)) is h, hs)
+
+pub none_left : (c : Reserve) (n : ℕ) (all : List rust.TypedItem) (i : ℕ) → length all ≤ i → HasItems c n (items_of (drop i all))
+none_left c n all i le = subst (λ z. HasItems c n (items_of z)) (sym (drop_all i all le)) tt
