@@ -24,6 +24,7 @@ pub mod Fitting
 pub mod Rows
 pub mod Numbers
 pub mod SoundLines
+pub mod SoundFound
 pub mod SoundParts
 pub mod SoundExprs
 pub mod SoundSimples
