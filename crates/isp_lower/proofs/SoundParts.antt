@@ -97,7 +97,7 @@ module _ (code : Listing) (h : Routine) where
       (where_sound code h n c k masks.0 hc lk, sound_both code h side last (guard_sound (jump_off n) (λ pc1. a pc1 n (n + 1)) (λ to low. off_sound code h n to masks.0 low) (λ pc1. f pc1 n masks.0) (pc + 1) (omega (arith, e1, lt))) (others_sound code h (n + 1) k n masks.1 lk masks.0, here_then (p2 + 1) other (select Varying d c x y k) (guard_sound (jump_off (n + 1)) (λ pc2. b pc2 (n + 1) (n + 2)) (λ to low. off_sound code h (n + 1) to masks.1 low) (λ pc2. g pc2 (n + 1) masks.1) (p2 + 1)) (select_sound code h Varying t d c x y k hd hc hx hy lk) (omega (arith, e1, lt))))
 
   module _ (l : Layout) where
-    lift_sound : (given r : Rate) (u t : Elem) (x k n : ℕ) → Reaches given r → u ≡ t → LiftPresent h l given r t n → IsRegister h given x u → k < h.masks → AreSound code h (lift_code l r given u x k n)
+    pub lift_sound : (given r : Rate) (u t : Elem) (x k n : ℕ) → Reaches given r → u ≡ t → LiftPresent h l given r t n → IsRegister h given x u → k < h.masks → AreSound code h (lift_code l r given u x k n)
     lift_sound Uniform Uniform u t x k n is e f hx lk = tt
     lift_sound Uniform Varying u t x k n is e f hx lk =
         (splat_sound code h t (l.spare Varying u n) x k (lift_there h l Uniform Varying u t x n is e f hx) (hx.0, hx.1 ∙ e) lk, tt)
