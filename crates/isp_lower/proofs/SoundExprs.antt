@@ -1,5 +1,5 @@
 -- Each instruction of the code of an expression has its operands.
-use Rattle.std.proofs.Common.{◌≡◌, ℕ, ◌+◌, ◌<◌, ◌≤◌, List, [], ◌∷◌, ◌++◌, length, Bool, true, false, refl, sym, ap, ◌∙◌, subst, arith, length-append}
+use Rattle.std.proofs.Common.{◌≡◌, ℕ, ◌+◌, ◌<◌, ◌≤◌, List, ◌++◌, length, Bool, true, false, refl, ◌∙◌, arith}
 use Rattle.isp_base.specs.declared.types.Elem.{Elem}
 use Rattle.isp_base.specs.declared.types.Elem.TheVariants.{Bool as Truth}
 use Rattle.isp_base.specs.declared.types.Rate.{Rate}
@@ -10,11 +10,11 @@ use Rattle.isp_code.specs.declared.instr.Instr.{Instr}
 use Rattle.isp_typed.specs.Typed.{TExpr, t_constant, t_program_index, t_place, t_convert, t_cast, t_unary, t_binary, t_compare, t_logic, t_choose, t_call, t_library, t_packed_store, t_packed_load, TPlace, t_variable, t_element, place_type, type_of}
 use Rattle.isp_typed.specs.declared.variable.ArrayVariable.{ArrayVariable}
 use Rattle.isp_lower.specs.Layout.{Layout}
-use Rattle.isp_lower.specs.Code.{convert, compare, unary, operate, operate_places, read, select, two, part_to, lift_to, found, operand, operand_of, index, choose_to, is_short, expr_places, index_places, read_places, expr_to, index_code, read_code, expr_code}
+use Rattle.isp_lower.specs.Code.{compare, unary, operate, operate_places, select, part_to, lift_to, found, operand, operand_of, index, choose_to, is_short, expr_places, index_places, read_places, expr_to, index_code, read_code, expr_code}
 use Rattle.isp_lower.specs.Fits.{Reaches}
 use Rattle.isp_lower.specs.Presence.{first_slot, second_slot}
 use Rattle.isp_lower.specs.Trees.{OperandTree, ExprTree, PlaceTree}
-use Rattle.isp_lower.specs.Sound.{AreSound, PartSound, IsRegister, IsShared, HasArray, LiftPresent, ExprPresent, PlacePresent}
+use Rattle.isp_lower.specs.Sound.{AreSound, PartSound, IsRegister, HasArray, LiftPresent, ExprPresent, PlacePresent}
 use Rattle.isp_lower.proofs.SoundLines.{IsArray, array_is, unary_sound, compare_sound, operate_sound, read_sound, constant_sound, index_sound as lane_sound}
 use Rattle.isp_lower.proofs.SoundFound.{part_there, found_there, operand_there, index_there}
 use Rattle.isp_lower.proofs.SoundParts.{few_front, few_back, Here, AnyMask, here_both, here_then, pair_sound, logic_sound, lift_to_sound, operand_sound, convert_to_sound, index_sound, choose_sound, short_sound}

@@ -1,28 +1,20 @@
 -- Values are found in registers that are there and of their types.
-use Rattle.std.proofs.Common.{◌≡◌, ℕ, ◌+◌, ◌<◌, ◌≤◌, List, [], ◌∷◌, ◌++◌, length, Option, Some, None, Bool, true, false, refl, sym, ap, ◌∙◌, subst, arith, length-append}
+use Rattle.std.proofs.Common.{◌≡◌, ℕ, Bool, true, false, refl, sym, ◌∙◌, subst}
 use Rattle.std.specs.Prelude.{◌&&◌}
 use Rattle.isp_base.specs.declared.types.Elem.{Elem}
-use Rattle.isp_base.specs.declared.types.Elem.TheVariants.{Bool as Truth, I64}
+use Rattle.isp_base.specs.declared.types.Elem.TheVariants.{I64}
 use Rattle.isp_base.specs.declared.types.Rate.{Rate}
 use Rattle.isp_base.specs.declared.types.Rate.TheVariants.{Uniform, Varying}
-use Rattle.isp_base.specs.declared.types.Value.{Value}
-use Rattle.isp_code.specs.Listing.{Listing, Routine}
-use Rattle.isp_code.specs.declared.instr.Instr.{Instr}
-use Rattle.isp_code.specs.declared.instr.Instr.TheVariants as instr
-use Rattle.isp_code.specs.declared.instr.JumpTest.TheVariants as jump
-use Rattle.isp_meaning.specs.Payloads.{converted}
+use Rattle.isp_code.specs.Listing.{Routine}
 use Rattle.isp_typed.specs.Typed.{TExpr, t_constant, t_program_index, t_place, t_convert, t_cast, t_unary, t_binary, t_compare, t_logic, t_choose, t_call, t_library, t_packed_store, t_packed_load, TPlace, t_variable, t_element, place_type, type_of}
-use Rattle.isp_typed.specs.declared.variable.Logic.{Logic}
 use Rattle.isp_lower.specs.Layout.{Layout}
 use Rattle.isp_lower.specs.Rows.{Spare}
-use Rattle.isp_lower.specs.Code.{constant, convert, copy, splat, select, jump_on, jump_off, decided, two, guard, choice, move_code, same_rate, is_whole, constant_of, needing, pair_code, logic_code, choose_rest, where_so, the_others, lifted, lift_code, part_to, lift_to, convert_to, place_found, found, operand, operand_of, whole, whole_of, index, index_of, choose_code, stays, stays_at, is_short, choose_to}
+use Rattle.isp_lower.specs.Code.{same_rate, is_whole, lifted, part_to, place_found, found, operand, whole, index, stays, stays_at}
 use Rattle.isp_lower.specs.Fits.{Reaches}
-use Rattle.isp_lower.specs.Presence.{TestHas, SidesHave, first_slot, second_slot}
-use Rattle.isp_lower.specs.Trees.{OperandTree, ExprTree, PlaceTree}
-use Rattle.isp_lower.specs.Sound.{IsSound, AreSound, IsRegister, HasMask, HasRegister, LiftPresent, ExprPresent, PlacePresent}
-use Rattle.isp_lower.proofs.Found.{constant_is_one, whole_is}
+use Rattle.isp_lower.specs.Trees.{OperandTree, ExprTree}
+use Rattle.isp_lower.specs.Sound.{IsRegister, HasRegister, LiftPresent, ExprPresent}
+use Rattle.isp_lower.proofs.Found.{whole_is}
 use Rattle.isp_lower.proofs.Short.{same_rate-is}
-use Rattle.isp_lower.proofs.SoundLines.{convert_sound, copy_sound, constant_sound, splat_sound, select_sound, where_sound, others_sound, off_sound, decided_sound, jump_sound, sound_both, move_sound, needing_sound}
 
 pub both_first : (a b : Bool) → (a && b) ≡ true → a ≡ true
 both_first true b e = refl

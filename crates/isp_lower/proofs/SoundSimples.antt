@@ -1,5 +1,5 @@
 -- Each instruction of the code of what stands before a semicolon has its operands, and so has that of declarations.
-use Rattle.std.proofs.Common.{◌≡◌, ℕ, ◌+◌, ◌<◌, ◌≤◌, List, [], ◌∷◌, ◌++◌, length, Bool, true, false, refl, sym, ap, ◌∙◌, subst, arith, length-append}
+use Rattle.std.proofs.Common.{◌≡◌, ℕ, ◌+◌, ◌<◌, List, [], ◌∷◌, ◌++◌, length, Bool, true, false, refl, ◌∙◌, arith}
 use Rattle.isp_base.specs.Ranks.{same_elem}
 use Rattle.isp_base.specs.declared.operators.BinOp.{BinOp}
 use Rattle.isp_base.specs.declared.types.Elem.{Elem}
@@ -7,15 +7,13 @@ use Rattle.isp_base.specs.declared.types.Rate.{Rate}
 use Rattle.isp_base.specs.declared.types.Rate.TheVariants.{Uniform, Varying}
 use Rattle.isp_base.specs.declared.types.Span.{Span}
 use Rattle.isp_code.specs.Listing.{Listing, Routine}
-use Rattle.isp_code.specs.declared.instr.Instr.{Instr}
 use Rattle.isp_typed.specs.Typed.{TExpr, TPlace, t_variable, t_element, TItem, t_plain, t_with_value, t_with_size, TSimple, t_value, t_run, t_assign, t_update, t_step, place_type, type_of}
 use Rattle.isp_lower.specs.Layout.{Layout}
-use Rattle.isp_lower.specs.Code.{copy, convert, operate, operate_places, read, write, constant, splat, two, part_to, lift_to, lift_code, found, operand, operand_of, index, writes_part, writes_last, expr_places, index_places, read_places, expr_to, expr_code, index_code, variable_from, variable_code}
-use Rattle.isp_lower.specs.Fits.{Reaches}
+use Rattle.isp_lower.specs.Code.{copy, operate_places, write, part_to, lift_to, found, operand, operand_of, index, writes_part, writes_last, expr_places, index_places, expr_to, expr_code, index_code, variable_from, variable_code}
 use Rattle.isp_lower.specs.Items.{zero_code, item_code, item_places, items_code, items_places}
 use Rattle.isp_lower.specs.Presence.{beyond, WorkHas, ZeroHas}
 use Rattle.isp_lower.specs.Simple.{IsNumber, update_to, change_code, change_places, one_in, one_code, assign_code, assign_places, change_by_code, step_code, simple_code, simple_places}
-use Rattle.isp_lower.specs.Sound.{IsSound, AreSound, PartSound, IsRegister, HasRegister, LiftPresent, ExprPresent, PlacePresent, ChangePresent, SimplePresent, ItemPresent, ItemsPresent}
+use Rattle.isp_lower.specs.Sound.{AreSound, PartSound, IsRegister, HasRegister, LiftPresent, ExprPresent, PlacePresent, ChangePresent, SimplePresent, ItemPresent, ItemsPresent}
 use Rattle.isp_lower.specs.Trees.{OperandTree, ExprTree, PlaceTree, SimpleTree, ItemTree, ItemsTree}
 use Rattle.isp_lower.proofs.Splits.{same_elem-is}
 use Rattle.isp_lower.proofs.SoundExprs.{Named, array_there, expr_sound, place_sound, part_sound, value_sound}

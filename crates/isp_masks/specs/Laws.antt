@@ -17,7 +17,8 @@ use Rattle.isp_masks.specs.Agreement.{AreShort, RunsAgree, Agrees}
 use Rattle.isp_masks.specs.Compiled.{entry_setting, IsCompiled, IsProgramCode, PassedUniform, PassedFirst, parameter_rows}
 use Rattle.isp_lower.specs.Rows.{Row, Rows, layout_of}
 use Rattle.isp_masks.specs.Statements.{stays, stmt_code, stmt_places, block_places, returned, function_code}
-use Rattle.isp_masks.specs.Sound.{AreSound, BlockSound}
+use Rattle.isp_lower.specs.Sound.{AreSound}
+use Rattle.isp_masks.specs.Sound.{BlockPresent}
 use Rattle.isp_masks.specs.Fits.{StmtFits, BlockFits}
 use Rattle.isp_masks.specs.Parts.{BlockTree, BlockTable, IsPlainBlock}
 use Rattle.isp_lower.specs.Fits.{ArrayFits}
@@ -43,10 +44,11 @@ EntryRuns =
 abbrev pub ProgramRuns : Type 0
 ProgramRuns = (program : Program) (code : Listing) → IsProgramCode program code → Agrees program code
 
--- Each instruction of a function's code has its operands, if its parts have and its result is one of the function.
+-- Each instruction of a function's code has its operands, where the registers that its body asks for are there, and its
+-- result is one of the function.
 abbrev pub FunctionSound : Type 0
 FunctionSound =
-    (code : Listing) (h : Routine) (l : Layout) (answer : Option Ty) (b : TBlock) (p : ℕ) → h.code ≡ function_code l answer b p → BlockSound code h l answer b 3 → 3 ≤ h.masks → p + length (block_places l b) ≤ length code.places → IsGiven h h.returns (returned l answer) → AreSound code h h.code
+    (code : Listing) (h : Routine) (l : Layout) (answer : Option Ty) (b : TBlock) (p : ℕ) → h.code ≡ function_code l answer b p → BlockTree answer b → BlockPresent h l answer b 3 → 3 ≤ h.masks → p + length (block_places l b) ≤ length code.places → IsGiven h h.returns (returned l answer) → AreSound code h h.code
 
 -- What is demanded of a body is what is asked of its tree, and what is asked of the table of registers; and the tree of a
 -- body of an accepted program is as asked, but for what that leaves open.

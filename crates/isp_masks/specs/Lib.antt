@@ -1,5 +1,6 @@
 pub mod Statements
 pub mod Fits
+pub mod Presence
 pub mod Parts
 pub mod StmtRuns
 pub mod Agreement

@@ -23,8 +23,9 @@ pub fn programs_run()
     ensures { ProgramRuns }
 {}
 
-/// Each instruction of a function's code has registers that are there and of their kinds, and its
-/// jumps go to instructions of the function, if this holds of its expressions and assignments.
+/// Each instruction of a function's code has registers that are there and of their kinds, names a
+/// place that is there, and jumps to an instruction of the function, if the registers that its body
+/// asks for are there.
 pub fn functions_sound()
     ensures { FunctionSound }
 {}
