@@ -123,9 +123,9 @@ module _ (code : Listing) (h : Routine) where
           let e2 = length-append pe (px ++ stmt_places l y) in
           let e3 = length-append px (stmt_places l y) in
           sound_both code h ce rest (value_sound code h l e n is.0 f.0 pc p k lk (omega (arith, e2, pl)) (omega (arith, e1, lt))) (if_else_sound l e k n part other lk (test_there e n is.0 is.3 f.0 f.3) (λ pc2 m lm lt2. stmt_sound x pc2 (p + length pe) m co rr (first_slot (type_of e).rate n) is.1 f.1 lm lc lr (omega (arith, e2, e3, pl)) lt2) (λ pc2 m lm lt2. stmt_sound y pc2 (p + length pe + length px) m co rr (first_slot (type_of e).rate n) is.2 f.2 lm lc lr (omega (arith, e2, e3, pl)) lt2) (pc + length ce) (omega (arith, e1, lt)))
-      stmt_sound (t_while f g e x sp) pc p k co rr n is f lk lc lr pl lt = absurd is
-      stmt_sound (t_do f g x e sp) pc p k co rr n is f lk lc lr pl lt = absurd is
-      stmt_sound (t_for f g first e step i x sp) pc p k co rr n is f lk lc lr pl lt = absurd is
+      stmt_sound (t_while b g e x sp) pc p k co rr n is f lk lc lr pl lt = absurd is
+      stmt_sound (t_do b g x e sp) pc p k co rr n is f lk lc lr pl lt = absurd is
+      stmt_sound (t_for b g first e step i x sp) pc p k co rr n is f lk lc lr pl lt = absurd is
       stmt_sound (t_foreach w g rs x sp) pc p k co rr n is f lk lc lr pl lt = absurd is
       stmt_sound (t_foreach_active w g i x sp) pc p k co rr n is f lk lc lr pl lt = absurd is
       stmt_sound (t_unmasked w b sp) pc p k co rr n is f lk lc lr pl lt = absurd is
