@@ -1,4 +1,4 @@
--- What is fine has no fault.
+-- What is fine has no fault, and what has no fault is fine.
 use Rattle.std.proofs.Common.{◌≡◌, ◌≢◌, sym, ◌∙◌, ap, ap₂, refl, subst, ℕ, zero, suc, ◌+◌, ◌<◌, List, [], ◌∷◌, length, map, take, Option, Some, None, Bool, true, false, not, ◌&&◌, eq-eqb, lt-ltb, arith}
 use Rattle.std.specs.Prelude.{nat_lt, slice_get}
 use Rattle.isp_base.specs.Ranks.{rank, same_elem}
@@ -29,6 +29,9 @@ use Rattle.isp_verify.specs.Accepted.{IsFine}
 use Rattle.isp_verify.specs.Faults.{or_later, unless, there, register_fault, is_wanted, is_a, back_fault, result_fits, is_wanted_array, is_passed, argument_fits, arguments_fit, call_fits, operand_fault, operands_fault, instr_fault, at_instruction, instrs_fault, last, last_fault, stays, header_fits, header_fault, function_fault, functions_fault, code_fault}
 use Rattle.isp_verify.specs.declared.fault.Fault.{Fault}
 use Rattle.isp_verify.specs.declared.fault.Rule.{Rule}
+use Rattle.isp_verify.proofs.FineLaws.{instr_fine}
+use Rattle.isp_verify.proofs.ProgressLaws.{none_at, instrs_fine, function_at}
+use Rattle.isp_verify.proofs.Tests.{none_first, none_later, unless_none}
 use Rattle.isp_verify.specs.declared.fault.Rule.TheVariants.{BadRegister, BadKind, BadJump, BadCall, BadEntry, FallsOff}
 
 -- ---- tests that pass
@@ -193,3 +196,27 @@ functions_pass code k (h ∷ hs) each =
 pub fine_accepted : (code : Listing) → IsFine code → code_fault code ≡ None
 fine_accepted code is =
     functions_pass code 0 code.routines (λ j h at. let e : j ≡ 0 + j = omega arith in subst (λ q. function_fault code q h ≡ None) e (function_passes code j h (is.headers j h at) (is.lines j h at) (is.ends j h at)))
+
+-- ---- the other way round
+
+module _ (code : Listing) (none : code_fault code ≡ None) where
+  at : (f : ℕ) (h : Routine) → slice_get code.routines f ≡ Some h → function_fault code f h ≡ None
+  at f h found = let e : 0 + f ≡ f = omega arith in subst (λ q. function_fault code q h ≡ None) e (function_at code 0 code.routines f h none found)
+
+  header_at : (f : ℕ) (h : Routine) → slice_get code.routines f ≡ Some h → header_fits (take f code.routines) h ≡ true
+  header_at f h found =
+      unless_none (header_fits (take f code.routines) h) BadEntry (none_at f 0 (header_fault (take f code.routines) h) (none_first (at_instruction f 0 (header_fault (take f code.routines) h)) _ (at f h found)))
+
+  rest_at : (f : ℕ) (h : Routine) → slice_get code.routines f ≡ Some h → or_later (instrs_fault code f h 0 h.code) (at_instruction f (last h) (last_fault h)) ≡ None
+  rest_at f h found = none_later (at_instruction f 0 (header_fault (take f code.routines) h)) _ (at f h found)
+
+  line_at : (f : ℕ) (h : Routine) → slice_get code.routines f ≡ Some h → (pc : ℕ) (i : Instr) → slice_get h.code pc ≡ Some i → AllFine code h (operands i) × CallsFine code h i
+  line_at f h found pc i there =
+      instr_fine code h i (instrs_fine code f h 0 h.code pc i (none_first (instrs_fault code f h 0 h.code) _ (rest_at f h found)) there)
+
+  end_at : (f : ℕ) (h : Routine) → slice_get code.routines f ≡ Some h → stays (slice_get h.code (last h)) ≡ true
+  end_at f h found =
+      unless_none (stays (slice_get h.code (last h))) FallsOff (none_at f (last h) (last_fault h) (none_later (instrs_fault code f h 0 h.code) _ (rest_at f h found)))
+
+pub accepted_fine : (code : Listing) → code_fault code ≡ None → IsFine code
+accepted_fine code none = record { headers = header_at code none; lines = line_at code none; ends = end_at code none }

@@ -16,3 +16,7 @@ pub record IsFine (code : Listing) : Type 0 where
 -- Such code has no fault.
 abbrev pub FineIsAccepted : Type 0
 FineIsAccepted = (code : Listing) → IsFine code → code_fault code ≡ None
+
+-- And code without a fault is such code.
+abbrev pub AcceptedIsFine : Type 0
+AcceptedIsFine = (code : Listing) → code_fault code ≡ None → IsFine code

@@ -13,6 +13,6 @@ mod signatures;
 mod verified;
 
 pub use fault::{Fault, Rule, VerifyFault};
-pub use laws::fine_code_is_accepted;
+pub use laws::{accepted_code_is_fine, fine_code_is_accepted};
 pub use registers::Registers;
 pub use verified::{Verified, verify};
