@@ -12,4 +12,5 @@ mod Arrays
 mod Agree
 mod Programs
 mod Sound
+mod Accepted
 mod Counts

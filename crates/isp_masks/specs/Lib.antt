@@ -7,4 +7,5 @@ pub mod Agreement
 pub mod Compiled
 pub mod Arrays
 pub mod Sound
+pub mod Accepted
 pub mod Laws

@@ -1,4 +1,5 @@
 //! What holds of all code. No code is run here: each function carries a law in its contract.
+ghost use Rattle.isp_masks.specs.Accepted.{CodeAccepted};
 ghost use Rattle.isp_masks.specs.Laws.{BodiesFit, EntryArraysFit, EntryRuns, FunctionSound, ParametersFirst, ProgramRuns, StatementRuns};
 
 /// The code of a statement does it for the instances of a mask that has members: afterwards the mask
@@ -28,6 +29,12 @@ pub fn programs_run()
 /// asks for are there.
 pub fn functions_sound()
     ensures { FunctionSound }
+{}
+
+/// The verifier accepts code of which each header fits, and each routine is the code of a body whose
+/// registers are there.
+pub fn bodies_accepted()
+    ensures { CodeAccepted }
 {}
 
 /// What the laws ask of a body and its registers falls in two: what is asked of the tree alone, and

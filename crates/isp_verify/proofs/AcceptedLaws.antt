@@ -1,5 +1,5 @@
 -- What is fine has no fault, and what has no fault is fine.
-use Rattle.std.proofs.Common.{◌≡◌, ◌≢◌, sym, ◌∙◌, ap, ap₂, refl, subst, ℕ, zero, suc, ◌+◌, ◌<◌, List, [], ◌∷◌, length, map, take, Option, Some, None, Bool, true, false, not, ◌&&◌, eq-eqb, lt-ltb, arith}
+use Rattle.std.proofs.Common.{◌≡◌, ◌≢◌, sym, ◌∙◌, ap, ap₂, refl, subst, ℕ, suc, ◌+◌, ◌<◌, List, [], ◌∷◌, length, take, Option, Some, None, Bool, true, not, ◌&&◌, eq-eqb, lt-ltb, arith}
 use Rattle.std.specs.Prelude.{nat_lt, slice_get}
 use Rattle.isp_base.specs.Ranks.{rank, same_elem}
 use Rattle.isp_base.specs.declared.types.Elem.{Elem}
@@ -7,7 +7,7 @@ use Rattle.isp_base.specs.declared.types.Elem.TheVariants.{Bool as Truth, I8, U8
 use Rattle.isp_code.specs.Fine.{has_value, IsThere, IsWanted, IsWantedArray, IsGiven, OperandFine, AllFine, IsPassed, ArePassed, CallFine, CallsFine}
 use Rattle.isp_code.specs.Listing.{Listing, Routine}
 use Rattle.isp_code.specs.Operands.{operands, call_operands}
-use Rattle.isp_code.specs.Registers.{table_of, count_of, elem_of, is_per_lane, same_class, class_of}
+use Rattle.isp_code.specs.Registers.{table_of, count_of, elem_of, same_class, class_of}
 use Rattle.isp_code.specs.declared.function.Param.{Param}
 use Rattle.isp_code.specs.declared.function.ParamKind.{ParamKind}
 use Rattle.isp_code.specs.declared.function.ParamKind.TheVariants as kind
@@ -27,7 +27,6 @@ use Rattle.isp_code.specs.declared.register.Class.TheVariants as class
 use Rattle.isp_code.specs.declared.register.Register.{Register}
 use Rattle.isp_verify.specs.Accepted.{IsFine}
 use Rattle.isp_verify.specs.Faults.{or_later, unless, there, register_fault, is_wanted, is_a, back_fault, result_fits, is_wanted_array, is_passed, argument_fits, arguments_fit, call_fits, operand_fault, operands_fault, instr_fault, at_instruction, instrs_fault, last, last_fault, stays, header_fits, header_fault, function_fault, functions_fault, code_fault}
-use Rattle.isp_verify.specs.declared.fault.Fault.{Fault}
 use Rattle.isp_verify.specs.declared.fault.Rule.{Rule}
 use Rattle.isp_verify.proofs.FineLaws.{instr_fine}
 use Rattle.isp_verify.proofs.ProgressLaws.{none_at, instrs_fine, function_at}
