@@ -22,6 +22,7 @@ pub mod Updates
 pub mod Items
 pub mod Fitting
 pub mod Rows
+pub mod Presences
 pub mod Numbers
 pub mod SoundLines
 pub mod SoundFound
