@@ -9,6 +9,8 @@ mod Endings
 mod Begins
 mod Firsts
 mod Arrays
+mod Presences
+mod ArraysThere
 mod Agree
 mod Programs
 mod Sound

@@ -22,8 +22,11 @@ use Rattle.isp_masks.specs.Sound.{BlockPresent}
 use Rattle.isp_masks.specs.Fits.{StmtFits, BlockFits}
 use Rattle.isp_masks.specs.Parts.{BlockTree, BlockTable, IsPlainBlock}
 use Rattle.isp_lower.specs.Fits.{ArrayFits}
-use Rattle.isp_masks.specs.Arrays.{ArraysStand}
-use Rattle.isp_typed.specs.Fine.{HoldsArray, FineBlock}
+use Rattle.isp_code.specs.Entries.{parameters_of}
+use Rattle.isp_lower.specs.Sound.{HasRegister, HasMask}
+use Rattle.isp_masks.specs.Presence.{BlockHas}
+use Rattle.isp_masks.specs.Arrays.{ArraysStand, HoldsLocal}
+use Rattle.isp_typed.specs.Fine.{HoldsArray, AreParams, params_of, FineBlock}
 use Rattle.isp_typed.specs.declared.variable.ArrayVariable.{ArrayVariable}
 use Rattle.isp_typed.specs.declared.variable.Variable.{Variable}
 use Rattle.isp_masks.specs.StmtRuns.{AreThree, aside, StmtRuns}
@@ -65,3 +68,13 @@ ParametersFirst =
 abbrev pub EntryArraysFit : Type 0
 EntryArraysFit =
     (program : Program) (code : Listing) (f : ℕ) (h : TFunction) (g : Routine) (l : Layout) (turns : ℕ) (xs : List Argument) → ArraysStand h g l → has_signature h.parameters xs ≡ true → AreShort xs → (b : ArrayVariable) → HoldsArray h.variables b → ArrayFits (entry_setting program code f h g l turns xs) b
+
+-- Where the registers that a body asks for are there, and its arrays are variables of the function, they are there for the
+-- verifier, and the table is as the laws ask, whatever the arguments are.
+pub record BodiesPresent (h : TFunction) (g : Routine) (l : Layout) (b : TBlock) (n : ℕ) : Type 0 where
+  pub present : BlockPresent g l h.answer b n
+  pub table : (program : Program) (code : Listing) (f turns : ℕ) (xs : List Argument) → has_signature h.parameters xs ≡ true → AreShort xs → BlockTable (entry_setting program code f h g l turns xs) b n
+
+abbrev pub BodiesArePresent : Type 0
+BodiesArePresent =
+    (h : TFunction) (g : Routine) (l : Layout) → ArraysStand h g l → parameters_of g ≡ h.parameters → AreParams h.parameters (params_of h) → (b : TBlock) (n : ℕ) → BlockHas (HasRegister g l) (HoldsArray h.variables) (HoldsLocal h.variables) (HasMask g) h.answer b n → BodiesPresent h g l b n
