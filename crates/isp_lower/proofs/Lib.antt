@@ -23,6 +23,7 @@ pub mod Items
 pub mod Fitting
 pub mod Rows
 pub mod Presences
+pub mod Held
 pub mod Numbers
 pub mod SoundLines
 pub mod SoundFound

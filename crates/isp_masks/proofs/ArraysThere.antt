@@ -21,7 +21,7 @@ use Rattle.isp_code.specs.declared.function.Param.{Param}
 use Rattle.isp_code.specs.declared.function.ParamKind.{ParamKind}
 use Rattle.isp_code.specs.declared.function.ParamKind.TheVariants as kind
 use Rattle.isp_code.specs.declared.register.Class.TheVariants as class
-use Rattle.isp_typed.specs.Fine.{array_type, HoldsArray, IsParam, AreParams, params_of}
+use Rattle.isp_typed.specs.Fine.{array_type, HoldsArray, IsParam, AreParams, params_of, FineFunction}
 use Rattle.isp_typed.specs.Typed.{ty_of, TBlock, Program, TFunction}
 use Rattle.isp_typed.specs.declared.variable.ArrayVariable.{ArrayVariable}
 use Rattle.isp_typed.specs.declared.variable.Holds.{Holds}
@@ -30,7 +30,7 @@ use Rattle.isp_typed.specs.declared.variable.Variable.{Variable}
 use Rattle.isp_lower.specs.Layout.{Layout, array_register}
 use Rattle.isp_lower.specs.Rows.{Name}
 use Rattle.isp_lower.specs.Sound.{IsShared, HasMask, HasRegister, HasArray, HasLocal}
-use Rattle.isp_lower.specs.Tables.{AnyMask}
+use Rattle.isp_lower.specs.Tables.{AnyMask, AnyArray}
 use Rattle.isp_lower.specs.Fits.{IsNamed, ArrayFits}
 use Rattle.isp_masks.specs.Agreement.{AreShort}
 use Rattle.isp_masks.specs.Arrays.{array_then, array_count, sharing_of, local_of, local_count, ArraysStand, HoldsLocal}
@@ -40,6 +40,8 @@ use Rattle.isp_masks.specs.Presence.{BlockHas}
 use Rattle.isp_masks.specs.Sound.{BlockPresent}
 use Rattle.isp_masks.proofs.Arrays.{local_at, arrays_fit}
 use Rattle.isp_masks.proofs.Begins.{some_same}
+use Rattle.isp_masks.specs.Laws.{BodyPresent}
+use Rattle.isp_masks.proofs.Held.{block_held}
 use Rattle.isp_masks.proofs.Presences.{block_grows}
 
 -- ---- lists
@@ -179,11 +181,21 @@ module _ (h : TFunction) (g : Routine) (l : Layout) (stand : ArraysStand h g l) 
   locals_held : (b : ArrayVariable) → HoldsLocal h.variables b → HoldsArray h.variables b
   locals_held b has = record { variable = record { holds = holds.Local b.ty has.0; constant = b.constant }; is = has.1; ty = refl; constant = refl }
 
-  pub body_present : (b : TBlock) (n : ℕ) → BlockHas (HasRegister g l) (HoldsArray h.variables) (HoldsLocal h.variables) (HasMask g) h.answer b n → BlockPresent g l h.answer b n
-  body_present b n f = block_grows (HasRegister g l) (HasRegister g l) (λ r x t z. z) (HoldsArray h.variables) (HasArray g l) (HoldsLocal h.variables) (HasLocal g l) (HasMask g) (HasMask g) arrays_there locals_there (λ m z. z) h.answer b n f
+  -- what is there of arrays that are variables
+  abbrev Held : ℕ → Type 0
+  Held n = BlockHas (HasRegister g l) (HoldsArray h.variables) (HoldsLocal h.variables) (HasMask g) h.answer h.body n
 
-  pub body_table : (b : TBlock) (n : ℕ) → BlockHas (HasRegister g l) (HoldsArray h.variables) (HoldsLocal h.variables) (HasMask g) h.answer b n → (program : Program) (code : Listing) (f turns : ℕ) (xs : List Argument) → has_signature h.parameters xs ≡ true → AreShort xs → BlockTable (entry_setting program code f h g l turns xs) b n
-  body_table b n f program code q turns xs sig few =
+  present_of : (n : ℕ) → Held n → BlockPresent g l h.answer h.body n
+  present_of n f =
+      block_grows (HasRegister g l) (HasRegister g l) (λ r x t z. z) (HoldsArray h.variables) (HasArray g l) (HoldsLocal h.variables) (HasLocal g l) (HasMask g) (HasMask g) arrays_there locals_there (λ m z. z) h.answer h.body n f
+
+  table_of : (n : ℕ) → Held n → (program : Program) (code : Listing) (f turns : ℕ) (xs : List Argument) → has_signature h.parameters xs ≡ true → AreShort xs → BlockTable (entry_setting program code f h g l turns xs) h.body n
+  table_of n f program code q turns xs sig few =
       let w = entry_setting program code q h g l turns xs in
       let fit = arrays_fit program code q h g l turns xs stand sig few in
-      block_grows (HasRegister g l) (IsNamed w) (λ r x t z. z.1) (HoldsArray h.variables) (ArrayFits w) (HoldsLocal h.variables) (ArrayFits w) (HasMask g) AnyMask fit (λ c z. fit c (locals_held c z)) (λ m z. tt) h.answer b n f
+      block_grows (HasRegister g l) (IsNamed w) (λ r x t z. z.1) (HoldsArray h.variables) (ArrayFits w) (HoldsLocal h.variables) (ArrayFits w) (HasMask g) AnyMask fit (λ c z. fit c (locals_held c z)) (λ m z. tt) h.answer h.body n f
+
+pub body_present : (fs : List TFunction) (h : TFunction) (g : Routine) (l : Layout) → FineFunction fs h → ArraysStand h g l → parameters_of g ≡ h.parameters → (n : ℕ) → BlockHas (HasRegister g l) AnyArray AnyArray (HasMask g) h.answer h.body n → BodyPresent h g l n
+body_present fs h g l fine stand made n f =
+    let held = block_held fs h.variables (HasRegister g l) AnyArray (HoldsArray h.variables) AnyArray (HoldsLocal h.variables) (HasMask g) (λ b z. z) (λ b sp z. (z.0, z.1)) h.answer h.body n fine.body f in
+    record { present = present_of h g l stand made fine.params n held; table = table_of h g l stand made fine.params n held }

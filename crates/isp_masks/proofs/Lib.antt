@@ -10,6 +10,7 @@ mod Begins
 mod Firsts
 mod Arrays
 mod Presences
+mod Held
 mod ArraysThere
 mod Agree
 mod Programs

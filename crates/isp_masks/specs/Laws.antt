@@ -24,9 +24,10 @@ use Rattle.isp_masks.specs.Parts.{BlockTree, BlockTable, IsPlainBlock}
 use Rattle.isp_lower.specs.Fits.{ArrayFits}
 use Rattle.isp_code.specs.Entries.{parameters_of}
 use Rattle.isp_lower.specs.Sound.{HasRegister, HasMask}
+use Rattle.isp_lower.specs.Tables.{AnyArray}
 use Rattle.isp_masks.specs.Presence.{BlockHas}
-use Rattle.isp_masks.specs.Arrays.{ArraysStand, HoldsLocal}
-use Rattle.isp_typed.specs.Fine.{HoldsArray, AreParams, params_of, FineBlock}
+use Rattle.isp_masks.specs.Arrays.{ArraysStand}
+use Rattle.isp_typed.specs.Fine.{HoldsArray, FineBlock, FineFunction}
 use Rattle.isp_typed.specs.declared.variable.ArrayVariable.{ArrayVariable}
 use Rattle.isp_typed.specs.declared.variable.Variable.{Variable}
 use Rattle.isp_masks.specs.StmtRuns.{AreThree, aside, StmtRuns}
@@ -69,12 +70,12 @@ abbrev pub EntryArraysFit : Type 0
 EntryArraysFit =
     (program : Program) (code : Listing) (f : ℕ) (h : TFunction) (g : Routine) (l : Layout) (turns : ℕ) (xs : List Argument) → ArraysStand h g l → has_signature h.parameters xs ≡ true → AreShort xs → (b : ArrayVariable) → HoldsArray h.variables b → ArrayFits (entry_setting program code f h g l turns xs) b
 
--- Where the registers that a body asks for are there, and its arrays are variables of the function, they are there for the
--- verifier, and the table is as the laws ask, whatever the arguments are.
-pub record BodiesPresent (h : TFunction) (g : Routine) (l : Layout) (b : TBlock) (n : ℕ) : Type 0 where
-  pub present : BlockPresent g l h.answer b n
-  pub table : (program : Program) (code : Listing) (f turns : ℕ) (xs : List Argument) → has_signature h.parameters xs ≡ true → AreShort xs → BlockTable (entry_setting program code f h g l turns xs) b n
+-- What a body of an accepted program asks for is there for the verifier, and the table is as the laws ask, whatever the
+-- arguments are, where its registers and masks are there: its arrays are variables of the function.
+pub record BodyPresent (h : TFunction) (g : Routine) (l : Layout) (n : ℕ) : Type 0 where
+  pub present : BlockPresent g l h.answer h.body n
+  pub table : (program : Program) (code : Listing) (f turns : ℕ) (xs : List Argument) → has_signature h.parameters xs ≡ true → AreShort xs → BlockTable (entry_setting program code f h g l turns xs) h.body n
 
-abbrev pub BodiesArePresent : Type 0
-BodiesArePresent =
-    (h : TFunction) (g : Routine) (l : Layout) → ArraysStand h g l → parameters_of g ≡ h.parameters → AreParams h.parameters (params_of h) → (b : TBlock) (n : ℕ) → BlockHas (HasRegister g l) (HoldsArray h.variables) (HoldsLocal h.variables) (HasMask g) h.answer b n → BodiesPresent h g l b n
+abbrev pub BodiesPresent : Type 0
+BodiesPresent =
+    (fs : List TFunction) (h : TFunction) (g : Routine) (l : Layout) → FineFunction fs h → ArraysStand h g l → parameters_of g ≡ h.parameters → (n : ℕ) → BlockHas (HasRegister g l) AnyArray AnyArray (HasMask g) h.answer h.body n → BodyPresent h g l n

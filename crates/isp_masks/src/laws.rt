@@ -1,6 +1,6 @@
 //! What holds of all code. No code is run here: each function carries a law in its contract.
 ghost use Rattle.isp_masks.specs.Accepted.{CodeAccepted};
-ghost use Rattle.isp_masks.specs.Laws.{BodiesArePresent, BodiesFit, EntryArraysFit, EntryRuns, FunctionSound, ParametersFirst, ProgramRuns, StatementRuns};
+ghost use Rattle.isp_masks.specs.Laws.{BodiesFit, BodiesPresent, EntryArraysFit, EntryRuns, FunctionSound, ParametersFirst, ProgramRuns, StatementRuns};
 
 /// The code of a statement does it for the instances of a mask that has members: afterwards the mask
 /// has those that went on, and two others have grown by those that continued and that returned. It
@@ -44,11 +44,11 @@ pub fn bodies_fit()
     ensures { BodiesFit }
 {}
 
-/// Where the registers that a body asks for are there, its arrays are variables of the function, and
-/// arrays that are passed come first and local ones in their order, what the verifier asks is there, and
-/// what the laws ask of the table of registers is so.
+/// Where the registers and masks that the body of an accepted function asks for are there, arrays that
+/// are passed come first and local ones in their order, all that the verifier asks is there, and what
+/// the laws ask of the table of registers is so.
 pub fn bodies_present()
-    ensures { BodiesArePresent }
+    ensures { BodiesPresent }
 {}
 
 /// A layout from rows in which the parameters that are values come first passes them where a run
