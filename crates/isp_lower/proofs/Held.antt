@@ -1,5 +1,5 @@
 -- The arrays that code asks for are variables of the function, where names and types accept its trees.
-use Rattle.std.proofs.Common.{ℕ, ◌+◌, List, [], ◌∷◌}
+use Rattle.std.proofs.Common.{ℕ, ◌+◌, List}
 use Rattle.isp_base.specs.declared.types.Elem.{Elem}
 use Rattle.isp_base.specs.declared.types.Rate.{Rate}
 use Rattle.isp_base.specs.declared.types.Span.{Span}

@@ -1,6 +1,6 @@
 -- The registers of a function's arrays are there, with the types of its variables; and what a body asks for is then there
 -- for the verifier, and is what the laws ask of the table.
-use Rattle.std.proofs.Common.{◌≡◌, ℕ, zero, suc, ◌+◌, ◌-◌, ◌<◌, ◌≤◌, List, [], ◌∷◌, ◌++◌, length, map, take, Option, Some, None, Bool, true, false, refl, sym, ap, ◌∙◌, subst, arith}
+use Rattle.std.proofs.Common.{◌≡◌, ℕ, zero, suc, ◌+◌, ◌-◌, List, [], ◌∷◌, ◌++◌, length, map, take, Option, Some, None, true, false, refl, sym, ap, ◌∙◌, subst, arith}
 use Rattle.std.specs.Prelude.{slice_get, ◌&&◌}
 use Rattle.std.proofs.lemmas.Bool.{lt-leb, le-leb}
 use Rattle.std.proofs.lemmas.Option.{get_or_from_slice_get, slice_get_within, slice_get-map}
@@ -11,7 +11,6 @@ use Rattle.isp_base.specs.declared.types.Elem.{Elem}
 use Rattle.isp_base.specs.declared.types.Elem.TheVariants.{Bool as Truth}
 use Rattle.isp_base.specs.declared.types.Rate.{Rate}
 use Rattle.isp_base.specs.declared.types.Rate.TheVariants.{Uniform, Varying}
-use Rattle.isp_base.specs.declared.types.Ty.{Ty}
 use Rattle.isp_code.specs.Entries.{is_array, parameter_of, parameters_of}
 use Rattle.isp_code.specs.Fine.{IsThere}
 use Rattle.isp_code.specs.Listing.{Listing, Routine}
@@ -22,13 +21,12 @@ use Rattle.isp_code.specs.declared.function.ParamKind.{ParamKind}
 use Rattle.isp_code.specs.declared.function.ParamKind.TheVariants as kind
 use Rattle.isp_code.specs.declared.register.Class.TheVariants as class
 use Rattle.isp_typed.specs.Fine.{array_type, HoldsArray, IsParam, AreParams, params_of, FineFunction}
-use Rattle.isp_typed.specs.Typed.{ty_of, TBlock, Program, TFunction}
+use Rattle.isp_typed.specs.Typed.{ty_of, Program, TFunction}
 use Rattle.isp_typed.specs.declared.variable.ArrayVariable.{ArrayVariable}
 use Rattle.isp_typed.specs.declared.variable.Holds.{Holds}
 use Rattle.isp_typed.specs.declared.variable.Holds.TheVariants as holds
 use Rattle.isp_typed.specs.declared.variable.Variable.{Variable}
 use Rattle.isp_lower.specs.Layout.{Layout, array_register}
-use Rattle.isp_lower.specs.Rows.{Name}
 use Rattle.isp_lower.specs.Sound.{IsShared, HasMask, HasRegister, HasArray, HasLocal}
 use Rattle.isp_lower.specs.Tables.{AnyMask, AnyArray}
 use Rattle.isp_lower.specs.Fits.{IsNamed, ArrayFits}
