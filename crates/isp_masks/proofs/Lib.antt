@@ -9,11 +9,11 @@ mod Endings
 mod Begins
 mod Firsts
 mod Arrays
-mod Presences
+pub mod Presences
 mod Held
-mod ArraysThere
+pub mod ArraysThere
 mod Agree
 mod Programs
-mod Sound
-mod Accepted
+pub mod Sound
+pub mod Accepted
 mod Counts
