@@ -27,11 +27,13 @@ pub mod Updates
 pub mod Items
 pub mod Fitting
 pub mod Rows
+pub mod Presences
+pub mod Held
 pub mod Numbers
 pub mod SoundLines
+pub mod SoundFound
 pub mod SoundParts
 pub mod SoundExprs
 pub mod SoundSimples
 pub mod Counts
-pub mod Presences
 pub mod Reserving

@@ -1,7 +1,7 @@
 -- The number that bits of a type stand for is one that the type has.
-use Rattle.std.proofs.Common.{◌≡◌, refl, sym, ap, ap₂, ◌∙◌, ℕ, zero, suc, ◌+◌, ◌-◌, ◌%◌, ◌^◌, ◌<◌, ◌≤◌, ◌⊎◌, inl, inr, ℤ, pos, negsuc, ◌-ℤ◌, arith, mod-lt, pow_pos, le-ltb, subst}
+use Rattle.std.proofs.Common.{◌≡◌, refl, ap, ap₂, ◌∙◌, ℕ, zero, suc, ◌+◌, ◌-◌, ◌%◌, ◌^◌, ◌<◌, ◌≤◌, ◌⊎◌, inl, inr, ℤ, pos, negsuc, ◌-ℤ◌, arith, mod-lt, pow_pos, le-ltb}
 use Rattle.std.proofs.lemmas.Int.{ints}
-use Rattle.std.specs.Prelude.{Bool, true, false, not, ◌&&◌, int_lt, nat_lt}
+use Rattle.std.specs.Prelude.{Bool, true, false, not, ◌&&◌, int_lt}
 use Rattle.isp_base.specs.Values.{width, greatest, number, number_to}
 use Rattle.isp_base.specs.declared.types.Elem.{Elem}
 use Rattle.isp_base.proofs.Elems.{greatest_lt, number_below, number_above}

@@ -4,17 +4,17 @@ use Rattle.std.proofs.lemmas.List.{drop_more, drop_all}
 use Rattle.isp_base.specs.declared.types.Elem.{Elem}
 use Rattle.isp_base.specs.declared.types.Rate.{Rate}
 use Rattle.isp_base.specs.declared.types.Rate.TheVariants.{Uniform, Varying}
-use Rattle.isp_typed.specs.Typed.{TExpr, TPlace, TSimple, TItem}
+use Rattle.isp_typed.specs.Typed.{TExpr, TPlace, TItem}
 use Rattle.isp_typed.specs.Views.{item_of, items_of}
 use Rattle.isp_typed.specs.declared.stmt.TypedItem as rust
 use Rattle.isp_lower.specs.Emitted.{HasRow, Grows, rows_of}
-use Rattle.isp_lower.specs.Presence.{first_slot, second_slot, TestHas, SidesHave}
-use Rattle.isp_lower.specs.Reserved.{Adds, AnyArray, HasMask, HasLift, HasExpr, HasPlace, HasRead, HasChange, HasSimple, HasItem, HasItems, HasWork}
+use Rattle.isp_lower.specs.Presence.{first_slot, second_slot, TestHas}
+use Rattle.isp_lower.specs.Reserved.{Adds, AnyArray, HasMask, HasLift, HasExpr, HasPlace, HasRead, HasChange, HasItem, HasItems, HasWork}
 use Rattle.isp_lower.specs.Rows.{Name, rows_at}
 use Rattle.isp_lower.specs.declared.registers.Registers.{Registers}
 use Rattle.isp_lower.specs.declared.reserve.Reserve.{Reserve}
 use Rattle.isp_lower.proofs.Following.{grows_self, grows_then, stays_in}
-use Rattle.isp_lower.proofs.Presences.{test_more, sides_more, lift_more, read_more, work_more, expr_more, place_more, change_more, simple_more, item_more, items_more}
+use Rattle.isp_lower.proofs.Presences.{test_grows, lift_grows, read_grows, work_grows, expr_grows, place_grows, change_grows, item_grows}
 
 pub adds_self : (a : Reserve) → Adds a a
 adds_self a = record { rows = grows_self a.registers; masks = omega arith }
@@ -32,28 +32,22 @@ module _ (a b : Reserve) (is : Adds a b) where
   mask_stays k h = omega (arith, h, is.masks)
 
   pub test_stays : (r : Rate) (n : ℕ) → TestHas (HasMask a) r n → TestHas (HasMask b) r n
-  test_stays = test_more (HasMask a) (HasMask b) mask_stays
+  test_stays = test_grows (HasMask a) (HasMask b) mask_stays
 
   pub lift_stays : (given wanted : Rate) (t : Elem) (n : ℕ) → HasLift a given wanted t n → HasLift b given wanted t n
-  lift_stays = lift_more (HasRow a.registers) (HasRow b.registers) row_stays
+  lift_stays = lift_grows (HasRow a.registers) (HasRow b.registers) row_stays
 
   pub read_stays : (z : TPlace) (n : ℕ) → HasRead a z n → HasRead b z n
-  read_stays = read_more (HasRow a.registers) (HasRow b.registers) row_stays
+  read_stays = read_grows (HasRow a.registers) (HasRow b.registers) row_stays
 
   pub expr_stays : (x : TExpr) (n : ℕ) → HasExpr a x n → HasExpr b x n
-  expr_stays = expr_more (HasRow a.registers) (HasRow b.registers) row_stays AnyArray AnyArray AnyArray AnyArray (λ z h. h) (λ z h. h) (HasMask a) (HasMask b) mask_stays
+  expr_stays = expr_grows (HasRow a.registers) (HasRow b.registers) row_stays AnyArray AnyArray AnyArray AnyArray (HasMask a) (HasMask b) (λ z h. h) (λ z h. h) mask_stays
 
   pub place_stays : (z : TPlace) (n : ℕ) → HasPlace a z n → HasPlace b z n
-  place_stays = place_more (HasRow a.registers) (HasRow b.registers) row_stays AnyArray AnyArray AnyArray AnyArray (λ z h. h) (λ z h. h) (HasMask a) (HasMask b) mask_stays
+  place_stays = place_grows (HasRow a.registers) (HasRow b.registers) row_stays AnyArray AnyArray AnyArray AnyArray (HasMask a) (HasMask b) (λ z h. h) (λ z h. h) mask_stays
 
   pub change_stays : (t : Elem) (z : TPlace) (n i : ℕ) → HasChange a t z n i → HasChange b t z n i
-  change_stays = change_more (HasRow a.registers) (HasRow b.registers) row_stays AnyArray AnyArray AnyArray AnyArray (λ z h. h) (λ z h. h) (HasMask a) (HasMask b) mask_stays
-
-  pub simple_stays : (x : TSimple) (n : ℕ) → HasSimple a x n → HasSimple b x n
-  simple_stays = simple_more (HasRow a.registers) (HasRow b.registers) row_stays AnyArray AnyArray AnyArray AnyArray (λ z h. h) (λ z h. h) (HasMask a) (HasMask b) mask_stays
-
-  pub items_stay : (n : ℕ) (xs : List TItem) → HasItems a n xs → HasItems b n xs
-  items_stay = items_more (HasRow a.registers) (HasRow b.registers) row_stays AnyArray AnyArray AnyArray AnyArray (λ z h. h) (λ z h. h) (HasMask a) (HasMask b) mask_stays
+  change_stays = change_grows (HasRow a.registers) (HasRow b.registers) row_stays AnyArray AnyArray AnyArray AnyArray (HasMask a) (HasMask b) (λ z h. h) (λ z h. h) mask_stays
 
 -- the second side's slot is the one behind the first's
 pub second_is : (r : Rate) (n : ℕ) → first_slot r (first_slot r n) ≡ second_slot r n
@@ -61,10 +55,10 @@ second_is Uniform n = refl
 second_is Varying n = omega arith
 
 pub work_stays : (a b : Reserve) → Adds a b → (same : Bool) (r : Rate) (t : Elem) (i : ℕ) → HasWork a same r t i → HasWork b same r t i
-work_stays a b is = work_more (HasRow a.registers) (HasRow b.registers) (row_stays a b is)
+work_stays a b is = work_grows (HasRow a.registers) (HasRow b.registers) (row_stays a b is)
 
-pub item_stays : (a b : Reserve) → Adds a b → (n : ℕ) (x : TItem) → HasItem a n x → HasItem b n x
-item_stays a b is = item_more (HasRow a.registers) (HasRow b.registers) (row_stays a b is) AnyArray AnyArray AnyArray AnyArray (λ z h. h) (λ z h. h) (HasMask a) (HasMask b) (mask_stays a b is)
+pub item_stays : (a b : Reserve) → Adds a b → (x : TItem) (n : ℕ) → HasItem a n x → HasItem b n x
+item_stays a b is = item_grows (HasRow a.registers) (HasRow b.registers) (row_stays a b is) AnyArray AnyArray AnyArray AnyArray (HasMask a) (HasMask b) (λ z h. h) (λ z h. h) (mask_stays a b is)
 
 -- an item whose registers are there, and then those of the items behind it
 pub one_item_more : (c : Reserve) (n : ℕ) (all : List rust.TypedItem) (i : ℕ) (x : rust.TypedItem) → i < length all → x ≡ get_or all i x → HasItem c n (item_of x) → HasItems c n (items_of (drop (i + 1) all)) → HasItems c n (items_of (drop i all))

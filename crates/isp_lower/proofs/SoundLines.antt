@@ -1,5 +1,5 @@
 -- Each kind of instruction has its operands, where its registers are there and of their types.
-use Rattle.std.proofs.Common.{◌≡◌, ◌≢◌, ℕ, ◌+◌, ◌<◌, ◌≤◌, List, [], ◌∷◌, ◌++◌, length, Bool, true, false, refl, sym, ap, ◌∙◌, subst, arith, length-append}
+use Rattle.std.proofs.Common.{◌≡◌, ◌≢◌, ℕ, ◌+◌, ◌<◌, ◌≤◌, List, [], ◌∷◌, ◌++◌, length, Bool, true, false, refl, sym, ◌∙◌, subst, arith}
 use Rattle.isp_base.specs.Values.{number}
 use Rattle.isp_base.specs.declared.operators.BinOp.{BinOp}
 use Rattle.isp_base.specs.declared.operators.BinOp.TheVariants as op
@@ -11,15 +11,14 @@ use Rattle.isp_base.specs.declared.types.Elem.TheVariants.{Bool as Truth, I8, U8
 use Rattle.isp_base.specs.declared.types.Rate.{Rate}
 use Rattle.isp_base.specs.declared.types.Rate.TheVariants.{Uniform, Varying}
 use Rattle.isp_base.specs.declared.types.Span.{Span}
-use Rattle.isp_code.specs.Fine.{has_value, IsThere, IsWanted, AllFine, CallsFine}
+use Rattle.isp_code.specs.Fine.{has_value, IsThere, IsWanted}
 use Rattle.isp_code.specs.Listing.{Listing, Routine}
-use Rattle.isp_code.specs.Operands.{operands, unary_want}
+use Rattle.isp_code.specs.Operands.{unary_want}
 use Rattle.isp_code.specs.Registers.{elem_of}
 use Rattle.isp_code.specs.declared.instr.Division.{Division}
 use Rattle.isp_code.specs.declared.instr.Division.TheVariants as division
 use Rattle.isp_code.specs.declared.instr.Instr.{Instr}
 use Rattle.isp_code.specs.declared.instr.Instr.TheVariants as instr
-use Rattle.isp_code.specs.declared.instr.JumpTest.{JumpTest}
 use Rattle.isp_code.specs.declared.instr.Plain.{Plain}
 use Rattle.isp_code.specs.declared.instr.Plain.TheVariants as plain
 use Rattle.isp_code.specs.declared.instr.VectorInstr.TheVariants as vector
@@ -29,6 +28,7 @@ use Rattle.isp_typed.specs.declared.variable.Logic.{Logic}
 use Rattle.isp_typed.specs.declared.variable.Logic.TheVariants.{And, Or}
 use Rattle.isp_lower.specs.Layout.{register, mask_register, array_register}
 use Rattle.isp_lower.specs.Code.{copy, convert, unary, compare, compute, operate, operate_places, read, write, constant, splat, select, where_so, the_others, jump_off, jump_on, decided, needing, move, move_code}
+use Rattle.isp_lower.specs.Fits.{Reaches}
 use Rattle.isp_lower.specs.Simple.{IsNumber}
 use Rattle.isp_lower.specs.Sound.{IsSound, AreSound, IsRegister, IsShared}
 use Rattle.isp_lower.proofs.Numbers.{number_fits}
@@ -101,6 +101,13 @@ module _ (code : Listing) (h : Routine) where
 
   pub IsArray : Rate → ℕ → Elem → Type 0
   IsArray r b t = IsThere h class.Array (array_register b) × (elem_of h (array_register b) ≡ t) × IsShared h r b
+
+  pub array_is : (g r : Rate) (u t : Elem) (b : ℕ) → IsThere h class.Array (array_register b) × (elem_of h (array_register b) ≡ u) × IsShared h g b → Reaches g r → u ≡ t → IsArray r b t
+  unfolding IsArray
+  array_is Uniform Uniform u t b f re e = (f.0, f.1 ∙ e, f.2)
+  array_is Uniform Varying u t b f re e = (f.0, f.1 ∙ e, tt)
+  array_is Varying Uniform u t b f re e = absurd re
+  array_is Varying Varying u t b f re e = (f.0, f.1 ∙ e, tt)
 
   pub read_sound : (r : Rate) (t : Elem) (d b i k p : ℕ) → IsRegister h r d t → IsArray r b t → IsRegister h r i I64 → k < h.masks → p < length code.places → IsSound code h (read r d b i k p)
   unfolding IsArray

@@ -1,5 +1,5 @@
 -- Values are found in registers that are there, and what lifts, converts and chooses them has its operands.
-use Rattle.std.proofs.Common.{◌≡◌, ℕ, ◌+◌, ◌<◌, ◌≤◌, List, [], ◌∷◌, ◌++◌, length, Option, Some, None, Bool, true, false, refl, sym, ap, ◌∙◌, subst, arith, length-append}
+use Rattle.std.proofs.Common.{◌≡◌, ℕ, ◌+◌, ◌<◌, ◌≤◌, List, [], ◌∷◌, ◌++◌, length, Option, Some, None, Bool, true, false, refl, sym, ◌∙◌, subst, arith, length-append}
 use Rattle.std.specs.Prelude.{◌&&◌}
 use Rattle.isp_base.specs.declared.types.Elem.{Elem}
 use Rattle.isp_base.specs.declared.types.Elem.TheVariants.{Bool as Truth, I64}
@@ -11,17 +11,18 @@ use Rattle.isp_code.specs.declared.instr.Instr.{Instr}
 use Rattle.isp_code.specs.declared.instr.Instr.TheVariants as instr
 use Rattle.isp_code.specs.declared.instr.JumpTest.TheVariants as jump
 use Rattle.isp_meaning.specs.Payloads.{converted}
-use Rattle.isp_typed.specs.Typed.{TExpr, t_constant, t_program_index, t_place, t_convert, t_cast, t_unary, t_binary, t_compare, t_logic, t_choose, t_call, t_library, t_packed_store, t_packed_load, TPlace, t_variable, t_element, place_type, type_of}
+use Rattle.isp_typed.specs.Typed.{TExpr, type_of}
 use Rattle.isp_typed.specs.declared.variable.Logic.{Logic}
 use Rattle.isp_lower.specs.Layout.{Layout}
 use Rattle.isp_lower.specs.Rows.{Spare}
-use Rattle.isp_lower.specs.Code.{constant, convert, copy, splat, select, jump_on, jump_off, decided, two, guard, choice, move_code, same_rate, is_whole, constant_of, needing, pair_code, logic_code, choose_rest, where_so, the_others, lifted, lift_code, part_to, lift_to, convert_to, place_found, found, operand, operand_of, whole, whole_of, index, index_of, choose_code, stays, stays_at, is_short, choose_to}
+use Rattle.isp_lower.specs.Code.{convert, copy, select, jump_on, jump_off, decided, guard, choice, move_code, same_rate, is_whole, constant_of, needing, pair_code, logic_code, choose_rest, the_others, lift_code, lift_to, convert_to, found, operand, operand_of, whole, whole_of, index_of, choose_code, stays_at, is_short}
 use Rattle.isp_lower.specs.Fits.{Reaches}
 use Rattle.isp_lower.specs.Presence.{TestHas, SidesHave, first_slot, second_slot}
-use Rattle.isp_lower.specs.Trees.{OperandTree, ExprTree, PlaceTree}
-use Rattle.isp_lower.specs.Sound.{IsSound, AreSound, IsRegister, HasMask, HasRegister, LiftPresent, ExprPresent, PlacePresent}
-use Rattle.isp_lower.proofs.Found.{constant_is_one, whole_is}
+use Rattle.isp_lower.specs.Trees.{OperandTree, ExprTree}
+use Rattle.isp_lower.specs.Sound.{IsSound, AreSound, IsRegister, HasMask, HasRegister, LiftPresent, ExprPresent}
+use Rattle.isp_lower.proofs.Found.{constant_is_one}
 use Rattle.isp_lower.proofs.Short.{same_rate-is}
+use Rattle.isp_lower.proofs.SoundFound.{both_first, both_second, lift_there, found_there, whole_there, stayed_there}
 use Rattle.isp_lower.proofs.SoundLines.{convert_sound, copy_sound, constant_sound, splat_sound, select_sound, where_sound, others_sound, off_sound, decided_sound, jump_sound, sound_both, move_sound, needing_sound}
 
 -- ---- lengths
@@ -37,14 +38,6 @@ few_front m p a b le = omega (arith, length-append a b, le)
 
 pub few_back : {A : Type 0} (m p : ℕ) (a b : List A) → p + length (a ++ b) ≤ m → p + length a + length b ≤ m
 few_back m p a b le = omega (arith, length-append a b, le)
-
-both_first : (a b : Bool) → (a && b) ≡ true → a ≡ true
-both_first true b e = refl
-both_first false b e = absurd (cc)
-
-both_second : (a b : Bool) → (a && b) ≡ true → b ≡ true
-both_second true b e = e
-both_second false b e = absurd (cc)
 
 module _ (code : Listing) (h : Routine) where
   -- code at a place, before the function's last instruction
@@ -104,27 +97,12 @@ module _ (code : Listing) (h : Routine) where
       (where_sound code h n c k masks.0 hc lk, sound_both code h side last (guard_sound (jump_off n) (λ pc1. a pc1 n (n + 1)) (λ to low. off_sound code h n to masks.0 low) (λ pc1. f pc1 n masks.0) (pc + 1) (omega (arith, e1, lt))) (others_sound code h (n + 1) k n masks.1 lk masks.0, here_then (p2 + 1) other (select Varying d c x y k) (guard_sound (jump_off (n + 1)) (λ pc2. b pc2 (n + 1) (n + 2)) (λ to low. off_sound code h (n + 1) to masks.1 low) (λ pc2. g pc2 (n + 1) masks.1) (p2 + 1)) (select_sound code h Varying t d c x y k hd hc hx hy lk) (omega (arith, e1, lt))))
 
   module _ (l : Layout) where
-    -- ---- a value of one rate where another is wanted
-
-    pub lift_there : (given r : Rate) (u t : Elem) (x n : ℕ) → Reaches given r → u ≡ t → LiftPresent h l given r t n → IsRegister h given x u → IsRegister h r (lifted l r given u x n) t
-    lift_there Uniform Uniform u t x n is e f hx = (hx.0, hx.1 ∙ e)
-    lift_there Uniform Varying u t x n is e f hx = subst (λ v. IsRegister h Varying (l.spare Varying v n) t) (sym e) f
-    lift_there Varying Uniform u t x n is e f hx = absurd is
-    lift_there Varying Varying u t x n is e f hx = (hx.0, hx.1 ∙ e)
-
-    lift_sound : (given r : Rate) (u t : Elem) (x k n : ℕ) → Reaches given r → u ≡ t → LiftPresent h l given r t n → IsRegister h given x u → k < h.masks → AreSound code h (lift_code l r given u x k n)
+    pub lift_sound : (given r : Rate) (u t : Elem) (x k n : ℕ) → Reaches given r → u ≡ t → LiftPresent h l given r t n → IsRegister h given x u → k < h.masks → AreSound code h (lift_code l r given u x k n)
     lift_sound Uniform Uniform u t x k n is e f hx lk = tt
     lift_sound Uniform Varying u t x k n is e f hx lk =
-        (splat_sound code h t (l.spare Varying u n) x k (lift_there Uniform Varying u t x n is e f hx) (hx.0, hx.1 ∙ e) lk, tt)
+        (splat_sound code h t (l.spare Varying u n) x k (lift_there h l Uniform Varying u t x n is e f hx) (hx.0, hx.1 ∙ e) lk, tt)
     lift_sound Varying Uniform u t x k n is e f hx lk = absurd is
     lift_sound Varying Varying u t x k n is e f hx lk = tt
-
-    -- the same into register d
-    pub part_there : (given r : Rate) (u t : Elem) (d x : ℕ) → Reaches given r → u ≡ t → IsRegister h r d t → IsRegister h given x u → IsRegister h given (part_to l r given d x) u
-    part_there Uniform Uniform u t d x is e hd hx = (hd.0, hd.1 ∙ sym e)
-    part_there Uniform Varying u t d x is e hd hx = hx
-    part_there Varying Uniform u t d x is e hd hx = absurd is
-    part_there Varying Varying u t d x is e hd hx = (hd.0, hd.1 ∙ sym e)
 
     pub lift_to_sound : (given r : Rate) (u t : Elem) (d x k : ℕ) → Reaches given r → u ≡ t → IsRegister h r d t → IsRegister h given x u → k < h.masks → AreSound code h (lift_to l r given d x k)
     lift_to_sound Uniform Uniform u t d x k is e hd hx lk = tt
@@ -132,35 +110,9 @@ module _ (code : Listing) (h : Routine) where
     lift_to_sound Varying Uniform u t d x k is e hd hx lk = absurd is
     lift_to_sound Varying Varying u t d x k is e hd hx lk = tt
 
-    -- ---- where values are found
-
-    place_there : (z : TPlace) (n : ℕ) → ExprPresent h l (t_place z) n → IsRegister h (place_type z).rate (place_found l z n) (place_type z).elem
-    place_there (t_variable v t sp) n f = f.0
-    place_there (t_element b i t sp) n f = f.1
-
-    pub found_there : (x : TExpr) (n : ℕ) → ExprTree x → ExprPresent h l x n → IsRegister h (type_of x).rate (found l x n) (type_of x).elem
-    found_there (t_constant v sp) n is f = f
-    found_there (t_program_index sp) n is f = f
-    found_there (t_place z) n is f = place_there z n f
-    found_there (t_convert e x) n is f = f.0
-    found_there (t_cast x t sp) n is f =
-        lift_there (type_of x).rate t.rate (type_of x).elem t.elem (found l x n) n is.0.reaches is.0.elem f.0 (found_there x n is.1 f.1)
-    found_there (t_unary o x t sp) n is f = f.1
-    found_there (t_binary o x y t sp) n is f = f.2
-    found_there (t_compare c x y r sp) n is f = f.2
-    found_there (t_logic g x y r sp) n is f = f.2
-    found_there (t_choose c x y t sp) n is f = f.0
-    found_there (t_call c t) n is f = absurd is
-    found_there (t_library g e xs t sp) n is f = absurd is
-    found_there (t_packed_store b x sp) n is f = absurd is
-    found_there (t_packed_load b v sp) n is f = absurd is
-
-    pub operand_there : (r : Rate) (t : Elem) (x : TExpr) (n : ℕ) → OperandTree r t x → ExprTree x → LiftPresent h l (type_of x).rate r t n → ExprPresent h l x n → IsRegister h r (operand l r x n) t
-    operand_there r t x n o is f g = lift_there (type_of x).rate r (type_of x).elem t (found l x n) n o.reaches o.elem f (found_there x n is g)
-
     pub operand_sound : (r : Rate) (t : Elem) (x : TExpr) (pc k n : ℕ) (a : List Instr) → OperandTree r t x → ExprTree x → LiftPresent h l (type_of x).rate r t n → ExprPresent h l x n → k < h.masks → Here pc a → Here pc (operand_of l r x k n a)
     operand_sound r t x pc k n a o is f g lk s =
-        here_both pc a (lift_code l r (type_of x).rate (type_of x).elem (found l x n) k n) s (λ lt. lift_sound (type_of x).rate r (type_of x).elem t (found l x n) k n o.reaches o.elem f (found_there x n is g) lk)
+        here_both pc a (lift_code l r (type_of x).rate (type_of x).elem (found l x n) k n) s (λ lt. lift_sound (type_of x).rate r (type_of x).elem t (found l x n) k n o.reaches o.elem f (found_there h l x n is g) lk)
 
     -- ---- a value of one type where another is wanted
 
@@ -174,59 +126,15 @@ module _ (code : Listing) (h : Routine) where
         go None is = here_then pc a (convert (type_of x).rate d (found l x n) k) f (convert_sound code h (type_of x).rate e (type_of x).elem d (found l x n) k hd hx lk)
         go (Some v) is = λ lt. (constant_sound code h e d (converted v.elem e v.bits) (uniform v is), tt)
 
-    -- ---- an index, as int64
-
-    whole_there : (b : Bool) (i : TExpr) (n : ℕ) → is_whole (type_of i).elem ≡ b → ExprTree i → HasRegister h l (type_of i).rate (Spare I64 n) I64 → ExprPresent h l i n → IsRegister h (type_of i).rate (whole l b i n) I64
-    whole_there true i n e is f g = let hi = found_there i n is g in (hi.0, hi.1 ∙ whole_is (type_of i).elem e)
-    whole_there false i n e is f g = f
-
     whole_sound : (b : Bool) (i : TExpr) (pc k n : ℕ) (a : List Instr) → ExprTree i → HasRegister h l (type_of i).rate (Spare I64 n) I64 → ExprPresent h l i n → k < h.masks → Here pc a → Here pc (whole_of l b i k n a)
     whole_sound true i pc k n a is f g lk s = s
     whole_sound false i pc k n a is f g lk s =
-        convert_to_sound i I64 (l.spare (type_of i).rate I64 n) pc k n a f (found_there i n is g) lk s
-
-    pub index_there : (r : Rate) (i : TExpr) (n : ℕ) → Reaches (type_of i).rate r → ExprTree i → HasRegister h l (type_of i).rate (Spare I64 n) I64 → ExprPresent h l i n → LiftPresent h l (type_of i).rate r I64 n → IsRegister h r (index l r i n) I64
-    index_there r i n re is f g m =
-        lift_there (type_of i).rate r I64 I64 (whole l (is_whole (type_of i).elem) i n) n re refl m (whole_there (is_whole (type_of i).elem) i n refl is f g)
+        convert_to_sound i I64 (l.spare (type_of i).rate I64 n) pc k n a f (found_there h l i n is g) lk s
 
     pub index_sound : (r : Rate) (i : TExpr) (pc k n : ℕ) (a : List Instr) → Reaches (type_of i).rate r → ExprTree i → HasRegister h l (type_of i).rate (Spare I64 n) I64 → ExprPresent h l i n → LiftPresent h l (type_of i).rate r I64 n → k < h.masks → Here pc a → Here pc (index_of l r i k n a)
     index_sound r i pc k n a re is f g m lk s =
         let x = whole l (is_whole (type_of i).elem) i n in
-        here_both pc (whole_of l (is_whole (type_of i).elem) i k n a) (lift_code l r (type_of i).rate I64 x k n) (whole_sound (is_whole (type_of i).elem) i pc k n a is f g lk s) (λ lt. lift_sound (type_of i).rate r I64 I64 x k n re refl m (whole_there (is_whole (type_of i).elem) i n refl is f g) lk)
-
-    -- ---- a choice
-
-    -- a variable in place is in no slot
-    lifted_same : (r : Rate) (t : Elem) (f n : ℕ) → lifted l r r t f n ≡ f
-    lifted_same Uniform t f n = refl
-    lifted_same Varying t f n = refl
-
-    stays_found : (x : TExpr) (n m : ℕ) → stays l x ≡ true → found l x n ≡ found l x m
-    stays_found (t_constant v sp) n m e = absurd (cc)
-    stays_found (t_program_index sp) n m e = absurd (cc)
-    stays_found (t_place (t_variable v t sp)) n m e = refl
-    stays_found (t_place (t_element b i t sp)) n m e = absurd (cc)
-    stays_found (t_convert u x) n m e = absurd (cc)
-    stays_found (t_cast x t sp) n m e =
-        let same = same_rate-is t.rate (type_of x).rate (both_first (same_rate t.rate (type_of x).rate) (stays l x) e) in
-        let in_x = stays_found x n m (both_second (same_rate t.rate (type_of x).rate) (stays l x) e) in
-        subst (λ r. lifted l r (type_of x).rate (type_of x).elem (found l x n) n ≡ lifted l r (type_of x).rate (type_of x).elem (found l x m) m) (sym same) (lifted_same (type_of x).rate (type_of x).elem (found l x n) n ∙ in_x ∙ sym (lifted_same (type_of x).rate (type_of x).elem (found l x m) m))
-    stays_found (t_unary o x t sp) n m e = absurd (cc)
-    stays_found (t_binary o x y t sp) n m e = absurd (cc)
-    stays_found (t_compare c x y r sp) n m e = absurd (cc)
-    stays_found (t_logic g x y r sp) n m e = absurd (cc)
-    stays_found (t_choose c x y t sp) n m e = absurd (cc)
-    stays_found (t_call c t) n m e = absurd (cc)
-    stays_found (t_library f u xs t sp) n m e = absurd (cc)
-    stays_found (t_packed_store b x sp) n m e = absurd (cc)
-    stays_found (t_packed_load b v sp) n m e = absurd (cc)
-
-    -- one that stays at a rate has that rate
-    stayed_there : (r : Rate) (t : Elem) (x : TExpr) (n m : ℕ) → stays_at l r x ≡ true → OperandTree r t x → ExprTree x → ExprPresent h l x m → IsRegister h r (found l x n) t
-    stayed_there r t x n m e o is f =
-        let same = same_rate-is r (type_of x).rate (both_first (same_rate r (type_of x).rate) (stays l x) e) in
-        let there : IsRegister h (type_of x).rate (found l x n) (type_of x).elem = subst (λ y. IsRegister h (type_of x).rate y (type_of x).elem) (stays_found x m n (both_second (same_rate r (type_of x).rate) (stays l x) e)) (found_there x m is f) in
-        subst (λ u. IsRegister h r (found l x n) u) o.elem (subst (λ q. IsRegister h q (found l x n) (type_of x).elem) (sym same) there)
+        here_both pc (whole_of l (is_whole (type_of i).elem) i k n a) (lift_code l r (type_of i).rate I64 x k n) (whole_sound (is_whole (type_of i).elem) i pc k n a is f g lk s) (λ lt. lift_sound (type_of i).rate r I64 I64 x k n re refl m (whole_there h l (is_whole (type_of i).elem) i n refl is f g) lk)
 
     -- by a uniform test, or by a varying one; the value goes to slot n
     pub choose_sound : (g r : Rate) (t : Elem) (x y : TExpr) (c pc k n : ℕ) (test : List Instr) (a b : ℕ → ℕ → ℕ → List Instr) → Reaches g r → IsRegister h g c Truth → IsRegister h r (l.spare r t n) t → IsRegister h r (operand l r x (first_slot g n)) t → IsRegister h r (operand l r y (second_slot g n)) t → k < h.masks → SidesHave (HasMask h) g n → Here pc test → AnyMask (λ pc m. a pc m (first_slot g n)) → AnyMask (λ pc m. b pc m (second_slot g n)) → Here pc (choose_code l g r t x y c pc k n test a b)
@@ -243,6 +151,6 @@ module _ (code : Listing) (h : Routine) where
     short_sound r t c x y d k n mx my e hd oc ox oy ic ix iy fc fx fy lk =
         let same = same_rate-is r (type_of c).rate (both_first (same_rate r (type_of c).rate) (stays_at l r x && stays_at l r y) e) in
         let both = both_second (same_rate r (type_of c).rate) (stays_at l r x && stays_at l r y) e in
-        let hc = found_there c n ic fc in
+        let hc = found_there h l c n ic fc in
         let test : IsRegister h r (found l c n) Truth = subst (λ u. IsRegister h r (found l c n) u) oc.elem (subst (λ q. IsRegister h q (found l c n) (type_of c).elem) (sym same) hc) in
-        select_sound code h r t d (found l c n) (found l x n) (found l y n) k hd test (stayed_there r t x n mx (both_first (stays_at l r x) (stays_at l r y) both) ox ix fx) (stayed_there r t y n my (both_second (stays_at l r x) (stays_at l r y) both) oy iy fy) lk
+        select_sound code h r t d (found l c n) (found l x n) (found l y n) k hd test (stayed_there h l r t x n mx (both_first (stays_at l r x) (stays_at l r y) both) ox ix fx) (stayed_there h l r t y n my (both_second (stays_at l r x) (stays_at l r y) both) oy iy fy) lk

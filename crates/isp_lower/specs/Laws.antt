@@ -13,10 +13,10 @@ use Rattle.isp_base.specs.declared.types.Rate.{Rate}
 use Rattle.isp_code.specs.Registers.{table_of, types_in}
 use Rattle.isp_code.specs.Listing.{Listing, Routine}
 use Rattle.isp_lower.specs.Layout.{Layout, IsApart, class_at}
-use Rattle.isp_lower.specs.Rows.{Name, Row, Rows, rows_at, number_in, elem_in, layout_of}
+use Rattle.isp_lower.specs.Rows.{Name, Row, Rows, rows_at, number_in, elem_in, layout_of, HasRow}
 use Rattle.isp_lower.specs.Trees.{ExprTree, SimpleTree, ItemTree, ItemsTree, IsPlain, IsPlainSimple, IsPlainItem}
 use Rattle.isp_lower.specs.Tables.{ExprTable, SimpleTable, ItemsTable}
-use Rattle.isp_lower.specs.Sound.{PartSound, IsRegister, ExprPresent, SimplePresent, ItemsPresent}
+use Rattle.isp_lower.specs.Sound.{PartSound, IsRegister, HasRegister, ExprPresent, SimplePresent, ItemsPresent}
 use Rattle.isp_lower.specs.Items.{items_code, items_places, ItemsFit}
 use Rattle.isp_lower.specs.Simple.{simple_code, simple_places, SimpleFits}
 use Rattle.isp_lower.specs.Setting.{Setting, IsSettled, gang_of, AreAt, Holds}
@@ -60,6 +60,11 @@ LayoutsAreApart = (rows : Rows) → IsApart (layout_of rows)
 abbrev pub RowsAreTyped : Type 0
 RowsAreTyped =
     (w : Setting) (rows : Rows) (r : Rate) (x : Name) (t : Elem) → types_in (table_of w.routine) (class_at r) ≡ map (λ y. y.elem) (rows_at rows r) → elem_in (rows_at rows r) x ≡ Some t → IsTyped w r (number_in (rows_at rows r) x) t
+
+-- The same of the function alone: the register of a name that has a row is there, with the row's type.
+abbrev pub RowsAreThere : Type 0
+RowsAreThere =
+    (h : Routine) (rows : Rows) → ((r : Rate) → types_in (table_of h) (class_at r) ≡ map (λ y. y.elem) (rows_at rows r)) → (r : Rate) (x : Name) (t : Elem) → HasRow rows r x t → HasRegister h (layout_of rows) r x t
 
 -- Rows that are added change nothing of a name that has a row.
 abbrev pub RowsStay : Type 0

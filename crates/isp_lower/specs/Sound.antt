@@ -15,7 +15,7 @@ use Rattle.isp_typed.specs.Typed.{TExpr, TPlace, TSimple, TItem}
 use Rattle.isp_typed.specs.declared.variable.ArrayVariable.{ArrayVariable}
 use Rattle.isp_lower.specs.Layout.{Layout, class_at, register, array_register}
 use Rattle.isp_lower.specs.Rows.{Name, numbered}
-use Rattle.isp_lower.specs.Presence.{LiftHas, ReadHas, WorkHas, ZeroHas, TestHas, SidesHave, ExprHas, PlaceHas, ChangeHas, SimpleHas, ItemHas, ItemsHave}
+use Rattle.isp_lower.specs.Presence.{LiftHas, ExprHas, PlaceHas, ChangeHas, SimpleHas, ItemHas, ItemsHave}
 
 module _ (code : Listing) (h : Routine) where
   abbrev pub IsSound : Instr → Type 0

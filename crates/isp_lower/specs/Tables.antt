@@ -4,13 +4,17 @@ use Rattle.std.specs.Prelude.{ℕ, List}
 use Rattle.isp_base.specs.declared.types.Elem.{Elem}
 use Rattle.isp_base.specs.declared.types.Rate.{Rate}
 use Rattle.isp_typed.specs.Typed.{TExpr, TPlace, TItem, TSimple, type_of}
+use Rattle.isp_typed.specs.declared.variable.ArrayVariable.{ArrayVariable}
 use Rattle.isp_lower.specs.Setting.{Setting}
 use Rattle.isp_lower.specs.Fits.{IsNamed, ArrayFits}
 use Rattle.isp_lower.specs.Presence.{LiftHas, ExprHas, PlaceHas, SimpleHas, ItemHas, ItemsHave}
 
--- nothing is asked of a mask
+-- nothing is asked of a mask, or of an array
 abbrev pub AnyMask : ℕ → Type 0
 AnyMask n = Unit {0}
+
+abbrev pub AnyArray : ArrayVariable → Type 0
+AnyArray b = Unit {0}
 
 module _ (w : Setting) where
   -- an operand of a node of rate r and type t

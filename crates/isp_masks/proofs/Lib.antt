@@ -9,7 +9,11 @@ mod Endings
 mod Begins
 mod Firsts
 mod Arrays
+pub mod Presences
+mod Held
+pub mod ArraysThere
 mod Agree
 mod Programs
-mod Sound
+pub mod Sound
+pub mod Accepted
 mod Counts

@@ -58,8 +58,8 @@ module _ (fs : List TFunction) (vars : List Variable) where
       stmt_tree (t_block b) f p = block_tree b f p
       stmt_tree (t_declare xs sp) f p = items_tree xs f p
       stmt_tree (t_simple x sp) f p = simple_tree fs vars x f p
-      stmt_tree (t_if k n e x sp) f p = (expr_tree fs vars e f.1.0 p.0, stmt_tree x f.2 p.1)
-      stmt_tree (t_if_else k n e x y sp) f p = (expr_tree fs vars e f.1.0 p.0, stmt_tree x f.2 p.1, stmt_tree y f.3 p.2)
+      stmt_tree (t_if k n e x sp) f p = (expr_tree fs vars e f.1.0 p.0, stmt_tree x f.2 p.1, f.1.1)
+      stmt_tree (t_if_else k n e x y sp) f p = (expr_tree fs vars e f.1.0 p.0, stmt_tree x f.2 p.1, stmt_tree y f.3 p.2, f.1.1)
       stmt_tree (t_while k n e x sp) f p = p
       stmt_tree (t_do k n x e sp) f p = p
       stmt_tree (t_for k n first e step i x sp) f p = p
