@@ -328,7 +328,7 @@ choose_to-returns-then-is_short t c = λ s.
     let so : (l : Layout) → true ≡ is_short l r z x y = λ l. sym c.if-is_short.true ∙ c.is_short.ensures l in
     let all = puts_keep c.args.b.now c.expr.new.b c.push.new.self (λ l pc p. expr_code l z pc p k n) (λ l. expr_places l z) (λ l. found l z n) c.in_ok-tested.tested (λ w l pc p. select r d w (found l x n) (found l y n) k ∷ []) (λ l. []) c.in_ok-tested.ensures
         (puts_first c.expr.new.b c.found.new.b c.push.new.self (λ l. found l x n) c.in_ok-first.first (λ w l pc p. select r d c.in_ok-tested.tested w (found l y n) k ∷ []) (λ l. []) c.in_ok-first.ensures
-        (puts_first c.found.new.b c.found-2.new.b c.push.new.self (λ l. found l y n) c.in_ok-second.second (λ w l pc p. select r d c.in_ok-tested.tested c.in_ok-first.first w k ∷ []) (λ l. []) c.in_ok-second.ensures
+        (puts_first c.found.new.b c.found-then-is_short.new.b c.push.new.self (λ l. found l y n) c.in_ok-second.second (λ w l pc p. select r d c.in_ok-tested.tested c.in_ok-first.first w k ∷ []) (λ l. []) c.in_ok-second.ensures
         (pushed_is _ _ _ (select r d c.in_ok-tested.tested c.in_ok-first.first c.in_ok-second.second k) c.select.ensures c.in_ok-push.ensures)).emits).emits in
     emits_so c.args.b.now c.push.new.self (λ l pc p. expr_code l z pc p k n ++ select r d (found l z n) (found l x n) (found l y n) k ∷ []) (λ l pc p. expr_to l d (t_choose z x y c.args.ty s) pc p k n) (λ l. expr_places l z ++ []) (λ l. expr_places l z ++ (expr_places l x ++ expr_places l y)) all.emits
     (λ l q.
@@ -392,13 +392,58 @@ write_to-returns-in-Unary t c =
     c.unary_to.ensures
 
 pub write_to-returns-in-Compare : goal.write_to-returns-in-Compare
-write_to-returns-in-Compare t c = ?
+write_to-returns-in-Compare t c =
+    let e = c.in-Compare in
+    let b = c.compare_to.new.b in
+    let d = c.args.to in
+    let k = c.args.k in
+    let n = c.args.slot in
+    on_ok_weaker c.compare_to.result
+    (λ w. subst (λ (z : TExpr). Writes c.args.b.now b d z k n) (sym (ap expr_of e.is ∙ compare_view e.comparison e.left e.right e.rate e.span))
+    (subst (λ y. Writes c.args.b.now b d (t_compare e.comparison (expr_of e.left.value) (expr_of y) e.rate e.span) k n) c.deref-in-Compare-2.ensures
+    (subst (λ y. Writes c.args.b.now b d (t_compare e.comparison (expr_of y) (expr_of c.deref-in-Compare-2.result.now) e.rate e.span) k n) c.deref-in-Compare.ensures (w e.span))))
+    c.compare_to.ensures
 
 pub write_to-returns-in-Uniform : goal.write_to-returns-in-Uniform
-write_to-returns-in-Uniform t c = ?
+write_to-returns-in-Uniform t c =
+    let e = c.in-Logic in
+    let b = c.logic_of_one.new.b in
+    let d = c.args.to in
+    let k = c.args.k in
+    let n = c.args.slot in
+    on_ok_weaker c.logic_of_one.result
+    (λ w. subst (λ (z : TExpr). Writes c.args.b.now b d z k n) (sym (ap expr_of e.is ∙ logic_view e.logic e.left e.right e.rate e.span))
+    (subst (λ r. Writes c.args.b.now b d (t_logic e.logic (expr_of e.left.value) (expr_of e.right.value) r e.span) k n) (sym c.in-Uniform.is)
+    (subst (λ y. Writes c.args.b.now b d (t_logic e.logic (expr_of e.left.value) (expr_of y) Uniform e.span) k n) c.deref-in-Uniform-2.ensures
+    (subst (λ y. Writes c.args.b.now b d (t_logic e.logic (expr_of y) (expr_of c.deref-in-Uniform-2.result.now) Uniform e.span) k n) c.deref-in-Uniform.ensures (w d e.span)))))
+    c.logic_of_one.ensures
 
 pub write_to-returns-in-Varying : goal.write_to-returns-in-Varying
-write_to-returns-in-Varying t c = ?
+write_to-returns-in-Varying t c =
+    let e = c.in-Logic in
+    let b = c.logic_of_each.new.b in
+    let d = c.args.to in
+    let k = c.args.k in
+    let n = c.args.slot in
+    on_ok_weaker c.logic_of_each.result
+    (λ w. subst (λ (z : TExpr). Writes c.args.b.now b d z k n) (sym (ap expr_of e.is ∙ logic_view e.logic e.left e.right e.rate e.span))
+    (subst (λ r. Writes c.args.b.now b d (t_logic e.logic (expr_of e.left.value) (expr_of e.right.value) r e.span) k n) (sym c.in-Varying.is)
+    (subst (λ y. Writes c.args.b.now b d (t_logic e.logic (expr_of e.left.value) (expr_of y) Varying e.span) k n) c.deref-in-Varying-2.ensures
+    (subst (λ y. Writes c.args.b.now b d (t_logic e.logic (expr_of y) (expr_of c.deref-in-Varying-2.result.now) Varying e.span) k n) c.deref-in-Varying.ensures (w d e.span)))))
+    c.logic_of_each.ensures
 
 pub write_to-returns-in-Choose : goal.write_to-returns-in-Choose
-write_to-returns-in-Choose t c = ?
+write_to-returns-in-Choose t c =
+    let e = c.in-Choose in
+    let b = c.choose_to.new.b in
+    let d = c.args.to in
+    let k = c.args.k in
+    let n = c.args.slot in
+    let y2 = c.deref-in-Choose-2.result.now in
+    let y3 = c.deref-in-Choose-3.result.now in
+    on_ok_weaker c.choose_to.result
+    (λ w. subst (λ (z : TExpr). Writes c.args.b.now b d z k n) (sym (ap expr_of e.is ∙ choose_view e.test e.then e.otherwise e.ty e.span))
+    (subst (λ y. Writes c.args.b.now b d (t_choose (expr_of e.test.value) (expr_of e.then.value) (expr_of y) e.ty e.span) k n) c.deref-in-Choose-3.ensures
+    (subst (λ y. Writes c.args.b.now b d (t_choose (expr_of e.test.value) (expr_of y) (expr_of y3) e.ty e.span) k n) c.deref-in-Choose-2.ensures
+    (subst (λ y. Writes c.args.b.now b d (t_choose (expr_of y) (expr_of y2) (expr_of y3) e.ty e.span) k n) c.deref-in-Choose.ensures (w e.span)))))
+    c.choose_to.ensures
