@@ -15,8 +15,8 @@ returns-in_ok-cast_to c =
     let v = c.args.number in
     let k = c.args.k in
     let n = c.args.slot in
-    let so : (l : Layout) → true ≡ writes_part r (type_of x).rate (writes_last l x)
-    = λ l. sym c.if-writes_part.true ∙ c.writes_part.ensures ∙ ap (λ (y : Ty). writes_part r y.rate c.writes_last.result) c.ty.ensures ∙ ap (writes_part r (type_of x).rate) (c.writes_last.ensures l) in
+    let so : (l : Layout) → true ≡ writes_part l r (type_of x).rate (writes_last l x)
+    = λ l. sym c.if-writes_part.true ∙ c.writes_part.ensures l ∙ ap (λ (y : Ty). writes_part l r y.rate c.writes_last.result) c.ty.ensures ∙ ap (writes_part l r (type_of x).rate) (c.writes_last.ensures l) in
     code_so c.args.b.now c.cast_to.new.b (λ l pc p. variable_from l true r (l.variable r v) x pc p k n) (λ l pc p. variable_code l r v x pc p k n) (λ l. expr_places l x)
     (names_so c.args.b.now c.cast_to.new.b (λ w l pc p. variable_from l true r w x pc p k n) (λ l. expr_places l x) (λ l. l.variable r v) c.in_ok-to.to c.in_ok-cast_to.ensures c.in_ok-to.ensures)
     (λ l pc p. ap (λ q. variable_from l q r (l.variable r v) x pc p k n) (so l))
@@ -28,8 +28,8 @@ returns-in_ok-push c =
     let v = c.args.number in
     let k = c.args.k in
     let n = c.args.slot in
-    let so : (l : Layout) → false ≡ writes_part r (type_of x).rate (writes_last l x)
-    = λ l. sym c.if-writes_part.false ∙ c.writes_part.ensures ∙ ap (λ (y : Ty). writes_part r y.rate c.writes_last.result) c.ty.ensures ∙ ap (writes_part r (type_of x).rate) (c.writes_last.ensures l) in
+    let so : (l : Layout) → false ≡ writes_part l r (type_of x).rate (writes_last l x)
+    = λ l. sym c.if-writes_part.false ∙ c.writes_part.ensures l ∙ ap (λ (y : Ty). writes_part l r y.rate c.writes_last.result) c.ty.ensures ∙ ap (writes_part l r (type_of x).rate) (c.writes_last.ensures l) in
     let all = puts_end c.args.b.now c.operand.new.b c.push.new.self (λ l pc p. operand_of l r x k n (expr_code l x pc p k n)) (λ l. expr_places l x) (λ l. operand l r x n) c.in_ok-from.from
         (λ w. copy r c.in_ok-to.to w k) c.copy.result c.in_ok-from.ensures c.copy.ensures c.in_ok-push.ensures in
     code_so c.args.b.now c.push.new.self (λ l pc p. variable_from l false r (l.variable r v) x pc p k n) (λ l pc p. variable_code l r v x pc p k n) (λ l. expr_places l x)

@@ -30,11 +30,11 @@ returns c =
     (emits_then c.push.new.self c.update_to.new.b c.push-2.new.self (λ l pc p. update_to l (same_elem e t) o t r h h y k i p) (λ l pc p. write r a v h k m ∷ []) (λ l. q) (λ l. [])
     c.in_ok-update_to.ensures (pushed_is _ _ _ (write r a v h k m) c.write.ensures c.in_ok-push-2.ensures))
     (λ l s. refl) (λ l s. append-nil q) in
-    let accessed = after_one c.place-2.new.self c.push.new.self c.push-2.new.self (read r h a v k m) (λ l pc p. update_to l (same_elem e t) o t r h h y k i p ++ write r a v h k m ∷ []) (λ l. q)
+    let accessed = after_one c.place.new.self c.push.new.self c.push-2.new.self (read r h a v k m) (λ l pc p. update_to l (same_elem e t) o t r h h y k i p ++ write r a v h k m ∷ []) (λ l. q)
         (pushed_is _ _ _ (read r h a v k m) c.read.ensures c.in_ok-push.ensures) changed in
     let placed : Emits c.spare.new.self c.push-2.new.self (λ l pc p. body h a l p (p + 1)) (λ l. c.args.at ∷ q)
     = emits_so c.spare.new.self c.push-2.new.self (λ l pc p. body h a l m (p + 1)) (λ l pc p. body h a l p (p + 1)) (λ l. c.args.at ∷ q) (λ l. c.args.at ∷ q)
-    (emits_then c.spare.new.self c.place-2.new.self c.push-2.new.self (λ l pc p. []) (λ l pc p. body h a l m p) (λ l. c.args.at ∷ []) (λ l. q) c.in_ok-number.ensures.added accessed)
+    (emits_then c.spare.new.self c.place.new.self c.push-2.new.self (λ l pc p. []) (λ l pc p. body h a l m p) (λ l. c.args.at ∷ []) (λ l. q) c.in_ok-number.ensures.added accessed)
     (λ l s. ap (λ n. body h a l n (length c.spare.new.self.listing.places + 1)) c.in_ok-number.ensures.number) (λ l s. refl) in
     names_so c.args.b.now c.push-2.new.self (λ z l pc p. body (l.spare r e i) z l p (p + 1)) (λ l. c.args.at ∷ q) (λ l. l.array c.args.array.number) a
     (puts_first c.args.b.now c.spare.new.self c.push-2.new.self (λ l. l.spare r e i) h (λ w l pc p. body w a l p (p + 1)) (λ l. c.args.at ∷ q) c.in_ok-held.ensures placed).emits

@@ -1,4 +1,4 @@
-use Rattle.std.proofs.Common.{◌≡◌, ℕ, ◌+◌, drop, get_or, sym, subst}
+use Rattle.std.proofs.Common.{◌≡◌, ◌+◌, ◌∷◌, drop, sym, ap, subst, ◌∙◌}
 use Rattle.std.proofs.lemmas.List.{drop_all, drop_more}
 use Rattle.isp_typed.specs.Views.{item_of, items_of}
 use Rattle.isp_lower.specs.Emitted.{Emits}
@@ -11,11 +11,12 @@ pub loop-x-preserved : goal.loop-x-preserved
 loop-x-preserved c = λ h y.
     let xs = c.args.items.now in
     let i = c.loop-x.x-index in
+    let x = c.x-item.result in
     let k = c.args.k in
     let n = c.args.slot in
     c.loop-x.invariant h
-    (subst (λ zs. Emits c.loop-x.b h (λ l pc p. items_code l (items_of zs) pc p k n) (λ l. items_places l (items_of zs))) (sym (drop_more xs i _ c.loop-x-test.true))
-    (emits_then c.loop-x.b c.item.new.b h (λ l pc p. item_code l (item_of (get_or xs i _)) pc p k n) (λ l pc p. items_code l (items_of (drop (i + 1) xs)) pc p k n) (λ l. item_places l (item_of (get_or xs i _))) (λ l. items_places l (items_of (drop (i + 1) xs))) c.in_ok-item.ensures y))
+    (subst (λ zs. Emits c.loop-x.b h (λ l pc p. items_code l (items_of zs) pc p k n) (λ l. items_places l (items_of zs))) (sym (drop_more xs i x c.loop-x-test.true ∙ ap (λ z. z ∷ drop (i + 1) xs) (sym c.x-item.is)))
+    (emits_then c.loop-x.b c.item.new.b h (λ l pc p. item_code l (item_of x) pc p k n) (λ l pc p. items_code l (items_of (drop (i + 1) xs)) pc p k n) (λ l. item_places l (item_of x)) (λ l. items_places l (items_of (drop (i + 1) xs))) c.in_ok-item.ensures y))
 
 pub returns : goal.returns
 returns c =
