@@ -1,11 +1,11 @@
-use Rattle.std.proofs.Common.{◌≡◌, ℕ, ◌+◌, ◌∷◌, ◌++◌, [], List, length, append-nil, arith, true, false, refl, sym, ap, subst, ◌∙◌}
+use Rattle.std.proofs.Common.{ℕ, ◌+◌, ◌∷◌, ◌++◌, [], List, length, append-nil, refl, ap}
 use Rattle.isp_base.specs.Ranks.{same_elem}
 use Rattle.isp_code.specs.declared.instr.Instr.{Instr}
 use Rattle.isp_lower.specs.Layout.{Layout}
 use Rattle.isp_lower.specs.Code.{operate_places, read, write}
 use Rattle.isp_lower.specs.Emitted.{Emits}
 use Rattle.isp_lower.specs.Simple.{update_to}
-use Rattle.isp_lower.proofs.Following.{Code, after_one, emits_so, emits_then, puts_first, pushed_is}
+use Rattle.isp_lower.proofs.Following.{after_one, emits_so, emits_then, puts_first, pushed_is}
 use Rattle.isp_lower.proofs.Sequels.{names_so}
 use Rattle.isp_lower.proofs.changed.change_element.Goals as goal
 
@@ -31,7 +31,7 @@ returns c =
     c.in_ok-update_to.ensures (pushed_is _ _ _ (write r a v h k m) c.write.ensures c.in_ok-push-2.ensures))
     (λ l s. refl) (λ l s. append-nil q) in
     let accessed = after_one c.place.new.self c.push.new.self c.push-2.new.self (read r h a v k m) (λ l pc p. update_to l (same_elem e t) o t r h h y k i p ++ write r a v h k m ∷ []) (λ l. q)
-        (pushed_is _ _ _ (read r h a v k m) c.read.ensures c.in_ok-push.ensures) changed in
+    (pushed_is _ _ _ (read r h a v k m) c.read.ensures c.in_ok-push.ensures) changed in
     let placed : Emits c.spare.new.self c.push-2.new.self (λ l pc p. body h a l p (p + 1)) (λ l. c.args.at ∷ q)
     = emits_so c.spare.new.self c.push-2.new.self (λ l pc p. body h a l m (p + 1)) (λ l pc p. body h a l p (p + 1)) (λ l. c.args.at ∷ q) (λ l. c.args.at ∷ q)
     (emits_then c.spare.new.self c.place.new.self c.push-2.new.self (λ l pc p. []) (λ l pc p. body h a l m p) (λ l. c.args.at ∷ []) (λ l. q) c.in_ok-number.ensures.added accessed)

@@ -1,5 +1,5 @@
-use Rattle.std.proofs.Common.{◌≡◌, ℕ, ◌+◌, ◌∷◌, ◌++◌, [], List, length, append-nil, arith, true, false, refl, sym, ap, subst, ◌∙◌}
-use Rattle.isp_base.specs.declared.types.Rate.TheVariants.{Uniform, Varying}
+use Rattle.std.proofs.Common.{◌∷◌, []}
+use Rattle.isp_base.specs.declared.types.Rate.TheVariants.{Uniform}
 use Rattle.isp_lower.specs.Code.{constant, lift_code, lifted}
 use Rattle.isp_lower.proofs.Following.{put_in, puts_with}
 use Rattle.isp_lower.proofs.changed.one.Goals as goal

@@ -1,4 +1,4 @@
-use Rattle.std.proofs.Common.{◌≡◌, ℕ, ◌+◌, ◌∷◌, ◌++◌, [], List, length, append-nil, arith, true, false, refl, sym, ap, subst, ◌∙◌}
+use Rattle.std.proofs.Common.{◌+◌, [], subst}
 use Rattle.isp_base.specs.Ranks.{same_elem}
 use Rattle.isp_lower.specs.Code.{operate_places}
 use Rattle.isp_lower.specs.Emitted.{Emits}

@@ -1,6 +1,5 @@
-use Rattle.std.proofs.Common.{◌≡◌, ℕ, ◌+◌, ◌∷◌, ◌++◌, [], List, length, append-nil, arith, true, false, refl, sym, ap, subst, ◌∙◌}
+use Rattle.std.proofs.Common.{◌∷◌, ◌++◌, [], append-nil, true, false, refl, sym, ap, ◌∙◌}
 use Rattle.isp_base.specs.Ranks.{same_elem}
-use Rattle.isp_code.specs.declared.instr.Instr.{Instr}
 use Rattle.isp_lower.specs.Code.{convert, operate, operate_places}
 use Rattle.isp_lower.specs.Simple.{update_to}
 use Rattle.isp_lower.proofs.Following.{after_one, emits_so, emits_then, puts_first, pushed_is}
@@ -33,11 +32,11 @@ returns-in_ok-push-2 c =
     let w = c.in_ok-held.held in
     let q = operate_places o c.args.span in
     let worked = emits_so c.push.new.self c.push-else-same_elem.new.self (λ l pc p. operate r o w w y k p ∷ convert r d w k ∷ []) (λ l pc p. operate r o w w y k p ∷ convert r d w k ∷ []) (λ l. q ++ []) (λ l. q)
-        (emits_then c.push.new.self c.operate_to-else-same_elem.new.b c.push-else-same_elem.new.self (λ l pc p. operate r o w w y k p ∷ []) (λ l pc p. convert r d w k ∷ []) (λ l. q) (λ l. [])
-        c.in_ok-operate_to-2.ensures (pushed_is _ _ _ (convert r d w k) c.convert-else-same_elem.ensures c.in_ok-push-2.ensures))
-        (λ l s. refl) (λ l s. append-nil q) in
+    (emits_then c.push.new.self c.operate_to-else-same_elem.new.b c.push-else-same_elem.new.self (λ l pc p. operate r o w w y k p ∷ []) (λ l pc p. convert r d w k ∷ []) (λ l. q) (λ l. [])
+    c.in_ok-operate_to-2.ensures (pushed_is _ _ _ (convert r d w k) c.convert-else-same_elem.ensures c.in_ok-push-2.ensures))
+    (λ l s. refl) (λ l s. append-nil q) in
     let all = (puts_first c.args.b.now c.spare.new.self c.push-else-same_elem.new.self (λ l. l.spare r t i) w (λ v l pc p. convert r v h k ∷ (operate r o v v y k p ∷ convert r d v k ∷ [])) (λ l. q) c.in_ok-held.ensures
-        (after_one c.spare.new.self c.push.new.self c.push-else-same_elem.new.self (convert r w h k) (λ l pc p. operate r o w w y k p ∷ convert r d w k ∷ []) (λ l. q)
-        (pushed_is _ _ _ (convert r w h k) c.convert.ensures c.in_ok-push.ensures) worked)).emits in
+    (after_one c.spare.new.self c.push.new.self c.push-else-same_elem.new.self (convert r w h k) (λ l pc p. operate r o w w y k p ∷ convert r d w k ∷ []) (λ l. q)
+    (pushed_is _ _ _ (convert r w h k) c.convert.ensures c.in_ok-push.ensures) worked)).emits in
     code_so c.args.b.now c.push-else-same_elem.new.self (λ l pc p. update_to l false o t r d h y k i p) (λ l pc p. update_to l (same_elem c.args.ty.elem t) o t r d h y k i p) (λ l. q) all
     (λ l pc p. ap (λ z. update_to l z o t r d h y k i p) (sym c.if-same_elem.false ∙ c.same_elem.ensures))

@@ -1,4 +1,4 @@
-use Rattle.std.proofs.Common.{[], ◌∷◌, ap, ◌∙◌, length}
+use Rattle.std.proofs.Common.{[], ◌∷◌, ap, ◌∙◌}
 use Rattle.isp_lower.specs.Code.{write}
 use Rattle.isp_lower.proofs.Following.{placed}
 use Rattle.isp_lower.proofs.written.write_at.Goals as goal
