@@ -1,8 +1,8 @@
-mod Views
-mod Following
-mod Sequels
-mod Staying
-mod Homes
+pub mod Views
+pub mod Following
+pub mod Sequels
+pub mod Staying
+pub mod Homes
 pub mod Splits
 pub mod Base
 pub mod Rates

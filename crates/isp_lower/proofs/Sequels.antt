@@ -1,11 +1,11 @@
 -- Parts that name registers of a layout: accesses behind an index and a right side.
-use Rattle.std.proofs.Common.{◌≡◌, ℕ, ◌+◌, List, [], ◌∷◌, ◌++◌, length, refl, ap, ◌∙◌, append-nil}
+use Rattle.std.proofs.Common.{◌≡◌, ℕ, ◌+◌, List, [], ◌++◌, length, refl, sym, ap, append-nil}
 use Rattle.isp_base.specs.declared.types.Span.{Span}
 use Rattle.isp_code.specs.declared.instr.Instr.{Instr}
 use Rattle.isp_lower.specs.Layout.{Layout}
 use Rattle.isp_lower.specs.Emitted.{Follows, Emits, Puts}
 use Rattle.isp_lower.specs.declared.builder.FunctionBuilder.{FunctionBuilder}
-use Rattle.isp_lower.proofs.Following.{Code, before, emits_so, puts_keep}
+use Rattle.isp_lower.proofs.Following.{Code, before, emits_so, grows_self, puts_keep}
 
 -- a part that works on the registers of two parts before and on those of the layout
 pub pair_then : (a b c e : FunctionBuilder) (k1 k2 : Code) (p1 p2 : Layout → List Span) (f1 f2 : Layout → ℕ) (d1 d2 : ℕ) (g : Layout → ℕ → ℕ → ℕ → List Instr) (q : List Span)
@@ -27,3 +27,11 @@ names_so a b f p g d x is =
 -- the same code in other words
 pub code_so : (a b : FunctionBuilder) (f g : Code) (p : Layout → List Span) → Emits a b f p → ((l : Layout) (pc n : ℕ) → f l pc n ≡ g l pc n) → Emits a b g p
 code_so a b f g p x e = emits_so a b f g p p x (λ l s. e l (length a.code.items) (length a.listing.places)) (λ l s. refl)
+
+-- nothing is appended
+pub emits_self : (a : FunctionBuilder) → Emits a a (λ l pc n. []) (λ l. [])
+emits_self a =
+    record {
+      rows = grows_self a.registers;
+      adds = λ l s. record { code = sym (append-nil a.code.items); places = sym (append-nil a.listing.places) };
+    }

@@ -1,5 +1,5 @@
 -- Expressions of the code seen as trees, one line a kind of node.
-use Rattle.std.proofs.Common.{◌≡◌, ℕ, sym, ap, ◌∙◌, subst, Box, Global}
+use Rattle.std.proofs.Common.{◌≡◌, ℕ, sym, ap, ◌∙◌, Box, Global}
 use Rattle.isp_base.specs.declared.operators.BinOp.{BinOp}
 use Rattle.isp_base.specs.declared.operators.Compare.{Compare}
 use Rattle.isp_base.specs.declared.operators.UnaryOp.{UnaryOp}
@@ -15,7 +15,7 @@ use Rattle.isp_typed.specs.declared.expr.TypedPlace.TheVariants as place_variant
 use Rattle.isp_typed.specs.declared.variable.ArrayVariable.{ArrayVariable}
 use Rattle.isp_typed.specs.declared.variable.Logic.{Logic}
 use Rattle.isp_typed.specs.declared.expr.TypedExpr.TheVariants as variant
-use Rattle.isp_typed.specs.Typed.{TExpr, TPlace, TBase, TArgument, TCall, t_element, t_variable, t_constant, t_program_index, t_place, t_convert, t_cast, t_unary, t_binary, t_compare, t_logic, t_choose, t_call, t_library, t_packed_store, t_packed_load}
+use Rattle.isp_typed.specs.Typed.{TExpr, TPlace, TBase, TArgument, TCall, t_element, t_variable, t_constant, t_program_index, t_place, t_convert, t_cast, t_unary, t_binary, t_compare, t_logic, t_choose}
 use Rattle.isp_typed.specs.Views.{argument_step, base_step, call_step, expr_step, place_step, expr_of, place_of}
 
 pub constant_view : (v : Value) (s : Span) → expr_of (variant.Constant v s) ≡ t_constant v s

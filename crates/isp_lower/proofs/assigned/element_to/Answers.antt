@@ -1,4 +1,4 @@
-use Rattle.std.proofs.Common.{◌≡◌, ℕ, ◌+◌, ◌∷◌, ◌++◌, [], subst}
+use Rattle.std.proofs.Common.{◌+◌, ◌∷◌, [], subst}
 use Rattle.isp_typed.specs.Views.{expr_of}
 use Rattle.isp_lower.specs.Code.{expr_code, expr_places, index, index_of, operand, operand_of, write}
 use Rattle.isp_lower.specs.Emitted.{Puts}

@@ -1,4 +1,4 @@
-use Rattle.std.proofs.Common.{◌≡◌, ◌++◌, drop}
+use Rattle.std.proofs.Common.{drop}
 use Rattle.isp_typed.specs.Views.{items_of}
 use Rattle.isp_lower.specs.Emitted.{Emits}
 use Rattle.isp_lower.specs.Items.{items_code, items_places}
