@@ -7,3 +7,4 @@ pub mod Compiled
 pub mod Arrays
 pub mod Sound
 pub mod Laws
+pub mod Awaited

@@ -1,7 +1,10 @@
 //! Code of statements and of functions: what is emitted, and that it does what they mean.
 #![tactic(auto)]
 
+mod awaited;
 mod laws;
+mod sets;
+mod stays;
 
 pub use laws::{
     arrays_fit, bodies_fit, entries_run, functions_sound, parameters_first, programs_run,
