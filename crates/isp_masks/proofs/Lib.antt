@@ -13,3 +13,5 @@ mod Agree
 mod Programs
 mod Sound
 mod Counts
+mod Awaiting
+mod Lists
