@@ -1,3 +1,5 @@
+mod Views
+mod Following
 pub mod Splits
 pub mod Base
 pub mod Rates

@@ -1,5 +1,6 @@
 pub mod Layout
 pub mod Code
+pub mod Emitted
 pub mod Setting
 pub mod Runs
 pub mod Fits
