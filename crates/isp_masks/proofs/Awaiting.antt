@@ -6,7 +6,8 @@ use Rattle.std.proofs.Math.Seq.{set-append_seam}
 use Rattle.isp_base.specs.declared.types.Span.{Span}
 use Rattle.isp_code.specs.declared.instr.Instr.{Instr}
 use Rattle.isp_lower.specs.Code.{jump_off}
-use Rattle.isp_lower.specs.Emitted.{Emits, Follows}
+use Rattle.isp_lower.specs.Emitted.{Emits, Follows, Grows}
+use Rattle.isp_lower.proofs.Following.{before, grows_self, grows_then}
 use Rattle.isp_lower.specs.Layout.{Layout}
 use Rattle.isp_lower.specs.declared.builder.FunctionBuilder.{FunctionBuilder}
 use Rattle.isp_lower.specs.declared.registers.Registers.{Registers}
@@ -28,7 +29,7 @@ set_all_last is (h ∷ js) j i = set_all_last (slice_set is h i) js j i
 
 below_more : (n m : ℕ) (js : List ℕ) → n ≤ m → AreBelow n js → AreBelow m js
 below_more n m [] le low = tt
-below_more n m (j ∷ js) le low = (omega (le, low.0), below_more n m js le low.1)
+below_more n m (j ∷ js) le low = (omega (arith, le, low.0), below_more n m js le low.1)
 
 below_last : (n j : ℕ) (js : List ℕ) → j < n → AreBelow n js → AreBelow n (js ++ j ∷ [])
 below_last n j [] lt low = (lt, tt)
@@ -40,7 +41,7 @@ Code = Layout → ℕ → ℕ → List Instr
 pub awaits_start : (o : FunctionBuilder) (k : ℕ) → Awaits o o [] k (λ t l pc n. []) (λ l. [])
 awaits_start o k =
     record {
-      grows = λ l s. s;
+      rows = grows_self o.registers;
       low = λ l s. tt;
       code = λ l s t. sym (append-nil o.code.items);
       places = λ l s. sym (append-nil o.listing.places);
@@ -56,10 +57,10 @@ pub awaits_then : (o a b : FunctionBuilder) (js : List ℕ) (k : ℕ) (c : ℕ �
     → Awaits o b js k (λ t l pc n. c t l pc n ++ f l (pc + length (c t l pc n)) (n + length (p l))) (λ l. p l ++ q l)
 awaits_then o a b js k c p f q x y =
     record {
-      grows = λ l s. x.grows l (y.grows l s);
-      low = λ l s. below_more (length a.code.items) (length b.code.items) js (omega (arith, ap length (y.adds l s).code, length-append a.code.items (f l (length a.code.items) (length a.listing.places)))) (x.low l (y.grows l s));
+      rows = grows_then _ _ _ x.rows y.rows;
+      low = λ l s. below_more (length a.code.items) (length b.code.items) js (omega (arith, ap length (y.adds l s).code, length-append a.code.items (f l (length a.code.items) (length a.listing.places)))) (x.low l (before l _ _ y.rows s));
       code = λ l s t.
-          let sa = y.grows l s in
+          let sa = before l _ _ y.rows s in
           let pc = length o.code.items in
           let n = length o.listing.places in
           let i = jump_off k t in
@@ -71,20 +72,20 @@ awaits_then o a b js k c p f q x y =
           ∙ append_assoc o.code.items one part
           ∙ ap (λ m. o.code.items ++ (one ++ f l m (length a.listing.places))) (reaches o a js k c p x l sa t)
           ∙ ap (λ m. o.code.items ++ (one ++ f l (pc + length one) m)) (ap length (x.places l sa) ∙ length-append o.listing.places (p l));
-      places = λ l s. (y.adds l s).places ∙ ap (λ z. z ++ q l) (x.places l (y.grows l s)) ∙ append_assoc o.listing.places (p l) (q l);
+      places = λ l s. (y.adds l s).places ∙ ap (λ z. z ++ q l) (x.places l (before l _ _ y.rows s)) ∙ append_assoc o.listing.places (p l) (q l);
     }
 
 pub awaits_room : (o a b : FunctionBuilder) (js hs : List ℕ) (k : ℕ) (c : ℕ → Code) (p : Layout → List Span) → Awaits o a js k c p → hs ≡ js ++ length a.code.items ∷ []
     → Emits a b (λ l pc n. jump_off k 0 ∷ []) (λ l. []) → Awaits o b hs k (λ t l pc n. c t l pc n ++ jump_where true k t) p
 awaits_room o a b js hs k c p x e y =
     record {
-      grows = λ l s. x.grows l (y.grows l s);
+      rows = grows_then _ _ _ x.rows y.rows;
       low = λ l s.
           let long : length b.code.items ≡ length a.code.items + 1 = ap length (y.adds l s).code ∙ length-append a.code.items (jump_off k 0 ∷ []) in
           subst (λ z. AreBelow (length b.code.items) z) (sym e)
-          (below_last (length b.code.items) (length a.code.items) js (omega (arith, long)) (below_more (length a.code.items) (length b.code.items) js (omega (arith, long)) (x.low l (y.grows l s))));
+          (below_last (length b.code.items) (length a.code.items) js (omega (arith, long)) (below_more (length a.code.items) (length b.code.items) js (omega (arith, long)) (x.low l (before l _ _ y.rows s))));
       code = λ l s t.
-          let sa = y.grows l s in
+          let sa = before l _ _ y.rows s in
           let i = jump_off k t in
           let before = set_all a.code.items js i in
           let one = c t l (length o.code.items) (length o.listing.places) in
@@ -96,14 +97,14 @@ awaits_room o a b js hs k c p x e y =
           ∙ set-append_seam before (jump_off k 0) [] i
           ∙ ap (λ z. z ++ i ∷ []) (x.code l sa t)
           ∙ append_assoc o.code.items one (i ∷ []);
-      places = λ l s. (y.adds l s).places ∙ append-nil a.listing.places ∙ x.places l (y.grows l s);
+      places = λ l s. (y.adds l s).places ∙ append-nil a.listing.places ∙ x.places l (before l _ _ y.rows s);
     }
 
 pub awaits_so : (o a : FunctionBuilder) (js : List ℕ) (k : ℕ) (c d : ℕ → Code) (p q : Layout → List Span) → Awaits o a js k c p
     → ((l : Layout) (t pc n : ℕ) → c t l pc n ≡ d t l pc n) → ((l : Layout) → p l ≡ q l) → Awaits o a js k d q
 awaits_so o a js k c d p q x e f =
     record {
-      grows = x.grows;
+      rows = x.rows;
       low = x.low;
       code = λ l s t. x.code l s t ∙ ap (λ z. o.code.items ++ z) (e l t (length o.code.items) (length o.listing.places));
       places = λ l s. x.places l s ∙ ap (λ z. o.listing.places ++ z) (f l);
@@ -115,7 +116,7 @@ pub awaits_end : (o a d : FunctionBuilder) (js : List ℕ) (k : ℕ) (c : ℕ �
     → ((l : Layout) (t pc n : ℕ) → t ≡ pc + length (c t l pc n) → c t l pc n ≡ g l pc n) → Emits o d g p
 awaits_end o a d js k c p g x is same kept e =
     record {
-      grows = λ l s. x.grows l (subst (λ r. Follows l r) kept s);
+      rows = subst (λ r. Grows o.registers r) (sym kept) x.rows;
       adds = λ l s.
           let sa : Follows l a.registers = subst (λ r. Follows l r) kept s in
           let t = length a.code.items in

@@ -3,7 +3,7 @@ use Rattle.std.specs.Prelude.{◌≡◌, ◌<◌, ℕ, List, [], ◌∷◌, ◌+
 use Rattle.isp_base.specs.declared.types.Span.{Span}
 use Rattle.isp_code.specs.declared.instr.Instr.{Instr}
 use Rattle.isp_lower.specs.Code.{jump_off}
-use Rattle.isp_lower.specs.Emitted.{Follows}
+use Rattle.isp_lower.specs.Emitted.{Follows, Grows}
 use Rattle.isp_lower.specs.Layout.{Layout}
 use Rattle.isp_lower.specs.declared.builder.FunctionBuilder.{FunctionBuilder}
 
@@ -19,7 +19,7 @@ AreBelow n (j ∷ js) = (j < n) × AreBelow n js
 
 -- With these jumps to instruction t, taken where mask k has nobody, code and places have grown by these.
 pub record Awaits (old new : FunctionBuilder) (jumps : List ℕ) (k : ℕ) (c : ℕ → Layout → ℕ → ℕ → List Instr) (s : Layout → List Span) : Type 0 where
-  pub grows : (l : Layout) → Follows l new.registers → Follows l old.registers
+  pub rows : Grows old.registers new.registers
   pub low : (l : Layout) → Follows l new.registers → AreBelow (length new.code.items) jumps
   pub code : (l : Layout) → Follows l new.registers → (t : ℕ) → set_all new.code.items jumps (jump_off k t) ≡ old.code.items ++ c t l (length old.code.items) (length old.listing.places)
   pub places : (l : Layout) → Follows l new.registers → new.listing.places ≡ old.listing.places ++ s l
