@@ -15,3 +15,4 @@ mod Sound
 mod Counts
 mod Awaiting
 mod Lists
+mod Forms

@@ -62,30 +62,31 @@ module _ (answer : Option Ty) (k co rr n : ℕ) (t : ℕ) (l : Layout) where
       ∙ ap (λ m. ((jump ++ (one ++ rest)) ++ last) ++ one_code x m (p2 + length spans)) far
       ∙ ap (λ m. ((jump ++ (one ++ rest)) ++ last) ++ one_code x (pc + length ((jump ++ (one ++ rest)) ++ last)) m) seat
 
-  mutual
-    -- where the jumps lead to the end, this is the code of the list
-    pub flat_is : (xs : List TStmt) (pc p : ℕ) → t ≡ pc + length (flat false xs pc p) → flat false xs pc p ≡ stmts_code l answer (t_stmts xs) pc p k co rr n
-    flat_is [] pc p e = refl
-    flat_is (x ∷ xs) pc p e =
-        let zero : pc + 0 ≡ pc = omega arith in
-        let one = one_code x pc p in
-        let p2 = p + length (stmt_places l x) in
-        let flatly : flat false (x ∷ xs) pc p ≡ one ++ flat (not (stays x)) xs (pc + length one) p2 =
-            ap (λ m. one_code x m p ++ flat (not (stays x)) xs (m + length (one_code x m p)) p2) zero in
-        flatly
-        ∙ ap (λ z. one ++ z)
-        (rest_is (stays x) xs (pc + length one) p2 (omega (arith, e, ap length flatly, length-append one (flat (not (stays x)) xs (pc + length one) p2))))
+  -- what follows a statement, by what is said of the list itself
+  rest_is : (s : Bool) (xs : List TStmt) (pc p : ℕ)
+      → ((m q : ℕ) → t ≡ m + length (flat false xs m q) → flat false xs m q ≡ stmts_code l answer (t_stmts xs) m q k co rr n)
+      → t ≡ pc + length (flat (not s) xs pc p) → flat (not s) xs pc p ≡ rest_code s (t_stmts xs) k pc (λ pc2. stmts_code l answer (t_stmts xs) pc2 p k co rr n)
+  rest_is true xs pc p all e = all pc p e
+  rest_is false [] pc p all e = refl
+  rest_is false (y ∷ ys) pc p all e =
+      let zero : pc + 1 + 0 ≡ pc + 1 = omega arith in
+      let p2 = p + length (stmt_places l y) in
+      let tail : flat false (y ∷ ys) (pc + 1) p ≡ one_code y (pc + 1) p ++ flat (not (stays y)) ys (pc + 1 + length (one_code y (pc + 1) p)) p2 =
+          ap (λ m. one_code y m p ++ flat (not (stays y)) ys (m + length (one_code y m p)) p2) zero in
+      let same = all (pc + 1) p (omega (arith, e, ap length tail)) in
+      let end : t ≡ pc + 1 + length (stmts_code l answer (t_stmts (y ∷ ys)) (pc + 1) p k co rr n) = omega (arith, e, ap length tail, ap length same) in
+      ap (λ z. jump_off k t ∷ z) (sym tail ∙ same)
+      ∙ ap (λ m. jump_off k m ∷ stmts_code l answer (t_stmts (y ∷ ys)) (pc + 1) p k co rr n) end
 
-    rest_is : (s : Bool) (xs : List TStmt) (pc p : ℕ) → t ≡ pc + length (flat (not s) xs pc p)
-        → flat (not s) xs pc p ≡ rest_code s (t_stmts xs) k pc (λ pc2. stmts_code l answer (t_stmts xs) pc2 p k co rr n)
-    rest_is true xs pc p e = flat_is xs pc p e
-    rest_is false [] pc p e = refl
-    rest_is false (y ∷ ys) pc p e =
-        let zero : pc + 1 + 0 ≡ pc + 1 = omega arith in
-        let p2 = p + length (stmt_places l y) in
-        let tail : flat false (y ∷ ys) (pc + 1) p ≡ one_code y (pc + 1) p ++ flat (not (stays y)) ys (pc + 1 + length (one_code y (pc + 1) p)) p2 =
-            ap (λ m. one_code y m p ++ flat (not (stays y)) ys (m + length (one_code y m p)) p2) zero in
-        let same = flat_is (y ∷ ys) (pc + 1) p (omega (arith, e, ap length tail)) in
-        let end : t ≡ pc + 1 + length (stmts_code l answer (t_stmts (y ∷ ys)) (pc + 1) p k co rr n) = omega (arith, e, ap length tail, ap length same) in
-        ap (λ z. jump_off k t ∷ z) (sym tail ∙ same)
-        ∙ ap (λ m. jump_off k m ∷ stmts_code l answer (t_stmts (y ∷ ys)) (pc + 1) p k co rr n) end
+  -- where the jumps lead to the end, this is the code of the list
+  pub flat_is : (xs : List TStmt) (pc p : ℕ) → t ≡ pc + length (flat false xs pc p) → flat false xs pc p ≡ stmts_code l answer (t_stmts xs) pc p k co rr n
+  flat_is [] pc p e = refl
+  flat_is (x ∷ xs) pc p e =
+      let zero : pc + 0 ≡ pc = omega arith in
+      let one = one_code x pc p in
+      let p2 = p + length (stmt_places l x) in
+      let flatly : flat false (x ∷ xs) pc p ≡ one ++ flat (not (stays x)) xs (pc + length one) p2 =
+          ap (λ m. one_code x m p ++ flat (not (stays x)) xs (m + length (one_code x m p)) p2) zero in
+      flatly
+      ∙ ap (λ z. one ++ z)
+      (rest_is (stays x) xs (pc + length one) p2 (flat_is xs) (omega (arith, e, ap length flatly, length-append one (flat (not (stays x)) xs (pc + length one) p2))))

@@ -4,8 +4,10 @@
 mod awaited;
 mod laws;
 mod sets;
+mod statement;
 mod stays;
 
+pub use statement::{block, stmt};
 pub use laws::{
     arrays_fit, bodies_fit, entries_run, functions_sound, parameters_first, programs_run,
     statements_run,
