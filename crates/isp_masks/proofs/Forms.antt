@@ -7,6 +7,7 @@ use Rattle.isp_base.specs.declared.types.Rate.{Rate}
 use Rattle.isp_base.specs.declared.types.Rate.TheVariants.{Uniform, Varying}
 use Rattle.isp_base.specs.declared.types.Span.{Span}
 use Rattle.isp_base.specs.declared.types.Ty.{Ty}
+use Rattle.isp_code.specs.Listing.{Listing}
 use Rattle.isp_code.specs.declared.instr.Instr.{Instr}
 use Rattle.isp_code.specs.declared.instr.Instr.TheVariants as instr
 use Rattle.isp_code.specs.declared.instr.JumpTest.TheVariants as jump
@@ -72,6 +73,27 @@ seat_behind a b c i k p l x y s =
     ∙ length-append b.code.items (k l (length b.code.items) (length b.listing.places))
     ∙ ap (λ m. m + length (k l m (length b.listing.places))) far
     ∙ ap (λ z. length a.code.items + 1 + length (k l (length a.code.items + 1) (length z))) same
+
+-- a part behind a jump past it
+pub guarded : (a b c d : FunctionBuilder) (i : Instr) (go : ℕ → Instr) (k : Code) (p : Layout → List Span) (at : ℕ) → Emits a b (λ l pc n. i ∷ []) (λ l. []) → Emits b c k p → at ≡ length a.code.items
+    → d.code.items ≡ slice_set c.code.items at (go (length c.code.items)) → d.listing ≡ c.listing → d.registers ≡ c.registers → Emits a d (λ l pc n. guard go pc (λ pc1. k l pc1 n)) p
+guarded a b c d i go k p at x y e is same kept =
+    landed a b c d i go k p x y (is ∙ ap (λ m. slice_set c.code.items m (go (length c.code.items))) e) (ap (λ (z : Listing). z.places) same) kept
+
+-- one of two parts: a jump leads to the second, and one stands behind the first
+pub one_of_two : (a b c d e f g : FunctionBuilder) (i : Instr) (go : ℕ → Instr) (k m : Code) (p q : Layout → List Span) (at over : ℕ)
+    → Emits a b (λ l pc n. i ∷ []) (λ l. []) → Emits b c k p → Emits c d (λ l pc n. instr.Jump 0 ∷ []) (λ l. []) → at ≡ length a.code.items → over ≡ length c.code.items
+    → e.code.items ≡ slice_set d.code.items at (go (length d.code.items)) → e.listing ≡ d.listing → e.registers ≡ d.registers → Emits e f m q
+    → g.code.items ≡ slice_set f.code.items over (instr.Jump (length f.code.items)) → g.listing ≡ f.listing → g.registers ≡ f.registers
+    → Emits a g (λ l pc n. choice go pc (λ pc1. k l pc1 n) (λ pc1. m l pc1 (n + length (p l)))) (λ l. p l ++ q l)
+one_of_two a b c d e f g i go k m p q at over x y z seat last is same kept w done listing registers =
+    chosen a e f g (instr.Jump 0) go k m p q over
+    (guarded a b d e i go (λ l pc n. k l pc n ++ instr.Jump 0 ∷ []) p at x
+    (emits_so b d (λ l pc n. k l pc n ++ instr.Jump 0 ∷ []) (λ l pc n. k l pc n ++ instr.Jump 0 ∷ []) (λ l. p l ++ []) p (emits_then b c d k (λ l pc n. instr.Jump 0 ∷ []) p (λ l. []) y z) (λ l s. refl) (λ l s. append-nil (p l)))
+    seat is same kept)
+    w
+    (λ l s. last ∙ seat_behind a b c i k p l x y (before l c.registers d.registers z.rows (subst (λ r. Follows l r) kept s)))
+    done (ap (λ (z : Listing). z.places) listing) registers
 
 -- ---- lists
 

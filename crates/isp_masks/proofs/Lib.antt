@@ -16,3 +16,4 @@ mod Counts
 mod Awaiting
 mod Lists
 mod Forms
+mod Views
