@@ -17,3 +17,7 @@ mod Programs
 pub mod Sound
 pub mod Accepted
 mod Counts
+mod Awaiting
+mod Lists
+mod Forms
+mod Views

@@ -9,3 +9,4 @@ pub mod Arrays
 pub mod Sound
 pub mod Accepted
 pub mod Laws
+pub mod Awaited

@@ -1,8 +1,13 @@
 //! Code of statements and of functions: what is emitted, and that it does what they mean.
 #![tactic(auto)]
 
+mod awaited;
 mod laws;
+mod sets;
+mod statement;
+mod stays;
 
+pub use statement::{block, stmt};
 pub use laws::{
     arrays_fit, bodies_accepted, bodies_fit, bodies_present, entries_run, functions_sound,
     parameters_first, programs_run, statements_run,
