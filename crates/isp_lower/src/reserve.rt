@@ -7,7 +7,7 @@ ghost use Rattle.isp_typed.specs.Views.{expr_of, item_of, items_of, place_of, si
 ghost use Rattle.isp_lower.specs.Emitted.{HasRow};
 ghost use Rattle.isp_lower.specs.Presence.{SidesHave, TestHas, beyond, first_slot, second_slot};
 ghost use Rattle.isp_lower.specs.Reserved.{Adds, HasChange, HasAssign, HasExpr, HasIndex, HasItem, HasItems, HasLift, HasLogic, HasMask, HasPair, HasPlace, HasRead, HasSimple, HasStep, HasUpdate, HasWork, HasZero};
-ghost use Rattle.isp_lower.specs.Rows.{Spare, Variable};
+ghost use Rattle.isp_lower.specs.Rows.{Result, Spare, Variable};
 
 use crate::leaves::after;
 use crate::registers::Registers;
@@ -299,8 +299,17 @@ impl Reserve {
         }
     }
 
-    /// A right side that is taken at the rate of its place, in a type.
-    fn right(&mut self, rate: Rate, elem: Elem, x: &TypedExpr, slot: u32) -> Result<(), AllocError>
+    /// The register of what the function gives back. Memory is refused where it gives back nothing of the type.
+    pub fn result(&mut self, ty: Ty) -> Result<(), AllocError>
+        ensures adds { OnOk result (Adds self.old self.new) }
+        ensures has { OnOk result (HasRow self.new.registers ty.rate Result ty.elem) }
+    {
+        self.registers.result(ty)?;
+        Ok(())
+    }
+
+    /// A value that is taken at a rate, in its type.
+    pub fn operand(&mut self, rate: Rate, elem: Elem, x: &TypedExpr, slot: u32) -> Result<(), AllocError>
         ensures adds { OnOk result (Adds self.old self.new) }
         ensures has { OnOk result (HasLift self.new (type_of (expr_of x.now)).rate rate elem slot × HasExpr self.new (expr_of x.now) slot) }
     {
@@ -335,7 +344,7 @@ impl Reserve {
         let ty = target.ty();
         let next = beyond(target, slot)?;
         self.place(target, slot)?;
-        self.right(ty.rate, ty.elem, value, next)?;
+        self.operand(ty.rate, ty.elem, value, next)?;
         Ok(())
     }
 
@@ -352,7 +361,7 @@ impl Reserve {
         let next = beyond(target, slot)?;
         let work = after(next)?;
         self.change(elem, target, slot, work)?;
-        self.right(target.ty().rate, elem, value, next)?;
+        self.operand(target.ty().rate, elem, value, next)?;
         Ok(())
     }
 
@@ -394,7 +403,7 @@ impl Reserve {
             × HasLift self.new (type_of (expr_of value.now)).rate ty.rate ty.elem slot × HasExpr self.new (expr_of value.now) slot) }
     {
         self.variable(number, ty)?;
-        self.right(ty.rate, ty.elem, value, slot)?;
+        self.operand(ty.rate, ty.elem, value, slot)?;
         Ok(())
     }
 

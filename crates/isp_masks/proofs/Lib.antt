@@ -21,3 +21,4 @@ mod Awaiting
 mod Lists
 mod Forms
 mod Views
+mod Reserving

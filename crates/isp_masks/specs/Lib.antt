@@ -10,3 +10,4 @@ pub mod Sound
 pub mod Accepted
 pub mod Laws
 pub mod Awaited
+pub mod Reserved

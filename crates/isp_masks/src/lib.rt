@@ -3,6 +3,7 @@
 
 mod awaited;
 mod laws;
+mod reserved;
 mod sets;
 mod statement;
 mod stays;

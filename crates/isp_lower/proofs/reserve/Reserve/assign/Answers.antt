@@ -3,5 +3,5 @@ use Rattle.isp_lower.proofs.reserve.Reserve.assign.Goals as goal
 
 pub returns-clause-has : goal.returns-clause-has
 returns-clause-has c =
-    let right = c.in_ok-right.ensures.has in
-    rw (← c.ty-ty.ensures, ← c.in_ok-next.ensures) (place_stays _ _ c.in_ok-right.ensures.adds _ _ c.in_ok-place.ensures.has, right.0, right.1)
+    let value = c.in_ok-operand.ensures.has in
+    rw (← c.ty-ty.ensures, ← c.in_ok-next.ensures) (place_stays _ _ c.in_ok-operand.ensures.adds _ _ c.in_ok-place.ensures.has, value.0, value.1)

@@ -8,5 +8,5 @@ use Rattle.isp_lower.proofs.reserve.Reserve.update.Goals as goal
 
 pub returns-clause-has : goal.returns-clause-has
 returns-clause-has c =
-    let right = c.in_ok-right.ensures.has in
-    rw (← c.in_ok-next.ensures, ← c.in_ok-work.ensures) (change_stays _ _ c.in_ok-right.ensures.adds _ _ _ _ c.in_ok-change.ensures.has, subst (λ (y : Ty). HasLift c.right.new.self (type_of (expr_of c.args.value.now)).rate y.rate c.args.elem c.in_ok-next.next) c.ty.ensures right.0, right.1)
+    let value = c.in_ok-operand.ensures.has in
+    rw (← c.in_ok-next.ensures, ← c.in_ok-work.ensures) (change_stays _ _ c.in_ok-operand.ensures.adds _ _ _ _ c.in_ok-change.ensures.has, subst (λ (y : Ty). HasLift c.operand.new.self (type_of (expr_of c.args.value.now)).rate y.rate c.args.elem c.in_ok-next.next) c.ty.ensures value.0, value.1)
