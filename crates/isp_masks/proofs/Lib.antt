@@ -16,4 +16,5 @@ mod Agree
 mod Programs
 pub mod Sound
 pub mod Accepted
+pub mod Made
 mod Counts

@@ -8,4 +8,5 @@ pub mod Compiled
 pub mod Arrays
 pub mod Sound
 pub mod Accepted
+pub mod Made
 pub mod Laws
