@@ -1,5 +1,5 @@
 -- A routine that is made from a function is what is asked of code.
-use Rattle.std.proofs.Common.{◌≡◌, ℕ, suc, ◌+◌, ◌<◌, ◌≤◌, List, [], ◌∷◌, ◌++◌, length, map, Option, Some, None, refl, sym, ap, ◌∙◌, subst, arith}
+use Rattle.std.proofs.Common.{◌≡◌, ℕ, suc, ◌+◌, ◌≤◌, List, [], ◌∷◌, ◌++◌, length, Option, Some, None, refl, sym, subst, arith}
 use Rattle.std.specs.Prelude.{slice_get, option_map}
 use Rattle.std.proofs.lemmas.Option.{slice_get_within}
 use Rattle.isp_base.specs.declared.types.Elem.{Elem}
@@ -21,8 +21,7 @@ use Rattle.isp_masks.specs.Accepted.{IsBodyCode}
 use Rattle.isp_masks.specs.Compiled.{ResultFits, IsCompiled, PassedUniform, parameter_rows}
 use Rattle.isp_masks.specs.Laws.{BodyPresent}
 use Rattle.isp_masks.specs.Made.{returns_at, returns_of, ResultRow, IsMade, GivesUniform}
-use Rattle.isp_masks.specs.Parts.{IsPlainBlock, BlockTree}
-use Rattle.isp_masks.specs.Presence.{BlockHas}
+use Rattle.isp_masks.specs.Parts.{IsPlainBlock}
 use Rattle.isp_masks.specs.Statements.{block_places, returned, function_code}
 use Rattle.isp_masks.proofs.ArraysThere.{body_present}
 use Rattle.isp_masks.proofs.Firsts.{parameters_first}

@@ -4,6 +4,6 @@
 mod laws;
 
 pub use laws::{
-    arrays_fit, bodies_accepted, bodies_fit, bodies_present, entries_run, functions_sound, made_is_code,
-    parameters_first, programs_run, statements_run,
+    arrays_fit, bodies_accepted, bodies_fit, bodies_present, entries_run, functions_sound,
+    made_is_code, parameters_first, programs_run, statements_run,
 };
