@@ -16,6 +16,7 @@ mod Agree
 mod Programs
 pub mod Sound
 pub mod Accepted
+pub mod Made
 mod Counts
 mod Awaiting
 mod Lists

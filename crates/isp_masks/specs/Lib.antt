@@ -8,6 +8,7 @@ pub mod Compiled
 pub mod Arrays
 pub mod Sound
 pub mod Accepted
+pub mod Made
 pub mod Laws
 pub mod Awaited
 pub mod Reserved

@@ -1,5 +1,6 @@
 //! What holds of all code. No code is run here: each function carries a law in its contract.
 ghost use Rattle.isp_masks.specs.Accepted.{CodeAccepted};
+ghost use Rattle.isp_masks.specs.Made.{MadeIsCode};
 ghost use Rattle.isp_masks.specs.Laws.{BodiesFit, BodiesPresent, EntryArraysFit, EntryRuns, FunctionSound, ParametersFirst, ProgramRuns, StatementRuns};
 
 /// The code of a statement does it for the instances of a mask that has members: afterwards the mask
@@ -49,6 +50,13 @@ pub fn bodies_fit()
 /// the laws ask of the table of registers is so.
 pub fn bodies_present()
     ensures { BodiesPresent }
+{}
+
+/// A routine that is made from an accepted function, with a row for each register that its body asks
+/// for, is the code of its body as the verifier accepts it; and it is what an entry is to be, where
+/// values have their rows first and are passed and given back as one for the gang.
+pub fn made_is_code()
+    ensures { MadeIsCode }
 {}
 
 /// A layout from rows in which the parameters that are values come first passes them where a run

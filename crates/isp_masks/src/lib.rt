@@ -11,5 +11,5 @@ mod stays;
 pub use statement::{block, stmt};
 pub use laws::{
     arrays_fit, bodies_accepted, bodies_fit, bodies_present, entries_run, functions_sound,
-    parameters_first, programs_run, statements_run,
+    made_is_code, parameters_first, programs_run, statements_run,
 };
