@@ -17,3 +17,4 @@ mod Awaiting
 mod Lists
 mod Forms
 mod Views
+mod Named

@@ -8,3 +8,4 @@ pub mod Arrays
 pub mod Sound
 pub mod Laws
 pub mod Awaited
+pub mod Lowered

@@ -2,13 +2,19 @@
 #![tactic(auto)]
 
 mod awaited;
+mod header;
 mod laws;
+mod listing;
+mod masks;
+mod routine;
 mod sets;
 mod statement;
 mod stays;
 
-pub use statement::{block, stmt};
 pub use laws::{
     arrays_fit, bodies_fit, entries_run, functions_sound, parameters_first, programs_run,
     statements_run,
 };
+pub use listing::program;
+pub use routine::function;
+pub use statement::{block, stmt};
