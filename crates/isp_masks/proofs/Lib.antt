@@ -18,3 +18,4 @@ mod Lists
 mod Forms
 mod Views
 mod Named
+mod Headers
