@@ -19,3 +19,5 @@ mod Forms
 mod Views
 mod Named
 mod Headers
+mod Routines
+mod Listings
