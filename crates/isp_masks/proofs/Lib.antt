@@ -23,3 +23,7 @@ mod Lists
 mod Forms
 mod Views
 mod Reserving
+mod Named
+mod Headers
+mod Routines
+mod Listings

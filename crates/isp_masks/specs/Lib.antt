@@ -12,3 +12,4 @@ pub mod Made
 pub mod Laws
 pub mod Awaited
 pub mod Reserved
+pub mod Lowered

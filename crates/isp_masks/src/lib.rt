@@ -2,14 +2,20 @@
 #![tactic(auto)]
 
 mod awaited;
+mod header;
 mod laws;
 mod reserved;
+mod listing;
+mod masks;
+mod routine;
 mod sets;
 mod statement;
 mod stays;
 
-pub use statement::{block, stmt};
 pub use laws::{
     arrays_fit, bodies_accepted, bodies_fit, bodies_present, entries_run, functions_sound,
     made_is_code, parameters_first, programs_run, statements_run,
 };
+pub use listing::program;
+pub use routine::function;
+pub use statement::{block, stmt};
