@@ -106,7 +106,7 @@ module _ (fs : List TFunction) (vars : List Variable) where
     expr_tree (t_constant v sp) f p = tt
     expr_tree (t_program_index sp) f p = tt
     expr_tree (t_place q) f p = place_tree q f p
-    expr_tree (t_convert e x) f p = (p.0, expr_tree x f p.1)
+    expr_tree (t_convert e x) f p = (f.1, expr_tree x f.0 p)
     expr_tree (t_cast x t sp) f p = (record { elem = f.1; reaches = p.0 }, expr_tree x f.0 p.1)
     expr_tree (t_unary o x t sp) f p =
         (record { elem = ap (λ u. u.elem) f.1; reaches = subst (λ u. Reaches (type_of x).rate u.rate) f.1 (reaches_itself (type_of x).rate) }, expr_tree x f.0 p)

@@ -6,7 +6,7 @@ use Rattle.isp_typed.specs.Typed.{TExpr, TSimple, TItem, TFunction, type_of}
 use Rattle.isp_meaning.specs.State.{State, tick}
 use Rattle.isp_meaning.specs.Expressions.{value}
 use Rattle.isp_meaning.specs.Simple.{simple, items}
-use Rattle.isp_typed.specs.Fine.{FineExpr, FineSimple, FineItem}
+use Rattle.isp_typed.specs.Fine.{FineExpr, FineSimple, FineItem, heads}
 use Rattle.isp_typed.specs.declared.variable.Variable.{Variable}
 use Rattle.isp_base.specs.declared.types.Elem.{Elem}
 use Rattle.isp_base.specs.declared.types.Rate.{Rate}
@@ -19,7 +19,7 @@ use Rattle.isp_lower.specs.Items.{items_code, items_places, ItemsFit}
 use Rattle.isp_lower.specs.Simple.{simple_code, simple_places, SimpleFits}
 use Rattle.isp_lower.specs.Setting.{Setting, IsSettled, gang_of, AreAt, Holds}
 use Rattle.isp_lower.specs.Runs.{Enters, Runs, DoneRuns}
-use Rattle.isp_lower.specs.Fits.{heads, IsTyped, ExprFits}
+use Rattle.isp_lower.specs.Fits.{IsTyped, ExprFits}
 use Rattle.isp_lower.specs.Code.{found, expr_places, expr_code}
 
 -- From registers that stand for a state and a mask that stands for a set with members, the code of an expression gives

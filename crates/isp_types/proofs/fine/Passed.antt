@@ -22,7 +22,7 @@ use Rattle.isp_exprs.specs.declared.callee.Want.TheVariants.{AnyValue, ValueOf, 
 use Rattle.isp_exprs.specs.Places.{as_array, array_of, variable_at, element_at}
 use Rattle.isp_exprs.specs.Calls.{Handed, h_value, h_run, h_array, h_name, h_element, handed_name, Passed, p_value, p_array, p_base, p_destination, p_unasked, array_fits, base_fits, base_named, destination, suits}
 use Rattle.isp_base.proofs.RankLaws.{same_is}
-use Rattle.isp_types.proofs.fine.Values.{converted_elem, converted_fine}
+use Rattle.isp_types.proofs.fine.Values.{BareExpr, converted_elem, converted_fine}
 
 pub ok_is : {A : Type 0} (a b : A) → ◌≡◌ {A = Result A Fault} (Ok a) (Ok b) → a ≡ b
 ok_is a b e = cc
@@ -73,7 +73,7 @@ module _ (gs : List TFunction) (all : List Variable) where
   -- ---- arguments
 
   abbrev pub FineHanded : Handed → Type 0
-  FineHanded (h_value x) = FineExpr gs all x
+  FineHanded (h_value x) = BareExpr gs all x
   FineHanded (h_run c) = FineCall gs all c None
   FineHanded (h_array a s) = HoldsArray all a
   FineHanded (h_name k s) = IsKnown all k
@@ -89,7 +89,7 @@ module _ (gs : List TFunction) (all : List Variable) where
 
   -- what is passed, by what is asked
   abbrev pub Suited : Want → Passed → Type 0
-  Suited AnyValue (p_value x) = FineExpr gs all x
+  Suited AnyValue (p_value x) = BareExpr gs all x
   Suited (ValueOf e) (p_value x) = FineExpr gs all x × (elem_of x ≡ e)
   Suited (ArrayOf e c) (p_array a s) = HoldsArray all a × (a.ty.elem ≡ e) × ((a.constant && not c) ≡ false)
   Suited (Base stored) (p_base b) = FineBase gs all b × (((base_array b).constant && stored) ≡ false)
