@@ -6,7 +6,7 @@ use Rattle.isp_base.specs.declared.types.Elem.{Elem}
 use Rattle.isp_base.specs.declared.types.Rate.TheVariants.{Varying}
 use Rattle.isp_base.specs.declared.types.Span.{Span}
 use Rattle.isp_base.specs.declared.types.Ty.{Ty}
-use Rattle.isp_base.specs.Ranks.{same_elem, operand, common}
+use Rattle.isp_base.specs.Ranks.{same_elem, common}
 use Rattle.isp_tree.specs.Sound.{InText}
 use Rattle.isp_lex.specs.declared.fault.Fault.{Fault}
 use Rattle.isp_typed.specs.declared.library.Library.{Library}
@@ -15,8 +15,8 @@ use Rattle.isp_typed.specs.declared.library.Part.{Part}
 use Rattle.isp_typed.specs.declared.variable.Holds.TheVariants as holds
 use Rattle.isp_typed.specs.declared.variable.Variable.{Variable}
 use Rattle.isp_typed.specs.Library.{parts, part_elem, library_type}
-use Rattle.isp_typed.specs.Typed.{TExpr, TFunction, TBase, base_array, t_packed_store, t_packed_load, ty_of, elem_of, rate_of}
-use Rattle.isp_typed.specs.Fine.{FineExpr, FineBase, FineCall, FineArguments, FineParts, LibraryWorksIn, IsWhole, rates_of, params_of}
+use Rattle.isp_typed.specs.Typed.{TExpr, TFunction, TBase, base_array, t_packed_store, t_packed_load, ty_of, elem_of}
+use Rattle.isp_typed.specs.Fine.{FineBase, FineCall, FineArguments, FineParts, LibraryWorksIn, rates_of, params_of}
 use Rattle.isp_exprs.specs.declared.scope.Known.{Known}
 use Rattle.isp_exprs.specs.declared.callee.Callee.{Callee}
 use Rattle.isp_exprs.specs.declared.callee.Callee.TheVariants.{Unknown, Miscounted, Function, Library as OfLibrary, PackedStore, PackedLoad}

@@ -14,7 +14,7 @@ use Rattle.isp_typed.specs.declared.variable.ArrayVariable.{ArrayVariable}
 use Rattle.isp_typed.specs.declared.variable.Holds.{Holds}
 use Rattle.isp_typed.specs.declared.variable.Holds.TheVariants as holds
 use Rattle.isp_typed.specs.declared.variable.Variable.{Variable}
-use Rattle.isp_typed.specs.Typed.{TExpr, TPlace, TFunction, TBase, t_whole, t_from, base_array, ty_of, elem_of, rate_of}
+use Rattle.isp_typed.specs.Typed.{TExpr, TPlace, TFunction, TBase, t_whole, t_from, base_array, ty_of, elem_of}
 use Rattle.isp_typed.specs.Fine.{FineExpr, FinePlace, FineBase, FineCall, HoldsArray, HoldsValue, array_type}
 use Rattle.isp_exprs.specs.declared.scope.Known.{Known}
 use Rattle.isp_exprs.specs.declared.callee.Want.{Want}
@@ -83,7 +83,7 @@ module _ (gs : List TFunction) (all : List Variable) where
   handed_known s k known = go k.variable.holds refl
     where
       go : (h : Holds) → k.variable.holds ≡ h → FineHanded (handed_name s k)
-      go (holds.Value t) q = rw q (variable_is all k t known q)
+      go (holds.Value t) q = rw q (variable_is all k t known q, refl)
       go (holds.Given u) q = rw q (known_array all k (ty_of Uniform u) known (rw q refl))
       go (holds.Local t n) q = rw q (known_array all k t known (rw q refl))
 

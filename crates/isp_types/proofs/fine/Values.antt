@@ -1,15 +1,12 @@
 -- Typed expressions made of fine parts are fine.
-use Rattle.std.proofs.Common.{◌≡◌, ℕ, ◌≤◌, Bool, true, false, refl, sym, ap, ◌∙◌, arith, inl, inr}
-use Rattle.std.specs.Prelude.{List, ◌==◌, if◌then◌else◌}
-use Rattle.std.proofs.lemmas.Bool.{eqb-true}
+use Rattle.std.proofs.Common.{◌≡◌, ◌≤◌, Bool, true, false, refl, ap, arith, inl, inr}
+use Rattle.std.specs.Prelude.{List}
 use Rattle.isp_base.specs.declared.types.Elem.{Elem}
 use Rattle.isp_base.specs.declared.types.Elem.TheVariants.{Bool as Truth, I8, U8, I16, U16, I32, U32, I64, U64}
 use Rattle.isp_base.specs.declared.types.Gang.{Gang}
 use Rattle.isp_base.specs.declared.types.Gang.TheVariants as gangs
-use Rattle.isp_base.specs.declared.types.Rate.{Rate}
-use Rattle.isp_base.specs.declared.types.Rate.TheVariants.{Uniform, Varying}
 use Rattle.isp_base.specs.declared.types.Span.{Span}
-use Rattle.isp_base.specs.Ranks.{rank, same_elem, operand, common, chosen}
+use Rattle.isp_base.specs.Ranks.{same_elem, operand, common, chosen}
 use Rattle.isp_base.specs.Values.{greatest}
 use Rattle.isp_base.proofs.RankLaws.{common_one, same_is}
 use Rattle.isp_tree.specs.Sound.{InText}
