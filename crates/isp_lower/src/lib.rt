@@ -5,5 +5,5 @@ mod laws;
 
 pub use laws::{
     assignments_run, declarations_run, expressions_run, layouts_are_apart, parts_fit,
-    rows_are_typed, rows_stay, trees_fit,
+    rows_are_typed, rows_stay,
 };

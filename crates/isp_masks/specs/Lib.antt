@@ -1,6 +1,7 @@
 pub mod Statements
 pub mod Fits
 pub mod Parts
+pub mod Covered
 pub mod StmtRuns
 pub mod Agreement
 pub mod Compiled

@@ -1,0 +1,77 @@
+-- Which nodes of a program have code, and the first in the text that has none: a node comes before its parts. No code have
+-- calls, of functions and of the library, packed calls, loops, `foreach`, `foreach_active`, `unmasked`, `print` and `assert`.
+use Rattle.std.specs.Prelude.{List, [], ◌∷◌, Option, Some, None}
+use Rattle.std.specs.Option.{option_or}
+use Rattle.isp_base.specs.declared.types.Span.{Span}
+use Rattle.isp_typed.specs.Typed.{TExpr, t_constant, t_program_index, t_place, t_convert, t_cast, t_unary, t_binary, t_compare, t_logic, t_choose, t_call, t_library, t_packed_store, t_packed_load, TPlace, t_variable, t_element, call_span, TItem, t_plain, t_with_value, t_with_size, TSimple, t_value, t_run, t_assign, t_update, t_step}
+use Rattle.isp_typed.specs.Typed.{TStmt, t_block, t_declare, t_simple, t_if, t_if_else, t_while, t_do, t_for, t_foreach, t_foreach_active, t_unmasked, t_jump, t_return, t_print, t_assert, TBlock, t_braces, TStmts, t_no_stmts, t_stmt_then, TFunction, Program}
+
+abbrev mutual
+  pub expr_left : TExpr → Option Span
+  expr_left (t_constant v s) = None
+  expr_left (t_program_index s) = None
+  expr_left (t_place p) = place_left p
+  expr_left (t_convert e x) = expr_left x
+  expr_left (t_cast x t s) = expr_left x
+  expr_left (t_unary op x t s) = expr_left x
+  expr_left (t_binary op x y t s) = option_or (expr_left x) (expr_left y)
+  expr_left (t_compare c x y r s) = option_or (expr_left x) (expr_left y)
+  expr_left (t_logic l x y r s) = option_or (expr_left x) (expr_left y)
+  expr_left (t_choose c x y t s) = option_or (expr_left c) (option_or (expr_left x) (expr_left y))
+  expr_left (t_call c t) = Some (call_span c)
+  expr_left (t_library f e xs t s) = Some s
+  expr_left (t_packed_store b x s) = Some s
+  expr_left (t_packed_load b v s) = Some s
+
+  pub place_left : TPlace → Option Span
+  place_left (t_variable v t s) = None
+  place_left (t_element a i t s) = expr_left i
+
+-- the right side stands behind the place
+abbrev pub simple_left : TSimple → Option Span
+simple_left (t_value x) = expr_left x
+simple_left (t_run c) = Some (call_span c)
+simple_left (t_assign p x s) = option_or (place_left p) (expr_left x)
+simple_left (t_update op e p x s) = option_or (place_left p) (expr_left x)
+simple_left (t_step op e p s) = place_left p
+
+abbrev pub items_left : List TItem → Option Span
+items_left [] = None
+items_left (t_plain v t s ∷ is) = items_left is
+items_left (t_with_value v t x s ∷ is) = option_or (expr_left x) (items_left is)
+items_left (t_with_size a s ∷ is) = items_left is
+
+abbrev mutual
+  pub stmt_left : TStmt → Option Span
+  stmt_left (t_block b) = block_left b
+  stmt_left (t_declare is s) = items_left is
+  stmt_left (t_simple p s) = simple_left p
+  stmt_left (t_if f n x a s) = option_or (expr_left x) (stmt_left a)
+  stmt_left (t_if_else f n x a b s) = option_or (expr_left x) (option_or (stmt_left a) (stmt_left b))
+  stmt_left (t_while f n x a s) = Some s
+  stmt_left (t_do f n a x s) = Some s
+  stmt_left (t_for f n i x p m a s) = Some s
+  stmt_left (t_foreach k n rs a s) = Some s
+  stmt_left (t_foreach_active k n i a s) = Some s
+  stmt_left (t_unmasked k b s) = Some s
+  stmt_left (t_jump j k s) = None
+  stmt_left (t_return k None s) = None
+  stmt_left (t_return k (Some x) s) = expr_left x
+  stmt_left (t_print k t xs s) = Some s
+  stmt_left (t_assert x c s) = Some s
+
+  -- None where the whole block has code
+  pub block_left : TBlock → Option Span
+  block_left (t_braces ss s) = stmts_left ss
+
+  pub stmts_left : TStmts → Option Span
+  stmts_left t_no_stmts = None
+  stmts_left (t_stmt_then s ss) = option_or (stmt_left s) (stmts_left ss)
+
+abbrev pub functions_left : List TFunction → Option Span
+functions_left [] = None
+functions_left (h ∷ hs) = option_or (block_left h.body) (functions_left hs)
+
+-- None where every function of the program has code
+abbrev pub program_left : Program → Option Span
+program_left p = functions_left p.functions
