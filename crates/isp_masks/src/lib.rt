@@ -4,6 +4,6 @@
 mod laws;
 
 pub use laws::{
-    arrays_fit, bodies_fit, checked_fits, entries_run, functions_sound, parameters_first, programs_run,
-    statements_run,
+    arrays_fit, bodies_fit, checked_fits, entries_run, functions_sound, parameters_first,
+    programs_run, statements_run,
 };

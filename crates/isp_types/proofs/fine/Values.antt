@@ -107,12 +107,15 @@ module _ (gs : List TFunction) (all : List Variable) where
 
   pub choice_fine : (s : Span) (c x y : TExpr) → BareExpr c → BareExpr x → BareExpr y → BareExpr (choice s (c, (x, y)))
   choice_fine s c x y f g h =
-      let e = chosen (elem_of x) (elem_of y) in ((
-        converted_fine Truth c f,
-        converted_fine e x g,
-        converted_fine e y h,
-        converted_elem Truth c,
-        converted_elem e x,
-        converted_elem e y,
-        rw (converted_rate Truth c, converted_rate e x, converted_rate e y) refl,
-      ), refl)
+      let e = chosen (elem_of x) (elem_of y) in (
+        (
+          converted_fine Truth c f,
+          converted_fine e x g,
+          converted_fine e y h,
+          converted_elem Truth c,
+          converted_elem e x,
+          converted_elem e y,
+          rw (converted_rate Truth c, converted_rate e x, converted_rate e y) refl,
+        ),
+        refl,
+      )
