@@ -1,5 +1,5 @@
 -- The trees of a program without a breach are as code asks, where all of them has code.
-use Rattle.std.proofs.Common.{◌≡◌, ℕ, zero, suc, List, [], ◌∷◌, Option, Some, None, true, false, refl, sym, ap, subst, ◌∙◌, arith, take, length, inl, inr}
+use Rattle.std.proofs.Common.{◌≡◌, ℕ, zero, suc, List, [], ◌∷◌, Option, Some, None, Bool, true, false, refl, sym, ap, subst, ◌∙◌, arith, take, length, inl, inr}
 use Rattle.std.specs.Prelude.{slice_get}
 use Rattle.std.proofs.lemmas.Option.{get_or_from_slice_get, slice_get_within}
 use Rattle.std.specs.List.{All}
@@ -22,13 +22,13 @@ use Rattle.isp_typed.specs.declared.variable.Holds.TheVariants.{Value as AValue,
 use Rattle.isp_typed.specs.declared.variable.Variable.{Variable}
 use Rattle.isp_rates.specs.declared.exits.Within.{Within}
 use Rattle.isp_rates.specs.Breaches.{OfAny, OfEach}
+use Rattle.isp_rates.specs.Covered.{compiled_where, expr_left, place_left, simple_left, items_left, stmt_left, block_left, stmts_left, function_left, functions_left}
 use Rattle.isp_rates.specs.Rates.{goes_to, rate_held, DemandBreach, ExprBreach, PlaceBreach}
 use Rattle.isp_rates.specs.Exits.{at_start, ItemBreach, SimpleBreach, StmtBreach, BlockBreach, StmtsBreach}
 use Rattle.isp_rates.specs.Program.{ParametersBreach, ResultBreach, FunctionBreach, ProgramBreach}
 use Rattle.isp_lower.specs.Fits.{Reaches}
 use Rattle.isp_lower.specs.Simple.{IsNumber}
 use Rattle.isp_lower.specs.Trees.{OperandTree, ExprTree, PlaceTree, SimpleTree, ItemsTree}
-use Rattle.isp_masks.specs.Covered.{expr_left, place_left, simple_left, items_left, stmt_left, block_left, stmts_left, functions_left}
 use Rattle.isp_masks.specs.Compiled.{HoldsOne}
 use Rattle.isp_masks.specs.Laws.{FunctionFits}
 use Rattle.isp_masks.specs.Parts.{AnswerTree, StmtTree, BlockTree, StmtsTree}
@@ -248,7 +248,12 @@ function_fits p fine clean f h e =
       result = λ out. result_one h.span h.answer (λ g b. own g (inl (out, inr b)));
     }
 
-pub function_covered : (hs : List TFunction) → functions_left hs ≡ None → (f : ℕ) (h : TFunction) → slice_get hs f ≡ Some h → block_left h.body ≡ None
+has_code : (b : Bool) (s : Span) (parts : Option Span) → compiled_where b s parts ≡ None → (b ≡ true) × (parts ≡ None)
+has_code true s parts e = (refl, e)
+has_code false s parts e = absurd (cc)
+
+pub function_covered : (hs : List TFunction) → functions_left hs ≡ None → (f : ℕ) (h : TFunction) → slice_get hs f ≡ Some h → (h.exported ≡ true) × (block_left h.body ≡ None)
 function_covered [] all f h e = absurd (cc)
-function_covered (g ∷ hs) all zero h e = subst (λ z. block_left z.body ≡ None) (some_same g h e) (first_none (block_left g.body) (functions_left hs) all)
-function_covered (g ∷ hs) all (suc f) h e = function_covered hs (next_none (block_left g.body) (functions_left hs) all) f h e
+function_covered (g ∷ hs) all zero h e =
+    subst (λ z. (z.exported ≡ true) × (block_left z.body ≡ None)) (some_same g h e) (has_code g.exported g.span (block_left g.body) (first_none (function_left g) (functions_left hs) all))
+function_covered (g ∷ hs) all (suc f) h e = function_covered hs (next_none (function_left g) (functions_left hs) all) f h e

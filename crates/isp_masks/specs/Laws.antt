@@ -21,11 +21,11 @@ use Rattle.isp_masks.specs.Statements.{stays, stmt_code, stmt_places, block_plac
 use Rattle.isp_masks.specs.Sound.{AreSound, BlockSound}
 use Rattle.isp_masks.specs.Fits.{StmtFits, BlockFits}
 use Rattle.isp_masks.specs.Parts.{BlockTree, BlockTable}
-use Rattle.isp_masks.specs.Covered.{block_left, program_left}
 use Rattle.isp_lower.specs.Fits.{ArrayFits}
 use Rattle.isp_masks.specs.Arrays.{ArraysStand}
 use Rattle.isp_typed.specs.Fine.{HoldsArray, IsFine}
 use Rattle.isp_typed.specs.declared.variable.ArrayVariable.{ArrayVariable}
+use Rattle.isp_rates.specs.Covered.{block_left, program_left}
 use Rattle.isp_rates.specs.Program.{ProgramBreach}
 use Rattle.isp_lex.specs.declared.fault.Fault.{Fault}
 use Rattle.isp_masks.specs.StmtRuns.{AreThree, aside, StmtRuns}
@@ -62,10 +62,11 @@ pub record FunctionFits (h : TFunction) : Type 0 where
   pub passed : h.exported ≡ true → PassedUniform h
   pub result : h.exported ≡ true → (t : Ty) → h.answer ≡ Some t → t.rate ≡ Uniform
 
--- Each function of a fine program without a breach is so; and all of a function has code where all of the program has.
+-- Each function of a fine program without a breach is so; and where all of the program has code, each function is exported,
+-- and all of it has code.
 pub record CheckedFits : Type 0 where
   pub each : (program : Program) → IsFine program → ((e : Fault) → ProgramBreach program e → ⊥) → (f : ℕ) (h : TFunction) → slice_get program.functions f ≡ Some h → FunctionFits h
-  pub whole : (program : Program) → program_left program ≡ None → (f : ℕ) (h : TFunction) → slice_get program.functions f ≡ Some h → block_left h.body ≡ None
+  pub whole : (program : Program) → program_left program ≡ None → (f : ℕ) (h : TFunction) → slice_get program.functions f ≡ Some h → (h.exported ≡ true) × (block_left h.body ≡ None)
 
 -- A layout from rows passes values first, if the rows of the parameters come first.
 abbrev pub ParametersFirst : Type 0

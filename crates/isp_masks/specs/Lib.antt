@@ -1,7 +1,6 @@
 pub mod Statements
 pub mod Fits
 pub mod Parts
-pub mod Covered
 pub mod StmtRuns
 pub mod Agreement
 pub mod Compiled

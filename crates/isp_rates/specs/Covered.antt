@@ -1,13 +1,13 @@
--- Which nodes of a program have code, and the first in the text that has none: a node comes before its parts. No code have
--- functions that are not exported, calls, of functions and of the library, packed calls, loops, `foreach`, `foreach_active`,
--- `unmasked`, `print` and `assert`. One line for each kind of node.
+-- Which nodes of a program have code, and the first in the text that has none: a node comes before its parts. Left without
+-- are functions that are not exported, calls, of functions and of the library, packed calls, loops, `foreach`,
+-- `foreach_active`, `unmasked`, `print` and `assert`. One line for each kind of node.
 use Rattle.std.specs.Prelude.{List, [], ◌∷◌, Bool, true, false, Option, Some, None}
 use Rattle.std.specs.Option.{option_or}
 use Rattle.isp_base.specs.declared.types.Span.{Span}
 use Rattle.isp_typed.specs.Typed.{TExpr, t_constant, t_program_index, t_place, t_convert, t_cast, t_unary, t_binary, t_compare, t_logic, t_choose, t_call, t_library, t_packed_store, t_packed_load, TPlace, t_variable, t_element, call_span, TItem, t_plain, t_with_value, t_with_size, TSimple, t_value, t_run, t_assign, t_update, t_step}
 use Rattle.isp_typed.specs.Typed.{TStmt, t_block, t_declare, t_simple, t_if, t_if_else, t_while, t_do, t_for, t_foreach, t_foreach_active, t_unmasked, t_jump, t_return, t_print, t_assert, TBlock, t_braces, TStmts, t_no_stmts, t_stmt_then, TFunction, Program}
 
--- the first of a node itself, which is compiled where a test holds, and its parts
+-- the first of a node itself, which has code where a test holds, and its parts
 abbrev pub compiled_where : Bool → Span → Option Span → Option Span
 compiled_where true s parts = parts
 compiled_where false s parts = Some s
@@ -87,7 +87,7 @@ abbrev mutual
 
 -- ---- functions
 
--- a function stands where its name is
+-- a function stands where its name is; its parameters and its result are of any type
 abbrev pub function_left : TFunction → Option Span
 function_left g = compiled_where g.exported g.span (block_left g.body)
 
