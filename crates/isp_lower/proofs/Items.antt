@@ -14,6 +14,7 @@ use Rattle.isp_code.specs.Conf.{Conf, Go}
 use Rattle.isp_code.specs.Lines.{set_array, set_own}
 use Rattle.isp_code.specs.Lines as lines
 use Rattle.isp_code.specs.declared.instr.Instr.TheVariants as instr
+use Rattle.isp_typed.specs.Fine.{heads}
 use Rattle.isp_typed.specs.Typed.{TItem, t_plain, t_with_value, t_with_size}
 use Rattle.isp_typed.specs.declared.variable.ArrayVariable.{ArrayVariable}
 use Rattle.isp_meaning.specs.State.{State, tick}
@@ -24,7 +25,7 @@ use Rattle.isp_meaning.specs.Simple.{cleared, item, items}
 use Rattle.isp_lower.specs.Layout.{mask_register, array_register}
 use Rattle.isp_lower.specs.Setting.{Setting, IsSettled, gang_of, AreAt, Holds}
 use Rattle.isp_lower.specs.Runs.{Enters, Ok, DoneRuns}
-use Rattle.isp_lower.specs.Fits.{heads, ArrayFitsAt}
+use Rattle.isp_lower.specs.Fits.{ArrayFitsAt}
 use Rattle.isp_lower.specs.Code.{constant}
 use Rattle.isp_lower.specs.Items.{zero_code, item_code, item_places, items_code, items_places, ZeroFits, ItemFits, ItemsFit}
 use Rattle.isp_lower.proofs.Base.{are_front, are_back, keeps_all, comes_none, next_at, at_to}

@@ -8,6 +8,7 @@ use Rattle.isp_base.specs.declared.types.Rate.TheVariants.{Uniform, Varying}
 use Rattle.isp_code.specs.Lines.{local_size}
 use Rattle.isp_code.specs.Registers.{elem_of, is_per_lane, passed}
 use Rattle.isp_typed.specs.Typed.{TExpr, t_constant, t_program_index, t_place, t_convert, t_cast, t_unary, t_binary, t_compare, t_logic, t_choose, t_call, t_library, t_packed_store, t_packed_load, TPlace, t_variable, t_element, type_of}
+use Rattle.isp_typed.specs.Fine.{heads}
 use Rattle.isp_typed.specs.declared.variable.ArrayVariable.{ArrayVariable}
 use Rattle.isp_meaning.specs.State.{extent}
 use Rattle.isp_lower.specs.Layout.{register, array_register}
@@ -21,23 +22,6 @@ abbrev pub Reaches : Rate → Rate → Type 0
 Reaches Uniform r = Unit {0}
 Reaches Varying Uniform = ⊥
 Reaches Varying Varying = Unit {0}
-
--- how many conversions stand at the head: they count no work
-abbrev pub heads : TExpr → ℕ
-heads (t_constant v sp) = 0
-heads (t_program_index sp) = 0
-heads (t_place p) = 0
-heads (t_convert e x) = 1 + heads x
-heads (t_cast x t sp) = 0
-heads (t_unary o x t sp) = 0
-heads (t_binary o x y t sp) = 0
-heads (t_compare c x y r sp) = 0
-heads (t_logic g x y r sp) = 0
-heads (t_choose c x y t sp) = 0
-heads (t_call c t) = 0
-heads (t_library f e xs t sp) = 0
-heads (t_packed_store b x sp) = 0
-heads (t_packed_load b v sp) = 0
 
 module _ (w : Setting) where
   abbrev pub IsTyped : Rate → ℕ → Elem → Type 0

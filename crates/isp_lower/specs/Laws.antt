@@ -2,26 +2,25 @@
 use Rattle.std.specs.Prelude.{◌≡◌, ℕ, List, ◌+◌, ◌++◌, length, map, Some}
 use Rattle.isp_base.specs.Sets.{Mask}
 use Rattle.isp_code.specs.Conf.{Conf}
-use Rattle.isp_typed.specs.Typed.{TExpr, TSimple, TItem, TFunction, type_of}
+use Rattle.isp_typed.specs.Typed.{TExpr, TSimple, TItem, type_of}
 use Rattle.isp_meaning.specs.State.{State, tick}
 use Rattle.isp_meaning.specs.Expressions.{value}
 use Rattle.isp_meaning.specs.Simple.{simple, items}
-use Rattle.isp_typed.specs.Fine.{FineExpr, FineSimple, FineItem}
-use Rattle.isp_typed.specs.declared.variable.Variable.{Variable}
+use Rattle.isp_typed.specs.Fine.{heads}
 use Rattle.isp_base.specs.declared.types.Elem.{Elem}
 use Rattle.isp_base.specs.declared.types.Rate.{Rate}
 use Rattle.isp_code.specs.Registers.{table_of, types_in}
 use Rattle.isp_code.specs.Listing.{Listing, Routine}
 use Rattle.isp_lower.specs.Layout.{Layout, IsApart, class_at}
 use Rattle.isp_lower.specs.Rows.{Name, Row, Rows, rows_at, number_in, elem_in, layout_of, HasRow}
-use Rattle.isp_lower.specs.Trees.{ExprTree, SimpleTree, ItemTree, ItemsTree, IsPlain, IsPlainSimple, IsPlainItem}
+use Rattle.isp_lower.specs.Trees.{ExprTree, SimpleTree, ItemsTree}
 use Rattle.isp_lower.specs.Tables.{ExprTable, SimpleTable, ItemsTable}
 use Rattle.isp_lower.specs.Sound.{PartSound, IsRegister, HasRegister, ExprPresent, SimplePresent, ItemsPresent}
 use Rattle.isp_lower.specs.Items.{items_code, items_places, ItemsFit}
 use Rattle.isp_lower.specs.Simple.{simple_code, simple_places, SimpleFits}
 use Rattle.isp_lower.specs.Setting.{Setting, IsSettled, gang_of, AreAt, Holds}
 use Rattle.isp_lower.specs.Runs.{Enters, Runs, DoneRuns}
-use Rattle.isp_lower.specs.Fits.{heads, IsTyped, ExprFits}
+use Rattle.isp_lower.specs.Fits.{IsTyped, ExprFits}
 use Rattle.isp_lower.specs.Code.{found, expr_places, expr_code}
 
 -- From registers that stand for a state and a mask that stands for a set with members, the code of an expression gives
@@ -46,11 +45,6 @@ ItemsRun =
 abbrev pub PartsFit : Type 0
 PartsFit =
     (w : Setting) (n : ℕ) → ((x : TExpr) → ExprTree x → ExprTable w x n → ExprFits w x n) × ((x : TSimple) → SimpleTree x → SimpleTable w x n → SimpleFits w x n) × ((xs : List TItem) → ItemsTree xs → ItemsTable w n xs → ItemsFit w n xs)
-
--- The trees of a fine program are as code asks, but for what fineness leaves open.
-abbrev pub TreesFit : Type 0
-TreesFit =
-    (fs : List TFunction) (vars : List Variable) → ((x : TExpr) → FineExpr fs vars x → IsPlain x → ExprTree x) × ((x : TSimple) → FineSimple fs vars x → IsPlainSimple x → SimpleTree x) × ((x : TItem) → FineItem fs vars x → IsPlainItem x → ItemTree x)
 
 -- A layout from rows gives each name a register of its own.
 abbrev pub LayoutsAreApart : Type 0

@@ -1,5 +1,5 @@
 //! What holds of all code. No code is run here: each function carries a law in its contract.
-ghost use Rattle.isp_lower.specs.Laws.{ExprRuns, ExprSound, ItemsRun, ItemsSound, LayoutsAreApart, PartsFit, RowsAreThere, RowsAreTyped, RowsStay, SimpleRuns, SimpleSound, TreesFit};
+ghost use Rattle.isp_lower.specs.Laws.{ExprRuns, ExprSound, ItemsRun, ItemsSound, LayoutsAreApart, PartsFit, RowsAreThere, RowsAreTyped, RowsStay, SimpleRuns, SimpleSound};
 
 /// The code of an expression gives its value in the lanes of a mask, traps as it traps, and goes on
 /// where it is cut, within 32 instructions for each unit of work. Variables, and the registers that
@@ -25,12 +25,6 @@ pub fn declarations_run()
 /// each register has its type.
 pub fn parts_fit()
     ensures { PartsFit }
-{}
-
-/// The trees of every accepted program are as the laws ask, where no conversion converts a conversion,
-/// casts and assignments have the rates that are checked by themselves, and nothing is a call.
-pub fn trees_fit()
-    ensures { TreesFit }
 {}
 
 /// A layout from lists of rows, in which a register has the number of the first row of its name, gives

@@ -21,7 +21,6 @@ pub use expression::{expr, index, operand};
 pub use laws::{
     assignments_run, assignments_sound, declarations_run, declarations_sound, expressions_run,
     expressions_sound, layouts_are_apart, parts_fit, rows_are_there, rows_are_typed, rows_stay,
-    trees_fit,
 };
 pub use leaves::{after, copy, mask, scalar, the_others, vector, where_so};
 pub use registers::{RegisterName, RegisterRow, Registers};

@@ -5,6 +5,7 @@ mod Leaves
 mod Sequences
 mod Stmts
 mod Parts
+mod Checked
 mod Endings
 mod Begins
 mod Firsts

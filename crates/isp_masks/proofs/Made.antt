@@ -21,11 +21,10 @@ use Rattle.isp_masks.specs.Accepted.{IsBodyCode}
 use Rattle.isp_masks.specs.Compiled.{ResultFits, IsCompiled, PassedUniform, parameter_rows}
 use Rattle.isp_masks.specs.Laws.{BodyPresent}
 use Rattle.isp_masks.specs.Made.{returns_at, returns_of, ResultRow, IsMade, GivesUniform}
-use Rattle.isp_masks.specs.Parts.{IsPlainBlock}
+use Rattle.isp_masks.specs.Parts.{BlockTree}
 use Rattle.isp_masks.specs.Statements.{block_places, returned, function_code}
 use Rattle.isp_masks.proofs.ArraysThere.{body_present}
 use Rattle.isp_masks.proofs.Firsts.{parameters_first}
-use Rattle.isp_masks.proofs.Parts.{block_tree}
 use Rattle.isp_masks.proofs.Presences.{block_grows}
 
 -- ---- lists
@@ -61,14 +60,14 @@ module _ (fs : List TFunction) (code : Listing) (h : TFunction) (g : Routine) (r
   given (Some t) row e =
       subst (λ z. IsGiven g z (Some (register t.rate ((layout_of rows).result t.rate)))) (sym e) (given_at t.rate t.elem (register_there g rows made.types t.rate Result t.elem row))
 
-  pub made_accepted : IsPlainBlock h.answer h.body → IsBodyCode code g
+  pub made_accepted : BlockTree h.answer h.body → IsBodyCode code g
   made_accepted plain = record {
     layout = layout_of rows;
     answer = h.answer;
     body = h.body;
     place = p;
     code_is = made.code_is;
-    tree = block_tree fs h.variables h.answer h.body fine.body plain;
+    tree = tree;
     present = present.present;
     masks = made.masks;
     places = at_low code.places p (block_places (layout_of rows) h.body) made.low made.places_are;
@@ -80,7 +79,7 @@ module _ (fs : List TFunction) (code : Listing) (h : TFunction) (g : Routine) (r
   result_fits (Some t) e row u =
       (u, e, subst (λ r. elem_of g (register r ((layout_of rows).result r)) ≡ t.elem) u (register_there g rows made.types t.rate Result t.elem row).1)
 
-pub made_compiled : (program : Program) (code : Listing) (f : ℕ) (h : TFunction) (g : Routine) (rows : Rows) (more : List Row) (p : ℕ) → code.gang ≡ program.gang → slice_get program.functions f ≡ Some h → slice_get code.routines f ≡ Some g → FineFunction program.functions h → IsPlainBlock h.answer h.body → IsMade code h g rows p → rows.scalars ≡ parameter_rows 0 h.parameters ++ more → PassedUniform h → GivesUniform h.answer → IsCompiled program code f h g (layout_of rows) p
+pub made_compiled : (program : Program) (code : Listing) (f : ℕ) (h : TFunction) (g : Routine) (rows : Rows) (more : List Row) (p : ℕ) → code.gang ≡ program.gang → slice_get program.functions f ≡ Some h → slice_get code.routines f ≡ Some g → FineFunction program.functions h → BlockTree h.answer h.body → IsMade code h g rows p → rows.scalars ≡ parameter_rows 0 h.parameters ++ more → PassedUniform h → GivesUniform h.answer → IsCompiled program code f h g (layout_of rows) p
 made_compiled program code f h g rows more p gang source found fine plain made first uniform gives = record {
   gang = gang;
   source = source;
@@ -90,6 +89,6 @@ made_compiled program code f h g rows more p gang source found fine plain made f
   result = result_fits program.functions code h g rows p fine made h.answer fine.gives made.result gives;
   code_is = subst (λ c. AreAt c 0 (function_code (layout_of rows) h.answer h.body p)) (sym made.code_is) (at_whole (function_code (layout_of rows) h.answer h.body p));
   places_are = made.places_are;
-  tree = block_tree program.functions h.variables h.answer h.body fine.body plain;
+  tree = plain;
   table = λ turns xs sig few. (present program.functions code h g rows p fine made).table program code f turns xs sig few;
 }

@@ -20,7 +20,7 @@ use Rattle.isp_lower.specs.Tables.{AnyArray}
 use Rattle.isp_masks.specs.Accepted.{IsBodyCode}
 use Rattle.isp_masks.specs.Arrays.{ArraysStand}
 use Rattle.isp_masks.specs.Compiled.{IsCompiled, PassedUniform, parameter_rows}
-use Rattle.isp_masks.specs.Parts.{IsPlainBlock}
+use Rattle.isp_masks.specs.Parts.{BlockTree}
 use Rattle.isp_masks.specs.Presence.{BlockHas}
 use Rattle.isp_masks.specs.Statements.{block_places, function_code}
 
@@ -57,5 +57,5 @@ GivesUniform (Some t) = t.rate ≡ Uniform
 -- A routine that is made from an accepted function is the code of its body; and it is what an entry is to be, where values
 -- have their rows first and are passed and given back as one for the gang.
 pub record MadeIsCode : Type 0 where
-  pub accepted : (fs : List TFunction) (code : Listing) (h : TFunction) (g : Routine) (rows : Rows) (p : ℕ) → FineFunction fs h → IsPlainBlock h.answer h.body → IsMade code h g rows p → IsBodyCode code g
-  pub compiled : (program : Program) (code : Listing) (f : ℕ) (h : TFunction) (g : Routine) (rows : Rows) (more : List Row) (p : ℕ) → code.gang ≡ program.gang → slice_get program.functions f ≡ Some h → slice_get code.routines f ≡ Some g → FineFunction program.functions h → IsPlainBlock h.answer h.body → IsMade code h g rows p → rows.scalars ≡ parameter_rows 0 h.parameters ++ more → PassedUniform h → GivesUniform h.answer → IsCompiled program code f h g (layout_of rows) p
+  pub accepted : (fs : List TFunction) (code : Listing) (h : TFunction) (g : Routine) (rows : Rows) (p : ℕ) → FineFunction fs h → BlockTree h.answer h.body → IsMade code h g rows p → IsBodyCode code g
+  pub compiled : (program : Program) (code : Listing) (f : ℕ) (h : TFunction) (g : Routine) (rows : Rows) (more : List Row) (p : ℕ) → code.gang ≡ program.gang → slice_get program.functions f ≡ Some h → slice_get code.routines f ≡ Some g → FineFunction program.functions h → BlockTree h.answer h.body → IsMade code h g rows p → rows.scalars ≡ parameter_rows 0 h.parameters ++ more → PassedUniform h → GivesUniform h.answer → IsCompiled program code f h g (layout_of rows) p

@@ -1,13 +1,12 @@
--- What `StmtFits` demands falls in two: what is asked of the tree alone, and that each register has its type. And what an
--- accepted program leaves open of the first.
-use Rattle.std.specs.Prelude.{◌≡◌, ℕ, List, [], ◌∷◌, Option, Some, None}
+-- What `StmtFits` demands falls in two: what is asked of the tree alone, and that each register has its type.
+use Rattle.std.specs.Prelude.{◌≡◌, ℕ, Option, Some, None}
 use Rattle.isp_base.specs.declared.types.Elem.TheVariants.{Bool as Truth}
 use Rattle.isp_base.specs.declared.types.Ty.{Ty}
-use Rattle.isp_typed.specs.Typed.{TExpr, type_of, TItem, TStmt, t_block, t_declare, t_simple, t_if, t_if_else, t_while, t_do, t_for, t_foreach, t_foreach_active, t_unmasked, t_jump, t_return, t_print, t_assert, TBlock, t_braces, TStmts, t_no_stmts, t_stmt_then}
-use Rattle.isp_lower.specs.Fits.{Reaches, IsNamed, ArrayFits}
+use Rattle.isp_typed.specs.Typed.{TExpr, type_of, TStmt, t_block, t_declare, t_simple, t_if, t_if_else, t_while, t_do, t_for, t_foreach, t_foreach_active, t_unmasked, t_jump, t_return, t_print, t_assert, TBlock, t_braces, TStmts, t_no_stmts, t_stmt_then}
+use Rattle.isp_lower.specs.Fits.{IsNamed, ArrayFits}
 use Rattle.isp_lower.specs.Setting.{Setting}
 use Rattle.isp_lower.specs.Tables.{AnyMask}
-use Rattle.isp_lower.specs.Trees.{OperandTree, ExprTree, SimpleTree, ItemsTree, IsPlain, IsPlainSimple, IsPlainItem}
+use Rattle.isp_lower.specs.Trees.{OperandTree, ExprTree, SimpleTree, ItemsTree}
 use Rattle.isp_masks.specs.Presence.{AnswerHas, StmtHas, BlockHas, StmtsHave}
 
 -- ---- the tree
@@ -57,40 +56,3 @@ module _ (w : Setting) where
 
   abbrev pub StmtsTable : TStmts → ℕ → Type 0
   StmtsTable xs n = StmtsHave (IsNamed w) (ArrayFits w) (ArrayFits w) AnyMask w.frame.answer xs n
-
--- ---- what an accepted program leaves open: that it has covered statements alone, and what its parts leave open
-
-abbrev pub ArePlainItems : List TItem → Type 0
-ArePlainItems [] = Unit {0}
-ArePlainItems (x ∷ xs) = IsPlainItem x × ArePlainItems xs
-
-abbrev pub IsPlainAnswer : Option Ty → TExpr → Type 0
-IsPlainAnswer None x = IsPlain x
-IsPlainAnswer (Some t) x = Reaches (type_of x).rate t.rate × IsPlain x
-
-module _ (answer : Option Ty) where
-  abbrev mutual
-    pub IsPlainStmt : TStmt → Type 0
-    IsPlainStmt (t_block b) = IsPlainBlock b
-    IsPlainStmt (t_declare xs sp) = ArePlainItems xs
-    IsPlainStmt (t_simple x sp) = IsPlainSimple x
-    IsPlainStmt (t_if f g e x sp) = IsPlain e × IsPlainStmt x
-    IsPlainStmt (t_if_else f g e x y sp) = IsPlain e × IsPlainStmt x × IsPlainStmt y
-    IsPlainStmt (t_while f g e x sp) = ⊥
-    IsPlainStmt (t_do f g x e sp) = ⊥
-    IsPlainStmt (t_for f g first e step i x sp) = ⊥
-    IsPlainStmt (t_foreach k g rs x sp) = ⊥
-    IsPlainStmt (t_foreach_active k g i x sp) = ⊥
-    IsPlainStmt (t_unmasked k b sp) = ⊥
-    IsPlainStmt (t_jump j k sp) = Unit {0}
-    IsPlainStmt (t_return k None sp) = Unit {0}
-    IsPlainStmt (t_return k (Some x) sp) = IsPlainAnswer answer x
-    IsPlainStmt (t_print k text xs sp) = ⊥
-    IsPlainStmt (t_assert x c sp) = ⊥
-
-    pub IsPlainBlock : TBlock → Type 0
-    IsPlainBlock (t_braces xs sp) = ArePlain xs
-
-    pub ArePlain : TStmts → Type 0
-    ArePlain t_no_stmts = Unit {0}
-    ArePlain (t_stmt_then x xs) = IsPlainStmt x × ArePlain xs

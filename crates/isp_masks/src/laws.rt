@@ -1,7 +1,7 @@
 //! What holds of all code. No code is run here: each function carries a law in its contract.
 ghost use Rattle.isp_masks.specs.Accepted.{CodeAccepted};
+ghost use Rattle.isp_masks.specs.Laws.{BodiesFit, BodiesPresent, CheckedFits, EntryArraysFit, EntryRuns, FunctionSound, ParametersFirst, ProgramRuns, StatementRuns};
 ghost use Rattle.isp_masks.specs.Made.{MadeIsCode};
-ghost use Rattle.isp_masks.specs.Laws.{BodiesFit, BodiesPresent, EntryArraysFit, EntryRuns, FunctionSound, ParametersFirst, ProgramRuns, StatementRuns};
 
 /// The code of a statement does it for the instances of a mask that has members: afterwards the mask
 /// has those that went on, and two others have grown by those that continued and that returned. It
@@ -39,10 +39,15 @@ pub fn bodies_accepted()
 {}
 
 /// What the laws ask of a body and its registers falls in two: what is asked of the tree alone, and
-/// that each register has its type. The bodies of every accepted program are as the first asks, where
-/// they have the statements that are covered, and their parts are as isp_lower asks.
+/// that each register has its type.
 pub fn bodies_fit()
     ensures { BodiesFit }
+{}
+
+/// The bodies of every accepted program are as the first asks, where they have only what has code, and
+/// what an exported function takes and gives is one value for the gang.
+pub fn checked_fits()
+    ensures { CheckedFits }
 {}
 
 /// Where the registers and masks that the body of an accepted function asks for are there, arrays that
