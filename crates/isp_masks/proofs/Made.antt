@@ -67,7 +67,7 @@ module _ (fs : List TFunction) (code : Listing) (h : TFunction) (g : Routine) (r
     body = h.body;
     place = p;
     code_is = made.code_is;
-    tree = tree;
+    tree = plain;
     present = present.present;
     masks = made.masks;
     places = at_low code.places p (block_places (layout_of rows) h.body) made.low made.places_are;
