@@ -1,5 +1,5 @@
 -- What is appended: one part after the other. What follows the registers given later follows those given before.
-use Rattle.std.proofs.Common.{◌≡◌, ℕ, ◌+◌, ◌<◌, List, slice_get, [], ◌∷◌, ◌++◌, length, refl, sym, ap, subst, ◌∙◌, arith, append_assoc, append-nil, length-append}
+use Rattle.std.proofs.Common.{◌≡◌, ℕ, ◌+◌, List, [], ◌∷◌, ◌++◌, length, refl, sym, ap, subst, ◌∙◌, arith, append_assoc, append-nil, length-append}
 use Rattle.isp_base.specs.Values.{divides}
 use Rattle.isp_base.specs.declared.operators.BinOp.{BinOp}
 use Rattle.isp_base.specs.declared.operators.BinOp.TheVariants as op
@@ -312,3 +312,11 @@ chosen a b c d o go k m p q at e f there is same kept =
             places = same ∙ was.places;
           };
     }
+
+-- where a part ends, behind one instruction
+pub ends_at : (a b c : FunctionBuilder) (i : Instr) (k : Code) (p : Layout → List Span) → Emits a b (λ l pc n. i ∷ []) (λ l. []) → Emits b c k p
+    → (l : Layout) → Follows l c.registers → length c.code.items ≡ length a.code.items + 1 + length (k l (length a.code.items + 1) (length a.listing.places))
+ends_at a b c i k p x y l s =
+    let was = (after_one a b c i k p x y).adds l s in
+    let body = k l (length a.code.items + 1) (length a.listing.places) in
+    omega (arith, ap length was.code ∙ length-append a.code.items (i ∷ body))

@@ -1,5 +1,8 @@
-mod Views
-mod Following
+pub mod Views
+pub mod Following
+pub mod Sequels
+pub mod Staying
+pub mod Homes
 pub mod Splits
 pub mod Base
 pub mod Rates

@@ -18,7 +18,7 @@ use std::alloc::AllocError;
 
 /// Whether the last instruction writes the value, where one of a rate is wanted.
 fn writes_part(wanted: Rate, given: Rate, written: bool) -> bool
-    ensures { result ≡ writes_part wanted given written }
+    ensures { (l : Layout) → result ≡ writes_part l wanted given written }
 {
     match (wanted, given) {
         (Rate::Varying, Rate::Uniform) => true,

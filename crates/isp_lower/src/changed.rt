@@ -16,6 +16,13 @@ use isp_base::{BinOp, Elem, Rate, Span, Ty};
 use isp_typed::{ArrayVariable, TypedExpr, TypedPlace};
 use std::alloc::AllocError;
 
+/// Whether two element types are one.
+fn same_elem(a: Elem, b: Elem) -> bool
+    ensures { result ≡ same_elem a b }
+{
+    a == b
+}
+
 /// A register gets an operator on what another has and on a value, each converted where the operator works in another
 /// type than theirs.
 fn update_to(
@@ -32,7 +39,7 @@ fn update_to(
 ) -> Result<(), AllocError>
     ensures { OnOk result (Emits b.old b.new (λ l pc p. update_to l (same_elem ty.elem elem) operator elem ty.rate to from by k slot p) (λ l. operate_places operator span)) }
 {
-    if ty.elem == elem {
+    if same_elem(ty.elem, elem) {
         operate_to(b, ty.rate, operator, to, from, by, k, span)?;
         Ok(())
     } else {

@@ -461,9 +461,10 @@ fn choose_to(
         return Ok(());
     }
     match test.ty().rate {
-        Rate::Uniform => choose_by_jump(b, tested, ty, then, otherwise, k, slot),
-        Rate::Varying => choose_by_masks(b, tested, ty, then, otherwise, k, slot),
+        Rate::Uniform => choose_by_jump(b, tested, ty, then, otherwise, k, slot)?,
+        Rate::Varying => choose_by_masks(b, tested, ty, then, otherwise, k, slot)?,
     }
+    Ok(())
 }
 
 /// A side of a choice, moved to the slot.

@@ -1,5 +1,5 @@
 //! What `&&`, `||` and `?:` are made of.
-ghost use Rattle.std.specs.Prelude.{◌≡◌, ◌∷◌, [], ◌++◌, IfOk, OnOk};
+ghost use Rattle.std.specs.Prelude.{◌≡◌, ◌&&◌, ◌∷◌, [], ◌++◌, IfOk, OnOk};
 ghost use Rattle.isp_lower.specs.Code.{decided, is_short, move_code, needing, same_rate, stays, stays_at};
 ghost use Rattle.isp_lower.specs.Emitted.{Emits, Puts};
 ghost use Rattle.isp_lower.specs.Layout.{Layout};
@@ -101,9 +101,16 @@ fn stays_at(rate: Rate, x: &TypedExpr) -> bool
     same_rate(rate, x.ty().rate) && stays(x)
 }
 
+/// Whether two expressions stay in place.
+fn both_stay(rate: Rate, then: &TypedExpr, otherwise: &TypedExpr) -> bool
+    ensures { (l : Layout) → result ≡ (stays_at l rate (expr_of then.now) && stays_at l rate (expr_of otherwise.now)) }
+{
+    stays_at(rate, then) && stays_at(rate, otherwise)
+}
+
 /// Whether a choice is one instruction: between two variables, by a test of their rate.
 pub fn is_short(rate: Rate, test: &TypedExpr, then: &TypedExpr, otherwise: &TypedExpr) -> bool
     ensures { (l : Layout) → result ≡ is_short l rate (expr_of test.now) (expr_of then.now) (expr_of otherwise.now) }
 {
-    same_rate(rate, test.ty().rate) && stays_at(rate, then) && stays_at(rate, otherwise)
+    same_rate(rate, test.ty().rate) && both_stay(rate, then, otherwise)
 }

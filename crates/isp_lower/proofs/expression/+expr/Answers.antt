@@ -1,4 +1,4 @@
-use Rattle.std.proofs.Common.{◌≡◌, ℕ, ◌+◌, true, false, [], ◌∷◌, ◌++◌, append-nil, refl, sym, ap, subst, ◌∙◌, IfOk, length}
+use Rattle.std.proofs.Common.{◌≡◌, ℕ, ◌+◌, true, false, List, [], ◌∷◌, ◌++◌, append-nil, refl, sym, ap, subst, ◌∙◌, arith, length}
 use Rattle.std.specs.Prelude.{slice_set, OnOk}
 use Rattle.isp_code.specs.Listing.{Listing}
 use Rattle.isp_code.specs.declared.instr.Instr.{Instr}
@@ -10,14 +10,17 @@ use Rattle.isp_base.specs.declared.types.Elem.TheVariants.{Bool as Truth, I64}
 use Rattle.isp_base.specs.declared.types.Rate.{Rate}
 use Rattle.isp_base.specs.declared.types.Rate.TheVariants.{Uniform, Varying}
 use Rattle.isp_base.specs.declared.types.Ty.{Ty}
-use Rattle.isp_typed.specs.Typed.{TExpr, TPlace, t_compare, t_convert, t_place, type_of}
+use Rattle.isp_typed.specs.Typed.{TExpr, TPlace, t_choose, t_compare, t_convert, t_logic, t_place, t_unary, type_of}
 use Rattle.isp_typed.specs.Views.{expr_of, place_of}
-use Rattle.isp_lower.specs.Code.{choice, choose_rest, is_short, jump_on, select, stays, the_others, where_so, compare, constant, constant_of, convert, convert_to, copy, decided, expr_code, expr_places, expr_to, found, guard, index, index_of, is_whole, jump_off, lift_code, lift_to, lifted, move_code, needing, operand, operand_of, operate, operate_places, part_to, read, splat, unary, whole, whole_of}
-use Rattle.isp_lower.specs.Emitted.{Computes, Emits, Puts, Writes}
-use Rattle.isp_lower.specs.Layout.{register}
-use Rattle.isp_lower.proofs.Following.{after_one, chosen, emits_pair, landed_puts, put_in, puts_first, emits_so, landed, puts_end, puts_keep, puts_with, pushed_is}
+use Rattle.isp_lower.specs.Code.{choice, choose_code, choose_rest, choose_to, is_short, jump_on, select, the_others, where_so, compare, constant, convert, convert_to, copy, decided, expr_code, expr_places, expr_to, found, guard, index, index_of, is_whole, jump_off, lift_code, lift_to, lifted, move_code, needing, operand, operand_of, operate, operate_places, part_to, read, splat, unary, whole, whole_of}
+use Rattle.isp_lower.specs.Emitted.{Emits, Follows, Puts, Writes}
+use Rattle.isp_lower.specs.Layout.{Layout, register}
+use Rattle.std.proofs.lemmas.Result.{on_ok_weaker}
+use Rattle.isp_lower.proofs.Following.{Code, after_one, before, chosen, ends_at, emits_pair, landed_puts, put_in, puts_first, emits_so, landed, puts_end, puts_keep, puts_with, pushed_is}
 use Rattle.isp_lower.proofs.Found.{constant_is_one}
-use Rattle.isp_lower.proofs.Views.{constant_view, index_view, cast_view, element_view}
+use Rattle.isp_lower.proofs.Sequels.{code_so}
+use Rattle.isp_lower.proofs.Staying.{short_silent}
+use Rattle.isp_lower.proofs.Views.{constant_view, index_view, cast_view, unary_view, compare_view, logic_view, choose_view, element_view}
 use Rattle.isp_lower.proofs.expression.+expr.Goals as goal
 
 pub expr-returns : goal.expr-returns
@@ -258,3 +261,189 @@ masked_side-returns t c =
     c.in_ok-push.ensures c.in_ok-from.ensures
     (c.in_ok-land.ensures.code ∙ ap (λ m. slice_set c.operand.new.b.code.items m (instr.JumpIf jump.Off c.mask-2.result (length c.operand.new.b.code.items))) (c.len-at.ensures ∙ c.args.b.now.code.ok.0) ∙ ap (λ h. slice_set c.operand.new.b.code.items (length c.args.b.now.code.items) (instr.JumpIf jump.Off h (length c.operand.new.b.code.items))) c.mask-2.ensures)
     (ap (λ (z : Listing). z.places) c.in_ok-land.ensures.same.0) c.in_ok-land.ensures.same.1
+
+pub choose_by_masks-returns : goal.choose_by_masks-returns
+choose_by_masks-returns t c =
+    let x = expr_of c.args.then.now in
+    let y = expr_of c.args.otherwise.now in
+    let r = c.args.ty.rate in
+    let e = c.args.ty.elem in
+    let k = c.args.k in
+    let n = c.args.slot in
+    let d = c.args.tested in
+    let at : c.in_ok-next.next ≡ n + 1 = c.in_ok-next.ensures in
+    let on : c.in_ok-last.last ≡ n + 2 = omega (arith, c.in_ok-last.ensures, c.in_ok-next.ensures) in
+    let first : Code = λ l pc p. guard (jump_off n) pc (λ pc1. operand_of l r x n (n + 1) (expr_code l x pc1 p n (n + 1))) in
+    let second : Code = λ l pc p. guard (jump_off (n + 1)) pc (λ pc1. operand_of l r y (n + 1) (n + 2) (expr_code l y pc1 p (n + 1) (n + 2))) in
+    let s1 : Puts c.push.new.self c.masked_side.new.b first (λ l. expr_places l x) (λ l. operand l r x (n + 1)) c.in_ok-first.first
+    = subst (λ m. Puts c.push.new.self c.masked_side.new.b (λ l pc p. guard (jump_off n) pc (λ pc1. operand_of l r x n m (expr_code l x pc1 p n m))) (λ l. expr_places l x) (λ l. operand l r x m) c.in_ok-first.first) at c.in_ok-first.ensures in
+    let s2 : Puts c.push-2.new.self c.masked_side-2.new.b second (λ l. expr_places l y) (λ l. operand l r y (n + 2)) c.in_ok-second.second
+    = subst (λ m. Puts c.push-2.new.self c.masked_side-2.new.b (λ l pc p. guard (jump_off m) pc (λ pc1. operand_of l r y m (n + 2) (expr_code l y pc1 p m (n + 2)))) (λ l. expr_places l y) (λ l. operand l r y (n + 2)) c.in_ok-second.second) at
+    (subst (λ m. Puts c.push-2.new.self c.masked_side-2.new.b (λ l pc p. guard (jump_off c.in_ok-next.next) pc (λ pc1. operand_of l r y c.in_ok-next.next m (expr_code l y pc1 p c.in_ok-next.next m))) (λ l. expr_places l y) (λ l. operand l r y m) c.in_ok-second.second) on c.in_ok-second.ensures) in
+    let chosen_one = put_in c.masked_side-2.new.b c.spare.new.self c.push-3.new.self (λ l. l.spare r e n) c.in_ok-to.to (λ w. select Varying w d c.in_ok-first.first c.in_ok-second.second k) c.select.result c.in_ok-to.ensures c.select.ensures c.in_ok-push-3.ensures in
+    let behind = puts_keep c.push-2.new.self c.masked_side-2.new.b c.push-3.new.self second (λ l. expr_places l y) (λ l. operand l r y (n + 2)) c.in_ok-second.second (λ w l pc p. select Varying (l.spare r e n) d c.in_ok-first.first w k ∷ []) (λ l. []) s2 chosen_one.emits in
+    let rest = after_one c.masked_side.new.b c.push-2.new.self c.push-3.new.self (the_others (n + 1) k n)
+    (λ l pc p. second l pc p ++ select Varying (l.spare r e n) d c.in_ok-first.first (operand l r y (n + 2)) k ∷ []) (λ l. expr_places l y ++ [])
+    (pushed_is _ _ _ (the_others (n + 1) k n) (c.the_others.ensures ∙ ap (λ m. the_others m k n) at) c.in_ok-push-2.ensures) behind.emits in
+    let both = puts_keep c.push.new.self c.masked_side.new.b c.push-3.new.self first (λ l. expr_places l x) (λ l. operand l r x (n + 1)) c.in_ok-first.first
+    (λ w l pc p. the_others (n + 1) k n ∷ (second l (pc + 1) p ++ select Varying (l.spare r e n) d w (operand l r y (n + 2)) k ∷ [])) (λ l. expr_places l y ++ []) s1 rest in
+    emits_so c.args.b.now c.push-3.new.self _ _ _ (λ l. expr_places l x ++ expr_places l y)
+    (after_one c.args.b.now c.push.new.self c.push-3.new.self (where_so n d k)
+    (λ l pc p. first l pc p ++ (the_others (n + 1) k n ∷ (second l (pc + length (first l pc p) + 1) (p + length (expr_places l x)) ++ select Varying (l.spare r e n) d (operand l r x (n + 1)) (operand l r y (n + 2)) k ∷ []))) (λ l. expr_places l x ++ (expr_places l y ++ []))
+    (pushed_is _ _ _ (where_so n d k) c.where_so.ensures c.in_ok-push.ensures) both.emits)
+    (λ l s. refl) (λ l s. ap (λ z. expr_places l x ++ z) (append-nil (expr_places l y)))
+
+pub choose_by_jump-returns : goal.choose_by_jump-returns
+choose_by_jump-returns t c =
+    let x = expr_of c.args.then.now in
+    let y = expr_of c.args.otherwise.now in
+    let r = c.args.ty.rate in
+    let e = c.args.ty.elem in
+    let k = c.args.k in
+    let n = c.args.slot in
+    let d = c.args.tested in
+    let one : Code = λ l pc p. operand_of l r x k n (expr_code l x pc p k n) ++ move_code r (l.spare r e n) (operand l r x n) k in
+    let two : Code = λ l pc p. operand_of l r y k n (expr_code l y pc p k n) ++ move_code r (l.spare r e n) (operand l r y n) k in
+    let to : c.land.new.self.registers ≡ c.push-2.new.self.registers = c.in_ok-land.ensures.same.1 in
+    let jumped = puts_end c.push.new.self c.side.new.b c.push-2.new.self one (λ l. expr_places l x) (λ l. l.spare r e n) _ (λ w. instr.Jump 0) (instr.Jump 0) c.in_ok-side.ensures refl c.in_ok-push-2.ensures in
+    chosen c.args.b.now c.land.new.self c.side-2.new.b c.land_always.new.self (instr.Jump 0) (jump_on jump.False d) one two (λ l. expr_places l x) (λ l. expr_places l y) c.len-over.result
+    (landed c.args.b.now c.push.new.self c.push-2.new.self c.land.new.self _ (jump_on jump.False d) (λ l pc p. one l pc p ++ instr.Jump 0 ∷ []) (λ l. expr_places l x)
+    c.in_ok-push.ensures jumped
+    (c.in_ok-land.ensures.code ∙ ap (λ m. slice_set c.push-2.new.self.code.items m (instr.JumpIf jump.False c.scalar-2.result (length c.push-2.new.self.code.items))) (c.len-at.ensures ∙ c.args.b.now.code.ok.0) ∙ ap (λ h. slice_set c.push-2.new.self.code.items (length c.args.b.now.code.items) (instr.JumpIf jump.False h (length c.push-2.new.self.code.items))) c.scalar-2.ensures)
+    (ap (λ (z : Listing). z.places) c.in_ok-land.ensures.same.0) to)
+    c.in_ok-side-2.ensures.emits
+    (λ l s. c.len-over.ensures ∙ c.side.new.b.code.ok.0 ∙ ends_at c.args.b.now c.push.new.self c.side.new.b _ one (λ l. expr_places l x) c.in_ok-push.ensures c.in_ok-side.ensures.emits l (before l _ _ c.in_ok-push-2.ensures.rows (subst (λ z. Follows l z) to s)))
+    c.in_ok-land_always.ensures.code
+    (ap (λ (z : Listing). z.places) c.in_ok-land_always.ensures.same.0) c.in_ok-land_always.ensures.same.1
+
+pub choose_to-returns-then-is_short : goal.choose_to-returns-then-is_short
+choose_to-returns-then-is_short t c = λ s.
+    let z = expr_of c.args.test.now in
+    let x = expr_of c.args.then.now in
+    let y = expr_of c.args.otherwise.now in
+    let r = c.args.ty.rate in
+    let d = c.args.to in
+    let k = c.args.k in
+    let n = c.args.slot in
+    let so : (l : Layout) → true ≡ is_short l r z x y = λ l. sym c.if-is_short.true ∙ c.is_short.ensures l in
+    let all = puts_keep c.args.b.now c.expr.new.b c.push.new.self (λ l pc p. expr_code l z pc p k n) (λ l. expr_places l z) (λ l. found l z n) c.in_ok-tested.tested (λ w l pc p. select r d w (found l x n) (found l y n) k ∷ []) (λ l. []) c.in_ok-tested.ensures
+    (puts_first c.expr.new.b c.found.new.b c.push.new.self (λ l. found l x n) c.in_ok-first.first (λ w l pc p. select r d c.in_ok-tested.tested w (found l y n) k ∷ []) (λ l. []) c.in_ok-first.ensures
+    (puts_first c.found.new.b c.found-then-is_short.new.b c.push.new.self (λ l. found l y n) c.in_ok-second.second (λ w l pc p. select r d c.in_ok-tested.tested c.in_ok-first.first w k ∷ []) (λ l. []) c.in_ok-second.ensures
+    (pushed_is _ _ _ (select r d c.in_ok-tested.tested c.in_ok-first.first c.in_ok-second.second k) c.select.ensures c.in_ok-push.ensures)).emits).emits in
+    emits_so c.args.b.now c.push.new.self (λ l pc p. expr_code l z pc p k n ++ select r d (found l z n) (found l x n) (found l y n) k ∷ []) (λ l pc p. expr_to l d (t_choose z x y c.args.ty s) pc p k n) (λ l. expr_places l z ++ []) (λ l. expr_places l z ++ (expr_places l x ++ expr_places l y)) all.emits
+    (λ l q.
+    let pc = length c.args.b.now.code.items in
+    let p = length c.args.b.now.listing.places in
+    ap (λ h. choose_to l h d z x y c.args.ty pc k n (expr_code l z pc p k n) (λ pc1 m i. operand_of l r x m i (expr_code l x pc1 (p + length (expr_places l z)) m i)) (λ pc1 m i. operand_of l r y m i (expr_code l y pc1 (p + length (expr_places l z) + length (expr_places l x)) m i))) (so l))
+    (λ l q. ap (λ h. expr_places l z ++ h) (sym (short_silent l r z x y (sym (so l)))))
+
+pub choose_to-returns-in_ok-choose_by_jump-in-Uniform : goal.choose_to-returns-in_ok-choose_by_jump-in-Uniform
+choose_to-returns-in_ok-choose_by_jump-in-Uniform t c = λ s.
+    let z = expr_of c.args.test.now in
+    let x = expr_of c.args.then.now in
+    let y = expr_of c.args.otherwise.now in
+    let r = c.args.ty.rate in
+    let e = c.args.ty.elem in
+    let d = c.args.to in
+    let k = c.args.k in
+    let n = c.args.slot in
+    let so : (l : Layout) → false ≡ is_short l r z x y = λ l. sym c.if-is_short.false ∙ c.is_short.ensures l in
+    let given : Uniform ≡ (type_of z).rate = sym (sym (ap (λ (h : Ty). h.rate) c.ty.ensures) ∙ c.in-Uniform.is) in
+    let all = puts_keep c.args.b.now c.expr.new.b c.choose_by_jump.new.b (λ l pc p. expr_code l z pc p k n) (λ l. expr_places l z) (λ l. found l z n) c.in_ok-tested.tested
+    (λ w l pc p. choice (jump_on jump.False w) pc (λ pc1. operand_of l r x k n (expr_code l x pc1 p k n) ++ move_code r (l.spare r e n) (operand l r x n) k) (λ pc1. operand_of l r y k n (expr_code l y pc1 (p + length (expr_places l x)) k n) ++ move_code r (l.spare r e n) (operand l r y n) k))
+    (λ l. expr_places l x ++ expr_places l y) c.in_ok-tested.ensures c.in_ok-choose_by_jump-in-Uniform.ensures in
+    code_so c.args.b.now c.choose_by_jump.new.b (λ l pc p. choose_code l Uniform r e x y (found l z n) pc k n (expr_code l z pc p k n) (λ pc1 m i. operand_of l r x m i (expr_code l x pc1 (p + length (expr_places l z)) m i)) (λ pc1 m i. operand_of l r y m i (expr_code l y pc1 (p + length (expr_places l z) + length (expr_places l x)) m i)))
+    (λ l pc p. expr_to l d (t_choose z x y c.args.ty s) pc p k n) (λ l. expr_places l z ++ (expr_places l x ++ expr_places l y)) all.emits
+    (λ l pc p.
+    let a : ℕ → ℕ → ℕ → List Instr = λ pc1 m i. operand_of l r x m i (expr_code l x pc1 (p + length (expr_places l z)) m i) in
+    let b : ℕ → ℕ → ℕ → List Instr = λ pc1 m i. operand_of l r y m i (expr_code l y pc1 (p + length (expr_places l z) + length (expr_places l x)) m i) in
+    ap (λ h. choose_code l h r e x y (found l z n) pc k n (expr_code l z pc p k n) a b) given
+    ∙ ap (λ h. choose_to l h d z x y c.args.ty pc k n (expr_code l z pc p k n) a b) (so l))
+
+pub choose_to-returns-in_ok-choose_by_masks-in-Varying : goal.choose_to-returns-in_ok-choose_by_masks-in-Varying
+choose_to-returns-in_ok-choose_by_masks-in-Varying t c = λ s.
+    let z = expr_of c.args.test.now in
+    let x = expr_of c.args.then.now in
+    let y = expr_of c.args.otherwise.now in
+    let r = c.args.ty.rate in
+    let e = c.args.ty.elem in
+    let d = c.args.to in
+    let k = c.args.k in
+    let n = c.args.slot in
+    let so : (l : Layout) → false ≡ is_short l r z x y = λ l. sym c.if-is_short.false ∙ c.is_short.ensures l in
+    let given : Varying ≡ (type_of z).rate = sym (sym (ap (λ (h : Ty). h.rate) c.ty.ensures) ∙ c.in-Varying.is) in
+    let all = puts_keep c.args.b.now c.expr.new.b c.choose_by_masks.new.b (λ l pc p. expr_code l z pc p k n) (λ l. expr_places l z) (λ l. found l z n) c.in_ok-tested.tested
+    (λ w l pc p. choose_rest (l.spare r e n) w (operand l r x (n + 1)) (operand l r y (n + 2)) pc k n (λ pc1 m i. operand_of l r x m i (expr_code l x pc1 p m i)) (λ pc1 m i. operand_of l r y m i (expr_code l y pc1 (p + length (expr_places l x)) m i)))
+    (λ l. expr_places l x ++ expr_places l y) c.in_ok-tested.ensures c.in_ok-choose_by_masks-in-Varying.ensures in
+    code_so c.args.b.now c.choose_by_masks.new.b (λ l pc p. choose_code l Varying r e x y (found l z n) pc k n (expr_code l z pc p k n) (λ pc1 m i. operand_of l r x m i (expr_code l x pc1 (p + length (expr_places l z)) m i)) (λ pc1 m i. operand_of l r y m i (expr_code l y pc1 (p + length (expr_places l z) + length (expr_places l x)) m i)))
+    (λ l pc p. expr_to l d (t_choose z x y c.args.ty s) pc p k n) (λ l. expr_places l z ++ (expr_places l x ++ expr_places l y)) all.emits
+    (λ l pc p.
+    let a : ℕ → ℕ → ℕ → List Instr = λ pc1 m i. operand_of l r x m i (expr_code l x pc1 (p + length (expr_places l z)) m i) in
+    let b : ℕ → ℕ → ℕ → List Instr = λ pc1 m i. operand_of l r y m i (expr_code l y pc1 (p + length (expr_places l z) + length (expr_places l x)) m i) in
+    ap (λ h. choose_code l h r e x y (found l z n) pc k n (expr_code l z pc p k n) a b) given
+    ∙ ap (λ h. choose_to l h d z x y c.args.ty pc k n (expr_code l z pc p k n) a b) (so l))
+
+pub write_to-returns-in-Unary : goal.write_to-returns-in-Unary
+write_to-returns-in-Unary t c =
+    let e = c.in-Unary in
+    on_ok_weaker c.unary_to.result
+    (λ w. subst (λ (z : TExpr). Writes c.args.b.now c.unary_to.new.b c.args.to z c.args.k c.args.slot) (sym (ap expr_of e.is ∙ unary_view e.operator e.operand e.ty e.span))
+    (subst (λ y. Writes c.args.b.now c.unary_to.new.b c.args.to (t_unary e.operator (expr_of y) e.ty e.span) c.args.k c.args.slot) c.deref-in-Unary.ensures (w e.span)))
+    c.unary_to.ensures
+
+pub write_to-returns-in-Compare : goal.write_to-returns-in-Compare
+write_to-returns-in-Compare t c =
+    let e = c.in-Compare in
+    let b = c.compare_to.new.b in
+    let d = c.args.to in
+    let k = c.args.k in
+    let n = c.args.slot in
+    on_ok_weaker c.compare_to.result
+    (λ w. subst (λ (z : TExpr). Writes c.args.b.now b d z k n) (sym (ap expr_of e.is ∙ compare_view e.comparison e.left e.right e.rate e.span))
+    (subst (λ y. Writes c.args.b.now b d (t_compare e.comparison (expr_of e.left.value) (expr_of y) e.rate e.span) k n) c.deref-in-Compare-2.ensures
+    (subst (λ y. Writes c.args.b.now b d (t_compare e.comparison (expr_of y) (expr_of c.deref-in-Compare-2.result.now) e.rate e.span) k n) c.deref-in-Compare.ensures (w e.span))))
+    c.compare_to.ensures
+
+pub write_to-returns-in-Uniform : goal.write_to-returns-in-Uniform
+write_to-returns-in-Uniform t c =
+    let e = c.in-Logic in
+    let b = c.logic_of_one.new.b in
+    let d = c.args.to in
+    let k = c.args.k in
+    let n = c.args.slot in
+    on_ok_weaker c.logic_of_one.result
+    (λ w. subst (λ (z : TExpr). Writes c.args.b.now b d z k n) (sym (ap expr_of e.is ∙ logic_view e.logic e.left e.right e.rate e.span))
+    (subst (λ r. Writes c.args.b.now b d (t_logic e.logic (expr_of e.left.value) (expr_of e.right.value) r e.span) k n) (sym c.in-Uniform.is)
+    (subst (λ y. Writes c.args.b.now b d (t_logic e.logic (expr_of e.left.value) (expr_of y) Uniform e.span) k n) c.deref-in-Uniform-2.ensures
+    (subst (λ y. Writes c.args.b.now b d (t_logic e.logic (expr_of y) (expr_of c.deref-in-Uniform-2.result.now) Uniform e.span) k n) c.deref-in-Uniform.ensures (w d e.span)))))
+    c.logic_of_one.ensures
+
+pub write_to-returns-in-Varying : goal.write_to-returns-in-Varying
+write_to-returns-in-Varying t c =
+    let e = c.in-Logic in
+    let b = c.logic_of_each.new.b in
+    let d = c.args.to in
+    let k = c.args.k in
+    let n = c.args.slot in
+    on_ok_weaker c.logic_of_each.result
+    (λ w. subst (λ (z : TExpr). Writes c.args.b.now b d z k n) (sym (ap expr_of e.is ∙ logic_view e.logic e.left e.right e.rate e.span))
+    (subst (λ r. Writes c.args.b.now b d (t_logic e.logic (expr_of e.left.value) (expr_of e.right.value) r e.span) k n) (sym c.in-Varying.is)
+    (subst (λ y. Writes c.args.b.now b d (t_logic e.logic (expr_of e.left.value) (expr_of y) Varying e.span) k n) c.deref-in-Varying-2.ensures
+    (subst (λ y. Writes c.args.b.now b d (t_logic e.logic (expr_of y) (expr_of c.deref-in-Varying-2.result.now) Varying e.span) k n) c.deref-in-Varying.ensures (w d e.span)))))
+    c.logic_of_each.ensures
+
+pub write_to-returns-in-Choose : goal.write_to-returns-in-Choose
+write_to-returns-in-Choose t c =
+    let e = c.in-Choose in
+    let b = c.choose_to.new.b in
+    let d = c.args.to in
+    let k = c.args.k in
+    let n = c.args.slot in
+    let y2 = c.deref-in-Choose-2.result.now in
+    let y3 = c.deref-in-Choose-3.result.now in
+    on_ok_weaker c.choose_to.result
+    (λ w. subst (λ (z : TExpr). Writes c.args.b.now b d z k n) (sym (ap expr_of e.is ∙ choose_view e.test e.then e.otherwise e.ty e.span))
+    (subst (λ y. Writes c.args.b.now b d (t_choose (expr_of e.test.value) (expr_of e.then.value) (expr_of y) e.ty e.span) k n) c.deref-in-Choose-3.ensures
+    (subst (λ y. Writes c.args.b.now b d (t_choose (expr_of e.test.value) (expr_of y) (expr_of y3) e.ty e.span) k n) c.deref-in-Choose-2.ensures
+    (subst (λ y. Writes c.args.b.now b d (t_choose (expr_of y) (expr_of y2) (expr_of y3) e.ty e.span) k n) c.deref-in-Choose.ensures (w e.span)))))
+    c.choose_to.ensures

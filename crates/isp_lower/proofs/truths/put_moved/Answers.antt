@@ -1,6 +1,5 @@
 use Rattle.std.proofs.Common.{[], ◌∷◌, refl, sym, ap, ◌∙◌}
 use Rattle.isp_lower.specs.Code.{copy, move_code}
-use Rattle.isp_lower.specs.Emitted.{Puts}
 use Rattle.isp_lower.proofs.Following.{moved_other, moved_same, puts_keep, pushed_is, emits_so}
 use Rattle.isp_lower.proofs.truths.put_moved.Goals as goal
 

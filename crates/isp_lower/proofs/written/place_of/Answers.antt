@@ -1,5 +1,4 @@
 use Rattle.std.proofs.Common.{sym, ◌∙◌}
-use Rattle.isp_lower.specs.Code.{operate_places}
 use Rattle.isp_lower.proofs.written.place_of.Goals as goal
 
 pub returns-in_ok-number-clause-added : goal.returns-in_ok-number-clause-added

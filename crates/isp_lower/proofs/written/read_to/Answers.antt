@@ -1,4 +1,4 @@
-use Rattle.std.proofs.Common.{[], ◌∷◌, ap, ◌∙◌, length}
+use Rattle.std.proofs.Common.{[], ◌∷◌, ap, ◌∙◌}
 use Rattle.isp_lower.specs.Code.{read}
 use Rattle.isp_lower.proofs.Following.{placed}
 use Rattle.isp_lower.proofs.written.read_to.Goals as goal
