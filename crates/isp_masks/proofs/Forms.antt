@@ -119,13 +119,14 @@ list_step answer k co rr n o a r b js hs f g items i x low is y left room z gone
     let spans : Layout → List Span = λ l. stmts_places l (t_stmts ys) in
     let code : ℕ → Code = λ t l pc p. flat answer k co rr n t l false ys pc p ++ jump_where f k t in
     let more = awaits_then o r b hs k code spans (λ l pc p. stmt_code l answer one pc p k co rr n) (λ l. stmt_places l one) (room o (λ t l pc p. flat answer k co rr n t l false ys pc p) spans y) z in
-    subst (λ zs. Awaits o b hs k (λ t l pc p. flat answer k co rr n t l false zs pc p) (λ l. stmts_places l (t_stmts zs)) × (g ≡ left_after false zs)) (sym (taken items i x low is))
-    (awaits_so o b hs k _ (λ t l pc p. flat answer k co rr n t l false (ys ++ one ∷ []) pc p) (λ l. spans l ++ stmt_places l one) (λ l. stmts_places l (t_stmts (ys ++ one ∷ []))) more
-    (λ l t pc p.
-        ap (λ h. (flat answer k co rr n t l false ys pc p ++ jump_where h k t) ++ stmt_code l answer one (pc + length (flat answer k co rr n t l false ys pc p ++ jump_where h k t)) (p + length (spans l)) k co rr n) left
-        ∙ sym (flat_last answer k co rr n t l false ys one pc p))
-    (λ l. sym (places_last l ys one)),
-    gone ∙ sym (left_last false ys one))
+    subst (λ zs. Awaits o b hs k (λ t l pc p. flat answer k co rr n t l false zs pc p) (λ l. stmts_places l (t_stmts zs)) × (g ≡ left_after false zs)) (sym (taken items i x low is)) (
+      awaits_so o b hs k _ (λ t l pc p. flat answer k co rr n t l false (ys ++ one ∷ []) pc p) (λ l. spans l ++ stmt_places l one) (λ l. stmts_places l (t_stmts (ys ++ one ∷ []))) more
+          (λ l t pc p.
+          ap (λ h. (flat answer k co rr n t l false ys pc p ++ jump_where h k t) ++ stmt_code l answer one (pc + length (flat answer k co rr n t l false ys pc p ++ jump_where h k t)) (p + length (spans l)) k co rr n) left
+          ∙ sym (flat_last answer k co rr n t l false ys one pc p))
+          (λ l. sym (places_last l ys one)),
+      gone ∙ sym (left_last false ys one),
+    )
 
 -- an element has at most the nodes of all
 pub nodes_low : (items : List TypedStmt) (i : ℕ) (x : TypedStmt) → i < length items → x ≡ get_or items i x → stmt_nodes (stmt_of x) ≤ stmts_nodes (t_stmts (stmts_of items))

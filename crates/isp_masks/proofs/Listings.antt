@@ -63,7 +63,7 @@ pub routines_step : (fs : List TypedFunction) (at : ℕ) (f : TypedFunction) (al
     → AreLowered (functions_of (take (at + 1) fs)) (map routine_of new) more
 routines_step fs at f all new g places more low is a m x e =
     let taken : functions_of (take (at + 1) fs) ≡ functions_of (take at fs) ++ function_of f ∷ [] =
-        ap (λ n. functions_of (take n fs)) (add-one at) ∙ ap functions_of (take-suc fs at f low ∙ ap (λ z. take at fs ++ z ∷ []) (sym is)) ∙ map-append function_of (take at fs) (f ∷ []) in
+    ap (λ n. functions_of (take n fs)) (add-one at) ∙ ap functions_of (take-suc fs at f low ∙ ap (λ z. take at fs ++ z ∷ []) (sym is)) ∙ map-append function_of (take at fs) (f ∷ []) in
     let pushed : map routine_of new ≡ map routine_of all ++ routine_of g ∷ [] = ap (map routine_of) e ∙ map-append routine_of all (g ∷ []) in
     subst (λ z. AreLowered z (map routine_of new) more) (sym taken)
     (subst (λ z. AreLowered (functions_of (take at fs) ++ function_of f ∷ []) z more) (sym pushed)

@@ -55,7 +55,7 @@ module _ (answer : Option Ty) (k co rr n : ℕ) (t : ℕ) (l : Layout) where
       let last = jump_where (left_after g ys) k t in
       let spans = stmts_places l (t_stmts ys) in
       let far : pc2 + length (rest ++ last) ≡ pc + length ((jump ++ (one ++ rest)) ++ last) =
-          omega (arith, length-append rest last, length-append (jump ++ (one ++ rest)) last, length-append jump (one ++ rest), length-append one rest) in
+      omega (arith, length-append rest last, length-append (jump ++ (one ++ rest)) last, length-append jump (one ++ rest), length-append one rest) in
       let seat : p2 + length spans ≡ p + length (stmt_places l y ++ spans) = omega (arith, length-append (stmt_places l y) spans) in
       ap (λ z. jump ++ (one ++ z)) (flat_last g ys x pc2 p2)
       ∙ brackets jump one rest last (one_code x (pc2 + length (rest ++ last)) (p2 + length spans))
@@ -72,7 +72,7 @@ module _ (answer : Option Ty) (k co rr n : ℕ) (t : ℕ) (l : Layout) where
       let zero : pc + 1 + 0 ≡ pc + 1 = omega arith in
       let p2 = p + length (stmt_places l y) in
       let tail : flat false (y ∷ ys) (pc + 1) p ≡ one_code y (pc + 1) p ++ flat (not (stays y)) ys (pc + 1 + length (one_code y (pc + 1) p)) p2 =
-          ap (λ m. one_code y m p ++ flat (not (stays y)) ys (m + length (one_code y m p)) p2) zero in
+      ap (λ m. one_code y m p ++ flat (not (stays y)) ys (m + length (one_code y m p)) p2) zero in
       let same = all (pc + 1) p (omega (arith, e, ap length tail)) in
       let end : t ≡ pc + 1 + length (stmts_code l answer (t_stmts (y ∷ ys)) (pc + 1) p k co rr n) = omega (arith, e, ap length tail, ap length same) in
       ap (λ z. jump_off k t ∷ z) (sym tail ∙ same)
@@ -86,7 +86,7 @@ module _ (answer : Option Ty) (k co rr n : ℕ) (t : ℕ) (l : Layout) where
       let one = one_code x pc p in
       let p2 = p + length (stmt_places l x) in
       let flatly : flat false (x ∷ xs) pc p ≡ one ++ flat (not (stays x)) xs (pc + length one) p2 =
-          ap (λ m. one_code x m p ++ flat (not (stays x)) xs (m + length (one_code x m p)) p2) zero in
+      ap (λ m. one_code x m p ++ flat (not (stays x)) xs (m + length (one_code x m p)) p2) zero in
       flatly
       ∙ ap (λ z. one ++ z)
       (rest_is (stays x) xs (pc + length one) p2 (flat_is xs) (omega (arith, e, ap length flatly, length-append one (flat (not (stays x)) xs (pc + length one) p2))))

@@ -82,7 +82,7 @@ registers_are r ps vs more rows params types is all behind =
     let front = param_elems (class_at r) params in
     let same : front ≡ param_elems (class_at r) (params_of ps vs) = ap (param_elems (class_at r)) is in
     let long : types_of rows ≡ front ++ (w.0 ++ types_of more) =
-        ap types_of all ∙ types_append (value_rows r 0 vs) more ∙ ap (λ z. z ++ types_of more) w.1 ∙ append_assoc (param_elems (class_at r) (params_of ps vs)) w.0 (types_of more) ∙ ap (λ z. z ++ (w.0 ++ types_of more)) (sym same) in
+    ap types_of all ∙ types_append (value_rows r 0 vs) more ∙ ap (λ z. z ++ types_of more) w.1 ∙ append_assoc (param_elems (class_at r) (params_of ps vs)) w.0 (types_of more) ∙ ap (λ z. z ++ (w.0 ++ types_of more)) (sym same) in
     ap (λ z. front ++ z) behind ∙ refilled (types_of rows) front (w.0 ++ types_of more) long
 
 -- ---- places
@@ -93,10 +93,11 @@ get_seam (x ∷ xs) y zs = get_seam xs y zs
 
 pub at_seam : (xs ys zs : List Span) → AreAt (xs ++ (ys ++ zs)) (length xs) ys
 at_seam xs [] zs = tt
-at_seam xs (y ∷ ys) zs =
-    (get_seam xs y (ys ++ zs),
-    subst (λ z. AreAt z (length xs + 1) ys) (append_assoc xs (y ∷ []) (ys ++ zs))
-    (subst (λ n. AreAt ((xs ++ y ∷ []) ++ (ys ++ zs)) n ys) (length-append xs (y ∷ [])) (at_seam (xs ++ y ∷ []) ys zs)))
+at_seam xs (y ∷ ys) zs = (
+  get_seam xs y (ys ++ zs),
+  subst (λ z. AreAt z (length xs + 1) ys) (append_assoc xs (y ∷ []) (ys ++ zs))
+      (subst (λ n. AreAt ((xs ++ y ∷ []) ++ (ys ++ zs)) n ys) (length-append xs (y ∷ [])) (at_seam (xs ++ y ∷ []) ys zs)),
+)
 
 -- ---- a routine
 

@@ -28,11 +28,7 @@ pub(crate) fn leave_room(
 }
 
 /// Writes the jumps, which lead to the next instruction.
-pub(crate) fn land_all(
-    b: &mut FunctionBuilder,
-    jumps: &[usize],
-    k: u32,
-) -> Result<(), AllocError>
+pub(crate) fn land_all(b: &mut FunctionBuilder, jumps: &[usize], k: u32) -> Result<(), AllocError>
     ensures code { OnOk result (b.new.code.items ≡ set_all b.old.code.items jumps.now (jump_off k (length b.old.code.items))) }
     ensures same { OnOk result ((b.new.listing ≡ b.old.listing) × (b.new.registers ≡ b.old.registers)) }
 {

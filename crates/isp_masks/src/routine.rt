@@ -58,11 +58,7 @@ struct Header {
 }
 
 /// The header of a function, whose code and registers these are.
-fn header_of(
-    alloc: Global,
-    b: &FunctionBuilder,
-    f: &TypedFunction,
-) -> Result<Header, AllocError>
+fn header_of(alloc: Global, b: &FunctionBuilder, f: &TypedFunction) -> Result<Header, AllocError>
     ensures name { IfOk result (λ h. h.name ≡ (function_of f.now).name) }
     ensures params { IfOk result (λ h. h.params.items ≡ params_of (function_of f.now).parameters (function_of f.now).variables) }
     ensures locals { IfOk result (λ h. h.locals.items ≡ locals_of (function_of f.now).variables) }

@@ -18,7 +18,9 @@ pub(crate) fn stays(x: &TypedStmt) -> bool
         | TypedStmt::Assert { .. } => true,
         TypedStmt::If { then, .. } => stays(then),
         TypedStmt::IfElse {
-            then, otherwise, ..
+            then,
+            otherwise,
+            ..
         } => stays(then) && stays(otherwise),
         TypedStmt::While { .. }
         | TypedStmt::Do { .. }

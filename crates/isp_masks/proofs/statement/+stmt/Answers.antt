@@ -127,7 +127,7 @@ pub block-stmt-requires : goal.block-stmt-requires
 block-stmt-requires t c =
     let low = nodes_low c.deref-x-items.result.now c.loop-x.x-index c.x-item.result c.loop-x-test.true c.x-item.is in
     let all : block_nodes (block_of c.args.body.now) ≡ suc (stmts_nodes (t_stmts (stmts_of c.deref-x-items.result.now))) =
-        ap block_nodes (block_view c.args.body.now) ∙ ap (λ zs. suc (stmts_nodes (t_stmts (stmts_of zs)))) (sym c.deref-x-items.ensures.value) in
+    ap block_nodes (block_view c.args.body.now) ∙ ap (λ zs. suc (stmts_nodes (t_stmts (stmts_of zs)))) (sym c.deref-x-items.ensures.value) in
     (omega (arith, low, all, c.decreases), tt)
 
 pub block-loop-x-preserved : goal.block-loop-x-preserved
