@@ -1,5 +1,5 @@
 //! Variables and elements that get a value.
-ghost use Rattle.std.specs.Prelude.{◌≡◌, ◌+◌, ◌++◌, ◌∷◌, [], length, OnOk};
+ghost use Rattle.std.specs.Prelude.{◌≡◌, OnOk};
 ghost use Rattle.isp_typed.specs.Typed.{t_element};
 ghost use Rattle.isp_typed.specs.Views.{expr_of, place_of};
 ghost use Rattle.isp_lower.specs.Code.{expr_places, variable_code, writes_last, writes_part};

@@ -1,5 +1,5 @@
 //! A function while it is written.
-ghost use Rattle.std.specs.Prelude.{◌≡◌, ◌<◌, ◌+◌, ◌∷◌, [], ◌++◌, length, slice_set, IfOk, OnOk};
+ghost use Rattle.std.specs.Prelude.{◌≡◌, ◌<◌, ◌∷◌, [], length, slice_set, IfOk, OnOk};
 ghost use Rattle.isp_lower.specs.Emitted.{Emits, Follows, Puts};
 ghost use Rattle.isp_code.specs.declared.instr.Instr.TheVariants as instr;
 ghost use Rattle.isp_lower.specs.Layout.{Layout};

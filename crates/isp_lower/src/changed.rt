@@ -1,5 +1,5 @@
 //! Places that an operator reads and writes: `op=`, `++` and `--`.
-ghost use Rattle.std.specs.Prelude.{◌≡◌, ◌+◌, ◌++◌, ◌∷◌, [], length, IfOk, OnOk};
+ghost use Rattle.std.specs.Prelude.{◌≡◌, ◌+◌, ◌++◌, ◌∷◌, [], IfOk, OnOk};
 ghost use Rattle.isp_base.specs.Ranks.{same_elem};
 ghost use Rattle.isp_base.specs.declared.types.Span.{Span};
 ghost use Rattle.isp_typed.specs.Typed.{t_element, t_variable};

@@ -1,16 +1,15 @@
 //! Instructions of a rate: on scalars, or on the lanes of a mask.
-ghost use Rattle.std.specs.Prelude.{◌≡◌, ◌+◌, ◌∷◌, [], ◌++◌, IfOk, OnOk};
+ghost use Rattle.std.specs.Prelude.{◌≡◌, ◌+◌, [], IfOk};
 ghost use Rattle.isp_base.specs.Values.{number};
-ghost use Rattle.isp_base.specs.declared.types.Elem.TheVariants.{I32};
 ghost use Rattle.isp_base.specs.declared.types.Rate.TheVariants.{Uniform, Varying};
 ghost use Rattle.isp_code.specs.declared.instr.Instr.TheVariants as instr;
 ghost use Rattle.isp_code.specs.declared.instr.VectorInstr.TheVariants as instr_vector;
 ghost use Rattle.isp_lower.specs.Layout.{array_register, mask_register, register};
 ghost use Rattle.isp_lower.specs.Code.{compare, compute, constant, convert, copy, lift_code, lifted, operate, read, select, the_others, unary, where_so, write};
-ghost use Rattle.isp_lower.specs.Emitted.{Emits, Puts};
+ghost use Rattle.isp_lower.specs.Emitted.{Puts};
 
 use crate::builder::FunctionBuilder;
-use isp_base::{BinOp, Compare, Elem, Rate, Span, UnaryOp, Value, number};
+use isp_base::{BinOp, Compare, Elem, Rate, UnaryOp, number};
 use isp_code::{
     Class, Division, Instr, MaskInstr, MaskOp, Plain, Register, ScalarInstr, VectorInstr,
 };

@@ -1,12 +1,10 @@
 //! The registers of the function in hand.
-ghost use Rattle.std.specs.Prelude.{◌≡◌, ◌==◌, ◌++◌, ◌∷◌, [], map, Some, None, IfOk, IfSome, IfNone, OnOk};
-ghost use Rattle.isp_base.specs.declared.types.Rate.TheVariants.{Uniform, Varying};
-ghost use Rattle.isp_lower.specs.Emitted.{Begins, Follows, Grows, HasArray, HasRow, first_rows, name_of, row_of, rows_of};
+ghost use Rattle.std.specs.Prelude.{◌≡◌, ◌==◌, map, Some, None, IfOk, IfSome, IfNone, OnOk};
+ghost use Rattle.isp_lower.specs.Emitted.{Begins, Grows, HasArray, HasRow, name_of, row_of, rows_of};
 ghost use Rattle.isp_lower.specs.Rows.{Result, Spare, Variable as VariableName, elem_in, name_number, number_in, rows_at};
 
 use isp_base::{Elem, Rate, Ty};
-use isp_typed::{Holds, Variable};
-use std::alloc::{AllocError, Global};
+use std::alloc::AllocError;
 
 /// What a register is for: a variable, by its number, what the function gives back, or values of a type in a slot.
 #[derive(Clone, Copy)]

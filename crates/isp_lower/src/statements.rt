@@ -1,5 +1,5 @@
 //! What stands before a semicolon, and declared variables and arrays.
-ghost use Rattle.std.specs.Prelude.{◌≡◌, ◌++◌, ◌∷◌, [], OnOk};
+ghost use Rattle.std.specs.Prelude.{[], OnOk};
 ghost use Rattle.isp_typed.specs.Views.{item_of, items_of, simple_of};
 ghost use Rattle.isp_lower.specs.Emitted.{Emits};
 ghost use Rattle.isp_lower.specs.Items.{item_code, item_places, items_code, items_places, zero_code};

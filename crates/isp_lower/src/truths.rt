@@ -1,5 +1,5 @@
 //! What `&&`, `||` and `?:` are made of.
-ghost use Rattle.std.specs.Prelude.{◌≡◌, ◌&&◌, ◌∷◌, [], ◌++◌, IfOk, OnOk};
+ghost use Rattle.std.specs.Prelude.{◌≡◌, ◌&&◌, [], IfOk, OnOk};
 ghost use Rattle.isp_lower.specs.Code.{decided, is_short, move_code, needing, same_rate, stays, stays_at};
 ghost use Rattle.isp_lower.specs.Emitted.{Emits, Puts};
 ghost use Rattle.isp_lower.specs.Layout.{Layout};
