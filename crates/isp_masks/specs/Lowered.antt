@@ -1,5 +1,5 @@
 -- A routine that is the code of a function: its header and its registers are those of the function, by rows.
-use Rattle.std.specs.Prelude.{◌≡◌, ◌≤◌, ◌<◌, ℕ, List, [], ◌∷◌, ◌++◌, length, Option, Some, None, slice_get}
+use Rattle.std.specs.Prelude.{◌≡◌, ◌≤◌, ℕ, List, [], ◌∷◌, ◌++◌, length, Option, Some, None, slice_get}
 use Rattle.isp_base.specs.declared.signature.Parameter.{Parameter}
 use Rattle.isp_base.specs.declared.types.Elem.{Elem}
 use Rattle.isp_base.specs.declared.types.Rate.{Rate}
@@ -7,24 +7,23 @@ use Rattle.isp_base.specs.declared.types.Rate.TheVariants.{Uniform, Varying}
 use Rattle.isp_base.specs.declared.types.Span.{Span}
 use Rattle.isp_base.specs.declared.types.Ty.{Ty}
 use Rattle.isp_code.specs.Listing.{Listing, Routine}
-use Rattle.isp_code.specs.Operands.{operands}
 use Rattle.isp_code.specs.Registers.{scalars_of, vectors_of}
 use Rattle.isp_code.specs.declared.function.Param.{Param}
 use Rattle.isp_code.specs.declared.function.ParamKind.{ParamKind}
 use Rattle.isp_code.specs.declared.function.ParamKind.TheVariants as kind
 use Rattle.isp_code.specs.declared.function.Returns.{Returns}
 use Rattle.isp_code.specs.declared.function.Returns.TheVariants as returns
-use Rattle.isp_code.specs.declared.instr.Instr.{Instr}
-use Rattle.isp_code.specs.declared.operand.Operand.{Operand}
-use Rattle.isp_code.specs.declared.operand.Operand.TheVariants.{Mask}
 use Rattle.isp_typed.specs.Typed.{Program, TFunction}
 use Rattle.isp_typed.specs.declared.variable.Holds.{Holds}
 use Rattle.isp_typed.specs.declared.variable.Holds.TheVariants as holds
 use Rattle.isp_typed.specs.declared.variable.Variable.{Variable as Declared}
 use Rattle.isp_lower.specs.Emitted.{Begins, first_rows}
-use Rattle.isp_lower.specs.Rows.{Row, Rows, layout_of}
+use Rattle.isp_lower.specs.Rows.{Row, Rows, HasRow, layout_of}
 use Rattle.isp_lower.specs.Setting.{AreAt}
+use Rattle.isp_lower.specs.Sound.{HasMask}
+use Rattle.isp_lower.specs.Tables.{AnyArray}
 use Rattle.isp_masks.specs.Arrays.{locals_of}
+use Rattle.isp_masks.specs.Presence.{BlockHas}
 use Rattle.isp_masks.specs.Statements.{block_places, function_code}
 
 -- ---- the header
@@ -66,21 +65,6 @@ abbrev pub types_of : List Row → List Elem
 types_of [] = []
 types_of (r ∷ rows) = r.elem ∷ types_of rows
 
--- ---- masks
-
--- each mask that is named is one of so many
-abbrev pub MaskBelow : ℕ → Operand → Type 0
-MaskBelow n (Mask r) = r.number < n
-MaskBelow n o = Unit {0}
-
-abbrev pub MasksBelow : ℕ → List Operand → Type 0
-MasksBelow n [] = Unit {0}
-MasksBelow n (o ∷ os) = MaskBelow n o × MasksBelow n os
-
-abbrev pub AllMasksBelow : ℕ → List Instr → Type 0
-AllMasksBelow n [] = Unit {0}
-AllMasksBelow n (i ∷ is) = MasksBelow n (operands i) × AllMasksBelow n is
-
 -- ---- a routine and a function
 
 pub record IsLowered (h : TFunction) (g : Routine) (places : List Span) : Type 0 where
@@ -96,9 +80,9 @@ pub record IsLowered (h : TFunction) (g : Routine) (places : List Span) : Type 0
   pub arrays_first : Begins (first_rows h.variables h.answer).arrays rows.arrays
   pub scalars : scalars_of g ≡ types_of rows.scalars
   pub vectors : vectors_of g ≡ types_of rows.vectors
-  -- the first three masks, and all that are named
+  -- the registers and masks that the body asks for are there
   pub three : 3 ≤ g.masks
-  pub masks : AllMasksBelow g.masks g.code
+  pub present : BlockHas (HasRow rows) AnyArray AnyArray (HasMask g) h.answer h.body 3
   -- the code, by the layout of the rows; the places that it names begin at number place
   pub place : ℕ
   pub code_is : g.code ≡ function_code (layout_of rows) h.answer h.body place
