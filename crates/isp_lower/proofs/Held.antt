@@ -16,7 +16,7 @@ module _ (fs : List TFunction) (vars : List Variable) (H : Rate → Name → Ele
     expr_held (t_constant v sp) n f p = p
     expr_held (t_program_index sp) n f p = p
     expr_held (t_place q) n f p = (place_held q n f p.0, p.1)
-    expr_held (t_convert e x) n f p = (p.0, expr_held x n f p.1)
+    expr_held (t_convert e x) n f p = (p.0, expr_held x n f.0 p.1)
     expr_held (t_cast x t sp) n f p = (p.0, expr_held x n f.0 p.1)
     expr_held (t_unary o x t sp) n f p = (p.0, p.1, expr_held x n f.0 p.2)
     expr_held (t_binary o x y t sp) n f p = (p.0, p.1, p.2, expr_held x n f.0 p.3, expr_held y (n + 1) f.1 p.4)
