@@ -6,7 +6,6 @@ mod header;
 mod laws;
 mod reserved;
 mod listing;
-mod masks;
 mod routine;
 mod sets;
 mod statement;
