@@ -4,8 +4,8 @@
 mod awaited;
 mod header;
 mod laws;
-mod reserved;
 mod listing;
+mod reserved;
 mod routine;
 mod sets;
 mod statement;
