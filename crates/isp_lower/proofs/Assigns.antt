@@ -3,6 +3,7 @@ use Rattle.std.proofs.Common.{◌≡◌, ℕ, ◌+◌, ◌<◌, ◌≤◌, [], �
 use Rattle.isp_base.specs.Sets.{Mask}
 use Rattle.isp_base.specs.declared.types.Span.{Span}
 use Rattle.isp_code.specs.Conf.{Conf}
+use Rattle.isp_typed.specs.Fine.{heads}
 use Rattle.isp_typed.specs.Typed.{TExpr, TPlace, t_variable, t_element, t_assign, t_value, type_of}
 use Rattle.isp_meaning.specs.State.{State, tick}
 use Rattle.isp_base.specs.declared.trap.TrapKind.TheVariants.{Index}
@@ -12,7 +13,7 @@ use Rattle.isp_meaning.specs.Expressions.{place}
 use Rattle.isp_meaning.specs.Simple.{simple}
 use Rattle.isp_lower.specs.Setting.{Setting, IsSettled, gang_of, AreAt, Holds}
 use Rattle.isp_lower.specs.Runs.{Enters, DoneRuns}
-use Rattle.isp_lower.specs.Fits.{heads, ExprFits}
+use Rattle.isp_lower.specs.Fits.{ExprFits}
 use Rattle.isp_lower.specs.Code.{write, index, index_code, operand, operand_of, found, expr_places, expr_code}
 use Rattle.isp_lower.specs.Simple.{beyond, assign_code, assign_places, SimpleFits}
 use Rattle.isp_lower.proofs.Base.{are_front, are_back}

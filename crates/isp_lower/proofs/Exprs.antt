@@ -27,12 +27,13 @@ use Rattle.isp_meaning.specs.Outcomes.{Val, Gives, Fails, Stops, bind, checked}
 use Rattle.isp_meaning.specs.Places.{Place, Variable, Element, variable, outside, held}
 use Rattle.isp_meaning.specs.Expressions.{value}
 use Rattle.isp_base.specs.declared.types.Ty.{Ty}
+use Rattle.isp_typed.specs.Fine.{heads}
 use Rattle.isp_typed.specs.declared.variable.ArrayVariable.{ArrayVariable}
 use Rattle.isp_typed.specs.Typed.{TExpr, t_constant, t_program_index, t_place, t_convert, t_cast, t_unary, t_binary, t_compare, t_logic, t_choose, t_call, t_library, t_packed_store, t_packed_load, TPlace, t_variable, t_element, type_of}
 use Rattle.isp_lower.specs.Layout.{register, array_register}
 use Rattle.isp_lower.specs.Setting.{Setting, IsSettled, gang_of, AreAt, At, Stands, Keeps, at_rate, held_at, Holds}
 use Rattle.isp_lower.specs.Runs.{Comes, Enters, Runs}
-use Rattle.isp_lower.specs.Fits.{Reaches, first_slot, second_slot, heads, IsTyped, SpareFits, ArrayFits, ExprFits}
+use Rattle.isp_lower.specs.Fits.{Reaches, first_slot, second_slot, IsTyped, SpareFits, ArrayFits, ExprFits}
 use Rattle.isp_lower.specs.Code.{convert, constant, constant_of, convert_to, part_to, lift_to, lifted, found, operand, operand_of, lift_code, is_whole, whole, whole_of, index, index_of, read, expr_places, expr_code, expr_to, select, same_rate, stays, stays_at, is_short, choose_code, choose_to}
 use Rattle.isp_lower.proofs.Base.{are_front, are_back, keeps_all, comes_none, at_to, moved_by}
 use Rattle.isp_lower.proofs.Rates.{held_same, at_mapped, at_offender, filled_on}

@@ -6,10 +6,11 @@ use Rattle.isp_base.specs.declared.types.Rate.{Rate}
 use Rattle.isp_base.specs.declared.types.Rate.TheVariants.{Uniform, Varying}
 use Rattle.isp_base.specs.declared.types.Span.{Span}
 use Rattle.isp_base.specs.declared.types.Value.{Value}
+use Rattle.isp_typed.specs.Fine.{heads}
 use Rattle.isp_typed.specs.Typed.{TExpr, t_constant, t_program_index, t_place, t_convert, t_cast, t_unary, t_binary, t_compare, t_logic, t_choose, t_call, t_library, t_packed_store, t_packed_load, t_variable, t_element, type_of}
 use Rattle.isp_lower.specs.Setting.{Setting, IsSettled, Low}
 use Rattle.isp_lower.specs.Code.{lifted, found, operand, constant_of, is_whole, whole, index}
-use Rattle.isp_lower.specs.Fits.{Reaches, heads, IsTyped, LiftFits, OperandFits, ExprFits}
+use Rattle.isp_lower.specs.Fits.{Reaches, IsTyped, LiftFits, OperandFits, ExprFits}
 use Rattle.isp_lower.proofs.Base.{low_spare, low_variable}
 
 -- a conversion converts no conversion

@@ -14,6 +14,7 @@ use Rattle.isp_code.specs.Conf.{Conf, Go}
 use Rattle.isp_code.specs.Lines.{set_array, set_own}
 use Rattle.isp_code.specs.Lines as lines
 use Rattle.isp_code.specs.declared.instr.Instr.TheVariants as instr
+use Rattle.isp_typed.specs.Fine.{heads}
 use Rattle.isp_typed.specs.Typed.{TItem, t_plain, t_with_value, t_with_size}
 use Rattle.isp_typed.specs.declared.variable.ArrayVariable.{ArrayVariable}
 use Rattle.isp_meaning.specs.State.{State, tick}
@@ -24,7 +25,7 @@ use Rattle.isp_meaning.specs.Simple.{cleared, item, items}
 use Rattle.isp_lower.specs.Layout.{mask_register, array_register}
 use Rattle.isp_lower.specs.Setting.{Setting, IsSettled, gang_of, AreAt, Holds}
 use Rattle.isp_lower.specs.Runs.{Enters, Ok, DoneRuns}
-use Rattle.isp_lower.specs.Fits.{heads, ArrayFitsAt}
+use Rattle.isp_lower.specs.Fits.{ArrayFitsAt}
 use Rattle.isp_lower.specs.Code.{constant}
 use Rattle.isp_lower.specs.Items.{zero_code, item_code, item_places, items_code, items_places, ZeroFits, ItemFits, ItemsFit}
 use Rattle.isp_lower.proofs.Base.{are_front, are_back, keeps_all, comes_none, next_at, at_to}
@@ -62,7 +63,7 @@ module _ (w : Setting) (ready : IsSettled w) where
       let d = w.layout.spare Uniform t n in
       let e = w.layout.variable Varying v in
       let ok : Ok w c (pc + 1) n (1 + q) (Holds Uniform a d (One 0)) (tick s) = write_runs w ready c c 0 pc (pc + 1) n (1 + q) a (tick s) (constant d t 0) Uniform t None Divide no_place (One 0) (One 0) (comes_none w c) b.at refl has.0 b.stands (keeps_all w n c) (λ g l. refl) (omega (arith, b.used)) refl refl
-      (ap (λ u. Go (set_at Uniform c d (One (wrap u (number t 0))))) fit ∙ ap (λ z. Go (set_at Uniform c d (One z))) (zero_is t)) in
+      (ap (λ u. Go (set_at Uniform c d (One (wrap u (number t 0))))) fit.0 ∙ ap (λ z. Go (set_at Uniform c d (One z))) (zero_is t)) in
       splat_done w ready v (One 0) a (tick s) c ok.conf ok.steps (pc + 1) (pc + 2) k d n q ok.comes ok.at (omega arith) has.1.0 ok.stands (spares_kept w ready n c ok.conf ok.keeps) ok.masks (ok.masks k b.low ∙ b.mask) (omega (arith, ok.bound)) ok.holds
 
   -- ---- arrays

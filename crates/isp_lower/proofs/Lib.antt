@@ -1,3 +1,8 @@
+pub mod Views
+pub mod Following
+pub mod Sequels
+pub mod Staying
+pub mod Homes
 pub mod Splits
 pub mod Base
 pub mod Rates
@@ -22,4 +27,13 @@ pub mod Updates
 pub mod Items
 pub mod Fitting
 pub mod Rows
+pub mod Presences
+pub mod Held
+pub mod Numbers
+pub mod SoundLines
+pub mod SoundFound
+pub mod SoundParts
+pub mod SoundExprs
+pub mod SoundSimples
 pub mod Counts
+pub mod Reserving

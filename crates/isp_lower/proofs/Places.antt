@@ -2,13 +2,14 @@
 use Rattle.std.proofs.Common.{ℕ, ◌+◌, ◌≤◌, length, refl, sym, ◌∙◌, arith}
 use Rattle.isp_base.specs.Sets.{Mask}
 use Rattle.isp_code.specs.Conf.{Conf}
+use Rattle.isp_typed.specs.Fine.{heads}
 use Rattle.isp_typed.specs.Typed.{TPlace, t_variable, t_element}
 use Rattle.isp_meaning.specs.State.{State, tick}
 use Rattle.isp_meaning.specs.Places.{Place}
 use Rattle.isp_meaning.specs.Expressions.{place}
 use Rattle.isp_lower.specs.Setting.{Setting, IsSettled, gang_of, AreAt, Keeps}
 use Rattle.isp_lower.specs.Runs.{Enters, Runs}
-use Rattle.isp_lower.specs.Fits.{heads, PlaceFits}
+use Rattle.isp_lower.specs.Fits.{PlaceFits}
 use Rattle.isp_lower.specs.Code.{index, expr_code, index_code, index_places}
 use Rattle.isp_lower.specs.Simple.{beyond}
 use Rattle.isp_lower.proofs.Base.{keeps_all, comes_none, at_to}

@@ -1,14 +1,17 @@
 -- Rows give each name a register of its own, with the type that the row has.
-use Rattle.std.proofs.Common.{◌≡◌, ℕ, suc, ◌+◌, ◌<◌, List, [], ◌∷◌, ◌++◌, map, Some, Bool, true, false, refl, sym, ap, ◌∙◌, arith, eqb-true}
+use Rattle.std.proofs.Common.{◌≡◌, ℕ, suc, ◌+◌, ◌<◌, length, subst, List, [], ◌∷◌, ◌++◌, map, Some, Bool, true, false, refl, sym, ap, ◌∙◌, arith, eqb-true}
 use Rattle.std.specs.Prelude.{◌==◌, if◌then◌else◌, slice_get}
-use Rattle.std.proofs.lemmas.Option.{get_or_from_slice_get}
+use Rattle.std.proofs.lemmas.Option.{get_or_from_slice_get, slice_get_within}
 use Rattle.isp_base.specs.Ranks.{rank}
 use Rattle.isp_base.specs.declared.types.Elem.{Elem}
 use Rattle.isp_base.specs.declared.types.Elem.TheVariants.{Bool as Truth, I8, U8, I16, U16, I32, U32, I64, U64}
 use Rattle.isp_base.specs.declared.types.Rate.{Rate}
-use Rattle.isp_code.specs.Registers.{table_of, types_in}
+use Rattle.isp_base.specs.declared.types.Rate.TheVariants.{Uniform, Varying}
+use Rattle.isp_code.specs.Listing.{Routine}
+use Rattle.isp_code.specs.Registers.{table_of, types_in, count_of}
 use Rattle.isp_lower.specs.Layout.{IsApart, class_at}
-use Rattle.isp_lower.specs.Rows.{Name, Variable, Result, Spare, name_number, Row, number_in, elem_in, Rows, rows_at, layout_of}
+use Rattle.isp_lower.specs.Rows.{Name, Variable, Result, Spare, name_number, Row, number_in, elem_in, Rows, rows_at, layout_of, numbered, HasRow}
+use Rattle.isp_lower.specs.Sound.{IsRegister, HasRegister}
 use Rattle.isp_lower.specs.Setting.{Setting}
 use Rattle.isp_lower.specs.Fits.{IsTyped}
 
@@ -68,3 +71,21 @@ rows_stay (z ∷ rows) more x t e = go (name_number z.name == name_number x) (ro
     go : (b : Bool) → (elem_in rows x ≡ Some t → (number_in (rows ++ more) x ≡ number_in rows x) × (elem_in (rows ++ more) x ≡ Some t)) → (if b then Some z.elem else elem_in rows x) ≡ Some t → ((if b then 0 else 1 + number_in (rows ++ more) x) ≡ (if b then 0 else 1 + number_in rows x)) × ((if b then Some z.elem else elem_in (rows ++ more) x) ≡ Some t)
     go true ih h = (refl, h)
     go false ih h = let r = ih h in (ap (λ n. 1 + n) r.0, r.1)
+
+-- the register of a name that has a row is there
+numbered_in : (rows : Rows) (r : Rate) (x : Name) → number_in (rows_at rows r) x ≡ numbered (layout_of rows) r x
+numbered_in rows r (Variable v) = refl
+numbered_in rows r Result = refl
+numbered_in rows r (Spare t j) = refl
+
+count_at : (h : Routine) (r : Rate) → length (types_in (table_of h) (class_at r)) ≡ count_of h (class_at r)
+count_at h Uniform = refl
+count_at h Varying = refl
+
+pub register_there : (h : Routine) (rows : Rows) → ((r : Rate) → types_in (table_of h) (class_at r) ≡ map (λ y. y.elem) (rows_at rows r)) → (r : Rate) (x : Name) (t : Elem) → HasRow rows r x t → HasRegister h (layout_of rows) r x t
+register_there h rows made r x t has =
+    let n = number_in (rows_at rows r) x in
+    let types = types_in (table_of h) (class_at r) in
+    let at : slice_get types n ≡ Some t = ap (λ ts. slice_get ts n) (made r) ∙ row_typed (rows_at rows r) x t has in
+    let low : n < count_of h (class_at r) = subst (λ m. n < m) (count_at h r) (slice_get_within types n t at) in
+    subst (λ m. IsRegister h r m t) (numbered_in rows r x) ((refl, low), get_or_from_slice_get types n t Truth at)

@@ -26,12 +26,12 @@ use Rattle.isp_meaning.specs.Outcomes.{Val, Gives, Fails, Stops, Done, bind, che
 use Rattle.isp_base.specs.Ranks.{same_elem}
 use Rattle.isp_base.specs.declared.trap.TrapKind.TheVariants.{Index}
 use Rattle.isp_base.specs.declared.types.Rate.TheVariants.{Uniform}
+use Rattle.isp_typed.specs.Fine.{heads}
 use Rattle.isp_typed.specs.Typed.{TExpr, TPlace, t_variable, t_element, place_type, TSimple, t_value, t_run, t_assign, t_update, t_step, type_of}
 use Rattle.isp_meaning.specs.Places.{Place, Element, variable, written, outside, held, kept}
 use Rattle.isp_meaning.specs.Expressions.{place}
 use Rattle.isp_meaning.specs.Simple.{simple, update}
 use Rattle.isp_lower.specs.Runs.{Enters, DoneRuns}
-use Rattle.isp_lower.specs.Fits.{heads}
 use Rattle.isp_lower.specs.Code.{constant, write, index, lift_code, operand, operand_of, index_code, index_places, expr_places, expr_code}
 use Rattle.isp_lower.proofs.Splits.{same_elem-is}
 use Rattle.isp_lower.proofs.Found.{few, index_low, lifted_low, operand_low}

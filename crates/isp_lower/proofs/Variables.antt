@@ -6,6 +6,7 @@ use Rattle.isp_base.specs.declared.types.Rate.{Rate}
 use Rattle.isp_base.specs.declared.types.Rate.TheVariants.{Uniform, Varying}
 use Rattle.isp_code.specs.Conf.{Conf}
 use Rattle.isp_code.specs.declared.instr.Instr.{Instr}
+use Rattle.isp_typed.specs.Fine.{heads}
 use Rattle.isp_typed.specs.Typed.{TExpr, t_constant, t_program_index, t_place, t_convert, t_cast, t_unary, t_binary, t_compare, t_logic, t_choose, t_call, t_library, t_packed_store, t_packed_load, t_variable, t_element, type_of}
 use Rattle.isp_meaning.specs.State.{State, tick}
 use Rattle.isp_meaning.specs.Payloads.{Payload}
@@ -13,7 +14,7 @@ use Rattle.isp_meaning.specs.Outcomes.{Val, Gives, bind}
 use Rattle.isp_meaning.specs.Places.{written}
 use Rattle.isp_lower.specs.Setting.{Setting, IsSettled, AreAt, Holds}
 use Rattle.isp_lower.specs.Runs.{Enters, Runs, DoneRuns}
-use Rattle.isp_lower.specs.Fits.{Reaches, heads, IsTyped, OperandFits, ExprFits}
+use Rattle.isp_lower.specs.Fits.{Reaches, IsTyped, OperandFits, ExprFits}
 use Rattle.isp_lower.specs.Code.{copy, part_to, lift_to, writes_part, writes_last, found, operand, operand_of, expr_places, expr_code, expr_to, is_short, choose_to, variable_from, variable_code}
 use Rattle.isp_lower.proofs.Base.{are_front, are_back}
 use Rattle.isp_lower.proofs.Done.{spares_kept, bind_done, variable_done, splat_done}

@@ -8,9 +8,13 @@ use Rattle.isp_base.specs.declared.types.Rate.TheVariants.{Uniform, Varying}
 use Rattle.isp_code.specs.Lines.{local_size}
 use Rattle.isp_code.specs.Registers.{elem_of, is_per_lane, passed}
 use Rattle.isp_typed.specs.Typed.{TExpr, t_constant, t_program_index, t_place, t_convert, t_cast, t_unary, t_binary, t_compare, t_logic, t_choose, t_call, t_library, t_packed_store, t_packed_load, TPlace, t_variable, t_element, type_of}
+use Rattle.isp_typed.specs.Fine.{heads}
 use Rattle.isp_typed.specs.declared.variable.ArrayVariable.{ArrayVariable}
 use Rattle.isp_meaning.specs.State.{extent}
 use Rattle.isp_lower.specs.Layout.{register, array_register}
+pub use Rattle.isp_lower.specs.Presence.{first_slot, second_slot}
+use Rattle.isp_lower.specs.Presence.{LiftHas, ReadHas}
+use Rattle.isp_lower.specs.Rows.{Name, Spare, numbered}
 use Rattle.isp_lower.specs.Setting.{Setting}
 
 -- a part of one rate may stand where another is wanted
@@ -19,43 +23,20 @@ Reaches Uniform r = Unit {0}
 Reaches Varying Uniform = ⊥
 Reaches Varying Varying = Unit {0}
 
--- how many conversions stand at the head: they count no work
-abbrev pub heads : TExpr → ℕ
-heads (t_constant v sp) = 0
-heads (t_program_index sp) = 0
-heads (t_place p) = 0
-heads (t_convert e x) = 1 + heads x
-heads (t_cast x t sp) = 0
-heads (t_unary o x t sp) = 0
-heads (t_binary o x y t sp) = 0
-heads (t_compare c x y r sp) = 0
-heads (t_logic g x y r sp) = 0
-heads (t_choose c x y t sp) = 0
-heads (t_call c t) = 0
-heads (t_library f e xs t sp) = 0
-heads (t_packed_store b x sp) = 0
-heads (t_packed_load b v sp) = 0
-
--- the slots of the two sides of a choice: after a varying test its value stays
-abbrev pub first_slot : Rate → ℕ → ℕ
-first_slot Uniform n = n
-first_slot Varying n = n + 1
-
-abbrev pub second_slot : Rate → ℕ → ℕ
-second_slot Uniform n = n
-second_slot Varying n = n + 2
-
 module _ (w : Setting) where
   abbrev pub IsTyped : Rate → ℕ → Elem → Type 0
   IsTyped r x t = elem_of w.routine (register r x) ≡ t
 
+  -- the register that the layout has for a name has this type
+  abbrev pub IsNamed : Rate → Name → Elem → Type 0
+  IsNamed r x t = IsTyped r (numbered w.layout r x) t
+
   abbrev pub SpareFits : Rate → Elem → ℕ → Type 0
-  SpareFits r t n = IsTyped r (w.layout.spare r t n) t
+  SpareFits r t n = IsNamed r (Spare t n) t
 
   -- a uniform value in slot n is made a varying one there
   abbrev pub LiftFits : Rate → Rate → Elem → ℕ → Type 0
-  LiftFits Uniform Varying t n = SpareFits Varying t n
-  LiftFits given r t n = Unit {0}
+  LiftFits given r t n = LiftHas IsNamed given r t n
 
   -- an operand of a node that works at rate r in type t
   pub record OperandFits (r : Rate) (t : Elem) (x : TExpr) (n : ℕ) : Type 0 where
@@ -73,6 +54,10 @@ module _ (w : Setting) where
   pub record ArrayFits (b : ArrayVariable) : Type 0 where
     pub is : ArrayFitsAt b.ty.rate b
     pub few : extent w.frame b ≤ 2 ^ 63
+
+  -- its value is read into slot n
+  abbrev pub PlaceTyped : TPlace → ℕ → Type 0
+  PlaceTyped z n = ReadHas IsNamed z n
 
   abbrev mutual
     pub ExprFits : TExpr → ℕ → Type 0
@@ -100,8 +85,3 @@ module _ (w : Setting) where
     PlaceFits (t_variable v t sp) n = IsTyped t.rate (w.layout.variable t.rate v) t.elem
     PlaceFits (t_element b i t sp) n =
         ArrayFits b × Reaches b.ty.rate t.rate × Reaches (type_of i).rate t.rate × SpareFits (type_of i).rate I64 n × ExprFits i n
-
-    -- and its value is read into slot n
-    pub PlaceTyped : TPlace → ℕ → Type 0
-    PlaceTyped (t_variable v t sp) n = Unit {0}
-    PlaceTyped (t_element b i t sp) n = SpareFits t.rate t.elem n

@@ -10,7 +10,8 @@ use Rattle.isp_typed.specs.Typed.{TItem, t_plain, t_with_value, t_with_size}
 use Rattle.isp_lower.specs.Layout.{Layout, mask_register, array_register}
 use Rattle.isp_lower.specs.Setting.{Setting}
 use Rattle.isp_lower.specs.Code.{constant, splat, two, expr_places, variable_code}
-use Rattle.isp_lower.specs.Fits.{IsTyped, SpareFits, OperandFits, ExprFits, ArrayFits}
+use Rattle.isp_lower.specs.Fits.{IsTyped, IsNamed, OperandFits, ExprFits, ArrayFits}
+use Rattle.isp_lower.specs.Presence.{ZeroHas}
 
 module _ (l : Layout) where
   -- a variable begins with 0
@@ -38,8 +39,7 @@ module _ (l : Layout) where
 
 module _ (w : Setting) where
   abbrev pub ZeroFits : Rate → Elem → ℕ → ℕ → Type 0
-  ZeroFits Uniform t v n = IsTyped w Uniform (w.layout.variable Uniform v) t
-  ZeroFits Varying t v n = SpareFits w Uniform t n
+  ZeroFits r t v n = ZeroHas (IsNamed w) r t v n
 
   abbrev pub ItemFits : ℕ → TItem → Type 0
   ItemFits n (t_plain v t sp) = ZeroFits t.rate t.elem v n

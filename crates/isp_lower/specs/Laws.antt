@@ -2,24 +2,25 @@
 use Rattle.std.specs.Prelude.{◌≡◌, ℕ, List, ◌+◌, ◌++◌, length, map, Some}
 use Rattle.isp_base.specs.Sets.{Mask}
 use Rattle.isp_code.specs.Conf.{Conf}
-use Rattle.isp_typed.specs.Typed.{TExpr, TSimple, TItem, TFunction, type_of}
+use Rattle.isp_typed.specs.Typed.{TExpr, TSimple, TItem, type_of}
 use Rattle.isp_meaning.specs.State.{State, tick}
 use Rattle.isp_meaning.specs.Expressions.{value}
 use Rattle.isp_meaning.specs.Simple.{simple, items}
-use Rattle.isp_typed.specs.Fine.{FineExpr, FineSimple, FineItem}
-use Rattle.isp_typed.specs.declared.variable.Variable.{Variable}
+use Rattle.isp_typed.specs.Fine.{heads}
 use Rattle.isp_base.specs.declared.types.Elem.{Elem}
 use Rattle.isp_base.specs.declared.types.Rate.{Rate}
 use Rattle.isp_code.specs.Registers.{table_of, types_in}
-use Rattle.isp_lower.specs.Layout.{IsApart, class_at}
-use Rattle.isp_lower.specs.Rows.{Name, Row, Rows, rows_at, number_in, elem_in, layout_of}
-use Rattle.isp_lower.specs.Trees.{ExprTree, SimpleTree, ItemTree, ItemsTree, IsPlain, IsPlainSimple, IsPlainItem}
+use Rattle.isp_code.specs.Listing.{Listing, Routine}
+use Rattle.isp_lower.specs.Layout.{Layout, IsApart, class_at}
+use Rattle.isp_lower.specs.Rows.{Name, Row, Rows, rows_at, number_in, elem_in, layout_of, HasRow}
+use Rattle.isp_lower.specs.Trees.{ExprTree, SimpleTree, ItemsTree}
 use Rattle.isp_lower.specs.Tables.{ExprTable, SimpleTable, ItemsTable}
+use Rattle.isp_lower.specs.Sound.{PartSound, IsRegister, HasRegister, ExprPresent, SimplePresent, ItemsPresent}
 use Rattle.isp_lower.specs.Items.{items_code, items_places, ItemsFit}
 use Rattle.isp_lower.specs.Simple.{simple_code, simple_places, SimpleFits}
 use Rattle.isp_lower.specs.Setting.{Setting, IsSettled, gang_of, AreAt, Holds}
 use Rattle.isp_lower.specs.Runs.{Enters, Runs, DoneRuns}
-use Rattle.isp_lower.specs.Fits.{heads, IsTyped, ExprFits}
+use Rattle.isp_lower.specs.Fits.{IsTyped, ExprFits}
 use Rattle.isp_lower.specs.Code.{found, expr_places, expr_code}
 
 -- From registers that stand for a state and a mask that stands for a set with members, the code of an expression gives
@@ -45,11 +46,6 @@ abbrev pub PartsFit : Type 0
 PartsFit =
     (w : Setting) (n : ℕ) → ((x : TExpr) → ExprTree x → ExprTable w x n → ExprFits w x n) × ((x : TSimple) → SimpleTree x → SimpleTable w x n → SimpleFits w x n) × ((xs : List TItem) → ItemsTree xs → ItemsTable w n xs → ItemsFit w n xs)
 
--- The trees of a fine program are as code asks, but for what fineness leaves open.
-abbrev pub TreesFit : Type 0
-TreesFit =
-    (fs : List TFunction) (vars : List Variable) → ((x : TExpr) → FineExpr fs vars x → IsPlain x → ExprTree x) × ((x : TSimple) → FineSimple fs vars x → IsPlainSimple x → SimpleTree x) × ((x : TItem) → FineItem fs vars x → IsPlainItem x → ItemTree x)
-
 -- A layout from rows gives each name a register of its own.
 abbrev pub LayoutsAreApart : Type 0
 LayoutsAreApart = (rows : Rows) → IsApart (layout_of rows)
@@ -59,7 +55,26 @@ abbrev pub RowsAreTyped : Type 0
 RowsAreTyped =
     (w : Setting) (rows : Rows) (r : Rate) (x : Name) (t : Elem) → types_in (table_of w.routine) (class_at r) ≡ map (λ y. y.elem) (rows_at rows r) → elem_in (rows_at rows r) x ≡ Some t → IsTyped w r (number_in (rows_at rows r) x) t
 
+-- The same of the function alone: the register of a name that has a row is there, with the row's type.
+abbrev pub RowsAreThere : Type 0
+RowsAreThere =
+    (h : Routine) (rows : Rows) → ((r : Rate) → types_in (table_of h) (class_at r) ≡ map (λ y. y.elem) (rows_at rows r)) → (r : Rate) (x : Name) (t : Elem) → HasRow rows r x t → HasRegister h (layout_of rows) r x t
+
 -- Rows that are added change nothing of a name that has a row.
 abbrev pub RowsStay : Type 0
 RowsStay =
     (rows more : List Row) (x : Name) (t : Elem) → elem_in rows x ≡ Some t → (number_in (rows ++ more) x ≡ number_in rows x) × (elem_in (rows ++ more) x ≡ Some t)
+
+-- The code of a tree has its operands, where the registers that it asks for are there; and so is the register in which
+-- the value of an expression is found, with the expression's type.
+pub record ExprSound : Type 0 where
+  pub part : (code : Listing) (h : Routine) (l : Layout) (x : TExpr) (n : ℕ) → ExprTree x → ExprPresent h l x n → PartSound code h (expr_places l x) (λ pc p k. expr_code l x pc p k n)
+  pub there : (h : Routine) (l : Layout) (x : TExpr) (n : ℕ) → ExprTree x → ExprPresent h l x n → IsRegister h (type_of x).rate (found l x n) (type_of x).elem
+
+abbrev pub SimpleSound : Type 0
+SimpleSound =
+    (code : Listing) (h : Routine) (l : Layout) (x : TSimple) (n : ℕ) → SimpleTree x → SimplePresent h l x n → PartSound code h (simple_places l x) (λ pc p k. simple_code l x pc p k n)
+
+abbrev pub ItemsSound : Type 0
+ItemsSound =
+    (code : Listing) (h : Routine) (l : Layout) (xs : List TItem) (n : ℕ) → ItemsTree xs → ItemsPresent h l n xs → PartSound code h (items_places l xs) (λ pc p k. items_code l xs pc p k n)

@@ -1,11 +1,15 @@
 pub mod Layout
 pub mod Code
+pub mod Emitted
 pub mod Setting
 pub mod Runs
 pub mod Fits
 pub mod Simple
 pub mod Items
 pub mod Trees
+pub mod Presence
 pub mod Tables
+pub mod Sound
 pub mod Rows
 pub mod Laws
+pub mod Reserved

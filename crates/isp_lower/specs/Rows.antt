@@ -1,6 +1,6 @@
 -- A layout from lists of rows: a register has the number of the first row of its class that has its name. So rows are
 -- added at the end, as names come up, and no number changes. A name that no row has gets a number past the last row.
-use Rattle.std.specs.Prelude.{ℕ, ◌+◌, ◌*◌, ◌==◌, List, [], ◌∷◌, Option, Some, None, if◌then◌else◌}
+use Rattle.std.specs.Prelude.{◌≡◌, ℕ, ◌+◌, ◌*◌, ◌==◌, List, [], ◌∷◌, Option, Some, None, if◌then◌else◌}
 use Rattle.isp_base.specs.Ranks.{rank}
 use Rattle.isp_base.specs.declared.types.Elem.{Elem}
 use Rattle.isp_base.specs.declared.types.Rate.{Rate}
@@ -43,3 +43,13 @@ rows_at rows Varying = rows.vectors
 abbrev pub layout_of : Rows → Layout
 layout_of rows =
     record { variable = λ r v. number_in (rows_at rows r) (Variable v); result = λ r. number_in (rows_at rows r) Result; spare = λ r t j. number_in (rows_at rows r) (Spare t j); array = λ v. number_in rows.arrays (Variable v) }
+
+-- the number of the register that a layout has for a name
+abbrev pub numbered : Layout → Rate → Name → ℕ
+numbered l r (Variable v) = l.variable r v
+numbered l r Result = l.result r
+numbered l r (Spare t j) = l.spare r t j
+
+-- a name has a row of this rate and this type
+abbrev pub HasRow : Rows → Rate → Name → Elem → Type 0
+HasRow rows r x t = elem_in (rows_at rows r) x ≡ Some t

@@ -12,12 +12,9 @@ use Rattle.isp_lower.specs.Layout.{Layout}
 use Rattle.isp_lower.specs.Setting.{Setting}
 use Rattle.isp_lower.specs.Code.{convert, operate, operate_places, read, write, constant, lifted, lift_code, two, operand, operand_of, index, expr_places, index_places, read_places, expr_code, index_code, variable_code}
 use Rattle.isp_base.specs.declared.types.Elem.TheVariants.{Bool as Truth}
-use Rattle.isp_lower.specs.Fits.{SpareFits, LiftFits, OperandFits, ExprFits, PlaceFits}
-
--- the slot after that of a place's index
-abbrev pub beyond : TPlace → ℕ → ℕ
-beyond (t_variable v t sp) n = n
-beyond (t_element b i t sp) n = n + 1
+use Rattle.isp_lower.specs.Fits.{IsNamed, SpareFits, LiftFits, OperandFits, ExprFits, PlaceFits}
+pub use Rattle.isp_lower.specs.Presence.{beyond}
+use Rattle.isp_lower.specs.Presence.{ReadHas, WorkHas}
 
 module _ (l : Layout) where
   -- the target's index, the right side, the access
@@ -87,12 +84,10 @@ IsNumber t = Unit {0}
 module _ (w : Setting) where
   -- slot i has a register of the operator's type where that is another, and one of an element's
   abbrev pub WorkFits : Bool → Rate → Elem → ℕ → Type 0
-  WorkFits true r t i = Unit {0}
-  WorkFits false r t i = SpareFits w r t i
+  WorkFits same r t i = WorkHas (IsNamed w) same r t i
 
   abbrev pub ReadFits : TPlace → ℕ → Type 0
-  ReadFits (t_variable v u sp) i = Unit {0}
-  ReadFits (t_element b j u sp) i = SpareFits w u.rate u.elem i
+  ReadFits z i = ReadHas (IsNamed w) z i
 
   -- a place with its index at slot n, that an operator of type t reads and writes
   pub record ChangeFits (t : Elem) (z : TPlace) (n i : ℕ) : Type 0 where

@@ -4,8 +4,9 @@ use Rattle.std.specs.Prelude.{◌≡◌, List, [], ◌∷◌}
 use Rattle.isp_base.specs.declared.types.Elem.{Elem}
 use Rattle.isp_base.specs.declared.types.Elem.TheVariants.{Bool as Truth}
 use Rattle.isp_base.specs.declared.types.Rate.{Rate}
+use Rattle.isp_typed.specs.Fine.{WorksIn, heads}
 use Rattle.isp_typed.specs.Typed.{TExpr, t_constant, t_program_index, t_place, t_convert, t_cast, t_unary, t_binary, t_compare, t_logic, t_choose, t_call, t_library, t_packed_store, t_packed_load, TPlace, t_variable, t_element, TItem, t_plain, t_with_value, t_with_size, TSimple, t_value, t_run, t_assign, t_update, t_step, place_type, type_of}
-use Rattle.isp_lower.specs.Fits.{Reaches, heads}
+use Rattle.isp_lower.specs.Fits.{Reaches}
 use Rattle.isp_lower.specs.Simple.{IsNumber}
 
 pub record OperandTree (r : Rate) (t : Elem) (x : TExpr) : Type 0 where
@@ -19,8 +20,9 @@ abbrev mutual
   ExprTree (t_place q) = PlaceTree q
   ExprTree (t_convert e x) = (heads x ≡ 0) × ExprTree x
   ExprTree (t_cast x t sp) = OperandTree t.rate t.elem x × ExprTree x
-  ExprTree (t_unary o x t sp) = OperandTree t.rate t.elem x × ExprTree x
-  ExprTree (t_binary o x y t sp) = OperandTree t.rate t.elem x × OperandTree t.rate t.elem y × ExprTree x × ExprTree y
+  ExprTree (t_unary o x t sp) = OperandTree t.rate t.elem x × ExprTree x × WorksIn o t.elem
+  ExprTree (t_binary o x y t sp) =
+      OperandTree t.rate t.elem x × OperandTree t.rate t.elem y × ExprTree x × ExprTree y × IsNumber t.elem
   ExprTree (t_compare c x y r sp) =
       OperandTree r (type_of x).elem x × OperandTree r (type_of x).elem y × ExprTree x × ExprTree y
   ExprTree (t_logic g x y r sp) = OperandTree r Truth x × OperandTree r Truth y × ExprTree x × ExprTree y
@@ -33,7 +35,8 @@ abbrev mutual
 
   pub PlaceTree : TPlace → Type 0
   PlaceTree (t_variable v t sp) = Unit {0}
-  PlaceTree (t_element b i t sp) = Reaches b.ty.rate t.rate × Reaches (type_of i).rate t.rate × ExprTree i
+  PlaceTree (t_element b i t sp) =
+      Reaches b.ty.rate t.rate × Reaches (type_of i).rate t.rate × ExprTree i × (b.ty.elem ≡ t.elem)
 
 abbrev pub SimpleTree : TSimple → Type 0
 SimpleTree (t_value x) = ExprTree x
@@ -50,39 +53,3 @@ ItemTree (t_with_size b sp) = Unit {0}
 abbrev pub ItemsTree : List TItem → Type 0
 ItemsTree [] = Unit {0}
 ItemsTree (x ∷ xs) = ItemTree x × ItemsTree xs
-
--- ---- what a fine program leaves open: that conversions stand alone, the rates that are checked for themselves, and that
--- nothing is a call
-
-abbrev mutual
-  pub IsPlain : TExpr → Type 0
-  IsPlain (t_constant v sp) = Unit {0}
-  IsPlain (t_program_index sp) = Unit {0}
-  IsPlain (t_place q) = IsPlainPlace q
-  IsPlain (t_convert e x) = (heads x ≡ 0) × IsPlain x
-  IsPlain (t_cast x t sp) = Reaches (type_of x).rate t.rate × IsPlain x
-  IsPlain (t_unary o x t sp) = IsPlain x
-  IsPlain (t_binary o x y t sp) = IsPlain x × IsPlain y
-  IsPlain (t_compare c x y r sp) = IsPlain x × IsPlain y
-  IsPlain (t_logic g x y r sp) = IsPlain x × IsPlain y
-  IsPlain (t_choose c x y t sp) = IsPlain c × IsPlain x × IsPlain y
-  IsPlain (t_call c t) = ⊥
-  IsPlain (t_library f e xs t sp) = ⊥
-  IsPlain (t_packed_store b x sp) = ⊥
-  IsPlain (t_packed_load b v sp) = ⊥
-
-  pub IsPlainPlace : TPlace → Type 0
-  IsPlainPlace (t_variable v t sp) = Unit {0}
-  IsPlainPlace (t_element b i t sp) = IsPlain i
-
-abbrev pub IsPlainSimple : TSimple → Type 0
-IsPlainSimple (t_value x) = IsPlain x
-IsPlainSimple (t_run c) = ⊥
-IsPlainSimple (t_assign z x sp) = IsPlainPlace z × Reaches (type_of x).rate (place_type z).rate × IsPlain x
-IsPlainSimple (t_update o t z x sp) = IsPlainPlace z × Reaches (type_of x).rate (place_type z).rate × IsPlain x
-IsPlainSimple (t_step o t z sp) = IsPlainPlace z
-
-abbrev pub IsPlainItem : TItem → Type 0
-IsPlainItem (t_plain v t sp) = Unit {0}
-IsPlainItem (t_with_value v t x sp) = Reaches (type_of x).rate t.rate × IsPlain x
-IsPlainItem (t_with_size b sp) = Unit {0}

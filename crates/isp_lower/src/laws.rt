@@ -1,5 +1,5 @@
 //! What holds of all code. No code is run here: each function carries a law in its contract.
-ghost use Rattle.isp_lower.specs.Laws.{ExprRuns, ItemsRun, LayoutsAreApart, PartsFit, RowsAreTyped, RowsStay, SimpleRuns, TreesFit};
+ghost use Rattle.isp_lower.specs.Laws.{ExprRuns, ExprSound, ItemsRun, ItemsSound, LayoutsAreApart, PartsFit, RowsAreThere, RowsAreTyped, RowsStay, SimpleRuns, SimpleSound};
 
 /// The code of an expression gives its value in the lanes of a mask, traps as it traps, and goes on
 /// where it is cut, within 32 instructions for each unit of work. Variables, and the registers that
@@ -27,12 +27,6 @@ pub fn parts_fit()
     ensures { PartsFit }
 {}
 
-/// The trees of every accepted program are as the laws ask, where no conversion converts a conversion,
-/// casts and assignments have the rates that are checked by themselves, and nothing is a call.
-pub fn trees_fit()
-    ensures { TreesFit }
-{}
-
 /// A layout from lists of rows, in which a register has the number of the first row of its name, gives
 /// each name a register of its own.
 pub fn layouts_are_apart()
@@ -44,7 +38,30 @@ pub fn rows_are_typed()
     ensures { RowsAreTyped }
 {}
 
+/// And it is there.
+pub fn rows_are_there()
+    ensures { RowsAreThere }
+{}
+
 /// Rows that are added change neither the number nor the type of a name that has a row.
 pub fn rows_stay()
     ensures { RowsStay }
+{}
+
+/// Each instruction of the code of an expression has registers that are there and of their types, names
+/// a place that is there, and jumps to an instruction of the function, wherever the code stands and
+/// under whatever mask, if the registers that the expression asks for are there. So is the register of
+/// its value, with its type.
+pub fn expressions_sound()
+    ensures { ExprSound }
+{}
+
+/// The same of the code of a value, of an assignment, and of `op=`, `++` and `--`.
+pub fn assignments_sound()
+    ensures { SimpleSound }
+{}
+
+/// The same of the code of declared variables and arrays.
+pub fn declarations_sound()
+    ensures { ItemsSound }
 {}

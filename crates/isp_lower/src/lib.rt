@@ -1,9 +1,28 @@
 //! Code of expressions and of assignments: what is emitted, and that it does what they mean.
 #![tactic(auto)]
 
+mod assigned;
+mod beginning;
+mod builder;
+mod changed;
+mod expression;
 mod laws;
+mod leaves;
+mod registers;
+mod reserve;
+mod statements;
+mod truths;
+mod written;
 
+pub use assigned::variable_to;
+pub use beginning::begin;
+pub use builder::FunctionBuilder;
+pub use expression::{expr, index, operand};
 pub use laws::{
-    assignments_run, declarations_run, expressions_run, layouts_are_apart, parts_fit,
-    rows_are_typed, rows_stay, trees_fit,
+    assignments_run, assignments_sound, declarations_run, declarations_sound, expressions_run,
+    expressions_sound, layouts_are_apart, parts_fit, rows_are_there, rows_are_typed, rows_stay,
 };
+pub use leaves::{after, copy, mask, scalar, the_others, vector, where_so};
+pub use registers::{RegisterName, RegisterRow, Registers};
+pub use reserve::Reserve;
+pub use statements::{declared, simple};

@@ -65,7 +65,7 @@ take_locals (x ∷ vs) (suc v) = go x.holds (take_locals vs v)
     go (holds.Given t) e = e
     go (holds.Local t n) e = ap (λ z. local_of t n ∷ z) e
 
-local_at : (vs : List Variable) (v : ℕ) (x : Variable) (t : Ty) (n : ℕ) → slice_get vs v ≡ Some x → x.holds ≡ holds.Local t n → slice_get (locals_of vs) (local_count (take v vs)) ≡ Some (local_of t n)
+pub local_at : (vs : List Variable) (v : ℕ) (x : Variable) (t : Ty) (n : ℕ) → slice_get vs v ≡ Some x → x.holds ≡ holds.Local t n → slice_get (locals_of vs) (local_count (take v vs)) ≡ Some (local_of t n)
 local_at [] v x t n e k = absurd (cc)
 local_at (y ∷ vs) zero x t n e k = ap (λ z. slice_get (local_then z (locals_of vs)) 0) (ap (λ z. z.holds) (some_same y x e) ∙ k)
 local_at (y ∷ vs) (suc v) x t n e k = go y.holds (local_at vs v x t n e k)

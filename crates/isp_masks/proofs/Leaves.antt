@@ -8,6 +8,7 @@ use Rattle.isp_base.specs.declared.types.Ty.{Ty}
 use Rattle.isp_code.specs.Conf.{Conf, Go}
 use Rattle.isp_tree.specs.declared.stmt.Jump.{Jump}
 use Rattle.isp_tree.specs.declared.stmt.Jump.TheVariants.{Break, Continue}
+use Rattle.isp_typed.specs.Fine.{heads}
 use Rattle.isp_typed.specs.Typed.{TExpr, type_of}
 use Rattle.isp_meaning.specs.State.{State, tick}
 use Rattle.isp_meaning.specs.Payloads.{Payload, sole, spread}
@@ -15,7 +16,6 @@ use Rattle.isp_meaning.specs.Outcomes.{Went, with_value}
 use Rattle.isp_meaning.specs.Expressions.{value}
 use Rattle.isp_meaning.specs.Statements.{answered, answered_at, jumped}
 use Rattle.isp_lower.specs.Code.{copy, found, operand, operand_of, expr_places, expr_code}
-use Rattle.isp_lower.specs.Fits.{heads}
 use Rattle.isp_lower.specs.Runs.{Comes, Enters}
 use Rattle.isp_lower.specs.Setting.{Setting, IsSettled, gang_of, AreAt, At, Stands, Spares, at_rate, held_at, Holds}
 use Rattle.isp_lower.proofs.Done.{spares_all, spares_kept, spares_on}

@@ -16,13 +16,19 @@ use Rattle.isp_lower.specs.Code.{jump_off, guard, found, expr_places, expr_code}
 use Rattle.isp_lower.specs.Fits.{first_slot}
 use Rattle.isp_lower.specs.Layout.{Layout, class_at, register}
 use Rattle.isp_masks.specs.Statements.{stays, unite, leave_code, jump_code, rest_code, parted_code, if_code, if_else_code, answer_code, returned, stmt_places, block_places, stmts_places, stmt_code, block_code, stmts_code, function_code}
-use Rattle.isp_masks.specs.Sound.{AreSound, MaskThere, TestSound, StmtSound, BlockSound, StmtsSound}
+use Rattle.isp_lower.specs.Code.{copy, operand, operand_of}
+use Rattle.isp_lower.specs.Presence.{TestHas}
+use Rattle.isp_lower.specs.Sound.{AreSound, IsRegister, HasMask, ExprPresent}
+use Rattle.isp_lower.specs.Trees.{ExprTree}
+use Rattle.isp_lower.proofs.SoundFound.{found_there, operand_there}
+use Rattle.isp_lower.proofs.SoundLines.{sound_both, copy_sound}
+use Rattle.isp_lower.proofs.SoundParts.{here_then}
+use Rattle.isp_lower.proofs.SoundExprs.{value_sound, part_sound}
+use Rattle.isp_lower.proofs.SoundSimples.{simple_sound, items_sound}
+use Rattle.isp_masks.specs.Parts.{AnswerTree, StmtTree, BlockTree, StmtsTree}
+use Rattle.isp_masks.specs.Sound.{AnswerPresent, StmtPresent, BlockPresent, StmtsPresent}
 
 module _ (code : Listing) (h : Routine) where
-  pub sound_both : (a b : List Instr) → AreSound code h a → AreSound code h b → AreSound code h (a ++ b)
-  sound_both [] b x y = y
-  sound_both (i ∷ a) b x y = (x.0, sound_both a b x.1 y)
-
   -- code at a place, before the last instruction
   abbrev HereSound : (ℕ → List Instr) → Type 0
   HereSound part = (pc : ℕ) → pc + length (part pc) < length h.code → AreSound code h (part pc)
@@ -50,49 +56,63 @@ module _ (code : Listing) (h : Routine) where
       let p2 = pc + 1 + 1 + length side in
       let e1 = length-append side (rest p2 ++ unite k n k ∷ []) in
       let e2 = length-append (rest p2) (unite k n k ∷ []) in
-      ((((refl, ln), ((there, bool), ((refl, lk), tt))), tt), ((((refl, lk), ((refl, lk), ((refl, ln), tt))), tt), sound_both side (rest p2 ++ unite k n k ∷ []) (guard_sound n first ln f (pc + 1 + 1) (omega (arith, e1, e2, lt))) (sound_both (rest p2) (unite k n k ∷ []) (g p2 (omega (arith, e1, e2, lt))) ((((refl, lk), ((refl, ln), ((refl, lk), tt))), tt), tt))))
+      ((((refl, ln), ((there, bool), ((refl, lk), tt))), tt), ((((refl, lk), ((refl, lk), ((refl, ln), tt))), tt), sound_both code h side (rest p2 ++ unite k n k ∷ []) (guard_sound n first ln f (pc + 1 + 1) (omega (arith, e1, e2, lt))) (sound_both code h (rest p2) (unite k n k ∷ []) (g p2 (omega (arith, e1, e2, lt))) ((((refl, lk), ((refl, ln), ((refl, lk), tt))), tt), tt))))
 
   -- a part that may be asked for any mask and slot
   abbrev AnySound : Rate → ℕ → (ℕ → ℕ → ℕ → List Instr) → Type 0
   AnySound r n part = (pc m : ℕ) → m < h.masks → pc + length (part pc m (first_slot r n)) < length h.code → AreSound code h (part pc m (first_slot r n))
 
-  if_sound : (l : Layout) (e : TExpr) (k n : ℕ) (first : ℕ → ℕ → ℕ → List Instr) → k < h.masks → TestSound code h l e n → AnySound (type_of e).rate n first → HereSound (λ pc. if_code (type_of e).rate (found l e n) pc k n first)
-  if_sound l e k n first lk test f = go (type_of e).rate refl test.there test.is_bool test.mask f
+  -- a test: a bool; a varying one has a mask
+  record TestThere (l : Layout) (e : TExpr) (n : ℕ) : Type 0 where
+    there : IsRegister h (type_of e).rate (found l e n) Truth
+    mask : TestHas (HasMask h) (type_of e).rate n
+
+  if_sound : (l : Layout) (e : TExpr) (k n : ℕ) (first : ℕ → ℕ → ℕ → List Instr) → k < h.masks → TestThere l e n → AnySound (type_of e).rate n first → HereSound (λ pc. if_code (type_of e).rate (found l e n) pc k n first)
+  if_sound l e k n first lk test f = go (type_of e).rate refl test.there.0 test.there.1 test.mask f
     where
-      go : (r : Rate) → (type_of e).rate ≡ r → IsThere h (class_at r) (register r (found l e n)) → elem_of h (register r (found l e n)) ≡ Truth → MaskThere code h r n → AnySound r n first → HereSound (λ pc. if_code r (found l e n) pc k n first)
+      go : (r : Rate) → (type_of e).rate ≡ r → IsThere h (class_at r) (register r (found l e n)) → elem_of h (register r (found l e n)) ≡ Truth → TestHas (HasMask h) r n → AnySound r n first → HereSound (λ pc. if_code r (found l e n) pc k n first)
       go Uniform er there bool mask f pc lt = ((((there, bool), (omega arith, tt)), tt), f (pc + 1) k lk (omega arith))
       go Varying er there bool mask f pc lt = parted_sound (found l e n) k n (λ pc1. first pc1 n (n + 1)) (λ pc1. []) lk mask there bool (λ pc1 lt1. f pc1 n mask lt1) (λ pc1 lt1. tt) pc lt
 
-  if_else_sound : (l : Layout) (e : TExpr) (k n : ℕ) (first second : ℕ → ℕ → ℕ → List Instr) → k < h.masks → TestSound code h l e n → AnySound (type_of e).rate n first → AnySound (type_of e).rate n second → HereSound (λ pc. if_else_code (type_of e).rate (found l e n) pc k n first second)
-  if_else_sound l e k n first second lk test f g = go (type_of e).rate refl test.there test.is_bool test.mask f g
+  if_else_sound : (l : Layout) (e : TExpr) (k n : ℕ) (first second : ℕ → ℕ → ℕ → List Instr) → k < h.masks → TestThere l e n → AnySound (type_of e).rate n first → AnySound (type_of e).rate n second → HereSound (λ pc. if_else_code (type_of e).rate (found l e n) pc k n first second)
+  if_else_sound l e k n first second lk test f g = go (type_of e).rate refl test.there.0 test.there.1 test.mask f g
     where
-      go : (r : Rate) → (type_of e).rate ≡ r → IsThere h (class_at r) (register r (found l e n)) → elem_of h (register r (found l e n)) ≡ Truth → MaskThere code h r n → AnySound r n first → AnySound r n second → HereSound (λ pc. if_else_code r (found l e n) pc k n first second)
+      go : (r : Rate) → (type_of e).rate ≡ r → IsThere h (class_at r) (register r (found l e n)) → elem_of h (register r (found l e n)) ≡ Truth → TestHas (HasMask h) r n → AnySound r n first → AnySound r n second → HereSound (λ pc. if_else_code r (found l e n) pc k n first second)
       go Uniform er there bool mask f g pc lt =
           let ca = first (pc + 1) k n in
           let pb = pc + 1 + length ca + 1 in
           let cb = second pb k n in
           let e1 = length-append ca (instr.Jump (pb + length cb) ∷ cb) in
-          ((((there, bool), (omega (arith, e1, lt), tt)), tt), sound_both ca (instr.Jump (pb + length cb) ∷ cb) (f (pc + 1) k lk (omega (arith, e1, lt))) (((omega (arith, e1, lt), tt), tt), g pb k lk (omega (arith, e1, lt))))
+          ((((there, bool), (omega (arith, e1, lt), tt)), tt), sound_both code h ca (instr.Jump (pb + length cb) ∷ cb) (f (pc + 1) k lk (omega (arith, e1, lt))) (((omega (arith, e1, lt), tt), tt), g pb k lk (omega (arith, e1, lt))))
       go Varying er there bool mask f g pc lt =
           parted_sound (found l e n) k n (λ pc1. first pc1 n (n + 1)) (λ pc1. guard (jump_off k) pc1 (λ pc2. second pc2 k (n + 1))) lk mask there bool (λ pc1 lt1. f pc1 n mask lt1) (guard_sound k (λ pc2. second pc2 k (n + 1)) lk (λ pc2 lt2. g pc2 k lk lt2)) pc lt
 
   -- ---- statements
 
   module _ (l : Layout) (answer : Option Ty) where
+    test_there : (e : TExpr) (n : ℕ) → ExprTree e → (type_of e).elem ≡ Truth → ExprPresent h l e n → TestHas (HasMask h) (type_of e).rate n → TestThere l e n
+    test_there e n is bool f mask = let x = found_there h l e n is f in record { there = (x.0, x.1 ∙ bool); mask = mask }
+
+    -- a value goes to the register of the result
+    answer_sound : (a : Option Ty) (x : TExpr) (pc p k n : ℕ) → AnswerTree a x → AnswerPresent h l a x n → k < h.masks → p + length (expr_places l x) ≤ length code.places → pc + length (answer_code l a x pc p k n) < length h.code → AreSound code h (answer_code l a x pc p k n)
+    answer_sound None x pc p k n is f lk pl lt = value_sound code h l x n is f pc p k lk pl lt
+    answer_sound (Some t) x pc p k n is f lk pl lt =
+        here_then code h pc (operand_of l t.rate x k n (expr_code l x pc p k n)) (copy t.rate (l.result t.rate) (operand l t.rate x n) k) (part_sound code h l t.rate t.elem x pc p k n is.0 is.1 f.0 f.1 lk pl) (copy_sound code h t.rate t.elem (l.result t.rate) (operand l t.rate x n) k f.2 (operand_there h l t.rate t.elem x n is.0 is.1 f.0 f.1) lk) lt
+
     mutual
-      pub stmt_sound : (x : TStmt) (pc p k co rr n : ℕ) → StmtSound code h l answer x n → k < h.masks → co < h.masks → rr < h.masks → p + length (stmt_places l x) ≤ length code.places → pc + length (stmt_code l answer x pc p k co rr n) < length h.code → AreSound code h (stmt_code l answer x pc p k co rr n)
-      stmt_sound (t_block b) pc p k co rr n is lk lc lr pl lt = block_sound b pc p k co rr n is lk lc lr pl lt
-      stmt_sound (t_declare xs sp) pc p k co rr n is lk lc lr pl lt = is pc p k lk pl lt
-      stmt_sound (t_simple x sp) pc p k co rr n is lk lc lr pl lt = is pc p k lk pl lt
-      stmt_sound (t_if f g e x sp) pc p k co rr n is lk lc lr pl lt =
+      pub stmt_sound : (x : TStmt) (pc p k co rr n : ℕ) → StmtTree answer x → StmtPresent h l answer x n → k < h.masks → co < h.masks → rr < h.masks → p + length (stmt_places l x) ≤ length code.places → pc + length (stmt_code l answer x pc p k co rr n) < length h.code → AreSound code h (stmt_code l answer x pc p k co rr n)
+      stmt_sound (t_block b) pc p k co rr n is f lk lc lr pl lt = block_sound b pc p k co rr n is f lk lc lr pl lt
+      stmt_sound (t_declare xs sp) pc p k co rr n is f lk lc lr pl lt = items_sound code h l xs n is f pc p k lk pl lt
+      stmt_sound (t_simple x sp) pc p k co rr n is f lk lc lr pl lt = simple_sound code h l x n is f pc p k lk pl lt
+      stmt_sound (t_if b g e x sp) pc p k co rr n is f lk lc lr pl lt =
           let ce = expr_code l e pc p k n in
           let pe = expr_places l e in
           let part = λ (pc2 m i : ℕ). stmt_code l answer x pc2 (p + length pe) m co rr i in
           let rest = if_code (type_of e).rate (found l e n) (pc + length ce) k n part in
           let e1 = length-append ce rest in
           let e2 = length-append pe (stmt_places l x) in
-          sound_both ce rest (is.0.part pc p k lk (omega (arith, e2, pl)) (omega (arith, e1, lt))) (if_sound l e k n part lk is.0 (λ pc2 m lm lt2. stmt_sound x pc2 (p + length pe) m co rr (first_slot (type_of e).rate n) is.1 lm lc lr (omega (arith, e2, pl)) lt2) (pc + length ce) (omega (arith, e1, lt)))
-      stmt_sound (t_if_else f g e x y sp) pc p k co rr n is lk lc lr pl lt =
+          sound_both code h ce rest (value_sound code h l e n is.0 f.0 pc p k lk (omega (arith, e2, pl)) (omega (arith, e1, lt))) (if_sound l e k n part lk (test_there e n is.0 is.2 f.0 f.2) (λ pc2 m lm lt2. stmt_sound x pc2 (p + length pe) m co rr (first_slot (type_of e).rate n) is.1 f.1 lm lc lr (omega (arith, e2, pl)) lt2) (pc + length ce) (omega (arith, e1, lt)))
+      stmt_sound (t_if_else b g e x y sp) pc p k co rr n is f lk lc lr pl lt =
           let ce = expr_code l e pc p k n in
           let pe = expr_places l e in
           let px = stmt_places l x in
@@ -102,39 +122,39 @@ module _ (code : Listing) (h : Routine) where
           let e1 = length-append ce rest in
           let e2 = length-append pe (px ++ stmt_places l y) in
           let e3 = length-append px (stmt_places l y) in
-          sound_both ce rest (is.0.part pc p k lk (omega (arith, e2, pl)) (omega (arith, e1, lt))) (if_else_sound l e k n part other lk is.0 (λ pc2 m lm lt2. stmt_sound x pc2 (p + length pe) m co rr (first_slot (type_of e).rate n) is.1 lm lc lr (omega (arith, e2, e3, pl)) lt2) (λ pc2 m lm lt2. stmt_sound y pc2 (p + length pe + length px) m co rr (first_slot (type_of e).rate n) is.2 lm lc lr (omega (arith, e2, e3, pl)) lt2) (pc + length ce) (omega (arith, e1, lt)))
-      stmt_sound (t_while f g e x sp) pc p k co rr n is lk lc lr pl lt = absurd is
-      stmt_sound (t_do f g x e sp) pc p k co rr n is lk lc lr pl lt = absurd is
-      stmt_sound (t_for f g first e step i x sp) pc p k co rr n is lk lc lr pl lt = absurd is
-      stmt_sound (t_foreach w g rs x sp) pc p k co rr n is lk lc lr pl lt = absurd is
-      stmt_sound (t_foreach_active w g i x sp) pc p k co rr n is lk lc lr pl lt = absurd is
-      stmt_sound (t_unmasked w b sp) pc p k co rr n is lk lc lr pl lt = absurd is
-      stmt_sound (t_jump j w sp) pc p k co rr n is lk lc lr pl lt = jump_sound j k co lk lc
-      stmt_sound (t_return w None sp) pc p k co rr n is lk lc lr pl lt = leave_sound rr k lr lk
-      stmt_sound (t_return w (Some x) sp) pc p k co rr n is lk lc lr pl lt =
+          sound_both code h ce rest (value_sound code h l e n is.0 f.0 pc p k lk (omega (arith, e2, pl)) (omega (arith, e1, lt))) (if_else_sound l e k n part other lk (test_there e n is.0 is.3 f.0 f.3) (λ pc2 m lm lt2. stmt_sound x pc2 (p + length pe) m co rr (first_slot (type_of e).rate n) is.1 f.1 lm lc lr (omega (arith, e2, e3, pl)) lt2) (λ pc2 m lm lt2. stmt_sound y pc2 (p + length pe + length px) m co rr (first_slot (type_of e).rate n) is.2 f.2 lm lc lr (omega (arith, e2, e3, pl)) lt2) (pc + length ce) (omega (arith, e1, lt)))
+      stmt_sound (t_while b g e x sp) pc p k co rr n is f lk lc lr pl lt = absurd is
+      stmt_sound (t_do b g x e sp) pc p k co rr n is f lk lc lr pl lt = absurd is
+      stmt_sound (t_for b g first e step i x sp) pc p k co rr n is f lk lc lr pl lt = absurd is
+      stmt_sound (t_foreach w g rs x sp) pc p k co rr n is f lk lc lr pl lt = absurd is
+      stmt_sound (t_foreach_active w g i x sp) pc p k co rr n is f lk lc lr pl lt = absurd is
+      stmt_sound (t_unmasked w b sp) pc p k co rr n is f lk lc lr pl lt = absurd is
+      stmt_sound (t_jump j w sp) pc p k co rr n is f lk lc lr pl lt = jump_sound j k co lk lc
+      stmt_sound (t_return w None sp) pc p k co rr n is f lk lc lr pl lt = leave_sound rr k lr lk
+      stmt_sound (t_return w (Some x) sp) pc p k co rr n is f lk lc lr pl lt =
           let ca = answer_code l answer x pc p k n in
-          sound_both ca (leave_code rr k) (is pc p k lk pl (omega (arith, length-append ca (leave_code rr k), lt))) (leave_sound rr k lr lk)
-      stmt_sound (t_print w text xs sp) pc p k co rr n is lk lc lr pl lt = absurd is
-      stmt_sound (t_assert x c sp) pc p k co rr n is lk lc lr pl lt = absurd is
+          sound_both code h ca (leave_code rr k) (answer_sound answer x pc p k n is f lk pl (omega (arith, length-append ca (leave_code rr k), lt))) (leave_sound rr k lr lk)
+      stmt_sound (t_print w text xs sp) pc p k co rr n is f lk lc lr pl lt = absurd is
+      stmt_sound (t_assert x c sp) pc p k co rr n is f lk lc lr pl lt = absurd is
 
-      pub block_sound : (x : TBlock) (pc p k co rr n : ℕ) → BlockSound code h l answer x n → k < h.masks → co < h.masks → rr < h.masks → p + length (block_places l x) ≤ length code.places → pc + length (block_code l answer x pc p k co rr n) < length h.code → AreSound code h (block_code l answer x pc p k co rr n)
-      block_sound (t_braces xs sp) pc p k co rr n is lk lc lr pl lt = stmts_sound xs pc p k co rr n is lk lc lr pl lt
+      pub block_sound : (x : TBlock) (pc p k co rr n : ℕ) → BlockTree answer x → BlockPresent h l answer x n → k < h.masks → co < h.masks → rr < h.masks → p + length (block_places l x) ≤ length code.places → pc + length (block_code l answer x pc p k co rr n) < length h.code → AreSound code h (block_code l answer x pc p k co rr n)
+      block_sound (t_braces xs sp) pc p k co rr n is f lk lc lr pl lt = stmts_sound xs pc p k co rr n is f lk lc lr pl lt
 
-      pub stmts_sound : (xs : TStmts) (pc p k co rr n : ℕ) → StmtsSound code h l answer xs n → k < h.masks → co < h.masks → rr < h.masks → p + length (stmts_places l xs) ≤ length code.places → pc + length (stmts_code l answer xs pc p k co rr n) < length h.code → AreSound code h (stmts_code l answer xs pc p k co rr n)
-      stmts_sound t_no_stmts pc p k co rr n is lk lc lr pl lt = tt
-      stmts_sound (t_stmt_then x xs) pc p k co rr n is lk lc lr pl lt =
+      pub stmts_sound : (xs : TStmts) (pc p k co rr n : ℕ) → StmtsTree answer xs → StmtsPresent h l answer xs n → k < h.masks → co < h.masks → rr < h.masks → p + length (stmts_places l xs) ≤ length code.places → pc + length (stmts_code l answer xs pc p k co rr n) < length h.code → AreSound code h (stmts_code l answer xs pc p k co rr n)
+      stmts_sound t_no_stmts pc p k co rr n is f lk lc lr pl lt = tt
+      stmts_sound (t_stmt_then x xs) pc p k co rr n is f lk lc lr pl lt =
           let ca = stmt_code l answer x pc p k co rr n in
           let px = stmt_places l x in
           let part = λ (pc2 : ℕ). stmts_code l answer xs pc2 (p + length px) k co rr n in
           let rest = rest_code (stays x) xs k (pc + length ca) part in
           let e1 = length-append ca rest in
           let e2 = length-append px (stmts_places l xs) in
-          sound_both ca rest (stmt_sound x pc p k co rr n is.0 lk lc lr (omega (arith, e2, pl)) (omega (arith, e1, lt))) (rest_sound (stays x) xs k part lk (λ pc2 lt2. stmts_sound xs pc2 (p + length px) k co rr n is.1 lk lc lr (omega (arith, e2, pl)) lt2) (pc + length ca) (omega (arith, e1, lt)))
+          sound_both code h ca rest (stmt_sound x pc p k co rr n is.0 f.0 lk lc lr (omega (arith, e2, pl)) (omega (arith, e1, lt))) (rest_sound (stays x) xs k part lk (λ pc2 lt2. stmts_sound xs pc2 (p + length px) k co rr n is.1 f.1 lk lc lr (omega (arith, e2, pl)) lt2) (pc + length ca) (omega (arith, e1, lt)))
 
 -- a whole function: its body, and the return
-pub function_sound : (code : Listing) (h : Routine) (l : Layout) (answer : Option Ty) (b : TBlock) (p : ℕ) → h.code ≡ function_code l answer b p → BlockSound code h l answer b 3 → 3 ≤ h.masks → p + length (block_places l b) ≤ length code.places → IsGiven h h.returns (returned l answer) → AreSound code h h.code
-function_sound code h l answer b p is body masks places given =
+pub function_sound : (code : Listing) (h : Routine) (l : Layout) (answer : Option Ty) (b : TBlock) (p : ℕ) → h.code ≡ function_code l answer b p → BlockTree answer b → BlockPresent h l answer b 3 → 3 ≤ h.masks → p + length (block_places l b) ≤ length code.places → IsGiven h h.returns (returned l answer) → AreSound code h h.code
+function_sound code h l answer b p is tree body masks places given =
     let cb = block_code l answer b 0 p 0 1 2 3 in
     let last = instr.Return (returned l answer) ∷ [] in
     let size : length h.code ≡ length cb + 1 = ap length is ∙ length-append cb last in
-    subst (AreSound code h) (sym is) (sound_both code h cb last (block_sound code h l answer b 0 p 0 1 2 3 body (omega (arith, masks)) (omega (arith, masks)) (omega (arith, masks)) places (omega (arith, size))) (((given, tt), tt), tt))
+    subst (AreSound code h) (sym is) (sound_both code h cb last (block_sound code h l answer b 0 p 0 1 2 3 tree body (omega (arith, masks)) (omega (arith, masks)) (omega (arith, masks)) places (omega (arith, size))) (((given, tt), tt), tt))

@@ -4,6 +4,7 @@ use Rattle.std.specs.Prelude.{◌&&◌}
 use Rattle.isp_base.specs.Sets.{Mask}
 use Rattle.isp_code.specs.Conf.{Conf}
 use Rattle.isp_code.specs.declared.instr.Instr.{Instr}
+use Rattle.isp_typed.specs.Fine.{heads}
 use Rattle.isp_typed.specs.Typed.{TExpr, type_of, TStmt, t_block, t_declare, t_simple, t_if, t_if_else, t_while, t_do, t_for, t_foreach, t_foreach_active, t_unmasked, t_jump, t_return, t_print, t_assert, TBlock, t_braces, TStmts, t_no_stmts, t_stmt_then}
 use Rattle.isp_meaning.specs.State.{State, tick}
 use Rattle.isp_meaning.specs.Payloads.{Payload}
@@ -11,7 +12,7 @@ use Rattle.isp_meaning.specs.Outcomes.{Res, went_all, with_value, unless_empty}
 use Rattle.isp_meaning.specs.Expressions.{value}
 use Rattle.isp_meaning.specs.Statements.{branches, run, block, run_all}
 use Rattle.isp_lower.specs.Code.{found, expr_places, expr_code}
-use Rattle.isp_lower.specs.Fits.{heads, first_slot, ExprFits}
+use Rattle.isp_lower.specs.Fits.{first_slot, ExprFits}
 use Rattle.isp_lower.specs.Runs.{Enters, Ok}
 use Rattle.isp_lower.specs.Setting.{Setting, IsSettled, gang_of, AreAt, Holds}
 use Rattle.isp_lower.proofs.Done.{spares_all, spares_kept}

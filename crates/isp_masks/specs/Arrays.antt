@@ -11,6 +11,7 @@ use Rattle.isp_code.specs.declared.function.Local.{Local}
 use Rattle.isp_code.specs.declared.function.Sharing.{Sharing}
 use Rattle.isp_code.specs.declared.function.Sharing.TheVariants.{Shared, PerInstance}
 use Rattle.isp_typed.specs.Typed.{TFunction}
+use Rattle.isp_typed.specs.declared.variable.ArrayVariable.{ArrayVariable}
 use Rattle.isp_typed.specs.declared.variable.Holds.{Holds}
 use Rattle.isp_typed.specs.declared.variable.Holds.TheVariants as holds
 use Rattle.isp_typed.specs.declared.variable.Variable.{Variable}
@@ -58,3 +59,7 @@ pub record ArraysStand (h : TFunction) (g : Routine) (l : Layout) : Type 0 where
   pub given : (v : ℕ) (x : Variable) (e : Elem) → slice_get h.variables v ≡ Some x → x.holds ≡ holds.Given e → (p : Parameter) × (slice_get h.parameters v ≡ Some p) × (p.is_array ≡ true) × (l.array v ≡ array_count (take v h.parameters))
   -- a local one is no parameter, and not too large
   pub local : (v : ℕ) (x : Variable) (t : Ty) (n : ℕ) → slice_get h.variables v ≡ Some x → x.holds ≡ holds.Local t n → (slice_get h.parameters v ≡ None) × (l.array v ≡ passed g + local_count (take v h.variables)) × (n ≤ 65536)
+
+-- the array is a local one of the function
+abbrev pub HoldsLocal : List Variable → ArrayVariable → Type 0
+HoldsLocal vars b = (n : ℕ) × (slice_get vars b.number ≡ Some (record { holds = holds.Local b.ty n; constant = b.constant }))

@@ -1,9 +1,10 @@
 -- What holds of the code of every statement that fits.
-use Rattle.std.specs.Prelude.{◌≡◌, ◌≤◌, ℕ, ◌+◌, List, ◌++◌, length, Option, true}
+use Rattle.std.specs.Prelude.{◌≡◌, ◌≤◌, ℕ, ◌+◌, List, ◌++◌, length, slice_get, Option, Some, None, true}
 use Rattle.isp_base.specs.Binding.{has_signature}
 use Rattle.isp_base.specs.declared.signature.Argument.{Argument}
 use Rattle.isp_base.specs.Sets.{Mask}
 use Rattle.isp_code.specs.Conf.{Conf}
+use Rattle.isp_base.specs.declared.types.Rate.TheVariants.{Uniform}
 use Rattle.isp_base.specs.declared.types.Ty.{Ty}
 use Rattle.isp_code.specs.Fine.{IsGiven}
 use Rattle.isp_code.specs.Listing.{Listing, Routine}
@@ -17,14 +18,21 @@ use Rattle.isp_masks.specs.Agreement.{AreShort, RunsAgree, Agrees}
 use Rattle.isp_masks.specs.Compiled.{entry_setting, IsCompiled, IsProgramCode, PassedUniform, PassedFirst, parameter_rows}
 use Rattle.isp_lower.specs.Rows.{Row, Rows, layout_of}
 use Rattle.isp_masks.specs.Statements.{stays, stmt_code, stmt_places, block_places, returned, function_code}
-use Rattle.isp_masks.specs.Sound.{AreSound, BlockSound}
+use Rattle.isp_lower.specs.Sound.{AreSound}
+use Rattle.isp_masks.specs.Sound.{BlockPresent}
 use Rattle.isp_masks.specs.Fits.{StmtFits, BlockFits}
-use Rattle.isp_masks.specs.Parts.{BlockTree, BlockTable, IsPlainBlock}
+use Rattle.isp_masks.specs.Parts.{BlockTree, BlockTable}
 use Rattle.isp_lower.specs.Fits.{ArrayFits}
+use Rattle.isp_code.specs.Entries.{parameters_of}
+use Rattle.isp_lower.specs.Sound.{HasRegister, HasMask}
+use Rattle.isp_lower.specs.Tables.{AnyArray}
+use Rattle.isp_masks.specs.Presence.{BlockHas}
 use Rattle.isp_masks.specs.Arrays.{ArraysStand}
-use Rattle.isp_typed.specs.Fine.{HoldsArray, FineBlock}
+use Rattle.isp_typed.specs.Fine.{HoldsArray, IsFine, FineFunction}
 use Rattle.isp_typed.specs.declared.variable.ArrayVariable.{ArrayVariable}
-use Rattle.isp_typed.specs.declared.variable.Variable.{Variable}
+use Rattle.isp_rates.specs.Covered.{block_left, program_left}
+use Rattle.isp_rates.specs.Program.{ProgramBreach}
+use Rattle.isp_lex.specs.declared.fault.Fault.{Fault}
 use Rattle.isp_masks.specs.StmtRuns.{AreThree, aside, StmtRuns}
 
 -- From registers that stand for a state and a mask that stands for a set with members, the code of a statement leaves
@@ -43,16 +51,28 @@ EntryRuns =
 abbrev pub ProgramRuns : Type 0
 ProgramRuns = (program : Program) (code : Listing) → IsProgramCode program code → Agrees program code
 
--- Each instruction of a function's code has its operands, if its parts have and its result is one of the function.
+-- Each instruction of a function's code has its operands, where the registers that its body asks for are there, and its
+-- result is one of the function.
 abbrev pub FunctionSound : Type 0
 FunctionSound =
-    (code : Listing) (h : Routine) (l : Layout) (answer : Option Ty) (b : TBlock) (p : ℕ) → h.code ≡ function_code l answer b p → BlockSound code h l answer b 3 → 3 ≤ h.masks → p + length (block_places l b) ≤ length code.places → IsGiven h h.returns (returned l answer) → AreSound code h h.code
+    (code : Listing) (h : Routine) (l : Layout) (answer : Option Ty) (b : TBlock) (p : ℕ) → h.code ≡ function_code l answer b p → BlockTree answer b → BlockPresent h l answer b 3 → 3 ≤ h.masks → p + length (block_places l b) ≤ length code.places → IsGiven h h.returns (returned l answer) → AreSound code h h.code
 
--- What is demanded of a body is what is asked of its tree, and what is asked of the table of registers; and the tree of a
--- body of an accepted program is as asked, but for what that leaves open.
-pub record BodiesFit : Type 0 where
-  pub parts : (w : Setting) (b : TBlock) (n : ℕ) → BlockTree w.frame.answer b → BlockTable w b n → BlockFits w b n
-  pub tree : (fs : List TFunction) (vars : List Variable) (answer : Option Ty) (b : TBlock) → FineBlock fs vars answer b → IsPlainBlock answer b → BlockTree answer b
+-- What is demanded of a body is what is asked of its tree, and what is asked of the table of registers.
+abbrev pub BodiesFit : Type 0
+BodiesFit = (w : Setting) (b : TBlock) (n : ℕ) → BlockTree w.frame.answer b → BlockTable w b n → BlockFits w b n
+
+-- The body of a function is as code asks, where all of it has code; and an exported function takes one value for the gang
+-- where it takes a value, and gives one where it gives a value.
+pub record FunctionFits (h : TFunction) : Type 0 where
+  pub tree : block_left h.body ≡ None → BlockTree h.answer h.body
+  pub passed : h.exported ≡ true → PassedUniform h
+  pub result : h.exported ≡ true → (t : Ty) → h.answer ≡ Some t → t.rate ≡ Uniform
+
+-- Each function of a fine program without a breach is so; and where all of the program has code, each function is exported,
+-- and all of it has code.
+pub record CheckedFits : Type 0 where
+  pub each : (program : Program) → IsFine program → ((e : Fault) → ProgramBreach program e → ⊥) → (f : ℕ) (h : TFunction) → slice_get program.functions f ≡ Some h → FunctionFits h
+  pub whole : (program : Program) → program_left program ≡ None → (f : ℕ) (h : TFunction) → slice_get program.functions f ≡ Some h → (h.exported ≡ true) × (block_left h.body ≡ None)
 
 -- A layout from rows passes values first, if the rows of the parameters come first.
 abbrev pub ParametersFirst : Type 0
@@ -63,3 +83,13 @@ ParametersFirst =
 abbrev pub EntryArraysFit : Type 0
 EntryArraysFit =
     (program : Program) (code : Listing) (f : ℕ) (h : TFunction) (g : Routine) (l : Layout) (turns : ℕ) (xs : List Argument) → ArraysStand h g l → has_signature h.parameters xs ≡ true → AreShort xs → (b : ArrayVariable) → HoldsArray h.variables b → ArrayFits (entry_setting program code f h g l turns xs) b
+
+-- What a body of an accepted program asks for is there for the verifier, and the table is as the laws ask, whatever the
+-- arguments are, where its registers and masks are there: its arrays are variables of the function.
+pub record BodyPresent (h : TFunction) (g : Routine) (l : Layout) (n : ℕ) : Type 0 where
+  pub present : BlockPresent g l h.answer h.body n
+  pub table : (program : Program) (code : Listing) (f turns : ℕ) (xs : List Argument) → has_signature h.parameters xs ≡ true → AreShort xs → BlockTable (entry_setting program code f h g l turns xs) h.body n
+
+abbrev pub BodiesPresent : Type 0
+BodiesPresent =
+    (fs : List TFunction) (h : TFunction) (g : Routine) (l : Layout) → FineFunction fs h → ArraysStand h g l → parameters_of g ≡ h.parameters → (n : ℕ) → BlockHas (HasRegister g l) AnyArray AnyArray (HasMask g) h.answer h.body n → BodyPresent h g l n

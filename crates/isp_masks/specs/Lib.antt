@@ -1,9 +1,15 @@
 pub mod Statements
 pub mod Fits
+pub mod Presence
 pub mod Parts
 pub mod StmtRuns
 pub mod Agreement
 pub mod Compiled
 pub mod Arrays
 pub mod Sound
+pub mod Accepted
+pub mod Made
 pub mod Laws
+pub mod Awaited
+pub mod Reserved
+pub mod Lowered

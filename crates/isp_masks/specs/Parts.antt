@@ -1,12 +1,13 @@
--- What `StmtFits` demands falls in two: what is asked of the tree alone, and that each register has its type. And what an
--- accepted program leaves open of the first.
-use Rattle.std.specs.Prelude.{ℕ, List, [], ◌∷◌, Option, Some, None}
+-- What `StmtFits` demands falls in two: what is asked of the tree alone, and that each register has its type.
+use Rattle.std.specs.Prelude.{◌≡◌, ℕ, Option, Some, None}
+use Rattle.isp_base.specs.declared.types.Elem.TheVariants.{Bool as Truth}
 use Rattle.isp_base.specs.declared.types.Ty.{Ty}
-use Rattle.isp_typed.specs.Typed.{TExpr, type_of, TItem, TStmt, t_block, t_declare, t_simple, t_if, t_if_else, t_while, t_do, t_for, t_foreach, t_foreach_active, t_unmasked, t_jump, t_return, t_print, t_assert, TBlock, t_braces, TStmts, t_no_stmts, t_stmt_then}
-use Rattle.isp_lower.specs.Fits.{Reaches, first_slot}
+use Rattle.isp_typed.specs.Typed.{TExpr, type_of, TStmt, t_block, t_declare, t_simple, t_if, t_if_else, t_while, t_do, t_for, t_foreach, t_foreach_active, t_unmasked, t_jump, t_return, t_print, t_assert, TBlock, t_braces, TStmts, t_no_stmts, t_stmt_then}
+use Rattle.isp_lower.specs.Fits.{IsNamed, ArrayFits}
 use Rattle.isp_lower.specs.Setting.{Setting}
-use Rattle.isp_lower.specs.Tables.{LiftTable, ExprTable, SimpleTable, ItemsTable}
-use Rattle.isp_lower.specs.Trees.{OperandTree, ExprTree, SimpleTree, ItemsTree, IsPlain, IsPlainSimple, IsPlainItem}
+use Rattle.isp_lower.specs.Tables.{AnyMask}
+use Rattle.isp_lower.specs.Trees.{OperandTree, ExprTree, SimpleTree, ItemsTree}
+use Rattle.isp_masks.specs.Presence.{AnswerHas, StmtHas, BlockHas, StmtsHave}
 
 -- ---- the tree
 
@@ -20,8 +21,8 @@ module _ (answer : Option Ty) where
     StmtTree (t_block b) = BlockTree b
     StmtTree (t_declare xs sp) = ItemsTree xs
     StmtTree (t_simple x sp) = SimpleTree x
-    StmtTree (t_if f g e x sp) = ExprTree e × StmtTree x
-    StmtTree (t_if_else f g e x y sp) = ExprTree e × StmtTree x × StmtTree y
+    StmtTree (t_if f g e x sp) = ExprTree e × StmtTree x × ((type_of e).elem ≡ Truth)
+    StmtTree (t_if_else f g e x y sp) = ExprTree e × StmtTree x × StmtTree y × ((type_of e).elem ≡ Truth)
     StmtTree (t_while f g e x sp) = ⊥
     StmtTree (t_do f g x e sp) = ⊥
     StmtTree (t_for f g first e step i x sp) = ⊥
@@ -45,68 +46,13 @@ module _ (answer : Option Ty) where
 
 module _ (w : Setting) where
   abbrev pub AnswerTable : Option Ty → TExpr → ℕ → Type 0
-  AnswerTable None x n = ExprTable w x n
-  AnswerTable (Some t) x n = LiftTable w t.rate t.elem x n × ExprTable w x n
+  AnswerTable answer x n = AnswerHas (IsNamed w) (ArrayFits w) (ArrayFits w) AnyMask answer x n
 
-  abbrev mutual
-    pub StmtTable : TStmt → ℕ → Type 0
-    StmtTable (t_block b) n = BlockTable b n
-    StmtTable (t_declare xs sp) n = ItemsTable w n xs
-    StmtTable (t_simple x sp) n = SimpleTable w x n
-    StmtTable (t_if f g e x sp) n = ExprTable w e n × StmtTable x (first_slot (type_of e).rate n)
-    StmtTable (t_if_else f g e x y sp) n = ExprTable w e n × StmtTable x (first_slot (type_of e).rate n) × StmtTable y (first_slot (type_of e).rate n)
-    StmtTable (t_while f g e x sp) n = Unit {0}
-    StmtTable (t_do f g x e sp) n = Unit {0}
-    StmtTable (t_for f g first e step i x sp) n = Unit {0}
-    StmtTable (t_foreach k g rs x sp) n = Unit {0}
-    StmtTable (t_foreach_active k g i x sp) n = Unit {0}
-    StmtTable (t_unmasked k b sp) n = Unit {0}
-    StmtTable (t_jump j k sp) n = Unit {0}
-    StmtTable (t_return k None sp) n = Unit {0}
-    StmtTable (t_return k (Some x) sp) n = AnswerTable w.frame.answer x n
-    StmtTable (t_print k text xs sp) n = Unit {0}
-    StmtTable (t_assert x c sp) n = Unit {0}
+  abbrev pub StmtTable : TStmt → ℕ → Type 0
+  StmtTable x n = StmtHas (IsNamed w) (ArrayFits w) (ArrayFits w) AnyMask w.frame.answer x n
 
-    pub BlockTable : TBlock → ℕ → Type 0
-    BlockTable (t_braces xs sp) n = StmtsTable xs n
+  abbrev pub BlockTable : TBlock → ℕ → Type 0
+  BlockTable b n = BlockHas (IsNamed w) (ArrayFits w) (ArrayFits w) AnyMask w.frame.answer b n
 
-    pub StmtsTable : TStmts → ℕ → Type 0
-    StmtsTable t_no_stmts n = Unit {0}
-    StmtsTable (t_stmt_then x xs) n = StmtTable x n × StmtsTable xs n
-
--- ---- what an accepted program leaves open: that it has covered statements alone, and what its parts leave open
-
-abbrev pub ArePlainItems : List TItem → Type 0
-ArePlainItems [] = Unit {0}
-ArePlainItems (x ∷ xs) = IsPlainItem x × ArePlainItems xs
-
-abbrev pub IsPlainAnswer : Option Ty → TExpr → Type 0
-IsPlainAnswer None x = IsPlain x
-IsPlainAnswer (Some t) x = Reaches (type_of x).rate t.rate × IsPlain x
-
-module _ (answer : Option Ty) where
-  abbrev mutual
-    pub IsPlainStmt : TStmt → Type 0
-    IsPlainStmt (t_block b) = IsPlainBlock b
-    IsPlainStmt (t_declare xs sp) = ArePlainItems xs
-    IsPlainStmt (t_simple x sp) = IsPlainSimple x
-    IsPlainStmt (t_if f g e x sp) = IsPlain e × IsPlainStmt x
-    IsPlainStmt (t_if_else f g e x y sp) = IsPlain e × IsPlainStmt x × IsPlainStmt y
-    IsPlainStmt (t_while f g e x sp) = ⊥
-    IsPlainStmt (t_do f g x e sp) = ⊥
-    IsPlainStmt (t_for f g first e step i x sp) = ⊥
-    IsPlainStmt (t_foreach k g rs x sp) = ⊥
-    IsPlainStmt (t_foreach_active k g i x sp) = ⊥
-    IsPlainStmt (t_unmasked k b sp) = ⊥
-    IsPlainStmt (t_jump j k sp) = Unit {0}
-    IsPlainStmt (t_return k None sp) = Unit {0}
-    IsPlainStmt (t_return k (Some x) sp) = IsPlainAnswer answer x
-    IsPlainStmt (t_print k text xs sp) = ⊥
-    IsPlainStmt (t_assert x c sp) = ⊥
-
-    pub IsPlainBlock : TBlock → Type 0
-    IsPlainBlock (t_braces xs sp) = ArePlain xs
-
-    pub ArePlain : TStmts → Type 0
-    ArePlain t_no_stmts = Unit {0}
-    ArePlain (t_stmt_then x xs) = IsPlainStmt x × ArePlain xs
+  abbrev pub StmtsTable : TStmts → ℕ → Type 0
+  StmtsTable xs n = StmtsHave (IsNamed w) (ArrayFits w) (ArrayFits w) AnyMask w.frame.answer xs n

@@ -1,5 +1,7 @@
 //! What holds of all code. No code is run here: each function carries a law in its contract.
-ghost use Rattle.isp_masks.specs.Laws.{BodiesFit, EntryArraysFit, EntryRuns, FunctionSound, ParametersFirst, ProgramRuns, StatementRuns};
+ghost use Rattle.isp_masks.specs.Accepted.{CodeAccepted};
+ghost use Rattle.isp_masks.specs.Laws.{BodiesFit, BodiesPresent, CheckedFits, EntryArraysFit, EntryRuns, FunctionSound, ParametersFirst, ProgramRuns, StatementRuns};
+ghost use Rattle.isp_masks.specs.Made.{MadeIsCode};
 
 /// The code of a statement does it for the instances of a mask that has members: afterwards the mask
 /// has those that went on, and two others have grown by those that continued and that returned. It
@@ -23,17 +25,43 @@ pub fn programs_run()
     ensures { ProgramRuns }
 {}
 
-/// Each instruction of a function's code has registers that are there and of their kinds, and its
-/// jumps go to instructions of the function, if this holds of its expressions and assignments.
+/// Each instruction of a function's code has registers that are there and of their kinds, names a
+/// place that is there, and jumps to an instruction of the function, if the registers that its body
+/// asks for are there.
 pub fn functions_sound()
     ensures { FunctionSound }
 {}
 
+/// The verifier accepts code of which each header fits, and each routine is the code of a body whose
+/// registers are there.
+pub fn bodies_accepted()
+    ensures { CodeAccepted }
+{}
+
 /// What the laws ask of a body and its registers falls in two: what is asked of the tree alone, and
-/// that each register has its type. The bodies of every accepted program are as the first asks, where
-/// they have the statements that are covered, and their parts are as isp_lower asks.
+/// that each register has its type.
 pub fn bodies_fit()
     ensures { BodiesFit }
+{}
+
+/// The bodies of every accepted program are as the first asks, where they have only what has code, and
+/// what an exported function takes and gives is one value for the gang.
+pub fn checked_fits()
+    ensures { CheckedFits }
+{}
+
+/// Where the registers and masks that the body of an accepted function asks for are there, arrays that
+/// are passed come first and local ones in their order, all that the verifier asks is there, and what
+/// the laws ask of the table of registers is so.
+pub fn bodies_present()
+    ensures { BodiesPresent }
+{}
+
+/// A routine that is made from an accepted function, with a row for each register that its body asks
+/// for, is the code of its body as the verifier accepts it; and it is what an entry is to be, where
+/// values have their rows first and are passed and given back as one for the gang.
+pub fn made_is_code()
+    ensures { MadeIsCode }
 {}
 
 /// A layout from rows in which the parameters that are values come first passes them where a run

@@ -1,9 +1,22 @@
 //! Code of statements and of functions: what is emitted, and that it does what they mean.
 #![tactic(auto)]
 
+mod awaited;
+mod header;
 mod laws;
+mod listing;
+mod lower;
+mod reserved;
+mod routine;
+mod sets;
+mod statement;
+mod stays;
 
 pub use laws::{
-    arrays_fit, bodies_fit, entries_run, functions_sound, parameters_first, programs_run,
-    statements_run,
+    arrays_fit, bodies_accepted, bodies_fit, bodies_present, checked_fits, entries_run,
+    functions_sound, made_is_code, parameters_first, programs_run, statements_run,
 };
+pub use listing::program;
+pub use lower::lower;
+pub use routine::function;
+pub use statement::{block, stmt};

@@ -1,7 +1,6 @@
 pub mod Least
 pub mod RateLaws
 pub mod Steps
-pub mod CoverLaws
 pub mod CallLaws
 pub mod Views
 pub mod Examples

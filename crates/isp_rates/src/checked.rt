@@ -115,8 +115,8 @@ impl Checked {
         None
     }
 
-    /// Where the first node in the text stands that is not compiled yet, a node before its parts; a function
-    /// and a parameter stand where their names are. None where the whole program is compiled.
+    /// Where the first node in the text stands that has no code yet, a node before its parts; a function that
+    /// is not exported has none, and stands where its name is. None where the whole program has code.
     pub fn covered(&self) -> Option<Span>
         ensures { result ≡ program_left (program_of self.now) }
     {

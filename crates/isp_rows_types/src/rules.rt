@@ -1,6 +1,6 @@
 //! The rules of names, types and rates, each on either side.
-use crate::sources::outcome;
-use crate::tables::{library, names, pairs, rates, types};
+use crate::sources::{coverage, outcome};
+use crate::tables::{covered, library, names, pairs, rates, types};
 use isp_base::Gang;
 use std::alloc::Global;
 use std::process::Abort;
@@ -10,8 +10,8 @@ use std::test::Fail;
 const FRAME: &str =
     "void g() { } int h(int x) { return x; } uniform int k(uniform int x) { return x; }\nvoid w(uniform int b[]) { } void r(const uniform int b[]) { } void q(uniform int8 b[]) { }\nvoid f(uniform int a[], const uniform int c[], uniform int8 d[], uniform int u, int v, bool t) { ";
 
-/// A text whose place is in brackets, against what is wanted at that place; without brackets there is none.
-fn compare(rt: &impl Abort, alloc: Global, wanted: &str, marked: &str) -> Result<(), Fail> {
+/// A text whose place is in brackets: the text, and what is wanted at that place; without brackets there is none.
+fn unmarked(alloc: Global, wanted: &str, marked: &str) -> Result<(String, String), Fail> {
     let mut source = String::new(alloc);
     let mut line = String::from_str(alloc, wanted)?;
     match marked.split_once('⟦') {
@@ -27,6 +27,11 @@ fn compare(rt: &impl Abort, alloc: Global, wanted: &str, marked: &str) -> Result
             source.push_str(after)?;
         }
     }
+    Ok((source, line))
+}
+
+fn compare(rt: &impl Abort, alloc: Global, wanted: &str, marked: &str) -> Result<(), Fail> {
+    let (source, line) = unmarked(alloc, wanted, marked)?;
     let found = outcome(alloc, &source, Gang::W4)?;
     assert!(rt; found == line, "{marked}: {found}");
     Ok(())
@@ -78,6 +83,20 @@ fn calls_of_the_library(rt: HostRuntime) -> Result<(), Fail> {
 fn rates_and_exits(rt: HostRuntime) -> Result<(), Fail> {
     statements(&rt, rt.alloc(), rates::STATEMENTS)?;
     programs(&rt, rt.alloc(), rates::PROGRAMS)
+}
+
+#[test]
+fn what_has_code(rt: HostRuntime) -> Result<(), Fail> {
+    let alloc = rt.alloc();
+    for row in covered::PROGRAMS.lines() {
+        let Some((wanted, text)) = row.split_once('|') else {
+            return Err(Fail::from("a line without what comes out"));
+        };
+        let (source, line) = unmarked(alloc, wanted, text)?;
+        let found = coverage(alloc, &source, Gang::W4)?;
+        assert!(rt; found == line, "{text}: {found}");
+    }
+    Ok(())
 }
 
 #[test]

@@ -30,6 +30,17 @@ pub(crate) fn outcome(alloc: Global, source: &str, gang: Gang) -> Result<String,
     }
 }
 
+/// Whether all of a source has code, or the first node that has none.
+pub(crate) fn coverage(alloc: Global, source: &str, gang: Gang) -> Result<String, Fail> {
+    match checked(alloc, source, gang) {
+        Ok(program) => match program.covered() {
+            Some(span) => Ok(format!(in alloc; "left at {span}")?),
+            None => Ok(String::from_str(alloc, "covered")?),
+        },
+        Err(fault) => Ok(format!(in alloc; "{fault}")?),
+    }
+}
+
 /// One record of a table: a line with the gang and what comes out, then the source.
 fn compare(rt: &impl Abort, alloc: Global, record: &str) -> Result<(), Fail> {
     let Some((heading, source)) = record.split_once('\n') else {

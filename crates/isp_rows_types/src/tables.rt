@@ -1,4 +1,5 @@
 //! Texts with what comes out, written from the rules of the language.
+pub(crate) mod covered;
 pub(crate) mod library;
 pub(crate) mod names;
 pub(crate) mod pairs;

@@ -1,7 +1,7 @@
 -- What names and types promise of every program that they accept, in the words of its meaning: a variable is used as what
 -- it holds, an operand has the element type that its node works in, a call fits what it calls.
 --     fs   the functions of the program        vars   the variables of the function        answer   what it gives back
-use Rattle.std.specs.Prelude.{◌≡◌, ℕ, ◌≤◌, ◌<◌, List, [], ◌∷◌, ◌++◌, length, map, take, drop, count_by, slice_get, bytes_eq, Bool, true, false, ◌==◌, ◌&&◌, ◌||◌, not, Option, Some, None, option_map}
+use Rattle.std.specs.Prelude.{◌≡◌, ℕ, ◌+◌, ◌≤◌, ◌<◌, List, [], ◌∷◌, ◌++◌, length, map, take, drop, count_by, slice_get, bytes_eq, Bool, true, false, ◌==◌, ◌&&◌, ◌||◌, not, Option, Some, None, option_map}
 use Rattle.std.specs.List.{All, list_any}
 use Rattle.isp_base.specs.declared.types.Elem.{Elem}
 use Rattle.isp_base.specs.declared.types.Elem.TheVariants.{Bool as Truth, I32, U32, I64}
@@ -89,6 +89,23 @@ LibraryWorksIn NoneTrue e = e ≡ Truth
 LibraryWorksIn Select e = Unit {0}
 LibraryWorksIn f e = IsWhole e
 
+-- how many conversions stand at the head of an expression
+abbrev pub heads : TExpr → ℕ
+heads (t_constant v s) = 0
+heads (t_program_index s) = 0
+heads (t_place p) = 0
+heads (t_convert e x) = 1 + heads x
+heads (t_cast x t s) = 0
+heads (t_unary op x t s) = 0
+heads (t_binary op x y t s) = 0
+heads (t_compare c x y r s) = 0
+heads (t_logic l x y r s) = 0
+heads (t_choose c x y t s) = 0
+heads (t_call c t) = 0
+heads (t_library f e xs t s) = 0
+heads (t_packed_store b x s) = 0
+heads (t_packed_load b v s) = 0
+
 -- varying where one of the values is
 abbrev pub rates_of : TExprs → Rate
 rates_of t_no_exprs = Uniform
@@ -104,7 +121,8 @@ module _ (fs : List TFunction) (vars : List Variable) where
     FineExpr (t_constant v s) = v.bits ≤ greatest v.elem
     FineExpr (t_program_index s) = Unit {0}
     FineExpr (t_place p) = FinePlace p
-    FineExpr (t_convert e x) = FineExpr x
+    -- no conversion is of a conversion
+    FineExpr (t_convert e x) = FineExpr x × (heads x ≡ 0)
     FineExpr (t_cast x t s) = FineExpr x × (elem_of x ≡ t.elem)
     FineExpr (t_unary op x t s) = FineExpr x × (type_of x ≡ t) × WorksIn op t.elem
     FineExpr (t_binary op x y t s) = FineExpr x × FineExpr y × AreOperands x y t.elem t.rate × IsWhole t.elem × InText s

@@ -4,3 +4,4 @@ pub mod Exports
 pub mod Tests
 pub mod FineLaws
 pub mod ProgressLaws
+pub mod AcceptedLaws

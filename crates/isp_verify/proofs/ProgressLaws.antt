@@ -40,7 +40,7 @@ use Rattle.isp_verify.proofs.Tests.{both_first, both_second, none_first, none_la
 some_same : {A : Type 0} {x y : A} → Some x ≡ Some y → x ≡ y
 some_same e = cc
 
-none_at : (k n : ℕ) (r : Option Rule) → at_instruction k n r ≡ None → r ≡ None
+pub none_at : (k n : ℕ) (r : Option Rule) → at_instruction k n r ≡ None → r ≡ None
 none_at k n None e = refl
 none_at k n (Some r) e = cc
 
@@ -50,7 +50,7 @@ functions_fine code k [] j h e at = cc
 functions_fine code k (x ∷ hs) zero h e at = (k, subst (λ z. function_fault code k z ≡ None) (some_same at) (none_first (function_fault code k x) (functions_fault code (suc k) hs) e))
 functions_fine code k (x ∷ hs) (suc j) h e at = functions_fine code (suc k) hs j h (none_later (function_fault code k x) (functions_fault code (suc k) hs) e) at
 
-instrs_fine : (code : Listing) (k : ℕ) (h : Routine) (n : ℕ) (is : List Instr) (j : ℕ) (i : Instr) → instrs_fault code k h n is ≡ None → slice_get is j ≡ Some i → instr_fault code h i ≡ None
+pub instrs_fine : (code : Listing) (k : ℕ) (h : Routine) (n : ℕ) (is : List Instr) (j : ℕ) (i : Instr) → instrs_fault code k h n is ≡ None → slice_get is j ≡ Some i → instr_fault code h i ≡ None
 instrs_fine code k h n [] j i e at = cc
 instrs_fine code k h n (x ∷ is) zero i e at =
     subst (λ z. instr_fault code h z ≡ None) (some_same at) (none_at k n (instr_fault code h x) (none_first (at_instruction k n (instr_fault code h x)) (instrs_fault code k h (suc n) is) e))
@@ -146,7 +146,7 @@ line_applies code none fn pc h found low = go (slice_get h.code pc) refl
         }
 
 -- an exported function is the only one of its name
-function_at : (code : Listing) (k : ℕ) (hs : List Routine) (j : ℕ) (h : Routine) → functions_fault code k hs ≡ None → slice_get hs j ≡ Some h → function_fault code (k + j) h ≡ None
+pub function_at : (code : Listing) (k : ℕ) (hs : List Routine) (j : ℕ) (h : Routine) → functions_fault code k hs ≡ None → slice_get hs j ≡ Some h → function_fault code (k + j) h ≡ None
 function_at code k [] j h e at = cc
 function_at code k (x ∷ hs) zero h e at =
     let same : k ≡ k + 0 = omega arith in

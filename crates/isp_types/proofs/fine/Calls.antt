@@ -6,7 +6,7 @@ use Rattle.isp_base.specs.declared.types.Elem.{Elem}
 use Rattle.isp_base.specs.declared.types.Rate.TheVariants.{Varying}
 use Rattle.isp_base.specs.declared.types.Span.{Span}
 use Rattle.isp_base.specs.declared.types.Ty.{Ty}
-use Rattle.isp_base.specs.Ranks.{same_elem, operand, common}
+use Rattle.isp_base.specs.Ranks.{same_elem, common}
 use Rattle.isp_tree.specs.Sound.{InText}
 use Rattle.isp_lex.specs.declared.fault.Fault.{Fault}
 use Rattle.isp_typed.specs.declared.library.Library.{Library}
@@ -15,8 +15,8 @@ use Rattle.isp_typed.specs.declared.library.Part.{Part}
 use Rattle.isp_typed.specs.declared.variable.Holds.TheVariants as holds
 use Rattle.isp_typed.specs.declared.variable.Variable.{Variable}
 use Rattle.isp_typed.specs.Library.{parts, part_elem, library_type}
-use Rattle.isp_typed.specs.Typed.{TExpr, TFunction, TBase, base_array, t_packed_store, t_packed_load, ty_of, elem_of, rate_of}
-use Rattle.isp_typed.specs.Fine.{FineExpr, FineBase, FineCall, FineArguments, FineParts, LibraryWorksIn, IsWhole, rates_of, params_of}
+use Rattle.isp_typed.specs.Typed.{TExpr, TFunction, TBase, base_array, t_packed_store, t_packed_load, ty_of, elem_of}
+use Rattle.isp_typed.specs.Fine.{FineBase, FineCall, FineArguments, FineParts, LibraryWorksIn, rates_of, params_of}
 use Rattle.isp_exprs.specs.declared.scope.Known.{Known}
 use Rattle.isp_exprs.specs.declared.callee.Callee.{Callee}
 use Rattle.isp_exprs.specs.declared.callee.Callee.TheVariants.{Unknown, Miscounted, Function, Library as OfLibrary, PackedStore, PackedLoad}
@@ -27,7 +27,7 @@ use Rattle.isp_exprs.specs.Calls.{Heading, Passed, p_value, p_array, p_base, p_d
 use Rattle.isp_types.proofs.fine.Callees.{AreWants, Headed, Fits}
 use Rattle.isp_types.proofs.fine.Passed.{ok_is, no_ok, IsKnown, Suited, FineHanded}
 use Rattle.isp_base.proofs.RankLaws.{same_is}
-use Rattle.isp_types.proofs.fine.Values.{operand_whole, common_whole, converted_elem, converted_rate, converted_fine}
+use Rattle.isp_types.proofs.fine.Values.{BareExpr, operand_whole, common_whole, converted_elem, converted_rate, converted_fine}
 
 -- ---- the library's element type
 
@@ -76,11 +76,11 @@ module _ (hs : List Heading) (gs : List TFunction) (all : List Variable) where
   AllSuited ws (p ∷ ps) = Suited gs all (first_want ws) p × AllSuited (rest_of ws) ps
 
   abbrev pub FineCalled : Called → Type 0
-  FineCalled (gives x) = FineExpr gs all x
+  FineCalled (gives x) = BareExpr gs all x
   FineCalled (runs c) = FineCall gs all c None
 
-  pub value_fine : (s : Span) (c : Called) → FineCalled c → (x : TExpr) → value_called s c ≡ Ok x → FineExpr gs all x
-  value_fine s (gives y) f x e = subst (FineExpr gs all) (ok_is y x e) f
+  pub value_fine : (s : Span) (c : Called) → FineCalled c → (x : TExpr) → value_called s c ≡ Ok x → BareExpr gs all x
+  value_fine s (gives y) f x e = subst (BareExpr gs all) (ok_is y x e) f
   value_fine s (runs c) f x e = absurd (no_ok e)
 
   pub handed_fine : (c : Called) → FineCalled c → FineHanded gs all (handed_call c)
@@ -110,7 +110,7 @@ module _ (hs : List Heading) (gs : List TFunction) (all : List Variable) where
 
   abbrev AreFine : List TExpr → Type 0
   AreFine [] = Unit {0}
-  AreFine (x ∷ xs) = FineExpr gs all x × AreFine xs
+  AreFine (x ∷ xs) = BareExpr gs all x × AreFine xs
 
   values_fine : (qs : List Part) (ps : List Passed) → AllSuited (map (λ p. AnyValue) qs) ps → length ps ≡ length qs
       → AreFine (values_among ps) × (length (values_among ps) ≡ length qs)
@@ -127,22 +127,22 @@ module _ (hs : List Heading) (gs : List TFunction) (all : List Variable) where
   parts_fine t (q ∷ qs) (x ∷ xs) f l =
       (converted_fine gs all (part_elem t q) x f.0, converted_elem (part_elem t q) x, parts_fine t qs xs f.1 (omega (arith, l)))
 
-  library_fine : (f : Library) (s : Span) (xs : List TExpr) → AreFine xs → length xs ≡ length (parts f) → FineExpr gs all (library_call f s xs)
+  library_fine : (f : Library) (s : Span) (xs : List TExpr) → AreFine xs → length xs ≡ length (parts f) → BareExpr gs all (library_call f s xs)
   library_fine f s xs a l =
       let t = worked_in f (map elem_of xs) in
-      (parts_fine t (parts f) xs a l, works_in f (map elem_of xs), ap (λ r. library_type f t r) (rates_are t (parts f) xs l))
+      ((parts_fine t (parts f) xs a l, works_in f (map elem_of xs), ap (λ r. library_type f t r) (rates_are t (parts f) xs l)), refl)
 
   -- ---- calls
 
   function_fine : (k : ℕ) (s : Span) → InText s → (ps : List Passed) (t : Option Ty) (g : TFunction) → slice_get gs k ≡ Some g → g.answer ≡ t
       → FineArguments gs all (params_of g) (arguments_among ps) → FineCalled (function_call k s ps t)
   function_fine k s i ps None g e a f = (g, e, a, f, i)
-  function_fine k s i ps (Some t) g e a f = (g, e, a, f, i)
+  function_fine k s i ps (Some t) g e a f = ((g, e, a, f, i), refl)
 
   store_fine : (s : Span) → InText s → (ps : List Passed) → AllSuited (Base true ∷ AnyValue ∷ []) ps → (r : Called) → packed_store s ps ≡ Ok r → FineCalled r
   store_fine s i (p_base b ∷ p_value x ∷ ps) f r e =
       subst FineCalled (ok_is (gives (t_packed_store b (converted (base_array b).ty.elem x) s)) r e)
-      (f.0.0, converted_fine gs all (base_array b).ty.elem x f.1.0, converted_elem (base_array b).ty.elem x, and_false (base_array b).constant f.0.1, i)
+      ((f.0.0, converted_fine gs all (base_array b).ty.elem x f.1.0, converted_elem (base_array b).ty.elem x, and_false (base_array b).constant f.0.1, i), refl)
   store_fine s i [] f r e = absurd (no_ok e)
   store_fine s i (p_base b ∷ []) f r e = absurd (no_ok e)
   store_fine s i (p_base b ∷ p ∷ ps) f r e = absurd f.1.0
@@ -158,7 +158,7 @@ module _ (hs : List Heading) (gs : List TFunction) (all : List Variable) where
       by true d false m =
           let is : slice_get all k.number ≡ Some (record { holds = holds.Value (ty_of Varying (base_array b).ty.elem); constant = false }) =
           known ∙ held_is k.variable t (base_array b).ty.elem h v (same_is t.elem (base_array b).ty.elem d) m in
-          let done : FineCalled (gives (t_packed_load b k.number s)) = (f, is, i) in
+          let done : FineCalled (gives (t_packed_load b k.number s)) = ((f, is, i), refl) in
           subst FineCalled (ok_is (gives (t_packed_load b k.number s)) r (opened d m)) done
         where
           opened : same_elem t.elem (base_array b).ty.elem ≡ true → k.variable.constant ≡ false → ◌≡◌ {A = Result Called Fault} (Ok (gives (t_packed_load b k.number s))) (Ok r)

@@ -8,7 +8,7 @@ use Rattle.isp_tree.specs.Sound.{InText, IsSoundExpr, IsSoundPlace, IsSoundArgum
 use Rattle.isp_tree.specs.Tree.{Expr, number, truth, program_index, program_count, place, call, brackets, cast, prefix, binary, choose, Place, variable, element, Argument, by_value, by_reference, Arguments, no_arguments, argument_then, span_of_argument}
 use Rattle.isp_typed.specs.declared.variable.Variable.{Variable}
 use Rattle.isp_typed.specs.Typed.{TExpr, TPlace, TFunction}
-use Rattle.isp_typed.specs.Fine.{FineExpr, FinePlace}
+use Rattle.isp_typed.specs.Fine.{FinePlace}
 use Rattle.isp_exprs.specs.declared.callee.Callee.{Callee}
 use Rattle.isp_exprs.specs.declared.callee.Callee.TheVariants as callees
 use Rattle.isp_exprs.specs.declared.callee.Want.{Want}
@@ -18,7 +18,7 @@ use Rattle.isp_exprs.specs.Calls.{Heading, Handed, Passed, Called, unless_unknow
 use Rattle.isp_exprs.specs.Rules.{count, callee_at, IsCall, IsExpr, IsPlace, IsArgument, AreArguments}
 use Rattle.isp_types.proofs.fine.Names.{InScope, named_is}
 use Rattle.isp_types.proofs.fine.Callees.{Headed, Fits, callee_fits}
-use Rattle.isp_types.proofs.fine.Values.{truth_fine, count_fine, cast_fine, sign_fine, joined_fine, choice_fine}
+use Rattle.isp_types.proofs.fine.Values.{BareExpr, truth_fine, count_fine, cast_fine, sign_fine, joined_fine, choice_fine}
 use Rattle.isp_types.proofs.fine.Passed.{ok_is, no_ok, place_known, element_known, FineHanded, handed_known, suits_fine}
 use Rattle.isp_types.proofs.fine.Calls.{AllSuited, FineCalled, value_fine, handed_fine, call_fine}
 
@@ -42,24 +42,24 @@ module _ (gang : Gang) (hs : List Heading) (gs : List TFunction) (all : List Var
       call_fine hs gs all s i headed (count xs) p.0.0 (callee_at hs w xs).1 (subst (λ c. Fits hs (count xs) c (callee_at hs w xs).1) is (callee_fits hs w.name (count xs))) p.0.1 f.0 f.1 r p.2
 
   mutual
-    pub expr_fine : (x : Expr) → IsSoundExpr x → (t : TExpr) → IsExpr gang hs ns x t → FineExpr gs all t
-    expr_fine (number v s) h t i = subst (FineExpr gs all) (sym i) h.0
-    expr_fine (truth b s) h t i = subst (FineExpr gs all) (sym i) (truth_fine gs all b s)
-    expr_fine (program_index s) h t i = subst (FineExpr gs all) (sym i) tt
-    expr_fine (program_count s) h t i = subst (FineExpr gs all) (sym i) (count_fine gs all gang)
-    expr_fine (place p) h t i = subst (FineExpr gs all) (sym i.2) (place_fine p h i.0 i.1)
+    pub expr_fine : (x : Expr) → IsSoundExpr x → (t : TExpr) → IsExpr gang hs ns x t → BareExpr gs all t
+    expr_fine (number v s) h t i = subst (BareExpr gs all) (sym i) (h.0, refl)
+    expr_fine (truth b s) h t i = subst (BareExpr gs all) (sym i) (truth_fine gs all b s, refl)
+    expr_fine (program_index s) h t i = subst (BareExpr gs all) (sym i) (tt, refl)
+    expr_fine (program_count s) h t i = subst (BareExpr gs all) (sym i) (count_fine gs all gang, refl)
+    expr_fine (place p) h t i = subst (BareExpr gs all) (sym i.2) (place_fine p h i.0 i.1, refl)
     expr_fine (call w xs s) h t i = value_fine hs gs all s i.0 (made_fine w xs s h.2 _ (λ ps. arguments_fine (callee_at hs w xs).1 xs h.1 ps) i.0 i.1) t i.2
-    expr_fine (brackets x s) h t i = subst (FineExpr gs all) (sym i.2) (expr_fine x h.0 i.0 i.1, refl)
-    expr_fine (cast k x s) h t i = subst (FineExpr gs all) (sym i.2) (cast_fine gs all s i.0.0 i.0.1 (expr_fine x h.1 i.0.1 i.1.1))
-    expr_fine (prefix op x s) h t i = subst (FineExpr gs all) (sym i.2) (sign_fine gs all op s i.0 (expr_fine x h.0 i.0 i.1))
+    expr_fine (brackets x s) h t i = subst (BareExpr gs all) (sym i.2) (((expr_fine x h.0 i.0 i.1).0, refl), refl)
+    expr_fine (cast k x s) h t i = subst (BareExpr gs all) (sym i.2) (cast_fine gs all s i.0.0 i.0.1 (expr_fine x h.1 i.0.1 i.1.1))
+    expr_fine (prefix op x s) h t i = subst (BareExpr gs all) (sym i.2) (sign_fine gs all op s i.0 (expr_fine x h.0 i.0 i.1))
     expr_fine (binary op x y s) h t i =
-        subst (FineExpr gs all) (sym i.2) (joined_fine gs all s h.2 i.0.0 i.0.1 (expr_fine x h.0 i.0.0 i.1.0) (expr_fine y h.1 i.0.1 i.1.1) (joining op))
+        subst (BareExpr gs all) (sym i.2) (joined_fine gs all s h.2 i.0.0 i.0.1 (expr_fine x h.0 i.0.0 i.1.0) (expr_fine y h.1 i.0.1 i.1.1) (joining op))
     expr_fine (choose c x y s) h t i =
-        subst (FineExpr gs all) (sym i.2) (choice_fine gs all s i.0.0 i.0.1.0 i.0.1.1 (expr_fine c h.0 i.0.0 i.1.0) (expr_fine x h.1 i.0.1.0 i.1.1.0) (expr_fine y h.2 i.0.1.1 i.1.1.1))
+        subst (BareExpr gs all) (sym i.2) (choice_fine gs all s i.0.0 i.0.1.0 i.0.1.1 (expr_fine c h.0 i.0.0 i.1.0) (expr_fine x h.1 i.0.1.0 i.1.1.0) (expr_fine y h.2 i.0.1.1 i.1.1.1))
 
     pub place_fine : (p : Place) → IsSoundPlace p → (t : TPlace) → IsPlace gang hs ns p t → FinePlace gs all t
     place_fine (variable w) h t i = place_known gs all w.span i.0 (named_is all ns scope w i.0 i.1) t i.2
-    place_fine (element w x s) h t i = element_known gs all s h.2 i.0.0 (named_is all ns scope w i.0.0 i.1.0) i.0.1 (expr_fine x h.1 i.0.1 i.1.1) t i.2
+    place_fine (element w x s) h t i = element_known gs all s h.2 i.0.0 (named_is all ns scope w i.0.0 i.1.0) i.0.1 (expr_fine x h.1 i.0.1 i.1.1).0 t i.2
 
     argument_fine : (x : Argument) → IsSoundArgument x → (t : Handed) → IsArgument gang hs ns x t → FineHanded gs all t
     argument_fine (by_value (place (variable w))) h t i = subst (FineHanded gs all) (sym i.2) (handed_known gs all w.span i.0 (named_is all ns scope w i.0 i.1))
@@ -68,7 +68,7 @@ module _ (gang : Gang) (hs : List Heading) (gs : List TFunction) (all : List Var
     argument_fine (by_value x) h t i = subst (FineHanded gs all) (sym i.2) (expr_fine x h i.0 i.1)
     argument_fine (by_reference (variable w) s) h t i = subst (FineHanded gs all) (sym i.2) (named_is all ns scope w i.0 i.1)
     argument_fine (by_reference (element w x e) s) h t i =
-        subst (FineHanded gs all) (sym i.2) (named_is all ns scope w i.0.0 i.1.0, expr_fine x h.0.1 i.0.1 i.1.1)
+        subst (FineHanded gs all) (sym i.2) (named_is all ns scope w i.0.0 i.1.0, (expr_fine x h.0.1 i.0.1 i.1.1).0)
 
     pub arguments_fine : (ws : List Want) (xs : Arguments) → AreSoundArguments xs → (ps : List Passed) → AreArguments gang hs ns ws xs ps → AllSuited hs gs all ws ps × (length ps ≡ count xs)
     arguments_fine ws no_arguments h ps i = rw i (tt, refl)

@@ -14,7 +14,7 @@ use Rattle.isp_typed.specs.declared.variable.ArrayVariable.{ArrayVariable}
 use Rattle.isp_typed.specs.declared.variable.Holds.{Holds}
 use Rattle.isp_typed.specs.declared.variable.Holds.TheVariants as holds
 use Rattle.isp_typed.specs.declared.variable.Variable.{Variable}
-use Rattle.isp_typed.specs.Typed.{TExpr, TPlace, TFunction, TBase, t_whole, t_from, base_array, ty_of, elem_of, rate_of}
+use Rattle.isp_typed.specs.Typed.{TExpr, TPlace, TFunction, TBase, t_whole, t_from, base_array, ty_of, elem_of}
 use Rattle.isp_typed.specs.Fine.{FineExpr, FinePlace, FineBase, FineCall, HoldsArray, HoldsValue, array_type}
 use Rattle.isp_exprs.specs.declared.scope.Known.{Known}
 use Rattle.isp_exprs.specs.declared.callee.Want.{Want}
@@ -22,7 +22,7 @@ use Rattle.isp_exprs.specs.declared.callee.Want.TheVariants.{AnyValue, ValueOf, 
 use Rattle.isp_exprs.specs.Places.{as_array, array_of, variable_at, element_at}
 use Rattle.isp_exprs.specs.Calls.{Handed, h_value, h_run, h_array, h_name, h_element, handed_name, Passed, p_value, p_array, p_base, p_destination, p_unasked, array_fits, base_fits, base_named, destination, suits}
 use Rattle.isp_base.proofs.RankLaws.{same_is}
-use Rattle.isp_types.proofs.fine.Values.{converted_elem, converted_fine}
+use Rattle.isp_types.proofs.fine.Values.{BareExpr, converted_elem, converted_fine}
 
 pub ok_is : {A : Type 0} (a b : A) → ◌≡◌ {A = Result A Fault} (Ok a) (Ok b) → a ≡ b
 ok_is a b e = cc
@@ -73,7 +73,7 @@ module _ (gs : List TFunction) (all : List Variable) where
   -- ---- arguments
 
   abbrev pub FineHanded : Handed → Type 0
-  FineHanded (h_value x) = FineExpr gs all x
+  FineHanded (h_value x) = BareExpr gs all x
   FineHanded (h_run c) = FineCall gs all c None
   FineHanded (h_array a s) = HoldsArray all a
   FineHanded (h_name k s) = IsKnown all k
@@ -83,13 +83,13 @@ module _ (gs : List TFunction) (all : List Variable) where
   handed_known s k known = go k.variable.holds refl
     where
       go : (h : Holds) → k.variable.holds ≡ h → FineHanded (handed_name s k)
-      go (holds.Value t) q = rw q (variable_is all k t known q)
+      go (holds.Value t) q = rw q (variable_is all k t known q, refl)
       go (holds.Given u) q = rw q (known_array all k (ty_of Uniform u) known (rw q refl))
       go (holds.Local t n) q = rw q (known_array all k t known (rw q refl))
 
   -- what is passed, by what is asked
   abbrev pub Suited : Want → Passed → Type 0
-  Suited AnyValue (p_value x) = FineExpr gs all x
+  Suited AnyValue (p_value x) = BareExpr gs all x
   Suited (ValueOf e) (p_value x) = FineExpr gs all x × (elem_of x ≡ e)
   Suited (ArrayOf e c) (p_array a s) = HoldsArray all a × (a.ty.elem ≡ e) × ((a.constant && not c) ≡ false)
   Suited (Base stored) (p_base b) = FineBase gs all b × (((base_array b).constant && stored) ≡ false)

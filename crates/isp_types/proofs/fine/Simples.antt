@@ -33,7 +33,7 @@ use Rattle.isp_types.specs.Statements.{size_number, array_sized, item_names, ite
 use Rattle.isp_types.proofs.NamesKept.{Grown, same, then as and_then, one_more}
 use Rattle.isp_types.proofs.fine.Names.{InScope, named_is, name_added, get_next}
 use Rattle.isp_types.proofs.fine.Callees.{Headed, and_true}
-use Rattle.isp_types.proofs.fine.Values.{converted_elem, converted_fine, common_whole}
+use Rattle.isp_types.proofs.fine.Values.{BareExpr, converted_elem, converted_fine, common_whole}
 use Rattle.isp_types.proofs.fine.Passed.{ok_is, no_ok, some_is, no_some, IsKnown, element_known}
 use Rattle.isp_types.proofs.fine.Calls.{FineCalled}
 use Rattle.isp_types.proofs.fine.Exprs.{made_fine, expr_fine, arguments_fine}
@@ -106,7 +106,7 @@ module _ (gs : List TFunction) (all : List Variable) where
           subst (FineTarget gs all) is (subst (λ z. FinePlace gs all z) (sym is) (element_known gs all s i k known x f p e), array_constant k a q ∙ c)
 
 module _ (gang : Gang) (hs : List Heading) (gs : List TFunction) (all : List Variable) (headed : Headed hs gs) where
-  pub value_is_fine : (e : Elem) (x : TExpr) → FineExpr gs all x → FineValue gs all e (converted e x)
+  pub value_is_fine : (e : Elem) (x : TExpr) → BareExpr gs all x → FineValue gs all e (converted e x)
   value_is_fine e x f = (converted_fine gs all e x f, converted_elem e x)
 
   module _ (ns : List Binding) (scope : InScope all ns) where
@@ -116,7 +116,7 @@ module _ (gang : Gang) (hs : List Heading) (gs : List TFunction) (all : List Var
         variable_open gs all w.span i.0 (named_is all ns scope w i.0 i.1) o.0 p o.1
     target_fine (place (element w x s)) h p i =
         let o = open_is i.0.0.variable.constant s (element_at s i.0) p i.2 in
-        element_open gs all s h.2 i.0.0 (named_is all ns scope w i.0.0 i.1.0) o.0 i.0.1 (expr_fine gang hs gs all ns headed scope x h.1 i.0.1 i.1.1) p o.1
+        element_open gs all s h.2 i.0.0 (named_is all ns scope w i.0.0 i.1.0) o.0 i.0.1 (expr_fine gang hs gs all ns headed scope x h.1 i.0.1 i.1.1).0 p o.1
     target_fine (number v s) h p i = absurd (no_ok i.2)
     target_fine (truth b s) h p i = absurd (no_ok i.2)
     target_fine (program_index s) h p i = absurd (no_ok i.2)
@@ -128,18 +128,18 @@ module _ (gang : Gang) (hs : List Heading) (gs : List TFunction) (all : List Var
     target_fine (binary op x y s) h p i = absurd (no_ok i.2)
     target_fine (choose c x y s) h p i = absurd (no_ok i.2)
 
-    assigned_fine : (o : Option BinOp) (s : Span) → InText s → (p : TPlace) (x : TExpr) → FineTarget gs all p → FineExpr gs all x → FineSimple gs all (assigned_by o s (p, x))
+    assigned_fine : (o : Option BinOp) (s : Span) → InText s → (p : TPlace) (x : TExpr) → FineTarget gs all p → BareExpr gs all x → FineSimple gs all (assigned_by o s (p, x))
     assigned_fine None s i p x f g = (f, value_is_fine (place_type p).elem x g)
     assigned_fine (Some op) s i p x f g = let e = common (place_type p).elem (elem_of x) in (f, value_is_fine e x g, common_whole (place_type p).elem (elem_of x), i)
 
     stated_fine : (r : Called) → FineCalled hs gs all r → FineSimple gs all (stated r)
-    stated_fine (gives x) f = f
+    stated_fine (gives x) f = f.0
     stated_fine (runs c) f = f
 
     pub simple_fine : (p : Simple) → IsSoundSimple p → (t : TSimple) → IsSimple gang hs ns p t → FineSimple gs all t
     simple_fine (value (call w xs s)) h t i = subst (FineSimple gs all) (sym i.2)
         (stated_fine i.0 (made_fine gang hs gs all ns headed scope w xs s h.2 _ (λ ps. arguments_fine gang hs gs all ns headed scope (callee_at hs w xs).1 xs h.1 ps) i.0 i.1))
-    simple_fine (value x) h t i = subst (FineSimple gs all) (sym i.2) (expr_fine gang hs gs all ns headed scope x h i.0 i.1)
+    simple_fine (value x) h t i = subst (FineSimple gs all) (sym i.2) (expr_fine gang hs gs all ns headed scope x h i.0 i.1).0
     simple_fine (assign a x y s) h t i = subst (FineSimple gs all) (sym i.2)
         (assigned_fine (assignment_operator a) s h.2 i.0.0 i.0.1 (target_fine x h.0 i.0.0 i.1.0) (expr_fine gang hs gs all ns headed scope y h.1 i.0.1 i.1.1))
     simple_fine (change c x s) h t i = subst (FineSimple gs all) (sym i.2) (target_fine x h.0 i.0 i.1, common_whole (place_type i.0).elem I32, h.1)
@@ -147,7 +147,7 @@ module _ (gang : Gang) (hs : List Heading) (gs : List TFunction) (all : List Var
     pub values_fine : (xs : List Expr) → All IsSoundExpr xs → (ts : List TExpr) → AreValues gang hs ns xs ts → All (FineExpr gs all) ts
     values_fine [] h ts i = subst (All (FineExpr gs all)) (sym i) (no_all (FineExpr gs all))
     values_fine (x ∷ xs) h ts i = subst (All (FineExpr gs all)) (sym i.2)
-        (All-cons (FineExpr gs all) i.0.0 i.0.1 (expr_fine gang hs gs all ns headed scope x (All-head IsSoundExpr x xs h) i.0.0 i.1.0) (values_fine xs (All-tail IsSoundExpr x xs h) i.0.1 i.1.1))
+        (All-cons (FineExpr gs all) i.0.0 i.0.1 (expr_fine gang hs gs all ns headed scope x (All-head IsSoundExpr x xs h) i.0.0 i.1.0).0 (values_fine xs (All-tail IsSoundExpr x xs h) i.0.1 i.1.1))
 
   -- ---- declarations
 

@@ -1,0 +1,82 @@
+-- Each instruction of some code is one whose line of the machine's table applies: its registers are there and of their
+-- kinds, its places are there, and its jumps go to instructions of the function.
+use Rattle.std.specs.Prelude.{◌≡◌, ◌≤◌, ◌<◌, ℕ, ◌+◌, List, [], ◌∷◌, length, true, false}
+use Rattle.isp_base.specs.declared.types.Elem.{Elem}
+use Rattle.isp_base.specs.declared.types.Rate.{Rate}
+use Rattle.isp_base.specs.declared.types.Rate.TheVariants.{Uniform, Varying}
+use Rattle.isp_base.specs.declared.types.Span.{Span}
+use Rattle.isp_code.specs.Fine.{IsThere, AllFine, CallsFine}
+use Rattle.isp_code.specs.Listing.{Listing, Routine}
+use Rattle.isp_code.specs.Operands.{operands}
+use Rattle.isp_code.specs.Registers.{elem_of, is_per_lane, is_local}
+use Rattle.isp_code.specs.declared.instr.Instr.{Instr}
+use Rattle.isp_code.specs.declared.register.Class.TheVariants as class
+use Rattle.isp_typed.specs.Typed.{TExpr, TPlace, TSimple, TItem}
+use Rattle.isp_typed.specs.declared.variable.ArrayVariable.{ArrayVariable}
+use Rattle.isp_lower.specs.Layout.{Layout, class_at, register, array_register}
+use Rattle.isp_lower.specs.Rows.{Name, numbered}
+use Rattle.isp_lower.specs.Presence.{LiftHas, ExprHas, PlaceHas, ChangeHas, SimpleHas, ItemHas, ItemsHave}
+
+module _ (code : Listing) (h : Routine) where
+  abbrev pub IsSound : Instr → Type 0
+  IsSound i = AllFine code h (operands i) × CallsFine code h i
+
+  abbrev pub AreSound : List Instr → Type 0
+  AreSound [] = Unit {0}
+  AreSound (i ∷ is) = IsSound i × AreSound is
+
+  -- code that begins anywhere before the function's last instruction, names places that are there, and works under a
+  -- mask that is there
+  abbrev pub PartSound : List Span → (ℕ → ℕ → ℕ → List Instr) → Type 0
+  PartSound places part = (pc p k : ℕ) → k < h.masks → p + length places ≤ length code.places → pc + length (part pc p k) < length h.code → AreSound (part pc p k)
+
+-- ---- the registers that a function has
+
+module _ (h : Routine) where
+  -- the register of a rate and of a number is there, and has this type
+  abbrev pub IsRegister : Rate → ℕ → Elem → Type 0
+  IsRegister r x t = IsThere h (class_at r) (register r x) × (elem_of h (register r x) ≡ t)
+
+  abbrev pub HasMask : ℕ → Type 0
+  HasMask k = k < h.masks
+
+  -- an array that all lanes share is not each lane's own
+  abbrev pub IsShared : Rate → ℕ → Type 0
+  IsShared Uniform a = is_per_lane h (array_register a) ≡ false
+  IsShared Varying a = Unit {0}
+
+  module _ (l : Layout) where
+    abbrev pub HasRegister : Rate → Name → Elem → Type 0
+    HasRegister r x t = IsRegister r (numbered l r x) t
+
+    -- the array is there, has elements of its type, and is shared where it is one for the gang
+    abbrev pub HasArray : ArrayVariable → Type 0
+    HasArray b =
+        IsThere h class.Array (array_register (l.array b.number)) × (elem_of h (array_register (l.array b.number)) ≡ b.ty.elem) × IsShared b.ty.rate (l.array b.number)
+
+    -- and the function itself opens it
+    abbrev pub HasLocal : ArrayVariable → Type 0
+    HasLocal b = HasArray b × (is_local h (array_register (l.array b.number)) ≡ true)
+
+    -- ---- the registers that code asks for are there
+
+    abbrev pub LiftPresent : Rate → Rate → Elem → ℕ → Type 0
+    LiftPresent given r t n = LiftHas HasRegister given r t n
+
+    abbrev pub ExprPresent : TExpr → ℕ → Type 0
+    ExprPresent x n = ExprHas HasRegister HasArray HasLocal HasMask x n
+
+    abbrev pub PlacePresent : TPlace → ℕ → Type 0
+    PlacePresent z n = PlaceHas HasRegister HasArray HasLocal HasMask z n
+
+    abbrev pub ChangePresent : Elem → TPlace → ℕ → ℕ → Type 0
+    ChangePresent t z n i = ChangeHas HasRegister HasArray HasLocal HasMask t z n i
+
+    abbrev pub SimplePresent : TSimple → ℕ → Type 0
+    SimplePresent x n = SimpleHas HasRegister HasArray HasLocal HasMask x n
+
+    abbrev pub ItemPresent : ℕ → TItem → Type 0
+    ItemPresent n x = ItemHas HasRegister HasArray HasLocal HasMask n x
+
+    abbrev pub ItemsPresent : ℕ → List TItem → Type 0
+    ItemsPresent n xs = ItemsHave HasRegister HasArray HasLocal HasMask n xs

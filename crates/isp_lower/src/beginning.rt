@@ -1,0 +1,99 @@
+//! Where a function begins: each of its variables has a register, and what it gives back.
+ghost use Rattle.std.specs.Prelude.{◌≡◌, ◌++◌, [], IfOk, OnOk};
+ghost use Rattle.isp_base.specs.declared.types.Rate.TheVariants.{Uniform, Varying};
+ghost use Rattle.isp_lower.specs.Code.{same_rate};
+ghost use Rattle.isp_lower.specs.Emitted.{array_row, array_rows, first_rows, name_of, result_rows, row_where, rows_of, value_row, value_rows};
+
+use crate::builder::FunctionBuilder;
+use crate::registers::{RegisterName, RegisterRow, Registers};
+use isp_base::{Elem, Rate, Ty};
+use isp_code::Code;
+use isp_typed::{Holds, Variable};
+use std::alloc::{AllocError, Global};
+
+/// A register for a value.
+fn add_value(
+    registers: &mut Registers,
+    rate: Rate,
+    name: RegisterName,
+    elem: Elem,
+) -> Result<(), AllocError>
+    ensures scalars { OnOk result ((rows_of registers.new).scalars ≡ (rows_of registers.old).scalars ++ row_where (same_rate Uniform rate) (record { name = name_of name; elem = elem }) []) }
+    ensures vectors { OnOk result ((rows_of registers.new).vectors ≡ (rows_of registers.old).vectors ++ row_where (same_rate Varying rate) (record { name = name_of name; elem = elem }) []) }
+    ensures arrays { OnOk result ((rows_of registers.new).arrays ≡ (rows_of registers.old).arrays) }
+{
+    let row = RegisterRow { name, elem };
+    match rate {
+        Rate::Uniform => registers.scalars.push(row)?,
+        Rate::Varying => registers.vectors.push(row)?,
+    }
+    Ok(())
+}
+
+/// A register for a variable.
+fn add_variable(registers: &mut Registers, number: usize, holds: Holds) -> Result<(), AllocError>
+    ensures scalars { OnOk result ((rows_of registers.new).scalars ≡ (rows_of registers.old).scalars ++ value_row Uniform holds number []) }
+    ensures vectors { OnOk result ((rows_of registers.new).vectors ≡ (rows_of registers.old).vectors ++ value_row Varying holds number []) }
+    ensures arrays { OnOk result ((rows_of registers.new).arrays ≡ (rows_of registers.old).arrays ++ array_row holds number []) }
+{
+    let name = RegisterName::Variable(number);
+    match holds {
+        Holds::Value(ty) => add_value(registers, ty.rate, name, ty.elem)?,
+        Holds::Given(elem) => registers.arrays.push(RegisterRow { name, elem })?,
+        Holds::Local(ty, _) => registers.arrays.push(RegisterRow {
+            name,
+            elem: ty.elem,
+        })?,
+    }
+    Ok(())
+}
+
+/// Registers for variables, in their order.
+fn add_variables(registers: &mut Registers, variables: &[Variable]) -> Result<(), AllocError>
+    ensures scalars { OnOk result ((rows_of registers.new).scalars ≡ (rows_of registers.old).scalars ++ value_rows Uniform 0 variables.now) }
+    ensures vectors { OnOk result ((rows_of registers.new).vectors ≡ (rows_of registers.old).vectors ++ value_rows Varying 0 variables.now) }
+    ensures arrays { OnOk result ((rows_of registers.new).arrays ≡ (rows_of registers.old).arrays ++ array_rows 0 variables.now) }
+{
+    for (number, variable) in variables.iter().enumerate() {
+        add_variable(registers, number, variable.holds)?;
+    }
+    Ok(())
+}
+
+/// A register for what a function gives back, if anything.
+fn add_result(registers: &mut Registers, answer: Option<Ty>) -> Result<(), AllocError>
+    ensures scalars { OnOk result ((rows_of registers.new).scalars ≡ (rows_of registers.old).scalars ++ result_rows Uniform answer) }
+    ensures vectors { OnOk result ((rows_of registers.new).vectors ≡ (rows_of registers.old).vectors ++ result_rows Varying answer) }
+    ensures arrays { OnOk result ((rows_of registers.new).arrays ≡ (rows_of registers.old).arrays) }
+{
+    match answer {
+        Some(ty) => add_value(registers, ty.rate, RegisterName::Result, ty.elem),
+        None => Ok(()),
+    }
+}
+
+/// A function without instructions, behind the functions and places of a listing. Its variables have registers in their
+/// order, each the next of its class, so parameters have the first; what it gives back has the one behind them.
+pub fn begin(
+    alloc: Global,
+    listing: Code,
+    variables: &[Variable],
+    answer: Option<Ty>,
+) -> Result<FunctionBuilder, AllocError>
+    ensures code { IfOk result (λ b. b.code.items ≡ []) }
+    ensures listing { IfOk result (λ b. b.listing ≡ listing) }
+    ensures rows { IfOk result (λ b. rows_of b.registers ≡ first_rows variables.now answer) }
+{
+    let mut b = FunctionBuilder {
+        listing,
+        registers: Registers {
+            scalars: Vec::new(alloc),
+            vectors: Vec::new(alloc),
+            arrays: Vec::new(alloc),
+        },
+        code: Vec::new(alloc),
+    };
+    add_variables(&mut b.registers, variables)?;
+    add_result(&mut b.registers, answer)?;
+    Ok(b)
+}

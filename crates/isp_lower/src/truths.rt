@@ -1,0 +1,116 @@
+//! What `&&`, `||` and `?:` are made of.
+ghost use Rattle.std.specs.Prelude.{◌≡◌, ◌&&◌, [], IfOk, OnOk};
+ghost use Rattle.isp_lower.specs.Code.{decided, is_short, move_code, needing, same_rate, stays, stays_at};
+ghost use Rattle.isp_lower.specs.Emitted.{Emits, Puts};
+ghost use Rattle.isp_lower.specs.Layout.{Layout};
+ghost use Rattle.isp_typed.specs.Views.{expr_of};
+
+use crate::builder::FunctionBuilder;
+use crate::leaves::{copy, the_others, where_so};
+use isp_base::{Elem, Rate};
+use isp_code::JumpTest;
+use isp_typed::{Logic, TypedExpr, TypedPlace};
+use std::alloc::AllocError;
+
+/// When a uniform left side needs no right one.
+pub fn decided(logic: Logic) -> JumpTest
+    ensures { result ≡ decided logic }
+{
+    match logic {
+        Logic::And => JumpTest::False,
+        Logic::Or => JumpTest::True,
+    }
+}
+
+/// A value in a slot: a copy, or nothing where it is there.
+pub fn put_moved(
+    b: &mut FunctionBuilder,
+    rate: Rate,
+    elem: Elem,
+    from: u32,
+    k: u32,
+    slot: u32,
+) -> Result<u32, AllocError>
+    ensures { IfOk result (λ d. Puts b.old b.new (λ l pc p. move_code rate (l.spare rate elem slot) from k) (λ l. []) (λ l. l.spare rate elem slot) d) }
+{
+    let to = b.spare(rate, elem, slot)?;
+    if to != from {
+        b.push(copy(rate, to, from, k))?;
+    }
+    Ok(to)
+}
+
+/// The lanes of a mask that need the right side, into another mask.
+pub fn put_needing(
+    b: &mut FunctionBuilder,
+    logic: Logic,
+    to: u32,
+    from: u32,
+    k: u32,
+) -> Result<(), AllocError>
+    ensures { OnOk result (Emits b.old b.new (λ l pc p. needing logic to from k) (λ l. [])) }
+{
+    b.push(where_so(to, from, k))?;
+    match logic {
+        Logic::And => Ok(()),
+        Logic::Or => {
+            b.push(the_others(to, k, to))?;
+            Ok(())
+        }
+    }
+}
+
+/// Whether two rates are one.
+fn same_rate(a: Rate, b: Rate) -> bool
+    ensures { result ≡ same_rate a b }
+{
+    match a {
+        Rate::Uniform => matches!(b, Rate::Uniform),
+        Rate::Varying => matches!(b, Rate::Varying),
+    }
+}
+
+/// Whether an expression is a variable, in brackets or not, which stays in place.
+fn stays(x: &TypedExpr) -> bool
+    ensures { (l : Layout) → result ≡ stays l (expr_of x.now) }
+{
+    match x {
+        TypedExpr::Place(TypedPlace::Variable { .. }) => true,
+        TypedExpr::Cast { operand, ty, .. } => same_rate(ty.rate, operand.ty().rate)
+            && stays(operand),
+        TypedExpr::Place(TypedPlace::Element { .. })
+        | TypedExpr::Constant { .. }
+        | TypedExpr::ProgramIndex { .. }
+        | TypedExpr::Convert { .. }
+        | TypedExpr::Unary { .. }
+        | TypedExpr::Binary { .. }
+        | TypedExpr::Compare { .. }
+        | TypedExpr::Logic { .. }
+        | TypedExpr::Choose { .. }
+        | TypedExpr::Call { .. }
+        | TypedExpr::Library { .. }
+        | TypedExpr::PackedStore { .. }
+        | TypedExpr::PackedLoad { .. } => false,
+    }
+}
+
+/// The same where a rate is wanted.
+fn stays_at(rate: Rate, x: &TypedExpr) -> bool
+    ensures { (l : Layout) → result ≡ stays_at l rate (expr_of x.now) }
+{
+    same_rate(rate, x.ty().rate) && stays(x)
+}
+
+/// Whether two expressions stay in place.
+fn both_stay(rate: Rate, then: &TypedExpr, otherwise: &TypedExpr) -> bool
+    ensures { (l : Layout) → result ≡ (stays_at l rate (expr_of then.now) && stays_at l rate (expr_of otherwise.now)) }
+{
+    stays_at(rate, then) && stays_at(rate, otherwise)
+}
+
+/// Whether a choice is one instruction: between two variables, by a test of their rate.
+pub fn is_short(rate: Rate, test: &TypedExpr, then: &TypedExpr, otherwise: &TypedExpr) -> bool
+    ensures { (l : Layout) → result ≡ is_short l rate (expr_of test.now) (expr_of then.now) (expr_of otherwise.now) }
+{
+    same_rate(rate, test.ty().rate) && both_stay(rate, then, otherwise)
+}

@@ -1,0 +1,95 @@
+-- Routines beside the functions whose code they are.
+use Rattle.std.proofs.Common.{◌≡◌, ℕ, zero, suc, ◌+◌, ◌<◌, List, [], ◌∷◌, ◌++◌, length, map, refl, sym, ap, subst, ◌∙◌, arith, take, get_or, add-one, Some, None, slice_get}
+use Rattle.std.proofs.Math.Seq.{take-suc}
+use Rattle.std.proofs.lemmas.List.{map-append}
+use Rattle.std.proofs.lemmas.Option.{slice_get_within}
+use Rattle.isp_base.specs.declared.types.Span.{Span}
+use Rattle.isp_code.specs.Listing.{Listing, Routine, routine_of}
+use Rattle.isp_code.specs.declared.function.Function.{Function}
+use Rattle.isp_lower.specs.Setting.{AreAt}
+use Rattle.isp_typed.specs.Typed.{Program, TFunction}
+use Rattle.isp_typed.specs.Views.{function_of, functions_of}
+use Rattle.isp_typed.specs.declared.function.TypedFunction.{TypedFunction}
+use Rattle.isp_masks.specs.Lowered.{AreLowered, GrowsTo, HasCode, IsLowered}
+
+get_more : (xs zs : List Span) (n : ℕ) (y : Span) → slice_get xs n ≡ Some y → slice_get (xs ++ zs) n ≡ Some y
+get_more [] zs n y e = absurd (omega (arith, slice_get_within [] n y e))
+get_more (x ∷ xs) zs zero y e = e
+get_more (x ∷ xs) zs (suc n) y e = get_more xs zs n y e
+
+at_more : (xs zs : List Span) (n : ℕ) (ys : List Span) → AreAt xs n ys → AreAt (xs ++ zs) n ys
+at_more xs zs n [] a = tt
+at_more xs zs n (y ∷ ys) a = (get_more xs zs n y a.0, at_more xs zs (n + 1) ys a.1)
+
+-- with more places
+lowered_more : (h : TFunction) (g : Routine) (places new : List Span) → GrowsTo places new → IsLowered h g places → IsLowered h g new
+lowered_more h g places new m x =
+    subst (λ ps. IsLowered h g ps) (sym m.is)
+    (record {
+      name = x.name;
+      exported = x.exported;
+      params = x.params;
+      returns = x.returns;
+      locals = x.locals;
+      rows = x.rows;
+      scalars_first = x.scalars_first;
+      vectors_first = x.vectors_first;
+      arrays_first = x.arrays_first;
+      scalars = x.scalars;
+      vectors = x.vectors;
+      three = x.three;
+      present = x.present;
+      place = x.place;
+      code_is = x.code_is;
+      places_are = at_more places m.more x.place _ x.places_are;
+    })
+
+all_more : (hs : List TFunction) (gs : List Routine) (places new : List Span) → GrowsTo places new → AreLowered hs gs places → AreLowered hs gs new
+all_more [] [] places new m a = tt
+all_more [] (g ∷ gs) places new m a = absurd a
+all_more (h ∷ hs) [] places new m a = absurd a
+all_more (h ∷ hs) (g ∷ gs) places new m a = (lowered_more h g places new m a.0, all_more hs gs places new m a.1)
+
+all_last : (hs : List TFunction) (gs : List Routine) (h : TFunction) (g : Routine) (places : List Span) → AreLowered hs gs places → IsLowered h g places
+    → AreLowered (hs ++ h ∷ []) (gs ++ g ∷ []) places
+all_last [] [] h g places a x = (x, tt)
+all_last [] (k ∷ gs) h g places a x = absurd a
+all_last (k ∷ hs) [] h g places a x = absurd a
+all_last (k ∷ hs) (m ∷ gs) h g places a x = (a.0, all_last hs gs h g places a.1 x)
+
+-- one function more
+pub routines_step : (fs : List TypedFunction) (at : ℕ) (f : TypedFunction) (all new : List Function) (g : Function) (places more : List Span) → at < length fs → f ≡ get_or fs at f
+    → AreLowered (functions_of (take at fs)) (map routine_of all) places → GrowsTo places more → IsLowered (function_of f) (routine_of g) more → new ≡ all ++ g ∷ []
+    → AreLowered (functions_of (take (at + 1) fs)) (map routine_of new) more
+routines_step fs at f all new g places more low is a m x e =
+    let taken : functions_of (take (at + 1) fs) ≡ functions_of (take at fs) ++ function_of f ∷ [] =
+    ap (λ n. functions_of (take n fs)) (add-one at) ∙ ap functions_of (take-suc fs at f low ∙ ap (λ z. take at fs ++ z ∷ []) (sym is)) ∙ map-append function_of (take at fs) (f ∷ []) in
+    let pushed : map routine_of new ≡ map routine_of all ++ routine_of g ∷ [] = ap (map routine_of) e ∙ map-append routine_of all (g ∷ []) in
+    subst (λ z. AreLowered z (map routine_of new) more) (sym taken)
+    (subst (λ z. AreLowered (functions_of (take at fs) ++ function_of f ∷ []) z more) (sym pushed)
+    (all_last (functions_of (take at fs)) (map routine_of all) (function_of f) (routine_of g) more (all_more (functions_of (take at fs)) (map routine_of all) places more m a) x))
+
+same_count : (hs : List TFunction) (gs : List Routine) (places : List Span) → AreLowered hs gs places → length gs ≡ length hs
+same_count [] [] places a = refl
+same_count [] (g ∷ gs) places a = absurd a
+same_count (h ∷ hs) [] places a = absurd a
+same_count (h ∷ hs) (g ∷ gs) places a = ap suc (same_count hs gs places a.1)
+
+each_at : (hs : List TFunction) (gs : List Routine) (places : List Span) → AreLowered hs gs places → (f : ℕ) (h : TFunction) (g : Routine) → slice_get hs f ≡ Some h → slice_get gs f ≡ Some g → IsLowered h g places
+each_at [] gs places a f h g e d = absurd (omega (arith, slice_get_within [] f h e))
+each_at (k ∷ hs) [] places a f h g e d = absurd a
+each_at (k ∷ hs) (m ∷ gs) places a zero h g e d = subst (λ z. IsLowered z g places) (some_is k h e) (subst (λ z. IsLowered k z places) (some_is m g d) a.0)
+  where
+    some_is : {X : Type 0} (x y : X) → Some x ≡ Some y → x ≡ y
+    some_is x y e = cc
+each_at (k ∷ hs) (m ∷ gs) places a (suc f) h g e d = each_at hs gs places a.1 f h g e d
+
+pub has_code : (program : Program) (code : Listing) (gs : List Routine) (places : List Span) → AreLowered program.functions gs places → code.gang ≡ program.gang → code.routines ≡ gs → code.places ≡ places
+    → HasCode program code
+has_code program code gs places a gang routines places_are =
+    let b = subst (λ z. AreLowered program.functions code.routines z) (sym places_are) (subst (λ z. AreLowered program.functions z places) (sym routines) a) in
+    record {
+      gang = gang;
+      count = same_count program.functions code.routines code.places b;
+      each = each_at program.functions code.routines code.places b;
+    }

@@ -1,0 +1,14 @@
+use Rattle.std.proofs.Common.{[], ◌∷◌, ◌++◌, sym, ap, subst, ◌∙◌, append-nil, refl, true}
+use Rattle.isp_code.specs.declared.instr.Instr.TheVariants as instr
+use Rattle.isp_code.specs.declared.instr.JumpTest.TheVariants as jump
+use Rattle.isp_masks.specs.Awaited.{Awaits, jump_where}
+use Rattle.isp_masks.proofs.Awaiting.{awaits_room, awaits_so}
+use Rattle.isp_lower.proofs.Following.{pushed_is}
+use Rattle.isp_masks.proofs.awaited.leave_room.Goals as goal
+
+pub returns-in_ok-push-2 : goal.returns-in_ok-push-2
+returns-in_ok-push-2 c = λ o d s x.
+    rw (c.if-left.true)
+    (awaits_room o c.args.b.now c.push-then-left.new.self c.args.jumps.now.items c.push.new.self.items c.args.k d s x
+    (c.in_ok-push.ensures.items ∙ ap (λ m. c.args.jumps.now.items ++ m ∷ []) (c.len.ensures ∙ c.args.b.now.code.ok.0))
+    (pushed_is _ _ _ _ (ap (λ r. instr.JumpIf jump.Off r 0) c.mask.ensures) c.in_ok-push-2.ensures))

@@ -1,0 +1,18 @@
+use Rattle.std.proofs.Common.{ap, ◌∙◌, ◌++◌, subst}
+use Rattle.isp_code.specs.Listing.{Listing, routine_of}
+use Rattle.isp_typed.specs.Views.{functions_of, program_of}
+use Rattle.std.specs.Prelude.{map}
+use Rattle.isp_masks.specs.Lowered.{AreLowered}
+use Rattle.isp_masks.proofs.Listings.{has_code}
+use Rattle.isp_masks.proofs.listing.program.Goals as goal
+
+pub returns : goal.returns
+returns c =
+    let all = c.in_ok-add_functions.ensures in
+    let some = c.in_ok-add_places.ensures in
+    let empty = c.new-code.ensures in
+    has_code (program_of c.args.program.now) c.add_functions.new.code (map routine_of c.in_ok-listing.all.items) c.in_ok-listing.listing.places
+    (subst (λ fs. AreLowered (functions_of fs) (map routine_of c.in_ok-listing.all.items) c.in_ok-listing.listing.places) c.deref.ensures.value c.in_ok-listing.ensures)
+    (ap (λ (z : Listing). z.gang) all ∙ ap (λ (z : Listing). z.gang) some ∙ ap (λ (z : Listing). z.gang) empty)
+    (ap (λ (z : Listing). z.routines) all ∙ ap (λ (z : Listing). z.routines ++ map routine_of c.in_ok-listing.all.items) some ∙ ap (λ (z : Listing). z.routines ++ map routine_of c.in_ok-listing.all.items) empty)
+    (ap (λ (z : Listing). z.places) all ∙ ap (λ (z : Listing). z.places) some ∙ ap (λ (z : Listing). z.places ++ c.places.result.now) empty ∙ c.places.ensures)

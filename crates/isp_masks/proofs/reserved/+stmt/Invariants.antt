@@ -1,0 +1,26 @@
+-- The recursion goes down the tree. In the loop: where there is what the statements that are left ask for, there is what all
+-- ask for.
+use Rattle.std.proofs.Common.{◌+◌, ◌-◌, ◌*◌, drop}
+use Rattle.isp_typed.specs.Nodes.{stmt_nodes, block_nodes}
+use Rattle.isp_typed.specs.Typed.{t_stmts}
+use Rattle.isp_typed.specs.Views.{block_of, stmt_of, stmts_of}
+use Rattle.isp_lower.specs.Reserved.{Adds}
+use Rattle.isp_lower.specs.declared.reserve.Reserve.{Reserve}
+use Rattle.isp_masks.specs.Reserved.{HasStmts}
+use Rattle.isp_masks.proofs.reserved.+stmt.Given as goal
+
+abbrev pub decreases-stmt : goal.decreases-stmt
+decreases-stmt l = 4 * stmt_nodes (stmt_of l.x.now)
+
+abbrev pub decreases-block : goal.decreases-block
+decreases-block l = 4 * block_nodes (block_of l.body.now) - 1
+
+abbrev pub decreases-one_side : goal.decreases-one_side
+decreases-one_side l = 4 * stmt_nodes (stmt_of l.then.now) + 1
+
+abbrev pub decreases-two_sides : goal.decreases-two_sides
+decreases-two_sides l = 4 * (stmt_nodes (stmt_of l.then.now) + stmt_nodes (stmt_of l.otherwise.now)) + 1
+
+abbrev pub invariant-block-loop-x : goal.invariant-block-loop-x
+invariant-block-loop-x l =
+    Adds l.initial.r l.r × ((c : Reserve) → Adds l.r c → HasStmts c l.answer (t_stmts (stmts_of (drop l.x-index l.x-items))) l.slot → HasStmts c l.answer (t_stmts (stmts_of l.x-items)) l.slot)

@@ -1,0 +1,30 @@
+-- Jumps to the end of code that are written once the end is known: until then an instruction stands in their place.
+use Rattle.std.specs.Prelude.{◌≡◌, ◌<◌, ℕ, List, [], ◌∷◌, ◌++◌, length, slice_set, Bool, true, false}
+use Rattle.isp_base.specs.declared.types.Span.{Span}
+use Rattle.isp_code.specs.declared.instr.Instr.{Instr}
+use Rattle.isp_lower.specs.Code.{jump_off}
+use Rattle.isp_lower.specs.Emitted.{Follows, Grows}
+use Rattle.isp_lower.specs.Layout.{Layout}
+use Rattle.isp_lower.specs.declared.builder.FunctionBuilder.{FunctionBuilder}
+
+-- the instructions with these numbers are this one
+abbrev pub set_all : List Instr → List ℕ → Instr → List Instr
+set_all code [] i = code
+set_all code (j ∷ js) i = set_all (slice_set code j i) js i
+
+-- each of the numbers is below n
+abbrev pub AreBelow : ℕ → List ℕ → Type 0
+AreBelow n [] = Unit {0}
+AreBelow n (j ∷ js) = (j < n) × AreBelow n js
+
+-- With these jumps to instruction t, taken where mask k has nobody, code and places have grown by these.
+pub record Awaits (old new : FunctionBuilder) (jumps : List ℕ) (k : ℕ) (c : ℕ → Layout → ℕ → ℕ → List Instr) (s : Layout → List Span) : Type 0 where
+  pub rows : Grows old.registers new.registers
+  pub low : (l : Layout) → Follows l new.registers → AreBelow (length new.code.items) jumps
+  pub code : (l : Layout) → Follows l new.registers → (t : ℕ) → set_all new.code.items jumps (jump_off k t) ≡ old.code.items ++ c t l (length old.code.items) (length old.listing.places)
+  pub places : (l : Layout) → Follows l new.registers → new.listing.places ≡ old.listing.places ++ s l
+
+-- a jump where some may have left
+abbrev pub jump_where : Bool → ℕ → ℕ → List Instr
+jump_where true k t = jump_off k t ∷ []
+jump_where false k t = []

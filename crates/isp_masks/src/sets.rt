@@ -1,0 +1,48 @@
+//! Instructions on sets of lanes, and statements that lanes leave by.
+ghost use Rattle.std.specs.Prelude.{◌≡◌, ◌∷◌, [], OnOk};
+ghost use Rattle.isp_lower.specs.Emitted.{Emits};
+ghost use Rattle.isp_masks.specs.Statements.{clear_mask, jump_code, leave_code, unite};
+
+use isp_code::{Instr, MaskInstr, MaskOp};
+use isp_lower::{FunctionBuilder, mask};
+use isp_tree::Jump;
+use std::alloc::AllocError;
+
+/// A mask gets the lanes of two.
+pub(crate) fn unite(to: u32, one: u32, other: u32) -> Instr
+    ensures { result ≡ unite to one other }
+{
+    Instr::Mask(
+        mask(to),
+        MaskInstr::Binary(MaskOp::Or, mask(one), mask(other)),
+    )
+}
+
+/// A mask gets no lane.
+fn clear_mask(to: u32) -> Instr
+    ensures { result ≡ clear_mask to }
+{
+    Instr::Mask(mask(to), MaskInstr::Off)
+}
+
+/// The lanes of a mask leave, into another.
+pub(crate) fn leave(b: &mut FunctionBuilder, to: u32, k: u32) -> Result<(), AllocError>
+    ensures { OnOk result (Emits b.old b.new (λ l pc p. leave_code to k) (λ l. [])) }
+{
+    b.push(unite(to, to, k))?;
+    b.push(clear_mask(k))?;
+    Ok(())
+}
+
+/// `break` and `continue`, by the lanes of a mask; those that continue go to another.
+pub(crate) fn jump(b: &mut FunctionBuilder, jump: Jump, k: u32, co: u32) -> Result<(), AllocError>
+    ensures { OnOk result (Emits b.old b.new (λ l pc p. jump_code jump k co) (λ l. [])) }
+{
+    match jump {
+        Jump::Break => {
+            b.push(clear_mask(k))?;
+            Ok(())
+        }
+        Jump::Continue => leave(b, co, k),
+    }
+}
