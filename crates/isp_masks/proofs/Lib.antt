@@ -5,12 +5,8 @@ mod Leaves
 mod Sequences
 mod Stmts
 mod Parts
-<<<<<<< HEAD
 pub mod Endings
-=======
 mod Checked
-pub mod Endings
->>>>>>> 0ce1904502c11f1fb66a16e76db6a5df4ec261b4
 mod Begins
 mod Firsts
 mod Arrays

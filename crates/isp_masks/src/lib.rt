@@ -5,7 +5,7 @@ mod awaited;
 mod header;
 mod laws;
 mod listing;
-mod lower;
+mod lowering;
 mod reserved;
 mod routine;
 mod sets;
@@ -17,6 +17,6 @@ pub use laws::{
     functions_sound, made_is_code, parameters_first, programs_run, statements_run,
 };
 pub use listing::program;
-pub use lower::lower;
+pub use lowering::lower;
 pub use routine::function;
 pub use statement::{block, stmt};
