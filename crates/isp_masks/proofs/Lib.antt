@@ -28,3 +28,5 @@ mod Named
 mod Headers
 mod Routines
 mod Listings
+mod FirstRows
+mod Standing
