@@ -54,7 +54,7 @@ parameters_same (suc n) (p ∷ ps) (v ∷ vs) a =
 
 -- ---- values that are passed have the first scalars
 
-abbrev ValuesOne : List Parameter → List Declared → Type 0
+abbrev pub ValuesOne : List Parameter → List Declared → Type 0
 ValuesOne ps vs = (v : ℕ) (p : Parameter) → slice_get ps v ≡ Some p → p.is_array ≡ false → (x : Declared) × (slice_get vs v ≡ Some x) × HoldsOne x.holds
 
 pub one_held : (p : Parameter) (ps : List Parameter) (x : Declared) (vs : List Declared) → ValuesOne (p ∷ ps) (x ∷ vs) → p.is_array ≡ false → HoldsOne x.holds

@@ -30,3 +30,4 @@ mod Routines
 mod Listings
 mod FirstRows
 mod Standing
+mod Heads
