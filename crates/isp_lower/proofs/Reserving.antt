@@ -9,8 +9,9 @@ use Rattle.isp_typed.specs.Views.{item_of, items_of}
 use Rattle.isp_typed.specs.declared.stmt.TypedItem as rust
 use Rattle.isp_lower.specs.Emitted.{HasRow, Grows, rows_of}
 use Rattle.isp_lower.specs.Presence.{first_slot, second_slot, TestHas}
-use Rattle.isp_lower.specs.Reserved.{Adds, AnyArray, HasMask, HasLift, HasExpr, HasPlace, HasRead, HasChange, HasItem, HasItems, HasWork}
+use Rattle.isp_lower.specs.Reserved.{Adds, HasMask, HasLift, HasExpr, HasPlace, HasRead, HasChange, HasItem, HasItems, HasWork}
 use Rattle.isp_lower.specs.Rows.{Name, rows_at}
+use Rattle.isp_lower.specs.Tables.{AnyArray}
 use Rattle.isp_lower.specs.declared.registers.Registers.{Registers}
 use Rattle.isp_lower.specs.declared.reserve.Reserve.{Reserve}
 use Rattle.isp_lower.proofs.Following.{grows_self, grows_then, stays_in}
@@ -23,10 +24,13 @@ pub adds_then : (a b c : Reserve) → Adds a b → Adds b c → Adds a c
 adds_then a b c x y =
     record { rows = grows_then a.registers b.registers c.registers x.rows y.rows; masks = omega (arith, x.masks, y.masks) }
 
+pub row_grows : (a b : Registers) → Grows a b → (r : Rate) (x : Name) (t : Elem) → HasRow a r x t → HasRow b r x t
+row_grows a b is Uniform x t h = (stays_in (rows_of a).scalars (rows_of b).scalars x t is.scalars h).1
+row_grows a b is Varying x t h = (stays_in (rows_of a).vectors (rows_of b).vectors x t is.vectors h).1
+
 module _ (a b : Reserve) (is : Adds a b) where
   pub row_stays : (r : Rate) (x : Name) (t : Elem) → HasRow a.registers r x t → HasRow b.registers r x t
-  row_stays Uniform x t h = (stays_in (rows_of a.registers).scalars (rows_of b.registers).scalars x t is.rows.scalars h).1
-  row_stays Varying x t h = (stays_in (rows_of a.registers).vectors (rows_of b.registers).vectors x t is.rows.vectors h).1
+  row_stays = row_grows a.registers b.registers is.rows
 
   pub mask_stays : (k : ℕ) → HasMask a k → HasMask b k
   mask_stays k h = omega (arith, h, is.masks)

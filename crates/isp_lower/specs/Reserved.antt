@@ -1,24 +1,21 @@
--- Registers and masks that are there for the code of a tree: rows of registers, and masks below a count.
+-- Registers and masks that are there for the code of a tree: rows of registers, and masks below a count. Of arrays nothing is
+-- asked here: every variable that is one has its register from the beginning.
 use Rattle.std.specs.Prelude.{Bool, ℕ, ◌+◌, ◌<◌, ◌≤◌, List}
 use Rattle.isp_base.specs.declared.types.Elem.{Elem}
 use Rattle.isp_base.specs.declared.types.Elem.TheVariants.{Bool as Truth, I64}
 use Rattle.isp_base.specs.declared.types.Rate.{Rate}
 use Rattle.isp_base.specs.declared.types.Rate.TheVariants.{Uniform}
 use Rattle.isp_typed.specs.Typed.{TExpr, TPlace, TSimple, TItem, place_type, type_of}
-use Rattle.isp_typed.specs.declared.variable.ArrayVariable.{ArrayVariable}
 use Rattle.isp_lower.specs.Emitted.{HasRow, Grows}
 use Rattle.isp_lower.specs.Presence.{LiftHas, WorkHas, ZeroHas, beyond, ExprHas, PlaceHas, ReadHas, ChangeHas, SimpleHas, ItemHas, ItemsHave, TestHas, SidesHave}
 use Rattle.isp_lower.specs.Rows.{Name, Spare}
+use Rattle.isp_lower.specs.Tables.{AnyArray}
 use Rattle.isp_lower.specs.declared.reserve.Reserve.{Reserve}
 
 -- what is there stays
 pub record Adds (old new : Reserve) : Type 0 where
   pub rows : Grows old.registers new.registers
   pub masks : old.masks ≤ new.masks
-
--- of arrays nothing is asked here: every variable that is one has its register from the beginning
-abbrev pub AnyArray : ArrayVariable → Type 0
-AnyArray b = Unit {0}
 
 module _ (r : Reserve) where
   abbrev pub HasMask : ℕ → Type 0

@@ -104,13 +104,22 @@ impl Reserve {
             TypedExpr::Cast { operand, ty, .. } => self.cast(*ty, operand, slot),
             TypedExpr::Unary { operand, ty, .. } => self.unary(*ty, operand, slot),
             TypedExpr::Binary {
-                left, right, ty, ..
+                left,
+                right,
+                ty,
+                ..
             } => self.pair(left, right, ty.rate, ty.elem, ty.elem, slot),
             TypedExpr::Compare {
-                left, right, rate, ..
+                left,
+                right,
+                rate,
+                ..
             } => self.pair(left, right, *rate, left.ty().elem, Elem::Bool, slot),
             TypedExpr::Logic {
-                left, right, rate, ..
+                left,
+                right,
+                rate,
+                ..
             } => self.logic(left, right, *rate, slot),
             TypedExpr::Choose {
                 test,
@@ -277,7 +286,13 @@ impl Reserve {
     }
 
     /// A place that an operator of a type reads and writes, at a slot of its own.
-    fn change(&mut self, elem: Elem, place: &TypedPlace, slot: u32, work: u32) -> Result<(), AllocError>
+    fn change(
+        &mut self,
+        elem: Elem,
+        place: &TypedPlace,
+        slot: u32,
+        work: u32,
+    ) -> Result<(), AllocError>
         ensures adds { OnOk result (Adds self.old self.new) }
         ensures has { OnOk result (HasChange self.new elem (place_of place.now) slot work) }
     {
@@ -309,7 +324,13 @@ impl Reserve {
     }
 
     /// A value that is taken at a rate, in its type.
-    pub fn operand(&mut self, rate: Rate, elem: Elem, x: &TypedExpr, slot: u32) -> Result<(), AllocError>
+    pub fn operand(
+        &mut self,
+        rate: Rate,
+        elem: Elem,
+        x: &TypedExpr,
+        slot: u32,
+    ) -> Result<(), AllocError>
         ensures adds { OnOk result (Adds self.old self.new) }
         ensures has { OnOk result (HasLift self.new (type_of (expr_of x.now)).rate rate elem slot × HasExpr self.new (expr_of x.now) slot) }
     {
@@ -337,7 +358,12 @@ impl Reserve {
         }
     }
 
-    fn assign(&mut self, target: &TypedPlace, value: &TypedExpr, slot: u32) -> Result<(), AllocError>
+    fn assign(
+        &mut self,
+        target: &TypedPlace,
+        value: &TypedExpr,
+        slot: u32,
+    ) -> Result<(), AllocError>
         ensures adds { OnOk result (Adds self.old self.new) }
         ensures has { OnOk result (HasAssign self.new (place_of target.now) (expr_of value.now) slot) }
     {
@@ -397,7 +423,13 @@ impl Reserve {
         Ok(())
     }
 
-    fn with_value(&mut self, number: usize, ty: Ty, value: &TypedExpr, slot: u32) -> Result<(), AllocError>
+    fn with_value(
+        &mut self,
+        number: usize,
+        ty: Ty,
+        value: &TypedExpr,
+        slot: u32,
+    ) -> Result<(), AllocError>
         ensures adds { OnOk result (Adds self.old self.new) }
         ensures has { OnOk result (HasRow self.new.registers ty.rate (Variable number) ty.elem
             × HasLift self.new (type_of (expr_of value.now)).rate ty.rate ty.elem slot × HasExpr self.new (expr_of value.now) slot) }

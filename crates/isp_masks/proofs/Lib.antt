@@ -24,7 +24,6 @@ mod Lists
 mod Forms
 mod Views
 mod Reserving
-mod Named
 mod Headers
 mod Routines
 mod Listings

@@ -15,19 +15,22 @@ use Rattle.isp_code.specs.declared.instr.Instr.TheVariants as instr
 use Rattle.isp_code.specs.declared.register.Class.TheVariants as class
 use Rattle.isp_code.specs.declared.register.Register.{Register}
 use Rattle.isp_lower.specs.Code.{same_rate}
-use Rattle.isp_lower.specs.Emitted.{Begins, Emits, Follows, Grows, first_rows, result_rows, row_at, row_where, rows_of, value_row, value_rows}
+use Rattle.isp_lower.specs.Emitted.{Begins, Emits, Follows, Grows, HasRow, first_rows, result_rows, row_at, row_where, rows_of, value_row, value_rows}
 use Rattle.isp_lower.specs.Layout.{Layout, class_at}
 use Rattle.isp_lower.specs.Rows.{Row, Rows, layout_of}
 use Rattle.isp_lower.specs.Setting.{AreAt}
 use Rattle.isp_lower.specs.declared.builder.FunctionBuilder.{FunctionBuilder}
-use Rattle.isp_lower.proofs.Following.{before, emits_so, emits_then, follows_itself}
+use Rattle.isp_lower.specs.Tables.{AnyArray}
+use Rattle.isp_lower.proofs.Following.{before, emits_so, emits_then, follows_itself, grows_then}
 use Rattle.isp_typed.specs.Typed.{TBlock, TFunction}
 use Rattle.isp_typed.specs.declared.variable.Holds.{Holds}
 use Rattle.isp_typed.specs.declared.variable.Holds.TheVariants as holds
 use Rattle.isp_typed.specs.declared.variable.Variable.{Variable as Declared}
 use Rattle.isp_masks.specs.Arrays.{locals_of}
-use Rattle.isp_masks.specs.Lowered.{AllMasksBelow, GrowsTo, IsLowered, kind_of, param_of, params_of, returns_of, types_of, value_kind}
+use Rattle.isp_masks.specs.Lowered.{GrowsTo, IsLowered, kind_of, param_of, params_of, returns_of, types_of, value_kind}
+use Rattle.isp_masks.specs.Presence.{BlockHas}
 use Rattle.isp_masks.specs.Statements.{block_code, block_places, function_code, returned}
+use Rattle.isp_masks.proofs.Reserving.{block_stays}
 
 -- ---- a body and its last instruction
 
@@ -101,16 +104,17 @@ at_seam xs (y ∷ ys) zs = (
 
 -- ---- a routine
 
-pub lowered : (h : TFunction) (g : Routine) (a b : FunctionBuilder) → a.code.items ≡ [] → rows_of a.registers ≡ first_rows h.variables h.answer
+pub lowered : (h : TFunction) (g : Routine) (z a b : FunctionBuilder) → a.code.items ≡ [] → rows_of z.registers ≡ first_rows h.variables h.answer → Grows z.registers a.registers
     → Emits a b (λ l pc p. block_code l h.answer h.body pc p 0 1 2 3 ++ instr.Return (returned l h.answer) ∷ []) (λ l. block_places l h.body)
     → g.name ≡ h.name → g.exported ≡ h.exported → g.params ≡ params_of h.parameters h.variables → g.returns ≡ returns_of h.answer → g.locals ≡ locals_of h.variables
     → g.scalars ≡ drop (length (param_elems class.Scalar g.params)) (types_of (rows_of b.registers).scalars)
     → g.vectors ≡ drop (length (param_elems class.Vector g.params)) (types_of (rows_of b.registers).vectors)
-    → AllMasksBelow g.masks g.code → 3 ≤ g.masks → g.code ≡ b.code.items → IsLowered h g b.listing.places
-lowered h g a b none first y name exported params returns locals scalars vectors masks three code =
+    → BlockHas (HasRow a.registers) AnyArray AnyArray (λ k. k < g.masks) h.answer h.body 3 → 3 ≤ g.masks → g.code ≡ b.code.items → IsLowered h g b.listing.places
+lowered h g z a b none first grows y name exported params returns locals scalars vectors present three code =
     let l = layout_of (rows_of b.registers) in
     let adds = y.adds l (follows_itself b.registers) in
-    let rows = subst (λ (z : Rows). Begins z.scalars (rows_of b.registers).scalars × Begins z.vectors (rows_of b.registers).vectors × Begins z.arrays (rows_of b.registers).arrays) first (y.rows.scalars, y.rows.vectors, y.rows.arrays) in
+    let all = grows_then z.registers a.registers b.registers grows y.rows in
+    let rows = subst (λ (q : Rows). Begins q.scalars (rows_of b.registers).scalars × Begins q.vectors (rows_of b.registers).vectors × Begins q.arrays (rows_of b.registers).arrays) first (all.scalars, all.vectors, all.arrays) in
     let part : List Instr → ℕ → List Instr = λ before p. before ++ (block_code l h.answer h.body (length before) p 0 1 2 3 ++ instr.Return (returned l h.answer) ∷ []) in
     record {
       name = name;
@@ -127,7 +131,7 @@ lowered h g a b none first y name exported params returns locals scalars vectors
       vectors = registers_are Varying h.parameters h.variables (result_rows Varying h.answer ++ rows.1.more) (rows_of b.registers).vectors g.params g.vectors params
           (rows.1.is ∙ append_assoc (value_rows Varying 0 h.variables) (result_rows Varying h.answer) rows.1.more) vectors;
       three = three;
-      masks = masks;
+      present = block_stays a.registers b.registers y.rows g.masks h.answer h.body 3 present;
       place = length a.listing.places;
       code_is = code ∙ adds.code ∙ ap (λ z. part z (length a.listing.places)) none;
       places_are = subst (λ z. AreAt z (length a.listing.places) (block_places l h.body)) (ap (λ z. a.listing.places ++ z) (append-nil (block_places l h.body)) ∙ sym adds.places) (at_seam a.listing.places (block_places l h.body) []);

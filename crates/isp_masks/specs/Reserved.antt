@@ -3,7 +3,8 @@ use Rattle.std.specs.Prelude.{ℕ, Option}
 use Rattle.isp_base.specs.declared.types.Ty.{Ty}
 use Rattle.isp_typed.specs.Typed.{TExpr, TStmt, TBlock, TStmts}
 use Rattle.isp_lower.specs.Emitted.{HasRow}
-use Rattle.isp_lower.specs.Reserved.{AnyArray, HasMask}
+use Rattle.isp_lower.specs.Reserved.{HasMask}
+use Rattle.isp_lower.specs.Tables.{AnyArray}
 use Rattle.isp_lower.specs.declared.reserve.Reserve.{Reserve}
 use Rattle.isp_masks.specs.Presence.{AnswerHas, StmtHas, BlockHas, StmtsHave}
 

@@ -4,9 +4,8 @@
 mod awaited;
 mod header;
 mod laws;
-mod reserved;
 mod listing;
-mod masks;
+mod reserved;
 mod routine;
 mod sets;
 mod statement;

@@ -1,22 +1,24 @@
 //! The code of functions.
-ghost use Rattle.std.specs.Prelude.{◌≡◌, ◌≤◌, ◌∷◌, [], ◌++◌, drop, length, IfOk, OnOk};
+ghost use Rattle.std.specs.Prelude.{◌≡◌, ◌≤◌, ◌<◌, ◌∷◌, [], ◌++◌, drop, length, IfOk, OnOk};
 ghost use Rattle.isp_code.specs.Listing.{routine_of};
 ghost use Rattle.isp_code.specs.Registers.{param_elems};
 ghost use Rattle.isp_code.specs.declared.instr.Instr.TheVariants as instr;
 ghost use Rattle.isp_code.specs.declared.register.Class.TheVariants as class;
-ghost use Rattle.isp_lower.specs.Emitted.{Emits, Follows, rows_of};
+ghost use Rattle.isp_lower.specs.Emitted.{Emits, Follows, Grows, HasRow, rows_of};
 ghost use Rattle.isp_lower.specs.Layout.{Layout};
+ghost use Rattle.isp_lower.specs.Tables.{AnyArray};
 ghost use Rattle.isp_typed.specs.Views.{block_of, function_of};
 ghost use Rattle.isp_masks.specs.Arrays.{locals_of};
-ghost use Rattle.isp_masks.specs.Lowered.{AllMasksBelow, GrowsTo, IsLowered, params_of, types_of};
+ghost use Rattle.isp_masks.specs.Lowered.{GrowsTo, IsLowered, params_of, types_of};
+ghost use Rattle.isp_masks.specs.Presence.{BlockHas};
 ghost use Rattle.isp_masks.specs.Statements.{block_code, block_places, returned};
 
 use crate::header::{count_of, locals, params, returns_of, types_behind};
-use crate::masks::masks_of;
+use crate::reserved;
 use crate::statement::block;
 use isp_base::{Elem, Name, Rate, Ty};
 use isp_code::{Class, Code, Function, Instr, Local, Param, Register};
-use isp_lower::{FunctionBuilder, begin, scalar, vector};
+use isp_lower::{FunctionBuilder, Reserve, begin, scalar, vector};
 use isp_typed::{TypedBlock, TypedFunction};
 use std::alloc::{AllocError, Global};
 
@@ -46,7 +48,32 @@ fn body(b: &mut FunctionBuilder, x: &TypedBlock, answer: Option<Ty>) -> Result<(
     Ok(())
 }
 
-/// What a routine has besides its code.
+/// The registers and masks that a body asks for; it has three masks at least.
+fn reserve(
+    b: FunctionBuilder,
+    x: &TypedBlock,
+    answer: Option<Ty>,
+) -> Result<(FunctionBuilder, u32), AllocError>
+    ensures rows { IfOk result (λ r. Grows b.registers r.0.registers) }
+    ensures code { IfOk result (λ r. r.0.code ≡ b.code) }
+    ensures listing { IfOk result (λ r. r.0.listing ≡ b.listing) }
+    ensures three { IfOk result (λ r. 3 ≤ r.1) }
+    ensures present { IfOk result (λ r. BlockHas (HasRow r.0.registers) AnyArray AnyArray (λ k. k < r.1) answer (block_of x.now) 3) }
+{
+    let mut asked = Reserve {
+        registers: b.registers,
+        masks: 3,
+    };
+    reserved::block(&mut asked, x, answer, 3)?;
+    let b = FunctionBuilder {
+        listing: b.listing,
+        registers: asked.registers,
+        code: b.code,
+    };
+    Ok((b, asked.masks))
+}
+
+/// What a routine has besides its code and its masks.
 #[derive(Drop)]
 struct Header {
     name: Name,
@@ -54,7 +81,6 @@ struct Header {
     locals: Vec<Local>,
     scalars: Vec<Elem>,
     vectors: Vec<Elem>,
-    masks: u32,
 }
 
 /// The header of a function, whose code and registers these are.
@@ -64,10 +90,7 @@ fn header_of(alloc: Global, b: &FunctionBuilder, f: &TypedFunction) -> Result<He
     ensures locals { IfOk result (λ h. h.locals.items ≡ locals_of (function_of f.now).variables) }
     ensures scalars { IfOk result (λ h. h.scalars.items ≡ drop (length (param_elems class.Scalar h.params.items)) (types_of (rows_of b.now.registers).scalars)) }
     ensures vectors { IfOk result (λ h. h.vectors.items ≡ drop (length (param_elems class.Vector h.params.items)) (types_of (rows_of b.now.registers).vectors)) }
-    ensures masks { IfOk result (λ h. AllMasksBelow h.masks b.now.code.items) }
-    ensures three { IfOk result (λ h. 3 ≤ h.masks) }
 {
-    let masks = masks_of(b.code.as_slice())?;
     let params = params(alloc, f.signature.params.as_slice(), f.variables.as_slice())?;
     let passed = count_of(params.as_slice(), Class::Scalar);
     let scalars = types_behind(alloc, b.registers.scalars.as_slice(), passed)?;
@@ -81,7 +104,6 @@ fn header_of(alloc: Global, b: &FunctionBuilder, f: &TypedFunction) -> Result<He
         locals,
         scalars,
         vectors,
-        masks,
     })
 }
 
@@ -95,7 +117,8 @@ pub fn function(
     ensures places { IfOk result (λ r. GrowsTo listing.places r.0.places) }
     ensures lowered { IfOk result (λ r. IsLowered (function_of f.now) (routine_of r.1) r.0.places) }
 {
-    let mut b = begin(alloc, listing, f.variables.as_slice(), f.result)?;
+    let first = begin(alloc, listing, f.variables.as_slice(), f.result)?;
+    let (mut b, masks) = reserve(first, &f.body, f.result)?;
     body(&mut b, &f.body, f.result)?;
     let header = header_of(alloc, &b, f)?;
     let function = Function {
@@ -106,7 +129,7 @@ pub fn function(
         locals: header.locals,
         scalars: header.scalars,
         vectors: header.vectors,
-        masks: header.masks,
+        masks,
         code: b.code,
     };
     Ok((b.listing, function))
