@@ -30,3 +30,5 @@ mod Listings
 mod FirstRows
 mod Standing
 mod Heads
+mod Lowers
+mod Agreed

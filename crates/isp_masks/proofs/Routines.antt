@@ -133,6 +133,7 @@ lowered h g z a b none first grows y name exported params returns locals scalars
       three = three;
       present = block_stays a.registers b.registers y.rows g.masks h.answer h.body 3 present;
       place = length a.listing.places;
+      low = let n = ap length adds.places ∙ length-append a.listing.places (block_places l h.body) in omega (arith, n);
       code_is = code ∙ adds.code ∙ ap (λ z. part z (length a.listing.places)) none;
       places_are = subst (λ z. AreAt z (length a.listing.places) (block_places l h.body)) (ap (λ z. a.listing.places ++ z) (append-nil (block_places l h.body)) ∙ sym adds.places) (at_seam a.listing.places (block_places l h.body) []);
     }

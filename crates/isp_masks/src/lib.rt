@@ -5,6 +5,7 @@ mod awaited;
 mod header;
 mod laws;
 mod listing;
+mod lowering;
 mod reserved;
 mod routine;
 mod sets;
@@ -13,8 +14,9 @@ mod stays;
 
 pub use laws::{
     arrays_fit, bodies_accepted, bodies_fit, bodies_present, checked_fits, entries_run,
-    functions_sound, made_is_code, parameters_first, programs_run, statements_run,
+    functions_sound, lowered_agrees, made_is_code, parameters_first, programs_run, statements_run,
 };
 pub use listing::program;
+pub use lowering::lower;
 pub use routine::function;
 pub use statement::{block, stmt};
