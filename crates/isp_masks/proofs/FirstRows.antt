@@ -1,7 +1,7 @@
 -- Where the rows of a function's variables and result come first: the header is that of its parameters, values are passed
 -- in the first scalars, and the result has its row.
-use Rattle.std.proofs.Common.{◌≡◌, ◌≢◌, ℕ, zero, suc, ◌+◌, List, [], ◌∷◌, ◌++◌, map, take, Option, Some, None, Bool, true, false, refl, sym, ap, ◌∙◌, subst, arith}
-use Rattle.std.specs.Prelude.{slice_get, ◌==◌, if◌then◌else◌}
+use Rattle.std.proofs.Common.{◌≡◌, ◌≢◌, ℕ, zero, suc, List, [], ◌∷◌, ◌++◌, map, take, Option, Some, None, Bool, true, false, refl, sym, ap, ◌∙◌, subst, arith}
+use Rattle.std.specs.Prelude.{slice_get, if◌then◌else◌}
 use Rattle.std.proofs.lemmas.Bool.{ne_eqb}
 use Rattle.std.proofs.lemmas.List.{append_assoc}
 use Rattle.isp_base.specs.declared.signature.Parameter.{Parameter}
@@ -10,14 +10,13 @@ use Rattle.isp_base.specs.declared.types.Rate.{Rate}
 use Rattle.isp_base.specs.declared.types.Rate.TheVariants.{Uniform, Varying}
 use Rattle.isp_base.specs.declared.types.Ty.{Ty}
 use Rattle.isp_code.specs.Entries.{is_array, parameter_of}
-use Rattle.isp_code.specs.declared.function.Param.{Param}
 use Rattle.isp_typed.specs.Fine.{IsParam, AreParams}
 use Rattle.isp_typed.specs.declared.variable.Holds.{Holds}
 use Rattle.isp_typed.specs.declared.variable.Holds.TheVariants as holds
 use Rattle.isp_typed.specs.declared.variable.Variable.{Variable as Declared}
 use Rattle.isp_lower.specs.Code.{same_rate}
 use Rattle.isp_lower.specs.Emitted.{Begins, row_at, row_where, value_row, value_rows, result_rows, first_rows}
-use Rattle.isp_lower.specs.Rows.{Name, Variable, Result, Row, Rows, name_number, elem_in, rows_at}
+use Rattle.isp_lower.specs.Rows.{Variable, Result, Row, Rows, name_number, elem_in, rows_at}
 use Rattle.isp_lower.proofs.Rows.{rows_stay}
 use Rattle.isp_masks.specs.Compiled.{HoldsOne, row_then, parameter_rows}
 use Rattle.isp_masks.specs.Lowered.{value_kind, kind_of, elem_held, param_of, params_of, types_of}

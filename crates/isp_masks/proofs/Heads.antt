@@ -1,8 +1,7 @@
 -- The header of an exported function's routine fits: its name and those of its parameters are new, it takes no vector and
 -- gives none, and it has masks.
-use Rattle.std.proofs.Common.{◌≡◌, ◌≢◌, ℕ, zero, suc, ◌+◌, ◌≤◌, List, [], ◌∷◌, ◌++◌, length, map, take, Option, Some, None, Bool, true, false, refl, sym, ap, ◌∙◌, subst, arith}
+use Rattle.std.proofs.Common.{◌≡◌, ◌≢◌, ℕ, zero, suc, ◌≤◌, List, [], ◌∷◌, ◌++◌, length, map, take, Option, Some, None, Bool, true, false, refl, sym, ap, ◌∙◌, subst, arith}
 use Rattle.std.specs.Prelude.{slice_get, ◌==◌, ◌&&◌, ◌||◌, not, bytes_eq}
-use Rattle.std.specs.Bool.{Decides}
 use Rattle.std.specs.List.{list_any}
 use Rattle.std.proofs.lemmas.Bool.{ne_eqb}
 use Rattle.std.proofs.lemmas.List.{append_assoc, append-nil, take-map}
@@ -15,7 +14,6 @@ use Rattle.isp_base.specs.declared.types.Ty.{Ty}
 use Rattle.isp_code.specs.Entries.{parameter_of, parameters_of}
 use Rattle.isp_code.specs.Listing.{Routine}
 use Rattle.isp_code.specs.declared.function.Param.{Param}
-use Rattle.isp_code.specs.declared.function.Returns.{Returns}
 use Rattle.isp_typed.specs.Fine.{IsParam, AreParams, all_new}
 use Rattle.isp_typed.specs.Typed.{TFunction}
 use Rattle.isp_typed.specs.declared.variable.Holds.{Holds}
@@ -23,7 +21,7 @@ use Rattle.isp_typed.specs.declared.variable.Holds.TheVariants as holds
 use Rattle.isp_typed.specs.declared.variable.Variable.{Variable as Declared}
 use Rattle.isp_verify.specs.Faults.{is_named, names_differ, is_vector, gives_vector, can_export, export_fits, is_function, header_fits}
 use Rattle.isp_masks.specs.Compiled.{HoldsOne}
-use Rattle.isp_masks.specs.Lowered.{value_kind, kind_of, param_of, params_of, value_returned, returns_of}
+use Rattle.isp_masks.specs.Lowered.{value_kind, param_of, params_of, value_returned, returns_of}
 use Rattle.isp_masks.specs.Made.{GivesUniform}
 use Rattle.isp_masks.proofs.Begins.{some_same, not_so}
 use Rattle.isp_masks.proofs.FirstRows.{ValuesOne, one_held}

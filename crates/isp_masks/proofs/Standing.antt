@@ -1,6 +1,6 @@
 -- Where the rows of a function's arrays come first, in the order of its variables, its arrays stand as an entry's do.
-use Rattle.std.proofs.Common.{◌≡◌, ◌≢◌, ℕ, zero, suc, ◌+◌, ◌≤◌, List, [], ◌∷◌, ◌++◌, length, map, take, drop, Some, None, Bool, true, false, refl, sym, ap, ◌∙◌, subst, arith, eq-eqb}
-use Rattle.std.specs.Prelude.{slice_get, ◌==◌, if◌then◌else◌}
+use Rattle.std.proofs.Common.{◌≡◌, ◌≢◌, ℕ, zero, suc, ◌+◌, ◌≤◌, List, [], ◌∷◌, ◌++◌, length, map, take, drop, Some, None, true, refl, sym, ap, ◌∙◌, subst, arith, eq-eqb}
+use Rattle.std.specs.Prelude.{slice_get, if◌then◌else◌}
 use Rattle.std.specs.List.{All}
 use Rattle.std.proofs.lemmas.Bool.{ne_eqb}
 use Rattle.std.proofs.lemmas.Option.{get_or_from_slice_get, slice_get_within}
@@ -20,7 +20,7 @@ use Rattle.isp_typed.specs.declared.variable.Holds.{Holds}
 use Rattle.isp_typed.specs.declared.variable.Holds.TheVariants as holds
 use Rattle.isp_typed.specs.declared.variable.Variable.{Variable as Declared}
 use Rattle.isp_lower.specs.Emitted.{Begins, row_at, array_row, array_rows}
-use Rattle.isp_lower.specs.Rows.{Name, Variable, Row, Rows, name_number, number_in, layout_of}
+use Rattle.isp_lower.specs.Rows.{Variable, Row, Rows, name_number, number_in, layout_of}
 use Rattle.isp_masks.specs.Arrays.{array_then, array_count, locals_of, count_then, local_count, ArraysStand}
 use Rattle.isp_masks.proofs.Begins.{some_same}
 
