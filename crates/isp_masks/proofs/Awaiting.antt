@@ -1,5 +1,5 @@
 -- Code that awaits its end: parts are added, then the jumps are written.
-use Rattle.std.proofs.Common.{◌≡◌, ℕ, ◌+◌, ◌<◌, ◌≤◌, List, [], ◌∷◌, ◌++◌, length, refl, sym, ap, subst, ◌∙◌, arith, append_assoc, append-nil, length-append, true, false, Bool}
+use Rattle.std.proofs.Common.{◌≡◌, ℕ, ◌+◌, ◌<◌, ◌≤◌, List, [], ◌∷◌, ◌++◌, length, refl, sym, ap, subst, ◌∙◌, arith, append_assoc, append-nil, length-append, true}
 use Rattle.std.specs.Prelude.{slice_set}
 use Rattle.std.proofs.lemmas.List.{set-append_left, length-set}
 use Rattle.std.proofs.Math.Seq.{set-append_seam}
@@ -10,7 +10,6 @@ use Rattle.isp_lower.specs.Emitted.{Emits, Follows, Grows}
 use Rattle.isp_lower.proofs.Following.{before, grows_self, grows_then}
 use Rattle.isp_lower.specs.Layout.{Layout}
 use Rattle.isp_lower.specs.declared.builder.FunctionBuilder.{FunctionBuilder}
-use Rattle.isp_lower.specs.declared.registers.Registers.{Registers}
 use Rattle.isp_masks.specs.Awaited.{AreBelow, Awaits, jump_where, set_all}
 
 length_set_all : (is : List Instr) (js : List ℕ) (i : Instr) → length (set_all is js i) ≡ length is

@@ -1,27 +1,24 @@
 -- The forms of statements as parts one after the other.
-use Rattle.std.proofs.Common.{◌≡◌, ℕ, ◌+◌, ◌-◌, ◌*◌, ◌<◌, ◌≤◌, List, [], ◌∷◌, ◌++◌, length, refl, sym, ap, subst, ◌∙◌, arith, append-nil, length-append, Some, true, false, Bool, not, Option, take, get_or, add-one, zero, suc}
+use Rattle.std.proofs.Common.{◌≡◌, ℕ, ◌+◌, ◌<◌, ◌≤◌, List, [], ◌∷◌, ◌++◌, length, refl, sym, ap, subst, ◌∙◌, arith, append-nil, length-append, Some, false, Bool, not, Option, take, get_or, add-one, zero, suc}
 use Rattle.std.specs.Prelude.{slice_set}
 use Rattle.std.proofs.Math.Seq.{take-suc}
 use Rattle.std.proofs.lemmas.List.{map-append}
-use Rattle.isp_base.specs.declared.types.Rate.{Rate}
-use Rattle.isp_base.specs.declared.types.Rate.TheVariants.{Uniform, Varying}
 use Rattle.isp_base.specs.declared.types.Span.{Span}
 use Rattle.isp_base.specs.declared.types.Ty.{Ty}
 use Rattle.isp_code.specs.Listing.{Listing}
 use Rattle.isp_code.specs.declared.instr.Instr.{Instr}
 use Rattle.isp_code.specs.declared.instr.Instr.TheVariants as instr
-use Rattle.isp_code.specs.declared.instr.JumpTest.TheVariants as jump
-use Rattle.isp_lower.specs.Code.{choice, copy, expr_code, expr_places, found, guard, jump_off, jump_on, operand, operand_of, the_others, where_so}
-use Rattle.isp_lower.specs.Emitted.{Computes, Emits, Follows, Puts}
-use Rattle.isp_lower.specs.Layout.{Layout, register, mask_register}
+use Rattle.isp_lower.specs.Code.{choice, copy, expr_code, expr_places, guard, operand, operand_of}
+use Rattle.isp_lower.specs.Emitted.{Emits, Follows, Puts}
+use Rattle.isp_lower.specs.Layout.{Layout}
 use Rattle.isp_lower.specs.declared.builder.FunctionBuilder.{FunctionBuilder}
-use Rattle.isp_lower.proofs.Following.{after_one, before, chosen, emits_so, emits_then, landed, puts_keep, pushed_is}
+use Rattle.isp_lower.proofs.Following.{after_one, before, chosen, emits_so, emits_then, landed, puts_keep}
 use Rattle.isp_typed.specs.Nodes.{stmt_nodes, stmts_nodes}
-use Rattle.isp_typed.specs.Typed.{TExpr, TStmt, t_stmts}
+use Rattle.isp_typed.specs.Typed.{TExpr, t_stmts}
 use Rattle.isp_typed.specs.Views.{stmt_of, stmts_of}
 use Rattle.isp_typed.specs.declared.stmt.TypedStmt.{TypedStmt}
 use Rattle.isp_masks.specs.Awaited.{Awaits, jump_where}
-use Rattle.isp_masks.specs.Statements.{answer_code, if_code, if_else_code, stays, stmt_code, stmt_places, stmts_places, unite}
+use Rattle.isp_masks.specs.Statements.{answer_code, stays, stmt_code, stmt_places, stmts_places}
 use Rattle.isp_masks.proofs.Awaiting.{awaits_so, awaits_then}
 use Rattle.isp_masks.proofs.Lists.{flat, flat_last, left_after, left_last, places_last}
 

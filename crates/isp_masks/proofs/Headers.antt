@@ -1,10 +1,9 @@
 -- The lists of a header.
-use Rattle.std.proofs.Common.{◌≡◌, ℕ, suc, ◌+◌, ◌<◌, ◌≤◌, List, [], ◌∷◌, ◌++◌, length, map, refl, sym, ap, subst, ◌∙◌, arith, take, drop, get_or, add-one}
+use Rattle.std.proofs.Common.{◌≡◌, ℕ, suc, ◌+◌, ◌<◌, ◌≤◌, List, [], ◌∷◌, ◌++◌, length, map, refl, sym, ap, ◌∙◌, arith, take, drop, get_or, add-one}
 use Rattle.std.proofs.Math.Seq.{take-suc}
 use Rattle.std.proofs.lemmas.List.{drop-append-le, drop_all, length-take-le, length-append}
 use Rattle.isp_base.specs.declared.types.Elem.{Elem}
 use Rattle.isp_lower.specs.Emitted.{row_of}
-use Rattle.isp_lower.specs.Rows.{Row}
 use Rattle.isp_lower.specs.declared.registers.RegisterRow.{RegisterRow}
 use Rattle.isp_masks.specs.Lowered.{types_of}
 

@@ -27,3 +27,8 @@ mod Reserving
 mod Headers
 mod Routines
 mod Listings
+mod FirstRows
+mod Standing
+mod Heads
+mod Lowers
+mod Agreed

@@ -1,7 +1,7 @@
 -- Routines beside the functions whose code they are.
-use Rattle.std.proofs.Common.{◌≡◌, ℕ, zero, suc, ◌+◌, ◌<◌, List, [], ◌∷◌, ◌++◌, length, map, refl, sym, ap, subst, ◌∙◌, arith, take, get_or, add-one, Some, None, slice_get}
+use Rattle.std.proofs.Common.{◌≡◌, ℕ, zero, suc, ◌+◌, ◌<◌, List, [], ◌∷◌, ◌++◌, length, map, refl, sym, ap, subst, ◌∙◌, arith, take, get_or, add-one, Some, slice_get}
 use Rattle.std.proofs.Math.Seq.{take-suc}
-use Rattle.std.proofs.lemmas.List.{map-append}
+use Rattle.std.proofs.lemmas.List.{length-append, map-append}
 use Rattle.std.proofs.lemmas.Option.{slice_get_within}
 use Rattle.isp_base.specs.declared.types.Span.{Span}
 use Rattle.isp_code.specs.Listing.{Listing, Routine, routine_of}
@@ -40,6 +40,7 @@ lowered_more h g places new m x =
       three = x.three;
       present = x.present;
       place = x.place;
+      low = omega (arith, x.low, length-append places m.more);
       code_is = x.code_is;
       places_are = at_more places m.more x.place _ x.places_are;
     })

@@ -1,11 +1,10 @@
 -- The code of a list of statements, one after the other, with the jumps past what follows to a number that is given.
 use Rattle.std.proofs.Common.{◌≡◌, ℕ, ◌+◌, List, [], ◌∷◌, ◌++◌, length, refl, sym, ap, ◌∙◌, arith, append_assoc, append-nil, length-append, true, false, Bool, not, Option}
-use Rattle.isp_base.specs.declared.types.Span.{Span}
 use Rattle.isp_base.specs.declared.types.Ty.{Ty}
 use Rattle.isp_code.specs.declared.instr.Instr.{Instr}
-use Rattle.isp_lower.specs.Code.{guard, jump_off}
+use Rattle.isp_lower.specs.Code.{jump_off}
 use Rattle.isp_lower.specs.Layout.{Layout}
-use Rattle.isp_typed.specs.Typed.{TStmt, TStmts, t_stmts}
+use Rattle.isp_typed.specs.Typed.{TStmt, t_stmts}
 use Rattle.isp_masks.specs.Awaited.{jump_where}
 use Rattle.isp_masks.specs.Statements.{rest_code, stays, stmt_code, stmt_places, stmts_code, stmts_places}
 

@@ -1,5 +1,5 @@
 -- A routine from its parts.
-use Rattle.std.proofs.Common.{◌≡◌, ℕ, suc, ◌+◌, ◌<◌, ◌≤◌, List, [], ◌∷◌, ◌++◌, length, refl, sym, ap, subst, ◌∙◌, arith, append_assoc, append-nil, length-append, drop, Option, Some, None, true, false, slice_get}
+use Rattle.std.proofs.Common.{◌≡◌, ℕ, suc, ◌+◌, ◌<◌, ◌≤◌, List, [], ◌∷◌, ◌++◌, length, refl, sym, ap, subst, ◌∙◌, arith, append_assoc, append-nil, length-append, drop, Option, Some, slice_get}
 use Rattle.std.proofs.Math.Seq.{drop-append_seam}
 use Rattle.isp_base.specs.declared.signature.Parameter.{Parameter}
 use Rattle.isp_base.specs.declared.types.Elem.{Elem}
@@ -8,7 +8,7 @@ use Rattle.isp_base.specs.declared.types.Rate.TheVariants.{Uniform, Varying}
 use Rattle.isp_base.specs.declared.types.Span.{Span}
 use Rattle.isp_base.specs.declared.types.Ty.{Ty}
 use Rattle.isp_code.specs.Listing.{Routine}
-use Rattle.isp_code.specs.Registers.{class_of, if_class, param_elems, same_class, scalars_of, vectors_of}
+use Rattle.isp_code.specs.Registers.{class_of, if_class, param_elems, same_class}
 use Rattle.isp_code.specs.declared.function.Param.{Param}
 use Rattle.isp_code.specs.declared.instr.Instr.{Instr}
 use Rattle.isp_code.specs.declared.instr.Instr.TheVariants as instr
@@ -27,9 +27,9 @@ use Rattle.isp_typed.specs.declared.variable.Holds.{Holds}
 use Rattle.isp_typed.specs.declared.variable.Holds.TheVariants as holds
 use Rattle.isp_typed.specs.declared.variable.Variable.{Variable as Declared}
 use Rattle.isp_masks.specs.Arrays.{locals_of}
-use Rattle.isp_masks.specs.Lowered.{GrowsTo, IsLowered, kind_of, param_of, params_of, returns_of, types_of, value_kind}
+use Rattle.isp_masks.specs.Lowered.{GrowsTo, IsLowered, param_of, params_of, returns_of, types_of, value_kind}
 use Rattle.isp_masks.specs.Presence.{BlockHas}
-use Rattle.isp_masks.specs.Statements.{block_code, block_places, function_code, returned}
+use Rattle.isp_masks.specs.Statements.{block_code, block_places, returned}
 use Rattle.isp_masks.proofs.Reserving.{block_stays}
 
 -- ---- a body and its last instruction
@@ -133,6 +133,7 @@ lowered h g z a b none first grows y name exported params returns locals scalars
       three = three;
       present = block_stays a.registers b.registers y.rows g.masks h.answer h.body 3 present;
       place = length a.listing.places;
+      low = let n = ap length adds.places ∙ length-append a.listing.places (block_places l h.body) in omega (arith, n);
       code_is = code ∙ adds.code ∙ ap (λ z. part z (length a.listing.places)) none;
       places_are = subst (λ z. AreAt z (length a.listing.places) (block_places l h.body)) (ap (λ z. a.listing.places ++ z) (append-nil (block_places l h.body)) ∙ sym adds.places) (at_seam a.listing.places (block_places l h.body) []);
     }

@@ -13,3 +13,4 @@ pub mod Laws
 pub mod Awaited
 pub mod Reserved
 pub mod Lowered
+pub mod Agreed

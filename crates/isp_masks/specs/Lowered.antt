@@ -85,6 +85,7 @@ pub record IsLowered (h : TFunction) (g : Routine) (places : List Span) : Type 0
   pub present : BlockHas (HasRow rows) AnyArray AnyArray (HasMask g) h.answer h.body 3
   -- the code, by the layout of the rows; the places that it names begin at number place
   pub place : ℕ
+  pub low : place ≤ length places
   pub code_is : g.code ≡ function_code (layout_of rows) h.answer h.body place
   pub places_are : AreAt places place (block_places (layout_of rows) h.body)
 

@@ -1,5 +1,6 @@
 //! What holds of all code. No code is run here: each function carries a law in its contract.
 ghost use Rattle.isp_masks.specs.Accepted.{CodeAccepted};
+ghost use Rattle.isp_masks.specs.Agreed.{LoweredAgrees};
 ghost use Rattle.isp_masks.specs.Laws.{BodiesFit, BodiesPresent, CheckedFits, EntryArraysFit, EntryRuns, FunctionSound, ParametersFirst, ProgramRuns, StatementRuns};
 ghost use Rattle.isp_masks.specs.Made.{MadeIsCode};
 
@@ -74,4 +75,10 @@ pub fn parameters_first()
 /// arrays that are passed come first and the local ones are declared in their order.
 pub fn arrays_fit()
     ensures { EntryArraysFit }
+{}
+
+/// The code of a program that names, types and rates accept, and of which all has code, agrees with it,
+/// and the verifier accepts it.
+pub fn lowered_agrees()
+    ensures { LoweredAgrees }
 {}

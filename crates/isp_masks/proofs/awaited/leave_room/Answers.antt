@@ -1,8 +1,7 @@
-use Rattle.std.proofs.Common.{[], ◌∷◌, ◌++◌, sym, ap, subst, ◌∙◌, append-nil, refl, true}
+use Rattle.std.proofs.Common.{[], ◌∷◌, ◌++◌, ap, ◌∙◌}
 use Rattle.isp_code.specs.declared.instr.Instr.TheVariants as instr
 use Rattle.isp_code.specs.declared.instr.JumpTest.TheVariants as jump
-use Rattle.isp_masks.specs.Awaited.{Awaits, jump_where}
-use Rattle.isp_masks.proofs.Awaiting.{awaits_room, awaits_so}
+use Rattle.isp_masks.proofs.Awaiting.{awaits_room}
 use Rattle.isp_lower.proofs.Following.{pushed_is}
 use Rattle.isp_masks.proofs.awaited.leave_room.Goals as goal
 

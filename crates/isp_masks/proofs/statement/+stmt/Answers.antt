@@ -1,19 +1,16 @@
-use Rattle.std.proofs.Common.{◌≡◌, ◌≤◌, ℕ, ◌+◌, List, [], ◌∷◌, ◌++◌, length, refl, sym, ap, subst, ◌∙◌, arith, append-nil, false, take, not, suc, take_all}
-use Rattle.std.specs.Prelude.{slice_set, option_map}
+use Rattle.std.proofs.Common.{◌≡◌, ◌≤◌, ◌+◌, [], ◌∷◌, ◌++◌, length, sym, ap, subst, ◌∙◌, arith, false, not, suc, take_all}
+use Rattle.std.specs.Prelude.{slice_set}
 use Rattle.isp_base.specs.declared.types.Rate.{Rate}
 use Rattle.isp_base.specs.declared.types.Rate.TheVariants.{Uniform, Varying}
 use Rattle.isp_base.specs.declared.types.Ty.{Ty}
 use Rattle.isp_code.specs.Listing.{Listing}
-use Rattle.isp_code.specs.declared.instr.Instr.{Instr}
 use Rattle.isp_code.specs.declared.instr.Instr.TheVariants as instr
 use Rattle.isp_code.specs.declared.instr.JumpTest.TheVariants as jump
-use Rattle.isp_code.specs.declared.register.Register.{Register}
 use Rattle.isp_lower.specs.Code.{expr_code, expr_places, found, guard, jump_off, jump_on, the_others, where_so}
-use Rattle.isp_lower.specs.Emitted.{Emits, Follows}
-use Rattle.isp_lower.specs.Layout.{register, mask_register}
+use Rattle.isp_lower.specs.Emitted.{Emits}
 use Rattle.isp_lower.proofs.Following.{puts_keep, pushed_is}
 use Rattle.isp_typed.specs.Nodes.{block_nodes, stmts_nodes}
-use Rattle.isp_typed.specs.Typed.{TBlock, t_braces, TStmt, t_if, t_if_else, t_return, t_stmts, type_of}
+use Rattle.isp_typed.specs.Typed.{TBlock, t_braces, TStmt, t_if, t_if_else, t_stmts, type_of}
 use Rattle.isp_typed.specs.Views.{block_of, expr_of, stmt_of, stmts_of}
 use Rattle.isp_typed.proofs.StmtViews.{if_view, if_else_view}
 use Rattle.isp_masks.specs.Statements.{block_code, block_places, if_code, if_else_code, stmt_code, stmt_places, stmts_code, stmts_places, unite}

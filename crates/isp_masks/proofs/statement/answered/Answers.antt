@@ -1,4 +1,4 @@
-use Rattle.std.proofs.Common.{Some, sym, subst, Option}
+use Rattle.std.proofs.Common.{sym, subst, Option}
 use Rattle.isp_base.specs.declared.types.Ty.{Ty}
 use Rattle.isp_lower.specs.Code.{expr_places}
 use Rattle.isp_lower.specs.Emitted.{Emits}

@@ -1,4 +1,4 @@
-use Rattle.std.proofs.Common.{◌++◌, Some, sym, subst, Option, append-nil, refl, []}
+use Rattle.std.proofs.Common.{◌++◌, sym, subst, append-nil, refl, []}
 use Rattle.std.specs.Prelude.{option_map}
 use Rattle.isp_lower.specs.Code.{expr_places}
 use Rattle.isp_lower.specs.Emitted.{Emits}

@@ -1,0 +1,152 @@
+-- The code of a program is what is asked of code, so it agrees with the program and the verifier accepts it.
+use Rattle.std.proofs.Common.{◌≡◌, ℕ, zero, suc, ◌<◌, List, [], ◌∷◌, length, map, take, Option, Some, None, true, refl, sym, ap, ◌∙◌, subst, arith}
+use Rattle.std.specs.Prelude.{slice_get, option_map}
+use Rattle.std.specs.List.{All}
+use Rattle.std.proofs.lemmas.Option.{get_or_from_slice_get, slice_get_within}
+use Rattle.isp_base.specs.declared.types.Elem.{Elem}
+use Rattle.isp_base.specs.declared.types.Rate.{Rate}
+use Rattle.isp_base.specs.declared.types.Rate.TheVariants.{Uniform, Varying}
+use Rattle.isp_base.specs.declared.types.Ty.{Ty}
+use Rattle.isp_code.specs.Entries.{parameter_of, parameters_of, result_of}
+use Rattle.isp_code.specs.Listing.{Listing, Routine}
+use Rattle.isp_code.specs.Registers.{table_of, types_in}
+use Rattle.isp_lex.specs.declared.fault.Fault.{Fault}
+use Rattle.isp_rates.specs.Covered.{program_left}
+use Rattle.isp_rates.specs.Program.{ProgramBreach}
+use Rattle.isp_typed.specs.Fine.{FineFunction, IsFine, all_new}
+use Rattle.isp_typed.specs.Typed.{Program, TFunction}
+use Rattle.isp_verify.specs.Faults.{header_fits, code_fault}
+use Rattle.isp_lower.specs.Layout.{class_at}
+use Rattle.isp_lower.specs.Rows.{rows_at, layout_of}
+use Rattle.isp_masks.specs.Accepted.{IsBodyCode, CodeAccepted}
+use Rattle.isp_masks.specs.Agreed.{LoweredAgrees}
+use Rattle.isp_masks.specs.Compiled.{IsEntryCode, IsProgramCode}
+use Rattle.isp_masks.specs.Laws.{FunctionFits, CheckedFits, ProgramRuns}
+use Rattle.isp_masks.specs.Lowered as lowered
+use Rattle.isp_masks.specs.Lowered.{IsLowered, HasCode}
+use Rattle.isp_masks.specs.Made.{returns_of, returns_at, IsMade, GivesUniform, MadeIsCode}
+use Rattle.isp_masks.specs.Parts.{BlockTree}
+use Rattle.isp_masks.proofs.FirstRows.{parameters_same, scalars_first, result_row, types_are}
+use Rattle.isp_masks.proofs.Heads.{names_apart, names_same, new_name, exports, head_fits}
+use Rattle.isp_masks.proofs.Standing.{arrays_stand}
+
+-- ---- one function
+
+value_given : (r : Rate) (t : Elem) → lowered.value_returned r t ≡ returns_at r t
+value_given Uniform t = refl
+value_given Varying t = refl
+
+given : (answer : Option Ty) → lowered.returns_of answer ≡ returns_of answer
+given None = refl
+given (Some t) = value_given t.rate t.elem
+
+given_at : (r : Rate) (t : Elem) → result_of (lowered.value_returned r t) ≡ Some t
+given_at Uniform t = refl
+given_at Varying t = refl
+
+given_is : (answer : Option Ty) → result_of (lowered.returns_of answer) ≡ option_map (λ t. t.elem) answer
+given_is None = refl
+given_is (Some t) = given_at t.rate t.elem
+
+gives_one : (answer : Option Ty) → ((t : Ty) → answer ≡ Some t → t.rate ≡ Uniform) → GivesUniform answer
+gives_one None one = tt
+gives_one (Some t) one = one t refl
+
+module _ (fs : List TFunction) (code : Listing) (h : TFunction) (g : Routine) (fine : FineFunction fs h) (low : IsLowered h g code.places) where
+  pub parameters : parameters_of g ≡ h.parameters
+  parameters = ap (map parameter_of) low.params ∙ parameters_same (length h.params) h.parameters h.variables fine.params
+
+  types : (r : Rate) → types_in (table_of g) (class_at r) ≡ map (λ y. y.elem) (rows_at low.rows r)
+  types Uniform = low.scalars ∙ types_are low.rows.scalars
+  types Varying = low.vectors ∙ types_are low.rows.vectors
+
+  pub is_made : IsMade code h g low.rows low.place
+  is_made = record {
+    types = types;
+    parameters = parameters;
+    returns = low.returns ∙ given h.answer;
+    arrays = arrays_stand fs h g low.rows fine parameters low.locals low.arrays_first;
+    rows_are = low.present;
+    result = result_row h.variables h.answer low.rows low.scalars_first low.vectors_first;
+    masks = low.three;
+    code_is = low.code_is;
+    low = low.low;
+    places_are = low.places_are;
+  }
+
+-- ---- a program
+
+is_there : {A : Type 0} (xs : List A) (k : ℕ) → k < length xs → (x : A) × (slice_get xs k ≡ Some x)
+is_there [] k lt = absurd (omega arith)
+is_there (x ∷ xs) zero lt = (x, refl)
+is_there (x ∷ xs) (suc k) lt = is_there xs k (omega arith)
+
+fine_of : {A : Type 0} (P : A → Type 0) (xs : List A) (k : ℕ) (a : A) → All P xs → slice_get xs k ≡ Some a → P a
+fine_of P xs k a all e = subst P (get_or_from_slice_get xs k a a e) (all k a (slice_get_within xs k a e))
+
+module _ (checked : CheckedFits) (made : MadeIsCode) (program : Program) (code : Listing) (fine : IsFine program) (sound : (e : Fault) → ProgramBreach program e → ⊥) (whole : program_left program ≡ None) (has : HasCode program code) where
+  fine_at : (f : ℕ) (h : TFunction) → slice_get program.functions f ≡ Some h → FineFunction program.functions h
+  fine_at f h e = fine_of (FineFunction program.functions) program.functions f h fine.each e
+
+  fits_at : (f : ℕ) (h : TFunction) → slice_get program.functions f ≡ Some h → FunctionFits h
+  fits_at f h e = checked.each program fine sound f h e
+
+  plain_at : (f : ℕ) (h : TFunction) → slice_get program.functions f ≡ Some h → BlockTree h.answer h.body
+  plain_at f h e = (fits_at f h e).tree (checked.whole program whole f h e).1
+
+  gives_at : (f : ℕ) (h : TFunction) → slice_get program.functions f ≡ Some h → GivesUniform h.answer
+  gives_at f h e = gives_one h.answer ((fits_at f h e).result (checked.whole program whole f h e).0)
+
+  -- the function whose routine it is
+  source : (f : ℕ) (g : Routine) → slice_get code.routines f ≡ Some g → (h : TFunction) × (slice_get program.functions f ≡ Some h)
+  source f g e =
+      let in_code = slice_get_within code.routines f g e in
+      is_there program.functions f (omega (arith, in_code, has.count))
+
+  entry : (f : ℕ) (h : TFunction) (g : Routine) → slice_get program.functions f ≡ Some h → slice_get code.routines f ≡ Some g → IsEntryCode program code f h g
+  entry f h g eh eg =
+      let low = has.each f h g eh eg in
+      let own = fine_at f h eh in
+      let passed = (fits_at f h eh).passed (checked.whole program whole f h eh).0 in
+      let first = scalars_first (length h.params) h.parameters h.variables h.answer low.rows own.params passed low.scalars_first in record {
+        parameters = parameters program.functions code h g own low;
+        result = ap result_of low.returns ∙ given_is h.answer ∙ sym own.gives;
+        layout = layout_of low.rows;
+        place = low.place;
+        compiled = made.compiled program code f h g low.rows first.0 low.place has.gang eh eg own (plain_at f h eh) (is_made program.functions code h g own low) first.1 passed (gives_at f h eh);
+      }
+
+  pub program_code : IsProgramCode program code
+  program_code = record {
+    gang = has.gang;
+    count = has.count;
+    named = λ f h g eh eg. ((has.each f h g eh eg).name, (has.each f h g eh eg).exported);
+    each = λ f h g eh eg out. entry f h g eh eg;
+  }
+
+  bodies : (f : ℕ) (g : Routine) → slice_get code.routines f ≡ Some g → IsBodyCode code g
+  bodies f g eg =
+      let h = source f g eg in
+      let low = has.each f h.0 g h.1 eg in
+      let own = fine_at f h.0 h.1 in
+      made.accepted program.functions code h.0 g low.rows low.place own (plain_at f h.0 h.1) (is_made program.functions code h.0 g own low)
+
+  all_differ : all_new [] (map (λ g. g.name) code.routines) ≡ true
+  all_differ = subst (λ z. all_new [] z ≡ true) (sym (names_same program.functions code.routines has.count (λ f h g eh eg. (has.each f h g eh eg).name))) fine.names
+
+  headers : (f : ℕ) (g : Routine) → slice_get code.routines f ≡ Some g → header_fits (take f code.routines) g ≡ true
+  headers f g eg =
+      let h = source f g eg in
+      let low = has.each f h.0 g h.1 eg in
+      let own = fine_at f h.0 h.1 in
+      let passed = (fits_at f h.0 h.1).passed (checked.whole program whole f h.0 h.1).0 in
+      head_fits (take f code.routines) g (new_name code.routines f g all_differ eg) (names_apart g h.0.parameters (parameters program.functions code h.0 g own low) own.names) (exports (length h.0.params) h.0.parameters h.0.variables h.0.answer g own.params passed (gives_at f h.0 h.1) low.params low.returns) low.three
+
+  pub code_passes : CodeAccepted → code_fault code ≡ None
+  code_passes accepts = accepts code headers bodies
+
+pub lowered_agrees : CheckedFits → MadeIsCode → CodeAccepted → ProgramRuns → LoweredAgrees
+lowered_agrees checked made accepts runs = record {
+  agrees = λ program code fine sound whole has. runs program code (program_code checked made program code fine sound whole has);
+  accepted = λ program code fine sound whole has. code_passes checked made program code fine sound whole has accepts;
+}
