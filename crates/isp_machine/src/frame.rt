@@ -192,14 +192,7 @@ impl<const N: usize> Frame<N> {
     ///
     /// A division by zero in a lane of the mask is `Err` with the lowest such lane, and then nothing
     /// changes.
-    pub(crate) fn binary(
-        &mut self,
-        op: BinOp,
-        d: u32,
-        x: u32,
-        y: u32,
-        k: u32,
-    ) -> Result<(), usize>
+    pub(crate) fn binary(&mut self, op: BinOp, d: u32, x: u32, y: u32, k: u32) -> Result<(), usize>
         requires d { d < length self.old.vectors }
         requires x { x < length self.old.vectors }
         requires y { y < length self.old.vectors }
@@ -309,6 +302,15 @@ impl<const N: usize> Frame<N> {
             x as usize,
             &self.masks[k as usize],
         );
+    }
+
+    /// The lanes of a vector of another call, in the lanes that made that call.
+    pub(crate) fn receive(&mut self, d: u32, x: &Lanes<N>)
+        requires there { d < length self.old.vectors }
+        requires elem { x.now.elem ≡ (vector_in self.old d).elem }
+        ensures { self.new ≡ record self.old { vectors = slice_set self.old.vectors d (written self.old.under x.now.bits (vector_in self.old d)) } }
+    {
+        self.vectors[d as usize].copy(x, &self.under);
     }
 
     /// One value.
