@@ -88,10 +88,10 @@ fn divide_lanes<const N: usize>(
     ensures err { IfErr result (λ t. (s : Held) → Fails here.now (Instr.Divide op d x y k place) s frame.old t) }
     ensures same { IfErr result (λ t. frame.new ≡ frame.old) }
 {
+    here.mask_told(frame, k);
     here.vector_told(frame, d);
     here.vector_told(frame, x);
     here.vector_told(frame, y);
-    here.mask_told(frame, k);
     match divided(frame, op, d.number, x.number, y.number, k.number) {
         Ok(()) => {
             let _count = here.count();

@@ -320,7 +320,9 @@ impl<const N: usize> Frame<N> {
         requires fits { bits < 2 ^ width (vector_in self.old d).elem }
         ensures { self.new ≡ record self.old { vectors = slice_set self.old.vectors d (written (mask_in self.old k) (replicate N bits) (vector_in self.old d)) } }
     {
-        self.vectors[d as usize].splat(bits, &self.masks[k as usize]);
+        let mask = &self.masks[k as usize];
+        mask.told();
+        self.vectors[d as usize].splat(bits, mask);
     }
 
     /// The lanes' numbers.
@@ -330,7 +332,9 @@ impl<const N: usize> Frame<N> {
         requires elem { (vector_in self.old d).elem ≡ I32 }
         ensures { self.new ≡ record self.old { vectors = slice_set self.old.vectors d (written (mask_in self.old k) (range_with_len 0 N) (vector_in self.old d)) } }
     {
-        self.vectors[d as usize].index(&self.masks[k as usize]);
+        let mask = &self.masks[k as usize];
+        mask.told();
+        self.vectors[d as usize].index(mask);
     }
 }
 

@@ -1,5 +1,5 @@
 //! The function that runs.
-ghost use Rattle.std.specs.Prelude.{◌≡◌, ◌<◌, ◌^◌, [], length, slice_get, slice_index_or, Some, IfSome, IfNone, false};
+ghost use Rattle.std.specs.Prelude.{◌≡◌, ◌<◌, ◌≤◌, ◌^◌, [], length, slice_get, slice_index_or, Some, IfSome, IfNone, false};
 ghost use Rattle.isp_base.specs.Maps.{lane_of};
 ghost use Rattle.isp_base.specs.Sets.{flag_of};
 ghost use Rattle.isp_base.specs.Traps.{trap};
@@ -142,6 +142,7 @@ impl<'a> Here<'a> {
     pub(crate) fn vector_told<const N: usize>(&self, frame: &Frame<N>, x: Register)
         requires shaped { Shaped self.now.routine frame.now }
         requires there { IsThere self.now.routine Class.Vector x }
+        requires few { N ≤ 64 }
         ensures low { x.number < length frame.now.vectors }
         ensures elem { (vector_in frame.now x.number).elem ≡ elem_of self.now.routine x }
         ensures long { length (vector_in frame.now x.number).bits ≡ N }
@@ -154,6 +155,7 @@ impl<'a> Here<'a> {
         requires shaped { Shaped self.now.routine frame.now }
         requires there { IsThere self.now.routine Class.Mask k }
         ensures low { k.number < length frame.now.masks }
+        ensures few { N ≤ 64 }
         ensures long { length (mask_in frame.now k.number) ≡ N }
     {
         frame.mask(k.number).told();

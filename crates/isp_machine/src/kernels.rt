@@ -94,10 +94,10 @@ pub(crate) fn divided<const N: usize>(
     ensures lowest { IfErr result (λ lane. lowest_failing N (is_zero (division_of op) (vector_in frame.old d).elem) (on (masks_at frame.old k) (vectors_at frame.old y)) ≡ Some lane) }
     ensures same { IfErr result (λ _. frame.new ≡ frame.old) }
 {
+    frame.mask(k).told();
     frame.vector(d).told();
     frame.vector(x).told();
     frame.vector(y).told();
-    frame.mask(k).told();
     match frame.binary(division_operator(op), d, x, y, k) {
         Ok(()) => Ok(()),
         Err(lane) => Err(lane),

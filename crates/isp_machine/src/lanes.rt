@@ -29,8 +29,8 @@ pub(crate) fn copy<const N: usize>(
     ensures pc { frame.new.pc ≡ frame.old.pc }
     ensures written { (s : Held) → InPlace here.now s frame.old d (VectorInstr.Copy x k) frame.new }
 {
-    here.vector_told(frame, d);
     here.mask_told(frame, k);
+    here.vector_told(frame, d);
     here.vector_told(frame, x);
     frame.copy(d.number, x.number, k.number);
 }
@@ -50,8 +50,8 @@ pub(crate) fn convert<const N: usize>(
     ensures pc { frame.new.pc ≡ frame.old.pc }
     ensures written { (s : Held) → InPlace here.now s frame.old d (VectorInstr.Convert x k) frame.new }
 {
-    here.vector_told(frame, d);
     here.mask_told(frame, k);
+    here.vector_told(frame, d);
     here.vector_told(frame, x);
     frame.convert(d.number, x.number, k.number);
 }
@@ -73,8 +73,8 @@ pub(crate) fn apply<const N: usize>(
     ensures pc { frame.new.pc ≡ frame.old.pc }
     ensures written { (s : Held) → InPlace here.now s frame.old d (VectorInstr.Unary op x k) frame.new }
 {
-    here.vector_told(frame, d);
     here.mask_told(frame, k);
+    here.vector_told(frame, d);
     here.vector_told(frame, x);
     frame.unary(op, d.number, x.number, k.number);
 }
@@ -99,8 +99,8 @@ pub(crate) fn combine<const N: usize>(
     ensures pc { frame.new.pc ≡ frame.old.pc }
     ensures written { (s : Held) → InPlace here.now s frame.old d (VectorInstr.Binary op x y k) frame.new }
 {
-    here.vector_told(frame, d);
     here.mask_told(frame, k);
+    here.vector_told(frame, d);
     here.vector_told(frame, x);
     here.vector_told(frame, y);
     match frame.binary(plain_operator(op), d.number, x.number, y.number, k.number) {
@@ -129,8 +129,8 @@ pub(crate) fn compare<const N: usize>(
     ensures pc { frame.new.pc ≡ frame.old.pc }
     ensures written { (s : Held) → InPlace here.now s frame.old d (VectorInstr.Compare op x y k) frame.new }
 {
-    here.vector_told(frame, d);
     here.mask_told(frame, k);
+    here.vector_told(frame, d);
     here.vector_told(frame, x);
     here.vector_told(frame, y);
     frame.compare(op, d.number, x.number, y.number, k.number);
@@ -158,8 +158,8 @@ pub(crate) fn select<const N: usize>(
     ensures pc { frame.new.pc ≡ frame.old.pc }
     ensures written { (s : Held) → InPlace here.now s frame.old d (VectorInstr.Select test x y k) frame.new }
 {
-    here.vector_told(frame, d);
     here.mask_told(frame, k);
+    here.vector_told(frame, d);
     here.vector_told(frame, test);
     here.vector_told(frame, x);
     here.vector_told(frame, y);
@@ -182,8 +182,8 @@ pub(crate) fn splat<const N: usize>(
     ensures pc { frame.new.pc ≡ frame.old.pc }
     ensures written { (s : Held) → InPlace here.now s frame.old d (VectorInstr.Splat x k) frame.new }
 {
-    here.vector_told(frame, d);
     here.mask_told(frame, k);
+    here.vector_told(frame, d);
     let bits = here.scalar(frame, x);
     frame.splat(d.number, bits, k.number);
 }
@@ -197,7 +197,7 @@ pub(crate) fn number<const N: usize>(here: &Here, frame: &mut Frame<N>, d: Regis
     ensures pc { frame.new.pc ≡ frame.old.pc }
     ensures written { (s : Held) → InPlace here.now s frame.old d (VectorInstr.Index k) frame.new }
 {
-    here.vector_told(frame, d);
     here.mask_told(frame, k);
+    here.vector_told(frame, d);
     frame.index(d.number, k.number);
 }

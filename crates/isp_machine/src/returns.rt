@@ -48,8 +48,8 @@ fn receive_lanes<const N: usize>(
     requires takes { TakesLanes (elem_of here.now.routine x) caller.old d }
     ensures { (k : Routine) → Shaped k caller.old → IsThere k Class.Vector d → elem_of k d ≡ elem_of here.now.routine x → caller.old.to ≡ Some d → Receives k callee.now (Some x) caller.old caller.new }
 {
-    caller.vector(d.number).told();
     caller.under().told();
+    caller.vector(d.number).told();
     let value = here.vector(callee, x);
     value.told();
     caller.receive(d.number, value);

@@ -154,6 +154,7 @@ fn gather_at<const N: usize>(
     ensures err { IfErr result (λ t. VectorIs here.now stores.now frame.old d (VectorInstr.Gather a i k place) (Err t)) }
     ensures same { IfErr result (λ t. frame.new ≡ frame.old) }
 {
+    here.mask_told(frame, k);
     here.vector_told(frame, d);
     let mut value = *here.vector(frame, d);
     gather(here, frame, stores, &mut value, d, a, i, k, place)?;

@@ -19,9 +19,9 @@ returns-in-Ok-clause-none g c =
     let t = (vector_in f c.args.d).elem in
     let ms = mask_in f c.args.k in
     let ys = (vector_in f c.args.y).bits in
-    let few = subst (λ (bs : List Bool). length bs ≡ g.row.N) c.mask.ensures c.told-4.ensures.long in
-    let long = subst (λ (r : Row). length r.bits ≡ g.row.N) c.vector-3.ensures c.told-3.ensures.long in
-    let fits : Fit t ys = subst (λ (e : Elem). Fit e ys) c.requires.y_elem (subst (λ (r : Row). Fit r.elem r.bits) c.vector-3.ensures c.told-3.ensures.fits) in
+    let few = subst (λ (bs : List Bool). length bs ≡ g.row.N) c.mask.ensures c.told.ensures.long in
+    let long = subst (λ (r : Row). length r.bits ≡ g.row.N) c.vector-3.ensures c.told-4.ensures.long in
+    let fits : Fit t ys = subst (λ (e : Elem). Fit e ys) c.requires.y_elem (subst (λ (r : Row). Fit r.elem r.bits) c.vector-3.ensures c.told-4.ensures.fits) in
     sym (first_divisor g.row.N (division_of c.args.op) t ms ys (division_divides c.args.op) few long fits) ∙ ap (λ (o : BinOp). first_zero o ms ys) (sym c.division_operator.ensures) ∙ c.in-Ok.ensures.divided
 
 pub returns-in-Ok-clause-lanes : goal.returns-in-Ok-clause-lanes
@@ -31,10 +31,10 @@ returns-in-Ok-clause-lanes g c =
     let old = vector_in f c.args.d in
     let xs = (vector_in f c.args.x).bits in
     let ys = (vector_in f c.args.y).bits in
-    let few = subst (λ (bs : List Bool). length bs ≡ g.row.N) c.mask.ensures c.told-4.ensures.long in
-    let long_x = subst (λ (r : Row). length r.bits ≡ g.row.N) c.vector-2.ensures c.told-2.ensures.long in
-    let long_y = subst (λ (r : Row). length r.bits ≡ g.row.N) c.vector-3.ensures c.told-3.ensures.long in
-    let long = subst (λ (r : Row). length r.bits ≡ g.row.N) c.vector.ensures c.told.ensures.long in
+    let few = subst (λ (bs : List Bool). length bs ≡ g.row.N) c.mask.ensures c.told.ensures.long in
+    let long_x = subst (λ (r : Row). length r.bits ≡ g.row.N) c.vector-2.ensures c.told-3.ensures.long in
+    let long_y = subst (λ (r : Row). length r.bits ≡ g.row.N) c.vector-3.ensures c.told-4.ensures.long in
+    let long = subst (λ (r : Row). length r.bits ≡ g.row.N) c.vector.ensures c.told-2.ensures.long in
     record {
       value = written ms (zip2 (op_bits c.division_operator.result old.elem) xs ys) old;
       elem = refl;
@@ -49,7 +49,7 @@ returns-in-Err-clause-lowest g c =
     let t = (vector_in f c.args.d).elem in
     let ms = mask_in f c.args.k in
     let ys = (vector_in f c.args.y).bits in
-    let few = subst (λ (bs : List Bool). length bs ≡ g.row.N) c.mask.ensures c.told-4.ensures.long in
-    let long = subst (λ (r : Row). length r.bits ≡ g.row.N) c.vector-3.ensures c.told-3.ensures.long in
-    let fits : Fit t ys = subst (λ (e : Elem). Fit e ys) c.requires.y_elem (subst (λ (r : Row). Fit r.elem r.bits) c.vector-3.ensures c.told-3.ensures.fits) in
+    let few = subst (λ (bs : List Bool). length bs ≡ g.row.N) c.mask.ensures c.told.ensures.long in
+    let long = subst (λ (r : Row). length r.bits ≡ g.row.N) c.vector-3.ensures c.told-4.ensures.long in
+    let fits : Fit t ys = subst (λ (e : Elem). Fit e ys) c.requires.y_elem (subst (λ (r : Row). Fit r.elem r.bits) c.vector-3.ensures c.told-4.ensures.fits) in
     sym (first_divisor g.row.N (division_of c.args.op) t ms ys (division_divides c.args.op) few long fits) ∙ ap (λ (o : BinOp). first_zero o ms ys) (sym c.division_operator.ensures) ∙ c.in-Err.ensures.lowest
