@@ -8,6 +8,7 @@ ghost use Rattle.std.specs.List.{range_with_len};
 ghost use Rattle.std.specs.Simd.Lanes.{zip2, sel_l};
 ghost use Rattle.isp_base.specs.Values.{width, number, op_bits, compare_bits, convert_bits};
 ghost use Rattle.isp_base.specs.Unary.{unary_bits};
+ghost use Rattle.isp_base.specs.Rows.{Fit};
 ghost use Rattle.isp_lanes.specs.Lanes.{is_on, first_zero, written};
 ghost use Rattle.isp_machine.specs.Arrays.{ArrayThere, Rewritten, array_count, array_elem, array_in, vector_in, mask_in};
 ghost use Rattle.isp_machine.specs.Views.{no_row, no_array, vectors_at, masks_at};
@@ -323,6 +324,18 @@ impl<const N: usize> Frame<N> {
         let mask = &self.masks[k as usize];
         mask.told();
         self.vectors[d as usize].splat(bits, mask);
+    }
+
+    /// A value for each lane.
+    pub(crate) fn keep_words(&mut self, d: u32, words: &[u64; N], k: u32)
+        requires d { d < length self.old.vectors }
+        requires k { k < length self.old.masks }
+        requires fits { Fit (vector_in self.old d).elem words.now }
+        ensures { self.new ≡ record self.old { vectors = slice_set self.old.vectors d (written (mask_in self.old k) words.now (vector_in self.old d)) } }
+    {
+        let mask = &self.masks[k as usize];
+        mask.told();
+        self.vectors[d as usize].keep_words(words, mask);
     }
 
     /// The lanes' numbers.

@@ -6,4 +6,4 @@ use Rattle.isp_machine.proofs.vectors.vector_value.Goals as goal
 
 pub returns-in-Gather-clause-err : goal.returns-in-Gather-clause-err
 returns-in-Gather-clause-err g c =
-    subst (λ (i : VectorInstr). IfErr c.gather_at.result (λ t. VectorIs c.args.here.now c.args.stores.now c.args.frame.now c.args.d i (Err t))) (sym c.in-Gather.is) c.gather_at.ensures.err
+    subst (λ (i : VectorInstr). IfErr c.gather.result (λ t. VectorIs c.args.here.now c.args.stores.now c.args.frame.now c.args.d i (Err t))) (sym c.in-Gather.is) c.gather.ensures.err
