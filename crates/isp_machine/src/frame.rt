@@ -170,14 +170,6 @@ impl<const N: usize> Frame<N> {
         self.scalars[r as usize] = bits;
     }
 
-    /// Writes a vector register.
-    pub(crate) fn set_vector(&mut self, r: u32, value: Lanes<N>)
-        requires { r < length self.old.vectors }
-        ensures { self.new ≡ record self.old { vectors = slice_set self.old.vectors r value.entry } }
-    {
-        self.vectors[r as usize] = value;
-    }
-
     /// Writes a mask register.
     pub(crate) fn set_mask(&mut self, r: u32, value: LaneMask<N>)
         requires { r < length self.old.masks }

@@ -1,6 +1,5 @@
 use Rattle.std.proofs.Common.{refl}
 use Rattle.isp_base.specs.Maps.{on}
-use Rattle.isp_code.specs.Registers.{elem_of}
 use Rattle.isp_lanes.specs.Lanes.{written}
 use Rattle.isp_machine.specs.Arrays.{vector_in, mask_in}
 use Rattle.isp_machine.specs.Views.{masks_at, vectors_at}

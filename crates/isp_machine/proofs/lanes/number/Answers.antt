@@ -1,7 +1,6 @@
 use Rattle.std.proofs.Common.{refl}
 use Rattle.std.specs.List.{range_with_len}
 use Rattle.isp_base.specs.Maps.{on}
-use Rattle.isp_code.specs.Registers.{elem_of}
 use Rattle.isp_lanes.specs.Lanes.{written}
 use Rattle.isp_machine.specs.Arrays.{vector_in, mask_in}
 use Rattle.isp_machine.specs.Views.{masks_at}

@@ -1,6 +1,5 @@
 use Rattle.std.proofs.Common.{refl, ◌∙◌, replicate}
 use Rattle.isp_base.specs.Maps.{lane_of, on, over}
-use Rattle.isp_code.specs.Registers.{elem_of}
 use Rattle.isp_lanes.specs.Lanes.{written}
 use Rattle.isp_machine.specs.Arrays.{vector_in, mask_in}
 use Rattle.isp_machine.specs.Views.{masks_at, scalars_at}
