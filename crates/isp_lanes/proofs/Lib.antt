@@ -6,3 +6,4 @@ pub mod Numbers
 pub mod Truths
 pub mod Flags
 pub mod Fits
+pub mod ListedRows

@@ -2,17 +2,24 @@
 -- list of its lanes.
 --     zip2 f xs ys           f of each pair of lanes
 --     sel_l mask xs ys       in each lane of the mask the lane of xs, in the others that of ys
-use Rattle.std.specs.Prelude.{ℕ, List, [], ◌∷◌, Bool, true, false, cond, ◌&&◌, ◌==◌, nat_lt, map, position, Option, None, pos, ◌+ℤ◌, int_lt}
+use Rattle.std.specs.Prelude.{ℕ, List, [], ◌∷◌, Bool, true, false, cond, ◌&&◌, ◌==◌, nat_lt, map, get_or, position, Option, None, pos, ◌+ℤ◌, int_lt}
 use Rattle.std.specs.List.{range_with_len}
 use Rattle.std.specs.Simd.Lanes.{zip2, sel_l}
 use Rattle.isp_base.specs.declared.operators.BinOp.{BinOp}
-use Rattle.isp_base.specs.declared.types.Elem.TheVariants.{I64}
+use Rattle.isp_base.specs.declared.types.Elem.TheVariants.{Bool as Truth, I64}
 use Rattle.isp_base.specs.Values.{divides, number}
 use Rattle.isp_base.specs.Rows.{Row}
 
 -- the row with new values in the lanes of the mask; the others stay
 abbrev pub written : List Bool → List ℕ → Row → Row
 written mask new old = record { elem = old.elem; bits = sel_l mask new old.bits }
+
+-- a vector of a list by number
+abbrev pub no_row : Row
+no_row = record { elem = Truth; bits = [] }
+
+abbrev pub vector : List Row → ℕ → Row
+vector rs k = get_or rs k no_row
 
 -- a bool's bits are not 0 where it is true
 abbrev pub is_on : ℕ → Bool

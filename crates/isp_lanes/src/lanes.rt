@@ -2,15 +2,18 @@
 ghost use Rattle.std.specs.Prelude.{◌≡◌, ◌^◌, ◌<◌, length, map, replicate, slice_get, slice_set, Some, None, IfOk, IfErr, ◌&&◌, true};
 ghost use Rattle.std.specs.List.{range_with_len};
 ghost use Rattle.std.specs.Simd.Lanes.{zip2, sel_l};
-ghost use Rattle.isp_base.specs.declared.types.Elem.TheVariants.{Bool as Truth, I32};
+ghost use Rattle.isp_base.specs.declared.types.Elem.TheVariants.{Bool as Truth, I32, I64};
 ghost use Rattle.isp_base.specs.Values.{width, divides, op_bits, compare_bits, convert_bits, number};
 ghost use Rattle.isp_base.specs.Unary.{unary_bits};
 ghost use Rattle.isp_base.specs.Rows.{Row, Fit};
 ghost use Rattle.isp_lanes.specs.Lanes.{is_on, first_zero, written};
+ghost use Rattle.isp_lanes.specs.Held.{held, held_width, IsRow};
+ghost use Rattle.isp_base.specs.Cells.{cell_width};
 
 use crate::kernels;
 use crate::mask::LaneMask;
 use crate::row::Row;
+use crate::words::Words;
 use isp_base::{BinOp, Compare, Elem, UnaryOp};
 use std::marker::Model;
 use std::simd::prelude::*;
@@ -171,6 +174,38 @@ impl<const N: usize> Lanes<N> {
         self.row.splat(bits, mask);
     }
 
+    /// The bits of all lanes.
+    pub fn words(&self) -> [u64; N]
+        ensures { result ≡ self.now.bits }
+    {
+        match &self.row {
+            Row::Bits8(words) => Simd::from_array(*words).wide(),
+            Row::Bits16(words) => Simd::from_array(*words).wide(),
+            Row::Bits32(words) => Simd::from_array(*words).wide(),
+            Row::Bits64(words) => *words,
+        }
+    }
+
+    /// The bits of all lanes of a vector of int64, which are read where they stand.
+    pub fn wide_words(&self) -> &[u64; N]
+        requires { self.now.elem ≡ I64 }
+        ensures { result.now ≡ self.now.bits }
+    {
+        match &self.row {
+            Row::Bits64(words) => words,
+            _ => unreachable!(),
+        }
+    }
+
+    /// A value for each lane.
+    pub fn keep_words(&mut self, words: &[u64; N], mask: &LaneMask<N>)
+        requires { Fit self.old.elem words.now }
+        ensures { self.new ≡ written mask.now words.now self.old }
+    {
+        mask.told();
+        self.row.keep(words, mask);
+    }
+
     /// The lanes' numbers, from 0, as int32.
     pub fn index(&mut self, mask: &LaneMask<N>)
         requires { self.old.elem ≡ I32 }
@@ -200,6 +235,35 @@ impl<const N: usize> Lanes<N> {
         }
         self.row.divide(op, self.elem, &x.row, &y.row, mask);
         Ok(())
+    }
+
+    // The words.
+    #[inline(always)]
+    pub(crate) fn row(&self) -> &Row<N>
+        ensures bits { held result.now ≡ self.now.bits }
+        ensures wide { held_width result.now ≡ cell_width self.now.elem }
+        ensures row { IsRow N (held_width result.now) self.now.elem (held result.now) }
+    {
+        &self.row
+    }
+
+    // The words, of a width that is known.
+    #[inline(always)]
+    pub(crate) fn words_as<V: Words<N>>(&self) -> V
+        requires { V.width ≡ cell_width self.now.elem }
+        ensures words { V.words result ≡ self.now.bits }
+        ensures row { IsRow N V.width self.now.elem (V.words result) }
+    {
+        V::all(0).read(&self.row)
+    }
+
+    // These words in the place of the old ones.
+    #[inline(always)]
+    pub(crate) fn take<V: Words<N>>(&mut self, new: V)
+        requires { IsRow N V.width self.old.elem (V.words new) }
+        ensures { self.new ≡ record { elem = self.old.elem; bits = V.words new } }
+    {
+        new.put(&mut self.row);
     }
 
     // The lanes of the mask in which a vector of bools is true.

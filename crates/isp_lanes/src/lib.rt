@@ -1,6 +1,7 @@
 //! Vectors of N lanes of one element type, and the operators on the lanes of a mask.
 #![tactic(auto)]
 
+mod beside;
 mod kernels;
 mod lanes;
 mod mask;

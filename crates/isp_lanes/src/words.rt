@@ -2,7 +2,9 @@
 ghost use Rattle.std.specs.Prelude.{◌≡◌, refl, ℕ, ◌^◌, ◌<◌, ◌+◌, ◌-◌, ◌*◌, ◌/◌, ◌%◌, ◌==◌, List, map, replicate, nat_lt, cond, bit_and, bit_or, bit_xor};
 ghost use Rattle.std.specs.Simd.Lanes.{zip2, sel_l, Each2};
 ghost use Rattle.isp_lanes.specs.Lanes.{is_on};
+ghost use Rattle.isp_lanes.specs.Held.{held, held_width};
 
+use crate::row::Row;
 use std::simd::prelude::*;
 
 // The operations on N words of 8, 16, 32 or 64 bits that the kernels are made of. A truth is a word with all bits set,
@@ -92,6 +94,17 @@ pub(crate) trait Words<const N: usize>: Copy {
     // The low bits of words of 64 bits, in the place of these.
     fn cut(self, wide: &[u64; N]) -> Self
         ensures { words result ≡ map (λ a. a % 2 ^ width) wide.now };
+
+    // The words of a row, in the place of these.
+    fn read(self, row: &Row<N>) -> Self
+        requires { held_width row.now ≡ width }
+        ensures { words result ≡ held row.now };
+
+    // These words in the place of a row's.
+    fn put(self, row: &mut Row<N>)
+        requires { held_width row.old ≡ width }
+        ensures now { held row.new ≡ words self }
+        ensures wide { held_width row.new ≡ width };
 }
 
 impl<const N: usize> Words<N> for Simd<u8, N> {
@@ -193,6 +206,20 @@ impl<const N: usize> Words<N> for Simd<u8, N> {
 
     fn cut(self, wide: &[u64; N]) -> Self {
         (Simd::from_array(*wide) & Simd::splat(0xff)).cast::<u8>()
+    }
+
+    fn read(self, row: &Row<N>) -> Self {
+        match row {
+            Row::Bits8(words) => Simd::from_array(*words),
+            _ => unreachable!(),
+        }
+    }
+
+    fn put(self, row: &mut Row<N>) {
+        match row {
+            Row::Bits8(words) => *words = self.to_array(),
+            _ => unreachable!(),
+        }
     }
 }
 
@@ -300,6 +327,20 @@ impl<const N: usize> Words<N> for Simd<u16, N> {
     fn cut(self, wide: &[u64; N]) -> Self {
         (Simd::from_array(*wide) & Simd::splat(0xffff)).cast::<u16>()
     }
+
+    fn read(self, row: &Row<N>) -> Self {
+        match row {
+            Row::Bits16(words) => Simd::from_array(*words),
+            _ => unreachable!(),
+        }
+    }
+
+    fn put(self, row: &mut Row<N>) {
+        match row {
+            Row::Bits16(words) => *words = self.to_array(),
+            _ => unreachable!(),
+        }
+    }
 }
 
 impl<const N: usize> Words<N> for Simd<u32, N> {
@@ -406,6 +447,20 @@ impl<const N: usize> Words<N> for Simd<u32, N> {
     fn cut(self, wide: &[u64; N]) -> Self {
         (Simd::from_array(*wide) & Simd::splat(0xffffffff)).cast::<u32>()
     }
+
+    fn read(self, row: &Row<N>) -> Self {
+        match row {
+            Row::Bits32(words) => Simd::from_array(*words),
+            _ => unreachable!(),
+        }
+    }
+
+    fn put(self, row: &mut Row<N>) {
+        match row {
+            Row::Bits32(words) => *words = self.to_array(),
+            _ => unreachable!(),
+        }
+    }
 }
 
 impl<const N: usize> Words<N> for Simd<u64, N> {
@@ -511,5 +566,19 @@ impl<const N: usize> Words<N> for Simd<u64, N> {
 
     fn cut(self, wide: &[u64; N]) -> Self {
         Simd::from_array(*wide) & Simd::splat(u64::MAX)
+    }
+
+    fn read(self, row: &Row<N>) -> Self {
+        match row {
+            Row::Bits64(words) => Simd::from_array(*words),
+            _ => unreachable!(),
+        }
+    }
+
+    fn put(self, row: &mut Row<N>) {
+        match row {
+            Row::Bits64(words) => *words = self.to_array(),
+            _ => unreachable!(),
+        }
     }
 }

@@ -88,17 +88,13 @@ fn divide_lanes<const N: usize>(
     ensures err { IfErr result (λ t. (s : Held) → Fails here.now (Instr.Divide op d x y k place) s frame.old t) }
     ensures same { IfErr result (λ t. frame.new ≡ frame.old) }
 {
-    let mut value = *here.vector(frame, d);
-    match divided(
-        &mut value,
-        op,
-        here.vector(frame, x),
-        here.vector(frame, y),
-        here.mask(frame, k),
-    ) {
+    here.mask_told(frame, k);
+    here.vector_told(frame, d);
+    here.vector_told(frame, x);
+    here.vector_told(frame, y);
+    match divided(frame, op, d.number, x.number, y.number, k.number) {
         Ok(()) => {
             let _count = here.count();
-            frame.set_vector(d.number, value);
             frame.next();
             Ok(())
         }

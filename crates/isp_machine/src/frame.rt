@@ -1,13 +1,20 @@
 //! A call: where it stands, and its registers.
-ghost use Rattle.std.specs.Prelude.{◌≡◌, ◌<◌, ◌+◌, ◌^◌, [], length, get_or, slice_set, None, Some, IfOk, IfErr, if◌then◌else◌};
+ghost use Rattle.std.specs.Prelude.{◌≡◌, ◌<◌, ◌+◌, ◌^◌, [], length, get_or, slice_set, map, replicate, None, Some, IfOk, IfErr, if◌then◌else◌};
 ghost use Rattle.isp_base.specs.Access.{is_outside, element, scatter};
 ghost use Rattle.isp_base.specs.Maps.{on, map1, lowest_failing};
 ghost use Rattle.isp_base.specs.Stores.{own_put};
-ghost use Rattle.isp_base.specs.declared.types.Elem.TheVariants.{I64};
-ghost use Rattle.isp_machine.specs.Arrays.{ArrayThere, Rewritten, array_count, array_elem, array_in, vector_in};
+ghost use Rattle.isp_base.specs.declared.types.Elem.TheVariants.{Bool as Truth, I32, I64};
+ghost use Rattle.std.specs.List.{range_with_len};
+ghost use Rattle.std.specs.Simd.Lanes.{zip2, sel_l};
+ghost use Rattle.isp_base.specs.Values.{width, number, op_bits, compare_bits, convert_bits};
+ghost use Rattle.isp_base.specs.Unary.{unary_bits};
+ghost use Rattle.isp_base.specs.Rows.{Fit};
+ghost use Rattle.isp_lanes.specs.Lanes.{is_on, first_zero, written};
+ghost use Rattle.isp_machine.specs.Arrays.{ArrayThere, Rewritten, array_count, array_elem, array_in, vector_in, mask_in};
 ghost use Rattle.isp_machine.specs.Views.{no_row, no_array, vectors_at, masks_at};
 
 use crate::array::FrameArray;
+use isp_base::{BinOp, Compare, UnaryOp};
 use isp_code::Register;
 use isp_lanes::{LaneMask, Lanes};
 use isp_store::{Arrays, IndexTrap};
@@ -163,14 +170,6 @@ impl<const N: usize> Frame<N> {
         self.scalars[r as usize] = bits;
     }
 
-    /// Writes a vector register.
-    pub(crate) fn set_vector(&mut self, r: u32, value: Lanes<N>)
-        requires { r < length self.old.vectors }
-        ensures { self.new ≡ record self.old { vectors = slice_set self.old.vectors r value.entry } }
-    {
-        self.vectors[r as usize] = value;
-    }
-
     /// Writes a mask register.
     pub(crate) fn set_mask(&mut self, r: u32, value: LaneMask<N>)
         requires { r < length self.old.masks }
@@ -178,7 +177,174 @@ impl<const N: usize> Frame<N> {
     {
         self.masks[r as usize] = value;
     }
+}
 
+// Vector registers that are written where they stand, in the lanes of a mask.
+impl<const N: usize> Frame<N> {
+    /// An operator on two vectors.
+    ///
+    /// A division by zero in a lane of the mask is `Err` with the lowest such lane, and then nothing
+    /// changes.
+    pub(crate) fn binary(&mut self, op: BinOp, d: u32, x: u32, y: u32, k: u32) -> Result<(), usize>
+        requires d { d < length self.old.vectors }
+        requires x { x < length self.old.vectors }
+        requires y { y < length self.old.vectors }
+        requires k { k < length self.old.masks }
+        requires x_elem { (vector_in self.old x).elem ≡ (vector_in self.old d).elem }
+        requires y_elem { (vector_in self.old y).elem ≡ (vector_in self.old d).elem }
+        ensures divided { IfOk result (λ _. first_zero op (mask_in self.old k) (vector_in self.old y).bits ≡ None) }
+        ensures value { IfOk result (λ _. self.new ≡ record self.old { vectors = slice_set self.old.vectors d (written (mask_in self.old k) (zip2 (op_bits op (vector_in self.old d).elem) (vector_in self.old x).bits (vector_in self.old y).bits) (vector_in self.old d)) }) }
+        ensures lowest { IfErr result (λ lane. first_zero op (mask_in self.old k) (vector_in self.old y).bits ≡ Some lane) }
+        ensures same { IfErr result (λ _. self.new ≡ self.old) }
+    {
+        Lanes::binary_at(
+            &mut self.vectors,
+            d as usize,
+            op,
+            x as usize,
+            y as usize,
+            &self.masks[k as usize],
+        )
+    }
+
+    /// An operator on one vector.
+    pub(crate) fn unary(&mut self, op: UnaryOp, d: u32, x: u32, k: u32)
+        requires d { d < length self.old.vectors }
+        requires x { x < length self.old.vectors }
+        requires k { k < length self.old.masks }
+        requires elem { (vector_in self.old x).elem ≡ (vector_in self.old d).elem }
+        ensures { self.new ≡ record self.old { vectors = slice_set self.old.vectors d (written (mask_in self.old k) (map (unary_bits op (vector_in self.old d).elem) (vector_in self.old x).bits) (vector_in self.old d)) } }
+    {
+        Lanes::unary_at(
+            &mut self.vectors,
+            d as usize,
+            op,
+            x as usize,
+            &self.masks[k as usize],
+        );
+    }
+
+    /// A comparison of two vectors of one type.
+    pub(crate) fn compare(&mut self, op: Compare, d: u32, x: u32, y: u32, k: u32)
+        requires d { d < length self.old.vectors }
+        requires x { x < length self.old.vectors }
+        requires y { y < length self.old.vectors }
+        requires k { k < length self.old.masks }
+        requires elem { (vector_in self.old d).elem ≡ Truth }
+        requires y_elem { (vector_in self.old y).elem ≡ (vector_in self.old x).elem }
+        ensures { self.new ≡ record self.old { vectors = slice_set self.old.vectors d (written (mask_in self.old k) (zip2 (compare_bits op (vector_in self.old x).elem) (vector_in self.old x).bits (vector_in self.old y).bits) (vector_in self.old d)) } }
+    {
+        Lanes::compare_at(
+            &mut self.vectors,
+            d as usize,
+            op,
+            x as usize,
+            y as usize,
+            &self.masks[k as usize],
+        );
+    }
+
+    /// The lanes of a vector of any type.
+    pub(crate) fn convert(&mut self, d: u32, x: u32, k: u32)
+        requires d { d < length self.old.vectors }
+        requires x { x < length self.old.vectors }
+        requires k { k < length self.old.masks }
+        ensures { self.new ≡ record self.old { vectors = slice_set self.old.vectors d (written (mask_in self.old k) (map (λ b. convert_bits (vector_in self.old d).elem (number (vector_in self.old x).elem b)) (vector_in self.old x).bits) (vector_in self.old d)) } }
+    {
+        Lanes::convert_at(
+            &mut self.vectors,
+            d as usize,
+            x as usize,
+            &self.masks[k as usize],
+        );
+    }
+
+    /// The lanes of one vector where a vector of bools is true, of another where it is false.
+    pub(crate) fn select(&mut self, d: u32, test: u32, x: u32, y: u32, k: u32)
+        requires d { d < length self.old.vectors }
+        requires test { test < length self.old.vectors }
+        requires x { x < length self.old.vectors }
+        requires y { y < length self.old.vectors }
+        requires k { k < length self.old.masks }
+        requires truth { (vector_in self.old test).elem ≡ Truth }
+        requires x_elem { (vector_in self.old x).elem ≡ (vector_in self.old d).elem }
+        requires y_elem { (vector_in self.old y).elem ≡ (vector_in self.old d).elem }
+        ensures { self.new ≡ record self.old { vectors = slice_set self.old.vectors d (written (mask_in self.old k) (sel_l (map is_on (vector_in self.old test).bits) (vector_in self.old x).bits (vector_in self.old y).bits) (vector_in self.old d)) } }
+    {
+        Lanes::select_at(
+            &mut self.vectors,
+            d as usize,
+            test as usize,
+            x as usize,
+            y as usize,
+            &self.masks[k as usize],
+        );
+    }
+
+    /// The lanes of another vector.
+    pub(crate) fn copy(&mut self, d: u32, x: u32, k: u32)
+        requires d { d < length self.old.vectors }
+        requires x { x < length self.old.vectors }
+        requires k { k < length self.old.masks }
+        requires elem { (vector_in self.old x).elem ≡ (vector_in self.old d).elem }
+        ensures { self.new ≡ record self.old { vectors = slice_set self.old.vectors d (written (mask_in self.old k) (vector_in self.old x).bits (vector_in self.old d)) } }
+    {
+        Lanes::copy_at(
+            &mut self.vectors,
+            d as usize,
+            x as usize,
+            &self.masks[k as usize],
+        );
+    }
+
+    /// The lanes of a vector of another call, in the lanes that made that call.
+    pub(crate) fn receive(&mut self, d: u32, x: &Lanes<N>)
+        requires there { d < length self.old.vectors }
+        requires elem { x.now.elem ≡ (vector_in self.old d).elem }
+        ensures { self.new ≡ record self.old { vectors = slice_set self.old.vectors d (written self.old.under x.now.bits (vector_in self.old d)) } }
+    {
+        self.vectors[d as usize].copy(x, &self.under);
+    }
+
+    /// One value.
+    pub(crate) fn splat(&mut self, d: u32, bits: u64, k: u32)
+        requires d { d < length self.old.vectors }
+        requires k { k < length self.old.masks }
+        requires fits { bits < 2 ^ width (vector_in self.old d).elem }
+        ensures { self.new ≡ record self.old { vectors = slice_set self.old.vectors d (written (mask_in self.old k) (replicate N bits) (vector_in self.old d)) } }
+    {
+        let mask = &self.masks[k as usize];
+        mask.told();
+        self.vectors[d as usize].splat(bits, mask);
+    }
+
+    /// A value for each lane.
+    pub(crate) fn keep_words(&mut self, d: u32, words: &[u64; N], k: u32)
+        requires d { d < length self.old.vectors }
+        requires k { k < length self.old.masks }
+        requires fits { Fit (vector_in self.old d).elem words.now }
+        ensures { self.new ≡ record self.old { vectors = slice_set self.old.vectors d (written (mask_in self.old k) words.now (vector_in self.old d)) } }
+    {
+        let mask = &self.masks[k as usize];
+        mask.told();
+        self.vectors[d as usize].keep_words(words, mask);
+    }
+
+    /// The lanes' numbers.
+    pub(crate) fn index(&mut self, d: u32, k: u32)
+        requires d { d < length self.old.vectors }
+        requires k { k < length self.old.masks }
+        requires elem { (vector_in self.old d).elem ≡ I32 }
+        ensures { self.new ≡ record self.old { vectors = slice_set self.old.vectors d (written (mask_in self.old k) (range_with_len 0 N) (vector_in self.old d)) } }
+    {
+        let mask = &self.masks[k as usize];
+        mask.told();
+        self.vectors[d as usize].index(mask);
+    }
+}
+
+// The arrays.
+impl<const N: usize> Frame<N> {
     /// Each lane of a mask writes its value at its index in an array.
     ///
     /// Index where one is outside, with the lowest such lane, and then nothing changes.

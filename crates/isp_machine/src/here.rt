@@ -1,5 +1,5 @@
 //! The function that runs.
-ghost use Rattle.std.specs.Prelude.{◌≡◌, ◌<◌, ◌^◌, [], length, slice_get, slice_index_or, Some, IfSome, IfNone, false};
+ghost use Rattle.std.specs.Prelude.{◌≡◌, ◌<◌, ◌≤◌, ◌^◌, [], length, slice_get, slice_index_or, Some, IfSome, IfNone, false};
 ghost use Rattle.isp_base.specs.Maps.{lane_of};
 ghost use Rattle.isp_base.specs.Sets.{flag_of};
 ghost use Rattle.isp_base.specs.Traps.{trap};
@@ -8,6 +8,7 @@ ghost use Rattle.isp_code.specs.Calls.{place_at};
 ghost use Rattle.isp_code.specs.Fine.{IsThere};
 ghost use Rattle.isp_code.specs.Listing.{routine_of};
 ghost use Rattle.isp_code.specs.Registers.{elem_of, is_per_lane};
+ghost use Rattle.isp_machine.specs.Arrays.{vector_in, mask_in};
 ghost use Rattle.isp_machine.specs.Shapes.{Shaped, Opened, IsOwn};
 ghost use Rattle.isp_machine.specs.Views.{scalars_at, vectors_at, masks_at, home_at};
 ghost use Rattle.isp_store.specs.Held.{shapes, elem, size};
@@ -135,6 +136,29 @@ impl<'a> Here<'a> {
         ensures { flag_of result.now ≡ masks_at frame.now k.number }
     {
         frame.mask(k.number)
+    }
+
+    /// What holds of a vector register. Changes nothing.
+    pub(crate) fn vector_told<const N: usize>(&self, frame: &Frame<N>, x: Register)
+        requires shaped { Shaped self.now.routine frame.now }
+        requires there { IsThere self.now.routine Class.Vector x }
+        requires few { N ≤ 64 }
+        ensures low { x.number < length frame.now.vectors }
+        ensures elem { (vector_in frame.now x.number).elem ≡ elem_of self.now.routine x }
+        ensures long { length (vector_in frame.now x.number).bits ≡ N }
+    {
+        frame.vector(x.number).told();
+    }
+
+    /// What holds of a mask register. Changes nothing.
+    pub(crate) fn mask_told<const N: usize>(&self, frame: &Frame<N>, k: Register)
+        requires shaped { Shaped self.now.routine frame.now }
+        requires there { IsThere self.now.routine Class.Mask k }
+        ensures low { k.number < length frame.now.masks }
+        ensures few { N ≤ 64 }
+        ensures long { length (mask_in frame.now k.number) ≡ N }
+    {
+        frame.mask(k.number).told();
     }
 
     /// The number of the store that an array is, one that all lanes share.

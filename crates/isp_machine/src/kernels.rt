@@ -1,16 +1,18 @@
-//! The operators on lanes under a mask, as the table of instructions has them.
-ghost use Rattle.std.specs.Prelude.{◌≡◌, ◌<◌, ◌≤◌, ◌^◌, None, Some, IfOk, IfErr, if◌then◌else◌, true};
+//! Masks, and what is left in the lanes of one, as the table of instructions has them.
+ghost use Rattle.std.specs.Prelude.{◌≡◌, ◌<◌, ◌≤◌, length, None, Some, IfOk, IfErr};
 ghost use Rattle.isp_base.specs.Access.{is_zero};
-ghost use Rattle.isp_base.specs.Maps.{lane_of, on, over, map1, map2, lowest_failing};
+ghost use Rattle.isp_base.specs.Maps.{lane_of, on, over, map2, lowest_failing};
+ghost use Rattle.isp_base.specs.Rows.{Fit};
 ghost use Rattle.isp_base.specs.Sets.{flag_of, lowest, any};
 ghost use Rattle.isp_base.specs.Cross.{or_zero};
-ghost use Rattle.isp_base.specs.Unary.{unary_bits};
-ghost use Rattle.isp_base.specs.Values.{width, number, op_bits, compare_bits, convert_bits, divides};
-ghost use Rattle.isp_base.specs.declared.types.Elem.TheVariants.{Bool as Truth, I32};
+ghost use Rattle.isp_base.specs.Values.{op_bits};
 ghost use Rattle.isp_code.specs.Lines.{plain_of, division_of};
-ghost use Rattle.isp_base.specs.Truths.{is_true};
+ghost use Rattle.isp_machine.specs.Arrays.{vector_in};
+ghost use Rattle.isp_machine.specs.Moves.{LanesAre};
+ghost use Rattle.isp_machine.specs.Views.{vectors_at, masks_at};
 
-use isp_base::{BinOp, Compare, UnaryOp};
+use crate::frame::Frame;
+use isp_base::BinOp;
 use isp_code::{Division, Plain};
 use isp_lanes::{LaneMask, Lanes};
 
@@ -71,144 +73,47 @@ pub(crate) fn copied<const N: usize>(value: &mut Lanes<N>, x: &Lanes<N>, mask: &
     value.copy(x, mask);
 }
 
-/// The lanes of a vector of any type.
-pub(crate) fn converted<const N: usize>(value: &mut Lanes<N>, x: &Lanes<N>, mask: &LaneMask<N>)
-    ensures elem { value.new.elem ≡ value.old.elem }
-    ensures lanes { lane_of value.new.bits ≡ over (map1 (λ b. convert_bits value.old.elem (number x.now.elem b)) (on (flag_of mask.now) (lane_of x.now.bits))) (lane_of value.old.bits) }
-{
-    value.told();
-    x.told();
-    mask.told();
-    value.convert(x, mask);
-}
-
-/// An operator on one vector.
-pub(crate) fn unary<const N: usize>(
-    value: &mut Lanes<N>,
-    op: UnaryOp,
-    x: &Lanes<N>,
-    mask: &LaneMask<N>,
-)
-    requires { x.now.elem ≡ value.old.elem }
-    ensures elem { value.new.elem ≡ value.old.elem }
-    ensures lanes { lane_of value.new.bits ≡ over (map1 (unary_bits op value.old.elem) (on (flag_of mask.now) (lane_of x.now.bits))) (lane_of value.old.bits) }
-{
-    value.told();
-    x.told();
-    mask.told();
-    value.unary(op, x, mask);
-}
-
-/// An operator on two vectors that has a result for all values.
-pub(crate) fn plain<const N: usize>(
-    value: &mut Lanes<N>,
-    op: Plain,
-    x: &Lanes<N>,
-    y: &Lanes<N>,
-    mask: &LaneMask<N>,
-)
-    requires x_elem { x.now.elem ≡ value.old.elem }
-    requires y_elem { y.now.elem ≡ value.old.elem }
-    ensures elem { value.new.elem ≡ value.old.elem }
-    ensures lanes { lane_of value.new.bits ≡ over (map2 (op_bits (plain_of op) value.old.elem) (on (flag_of mask.now) (lane_of x.now.bits)) (on (flag_of mask.now) (lane_of y.now.bits))) (lane_of value.old.bits) }
-{
-    value.told();
-    x.told();
-    y.told();
-    mask.told();
-    match value.binary(plain_operator(op), x, y, mask) {
-        Ok(()) => {}
-        Err(_lane) => unreachable!(),
-    }
-}
-
-/// A division. Where a lane of the mask divides by zero the answer is the lowest such lane, and
-/// nothing changes.
+/// A division of vectors, by their numbers. Where a lane of the mask divides by zero the answer is
+/// the lowest such lane, and nothing changes.
 pub(crate) fn divided<const N: usize>(
-    value: &mut Lanes<N>,
+    frame: &mut Frame<N>,
     op: Division,
-    x: &Lanes<N>,
-    y: &Lanes<N>,
-    mask: &LaneMask<N>,
+    d: u32,
+    x: u32,
+    y: u32,
+    k: u32,
 ) -> Result<(), usize>
-    requires x_elem { x.now.elem ≡ value.old.elem }
-    requires y_elem { y.now.elem ≡ value.old.elem }
-    ensures elem { value.new.elem ≡ value.old.elem }
-    ensures none { IfOk result (λ _. lowest_failing N (is_zero (division_of op) value.old.elem) (on (flag_of mask.now) (lane_of y.now.bits)) ≡ None) }
-    ensures lanes { IfOk result (λ _. lane_of value.new.bits ≡ over (map2 (op_bits (division_of op) value.old.elem) (on (flag_of mask.now) (lane_of x.now.bits)) (on (flag_of mask.now) (lane_of y.now.bits))) (lane_of value.old.bits)) }
-    ensures lowest { IfErr result (λ lane. lowest_failing N (is_zero (division_of op) value.old.elem) (on (flag_of mask.now) (lane_of y.now.bits)) ≡ Some lane) }
-    ensures same { IfErr result (λ _. value.new ≡ value.old) }
+    requires d { d < length frame.old.vectors }
+    requires x { x < length frame.old.vectors }
+    requires y { y < length frame.old.vectors }
+    requires k { k < length frame.old.masks }
+    requires x_elem { (vector_in frame.old x).elem ≡ (vector_in frame.old d).elem }
+    requires y_elem { (vector_in frame.old y).elem ≡ (vector_in frame.old d).elem }
+    ensures none { IfOk result (λ _. lowest_failing N (is_zero (division_of op) (vector_in frame.old d).elem) (on (masks_at frame.old k) (vectors_at frame.old y)) ≡ None) }
+    ensures lanes { IfOk result (λ _. LanesAre frame.old d (map2 (op_bits (division_of op) (vector_in frame.old d).elem) (on (masks_at frame.old k) (vectors_at frame.old x)) (on (masks_at frame.old k) (vectors_at frame.old y))) frame.new) }
+    ensures pc { IfOk result (λ _. frame.new.pc ≡ frame.old.pc) }
+    ensures lowest { IfErr result (λ lane. lowest_failing N (is_zero (division_of op) (vector_in frame.old d).elem) (on (masks_at frame.old k) (vectors_at frame.old y)) ≡ Some lane) }
+    ensures same { IfErr result (λ _. frame.new ≡ frame.old) }
 {
-    value.told();
-    x.told();
-    y.told();
-    mask.told();
-    match value.binary(division_operator(op), x, y, mask) {
+    frame.mask(k).told();
+    frame.vector(d).told();
+    frame.vector(x).told();
+    frame.vector(y).told();
+    match frame.binary(division_operator(op), d, x, y, k) {
         Ok(()) => Ok(()),
         Err(lane) => Err(lane),
     }
 }
 
-/// A comparison of two vectors of one type.
-pub(crate) fn compared<const N: usize>(
-    value: &mut Lanes<N>,
-    op: Compare,
-    x: &Lanes<N>,
-    y: &Lanes<N>,
-    mask: &LaneMask<N>,
-)
-    requires truth { value.old.elem ≡ Truth }
-    requires y_elem { y.now.elem ≡ x.now.elem }
-    ensures elem { value.new.elem ≡ value.old.elem }
-    ensures lanes { lane_of value.new.bits ≡ over (map2 (compare_bits op x.now.elem) (on (flag_of mask.now) (lane_of x.now.bits)) (on (flag_of mask.now) (lane_of y.now.bits))) (lane_of value.old.bits) }
+/// A value for each lane of a vector, by its number.
+pub(crate) fn kept<const N: usize>(frame: &mut Frame<N>, d: u32, words: &[u64; N], k: u32)
+    requires d { d < length frame.old.vectors }
+    requires k { k < length frame.old.masks }
+    requires fits { Fit (vector_in frame.old d).elem words.now }
+    ensures lanes { LanesAre frame.old d (on (masks_at frame.old k) (lane_of words.now)) frame.new }
+    ensures pc { frame.new.pc ≡ frame.old.pc }
 {
-    value.told();
-    x.told();
-    y.told();
-    mask.told();
-    value.compare(op, x, y, mask);
-}
-
-/// The lanes of one vector where a vector of bools is true, of another where it is false.
-pub(crate) fn selected<const N: usize>(
-    value: &mut Lanes<N>,
-    test: &Lanes<N>,
-    x: &Lanes<N>,
-    y: &Lanes<N>,
-    mask: &LaneMask<N>,
-)
-    requires truth { test.now.elem ≡ Truth }
-    requires x_elem { x.now.elem ≡ value.old.elem }
-    requires y_elem { y.now.elem ≡ value.old.elem }
-    ensures elem { value.new.elem ≡ value.old.elem }
-    ensures lanes { lane_of value.new.bits ≡ over (on (flag_of mask.now) (λ p. if is_true (lane_of test.now.bits p) then lane_of x.now.bits p else lane_of y.now.bits p)) (lane_of value.old.bits) }
-{
-    value.told();
-    test.told();
-    x.told();
-    y.told();
-    mask.told();
-    value.select(test, x, y, mask);
-}
-
-/// One value.
-pub(crate) fn splatted<const N: usize>(value: &mut Lanes<N>, bits: u64, mask: &LaneMask<N>)
-    requires { bits < 2 ^ width value.old.elem }
-    ensures elem { value.new.elem ≡ value.old.elem }
-    ensures lanes { lane_of value.new.bits ≡ over (on (flag_of mask.now) (λ p. bits)) (lane_of value.old.bits) }
-{
-    value.told();
-    mask.told();
-    value.splat(bits, mask);
-}
-
-/// The lanes' numbers.
-pub(crate) fn numbered<const N: usize>(value: &mut Lanes<N>, mask: &LaneMask<N>)
-    requires { value.old.elem ≡ I32 }
-    ensures elem { value.new.elem ≡ value.old.elem }
-    ensures lanes { lane_of value.new.bits ≡ over (on (flag_of mask.now) (λ p. p)) (lane_of value.old.bits) }
-{
-    value.told();
-    mask.told();
-    value.index(mask);
+    frame.mask(k).told();
+    frame.vector(d).told();
+    frame.keep_words(d, words, k);
 }

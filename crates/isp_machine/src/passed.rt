@@ -159,6 +159,7 @@ fn argument_arrays<const N: usize>(
 fn push_zeros(scalars: &mut Vec<u64>, count: usize) -> Result<(), AllocError>
     ensures { OnOk result (scalars.new.items ≡ scalars.old.items ++ replicate count 0) }
 {
+    scalars.reserve(count)?;
     for _ in 0..count {
         scalars.push(0)?;
     }
@@ -172,6 +173,7 @@ fn push_zero_lanes<const N: usize>(
 ) -> Result<(), AllocError>
     ensures { OnOk result (map seen vectors.new.items ≡ map seen vectors.old.items ++ map zero_seen elems.now) }
 {
+    vectors.reserve(elems.len())?;
     for elem in elems {
         vectors.push(zero_lanes(*elem))?;
     }

@@ -13,7 +13,6 @@ ghost use Rattle.isp_store.specs.Held.{Held};
 
 use crate::frame::Frame;
 use crate::here::Here;
-use crate::kernels::copied;
 use crate::stop::Step;
 use isp_base::Value;
 use isp_code::{Class, Instr, Register};
@@ -49,11 +48,11 @@ fn receive_lanes<const N: usize>(
     requires takes { TakesLanes (elem_of here.now.routine x) caller.old d }
     ensures { (k : Routine) → Shaped k caller.old → IsThere k Class.Vector d → elem_of k d ≡ elem_of here.now.routine x → caller.old.to ≡ Some d → Receives k callee.now (Some x) caller.old caller.new }
 {
-    let under = caller.under();
-    under.told();
-    let mut value = *caller.vector(d.number);
-    copied(&mut value, here.vector(callee, x), &under);
-    caller.set_vector(d.number, value);
+    caller.under().told();
+    caller.vector(d.number).told();
+    let value = here.vector(callee, x);
+    value.told();
+    caller.receive(d.number, value);
 }
 
 // A register of the caller gets the result.

@@ -1,120 +1,142 @@
 //! Instructions that write lanes of a vector register.
 ghost use Rattle.std.specs.Prelude.{◌≡◌, ◌+◌, ◌<◌, ◌≤◌, length, Ok, Err, IfOk, IfErr, false};
+ghost use Rattle.isp_base.specs.Rows.{Fit};
 ghost use Rattle.isp_base.specs.Types.{gang_width};
 ghost use Rattle.isp_code.specs.Fine.{AllFine};
 ghost use Rattle.isp_code.specs.Operands.{vector_operands};
 ghost use Rattle.isp_code.specs.Registers.{elem_of, is_per_lane};
-ghost use Rattle.isp_machine.specs.Moves.{VectorIs, Written, Goes, Fails};
+ghost use Rattle.isp_machine.specs.Moves.{VectorIs, WordsAre, InPlace, Goes, Fails};
 ghost use Rattle.isp_machine.specs.Shapes.{Shaped, Opened, IsOwn};
+ghost use Rattle.isp_machine.specs.Views.{masks_at};
 ghost use Rattle.isp_store.specs.Held.{shapes};
 
 use crate::frame::Frame;
 use crate::here::Here;
-use crate::kernels::{copied, numbered};
-use crate::lanes::{apply, combine, compare, convert, select, splat};
+use crate::kernels::kept;
+use crate::lanes::{apply, combine, compare, convert, copy, number, select, splat};
 use isp_base::{Trap, TrapKind};
 use isp_code::{Instr, Register, VectorInstr};
-use isp_lanes::Lanes;
 use isp_store::{Arrays, LaneArray};
 
-// What the instruction leaves in the lanes of the register.
+// What the instruction leaves in the lanes of the register, which is written where it stands.
 fn vector_value<const N: usize>(
     here: &Here,
-    frame: &Frame<N>,
+    frame: &mut Frame<N>,
     stores: &Arrays,
-    value: &mut Lanes<N>,
     d: Register,
     instr: VectorInstr,
 ) -> Result<(), Trap>
     requires gang { N ≡ gang_width here.now.code.gang }
-    requires shaped { Shaped here.now.routine frame.now }
-    requires arrays { Opened here.now.routine (shapes stores.now) frame.now }
+    requires shaped { Shaped here.now.routine frame.old }
+    requires arrays { Opened here.now.routine (shapes stores.now) frame.old }
     requires operands { AllFine here.now.code here.now.routine (vector_operands d instr) }
-    requires elem { value.old.elem ≡ elem_of here.now.routine d }
-    ensures elem { value.new.elem ≡ value.old.elem }
-    ensures ok { IfOk result (λ _. Written here.now stores.now frame.now d instr value.old value.new) }
-    ensures err { IfErr result (λ t. VectorIs here.now stores.now frame.now d instr (Err t)) }
+    ensures pc { IfOk result (λ _. frame.new.pc ≡ frame.old.pc) }
+    ensures ok { IfOk result (λ _. InPlace here.now stores.now frame.old d instr frame.new) }
+    ensures err { IfErr result (λ t. VectorIs here.now stores.now frame.old d instr (Err t)) }
+    ensures same { IfErr result (λ t. frame.new ≡ frame.old) }
 {
     match instr {
-        VectorInstr::Copy(x, k) => copied(value, here.vector(frame, x), here.mask(frame, k)),
-        VectorInstr::Convert(x, k) => convert(here, frame, value, d, x, k),
-        VectorInstr::Unary(op, x, k) => apply(here, frame, value, d, op, x, k),
-        VectorInstr::Binary(op, x, y, k) => combine(here, frame, value, d, op, x, y, k),
-        VectorInstr::Compare(op, x, y, k) => compare(here, frame, value, d, op, x, y, k),
-        VectorInstr::Select(test, x, y, k) => select(here, frame, value, d, test, x, y, k),
-        VectorInstr::Splat(x, k) => splat(here, frame, value, d, x, k),
-        VectorInstr::Index(k) => numbered(value, here.mask(frame, k)),
+        VectorInstr::Copy(x, k) => copy(here, frame, d, x, k),
+        VectorInstr::Convert(x, k) => convert(here, frame, d, x, k),
+        VectorInstr::Unary(op, x, k) => apply(here, frame, d, op, x, k),
+        VectorInstr::Binary(op, x, y, k) => combine(here, frame, d, op, x, y, k),
+        VectorInstr::Compare(op, x, y, k) => compare(here, frame, d, op, x, y, k),
+        VectorInstr::Select(test, x, y, k) => select(here, frame, d, test, x, y, k),
+        VectorInstr::Splat(x, k) => splat(here, frame, d, x, k),
+        VectorInstr::Index(k) => number(here, frame, d, k),
         VectorInstr::Gather(a, i, k, place) => return gather(
-            here, frame, stores, value, d, a, i, k, place,
+            here, frame, stores, d, a, i, k, place,
         ),
     }
     Ok(())
 }
 
 // The elements at the lanes' indices, of the array that all share.
-fn gather_shared<const N: usize>(
+fn shared_words<const N: usize>(
     here: &Here,
     frame: &Frame<N>,
     stores: &Arrays,
-    value: &mut Lanes<N>,
     d: Register,
     a: Register,
     i: Register,
     k: Register,
     place: u32,
-) -> Result<(), Trap>
+) -> Result<[u64; N], Trap>
     requires gang { N ≡ gang_width here.now.code.gang }
     requires shaped { Shaped here.now.routine frame.now }
     requires arrays { Opened here.now.routine (shapes stores.now) frame.now }
     requires operands { AllFine here.now.code here.now.routine (vector_operands d (VectorInstr.Gather a i k place)) }
-    requires elem { value.old.elem ≡ elem_of here.now.routine d }
     requires shared { is_per_lane here.now.routine a ≡ false }
-    ensures elem { value.new.elem ≡ value.old.elem }
-    ensures ok { IfOk result (λ _. Written here.now stores.now frame.now d (VectorInstr.Gather a i k place) value.old value.new) }
+    ensures fits { IfOk result (λ words. Fit (elem_of here.now.routine d) words) }
+    ensures ok { IfOk result (λ words. WordsAre here.now stores.now frame.now d (VectorInstr.Gather a i k place) (masks_at frame.now k.number) words) }
     ensures err { IfErr result (λ t. VectorIs here.now stores.now frame.now d (VectorInstr.Gather a i k place) (Err t)) }
 {
+    let _destination = d;
     let store = here.store(frame, stores, a);
-    match stores.gather(store, here.vector(frame, i), here.mask(frame, k), value) {
-        Ok(()) => Ok(()),
+    match stores.words(store, here.vector(frame, i), here.mask(frame, k)) {
+        Ok(words) => Ok(words),
         Err(trap) => Err(here.trap(TrapKind::Index, place, trap.instance)),
     }
 }
 
 // The elements at the lanes' indices, of the lanes' own arrays.
-fn gather_own<const N: usize>(
+fn own_words<const N: usize>(
     here: &Here,
     frame: &Frame<N>,
     stores: &Arrays,
     own: &LaneArray<N>,
-    value: &mut Lanes<N>,
     d: Register,
     a: Register,
     i: Register,
     k: Register,
     place: u32,
-) -> Result<(), Trap>
+) -> Result<[u64; N], Trap>
     requires gang { N ≡ gang_width here.now.code.gang }
     requires shaped { Shaped here.now.routine frame.now }
     requires arrays { Opened here.now.routine (shapes stores.now) frame.now }
     requires operands { AllFine here.now.code here.now.routine (vector_operands d (VectorInstr.Gather a i k place)) }
-    requires elem { value.old.elem ≡ elem_of here.now.routine d }
     requires own { IsOwn here.now.routine a frame.now own.now }
-    ensures elem { value.new.elem ≡ value.old.elem }
-    ensures ok { IfOk result (λ _. Written here.now stores.now frame.now d (VectorInstr.Gather a i k place) value.old value.new) }
+    ensures fits { IfOk result (λ words. Fit (elem_of here.now.routine d) words) }
+    ensures ok { IfOk result (λ words. WordsAre here.now stores.now frame.now d (VectorInstr.Gather a i k place) (masks_at frame.now k.number) words) }
     ensures err { IfErr result (λ t. VectorIs here.now stores.now frame.now d (VectorInstr.Gather a i k place) (Err t)) }
 {
-    match own.gather(here.vector(frame, i), here.mask(frame, k), value) {
-        Ok(()) => Ok(()),
+    let _destination = (d, a, stores.count());
+    match own.words(here.vector(frame, i), here.mask(frame, k)) {
+        Ok(words) => Ok(words),
         Err(trap) => Err(here.trap(TrapKind::Index, place, trap.instance)),
     }
 }
 
 // The elements at the lanes' indices.
-fn gather<const N: usize>(
+fn element_words<const N: usize>(
     here: &Here,
     frame: &Frame<N>,
     stores: &Arrays,
-    value: &mut Lanes<N>,
+    d: Register,
+    a: Register,
+    i: Register,
+    k: Register,
+    place: u32,
+) -> Result<[u64; N], Trap>
+    requires gang { N ≡ gang_width here.now.code.gang }
+    requires shaped { Shaped here.now.routine frame.now }
+    requires arrays { Opened here.now.routine (shapes stores.now) frame.now }
+    requires operands { AllFine here.now.code here.now.routine (vector_operands d (VectorInstr.Gather a i k place)) }
+    ensures fits { IfOk result (λ words. Fit (elem_of here.now.routine d) words) }
+    ensures ok { IfOk result (λ words. WordsAre here.now stores.now frame.now d (VectorInstr.Gather a i k place) (masks_at frame.now k.number) words) }
+    ensures err { IfErr result (λ t. VectorIs here.now stores.now frame.now d (VectorInstr.Gather a i k place) (Err t)) }
+{
+    match here.own(frame, stores, a) {
+        Some(own) => own_words(here, frame, stores, own, d, a, i, k, place),
+        None => shared_words(here, frame, stores, d, a, i, k, place),
+    }
+}
+
+// The same, in the register.
+fn gather<const N: usize>(
+    here: &Here,
+    frame: &mut Frame<N>,
+    stores: &Arrays,
     d: Register,
     a: Register,
     i: Register,
@@ -122,18 +144,19 @@ fn gather<const N: usize>(
     place: u32,
 ) -> Result<(), Trap>
     requires gang { N ≡ gang_width here.now.code.gang }
-    requires shaped { Shaped here.now.routine frame.now }
-    requires arrays { Opened here.now.routine (shapes stores.now) frame.now }
+    requires shaped { Shaped here.now.routine frame.old }
+    requires arrays { Opened here.now.routine (shapes stores.now) frame.old }
     requires operands { AllFine here.now.code here.now.routine (vector_operands d (VectorInstr.Gather a i k place)) }
-    requires elem { value.old.elem ≡ elem_of here.now.routine d }
-    ensures elem { value.new.elem ≡ value.old.elem }
-    ensures ok { IfOk result (λ _. Written here.now stores.now frame.now d (VectorInstr.Gather a i k place) value.old value.new) }
-    ensures err { IfErr result (λ t. VectorIs here.now stores.now frame.now d (VectorInstr.Gather a i k place) (Err t)) }
+    ensures pc { IfOk result (λ _. frame.new.pc ≡ frame.old.pc) }
+    ensures ok { IfOk result (λ _. InPlace here.now stores.now frame.old d (VectorInstr.Gather a i k place) frame.new) }
+    ensures err { IfErr result (λ t. VectorIs here.now stores.now frame.old d (VectorInstr.Gather a i k place) (Err t)) }
+    ensures same { IfErr result (λ t. frame.new ≡ frame.old) }
 {
-    match here.own(frame, stores, a) {
-        Some(own) => gather_own(here, frame, stores, own, value, d, a, i, k, place),
-        None => gather_shared(here, frame, stores, value, d, a, i, k, place),
-    }
+    here.mask_told(frame, k);
+    here.vector_told(frame, d);
+    let words = element_words(here, frame, stores, d, a, i, k, place)?;
+    kept(frame, d.number, &words, k.number);
+    Ok(())
 }
 
 /// Writes the lanes of a mask in a vector register, and goes on to the next instruction.
@@ -153,10 +176,8 @@ pub(crate) fn vector<const N: usize>(
     ensures err { IfErr result (λ t. Fails here.now (Instr.Vector d instr) stores.now frame.old t) }
     ensures same { IfErr result (λ t. frame.new ≡ frame.old) }
 {
-    let mut value = *here.vector(frame, d);
-    vector_value(here, frame, stores, &mut value, d, instr)?;
+    vector_value(here, frame, stores, d, instr)?;
     let _count = here.count();
-    frame.set_vector(d.number, value);
     frame.next();
     Ok(())
 }

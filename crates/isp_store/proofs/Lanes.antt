@@ -1,5 +1,5 @@
 -- What lanes have read and written, after the first few.
-use Rattle.std.proofs.Common.{◌≡◌, sym, ap, ◌∙◌, ⊎_elim, ℕ, ◌+◌, ◌<◌, ◌≤◌, List, length, get_or, Bool, true, false, Some, None, arith, add-one}
+use Rattle.std.proofs.Common.{◌≡◌, sym, ap, ◌∙◌, ⊎_elim, ℕ, zero, suc, ◌+◌, ◌<◌, ◌≤◌, ◌^◌, List, [], ◌∷◌, length, get_or, Bool, true, false, Some, None, arith, add-one}
 use Rattle.std.specs.Prelude.{slice_set, if◌then◌else◌}
 use Rattle.std.proofs.Math.Path.{fun_ext}
 use Rattle.std.proofs.Math.ListN.{length-set}
@@ -7,7 +7,10 @@ use Rattle.std.proofs.lemmas.Bool.{cases_eq, cases_lt}
 use Rattle.std.proofs.lemmas.List.{get_or-set_other, get_or-set_same}
 use Rattle.isp_base.specs.Access.{put_at, scatter}
 use Rattle.isp_base.specs.Maps.{Lanes, on, map1, each1, or_old, put, lane_of}
+use Rattle.isp_base.specs.Rows.{Fit}
 use Rattle.isp_base.specs.Sets.{Mask}
+use Rattle.isp_base.specs.Values.{width}
+use Rattle.isp_base.specs.declared.types.Elem.{Elem}
 
 -- n lanes, the first i of which are new, and the others old
 pub record Mixed (new old : Lanes) (xs : List ℕ) (n i : ℕ) : Type 0 where
@@ -52,3 +55,11 @@ module _ (n : ℕ) (f : ℕ → ℕ) (a : Mask) (x y : Lanes) (row : Lanes) wher
 
   pub stored_off : a n ≡ false → scatter (n + 1) (map1 f (on a x)) (on a y) row ≡ scatter n (map1 f (on a x)) (on a y) row
   stored_off e = step false e
+
+-- a list whose elements fit, with another that fits
+pub fit_put : (t : Elem) (xs : List ℕ) (i v : ℕ) → Fit t xs → v < 2 ^ width t → Fit t (slice_set xs i v)
+fit_put t [] i v f lt k = f k
+fit_put t (x ∷ xs) zero v f lt zero = lt
+fit_put t (x ∷ xs) zero v f lt (suc k) = f (suc k)
+fit_put t (x ∷ xs) (suc i) v f lt zero = f 0
+fit_put t (x ∷ xs) (suc i) v f lt (suc k) = fit_put t xs i v (λ j. f (suc j)) lt k

@@ -3,6 +3,7 @@ ghost use Rattle.std.specs.Prelude.{◌≡◌, ℕ, ◌+◌, ◌<◌, ◌≤◌,
 ghost use Rattle.isp_base.specs.declared.types.Elem.TheVariants.{I64};
 ghost use Rattle.isp_base.specs.Access.{is_outside, element, scatter};
 ghost use Rattle.isp_base.specs.Maps.{lane_of, on, over, map1, lowest_failing, put};
+ghost use Rattle.isp_base.specs.Rows.{Fit};
 ghost use Rattle.isp_base.specs.Sets.{flag_of};
 ghost use Rattle.isp_base.specs.Values.{width};
 ghost use Rattle.isp_store.specs.Held.{elements, size, elem, shapes, named};
@@ -181,6 +182,29 @@ impl Arrays {
         }
         rows::gather(&self.items, array, index, mask, into);
         Ok(())
+    }
+
+    /// The bits of the element at the lane's index in each lane of the mask, and 0 in the others.
+    ///
+    /// Index where one is outside, with the lowest such lane.
+    pub fn words<const N: usize>(
+        &self,
+        array: usize,
+        index: &Lanes<N>,
+        mask: &LaneMask<N>,
+    ) -> Result<[u64; N], IndexTrap>
+        requires there { array < length self.now.rows }
+        requires index { index.now.elem ≡ I64 }
+        ensures inside { IfOk result (λ _. lowest_failing N (is_outside I64 (size self.now array)) (on (flag_of mask.now) (lane_of index.now.bits)) ≡ None) }
+        ensures lanes { IfOk result (λ words. lane_of words ≡ over (map1 (λ x. elements self.now array (element I64 x)) (on (flag_of mask.now) (lane_of index.now.bits))) (λ p. 0)) }
+        ensures fits { IfOk result (λ words. Fit (elem self.now array) words) }
+        ensures lowest { IfErr result (λ t. lowest_failing N (is_outside I64 (size self.now array)) (on (flag_of mask.now) (lane_of index.now.bits)) ≡ Some t.instance) }
+    {
+        let count = rows::count(&self.items, array);
+        if let Some(instance) = outside(index, mask, count) {
+            return Err(IndexTrap { instance });
+        }
+        Ok(rows::words(&self.items, array, index, mask))
     }
 
     /// Each lane of the mask writes its value at its index. Where two write at one, the higher wins.

@@ -3,6 +3,7 @@ ghost use Rattle.std.specs.Prelude.{◌≡◌, ℕ, ◌<◌, ◌≤◌, ◌^◌,
 ghost use Rattle.isp_base.specs.declared.types.Elem.TheVariants.{I64};
 ghost use Rattle.isp_base.specs.Access.{is_outside, element};
 ghost use Rattle.isp_base.specs.Maps.{lane_of, on, over, map1, each1, lowest_failing};
+ghost use Rattle.isp_base.specs.Rows.{Fit};
 ghost use Rattle.isp_base.specs.Sets.{flag_of};
 ghost use Rattle.isp_base.specs.Values.{width};
 ghost use Rattle.isp_store.specs.Held.{bits_of};
@@ -71,6 +72,22 @@ impl<const N: usize> LaneArray<N> {
         Ok(())
     }
 
+    /// The bits of the lane's own element at its index in each lane of the mask, and 0 in the others.
+    ///
+    /// Index where one is outside, with the lowest such lane.
+    pub fn words(&self, index: &Lanes<N>, mask: &LaneMask<N>) -> Result<[u64; N], IndexTrap>
+        requires { index.now.elem ≡ I64 }
+        ensures inside { IfOk result (λ _. lowest_failing N (is_outside I64 (size self.now)) (on (flag_of mask.now) (lane_of index.now.bits)) ≡ None) }
+        ensures lanes { IfOk result (λ words. lane_of words ≡ over (λ p. each1 (λ x. own self.now (element I64 x) p) (on (flag_of mask.now) (lane_of index.now.bits) p)) (λ p. 0)) }
+        ensures fits { IfOk result (λ words. Fit self.now.elem words) }
+        ensures lowest { IfErr result (λ t. lowest_failing N (is_outside I64 (size self.now)) (on (flag_of mask.now) (lane_of index.now.bits)) ≡ Some t.instance) }
+    {
+        if let Some(instance) = outside(index, mask, self.rows.len()) {
+            return Err(IndexTrap { instance });
+        }
+        Ok(words(self.elem, &self.rows, index, mask))
+    }
+
     /// Each lane of the mask writes its value into its own array, at its index.
     ///
     /// Index where one is outside, with the lowest such lane, and then nothing changes.
@@ -127,6 +144,30 @@ fn read<const N: usize>(
             into.set(lane, get(rows, place, lane));
         }
     }
+}
+
+// The same, of an element type that the rows have, and 0 in the other lanes.
+fn words<const N: usize>(
+    elem: Elem,
+    rows: &[Lanes<N>],
+    index: &Lanes<N>,
+    mask: &LaneMask<N>,
+) -> [u64; N]
+    requires elem { AllOf elem rows.now }
+    requires inside { AreInside (length rows.now) (flag_of mask.now) (lane_of index.now.bits) }
+    ensures lanes { lane_of result ≡ over (λ p. each1 (λ x. bits_of rows.now (element I64 x) p) (on (flag_of mask.now) (lane_of index.now.bits) p)) (λ p. 0) }
+    ensures fits { Fit elem result }
+{
+    mask.told();
+    let _elem = elem;
+    let mut words = [0; N];
+    for lane in 0..N {
+        if mask.get(lane) {
+            let place = index.get(lane) as usize;
+            words[lane] = get(rows, place, lane);
+        }
+    }
+    words
 }
 
 // Each lane of the mask writes its value into its own array, at its index.

@@ -3,6 +3,7 @@ ghost use Rattle.std.specs.Prelude.{◌≡◌, length};
 ghost use Rattle.isp_base.specs.declared.types.Elem.TheVariants.{I64};
 ghost use Rattle.isp_base.specs.Access.{element, scatter};
 ghost use Rattle.isp_base.specs.Maps.{lane_of, map1, on, over};
+ghost use Rattle.isp_base.specs.Rows.{Fit};
 ghost use Rattle.isp_base.specs.Sets.{flag_of};
 ghost use Rattle.isp_store.specs.Inside.{AreInside};
 
@@ -28,6 +29,22 @@ pub(crate) fn read<const N: usize>(
             into.set(lane, array.at(index.get(lane) as usize));
         }
     }
+}
+
+// The element at its index in each lane of the mask, and 0 in the others.
+pub(crate) fn words<const N: usize>(array: &Array, index: &Lanes<N>, mask: &LaneMask<N>) -> [u64; N]
+    requires { AreInside (length array.now.bits) (flag_of mask.now) (lane_of index.now.bits) }
+    ensures lanes { lane_of result ≡ over (map1 (λ x. lane_of array.now.bits (element I64 x)) (on (flag_of mask.now) (lane_of index.now.bits))) (λ p. 0) }
+    ensures fits { Fit array.now.elem result }
+{
+    mask.told();
+    let mut words = [0; N];
+    for lane in 0..N {
+        if mask.get(lane) {
+            words[lane] = array.at(index.get(lane) as usize);
+        }
+    }
+    words
 }
 
 // Each lane of the mask writes its value at its index, from the lowest up.

@@ -4,12 +4,13 @@ ghost use Rattle.isp_base.specs.declared.types.Elem.TheVariants.{I64};
 ghost use Rattle.isp_base.specs.Access.{element, scatter};
 ghost use Rattle.isp_base.specs.Arguments.{row_bits};
 ghost use Rattle.isp_base.specs.Maps.{lane_of, map1, on, over, put};
+ghost use Rattle.isp_base.specs.Rows.{Fit};
 ghost use Rattle.isp_base.specs.Sets.{flag_of};
 ghost use Rattle.isp_base.specs.Values.{width};
 ghost use Rattle.isp_store.specs.Held.{bits_of, shapes_of, type_of};
 ghost use Rattle.isp_store.specs.Inside.{AreInside};
 
-use crate::moves::{read, write};
+use crate::moves::{self, read, write};
 use isp_base::{Array, Elem};
 use isp_lanes::{LaneMask, Lanes};
 use std::alloc::{AllocError, Global};
@@ -66,6 +67,22 @@ pub(crate) fn gather<const N: usize>(
 {
     mask.told();
     read(&rows[array], index, mask, into);
+}
+
+// The same, and 0 in the other lanes.
+pub(crate) fn words<const N: usize>(
+    rows: &[Array],
+    array: usize,
+    index: &Lanes<N>,
+    mask: &LaneMask<N>,
+) -> [u64; N]
+    requires there { array < length rows.now }
+    requires inside { AreInside (length (row_bits rows.now array)) (flag_of mask.now) (lane_of index.now.bits) }
+    ensures lanes { lane_of result ≡ over (map1 (λ x. bits_of rows.now array (element I64 x)) (on (flag_of mask.now) (lane_of index.now.bits))) (λ p. 0) }
+    ensures fits { Fit (type_of rows.now array) result }
+{
+    mask.told();
+    moves::words(&rows[array], index, mask)
 }
 
 // Each lane of the mask writes its value at its index, from the lowest up.

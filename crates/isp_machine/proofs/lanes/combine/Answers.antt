@@ -1,17 +1,33 @@
-use Rattle.std.proofs.Common.{◌∙◌, refl}
+use Rattle.std.proofs.Common.{refl, ◌∙◌}
+use Rattle.std.specs.Simd.Lanes.{zip2}
 use Rattle.isp_base.specs.Maps.{lane_of, on, over, map2}
 use Rattle.isp_base.specs.Values.{op_bits}
 use Rattle.isp_code.specs.Lines.{plain_of}
 use Rattle.isp_code.specs.Registers.{elem_of}
+use Rattle.isp_lanes.specs.Lanes.{written}
+use Rattle.isp_machine.specs.Arrays.{vector_in, mask_in}
 use Rattle.isp_machine.specs.Views.{masks_at, vectors_at}
+use Rattle.isp_machine.proofs.LaneViews as views
 use Rattle.isp_machine.proofs.lanes.combine.Goals as goal
 
 pub returns-clause-written : goal.returns-clause-written
 returns-clause-written g c =
+    let n = g.row.N in
     let h = c.args.here.now.routine in
     let f = c.args.frame.now in
+    let ms = mask_in f c.args.k.number in
+    let old = vector_in f c.args.d.number in
+    let xs = (vector_in f c.args.x.number).bits in
+    let ys = (vector_in f c.args.y.number).bits in
+    let x = on (masks_at f c.args.k.number) (vectors_at f c.args.x.number) in
+    let y = on (masks_at f c.args.k.number) (vectors_at f c.args.y.number) in
     λ s. record {
-      lanes = map2 (op_bits (plain_of c.args.op) (elem_of h c.args.d)) (on (masks_at f c.args.k.number) (vectors_at f c.args.x.number)) (on (masks_at f c.args.k.number) (vectors_at f c.args.y.number));
-      value = λ ws out. refl;
-      bits = c.plain.ensures.lanes ∙ (λ i. over (map2 (op_bits (plain_of c.args.op) (c.requires.elem i)) (on (c.mask.ensures i) (c.vector.ensures.lanes i)) (on (c.mask.ensures i) (c.vector-2.ensures.lanes i))) (lane_of c.args.value.now.bits));
+      value = written ms (zip2 (op_bits c.plain_operator.result old.elem) xs ys) old;
+      elem = refl;
+      written = record {
+        lanes = map2 (op_bits (plain_of c.args.op) (elem_of h c.args.d)) x y;
+        value = λ ws out. refl;
+        bits = views.zipped n (op_bits c.plain_operator.result old.elem) ms xs ys old.bits c.mask_told.ensures.long c.vector_told-2.ensures.long c.vector_told-3.ensures.long c.vector_told.ensures.long ∙ (λ i. over (map2 (op_bits (c.plain_operator.ensures i) (c.vector_told.ensures.elem i)) x y) (lane_of old.bits));
+      };
+      now = c.in-Ok.ensures.value;
     }

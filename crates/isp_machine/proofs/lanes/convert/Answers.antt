@@ -1,16 +1,30 @@
-use Rattle.std.proofs.Common.{◌∙◌, refl}
+use Rattle.std.proofs.Common.{refl, ◌∙◌, map}
 use Rattle.isp_base.specs.Maps.{lane_of, on, over, map1}
 use Rattle.isp_base.specs.Values.{number, convert_bits}
 use Rattle.isp_code.specs.Registers.{elem_of}
+use Rattle.isp_lanes.specs.Lanes.{written}
+use Rattle.isp_machine.specs.Arrays.{vector_in, mask_in}
 use Rattle.isp_machine.specs.Views.{masks_at, vectors_at}
+use Rattle.isp_machine.proofs.LaneViews as views
 use Rattle.isp_machine.proofs.lanes.convert.Goals as goal
 
 pub returns-clause-written : goal.returns-clause-written
 returns-clause-written g c =
+    let n = g.row.N in
     let h = c.args.here.now.routine in
     let f = c.args.frame.now in
+    let ms = mask_in f c.args.k.number in
+    let old = vector_in f c.args.d.number in
+    let xs = (vector_in f c.args.x.number).bits in
+    let from = (vector_in f c.args.x.number).elem in
+    let lanes = on (masks_at f c.args.k.number) (vectors_at f c.args.x.number) in
     λ s. record {
-      lanes = map1 (λ b. convert_bits (elem_of h c.args.d) (number (elem_of h c.args.x) b)) (on (masks_at f c.args.k.number) (vectors_at f c.args.x.number));
-      value = λ ws out. refl;
-      bits = c.converted.ensures.lanes ∙ (λ i. over (map1 (λ b. convert_bits (c.requires.elem i) (number (c.vector.ensures.elem i) b)) (on (c.mask.ensures i) (c.vector.ensures.lanes i))) (lane_of c.args.value.now.bits));
+      value = written ms (map (λ b. convert_bits old.elem (number from b)) xs) old;
+      elem = refl;
+      written = record {
+        lanes = map1 (λ b. convert_bits (elem_of h c.args.d) (number (elem_of h c.args.x) b)) lanes;
+        value = λ ws out. refl;
+        bits = views.mapped n (λ b. convert_bits old.elem (number from b)) ms xs old.bits c.mask_told.ensures.long c.vector_told-2.ensures.long c.vector_told.ensures.long ∙ (λ i. over (map1 (λ b. convert_bits (c.vector_told.ensures.elem i) (number (c.vector_told-2.ensures.elem i) b)) lanes) (lane_of old.bits));
+      };
+      now = c.convert.ensures;
     }

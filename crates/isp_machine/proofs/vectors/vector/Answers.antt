@@ -1,8 +1,14 @@
-use Rattle.std.proofs.Common.{ap, ◌∙◌, ◌+◌}
+use Rattle.std.proofs.Common.{refl, ap, ◌∙◌, ◌+◌}
+use Rattle.isp_machine.specs.Arrays.{vector_in}
 use Rattle.isp_machine.specs.Rows.{FrameRows}
 use Rattle.isp_machine.proofs.Shaping.{dest_vector, goes_vector}
+use Rattle.isp_machine.proofs.Written.{vector_elem_is}
 use Rattle.isp_machine.proofs.vectors.vector.Goals as goal
 
 pub returns-clause-ok : goal.returns-clause-ok
 returns-clause-ok g c =
-    goes_vector c.args.here.now c.args.stores.now c.args.frame.now c.requires.shaped c.requires.arrays c.args.d c.args.instr _ _ _ (dest_vector c.args.here.now.code c.args.here.now.routine c.args.d c.args.instr c.requires.operands) c.vector.ensures.lanes (c.vector_value.ensures.elem ∙ c.vector.ensures.elem) c.in_ok-vector_value.ensures.ok (c.next.ensures ∙ ap (λ (f : FrameRows). record f { pc = f.pc + 1 }) c.set_vector.ensures)
+    let h = c.args.here.now in
+    let f = c.args.frame.now in
+    let there = dest_vector h.code h.routine c.args.d c.args.instr c.requires.operands in
+    let left = c.in_ok-vector_value.ensures.ok in
+    goes_vector h c.args.stores.now f c.requires.shaped c.requires.arrays c.args.d c.args.instr (vector_in f c.args.d.number) left.value _ there refl (left.elem ∙ vector_elem_is h.routine f c.requires.shaped c.args.d there) left.written (c.next.ensures ∙ ap (λ (z : FrameRows). record z { pc = z.pc + 1 }) left.now)
