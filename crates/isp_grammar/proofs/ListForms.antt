@@ -103,13 +103,13 @@ module _ {A B C : Type 0} where
 
   group_second : (x : A) (c : Reader C) (p : Read B)
       → ◌≡◌ {A = Read ((A × B) × C)} (mapped {B = A × B} (λ y. (x, y)) p >>= λ y. mapped {B = (A × B) × C} (λ z. (y.0, z)) (c y.1))
-        (mapped {A = A × (B × C)} {B = (A × B) × C} (λ q. ((q.0, q.1.0), q.1.1)) (mapped {B = A × (B × C)} (λ w. (x, w)) (p >>= λ y. mapped {B = B × C} (λ z. (y.0, z)) (c y.1))))
+      (mapped {A = A × (B × C)} {B = (A × B) × C} (λ q. ((q.0, q.1.0), q.1.1)) (mapped {B = A × (B × C)} (λ w. (x, w)) (p >>= λ y. mapped {B = B × C} (λ z. (y.0, z)) (c y.1))))
   group_second x c (Ok y) = group_last x y.0 (c y.1)
   group_second x c (Err d) = refl
 
   group_first : (b : Reader B) (c : Reader C) (p : Read A)
       → ◌≡◌ {A = Read ((A × B) × C)} ((p >>= λ x. mapped {B = A × B} (λ y. (x.0, y)) (b x.1)) >>= λ y. mapped {B = (A × B) × C} (λ z. (y.0, z)) (c y.1))
-        (mapped {A = A × (B × C)} {B = (A × B) × C} (λ q. ((q.0, q.1.0), q.1.1)) (p >>= λ x. mapped {B = A × (B × C)} (λ w. (x.0, w)) (both b c x.1)))
+      (mapped {A = A × (B × C)} {B = (A × B) × C} (λ q. ((q.0, q.1.0), q.1.1)) (p >>= λ x. mapped {B = A × (B × C)} (λ w. (x.0, w)) (both b c x.1)))
   group_first b c (Ok x) = group_second x.0 c (b x.1)
   group_first b c (Err d) = refl
 
