@@ -91,6 +91,31 @@ module _ {A B C D : Type 0} (g : A → B) (h : C → D) where
   pub maps_both : (r : Reader A) (q : Reader B) (s : Reader C) (t : Reader D) → Maps r q g → Maps s t h → Maps (both r s) (both q t) (λ p. (g p.0, h p.1))
   maps_both r q s t f e ts = rw (f ts) (pair_first s t e (r ts))
 
+pub maps_twice : {A B C : Type 0} (r : Reader A) (q : Reader B) (s : Reader C) (g : A → B) (h : B → C) → Maps r q g → Maps q s h → Maps r s (λ x. h (g x))
+maps_twice r q s g h f e ts = e ts ∙ ap (λ (p : Read _). mapped h p) (f ts) ∙ mapped_twice g h (r ts)
+
+-- three in turn, the first two as one
+module _ {A B C : Type 0} where
+  group_last : (x : A) (y : B) (p : Read C)
+      → mapped {B = (A × B) × C} (λ z. ((x, y), z)) p ≡ mapped {A = A × (B × C)} {B = (A × B) × C} (λ q. ((q.0, q.1.0), q.1.1)) (mapped {B = A × (B × C)} (λ w. (x, w)) (mapped {B = B × C} (λ z. (y, z)) p))
+  group_last x y (Ok z) = refl
+  group_last x y (Err d) = refl
+
+  group_second : (x : A) (c : Reader C) (p : Read B)
+      → ◌≡◌ {A = Read ((A × B) × C)} (mapped {B = A × B} (λ y. (x, y)) p >>= λ y. mapped {B = (A × B) × C} (λ z. (y.0, z)) (c y.1))
+      (mapped {A = A × (B × C)} {B = (A × B) × C} (λ q. ((q.0, q.1.0), q.1.1)) (mapped {B = A × (B × C)} (λ w. (x, w)) (p >>= λ y. mapped {B = B × C} (λ z. (y.0, z)) (c y.1))))
+  group_second x c (Ok y) = group_last x y.0 (c y.1)
+  group_second x c (Err d) = refl
+
+  group_first : (b : Reader B) (c : Reader C) (p : Read A)
+      → ◌≡◌ {A = Read ((A × B) × C)} ((p >>= λ x. mapped {B = A × B} (λ y. (x.0, y)) (b x.1)) >>= λ y. mapped {B = (A × B) × C} (λ z. (y.0, z)) (c y.1))
+      (mapped {A = A × (B × C)} {B = (A × B) × C} (λ q. ((q.0, q.1.0), q.1.1)) (p >>= λ x. mapped {B = A × (B × C)} (λ w. (x.0, w)) (both b c x.1)))
+  group_first b c (Ok x) = group_second x.0 c (b x.1)
+  group_first b c (Err d) = refl
+
+  pub maps_grouped : (a : Reader A) (b : Reader B) (c : Reader C) → Maps (both a (both b c)) (both (both a b) c) (λ p. ((p.0, p.1.0), p.1.1))
+  maps_grouped a b c ts = group_first b c (a ts)
+
 module _ {A B : Type 0} (g : A → B) where
   some_mapped : (p : Read A) → mapped Some (mapped g p) ≡ mapped (option_map g) (mapped Some p)
   some_mapped (Ok x) = refl

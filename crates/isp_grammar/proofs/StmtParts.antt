@@ -18,7 +18,7 @@ use Rattle.isp_grammar.proofs.Exprs.{Exprs, closes_ends, Closed, closed_then}
 use Rattle.isp_grammar.proofs.ExprsComplete.{expr_no_type, exprs_off}
 use Rattle.isp_grammar.proofs.Forms.{Form, IsSound, IsComplete, Can, One, one_sound, one_complete, Both, Free, Follows, both_sound, both_complete, Behind, one_then, is_behind, Before, then_one, is_before}
 use Rattle.isp_grammar.proofs.FormsComplete.{EndsByHead, one_by_head, StartsOff}
-use Rattle.isp_grammar.proofs.ListForms.{mapped, Maps, maps_id, mapped_twice, maps_both, maps_maybe, maps_counted, either_map, maps_either}
+use Rattle.isp_grammar.proofs.ListForms.{mapped, Maps, maps_id, mapped_twice, maps_twice, maps_grouped, maps_both, maps_maybe, maps_counted, either_map, maps_either}
 use Rattle.isp_grammar.proofs.Refused.{IsRefused, one_refused, both_refused}
 use Rattle.isp_grammar.proofs.Simples.{change_kind, change_is, SimpleTree, SimpleParts, simple_sound, simple_complete, simple_refused, simple_by_head, simple_reads, simple_makes, simple_unmakes, simple_deep, simple_end, simple_starts}
 use Rattle.isp_grammar.proofs.Starts.{begins_off, begins_on, starts_off, Fits, start_fits, expr_start, type_start, type_completes}
@@ -27,7 +27,7 @@ use Rattle.isp_grammar.proofs.Wrapped.{Bracketed, bracketed_sound, bracketed_com
 use Rattle.isp_tree.specs.Depth.{depth_of_first}
 use Rattle.isp_grammar.specs.Grammar.{IsDeclaration, is_declaration, is_plain, IsFirst, is_first_declare, is_first_simple}
 use Rattle.isp_grammar.specs.reader.Readers.{Reader, refuse, mark_at, both}
-use Rattle.isp_grammar.specs.reader.Choices.{begins_with, either_at, maybe_at}
+use Rattle.isp_grammar.specs.reader.Choices.{begins_with, either_at, maybe_at, maybe_closed_at}
 use Rattle.isp_grammar.specs.reader.Exprs.{begins_expr, expr_at}
 use Rattle.isp_grammar.specs.reader.Starts.{start_of, is_first_start, is_simple_start, begins_first, begins_simple}
 use Rattle.isp_grammar.specs.reader.Stmts.{is_change, declaration_at, simple_from, simple_at, first_from, first_at, first_part_at, step_part_at, Head, head_at}
@@ -455,9 +455,6 @@ raw_head n = both (mark_at mark.ParenOpen) (both (maybe_at mark.Semicolon (first
 abbrev raw_tree : Span × (Option FirstTree × (Span × (Option Expr × (Span × (Option SimpleTree × Span))))) → Span × (Option First × (Span × (Option Expr × (Span × (Option Simple × Span)))))
 raw_tree p = (p.0, (option_map first_tree p.1.0, (p.1.1.0, (p.1.1.1.0, (p.1.1.1.1.0, (option_map simple_from p.1.1.1.1.1.0, p.1.1.1.1.1.1))))))
 
-abbrev head_from : Span × (Option First × (Span × (Option Expr × (Span × (Option Simple × Span))))) → Head
-head_from p = record { first = p.1.0; test = p.1.1.1.0; step = p.1.1.1.1.1.0 }
-
 maps_raw : (n : ℕ) → Maps (HeadParts.read n) (raw_head n) raw_tree
 maps_raw n =
     maps_both (λ x. x) _ (mark_at mark.ParenOpen) (mark_at mark.ParenOpen) (HeadFirst.read n) _ (maps_id (mark_at mark.ParenOpen))
@@ -467,6 +464,26 @@ maps_raw n =
     (maps_both (λ x. x) _ (mark_at mark.Semicolon) (mark_at mark.Semicolon) (HeadStep.read n) _ (maps_id (mark_at mark.Semicolon))
     (maps_both (option_map simple_from) (λ x. x) (MaybeStep.read n) (maybe_at mark.ParenClose (step_part_at n)) (mark_at mark.ParenClose) (mark_at mark.ParenClose) (maps_maybe simple_from mark.ParenClose (StepPart.read n) (step_part_at n) (maps_step_part n)) (maps_id (mark_at mark.ParenClose)))))))
 
+-- each part with the sign behind it
+abbrev grouped : Span × (Option First × (Span × (Option Expr × (Span × (Option Simple × Span))))) → Span × ((Option First × Span) × ((Option Expr × Span) × (Option Simple × Span)))
+grouped p = (p.0, ((p.1.0, p.1.1.0), ((p.1.1.1.0, p.1.1.1.1.0), p.1.1.1.1.1)))
+
+abbrev grouped_head : ℕ → Reader (Span × ((Option First × Span) × ((Option Expr × Span) × (Option Simple × Span))))
+grouped_head n = both (mark_at mark.ParenOpen) (both (both (maybe_at mark.Semicolon (first_part_at n)) (mark_at mark.Semicolon)) (both (both (maybe_at mark.Semicolon (expr_at n loosest)) (mark_at mark.Semicolon)) (both (maybe_at mark.ParenClose (step_part_at n)) (mark_at mark.ParenClose))))
+
+maps_group : (n : ℕ) → Maps (raw_head n) (grouped_head n) grouped
+maps_group n =
+    let semicolon = mark_at mark.Semicolon in
+    let step = both (maybe_at mark.ParenClose (step_part_at n)) (mark_at mark.ParenClose) in
+    let test = maybe_at mark.Semicolon (expr_at n loosest) in
+    let first = maybe_at mark.Semicolon (first_part_at n) in
+    maps_both (λ x. x) _ (mark_at mark.ParenOpen) (mark_at mark.ParenOpen) (both first (both semicolon (both test (both semicolon step)))) _ (maps_id (mark_at mark.ParenOpen))
+    (maps_twice (both first (both semicolon (both test (both semicolon step)))) (both (both first semicolon) (both test (both semicolon step))) (both (both first semicolon) (both (both test semicolon) step)) _ _ (maps_grouped first semicolon (both test (both semicolon step)))
+    (maps_both (λ x. x) _ (both first semicolon) (both first semicolon) (both test (both semicolon step)) (both (both test semicolon) step) (maps_id (both first semicolon)) (maps_grouped test semicolon step)))
+
+abbrev head_from : Span × ((Option First × Span) × ((Option Expr × Span) × (Option Simple × Span))) → Head
+head_from p = record { first = p.1.0.0; test = p.1.1.0.0; step = p.1.1.1.0 }
+
 pub maps_head : (n : ℕ) → Maps (HeadParts.read n) (head_at n) head_tree
-unfolding head_at
-maps_head n ts = ap (λ (r : _). mapped head_from r) (maps_raw n ts) ∙ mapped_twice raw_tree head_from (HeadParts.read n ts)
+unfolding head_at maybe_closed_at
+maps_head n ts = ap (λ (r : _). mapped head_from r) (maps_twice (HeadParts.read n) (raw_head n) (grouped_head n) raw_tree grouped (maps_raw n) (maps_group n) ts) ∙ mapped_twice (λ x. grouped (raw_tree x)) head_from (HeadParts.read n ts)

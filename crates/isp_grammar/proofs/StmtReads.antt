@@ -16,6 +16,7 @@ use Rattle.isp_grammar.proofs.Stmts.{EndsStmt, Statement, Nothing, BraceEnd, bra
 use Rattle.isp_tree.specs.Depth.{depth_of_stmt}
 use Rattle.isp_grammar.specs.Grammar.{IsStmt, is_block, is_empty, is_unmasked, is_jump}
 use Rattle.isp_grammar.specs.reader.Readers.{Read, ◌>>=◌, mark_at}
+use Rattle.isp_grammar.specs.reader.Choices.{maybe_closed_at}
 use Rattle.isp_grammar.specs.reader.Starts.{start_of}
 use Rattle.isp_grammar.specs.reader.Stmts.{Head, simple_at, closed_test_at, test_at, head_at, ranges_head_at, active_head_at, values_at, next_value_at, do_end_at, declare_at, simple_stmt_at, jump_at, return_at, print_at, assert_at, stmts_at, block_from, braced_at, block_stmt_at, if_at, while_at, do_at, for_at, foreach_at, active_at, unmasked_at, stmt_by, stmt_at}
 use Rattle.isp_grammar.specs.Signs.{if_mark, while_mark, do_mark, for_mark, foreach_mark, jump_mark}
@@ -151,7 +152,7 @@ pub jump_production : (j : Jump) → Production (jump_mark j) (One mark.Semicolo
 jump_production j = record { reads = λ n s ts. jump_reads j n s ts; makes = λ s ts x i. jump_makes j s ts x i; deep = λ s x. refl; ends = λ s x rest h. λ o. absurd cc }
 
 pub return_production : Production mark.Return Returning return_of
-unfolding stmt_at stmt_by return_at
+unfolding stmt_at stmt_by return_at maybe_closed_at
 return_production = record { reads = λ n s ts. refl; makes = λ s ts x i. return_makes s ts x i; deep = λ s x. return_deep s x; ends = λ s x rest h. λ o. absurd cc }
 
 pub print_production : Production mark.Print Printing print_of

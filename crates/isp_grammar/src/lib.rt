@@ -14,7 +14,7 @@ mod stmt;
 mod stop;
 mod types;
 
-pub use reading::{in_box, mark, refuse, starts_with, tail, word};
+pub use reading::{closed_by, in_box, mark, refuse, starts_with, tail, word};
 pub use stmt::block;
 pub use stop::{Refusal, Stop, Why};
 pub use types::{first_span, type_words};

@@ -3,14 +3,14 @@ ghost use Rattle.std.specs.Prelude.{◌≡◌, ◌≤◌, ◌<◌, ◌+◌, IfOk
 ghost use Rattle.isp_tree.specs.Views.{expr_of, exprs_of, simple_of, first_of, range_of};
 ghost use Rattle.isp_grammar.specs.Signs.{loosest};
 ghost use Rattle.isp_grammar.specs.reader.Readers.{Gives, mark_at, both};
-ghost use Rattle.isp_grammar.specs.reader.Choices.{begins_with, sign_at, maybe_at};
+ghost use Rattle.isp_grammar.specs.reader.Choices.{begins_with, sign_at, maybe_closed_at};
 ghost use Rattle.isp_grammar.specs.reader.Exprs.{expr_at};
 ghost use Rattle.isp_grammar.specs.reader.Starts.{begins_first, begins_simple};
 ghost use Rattle.isp_grammar.specs.reader.Stmts.{closed_test_at, test_at, head_of, first_at, first_part_at, step_part_at, head_at, range_at, with_last, last_range_at, with_more, more_ranges_at, ranges_at, ranges_head_at, active_head_at, text_of, next_value_at, values_at, do_end_at, refusal_at_limit};
 
 use crate::declaration::declaration;
 use crate::expr::expr;
-use crate::reading::{in_box, mark, refuse, starts_with, word};
+use crate::reading::{closed_by, in_box, mark, refuse, starts_with, up_to, word};
 use crate::simple::simple;
 use crate::start::{Start, stmt_start};
 use crate::stop::{Stop, Why};
@@ -33,39 +33,36 @@ pub fn closed_test(
 {
     let (_open, rest) = mark(Mark::ParenOpen, tokens)?;
     let (value, _height, rest) = expr(alloc, left, rest)?;
-    let (close, rest) = mark(Mark::ParenClose, rest)?;
-    Ok(((value, close), rest))
+    closed_by(Mark::ParenClose, value, rest)
 }
 
 /// An expression in brackets.
-#[tactic(auto, unfolding(crate::specs::reader::Stmts::test_at))]
+#[tactic(auto, unfolding(crate::specs::reader::Stmts::test_at, crate::specs::reader::Stmts::closed_test_at))]
 pub fn test(alloc: Global, left: usize, tokens: &[Token]) -> Result<(Box<Expr>, &[Token]), Stop>
     requires { left ≤ 128 }
     ensures value { Gives (λ r. (expr_of r.0.value, r.1.now)) result (test_at left tokens.now) }
     ensures rest { IfOk result (λ r. length r.1.now < length tokens.now) }
 {
-    let (_open, rest) = mark(Mark::ParenOpen, tokens)?;
-    let (value, _height, rest) = expr(alloc, left, rest)?;
-    let (_close, rest) = mark(Mark::ParenClose, rest)?;
+    let ((value, _close), rest) = closed_test(alloc, left, tokens)?;
     Ok((value, rest))
 }
 
-/// An expression, or nothing before a semicolon.
-#[tactic(auto, unfolding(crate::specs::reader::Choices::maybe_at))]
+/// An expression or nothing, and the semicolon behind it.
+#[tactic(auto, unfolding(crate::specs::reader::Choices::maybe_at, crate::specs::reader::Choices::maybe_closed_at))]
 pub fn maybe_expr(
     alloc: Global,
     left: usize,
     tokens: &[Token],
-) -> Result<(Option<Box<Expr>>, &[Token]), Stop>
+) -> Result<((Option<Box<Expr>>, Span), &[Token]), Stop>
     requires { left ≤ 128 }
-    ensures value { Gives (λ r. (option_map (λ b. expr_of b.value) r.0, r.1.now)) result (maybe_at Mark.Semicolon (expr_at left loosest) tokens.now) }
-    ensures rest { IfOk result (λ r. length r.1.now ≤ length tokens.now) }
+    ensures value { Gives (λ r. ((option_map (λ b. expr_of b.value) r.0.0, r.0.1), r.1.now)) result (maybe_closed_at Mark.Semicolon (expr_at left loosest) tokens.now) }
+    ensures rest { IfOk result (λ r. length r.1.now < length tokens.now) }
 {
     if starts_with(Mark::Semicolon, tokens) {
-        return Ok((None, tokens));
+        return closed_by(Mark::Semicolon, None, tokens);
     }
-    let (value, _height, rest) = expr(alloc, left, tokens)?;
-    Ok((Some(value), rest))
+    let (found, _height, rest) = expr(alloc, left, tokens)?;
+    closed_by(Mark::Semicolon, Some(found), rest)
 }
 
 /// Whether a declaration or a simple statement begins here.
@@ -146,38 +143,40 @@ fn step_part(alloc: Global, left: usize, tokens: &[Token]) -> Result<(Box<Simple
     simple(alloc, left - 1, tokens)
 }
 
-#[tactic(auto, unfolding(crate::specs::reader::Choices::maybe_at))]
+/// The first part of a `for` or nothing, and the semicolon behind it.
+#[tactic(auto, unfolding(crate::specs::reader::Choices::maybe_at, crate::specs::reader::Choices::maybe_closed_at))]
 fn maybe_first(
     alloc: Global,
     left: usize,
     tokens: &[Token],
-) -> Result<(Option<Box<First>>, &[Token]), Stop>
+) -> Result<((Option<Box<First>>, Span), &[Token]), Stop>
     requires { left ≤ 128 }
-    ensures value { Gives (λ r. (option_map (λ b. first_of b.value) r.0, r.1.now)) result (maybe_at Mark.Semicolon (first_part_at left) tokens.now) }
-    ensures rest { IfOk result (λ r. length r.1.now ≤ length tokens.now) }
+    ensures value { Gives (λ r. ((option_map (λ b. first_of b.value) r.0.0, r.0.1), r.1.now)) result (maybe_closed_at Mark.Semicolon (first_part_at left) tokens.now) }
+    ensures rest { IfOk result (λ r. length r.1.now < length tokens.now) }
 {
     if starts_with(Mark::Semicolon, tokens) {
-        return Ok((None, tokens));
+        return closed_by(Mark::Semicolon, None, tokens);
     }
-    let (first, rest) = first_part(alloc, left, tokens)?;
-    Ok((Some(first), rest))
+    let (found, rest) = first_part(alloc, left, tokens)?;
+    closed_by(Mark::Semicolon, Some(found), rest)
 }
 
-#[tactic(auto, unfolding(crate::specs::reader::Choices::maybe_at))]
+/// The step of a `for` or nothing, and the closing bracket behind it.
+#[tactic(auto, unfolding(crate::specs::reader::Choices::maybe_at, crate::specs::reader::Choices::maybe_closed_at))]
 fn maybe_step(
     alloc: Global,
     left: usize,
     tokens: &[Token],
-) -> Result<(Option<Box<Simple>>, &[Token]), Stop>
+) -> Result<((Option<Box<Simple>>, Span), &[Token]), Stop>
     requires { left ≤ 128 }
-    ensures value { Gives (λ r. (option_map (λ b. simple_of b.value) r.0, r.1.now)) result (maybe_at Mark.ParenClose (step_part_at left) tokens.now) }
-    ensures rest { IfOk result (λ r. length r.1.now ≤ length tokens.now) }
+    ensures value { Gives (λ r. ((option_map (λ b. simple_of b.value) r.0.0, r.0.1), r.1.now)) result (maybe_closed_at Mark.ParenClose (step_part_at left) tokens.now) }
+    ensures rest { IfOk result (λ r. length r.1.now < length tokens.now) }
 {
     if starts_with(Mark::ParenClose, tokens) {
-        return Ok((None, tokens));
+        return closed_by(Mark::ParenClose, None, tokens);
     }
-    let (step, rest) = step_part(alloc, left, tokens)?;
-    Ok((Some(step), rest))
+    let (found, rest) = step_part(alloc, left, tokens)?;
+    closed_by(Mark::ParenClose, Some(found), rest)
 }
 
 /// The first part, the test and the step of a `for`, each in a box of its own.
@@ -196,12 +195,9 @@ pub fn head(alloc: Global, left: usize, tokens: &[Token]) -> Result<(Box<ForHead
     ensures rest { IfOk result (λ r. length r.1.now < length tokens.now) }
 {
     let (_open, rest) = mark(Mark::ParenOpen, tokens)?;
-    let (first, rest) = maybe_first(alloc, left, rest)?;
-    let (_semicolon, rest) = mark(Mark::Semicolon, rest)?;
-    let (test, rest) = maybe_expr(alloc, left, rest)?;
-    let (_semicolon, rest) = mark(Mark::Semicolon, rest)?;
-    let (step, rest) = maybe_step(alloc, left, rest)?;
-    let (_close, rest) = mark(Mark::ParenClose, rest)?;
+    let ((first, _semicolon), rest) = maybe_first(alloc, left, rest)?;
+    let ((test, _semicolon), rest) = maybe_expr(alloc, left, rest)?;
+    let ((step, _close), rest) = maybe_step(alloc, left, rest)?;
     in_box(alloc, ForHead { first, test, step }, rest)
 }
 
@@ -297,8 +293,7 @@ pub fn ranges_head(
 {
     let (_open, rest) = mark(Mark::ParenOpen, tokens)?;
     let (ranges, rest) = ranges(alloc, left, rest)?;
-    let (_close, rest) = mark(Mark::ParenClose, rest)?;
-    Ok((ranges, rest))
+    up_to(Mark::ParenClose, ranges, rest)
 }
 
 /// The name of a `foreach_active` in brackets.
@@ -309,8 +304,7 @@ pub fn active_head(tokens: &[Token]) -> Result<(Word, &[Token]), Stop>
 {
     let (_open, rest) = mark(Mark::ParenOpen, tokens)?;
     let (word, rest) = word(rest)?;
-    let (_close, rest) = mark(Mark::ParenClose, rest)?;
-    Ok((word, rest))
+    up_to(Mark::ParenClose, word, rest)
 }
 
 /// A text in quotes, and where it stands.
@@ -362,8 +356,7 @@ pub fn closing(tokens: &[Token]) -> Result<((Span, Span), &[Token]), Stop>
     ensures rest { IfOk result (λ r. length r.1.now < length tokens.now) }
 {
     let (close, rest) = mark(Mark::ParenClose, tokens)?;
-    let (end, rest) = mark(Mark::Semicolon, rest)?;
-    Ok(((close, end), rest))
+    closed_by(Mark::Semicolon, close, rest)
 }
 
 /// `while`, a test and a semicolon: the test, and where the semicolon stands.
@@ -379,6 +372,5 @@ pub fn do_end(
 {
     let (_while, rest) = mark(Mark::While, tokens)?;
     let (test, rest) = test(alloc, left, rest)?;
-    let (end, rest) = mark(Mark::Semicolon, rest)?;
-    Ok(((test, end), rest))
+    closed_by(Mark::Semicolon, test, rest)
 }

@@ -71,8 +71,7 @@ pub fn return_stmt(
     ensures value { Gives (λ r. (stmt_of r.0, r.1.now)) result (return_at inner keyword tokens.now) }
     ensures rest { IfOk result (λ r. length r.1.now < length tokens.now) }
 {
-    let (value, rest) = maybe_expr(alloc, inner, tokens)?;
-    let (end, rest) = mark(Mark::Semicolon, rest)?;
+    let ((value, end), rest) = maybe_expr(alloc, inner, tokens)?;
     let found = Stmt::Return {
         keyword,
         value: unboxed_expr(value),

@@ -1,12 +1,14 @@
 //! Functions.
 ghost use Rattle.std.specs.Prelude.{◌≡◌, ◌≤◌, ◌<◌, ◌+◌, IfOk, length, map, Ok};
 ghost use Rattle.isp_tree.specs.Views.{type_of, block_of, param_of, function_of};
-ghost use Rattle.isp_grammar.specs.reader.Readers.{Gives, optional, mark_at, list_at};
+ghost use Rattle.isp_grammar.specs.reader.Readers.{Gives, optional, mark_at, both, list_at};
 ghost use Rattle.isp_grammar.specs.reader.Choices.{signs_at};
 ghost use Rattle.isp_syntax.specs.reader.Programs.{linkage_of, linkage_at, linkages_at, param_at, only_void, params_at, signature_of, signature_at, function_from, function_at};
 
 use isp_base::Span;
-use isp_grammar::{Stop, block, first_span, in_box, mark, starts_with, tail, type_words, word};
+use isp_grammar::{
+    Stop, block, closed_by, first_span, in_box, mark, starts_with, tail, type_words, word,
+};
 use isp_lex::{Mark, Token, TokenKind};
 use isp_tree::{Block, Function, Linkage, Param, TypeWords, Word};
 use std::alloc::Global;
@@ -127,6 +129,15 @@ fn params(alloc: Global, tokens: &[Token]) -> Result<(Vec<Param>, &[Token]), Sto
     param_list(alloc, tokens)
 }
 
+/// The parameters, and the closing bracket behind them.
+fn closed_params(alloc: Global, tokens: &[Token]) -> Result<((Vec<Param>, Span), &[Token]), Stop>
+    ensures value { Gives (λ r. ((map param_of r.0.0.items, r.0.1), r.1.now)) result (both params_at (mark_at Mark.ParenClose) tokens.now) }
+    ensures rest { IfOk result (λ r. length r.1.now < length tokens.now) }
+{
+    let (params, rest) = params(alloc, tokens)?;
+    closed_by(Mark::ParenClose, params, rest)
+}
+
 /// A function up to its body: its words, its type, its name and its parameters.
 #[derive(Drop)]
 pub struct Heading {
@@ -145,8 +156,7 @@ fn signature(alloc: Global, tokens: &[Token]) -> Result<(Box<Heading>, &[Token])
     let (result, rest) = type_words(alloc, rest)?;
     let (word, rest) = word(rest)?;
     let (_open, rest) = mark(Mark::ParenOpen, rest)?;
-    let (params, rest) = params(alloc, rest)?;
-    let (_close, rest) = mark(Mark::ParenClose, rest)?;
+    let ((params, _close), rest) = closed_params(alloc, rest)?;
     let heading = Heading {
         linkages,
         result,

@@ -6,7 +6,7 @@ use Rattle.isp_lex.specs.Tokens.{starts_with}
 use Rattle.isp_lex.specs.declared.token.Mark.{Mark}
 use Rattle.isp_lex.specs.declared.token.TokenKind.{TokenKind}
 use Rattle.isp_lex.specs.declared.token.Token.{Token}
-use Rattle.isp_grammar.specs.reader.Readers.{Read, Reader, ◌>>=◌, refuse, head, on_head, at_limit}
+use Rattle.isp_grammar.specs.reader.Readers.{Read, Reader, ◌>>=◌, refuse, head, on_head, mark_at, both, at_limit}
 use Rattle.isp_grammar.specs.declared.stop.Why.TheVariants.{Unexpected}
 
 -- whether there is a first token, and it is one of these
@@ -47,6 +47,10 @@ maybe_from one ts false = one ts >>= λ x. Ok (Some x.0, x.1)
 
 unfoldable pub maybe_at : {A : Type 0} → Mark → Reader A → Reader (Option A)
 maybe_at m one ts = maybe_from one ts (starts_with m ts)
+
+-- nothing before the mark, or one, and the mark
+unfoldable pub maybe_closed_at : {A : Type 0} → Mark → Reader A → Reader (Option A × Span)
+maybe_closed_at m one ts = both (maybe_at m one) (mark_at m) ts
 
 -- one where its first token stands, else nothing
 abbrev pub perhaps_from : {A : Type 0} → Reader A → List Token → Bool → Read (Option A)

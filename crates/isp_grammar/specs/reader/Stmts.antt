@@ -11,7 +11,7 @@ use Rattle.isp_lex.specs.declared.token.TokenKind.TheVariants as kind
 use Rattle.isp_lex.specs.declared.token.Token.{Token}
 use Rattle.isp_grammar.specs.Grammar.{span_of_last}
 use Rattle.isp_grammar.specs.reader.Readers.{Read, Reader, ◌>>=◌, refusal, refuse, mark_at, word_at, both, optional, list_at, until_at, at_limit}
-use Rattle.isp_grammar.specs.reader.Choices.{sign_at, maybe_at, perhaps_at, either_at, counted_at}
+use Rattle.isp_grammar.specs.reader.Choices.{sign_at, maybe_closed_at, perhaps_at, either_at, counted_at}
 use Rattle.isp_grammar.specs.reader.Exprs.{expr_at}
 use Rattle.isp_grammar.specs.reader.Starts.{start_of, begins_first, begins_simple, begins_stmt}
 use Rattle.isp_grammar.specs.reader.Types.{begins_type, type_at}
@@ -191,8 +191,8 @@ abbrev pub head_of : rust_head.ForHead → Head
 head_of h = record { first = option_map (λ b. first_of b.value) h.first; test = option_map (λ b. expr_of b.value) h.test; step = option_map (λ b. simple_of b.value) h.step }
 
 unfoldable pub head_at : ℕ → Reader Head
-head_at n ts = both (mark_at mark.ParenOpen) (both (maybe_at mark.Semicolon (first_part_at n)) (both (mark_at mark.Semicolon) (both (maybe_at mark.Semicolon (expr_at n loosest)) (both (mark_at mark.Semicolon) (both (maybe_at mark.ParenClose (step_part_at n)) (mark_at mark.ParenClose)))))) ts
-    >>= λ p. Ok (record { first = p.0.1.0; test = p.0.1.1.1.0; step = p.0.1.1.1.1.1.0 }, p.1)
+head_at n ts = both (mark_at mark.ParenOpen) (both (maybe_closed_at mark.Semicolon (first_part_at n)) (both (maybe_closed_at mark.Semicolon (expr_at n loosest)) (maybe_closed_at mark.ParenClose (step_part_at n)))) ts
+    >>= λ p. Ok (record { first = p.0.1.0.0; test = p.0.1.1.0.0; step = p.0.1.1.1.0 }, p.1)
 
 abbrev pub range_from : Word → Expr → Expr → Range
 range_from w x y = record { word = w; start = x; end = y; span = span_to w.span (span_of y) }
@@ -261,7 +261,7 @@ unfoldable pub jump_at : Jump → Span → Reader Stmt
 jump_at j s ts = mark_at mark.Semicolon ts >>= λ e. Ok (jump j s (span_to s e.0), e.1)
 
 unfoldable pub return_at : ℕ → Span → Reader Stmt
-return_at n s ts = both (maybe_at mark.Semicolon (expr_at n loosest)) (mark_at mark.Semicolon) ts >>= λ p. Ok (returning s p.0.0 (span_to s p.0.1), p.1)
+return_at n s ts = maybe_closed_at mark.Semicolon (expr_at n loosest) ts >>= λ p. Ok (returning s p.0.0 (span_to s p.0.1), p.1)
 
 unfoldable pub print_at : ℕ → Span → Reader Stmt
 print_at n s ts = both (mark_at mark.ParenOpen) (both (sign_at text_of) (both (values_at n) (both (mark_at mark.ParenClose) (mark_at mark.Semicolon)))) ts

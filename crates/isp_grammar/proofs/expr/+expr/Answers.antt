@@ -1,4 +1,4 @@
-use Rattle.std.proofs.Common.{◌≡◌, ◌+◌, ◌-◌, List, ◌∷◌, true, false, length, sym, ap, subst, ◌∙◌, arith, rules, length-drop}
+use Rattle.std.proofs.Common.{◌≡◌, ◌+◌, ◌-◌, List, ◌∷◌, true, false, length, refl, sym, ap, subst, ◌∙◌, arith, rules, length-drop}
 use Rattle.std.specs.Prelude.{Ok}
 use Rattle.isp_lex.specs.declared.token.Token.{Token}
 use Rattle.isp_lex.specs.declared.token.Mark.TheVariants as mark
@@ -6,10 +6,11 @@ use Rattle.isp_tree.specs.Depth.{depth}
 use Rattle.isp_grammar.specs.Signs.{loosest}
 use Rattle.isp_tree.specs.Views.{expr_of, argument_of, arguments_of}
 use Rattle.isp_grammar.specs.reader.Readers.{Fails, list_at}
-use Rattle.isp_grammar.specs.reader.Exprs.{argument_at, joined, begins_expr, start_of, operand_from, parts_of, parts_at, choice_of, expr_at, target_at}
+use Rattle.isp_grammar.specs.reader.Exprs.{argument_at, joined, begins_expr, start_of, operand_from, parts_of, parts_at, choice_of, expr_at, target_at, bracketed_at, arguments_at, named_at, cast_at, closed_at, place_at}
 use Rattle.std.proofs.lemmas.Result.{err_from_is_err_and}
 use Rattle.isp_grammar.proofs.Basics.{head_none, head_some}
 use Rattle.isp_grammar.proofs.Loops.{list_fails, list_last, list_step, listed_none, listed_some}
+use Rattle.isp_grammar.proofs.SimpleSteps.{fails_then}
 use Rattle.isp_grammar.proofs.ExprSteps.{depth_pos, arguments_past, depth_past, first_fails, loop_begins, loop_ends, loop_deep, loop_fails, loop_step, test_fails, test_alone, test_deep, parts_fail, parts_made, operand_step, target_step, target_none, target_deep, expr_off, expr_deep, bracket_typed, bracket_closed}
 use Rattle.isp_grammar.proofs.expr.+expr.Goals as goal
 
@@ -171,3 +172,100 @@ unary-returns-clause-value t c =
     let w : c.args.tokens.now ≡ c.in-Some.first.now ∷ c.in-Some.rest.now = search rules in
     let p : expr_at c.args.left 0 c.args.tokens.now ≡ operand_from (expr_at (c.args.left - 1)) (target_at (c.args.left - 1)) (start_of c.in-Some.first.now.kind) c.in-Some.first.now c.in-Some.rest.now = rw w (operand_step c.args.left c.in-Some.first.now c.in-Some.rest.now (omega arith)) in
     rw p c.unary_from.ensures.value
+
+-- ---- parts in turn
+
+pub index-returns-in_err-value-clause-value : goal.index-returns-in_err-value-clause-value
+unfolding bracketed_at
+index-returns-in_err-value-clause-value t c =
+    let p = err_from_is_err_and c.from_residual.result c.from_residual.ensures.1 in
+    rw (p.1, p.2) (fails_then c.in_err-value.field-0.0 _ _ c.in_err-value.ensures.value)
+
+pub index-returns-in_err-close-clause-value : goal.index-returns-in_err-close-clause-value
+unfolding bracketed_at
+index-returns-in_err-close-clause-value t c =
+    let p = err_from_is_err_and c.from_residual-in_err-close.result c.from_residual-in_err-close.ensures.1 in
+    rw (p.1, p.2, c.in_ok-value.ensures.value) (fails_then c.in_err-close.field-0.0 _ _ c.in_err-close.ensures.value)
+
+pub index-returns-clause-value : goal.index-returns-clause-value
+unfolding bracketed_at
+index-returns-clause-value t c = rw (c.in_ok-value.ensures.value, c.in_ok-close.ensures.value) refl
+
+pub closed_arguments-returns-in_err-all-clause-value : goal.closed_arguments-returns-in_err-all-clause-value
+unfolding arguments_at
+closed_arguments-returns-in_err-all-clause-value t c =
+    let p = err_from_is_err_and c.from_residual.result c.from_residual.ensures.1 in
+    rw (p.1, p.2) (fails_then c.in_err-all.field-0.0 _ _ c.in_err-all.ensures.value)
+
+pub closed_arguments-returns-in_err-close-clause-value : goal.closed_arguments-returns-in_err-close-clause-value
+unfolding arguments_at
+closed_arguments-returns-in_err-close-clause-value t c =
+    let p = err_from_is_err_and c.from_residual-in_err-close.result c.from_residual-in_err-close.ensures.1 in
+    rw (p.1, p.2, c.in_ok-all.ensures.value) (fails_then c.in_err-close.field-0.0 _ _ c.in_err-close.ensures.value)
+
+pub closed_arguments-returns-clause-value : goal.closed_arguments-returns-clause-value
+unfolding arguments_at
+closed_arguments-returns-clause-value t c = rw (c.in_ok-all.ensures.value, c.in_ok-close.ensures.value) refl
+
+pub named-returns-in_err-word-clause-value : goal.named-returns-in_err-word-clause-value
+unfolding named_at
+named-returns-in_err-word-clause-value t c =
+    let p = err_from_is_err_and c.from_residual.result c.from_residual.ensures.1 in
+    rw (p.1, p.2) (fails_then c.in_err-word.field-0.0 _ _ (fails_then c.in_err-word.field-0.0 _ _ c.in_err-word.ensures.value))
+
+pub named-returns-in_err-suffix-clause-value : goal.named-returns-in_err-suffix-clause-value
+unfolding named_at
+named-returns-in_err-suffix-clause-value t c =
+    let p = err_from_is_err_and c.from_residual-in_err-suffix.result c.from_residual-in_err-suffix.ensures.1 in
+    rw (p.1, p.2, c.in_ok-word.ensures.value) (fails_then c.in_err-suffix.field-0.0 _ _ (fails_then c.in_err-suffix.field-0.0 _ _ c.in_err-suffix.ensures.value))
+
+pub cast-returns-in_err-ty-clause-value : goal.cast-returns-in_err-ty-clause-value
+unfolding cast_at
+cast-returns-in_err-ty-clause-value t c =
+    let p = err_from_is_err_and c.from_residual.result c.from_residual.ensures.1 in
+    rw (p.1, p.2) (fails_then c.in_err-ty.field-0.0 _ _ (fails_then c.in_err-ty.field-0.0 _ _ c.in_err-ty.ensures.value))
+
+pub closed-returns-in_err-inside-clause-value : goal.closed-returns-in_err-inside-clause-value
+unfolding closed_at
+closed-returns-in_err-inside-clause-value t c =
+    let p = err_from_is_err_and c.from_residual.result c.from_residual.ensures.1 in
+    rw (p.1, p.2) (fails_then c.in_err-inside.field-0.0 _ _ (fails_then c.in_err-inside.field-0.0 _ _ c.in_err-inside.ensures.value))
+
+pub closed-returns-in_err-close-clause-value : goal.closed-returns-in_err-close-clause-value
+unfolding closed_at
+closed-returns-in_err-close-clause-value t c =
+    let p = err_from_is_err_and c.from_residual-in_err-close.result c.from_residual-in_err-close.ensures.1 in
+    rw (p.1, p.2, c.in_ok-inside.ensures.value) (fails_then c.in_err-close.field-0.0 _ _ (fails_then c.in_err-close.field-0.0 _ _ c.in_err-close.ensures.value))
+
+pub prefixed-returns-in_err-operand-clause-value : goal.prefixed-returns-in_err-operand-clause-value
+prefixed-returns-in_err-operand-clause-value t c =
+    let p = err_from_is_err_and c.from_residual.result c.from_residual.ensures.1 in
+    rw (p.1, p.2) (fails_then c.in_err-operand.field-0.0 _ _ c.in_err-operand.ensures.value)
+
+pub parts-returns-in_err-then-clause-value : goal.parts-returns-in_err-then-clause-value
+unfolding parts_at
+parts-returns-in_err-then-clause-value t c =
+    let p = err_from_is_err_and c.from_residual.result c.from_residual.ensures.1 in
+    rw (p.1, p.2) (fails_then c.in_err-then.field-0.0 _ _ c.in_err-then.ensures.value)
+
+pub parts-returns-in_err-colon-clause-value : goal.parts-returns-in_err-colon-clause-value
+unfolding parts_at
+parts-returns-in_err-colon-clause-value t c =
+    let p = err_from_is_err_and c.from_residual-in_err-colon.result c.from_residual-in_err-colon.ensures.1 in
+    rw (p.1, p.2, c.in_ok-then.ensures.value) (fails_then c.in_err-colon.field-0.0 _ _ (fails_then c.in_err-colon.field-0.0 _ _ c.in_err-colon.ensures.value))
+
+pub parts-returns-in_err-otherwise-clause-value : goal.parts-returns-in_err-otherwise-clause-value
+unfolding parts_at
+parts-returns-in_err-otherwise-clause-value t c =
+    let p = err_from_is_err_and c.from_residual-in_err-otherwise.result c.from_residual-in_err-otherwise.ensures.1 in
+    rw (p.1, p.2, c.in_ok-then.ensures.value, c.in_ok-colon.ensures.value) (fails_then c.in_err-otherwise.field-0.0 _ _ (fails_then c.in_err-otherwise.field-0.0 _ _ c.in_err-otherwise.ensures.value))
+
+pub parts-returns-clause-value : goal.parts-returns-clause-value
+unfolding parts_at
+parts-returns-clause-value t c = rw (c.in_ok-then.ensures.value, c.in_ok-colon.ensures.value, c.in_ok-otherwise.ensures.value) refl
+
+pub place_from-returns-in_err-word-clause-value : goal.place_from-returns-in_err-word-clause-value
+unfolding place_at
+place_from-returns-in_err-word-clause-value t c =
+    let p = err_from_is_err_and c.from_residual.result c.from_residual.ensures.1 in
+    rw (p.1, p.2) (fails_then c.in_err-word.field-0.0 _ _ (fails_then c.in_err-word.field-0.0 _ _ c.in_err-word.ensures.value))
