@@ -4,8 +4,6 @@
 #[cfg(test)]
 mod arguments;
 #[cfg(test)]
-mod calls;
-#[cfg(test)]
 mod commands;
 #[cfg(test)]
 mod covered;
