@@ -97,12 +97,7 @@ only gang text tree r a b program s same = at r a b
 
 -- ---- what is compiled
 
--- a text that is refused is not that of a program all of which is compiled
-pub front_only : (gang : Gang) (text : List ℕ) (r : Result Checked SourceFault) → ((program : Program) → IsSource gang text program → MatchResult r (λ c. program_of c ≡ program) (λ e. e ≡ Memory)) → (program : Program) → IsCovered gang text program → IfErr r (λ e. e ≡ Memory)
-front_only gang text (Ok c) only program k = tt
-front_only gang text (Err e) only program k = only program k.source
-
--- nor is one of which the first node without code stands somewhere
+-- a text of which the first node without code stands somewhere is not that of a program all of which is compiled
 pub left_only : (gang : Gang) (text : List ℕ) (p : Program) (at : Span) → program_left p ≡ Some at → ((program : Program) → IsSource gang text program → p ≡ program) → (program : Program) → IsCovered gang text program → ⊥
 left_only gang text p at first only program k =
     let none : None ≡ Some at = sym k.whole ∙ ap program_left (sym (only program k.source)) ∙ first in

@@ -65,7 +65,9 @@ pub fn compile(alloc: Global, text: &str, gang: Gang) -> Result<Image, SourceFau
     let code = lower(alloc, &checked)?;
     match verify(alloc, code) {
         Ok(verified) => Ok(Image { verified }),
-        Err((_code, VerifyFault::Memory)) => Err(SourceFault::Memory),
-        Err((_code, VerifyFault::Refused(_fault))) => unreachable!(),
+        Err((_code, refusal)) => match refusal {
+            VerifyFault::Memory => Err(SourceFault::Memory),
+            VerifyFault::Refused(_fault) => unreachable!(),
+        },
     }
 }
