@@ -18,7 +18,13 @@ use Rattle.isp_machine.specs.declared.stop.Stop.TheVariants.{Running, Trapped, E
 use Rattle.isp_store.specs.Held.{shapes_of}
 use Rattle.isp_verify.specs.Progress.{NeverStuck}
 use Rattle.isp_engine.specs.declared.report.Report.{Report}
-use Rattle.isp_engine.specs.Reports.{Reports}
+use Rattle.isp_bind.specs.Binding.{bound_of}
+use Rattle.isp_bind.specs.declared.fault.BindFault.{BindFault}
+use Rattle.isp_bind.specs.declared.fault.BindFault.TheVariants as bind
+use Rattle.isp_engine.specs.Faults.{run_fault}
+use Rattle.isp_engine.specs.Reports.{Reports, Runs, Executes}
+use Rattle.isp_engine.specs.declared.fault.RunFault.{RunFault}
+use Rattle.isp_engine.specs.declared.fault.RunFault.TheVariants as fault
 use Rattle.isp_engine.specs.Stops.{StopsAs}
 
 -- a run that memory did not stop is one of so many instructions, and stands as it stopped
@@ -35,9 +41,9 @@ stops b old now Ended g ne = g.1
 stops b old now Memory g ne = absurd (ne refl)
 
 -- the machine that began with an entry's first state is, after its run, where the entry is
-module _ (code : Listing) (entry : List ℕ) (xs : List Argument) (b : ℕ) (old now : Kept) (begins : Starts code entry xs old) (stop : Stop) (gives : RunGives b old now stop) (as : StopsAs stop (state now)) where
+module _ (code : Listing) (entry : List ℕ) (xs : List Argument) (b : ℕ) (old now : Kept) (begins : Starts code entry xs old) (stop : Stop) (gives : RunGives b old now stop) (stands : StopsAs stop (state now)) where
   abbrev ran : Made b old now
-  ran = made b old now stop gives as
+  ran = made b old now stop gives stands
 
   pub given_is : shapes_of (rows xs) ≡ given now
   given_is = sym (ran.given_same ∙ begins.given_are)
@@ -55,3 +61,40 @@ module _ (code : Listing) (entry : List ℕ) (xs : List Argument) (b : ℕ) (old
       ap (outcome (rows xs)) (ran.state_is ∙ ap (λ c. after c b (state old)) begins.code_is ∙ ap (after code b) begins.state_is)
       ∙ ap (λ k. outcome_after code k begins.routine xs b) same
       ∙ ap (λ h. outcome_after code f h xs b) routine
+
+-- ---- what is answered for the function that is exported under a name
+
+module _ (code : Listing) (fine : NeverStuck code) (entry json : List ℕ) (b : ℕ) (f : ℕ) (h : Routine) (x : IsExport code entry f h) (ps : List Parameter) (is : ps ≡ parameters_of h) where
+  -- it is the only one
+  only : (f1 : ℕ) (g : Routine) → IsExport code entry f1 g → (f ≡ f1) × (h ≡ g)
+  only f1 g y =
+      let same : f ≡ f1 = fine.once entry f f1 h g x y in
+      (same, some_same h g (sym x.found ∙ ap (slice_get code.routines) same ∙ y.found))
+    where
+      some_same : (h g : Routine) → Some h ≡ Some g → h ≡ g
+      some_same h g e = cc
+
+  -- the machine's report
+  pub reported : (xs : List Argument) → bound_of ps json ≡ Ok xs → (r : Report) → ((f1 : ℕ) (g : Routine) → IsExport code entry f1 g → Reports ps (outcome_after code f1 g xs b) r) → Executes code entry json b (Ok r)
+  reported xs bound r reports = record {
+    none = λ no. absurd (no f h x);
+    runs = λ f1 g y.
+        let params : ps ≡ parameters_of g = is ∙ ap parameters_of (only f1 g y).1 in
+        (xs, subst (λ qs. bound_of qs json ≡ Ok xs) params bound, subst (λ qs. Reports qs (outcome_after code f1 g xs b) r) params (reports f1 g y));
+  }
+
+  -- want of memory
+  pub wanting : Executes code entry json b (Err fault.Memory)
+  wanting = record { none = λ no. absurd (no f h x); runs = λ f1 g y ne. absurd (ne refl) }
+
+  -- refused arguments
+  not_memory : (z : BindFault) → (run_fault z ≡ fault.Memory → ⊥) → z ≡ bind.Memory → ⊥
+  not_memory z ne e = ne (ap run_fault e)
+
+  pub refused : (z : BindFault) → ((z ≡ bind.Memory → ⊥) → bound_of ps json ≡ Err z) → Executes code entry json b (Err (run_fault z))
+  refused z why = record {
+    none = λ no. absurd (no f h x);
+    runs = λ f1 g y ne.
+        let params : ps ≡ parameters_of g = is ∙ ap parameters_of (only f1 g y).1 in
+        (z, subst (λ qs. bound_of qs json ≡ Err z) params (why (not_memory z ne)), refl);
+  }

@@ -1,5 +1,5 @@
 //! Runs of compiled programs.
-ghost use Rattle.std.specs.Prelude.{◌≡◌, ℕ, List, IfOk};
+ghost use Rattle.std.specs.Prelude.{◌≡◌, ℕ, List, IfOk, OnOk};
 ghost use Rattle.isp_base.specs.Rows.{Row};
 ghost use Rattle.isp_base.specs.Types.{gang_width};
 ghost use Rattle.isp_base.specs.declared.types.Gang.{Gang};
@@ -7,6 +7,7 @@ ghost use Rattle.isp_code.specs.Entries.{IsEntry, IsExport};
 ghost use Rattle.isp_code.specs.Listing.{Routine};
 ghost use Rattle.isp_code.specs.Machine.{outcome, outcome_after};
 ghost use Rattle.isp_machine.specs.Kept.{given, state};
+ghost use Rattle.isp_machine.specs.declared.stop.Stop.TheVariants.{Memory};
 ghost use Rattle.isp_store.specs.Held.{shapes_of};
 ghost use Rattle.isp_engine.specs.Images.{IsCompilation};
 ghost use Rattle.isp_engine.specs.Meaning.{Means};
@@ -38,7 +39,8 @@ fn report<const N: usize>(
     machine: &Machine<'_, N>,
     stop: Stop,
 ) -> Result<Report, AllocError>
-    ensures { IfOk result (λ r. (rs : List Row) → shapes_of rs ≡ given machine.now → StopsAs stop (state machine.now) → Reports signature.now.params.items (outcome rs (state machine.now)) r) }
+    ensures reports { IfOk result (λ r. (rs : List Row) → shapes_of rs ≡ given machine.now → StopsAs stop (state machine.now) → Reports signature.now.params.items (outcome rs (state machine.now)) r) }
+    ensures ran { OnOk result (stop ≡ Memory → ⊥) }
 {
     let (ending, answer) = match stop {
         Stop::Ended => {
@@ -80,6 +82,25 @@ fn run<const N: usize>(
     Ok(report)
 }
 
+// The same for the gang that the code is for.
+fn run_for_gang(
+    alloc: Global,
+    code: &Verified,
+    entry: &str,
+    bound: Bound,
+    budget: u64,
+    signature: &Signature,
+) -> Result<Report, AllocError>
+    requires { (f : ℕ) × (g : Routine) × IsEntry code.now entry.now bound.arguments.items f g }
+    ensures { IfOk result (λ r. (f : ℕ) (g : Routine) → IsExport code.now entry.now f g → Reports signature.now.params.items (outcome_after code.now f g bound.arguments.items budget) r) }
+{
+    match code.gang() {
+        Gang::W4 => run::<4>(alloc, code, entry, bound, budget, signature),
+        Gang::W8 => run::<8>(alloc, code, entry, bound, budget, signature),
+        Gang::W16 => run::<16>(alloc, code, entry, bound, budget, signature),
+    }
+}
+
 /// Runs an exported function of a compiled program from arguments in JSON, for at most `budget`
 /// instructions.
 ///
@@ -98,14 +119,11 @@ pub fn execute(
         → Means compiled.program entry.now json.now budget result }
 {
     let code = image.verified();
+    let _code = code.code();
     let Some(signature) = code.signature(entry) else {
         return Err(RunFault::NoEntry);
     };
     let bound = bind(alloc, signature, json)?;
-    let report = match code.gang() {
-        Gang::W4 => run::<4>(alloc, code, entry, bound, budget, signature)?,
-        Gang::W8 => run::<8>(alloc, code, entry, bound, budget, signature)?,
-        Gang::W16 => run::<16>(alloc, code, entry, bound, budget, signature)?,
-    };
+    let report = run_for_gang(alloc, code, entry, bound, budget, signature)?;
     Ok(report)
 }
