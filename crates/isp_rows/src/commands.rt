@@ -15,7 +15,7 @@ const FILES: [(&str, &str); 14] = [
         "varying.ispc",
         "export void f(uniform int a[]) { a[0] = programIndex; }",
     ),
-    ("value.ispc", "export void f(uniform int x) { }"),
+    ("value.ispc", "export void f(uniform int8 x) { }"),
     ("float.ispc", "export void f(uniform float a[]) { }"),
     ("four.json", "{\"a\":[5,6,7,8]}"),
     ("three.json", "{\"a\":[5,6,7]}"),
@@ -25,7 +25,7 @@ const FILES: [(&str, &str); 14] = [
     ("more.json", "{\"x\":1,\"y\":2}"),
     ("list.json", "[]"),
     ("cut.json", "{"),
-    ("far.json", "{\"x\":2147483648}"),
+    ("far.json", "{\"x\":128}"),
     ("text.json", "{\"x\":\"1\"}"),
 ];
 

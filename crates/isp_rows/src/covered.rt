@@ -1,60 +1,141 @@
 //! Programs of the whole language: what is compiled today, and where 90 stands for what is not.
 use isp_base::Gang;
 use isp_engine::{compile, front};
+use std::alloc::Global;
+use std::process::Abort;
 use std::test::Fail;
+
+fn refused(rt: &impl Abort, alloc: Global, text: &str, line: &str) -> Result<(), Fail> {
+    let Err(fault) = compile(alloc, text, Gang::W4) else {
+        return Err(Fail::from("not refused"));
+    };
+    let found = format!(in alloc; "{fault}")?;
+    assert!(rt; found.as_str() == line, "{text}: {found}");
+    Ok(())
+}
 
 // The refusal of each text: the first node that is not compiled yet, an outer node before its parts.
 #[test]
 fn first_node_not_yet(rt: HostRuntime) -> Result<(), Fail> {
-    let alloc = rt.alloc();
     for (text, line) in [
-        ("export void f() { int x; }", "90 NotYet at 22..23"),
+        ("void f() { 1 / 0; }", "90 NotYet at 5..6"),
         (
-            "export void f() { int x = 1, y = 2; }",
-            "90 NotYet at 29..34",
+            "static int g(int x) { return x; } export void f() { while (true) ; }",
+            "90 NotYet at 11..12",
         ),
         (
-            "export void f() { const int x = 1; }",
-            "90 NotYet at 18..27",
+            "export void f() { } void g() { while (true) ; } void h() { }",
+            "90 NotYet at 25..26",
+        ),
+        ("export void f() { f(); }", "90 NotYet at 18..21"),
+        (
+            "export uniform int f(uniform int n) { if (n < 2) return 1; return n * f(n - 1); }",
+            "90 NotYet at 70..78",
         ),
         (
-            "export void f(const uniform int x) { }",
-            "90 NotYet at 14..31",
-        ),
-        ("export void f(uniform int8 a[]) { }", "90 NotYet at 14..26"),
-        ("export uniform int f() { return 1; }", "90 NotYet at 7..18"),
-        ("void f() { 1 / 0; }", "90 NotYet at 0..19"),
-        ("static export void f() { }", "90 NotYet at 0..26"),
-        (
-            "export void f(uniform int a[]) { a[0] += a[1] / 2; }",
-            "90 NotYet at 33..50",
+            "export void f(uniform int a[]) { a[programIndex] = 1 + max(a[programIndex], min(1, 2)); }",
+            "90 NotYet at 55..86",
         ),
         (
-            "export void f(uniform int a[]) { a[0] = a[1] * (2 + a[2] % 3) - 4; }",
-            "90 NotYet at 52..60",
+            "export void f(uniform int a[]) { a[reduce_add(1)] = reduce_add(2); }",
+            "90 NotYet at 35..48",
         ),
         (
-            "export void f(uniform int a[]) { a[a[0] / 2] = a[1] ? 3 : 4; }",
-            "90 NotYet at 35..43",
+            "export void f(uniform int a[]) { a[0] = a[1] * 2 + -(abs(a[2]) / 3) + abs(4); }",
+            "90 NotYet at 53..62",
         ),
         (
-            "export void f() { int x = 0x10; x = 4294967296; }",
-            "90 NotYet at 36..46",
+            "export void f(uniform int a[]) { a[0] = a[1] == 2 && any(true) ? min(1, 2) : 3; }",
+            "90 NotYet at 53..62",
         ),
         (
-            "export void f() { int x = 1 + -(int8)2; }",
-            "90 NotYet at 30..38",
+            "export void f() { int x = 1, y[3], z = (int8) clamp(x, 0, 2), w = min(x, 1); }",
+            "90 NotYet at 46..60",
         ),
         (
-            "export void f() { int x = programCount; }",
-            "90 NotYet at 26..38",
+            "export uniform int f(uniform int a[]) { return packed_store_active(a, programIndex); }",
+            "90 NotYet at 47..83",
+        ),
+        (
+            "export uniform int f(uniform int a[]) { int x; return 1 - packed_load_active(&a[1], &x); }",
+            "90 NotYet at 58..87",
+        ),
+        (
+            "export void f() { if (all(programIndex < 2)) while (true) ; }",
+            "90 NotYet at 22..43",
+        ),
+        (
+            "export void f() { if (programIndex < 2) { while (any(true)) ; } else f(); }",
+            "90 NotYet at 42..61",
+        ),
+        (
+            "export void f() { cif (programIndex < 2) ; else do f(); while (false); f(); }",
+            "90 NotYet at 48..70",
+        ),
+        (
+            "export void f() { for (int i = abs(1); i < 3; i++) f(); }",
+            "90 NotYet at 18..55",
+        ),
+        (
+            "export void f() { cwhile (programIndex < 2) break; }",
+            "90 NotYet at 18..50",
+        ),
+        (
+            "export void f() { { { foreach (i = 0 ... abs(4)) f(); } } }",
+            "90 NotYet at 22..53",
+        ),
+        (
+            "export void f() { foreach_tiled (j = 0 ... 2, i = 0 ... 4) ; }",
+            "90 NotYet at 18..60",
+        ),
+        (
+            "export void f() { return; foreach_active (i) f(); }",
+            "90 NotYet at 26..49",
+        ),
+        (
+            "export void f() { unmasked { f(); } }",
+            "90 NotYet at 18..35",
+        ),
+        (
+            "export void f() { int x; print(\"%\", abs(x)); }",
+            "90 NotYet at 25..44",
+        ),
+        (
+            "export void f() { assert(any(true)); }",
+            "90 NotYet at 18..36",
         ),
     ] {
-        let Err(fault) = compile(alloc, text, Gang::W4) else {
-            return Err(Fail::from("not refused"));
-        };
-        let found = format!(in alloc; "{fault}")?;
-        assert!(rt; found.as_str() == line, "{text}: {found}");
+        refused(&rt, rt.alloc(), text, line)?;
+    }
+    Ok(())
+}
+
+// Programs of which all is compiled.
+#[test]
+fn compiled(rt: HostRuntime) -> Result<(), Fail> {
+    let alloc = rt.alloc();
+    for text in [
+        "",
+        "export void f() { int x; }",
+        "export void f() { int x = 1, y = 2; }",
+        "export void f() { const int x = 1; }",
+        "export void f(const uniform int x) { }",
+        "export void f(uniform int8 a[]) { }",
+        "export uniform int f() { return 1; }",
+        "export void f() { 1 / 0; }",
+        "static export void f() { }",
+        "export void f(uniform int a[]) { a[0] += a[1] / 2; }",
+        "export void f(uniform int a[]) { a[0] = a[1] * (2 + a[2] % 3) - 4; }",
+        "export void f(uniform int a[]) { a[a[0] / 2] = a[1] ? 3 : 4; }",
+        "export void f() { int x = 0x10; x = 4294967296; }",
+        "export void f() { int x = 1 + -(int8)2; }",
+        "export void f() { int x = programCount; }",
+        "export void f() { int8 x[4]; uniform uint64 y[programCount]; x[programIndex & 3] = y[0]; }",
+        "export void f() { if (true) ; else { cif (programIndex < 1) return; } }",
+        "export void f(void) { bool x = programIndex && true || !false; x = x == true; x++; --x; }",
+    ] {
+        let image = compile(alloc, text, Gang::W4)?;
+        assert!(rt; image.code().gang() == Gang::W4, "{text}");
     }
     Ok(())
 }
@@ -62,31 +143,47 @@ fn first_node_not_yet(rt: HostRuntime) -> Result<(), Fail> {
 // 90 comes after all other refusals, wherever they stand.
 #[test]
 fn after_all_other_refusals(rt: HostRuntime) -> Result<(), Fail> {
-    let alloc = rt.alloc();
     for (text, line) in [
+        ("void f() { @ }", "1 BadByte at 11..12"),
+        ("void f() { while (true) ; 08; }", "2 BadNumber at 26..28"),
+        ("void f() { f() f(); }", "10 Unexpected at 15..16"),
+        ("void f() { float x; }", "12 LeftOut at 11..16"),
         (
-            "export void f() { y = 1; if (true) ; }",
-            "20 UnknownName at 18..19",
+            "export void f() { while (true) ; y = 1; }",
+            "20 UnknownName at 33..34",
         ),
         (
-            "export void f() { x = 1; } export void g() { { } }",
-            "20 UnknownName at 18..19",
+            "void f() { } export void g() { f(); int x; int x; }",
+            "21 NameTwice at 47..48",
         ),
         (
-            "export void f(uniform int x) { (x) = 1; }",
-            "22 Mismatch at 31..34",
+            "export void f(uniform int x) { f(x); (x) = 1; }",
+            "22 Mismatch at 37..40",
+        ),
+        ("void f() { f(1); }", "23 Arguments at 11..15"),
+        (
+            "export void f() { print(\"\"); const int c = 1; c = 2; }",
+            "24 ConstAssigned at 46..47",
         ),
         (
-            "export void f() { int x; } export void g() { break; }",
-            "31 BadExit at 45..50",
+            "export void f() { print(\"\"); print(\"%\"); }",
+            "25 BadPrint at 35..38",
         ),
-        ("export void f() { 1 = 2; }", "22 Mismatch at 18..19"),
+        (
+            "export void f() { assert(true); uniform int u = programIndex; }",
+            "30 VaryingToUniform at 48..60",
+        ),
+        (
+            "export void f() { while (true) ; } export void g() { break; }",
+            "31 BadExit at 53..58",
+        ),
+        (
+            "export void f() { foreach (i = 0 ... 4) foreach (j = 0 ... 4) ; }",
+            "32 NestedForeach at 40..47",
+        ),
+        ("void f() { } export int g() { }", "33 BadExport at 24..25"),
     ] {
-        let Err(fault) = compile(alloc, text, Gang::W4) else {
-            return Err(Fail::from("not refused"));
-        };
-        let found = format!(in alloc; "{fault}")?;
-        assert!(rt; found.as_str() == line, "{text}: {found}");
+        refused(&rt, rt.alloc(), text, line)?;
     }
     Ok(())
 }

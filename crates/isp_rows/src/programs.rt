@@ -1,0 +1,138 @@
+//! Programs that are compiled and run, against what comes out by the language's rules.
+//!
+//! A record of a table has five lines: `=== ` and its name; how what comes out was worked out, where p is the number of each
+//! instance; the gang's size, the entry, the budget and the arguments; what comes out, which is the answer, or the trap's kind and
+//! instance; and the source, in which a trap's place stands between `⟦` and `⟧`.
+use isp_base::Gang;
+use isp_engine::{Ending, compile, execute};
+use std::alloc::Global;
+use std::process::Abort;
+use std::test::Fail;
+
+mod independent;
+mod statements;
+mod worked;
+
+/// A program, how its entry is called, and what comes out.
+#[derive(Clone, Copy)]
+struct Row<'a> {
+    name: &'a str,
+    gang: Gang,
+    entry: &'a str,
+    budget: u64,
+    arguments: &'a str,
+    outcome: &'a str,
+    source: &'a str,
+}
+
+fn gang_named(lanes: &str) -> Gang {
+    match lanes {
+        "4" => Gang::W4,
+        "8" => Gang::W8,
+        _ => Gang::W16,
+    }
+}
+
+fn number(text: &str) -> Option<u64> {
+    match text.parse::<u64>() {
+        Ok(number) => Some(number),
+        Err(_fault) => None,
+    }
+}
+
+// What a record says: the working is for the reader alone.
+fn read(record: &str) -> Option<Row<'_>> {
+    let (name, rest) = record.split_once('\n')?;
+    let (_working, rest) = rest.split_once('\n')?;
+    let (call, rest) = rest.split_once('\n')?;
+    let (outcome, source) = rest.split_once('\n')?;
+    let (lanes, call) = call.split_once(' ')?;
+    let (entry, call) = call.split_once(' ')?;
+    let (budget, arguments) = call.split_once(' ')?;
+    Some(Row {
+        name,
+        gang: gang_named(lanes),
+        entry,
+        budget: number(budget)?,
+        arguments,
+        outcome,
+        source,
+    })
+}
+
+// A source without the brackets around a place, and what comes out with that place.
+fn unmarked(alloc: Global, outcome: &str, marked: &str) -> Result<(String, String), Fail> {
+    let Some((before, rest)) = marked.split_once('⟦') else {
+        let source = String::from_str(alloc, marked)?;
+        return Ok((source, String::from_str(alloc, outcome)?));
+    };
+    let Some((place, after)) = rest.split_once('⟧') else {
+        return Err(Fail::from("a place without an end"));
+    };
+    let Some((trap, instance)) = outcome.split_once(", ") else {
+        return Err(Fail::from("a trap without an instance"));
+    };
+    let source = format!(in alloc; "{before}{place}{after}")?;
+    let start = before.len();
+    let end = start + place.len();
+    let line = format!(in alloc; "{trap} at {start}..{end}, {instance}")?;
+    Ok((source, line))
+}
+
+// How the run of a compiled program stands, as a record says it.
+fn run(alloc: Global, source: &str, row: Row<'_>) -> Result<String, Fail> {
+    let image = compile(alloc, source, row.gang)?;
+    let report = execute(alloc, &image, row.entry, row.arguments, row.budget)?;
+    match (report.ending, &report.answer) {
+        (Ending::Ended, Some(text)) => Ok(String::from_str(alloc, text)?),
+        (Ending::Trapped(trap), None) => Ok(format!(in alloc; "{trap}")?),
+        (Ending::Running, None) => Ok(String::from_str(alloc, "running")?),
+        _ => Err(Fail::from("an answer where there is none, or none where there is one")),
+    }
+}
+
+fn compare(rt: &impl Abort, alloc: Global, row: Row<'_>) -> Result<(), Fail> {
+    let (source, wanted) = unmarked(alloc, row.outcome, row.source)?;
+    let found = run(alloc, source.as_str(), row)?;
+    let name = row.name;
+    assert!(rt; found == wanted, "{name}: {found}, not {wanted}");
+    Ok(())
+}
+
+fn compare_record(rt: &impl Abort, alloc: Global, record: &str) -> Result<(), Fail> {
+    match read(record) {
+        Some(row) => compare(rt, alloc, row),
+        None => Err(Fail::from("a record that says too little")),
+    }
+}
+
+// Each of so many records of a table.
+fn compare_all(rt: &impl Abort, alloc: Global, table: &str, count: usize) -> Result<(), Fail> {
+    let mut left = count;
+    for record in table.split("=== ") {
+        if !record.is_empty() {
+            compare_record(rt, alloc, record.trim_end())?;
+            let Some(fewer) = left.checked_sub(1) else {
+                return Err(Fail::from("more records than there should be"));
+            };
+            left = fewer;
+        }
+    }
+    assert!(rt; left == 0, "{left} records are not there");
+    Ok(())
+}
+
+#[test]
+fn worked_examples(rt: HostRuntime) -> Result<(), Fail> {
+    compare_all(&rt, rt.alloc(), worked::ROWS, worked::COUNT)
+}
+
+#[test]
+fn by_statement(rt: HostRuntime) -> Result<(), Fail> {
+    compare_all(&rt, rt.alloc(), statements::ROWS, statements::COUNT)
+}
+
+#[test]
+fn of_an_independent_implementation(rt: HostRuntime) -> Result<(), Fail> {
+    compare_all(&rt, rt.alloc(), independent::ROWS, independent::COUNT)
+}
