@@ -1,3 +1,4 @@
+pub mod Reading
 pub mod Fronts
 pub mod Binds
 pub mod Means

@@ -12,7 +12,7 @@ use std::alloc::{AllocError, Global};
 
 /// The code of a checked program. Where all of the program has code (`Checked::covered` finds the first that has none),
 /// it agrees with the program, and the verifier accepts it. Memory is refused too where a number would pass
-/// 4,294,967,295, and where a statement has no code yet.
+/// 4,294,967,295, and of what has no code yet.
 pub fn lower(alloc: Global, checked: &Checked) -> Result<Code, AllocError>
     ensures agrees { IfOk result (λ code. program_left (program_of checked.now) ≡ None → Agrees (program_of checked.now) code) }
     ensures accepted { IfOk result (λ code. program_left (program_of checked.now) ≡ None → code_fault code ≡ None) }
