@@ -134,8 +134,7 @@ fn compiled(rt: HostRuntime) -> Result<(), Fail> {
         "export void f() { if (true) ; else { cif (programIndex < 1) return; } }",
         "export void f(void) { bool x = programIndex && true || !false; x = x == true; x++; --x; }",
     ] {
-        let image = compile(alloc, text, Gang::W4)?;
-        assert!(rt; image.code().gang() == Gang::W4, "{text}");
+        assert!(rt; compile(alloc, text, Gang::W4).is_ok(), "{text}");
     }
     Ok(())
 }

@@ -60,22 +60,29 @@ fn read(record: &str) -> Option<Row<'_>> {
     })
 }
 
+// What comes out at a place, which is behind a kind and before an instance.
+fn placed(alloc: Global, outcome: &str, start: usize, end: usize) -> Result<String, Fail> {
+    match outcome.split_once(", ") {
+        Some((kind, instance)) => Ok(format!(in alloc; "{kind} at {start}..{end}, {instance}")?),
+        None => Err(Fail::from("a trap without an instance")),
+    }
+}
+
 // A source without the brackets around a place, and what comes out with that place.
 fn unmarked(alloc: Global, outcome: &str, marked: &str) -> Result<(String, String), Fail> {
+    let mut source = String::new(alloc);
     let Some((before, rest)) = marked.split_once('⟦') else {
-        let source = String::from_str(alloc, marked)?;
+        source.push_str(marked)?;
         return Ok((source, String::from_str(alloc, outcome)?));
     };
     let Some((place, after)) = rest.split_once('⟧') else {
         return Err(Fail::from("a place without an end"));
     };
-    let Some((trap, instance)) = outcome.split_once(", ") else {
-        return Err(Fail::from("a trap without an instance"));
-    };
-    let source = format!(in alloc; "{before}{place}{after}")?;
-    let start = before.len();
-    let end = start + place.len();
-    let line = format!(in alloc; "{trap} at {start}..{end}, {instance}")?;
+    source.push_str(before)?;
+    let start = source.len();
+    source.push_str(place)?;
+    let line = placed(alloc, outcome, start, source.len())?;
+    source.push_str(after)?;
     Ok((source, line))
 }
 
