@@ -1,5 +1,5 @@
 -- An evaluation is a run of the function that was found.
-use Rattle.std.proofs.Common.{◌≡◌, refl, sym, ap, subst, ◌∙◌, ℕ, zero, suc, ◌-◌, List, [], ◌∷◌, map, Option, Some, None, Result, Ok, Err, OnOk, IfErr, IfOk}
+use Rattle.std.proofs.Common.{◌≡◌, refl, sym, ap, subst, ◌∙◌, ℕ, zero, suc, ◌-◌, List, [], ◌∷◌, Option, Some, None, Result, Ok, Err, OnOk, IfErr, IfOk}
 use Rattle.std.specs.Prelude.{option_map, slice_get}
 use Rattle.isp_base.specs.Arguments.{rows}
 use Rattle.isp_base.specs.Sets.{everyone}
@@ -17,7 +17,7 @@ use Rattle.isp_meaning.specs.Outcomes.{Val}
 use Rattle.isp_meaning.specs.Payloads.{Payload}
 use Rattle.isp_meaning.specs.Runs.{gives_of, handed, meaning, outcome_of, state_of}
 use Rattle.isp_eval.specs.Ends.{Ends}
-use Rattle.isp_eval.specs.Entered.{Begins, NoneBegins}
+use Rattle.isp_eval.specs.Entered.{Begins}
 use Rattle.isp_eval.specs.Evaluated.{IsRun, outcome_seen}
 use Rattle.isp_fits.specs.Fits.{RowsFit}
 use Rattle.isp_eval.specs.Passing.{does_call}
@@ -38,7 +38,8 @@ got (x ∷ fs) zero = refl
 got (x ∷ fs) (suc k) = got fs k
 
 -- a function with which a run begins is there
-pub begins_there : (p : Program) (name : List ℕ) (xs : List Argument) (k : ℕ) → slice_get p.functions.items k ≡ None → Begins (program_of p) name xs k → ⊥
+pub begins_there : (p : Program) (name : List ℕ) (xs : List Argument) (k : ℕ)
+    → slice_get p.functions.items k ≡ None → Begins (program_of p) name xs k → ⊥
 begins_there p name xs k none b = some_none b.0 (sym b.1.export.found ∙ got p.functions.items k ∙ ap (option_map function_of) none)
   where
     some_none : (h : TFunction) → Some h ≡ None → ⊥
@@ -52,16 +53,20 @@ module _ (p q : Program) (same : p ≡ q) (name : List ℕ) (k n : ℕ) (g : Typ
   found : slice_get (functions_of p.functions.items) k ≡ Some (function_of g)
   found = got p.functions.items k ∙ ap (option_map function_of) there
 
-  run_is : (xs : List Argument) (o : Outcome) → Begins (program_of p) name xs k → outcome_seen o ≡ outcome_of (function_of g).gives xs (meaning (program_of p) k n xs) → IsRun (program_of q) name xs n o
+  run_is : (xs : List Argument) (o : Outcome) → Begins (program_of p) name xs k
+      → outcome_seen o ≡ outcome_of (function_of g).gives xs (meaning (program_of p) k n xs) → IsRun (program_of q) name xs n o
   run_is xs o b is =
-      subst (λ (z : Program). IsRun (program_of z) name xs n o) same (k, b, is ∙ ap (λ (f : Option TFunction). outcome_of (gives_of f) xs (meaning (program_of p) k n xs)) (sym found))
+      subst (λ (z : Program). IsRun (program_of z) name xs n o) same
+      (k, b, is ∙ ap (λ (f : Option TFunction). outcome_of (gives_of f) xs (meaning (program_of p) k n xs)) (sym found))
 
-  pub evaluated : (xs ys : List Argument) (e new : Evaluator) (ps : List Passed) (r : Result (Unit {0}) Stop) (o : Result Outcome EvalFault) → ys ≡ xs
+  pub evaluated : (xs ys : List Argument) (e new : Evaluator) (ps : List Passed) (r : Result (Unit {0}) Stop) (o : Result Outcome EvalFault)
+      → ys ≡ xs
       → IsFine (program_of q) → ((f : Fault) → ProgramBreach (program_of p) f → ⊥) → Begins (program_of p) name xs k
       → Starts (program_of p) n ys e → ArgumentsFit ys → ps ≡ handed 0 ys
       → OnOk r (Ends e new (does_call e (e.left - 1) (function_of g) (everyone (gang_width e.program.now.gang)) ps))
       → IfErr r (Halts e new (does_call e (e.left - 1) (function_of g) (everyone (gang_width e.program.now.gang)) ps))
-      → IfOk o (λ a. (v : Val Payload) → Stands r new v → RowsFit (rows ys) (state_of v).arrays → outcome_seen a ≡ outcome_of (function_of g).gives ys v)
+      → IfOk o (λ a. (v : Val Payload) → Stands r new v → RowsFit (rows ys) (state_of v).arrays
+          → outcome_seen a ≡ outcome_of (function_of g).gives ys v)
       → IfOk o (IsRun (program_of q) name xs n)
   evaluated xs ys e new ps r o given fine sound begins starts fits passed ended halted outcome =
       let b = subst (λ (zs : List Argument). Begins (program_of p) name zs k) (sym given) begins in

@@ -1,5 +1,5 @@
 -- Elements that fit their type.
-use Rattle.std.proofs.Common.{◌≡◌, refl, sym, ap, ap₂, ◌∙◌, subst, ℕ, zero, suc, ◌+◌, ◌%◌, ◌^◌, ◌<◌, ◌≤◌, List, [], ◌∷◌, length, drop, get_or, pow_pos, arith, ⊎_elim}
+use Rattle.std.proofs.Common.{◌≡◌, refl, sym, ap₂, subst, ℕ, zero, suc, ◌+◌, ◌^◌, ◌<◌, ◌≤◌, List, [], ◌∷◌, length, drop, get_or, pow_pos, arith, ⊎_elim}
 use Rattle.std.specs.Prelude.{slice_index}
 use Rattle.std.proofs.Math.Path.{fun_ext}
 use Rattle.std.proofs.lemmas.Bool.{cases_lt}
@@ -20,7 +20,8 @@ use Rattle.isp_eval.specs.Starting.{OneFits, ArgumentsFit}
 pub fits_cut : (rs : List Row) (f : ℕ → Lanes) → RowsFit rs f → rows_cut rs f ≡ rows_now rs f
 fits_cut [] f h = refl
 fits_cut (r ∷ rs) f h =
-    ap₂ (λ (g : Lanes) (xs : List Row). record { elem = r.elem; bits = tabulate (length r.bits) g } ∷ xs) (fun_ext (λ e. mod-eq_of_lt (h.0 e))) (fits_cut rs (λ b. f (suc b)) h.1)
+    ap₂ (λ (g : Lanes) (xs : List Row). record { elem = r.elem; bits = tabulate (length r.bits) g } ∷ xs)
+    (fun_ext (λ e. mod-eq_of_lt (h.0 e))) (fits_cut rs (λ b. f (suc b)) h.1)
 
 -- ---- elements one by one
 
@@ -36,11 +37,16 @@ FitBelow n t bits = (k : ℕ) → k < n → slice_index bits k < 2 ^ width t
 pub fit_none : (t : Elem) (bits : List ℕ) → FitBelow 0 t bits
 fit_none t bits k h = absurd (omega (arith, h))
 
-pub fit_more : (n : ℕ) (t : Elem) (bits : List ℕ) (x : ℕ) → x ≡ slice_index bits n → x < 2 ^ width t → FitBelow n t bits → FitBelow (n + 1) t bits
-fit_more n t bits x is fits f k h = ⊎_elim (λ (low : k < n). f k low) (λ (high : n ≤ k). subst (λ (m : ℕ). slice_index bits m < 2 ^ width t) (let last : n ≡ k = omega (arith, h, high) in last) (subst (λ (y : ℕ). y < 2 ^ width t) is fits)) (cases_lt k n)
+pub fit_more : (n : ℕ) (t : Elem) (bits : List ℕ) (x : ℕ)
+    → x ≡ slice_index bits n → x < 2 ^ width t → FitBelow n t bits → FitBelow (n + 1) t bits
+fit_more n t bits x is fits f k h =
+    ⊎_elim (λ (low : k < n). f k low)
+    (λ (high : n ≤ k). subst (λ (m : ℕ). slice_index bits m < 2 ^ width t) (let last : n ≡ k = omega (arith, h, high) in last) (subst (λ (y : ℕ). y < 2 ^ width t) is fits)) (cases_lt k n)
 
 pub fit_all : (n : ℕ) (t : Elem) (bits : List ℕ) → length bits ≤ n → FitBelow n t bits → Fit t bits
-fit_all n t bits all f k = ⊎_elim (λ (low : k < n). f k low) (λ (high : n ≤ k). subst (λ (y : ℕ). y < 2 ^ width t) (sym (past_end bits k (omega (arith, all, high)))) (pow_pos (width t))) (cases_lt k n)
+fit_all n t bits all f k =
+    ⊎_elim (λ (low : k < n). f k low)
+    (λ (high : n ≤ k). subst (λ (y : ℕ). y < 2 ^ width t) (sym (past_end bits k (omega (arith, all, high)))) (pow_pos (width t))) (cases_lt k n)
 
 -- ---- arguments one by one
 
@@ -61,7 +67,8 @@ FitFrom k xs = EachFits (drop k xs) → EachFits xs
 pub arguments_begin : (xs : List Argument) → FitFrom 0 xs
 arguments_begin xs h = h
 
-pub arguments_more : (k : ℕ) (xs : List Argument) (x : Argument) → k < length xs → x ≡ get_or xs k x → OneFits x → FitFrom k xs → FitFrom (k + 1) xs
+pub arguments_more : (k : ℕ) (xs : List Argument) (x : Argument)
+    → k < length xs → x ≡ get_or xs k x → OneFits x → FitFrom k xs → FitFrom (k + 1) xs
 arguments_more k xs x h e one left rest = let i : k + 1 ≡ suc k = omega arith in left (by k xs h e (subst (λ (n : ℕ). EachFits (drop n xs)) i rest))
   where
     by : (k : ℕ) (xs : List Argument) → k < length xs → x ≡ get_or xs k x → EachFits (drop (suc k) xs) → EachFits (drop k xs)

@@ -1,8 +1,8 @@
-use Rattle.std.proofs.Common.{◌≡◌, sym, ap, subst, ◌∙◌, map}
+use Rattle.std.proofs.Common.{sym, ap, subst, ◌∙◌, map}
 use Rattle.std.specs.Prelude.{option_map, slice_get}
 use Rattle.isp_typed.specs.Views.{program_of}
 use Rattle.isp_typed.specs.declared.function.Program.{Program}
-use Rattle.isp_eval.specs.Entered.{Begins, NoneBegins}
+use Rattle.isp_eval.specs.Entered.{NoneBegins}
 use Rattle.isp_eval.specs.Seen.{passed_seen}
 use Rattle.isp_eval.proofs.Evaluating.{begins_there, evaluated}
 use Rattle.isp_eval.proofs.run.evaluate.Goals as goal

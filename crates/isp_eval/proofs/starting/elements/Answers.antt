@@ -1,6 +1,6 @@
 use Rattle.std.proofs.Common.{arith}
 use Rattle.std.proofs.lemmas.Grind.{common_steps}
-use Rattle.isp_eval.proofs.Fitting.{fit_none, fit_more, fit_all}
+use Rattle.isp_eval.proofs.Fitting.{fit_more, fit_all}
 use Rattle.isp_eval.proofs.starting.elements.Goals as goal
 
 pub loop-place-preserved : goal.loop-place-preserved

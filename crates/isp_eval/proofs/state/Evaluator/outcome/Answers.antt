@@ -4,7 +4,6 @@ use Rattle.isp_eval.specs.Cut.{rows_cut}
 use Rattle.isp_eval.specs.Settled.{Stands}
 use Rattle.isp_eval.specs.Stores.{stores_of}
 use Rattle.isp_eval.specs.declared.state.Stop.{Stop}
-use Rattle.isp_eval.specs.declared.state.Stop.TheVariants as stop
 use Rattle.isp_eval.proofs.Calling.{ended_as, trapped_as}
 use Rattle.isp_eval.proofs.state.Evaluator.outcome.Goals as goal
 
