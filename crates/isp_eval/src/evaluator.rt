@@ -7,6 +7,7 @@ ghost use Rattle.isp_eval.specs.Ends.{Ends};
 ghost use Rattle.isp_eval.specs.Passing.{does_call};
 ghost use Rattle.isp_gang.specs.Growing.{values_of};
 ghost use Rattle.isp_eval.specs.Seen.{frame_seen, passed_seen, state_seen};
+ghost use Rattle.isp_eval.specs.Starting.{ArgumentsFit};
 ghost use Rattle.isp_eval.specs.Starts.{Starts, nothing_written};
 ghost use Rattle.isp_eval.specs.Stores.{stores_of};
 ghost use Rattle.isp_eval.specs.Tasks.{Halts, rest};
@@ -31,7 +32,8 @@ pub fn started<'a>(
     arguments: &[Argument],
     turns: u64,
 ) -> Result<Evaluator<'a>, AllocError>
-    ensures { IfOk result (Starts (program_of program.now) turns arguments.now) }
+    ensures starts { IfOk result (Starts (program_of program.now) turns arguments.now) }
+    ensures fits { IfOk result (λ e. ArgumentsFit arguments.now) }
 {
     let stores = stores(alloc, arguments)?;
     let sizes = sizes(alloc, arguments)?;

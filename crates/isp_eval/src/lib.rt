@@ -28,4 +28,4 @@ mod tasks;
 
 pub use fault::EvalFault;
 pub use outcome::Outcome;
-pub use run::{evaluate, work};
+pub use run::evaluate;

@@ -1,8 +1,16 @@
 //! The run of an entry.
-ghost use Rattle.std.specs.Prelude.{IfErr, IfOk};
-ghost use Rattle.isp_typed.specs.Views.{program_of};
-ghost use Rattle.isp_eval.specs.Evaluated.{IsRefused, IsRun};
+ghost use Rattle.std.specs.Prelude.{◌≡◌, IfErr, IfOk};
+ghost use Rattle.isp_base.specs.Arguments.{rows};
+ghost use Rattle.isp_typed.specs.Views.{function_of, program_of};
+ghost use Rattle.isp_meaning.specs.Outcomes.{Val};
+ghost use Rattle.isp_meaning.specs.Payloads.{Payload};
+ghost use Rattle.isp_meaning.specs.Runs.{outcome_of, state_of};
+ghost use Rattle.isp_fits.specs.Fits.{RowsFit};
+ghost use Rattle.isp_eval.specs.Evaluated.{IsRefused, IsRun, outcome_seen};
+ghost use Rattle.isp_eval.specs.Settled.{Stands};
+ghost use Rattle.isp_eval.specs.declared.fault.EvalFault.TheVariants.{Memory};
 
+use crate::calls::function_at;
 use crate::ending::{answer, arrays};
 use crate::entry::find;
 use crate::evaluator::started;
@@ -34,7 +42,7 @@ pub fn evaluate(
     let Some(number) = find(program, entry, bound) else {
         return Err(EvalFault::NoEntry);
     };
-    let Some(function) = program.functions.get(number) else {
+    let Some(function) = function_at(program.functions.as_slice(), number) else {
         return Err(EvalFault::NoEntry);
     };
     let arguments = bound.arguments.as_slice();
@@ -44,32 +52,6 @@ pub fn evaluate(
     evaluator.outcome(function, arguments, ending)
 }
 
-/// How many nodes a run reaches up to its end, trap or cut, and at most the greatest number of 64 bits.
-///
-/// Refused as `evaluate` is.
-pub fn work(
-    alloc: Global,
-    checked: &Checked,
-    entry: &str,
-    bound: &Bound,
-    turns: u64,
-) -> Result<u64, EvalFault> {
-    let program = checked.program();
-    let Some(number) = find(program, entry, bound) else {
-        return Err(EvalFault::NoEntry);
-    };
-    let Some(function) = program.functions.get(number) else {
-        return Err(EvalFault::NoEntry);
-    };
-    let arguments = bound.arguments.as_slice();
-    let mut evaluator = started(alloc, program, arguments, turns)?;
-    let passed = handed(alloc, arguments)?;
-    match evaluator.done(function, passed.as_slice()) {
-        Err(Stop::Memory) => Err(EvalFault::Memory),
-        _ => Ok(evaluator.work),
-    }
-}
-
 impl<'a> Evaluator<'a> {
     // How the run stands.
     fn outcome(
@@ -77,7 +59,11 @@ impl<'a> Evaluator<'a> {
         function: &TypedFunction,
         arguments: &[Argument],
         ending: Result<(), Stop>,
-    ) -> Result<Outcome, EvalFault> {
+    ) -> Result<Outcome, EvalFault>
+        ensures ok { IfOk result (λ o. (v : Val Payload) → Stands ending self.entry v → RowsFit (rows arguments.now) (state_of v).arrays
+            → outcome_seen o ≡ outcome_of (function_of function.now).gives arguments.now v) }
+        ensures err { IfErr result (λ e. e ≡ Memory) }
+    {
         let alloc = self.alloc;
         match ending {
             Ok(()) => Ok(Outcome::Ends {
