@@ -1,0 +1,418 @@
+-- What each kind of statement leaves to be done.
+use Rattle.std.proofs.Common.{◌≡◌, refl, sym, ap, ap₂, subst, ◌∙◌, ℕ, ◌+◌, List, [], ◌∷◌, ◌++◌, map, Bor, Box, Global, Vec, Bool, Option, Some, None, Result, Ok, Err, OnOk, IfErr}
+use Rattle.std.specs.Prelude.{option_map, option_copied}
+use Rattle.isp_base.specs.Sets.{Mask, everyone, flag_of, nobody}
+use Rattle.isp_base.specs.Maps.{lane_of, over}
+use Rattle.isp_base.specs.Traps.{trap}
+use Rattle.isp_base.specs.Types.{gang_width}
+use Rattle.isp_base.specs.declared.trap.TrapKind.TheVariants.{Assert}
+use Rattle.isp_base.specs.declared.types.Rate.TheVariants.{Uniform, Varying}
+use Rattle.isp_base.specs.declared.types.Span.{Span}
+use Rattle.isp_base.specs.declared.types.Ty.{Ty}
+use Rattle.isp_tree.specs.declared.stmt.Jump.{Jump}
+use Rattle.isp_typed.specs.declared.expr.TypedExpr.{TypedExpr}
+use Rattle.isp_typed.specs.declared.stmt.TypedFirst.{TypedFirst}
+use Rattle.isp_typed.specs.declared.stmt.TypedFirst.TheVariants as first
+use Rattle.isp_typed.specs.declared.stmt.TypedItem.{TypedItem}
+use Rattle.isp_typed.specs.declared.stmt.TypedSimple.{TypedSimple}
+use Rattle.isp_typed.specs.declared.stmt.TypedStmt.{TypedStmt}
+use Rattle.isp_typed.specs.declared.stmt.TypedBlock.{TypedBlock}
+use Rattle.isp_typed.specs.Typed.{TStmt, t_exprs, t_return}
+use Rattle.isp_typed.specs.Views.{block_of, expr_of, exprs_of, first_of, items_of, simple_of, stmt_of, program_of}
+use Rattle.isp_meaning.specs.State.{State, Frame, tick}
+use Rattle.isp_meaning.specs.Payloads.{Payload, One, is_false, offender, sole, spread}
+use Rattle.isp_meaning.specs.Outcomes.{Val, Gives, Fails, Stops, Res, Went, Done, go_on, went_all, with_value, checked}
+use Rattle.isp_meaning.specs.Expressions.{values}
+use Rattle.isp_meaning.specs.Simple.{simple, items, first_part}
+use Rattle.isp_meaning.specs.Printing.{print_text, shown_all}
+use Rattle.isp_meaning.specs.Statements.{branches, all_go, answered, answered_at, jumped}
+use Rattle.isp_meaning.specs.Calls.{calls_at}
+use Rattle.isp_gang.specs.Seen.{payload_of}
+use Rattle.isp_gang.specs.declared.computed.Computed.{Computed}
+use Rattle.isp_gang.specs.declared.computed.Computed.TheVariants as computed
+use Rattle.isp_eval.specs.Seen.{frame_seen, state_seen, answer_in}
+use Rattle.isp_eval.specs.Tasks.{Store, Parts, Goes, On, Trapped, First, Changes, Halts, refused, trapped, cut, go, given, ran, done, does, rest, Comes, store_seen, parts_seen, all_parts, left_as, value_at, calls_in, block_at, blocks, run_in, perhaps_run, tested_in, turns_in, tests_on, turns_on, go_with, gather}
+use Rattle.isp_eval.specs.Arms.{declares_all, all_does, chooses, unmasks, jumps, gives, claims, looping, first_in, firsts, enters, enters_by_turn, shows, prints, prints_all}
+use Rattle.isp_eval.specs.declared.loops.Turning.{Turning}
+use Rattle.isp_eval.specs.declared.state.Evaluator.{Evaluator}
+use Rattle.isp_eval.specs.declared.state.Sets.{Sets}
+use Rattle.isp_eval.specs.declared.state.Stop.{Stop}
+use Rattle.isp_eval.specs.declared.state.Stop.TheVariants as stop
+use Rattle.isp_eval.specs.declared.tasks.Branches.{Branches}
+use Rattle.isp_eval.specs.declared.tasks.Gathering.TheVariants as gathering
+use Rattle.isp_eval.specs.declared.tasks.Task.{Task}
+use Rattle.isp_eval.specs.declared.tasks.Task.TheVariants as task
+use Rattle.isp_eval.proofs.Steps.{go_assoc}
+use Rattle.isp_eval.proofs.Runs.{reran, then_ran, value_ran, done_ran}
+use Rattle.isp_eval.proofs.Branching.{comes_same, comes_then, leaves, pushes}
+use Rattle.isp_eval.proofs.Changes.{changed_rest, changed_store}
+use Rattle.isp_eval.proofs.Turns.{halts_same}
+
+-- ---- a statement is what its view is
+
+module _ (old new : Evaluator) (x : Bor TypedStmt) (set : List Bool) (t : TStmt) (f : Store → Goes) (is : stmt_of x.now ≡ t)
+    (e : (w : ℕ) → ran (store_seen old w) (run_in (program_of old.program.now) old.turns (store_seen old w).frame (store_seen old w).left t (flag_of set) (state_seen old w)) ≡ f (store_seen old w)) where
+  seen : (w : ℕ) → does old (task.Run x set) (store_seen old w) ≡ f (store_seen old w)
+  seen w = ap (λ (y : TStmt). ran (store_seen old w) (run_in (program_of old.program.now) old.turns (store_seen old w).frame (store_seen old w).left y (flag_of set) (state_seen old w))) is ∙ e w
+
+  pub arm : Comes old new f → Comes old new (does old (task.Run x set))
+  arm c = comes_same old new (does old (task.Run x set)) f seen c
+
+  pub arm_ok : (r : Result (Unit {0}) Stop) → OnOk r (Comes old new f) → OnOk r (Comes old new (does old (task.Run x set)))
+  arm_ok (Ok a) c = arm c
+  arm_ok (Err a) c = tt
+
+  pub arm_err : (r : Result (Unit {0}) Stop) → IfErr r (Halts old new f) → IfErr r (Halts old new (does old (task.Run x set)))
+  arm_err (Ok a) h = tt
+  arm_err (Err a) h = halts_same old new (does old (task.Run x set)) f a seen h
+
+pub memory_err : (old new : Evaluator) (f : Store → Goes) (r : Result (Unit {0}) Stop) → IfErr r (λ e. e ≡ stop.Memory) → IfErr r (Halts old new f)
+memory_err old new f (Ok a) m = tt
+memory_err old new f (Err e) m = refused m
+
+-- ---- a node counts, and then this comes
+
+module _ (old mid new : Evaluator) (h : Evaluator → Frame → ℕ → State → Res) (same : mid ≡ record old { work = mid.work })
+    (still : (z : ℕ) → h (record old { work = z }) ≡ h old) where
+  pub moved : (w : ℕ) → ran (store_seen mid w) (h mid (store_seen mid w).frame (store_seen mid w).left (state_seen mid w)) ≡ ran (store_seen old w) (h old (store_seen old w).frame (store_seen old w).left (state_seen old w))
+  moved w =
+      ap (λ (x : Evaluator). ran (store_seen x w) (h x (store_seen x w).frame (store_seen x w).left (state_seen x w))) same
+      ∙ ap (λ (k : Frame → ℕ → State → Res). ran (store_seen old w) (k (store_seen old w).frame (store_seen old w).left (state_seen old w))) (still mid.work)
+
+  ahead : (w : ℕ) → ran (store_seen old w) (h old (store_seen old w).frame (store_seen old w).left (state_seen old (w + 1))) ≡ ran (store_seen mid (w + 1)) (h mid (store_seen mid (w + 1)).frame (store_seen mid (w + 1)).left (state_seen mid (w + 1)))
+  ahead w =
+      sym (reran (store_seen old w) (state_seen old (w + 1)) (store_seen old w).value (store_seen old w).parts (h old (store_seen old w).frame (store_seen old w).left (state_seen old (w + 1))))
+      ∙ sym (moved (w + 1))
+
+  pub ticked : Comes mid new (λ r. ran r (h mid r.frame r.left r.state)) → Comes old new (λ r. ran r (h old r.frame r.left (tick r.state)))
+  ticked c =
+      record {
+        by = λ w. (
+          (c.by (w + 1)).0,
+          ap (λ g. go g (rest old)) (ahead w)
+              ∙ sym (ap (λ (k : Store → Goes). go (ran (store_seen mid (w + 1)) (h mid (store_seen mid (w + 1)).frame (store_seen mid (w + 1)).left (state_seen mid (w + 1)))) k) (ap (λ (x : Evaluator). rest x) same))
+              ∙ (c.by (w + 1)).1,
+        );
+      }
+
+  pub ticked_halts : (e : Stop) → Halts mid new (λ r. ran r (h mid r.frame r.left r.state)) e → Halts old new (λ r. ran r (h old r.frame r.left (tick r.state))) e
+  ticked_halts e (refused m) = refused m
+  ticked_halts e (trapped x m g) = trapped x m (λ w. ((g (w + 1)).0, ahead w ∙ (g (w + 1)).1))
+  ticked_halts e (cut m g) = cut m (λ w. ((g (w + 1)).0, ahead w ∙ (g (w + 1)).1))
+
+-- ---- first a value, or a statement after which all go on, and then a task
+
+module _ (old new : Evaluator) where
+  pub value_first : (x : Bor TypedExpr) (set : List Bool) (t : Task) (f : Frame → ℕ → Payload → State → Res) → ((q : Store) → ran q (f q.frame q.left q.value q.state) ≡ does old t q)
+      → First old new (task.Value x set) t → Comes old new (λ r. ran r (with_value (value_at (program_of old.program.now) old.turns r (expr_of x.now) (flag_of set) r.state) (f r.frame r.left)))
+  value_first x set t f is g =
+      record {
+        by = λ w.
+            let r = store_seen old w in
+            let v = value_at (program_of old.program.now) old.turns r (expr_of x.now) (flag_of set) r.state in (
+              w,
+              value_ran r v f (rest old)
+                  ∙ then_same (given r v) (λ q. ran q (f q.frame q.left q.value q.state)) (does old t) (rest old) is
+                  ∙ sym (g.by w),
+            );
+      }
+    where
+      then_same : (g : Goes) (f h next : Store → Goes) → ((q : Store) → f q ≡ h q) → go g (λ q. go (f q) next) ≡ go g (λ q. go (h q) next)
+      then_same (On r) f h next is = ap (λ y. go y next) (is r)
+      then_same (Trapped t s) f h next is = refl
+      then_same (Goes.Cut s) f h next is = refl
+
+  pub done_first : (u : Task) (set : List Bool) (v : Store → Val Done) → ((r : Store) → does old u r ≡ done r (v r)) → First old new u (task.Went set) → Comes old new (λ r. ran r (all_go (flag_of set) (v r)))
+  done_first u set v is g =
+      record {
+        by = λ w.
+            let r = store_seen old w in (
+              w,
+              done_ran r (v r) (λ fr l s. went_all (flag_of set) s) (rest old)
+                  ∙ ap (λ y. go y (λ q. go (does old (task.Went set) q) (rest old))) (sym (is r))
+                  ∙ sym (g.by w),
+            );
+      }
+
+-- ---- statements one by one
+
+module _ (old mid new : Evaluator) (same : mid ≡ record old { work = mid.work }) where
+  pub declared : (xs : Bor (List TypedItem)) (set : List Bool) → First mid new (task.Items xs set) (task.Went set) → Comes old new (declares_all old (items_of xs.now) (flag_of set))
+  declared xs set g =
+      ticked old mid new (λ e fr l s. all_go (flag_of set) (items (gang_width e.program.now.gang) fr (calls_at (program_of e.program.now) e.turns l) (items_of xs.now) (flag_of set) s)) same (λ z. refl)
+      (done_first mid new (task.Items xs set) set (λ r. items (gang_width mid.program.now.gang) r.frame (calls_at (program_of mid.program.now) mid.turns r.left) (items_of xs.now) (flag_of set) r.state) (λ r. refl) g)
+
+  pub chosen : (b : Box Branches Global) (x : Bor TypedExpr) (y : Bor TypedStmt) (z : Option (Bor TypedStmt)) (set : List Bool) → b.value ≡ record { then = y; otherwise = z; set = set } → First mid new (task.Value x set) (task.Branch b) → Comes old new (chooses old (expr_of x.now) y z (flag_of set))
+  chosen b x y z set is g =
+      let k = λ (c : Branches) (e : Evaluator) (fr : Frame) (l : ℕ). branches (gang_width e.program.now.gang) (flag_of c.set) (run_in (program_of e.program.now) e.turns fr l (stmt_of c.then.now)) (perhaps_run (program_of e.program.now) e.turns fr l (option_map (λ (v : Bor TypedStmt). stmt_of v.now) c.otherwise)) in
+      ticked old mid new (λ e fr l s. with_value (value_at_in e fr l x set s) (k (record { then = y; otherwise = z; set = set }) e fr l)) same (λ _. refl)
+      (subst (λ (c : Branches). Comes mid new (λ r. ran r (with_value (value_at_in mid r.frame r.left x set r.state) (k c mid r.frame r.left)))) is
+      (value_first mid new x set (task.Branch b) (k b.value mid) (λ q. refl) g))
+    where
+      value_at_in : Evaluator → Frame → ℕ → Bor TypedExpr → List Bool → State → Val Payload
+      value_at_in e fr l x set s = value_at (program_of e.program.now) e.turns (record { frame = fr; left = l; state = s; value = One 0; parts = all_parts nobody }) (expr_of x.now) (flag_of set) s
+
+  pub claimed : (x : Bor TypedExpr) (sp : Span) (set : List Bool) → First mid new (task.Value x set) (task.Assert sp set) → Comes old new (claims old (expr_of x.now) sp (flag_of set))
+  claimed x sp set g =
+      ticked old mid new (λ e fr l s. with_value (value_in e fr l x set s) (λ m s1. all_go (flag_of set) (checked (offender (gang_width e.program.now.gang) is_false (flag_of set) m) Assert sp s1 tt))) same (λ _. refl)
+      (value_first mid new x set (task.Assert sp set) (λ fr l m s1. all_go (flag_of set) (checked (offender (gang_width mid.program.now.gang) is_false (flag_of set) m) Assert sp s1 tt)) (λ q. refl) g)
+    where
+      value_in : Evaluator → Frame → ℕ → Bor TypedExpr → List Bool → State → Val Payload
+      value_in e fr l x set s = value_at (program_of e.program.now) e.turns (record { frame = fr; left = l; state = s; value = One 0; parts = all_parts nobody }) (expr_of x.now) (flag_of set) s
+
+  pub jumped_away : (j : Jump) (set : List Bool) (sets : Sets) → ((s : State) → left_as (parts_seen sets) s ≡ jumped j (flag_of set) s) → new ≡ record mid { value = computed.One 0; sets = sets } → Comes old new (jumps old j (flag_of set))
+  jumped_away j set sets is left =
+      ticked old mid new (λ e fr l s. jumped j (flag_of set) s) same (λ _. refl)
+      (leaves mid new (λ r. ran r (jumped j (flag_of set) r.state)) sets (parts_seen sets) left refl (λ w. ap (ran (store_seen mid w)) (sym (is (state_seen mid w)))))
+
+  pub gave_nothing : (x : Option (Bor TypedExpr)) (set : List Bool) (sets : Sets) → x ≡ None → parts_seen sets ≡ record { went = nobody; broke = nobody; continued = nobody; returned = flag_of set } → new ≡ record mid { value = computed.One 0; sets = sets } → Comes old new (gives old x (flag_of set))
+  gave_nothing x set sets none is left =
+      subst (λ y. Comes old new (gives old y (flag_of set))) (sym none)
+      (ticked old mid new (λ e fr l s. Went s nobody nobody nobody (flag_of set)) same (λ _. refl)
+      (leaves mid new (λ r. ran r (Went r.state nobody nobody nobody (flag_of set))) sets _ left is (λ w. refl)))
+
+  pub gave : (x : Option (Bor TypedExpr)) (y : Bor TypedExpr) (set : List Bool) → x ≡ Some y → First mid new (task.Value y set) (task.Answer set) → Comes old new (gives old x (flag_of set))
+  gave x y set some g =
+      subst (λ z. Comes old new (gives old z (flag_of set))) (sym some)
+      (ticked old mid new (λ e fr l s. with_value (value_in e fr l y set s) (λ m s1. Went (answered fr.answer (flag_of set) m s1) nobody nobody nobody (flag_of set))) same (λ _. refl)
+      (value_first mid new y set (task.Answer set) (λ fr l m s1. Went (answered fr.answer (flag_of set) m s1) nobody nobody nobody (flag_of set)) (λ q. refl) g))
+    where
+      value_in : Evaluator → Frame → ℕ → Bor TypedExpr → List Bool → State → Val Payload
+      value_in e fr l x set s = value_at (program_of e.program.now) e.turns (record { frame = fr; left = l; state = s; value = One 0; parts = all_parts nobody }) (expr_of x.now) (flag_of set) s
+
+pub all_did : (old new : Evaluator) (x : Bor TypedSimple) (set : List Bool) → First old new (task.Simple x set) (task.Went set) → Comes old new (all_does old (simple_of x.now) (flag_of set))
+all_did old new x set g =
+    done_first old new (task.Simple x set) set (λ r. simple (gang_width old.program.now.gang) r.frame (calls_in (program_of old.program.now) old.turns r) (simple_of x.now) (flag_of set) r.state) (λ r. refl) g
+
+-- a block over all instances, and then those that came
+pub unmasked : (old mid late new : Evaluator) (b : Bor TypedBlock) (all set : List Bool) → mid ≡ record old { work = mid.work } → late.tasks.items ≡ mid.tasks.items ++ task.Went set ∷ [] → late ≡ record mid { tasks = late.tasks } → flag_of all ≡ everyone (gang_width old.program.now.gang)
+    → Comes late new (blocks late (block_of b.now) (flag_of all)) → Comes old new (unmasks old (block_of b.now) (flag_of set))
+unmasked old mid late new b all set same i s is c =
+    ticked old mid new (λ e fr l s1. go_on (block_in e fr l s1) (λ s2 g b' c' q. went_all (flag_of set) s2)) same (λ _. refl)
+    (record {
+      by = λ w.
+          let r = store_seen mid w in
+          let d = comes_then mid late new (task.Went set) (λ e. blocks e (block_of b.now) (everyone (gang_width old.program.now.gang))) i s (ap (λ (e : Evaluator). blocks e (block_of b.now) (everyone (gang_width old.program.now.gang))) s) (subst (λ a. Comes late new (blocks late (block_of b.now) a)) is c) in (
+            (d.by w).0,
+            then_ran r (block_in mid r.frame r.left r.state) (λ fr l s2 p. went_all (flag_of set) s2) (rest mid)
+                ∙ sym (go_assoc (blocks mid (block_of b.now) (everyone (gang_width old.program.now.gang)) r) (does mid (task.Went set)) (rest mid))
+                ∙ (d.by w).1,
+          );
+    })
+  where
+    block_in : Evaluator → Frame → ℕ → State → Res
+    block_in e fr l s1 = block_at (program_of e.program.now) e.turns (record { frame = fr; left = l; state = s1; value = One 0; parts = all_parts nobody }) (block_of b.now) (everyone (gang_width old.program.now.gang)) s1
+
+-- the values come first, then the text
+with_then : {A : Type 0} (r : Store) (v : Val A) (k : A → State → Res) → go_with v (λ m s. ran r (k m s)) ≡ ran r (with_value v k)
+with_then r (Gives m s) k = refl
+with_then r (Fails t s) k = refl
+with_then r (Stops s) k = refl
+
+pub printed : (old mid new : Evaluator) (text : Bor (List ℕ)) (xs : Bor (List TypedExpr)) (ms : List Computed) (set : List Bool) → mid ≡ record old { work = mid.work } → ms ≡ []
+    → Comes mid new (gather (program_of mid.program.now) mid.turns (gathering.Print text xs) (exprs_of xs.now) (map payload_of ms) (flag_of set)) → Comes old new (prints_all old text.now (exprs_of xs.now) (flag_of set))
+printed old mid new text xs ms set same none c =
+    ticked old mid new shown_in same (λ _. refl)
+    (comes_same mid new (λ r. ran r (shown_in mid r.frame r.left r.state)) (gather (program_of mid.program.now) mid.turns (gathering.Print text xs) (exprs_of xs.now) [] (flag_of set))
+    (λ w. let r = store_seen mid w in sym (with_then r (values (gang_width mid.program.now.gang) r.frame (calls_at (program_of mid.program.now) mid.turns r.left) (t_exprs (exprs_of xs.now)) (flag_of set) r.state) (λ ms s. shows mid text.now (exprs_of xs.now) (flag_of set) ms s)))
+    (subst (λ (ys : List Computed). Comes mid new (gather (program_of mid.program.now) mid.turns (gathering.Print text xs) (exprs_of xs.now) (map payload_of ys) (flag_of set))) none c))
+  where
+    shown_in : Evaluator → Frame → ℕ → State → Res
+    shown_in e fr l s = with_value (values (gang_width e.program.now.gang) fr (calls_at (program_of e.program.now) e.turns l) (t_exprs (exprs_of xs.now)) (flag_of set) s) (λ ms s1. shows e text.now (exprs_of xs.now) (flag_of set) ms s1)
+
+-- ---- loops
+
+module _ (old mid new : Evaluator) (same : mid ≡ record old { work = mid.work }) (set : List Bool) (test : Option (Bor TypedExpr)) (step : Option (Bor TypedSimple)) (body : Bor TypedStmt)
+    (t : Turning) (is : t ≡ record t { looping = looping test step body; all = set; live = set; left = mid.turns }) (none : flag_of t.returned ≡ nobody) where
+  abbrev tests_now : Evaluator → Frame → ℕ → State → Res
+  tests_now e fr l s = tested_in (program_of e.program.now) e.turns fr l (looping test step body) (flag_of set) e.turns (flag_of set) nobody s
+
+  abbrev turns_now : Evaluator → Frame → ℕ → State → Res
+  turns_now e fr l s = turns_in (program_of e.program.now) e.turns fr l (looping test step body) (flag_of set) e.turns (flag_of set) nobody s
+
+  as_tests : (r : Store) → tests_on mid t r ≡ ran r (tests_now mid r.frame r.left r.state)
+  as_tests r =
+      ap (λ (u : Turning). tests_on mid u r) is
+      ∙ ap (λ (q : Mask). ran r (tested_in (program_of mid.program.now) mid.turns r.frame r.left (looping test step body) (flag_of set) mid.turns (flag_of set) q r.state)) none
+
+  as_turns : (r : Store) → turns_on mid t r ≡ ran r (turns_now mid r.frame r.left r.state)
+  as_turns r =
+      ap (λ (u : Turning). turns_on mid u r) is
+      ∙ ap (λ (q : Mask). ran r (turns_in (program_of mid.program.now) mid.turns r.frame r.left (looping test step body) (flag_of set) mid.turns (flag_of set) q r.state)) none
+
+  pub enters_tests : Comes mid new (tests_on mid t) → Comes old new (enters old None test step body (flag_of set))
+  enters_tests c =
+      ticked old mid new tests_now same (λ _. refl)
+      (comes_same mid new (λ r. ran r (tests_now mid r.frame r.left r.state)) (tests_on mid t) (λ w. sym (as_tests (store_seen mid w))) c)
+
+  pub enters_tests_halts : (e : Stop) → Halts mid new (tests_on mid t) e → Halts old new (enters old None test step body (flag_of set)) e
+  enters_tests_halts e h =
+      ticked_halts old mid new tests_now same (λ _. refl) e
+      (halts_same mid new (λ r. ran r (tests_now mid r.frame r.left r.state)) (tests_on mid t) e (λ w. sym (as_tests (store_seen mid w))) h)
+
+  pub enters_turns : step ≡ None → Comes mid new (turns_on mid t) → Comes old new (enters_by_turn old test body (flag_of set))
+  enters_turns isnt c =
+      comes_same old new (enters_by_turn old test body (flag_of set)) (λ r. ran r (turns_now old r.frame r.left (tick r.state)))
+      (λ w. ap (λ (k : Option (Bor TypedSimple)). ran (store_seen old w) (turns_in (program_of old.program.now) old.turns (store_seen old w).frame (store_seen old w).left (looping test k body) (flag_of set) old.turns (flag_of set) nobody (state_seen old (w + 1)))) (sym isnt))
+      (ticked old mid new turns_now same (λ _. refl)
+      (comes_same mid new (λ r. ran r (turns_now mid r.frame r.left r.state)) (turns_on mid t) (λ w. sym (as_turns (store_seen mid w))) c))
+
+  pub enters_turns_halts : step ≡ None → (e : Stop) → Halts mid new (turns_on mid t) e → Halts old new (enters_by_turn old test body (flag_of set)) e
+  enters_turns_halts isnt e h =
+      halts_same old new (enters_by_turn old test body (flag_of set)) (λ r. ran r (turns_now old r.frame r.left (tick r.state))) e
+      (λ w. ap (λ (k : Option (Bor TypedSimple)). ran (store_seen old w) (turns_in (program_of old.program.now) old.turns (store_seen old w).frame (store_seen old w).left (looping test k body) (flag_of set) old.turns (flag_of set) nobody (state_seen old (w + 1)))) (sym isnt))
+      (ticked_halts old mid new turns_now same (λ _. refl) e
+      (halts_same mid new (λ r. ran r (turns_now mid r.frame r.left r.state)) (turns_on mid t) e (λ w. sym (as_turns (store_seen mid w))) h))
+
+  -- a first part comes before the test
+  pub enters_first : (late : Evaluator) (x : Option (Bor TypedFirst)) (b : Box Turning Global) → b.value ≡ t → late.tasks.items ≡ mid.tasks.items ++ task.Test b ∷ [] → late ≡ record mid { tasks = late.tasks }
+      → Comes late new (firsts late x (flag_of set)) → Comes old new (enters old x test step body (flag_of set))
+  enters_first late x b held i s c =
+      ticked old mid new (λ e fr l s1. with_value (first_in e fr l x (flag_of set) s1) (λ _ s2. tests_now e fr l s2)) same (λ _. refl)
+      (record {
+        by = λ w.
+            let r = store_seen mid w in
+            let v = first_in mid r.frame r.left x (flag_of set) r.state in
+            let d = comes_then mid late new (task.Test b) (λ e. firsts e x (flag_of set)) i s (ap (λ (e : Evaluator). firsts e x (flag_of set)) s) c in (
+              (d.by w).0,
+              done_ran r v (tests_now mid) (rest mid)
+                  ∙ after (done r v) (rest mid)
+                  ∙ sym (go_assoc (done r v) (does mid (task.Test b)) (rest mid))
+                  ∙ (d.by w).1,
+            );
+      })
+    where
+      test_is : (q : Store) → does mid (task.Test b) q ≡ ran q (tests_now mid q.frame q.left q.state)
+      test_is q = ap (λ (u : Turning). tests_on mid u q) held ∙ as_tests q
+
+      after : (g : Goes) (next : Store → Goes) → go g (λ q. go (ran q (tests_now mid q.frame q.left q.state)) next) ≡ go g (λ q. go (does mid (task.Test b) q) next)
+      after (On q) next = ap (λ k. go k next) (sym (test_is q))
+      after (Trapped x1 s1) next = refl
+      after (Goes.Cut s1) next = refl
+
+-- ---- the first part of a `for`
+
+redone : (r : Store) (s : State) (m : Payload) (v : Val Done) → done (record r { state = s; value = m }) v ≡ done r v
+redone r s m (Gives x s1) = refl
+redone r s m (Fails t s1) = refl
+redone r s m (Stops s1) = refl
+
+module _ (old : Evaluator) (set : List Bool) where
+  pub no_first : (x : Option (Bor TypedFirst)) (new : Evaluator) → x ≡ None → new ≡ record old { value = computed.One 0 } → Comes old new (firsts old x (flag_of set))
+  no_first x new none same =
+      subst (λ y. Comes old new (firsts old y (flag_of set))) (sym none)
+      (record { by = λ w. (w, sym (ap (λ (k : Evaluator). rest k (store_seen k w)) same)) })
+
+  pub first_simple : (new : Evaluator) (y : Bor TypedFirst) (p : Bor TypedSimple) → y.now ≡ first.Simple p.now → new.tasks.items ≡ old.tasks.items ++ task.Simple p set ∷ [] → new ≡ record old { tasks = new.tasks } → Comes old new (firsts old (Some y) (flag_of set))
+  first_simple new y p is i s =
+      (comes_same old new (firsts old (Some y) (flag_of set)) (does old (task.Simple p set)) (λ w. ap (λ (f : TypedFirst). part f w) is) (pushes old new (task.Simple p set) i s))
+    where
+      part : TypedFirst → ℕ → Goes
+      part f w = done (store_seen old w) (first_part (gang_width old.program.now.gang) (store_seen old w).frame (calls_at (program_of old.program.now) old.turns (store_seen old w).left) (Some (first_of f)) (flag_of set) (state_seen old w))
+
+  pub first_items : (mid new : Evaluator) (y : Bor TypedFirst) (v : Vec TypedItem Global) (sp : Span) (xs : Bor (List TypedItem)) → mid ≡ record old { work = mid.work } → y.now ≡ first.Declare v sp → xs.now ≡ v.items
+      → new.tasks.items ≡ mid.tasks.items ++ task.Items xs set ∷ [] → new ≡ record mid { tasks = new.tasks } → Comes old new (firsts old (Some y) (flag_of set))
+  first_items mid new y v sp xs same is all i s =
+      (record {
+        by = λ w.
+            let c = pushes mid new (task.Items xs set) i s in
+            let r = store_seen old w in (
+              (c.by (w + 1)).0,
+              ap (λ (f : TypedFirst). go (part f w) (rest old)) is
+                  ∙ ap (λ (ys : List TypedItem). go (done r (items (gang_width old.program.now.gang) r.frame (calls_at (program_of old.program.now) old.turns r.left) (items_of ys) (flag_of set) (state_seen old (w + 1)))) (rest old)) (sym all)
+                  ∙ ap (λ g. go g (rest old)) (sym (redone r (state_seen old (w + 1)) r.value (items (gang_width old.program.now.gang) r.frame (calls_at (program_of old.program.now) old.turns r.left) (items_of xs.now) (flag_of set) (state_seen old (w + 1)))))
+                  ∙ sym (ap (λ (k : Evaluator). go (does k (task.Items xs set) (store_seen k (w + 1))) (rest k)) same)
+                  ∙ (c.by (w + 1)).1,
+            );
+      })
+    where
+      part : TypedFirst → ℕ → Goes
+      part f w = done (store_seen old w) (first_part (gang_width old.program.now.gang) (store_seen old w).frame (calls_at (program_of old.program.now) old.turns (store_seen old w).left) (Some (first_of f)) (flag_of set) (state_seen old w))
+
+-- ---- what ends by itself
+
+module _ (old mid new : Evaluator) where
+  pub changed_leaves : (g : Store → Goes) (f : State → State) (sets : Sets) (p : Parts) → Changes old mid f → new ≡ record mid { value = computed.One 0; sets = sets } → parts_seen sets ≡ p
+      → ((w : ℕ) → g (store_seen old w) ≡ ran (store_seen old w) (left_as p (f (state_seen old w)))) → Comes old new g
+  changed_leaves g f sets p c same e is =
+      record {
+        by = λ w. (
+          w,
+          ap (λ x. go x (rest old)) (is w)
+              ∙ ap (λ q. rest old (record (store_seen old w) { state = f (state_seen old w); value = One 0; parts = q })) (sym e)
+              ∙ sym (ap₂ (λ (h : Store → Goes) (r : Store). h (record r { value = One 0; parts = parts_seen sets })) (changed_rest old mid f c) (changed_store old mid f c w))
+              ∙ sym (ap (λ (x : Evaluator). rest x (store_seen x w)) same),
+        );
+      }
+
+  pub answer_comes : (set : List Bool) (sets : Sets) → Changes old mid (answered (frame_seen old.here).answer (flag_of set) (payload_of old.value)) → new ≡ record mid { value = computed.One 0; sets = sets }
+      → parts_seen sets ≡ record { went = nobody; broke = nobody; continued = nobody; returned = flag_of set } → Comes old new (does old (task.Answer set))
+  answer_comes set sets c same e = changed_leaves (does old (task.Answer set)) _ sets _ c same e (λ w. refl)
+
+module _ (old : Evaluator) (set : List Bool) (o : Option Ty) (found : o ≡ answer_in old.here.function) where
+  pub no_answer : o ≡ None → Changes old old (answered (frame_seen old.here).answer (flag_of set) (payload_of old.value))
+  no_answer none =
+      subst (λ k. Changes old old (answered k (flag_of set) (payload_of old.value))) (sym none ∙ found) (record { state = λ w. refl; frame = refl; same = refl })
+
+  pub one_answer : (t : Ty) (n : ℕ) → o ≡ Some t → t.rate ≡ Uniform → n ≡ sole (payload_of old.value) → Changes old (record old { here = record old.here { result = n } }) (answered (frame_seen old.here).answer (flag_of set) (payload_of old.value))
+  one_answer t n some rate is =
+      subst (λ k. Changes old (record old { here = record old.here { result = n } }) (answered k (flag_of set) (payload_of old.value))) (sym some ∙ found)
+      (record {
+        state = λ w. ap (λ (k : ℕ). record (state_seen old w) { result = k }) is ∙ sym (ap (λ k. answered_at k (flag_of set) (payload_of old.value) (state_seen old w)) rate);
+        frame = refl;
+        same = refl;
+      })
+
+  pub each_answer : (t : Ty) (xs : List ℕ) → o ≡ Some t → t.rate ≡ Varying → lane_of xs ≡ over (spread (flag_of set) (payload_of old.value)) (lane_of old.here.results) → Changes old (record old { here = record old.here { results = xs } }) (answered (frame_seen old.here).answer (flag_of set) (payload_of old.value))
+  each_answer t xs some rate is =
+      subst (λ k. Changes old (record old { here = record old.here { results = xs } }) (answered k (flag_of set) (payload_of old.value))) (sym some ∙ found)
+      (record {
+        state = λ w. ap (λ (k : ℕ → ℕ). record (state_seen old w) { results = k }) is ∙ sym (ap (λ k. answered_at k (flag_of set) (payload_of old.value) (state_seen old w)) rate);
+        frame = refl;
+        same = refl;
+      })
+
+module _ (old new : Evaluator) (sp : Span) (set : List Bool) (o : Option ℕ) (is : o ≡ offender (gang_width old.program.now.gang) is_false (flag_of set) (payload_of old.value)) where
+  asserts : (w : ℕ) → does old (task.Assert sp set) (store_seen old w) ≡ ran (store_seen old w) (all_go (flag_of set) (checked o Assert sp (state_seen old w) tt))
+  asserts w = ap (λ k. ran (store_seen old w) (all_go (flag_of set) (checked k Assert sp (state_seen old w) tt))) (sym is)
+
+  pub assert_comes : (sets : Sets) → o ≡ None → parts_seen sets ≡ all_parts (flag_of set) → new ≡ record old { value = computed.One 0; sets = sets } → Comes old new (does old (task.Assert sp set))
+  assert_comes sets none e same =
+      leaves old new (does old (task.Assert sp set)) sets (all_parts (flag_of set)) same e
+      (λ w. asserts w ∙ ap (λ k. ran (store_seen old w) (all_go (flag_of set) (checked k Assert sp (state_seen old w) tt))) none)
+
+  pub assert_halts : (e : Stop) (p : ℕ) → o ≡ Some p → new ≡ old → e ≡ stop.Trapped (trap Assert sp p) → Halts old new (does old (task.Assert sp set)) e
+  assert_halts e p some same m =
+      trapped (trap Assert sp p) m (λ w. (
+        w,
+        asserts w
+            ∙ ap (λ k. ran (store_seen old w) (all_go (flag_of set) (checked k Assert sp (state_seen old w) tt))) some
+            ∙ sym (ap (λ (x : Evaluator). Trapped (trap Assert sp p) (state_seen x w)) same),
+      ))
+
+-- ---- parts that may be left out
+
+copied_map : {T U : Type 0} (f : T → U) (o : Option (Bor T)) → option_map f (option_copied o) ≡ option_map (λ (v : Bor T). f v.now) o
+copied_map f None = refl
+copied_map f (Some x) = refl
+
+pub part_is : {T U : Type 0} (f : T → U) (s : Option T) (o : Option (Bor T)) → option_copied o ≡ s → option_map f s ≡ option_map (λ (v : Bor T). f v.now) o
+part_is f s o e = sym (ap (option_map f) e) ∙ copied_map f o
+
+pub return_is : (old : Evaluator) (set : List Bool) (k sp : Span) (o : Option (Bor TypedExpr)) (w : ℕ)
+    → ran (store_seen old w) (run_in (program_of old.program.now) old.turns (store_seen old w).frame (store_seen old w).left (t_return k (option_map (λ (v : Bor TypedExpr). expr_of v.now) o) sp) (flag_of set) (state_seen old w)) ≡ gives old o (flag_of set) (store_seen old w)
+return_is old set k sp None w = refl
+return_is old set k sp (Some x) w = refl
+
+-- a text was written
+pub print_comes : (old new : Evaluator) (o : Vec ℕ Global) (text : List ℕ) (xs : List TypedExpr) (ms : List Computed) (set : List Bool) (sets : Sets)
+    → o.items ≡ old.output.items ++ print_text text (shown_all (gang_width old.program.now.gang) (flag_of set) (exprs_of xs) (map payload_of ms)) → parts_seen sets ≡ all_parts (flag_of set)
+    → new ≡ record old { output = o; value = computed.One 0; sets = sets } → Comes old new (prints old text xs ms (flag_of set))
+print_comes old new o text xs ms set sets e p same =
+    record {
+      by = λ w. (
+        w,
+        ap₂ (λ (out : List ℕ) (q : Parts). rest old (record (store_seen old w) { state = record (state_seen old w) { out = out }; value = One 0; parts = q })) (sym e) (sym p)
+            ∙ sym (ap (λ (k : Evaluator). rest k (store_seen k w)) same),
+      );
+    }

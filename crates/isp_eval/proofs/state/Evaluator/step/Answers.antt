@@ -1,0 +1,9 @@
+use Rattle.isp_eval.proofs.Turns.{no_step}
+use Rattle.isp_eval.proofs.Branching.{pushes}
+use Rattle.isp_eval.specs.declared.tasks.Task.TheVariants as task
+use Rattle.isp_eval.proofs.state.Evaluator.step.Goals as goal
+
+pub returns-in_ok-later-in-None-clause-ok : goal.returns-in_ok-later-in-None-clause-ok
+returns-in_ok-later-in-None-clause-ok c =
+    no_step c.args.self.now c.later.new.self c.args.turning c.in_ok-after.after c.in_ok-after.ensures.ok c.in-None.is
+    (pushes c.args.self.now c.later.new.self (task.Test c.in_ok-after.after) c.in_ok-later-in-None.ensures.ok c.in_ok-later-in-None.ensures.rest)

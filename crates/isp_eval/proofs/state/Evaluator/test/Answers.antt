@@ -1,0 +1,9 @@
+use Rattle.std.proofs.Common.{refl}
+use Rattle.isp_eval.specs.Tasks.{Halts, tests_on}
+use Rattle.isp_eval.proofs.Turns.{at_err, no_test_halts}
+use Rattle.isp_eval.proofs.state.Evaluator.test.Goals as goal
+
+pub returns-in_err-tested-in-None-clause-err : goal.returns-in_err-tested-in-None-clause-err
+returns-in_err-tested-in-None-clause-err c =
+    at_err c.from_residual-in_err-tested-in-None.result c.in_err-tested-in-None.field-0.0 (Halts c.args.self.now c.tested.new.self (tests_on c.args.self.now c.args.turning)) c.from_residual-in_err-tested-in-None.ensures.1
+    (no_test_halts c.args.self.now _ c.tested.new.self c.args.turning c.in_err-tested-in-None.field-0.0 refl c.in-None.is c.in_err-tested-in-None.ensures.err)

@@ -1,0 +1,25 @@
+-- What an evaluation comes to, and when it is refused.
+use Rattle.std.specs.Prelude.{◌≡◌, ℕ, List}
+use Rattle.isp_base.specs.Outcomes as base
+use Rattle.isp_base.specs.declared.signature.Argument.{Argument}
+use Rattle.isp_typed.specs.Typed.{Program}
+use Rattle.isp_meaning.specs.Runs.{run_of}
+use Rattle.isp_eval.specs.Entered.{Begins, NoneBegins}
+use Rattle.isp_eval.specs.declared.fault.EvalFault.{EvalFault}
+use Rattle.isp_eval.specs.declared.fault.EvalFault.TheVariants.{Memory, NoEntry}
+use Rattle.isp_eval.specs.declared.outcome.Outcome.{Outcome}
+use Rattle.isp_eval.specs.declared.outcome.Outcome.TheVariants.{Ends, Traps, Cut}
+
+abbrev pub outcome_seen : Outcome → base.Outcome
+outcome_seen (Ends arrays answer output) = base.Ends arrays.items answer output.items
+outcome_seen (Traps trap arrays output) = base.Traps trap arrays.items output.items
+outcome_seen (Cut output) = base.GoesOn output.items
+
+-- the outcome is that of the run of n turns of a function with which a run can begin
+abbrev pub IsRun : Program → List ℕ → List Argument → ℕ → Outcome → Type 0
+IsRun program name xs n o = (f : ℕ) × Begins program name xs f × (outcome_seen o ≡ run_of program f n xs)
+
+-- memory may be refused at any time; else an evaluation is refused exactly where no run can begin
+abbrev pub IsRefused : EvalFault → Program → List ℕ → List Argument → Type 0
+IsRefused Memory program name xs = Unit {0}
+IsRefused NoEntry program name xs = NoneBegins program name xs

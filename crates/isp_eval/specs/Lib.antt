@@ -1,0 +1,16 @@
+pub mod Arms
+pub mod Cut
+pub mod Ends
+pub mod Entered
+pub mod Entering
+pub mod Evaluated
+pub mod Foreach
+pub mod Left
+pub mod Packing
+pub mod Passing
+pub mod Seen
+pub mod Settled
+pub mod Starting
+pub mod Starts
+pub mod Stores
+pub mod Tasks
