@@ -1,7 +1,7 @@
 //! Worked examples of the language's parts.
 
 /// How many records there are.
-pub(crate) const COUNT: usize = 52;
+pub(crate) const COUNT: usize = 58;
 
 /// The records.
 pub(crate) const ROWS: &str = r##"=== a foreach over an array
@@ -316,4 +316,40 @@ p is below k for k of p + 1 to 20.
 ends {"arrays":{"a":[20,19,18,17]},"result":null}
 
 export void f(uniform int a[]) { cif (programIndex < 1) a[programIndex]++; cif (programIndex < 2) a[programIndex]++; cif (programIndex < 3) a[programIndex]++; cif (programIndex < 4) a[programIndex]++; cif (programIndex < 5) a[programIndex]++; cif (programIndex < 6) a[programIndex]++; cif (programIndex < 7) a[programIndex]++; cif (programIndex < 8) a[programIndex]++; cif (programIndex < 9) a[programIndex]++; cif (programIndex < 10) a[programIndex]++; cif (programIndex < 11) a[programIndex]++; cif (programIndex < 12) a[programIndex]++; cif (programIndex < 13) a[programIndex]++; cif (programIndex < 14) a[programIndex]++; cif (programIndex < 15) a[programIndex]++; cif (programIndex < 16) a[programIndex]++; cif (programIndex < 17) a[programIndex]++; cif (programIndex < 18) a[programIndex]++; cif (programIndex < 19) a[programIndex]++; cif (programIndex < 20) a[programIndex]++; }
+=== twenty nested cif
+p is below 20, 19, .. and p + 1: 20 - p of them.
+4 f 1000 - {"a":[0,0,0,0]}
+ends {"arrays":{"a":[20,19,18,17]},"result":null}
+
+export void f(uniform int a[]) { cif (programIndex < 20) { a[programIndex]++; cif (programIndex < 19) { a[programIndex]++; cif (programIndex < 18) { a[programIndex]++; cif (programIndex < 17) { a[programIndex]++; cif (programIndex < 16) { a[programIndex]++; cif (programIndex < 15) { a[programIndex]++; cif (programIndex < 14) { a[programIndex]++; cif (programIndex < 13) { a[programIndex]++; cif (programIndex < 12) { a[programIndex]++; cif (programIndex < 11) { a[programIndex]++; cif (programIndex < 10) { a[programIndex]++; cif (programIndex < 9) { a[programIndex]++; cif (programIndex < 8) { a[programIndex]++; cif (programIndex < 7) { a[programIndex]++; cif (programIndex < 6) { a[programIndex]++; cif (programIndex < 5) { a[programIndex]++; cif (programIndex < 4) { a[programIndex]++; cif (programIndex < 3) { a[programIndex]++; cif (programIndex < 2) { a[programIndex]++; cif (programIndex < 1) { a[programIndex]++; }}}}}}}}}}}}}}}}}}}} }
+=== twenty nested cif with one bound
+All are below 9; then 0 and 1 alone are below 2.
+4 f 1000 - {"a":[0,0,0,0],"b":[0,0,0,0]}
+ends {"arrays":{"a":[1,1,1,1],"b":[1,1,0,0]},"result":null}
+
+void g(uniform int a[], uniform int k) { cif (programIndex < k) cif (programIndex < k) cif (programIndex < k) cif (programIndex < k) cif (programIndex < k) cif (programIndex < k) cif (programIndex < k) cif (programIndex < k) cif (programIndex < k) cif (programIndex < k) cif (programIndex < k) cif (programIndex < k) cif (programIndex < k) cif (programIndex < k) cif (programIndex < k) cif (programIndex < k) cif (programIndex < k) cif (programIndex < k) cif (programIndex < k) cif (programIndex < k) a[programIndex]++; } export void f(uniform int a[], uniform int b[]) { g(a, 9); g(b, 2); }
+=== an endless loop of nine turns
+Nothing is printed.
+4 f 9 - {}
+cut
+
+export void f() { while (true) ; }
+=== a counter of those that go on
+Each turn one of 0, 1, 2 goes on without the count, the others count once each turn.
+4 f 3 - {}
+ends {"arrays":{},"result":3}
+
+export uniform int f() { uniform int t = 0; for (uniform int k = 0; k < 3; k++) { if (programIndex == k) continue; t += 1; } return t; }
+=== a uniform result of two returns of some
+0 and 1 return 1, then 2 and 3 return 2, which is the last.
+4 f 0 - {}
+ends {"arrays":{},"result":2}
+
+uniform int g(int x) { if (x < 2) return 1; return 2; } export uniform int f() { return g(programIndex); }
+=== a uniform array that all instances share
+p writes 10 p; 0 reads what 3 wrote.
+4 f 0 - {"a":[9,9,9,9]}
+ends {"arrays":{"a":[30,20,10,0]},"result":null}
+
+export void f(uniform int a[]) { uniform int t[programCount]; t[programIndex] = 10 * programIndex; a[programIndex] = t[3 - programIndex]; }
 "##;
