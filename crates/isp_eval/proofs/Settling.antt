@@ -1,10 +1,9 @@
 -- How a run stands once nothing is left to be done.
-use Rattle.std.proofs.Common.{◌≡◌, refl, sym, ap, ◌∙◌, ℕ, Result, Ok, Err, OnOk, IfErr}
+use Rattle.std.proofs.Common.{◌≡◌, sym, ap, ◌∙◌, Result, Ok, Err, OnOk, IfErr}
 use Rattle.isp_base.specs.declared.trap.Trap.{Trap}
 use Rattle.isp_meaning.specs.State.{State}
 use Rattle.isp_meaning.specs.Payloads.{Payload}
 use Rattle.isp_meaning.specs.Outcomes.{Val, Gives, Fails, Stops}
-use Rattle.isp_gang.specs.Seen.{payload_of}
 use Rattle.isp_eval.specs.Seen.{state_seen}
 use Rattle.isp_eval.specs.Ends.{Ends}
 use Rattle.isp_eval.specs.Settled.{Stands}

@@ -1,5 +1,8 @@
 -- What a run begins with, argument by argument.
 use Rattle.std.specs.Prelude.{ℕ, suc, ◌%◌, ◌^◌, List, [], ◌∷◌, length}
+use Rattle.std.specs.List.{All}
+use Rattle.isp_base.specs.Arguments.{rows}
+use Rattle.isp_base.specs.Rows.{Fit}
 use Rattle.isp_base.specs.Values.{width}
 use Rattle.isp_base.specs.declared.signature.Argument.{Argument}
 use Rattle.isp_base.specs.declared.signature.Argument.TheVariants.{Value as AValue, Array as AnArray}
@@ -23,3 +26,11 @@ one_store (AnArray r) = r.bits ∷ []
 abbrev pub one_size : Argument → List ℕ
 one_size (AValue v) = []
 one_size (AnArray r) = length r.bits ∷ []
+
+-- each element of each array fits its type
+abbrev pub OneFits : Argument → Type 0
+OneFits (AValue v) = Unit {0}
+OneFits (AnArray r) = Fit r.elem r.bits
+
+abbrev pub ArgumentsFit : List Argument → Type 0
+ArgumentsFit xs = All (λ r. Fit r.elem r.bits) (rows xs)

@@ -175,8 +175,8 @@ fn first(gang: Gang, set: &Active) -> usize
     }
 }
 
-// A function by its number.
-fn function_at(functions: &[TypedFunction], function: usize) -> Option<&TypedFunction>
+/// A function by its number.
+pub fn function_at(functions: &[TypedFunction], function: usize) -> Option<&TypedFunction>
     ensures { slice_get functions.now function ≡ option_map (λ f. f.now) result }
 {
     functions.get(function)

@@ -18,6 +18,7 @@ mod packing;
 mod places;
 mod printing;
 mod rounds;
+mod run;
 mod simple;
 mod starting;
 mod state;
@@ -25,6 +26,6 @@ mod statements;
 mod stores;
 mod tasks;
 
-pub use evaluator::{evaluate, work};
 pub use fault::EvalFault;
 pub use outcome::Outcome;
+pub use run::evaluate;

@@ -1,12 +1,12 @@
 //! Bodies that run over each of a list of sets: `foreach` and `foreach_active`.
-ghost use Rattle.std.specs.Prelude.{◌≡◌, ◌<◌, ◌≤◌, ◌+◌, length, map, not, pos, ◌+ℤ◌, IfErr, OnOk, true, int_lt};
+ghost use Rattle.std.specs.Prelude.{◌≡◌, ◌<◌, ◌≤◌, ◌+◌, ◌-◌, ◌^◌, drop, length, map, min, not, pos, ◌+ℤ◌, IfErr, OnOk, true, int_lt};
 ghost use Rattle.isp_base.specs.Maps.{on};
 ghost use Rattle.isp_base.specs.Sets.{flag_of};
 ghost use Rattle.isp_base.specs.Types.{gang_width};
 ghost use Rattle.isp_base.specs.Values.{wrap};
 ghost use Rattle.isp_base.specs.declared.types.Gang as GangType;
 ghost use Rattle.isp_typed.specs.Views.{ranges_of};
-ghost use Rattle.isp_meaning.specs.Rounds.{set_indices};
+ghost use Rattle.isp_meaning.specs.Rounds.{counted, length_of, set_indices};
 ghost use Rattle.isp_gang.specs.Seen.{map_of};
 ghost use Rattle.isp_eval.specs.Left.{advanced, carried, goes, indices_now, is_ready, members_now, number_now, numbers_below, range_seen, restarted, runs_left, stepped, tail_within};
 ghost use Rattle.isp_eval.specs.Foreach.{actives, begins, bounds_from, foreaches};
@@ -426,24 +426,42 @@ fn advance(gang: Gang, ranges: &mut Vec<Range>)
     }
 }
 
-// What the ranges count: the products of the lengths up to each, in the last of its runs.
-fn counted(gang: Gang, ranges: &[Range]) -> u64 {
-    let mut product: u64 = 1;
-    let mut total: u64 = 0;
-    for (place, range) in ranges.iter().enumerate() {
-        let length = if range.start < range.end {
-            (i64::from(range.end) - i64::from(range.start)) as u64
-        } else {
-            0
-        };
-        let width = gang.width() as u64;
-        let factor = if place + 1 == ranges.len() {
-            (length + (width - 1)) / width
-        } else {
-            length
-        };
-        product = product.saturating_mul(factor);
-        total = total.saturating_add(product);
+// What the ranges count, up to the greatest number.
+fn counted(gang: Gang, ranges: &[Range]) -> u64
+    ensures { result ≡ min (counted (gang_width gang) 1 (map range_seen ranges.now)) (2 ^ 64 - 1) }
+{
+    let mut count: u64 = 0;
+    let mut place = ranges.len();
+    while place > 0 {
+        place -= 1;
+        count = counted_from(gang, ranges, place, count);
     }
-    total
+    count
+}
+
+// What those from a place on count, where it is known what those after it count.
+fn counted_from(gang: Gang, ranges: &[Range], place: usize, later: u64) -> u64
+    requires there { place < length ranges.now }
+    requires later { later ≡ min (counted (gang_width gang) 1 (map range_seen (drop (place + 1) ranges.now))) (2 ^ 64 - 1) }
+    ensures { result ≡ min (counted (gang_width gang) 1 (map range_seen (drop place ranges.now))) (2 ^ 64 - 1) }
+{
+    let numbers = numbers(&ranges[place]);
+    if place + 1 == ranges.len() {
+        let width = gang.width() as u64;
+        (numbers + (width - 1)) / width
+    } else {
+        numbers.saturating_mul(later.saturating_add(1))
+    }
+}
+
+// How many numbers a range has.
+fn numbers(range: &Range) -> u64
+    ensures is { result ≡ length_of (range_seen range.now) }
+    ensures small { result < 2 ^ 33 }
+{
+    if range.start < range.end {
+        (i64::from(range.end) - i64::from(range.start)) as u64
+    } else {
+        0
+    }
 }

@@ -1,9 +1,10 @@
 //! What a run begins with: its arguments.
 ghost use Rattle.std.specs.Prelude.{◌≡◌, ◌≤◌, ◌<◌, ◌-◌, ◌^◌, ◌++◌, length, map, IfOk, OnOk};
 ghost use Rattle.isp_base.specs.Arguments.{rows};
+ghost use Rattle.isp_base.specs.Rows.{Fit};
 ghost use Rattle.isp_meaning.specs.Runs.{handed};
 ghost use Rattle.isp_eval.specs.Seen.{passed_seen};
-ghost use Rattle.isp_eval.specs.Starting.{next_after, one_handed, one_size, one_store};
+ghost use Rattle.isp_eval.specs.Starting.{ArgumentsFit, OneFits, next_after, one_handed, one_size, one_store};
 
 use crate::tasks::Passed;
 use isp_base::{Argument, Array, low_bits};
@@ -47,7 +48,8 @@ fn after(argument: &Argument, next: usize, place: usize) -> usize
 
 /// The elements of the arrays among the arguments.
 pub fn stores(alloc: Global, arguments: &[Argument]) -> Result<Vec<Vec<u64>>, AllocError>
-    ensures { IfOk result (λ vs. map (λ v. v.items) vs.items ≡ map (λ r. r.bits) (rows arguments.now)) }
+    ensures same { IfOk result (λ vs. map (λ v. v.items) vs.items ≡ map (λ r. r.bits) (rows arguments.now)) }
+    ensures fits { IfOk result (λ vs. ArgumentsFit arguments.now) }
 {
     let mut stores = Vec::new(alloc);
     for place in 0..arguments.len() {
@@ -61,7 +63,8 @@ fn push_store(
     stores: &mut Vec<Vec<u64>>,
     argument: &Argument,
 ) -> Result<(), AllocError>
-    ensures { OnOk result (map (λ v. v.items) stores.new.items ≡ map (λ v. v.items) stores.old.items ++ one_store argument.now) }
+    ensures more { OnOk result (map (λ v. v.items) stores.new.items ≡ map (λ v. v.items) stores.old.items ++ one_store argument.now) }
+    ensures fits { OnOk result (OneFits argument.now) }
 {
     match argument {
         Argument::Value(_) => Ok(()),
@@ -97,7 +100,8 @@ fn push_size(sizes: &mut Vec<usize>, argument: &Argument) -> Result<(), AllocErr
 
 // The elements of an array.
 fn elements(alloc: Global, array: &Array) -> Result<Vec<u64>, AllocError>
-    ensures { IfOk result (λ v. v.items ≡ array.now.bits) }
+    ensures same { IfOk result (λ v. v.items ≡ array.now.bits) }
+    ensures fits { IfOk result (λ v. Fit array.now.elem array.now.bits) }
 {
     let mut values = Vec::new(alloc);
     for place in 0..array.len() {

@@ -5,7 +5,7 @@ use Rattle.isp_typed.specs.Views.{function_of}
 use Rattle.isp_eval.specs.Passing.{does_call}
 use Rattle.isp_eval.specs.Seen.{passed_seen}
 use Rattle.isp_eval.specs.Tasks.{Comes, Halts}
-use Rattle.isp_eval.proofs.Ending.{first_ends, first_halts}
+use Rattle.isp_eval.proofs.Leading.{first_ends, first_halts}
 use Rattle.isp_eval.proofs.Turns.{at_err}
 use Rattle.isp_eval.proofs.state.Evaluator.done.Goals as goal
 

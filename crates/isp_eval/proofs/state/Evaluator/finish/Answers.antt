@@ -2,7 +2,7 @@ use Rattle.std.proofs.Common.{refl, ap, subst, ◌∙◌, ◌++◌, ◌+◌, ◌
 use Rattle.std.specs.Prelude.{option_to_list, vec_len, MatchOption}
 use Rattle.isp_eval.specs.Tasks.{Halts, rest}
 use Rattle.isp_eval.specs.declared.tasks.Task.{Task}
-use Rattle.isp_eval.proofs.Ending.{leads_begin, leads_next, leads_halt, leads_done}
+use Rattle.isp_eval.proofs.Leading.{leads_begin, leads_next, leads_halt, leads_done}
 use Rattle.isp_eval.proofs.Turns.{at_err}
 use Rattle.isp_eval.proofs.state.Evaluator.finish.Goals as goal
 

@@ -1,0 +1,30 @@
+-- The elements of a run's arrays fit the types that the arrays have.
+use Rattle.std.specs.Prelude.{◌≡◌, ℕ, suc, ◌^◌, ◌<◌, List, [], ◌∷◌, Some, true, slice_get}
+use Rattle.std.specs.List.{All}
+use Rattle.isp_base.specs.Arguments.{rows}
+use Rattle.isp_base.specs.Binding.{has_signature}
+use Rattle.isp_base.specs.Maps.{Lanes}
+use Rattle.isp_base.specs.Rows.{Row, Fit}
+use Rattle.isp_base.specs.Values.{width}
+use Rattle.isp_base.specs.declared.signature.Argument.{Argument}
+use Rattle.isp_lex.specs.declared.fault.Fault.{Fault}
+use Rattle.isp_typed.specs.Fine.{IsFine}
+use Rattle.isp_typed.specs.Typed.{Program, TFunction}
+use Rattle.isp_rates.specs.Program.{ProgramBreach}
+use Rattle.isp_meaning.specs.Runs.{meaning, state_of}
+
+-- each element of the b-th array is below 2 ^ width of its type
+abbrev pub RowsFit : List Row → (ℕ → Lanes) → Type 0
+RowsFit [] f = Unit {0}
+RowsFit (r ∷ rs) f = ((e : ℕ) → f 0 e < 2 ^ width r.elem) × RowsFit rs (λ b. f (suc b))
+
+-- The program is one that names, types and rates accept, and the arguments have the signature of the function.
+abbrev pub ElementsFit : Type 0
+ElementsFit =
+    (program : Program) (f : ℕ) (h : TFunction) (xs : List Argument) (n : ℕ)
+    → IsFine program
+    → ((e : Fault) → ProgramBreach program e → ⊥)
+    → slice_get program.functions f ≡ Some h
+    → has_signature h.parameters xs ≡ true
+    → All (λ r. Fit r.elem r.bits) (rows xs)
+    → RowsFit (rows xs) (state_of (meaning program f n xs)).arrays

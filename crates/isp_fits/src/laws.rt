@@ -1,0 +1,8 @@
+//! What holds of every run. No code is run here: the function carries a law in its contract.
+ghost use Rattle.isp_fits.specs.Fits.{ElementsFit};
+
+/// Where the elements of the arrays that a run begins with fit their types, those of the arrays that it reaches do,
+/// after any number of turns, and whether it has ended, trapped or goes on.
+pub fn elements_fit()
+    ensures { ElementsFit }
+{}
