@@ -2,7 +2,7 @@
 use crate::rows::front;
 use isp_base::{Bound, Gang};
 use isp_bind::bind;
-use isp_eval::{EvalFault, evaluate, work};
+use isp_eval::{EvalFault, evaluate};
 use isp_rates::Checked;
 use std::alloc::Global;
 use std::process::Abort;
@@ -62,17 +62,11 @@ fn bound(alloc: Global, checked: &Checked, asked: Asked<'_>) -> Result<Bound, Fa
     }
 }
 
-// Whether the entry is found, by the run and by its work.
-fn is_found(alloc: Global, checked: &Checked, entry: &str, bound: &Bound) -> (bool, bool) {
-    (
-        !matches!(
-            evaluate(alloc, checked, entry, bound, 1),
-            Err(EvalFault::NoEntry)
-        ),
-        !matches!(
-            work(alloc, checked, entry, bound, 1),
-            Err(EvalFault::NoEntry)
-        ),
+// Whether the entry is found.
+fn is_found(alloc: Global, checked: &Checked, entry: &str, bound: &Bound) -> bool {
+    !matches!(
+        evaluate(alloc, checked, entry, bound, 1),
+        Err(EvalFault::NoEntry)
     )
 }
 
@@ -90,9 +84,7 @@ fn compare(rt: &impl Abort, alloc: Global, checked: &Checked, line: &str) -> Res
         return Err(Fail::from("a line that says too little"));
     };
     let bound = bound(alloc, checked, asked)?;
-    let (run, counted) = is_found(alloc, checked, asked.entry, &bound);
-    same(rt, asked, run);
-    same(rt, asked, counted);
+    same(rt, asked, is_found(alloc, checked, asked.entry, &bound));
     Ok(())
 }
 

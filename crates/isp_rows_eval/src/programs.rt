@@ -1,8 +1,8 @@
 //! The programs of the tables, each run.
 use crate::rows::compare_all;
 use crate::tables::{
-    breaks, continues, counted, deep_expressions, deep_statements, divergent_prints,
-    divergent_traps, effects, independent, masks, nested, returns, worked,
+    breaks, continues, deep_expressions, deep_statements, divergent_prints, divergent_traps,
+    effects, independent, masks, nested, returns, worked,
 };
 use std::test::Fail;
 
@@ -84,9 +84,4 @@ fn calls_under_a_hundred_statements(rt: HostRuntime) -> Result<(), Fail> {
 #[test]
 fn programs_of_an_independent_implementation(rt: HostRuntime) -> Result<(), Fail> {
     compare_all(&rt, rt.alloc(), independent::ROWS, independent::COUNT)
-}
-
-#[test]
-fn work_counted_by_hand(rt: HostRuntime) -> Result<(), Fail> {
-    compare_all(&rt, rt.alloc(), counted::ROWS, counted::COUNT)
 }

@@ -2,7 +2,7 @@
 use crate::rows::front;
 use isp_base::{Bound, Gang, Value};
 use isp_bind::bind;
-use isp_eval::{EvalFault, Outcome, evaluate, work};
+use isp_eval::{EvalFault, Outcome, evaluate};
 use isp_rates::Checked;
 use isp_refuse::Hoard;
 use std::alloc::Global;
@@ -12,9 +12,6 @@ use std::test::Fail;
 /// 5 + 0, 6 + 1, 7 + 2; even p print b[0], odd p b[1].
 const TEXT: &str =
     r##"int g(int x) { int t[2]; t[x & 1] = x; return t[x & 1]; } export uniform int f(uniform int a[]) { uniform int b[3]; foreach (i = 0 ... 3) b[i] = a[i] + g(i); print("%\n", b[programIndex & 1]); return b[2]; }"##;
-
-/// The body, the `foreach`, two bounds and one run; the assignment, index and operand, sum, index, operand and number: 12.
-const COUNTED: &str = "export void f(uniform int a[]) { foreach (i = 0 ... 3) a[i] = a[i] + 1; }";
 
 fn bound(alloc: Global, checked: &Checked) -> Result<Bound, Fail> {
     match checked.signature("f") {
@@ -47,22 +44,8 @@ fn is_right(outcome: &Outcome) -> bool {
 fn evaluated(alloc: Global, checked: &Checked, bound: &Bound) -> Option<bool> {
     match evaluate(alloc, checked, "f", bound, 0) {
         Ok(outcome) => Some(is_right(&outcome)),
-        Err(fault) => refused(fault),
-    }
-}
-
-// Likewise for its work.
-fn counted(alloc: Global, checked: &Checked, bound: &Bound) -> Option<bool> {
-    match work(alloc, checked, "f", bound, 0) {
-        Ok(count) => Some(count == 12),
-        Err(fault) => refused(fault),
-    }
-}
-
-fn refused(fault: EvalFault) -> Option<bool> {
-    match fault {
-        EvalFault::Memory => None,
-        EvalFault::NoEntry => Some(false),
+        Err(EvalFault::Memory) => None,
+        Err(EvalFault::NoEntry) => Some(false),
     }
 }
 
@@ -80,23 +63,6 @@ fn memory_refused_to_evaluate(rt: HostRuntime) -> Result<(), Fail> {
                 right && step > 0,
                 "another outcome, or nothing was refused"
             );
-            return Ok(());
-        }
-    }
-    Err(Fail::from("always refused"))
-}
-
-// Memory is refused to `work` at each place in turn, and at last comes the count.
-#[test]
-fn memory_refused_to_work(rt: HostRuntime) -> Result<(), Fail> {
-    let alloc = rt.alloc();
-    let checked = front(alloc, COUNTED, Gang::W4)?;
-    let bound = bound(alloc, &checked)?;
-    let mut hoard = Hoard::new(alloc)?;
-    for step in 0..32_000usize {
-        assert!(rt; hoard.leave(64 * step), "the pool is too small");
-        if let Some(right) = counted(alloc, &checked, &bound) {
-            assert!(rt; right && step > 0, "another count, or nothing was refused");
             return Ok(());
         }
     }

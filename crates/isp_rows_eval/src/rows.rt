@@ -2,7 +2,7 @@
 use crate::marks::without_marks;
 use isp_base::{Array, Bound, Gang, Signature, Value};
 use isp_bind::{answer, bind};
-use isp_eval::{Outcome, evaluate, work};
+use isp_eval::{Outcome, evaluate};
 use isp_lex::{SourceFault, lex};
 use isp_rates::{Checked, check};
 use isp_syntax::parse;
@@ -32,8 +32,6 @@ pub(crate) struct Call<'a> {
     pub entry: &'a str,
     /// How many turns each loop may make each time it is entered.
     pub turns: u64,
-    /// How many nodes the run reaches, where that is known.
-    pub work: Option<u64>,
     /// The arguments in JSON.
     pub arguments: &'a str,
 }
@@ -57,13 +55,11 @@ fn number(text: &str) -> Option<u64> {
 fn called(line: &str) -> Option<Call<'_>> {
     let (lanes, rest) = line.split_once(' ')?;
     let (entry, rest) = rest.split_once(' ')?;
-    let (turns, rest) = rest.split_once(' ')?;
-    let (work, arguments) = rest.split_once(' ')?;
+    let (turns, arguments) = rest.split_once(' ')?;
     Some(Call {
         gang: gang_named(lanes),
         entry,
         turns: number(turns)?,
-        work: number(work),
         arguments,
     })
 }
@@ -91,20 +87,14 @@ pub(crate) fn front(alloc: Global, source: &str, gang: Gang) -> Result<Checked, 
     check(alloc, resolve(alloc, &tree, gang)?)
 }
 
-/// How a run stands, as a record says it, what it wrote, and its work where that is asked for.
+/// How a run stands, as a record says it, and what it wrote.
 #[derive(Drop)]
 struct Found {
     ending: String,
     output: Vec<u8>,
-    work: Option<u64>,
 }
 
-fn told(
-    alloc: Global,
-    signature: &Signature,
-    outcome: Outcome,
-    work: Option<u64>,
-) -> Result<Found, AllocError> {
+fn told(alloc: Global, signature: &Signature, outcome: Outcome) -> Result<Found, AllocError> {
     match outcome {
         Outcome::Ends {
             arrays,
@@ -113,7 +103,6 @@ fn told(
         } => Ok(Found {
             ending: ended(alloc, signature, arrays.as_slice(), returned)?,
             output,
-            work,
         }),
         Outcome::Traps {
             trap,
@@ -124,13 +113,11 @@ fn told(
             Ok(Found {
                 ending: format!(in alloc; "{trap}: {text}")?,
                 output,
-                work,
             })
         }
         Outcome::Cut { output } => Ok(Found {
             ending: String::from_str(alloc, "cut")?,
             output,
-            work,
         }),
     }
 }
@@ -153,11 +140,7 @@ fn run_bound(
     call: Call<'_>,
 ) -> Result<Found, Fail> {
     let outcome = evaluate(alloc, checked, call.entry, bound, call.turns)?;
-    let work = match call.work {
-        Some(_) => Some(work(alloc, checked, call.entry, bound, call.turns)?),
-        None => None,
-    };
-    Ok(told(alloc, signature, outcome, work)?)
+    Ok(told(alloc, signature, outcome)?)
 }
 
 fn run(alloc: Global, source: &str, call: Call<'_>) -> Result<Found, Fail> {
@@ -179,10 +162,6 @@ fn same_output(rt: &impl Abort, name: &str, found: &[u8], wanted: &[u8]) {
     assert!(rt; found == wanted, "{name}: another output");
 }
 
-fn same_work(rt: &impl Abort, name: &str, found: Option<u64>, wanted: Option<u64>) {
-    assert!(rt; found == wanted, "{name}: another work");
-}
-
 /// Runs the program of a row and compares what comes out.
 fn compare(rt: &impl Abort, alloc: Global, row: Row<'_>) -> Result<(), Fail> {
     let marked = without_marks(alloc, row.source)?;
@@ -191,7 +170,6 @@ fn compare(rt: &impl Abort, alloc: Global, row: Row<'_>) -> Result<(), Fail> {
     same_ending(rt, row.name, found.ending.as_str(), wanted.as_str());
     let output = written(alloc, row.output)?;
     same_output(rt, row.name, found.output.as_slice(), output.as_bytes());
-    same_work(rt, row.name, found.work, row.call.work);
     Ok(())
 }
 
