@@ -1,5 +1,5 @@
 -- What an expression gives fits its type, and leaves a state whose values fit theirs.
-use Rattle.std.specs.Prelude.{◌≡◌, ℕ, zero, suc, ◌^◌, ◌<◌, ◌≤◌, List, [], ◌∷◌, length, take, drop, Option, Some, Bool, if◌then◌else◌, slice_get}
+use Rattle.std.specs.Prelude.{◌≡◌, ℕ, zero, suc, ◌^◌, ◌<◌, ◌≤◌, List, [], ◌∷◌, length, take, drop, Option, Some, Bool, slice_get}
 use Rattle.std.specs.List.{All}
 use Rattle.std.proofs.Common.{refl, sym, ap, ◌∙◌, subst, arith, mod-lt, pow_pos, inl, inr}
 use Rattle.std.proofs.lemmas.List.Elements.{All-head, All-tail}
@@ -73,9 +73,6 @@ abbrev pub CallsFit : ℕ → List TFunction → Calls → Type 0
 CallsFit gang fs calls =
     (k : ℕ) (g : TFunction) → slice_get fs k ≡ Some g → (sp : Span) (a : Mask) (ps : List Passed) (w : World) (s : State) → ArgumentsFit gang w g.variables ps → Sound gang w s → ValFits gang w (Fits gang (answer_elem g.answer)) (calls k sp a ps w.frame s)
 
-compare_lt : (b : Bool) → (if b then 1 else 0) < 2 ^ 1
-compare_lt b = bit_lt b
-
 module _ (gang : ℕ) (some : 0 < gang) (few : gang ≤ 16) (fs : List TFunction) (each : (k : ℕ) (g : TFunction) → slice_get fs k ≡ Some g → FineFunction fs g) (calls : Calls) (fit : CallsFit gang fs calls) (w : World) (stands : Stands w) where
   as_fit : (m : Payload) {e t : Elem} → e ≡ t → Fits gang e m → Fits gang t m
   as_fit m e h = subst (λ z. Fits gang z m) e h
@@ -104,7 +101,7 @@ module _ (gang : ℕ) (some : 0 < gang) (few : gang ≤ 16) (fs : List TFunction
     value_fits (t_binary op x y t sp) f n a s h =
         bind_fits gang w (Fits gang (elem_of x)) (Fits gang t.elem) _ _ (value_fits x f.0 (λ e b. n e (inl b)) a (tick s) h) (λ m s1 k h1. bind_fits gang w (Fits gang (elem_of y)) (Fits gang t.elem) _ _ (value_fits y f.1 (λ e b. n e (inr b)) a s1 h1) (λ u s2 j h2. checked_fits gang w (Fits gang t.elem) (offender gang (is_zero op t.elem) a u) Divide sp s2 _ (joined_bounded gang (2 ^ width t.elem) (op_bits op t.elem) (λ i l. wrap_lt t.elem _) a m u) h2))
     value_fits (t_compare c x y r sp) f n a s h =
-        bind_fits gang w (Fits gang (elem_of x)) (Fits gang Truth) _ _ (value_fits x f.0 (λ e b. n e (inl b)) a (tick s) h) (λ m s1 k h1. bind_fits gang w (Fits gang (elem_of y)) (Fits gang Truth) _ _ (value_fits y f.1 (λ e b. n e (inr b)) a s1 h1) (λ u s2 j h2. gives_fits gang w (Fits gang Truth) _ s2 (joined_bounded gang (2 ^ 1) (compare_bits c (elem_of x)) (λ i l. compare_lt _) a m u) h2))
+        bind_fits gang w (Fits gang (elem_of x)) (Fits gang Truth) _ _ (value_fits x f.0 (λ e b. n e (inl b)) a (tick s) h) (λ m s1 k h1. bind_fits gang w (Fits gang (elem_of y)) (Fits gang Truth) _ _ (value_fits y f.1 (λ e b. n e (inr b)) a s1 h1) (λ u s2 j h2. gives_fits gang w (Fits gang Truth) _ s2 (joined_bounded gang (2 ^ 1) (compare_bits c (elem_of x)) (λ i l. bit_lt _) a m u) h2))
     value_fits (t_logic l x y r sp) f n a s h =
         bind_fits gang w (Fits gang Truth) (Fits gang Truth) _ _ (val_as _ f.2.left (value_fits x f.0 (λ e b. n e (inl b)) a (tick s) h)) (λ m s1 k h1. bind_fits gang w (Fits gang Truth) (Fits gang Truth) _ _ (unless_value gang w Truth gang (kept_by (needs l) a m) s1 (value gang w.frame calls y) (val_as _ f.2.right (value_fits y f.1 (λ e b. n e (inr b)) (kept_by (needs l) a m) s1 h1)) h1) (λ u s2 j h2. gives_fits gang w (Fits gang Truth) _ s2 (settled_bounded gang (2 ^ 1) l a m u k j) h2))
     value_fits (t_choose c x y t sp) f n a s h =

@@ -13,12 +13,13 @@ use Rattle.isp_typed.specs.Typed.{Program, TFunction}
 use Rattle.isp_rates.specs.Program.{ProgramBreach}
 use Rattle.isp_meaning.specs.Runs.{meaning, state_of}
 
--- each element of the b-th array is below 2 ^ width of its type
+-- each element that f gives for an array is below 2 ^ width of the array's type
 abbrev pub RowsFit : List Row → (ℕ → Lanes) → Type 0
 RowsFit [] f = Unit {0}
 RowsFit (r ∷ rs) f = ((e : ℕ) → f 0 e < 2 ^ width r.elem) × RowsFit rs (λ b. f (suc b))
 
--- The program is one that names, types and rates accept, and the arguments have the signature of the function.
+-- The program is one that names, types and rates accept, and the arguments have the signature of the function. Rates are
+-- asked since a packed store to an array of which each instance has its own would write another array, of any type.
 abbrev pub ElementsFit : Type 0
 ElementsFit =
     (program : Program) (f : ℕ) (h : TFunction) (xs : List Argument) (n : ℕ)
