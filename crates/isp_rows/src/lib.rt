@@ -14,8 +14,6 @@ mod lanes;
 #[cfg(test)]
 mod operators;
 #[cfg(test)]
-mod programs;
-#[cfg(test)]
 mod reading;
 #[cfg(test)]
 mod runs;

@@ -1,10 +1,12 @@
-//! Programs that are compiled and run, against what comes out by the language's rules.
+//! Programs that are compiled and run, against what comes out by the language's rules, and against what the evaluator finds.
 //!
 //! A record of a table has five lines: `=== ` and its name; how what comes out was worked out, where p is the number of each
 //! instance; the gang's size, the entry, the budget and the arguments; what comes out, which is the answer, or the trap's kind and
 //! instance; and the source, in which a trap's place stands between `⟦` and `⟧`.
+use crate::machines::AMPLE;
+use crate::runs::{evaluated, executed};
 use isp_base::Gang;
-use isp_engine::{Ending, compile, execute};
+use isp_engine::compile;
 use std::alloc::Global;
 use std::process::Abort;
 use std::test::Fail;
@@ -15,12 +17,12 @@ mod worked;
 
 /// A program, how its entry is called, and what comes out.
 #[derive(Clone, Copy)]
-struct Row<'a> {
+pub(crate) struct Row<'a> {
     name: &'a str,
-    gang: Gang,
-    entry: &'a str,
+    pub gang: Gang,
+    pub entry: &'a str,
     budget: u64,
-    arguments: &'a str,
+    pub arguments: &'a str,
     outcome: &'a str,
     source: &'a str,
 }
@@ -86,23 +88,18 @@ fn unmarked(alloc: Global, outcome: &str, marked: &str) -> Result<(String, Strin
     Ok((source, line))
 }
 
-// How the run of a compiled program stands, as a record says it.
-fn run(alloc: Global, source: &str, row: Row<'_>) -> Result<String, Fail> {
-    let image = compile(alloc, source, row.gang)?;
-    let report = execute(alloc, &image, row.entry, row.arguments, row.budget)?;
-    match (report.ending, &report.answer) {
-        (Ending::Ended, Some(text)) => Ok(String::from_str(alloc, text)?),
-        (Ending::Trapped(trap), None) => Ok(format!(in alloc; "{trap}")?),
-        (Ending::Running, None) => Ok(String::from_str(alloc, "running")?),
-        _ => Err(Fail::from("an answer where there is none, or none where there is one")),
-    }
+fn same(rt: &impl Abort, name: &str, found: &str, wanted: &str) {
+    assert!(rt; found == wanted, "{name}: {found}, not {wanted}");
 }
 
 fn compare(rt: &impl Abort, alloc: Global, row: Row<'_>) -> Result<(), Fail> {
     let (source, wanted) = unmarked(alloc, row.outcome, row.source)?;
-    let found = run(alloc, source.as_str(), row)?;
-    let name = row.name;
-    assert!(rt; found == wanted, "{name}: {found}, not {wanted}");
+    let image = compile(alloc, source.as_str(), row.gang)?;
+    let found = executed(alloc, &image, row, row.budget)?;
+    same(rt, row.name, found.as_str(), wanted.as_str());
+    let ample = executed(alloc, &image, row, AMPLE)?;
+    let evaluated = evaluated(alloc, source.as_str(), row)?;
+    same(rt, row.name, ample.as_str(), evaluated.as_str());
     Ok(())
 }
 

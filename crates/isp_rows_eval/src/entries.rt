@@ -1,0 +1,110 @@
+//! Entries that are not there.
+use crate::rows::front;
+use isp_base::{Bound, Gang};
+use isp_bind::bind;
+use isp_eval::{EvalFault, evaluate};
+use isp_rates::Checked;
+use std::alloc::Global;
+use std::process::Abort;
+use std::test::Fail;
+
+/// Functions that differ in their parameters and results alone, and one that is not exported.
+const TEXT: &str =
+    "export void nothing() { } export void array(uniform int a[]) { } export void narrow(uniform int8 a[]) { } export void value(uniform int a) { } export void both(uniform int a[], uniform int n) { } export void turned(uniform int n, uniform int a[]) { } export uniform int result(uniform int a[]) { return 1; } void hidden() { }";
+
+/// Each line: whether the entry is there for them, the entry that is asked for, a function whose arguments it is given, and these.
+const LINES: &str = r##"found nothing nothing {}
+found array array {"a":[1,2]}
+found result result {"a":[]}
+refused dec nothing {}
+refused hidden nothing {}
+refused Nothing nothing {}
+refused noth nothing {}
+refused nothings nothing {}
+refused nothing array {"a":[1,2]}
+refused array nothing {}
+refused array narrow {"a":[1,2]}
+refused narrow array {"a":[1,2]}
+refused array value {"a":1}
+refused value array {"a":[1,2]}
+refused array both {"a":[1],"n":2}
+refused both array {"a":[1,2]}
+refused both turned {"n":2,"a":[1]}
+refused turned both {"a":[1],"n":2}
+found turned turned {"n":2,"a":[1]}
+"##;
+
+/// One line of the table.
+#[derive(Clone, Copy)]
+struct Asked<'a> {
+    takes: bool,
+    entry: &'a str,
+    given: &'a str,
+    json: &'a str,
+}
+
+fn read(line: &str) -> Option<Asked<'_>> {
+    let (word, rest) = line.split_once(' ')?;
+    let (entry, rest) = rest.split_once(' ')?;
+    let (given, json) = rest.split_once(' ')?;
+    Some(Asked {
+        takes: word == "found",
+        entry,
+        given,
+        json,
+    })
+}
+
+fn bound(alloc: Global, checked: &Checked, asked: Asked<'_>) -> Result<Bound, Fail> {
+    match checked.signature(asked.given) {
+        Some(signature) => Ok(bind(alloc, signature, asked.json)?),
+        None => Err(Fail::from("no such function")),
+    }
+}
+
+// Whether the entry is found.
+fn is_found(alloc: Global, checked: &Checked, entry: &str, bound: &Bound) -> bool {
+    !matches!(
+        evaluate(alloc, checked, entry, bound, 1),
+        Err(EvalFault::NoEntry)
+    )
+}
+
+fn same(rt: &impl Abort, asked: Asked<'_>, found: bool) {
+    assert!(rt;
+        found == asked.takes,
+        "{} with the arguments of {}",
+        asked.entry,
+        asked.given
+    );
+}
+
+fn compare(rt: &impl Abort, alloc: Global, checked: &Checked, line: &str) -> Result<(), Fail> {
+    let Some(asked) = read(line) else {
+        return Err(Fail::from("a line that says too little"));
+    };
+    let bound = bound(alloc, checked, asked)?;
+    same(rt, asked, is_found(alloc, checked, asked.entry, &bound));
+    Ok(())
+}
+
+#[test]
+fn entries_that_are_not_there(rt: HostRuntime) -> Result<(), Fail> {
+    let alloc = rt.alloc();
+    let checked = front(alloc, TEXT, Gang::W4)?;
+    let mut left: usize = 19;
+    for line in LINES.lines() {
+        compare(&rt, alloc, &checked, line)?;
+        left = left.saturating_sub(1);
+    }
+    assert_eq!(rt; left, 0);
+    Ok(())
+}
+
+#[test]
+fn refusal_as_text(rt: HostRuntime) -> Result<(), Fail> {
+    let alloc = rt.alloc();
+    let text = format!(in alloc; "{}", EvalFault::NoEntry)?;
+    assert_eq!(rt; text.as_str(), "50 NoEntry");
+    Ok(())
+}
