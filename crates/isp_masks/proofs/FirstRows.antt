@@ -19,7 +19,7 @@ use Rattle.isp_lower.specs.Emitted.{Begins, row_at, row_where, value_row, value_
 use Rattle.isp_lower.specs.Rows.{Variable, Result, Row, Rows, name_number, elem_in, rows_at}
 use Rattle.isp_lower.proofs.Rows.{rows_stay}
 use Rattle.isp_masks.specs.Compiled.{HoldsOne, row_then, parameter_rows}
-use Rattle.isp_masks.specs.Lowered.{value_kind, kind_of, elem_held, param_of, params_of, types_of}
+use Rattle.isp_masks.specs.Lowered.{value_kind, kind_of, elem_held, param_of, params_of}
 use Rattle.isp_masks.specs.Made.{ResultRow}
 use Rattle.isp_masks.proofs.Begins.{some_same}
 
@@ -122,9 +122,3 @@ result_row vs (Some t) rows s v = go t.rate refl
     go : (r : Rate) → t.rate ≡ r → elem_in (rows_at rows r) Result ≡ Some t.elem
     go Uniform e = result_at Uniform vs t rows.scalars e s
     go Varying e = result_at Varying vs t rows.vectors e v
-
--- ---- types
-
-pub types_are : (rows : List Row) → types_of rows ≡ map (λ y. y.elem) rows
-types_are [] = refl
-types_are (r ∷ rows) = ap (λ z. r.elem ∷ z) (types_are rows)

@@ -22,29 +22,20 @@ use Rattle.isp_masks.specs.Accepted.{IsBodyCode, CodeAccepted}
 use Rattle.isp_masks.specs.Agreed.{LoweredAgrees}
 use Rattle.isp_masks.specs.Compiled.{IsEntryCode, IsProgramCode}
 use Rattle.isp_masks.specs.Laws.{FunctionFits, CheckedFits, ProgramRuns}
-use Rattle.isp_masks.specs.Lowered as lowered
-use Rattle.isp_masks.specs.Lowered.{IsLowered, HasCode}
-use Rattle.isp_masks.specs.Made.{returns_of, returns_at, IsMade, GivesUniform, MadeIsCode}
+use Rattle.isp_masks.specs.Lowered.{IsLowered, HasCode, returns_of, types_of, value_returned}
+use Rattle.isp_masks.specs.Made.{IsMade, GivesUniform, MadeIsCode}
 use Rattle.isp_masks.specs.Parts.{BlockTree}
-use Rattle.isp_masks.proofs.FirstRows.{parameters_same, scalars_first, result_row, types_are}
+use Rattle.isp_masks.proofs.FirstRows.{parameters_same, scalars_first, result_row}
 use Rattle.isp_masks.proofs.Heads.{names_apart, names_same, new_name, exports, head_fits}
 use Rattle.isp_masks.proofs.Standing.{arrays_stand}
 
 -- ---- one function
 
-value_given : (r : Rate) (t : Elem) → lowered.value_returned r t ≡ returns_at r t
-value_given Uniform t = refl
-value_given Varying t = refl
-
-given : (answer : Option Ty) → lowered.returns_of answer ≡ returns_of answer
-given None = refl
-given (Some t) = value_given t.rate t.elem
-
-given_at : (r : Rate) (t : Elem) → result_of (lowered.value_returned r t) ≡ Some t
+given_at : (r : Rate) (t : Elem) → result_of (value_returned r t) ≡ Some t
 given_at Uniform t = refl
 given_at Varying t = refl
 
-given_is : (answer : Option Ty) → result_of (lowered.returns_of answer) ≡ option_map (λ t. t.elem) answer
+given_is : (answer : Option Ty) → result_of (returns_of answer) ≡ option_map (λ t. t.elem) answer
 given_is None = refl
 given_is (Some t) = given_at t.rate t.elem
 
@@ -56,15 +47,15 @@ module _ (fs : List TFunction) (code : Listing) (h : TFunction) (g : Routine) (f
   pub parameters : parameters_of g ≡ h.parameters
   parameters = ap (map parameter_of) low.params ∙ parameters_same (length h.params) h.parameters h.variables fine.params
 
-  types : (r : Rate) → types_in (table_of g) (class_at r) ≡ map (λ y. y.elem) (rows_at low.rows r)
-  types Uniform = low.scalars ∙ types_are low.rows.scalars
-  types Varying = low.vectors ∙ types_are low.rows.vectors
+  types : (r : Rate) → types_in (table_of g) (class_at r) ≡ types_of (rows_at low.rows r)
+  types Uniform = low.scalars
+  types Varying = low.vectors
 
   pub is_made : IsMade code h g low.rows low.place
   is_made = record {
     types = types;
     parameters = parameters;
-    returns = low.returns ∙ given h.answer;
+    returns = low.returns;
     arrays = arrays_stand fs h g low.rows fine parameters low.locals low.arrays_first;
     rows_are = low.present;
     result = result_row h.variables h.answer low.rows low.scalars_first low.vectors_first;

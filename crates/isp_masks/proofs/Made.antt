@@ -20,7 +20,8 @@ use Rattle.isp_lower.proofs.Rows.{layout_apart, register_there}
 use Rattle.isp_masks.specs.Accepted.{IsBodyCode}
 use Rattle.isp_masks.specs.Compiled.{ResultFits, IsCompiled, PassedUniform, parameter_rows}
 use Rattle.isp_masks.specs.Laws.{BodyPresent}
-use Rattle.isp_masks.specs.Made.{returns_at, returns_of, ResultRow, IsMade, GivesUniform}
+use Rattle.isp_masks.specs.Lowered.{value_returned, returns_of}
+use Rattle.isp_masks.specs.Made.{ResultRow, IsMade, GivesUniform}
 use Rattle.isp_masks.specs.Parts.{BlockTree}
 use Rattle.isp_masks.specs.Statements.{block_places, returned, function_code}
 use Rattle.isp_masks.proofs.ArraysThere.{body_present}
@@ -51,7 +52,7 @@ module _ (fs : List TFunction) (code : Listing) (h : TFunction) (g : Routine) (r
   present =
       body_present fs h g (layout_of rows) fine made.arrays made.parameters 3 (block_grows (HasRow rows) (HasRegister g (layout_of rows)) (register_there g rows made.types) AnyArray AnyArray AnyArray AnyArray (HasMask g) (HasMask g) (λ b z. z) (λ b z. z) (λ n z. z) h.answer h.body 3 made.rows_are)
 
-  given_at : (r : Rate) (t : Elem) → HasRegister g (layout_of rows) r Result t → IsGiven g (returns_at r t) (Some (register r ((layout_of rows).result r)))
+  given_at : (r : Rate) (t : Elem) → HasRegister g (layout_of rows) r Result t → IsGiven g (value_returned r t) (Some (register r ((layout_of rows).result r)))
   given_at Uniform t is = is
   given_at Varying t is = is
 

@@ -1,6 +1,7 @@
 -- A routine from its parts.
 use Rattle.std.proofs.Common.{◌≡◌, ℕ, suc, ◌+◌, ◌<◌, ◌≤◌, List, [], ◌∷◌, ◌++◌, length, refl, sym, ap, subst, ◌∙◌, arith, append_assoc, append-nil, length-append, drop, Option, Some, slice_get}
 use Rattle.std.proofs.Math.Seq.{drop-append_seam}
+use Rattle.std.proofs.lemmas.List.{map-append}
 use Rattle.isp_base.specs.declared.signature.Parameter.{Parameter}
 use Rattle.isp_base.specs.declared.types.Elem.{Elem}
 use Rattle.isp_base.specs.declared.types.Rate.{Rate}
@@ -47,10 +48,6 @@ body_is a b c answer x back y is z =
 
 -- ---- registers: those of the parameters come first
 
-types_append : (xs ys : List Row) → types_of (xs ++ ys) ≡ types_of xs ++ types_of ys
-types_append [] ys = refl
-types_append (x ∷ xs) ys = ap (λ z. x.elem ∷ z) (types_append xs ys)
-
 -- by the rate that a value has
 value_type : (r q : Rate) (k : ℕ) (e : Elem) (rows : List Row) (ts rest : List Elem) → types_of rows ≡ ts ++ rest
     → types_of (row_where (same_rate r q) (row_at k e) rows) ≡ if_class (same_class (class_of (value_kind q)) (class_at r)) e ts ++ rest
@@ -85,7 +82,7 @@ registers_are r ps vs more rows params types is all behind =
     let front = param_elems (class_at r) params in
     let same : front ≡ param_elems (class_at r) (params_of ps vs) = ap (param_elems (class_at r)) is in
     let long : types_of rows ≡ front ++ (w.0 ++ types_of more) =
-    ap types_of all ∙ types_append (value_rows r 0 vs) more ∙ ap (λ z. z ++ types_of more) w.1 ∙ append_assoc (param_elems (class_at r) (params_of ps vs)) w.0 (types_of more) ∙ ap (λ z. z ++ (w.0 ++ types_of more)) (sym same) in
+    ap types_of all ∙ map-append (λ (y : Row). y.elem) (value_rows r 0 vs) more ∙ ap (λ z. z ++ types_of more) w.1 ∙ append_assoc (param_elems (class_at r) (params_of ps vs)) w.0 (types_of more) ∙ ap (λ z. z ++ (w.0 ++ types_of more)) (sym same) in
     ap (λ z. front ++ z) behind ∙ refilled (types_of rows) front (w.0 ++ types_of more) long
 
 -- ---- places

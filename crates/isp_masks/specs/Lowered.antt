@@ -1,5 +1,5 @@
 -- A routine that is the code of a function: its header and its registers are those of the function, by rows.
-use Rattle.std.specs.Prelude.{◌≡◌, ◌≤◌, ℕ, List, [], ◌∷◌, ◌++◌, length, Option, Some, None, slice_get}
+use Rattle.std.specs.Prelude.{◌≡◌, ◌≤◌, ℕ, List, [], ◌∷◌, ◌++◌, length, map, Option, Some, None, slice_get}
 use Rattle.isp_base.specs.declared.signature.Parameter.{Parameter}
 use Rattle.isp_base.specs.declared.types.Elem.{Elem}
 use Rattle.isp_base.specs.declared.types.Rate.{Rate}
@@ -62,8 +62,7 @@ returns_of (Some t) = value_returned t.rate t.elem
 
 -- the types of the registers of a class
 abbrev pub types_of : List Row → List Elem
-types_of [] = []
-types_of (r ∷ rows) = r.elem ∷ types_of rows
+types_of rows = map (λ r. r.elem) rows
 
 -- ---- a routine and a function
 

@@ -1,15 +1,12 @@
 -- A routine that is made from a function, with registers numbered by rows: what its maker keeps, so that the verifier accepts
 -- it and it agrees with the function.
-use Rattle.std.specs.Prelude.{◌≡◌, ◌≤◌, ℕ, List, ◌++◌, length, map, Option, Some, None, slice_get}
-use Rattle.isp_base.specs.declared.types.Elem.{Elem}
+use Rattle.std.specs.Prelude.{◌≡◌, ◌≤◌, ℕ, List, ◌++◌, length, Option, Some, None, slice_get}
 use Rattle.isp_base.specs.declared.types.Rate.{Rate}
-use Rattle.isp_base.specs.declared.types.Rate.TheVariants.{Uniform, Varying}
+use Rattle.isp_base.specs.declared.types.Rate.TheVariants.{Uniform}
 use Rattle.isp_base.specs.declared.types.Ty.{Ty}
 use Rattle.isp_code.specs.Entries.{parameters_of}
 use Rattle.isp_code.specs.Listing.{Listing, Routine}
 use Rattle.isp_code.specs.Registers.{table_of, types_in}
-use Rattle.isp_code.specs.declared.function.Returns.{Returns}
-use Rattle.isp_code.specs.declared.function.Returns.TheVariants.{Nothing, Scalar as GivesScalar, Vector as GivesVector}
 use Rattle.isp_typed.specs.Fine.{FineFunction}
 use Rattle.isp_typed.specs.Typed.{Program, TFunction}
 use Rattle.isp_lower.specs.Layout.{class_at}
@@ -20,17 +17,10 @@ use Rattle.isp_lower.specs.Tables.{AnyArray}
 use Rattle.isp_masks.specs.Accepted.{IsBodyCode}
 use Rattle.isp_masks.specs.Arrays.{ArraysStand}
 use Rattle.isp_masks.specs.Compiled.{IsCompiled, PassedUniform, parameter_rows}
+use Rattle.isp_masks.specs.Lowered.{returns_of, types_of}
 use Rattle.isp_masks.specs.Parts.{BlockTree}
 use Rattle.isp_masks.specs.Presence.{BlockHas}
 use Rattle.isp_masks.specs.Statements.{block_places, function_code}
-
-abbrev pub returns_at : Rate → Elem → Returns
-returns_at Uniform t = GivesScalar t
-returns_at Varying t = GivesVector t
-
-abbrev pub returns_of : Option Ty → Returns
-returns_of None = Nothing
-returns_of (Some t) = returns_at t.rate t.elem
 
 abbrev pub ResultRow : Rows → Option Ty → Type 0
 ResultRow rows None = Unit {0}
@@ -38,7 +28,7 @@ ResultRow rows (Some t) = HasRow rows t.rate Result t.elem
 
 -- its places begin at number p
 pub record IsMade (code : Listing) (h : TFunction) (g : Routine) (rows : Rows) (p : ℕ) : Type 0 where
-  pub types : (r : Rate) → types_in (table_of g) (class_at r) ≡ map (λ y. y.elem) (rows_at rows r)
+  pub types : (r : Rate) → types_in (table_of g) (class_at r) ≡ types_of (rows_at rows r)
   pub parameters : parameters_of g ≡ h.parameters
   pub returns : g.returns ≡ returns_of h.answer
   pub arrays : ArraysStand h g (layout_of rows)

@@ -16,7 +16,4 @@ pub use laws::{
     arrays_fit, bodies_accepted, bodies_fit, bodies_present, checked_fits, entries_run,
     functions_sound, lowered_agrees, made_is_code, parameters_first, programs_run, statements_run,
 };
-pub use listing::program;
 pub use lowering::lower;
-pub use routine::function;
-pub use statement::{block, stmt};

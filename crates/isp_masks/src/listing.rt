@@ -56,7 +56,7 @@ fn add_functions(code: &mut Code, functions: Vec<Function>) -> Result<(), AllocE
 
 /// The code of a program: a routine for each function, in their order, and the places in the source that they name.
 /// Memory is refused too where a number would pass 4,294,967,295, and of what has no code yet.
-pub fn program(alloc: Global, program: &Program) -> Result<Code, AllocError>
+pub(crate) fn program(alloc: Global, program: &Program) -> Result<Code, AllocError>
     ensures { IfOk result (λ code. HasCode (program_of program.now) code) }
 {
     let (listing, all) = routines(alloc, Code::new(alloc, program.gang), &program.functions)?;

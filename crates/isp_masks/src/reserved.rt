@@ -46,7 +46,7 @@ fn stmt(r: &mut Reserve, x: &TypedStmt, answer: Option<Ty>, slot: u32) -> Result
 
 /// What the code of a block asks for.
 #[cycle(stmt)]
-pub fn block(
+pub(crate) fn block(
     r: &mut Reserve,
     body: &TypedBlock,
     answer: Option<Ty>,

@@ -109,7 +109,7 @@ fn header_of(alloc: Global, b: &FunctionBuilder, f: &TypedFunction) -> Result<He
 
 /// The routine of a function, and the places in the source that code names, to which its own are added. Memory is
 /// refused too where a number would pass 4,294,967,295, and of what has no code yet.
-pub fn function(
+pub(crate) fn function(
     alloc: Global,
     listing: Code,
     f: &TypedFunction,

@@ -25,7 +25,7 @@ use std::alloc::AllocError;
 /// The code of a statement, for the lanes of mask k, in the slots from one on. Memory is refused too where a number would
 /// pass 4,294,967,295, and of what has no code yet: loops, `foreach`, `unmasked`, `print` and `assert`.
 #[cycle(stmt)]
-pub fn stmt(
+pub(crate) fn stmt(
     b: &mut FunctionBuilder,
     x: &TypedStmt,
     answer: Option<Ty>,
@@ -72,7 +72,7 @@ pub fn stmt(
 /// The code of a block: one statement after the other. Where some may have left, a jump past the rest is taken if nobody
 /// is left.
 #[cycle(stmt)]
-pub fn block(
+pub(crate) fn block(
     b: &mut FunctionBuilder,
     body: &TypedBlock,
     answer: Option<Ty>,
