@@ -1,5 +1,6 @@
 -- What one lane of a kernel computes, in words of the width w that the element type takes.
-use Rattle.std.proofs.Common.{not, bit_xor, div-le_self, pow_pos, ltb-false, mod-eq_of_lt, ◌≡◌, refl, sym, ap, ap₂, ◌∙◌, ℕ, ◌+◌, ◌-◌, ◌*◌, ◌/◌, ◌%◌, ◌^◌, ◌<◌, ◌≤◌, Bool, true, false, cond, nat_lt, ◌==◌, arith, lit≤, bit_and, subst, lt-ltb, le-ltb, ltb-true}
+use Rattle.std.proofs.Common.{List, [], ◌∷◌, map, length, replicate, zero, suc, not, bit_xor, div-le_self, pow_pos, ltb-false, mod-eq_of_lt, ◌≡◌, refl, sym, ap, ap₂, ◌∙◌, ℕ, ◌+◌, ◌-◌, ◌*◌, ◌/◌, ◌%◌, ◌^◌, ◌<◌, ◌≤◌, Bool, true, false, cond, nat_lt, ◌==◌, arith, lit≤, bit_and, subst, lt-ltb, le-ltb, ltb-true}
+use Rattle.std.proofs.Math.Nat.{zero-mod}
 use Rattle.std.proofs.Math.Pow.{mod-mod-pow}
 use native.Mathlib.Nat.{add-mul-mod_self_right}
 use lib.Bits.{and_mask}
@@ -338,20 +339,28 @@ no_sign U32 e x p = le-ltb (2 ^ 32 - 1) x (omega arith)
 no_sign I64 e x p = absurd cc
 no_sign U64 e x p = le-ltb (2 ^ 64 - 1) x (omega arith)
 
+-- a type other than bool fills its words
+pub filled : (t : Elem) → (t ≡ Truth → ⊥) → cell_width t ≡ width t
+filled Truth n = absurd (n refl)
+filled I8 n = refl
+filled U8 n = refl
+filled I16 n = refl
+filled U16 n = refl
+filled I32 n = refl
+filled U32 n = refl
+filled I64 n = refl
+filled U64 n = refl
+
 -- of words that a type fills nothing is cut
 pub not_cut : (w : ℕ) (t : Elem) → w ≡ cell_width t → (t ≡ Truth → ⊥) → (x : ℕ) → x < 2 ^ w → x ≡ bit_and x (2 ^ width t - 1)
 not_cut w t e n x p = sym (and_mask x (width t) ∙ mod-eq_of_lt (subst (λ k. x < 2 ^ k) (e ∙ filled t n) p))
-  where
-    filled : (t : Elem) → (t ≡ Truth → ⊥) → cell_width t ≡ width t
-    filled Truth n = absurd (n refl)
-    filled I8 n = refl
-    filled U8 n = refl
-    filled I16 n = refl
-    filled U16 n = refl
-    filled I32 n = refl
-    filled U32 n = refl
-    filled I64 n = refl
-    filled U64 n = refl
+
+-- a bool is shifted by nothing
+pub no_amount : (m n : ℕ) (ys : List ℕ) → length ys ≡ n → replicate n (0 % m) ≡ map (λ b. bit_and b (width Truth - 1)) ys
+no_amount m zero [] p = refl
+no_amount m (suc n) [] p = absurd (omega arith)
+no_amount m zero (y ∷ ys) p = absurd (omega arith)
+no_amount m (suc n) (y ∷ ys) p = ap₂ (λ c t. c ∷ t) (zero-mod m ∙ sym (and_zero_r y)) (no_amount m n ys (omega arith))
 
 -- of a type without negative values
 module _ (t : Elem) (s : nat_lt (greatest t) (2 ^ width t - 1) ≡ false) (x : ℕ) (p : x < 2 ^ width t) where

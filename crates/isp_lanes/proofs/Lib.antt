@@ -7,3 +7,4 @@ pub mod Truths
 pub mod Flags
 pub mod Fits
 pub mod ListedRows
+pub mod Halves

@@ -49,6 +49,10 @@ pub(crate) trait Words<const N: usize>: Copy {
     fn inverse(self) -> Self
         ensures { words result ≡ map (λ a. 2 ^ width - 1 - a) (words self) };
 
+    // The words modulo their width, as amounts to shift by.
+    fn amounts(self) -> Self
+        ensures { words result ≡ map (λ a. bit_and a (width - 1)) (words self) };
+
     fn left(self, by: Self) -> Self
         requires { Each2 (λ a b. b < width) (words self) (words by) }
         ensures { words result ≡ zip2 (λ a b. (a * 2 ^ b) % 2 ^ width) (words self) (words by) };
@@ -152,6 +156,10 @@ impl<const N: usize> Words<N> for Simd<u8, N> {
 
     fn inverse(self) -> Self {
         !self
+    }
+
+    fn amounts(self) -> Self {
+        self & Simd::splat(7)
     }
 
     fn left(self, by: Self) -> Self {
@@ -268,6 +276,10 @@ impl<const N: usize> Words<N> for Simd<u16, N> {
 
     fn inverse(self) -> Self {
         !self
+    }
+
+    fn amounts(self) -> Self {
+        self & Simd::splat(15)
     }
 
     fn left(self, by: Self) -> Self {
@@ -390,12 +402,21 @@ impl<const N: usize> Words<N> for Simd<u32, N> {
         !self
     }
 
+    fn amounts(self) -> Self {
+        self & Simd::splat(31)
+    }
+
     fn left(self, by: Self) -> Self {
         self << by
     }
 
+    // The upper half of the product with 2 to the 32 - by, since the processor has no shift of each word by an amount of its own. Where
+    // that is 2 to the 32 it is cut to 0, and the word is taken as it is.
     fn right(self, by: Self) -> Self {
-        self >> by
+        let factors = Simd::splat(2) << (Simd::splat(31) - by);
+        let products = self.cast::<u64>() * factors.cast::<u64>();
+        let halves = (products >> Simd::splat(32)).cast::<u32>();
+        by.simd_eq(Simd::splat(0)).select(self, halves)
     }
 
     fn turned(self) -> Self {
@@ -508,6 +529,10 @@ impl<const N: usize> Words<N> for Simd<u64, N> {
 
     fn inverse(self) -> Self {
         !self
+    }
+
+    fn amounts(self) -> Self {
+        self & Simd::splat(63)
     }
 
     fn left(self, by: Self) -> Self {

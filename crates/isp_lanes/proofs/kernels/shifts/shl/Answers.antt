@@ -2,9 +2,9 @@ use Rattle.std.proofs.Common.{◌≡◌, sym, ap, ◌∙◌, ℕ, ◌-◌, ◌*�
 use Rattle.std.specs.Simd.Lanes.{Each2}
 use Rattle.isp_base.specs.Values.{width}
 use Rattle.isp_lanes.proofs.CellWords as cell
-use Rattle.std.proofs.lemmas.List.{length-replicate}
+use Rattle.std.proofs.lemmas.List.{length-map}
 use Rattle.isp_lanes.proofs.Fits.{zip2_fits}
-use Rattle.isp_lanes.proofs.Rows.{length_zip2, row_op1, row_left, row_right, row_op2, row_same, row_splat_as, each_below}
+use Rattle.isp_lanes.proofs.Rows.{length_zip2, row_op1, row_left, row_op2, row_same, row_map_right, each_below}
 use Rattle.isp_lanes.proofs.kernels.shifts.shl.Goals as goal
 
 pub left-requires : goal.left-requires
@@ -14,20 +14,19 @@ left-requires g c =
     let e = c.requires.x_row.wide in
     let xs = g.V.Words.words c.args.x in
     let ys = g.V.Words.words c.args.y in
-    let n = g.row.N in
     let same : length xs ≡ length ys = omega (arith, c.requires.x_row.long, c.requires.y_row.long) in
-    subst (λ (zs : List ℕ). Each2 (λ (a b : ℕ). b < w) xs zs) (sym (c.and-by.ensures ∙ (row_op2 bit_and (λ _ b. b) (λ _ _. width t - 1) xs ys (row_right xs ys same) (c.all.ensures ∙ row_splat_as _ (width t - 1) (ap (λ m. m % 2 ^ w) c.amount_mask.ensures ∙ cell.amount_mask_in w t e) n xs ys c.requires.x_row.long c.requires.y_row.long)))) (each_below w (λ _ b. bit_and b (width t - 1)) (λ _ b. cell.amount_lt_w w t e b) xs xs ys)
+    subst (λ (zs : List ℕ). Each2 (λ (a b : ℕ). b < w) xs zs) (sym (c.amounts-by.ensures ∙ row_map_right (λ b. bit_and b (width t - 1)) xs ys same)) (each_below w (λ _ b. bit_and b (width t - 1)) (λ _ b. cell.amount_lt_w w t e b) xs xs ys)
 
 pub low-requires-clause-long : goal.low-requires-clause-long
 low-requires-clause-long g c =
     let ys = g.V.Words.words c.args.y in
-    let masked = ap length c.and-by.ensures ∙ length_zip2 bit_and ys (g.V.Words.words c.all.result) g.row.N c.requires.y_row.long (ap length c.all.ensures ∙ length-replicate g.row.N _) in
-    ap length c.left.ensures ∙ length_zip2 _ (g.V.Words.words c.args.x) (g.V.Words.words c.and-by.result) g.row.N c.requires.x_row.long masked
+    let amounts = ap length c.amounts-by.ensures ∙ length-map ys _ ∙ c.requires.y_row.long in
+    ap length c.left.ensures ∙ length_zip2 _ (g.V.Words.words c.args.x) (g.V.Words.words c.amounts-by.result) g.row.N c.requires.x_row.long amounts
 
 pub low-requires-clause-room : goal.low-requires-clause-room
 low-requires-clause-room g c =
     let w = g.V.Words.width in
-    λ k. subst (λ (zs : List ℕ). get_or zs k 0 < 2 ^ w) (sym c.left.ensures) (zip2_fits (2 ^ w) (λ a b. (a * 2 ^ b) % 2 ^ w) (pow_pos w) (λ a b. mod-lt (a * 2 ^ b) (pow_pos w)) (g.V.Words.words c.args.x) (g.V.Words.words c.and-by.result) k)
+    λ k. subst (λ (zs : List ℕ). get_or zs k 0 < 2 ^ w) (sym c.left.ensures) (zip2_fits (2 ^ w) (λ a b. (a * 2 ^ b) % 2 ^ w) (pow_pos w) (λ a b. mod-lt (a * 2 ^ b) (pow_pos w)) (g.V.Words.words c.args.x) (g.V.Words.words c.amounts-by.result) k)
 
 pub returns : goal.returns
 returns g c =
@@ -36,9 +35,8 @@ returns g c =
     let e = c.requires.x_row.wide in
     let xs = g.V.Words.words c.args.x in
     let ys = g.V.Words.words c.args.y in
-    let n = g.row.N in
     let same : length xs ≡ length ys = omega (arith, c.requires.x_row.long, c.requires.y_row.long) in
-    let by = c.and-by.ensures ∙ (row_op2 bit_and (λ _ b. b) (λ _ _. width t - 1) xs ys (row_right xs ys same) (c.all.ensures ∙ row_splat_as _ (width t - 1) (ap (λ m. m % 2 ^ w) c.amount_mask.ensures ∙ cell.amount_mask_in w t e) n xs ys c.requires.x_row.long c.requires.y_row.long)) in
+    let by = c.amounts-by.ensures ∙ row_map_right (λ b. bit_and b (width t - 1)) xs ys same in
     c.low.ensures
     ∙ row_op1 (λ m. bit_and m (2 ^ width t - 1)) (λ a b. (a * 2 ^ bit_and b (width t - 1)) % 2 ^ w) xs ys
     (c.left.ensures ∙ row_op2 (λ a b. (a * 2 ^ b) % 2 ^ w) (λ a _. a) (λ _ b. bit_and b (width t - 1)) xs ys (row_left xs ys same) by)

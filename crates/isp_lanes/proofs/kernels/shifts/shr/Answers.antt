@@ -1,8 +1,8 @@
-use Rattle.std.proofs.Common.{◌≡◌, sym, ap, ◌∙◌, ℕ, ◌-◌, ◌/◌, ◌%◌, ◌^◌, ◌<◌, cond, nat_lt, arith, bit_and, bit_xor, subst, length, List}
+use Rattle.std.proofs.Common.{◌≡◌, sym, ◌∙◌, ℕ, ◌-◌, ◌/◌, ◌^◌, ◌<◌, cond, nat_lt, arith, bit_and, bit_xor, subst, length, List}
 use Rattle.std.specs.Simd.Lanes.{Each2}
 use Rattle.isp_base.specs.Values.{width, greatest}
 use Rattle.isp_lanes.proofs.CellWords as cell
-use Rattle.isp_lanes.proofs.Rows.{row_left, row_right, row_op2, row_same, row_splat_as, row_map_left, each_below}
+use Rattle.isp_lanes.proofs.Rows.{row_left, row_op2, row_same, row_map_right, row_map_left, each_below}
 use Rattle.isp_lanes.proofs.kernels.shifts.shr.Goals as goal
 
 pub right-shifted-requires : goal.right-shifted-requires
@@ -12,10 +12,9 @@ right-shifted-requires g c =
     let e = c.requires.x_row.wide in
     let xs = g.V.Words.words c.args.x in
     let ys = g.V.Words.words c.args.y in
-    let n = g.row.N in
     let same : length xs ≡ length ys = omega (arith, c.requires.x_row.long, c.requires.y_row.long) in
     let first = g.V.Words.words c.xor.result in
-    subst (λ (zs : List ℕ). Each2 (λ (a b : ℕ). b < w) first zs) (sym (c.and-by.ensures ∙ (row_op2 bit_and (λ _ b. b) (λ _ _. width t - 1) xs ys (row_right xs ys same) (c.all.ensures ∙ row_splat_as _ (width t - 1) (ap (λ m. m % 2 ^ w) c.amount_mask.ensures ∙ cell.amount_mask_in w t e) n xs ys c.requires.x_row.long c.requires.y_row.long)))) (each_below w (λ _ b. bit_and b (width t - 1)) (λ _ b. cell.amount_lt_w w t e b) first xs ys)
+    subst (λ (zs : List ℕ). Each2 (λ (a b : ℕ). b < w) first zs) (sym (c.amounts-by.ensures ∙ row_map_right (λ b. bit_and b (width t - 1)) xs ys same)) (each_below w (λ _ b. bit_and b (width t - 1)) (λ _ b. cell.amount_lt_w w t e b) first xs ys)
 
 pub right-requires : goal.right-requires
 right-requires g c =
@@ -24,10 +23,9 @@ right-requires g c =
     let e = c.requires.x_row.wide in
     let xs = g.V.Words.words c.args.x in
     let ys = g.V.Words.words c.args.y in
-    let n = g.row.N in
     let same : length xs ≡ length ys = omega (arith, c.requires.x_row.long, c.requires.y_row.long) in
     let first = xs in
-    subst (λ (zs : List ℕ). Each2 (λ (a b : ℕ). b < w) first zs) (sym (c.and-by.ensures ∙ (row_op2 bit_and (λ _ b. b) (λ _ _. width t - 1) xs ys (row_right xs ys same) (c.all.ensures ∙ row_splat_as _ (width t - 1) (ap (λ m. m % 2 ^ w) c.amount_mask.ensures ∙ cell.amount_mask_in w t e) n xs ys c.requires.x_row.long c.requires.y_row.long)))) (each_below w (λ _ b. bit_and b (width t - 1)) (λ _ b. cell.amount_lt_w w t e b) first xs ys)
+    subst (λ (zs : List ℕ). Each2 (λ (a b : ℕ). b < w) first zs) (sym (c.amounts-by.ensures ∙ row_map_right (λ b. bit_and b (width t - 1)) xs ys same)) (each_below w (λ _ b. bit_and b (width t - 1)) (λ _ b. cell.amount_lt_w w t e b) first xs ys)
 
 pub returns-then-is_signed : goal.returns-then-is_signed
 returns-then-is_signed g c =
@@ -36,9 +34,8 @@ returns-then-is_signed g c =
     let e = c.requires.x_row.wide in
     let xs = g.V.Words.words c.args.x in
     let ys = g.V.Words.words c.args.y in
-    let n = g.row.N in
     let same : length xs ≡ length ys = omega (arith, c.requires.x_row.long, c.requires.y_row.long) in
-    let by = c.and-by.ensures ∙ (row_op2 bit_and (λ _ b. b) (λ _ _. width t - 1) xs ys (row_right xs ys same) (c.all.ensures ∙ row_splat_as _ (width t - 1) (ap (λ m. m % 2 ^ w) c.amount_mask.ensures ∙ cell.amount_mask_in w t e) n xs ys c.requires.x_row.long c.requires.y_row.long)) in
+    let by = c.amounts-by.ensures ∙ row_map_right (λ b. bit_and b (width t - 1)) xs ys same in
     let sign : ℕ → ℕ → ℕ = λ a _. cond (nat_lt (greatest t) a) (2 ^ w - 1) 0 in
     let signs = c.signs-negative.ensures ∙ row_map_left (λ a. cond (nat_lt (greatest t) a) (2 ^ w - 1) 0) xs ys same in
     let picked = c.xor.ensures ∙ row_op2 bit_xor (λ a _. a) sign xs ys (row_left xs ys same) signs in
@@ -54,9 +51,8 @@ returns-else-is_signed g c =
     let e = c.requires.x_row.wide in
     let xs = g.V.Words.words c.args.x in
     let ys = g.V.Words.words c.args.y in
-    let n = g.row.N in
     let same : length xs ≡ length ys = omega (arith, c.requires.x_row.long, c.requires.y_row.long) in
-    let by = c.and-by.ensures ∙ (row_op2 bit_and (λ _ b. b) (λ _ _. width t - 1) xs ys (row_right xs ys same) (c.all.ensures ∙ row_splat_as _ (width t - 1) (ap (λ m. m % 2 ^ w) c.amount_mask.ensures ∙ cell.amount_mask_in w t e) n xs ys c.requires.x_row.long c.requires.y_row.long)) in
+    let by = c.amounts-by.ensures ∙ row_map_right (λ b. bit_and b (width t - 1)) xs ys same in
     c.right.ensures
     ∙ row_op2 (λ a b. a / 2 ^ b) (λ a _. a) (λ _ b. bit_and b (width t - 1)) xs ys (row_left xs ys same) by
     ∙ row_same (λ a. a < 2 ^ width t) (λ b. b < 2 ^ width t) _ _ (λ a b p q. cell.plain_shr t (sym c.is_signed.ensures ∙ c.if-is_signed.false) a p b q) xs ys c.requires.x_row.fits c.requires.y_row.fits
