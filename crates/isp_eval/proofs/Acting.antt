@@ -1,7 +1,7 @@
 -- What a handler does of its task is what the task does.
-use Rattle.std.proofs.Common.{◌≡◌, sym, subst, ◌∙◌, Result, Ok, Err, OnOk, IfErr}
+use Rattle.std.proofs.Common.{◌≡◌, sym, subst, Result, Ok, Err, OnOk, IfErr}
 use Rattle.isp_base.specs.declared.trap.Trap.{Trap}
-use Rattle.isp_eval.specs.Tasks.{Store, Goes, does, Comes, Does, Halts, Traps, refused, trapped}
+use Rattle.isp_eval.specs.Tasks.{does, Comes, Does, Halts, Traps, refused, trapped}
 use Rattle.isp_eval.specs.declared.state.Evaluator.{Evaluator}
 use Rattle.isp_eval.specs.declared.state.Stop.{Stop}
 use Rattle.isp_eval.specs.declared.state.Stop.TheVariants as stop

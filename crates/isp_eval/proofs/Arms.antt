@@ -1,7 +1,7 @@
 -- What each kind of statement leaves to be done.
-use Rattle.std.proofs.Common.{◌≡◌, refl, sym, ap, ap₂, subst, ◌∙◌, ℕ, ◌+◌, List, [], ◌∷◌, ◌++◌, map, Bor, Box, Global, Vec, Bool, true, false, Option, Some, None, Result, Ok, Err, OnOk, IfErr}
+use Rattle.std.proofs.Common.{◌≡◌, refl, sym, ap, ap₂, subst, ◌∙◌, ℕ, ◌+◌, List, [], ◌∷◌, ◌++◌, map, Bor, Box, Global, Vec, Bool, Option, Some, None, Result, Ok, Err, OnOk, IfErr}
 use Rattle.std.specs.Prelude.{option_map, option_copied}
-use Rattle.isp_base.specs.Sets.{Mask, any, everyone, flag_of, nobody}
+use Rattle.isp_base.specs.Sets.{Mask, everyone, flag_of, nobody}
 use Rattle.isp_base.specs.Maps.{lane_of, over}
 use Rattle.isp_base.specs.Traps.{trap}
 use Rattle.isp_base.specs.Types.{gang_width}
@@ -17,24 +17,22 @@ use Rattle.isp_typed.specs.declared.stmt.TypedItem.{TypedItem}
 use Rattle.isp_typed.specs.declared.stmt.TypedSimple.{TypedSimple}
 use Rattle.isp_typed.specs.declared.stmt.TypedStmt.{TypedStmt}
 use Rattle.isp_typed.specs.declared.stmt.TypedBlock.{TypedBlock}
-use Rattle.isp_typed.specs.Typed.{TStmt, TItem, t_exprs, t_return}
+use Rattle.isp_typed.specs.Typed.{TStmt, t_exprs, t_return}
 use Rattle.isp_typed.specs.Views.{block_of, expr_of, exprs_of, first_of, items_of, simple_of, stmt_of, program_of}
 use Rattle.isp_meaning.specs.State.{State, Frame, tick}
 use Rattle.isp_meaning.specs.Payloads.{Payload, One, is_false, offender, sole, spread}
-use Rattle.isp_meaning.specs.Outcomes as Outcomes
 use Rattle.isp_meaning.specs.Outcomes.{Val, Gives, Fails, Stops, Res, Went, Done, go_on, went_all, with_value, checked}
 use Rattle.isp_meaning.specs.Expressions.{values}
 use Rattle.isp_meaning.specs.Simple.{simple, items, first_part}
 use Rattle.isp_meaning.specs.Printing.{print_text, shown_all}
 use Rattle.isp_meaning.specs.Statements.{branches, all_go, answered, answered_at, jumped}
 use Rattle.isp_meaning.specs.Calls.{calls_at}
-use Rattle.isp_gang.specs.Seen.{map_of, payload_of}
+use Rattle.isp_gang.specs.Seen.{payload_of}
 use Rattle.isp_gang.specs.declared.computed.Computed.{Computed}
 use Rattle.isp_gang.specs.declared.computed.Computed.TheVariants as computed
 use Rattle.isp_eval.specs.Seen.{frame_seen, state_seen, answer_in}
 use Rattle.isp_eval.specs.Tasks.{Store, Parts, Goes, On, Trapped, First, Changes, Halts, refused, trapped, cut, go, given, ran, done, does, rest, Comes, store_seen, parts_seen, all_parts, left_as, value_at, calls_in, block_at, blocks, run_in, perhaps_run, tested_in, turns_in, tests_on, turns_on, go_with, gather}
 use Rattle.isp_eval.specs.Arms.{declares_all, all_does, chooses, unmasks, jumps, gives, claims, looping, first_in, firsts, enters, enters_by_turn, shows, prints, prints_all}
-use Rattle.isp_eval.specs.declared.loops.Looping.{Looping}
 use Rattle.isp_eval.specs.declared.loops.Turning.{Turning}
 use Rattle.isp_eval.specs.declared.state.Evaluator.{Evaluator}
 use Rattle.isp_eval.specs.declared.state.Sets.{Sets}
@@ -44,7 +42,7 @@ use Rattle.isp_eval.specs.declared.tasks.Branches.{Branches}
 use Rattle.isp_eval.specs.declared.tasks.Gathering.TheVariants as gathering
 use Rattle.isp_eval.specs.declared.tasks.Task.{Task}
 use Rattle.isp_eval.specs.declared.tasks.Task.TheVariants as task
-use Rattle.isp_eval.proofs.Steps.{Later, go_assoc, later_rest, later_store}
+use Rattle.isp_eval.proofs.Steps.{go_assoc}
 use Rattle.isp_eval.proofs.Runs.{reran, then_ran, value_ran, done_ran}
 use Rattle.isp_eval.proofs.Branching.{comes_same, comes_then, leaves, pushes}
 use Rattle.isp_eval.proofs.Changes.{changed_rest, changed_store}

@@ -1,5 +1,5 @@
 -- What blocks leave to be done.
-use Rattle.std.proofs.Common.{◌-◌, ◌≤◌, take, drop, get_or, ◌≡◌, refl, sym, ap, ap₂, subst, ◌∙◌, ℕ, List, [], ◌∷◌, ◌++◌, Bor, Box, Global, Bool, true, false, ◌+◌, ◌<◌, arith, length}
+use Rattle.std.proofs.Common.{◌-◌, take, drop, get_or, ◌≡◌, refl, sym, ap, ap₂, subst, ◌∙◌, ℕ, List, [], ◌∷◌, Bor, Box, Global, Bool, true, false, ◌+◌, ◌<◌, arith, length}
 use Rattle.std.proofs.lemmas.List.{take_all}
 use Rattle.isp_base.specs.Sets.{Mask, any, flag_of, nobody, union}
 use Rattle.isp_base.specs.Types.{gang_width}
@@ -9,17 +9,16 @@ use Rattle.isp_typed.specs.declared.stmt.TypedStmt.TheFolds.{fold_out-TypedBlock
 use Rattle.isp_typed.specs.Typed.{TStmt, TBlock, t_braces, t_stmts}
 use Rattle.isp_typed.specs.Views.{stmt_of, stmts_of, stmt_step, block_step, block_of, program_of}
 use Rattle.isp_meaning.specs.State.{State, Frame}
-use Rattle.isp_meaning.specs.Payloads.{Payload, One}
+use Rattle.isp_meaning.specs.Payloads.{One}
 use Rattle.isp_meaning.specs.Outcomes as Outcomes
 use Rattle.isp_meaning.specs.Outcomes.{Res, Went, go_on, went_all, then_run, if_so, unless_empty}
 use Rattle.isp_gang.specs.declared.computed.Computed.TheVariants as computed
 use Rattle.isp_eval.specs.Seen.{state_seen}
-use Rattle.isp_eval.specs.Tasks.{Store, Parts, Goes, On, First, go, ran, does, rest, Comes, store_seen, parts_seen, left_as, left_too, blocks, runs_all, all_in, run_in}
+use Rattle.isp_eval.specs.Tasks.{Store, Parts, Goes, First, go, ran, does, rest, Comes, store_seen, parts_seen, left_as, left_too, blocks, runs_all, all_in, run_in}
 use Rattle.isp_eval.specs.declared.state.Evaluator.{Evaluator}
 use Rattle.isp_eval.specs.declared.state.Exits.{Exits}
 use Rattle.isp_eval.specs.declared.state.Sets.{Sets}
 use Rattle.isp_eval.specs.declared.tasks.Statements.{Statements}
-use Rattle.isp_eval.specs.declared.tasks.Task.{Task}
 use Rattle.isp_eval.specs.declared.tasks.Task.TheVariants as task
 use Rattle.isp_eval.proofs.Steps.{go_assoc}
 use Rattle.isp_eval.proofs.Runs.{reran, union_nobody, union_assoc}

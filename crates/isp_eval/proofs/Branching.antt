@@ -1,7 +1,7 @@
 -- What `if` leaves to be done.
 use Rattle.std.proofs.Common.{◌≡◌, ◌≢◌, refl, sym, ap, ap₂, subst, ◌∙◌, ℕ, List, [], ◌∷◌, ◌++◌, Bor, Box, Global, Bool, true, false, not, Option, Some, None}
 use Rattle.std.specs.Prelude.{option_map}
-use Rattle.isp_base.specs.Sets.{Mask, any, flag_of, nobody, union, without}
+use Rattle.isp_base.specs.Sets.{Mask, any, flag_of, union, without}
 use Rattle.isp_base.specs.Maps.{where_true}
 use Rattle.isp_base.specs.Types.{gang_width}
 use Rattle.isp_typed.specs.declared.stmt.TypedStmt.{TypedStmt}
@@ -9,13 +9,13 @@ use Rattle.isp_typed.specs.Views.{stmt_of, program_of}
 use Rattle.isp_meaning.specs.State.{State, Frame}
 use Rattle.isp_meaning.specs.Statements.{branches}
 use Rattle.std.proofs.Common.{ne_eqb}
-use Rattle.isp_meaning.specs.Payloads.{Payload, One, Each, is_true}
+use Rattle.isp_meaning.specs.Payloads.{Payload, One, is_true}
 use Rattle.isp_meaning.specs.Outcomes as Outcomes
 use Rattle.isp_meaning.specs.Outcomes.{Res, Went, go_on, went_all, both_sides, if_so, unless_empty}
 use Rattle.isp_gang.specs.Seen.{map_of, payload_of}
 use Rattle.isp_gang.specs.declared.computed.Computed.TheVariants as computed
 use Rattle.isp_eval.specs.Seen.{state_seen}
-use Rattle.isp_eval.specs.Tasks.{Store, Parts, Goes, On, go, ran, does, rest, Comes, store_seen, parts_seen, all_parts, left_as, runs, runs_then, perhaps_run, run_in}
+use Rattle.isp_eval.specs.Tasks.{Store, Parts, Goes, go, ran, does, rest, Comes, store_seen, parts_seen, all_parts, left_as, runs, runs_then, perhaps_run, run_in}
 use Rattle.isp_eval.specs.declared.state.Evaluator.{Evaluator}
 use Rattle.isp_eval.specs.declared.state.Sets.{Sets}
 use Rattle.isp_eval.specs.declared.tasks.Branches.{Branches}

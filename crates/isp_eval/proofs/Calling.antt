@@ -14,7 +14,7 @@ use Rattle.isp_typed.specs.Typed.{Program, TFunction}
 use Rattle.isp_typed.specs.Views.{program_of}
 use Rattle.isp_meaning.specs.Calls.{called, calls_at}
 use Rattle.isp_meaning.specs.Expressions.{Passed}
-use Rattle.isp_meaning.specs.Outcomes.{Val, Gives, Fails, Stops}
+use Rattle.isp_meaning.specs.Outcomes.{Val, Gives, Fails}
 use Rattle.isp_meaning.specs.Payloads.{Payload}
 use Rattle.isp_meaning.specs.Runs.{answer_as, first_frame, first_state, handed, meaning, outcome_of, state_of}
 use Rattle.isp_meaning.specs.State.{State, Frame}

@@ -1,22 +1,16 @@
 -- What is written where, and what a change of the state alone leaves to be done.
-use Rattle.std.proofs.Common.{◌≡◌, refl, sym, ap, ap₂, ◌∙◌, subst, ℕ, List, Bool, Option, Some, None, Vec, Global, Bor}
-use Rattle.isp_base.specs.Access.{element}
-use Rattle.isp_base.specs.Maps.{Lanes, Map, lane_of, over, put}
-use Rattle.isp_base.specs.Sets.{Mask, flag_of}
-use Rattle.isp_base.specs.declared.types.Elem.{Elem}
+use Rattle.std.proofs.Common.{◌≡◌, refl, sym, ap, ap₂, ◌∙◌, subst, ℕ, List, Vec, Global}
+use Rattle.isp_base.specs.Maps.{Lanes, over, put}
+use Rattle.isp_base.specs.Sets.{Mask}
 use Rattle.isp_base.specs.declared.types.Rate.{Rate}
 use Rattle.isp_base.specs.declared.types.Rate.TheVariants.{Uniform, Varying}
-use Rattle.isp_typed.specs.declared.variable.ArrayVariable.{ArrayVariable}
-use Rattle.isp_typed.specs.Views.{program_of}
 use Rattle.isp_meaning.specs.State.{State, Frame}
-use Rattle.isp_meaning.specs.Payloads.{Payload, One, Each, sole, spread, mapped}
-use Rattle.isp_meaning.specs.Places.{written, with_elements, stored, own_stored}
-use Rattle.isp_meaning.specs.Simple.{cleared}
+use Rattle.isp_meaning.specs.Payloads.{Payload, sole, spread}
+use Rattle.isp_meaning.specs.Places.{written}
 use Rattle.isp_gang.specs.Growing.{values_of, lanes_of}
-use Rattle.isp_gang.specs.Seen.{payload_of, map_of}
 use Rattle.isp_eval.specs.Seen.{frame_seen, state_seen}
-use Rattle.isp_eval.specs.Stores.{stores_of, own_of, with_zeros}
-use Rattle.isp_eval.specs.Tasks.{Store, Goes, rest, store_seen, parts_seen, Changes}
+use Rattle.isp_eval.specs.Stores.{stores_of, own_of}
+use Rattle.isp_eval.specs.Tasks.{rest, store_seen, Changes}
 use Rattle.isp_eval.specs.declared.state.Evaluator.{Evaluator}
 
 -- ---- one part of the state is written

@@ -1,5 +1,5 @@
 -- What the ranges of a `foreach` count, from the last range on, up to a greatest number.
-use Rattle.std.proofs.Common.{◌≡◌, refl, sym, ap, ap₂, ◌∙◌, subst, ℕ, zero, suc, ◌+◌, ◌-◌, ◌*◌, ◌/◌, ◌^◌, ◌<◌, ◌≤◌, List, [], ◌∷◌, map, length, drop, get_or, arith, ⊎_elim}
+use Rattle.std.proofs.Common.{◌≡◌, refl, sym, ap, ap₂, ◌∙◌, subst, ℕ, zero, suc, ◌+◌, ◌-◌, ◌*◌, ◌^◌, ◌<◌, ◌≤◌, List, [], ◌∷◌, map, length, drop, get_or, arith, ⊎_elim}
 use Rattle.std.specs.Prelude.{min}
 use Rattle.std.proofs.Math.Nat.{min-eq_left, min-eq_right, mul_assoc, mul_comm, mul-add, mul-one, mul-zero, one-mul, le-mul_of_pos_right}
 use Rattle.std.proofs.lemmas.Bool.{cases_lt}

@@ -1,10 +1,10 @@
 -- The element that an index means, by its bits.
-use Rattle.std.proofs.Common.{◌≡◌, refl, sym, ap, ◌∙◌, ℕ, zero, suc, ◌%◌, ◌^◌, Bool, true, false, pos, nat_lt, unsigned_abs, mod-lt, pow_pos}
+use Rattle.std.proofs.Common.{◌≡◌, refl, sym, ap, ◌∙◌, ℕ, zero, suc, ◌%◌, ◌^◌, Bool, true, false, nat_lt, unsigned_abs, mod-lt, pow_pos}
 use Rattle.isp_base.specs.declared.types.Elem.{Elem}
 use Rattle.isp_base.specs.declared.operators.UnaryOp.TheVariants.{Absolute}
 use Rattle.isp_base.specs.Access.{element}
 use Rattle.isp_base.specs.Unary.{unary_bits}
-use Rattle.isp_base.specs.Values.{width, greatest, number, wrap}
+use Rattle.isp_base.specs.Values.{width, greatest}
 use Rattle.isp_base.specs.Words.{magnitude}
 use Rattle.isp_base.proofs.Signs.{signed, number_signed}
 use Rattle.isp_base.proofs.Unaries.{absolute_is}

@@ -66,7 +66,7 @@ module _ (p q : Program) (same : p ≡ q) (name : List ℕ) (k n : ℕ) (g : Typ
       → OnOk r (Ends e new (does_call e (e.left - 1) (function_of g) (everyone (gang_width e.program.now.gang)) ps))
       → IfErr r (Halts e new (does_call e (e.left - 1) (function_of g) (everyone (gang_width e.program.now.gang)) ps))
       → IfOk o (λ a. (v : Val Payload) → Stands r new v → RowsFit (rows ys) (state_of v).arrays
-          → outcome_seen a ≡ outcome_of (function_of g).gives ys v)
+      → outcome_seen a ≡ outcome_of (function_of g).gives ys v)
       → IfOk o (IsRun (program_of q) name xs n)
   evaluated xs ys e new ps r o given fine sound begins starts fits passed ended halted outcome =
       let b = subst (λ (zs : List Argument). Begins (program_of p) name zs k) (sym given) begins in

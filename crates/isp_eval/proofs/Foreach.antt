@@ -1,13 +1,12 @@
 -- What `foreach` and `foreach_active` leave to be done.
-use Rattle.std.proofs.Common.{◌≡◌, refl, sym, ap, ap₂, ◌∙◌, subst, ℕ, ◌+◌, ◌<◌, ℤ, List, [], ◌∷◌, ◌++◌, map, Bor, Box, Vec, Global, Bool, true, false, Option, Some, None, append_assoc, arith, length}
+use Rattle.std.proofs.Common.{◌≡◌, refl, sym, ap, ap₂, ◌∙◌, subst, ℕ, ◌+◌, ◌<◌, List, [], ◌∷◌, ◌++◌, map, Bor, Box, Vec, Global, Bool, true, Some, None, append_assoc, arith, length}
 use Rattle.isp_base.specs.Sets.{Mask, flag_of, lone, lowest, without}
 use Rattle.isp_base.specs.Types.{gang_width}
 use Rattle.isp_base.specs.Values.{number}
 use Rattle.isp_base.specs.declared.types.Elem.TheVariants.{I32}
 use Rattle.isp_base.specs.declared.types.Gang.{Gang}
-use Rattle.isp_base.specs.declared.types.Gang.TheVariants.{W4, W8, W16}
 use Rattle.isp_base.specs.declared.types.Rate.TheVariants.{Uniform}
-use Rattle.isp_typed.specs.Typed.{TExpr, TRange, TStmt}
+use Rattle.isp_typed.specs.Typed.{TExpr, TRange}
 use Rattle.isp_typed.specs.declared.expr.TypedExpr.{TypedExpr}
 use Rattle.isp_typed.specs.declared.stmt.TypedRange.{TypedRange}
 use Rattle.isp_typed.specs.declared.stmt.TypedStmt.{TypedStmt}
@@ -15,8 +14,7 @@ use Rattle.isp_typed.specs.Views.{expr_of, ranges_of, stmt_of, program_of}
 use Rattle.isp_meaning.specs.State.{State, Frame, tick}
 use Rattle.isp_meaning.specs.Payloads.{Payload, One, sole}
 use Rattle.isp_meaning.specs.Places.{written}
-use Rattle.isp_meaning.specs.Outcomes as Outcomes
-use Rattle.isp_meaning.specs.Outcomes.{Val, Gives, Fails, Stops, Res, Went, go_on, went_all, with_value, bind}
+use Rattle.isp_meaning.specs.Outcomes.{Val, Gives, Fails, Stops, Res, go_on, with_value, bind}
 use Rattle.isp_meaning.specs.Expressions.{value}
 use Rattle.isp_meaning.specs.Rounds as Meaning
 use Rattle.isp_meaning.specs.Rounds.{Round, rounds, active_rounds, round_of_one, members, foreach_rounds, round_of_run, counted, set_indices}
@@ -27,7 +25,7 @@ use Rattle.isp_gang.specs.declared.computed.Computed.TheVariants as computed
 use Rattle.isp_eval.specs.Left.{range_seen, restarted, runs_left, advanced, indices_now, members_now, is_ready}
 use Rattle.isp_eval.specs.Foreach.{begins, bounds_in, bounds_from, foreaches, actives}
 use Rattle.isp_eval.specs.Seen.{state_seen}
-use Rattle.isp_eval.specs.Tasks.{Store, Parts, Goes, On, Trapped, First, Changes, go, given, ran, does, rest, Comes, store_seen, parts_seen, all_parts, left_as, value_at, run_in, rounds_from, ended, found}
+use Rattle.isp_eval.specs.Tasks.{Store, Goes, On, Trapped, First, Changes, go, ran, does, rest, Comes, store_seen, parts_seen, all_parts, value_at, run_in, rounds_from, ended, found}
 use Rattle.isp_eval.specs.declared.rounds.Bounds.{Bounds}
 use Rattle.isp_eval.specs.declared.rounds.Members.{Members}
 use Rattle.isp_eval.specs.declared.rounds.Range.{Range}
@@ -36,12 +34,11 @@ use Rattle.isp_eval.specs.declared.state.Evaluator.{Evaluator}
 use Rattle.isp_eval.specs.declared.state.Sets.{Sets}
 use Rattle.isp_eval.specs.declared.tasks.Task.{Task}
 use Rattle.isp_eval.specs.declared.tasks.Task.TheVariants as task
-use Rattle.isp_eval.proofs.Steps.{go_assoc}
 use Rattle.isp_eval.proofs.Runs.{reran, then_ran}
 use Rattle.isp_eval.proofs.Branching.{comes_same, leaves}
 use Rattle.isp_eval.proofs.Changes.{changed_rest, changed_store}
 use Rattle.isp_eval.proofs.Arms.{moved, ticked, value_first}
-use Rattle.isp_eval.proofs.Left.{left_begins, next_run, run_now}
+use Rattle.isp_eval.proofs.Left.{left_begins, next_run}
 use Rattle.isp_eval.proofs.Members.{lowest_first, none_listed}
 
 -- ---- a round, and then the others

@@ -1,14 +1,10 @@
 -- Tasks are done one after the other until none is left.
 use Rattle.std.proofs.Common.{◌≡◌, refl, sym, ap, ap₂, ◌∙◌, ℕ, List, [], ◌∷◌, ◌++◌, length, arith}
-use Rattle.isp_base.specs.declared.trap.Trap.{Trap}
 use Rattle.isp_typed.specs.Views.{program_of}
-use Rattle.isp_meaning.specs.State.{State}
-use Rattle.isp_eval.specs.Seen.{state_seen}
-use Rattle.isp_eval.specs.Tasks.{Store, Goes, On, Trapped, Cut, go, finish, does, rest, Comes, Does, Halts, Traps, refused, trapped, cut, store_seen}
+use Rattle.isp_eval.specs.Tasks.{Store, Goes, On, Trapped, Cut, go, finish, does, rest, Comes, Halts, refused, trapped, cut, store_seen}
 use Rattle.isp_eval.specs.Ends.{Ends, Leads}
 use Rattle.isp_eval.specs.declared.state.Evaluator.{Evaluator}
 use Rattle.isp_eval.specs.declared.state.Stop.{Stop}
-use Rattle.isp_eval.specs.declared.state.Stop.TheVariants as stop
 use Rattle.isp_eval.specs.declared.tasks.Task.{Task}
 use Rattle.isp_eval.proofs.Steps.{Later, later_rest, later_store}
 

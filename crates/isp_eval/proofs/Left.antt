@@ -1,17 +1,16 @@
 -- The runs of a `foreach` that are left: at the start, when numbers carry, when a run is made, at the end.
-use Rattle.std.proofs.Common.{◌≡◌, refl, sym, ap, ap₂, ◌∙◌, subst, ℕ, zero, suc, ◌+◌, ◌-◌, ◌<◌, ◌≤◌, ◌/◌, ◌⊎◌, inl, inr, ◌&&◌, ◌||◌, not, Bool, true, false, List, [], ◌∷◌, ◌++◌, map, length, take, drop, get_or, arith, cond}
-use Rattle.std.specs.Prelude.{ℤ, pos, negsuc, ◌+ℤ◌, ◌-ℤ◌, int_lt, nat_lt}
+use Rattle.std.proofs.Common.{◌≡◌, refl, sym, ap, ap₂, ◌∙◌, ℕ, zero, suc, ◌+◌, ◌-◌, ◌<◌, ◌≤◌, ◌⊎◌, inl, inr, ◌&&◌, ◌||◌, not, Bool, true, false, List, [], ◌∷◌, ◌++◌, map, length, drop, get_or, arith, cond}
+use Rattle.std.specs.Prelude.{ℤ, pos, negsuc, ◌+ℤ◌, ◌-ℤ◌, int_lt}
 use Rattle.std.proofs.Math.ListN.{set}
 use Rattle.std.proofs.lemmas.Int.{ints}
-use Rattle.isp_base.specs.Sets.{Mask, flag_of, nobody}
+use Rattle.isp_base.specs.Sets.{flag_of, nobody}
 use Rattle.isp_base.specs.Types.{gang_width}
 use Rattle.isp_base.specs.declared.types.Gang.{Gang}
 use Rattle.isp_base.specs.declared.types.Gang.TheVariants.{W4, W8, W16}
 use Rattle.isp_gang.proofs.Made.{Made, made}
 use Rattle.std.proofs.lemmas.Bool.{le-ltb}
-use Rattle.isp_meaning.specs.Rounds as Meaning
-use Rattle.isp_meaning.specs.Rounds.{Run, from_zero, length_of, runs_for, from_on, last_run, with_outer, joined_lists, runs_of}
-use Rattle.isp_eval.specs.Left.{range_seen, at_start, restarted, stepped, outer_left, left_of, have_numbers, are_within, runs_left, tail_within, some_range, is_ready, goes, all_go, carried, number_now, numbers_below, indices_now, members_now, advanced}
+use Rattle.isp_meaning.specs.Rounds.{Run, from_zero, runs_for, from_on, last_run, with_outer, joined_lists, runs_of}
+use Rattle.isp_eval.specs.Left.{range_seen, at_start, restarted, stepped, outer_left, left_of, have_numbers, are_within, runs_left, tail_within, some_range, is_ready, goes, all_go, carried, numbers_below, indices_now, members_now, advanced}
 use Rattle.isp_eval.specs.declared.rounds.Range.{Range}
 
 -- ---- how many numbers there are

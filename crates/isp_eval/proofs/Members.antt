@@ -1,5 +1,5 @@
 -- The members of a set one by one, from the lowest.
-use Rattle.std.proofs.Common.{◌≡◌, refl, sym, ap, ap₂, ◌∙◌, subst, ℕ, zero, suc, ◌<◌, ◌&&◌, Bool, true, false, not, List, [], ◌∷◌, ◌++◌, map, Option, Some, None, arith, eq-eqb, ne_eqb}
+use Rattle.std.proofs.Common.{◌≡◌, refl, sym, ap, ap₂, ◌∙◌, ℕ, zero, suc, ◌<◌, ◌&&◌, Bool, true, false, not, [], ◌∷◌, ◌++◌, Option, Some, None, arith, eq-eqb, ne_eqb}
 use Rattle.std.specs.Prelude.{nat_eq}
 use Rattle.isp_base.specs.Sets.{Mask, lowest, or_this, without, lone}
 use Rattle.isp_meaning.specs.Rounds.{members, if_listed}

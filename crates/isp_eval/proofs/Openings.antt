@@ -1,5 +1,5 @@
 -- How a run begins.
-use Rattle.std.proofs.Common.{◌≡◌, refl, sym, ap, ap₂, ◌∙◌, ℕ, zero, suc, List, [], ◌∷◌, map, length, replicate, Vec, Global, Bor, None}
+use Rattle.std.proofs.Common.{◌≡◌, refl, ap, ap₂, ◌∙◌, ℕ, zero, suc, List, [], ◌∷◌, map, length, replicate, Vec, Global, Bor, None}
 use Rattle.std.proofs.Math.Path.{fun_ext}
 use Rattle.std.specs.Prelude.{slice_index}
 use Rattle.isp_base.specs.Arguments.{rows, row_bits}
@@ -8,8 +8,7 @@ use Rattle.isp_base.specs.Rows.{Row}
 use Rattle.isp_base.specs.declared.signature.Argument.{Argument}
 use Rattle.isp_typed.specs.declared.function.Program.{Program}
 use Rattle.isp_typed.specs.Views.{program_of}
-use Rattle.isp_meaning.specs.State.{State, Frame}
-use Rattle.isp_meaning.specs.Runs.{first_frame, first_state}
+use Rattle.isp_meaning.specs.Runs.{first_frame}
 use Rattle.isp_gang.proofs.Made.{repeated}
 use Rattle.isp_gang.specs.Growing.{values_of}
 use Rattle.isp_eval.specs.Seen.{frame_seen, state_seen}

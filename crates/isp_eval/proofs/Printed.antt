@@ -1,6 +1,6 @@
 -- What is printed, item by item and byte by byte.
-use Rattle.std.proofs.Common.{◌≡◌, refl, sym, ap, ap₂, ◌∙◌, ℕ, zero, suc, ◌+◌, ◌<◌, ◌≤◌, Bool, true, false, List, [], ◌∷◌, ◌++◌, map, length, drop, get_or, arith, cond, append_assoc, ne_eqb}
-use Rattle.std.specs.Prelude.{codes, ◌==◌}
+use Rattle.std.proofs.Common.{◌≡◌, refl, sym, ap, ap₂, ◌∙◌, ℕ, zero, suc, ◌+◌, ◌<◌, ◌≤◌, List, [], ◌∷◌, ◌++◌, map, length, drop, get_or, arith, cond, append_assoc, ne_eqb}
+use Rattle.std.specs.Prelude.{codes}
 use Rattle.isp_base.specs.Maps.{Map}
 use Rattle.isp_base.specs.Sets.{Mask}
 use Rattle.isp_base.specs.Prints.{comma, items_text, item_text, list_text}
@@ -8,7 +8,7 @@ use Rattle.isp_base.specs.declared.types.Elem.{Elem}
 use Rattle.isp_typed.specs.Typed.{type_of}
 use Rattle.isp_typed.specs.Views.{expr_of, exprs_of}
 use Rattle.isp_typed.specs.declared.expr.TypedExpr.{TypedExpr}
-use Rattle.isp_meaning.specs.Printing.{first_text, later_texts, print_text, percent, shown, shown_all}
+use Rattle.isp_meaning.specs.Printing.{first_text, later_texts, print_text, shown, shown_all}
 use Rattle.isp_gang.specs.Seen.{payload_of}
 use Rattle.isp_gang.specs.declared.computed.Computed.{Computed}
 

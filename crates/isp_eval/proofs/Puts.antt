@@ -1,5 +1,5 @@
 -- Functions that are changed at places.
-use Rattle.std.proofs.Common.{◌≡◌, refl, sym, ap, ◌∙◌, ℕ, zero, suc, ◌+◌, ◌<◌, ◌≤◌, Bool, true, false, List, Option, Some, None, nat_eq, nat_lt, ⊎_elim, eq-eqb, ne_eqb, add-one, arith, length, get_or, lt-ltb}
+use Rattle.std.proofs.Common.{◌≡◌, refl, sym, ap, ◌∙◌, ℕ, ◌+◌, ◌<◌, ◌≤◌, Bool, true, false, List, Option, Some, None, nat_eq, nat_lt, ⊎_elim, eq-eqb, ne_eqb, add-one, arith, length, get_or, lt-ltb}
 use Rattle.std.proofs.Math.Path.{fun_ext}
 use Rattle.std.proofs.lemmas.Bool.{cases_eq, cases_lt, le-ltb}
 use Rattle.std.specs.Prelude.{if◌then◌else◌, slice_set}

@@ -1,5 +1,5 @@
 -- The indices of a run are set one by one.
-use Rattle.std.proofs.Common.{◌≡◌, refl, sym, ap, ap₂, ◌∙◌, subst, ℕ, zero, suc, ◌+◌, ◌<◌, Bool, true, false, List, [], ◌∷◌, ◌++◌, length, take, get_or, arith, cond}
+use Rattle.std.proofs.Common.{◌≡◌, refl, sym, ap, ◌∙◌, subst, ℕ, zero, suc, ◌+◌, ◌<◌, Bool, true, false, List, [], ◌∷◌, ◌++◌, length, get_or, arith}
 use Rattle.std.proofs.Common.{⊎_elim, eq-eqb, ne_eqb}
 use Rattle.std.proofs.lemmas.Bool.{cases_eq}
 use Rattle.std.specs.Prelude.{ℤ, pos, ◌+ℤ◌, nat_eq}
@@ -13,7 +13,7 @@ use Rattle.isp_meaning.specs.Payloads.{Payload, Each}
 use Rattle.isp_meaning.specs.Places.{written}
 use Rattle.isp_meaning.specs.Rounds.{set_indices}
 use Rattle.isp_eval.specs.Left.{number_now, indices_now}
-use Rattle.isp_eval.specs.Seen.{state_seen, frame_seen}
+use Rattle.isp_eval.specs.Seen.{state_seen}
 use Rattle.isp_eval.specs.Tasks.{Changes}
 use Rattle.isp_eval.specs.declared.rounds.Range.{Range}
 use Rattle.isp_eval.specs.declared.state.Evaluator.{Evaluator}

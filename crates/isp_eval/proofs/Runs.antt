@@ -1,12 +1,12 @@
 -- Laws of statements: where members left, and what comes after a statement or a value.
-use Rattle.std.proofs.Common.{◌≡◌, refl, sym, ap, ◌∙◌, ℕ, Bool, true, false, ◌||◌}
+use Rattle.std.proofs.Common.{◌≡◌, refl, sym, ap, ℕ, Bool, true, false, ◌||◌}
 use Rattle.std.proofs.Math.Path.{fun_ext}
 use Rattle.isp_base.specs.Sets.{Mask, nobody, union}
 use Rattle.isp_meaning.specs.State.{State, Frame}
 use Rattle.isp_meaning.specs.Payloads.{Payload, One}
 use Rattle.isp_meaning.specs.Outcomes as Outcomes
 use Rattle.isp_meaning.specs.Outcomes.{Val, Gives, Fails, Stops, Res, Went, Done, go_on, with_value}
-use Rattle.isp_eval.specs.Tasks.{Store, Parts, Goes, On, Trapped, Cut, go, given, ran, done, left_as}
+use Rattle.isp_eval.specs.Tasks.{Store, Parts, Goes, go, given, ran, done}
 
 -- ---- sets
 

@@ -6,7 +6,7 @@ use Rattle.isp_typed.specs.Views.{program_of}
 use Rattle.isp_meaning.specs.State.{State, Frame}
 use Rattle.isp_meaning.specs.Payloads.{Payload}
 use Rattle.isp_meaning.specs.Outcomes.{Val, Gives, Fails, Stops, bind}
-use Rattle.isp_eval.specs.Tasks.{Store, Goes, On, Trapped, Cut, go, given, act, finish, does, rest, First, FirstValue, Does, Traps, value_at, perhaps, join, store_seen}
+use Rattle.isp_eval.specs.Tasks.{Store, Goes, On, Trapped, Cut, go, given, act, finish, does, rest, First, store_seen}
 use Rattle.isp_eval.specs.declared.state.Evaluator.{Evaluator}
 use Rattle.isp_eval.specs.declared.tasks.Task.{Task}
 

@@ -1,5 +1,5 @@
 -- What loops leave to be done.
-use Rattle.std.proofs.Common.{◌≡◌, refl, sym, ap, ap₂, subst, ◌∙◌, ℕ, zero, suc, ◌+◌, List, Bor, Box, Global, Bool, true, false, Option, Some, None}
+use Rattle.std.proofs.Common.{◌≡◌, refl, sym, ap, ap₂, subst, ◌∙◌, ℕ, suc, ◌+◌, List, Bor, Box, Global, Bool, true, false, Some, None}
 use Rattle.std.specs.Prelude.{option_map, Result, Ok, Err}
 use Rattle.std.specs.Result.{IfErr, IsErrAnd}
 use Rattle.isp_base.specs.Sets.{Mask, any, flag_of, nobody, union, without}
@@ -7,25 +7,24 @@ use Rattle.isp_base.specs.Types.{gang_width}
 use Rattle.isp_typed.specs.declared.expr.TypedExpr.{TypedExpr}
 use Rattle.isp_typed.specs.declared.stmt.TypedSimple.{TypedSimple}
 use Rattle.isp_typed.specs.Views.{expr_of, simple_of, program_of}
-use Rattle.isp_meaning.specs.State.{State, Frame, tick}
+use Rattle.isp_meaning.specs.State.{State, Frame}
 use Rattle.isp_meaning.specs.Payloads.{Payload, One, is_true, kept_by}
-use Rattle.isp_meaning.specs.Outcomes.{Val, Res, Done, if_so, with_value}
+use Rattle.isp_meaning.specs.Outcomes.{if_so, with_value}
 use Rattle.isp_meaning.specs.Calls.{calls_at}
 use Rattle.isp_meaning.specs.Simple.{step_part}
 use Rattle.isp_meaning.specs.Statements.{test_part}
 use Rattle.isp_gang.specs.Seen.{payload_of}
 use Rattle.isp_gang.specs.declared.computed.Computed.TheVariants as computed
 use Rattle.isp_eval.specs.Seen.{state_seen}
-use Rattle.isp_eval.specs.Tasks.{Store, Parts, Goes, Cut, First, Halts, refused, trapped, cut, go, ran, does, rest, Comes, store_seen, left_as, test_in, body_in, step_in, turns_in, tested_in, stepped_in, ends_in, turns_on, tests_on, ends_on, keeps_on, steps_on, turned_on}
+use Rattle.isp_eval.specs.Tasks.{Store, Parts, Goes, Cut, First, Halts, refused, trapped, cut, go, ran, does, rest, Comes, store_seen, body_in, turns_in, tested_in, stepped_in, ends_in, turns_on, tests_on, ends_on, keeps_on, steps_on, turned_on}
 use Rattle.isp_eval.specs.declared.loops.Turning.{Turning}
 use Rattle.isp_eval.specs.declared.state.Evaluator.{Evaluator}
 use Rattle.isp_eval.specs.declared.state.Sets.{Sets}
 use Rattle.isp_eval.specs.declared.state.Stop.{Stop}
 use Rattle.isp_eval.specs.declared.state.Stop.TheVariants as stop
-use Rattle.isp_eval.specs.declared.tasks.Task.{Task}
 use Rattle.isp_eval.specs.declared.tasks.Task.TheVariants as task
 use Rattle.isp_eval.proofs.Runs.{reran, then_ran, value_ran, done_ran}
-use Rattle.isp_eval.proofs.Branching.{comes_same, leaves, parts_are, pushes}
+use Rattle.isp_eval.proofs.Branching.{comes_same, leaves, parts_are}
 
 -- what stops the one stops the other
 pub halts_same : (old new : Evaluator) (f g : Store → Goes) (e : Stop) → ((w : ℕ) → f (store_seen old w) ≡ g (store_seen old w)) → Halts old new g e → Halts old new f e

@@ -1,5 +1,5 @@
 -- What `foreach` and `foreach_active` come to, in the words of the meaning.
-use Rattle.std.specs.Prelude.{ℕ, ◌+◌, List, ◌++◌}
+use Rattle.std.specs.Prelude.{ℕ, List, ◌++◌}
 use Rattle.std.proofs.Common.{Bor}
 use Rattle.isp_base.specs.Sets.{Mask}
 use Rattle.isp_base.specs.Types.{gang_width}
@@ -8,7 +8,7 @@ use Rattle.isp_typed.specs.declared.stmt.TypedStmt.{TypedStmt}
 use Rattle.isp_typed.specs.Views.{stmt_of, program_of}
 use Rattle.isp_meaning.specs.State.{State, Frame, tick}
 use Rattle.isp_meaning.specs.Outcomes.{Res, with_value}
-use Rattle.isp_meaning.specs.Rounds.{Range, rounds, foreach_rounds, active_rounds, counted}
+use Rattle.isp_meaning.specs.Rounds.{Range, rounds, active_rounds}
 use Rattle.isp_meaning.specs.Statements.{ranges}
 use Rattle.isp_meaning.specs.Calls.{calls_at}
 use Rattle.isp_eval.specs.Tasks.{Store, Goes, ran, rounds_from, run_in}

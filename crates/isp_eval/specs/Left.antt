@@ -2,7 +2,7 @@
 --     runs_left gang rs     those from the next numbers on
 --     is_ready rs           whether the next numbers make a run
 --     advanced gang rs      the last range moves on by a run
-use Rattle.std.specs.Prelude.{ℕ, zero, suc, ◌+◌, List, [], ◌∷◌, ◌++◌, map, take, drop, Bool, true, false, ◌&&◌, not, ◌||◌, nat_lt, ℤ, pos, ◌+ℤ◌, ◌-ℤ◌, int_lt, if◌then◌else◌}
+use Rattle.std.specs.Prelude.{ℕ, zero, suc, List, [], ◌∷◌, ◌++◌, map, take, drop, Bool, true, false, ◌&&◌, not, ◌||◌, nat_lt, ℤ, pos, ◌+ℤ◌, ◌-ℤ◌, int_lt, if◌then◌else◌}
 use Rattle.isp_base.specs.Sets.{Mask, nobody}
 use Rattle.isp_meaning.specs.Rounds as Meaning
 use Rattle.isp_meaning.specs.Rounds.{Run, from_zero, runs_for, from_on, last_run, with_outer, joined_lists, runs_of}

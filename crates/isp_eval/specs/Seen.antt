@@ -1,7 +1,7 @@
 -- How an evaluator is a frame and a state of the meaning: what it does not hold is 0.
-use Rattle.std.specs.Prelude.{ℕ, zero, suc, List, [], ◌∷◌, length, get_or, slice_get, Option, Some, None}
-use Rattle.std.proofs.Common.{Vec, Global, Bor}
-use Rattle.isp_base.specs.Maps.{Lanes, lane_of}
+use Rattle.std.specs.Prelude.{ℕ, List, length, get_or, slice_get, Option, Some, None}
+use Rattle.std.proofs.Common.{Bor}
+use Rattle.isp_base.specs.Maps.{lane_of}
 use Rattle.isp_base.specs.declared.types.Ty.{Ty}
 use Rattle.isp_typed.specs.declared.function.TypedFunction.{TypedFunction}
 use Rattle.isp_meaning.specs.Calls.{own_size}

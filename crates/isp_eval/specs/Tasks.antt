@@ -10,7 +10,7 @@ use Rattle.isp_base.specs.Values.{op_bits, compare_bits, number}
 use Rattle.isp_base.specs.declared.trap.Trap.{Trap}
 use Rattle.isp_base.specs.declared.types.Elem.TheVariants.{I32}
 use Rattle.isp_base.specs.declared.trap.TrapKind.TheVariants.{Assert, Divide, Index}
-use Rattle.isp_typed.specs.Typed.{TExpr, TPlace, place_span, TItem, TSimple, TArgument, TCall, t_called, t_arguments, t_exprs, TBlock, TStmt, t_stmts, TRange, Program}
+use Rattle.isp_typed.specs.Typed.{TExpr, TPlace, place_span, TItem, TArgument, TCall, t_called, t_arguments, t_exprs, TBlock, TStmt, t_stmts, TRange, Program}
 use Rattle.isp_typed.specs.declared.stmt.TypedStmt.{TypedStmt}
 use Rattle.isp_typed.specs.Views.{expr_of, exprs_of, place_of, call_of, arguments_of, simple_of, items_of, ranges_of, stmt_of, stmts_of, program_of}
 use Rattle.isp_meaning.specs.State.{State, Frame, extent, tick}

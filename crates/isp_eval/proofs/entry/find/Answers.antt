@@ -1,6 +1,6 @@
 use Rattle.std.proofs.Common.{◌<◌, ◌≤◌, length, sym, ◌∙◌, arith}
 use Rattle.std.proofs.lemmas.Bool.{true≢false}
-use Rattle.isp_eval.proofs.Beginners.{begins_at, none_more, none_at_all, none_yet}
+use Rattle.isp_eval.proofs.Beginners.{begins_at, none_more, none_at_all}
 use Rattle.isp_eval.proofs.entry.find.Goals as goal
 
 pub returns-then-can_begin-clause-some : goal.returns-then-can_begin-clause-some

@@ -2,7 +2,7 @@ use Rattle.std.proofs.Common.{◌≡◌, ℕ, ◌++◌, ap, ◌∙◌, arith}
 use Rattle.isp_base.specs.Prints.{list_text}
 use Rattle.isp_base.specs.Types.{gang_width}
 use Rattle.isp_gang.specs.Seen.{map_of}
-use Rattle.isp_eval.proofs.Printed.{items_end, item_more}
+use Rattle.isp_eval.proofs.Printed.{items_end}
 use Rattle.isp_eval.proofs.printing.push_row.Goals as goal
 
 pub returns : goal.returns

@@ -1,4 +1,4 @@
-use Rattle.std.proofs.Common.{◌≡◌, ◌+◌, ◌<◌, ℕ, List, Vec, Global, map, length, ap, ◌∙◌, arith}
+use Rattle.std.proofs.Common.{◌+◌, ◌<◌, ℕ, Vec, Global, map, length, ap, ◌∙◌, arith}
 use Rattle.isp_base.specs.Sets.{flag_of}
 use Rattle.isp_base.specs.Types.{gang_width}
 use Rattle.isp_typed.specs.Views.{exprs_of}

@@ -1,9 +1,8 @@
-use Rattle.std.proofs.Common.{◌≡◌, ◌+◌, ◌-◌, ◌<◌, ◌≤◌, ℕ, List, suc, length, get_or, ap, sym, subst, ◌∙◌, arith, true, false}
+use Rattle.std.proofs.Common.{◌≡◌, ◌-◌, ◌<◌, ℕ, suc, length, get_or, ap, sym, subst, ◌∙◌, arith, true, false}
 use Rattle.std.proofs.lemmas.Bool.{not-true}
 use Rattle.std.specs.Prelude.{int_lt}
 use Rattle.isp_base.specs.Types.{gang_width}
-use Rattle.isp_eval.specs.Left.{carried, runs_left}
-use Rattle.isp_eval.specs.declared.rounds.Range.{Range}
+use Rattle.isp_eval.specs.Left.{runs_left}
 use Rattle.isp_eval.proofs.Left.{carry_left, within_carried, within_from, carried_long}
 use Rattle.isp_eval.proofs.rounds.carry.Goals as goal
 

@@ -1,6 +1,6 @@
 use Rattle.isp_base.specs.Values.{wrap}
 use Rattle.isp_base.specs.declared.types.Elem.TheVariants.{I32}
-use Rattle.std.proofs.Common.{ap, subst, ℕ, arith, ◌≡◌, None}
+use Rattle.std.proofs.Common.{subst, ℕ, arith, ◌≡◌, None}
 use Rattle.isp_base.specs.Maps.{on}
 use Rattle.isp_base.specs.Sets.{flag_of}
 use Rattle.isp_gang.proofs.Made.{Made}

@@ -1,8 +1,8 @@
-use Rattle.std.proofs.Common.{◌≡◌, ◌+◌, ◌-◌, ◌<◌, ℕ, suc, List, get_or, length, refl, ap, sym, subst, ◌∙◌, arith, w64, to_z, of_z}
+use Rattle.std.proofs.Common.{◌≡◌, ◌+◌, ◌-◌, ◌<◌, ℕ, suc, List, get_or, length, ap, sym, subst, ◌∙◌, arith, w64, to_z, of_z}
 use Rattle.std.proofs.lemmas.Int.{to_z-of_z}
 use Rattle.std.proofs.Math.ListN.{set}
 use Rattle.isp_eval.specs.declared.rounds.Range.{Range}
-use Rattle.isp_eval.proofs.Left.{restarted_to, none_restarted, one_restarted, restarted_long}
+use Rattle.isp_eval.proofs.Left.{restarted_to, none_restarted, one_restarted}
 use Rattle.isp_eval.proofs.rounds.reset.Goals as goal
 
 pub loop-place-init : goal.loop-place-init

@@ -1,5 +1,4 @@
 use Rattle.std.proofs.Common.{ℕ, sym, ap, ◌∙◌}
-use Rattle.std.proofs.Math.Path.{fun_ext}
 use Rattle.isp_base.specs.Maps.{Lanes, put}
 use Rattle.isp_base.specs.Sets.{flag_of}
 use Rattle.isp_gang.specs.Growing.{lanes_of}

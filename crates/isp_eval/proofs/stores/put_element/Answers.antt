@@ -1,4 +1,4 @@
-use Rattle.std.proofs.Common.{ap, refl, length, ◌∙◌, sym, arith}
+use Rattle.std.proofs.Common.{ap, length, ◌∙◌, sym, arith}
 use Rattle.isp_base.specs.Maps.{put}
 use Rattle.isp_gang.specs.Growing.{values_of}
 use Rattle.isp_gang.proofs.Vectors.{padded_all, pushed, written, longer, at_there, at_past}

@@ -1,4 +1,4 @@
-use Rattle.isp_eval.proofs.Acting.{act_comes, act_does, comes_ok, does_ok, halts_err, traps_err, refused_err}
+use Rattle.isp_eval.proofs.Acting.{act_does, does_ok, halts_err, traps_err, refused_err}
 use Rattle.isp_eval.proofs.state.Evaluator.act.Goals as goal
 
 pub returns-in-Value-clause-ok : goal.returns-in-Value-clause-ok

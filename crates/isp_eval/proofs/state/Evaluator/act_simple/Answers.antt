@@ -2,7 +2,7 @@ use Rattle.std.proofs.Common.{sym, ap}
 use Rattle.isp_eval.specs.Tasks.{rest, store_seen}
 use Rattle.isp_eval.specs.declared.state.Evaluator.{Evaluator}
 use Rattle.isp_eval.specs.declared.tasks.Task.TheVariants as task
-use Rattle.isp_eval.proofs.Acting.{act_comes, act_does, comes_ok, does_ok, halts_err, traps_err, refused_err}
+use Rattle.isp_eval.proofs.Acting.{act_comes, does_ok, halts_err, refused_err}
 use Rattle.isp_eval.proofs.state.Evaluator.act_simple.Goals as goal
 
 pub returns-in-Simple-clause-ok : goal.returns-in-Simple-clause-ok

@@ -4,7 +4,7 @@ use Rattle.isp_eval.specs.Tasks.{Comes, Halts, all_parts, does, tests_on, keeps_
 use Rattle.isp_eval.specs.declared.loops.Turning.{Turning}
 use Rattle.isp_eval.specs.declared.tasks.Task.TheVariants as task
 use Rattle.isp_eval.proofs.Branching.{leaves, pushes}
-use Rattle.isp_eval.proofs.Acting.{act_comes, act_does, comes_ok, does_ok, halts_err, traps_err, refused_err}
+use Rattle.isp_eval.proofs.Acting.{act_comes, comes_ok, halts_err, refused_err}
 use Rattle.isp_eval.proofs.state.Evaluator.act_statement.Goals as goal
 
 pub returns-in-Run-clause-ok : goal.returns-in-Run-clause-ok

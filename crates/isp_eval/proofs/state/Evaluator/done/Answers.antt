@@ -1,5 +1,5 @@
 use Rattle.std.proofs.Common.{ap, subst, ◌∙◌, ◌-◌, map}
-use Rattle.isp_base.specs.Sets.{Mask, everyone, flag_of}
+use Rattle.isp_base.specs.Sets.{Mask, everyone}
 use Rattle.isp_base.specs.Types.{gang_width}
 use Rattle.isp_typed.specs.Views.{function_of}
 use Rattle.isp_eval.specs.Passing.{does_call}

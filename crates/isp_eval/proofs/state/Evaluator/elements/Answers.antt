@@ -1,10 +1,10 @@
-use Rattle.std.proofs.Common.{ℕ, Option, sym, ap, ap₂, ◌∙◌}
+use Rattle.std.proofs.Common.{sym, ap, ap₂, ◌∙◌}
 use Rattle.isp_base.specs.Access.{element}
 use Rattle.isp_base.specs.Maps.{Map, each1}
 use Rattle.isp_base.specs.Sets.{flag_of}
 use Rattle.isp_meaning.specs.Payloads.{Each, mapped}
 use Rattle.isp_meaning.specs.Places.{elements}
-use Rattle.isp_gang.specs.Seen.{map_of, payload_of}
+use Rattle.isp_gang.specs.Seen.{payload_of}
 use Rattle.isp_eval.specs.Seen.{frame_seen, state_seen}
 use Rattle.isp_eval.specs.Stores.{stores_of, own_of}
 use Rattle.isp_eval.proofs.state.Evaluator.elements.Goals as goal

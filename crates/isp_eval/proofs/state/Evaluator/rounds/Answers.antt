@@ -1,4 +1,4 @@
-use Rattle.std.proofs.Common.{◌≡◌, List, sym, ap, ◌∙◌, false}
+use Rattle.std.proofs.Common.{◌≡◌, sym, ap, ◌∙◌, false}
 use Rattle.isp_base.specs.Sets.{flag_of}
 use Rattle.isp_base.specs.Types.{gang_width}
 use Rattle.isp_eval.specs.Left.{is_ready, runs_left}

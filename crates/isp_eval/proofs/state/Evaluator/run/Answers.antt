@@ -1,4 +1,4 @@
-use Rattle.std.proofs.Common.{refl, sym, ap, ap₂, ◌∙◌, None, Some}
+use Rattle.std.proofs.Common.{refl, sym, ap, ap₂, ◌∙◌}
 use Rattle.std.proofs.Common.{ℕ, List, Option, Bor}
 use Rattle.std.specs.Prelude.{option_map}
 use Rattle.isp_typed.specs.declared.stmt.TypedFirst.{TypedFirst}

@@ -1,4 +1,4 @@
-use Rattle.std.proofs.Common.{◌≡◌, refl, ap, ◌∙◌, ◌≤◌, ◌-◌, ℕ, List, [], ◌∷◌, arith, length, get_or, take, drop}
+use Rattle.std.proofs.Common.{refl, ap, arith}
 use Rattle.isp_eval.specs.declared.tasks.Statements.{Statements}
 use Rattle.isp_eval.proofs.Blocks.{block_ends, block_goes, headed, none_left}
 use Rattle.isp_eval.proofs.state.Evaluator.statements.Goals as goal
