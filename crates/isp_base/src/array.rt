@@ -3,6 +3,7 @@ ghost use Rattle.std.specs.Prelude.{◌≡◌, ◌<◌, ◌^◌, ◌++◌, ◌�
 ghost use Rattle.isp_base.specs.Values.{width};
 ghost use Rattle.isp_base.specs.Cells.{cell_width};
 ghost use Rattle.isp_base.specs.Held.{held, held_width};
+ghost use Rattle.isp_base.specs.Rows.{Fit};
 
 use crate::types::Elem;
 use std::alloc::{AllocError, Global};
@@ -18,9 +19,9 @@ pub struct Array {
     cells: Cells,
 }
 
-// The elements' bits, in words of the width that their type takes.
+/// The elements' bits, in words of the width that their type takes.
 #[derive(Debug, Drop)]
-enum Cells {
+pub enum Cells {
     Bits8(Vec<u8>),
     Bits16(Vec<u16>),
     Bits32(Vec<u32>),
@@ -68,6 +69,15 @@ impl Array {
             Cells::Bits32(words) => words.len(),
             Cells::Bits64(words) => words.len(),
         }
+    }
+
+    /// The elements' words.
+    pub fn cells(&self) -> &Cells
+        ensures words { held result.now ≡ self.now.bits }
+        ensures wide { held_width result.now ≡ cell_width self.now.elem }
+        ensures fits { Fit self.now.elem (held result.now) }
+    {
+        &self.cells
     }
 
     /// The bits of one element.

@@ -11,7 +11,7 @@ mod types;
 mod unary;
 mod values;
 
-pub use array::Array;
+pub use array::{Array, Cells};
 pub use name::Name;
 pub use operators::{BinOp, Compare, DivideByZero, UnaryOp, apply, apply_nonzero, operator_laws};
 pub use order::compare;

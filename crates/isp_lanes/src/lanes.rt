@@ -1,5 +1,5 @@
 //! Vectors of N values of one element type.
-ghost use Rattle.std.specs.Prelude.{◌≡◌, ◌^◌, ◌<◌, length, map, replicate, slice_get, slice_set, Some, None, IfOk, IfErr, ◌&&◌, true};
+ghost use Rattle.std.specs.Prelude.{◌≡◌, ◌^◌, ◌<◌, length, map, replicate, slice_get, slice_set, Some, None, IfOk, IfErr, OnOk, ◌&&◌, ◌++◌, ◌∷◌, [], true};
 ghost use Rattle.std.specs.List.{range_with_len};
 ghost use Rattle.std.specs.Simd.Lanes.{zip2, sel_l};
 ghost use Rattle.isp_base.specs.declared.types.Elem.TheVariants.{Bool as Truth, I32, I64};
@@ -15,6 +15,7 @@ use crate::mask::LaneMask;
 use crate::row::Row;
 use crate::words::Words;
 use isp_base::{BinOp, Compare, Elem, UnaryOp};
+use std::alloc::AllocError;
 use std::marker::Model;
 use std::simd::prelude::*;
 
@@ -55,6 +56,31 @@ impl<const N: usize> Lanes<N> {
             elem,
             row: Row::zero(elem),
         }
+    }
+
+    /// One more vector behind those of a list, zero in each lane. It is made where it stands.
+    pub fn push_zero(vectors: &mut Vec<Self>, elem: Elem) -> Result<(), AllocError>
+        ensures { OnOk result (vectors.new.items ≡ vectors.old.items ++ record { elem = elem; bits = replicate N 0 } ∷ []) }
+    {
+        match elem {
+            Elem::Bool | Elem::I8 | Elem::U8 => vectors.push(Lanes {
+                elem,
+                row: Row::Bits8([0; N]),
+            })?,
+            Elem::I16 | Elem::U16 => vectors.push(Lanes {
+                elem,
+                row: Row::Bits16([0; N]),
+            })?,
+            Elem::I32 | Elem::U32 => vectors.push(Lanes {
+                elem,
+                row: Row::Bits32([0; N]),
+            })?,
+            Elem::I64 | Elem::U64 => vectors.push(Lanes {
+                elem,
+                row: Row::Bits64([0; N]),
+            })?,
+        }
+        Ok(())
     }
 
     /// What holds of every vector: it has N lanes, and each fits the element type. Changes nothing.

@@ -67,8 +67,16 @@ fn wait<const N: usize>(
     Ok(())
 }
 
+// The room of the last call that is over, where one is kept.
+fn room<const N: usize>(alloc: Global, rooms: &mut Vec<Passed<N>>) -> Passed<N> {
+    match rooms.pop() {
+        Some(room) => room,
+        None => Passed::nothing(alloc),
+    }
+}
+
 /// Calls a function, or traps where as many calls run as may. Where memory is refused nothing
-/// changes.
+/// changes. The new frame takes the memory of a call that is over, where some is kept.
 pub(crate) fn call<const N: usize>(
     alloc: Global,
     code: &Verified,
@@ -76,6 +84,7 @@ pub(crate) fn call<const N: usize>(
     frame: &mut Frame<N>,
     waiting: &mut Vec<Frame<N>>,
     stores: &mut Arrays,
+    rooms: &mut Vec<Passed<N>>,
     call: &Call,
 ) -> Result<Step, AllocError>
     requires code { here.now.code ≡ code.now }
@@ -98,7 +107,8 @@ pub(crate) fn call<const N: usize>(
     }
     let _count = here.count();
     let before = stores.locals();
-    let passed = Passed::by_call(alloc, here, frame, call.arguments.as_slice(), &mask)?;
+    let room = room(alloc, rooms);
+    let passed = room.by_call(here, frame, call.arguments.as_slice(), &mask)?;
     let callee = first_frame(alloc, code, stores, passed, call.function as usize, mask)?;
     match wait(frame, waiting, callee, call.result, mask) {
         Ok(()) => Ok(Step::Went),

@@ -70,6 +70,21 @@ impl<const N: usize> Frame<N> {
         }
     }
 
+    /// The lists of the registers: scalars, vectors, masks and arrays.
+    pub(crate) fn into_registers(
+        self,
+    ) -> (
+        Vec<u64>,
+        Vec<Lanes<N>>,
+        Vec<LaneMask<N>>,
+        Vec<FrameArray<N>>,
+    )
+        ensures scalars { result.0.items ≡ self.entry.scalars }
+        ensures vectors { result.1.items ≡ self.entry.vectors }
+    {
+        (self.scalars, self.vectors, self.masks, self.arrays)
+    }
+
     /// The number of the function.
     pub(crate) fn function(&self) -> usize
         ensures { result ≡ self.now.function }

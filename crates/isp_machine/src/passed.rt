@@ -1,5 +1,5 @@
 //! What a function is given.
-ghost use Rattle.std.specs.Prelude.{◌≡◌, ◌≤◌, ◌<◌, ◌+◌, ◌++◌, map, length, replicate, slice_set, true, false, IfOk, OnOk, OnErr};
+ghost use Rattle.std.specs.Prelude.{◌≡◌, ◌≤◌, ◌<◌, ◌+◌, ◌++◌, ◌∷◌, [], map, length, replicate, slice_set, true, false, IfOk, OnOk, OnErr};
 ghost use Rattle.std.specs.List.{All};
 ghost use Rattle.isp_base.specs.Arguments.{rows};
 ghost use Rattle.isp_base.specs.Maps.{lane_of, on, over};
@@ -24,12 +24,13 @@ use isp_store::Arrays;
 use std::alloc::{AllocError, Global};
 use std::marker::Model;
 
-/// The registers that the parameters are, by class.
+/// The registers that the parameters are, by class, and room for the masks.
 #[derive(Drop)]
 pub(crate) struct Passed<const N: usize> {
     scalars: Vec<u64>,
     vectors: Vec<Lanes<N>>,
     arrays: Vec<FrameArray<N>>,
+    masks: Vec<LaneMask<N>>,
 }
 
 impl<const N: usize> Model for Passed<N> {
@@ -48,24 +49,24 @@ fn is_class(x: Register, class: Class) -> bool
     x.class == class
 }
 
-// The scalars that a call passes.
+// The scalars that a call passes, in the place of others.
 fn passed_scalars<const N: usize>(
-    alloc: Global,
+    scalars: &mut Vec<u64>,
     here: &Here,
     frame: &Frame<N>,
     arguments: &[Register],
-) -> Result<Vec<u64>, AllocError>
+) -> Result<(), AllocError>
     requires shaped { Shaped here.now.routine frame.now }
     requires there { AreThere here.now.routine arguments.now }
-    ensures { IfOk result (λ v. v.items ≡ map (scalars_at frame.now) (numbers Class.Scalar arguments.now)) }
+    ensures { OnOk result (scalars.new.items ≡ map (scalars_at frame.now) (numbers Class.Scalar arguments.now)) }
 {
-    let mut scalars = Vec::new(alloc);
+    scalars.clear();
     for x in arguments {
         if is_class(*x, Class::Scalar) {
             scalars.push(here.scalar(frame, *x))?;
         }
     }
-    Ok(scalars)
+    Ok(())
 }
 
 // A vector that is zero in each lane.
@@ -86,45 +87,45 @@ fn masked<const N: usize>(x: &Lanes<N>, mask: &LaneMask<N>) -> Lanes<N>
     lanes
 }
 
-// The vectors that a call passes in the lanes of a mask.
+// The vectors that a call passes in the lanes of a mask, in the place of others.
 fn passed_vectors<const N: usize>(
-    alloc: Global,
+    vectors: &mut Vec<Lanes<N>>,
     here: &Here,
     frame: &Frame<N>,
     arguments: &[Register],
     mask: &LaneMask<N>,
-) -> Result<Vec<Lanes<N>>, AllocError>
+) -> Result<(), AllocError>
     requires shaped { Shaped here.now.routine frame.now }
     requires there { AreThere here.now.routine arguments.now }
-    ensures { IfOk result (λ v. map seen v.items ≡ map (passed_lanes frame.now (flag_of mask.now)) (numbers Class.Vector arguments.now)) }
+    ensures { OnOk result (map seen vectors.new.items ≡ map (passed_lanes frame.now (flag_of mask.now)) (numbers Class.Vector arguments.now)) }
 {
-    let mut vectors = Vec::new(alloc);
+    vectors.clear();
     for x in arguments {
         if is_class(*x, Class::Vector) {
             vectors.push(masked(frame.vector(x.number), mask))?;
         }
     }
-    Ok(vectors)
+    Ok(())
 }
 
-// The arrays that a call passes, by reference.
+// The arrays that a call passes, by reference, in the place of others.
 fn passed_arrays<const N: usize>(
-    alloc: Global,
+    arrays: &mut Vec<FrameArray<N>>,
     here: &Here,
     frame: &Frame<N>,
     arguments: &[Register],
-) -> Result<Vec<FrameArray<N>>, AllocError>
+) -> Result<(), AllocError>
     requires count { length frame.now.arrays ≡ length (arrays_of here.now.routine) }
     requires there { AreThere here.now.routine arguments.now }
-    ensures { IfOk result (λ v. map seen_array v.items ≡ map (passed_array frame.now) (numbers Class.Array arguments.now)) }
+    ensures { OnOk result (map seen_array arrays.new.items ≡ map (passed_array frame.now) (numbers Class.Array arguments.now)) }
 {
-    let mut arrays = Vec::new(alloc);
+    arrays.clear();
     for x in arguments {
         if is_class(*x, Class::Array) {
             arrays.push(FrameArray::new(frame.array(x.number).store(), None))?;
         }
     }
-    Ok(arrays)
+    Ok(())
 }
 
 // The values among the arguments of a run.
@@ -166,6 +167,13 @@ fn push_zeros(scalars: &mut Vec<u64>, count: usize) -> Result<(), AllocError>
     Ok(())
 }
 
+// A vector that is zero behind vectors.
+fn push_zero<const N: usize>(vectors: &mut Vec<Lanes<N>>, elem: Elem) -> Result<(), AllocError>
+    ensures { OnOk result (map seen vectors.new.items ≡ map seen vectors.old.items ++ zero_seen elem ∷ []) }
+{
+    Lanes::push_zero(vectors, elem)
+}
+
 // Vectors that are zero behind vectors.
 fn push_zero_lanes<const N: usize>(
     vectors: &mut Vec<Lanes<N>>,
@@ -175,30 +183,58 @@ fn push_zero_lanes<const N: usize>(
 {
     vectors.reserve(elems.len())?;
     for elem in elems {
-        vectors.push(zero_lanes(*elem))?;
+        push_zero(vectors, *elem)?;
     }
     Ok(())
 }
 
-// No lane is on in a mask, but for the first mask.
+// So many masks in the place of others: no lane is on, but for the first mask.
 fn first_masks<const N: usize>(
-    alloc: Global,
+    masks: &mut Vec<LaneMask<N>>,
     count: u32,
     first: LaneMask<N>,
-) -> Result<Vec<LaneMask<N>>, AllocError>
+) -> Result<(), AllocError>
     requires few { N ≤ 64 }
     requires some { 0 < count }
-    ensures { IfOk result (λ v. v.items ≡ slice_set (replicate count (replicate N false)) 0 first.entry) }
+    ensures { OnOk result (masks.new.items ≡ slice_set (replicate count (replicate N false)) 0 first.entry) }
 {
-    let mut masks = vec![in alloc; LaneMask::none(); count as usize]?;
+    masks.clear();
+    masks.resize(count as usize, LaneMask::none())?;
     masks[0] = first;
-    Ok(masks)
+    Ok(())
 }
 
 impl<const N: usize> Passed<N> {
-    /// What a call passes in the lanes of a mask.
+    /// Nothing.
+    pub(crate) fn nothing(alloc: Global) -> Self
+        ensures { result ≡ record { scalars = []; vectors = []; arrays = [] } }
+    {
+        Passed {
+            scalars: Vec::new(alloc),
+            vectors: Vec::new(alloc),
+            arrays: Vec::new(alloc),
+            masks: Vec::new(alloc),
+        }
+    }
+
+    /// Room for what a later call passes, in the memory of a call that is over. Its arrays are dropped.
+    pub(crate) fn room(frame: Frame<N>) -> Self
+        ensures { result.arrays ≡ [] }
+    {
+        let (scalars, vectors, masks, arrays) = frame.into_registers();
+        let mut room = Passed {
+            scalars,
+            vectors,
+            arrays,
+            masks,
+        };
+        room.arrays.clear();
+        room
+    }
+
+    /// What a call passes in the lanes of a mask, in the place of what was passed before.
     pub(crate) fn by_call(
-        alloc: Global,
+        self,
         here: &Here,
         frame: &Frame<N>,
         arguments: &[Register],
@@ -210,11 +246,11 @@ impl<const N: usize> Passed<N> {
         ensures { IfOk result (λ p. given p ≡ by_call frame.now (flag_of mask.now) arguments.now) }
     {
         mask.told();
-        Ok(Passed {
-            scalars: passed_scalars(alloc, here, frame, arguments)?,
-            vectors: passed_vectors(alloc, here, frame, arguments, mask)?,
-            arrays: passed_arrays(alloc, here, frame, arguments)?,
-        })
+        let mut passed = self;
+        passed_scalars(&mut passed.scalars, here, frame, arguments)?;
+        passed_vectors(&mut passed.vectors, here, frame, arguments, mask)?;
+        passed_arrays(&mut passed.arrays, here, frame, arguments)?;
+        Ok(passed)
     }
 
     /// What a run passes that has so many arrays.
@@ -230,6 +266,7 @@ impl<const N: usize> Passed<N> {
             scalars: argument_values(alloc, arguments)?,
             vectors: Vec::new(alloc),
             arrays: argument_arrays(alloc, count)?,
+            masks: Vec::new(alloc),
         })
     }
 
@@ -253,13 +290,13 @@ impl<const N: usize> Passed<N> {
         let mut passed = self;
         push_zeros(&mut passed.scalars, function.scalars.len())?;
         push_zero_lanes(&mut passed.vectors, &function.vectors)?;
-        let masks = first_masks(alloc, function.masks, mask)?;
+        first_masks(&mut passed.masks, function.masks, mask)?;
         open_locals(alloc, stores, &mut passed.arrays, &function.locals)?;
         Ok(Frame::new(
             number,
             passed.scalars,
             passed.vectors,
-            masks,
+            passed.masks,
             passed.arrays,
             stores.locals(),
             mask,

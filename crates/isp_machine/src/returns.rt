@@ -1,5 +1,5 @@
 //! Returns.
-ghost use Rattle.std.specs.Prelude.{◌≡◌, ℕ, List, slice_get, Some};
+ghost use Rattle.std.specs.Prelude.{◌≡◌, ◌≤◌, ℕ, List, length, slice_get, Some};
 ghost use Rattle.isp_code.specs.Calls.{answer};
 ghost use Rattle.isp_code.specs.Fine.{IsGiven, IsThere};
 ghost use Rattle.isp_code.specs.Listing.{Routine};
@@ -13,6 +13,7 @@ ghost use Rattle.isp_store.specs.Held.{Held};
 
 use crate::frame::Frame;
 use crate::here::Here;
+use crate::passed::Passed;
 use crate::stop::Step;
 use isp_base::Value;
 use isp_code::{Class, Instr, Register};
@@ -75,12 +76,23 @@ fn receive<const N: usize>(
     }
 }
 
+// Keeps the memory of a call that is over for a later one. Where there is no place for it, it is dropped.
+fn keep<const N: usize>(rooms: &mut Vec<Passed<N>>, callee: Frame<N>)
+    ensures { length rooms.old.items ≤ length rooms.new.items }
+{
+    match rooms.push(Passed::room(callee)) {
+        Ok(()) => {}
+        Err(_dropped) => {}
+    }
+}
+
 /// Goes back to the call that waits, or ends the run.
 pub(crate) fn give_back<const N: usize>(
     here: &Here,
     frame: &mut Frame<N>,
     waiting: &mut Vec<Frame<N>>,
     stores: &mut Arrays,
+    rooms: &mut Vec<Passed<N>>,
     x: Option<Register>,
 ) -> Step
     requires found { slice_get here.now.code.routines frame.old.function ≡ Some here.now.routine }
@@ -94,6 +106,7 @@ pub(crate) fn give_back<const N: usize>(
             let callee = mem::replace(frame, caller);
             receive(here, &callee, x, frame);
             stores.close_locals(frame.locals());
+            keep(rooms, callee);
             Step::Went
         }
     }

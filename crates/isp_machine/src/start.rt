@@ -75,5 +75,6 @@ pub(crate) fn begun<const N: usize>(
         waiting: Vec::new(alloc),
         stores,
         out: Vec::new(alloc),
+        rooms: Vec::new(alloc),
     })
 }

@@ -15,6 +15,7 @@ use crate::frame::Frame;
 use crate::here::Here;
 use crate::jumps::{fail, jump, jump_if};
 use crate::masks::mask;
+use crate::passed::Passed;
 use crate::returns::give_back;
 use crate::says::{print_scalar, print_vector, say};
 use crate::scalars::scalar;
@@ -29,13 +30,15 @@ use std::alloc::{AllocError, Global};
 use std::marker::Model;
 
 /// The machine between two instructions: the call that runs, the calls that wait, the innermost
-/// last, the arrays that all lanes share, and the output.
+/// last, the arrays that all lanes share, and the output. `rooms` is the memory of calls that are
+/// over, for later ones, and no part of what contracts see.
 #[derive(Drop)]
 pub(crate) struct Run<const N: usize> {
     pub(crate) frame: Frame<N>,
     pub(crate) waiting: Vec<Frame<N>>,
     pub(crate) stores: Arrays,
     pub(crate) out: Vec<u8>,
+    pub(crate) rooms: Vec<Passed<N>>,
 }
 
 impl<const N: usize> Model for Run<N> {
@@ -128,6 +131,7 @@ fn execute<const N: usize>(
             &mut run.frame,
             &mut run.waiting,
             &mut run.stores,
+            &mut run.rooms,
             c.get(),
         ),
         Instr::Return(x) => Ok(give_back(
@@ -135,6 +139,7 @@ fn execute<const N: usize>(
             &mut run.frame,
             &mut run.waiting,
             &mut run.stores,
+            &mut run.rooms,
             *x,
         )),
         _ => Ok(after(compute(here, &mut run.frame, &mut run.stores, instr))),

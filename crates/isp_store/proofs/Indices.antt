@@ -6,7 +6,7 @@ use Rattle.isp_base.proofs.Signs.{test_is}
 use Rattle.std.proofs.lemmas.Bool.{cases_eq, cases_lt}
 use Rattle.std.proofs.lemmas.Int.{ints}
 use Rattle.std.proofs.lemmas.List.{get_or_past}
-use Rattle.std.proofs.lemmas.Option.{get_or_from_slice_get}
+use Rattle.std.proofs.lemmas.Option.{get_or_from_slice_get, slice_get-get_or}
 use Rattle.isp_base.specs.Access.{is_outside}
 use Rattle.isp_base.specs.Maps.{Lanes, on, holds, where_true, lane_of, lowest_failing}
 use Rattle.isp_base.specs.Sets.{Mask, lowest, or_this, flag_of}
@@ -118,6 +118,10 @@ module _ (n limit : ℕ) (is : (x : ℕ) → x < 2 ^ 64 → is_outside I64 n x �
 
   pub off_lane : slice_get bs p ≡ Some false → lowest_failing (p + 1) (is_outside I64 n) (on (flag_of bs) (lane_of xs)) ≡ None
   off_lane off_p = past_off (is_outside I64 n) (flag_of bs) (lane_of xs) p none (get_or_from_slice_get bs p false false off_p)
+
+-- a lane of a vector that is read where it stands
+pub word_at : (places bits : List ℕ) (p : ℕ) → places ≡ bits → p < length bits → slice_get bits p ≡ Some (lane_of places p)
+word_at places bits p same h = slice_get-get_or bits p 0 h ∙ ap (λ (xs : List ℕ). Some (lane_of xs p)) (sym same)
 
 -- the lowest lane of a list of flags
 abbrev shift : Option ℕ → Option ℕ

@@ -2,3 +2,4 @@ mod Indices
 mod RowLists
 mod Lanes
 mod Own
+mod Picked

@@ -39,9 +39,10 @@ pub(crate) fn outside<const N: usize>(
     let limit = limit(count);
     index.told();
     mask.told();
+    let places = index.wide_words();
     for lane in 0..N {
         if mask.get(lane) {
-            if index.get(lane) >= limit {
+            if places[lane] >= limit {
                 return Some(lane);
             }
         }

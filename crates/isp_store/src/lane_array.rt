@@ -153,6 +153,7 @@ fn words<const N: usize>(
     index: &Lanes<N>,
     mask: &LaneMask<N>,
 ) -> [u64; N]
+    requires index { index.now.elem ≡ I64 }
     requires elem { AllOf elem rows.now }
     requires inside { AreInside (length rows.now) (flag_of mask.now) (lane_of index.now.bits) }
     ensures lanes { lane_of result ≡ over (λ p. each1 (λ x. bits_of rows.now (element I64 x) p) (on (flag_of mask.now) (lane_of index.now.bits) p)) (λ p. 0) }
@@ -160,10 +161,11 @@ fn words<const N: usize>(
 {
     mask.told();
     let _elem = elem;
+    let places = index.wide_words();
     let mut words = [0; N];
     for lane in 0..N {
         if mask.get(lane) {
-            let place = index.get(lane) as usize;
+            let place = places[lane] as usize;
             words[lane] = get(rows, place, lane);
         }
     }
@@ -177,6 +179,7 @@ fn write<const N: usize>(
     mask: &LaneMask<N>,
     value: &Lanes<N>,
 )
+    requires index { index.now.elem ≡ I64 }
     requires elem { AllOf value.now.elem rows.old }
     requires inside { AreInside (length rows.old) (flag_of mask.now) (lane_of index.now.bits) }
     ensures elements { bits_of rows.new ≡ own_put (map1 (element I64) (on (flag_of mask.now) (lane_of index.now.bits))) (lane_of value.now.bits) (bits_of rows.old) }
@@ -184,9 +187,10 @@ fn write<const N: usize>(
     ensures size { length rows.new ≡ length rows.old }
 {
     mask.told();
+    let places = index.wide_words();
     for lane in 0..N {
         if mask.get(lane) {
-            let place = index.get(lane) as usize;
+            let place = places[lane] as usize;
             put(rows, place, lane, value);
         }
     }

@@ -77,6 +77,7 @@ pub(crate) fn words<const N: usize>(
     mask: &LaneMask<N>,
 ) -> [u64; N]
     requires there { array < length rows.now }
+    requires index { index.now.elem ≡ I64 }
     requires inside { AreInside (length (row_bits rows.now array)) (flag_of mask.now) (lane_of index.now.bits) }
     ensures lanes { lane_of result ≡ over (map1 (λ x. bits_of rows.now array (element I64 x)) (on (flag_of mask.now) (lane_of index.now.bits))) (λ p. 0) }
     ensures fits { Fit (type_of rows.now array) result }
@@ -94,6 +95,7 @@ pub(crate) fn scatter<const N: usize>(
     value: &Lanes<N>,
 )
     requires there { array < length rows.old }
+    requires index { index.now.elem ≡ I64 }
     requires elem { value.now.elem ≡ type_of rows.old array }
     requires inside { AreInside (length (row_bits rows.old array)) (flag_of mask.now) (lane_of index.now.bits) }
     ensures elements { bits_of rows.new ≡ put (bits_of rows.old) array (scatter N (map1 (element I64) (on (flag_of mask.now) (lane_of index.now.bits))) (on (flag_of mask.now) (lane_of value.now.bits)) (bits_of rows.old array)) }

@@ -27,12 +27,15 @@ call-requires g c =
     let next = subst (λ (z : RunRows). GoesOn h.routine z.frame.pc (instr.Call c.get.result.now)) (sym c.run.view_is) (subst (λ (i : Instr). GoesOn h.routine c.args.run.now.frame.pc i) is c.requires.next) in (
       search rules,
       (
-        c.requires.code,
+        search rules,
         (
-          subst (λ (p : Listing). slice_get p.routines c.run.inside.frame.function ≡ Some h.routine) c.requires.code found,
+          c.requires.code,
           (
-            subst (λ (p : Listing). Steady g.row.N p (record { frame = c.run.inside.frame; waiting = c.run.inside.waiting.items; stores = c.run.inside.stores; out = c.run.inside.out.items })) c.requires.code sound,
-            (call_mask h.code h.routine c.get.result.now fine, (call_place h.code h.routine c.get.result.now fine, (calls, next))),
+            subst (λ (p : Listing). slice_get p.routines c.run.inside.frame.function ≡ Some h.routine) c.requires.code found,
+            (
+              subst (λ (p : Listing). Steady g.row.N p (record { frame = c.run.inside.frame; waiting = c.run.inside.waiting.items; stores = c.run.inside.stores; out = c.run.inside.out.items })) c.requires.code sound,
+              (call_mask h.code h.routine c.get.result.now fine, (call_place h.code h.routine c.get.result.now fine, (calls, next))),
+            ),
           ),
         ),
       ),

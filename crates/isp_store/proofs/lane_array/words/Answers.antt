@@ -23,7 +23,7 @@ loop-lane-preserved g c =
     elim c.if-get.branch [
       | then-get w ↦
           let is = get_or_from_slice_get a.mask.now l.lane true false (c.get.ensures ∙ ap Some w.if-get.true) in
-          let at = get_or_from_slice_get a.index.now.bits l.lane w.get-place.result 0 w.get-place.ensures.value in
+          let at = ap (λ (xs : List ℕ). lane_of xs l.lane) (sym c.wide_words-places.ensures) in
           record {
             fits = subst (λ (ws : List ℕ). Fit a.elem ws) (sym w.words-is) (fit_put a.elem l.words l.lane w.get-then-get.result l.invariant.fits (w.get-then-get.ensures.fits a.elem c.requires.elem));
             lanes = subst (λ (ws : List ℕ). Mixed new old ws n (l.lane + 1)) (sym w.words-is)

@@ -1,4 +1,4 @@
-use Rattle.std.proofs.Common.{◌+◌, refl, sym, ap, ◌∙◌, subst, List, length, Some, arith, true, false}
+use Rattle.std.proofs.Common.{ℕ, ◌+◌, refl, sym, ap, ◌∙◌, subst, List, length, Some, arith, true, false}
 use Rattle.std.proofs.lemmas.Option.{get_or_from_slice_get}
 use Rattle.isp_base.specs.Access.{element}
 use Rattle.isp_base.specs.Maps.{lane_of, map1, on}
@@ -23,11 +23,11 @@ loop-lane-preserved g c =
     elim c.if-get.branch [
       | then-get w ↦
           let is = get_or_from_slice_get a.mask.now l.lane true false (c.get.ensures ∙ ap Some w.if-get.true) in
-          let at = get_or_from_slice_get a.index.now.bits l.lane w.get-place.result 0 w.get-place.ensures.value in
+          let at = ap (λ (xs : List ℕ). lane_of xs l.lane) (sym c.wide_words-places.ensures) in
           record {
             size = ap length w.rows-is ∙ w.put.ensures.size ∙ l.invariant.size;
             elem = subst (AllOf a.value.now.elem) (sym w.rows-is) w.put.ensures.elem;
-            elements = upto_put (element I64) m x y old (bits_of l.rows) (bits_of c.if-get.rows) l.lane w.get-place.result _ l.invariant.elements is ((c.requires.inside l.lane is).1 ∙ at) refl (λ e p. ap (λ (rs : List Row). bits_of rs e p) w.rows-is ∙ w.put.ensures.elements e p);
+            elements = upto_put (element I64) m x y old (bits_of l.rows) (bits_of c.if-get.rows) l.lane (lane_of c.wide_words-places.result.now l.lane) _ l.invariant.elements is ((c.requires.inside l.lane is).1 ∙ at) refl (λ e p. ap (λ (rs : List Row). bits_of rs e p) w.rows-is ∙ w.put.ensures.elements e p);
           }
       | else-get w ↦
           let off = get_or_from_slice_get a.mask.now l.lane false false (c.get.ensures ∙ ap Some w.if-get.false) in

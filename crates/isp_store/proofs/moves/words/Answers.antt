@@ -1,50 +1,59 @@
-use Rattle.std.proofs.Common.{ℕ, ◌+◌, sym, ap, ◌∙◌, subst, List, Some, arith, true, false}
-use Rattle.std.proofs.lemmas.Option.{get_or_from_slice_get}
-use Rattle.isp_base.specs.Access.{element}
-use Rattle.isp_base.specs.Maps.{Lanes, lane_of, each1, on, over}
+use Rattle.std.proofs.Common.{ℕ, List, sym, ap, ◌∙◌, subst, rules}
+use Rattle.isp_base.specs.Held.{held}
+use Rattle.isp_base.specs.declared.array.Cells.{Cells}
 use Rattle.isp_base.specs.Rows.{Fit}
 use Rattle.isp_base.specs.Sets.{flag_of}
-use Rattle.isp_base.specs.declared.types.Elem.TheVariants.{I64}
-use Rattle.isp_store.proofs.Indices.{past_end, on_there}
-use Rattle.isp_store.proofs.Lanes.{Mixed, mixed_put, mixed_skip, mixed_all, lane_on, lane_off, fit_put}
+use Rattle.isp_store.proofs.Picked.{picked_are, picked_fit, cells_inside}
 use Rattle.isp_store.proofs.moves.words.Goals as goal
-use Rattle.isp_store.proofs.moves.words.Goals.{then-get, else-get}
 
-pub loop-lane-preserved : goal.loop-lane-preserved
-loop-lane-preserved g c =
-    let a = c.args in
-    let l = c.loop-lane in
-    let n = g.row.N in
-    let m = flag_of a.mask.now in
-    let x = lane_of a.index.now.bits in
-    let old : Lanes = λ p. 0 in
-    let new : Lanes = over (λ p. each1 (λ y. lane_of a.array.now.bits (element I64 y)) (on m x p)) old in
-    elim c.if-get.branch [
-      | then-get w ↦
-          let is = get_or_from_slice_get a.mask.now l.lane true false (c.get.ensures ∙ ap Some w.if-get.true) in
-          let at = get_or_from_slice_get a.index.now.bits l.lane w.get-then-get.result 0 w.get-then-get.ensures.value in
-          record {
-            fits = subst (λ (ws : List ℕ). Fit a.array.now.elem ws) (sym w.words-is) (fit_put a.array.now.elem l.words l.lane w.at.result l.invariant.fits w.at.ensures.fits);
-            lanes = subst (λ (ws : List ℕ). Mixed new old ws n (l.lane + 1)) (sym w.words-is)
-                (mixed_put new old l.words n l.lane l.invariant.lanes w.at.result (on_there a.mask.now n l.lane c.told.ensures.long is)
-                (w.at.ensures.value ∙ ap (λ (y : ℕ). lane_of a.array.now.bits y) (sym ((c.requires l.lane is).1 ∙ at)) ∙ sym (lane_on (λ y. lane_of a.array.now.bits (element I64 y)) m x 0 l.lane is)));
-          }
-      | else-get w ↦
-          let off = get_or_from_slice_get a.mask.now l.lane false false (c.get.ensures ∙ ap Some w.if-get.false) in
-          record {
-            fits = subst (λ (ws : List ℕ). Fit a.array.now.elem ws) (sym w.words-is) l.invariant.fits;
-            lanes = subst (λ (ws : List ℕ). Mixed new old ws n (l.lane + 1)) (sym w.words-is)
-                (mixed_skip new old l.words n l.lane l.invariant.lanes (lane_off (λ y. lane_of a.array.now.bits (element I64 y)) m x 0 l.lane off));
-          }
-    ]
+pub picked-requires : goal.picked-requires
+picked-requires g c =
+    (search rules, (search rules, cells_inside c.as_slice.result.now c.args.array.now.bits (c.as_slice.ensures.value ∙ sym (ap (λ (x : Cells). held x) c.in-Bits8.is) ∙ c.cells.ensures.words) (flag_of c.args.mask.now) c.wide_words-places.result.now c.args.index.now.bits c.wide_words-places.ensures c.requires.inside))
 
-pub returns-clause-lanes : goal.returns-clause-lanes
-returns-clause-lanes g c =
-    let a = c.args in
-    let l = c.loop-lane in
-    let m = flag_of a.mask.now in
-    let x = lane_of a.index.now.bits in
-    let old : Lanes = λ p. 0 in
-    let new : Lanes = over (λ p. each1 (λ y. lane_of a.array.now.bits (element I64 y)) (on m x p)) old in
-    mixed_all new old l.words g.row.N l.lane l.invariant.lanes
-    (λ p h. lane_off (λ y. lane_of a.array.now.bits (element I64 y)) m x 0 p (past_end a.mask.now p (omega (arith, h, c.told.ensures.long, c.loop-lane-test.false, l.auto.lane-end))))
+pub returns-in-Bits8-clause-lanes : goal.returns-in-Bits8-clause-lanes
+returns-in-Bits8-clause-lanes g c =
+    picked_are c.as_slice.result.now c.args.array.now.bits (c.as_slice.ensures.value ∙ sym (ap (λ (x : Cells). held x) c.in-Bits8.is) ∙ c.cells.ensures.words) (flag_of c.args.mask.now) c.wide_words-places.result.now c.args.index.now.bits c.wide_words-places.ensures c.picked.result c.picked.ensures.lanes
+
+pub returns-in-Bits8-clause-fits : goal.returns-in-Bits8-clause-fits
+returns-in-Bits8-clause-fits g c =
+    let t = c.args.array.now.elem in
+    picked_fit c.as_slice.result.now c.args.array.now.bits (c.as_slice.ensures.value ∙ sym (ap (λ (x : Cells). held x) c.in-Bits8.is) ∙ c.cells.ensures.words) t c.picked.result (subst (λ (xs : List ℕ). Fit t xs) c.cells.ensures.words c.cells.ensures.fits) (c.picked.ensures.fits t)
+
+pub picked-requires-in-Bits16 : goal.picked-requires-in-Bits16
+picked-requires-in-Bits16 g c =
+    (search rules, (search rules, cells_inside c.as_slice-in-Bits16.result.now c.args.array.now.bits (c.as_slice-in-Bits16.ensures.value ∙ sym (ap (λ (x : Cells). held x) c.in-Bits16.is) ∙ c.cells.ensures.words) (flag_of c.args.mask.now) c.wide_words-places.result.now c.args.index.now.bits c.wide_words-places.ensures c.requires.inside))
+
+pub returns-in-Bits16-clause-lanes : goal.returns-in-Bits16-clause-lanes
+returns-in-Bits16-clause-lanes g c =
+    picked_are c.as_slice-in-Bits16.result.now c.args.array.now.bits (c.as_slice-in-Bits16.ensures.value ∙ sym (ap (λ (x : Cells). held x) c.in-Bits16.is) ∙ c.cells.ensures.words) (flag_of c.args.mask.now) c.wide_words-places.result.now c.args.index.now.bits c.wide_words-places.ensures c.picked-in-Bits16.result c.picked-in-Bits16.ensures.lanes
+
+pub returns-in-Bits16-clause-fits : goal.returns-in-Bits16-clause-fits
+returns-in-Bits16-clause-fits g c =
+    let t = c.args.array.now.elem in
+    picked_fit c.as_slice-in-Bits16.result.now c.args.array.now.bits (c.as_slice-in-Bits16.ensures.value ∙ sym (ap (λ (x : Cells). held x) c.in-Bits16.is) ∙ c.cells.ensures.words) t c.picked-in-Bits16.result (subst (λ (xs : List ℕ). Fit t xs) c.cells.ensures.words c.cells.ensures.fits) (c.picked-in-Bits16.ensures.fits t)
+
+pub picked-requires-in-Bits32 : goal.picked-requires-in-Bits32
+picked-requires-in-Bits32 g c =
+    (search rules, (search rules, cells_inside c.as_slice-in-Bits32.result.now c.args.array.now.bits (c.as_slice-in-Bits32.ensures.value ∙ sym (ap (λ (x : Cells). held x) c.in-Bits32.is) ∙ c.cells.ensures.words) (flag_of c.args.mask.now) c.wide_words-places.result.now c.args.index.now.bits c.wide_words-places.ensures c.requires.inside))
+
+pub returns-in-Bits32-clause-lanes : goal.returns-in-Bits32-clause-lanes
+returns-in-Bits32-clause-lanes g c =
+    picked_are c.as_slice-in-Bits32.result.now c.args.array.now.bits (c.as_slice-in-Bits32.ensures.value ∙ sym (ap (λ (x : Cells). held x) c.in-Bits32.is) ∙ c.cells.ensures.words) (flag_of c.args.mask.now) c.wide_words-places.result.now c.args.index.now.bits c.wide_words-places.ensures c.picked-in-Bits32.result c.picked-in-Bits32.ensures.lanes
+
+pub returns-in-Bits32-clause-fits : goal.returns-in-Bits32-clause-fits
+returns-in-Bits32-clause-fits g c =
+    let t = c.args.array.now.elem in
+    picked_fit c.as_slice-in-Bits32.result.now c.args.array.now.bits (c.as_slice-in-Bits32.ensures.value ∙ sym (ap (λ (x : Cells). held x) c.in-Bits32.is) ∙ c.cells.ensures.words) t c.picked-in-Bits32.result (subst (λ (xs : List ℕ). Fit t xs) c.cells.ensures.words c.cells.ensures.fits) (c.picked-in-Bits32.ensures.fits t)
+
+pub picked-requires-in-Bits64 : goal.picked-requires-in-Bits64
+picked-requires-in-Bits64 g c =
+    (search rules, (search rules, cells_inside c.as_slice-in-Bits64.result.now c.args.array.now.bits (c.as_slice-in-Bits64.ensures.value ∙ sym (ap (λ (x : Cells). held x) c.in-Bits64.is) ∙ c.cells.ensures.words) (flag_of c.args.mask.now) c.wide_words-places.result.now c.args.index.now.bits c.wide_words-places.ensures c.requires.inside))
+
+pub returns-in-Bits64-clause-lanes : goal.returns-in-Bits64-clause-lanes
+returns-in-Bits64-clause-lanes g c =
+    picked_are c.as_slice-in-Bits64.result.now c.args.array.now.bits (c.as_slice-in-Bits64.ensures.value ∙ sym (ap (λ (x : Cells). held x) c.in-Bits64.is) ∙ c.cells.ensures.words) (flag_of c.args.mask.now) c.wide_words-places.result.now c.args.index.now.bits c.wide_words-places.ensures c.picked-in-Bits64.result c.picked-in-Bits64.ensures.lanes
+
+pub returns-in-Bits64-clause-fits : goal.returns-in-Bits64-clause-fits
+returns-in-Bits64-clause-fits g c =
+    let t = c.args.array.now.elem in
+    picked_fit c.as_slice-in-Bits64.result.now c.args.array.now.bits (c.as_slice-in-Bits64.ensures.value ∙ sym (ap (λ (x : Cells). held x) c.in-Bits64.is) ∙ c.cells.ensures.words) t c.picked-in-Bits64.result (subst (λ (xs : List ℕ). Fit t xs) c.cells.ensures.words c.cells.ensures.fits) (c.picked-in-Bits64.ensures.fits t)

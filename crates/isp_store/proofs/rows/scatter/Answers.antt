@@ -12,7 +12,7 @@ pub write-requires : goal.write-requires
 write-requires g c =
     let a = c.args in
     let few = c.told.ensures.wide in
-    (search rules, (search rules, (sym (type_of_at a.rows.now a.array _ c.requires.there) ∙ sym c.requires.elem, subst (λ n. AreInside n (flag_of a.mask.now) (lane_of a.index.now.bits)) (ap length (row_bits_at a.rows.now a.array _ c.requires.there)) c.requires.inside)))
+    (search rules, (search rules, (c.requires.index, (sym (type_of_at a.rows.now a.array _ c.requires.there) ∙ sym c.requires.elem, subst (λ n. AreInside n (flag_of a.mask.now) (lane_of a.index.now.bits)) (ap length (row_bits_at a.rows.now a.array _ c.requires.there)) c.requires.inside))))
 
 pub returns-clause-elements : goal.returns-clause-elements
 returns-clause-elements g c =

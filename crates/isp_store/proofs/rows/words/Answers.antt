@@ -14,7 +14,7 @@ words-requires g c =
     let a = c.args in
     let row = c.index-rows-array in
     let bits = row_bits_at a.rows.now a.array row.result c.requires.there ∙ ap (λ (r : Row). r.bits) (sym row.is) in
-    (search rules, (search rules, (search rules, subst (λ n. AreInside n (flag_of a.mask.now) (lane_of a.index.now.bits)) (ap length bits) c.requires.inside)))
+    (search rules, (search rules, (search rules, (c.requires.index, subst (λ n. AreInside n (flag_of a.mask.now) (lane_of a.index.now.bits)) (ap length bits) c.requires.inside))))
 
 pub returns-clause-lanes : goal.returns-clause-lanes
 returns-clause-lanes g c =
