@@ -3,7 +3,7 @@ ghost use Rattle.std.specs.Prelude.{◌≡◌, IfOk, length, map, option_map, �
 ghost use Rattle.isp_lex.specs.Faults.{fault};
 ghost use Rattle.isp_tree.specs.Views.{expr_of as read_expr, exprs_of as read_exprs, first_of as read_first, range_of as read_range, simple_of as read_simple};
 ghost use Rattle.isp_typed.specs.Verdicts.{beside, both, fault_unless, found, made, perhaps};
-ghost use Rattle.isp_typed.specs.Views.{exprs_of, ranges_of};
+ghost use Rattle.isp_typed.specs.Views.{exprs_of, ranges_of, stmt_of};
 ghost use Rattle.isp_exprs.specs.reader.Parts.{boxed_of};
 ghost use Rattle.isp_types.specs.reader.Boxes.{boxed_first, boxed_pair, boxed_range, boxed_simple};
 ghost use Rattle.isp_types.specs.Statements.{as_answer, first_names, first_variables, places, range_made, range_names, range_variables};
@@ -61,7 +61,7 @@ fn some<T: Drop>(found: Verdict<T>) -> Verdict<Option<T>>
 }
 
 /// A test that may be left out.
-pub fn test_if(
+fn test_if(
     setting: &Setting,
     scope: &Scope,
     x: &Option<Expr>,
@@ -78,7 +78,7 @@ pub fn test_if(
 }
 
 /// A step that may be left out.
-pub fn simple_if(
+fn simple_if(
     setting: &Setting,
     scope: &Scope,
     x: &Option<Simple>,
@@ -113,6 +113,42 @@ pub fn first_if(
             Ok(some(found))
         }
     }
+}
+
+/// The step of a `for` and its judged body.
+fn step_and_body(
+    setting: &Setting,
+    scope: &Scope,
+    step: &Option<Simple>,
+    body: Verdict<Box<TypedStmt>>,
+) -> Result<Verdict<(Option<Box<TypedSimple>>, Box<TypedStmt>)>, AllocError>
+    ensures { IfOk result (λ v. made (λ p. (option_map boxed_simple p.0, stmt_of p.1.value)) v ≡ both (perhaps (judge_simple setting.now.gang setting.now.headers.now scope.now) (option_map read_simple step.now)) (made (λ b. stmt_of b.value) body)) }
+{
+    let next = simple_if(setting, scope, step)?;
+    Ok(both(next, body))
+}
+
+/// The test of a `for`, its step and its judged body.
+pub fn behind_first(
+    setting: &Setting,
+    scope: &Scope,
+    x: &Option<Expr>,
+    step: &Option<Simple>,
+    body: Verdict<Box<TypedStmt>>,
+) -> Result<
+    Verdict<
+        (
+            Option<Box<TypedExpr>>,
+            (Option<Box<TypedSimple>>, Box<TypedStmt>),
+        ),
+    >,
+    AllocError,
+>
+    ensures { IfOk result (λ v. made (λ p. (option_map boxed_of p.0, (option_map boxed_simple p.1.0, stmt_of p.1.1.value))) v ≡ both (perhaps (judge_test setting.now.gang setting.now.headers.now scope.now) (option_map read_expr x.now)) (both (perhaps (judge_simple setting.now.gang setting.now.headers.now scope.now) (option_map read_simple step.now)) (made (λ b. stmt_of b.value) body))) }
+{
+    let rest = step_and_body(setting, scope, step, body)?;
+    let found = test_if(setting, scope, x)?;
+    Ok(both(found, rest))
 }
 
 /// The index of a `foreach`: a constant varying int32.
