@@ -15,6 +15,7 @@ ghost use Rattle.isp_exprs.specs.reader.Lists.{and_one};
 ghost use Rattle.isp_types.specs.reader.Lists.{agrees_with, judge_bounds};
 
 use crate::declaration::twice;
+use crate::gathered;
 use crate::simple::{first_part, simple};
 use isp_base::{Elem, Rate, Span, Ty};
 use isp_exprs::{Known, Scope, Setting, converted, expr, mismatch};
@@ -247,13 +248,7 @@ fn push_range(
 ) -> Result<Verdict<Vec<TypedRange>>, AllocError>
     ensures { IfOk result (λ v. made (λ l. ranges_of l.items) v ≡ made and_one (both (made (λ l. ranges_of l.items) so_far) (made boxed_range part))) }
 {
-    match both(so_far, part) {
-        Ok((mut all, typed)) => {
-            all.push(Box::into_inner(typed))?;
-            Ok(Ok(all))
-        }
-        Err(fault) => Ok(Err(fault)),
-    }
+    gathered::push_boxed(so_far, part)
 }
 
 /// The ranges of a `foreach`, whose indices join the names and variables.
@@ -288,13 +283,7 @@ fn push_value(
 ) -> Result<Verdict<Vec<TypedExpr>>, AllocError>
     ensures { IfOk result (λ v. made (λ l. exprs_of l.items) v ≡ made and_one (both (made (λ l. exprs_of l.items) so_far) (made boxed_of part))) }
 {
-    match both(so_far, part) {
-        Ok((mut all, typed)) => {
-            all.push(Box::into_inner(typed))?;
-            Ok(Ok(all))
-        }
-        Err(fault) => Ok(Err(fault)),
-    }
+    gathered::push_boxed(so_far, part)
 }
 
 /// Values that are printed.
