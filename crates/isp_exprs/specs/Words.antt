@@ -18,25 +18,13 @@ use Rattle.isp_typed.specs.Typed.{ty_of}
 use Rattle.isp_exprs.specs.declared.words.Said.{Said}
 use Rattle.isp_exprs.specs.declared.words.ValueWords.{ValueWords}
 
-abbrev pub is_const : Qualifier → Bool
-is_const word.Const = true
-is_const q = false
-
-abbrev pub is_uniform : Qualifier → Bool
-is_uniform word.Uniform = true
-is_uniform q = false
-
-abbrev pub is_varying : Qualifier → Bool
-is_varying word.Varying = true
-is_varying q = false
-
-abbrev pub is_signed : Qualifier → Bool
-is_signed word.Signed = true
-is_signed q = false
-
-abbrev pub is_unsigned : Qualifier → Bool
-is_unsigned word.Unsigned = true
-is_unsigned q = false
+abbrev pub same_word : Qualifier → Qualifier → Bool
+same_word word.Const word.Const = true
+same_word word.Uniform word.Uniform = true
+same_word word.Varying word.Varying = true
+same_word word.Signed word.Signed = true
+same_word word.Unsigned word.Unsigned = true
+same_word p q = false
 
 -- the base that `signed` and `unsigned` may stand before
 abbrev pub takes_sign : Base → Bool
@@ -53,28 +41,25 @@ is_void b = false
 
 -- the words before the base
 module _ (words : List Qualifier) where
-  abbrev pub is_constant : Bool
-  is_constant = list_any is_const words
+  abbrev pub stands : Qualifier → Bool
+  stands q = list_any (same_word q) words
+
+  abbrev pub stands_twice : Qualifier → Bool
+  stands_twice q = nat_lt 1 (count_by (same_word q) words)
 
   abbrev pub has_rate : Bool
-  has_rate = list_any is_uniform words || list_any is_varying words
-
-  abbrev pub has_unsigned : Bool
-  has_unsigned = list_any is_unsigned words
+  has_rate = stands word.Uniform || stands word.Varying
 
   abbrev pub has_sign : Bool
-  has_sign = list_any is_signed words || has_unsigned
-
-  abbrev pub stands_twice : (Qualifier → Bool) → Bool
-  stands_twice which = nat_lt 1 (count_by which words)
+  has_sign = stands word.Signed || stands word.Unsigned
 
   -- a word stands twice
   abbrev pub repeats : Bool
-  repeats = (stands_twice is_const || stands_twice is_uniform || stands_twice is_varying) || (stands_twice is_signed || stands_twice is_unsigned)
+  repeats = (stands_twice word.Const || stands_twice word.Uniform || stands_twice word.Varying) || (stands_twice word.Signed || stands_twice word.Unsigned)
 
   -- two words exclude each other
   abbrev pub excludes : Bool
-  excludes = (list_any is_uniform words && list_any is_varying words) || (list_any is_signed words && has_unsigned)
+  excludes = (stands word.Uniform && stands word.Varying) || (stands word.Signed && stands word.Unsigned)
 
   -- a sign stands before a base without one, or a rate before `void`
   abbrev pub misfits : Option Base → Bool
@@ -82,7 +67,7 @@ module _ (words : List Qualifier) where
   misfits (Some b) = (has_sign && not (takes_sign b)) || (has_rate && is_void b)
 
   abbrev pub rate_said : Option Rate
-  rate_said = if list_any is_uniform words then Some Uniform else (if list_any is_varying words then Some Varying else None)
+  rate_said = if stands word.Uniform then Some Uniform else (if stands word.Varying then Some Varying else None)
 
 -- the values that a base names; `void` has none
 abbrev pub base_elem : Base → Option Elem
@@ -119,7 +104,7 @@ contradicts t = repeats t.qualifiers || excludes t.qualifiers || misfits t.quali
 -- what words say that do not contradict each other
 abbrev pub said : TypeTree → Result Said Fault
 said t = if contradicts t then Err (fault Mismatch t.span)
-    else Ok (record { constant = is_constant t.qualifiers; rate = rate_said t.qualifiers; elem = elem_said (has_unsigned t.qualifiers) t.base })
+    else Ok (record { constant = stands t.qualifiers word.Const; rate = rate_said t.qualifiers; elem = elem_said (stands t.qualifiers word.Unsigned) t.base })
 
 -- without a word for it, it is varying
 abbrev pub rate_or_varying : Option Rate → Rate

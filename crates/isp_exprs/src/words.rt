@@ -1,8 +1,7 @@
 //! What the words of a type say.
 ghost use Rattle.std.specs.Prelude.{◌≡◌};
-ghost use Rattle.std.specs.List.{list_any};
 ghost use Rattle.isp_tree.specs.Views.{type_of};
-ghost use Rattle.isp_exprs.specs.Words.{contradicts, elem_said, excludes, is_constant, base_elem, unsigned_elem, has_rate, has_sign, has_unsigned, is_const, is_signed, is_uniform, is_unsigned, is_varying, is_void, misfits, rate_or_varying, rate_said, repeats, said, stands_twice, takes_sign, answer_said, type_declared, value_said};
+ghost use Rattle.isp_exprs.specs.Words.{contradicts, elem_said, excludes, base_elem, unsigned_elem, has_rate, has_sign, misfits, rate_or_varying, rate_said, repeats, said, same_word, stands, stands_twice, takes_sign, answer_said, type_declared, value_said};
 
 use isp_base::{Elem, Rate, Ty};
 use isp_lex::{Fault, Rule};
@@ -26,109 +25,62 @@ pub struct ValueWords {
     pub elem: Elem,
 }
 
-fn is_const(word: Qualifier) -> bool
-    ensures { result ≡ is_const word }
+fn same_word(wanted: Qualifier, word: Qualifier) -> bool
+    ensures { result ≡ same_word wanted word }
 {
-    matches!(word, Qualifier::Const)
+    match wanted {
+        Qualifier::Const => matches!(word, Qualifier::Const),
+        Qualifier::Uniform => matches!(word, Qualifier::Uniform),
+        Qualifier::Varying => matches!(word, Qualifier::Varying),
+        Qualifier::Signed => matches!(word, Qualifier::Signed),
+        Qualifier::Unsigned => matches!(word, Qualifier::Unsigned),
+    }
 }
 
-fn is_uniform(word: Qualifier) -> bool
-    ensures { result ≡ is_uniform word }
+fn stands(words: &[Qualifier], wanted: Qualifier) -> bool
+    ensures { result ≡ stands words.now wanted }
 {
-    matches!(word, Qualifier::Uniform)
+    words.iter().any(|word| same_word(wanted, *word))
 }
 
-fn is_varying(word: Qualifier) -> bool
-    ensures { result ≡ is_varying word }
+fn stands_twice(words: &[Qualifier], wanted: Qualifier) -> bool
+    ensures { result ≡ stands_twice words.now wanted }
 {
-    matches!(word, Qualifier::Varying)
-}
-
-fn is_signed(word: Qualifier) -> bool
-    ensures { result ≡ is_signed word }
-{
-    matches!(word, Qualifier::Signed)
-}
-
-fn is_unsigned(word: Qualifier) -> bool
-    ensures { result ≡ is_unsigned word }
-{
-    matches!(word, Qualifier::Unsigned)
-}
-
-fn twice_const(words: &[Qualifier]) -> bool
-    ensures { result ≡ stands_twice words.now is_const }
-{
-    words.iter().filter(|word| is_const(**word)).count() > 1
-}
-
-fn twice_uniform(words: &[Qualifier]) -> bool
-    ensures { result ≡ stands_twice words.now is_uniform }
-{
-    words.iter().filter(|word| is_uniform(**word)).count() > 1
-}
-
-fn twice_varying(words: &[Qualifier]) -> bool
-    ensures { result ≡ stands_twice words.now is_varying }
-{
-    words.iter().filter(|word| is_varying(**word)).count() > 1
-}
-
-fn twice_signed(words: &[Qualifier]) -> bool
-    ensures { result ≡ stands_twice words.now is_signed }
-{
-    words.iter().filter(|word| is_signed(**word)).count() > 1
-}
-
-fn twice_unsigned(words: &[Qualifier]) -> bool
-    ensures { result ≡ stands_twice words.now is_unsigned }
-{
-    words.iter().filter(|word| is_unsigned(**word)).count() > 1
+    words
+        .iter()
+        .filter(|word| same_word(wanted, **word))
+        .count()
+        > 1
 }
 
 /// Whether a word stands twice.
 fn repeats(words: &[Qualifier]) -> bool
     ensures { result ≡ repeats words.now }
 {
-    let rate = twice_const(words) || twice_uniform(words) || twice_varying(words);
-    rate || twice_signed(words) || twice_unsigned(words)
+    let rate = stands_twice(words, Qualifier::Const)
+        || stands_twice(words, Qualifier::Uniform)
+        || stands_twice(words, Qualifier::Varying);
+    rate || stands_twice(words, Qualifier::Signed) || stands_twice(words, Qualifier::Unsigned)
 }
 
-fn has_unsigned(words: &[Qualifier]) -> bool
-    ensures { result ≡ has_unsigned words.now }
+fn has_rate(words: &[Qualifier]) -> bool
+    ensures { result ≡ has_rate words.now }
 {
-    words.iter().any(|word| is_unsigned(*word))
+    stands(words, Qualifier::Uniform) || stands(words, Qualifier::Varying)
 }
 
-fn has_signed(words: &[Qualifier]) -> bool
-    ensures { result ≡ list_any is_signed words.now }
+fn has_sign(words: &[Qualifier]) -> bool
+    ensures { result ≡ has_sign words.now }
 {
-    words.iter().any(|word| is_signed(*word))
-}
-
-fn has_uniform(words: &[Qualifier]) -> bool
-    ensures { result ≡ list_any is_uniform words.now }
-{
-    words.iter().any(|word| is_uniform(*word))
-}
-
-fn has_varying(words: &[Qualifier]) -> bool
-    ensures { result ≡ list_any is_varying words.now }
-{
-    words.iter().any(|word| is_varying(*word))
-}
-
-fn is_constant(words: &[Qualifier]) -> bool
-    ensures { result ≡ is_constant words.now }
-{
-    words.iter().any(|word| is_const(*word))
+    stands(words, Qualifier::Signed) || stands(words, Qualifier::Unsigned)
 }
 
 /// Whether two words exclude each other.
 fn excludes(words: &[Qualifier]) -> bool
     ensures { result ≡ excludes words.now }
 {
-    has_uniform(words) && has_varying(words) || has_signed(words) && has_unsigned(words)
+    let rates = stands(words, Qualifier::Uniform) && stands(words, Qualifier::Varying);
+    rates || stands(words, Qualifier::Signed) && stands(words, Qualifier::Unsigned)
 }
 
 fn takes_sign(base: Base) -> bool
@@ -147,17 +99,15 @@ fn misfits(words: &[Qualifier], base: Option<Base>) -> bool
     let Some(base) = base else {
         return false;
     };
-    let has_sign = has_signed(words) || has_unsigned(words);
-    let has_rate = has_uniform(words) || has_varying(words);
-    has_sign && !takes_sign(base) || has_rate && matches!(base, Base::Void)
+    has_sign(words) && !takes_sign(base) || has_rate(words) && matches!(base, Base::Void)
 }
 
 fn rate_said(words: &[Qualifier]) -> Option<Rate>
     ensures { result ≡ rate_said words.now }
 {
-    if has_uniform(words) {
+    if stands(words, Qualifier::Uniform) {
         Some(Rate::Uniform)
-    } else if has_varying(words) {
+    } else if stands(words, Qualifier::Varying) {
         Some(Rate::Varying)
     } else {
         None
@@ -222,9 +172,9 @@ pub fn type_said(ty: &TypeWords) -> Verdict<Said>
     }
     let words = ty.qualifiers.as_slice();
     Ok(Said {
-        constant: is_constant(words),
+        constant: stands(words, Qualifier::Const),
         rate: rate_said(words),
-        elem: elem_said(has_unsigned(words), ty.base),
+        elem: elem_said(stands(words, Qualifier::Unsigned), ty.base),
     })
 }
 

@@ -1,6 +1,7 @@
 pub mod Stmts
 pub mod Functions
 pub mod Joined
+pub mod Seen
 pub mod PartSteps
 pub mod FunctionSteps
 pub mod ItemSteps

@@ -37,8 +37,8 @@ module _ (gang : Gang) (hs : List Heading) where
         → d ≡ judge_stmt gang hs answer ns (length ns) vars a → ns ≡ ms → vars ≡ more → a ≡ b → d ≡ judge_stmt gang hs answer ms (length ms) more b
     body_judged d ns ms vars more a b e f g h = cc
 
-    pub rest_judged : (d : Result (Option TExpr × (Option TSimple × TStmt)) Fault) (ns ms : List Binding) (vars more : List Variable) (x : Option Expr) (p : Option Simple) (a b : Stmt)
-        → d ≡ both (perhaps (judge_test gang hs ns) x) (both (perhaps (judge_simple gang hs ns) p) (judge_stmt gang hs answer ns (length ns) vars a))
-        → ns ≡ ms → vars ≡ more → a ≡ b
+    pub rest_judged : (d : Result (Option TExpr × (Option TSimple × TStmt)) Fault) (body : Result TStmt Fault) (after ns ms : List Binding) (vars more : List Variable) (x : Option Expr) (p : Option Simple) (a b : Stmt)
+        → d ≡ both (perhaps (judge_test gang hs after) x) (both (perhaps (judge_simple gang hs after) p) body)
+        → body ≡ judge_stmt gang hs answer ns (length ns) vars a → after ≡ ns → ns ≡ ms → vars ≡ more → a ≡ b
         → d ≡ both (perhaps (judge_test gang hs ms) x) (both (perhaps (judge_simple gang hs ms) p) (judge_stmt gang hs answer ms (length ms) more b))
-    rest_judged d ns ms vars more x p a b e f g h = cc
+    rest_judged d body after ns ms vars more x p a b e j s f g h = cc

@@ -12,6 +12,7 @@ ghost use Rattle.isp_types.specs.reader.JudgeStmts.{judge_declaration, judge_ite
 ghost use Rattle.isp_exprs.specs.reader.Lists.{and_one};
 ghost use Rattle.isp_types.specs.reader.Lists.{judge_item_with, known_next};
 
+use crate::gathered;
 use isp_base::{Elem, Gang, Span, Ty};
 use isp_exprs::{
     Known, Scope, Setting, ValueWords, converted, expr, mismatch, type_declared, value_said,
@@ -229,13 +230,7 @@ fn push(
 ) -> Result<Verdict<Vec<TypedItem>>, AllocError>
     ensures { IfOk result (λ v. made (λ l. items_of l.items) v ≡ made and_one (both (made (λ l. items_of l.items) so_far) (made boxed_item part))) }
 {
-    match both(so_far, part) {
-        Ok((mut all, typed)) => {
-            all.push(Box::into_inner(typed))?;
-            Ok(Ok(all))
-        }
-        Err(fault) => Ok(Err(fault)),
-    }
+    gathered::push_boxed(so_far, part)
 }
 
 fn items(

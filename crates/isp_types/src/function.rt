@@ -19,6 +19,7 @@ ghost use Rattle.isp_exprs.specs.reader.Lists.{and_one};
 ghost use Rattle.isp_types.specs.reader.Lists.{fault_of, function_of_parts, param_fault, param_names};
 
 use crate::declaration::{declared, or_nothing, twice, value_variable};
+use crate::gathered;
 use crate::stmt::block;
 use isp_base::{Elem, Name, Parameter, Rate, Signature, Span, Ty};
 use isp_exprs::{
@@ -266,13 +267,7 @@ fn push(
 ) -> Result<Verdict<Vec<TypedFunction>>, AllocError>
     ensures { IfOk result (λ v. made (λ l. functions_of l.items) v ≡ made and_one (both (made (λ l. functions_of l.items) so_far) (made function_of part))) }
 {
-    match both(so_far, part) {
-        Ok((mut all, typed)) => {
-            all.push(typed)?;
-            Ok(Ok(all))
-        }
-        Err(fault) => Ok(Err(fault)),
-    }
+    gathered::push(so_far, part)
 }
 
 /// The functions of a program.

@@ -3,6 +3,7 @@
 
 mod declaration;
 mod function;
+mod gathered;
 mod make;
 mod parts;
 mod program;

@@ -8,6 +8,7 @@ ghost use Rattle.isp_types.specs.reader.Boxes.{boxed_first, boxed_simple};
 ghost use Rattle.isp_types.specs.Statements.{active_stmt, assert_stmt, braces_made, declared_stmt, do_stmt, for_stmt, foreach_stmt, if_else_stmt, if_stmt, print_stmt, return_stmt, simple_stmt, unmasked_stmt, while_stmt};
 ghost use Rattle.isp_exprs.specs.reader.Lists.{and_one};
 
+use crate::gathered;
 use isp_base::Span;
 use isp_lex::Text;
 use isp_tree::Form;
@@ -63,10 +64,7 @@ pub fn boxed(
 ) -> Result<Verdict<Box<TypedStmt>>, AllocError>
     ensures { IfOk result (λ v. made (λ b. stmt_of b.value) v ≡ made stmt_of inner) }
 {
-    match inner {
-        Ok(inner) => Ok(Ok(Box::new(alloc, inner)?)),
-        Err(fault) => Ok(Err(fault)),
-    }
+    gathered::boxed(alloc, inner)
 }
 
 pub fn if_stmt(
@@ -333,11 +331,5 @@ pub fn push(
 ) -> Result<Verdict<Vec<TypedStmt>>, AllocError>
     ensures { IfOk result (λ v. made (λ l. stmts_of l.items) v ≡ made and_one (both (made (λ l. stmts_of l.items) so_far) (made stmt_of part))) }
 {
-    match both(so_far, part) {
-        Ok((mut all, typed)) => {
-            all.push(typed)?;
-            Ok(Ok(all))
-        }
-        Err(fault) => Ok(Err(fault)),
-    }
+    gathered::push(so_far, part)
 }

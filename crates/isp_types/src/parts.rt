@@ -3,7 +3,7 @@ ghost use Rattle.std.specs.Prelude.{◌≡◌, IfOk, length, map, option_map, �
 ghost use Rattle.isp_lex.specs.Faults.{fault};
 ghost use Rattle.isp_tree.specs.Views.{expr_of as read_expr, exprs_of as read_exprs, first_of as read_first, range_of as read_range, simple_of as read_simple};
 ghost use Rattle.isp_typed.specs.Verdicts.{beside, both, fault_unless, found, made, perhaps};
-ghost use Rattle.isp_typed.specs.Views.{exprs_of, ranges_of};
+ghost use Rattle.isp_typed.specs.Views.{exprs_of, ranges_of, stmt_of};
 ghost use Rattle.isp_exprs.specs.reader.Parts.{boxed_of};
 ghost use Rattle.isp_types.specs.reader.Boxes.{boxed_first, boxed_pair, boxed_range, boxed_simple};
 ghost use Rattle.isp_types.specs.Statements.{as_answer, first_names, first_variables, places, range_made, range_names, range_variables};
@@ -15,6 +15,7 @@ ghost use Rattle.isp_exprs.specs.reader.Lists.{and_one};
 ghost use Rattle.isp_types.specs.reader.Lists.{agrees_with, judge_bounds};
 
 use crate::declaration::twice;
+use crate::gathered;
 use crate::simple::{first_part, simple};
 use isp_base::{Elem, Rate, Span, Ty};
 use isp_exprs::{Known, Scope, Setting, converted, expr, mismatch};
@@ -61,7 +62,7 @@ fn some<T: Drop>(found: Verdict<T>) -> Verdict<Option<T>>
 }
 
 /// A test that may be left out.
-pub fn test_if(
+fn test_if(
     setting: &Setting,
     scope: &Scope,
     x: &Option<Expr>,
@@ -78,7 +79,7 @@ pub fn test_if(
 }
 
 /// A step that may be left out.
-pub fn simple_if(
+fn simple_if(
     setting: &Setting,
     scope: &Scope,
     x: &Option<Simple>,
@@ -113,6 +114,42 @@ pub fn first_if(
             Ok(some(found))
         }
     }
+}
+
+/// The step of a `for` and its judged body.
+fn step_and_body(
+    setting: &Setting,
+    scope: &Scope,
+    step: &Option<Simple>,
+    body: Verdict<Box<TypedStmt>>,
+) -> Result<Verdict<(Option<Box<TypedSimple>>, Box<TypedStmt>)>, AllocError>
+    ensures { IfOk result (λ v. made (λ p. (option_map boxed_simple p.0, stmt_of p.1.value)) v ≡ both (perhaps (judge_simple setting.now.gang setting.now.headers.now scope.now) (option_map read_simple step.now)) (made (λ b. stmt_of b.value) body)) }
+{
+    let next = simple_if(setting, scope, step)?;
+    Ok(both(next, body))
+}
+
+/// The test of a `for`, its step and its judged body.
+pub fn behind_first(
+    setting: &Setting,
+    scope: &Scope,
+    x: &Option<Expr>,
+    step: &Option<Simple>,
+    body: Verdict<Box<TypedStmt>>,
+) -> Result<
+    Verdict<
+        (
+            Option<Box<TypedExpr>>,
+            (Option<Box<TypedSimple>>, Box<TypedStmt>),
+        ),
+    >,
+    AllocError,
+>
+    ensures { IfOk result (λ v. made (λ p. (option_map boxed_of p.0, (option_map boxed_simple p.1.0, stmt_of p.1.1.value))) v ≡ both (perhaps (judge_test setting.now.gang setting.now.headers.now scope.now) (option_map read_expr x.now)) (both (perhaps (judge_simple setting.now.gang setting.now.headers.now scope.now) (option_map read_simple step.now)) (made (λ b. stmt_of b.value) body))) }
+{
+    let rest = step_and_body(setting, scope, step, body)?;
+    let found = test_if(setting, scope, x)?;
+    Ok(both(found, rest))
 }
 
 /// The index of a `foreach`: a constant varying int32.
@@ -211,13 +248,7 @@ fn push_range(
 ) -> Result<Verdict<Vec<TypedRange>>, AllocError>
     ensures { IfOk result (λ v. made (λ l. ranges_of l.items) v ≡ made and_one (both (made (λ l. ranges_of l.items) so_far) (made boxed_range part))) }
 {
-    match both(so_far, part) {
-        Ok((mut all, typed)) => {
-            all.push(Box::into_inner(typed))?;
-            Ok(Ok(all))
-        }
-        Err(fault) => Ok(Err(fault)),
-    }
+    gathered::push_boxed(so_far, part)
 }
 
 /// The ranges of a `foreach`, whose indices join the names and variables.
@@ -252,13 +283,7 @@ fn push_value(
 ) -> Result<Verdict<Vec<TypedExpr>>, AllocError>
     ensures { IfOk result (λ v. made (λ l. exprs_of l.items) v ≡ made and_one (both (made (λ l. exprs_of l.items) so_far) (made boxed_of part))) }
 {
-    match both(so_far, part) {
-        Ok((mut all, typed)) => {
-            all.push(Box::into_inner(typed))?;
-            Ok(Ok(all))
-        }
-        Err(fault) => Ok(Err(fault)),
-    }
+    gathered::push_boxed(so_far, part)
 }
 
 /// Values that are printed.

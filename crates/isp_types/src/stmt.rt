@@ -1,12 +1,10 @@
 //! Statements.
-ghost use Rattle.std.specs.Prelude.{◌≡◌, IfOk, IsTrue, length, option_map, take};
-ghost use Rattle.isp_tree.specs.Views.{block_of as read_block, expr_of as read_expr, simple_of as read_simple, stmt_of as read_stmt};
-ghost use Rattle.isp_typed.specs.Verdicts.{both, made, perhaps};
+ghost use Rattle.std.specs.Prelude.{◌≡◌, IfOk, IsTrue, length, take};
+ghost use Rattle.isp_tree.specs.Views.{block_of as read_block, stmt_of as read_stmt};
+ghost use Rattle.isp_typed.specs.Verdicts.{both, made};
 ghost use Rattle.isp_typed.specs.Views.{block_of, stmt_of};
-ghost use Rattle.isp_exprs.specs.reader.Parts.{boxed_of};
-ghost use Rattle.isp_types.specs.reader.Boxes.{boxed_simple};
 ghost use Rattle.isp_types.specs.Statements.{block_variables, names_after, variables_after};
-ghost use Rattle.isp_types.specs.reader.JudgeStmts.{judge_block, judge_simple, judge_stmt, judge_test};
+ghost use Rattle.isp_types.specs.reader.JudgeStmts.{judge_block, judge_stmt};
 ghost use Rattle.isp_types.specs.reader.Kinds.{is_active, is_branch, is_called, is_for, is_foreach, is_repeated};
 
 use crate::declaration::declaration;
@@ -15,12 +13,12 @@ use crate::make::{
     for_stmt, foreach_stmt, if_else_stmt, if_stmt, print_stmt, push, return_stmt, simple_stmt,
     unmasked_stmt, while_stmt,
 };
-use crate::parts::{active_index, first_if, printed, ranges, returned, simple_if, test, test_if};
+use crate::parts::{active_index, behind_first, first_if, printed, ranges, returned, test};
 use crate::simple::simple;
 use isp_base::Ty;
 use isp_exprs::{Known, Scope, Setting};
-use isp_tree::{Block, Expr, Simple, Stmt};
-use isp_typed::{TypedBlock, TypedExpr, TypedSimple, TypedStmt, Variable, Verdict, both};
+use isp_tree::{Block, Stmt};
+use isp_typed::{TypedBlock, TypedStmt, Variable, Verdict, both};
 use std::alloc::AllocError;
 
 /// A body, which is a scope of its own.
@@ -167,53 +165,6 @@ fn repeated(
     }
 }
 
-/// The step of a `for` and its body.
-#[cycle(stmt)]
-fn step_and_body(
-    setting: &Setting,
-    answer: Verdict<Option<Ty>>,
-    scope: &mut Scope,
-    variables: &mut Vec<Variable>,
-    step: &Option<Simple>,
-    inner: &Stmt,
-) -> Result<Verdict<(Option<Box<TypedSimple>>, Box<TypedStmt>)>, AllocError>
-    ensures value { IfOk result (λ v. made (λ p. (option_map boxed_simple p.0, stmt_of p.1.value)) v ≡ both (perhaps (judge_simple setting.now.gang setting.now.headers.now scope.old) (option_map read_simple step.now)) (judge_stmt setting.now.gang setting.now.headers.now answer scope.old (length scope.old) variables.old.items (read_stmt inner.now))) }
-    ensures names { IfOk result (λ v. scope.new ≡ scope.old) }
-    ensures variables { IfOk result (λ v. variables.new.items ≡ variables_after setting.now.gang variables.old.items (read_stmt inner.now)) }
-{
-    let done = body(setting, answer, scope, variables, inner)?;
-    let next = simple_if(setting, scope, step)?;
-    Ok(both(next, done))
-}
-
-/// The test of a `for`, its step and its body.
-#[cycle(stmt)]
-fn behind_first(
-    setting: &Setting,
-    answer: Verdict<Option<Ty>>,
-    scope: &mut Scope,
-    variables: &mut Vec<Variable>,
-    x: &Option<Expr>,
-    step: &Option<Simple>,
-    inner: &Stmt,
-) -> Result<
-    Verdict<
-        (
-            Option<Box<TypedExpr>>,
-            (Option<Box<TypedSimple>>, Box<TypedStmt>),
-        ),
-    >,
-    AllocError,
->
-    ensures value { IfOk result (λ v. made (λ p. (option_map boxed_of p.0, (option_map boxed_simple p.1.0, stmt_of p.1.1.value))) v ≡ both (perhaps (judge_test setting.now.gang setting.now.headers.now scope.old) (option_map read_expr x.now)) (both (perhaps (judge_simple setting.now.gang setting.now.headers.now scope.old) (option_map read_simple step.now)) (judge_stmt setting.now.gang setting.now.headers.now answer scope.old (length scope.old) variables.old.items (read_stmt inner.now)))) }
-    ensures names { IfOk result (λ v. scope.new ≡ scope.old) }
-    ensures variables { IfOk result (λ v. variables.new.items ≡ variables_after setting.now.gang variables.old.items (read_stmt inner.now)) }
-{
-    let rest = step_and_body(setting, answer, scope, variables, step, inner)?;
-    let found = test_if(setting, scope, x)?;
-    Ok(both(found, rest))
-}
-
 /// A `for`, which is a scope of its own.
 #[cycle(stmt)]
 fn for_loop(
@@ -244,7 +195,8 @@ fn for_loop(
     let outer = scope.len();
     let first = first_if(setting, scope, outer, variables, first)?;
     let inside = variables.len();
-    let rest = behind_first(setting, answer, scope, variables, x, step, inner)?;
+    let done = body(setting, answer, scope, variables, inner)?;
+    let rest = behind_first(setting, scope, x, step, done)?;
     scope.leave(outer);
     Ok(for_stmt(*form, before, inside, first, rest, *span))
 }

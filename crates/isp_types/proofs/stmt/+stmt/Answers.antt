@@ -110,7 +110,7 @@ for_loop-returns-clause-value t c =
     let ns = c.args.scope.now in
     let vars = c.args.variables.now.items in
     let first = c.in_ok-first.ensures in
-    let rest = c.in_ok-rest.ensures in
+    let done = c.in_ok-done.ensures in
     let i = option_map read_first c.in-For.first in
     let x = option_map read_expr c.in-For.x in
     let p = option_map read_simple c.in-For.step in
@@ -118,7 +118,7 @@ for_loop-returns-clause-value t c =
     let judged : ℕ → Result (Option TFirst) Fault = λ n. perhaps (judge_first gang hs ns n vars) i in
     joined_for (λ n m. for_stmt c.in-For.form n m c.in-For.span) _ _ (length vars) _ (length (first_variables gang vars i)) _ (judged (length ns)) _ _
     c.for_stmt.ensures (c.len-before.ensures ∙ c.args.variables.now.ok.0) (c.len-inside.ensures ∙ c.first_if.new.variables.ok.0 ∙ ap length first.variables) (first.value ∙ ap judged c.len-outer.ensures)
-    (rest_judged gang hs answer _ _ (first_names gang ns vars i) _ (first_variables gang vars i) x p _ a rest.value first.names first.variables (ap read_stmt c.deref.ensures))
+    (rest_judged gang hs answer _ _ _ _ (first_names gang ns vars i) _ (first_variables gang vars i) x p _ a c.in_ok-rest.ensures done.value done.names first.names first.variables (ap read_stmt c.deref.ensures))
     ∙ sym (ap (judge_stmt gang hs answer ns c.args.start vars) (ap read_stmt c.in-For.is ∙ for_view c.in-For.form c.in-For.first c.in-For.x c.in-For.step c.in-For.inner c.in-For.span))
 
 pub for_loop-returns-clause-names : goal.for_loop-returns-clause-names
@@ -127,7 +127,7 @@ for_loop-returns-clause-names t c =
     let ns = c.args.scope.now in
     let vars = c.args.variables.now.items in
     let i = option_map read_first c.in-For.first in
-    left_again _ _ _ ns (first_names gang ns vars i) c.leave.ensures c.len-outer.ensures (c.in_ok-rest.ensures.names ∙ c.in_ok-first.ensures.names) (first_kept gang ns vars i)
+    left_again _ _ _ ns (first_names gang ns vars i) c.leave.ensures c.len-outer.ensures (c.in_ok-done.ensures.names ∙ c.in_ok-first.ensures.names) (first_kept gang ns vars i)
     ∙ sym (ap (names_after gang ns vars) (ap read_stmt c.in-For.is ∙ for_view c.in-For.form c.in-For.first c.in-For.x c.in-For.step c.in-For.inner c.in-For.span))
 
 pub foreach-returns-clause-names : goal.foreach-returns-clause-names
