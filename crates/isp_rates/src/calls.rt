@@ -170,20 +170,6 @@ fn step(found: &mut Vec<usize>, part: &Option<TypedSimple>) -> Result<(), AllocE
     }
 }
 
-/// Finds the calls in the first part, the test and the step of a `for`.
-fn head(
-    found: &mut Vec<usize>,
-    first: &Option<TypedFirst>,
-    test: &Option<TypedExpr>,
-    last: &Option<TypedSimple>,
-) -> Result<(), AllocError>
-    ensures { IfOk result (λ u. found.new.items ≡ found.old.items ++ calls_of_any first_calls (option_map first_of first.now) ++ calls_of_any expr_calls (option_map expr_of test.now) ++ calls_of_any simple_calls (option_map simple_of last.now)) }
-{
-    start(found, first)?;
-    value(found, test)?;
-    step(found, last)
-}
-
 fn ranges(found: &mut Vec<usize>, all: &[TypedRange]) -> Result<(), AllocError>
     ensures { IfOk result (λ u. found.new.items ≡ found.old.items ++ calls_of_each range_calls (ranges_of all.now)) }
 {
@@ -238,7 +224,9 @@ fn stmt(found: &mut Vec<usize>, s: &TypedStmt) -> Result<(), AllocError>
             body,
             ..
         } => {
-            head(found, first, test, last)?;
+            start(found, first)?;
+            value(found, test)?;
+            step(found, last)?;
             stmt(found, body)
         }
         TypedStmt::Foreach {

@@ -1,10 +1,10 @@
 //! Statements: rates, exits, and a `foreach` in a `foreach`.
 ghost use Rattle.std.specs.Prelude.{◌≡◌, not, option_map};
 ghost use Rattle.isp_lex.specs.Faults.{fault};
-ghost use Rattle.isp_typed.specs.Verdicts.{fault_unless, first_of};
-ghost use Rattle.isp_typed.specs.Views.{block_of, expr_of, first_of as first_part_of, functions_of, ranges_of, simple_of, stmt_of};
+ghost use Rattle.isp_typed.specs.Verdicts.{fault_unless};
+ghost use Rattle.isp_typed.specs.Views.{block_of, expr_of, functions_of, stmt_of};
 ghost use Rattle.isp_rates.specs.Exits.{may_jump, returned_rate};
-ghost use Rattle.isp_rates.specs.reader.Faults.{block_fault, expr_fault, first_fault, of_any, of_each, range_fault, return_fault, simple_fault, stmt_fault};
+ghost use Rattle.isp_rates.specs.reader.Faults.{block_fault, of_any, return_fault, stmt_fault};
 
 use crate::exits::{Within, may_jump};
 use crate::expr::expr;
@@ -12,10 +12,7 @@ use crate::simple::{demanded, items, ranges, simple, start, step, test as tested
 use isp_base::{Rate, Span, Ty};
 use isp_lex::{Fault, Rule};
 use isp_tree::Jump;
-use isp_typed::{
-    TypedBlock, TypedExpr, TypedFirst, TypedFunction, TypedRange, TypedSimple, TypedStmt, first,
-    unless,
-};
+use isp_typed::{TypedBlock, TypedExpr, TypedFunction, TypedStmt, first, unless};
 
 /// The fault of a jump.
 fn jumps(within: Within, jump: Jump, keyword: Span) -> Option<Fault>
@@ -67,7 +64,7 @@ fn returned_rate(answer: Option<Ty>) -> Rate
 }
 
 /// The first fault in the value of a `return`.
-fn given_back(
+fn returned(
     functions: &[TypedFunction],
     answer: Option<Ty>,
     value: &Option<TypedExpr>,
@@ -78,49 +75,6 @@ fn given_back(
         Some(value) => demanded(functions, returned_rate(answer), value),
         None => None,
     }
-}
-
-/// The first fault in a `return`.
-fn returned(
-    functions: &[TypedFunction],
-    answer: Option<Ty>,
-    within: Within,
-    keyword: Span,
-    value: &Option<TypedExpr>,
-) -> Option<Fault>
-    ensures { result ≡ first_of (fault_unless within.returns (fault Rule.BadExit keyword)) (of_any (return_fault (functions_of functions.now) answer) (option_map expr_of value.now)) }
-{
-    let word = returns(within, keyword);
-    first(word, given_back(functions, answer, value))
-}
-
-/// The first fault in a `for`, `inner` being that of its body.
-fn looped(
-    functions: &[TypedFunction],
-    part: &Option<TypedFirst>,
-    test: &Option<TypedExpr>,
-    last: &Option<TypedSimple>,
-    inner: Option<Fault>,
-) -> Option<Fault>
-    ensures { result ≡ first_of (of_any (first_fault (functions_of functions.now)) (option_map first_part_of part.now)) (first_of (of_any (expr_fault (functions_of functions.now)) (option_map expr_of test.now)) (first_of (of_any (simple_fault (functions_of functions.now)) (option_map simple_of last.now)) inner)) }
-{
-    let before = start(functions, part);
-    let asked = tested(functions, test);
-    first(before, first(asked, first(step(functions, last), inner)))
-}
-
-/// The first fault in a `foreach`, `inner` being that of its body.
-fn each(
-    functions: &[TypedFunction],
-    within: Within,
-    keyword: Span,
-    all: &[TypedRange],
-    inner: Option<Fault>,
-) -> Option<Fault>
-    ensures { result ≡ first_of (fault_unless (not within.in_foreach) (fault Rule.NestedForeach keyword)) (first_of (of_each (range_fault (functions_of functions.now)) (ranges_of all.now)) inner) }
-{
-    let word = nested(within, keyword);
-    first(word, first(ranges(functions, all), inner))
 }
 
 /// The first fault in a statement of a function with this result.
@@ -167,8 +121,11 @@ fn stmt(
             body,
             ..
         } => {
+            let before = start(functions, part);
+            let asked = tested(functions, test);
+            let after = step(functions, last);
             let inner = stmt(functions, answer, within.of_loop(), body);
-            looped(functions, part, test, last, inner)
+            first(before, first(asked, first(after, inner)))
         }
         TypedStmt::Foreach {
             keyword,
@@ -176,8 +133,10 @@ fn stmt(
             body,
             ..
         } => {
+            let word = nested(within, *keyword);
+            let bounds = ranges(functions, all);
             let inner = stmt(functions, answer, within.of_foreach(), body);
-            each(functions, within, *keyword, all, inner)
+            first(word, first(bounds, inner))
         }
         TypedStmt::ForeachActive { body, .. } => {
             stmt(functions, answer, within.of_foreach_active(), body)
@@ -185,7 +144,8 @@ fn stmt(
         TypedStmt::Unmasked { body, .. } => block(functions, answer, within.of_unmasked(), body),
         TypedStmt::Jump { jump, keyword, .. } => jumps(within, *jump, *keyword),
         TypedStmt::Return { keyword, value, .. } => {
-            returned(functions, answer, within, *keyword, value)
+            let word = returns(within, *keyword);
+            first(word, returned(functions, answer, value))
         }
         TypedStmt::Print { values: all, .. } => values(functions, all),
         TypedStmt::Assert { test, .. } => expr(functions, test),
