@@ -58,7 +58,7 @@ impl<const N: usize> Lanes<N> {
         }
     }
 
-    /// One more vector behind those of a list, zero in each lane. It is made where it stands.
+    /// One more vector behind those of a list, zero in each lane. 0 where memory is refused.
     pub fn push_zero(vectors: &mut Vec<Self>, elem: Elem) -> Result<(), AllocError>
         ensures { OnOk result (vectors.new.items ≡ vectors.old.items ++ record { elem = elem; bits = replicate N 0 } ∷ []) }
     {
