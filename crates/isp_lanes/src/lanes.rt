@@ -58,27 +58,28 @@ impl<const N: usize> Lanes<N> {
         }
     }
 
-    /// One more vector behind those of a list, zero in each lane. It is made where it stands.
+    /// One more vector behind those of a list, zero in each lane. 0 where memory is refused.
     pub fn push_zero(vectors: &mut Vec<Self>, elem: Elem) -> Result<(), AllocError>
         ensures { OnOk result (vectors.new.items ≡ vectors.old.items ++ record { elem = elem; bits = replicate N 0 } ∷ []) }
     {
+        vectors.reserve(1)?;
         match elem {
-            Elem::Bool | Elem::I8 | Elem::U8 => vectors.push(Lanes {
+            Elem::Bool | Elem::I8 | Elem::U8 => vectors.push_reserved(Lanes {
                 elem,
                 row: Row::Bits8([0; N]),
-            })?,
-            Elem::I16 | Elem::U16 => vectors.push(Lanes {
+            }),
+            Elem::I16 | Elem::U16 => vectors.push_reserved(Lanes {
                 elem,
                 row: Row::Bits16([0; N]),
-            })?,
-            Elem::I32 | Elem::U32 => vectors.push(Lanes {
+            }),
+            Elem::I32 | Elem::U32 => vectors.push_reserved(Lanes {
                 elem,
                 row: Row::Bits32([0; N]),
-            })?,
-            Elem::I64 | Elem::U64 => vectors.push(Lanes {
+            }),
+            Elem::I64 | Elem::U64 => vectors.push_reserved(Lanes {
                 elem,
                 row: Row::Bits64([0; N]),
-            })?,
+            }),
         }
         Ok(())
     }
