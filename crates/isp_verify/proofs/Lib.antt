@@ -5,3 +5,4 @@ pub mod Tests
 pub mod FineLaws
 pub mod ProgressLaws
 pub mod AcceptedLaws
+pub mod Names

@@ -1,14 +1,17 @@
 //! The first fault of code.
-ghost use Rattle.std.specs.Prelude.{◌≡◌, ◌-◌, map, take, length, slice_get};
+ghost use Rattle.std.specs.Prelude.{◌≡◌, ◌-◌, map, take, length, not, slice_get, IfOk};
+ghost use Rattle.std.specs.List.{list_any};
 ghost use Rattle.isp_code.specs.Listing.{routine_of};
 ghost use Rattle.isp_code.specs.Registers.{table_of};
-ghost use Rattle.isp_verify.specs.Faults.{instrs_fault, last_fault, function_fault, code_fault};
+ghost use Rattle.isp_verify.specs.Faults.{is_function, instrs_fault, last_fault, function_fault, code_fault};
 
 use crate::fault::{Fault, Rule};
 use crate::header::check_header;
 use crate::instrs::check_instr;
 use crate::registers::Registers;
 use isp_code::{Code, Function, Instr};
+use std::alloc::{AllocError, Global};
+use std::collections::BTreeSet;
 
 // The first fault of the instructions, in order.
 fn check_instrs(code: &Code, k: usize, function: &Function, registers: &Registers) -> Option<Fault>
@@ -45,47 +48,56 @@ fn check_last(function: &Function) -> Option<Rule>
     }
 }
 
+// `is_new` says that no function before this one has its name.
 fn check_function(
+    alloc: Global,
     code: &Code,
-    earlier: &[Function],
+    k: usize,
+    is_new: bool,
     function: &Function,
     registers: &Registers,
-) -> Option<Fault>
+) -> Result<Option<Fault>, AllocError>
     requires table { registers.now ≡ table_of (routine_of function.now) }
-    requires earlier { map routine_of earlier.now ≡ take (length earlier.now) code.now.routines }
-    ensures { result ≡ function_fault code.now (length earlier.now) (routine_of function.now) }
+    requires new { is_new ≡ not (list_any (is_function function.now.name) (take k code.now.routines)) }
+    ensures { IfOk result (λ f. f ≡ function_fault code.now k (routine_of function.now)) }
 {
-    let k = earlier.len();
-    if let Some(rule) = check_header(earlier, function) {
-        return Some(Fault {
+    if let Some(rule) = check_header(alloc, is_new, function)? {
+        return Ok(Some(Fault {
             rule,
             function: k,
             instruction: 0,
-        });
+        }));
     }
     if let Some(fault) = check_instrs(code, k, function, registers) {
-        return Some(fault);
+        return Ok(Some(fault));
     }
     match check_last(function) {
-        Some(rule) => Some(Fault {
+        Some(rule) => Ok(Some(Fault {
             rule,
             function: k,
             instruction: last(function),
-        }),
-        None => None,
+        })),
+        None => Ok(None),
     }
 }
 
 /// The first fault of code, of which the registers of each function are given.
-pub(crate) fn first_fault(code: &Code, registers: &[Registers]) -> Option<Fault>
+pub(crate) fn first_fault(
+    alloc: Global,
+    code: &Code,
+    registers: &[Registers],
+) -> Result<Option<Fault>, AllocError>
     requires { registers.now ≡ map table_of code.now.routines }
-    ensures { result ≡ code_fault code.now }
+    ensures { IfOk result (λ f. f ≡ code_fault code.now) }
 {
     let functions = code.functions();
+    let mut names = BTreeSet::new(alloc);
     for (k, function) in functions.iter().enumerate() {
-        if let Some(fault) = check_function(code, &functions[..k], function, &registers[k]) {
-            return Some(fault);
+        let is_new = names.insert(function.name.as_str())?;
+        let found = check_function(alloc, code, k, is_new, function, &registers[k])?;
+        if let Some(fault) = found {
+            return Ok(Some(fault));
         }
     }
-    None
+    Ok(None)
 }

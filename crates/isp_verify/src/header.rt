@@ -1,46 +1,25 @@
 //! Whether the header of a function is well formed.
-ghost use Rattle.std.specs.Prelude.{◌≡◌, map};
+ghost use Rattle.std.specs.Prelude.{◌≡◌, List, not, IfOk};
 ghost use Rattle.std.specs.List.{list_any};
-ghost use Rattle.isp_code.specs.Listing.{routine_of};
-ghost use Rattle.isp_verify.specs.Faults.{is_function, is_named, names_differ, is_vector, can_export, header_fits, header_fault};
+ghost use Rattle.isp_code.specs.Listing.{Routine, routine_of};
+ghost use Rattle.isp_verify.specs.Faults.{is_function, names_differ, is_vector, can_export, header_fits, header_fault};
 
 use crate::fault::Rule;
 use isp_code::{Function, Param, ParamKind, Returns};
-
-// Whether a function has this name.
-fn is_function(functions: &[Function], name: &str) -> bool
-    ensures { result ≡ list_any (is_function name.now) (map routine_of functions.now) }
-{
-    for function in functions {
-        if function.name.as_str() == name {
-            return true;
-        }
-    }
-    false
-}
-
-// Whether a parameter has this name.
-fn is_named(params: &[Param], name: &str) -> bool
-    ensures { result ≡ list_any (is_named name.now) params.now }
-{
-    for param in params {
-        if param.name.as_str() == name {
-            return true;
-        }
-    }
-    false
-}
+use std::alloc::{AllocError, Global};
+use std::collections::BTreeSet;
 
 // Whether no parameter's name stands twice.
-fn names_differ(params: &[Param]) -> bool
-    ensures { result ≡ names_differ params.now }
+fn names_differ(alloc: Global, params: &[Param]) -> Result<bool, AllocError>
+    ensures { IfOk result (λ b. b ≡ names_differ params.now) }
 {
-    for (place, param) in params.iter().enumerate() {
-        if is_named(&params[place + 1..], param.name.as_str()) {
-            return false;
+    let mut names = BTreeSet::new(alloc);
+    for param in params {
+        if !names.insert(param.name.as_str())? {
+            return Ok(false);
         }
     }
-    true
+    Ok(true)
 }
 
 fn has_vector(params: &[Param]) -> bool
@@ -61,22 +40,26 @@ fn can_export(function: &Function) -> bool
     !has_vector(&function.params) && !matches!(function.returns, Returns::Vector(_))
 }
 
-fn header_fits(earlier: &[Function], function: &Function) -> bool
-    ensures { result ≡ header_fits (map routine_of earlier.now) (routine_of function.now) }
+// `is_new` says that no function before this one has its name.
+fn header_fits(alloc: Global, is_new: bool, function: &Function) -> Result<bool, AllocError>
+    ensures { IfOk result (λ b. (earlier : List Routine) → is_new ≡ not (list_any (is_function function.now.name) earlier) → b ≡ header_fits earlier (routine_of function.now)) }
 {
-    !is_function(earlier, function.name.as_str())
-        && names_differ(&function.params)
-        && (!function.exported || can_export(function))
-        && function.masks != 0
+    let names_differ = names_differ(alloc, &function.params)?;
+    let names_fit = is_new && names_differ;
+    Ok(names_fit && (!function.exported || can_export(function)) && function.masks != 0)
 }
 
-/// The fault of a function's header, where others stand before it.
-pub(crate) fn check_header(earlier: &[Function], function: &Function) -> Option<Rule>
-    ensures { result ≡ header_fault (map routine_of earlier.now) (routine_of function.now) }
+/// The fault of a function's header. `is_new` says that no function before this one has its name.
+pub(crate) fn check_header(
+    alloc: Global,
+    is_new: bool,
+    function: &Function,
+) -> Result<Option<Rule>, AllocError>
+    ensures { IfOk result (λ f. (earlier : List Routine) → is_new ≡ not (list_any (is_function function.now.name) earlier) → f ≡ header_fault earlier (routine_of function.now)) }
 {
-    if header_fits(earlier, function) {
-        None
+    if header_fits(alloc, is_new, function)? {
+        Ok(None)
     } else {
-        Some(Rule::BadEntry)
+        Ok(Some(Rule::BadEntry))
     }
 }

@@ -65,9 +65,10 @@ pub fn verify(alloc: Global, code: Code) -> Result<Verified, (Code, VerifyFault)
     let tables = tables_of(alloc, &code);
     match tables {
         Err(_error) => Err((code, VerifyFault::Memory)),
-        Ok((registers, signatures)) => match first_fault(&code, registers.as_slice()) {
-            Some(fault) => Err((code, VerifyFault::Refused(fault))),
-            None => Ok(Verified {
+        Ok((registers, signatures)) => match first_fault(alloc, &code, registers.as_slice()) {
+            Err(_error) => Err((code, VerifyFault::Memory)),
+            Ok(Some(fault)) => Err((code, VerifyFault::Refused(fault))),
+            Ok(None) => Ok(Verified {
                 code,
                 registers,
                 signatures,
