@@ -37,3 +37,4 @@ pub mod SoundExprs
 pub mod SoundSimples
 pub mod Counts
 pub mod Reserving
+pub mod Lookup

@@ -14,26 +14,16 @@ use Rattle.isp_typed.specs.declared.variable.Holds.TheVariants as holds
 use Rattle.isp_typed.specs.declared.variable.Variable as declared
 use Rattle.isp_lower.specs.Code.{expr_code, expr_places, expr_to, found, same_rate}
 use Rattle.isp_lower.specs.Layout.{Layout}
+pub use Rattle.isp_lower.specs.Lookup.{name_of, row_of}
 use Rattle.isp_lower.specs.Rows.{Name, Variable, Result, Spare, Row, Rows, rows_at, number_in, elem_in}
-use Rattle.isp_lower.specs.declared.registers.RegisterName.{RegisterName}
-use Rattle.isp_lower.specs.declared.registers.RegisterName.TheVariants as one
-use Rattle.isp_lower.specs.declared.registers.RegisterRow.{RegisterRow}
 use Rattle.isp_lower.specs.declared.registers.Registers.{Registers}
 use Rattle.isp_lower.specs.declared.builder.FunctionBuilder.{FunctionBuilder}
 
 -- ---- registers as rows
 
-abbrev pub name_of : RegisterName → Name
-name_of (one.Variable v) = Variable v
-name_of one.Result = Result
-name_of (one.Spare t j) = Spare t j
-
-abbrev pub row_of : RegisterRow → Row
-row_of r = record { name = name_of r.name; elem = r.elem }
-
 abbrev pub rows_of : Registers → Rows
 rows_of r =
-    record { scalars = map row_of r.scalars.items; vectors = map row_of r.vectors.items; arrays = map row_of r.arrays.items }
+    record { scalars = map row_of r.scalars; vectors = map row_of r.vectors; arrays = map row_of r.arrays }
 
 -- the second list begins with the first
 pub record Begins (xs ys : List Row) : Type 0 where

@@ -13,3 +13,4 @@ pub mod Sound
 pub mod Rows
 pub mod Laws
 pub mod Reserved
+pub mod Lookup

@@ -5,6 +5,7 @@ ghost use Rattle.isp_lower.specs.Code.{same_rate};
 ghost use Rattle.isp_lower.specs.Emitted.{array_row, array_rows, first_rows, name_of, result_rows, row_where, rows_of, value_row, value_rows};
 
 use crate::builder::FunctionBuilder;
+use crate::register_rows::RegisterRows;
 use crate::registers::{RegisterName, RegisterRow, Registers};
 use isp_base::{Elem, Rate, Ty};
 use isp_code::Code;
@@ -87,9 +88,9 @@ pub fn begin(
     let mut b = FunctionBuilder {
         listing,
         registers: Registers {
-            scalars: Vec::new(alloc),
-            vectors: Vec::new(alloc),
-            arrays: Vec::new(alloc),
+            scalars: RegisterRows::new(alloc),
+            vectors: RegisterRows::new(alloc),
+            arrays: RegisterRows::new(alloc),
         },
         code: Vec::new(alloc),
     };

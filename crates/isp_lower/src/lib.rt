@@ -8,6 +8,7 @@ mod changed;
 mod expression;
 mod laws;
 mod leaves;
+mod register_rows;
 mod registers;
 mod reserve;
 mod statements;
@@ -23,6 +24,7 @@ pub use laws::{
     expressions_sound, layouts_are_apart, parts_fit, rows_are_there, rows_are_typed, rows_stay,
 };
 pub use leaves::{after, copy, mask, scalar, the_others, vector, where_so};
+pub use register_rows::RegisterRows;
 pub use registers::{RegisterName, RegisterRow, Registers};
 pub use reserve::Reserve;
 pub use statements::{declared, simple};

@@ -1,8 +1,9 @@
 //! The registers of the function in hand.
-ghost use Rattle.std.specs.Prelude.{◌≡◌, ◌==◌, map, Some, None, IfOk, IfSome, IfNone, OnOk};
+ghost use Rattle.std.specs.Prelude.{◌≡◌, map, Some, IfOk, OnOk};
 ghost use Rattle.isp_lower.specs.Emitted.{Begins, Grows, HasArray, HasRow, name_of, row_of, rows_of};
-ghost use Rattle.isp_lower.specs.Rows.{Result, Spare, Variable as VariableName, elem_in, name_number, number_in, rows_at};
+ghost use Rattle.isp_lower.specs.Rows.{Result, Spare, Variable as VariableName, elem_in, number_in, rows_at};
 
+use crate::register_rows::RegisterRows;
 use isp_base::{Elem, Rate, Ty};
 use std::alloc::AllocError;
 
@@ -24,44 +25,18 @@ pub struct RegisterRow {
 /// The registers that a function has so far, by class: the number of one is that of the first row of its name.
 #[derive(Drop)]
 pub struct Registers {
-    pub scalars: Vec<RegisterRow>,
-    pub vectors: Vec<RegisterRow>,
-    pub arrays: Vec<RegisterRow>,
-}
-
-/// Whether two names are one.
-fn same_name(a: RegisterName, b: RegisterName) -> bool
-    ensures { result ≡ (name_number (name_of a) == name_number (name_of b)) }
-{
-    match (a, b) {
-        (RegisterName::Variable(v), RegisterName::Variable(w)) => v == w,
-        (RegisterName::Result, RegisterName::Result) => true,
-        (RegisterName::Spare(t, i), RegisterName::Spare(u, j)) => i == j && t == u,
-        _ => false,
-    }
-}
-
-/// The first register of a name, and its type, if there is one.
-fn find(rows: &[RegisterRow], name: RegisterName) -> Option<(usize, Elem)>
-    ensures number { IfSome result (λ x. x.0 ≡ number_in (map row_of rows.now) (name_of name)) }
-    ensures elem { IfSome result (λ x. elem_in (map row_of rows.now) (name_of name) ≡ Some x.1) }
-    ensures none { IfNone result (elem_in (map row_of rows.now) (name_of name) ≡ None) }
-{
-    for (place, row) in rows.iter().enumerate() {
-        if same_name(row.name, name) {
-            return Some((place, row.elem));
-        }
-    }
-    None
+    pub scalars: RegisterRows,
+    pub vectors: RegisterRows,
+    pub arrays: RegisterRows,
 }
 
 /// The register of a name that there is. Memory is refused where there is none, or one of another type, or its number
 /// would pass 4,294,967,295.
-fn given(rows: &[RegisterRow], name: RegisterName, elem: Elem) -> Result<u32, AllocError>
+fn given(rows: &RegisterRows, name: RegisterName, elem: Elem) -> Result<u32, AllocError>
     ensures number { IfOk result (λ d. d ≡ number_in (map row_of rows.now) (name_of name)) }
     ensures elem { OnOk result (elem_in (map row_of rows.now) (name_of name) ≡ Some elem) }
 {
-    match find(rows, name) {
+    match rows.find(name) {
         Some((place, held)) if held == elem => match u32::try_from(place) {
             Ok(number) => Ok(number),
             Err(_) => Err(AllocError),
@@ -72,19 +47,15 @@ fn given(rows: &[RegisterRow], name: RegisterName, elem: Elem) -> Result<u32, Al
 
 /// The register of a name: the next one where there is none. Memory is refused too where there is one of another type,
 /// or its number would pass 4,294,967,295.
-fn given_or_new(
-    rows: &mut Vec<RegisterRow>,
-    name: RegisterName,
-    elem: Elem,
-) -> Result<u32, AllocError>
-    ensures rows { OnOk result (Begins (map row_of rows.old.items) (map row_of rows.new.items)) }
-    ensures number { IfOk result (λ d. d ≡ number_in (map row_of rows.new.items) (name_of name)) }
-    ensures elem { OnOk result (elem_in (map row_of rows.new.items) (name_of name) ≡ Some elem) }
+fn given_or_new(rows: &mut RegisterRows, name: RegisterName, elem: Elem) -> Result<u32, AllocError>
+    ensures rows { OnOk result (Begins (map row_of rows.old) (map row_of rows.new)) }
+    ensures number { IfOk result (λ d. d ≡ number_in (map row_of rows.new) (name_of name)) }
+    ensures elem { OnOk result (elem_in (map row_of rows.new) (name_of name) ≡ Some elem) }
 {
-    if find(rows.as_slice(), name).is_none() {
+    if rows.find(name).is_none() {
         rows.push(RegisterRow { name, elem })?;
     }
-    let number = given(rows.as_slice(), name, elem)?;
+    let number = given(rows, name, elem)?;
     Ok(number)
 }
 
@@ -115,8 +86,8 @@ impl Registers {
     {
         let name = RegisterName::Variable(number);
         match ty.rate {
-            Rate::Uniform => given(self.scalars.as_slice(), name, ty.elem),
-            Rate::Varying => given(self.vectors.as_slice(), name, ty.elem),
+            Rate::Uniform => given(&self.scalars, name, ty.elem),
+            Rate::Varying => given(&self.vectors, name, ty.elem),
         }
     }
 
@@ -126,8 +97,8 @@ impl Registers {
         ensures number { IfOk result (λ d. d ≡ number_in (rows_at (rows_of self.now) ty.rate) Result) }
     {
         match ty.rate {
-            Rate::Uniform => given(self.scalars.as_slice(), RegisterName::Result, ty.elem),
-            Rate::Varying => given(self.vectors.as_slice(), RegisterName::Result, ty.elem),
+            Rate::Uniform => given(&self.scalars, RegisterName::Result, ty.elem),
+            Rate::Varying => given(&self.vectors, RegisterName::Result, ty.elem),
         }
     }
 
@@ -136,6 +107,6 @@ impl Registers {
         ensures given { OnOk result (HasArray self.now number elem) }
         ensures number { IfOk result (λ d. d ≡ number_in (rows_of self.now).arrays (VariableName number)) }
     {
-        given(self.arrays.as_slice(), RegisterName::Variable(number), elem)
+        given(&self.arrays, RegisterName::Variable(number), elem)
     }
 }

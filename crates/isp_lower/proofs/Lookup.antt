@@ -1,0 +1,158 @@
+-- Rows of registers, and a map that tells where the first row of each name stands.
+use Rattle.std.proofs.Common.{◌≡◌, ℕ, zero, suc, map, subst, ◌+◌, length, List, [], ◌∷◌, ◌++◌, Some, None, Bool, true, false, refl, sym, ap, ◌∙◌, arith, eqb-true}
+use Rattle.std.specs.Prelude.{◌==◌, if◌then◌else◌, Option, IfSome, IfNone, is_some, slice_get, cond, nat_lt}
+use Rattle.std.specs.BTreeMap.{BTreeMap, get}
+use Rattle.std.specs.Ordering.{nat_cmp, is_eq}
+use Rattle.std.specs.declared.cmp.Ordering.TheVariants.{Less, Equal, Greater}
+use Rattle.std.proofs.lemmas.List.{map-append, length-map}
+use Rattle.std.proofs.lemmas.Cmp.{tied_itself, nat_cmp_total}
+use Rattle.isp_base.specs.declared.types.Elem.{Elem}
+use Rattle.isp_lower.specs.Lookup.{Tells, name_of, row_of}
+use Rattle.isp_lower.specs.Rows.{Name, Row, name_number, number_in, elem_in}
+use Rattle.isp_lower.specs.declared.registers.RegisterRow.{RegisterRow}
+use Rattle.isp_lower.proofs.Rows.{rows_stay}
+
+some_same : {A : Type 0} {x y : A} → Some x ≡ Some y → x ≡ y
+some_same e = cc
+
+none_some : {A B : Type 0} {x : A} → Some x ≡ None → B
+none_some e = absurd (cc)
+
+-- names of one number have one row
+same_elem_in : (rows : List Row) (x y : Name) → name_number x ≡ name_number y → elem_in rows x ≡ elem_in rows y
+same_elem_in [] x y e = refl
+same_elem_in (z ∷ rows) x y e = ap (λ n. if name_number z.name == n then Some z.elem else elem_in rows x) e ∙ ap (λ o. if name_number z.name == name_number y then Some z.elem else o) (same_elem_in rows x y e)
+
+-- the row of a name stands at its number
+record IsThere (rows : List Row) (n : ℕ) (x : Name) (t : Elem) : Type 0 where
+  row : Row
+  stands : slice_get rows n ≡ Some row
+  named : (name_number row.name == name_number x) ≡ true
+  typed : row.elem ≡ t
+
+there_later : (z : Row) (rows : List Row) (n : ℕ) (x : Name) (t : Elem) → IsThere rows n x t → IsThere (z ∷ rows) (1 + n) x t
+there_later z rows n x t h = let e : 1 + n ≡ suc n = omega arith in record { row = h.row; stands = ap (slice_get (z ∷ rows)) e ∙ h.stands; named = h.named; typed = h.typed }
+
+there : (rows : List Row) (x : Name) (t : Elem) → elem_in rows x ≡ Some t → IsThere rows (number_in rows x) x t
+there [] x t e = none_some (sym e)
+there (z ∷ rows) x t e = go (name_number z.name == name_number x) refl (there rows x t) e
+  where
+    go : (b : Bool) → (name_number z.name == name_number x) ≡ b → (elem_in rows x ≡ Some t → IsThere rows (number_in rows x) x t) → (if b then Some z.elem else elem_in rows x) ≡ Some t → IsThere (z ∷ rows) (if b then 0 else 1 + number_in rows x) x t
+    go true b ih h = record { row = z; stands = refl; named = b; typed = some_same h }
+    go false b ih h = there_later z rows (number_in rows x) x t (ih h)
+
+-- where a row of a name stands, the name has a type
+has : (rows : List Row) (n : ℕ) (x : Name) (r : Row) → slice_get rows n ≡ Some r → (name_number r.name == name_number x) ≡ true → (t : Elem) × (elem_in rows x ≡ Some t)
+has [] n x r s e = none_some (sym s)
+has (z ∷ rows) zero x r s e = (z.elem, ap (λ b. if b then Some z.elem else elem_in rows x) (ap (λ (y : Row). name_number y.name == name_number x) (some_same s) ∙ e))
+has (z ∷ rows) (suc n) x r s e = go (name_number z.name == name_number x) (has rows n x r s e)
+  where
+    go : (b : Bool) → (t : Elem) × (elem_in rows x ≡ Some t) → (t : Elem) × ((if b then Some z.elem else elem_in rows x) ≡ Some t)
+    go true h = (z.elem, refl)
+    go false h = h
+
+-- ---- a look into the map
+
+module _ (m : BTreeMap ℕ ℕ) (rows : List Row) (x : Name) (tells : Tells m rows) where
+  none_if : ((t : Elem) → elem_in rows x ≡ Some t → ⊥) → elem_in rows x ≡ None
+  none_if h = go (elem_in rows x) refl
+    where
+      go : (o : Option Elem) → elem_in rows x ≡ o → elem_in rows x ≡ None
+      go None e = e
+      go (Some t) e = absurd (h t e)
+
+  pub found_number : (p : ℕ) (r : Row) → get nat_cmp m (name_number x) ≡ Some p → slice_get rows p ≡ Some r → (name_number r.name == name_number x) ≡ true → p ≡ number_in rows x
+  found_number p r g s e = let h = has rows p x r s e in some_same (sym g ∙ tells x h.0 h.1)
+
+  pub found_elem : (p : ℕ) (r : Row) → get nat_cmp m (name_number x) ≡ Some p → slice_get rows p ≡ Some r → (name_number r.name == name_number x) ≡ true → elem_in rows x ≡ Some r.elem
+  found_elem p r g s e =
+      let h = has rows p x r s e in
+      let w = there rows x h.0 h.1 in
+      let same : w.row ≡ r = some_same (sym w.stands ∙ (ap (slice_get rows) (sym (found_number p r g s e)) ∙ s)) in
+      h.1 ∙ ap (λ z. Some z) (sym w.typed ∙ ap (λ (z : Row). z.elem) same)
+
+  pub none_told : get nat_cmp m (name_number x) ≡ None → elem_in rows x ≡ None
+  none_told g = none_if (λ t e. none_some (sym (tells x t e) ∙ g))
+
+  pub none_behind : (p : ℕ) → get nat_cmp m (name_number x) ≡ Some p → slice_get rows p ≡ None → elem_in rows x ≡ None
+  none_behind p g s = none_if (λ t e. let w = there rows x t e in
+      none_some (sym w.stands ∙ (ap (slice_get rows) (some_same (sym (tells x t e) ∙ g)) ∙ s)))
+
+  pub none_other : (p : ℕ) (r : Row) → get nat_cmp m (name_number x) ≡ Some p → slice_get rows p ≡ Some r → (name_number r.name == name_number x) ≡ false → elem_in rows x ≡ None
+  none_other p r g s f = none_if (λ t e. let w = there rows x t e in
+      let same : w.row ≡ r = some_same (sym w.stands ∙ (ap (slice_get rows) (some_same (sym (tells x t e) ∙ g)) ∙ s)) in
+      let yes = ap (λ (z : Row). name_number z.name == name_number x) (sym same) ∙ w.named in cc)
+
+-- ---- one more row
+
+-- a name that only the last row has
+last_row : (rows : List Row) (r : Row) (x : Name) (t : Elem) → elem_in rows x ≡ None → elem_in (rows ++ r ∷ []) x ≡ Some t
+    → (name_number r.name ≡ name_number x) × (number_in (rows ++ r ∷ []) x ≡ length rows)
+last_row [] r x t n e = go (name_number r.name == name_number x) refl e
+  where
+    go : (b : Bool) → (name_number r.name == name_number x) ≡ b → (if b then Some r.elem else None) ≡ Some t → (name_number r.name ≡ name_number x) × ((if b then 0 else 1 + name_number x) ≡ 0)
+    go true b h = (eqb-true (name_number r.name) (name_number x) b, refl)
+    go false b h = none_some (sym h)
+last_row (z ∷ rows) r x t n e = go (name_number z.name == name_number x) (last_row rows r x t) n e
+  where
+    go : (b : Bool) → (elem_in rows x ≡ None → elem_in (rows ++ r ∷ []) x ≡ Some t → (name_number r.name ≡ name_number x) × (number_in (rows ++ r ∷ []) x ≡ length rows))
+        → (if b then Some z.elem else elem_in rows x) ≡ None → (if b then Some z.elem else elem_in (rows ++ r ∷ []) x) ≡ Some t
+        → (name_number r.name ≡ name_number x) × ((if b then 0 else 1 + number_in (rows ++ r ∷ []) x) ≡ suc (length rows))
+    go true ih n h = none_some n
+    go false ih n h = let w = ih n h in (w.0, ap (λ k. 1 + k) w.1 ∙ omega arith)
+
+-- a map that tells of the names that had a row, and of that of the last one, tells of all
+one_more : (n : BTreeMap ℕ ℕ) (rows : List Row) (r : Row) → Tells n rows → (elem_in rows r.name ≡ None → get nat_cmp n (name_number r.name) ≡ Some (length rows)) → Tells n (rows ++ r ∷ [])
+one_more n rows r tells last x t e = go (elem_in rows x) refl
+  where
+    go : (o : Option Elem) → elem_in rows x ≡ o → get nat_cmp n (name_number x) ≡ Some (number_in (rows ++ r ∷ []) x)
+    go (Some u) h = tells x u h ∙ ap (λ k. Some k) (sym (rows_stay rows (r ∷ []) x u h).0)
+    go None h =
+        let w = last_row rows r x t h e in
+        ap (get nat_cmp n) (sym w.0) ∙ (last (same_elem_in rows r.name x w.0 ∙ h) ∙ ap (λ k. Some k) (sym w.1))
+
+known_row : (n : BTreeMap ℕ ℕ) (rows : List Row) (r : Row) (u : Elem) → Tells n rows → elem_in rows r.name ≡ Some u → Tells n (rows ++ r ∷ [])
+known_row n rows r u tells known = one_more n rows r tells (λ none. none_some (sym known ∙ none))
+
+same_key : (a b : ℕ) → is_eq (nat_cmp a b) ≡ true → a ≡ b
+same_key a b e = go (nat_lt a b) (a == b) refl e
+  where
+    go : (l s : Bool) → (a == b) ≡ s → is_eq (cond l Less (cond s Equal Greater)) ≡ true → a ≡ b
+    go true s d h = absurd (cc)
+    go false true d h = eqb-true a b d
+    go false false d h = absurd (cc)
+
+new_row : (m n : BTreeMap ℕ ℕ) (rows : List Row) (r : Row) → Tells m rows → elem_in rows r.name ≡ None
+    → ((q : ℕ) → get nat_cmp n q ≡ cond (is_eq (nat_cmp (name_number r.name) q)) (Some (length rows)) (get nat_cmp m q)) → Tells n (rows ++ r ∷ [])
+new_row m n rows r tells none put =
+    one_more n rows r others (λ _. put (name_number r.name) ∙ ap (λ b. cond b (Some (length rows)) (get nat_cmp m (name_number r.name))) (ap is_eq (tied_itself nat_cmp_total (name_number r.name))))
+  where
+    others : Tells n rows
+    others x t e = put (name_number x) ∙ go (is_eq (nat_cmp (name_number r.name) (name_number x))) refl
+      where
+        go : (b : Bool) → is_eq (nat_cmp (name_number r.name) (name_number x)) ≡ b → cond b (Some (length rows)) (get nat_cmp m (name_number x)) ≡ Some (number_in rows x)
+        go true b = none_some (sym e ∙ (same_elem_in rows x r.name (sym (same_key (name_number r.name) (name_number x) b)) ∙ none))
+        go false b = tells x t e
+
+-- ---- the step of `push`
+
+module _ (rows new : List RegisterRow) (r : RegisterRow) (found : Option (ℕ × Elem)) (all : new ≡ rows ++ r ∷ []) where
+  behind : map row_of new ≡ map row_of rows ++ row_of r ∷ []
+  behind = ap (map row_of) all ∙ map-append row_of rows (r ∷ [])
+
+  pub pushed_known : (m : BTreeMap ℕ ℕ) → Tells m (map row_of rows) → is_some found ≡ true → IfSome found (λ x. elem_in (map row_of rows) (name_of r.name) ≡ Some x.1) → Tells m (map row_of new)
+  pushed_known m tells given at = subst (Tells m) (sym behind) (go found given at)
+    where
+      go : (o : Option (ℕ × Elem)) → is_some o ≡ true → IfSome o (λ x. elem_in (map row_of rows) (name_of r.name) ≡ Some x.1) → Tells m (map row_of rows ++ row_of r ∷ [])
+      go None given at = absurd (cc)
+      go (Some x) given at = known_row m (map row_of rows) (row_of r) x.1 tells at
+
+  pub pushed_new : (m n : BTreeMap ℕ ℕ) (k len : ℕ) → Tells m (map row_of rows) → is_some found ≡ false → IfNone found (elem_in (map row_of rows) (name_of r.name) ≡ None)
+      → k ≡ name_number (name_of r.name) → len ≡ length rows → ((q : ℕ) → get nat_cmp n q ≡ cond (is_eq (nat_cmp k q)) (Some len) (get nat_cmp m q)) → Tells n (map row_of new)
+  pushed_new m n k len tells absent at e l put = subst (Tells n) (sym behind) (new_row m n (map row_of rows) (row_of r) tells (go found absent at)
+      (λ q. put q ∙ (ap (λ z. cond (is_eq (nat_cmp z q)) (Some len) (get nat_cmp m q)) e
+      ∙ ap (λ z. cond (is_eq (nat_cmp (name_number (name_of r.name)) q)) (Some z) (get nat_cmp m q)) (l ∙ sym (length-map rows row_of)))))
+    where
+      go : (o : Option (ℕ × Elem)) → is_some o ≡ false → IfNone o (elem_in (map row_of rows) (name_of r.name) ≡ None) → elem_in (map row_of rows) (name_of r.name) ≡ None
+      go None absent at = at
+      go (Some x) absent at = absurd (cc)

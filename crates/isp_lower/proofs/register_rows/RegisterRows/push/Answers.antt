@@ -1,0 +1,17 @@
+use Rattle.std.proofs.Common.{◌∙◌, sym, ap, ◌++◌, ◌∷◌, []}
+use Rattle.isp_lower.proofs.Lookup.{pushed_known, pushed_new}
+use Rattle.isp_lower.proofs.register_rows.RegisterRows.push.Goals as goal
+use Rattle.isp_lower.proofs.register_rows.RegisterRows.push.Goals.{then-is_none+in_ok-insert, else-is_none}
+
+pub invariant_of-self-2 : goal.invariant_of-self-2
+invariant_of-self-2 c =
+    let s = c.self.inside in
+    let new = c.push.new.self.items in
+    elim c.if-is_none.branch [
+      | then-is_none+in_ok-insert w ↦ rw (ap (λ z. z.places) w.self-inside-is)
+          (pushed_new s.rows.items new c.args.row c.find.result (c.in_ok-push.ensures.items ∙ ap (λ z. z.rows.items ++ c.args.row ∷ []) w.self-inside-is)
+          s.places w.insert.new.self w.name_number.result w.len.result c.self.invariant w.if-is_none.ensures (rw (sym c.self.view_is) at c.find.ensures.none) w.name_number.ensures (w.len.ensures ∙ s.rows.ok.0) w.in_ok-insert.ensures.updates.0)
+      | else-is_none w ↦ rw (ap (λ z. z.places) w.self-inside-is)
+          (pushed_known s.rows.items new c.args.row c.find.result (c.in_ok-push.ensures.items ∙ ap (λ z. z.rows.items ++ c.args.row ∷ []) w.self-inside-is)
+          s.places c.self.invariant w.if-is_none.ensures (rw (sym c.self.view_is) at c.find.ensures.elem))
+    ]
