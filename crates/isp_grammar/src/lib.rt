@@ -4,6 +4,7 @@
 
 mod declaration;
 mod expr;
+mod heads;
 mod make;
 mod parts;
 mod reading;

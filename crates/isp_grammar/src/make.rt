@@ -1,11 +1,13 @@
 //! Statements made of their parts, each from its first word to the end of its last part.
-ghost use Rattle.std.specs.Prelude.{◌≡◌, map, option_map};
-ghost use Rattle.isp_tree.specs.Views.{expr_of, stmt_of, block_of, range_of};
-ghost use Rattle.isp_grammar.specs.reader.Stmts.{head_of, if_from, while_from, do_from, for_from, foreach_from, active_from, unmasked_from};
+ghost use Rattle.std.specs.Prelude.{◌≡◌, option_map};
+ghost use Rattle.isp_tree.specs.Tree.{loop_for};
+ghost use Rattle.isp_tree.specs.Views.{expr_of, stmt_of, block_of};
+ghost use Rattle.isp_grammar.specs.reader.Stmts.{head_of, heading_of, if_from, do_from, looped, unmasked_from};
 
+use crate::heads::LoopHead;
 use crate::parts::ForHead;
 use isp_base::Span;
-use isp_tree::{Block, Expr, First, Form, Range, Simple, Stmt, Tiling, Word};
+use isp_tree::{Block, Expr, First, Form, Simple, Stmt};
 
 /// What a box holds, if there is one.
 pub fn unboxed_expr(value: Option<Box<Expr>>) -> Option<Expr>
@@ -68,18 +70,6 @@ pub fn make_if(
     }
 }
 
-pub fn make_while(form: Form, keyword: Span, test: Box<Expr>, body: Box<Stmt>) -> Stmt
-    ensures { stmt_of result ≡ while_from form keyword (expr_of test.value) (stmt_of body.value) }
-{
-    let span = keyword.to(body.span());
-    Stmt::While {
-        form,
-        test: Box::into_inner(test),
-        body,
-        span,
-    }
-}
-
 pub fn make_do(form: Form, keyword: Span, body: Box<Stmt>, test: Box<Expr>, end: Span) -> Stmt
     ensures { stmt_of result ≡ do_from form keyword (stmt_of body.value) (expr_of test.value) end }
 {
@@ -91,11 +81,9 @@ pub fn make_do(form: Form, keyword: Span, body: Box<Stmt>, test: Box<Expr>, end:
     }
 }
 
-pub fn make_for(form: Form, keyword: Span, head: Box<ForHead>, body: Box<Stmt>) -> Stmt
-    ensures { stmt_of result ≡ for_from form keyword (head_of head.value) (stmt_of body.value) }
+fn make_for(form: Form, head: ForHead, body: Box<Stmt>, span: Span) -> Stmt
+    ensures { stmt_of result ≡ loop_for form (head_of head).first (head_of head).test (head_of head).step (stmt_of body.value) span }
 {
-    let span = keyword.to(body.span());
-    let head = Box::into_inner(head);
     Stmt::For {
         form,
         first: unboxed_first(head.first),
@@ -106,28 +94,35 @@ pub fn make_for(form: Form, keyword: Span, head: Box<ForHead>, body: Box<Stmt>) 
     }
 }
 
-pub fn make_foreach(tiling: Tiling, keyword: Span, ranges: Vec<Range>, body: Box<Stmt>) -> Stmt
-    ensures { stmt_of result ≡ foreach_from tiling keyword (map range_of ranges.items) (stmt_of body.value) }
+/// A loop of what stands before its body, and the body.
+pub fn make_loop(keyword: Span, head: LoopHead, body: Box<Stmt>) -> Stmt
+    ensures { stmt_of result ≡ looped keyword (heading_of head) (stmt_of body.value) }
 {
     let span = keyword.to(body.span());
-    Stmt::Foreach {
-        tiling,
-        keyword,
-        ranges,
-        body,
-        span,
-    }
-}
-
-pub fn make_active(keyword: Span, word: Word, body: Box<Stmt>) -> Stmt
-    ensures { stmt_of result ≡ active_from keyword word (stmt_of body.value) }
-{
-    let span = keyword.to(body.span());
-    Stmt::ForeachActive {
-        keyword,
-        word,
-        body,
-        span,
+    match head {
+        LoopHead::While(form, test) => {
+            let test = Box::into_inner(test);
+            Stmt::While {
+                form,
+                test,
+                body,
+                span,
+            }
+        }
+        LoopHead::For(form, head) => make_for(form, head, body, span),
+        LoopHead::Foreach(tiling, ranges) => Stmt::Foreach {
+            tiling,
+            keyword,
+            ranges,
+            body,
+            span,
+        },
+        LoopHead::ForeachActive(word) => Stmt::ForeachActive {
+            keyword,
+            word,
+            body,
+            span,
+        },
     }
 }
 

@@ -6,18 +6,18 @@ ghost use Rattle.isp_grammar.specs.reader.Readers.{Gives, mark_at, both};
 ghost use Rattle.isp_grammar.specs.reader.Choices.{begins_with, sign_at, maybe_closed_at};
 ghost use Rattle.isp_grammar.specs.reader.Exprs.{expr_at};
 ghost use Rattle.isp_grammar.specs.reader.Starts.{begins_first, begins_simple};
-ghost use Rattle.isp_grammar.specs.reader.Stmts.{closed_test_at, test_at, head_of, first_at, first_part_at, step_part_at, head_at, range_at, with_last, last_range_at, with_more, more_ranges_at, ranges_at, ranges_head_at, active_head_at, text_of, next_value_at, values_at, do_end_at, refusal_at_limit};
+ghost use Rattle.isp_grammar.specs.reader.Stmts.{closed_test_at, test_at, first_at, first_part_at, step_part_at, range_at, with_last, last_range_at, with_more, more_ranges_at, ranges_at, text_of, next_value_at, values_at, do_end_at, refusal_at_limit};
 
 use crate::declaration::declaration;
 use crate::expr::expr;
-use crate::reading::{closed_by, in_box, mark, refuse, starts_with, up_to, word};
+use crate::reading::{closed_by, in_box, mark, refuse, starts_with, word};
 use crate::simple::simple;
 use crate::start::{Start, stmt_start};
 use crate::stop::{Stop, Why};
 use crate::types::begins_type;
 use isp_base::Span;
 use isp_lex::{Mark, Text, Token, TokenKind};
-use isp_tree::{Expr, First, Range, Simple, Word};
+use isp_tree::{Expr, First, Range, Simple};
 use std::alloc::Global;
 
 /// An expression in brackets, and where the closing one stands.
@@ -145,7 +145,7 @@ fn step_part(alloc: Global, left: usize, tokens: &[Token]) -> Result<(Box<Simple
 
 /// The first part of a `for` or nothing, and the semicolon behind it.
 #[tactic(auto, unfolding(crate::specs::reader::Choices::maybe_at, crate::specs::reader::Choices::maybe_closed_at))]
-fn maybe_first(
+pub fn maybe_first(
     alloc: Global,
     left: usize,
     tokens: &[Token],
@@ -163,7 +163,7 @@ fn maybe_first(
 
 /// The step of a `for` or nothing, and the closing bracket behind it.
 #[tactic(auto, unfolding(crate::specs::reader::Choices::maybe_at, crate::specs::reader::Choices::maybe_closed_at))]
-fn maybe_step(
+pub fn maybe_step(
     alloc: Global,
     left: usize,
     tokens: &[Token],
@@ -185,20 +185,6 @@ pub struct ForHead {
     pub first: Option<Box<First>>,
     pub test: Option<Box<Expr>>,
     pub step: Option<Box<Simple>>,
-}
-
-/// What stands in the brackets of a `for`, and the brackets.
-#[tactic(auto, unfolding(crate::specs::reader::Stmts::head_at))]
-pub fn head(alloc: Global, left: usize, tokens: &[Token]) -> Result<(Box<ForHead>, &[Token]), Stop>
-    requires { left ≤ 128 }
-    ensures value { Gives (λ r. (head_of r.0.value, r.1.now)) result (head_at left tokens.now) }
-    ensures rest { IfOk result (λ r. length r.1.now < length tokens.now) }
-{
-    let (_open, rest) = mark(Mark::ParenOpen, tokens)?;
-    let ((first, _semicolon), rest) = maybe_first(alloc, left, rest)?;
-    let ((test, _semicolon), rest) = maybe_expr(alloc, left, rest)?;
-    let ((step, _close), rest) = maybe_step(alloc, left, rest)?;
-    in_box(alloc, ForHead { first, test, step }, rest)
 }
 
 /// One dimension of a `foreach`.
@@ -269,7 +255,7 @@ fn more_ranges(
 
 /// One to three ranges.
 #[tactic(auto, unfolding(crate::specs::reader::Stmts::ranges_at))]
-fn ranges(alloc: Global, left: usize, tokens: &[Token]) -> Result<(Vec<Range>, &[Token]), Stop>
+pub fn ranges(alloc: Global, left: usize, tokens: &[Token]) -> Result<(Vec<Range>, &[Token]), Stop>
     requires { left ≤ 128 }
     ensures value { Gives (λ r. (map range_of r.0.items, r.1.now)) result (ranges_at left tokens.now) }
     ensures rest { IfOk result (λ r. length r.1.now < length tokens.now) }
@@ -278,33 +264,6 @@ fn ranges(alloc: Global, left: usize, tokens: &[Token]) -> Result<(Vec<Range>, &
     let mut all = Vec::new(alloc);
     all.push(first)?;
     more_ranges(alloc, left, all, rest)
-}
-
-/// The ranges of a `foreach` in brackets.
-#[tactic(auto, unfolding(crate::specs::reader::Stmts::ranges_head_at))]
-pub fn ranges_head(
-    alloc: Global,
-    left: usize,
-    tokens: &[Token],
-) -> Result<(Vec<Range>, &[Token]), Stop>
-    requires { left ≤ 128 }
-    ensures value { Gives (λ r. (map range_of r.0.items, r.1.now)) result (ranges_head_at left tokens.now) }
-    ensures rest { IfOk result (λ r. length r.1.now < length tokens.now) }
-{
-    let (_open, rest) = mark(Mark::ParenOpen, tokens)?;
-    let (ranges, rest) = ranges(alloc, left, rest)?;
-    up_to(Mark::ParenClose, ranges, rest)
-}
-
-/// The name of a `foreach_active` in brackets.
-#[tactic(auto, unfolding(crate::specs::reader::Stmts::active_head_at))]
-pub fn active_head(tokens: &[Token]) -> Result<(Word, &[Token]), Stop>
-    ensures value { Gives (λ r. (r.0, r.1.now)) result (active_head_at tokens.now) }
-    ensures rest { IfOk result (λ r. length r.1.now < length tokens.now) }
-{
-    let (_open, rest) = mark(Mark::ParenOpen, tokens)?;
-    let (word, rest) = word(rest)?;
-    up_to(Mark::ParenClose, word, rest)
 }
 
 /// A text in quotes, and where it stands.

@@ -5,19 +5,18 @@ ghost use Rattle.isp_tree.specs.Views.{stmt_of, block_of, stmts_of};
 ghost use Rattle.isp_grammar.specs.reader.Readers.{Gives, optional};
 ghost use Rattle.isp_grammar.specs.reader.Choices.{begins_with};
 ghost use Rattle.isp_grammar.specs.reader.Starts.{start_of, begins_stmt};
-ghost use Rattle.isp_grammar.specs.reader.Stmts.{stmts_at, braced_at, block_at, block_stmt_at, if_at, while_at, do_at, for_at, foreach_at, active_at, unmasked_at, stmt_from, stmt_at};
+ghost use Rattle.isp_grammar.specs.reader.Stmts.{stmts_at, braced_at, block_at, block_stmt_at, if_at, do_at, loop_at, unmasked_at, stmt_from, stmt_at};
 
-use crate::make::{
-    make_active, make_do, make_for, make_foreach, make_if, make_unmasked, make_while,
-};
-use crate::parts::{active_head, do_end, head, ranges_head, refuse_at_limit, test};
+use crate::heads::{Loop, loop_head};
+use crate::make::{make_do, make_if, make_loop, make_unmasked};
+use crate::parts::{do_end, refuse_at_limit, test};
 use crate::reading::{in_box, mark, refuse, starts_with, tail, with_item};
 use crate::single::{assert_stmt, declare_stmt, jump_stmt, print_stmt, return_stmt, simple_stmt};
 use crate::start::{Start, stmt_start};
 use crate::stop::{Stop, Why};
 use isp_base::Span;
 use isp_lex::{Mark, Token};
-use isp_tree::{Block, Form, Stmt, Tiling};
+use isp_tree::{Block, Form, Stmt};
 use std::alloc::Global;
 
 /// Whether a statement begins here.
@@ -150,23 +149,23 @@ fn conditional(
     Ok((make_if(form, keyword, test, then, other), rest))
 }
 
-/// What stands behind `while` at this place.
+/// What stands behind the first word of such a loop at this place.
 #[cycle(stmt)]
-#[tactic(auto, unfolding(crate::specs::reader::Stmts::while_at))]
-fn while_loop(
+#[tactic(auto, unfolding(crate::specs::reader::Stmts::loop_at))]
+fn loop_stmt(
     alloc: Global,
     inner: usize,
-    form: Form,
+    which: Loop,
     keyword: Span,
     tokens: &[Token],
 ) -> Result<(Stmt, &[Token]), Stop>
     requires { inner ≤ 128 }
-    ensures value { Gives (λ r. (stmt_of r.0, r.1.now)) result (while_at (stmt_at inner) inner form keyword tokens.now) }
+    ensures value { Gives (λ r. (stmt_of r.0, r.1.now)) result (loop_at (stmt_at inner) inner which keyword tokens.now) }
     ensures rest { IfOk result (λ r. length r.1.now < length tokens.now) }
 {
-    let (test, rest) = test(alloc, inner, tokens)?;
+    let (head, rest) = loop_head(alloc, inner, which, tokens)?;
     let (body, rest) = boxed(alloc, inner, rest)?;
-    Ok((make_while(form, keyword, test, body), rest))
+    Ok((make_loop(keyword, head, body), rest))
 }
 
 /// What stands behind `do` at this place.
@@ -188,62 +187,6 @@ fn do_loop(
     Ok((make_do(form, keyword, body, test, end), rest))
 }
 
-/// What stands behind `for` at this place.
-#[cycle(stmt)]
-#[tactic(auto, unfolding(crate::specs::reader::Stmts::for_at))]
-fn for_loop(
-    alloc: Global,
-    inner: usize,
-    form: Form,
-    keyword: Span,
-    tokens: &[Token],
-) -> Result<(Stmt, &[Token]), Stop>
-    requires { inner ≤ 128 }
-    ensures value { Gives (λ r. (stmt_of r.0, r.1.now)) result (for_at (stmt_at inner) inner form keyword tokens.now) }
-    ensures rest { IfOk result (λ r. length r.1.now < length tokens.now) }
-{
-    let (head, rest) = head(alloc, inner, tokens)?;
-    let (body, rest) = boxed(alloc, inner, rest)?;
-    Ok((make_for(form, keyword, head, body), rest))
-}
-
-/// What stands behind `foreach` at this place.
-#[cycle(stmt)]
-#[tactic(auto, unfolding(crate::specs::reader::Stmts::foreach_at))]
-fn foreach(
-    alloc: Global,
-    inner: usize,
-    tiling: Tiling,
-    keyword: Span,
-    tokens: &[Token],
-) -> Result<(Stmt, &[Token]), Stop>
-    requires { inner ≤ 128 }
-    ensures value { Gives (λ r. (stmt_of r.0, r.1.now)) result (foreach_at (stmt_at inner) inner tiling keyword tokens.now) }
-    ensures rest { IfOk result (λ r. length r.1.now < length tokens.now) }
-{
-    let (ranges, rest) = ranges_head(alloc, inner, tokens)?;
-    let (body, rest) = boxed(alloc, inner, rest)?;
-    Ok((make_foreach(tiling, keyword, ranges, body), rest))
-}
-
-/// What stands behind `foreach_active` at this place.
-#[cycle(stmt)]
-#[tactic(auto, unfolding(crate::specs::reader::Stmts::active_at))]
-fn foreach_active(
-    alloc: Global,
-    inner: usize,
-    keyword: Span,
-    tokens: &[Token],
-) -> Result<(Stmt, &[Token]), Stop>
-    requires { inner ≤ 128 }
-    ensures value { Gives (λ r. (stmt_of r.0, r.1.now)) result (active_at (stmt_at inner) keyword tokens.now) }
-    ensures rest { IfOk result (λ r. length r.1.now < length tokens.now) }
-{
-    let (index, rest) = active_head(tokens)?;
-    let (body, rest) = boxed(alloc, inner, rest)?;
-    Ok((make_active(keyword, index, body), rest))
-}
-
 /// What stands behind `unmasked` at this place.
 #[cycle(stmt)]
 #[tactic(auto, unfolding(crate::specs::reader::Stmts::unmasked_at))]
@@ -263,6 +206,7 @@ fn unmasked(
 
 /// A statement by its first token, its parts no deeper than `inner`.
 #[cycle(stmt)]
+#[tactic(auto, unfolding(crate::specs::reader::Stmts::loop_at))]
 fn stmt_from<'a>(
     alloc: Global,
     inner: usize,
@@ -283,11 +227,11 @@ fn stmt_from<'a>(
         Start::Declare => declare_stmt(alloc, inner, tokens),
         Start::Simple => simple_stmt(alloc, inner, tokens),
         Start::If(form) => conditional(alloc, inner, form, keyword, rest),
-        Start::While(form) => while_loop(alloc, inner, form, keyword, rest),
+        Start::While(form) => loop_stmt(alloc, inner, Loop::While(form), keyword, rest),
         Start::Do(form) => do_loop(alloc, inner, form, keyword, rest),
-        Start::For(form) => for_loop(alloc, inner, form, keyword, rest),
-        Start::Foreach(tiling) => foreach(alloc, inner, tiling, keyword, rest),
-        Start::ForeachActive => foreach_active(alloc, inner, keyword, rest),
+        Start::For(form) => loop_stmt(alloc, inner, Loop::For(form), keyword, rest),
+        Start::Foreach(tiling) => loop_stmt(alloc, inner, Loop::Foreach(tiling), keyword, rest),
+        Start::ForeachActive => loop_stmt(alloc, inner, Loop::ForeachActive, keyword, rest),
         Start::Unmasked => unmasked(alloc, inner, keyword, rest),
         Start::Jump(jump) => jump_stmt(jump, keyword, rest),
         Start::Return => return_stmt(alloc, inner, keyword, rest),

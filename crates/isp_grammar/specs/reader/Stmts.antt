@@ -1,5 +1,5 @@
 -- How statements are read.
-use Rattle.std.specs.Prelude.{option_map, ◌⊎◌, ℕ, zero, suc, List, [], ◌∷◌, ◌++◌, length, Bool, true, false, ◌||◌, Option, Some, None, Ok}
+use Rattle.std.specs.Prelude.{option_map, ◌⊎◌, ℕ, zero, suc, List, [], ◌∷◌, ◌++◌, length, map, Bool, true, false, ◌||◌, Option, Some, None, Ok}
 use mathlib.Core.Logic.{inl, inr}
 use Rattle.isp_base.specs.Types.{span_to}
 use Rattle.isp_base.specs.declared.types.Span.{Span}
@@ -17,9 +17,13 @@ use Rattle.isp_grammar.specs.reader.Starts.{start_of, begins_first, begins_simpl
 use Rattle.isp_grammar.specs.reader.Types.{begins_type, type_at}
 use Rattle.isp_grammar.specs.Signs.{loosest}
 use Rattle.isp_tree.specs.Tree.{TypeTree, Expr, span_of, Item, plain, with_value, with_size, Declaration, Simple, value, assign, change, First, first_declare, first_simple, Range, Stmt, block, empty, declare, simple, if_then, if_else, loop_while, loop_do, loop_for, foreach, foreach_active, unmasked, jump, returning, print, assert, Block, braces, all, span_of_block, span_of_stmt, span_of_simple}
-use Rattle.isp_tree.specs.Views.{expr_of, simple_of, first_of}
+use Rattle.isp_tree.specs.Views.{expr_of, simple_of, first_of, range_of}
 use Rattle.isp_grammar.specs.declared.declaration.ItemTail as rust_item
 use Rattle.isp_grammar.specs.declared.declaration.ItemTail.TheVariants as one
+use Rattle.isp_grammar.specs.declared.heads.Loop.{Loop}
+use Rattle.isp_grammar.specs.declared.heads.Loop.TheVariants as loops
+use Rattle.isp_grammar.specs.declared.heads.LoopHead as rust_heading
+use Rattle.isp_grammar.specs.declared.heads.LoopHead.TheVariants as heading
 use Rattle.isp_grammar.specs.declared.parts.ForHead as rust_head
 use Rattle.isp_grammar.specs.declared.simple.Ending as rust_ending
 use Rattle.isp_grammar.specs.declared.simple.Ending.TheVariants as ending
@@ -321,6 +325,38 @@ active_from w i s = foreach_active w i s (span_to w (span_of_stmt s))
 
 unfoldable pub active_at : Reader Stmt → Span → Reader Stmt
 active_at stmt w ts = both active_head_at stmt ts >>= λ p. Ok (active_from w p.0.0 p.0.1, p.1)
+
+-- what stands before the body of a loop
+pub data Heading : Type 0 where
+  by_while : Form → Expr → Heading
+  by_for : Form → Head → Heading
+  by_foreach : Tiling → List Range → Heading
+  by_active : Word → Heading
+
+abbrev pub heading_of : rust_heading.LoopHead → Heading
+heading_of (heading.While f x) = by_while f (expr_of x.value)
+heading_of (heading.For f h) = by_for f (head_of h)
+heading_of (heading.Foreach t rs) = by_foreach t (map range_of rs.items)
+heading_of (heading.ForeachActive i) = by_active i
+
+abbrev pub heading_at : ℕ → Loop → Reader Heading
+heading_at n (loops.While f) ts = test_at n ts >>= λ p. Ok (by_while f p.0, p.1)
+heading_at n (loops.For f) ts = head_at n ts >>= λ p. Ok (by_for f p.0, p.1)
+heading_at n (loops.Foreach t) ts = ranges_head_at n ts >>= λ p. Ok (by_foreach t p.0, p.1)
+heading_at n loops.ForeachActive ts = active_head_at ts >>= λ p. Ok (by_active p.0, p.1)
+
+abbrev pub looped : Span → Heading → Stmt → Stmt
+looped w (by_while f x) s = while_from f w x s
+looped w (by_for f h) s = for_from f w h s
+looped w (by_foreach t rs) s = foreach_from t w rs s
+looped w (by_active i) s = active_from w i s
+
+-- a loop whose body stands last
+unfoldable pub loop_at : Reader Stmt → ℕ → Loop → Span → Reader Stmt
+loop_at stmt n (loops.While f) w ts = while_at stmt n f w ts
+loop_at stmt n (loops.For f) w ts = for_at stmt n f w ts
+loop_at stmt n (loops.Foreach t) w ts = foreach_at stmt n t w ts
+loop_at stmt n loops.ForeachActive w ts = active_at stmt w ts
 
 abbrev pub unmasked_from : Span → Block → Stmt
 unmasked_from u b = unmasked u b (span_to u (span_of_block b))

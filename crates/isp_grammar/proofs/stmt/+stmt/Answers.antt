@@ -4,10 +4,10 @@ use Rattle.std.proofs.lemmas.List.{map_push}
 use Rattle.isp_lex.specs.declared.token.Mark.TheVariants as mark
 use Rattle.isp_tree.specs.Views.{stmt_of, stmts_of}
 use Rattle.isp_grammar.specs.reader.Starts.{start_of}
-use Rattle.isp_grammar.specs.reader.Stmts.{stmts_at, braced_at, block_stmt_at, if_at, while_at, do_at, for_at, foreach_at, active_at, unmasked_at, stmt_from, stmt_at, block_at}
+use Rattle.isp_grammar.specs.reader.Stmts.{stmts_at, braced_at, block_stmt_at, if_at, do_at, unmasked_at, stmt_from, stmt_at, block_at}
 use Rattle.isp_grammar.proofs.Loops.{until_fails, until_end, until_step, until_begins}
 use Rattle.isp_grammar.proofs.SimpleSteps.{fails_then}
-use Rattle.isp_grammar.proofs.StmtSteps.{stmt_at_limit, stmt_none, stmt_step, block_at_limit, block_step}
+use Rattle.isp_grammar.proofs.StmtSteps.{loop_headed, stmt_at_limit, stmt_none, stmt_step, block_at_limit, block_step}
 use Rattle.isp_grammar.proofs.stmt.+stmt.Goals as goal
 
 -- ---- one statement
@@ -110,21 +110,18 @@ pub conditional-returns-clause-value : goal.conditional-returns-clause-value
 unfolding if_at
 conditional-returns-clause-value t c = rw (c.in_ok-test.ensures.value, c.in_ok-then.ensures.value, c.in_ok-other.ensures.value, c.make_if.ensures) refl
 
-pub while_loop-returns-in_err-test-clause-value : goal.while_loop-returns-in_err-test-clause-value
-unfolding while_at
-while_loop-returns-in_err-test-clause-value t c =
+pub loop_stmt-returns-in_err-head-clause-value : goal.loop_stmt-returns-in_err-head-clause-value
+loop_stmt-returns-in_err-head-clause-value t c =
     let p = err_from_is_err_and c.from_residual.result c.from_residual.ensures.1 in
-    rw (p.1, p.2) (fails_then c.in_err-test.field-0.0 _ _ (fails_then c.in_err-test.field-0.0 _ _ c.in_err-test.ensures.value))
+    rw (p.1, p.2, loop_headed (stmt_at c.args.inner) c.args.inner c.args.which c.args.keyword c.args.tokens.now) (fails_then c.in_err-head.field-0.0 _ _ (fails_then c.in_err-head.field-0.0 _ _ c.in_err-head.ensures.value))
 
-pub while_loop-returns-in_err-body-clause-value : goal.while_loop-returns-in_err-body-clause-value
-unfolding while_at
-while_loop-returns-in_err-body-clause-value t c =
+pub loop_stmt-returns-in_err-body-clause-value : goal.loop_stmt-returns-in_err-body-clause-value
+loop_stmt-returns-in_err-body-clause-value t c =
     let p = err_from_is_err_and c.from_residual-in_err-body.result c.from_residual-in_err-body.ensures.1 in
-    rw (p.1, p.2, c.in_ok-test.ensures.value) (fails_then c.in_err-body.field-0.0 _ _ (fails_then c.in_err-body.field-0.0 _ _ c.in_err-body.ensures.value))
+    rw (p.1, p.2, loop_headed (stmt_at c.args.inner) c.args.inner c.args.which c.args.keyword c.args.tokens.now, c.in_ok-head.ensures.value) (fails_then c.in_err-body.field-0.0 _ _ (fails_then c.in_err-body.field-0.0 _ _ c.in_err-body.ensures.value))
 
-pub while_loop-returns-clause-value : goal.while_loop-returns-clause-value
-unfolding while_at
-while_loop-returns-clause-value t c = rw (c.in_ok-test.ensures.value, c.in_ok-body.ensures.value, c.make_while.ensures) refl
+pub loop_stmt-returns-clause-value : goal.loop_stmt-returns-clause-value
+loop_stmt-returns-clause-value t c = rw (loop_headed (stmt_at c.args.inner) c.args.inner c.args.which c.args.keyword c.args.tokens.now, c.in_ok-head.ensures.value, c.in_ok-body.ensures.value, c.make_loop.ensures) refl
 
 pub do_loop-returns-in_err-body-clause-value : goal.do_loop-returns-in_err-body-clause-value
 unfolding do_at
@@ -141,54 +138,6 @@ do_loop-returns-in_err-test-clause-value t c =
 pub do_loop-returns-clause-value : goal.do_loop-returns-clause-value
 unfolding do_at
 do_loop-returns-clause-value t c = rw (c.in_ok-body.ensures.value, c.in_ok-test.ensures.value, c.make_do.ensures) refl
-
-pub for_loop-returns-in_err-head-clause-value : goal.for_loop-returns-in_err-head-clause-value
-unfolding for_at
-for_loop-returns-in_err-head-clause-value t c =
-    let p = err_from_is_err_and c.from_residual.result c.from_residual.ensures.1 in
-    rw (p.1, p.2) (fails_then c.in_err-head.field-0.0 _ _ (fails_then c.in_err-head.field-0.0 _ _ c.in_err-head.ensures.value))
-
-pub for_loop-returns-in_err-body-clause-value : goal.for_loop-returns-in_err-body-clause-value
-unfolding for_at
-for_loop-returns-in_err-body-clause-value t c =
-    let p = err_from_is_err_and c.from_residual-in_err-body.result c.from_residual-in_err-body.ensures.1 in
-    rw (p.1, p.2, c.in_ok-head.ensures.value) (fails_then c.in_err-body.field-0.0 _ _ (fails_then c.in_err-body.field-0.0 _ _ c.in_err-body.ensures.value))
-
-pub for_loop-returns-clause-value : goal.for_loop-returns-clause-value
-unfolding for_at
-for_loop-returns-clause-value t c = rw (c.in_ok-head.ensures.value, c.in_ok-body.ensures.value, c.make_for.ensures) refl
-
-pub foreach-returns-in_err-ranges-clause-value : goal.foreach-returns-in_err-ranges-clause-value
-unfolding foreach_at
-foreach-returns-in_err-ranges-clause-value t c =
-    let p = err_from_is_err_and c.from_residual.result c.from_residual.ensures.1 in
-    rw (p.1, p.2) (fails_then c.in_err-ranges.field-0.0 _ _ (fails_then c.in_err-ranges.field-0.0 _ _ c.in_err-ranges.ensures.value))
-
-pub foreach-returns-in_err-body-clause-value : goal.foreach-returns-in_err-body-clause-value
-unfolding foreach_at
-foreach-returns-in_err-body-clause-value t c =
-    let p = err_from_is_err_and c.from_residual-in_err-body.result c.from_residual-in_err-body.ensures.1 in
-    rw (p.1, p.2, c.in_ok-ranges.ensures.value) (fails_then c.in_err-body.field-0.0 _ _ (fails_then c.in_err-body.field-0.0 _ _ c.in_err-body.ensures.value))
-
-pub foreach-returns-clause-value : goal.foreach-returns-clause-value
-unfolding foreach_at
-foreach-returns-clause-value t c = rw (c.in_ok-ranges.ensures.value, c.in_ok-body.ensures.value, c.make_foreach.ensures) refl
-
-pub foreach_active-returns-in_err-index-clause-value : goal.foreach_active-returns-in_err-index-clause-value
-unfolding active_at
-foreach_active-returns-in_err-index-clause-value t c =
-    let p = err_from_is_err_and c.from_residual.result c.from_residual.ensures.1 in
-    rw (p.1, p.2) (fails_then c.in_err-index.field-0.0 _ _ (fails_then c.in_err-index.field-0.0 _ _ c.in_err-index.ensures.value))
-
-pub foreach_active-returns-in_err-body-clause-value : goal.foreach_active-returns-in_err-body-clause-value
-unfolding active_at
-foreach_active-returns-in_err-body-clause-value t c =
-    let p = err_from_is_err_and c.from_residual-in_err-body.result c.from_residual-in_err-body.ensures.1 in
-    rw (p.1, p.2, c.in_ok-index.ensures.value) (fails_then c.in_err-body.field-0.0 _ _ (fails_then c.in_err-body.field-0.0 _ _ c.in_err-body.ensures.value))
-
-pub foreach_active-returns-clause-value : goal.foreach_active-returns-clause-value
-unfolding active_at
-foreach_active-returns-clause-value t c = rw (c.in_ok-index.ensures.value, c.in_ok-body.ensures.value, c.make_active.ensures) refl
 
 pub unmasked-returns-in_err-body-clause-value : goal.unmasked-returns-in_err-body-clause-value
 unfolding unmasked_at

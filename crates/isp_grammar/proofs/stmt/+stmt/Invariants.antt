@@ -33,20 +33,11 @@ decreases-boxed l = 8 * l.inner + 1
 abbrev pub decreases-conditional : goal.decreases-conditional
 decreases-conditional l = 8 * l.inner + 3
 
-abbrev pub decreases-while_loop : goal.decreases-while_loop
-decreases-while_loop l = 8 * l.inner + 2
+abbrev pub decreases-loop_stmt : goal.decreases-loop_stmt
+decreases-loop_stmt l = 8 * l.inner + 2
 
 abbrev pub decreases-do_loop : goal.decreases-do_loop
 decreases-do_loop l = 8 * l.inner + 2
-
-abbrev pub decreases-for_loop : goal.decreases-for_loop
-decreases-for_loop l = 8 * l.inner + 2
-
-abbrev pub decreases-foreach : goal.decreases-foreach
-decreases-foreach l = 8 * l.inner + 2
-
-abbrev pub decreases-foreach_active : goal.decreases-foreach_active
-decreases-foreach_active l = 8 * l.inner + 2
 
 abbrev pub decreases-unmasked : goal.decreases-unmasked
 decreases-unmasked l = 8 * l.inner + 3
