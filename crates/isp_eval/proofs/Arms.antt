@@ -70,35 +70,22 @@ pub memory_err : (old new : Evaluator) (f : Store → Goes) (r : Result (Unit {0
 memory_err old new f (Ok a) m = tt
 memory_err old new f (Err e) m = refused m
 
--- ---- a node counts, and then this comes
+-- ---- so much is counted, and then this comes
 
-module _ (old mid new : Evaluator) (h : Evaluator → Frame → ℕ → State → Res) (same : mid ≡ record old { work = mid.work })
-    (still : (z : ℕ) → h (record old { work = z }) ≡ h old) where
-  pub moved : (w : ℕ) → ran (store_seen mid w) (h mid (store_seen mid w).frame (store_seen mid w).left (state_seen mid w)) ≡ ran (store_seen old w) (h old (store_seen old w).frame (store_seen old w).left (state_seen old w))
-  moved w =
-      ap (λ (x : Evaluator). ran (store_seen x w) (h x (store_seen x w).frame (store_seen x w).left (state_seen x w))) same
-      ∙ ap (λ (k : Frame → ℕ → State → Res). ran (store_seen old w) (k (store_seen old w).frame (store_seen old w).left (state_seen old w))) (still mid.work)
+module _ (old new : Evaluator) (h : Frame → ℕ → State → Res) where
+  ahead : (k w : ℕ) → ran (store_seen old w) (h (frame_seen old.here) old.left (state_seen old (w + k))) ≡ ran (store_seen old (w + k)) (h (frame_seen old.here) old.left (state_seen old (w + k)))
+  ahead k w = sym (reran (store_seen old w) (state_seen old (w + k)) (store_seen old w).value (store_seen old w).parts (h (frame_seen old.here) old.left (state_seen old (w + k))))
 
-  ahead : (w : ℕ) → ran (store_seen old w) (h old (store_seen old w).frame (store_seen old w).left (state_seen old (w + 1))) ≡ ran (store_seen mid (w + 1)) (h mid (store_seen mid (w + 1)).frame (store_seen mid (w + 1)).left (state_seen mid (w + 1)))
-  ahead w =
-      sym (reran (store_seen old w) (state_seen old (w + 1)) (store_seen old w).value (store_seen old w).parts (h old (store_seen old w).frame (store_seen old w).left (state_seen old (w + 1))))
-      ∙ sym (moved (w + 1))
+  pub worked : (k : ℕ) → Comes old new (λ r. ran r (h r.frame r.left r.state)) → Comes old new (λ r. ran r (h r.frame r.left (record r.state { work = r.state.work + k })))
+  worked k c = record { by = λ w. ((c.by (w + k)).0, ap (λ g. go g (rest old)) (ahead k w) ∙ (c.by (w + k)).1) }
 
-  pub ticked : Comes mid new (λ r. ran r (h mid r.frame r.left r.state)) → Comes old new (λ r. ran r (h old r.frame r.left (tick r.state)))
-  ticked c =
-      record {
-        by = λ w. (
-          (c.by (w + 1)).0,
-          ap (λ g. go g (rest old)) (ahead w)
-              ∙ sym (ap (λ (k : Store → Goes). go (ran (store_seen mid (w + 1)) (h mid (store_seen mid (w + 1)).frame (store_seen mid (w + 1)).left (state_seen mid (w + 1)))) k) (ap (λ (x : Evaluator). rest x) same))
-              ∙ (c.by (w + 1)).1,
-        );
-      }
+  pub ticked : Comes old new (λ r. ran r (h r.frame r.left r.state)) → Comes old new (λ r. ran r (h r.frame r.left (tick r.state)))
+  ticked c = worked 1 c
 
-  pub ticked_halts : (e : Stop) → Halts mid new (λ r. ran r (h mid r.frame r.left r.state)) e → Halts old new (λ r. ran r (h old r.frame r.left (tick r.state))) e
+  pub ticked_halts : (e : Stop) → Halts old new (λ r. ran r (h r.frame r.left r.state)) e → Halts old new (λ r. ran r (h r.frame r.left (tick r.state))) e
   ticked_halts e (refused m) = refused m
-  ticked_halts e (trapped x m g) = trapped x m (λ w. ((g (w + 1)).0, ahead w ∙ (g (w + 1)).1))
-  ticked_halts e (cut m g) = cut m (λ w. ((g (w + 1)).0, ahead w ∙ (g (w + 1)).1))
+  ticked_halts e (trapped x m g) = trapped x m (λ w. ((g (w + 1)).0, ahead 1 w ∙ (g (w + 1)).1))
+  ticked_halts e (cut m g) = cut m (λ w. ((g (w + 1)).0, ahead 1 w ∙ (g (w + 1)).1))
 
 -- ---- first a value, or a statement after which all go on, and then a task
 
@@ -136,72 +123,72 @@ module _ (old new : Evaluator) where
 
 -- ---- statements one by one
 
-module _ (old mid new : Evaluator) (same : mid ≡ record old { work = mid.work }) where
-  pub declared : (xs : Bor (List TypedItem)) (set : List Bool) → First mid new (task.Items xs set) (task.Went set) → Comes old new (declares_all old (items_of xs.now) (flag_of set))
+module _ (old new : Evaluator) where
+  pub declared : (xs : Bor (List TypedItem)) (set : List Bool) → First old new (task.Items xs set) (task.Went set) → Comes old new (declares_all old (items_of xs.now) (flag_of set))
   declared xs set g =
-      ticked old mid new (λ e fr l s. all_go (flag_of set) (items (gang_width e.program.now.gang) fr (calls_at (program_of e.program.now) e.turns l) (items_of xs.now) (flag_of set) s)) same (λ z. refl)
-      (done_first mid new (task.Items xs set) set (λ r. items (gang_width mid.program.now.gang) r.frame (calls_at (program_of mid.program.now) mid.turns r.left) (items_of xs.now) (flag_of set) r.state) (λ r. refl) g)
+      ticked old new (λ fr l s. all_go (flag_of set) (items (gang_width old.program.now.gang) fr (calls_at (program_of old.program.now) old.turns l) (items_of xs.now) (flag_of set) s))
+      (done_first old new (task.Items xs set) set (λ r. items (gang_width old.program.now.gang) r.frame (calls_at (program_of old.program.now) old.turns r.left) (items_of xs.now) (flag_of set) r.state) (λ r. refl) g)
 
-  pub chosen : (b : Box Branches Global) (x : Bor TypedExpr) (y : Bor TypedStmt) (z : Option (Bor TypedStmt)) (set : List Bool) → b.value ≡ record { then = y; otherwise = z; set = set } → First mid new (task.Value x set) (task.Branch b) → Comes old new (chooses old (expr_of x.now) y z (flag_of set))
+  pub chosen : (b : Box Branches Global) (x : Bor TypedExpr) (y : Bor TypedStmt) (z : Option (Bor TypedStmt)) (set : List Bool) → b.value ≡ record { then = y; otherwise = z; set = set } → First old new (task.Value x set) (task.Branch b) → Comes old new (chooses old (expr_of x.now) y z (flag_of set))
   chosen b x y z set is g =
-      let k = λ (c : Branches) (e : Evaluator) (fr : Frame) (l : ℕ). branches (gang_width e.program.now.gang) (flag_of c.set) (run_in (program_of e.program.now) e.turns fr l (stmt_of c.then.now)) (perhaps_run (program_of e.program.now) e.turns fr l (option_map (λ (v : Bor TypedStmt). stmt_of v.now) c.otherwise)) in
-      ticked old mid new (λ e fr l s. with_value (value_at_in e fr l x set s) (k (record { then = y; otherwise = z; set = set }) e fr l)) same (λ _. refl)
-      (subst (λ (c : Branches). Comes mid new (λ r. ran r (with_value (value_at_in mid r.frame r.left x set r.state) (k c mid r.frame r.left)))) is
-      (value_first mid new x set (task.Branch b) (k b.value mid) (λ q. refl) g))
+      let k = λ (c : Branches) (fr : Frame) (l : ℕ). branches (gang_width old.program.now.gang) (flag_of c.set) (run_in (program_of old.program.now) old.turns fr l (stmt_of c.then.now)) (perhaps_run (program_of old.program.now) old.turns fr l (option_map (λ (v : Bor TypedStmt). stmt_of v.now) c.otherwise)) in
+      ticked old new (λ fr l s. with_value (value_at_in fr l x set s) (k (record { then = y; otherwise = z; set = set }) fr l))
+      (subst (λ (c : Branches). Comes old new (λ r. ran r (with_value (value_at_in r.frame r.left x set r.state) (k c r.frame r.left)))) is
+      (value_first old new x set (task.Branch b) (k b.value) (λ q. refl) g))
     where
-      value_at_in : Evaluator → Frame → ℕ → Bor TypedExpr → List Bool → State → Val Payload
-      value_at_in e fr l x set s = value_at (program_of e.program.now) e.turns (record { frame = fr; left = l; state = s; value = One 0; parts = all_parts nobody }) (expr_of x.now) (flag_of set) s
+      value_at_in : Frame → ℕ → Bor TypedExpr → List Bool → State → Val Payload
+      value_at_in fr l x set s = value_at (program_of old.program.now) old.turns (record { frame = fr; left = l; state = s; value = One 0; parts = all_parts nobody }) (expr_of x.now) (flag_of set) s
 
-  pub claimed : (x : Bor TypedExpr) (sp : Span) (set : List Bool) → First mid new (task.Value x set) (task.Assert sp set) → Comes old new (claims old (expr_of x.now) sp (flag_of set))
+  pub claimed : (x : Bor TypedExpr) (sp : Span) (set : List Bool) → First old new (task.Value x set) (task.Assert sp set) → Comes old new (claims old (expr_of x.now) sp (flag_of set))
   claimed x sp set g =
-      ticked old mid new (λ e fr l s. with_value (value_in e fr l x set s) (λ m s1. all_go (flag_of set) (checked (offender (gang_width e.program.now.gang) is_false (flag_of set) m) Assert sp s1 tt))) same (λ _. refl)
-      (value_first mid new x set (task.Assert sp set) (λ fr l m s1. all_go (flag_of set) (checked (offender (gang_width mid.program.now.gang) is_false (flag_of set) m) Assert sp s1 tt)) (λ q. refl) g)
+      ticked old new (λ fr l s. with_value (value_in fr l x set s) (λ m s1. all_go (flag_of set) (checked (offender (gang_width old.program.now.gang) is_false (flag_of set) m) Assert sp s1 tt)))
+      (value_first old new x set (task.Assert sp set) (λ fr l m s1. all_go (flag_of set) (checked (offender (gang_width old.program.now.gang) is_false (flag_of set) m) Assert sp s1 tt)) (λ q. refl) g)
     where
-      value_in : Evaluator → Frame → ℕ → Bor TypedExpr → List Bool → State → Val Payload
-      value_in e fr l x set s = value_at (program_of e.program.now) e.turns (record { frame = fr; left = l; state = s; value = One 0; parts = all_parts nobody }) (expr_of x.now) (flag_of set) s
+      value_in : Frame → ℕ → Bor TypedExpr → List Bool → State → Val Payload
+      value_in fr l x set s = value_at (program_of old.program.now) old.turns (record { frame = fr; left = l; state = s; value = One 0; parts = all_parts nobody }) (expr_of x.now) (flag_of set) s
 
-  pub jumped_away : (j : Jump) (set : List Bool) (sets : Sets) → ((s : State) → left_as (parts_seen sets) s ≡ jumped j (flag_of set) s) → new ≡ record mid { value = computed.One 0; sets = sets } → Comes old new (jumps old j (flag_of set))
+  pub jumped_away : (j : Jump) (set : List Bool) (sets : Sets) → ((s : State) → left_as (parts_seen sets) s ≡ jumped j (flag_of set) s) → new ≡ record old { value = computed.One 0; sets = sets } → Comes old new (jumps old j (flag_of set))
   jumped_away j set sets is left =
-      ticked old mid new (λ e fr l s. jumped j (flag_of set) s) same (λ _. refl)
-      (leaves mid new (λ r. ran r (jumped j (flag_of set) r.state)) sets (parts_seen sets) left refl (λ w. ap (ran (store_seen mid w)) (sym (is (state_seen mid w)))))
+      ticked old new (λ fr l s. jumped j (flag_of set) s)
+      (leaves old new (λ r. ran r (jumped j (flag_of set) r.state)) sets (parts_seen sets) left refl (λ w. ap (ran (store_seen old w)) (sym (is (state_seen old w)))))
 
-  pub gave_nothing : (x : Option (Bor TypedExpr)) (set : List Bool) (sets : Sets) → x ≡ None → parts_seen sets ≡ record { went = nobody; broke = nobody; continued = nobody; returned = flag_of set } → new ≡ record mid { value = computed.One 0; sets = sets } → Comes old new (gives old x (flag_of set))
+  pub gave_nothing : (x : Option (Bor TypedExpr)) (set : List Bool) (sets : Sets) → x ≡ None → parts_seen sets ≡ record { went = nobody; broke = nobody; continued = nobody; returned = flag_of set } → new ≡ record old { value = computed.One 0; sets = sets } → Comes old new (gives old x (flag_of set))
   gave_nothing x set sets none is left =
       subst (λ y. Comes old new (gives old y (flag_of set))) (sym none)
-      (ticked old mid new (λ e fr l s. Went s nobody nobody nobody (flag_of set)) same (λ _. refl)
-      (leaves mid new (λ r. ran r (Went r.state nobody nobody nobody (flag_of set))) sets _ left is (λ w. refl)))
+      (ticked old new (λ fr l s. Went s nobody nobody nobody (flag_of set))
+      (leaves old new (λ r. ran r (Went r.state nobody nobody nobody (flag_of set))) sets _ left is (λ w. refl)))
 
-  pub gave : (x : Option (Bor TypedExpr)) (y : Bor TypedExpr) (set : List Bool) → x ≡ Some y → First mid new (task.Value y set) (task.Answer set) → Comes old new (gives old x (flag_of set))
+  pub gave : (x : Option (Bor TypedExpr)) (y : Bor TypedExpr) (set : List Bool) → x ≡ Some y → First old new (task.Value y set) (task.Answer set) → Comes old new (gives old x (flag_of set))
   gave x y set some g =
       subst (λ z. Comes old new (gives old z (flag_of set))) (sym some)
-      (ticked old mid new (λ e fr l s. with_value (value_in e fr l y set s) (λ m s1. Went (answered fr.answer (flag_of set) m s1) nobody nobody nobody (flag_of set))) same (λ _. refl)
-      (value_first mid new y set (task.Answer set) (λ fr l m s1. Went (answered fr.answer (flag_of set) m s1) nobody nobody nobody (flag_of set)) (λ q. refl) g))
+      (ticked old new (λ fr l s. with_value (value_in fr l y set s) (λ m s1. Went (answered fr.answer (flag_of set) m s1) nobody nobody nobody (flag_of set)))
+      (value_first old new y set (task.Answer set) (λ fr l m s1. Went (answered fr.answer (flag_of set) m s1) nobody nobody nobody (flag_of set)) (λ q. refl) g))
     where
-      value_in : Evaluator → Frame → ℕ → Bor TypedExpr → List Bool → State → Val Payload
-      value_in e fr l x set s = value_at (program_of e.program.now) e.turns (record { frame = fr; left = l; state = s; value = One 0; parts = all_parts nobody }) (expr_of x.now) (flag_of set) s
+      value_in : Frame → ℕ → Bor TypedExpr → List Bool → State → Val Payload
+      value_in fr l x set s = value_at (program_of old.program.now) old.turns (record { frame = fr; left = l; state = s; value = One 0; parts = all_parts nobody }) (expr_of x.now) (flag_of set) s
 
 pub all_did : (old new : Evaluator) (x : Bor TypedSimple) (set : List Bool) → First old new (task.Simple x set) (task.Went set) → Comes old new (all_does old (simple_of x.now) (flag_of set))
 all_did old new x set g =
     done_first old new (task.Simple x set) set (λ r. simple (gang_width old.program.now.gang) r.frame (calls_in (program_of old.program.now) old.turns r) (simple_of x.now) (flag_of set) r.state) (λ r. refl) g
 
 -- a block over all instances, and then those that came
-pub unmasked : (old mid late new : Evaluator) (b : Bor TypedBlock) (all set : List Bool) → mid ≡ record old { work = mid.work } → late.tasks.items ≡ mid.tasks.items ++ task.Went set ∷ [] → late ≡ record mid { tasks = late.tasks } → flag_of all ≡ everyone (gang_width old.program.now.gang)
+pub unmasked : (old late new : Evaluator) (b : Bor TypedBlock) (all set : List Bool) → late.tasks.items ≡ old.tasks.items ++ task.Went set ∷ [] → late ≡ record old { tasks = late.tasks } → flag_of all ≡ everyone (gang_width old.program.now.gang)
     → Comes late new (blocks late (block_of b.now) (flag_of all)) → Comes old new (unmasks old (block_of b.now) (flag_of set))
-unmasked old mid late new b all set same i s is c =
-    ticked old mid new (λ e fr l s1. go_on (block_in e fr l s1) (λ s2 g b' c' q. went_all (flag_of set) s2)) same (λ _. refl)
+unmasked old late new b all set i s is c =
+    ticked old new (λ fr l s1. go_on (block_in fr l s1) (λ s2 g b' c' q. went_all (flag_of set) s2))
     (record {
       by = λ w.
-          let r = store_seen mid w in
-          let d = comes_then mid late new (task.Went set) (λ e. blocks e (block_of b.now) (everyone (gang_width old.program.now.gang))) i s (ap (λ (e : Evaluator). blocks e (block_of b.now) (everyone (gang_width old.program.now.gang))) s) (subst (λ a. Comes late new (blocks late (block_of b.now) a)) is c) in (
+          let r = store_seen old w in
+          let d = comes_then old late new (task.Went set) (λ e. blocks e (block_of b.now) (everyone (gang_width old.program.now.gang))) i s (ap (λ (e : Evaluator). blocks e (block_of b.now) (everyone (gang_width old.program.now.gang))) s) (subst (λ a. Comes late new (blocks late (block_of b.now) a)) is c) in (
             (d.by w).0,
-            then_ran r (block_in mid r.frame r.left r.state) (λ fr l s2 p. went_all (flag_of set) s2) (rest mid)
-                ∙ sym (go_assoc (blocks mid (block_of b.now) (everyone (gang_width old.program.now.gang)) r) (does mid (task.Went set)) (rest mid))
+            then_ran r (block_in r.frame r.left r.state) (λ fr l s2 p. went_all (flag_of set) s2) (rest old)
+                ∙ sym (go_assoc (blocks old (block_of b.now) (everyone (gang_width old.program.now.gang)) r) (does old (task.Went set)) (rest old))
                 ∙ (d.by w).1,
           );
     })
   where
-    block_in : Evaluator → Frame → ℕ → State → Res
-    block_in e fr l s1 = block_at (program_of e.program.now) e.turns (record { frame = fr; left = l; state = s1; value = One 0; parts = all_parts nobody }) (block_of b.now) (everyone (gang_width old.program.now.gang)) s1
+    block_in : Frame → ℕ → State → Res
+    block_in fr l s1 = block_at (program_of old.program.now) old.turns (record { frame = fr; left = l; state = s1; value = One 0; parts = all_parts nobody }) (block_of b.now) (everyone (gang_width old.program.now.gang)) s1
 
 -- the values come first, then the text
 with_then : {A : Type 0} (r : Store) (v : Val A) (k : A → State → Res) → go_with v (λ m s. ran r (k m s)) ≡ ran r (with_value v k)
@@ -209,83 +196,83 @@ with_then r (Gives m s) k = refl
 with_then r (Fails t s) k = refl
 with_then r (Stops s) k = refl
 
-pub printed : (old mid new : Evaluator) (text : Bor (List ℕ)) (xs : Bor (List TypedExpr)) (ms : List Computed) (set : List Bool) → mid ≡ record old { work = mid.work } → ms ≡ []
-    → Comes mid new (gather (program_of mid.program.now) mid.turns (gathering.Print text xs) (exprs_of xs.now) (map payload_of ms) (flag_of set)) → Comes old new (prints_all old text.now (exprs_of xs.now) (flag_of set))
-printed old mid new text xs ms set same none c =
-    ticked old mid new shown_in same (λ _. refl)
-    (comes_same mid new (λ r. ran r (shown_in mid r.frame r.left r.state)) (gather (program_of mid.program.now) mid.turns (gathering.Print text xs) (exprs_of xs.now) [] (flag_of set))
-    (λ w. let r = store_seen mid w in sym (with_then r (values (gang_width mid.program.now.gang) r.frame (calls_at (program_of mid.program.now) mid.turns r.left) (t_exprs (exprs_of xs.now)) (flag_of set) r.state) (λ ms s. shows mid text.now (exprs_of xs.now) (flag_of set) ms s)))
-    (subst (λ (ys : List Computed). Comes mid new (gather (program_of mid.program.now) mid.turns (gathering.Print text xs) (exprs_of xs.now) (map payload_of ys) (flag_of set))) none c))
+pub printed : (old new : Evaluator) (text : Bor (List ℕ)) (xs : Bor (List TypedExpr)) (ms : List Computed) (set : List Bool) → ms ≡ []
+    → Comes old new (gather (program_of old.program.now) old.turns (gathering.Print text xs) (exprs_of xs.now) (map payload_of ms) (flag_of set)) → Comes old new (prints_all old text.now (exprs_of xs.now) (flag_of set))
+printed old new text xs ms set none c =
+    ticked old new shown_in
+    (comes_same old new (λ r. ran r (shown_in r.frame r.left r.state)) (gather (program_of old.program.now) old.turns (gathering.Print text xs) (exprs_of xs.now) [] (flag_of set))
+    (λ w. let r = store_seen old w in sym (with_then r (values (gang_width old.program.now.gang) r.frame (calls_at (program_of old.program.now) old.turns r.left) (t_exprs (exprs_of xs.now)) (flag_of set) r.state) (λ ms s. shows old text.now (exprs_of xs.now) (flag_of set) ms s)))
+    (subst (λ (ys : List Computed). Comes old new (gather (program_of old.program.now) old.turns (gathering.Print text xs) (exprs_of xs.now) (map payload_of ys) (flag_of set))) none c))
   where
-    shown_in : Evaluator → Frame → ℕ → State → Res
-    shown_in e fr l s = with_value (values (gang_width e.program.now.gang) fr (calls_at (program_of e.program.now) e.turns l) (t_exprs (exprs_of xs.now)) (flag_of set) s) (λ ms s1. shows e text.now (exprs_of xs.now) (flag_of set) ms s1)
+    shown_in : Frame → ℕ → State → Res
+    shown_in fr l s = with_value (values (gang_width old.program.now.gang) fr (calls_at (program_of old.program.now) old.turns l) (t_exprs (exprs_of xs.now)) (flag_of set) s) (λ ms s1. shows old text.now (exprs_of xs.now) (flag_of set) ms s1)
 
 -- ---- loops
 
-module _ (old mid new : Evaluator) (same : mid ≡ record old { work = mid.work }) (set : List Bool) (test : Option (Bor TypedExpr)) (step : Option (Bor TypedSimple)) (body : Bor TypedStmt)
-    (t : Turning) (is : t ≡ record t { looping = looping test step body; all = set; live = set; left = mid.turns }) (none : flag_of t.returned ≡ nobody) where
-  abbrev tests_now : Evaluator → Frame → ℕ → State → Res
-  tests_now e fr l s = tested_in (program_of e.program.now) e.turns fr l (looping test step body) (flag_of set) e.turns (flag_of set) nobody s
+module _ (old new : Evaluator) (set : List Bool) (test : Option (Bor TypedExpr)) (step : Option (Bor TypedSimple)) (body : Bor TypedStmt)
+    (t : Turning) (is : t ≡ record t { looping = looping test step body; all = set; live = set; left = old.turns }) (none : flag_of t.returned ≡ nobody) where
+  abbrev tests_now : Frame → ℕ → State → Res
+  tests_now fr l s = tested_in (program_of old.program.now) old.turns fr l (looping test step body) (flag_of set) old.turns (flag_of set) nobody s
 
-  abbrev turns_now : Evaluator → Frame → ℕ → State → Res
-  turns_now e fr l s = turns_in (program_of e.program.now) e.turns fr l (looping test step body) (flag_of set) e.turns (flag_of set) nobody s
+  abbrev turns_now : Frame → ℕ → State → Res
+  turns_now fr l s = turns_in (program_of old.program.now) old.turns fr l (looping test step body) (flag_of set) old.turns (flag_of set) nobody s
 
-  as_tests : (r : Store) → tests_on mid t r ≡ ran r (tests_now mid r.frame r.left r.state)
+  as_tests : (r : Store) → tests_on old t r ≡ ran r (tests_now r.frame r.left r.state)
   as_tests r =
-      ap (λ (u : Turning). tests_on mid u r) is
-      ∙ ap (λ (q : Mask). ran r (tested_in (program_of mid.program.now) mid.turns r.frame r.left (looping test step body) (flag_of set) mid.turns (flag_of set) q r.state)) none
+      ap (λ (u : Turning). tests_on old u r) is
+      ∙ ap (λ (q : Mask). ran r (tested_in (program_of old.program.now) old.turns r.frame r.left (looping test step body) (flag_of set) old.turns (flag_of set) q r.state)) none
 
-  as_turns : (r : Store) → turns_on mid t r ≡ ran r (turns_now mid r.frame r.left r.state)
+  as_turns : (r : Store) → turns_on old t r ≡ ran r (turns_now r.frame r.left r.state)
   as_turns r =
-      ap (λ (u : Turning). turns_on mid u r) is
-      ∙ ap (λ (q : Mask). ran r (turns_in (program_of mid.program.now) mid.turns r.frame r.left (looping test step body) (flag_of set) mid.turns (flag_of set) q r.state)) none
+      ap (λ (u : Turning). turns_on old u r) is
+      ∙ ap (λ (q : Mask). ran r (turns_in (program_of old.program.now) old.turns r.frame r.left (looping test step body) (flag_of set) old.turns (flag_of set) q r.state)) none
 
-  pub enters_tests : Comes mid new (tests_on mid t) → Comes old new (enters old None test step body (flag_of set))
+  pub enters_tests : Comes old new (tests_on old t) → Comes old new (enters old None test step body (flag_of set))
   enters_tests c =
-      ticked old mid new tests_now same (λ _. refl)
-      (comes_same mid new (λ r. ran r (tests_now mid r.frame r.left r.state)) (tests_on mid t) (λ w. sym (as_tests (store_seen mid w))) c)
+      ticked old new tests_now
+      (comes_same old new (λ r. ran r (tests_now r.frame r.left r.state)) (tests_on old t) (λ w. sym (as_tests (store_seen old w))) c)
 
-  pub enters_tests_halts : (e : Stop) → Halts mid new (tests_on mid t) e → Halts old new (enters old None test step body (flag_of set)) e
+  pub enters_tests_halts : (e : Stop) → Halts old new (tests_on old t) e → Halts old new (enters old None test step body (flag_of set)) e
   enters_tests_halts e h =
-      ticked_halts old mid new tests_now same (λ _. refl) e
-      (halts_same mid new (λ r. ran r (tests_now mid r.frame r.left r.state)) (tests_on mid t) e (λ w. sym (as_tests (store_seen mid w))) h)
+      ticked_halts old new tests_now e
+      (halts_same old new (λ r. ran r (tests_now r.frame r.left r.state)) (tests_on old t) e (λ w. sym (as_tests (store_seen old w))) h)
 
-  pub enters_turns : step ≡ None → Comes mid new (turns_on mid t) → Comes old new (enters_by_turn old test body (flag_of set))
+  pub enters_turns : step ≡ None → Comes old new (turns_on old t) → Comes old new (enters_by_turn old test body (flag_of set))
   enters_turns isnt c =
-      comes_same old new (enters_by_turn old test body (flag_of set)) (λ r. ran r (turns_now old r.frame r.left (tick r.state)))
+      comes_same old new (enters_by_turn old test body (flag_of set)) (λ r. ran r (turns_now r.frame r.left (tick r.state)))
       (λ w. ap (λ (k : Option (Bor TypedSimple)). ran (store_seen old w) (turns_in (program_of old.program.now) old.turns (store_seen old w).frame (store_seen old w).left (looping test k body) (flag_of set) old.turns (flag_of set) nobody (state_seen old (w + 1)))) (sym isnt))
-      (ticked old mid new turns_now same (λ _. refl)
-      (comes_same mid new (λ r. ran r (turns_now mid r.frame r.left r.state)) (turns_on mid t) (λ w. sym (as_turns (store_seen mid w))) c))
+      (ticked old new turns_now
+      (comes_same old new (λ r. ran r (turns_now r.frame r.left r.state)) (turns_on old t) (λ w. sym (as_turns (store_seen old w))) c))
 
-  pub enters_turns_halts : step ≡ None → (e : Stop) → Halts mid new (turns_on mid t) e → Halts old new (enters_by_turn old test body (flag_of set)) e
+  pub enters_turns_halts : step ≡ None → (e : Stop) → Halts old new (turns_on old t) e → Halts old new (enters_by_turn old test body (flag_of set)) e
   enters_turns_halts isnt e h =
-      halts_same old new (enters_by_turn old test body (flag_of set)) (λ r. ran r (turns_now old r.frame r.left (tick r.state))) e
+      halts_same old new (enters_by_turn old test body (flag_of set)) (λ r. ran r (turns_now r.frame r.left (tick r.state))) e
       (λ w. ap (λ (k : Option (Bor TypedSimple)). ran (store_seen old w) (turns_in (program_of old.program.now) old.turns (store_seen old w).frame (store_seen old w).left (looping test k body) (flag_of set) old.turns (flag_of set) nobody (state_seen old (w + 1)))) (sym isnt))
-      (ticked_halts old mid new turns_now same (λ _. refl) e
-      (halts_same mid new (λ r. ran r (turns_now mid r.frame r.left r.state)) (turns_on mid t) e (λ w. sym (as_turns (store_seen mid w))) h))
+      (ticked_halts old new turns_now e
+      (halts_same old new (λ r. ran r (turns_now r.frame r.left r.state)) (turns_on old t) e (λ w. sym (as_turns (store_seen old w))) h))
 
   -- a first part comes before the test
-  pub enters_first : (late : Evaluator) (x : Option (Bor TypedFirst)) (b : Box Turning Global) → b.value ≡ t → late.tasks.items ≡ mid.tasks.items ++ task.Test b ∷ [] → late ≡ record mid { tasks = late.tasks }
+  pub enters_first : (late : Evaluator) (x : Option (Bor TypedFirst)) (b : Box Turning Global) → b.value ≡ t → late.tasks.items ≡ old.tasks.items ++ task.Test b ∷ [] → late ≡ record old { tasks = late.tasks }
       → Comes late new (firsts late x (flag_of set)) → Comes old new (enters old x test step body (flag_of set))
   enters_first late x b held i s c =
-      ticked old mid new (λ e fr l s1. with_value (first_in e fr l x (flag_of set) s1) (λ _ s2. tests_now e fr l s2)) same (λ _. refl)
+      ticked old new (λ fr l s1. with_value (first_in old fr l x (flag_of set) s1) (λ _ s2. tests_now fr l s2))
       (record {
         by = λ w.
-            let r = store_seen mid w in
-            let v = first_in mid r.frame r.left x (flag_of set) r.state in
-            let d = comes_then mid late new (task.Test b) (λ e. firsts e x (flag_of set)) i s (ap (λ (e : Evaluator). firsts e x (flag_of set)) s) c in (
+            let r = store_seen old w in
+            let v = first_in old r.frame r.left x (flag_of set) r.state in
+            let d = comes_then old late new (task.Test b) (λ e. firsts e x (flag_of set)) i s (ap (λ (e : Evaluator). firsts e x (flag_of set)) s) c in (
               (d.by w).0,
-              done_ran r v (tests_now mid) (rest mid)
-                  ∙ after (done r v) (rest mid)
-                  ∙ sym (go_assoc (done r v) (does mid (task.Test b)) (rest mid))
+              done_ran r v tests_now (rest old)
+                  ∙ after (done r v) (rest old)
+                  ∙ sym (go_assoc (done r v) (does old (task.Test b)) (rest old))
                   ∙ (d.by w).1,
             );
       })
     where
-      test_is : (q : Store) → does mid (task.Test b) q ≡ ran q (tests_now mid q.frame q.left q.state)
-      test_is q = ap (λ (u : Turning). tests_on mid u q) held ∙ as_tests q
+      test_is : (q : Store) → does old (task.Test b) q ≡ ran q (tests_now q.frame q.left q.state)
+      test_is q = ap (λ (u : Turning). tests_on old u q) held ∙ as_tests q
 
-      after : (g : Goes) (next : Store → Goes) → go g (λ q. go (ran q (tests_now mid q.frame q.left q.state)) next) ≡ go g (λ q. go (does mid (task.Test b) q) next)
+      after : (g : Goes) (next : Store → Goes) → go g (λ q. go (ran q (tests_now q.frame q.left q.state)) next) ≡ go g (λ q. go (does old (task.Test b) q) next)
       after (On q) next = ap (λ k. go k next) (sym (test_is q))
       after (Trapped x1 s1) next = refl
       after (Goes.Cut s1) next = refl
@@ -310,18 +297,17 @@ module _ (old : Evaluator) (set : List Bool) where
       part : TypedFirst → ℕ → Goes
       part f w = done (store_seen old w) (first_part (gang_width old.program.now.gang) (store_seen old w).frame (calls_at (program_of old.program.now) old.turns (store_seen old w).left) (Some (first_of f)) (flag_of set) (state_seen old w))
 
-  pub first_items : (mid new : Evaluator) (y : Bor TypedFirst) (v : Vec TypedItem Global) (sp : Span) (xs : Bor (List TypedItem)) → mid ≡ record old { work = mid.work } → y.now ≡ first.Declare v sp → xs.now ≡ v.items
-      → new.tasks.items ≡ mid.tasks.items ++ task.Items xs set ∷ [] → new ≡ record mid { tasks = new.tasks } → Comes old new (firsts old (Some y) (flag_of set))
-  first_items mid new y v sp xs same is all i s =
+  pub first_items : (new : Evaluator) (y : Bor TypedFirst) (v : Vec TypedItem Global) (sp : Span) (xs : Bor (List TypedItem)) → y.now ≡ first.Declare v sp → xs.now ≡ v.items
+      → new.tasks.items ≡ old.tasks.items ++ task.Items xs set ∷ [] → new ≡ record old { tasks = new.tasks } → Comes old new (firsts old (Some y) (flag_of set))
+  first_items new y v sp xs is all i s =
       (record {
         by = λ w.
-            let c = pushes mid new (task.Items xs set) i s in
+            let c = pushes old new (task.Items xs set) i s in
             let r = store_seen old w in (
               (c.by (w + 1)).0,
               ap (λ (f : TypedFirst). go (part f w) (rest old)) is
                   ∙ ap (λ (ys : List TypedItem). go (done r (items (gang_width old.program.now.gang) r.frame (calls_at (program_of old.program.now) old.turns r.left) (items_of ys) (flag_of set) (state_seen old (w + 1)))) (rest old)) (sym all)
                   ∙ ap (λ g. go g (rest old)) (sym (redone r (state_seen old (w + 1)) r.value (items (gang_width old.program.now.gang) r.frame (calls_at (program_of old.program.now) old.turns r.left) (items_of xs.now) (flag_of set) (state_seen old (w + 1)))))
-                  ∙ sym (ap (λ (k : Evaluator). go (does k (task.Items xs set) (store_seen k (w + 1))) (rest k)) same)
                   ∙ (c.by (w + 1)).1,
             );
       })

@@ -148,28 +148,26 @@ write_in old (writing.Assign x) p q a r t m s = refl
 write_in old (writing.Update op e x sp) p q a r t m s = refl
 write_in old (writing.Step op e sp) p q a r t m s = refl
 
-pub target_variable : (old mid new : Evaluator) (p : Bor TypedPlace) (set : List Bool) (w : Writing) (v : ℕ) (t : Ty) (sp : Span) → place_of p.now ≡ t_variable v t sp → mid ≡ record old { work = mid.work } → Comes mid new (writes mid w (place_of p.now) (Variable v t) (flag_of set)) → Comes old new (targets old w (place_of p.now) (flag_of set))
-target_variable old mid new p set w v t sp is same c =
+pub target_variable : (old new : Evaluator) (p : Bor TypedPlace) (set : List Bool) (w : Writing) (v : ℕ) (t : Ty) (sp : Span) → place_of p.now ≡ t_variable v t sp → Comes old new (writes old w (place_of p.now) (Variable v t) (flag_of set)) → Comes old new (targets old w (place_of p.now) (flag_of set))
+target_variable old new p set w v t sp is c =
     record {
       by = λ n. (
         (c.by (n + 1)).0,
         ap (λ k. go (done (store_seen old n) (bind (place (gang_width old.program.now.gang) (frame_seen old.here) (calls_in (program_of old.program.now) old.turns (store_seen old n)) k (flag_of set) (state_seen old n)) (λ q s. write (program_of old.program.now) old.turns w (place_of p.now) q (flag_of set) (store_seen old n) s))) (rest old)) is
             ∙ ap (λ u. go (done (store_seen old n) u) (rest old)) (write_in old w (place_of p.now) (Variable v t) (flag_of set) (store_seen old n) (state_seen old (n + 1)) (payload_of old.value) (state_seen old (n + 1)))
-            ∙ sym (ap (λ (e : Evaluator). go (writes e w (place_of p.now) (Variable v t) (flag_of set) (store_seen e (n + 1))) (rest e)) same)
             ∙ (c.by (n + 1)).1,
       );
     }
 
-pub target_variable_halts : (old mid new : Evaluator) (p : Bor TypedPlace) (set : List Bool) (w : Writing) (v : ℕ) (t : Ty) (sp : Span) (e : Stop) → place_of p.now ≡ t_variable v t sp → mid ≡ record old { work = mid.work } → Halts mid new (writes mid w (place_of p.now) (Variable v t) (flag_of set)) e → Halts old new (targets old w (place_of p.now) (flag_of set)) e
-target_variable_halts old mid new p set w v t sp e is same h = by h
+pub target_variable_halts : (old new : Evaluator) (p : Bor TypedPlace) (set : List Bool) (w : Writing) (v : ℕ) (t : Ty) (sp : Span) (e : Stop) → place_of p.now ≡ t_variable v t sp → Halts old new (writes old w (place_of p.now) (Variable v t) (flag_of set)) e → Halts old new (targets old w (place_of p.now) (flag_of set)) e
+target_variable_halts old new p set w v t sp e is h = by h
   where
-    step : (n : ℕ) → targets old w (place_of p.now) (flag_of set) (store_seen old n) ≡ writes mid w (place_of p.now) (Variable v t) (flag_of set) (store_seen mid (n + 1))
+    step : (n : ℕ) → targets old w (place_of p.now) (flag_of set) (store_seen old n) ≡ writes old w (place_of p.now) (Variable v t) (flag_of set) (store_seen old (n + 1))
     step n =
         ap (λ k. done (store_seen old n) (bind (place (gang_width old.program.now.gang) (frame_seen old.here) (calls_in (program_of old.program.now) old.turns (store_seen old n)) k (flag_of set) (state_seen old n)) (λ q s. write (program_of old.program.now) old.turns w (place_of p.now) q (flag_of set) (store_seen old n) s))) is
         ∙ ap (done (store_seen old n)) (write_in old w (place_of p.now) (Variable v t) (flag_of set) (store_seen old n) (state_seen old (n + 1)) (payload_of old.value) (state_seen old (n + 1)))
-        ∙ sym (ap (λ (k : Evaluator). writes k w (place_of p.now) (Variable v t) (flag_of set) (store_seen k (n + 1))) same)
 
-    by : Halts mid new (writes mid w (place_of p.now) (Variable v t) (flag_of set)) e → Halts old new (targets old w (place_of p.now) (flag_of set)) e
+    by : Halts old new (writes old w (place_of p.now) (Variable v t) (flag_of set)) e → Halts old new (targets old w (place_of p.now) (flag_of set)) e
     by (refused r) = refused r
     by (trapped x i g) = trapped x i (λ n. ((g (n + 1)).0, step n ∙ (g (n + 1)).1))
     by (cut i g) = cut i (λ n. ((g (n + 1)).0, step n ∙ (g (n + 1)).1))
@@ -210,45 +208,43 @@ forgotten r (Gives m s) next = refl
 forgotten r (Fails t s) next = refl
 forgotten r (Stops s) next = refl
 
-module _ (old mid new : Evaluator) (x : Bor TypedSimple) (set : List Bool) (same : mid ≡ record old { work = mid.work }) where
+module _ (old new : Evaluator) (x : Bor TypedSimple) (set : List Bool) where
   abbrev pub simply : TSimple → ℕ → Goes
   simply n w = done (store_seen old w) (simple (gang_width old.program.now.gang) (frame_seen old.here) (calls_in (program_of old.program.now) old.turns (store_seen old w)) n (flag_of set) (state_seen old w))
 
-  pub simple_value : (y : Bor TypedExpr) → simple_of x.now ≡ t_value (expr_of y.now) → First mid new (task.Value y set) task.Forget → Does old new (task.Simple x set)
+  pub simple_value : (y : Bor TypedExpr) → simple_of x.now ≡ t_value (expr_of y.now) → First old new (task.Value y set) task.Forget → Does old new (task.Simple x set)
   simple_value y is f =
       record {
         by = λ w. (
           w + 1,
           ap (λ n. go (simply n w) (rest old)) is
               ∙ forgotten (store_seen old (w + 1)) (value_at (program_of old.program.now) old.turns (store_seen old (w + 1)) (expr_of y.now) (flag_of set) (state_seen old (w + 1))) (rest old)
-              ∙ sym (ap (λ (e : Evaluator). go (does e (task.Value y set) (store_seen e (w + 1))) (λ q. go (does e task.Forget q) (rest e))) same)
               ∙ sym (f.by (w + 1)),
         );
       }
 
-  pub simple_call : (c : Bor TypedCall) → simple_of x.now ≡ t_run (call_of c.now) → First mid new (task.Call c set) task.Forget → Does old new (task.Simple x set)
+  pub simple_call : (c : Bor TypedCall) → simple_of x.now ≡ t_run (call_of c.now) → First old new (task.Call c set) task.Forget → Does old new (task.Simple x set)
   simple_call c is f =
       record {
         by = λ w. (
           w + 1,
           ap (λ n. go (simply n w) (rest old)) is
               ∙ forgotten (store_seen old (w + 1)) (call (gang_width old.program.now.gang) (frame_seen old.here) (calls_in (program_of old.program.now) old.turns (store_seen old w)) (call_of c.now) (flag_of set) (state_seen old (w + 1))) (rest old)
-              ∙ sym (ap (λ (e : Evaluator). go (does e (task.Call c set) (store_seen e (w + 1))) (λ q. go (does e task.Forget q) (rest e))) same)
               ∙ sym (f.by (w + 1)),
         );
       }
 
-  targeted : (p : TPlace) (w : Writing) (n : TSimple) → simple_of x.now ≡ n → ((k : ℕ) → simply n k ≡ targets old w p (flag_of set) (store_seen old (k + 1))) → (k : ℕ) → does old (task.Simple x set) (store_seen old k) ≡ targets mid w p (flag_of set) (store_seen mid (k + 1))
-  targeted p w n is whole k = ap (λ m. simply m k) is ∙ whole k ∙ sym (ap (λ (e : Evaluator). targets e w p (flag_of set) (store_seen e (k + 1))) same)
+  targeted : (p : TPlace) (w : Writing) (n : TSimple) → simple_of x.now ≡ n → ((k : ℕ) → simply n k ≡ targets old w p (flag_of set) (store_seen old (k + 1))) → (k : ℕ) → does old (task.Simple x set) (store_seen old k) ≡ targets old w p (flag_of set) (store_seen old (k + 1))
+  targeted p w n is whole k = ap (λ m. simply m k) is ∙ whole k
 
-  pub simple_target : (p : TPlace) (w : Writing) (n : TSimple) → simple_of x.now ≡ n → ((k : ℕ) → simply n k ≡ targets old w p (flag_of set) (store_seen old (k + 1))) → Comes mid new (targets mid w p (flag_of set)) → Does old new (task.Simple x set)
+  pub simple_target : (p : TPlace) (w : Writing) (n : TSimple) → simple_of x.now ≡ n → ((k : ℕ) → simply n k ≡ targets old w p (flag_of set) (store_seen old (k + 1))) → Comes old new (targets old w p (flag_of set)) → Does old new (task.Simple x set)
   simple_target p w n is whole c =
-      record { by = λ k. ((c.by (k + 1)).0, ap (λ g. go g (rest old)) (targeted p w n is whole k) ∙ sym (ap (λ (e : Evaluator). go (targets mid w p (flag_of set) (store_seen mid (k + 1))) (rest e)) same) ∙ (c.by (k + 1)).1) }
+      record { by = λ k. ((c.by (k + 1)).0, ap (λ g. go g (rest old)) (targeted p w n is whole k) ∙ (c.by (k + 1)).1) }
 
-  pub simple_target_halts : (p : TPlace) (w : Writing) (n : TSimple) (e : Stop) → simple_of x.now ≡ n → ((k : ℕ) → simply n k ≡ targets old w p (flag_of set) (store_seen old (k + 1))) → Halts mid new (targets mid w p (flag_of set)) e → Halts old new (does old (task.Simple x set)) e
+  pub simple_target_halts : (p : TPlace) (w : Writing) (n : TSimple) (e : Stop) → simple_of x.now ≡ n → ((k : ℕ) → simply n k ≡ targets old w p (flag_of set) (store_seen old (k + 1))) → Halts old new (targets old w p (flag_of set)) e → Halts old new (does old (task.Simple x set)) e
   simple_target_halts p w n e is whole h = by h
     where
-      by : Halts mid new (targets mid w p (flag_of set)) e → Halts old new (does old (task.Simple x set)) e
+      by : Halts old new (targets old w p (flag_of set)) e → Halts old new (does old (task.Simple x set)) e
       by (refused r) = refused r
       by (trapped t i g) = trapped t i (λ k. ((g (k + 1)).0, targeted p w n is whole k ∙ (g (k + 1)).1))
       by (cut i g) = cut i (λ k. ((g (k + 1)).0, targeted p w n is whole k ∙ (g (k + 1)).1))
@@ -280,19 +276,18 @@ one_item old mid new xs ys x set is l c =
       );
     }
 
-module _ (old mid : Evaluator) (x : TypedItem) (set : List Bool) (same : mid ≡ record old { work = mid.work }) where
+module _ (old : Evaluator) (x : TypedItem) (set : List Bool) where
   -- an item that changes the state at once
   pub item_changes : (new : Evaluator) (n : TItem) (f : State → State) → item_of x ≡ n
       → ((w : ℕ) → item (gang_width old.program.now.gang) (frame_seen old.here) (calls_in (program_of old.program.now) old.turns (store_seen old w)) n (flag_of set) (state_seen old w) ≡ Gives tt (f (state_seen old (w + 1))))
-      → Changes mid new f → Comes old (record new { value = computed.One 0 }) (declares old (item_of x) (flag_of set))
+      → Changes old new f → Comes old (record new { value = computed.One 0 }) (declares old (item_of x) (flag_of set))
   item_changes new n f is whole c =
       record {
         by = λ w. (
           w + 1,
           ap (λ m. go (done (store_seen old w) (item (gang_width old.program.now.gang) (frame_seen old.here) (calls_in (program_of old.program.now) old.turns (store_seen old w)) m (flag_of set) (state_seen old w))) (rest old)) is
               ∙ ap (λ v. go (done (store_seen old w) v) (rest old)) (whole w)
-              ∙ sym (ap (λ (e : Evaluator). rest e (record (store_seen e (w + 1)) { state = f (state_seen e (w + 1)); value = One 0 })) same)
-              ∙ sym (ap₂ (λ (h : Store → Goes) (r : Store). h (record r { value = One 0 })) (changed_rest mid new f c) (changed_store mid new f c (w + 1))),
+              ∙ sym (ap₂ (λ (h : Store → Goes) (r : Store). h (record r { value = One 0 })) (changed_rest old new f c) (changed_store old new f c (w + 1))),
         );
       }
 

@@ -8,7 +8,7 @@ use Rattle.isp_typed.specs.Views.{function_of, functions_of, program_of}
 use Rattle.isp_typed.specs.declared.function.Program.{Program}
 use Rattle.isp_typed.specs.declared.function.TypedFunction.{TypedFunction}
 use Rattle.isp_meaning.specs.Entries.{IsEntry}
-use Rattle.isp_eval.specs.Entered.{Begins, Can, NoneBegins}
+use Rattle.isp_eval.specs.Entered.{Begins, BeginsWith, Can, NoneBegins}
 
 there : (fs : List TypedFunction) (f : ℕ) (x : TypedFunction) → f < length fs → x ≡ get_or fs f x → slice_get (functions_of fs) f ≡ Some (function_of x)
 there [] f x h e = absurd (omega (arith, h))
@@ -22,8 +22,8 @@ past (y ∷ fs) zero h = absurd (omega (arith, h))
 past (y ∷ fs) (suc f) h = past fs f (omega (arith, h))
 
 module _ (p : Program) (name : List ℕ) (xs : List Argument) where
-  pub begins_at : (f : ℕ) (x : TypedFunction) → f < length p.functions.items → x ≡ get_or p.functions.items f x → Can (function_of x) name xs → Begins (program_of p) name xs f
-  begins_at f x h e c = (function_of x, record { export = record { found = there p.functions.items f x h e; named = c.1; exported = c.0 }; fits = c.2 })
+  pub begins_at : (f : ℕ) (x : TypedFunction) → f < length p.functions.items → x ≡ get_or p.functions.items f x → Can (function_of x) name xs → BeginsWith (program_of p) name xs (function_of x)
+  begins_at f x h e c = (f, record { export = record { found = there p.functions.items f x h e; named = c.1; exported = c.0 }; fits = c.2 })
 
   can_of : (g h : TFunction) (f : ℕ) → g ≡ h → IsEntry (program_of p) name xs f h → Can g name xs
   can_of g h f e i = subst (λ (k : TFunction). Can k name xs) (sym e) (i.export.exported, i.export.named, i.fits)

@@ -111,9 +111,9 @@ module _ (old new : Evaluator) where
 block_view : (b : TypedBlock) → block_of b ≡ t_braces (t_stmts (stmts_of b.statements.items)) b.span
 block_view b = fold_out-TypedBlock TStmt TBlock stmt_step block_step b
 
-pub block_comes : (old mid new : Evaluator) (b : Bor TypedBlock) (set : List Bool) (xs : List TypedStmt) (e : Exits) → mid ≡ record old { work = mid.work } → xs ≡ b.now.statements.items → flag_of e.broke ≡ nobody → flag_of e.continued ≡ nobody → flag_of e.returned ≡ nobody
-    → Comes mid new (runs_all mid xs e (flag_of set)) → Comes old new (blocks old (block_of b.now) (flag_of set))
-block_comes old mid new b set xs e same all eb ec eq c =
+pub block_comes : (old new : Evaluator) (b : Bor TypedBlock) (set : List Bool) (xs : List TypedStmt) (e : Exits) → xs ≡ b.now.statements.items → flag_of e.broke ≡ nobody → flag_of e.continued ≡ nobody → flag_of e.returned ≡ nobody
+    → Comes old new (runs_all old xs e (flag_of set)) → Comes old new (blocks old (block_of b.now) (flag_of set))
+block_comes old new b set xs e all eb ec eq c =
     record {
       by = λ w.
           let r = store_seen old w in
@@ -123,7 +123,6 @@ block_comes old mid new b set xs e same all eb ec eq c =
                 ∙ ap (λ v. go (ran r v) (rest old)) (sym (nobody_left e eb ec eq (f (state_seen old (w + 1)))))
                 ∙ ap (λ g. go g (rest old)) (sym (reran r (state_seen old (w + 1)) r.value r.parts (go_on (f (state_seen old (w + 1))) (left_too e))))
                 ∙ ap (λ (ys : List TypedStmt). go (runs_all old ys e (flag_of set) (store_seen old (w + 1))) (rest old)) (sym all)
-                ∙ sym (ap (λ (x : Evaluator). go (runs_all x xs e (flag_of set) (store_seen x (w + 1))) (rest x)) same)
                 ∙ (c.by (w + 1)).1,
           );
     }

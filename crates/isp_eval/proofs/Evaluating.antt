@@ -1,6 +1,5 @@
 -- An evaluation is a run of the function that was found.
-use Rattle.std.proofs.Common.{◌≡◌, refl, sym, ap, subst, ◌∙◌, ℕ, zero, suc, ◌-◌, List, [], ◌∷◌, Option, Some, None, Result, Ok, Err, OnOk, IfErr, IfOk}
-use Rattle.std.specs.Prelude.{option_map, slice_get}
+use Rattle.std.proofs.Common.{◌≡◌, sym, ap, subst, ◌∙◌, ℕ, ◌-◌, List, Option, Result, Ok, Err, OnOk, IfErr, IfOk}
 use Rattle.isp_base.specs.Arguments.{rows}
 use Rattle.isp_base.specs.Sets.{everyone}
 use Rattle.isp_base.specs.Types.{gang_width}
@@ -8,7 +7,7 @@ use Rattle.isp_base.specs.declared.signature.Argument.{Argument}
 use Rattle.isp_lex.specs.declared.fault.Fault.{Fault}
 use Rattle.isp_typed.specs.Fine.{IsFine}
 use Rattle.isp_typed.specs.Typed.{TFunction}
-use Rattle.isp_typed.specs.Views.{function_of, functions_of, program_of}
+use Rattle.isp_typed.specs.Views.{function_of, program_of}
 use Rattle.isp_typed.specs.declared.function.Program.{Program}
 use Rattle.isp_typed.specs.declared.function.TypedFunction.{TypedFunction}
 use Rattle.isp_rates.specs.Program.{ProgramBreach}
@@ -17,7 +16,7 @@ use Rattle.isp_meaning.specs.Outcomes.{Val}
 use Rattle.isp_meaning.specs.Payloads.{Payload}
 use Rattle.isp_meaning.specs.Runs.{gives_of, handed, meaning, outcome_of, state_of}
 use Rattle.isp_eval.specs.Ends.{Ends}
-use Rattle.isp_eval.specs.Entered.{Begins}
+use Rattle.isp_eval.specs.Entered.{BeginsWith}
 use Rattle.isp_eval.specs.Evaluated.{IsRun, outcome_seen}
 use Rattle.isp_fits.specs.Fits.{RowsFit}
 use Rattle.isp_eval.specs.Passing.{does_call}
@@ -32,36 +31,20 @@ use Rattle.isp_eval.specs.declared.state.Stop.{Stop}
 use Rattle.isp_eval.proofs.Calling.{run_stands}
 use Rattle.isp_fits.proofs.Runs.{elements_fit}
 
-got : (fs : List TypedFunction) (k : ℕ) → slice_get (functions_of fs) k ≡ option_map function_of (slice_get fs k)
-got [] k = refl
-got (x ∷ fs) zero = refl
-got (x ∷ fs) (suc k) = got fs k
-
--- a function with which a run begins is there
-pub begins_there : (p : Program) (name : List ℕ) (xs : List Argument) (k : ℕ)
-    → slice_get p.functions.items k ≡ None → Begins (program_of p) name xs k → ⊥
-begins_there p name xs k none b = some_none b.0 (sym b.1.export.found ∙ got p.functions.items k ∙ ap (option_map function_of) none)
-  where
-    some_none : (h : TFunction) → Some h ≡ None → ⊥
-    some_none h e = cc
-
 ok_more : {A E : Type 0} {P Q : A → Type 0} (r : Result A E) → ((a : A) → P a → Q a) → IfOk r P → IfOk r Q
 ok_more (Ok a) f h = f a h
 ok_more (Err e) f h = tt
 
-module _ (p q : Program) (same : p ≡ q) (name : List ℕ) (k n : ℕ) (g : TypedFunction) (there : slice_get p.functions.items k ≡ Some g) where
-  found : slice_get (functions_of p.functions.items) k ≡ Some (function_of g)
-  found = got p.functions.items k ∙ ap (option_map function_of) there
-
-  run_is : (xs : List Argument) (o : Outcome) → Begins (program_of p) name xs k
-      → outcome_seen o ≡ outcome_of (function_of g).gives xs (meaning (program_of p) k n xs) → IsRun (program_of q) name xs n o
+module _ (p q : Program) (same : p ≡ q) (name : List ℕ) (n : ℕ) (g : TypedFunction) where
+  run_is : (xs : List Argument) (o : Outcome) (b : BeginsWith (program_of p) name xs (function_of g))
+      → outcome_seen o ≡ outcome_of (function_of g).gives xs (meaning (program_of p) b.0 n xs) → IsRun (program_of q) name xs n o
   run_is xs o b is =
       subst (λ (z : Program). IsRun (program_of z) name xs n o) same
-      (k, b, is ∙ ap (λ (f : Option TFunction). outcome_of (gives_of f) xs (meaning (program_of p) k n xs)) (sym found))
+      (b.0, (function_of g, b.1), is ∙ ap (λ (f : Option TFunction). outcome_of (gives_of f) xs (meaning (program_of p) b.0 n xs)) (sym b.1.export.found))
 
   pub evaluated : (xs ys : List Argument) (e new : Evaluator) (ps : List Passed) (r : Result (Unit {0}) Stop) (o : Result Outcome EvalFault)
       → ys ≡ xs
-      → IsFine (program_of q) → ((f : Fault) → ProgramBreach (program_of p) f → ⊥) → Begins (program_of p) name xs k
+      → IsFine (program_of q) → ((f : Fault) → ProgramBreach (program_of p) f → ⊥) → BeginsWith (program_of p) name xs (function_of g)
       → Starts (program_of p) n ys e → ArgumentsFit ys → ps ≡ handed 0 ys
       → OnOk r (Ends e new (does_call e (e.left - 1) (function_of g) (everyone (gang_width e.program.now.gang)) ps))
       → IfErr r (Halts e new (does_call e (e.left - 1) (function_of g) (everyone (gang_width e.program.now.gang)) ps))
@@ -69,8 +52,8 @@ module _ (p q : Program) (same : p ≡ q) (name : List ℕ) (k n : ℕ) (g : Typ
       → outcome_seen a ≡ outcome_of (function_of g).gives ys v)
       → IfOk o (IsRun (program_of q) name xs n)
   evaluated xs ys e new ps r o given fine sound begins starts fits passed ended halted outcome =
-      let b = subst (λ (zs : List Argument). Begins (program_of p) name zs k) (sym given) begins in
-      let v = meaning (program_of p) k n ys in
-      let stands = run_stands e (program_of p) n ys (function_of g) k ps starts found passed new r ended halted in
-      let fit = elements_fit (program_of p) k b.0 ys n (subst (λ (z : Program). IsFine (program_of z)) (sym same) fine) sound b.1.export.found b.1.fits fits in
+      let b = subst (λ (zs : List Argument). BeginsWith (program_of p) name zs (function_of g)) (sym given) begins in
+      let v = meaning (program_of p) b.0 n ys in
+      let stands = run_stands e (program_of p) n ys (function_of g) b.0 ps starts b.1.export.found passed new r ended halted in
+      let fit = elements_fit (program_of p) b.0 (function_of g) ys n (subst (λ (z : Program). IsFine (program_of z)) (sym same) fine) sound b.1.export.found b.1.fits fits in
       subst (λ (zs : List Argument). IfOk o (IsRun (program_of q) name zs n)) given (ok_more o (λ a is. run_is ys a b (is v stands fit)) outcome)

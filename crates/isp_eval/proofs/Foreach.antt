@@ -1,10 +1,9 @@
 -- What `foreach` and `foreach_active` leave to be done.
-use Rattle.std.proofs.Common.{◌≡◌, refl, sym, ap, ap₂, ◌∙◌, subst, ℕ, ◌+◌, ◌<◌, List, [], ◌∷◌, ◌++◌, map, Bor, Box, Vec, Global, Bool, true, Some, None, append_assoc, arith, length}
+use Rattle.std.proofs.Common.{◌≡◌, refl, sym, ap, ap₂, ◌∙◌, subst, ℕ, ◌<◌, List, [], ◌∷◌, ◌++◌, map, Bor, Box, Vec, Global, Bool, true, Some, None, append_assoc, arith, length}
 use Rattle.isp_base.specs.Sets.{Mask, flag_of, lone, lowest, without}
 use Rattle.isp_base.specs.Types.{gang_width}
 use Rattle.isp_base.specs.Values.{number}
 use Rattle.isp_base.specs.declared.types.Elem.TheVariants.{I32}
-use Rattle.isp_base.specs.declared.types.Gang.{Gang}
 use Rattle.isp_base.specs.declared.types.Rate.TheVariants.{Uniform}
 use Rattle.isp_typed.specs.Typed.{TExpr, TRange}
 use Rattle.isp_typed.specs.declared.expr.TypedExpr.{TypedExpr}
@@ -24,7 +23,6 @@ use Rattle.isp_gang.specs.Seen.{payload_of}
 use Rattle.isp_gang.specs.declared.computed.Computed.TheVariants as computed
 use Rattle.isp_eval.specs.Left.{range_seen, restarted, runs_left, advanced, indices_now, members_now, is_ready}
 use Rattle.isp_eval.specs.Foreach.{begins, bounds_in, bounds_from, foreaches, actives}
-use Rattle.isp_eval.specs.Seen.{state_seen}
 use Rattle.isp_eval.specs.Tasks.{Store, Goes, On, Trapped, First, Changes, go, ran, does, rest, Comes, store_seen, parts_seen, all_parts, value_at, run_in, rounds_from, ended, found}
 use Rattle.isp_eval.specs.declared.rounds.Bounds.{Bounds}
 use Rattle.isp_eval.specs.declared.rounds.Members.{Members}
@@ -37,7 +35,7 @@ use Rattle.isp_eval.specs.declared.tasks.Task.TheVariants as task
 use Rattle.isp_eval.proofs.Runs.{reran, then_ran}
 use Rattle.isp_eval.proofs.Branching.{comes_same, leaves}
 use Rattle.isp_eval.proofs.Changes.{changed_rest, changed_store}
-use Rattle.isp_eval.proofs.Arms.{moved, ticked, value_first}
+use Rattle.isp_eval.proofs.Arms.{ticked, value_first, worked}
 use Rattle.isp_eval.proofs.Left.{left_begins, next_run}
 use Rattle.isp_eval.proofs.Members.{lowest_first, none_listed}
 
@@ -69,10 +67,10 @@ module _ (old mid new : Evaluator) where
 -- ---- foreach_active
 
 module _ (old : Evaluator) (b : Box Members Global) (index : ℕ) (body : Bor TypedStmt) (left set : List Bool) (is : b.value ≡ record { index = index; body = body; left = left; set = set }) where
-  abbrev actives_in : Mask → Evaluator → Frame → ℕ → State → Res
-  actives_in a e fr l s = rounds (run_in (program_of e.program.now) e.turns fr l (stmt_of body.now)) (flag_of set) (active_rounds (gang_width e.program.now.gang) index a) s
+  abbrev actives_in : Mask → Frame → ℕ → State → Res
+  actives_in a fr l s = rounds (run_in (program_of old.program.now) old.turns fr l (stmt_of body.now)) (flag_of set) (active_rounds (gang_width old.program.now.gang) index a) s
 
-  members_are : (r : Store) → does old (task.Members b) r ≡ ran r (actives_in (flag_of left) old r.frame r.left r.state)
+  members_are : (r : Store) → does old (task.Members b) r ≡ ran r (actives_in (flag_of left) r.frame r.left r.state)
   members_are r =
       ap (λ (m : Members). ran r (rounds (run_in (program_of old.program.now) old.turns r.frame r.left (stmt_of m.body.now)) (flag_of m.set) (active_rounds (gang_width old.program.now.gang) m.index (flag_of m.left)) r.state)) is
 
@@ -84,29 +82,29 @@ module _ (old : Evaluator) (b : Box Members Global) (index : ℕ) (body : Bor Ty
       members_are r
       ∙ ap (λ ps. ran r (rounds (run_in (program_of old.program.now) old.turns r.frame r.left (stmt_of body.now)) (flag_of set) (map (round_of_one index) ps) r.state)) (none_listed (gang_width old.program.now.gang) (flag_of left) none))
 
-  pub member_goes : (one mid new : Evaluator) (p : ℕ) (set1 left1 : List Bool) (d : Box Members Global) → one ≡ record old { work = one.work } → lowest (gang_width old.program.now.gang) (flag_of left) ≡ Some p → flag_of set1 ≡ lone (Some p)
-      → flag_of left1 ≡ without (flag_of left) (flag_of set1) → d.value ≡ record { index = index; body = body; left = left1; set = set } → Changes one mid (written Uniform index (flag_of set1) (One p)) → First mid new (task.Run body set1) (task.Members d)
+  pub member_goes : (mid new : Evaluator) (p : ℕ) (set1 left1 : List Bool) (d : Box Members Global) → lowest (gang_width old.program.now.gang) (flag_of left) ≡ Some p → flag_of set1 ≡ lone (Some p)
+      → flag_of left1 ≡ without (flag_of left) (flag_of set1) → d.value ≡ record { index = index; body = body; left = left1; set = set } → Changes old mid (written Uniform index (flag_of set1) (One p)) → First mid new (task.Run body set1) (task.Members d)
       → Comes old new (does old (task.Members b))
-  member_goes one mid new p set1 left1 d same some alone others held c g =
-      comes_same old new (does old (task.Members b)) (λ r. ran r (turn old r.frame r.left (tick r.state)))
+  member_goes mid new p set1 left1 d some alone others held c g =
+      comes_same old new (does old (task.Members b)) (λ r. ran r (turn r.frame r.left (tick r.state)))
       (λ w.
       let r = store_seen old w in
       members_are r
       ∙ ap (λ ps. ran r (rounds (run_in (program_of old.program.now) old.turns r.frame r.left (stmt_of body.now)) (flag_of set) (map (round_of_one index) ps) r.state)) (lowest_first (gang_width old.program.now.gang) (flag_of left) p some)
-      ∙ ap (λ (a : Mask). ran r (go_on (run_in (program_of old.program.now) old.turns r.frame r.left (stmt_of body.now) a (written Uniform index a (One p) (tick r.state))) (λ s g b c q. actives_in (without (flag_of left) a) old r.frame r.left s))) (sym alone)
-      ∙ ap (λ (a : Mask). ran r (go_on (run_in (program_of old.program.now) old.turns r.frame r.left (stmt_of body.now) (flag_of set1) (written Uniform index (flag_of set1) (One p) (tick r.state))) (λ s g b c q. actives_in a old r.frame r.left s))) (sym others))
-      (ticked old one new turn same (λ _. refl)
-      (round_goes one mid new (written Uniform index (flag_of set1) (One p)) body set1 (task.Members d) (actives_in (flag_of left1) one) c
-      (λ r. ap (λ (m : Members). ran r (rounds (run_in (program_of one.program.now) one.turns r.frame r.left (stmt_of m.body.now)) (flag_of m.set) (active_rounds (gang_width one.program.now.gang) m.index (flag_of m.left)) r.state)) held) g))
+      ∙ ap (λ (a : Mask). ran r (go_on (run_in (program_of old.program.now) old.turns r.frame r.left (stmt_of body.now) a (written Uniform index a (One p) (tick r.state))) (λ s g b c q. actives_in (without (flag_of left) a) r.frame r.left s))) (sym alone)
+      ∙ ap (λ (a : Mask). ran r (go_on (run_in (program_of old.program.now) old.turns r.frame r.left (stmt_of body.now) (flag_of set1) (written Uniform index (flag_of set1) (One p) (tick r.state))) (λ s g b c q. actives_in a r.frame r.left s))) (sym others))
+      (ticked old new turn
+      (round_goes old mid new (written Uniform index (flag_of set1) (One p)) body set1 (task.Members d) (actives_in (flag_of left1)) c
+      (λ r. ap (λ (m : Members). ran r (rounds (run_in (program_of old.program.now) old.turns r.frame r.left (stmt_of m.body.now)) (flag_of m.set) (active_rounds (gang_width old.program.now.gang) m.index (flag_of m.left)) r.state)) held) g))
     where
-      turn : Evaluator → Frame → ℕ → State → Res
-      turn e fr l s = go_on (run_in (program_of e.program.now) e.turns fr l (stmt_of body.now) (flag_of set1) (written Uniform index (flag_of set1) (One p) s)) (λ s1 g b c q. actives_in (flag_of left1) e fr l s1)
+      turn : Frame → ℕ → State → Res
+      turn fr l s = go_on (run_in (program_of old.program.now) old.turns fr l (stmt_of body.now) (flag_of set1) (written Uniform index (flag_of set1) (One p) s)) (λ s1 g b c q. actives_in (flag_of left1) fr l s1)
 
-pub active_comes : (old mid new : Evaluator) (b : Box Members Global) (index : ℕ) (body : Bor TypedStmt) (set : List Bool) → mid ≡ record old { work = mid.work } → b.value ≡ record { index = index; body = body; left = set; set = set }
-    → Comes mid new (does mid (task.Members b)) → Comes old new (actives old index body (flag_of set))
-active_comes old mid new b index body set same is c =
-    ticked old mid new (actives_in old b index body set set is (flag_of set)) same (λ _. refl)
-    (comes_same mid new (λ r. ran r (actives_in old b index body set set is (flag_of set) mid r.frame r.left r.state)) (does mid (task.Members b)) (λ w. sym (members_are mid b index body set set is (store_seen mid w))) c)
+pub active_comes : (old new : Evaluator) (b : Box Members Global) (index : ℕ) (body : Bor TypedStmt) (set : List Bool) → b.value ≡ record { index = index; body = body; left = set; set = set }
+    → Comes old new (does old (task.Members b)) → Comes old new (actives old index body (flag_of set))
+active_comes old new b index body set is c =
+    ticked old new (actives_in old b index body set set is (flag_of set))
+    (comes_same old new (λ r. ran r (actives_in old b index body set set is (flag_of set) r.frame r.left r.state)) (does old (task.Members b)) (λ w. sym (members_are old b index body set set is (store_seen old w))) c)
 
 -- ---- the bounds of a foreach
 
@@ -130,10 +128,10 @@ one_more (Fails t s) x before k = refl
 one_more (Stops s) x before k = refl
 
 module _ (old new : Evaluator) (body : Bor TypedStmt) (set : List Bool) where
-  pub foreach_comes : (mid : Evaluator) (rs : List TRange) (done : List Range) → mid ≡ record old { work = mid.work } → done ≡ [] → Comes mid new (bounds_from mid rs (map range_seen done) body (flag_of set)) → Comes old new (foreaches old rs body (flag_of set))
-  foreach_comes mid rs done same none c =
-      ticked old mid new (λ e fr l s. bounds_in e rs [] body (flag_of set) fr l s) same (λ _. refl)
-      (subst (λ (ds : List Range). Comes mid new (bounds_from mid rs (map range_seen ds) body (flag_of set))) none c)
+  pub foreach_comes : (rs : List TRange) (done : List Range) → done ≡ [] → Comes old new (bounds_from old rs (map range_seen done) body (flag_of set)) → Comes old new (foreaches old rs body (flag_of set))
+  foreach_comes rs done none c =
+      ticked old new (bounds_in old rs [] body (flag_of set))
+      (subst (λ (ds : List Range). Comes old new (bounds_from old rs (map range_seen ds) body (flag_of set))) none c)
 
   pub bounds_end : (rs : List TRange) (before : List Meaning.Range) → rs ≡ [] → Comes old new (begins old before body (flag_of set)) → Comes old new (bounds_from old rs before body (flag_of set))
   bounds_end rs before none c =
@@ -192,36 +190,20 @@ module _ (old new : Evaluator) (b : Box Bounds Global) where
 
 -- ---- the runs of a foreach
 
--- so much is counted, and then this comes
-pub worked : (old mid new : Evaluator) (h : Evaluator → Frame → ℕ → State → Res) (same : mid ≡ record old { work = mid.work }) → ((z : ℕ) → h (record old { work = z }) ≡ h old) → (k : ℕ)
-    → Comes mid new (λ r. ran r (h mid r.frame r.left r.state)) → Comes old new (λ r. ran r (h old r.frame r.left (record r.state { work = r.state.work + k })))
-worked old mid new h same still k c =
-    record {
-      by = λ w.
-          let r = store_seen old w in
-          let v = h old r.frame r.left (state_seen old (w + k)) in (
-            (c.by (w + k)).0,
-            ap (λ g. go g (rest old)) (sym (reran r (state_seen old (w + k)) r.value r.parts v) ∙ sym (moved old mid new h same still (w + k)))
-                ∙ sym (ap (λ (z : Store → Goes). go (ran (store_seen mid (w + k)) (h mid (store_seen mid (w + k)).frame (store_seen mid (w + k)).left (state_seen mid (w + k)))) z) (ap (λ (x : Evaluator). rest x) same))
-                ∙ (c.by (w + k)).1,
-          );
-    }
-
 abbrev runs_in : List Round → Bor TypedStmt → List Bool → Evaluator → Frame → ℕ → State → Res
 runs_in xs body set e fr l s = rounds (run_in (program_of e.program.now) e.turns fr l (stmt_of body.now)) (flag_of set) xs s
 
-pub begins_goes : (old mid new : Evaluator) (b : Box Rounds Global) (rs : List Range) (v : Vec Range Global) (body : Bor TypedStmt) (set : List Bool) → mid ≡ record old { work = mid.work } → v.items ≡ restarted 0 rs → b.value ≡ record { ranges = v; body = body; set = set }
-    → Comes mid new (does mid (task.Rounds b)) → Comes old new (begins old (map range_seen rs) body (flag_of set))
-begins_goes old mid new b rs v body set same anew held c =
+pub begins_goes : (old new : Evaluator) (b : Box Rounds Global) (rs : List Range) (v : Vec Range Global) (body : Bor TypedStmt) (set : List Bool) → v.items ≡ restarted 0 rs → b.value ≡ record { ranges = v; body = body; set = set }
+    → Comes old new (does old (task.Rounds b)) → Comes old new (begins old (map range_seen rs) body (flag_of set))
+begins_goes old new b rs v body set anew held c =
     let xs = foreach_rounds (gang_width old.program.now.gang) (map range_seen rs) in
-    worked old mid new (runs_in xs body set) same (λ _. refl) (counted (gang_width old.program.now.gang) 1 (map range_seen rs))
-    (comes_same mid new (λ r. ran r (runs_in xs body set mid r.frame r.left r.state)) (does mid (task.Rounds b))
+    worked old new (runs_in xs body set old) (counted (gang_width old.program.now.gang) 1 (map range_seen rs))
+    (comes_same old new (λ r. ran r (runs_in xs body set old r.frame r.left r.state)) (does old (task.Rounds b))
     (λ w.
-    let r = store_seen mid w in
-    sym (ap (λ (d : Rounds). ran r (rounds (run_in (program_of mid.program.now) mid.turns r.frame r.left (stmt_of d.body.now)) (flag_of d.set) (map round_of_run (runs_left (gang_width mid.program.now.gang) d.ranges.items)) r.state)) held
-    ∙ ap (λ ys. ran r (runs_in (map round_of_run (runs_left (gang_width mid.program.now.gang) ys)) body set mid r.frame r.left r.state)) anew
-    ∙ ap (λ (g : Gang). ran r (runs_in (map round_of_run (runs_left (gang_width g) (restarted 0 rs))) body set mid r.frame r.left r.state)) (ap (λ (e : Evaluator). e.program.now.gang) same)
-    ∙ ap (λ ys. ran r (runs_in (map round_of_run ys) body set mid r.frame r.left r.state)) (left_begins old.program.now.gang rs))) c)
+    let r = store_seen old w in
+    sym (ap (λ (d : Rounds). ran r (rounds (run_in (program_of old.program.now) old.turns r.frame r.left (stmt_of d.body.now)) (flag_of d.set) (map round_of_run (runs_left (gang_width old.program.now.gang) d.ranges.items)) r.state)) held
+    ∙ ap (λ ys. ran r (runs_in (map round_of_run (runs_left (gang_width old.program.now.gang) ys)) body set old r.frame r.left r.state)) anew
+    ∙ ap (λ ys. ran r (runs_in (map round_of_run ys) body set old r.frame r.left r.state)) (left_begins old.program.now.gang rs))) c)
 
 module _ (old new : Evaluator) (b : Box Rounds Global) where
   -- what is left is the same

@@ -94,16 +94,15 @@ library_found program most f e a r t (Gives ms s) = refl
 library_found program most f e a r t (Fails x s) = refl
 library_found program most f e a r t (Stops s) = refl
 
-pub library_node : (old mid new : Evaluator) (x : Bor TypedExpr) (set : List Bool) (f : Library) (e : Elem) (xs : List TypedExpr) (done : Vec Computed Global) (t : Ty) (sp : Span) → expr_of x.now ≡ t_library f e (t_exprs (exprs_of xs)) t sp → mid ≡ record old { work = mid.work } → done.items ≡ []
-    → Comes mid new (gathers mid (gathering.Library f e) (exprs_of xs) (map payload_of done.items) (flag_of set)) → Does old new (task.Value x set)
-library_node old mid new x set f e xs done t sp is same none c =
+pub library_node : (old new : Evaluator) (x : Bor TypedExpr) (set : List Bool) (f : Library) (e : Elem) (xs : List TypedExpr) (done : Vec Computed Global) (t : Ty) (sp : Span) → expr_of x.now ≡ t_library f e (t_exprs (exprs_of xs)) t sp → done.items ≡ []
+    → Comes old new (gathers old (gathering.Library f e) (exprs_of xs) (map payload_of done.items) (flag_of set)) → Does old new (task.Value x set)
+library_node old new x set f e xs done t sp is none c =
     record {
       by = λ w. (
         (c.by (w + 1)).0,
         ap (λ n. go (given (store_seen old w) (value_at (program_of old.program.now) old.turns (store_seen old w) n (flag_of set) (state_seen old w))) (rest old)) is
             ∙ ap (λ g. go g (rest old)) (library_found (program_of old.program.now) old.turns f e (flag_of set) (store_seen old w) (state_seen old (w + 1)) (values (gang_width old.program.now.gang) (store_seen old w).frame (calls_in (program_of old.program.now) old.turns (store_seen old w)) (t_exprs (exprs_of xs)) (flag_of set) (state_seen old (w + 1))))
             ∙ sym (ap (λ ys. go (gathers old (gathering.Library f e) (exprs_of xs) (map payload_of ys) (flag_of set) (store_seen old (w + 1))) (rest old)) none)
-            ∙ sym (ap (λ (k : Evaluator). go (gathers k (gathering.Library f e) (exprs_of xs) (map payload_of done.items) (flag_of set) (store_seen k (w + 1))) (rest k)) same)
             ∙ (c.by (w + 1)).1,
       );
     }

@@ -74,10 +74,10 @@ module _ (program : Program) (most : ℕ) where
   hand_next f span xs ps a r next (Stops s) = refl
 
 module _ (old : Evaluator) (c : Bor TypedCall) (set : List Bool) where
-  pub call_does : (mid new : Evaluator) (ys : Bor (List TypedArgument)) (done : Vec rust_passed_type.Passed Global) → mid ≡ record old { work = mid.work } → ys.now ≡ c.now.arguments.items → done.items ≡ []
-      → new.tasks.items ≡ mid.tasks.items ++ task.Arguments c ys done set ∷ [] → new ≡ record mid { tasks = new.tasks } → Does old new (task.Call c set)
-  call_does mid new ys done same all none i s =
-      let k = pushes mid new (task.Arguments c ys done set) i s in
+  pub call_does : (new : Evaluator) (ys : Bor (List TypedArgument)) (done : Vec rust_passed_type.Passed Global) → ys.now ≡ c.now.arguments.items → done.items ≡ []
+      → new.tasks.items ≡ old.tasks.items ++ task.Arguments c ys done set ∷ [] → new ≡ record old { tasks = new.tasks } → Does old new (task.Call c set)
+  call_does new ys done all none i s =
+      let k = pushes old new (task.Arguments c ys done set) i s in
       record {
         by = λ w.
             let r = store_seen old w in
@@ -88,7 +88,6 @@ module _ (old : Evaluator) (c : Bor TypedCall) (set : List Bool) where
                   ∙ ap (λ g. go g (rest old)) (sym (regiven r r.value (state_seen old (w + 1)) (bind (arguments (gang_width old.program.now.gang) r.frame (calls_in (program_of old.program.now) old.turns r) (t_arguments (arguments_of c.now.arguments.items)) a (state_seen old (w + 1))) (λ ps s1. calls_in (program_of old.program.now) old.turns r c.now.function c.now.span a ps r.frame s1))))
                   ∙ sym (ap (λ g. go g (rest old)) (hand_is (program_of old.program.now) old.turns c.now (arguments_of c.now.arguments.items) [] a r'))
                   ∙ sym (ap₂ (λ (xs : List TypedArgument) (ds : List rust_passed_type.Passed). go (hand (program_of old.program.now) old.turns (call_of c.now) (arguments_of xs) (map passed_seen ds) a r') (rest old)) all none)
-                  ∙ sym (ap (λ (e : Evaluator). go (does e (task.Arguments c ys done set) (store_seen e (w + 1))) (rest e)) same)
                   ∙ (k.by (w + 1)).1,
             );
       }
@@ -128,25 +127,23 @@ module _ (old : Evaluator) (c : Bor TypedCall) (set : List Bool) where
         }
 
     -- the next argument is an array: it counts, and is its store
-    pub named_argument : (mid : Evaluator) (zs : Bor (List TypedArgument)) (y : TypedArgument) (b : ArrayVariable) (sp : Span) (n : ℕ) (after : Vec rust_passed_type.Passed Global) → ys.now ≡ y ∷ zs.now → argument_of y ≡ t_by_name b sp → mid ≡ record old { work = mid.work }
-        → n ≡ (frame_seen mid.here).named b.number → after.items ≡ done.items ++ rust_passed.Store n ∷ [] → new.tasks.items ≡ mid.tasks.items ++ task.Arguments c zs after set ∷ [] → new ≡ record mid { tasks = new.tasks } → Does old new (task.Arguments c ys done set)
-    named_argument mid zs y b sp n after is seen same store more i s =
-        let k = pushes mid new (task.Arguments c zs after set) i s in
+    pub named_argument : (zs : Bor (List TypedArgument)) (y : TypedArgument) (b : ArrayVariable) (sp : Span) (n : ℕ) (after : Vec rust_passed_type.Passed Global) → ys.now ≡ y ∷ zs.now → argument_of y ≡ t_by_name b sp
+        → n ≡ (frame_seen old.here).named b.number → after.items ≡ done.items ++ rust_passed.Store n ∷ [] → new.tasks.items ≡ old.tasks.items ++ task.Arguments c zs after set ∷ [] → new ≡ record old { tasks = new.tasks } → Does old new (task.Arguments c ys done set)
+    named_argument zs y b sp n after is seen store more i s =
+        let k = pushes old new (task.Arguments c zs after set) i s in
         record {
           by = λ w.
               let r = store_seen old w in
               let r' = store_seen old (w + 1) in
               let ps = map passed_seen done.items in
-              let a = flag_of set in
-              let here : n ≡ (frame_seen old.here).named b.number = store ∙ ap (λ (e : Evaluator). (frame_seen e.here).named b.number) same in (
+              let a = flag_of set in (
                 (k.by (w + 1)).0,
                 ap (λ us. go (hand (program_of old.program.now) old.turns (call_of c.now) (arguments_of us) ps a r) (rest old)) is
                     ∙ ap (λ u. go (hand (program_of old.program.now) old.turns (call_of c.now) (u ∷ arguments_of zs.now) ps a r) (rest old)) seen
                     ∙ ap (λ g. go g (rest old)) (hand_is (program_of old.program.now) old.turns c.now (t_by_name b sp ∷ arguments_of zs.now) ps a r)
                     ∙ ap (λ g. go g (rest old)) (handed (program_of old.program.now) old.turns c.now.function c.now.span ps (PassedStore ((frame_seen old.here).named b.number)) a r r.value (state_seen old (w + 1)) (arguments (gang_width old.program.now.gang) r.frame (calls_in (program_of old.program.now) old.turns r) (t_arguments (arguments_of zs.now)) a (state_seen old (w + 1))))
                     ∙ sym (ap (λ g. go g (rest old)) (hand_is (program_of old.program.now) old.turns c.now (arguments_of zs.now) (ps ++ PassedStore ((frame_seen old.here).named b.number) ∷ []) a r'))
-                    ∙ ap (λ (qs : List Passed). go (hand (program_of old.program.now) old.turns (call_of c.now) (arguments_of zs.now) qs a r') (rest old)) (ap (λ j. ps ++ PassedStore j ∷ []) (sym here) ∙ sym (ap (map passed_seen) more ∙ map-append passed_seen done.items (rust_passed.Store n ∷ [])))
-                    ∙ sym (ap (λ (e : Evaluator). go (does e (task.Arguments c zs after set) (store_seen e (w + 1))) (rest e)) same)
+                    ∙ ap (λ (qs : List Passed). go (hand (program_of old.program.now) old.turns (call_of c.now) (arguments_of zs.now) qs a r') (rest old)) (ap (λ j. ps ++ PassedStore j ∷ []) (sym store) ∙ sym (ap (map passed_seen) more ∙ map-append passed_seen done.items (rust_passed.Store n ∷ [])))
                     ∙ (k.by (w + 1)).1,
               );
         }

@@ -44,36 +44,35 @@ found_does old new x set n is c =
 
 -- ---- a value at once
 
-pub at_once : (old mid : Evaluator) (v : Computed) (n : TExpr) (set : List Bool) (m : ℕ → Payload)
+pub at_once : (old : Evaluator) (v : Computed) (n : TExpr) (set : List Bool) (m : ℕ → Payload)
     → ((w : ℕ) → value_at (program_of old.program.now) old.turns (store_seen old w) n (flag_of set) (state_seen old w) ≡ Gives (m w) (state_seen old (w + 1)))
-    → mid ≡ record old { work = mid.work } → ((w : ℕ) → payload_of v ≡ m w) → Comes old (record mid { value = v }) (finds old n (flag_of set))
-at_once old mid v n set m whole same e =
+    → ((w : ℕ) → payload_of v ≡ m w) → Comes old (record old { value = v }) (finds old n (flag_of set))
+at_once old v n set m whole e =
     record {
       by = λ w. (
         w + 1,
         ap (λ u. go (given (store_seen old w) u) (rest old)) (whole w)
-            ∙ ap (λ u. rest old (record (store_seen old w) { state = state_seen old (w + 1); value = u })) (sym (e w))
-            ∙ sym (ap (λ (k : Evaluator). rest (record k { value = v }) (store_seen (record k { value = v }) (w + 1))) same),
+            ∙ ap (λ u. rest old (record (store_seen old w) { state = state_seen old (w + 1); value = u })) (sym (e w)),
       );
     }
 
-pub constant_node : (old mid : Evaluator) (v : ℕ) (x : Bor TypedExpr) (set : List Bool) (c : Value) (sp : Span) → expr_of x.now ≡ t_constant c sp → mid ≡ record old { work = mid.work } → v ≡ c.bits % 2 ^ width c.elem → Does old (record mid { value = computed.One v }) (task.Value x set)
-constant_node old mid v x set c sp is same e =
-    found_does old _ x set (t_constant c sp) is (at_once old mid (computed.One v) (t_constant c sp) set (λ w. One (c.bits % 2 ^ width c.elem)) (λ w. refl) same (λ w. ap One e))
+pub constant_node : (old : Evaluator) (v : ℕ) (x : Bor TypedExpr) (set : List Bool) (c : Value) (sp : Span) → expr_of x.now ≡ t_constant c sp → v ≡ c.bits % 2 ^ width c.elem → Does old (record old { value = computed.One v }) (task.Value x set)
+constant_node old v x set c sp is e =
+    found_does old _ x set (t_constant c sp) is (at_once old (computed.One v) (t_constant c sp) set (λ w. One (c.bits % 2 ^ width c.elem)) (λ w. refl) (λ w. ap One e))
 
-pub index_node : (old mid : Evaluator) (v : Computed) (x : Bor TypedExpr) (set : List Bool) (sp : Span) → expr_of x.now ≡ t_program_index sp → mid ≡ record old { work = mid.work } → payload_of v ≡ Each (on (flag_of set) (λ p. p)) → Does old (record mid { value = v }) (task.Value x set)
-index_node old mid v x set sp is same e =
-    found_does old _ x set (t_program_index sp) is (at_once old mid v (t_program_index sp) set (λ w. Each (on (flag_of set) (λ p. p))) (λ w. refl) same (λ w. e))
+pub index_node : (old : Evaluator) (v : Computed) (x : Bor TypedExpr) (set : List Bool) (sp : Span) → expr_of x.now ≡ t_program_index sp → payload_of v ≡ Each (on (flag_of set) (λ p. p)) → Does old (record old { value = v }) (task.Value x set)
+index_node old v x set sp is e =
+    found_does old _ x set (t_program_index sp) is (at_once old v (t_program_index sp) set (λ w. Each (on (flag_of set) (λ p. p))) (λ w. refl) (λ w. e))
 
 -- ---- a place
 
-pub variable_node : (old mid : Evaluator) (v : Computed) (p : Bor TypedPlace) (set : List Bool) (number : ℕ) (t : Ty) (sp : Span) → place_of p.now ≡ t_variable number t sp → mid ≡ record old { work = mid.work }
-    → ((w : ℕ) → payload_of v ≡ held (gang_width mid.program.now.gang) (frame_seen mid.here) (Variable number t) (flag_of set) (state_seen mid w))
-    → Comes old (record mid { value = v }) (finds old (t_place (place_of p.now)) (flag_of set))
-variable_node old mid v p set number t sp is same e =
-    subst (λ n. Comes old (record mid { value = v }) (finds old (t_place n) (flag_of set))) (sym is)
-    (at_once old mid v (t_place (t_variable number t sp)) set (λ w. held (gang_width old.program.now.gang) (frame_seen old.here) (Variable number t) (flag_of set) (state_seen old (w + 1))) (λ w. refl) same
-    (λ w. e (w + 1) ∙ ap (λ (k : Evaluator). held (gang_width k.program.now.gang) (frame_seen k.here) (Variable number t) (flag_of set) (state_seen k (w + 1))) same))
+pub variable_node : (old : Evaluator) (v : Computed) (p : Bor TypedPlace) (set : List Bool) (number : ℕ) (t : Ty) (sp : Span) → place_of p.now ≡ t_variable number t sp
+    → ((w : ℕ) → payload_of v ≡ held (gang_width old.program.now.gang) (frame_seen old.here) (Variable number t) (flag_of set) (state_seen old w))
+    → Comes old (record old { value = v }) (finds old (t_place (place_of p.now)) (flag_of set))
+variable_node old v p set number t sp is e =
+    subst (λ n. Comes old (record old { value = v }) (finds old (t_place n) (flag_of set))) (sym is)
+    (at_once old v (t_place (t_variable number t sp)) set (λ w. held (gang_width old.program.now.gang) (frame_seen old.here) (Variable number t) (flag_of set) (state_seen old (w + 1))) (λ w. refl)
+    (λ w. e (w + 1)))
 
 -- what is done with what is found at an index
 element_found : (old : Evaluator) (b : ArrayVariable) (e : Elem) (sp : Span) (set : List Bool) (fr : Frame) (v : Val Payload)
@@ -130,14 +129,13 @@ convert_node old new x y set from to typed is first =
       );
     }
 
-pub cast_node : (old mid new : Evaluator) (x y : Bor TypedExpr) (set : List Bool) (t : Ty) (sp : Span) → expr_of x.now ≡ t_cast (expr_of y.now) t sp → mid ≡ record old { work = mid.work } → Later mid new (task.Value y set) → Does old new (task.Value x set)
-cast_node old mid new x y set t sp is same l =
+pub cast_node : (old new : Evaluator) (x y : Bor TypedExpr) (set : List Bool) (t : Ty) (sp : Span) → expr_of x.now ≡ t_cast (expr_of y.now) t sp → Later old new (task.Value y set) → Does old new (task.Value x set)
+cast_node old new x y set t sp is l =
     record {
       by = λ w. (
         w + 1,
         ap (λ n. go (finds old n (flag_of set) (store_seen old w)) (rest old)) is
             ∙ ap (λ g. go g (rest old)) (sym (regiven (store_seen old w) (payload_of old.value) (state_seen old (w + 1)) (value_at (program_of old.program.now) old.turns (store_seen old w) (expr_of y.now) (flag_of set) (state_seen old (w + 1)))))
-            ∙ sym (ap (λ (k : Evaluator). go (finds k (expr_of y.now) (flag_of set) (store_seen k (w + 1))) (rest k)) same)
-            ∙ sym (ap₂ (λ (f : Store → Goes) (r : Store). f r) (later_rest mid new (task.Value y set) l) (later_store mid new (task.Value y set) l (w + 1))),
+            ∙ sym (ap₂ (λ (f : Store → Goes) (r : Store). f r) (later_rest old new (task.Value y set) l) (later_store old new (task.Value y set) l (w + 1))),
       );
     }

@@ -131,10 +131,6 @@ module _ (old new : Evaluator) where
 
 -- ---- nodes: each counts, and its first operand comes first
 
-pub first_ticked : (old mid new : Evaluator) (u t : Task) → mid ≡ record old { work = mid.work } → First mid new u t → First old new u t
-first_ticked old mid new u t same f =
-    record { by = λ w. f.by w ∙ ap (λ (e : Evaluator). go (does e u (store_seen e w)) (λ r. go (does e t r) (rest e))) same }
-
 pub node_comes : (old new : Evaluator) (y : Bor TypedExpr) (set : List Bool) (after : Task) (n : TExpr) (f : Frame → ℕ → Payload → State → Val Payload)
     → ((q : Store) → does old after q ≡ given q (f q.frame q.left q.value q.state))
     → ((r : Store) (s : State) → value_at (program_of old.program.now) old.turns r n (flag_of set) s ≡ bind (value_at (program_of old.program.now) old.turns r (expr_of y.now) (flag_of set) (tick s)) (f r.frame r.left))

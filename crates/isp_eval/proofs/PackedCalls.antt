@@ -29,7 +29,7 @@ use Rattle.isp_eval.specs.Packing.{places_at}
 use Rattle.isp_eval.specs.Passing.{packs, packs_from}
 use Rattle.isp_eval.specs.Seen.{frame_seen, state_seen}
 use Rattle.isp_eval.specs.Stores.{stores_of}
-use Rattle.isp_eval.specs.Tasks.{Store, Goes, Trapped, First, Halts, refused, trapped, cut, Comes, Does, Changes, go, given, does, rest, pack, value_at, store_seen}
+use Rattle.isp_eval.specs.Tasks.{Store, Goes, First, Halts, refused, trapped, cut, Comes, Does, Changes, go, given, does, rest, pack, value_at, store_seen}
 use Rattle.isp_eval.specs.declared.state.Evaluator.{Evaluator}
 use Rattle.isp_eval.specs.declared.state.Stop.{Stop}
 use Rattle.isp_eval.specs.declared.state.Stop.TheVariants as stop
@@ -43,37 +43,34 @@ use Rattle.isp_eval.proofs.Turns.{halts_same}
 
 -- ---- the node counts, then comes the base
 
-module _ (old mid new : Evaluator) (x : Bor TypedExpr) (set : List Bool) (b : Bor TypedBase) (sp : Span) (same : mid ≡ record old { work = mid.work }) where
+module _ (old new : Evaluator) (x : Bor TypedExpr) (set : List Bool) (b : Bor TypedBase) (sp : Span) where
   abbrev pub packed_as : Packing → TExpr
   packed_as (packing.Store y) = t_packed_store (base_of b.now) (expr_of y.now) sp
   packed_as (packing.Load v) = t_packed_load (base_of b.now) v sp
 
   -- the registers are not looked at
-  node_is : (p : Packing) → expr_of x.now ≡ packed_as p → (w : ℕ) → does old (task.Value x set) (store_seen old w) ≡ packs mid p (base_of b.now) sp (flag_of set) (store_seen mid (w + 1))
+  node_is : (p : Packing) → expr_of x.now ≡ packed_as p → (w : ℕ) → does old (task.Value x set) (store_seen old w) ≡ packs old p (base_of b.now) sp (flag_of set) (store_seen old (w + 1))
   node_is (packing.Store y) is w =
       ap (λ n. given (store_seen old w) (value_at (program_of old.program.now) old.turns (store_seen old w) n (flag_of set) (state_seen old w))) is
       ∙ sym (regiven (store_seen old w) (payload_of old.value) (state_seen old (w + 1)) _)
-      ∙ sym (ap (λ (e : Evaluator). packs e (packing.Store y) (base_of b.now) sp (flag_of set) (store_seen e (w + 1))) same)
   node_is (packing.Load v) is w =
       ap (λ n. given (store_seen old w) (value_at (program_of old.program.now) old.turns (store_seen old w) n (flag_of set) (state_seen old w))) is
       ∙ sym (regiven (store_seen old w) (payload_of old.value) (state_seen old (w + 1)) _)
-      ∙ sym (ap (λ (e : Evaluator). packs e (packing.Load v) (base_of b.now) sp (flag_of set) (store_seen e (w + 1))) same)
 
-  pub packed_node : (p : Packing) → expr_of x.now ≡ packed_as p → Comes mid new (packs mid p (base_of b.now) sp (flag_of set)) → Does old new (task.Value x set)
+  pub packed_node : (p : Packing) → expr_of x.now ≡ packed_as p → Comes old new (packs old p (base_of b.now) sp (flag_of set)) → Does old new (task.Value x set)
   packed_node p is c =
       record {
         by = λ w. (
           (c.by (w + 1)).0,
           ap (λ g. go g (rest old)) (node_is p is w)
-              ∙ sym (ap (λ (e : Evaluator). go (packs mid p (base_of b.now) sp (flag_of set) (store_seen mid (w + 1))) (rest e)) same)
               ∙ (c.by (w + 1)).1,
         );
       }
 
-  pub packed_node_halts : (p : Packing) (e : Stop) → expr_of x.now ≡ packed_as p → Halts mid new (packs mid p (base_of b.now) sp (flag_of set)) e → Halts old new (does old (task.Value x set)) e
+  pub packed_node_halts : (p : Packing) (e : Stop) → expr_of x.now ≡ packed_as p → Halts old new (packs old p (base_of b.now) sp (flag_of set)) e → Halts old new (does old (task.Value x set)) e
   packed_node_halts p e is h = by h
     where
-      by : Halts mid new (packs mid p (base_of b.now) sp (flag_of set)) e → Halts old new (does old (task.Value x set)) e
+      by : Halts old new (packs old p (base_of b.now) sp (flag_of set)) e → Halts old new (does old (task.Value x set)) e
       by (refused r) = refused r
       by (trapped t i g) = trapped t i (λ w. ((g (w + 1)).0, node_is p is w ∙ (g (w + 1)).1))
       by (cut i g) = cut i (λ w. ((g (w + 1)).0, node_is p is w ∙ (g (w + 1)).1))
@@ -84,30 +81,28 @@ from_none : number I32 0 ≡ pos 0
 unfolding number_to
 from_none = refl
 
-module _ (old mid new : Evaluator) (p : Packing) (b : TypedBase) (span : Span) (set : List Bool) (same : mid ≡ record old { work = mid.work }) where
+module _ (old new : Evaluator) (p : Packing) (b : TypedBase) (span : Span) (set : List Bool) where
   -- the whole array: from the first element on
-  whole_is : (v : ArrayVariable) (sp : Span) → base_of b ≡ t_whole v sp → (w : ℕ) → packs old p (base_of b) span (flag_of set) (store_seen old w) ≡ does (record mid { value = computed.One 0 }) (task.Packed p v I32 span set) (store_seen (record mid { value = computed.One 0 }) (w + 1))
+  whole_is : (v : ArrayVariable) (sp : Span) → base_of b ≡ t_whole v sp → (w : ℕ) → packs old p (base_of b) span (flag_of set) (store_seen old w) ≡ does (record old { value = computed.One 0 }) (task.Packed p v I32 span set) (store_seen (record old { value = computed.One 0 }) (w + 1))
   whole_is v sp is w =
       ap (λ k. packs old p k span (flag_of set) (store_seen old w)) is
       ∙ ap (λ z. given (store_seen old w) (pack (program_of old.program.now) old.turns p v z span (flag_of set) (frame_seen old.here) old.left (state_seen old (w + 1)))) (sym from_none)
       ∙ sym (regiven (store_seen old w) (One 0) (state_seen old (w + 1)) (pack (program_of old.program.now) old.turns p v (number I32 0) span (flag_of set) (frame_seen old.here) old.left (state_seen old (w + 1))))
-      ∙ sym (ap (λ (e : Evaluator). does (record e { value = computed.One 0 }) (task.Packed p v I32 span set) (store_seen (record e { value = computed.One 0 }) (w + 1))) same)
 
-  pub whole_comes : (v : ArrayVariable) (sp : Span) → base_of b ≡ t_whole v sp → Does (record mid { value = computed.One 0 }) new (task.Packed p v I32 span set) → Comes old new (packs old p (base_of b) span (flag_of set))
+  pub whole_comes : (v : ArrayVariable) (sp : Span) → base_of b ≡ t_whole v sp → Does (record old { value = computed.One 0 }) new (task.Packed p v I32 span set) → Comes old new (packs old p (base_of b) span (flag_of set))
   whole_comes v sp is d =
       record {
         by = λ w. (
           (d.by (w + 1)).0,
           ap (λ g. go g (rest old)) (whole_is v sp is w)
-              ∙ sym (ap (λ (e : Evaluator). go (does (record mid { value = computed.One 0 }) (task.Packed p v I32 span set) (store_seen (record mid { value = computed.One 0 }) (w + 1))) (rest e)) same)
               ∙ (d.by (w + 1)).1,
         );
       }
 
-  pub whole_halts : (v : ArrayVariable) (sp : Span) (e : Stop) → base_of b ≡ t_whole v sp → Halts (record mid { value = computed.One 0 }) new (does (record mid { value = computed.One 0 }) (task.Packed p v I32 span set)) e → Halts old new (packs old p (base_of b) span (flag_of set)) e
+  pub whole_halts : (v : ArrayVariable) (sp : Span) (e : Stop) → base_of b ≡ t_whole v sp → Halts (record old { value = computed.One 0 }) new (does (record old { value = computed.One 0 }) (task.Packed p v I32 span set)) e → Halts old new (packs old p (base_of b) span (flag_of set)) e
   whole_halts v sp e is h = by h
     where
-      by : Halts (record mid { value = computed.One 0 }) new (does (record mid { value = computed.One 0 }) (task.Packed p v I32 span set)) e → Halts old new (packs old p (base_of b) span (flag_of set)) e
+      by : Halts (record old { value = computed.One 0 }) new (does (record old { value = computed.One 0 }) (task.Packed p v I32 span set)) e → Halts old new (packs old p (base_of b) span (flag_of set)) e
       by (refused r) = refused r
       by (trapped t i g) = trapped t i (λ w. ((g (w + 1)).0, whole_is v sp is w ∙ (g (w + 1)).1))
       by (cut i g) = cut i (λ w. ((g (w + 1)).0, whole_is v sp is w ∙ (g (w + 1)).1))
@@ -120,7 +115,7 @@ module _ (old mid new : Evaluator) (p : Packing) (b : TypedBase) (span : Span) (
   from_next v t r s (Fails x s1) next = refl
   from_next v t r s (Stops s1) next = refl
 
-  pub from_comes : (v : ArrayVariable) (y : Bor TypedExpr) (t : Elem) (sp : Span) → t ≡ (type_of (expr_of y.now)).elem → base_of b ≡ t_from v (expr_of y.now) sp → First mid new (task.Value y set) (task.Packed p v t span set) → Comes old new (packs old p (base_of b) span (flag_of set))
+  pub from_comes : (v : ArrayVariable) (y : Bor TypedExpr) (t : Elem) (sp : Span) → t ≡ (type_of (expr_of y.now)).elem → base_of b ≡ t_from v (expr_of y.now) sp → First old new (task.Value y set) (task.Packed p v t span set) → Comes old new (packs old p (base_of b) span (flag_of set))
   from_comes v y t sp typed is f =
       record {
         by = λ w. (
@@ -128,7 +123,6 @@ module _ (old mid new : Evaluator) (p : Packing) (b : TypedBase) (span : Span) (
           ap (λ k. go (packs old p k span (flag_of set) (store_seen old w)) (rest old)) is
               ∙ ap (λ e. go (given (store_seen old w) (bind (bind (value_at (program_of old.program.now) old.turns (store_seen old w) (expr_of y.now) (flag_of set) (state_seen old (w + 1))) (λ m s1. Gives (number e (sole m)) s1)) (λ z s2. pack (program_of old.program.now) old.turns p v z span (flag_of set) (frame_seen old.here) old.left s2))) (rest old)) (sym typed)
               ∙ from_next v t (store_seen old w) (state_seen old (w + 1)) (value_at (program_of old.program.now) old.turns (store_seen old w) (expr_of y.now) (flag_of set) (state_seen old (w + 1))) (rest old)
-              ∙ sym (ap (λ (e : Evaluator). go (does e (task.Value y set) (store_seen e (w + 1))) (λ q. go (does e (task.Packed p v t span set) q) (rest e))) same)
               ∙ sym (f.by (w + 1)),
         );
       }
@@ -170,22 +164,21 @@ module _ (old : Evaluator) (b : ArrayVariable) (t : Elem) (n : ℕ) (span : Span
       ap (λ k. given (store_seen old w) (bind (checked k Index span (state_seen old (w + 1)) (packed_held ((frame_seen old.here).named b.number) (number t n) (flag_of set) (state_seen old w))) (λ m s. Gives (One (rank (flag_of set) (gang_width old.program.now.gang))) (written Varying v (flag_of set) m s)))) e
 
   -- into a variable
-  pub load_comes : (v : ℕ) (mid new : Evaluator) (m : Payload) (c : Computed) → offending ≡ None → mid ≡ record old { work = mid.work } → ((w : ℕ) → m ≡ packed_held ((frame_seen old.here).named b.number) (number t n) (flag_of set) (state_seen old w))
-      → Changes mid new (written Varying v (flag_of set) m) → payload_of c ≡ One (rank (flag_of set) (gang_width old.program.now.gang)) → Comes old (record new { value = c }) (packs_from old (packing.Load v) b (number t n) span (flag_of set))
-  load_comes v mid new m c none same is ch e =
+  pub load_comes : (v : ℕ) (new : Evaluator) (m : Payload) (c : Computed) → offending ≡ None → ((w : ℕ) → m ≡ packed_held ((frame_seen old.here).named b.number) (number t n) (flag_of set) (state_seen old w))
+      → Changes old new (written Varying v (flag_of set) m) → payload_of c ≡ One (rank (flag_of set) (gang_width old.program.now.gang)) → Comes old (record new { value = c }) (packs_from old (packing.Load v) b (number t n) span (flag_of set))
+  load_comes v new m c none is ch e =
       record {
         by = λ w. (
           w + 1,
           ap (λ g. go g (rest old)) (loads v None none w)
               ∙ ap₂ (λ (x y : Payload). rest old (record (store_seen old w) { state = written Varying v (flag_of set) x (state_seen old (w + 1)); value = y })) (sym (is w)) (sym e)
-              ∙ sym (ap (λ (k : Evaluator). rest k (record (store_seen k (w + 1)) { state = written Varying v (flag_of set) m (state_seen k (w + 1)); value = payload_of c })) same)
-              ∙ sym (ap₂ (λ (h : Store → Goes) (r : Store). h (record r { value = payload_of c })) (changed_rest mid new (written Varying v (flag_of set) m) ch) (changed_store mid new (written Varying v (flag_of set) m) ch (w + 1))),
+              ∙ sym (ap₂ (λ (h : Store → Goes) (r : Store). h (record r { value = payload_of c })) (changed_rest old new (written Varying v (flag_of set) m) ch) (changed_store old new (written Varying v (flag_of set) m) ch (w + 1))),
         );
       }
 
-  pub load_halts : (v : ℕ) (mid : Evaluator) (e : Stop) (i : ℕ) → offending ≡ Some i → mid ≡ record old { work = mid.work } → e ≡ stop.Trapped (trap Index span i) → Halts old mid (packs_from old (packing.Load v) b (number t n) span (flag_of set)) e
-  load_halts v mid e i some same is =
-      trapped (trap Index span i) is (λ w. (w + 1, loads v (Some i) some w ∙ sym (ap (λ (k : Evaluator). Trapped (trap Index span i) (state_seen k (w + 1))) same)))
+  pub load_halts : (v : ℕ) (e : Stop) (i : ℕ) → offending ≡ Some i → e ≡ stop.Trapped (trap Index span i) → Halts old old (packs_from old (packing.Load v) b (number t n) span (flag_of set)) e
+  load_halts v e i some is =
+      trapped (trap Index span i) is (λ w. (w + 1, loads v (Some i) some w))
 
   stores : (o : Option ℕ) → offending ≡ o → (w : ℕ) → does old (task.PackedStore b t n span set) (store_seen old w)
       ≡ given (store_seen old w) (bind (checked o Index span (state_seen old w) (payload_of old.value)) (λ m s. Gives (One (rank (flag_of set) (gang_width old.program.now.gang))) (packed_kept (gang_width old.program.now.gang) ((frame_seen old.here).named b.number) (number t n) (flag_of set) m s)))

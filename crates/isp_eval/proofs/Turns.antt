@@ -115,8 +115,8 @@ module _ (old new : Evaluator) where
       }) some f
 
   -- a turn
-  pub turn_goes : (mid : Evaluator) (t : Turning) (b : Box Turning Global) (n : ℕ) → mid ≡ record old { work = mid.work } → t.left ≡ suc n → b.value ≡ record t { left = n } → First mid new (task.Run t.looping.body t.live) (task.Turned b) → Comes old new (turns_on old t)
-  turn_goes mid t b n same more is f =
+  pub turn_goes : (t : Turning) (b : Box Turning Global) (n : ℕ) → t.left ≡ suc n → b.value ≡ record t { left = n } → First old new (task.Run t.looping.body t.live) (task.Turned b) → Comes old new (turns_on old t)
+  turn_goes t b n more is f =
       record {
         by = λ w.
             let r = store_seen old w in
@@ -128,7 +128,6 @@ module _ (old new : Evaluator) where
                   ∙ then_ran r v h (rest old)
                   ∙ ap (λ g. go g (λ q. go (turned_on old (record t { left = n }) q) (rest old))) (sym (reran r (state_seen old (w + 1)) r.value r.parts v))
                   ∙ ap (λ (u : Turning). go (does old (task.Run t.looping.body t.live) (store_seen old (w + 1))) (λ q. go (turned_on old u q) (rest old))) (sym is)
-                  ∙ sym (ap (λ (x : Evaluator). go (does x (task.Run t.looping.body t.live) (store_seen x (w + 1))) (λ q. go (does x (task.Turned b) q) (rest x))) same)
                   ∙ sym (f.by (w + 1)),
             );
       }

@@ -36,7 +36,9 @@ all_does e x a r = ran r (all_go a (simple (gang_width e.program.now.gang) r.fra
 
 abbrev pub chooses : Evaluator → TExpr → Bor TypedStmt → Option (Bor TypedStmt) → Mask → Store → Goes
 chooses e x y z a r =
-    ran r (with_value (value_at (program_of e.program.now) e.turns r x a (tick r.state)) (branches (gang_width e.program.now.gang) a (run_in (program_of e.program.now) e.turns r.frame r.left (stmt_of y.now)) (perhaps_run (program_of e.program.now) e.turns r.frame r.left (option_map (λ v. stmt_of v.now) z))))
+    ran r (with_value (value_at (program_of e.program.now) e.turns r x a (tick r.state))
+    (branches (gang_width e.program.now.gang) a (run_in (program_of e.program.now) e.turns r.frame r.left (stmt_of y.now))
+    (perhaps_run (program_of e.program.now) e.turns r.frame r.left (option_map (λ v. stmt_of v.now) z))))
 
 abbrev pub unmasks : Evaluator → TBlock → Mask → Store → Goes
 unmasks e b a r =
@@ -48,11 +50,13 @@ jumps e j a r = ran r (jumped j a (tick r.state))
 abbrev pub gives : Evaluator → Option (Bor TypedExpr) → Mask → Store → Goes
 gives e None a r = ran r (Went (tick r.state) nobody nobody nobody a)
 gives e (Some x) a r =
-    ran r (with_value (value_at (program_of e.program.now) e.turns r (expr_of x.now) a (tick r.state)) (λ m s. Went (answered r.frame.answer a m s) nobody nobody nobody a))
+    ran r (with_value (value_at (program_of e.program.now) e.turns r (expr_of x.now) a (tick r.state))
+    (λ m s. Went (answered r.frame.answer a m s) nobody nobody nobody a))
 
 abbrev pub claims : Evaluator → TExpr → Span → Mask → Store → Goes
 claims e x span a r =
-    ran r (with_value (value_at (program_of e.program.now) e.turns r x a (tick r.state)) (λ m s. all_go a (checked (offender (gang_width e.program.now.gang) is_false a m) Assert span s tt)))
+    ran r (with_value (value_at (program_of e.program.now) e.turns r x a (tick r.state))
+    (λ m s. all_go a (checked (offender (gang_width e.program.now.gang) is_false a m) Assert span s tt)))
 
 -- what is printed, of values that were found, and of those that come first
 abbrev pub shows : Evaluator → List ℕ → List TExpr → Mask → List Payload → State → Res
@@ -63,7 +67,8 @@ prints e text xs ms a r = ran r (shows e text (exprs_of xs) a (map payload_of ms
 
 abbrev pub prints_all : Evaluator → List ℕ → List TExpr → Mask → Store → Goes
 prints_all e text xs a r =
-    ran r (with_value (values (gang_width e.program.now.gang) r.frame (calls_in (program_of e.program.now) e.turns r) (t_exprs xs) a (tick r.state)) (λ ms s. shows e text xs a ms s))
+    ran r (with_value (values (gang_width e.program.now.gang) r.frame (calls_in (program_of e.program.now) e.turns r) (t_exprs xs) a (tick r.state))
+    (λ ms s. shows e text xs a ms s))
 
 -- ---- a loop that a set enters: by its first part and its test, or by a turn
 
@@ -79,7 +84,8 @@ firsts e x a r = done r (first_in e r.frame r.left x a r.state)
 
 abbrev pub enters : Evaluator → Option (Bor TypedFirst) → Option (Bor TypedExpr) → Option (Bor TypedSimple) → Bor TypedStmt → Mask → Store → Goes
 enters e first test step body a r =
-    ran r (with_value (first_in e r.frame r.left first a (tick r.state)) (λ _ s. tested_in (program_of e.program.now) e.turns r.frame r.left (looping test step body) a e.turns a nobody s))
+    ran r (with_value (first_in e r.frame r.left first a (tick r.state))
+    (λ _ s. tested_in (program_of e.program.now) e.turns r.frame r.left (looping test step body) a e.turns a nobody s))
 
 abbrev pub enters_by_turn : Evaluator → Option (Bor TypedExpr) → Bor TypedStmt → Mask → Store → Goes
 enters_by_turn e test body a r =

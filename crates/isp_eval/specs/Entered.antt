@@ -9,6 +9,10 @@ use Rattle.isp_meaning.specs.Entries.{IsEntry}
 abbrev pub Begins : Program → List ℕ → List Argument → ℕ → Type 0
 Begins program name xs f = (h : TFunction) × IsEntry program name xs f h
 
+-- likewise with a function of its program
+abbrev pub BeginsWith : Program → List ℕ → List Argument → TFunction → Type 0
+BeginsWith program name xs h = (f : ℕ) × IsEntry program name xs f h
+
 -- no run can begin
 abbrev pub NoneBegins : Program → List ℕ → List Argument → Type 0
 NoneBegins program name xs = (f : ℕ) → Begins program name xs f → ⊥

@@ -21,7 +21,8 @@ begins e xs body a r = ran r (rounds_from (program_of e.program.now) e.turns r.f
 -- the bounds that are left, and then the runs
 abbrev pub bounds_in : Evaluator → List TRange → List Range → Bor TypedStmt → Mask → Frame → ℕ → State → Res
 bounds_in e rs before body a fr l s =
-    with_value (ranges (gang_width e.program.now.gang) fr (calls_at (program_of e.program.now) e.turns l) rs a s) (λ xs s1. rounds_from (program_of e.program.now) e.turns fr l (stmt_of body.now) a (before ++ xs) s1)
+    with_value (ranges (gang_width e.program.now.gang) fr (calls_at (program_of e.program.now) e.turns l) rs a s)
+    (λ xs s1. rounds_from (program_of e.program.now) e.turns fr l (stmt_of body.now) a (before ++ xs) s1)
 
 abbrev pub bounds_from : Evaluator → List TRange → List Range → Bor TypedStmt → Mask → Store → Goes
 bounds_from e rs before body a r = ran r (bounds_in e rs before body a r.frame r.left r.state)
@@ -29,8 +30,10 @@ bounds_from e rs before body a r = ran r (bounds_in e rs before body a r.frame r
 -- a `foreach`, and a `foreach_active`: each counts
 abbrev pub foreaches : Evaluator → List TRange → Bor TypedStmt → Mask → Store → Goes
 foreaches e rs body a r =
-    ran r (with_value (ranges (gang_width e.program.now.gang) r.frame (calls_at (program_of e.program.now) e.turns r.left) rs a (tick r.state)) (λ xs s1. rounds_from (program_of e.program.now) e.turns r.frame r.left (stmt_of body.now) a xs s1))
+    ran r (with_value (ranges (gang_width e.program.now.gang) r.frame (calls_at (program_of e.program.now) e.turns r.left) rs a (tick r.state))
+    (λ xs s1. rounds_from (program_of e.program.now) e.turns r.frame r.left (stmt_of body.now) a xs s1))
 
 abbrev pub actives : Evaluator → ℕ → Bor TypedStmt → Mask → Store → Goes
 actives e index body a r =
-    ran r (rounds (run_in (program_of e.program.now) e.turns r.frame r.left (stmt_of body.now)) a (active_rounds (gang_width e.program.now.gang) index a) (tick r.state))
+    ran r (rounds (run_in (program_of e.program.now) e.turns r.frame r.left (stmt_of body.now)) a
+    (active_rounds (gang_width e.program.now.gang) index a) (tick r.state))

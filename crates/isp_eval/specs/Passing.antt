@@ -37,7 +37,8 @@ does_call e left f a ps r =
 -- a packed call
 abbrev pub packs : Evaluator → Packing → TBase → Span → Mask → Store → Goes
 packs e p b span a r =
-    given r (bind (first_element (gang_width e.program.now.gang) r.frame (calls_in (program_of e.program.now) e.turns r) b a r.state) (λ z s. pack (program_of e.program.now) e.turns p (base_array b) z span a r.frame r.left s))
+    given r (bind (first_element (gang_width e.program.now.gang) r.frame (calls_in (program_of e.program.now) e.turns r) b a r.state)
+    (λ z s. pack (program_of e.program.now) e.turns p (base_array b) z span a r.frame r.left s))
 
 abbrev pub packs_from : Evaluator → Packing → ArrayVariable → ℤ → Span → Mask → Store → Goes
 packs_from e p b z span a r = given r (pack (program_of e.program.now) e.turns p b z span a r.frame r.left r.state)

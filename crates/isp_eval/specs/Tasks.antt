@@ -163,14 +163,18 @@ module _ (program : Program) (most : ℕ) where
   -- a packed call, once its first element is known: the value or the variable, then the access
   abbrev pub pack : Packing → ArrayVariable → ℤ → Span → Mask → Frame → ℕ → State → Val Payload
   pack (packing.Store x) b z span a fr l s =
-      bind (value gang_of fr (calls_at program most l) (expr_of x.now) a s) (λ m s2. bind (checked (lowest gang_of (packed_outside (extent fr b) z a)) Index span s2 m) (λ n s3. Gives (One (rank a gang_of)) (packed_kept gang_of (fr.named b.number) z a n s3)))
+      bind (value gang_of fr (calls_at program most l) (expr_of x.now) a s)
+      (λ m s2. bind (checked (lowest gang_of (packed_outside (extent fr b) z a)) Index span s2 m)
+      (λ n s3. Gives (One (rank a gang_of)) (packed_kept gang_of (fr.named b.number) z a n s3)))
   pack (packing.Load v) b z span a fr l s =
-      bind (checked (lowest gang_of (packed_outside (extent fr b) z a)) Index span (tick s) (packed_held (fr.named b.number) z a s)) (λ n s2. Gives (One (rank a gang_of)) (written Varying v a n s2))
+      bind (checked (lowest gang_of (packed_outside (extent fr b) z a)) Index span (tick s) (packed_held (fr.named b.number) z a s))
+      (λ n s2. Gives (One (rank a gang_of)) (written Varying v a n s2))
 
   -- a place is known: the right side, then the access
   abbrev pub write : Writing → TPlace → Place → Mask → Store → State → Val Done
   write (writing.Assign x) p q a r s =
-      bind (value_at r (expr_of x.now) a s) (λ m s2. bind (checked (outside gang_of r.frame q a) Index (place_span p) s2 m) (λ n s3. Gives tt (kept gang_of r.frame q a n s3)))
+      bind (value_at r (expr_of x.now) a s) (λ m s2. bind (checked (outside gang_of r.frame q a) Index (place_span p) s2 m)
+      (λ n s3. Gives tt (kept gang_of r.frame q a n s3)))
   write (writing.Update op t x span) p q a r s =
       bind (value_at r (expr_of x.now) a s) (λ y s2. update gang_of r.frame (calls_in r) op t p q y span a s2)
   write (writing.Step op t span) p q a r s = update gang_of r.frame (calls_in r) op t p q (One 1) span a s
@@ -224,7 +228,8 @@ module _ (program : Program) (most : ℕ) where
   abbrev pub act : Task → Store → Goes
   act (task.Value x set) r = given r (value_at r (expr_of x.now) (flag_of set) r.state)
   act (task.Load b t span set) r =
-      given r (checked (outside gang_of r.frame (Element b t r.value) (flag_of set)) Index span r.state (held gang_of r.frame (Element b t r.value) (flag_of set) r.state))
+      given r (checked (outside gang_of r.frame (Element b t r.value) (flag_of set)) Index span r.state
+      (held gang_of r.frame (Element b t r.value) (flag_of set) r.state))
   act (task.Convert from to) r = given r (Gives (mapped (converted from to) r.value) r.state)
   act (task.Unary op t) r = given r (Gives (mapped (unary_bits op t) r.value) r.state)
   act (task.Right j y set) r =
@@ -234,9 +239,11 @@ module _ (program : Program) (most : ℕ) where
       given r (bind (perhaps r (expr_of y.now) (kept_by (needs l) (flag_of set) r.value) r.state) (λ n s. Gives (settled l (flag_of set) r.value n) s))
   act (task.Settle l m set) r = given r (Gives (settled l (flag_of set) (payload_of m) r.value) r.state)
   act (task.Choose x y set) r =
-      given r (bind (perhaps r (expr_of x.now) (kept_by is_true (flag_of set) r.value) r.state) (λ m s1. bind (perhaps r (expr_of y.now) (kept_by is_false (flag_of set) r.value) s1) (λ n s2. Gives (selected (flag_of set) r.value m n) s2)))
+      given r (bind (perhaps r (expr_of x.now) (kept_by is_true (flag_of set) r.value) r.state)
+      (λ m s1. bind (perhaps r (expr_of y.now) (kept_by is_false (flag_of set) r.value) s1) (λ n s2. Gives (selected (flag_of set) r.value m n) s2)))
   act (task.Otherwise k y set) r =
-      given r (bind (perhaps r (expr_of y.now) (kept_by is_false (flag_of set) (payload_of k)) r.state) (λ n s. Gives (selected (flag_of set) (payload_of k) r.value n) s))
+      given r (bind (perhaps r (expr_of y.now) (kept_by is_false (flag_of set) (payload_of k)) r.state)
+      (λ n s. Gives (selected (flag_of set) (payload_of k) r.value n) s))
   act (task.Select k m set) r = given r (Gives (selected (flag_of set) (payload_of k) (payload_of m) r.value) r.state)
   act (task.Call c set) r =
       given r (call gang_of r.frame (calls_at program most r.left) (call_of c.now) (flag_of set) r.state)
@@ -246,7 +253,8 @@ module _ (program : Program) (most : ℕ) where
   act (task.Arguments c ys before set) r = hand (call_of c.now) (arguments_of ys.now) (map passed_seen before.items) (flag_of set) r
   act (task.Packed p b t span set) r = given r (pack p b (number t (sole r.value)) span (flag_of set) r.frame r.left r.state)
   act (task.PackedStore b t first span set) r =
-      given r (bind (checked (lowest gang_of (packed_outside (extent r.frame b) (number t first) (flag_of set))) Index span r.state r.value) (λ n s. Gives (One (rank (flag_of set) gang_of)) (packed_kept gang_of (r.frame.named b.number) (number t first) (flag_of set) n s)))
+      given r (bind (checked (lowest gang_of (packed_outside (extent r.frame b) (number t first) (flag_of set))) Index span r.state r.value)
+      (λ n s. Gives (One (rank (flag_of set) gang_of)) (packed_kept gang_of (r.frame.named b.number) (number t first) (flag_of set) n s)))
   -- the caller has its frame, its level, its variables and its registers again
   act (task.Return caller left parts set) r =
       On (record {
@@ -260,19 +268,23 @@ module _ (program : Program) (most : ℕ) where
   act task.Forget r = done r (Gives tt r.state)
   act (task.Indexed p b t w set) r = done r (write w (place_of p.now) (Element b t r.value) (flag_of set) r r.state)
   act (task.Assign q span set) r =
-      done r (bind (checked (outside gang_of r.frame (place_seen q) (flag_of set)) Index span r.state r.value) (λ n s. Gives tt (kept gang_of r.frame (place_seen q) (flag_of set) n s)))
+      done r (bind (checked (outside gang_of r.frame (place_seen q) (flag_of set)) Index span r.state r.value)
+      (λ n s. Gives tt (kept gang_of r.frame (place_seen q) (flag_of set) n s)))
   act (task.Update op t q p span set) r =
       done r (update gang_of r.frame (calls_in r) op t (place_of p.now) (place_seen q) r.value span (flag_of set) r.state)
   act (task.Items xs set) r = done r (items gang_of r.frame (calls_in r) (items_of xs.now) (flag_of set) r.state)
   act (task.Declared v t set) r = done r (Gives tt (written t.rate v (flag_of set) r.value r.state))
   act (task.Run x set) r = ran r (run_in r.frame r.left (stmt_of x.now) (flag_of set) r.state)
   act (task.Statements x) r =
-      ran r (go_on (then_run (left_as r.parts r.state) (λ g s. unless_empty gang_of g s (all_in r.frame r.left (stmts_of x.value.rest.now)))) (left_too x.value.before))
+      ran r (go_on (then_run (left_as r.parts r.state) (λ g s. unless_empty gang_of g s (all_in r.frame r.left (stmts_of x.value.rest.now))))
+      (left_too x.value.before))
   act (task.Went set) r = ran r (went_all (flag_of set) r.state)
   act (task.Branch x) r =
-      ran r (branches gang_of (flag_of x.value.set) (run_in r.frame r.left (stmt_of x.value.then.now)) (perhaps_run r.frame r.left (option_map (λ y. stmt_of y.now) x.value.otherwise)) r.value r.state)
+      ran r (branches gang_of (flag_of x.value.set) (run_in r.frame r.left (stmt_of x.value.then.now))
+      (perhaps_run r.frame r.left (option_map (λ y. stmt_of y.now) x.value.otherwise)) r.value r.state)
   act (task.Second x) r =
-      ran r (both_sides (left_as r.parts r.state) (λ s. unless_empty gang_of (flag_of x.value.set) s (perhaps_run r.frame r.left (option_map (λ y. stmt_of y.now) x.value.otherwise))))
+      ran r (both_sides (left_as r.parts r.state) (λ s. unless_empty gang_of (flag_of x.value.set) s
+      (perhaps_run r.frame r.left (option_map (λ y. stmt_of y.now) x.value.otherwise))))
   act (task.Unite p) r = ran r (both_sides (left_as (parts_seen p) r.state) (left_as r.parts))
   act (task.Answer set) r = ran r (Went (answered r.frame.answer (flag_of set) r.value r.state) nobody nobody nobody (flag_of set))
   act (task.Assert span set) r =
@@ -281,19 +293,26 @@ module _ (program : Program) (most : ℕ) where
       ran r (tested_in r.frame r.left x.value.looping (flag_of x.value.all) x.value.left (flag_of x.value.live) (flag_of x.value.returned) r.state)
   act (task.Tested x) r =
       let kept = kept_by is_true (flag_of x.value.live) r.value in
-      ran r (if_so (any gang_of kept) (turns_in r.frame r.left x.value.looping (flag_of x.value.all) x.value.left kept (flag_of x.value.returned)) (ends_in r.frame r.left x.value.looping (flag_of x.value.all) (flag_of x.value.returned)) r.state)
+      ran r (if_so (any gang_of kept) (turns_in r.frame r.left x.value.looping (flag_of x.value.all) x.value.left kept (flag_of x.value.returned))
+      (ends_in r.frame r.left x.value.looping (flag_of x.value.all) (flag_of x.value.returned)) r.state)
   act (task.Turned x) r =
       let live = union r.parts.went r.parts.continued in
       let returned = union (flag_of x.value.returned) r.parts.returned in
-      ran r (if_so (any gang_of live) (stepped_in r.frame r.left x.value.looping (flag_of x.value.all) x.value.left live returned) (ends_in r.frame r.left x.value.looping (flag_of x.value.all) returned) r.state)
+      ran r (if_so (any gang_of live) (stepped_in r.frame r.left x.value.looping (flag_of x.value.all) x.value.left live returned)
+      (ends_in r.frame r.left x.value.looping (flag_of x.value.all) returned) r.state)
   act (task.Start b) r =
-      ran r (with_value (bind (value_at r (expr_of b.value.range.now.end) (flag_of b.value.set) r.state) (ended b.value.range.now.index (number I32 (sole r.value)) (ranges_of b.value.rest.now) (flag_of b.value.set) r.frame r.left)) (found b.value r.frame r.left))
+      ran r (with_value (bind (value_at r (expr_of b.value.range.now.end) (flag_of b.value.set) r.state)
+      (ended b.value.range.now.index (number I32 (sole r.value)) (ranges_of b.value.rest.now) (flag_of b.value.set) r.frame r.left))
+      (found b.value r.frame r.left))
   act (task.End start b) r =
-      ran r (with_value (ended b.value.range.now.index (number I32 start) (ranges_of b.value.rest.now) (flag_of b.value.set) r.frame r.left r.value r.state) (found b.value r.frame r.left))
+      ran r (with_value (ended b.value.range.now.index (number I32 start) (ranges_of b.value.rest.now) (flag_of b.value.set)
+      r.frame r.left r.value r.state) (found b.value r.frame r.left))
   act (task.Rounds x) r =
-      ran r (rounds (run_in r.frame r.left (stmt_of x.value.body.now)) (flag_of x.value.set) (map round_of_run (runs_left gang_of x.value.ranges.items)) r.state)
+      ran r (rounds (run_in r.frame r.left (stmt_of x.value.body.now)) (flag_of x.value.set)
+      (map round_of_run (runs_left gang_of x.value.ranges.items)) r.state)
   act (task.Members x) r =
-      ran r (rounds (run_in r.frame r.left (stmt_of x.value.body.now)) (flag_of x.value.set) (active_rounds gang_of x.value.index (flag_of x.value.left)) r.state)
+      ran r (rounds (run_in r.frame r.left (stmt_of x.value.body.now)) (flag_of x.value.set)
+      (active_rounds gang_of x.value.index (flag_of x.value.left)) r.state)
 
   -- the tasks of a stack, the last one first
   abbrev pub finish : List Task → Store → Goes
@@ -335,7 +354,8 @@ writes e w p q a r = done r (write (program_of e.program.now) e.turns w p q a r 
 
 abbrev pub targets : Evaluator → Writing → TPlace → Mask → Store → Goes
 targets e w p a r =
-    done r (bind (place (gang_of (program_of e.program.now) e.turns) r.frame (calls_in (program_of e.program.now) e.turns r) p a r.state) (λ q s. write (program_of e.program.now) e.turns w p q a r s))
+    done r (bind (place (gang_of (program_of e.program.now) e.turns) r.frame (calls_in (program_of e.program.now) e.turns r) p a r.state)
+    (λ q s. write (program_of e.program.now) e.turns w p q a r s))
 
 -- a declared item
 abbrev pub declares : Evaluator → TItem → Mask → Store → Goes
@@ -351,7 +371,8 @@ pub record First (old new : Evaluator) (u t : Task) : Type 0 where
 
 -- likewise, where the first is an expression over a set that may be empty
 pub record FirstValue (old new : Evaluator) (x : TExpr) (a : Mask) (t : Task) : Type 0 where
-  pub by : (w : ℕ) → rest new (store_seen new w) ≡ go (given (store_seen old w) (perhaps (program_of old.program.now) old.turns (store_seen old w) x a (state_seen old w))) (λ r. go (does old t r) (rest old))
+  pub by : (w : ℕ) → rest new (store_seen new w) ≡ go (given (store_seen old w)
+      (perhaps (program_of old.program.now) old.turns (store_seen old w) x a (state_seen old w))) (λ r. go (does old t r) (rest old))
 
 pub record Traps (old new : Evaluator) (t : Task) (trap : Trap) : Type 0 where
   pub by : (w : ℕ) → (w' : ℕ) × (does old t (store_seen old w) ≡ Trapped trap (state_seen new w'))
@@ -363,7 +384,8 @@ runs e x a r = ran r (perhaps_run (program_of e.program.now) e.turns r.frame r.l
 -- likewise, over a set that may be empty, and then a task
 abbrev pub runs_then : Evaluator → Option (Bor TypedStmt) → Mask → Task → Store → Goes
 runs_then e x a t r =
-    go (ran r (unless_empty (gang_width e.program.now.gang) a r.state (perhaps_run (program_of e.program.now) e.turns r.frame r.left (option_map (λ y. stmt_of y.now) x)))) (does e t)
+    go (ran r (unless_empty (gang_width e.program.now.gang) a r.state
+    (perhaps_run (program_of e.program.now) e.turns r.frame r.left (option_map (λ y. stmt_of y.now) x)))) (does e t)
 
 -- the statements that are left, where some members left before
 abbrev pub runs_all : Evaluator → List TypedStmt → Exits → Mask → Store → Goes
@@ -386,7 +408,8 @@ ends_on e t r = ran r (ends_in (program_of e.program.now) e.turns r.frame r.left
 abbrev pub keeps_on : Evaluator → Turning → Store → Goes
 keeps_on e t r =
     let kept = kept_by is_true (flag_of t.live) r.value in
-    ran r (if_so (any (gang_width e.program.now.gang) kept) (turns_in (program_of e.program.now) e.turns r.frame r.left t.looping (flag_of t.all) t.left kept (flag_of t.returned)) (ends_in (program_of e.program.now) e.turns r.frame r.left t.looping (flag_of t.all) (flag_of t.returned)) r.state)
+    ran r (if_so (any (gang_width e.program.now.gang) kept) (turns_in (program_of e.program.now) e.turns r.frame r.left t.looping (flag_of t.all)
+    t.left kept (flag_of t.returned)) (ends_in (program_of e.program.now) e.turns r.frame r.left t.looping (flag_of t.all) (flag_of t.returned)) r.state)
 
 abbrev pub steps_on : Evaluator → Turning → Store → Goes
 steps_on e t r =
@@ -396,4 +419,5 @@ abbrev pub turned_on : Evaluator → Turning → Store → Goes
 turned_on e t r =
     let live = union r.parts.went r.parts.continued in
     let returned = union (flag_of t.returned) r.parts.returned in
-    ran r (if_so (any (gang_width e.program.now.gang) live) (stepped_in (program_of e.program.now) e.turns r.frame r.left t.looping (flag_of t.all) t.left live returned) (ends_in (program_of e.program.now) e.turns r.frame r.left t.looping (flag_of t.all) returned) r.state)
+    ran r (if_so (any (gang_width e.program.now.gang) live) (stepped_in (program_of e.program.now) e.turns r.frame r.left t.looping (flag_of t.all)
+    t.left live returned) (ends_in (program_of e.program.now) e.turns r.frame r.left t.looping (flag_of t.all) returned) r.state)

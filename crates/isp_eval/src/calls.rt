@@ -24,7 +24,6 @@ impl<'a> Evaluator<'a> {
         ensures ok { OnOk result (Does self.old self.new (Task.Call call.entry set)) }
         ensures err { IfErr result (λ e. e ≡ Stop.Memory) }
     {
-        self.tick();
         let after = Task::Arguments {
             call,
             rest: call.arguments.as_slice(),
@@ -61,7 +60,6 @@ impl<'a> Evaluator<'a> {
                     Ok(())
                 }
                 TypedArgument::Array { array, .. } => {
-                    self.tick();
                     done.push(Passed::Store(self.here.store(array.number)))?;
                     let after = Task::Arguments {
                         call,
@@ -134,7 +132,8 @@ impl<'a> Evaluator<'a> {
         set: Active,
     ) -> Result<(), Stop>
         requires { 0 < self.old.left }
-        ensures ok { OnOk result (Comes self.old self.new (does_call self.old (self.old.left - 1) (function_of function.now) (flag_of set) (map passed_seen passed.now))) }
+        ensures ok { OnOk result (Comes self.old self.new (does_call self.old (self.old.left - 1) (function_of function.now) (flag_of set)
+            (map passed_seen passed.now))) }
         ensures err { IfErr result (λ e. e ≡ Stop.Memory) }
     {
         let begun = Activation::begun(self.alloc, function, passed, &self.here, &set)?;
@@ -175,8 +174,8 @@ fn first(gang: Gang, set: &Active) -> usize
     }
 }
 
-/// A function by its number.
-pub fn function_at(functions: &[TypedFunction], function: usize) -> Option<&TypedFunction>
+// A function by its number.
+fn function_at(functions: &[TypedFunction], function: usize) -> Option<&TypedFunction>
     ensures { slice_get functions.now function ≡ option_map (λ f. f.now) result }
 {
     functions.get(function)

@@ -28,8 +28,10 @@ impl<'a> Activation<'a> {
         caller: &Activation<'_>,
         set: &Active,
     ) -> Result<Activation<'a>, AllocError>
-        ensures frame { IfOk result (λ r. frame_seen r ≡ Calls.frame_of (function_of function.now) (map passed_seen passed.now) (frame_seen caller.now)) }
-        ensures state { IfOk result (λ r. (s : State) → variables_seen r (below (length caller.now.sizes.items) s.arrays) s.out s.work ≡ Calls.begun (function_of function.now) (map passed_seen passed.now) (frame_seen caller.now) (flag_of set.now) s) }
+        ensures frame { IfOk result (λ r. frame_seen r ≡ Calls.frame_of (function_of function.now) (map passed_seen passed.now)
+            (frame_seen caller.now)) }
+        ensures state { IfOk result (λ r. (s : State) → variables_seen r (below (length caller.now.sizes.items) s.arrays) s.out s.work
+            ≡ Calls.begun (function_of function.now) (map passed_seen passed.now) (frame_seen caller.now) (flag_of set.now) s) }
     {
         let variables = function.variables.as_slice();
         let mut sizes = copied(alloc, caller.sizes.as_slice())?;
@@ -50,7 +52,8 @@ impl<'a> Activation<'a> {
 
     /// What the call gives the members of a set.
     pub fn answered(&self, set: &Active) -> Computed
-        ensures { (stores : ℕ → ℕ → ℕ) (out : List ℕ) (w : ℕ) → payload_of result ≡ Calls.answer_of (answer_in self.now.function) (flag_of set.now) (variables_seen self.now stores out w) }
+        ensures { (stores : ℕ → ℕ → ℕ) (out : List ℕ) (w : ℕ) → payload_of result
+            ≡ Calls.answer_of (answer_in self.now.function) (flag_of set.now) (variables_seen self.now stores out w) }
     {
         match self.answer() {
             Some(ty) => match ty.rate {
@@ -71,7 +74,8 @@ fn stores(
     sizes: &mut Vec<usize>,
 ) -> Result<Vec<usize>, AllocError>
     ensures sizes { OnOk result (sizes.new.items ≡ sizes.old.items ++ Calls.shared_sizes variables.now) }
-    ensures named { IfOk result (λ r. (v : ℕ) → get_or r.items v (length sizes.new.items) ≡ named_at variables.now (map passed_seen passed.now) (length sizes.old.items) v) }
+    ensures named { IfOk result (λ r. (v : ℕ) → get_or r.items v (length sizes.new.items)
+        ≡ named_at variables.now (map passed_seen passed.now) (length sizes.old.items) v) }
 {
     let count = longer(variables.len(), passed.len());
     let mut named = Vec::new(alloc);

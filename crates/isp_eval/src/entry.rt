@@ -1,19 +1,20 @@
 //! The function that a run begins with.
 ghost use Rattle.std.specs.Prelude.{◌≡◌, ◌↔◌, IsTrue, IfSome, None};
 ghost use Rattle.isp_typed.specs.Views.{function_of, program_of};
-ghost use Rattle.isp_eval.specs.Entered.{Begins, Can, NoneBegins};
+ghost use Rattle.isp_eval.specs.Entered.{BeginsWith, Can, NoneBegins};
 
 use isp_base::Bound;
 use isp_typed::{Program, TypedFunction};
 
-/// The number of an exported function of a name and a signature.
-pub fn find(program: &Program, entry: &str, bound: &Bound) -> Option<usize>
-    ensures some { IfSome result (Begins (program_of program.now) entry.now bound.now.arguments.items) }
+/// The exported function of a name and a signature.
+pub fn find<'a>(program: &'a Program, entry: &str, bound: &Bound) -> Option<&'a TypedFunction>
+    ensures some { IfSome result (λ f. BeginsWith (program_of program.now) entry.now bound.now.arguments.items (function_of f.now)) }
     ensures none { result ≡ None → NoneBegins (program_of program.now) entry.now bound.now.arguments.items }
 {
     for number in 0..program.functions.len() {
-        if can_begin(&program.functions[number], entry, bound) {
-            return Some(number);
+        let function = &program.functions[number];
+        if can_begin(function, entry, bound) {
+            return Some(function);
         }
     }
     None

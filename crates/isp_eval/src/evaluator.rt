@@ -52,7 +52,8 @@ fn evaluator<'a>(
     ensures program { result.program ≡ program.entry }
     ensures turns { result.turns ≡ turns }
     ensures left { result.left ≡ 256 }
-    ensures frame { frame_seen result.here ≡ record (frame_seen result.here) { sizes = values_of sizes.items; opened = length sizes.items; own_sizes = λ v. 0; answer = None } }
+    ensures frame { frame_seen result.here ≡ record (frame_seen result.here)
+        { sizes = values_of sizes.items; opened = length sizes.items; own_sizes = λ v. 0; answer = None } }
     ensures state { state_seen result 0 ≡ nothing_written (stores_of stores.items) }
     ensures nothing { result.tasks.items ≡ [] }
 {
@@ -74,7 +75,6 @@ fn evaluator<'a>(
         here,
         stores,
         output: Vec::new(alloc),
-        work: 0,
         value: Computed::One(0),
         sets: Sets::all(&nobody()),
         tasks: Vec::new(alloc),
@@ -86,8 +86,10 @@ impl<'a> Evaluator<'a> {
     pub fn done(&mut self, function: &'a TypedFunction, passed: &[Passed]) -> Result<(), Stop>
         requires some { 0 < self.old.left }
         requires nothing { self.old.tasks.items ≡ [] }
-        ensures ok { OnOk result (Ends self.old self.new (does_call self.old (self.old.left - 1) (function_of function.now) (everyone (gang_width self.old.program.now.gang)) (map passed_seen passed.now))) }
-        ensures err { IfErr result (Halts self.old self.new (does_call self.old (self.old.left - 1) (function_of function.now) (everyone (gang_width self.old.program.now.gang)) (map passed_seen passed.now))) }
+        ensures ok { OnOk result (Ends self.old self.new (does_call self.old (self.old.left - 1) (function_of function.now)
+            (everyone (gang_width self.old.program.now.gang)) (map passed_seen passed.now))) }
+        ensures err { IfErr result (Halts self.old self.new (does_call self.old (self.old.left - 1) (function_of function.now)
+            (everyone (gang_width self.old.program.now.gang)) (map passed_seen passed.now))) }
     {
         let set = everyone(self.gang());
         self.begin(function, passed, set)?;

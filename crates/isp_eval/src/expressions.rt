@@ -1,4 +1,4 @@
-//! What expressions give. Each node that is reached counts before its parts; a conversion is no node.
+//! What expressions give: the parts of a node come before what is done with them.
 ghost use Rattle.std.specs.Prelude.{◌≡◌, IfErr, OnOk};
 ghost use Rattle.isp_base.specs.Sets.{flag_of};
 ghost use Rattle.isp_base.specs.declared.trap.Trap.{Trap};
@@ -28,12 +28,10 @@ impl<'a> Evaluator<'a> {
     {
         match x {
             TypedExpr::Constant { value, .. } => {
-                self.tick();
                 self.value = Computed::One(low_bits(value.elem, value.bits));
                 Ok(())
             }
             TypedExpr::ProgramIndex { .. } => {
-                self.tick();
                 self.value = numbers(&set);
                 Ok(())
             }
@@ -50,7 +48,6 @@ impl<'a> Evaluator<'a> {
                 Ok(())
             }
             TypedExpr::Cast { operand, .. } => {
-                self.tick();
                 self.later(Task::Value(operand, set))?;
                 Ok(())
             }
@@ -143,7 +140,6 @@ impl<'a> Evaluator<'a> {
                 values,
                 ..
             } => {
-                self.tick();
                 let gathering = Gathering::Library {
                     function: *function,
                     elem: *elem,
@@ -153,17 +149,13 @@ impl<'a> Evaluator<'a> {
                 Ok(())
             }
             TypedExpr::PackedStore { base, value, span } => {
-                self.tick();
                 self.base(Packing::Store(value), base, *span, set)
             }
             TypedExpr::PackedLoad {
                 base,
                 variable,
                 span,
-            } => {
-                self.tick();
-                self.base(Packing::Load(*variable), base, *span, set)
-            }
+            } => { self.base(Packing::Load(*variable), base, *span, set) }
         }
     }
 
@@ -174,7 +166,6 @@ impl<'a> Evaluator<'a> {
     {
         match place {
             TypedPlace::Variable { number, ty, .. } => {
-                self.tick();
                 let place = Place::Variable {
                     number: *number,
                     ty: *ty,
@@ -222,13 +213,11 @@ impl<'a> Evaluator<'a> {
         Ok(())
     }
 
-    /// A node is reached: its first operand comes first, then a task.
-    #[tactic(auto, using(crate::proofs::Nodes::first_ticked))]
+    /// A node's first operand, and then a task.
     pub fn reach(&mut self, first: &'a TypedExpr, set: Active, after: Task<'a>) -> Result<(), Stop>
         ensures ok { OnOk result (First self.old self.new (Task.Value first.entry set) after.entry) }
         ensures err { IfErr result (λ e. e ≡ Stop.Memory) }
     {
-        self.tick();
         self.both(Task::Value(first, set), after)?;
         Ok(())
     }
@@ -273,7 +262,8 @@ impl<'a> Evaluator<'a> {
         set: Active,
     ) -> Result<(), Stop>
         ensures ok { OnOk result (Does self.old self.new (Task.Join (Joining.Operate operator elem span) left set)) }
-        ensures err { IfErr result (λ e. (t : Trap) × (e ≡ Stop.Trapped t) × Traps self.old self.new (Task.Join (Joining.Operate operator elem span) left set) t) }
+        ensures err { IfErr result (λ e. (t : Trap) × (e ≡ Stop.Trapped t)
+            × Traps self.old self.new (Task.Join (Joining.Operate operator elem span) left set) t) }
     {
         let offender = dividing_by_zero(self.gang(), operator, elem, &set, &self.value);
         checked(offender, TrapKind::Divide, span)?;

@@ -24,7 +24,8 @@ impl<'a> Evaluator<'a> {
         done: Vec<Computed>,
         set: Active,
     ) -> Result<(), Stop>
-        ensures ok { OnOk result (Comes self.old self.new (gathers self.old gathering.entry (exprs_of rest.now) (map payload_of done.items) (flag_of set))) }
+        ensures ok { OnOk result (Comes self.old self.new (gathers self.old gathering.entry (exprs_of rest.now)
+            (map payload_of done.items) (flag_of set))) }
         ensures err { IfErr result (λ e. e ≡ Stop.Memory) }
     {
         match rest {

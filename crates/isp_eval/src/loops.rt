@@ -46,7 +46,7 @@ impl<'a> Turning<'a> {
 }
 
 impl<'a> Evaluator<'a> {
-    /// A `while` counts, then comes its test.
+    /// A `while`: its test comes first.
     #[tactic(auto, using(crate::proofs::Arms::enters_tests, crate::proofs::Arms::enters_tests_halts))]
     pub fn enter_while(
         &mut self,
@@ -57,7 +57,6 @@ impl<'a> Evaluator<'a> {
         ensures ok { OnOk result (Comes self.old self.new (enters self.old None (Some test.entry) None body.entry (flag_of set))) }
         ensures err { IfErr result (Halts self.old self.new (enters self.old None (Some test.entry) None body.entry (flag_of set))) }
     {
-        self.tick();
         let looping = Looping {
             test: Some(test),
             step: None,
@@ -68,7 +67,7 @@ impl<'a> Evaluator<'a> {
         Ok(())
     }
 
-    /// A `do` counts, then comes a turn.
+    /// A `do`: a turn comes first.
     #[tactic(auto, using(crate::proofs::Arms::enters_turns, crate::proofs::Arms::enters_turns_halts))]
     pub fn enter_do(
         &mut self,
@@ -79,7 +78,6 @@ impl<'a> Evaluator<'a> {
         ensures ok { OnOk result (Comes self.old self.new (enters_by_turn self.old (Some test.entry) body.entry (flag_of set))) }
         ensures err { IfErr result (Halts self.old self.new (enters_by_turn self.old (Some test.entry) body.entry (flag_of set))) }
     {
-        self.tick();
         let looping = Looping {
             test: Some(test),
             step: None,
@@ -90,7 +88,7 @@ impl<'a> Evaluator<'a> {
         Ok(())
     }
 
-    /// A `for` counts, then come its first part and its test.
+    /// A `for`: its first part comes first, then its test.
     #[tactic(auto, using(crate::proofs::Arms::enters_first))]
     pub fn enter_for(
         &mut self,
@@ -103,7 +101,6 @@ impl<'a> Evaluator<'a> {
         ensures ok { OnOk result (Comes self.old self.new (enters self.old first.entry test.entry step.entry body.entry (flag_of set))) }
         ensures err { IfErr result (λ e. e ≡ Stop.Memory) }
     {
-        self.tick();
         let looping = Looping { test, step, body };
         let turning = Turning::new(looping, &set, self.turns);
         let after = Box::new(self.alloc, turning)?;
@@ -137,7 +134,6 @@ impl<'a> Evaluator<'a> {
     {
         match first {
             TypedFirst::Declare { items, .. } => {
-                self.tick();
                 self.later(Task::Items(items.as_slice(), set))?;
                 Ok(())
             }
@@ -216,7 +212,6 @@ impl<'a> Evaluator<'a> {
         if left == 0 {
             return Err(Stop::Cut);
         }
-        self.tick();
         let after = Turning {
             looping,
             all,

@@ -64,7 +64,8 @@ fn element_of(stores: &[Vec<u64>], store: usize, index: i128) -> u64
 /// The consecutive elements of a store for the members.
 #[tactic(auto, using(isp_gang::proofs::Rows::begun, isp_gang::proofs::Rows::on_made))]
 pub fn held(stores: &[Vec<u64>], store: usize, elem: Elem, first: u64, set: &Active) -> Row
-    ensures { map_of result ≡ on (flag_of set.now) (λ p. stores_of stores.now store (unsigned_abs (packed_index (number elem first) (flag_of set.now) p))) }
+    ensures { map_of result ≡ on (flag_of set.now) (λ p. stores_of stores.now store
+        (unsigned_abs (packed_index (number elem first) (flag_of set.now) p))) }
 {
     let mut row = [None; WIDEST];
     for instance in 0..WIDEST {

@@ -86,7 +86,8 @@ impl Evaluator<'_> {
 
     /// What the members of a set find at a place.
     pub fn held(&self, place: &Place, set: &Active) -> Computed
-        ensures { (w : ℕ) → payload_of result ≡ Places.held (gang_width self.now.program.now.gang) (frame_seen self.now.here) (place_seen place.now) (flag_of set.now) (state_seen self.now w) }
+        ensures { (w : ℕ) → payload_of result ≡ Places.held (gang_width self.now.program.now.gang) (frame_seen self.now.here)
+            (place_seen place.now) (flag_of set.now) (state_seen self.now w) }
     {
         match place {
             Place::Variable { number, ty } => self.variable(*number, ty.rate, set),
@@ -109,7 +110,8 @@ impl Evaluator<'_> {
 
     // The elements that the members of a set find at their indices.
     fn elements(&self, array: ArrayVariable, elem: Elem, index: &Computed, set: &Active) -> Computed
-        ensures { (w : ℕ) → payload_of result ≡ Places.elements (frame_seen self.now.here) array elem (payload_of index.now) (flag_of set.now) array.ty.rate (state_seen self.now w) }
+        ensures { (w : ℕ) → payload_of result ≡ Places.elements (frame_seen self.now.here) array elem (payload_of index.now)
+            (flag_of set.now) array.ty.rate (state_seen self.now w) }
     {
         match array.ty.rate {
             Rate::Uniform => self.shared(self.here.store(array.number), elem, index),
@@ -134,7 +136,8 @@ impl Evaluator<'_> {
 
     /// Writes a place for the members of a set, none of whose indices is outside.
     pub fn keep(&mut self, place: &Place, set: &Active, value: &Computed) -> Result<(), Stop>
-        ensures ok { OnOk result (Changes self.old self.new (Places.kept (gang_width self.old.program.now.gang) (frame_seen self.old.here) (place_seen place.now) (flag_of set.now) (payload_of value.now))) }
+        ensures ok { OnOk result (Changes self.old self.new (Places.kept (gang_width self.old.program.now.gang) (frame_seen self.old.here)
+            (place_seen place.now) (flag_of set.now) (payload_of value.now))) }
         ensures err { IfErr result (λ e. e ≡ Stop.Memory) }
     {
         match place {
@@ -176,7 +179,8 @@ impl Evaluator<'_> {
         set: &Active,
         value: &Computed,
     ) -> Result<(), Stop>
-        ensures ok { OnOk result (Changes self.old self.new (Places.with_elements (frame_seen self.old.here) array elem (payload_of index.now) (flag_of set.now) (gang_width self.old.program.now.gang) array.ty.rate (payload_of value.now))) }
+        ensures ok { OnOk result (Changes self.old self.new (Places.with_elements (frame_seen self.old.here) array elem
+            (payload_of index.now) (flag_of set.now) (gang_width self.old.program.now.gang) array.ty.rate (payload_of value.now))) }
         ensures err { IfErr result (λ e. e ≡ Stop.Memory) }
     {
         let places = places(elem, index);
@@ -208,7 +212,9 @@ impl Evaluator<'_> {
         set: &Active,
         value: &Computed,
     ) -> Result<(), Stop>
-        ensures ok { OnOk result (stores_of self.new.stores.items ≡ put (stores_of self.old.stores.items) store (Places.stored (gang_width self.old.program.now.gang) (flag_of set.now) (payload_of places.now) (payload_of value.now) (stores_of self.old.stores.items store))) }
+        ensures ok { OnOk result (stores_of self.new.stores.items
+            ≡ put (stores_of self.old.stores.items) store (Places.stored (gang_width self.old.program.now.gang) (flag_of set.now)
+            (payload_of places.now) (payload_of value.now) (stores_of self.old.stores.items store))) }
         ensures rest { OnOk result (self.new ≡ record self.old { stores = self.new.stores }) }
         ensures err { IfErr result (λ e. e ≡ Stop.Memory) }
     {

@@ -84,7 +84,8 @@ fn show(
     value: &Computed,
     set: &Active,
 ) -> Result<(), AllocError>
-    ensures { OnOk result (output.new.items ≡ output.old.items ++ Printing.shown (gang_width gang) (flag_of set.now) (type_of (expr_of shown.now)) (payload_of value.now)) }
+    ensures { OnOk result (output.new.items ≡ output.old.items
+        ++ Printing.shown (gang_width gang) (flag_of set.now) (type_of (expr_of shown.now)) (payload_of value.now)) }
 {
     let ty = shown.ty();
     match ty.rate {
@@ -106,7 +107,8 @@ fn show_at(
     place: usize,
     set: &Active,
 ) -> Result<(), AllocError>
-    ensures { OnOk result (output.new.items ≡ output.old.items ++ first_text (drop place (shown_all (gang_width gang) (flag_of set.now) (exprs_of shown.now) (map payload_of values.now)))) }
+    ensures { OnOk result (output.new.items ≡ output.old.items
+        ++ first_text (drop place (shown_all (gang_width gang) (flag_of set.now) (exprs_of shown.now) (map payload_of values.now)))) }
 {
     if place >= shown.len() {
         return Ok(());
@@ -127,7 +129,8 @@ fn show_text(
     values: &[Computed],
     set: &Active,
 ) -> Result<(), AllocError>
-    ensures { OnOk result (output.new.items ≡ output.old.items ++ print_text text.now (shown_all (gang_width gang) (flag_of set.now) (exprs_of shown.now) (map payload_of values.now))) }
+    ensures { OnOk result (output.new.items ≡ output.old.items
+        ++ print_text text.now (shown_all (gang_width gang) (flag_of set.now) (exprs_of shown.now) (map payload_of values.now))) }
 {
     let mut next: usize = 0;
     for place in 0..text.len() {

@@ -62,7 +62,7 @@ pub struct Members<'a> {
 // ---- bounds
 
 impl<'a> Evaluator<'a> {
-    /// A `foreach` counts, then come its bounds.
+    /// A `foreach`: its bounds come first.
     #[tactic(auto, using(crate::proofs::Foreach::foreach_comes))]
     pub fn foreach(
         &mut self,
@@ -73,7 +73,6 @@ impl<'a> Evaluator<'a> {
         ensures ok { OnOk result (Comes self.old self.new (foreaches self.old (ranges_of ranges.now) body.entry (flag_of set))) }
         ensures err { IfErr result (λ e. e ≡ Stop.Memory) }
     {
-        self.tick();
         let done = Vec::new(self.alloc);
         self.bounds(ranges, done, body, set)?;
         Ok(())
@@ -87,7 +86,8 @@ impl<'a> Evaluator<'a> {
         body: &'a TypedStmt,
         set: Active,
     ) -> Result<(), Stop>
-        ensures ok { OnOk result (Comes self.old self.new (bounds_from self.old (ranges_of rest.now) (map range_seen done.items) body.entry (flag_of set))) }
+        ensures ok { OnOk result (Comes self.old self.new (bounds_from self.old (ranges_of rest.now) (map range_seen done.items)
+            body.entry (flag_of set))) }
         ensures err { IfErr result (λ e. e ≡ Stop.Memory) }
     {
         match rest {
@@ -146,7 +146,7 @@ impl<'a> Evaluator<'a> {
         Ok(())
     }
 
-    // All bounds were found: the runs are counted, then the first begins.
+    // All bounds were found: the first run begins.
     fn begin_rounds(
         &mut self,
         mut ranges: Vec<Range>,
@@ -156,8 +156,6 @@ impl<'a> Evaluator<'a> {
         ensures ok { OnOk result (Comes self.old self.new (begins self.old (map range_seen ranges.items) body.entry (flag_of set))) }
         ensures err { IfErr result (λ e. e ≡ Stop.Memory) }
     {
-        let count = counted(self.gang(), ranges.as_slice());
-        self.work = self.work.saturating_add(count);
         reset(&mut ranges, 0);
         let rounds = Rounds { ranges, body, set };
         let rounds = Box::new(self.alloc, rounds)?;
@@ -214,7 +212,7 @@ impl<'a> Evaluator<'a> {
         Ok(())
     }
 
-    /// A `foreach_active` counts, then comes each member alone.
+    /// A `foreach_active`: each member comes alone.
     #[tactic(auto, using(crate::proofs::Foreach::active_comes))]
     pub fn foreach_active(
         &mut self,
@@ -225,7 +223,6 @@ impl<'a> Evaluator<'a> {
         ensures ok { OnOk result (Comes self.old self.new (actives self.old index body.entry (flag_of set))) }
         ensures err { IfErr result (λ e. e ≡ Stop.Memory) }
     {
-        self.tick();
         let members = Members {
             index,
             body,
@@ -254,7 +251,6 @@ impl<'a> Evaluator<'a> {
                 Ok(())
             }
             Some(instance) => {
-                self.tick();
                 let one = alone(instance);
                 let number = Computed::One(instance as u64);
                 self.write(index, Rate::Uniform, &one, &number)?;
@@ -423,45 +419,5 @@ fn advance(gang: Gang, ranges: &mut Vec<Range>)
     if count > 0 {
         let next = further(&ranges[count - 1], gang.width());
         ranges[count - 1].next = next;
-    }
-}
-
-// What the ranges count, up to the greatest number.
-fn counted(gang: Gang, ranges: &[Range]) -> u64
-    ensures { result ≡ min (counted (gang_width gang) 1 (map range_seen ranges.now)) (2 ^ 64 - 1) }
-{
-    let mut count: u64 = 0;
-    let mut place = ranges.len();
-    while place > 0 {
-        place -= 1;
-        count = counted_from(gang, ranges, place, count);
-    }
-    count
-}
-
-// What those from a place on count, where it is known what those after it count.
-fn counted_from(gang: Gang, ranges: &[Range], place: usize, later: u64) -> u64
-    requires there { place < length ranges.now }
-    requires later { later ≡ min (counted (gang_width gang) 1 (map range_seen (drop (place + 1) ranges.now))) (2 ^ 64 - 1) }
-    ensures { result ≡ min (counted (gang_width gang) 1 (map range_seen (drop place ranges.now))) (2 ^ 64 - 1) }
-{
-    let numbers = numbers(&ranges[place]);
-    if place + 1 == ranges.len() {
-        let width = gang.width() as u64;
-        (numbers + (width - 1)) / width
-    } else {
-        numbers.saturating_mul(later.saturating_add(1))
-    }
-}
-
-// How many numbers a range has.
-fn numbers(range: &Range) -> u64
-    ensures is { result ≡ length_of (range_seen range.now) }
-    ensures small { result < 2 ^ 33 }
-{
-    if range.start < range.end {
-        (i64::from(range.end) - i64::from(range.start)) as u64
-    } else {
-        0
     }
 }

@@ -10,7 +10,6 @@ ghost use Rattle.isp_eval.specs.Evaluated.{IsRefused, IsRun, outcome_seen};
 ghost use Rattle.isp_eval.specs.Settled.{Stands};
 ghost use Rattle.isp_eval.specs.declared.fault.EvalFault.TheVariants.{Memory};
 
-use crate::calls::function_at;
 use crate::ending::{answer, arrays};
 use crate::entry::find;
 use crate::evaluator::started;
@@ -39,10 +38,7 @@ pub fn evaluate(
     ensures err { IfErr result (λ e. IsRefused e (program_of checked.now) entry.now bound.now.arguments.items) }
 {
     let program = checked.program();
-    let Some(number) = find(program, entry, bound) else {
-        return Err(EvalFault::NoEntry);
-    };
-    let Some(function) = function_at(program.functions.as_slice(), number) else {
+    let Some(function) = find(program, entry, bound) else {
         return Err(EvalFault::NoEntry);
     };
     let arguments = bound.arguments.as_slice();

@@ -22,7 +22,6 @@ impl<'a> Evaluator<'a> {
         ensures ok { OnOk result (Does self.old self.new (Task.Simple simple.entry set)) }
         ensures err { IfErr result (Halts self.old self.new (does self.old (Task.Simple simple.entry set))) }
     {
-        self.tick();
         match simple {
             TypedSimple::Value(x) => {
                 self.both(Task::Value(x, set), Task::Forget)?;
@@ -79,7 +78,6 @@ impl<'a> Evaluator<'a> {
     {
         match target {
             TypedPlace::Variable { number, ty, .. } => {
-                self.tick();
                 let place = Place::Variable {
                     number: *number,
                     ty: *ty,
@@ -209,7 +207,7 @@ impl<'a> Evaluator<'a> {
         Ok(())
     }
 
-    /// Declared items, of which each counts when it is reached.
+    /// Declared items, one after the other.
     #[tactic(auto, using(crate::proofs::Assignments::no_items))]
     pub fn items(&mut self, items: &'a [TypedItem], set: Active) -> Result<(), Stop>
         ensures ok { OnOk result (Does self.old self.new (Task.Items items.entry set)) }
@@ -235,7 +233,6 @@ impl<'a> Evaluator<'a> {
     {
         match item {
             TypedItem::Plain { number, ty, .. } => {
-                self.tick();
                 self.write(*number, ty.rate, &set, &Computed::One(0))?;
                 self.forget();
                 Ok(())
@@ -255,7 +252,6 @@ impl<'a> Evaluator<'a> {
                 Ok(())
             }
             TypedItem::Array { array, .. } => {
-                self.tick();
                 self.clear(*array, &set);
                 self.forget();
                 Ok(())

@@ -100,8 +100,6 @@ pub struct Evaluator<'a> {
     pub here: Activation<'a>,
     pub stores: Vec<Vec<u64>>,
     pub output: Vec<u8>,
-    /// How many nodes were reached, up to the greatest number.
-    pub work: u64,
     /// What the last expression gave.
     pub value: Computed,
     /// Where the last statement left its members.
@@ -116,13 +114,6 @@ impl<'a> Evaluator<'a> {
         ensures { result ≡ self.now.program.now.gang }
     {
         self.program.gang
-    }
-
-    /// One more node is reached.
-    pub fn tick(&mut self)
-        ensures { self.new ≡ record self.old { work = self.new.work } }
-    {
-        self.work = self.work.saturating_add(1);
     }
 
     /// What was found is not needed.

@@ -85,7 +85,6 @@ impl<'a> Evaluator<'a> {
         ensures ok { OnOk result (Comes self.old self.new (declares_all self.old (items_of items.now) (flag_of set))) }
         ensures err { IfErr result (λ e. e ≡ Stop.Memory) }
     {
-        self.tick();
         self.both(Task::Items(items, set), Task::Went(set))?;
         Ok(())
     }
@@ -100,7 +99,7 @@ impl<'a> Evaluator<'a> {
         Ok(())
     }
 
-    // An `if`: it counts, then comes its test.
+    // An `if`: its test comes first.
     #[tactic(auto, using(crate::proofs::Arms::chosen))]
     fn choice(
         &mut self,
@@ -112,7 +111,6 @@ impl<'a> Evaluator<'a> {
         ensures ok { OnOk result (Comes self.old self.new (chooses self.old (expr_of test.now) then.entry otherwise.entry (flag_of set))) }
         ensures err { IfErr result (λ e. e ≡ Stop.Memory) }
     {
-        self.tick();
         let branches = Branches {
             then,
             otherwise,
@@ -129,7 +127,6 @@ impl<'a> Evaluator<'a> {
         ensures ok { OnOk result (Comes self.old self.new (unmasks self.old (block_of body.now) (flag_of set))) }
         ensures err { IfErr result (λ e. e ≡ Stop.Memory) }
     {
-        self.tick();
         let all = everyone(self.gang());
         self.later(Task::Went(set))?;
         self.block(body, all)?;
@@ -141,7 +138,6 @@ impl<'a> Evaluator<'a> {
     fn jump(&mut self, jump: Jump, set: &Active)
         ensures { Comes self.old self.new (jumps self.old jump (flag_of set.now)) }
     {
-        self.tick();
         self.leave(jumped(jump, set));
     }
 
@@ -151,7 +147,6 @@ impl<'a> Evaluator<'a> {
         ensures ok { OnOk result (Comes self.old self.new (gives self.old value.entry (flag_of set))) }
         ensures err { IfErr result (λ e. e ≡ Stop.Memory) }
     {
-        self.tick();
         match value {
             None => {
                 self.leave(returned(&set));
@@ -175,7 +170,6 @@ impl<'a> Evaluator<'a> {
         ensures ok { OnOk result (Comes self.old self.new (prints_all self.old text.now (exprs_of values.now) (flag_of set))) }
         ensures err { IfErr result (λ e. e ≡ Stop.Memory) }
     {
-        self.tick();
         let gathering = Gathering::Print { text, values };
         let done = Vec::new(self.alloc);
         self.values(gathering, values, done, set)?;
@@ -188,7 +182,6 @@ impl<'a> Evaluator<'a> {
         ensures ok { OnOk result (Comes self.old self.new (claims self.old (expr_of test.now) span (flag_of set))) }
         ensures err { IfErr result (λ e. e ≡ Stop.Memory) }
     {
-        self.tick();
         self.both(Task::Value(test, set), Task::Assert { span, set })?;
         Ok(())
     }
@@ -291,12 +284,11 @@ impl<'a> Evaluator<'a> {
         self.leave(sets);
     }
 
-    /// A block: it counts, then come its statements.
+    /// A block: its statements in order.
     pub fn block(&mut self, block: &'a TypedBlock, set: Active) -> Result<(), Stop>
         ensures ok { OnOk result (Comes self.old self.new (blocks self.old (block_of block.now) (flag_of set))) }
         ensures err { IfErr result (λ e. e ≡ Stop.Memory) }
     {
-        self.tick();
         self.statements(block.statements.as_slice(), Exits::none(), set)?;
         Ok(())
     }

@@ -57,7 +57,8 @@ fn put_one(
     place: Option<u64>,
     bits: Option<u64>,
 ) -> Result<(), AllocError>
-    ensures { OnOk result (stores_of stores.new.items ≡ put (stores_of stores.old.items) store (put_at place bits (stores_of stores.old.items store))) }
+    ensures { OnOk result (stores_of stores.new.items ≡ put (stores_of stores.old.items) store
+        (put_at place bits (stores_of stores.old.items store))) }
 {
     match (place, bits) {
         (Some(place), Some(bits)) => put_element(alloc, stores, store, place as usize, bits),
@@ -75,7 +76,8 @@ pub fn put_each(
     places: &Row,
     values: &Row,
 ) -> Result<(), AllocError>
-    ensures { OnOk result (stores_of stores.new.items ≡ put (stores_of stores.old.items) store (scatter (gang_width gang) (map_of places.now) (map_of values.now) (stores_of stores.old.items store))) }
+    ensures { OnOk result (stores_of stores.new.items ≡ put (stores_of stores.old.items) store
+        (scatter (gang_width gang) (map_of places.now) (map_of values.now) (stores_of stores.old.items store))) }
 {
     for instance in 0..gang.width() {
         put_one(alloc, stores, store, places[instance], values[instance])?;
@@ -111,7 +113,8 @@ pub fn put_own(
     place: usize,
     lanes: &Lanes,
 ) -> Result<(), AllocError>
-    ensures { OnOk result (own_of arrays.new.items ≡ put (own_of arrays.old.items) array (put (own_of arrays.old.items array) place (lane_of lanes.now))) }
+    ensures { OnOk result (own_of arrays.new.items ≡ put (own_of arrays.old.items) array
+        (put (own_of arrays.old.items array) place (lane_of lanes.now))) }
 {
     for _next in arrays.len()..array {
         arrays.push(Vec::new(alloc))?;
@@ -136,7 +139,8 @@ fn put_lane(
     bits: Option<u64>,
 ) -> Result<(), AllocError>
     requires { instance < 16 }
-    ensures { OnOk result (own_of arrays.new.items ≡ put (own_of arrays.old.items) array (put_own_at instance place bits (own_of arrays.old.items array))) }
+    ensures { OnOk result (own_of arrays.new.items ≡ put (own_of arrays.old.items) array
+        (put_own_at instance place bits (own_of arrays.old.items array))) }
 {
     match (place, bits) {
         (Some(place), Some(bits)) => {
@@ -158,7 +162,8 @@ pub fn put_own_each(
     places: &Row,
     values: &Row,
 ) -> Result<(), AllocError>
-    ensures { OnOk result (own_of arrays.new.items ≡ put (own_of arrays.old.items) array (own_stored (map_of places.now) (map_of values.now) (own_of arrays.old.items array))) }
+    ensures { OnOk result (own_of arrays.new.items ≡ put (own_of arrays.old.items) array
+        (own_stored (map_of places.now) (map_of values.now) (own_of arrays.old.items array))) }
 {
     for instance in 0..WIDEST {
         put_lane(

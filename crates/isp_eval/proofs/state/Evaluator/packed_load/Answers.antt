@@ -7,10 +7,8 @@ use Rattle.isp_base.specs.Values.{number}
 use Rattle.isp_base.specs.declared.types.Gang.{Gang}
 use Rattle.isp_meaning.specs.Expressions.{packed_outside}
 use Rattle.isp_meaning.specs.Payloads.{One, Each}
-use Rattle.isp_meaning.specs.State.{extent}
 use Rattle.isp_gang.specs.Seen.{map_of}
 use Rattle.isp_eval.specs.Passing.{packs_from}
-use Rattle.isp_eval.specs.Seen.{frame_seen}
 use Rattle.isp_eval.specs.Stores.{stores_of}
 use Rattle.isp_eval.specs.Tasks.{Halts}
 use Rattle.isp_eval.specs.declared.state.Evaluator.{Evaluator}
@@ -25,13 +23,11 @@ returns-clause-ok c =
     let b = c.args.array in
     let z = number c.args.elem c.args.first in
     let a = flag_of c.args.set in
-    load_comes old b c.args.elem c.args.first c.args.span c.args.set c.args.variable c.tick.new.self c.write.new.self (Each (map_of c.held-row.result)) c.count-self.result
-    (ap (λ (e : Evaluator). lowest (gang_width e.program.now.gang) (packed_outside (extent (frame_seen e.here) b) z a)) (sym c.tick.ensures)
-    ∙ sym (ap₂ (λ (g : Gang) (k : ℕ). lowest (gang_width g) (packed_outside k z a)) c.gang.ensures c.extent-count.ensures) ∙ sym c.outside-offender.ensures ∙ c.in_ok-checked.ensures.ok)
-    c.tick.ensures
-    (λ w. ap Each (c.held-row.ensures ∙ ap₂ {C = Map} (λ (xs : List (Vec ℕ Global)) (k : ℕ). on a (λ p. stores_of xs k (unsigned_abs (packed_index z a p)))) (c.as_slice.ensures.value ∙ ap (λ (e : Evaluator). e.stores.items) c.tick.ensures) (c.store-store.ensures ∙ ap (λ (e : Evaluator). (frame_seen e.here).named b.number) c.tick.ensures)))
+    load_comes old b c.args.elem c.args.first c.args.span c.args.set c.args.variable c.write.new.self (Each (map_of c.held-row.result)) c.count-self.result
+    (sym (ap₂ (λ (g : Gang) (k : ℕ). lowest (gang_width g) (packed_outside k z a)) c.gang.ensures c.extent-count.ensures) ∙ sym c.outside-offender.ensures ∙ c.in_ok-checked.ensures.ok)
+    (λ w. ap Each (c.held-row.ensures ∙ ap₂ {C = Map} (λ (xs : List (Vec ℕ Global)) (k : ℕ). on a (λ p. stores_of xs k (unsigned_abs (packed_index z a p)))) c.as_slice.ensures.value c.store-store.ensures))
     c.in_ok-write.ensures.ok
-    (c.count-self.ensures ∙ ap (λ (e : Evaluator). One (rank a (gang_width e.program.now.gang))) (c.in_ok-write.ensures.ok.same) ∙ ap (λ (e : Evaluator). One (rank a (gang_width e.program.now.gang))) c.tick.ensures)
+    (c.count-self.ensures ∙ ap (λ (e : Evaluator). One (rank a (gang_width e.program.now.gang))) (c.in_ok-write.ensures.ok.same))
 
 pub returns-in_err-checked-clause-err : goal.returns-in_err-checked-clause-err
 returns-in_err-checked-clause-err c =
@@ -40,8 +36,6 @@ returns-in_err-checked-clause-err c =
     let z = number c.args.elem c.args.first in
     let a = flag_of c.args.set in
     let h = c.in_err-checked.ensures.err in
-    at_err c.from_residual.result c.in_err-checked.field-0.0 (Halts old c.tick.new.self (packs_from old (packing.Load c.args.variable) b z c.args.span a)) c.from_residual.ensures.1
-    (load_halts old b c.args.elem c.args.first c.args.span c.args.set c.args.variable c.tick.new.self c.in_err-checked.field-0.0 h.0
-    (ap (λ (e : Evaluator). lowest (gang_width e.program.now.gang) (packed_outside (extent (frame_seen e.here) b) z a)) (sym c.tick.ensures)
-    ∙ sym (ap₂ (λ (g : Gang) (k : ℕ). lowest (gang_width g) (packed_outside k z a)) c.gang.ensures c.extent-count.ensures) ∙ sym c.outside-offender.ensures ∙ h.1)
-    c.tick.ensures h.2)
+    at_err c.from_residual.result c.in_err-checked.field-0.0 (Halts old old (packs_from old (packing.Load c.args.variable) b z c.args.span a)) c.from_residual.ensures.1
+    (load_halts old b c.args.elem c.args.first c.args.span c.args.set c.args.variable c.in_err-checked.field-0.0 h.0
+    (sym (ap₂ (λ (g : Gang) (k : ℕ). lowest (gang_width g) (packed_outside k z a)) c.gang.ensures c.extent-count.ensures) ∙ sym c.outside-offender.ensures ∙ h.1) h.2)

@@ -9,9 +9,9 @@ use Rattle.isp_eval.proofs.state.Evaluator.place.Goals as goal
 
 pub returns-in-Variable-clause-ok : goal.returns-in-Variable-clause-ok
 returns-in-Variable-clause-ok c =
-    variable_node c.args.self.now c.tick.new.self c.held-self.result c.args.place c.args.set c.in-Variable.number c.in-Variable.ty c.in-Variable.span
+    variable_node c.args.self.now c.held-self.result c.args.place c.args.set c.in-Variable.number c.in-Variable.ty c.in-Variable.span
     (ap place_of (c.in-Variable.is ∙ sym (variant.rolls-Variable c.in-Variable.number c.in-Variable.ty c.in-Variable.span)) ∙ fold-roll-TypedPlace TArgument TBase TExpr TPlace TCall argument_step base_step expr_step place_step call_step _)
-    c.tick.ensures c.held-self.ensures
+    c.held-self.ensures
 
 pub returns-in_ok-reach-in-Element-clause-ok : goal.returns-in_ok-reach-in-Element-clause-ok
 returns-in_ok-reach-in-Element-clause-ok c =

@@ -11,17 +11,16 @@ use Rattle.isp_eval.proofs.state.Evaluator.target.Goals as goal
 pub returns-in-Variable-clause-ok : goal.returns-in-Variable-clause-ok
 returns-in-Variable-clause-ok c =
     on_ok c.placed.result
-    (target_variable c.args.self.now c.tick.new.self c.placed.new.self c.args.target c.args.set c.args.writing c.in-Variable.number c.in-Variable.ty c.in-Variable.span
-    (ap place_of (c.in-Variable.is ∙ sym (variant.rolls-Variable c.in-Variable.number c.in-Variable.ty c.in-Variable.span)) ∙ fold-roll-TypedPlace TArgument TBase TExpr TPlace TCall argument_step base_step expr_step place_step call_step _)
-    c.tick.ensures)
+    (target_variable c.args.self.now c.placed.new.self c.args.target c.args.set c.args.writing c.in-Variable.number c.in-Variable.ty c.in-Variable.span
+    (ap place_of (c.in-Variable.is ∙ sym (variant.rolls-Variable c.in-Variable.number c.in-Variable.ty c.in-Variable.span)) ∙ fold-roll-TypedPlace TArgument TBase TExpr TPlace TCall argument_step base_step expr_step place_step call_step _))
     c.placed.ensures.ok
 
 pub returns-in-Variable-clause-err : goal.returns-in-Variable-clause-err
 returns-in-Variable-clause-err c =
     if_err c.placed.result
-    (λ e h. target_variable_halts c.args.self.now c.tick.new.self c.placed.new.self c.args.target c.args.set c.args.writing c.in-Variable.number c.in-Variable.ty c.in-Variable.span e
+    (λ e h. target_variable_halts c.args.self.now c.placed.new.self c.args.target c.args.set c.args.writing c.in-Variable.number c.in-Variable.ty c.in-Variable.span e
     (ap place_of (c.in-Variable.is ∙ sym (variant.rolls-Variable c.in-Variable.number c.in-Variable.ty c.in-Variable.span)) ∙ fold-roll-TypedPlace TArgument TBase TExpr TPlace TCall argument_step base_step expr_step place_step call_step _)
-    c.tick.ensures h)
+    h)
     c.placed.ensures.err
 
 pub returns-in_ok-reach-in-Element-clause-ok : goal.returns-in_ok-reach-in-Element-clause-ok
