@@ -425,16 +425,9 @@ fn logic_of_each(
     let from = operand(b, Rate::Varying, left, k, slot)?;
     let to = put_moved(b, Rate::Varying, Elem::Bool, from, k, slot)?;
     put_needing(b, logic, slot, to, k)?;
-    right_side(
-        b,
-        JumpTest::Off,
-        mask(slot),
-        Rate::Varying,
-        right,
-        to,
-        slot,
-        slot,
-    )?;
+    let needing = mask(slot);
+    let off = JumpTest::Off;
+    right_side(b, off, needing, Rate::Varying, right, to, slot, slot)?;
     Ok(())
 }
 

@@ -152,7 +152,7 @@ logic_of_each-returns t c = λ d s.
     (puts_with c.args.b.now c.operand.new.b c.put_needing.new.b (λ l pc p. operand_of l Varying x k n (expr_code l x pc p k n)) (λ l. expr_places l x) (λ l. operand l Varying x n) c.in_ok-from.from
     (λ w l. move_code Varying (l.spare Varying Truth n) w k ++ needing g n (l.spare Varying Truth n) k) (λ w l. l.spare Varying Truth n) c.in_ok-to.to c.in_ok-from.ensures
     (puts_keep c.operand.new.b c.put_moved.new.b c.put_needing.new.b (λ l pc p. move_code Varying (l.spare Varying Truth n) c.in_ok-from.from k) (λ l. []) (λ l. l.spare Varying Truth n) c.in_ok-to.to (λ w l pc p. needing g n w k) (λ l. []) c.in_ok-to.ensures c.in_ok-put_needing.ensures))
-    (subst (λ (h : Register). Emits c.put_needing.new.b c.right_side.new.b (λ l pc p. guard (λ at. instr.JumpIf jump.Off h at) pc (λ pc1. operand_of l Varying z n (n + 1) (expr_code l z pc1 p n (n + 1)) ++ copy Varying c.in_ok-to.to (operand l Varying z (n + 1)) n ∷ [])) (λ l. expr_places l z)) c.mask.ensures c.in_ok-right_side.ensures)).emits
+    (subst (λ (h : Register). Emits c.put_needing.new.b c.right_side.new.b (λ l pc p. guard (λ at. instr.JumpIf jump.Off h at) pc (λ pc1. operand_of l Varying z n (n + 1) (expr_code l z pc1 p n (n + 1)) ++ copy Varying c.in_ok-to.to (operand l Varying z (n + 1)) n ∷ [])) (λ l. expr_places l z)) c.mask-needing.ensures c.in_ok-right_side.ensures)).emits
 
 -- casts: by the rate that is wanted and the one that is given
 pub cast_to-returns-in_ok-write_to-in-Uniform : goal.cast_to-returns-in_ok-write_to-in-Uniform
