@@ -38,13 +38,22 @@ answered_some a b c x t k n d to i y is e z =
 
 -- ---- parts of an `if`
 
+-- two instructions, then parts
+pub after_two : (a b c : FunctionBuilder) (i j : Instr) (k : Code) (p : Layout → List Span) → Emits a b (λ l pc n. i ∷ j ∷ []) (λ l. []) → Emits b c k p
+    → Emits a c (λ l pc n. i ∷ j ∷ k l (pc + 1 + 1) n) p
+after_two a b c i j k p x y =
+    emits_so a c (λ l pc n. i ∷ j ∷ k l (pc + 2) (n + 0)) (λ l pc n. i ∷ j ∷ k l (pc + 1 + 1) n) p p (emits_then a b c (λ l pc n. i ∷ j ∷ []) k (λ l. []) p x y)
+    (λ l s.
+    let e : length a.code.items + 2 ≡ length a.code.items + 1 + 1 = omega arith in
+    let f : length a.listing.places + 0 ≡ length a.listing.places = omega arith in
+    ap (λ m. i ∷ j ∷ k l m (length a.listing.places + 0)) e ∙ ap (λ z. i ∷ j ∷ k l (length a.code.items + 1 + 1) z) f) (λ l s. refl)
+
 -- two instructions, a part, an instruction
-pub between : (a b c d e : FunctionBuilder) (i j o : Instr) (k : Code) (p : Layout → List Span) → Emits a b (λ l pc n. i ∷ []) (λ l. []) → Emits b c (λ l pc n. j ∷ []) (λ l. [])
-    → Emits c d k p → Emits d e (λ l pc n. o ∷ []) (λ l. []) → Emits a e (λ l pc n. i ∷ j ∷ (k l (pc + 1 + 1) n ++ o ∷ [])) p
-between a b c d e i j o k p x y z w =
-    after_one a b e i (λ l pc n. j ∷ (k l (pc + 1) n ++ o ∷ [])) p x
-    (after_one b c e j (λ l pc n. k l pc n ++ o ∷ []) p y
-    (emits_so c e (λ l pc n. k l pc n ++ o ∷ []) (λ l pc n. k l pc n ++ o ∷ []) (λ l. p l ++ []) p (emits_then c d e k (λ l pc n. o ∷ []) p (λ l. []) z w) (λ l s. refl) (λ l s. append-nil (p l))))
+pub between : (a b c d : FunctionBuilder) (i j o : Instr) (k : Code) (p : Layout → List Span) → Emits a b (λ l pc n. i ∷ j ∷ []) (λ l. []) → Emits b c k p
+    → Emits c d (λ l pc n. o ∷ []) (λ l. []) → Emits a d (λ l pc n. i ∷ j ∷ (k l (pc + 1 + 1) n ++ o ∷ [])) p
+between a b c d i j o k p x y z =
+    after_two a b d i j (λ l pc n. k l pc n ++ o ∷ []) p x
+    (emits_so b d (λ l pc n. k l pc n ++ o ∷ []) (λ l pc n. k l pc n ++ o ∷ []) (λ l. p l ++ []) p (emits_then b c d k (λ l pc n. o ∷ []) p (λ l. []) y z) (λ l s. refl) (λ l s. append-nil (p l)))
 
 -- one part, then another, then an instruction
 pub both_then : (a b c d : FunctionBuilder) (k m : Code) (p q : Layout → List Span) (o : Instr) → Emits a b k p → Emits b c m q → Emits c d (λ l pc n. o ∷ []) (λ l. [])
@@ -52,12 +61,6 @@ pub both_then : (a b c d : FunctionBuilder) (k m : Code) (p q : Layout → List 
 both_then a b c d k m p q o x y z =
     emits_then a b d k (λ l pc n. m l pc n ++ o ∷ []) p q x
     (emits_so b d (λ l pc n. m l pc n ++ o ∷ []) (λ l pc n. m l pc n ++ o ∷ []) (λ l. q l ++ []) q (emits_then b c d m (λ l pc n. o ∷ []) q (λ l. []) y z) (λ l s. refl) (λ l s. append-nil (q l)))
-
--- two instructions, then parts
-pub after_two : (a b c d : FunctionBuilder) (i j : Instr) (k : Code) (p : Layout → List Span) → Emits a b (λ l pc n. i ∷ []) (λ l. []) → Emits b c (λ l pc n. j ∷ []) (λ l. [])
-    → Emits c d k p → Emits a d (λ l pc n. i ∷ j ∷ k l (pc + 1 + 1) n) p
-after_two a b c d i j k p x y z =
-    after_one a b d i (λ l pc n. j ∷ k l (pc + 1) n) p x (after_one b c d j k p y z)
 
 -- where the jump behind the first part of two stands
 pub seat_behind : (a b c : FunctionBuilder) (i : Instr) (k : Code) (p : Layout → List Span) (l : Layout) → Emits a b (λ l pc n. i ∷ []) (λ l. []) → Emits b c k p → Follows l c.registers

@@ -1,10 +1,11 @@
 //! Instructions on sets of lanes, and statements that lanes leave by.
 ghost use Rattle.std.specs.Prelude.{◌≡◌, ◌∷◌, [], OnOk};
+ghost use Rattle.isp_lower.specs.Code.{the_others, where_so};
 ghost use Rattle.isp_lower.specs.Emitted.{Emits};
 ghost use Rattle.isp_masks.specs.Statements.{clear_mask, jump_code, leave_code, unite};
 
 use isp_code::{Instr, MaskInstr, MaskOp};
-use isp_lower::{FunctionBuilder, mask};
+use isp_lower::{FunctionBuilder, mask, the_others, where_so};
 use isp_tree::Jump;
 use std::alloc::AllocError;
 
@@ -23,6 +24,15 @@ fn clear_mask(to: u32) -> Instr
     ensures { result ≡ clear_mask to }
 {
     Instr::Mask(mask(to), MaskInstr::Off)
+}
+
+/// The lanes of a mask for which a test in a register is true go to another mask, and it keeps the others.
+pub(crate) fn part(b: &mut FunctionBuilder, to: u32, tested: u32, k: u32) -> Result<(), AllocError>
+    ensures { OnOk result (Emits b.old b.new (λ l pc p. where_so to tested k ∷ the_others k k to ∷ []) (λ l. [])) }
+{
+    b.push(where_so(to, tested, k))?;
+    b.push(the_others(k, k, to))?;
+    Ok(())
 }
 
 /// The lanes of a mask leave, into another.

@@ -11,14 +11,11 @@ ghost use Rattle.isp_lower.specs.Emitted.{Emits};
 ghost use Rattle.isp_masks.specs.Statements.{answer_code, block_code, block_places, if_code, if_else_code, leave_code, stmt_code, stmt_places};
 
 use crate::awaited::{land_all, leave_room};
-use crate::sets::{jump, leave, unite};
+use crate::sets::{jump, leave, part, unite};
 use crate::stays::stays;
 use isp_base::{Rate, Ty};
 use isp_code::{Instr, JumpTest};
-use isp_lower::{
-    FunctionBuilder, after, copy, declared, expr, mask, operand, scalar, simple, the_others,
-    where_so,
-};
+use isp_lower::{FunctionBuilder, after, copy, declared, expr, mask, operand, scalar, simple};
 use isp_typed::{TypedBlock, TypedExpr, TypedStmt};
 use std::alloc::AllocError;
 
@@ -186,8 +183,7 @@ fn part_by(
         }
         Rate::Varying => {
             let next = after(slot)?;
-            b.push(where_so(slot, tested, k))?;
-            b.push(the_others(k, k, slot))?;
+            part(b, slot, tested, k)?;
             under_mask(b, then, answer, slot, co, rr, next)?;
             b.push(unite(k, slot, k))?;
             Ok(())
@@ -285,8 +281,7 @@ fn parted(
     ensures { OnOk result (Emits b.old b.new (λ l pc p. if_else_code Varying tested pc k slot (λ pc2 m i. stmt_code l answer (stmt_of then.now) pc2 p m co rr i) (λ pc2 m i. stmt_code l answer (stmt_of otherwise.now) pc2 (p + length (stmt_places l (stmt_of then.now))) m co rr i)) (λ l. stmt_places l (stmt_of then.now) ++ stmt_places l (stmt_of otherwise.now))) }
 {
     let next = after(slot)?;
-    b.push(where_so(slot, tested, k))?;
-    b.push(the_others(k, k, slot))?;
+    part(b, slot, tested, k)?;
     under_mask(b, then, answer, slot, co, rr, next)?;
     under_mask(b, otherwise, answer, k, co, rr, next)?;
     b.push(unite(k, slot, k))?;

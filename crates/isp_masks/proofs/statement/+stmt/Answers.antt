@@ -50,18 +50,17 @@ part_by-returns-in_ok-land-in-Uniform t c =
     (c.in_ok-land-in-Uniform.ensures.code ∙ ap (λ h. slice_set c.stmt.new.b.code.items c.len-at.result (instr.JumpIf jump.False h (length c.stmt.new.b.code.items))) c.scalar-in-Uniform.ensures)
     c.in_ok-land-in-Uniform.ensures.same.0 c.in_ok-land-in-Uniform.ensures.same.1)
 
-pub part_by-returns-in_ok-push-in-Varying-3 : goal.part_by-returns-in_ok-push-in-Varying-3
-part_by-returns-in_ok-push-in-Varying-3 t c =
+pub part_by-returns-in_ok-push-in-Varying : goal.part_by-returns-in_ok-push-in-Varying
+part_by-returns-in_ok-push-in-Varying t c =
     let a = c.args in
     let x = stmt_of a.then.now in
     let n = a.slot in
-    subst (λ (r : Rate). Emits a.b.now c.push-in-Varying-3.new.self (λ l pc p. if_code r a.tested pc a.k n (λ pc2 m i. stmt_code l a.answer x pc2 p m a.co a.rr i)) (λ l. stmt_places l x)) (sym c.in-Varying.is)
-    (between a.b.now c.push-in-Varying.new.self c.push-in-Varying-2.new.self c.under_mask.new.b c.push-in-Varying-3.new.self (where_so n a.tested a.k) (the_others a.k a.k n) (unite a.k n a.k)
+    subst (λ (r : Rate). Emits a.b.now c.push-in-Varying.new.self (λ l pc p. if_code r a.tested pc a.k n (λ pc2 m i. stmt_code l a.answer x pc2 p m a.co a.rr i)) (λ l. stmt_places l x)) (sym c.in-Varying.is)
+    (between a.b.now c.part.new.b c.under_mask.new.b c.push-in-Varying.new.self (where_so n a.tested a.k) (the_others a.k a.k n) (unite a.k n a.k)
     (λ l pc p. guard (jump_off n) pc (λ pc1. stmt_code l a.answer x pc1 p n a.co a.rr (n + 1))) (λ l. stmt_places l x)
-    (pushed_is _ _ _ _ c.where_so.ensures c.in_ok-push-in-Varying.ensures)
-    (pushed_is _ _ _ _ c.the_others.ensures c.in_ok-push-in-Varying-2.ensures)
-    (subst (λ i. Emits c.push-in-Varying-2.new.self c.under_mask.new.b (λ l pc p. guard (jump_off n) pc (λ pc1. stmt_code l a.answer x pc1 p n a.co a.rr i)) (λ l. stmt_places l x)) c.in_ok-next-in-Varying.ensures c.in_ok-under_mask-in-Varying.ensures)
-    (pushed_is _ _ _ _ c.unite.ensures c.in_ok-push-in-Varying-3.ensures))
+    c.in_ok-part-in-Varying.ensures
+    (subst (λ i. Emits c.part.new.b c.under_mask.new.b (λ l pc p. guard (jump_off n) pc (λ pc1. stmt_code l a.answer x pc1 p n a.co a.rr i)) (λ l. stmt_places l x)) c.in_ok-next-in-Varying.ensures c.in_ok-under_mask-in-Varying.ensures)
+    (pushed_is _ _ _ _ c.unite.ensures c.in_ok-push-in-Varying.ensures))
 
 pub if_else-returns-in_ok-one_of-in-Uniform : goal.if_else-returns-in_ok-one_of-in-Uniform
 if_else-returns-in_ok-one_of-in-Uniform t c = λ f m s.
@@ -109,16 +108,15 @@ parted-returns t c =
     let x = stmt_of a.then.now in
     let y = stmt_of a.otherwise.now in
     let n = a.slot in
-    after_two a.b.now c.push.new.self c.push-2.new.self c.push-3.new.self (where_so n a.tested a.k) (the_others a.k a.k n)
+    after_two a.b.now c.part.new.b c.push.new.self (where_so n a.tested a.k) (the_others a.k a.k n)
     (λ l pc p. guard (jump_off n) pc (λ pc1. stmt_code l a.answer x pc1 p n a.co a.rr (n + 1)) ++ (guard (jump_off a.k) (pc + length (guard (jump_off n) pc (λ pc1. stmt_code l a.answer x pc1 p n a.co a.rr (n + 1)))) (λ pc1. stmt_code l a.answer y pc1 (p + length (stmt_places l x)) a.k a.co a.rr (n + 1)) ++ unite a.k n a.k ∷ []))
     (λ l. stmt_places l x ++ stmt_places l y)
-    (pushed_is _ _ _ _ c.where_so.ensures c.in_ok-push.ensures)
-    (pushed_is _ _ _ _ c.the_others.ensures c.in_ok-push-2.ensures)
-    (both_then c.push-2.new.self c.under_mask.new.b c.under_mask-2.new.b c.push-3.new.self
+    c.in_ok-part.ensures
+    (both_then c.part.new.b c.under_mask.new.b c.under_mask-2.new.b c.push.new.self
     (λ l pc p. guard (jump_off n) pc (λ pc1. stmt_code l a.answer x pc1 p n a.co a.rr (n + 1))) (λ l pc p. guard (jump_off a.k) pc (λ pc1. stmt_code l a.answer y pc1 p a.k a.co a.rr (n + 1))) (λ l. stmt_places l x) (λ l. stmt_places l y) (unite a.k n a.k)
-    (subst (λ i. Emits c.push-2.new.self c.under_mask.new.b (λ l pc p. guard (jump_off n) pc (λ pc1. stmt_code l a.answer x pc1 p n a.co a.rr i)) (λ l. stmt_places l x)) c.in_ok-next.ensures c.in_ok-under_mask.ensures)
+    (subst (λ i. Emits c.part.new.b c.under_mask.new.b (λ l pc p. guard (jump_off n) pc (λ pc1. stmt_code l a.answer x pc1 p n a.co a.rr i)) (λ l. stmt_places l x)) c.in_ok-next.ensures c.in_ok-under_mask.ensures)
     (subst (λ i. Emits c.under_mask.new.b c.under_mask-2.new.b (λ l pc p. guard (jump_off a.k) pc (λ pc1. stmt_code l a.answer y pc1 p a.k a.co a.rr i)) (λ l. stmt_places l y)) c.in_ok-next.ensures c.in_ok-under_mask-2.ensures)
-    (pushed_is _ _ _ _ c.unite.ensures c.in_ok-push-3.ensures))
+    (pushed_is _ _ _ _ c.unite.ensures c.in_ok-push.ensures))
 
 pub block-stmt-requires : goal.block-stmt-requires
 block-stmt-requires t c =
