@@ -164,9 +164,9 @@ pub enum Five {
 
 """
     for letter, kind in (("s", "Scalar"), ("v", "Vector"), ("m", "Mask"), ("a", "Array")):
-        last = {"s": 4, "v": 4, "m": 1, "a": 3}[letter]
+        last = {"s": 5, "v": 4, "m": 2, "a": 4}[letter]
         for number in list(range(last + 1)) + [9]:
-            out += f"const {letter.upper()}{number}: Register = Register {{ class: Class::{kind}, number: {number} }};\n"
+            out += f"pub const {letter.upper()}{number}: Register = Register {{ class: Class::{kind}, number: {number} }};\n"
     out += "\n"
     total = 0
     for group, kind in (("scalar", "ScalarInstr"), ("vector", "VectorInstr"), ("mask", "MaskInstr")):

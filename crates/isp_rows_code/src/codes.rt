@@ -1,47 +1,25 @@
 //! Code that the verifier takes or refuses, and what code cannot hold.
+mod rest;
 mod table;
 
 use isp_base::{Elem, Gang, Name, Span};
 use isp_code::{
-    Arguments, Call, CallBox, Class, Code, CodeLimit, Division, Function, Instr, JumpTest, Local,
-    MaskInstr, Param, ParamKind, Register, Returns, ScalarInstr, Sharing, VectorInstr,
+    Arguments, Call, CallBox, Code, CodeLimit, Division, Function, Instr, Local, Param, ParamKind,
+    Register, Returns, ScalarInstr, Sharing, VectorInstr,
 };
-use isp_verify::{Fault, Rule, VerifyFault, verify};
+use isp_verify::{Fault, Rule, Verified, VerifyFault, verify};
+use rest::{
+    CALLS, ENDLESS, FAULTS, GIVES, HEADERS, Header, PAST_THE_END, Passed, RESTS, RETURNS, Rest,
+    TURNS, instruction,
+};
 use smallvec::SmallVec;
 use std::alloc::Global;
 use std::mem::size_of;
 use std::test::Fail;
 use table::{
-    FIVES, Five, MASKS, SCALARS, VECTORS, WRONG_FIVES, WRONG_MASKS, WRONG_SCALARS, WRONG_VECTORS,
+    A0, FIVES, Five, M0, MASKS, S0, SCALARS, V0, V1, VECTORS, WRONG_FIVES, WRONG_MASKS,
+    WRONG_SCALARS, WRONG_VECTORS,
 };
-
-const fn scalar(number: u32) -> Register {
-    Register {
-        class: Class::Scalar,
-        number,
-    }
-}
-
-const fn vector(number: u32) -> Register {
-    Register {
-        class: Class::Vector,
-        number,
-    }
-}
-
-const fn mask(number: u32) -> Register {
-    Register {
-        class: Class::Mask,
-        number,
-    }
-}
-
-const fn array(number: u32) -> Register {
-    Register {
-        class: Class::Array,
-        number,
-    }
-}
 
 fn named(alloc: Global, text: &str) -> Result<Name, Fail> {
     Ok(Name::new(String::from_str(alloc, text)?))
@@ -59,16 +37,20 @@ fn params(alloc: Global, list: &[(&str, ParamKind, Elem)]) -> Result<Vec<Param>,
     Ok(all)
 }
 
-fn one(alloc: Global, instr: Instr) -> Result<Vec<Instr>, Fail> {
+// The instructions, which are no calls.
+fn listed(alloc: Global, rests: &[Rest]) -> Result<Vec<Instr>, Fail> {
     let mut code = Vec::new(alloc);
-    code.push(instr)?;
+    for rest in rests {
+        code.push(instruction(rest))?;
+    }
     Ok(code)
 }
 
-fn pair(alloc: Global, first: Instr, second: Instr) -> Result<Vec<Instr>, Fail> {
+// An instruction and a return.
+fn returning(alloc: Global, instr: Instr) -> Result<Vec<Instr>, Fail> {
     let mut code = Vec::new(alloc);
-    code.push(first)?;
-    code.push(second)?;
+    code.push(instr)?;
+    code.push(Instr::Return(None))?;
     Ok(code)
 }
 
@@ -87,10 +69,10 @@ fn made(alloc: Global, name: Name, params: Vec<Param>, code: Vec<Instr>) -> Func
     }
 }
 
-// A function without registers but one mask, which returns.
-fn plain(alloc: Global, text: &str) -> Result<Function, Fail> {
+// A function without registers but one mask.
+fn bare(alloc: Global, text: &str, rests: &[Rest]) -> Result<Function, Fail> {
+    let code = listed(alloc, rests)?;
     let name = named(alloc, text)?;
-    let code = one(alloc, Instr::Return(None))?;
     Ok(made(alloc, name, Vec::new(alloc), code))
 }
 
@@ -122,44 +104,43 @@ static LOCALS: [Local; 3] = [
     },
 ];
 
-// The function of the tables, with an instruction and a return.
-fn trial(alloc: Global, instr: Instr) -> Result<Function, Fail> {
-    let code = pair(alloc, instr, Instr::Return(None))?;
+// What the function of the tables takes: `n`, `x` and `a`.
+static TRIAL_TAKES: [(&'static str, ParamKind, Elem); 3] = [
+    ("n", ParamKind::Scalar, Elem::I32),
+    ("x", ParamKind::Vector, Elem::I32),
+    ("a", ParamKind::Array, Elem::I32),
+];
+
+// The function of the tables, with these instructions.
+fn trial(alloc: Global, code: Vec<Instr>) -> Result<Function, Fail> {
     let name = named(alloc, "f")?;
-    let list = [
-        ("n", ParamKind::Scalar, Elem::I32),
-        ("x", ParamKind::Vector, Elem::I32),
-        ("a", ParamKind::Array, Elem::I32),
-    ];
-    let params = params(alloc, &list)?;
-    let locals = locals(alloc, &LOCALS)?;
-    let scalars = elems(alloc, &ELEMS)?;
-    let vectors = elems(alloc, &ELEMS)?;
-    Ok(Function {
-        name,
-        exported: false,
-        returns: Returns::Nothing,
-        params,
-        locals,
-        scalars,
-        vectors,
-        masks: 2,
-        code,
-    })
+    let params = params(alloc, &TRIAL_TAKES)?;
+    let mut function = made(alloc, name, params, code);
+    function.masks = 2;
+    registers(alloc, &mut function)?;
+    Ok(function)
 }
+
+// Gives a function the local arrays and the registers of the tables.
+fn registers(alloc: Global, function: &mut Function) -> Result<(), Fail> {
+    function.locals = locals(alloc, &LOCALS)?;
+    function.scalars = elems(alloc, &ELEMS)?;
+    function.vectors = elems(alloc, &ELEMS)?;
+    Ok(())
+}
+
+// What the function that the tables' function may call takes.
+static CALLEE_TAKES: [(&'static str, ParamKind, Elem); 3] = [
+    ("x", ParamKind::Scalar, Elem::I32),
+    ("y", ParamKind::Vector, Elem::U8),
+    ("z", ParamKind::Array, Elem::I32),
+];
 
 // A function that the tables' function may call.
 fn callee(alloc: Global) -> Result<Function, Fail> {
-    let code = one(alloc, Instr::Return(Some(scalar(0))))?;
-    let name = named(alloc, "g")?;
-    let list = [
-        ("x", ParamKind::Scalar, Elem::I32),
-        ("y", ParamKind::Vector, Elem::U8),
-        ("z", ParamKind::Array, Elem::I32),
-    ];
-    let params = params(alloc, &list)?;
-    let mut function = made(alloc, name, params, code);
+    let mut function = bare(alloc, "g", &GIVES)?;
     function.returns = Returns::Scalar(Elem::I32);
+    function.params = params(alloc, &CALLEE_TAKES)?;
     Ok(function)
 }
 
@@ -180,14 +161,22 @@ fn refusal(alloc: Global, code: Code) -> Result<Option<Fault>, Fail> {
     }
 }
 
-// What the verifier says of an instruction, behind which two functions stand that it may call.
-fn judged(alloc: Global, instr: Instr) -> Result<Option<Fault>, Fail> {
-    let mut code = Code::new(alloc, Gang::W4);
+// Three functions, of which the first has these instructions and may call the others, a place and
+// a text.
+fn fill(alloc: Global, code: &mut Code, instrs: Vec<Instr>) -> Result<(), Fail> {
+    add(code, trial(alloc, instrs)?)?;
+    add(code, callee(alloc)?)?;
+    add(code, bare(alloc, "h", &RETURNS)?)?;
     code.add_place(Span { start: 0, end: 4 })?;
     code.add_text(b"x")?;
-    add(&mut code, trial(alloc, instr)?)?;
-    add(&mut code, callee(alloc)?)?;
-    add(&mut code, plain(alloc, "h")?)?;
+    Ok(())
+}
+
+// What the verifier says of an instruction, behind which two functions stand that it may call.
+fn judged(alloc: Global, instr: Instr) -> Result<Option<Fault>, Fail> {
+    let instrs = returning(alloc, instr)?;
+    let mut code = Code::new(alloc, Gang::W4);
+    fill(alloc, &mut code, instrs)?;
     refusal(alloc, code)
 }
 
@@ -201,6 +190,15 @@ fn is_first(fault: Option<Fault>, rule: Rule) -> bool {
         })
 }
 
+// Whether there is no fault, or the first fault is this, at the first instruction of the first
+// function.
+fn is_wanted(fault: Option<Fault>, rule: Option<Rule>) -> bool {
+    match rule {
+        None => fault.is_none(),
+        Some(rule) => is_first(fault, rule),
+    }
+}
+
 fn five(kind: Five, d: Register, x: Register, y: Register, k: Register, place: u32) -> Instr {
     match kind {
         Five::Divide => Instr::Divide(Division::Div, d, x, y, k, place),
@@ -210,7 +208,7 @@ fn five(kind: Five, d: Register, x: Register, y: Register, k: Register, place: u
 }
 
 #[test]
-fn right_instructions(rt: HostRuntime) -> Result<(), Fail> {
+fn right_scalars(rt: HostRuntime) -> Result<(), Fail> {
     let alloc = rt.alloc();
     for (number, (d, instr)) in SCALARS.iter().enumerate() {
         assert!(rt;
@@ -218,18 +216,36 @@ fn right_instructions(rt: HostRuntime) -> Result<(), Fail> {
             "scalar {number}"
         );
     }
+    Ok(())
+}
+
+#[test]
+fn right_vectors(rt: HostRuntime) -> Result<(), Fail> {
+    let alloc = rt.alloc();
     for (number, (d, instr)) in VECTORS.iter().enumerate() {
         assert!(rt;
             judged(alloc, Instr::Vector(*d, *instr))?.is_none(),
             "vector {number}"
         );
     }
+    Ok(())
+}
+
+#[test]
+fn right_masks(rt: HostRuntime) -> Result<(), Fail> {
+    let alloc = rt.alloc();
     for (number, (d, instr)) in MASKS.iter().enumerate() {
         assert!(rt;
             judged(alloc, Instr::Mask(*d, *instr))?.is_none(),
             "mask {number}"
         );
     }
+    Ok(())
+}
+
+#[test]
+fn right_others(rt: HostRuntime) -> Result<(), Fail> {
+    let alloc = rt.alloc();
     for (number, (kind, d, x, y, k, place)) in FIVES.iter().enumerate() {
         assert!(rt;
             judged(alloc, five(*kind, *d, *x, *y, *k, *place))?.is_none(),
@@ -291,144 +307,39 @@ fn wrong_others(rt: HostRuntime) -> Result<(), Fail> {
 #[test]
 fn wrong_rest(rt: HostRuntime) -> Result<(), Fail> {
     let alloc = rt.alloc();
-    let truth = scalar(2);
-    assert!(rt; judged(alloc, Instr::Jump(1))?.is_none());
-    assert!(rt; is_first(judged(alloc, Instr::Jump(2))?, Rule::BadJump));
-    assert!(rt; judged(alloc, Instr::JumpIf(JumpTest::False, truth, 1))?.is_none());
-    assert!(rt;
-        is_first(
-            judged(alloc, Instr::JumpIf(JumpTest::False, scalar(9), 9))?,
-            Rule::BadRegister
-        )
-    );
-    assert!(rt;
-        is_first(
-            judged(alloc, Instr::JumpIf(JumpTest::True, scalar(0), 9))?,
-            Rule::BadKind
-        )
-    );
-    assert!(rt;
-        is_first(
-            judged(alloc, Instr::JumpIf(JumpTest::True, truth, 2))?,
-            Rule::BadJump
-        )
-    );
-    assert!(rt; judged(alloc, Instr::JumpIf(JumpTest::Off, mask(1), 0))?.is_none());
-    assert!(rt;
-        is_first(
-            judged(alloc, Instr::JumpIf(JumpTest::On, truth, 0))?,
-            Rule::BadKind
-        )
-    );
-    assert!(rt; judged(alloc, Instr::Say(0))?.is_none());
-    assert!(rt; is_first(judged(alloc, Instr::Say(1))?, Rule::BadRegister));
-    assert!(rt; is_first(judged(alloc, Instr::PrintScalar(vector(0)))?, Rule::BadKind));
-    assert!(rt;
-        is_first(
-            judged(alloc, Instr::PrintScalar(scalar(5)))?,
-            Rule::BadRegister
-        )
-    );
-    assert!(rt; judged(alloc, Instr::PrintVector(vector(4), mask(0)))?.is_none());
-    assert!(rt;
-        is_first(
-            judged(alloc, Instr::PrintVector(vector(4), vector(9)))?,
-            Rule::BadRegister
-        )
-    );
-    assert!(rt; judged(alloc, Instr::Fail(mask(1), 0))?.is_none());
-    assert!(rt; is_first(judged(alloc, Instr::Fail(mask(1), 1))?, Rule::BadRegister));
-    assert!(rt; judged(alloc, Instr::Clear(array(1), mask(0)))?.is_none());
-    assert!(rt; judged(alloc, Instr::Clear(array(2), mask(0)))?.is_none());
-    assert!(rt;
-        is_first(
-            judged(alloc, Instr::Clear(array(0), mask(0)))?,
-            Rule::BadKind
-        )
-    );
-    assert!(rt;
-        is_first(
-            judged(alloc, Instr::Clear(array(4), mask(0)))?,
-            Rule::BadRegister
-        )
-    );
-    assert!(rt;
-        is_first(
-            judged(alloc, Instr::Return(Some(scalar(0))))?,
-            Rule::BadKind
-        )
-    );
-    assert!(rt;
-        is_first(
-            judged(alloc, Instr::Return(Some(scalar(9))))?,
-            Rule::BadRegister
-        )
-    );
+    for (number, (rest, rule)) in RESTS.iter().enumerate() {
+        assert!(rt;
+            is_wanted(judged(alloc, instruction(rest))?, *rule),
+            "rest {number}"
+        );
+    }
     Ok(())
 }
 
-// A call of the function by its number, with three arguments.
-fn call(
-    alloc: Global,
-    function: u32,
-    to: Option<Register>,
-    mask: Register,
-    arguments: [Register; 3],
-) -> Result<Instr, Fail> {
+fn call(alloc: Global, passed: &Passed) -> Result<Instr, Fail> {
+    let (function, result, mask, arguments) = passed;
     let call = Call {
-        function,
-        result: to,
-        mask,
+        function: *function,
+        result: *result,
+        mask: *mask,
         place: 0,
-        arguments: Arguments::new(SmallVec::from_slice(alloc, &arguments)?),
+        arguments: Arguments::new(SmallVec::from_slice(alloc, *arguments)?),
     };
     Ok(Instr::Call(CallBox::new(alloc, call)?))
+}
+
+fn judged_call(alloc: Global, passed: &Passed) -> Result<Option<Fault>, Fail> {
+    let instr = call(alloc, passed)?;
+    judged(alloc, instr)
 }
 
 #[test]
 fn calls(rt: HostRuntime) -> Result<(), Fail> {
     let alloc = rt.alloc();
-    let to = Some(scalar(1));
-    let all = mask(0);
-    let fits = [scalar(0), vector(4), array(1)];
-    assert!(rt; judged(alloc, call(alloc, 1, to, all, fits)?)?.is_none());
-    for (function, result, under, passed, rule) in [
-        (3, to, all, fits, Rule::BadCall),
-        (2, to, all, fits, Rule::BadCall),
-        (1, None, all, fits, Rule::BadCall),
-        (1, Some(scalar(3)), all, fits, Rule::BadCall),
-        (1, Some(vector(0)), all, fits, Rule::BadCall),
-        (1, Some(scalar(9)), all, fits, Rule::BadRegister),
-        (1, to, mask(2), fits, Rule::BadRegister),
-        (1, to, scalar(0), fits, Rule::BadKind),
-        (1, to, all, [scalar(3), vector(4), array(1)], Rule::BadCall),
-        (1, to, all, [vector(0), vector(4), array(1)], Rule::BadCall),
-        (1, to, all, [scalar(0), vector(0), array(1)], Rule::BadCall),
-        (1, to, all, [scalar(0), vector(4), array(2)], Rule::BadCall),
-        (1, to, all, [scalar(0), vector(4), array(3)], Rule::BadCall),
-        (1, to, all, [scalar(0), vector(4), mask(0)], Rule::BadCall),
-        (
-            1,
-            to,
-            all,
-            [scalar(0), vector(4), array(4)],
-            Rule::BadRegister,
-        ),
-        // all are to be there before the mask is to be one, and that before the call is to fit
-        (
-            9,
-            to,
-            scalar(0),
-            [scalar(0), vector(4), array(4)],
-            Rule::BadRegister,
-        ),
-        (9, to, scalar(0), fits, Rule::BadKind),
-    ] {
+    for (number, (passed, rule)) in CALLS.iter().enumerate() {
         assert!(rt;
-            is_first(
-                judged(alloc, call(alloc, function, result, under, passed)?)?,
-                rule
-            )
+            is_wanted(judged_call(alloc, passed)?, *rule),
+            "call {number}"
         );
     }
     Ok(())
@@ -441,139 +352,134 @@ fn of_one(alloc: Global, function: Function) -> Result<Option<Fault>, Fail> {
     refusal(alloc, code)
 }
 
-// What the verifier says of a function that returns, by its header.
-fn of_header(
-    alloc: Global,
-    exported: bool,
-    returns: Returns,
-    masks: u32,
-    list: &[(&str, ParamKind, Elem)],
-) -> Result<Option<Fault>, Fail> {
-    let code = one(alloc, Instr::Jump(0))?;
-    let name = named(alloc, "f")?;
-    let params = params(alloc, list)?;
-    let mut function = made(alloc, name, params, code);
-    function.exported = exported;
-    function.returns = returns;
-    function.masks = masks;
+// What the verifier says of a function that never ends, by its header.
+fn of_header(alloc: Global, header: &Header) -> Result<Option<Fault>, Fail> {
+    let mut function = bare(alloc, "f", &TURNS)?;
+    function.exported = header.exported;
+    function.returns = header.returns;
+    function.masks = header.masks;
+    function.params = params(alloc, header.params)?;
     of_one(alloc, function)
 }
 
 #[test]
 fn headers(rt: HostRuntime) -> Result<(), Fail> {
     let alloc = rt.alloc();
-    let x = ("x", ParamKind::Scalar, Elem::I32);
-    let also_x = ("x", ParamKind::Array, Elem::I32);
-    let lanes = ("y", ParamKind::Vector, Elem::I32);
-    let none = Returns::Nothing;
-    assert!(rt; of_header(alloc, false, none, 1, &[x, lanes])?.is_none());
-    assert!(rt; of_header(alloc, false, Returns::Vector(Elem::I32), 1, &[])?.is_none());
-    assert!(rt; of_header(alloc, true, Returns::Scalar(Elem::Bool), 7, &[x])?.is_none());
-    assert!(rt; is_first(of_header(alloc, false, none, 0, &[])?, Rule::BadEntry));
-    assert!(rt; is_first(of_header(alloc, true, none, 1, &[lanes])?, Rule::BadEntry));
-    assert!(rt;
-        is_first(
-            of_header(alloc, true, none, 1, &[x, lanes])?,
-            Rule::BadEntry
-        )
-    );
-    assert!(rt;
-        is_first(
-            of_header(alloc, false, none, 1, &[x, lanes, also_x])?,
-            Rule::BadEntry
-        )
-    );
-    assert!(rt;
-        is_first(
-            of_header(alloc, true, Returns::Vector(Elem::I32), 1, &[])?,
-            Rule::BadEntry
-        )
-    );
+    for (number, (header, rule)) in HEADERS.iter().enumerate() {
+        assert!(rt;
+            is_wanted(of_header(alloc, header)?, *rule),
+            "header {number}"
+        );
+    }
     Ok(())
+}
+
+// Adds functions with these names, which return.
+fn add_bare(alloc: Global, code: &mut Code, names: &[&str]) -> Result<(), Fail> {
+    for name in names {
+        add(code, bare(alloc, name, &RETURNS)?)?;
+    }
+    Ok(())
+}
+
+fn of_names(alloc: Global, names: &[&str]) -> Result<Option<Fault>, Fail> {
+    let mut code = Code::new(alloc, Gang::W4);
+    add_bare(alloc, &mut code, names)?;
+    refusal(alloc, code)
 }
 
 #[test]
 fn name_before(rt: HostRuntime) -> Result<(), Fail> {
     let alloc = rt.alloc();
-    let mut code = Code::new(alloc, Gang::W4);
-    add(&mut code, plain(alloc, "f")?)?;
-    add(&mut code, plain(alloc, "g")?)?;
-    add(&mut code, plain(alloc, "f")?)?;
     let fault = Fault {
         rule: Rule::BadEntry,
         function: 2,
         instruction: 0,
     };
-    assert!(rt; refusal(alloc, code)? == Some(fault));
+    assert!(rt; of_names(alloc, &["f", "g", "f"])? == Some(fault));
     Ok(())
 }
 
-fn two(alloc: Global, first: Instr, second: Instr) -> Result<Option<Fault>, Fail> {
-    let code = pair(alloc, first, second)?;
-    let name = named(alloc, "f")?;
-    of_one(alloc, made(alloc, name, Vec::new(alloc), code))
+fn of_rests(alloc: Global, rests: &[Rest]) -> Result<Option<Fault>, Fail> {
+    of_one(alloc, bare(alloc, "f", rests)?)
 }
 
 // Of two faults the first in the order of the code is the answer; that control falls off comes last.
 #[test]
 fn two_faults(rt: HostRuntime) -> Result<(), Fail> {
     let alloc = rt.alloc();
-    let second = |rule| Some(Fault {
-        rule,
-        function: 0,
-        instruction: 1,
-    });
-    assert!(rt; is_first(two(alloc, Instr::Jump(2), Instr::Say(0))?, Rule::BadJump));
-    assert!(rt;
-        is_first(
-            two(alloc, Instr::Say(0), Instr::Jump(2))?,
-            Rule::BadRegister
-        )
-    );
-    assert!(rt; two(alloc, Instr::Jump(1), Instr::Say(0))? == second(Rule::BadRegister));
-    let full = Instr::Mask(mask(0), MaskInstr::Full);
-    assert!(rt; two(alloc, Instr::Return(None), full)? == second(Rule::FallsOff));
-    let name = named(alloc, "f")?;
-    let empty = made(alloc, name, Vec::new(alloc), Vec::new(alloc));
-    assert!(rt; is_first(of_one(alloc, empty)?, Rule::FallsOff));
+    for (number, (rests, rule, instruction)) in FAULTS.iter().enumerate() {
+        let fault = Fault {
+            rule: *rule,
+            function: 0,
+            instruction: *instruction,
+        };
+        assert!(rt; of_rests(alloc, *rests)? == Some(fault), "fault {number}");
+    }
     Ok(())
+}
+
+// Adds the function that says a text for ever, and then the text.
+fn add_endless(alloc: Global, code: &mut Code) -> Result<u32, Fail> {
+    add(code, bare(alloc, "f", &ENDLESS)?)?;
+    Ok(code.add_text(b"x")?)
+}
+
+fn is_endless(alloc: Global) -> Result<bool, Fail> {
+    let mut code = Code::new(alloc, Gang::W4);
+    let text = add_endless(alloc, &mut code)?;
+    let fault = refusal(alloc, code)?;
+    Ok(text == 0 && fault.is_none())
 }
 
 // A code whose only jump goes one past the end, and a text said for ever.
 #[test]
 fn written_by_hand(rt: HostRuntime) -> Result<(), Fail> {
     let alloc = rt.alloc();
-    let jump = one(alloc, Instr::Jump(1))?;
-    let name = named(alloc, "f")?;
-    assert!(rt;
-        is_first(
-            of_one(alloc, made(alloc, name, Vec::new(alloc), jump))?,
-            Rule::BadJump
-        )
-    );
-    let said = pair(alloc, Instr::Say(0), Instr::Jump(0))?;
-    let name = named(alloc, "f")?;
-    let function = made(alloc, name, Vec::new(alloc), said);
-    let mut code = Code::new(alloc, Gang::W4);
-    add(&mut code, function)?;
-    assert!(rt; code.add_text(b"x")? == 0);
-    assert!(rt; refusal(alloc, code)?.is_none());
+    assert!(rt; is_first(of_rests(alloc, &PAST_THE_END)?, Rule::BadJump));
+    assert!(rt; is_endless(alloc)?);
     Ok(())
 }
 
+// Puts the lane numbers into `a`.
 fn scatter(alloc: Global) -> Result<Function, Fail> {
     let mut code = Vec::new(alloc);
-    code.push(Instr::Vector(vector(0), VectorInstr::Index(mask(0))))?;
-    code.push(Instr::Vector(vector(1), VectorInstr::Convert(vector(0), mask(0))))?;
-    code.push(Instr::Scatter(array(0), vector(1), vector(0), mask(0), 0))?;
+    code.push(Instr::Vector(V0, VectorInstr::Index(M0)))?;
+    code.push(Instr::Vector(V1, VectorInstr::Convert(V0, M0)))?;
+    code.push(Instr::Scatter(A0, V1, V0, M0, 0))?;
     code.push(Instr::Return(None))?;
     let name = named(alloc, "f")?;
     let params = params(alloc, &[("a", ParamKind::Array, Elem::I32)])?;
-    let vectors = elems(alloc, &[Elem::I32, Elem::I64])?;
     let mut function = made(alloc, name, params, code);
     function.exported = true;
-    function.vectors = vectors;
+    function.vectors = elems(alloc, &[Elem::I32, Elem::I64])?;
     Ok(function)
+}
+
+fn add_scatter(alloc: Global, code: &mut Code) -> Result<u32, Fail> {
+    let place = code.add_place(Span { start: 0, end: 4 })?;
+    add(code, scatter(alloc)?)?;
+    Ok(place)
+}
+
+fn takes_an_array(verified: &Verified) -> bool {
+    match verified.signature("f") {
+        Some(signature) => {
+            signature.params.len() == 1
+                && signature.params[0].is_array
+                && signature.result.is_none()
+        }
+        None => false,
+    }
+}
+
+// Whether the verified code is of the scatter alone.
+fn is_scatter(verified: &Verified) -> bool {
+    verified.code().functions().len() == 1
+        && matches!(verified.gang(), Gang::W4)
+        && takes_an_array(verified)
+        && verified.signature("g").is_none()
+        && verified.entry("f") == Some(0)
 }
 
 // A scatter written by hand, and what its function takes.
@@ -581,29 +487,87 @@ fn scatter(alloc: Global) -> Result<Function, Fail> {
 fn scatter_by_hand(rt: HostRuntime) -> Result<(), Fail> {
     let alloc = rt.alloc();
     let mut code = Code::new(alloc, Gang::W4);
-    assert!(rt; code.add_place(Span { start: 0, end: 4 })? == 0);
-    add(&mut code, scatter(alloc)?)?;
-    let Ok(verified) = verify(alloc, code) else {
-        return Err(Fail::from("the code was refused"));
-    };
-    assert!(rt; verified.code().functions().len() == 1);
-    assert!(rt; matches!(verified.gang(), Gang::W4));
-    let Some(signature) = verified.signature("f") else {
-        return Err(Fail::from("no signature"));
-    };
-    assert!(rt;
-        signature.params.len() == 1 && signature.params[0].is_array && signature.result.is_none()
-    );
-    assert!(rt; verified.signature("g").is_none());
-    assert!(rt; verified.entry("f") == Some(0));
+    let place = add_scatter(alloc, &mut code)?;
+    assert!(rt; place == 0);
+    match verify(alloc, code) {
+        Ok(verified) => assert!(rt; is_scatter(&verified)),
+        Err((_code, _fault)) => return Err(Fail::from("the code was refused")),
+    }
     Ok(())
 }
 
-fn is_over(code: &mut Code, function: Function) -> bool {
-    matches!(
-        code.add_function(function),
-        Err((_function, CodeLimit::OverLimit))
-    )
+static PLACES: [(Span, Result<u32, CodeLimit>); 4] = [
+    (Span { start: 5, end: 4 }, Err(CodeLimit::OverLimit)),
+    (
+        Span {
+            start: 0,
+            end: 1_048_577,
+        },
+        Err(CodeLimit::OverLimit),
+    ),
+    (
+        Span {
+            start: 1_048_576,
+            end: 1_048_576,
+        },
+        Ok(0),
+    ),
+    (Span { start: 4, end: 4 }, Ok(1)),
+];
+
+// Whether places are taken as the table says, and an empty text is not.
+fn has_places(code: &mut Code) -> bool {
+    for (place, number) in &PLACES {
+        if code.add_place(*place) != *number {
+            return false;
+        }
+    }
+    code.add_text(b"") == Err(CodeLimit::OverLimit)
+}
+
+// Whether code takes a function, or refuses it for what its text cannot have, as is said.
+fn goes_in(code: &mut Code, function: Function, fits: bool) -> bool {
+    match code.add_function(function) {
+        Ok(()) => fits,
+        Err((_function, CodeLimit::OverLimit)) => !fits,
+        Err((_function, CodeLimit::Memory)) => false,
+    }
+}
+
+// Names, and whether a function may have each.
+static NAMES: [(&'static str, bool); 7] = [
+    ("", false),
+    ("1a", false),
+    ("a b", false),
+    ("ä", false),
+    ("_", true),
+    ("if", true),
+    ("Z_9", true),
+];
+
+fn has_names(alloc: Global, code: &mut Code) -> Result<bool, Fail> {
+    for (name, fits) in &NAMES {
+        let function = bare(alloc, *name, &RETURNS)?;
+        if !goes_in(code, function, *fits) {
+            return Ok(false);
+        }
+    }
+    Ok(code.functions().len() == 3)
+}
+
+fn with_param(alloc: Global, name: &str) -> Result<Function, Fail> {
+    let mut function = bare(alloc, "f", &[])?;
+    function.params = params(alloc, &[(name, ParamKind::Scalar, Elem::I32)])?;
+    Ok(function)
+}
+
+// What of names and places the text of code can have.
+fn is_limited(alloc: Global, code: &mut Code) -> Result<bool, Fail> {
+    let param = with_param(alloc, "a-")?;
+    let refused = goes_in(code, param, false);
+    let places = has_places(code);
+    let names = has_names(alloc, code)?;
+    Ok(refused && places && names)
 }
 
 // What the text of code cannot have is 46.
@@ -611,71 +575,74 @@ fn is_over(code: &mut Code, function: Function) -> bool {
 fn limits(rt: HostRuntime) -> Result<(), Fail> {
     let alloc = rt.alloc();
     let mut code = Code::new(alloc, Gang::W16);
-    let over = Err(CodeLimit::OverLimit);
-    assert!(rt; code.add_text(b"") == over);
-    assert!(rt; code.add_place(Span { start: 5, end: 4 }) == over);
-    assert!(rt;
-        code.add_place(Span {
-            start: 0,
-            end: 1_048_577
-        }) == over
-    );
-    assert!(rt;
-        code.add_place(Span {
-            start: 1_048_576,
-            end: 1_048_576
-        }) == Ok(0)
-    );
-    assert!(rt; code.add_place(Span { start: 4, end: 4 }) == Ok(1));
-    assert!(rt; is_over(&mut code, plain(alloc, "")?));
-    assert!(rt; is_over(&mut code, plain(alloc, "1a")?));
-    assert!(rt; is_over(&mut code, plain(alloc, "a b")?));
-    assert!(rt; is_over(&mut code, plain(alloc, "ä")?));
-    let name = named(alloc, "f")?;
-    let bad = params(alloc, &[("a-", ParamKind::Scalar, Elem::I32)])?;
-    assert!(rt; is_over(&mut code, made(alloc, name, bad, Vec::new(alloc))));
-    add(&mut code, plain(alloc, "_")?)?;
-    add(&mut code, plain(alloc, "if")?)?;
-    add(&mut code, plain(alloc, "Z_9")?)?;
-    assert!(rt; code.functions().len() == 3);
+    let right = is_limited(alloc, &mut code);
+    drop(code);
+    assert!(rt; right?);
     Ok(())
 }
 
 fn with_local(alloc: Global, size: u32) -> Result<Function, Fail> {
+    let mut function = bare(alloc, "f", &[])?;
     let local = Local {
         sharing: Sharing::Shared,
         elem: Elem::Bool,
         size,
     };
-    let locals = locals(alloc, &[local])?;
-    let name = named(alloc, "f")?;
-    let mut function = made(alloc, name, Vec::new(alloc), Vec::new(alloc));
-    function.locals = locals;
+    function.locals = locals(alloc, &[local])?;
     Ok(function)
 }
 
 fn with_constant(alloc: Global, number: i128) -> Result<Function, Fail> {
-    let code = one(
-        alloc,
-        Instr::Scalar(scalar(0), ScalarInstr::Constant(number)),
-    )?;
-    let name = named(alloc, "f")?;
-    Ok(made(alloc, name, Vec::new(alloc), code))
+    let mut function = bare(alloc, "f", &[])?;
+    let constant = ScalarInstr::Constant(number);
+    function.code.push(Instr::Scalar(S0, constant))?;
+    Ok(function)
+}
+
+// Sizes of local arrays, and whether a function may have each.
+static SIZES: [(u32, bool); 4] = [(0, false), (65_537, false), (1, true), (65_536, true)];
+
+fn has_sizes(alloc: Global, code: &mut Code) -> Result<bool, Fail> {
+    for (size, fits) in &SIZES {
+        let function = with_local(alloc, *size)?;
+        if !goes_in(code, function, *fits) {
+            return Ok(false);
+        }
+    }
+    Ok(true)
+}
+
+// Numbers, and whether a constant may be each.
+static NUMBERS: [(i128, bool); 4] = [
+    (-9_223_372_036_854_775_809, false),
+    (18_446_744_073_709_551_616, false),
+    (-9_223_372_036_854_775_808, true),
+    (18_446_744_073_709_551_615, true),
+];
+
+fn has_constants(alloc: Global, code: &mut Code) -> Result<bool, Fail> {
+    for (number, fits) in &NUMBERS {
+        let function = with_constant(alloc, *number)?;
+        if !goes_in(code, function, *fits) {
+            return Ok(false);
+        }
+    }
+    Ok(true)
+}
+
+fn has_sizes_and_constants(alloc: Global, code: &mut Code) -> Result<bool, Fail> {
+    let sizes = has_sizes(alloc, code)?;
+    let constants = has_constants(alloc, code)?;
+    Ok(sizes && constants && code.functions().len() == 4)
 }
 
 #[test]
 fn sizes_and_constants(rt: HostRuntime) -> Result<(), Fail> {
     let alloc = rt.alloc();
     let mut code = Code::new(alloc, Gang::W8);
-    assert!(rt; is_over(&mut code, with_local(alloc, 0)?));
-    assert!(rt; is_over(&mut code, with_local(alloc, 65_537)?));
-    assert!(rt; is_over(&mut code, with_constant(alloc, -9_223_372_036_854_775_809)?));
-    assert!(rt; is_over(&mut code, with_constant(alloc, 18_446_744_073_709_551_616)?));
-    assert!(rt; code.functions().is_empty());
-    add(&mut code, with_local(alloc, 1)?)?;
-    add(&mut code, with_local(alloc, 65_536)?)?;
-    add(&mut code, with_constant(alloc, -9_223_372_036_854_775_808)?)?;
-    add(&mut code, with_constant(alloc, 18_446_744_073_709_551_615)?)?;
+    let right = has_sizes_and_constants(alloc, &mut code);
+    drop(code);
+    assert!(rt; right?);
     assert!(rt; size_of::<Instr>() <= 48);
     Ok(())
 }

@@ -46,36 +46,43 @@ static VECTORS: [Routine<'static>; 1] = [Routine {
 
 const BY: [u64; 4] = [0, 3, 0, 4];
 
-fn divides<'x>(
-    alloc: Global,
-    by: &'x [u64],
-    on: &'x [u64],
-    stop: Wanted,
-    output: &'x str,
-) -> Result<bool, Fail> {
+// The lanes that are on, and how the division of 12 by [0,3,0,4] ends.
+type Divided = ([u64; 4], Wanted, &'static str);
+
+fn divides(alloc: Global, row: &Divided) -> Result<bool, Fail> {
+    let (on, stop, output) = row;
     let code = verified(alloc, Gang::W4, &VECTORS)?;
     let seen = Seen {
-        stop,
-        output,
-        arrays: &[by, on],
+        stop: *stop,
+        output: *output,
+        arrays: &[&BY, on],
         result: None,
     };
-    let given = [Given::Array(Elem::I32, by), Given::Array(Elem::Bool, on)];
+    let given = [Given::Array(Elem::I32, &BY), Given::Array(Elem::Bool, on)];
     goes(alloc, &code, &given, &[(100, seen), (1, seen)])
 }
+
+const ZEROTH: Wanted = Wanted::Trapped(TrapKind::Divide, 7, 0);
+
+static LANES: [Divided; 5] = [
+    (
+        [0, 1, 0, 1],
+        Wanted::Trapped(TrapKind::Assert, 0, 1),
+        "[0,4,0,3]",
+    ),
+    ([0, 0, 0, 0], Wanted::Ended, "[0,0,0,0]"),
+    ([1, 1, 0, 1], ZEROTH, ""),
+    ([0, 1, 1, 1], Wanted::Trapped(TrapKind::Divide, 7, 2), ""),
+    ([1, 1, 1, 1], ZEROTH, ""),
+];
 
 // 12 by [0,3,0,4]: lanes that are off never trap; else the lowest that is on with a zero is named.
 #[test]
 fn lanes(rt: HostRuntime) -> Result<(), Fail> {
     let alloc = rt.alloc();
-    let assert = Wanted::Trapped(TrapKind::Assert, 0, 1);
-    let zeroth = Wanted::Trapped(TrapKind::Divide, 7, 0);
-    let second = Wanted::Trapped(TrapKind::Divide, 7, 2);
-    assert!(rt; divides(alloc, &BY, &[0, 1, 0, 1], assert, "[0,4,0,3]")?);
-    assert!(rt; divides(alloc, &BY, &[0, 0, 0, 0], Wanted::Ended, "[0,0,0,0]")?);
-    assert!(rt; divides(alloc, &BY, &[1, 1, 0, 1], zeroth, "")?);
-    assert!(rt; divides(alloc, &BY, &[0, 1, 1, 1], second, "")?);
-    assert!(rt; divides(alloc, &BY, &[1, 1, 1, 1], zeroth, "")?);
+    for (number, row) in LANES.iter().enumerate() {
+        assert!(rt; divides(alloc, row)?, "{number}");
+    }
     Ok(())
 }
 
@@ -100,30 +107,31 @@ static SCALARS: [Routine<'static>; 1] = [Routine {
     ],
 }];
 
-fn left(alloc: Global, x: u64, y: u64, seen: Seen) -> Result<bool, Fail> {
+fn left(alloc: Global, x: u64, y: u64, stop: Wanted, bits: Option<u64>) -> Result<bool, Fail> {
     let code = verified(alloc, Gang::W8, &SCALARS)?;
     let given = [Given::Value(Elem::I64, x), Given::Value(Elem::I64, y)];
-    goes(alloc, &code, &given, &[(4, seen)])
-}
-
-const fn stopped(stop: Wanted, bits: Option<u64>) -> Seen<'static> {
-    Seen {
+    let seen = Seen {
         stop,
         output: "",
         arrays: &[],
         result: bits,
-    }
+    };
+    goes(alloc, &code, &given, &[(4, seen)])
 }
+
+static LEFT: [(u64, u64, Wanted, Option<u64>); 3] = [
+    (17, 5, Wanted::Ended, Some(2)),
+    (3, 0, Wanted::Trapped(TrapKind::Divide, 7, 3), None),
+    (8, 0, ZEROTH, None),
+];
 
 // A scalar division traps whatever lanes are on; it names the lowest of the mask, or lane 0.
 #[test]
 fn scalars(rt: HostRuntime) -> Result<(), Fail> {
     let alloc = rt.alloc();
-    let third = stopped(Wanted::Trapped(TrapKind::Divide, 7, 3), None);
-    let none = stopped(Wanted::Trapped(TrapKind::Divide, 7, 0), None);
-    assert!(rt; left(alloc, 17, 5, stopped(Wanted::Ended, Some(2)))?);
-    assert!(rt; left(alloc, 3, 0, third)?);
-    assert!(rt; left(alloc, 8, 0, none)?);
+    for (number, (x, y, stop, bits)) in LEFT.iter().enumerate() {
+        assert!(rt; left(alloc, *x, *y, *stop, *bits)?, "{number}");
+    }
     Ok(())
 }
 
@@ -139,17 +147,34 @@ fn is_refused(alloc: Global, code: &Verified, entry: &str, bound: Bound) -> bool
     }
 }
 
+// The name of the entry, and its arguments.
+static NO_ENTRIES: [(&'static str, &'static [Given<'static>]); 4] = [
+    (
+        "g",
+        &[Given::Array(Elem::I32, &BY), Given::Array(Elem::Bool, &BY)],
+    ),
+    (
+        "f",
+        &[Given::Array(Elem::U32, &BY), Given::Array(Elem::Bool, &BY)],
+    ),
+    (
+        "f",
+        &[Given::Array(Elem::I32, &BY), Given::Value(Elem::Bool, 1)],
+    ),
+    ("f", &[Given::Array(Elem::I32, &BY)]),
+];
+
+fn has_no_entry(alloc: Global, entry: &str, given: &[Given]) -> Result<bool, Fail> {
+    let bound = bound(alloc, given)?;
+    let code = verified(alloc, Gang::W4, &VECTORS)?;
+    Ok(is_refused(alloc, &code, entry, bound))
+}
+
 #[test]
 fn no_entry(rt: HostRuntime) -> Result<(), Fail> {
     let alloc = rt.alloc();
-    let code = verified(alloc, Gang::W4, &VECTORS)?;
-    let right = [Given::Array(Elem::I32, &BY), Given::Array(Elem::Bool, &BY)];
-    let other = [Given::Array(Elem::U32, &BY), Given::Array(Elem::Bool, &BY)];
-    let value = [Given::Array(Elem::I32, &BY), Given::Value(Elem::Bool, 1)];
-    let few = [Given::Array(Elem::I32, &BY)];
-    assert!(rt; is_refused(alloc, &code, "g", bound(alloc, &right)?));
-    assert!(rt; is_refused(alloc, &code, "f", bound(alloc, &other)?));
-    assert!(rt; is_refused(alloc, &code, "f", bound(alloc, &value)?));
-    assert!(rt; is_refused(alloc, &code, "f", bound(alloc, &few)?));
+    for (number, (entry, given)) in NO_ENTRIES.iter().enumerate() {
+        assert!(rt; has_no_entry(alloc, *entry, *given)?, "{number}");
+    }
     Ok(())
 }

@@ -111,18 +111,31 @@ fn params(alloc: Global, list: &[(&str, ParamKind, Elem)]) -> Result<Vec<Param>,
     Ok(all)
 }
 
+// Gives a function the parameters, the arrays, the registers and the instructions of a routine.
+fn complete(alloc: Global, function: &mut Function, routine: &Routine) -> Result<(), Fail> {
+    function.params = params(alloc, routine.params)?;
+    function.locals = Vec::from_slice(alloc, routine.locals)?;
+    function.scalars = Vec::from_slice(alloc, routine.scalars)?;
+    function.vectors = Vec::from_slice(alloc, routine.vectors)?;
+    function.code = instructions(alloc, routine.code)?;
+    Ok(())
+}
+
 fn function(alloc: Global, routine: &Routine) -> Result<Function, Fail> {
-    Ok(Function {
-        name: named(alloc, routine.name)?,
+    let name = named(alloc, routine.name)?;
+    let mut function = Function {
+        name,
         exported: routine.exported,
         returns: routine.returns,
-        params: params(alloc, routine.params)?,
-        locals: Vec::from_slice(alloc, routine.locals)?,
-        scalars: Vec::from_slice(alloc, routine.scalars)?,
-        vectors: Vec::from_slice(alloc, routine.vectors)?,
+        params: Vec::new(alloc),
+        locals: Vec::new(alloc),
+        scalars: Vec::new(alloc),
+        vectors: Vec::new(alloc),
         masks: routine.masks,
-        code: instructions(alloc, routine.code)?,
-    })
+        code: Vec::new(alloc),
+    };
+    complete(alloc, &mut function, routine)?;
+    Ok(function)
 }
 
 fn add(code: &mut Code, function: Function) -> Result<(), Fail> {
@@ -133,21 +146,22 @@ fn add(code: &mut Code, function: Function) -> Result<(), Fail> {
 }
 
 // Two places, 0..4 and 7..9, two texts, and the functions.
-fn listed(alloc: Global, gang: Gang, routines: &[Routine]) -> Result<Code, Fail> {
-    let mut code = Code::new(alloc, gang);
+fn fill(alloc: Global, code: &mut Code, routines: &[Routine]) -> Result<(), Fail> {
     code.add_place(Span { start: 0, end: 4 })?;
     code.add_place(Span { start: 7, end: 9 })?;
     code.add_text(b"x")?;
     code.add_text(b"one two")?;
     for routine in routines {
-        add(&mut code, function(alloc, routine)?)?;
+        add(code, function(alloc, routine)?)?;
     }
-    Ok(code)
+    Ok(())
 }
 
 /// The code of these functions, with two places, 0..4 and 7..9, and two texts, `x` and `one two`.
 pub fn verified(alloc: Global, gang: Gang, routines: &[Routine]) -> Result<Verified, Fail> {
-    match verify(alloc, listed(alloc, gang, routines)?) {
+    let mut code = Code::new(alloc, gang);
+    fill(alloc, &mut code, routines)?;
+    match verify(alloc, code) {
         Ok(verified) => Ok(verified),
         Err((_code, _fault)) => Err(Fail::from("the code was refused")),
     }

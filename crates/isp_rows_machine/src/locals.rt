@@ -46,34 +46,48 @@ fn puts(alloc: Global, i: u64, from: u64, seen: Seen) -> Result<bool, Fail> {
     goes(alloc, &code, &given, &[(5, seen)])
 }
 
-const fn put<'a>(arrays: &'a [&'a [u64]], bits: u64) -> Seen<'a> {
-    Seen {
-        stop: Wanted::Ended,
-        output: "",
-        arrays,
-        result: Some(bits),
-    }
-}
+const OUTSIDE: Seen<'static> = Seen {
+    stop: Wanted::Trapped(TrapKind::Index, 7, 0),
+    output: "",
+    arrays: &[&[7, 8, 9]],
+    result: None,
+};
 
-const fn outside(lane: usize) -> Seen<'static> {
-    Seen {
-        stop: Wanted::Trapped(TrapKind::Index, 7, lane),
-        output: "",
-        arrays: &[&[7, 8, 9]],
-        result: None,
-    }
-}
+// The place, where the range begins outside which lanes are on, and what is seen.
+static PUTS: [(u64, u64, Seen<'static>); 6] = [
+    (
+        0,
+        0,
+        Seen {
+            stop: Wanted::Ended,
+            output: "",
+            arrays: &[&[0, 8, 9]],
+            result: Some(7),
+        },
+    ),
+    (
+        2,
+        0,
+        Seen {
+            stop: Wanted::Ended,
+            output: "",
+            arrays: &[&[7, 8, 2]],
+            result: Some(9),
+        },
+    ),
+    (3, 0, OUTSIDE),
+    (3, 3, OUTSIDE),
+    (0x8000_0000_0000_0000, 0, OUTSIDE),
+    (0xffff_ffff_ffff_ffff, 0, OUTSIDE),
+];
 
 // The first element, the last, one past it, and the least index.
 #[test]
 fn one_element(rt: HostRuntime) -> Result<(), Fail> {
     let alloc = rt.alloc();
-    assert!(rt; puts(alloc, 0, 0, put(&[&[0, 8, 9]], 7))?);
-    assert!(rt; puts(alloc, 2, 0, put(&[&[7, 8, 2]], 9))?);
-    assert!(rt; puts(alloc, 3, 0, outside(0))?);
-    assert!(rt; puts(alloc, 3, 3, outside(0))?);
-    assert!(rt; puts(alloc, 0x8000_0000_0000_0000, 0, outside(0))?);
-    assert!(rt; puts(alloc, 0xffff_ffff_ffff_ffff, 0, outside(0))?);
+    for (number, (i, from, seen)) in PUTS.iter().enumerate() {
+        assert!(rt; puts(alloc, *i, *from, *seen)?, "{number}");
+    }
     Ok(())
 }
 
@@ -106,17 +120,15 @@ static SCATTERED: [Routine<'static>; 1] = [Routine {
     ],
 }];
 
-fn scatters<'x>(
-    alloc: Global,
-    index: &'x [u64],
-    on: &'x [u64],
-    stop: Wanted,
-    output: &'x str,
-) -> Result<bool, Fail> {
+// The indices, the lanes that are on, and how the run ends.
+type Indexed = ([u64; 4], [u64; 4], Wanted, &'static str);
+
+fn scatters(alloc: Global, row: &Indexed) -> Result<bool, Fail> {
+    let (index, on, stop, output) = row;
     let code = verified(alloc, Gang::W4, &SCATTERED)?;
     let seen = Seen {
-        stop,
-        output,
+        stop: *stop,
+        output: *output,
         arrays: &[index, on],
         result: None,
     };
@@ -124,42 +136,41 @@ fn scatters<'x>(
     goes(alloc, &code, &given, &[(12, seen)])
 }
 
+const END: Wanted = Wanted::Ended;
+
+static WINS: [Indexed; 4] = [
+    ([1, 1, 1, 1], [1, 1, 1, 1], END, "[3,3,3,3][0,0,0,0]"),
+    ([1, 1, 2, 1], [1, 1, 1, 0], END, "[1,1,2,_][0,0,0,0]"),
+    ([2, 9, 0, 2], [1, 0, 1, 1], END, "[3,_,2,3][0,0,0,0]"),
+    ([9, 9, 9, 9], [0, 0, 0, 0], END, "[_,_,_,_][0,0,0,0]"),
+];
+
 // Of lanes that write at one place the highest wins; a lane that is off neither writes nor is outside.
 #[test]
 fn highest_lane(rt: HostRuntime) -> Result<(), Fail> {
     let alloc = rt.alloc();
-    let ended = Wanted::Ended;
-    assert!(rt; scatters(alloc, &[1, 1, 1, 1], &[1; 4], ended, "[3,3,3,3][0,0,0,0]")?);
-    assert!(rt;
-        scatters(
-            alloc,
-            &[1, 1, 2, 1],
-            &[1, 1, 1, 0],
-            ended,
-            "[1,1,2,_][0,0,0,0]"
-        )?
-    );
-    assert!(rt;
-        scatters(
-            alloc,
-            &[2, 9, 0, 2],
-            &[1, 0, 1, 1],
-            ended,
-            "[3,_,2,3][0,0,0,0]"
-        )?
-    );
-    assert!(rt; scatters(alloc, &[9, 9, 9, 9], &[0; 4], ended, "[_,_,_,_][0,0,0,0]")?);
+    for (number, row) in WINS.iter().enumerate() {
+        assert!(rt; scatters(alloc, row)?, "{number}");
+    }
     Ok(())
 }
+
+const FIRST: Wanted = Wanted::Trapped(TrapKind::Index, 7, 1);
+
+const LAST: Wanted = Wanted::Trapped(TrapKind::Index, 7, 3);
+
+static TRAPS: [Indexed; 3] = [
+    ([0, 3, 0, 3], [1, 1, 1, 1], FIRST, ""),
+    ([0, 3, 0, 3], [1, 0, 1, 1], LAST, ""),
+    ([0, 0x8000_0000_0000_0000, 1, 2], [1, 1, 1, 1], FIRST, ""),
+];
 
 #[test]
 fn lowest_lane_outside(rt: HostRuntime) -> Result<(), Fail> {
     let alloc = rt.alloc();
-    let first = Wanted::Trapped(TrapKind::Index, 7, 1);
-    let last = Wanted::Trapped(TrapKind::Index, 7, 3);
-    assert!(rt; scatters(alloc, &[0, 3, 0, 3], &[1; 4], first, "")?);
-    assert!(rt; scatters(alloc, &[0, 3, 0, 3], &[1, 0, 1, 1], last, "")?);
-    assert!(rt; scatters(alloc, &[0, 0x8000_0000_0000_0000, 1, 2], &[1; 4], first, "")?);
+    for (number, row) in TRAPS.iter().enumerate() {
+        assert!(rt; scatters(alloc, row)?, "{number}");
+    }
     Ok(())
 }
 

@@ -249,26 +249,28 @@ fn ranges(rt: HostRuntime) -> Result<(), Fail> {
     Ok(())
 }
 
+// Ranges from 7 to 16, and what the result holds before.
+static LONG_RANGES: [(Gang, Row<'static>, &'static [u64]); 2] = [
+    (
+        Gang::W16,
+        (
+            RANGE,
+            &ALL_16,
+            &NONE_16,
+            &[1, 1, 1, 1, 1, 1, 1, 1, 1, 0, 0, 0, 0, 0, 0, 0],
+            0,
+        ),
+        &ALL_16,
+    ),
+    (Gang::W8, (RANGE, &ALL_8, &ODD_8, &ALL_8, 0), &ALL_8),
+];
+
 #[test]
 fn long_ranges(rt: HostRuntime) -> Result<(), Fail> {
     let alloc = rt.alloc();
-    let nine = [1, 1, 1, 1, 1, 1, 1, 1, 1, 0, 0, 0, 0, 0, 0, 0];
-    let row = (
-        RANGE,
-        ALL_16.as_slice(),
-        NONE_16.as_slice(),
-        nine.as_slice(),
-        0,
-    );
-    assert!(rt; holds(alloc, Gang::W16, &row, (7, 16), &[1; 16])?);
-    let row = (
-        RANGE,
-        ALL_8.as_slice(),
-        ODD_8.as_slice(),
-        ALL_8.as_slice(),
-        0,
-    );
-    assert!(rt; holds(alloc, Gang::W8, &row, (7, 16), &[1; 8])?);
+    for (gang, row, before) in &LONG_RANGES {
+        assert!(rt; holds(alloc, *gang, row, (7, 16), *before)?, "{gang:?}");
+    }
     Ok(())
 }
 
@@ -314,46 +316,45 @@ fn spreads<'x>(alloc: Global, gang: Gang, on: &'x [u64], output: &'x str) -> Res
     goes(alloc, &code, &given, &[(10, seen)])
 }
 
+static SPREADS: [(Gang, &'static [u64], &'static str); 4] = [
+    (Gang::W4, &[0; 4], "[0,0,0,0][_,_,_,_][0,0,0,0]"),
+    (Gang::W4, &[0, 1, 0, 1], "[0,-7,0,-7][_,-7,_,-7][0,1,0,3]"),
+    (Gang::W4, &[1; 4], "[-7,-7,-7,-7][-7,-7,-7,-7][0,1,2,3]"),
+    (
+        Gang::W8,
+        &LAST_8,
+        "[0,0,0,0,0,0,0,-7][_,_,_,_,_,_,_,-7][0,0,0,0,0,0,0,7]",
+    ),
+];
+
+static SPREADS_16: [(Gang, &'static [u64], &'static str); 2] = [
+    (
+        Gang::W16,
+        &NINTH_16,
+        "[0,0,0,0,0,0,0,0,0,-7,0,0,0,0,0,0][_,_,_,_,_,_,_,_,_,-7,_,_,_,_,_,_][0,0,0,0,0,0,0,0,0,9,0,0,0,0,0,0]",
+    ),
+    (
+        Gang::W16,
+        &NONE_16,
+        "[0,0,0,0,0,0,0,0,0,0,0,0,0,0,0,0][_,_,_,_,_,_,_,_,_,_,_,_,_,_,_,_][0,0,0,0,0,0,0,0,0,0,0,0,0,0,0,0]",
+    ),
+];
+
 #[test]
 fn splat_and_index(rt: HostRuntime) -> Result<(), Fail> {
     let alloc = rt.alloc();
-    assert!(rt; spreads(alloc, Gang::W4, &[0; 4], "[0,0,0,0][_,_,_,_][0,0,0,0]")?);
-    assert!(rt;
-        spreads(
-            alloc,
-            Gang::W4,
-            &[0, 1, 0, 1],
-            "[0,-7,0,-7][_,-7,_,-7][0,1,0,3]"
-        )?
-    );
-    assert!(rt;
-        spreads(
-            alloc,
-            Gang::W4,
-            &[1; 4],
-            "[-7,-7,-7,-7][-7,-7,-7,-7][0,1,2,3]"
-        )?
-    );
-    assert!(rt;
-        spreads(
-            alloc,
-            Gang::W8,
-            &LAST_8,
-            "[0,0,0,0,0,0,0,-7][_,_,_,_,_,_,_,-7][0,0,0,0,0,0,0,7]"
-        )?
-    );
+    for (number, (gang, on, output)) in SPREADS.iter().enumerate() {
+        assert!(rt; spreads(alloc, *gang, *on, *output)?, "{number}");
+    }
     Ok(())
 }
 
 #[test]
 fn splat_and_index_of_sixteen(rt: HostRuntime) -> Result<(), Fail> {
     let alloc = rt.alloc();
-    let ninth =
-        "[0,0,0,0,0,0,0,0,0,-7,0,0,0,0,0,0][_,_,_,_,_,_,_,_,_,-7,_,_,_,_,_,_][0,0,0,0,0,0,0,0,0,9,0,0,0,0,0,0]";
-    assert!(rt; spreads(alloc, Gang::W16, &NINTH_16, ninth)?);
-    let none =
-        "[0,0,0,0,0,0,0,0,0,0,0,0,0,0,0,0][_,_,_,_,_,_,_,_,_,_,_,_,_,_,_,_][0,0,0,0,0,0,0,0,0,0,0,0,0,0,0,0]";
-    assert!(rt; spreads(alloc, Gang::W16, &NONE_16, none)?);
+    for (number, (gang, on, output)) in SPREADS_16.iter().enumerate() {
+        assert!(rt; spreads(alloc, *gang, *on, *output)?, "{number}");
+    }
     Ok(())
 }
 
@@ -405,12 +406,19 @@ fn jumps(alloc: Global, truth: u64, to: u64, output: &str) -> Result<bool, Fail>
     goes(alloc, &code, &given, &[(11, seen)])
 }
 
+// The bool, the end of the range that starts at 0, and what is written.
+static JUMPED: [(u64, u64, &'static str); 4] = [
+    (1, 1, "xx-5"),
+    (0, 0, "one twoone two-5"),
+    (1, 0, "xone two-5"),
+    (0, 8, "one twox-5"),
+];
+
 #[test]
 fn jump_tests(rt: HostRuntime) -> Result<(), Fail> {
     let alloc = rt.alloc();
-    assert!(rt; jumps(alloc, 1, 1, "xx-5")?);
-    assert!(rt; jumps(alloc, 0, 0, "one twoone two-5")?);
-    assert!(rt; jumps(alloc, 1, 0, "xone two-5")?);
-    assert!(rt; jumps(alloc, 0, 8, "one twox-5")?);
+    for (number, (truth, to, output)) in JUMPED.iter().enumerate() {
+        assert!(rt; jumps(alloc, *truth, *to, *output)?, "{number}");
+    }
     Ok(())
 }

@@ -382,13 +382,19 @@ fn of_bools(alloc: Global, operator: Operator, gives: [u64; 4]) -> Result<bool, 
     holds(alloc, &trial)
 }
 
+static BOOLS: [(Operator, [u64; 4]); 5] = [
+    (Operator::Unary(UnaryOp::Not), [1, 1, 0, 0]),
+    (Operator::Copy, [0, 0, 1, 1]),
+    (Operator::Select, [0, 0, 1, 1]),
+    (Operator::Compare(Compare::Equal), [1, 0, 0, 1]),
+    (Operator::Compare(Compare::Less), [0, 1, 0, 0]),
+];
+
 #[test]
 fn bools(rt: HostRuntime) -> Result<(), Fail> {
     let alloc = rt.alloc();
-    assert!(rt; of_bools(alloc, Operator::Unary(UnaryOp::Not), [1, 1, 0, 0])?);
-    assert!(rt; of_bools(alloc, Operator::Copy, [0, 0, 1, 1])?);
-    assert!(rt; of_bools(alloc, Operator::Select, [0, 0, 1, 1])?);
-    assert!(rt; of_bools(alloc, Operator::Compare(Compare::Equal), [1, 0, 0, 1])?);
-    assert!(rt; of_bools(alloc, Operator::Compare(Compare::Less), [0, 1, 0, 0])?);
+    for (number, (operator, gives)) in BOOLS.iter().enumerate() {
+        assert!(rt; of_bools(alloc, *operator, *gives)?, "{number}");
+    }
     Ok(())
 }

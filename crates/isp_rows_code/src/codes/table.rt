@@ -11,102 +11,117 @@ pub enum Five {
     Scatter,
 }
 
-const S0: Register = Register {
+pub const S0: Register = Register {
     class: Class::Scalar,
     number: 0,
 };
 
-const S1: Register = Register {
+pub const S1: Register = Register {
     class: Class::Scalar,
     number: 1,
 };
 
-const S2: Register = Register {
+pub const S2: Register = Register {
     class: Class::Scalar,
     number: 2,
 };
 
-const S3: Register = Register {
+pub const S3: Register = Register {
     class: Class::Scalar,
     number: 3,
 };
 
-const S4: Register = Register {
+pub const S4: Register = Register {
     class: Class::Scalar,
     number: 4,
 };
 
-const S9: Register = Register {
+pub const S5: Register = Register {
+    class: Class::Scalar,
+    number: 5,
+};
+
+pub const S9: Register = Register {
     class: Class::Scalar,
     number: 9,
 };
 
-const V0: Register = Register {
+pub const V0: Register = Register {
     class: Class::Vector,
     number: 0,
 };
 
-const V1: Register = Register {
+pub const V1: Register = Register {
     class: Class::Vector,
     number: 1,
 };
 
-const V2: Register = Register {
+pub const V2: Register = Register {
     class: Class::Vector,
     number: 2,
 };
 
-const V3: Register = Register {
+pub const V3: Register = Register {
     class: Class::Vector,
     number: 3,
 };
 
-const V4: Register = Register {
+pub const V4: Register = Register {
     class: Class::Vector,
     number: 4,
 };
 
-const V9: Register = Register {
+pub const V9: Register = Register {
     class: Class::Vector,
     number: 9,
 };
 
-const M0: Register = Register {
+pub const M0: Register = Register {
     class: Class::Mask,
     number: 0,
 };
 
-const M1: Register = Register {
+pub const M1: Register = Register {
     class: Class::Mask,
     number: 1,
 };
 
-const M9: Register = Register {
+pub const M2: Register = Register {
+    class: Class::Mask,
+    number: 2,
+};
+
+pub const M9: Register = Register {
     class: Class::Mask,
     number: 9,
 };
 
-const A0: Register = Register {
+pub const A0: Register = Register {
     class: Class::Array,
     number: 0,
 };
 
-const A1: Register = Register {
+pub const A1: Register = Register {
     class: Class::Array,
     number: 1,
 };
 
-const A2: Register = Register {
+pub const A2: Register = Register {
     class: Class::Array,
     number: 2,
 };
 
-const A3: Register = Register {
+pub const A3: Register = Register {
     class: Class::Array,
     number: 3,
 };
 
-const A9: Register = Register {
+pub const A4: Register = Register {
+    class: Class::Array,
+    number: 4,
+};
+
+pub const A9: Register = Register {
     class: Class::Array,
     number: 9,
 };
