@@ -12,7 +12,7 @@ use Rattle.isp_lower.specs.Code.{choice, copy, expr_code, expr_places, guard, op
 use Rattle.isp_lower.specs.Emitted.{Emits, Follows, Puts}
 use Rattle.isp_lower.specs.Layout.{Layout}
 use Rattle.isp_lower.specs.declared.builder.FunctionBuilder.{FunctionBuilder}
-use Rattle.isp_lower.proofs.Following.{after_one, before, chosen, emits_so, emits_then, landed, puts_keep}
+use Rattle.isp_lower.proofs.Following.{before, chosen, emits_so, emits_then, landed, puts_keep}
 use Rattle.isp_typed.specs.Nodes.{stmt_nodes, stmts_nodes}
 use Rattle.isp_typed.specs.Typed.{TExpr, t_stmts}
 use Rattle.isp_typed.specs.Views.{stmt_of, stmts_of}
