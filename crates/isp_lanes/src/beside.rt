@@ -177,7 +177,8 @@ fn zipped<const N: usize, K: Operator<N>>(
     }
 }
 
-// The same where the width of the words is known.
+// The same where the width of the words is known. The old words are read last: read before a test of the element type they would
+// wait on the stack for its end.
 #[inline(always)]
 fn zip<const N: usize, K: Operator<N>, V: Words<N>>(
     vectors: &mut [Lanes<N>],
@@ -198,8 +199,9 @@ fn zip<const N: usize, K: Operator<N>, V: Words<N>>(
     let elem = vectors[out].elem();
     let x: V = vectors[x].words_as();
     let y: V = vectors[y].words_as();
+    let new = K::on(elem, x, y);
     let old: V = vectors[out].words_as();
-    vectors[out].take(mask.merge(K::on(elem, x, y), old));
+    vectors[out].take(mask.merge(new, old));
 }
 
 // The division.
@@ -303,8 +305,9 @@ fn apply<const N: usize, K: UnaryOperator<N>, V: Words<N>>(
     mask.told();
     let elem = vectors[out].elem();
     let x: V = vectors[x].words_as();
+    let new = K::on(elem, x);
     let old: V = vectors[out].words_as();
-    vectors[out].take(mask.merge(K::on(elem, x), old));
+    vectors[out].take(mask.merge(new, old));
 }
 
 // 1 where the bits of a vector are not 0, else 0, in a vector of bools.
@@ -360,8 +363,9 @@ fn convert<const N: usize, V: Words<N>, W: Words<N>>(
     let to = vectors[out].elem();
     let from = vectors[x].elem();
     let x: V = vectors[x].words_as();
+    let new: W = masked::convert(from, to, x);
     let old: W = vectors[out].words_as();
-    vectors[out].take(masked::convert(from, to, x, mask, old));
+    vectors[out].take(mask.merge(new, old));
 }
 
 // The choice between two vectors where the width of the words is known.

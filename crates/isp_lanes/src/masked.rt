@@ -1,5 +1,5 @@
 //! The operators on words under a mask: the lanes that are off keep their old words.
-ghost use Rattle.std.specs.Prelude.{◌≡◌, ℕ, ◌<◌, ◌^◌, slice_index, length, map, replicate, None, cond, true};
+ghost use Rattle.std.specs.Prelude.{◌≡◌, ℕ, ◌<◌, ◌≤◌, ◌^◌, slice_index, length, map, replicate, None, cond, true};
 ghost use Rattle.std.specs.Simd.Lanes.{zip2, sel_l};
 ghost use Rattle.isp_base.specs.Values.{divides, number, op_bits, width, wrap};
 ghost use Rattle.isp_lanes.specs.Lanes.{first_zero, is_on};
@@ -87,23 +87,17 @@ pub(crate) fn keep<const N: usize, V: Words<N>>(wide: &[u64; N], mask: &LaneMask
     mask.merge(old.cut(wide), old)
 }
 
-// The numbers of one element type as values of another, not bool, for which the old words are. Through 64 bits, of which the
-// compiler leaves no more than the wider of the two takes.
-pub(crate) fn convert<const N: usize, V: Words<N>, W: Words<N>>(
-    from: Elem,
-    to: Elem,
-    x: V,
-    mask: &LaneMask<N>,
-    old: W,
-) -> W
+// The numbers of one element type as values of another that is not bool. Through 64 bits, of which the compiler leaves no more than
+// the wider of the two takes.
+pub(crate) fn convert<const N: usize, V: Words<N>, W: Words<N>>(from: Elem, to: Elem, x: V) -> W
+    requires few { N ≤ 64 }
     requires x_row { IsRow N V.width from (V.words x) }
     requires wide { W.width ≡ width to }
-    ensures { W.words result ≡ sel_l mask.now (map (λ a. wrap to (number from a)) (V.words x)) (W.words old) }
+    ensures { W.words result ≡ map (λ a. wrap to (number from a)) (V.words x) }
 {
-    mask.told();
     if is_signed(from) {
-        mask.merge(old.cut(&x.spread()), old)
+        W::all(0).cut(&x.spread())
     } else {
-        mask.merge(old.cut(&x.wide()), old)
+        W::all(0).cut(&x.wide())
     }
 }

@@ -397,18 +397,23 @@ impl<const N: usize> Row<N> {
         ensures words { held self.new ≡ sel_l mask.now (map (λ a. wrap to (number from a)) (V.words x)) (held self.old) }
         ensures wide { held_width self.new ≡ held_width self.old }
     {
+        mask.told();
         match self {
             Row::Bits8(old) => {
-                *old = masked::convert(from, to, x, mask, Simd::from_array(*old)).to_array();
+                let new = masked::convert(from, to, x);
+                *old = mask.merge(new, Simd::from_array(*old)).to_array();
             }
             Row::Bits16(old) => {
-                *old = masked::convert(from, to, x, mask, Simd::from_array(*old)).to_array();
+                let new = masked::convert(from, to, x);
+                *old = mask.merge(new, Simd::from_array(*old)).to_array();
             }
             Row::Bits32(old) => {
-                *old = masked::convert(from, to, x, mask, Simd::from_array(*old)).to_array();
+                let new = masked::convert(from, to, x);
+                *old = mask.merge(new, Simd::from_array(*old)).to_array();
             }
             Row::Bits64(old) => {
-                *old = masked::convert(from, to, x, mask, Simd::from_array(*old)).to_array();
+                let new = masked::convert(from, to, x);
+                *old = mask.merge(new, Simd::from_array(*old)).to_array();
             }
         }
     }

@@ -17,7 +17,7 @@ take-requires g c =
     let new = map (unary_bits g.K.UnaryOperator.op e) xs in (
       search rules,
       row_under n g.V.Words.width _ _ c.args.mask.now new old _ (elem_at vs out _ _ c.requires.out)
-          (c.merge.ensures ∙ ap (λ (us : List ℕ). sel_l c.args.mask.now us old) c.on.ensures) c.told.ensures.long
+          (c.merge.ensures ∙ ap (λ (us : List ℕ). sel_l c.args.mask.now us old) c.on-new.ensures) c.told.ensures.long
           (length-map xs _ ∙ c.words_as-x.ensures.row.long)
           (fits_as (elem_at vs out _ _ c.requires.out ∙ sym c.elem-elem.ensures) (λ _. new) (unary_fits g.K.UnaryOperator.op e xs)) c.words_as-old.ensures.row,
     )

@@ -18,7 +18,7 @@ take-requires g c =
     let new = zip2 (op_bits g.K.Operator.op e) xs ys in (
       search rules,
       row_under n g.V.Words.width _ _ c.args.mask.now new old _ (elem_at vs out _ _ c.requires.out)
-          (c.merge.ensures ∙ ap (λ (us : List ℕ). sel_l c.args.mask.now us old) c.on.ensures) c.told.ensures.long
+          (c.merge.ensures ∙ ap (λ (us : List ℕ). sel_l c.args.mask.now us old) c.on-new.ensures) c.told.ensures.long
           (length_zip2 _ xs ys n c.words_as-x.ensures.row.long c.words_as-y.ensures.row.long)
           (fits_as (elem_at vs out _ _ c.requires.out ∙ sym c.elem-elem.ensures) (λ _. new) (op_fits g.K.Operator.op e xs ys)) c.words_as-old.ensures.row,
     )
