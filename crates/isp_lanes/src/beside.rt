@@ -9,6 +9,7 @@ ghost use Rattle.isp_base.specs.Unary.{unary_bits};
 ghost use Rattle.isp_base.specs.Rows.{Row};
 ghost use Rattle.isp_lanes.specs.Lanes.{is_on, first_zero, written, vector};
 
+use crate::kernels::is_signed;
 use crate::kernels::operators::{self, Operator, UnaryOperator};
 use crate::lanes::Lanes;
 use crate::mask::LaneMask;
@@ -67,7 +68,15 @@ impl<const N: usize> Lanes<N> {
         match op {
             UnaryOp::Negate => mapped::<N, operators::Negate>(vectors, out, x, mask),
             UnaryOp::Invert => mapped::<N, operators::Invert>(vectors, out, x, mask),
-            UnaryOp::Absolute => mapped::<N, operators::Absolute>(vectors, out, x, mask),
+            UnaryOp::Absolute => {
+                vectors[x].told();
+                let elem = vectors[x].elem();
+                if is_signed(elem) {
+                    mapped::<N, operators::Absolute>(vectors, out, x, mask);
+                } else {
+                    Self::copy_at(vectors, out, x, mask);
+                }
+            }
             UnaryOp::Not => mapped::<N, operators::Not>(vectors, out, x, mask),
         }
     }
@@ -324,6 +333,7 @@ fn truths<const N: usize>(vectors: &mut [Lanes<N>], out: usize, x: usize, mask: 
 }
 
 // The conversion to a type that is not bool, where the width of its words is known.
+#[inline(never)]
 fn converted<const N: usize, W: Words<N>>(
     vectors: &mut [Lanes<N>],
     out: usize,
