@@ -333,7 +333,6 @@ fn truths<const N: usize>(vectors: &mut [Lanes<N>], out: usize, x: usize, mask: 
 }
 
 // The conversion to a type that is not bool, where the width of its words is known.
-#[inline(never)]
 fn converted<const N: usize, W: Words<N>>(
     vectors: &mut [Lanes<N>],
     out: usize,

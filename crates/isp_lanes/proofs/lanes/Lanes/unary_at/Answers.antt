@@ -24,7 +24,7 @@ returns-else-is_signed g c =
     let plain : nat_lt (greatest t) (2 ^ width t - 1) ≡ false = subst (λ (e : Elem). nat_lt (greatest e) (2 ^ width e - 1) ≡ false) is (sym c.is_signed.ensures ∙ c.if-is_signed.false) in
     c.copy_at.ensures
     ∙ ap (λ (us : List ℕ). slice_set vs c.args.out (written c.args.mask.now us old))
-        (sym (map-id row.bits)
-        ∙ map_same (λ a. a < 2 ^ width t) (λ a. a) _ (λ a p. cell.plain_magnitude t plain a p ∙ cell.unary_absolute t a p) row.bits fits
-        ∙ ap (λ (e : Elem). map (unary_bits Absolute e) row.bits) c.requires.elem
-        ∙ ap (λ (o : UnaryOp). map (unary_bits o old.elem) row.bits) (sym c.in-Absolute.is))
+    (sym (map-id row.bits)
+    ∙ map_same (λ a. a < 2 ^ width t) (λ a. a) _ (λ a p. cell.plain_magnitude t plain a p ∙ cell.unary_absolute t a p) row.bits fits
+    ∙ ap (λ (e : Elem). map (unary_bits Absolute e) row.bits) c.requires.elem
+    ∙ ap (λ (o : UnaryOp). map (unary_bits o old.elem) row.bits) (sym c.in-Absolute.is))
