@@ -11,11 +11,10 @@ ghost use Rattle.isp_store.specs.Held.{shapes};
 
 use crate::calls::call;
 use crate::divide::divide;
-use crate::frame::Frame;
+use crate::frame::{Frame, FrameBox};
 use crate::here::Here;
 use crate::jumps::{fail, jump, jump_if};
 use crate::masks::mask;
-use crate::passed::Passed;
 use crate::returns::give_back;
 use crate::says::{print_scalar, print_vector, say};
 use crate::scalars::scalar;
@@ -34,11 +33,11 @@ use std::marker::Model;
 /// over, for later ones, and no part of what contracts see.
 #[derive(Drop)]
 pub(crate) struct Run<const N: usize> {
-    pub(crate) frame: Frame<N>,
-    pub(crate) waiting: Vec<Frame<N>>,
+    pub(crate) frame: FrameBox<N>,
+    pub(crate) waiting: Vec<FrameBox<N>>,
     pub(crate) stores: Arrays,
     pub(crate) out: Vec<u8>,
-    pub(crate) rooms: Vec<Passed<N>>,
+    pub(crate) rooms: Vec<FrameBox<N>>,
 }
 
 impl<const N: usize> Model for Run<N> {
@@ -113,15 +112,15 @@ fn execute<const N: usize>(
 {
     match instr {
         Instr::Say(text) => {
-            say(here, &mut run.frame, &mut run.out, *text)?;
+            say(here, &mut run.frame.at, &mut run.out, *text)?;
             Ok(Step::Went)
         }
         Instr::PrintScalar(x) => {
-            print_scalar(here, &mut run.frame, &mut run.out, *x)?;
+            print_scalar(here, &mut run.frame.at, &mut run.out, *x)?;
             Ok(Step::Went)
         }
         Instr::PrintVector(x, k) => {
-            print_vector(alloc, here, &mut run.frame, &mut run.out, *x, *k)?;
+            print_vector(alloc, here, &mut run.frame.at, &mut run.out, *x, *k)?;
             Ok(Step::Went)
         }
         Instr::Call(c) => call(
@@ -142,7 +141,7 @@ fn execute<const N: usize>(
             &mut run.rooms,
             *x,
         )),
-        _ => Ok(after(compute(here, &mut run.frame, &mut run.stores, instr))),
+        _ => Ok(after(compute(here, &mut run.frame.at, &mut run.stores, instr))),
     }
 }
 
@@ -159,7 +158,7 @@ pub(crate) fn step<const N: usize>(
     ensures same { OnErr result (run.new ≡ run.old) }
     ensures refused { OnErr result (Refuses code.now (conf_now run.old)) }
 {
-    let here = Here::new(code, run.frame.function());
-    let instr = here.instr(run.frame.pc());
+    let here = Here::new(code, run.frame.at.function());
+    let instr = here.instr(run.frame.at.pc());
     execute(alloc, code, &here, run, instr)
 }
