@@ -11,6 +11,7 @@ use crate::frame::{Frame, FrameBox};
 use crate::here::Here;
 use crate::kernels::first_lane;
 use crate::stop::Step;
+use crate::zeros::Zeros;
 use isp_base::TrapKind;
 use isp_code::{Call, Class, Instr, Register};
 use isp_lanes::LaneMask;
@@ -31,6 +32,7 @@ pub(crate) fn begin<const N: usize>(
     frame: &mut Frame<N>,
     number: usize,
     mask: &LaneMask<N>,
+    zeros: &Zeros<N>,
 ) -> Result<(), AllocError>
     requires { number < length code.now.routines }
     ensures begun { OnOk result ((g : Routine) → slice_get code.now.routines number ≡ Some g → Begun N g number mask.now (length stores.old.rows) (given frame.old) frame.new) }
@@ -42,7 +44,7 @@ pub(crate) fn begin<const N: usize>(
 {
     mask.told();
     let function = &code.code().functions()[number];
-    frame.begin(alloc, stores, number, function, mask)
+    frame.begin(alloc, stores, number, function, mask, zeros)
 }
 
 // The memory of the last call that is over, where some is kept, else a frame without registers.
@@ -80,6 +82,9 @@ fn wait<const N: usize>(
 
 /// Calls a function, or traps where as many calls run as may. Where memory is refused nothing
 /// changes. The new frame takes the memory of a call that is over, where some is kept.
+///
+/// Apart from the other instructions, so that these need not save the registers that it takes.
+#[inline(never)]
 pub(crate) fn call<const N: usize>(
     alloc: Global,
     code: &Verified,
@@ -88,6 +93,7 @@ pub(crate) fn call<const N: usize>(
     waiting: &mut Vec<FrameBox<N>>,
     stores: &mut Arrays,
     rooms: &mut Vec<FrameBox<N>>,
+    zeros: &Zeros<N>,
     call: &Call,
 ) -> Result<Step, AllocError>
     requires code { here.now.code ≡ code.now }
@@ -120,6 +126,7 @@ pub(crate) fn call<const N: usize>(
         &mut callee.at,
         call.function as usize,
         &mask,
+        zeros,
     )?;
     wait(frame, waiting, callee, call.result, &mask);
     Ok(Step::Went)

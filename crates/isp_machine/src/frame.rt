@@ -26,6 +26,7 @@ use crate::passed::{
     argument_arrays, argument_values, first_masks, passed_arrays, passed_scalars, passed_vectors,
     push_zero_lanes, push_zeros,
 };
+use crate::zeros::Zeros;
 use isp_base::{Argument, BinOp, Compare, UnaryOp};
 use isp_code::{Function, Register};
 use isp_lanes::{LaneMask, Lanes};
@@ -262,6 +263,7 @@ impl<const N: usize> Frame<N> {
         number: usize,
         function: &Function,
         mask: &LaneMask<N>,
+        zeros: &Zeros<N>,
     ) -> Result<(), AllocError>
         requires few { N ≤ 64 }
         requires masks { 0 < (routine_of function.now).masks }
@@ -271,7 +273,7 @@ impl<const N: usize> Frame<N> {
         ensures err { OnErr result (stores.new ≡ stores.old) }
     {
         push_zeros(&mut self.scalars, function.scalars.len())?;
-        push_zero_lanes(&mut self.vectors, &function.vectors)?;
+        push_zero_lanes(&mut self.vectors, zeros, &function.vectors)?;
         first_masks(&mut self.masks, function.masks, mask)?;
         open_locals(alloc, stores, &mut self.arrays, &function.locals)?;
         self.function = number;

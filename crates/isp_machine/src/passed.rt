@@ -14,6 +14,7 @@ use crate::array::FrameArray;
 use crate::frame::Frame;
 use crate::here::Here;
 use crate::kernels::copied;
+use crate::zeros::Zeros;
 use isp_base::{Argument, Elem, low_bits};
 use isp_code::{Class, Register};
 use isp_lanes::{LaneMask, Lanes};
@@ -145,30 +146,29 @@ pub(crate) fn push_zeros(scalars: &mut Vec<u64>, count: usize) -> Result<(), All
     Ok(())
 }
 
-// A vector that is zero behind vectors, a copy of one.
-fn push_zero<const N: usize>(vectors: &mut Vec<Lanes<N>>, zero: &Lanes<N>) -> Result<(), AllocError>
-    requires { lane_of zero.now.bits ≡ (λ p. 0) }
-    ensures { OnOk result (map seen vectors.new.items ≡ map seen vectors.old.items ++ zero_seen zero.now.elem ∷ []) }
+// A vector that is zero behind vectors.
+fn push_zero<const N: usize>(
+    vectors: &mut Vec<Lanes<N>>,
+    zeros: &Zeros<N>,
+    elem: Elem,
+) -> Result<(), AllocError>
+    ensures { OnOk result (map seen vectors.new.items ≡ map seen vectors.old.items ++ zero_seen elem ∷ []) }
 {
-    vectors.push(*zero)?;
+    vectors.push(*zeros.of(elem))?;
     Ok(())
 }
 
-/// Vectors that are zero behind vectors. One is made for each run of vectors of one type: a vector
-/// that has just been written in pieces is slow to copy.
+/// Vectors that are zero behind vectors.
 pub(crate) fn push_zero_lanes<const N: usize>(
     vectors: &mut Vec<Lanes<N>>,
+    zeros: &Zeros<N>,
     elems: &[Elem],
 ) -> Result<(), AllocError>
     ensures { OnOk result (map seen vectors.new.items ≡ map seen vectors.old.items ++ map zero_seen elems.now) }
 {
     vectors.reserve(elems.len())?;
-    let mut zero = zero_lanes(Elem::I32);
     for elem in elems {
-        if zero.elem() != *elem {
-            zero = zero_lanes(*elem);
-        }
-        push_zero(vectors, &zero)?;
+        push_zero(vectors, zeros, *elem)?;
     }
     Ok(())
 }

@@ -89,6 +89,7 @@ fn keep<const N: usize>(rooms: &mut Vec<FrameBox<N>>, callee: FrameBox<N>)
 }
 
 /// Goes back to the call that waits, or ends the run.
+#[inline(never)]
 pub(crate) fn give_back<const N: usize>(
     here: &Here,
     frame: &mut FrameBox<N>,

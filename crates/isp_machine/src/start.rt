@@ -8,6 +8,7 @@ ghost use Rattle.isp_machine.specs.Starts.{NoEntryFor, Ready};
 use crate::calls::begin;
 use crate::frame::FrameBox;
 use crate::step::Run;
+use crate::zeros::Zeros;
 use isp_base::{Argument, Array, Bound};
 use isp_lanes::LaneMask;
 use isp_store::Arrays;
@@ -68,6 +69,7 @@ pub(crate) fn begun<const N: usize>(
     ensures { IfOk result (λ r. (g : Routine) → slice_get code.now.routines number ≡ Some g → Ready N g number arguments.now r) }
 {
     let mut stores = Arrays::new(alloc, places(alloc, arguments)?);
+    let zeros = Zeros::new();
     let mut frame = FrameBox::empty(alloc)?;
     frame.at.pass_run(alloc, arguments, stores.count())?;
     begin(
@@ -77,6 +79,7 @@ pub(crate) fn begun<const N: usize>(
         &mut frame.at,
         number,
         &LaneMask::full(),
+        &zeros,
     )?;
     Ok(Run {
         frame,
@@ -84,5 +87,6 @@ pub(crate) fn begun<const N: usize>(
         stores,
         out: Vec::new(alloc),
         rooms: Vec::new(alloc),
+        zeros,
     })
 }

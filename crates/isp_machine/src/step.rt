@@ -21,6 +21,7 @@ use crate::scalars::scalar;
 use crate::stop::Step;
 use crate::stores::{clear, scatter, store};
 use crate::vectors::vector;
+use crate::zeros::Zeros;
 use isp_base::Trap;
 use isp_code::Instr;
 use isp_store::Arrays;
@@ -30,7 +31,7 @@ use std::marker::Model;
 
 /// The machine between two instructions: the call that runs, the calls that wait, the innermost
 /// last, the arrays that all lanes share, and the output. `rooms` is the memory of calls that are
-/// over, for later ones, and no part of what contracts see.
+/// over, for later ones, and `zeros` what new registers are copied from: no part of what contracts see.
 #[derive(Drop)]
 pub(crate) struct Run<const N: usize> {
     pub(crate) frame: FrameBox<N>,
@@ -38,6 +39,7 @@ pub(crate) struct Run<const N: usize> {
     pub(crate) stores: Arrays,
     pub(crate) out: Vec<u8>,
     pub(crate) rooms: Vec<FrameBox<N>>,
+    pub(crate) zeros: Zeros<N>,
 }
 
 impl<const N: usize> Model for Run<N> {
@@ -93,6 +95,7 @@ fn after(done: Result<(), Trap>) -> Step
 }
 
 // One instruction. Where memory is refused nothing changes.
+#[inline(always)]
 fn execute<const N: usize>(
     alloc: Global,
     code: &Verified,
@@ -131,6 +134,7 @@ fn execute<const N: usize>(
             &mut run.waiting,
             &mut run.stores,
             &mut run.rooms,
+            &run.zeros,
             c.get(),
         ),
         Instr::Return(x) => Ok(give_back(
@@ -146,6 +150,7 @@ fn execute<const N: usize>(
 }
 
 /// The instruction before which the run stands. Where memory is refused nothing changes.
+#[inline(always)]
 pub(crate) fn step<const N: usize>(
     alloc: Global,
     code: &Verified,

@@ -1,6 +1,10 @@
-use Rattle.std.proofs.Common.{◌≡◌, sym, ap, ◌∙◌, subst, ◌+◌, ◌<◌, List, [], ◌∷◌, ◌++◌, length, Some, rules, arith}
+use Rattle.std.proofs.Common.{◌≡◌, sym, ap, ◌∙◌, subst, ℕ, ◌+◌, ◌<◌, ◌≤◌, List, [], ◌∷◌, ◌++◌, length, Some, rules, arith}
 use Rattle.std.specs.Prelude.{slice_get}
-use Rattle.isp_base.specs.Sets.{flag_of}
+use Rattle.isp_base.specs.Cross.{or_zero}
+use Rattle.isp_base.specs.Sets.{flag_of, lowest}
+use Rattle.isp_base.specs.Traps.{trap}
+use Rattle.isp_base.specs.declared.trap.TrapKind.TheVariants.{Depth}
+use Rattle.isp_code.specs.Calls.{place_at}
 use Rattle.isp_code.specs.Listing.{Listing}
 use Rattle.isp_code.specs.declared.instr.Instr.TheVariants as instr
 use Rattle.isp_store.specs.Held.{Held}
@@ -10,7 +14,7 @@ use Rattle.isp_machine.specs.Shapes.{Sound}
 use Rattle.isp_machine.specs.Steps.{Done}
 use Rattle.isp_machine.specs.Views.{masks_at}
 use Rattle.isp_machine.specs.declared.stop.Step.TheVariants.{Went}
-use Rattle.isp_machine.proofs.Called.{runs_of, call_done, found_low}
+use Rattle.isp_machine.proofs.Called.{runs_of, call_done, too_deep, found_low}
 use Rattle.isp_machine.proofs.Passes.{are_there}
 use Rattle.isp_machine.proofs.calls.call.Goals as goal
 
@@ -60,3 +64,21 @@ returns-clause-ok g c =
     λ out.
     subst (λ (r : RunRows). Done g.row.N h (instr.Call k) (run_of s f ws out) r Went) (λ i. run_of (sym stores i) (sym c.wait.ensures.frame i) (sym waits i) out)
     (call_done g.row.N h k s f ws runs found c.requires.fine mask lanes c.begin.new.frame begun all few (c.in_ok-begin.ensures.masks callee there) c.requires.next (c.in_ok-begin.ensures.starts callee there) out)
+
+pub returns-then-len-clause-ok : goal.returns-then-len-clause-ok
+returns-then-len-clause-ok g c =
+    let h = c.args.here.now in
+    let k = c.args.call.now in
+    let s = c.args.stores.now in
+    let f = c.args.frame.now in
+    let ws = c.args.waiting.now.items in
+    let found = ap (λ (p : Listing). slice_get p.routines f.function) c.requires.code ∙ c.requires.found in
+    let sound = subst (λ (p : Listing). Sound g.row.N p s f ws) (sym c.requires.code) c.requires.sound in
+    let runs = runs_of g.row.N h s f ws found sound in
+    let len = c.len.ensures in
+    let on = c.if-len.true in
+    let many : 255 ≤ length ws = omega (arith, len, on) in
+    let first : c.deref.result.now ≡ f = search rules in
+    let lanes = c.mask.ensures ∙ ap (λ (z : FrameRows). masks_at z k.mask.number) first in
+    let lane = c.first_lane-lane.ensures.value ∙ (λ i. or_zero (lowest (runs.gang i) (lanes i))) in
+    λ out. too_deep g.row.N h k s f ws runs found c.requires.fine c.trap.result many (c.trap.ensures ∙ ap (λ (l : ℕ). trap Depth (place_at h.code k.place) l) lane) sound out

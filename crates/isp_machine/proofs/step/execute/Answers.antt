@@ -27,6 +27,8 @@ call-requires g c =
     let next = subst (λ (z : RunRows). GoesOn h.routine z.frame.pc (instr.Call c.get.result.now)) (sym c.run.view_is) (subst (λ (i : Instr). GoesOn h.routine c.args.run.now.frame.pc i) is c.requires.next) in (
       search rules,
       (
+       search rules,
+       (
         c.requires.code,
         (
           subst (λ (p : Listing). slice_get p.routines c.run.inside.frame.function ≡ Some h.routine) c.requires.code found,
@@ -35,6 +37,7 @@ call-requires g c =
             (call_mask h.code h.routine c.get.result.now fine, (call_place h.code h.routine c.get.result.now fine, (calls, next))),
           ),
         ),
+       ),
       ),
     )
 
