@@ -22,7 +22,6 @@ mod stop;
 mod stores;
 mod texts;
 mod vectors;
-mod zeros;
 
 pub use machine::Machine;
 pub use stop::{StartFault, Stop};

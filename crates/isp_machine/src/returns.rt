@@ -11,8 +11,9 @@ ghost use Rattle.isp_machine.specs.Steps.{Done};
 ghost use Rattle.isp_machine.specs.Views.{conf_of};
 ghost use Rattle.isp_store.specs.Held.{Held};
 
-use crate::frame::{Frame, FrameBox};
+use crate::frame::Frame;
 use crate::here::Here;
+use crate::passed::Passed;
 use crate::stop::Step;
 use isp_base::Value;
 use isp_code::{Class, Instr, Register};
@@ -76,26 +77,22 @@ fn receive<const N: usize>(
 }
 
 // Keeps the memory of a call that is over for a later one. Where there is no place for it, it is dropped.
-fn keep<const N: usize>(rooms: &mut Vec<FrameBox<N>>, callee: FrameBox<N>)
-    requires { N ≤ 64 }
+fn keep<const N: usize>(rooms: &mut Vec<Passed<N>>, callee: Frame<N>)
     ensures { length rooms.old.items ≤ length rooms.new.items }
 {
-    let mut room = callee;
-    room.at.end();
-    match rooms.push(room) {
+    match rooms.push(Passed::room(callee)) {
         Ok(()) => {}
         Err(_dropped) => {}
     }
 }
 
 /// Goes back to the call that waits, or ends the run.
-#[inline(never)]
 pub(crate) fn give_back<const N: usize>(
     here: &Here,
-    frame: &mut FrameBox<N>,
-    waiting: &mut Vec<FrameBox<N>>,
+    frame: &mut Frame<N>,
+    waiting: &mut Vec<Frame<N>>,
     stores: &mut Arrays,
-    rooms: &mut Vec<FrameBox<N>>,
+    rooms: &mut Vec<Passed<N>>,
     x: Option<Register>,
 ) -> Step
     requires found { slice_get here.now.code.routines frame.old.function ≡ Some here.now.routine }
@@ -104,12 +101,11 @@ pub(crate) fn give_back<const N: usize>(
     ensures { (out : List ℕ) → Done N here.now (Instr.Return x) (run_of stores.old frame.old waiting.old.items out) (run_of stores.new frame.new waiting.new.items out) result }
 {
     match waiting.pop() {
-        None => Step::Ended(answer(here, &frame.at, x)),
+        None => Step::Ended(answer(here, frame, x)),
         Some(caller) => {
             let callee = mem::replace(frame, caller);
-            receive(here, &callee.at, x, &mut frame.at);
-            stores.close_locals(frame.at.locals());
-            callee.at.under().told();
+            receive(here, &callee, x, frame);
+            stores.close_locals(frame.locals());
             keep(rooms, callee);
             Step::Went
         }

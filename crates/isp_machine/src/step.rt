@@ -11,17 +11,17 @@ ghost use Rattle.isp_store.specs.Held.{shapes};
 
 use crate::calls::call;
 use crate::divide::divide;
-use crate::frame::{Frame, FrameBox};
+use crate::frame::Frame;
 use crate::here::Here;
 use crate::jumps::{fail, jump, jump_if};
 use crate::masks::mask;
+use crate::passed::Passed;
 use crate::returns::give_back;
 use crate::says::{print_scalar, print_vector, say};
 use crate::scalars::scalar;
 use crate::stop::Step;
 use crate::stores::{clear, scatter, store};
 use crate::vectors::vector;
-use crate::zeros::Zeros;
 use isp_base::Trap;
 use isp_code::Instr;
 use isp_store::Arrays;
@@ -31,15 +31,14 @@ use std::marker::Model;
 
 /// The machine between two instructions: the call that runs, the calls that wait, the innermost
 /// last, the arrays that all lanes share, and the output. `rooms` is the memory of calls that are
-/// over, for later ones, and `zeros` what new registers are copied from: no part of what contracts see.
+/// over, for later ones, and no part of what contracts see.
 #[derive(Drop)]
 pub(crate) struct Run<const N: usize> {
-    pub(crate) frame: FrameBox<N>,
-    pub(crate) waiting: Vec<FrameBox<N>>,
+    pub(crate) frame: Frame<N>,
+    pub(crate) waiting: Vec<Frame<N>>,
     pub(crate) stores: Arrays,
     pub(crate) out: Vec<u8>,
-    pub(crate) rooms: Vec<FrameBox<N>>,
-    pub(crate) zeros: Zeros<N>,
+    pub(crate) rooms: Vec<Passed<N>>,
 }
 
 impl<const N: usize> Model for Run<N> {
@@ -95,7 +94,6 @@ fn after(done: Result<(), Trap>) -> Step
 }
 
 // One instruction. Where memory is refused nothing changes.
-#[inline(always)]
 fn execute<const N: usize>(
     alloc: Global,
     code: &Verified,
@@ -115,15 +113,15 @@ fn execute<const N: usize>(
 {
     match instr {
         Instr::Say(text) => {
-            say(here, &mut run.frame.at, &mut run.out, *text)?;
+            say(here, &mut run.frame, &mut run.out, *text)?;
             Ok(Step::Went)
         }
         Instr::PrintScalar(x) => {
-            print_scalar(here, &mut run.frame.at, &mut run.out, *x)?;
+            print_scalar(here, &mut run.frame, &mut run.out, *x)?;
             Ok(Step::Went)
         }
         Instr::PrintVector(x, k) => {
-            print_vector(alloc, here, &mut run.frame.at, &mut run.out, *x, *k)?;
+            print_vector(alloc, here, &mut run.frame, &mut run.out, *x, *k)?;
             Ok(Step::Went)
         }
         Instr::Call(c) => call(
@@ -134,7 +132,6 @@ fn execute<const N: usize>(
             &mut run.waiting,
             &mut run.stores,
             &mut run.rooms,
-            &run.zeros,
             c.get(),
         ),
         Instr::Return(x) => Ok(give_back(
@@ -145,12 +142,11 @@ fn execute<const N: usize>(
             &mut run.rooms,
             *x,
         )),
-        _ => Ok(after(compute(here, &mut run.frame.at, &mut run.stores, instr))),
+        _ => Ok(after(compute(here, &mut run.frame, &mut run.stores, instr))),
     }
 }
 
 /// The instruction before which the run stands. Where memory is refused nothing changes.
-#[inline(always)]
 pub(crate) fn step<const N: usize>(
     alloc: Global,
     code: &Verified,
@@ -163,7 +159,7 @@ pub(crate) fn step<const N: usize>(
     ensures same { OnErr result (run.new ≡ run.old) }
     ensures refused { OnErr result (Refuses code.now (conf_now run.old)) }
 {
-    let here = Here::new(code, run.frame.at.function());
-    let instr = here.instr(run.frame.at.pc());
+    let here = Here::new(code, run.frame.function());
+    let instr = here.instr(run.frame.pc());
     execute(alloc, code, &here, run, instr)
 }
