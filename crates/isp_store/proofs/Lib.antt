@@ -3,3 +3,4 @@ mod RowLists
 mod Lanes
 mod Own
 mod Picked
+mod Gathered

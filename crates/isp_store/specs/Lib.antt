@@ -1,3 +1,6 @@
 pub mod Held
 pub mod Own
 pub mod Inside
+pub mod Cells
+pub mod Undone
+pub mod LaneRows

@@ -8,6 +8,7 @@ ghost use Rattle.isp_base.specs.Sets.{flag_of};
 ghost use Rattle.isp_base.specs.Values.{width};
 ghost use Rattle.isp_store.specs.Held.{elements, size, elem, shapes, named};
 
+use crate::gather::keep;
 use crate::index::{IndexTrap, limit, outside, trap_under};
 use crate::rows;
 use isp_base::{Array, Elem};
@@ -176,11 +177,8 @@ impl Arrays {
         ensures lowest { IfErr result (λ t. lowest_failing N (is_outside I64 (size self.now array)) (on (flag_of mask.now) (lane_of index.now.bits)) ≡ Some t.instance) }
         ensures same { IfErr result (λ t. into.new ≡ into.old) }
     {
-        let count = rows::count(&self.items, array);
-        if let Some(instance) = outside(index, mask, count) {
-            return Err(IndexTrap { instance });
-        }
-        rows::gather(&self.items, array, index, mask, into);
+        let words = rows::words(&self.items, array, index, mask)?;
+        keep(into, &words, mask);
         Ok(())
     }
 
@@ -200,11 +198,7 @@ impl Arrays {
         ensures fits { IfOk result (λ words. Fit (elem self.now array) words) }
         ensures lowest { IfErr result (λ t. lowest_failing N (is_outside I64 (size self.now array)) (on (flag_of mask.now) (lane_of index.now.bits)) ≡ Some t.instance) }
     {
-        let count = rows::count(&self.items, array);
-        if let Some(instance) = outside(index, mask, count) {
-            return Err(IndexTrap { instance });
-        }
-        Ok(rows::words(&self.items, array, index, mask))
+        rows::words(&self.items, array, index, mask)
     }
 
     /// Each lane of the mask writes its value at its index. Where two write at one, the higher wins.

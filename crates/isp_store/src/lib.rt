@@ -2,8 +2,11 @@
 #![tactic(auto)]
 
 mod arrays;
+mod cell;
+mod gather;
 mod index;
 mod lane_array;
+mod lane_rows;
 mod moves;
 mod rows;
 

@@ -1,16 +1,17 @@
 //! Arrays by their numbers, where the places are known to be there.
-ghost use Rattle.std.specs.Prelude.{◌≡◌, ◌<◌, ◌^◌, length, replicate, IfOk};
+ghost use Rattle.std.specs.Prelude.{◌≡◌, ◌<◌, ◌^◌, length, replicate, Some, None, IfOk, IfErr};
 ghost use Rattle.isp_base.specs.declared.types.Elem.TheVariants.{I64};
-ghost use Rattle.isp_base.specs.Access.{element, scatter};
+ghost use Rattle.isp_base.specs.Access.{element, is_outside, scatter};
 ghost use Rattle.isp_base.specs.Arguments.{row_bits};
-ghost use Rattle.isp_base.specs.Maps.{lane_of, map1, on, over, put};
+ghost use Rattle.isp_base.specs.Maps.{lane_of, map1, on, over, put, lowest_failing};
 ghost use Rattle.isp_base.specs.Rows.{Fit};
 ghost use Rattle.isp_base.specs.Sets.{flag_of};
 ghost use Rattle.isp_base.specs.Values.{width};
 ghost use Rattle.isp_store.specs.Held.{bits_of, shapes_of, type_of};
 ghost use Rattle.isp_store.specs.Inside.{AreInside};
 
-use crate::moves::{self, read, write};
+use crate::index::IndexTrap;
+use crate::moves::{self, write};
 use isp_base::{Array, Elem};
 use isp_lanes::{LaneMask, Lanes};
 use std::alloc::{AllocError, Global};
@@ -51,36 +52,21 @@ pub(crate) fn clear(rows: &mut [Array], array: usize)
     zero(&mut rows[array]);
 }
 
-// In each lane of the mask the element at the lane's index.
-pub(crate) fn gather<const N: usize>(
-    rows: &[Array],
-    array: usize,
-    index: &Lanes<N>,
-    mask: &LaneMask<N>,
-    into: &mut Lanes<N>,
-)
-    requires there { array < length rows.now }
-    requires elem { into.old.elem ≡ type_of rows.now array }
-    requires inside { AreInside (length (row_bits rows.now array)) (flag_of mask.now) (lane_of index.now.bits) }
-    ensures elem { into.new.elem ≡ into.old.elem }
-    ensures lanes { lane_of into.new.bits ≡ over (map1 (λ x. bits_of rows.now array (element I64 x)) (on (flag_of mask.now) (lane_of index.now.bits))) (lane_of into.old.bits) }
-{
-    mask.told();
-    read(&rows[array], index, mask, into);
-}
-
-// The same, and 0 in the other lanes.
+// The element at the lane's index in each lane of the mask, and 0 in the others.
+//
+// Index where one is outside, with the lowest such lane.
 pub(crate) fn words<const N: usize>(
     rows: &[Array],
     array: usize,
     index: &Lanes<N>,
     mask: &LaneMask<N>,
-) -> [u64; N]
+) -> Result<[u64; N], IndexTrap>
     requires there { array < length rows.now }
     requires index { index.now.elem ≡ I64 }
-    requires inside { AreInside (length (row_bits rows.now array)) (flag_of mask.now) (lane_of index.now.bits) }
-    ensures lanes { lane_of result ≡ over (map1 (λ x. bits_of rows.now array (element I64 x)) (on (flag_of mask.now) (lane_of index.now.bits))) (λ p. 0) }
-    ensures fits { Fit (type_of rows.now array) result }
+    ensures inside { IfOk result (λ _. lowest_failing N (is_outside I64 (length (row_bits rows.now array))) (on (flag_of mask.now) (lane_of index.now.bits)) ≡ None) }
+    ensures lanes { IfOk result (λ words. lane_of words ≡ over (map1 (λ x. bits_of rows.now array (element I64 x)) (on (flag_of mask.now) (lane_of index.now.bits))) (λ p. 0)) }
+    ensures fits { IfOk result (λ words. Fit (type_of rows.now array) words) }
+    ensures lowest { IfErr result (λ trap. lowest_failing N (is_outside I64 (length (row_bits rows.now array))) (on (flag_of mask.now) (lane_of index.now.bits)) ≡ Some trap.instance) }
 {
     mask.told();
     moves::words(&rows[array], index, mask)

@@ -1,14 +1,11 @@
-use Rattle.std.proofs.Common.{◌≡◌, ℕ, List, ap, ◌∙◌, subst}
 use Rattle.isp_base.specs.Access.{element}
-use Rattle.isp_base.specs.Maps.{lane_of, each1, on, over}
-use Rattle.isp_base.specs.Sets.{flag_of}
+use Rattle.isp_base.specs.Maps.{lane_of}
 use Rattle.isp_base.specs.declared.types.Elem.TheVariants.{I64}
-use Rattle.isp_base.specs.Rows.{Row}
-use Rattle.isp_store.specs.Own.{Own, own}
-use Rattle.isp_store.proofs.Own.{own_in}
+use Rattle.isp_store.specs.Own.{own}
+use Rattle.isp_store.proofs.Gathered.{kept_over}
 use Rattle.isp_store.proofs.lane_array.LaneArray.gather.Goals as goal
 
 pub returns-clause-lanes : goal.returns-clause-lanes
 returns-clause-lanes g c =
     let a = c.args in
-    subst (λ (s : Own). lane_of c.read.new.into.bits ≡ over (λ p. each1 (λ (x : ℕ). own s (element I64 x) p) (on (flag_of a.mask.now) (lane_of a.index.now.bits) p)) (lane_of a.into.now.bits)) (ap (λ (rs : List Row). own_in c.self.inside.elem rs) c.deref.ensures.value ∙ c.self.view_is) c.read.ensures.lanes
+    kept_over a.mask.now (λ p e. own a.self.now (element I64 e) p) (lane_of a.index.now.bits) c.in_ok-words.words (lane_of a.into.now.bits) (lane_of c.keep.new.into.bits) c.in_ok-words.ensures.lanes c.keep.ensures.lanes

@@ -1,0 +1,132 @@
+-- Cells that are read, written, and written back.
+use Rattle.std.proofs.Common.{◌≡◌, refl, sym, ap, ◌∙◌, subst, ℕ, zero, suc, ◌+◌, ◌<◌, ◌≤◌, ◌^◌, replicate, Bool, true, false, None, not, nat_lt, List, [], ◌∷◌, length, get_or, arith, add-one, Result, Ok, Err}
+use Rattle.std.specs.Prelude.{slice_set, if◌then◌else◌, IfOk, IfErr}
+use Rattle.std.specs.Simd.Lanes.{sel_l}
+use Rattle.std.proofs.Math.Path.{fun_ext}
+use Rattle.isp_base.specs.Access.{is_outside}
+use Rattle.isp_base.specs.Maps.{Lanes, lane_of, on, lowest_failing, over, each1, or_old}
+use Rattle.isp_base.specs.Rows.{Fit}
+use Rattle.isp_base.specs.Sets.{Mask, flag_of}
+use Rattle.isp_base.specs.declared.types.Elem.TheVariants.{I64}
+use Rattle.isp_store.specs.Cells.{found, left, stored, unwound}
+use Rattle.isp_store.specs.Inside.{IsInside}
+use Rattle.isp_store.proofs.Lanes.{lane_on, lane_off}
+use Rattle.isp_store.proofs.Indices.{one_inside, inside_is, none_fails}
+
+pub found_at : {A : Type 0} (find : A → ℕ → ℕ) (cs : List A) (e p : ℕ) (d : A) → e < length cs → found find cs e p ≡ find (get_or cs e d) p
+found_at find [] e p d h = absurd (omega (arith, h))
+found_at find (c ∷ cs) zero p d h = refl
+found_at find (c ∷ cs) (suc e) p d h = found_at find cs e p d (omega (arith, h))
+
+-- a lane's place, where the check lets it through
+pub lane_inside : (n limit : ℕ) → ((x : ℕ) → x < 2 ^ 64 → is_outside I64 n x ≡ not (nat_lt x limit)) → (bits places : List ℕ) → places ≡ bits → Fit I64 bits → (p : ℕ) → lane_of places p < limit → IsInside n (lane_of places p)
+lane_inside n limit is bits places same fits p h = one_inside n limit n is refl (lane_of places p) (subst (λ (xs : List ℕ). get_or xs p 0 < 2 ^ 64) (sym same) (fits p)) h
+
+pub below_inside : (n : ℕ) (m : List Bool) (bits : List ℕ) → Fit I64 bits → (k : ℕ) → lowest_failing k (is_outside I64 n) (on (flag_of m) (lane_of bits)) ≡ None → (p : ℕ) → p < k → flag_of m p ≡ true → IsInside n (lane_of bits p)
+below_inside n m bits fits k none p h is = inside_is n (lane_of bits p) (fits p) (none_fails (is_outside I64 n) (flag_of m) (lane_of bits) k none p h is)
+
+module _ {A : Type 0} (with : A → ℕ → ℕ → A) where
+  pub length_left : (b : Bool) (e p v : ℕ) (cs : List A) → length (left with b e p v cs) ≡ length cs
+  length_left b e p v [] = refl
+  length_left false e p v (c ∷ cs) = refl
+  length_left true zero p v (c ∷ cs) = refl
+  length_left true (suc e) p v (c ∷ cs) = ap suc (length_left true e p v cs)
+
+  pub left_off : (e p v : ℕ) (cs : List A) → left with false e p v cs ≡ cs
+  left_off e p v [] = refl
+  left_off e p v (c ∷ cs) = refl
+
+  pub left_set : (cs : List A) (e p v : ℕ) (d new : A) → e < length cs → new ≡ with (get_or cs e d) p v → slice_set cs e new ≡ left with true e p v cs
+  left_set [] e p v d new h is = absurd (omega (arith, h))
+  left_set (c ∷ cs) zero p v d new h is = ap (λ k. k ∷ cs) is
+  left_set (c ∷ cs) (suc e) p v d new h is = ap (λ ks. c ∷ ks) (left_set cs e p v d new (omega (arith, h)) is)
+
+  module _ (a : Mask) (x : Lanes) where
+    pub length_stored : (n : ℕ) (y : Lanes) (cs : List A) → length (stored with n a x y cs) ≡ length cs
+    length_stored zero y cs = refl
+    length_stored (suc n) y cs = length_left (a n) (x n) n (y n) (stored with n a x y cs) ∙ length_stored n y cs
+
+    pub stored_on : (n : ℕ) (y : Lanes) (cs : List A) → a n ≡ true → stored with (n + 1) a x y cs ≡ left with true (x n) n (y n) (stored with n a x y cs)
+    stored_on n y cs e = ap (λ k. stored with k a x y cs) (add-one n) ∙ ap (λ b. left with b (x n) n (y n) (stored with n a x y cs)) e
+
+    pub stored_off : (n : ℕ) (y : Lanes) (cs : List A) → a n ≡ false → stored with (n + 1) a x y cs ≡ stored with n a x y cs
+    stored_off n y cs e = ap (λ k. stored with k a x y cs) (add-one n) ∙ ap (λ b. left with b (x n) n (y n) (stored with n a x y cs)) e ∙ left_off (x n) n (y n) (stored with n a x y cs)
+
+    pub unwound_alike : (n : ℕ) (k l : Lanes) → ((p : ℕ) → p < n → k p ≡ l p) → (cs : List A) → unwound with n a x k cs ≡ unwound with n a x l cs
+    unwound_alike zero k l same cs = refl
+    unwound_alike (suc n) k l same cs =
+        ap (λ v. unwound with n a x k (left with (a n) (x n) n v cs)) (same n (omega arith))
+        ∙ unwound_alike n k l (λ p h. same p (omega (arith, h))) (left with (a n) (x n) n (l n) cs)
+
+    pub unwound_on : (n : ℕ) (k : Lanes) (cs : List A) → a n ≡ true → unwound with (n + 1) a x k cs ≡ unwound with n a x k (left with true (x n) n (k n) cs)
+    unwound_on n k cs e = ap (λ j. unwound with j a x k cs) (add-one n) ∙ ap (λ b. unwound with n a x k (left with b (x n) n (k n) cs)) e
+
+    pub unwound_off : (n : ℕ) (k : Lanes) (cs : List A) → a n ≡ false → unwound with (n + 1) a x k cs ≡ unwound with n a x k cs
+    unwound_off n k cs e = ap (λ j. unwound with j a x k cs) (add-one n) ∙ ap (λ b. unwound with n a x k (left with b (x n) n (k n) cs)) e ∙ ap (unwound with n a x k) (left_off (x n) n (k n) cs)
+
+  -- what was found, put back
+  module _ (find : A → ℕ → ℕ) (undone : (c : A) (p v : ℕ) → with (with c p v) p (find c p) ≡ c) where
+    left_undone : (cs : List A) (e p v : ℕ) → left with true e p (found find cs e p) (left with true e p v cs) ≡ cs
+    left_undone [] e p v = refl
+    left_undone (c ∷ cs) zero p v = ap (λ k. k ∷ cs) (undone c p v)
+    left_undone (c ∷ cs) (suc e) p v = ap (λ ks. c ∷ ks) (left_undone cs e p v)
+
+    pub unwound_more : (a : Mask) (x : Lanes) (n : ℕ) (k l : Lanes) (cs : List A) (v : ℕ) → a n ≡ true → ((p : ℕ) → p < n → l p ≡ k p) → l n ≡ found find cs (x n) n → unwound with (n + 1) a x l (left with true (x n) n v cs) ≡ unwound with n a x k cs
+    unwound_more a x n k l cs v is same here =
+        unwound_on a x n l (left with true (x n) n v cs) is
+        ∙ ap (λ u. unwound with n a x l (left with true (x n) n u (left with true (x n) n v cs))) here
+        ∙ ap (unwound with n a x l) (left_undone cs (x n) n v)
+        ∙ unwound_alike a x n l k same cs
+
+-- the words that lanes have found, up to now
+pub zero_found : (n p : ℕ) → get_or {A = ℕ} (replicate n 0) p 0 ≡ 0
+zero_found zero p = refl
+zero_found (suc n) zero = refl
+zero_found (suc n) (suc p) = zero_found n p
+
+pub positive : (a b c : ℕ) → a ≡ 0 → c < b → a < b
+positive a b c z h = omega (arith, z, h)
+
+pub below_set : (w : ℕ) (xs : List ℕ) (i v : ℕ) → ((p : ℕ) → get_or xs p 0 < w) → v < w → (p : ℕ) → get_or (slice_set xs i v) p 0 < w
+below_set w [] i v f lt p = f p
+below_set w (x ∷ xs) zero v f lt zero = lt
+below_set w (x ∷ xs) zero v f lt (suc p) = f (suc p)
+below_set w (x ∷ xs) (suc i) v f lt zero = f 0
+below_set w (x ∷ xs) (suc i) v f lt (suc p) = below_set w xs i v (λ j. f (suc j)) lt p
+
+pub length_zeros : (n : ℕ) → length {A = ℕ} (replicate n 0) ≡ n
+length_zeros zero = refl
+length_zeros (suc n) = ap suc (length_zeros n)
+
+pub at_most : (a b : ℕ) → a < b → a ≤ b
+at_most a b h = omega (arith, h)
+
+-- the lanes of a mask, and the others
+pub sel_at : (n : ℕ) (ms : List Bool) (xs ys : List ℕ) (p : ℕ) → length ms ≡ n → length xs ≡ n → length ys ≡ n → lane_of (sel_l ms xs ys) p ≡ (if flag_of ms p then lane_of xs p else lane_of ys p)
+sel_at zero [] [] [] p a b c = refl
+sel_at zero [] [] (y ∷ ys) p a b c = absurd (omega (arith, c))
+sel_at zero [] (x ∷ xs) ys p a b c = absurd (omega (arith, b))
+sel_at zero (m ∷ ms) xs ys p a b c = absurd (omega (arith, a))
+sel_at (suc n) [] xs ys p a b c = absurd (omega (arith, a))
+sel_at (suc n) (m ∷ ms) [] ys p a b c = absurd (omega (arith, b))
+sel_at (suc n) (m ∷ ms) (x ∷ xs) [] p a b c = absurd (omega (arith, c))
+sel_at (suc n) (true ∷ ms) (x ∷ xs) (y ∷ ys) zero a b c = refl
+sel_at (suc n) (false ∷ ms) (x ∷ xs) (y ∷ ys) zero a b c = refl
+sel_at (suc n) (m ∷ ms) (x ∷ xs) (y ∷ ys) (suc p) a b c = sel_at n ms xs ys p (omega (arith, a)) (omega (arith, b)) (omega (arith, c))
+
+-- words read in the lanes of a mask, and kept in them
+pub kept_over : (ms : List Bool) (f : ℕ → ℕ → ℕ) (x : Lanes) (words : List ℕ) (old now : Lanes) → lane_of words ≡ over (λ p. each1 (f p) (on (flag_of ms) x p)) (λ p. 0) → ((p : ℕ) → now p ≡ (if flag_of ms p then lane_of words p else old p)) → now ≡ over (λ p. each1 (f p) (on (flag_of ms) x p)) old
+kept_over ms f x words old now read kept = fun_ext (λ p. kept p ∙ by p (flag_of ms p) refl)
+  where
+    by : (p : ℕ) (b : Bool) → flag_of ms p ≡ b → (if flag_of ms p then lane_of words p else old p) ≡ or_old (each1 (f p) (on (flag_of ms) x p)) (old p)
+    by p true e = ap (λ t. if t then lane_of words p else old p) e ∙ ap (λ (k : Lanes). k p) read ∙ lane_on (f p) (flag_of ms) x 0 p e ∙ sym (lane_on (f p) (flag_of ms) x (old p) p e)
+    by p false e = ap (λ t. if t then lane_of words p else old p) e ∙ sym (lane_off (f p) (flag_of ms) x (old p) p e)
+
+-- what a result tells, whichever it is
+pub either : {A E P Q G : Type 0} (r : Result A E) → IfOk r (λ _. P) → IfErr r (λ _. Q) → (P → G) → (Q → G) → G
+either (Ok x) p q f g = f p
+either (Err x) p q f g = g q
+
+pub both_ok : {A E P Q G : Type 0} (r : Result A E) → IfOk r (λ _. P) → IfOk r (λ _. Q) → (P → Q → G) → IfOk r (λ _. G)
+both_ok (Ok x) p q f = f p q
+both_ok (Err x) p q f = p

@@ -1,0 +1,138 @@
+//! Elements from an array into lanes, and back, where the width of the words is known.
+ghost use Rattle.std.specs.Prelude.{◌≡◌, ℕ, ◌<◌, ◌≤◌, ◌^◌, length, true, Some, None, IfOk, IfErr, if◌then◌else◌};
+ghost use Rattle.isp_base.specs.declared.types.Elem.{Elem};
+ghost use Rattle.isp_base.specs.declared.types.Elem.TheVariants.{I64};
+ghost use Rattle.isp_base.specs.Access.{element, is_outside};
+ghost use Rattle.isp_base.specs.Maps.{lane_of, each1, on, over, lowest_failing};
+ghost use Rattle.isp_base.specs.Rows.{Fit};
+ghost use Rattle.isp_base.specs.Sets.{flag_of};
+ghost use Rattle.isp_base.specs.Values.{width};
+ghost use Rattle.isp_store.specs.Cells.{found, stored, unwound, cleared};
+
+use crate::cell::Cell;
+use crate::index::{IndexTrap, limit};
+use isp_lanes::{LaneMask, Lanes};
+
+// The word at its index in each lane of the mask, and 0 in the others.
+//
+// Index where one is outside, with the lowest such lane.
+#[inline(always)]
+pub(crate) fn gathered<C: Cell<N>, const N: usize>(
+    cells: &[C],
+    index: &Lanes<N>,
+    mask: &LaneMask<N>,
+) -> Result<[u64; N], IndexTrap>
+    requires { index.now.elem ≡ I64 }
+    ensures inside { IfOk result (λ _. lowest_failing N (is_outside I64 (length cells.now)) (on (flag_of mask.now) (lane_of index.now.bits)) ≡ None) }
+    ensures lanes { IfOk result (λ words. lane_of words ≡ over (λ p. each1 (λ x. found C.find cells.now (element I64 x) p) (on (flag_of mask.now) (lane_of index.now.bits) p)) (λ p. 0)) }
+    ensures fits { (t : Elem) → ((e p : ℕ) → found C.find cells.now e p < 2 ^ width t) → IfOk result (λ words. Fit t words) }
+    ensures lowest { IfErr result (λ trap. lowest_failing N (is_outside I64 (length cells.now)) (on (flag_of mask.now) (lane_of index.now.bits)) ≡ Some trap.instance) }
+{
+    let limit = limit(cells.len());
+    index.told();
+    mask.told();
+    let places = index.wide_words();
+    let mut words = [0; N];
+    for lane in 0..N {
+        if mask.get(lane) {
+            if places[lane] >= limit {
+                return Err(IndexTrap { instance: lane });
+            }
+            words[lane] = cells[places[lane] as usize].word(lane);
+        }
+    }
+    Ok(words)
+}
+
+// Each lane of the mask leaves its word at its index. Where two leave one at one place, the higher wins.
+//
+// Index where one is outside, with the lowest such lane; what the lanes below it have left is then put back, so that nothing
+// changes.
+#[inline(always)]
+pub(crate) fn scattered<C: Cell<N>, const N: usize>(
+    cells: &mut [C],
+    index: &Lanes<N>,
+    mask: &LaneMask<N>,
+    words: &[u64; N],
+) -> Result<(), IndexTrap>
+    requires index { index.now.elem ≡ I64 }
+    requires fits { (p : ℕ) → lane_of words.now p < 2 ^ C.width }
+    ensures inside { IfOk result (λ _. lowest_failing N (is_outside I64 (length cells.old)) (on (flag_of mask.now) (lane_of index.now.bits)) ≡ None) }
+    ensures words { IfOk result (λ _. cells.new ≡ stored C.with N (flag_of mask.now) (lane_of index.now.bits) (lane_of words.now) cells.old) }
+    ensures lowest { IfErr result (λ trap. lowest_failing N (is_outside I64 (length cells.old)) (on (flag_of mask.now) (lane_of index.now.bits)) ≡ Some trap.instance) }
+    ensures same { IfErr result (λ trap. cells.new ≡ cells.old) }
+{
+    let limit = limit(cells.len());
+    index.told();
+    mask.told();
+    let places = index.wide_words();
+    let mut kept = [0; N];
+    for lane in 0..N {
+        if mask.get(lane) {
+            if places[lane] >= limit {
+                put_back(cells, places, mask, &kept, lane);
+                return Err(IndexTrap { instance: lane });
+            }
+            let place = places[lane] as usize;
+            kept[lane] = cells[place].word(lane);
+            cells[place].set(lane, words[lane]);
+        }
+    }
+    Ok(())
+}
+
+// The first lanes of the mask put back the words that they found, the highest lane first.
+#[inline(never)]
+fn put_back<C: Cell<N>, const N: usize>(
+    cells: &mut [C],
+    places: &[u64; N],
+    mask: &LaneMask<N>,
+    kept: &[u64; N],
+    count: usize,
+)
+    requires count { count ≤ N }
+    requires inside { (p : ℕ) → p < count → flag_of mask.now p ≡ true → lane_of places.now p < length cells.old }
+    requires fits { (p : ℕ) → lane_of kept.now p < 2 ^ C.width }
+    ensures { cells.new ≡ unwound C.with count (flag_of mask.now) (lane_of places.now) (lane_of kept.now) cells.old }
+{
+    for done in 0..count {
+        let lane = count - 1 - done;
+        if mask.get(lane) {
+            cells[places[lane] as usize].set(lane, kept[lane]);
+        }
+    }
+}
+
+// Zero in the lanes of the mask, at each place.
+#[inline(always)]
+pub(crate) fn clear<C: Cell<N>, const N: usize>(cells: &mut [C], mask: &LaneMask<N>)
+    ensures { cells.new ≡ cleared C.with N (flag_of mask.now) (length cells.old) cells.old }
+{
+    for place in 0..cells.len() {
+        clear_place(cells, place, mask);
+    }
+}
+
+// Zero in the lanes of the mask, at one place.
+#[inline(always)]
+fn clear_place<C: Cell<N>, const N: usize>(cells: &mut [C], place: usize, mask: &LaneMask<N>)
+    requires { place < length cells.old }
+    ensures { cells.new ≡ stored C.with N (flag_of mask.now) (λ p. place) (λ p. 0) cells.old }
+{
+    for lane in 0..N {
+        if mask.get(lane) {
+            cells[place].set(lane, 0);
+        }
+    }
+}
+
+// A word in each lane of the mask.
+pub(crate) fn keep<const N: usize>(into: &mut Lanes<N>, words: &[u64; N], mask: &LaneMask<N>)
+    requires { Fit into.old.elem words.now }
+    ensures elem { into.new.elem ≡ into.old.elem }
+    ensures lanes { (p : ℕ) → lane_of into.new.bits p ≡ (if flag_of mask.now p then lane_of words.now p else lane_of into.old.bits p) }
+{
+    mask.told();
+    into.told();
+    into.keep_words(words, mask);
+}

@@ -1,0 +1,100 @@
+//! The words of an array of which each lane has its own: a row for each element, with a word for each lane.
+ghost use Rattle.std.specs.Prelude.{◌≡◌, ℕ, ◌<◌, ◌≤◌, ◌^◌, length, replicate, Some, None, IfOk, IfErr};
+ghost use Rattle.isp_base.specs.declared.types.Elem.{Elem};
+ghost use Rattle.isp_base.specs.declared.types.Elem.TheVariants.{I64};
+ghost use Rattle.isp_base.specs.Access.{element, is_outside};
+ghost use Rattle.isp_base.specs.Cells.{cell_width};
+ghost use Rattle.isp_base.specs.Maps.{lane_of, each1, on, over, lowest_failing};
+ghost use Rattle.isp_base.specs.Rows.{Fit};
+ghost use Rattle.isp_base.specs.Sets.{flag_of};
+ghost use Rattle.isp_base.specs.Values.{width};
+ghost use Rattle.isp_store.specs.Cells.{found, stored, cleared, row_word, row_with};
+ghost use Rattle.isp_store.specs.LaneRows.{lists, rows_width};
+
+use crate::gather::{clear, gathered, scattered};
+use crate::index::IndexTrap;
+use isp_base::Elem;
+use isp_lanes::{LaneMask, Lanes};
+use std::alloc::{AllocError, Global};
+
+// Rows of words, of the width that the element type takes. So how wide they are is asked once for all lanes.
+#[derive(Drop)]
+pub(crate) enum LaneRows<const N: usize> {
+    Bits8(Vec<[u8; N]>),
+    Bits16(Vec<[u16; N]>),
+    Bits32(Vec<[u32; N]>),
+    Bits64(Vec<[u64; N]>),
+}
+
+impl<const N: usize> LaneRows<N> {
+    // So many rows of zeros. 0 where memory is refused.
+    pub(crate) fn zeros(alloc: Global, elem: Elem, count: usize) -> Result<Self, AllocError>
+        requires { N ≤ 64 }
+        ensures zeros { IfOk result (λ rows. lists rows ≡ replicate count (replicate N 0)) }
+        ensures wide { IfOk result (λ rows. rows_width rows ≡ cell_width elem) }
+    {
+        match elem {
+            Elem::Bool | Elem::I8 | Elem::U8 => Ok(LaneRows::Bits8(vec![in alloc; [0; N]; count]?)),
+            Elem::I16 | Elem::U16 => Ok(LaneRows::Bits16(vec![in alloc; [0; N]; count]?)),
+            Elem::I32 | Elem::U32 => Ok(LaneRows::Bits32(vec![in alloc; [0; N]; count]?)),
+            Elem::I64 | Elem::U64 => Ok(LaneRows::Bits64(vec![in alloc; [0; N]; count]?)),
+        }
+    }
+
+    // The lane's word at its index in each lane of the mask, and 0 in the others.
+    //
+    // Index where one is outside, with the lowest such lane.
+    pub(crate) fn words(&self, index: &Lanes<N>, mask: &LaneMask<N>) -> Result<[u64; N], IndexTrap>
+        requires { index.now.elem ≡ I64 }
+        ensures inside { IfOk result (λ _. lowest_failing N (is_outside I64 (length (lists self.now))) (on (flag_of mask.now) (lane_of index.now.bits)) ≡ None) }
+        ensures lanes { IfOk result (λ words. lane_of words ≡ over (λ p. each1 (λ x. found row_word (lists self.now) (element I64 x) p) (on (flag_of mask.now) (lane_of index.now.bits) p)) (λ p. 0)) }
+        ensures fits { (t : Elem) → ((e p : ℕ) → found row_word (lists self.now) e p < 2 ^ width t) → IfOk result (λ words. Fit t words) }
+        ensures lowest { IfErr result (λ trap. lowest_failing N (is_outside I64 (length (lists self.now))) (on (flag_of mask.now) (lane_of index.now.bits)) ≡ Some trap.instance) }
+    {
+        match self {
+            LaneRows::Bits8(rows) => gathered(rows.as_slice(), index, mask),
+            LaneRows::Bits16(rows) => gathered(rows.as_slice(), index, mask),
+            LaneRows::Bits32(rows) => gathered(rows.as_slice(), index, mask),
+            LaneRows::Bits64(rows) => gathered(rows.as_slice(), index, mask),
+        }
+    }
+
+    // Each lane of the mask writes its word at its index.
+    //
+    // Index where one is outside, with the lowest such lane, and then nothing changes.
+    pub(crate) fn store(
+        &mut self,
+        index: &Lanes<N>,
+        mask: &LaneMask<N>,
+        words: &[u64; N],
+    ) -> Result<(), IndexTrap>
+        requires index { index.now.elem ≡ I64 }
+        requires fits { (p : ℕ) → lane_of words.now p < 2 ^ rows_width self.old }
+        ensures inside { IfOk result (λ _. lowest_failing N (is_outside I64 (length (lists self.old))) (on (flag_of mask.now) (lane_of index.now.bits)) ≡ None) }
+        ensures lists { IfOk result (λ _. lists self.new ≡ stored row_with N (flag_of mask.now) (lane_of index.now.bits) (lane_of words.now) (lists self.old)) }
+        ensures wide { rows_width self.new ≡ rows_width self.old }
+        ensures lowest { IfErr result (λ trap. lowest_failing N (is_outside I64 (length (lists self.old))) (on (flag_of mask.now) (lane_of index.now.bits)) ≡ Some trap.instance) }
+        ensures same { IfErr result (λ trap. lists self.new ≡ lists self.old) }
+    {
+        match self {
+            LaneRows::Bits8(rows) => scattered(rows.as_mut_slice(), index, mask, words),
+            LaneRows::Bits16(rows) => scattered(rows.as_mut_slice(), index, mask, words),
+            LaneRows::Bits32(rows) => scattered(rows.as_mut_slice(), index, mask, words),
+            LaneRows::Bits64(rows) => scattered(rows.as_mut_slice(), index, mask, words),
+        }
+    }
+
+    // Zero in the lanes of the mask, in each row.
+    pub(crate) fn clear(&mut self, mask: &LaneMask<N>)
+        ensures lists { lists self.new ≡ cleared row_with N (flag_of mask.now) (length (lists self.old)) (lists self.old) }
+        ensures wide { rows_width self.new ≡ rows_width self.old }
+    {
+        mask.told();
+        match self {
+            LaneRows::Bits8(rows) => clear(rows.as_mut_slice(), mask),
+            LaneRows::Bits16(rows) => clear(rows.as_mut_slice(), mask),
+            LaneRows::Bits32(rows) => clear(rows.as_mut_slice(), mask),
+            LaneRows::Bits64(rows) => clear(rows.as_mut_slice(), mask),
+        }
+    }
+}
