@@ -8,7 +8,7 @@ use Rattle.isp_lex.specs.declared.token.Mark.TheVariants as mark
 use Rattle.isp_lex.specs.declared.token.TokenKind.{TokenKind}
 use Rattle.isp_lex.specs.declared.token.TokenKind.TheVariants as kind
 use Rattle.isp_lex.specs.declared.token.Token.{Token}
-use Rattle.isp_grammar.proofs.Basics.{token}
+use Rattle.isp_grammar.proofs.Basics.{token, none_some}
 use Rattle.isp_grammar.proofs.Choices.{nowhere, nameless, begins_same, Sign, Signs, sign_sound, sign_complete, sign_refused, Tail, Joins, tail_sound, tail_complete, tail_refused, Either, Parts, either_sound, either_complete, either_refused, Makes, makes_sound, makes_complete, makes_refused}
 use Rattle.isp_grammar.proofs.ExprLaws.{exprs_sound, exprs_complete, exprs_by_head, exprs_refused, expr_completes}
 use Rattle.isp_grammar.proofs.Exprs.{Exprs, closes_ends}
@@ -41,14 +41,14 @@ size_kind None = kind.Mark mark.ProgramCount
 size_kind (Some v) = kind.Number v
 
 size_found : (k : TokenKind) (c : Option Value) → size_of k ≡ Some c → k ≡ size_kind c
-size_found (kind.Word n) c e = absurd cc
+size_found (kind.Word n) c e = absurd (none_some e)
 size_found (kind.Number v) None e = absurd cc
 size_found (kind.Number v) (Some w) e = cc
-size_found (kind.Text t) c e = absurd cc
+size_found (kind.Text t) c e = absurd (none_some e)
 size_found (kind.Mark mark.ProgramCount) None e = refl
 size_found (kind.Mark mark.ProgramCount) (Some w) e = absurd cc
-size_found (kind.Mark _) c e = absurd cc
-size_found kind.LeftOut c e = absurd cc
+size_found (kind.Mark _) c e = absurd (none_some e)
+size_found kind.LeftOut c e = absurd (none_some e)
 
 size_again : (c : Option Value) → size_of (size_kind c) ≡ Some c
 size_again None = refl

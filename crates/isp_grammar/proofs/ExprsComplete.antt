@@ -8,6 +8,7 @@ use Rattle.isp_lex.specs.declared.token.Mark.TheVariants as mark
 use Rattle.isp_lex.specs.declared.token.TokenKind.{TokenKind}
 use Rattle.isp_lex.specs.declared.token.TokenKind.TheVariants as kind
 use Rattle.isp_lex.specs.declared.token.Token.{Token}
+use Rattle.std.proofs.lemmas.Bool.{false≢true}
 use Rattle.isp_grammar.proofs.Basics.{starts_same}
 use Rattle.isp_grammar.proofs.Choices.{either_complete}
 use Rattle.isp_grammar.proofs.Forms.{IsComplete, One, one_complete, Named, named_complete, Free, both_complete, Behind, is_behind, is_name_then, is_before, made_complete, AreListed, IsSeries}
@@ -160,7 +161,7 @@ expr_no_type (kind.Mark mark.ParenOpen) e = refl
 expr_no_type (kind.Mark mark.Minus) e = refl
 expr_no_type (kind.Mark mark.Inverse) e = refl
 expr_no_type (kind.Mark mark.Not) e = refl
-expr_no_type (kind.Mark _) e = absurd cc
+expr_no_type (kind.Mark _) e = absurd (false≢true e)
 expr_no_type kind.LeftOut e = refl
 
 exprs_no_type : {k : ℕ} {ts : List Token} {x : Expr} → IsExpr k ts x → (rest : List Token) → begins_with begins_type (ts ++ rest) ≡ false

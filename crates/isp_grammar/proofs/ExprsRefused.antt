@@ -9,6 +9,7 @@ use Rattle.isp_lex.specs.declared.token.Mark.TheVariants as mark
 use Rattle.isp_lex.specs.declared.token.TokenKind.{TokenKind}
 use Rattle.isp_lex.specs.declared.token.TokenKind.TheVariants as kind
 use Rattle.isp_lex.specs.declared.token.Token.{Token}
+use Rattle.std.proofs.lemmas.Bool.{false≢true}
 use Rattle.isp_grammar.proofs.Basics.{token, err_is, ok_err, bind_err, chosen, starts_same, starts_cons, word_off}
 use Rattle.isp_grammar.proofs.Choices.{nowhere, nameless, begins_same, either_refused, Limits, limit_refused}
 use Rattle.isp_grammar.proofs.Forms.{IsSound, IsComplete, Can, One, one_sound, one_complete, Named, named_sound, named_complete, Free, Behind, is_behind, series_sound}
@@ -378,7 +379,7 @@ level_up (suc k) ts x i = is_tighter k ts x (level_up k ts x i)
 pub first_completes : (c : TokenKind) (s : Span) → begins_expr c ≡ true → (closing : List Token) × Can (Exprs zero) (token c s ∷ closing)
 first_completes (kind.Word n) s e = ([], (_, is_place _ _ (is_variable (record { name = n; span = s }))))
 first_completes (kind.Number v) s e = ([], (number v s, is_number v s))
-first_completes (kind.Text t) s e = absurd cc
+first_completes (kind.Text t) s e = absurd (false≢true e)
 first_completes (kind.Mark mark.True) s e = ([], (_, is_truth true s))
 first_completes (kind.Mark mark.False) s e = ([], (_, is_truth false s))
 first_completes (kind.Mark mark.ProgramIndex) s e = ([], (_, is_program_index s))
@@ -387,8 +388,8 @@ first_completes (kind.Mark mark.ParenOpen) s e = (zero_tokens ++ at mark.ParenCl
 first_completes (kind.Mark mark.Minus) s e = (zero_tokens, (_, is_prefix Negative s zero_tokens (number zero_value nowhere) (number_at_level zero)))
 first_completes (kind.Mark mark.Inverse) s e = (zero_tokens, (_, is_prefix Inverse s zero_tokens (number zero_value nowhere) (number_at_level zero)))
 first_completes (kind.Mark mark.Not) s e = (zero_tokens, (_, is_prefix Not s zero_tokens (number zero_value nowhere) (number_at_level zero)))
-first_completes (kind.Mark _) s e = absurd cc
-first_completes kind.LeftOut s e = absurd cc
+first_completes (kind.Mark _) s e = absurd (false≢true e)
+first_completes kind.LeftOut s e = absurd (false≢true e)
 
 expr_limits : (k : ℕ) → Limits begins_expr (Exprs k)
 unfolding expr_at

@@ -8,7 +8,7 @@ use Rattle.isp_lex.specs.declared.token.Mark.TheVariants as mark
 use Rattle.isp_lex.specs.declared.token.TokenKind.{TokenKind}
 use Rattle.isp_lex.specs.declared.token.TokenKind.TheVariants as kind
 use Rattle.isp_lex.specs.declared.token.Token.{Token}
-use Rattle.isp_grammar.proofs.Basics.{some_is, token, is_mark_is, starts_by_head}
+use Rattle.isp_grammar.proofs.Basics.{some_is, none_some, token, is_mark_is, starts_by_head}
 use Rattle.isp_grammar.proofs.Choices.{nowhere}
 use Rattle.isp_grammar.proofs.Forms.{Can}
 use Rattle.isp_grammar.proofs.TypesRead.{Types}
@@ -128,7 +128,7 @@ start_fits kind.LeftOut = tt
 pub expr_start : (k : TokenKind) → begins_expr k ≡ true → start_of k ≡ by.Simple
 expr_start (kind.Word n) e = refl
 expr_start (kind.Number v) e = refl
-expr_start (kind.Text t) e = absurd cc
+expr_start (kind.Text t) e = absurd (false≢true e)
 expr_start (kind.Mark mark.ParenOpen) e = refl
 expr_start (kind.Mark mark.Minus) e = refl
 expr_start (kind.Mark mark.Inverse) e = refl
@@ -137,13 +137,13 @@ expr_start (kind.Mark mark.True) e = refl
 expr_start (kind.Mark mark.False) e = refl
 expr_start (kind.Mark mark.ProgramIndex) e = refl
 expr_start (kind.Mark mark.ProgramCount) e = refl
-expr_start (kind.Mark _) e = absurd cc
-expr_start kind.LeftOut e = absurd cc
+expr_start (kind.Mark _) e = absurd (false≢true e)
+expr_start kind.LeftOut e = absurd (false≢true e)
 
 pub type_start : (k : TokenKind) → begins_type k ≡ true → start_of k ≡ by.Declare
-type_start (kind.Word n) e = absurd cc
-type_start (kind.Number v) e = absurd cc
-type_start (kind.Text t) e = absurd cc
+type_start (kind.Word n) e = absurd (false≢true e)
+type_start (kind.Number v) e = absurd (false≢true e)
+type_start (kind.Text t) e = absurd (false≢true e)
 type_start (kind.Mark mark.Void) e = refl
 type_start (kind.Mark mark.Bool) e = refl
 type_start (kind.Mark mark.Int) e = refl
@@ -161,30 +161,30 @@ type_start (kind.Mark mark.Unsigned) e = refl
 type_start (kind.Mark mark.Const) e = refl
 type_start (kind.Mark mark.Uniform) e = refl
 type_start (kind.Mark mark.Varying) e = refl
-type_start (kind.Mark _) e = absurd cc
-type_start kind.LeftOut e = absurd cc
+type_start (kind.Mark _) e = absurd (false≢true e)
+type_start kind.LeftOut e = absurd (false≢true e)
 
 -- ---- signs
 
 pub change_found : (k : TokenKind) (c : Change) → change_of k ≡ Some c → k ≡ kind.Mark (change_mark c)
-change_found (kind.Word n) c e = absurd cc
-change_found (kind.Number v) c e = absurd cc
-change_found (kind.Text t) c e = absurd cc
+change_found (kind.Word n) c e = absurd (none_some e)
+change_found (kind.Number v) c e = absurd (none_some e)
+change_found (kind.Text t) c e = absurd (none_some e)
 change_found (kind.Mark mark.Increment) Increment e = refl
 change_found (kind.Mark mark.Increment) Decrement e = absurd cc
 change_found (kind.Mark mark.Decrement) Increment e = absurd cc
 change_found (kind.Mark mark.Decrement) Decrement e = refl
-change_found (kind.Mark _) c e = absurd cc
-change_found kind.LeftOut c e = absurd cc
+change_found (kind.Mark _) c e = absurd (none_some e)
+change_found kind.LeftOut c e = absurd (none_some e)
 
 pub change_again : (c : Change) → change_of (kind.Mark (change_mark c)) ≡ Some c
 change_again Increment = refl
 change_again Decrement = refl
 
 pub assignment_found : (k : TokenKind) (c : Assignment) → assignment_of k ≡ Some c → k ≡ kind.Mark (assignment_mark c)
-assignment_found (kind.Word n) c e = absurd cc
-assignment_found (kind.Number v) c e = absurd cc
-assignment_found (kind.Text t) c e = absurd cc
+assignment_found (kind.Word n) c e = absurd (none_some e)
+assignment_found (kind.Number v) c e = absurd (none_some e)
+assignment_found (kind.Text t) c e = absurd (none_some e)
 assignment_found (kind.Mark mark.Assign) c e = ap (λ (a : Assignment). kind.Mark (assignment_mark a)) (some_is e)
 assignment_found (kind.Mark mark.PlusAssign) c e = ap (λ (a : Assignment). kind.Mark (assignment_mark a)) (some_is e)
 assignment_found (kind.Mark mark.MinusAssign) c e = ap (λ (a : Assignment). kind.Mark (assignment_mark a)) (some_is e)
@@ -196,8 +196,8 @@ assignment_found (kind.Mark mark.OrAssign) c e = ap (λ (a : Assignment). kind.M
 assignment_found (kind.Mark mark.XorAssign) c e = ap (λ (a : Assignment). kind.Mark (assignment_mark a)) (some_is e)
 assignment_found (kind.Mark mark.ShiftLeftAssign) c e = ap (λ (a : Assignment). kind.Mark (assignment_mark a)) (some_is e)
 assignment_found (kind.Mark mark.ShiftRightAssign) c e = ap (λ (a : Assignment). kind.Mark (assignment_mark a)) (some_is e)
-assignment_found (kind.Mark _) c e = absurd cc
-assignment_found kind.LeftOut c e = absurd cc
+assignment_found (kind.Mark _) c e = absurd (none_some e)
+assignment_found kind.LeftOut c e = absurd (none_some e)
 
 pub assignment_again : (c : Assignment) → assignment_of (kind.Mark (assignment_mark c)) ≡ Some c
 assignment_again assignment.Replace = refl
@@ -221,9 +221,9 @@ based : (b : Base) (s : Span) → (closing : List Token) × Can Types (at (base_
 based b s = ([], (_, is_based b s [] [] refl))
 
 pub type_completes : (k : TokenKind) (s : Span) → begins_type k ≡ true → (closing : List Token) × Can Types (token k s ∷ closing)
-type_completes (kind.Word n) s e = absurd cc
-type_completes (kind.Number v) s e = absurd cc
-type_completes (kind.Text t) s e = absurd cc
+type_completes (kind.Word n) s e = absurd (false≢true e)
+type_completes (kind.Number v) s e = absurd (false≢true e)
+type_completes (kind.Text t) s e = absurd (false≢true e)
 type_completes (kind.Mark mark.Void) s e = based base.Void s
 type_completes (kind.Mark mark.Bool) s e = based base.Bool s
 type_completes (kind.Mark mark.Int) s e = based base.Int s
@@ -241,5 +241,5 @@ type_completes (kind.Mark mark.Unsigned) s e = qualified qualifier.Unsigned s
 type_completes (kind.Mark mark.Const) s e = qualified qualifier.Const s
 type_completes (kind.Mark mark.Uniform) s e = qualified qualifier.Uniform s
 type_completes (kind.Mark mark.Varying) s e = qualified qualifier.Varying s
-type_completes (kind.Mark _) s e = absurd cc
-type_completes kind.LeftOut s e = absurd cc
+type_completes (kind.Mark _) s e = absurd (false≢true e)
+type_completes kind.LeftOut s e = absurd (false≢true e)
