@@ -8,6 +8,7 @@ ghost use Rattle.isp_base.specs.Rows.{Fit};
 use crate::types::Elem;
 use std::alloc::{AllocError, Global};
 use std::marker::Model;
+use std::mem;
 
 /// An array of a program: an element type and the bits of each element, zero above the element
 /// type's width. Contracts see a `Row`.
@@ -121,6 +122,26 @@ impl Array {
             Cells::Bits64(words) => words.push(bits)?,
         }
         Ok(())
+    }
+
+    /// The elements' words, for who writes many of them and gives them back by `put_cells`. No element is left, and none is
+    /// copied.
+    pub fn take_cells(&mut self, alloc: Global) -> Cells
+        ensures words { held result ≡ self.old.bits }
+        ensures wide { held_width result ≡ cell_width self.old.elem }
+        ensures fits { Fit self.old.elem (held result) }
+        ensures left { self.new ≡ record { elem = self.old.elem; bits = [] } }
+    {
+        mem::replace(&mut self.cells, Cells::empty(alloc, self.elem))
+    }
+
+    /// These words in the place of all elements.
+    pub fn put_cells(&mut self, cells: Cells)
+        requires wide { held_width cells ≡ cell_width self.old.elem }
+        requires fits { Fit self.old.elem (held cells) }
+        ensures { self.new ≡ record { elem = self.old.elem; bits = held cells } }
+    {
+        self.cells = cells;
     }
 }
 

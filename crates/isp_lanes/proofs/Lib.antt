@@ -8,3 +8,5 @@ pub mod Flags
 pub mod Fits
 pub mod ListedRows
 pub mod Halves
+pub mod Failing
+pub mod Gathered

@@ -1,8 +1,10 @@
 //! Vectors of N values of one element type.
-ghost use Rattle.std.specs.Prelude.{◌≡◌, ◌^◌, ◌<◌, length, map, replicate, slice_get, slice_set, Some, None, IfOk, IfErr, OnOk, ◌&&◌, ◌++◌, ◌∷◌, [], true};
+ghost use Rattle.std.specs.Prelude.{◌≡◌, ℕ, ◌^◌, ◌<◌, length, map, replicate, slice_get, slice_set, Some, None, IfOk, IfErr, OnOk, ◌&&◌, ◌++◌, ◌∷◌, [], true};
 ghost use Rattle.std.specs.List.{range_with_len};
 ghost use Rattle.std.specs.Simd.Lanes.{zip2, sel_l};
 ghost use Rattle.isp_base.specs.declared.types.Elem.TheVariants.{Bool as Truth, I32, I64};
+ghost use Rattle.isp_base.specs.Maps.{lane_of, on, lowest_failing};
+ghost use Rattle.isp_base.specs.Sets.{flag_of};
 ghost use Rattle.isp_base.specs.Values.{width, divides, op_bits, compare_bits, convert_bits, number};
 ghost use Rattle.isp_base.specs.Unary.{unary_bits};
 ghost use Rattle.isp_base.specs.Rows.{Row, Fit};
@@ -13,6 +15,7 @@ ghost use Rattle.isp_base.specs.Cells.{cell_width};
 use crate::kernels;
 use crate::mask::LaneMask;
 use crate::row::Row;
+use crate::source::Source;
 use crate::words::Words;
 use isp_base::{BinOp, Compare, Elem, UnaryOp};
 use std::alloc::AllocError;
@@ -224,13 +227,25 @@ impl<const N: usize> Lanes<N> {
         }
     }
 
-    /// A value for each lane.
-    pub fn keep_words(&mut self, words: &[u64; N], mask: &LaneMask<N>)
-        requires { Fit self.old.elem words.now }
-        ensures { self.new ≡ written mask.now words.now self.old }
+    /// The word that a source has for the lane at its place, in each lane of the mask. A list gives the places.
+    ///
+    /// A place in a lane of the mask that is outside is `Err` with the lowest such lane, and then nothing
+    /// changes.
+    #[inline(always)]
+    pub fn gather<S: Source<N>>(
+        &mut self,
+        places: &[u64; N],
+        source: &S,
+        mask: &LaneMask<N>,
+    ) -> Result<(), usize>
+        requires { (lane place : ℕ) → S.word source.now lane place < 2 ^ width self.old.elem }
+        ensures inside { IfOk result (λ _. lowest_failing N (S.outside source.now) (on (flag_of mask.now) (lane_of places.now)) ≡ None) }
+        ensures value { IfOk result (λ _. self.new ≡ written mask.now (zip2 (S.word source.now) (range_with_len 0 N) places.now) self.old) }
+        ensures lowest { IfErr result (λ lane. lowest_failing N (S.outside source.now) (on (flag_of mask.now) (lane_of places.now)) ≡ Some lane) }
+        ensures same { IfErr result (λ _. self.new ≡ self.old) }
     {
         mask.told();
-        self.row.keep(words, mask);
+        self.row.gather(places, source, mask)
     }
 
     /// The lanes' numbers, from 0, as int32.

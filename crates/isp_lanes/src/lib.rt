@@ -2,12 +2,16 @@
 #![tactic(auto)]
 
 mod beside;
+mod gather;
 mod kernels;
 mod lanes;
 mod mask;
 mod masked;
 mod row;
+mod source;
+mod word;
 mod words;
 
 pub use lanes::Lanes;
 pub use mask::LaneMask;
+pub use source::Source;

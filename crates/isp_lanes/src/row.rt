@@ -1,14 +1,19 @@
 //! The lanes of a vector in words of the width that their type takes.
-ghost use Rattle.std.specs.Prelude.{◌≡◌, ℕ, slice_index, ◌<◌, ◌^◌, length, map, replicate, slice_get, slice_set, Some, None, true, false, cond};
+ghost use Rattle.std.specs.Prelude.{◌≡◌, ℕ, slice_index, ◌<◌, ◌^◌, length, map, replicate, slice_get, slice_set, Some, None, IfOk, IfErr, true, false, cond};
+ghost use Rattle.std.specs.List.{range_with_len};
 ghost use Rattle.std.specs.Simd.Lanes.{zip2, sel_l};
+ghost use Rattle.isp_base.specs.Maps.{lane_of, on, lowest_failing};
+ghost use Rattle.isp_base.specs.Sets.{flag_of};
 ghost use Rattle.isp_base.specs.Values.{op_bits, compare_bits, divides, number, width, wrap};
 ghost use Rattle.isp_base.specs.Unary.{unary_bits};
 ghost use Rattle.isp_lanes.specs.Lanes.{first_zero, is_on};
 ghost use Rattle.isp_base.specs.Cells.{cell_width};
 ghost use Rattle.isp_lanes.specs.Held.{held, held_width, IsRow};
 
+use crate::gather::gather;
 use crate::kernels::operators::{self, Operator, UnaryOperator};
 use crate::mask::LaneMask;
+use crate::source::Source;
 use crate::words::Words;
 use crate::{kernels, masked};
 use isp_base::{BinOp, Compare, Elem, UnaryOp};
@@ -442,6 +447,31 @@ impl<const N: usize> Row<N> {
             Row::Bits16(old) => *old = masked::keep(wide, mask, Simd::from_array(*old)).to_array(),
             Row::Bits32(old) => *old = masked::keep(wide, mask, Simd::from_array(*old)).to_array(),
             Row::Bits64(old) => *old = masked::keep(wide, mask, Simd::from_array(*old)).to_array(),
+        }
+    }
+
+    // The words that a source has for the lanes at their places.
+    //
+    // Where a place is outside it is `Err` with the lowest such lane, and then nothing changes.
+    #[inline(always)]
+    pub(crate) fn gather<S: Source<N>>(
+        &mut self,
+        places: &[u64; N],
+        source: &S,
+        mask: &LaneMask<N>,
+    ) -> Result<(), usize>
+        requires { (lane place : ℕ) → S.word source.now lane place < 2 ^ held_width self.old }
+        ensures inside { IfOk result (λ _. lowest_failing N (S.outside source.now) (on (flag_of mask.now) (lane_of places.now)) ≡ None) }
+        ensures words { IfOk result (λ _. held self.new ≡ sel_l mask.now (zip2 (S.word source.now) (range_with_len 0 N) places.now) (held self.old)) }
+        ensures wide { held_width self.new ≡ held_width self.old }
+        ensures lowest { IfErr result (λ lane. lowest_failing N (S.outside source.now) (on (flag_of mask.now) (lane_of places.now)) ≡ Some lane) }
+        ensures same { IfErr result (λ _. self.new ≡ self.old) }
+    {
+        match self {
+            Row::Bits8(words) => gather(words, places, source, mask),
+            Row::Bits16(words) => gather(words, places, source, mask),
+            Row::Bits32(words) => gather(words, places, source, mask),
+            Row::Bits64(words) => gather(words, places, source, mask),
         }
     }
 

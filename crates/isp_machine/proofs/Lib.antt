@@ -8,7 +8,6 @@ pub mod Begins
 pub mod Rewrites
 pub mod Written
 pub mod Alike
-pub mod Lasts
 pub mod Doing
 pub mod Stays
 pub mod LocalArrays

@@ -1,11 +1,12 @@
 //! The arrays of a call.
-ghost use Rattle.std.specs.Prelude.{◌≡◌, None, Some, IfOk, IfErr, if◌then◌else◌};
+ghost use Rattle.std.specs.Prelude.{◌≡◌, ◌<◌, length, slice_set, None, Some, IfOk, IfErr, if◌then◌else◌};
 ghost use Rattle.isp_base.specs.Access.{is_outside, element, scatter};
-ghost use Rattle.isp_base.specs.Maps.{lane_of, on, map1, lowest_failing};
+ghost use Rattle.isp_base.specs.Maps.{lane_of, on, over, each1, map1, lowest_failing};
 ghost use Rattle.isp_base.specs.Sets.{flag_of};
 ghost use Rattle.isp_base.specs.Stores.{own_put};
 ghost use Rattle.isp_base.specs.declared.types.Elem.TheVariants.{I64};
-ghost use Rattle.isp_machine.specs.Arrays.{ArrayThere, Rewritten, array_count, array_elem};
+ghost use Rattle.isp_lanes.specs.Lanes.{vector};
+ghost use Rattle.isp_machine.specs.Arrays.{ArrayThere, Rewritten, array_count, array_elem, array_found};
 
 use isp_lanes::{LaneMask, Lanes};
 use isp_store::{Arrays, IndexTrap, LaneArray};
@@ -42,11 +43,35 @@ impl<const N: usize> FrameArray<N> {
         self.store
     }
 
-    /// The lanes' own arrays.
-    pub(crate) fn own(&self) -> &Option<LaneArray<N>>
-        ensures { result.now ≡ self.now.own }
+    /// In each lane of the mask the element at its index, of the array that all share or of its own.
+    /// The vector that is written and that of the indices are of one list, and may be the same.
+    ///
+    /// Index where one is outside, with the lowest such lane, and then nothing changes.
+    #[inline(always)]
+    pub(crate) fn gather(
+        &self,
+        stores: &Arrays,
+        vectors: &mut [Lanes<N>],
+        out: usize,
+        index: usize,
+        mask: &LaneMask<N>,
+    ) -> Result<(), IndexTrap>
+        requires there { ArrayThere stores.now self.now }
+        requires out { out < length vectors.old }
+        requires index { index < length vectors.old }
+        requires index_elem { (vector vectors.old index).elem ≡ I64 }
+        requires elem { (vector vectors.old out).elem ≡ array_elem stores.now self.now }
+        ensures inside { IfOk result (λ _. lowest_failing N (is_outside I64 (array_count stores.now self.now)) (on (flag_of mask.now) (lane_of (vector vectors.old index).bits)) ≡ None) }
+        ensures lanes { IfOk result (λ _. lane_of (vector vectors.new out).bits ≡ over (λ p. each1 (λ x. array_found stores.now self.now (element I64 x) p) (on (flag_of mask.now) (lane_of (vector vectors.old index).bits) p)) (lane_of (vector vectors.old out).bits)) }
+        ensures elem { (vector vectors.new out).elem ≡ (vector vectors.old out).elem }
+        ensures others { vectors.new ≡ slice_set vectors.old out (vector vectors.new out) }
+        ensures lowest { IfErr result (λ t. lowest_failing N (is_outside I64 (array_count stores.now self.now)) (on (flag_of mask.now) (lane_of (vector vectors.old index).bits)) ≡ Some t.instance) }
+        ensures same { IfErr result (λ t. vectors.new ≡ vectors.old) }
     {
-        &self.own
+        match &self.own {
+            Some(own) => own.gather_at(vectors, out, index, mask),
+            None => stores.gather_at(self.store, vectors, out, index, mask),
+        }
     }
 
     /// Each lane of the mask writes its value at its index, into the array that all share or into

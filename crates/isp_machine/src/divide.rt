@@ -103,6 +103,7 @@ fn divide_lanes<const N: usize>(
 }
 
 /// Divides, and goes on to the next instruction.
+#[inline(never)]
 pub(crate) fn divide<const N: usize>(
     here: &Here,
     frame: &mut Frame<N>,

@@ -1,23 +1,36 @@
 //! A call: where it stands, and its registers.
-ghost use Rattle.std.specs.Prelude.{◌≡◌, ◌<◌, ◌+◌, ◌^◌, [], length, get_or, slice_set, map, replicate, None, Some, IfOk, IfErr, if◌then◌else◌};
+ghost use Rattle.std.specs.Prelude.{◌≡◌, ◌<◌, ◌≤◌, ◌+◌, ◌^◌, ◌++◌, [], length, get_or, slice_set, map, replicate, None, Some, IfOk, IfErr, OnOk, OnErr, if◌then◌else◌};
 ghost use Rattle.isp_base.specs.Access.{is_outside, element, scatter};
-ghost use Rattle.isp_base.specs.Maps.{on, map1, lowest_failing};
+ghost use Rattle.isp_base.specs.Arguments.{rows};
+ghost use Rattle.isp_base.specs.Sets.{flag_of};
+ghost use Rattle.isp_code.specs.Listing.{routine_of};
+ghost use Rattle.isp_code.specs.Registers.{arrays_of};
+ghost use Rattle.isp_machine.specs.Begun.{AreThere, Begun, by_call, by_run, given, new_stores, no_frame};
+ghost use Rattle.isp_machine.specs.Shapes.{Shaped};
+ghost use Rattle.isp_base.specs.Maps.{on, over, each1, map1, lowest_failing};
 ghost use Rattle.isp_base.specs.Stores.{own_put};
 ghost use Rattle.isp_base.specs.declared.types.Elem.TheVariants.{Bool as Truth, I32, I64};
 ghost use Rattle.std.specs.List.{range_with_len};
 ghost use Rattle.std.specs.Simd.Lanes.{zip2, sel_l};
 ghost use Rattle.isp_base.specs.Values.{width, number, op_bits, compare_bits, convert_bits};
 ghost use Rattle.isp_base.specs.Unary.{unary_bits};
-ghost use Rattle.isp_base.specs.Rows.{Fit};
 ghost use Rattle.isp_lanes.specs.Lanes.{is_on, first_zero, written};
-ghost use Rattle.isp_machine.specs.Arrays.{ArrayThere, Rewritten, array_count, array_elem, array_in, vector_in, mask_in};
+ghost use Rattle.isp_machine.specs.Arrays.{ArrayThere, Rewritten, array_count, array_elem, array_found, array_in, vector_in, mask_in};
 ghost use Rattle.isp_machine.specs.Views.{no_row, no_array, vectors_at, masks_at};
 
 use crate::array::FrameArray;
-use isp_base::{BinOp, Compare, UnaryOp};
-use isp_code::Register;
+use crate::here::Here;
+use crate::locals::open_locals;
+use crate::passed::{
+    argument_arrays, argument_values, first_masks, passed_arrays, passed_scalars, passed_vectors,
+    push_zero_lanes, push_zeros,
+};
+use crate::zeros::Zeros;
+use isp_base::{Argument, BinOp, Compare, UnaryOp};
+use isp_code::{Function, Register};
 use isp_lanes::{LaneMask, Lanes};
 use isp_store::{Arrays, IndexTrap};
+use std::alloc::{AllocError, Global};
 use std::marker::Model;
 
 /// The registers of a call by class, each by its number.
@@ -44,45 +57,53 @@ impl<const N: usize> Model for Frame<N> {
     ghost view = { λ f. record { function = f.function; pc = f.pc; scalars = f.scalars.items; vectors = f.vectors.items; masks = f.masks.items; arrays = f.arrays.items; locals = f.locals; to = f.to; under = f.under } };
 }
 
+/// A frame in a place of its own, so that no register moves where calls begin, wait and end.
+/// Contracts see the frame.
+#[derive(Drop)]
+pub(crate) struct FrameBox<const N: usize> {
+    pub(crate) at: Box<Frame<N>>,
+}
+
+impl<const N: usize> Model for FrameBox<N> {
+    ghost use Rattle.std.specs.Prelude.{◌≤◌};
+    ghost use Rattle.isp_machine.specs.Rows.{FrameRows};
+
+    ghost Value = { FrameRows };
+
+    ghost view = { λ f. f.at.value };
+
+    ghost invariant = { λ f. N ≤ 64 };
+}
+
+impl<const N: usize> FrameBox<N> {
+    /// A frame without registers.
+    pub(crate) fn empty(alloc: Global) -> Result<Self, AllocError>
+        requires { N ≤ 64 }
+        ensures { IfOk result (λ f. f ≡ no_frame N) }
+    {
+        Ok(FrameBox {
+            at: Box::new(alloc, Frame::empty(alloc))?,
+        })
+    }
+}
+
 impl<const N: usize> Frame<N> {
-    /// A call that begins.
-    pub(crate) fn new(
-        function: usize,
-        scalars: Vec<u64>,
-        vectors: Vec<Lanes<N>>,
-        masks: Vec<LaneMask<N>>,
-        arrays: Vec<FrameArray<N>>,
-        locals: usize,
-        under: LaneMask<N>,
-    ) -> Self
-        ensures { result ≡ record { function = function; pc = 0; scalars = scalars.items; vectors = vectors.entry.items; masks = masks.entry.items; arrays = arrays.entry.items; locals = locals; to = None; under = under.entry } }
+    /// A frame without registers.
+    pub(crate) fn empty(alloc: Global) -> Self
+        requires { N ≤ 64 }
+        ensures { result ≡ no_frame N }
     {
         Frame {
-            function,
+            function: 0,
             pc: 0,
-            scalars,
-            vectors,
-            masks,
-            arrays,
-            locals,
+            scalars: Vec::new(alloc),
+            vectors: Vec::new(alloc),
+            masks: Vec::new(alloc),
+            arrays: Vec::new(alloc),
+            locals: 0,
             to: None,
-            under,
+            under: LaneMask::none(),
         }
-    }
-
-    /// The lists of the registers: scalars, vectors, masks and arrays.
-    pub(crate) fn into_registers(
-        self,
-    ) -> (
-        Vec<u64>,
-        Vec<Lanes<N>>,
-        Vec<LaneMask<N>>,
-        Vec<FrameArray<N>>,
-    )
-        ensures scalars { result.0.items ≡ self.entry.scalars }
-        ensures vectors { result.1.items ≡ self.entry.vectors }
-    {
-        (self.scalars, self.vectors, self.masks, self.arrays)
     }
 
     /// The number of the function.
@@ -168,13 +189,13 @@ impl<const N: usize> Frame<N> {
     }
 
     /// Waits at the next instruction for the result of a call.
-    pub(crate) fn wait(&mut self, to: Option<Register>, under: LaneMask<N>)
+    pub(crate) fn wait(&mut self, to: Option<Register>, under: &LaneMask<N>)
         requires { self.old.pc + 1 < 2 ^ 64 }
-        ensures { self.new ≡ record self.old { pc = self.old.pc + 1; to = to; under = under.entry } }
+        ensures { self.new ≡ record self.old { pc = self.old.pc + 1; to = to; under = under.now } }
     {
         self.pc += 1;
         self.to = to;
-        self.under = under;
+        self.under = *under;
     }
 
     /// Writes a scalar register.
@@ -191,6 +212,81 @@ impl<const N: usize> Frame<N> {
         ensures { self.new ≡ record self.old { masks = slice_set self.old.masks r value.entry } }
     {
         self.masks[r as usize] = value;
+    }
+}
+
+// A call that begins, in the memory of one that is over.
+impl<const N: usize> Frame<N> {
+    /// Takes what a call passes in the lanes of a mask, in the place of the registers.
+    pub(crate) fn pass_call(
+        &mut self,
+        here: &Here,
+        caller: &Frame<N>,
+        arguments: &[Register],
+        mask: &LaneMask<N>,
+    ) -> Result<(), AllocError>
+        requires shaped { Shaped here.now.routine caller.now }
+        requires count { length caller.now.arrays ≡ length (arrays_of here.now.routine) }
+        requires there { AreThere here.now.routine arguments.now }
+        ensures { OnOk result (given self.new ≡ by_call caller.now (flag_of mask.now) arguments.now) }
+    {
+        mask.told();
+        passed_scalars(&mut self.scalars, here, caller, arguments)?;
+        passed_vectors(&mut self.vectors, here, caller, arguments, mask)?;
+        passed_arrays(&mut self.arrays, here, caller, arguments)?;
+        Ok(())
+    }
+
+    /// Takes what a run passes that has so many arrays, in the place of the registers.
+    pub(crate) fn pass_run(
+        &mut self,
+        alloc: Global,
+        arguments: &[Argument],
+        count: usize,
+    ) -> Result<(), AllocError>
+        requires { count ≡ length (rows arguments.now) }
+        ensures { OnOk result (given self.new ≡ by_run arguments.now) }
+    {
+        self.scalars = argument_values(alloc, arguments)?;
+        self.vectors.clear();
+        self.arrays = argument_arrays(alloc, count)?;
+        Ok(())
+    }
+
+    /// Begins a call of a function with what the registers hold, and opens its local arrays. Where
+    /// memory is refused no store is open that was not.
+    pub(crate) fn begin(
+        &mut self,
+        alloc: Global,
+        stores: &mut Arrays,
+        number: usize,
+        function: &Function,
+        mask: &LaneMask<N>,
+        zeros: &Zeros<N>,
+    ) -> Result<(), AllocError>
+        requires few { N ≤ 64 }
+        requires masks { 0 < (routine_of function.now).masks }
+        ensures begun { OnOk result (Begun N (routine_of function.now) number mask.now (length stores.old.rows) (given self.old) self.new) }
+        ensures stores { OnOk result (stores.new ≡ record stores.old { rows = stores.old.rows ++ new_stores (routine_of function.now).locals }) }
+        ensures all { OnOk result (stores.new.params + self.new.locals ≡ length stores.new.rows) }
+        ensures err { OnErr result (stores.new ≡ stores.old) }
+    {
+        push_zeros(&mut self.scalars, function.scalars.len())?;
+        push_zero_lanes(&mut self.vectors, zeros, &function.vectors)?;
+        first_masks(&mut self.masks, function.masks, mask)?;
+        open_locals(alloc, stores, &mut self.arrays, &function.locals)?;
+        self.function = number;
+        self.pc = 0;
+        self.locals = stores.locals();
+        self.to = None;
+        Ok(())
+    }
+
+    /// Ends the call: its arrays are dropped, and the memory of its other registers is kept.
+    pub(crate) fn end(&mut self)
+        ensures { self.new ≡ record self.old { arrays = [] } }
+    {
+        self.arrays.clear();
     }
 }
 
@@ -333,18 +429,6 @@ impl<const N: usize> Frame<N> {
         self.vectors[d as usize].splat(bits, mask);
     }
 
-    /// A value for each lane.
-    pub(crate) fn keep_words(&mut self, d: u32, words: &[u64; N], k: u32)
-        requires d { d < length self.old.vectors }
-        requires k { k < length self.old.masks }
-        requires fits { Fit (vector_in self.old d).elem words.now }
-        ensures { self.new ≡ record self.old { vectors = slice_set self.old.vectors d (written (mask_in self.old k) words.now (vector_in self.old d)) } }
-    {
-        let mask = &self.masks[k as usize];
-        mask.told();
-        self.vectors[d as usize].keep_words(words, mask);
-    }
-
     /// The lanes' numbers.
     pub(crate) fn index(&mut self, d: u32, k: u32)
         requires d { d < length self.old.vectors }
@@ -360,6 +444,37 @@ impl<const N: usize> Frame<N> {
 
 // The arrays.
 impl<const N: usize> Frame<N> {
+    /// In each lane of a mask the element at its index in an array, in a vector that is written where
+    /// it stands.
+    ///
+    /// Index where one is outside, with the lowest such lane, and then nothing changes.
+    pub(crate) fn gather(
+        &mut self,
+        stores: &Arrays,
+        d: u32,
+        a: u32,
+        i: u32,
+        k: u32,
+    ) -> Result<(), IndexTrap>
+        requires d { d < length self.old.vectors }
+        requires a { a < length self.old.arrays }
+        requires i { i < length self.old.vectors }
+        requires k { k < length self.old.masks }
+        requires there { ArrayThere stores.now (array_in self.old a) }
+        requires index { (vector_in self.old i).elem ≡ I64 }
+        requires elem { (vector_in self.old d).elem ≡ array_elem stores.now (array_in self.old a) }
+        ensures inside { IfOk result (λ _. lowest_failing N (is_outside I64 (array_count stores.now (array_in self.old a))) (on (masks_at self.old k) (vectors_at self.old i)) ≡ None) }
+        ensures lanes { IfOk result (λ _. vectors_at self.new d ≡ over (λ p. each1 (λ x. array_found stores.now (array_in self.old a) (element I64 x) p) (on (masks_at self.old k) (vectors_at self.old i) p)) (vectors_at self.old d)) }
+        ensures elem { (vector_in self.new d).elem ≡ (vector_in self.old d).elem }
+        ensures others { self.new ≡ record self.old { vectors = slice_set self.old.vectors d (vector_in self.new d) } }
+        ensures lowest { IfErr result (λ t. lowest_failing N (is_outside I64 (array_count stores.now (array_in self.old a))) (on (masks_at self.old k) (vectors_at self.old i)) ≡ Some t.instance) }
+        ensures same { IfErr result (λ t. self.new ≡ self.old) }
+    {
+        let array = &self.arrays[a as usize];
+        let mask = &self.masks[k as usize];
+        array.gather(stores, &mut self.vectors, d as usize, i as usize, mask)
+    }
+
     /// Each lane of a mask writes its value at its index in an array.
     ///
     /// Index where one is outside, with the lowest such lane, and then nothing changes.

@@ -1,5 +1,5 @@
 //! The function that runs.
-ghost use Rattle.std.specs.Prelude.{◌≡◌, ◌<◌, ◌≤◌, ◌^◌, [], length, slice_get, slice_index_or, Some, IfSome, IfNone, false};
+ghost use Rattle.std.specs.Prelude.{◌≡◌, ◌<◌, ◌≤◌, ◌^◌, [], length, slice_get, slice_index_or, Some, false};
 ghost use Rattle.isp_base.specs.Maps.{lane_of};
 ghost use Rattle.isp_base.specs.Sets.{flag_of};
 ghost use Rattle.isp_base.specs.Traps.{trap};
@@ -9,7 +9,7 @@ ghost use Rattle.isp_code.specs.Fine.{IsThere};
 ghost use Rattle.isp_code.specs.Listing.{routine_of};
 ghost use Rattle.isp_code.specs.Registers.{elem_of, is_per_lane};
 ghost use Rattle.isp_machine.specs.Arrays.{vector_in, mask_in};
-ghost use Rattle.isp_machine.specs.Shapes.{Shaped, Opened, IsOwn};
+ghost use Rattle.isp_machine.specs.Shapes.{Shaped, Opened};
 ghost use Rattle.isp_machine.specs.Views.{scalars_at, vectors_at, masks_at, home_at};
 ghost use Rattle.isp_store.specs.Held.{shapes, elem, size};
 ghost use Rattle.isp_verify.specs.Progress.{NeverStuck};
@@ -18,7 +18,7 @@ use crate::frame::Frame;
 use isp_base::{Elem, Trap, TrapKind};
 use isp_code::{Class, Code, Function, Instr, Register};
 use isp_lanes::{LaneMask, Lanes};
-use isp_store::{Arrays, LaneArray};
+use isp_store::Arrays;
 use isp_verify::{Registers, Verified};
 use std::marker::Model;
 
@@ -177,23 +177,5 @@ impl<'a> Here<'a> {
         ensures size { (home_at (shapes stores.now) frame.now).sizes result ≡ size stores.now result }
     {
         frame.array(a.number).store()
-    }
-
-    /// The lanes' own arrays that an array is, where each lane has its own.
-    pub(crate) fn own<'b, const N: usize>(
-        &self,
-        frame: &'b Frame<N>,
-        stores: &Arrays,
-        a: Register,
-    ) -> Option<&'b LaneArray<N>>
-        requires arrays { Opened self.now.routine (shapes stores.now) frame.now }
-        requires there { IsThere self.now.routine Class.Array a }
-        ensures some { IfSome result (λ o. IsOwn self.now.routine a frame.now o.now) }
-        ensures none { IfNone result (is_per_lane self.now.routine a ≡ false) }
-    {
-        match frame.array(a.number).own() {
-            Some(own) => Some(own),
-            None => None,
-        }
     }
 }

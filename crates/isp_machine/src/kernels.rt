@@ -2,7 +2,6 @@
 ghost use Rattle.std.specs.Prelude.{◌≡◌, ◌<◌, ◌≤◌, length, None, Some, IfOk, IfErr};
 ghost use Rattle.isp_base.specs.Access.{is_zero};
 ghost use Rattle.isp_base.specs.Maps.{lane_of, on, over, map2, lowest_failing};
-ghost use Rattle.isp_base.specs.Rows.{Fit};
 ghost use Rattle.isp_base.specs.Sets.{flag_of, lowest, any};
 ghost use Rattle.isp_base.specs.Cross.{or_zero};
 ghost use Rattle.isp_base.specs.Values.{op_bits};
@@ -103,17 +102,4 @@ pub(crate) fn divided<const N: usize>(
         Ok(()) => Ok(()),
         Err(lane) => Err(lane),
     }
-}
-
-/// A value for each lane of a vector, by its number.
-pub(crate) fn kept<const N: usize>(frame: &mut Frame<N>, d: u32, words: &[u64; N], k: u32)
-    requires d { d < length frame.old.vectors }
-    requires k { k < length frame.old.masks }
-    requires fits { Fit (vector_in frame.old d).elem words.now }
-    ensures lanes { LanesAre frame.old d (on (masks_at frame.old k) (lane_of words.now)) frame.new }
-    ensures pc { frame.new.pc ≡ frame.old.pc }
-{
-    frame.mask(k).told();
-    frame.vector(d).told();
-    frame.keep_words(d, words, k);
 }

@@ -22,6 +22,7 @@ mod stop;
 mod stores;
 mod texts;
 mod vectors;
+mod zeros;
 
 pub use machine::Machine;
 pub use stop::{StartFault, Stop};

@@ -1,14 +1,12 @@
 //! What a function is given.
 ghost use Rattle.std.specs.Prelude.{◌≡◌, ◌≤◌, ◌<◌, ◌+◌, ◌++◌, ◌∷◌, [], map, length, replicate, slice_set, true, false, IfOk, OnOk, OnErr};
 ghost use Rattle.std.specs.List.{All};
-ghost use Rattle.isp_base.specs.Arguments.{rows};
 ghost use Rattle.isp_base.specs.Maps.{lane_of, on, over};
 ghost use Rattle.isp_base.specs.Sets.{flag_of};
 ghost use Rattle.isp_code.specs.Calls.{numbers};
-ghost use Rattle.isp_code.specs.Listing.{routine_of};
 ghost use Rattle.isp_code.specs.Machine.{values};
 ghost use Rattle.isp_code.specs.Registers.{same_class, arrays_of};
-ghost use Rattle.isp_machine.specs.Begun.{seen, zero_seen, seen_array, passed_lanes, passed_array, stores_from, by_call, by_run, AreThere, given, Begun, new_stores};
+ghost use Rattle.isp_machine.specs.Begun.{seen, zero_seen, seen_array, passed_lanes, passed_array, stores_from, AreThere};
 ghost use Rattle.isp_machine.specs.Shapes.{Shaped};
 ghost use Rattle.isp_machine.specs.Views.{scalars_at};
 
@@ -16,30 +14,11 @@ use crate::array::FrameArray;
 use crate::frame::Frame;
 use crate::here::Here;
 use crate::kernels::copied;
-use crate::locals::open_locals;
+use crate::zeros::Zeros;
 use isp_base::{Argument, Elem, low_bits};
-use isp_code::{Class, Function, Register};
+use isp_code::{Class, Register};
 use isp_lanes::{LaneMask, Lanes};
-use isp_store::Arrays;
 use std::alloc::{AllocError, Global};
-use std::marker::Model;
-
-/// The registers that the parameters are, by class, and room for the masks.
-#[derive(Drop)]
-pub(crate) struct Passed<const N: usize> {
-    scalars: Vec<u64>,
-    vectors: Vec<Lanes<N>>,
-    arrays: Vec<FrameArray<N>>,
-    masks: Vec<LaneMask<N>>,
-}
-
-impl<const N: usize> Model for Passed<N> {
-    ghost use Rattle.isp_machine.specs.Begun.{Parts};
-
-    ghost Value = { Parts };
-
-    ghost view = { λ p. record { scalars = p.scalars.items; vectors = p.vectors.items; arrays = p.arrays.items } };
-}
 
 // Whether a register has a class.
 fn is_class(x: Register, class: Class) -> bool
@@ -49,8 +28,8 @@ fn is_class(x: Register, class: Class) -> bool
     x.class == class
 }
 
-// The scalars that a call passes, in the place of others.
-fn passed_scalars<const N: usize>(
+/// The scalars that a call passes, in the place of others.
+pub(crate) fn passed_scalars<const N: usize>(
     scalars: &mut Vec<u64>,
     here: &Here,
     frame: &Frame<N>,
@@ -87,8 +66,8 @@ fn masked<const N: usize>(x: &Lanes<N>, mask: &LaneMask<N>) -> Lanes<N>
     lanes
 }
 
-// The vectors that a call passes in the lanes of a mask, in the place of others.
-fn passed_vectors<const N: usize>(
+/// The vectors that a call passes in the lanes of a mask, in the place of others.
+pub(crate) fn passed_vectors<const N: usize>(
     vectors: &mut Vec<Lanes<N>>,
     here: &Here,
     frame: &Frame<N>,
@@ -108,8 +87,8 @@ fn passed_vectors<const N: usize>(
     Ok(())
 }
 
-// The arrays that a call passes, by reference, in the place of others.
-fn passed_arrays<const N: usize>(
+/// The arrays that a call passes, by reference, in the place of others.
+pub(crate) fn passed_arrays<const N: usize>(
     arrays: &mut Vec<FrameArray<N>>,
     here: &Here,
     frame: &Frame<N>,
@@ -128,8 +107,8 @@ fn passed_arrays<const N: usize>(
     Ok(())
 }
 
-// The values among the arguments of a run.
-fn argument_values(alloc: Global, arguments: &[Argument]) -> Result<Vec<u64>, AllocError>
+/// The values among the arguments of a run.
+pub(crate) fn argument_values(alloc: Global, arguments: &[Argument]) -> Result<Vec<u64>, AllocError>
     ensures { IfOk result (λ v. v.items ≡ values arguments.now) }
 {
     let mut scalars = Vec::new(alloc);
@@ -142,8 +121,8 @@ fn argument_values(alloc: Global, arguments: &[Argument]) -> Result<Vec<u64>, Al
     Ok(scalars)
 }
 
-// The arrays among the arguments of a run are the first stores.
-fn argument_arrays<const N: usize>(
+/// The arrays among the arguments of a run are the first stores.
+pub(crate) fn argument_arrays<const N: usize>(
     alloc: Global,
     count: usize,
 ) -> Result<Vec<FrameArray<N>>, AllocError>
@@ -156,8 +135,8 @@ fn argument_arrays<const N: usize>(
     Ok(arrays)
 }
 
-// Zeros behind scalars.
-fn push_zeros(scalars: &mut Vec<u64>, count: usize) -> Result<(), AllocError>
+/// Zeros behind scalars.
+pub(crate) fn push_zeros(scalars: &mut Vec<u64>, count: usize) -> Result<(), AllocError>
     ensures { OnOk result (scalars.new.items ≡ scalars.old.items ++ replicate count 0) }
 {
     scalars.reserve(count)?;
@@ -168,138 +147,44 @@ fn push_zeros(scalars: &mut Vec<u64>, count: usize) -> Result<(), AllocError>
 }
 
 // A vector that is zero behind vectors.
-fn push_zero<const N: usize>(vectors: &mut Vec<Lanes<N>>, elem: Elem) -> Result<(), AllocError>
+fn push_zero<const N: usize>(
+    vectors: &mut Vec<Lanes<N>>,
+    zeros: &Zeros<N>,
+    elem: Elem,
+) -> Result<(), AllocError>
     ensures { OnOk result (map seen vectors.new.items ≡ map seen vectors.old.items ++ zero_seen elem ∷ []) }
 {
-    Lanes::push_zero(vectors, elem)
+    vectors.push(*zeros.of(elem))?;
+    Ok(())
 }
 
-// Vectors that are zero behind vectors.
-fn push_zero_lanes<const N: usize>(
+/// Vectors that are zero behind vectors.
+pub(crate) fn push_zero_lanes<const N: usize>(
     vectors: &mut Vec<Lanes<N>>,
+    zeros: &Zeros<N>,
     elems: &[Elem],
 ) -> Result<(), AllocError>
     ensures { OnOk result (map seen vectors.new.items ≡ map seen vectors.old.items ++ map zero_seen elems.now) }
 {
     vectors.reserve(elems.len())?;
     for elem in elems {
-        push_zero(vectors, *elem)?;
+        push_zero(vectors, zeros, *elem)?;
     }
     Ok(())
 }
 
-// So many masks in the place of others: no lane is on, but for the first mask.
-fn first_masks<const N: usize>(
+/// So many masks in the place of others: no lane is on, but for the first mask.
+pub(crate) fn first_masks<const N: usize>(
     masks: &mut Vec<LaneMask<N>>,
     count: u32,
-    first: LaneMask<N>,
+    first: &LaneMask<N>,
 ) -> Result<(), AllocError>
     requires few { N ≤ 64 }
     requires some { 0 < count }
-    ensures { OnOk result (masks.new.items ≡ slice_set (replicate count (replicate N false)) 0 first.entry) }
+    ensures { OnOk result (masks.new.items ≡ slice_set (replicate count (replicate N false)) 0 first.now) }
 {
     masks.clear();
     masks.resize(count as usize, LaneMask::none())?;
-    masks[0] = first;
+    masks[0] = *first;
     Ok(())
-}
-
-impl<const N: usize> Passed<N> {
-    /// Nothing.
-    pub(crate) fn nothing(alloc: Global) -> Self
-        ensures { result ≡ record { scalars = []; vectors = []; arrays = [] } }
-    {
-        Passed {
-            scalars: Vec::new(alloc),
-            vectors: Vec::new(alloc),
-            arrays: Vec::new(alloc),
-            masks: Vec::new(alloc),
-        }
-    }
-
-    /// Room for what a later call passes, in the memory of a call that is over. Its arrays are dropped.
-    pub(crate) fn room(frame: Frame<N>) -> Self
-        ensures { result.arrays ≡ [] }
-    {
-        let (scalars, vectors, masks, arrays) = frame.into_registers();
-        let mut room = Passed {
-            scalars,
-            vectors,
-            arrays,
-            masks,
-        };
-        room.arrays.clear();
-        room
-    }
-
-    /// What a call passes in the lanes of a mask, in the place of what was passed before.
-    pub(crate) fn by_call(
-        self,
-        here: &Here,
-        frame: &Frame<N>,
-        arguments: &[Register],
-        mask: &LaneMask<N>,
-    ) -> Result<Self, AllocError>
-        requires shaped { Shaped here.now.routine frame.now }
-        requires count { length frame.now.arrays ≡ length (arrays_of here.now.routine) }
-        requires there { AreThere here.now.routine arguments.now }
-        ensures { IfOk result (λ p. given p ≡ by_call frame.now (flag_of mask.now) arguments.now) }
-    {
-        mask.told();
-        let mut passed = self;
-        passed_scalars(&mut passed.scalars, here, frame, arguments)?;
-        passed_vectors(&mut passed.vectors, here, frame, arguments, mask)?;
-        passed_arrays(&mut passed.arrays, here, frame, arguments)?;
-        Ok(passed)
-    }
-
-    /// What a run passes that has so many arrays.
-    pub(crate) fn by_run(
-        alloc: Global,
-        arguments: &[Argument],
-        count: usize,
-    ) -> Result<Self, AllocError>
-        requires { count ≡ length (rows arguments.now) }
-        ensures { IfOk result (λ p. given p ≡ by_run arguments.now) }
-    {
-        Ok(Passed {
-            scalars: argument_values(alloc, arguments)?,
-            vectors: Vec::new(alloc),
-            arrays: argument_arrays(alloc, count)?,
-            masks: Vec::new(alloc),
-        })
-    }
-
-    /// The first frame of a call of a function, which opens its local arrays. Where memory is
-    /// refused no store is open that was not.
-    pub(crate) fn frame(
-        self,
-        alloc: Global,
-        stores: &mut Arrays,
-        number: usize,
-        function: &Function,
-        mask: LaneMask<N>,
-    ) -> Result<Frame<N>, AllocError>
-        requires few { N ≤ 64 }
-        requires masks { 0 < (routine_of function.now).masks }
-        ensures begun { IfOk result (λ f. Begun N (routine_of function.now) number mask.entry (length stores.old.rows) (given self.entry) f) }
-        ensures stores { OnOk result (stores.new ≡ record stores.old { rows = stores.old.rows ++ new_stores (routine_of function.now).locals }) }
-        ensures all { IfOk result (λ f. stores.new.params + f.locals ≡ length stores.new.rows) }
-        ensures err { OnErr result (stores.new ≡ stores.old) }
-    {
-        let mut passed = self;
-        push_zeros(&mut passed.scalars, function.scalars.len())?;
-        push_zero_lanes(&mut passed.vectors, &function.vectors)?;
-        first_masks(&mut passed.masks, function.masks, mask)?;
-        open_locals(alloc, stores, &mut passed.arrays, &function.locals)?;
-        Ok(Frame::new(
-            number,
-            passed.scalars,
-            passed.vectors,
-            passed.masks,
-            passed.arrays,
-            stores.locals(),
-            mask,
-        ))
-    }
 }

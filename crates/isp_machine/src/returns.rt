@@ -8,12 +8,12 @@ ghost use Rattle.isp_machine.specs.Receives.{Takes, TakesLanes, Receives};
 ghost use Rattle.isp_machine.specs.Rows.{run_of, FrameRows};
 ghost use Rattle.isp_machine.specs.Shapes.{Shaped, GivesOne, Sound};
 ghost use Rattle.isp_machine.specs.Steps.{Done};
+ghost use Rattle.isp_machine.specs.declared.stop.Step.TheVariants.{Went};
 ghost use Rattle.isp_machine.specs.Views.{conf_of};
 ghost use Rattle.isp_store.specs.Held.{Held};
 
-use crate::frame::Frame;
+use crate::frame::{Frame, FrameBox};
 use crate::here::Here;
-use crate::passed::Passed;
 use crate::stop::Step;
 use isp_base::Value;
 use isp_code::{Class, Instr, Register};
@@ -77,37 +77,43 @@ fn receive<const N: usize>(
 }
 
 // Keeps the memory of a call that is over for a later one. Where there is no place for it, it is dropped.
-fn keep<const N: usize>(rooms: &mut Vec<Passed<N>>, callee: Frame<N>)
+fn keep<const N: usize>(rooms: &mut Vec<FrameBox<N>>, callee: FrameBox<N>)
+    requires { N ≤ 64 }
     ensures { length rooms.old.items ≤ length rooms.new.items }
 {
-    match rooms.push(Passed::room(callee)) {
+    let mut room = callee;
+    room.at.end();
+    match rooms.push(room) {
         Ok(()) => {}
         Err(_dropped) => {}
     }
 }
 
 /// Goes back to the call that waits, or ends the run.
+#[inline(never)]
 pub(crate) fn give_back<const N: usize>(
     here: &Here,
-    frame: &mut Frame<N>,
-    waiting: &mut Vec<Frame<N>>,
+    frame: &mut FrameBox<N>,
+    waiting: &mut Vec<FrameBox<N>>,
     stores: &mut Arrays,
-    rooms: &mut Vec<Passed<N>>,
+    rooms: &mut Vec<FrameBox<N>>,
+    ending: &mut Step,
     x: Option<Register>,
-) -> Step
+)
     requires found { slice_get here.now.code.routines frame.old.function ≡ Some here.now.routine }
     requires sound { Sound N here.now.code stores.old frame.old waiting.old.items }
     requires given { IsGiven here.now.routine here.now.routine.returns x }
-    ensures { (out : List ℕ) → Done N here.now (Instr.Return x) (run_of stores.old frame.old waiting.old.items out) (run_of stores.new frame.new waiting.new.items out) result }
+    requires went { ending.old ≡ Went }
+    ensures { (out : List ℕ) → Done N here.now (Instr.Return x) (run_of stores.old frame.old waiting.old.items out) (run_of stores.new frame.new waiting.new.items out) ending.new }
 {
     match waiting.pop() {
-        None => Step::Ended(answer(here, frame, x)),
+        None => *ending = Step::Ended(answer(here, &frame.at, x)),
         Some(caller) => {
             let callee = mem::replace(frame, caller);
-            receive(here, &callee, x, frame);
-            stores.close_locals(frame.locals());
+            receive(here, &callee.at, x, &mut frame.at);
+            stores.close_locals(frame.at.locals());
+            callee.at.under().told();
             keep(rooms, callee);
-            Step::Went
         }
     }
 }

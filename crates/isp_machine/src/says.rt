@@ -16,6 +16,7 @@ use isp_code::{Class, Instr, Register};
 use std::alloc::{AllocError, Global};
 
 /// Writes a text. Where memory is refused nothing changes.
+#[inline(never)]
 pub(crate) fn say<const N: usize>(
     here: &Here,
     frame: &mut Frame<N>,
@@ -37,6 +38,7 @@ pub(crate) fn say<const N: usize>(
 }
 
 /// Writes a value. Where memory is refused nothing changes.
+#[inline(never)]
 pub(crate) fn print_scalar<const N: usize>(
     here: &Here,
     frame: &mut Frame<N>,
@@ -59,6 +61,7 @@ pub(crate) fn print_scalar<const N: usize>(
 
 /// Writes the lanes of a mask, with `_` for each other lane. The text is made before any of it is
 /// written. Where memory is refused nothing changes.
+#[inline(never)]
 pub(crate) fn print_vector<const N: usize>(
     alloc: Global,
     here: &Here,

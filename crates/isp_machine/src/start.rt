@@ -5,9 +5,10 @@ ghost use Rattle.isp_code.specs.Entries.{IsEntry};
 ghost use Rattle.isp_code.specs.Listing.{Routine};
 ghost use Rattle.isp_machine.specs.Starts.{NoEntryFor, Ready};
 
-use crate::calls::first_frame;
-use crate::passed::Passed;
+use crate::calls::begin;
+use crate::frame::FrameBox;
 use crate::step::Run;
+use crate::zeros::ZerosBox;
 use isp_base::{Argument, Array, Bound};
 use isp_lanes::LaneMask;
 use isp_store::Arrays;
@@ -68,13 +69,24 @@ pub(crate) fn begun<const N: usize>(
     ensures { IfOk result (λ r. (g : Routine) → slice_get code.now.routines number ≡ Some g → Ready N g number arguments.now r) }
 {
     let mut stores = Arrays::new(alloc, places(alloc, arguments)?);
-    let passed = Passed::by_run(alloc, arguments, stores.count())?;
-    let frame = first_frame(alloc, code, &mut stores, passed, number, LaneMask::full())?;
+    let zeros = ZerosBox::new(alloc)?;
+    let mut frame = FrameBox::empty(alloc)?;
+    frame.at.pass_run(alloc, arguments, stores.count())?;
+    begin(
+        alloc,
+        code,
+        &mut stores,
+        &mut frame.at,
+        number,
+        &LaneMask::full(),
+        &zeros.at,
+    )?;
     Ok(Run {
         frame,
         waiting: Vec::new(alloc),
         stores,
         out: Vec::new(alloc),
         rooms: Vec::new(alloc),
+        zeros,
     })
 }

@@ -1,5 +1,5 @@
 //! One instruction.
-ghost use Rattle.std.specs.Prelude.{◌≡◌, Some, slice_get, IfOk, IfErr, OnErr};
+ghost use Rattle.std.specs.Prelude.{◌≡◌, Some, slice_get, IfOk, IfErr, OnOk, OnErr};
 ghost use Rattle.isp_base.specs.Types.{gang_width};
 ghost use Rattle.isp_code.specs.Fine.{AllFine, CallsFine, GoesOn};
 ghost use Rattle.isp_code.specs.Machine.{arrive, step};
@@ -7,21 +7,22 @@ ghost use Rattle.isp_code.specs.Operands.{operands};
 ghost use Rattle.isp_machine.specs.Moves.{Computes, Goes, Fails};
 ghost use Rattle.isp_machine.specs.Shapes.{Shaped, Opened};
 ghost use Rattle.isp_machine.specs.Steps.{Done, MayRefuse, Refuses, Steady, conf_now, given_shapes, stands_as};
+ghost use Rattle.isp_machine.specs.declared.stop.Step.TheVariants.{Went};
 ghost use Rattle.isp_store.specs.Held.{shapes};
 
 use crate::calls::call;
 use crate::divide::divide;
-use crate::frame::Frame;
+use crate::frame::{Frame, FrameBox};
 use crate::here::Here;
 use crate::jumps::{fail, jump, jump_if};
 use crate::masks::mask;
-use crate::passed::Passed;
 use crate::returns::give_back;
 use crate::says::{print_scalar, print_vector, say};
 use crate::scalars::scalar;
 use crate::stop::Step;
 use crate::stores::{clear, scatter, store};
 use crate::vectors::vector;
+use crate::zeros::ZerosBox;
 use isp_base::Trap;
 use isp_code::Instr;
 use isp_store::Arrays;
@@ -31,14 +32,15 @@ use std::marker::Model;
 
 /// The machine between two instructions: the call that runs, the calls that wait, the innermost
 /// last, the arrays that all lanes share, and the output. `rooms` is the memory of calls that are
-/// over, for later ones, and no part of what contracts see.
+/// over, for later ones, and `zeros` what new registers are copied from: no part of what contracts see.
 #[derive(Drop)]
 pub(crate) struct Run<const N: usize> {
-    pub(crate) frame: Frame<N>,
-    pub(crate) waiting: Vec<Frame<N>>,
+    pub(crate) frame: FrameBox<N>,
+    pub(crate) waiting: Vec<FrameBox<N>>,
     pub(crate) stores: Arrays,
     pub(crate) out: Vec<u8>,
-    pub(crate) rooms: Vec<Passed<N>>,
+    pub(crate) rooms: Vec<FrameBox<N>>,
+    pub(crate) zeros: ZerosBox<N>,
 }
 
 impl<const N: usize> Model for Run<N> {
@@ -50,6 +52,10 @@ impl<const N: usize> Model for Run<N> {
 }
 
 // The instructions that neither write text nor call nor return.
+//
+// What runs at each instruction is inlined in the machine's loop. What takes many registers (divisions, scatters, text, calls) is not, so that
+// the others need not save them.
+#[inline(always)]
 fn compute<const N: usize>(
     here: &Here,
     frame: &mut Frame<N>,
@@ -83,46 +89,42 @@ fn compute<const N: usize>(
     Ok(())
 }
 
-fn after(done: Result<(), Trap>) -> Step
-    ensures ok { IfOk done (λ _. result ≡ Step.Went) }
-    ensures err { IfErr done (λ t. result ≡ Step.Trapped t) }
-{
-    match done {
-        Ok(()) => Step::Went,
-        Err(trap) => Step::Trapped(trap),
-    }
-}
-
-// One instruction. Where memory is refused nothing changes.
+// One instruction. Where the run is then at an end, so is said in its place. Where memory is refused nothing changes.
+//
+// An end is not handed back but written where it stays, so that the others have nothing to hand on.
+#[inline(always)]
 fn execute<const N: usize>(
     alloc: Global,
     code: &Verified,
     here: &Here,
     run: &mut Run<N>,
+    ending: &mut Step,
     instr: &Instr,
-) -> Result<Step, AllocError>
+) -> Result<(), AllocError>
     requires code { here.now.code ≡ code.now }
     requires found { slice_get here.now.code.routines run.old.frame.function ≡ Some here.now.routine }
     requires sound { Steady N here.now.code run.old }
     requires operands { AllFine here.now.code here.now.routine (operands instr.now) }
     requires calls { CallsFine here.now.code here.now.routine instr.now }
     requires next { GoesOn here.now.routine run.old.frame.pc instr.now }
-    ensures done { IfOk result (λ step. Done N here.now instr.now run.old run.new step) }
+    requires went { ending.old ≡ Went }
+    ensures done { OnOk result (Done N here.now instr.now run.old run.new ending.new) }
     ensures same { OnErr result (run.new ≡ run.old) }
+    ensures same_ending { OnErr result (ending.new ≡ ending.old) }
     ensures refused { OnErr result (MayRefuse instr.now) }
 {
     match instr {
         Instr::Say(text) => {
-            say(here, &mut run.frame, &mut run.out, *text)?;
-            Ok(Step::Went)
+            say(here, &mut run.frame.at, &mut run.out, *text)?;
+            Ok(())
         }
         Instr::PrintScalar(x) => {
-            print_scalar(here, &mut run.frame, &mut run.out, *x)?;
-            Ok(Step::Went)
+            print_scalar(here, &mut run.frame.at, &mut run.out, *x)?;
+            Ok(())
         }
         Instr::PrintVector(x, k) => {
-            print_vector(alloc, here, &mut run.frame, &mut run.out, *x, *k)?;
-            Ok(Step::Went)
+            print_vector(alloc, here, &mut run.frame.at, &mut run.out, *x, *k)?;
+            Ok(())
         }
         Instr::Call(c) => call(
             alloc,
@@ -132,34 +134,49 @@ fn execute<const N: usize>(
             &mut run.waiting,
             &mut run.stores,
             &mut run.rooms,
+            &run.zeros,
+            ending,
             c.get(),
         ),
-        Instr::Return(x) => Ok(give_back(
-            here,
-            &mut run.frame,
-            &mut run.waiting,
-            &mut run.stores,
-            &mut run.rooms,
-            *x,
-        )),
-        _ => Ok(after(compute(here, &mut run.frame, &mut run.stores, instr))),
+        Instr::Return(x) => {
+            give_back(
+                here,
+                &mut run.frame,
+                &mut run.waiting,
+                &mut run.stores,
+                &mut run.rooms,
+                ending,
+                *x,
+            );
+            Ok(())
+        }
+        _ => {
+            if let Err(trap) = compute(here, &mut run.frame.at, &mut run.stores, instr) {
+                *ending = Step::Trapped(trap);
+            }
+            Ok(())
+        }
     }
 }
 
-/// The instruction before which the run stands. Where memory is refused nothing changes.
+/// The instruction before which the run stands, and its end where it is then at one. Where memory is refused nothing changes.
+#[inline(always)]
 pub(crate) fn step<const N: usize>(
     alloc: Global,
     code: &Verified,
     run: &mut Run<N>,
-) -> Result<Step, AllocError>
-    requires { Steady N code.now run.old }
-    ensures arrives { IfOk result (λ done. arrive code.now (step code.now (conf_now run.old)) (conf_now run.old) ≡ stands_as done (conf_now run.new)) }
-    ensures steady { IfOk result (λ _. Steady N code.now run.new) }
-    ensures given { IfOk result (λ _. given_shapes run.new.stores ≡ given_shapes run.old.stores) }
+    ending: &mut Step,
+) -> Result<(), AllocError>
+    requires steady { Steady N code.now run.old }
+    requires went { ending.old ≡ Went }
+    ensures arrives { OnOk result (arrive code.now (step code.now (conf_now run.old)) (conf_now run.old) ≡ stands_as ending.new (conf_now run.new)) }
+    ensures steady { OnOk result (Steady N code.now run.new) }
+    ensures given { OnOk result (given_shapes run.new.stores ≡ given_shapes run.old.stores) }
     ensures same { OnErr result (run.new ≡ run.old) }
+    ensures same_ending { OnErr result (ending.new ≡ ending.old) }
     ensures refused { OnErr result (Refuses code.now (conf_now run.old)) }
 {
-    let here = Here::new(code, run.frame.function());
-    let instr = here.instr(run.frame.pc());
-    execute(alloc, code, &here, run, instr)
+    let here = Here::new(code, run.frame.at.function());
+    let instr = here.instr(run.frame.at.pc());
+    execute(alloc, code, &here, run, ending, instr)
 }

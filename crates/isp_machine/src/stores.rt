@@ -48,6 +48,7 @@ pub(crate) fn store<const N: usize>(
 }
 
 /// Stores lanes, and goes on to the next instruction.
+#[inline(never)]
 pub(crate) fn scatter<const N: usize>(
     here: &Here,
     frame: &mut Frame<N>,
@@ -79,6 +80,7 @@ pub(crate) fn scatter<const N: usize>(
 }
 
 /// Zeroes a local array, and goes on to the next instruction.
+#[inline(never)]
 pub(crate) fn clear<const N: usize>(
     here: &Here,
     frame: &mut Frame<N>,

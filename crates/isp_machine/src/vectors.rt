@@ -1,22 +1,18 @@
 //! Instructions that write lanes of a vector register.
-ghost use Rattle.std.specs.Prelude.{◌≡◌, ◌+◌, ◌<◌, ◌≤◌, length, Ok, Err, IfOk, IfErr, false};
-ghost use Rattle.isp_base.specs.Rows.{Fit};
+ghost use Rattle.std.specs.Prelude.{◌≡◌, ◌+◌, ◌<◌, length, Err, IfOk, IfErr};
 ghost use Rattle.isp_base.specs.Types.{gang_width};
 ghost use Rattle.isp_code.specs.Fine.{AllFine};
 ghost use Rattle.isp_code.specs.Operands.{vector_operands};
-ghost use Rattle.isp_code.specs.Registers.{elem_of, is_per_lane};
-ghost use Rattle.isp_machine.specs.Moves.{VectorIs, WordsAre, InPlace, Goes, Fails};
-ghost use Rattle.isp_machine.specs.Shapes.{Shaped, Opened, IsOwn};
-ghost use Rattle.isp_machine.specs.Views.{masks_at};
+ghost use Rattle.isp_machine.specs.Moves.{VectorIs, InPlace, Goes, Fails};
+ghost use Rattle.isp_machine.specs.Shapes.{Shaped, Opened};
 ghost use Rattle.isp_store.specs.Held.{shapes};
 
 use crate::frame::Frame;
 use crate::here::Here;
-use crate::kernels::kept;
 use crate::lanes::{apply, combine, compare, convert, copy, number, select, splat};
 use isp_base::{Trap, TrapKind};
 use isp_code::{Instr, Register, VectorInstr};
-use isp_store::{Arrays, LaneArray};
+use isp_store::Arrays;
 
 // What the instruction leaves in the lanes of the register, which is written where it stands.
 fn vector_value<const N: usize>(
@@ -51,88 +47,7 @@ fn vector_value<const N: usize>(
     Ok(())
 }
 
-// The elements at the lanes' indices, of the array that all share.
-fn shared_words<const N: usize>(
-    here: &Here,
-    frame: &Frame<N>,
-    stores: &Arrays,
-    d: Register,
-    a: Register,
-    i: Register,
-    k: Register,
-    place: u32,
-) -> Result<[u64; N], Trap>
-    requires gang { N ≡ gang_width here.now.code.gang }
-    requires shaped { Shaped here.now.routine frame.now }
-    requires arrays { Opened here.now.routine (shapes stores.now) frame.now }
-    requires operands { AllFine here.now.code here.now.routine (vector_operands d (VectorInstr.Gather a i k place)) }
-    requires shared { is_per_lane here.now.routine a ≡ false }
-    ensures fits { IfOk result (λ words. Fit (elem_of here.now.routine d) words) }
-    ensures ok { IfOk result (λ words. WordsAre here.now stores.now frame.now d (VectorInstr.Gather a i k place) (masks_at frame.now k.number) words) }
-    ensures err { IfErr result (λ t. VectorIs here.now stores.now frame.now d (VectorInstr.Gather a i k place) (Err t)) }
-{
-    let _destination = d;
-    let store = here.store(frame, stores, a);
-    match stores.words(store, here.vector(frame, i), here.mask(frame, k)) {
-        Ok(words) => Ok(words),
-        Err(trap) => Err(here.trap(TrapKind::Index, place, trap.instance)),
-    }
-}
-
-// The elements at the lanes' indices, of the lanes' own arrays.
-fn own_words<const N: usize>(
-    here: &Here,
-    frame: &Frame<N>,
-    stores: &Arrays,
-    own: &LaneArray<N>,
-    d: Register,
-    a: Register,
-    i: Register,
-    k: Register,
-    place: u32,
-) -> Result<[u64; N], Trap>
-    requires gang { N ≡ gang_width here.now.code.gang }
-    requires shaped { Shaped here.now.routine frame.now }
-    requires arrays { Opened here.now.routine (shapes stores.now) frame.now }
-    requires operands { AllFine here.now.code here.now.routine (vector_operands d (VectorInstr.Gather a i k place)) }
-    requires own { IsOwn here.now.routine a frame.now own.now }
-    ensures fits { IfOk result (λ words. Fit (elem_of here.now.routine d) words) }
-    ensures ok { IfOk result (λ words. WordsAre here.now stores.now frame.now d (VectorInstr.Gather a i k place) (masks_at frame.now k.number) words) }
-    ensures err { IfErr result (λ t. VectorIs here.now stores.now frame.now d (VectorInstr.Gather a i k place) (Err t)) }
-{
-    let _destination = (d, a, stores.count());
-    match own.words(here.vector(frame, i), here.mask(frame, k)) {
-        Ok(words) => Ok(words),
-        Err(trap) => Err(here.trap(TrapKind::Index, place, trap.instance)),
-    }
-}
-
 // The elements at the lanes' indices.
-fn element_words<const N: usize>(
-    here: &Here,
-    frame: &Frame<N>,
-    stores: &Arrays,
-    d: Register,
-    a: Register,
-    i: Register,
-    k: Register,
-    place: u32,
-) -> Result<[u64; N], Trap>
-    requires gang { N ≡ gang_width here.now.code.gang }
-    requires shaped { Shaped here.now.routine frame.now }
-    requires arrays { Opened here.now.routine (shapes stores.now) frame.now }
-    requires operands { AllFine here.now.code here.now.routine (vector_operands d (VectorInstr.Gather a i k place)) }
-    ensures fits { IfOk result (λ words. Fit (elem_of here.now.routine d) words) }
-    ensures ok { IfOk result (λ words. WordsAre here.now stores.now frame.now d (VectorInstr.Gather a i k place) (masks_at frame.now k.number) words) }
-    ensures err { IfErr result (λ t. VectorIs here.now stores.now frame.now d (VectorInstr.Gather a i k place) (Err t)) }
-{
-    match here.own(frame, stores, a) {
-        Some(own) => own_words(here, frame, stores, own, d, a, i, k, place),
-        None => shared_words(here, frame, stores, d, a, i, k, place),
-    }
-}
-
-// The same, in the register.
 fn gather<const N: usize>(
     here: &Here,
     frame: &mut Frame<N>,
@@ -152,11 +67,10 @@ fn gather<const N: usize>(
     ensures err { IfErr result (λ t. VectorIs here.now stores.now frame.old d (VectorInstr.Gather a i k place) (Err t)) }
     ensures same { IfErr result (λ t. frame.new ≡ frame.old) }
 {
-    here.mask_told(frame, k);
-    here.vector_told(frame, d);
-    let words = element_words(here, frame, stores, d, a, i, k, place)?;
-    kept(frame, d.number, &words, k.number);
-    Ok(())
+    match frame.gather(stores, d.number, a.number, i.number, k.number) {
+        Ok(()) => Ok(()),
+        Err(trap) => Err(here.trap(TrapKind::Index, place, trap.instance)),
+    }
 }
 
 /// Writes the lanes of a mask in a vector register, and goes on to the next instruction.

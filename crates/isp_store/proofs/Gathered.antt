@@ -1,7 +1,8 @@
 -- Cells that are read, written, and written back.
 use Rattle.std.proofs.Common.{◌≡◌, refl, sym, ap, ◌∙◌, subst, ℕ, zero, suc, ◌+◌, ◌<◌, ◌≤◌, ◌^◌, replicate, Bool, true, false, None, not, nat_lt, List, [], ◌∷◌, length, get_or, arith, add-one, Result, Ok, Err}
 use Rattle.std.specs.Prelude.{slice_set, if◌then◌else◌, IfOk, IfErr}
-use Rattle.std.specs.Simd.Lanes.{sel_l}
+use Rattle.std.specs.List.{range_with_len}
+use Rattle.std.specs.Simd.Lanes.{zip2, sel_l}
 use Rattle.std.proofs.Math.Path.{fun_ext}
 use Rattle.isp_base.specs.Access.{is_outside}
 use Rattle.isp_base.specs.Maps.{Lanes, lane_of, on, lowest_failing, over, each1, or_old}
@@ -9,9 +10,11 @@ use Rattle.isp_base.specs.Rows.{Fit}
 use Rattle.isp_base.specs.Sets.{Mask, flag_of}
 use Rattle.isp_base.specs.declared.types.Elem.TheVariants.{I64}
 use Rattle.isp_store.specs.Cells.{found, left, stored, unwound}
-use Rattle.isp_store.specs.Inside.{IsInside}
+use Rattle.isp_store.proofs.Inside.{IsInside}
 use Rattle.isp_store.proofs.Lanes.{lane_on, lane_off}
-use Rattle.isp_store.proofs.Indices.{one_inside, inside_is, none_fails}
+use Rattle.isp_lanes.proofs.Failing.{none_fails}
+use Rattle.isp_lanes.proofs.Gathered.{row_long, lane_found}
+use Rattle.isp_store.proofs.Indices.{one_inside, inside_is, on_there}
 
 pub found_at : {A : Type 0} (find : A → ℕ → ℕ) (cs : List A) (e p : ℕ) (d : A) → e < length cs → found find cs e p ≡ find (get_or cs e d) p
 found_at find [] e p d h = absurd (omega (arith, h))
@@ -84,6 +87,9 @@ zero_found zero p = refl
 zero_found (suc n) zero = refl
 zero_found (suc n) (suc p) = zero_found n p
 
+pub zero_lanes : (n : ℕ) → lane_of (replicate n 0) ≡ (λ p. 0)
+zero_lanes n = fun_ext (zero_found n)
+
 pub positive : (a b c : ℕ) → a ≡ 0 → c < b → a < b
 positive a b c z h = omega (arith, z, h)
 
@@ -114,13 +120,14 @@ sel_at (suc n) (true ∷ ms) (x ∷ xs) (y ∷ ys) zero a b c = refl
 sel_at (suc n) (false ∷ ms) (x ∷ xs) (y ∷ ys) zero a b c = refl
 sel_at (suc n) (m ∷ ms) (x ∷ xs) (y ∷ ys) (suc p) a b c = sel_at n ms xs ys p (omega (arith, a)) (omega (arith, b)) (omega (arith, c))
 
--- words read in the lanes of a mask, and kept in them
-pub kept_over : (ms : List Bool) (f : ℕ → ℕ → ℕ) (x : Lanes) (words : List ℕ) (old now : Lanes) → lane_of words ≡ over (λ p. each1 (f p) (on (flag_of ms) x p)) (λ p. 0) → ((p : ℕ) → now p ≡ (if flag_of ms p then lane_of words p else old p)) → now ≡ over (λ p. each1 (f p) (on (flag_of ms) x p)) old
-kept_over ms f x words old now read kept = fun_ext (λ p. kept p ∙ by p (flag_of ms p) refl)
+-- words found in the lanes of a mask, over the old ones
+pub over_found : (n : ℕ) (ms : List Bool) (word : ℕ → ℕ → ℕ) (xs olds : List ℕ) → length ms ≡ n → length xs ≡ n → length olds ≡ n
+    → lane_of (sel_l ms (zip2 word (range_with_len 0 n) xs) olds) ≡ over (λ p. each1 (word p) (on (flag_of ms) (lane_of xs) p)) (lane_of olds)
+over_found n ms word xs olds few long old = fun_ext (λ p. sel_at n ms (zip2 word (range_with_len 0 n) xs) olds p few (row_long word n xs long) old ∙ by p (flag_of ms p) refl)
   where
-    by : (p : ℕ) (b : Bool) → flag_of ms p ≡ b → (if flag_of ms p then lane_of words p else old p) ≡ or_old (each1 (f p) (on (flag_of ms) x p)) (old p)
-    by p true e = ap (λ t. if t then lane_of words p else old p) e ∙ ap (λ (k : Lanes). k p) read ∙ lane_on (f p) (flag_of ms) x 0 p e ∙ sym (lane_on (f p) (flag_of ms) x (old p) p e)
-    by p false e = ap (λ t. if t then lane_of words p else old p) e ∙ sym (lane_off (f p) (flag_of ms) x (old p) p e)
+    by : (p : ℕ) (b : Bool) → flag_of ms p ≡ b → (if flag_of ms p then lane_of (zip2 word (range_with_len 0 n) xs) p else lane_of olds p) ≡ or_old (each1 (word p) (on (flag_of ms) (lane_of xs) p)) (lane_of olds p)
+    by p true e = ap (λ t. if t then lane_of (zip2 word (range_with_len 0 n) xs) p else lane_of olds p) e ∙ lane_found word n p xs long (on_there ms n p few e) ∙ sym (lane_on (word p) (flag_of ms) (lane_of xs) (lane_of olds p) p e)
+    by p false e = ap (λ t. if t then lane_of (zip2 word (range_with_len 0 n) xs) p else lane_of olds p) e ∙ sym (lane_off (word p) (flag_of ms) (lane_of xs) (lane_of olds p) p e)
 
 -- what a result tells, whichever it is
 pub either : {A E P Q G : Type 0} (r : Result A E) → IfOk r (λ _. P) → IfErr r (λ _. Q) → (P → G) → (Q → G) → G
@@ -130,3 +137,6 @@ either (Err x) p q f g = g q
 pub both_ok : {A E P Q G : Type 0} (r : Result A E) → IfOk r (λ _. P) → IfOk r (λ _. Q) → (P → Q → G) → IfOk r (λ _. G)
 both_ok (Ok x) p q f = f p q
 both_ok (Err x) p q f = p
+
+pub along : {A B : Type 0} → A ≡ B → A → B
+along e x = subst (λ (T : Type 0). T) e x

@@ -1,19 +1,20 @@
 -- Which bits are indices outside an array, and the lowest lane that has such an index.
-use Rattle.std.proofs.Common.{◌≡◌, refl, sym, ap, ap₂, ◌∙◌, subst, ⊎_elim, ℕ, zero, suc, ◌+◌, ◌-◌, ◌^◌, ◌<◌, ◌≤◌, Bool, true, false, ◌||◌, not, Option, Some, None, List, [], ◌∷◌, length, get_or, nat_lt, int_lt, pos, ℤ, unsigned_abs, arith, add-one, mod-eq_of_lt, ltb-true, lt-ltb, le-ltb}
+use Rattle.std.proofs.Common.{◌≡◌, refl, sym, ap, ◌∙◌, subst, ⊎_elim, ℕ, zero, suc, ◌+◌, ◌-◌, ◌^◌, ◌<◌, ◌≤◌, Bool, true, false, ◌||◌, not, Option, Some, None, List, [], ◌∷◌, length, get_or, nat_lt, int_lt, pos, ℤ, unsigned_abs, arith, mod-eq_of_lt, ltb-true, lt-ltb, le-ltb}
 use Rattle.std.specs.Prelude.{if◌then◌else◌, slice_get, position, cond}
 use Rattle.std.specs.List.{position_or_len}
 use Rattle.isp_base.proofs.Signs.{test_is}
-use Rattle.std.proofs.lemmas.Bool.{cases_eq, cases_lt}
+use Rattle.std.proofs.lemmas.Bool.{cases_lt}
 use Rattle.std.proofs.lemmas.Int.{ints}
 use Rattle.std.proofs.lemmas.List.{get_or_past}
 use Rattle.std.proofs.lemmas.Option.{get_or_from_slice_get, slice_get-get_or}
 use Rattle.isp_base.specs.Access.{is_outside}
-use Rattle.isp_base.specs.Maps.{Lanes, on, holds, where_true, lane_of, lowest_failing}
+use Rattle.isp_base.specs.Maps.{on, lane_of, lowest_failing}
 use Rattle.isp_base.specs.Sets.{Mask, lowest, or_this, flag_of}
 use Rattle.isp_base.specs.Values.{number, number_to}
 use Rattle.isp_base.specs.declared.types.Elem.TheVariants.{I64}
 use Rattle.isp_base.proofs.Elems.{number_above, number_below}
-use Rattle.isp_store.specs.Inside.{IsInside, AreInside}
+use Rattle.isp_lanes.proofs.Failing.{past_off, past_fine, found, none_fails}
+use Rattle.isp_store.proofs.Inside.{IsInside, AreInside}
 
 out : ℤ → ℕ → Bool
 out z n = int_lt z (pos 0) || not (int_lt z (pos n))
@@ -52,38 +53,6 @@ inside_is n x l e = ⊎_elim (λ (h : x < 2 ^ 63). low h) (λ (h : 2 ^ 63 ≤ x)
 
     high : 2 ^ 63 ≤ x → IsInside n x
     high h = let b = sym (out_high n x h l) ∙ e in cc
-
--- one lane after the other
-module _ (fails : ℕ → Bool) (a : Mask) (x : Lanes) where
-  at : (p : ℕ) (b : Bool) → a p ≡ b → where_true fails (on a x) p ≡ holds fails (if b then Some (x p) else None)
-  at p b e = ap (λ t. holds fails (if t then Some (x p) else None)) e
-
-  step : (p : ℕ) → lowest_failing p fails (on a x) ≡ None → where_true fails (on a x) p ≡ false → lowest_failing (p + 1) fails (on a x) ≡ None
-  step p none off = ap (λ k. lowest k (where_true fails (on a x))) (add-one p) ∙ ap₂ (λ o b. or_this o b p) none off
-
-  pub past_off : (p : ℕ) → lowest_failing p fails (on a x) ≡ None → a p ≡ false → lowest_failing (p + 1) fails (on a x) ≡ None
-  past_off p none off = step p none (at p false off)
-
-  pub past_fine : (p : ℕ) → lowest_failing p fails (on a x) ≡ None → a p ≡ true → fails (x p) ≡ false → lowest_failing (p + 1) fails (on a x) ≡ None
-  past_fine p none is fine = step p none (at p true is ∙ fine)
-
-  pub found : (n p : ℕ) → p < n → lowest_failing p fails (on a x) ≡ None → a p ≡ true → fails (x p) ≡ true → lowest_failing n fails (on a x) ≡ Some p
-  found zero p h none is bad = absurd (omega (arith, h))
-  found (suc n) p h none is bad = ⊎_elim (λ e. here e) (λ ne. ap (λ o. or_this o (where_true fails (on a x) n) n) (found n p (omega (arith, h, ne)) none is bad)) (cases_eq p n)
-    where
-      here : p ≡ n → or_this (lowest_failing n fails (on a x)) (where_true fails (on a x) n) n ≡ Some p
-      here e = ap₂ (λ o b. or_this o b n) (subst (λ k. lowest_failing k fails (on a x) ≡ None) e none) (subst (λ k. where_true fails (on a x) k ≡ true) e (at p true is ∙ bad)) ∙ ap Some (sym e)
-
-  or_none : (o : Option ℕ) (b : Bool) (n : ℕ) → or_this o b n ≡ None → (o ≡ None) × (b ≡ false)
-  or_none (Some p) b n e = cc
-  or_none None true n e = cc
-  or_none None false n e = (refl, refl)
-
-  pub none_fails : (n : ℕ) → lowest_failing n fails (on a x) ≡ None → (p : ℕ) → p < n → a p ≡ true → fails (x p) ≡ false
-  none_fails zero e p h is = absurd (omega (arith, h))
-  none_fails (suc n) e p h is =
-      let both = or_none (lowest_failing n fails (on a x)) (where_true fails (on a x) n) n e in
-      ⊎_elim (λ (s : p ≡ n). sym (at p true is) ∙ subst (λ k. where_true fails (on a x) k ≡ false) (sym s) both.1) (λ ne. none_fails n both.0 p (omega (arith, h, ne)) is) (cases_eq p n)
 
 pub past_end : (bs : List Bool) (p : ℕ) → length bs ≤ p → flag_of bs p ≡ false
 past_end bs p h = get_or_past bs p false h

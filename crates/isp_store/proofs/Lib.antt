@@ -1,3 +1,4 @@
+mod Inside
 mod Indices
 mod RowLists
 mod Lanes

@@ -29,6 +29,10 @@ abbrev pub unwound : {A : Type 0} → (A → ℕ → ℕ → A) → ℕ → Mask
 unwound with zero a x y cs = cs
 unwound with (suc n) a x y cs = unwound with n a x y (left with (a n) (x n) n (y n) cs)
 
+-- the word of all lanes, after one has left its own
+abbrev pub word_with : ℕ → ℕ → ℕ → ℕ
+word_with word lane bits = bits
+
 -- a lane's word of a row
 abbrev pub row_word : List ℕ → ℕ → ℕ
 row_word words lane = lane_of words lane

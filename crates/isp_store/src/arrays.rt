@@ -1,15 +1,14 @@
 //! The arrays that all lanes share.
-ghost use Rattle.std.specs.Prelude.{◌≡◌, ℕ, ◌+◌, ◌<◌, ◌≤◌, ◌^◌, ◌++◌, ◌∷◌, [], length, take, replicate, slice_set, true, false, Some, None, IfOk, IfErr, OnOk, OnErr};
+ghost use Rattle.std.specs.Prelude.{◌≡◌, ◌+◌, ◌<◌, ◌≤◌, ◌^◌, ◌++◌, ◌∷◌, [], length, take, replicate, slice_set, true, false, Some, None, IfOk, IfErr, OnOk, OnErr};
 ghost use Rattle.isp_base.specs.declared.types.Elem.TheVariants.{I64};
 ghost use Rattle.isp_base.specs.Access.{is_outside, element, scatter};
 ghost use Rattle.isp_base.specs.Maps.{lane_of, on, over, map1, lowest_failing, put};
-ghost use Rattle.isp_base.specs.Rows.{Fit};
 ghost use Rattle.isp_base.specs.Sets.{flag_of};
 ghost use Rattle.isp_base.specs.Values.{width};
+ghost use Rattle.isp_lanes.specs.Lanes.{vector};
 ghost use Rattle.isp_store.specs.Held.{elements, size, elem, shapes, named};
 
-use crate::gather::keep;
-use crate::index::{IndexTrap, limit, outside, trap_under};
+use crate::index::{IndexTrap, limit, trap_under};
 use crate::rows;
 use isp_base::{Array, Elem};
 use isp_lanes::{LaneMask, Lanes};
@@ -106,7 +105,7 @@ impl Arrays {
         ensures elements { elements self.new ≡ put (elements self.old) array (λ e. 0) }
         ensures shapes { shapes self.new ≡ shapes self.old }
     {
-        rows::clear(&mut self.items, array);
+        rows::clear(&mut self.items, self.alloc, array);
     }
 
     /// The element at an index that all lanes share.
@@ -177,28 +176,35 @@ impl Arrays {
         ensures lowest { IfErr result (λ t. lowest_failing N (is_outside I64 (size self.now array)) (on (flag_of mask.now) (lane_of index.now.bits)) ≡ Some t.instance) }
         ensures same { IfErr result (λ t. into.new ≡ into.old) }
     {
-        let words = rows::words(&self.items, array, index, mask)?;
-        keep(into, &words, mask);
-        Ok(())
+        rows::gather(&self.items, array, index.wide_words(), mask, into)
     }
 
-    /// The bits of the element at the lane's index in each lane of the mask, and 0 in the others.
+    /// In each lane of the mask the element at the lane's index, where the vector that is written and
+    /// that of the indices are of one list, and may be the same.
     ///
-    /// Index where one is outside, with the lowest such lane.
-    pub fn words<const N: usize>(
+    /// Index where one is outside, with the lowest such lane, and then nothing changes.
+    pub fn gather_at<const N: usize>(
         &self,
         array: usize,
-        index: &Lanes<N>,
+        vectors: &mut [Lanes<N>],
+        out: usize,
+        index: usize,
         mask: &LaneMask<N>,
-    ) -> Result<[u64; N], IndexTrap>
+    ) -> Result<(), IndexTrap>
         requires there { array < length self.now.rows }
-        requires index { index.now.elem ≡ I64 }
-        ensures inside { IfOk result (λ _. lowest_failing N (is_outside I64 (size self.now array)) (on (flag_of mask.now) (lane_of index.now.bits)) ≡ None) }
-        ensures lanes { IfOk result (λ words. lane_of words ≡ over (map1 (λ x. elements self.now array (element I64 x)) (on (flag_of mask.now) (lane_of index.now.bits))) (λ p. 0)) }
-        ensures fits { IfOk result (λ words. Fit (elem self.now array) words) }
-        ensures lowest { IfErr result (λ t. lowest_failing N (is_outside I64 (size self.now array)) (on (flag_of mask.now) (lane_of index.now.bits)) ≡ Some t.instance) }
+        requires out { out < length vectors.old }
+        requires index { index < length vectors.old }
+        requires index_elem { (vector vectors.old index).elem ≡ I64 }
+        requires elem { (vector vectors.old out).elem ≡ elem self.now array }
+        ensures inside { IfOk result (λ _. lowest_failing N (is_outside I64 (size self.now array)) (on (flag_of mask.now) (lane_of (vector vectors.old index).bits)) ≡ None) }
+        ensures lanes { IfOk result (λ _. lane_of (vector vectors.new out).bits ≡ over (map1 (λ x. elements self.now array (element I64 x)) (on (flag_of mask.now) (lane_of (vector vectors.old index).bits))) (lane_of (vector vectors.old out).bits)) }
+        ensures elem { (vector vectors.new out).elem ≡ (vector vectors.old out).elem }
+        ensures others { vectors.new ≡ slice_set vectors.old out (vector vectors.new out) }
+        ensures lowest { IfErr result (λ t. lowest_failing N (is_outside I64 (size self.now array)) (on (flag_of mask.now) (lane_of (vector vectors.old index).bits)) ≡ Some t.instance) }
+        ensures same { IfErr result (λ t. vectors.new ≡ vectors.old) }
     {
-        rows::words(&self.items, array, index, mask)
+        let places = *vectors[index].wide_words();
+        rows::gather(&self.items, array, &places, mask, &mut vectors[out])
     }
 
     /// Each lane of the mask writes its value at its index. Where two write at one, the higher wins.
@@ -220,11 +226,6 @@ impl Arrays {
         ensures lowest { IfErr result (λ t. lowest_failing N (is_outside I64 (size self.old array)) (on (flag_of mask.now) (lane_of index.now.bits)) ≡ Some t.instance) }
         ensures same { IfErr result (λ t. self.new ≡ self.old) }
     {
-        let size = rows::count(&self.items, array);
-        if let Some(instance) = outside(index, mask, size) {
-            return Err(IndexTrap { instance });
-        }
-        rows::scatter(&mut self.items, array, index, mask, value);
-        Ok(())
+        rows::scatter(&mut self.items, self.alloc, array, index, mask, value)
     }
 }

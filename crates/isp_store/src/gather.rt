@@ -1,47 +1,40 @@
 //! Elements from an array into lanes, and back, where the width of the words is known.
-ghost use Rattle.std.specs.Prelude.{◌≡◌, ℕ, ◌<◌, ◌≤◌, ◌^◌, length, true, Some, None, IfOk, IfErr, if◌then◌else◌};
-ghost use Rattle.isp_base.specs.declared.types.Elem.{Elem};
+ghost use Rattle.std.specs.Prelude.{◌≡◌, ℕ, ◌<◌, ◌≤◌, ◌^◌, length, true, Some, None, IfOk, IfErr};
 ghost use Rattle.isp_base.specs.declared.types.Elem.TheVariants.{I64};
 ghost use Rattle.isp_base.specs.Access.{element, is_outside};
 ghost use Rattle.isp_base.specs.Maps.{lane_of, each1, on, over, lowest_failing};
-ghost use Rattle.isp_base.specs.Rows.{Fit};
 ghost use Rattle.isp_base.specs.Sets.{flag_of};
 ghost use Rattle.isp_base.specs.Values.{width};
 ghost use Rattle.isp_store.specs.Cells.{found, stored, unwound, cleared};
 
 use crate::cell::Cell;
 use crate::index::{IndexTrap, limit};
+use crate::places::Places;
 use isp_lanes::{LaneMask, Lanes};
 
-// The word at its index in each lane of the mask, and 0 in the others.
+// The word at its place in each lane of the mask.
 //
-// Index where one is outside, with the lowest such lane.
+// Index where one is outside, with the lowest such lane, and then nothing changes.
 #[inline(always)]
 pub(crate) fn gathered<C: Cell<N>, const N: usize>(
     cells: &[C],
-    index: &Lanes<N>,
+    places: &[u64; N],
     mask: &LaneMask<N>,
-) -> Result<[u64; N], IndexTrap>
-    requires { index.now.elem ≡ I64 }
-    ensures inside { IfOk result (λ _. lowest_failing N (is_outside I64 (length cells.now)) (on (flag_of mask.now) (lane_of index.now.bits)) ≡ None) }
-    ensures lanes { IfOk result (λ words. lane_of words ≡ over (λ p. each1 (λ x. found C.find cells.now (element I64 x) p) (on (flag_of mask.now) (lane_of index.now.bits) p)) (λ p. 0)) }
-    ensures fits { (t : Elem) → ((e p : ℕ) → found C.find cells.now e p < 2 ^ width t) → IfOk result (λ words. Fit t words) }
-    ensures lowest { IfErr result (λ trap. lowest_failing N (is_outside I64 (length cells.now)) (on (flag_of mask.now) (lane_of index.now.bits)) ≡ Some trap.instance) }
+    into: &mut Lanes<N>,
+) -> Result<(), IndexTrap>
+    requires { (e p : ℕ) → found C.find cells.now e p < 2 ^ width into.old.elem }
+    ensures inside { IfOk result (λ _. lowest_failing N (is_outside I64 (length cells.now)) (on (flag_of mask.now) (lane_of places.now)) ≡ None) }
+    ensures lanes { IfOk result (λ _. lane_of into.new.bits ≡ over (λ p. each1 (λ x. found C.find cells.now (element I64 x) p) (on (flag_of mask.now) (lane_of places.now) p)) (lane_of into.old.bits)) }
+    ensures elem { into.new.elem ≡ into.old.elem }
+    ensures lowest { IfErr result (λ trap. lowest_failing N (is_outside I64 (length cells.now)) (on (flag_of mask.now) (lane_of places.now)) ≡ Some trap.instance) }
+    ensures same { IfErr result (λ trap. into.new ≡ into.old) }
 {
-    let limit = limit(cells.len());
-    index.told();
     mask.told();
-    let places = index.wide_words();
-    let mut words = [0; N];
-    for lane in 0..N {
-        if mask.get(lane) {
-            if places[lane] >= limit {
-                return Err(IndexTrap { instance: lane });
-            }
-            words[lane] = cells[places[lane] as usize].word(lane);
-        }
+    into.told();
+    match into.gather(places, &Places { cells }, mask) {
+        Ok(()) => Ok(()),
+        Err(instance) => Err(IndexTrap { instance }),
     }
-    Ok(words)
 }
 
 // Each lane of the mask leaves its word at its index. Where two leave one at one place, the higher wins.
@@ -124,15 +117,4 @@ fn clear_place<C: Cell<N>, const N: usize>(cells: &mut [C], place: usize, mask: 
             cells[place].set(lane, 0);
         }
     }
-}
-
-// A word in each lane of the mask.
-pub(crate) fn keep<const N: usize>(into: &mut Lanes<N>, words: &[u64; N], mask: &LaneMask<N>)
-    requires { Fit into.old.elem words.now }
-    ensures elem { into.new.elem ≡ into.old.elem }
-    ensures lanes { (p : ℕ) → lane_of into.new.bits p ≡ (if flag_of mask.now p then lane_of words.now p else lane_of into.old.bits p) }
-{
-    mask.told();
-    into.told();
-    into.keep_words(words, mask);
 }

@@ -1,13 +1,11 @@
 //! Which indices are outside an array.
-ghost use Rattle.std.specs.Prelude.{◌≡◌, ℕ, ◌<◌, ◌^◌, not, nat_lt, None};
+ghost use Rattle.std.specs.Prelude.{◌≡◌, ℕ, ◌<◌, ◌^◌, not, nat_lt};
 ghost use Rattle.isp_base.specs.declared.types.Elem.TheVariants.{I64};
 ghost use Rattle.isp_base.specs.Access.{is_outside};
-ghost use Rattle.isp_base.specs.Maps.{lane_of, on, lowest_failing};
 ghost use Rattle.isp_base.specs.Sets.{flag_of};
 ghost use Rattle.isp_store.specs.Held.{named};
-ghost use Rattle.isp_store.specs.Inside.{AreInside};
 
-use isp_lanes::{LaneMask, Lanes};
+use isp_lanes::LaneMask;
 use thiserror::Error;
 
 /// An index outside its array: the trap index of the machine, with the lane that it names.
@@ -24,30 +22,6 @@ pub(crate) fn limit(count: usize) -> u64
 {
     let count = count as u64;
     if count < 1 << 63 { count } else { 1 << 63 }
-}
-
-// The lowest lane of the mask whose index is outside an array of so many elements.
-pub(crate) fn outside<const N: usize>(
-    index: &Lanes<N>,
-    mask: &LaneMask<N>,
-    count: usize,
-) -> Option<usize>
-    requires { index.now.elem ≡ I64 }
-    ensures value { result ≡ lowest_failing N (is_outside I64 count) (on (flag_of mask.now) (lane_of index.now.bits)) }
-    ensures inside { result ≡ None → AreInside count (flag_of mask.now) (lane_of index.now.bits) }
-{
-    let limit = limit(count);
-    index.told();
-    mask.told();
-    let places = index.wide_words();
-    for lane in 0..N {
-        if mask.get(lane) {
-            if places[lane] >= limit {
-                return Some(lane);
-            }
-        }
-    }
-    None
 }
 
 // The trap of one index for all lanes: it names the lowest lane of the mask, or lane 0.

@@ -1,13 +1,12 @@
 //! Arrays of which each lane has its own.
-ghost use Rattle.std.specs.Prelude.{◌≡◌, ℕ, ◌≤◌, Some, None, IfOk, IfErr, if◌then◌else◌};
+ghost use Rattle.std.specs.Prelude.{◌≡◌, ◌<◌, ◌≤◌, length, slice_set, Some, None, IfOk, IfErr, if◌then◌else◌};
 ghost use Rattle.isp_base.specs.declared.types.Elem.TheVariants.{I64};
 ghost use Rattle.isp_base.specs.Access.{is_outside, element};
 ghost use Rattle.isp_base.specs.Maps.{lane_of, on, over, map1, each1, lowest_failing};
-ghost use Rattle.isp_base.specs.Rows.{Fit};
 ghost use Rattle.isp_base.specs.Sets.{flag_of};
+ghost use Rattle.isp_lanes.specs.Lanes.{vector};
 ghost use Rattle.isp_store.specs.Own.{own, size, own_put};
 
-use crate::gather::keep;
 use crate::index::IndexTrap;
 use crate::lane_rows::LaneRows;
 use isp_base::Elem;
@@ -65,22 +64,33 @@ impl<const N: usize> LaneArray<N> {
         ensures lowest { IfErr result (λ t. lowest_failing N (is_outside I64 (size self.now)) (on (flag_of mask.now) (lane_of index.now.bits)) ≡ Some t.instance) }
         ensures same { IfErr result (λ t. into.new ≡ into.old) }
     {
-        let words = self.words(index, mask)?;
-        keep(into, &words, mask);
-        Ok(())
+        self.gather_from(index.wide_words(), mask, into)
     }
 
-    /// The bits of the lane's own element at its index in each lane of the mask, and 0 in the others.
+    /// In each lane of the mask the lane's own element at the lane's index, where the vector that is
+    /// written and that of the indices are of one list, and may be the same.
     ///
-    /// Index where one is outside, with the lowest such lane.
-    pub fn words(&self, index: &Lanes<N>, mask: &LaneMask<N>) -> Result<[u64; N], IndexTrap>
-        requires { index.now.elem ≡ I64 }
-        ensures inside { IfOk result (λ _. lowest_failing N (is_outside I64 (size self.now)) (on (flag_of mask.now) (lane_of index.now.bits)) ≡ None) }
-        ensures lanes { IfOk result (λ words. lane_of words ≡ over (λ p. each1 (λ x. own self.now (element I64 x) p) (on (flag_of mask.now) (lane_of index.now.bits) p)) (λ p. 0)) }
-        ensures fits { IfOk result (λ words. Fit self.now.elem words) }
-        ensures lowest { IfErr result (λ t. lowest_failing N (is_outside I64 (size self.now)) (on (flag_of mask.now) (lane_of index.now.bits)) ≡ Some t.instance) }
+    /// Index where one is outside, with the lowest such lane, and then nothing changes.
+    pub fn gather_at(
+        &self,
+        vectors: &mut [Lanes<N>],
+        out: usize,
+        index: usize,
+        mask: &LaneMask<N>,
+    ) -> Result<(), IndexTrap>
+        requires out { out < length vectors.old }
+        requires index { index < length vectors.old }
+        requires index_elem { (vector vectors.old index).elem ≡ I64 }
+        requires elem { (vector vectors.old out).elem ≡ self.now.elem }
+        ensures inside { IfOk result (λ _. lowest_failing N (is_outside I64 (size self.now)) (on (flag_of mask.now) (lane_of (vector vectors.old index).bits)) ≡ None) }
+        ensures lanes { IfOk result (λ _. lane_of (vector vectors.new out).bits ≡ over (λ p. each1 (λ x. own self.now (element I64 x) p) (on (flag_of mask.now) (lane_of (vector vectors.old index).bits) p)) (lane_of (vector vectors.old out).bits)) }
+        ensures elem { (vector vectors.new out).elem ≡ (vector vectors.old out).elem }
+        ensures others { vectors.new ≡ slice_set vectors.old out (vector vectors.new out) }
+        ensures lowest { IfErr result (λ t. lowest_failing N (is_outside I64 (size self.now)) (on (flag_of mask.now) (lane_of (vector vectors.old index).bits)) ≡ Some t.instance) }
+        ensures same { IfErr result (λ t. vectors.new ≡ vectors.old) }
     {
-        self.rows.words(index, mask)
+        let places = *vectors[index].wide_words();
+        self.gather_from(&places, mask, &mut vectors[out])
     }
 
     /// Each lane of the mask writes its value into its own array, at its index.
@@ -116,5 +126,27 @@ impl<const N: usize> LaneArray<N> {
     {
         mask.told();
         self.rows.clear(mask);
+    }
+}
+
+impl<const N: usize> LaneArray<N> {
+    // In each lane of the mask the lane's own element at the lane's place.
+    //
+    // Index where one is outside, with the lowest such lane, and then nothing changes.
+    #[inline(always)]
+    fn gather_from(
+        &self,
+        places: &[u64; N],
+        mask: &LaneMask<N>,
+        into: &mut Lanes<N>,
+    ) -> Result<(), IndexTrap>
+        requires { into.old.elem ≡ self.now.elem }
+        ensures inside { IfOk result (λ _. lowest_failing N (is_outside I64 (size self.now)) (on (flag_of mask.now) (lane_of places.now)) ≡ None) }
+        ensures lanes { IfOk result (λ _. lane_of into.new.bits ≡ over (λ p. each1 (λ x. own self.now (element I64 x) p) (on (flag_of mask.now) (lane_of places.now) p)) (lane_of into.old.bits)) }
+        ensures elem { into.new.elem ≡ into.old.elem }
+        ensures lowest { IfErr result (λ t. lowest_failing N (is_outside I64 (size self.now)) (on (flag_of mask.now) (lane_of places.now)) ≡ Some t.instance) }
+        ensures same { IfErr result (λ t. into.new ≡ into.old) }
+    {
+        self.rows.gather(places, mask, into)
     }
 }

@@ -1,11 +1,9 @@
 //! The words of an array of which each lane has its own: a row for each element, with a word for each lane.
 ghost use Rattle.std.specs.Prelude.{◌≡◌, ℕ, ◌<◌, ◌≤◌, ◌^◌, length, replicate, Some, None, IfOk, IfErr};
-ghost use Rattle.isp_base.specs.declared.types.Elem.{Elem};
 ghost use Rattle.isp_base.specs.declared.types.Elem.TheVariants.{I64};
 ghost use Rattle.isp_base.specs.Access.{element, is_outside};
 ghost use Rattle.isp_base.specs.Cells.{cell_width};
 ghost use Rattle.isp_base.specs.Maps.{lane_of, each1, on, over, lowest_failing};
-ghost use Rattle.isp_base.specs.Rows.{Fit};
 ghost use Rattle.isp_base.specs.Sets.{flag_of};
 ghost use Rattle.isp_base.specs.Values.{width};
 ghost use Rattle.isp_store.specs.Cells.{found, stored, cleared, row_word, row_with};
@@ -41,21 +39,27 @@ impl<const N: usize> LaneRows<N> {
         }
     }
 
-    // The lane's word at its index in each lane of the mask, and 0 in the others.
+    // The lane's word at its place in each lane of the mask.
     //
-    // Index where one is outside, with the lowest such lane.
-    pub(crate) fn words(&self, index: &Lanes<N>, mask: &LaneMask<N>) -> Result<[u64; N], IndexTrap>
-        requires { index.now.elem ≡ I64 }
-        ensures inside { IfOk result (λ _. lowest_failing N (is_outside I64 (length (lists self.now))) (on (flag_of mask.now) (lane_of index.now.bits)) ≡ None) }
-        ensures lanes { IfOk result (λ words. lane_of words ≡ over (λ p. each1 (λ x. found row_word (lists self.now) (element I64 x) p) (on (flag_of mask.now) (lane_of index.now.bits) p)) (λ p. 0)) }
-        ensures fits { (t : Elem) → ((e p : ℕ) → found row_word (lists self.now) e p < 2 ^ width t) → IfOk result (λ words. Fit t words) }
-        ensures lowest { IfErr result (λ trap. lowest_failing N (is_outside I64 (length (lists self.now))) (on (flag_of mask.now) (lane_of index.now.bits)) ≡ Some trap.instance) }
+    // Index where one is outside, with the lowest such lane, and then nothing changes.
+    pub(crate) fn gather(
+        &self,
+        places: &[u64; N],
+        mask: &LaneMask<N>,
+        into: &mut Lanes<N>,
+    ) -> Result<(), IndexTrap>
+        requires { (e p : ℕ) → found row_word (lists self.now) e p < 2 ^ width into.old.elem }
+        ensures inside { IfOk result (λ _. lowest_failing N (is_outside I64 (length (lists self.now))) (on (flag_of mask.now) (lane_of places.now)) ≡ None) }
+        ensures lanes { IfOk result (λ _. lane_of into.new.bits ≡ over (λ p. each1 (λ x. found row_word (lists self.now) (element I64 x) p) (on (flag_of mask.now) (lane_of places.now) p)) (lane_of into.old.bits)) }
+        ensures elem { into.new.elem ≡ into.old.elem }
+        ensures lowest { IfErr result (λ trap. lowest_failing N (is_outside I64 (length (lists self.now))) (on (flag_of mask.now) (lane_of places.now)) ≡ Some trap.instance) }
+        ensures same { IfErr result (λ trap. into.new ≡ into.old) }
     {
         match self {
-            LaneRows::Bits8(rows) => gathered(rows.as_slice(), index, mask),
-            LaneRows::Bits16(rows) => gathered(rows.as_slice(), index, mask),
-            LaneRows::Bits32(rows) => gathered(rows.as_slice(), index, mask),
-            LaneRows::Bits64(rows) => gathered(rows.as_slice(), index, mask),
+            LaneRows::Bits8(rows) => gathered(rows.as_slice(), places, mask, into),
+            LaneRows::Bits16(rows) => gathered(rows.as_slice(), places, mask, into),
+            LaneRows::Bits32(rows) => gathered(rows.as_slice(), places, mask, into),
+            LaneRows::Bits64(rows) => gathered(rows.as_slice(), places, mask, into),
         }
     }
 

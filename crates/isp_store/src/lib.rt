@@ -8,6 +8,7 @@ mod index;
 mod lane_array;
 mod lane_rows;
 mod moves;
+mod places;
 mod rows;
 
 pub use arrays::Arrays;

@@ -1,59 +1,93 @@
 //! Elements from an array into lanes, and back.
-ghost use Rattle.std.specs.Prelude.{◌≡◌, length, Some, None, IfOk, IfErr};
+ghost use Rattle.std.specs.Prelude.{◌≡◌, ℕ, ◌<◌, ◌^◌, length, Some, None, IfOk, IfErr};
 ghost use Rattle.isp_base.specs.declared.types.Elem.TheVariants.{I64};
 ghost use Rattle.isp_base.specs.Access.{element, is_outside, scatter};
+ghost use Rattle.isp_base.specs.Held.{held, held_width};
 ghost use Rattle.isp_base.specs.Maps.{lane_of, map1, on, over, lowest_failing};
-ghost use Rattle.isp_base.specs.Rows.{Fit};
 ghost use Rattle.isp_base.specs.Sets.{flag_of};
-ghost use Rattle.isp_store.specs.Inside.{AreInside};
+ghost use Rattle.isp_store.specs.Cells.{stored, word_with};
 
-use crate::gather::gathered;
+use crate::gather::{gathered, scattered};
 use crate::index::IndexTrap;
 use isp_base::{Array, Cells};
 use isp_lanes::{LaneMask, Lanes};
+use std::alloc::Global;
 
-// The element at its index in each lane of the mask, and 0 in the others. How wide the words are is asked once.
+// The element at its place in each lane of the mask. How wide the array's words are is asked once.
 //
-// Index where one is outside, with the lowest such lane.
-pub(crate) fn words<const N: usize>(
+// Index where one is outside, with the lowest such lane, and then nothing changes.
+pub(crate) fn gather<const N: usize>(
     array: &Array,
-    index: &Lanes<N>,
+    places: &[u64; N],
     mask: &LaneMask<N>,
-) -> Result<[u64; N], IndexTrap>
-    requires { index.now.elem ≡ I64 }
-    ensures inside { IfOk result (λ _. lowest_failing N (is_outside I64 (length array.now.bits)) (on (flag_of mask.now) (lane_of index.now.bits)) ≡ None) }
-    ensures lanes { IfOk result (λ words. lane_of words ≡ over (map1 (λ x. lane_of array.now.bits (element I64 x)) (on (flag_of mask.now) (lane_of index.now.bits))) (λ p. 0)) }
-    ensures fits { IfOk result (λ words. Fit array.now.elem words) }
-    ensures lowest { IfErr result (λ trap. lowest_failing N (is_outside I64 (length array.now.bits)) (on (flag_of mask.now) (lane_of index.now.bits)) ≡ Some trap.instance) }
+    into: &mut Lanes<N>,
+) -> Result<(), IndexTrap>
+    requires { into.old.elem ≡ array.now.elem }
+    ensures inside { IfOk result (λ _. lowest_failing N (is_outside I64 (length array.now.bits)) (on (flag_of mask.now) (lane_of places.now)) ≡ None) }
+    ensures lanes { IfOk result (λ _. lane_of into.new.bits ≡ over (map1 (λ x. lane_of array.now.bits (element I64 x)) (on (flag_of mask.now) (lane_of places.now))) (lane_of into.old.bits)) }
+    ensures elem { into.new.elem ≡ into.old.elem }
+    ensures lowest { IfErr result (λ trap. lowest_failing N (is_outside I64 (length array.now.bits)) (on (flag_of mask.now) (lane_of places.now)) ≡ Some trap.instance) }
+    ensures same { IfErr result (λ trap. into.new ≡ into.old) }
 {
+    mask.told();
     match array.cells() {
-        Cells::Bits8(cells) => gathered(cells.as_slice(), index, mask),
-        Cells::Bits16(cells) => gathered(cells.as_slice(), index, mask),
-        Cells::Bits32(cells) => gathered(cells.as_slice(), index, mask),
-        Cells::Bits64(cells) => gathered(cells.as_slice(), index, mask),
+        Cells::Bits8(cells) => gathered(cells.as_slice(), places, mask, into),
+        Cells::Bits16(cells) => gathered(cells.as_slice(), places, mask, into),
+        Cells::Bits32(cells) => gathered(cells.as_slice(), places, mask, into),
+        Cells::Bits64(cells) => gathered(cells.as_slice(), places, mask, into),
     }
 }
 
-// Each lane of the mask writes its value at its index, from the lowest up.
+// Each lane of the mask writes its value at its index. Where two write at one, the higher wins. The words are taken out of the
+// array while lanes write them, and put back.
+//
+// Index where one is outside, with the lowest such lane, and then nothing changes.
 pub(crate) fn write<const N: usize>(
     array: &mut Array,
+    alloc: Global,
     index: &Lanes<N>,
     mask: &LaneMask<N>,
     value: &Lanes<N>,
-)
+) -> Result<(), IndexTrap>
     requires index { index.now.elem ≡ I64 }
-    requires elem { array.old.elem ≡ value.now.elem }
-    requires inside { AreInside (length array.old.bits) (flag_of mask.now) (lane_of index.now.bits) }
+    requires elem { value.now.elem ≡ array.old.elem }
+    ensures inside { IfOk result (λ _. lowest_failing N (is_outside I64 (length array.old.bits)) (on (flag_of mask.now) (lane_of index.now.bits)) ≡ None) }
+    ensures elements { IfOk result (λ _. lane_of array.new.bits ≡ scatter N (map1 (element I64) (on (flag_of mask.now) (lane_of index.now.bits))) (on (flag_of mask.now) (lane_of value.now.bits)) (lane_of array.old.bits)) }
     ensures elem { array.new.elem ≡ array.old.elem }
     ensures size { length array.new.bits ≡ length array.old.bits }
-    ensures elements { lane_of array.new.bits ≡ scatter N (map1 (element I64) (on (flag_of mask.now) (lane_of index.now.bits))) (on (flag_of mask.now) (lane_of value.now.bits)) (lane_of array.old.bits) }
+    ensures lowest { IfErr result (λ trap. lowest_failing N (is_outside I64 (length array.old.bits)) (on (flag_of mask.now) (lane_of index.now.bits)) ≡ Some trap.instance) }
+    ensures same { IfErr result (λ trap. array.new ≡ array.old) }
 {
+    index.told();
     value.told();
-    let places = index.wide_words();
     let words = value.words();
-    for lane in 0..N {
-        if mask.get(lane) {
-            array.put(places[lane] as usize, words[lane]);
-        }
+    let mut cells = array.take_cells(alloc);
+    let outcome = store(&mut cells, index, mask, &words);
+    array.put_cells(cells);
+    outcome
+}
+
+// Each lane of the mask leaves its word at its index. How wide the words are is asked once.
+//
+// Index where one is outside, with the lowest such lane, and then nothing changes.
+fn store<const N: usize>(
+    cells: &mut Cells,
+    index: &Lanes<N>,
+    mask: &LaneMask<N>,
+    words: &[u64; N],
+) -> Result<(), IndexTrap>
+    requires index { index.now.elem ≡ I64 }
+    requires fits { (p : ℕ) → lane_of words.now p < 2 ^ held_width cells.old }
+    ensures inside { IfOk result (λ _. lowest_failing N (is_outside I64 (length (held cells.old))) (on (flag_of mask.now) (lane_of index.now.bits)) ≡ None) }
+    ensures held { IfOk result (λ _. held cells.new ≡ stored word_with N (flag_of mask.now) (lane_of index.now.bits) (lane_of words.now) (held cells.old)) }
+    ensures wide { held_width cells.new ≡ held_width cells.old }
+    ensures lowest { IfErr result (λ trap. lowest_failing N (is_outside I64 (length (held cells.old))) (on (flag_of mask.now) (lane_of index.now.bits)) ≡ Some trap.instance) }
+    ensures same { IfErr result (λ trap. held cells.new ≡ held cells.old) }
+{
+    match cells {
+        Cells::Bits8(items) => scattered(items.as_mut_slice(), index, mask, words),
+        Cells::Bits16(items) => scattered(items.as_mut_slice(), index, mask, words),
+        Cells::Bits32(items) => scattered(items.as_mut_slice(), index, mask, words),
+        Cells::Bits64(items) => scattered(items.as_mut_slice(), index, mask, words),
     }
 }

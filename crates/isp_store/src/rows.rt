@@ -3,16 +3,15 @@ ghost use Rattle.std.specs.Prelude.{◌≡◌, ◌<◌, ◌^◌, length, replica
 ghost use Rattle.isp_base.specs.declared.types.Elem.TheVariants.{I64};
 ghost use Rattle.isp_base.specs.Access.{element, is_outside, scatter};
 ghost use Rattle.isp_base.specs.Arguments.{row_bits};
+ghost use Rattle.isp_base.specs.Held.{held, held_width};
 ghost use Rattle.isp_base.specs.Maps.{lane_of, map1, on, over, put, lowest_failing};
-ghost use Rattle.isp_base.specs.Rows.{Fit};
 ghost use Rattle.isp_base.specs.Sets.{flag_of};
 ghost use Rattle.isp_base.specs.Values.{width};
 ghost use Rattle.isp_store.specs.Held.{bits_of, shapes_of, type_of};
-ghost use Rattle.isp_store.specs.Inside.{AreInside};
 
 use crate::index::IndexTrap;
 use crate::moves::{self, write};
-use isp_base::{Array, Elem};
+use isp_base::{Array, Cells, Elem};
 use isp_lanes::{LaneMask, Lanes};
 use std::alloc::{AllocError, Global};
 
@@ -44,51 +43,58 @@ pub(crate) fn put(rows: &mut [Array], array: usize, place: usize, bits: u64)
 }
 
 // An array all zero.
-pub(crate) fn clear(rows: &mut [Array], array: usize)
+pub(crate) fn clear(rows: &mut [Array], alloc: Global, array: usize)
     requires { array < length rows.old }
     ensures elements { bits_of rows.new ≡ put (bits_of rows.old) array (λ e. 0) }
     ensures shapes { shapes_of rows.new ≡ shapes_of rows.old }
 {
-    zero(&mut rows[array]);
+    zero(&mut rows[array], alloc);
 }
 
-// The element at the lane's index in each lane of the mask, and 0 in the others.
+// The element at the lane's place in each lane of the mask.
 //
-// Index where one is outside, with the lowest such lane.
-pub(crate) fn words<const N: usize>(
+// Index where one is outside, with the lowest such lane, and then nothing changes.
+pub(crate) fn gather<const N: usize>(
     rows: &[Array],
     array: usize,
-    index: &Lanes<N>,
+    places: &[u64; N],
     mask: &LaneMask<N>,
-) -> Result<[u64; N], IndexTrap>
+    into: &mut Lanes<N>,
+) -> Result<(), IndexTrap>
     requires there { array < length rows.now }
-    requires index { index.now.elem ≡ I64 }
-    ensures inside { IfOk result (λ _. lowest_failing N (is_outside I64 (length (row_bits rows.now array))) (on (flag_of mask.now) (lane_of index.now.bits)) ≡ None) }
-    ensures lanes { IfOk result (λ words. lane_of words ≡ over (map1 (λ x. bits_of rows.now array (element I64 x)) (on (flag_of mask.now) (lane_of index.now.bits))) (λ p. 0)) }
-    ensures fits { IfOk result (λ words. Fit (type_of rows.now array) words) }
-    ensures lowest { IfErr result (λ trap. lowest_failing N (is_outside I64 (length (row_bits rows.now array))) (on (flag_of mask.now) (lane_of index.now.bits)) ≡ Some trap.instance) }
+    requires elem { into.old.elem ≡ type_of rows.now array }
+    ensures inside { IfOk result (λ _. lowest_failing N (is_outside I64 (length (row_bits rows.now array))) (on (flag_of mask.now) (lane_of places.now)) ≡ None) }
+    ensures lanes { IfOk result (λ _. lane_of into.new.bits ≡ over (map1 (λ x. bits_of rows.now array (element I64 x)) (on (flag_of mask.now) (lane_of places.now))) (lane_of into.old.bits)) }
+    ensures elem { into.new.elem ≡ into.old.elem }
+    ensures lowest { IfErr result (λ trap. lowest_failing N (is_outside I64 (length (row_bits rows.now array))) (on (flag_of mask.now) (lane_of places.now)) ≡ Some trap.instance) }
+    ensures same { IfErr result (λ trap. into.new ≡ into.old) }
 {
     mask.told();
-    moves::words(&rows[array], index, mask)
+    moves::gather(&rows[array], places, mask, into)
 }
 
-// Each lane of the mask writes its value at its index, from the lowest up.
+// Each lane of the mask writes its value at its index. Where two write at one, the higher wins.
+//
+// Index where one is outside, with the lowest such lane, and then nothing changes.
 pub(crate) fn scatter<const N: usize>(
     rows: &mut [Array],
+    alloc: Global,
     array: usize,
     index: &Lanes<N>,
     mask: &LaneMask<N>,
     value: &Lanes<N>,
-)
+) -> Result<(), IndexTrap>
     requires there { array < length rows.old }
     requires index { index.now.elem ≡ I64 }
     requires elem { value.now.elem ≡ type_of rows.old array }
-    requires inside { AreInside (length (row_bits rows.old array)) (flag_of mask.now) (lane_of index.now.bits) }
-    ensures elements { bits_of rows.new ≡ put (bits_of rows.old) array (scatter N (map1 (element I64) (on (flag_of mask.now) (lane_of index.now.bits))) (on (flag_of mask.now) (lane_of value.now.bits)) (bits_of rows.old array)) }
+    ensures inside { IfOk result (λ _. lowest_failing N (is_outside I64 (length (row_bits rows.old array))) (on (flag_of mask.now) (lane_of index.now.bits)) ≡ None) }
+    ensures elements { IfOk result (λ _. bits_of rows.new ≡ put (bits_of rows.old) array (scatter N (map1 (element I64) (on (flag_of mask.now) (lane_of index.now.bits))) (on (flag_of mask.now) (lane_of value.now.bits)) (bits_of rows.old array))) }
     ensures shapes { shapes_of rows.new ≡ shapes_of rows.old }
+    ensures lowest { IfErr result (λ trap. lowest_failing N (is_outside I64 (length (row_bits rows.old array))) (on (flag_of mask.now) (lane_of index.now.bits)) ≡ Some trap.instance) }
+    ensures same { IfErr result (λ trap. rows.new ≡ rows.old) }
 {
     mask.told();
-    write(&mut rows[array], index, mask, value);
+    write(&mut rows[array], alloc, index, mask, value)
 }
 
 // An array of zeros.
@@ -103,12 +109,24 @@ pub(crate) fn zeros(alloc: Global, elem: Elem, count: usize) -> Result<Array, Al
 }
 
 // Zero in each element.
-fn zero(array: &mut Array)
+fn zero(array: &mut Array, alloc: Global)
     ensures elem { array.new.elem ≡ array.old.elem }
-    ensures size { length array.new.bits ≡ length array.old.bits }
-    ensures elements { lane_of array.new.bits ≡ (λ e. 0) }
+    ensures elements { array.new.bits ≡ replicate (length array.old.bits) 0 }
 {
-    for place in 0..array.len() {
-        array.put(place, 0);
+    let mut cells = array.take_cells(alloc);
+    zero_words(&mut cells);
+    array.put_cells(cells);
+}
+
+// Zero in each word.
+fn zero_words(cells: &mut Cells)
+    ensures words { held cells.new ≡ replicate (length (held cells.old)) 0 }
+    ensures wide { held_width cells.new ≡ held_width cells.old }
+{
+    match cells {
+        Cells::Bits8(words) => words.as_mut_slice().fill(0),
+        Cells::Bits16(words) => words.as_mut_slice().fill(0),
+        Cells::Bits32(words) => words.as_mut_slice().fill(0),
+        Cells::Bits64(words) => words.as_mut_slice().fill(0),
     }
 }

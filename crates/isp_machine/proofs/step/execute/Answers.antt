@@ -10,7 +10,7 @@ use Rattle.isp_code.specs.Registers.{elem_of}
 use Rattle.isp_code.specs.declared.instr.Instr.{Instr}
 use Rattle.isp_code.specs.declared.instr.Instr.TheVariants as instr
 use Rattle.isp_machine.specs.Moves.{Computes}
-use Rattle.isp_machine.specs.Rows.{RunRows}
+use Rattle.isp_machine.specs.Rows.{RunRows, run_of}
 use Rattle.isp_machine.specs.Steps.{Steady}
 use Rattle.isp_machine.specs.Views.{scalars_at, vectors_at, masks_at}
 use Rattle.isp_machine.proofs.Doing.{spoken, computed, called, call_mask, call_place}
@@ -34,7 +34,7 @@ call-requires g c =
             subst (λ (p : Listing). slice_get p.routines c.run.inside.frame.function ≡ Some h.routine) c.requires.code found,
             (
               subst (λ (p : Listing). Steady g.row.N p (record { frame = c.run.inside.frame; waiting = c.run.inside.waiting.items; stores = c.run.inside.stores; out = c.run.inside.out.items })) c.requires.code sound,
-              (call_mask h.code h.routine c.get.result.now fine, (call_place h.code h.routine c.get.result.now fine, (calls, next))),
+              (call_mask h.code h.routine c.get.result.now fine, (call_place h.code h.routine c.get.result.now fine, (calls, (next, c.requires.went)))),
             ),
           ),
         ),
@@ -45,33 +45,54 @@ pub returns-in_ok-say-in-Say-clause-done : goal.returns-in_ok-say-in-Say-clause-
 returns-in_ok-say-in-Say-clause-done g c =
     let h = c.args.here.now in
     let low = subst (λ (i : Instr). GoesOn h.routine c.args.run.now.frame.pc i) c.in-Say.is c.requires.next in
-    spoken g.row.N h c.args.instr.now c.args.run.now c.requires.found c.requires.sound _ c.run.view_is (instr.Say c.in-Say.text) c.in-Say.is low (slice_index_or h.code.texts c.in-Say.text []) c.say.new.frame c.say.new.out.items c.in_ok-say-in-Say.ensures.ok c.in_ok-say-in-Say.ensures.written
+    let frame : c.deref_mut.result.now ≡ c.run.inside.frame = search rules in
+    let waiting : c.run-inside.inside.0.1.0.items ≡ c.run.inside.waiting.items = search rules in
+    let stores : c.run-inside.inside.0.1.1.0 ≡ c.run.inside.stores = search rules in
+    let out : c.run-inside.inside.0.1.1.1.0.items ≡ c.run.inside.out.items = search rules in
+    let is = (λ j. run_of (stores j) (frame j) (waiting j) (out j)) ∙ c.run.view_is in
+    spoken g.row.N h c.args.instr.now c.args.run.now c.requires.found c.requires.sound _ is _ c.requires.went (instr.Say c.in-Say.text) c.in-Say.is low (slice_index_or h.code.texts c.in-Say.text []) c.say.new.frame c.say.new.out.items c.in_ok-say-in-Say.ensures.ok c.in_ok-say-in-Say.ensures.written
 
 pub returns-in_ok-print_scalar-in-PrintScalar-clause-done : goal.returns-in_ok-print_scalar-in-PrintScalar-clause-done
 returns-in_ok-print_scalar-in-PrintScalar-clause-done g c =
     let h = c.args.here.now in
     let low = subst (λ (i : Instr). GoesOn h.routine c.args.run.now.frame.pc i) c.in-PrintScalar.is c.requires.next in
-    spoken g.row.N h c.args.instr.now c.args.run.now c.requires.found c.requires.sound _ c.run.view_is (instr.PrintScalar c.in-PrintScalar.x) c.in-PrintScalar.is low
-    (value_text (elem_of h.routine c.in-PrintScalar.x) (scalars_at c.run.inside.frame c.in-PrintScalar.x.number)) c.print_scalar.new.frame c.print_scalar.new.out.items c.in_ok-print_scalar-in-PrintScalar.ensures.ok c.in_ok-print_scalar-in-PrintScalar.ensures.written
+    let frame : c.deref_mut-in-PrintScalar.result.now ≡ c.run.inside.frame = search rules in
+    let waiting : c.run-inside-in-PrintScalar.inside.0.1.0.items ≡ c.run.inside.waiting.items = search rules in
+    let stores : c.run-inside-in-PrintScalar.inside.0.1.1.0 ≡ c.run.inside.stores = search rules in
+    let out : c.run-inside-in-PrintScalar.inside.0.1.1.1.0.items ≡ c.run.inside.out.items = search rules in
+    let is = (λ j. run_of (stores j) (frame j) (waiting j) (out j)) ∙ c.run.view_is in
+    spoken g.row.N h c.args.instr.now c.args.run.now c.requires.found c.requires.sound _ is _ c.requires.went (instr.PrintScalar c.in-PrintScalar.x) c.in-PrintScalar.is low
+    (value_text (elem_of h.routine c.in-PrintScalar.x) (scalars_at c.deref_mut-in-PrintScalar.result.now c.in-PrintScalar.x.number)) c.print_scalar.new.frame c.print_scalar.new.out.items c.in_ok-print_scalar-in-PrintScalar.ensures.ok c.in_ok-print_scalar-in-PrintScalar.ensures.written
 
 pub returns-in_ok-print_vector-in-PrintVector-clause-done : goal.returns-in_ok-print_vector-in-PrintVector-clause-done
 returns-in_ok-print_vector-in-PrintVector-clause-done g c =
     let h = c.args.here.now in
     let low = subst (λ (i : Instr). GoesOn h.routine c.args.run.now.frame.pc i) c.in-PrintVector.is c.requires.next in
-    spoken g.row.N h c.args.instr.now c.args.run.now c.requires.found c.requires.sound _ c.run.view_is (instr.PrintVector c.in-PrintVector.x c.in-PrintVector.k) c.in-PrintVector.is low
-    (list_text (elem_of h.routine c.in-PrintVector.x) (gang_width h.code.gang) (on (masks_at c.run.inside.frame c.in-PrintVector.k.number) (vectors_at c.run.inside.frame c.in-PrintVector.x.number)))
+    let f = c.deref_mut-in-PrintVector.result.now in
+    let frame : c.deref_mut-in-PrintVector.result.now ≡ c.run.inside.frame = search rules in
+    let waiting : c.run-inside-in-PrintVector.inside.0.1.0.items ≡ c.run.inside.waiting.items = search rules in
+    let stores : c.run-inside-in-PrintVector.inside.0.1.1.0 ≡ c.run.inside.stores = search rules in
+    let out : c.run-inside-in-PrintVector.inside.0.1.1.1.0.items ≡ c.run.inside.out.items = search rules in
+    let is = (λ j. run_of (stores j) (frame j) (waiting j) (out j)) ∙ c.run.view_is in
+    spoken g.row.N h c.args.instr.now c.args.run.now c.requires.found c.requires.sound _ is _ c.requires.went (instr.PrintVector c.in-PrintVector.x c.in-PrintVector.k) c.in-PrintVector.is low
+    (list_text (elem_of h.routine c.in-PrintVector.x) (gang_width h.code.gang) (on (masks_at f c.in-PrintVector.k.number) (vectors_at f c.in-PrintVector.x.number)))
     c.print_vector.new.frame c.print_vector.new.out.items c.in_ok-print_vector-in-PrintVector.ensures.ok c.in_ok-print_vector-in-PrintVector.ensures.written
 
 pub returns-in-Return-clause-done : goal.returns-in-Return-clause-done
 returns-in-Return-clause-done g c =
-    called g.row.N c.args.here.now c.args.instr.now c.args.run.now c.requires.found c.requires.sound _ c.run.view_is (instr.Return c.in-Return.x) c.in-Return.is c.give_back.new.stores c.give_back.new.frame c.give_back.new.waiting.items c.give_back.result c.give_back.ensures
+    called g.row.N c.args.here.now c.args.instr.now c.args.run.now c.requires.found c.requires.sound _ c.run.view_is (instr.Return c.in-Return.x) c.in-Return.is c.give_back.new.stores c.give_back.new.frame c.give_back.new.waiting.items c.give_back.new.ending c.give_back.ensures
 
-pub returns-in_default : goal.returns-in_default
-returns-in_default g c =
+pub returns-in_default-compute : goal.returns-in_default-compute
+returns-in_default-compute g c =
     let computes : Computes c.args.instr.now = search rules in
+    let frame : c.deref_mut-in_default.result.now ≡ c.run.inside.frame = search rules in
+    let waiting : c.run-inside-in_default.inside.0.1.0.items ≡ c.run.inside.waiting.items = search rules in
+    let stores : c.run-inside-in_default.inside.0.1.1.0 ≡ c.run.inside.stores = search rules in
+    let out : c.run-inside-in_default.inside.0.1.1.1.0.items ≡ c.run.inside.out.items = search rules in
+    let is = (λ j. run_of (stores j) (frame j) (waiting j) (out j)) ∙ c.run.view_is in
     record {
-      done = computed g.row.N c.args.here.now c.args.instr.now c.args.run.now c.requires.found c.requires.sound _ c.run.view_is computes c.requires.operands c.requires.next
-          c.compute.result c.after.result c.compute.new.stores c.compute.new.frame c.compute.ensures.ok c.compute.ensures.err c.compute.ensures.same c.compute.ensures.same_stores c.after.ensures.ok c.after.ensures.err;
+      done = computed g.row.N c.args.here.now c.args.instr.now c.args.run.now c.requires.found c.requires.sound _ is computes c.requires.operands c.requires.next _ c.requires.went c.compute.new.stores c.compute.new.frame c.in_default-compute.ensures.ok;
       same = tt;
+      same_ending = tt;
       refused = tt;
     }
