@@ -98,10 +98,10 @@ impl<const N: usize> Lanes<N> {
         ensures { vectors.new ≡ slice_set vectors.old out (written mask.now (zip2 (compare_bits compare (vector vectors.old x).elem) (vector vectors.old x).bits (vector vectors.old y).bits) (vector vectors.old out)) }
     {
         mask.told();
-        let elem = vectors[x].elem();
-        let holds = vectors[x].row().compared(compare, elem, vectors[y].row());
-        let old: Simd<u8, N> = vectors[out].words_as();
-        vectors[out].take(mask.merge(Simd::from_array(holds), old));
+        vectors[x].told();
+        vectors[y].told();
+        let holds = vectors[x].compared(compare, &vectors[y]);
+        vectors[out].blend(Simd::from_array(holds), mask);
     }
 
     /// The values of a vector of a list, converted to the element type of another one or the same.
@@ -186,8 +186,7 @@ fn zipped<const N: usize, K: Operator<N>>(
     }
 }
 
-// The same where the width of the words is known. The old words are read last: read before a test of the element type they would
-// wait on the stack for its end.
+// The same where the width of the words is known.
 #[inline(always)]
 fn zip<const N: usize, K: Operator<N>, V: Words<N>>(
     vectors: &mut [Lanes<N>],
@@ -209,8 +208,7 @@ fn zip<const N: usize, K: Operator<N>, V: Words<N>>(
     let x: V = vectors[x].words_as();
     let y: V = vectors[y].words_as();
     let new = K::on(elem, x, y);
-    let old: V = vectors[out].words_as();
-    vectors[out].take(mask.merge(new, old));
+    vectors[out].blend(new, mask);
 }
 
 // The division.
@@ -315,8 +313,7 @@ fn apply<const N: usize, K: UnaryOperator<N>, V: Words<N>>(
     let elem = vectors[out].elem();
     let x: V = vectors[x].words_as();
     let new = K::on(elem, x);
-    let old: V = vectors[out].words_as();
-    vectors[out].take(mask.merge(new, old));
+    vectors[out].blend(new, mask);
 }
 
 // 1 where the bits of a vector are not 0, else 0, in a vector of bools.
@@ -328,8 +325,7 @@ fn truths<const N: usize>(vectors: &mut [Lanes<N>], out: usize, x: usize, mask: 
 {
     mask.told();
     let truths = vectors[x].row().flags();
-    let old: Simd<u8, N> = vectors[out].words_as();
-    vectors[out].take(mask.merge(Simd::from_array(truths), old));
+    vectors[out].blend(Simd::from_array(truths), mask);
 }
 
 // The conversion to a type that is not bool, where the width of its words is known.
@@ -373,8 +369,7 @@ fn convert<const N: usize, V: Words<N>, W: Words<N>>(
     let from = vectors[x].elem();
     let x: V = vectors[x].words_as();
     let new: W = masked::convert(from, to, x);
-    let old: W = vectors[out].words_as();
-    vectors[out].take(mask.merge(new, old));
+    vectors[out].blend(new, mask);
 }
 
 // The choice between two vectors where the width of the words is known.
@@ -401,8 +396,8 @@ fn select<const N: usize, V: Words<N>>(
     let test = vectors[test].row().bytes();
     let x: V = vectors[x].words_as();
     let y: V = vectors[y].words_as();
-    let old: V = vectors[out].words_as();
-    vectors[out].take(masked::select(&test, x, y, mask, old));
+    let new = x.over(&test, y);
+    vectors[out].blend(new, mask);
 }
 
 // The lanes of another vector where the width of the words is known.
@@ -421,6 +416,5 @@ fn copy<const N: usize, V: Words<N>>(
 {
     mask.told();
     let x: V = vectors[x].words_as();
-    let old: V = vectors[out].words_as();
-    vectors[out].take(mask.merge(x, old));
+    vectors[out].blend(x, mask);
 }

@@ -126,7 +126,9 @@ impl<const N: usize> Lanes<N> {
         ensures { self.new ≡ written mask.now (map (unary_bits op self.old.elem) x.now.bits) self.old }
     {
         mask.told();
-        self.row.unary(op, self.elem, &x.row, mask);
+        let mut vectors = [*self, *x];
+        Self::unary_at(&mut vectors, 0, op, 1, mask);
+        *self = vectors[0];
     }
 
     /// The operator on two vectors.
@@ -142,10 +144,9 @@ impl<const N: usize> Lanes<N> {
         ensures same { IfErr result (λ _. self.new ≡ self.old) }
     {
         mask.told();
-        if op.divides() {
-            return self.divide(op, x, y, mask);
-        }
-        self.row.binary(op, self.elem, &x.row, &y.row, mask);
+        let mut vectors = [*self, *x, *y];
+        Self::binary_at(&mut vectors, 0, op, 1, 2, mask)?;
+        *self = vectors[0];
         Ok(())
     }
 
@@ -156,8 +157,10 @@ impl<const N: usize> Lanes<N> {
         ensures { self.new ≡ written mask.now (zip2 (compare_bits compare x.now.elem) x.now.bits y.now.bits) self.old }
     {
         mask.told();
-        let holds = x.row.compared(compare, x.elem, &y.row);
-        self.row.keep_bytes(&holds, mask);
+        x.told();
+        y.told();
+        let holds = x.compared(compare, y);
+        self.blend(Simd::from_array(holds), mask);
     }
 
     /// The values of a vector of any element type, converted to this one's.
@@ -165,13 +168,9 @@ impl<const N: usize> Lanes<N> {
         ensures { self.new ≡ written mask.now (map (λ b. convert_bits self.old.elem (number x.now.elem b)) x.now.bits) self.old }
     {
         mask.told();
-        match self.elem {
-            Elem::Bool => {
-                let truths = x.row.flags();
-                self.row.keep_bytes(&truths, mask);
-            }
-            _ => self.row.convert(x.elem, self.elem, &x.row, mask),
-        }
+        let mut vectors = [*self, *x];
+        Self::convert_at(&mut vectors, 0, 1, mask);
+        *self = vectors[0];
     }
 
     /// The lanes of `x` where a vector of bools is true, and of `y` where it is false.
@@ -182,8 +181,9 @@ impl<const N: usize> Lanes<N> {
         ensures { self.new ≡ written mask.now (sel_l (map is_on test.now.bits) x.now.bits y.now.bits) self.old }
     {
         mask.told();
-        let test = test.row.bytes();
-        self.row.select(&test, &x.row, &y.row, mask);
+        let mut vectors = [*self, *test, *x, *y];
+        Self::select_at(&mut vectors, 0, 1, 2, 3, mask);
+        *self = vectors[0];
     }
 
     /// The lanes of another vector.
@@ -191,8 +191,12 @@ impl<const N: usize> Lanes<N> {
         requires { x.now.elem ≡ self.old.elem }
         ensures { self.new ≡ written mask.now x.now.bits self.old }
     {
-        mask.told();
-        self.row.copy(&x.row, mask);
+        match self.row() {
+            Row::Bits8(_) => self.copied::<Simd<u8, N>>(x, mask),
+            Row::Bits16(_) => self.copied::<Simd<u16, N>>(x, mask),
+            Row::Bits32(_) => self.copied::<Simd<u32, N>>(x, mask),
+            Row::Bits64(_) => self.copied::<Simd<u64, N>>(x, mask),
+        }
     }
 
     /// One value.
@@ -200,8 +204,12 @@ impl<const N: usize> Lanes<N> {
         requires { bits < 2 ^ width self.old.elem }
         ensures { self.new ≡ written mask.now (replicate N bits) self.old }
     {
-        mask.told();
-        self.row.splat(bits, mask);
+        match self.row() {
+            Row::Bits8(_) => self.filled::<Simd<u8, N>>(bits, mask),
+            Row::Bits16(_) => self.filled::<Simd<u16, N>>(bits, mask),
+            Row::Bits32(_) => self.filled::<Simd<u32, N>>(bits, mask),
+            Row::Bits64(_) => self.filled::<Simd<u64, N>>(bits, mask),
+        }
     }
 
     /// The bits of all lanes.
@@ -255,30 +263,12 @@ impl<const N: usize> Lanes<N> {
     {
         mask.told();
         let numbers = kernels::numbers().to_array();
-        self.row.keep(&numbers, mask);
+        let zeros: Simd<u32, N> = Simd::splat(0);
+        self.blend(zeros.cut(&numbers), mask);
     }
 }
 
 impl<const N: usize> Lanes<N> {
-    // The division of two vectors, apart from the other operators, so that these need not save the registers that it takes.
-    #[inline(never)]
-    fn divide(&mut self, op: BinOp, x: &Self, y: &Self, mask: &LaneMask<N>) -> Result<(), usize>
-        requires division { divides op ≡ true }
-        requires x_elem { x.now.elem ≡ self.old.elem }
-        requires y_elem { y.now.elem ≡ self.old.elem }
-        ensures divided { IfOk result (λ _. first_zero op mask.now y.now.bits ≡ None) }
-        ensures value { IfOk result (λ _. self.new ≡ written mask.now (zip2 (op_bits op self.old.elem) x.now.bits y.now.bits) self.old) }
-        ensures lowest { IfErr result (λ lane. first_zero op mask.now y.now.bits ≡ Some lane) }
-        ensures same { IfErr result (λ _. self.new ≡ self.old) }
-    {
-        mask.told();
-        if let Some(lane) = y.row.fault(op, mask) {
-            return Err(lane);
-        }
-        self.row.divide(op, self.elem, &x.row, &y.row, mask);
-        Ok(())
-    }
-
     // The words.
     #[inline(always)]
     pub(crate) fn row(&self) -> &Row<N>
@@ -306,6 +296,65 @@ impl<const N: usize> Lanes<N> {
         ensures { self.new ≡ record { elem = self.old.elem; bits = V.words new } }
     {
         new.put(&mut self.row);
+    }
+
+    // New words in the lanes of a mask. The old ones are read last: read before a test of the element type they would wait on the
+    // stack for its end.
+    #[inline(always)]
+    pub(crate) fn blend<V: Words<N>>(&mut self, new: V, mask: &LaneMask<N>)
+        requires { IsRow N V.width self.old.elem (V.words new) }
+        ensures { self.new ≡ written mask.now (V.words new) self.old }
+    {
+        mask.told();
+        let old: V = self.words_as();
+        self.take(mask.merge(new, old));
+    }
+
+    // The lanes of another vector, where the width of the words is known.
+    #[inline(always)]
+    fn copied<V: Words<N>>(&mut self, x: &Self, mask: &LaneMask<N>)
+        requires wide { V.width ≡ cell_width self.old.elem }
+        requires elem { x.now.elem ≡ self.old.elem }
+        ensures { self.new ≡ written mask.now x.now.bits self.old }
+    {
+        let new: V = x.words_as();
+        self.blend(new, mask);
+    }
+
+    // One value, where the width of the words is known.
+    #[inline(always)]
+    fn filled<V: Words<N>>(&mut self, bits: u64, mask: &LaneMask<N>)
+        requires wide { V.width ≡ cell_width self.old.elem }
+        requires fits { bits < 2 ^ width self.old.elem }
+        ensures { self.new ≡ written mask.now (replicate N bits) self.old }
+    {
+        let new: V = V::all(bits);
+        self.blend(new, mask);
+    }
+
+    // 1 in the lanes where the comparison holds, and 0 in the others.
+    pub(crate) fn compared(&self, compare: Compare, y: &Self) -> [u8; N]
+        requires { y.now.elem ≡ self.now.elem }
+        ensures { result ≡ zip2 (compare_bits compare self.now.elem) self.now.bits y.now.bits }
+    {
+        match self.row() {
+            Row::Bits8(_) => self.compared_as::<Simd<u8, N>>(compare, y),
+            Row::Bits16(_) => self.compared_as::<Simd<u16, N>>(compare, y),
+            Row::Bits32(_) => self.compared_as::<Simd<u32, N>>(compare, y),
+            Row::Bits64(_) => self.compared_as::<Simd<u64, N>>(compare, y),
+        }
+    }
+
+    // The same where the width of the words is known.
+    #[inline(always)]
+    fn compared_as<V: Words<N>>(&self, compare: Compare, y: &Self) -> [u8; N]
+        requires wide { V.width ≡ cell_width self.now.elem }
+        requires elem { y.now.elem ≡ self.now.elem }
+        ensures { result ≡ zip2 (compare_bits compare self.now.elem) self.now.bits y.now.bits }
+    {
+        let x: V = self.words_as();
+        let y: V = y.words_as();
+        kernels::compare(compare, self.elem, x, y)
     }
 
     // The lanes of the mask in which a vector of bools is true.

@@ -58,35 +58,6 @@ fn safe_divisors<const N: usize, V: Words<N>>(op: BinOp, divisors: V, mask: &Lan
     }
 }
 
-// The words of x where a test's byte is not 0, and of y where it is.
-pub(crate) fn select<const N: usize, V: Words<N>>(
-    test: &[u8; N],
-    x: V,
-    y: V,
-    mask: &LaneMask<N>,
-    old: V,
-) -> V
-    ensures { V.words result ≡ sel_l mask.now (sel_l (map is_on test.now) (V.words x) (V.words y)) (V.words old) }
-{
-    mask.merge(x.over(test, y), old)
-}
-
-// One word.
-pub(crate) fn splat<const N: usize, V: Words<N>>(word: u64, mask: &LaneMask<N>, old: V) -> V
-    requires { word < 2 ^ V.width }
-    ensures { V.words result ≡ sel_l mask.now (replicate N word) (V.words old) }
-{
-    mask.merge(V::all(word), old)
-}
-
-// Words of 64 bits, which fit.
-pub(crate) fn keep<const N: usize, V: Words<N>>(wide: &[u64; N], mask: &LaneMask<N>, old: V) -> V
-    requires { (k : ℕ) → slice_index wide.now k < 2 ^ V.width }
-    ensures { V.words result ≡ sel_l mask.now wide.now (V.words old) }
-{
-    mask.merge(old.cut(wide), old)
-}
-
 // The numbers of one element type as values of another that is not bool. Through 64 bits, of which the compiler leaves no more than
 // the wider of the two takes.
 pub(crate) fn convert<const N: usize, V: Words<N>, W: Words<N>>(from: Elem, to: Elem, x: V) -> W

@@ -1,24 +1,15 @@
-use Rattle.std.proofs.Common.{sym, ap, ◌∙◌, rules, List, ℕ}
-use Rattle.std.specs.Simd.Lanes.{zip2, sel_l}
-use Rattle.isp_base.specs.Values.{op_bits}
-use Rattle.isp_lanes.proofs.ListedRows.{elem_at, row_under}
+use Rattle.std.proofs.Common.{sym, ap, ◌∙◌, rules}
+use Rattle.isp_base.specs.Cells.{cell_width}
+use Rattle.isp_lanes.proofs.ListedRows.{elem_at, row_as}
 use Rattle.isp_lanes.proofs.Rows.{length_zip2}
-use Rattle.isp_lanes.proofs.Fits.{op_fits, fits_as}
+use Rattle.isp_lanes.proofs.Fits.{op_fits}
 use Rattle.isp_lanes.proofs.beside.zip.Goals as goal
 
-pub take-requires : goal.take-requires
-take-requires g c =
+pub blend-requires : goal.blend-requires
+blend-requires g c =
     let n = g.row.N in
-    let out = c.args.out in
-    let vs = c.args.vectors.now in
     let e = c.elem-elem.result in
     let xs = g.V.Words.words c.words_as-x.result in
     let ys = g.V.Words.words c.words_as-y.result in
-    let old = g.V.Words.words c.words_as-old.result in
-    let new = zip2 (op_bits g.K.Operator.op e) xs ys in (
-      search rules,
-      row_under n g.V.Words.width _ _ c.args.mask.now new old _ (elem_at vs out _ _ c.requires.out)
-          (c.merge.ensures ∙ ap (λ (us : List ℕ). sel_l c.args.mask.now us old) c.on-new.ensures) c.told.ensures.long
-          (length_zip2 _ xs ys n c.words_as-x.ensures.row.long c.words_as-y.ensures.row.long)
-          (fits_as (elem_at vs out _ _ c.requires.out ∙ sym c.elem-elem.ensures) (λ _. new) (op_fits g.K.Operator.op e xs ys)) c.words_as-old.ensures.row,
-    )
+    let same = c.elem-elem.ensures ∙ sym (elem_at c.args.vectors.now c.args.out _ _ c.requires.out) in
+    (search rules, (search rules, row_as n g.V.Words.width same c.on-new.ensures (c.requires.wide ∙ ap cell_width (elem_at c.args.vectors.now c.args.out _ _ c.requires.out)) (length_zip2 _ xs ys n c.words_as-x.ensures.row.long c.words_as-y.ensures.row.long) (op_fits g.K.Operator.op e xs ys)))
