@@ -1,12 +1,12 @@
 //! Sums, differences and products, cut to the width.
 ghost use Rattle.std.specs.Prelude.{◌≡◌, ℕ, ◌<◌, ◌-◌, ◌^◌, bit_and, length, map, slice_index};
-ghost use Rattle.std.specs.Simd.Lanes.{zip2};
-ghost use Rattle.isp_base.specs.Values.{op_bits, width};
+ghost use Rattle.isp_base.specs.declared.operators.BinOp.{BinOp};
+ghost use Rattle.isp_base.specs.Values.{width};
 ghost use Rattle.isp_base.specs.Cells.{cell_width};
-ghost use Rattle.isp_lanes.specs.Held.{IsRow};
 
+use super::operators::Operator;
 use crate::words::Words;
-use isp_base::{BinOp, Elem};
+use isp_base::Elem;
 
 // The low bits, as many as the type has. Of words that it fills nothing is cut.
 pub(super) fn low<const N: usize, V: Words<N>>(elem: Elem, x: V) -> V
@@ -21,26 +21,32 @@ pub(super) fn low<const N: usize, V: Words<N>>(elem: Elem, x: V) -> V
     }
 }
 
-pub(super) fn add<const N: usize, V: Words<N>>(elem: Elem, x: V, y: V) -> V
-    requires x_row { IsRow N V.width elem (V.words x) }
-    requires y_row { IsRow N V.width elem (V.words y) }
-    ensures { V.words result ≡ zip2 (op_bits BinOp.Add elem) (V.words x) (V.words y) }
-{
-    low(elem, x.plus(y))
+pub(crate) struct Add;
+
+impl<const N: usize> Operator<N> for Add {
+    ghost op = { BinOp.Add };
+
+    fn on<V: Words<N>>(elem: Elem, x: V, y: V) -> V {
+        low(elem, x.plus(y))
+    }
 }
 
-pub(super) fn sub<const N: usize, V: Words<N>>(elem: Elem, x: V, y: V) -> V
-    requires x_row { IsRow N V.width elem (V.words x) }
-    requires y_row { IsRow N V.width elem (V.words y) }
-    ensures { V.words result ≡ zip2 (op_bits BinOp.Sub elem) (V.words x) (V.words y) }
-{
-    low(elem, x.minus(y))
+pub(crate) struct Sub;
+
+impl<const N: usize> Operator<N> for Sub {
+    ghost op = { BinOp.Sub };
+
+    fn on<V: Words<N>>(elem: Elem, x: V, y: V) -> V {
+        low(elem, x.minus(y))
+    }
 }
 
-pub(super) fn mul<const N: usize, V: Words<N>>(elem: Elem, x: V, y: V) -> V
-    requires x_row { IsRow N V.width elem (V.words x) }
-    requires y_row { IsRow N V.width elem (V.words y) }
-    ensures { V.words result ≡ zip2 (op_bits BinOp.Mul elem) (V.words x) (V.words y) }
-{
-    low(elem, x.times(y))
+pub(crate) struct Mul;
+
+impl<const N: usize> Operator<N> for Mul {
+    ghost op = { BinOp.Mul };
+
+    fn on<V: Words<N>>(elem: Elem, x: V, y: V) -> V {
+        low(elem, x.times(y))
+    }
 }

@@ -7,7 +7,10 @@ ghost use Rattle.isp_base.specs.Unary.{unary_bits};
 ghost use Rattle.isp_base.specs.Values.{op_bits};
 ghost use Rattle.isp_lanes.specs.Held.{IsRow};
 
-use super::{arithmetic, order, shifts, signs};
+pub(crate) use super::arithmetic::{Add, Mul, Sub};
+pub(crate) use super::order::{Max, Min};
+pub(crate) use super::shifts::{Shl, Shr};
+use super::{arithmetic, signs};
 use crate::words::Words;
 use isp_base::Elem;
 
@@ -20,36 +23,6 @@ pub(crate) trait Operator<const N: usize> {
         requires x_row { IsRow N V.width elem (V.words x) }
         requires y_row { IsRow N V.width elem (V.words y) }
         ensures { V.words result ≡ zip2 (op_bits op elem) (V.words x) (V.words y) };
-}
-
-pub(crate) struct Add;
-
-impl<const N: usize> Operator<N> for Add {
-    ghost op = { BinOp.Add };
-
-    fn on<V: Words<N>>(elem: Elem, x: V, y: V) -> V {
-        arithmetic::add(elem, x, y)
-    }
-}
-
-pub(crate) struct Sub;
-
-impl<const N: usize> Operator<N> for Sub {
-    ghost op = { BinOp.Sub };
-
-    fn on<V: Words<N>>(elem: Elem, x: V, y: V) -> V {
-        arithmetic::sub(elem, x, y)
-    }
-}
-
-pub(crate) struct Mul;
-
-impl<const N: usize> Operator<N> for Mul {
-    ghost op = { BinOp.Mul };
-
-    fn on<V: Words<N>>(elem: Elem, x: V, y: V) -> V {
-        arithmetic::mul(elem, x, y)
-    }
 }
 
 pub(crate) struct And;
@@ -79,46 +52,6 @@ impl<const N: usize> Operator<N> for Xor {
 
     fn on<V: Words<N>>(_elem: Elem, x: V, y: V) -> V {
         x.xor(y)
-    }
-}
-
-pub(crate) struct Shl;
-
-impl<const N: usize> Operator<N> for Shl {
-    ghost op = { BinOp.Shl };
-
-    fn on<V: Words<N>>(elem: Elem, x: V, y: V) -> V {
-        shifts::shl(elem, x, y)
-    }
-}
-
-pub(crate) struct Shr;
-
-impl<const N: usize> Operator<N> for Shr {
-    ghost op = { BinOp.Shr };
-
-    fn on<V: Words<N>>(elem: Elem, x: V, y: V) -> V {
-        shifts::shr(elem, x, y)
-    }
-}
-
-pub(crate) struct Min;
-
-impl<const N: usize> Operator<N> for Min {
-    ghost op = { BinOp.Min };
-
-    fn on<V: Words<N>>(elem: Elem, x: V, y: V) -> V {
-        order::min(elem, x, y)
-    }
-}
-
-pub(crate) struct Max;
-
-impl<const N: usize> Operator<N> for Max {
-    ghost op = { BinOp.Max };
-
-    fn on<V: Words<N>>(elem: Elem, x: V, y: V) -> V {
-        order::max(elem, x, y)
     }
 }
 

@@ -2,13 +2,15 @@
 //! but the result lives from one branch on.
 ghost use Rattle.std.specs.Prelude.{◌≡◌, ◌-◌, ◌^◌, cond, nat_lt, true, false};
 ghost use Rattle.std.specs.Simd.Lanes.{zip2};
-ghost use Rattle.isp_base.specs.Values.{width, greatest, number, op_bits, compare_to};
+ghost use Rattle.isp_base.specs.declared.operators.BinOp.{BinOp};
+ghost use Rattle.isp_base.specs.Values.{width, greatest, number, compare_to};
 ghost use Rattle.isp_base.specs.Words.{turned};
 ghost use Rattle.isp_lanes.specs.Held.{IsRow};
 
+use super::operators::Operator;
 use super::signs::is_signed;
 use crate::words::Words;
-use isp_base::{BinOp, Compare, Elem};
+use isp_base::{Compare, Elem};
 
 // Whether x is less than y, both of a signed type, whose words are in order once each is moved by half of their range.
 fn less_signed<const N: usize, V: Words<N>>(elem: Elem, x: V, y: V) -> V
@@ -43,27 +45,31 @@ fn less<const N: usize, V: Words<N>>(elem: Elem, x: V, y: V) -> V
     }
 }
 
-pub(super) fn min<const N: usize, V: Words<N>>(elem: Elem, x: V, y: V) -> V
-    requires x_row { IsRow N V.width elem (V.words x) }
-    requires y_row { IsRow N V.width elem (V.words y) }
-    ensures { V.words result ≡ zip2 (op_bits BinOp.Min elem) (V.words x) (V.words y) }
-{
-    if is_signed(elem) {
-        less_signed(elem, y, x).choose(y, x)
-    } else {
-        less_unsigned(elem, y, x).choose(y, x)
+pub(crate) struct Min;
+
+impl<const N: usize> Operator<N> for Min {
+    ghost op = { BinOp.Min };
+
+    fn on<V: Words<N>>(elem: Elem, x: V, y: V) -> V {
+        if is_signed(elem) {
+            less_signed(elem, y, x).choose(y, x)
+        } else {
+            less_unsigned(elem, y, x).choose(y, x)
+        }
     }
 }
 
-pub(super) fn max<const N: usize, V: Words<N>>(elem: Elem, x: V, y: V) -> V
-    requires x_row { IsRow N V.width elem (V.words x) }
-    requires y_row { IsRow N V.width elem (V.words y) }
-    ensures { V.words result ≡ zip2 (op_bits BinOp.Max elem) (V.words x) (V.words y) }
-{
-    if is_signed(elem) {
-        less_signed(elem, y, x).choose(x, y)
-    } else {
-        less_unsigned(elem, y, x).choose(x, y)
+pub(crate) struct Max;
+
+impl<const N: usize> Operator<N> for Max {
+    ghost op = { BinOp.Max };
+
+    fn on<V: Words<N>>(elem: Elem, x: V, y: V) -> V {
+        if is_signed(elem) {
+            less_signed(elem, y, x).choose(x, y)
+        } else {
+            less_unsigned(elem, y, x).choose(x, y)
+        }
     }
 }
 

@@ -1,14 +1,14 @@
 //! Shifts, whose amount is taken modulo the width.
 ghost use Rattle.std.specs.Prelude.{◌≡◌, ◌-◌, bit_and, map, length};
-ghost use Rattle.std.specs.Simd.Lanes.{zip2};
-ghost use Rattle.isp_base.specs.Values.{op_bits, width};
+ghost use Rattle.isp_base.specs.declared.operators.BinOp.{BinOp};
+ghost use Rattle.isp_base.specs.Values.{width};
 ghost use Rattle.isp_base.specs.Cells.{cell_width};
-ghost use Rattle.isp_lanes.specs.Held.{IsRow};
 
 use super::arithmetic::low;
+use super::operators::Operator;
 use super::signs::{is_signed, signs};
 use crate::words::Words;
-use isp_base::{BinOp, Elem};
+use isp_base::Elem;
 
 // The amounts modulo the width of the type. Where the type fills its words that is the words' own width, which is known when this
 // is compiled.
@@ -23,27 +23,31 @@ fn amounts<const N: usize, V: Words<N>>(elem: Elem, y: V) -> V
     }
 }
 
-pub(super) fn shl<const N: usize, V: Words<N>>(elem: Elem, x: V, y: V) -> V
-    requires x_row { IsRow N V.width elem (V.words x) }
-    requires y_row { IsRow N V.width elem (V.words y) }
-    ensures { V.words result ≡ zip2 (op_bits BinOp.Shl elem) (V.words x) (V.words y) }
-{
-    let by = amounts(elem, y);
-    low(elem, x.left(by))
+pub(crate) struct Shl;
+
+impl<const N: usize> Operator<N> for Shl {
+    ghost op = { BinOp.Shl };
+
+    fn on<V: Words<N>>(elem: Elem, x: V, y: V) -> V {
+        let by = amounts(elem, y);
+        low(elem, x.left(by))
+    }
 }
 
 // The bits of a negative number are turned before and after, so that ones come in from above.
-pub(super) fn shr<const N: usize, V: Words<N>>(elem: Elem, x: V, y: V) -> V
-    requires x_row { IsRow N V.width elem (V.words x) }
-    requires y_row { IsRow N V.width elem (V.words y) }
-    ensures { V.words result ≡ zip2 (op_bits BinOp.Shr elem) (V.words x) (V.words y) }
-{
-    let by = amounts(elem, y);
-    if is_signed(elem) {
-        let negative = signs(elem, x);
-        let shifted = x.xor(negative).right(by);
-        shifted.xor(negative)
-    } else {
-        x.right(by)
+pub(crate) struct Shr;
+
+impl<const N: usize> Operator<N> for Shr {
+    ghost op = { BinOp.Shr };
+
+    fn on<V: Words<N>>(elem: Elem, x: V, y: V) -> V {
+        let by = amounts(elem, y);
+        if is_signed(elem) {
+            let negative = signs(elem, x);
+            let shifted = x.xor(negative).right(by);
+            shifted.xor(negative)
+        } else {
+            x.right(by)
+        }
     }
 }

@@ -3,7 +3,7 @@ use Rattle.std.specs.Simd.Lanes.{Each2}
 use Rattle.isp_base.specs.Values.{width, greatest}
 use Rattle.isp_lanes.proofs.CellWords as cell
 use Rattle.isp_lanes.proofs.Rows.{row_left, row_op2, row_same, row_map_right, row_map_left, each_below}
-use Rattle.isp_lanes.proofs.kernels.shifts.shr.Goals as goal
+use Rattle.isp_lanes.proofs.kernels.shifts.ShrOperator.on.Goals as goal
 
 pub right-shifted-requires : goal.right-shifted-requires
 right-shifted-requires g c =

@@ -5,7 +5,7 @@ use Rattle.isp_lanes.proofs.CellWords as cell
 use Rattle.std.proofs.lemmas.List.{length-map}
 use Rattle.isp_lanes.proofs.Fits.{zip2_fits}
 use Rattle.isp_lanes.proofs.Rows.{length_zip2, row_op1, row_left, row_op2, row_same, row_map_right, each_below}
-use Rattle.isp_lanes.proofs.kernels.shifts.shl.Goals as goal
+use Rattle.isp_lanes.proofs.kernels.shifts.ShlOperator.on.Goals as goal
 
 pub left-requires : goal.left-requires
 left-requires g c =

@@ -3,7 +3,7 @@ use Rattle.isp_base.specs.Values.{width}
 use Rattle.isp_lanes.proofs.CellWords.{lane_mul}
 use Rattle.isp_lanes.proofs.Fits.{zip2_fits}
 use Rattle.isp_lanes.proofs.Rows.{row_op1, row_same, length_zip2}
-use Rattle.isp_lanes.proofs.kernels.arithmetic.mul.Goals as goal
+use Rattle.isp_lanes.proofs.kernels.arithmetic.MulOperator.on.Goals as goal
 
 pub low-requires-clause-long : goal.low-requires-clause-long
 low-requires-clause-long g c = ap length c.times.ensures ∙ length_zip2 _ (g.V.Words.words c.args.x) (g.V.Words.words c.args.y) g.row.N c.requires.x_row.long c.requires.y_row.long
