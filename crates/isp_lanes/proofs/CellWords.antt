@@ -37,17 +37,6 @@ room U32 = lit≤ tt
 room I64 = lit≤ tt
 room U64 = lit≤ tt
 
-bits_room : (t : Elem) → (0 < width t) × (width t ≤ cell_width t)
-bits_room Truth = (lit≤ tt, lit≤ tt)
-bits_room I8 = (lit≤ tt, lit≤ tt)
-bits_room U8 = (lit≤ tt, lit≤ tt)
-bits_room I16 = (lit≤ tt, lit≤ tt)
-bits_room U16 = (lit≤ tt, lit≤ tt)
-bits_room I32 = (lit≤ tt, lit≤ tt)
-bits_room U32 = (lit≤ tt, lit≤ tt)
-bits_room I64 = (lit≤ tt, lit≤ tt)
-bits_room U64 = (lit≤ tt, lit≤ tt)
-
 pub some_bits : (t : Elem) → 1 < 2 ^ width t
 some_bits Truth = lit≤ tt
 some_bits I8 = lit≤ tt
@@ -58,17 +47,6 @@ some_bits I32 = lit≤ tt
 some_bits U32 = lit≤ tt
 some_bits I64 = lit≤ tt
 some_bits U64 = lit≤ tt
-
-width_lt : (t : Elem) → width t < 2 ^ cell_width t
-width_lt Truth = lit≤ tt
-width_lt I8 = lit≤ tt
-width_lt U8 = lit≤ tt
-width_lt I16 = lit≤ tt
-width_lt U16 = lit≤ tt
-width_lt I32 = lit≤ tt
-width_lt U32 = lit≤ tt
-width_lt I64 = lit≤ tt
-width_lt U64 = lit≤ tt
 
 multiple : (t : Elem) → (d : ℕ) × (2 ^ cell_width t ≡ d * 2 ^ width t + 2 ^ width t)
 multiple Truth = (127, refl)
@@ -133,10 +111,6 @@ pub on_truth : (w : ℕ) → 1 < 2 ^ w → (b : Bool) → is_on (cond b (2 ^ w -
 on_truth w h true = lt-ltb 0 (2 ^ w - 1) (omega arith)
 on_truth w h false = refl
 
-pub on_inverse : (w : ℕ) → 1 < 2 ^ w → (b : Bool) → is_on (2 ^ w - 1 - cond b (2 ^ w - 1) 0) ≡ not b
-on_inverse w h true = let none : 2 ^ w - 1 - (2 ^ w - 1) ≡ 0 = omega arith in ap is_on none
-on_inverse w h false = lt-ltb 0 (2 ^ w - 1 - 0) (omega arith)
-
 pub inverse_truth : (w : ℕ) (b : Bool) → 2 ^ w - 1 - cond b (2 ^ w - 1) 0 ≡ cond (not b) (2 ^ w - 1) 0
 inverse_truth w true = omega arith
 inverse_truth w false = omega arith
@@ -149,13 +123,6 @@ module _ (w : ℕ) (t : Elem) (e : w ≡ cell_width t) where
 
   pub w_some : 1 < 2 ^ w
   w_some = omega (arith, w_room, some_bits t)
-
-  -- the mask, the bound of an amount, and 0 and 1 are not cut
-  pub mask_in : (2 ^ width t - 1) % 2 ^ w ≡ 2 ^ width t - 1
-  mask_in = mod-eq_of_lt (omega (arith, w_room, some_bits t))
-
-  pub amount_mask_in : (width t - 1) % 2 ^ w ≡ width t - 1
-  amount_mask_in = mod-eq_of_lt (subst (λ n. width t - 1 < 2 ^ n) (sym e) (omega (arith, width_lt t)))
 
   pub amount_lt_w : (y : ℕ) → bit_and y (width t - 1) < w
   amount_lt_w y = subst (λ n. bit_and y (width t - 1) < n) (sym e) (amount_in t y)
@@ -381,9 +348,6 @@ module _ (t : Elem) (x : ℕ) (p : x < 2 ^ width t) where
 
   pub unary_absolute : magnitude (width t) (greatest t) x ≡ unary_bits Absolute t x
   unary_absolute = sym (plain Absolute ∙ absolute_is t x p)
-
-  pub unary_not : cond (x == 0) 1 0 ≡ unary_bits Not t x
-  unary_not = sym (plain Not ∙ not_is t x p)
 
 -- ---- conversion, in words of 64 bits
 

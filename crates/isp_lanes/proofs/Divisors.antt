@@ -83,11 +83,6 @@ length_sel n (b ∷ bs) (u ∷ us) [] p q r = r
 length_sel zero (b ∷ bs) (u ∷ us) (v ∷ vs) p q r = absurd (omega arith)
 length_sel (suc n) (b ∷ bs) (u ∷ us) (v ∷ vs) p q r = let rest = length_sel n bs us vs (omega arith) (omega arith) (omega arith) in omega arith
 
-pub replicate_fits : (m n x : ℕ) → x < m → (k : ℕ) → get_or (replicate n x) k 0 < m
-replicate_fits m zero x h k = omega arith
-replicate_fits m (suc n) x h zero = h
-replicate_fits m (suc n) x h (suc k) = replicate_fits m n x h k
-
 pub stand_in_length : (op : BinOp) (n : ℕ) (ms : List Bool) (ys : List ℕ) → length ms ≡ n → length ys ≡ n → length (stand_in op ms ys) ≡ n
 stand_in_length op n ms ys p q = by (divides op)
   where

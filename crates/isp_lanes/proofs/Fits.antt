@@ -3,16 +3,15 @@ use Rattle.std.proofs.Common.{◌≡◌, sym, ℕ, zero, suc, ◌+◌, ◌^◌, 
 use Rattle.std.specs.List.{range_with_len}
 use Rattle.std.specs.Simd.Lanes.{zip2, sel_l}
 use Rattle.isp_base.specs.declared.types.Elem.{Elem}
-use Rattle.isp_base.specs.declared.types.Elem.TheVariants.{Bool as Truth, I8, U8, I16, U16, I32, U32, I64, U64}
+use Rattle.isp_base.specs.declared.types.Elem.TheVariants.{Bool as Truth, I32}
 use Rattle.isp_base.specs.declared.operators.BinOp.{BinOp}
 use Rattle.isp_base.specs.declared.operators.Compare.{Compare}
 use Rattle.isp_base.specs.Values.{width, op_bits, compare_bits, compare_to, number, wrap}
 use Rattle.isp_base.specs.declared.operators.UnaryOp.{UnaryOp}
 use Rattle.isp_base.specs.Unary.{unary_bits}
 use Rattle.isp_base.specs.Rows.{Fit}
-use Rattle.isp_base.specs.Cells.{cell_width}
 use Rattle.isp_lanes.specs.Lanes.{is_on}
-use Rattle.isp_lanes.proofs.CellWords.{w_room, some_bits}
+use Rattle.isp_lanes.proofs.CellWords.{some_bits}
 use Rattle.isp_lanes.proofs.Divisors.{length_sel, sel_fits}
 use Rattle.isp_base.proofs.Wraps.{wrap_to-lt}
 
@@ -62,7 +61,3 @@ fits_as {e = e} {t = t} {us = us} {zs = zs} p q f = subst (λ (v : Elem). Fit v 
 pub settled : (n : ℕ) (t : Elem) (ms : List Bool) (us vs zs : List ℕ) → zs ≡ sel_l ms us vs → length ms ≡ n → length us ≡ n → length vs ≡ n → Fit t us → Fit t vs → (length zs ≡ n) × Fit t zs
 settled n t ms us vs zs e p q r f g =
     (ap length e ∙ length_sel n ms us vs p q r, λ k. subst (λ (ws : List ℕ). get_or ws k 0 < 2 ^ width t) (sym e) (sel_fits (2 ^ width t) (pow_pos (width t)) ms us vs f g k))
-
--- values fit the words that their type takes
-pub room_of : (w : ℕ) (t : Elem) (xs : List ℕ) → w ≡ cell_width t → Fit t xs → (k : ℕ) → get_or xs k 0 < 2 ^ w
-room_of w t xs e f k = let fits = f k in let room = w_room w t e in omega arith

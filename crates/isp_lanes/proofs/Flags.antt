@@ -1,12 +1,12 @@
 -- Rows of 1 and 0 that tell where a test holds.
-use Rattle.std.proofs.Common.{◌≡◌, refl, sym, ap, ap₂, ◌∙◌, ℕ, ◌-◌, ◌^◌, ◌<◌, Bool, cond, not, nat_lt, leb, ◌==◌, arith, List, [], ◌∷◌, map, length, replicate, w64}
+use Rattle.std.proofs.Common.{◌≡◌, refl, sym, ap, ap₂, ◌∙◌, ℕ, ◌-◌, ◌^◌, ◌<◌, Bool, cond, not, nat_lt, ◌==◌, arith, List, [], ◌∷◌, map, length, replicate, w64}
 use Rattle.std.proofs.lemmas.Bool.Decides.{nat_tests}
 use Rattle.std.proofs.lemmas.Simd.{tops_compared, zip2_splat}
 use Rattle.std.proofs.lemmas.List.{length-replicate}
 use Rattle.std.specs.Simd.Lanes.{zip2, sel_l, top}
 use Rattle.isp_base.specs.declared.types.Elem.{Elem}
 use Rattle.isp_base.specs.declared.operators.Compare.{Compare}
-use Rattle.isp_base.specs.declared.operators.Compare.TheVariants.{Equal, NotEqual, Less, LessOrEqual, Greater, GreaterOrEqual}
+use Rattle.isp_base.specs.declared.operators.Compare.TheVariants.{Equal, NotEqual, Less, Greater}
 use Rattle.isp_base.specs.Values.{width, greatest, number, compare_to, compare_bits}
 use Rattle.isp_base.specs.Words.{turned}
 use Rattle.isp_base.specs.Rows.{Fit}
@@ -48,9 +48,6 @@ compared k t f s e n xs ys us vs u v p q fx fy =
     ∙ flags_of (λ a b. s (f a) (f b)) n xs ys p q
     ∙ row_same (λ a. a < 2 ^ width t) (λ b. b < 2 ^ width t) _ _ (λ a b i j. ap (λ c. cond c 1 0) (e a b i j)) xs ys fx fy
 
-le_is : (a b : ℕ) → leb a b ≡ not (nat_lt b a)
-le_is a b = grind (arith, nat_tests)
-
 module _ (t : Elem) (x y : ℕ) (p : x < 2 ^ width t) (q : y < 2 ^ width t) where
   pub equal_is : (x == y) ≡ compare_to Equal (number t x) (number t y)
   equal_is = sym (same_number t x y p q)
@@ -63,12 +60,6 @@ module _ (t : Elem) (x y : ℕ) (p : x < 2 ^ width t) (q : y < 2 ^ width t) wher
 
   pub greater_is : nat_lt (turned (width t) (greatest t) y) (turned (width t) (greatest t) x) ≡ compare_to Greater (number t x) (number t y)
   greater_is = word_less t y x q p
-
-  pub less_or_equal_is : leb (turned (width t) (greatest t) x) (turned (width t) (greatest t) y) ≡ compare_to LessOrEqual (number t x) (number t y)
-  less_or_equal_is = le_is _ _ ∙ ap not greater_is
-
-  pub greater_or_equal_is : leb (turned (width t) (greatest t) y) (turned (width t) (greatest t) x) ≡ compare_to GreaterOrEqual (number t x) (number t y)
-  greater_or_equal_is = le_is _ _ ∙ ap not less_is
 
 -- a word other than 0
 pub on_is : (a : ℕ) → not (a == 0) ≡ is_on a

@@ -1,5 +1,5 @@
 -- A vector of a list, written under a mask.
-use Rattle.std.proofs.Common.{◌≡◌, refl, sym, ap, ◌∙◌, subst, ℕ, ◌<◌, List, Bool, length, get_or}
+use Rattle.std.proofs.Common.{◌≡◌, refl, ap, ◌∙◌, subst, ℕ, ◌<◌, List, Bool, length, get_or}
 use Rattle.std.proofs.lemmas.List.{get_or_default}
 use Rattle.std.specs.Simd.Lanes.{sel_l}
 use Rattle.isp_base.specs.Rows.{Row, Fit}

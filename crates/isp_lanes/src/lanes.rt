@@ -1,11 +1,11 @@
 //! Vectors of N values of one element type.
-ghost use Rattle.std.specs.Prelude.{◌≡◌, ℕ, ◌^◌, ◌<◌, length, map, replicate, slice_get, slice_set, Some, None, IfOk, IfErr, OnOk, ◌&&◌, ◌++◌, ◌∷◌, [], true};
+ghost use Rattle.std.specs.Prelude.{◌≡◌, ℕ, ◌^◌, ◌<◌, length, map, replicate, slice_get, slice_set, Some, None, IfOk, IfErr, ◌&&◌};
 ghost use Rattle.std.specs.List.{range_with_len};
 ghost use Rattle.std.specs.Simd.Lanes.{zip2, sel_l};
 ghost use Rattle.isp_base.specs.declared.types.Elem.TheVariants.{Bool as Truth, I32, I64};
 ghost use Rattle.isp_base.specs.Maps.{lane_of, on, lowest_failing};
 ghost use Rattle.isp_base.specs.Sets.{flag_of};
-ghost use Rattle.isp_base.specs.Values.{width, divides, op_bits, compare_bits, convert_bits, number};
+ghost use Rattle.isp_base.specs.Values.{width, op_bits, compare_bits, convert_bits, number};
 ghost use Rattle.isp_base.specs.Unary.{unary_bits};
 ghost use Rattle.isp_base.specs.Rows.{Row, Fit};
 ghost use Rattle.isp_lanes.specs.Lanes.{is_on, first_zero, written};
@@ -18,7 +18,6 @@ use crate::row::Row;
 use crate::source::Source;
 use crate::words::Words;
 use isp_base::{BinOp, Compare, Elem, UnaryOp};
-use std::alloc::AllocError;
 use std::marker::Model;
 use std::simd::prelude::*;
 
@@ -59,32 +58,6 @@ impl<const N: usize> Lanes<N> {
             elem,
             row: Row::zero(elem),
         }
-    }
-
-    /// One more vector behind those of a list, zero in each lane. 0 where memory is refused.
-    pub fn push_zero(vectors: &mut Vec<Self>, elem: Elem) -> Result<(), AllocError>
-        ensures { OnOk result (vectors.new.items ≡ vectors.old.items ++ record { elem = elem; bits = replicate N 0 } ∷ []) }
-    {
-        vectors.reserve(1)?;
-        match elem {
-            Elem::Bool | Elem::I8 | Elem::U8 => vectors.push_reserved(Lanes {
-                elem,
-                row: Row::Bits8([0; N]),
-            }),
-            Elem::I16 | Elem::U16 => vectors.push_reserved(Lanes {
-                elem,
-                row: Row::Bits16([0; N]),
-            }),
-            Elem::I32 | Elem::U32 => vectors.push_reserved(Lanes {
-                elem,
-                row: Row::Bits32([0; N]),
-            }),
-            Elem::I64 | Elem::U64 => vectors.push_reserved(Lanes {
-                elem,
-                row: Row::Bits64([0; N]),
-            }),
-        }
-        Ok(())
     }
 
     /// What holds of every vector: it has N lanes, and each fits the element type. Changes nothing.

@@ -1,8 +1,8 @@
 //! The operators on words under a mask: the lanes that are off keep their old words.
-ghost use Rattle.std.specs.Prelude.{◌≡◌, ℕ, ◌<◌, ◌≤◌, ◌^◌, slice_index, length, map, replicate, None, cond, true};
+ghost use Rattle.std.specs.Prelude.{◌≡◌, ◌<◌, ◌≤◌, length, map, replicate, None, cond, true};
 ghost use Rattle.std.specs.Simd.Lanes.{zip2, sel_l};
 ghost use Rattle.isp_base.specs.Values.{divides, number, op_bits, width, wrap};
-ghost use Rattle.isp_lanes.specs.Lanes.{first_zero, is_on};
+ghost use Rattle.isp_lanes.specs.Lanes.{first_zero};
 ghost use Rattle.isp_lanes.specs.Held.{IsRow};
 
 use crate::kernels::{self, is_signed};

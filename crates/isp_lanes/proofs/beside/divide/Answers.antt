@@ -1,5 +1,5 @@
-use Rattle.std.proofs.Common.{sym, ap, ◌∙◌, rules, List, ℕ}
-use Rattle.std.specs.Simd.Lanes.{zip2, sel_l}
+use Rattle.std.proofs.Common.{sym, ◌∙◌, rules}
+use Rattle.std.specs.Simd.Lanes.{zip2}
 use Rattle.isp_base.specs.Values.{op_bits}
 use Rattle.isp_lanes.proofs.ListedRows.{elem_at, row_under}
 use Rattle.isp_lanes.proofs.Rows.{length_zip2}

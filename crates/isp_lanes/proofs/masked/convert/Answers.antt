@@ -1,4 +1,4 @@
-use Rattle.std.proofs.Common.{ap, ◌∙◌, sym, ℕ, ◌<◌, ◌*◌, ◌+◌, ◌-◌, ◌%◌, ◌^◌, arith, List, map, bit_xor}
+use Rattle.std.proofs.Common.{ap, ◌∙◌, sym, ◌<◌, ◌*◌, ◌+◌, ◌-◌, ◌%◌, ◌^◌, arith, map, bit_xor}
 use Rattle.isp_base.specs.Values.{width}
 use Rattle.isp_lanes.proofs.CellWords as cell
 use Rattle.isp_lanes.proofs.Rows.{map_same, map_twice}

@@ -1,6 +1,6 @@
-use Rattle.std.proofs.Common.{◌≡◌, sym, ap, ◌∙◌, subst, List, ℕ, ◌<◌, ◌^◌, length, get_or}
+use Rattle.std.proofs.Common.{sym, ap, ◌∙◌, subst, List, ℕ, ◌<◌, ◌^◌, length, get_or}
 use Rattle.std.specs.Simd.Lanes.{zip2, sel_l}
-use Rattle.isp_base.specs.Values.{width, divides, op_bits}
+use Rattle.isp_base.specs.Values.{width, op_bits}
 use Rattle.isp_lanes.specs.Held.{IsRow}
 use Rattle.isp_lanes.proofs.CellWords.{some_bits}
 use Rattle.isp_lanes.proofs.Divisors.{stand_in_fits, stand_in_nonzero, stand_in_same, stand_in_length}

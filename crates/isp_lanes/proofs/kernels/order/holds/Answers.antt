@@ -3,7 +3,7 @@ use Rattle.std.specs.Simd.Lanes.{zip2}
 use Rattle.isp_base.specs.Values.{width, greatest}
 use Rattle.isp_base.specs.Words.{turned}
 use Rattle.isp_lanes.proofs.CellWords as cell
-use Rattle.isp_lanes.proofs.Rows.{row_op1, row_op2, row_same, row_map_left, row_map_right}
+use Rattle.isp_lanes.proofs.Rows.{row_op1, row_same}
 use Rattle.isp_base.specs.Values.{number, compare_to}
 use Rattle.isp_lanes.proofs.Flags.{zip2_swap, equal_is, not_equal_is, less_is, greater_is}
 use Rattle.isp_lanes.proofs.kernels.order.holds.Goals as goal

@@ -1,4 +1,4 @@
-use Rattle.std.proofs.Common.{◌≡◌, sym, ◌∙◌, ℕ, ◌-◌, ◌^◌, ◌<◌, cond, nat_lt, arith, length}
+use Rattle.std.proofs.Common.{◌≡◌, ◌∙◌, ℕ, ◌-◌, ◌^◌, cond, nat_lt, arith, length}
 use Rattle.isp_base.specs.Values.{width, greatest}
 use Rattle.isp_base.specs.Words.{turned}
 use Rattle.isp_lanes.proofs.CellWords as cell

@@ -1,4 +1,4 @@
-use Rattle.std.proofs.Common.{◌≡◌, refl, sym, ap, ◌∙◌, ℕ, ◌+◌, ◌-◌, ◌%◌, ◌^◌, ◌<◌, bit_and, length, List, get_or, subst, mod-lt, pow_pos}
+use Rattle.std.proofs.Common.{refl, sym, ap, ◌∙◌, ℕ, ◌+◌, ◌-◌, ◌%◌, ◌^◌, ◌<◌, bit_and, length, List, get_or, subst, mod-lt, pow_pos}
 use Rattle.isp_base.specs.Values.{width}
 use native.Mathlib.Nat.{zero-mod}
 use Rattle.std.proofs.lemmas.List.{length-replicate}

@@ -1,4 +1,4 @@
-use Rattle.std.proofs.Common.{◌≡◌, sym, ap, ◌∙◌, ℕ, ◌+◌, ◌-◌, ◌*◌, ◌%◌, ◌^◌, ◌<◌, arith, bit_and, length, List, get_or, subst, mod-lt, pow_pos}
+use Rattle.std.proofs.Common.{sym, ap, ◌∙◌, ℕ, ◌+◌, ◌-◌, ◌%◌, ◌^◌, ◌<◌, bit_and, length, List, get_or, subst, mod-lt, pow_pos}
 use Rattle.isp_base.specs.Values.{width}
 use Rattle.isp_lanes.proofs.CellWords.{lane_sub}
 use Rattle.isp_lanes.proofs.Fits.{zip2_fits}

@@ -1,11 +1,7 @@
-use Rattle.std.proofs.Common.{refl, sym, ap, ◌∙◌, ◌-◌, ◌%◌, ◌^◌, ◌<◌, ◌==◌, cond, bit_and, map, ℕ, arith, length, List, get_or, subst, pow_pos}
+use Rattle.std.proofs.Common.{◌∙◌, ◌^◌, ◌<◌}
 use Rattle.isp_base.specs.Values.{width}
-use native.Mathlib.Nat.{zero-mod}
 use Rattle.isp_lanes.proofs.CellWords as cell
-use Rattle.std.proofs.lemmas.List.{length-map}
-use Rattle.isp_lanes.proofs.Fits.{map_fits}
-use Rattle.isp_lanes.proofs.Rows.{map_twice, row_left, row_op2, row_splat_as, row_map_left, map_same}
-use Rattle.isp_base.specs.Unary.{unary_bits}
+use Rattle.isp_lanes.proofs.Rows.{map_same}
 use Rattle.isp_lanes.proofs.kernels.operators.NegateUnaryOperator.on.Goals as goal
 
 pub returns : goal.returns
