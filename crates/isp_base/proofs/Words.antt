@@ -1,5 +1,5 @@
 -- What a word of 64 bits computes for an operator, at bits that fit their element type.
-use Rattle.std.proofs.Common.{◌≡◌, refl, sym, ap, ap₂, ◌∙◌, ℕ, ◌+◌, ◌-◌, ◌*◌, ◌/◌, ◌%◌, ◌^◌, ◌<◌, ◌≤◌, Bool, true, false, cond, ℤ, pos, ◌+ℤ◌, ◌-ℤ◌, ◌*ℤ◌, nat_lt, arith, lit≤, mod-eq_of_lt, bit_and, bit_or, bit_xor, int_div, int_rem, div-le_self, ltb-true, int_lt, ◌==◌}
+use Rattle.std.proofs.Common.{◌≡◌, refl, sym, ap, ap₂, ◌∙◌, ℕ, ◌+◌, ◌-◌, ◌*◌, ◌/◌, ◌%◌, ◌^◌, ◌<◌, ◌≤◌, Bool, true, false, cond, ℤ, pos, negsuc, ◌+ℤ◌, ◌-ℤ◌, ◌*ℤ◌, nat_lt, arith, lit≤, mod-eq_of_lt, bit_and, bit_or, bit_xor, int_div, int_rem, div-le_self, ltb-true, int_lt, ◌==◌}
 use Rattle.std.specs.Ordering.{int_eq}
 use Rattle.std.proofs.lemmas.Bool.Decides.{Decides-int_eq, Decides-eqb}
 use Rattle.std.proofs.Math.Pow.{mod-mod-pow}
@@ -14,7 +14,8 @@ use Rattle.isp_base.specs.declared.operators.BinOp.TheVariants.{Add, Sub, Mul, D
 use Rattle.isp_base.specs.Values.{width, greatest, number_to, number, wrap_to, wrap, op_bits, outcome_to, amount}
 use Rattle.isp_base.specs.Words.{turned, magnitude}
 use Rattle.isp_base.proofs.Elems.{width_le, greatest_lt}
-use Rattle.isp_base.proofs.Wraps.{wrap_to-pos, widen_is, add_is, sub_is, mul_is, shl_is, and_is, or_is, xor_is, wrap_number}
+use Rattle.std.proofs.lemmas.Int.{ints}
+use Rattle.isp_base.proofs.Wraps.{wrap_to-pos, wrap_to-same, widen_is, add_is, sub_is, mul_is, shl_is, and_is, or_is, xor_is, wrap_number}
 use Rattle.isp_base.proofs.Signs.{lt_is, min_is, max_is, div_is, rem_is, amount_is, shr_is, differ}
 
 pub not_true : {b : Bool} → (b ≡ true → ⊥) → b ≡ false
@@ -70,6 +71,17 @@ multiple I32 = (2 ^ 32 - 1, refl)
 multiple U32 = (2 ^ 32 - 1, refl)
 multiple I64 = (0, refl)
 multiple U64 = (0, refl)
+
+-- a whole number's bits are the low ones of its residue modulo 2 ^ 64
+pub wrap_cut : (t : Elem) (z : ℤ) → wrap_to 64 z % 2 ^ width t ≡ wrap t z
+wrap_cut t (pos n) = ap (λ x. x % 2 ^ width t) (wrap_to-pos 64 n) ∙ cut t n ∙ sym (wrap_to-pos (width t) n)
+wrap_cut t (negsuc m) =
+    let d = multiple t in
+    let n = (m + 1) * (2 ^ 64 - 1) in
+    let whole = wrap_to-same 64 (negsuc m) (pos n) (m + 1) 0 (omega (arith, ints)) ∙ wrap_to-pos 64 n in
+    let times = ap (λ x. (m + 1) * x) d.1 in
+    let part = wrap_to-same (width t) (negsuc m) (pos n) ((m + 1) * (d.0 + 1)) 0 (omega (arith, ints)) ∙ wrap_to-pos (width t) n in
+    ap (λ x. x % 2 ^ width t) whole ∙ cut t n ∙ sym part
 
 -- x - y in 64 bits, cut
 pub word_minus : (t : Elem) (x y : ℕ) → y ≤ 2 ^ width t → bit_and ((x + (2 ^ 64 - y)) % 2 ^ 64) (2 ^ width t - 1) ≡ (x + (2 ^ width t - y)) % 2 ^ width t

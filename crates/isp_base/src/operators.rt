@@ -82,6 +82,7 @@ pub fn apply(op: BinOp, elem: Elem, x: u64, y: u64) -> Result<u64, DivideByZero>
 }
 
 /// The operator's result on bits that fit their element type, where it does not divide by 0.
+#[inline(always)]
 pub fn apply_nonzero(op: BinOp, elem: Elem, x: u64, y: u64) -> u64
     requires x_fits { x < 2 ^ width elem }
     requires y_fits { y < 2 ^ width elem }

@@ -62,7 +62,7 @@ pub fn low_bits(elem: Elem, bits: u64) -> u64
 pub fn wrap(elem: Elem, value: i128) -> u64
     ensures { result ≡ wrap elem value }
 {
-    value.rem_euclid(low_mask(elem) as i128 + 1) as u64
+    low_bits(elem, value.rem_euclid(u64::MAX as i128 + 1) as u64)
 }
 
 /// The whole number that the low bits of `bits` stand for.
