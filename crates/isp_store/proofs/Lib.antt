@@ -5,3 +5,4 @@ mod Lanes
 mod Own
 mod Picked
 mod Gathered
+mod Apart

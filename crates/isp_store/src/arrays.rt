@@ -203,8 +203,29 @@ impl Arrays {
         ensures lowest { IfErr result (λ t. lowest_failing N (is_outside I64 (size self.now array)) (on (flag_of mask.now) (lane_of (vector vectors.old index).bits)) ≡ Some t.instance) }
         ensures same { IfErr result (λ t. vectors.new ≡ vectors.old) }
     {
-        let places = *vectors[index].wide_words();
-        rows::gather(&self.items, array, &places, mask, &mut vectors[out])
+        // The indices are read where they stand, unless it is their vector that is written.
+        if out < index {
+            let (front, back) = vectors.split_at_mut(index);
+            rows::gather(
+                &self.items,
+                array,
+                back[0].wide_words(),
+                mask,
+                &mut front[out],
+            )
+        } else if index < out {
+            let (front, back) = vectors.split_at_mut(out);
+            rows::gather(
+                &self.items,
+                array,
+                front[index].wide_words(),
+                mask,
+                &mut back[0],
+            )
+        } else {
+            let places = *vectors[index].wide_words();
+            rows::gather(&self.items, array, &places, mask, &mut vectors[out])
+        }
     }
 
     /// Each lane of the mask writes its value at its index. Where two write at one, the higher wins.

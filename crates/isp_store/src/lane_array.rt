@@ -89,8 +89,17 @@ impl<const N: usize> LaneArray<N> {
         ensures lowest { IfErr result (λ t. lowest_failing N (is_outside I64 (size self.now)) (on (flag_of mask.now) (lane_of (vector vectors.old index).bits)) ≡ Some t.instance) }
         ensures same { IfErr result (λ t. vectors.new ≡ vectors.old) }
     {
-        let places = *vectors[index].wide_words();
-        self.gather_from(&places, mask, &mut vectors[out])
+        // The indices are read where they stand, unless it is their vector that is written.
+        if out < index {
+            let (front, back) = vectors.split_at_mut(index);
+            self.gather_from(back[0].wide_words(), mask, &mut front[out])
+        } else if index < out {
+            let (front, back) = vectors.split_at_mut(out);
+            self.gather_from(front[index].wide_words(), mask, &mut back[0])
+        } else {
+            let places = *vectors[index].wide_words();
+            self.gather_from(&places, mask, &mut vectors[out])
+        }
     }
 
     /// Each lane of the mask writes its value into its own array, at its index.
