@@ -19,6 +19,7 @@ use isp_base::{Argument, Elem, low_bits};
 use isp_code::{Class, Register};
 use isp_lanes::{LaneMask, Lanes};
 use std::alloc::{AllocError, Global};
+use std::slice;
 
 // Whether a register has a class.
 fn is_class(x: Register, class: Class) -> bool
@@ -154,7 +155,7 @@ fn push_zero<const N: usize>(
 ) -> Result<(), AllocError>
     ensures { OnOk result (map seen vectors.new.items ≡ map seen vectors.old.items ++ zero_seen elem ∷ []) }
 {
-    vectors.push(*zeros.of(elem))?;
+    vectors.extend_from_slice(slice::from_ref(zeros.of(elem)))?;
     Ok(())
 }
 
