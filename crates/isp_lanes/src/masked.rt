@@ -1,4 +1,4 @@
-//! The operators on words under a mask: the lanes that are off keep their old words.
+//! The division under a mask, in which a lane that is off neither divides by zero nor loses its old word, and conversions.
 ghost use Rattle.std.specs.Prelude.{◌≡◌, ◌<◌, ◌≤◌, length, map, replicate, None, cond, true};
 ghost use Rattle.std.specs.Simd.Lanes.{zip2, sel_l};
 ghost use Rattle.isp_base.specs.Values.{divides, number, op_bits, width, wrap};

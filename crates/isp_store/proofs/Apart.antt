@@ -1,14 +1,9 @@
 -- A list in two parts: an element that one of them has, and one that is written there.
-use Rattle.std.proofs.Common.{◌≡◌, refl, sym, ap, ◌∙◌, ℕ, zero, suc, ◌-◌, ◌<◌, ◌++◌, List, [], ◌∷◌, length, get_or, arith}
-use Rattle.std.proofs.lemmas.List.{get_or_append_left, get_or-append_right, get_or-set_same, length-set, set-append_left, set-append_right}
+use Rattle.std.proofs.Common.{◌≡◌, sym, ap, ◌∙◌, ℕ, ◌-◌, ◌<◌, ◌++◌, List, length, get_or, arith}
+use Rattle.std.proofs.lemmas.List.{get_or_default, get_or_append_left, get_or-append_right, get_or-set_same, length-set, set-append_left, set-append_right}
 use Rattle.std.specs.Prelude.{slice_set}
 use Rattle.isp_base.specs.Rows.{Row}
 use Rattle.isp_lanes.specs.Lanes.{vector, no_row}
-
-any_default : (xs : List Row) (i : ℕ) (a b : Row) → i < length xs → get_or xs i a ≡ get_or xs i b
-any_default [] i a b h = absurd (omega arith)
-any_default (x ∷ xs) zero a b h = refl
-any_default (x ∷ xs) (suc i) a b h = any_default xs i a b (omega arith)
 
 no_rest : (i : ℕ) → i - i ≡ 0
 no_rest i = omega arith
@@ -16,7 +11,7 @@ no_rest i = omega arith
 module _ (all xs ys : List Row) (parts : all ≡ xs ++ ys) (i : ℕ) (x : Row) where
   module _ (low : i < length xs) where
     pub left_is : vector all i ≡ get_or xs i x
-    left_is = ap (λ (zs : List Row). vector zs i) parts ∙ get_or_append_left xs ys no_row i low ∙ any_default xs i no_row x low
+    left_is = ap (λ (zs : List Row). vector zs i) parts ∙ get_or_append_left xs ys no_row i low ∙ get_or_default xs i no_row x low
 
     pub left_new : vector (slice_set xs i x ++ ys) i ≡ x
     left_new = get_or_append_left (slice_set xs i x) ys no_row i (omega (arith, length-set xs i x)) ∙ get_or-set_same xs i x no_row low
@@ -26,7 +21,7 @@ module _ (all xs ys : List Row) (parts : all ≡ xs ++ ys) (i : ℕ) (x : Row) w
 
   module _ (long : length xs ≡ i) (some : 0 < length ys) where
     pub right_is : vector all i ≡ get_or ys 0 x
-    right_is = ap (λ (zs : List Row). vector zs i) parts ∙ get_or-append_right xs ys i i no_row long (omega arith) ∙ ap (λ k. get_or ys k no_row) (no_rest i) ∙ any_default ys 0 no_row x some
+    right_is = ap (λ (zs : List Row). vector zs i) parts ∙ get_or-append_right xs ys i i no_row long (omega arith) ∙ ap (λ k. get_or ys k no_row) (no_rest i) ∙ get_or_default ys 0 no_row x some
 
     pub right_new : vector (xs ++ slice_set ys 0 x) i ≡ x
     right_new = get_or-append_right xs (slice_set ys 0 x) i i no_row long (omega arith) ∙ ap (λ k. get_or (slice_set ys 0 x) k no_row) (no_rest i) ∙ get_or-set_same ys 0 x no_row some
