@@ -3,9 +3,9 @@ ghost use Rattle.std.specs.Prelude.{◌≡◌, ◌+◌, ◌<◌, length, Err, If
 ghost use Rattle.isp_base.specs.Types.{gang_width};
 ghost use Rattle.isp_code.specs.Fine.{AllFine};
 ghost use Rattle.isp_code.specs.Operands.{vector_operands};
-ghost use Rattle.isp_machine.specs.Moves.{VectorIs, InPlace, Goes, Fails};
+ghost use Rattle.isp_machine.specs.Moves.{Sure, VectorIs, InPlace, Goes, Fails};
 ghost use Rattle.isp_machine.specs.Shapes.{Shaped, Opened};
-ghost use Rattle.isp_store.specs.Held.{shapes};
+ghost use Rattle.isp_store.specs.Held.{Held, shapes};
 
 use crate::frame::Frame;
 use crate::here::Here;
@@ -14,7 +14,31 @@ use isp_base::{Trap, TrapKind};
 use isp_code::{Instr, Register, VectorInstr};
 use isp_store::Arrays;
 
-// What the instruction leaves in the lanes of the register, which is written where it stands.
+// What an instruction that cannot fail leaves in the lanes of the register, which is written where it stands.
+#[inline(never)]
+fn change<const N: usize>(here: &Here, frame: &mut Frame<N>, d: Register, instr: VectorInstr)
+    requires shaped { Shaped here.now.routine frame.old }
+    requires operands { AllFine here.now.code here.now.routine (vector_operands d instr) }
+    requires sure { Sure instr }
+    ensures pc { frame.new.pc ≡ frame.old.pc }
+    ensures written { (s : Held) → InPlace here.now s frame.old d instr frame.new }
+{
+    match instr {
+        VectorInstr::Copy(x, k) => copy(here, frame, d, x, k),
+        VectorInstr::Convert(x, k) => convert(here, frame, d, x, k),
+        VectorInstr::Unary(op, x, k) => apply(here, frame, d, op, x, k),
+        VectorInstr::Binary(op, x, y, k) => combine(here, frame, d, op, x, y, k),
+        VectorInstr::Compare(op, x, y, k) => compare(here, frame, d, op, x, y, k),
+        VectorInstr::Select(test, x, y, k) => select(here, frame, d, test, x, y, k),
+        VectorInstr::Splat(x, k) => splat(here, frame, d, x, k),
+        VectorInstr::Index(k) => number(here, frame, d, k),
+        VectorInstr::Gather(..) => unreachable!(),
+    }
+}
+
+// What the instruction leaves in the lanes of the register. A gather stands apart from the others, which then have no trap to hand on: joined
+// with theirs it would be stored in pieces, and the processor would wait for them.
+#[inline(always)]
 fn vector_value<const N: usize>(
     here: &Here,
     frame: &mut Frame<N>,
@@ -32,22 +56,16 @@ fn vector_value<const N: usize>(
     ensures same { IfErr result (λ t. frame.new ≡ frame.old) }
 {
     match instr {
-        VectorInstr::Copy(x, k) => copy(here, frame, d, x, k),
-        VectorInstr::Convert(x, k) => convert(here, frame, d, x, k),
-        VectorInstr::Unary(op, x, k) => apply(here, frame, d, op, x, k),
-        VectorInstr::Binary(op, x, y, k) => combine(here, frame, d, op, x, y, k),
-        VectorInstr::Compare(op, x, y, k) => compare(here, frame, d, op, x, y, k),
-        VectorInstr::Select(test, x, y, k) => select(here, frame, d, test, x, y, k),
-        VectorInstr::Splat(x, k) => splat(here, frame, d, x, k),
-        VectorInstr::Index(k) => number(here, frame, d, k),
-        VectorInstr::Gather(a, i, k, place) => return gather(
-            here, frame, stores, d, a, i, k, place,
-        ),
+        VectorInstr::Gather(a, i, k, place) => gather(here, frame, stores, d, a, i, k, place),
+        _ => {
+            change(here, frame, d, instr);
+            Ok(())
+        }
     }
-    Ok(())
 }
 
 // The elements at the lanes' indices.
+#[inline(always)]
 fn gather<const N: usize>(
     here: &Here,
     frame: &mut Frame<N>,
@@ -74,6 +92,7 @@ fn gather<const N: usize>(
 }
 
 /// Writes the lanes of a mask in a vector register, and goes on to the next instruction.
+#[inline(always)]
 pub(crate) fn vector<const N: usize>(
     here: &Here,
     frame: &mut Frame<N>,
