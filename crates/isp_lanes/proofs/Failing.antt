@@ -18,6 +18,14 @@ module _ (fails : ℕ → Bool) (a : Mask) (x : Lanes) where
   pub past_fine : (p : ℕ) → lowest_failing p fails (on a x) ≡ None → a p ≡ true → fails (x p) ≡ false → lowest_failing (p + 1) fails (on a x) ≡ None
   past_fine p none is fine = step p none (at p true is ∙ fine)
 
+  pub all_fine : (n : ℕ) → ((p : ℕ) → p < n → fails (x p) ≡ false) → lowest_failing n fails (on a x) ≡ None
+  all_fine zero fine = refl
+  all_fine (suc n) fine = ap (λ k. lowest_failing k fails (on a x)) (sym (add-one n)) ∙ by (all_fine n (λ p h. fine p (omega (arith, h)))) (a n) refl
+    where
+      by : lowest_failing n fails (on a x) ≡ None → (b : Bool) → a n ≡ b → lowest_failing (n + 1) fails (on a x) ≡ None
+      by so_far true is = past_fine n so_far is (fine n (omega arith))
+      by so_far false off = past_off n so_far off
+
   pub found : (n p : ℕ) → p < n → lowest_failing p fails (on a x) ≡ None → a p ≡ true → fails (x p) ≡ true → lowest_failing n fails (on a x) ≡ Some p
   found zero p h none is bad = absurd (omega (arith, h))
   found (suc n) p h none is bad = ⊎_elim (λ e. here e) (λ ne. ap (λ o. or_this o (where_true fails (on a x) n) n) (found n p (omega (arith, h, ne)) none is bad)) (cases_eq p n)

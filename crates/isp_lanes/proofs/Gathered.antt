@@ -1,5 +1,5 @@
 -- Lanes of a mask that get new words one after the other, from lane 0 up.
-use Rattle.std.proofs.Common.{◌≡◌, refl, sym, ap, ◌∙◌, ℕ, zero, suc, ◌+◌, ◌<◌, Bool, true, false, cond, List, [], ◌∷◌, map, length, get_or, Some, None, Result, Ok, Err, arith, add-one}
+use Rattle.std.proofs.Common.{◌≡◌, refl, sym, ap, ◌∙◌, ℕ, zero, suc, ◌+◌, ◌<◌, Bool, true, false, cond, List, [], ◌∷◌, map, length, get_or, Result, Ok, Err, arith, add-one}
 use Rattle.std.specs.Prelude.{slice_set, IfOk, IfErr}
 use Rattle.std.specs.List.{range_with_len}
 use Rattle.std.specs.Simd.Lanes.{zip2, sel_l}
@@ -72,15 +72,6 @@ module _ {A : Type 0} (with : ℕ → A) (word : ℕ → ℕ → ℕ) where
 
   pub words_long : (n : ℕ) (xs : List ℕ) → length xs ≡ n → length (map with (zip2 word (range_with_len 0 n) xs)) ≡ n
   words_long n xs long = length-map (zip2 word (range_with_len 0 n) xs) with ∙ row_long word n xs long
-
--- what a source answers
-pub none_outside : {A : Type 0} (b : Bool) (x : A) → cond b None (Some x) ≡ None → b ≡ true
-none_outside true x e = refl
-none_outside false x e = cc
-
-pub some_inside : {A : Type 0} (b : Bool) (x y : A) → cond b None (Some x) ≡ Some y → (b ≡ false) × (x ≡ y)
-some_inside true x y e = cc
-some_inside false x y e = (refl, cc)
 
 -- what a result tells, whichever it is
 pub either : {A E P Q G : Type 0} (r : Result A E) → IfOk r (λ _. P) → IfErr r (λ _. Q) → (P → G) → (Q → G) → G

@@ -9,9 +9,7 @@ use crate::mask::LaneMask;
 use crate::source::Source;
 use crate::word::Word;
 
-// The word found at its place in each lane of the mask, written as soon as the place is known to be there.
-//
-// Where one is outside it is `Err` with the lowest such lane, and the old words are put back, so that nothing changes.
+// The word found at its place in each lane of the mask. Where one is outside it is `Err` with the lowest such lane, and nothing changes.
 #[inline(always)]
 pub(crate) fn gather<const N: usize, S: Source<N>, W: Word>(
     words: &mut [W; N],
@@ -26,16 +24,13 @@ pub(crate) fn gather<const N: usize, S: Source<N>, W: Word>(
     ensures same { IfErr result (λ _. words.new ≡ words.old) }
 {
     mask.told();
-    let old = *words;
+    match source.first_outside(places, mask) {
+        Some(lane) => return Err(lane),
+        None => {}
+    }
     for lane in 0..N {
         if mask.get(lane) {
-            match source.find(lane, places[lane]) {
-                Some(word) => words[lane] = W::of(word),
-                None => {
-                    *words = old;
-                    return Err(lane);
-                }
-            }
+            words[lane] = W::of(source.find(lane, places[lane]));
         }
     }
     Ok(())

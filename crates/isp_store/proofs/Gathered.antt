@@ -1,6 +1,6 @@
 -- Cells that are read, written, and written back.
 use Rattle.std.proofs.Common.{◌≡◌, refl, sym, ap, ◌∙◌, subst, ℕ, zero, suc, ◌+◌, ◌<◌, ◌≤◌, ◌^◌, replicate, Bool, true, false, None, not, nat_lt, List, [], ◌∷◌, length, get_or, arith, add-one, Result, Ok, Err}
-use Rattle.std.specs.Prelude.{slice_set, if◌then◌else◌, IfOk, IfErr}
+use Rattle.std.specs.Prelude.{slice_set, if◌then◌else◌, IfOk}
 use Rattle.std.specs.List.{range_with_len}
 use Rattle.std.specs.Simd.Lanes.{zip2, sel_l}
 use Rattle.std.proofs.Math.Path.{fun_ext}
@@ -9,7 +9,7 @@ use Rattle.isp_base.specs.Maps.{Lanes, lane_of, on, lowest_failing, over, each1,
 use Rattle.isp_base.specs.Rows.{Fit}
 use Rattle.isp_base.specs.Sets.{Mask, flag_of}
 use Rattle.isp_base.specs.declared.types.Elem.TheVariants.{I64}
-use Rattle.isp_store.specs.Cells.{found, left, stored, unwound}
+use Rattle.isp_store.specs.Cells.{found, left, stored}
 use Rattle.isp_store.proofs.Inside.{IsInside}
 use Rattle.isp_store.proofs.Lanes.{lane_on, lane_off}
 use Rattle.isp_lanes.proofs.Failing.{none_fails}
@@ -54,32 +54,6 @@ module _ {A : Type 0} (with : A → ℕ → ℕ → A) where
 
     pub stored_off : (n : ℕ) (y : Lanes) (cs : List A) → a n ≡ false → stored with (n + 1) a x y cs ≡ stored with n a x y cs
     stored_off n y cs e = ap (λ k. stored with k a x y cs) (add-one n) ∙ ap (λ b. left with b (x n) n (y n) (stored with n a x y cs)) e ∙ left_off (x n) n (y n) (stored with n a x y cs)
-
-    pub unwound_alike : (n : ℕ) (k l : Lanes) → ((p : ℕ) → p < n → k p ≡ l p) → (cs : List A) → unwound with n a x k cs ≡ unwound with n a x l cs
-    unwound_alike zero k l same cs = refl
-    unwound_alike (suc n) k l same cs =
-        ap (λ v. unwound with n a x k (left with (a n) (x n) n v cs)) (same n (omega arith))
-        ∙ unwound_alike n k l (λ p h. same p (omega (arith, h))) (left with (a n) (x n) n (l n) cs)
-
-    pub unwound_on : (n : ℕ) (k : Lanes) (cs : List A) → a n ≡ true → unwound with (n + 1) a x k cs ≡ unwound with n a x k (left with true (x n) n (k n) cs)
-    unwound_on n k cs e = ap (λ j. unwound with j a x k cs) (add-one n) ∙ ap (λ b. unwound with n a x k (left with b (x n) n (k n) cs)) e
-
-    pub unwound_off : (n : ℕ) (k : Lanes) (cs : List A) → a n ≡ false → unwound with (n + 1) a x k cs ≡ unwound with n a x k cs
-    unwound_off n k cs e = ap (λ j. unwound with j a x k cs) (add-one n) ∙ ap (λ b. unwound with n a x k (left with b (x n) n (k n) cs)) e ∙ ap (unwound with n a x k) (left_off (x n) n (k n) cs)
-
-  -- what was found, put back
-  module _ (find : A → ℕ → ℕ) (undone : (c : A) (p v : ℕ) → with (with c p v) p (find c p) ≡ c) where
-    left_undone : (cs : List A) (e p v : ℕ) → left with true e p (found find cs e p) (left with true e p v cs) ≡ cs
-    left_undone [] e p v = refl
-    left_undone (c ∷ cs) zero p v = ap (λ k. k ∷ cs) (undone c p v)
-    left_undone (c ∷ cs) (suc e) p v = ap (λ ks. c ∷ ks) (left_undone cs e p v)
-
-    pub unwound_more : (a : Mask) (x : Lanes) (n : ℕ) (k l : Lanes) (cs : List A) (v : ℕ) → a n ≡ true → ((p : ℕ) → p < n → l p ≡ k p) → l n ≡ found find cs (x n) n → unwound with (n + 1) a x l (left with true (x n) n v cs) ≡ unwound with n a x k cs
-    unwound_more a x n k l cs v is same here =
-        unwound_on a x n l (left with true (x n) n v cs) is
-        ∙ ap (λ u. unwound with n a x l (left with true (x n) n u (left with true (x n) n v cs))) here
-        ∙ ap (unwound with n a x l) (left_undone cs (x n) n v)
-        ∙ unwound_alike a x n l k same cs
 
 -- the words that lanes have found, up to now
 pub zero_found : (n p : ℕ) → get_or {A = ℕ} (replicate n 0) p 0 ≡ 0
@@ -129,11 +103,7 @@ over_found n ms word xs olds few long old = fun_ext (λ p. sel_at n ms (zip2 wor
     by p true e = ap (λ t. if t then lane_of (zip2 word (range_with_len 0 n) xs) p else lane_of olds p) e ∙ lane_found word n p xs long (on_there ms n p few e) ∙ sym (lane_on (word p) (flag_of ms) (lane_of xs) (lane_of olds p) p e)
     by p false e = ap (λ t. if t then lane_of (zip2 word (range_with_len 0 n) xs) p else lane_of olds p) e ∙ sym (lane_off (word p) (flag_of ms) (lane_of xs) (lane_of olds p) p e)
 
--- what a result tells, whichever it is
-pub either : {A E P Q G : Type 0} (r : Result A E) → IfOk r (λ _. P) → IfErr r (λ _. Q) → (P → G) → (Q → G) → G
-either (Ok x) p q f g = f p
-either (Err x) p q f g = g q
-
+-- two facts of one result
 pub both_ok : {A E P Q G : Type 0} (r : Result A E) → IfOk r (λ _. P) → IfOk r (λ _. Q) → (P → Q → G) → IfOk r (λ _. G)
 both_ok (Ok x) p q f = f p q
 both_ok (Err x) p q f = p

@@ -24,11 +24,6 @@ abbrev pub stored : {A : Type 0} → (A → ℕ → ℕ → A) → ℕ → Mask 
 stored with zero a x y cs = cs
 stored with (suc n) a x y cs = left with (a n) (x n) n (y n) (stored with n a x y cs)
 
--- the first n lanes of a set leave their words again, the highest first
-abbrev pub unwound : {A : Type 0} → (A → ℕ → ℕ → A) → ℕ → Mask → Lanes → Lanes → List A → List A
-unwound with zero a x y cs = cs
-unwound with (suc n) a x y cs = unwound with n a x y (left with (a n) (x n) n (y n) cs)
-
 -- the word of all lanes, after one has left its own
 abbrev pub word_with : ℕ → ℕ → ℕ → ℕ
 word_with word lane bits = bits

@@ -1,7 +1,6 @@
 //! What stands at one place of an array: a word that all lanes share, or a word for each lane.
-ghost use Rattle.std.specs.Prelude.{◌≡◌, refl, ℕ, ◌<◌, ◌^◌, slice_set};
+ghost use Rattle.std.specs.Prelude.{◌≡◌, ℕ, ◌<◌, ◌^◌, slice_set};
 ghost use Rattle.isp_base.specs.Maps.{lane_of};
-ghost use Rattle.isp_store.specs.Undone.{set_undone};
 
 // A word, or N of them, of which each of N lanes finds one.
 pub(crate) trait Cell<const N: usize>: Copy {
@@ -12,9 +11,6 @@ pub(crate) trait Cell<const N: usize>: Copy {
 
     // the cell after a lane has left a word
     ghost with: { Self → ℕ → ℕ → Self };
-
-    // a lane that puts back what it found leaves all as it was
-    ghost undone: { (cell : Self) (lane bits : ℕ) → with (with cell lane bits) lane (find cell lane) ≡ cell };
 
     fn word(&self, lane: usize) -> u64
         requires { lane < N }
@@ -34,8 +30,6 @@ impl<const N: usize> Cell<N> for u8 {
 
     ghost with = { λ word lane bits. bits };
 
-    ghost undone = { λ word lane bits. refl };
-
     fn word(&self, _lane: usize) -> u64 {
         *self as u64
     }
@@ -51,8 +45,6 @@ impl<const N: usize> Cell<N> for u16 {
     ghost find = { λ word lane. word };
 
     ghost with = { λ word lane bits. bits };
-
-    ghost undone = { λ word lane bits. refl };
 
     fn word(&self, _lane: usize) -> u64 {
         *self as u64
@@ -70,8 +62,6 @@ impl<const N: usize> Cell<N> for u32 {
 
     ghost with = { λ word lane bits. bits };
 
-    ghost undone = { λ word lane bits. refl };
-
     fn word(&self, _lane: usize) -> u64 {
         *self as u64
     }
@@ -87,8 +77,6 @@ impl<const N: usize> Cell<N> for u64 {
     ghost find = { λ word lane. word };
 
     ghost with = { λ word lane bits. bits };
-
-    ghost undone = { λ word lane bits. refl };
 
     fn word(&self, _lane: usize) -> u64 {
         *self
@@ -106,8 +94,6 @@ impl<const N: usize> Cell<N> for [u8; N] {
 
     ghost with = { λ words lane bits. slice_set words lane bits };
 
-    ghost undone = { λ words lane bits. set_undone words lane bits };
-
     fn word(&self, lane: usize) -> u64 {
         self[lane] as u64
     }
@@ -123,8 +109,6 @@ impl<const N: usize> Cell<N> for [u16; N] {
     ghost find = { λ words lane. lane_of words lane };
 
     ghost with = { λ words lane bits. slice_set words lane bits };
-
-    ghost undone = { λ words lane bits. set_undone words lane bits };
 
     fn word(&self, lane: usize) -> u64 {
         self[lane] as u64
@@ -142,8 +126,6 @@ impl<const N: usize> Cell<N> for [u32; N] {
 
     ghost with = { λ words lane bits. slice_set words lane bits };
 
-    ghost undone = { λ words lane bits. set_undone words lane bits };
-
     fn word(&self, lane: usize) -> u64 {
         self[lane] as u64
     }
@@ -159,8 +141,6 @@ impl<const N: usize> Cell<N> for [u64; N] {
     ghost find = { λ words lane. lane_of words lane };
 
     ghost with = { λ words lane bits. slice_set words lane bits };
-
-    ghost undone = { λ words lane bits. set_undone words lane bits };
 
     fn word(&self, lane: usize) -> u64 {
         self[lane]

@@ -1,14 +1,14 @@
 //! Elements from an array into lanes, and back, where the width of the words is known.
-ghost use Rattle.std.specs.Prelude.{◌≡◌, ℕ, ◌<◌, ◌≤◌, ◌^◌, length, true, Some, None, IfOk, IfErr};
+ghost use Rattle.std.specs.Prelude.{◌≡◌, ℕ, ◌<◌, ◌^◌, length, true, Some, None, IfOk, IfErr};
 ghost use Rattle.isp_base.specs.declared.types.Elem.TheVariants.{I64};
 ghost use Rattle.isp_base.specs.Access.{element, is_outside};
 ghost use Rattle.isp_base.specs.Maps.{lane_of, each1, on, over, lowest_failing};
 ghost use Rattle.isp_base.specs.Sets.{flag_of};
 ghost use Rattle.isp_base.specs.Values.{width};
-ghost use Rattle.isp_store.specs.Cells.{found, stored, unwound, cleared};
+ghost use Rattle.isp_store.specs.Cells.{found, stored, cleared};
 
 use crate::cell::Cell;
-use crate::index::{IndexTrap, limit};
+use crate::index::{IndexTrap, first_outside};
 use crate::places::Places;
 use isp_lanes::{LaneMask, Lanes};
 
@@ -39,8 +39,7 @@ pub(crate) fn gathered<C: Cell<N>, const N: usize>(
 
 // Each lane of the mask leaves its word at its index. Where two leave one at one place, the higher wins.
 //
-// Index where one is outside, with the lowest such lane; what the lanes below it have left is then put back, so that nothing
-// changes.
+// Index where one is outside, with the lowest such lane, and then nothing changes.
 #[inline(always)]
 pub(crate) fn scattered<C: Cell<N>, const N: usize>(
     cells: &mut [C],
@@ -55,43 +54,33 @@ pub(crate) fn scattered<C: Cell<N>, const N: usize>(
     ensures lowest { IfErr result (λ trap. lowest_failing N (is_outside I64 (length cells.old)) (on (flag_of mask.now) (lane_of index.now.bits)) ≡ Some trap.instance) }
     ensures same { IfErr result (λ trap. cells.new ≡ cells.old) }
 {
-    let limit = limit(cells.len());
     index.told();
     mask.told();
     let places = index.wide_words();
-    let mut kept = [0; N];
-    for lane in 0..N {
-        if mask.get(lane) {
-            if places[lane] >= limit {
-                put_back(cells, places, mask, &kept, lane);
-                return Err(IndexTrap { instance: lane });
-            }
-            let place = places[lane] as usize;
-            kept[lane] = cells[place].word(lane);
-            cells[place].set(lane, words[lane]);
+    match first_outside(cells.len(), places, mask) {
+        Some(instance) => Err(IndexTrap { instance }),
+        None => {
+            leave(cells, places, mask, words);
+            Ok(())
         }
     }
-    Ok(())
 }
 
-// The first lanes of the mask put back the words that they found, the highest lane first.
-#[inline(never)]
-fn put_back<C: Cell<N>, const N: usize>(
+// Each lane of the mask leaves its word at its place, which is there.
+#[inline(always)]
+fn leave<C: Cell<N>, const N: usize>(
     cells: &mut [C],
     places: &[u64; N],
     mask: &LaneMask<N>,
-    kept: &[u64; N],
-    count: usize,
+    words: &[u64; N],
 )
-    requires count { count ≤ N }
-    requires inside { (p : ℕ) → p < count → flag_of mask.now p ≡ true → lane_of places.now p < length cells.old }
-    requires fits { (p : ℕ) → lane_of kept.now p < 2 ^ C.width }
-    ensures { cells.new ≡ unwound C.with count (flag_of mask.now) (lane_of places.now) (lane_of kept.now) cells.old }
+    requires inside { (p : ℕ) → p < N → flag_of mask.now p ≡ true → lane_of places.now p < length cells.old }
+    requires fits { (p : ℕ) → lane_of words.now p < 2 ^ C.width }
+    ensures { cells.new ≡ stored C.with N (flag_of mask.now) (lane_of places.now) (lane_of words.now) cells.old }
 {
-    for done in 0..count {
-        let lane = count - 1 - done;
+    for lane in 0..N {
         if mask.get(lane) {
-            cells[places[lane] as usize].set(lane, kept[lane]);
+            cells[places[lane] as usize].set(lane, words[lane]);
         }
     }
 }

@@ -1,7 +1,8 @@
 //! Which indices are outside an array.
-ghost use Rattle.std.specs.Prelude.{◌≡◌, ℕ, ◌<◌, ◌^◌, not, nat_lt};
+ghost use Rattle.std.specs.Prelude.{◌≡◌, ℕ, ◌<◌, ◌^◌, not, nat_lt, true};
 ghost use Rattle.isp_base.specs.declared.types.Elem.TheVariants.{I64};
 ghost use Rattle.isp_base.specs.Access.{is_outside};
+ghost use Rattle.isp_base.specs.Maps.{lane_of, on, lowest_failing};
 ghost use Rattle.isp_base.specs.Sets.{flag_of};
 ghost use Rattle.isp_store.specs.Held.{named};
 
@@ -22,6 +23,59 @@ pub(crate) fn limit(count: usize) -> u64
 {
     let count = count as u64;
     if count < 1 << 63 { count } else { 1 << 63 }
+}
+
+// The lowest lane of the mask whose index is outside. Mostly no lane's is, and a look at all indices at once tells so.
+#[inline(always)]
+pub(crate) fn first_outside<const N: usize>(
+    count: usize,
+    places: &[u64; N],
+    mask: &LaneMask<N>,
+) -> Option<usize>
+    ensures { result ≡ lowest_failing N (is_outside I64 count) (on (flag_of mask.now) (lane_of places.now)) }
+{
+    if are_below(places, limit(count)) {
+        None
+    } else {
+        lowest_outside(count, places, mask)
+    }
+}
+
+// Whether all indices are below a number, those of lanes that are off too: they are where the bits that one of them has are.
+#[inline(never)]
+fn are_below<const N: usize>(places: &[u64; N], limit: u64) -> bool
+    ensures { result ≡ true → (p : ℕ) → p < N → lane_of places.now p < limit }
+{
+    let mut bits = 0;
+    for lane in 0..N {
+        bits |= places[lane];
+    }
+    bits < limit
+}
+
+// Whether an index is outside an array of so many elements.
+#[inline(always)]
+fn lies_outside(count: usize, place: u64) -> bool
+    ensures { result ≡ is_outside I64 count place }
+{
+    place >= limit(count)
+}
+
+// The same as `first_outside`, lane by lane.
+#[inline(never)]
+fn lowest_outside<const N: usize>(
+    count: usize,
+    places: &[u64; N],
+    mask: &LaneMask<N>,
+) -> Option<usize>
+    ensures { result ≡ lowest_failing N (is_outside I64 count) (on (flag_of mask.now) (lane_of places.now)) }
+{
+    for lane in 0..N {
+        if mask.get(lane) && lies_outside(count, places[lane]) {
+            return Some(lane);
+        }
+    }
+    None
 }
 
 // The trap of one index for all lanes: it names the lowest lane of the mask, or lane 0.

@@ -5,8 +5,8 @@ ghost use Rattle.isp_base.specs.declared.types.Elem.TheVariants.{I64};
 ghost use Rattle.isp_store.specs.Cells.{found};
 
 use crate::cell::Cell;
-use crate::index::limit;
-use isp_lanes::Source;
+use crate::index::first_outside;
+use isp_lanes::{LaneMask, Source};
 
 // What stands at the places of an array. The bits of a place are those of an index.
 #[derive(Drop)]
@@ -20,10 +20,12 @@ impl<'a, C: Cell<N>, const N: usize> Source<N> for Places<'a, C> {
     ghost word = { λ s lane place. found C.find s.cells.now (element I64 place) lane };
 
     #[inline(always)]
-    fn find(&self, lane: usize, place: u64) -> Option<u64> {
-        if place >= limit(self.cells.len()) {
-            return None;
-        }
-        Some(self.cells[place as usize].word(lane))
+    fn first_outside(&self, places: &[u64; N], mask: &LaneMask<N>) -> Option<usize> {
+        first_outside(self.cells.len(), places, mask)
+    }
+
+    #[inline(always)]
+    fn find(&self, lane: usize, place: u64) -> u64 {
+        self.cells[place as usize].word(lane)
     }
 }
