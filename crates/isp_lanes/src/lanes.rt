@@ -197,6 +197,16 @@ impl<const N: usize> Lanes<N> {
         }
     }
 
+    /// The words of all lanes, of the width that the element type takes, where they stand.
+    #[inline(always)]
+    pub fn row(&self) -> &Row<N>
+        ensures bits { held result.now ≡ self.now.bits }
+        ensures wide { held_width result.now ≡ cell_width self.now.elem }
+        ensures row { IsRow N (held_width result.now) self.now.elem (held result.now) }
+    {
+        &self.row
+    }
+
     /// The bits of all lanes of a vector of int64, which are read where they stand.
     pub fn wide_words(&self) -> &[u64; N]
         requires { self.now.elem ≡ I64 }
@@ -242,16 +252,6 @@ impl<const N: usize> Lanes<N> {
 }
 
 impl<const N: usize> Lanes<N> {
-    // The words.
-    #[inline(always)]
-    pub(crate) fn row(&self) -> &Row<N>
-        ensures bits { held result.now ≡ self.now.bits }
-        ensures wide { held_width result.now ≡ cell_width self.now.elem }
-        ensures row { IsRow N (held_width result.now) self.now.elem (held result.now) }
-    {
-        &self.row
-    }
-
     // The words, of a width that is known.
     #[inline(always)]
     pub(crate) fn words_as<V: Words<N>>(&self) -> V

@@ -14,4 +14,5 @@ mod words;
 
 pub use lanes::Lanes;
 pub use mask::LaneMask;
+pub use row::Row;
 pub use source::Source;

@@ -15,9 +15,9 @@ use crate::words::Words;
 use isp_base::Elem;
 use std::simd::prelude::*;
 
-// N words of 8, 16, 32 or 64 bits.
+/// N words of 8, 16, 32 or 64 bits.
 #[derive(Clone, Copy)]
-pub(crate) enum Row<const N: usize> {
+pub enum Row<const N: usize> {
     Bits8([u8; N]),
     Bits16([u16; N]),
     Bits32([u32; N]),

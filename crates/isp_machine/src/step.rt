@@ -4,7 +4,7 @@ ghost use Rattle.isp_base.specs.Types.{gang_width};
 ghost use Rattle.isp_code.specs.Fine.{AllFine, CallsFine, GoesOn};
 ghost use Rattle.isp_code.specs.Machine.{arrive, step};
 ghost use Rattle.isp_code.specs.Operands.{operands};
-ghost use Rattle.isp_machine.specs.Moves.{Computes, Goes, Fails};
+ghost use Rattle.isp_machine.specs.Moves.{InLoop, Goes, Fails};
 ghost use Rattle.isp_machine.specs.Shapes.{Shaped, Opened};
 ghost use Rattle.isp_machine.specs.Steps.{Done, MayRefuse, Refuses, Steady, conf_now, given_shapes, stands_as};
 ghost use Rattle.isp_machine.specs.declared.stop.Step.TheVariants.{Went};
@@ -51,7 +51,7 @@ impl<const N: usize> Model for Run<N> {
     ghost view = { λ r. record { frame = r.frame; waiting = r.waiting.items; stores = r.stores; out = r.out.items } };
 }
 
-// The instructions that neither write text nor call nor return.
+// The instructions that neither write text nor call nor return, but for scatters.
 //
 // What runs at each instruction is inlined in the machine's loop. What takes many registers (divisions, scatters, text, calls) is not, so that
 // the others need not save them.
@@ -67,7 +67,7 @@ fn compute<const N: usize>(
     requires arrays { Opened here.now.routine (shapes stores.old) frame.old }
     requires operands { AllFine here.now.code here.now.routine (operands instr.now) }
     requires next { GoesOn here.now.routine frame.old.pc instr.now }
-    requires computes { Computes instr.now }
+    requires computes { InLoop instr.now }
     ensures ok { IfOk result (λ _. Goes here.now instr.now stores.old frame.old stores.new frame.new) }
     ensures err { IfErr result (λ t. Fails here.now instr.now stores.old frame.old t) }
     ensures same { IfErr result (λ t. frame.new ≡ frame.old) }
@@ -79,7 +79,6 @@ fn compute<const N: usize>(
         Instr::Mask(d, instr) => mask(here, frame, *d, *instr),
         Instr::Divide(op, d, x, y, k, place) => divide(here, frame, *op, *d, *x, *y, *k, *place)?,
         Instr::Store(a, i, y, k, place) => store(here, frame, stores, *a, *i, *y, *k, *place)?,
-        Instr::Scatter(a, i, y, k, place) => scatter(here, frame, stores, *a, *i, *y, *k, *place)?,
         Instr::Clear(a, k) => clear(here, frame, stores, *a, *k),
         Instr::Jump(to) => jump(here, frame, *to),
         Instr::JumpIf(test, x, to) => jump_if(here, frame, *test, *x, *to),
@@ -147,6 +146,20 @@ fn execute<const N: usize>(
                 &mut run.rooms,
                 ending,
                 *x,
+            );
+            Ok(())
+        }
+        Instr::Scatter(a, i, y, k, place) => {
+            scatter(
+                here,
+                &mut run.frame.at,
+                &mut run.stores,
+                ending,
+                *a,
+                *i,
+                *y,
+                *k,
+                *place,
             );
             Ok(())
         }

@@ -5,10 +5,13 @@ ghost use Rattle.isp_code.specs.Fine.{AllFine};
 ghost use Rattle.isp_code.specs.Operands.{operands};
 ghost use Rattle.isp_machine.specs.Moves.{Goes, Fails};
 ghost use Rattle.isp_machine.specs.Shapes.{Shaped, Opened};
+ghost use Rattle.isp_machine.specs.Steps.{Comes};
+ghost use Rattle.isp_machine.specs.declared.stop.Step.TheVariants.{Went};
 ghost use Rattle.isp_store.specs.Held.{shapes};
 
 use crate::frame::Frame;
 use crate::here::Here;
+use crate::stop::Step;
 use isp_base::{Trap, TrapKind};
 use isp_code::{Instr, Register};
 use isp_store::Arrays;
@@ -47,35 +50,35 @@ pub(crate) fn store<const N: usize>(
     }
 }
 
-/// Stores lanes, and goes on to the next instruction.
+/// Stores lanes, and goes on to the next instruction. A trap is not handed back but written where the run's end stands.
 #[inline(never)]
 pub(crate) fn scatter<const N: usize>(
     here: &Here,
     frame: &mut Frame<N>,
     stores: &mut Arrays,
+    ending: &mut Step,
     a: Register,
     i: Register,
     y: Register,
     k: Register,
     place: u32,
-) -> Result<(), Trap>
+)
     requires gang { N ≡ gang_width here.now.code.gang }
     requires shaped { Shaped here.now.routine frame.old }
     requires arrays { Opened here.now.routine (shapes stores.old) frame.old }
     requires operands { AllFine here.now.code here.now.routine (operands (Instr.Scatter a i y k place)) }
     requires next { frame.old.pc + 1 < length here.now.routine.code }
-    ensures ok { IfOk result (λ _. Goes here.now (Instr.Scatter a i y k place) stores.old frame.old stores.new frame.new) }
-    ensures err { IfErr result (λ t. Fails here.now (Instr.Scatter a i y k place) stores.old frame.old t) }
-    ensures same { IfErr result (λ t. frame.new ≡ frame.old) }
-    ensures same_stores { IfErr result (λ t. stores.new ≡ stores.old) }
+    requires went { ending.old ≡ Went }
+    ensures { Comes here.now (Instr.Scatter a i y k place) stores.old frame.old stores.new frame.new ending.new }
 {
     match frame.scatter(stores, a.number, i.number, y.number, k.number) {
         Ok(()) => {
             let _count = here.count();
             frame.next();
-            Ok(())
         }
-        Err(trap) => Err(here.trap(TrapKind::Index, place, trap.instance)),
+        Err(trap) => {
+            *ending = Step::Trapped(here.trap(TrapKind::Index, place, trap.instance));
+        }
     }
 }
 

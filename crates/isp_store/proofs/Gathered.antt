@@ -108,5 +108,13 @@ pub both_ok : {A E P Q G : Type 0} (r : Result A E) → IfOk r (λ _. P) → IfO
 both_ok (Ok x) p q f = f p q
 both_ok (Err x) p q f = p
 
+-- one fact from another, where two results are the same
+pub from_ok : {A E P Q : Type 0} (r s : Result A E) → s ≡ r → (P → Q) → IfOk r (λ _. P) → IfOk s (λ _. Q)
+from_ok {A = A} {E = E} {P = P} {Q = Q} r s e f p = subst (λ z. IfOk z (λ _. Q)) (sym e) (by r p)
+  where
+    by : (z : Result A E) → IfOk z (λ _. P) → IfOk z (λ _. Q)
+    by (Ok x) h = f h
+    by (Err x) h = h
+
 pub along : {A B : Type 0} → A ≡ B → A → B
 along e x = subst (λ (T : Type 0). T) e x

@@ -37,20 +37,20 @@ pub(crate) fn gathered<C: Cell<N>, const N: usize>(
     }
 }
 
-// Each lane of the mask leaves its word at its index. Where two leave one at one place, the higher wins.
+// Each lane of the mask leaves its word of a row at its index. Where two leave one at one place, the higher wins.
 //
 // Index where one is outside, with the lowest such lane, and then nothing changes.
 #[inline(always)]
-pub(crate) fn scattered<C: Cell<N>, const N: usize>(
+pub(crate) fn scattered<C: Cell<N>, R: Cell<N>, const N: usize>(
     cells: &mut [C],
     index: &Lanes<N>,
     mask: &LaneMask<N>,
-    words: &[u64; N],
+    row: &R,
 ) -> Result<(), IndexTrap>
     requires index { index.now.elem ≡ I64 }
-    requires fits { (p : ℕ) → lane_of words.now p < 2 ^ C.width }
+    requires fits { (p : ℕ) → R.find row.now p < 2 ^ C.width }
     ensures inside { IfOk result (λ _. lowest_failing N (is_outside I64 (length cells.old)) (on (flag_of mask.now) (lane_of index.now.bits)) ≡ None) }
-    ensures words { IfOk result (λ _. cells.new ≡ stored C.with N (flag_of mask.now) (lane_of index.now.bits) (lane_of words.now) cells.old) }
+    ensures words { IfOk result (λ _. cells.new ≡ stored C.with N (flag_of mask.now) (lane_of index.now.bits) (R.find row.now) cells.old) }
     ensures lowest { IfErr result (λ trap. lowest_failing N (is_outside I64 (length cells.old)) (on (flag_of mask.now) (lane_of index.now.bits)) ≡ Some trap.instance) }
     ensures same { IfErr result (λ trap. cells.new ≡ cells.old) }
 {
@@ -60,27 +60,27 @@ pub(crate) fn scattered<C: Cell<N>, const N: usize>(
     match first_outside(cells.len(), places, mask) {
         Some(instance) => Err(IndexTrap { instance }),
         None => {
-            leave(cells, places, mask, words);
+            leave(cells, places, mask, row);
             Ok(())
         }
     }
 }
 
-// Each lane of the mask leaves its word at its place, which is there.
+// Each lane of the mask leaves its word of a row at its place, which is there.
 #[inline(always)]
-fn leave<C: Cell<N>, const N: usize>(
+fn leave<C: Cell<N>, R: Cell<N>, const N: usize>(
     cells: &mut [C],
     places: &[u64; N],
     mask: &LaneMask<N>,
-    words: &[u64; N],
+    row: &R,
 )
     requires inside { (p : ℕ) → p < N → flag_of mask.now p ≡ true → lane_of places.now p < length cells.old }
-    requires fits { (p : ℕ) → lane_of words.now p < 2 ^ C.width }
-    ensures { cells.new ≡ stored C.with N (flag_of mask.now) (lane_of places.now) (lane_of words.now) cells.old }
+    requires fits { (p : ℕ) → R.find row.now p < 2 ^ C.width }
+    ensures { cells.new ≡ stored C.with N (flag_of mask.now) (lane_of places.now) (R.find row.now) cells.old }
 {
     for lane in 0..N {
         if mask.get(lane) {
-            cells[places[lane] as usize].set(lane, words[lane]);
+            cells[places[lane] as usize].set(lane, row.word(lane));
         }
     }
 }

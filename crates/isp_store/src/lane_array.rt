@@ -123,8 +123,7 @@ impl<const N: usize> LaneArray<N> {
         index.told();
         mask.told();
         value.told();
-        let words = value.words();
-        self.rows.store(index, mask, &words)
+        self.rows.store(index, mask, value)
     }
 
     /// Zero in the lanes of the mask, in each element.

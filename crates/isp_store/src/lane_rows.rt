@@ -12,7 +12,7 @@ ghost use Rattle.isp_store.specs.LaneRows.{lists, rows_width};
 use crate::gather::{clear, gathered, scattered};
 use crate::index::IndexTrap;
 use isp_base::Elem;
-use isp_lanes::{LaneMask, Lanes};
+use isp_lanes::{LaneMask, Lanes, Row};
 use std::alloc::{AllocError, Global};
 
 // Rows of words, of the width that the element type takes. So how wide they are is asked once for all lanes.
@@ -63,28 +63,50 @@ impl<const N: usize> LaneRows<N> {
         }
     }
 
-    // Each lane of the mask writes its word at its index.
+    // Each lane of the mask writes its value at its index.
     //
     // Index where one is outside, with the lowest such lane, and then nothing changes.
     pub(crate) fn store(
         &mut self,
         index: &Lanes<N>,
         mask: &LaneMask<N>,
-        words: &[u64; N],
+        value: &Lanes<N>,
     ) -> Result<(), IndexTrap>
         requires index { index.now.elem ≡ I64 }
-        requires fits { (p : ℕ) → lane_of words.now p < 2 ^ rows_width self.old }
+        requires wide { rows_width self.old ≡ cell_width value.now.elem }
+        requires fits { (p : ℕ) → lane_of value.now.bits p < 2 ^ rows_width self.old }
         ensures inside { IfOk result (λ _. lowest_failing N (is_outside I64 (length (lists self.old))) (on (flag_of mask.now) (lane_of index.now.bits)) ≡ None) }
-        ensures lists { IfOk result (λ _. lists self.new ≡ stored row_with N (flag_of mask.now) (lane_of index.now.bits) (lane_of words.now) (lists self.old)) }
+        ensures lists { IfOk result (λ _. lists self.new ≡ stored row_with N (flag_of mask.now) (lane_of index.now.bits) (lane_of value.now.bits) (lists self.old)) }
         ensures wide { rows_width self.new ≡ rows_width self.old }
         ensures lowest { IfErr result (λ trap. lowest_failing N (is_outside I64 (length (lists self.old))) (on (flag_of mask.now) (lane_of index.now.bits)) ≡ Some trap.instance) }
         ensures same { IfErr result (λ trap. lists self.new ≡ lists self.old) }
     {
-        match self {
-            LaneRows::Bits8(rows) => scattered(rows.as_mut_slice(), index, mask, words),
-            LaneRows::Bits16(rows) => scattered(rows.as_mut_slice(), index, mask, words),
-            LaneRows::Bits32(rows) => scattered(rows.as_mut_slice(), index, mask, words),
-            LaneRows::Bits64(rows) => scattered(rows.as_mut_slice(), index, mask, words),
+        match (self, value.row()) {
+            (LaneRows::Bits8(rows), Row::Bits8(row)) => scattered(
+                rows.as_mut_slice(),
+                index,
+                mask,
+                row,
+            ),
+            (LaneRows::Bits16(rows), Row::Bits16(row)) => scattered(
+                rows.as_mut_slice(),
+                index,
+                mask,
+                row,
+            ),
+            (LaneRows::Bits32(rows), Row::Bits32(row)) => scattered(
+                rows.as_mut_slice(),
+                index,
+                mask,
+                row,
+            ),
+            (LaneRows::Bits64(rows), Row::Bits64(row)) => scattered(
+                rows.as_mut_slice(),
+                index,
+                mask,
+                row,
+            ),
+            _ => unreachable!(),
         }
     }
 

@@ -2,6 +2,7 @@
 ghost use Rattle.std.specs.Prelude.{◌≡◌, ℕ, ◌<◌, ◌^◌, length, Some, None, IfOk, IfErr};
 ghost use Rattle.isp_base.specs.declared.types.Elem.TheVariants.{I64};
 ghost use Rattle.isp_base.specs.Access.{element, is_outside, scatter};
+ghost use Rattle.isp_base.specs.Cells.{cell_width};
 ghost use Rattle.isp_base.specs.Held.{held, held_width};
 ghost use Rattle.isp_base.specs.Maps.{lane_of, map1, on, over, lowest_failing};
 ghost use Rattle.isp_base.specs.Sets.{flag_of};
@@ -10,7 +11,7 @@ ghost use Rattle.isp_store.specs.Cells.{stored, word_with};
 use crate::gather::{gathered, scattered};
 use crate::index::IndexTrap;
 use isp_base::{Array, Cells};
-use isp_lanes::{LaneMask, Lanes};
+use isp_lanes::{LaneMask, Lanes, Row};
 use std::alloc::Global;
 
 // The element at its place in each lane of the mask. How wide the array's words are is asked once.
@@ -60,34 +61,50 @@ pub(crate) fn write<const N: usize>(
 {
     index.told();
     value.told();
-    let words = value.words();
     let mut cells = array.take_cells(alloc);
-    let outcome = store(&mut cells, index, mask, &words);
+    let outcome = store(&mut cells, index, mask, value);
     array.put_cells(cells);
     outcome
 }
 
-// Each lane of the mask leaves its word at its index. How wide the words are is asked once.
+// Each lane of the mask writes its value at its index. How wide the words are is asked once.
 //
 // Index where one is outside, with the lowest such lane, and then nothing changes.
 fn store<const N: usize>(
     cells: &mut Cells,
     index: &Lanes<N>,
     mask: &LaneMask<N>,
-    words: &[u64; N],
+    value: &Lanes<N>,
 ) -> Result<(), IndexTrap>
     requires index { index.now.elem ≡ I64 }
-    requires fits { (p : ℕ) → lane_of words.now p < 2 ^ held_width cells.old }
+    requires wide { held_width cells.old ≡ cell_width value.now.elem }
+    requires fits { (p : ℕ) → lane_of value.now.bits p < 2 ^ held_width cells.old }
     ensures inside { IfOk result (λ _. lowest_failing N (is_outside I64 (length (held cells.old))) (on (flag_of mask.now) (lane_of index.now.bits)) ≡ None) }
-    ensures held { IfOk result (λ _. held cells.new ≡ stored word_with N (flag_of mask.now) (lane_of index.now.bits) (lane_of words.now) (held cells.old)) }
+    ensures held { IfOk result (λ _. held cells.new ≡ stored word_with N (flag_of mask.now) (lane_of index.now.bits) (lane_of value.now.bits) (held cells.old)) }
     ensures wide { held_width cells.new ≡ held_width cells.old }
     ensures lowest { IfErr result (λ trap. lowest_failing N (is_outside I64 (length (held cells.old))) (on (flag_of mask.now) (lane_of index.now.bits)) ≡ Some trap.instance) }
     ensures same { IfErr result (λ trap. held cells.new ≡ held cells.old) }
 {
-    match cells {
-        Cells::Bits8(items) => scattered(items.as_mut_slice(), index, mask, words),
-        Cells::Bits16(items) => scattered(items.as_mut_slice(), index, mask, words),
-        Cells::Bits32(items) => scattered(items.as_mut_slice(), index, mask, words),
-        Cells::Bits64(items) => scattered(items.as_mut_slice(), index, mask, words),
+    match (cells, value.row()) {
+        (Cells::Bits8(items), Row::Bits8(row)) => scattered(items.as_mut_slice(), index, mask, row),
+        (Cells::Bits16(items), Row::Bits16(row)) => scattered(
+            items.as_mut_slice(),
+            index,
+            mask,
+            row,
+        ),
+        (Cells::Bits32(items), Row::Bits32(row)) => scattered(
+            items.as_mut_slice(),
+            index,
+            mask,
+            row,
+        ),
+        (Cells::Bits64(items), Row::Bits64(row)) => scattered(
+            items.as_mut_slice(),
+            index,
+            mask,
+            row,
+        ),
+        _ => unreachable!(),
     }
 }

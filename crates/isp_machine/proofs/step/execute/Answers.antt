@@ -13,7 +13,7 @@ use Rattle.isp_machine.specs.Moves.{Computes}
 use Rattle.isp_machine.specs.Rows.{RunRows, run_of}
 use Rattle.isp_machine.specs.Steps.{Steady}
 use Rattle.isp_machine.specs.Views.{scalars_at, vectors_at, masks_at}
-use Rattle.isp_machine.proofs.Doing.{spoken, computed, called, call_mask, call_place}
+use Rattle.isp_machine.proofs.Doing.{spoken, computed, came, called, call_mask, call_place}
 use Rattle.isp_machine.proofs.step.execute.Goals as goal
 
 pub call-requires : goal.call-requires
@@ -81,6 +81,24 @@ returns-in_ok-print_vector-in-PrintVector-clause-done g c =
 pub returns-in-Return-clause-done : goal.returns-in-Return-clause-done
 returns-in-Return-clause-done g c =
     called g.row.N c.args.here.now c.args.instr.now c.args.run.now c.requires.found c.requires.sound _ c.run.view_is (instr.Return c.in-Return.x) c.in-Return.is c.give_back.new.stores c.give_back.new.frame c.give_back.new.waiting.items c.give_back.new.ending c.give_back.ensures
+
+pub scatter-requires : goal.scatter-requires
+scatter-requires g c =
+    let h = c.args.here.now in
+    let i = c.in-Scatter in
+    let op = instr.Scatter i.a i.i i.y i.k i.place in
+    search rules
+
+pub returns-in-Scatter-clause-done : goal.returns-in-Scatter-clause-done
+returns-in-Scatter-clause-done g c =
+    let k = c.in-Scatter in
+    let computes : Computes c.args.instr.now = search rules in
+    let frame : c.deref_mut-in-Scatter.result.now ≡ c.run.inside.frame = search rules in
+    let waiting : c.run-inside-in-Scatter.inside.0.1.0.items ≡ c.run.inside.waiting.items = search rules in
+    let stores : c.run-inside-in-Scatter.inside.0.1.1.0 ≡ c.run.inside.stores = search rules in
+    let out : c.run-inside-in-Scatter.inside.0.1.1.1.0.items ≡ c.run.inside.out.items = search rules in
+    let is = (λ j. run_of (stores j) (frame j) (waiting j) (out j)) ∙ c.run.view_is in
+    came g.row.N c.args.here.now c.args.instr.now c.args.run.now c.requires.found c.requires.sound _ is computes c.requires.operands c.requires.next (instr.Scatter k.a k.i k.y k.k k.place) k.is c.scatter.new.stores c.scatter.new.frame c.scatter.new.ending c.scatter.ensures
 
 pub returns-in_default-compute : goal.returns-in_default-compute
 returns-in_default-compute g c =

@@ -3,6 +3,8 @@ use Rattle.isp_base.specs.declared.trap.Trap.{Trap}
 use Rattle.isp_code.specs.declared.instr.Instr.TheVariants as instr
 use Rattle.isp_machine.specs.Moves.{Fails}
 use Rattle.isp_machine.specs.Rows.{FrameRows}
+use Rattle.isp_machine.specs.Steps.{Comes}
+use Rattle.isp_machine.specs.declared.stop.Step.{Step}
 use Rattle.isp_machine.proofs.Written.{array_low, array_there, array_elem_is, vector_elem_is, goes_scatter, fails_scatter}
 use Rattle.isp_machine.proofs.stores.scatter.Goals as goal
 
@@ -17,14 +19,18 @@ scatter-requires g c =
     let elem = vector_elem_is h f shaped a.y o.1.1.0.0 ∙ o.1.1.0.1 ∙ sym (array_elem_is h a.stores.now f shaped c.requires.arrays a.a there) in
     (search rules, (array_low h a.stores.now f shaped c.requires.arrays a.a there, (search rules, (search rules, (search rules, (array_there h a.stores.now f shaped c.requires.arrays a.a there, (vector_elem_is h f shaped a.i o.1.0.0 ∙ o.1.0.1, elem)))))))
 
-pub returns-in-Ok-clause-ok : goal.returns-in-Ok-clause-ok
-returns-in-Ok-clause-ok g c =
+pub returns-in-Ok : goal.returns-in-Ok
+returns-in-Ok g c =
     let a = c.args in
-    goes_scatter a.here.now g.row.N c.requires.gang a.stores.now a.frame.now c.requires.shaped c.requires.arrays a.a a.i a.y a.k a.place c.requires.operands.0.0 _ _ _ c.in-Ok.ensures.inside c.in-Ok.ensures.written
-    (c.next.ensures ∙ ap (λ (z : FrameRows). record z { pc = z.pc + 1 }) c.in-Ok.ensures.others)
+    subst (λ (d : Step). Comes a.here.now (instr.Scatter a.a a.i a.y a.k a.place) a.stores.now a.frame.now c.scatter.new.stores c.next.new.self d) (sym c.requires.went)
+    (goes_scatter a.here.now g.row.N c.requires.gang a.stores.now a.frame.now c.requires.shaped c.requires.arrays a.a a.i a.y a.k a.place c.requires.operands.0.0 _ _ _ c.in-Ok.ensures.inside c.in-Ok.ensures.written
+    (c.next.ensures ∙ ap (λ (z : FrameRows). record z { pc = z.pc + 1 }) c.in-Ok.ensures.others))
 
-pub returns-in-Err-clause-err : goal.returns-in-Err-clause-err
-returns-in-Err-clause-err g c =
-    let a = c.args in
-    subst (λ (t : Trap). Fails a.here.now (instr.Scatter a.a a.i a.y a.k a.place) a.stores.now a.frame.now t) (sym c.trap.ensures)
-    (fails_scatter a.here.now g.row.N c.requires.gang a.stores.now a.frame.now c.requires.shaped c.requires.arrays a.a a.i a.y a.k a.place c.requires.operands.0.0 c.in-Err.trap.instance c.in-Err.ensures.lowest)
+pub returns-in-Err : goal.returns-in-Err
+returns-in-Err g c =
+    let a = c.args in (
+      subst (λ (t : Trap). Fails a.here.now (instr.Scatter a.a a.i a.y a.k a.place) a.stores.now a.frame.now t) (sym c.trap.ensures)
+          (fails_scatter a.here.now g.row.N c.requires.gang a.stores.now a.frame.now c.requires.shaped c.requires.arrays a.a a.i a.y a.k a.place c.requires.operands.0.0 c.in-Err.trap.instance c.in-Err.ensures.lowest),
+      c.in-Err.ensures.same_stores,
+      c.in-Err.ensures.same,
+    )

@@ -5,4 +5,4 @@ use Rattle.isp_store.specs.Cells.{stored}
 use Rattle.isp_store.proofs.gather.leave.Given as goal
 
 abbrev pub invariant-loop-lane : goal.invariant-loop-lane
-invariant-loop-lane g l = l.cells ≡ stored g.C.Cell.with l.lane (flag_of l.mask) (lane_of l.places) (lane_of l.words) l.initial.cells
+invariant-loop-lane g l = l.cells ≡ stored g.C.Cell.with l.lane (flag_of l.mask) (lane_of l.places) (g.R.Cell.find l.row) l.initial.cells

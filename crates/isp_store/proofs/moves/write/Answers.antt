@@ -19,8 +19,8 @@ put_cells-requires-clause-fits g c =
     let t = a.array.now.elem in
     let cs = held c.take_cells-cells.result in
     let x = lane_of a.index.now.bits in
-    let y = lane_of c.words-words.result in
-    let fits : (p : ℕ) → y p < 2 ^ width t = subst (λ (xs : List ℕ). Fit t xs) (sym c.words-words.ensures) (subst (λ (e : Elem). Fit e a.value.now.bits) c.requires.elem c.told-2.ensures.fits) in
+    let y = lane_of a.value.now.bits in
+    let fits : (p : ℕ) → y p < 2 ^ width t = subst (λ (e : Elem). Fit e a.value.now.bits) c.requires.elem c.told-2.ensures.fits in
     let same = c.take_cells-cells.ensures.fits in
     subst (λ (e : Elem). Fit e (held c.store-outcome.new.cells)) (sym (ap (λ (r : Row). r.elem) c.take_cells-cells.ensures.left))
     (either c.store-outcome.result c.store-outcome.ensures.held c.store-outcome.ensures.same
@@ -38,8 +38,7 @@ returns-clause-elements g c =
     both_ok c.store-outcome.result c.store-outcome.ensures.held c.store-outcome.ensures.inside
     (λ e none.
     ap (λ (r : Row). lane_of r.bits) c.put_cells.ensures ∙ ap lane_of e
-    ∙ stored_words m x (lane_of c.words-words.result) (element I64) n cs (below_inside (length cs) a.mask.now a.index.now.bits fits n none)
-    ∙ ap (λ (xs : List ℕ). scatter n places (on m (lane_of xs)) (lane_of cs)) c.words-words.ensures
+    ∙ stored_words m x (lane_of a.value.now.bits) (element I64) n cs (below_inside (length cs) a.mask.now a.index.now.bits fits n none)
     ∙ ap (λ (xs : List ℕ). scatter n places (on m (lane_of a.value.now.bits)) (lane_of xs)) c.take_cells-cells.ensures.words)
 
 pub returns-clause-size : goal.returns-clause-size
@@ -48,5 +47,5 @@ returns-clause-size g c =
     let cs = held c.take_cells-cells.result in
     ap (λ (r : Row). length r.bits) c.put_cells.ensures
     ∙ either c.store-outcome.result c.store-outcome.ensures.held c.store-outcome.ensures.same
-    (λ e. ap length e ∙ length_stored word_with (flag_of a.mask.now) (lane_of a.index.now.bits) g.row.N (lane_of c.words-words.result) cs) (λ e. ap length e)
+    (λ e. ap length e ∙ length_stored word_with (flag_of a.mask.now) (lane_of a.index.now.bits) g.row.N (lane_of a.value.now.bits) cs) (λ e. ap length e)
     ∙ ap length c.take_cells-cells.ensures.words

@@ -24,9 +24,9 @@ invariant_of-self g c =
     let xss = lists c.self.inside.rows in
     let m = flag_of a.mask.now in
     let x = lane_of a.index.now.bits in
-    let y = lane_of c.words-words.result in
+    let y = lane_of a.value.now.bits in
     let fits : (p : ℕ) → y p < 2 ^ width t =
-    subst (λ (xs : List ℕ). Fit t xs) (sym c.words-words.ensures) (subst (λ (e : Elem). Fit e a.value.now.bits) (c.requires.elem ∙ sym (ap (λ (s : Own). s.elem) c.self.view_is)) c.told-3.ensures.fits) in
+    subst (λ (e : Elem). Fit e a.value.now.bits) (c.requires.elem ∙ sym (ap (λ (s : Own). s.elem) c.self.view_is)) c.told-3.ensures.fits in
     subst (λ (k : ℕ). AreRows n k t (lists c.store.new.self)) (sym c.store.ensures.wide)
     (either c.store.result c.store.ensures.lists c.store.ensures.same (λ e. subst (AreRows n w t) (sym e) (are_stored m x y n w t n xss fits c.self.invariant)) (λ e. subst (AreRows n w t) (sym e) c.self.invariant))
 
@@ -37,7 +37,7 @@ returns-clause-size g c =
     let xss = lists c.self.inside.rows in
     let now = lists c.store.new.self in
     let same : length now ≡ length xss =
-    either c.store.result c.store.ensures.lists c.store.ensures.same (λ e. ap length e ∙ length_stored row_with (flag_of a.mask.now) (lane_of a.index.now.bits) g.row.N (lane_of c.words-words.result) xss) (λ e. ap length e) in
+    either c.store.result c.store.ensures.lists c.store.ensures.same (λ e. ap length e ∙ length_stored row_with (flag_of a.mask.now) (lane_of a.index.now.bits) g.row.N (lane_of a.value.now.bits) xss) (λ e. ap length e) in
     rows_long t now ∙ same ∙ sym (rows_long t xss) ∙ ap size c.self.view_is
 
 pub returns-clause-elements : goal.returns-clause-elements
@@ -48,7 +48,7 @@ returns-clause-elements g c =
     let xss = lists c.self.inside.rows in
     let m = flag_of a.mask.now in
     let x = lane_of a.index.now.bits in
-    let y = lane_of c.words-words.result in
+    let y = lane_of a.value.now.bits in
     let places = map1 (element I64) (on m x) in
     let fits = subst (λ (e : Elem). Fit e a.index.now.bits) c.requires.index c.told.ensures.fits in
     both_ok c.store.result c.store.ensures.lists c.store.ensures.inside
@@ -56,5 +56,4 @@ returns-clause-elements g c =
     own_rows t (lists c.store.new.self) ∙ ap (found row_word) e
     ∙ all_stored m x y (element I64) n xss (all_inside n (length xss) a.mask.now a.index.now.bits c.told-2.ensures.long fits none) (λ p is. on_there a.mask.now n p c.told-2.ensures.long is) c.self.invariant.long
     (λ p h. past_end a.mask.now p (omega (arith, h, c.told-2.ensures.long)))
-    ∙ ap (λ (f : ℕ → Lanes). own_put places y f) (sym (own_rows t xss) ∙ ap own c.self.view_is)
-    ∙ ap (λ (xs : List ℕ). own_put places (lane_of xs) (own a.self.now)) c.words-words.ensures)
+    ∙ ap (λ (f : ℕ → Lanes). own_put places y f) (sym (own_rows t xss) ∙ ap own c.self.view_is))
