@@ -1,11 +1,12 @@
 -- The lanes of a mask, 0 or 1.
-use Rattle.std.proofs.Common.{◌≡◌, refl, sym, ap, ap₂, ◌∙◌, ◌≤◌, ◌+◌, subst, Some, None, map-id, lt-ltb, le-ltb, nat_lt, ltb-true, ltb-false, ℕ, zero, suc, ◌<◌, Bool, true, false, cond, not, ◌&&◌, ◌||◌, ◌==◌, arith, bit_and, bit_or, bit_xor, List, [], ◌∷◌, map, length, get_or, set, replicate, lit≤, Fits, Fits-lit, w8}
+use Rattle.std.proofs.Common.{◌≡◌, refl, sym, ap, ap₂, ◌∙◌, ◌≤◌, ◌+◌, subst, Some, None, map-id, lt-ltb, le-ltb, nat_lt, ltb-true, ltb-false, ℕ, zero, suc, ◌<◌, Bool, true, false, cond, not, ◌&&◌, ◌||◌, ◌==◌, ◌/◌, ◌%◌, ◌^◌, arith, bit_and, bit_or, bit_xor, List, [], ◌∷◌, map, length, get_or, set, replicate, lit≤, Fits, Fits-lit, w8}
 use Rattle.std.proofs.lemmas.Bool.Decides.{nat_tests}
-use Rattle.std.proofs.lemmas.Simd.{leading_from_mask_l, trailing_mask_l}
+use Rattle.std.proofs.lemmas.Simd.{bit_mask_l, leading_from_mask_l, trailing_mask_l}
 use Rattle.std.specs.List.{position, position_or_len, list_any}
 use lib.Count.{count_trailing_zeros}
 use Rattle.std.specs.Simd.Lanes.{zip2, top, mask_l}
 use mir.Val.{bool_byte}
+use Rattle.isp_base.specs.Sets.{flag_of}
 use Rattle.isp_lanes.specs.Lanes.{is_on, lowest}
 
 pub on_and : (a b : ℕ) → a < 2 → b < 2 → is_on (bit_and a b) ≡ (is_on a && is_on b)
@@ -173,3 +174,11 @@ full_hits t [] zero l = refl
 full_hits t [] (suc n) l = refl
 full_hits t (x ∷ xs) zero l = absurd (omega arith)
 full_hits t (x ∷ xs) (suc n) l = ap₂ (λ c r. c ∷ r) (on_flag (t x)) (full_hits t xs n (omega arith))
+
+-- a lane's bit
+pub bit_is : (ms : List Bool) (bits i : ℕ) → bits ≡ mask_l ms → (bits / 2 ^ i % 2 == 1) ≡ flag_of ms i
+bit_is ms bits i e = ap (λ k. k == 1) (ap (λ b. b / 2 ^ i % 2) e ∙ bit_mask_l ms i) ∙ by (flag_of ms i)
+  where
+    by : (b : Bool) → (cond b 1 0 == 1) ≡ b
+    by true = refl
+    by false = refl

@@ -28,8 +28,9 @@ pub(crate) fn gather<const N: usize, S: Source<N>, W: Word>(
         Some(lane) => return Err(lane),
         None => {}
     }
+    let lanes = mask.bits();
     for lane in 0..N {
-        if mask.get(lane) {
+        if lanes.get(lane) {
             words[lane] = W::of(source.find(lane, places[lane]));
         }
     }

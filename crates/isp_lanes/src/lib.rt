@@ -13,6 +13,6 @@ mod word;
 mod words;
 
 pub use lanes::Lanes;
-pub use mask::LaneMask;
+pub use mask::{LaneBits, LaneMask};
 pub use row::Row;
 pub use source::Source;

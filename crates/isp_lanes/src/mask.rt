@@ -1,6 +1,6 @@
 //! Which of N lanes are on.
 ghost use Rattle.std.proofs.Common.{ap};
-ghost use Rattle.std.specs.Prelude.{◌≡◌, ℕ, ◌<◌, ◌≤◌, List, Bool, true, false, length, map, replicate, slice_index, slice_get, Some, IfSome, ◌&&◌, ◌||◌, not, slice_set, position, unwrap_or, ◌^◌, ◌==◌};
+ghost use Rattle.std.specs.Prelude.{◌≡◌, ℕ, ◌<◌, ◌≤◌, List, Bool, true, false, length, map, replicate, slice_index, slice_get, Some, IfSome, ◌&&◌, ◌||◌, not, slice_set, position, unwrap_or, ◌^◌, ◌==◌, ◌/◌, ◌%◌};
 ghost use Rattle.std.specs.List.{list_any};
 ghost use Rattle.std.specs.Simd.Lanes.{zip2, sel_l, mask_l};
 ghost use Rattle.isp_base.specs.declared.types.Elem.TheVariants.{Bool as Truth};
@@ -138,11 +138,39 @@ impl<const N: usize> LaneMask<N> {
         LaneMask::full().nonzero(kernels::below(count))
     }
 
+    /// The same lanes, a bit for each: who asks for many lanes one after the other asks these.
+    #[inline(always)]
+    pub fn bits(&self) -> LaneBits
+        ensures { result.bits ≡ mask_l self.now }
+    {
+        let lanes = Simd::from_array(self.lanes);
+        LaneBits {
+            bits: lanes.simd_ne(Simd::splat(0)).to_bitmask(),
+        }
+    }
+
     /// Whether a lane is on.
     pub fn any(&self) -> bool
         ensures { result ≡ list_any (λ b. b) self.now }
     {
-        self.bits() != 0
+        self.bits().bits != 0
+    }
+}
+
+/// Which lanes are on, up to 64 of them: the bit of lane 0 is the lowest.
+#[derive(Clone, Copy)]
+pub struct LaneBits {
+    bits: u64,
+}
+
+impl LaneBits {
+    /// Whether the lane is on.
+    #[inline(always)]
+    pub fn get(self, lane: usize) -> bool
+        requires { lane < 64 }
+        ensures { result ≡ (self.bits / 2 ^ lane % 2 == 1) }
+    {
+        (self.bits >> lane) % 2 == 1
     }
 }
 
@@ -154,21 +182,12 @@ impl<const N: usize> LaneMask<N> {
         ensures there { IfSome result (λ lane. lane < N) }
     {
         self.told();
-        let bits = self.bits();
+        let bits = self.bits().bits;
         if bits == 0 {
             None
         } else {
             Some(bits.trailing_zeros() as usize)
         }
-    }
-
-    // One bit for each lane, that of lane 0 lowest.
-    fn bits(&self) -> u64
-        ensures { result ≡ mask_l self.now }
-    {
-        Simd::from_array(self.lanes)
-            .simd_ne(Simd::splat(0))
-            .to_bitmask()
     }
 
     // The lanes that are on and have a word other than 0.

@@ -78,8 +78,10 @@ fn leave<C: Cell<N>, R: Cell<N>, const N: usize>(
     requires fits { (p : ℕ) → R.find row.now p < 2 ^ C.width }
     ensures { cells.new ≡ stored C.with N (flag_of mask.now) (lane_of places.now) (R.find row.now) cells.old }
 {
+    mask.told();
+    let lanes = mask.bits();
     for lane in 0..N {
-        if mask.get(lane) {
+        if lanes.get(lane) {
             cells[places[lane] as usize].set(lane, row.word(lane));
         }
     }

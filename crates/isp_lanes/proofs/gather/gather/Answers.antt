@@ -1,11 +1,11 @@
-use Rattle.std.proofs.Common.{◌≡◌, sym, ap, ◌∙◌, Some, arith, true, false, map}
+use Rattle.std.proofs.Common.{◌≡◌, sym, ap, ◌∙◌, arith, map}
 use Rattle.std.specs.Prelude.{slice_set}
 use Rattle.std.specs.List.{range_with_len}
 use Rattle.std.specs.Simd.Lanes.{zip2}
-use Rattle.std.proofs.lemmas.Option.{get_or_from_slice_get}
 use Rattle.isp_base.specs.Maps.{lane_of}
 use Rattle.isp_base.specs.Sets.{flag_of}
 use Rattle.isp_lanes.proofs.Failing.{none_fails}
+use Rattle.isp_lanes.proofs.MaskLanes.{bit_is}
 use Rattle.isp_lanes.proofs.Gathered.{so_far, far_on, far_off, far_all, word_found, words_long}
 use Rattle.isp_lanes.proofs.gather.gather.Goals as goal
 use Rattle.isp_lanes.proofs.gather.gather.Goals.{then-get, else-get}
@@ -13,7 +13,7 @@ use Rattle.isp_lanes.proofs.gather.gather.Goals.{then-get, else-get}
 pub find-requires-clause-inside : goal.find-requires-clause-inside
 find-requires-clause-inside g c =
     let a = c.args in
-    let is = get_or_from_slice_get a.mask.now c.loop-lane.lane true false (c.get.ensures ∙ ap Some c.if-get.true) in
+    let is = sym (bit_is a.mask.now c.bits-lanes.result.bits c.loop-lane.lane c.bits-lanes.ensures) ∙ sym c.get.ensures ∙ c.if-get.true in
     none_fails (g.S.Source.outside a.source.now) (flag_of a.mask.now) (lane_of a.places.now) g.row.N (sym c.first_outside.ensures ∙ c.in-None.is) c.loop-lane.lane c.loop-lane-test.true is
 
 pub loop-lane-preserved : goal.loop-lane-preserved
@@ -26,12 +26,12 @@ loop-lane-preserved g c =
     let new = map with (zip2 word (range_with_len 0 n) a.places.now) in
     elim c.if-get.branch [
       | then-get w ↦
-          let is = get_or_from_slice_get a.mask.now l.lane true false (c.get.ensures ∙ ap Some w.if-get.true) in
+          let is = sym (bit_is a.mask.now c.bits-lanes.result.bits l.lane c.bits-lanes.ensures) ∙ sym c.get.ensures ∙ w.if-get.true in
           w.words-is ∙ ap (λ ws. slice_set ws l.lane w.of.result) l.invariant
           ∙ far_on l.lane n a.mask.now new a.words.now w.of.result w.of.result c.told.ensures.long (words_long with word n a.places.now c.told-places) c.told-words c.loop-lane-test.true is
           (w.of.ensures ∙ ap with w.find.ensures ∙ sym (word_found with word n l.lane a.places.now w.of.result c.told-places c.loop-lane-test.true))
       | else-get w ↦
-          let off = get_or_from_slice_get a.mask.now l.lane false false (c.get.ensures ∙ ap Some w.if-get.false) in
+          let off = sym (bit_is a.mask.now c.bits-lanes.result.bits l.lane c.bits-lanes.ensures) ∙ sym c.get.ensures ∙ w.if-get.false in
           w.words-is ∙ l.invariant ∙ far_off l.lane a.mask.now new a.words.now off
     ]
 

@@ -1,5 +1,5 @@
-use Rattle.std.proofs.Common.{◌≡◌, ℕ, sym, ap, ◌∙◌, subst, length, Some, true, false, ◌<◌, get_or, rules}
-use Rattle.std.proofs.lemmas.Option.{get_or_from_slice_get}
+use Rattle.std.proofs.Common.{◌≡◌, ℕ, sym, ap, ◌∙◌, subst, length, true, ◌<◌, get_or, rules}
+use Rattle.isp_lanes.proofs.MaskLanes.{bit_is}
 use Rattle.isp_base.specs.Maps.{lane_of}
 use Rattle.isp_base.specs.Sets.{flag_of}
 use Rattle.isp_store.specs.Cells.{left}
@@ -11,7 +11,7 @@ pub bounds-cells-places : goal.bounds-cells-places
 bounds-cells-places g c =
     let a = c.args in
     let l = c.loop-lane in
-    let is = get_or_from_slice_get a.mask.now l.lane true false (c.get.ensures ∙ ap Some c.if-get.true) in
+    let is = sym (bit_is a.mask.now c.bits-lanes.result.bits l.lane c.bits-lanes.ensures) ∙ sym c.get.ensures ∙ c.if-get.true in
     let size : length l.cells ≡ length a.cells.now = ap length l.invariant ∙ length_stored g.C.Cell.with (flag_of a.mask.now) (lane_of a.places.now) l.lane (g.R.Cell.find a.row.now) a.cells.now in
     subst (λ (n : ℕ). lane_of a.places.now l.lane < n) (sym size) (c.requires.inside l.lane c.loop-lane-test.true is)
 
@@ -19,7 +19,7 @@ pub offset_bounds-cells-places : goal.offset_bounds-cells-places
 offset_bounds-cells-places g c =
     let a = c.args in
     let l = c.loop-lane in
-    let is = get_or_from_slice_get a.mask.now l.lane true false (c.get.ensures ∙ ap Some c.if-get.true) in
+    let is = sym (bit_is a.mask.now c.bits-lanes.result.bits l.lane c.bits-lanes.ensures) ∙ sym c.get.ensures ∙ c.if-get.true in
     let size : length l.cells ≡ length a.cells.now = ap length l.invariant ∙ length_stored g.C.Cell.with (flag_of a.mask.now) (lane_of a.places.now) l.lane (g.R.Cell.find a.row.now) a.cells.now in
     let h : lane_of a.places.now l.lane < length l.cells = subst (λ (n : ℕ). lane_of a.places.now l.lane < n) (sym size) (c.requires.inside l.lane c.loop-lane-test.true is) in
     search rules
@@ -34,12 +34,12 @@ loop-lane-preserved g c =
     let with = g.C.Cell.with in
     elim c.if-get.branch [
       | then-get w ↦
-          let is = get_or_from_slice_get a.mask.now l.lane true false (c.get.ensures ∙ ap Some w.if-get.true) in
+          let is = sym (bit_is a.mask.now c.bits-lanes.result.bits l.lane c.bits-lanes.ensures) ∙ sym c.get.ensures ∙ w.if-get.true in
           let size : length l.cells ≡ length a.cells.now = ap length l.invariant ∙ length_stored with m x l.lane y a.cells.now in
           let here : x l.lane < length l.cells = subst (λ (n : ℕ). x l.lane < n) (sym size) (c.requires.inside l.lane c.loop-lane-test.true is) in
           w.cells-is ∙ left_set with l.cells (x l.lane) l.lane (y l.lane) w.index-cells-places.result w.set.new.self here (w.set.ensures ∙ ap (with (get_or l.cells (x l.lane) w.index-cells-places.result) l.lane) w.word.ensures.value)
           ∙ ap (left with true (x l.lane) l.lane (y l.lane)) l.invariant ∙ sym (stored_on with m x l.lane y a.cells.now is)
       | else-get w ↦
-          let off = get_or_from_slice_get a.mask.now l.lane false false (c.get.ensures ∙ ap Some w.if-get.false) in
+          let off = sym (bit_is a.mask.now c.bits-lanes.result.bits l.lane c.bits-lanes.ensures) ∙ sym c.get.ensures ∙ w.if-get.false in
           w.cells-is ∙ l.invariant ∙ sym (stored_off with m x l.lane y a.cells.now off)
     ]

@@ -1,4 +1,4 @@
-use Rattle.std.proofs.Common.{◌≡◌, ℕ, ◌<◌, ◌^◌, List, length, sym, ap, ◌∙◌, subst, arith}
+use Rattle.std.proofs.Common.{◌≡◌, ℕ, ◌<◌, ◌^◌, length, sym, ap, ◌∙◌, subst, arith}
 use Rattle.isp_base.specs.Access.{element}
 use Rattle.isp_base.specs.Maps.{Lanes, lane_of, map1, on}
 use Rattle.isp_base.specs.Rows.{Fit}
