@@ -1,12 +1,12 @@
 -- Rows of truths, and what is read of them, at each width of words.
-use Rattle.std.proofs.Common.{◌≡◌, refl, sym, ap, ap₂, ◌∙◌, ℕ, zero, suc, ◌+◌, ◌-◌, ◌^◌, ◌%◌, ◌<◌, Bool, cond, not, nat_lt, ◌==◌, arith, List, [], ◌∷◌, map, map-id, length, get_or, replicate, bit_and, bit_xor, mod-eq_of_lt, mod-lt, pow_pos, Fits, w8, subst}
+use Rattle.std.proofs.Common.{◌≡◌, refl, sym, ap, ap₂, ◌∙◌, ℕ, zero, suc, ◌+◌, ◌-◌, ◌^◌, ◌%◌, ◌<◌, ◌≤◌, Bool, true, false, cond, not, nat_lt, ◌==◌, arith, List, [], ◌∷◌, map, map-id, length, get_or, replicate, bit_and, bit_xor, mod-eq_of_lt, mod-lt, pow_pos, Fits, w8, subst}
 use Rattle.std.specs.Int.{Width}
 use Rattle.std.proofs.Math.Facts.{Fits-of_lt}
 use mir.Val.{bits, hbits}
 use Rattle.std.proofs.lemmas.Bool.Decides.{nat_tests}
-use Rattle.std.proofs.lemmas.Simd.{tops_compared, zip2_splat}
-use Rattle.std.proofs.lemmas.List.{length-replicate}
-use Rattle.std.specs.Simd.Lanes.{zip2, sel_l, top, Each1}
+use Rattle.std.proofs.lemmas.Simd.{tops_compared, zip2_splat, bitmask_splat}
+use Rattle.std.proofs.lemmas.List.{length-replicate, length-map}
+use Rattle.std.specs.Simd.Lanes.{zip2, sel_l, mask_l, top, Each1}
 use lib.Bits.{and_mask}
 use Rattle.isp_lanes.specs.Lanes.{is_on}
 use Rattle.isp_lanes.proofs.MaskLanes.{flag_fits}
@@ -58,6 +58,29 @@ module _ (w : Width) where
 
   pub flags_fit : (n : ℕ) (xs : List ℕ) → length xs ≡ n → Each1 (Fits w8) (sel_l {A = ℕ} (map (top (hbits w)) (zip2 (λ a b. cond (not (a == b)) (2 ^ bits w - 1) 0) xs (replicate n 0))) (replicate n 1) (replicate n 0))
   flags_fit n xs p = subst (Each1 (Fits w8)) (sym (flags_of n xs p)) (each_map (Fits w8) (λ b. cond (is_on b) 1 0) (λ b. flag_fits (is_on b)) xs)
+
+-- a lane is on where its byte is not 0
+ons_of : (bs : List ℕ) → map not (map {A = ℕ} {B = Bool} (λ b. b == 0) bs) ≡ map is_on bs
+ons_of [] = refl
+ons_of (b ∷ bs) = ap₂ (λ c t. c ∷ t) (on_is w8 b) (ons_of bs)
+
+-- where no lane is off, each word is the first list's
+all_kept : (ts : List Bool) (xs ys : List ℕ) → length ts ≡ length xs → length ts ≡ length ys → mask_l ts ≡ 0 → sel_l {A = ℕ} (map not ts) xs ys ≡ xs
+all_kept [] [] ys p q e = refl
+all_kept [] (x ∷ xs) ys p q e = absurd (omega arith)
+all_kept (t ∷ ts) [] ys p q e = absurd (omega arith)
+all_kept (t ∷ ts) (x ∷ xs) [] p q e = absurd (omega arith)
+all_kept (true ∷ ts) (x ∷ xs) (y ∷ ys) p q e = absurd (omega arith)
+all_kept (false ∷ ts) (x ∷ xs) (y ∷ ys) p q e = ap (λ t. x ∷ t) (all_kept ts xs ys (omega arith) (omega arith) (omega arith))
+
+pub all_lanes : (n : ℕ) (bs xs ys : List ℕ) → length bs ≡ n → length xs ≡ n → length ys ≡ n → n ≤ 64
+    → mask_l (map (top (hbits w8)) (zip2 (λ a b. cond (a == b) (2 ^ bits w8 - 1) 0) bs (replicate n 0))) % 2 ^ 64 ≡ 0
+    → sel_l {A = ℕ} (map is_on bs) xs ys ≡ xs
+all_lanes n bs xs ys p q r few none =
+    let offs = map {A = ℕ} {B = Bool} (λ b. b == 0) bs in
+    let empty : mask_l offs ≡ 0 = sym (bitmask_splat w8 (λ a b. a == b) bs n 0 p few) ∙ none in
+    let ons = ons_of bs in
+    ap (λ ms. sel_l ms xs ys) (sym ons) ∙ all_kept offs xs ys (length-map bs _ ∙ p ∙ sym q) (length-map bs _ ∙ p ∙ sym r) empty
 
 -- words that fit already
 pub all_low : (w : ℕ) (xs : List ℕ) → ((k : ℕ) → get_or xs k 0 < 2 ^ w) → xs ≡ map (λ a. a % 2 ^ w) xs

@@ -213,6 +213,6 @@ impl<const N: usize> LaneMask<N> {
     pub(crate) fn merge<V: Words<N>>(&self, new: V, old: V) -> V
         ensures { V.words result ≡ sel_l self.now (V.words new) (V.words old) }
     {
-        new.over(&self.lanes, old)
+        new.under(&self.lanes, old)
     }
 }

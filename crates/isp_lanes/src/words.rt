@@ -1,5 +1,5 @@
 //! N words of one width, as a vector of the processor.
-ghost use Rattle.std.specs.Prelude.{◌≡◌, refl, ℕ, ◌^◌, ◌<◌, ◌+◌, ◌-◌, ◌*◌, ◌/◌, ◌%◌, ◌==◌, List, map, replicate, nat_lt, cond, bit_and, bit_or, bit_xor};
+ghost use Rattle.std.specs.Prelude.{◌≡◌, refl, ℕ, ◌^◌, ◌<◌, ◌≤◌, ◌+◌, ◌-◌, ◌*◌, ◌/◌, ◌%◌, ◌==◌, List, map, replicate, nat_lt, cond, bit_and, bit_or, bit_xor};
 ghost use Rattle.std.specs.Simd.Lanes.{zip2, sel_l, Each2};
 ghost use Rattle.isp_lanes.specs.Lanes.{is_on};
 ghost use Rattle.isp_lanes.specs.Held.{held, held_width};
@@ -82,6 +82,14 @@ pub(crate) trait Words<const N: usize>: Copy {
     // These words where the mask's byte is not 0, and the old ones elsewhere.
     fn over(self, mask: &[u8; N], old: Self) -> Self
         ensures { words result ≡ sel_l (map is_on mask.now) (words self) (words old) };
+
+    // The same. Where words fill many registers, each of which needs its part of the mask, it asks first whether that has all lanes.
+    fn under(self, mask: &[u8; N], old: Self) -> Self
+        requires { N ≤ 64 }
+        ensures { words result ≡ sel_l (map is_on mask.now) (words self) (words old) }
+    {
+        self.over(mask, old)
+    }
 
     // 1 where the word is not 0, else 0.
     fn flags(self) -> [u8; N]
@@ -571,6 +579,11 @@ impl<const N: usize> Words<N> for Simd<u64, N> {
             .cast::<u64>()
             .simd_ne(Simd::splat(0))
             .select(self, old)
+    }
+
+    fn under(self, mask: &[u8; N], old: Self) -> Self {
+        let off = Simd::from_array(*mask).simd_eq(Simd::splat(0)).to_bitmask();
+        if off == 0 { self } else { self.over(mask, old) }
     }
 
     fn flags(self) -> [u8; N] {
