@@ -23,6 +23,8 @@ use Rattle.isp_base.proofs.Unaries.{bit_of}
 use Rattle.isp_base.proofs.Words.{word_spread}
 use Rattle.isp_lanes.proofs.Flags.{on_is}
 use Rattle.isp_lanes.specs.Lanes.{is_on}
+use Rattle.isp_lanes.specs.Held.{is_truth}
+use Rattle.std.proofs.lemmas.Bool.{false≢true, true≢false}
 
 -- ---- the room that a type takes
 
@@ -317,6 +319,21 @@ filled I32 n = refl
 filled U32 n = refl
 filled I64 n = refl
 filled U64 n = refl
+
+-- the type that is told to be bool
+pub is_the_truth : (t : Elem) → is_truth t ≡ true → t ≡ Truth
+is_the_truth Truth e = refl
+is_the_truth I8 e = absurd (false≢true e)
+is_the_truth U8 e = absurd (false≢true e)
+is_the_truth I16 e = absurd (false≢true e)
+is_the_truth U16 e = absurd (false≢true e)
+is_the_truth I32 e = absurd (false≢true e)
+is_the_truth U32 e = absurd (false≢true e)
+is_the_truth I64 e = absurd (false≢true e)
+is_the_truth U64 e = absurd (false≢true e)
+
+pub no_truth : (t : Elem) → is_truth t ≡ false → t ≡ Truth → ⊥
+no_truth t e p = true≢false (ap is_truth (sym p) ∙ e)
 
 -- of words that a type fills nothing is cut
 pub not_cut : (w : ℕ) (t : Elem) → w ≡ cell_width t → (t ≡ Truth → ⊥) → (x : ℕ) → x < 2 ^ w → x ≡ bit_and x (2 ^ width t - 1)

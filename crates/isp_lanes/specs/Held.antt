@@ -1,5 +1,5 @@
 -- The words in which a vector holds its lanes.
-use Rattle.std.specs.Prelude.{◌≡◌, ℕ, List, length}
+use Rattle.std.specs.Prelude.{◌≡◌, ℕ, List, Bool, true, false, length}
 use Rattle.isp_base.specs.declared.types.Elem.{Elem}
 use Rattle.isp_base.specs.declared.types.Elem.TheVariants.{Bool as Truth, I8, U8, I16, U16, I32, U32, I64, U64}
 use Rattle.isp_base.specs.Rows.{Fit}
@@ -19,6 +19,18 @@ held_width (Bits8 words) = 8
 held_width (Bits16 words) = 16
 held_width (Bits32 words) = 32
 held_width (Bits64 words) = 64
+
+-- whether the type is bool
+abbrev pub is_truth : Elem → Bool
+is_truth Truth = true
+is_truth I8 = false
+is_truth U8 = false
+is_truth I16 = false
+is_truth U16 = false
+is_truth I32 = false
+is_truth U32 = false
+is_truth I64 = false
+is_truth U64 = false
 
 -- n lanes of an element type, in words of w bits
 pub record IsRow (n w : ℕ) (t : Elem) (xs : List ℕ) : Type 0 where

@@ -15,9 +15,10 @@ pub(super) fn low<const N: usize, V: Words<N>>(elem: Elem, x: V) -> V
     requires room { (k : ℕ) → slice_index (V.words x) k < 2 ^ V.width }
     ensures { V.words result ≡ map (λ a. bit_and a (2 ^ width elem - 1)) (V.words x) }
 {
-    match elem {
-        Elem::Bool => x.and(V::all(1)),
-        _ => x,
+    if V::is_bool(elem) {
+        x.and(V::all(1))
+    } else {
+        x
     }
 }
 

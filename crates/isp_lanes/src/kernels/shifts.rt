@@ -17,9 +17,10 @@ fn amounts<const N: usize, V: Words<N>>(elem: Elem, y: V) -> V
     requires long { length (V.words y) ≡ N }
     ensures { V.words result ≡ map (λ b. bit_and b (width elem - 1)) (V.words y) }
 {
-    match elem {
-        Elem::Bool => V::all(0),
-        _ => y.amounts(),
+    if V::is_bool(elem) {
+        V::all(0)
+    } else {
+        y.amounts()
     }
 }
 

@@ -2,21 +2,21 @@ use Rattle.std.proofs.Common.{sym, ap, ◌∙◌, ℕ, ◌-◌, ◌^◌, ◌<◌
 use Rattle.std.specs.Simd.Lanes.{zip2}
 use Rattle.std.proofs.lemmas.Simd.{zip2_splat}
 use Rattle.isp_base.specs.Values.{width}
-use Rattle.isp_lanes.proofs.CellWords.{not_cut}
+use Rattle.isp_lanes.proofs.CellWords.{not_cut, is_the_truth, no_truth}
 use Rattle.isp_lanes.proofs.Rows.{map_same}
 use Rattle.isp_lanes.proofs.kernels.arithmetic.low.Goals as goal
 
-pub returns-in-Bool : goal.returns-in-Bool
-returns-in-Bool g c =
+pub returns-then-is_bool : goal.returns-then-is_bool
+returns-then-is_bool g c =
     let n = g.row.N in
     let xs = g.V.Words.words c.args.x in
     c.and.ensures
     ∙ ap (λ (ys : List ℕ). zip2 bit_and xs ys) (c.all.ensures ∙ ap (replicate {A = ℕ} n) g.V.Words.holds_one)
     ∙ zip2_splat bit_and xs n 1 c.requires.long
-    ∙ ap (λ v. map (λ a. bit_and a (2 ^ width v - 1)) xs) (sym c.in-Bool.is)
+    ∙ ap (λ v. map (λ a. bit_and a (2 ^ width v - 1)) xs) (sym (is_the_truth c.args.elem (sym c.is_bool.ensures ∙ c.if-is_bool.true)))
 
-pub returns-in_default : goal.returns-in_default
-returns-in_default g c =
+pub returns-else-is_bool : goal.returns-else-is_bool
+returns-else-is_bool g c =
     let w = g.V.Words.width in
     let xs = g.V.Words.words c.args.x in
-    sym (map-id xs) ∙ map_same (λ a. a < 2 ^ w) (λ a. a) _ (λ a p. not_cut w c.args.elem c.requires.wide c.in_default.not-Bool a p) xs c.requires.room
+    sym (map-id xs) ∙ map_same (λ a. a < 2 ^ w) (λ a. a) _ (λ a p. not_cut w c.args.elem c.requires.wide (no_truth c.args.elem (sym c.is_bool.ensures ∙ c.if-is_bool.false)) a p) xs c.requires.room

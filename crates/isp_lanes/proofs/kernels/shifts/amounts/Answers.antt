@@ -1,14 +1,14 @@
 use Rattle.std.proofs.Common.{sym, ap, ◌∙◌, ◌-◌, ◌^◌, bit_and, map}
 use Rattle.isp_base.specs.Values.{width}
-use Rattle.isp_lanes.proofs.CellWords.{filled, no_amount}
+use Rattle.isp_lanes.proofs.CellWords.{filled, is_the_truth, no_amount, no_truth}
 use Rattle.isp_lanes.proofs.kernels.shifts.amounts.Goals as goal
 
-pub returns-in-Bool : goal.returns-in-Bool
-returns-in-Bool g c =
+pub returns-then-is_bool : goal.returns-then-is_bool
+returns-then-is_bool g c =
     c.all.ensures
     ∙ no_amount (2 ^ g.V.Words.width) g.row.N (g.V.Words.words c.args.y) c.requires.long
-    ∙ ap (λ t. map (λ b. bit_and b (width t - 1)) (g.V.Words.words c.args.y)) (sym c.in-Bool.is)
+    ∙ ap (λ t. map (λ b. bit_and b (width t - 1)) (g.V.Words.words c.args.y)) (sym (is_the_truth c.args.elem (sym c.is_bool.ensures ∙ c.if-is_bool.true)))
 
-pub returns-in_default : goal.returns-in_default
-returns-in_default g c =
-    c.amounts.ensures ∙ ap (λ w. map (λ b. bit_and b (w - 1)) (g.V.Words.words c.args.y)) (c.requires.wide ∙ filled c.args.elem c.in_default.not-Bool)
+pub returns-else-is_bool : goal.returns-else-is_bool
+returns-else-is_bool g c =
+    c.amounts.ensures ∙ ap (λ w. map (λ b. bit_and b (w - 1)) (g.V.Words.words c.args.y)) (c.requires.wide ∙ filled c.args.elem (no_truth c.args.elem (sym c.is_bool.ensures ∙ c.if-is_bool.false)))
