@@ -185,18 +185,6 @@ impl<const N: usize> Lanes<N> {
         }
     }
 
-    /// The bits of all lanes.
-    pub fn words(&self) -> [u64; N]
-        ensures { result ≡ self.now.bits }
-    {
-        match &self.row {
-            Row::Bits8(words) => Simd::from_array(*words).wide(),
-            Row::Bits16(words) => Simd::from_array(*words).wide(),
-            Row::Bits32(words) => Simd::from_array(*words).wide(),
-            Row::Bits64(words) => *words,
-        }
-    }
-
     /// The words of all lanes, of the width that the element type takes, where they stand.
     #[inline(always)]
     pub fn row(&self) -> &Row<N>

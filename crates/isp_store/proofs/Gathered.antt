@@ -1,5 +1,5 @@
 -- Cells that are read, written, and written back.
-use Rattle.std.proofs.Common.{◌≡◌, refl, sym, ap, ◌∙◌, subst, ℕ, zero, suc, ◌+◌, ◌<◌, ◌≤◌, ◌^◌, replicate, Bool, true, false, None, not, nat_lt, List, [], ◌∷◌, length, get_or, arith, add-one, Result, Ok, Err}
+use Rattle.std.proofs.Common.{◌≡◌, refl, sym, ap, ◌∙◌, subst, ℕ, zero, suc, ◌+◌, ◌<◌, replicate, Bool, true, false, None, List, [], ◌∷◌, length, get_or, arith, add-one, Result, Ok, Err}
 use Rattle.std.specs.Prelude.{slice_set, if◌then◌else◌, IfOk}
 use Rattle.std.specs.List.{range_with_len}
 use Rattle.std.specs.Simd.Lanes.{zip2, sel_l}
@@ -14,16 +14,12 @@ use Rattle.isp_store.proofs.Inside.{IsInside}
 use Rattle.isp_store.proofs.Lanes.{lane_on, lane_off}
 use Rattle.isp_lanes.proofs.Failing.{none_fails}
 use Rattle.isp_lanes.proofs.Gathered.{row_long, lane_found}
-use Rattle.isp_store.proofs.Indices.{one_inside, inside_is, on_there}
+use Rattle.isp_store.proofs.Indices.{inside_is, on_there}
 
 pub found_at : {A : Type 0} (find : A → ℕ → ℕ) (cs : List A) (e p : ℕ) (d : A) → e < length cs → found find cs e p ≡ find (get_or cs e d) p
 found_at find [] e p d h = absurd (omega (arith, h))
 found_at find (c ∷ cs) zero p d h = refl
 found_at find (c ∷ cs) (suc e) p d h = found_at find cs e p d (omega (arith, h))
-
--- a lane's place, where the check lets it through
-pub lane_inside : (n limit : ℕ) → ((x : ℕ) → x < 2 ^ 64 → is_outside I64 n x ≡ not (nat_lt x limit)) → (bits places : List ℕ) → places ≡ bits → Fit I64 bits → (p : ℕ) → lane_of places p < limit → IsInside n (lane_of places p)
-lane_inside n limit is bits places same fits p h = one_inside n limit n is refl (lane_of places p) (subst (λ (xs : List ℕ). get_or xs p 0 < 2 ^ 64) (sym same) (fits p)) h
 
 pub below_inside : (n : ℕ) (m : List Bool) (bits : List ℕ) → Fit I64 bits → (k : ℕ) → lowest_failing k (is_outside I64 n) (on (flag_of m) (lane_of bits)) ≡ None → (p : ℕ) → p < k → flag_of m p ≡ true → IsInside n (lane_of bits p)
 below_inside n m bits fits k none p h is = inside_is n (lane_of bits p) (fits p) (none_fails (is_outside I64 n) (flag_of m) (lane_of bits) k none p h is)
@@ -64,9 +60,6 @@ zero_found (suc n) (suc p) = zero_found n p
 pub zero_lanes : (n : ℕ) → lane_of (replicate n 0) ≡ (λ p. 0)
 zero_lanes n = fun_ext (zero_found n)
 
-pub positive : (a b c : ℕ) → a ≡ 0 → c < b → a < b
-positive a b c z h = omega (arith, z, h)
-
 pub below_set : (w : ℕ) (xs : List ℕ) (i v : ℕ) → ((p : ℕ) → get_or xs p 0 < w) → v < w → (p : ℕ) → get_or (slice_set xs i v) p 0 < w
 below_set w [] i v f lt p = f p
 below_set w (x ∷ xs) zero v f lt zero = lt
@@ -77,9 +70,6 @@ below_set w (x ∷ xs) (suc i) v f lt (suc p) = below_set w xs i v (λ j. f (suc
 pub length_zeros : (n : ℕ) → length {A = ℕ} (replicate n 0) ≡ n
 length_zeros zero = refl
 length_zeros (suc n) = ap suc (length_zeros n)
-
-pub at_most : (a b : ℕ) → a < b → a ≤ b
-at_most a b h = omega (arith, h)
 
 -- the lanes of a mask, and the others
 pub sel_at : (n : ℕ) (ms : List Bool) (xs ys : List ℕ) (p : ℕ) → length ms ≡ n → length xs ≡ n → length ys ≡ n → lane_of (sel_l ms xs ys) p ≡ (if flag_of ms p then lane_of xs p else lane_of ys p)

@@ -1,19 +1,18 @@
 -- Which bits are indices outside an array, and the lowest lane that has such an index.
 use Rattle.std.proofs.Common.{◌≡◌, refl, sym, ap, ◌∙◌, subst, ⊎_elim, ℕ, zero, suc, ◌+◌, ◌-◌, ◌^◌, ◌<◌, ◌≤◌, Bool, true, false, ◌||◌, not, Option, Some, None, List, [], ◌∷◌, length, get_or, nat_lt, int_lt, pos, ℤ, unsigned_abs, arith, mod-eq_of_lt, ltb-true, lt-ltb, le-ltb}
-use Rattle.std.specs.Prelude.{if◌then◌else◌, slice_get, position, cond}
+use Rattle.std.specs.Prelude.{if◌then◌else◌, position, cond}
 use Rattle.std.specs.List.{position_or_len}
 use Rattle.isp_base.proofs.Signs.{test_is}
 use Rattle.std.proofs.lemmas.Bool.{cases_lt}
 use Rattle.std.proofs.lemmas.Int.{ints}
 use Rattle.std.proofs.lemmas.List.{get_or_past}
-use Rattle.std.proofs.lemmas.Option.{get_or_from_slice_get, slice_get-get_or}
 use Rattle.isp_base.specs.Access.{is_outside}
 use Rattle.isp_base.specs.Maps.{on, lane_of, lowest_failing}
 use Rattle.isp_base.specs.Sets.{Mask, lowest, or_this, flag_of}
 use Rattle.isp_base.specs.Values.{number, number_to}
 use Rattle.isp_base.specs.declared.types.Elem.TheVariants.{I64}
 use Rattle.isp_base.proofs.Elems.{number_above, number_below}
-use Rattle.isp_lanes.proofs.Failing.{past_off, past_fine, found, none_fails}
+use Rattle.isp_lanes.proofs.Failing.{none_fails}
 use Rattle.isp_store.proofs.Inside.{IsInside, AreInside}
 
 out : ℤ → ℕ → Bool
@@ -66,31 +65,8 @@ all_inside n count bs xs long fits none p is =
 
 -- at a limit as the calls have it
 module _ (n limit : ℕ) (is : (x : ℕ) → x < 2 ^ 64 → is_outside I64 n x ≡ not (nat_lt x limit)) (x : ℕ) (fits : x < 2 ^ 64) where
-  pub beyond : limit ≤ x → is_outside I64 n x ≡ true
-  beyond h = is x fits ∙ ap not (le-ltb x limit h)
-
   pub within : x < limit → is_outside I64 n x ≡ false
   within h = is x fits ∙ ap not (lt-ltb x limit h)
-
--- one lane's check
-module _ (n limit : ℕ) (is : (x : ℕ) → x < 2 ^ 64 → is_outside I64 n x ≡ not (nat_lt x limit)) (bs : List Bool) (xs : List ℕ) (fits : (p : ℕ) → get_or xs p 0 < 2 ^ 64) (p : ℕ) (none : lowest_failing p (is_outside I64 n) (on (flag_of bs) (lane_of xs)) ≡ None) where
-  lane_is : (x : ℕ) → slice_get xs p ≡ Some x → lane_of xs p ≡ x
-  lane_is x e = get_or_from_slice_get xs p x 0 e
-
-  pub bad_lane : (gang x : ℕ) → p < gang → slice_get bs p ≡ Some true → slice_get xs p ≡ Some x → limit ≤ x → lowest_failing gang (is_outside I64 n) (on (flag_of bs) (lane_of xs)) ≡ Some p
-  bad_lane gang x h on_p at_p bad =
-      found (is_outside I64 n) (flag_of bs) (lane_of xs) gang p h none (get_or_from_slice_get bs p true false on_p) (beyond n limit is (lane_of xs p) (fits p) (omega (arith, lane_is x at_p, bad)))
-
-  pub fine_lane : (x : ℕ) → slice_get bs p ≡ Some true → slice_get xs p ≡ Some x → x < limit → lowest_failing (p + 1) (is_outside I64 n) (on (flag_of bs) (lane_of xs)) ≡ None
-  fine_lane x on_p at_p fine =
-      past_fine (is_outside I64 n) (flag_of bs) (lane_of xs) p none (get_or_from_slice_get bs p true false on_p) (within n limit is (lane_of xs p) (fits p) (omega (arith, lane_is x at_p, fine)))
-
-  pub off_lane : slice_get bs p ≡ Some false → lowest_failing (p + 1) (is_outside I64 n) (on (flag_of bs) (lane_of xs)) ≡ None
-  off_lane off_p = past_off (is_outside I64 n) (flag_of bs) (lane_of xs) p none (get_or_from_slice_get bs p false false off_p)
-
--- a lane of a vector that is read where it stands
-pub word_at : (places bits : List ℕ) (p : ℕ) → places ≡ bits → p < length bits → slice_get bits p ≡ Some (lane_of places p)
-word_at places bits p same h = slice_get-get_or bits p 0 h ∙ ap (λ (xs : List ℕ). Some (lane_of xs p)) (sym same)
 
 -- the lowest lane of a list of flags
 abbrev shift : Option ℕ → Option ℕ
