@@ -26,3 +26,5 @@ pub mod ExprsRefused
 pub mod ExprLaws
 pub mod StmtSteps
 pub mod SimpleSteps
+pub mod ItemSteps
+pub mod Views
