@@ -28,3 +28,4 @@ pub mod StmtSteps
 pub mod SimpleSteps
 pub mod ItemSteps
 pub mod Views
+pub mod FunctionSteps
