@@ -1,6 +1,7 @@
 -- Steps of reading expressions.
-use Rattle.std.proofs.Common.{◌≡◌, ℕ, zero, suc, ◌+◌, ◌-◌, ◌≤◌, ◌<◌, max, Bool, true, false, ltb, List, [], ◌∷◌, ◌++◌, drop, Some, None, Ok, Err, refl, sym, ap, subst, ◌∙◌, arith, inl, inr}
+use Rattle.std.proofs.Common.{◌≡◌, ℕ, zero, suc, ◌+◌, ◌-◌, ◌≤◌, ◌<◌, max, Bool, true, false, ltb, List, [], ◌∷◌, ◌++◌, drop, Some, None, Ok, Err, refl, sym, ap, subst, ◌∙◌, arith, inl, inr, ◌⊎◌}
 use Rattle.std.proofs.lemmas.Bool.{lt-ltb, le-ltb}
+use Rattle.isp_base.specs.Types.{span_to}
 use Rattle.isp_base.specs.declared.types.Span.{Span}
 use Rattle.isp_lex.specs.Tokens.{starts_with}
 use Rattle.isp_lex.specs.declared.token.Mark.TheVariants as mark
@@ -9,13 +10,14 @@ use Rattle.isp_lex.specs.declared.token.Token.{Token}
 use Rattle.isp_grammar.proofs.Basics.{choice_fails}
 use Rattle.isp_grammar.proofs.Choices.{limit_off, limit_deep}
 use Rattle.isp_grammar.proofs.ListForms.{mapped_twice}
+use Rattle.isp_grammar.proofs.SimpleSteps.{mark_read}
 use Rattle.isp_tree.specs.Depth.{depth, depth_of_argument, depth_of_all}
 use Rattle.isp_grammar.specs.reader.Readers.{Read, Reader, ◌>>=◌, Fails, refusal, refuse, mark_at, both, at_limit, is_word}
 use Rattle.isp_grammar.specs.reader.Choices.{begins_with, either_at}
 use Rattle.isp_grammar.specs.reader.Types.{begins_type, type_at}
-use Rattle.isp_grammar.specs.reader.Exprs.{start_of, is_start, begins_expr, operator_at, place_at, bracket_of, cast_at, closed_at, bracket_at, operand_from, operand_at, joined, more_at, binary_at, choice_of, parts_at, choice_at, level_from, level_at, expr_at, target_at}
-use Rattle.isp_grammar.specs.Signs.{joined_level, loosest}
-use Rattle.isp_tree.specs.Tree.{Expr, number, truth, program_index, program_count, place, call, brackets, cast, prefix, binary, choose, Place, variable, element, Argument}
+use Rattle.isp_grammar.specs.reader.Exprs.{start_of, is_start, begins_expr, operator_at, place_at, bracket_of, cast_at, closed_at, bracket_at, operand_from, operand_at, joined, more_at, binary_at, choice_of, parts_at, choice_at, level_from, level_at, expr_at, target_at, argument_by, argument_at}
+use Rattle.isp_grammar.specs.Signs.{joined_level, loosest, first_span}
+use Rattle.isp_tree.specs.Tree.{Expr, number, truth, program_index, program_count, place, call, brackets, cast, prefix, binary, choose, Place, variable, element, span_of_place, Argument, by_value, by_reference}
 use Rattle.isp_tree.specs.Views.{argument_of, arguments_of}
 use Rattle.isp_tree.specs.declared.expr.Argument as rust
 use Rattle.isp_grammar.specs.declared.expr.Start.{Start}
@@ -253,3 +255,27 @@ expr_off (suc m) k u e = level_off (expr_at m) (target_at m) m k u (ltb joined_l
 pub expr_deep : (k : ℕ) (u : List Token) → begins_with begins_expr u ≡ true → expr_at zero k u ≡ refuse TooDeep u
 unfolding expr_at
 expr_deep k u e = limit_deep begins_expr u e
+
+-- ---- an argument
+
+referred : (s : Span) (read : Read Place) → ◌≡◌ {A = Read Argument} (◌>>=◌ {B = ((Span × Place) ⊎ Expr) × List Token} (◌>>=◌ {B = (Span × Place) × List Token} read (λ y. Ok ((s, y.0), y.1))) (λ x. Ok (inl x.0, x.1)) >>= λ p. Ok (argument_by p.0, p.1))
+    (read >>= λ x. Ok (by_reference x.0 (span_to s (span_of_place x.0)), x.1))
+referred s (Ok x) = refl
+referred s (Err e) = refl
+
+-- a reference, where `&` stands
+pub argument_referred : (expr : Reader Expr) (target : Reader Place) (ts : List Token) → starts_with mark.And ts ≡ true
+    → argument_at expr target ts ≡ (target (drop 1 ts) >>= λ x. Ok (by_reference x.0 (span_to (first_span ts) (span_of_place x.0)), x.1))
+unfolding argument_at either_at
+argument_referred expr target [] e = absurd cc
+argument_referred expr target (t ∷ ts) e = rw (e, mark_read mark.And t ts e) (referred t.span (target ts))
+
+valued : (read : Read Expr) → ◌≡◌ {A = Read Argument} (◌>>=◌ {B = ((Span × Place) ⊎ Expr) × List Token} read (λ x. Ok (inr x.0, x.1)) >>= λ p. Ok (argument_by p.0, p.1)) (read >>= λ x. Ok (by_value x.0, x.1))
+valued (Ok x) = refl
+valued (Err e) = refl
+
+-- a value, where none stands
+pub argument_valued : (expr : Reader Expr) (target : Reader Place) (ts : List Token) → starts_with mark.And ts ≡ false → argument_at expr target ts ≡ (expr ts >>= λ x. Ok (by_value x.0, x.1))
+unfolding argument_at either_at
+argument_valued expr target [] e = valued (expr [])
+argument_valued expr target (t ∷ ts) e = rw e (valued (expr (t ∷ ts)))

@@ -26,3 +26,6 @@ pub mod ExprsRefused
 pub mod ExprLaws
 pub mod StmtSteps
 pub mod SimpleSteps
+pub mod ItemSteps
+pub mod Views
+pub mod FunctionSteps

@@ -1,12 +1,14 @@
 -- What reading an assignment or a step by one comes to, by the sign that was found.
-use Rattle.std.proofs.Common.{◌≡◌, ℕ, true, false, List, [], ◌∷◌, drop, Option, Some, None, Result, Ok, Err, refl, ap, inl, inr, ◌⊎◌, IfOk, IfErr, Box, Global, Bor}
+use Rattle.std.proofs.Common.{◌≡◌, ◌≤◌, ◌<◌, ℕ, length, arith, sym, true, false, List, [], ◌∷◌, drop, Option, Some, None, Result, Ok, Err, refl, ap, inl, inr, ◌⊎◌, IfOk, IfErr, Box, Global, Bor}
 use Rattle.isp_base.specs.declared.types.Span.{Span}
+use Rattle.isp_lex.specs.Tokens.{is_mark, starts_with}
+use Rattle.isp_lex.specs.declared.token.Mark.{Mark}
 use Rattle.isp_lex.specs.declared.token.Token.{Token}
 use Rattle.isp_tree.specs.Tree.{Expr, Simple}
 use Rattle.isp_tree.specs.declared.stmt.Assignment.{Assignment}
 use Rattle.isp_tree.specs.declared.stmt.Change.{Change}
-use Rattle.isp_grammar.specs.Signs.{loosest}
-use Rattle.isp_grammar.specs.reader.Readers.{Read, ◌>>=◌, both, Fails, Gives}
+use Rattle.isp_grammar.specs.Signs.{loosest, first_span}
+use Rattle.isp_grammar.specs.reader.Readers.{Read, ◌>>=◌, mark_at, both, Fails, Gives}
 use Rattle.isp_grammar.specs.reader.Choices.{begins_with, sign_at, found_from, found_at, perhaps_at, either_at}
 use Rattle.isp_grammar.specs.reader.Exprs.{expr_at}
 use Rattle.isp_grammar.specs.reader.Stmts.{stands, assignment_of, change_of, is_assignment, is_change, is_ending, Ending, ending_at, simple_from, simple_at}
@@ -94,3 +96,45 @@ pub boxed_gives : {T S : Type 0} (view : T → S) (result : Result (Box T Global
     → Gives {Y = S × List Token} (λ (r : Box T Global × Bor (List Token)). (view r.0.value, r.1.now)) result (Ok (view v, rest))
 boxed_gives view (Ok x) v rest a b m = rw (a, b) refl
 boxed_gives view (Err e) v rest a b m = rw m tt
+
+-- what a call gives that puts a value in a box, with its depth
+pub made_gives : {T S : Type 0} (view : T → S) (result : Result (Box T Global × ℕ × Bor (List Token)) Stop) (v : S) (rest : List Token)
+    → IfOk result (λ r. view r.0.value ≡ v) → IfOk result (λ r. r.2.now ≡ rest) → IfErr result (λ e. e ≡ stops.Memory)
+    → Gives {Y = S × List Token} (λ (r : Box T Global × ℕ × Bor (List Token)). (view r.0.value, r.2.now)) result (Ok (v, rest))
+made_gives view (Ok x) v rest a b m = rw (a, b) refl
+made_gives view (Err e) v rest a b m = rw m tt
+
+-- the mark that stands first
+pub mark_read : (m : Mark) (t : Token) (ts : List Token) → is_mark m t.kind ≡ true → mark_at m (t ∷ ts) ≡ Ok (t.span, ts)
+unfolding mark_at
+mark_read m t ts e = rw e refl
+
+pub mark_here : (m : Mark) (ts : List Token) → starts_with m ts ≡ true → mark_at m ts ≡ Ok (first_span ts, drop 1 ts)
+mark_here m [] e = absurd cc
+mark_here m (t ∷ ts) e = mark_read m t ts e
+
+-- ---- what is left is shorter, where a reading goes on behind a first token
+
+pub shorter : {X : Type 0} (result : Result (X × Bor (List Token)) Stop) (t : Token) (rest tokens : List Token) → tokens ≡ t ∷ rest
+    → IfOk result (λ r. length r.1.now < length rest) → IfOk result (λ r. length r.1.now < length tokens)
+shorter (Ok r) t rest tokens w h = let k : length r.1.now < length rest = h in rw w (omega arith)
+shorter (Err e) t rest tokens w h = tt
+
+pub shorter_found : {X : Type 0} (result : Result (X × ℕ × Bor (List Token)) Stop) (t : Token) (rest tokens : List Token) → tokens ≡ t ∷ rest
+    → IfOk result (λ r. length r.2.now < length rest) → IfOk result (λ r. length r.2.now < length tokens)
+shorter_found (Ok r) t rest tokens w h = let k : length r.2.now < length rest = h in rw w (omega arith)
+shorter_found (Err e) t rest tokens w h = tt
+
+pub shorter_made : {X : Type 0} (result : Result (X × ℕ × Bor (List Token)) Stop) (t : Token) (rest tokens : List Token) → tokens ≡ t ∷ rest
+    → IfOk result (λ r. r.2.now ≡ rest) → IfOk result (λ r. length r.2.now < length tokens)
+shorter_made (Ok r) t rest tokens w h = rw (w, h) (omega arith)
+shorter_made (Err e) t rest tokens w h = tt
+
+pub bounded_made : {X : Type 0} (result : Result (X × ℕ × Bor (List Token)) Stop) (h n : ℕ) → h ≤ n → IfOk result (λ r. r.1 ≡ h) → IfOk result (λ r. r.1 ≤ n)
+bounded_made (Ok r) h n le e = rw e le
+bounded_made (Err e) h n le f = tt
+
+pub height_made : {T S : Type 0} (view : T → S) (deep : S → ℕ) (result : Result (Box T Global × ℕ × Bor (List Token)) Stop) (v : S) (h : ℕ) → deep v ≡ h
+    → IfOk result (λ r. view r.0.value ≡ v) → IfOk result (λ r. r.1 ≡ h) → IfOk result (λ r. r.1 ≡ deep (view r.0.value))
+height_made view deep (Ok r) v h d a b = rw (a, b) (sym d)
+height_made view deep (Err e) v h d a b = tt

@@ -5,3 +5,4 @@ pub mod Starts
 pub mod Types
 pub mod Exprs
 pub mod Stmts
+pub mod Programs

@@ -9,7 +9,7 @@ ghost use Rattle.isp_grammar.specs.reader.Stmts.{is_item_sign, item_tail_of, siz
 use crate::expr::expr;
 use crate::reading::{in_box, mark, refuse, starts_with, tail, word};
 use crate::stop::{Stop, Why};
-use crate::types::type_words;
+use crate::types::{first_span, type_words};
 use isp_base::Span;
 use isp_lex::{Mark, Token, TokenKind};
 use isp_tree::{Declaration, Expr, Item, Size, Word};
@@ -60,24 +60,19 @@ fn size(tokens: &[Token]) -> Result<(Size, &[Token]), Stop>
 }
 
 /// A value behind `=`, or a size in brackets.
-#[tactic(auto, unfolding(crate::specs::reader::Stmts::item_tail_at, crate::specs::reader::Choices::either_at, crate::specs::reader::Readers::mark_at))]
 fn item_tail(alloc: Global, left: usize, tokens: &[Token]) -> Result<(ItemTail, &[Token]), Stop>
     requires { left ≤ 128 }
     ensures value { Gives (λ r. (item_tail_of r.0, r.1.now)) result (item_tail_at left tokens.now) }
     ensures rest { IfOk result (λ r. length r.1.now < length tokens.now) }
 {
-    match tokens {
-        [first, rest @ ..] if first.kind.is(Mark::Assign) => {
-            let (value, _height, rest) = expr(alloc, left, rest)?;
-            Ok((ItemTail::Value(first.span, value), rest))
-        }
-        _ => {
-            let (open, rest) = mark(Mark::BracketOpen, tokens)?;
-            let (size, rest) = size(rest)?;
-            let (close, rest) = mark(Mark::BracketClose, rest)?;
-            Ok((ItemTail::Size(open, size, close), rest))
-        }
+    if starts_with(Mark::Assign, tokens) {
+        let (value, _height, rest) = expr(alloc, left, tail(tokens))?;
+        return Ok((ItemTail::Value(first_span(tokens), value), rest));
     }
+    let (open, rest) = mark(Mark::BracketOpen, tokens)?;
+    let (size, rest) = size(rest)?;
+    let (close, rest) = mark(Mark::BracketClose, rest)?;
+    Ok((ItemTail::Size(open, size, close), rest))
 }
 
 /// A name with what stands behind it.

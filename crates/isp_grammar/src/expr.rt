@@ -10,7 +10,7 @@ ghost use Rattle.isp_grammar.specs.reader.Exprs.{start_of, begins_expr, operator
 
 use crate::reading::{larger, mark, refuse, starts_with, tail, with_item, word};
 use crate::stop::{Stop, Why};
-use crate::types::{begins_type, type_words};
+use crate::types::{begins_type, first_span, type_words};
 use isp_base::{Span, Value};
 use isp_lex::{Mark, Token, TokenKind};
 use isp_tree::{Argument, Expr, Operator, Place, Prefix, Word};
@@ -253,7 +253,6 @@ fn place(alloc: Global, left: usize, tokens: &[Token]) -> Result<(Place, usize, 
 
 /// One argument: a value, or a reference.
 #[cycle(expr)]
-#[tactic(auto, unfolding(crate::specs::reader::Exprs::argument_at, crate::specs::reader::Choices::either_at, crate::specs::reader::Readers::mark_at))]
 fn argument(
     alloc: Global,
     left: usize,
@@ -265,17 +264,13 @@ fn argument(
     ensures rest { IfOk result (λ r. length r.2.now < length tokens.now) }
     ensures bounded { IfOk result (λ r. r.1 ≤ left) }
 {
-    match tokens {
-        [first, rest @ ..] if first.kind.is(Mark::And) => {
-            let (place, height, rest) = place(alloc, left, rest)?;
-            let span = first.span.to(place.span());
-            Ok((Argument::Reference { place, span }, height, rest))
-        }
-        _ => {
-            let (value, height, rest) = expr(alloc, left, tokens)?;
-            Ok((Argument::Value(Box::into_inner(value)), height, rest))
-        }
+    if starts_with(Mark::And, tokens) {
+        let (place, height, rest) = place(alloc, left, tail(tokens))?;
+        let span = first_span(tokens).to(place.span());
+        return Ok((Argument::Reference { place, span }, height, rest));
     }
+    let (value, height, rest) = expr(alloc, left, tokens)?;
+    Ok((Argument::Value(Box::into_inner(value)), height, rest))
 }
 
 /// The arguments of a call up to the closing bracket, and the depth of the deepest.

@@ -1,9 +1,10 @@
-//! The grammar, and the readers of its types, expressions and statements: from tokens to the block of
-//! a function.
+//! The grammar, and the readers of its types, expressions, statements and functions: from tokens to
+//! the functions of a whole text.
 #![tactic(auto)]
 
 mod declaration;
 mod expr;
+mod function;
 mod heads;
 mod make;
 mod parts;
@@ -15,7 +16,5 @@ mod stmt;
 mod stop;
 mod types;
 
-pub use reading::{closed_by, in_box, mark, refuse, starts_with, tail, word};
-pub use stmt::block;
+pub use function::program;
 pub use stop::{Refusal, Stop, Why};
-pub use types::{first_span, type_words};

@@ -10,7 +10,7 @@ ghost use Rattle.isp_grammar.specs.reader.Stmts.{closed_test_at, test_at, first_
 
 use crate::declaration::declaration;
 use crate::expr::expr;
-use crate::reading::{closed_by, in_box, mark, refuse, starts_with, word};
+use crate::reading::{closed_by, in_box, mark, refuse, starts_with, tail, word};
 use crate::simple::simple;
 use crate::start::{Start, stmt_start};
 use crate::stop::{Stop, Why};
@@ -210,7 +210,6 @@ fn range(alloc: Global, left: usize, tokens: &[Token]) -> Result<(Range, &[Token
 }
 
 /// The ranges before, and the third range if there is one.
-#[tactic(auto, unfolding(crate::specs::reader::Stmts::last_range_at, crate::specs::reader::Choices::perhaps_at, crate::specs::reader::Readers::mark_at))]
 fn last_range(
     alloc: Global,
     left: usize,
@@ -221,18 +220,15 @@ fn last_range(
     ensures value { Gives (λ r. (map range_of r.0.items, r.1.now)) result (with_last (map range_of all.items) (last_range_at left tokens.now)) }
     ensures rest { IfOk result (λ r. length r.1.now ≤ length tokens.now) }
 {
-    match tokens {
-        [first, rest @ ..] if first.kind.is(Mark::Comma) => {
-            let (range, rest) = range(alloc, left, rest)?;
-            all.push(range)?;
-            Ok((all, rest))
-        }
-        _ => Ok((all, tokens)),
+    if !starts_with(Mark::Comma, tokens) {
+        return Ok((all, tokens));
     }
+    let (range, rest) = range(alloc, left, tail(tokens))?;
+    all.push(range)?;
+    Ok((all, rest))
 }
 
 /// The range before, and the second and the third range if there are any.
-#[tactic(auto, unfolding(crate::specs::reader::Stmts::more_ranges_at, crate::specs::reader::Choices::perhaps_at, crate::specs::reader::Readers::mark_at))]
 fn more_ranges(
     alloc: Global,
     left: usize,
@@ -243,14 +239,12 @@ fn more_ranges(
     ensures value { Gives (λ r. (map range_of r.0.items, r.1.now)) result (with_more (map range_of all.items) (more_ranges_at left tokens.now)) }
     ensures rest { IfOk result (λ r. length r.1.now ≤ length tokens.now) }
 {
-    match tokens {
-        [first, rest @ ..] if first.kind.is(Mark::Comma) => {
-            let (range, rest) = range(alloc, left, rest)?;
-            all.push(range)?;
-            last_range(alloc, left, all, rest)
-        }
-        _ => Ok((all, tokens)),
+    if !starts_with(Mark::Comma, tokens) {
+        return Ok((all, tokens));
     }
+    let (range, rest) = range(alloc, left, tail(tokens))?;
+    all.push(range)?;
+    last_range(alloc, left, all, rest)
 }
 
 /// One to three ranges.

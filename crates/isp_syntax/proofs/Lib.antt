@@ -7,4 +7,3 @@ pub mod SoundExprs
 pub mod SoundStmts
 pub mod StmtsRespan
 pub mod Promised
-pub mod FunctionSteps

@@ -21,7 +21,7 @@ use Rattle.isp_grammar.proofs.TypesRead.{one_qualifier, Types, types_sound, type
 use Rattle.isp_grammar.specs.Grammar.{AreAll, IsType, is_based, is_signed, IsLinkage, is_linkage, IsParam, is_scalar, is_array, IsParams, is_none, is_void, is_some}
 use Rattle.isp_grammar.specs.reader.Readers.{refusal, head, is_word, listed_at}
 use Rattle.isp_grammar.specs.reader.Choices.{begins_with, signs_from, signs_at}
-use Rattle.isp_syntax.specs.reader.Programs.{linkage_of, linkages_at, param_from, param_at, only_void, params_at}
+use Rattle.isp_grammar.specs.reader.Programs.{linkage_of, linkages_at, param_from, param_at, only_void, params_at}
 use Rattle.isp_grammar.specs.reader.Stmts.{stands}
 use Rattle.isp_grammar.specs.reader.Types.{begins_type}
 use Rattle.isp_grammar.specs.Signs.{word, qualifier_mark, base_mark, linkage_mark}

@@ -25,7 +25,7 @@ use Rattle.isp_tree.specs.Depth.{depth_of_block, depth_of_functions}
 use Rattle.isp_grammar.specs.Grammar.{IsType, IsParams, is_none, IsFunction, is_function, IsProgram}
 use Rattle.isp_grammar.specs.reader.Readers.{Read, ◌>>=◌, head, is_word}
 use Rattle.isp_grammar.specs.reader.Choices.{begins_with}
-use Rattle.isp_syntax.specs.reader.Programs.{Signature, signature_at, function_from, function_at, functions_at, program_at}
+use Rattle.isp_grammar.specs.reader.Programs.{Signature, signature_at, function_from, function_at, functions_at, program_at}
 use Rattle.isp_grammar.specs.reader.Stmts.{block_at}
 use Rattle.isp_grammar.specs.reader.Types.{begins_type}
 use Rattle.isp_grammar.specs.Signs.{word, first_span}

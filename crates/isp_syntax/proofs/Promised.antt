@@ -15,7 +15,8 @@ use Rattle.isp_grammar.specs.Grammar.{IsProgram}
 use Rattle.isp_syntax.specs.Promise.{kinds, Begins, IsFirstBad, IsTooDeep, Refuses}
 use Rattle.isp_tree.specs.Depth.{limit}
 use Rattle.isp_grammar.specs.reader.Readers.{refusal, head}
-use Rattle.isp_syntax.specs.reader.Programs.{program_at, fault_of}
+use Rattle.isp_grammar.specs.reader.Programs.{program_at}
+use Rattle.isp_syntax.specs.Refusals.{fault_of}
 use Rattle.isp_tree.specs.Depth.{depth_of_functions}
 use Rattle.isp_tree.specs.Tree.{Function}
 use Rattle.isp_grammar.specs.declared.stop.Why.{Why}

@@ -1,7 +1,6 @@
 //! The parser: from tokens to the one tree that the grammar gives them.
 #![tactic(auto)]
 
-mod function;
 mod program;
 
 pub use isp_tree::{

@@ -7,29 +7,13 @@ ghost use Rattle.isp_lex.specs.declared.token.Token.{Token};
 ghost use Rattle.isp_grammar.specs.Grammar.{IsProgram};
 ghost use Rattle.isp_syntax.specs.Promise.{rule_of, GivesTree, Refuses};
 ghost use Rattle.isp_tree.specs.Depth.{limit};
-ghost use Rattle.isp_grammar.specs.reader.Readers.{Gives};
-ghost use Rattle.isp_syntax.specs.reader.Programs.{program_at, fault_of};
+ghost use Rattle.isp_syntax.specs.Refusals.{fault_of};
 
-use crate::function::function;
 use isp_base::Span;
-use isp_grammar::{Refusal, Stop, Why};
-use isp_lex::{Fault, Rule, SourceFault, Token, TokenKind, Tokens};
-use isp_tree::{DEPTH_LIMIT, Function, Tree};
+use isp_grammar::{Refusal, Stop, Why, program};
+use isp_lex::{Fault, Rule, SourceFault, TokenKind, Tokens};
+use isp_tree::Tree;
 use std::alloc::Global;
-
-/// The functions up to the end of the text.
-fn program(alloc: Global, tokens: &[Token]) -> Result<Vec<Function>, Stop>
-    ensures { Gives (λ fs. functions_of fs.items) result (program_at limit tokens.now) }
-{
-    let mut all = Vec::new(alloc);
-    let mut rest = tokens;
-    'each: while !rest.is_empty() {
-        let (next, after) = function(alloc, DEPTH_LIMIT, rest)?;
-        all.push(next)?;
-        rest = after;
-    }
-    Ok(all)
-}
 
 /// The rule that a token breaks which may not stand where it stands.
 fn rule_of(kind: &TokenKind) -> Rule

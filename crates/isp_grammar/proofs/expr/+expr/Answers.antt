@@ -2,32 +2,78 @@ use Rattle.std.proofs.Common.{◌≡◌, ◌+◌, ◌-◌, List, ◌∷◌, true
 use Rattle.std.specs.Prelude.{Ok}
 use Rattle.isp_lex.specs.declared.token.Token.{Token}
 use Rattle.isp_lex.specs.declared.token.Mark.TheVariants as mark
+use Rattle.isp_base.specs.Types.{span_to}
 use Rattle.isp_tree.specs.Depth.{depth}
+use Rattle.isp_tree.specs.Tree.{span_of}
 use Rattle.isp_grammar.specs.Signs.{loosest}
 use Rattle.isp_tree.specs.Views.{expr_of, argument_of, arguments_of}
-use Rattle.isp_grammar.specs.reader.Readers.{Fails, list_at}
-use Rattle.isp_grammar.specs.reader.Exprs.{argument_at, joined, begins_expr, start_of, operand_from, parts_of, parts_at, choice_of, expr_at, target_at, bracketed_at, arguments_at, named_at, cast_at, closed_at, place_at}
+use Rattle.isp_grammar.specs.reader.Readers.{Fails, list_at, optional}
+use Rattle.isp_grammar.specs.reader.Exprs.{argument_at, joined, begins_expr, start_of, operand_from, parts_of, parts_at, choice_of, expr_at, target_at, bracketed_at, arguments_at, named_at, cast_at, closed_at, place_at, index_at, suffix_at}
 use Rattle.std.proofs.lemmas.Result.{err_from_is_err_and}
 use Rattle.isp_grammar.proofs.Basics.{head_none, head_some}
 use Rattle.isp_grammar.proofs.Loops.{list_fails, list_last, list_step, listed_none, listed_some}
-use Rattle.isp_grammar.proofs.SimpleSteps.{fails_then}
-use Rattle.isp_grammar.proofs.ExprSteps.{depth_pos, arguments_past, depth_past, first_fails, loop_begins, loop_ends, loop_deep, loop_fails, loop_step, test_fails, test_alone, test_deep, parts_fail, parts_made, operand_step, target_step, target_none, target_deep, expr_off, expr_deep, bracket_typed, bracket_closed}
+use Rattle.isp_grammar.proofs.SimpleSteps.{fails_then, made_gives, shorter_found, shorter_made, height_made, bounded_made}
+use Rattle.isp_grammar.proofs.ExprSteps.{depth_pos, arguments_past, depth_past, first_fails, loop_begins, loop_ends, loop_deep, loop_fails, loop_step, test_fails, test_alone, test_deep, parts_fail, parts_made, operand_step, target_step, target_none, target_deep, expr_off, expr_deep, bracket_typed, bracket_closed, argument_referred, argument_valued}
+use Rattle.isp_grammar.proofs.Views.{number_view, truth_view, index_view, count_view, brackets_view, cast_view, prefix_view, variable_view, element_view, value_view, reference_view}
 use Rattle.isp_grammar.proofs.expr.+expr.Goals as goal
 
 -- ---- arguments
+
+pub argument-returns-in_err-place : goal.argument-returns-in_err-place
+argument-returns-in_err-place t c =
+    let p = err_from_is_err_and c.from_residual.result c.from_residual.ensures.1 in
+    record {
+      value = rw (p.1, p.2, argument_referred (expr_at c.args.left loosest) (target_at c.args.left) c.args.tokens.now (sym c.starts_with.ensures ∙ c.if-starts_with.true), sym c.tail.ensures) (fails_then c.in_err-place.field-0.0 _ _ c.in_err-place.ensures.value);
+      height = rw p.1 tt;
+      rest = rw p.1 tt;
+      bounded = rw p.1 tt;
+    }
+
+pub argument-returns-then-starts_with-clause-value : goal.argument-returns-then-starts_with-clause-value
+argument-returns-then-starts_with-clause-value t c =
+    rw (argument_referred (expr_at c.args.left loosest) (target_at c.args.left) c.args.tokens.now (sym c.starts_with.ensures ∙ c.if-starts_with.true), sym c.tail.ensures, c.in_ok-place.ensures.value, reference_view c.in_ok-place.place c.to-span.result, c.to-span.ensures, c.first_span.ensures, c.span.ensures) refl
+
+pub argument-returns-in_err-value : goal.argument-returns-in_err-value
+argument-returns-in_err-value t c =
+    let p = err_from_is_err_and c.from_residual-in_err-value.result c.from_residual-in_err-value.ensures.1 in
+    record {
+      value = rw (p.1, p.2, argument_valued (expr_at c.args.left loosest) (target_at c.args.left) c.args.tokens.now (sym c.starts_with.ensures ∙ c.if-starts_with.false)) (fails_then c.in_err-value.field-0.0 _ _ c.in_err-value.ensures.value);
+      height = rw p.1 tt;
+      rest = rw p.1 tt;
+      bounded = rw p.1 tt;
+    }
+
+pub argument-returns-clause-value : goal.argument-returns-clause-value
+argument-returns-clause-value t c =
+    rw (argument_valued (expr_at c.args.left loosest) (target_at c.args.left) c.args.tokens.now (sym c.starts_with.ensures ∙ c.if-starts_with.false), c.in_ok-value.ensures.value, value_view c.into_inner.result, c.into_inner.ensures) refl
 
 pub arguments-returns-then-starts_with-clause-value : goal.arguments-returns-then-starts_with-clause-value
 arguments-returns-then-starts_with-clause-value t c =
     let one = argument_at (expr_at c.args.left loosest) (target_at c.args.left) in
     rw c.new-all.ensures.items (listed_none mark.ParenClose one c.args.tokens.now (sym c.starts_with.ensures ∙ c.if-starts_with.true))
 
-pub arguments-returns-in_err-next-clause-value : goal.arguments-returns-in_err-next-clause-value
-arguments-returns-in_err-next-clause-value t c =
+pub arguments-returns-in_err-next : goal.arguments-returns-in_err-next
+arguments-returns-in_err-next t c =
     let v = c.each.invariant.value in
     let one = argument_at (expr_at c.args.left loosest) (target_at c.args.left) in
     let p = err_from_is_err_and c.from_residual.result c.from_residual.ensures.1 in
     let w = listed_some mark.ParenClose one c.args.tokens.now (sym c.starts_with.ensures ∙ c.if-starts_with.false) in
-    rw (p.1, p.2, w) (list_fails c.in_err-next.field-0.0 one v.0 (arguments_of c.each.all.items) c.each.rest.now (list_at one (length c.args.tokens.now + 1) c.args.tokens.now) v.1 c.in_err-next.ensures.value v.2)
+    record {
+      value = rw (p.1, p.2, w) (list_fails c.in_err-next.field-0.0 one v.0 (arguments_of c.each.all.items) c.each.rest.now (list_at one (length c.args.tokens.now + 1) c.args.tokens.now) v.1 c.in_err-next.ensures.value v.2);
+      height = rw p.1 tt;
+      rest = rw p.1 tt;
+      bounded = rw p.1 tt;
+    }
+
+pub arguments-returns-in_err-all : goal.arguments-returns-in_err-all
+arguments-returns-in_err-all t c =
+    let p = err_from_is_err_and c.from_residual-in_err-all.result c.from_residual-in_err-all.ensures.1 in
+    record {
+      value = rw (p.1, p.2, c.in_err-all.ensures.memory) tt;
+      height = rw p.1 tt;
+      rest = rw p.1 tt;
+      bounded = rw p.1 tt;
+    }
 
 pub arguments-returns-then-not-starts_with-clause-value : goal.arguments-returns-then-not-starts_with-clause-value
 arguments-returns-then-not-starts_with-clause-value t c =
@@ -55,10 +101,15 @@ arguments-each-preserved t c =
 
 -- ---- operators
 
-pub binary-returns-in_err-found-clause-value : goal.binary-returns-in_err-found-clause-value
-binary-returns-in_err-found-clause-value t c =
+pub binary-returns-in_err-found : goal.binary-returns-in_err-found
+binary-returns-in_err-found t c =
     let p = err_from_is_err_and c.from_residual.result c.from_residual.ensures.1 in
-    rw (p.1, p.2) (first_fails c.in_err-found.field-0.0 c.args.left c.args.looseness c.args.tokens.now (omega arith) c.requires.level c.in_err-found.ensures.value)
+    record {
+      value = rw (p.1, p.2) (first_fails c.in_err-found.field-0.0 c.args.left c.args.looseness c.args.tokens.now (omega arith) c.requires.level c.in_err-found.ensures.value);
+      height = rw p.1 tt;
+      rest = rw p.1 tt;
+      bounded = rw p.1 tt;
+    }
 
 pub binary-loop-op-init : goal.binary-loop-op-init
 binary-loop-op-init t c = record {
@@ -73,11 +124,29 @@ binary-returns-then-height-left-clause-value t c =
     let v = c.loop-op.invariant.value in
     rw c.refuse.ensures (loop_deep c.args.left c.args.looseness v.0 (expr_of c.loop-op.found.value) c.loop-op.rest.now c.in-Some.op (expr_at c.args.left c.args.looseness c.args.tokens.now) (omega arith) (sym c.operator_at.ensures ∙ c.in-Some.is) (omega (arith, c.loop-op.invariant.height)) v.2)
 
-pub binary-returns-in_err-right-clause-value : goal.binary-returns-in_err-right-clause-value
-binary-returns-in_err-right-clause-value t c =
+pub binary-returns-in_err-right : goal.binary-returns-in_err-right
+binary-returns-in_err-right t c =
     let v = c.loop-op.invariant.value in
     let p = err_from_is_err_and c.from_residual-in_err-right.result c.from_residual-in_err-right.ensures.1 in
-    rw (p.1, p.2) (loop_fails c.in_err-right.field-0.0 c.args.left c.args.looseness v.0 (expr_of c.loop-op.found.value) c.loop-op.rest.now c.in-Some.op (expr_at c.args.left c.args.looseness c.args.tokens.now) (omega arith) (sym c.operator_at.ensures ∙ c.in-Some.is) (omega (arith, c.loop-op.invariant.height)) (omega (arith, c.loop-op.invariant.height, v.1)) (subst (λ (l : List Token). Fails c.in_err-right.field-0.0 (expr_at (c.args.left - 1) (c.args.looseness - 1) l)) c.tail.ensures c.in_err-right.ensures.value) v.2)
+    record {
+      value = rw (p.1, p.2) (loop_fails c.in_err-right.field-0.0 c.args.left c.args.looseness v.0 (expr_of c.loop-op.found.value) c.loop-op.rest.now c.in-Some.op (expr_at c.args.left c.args.looseness c.args.tokens.now) (omega arith) (sym c.operator_at.ensures ∙ c.in-Some.is) (omega (arith, c.loop-op.invariant.height)) (omega (arith, c.loop-op.invariant.height, v.1)) (subst (λ (l : List Token). Fails c.in_err-right.field-0.0 (expr_at (c.args.left - 1) (c.args.looseness - 1) l)) c.tail.ensures c.in_err-right.ensures.value) v.2);
+      height = rw p.1 tt;
+      rest = rw p.1 tt;
+      bounded = rw p.1 tt;
+    }
+
+pub binary-returns-then-looseness-eq0-clause-value : goal.binary-returns-then-looseness-eq0-clause-value
+binary-returns-then-looseness-eq0-clause-value t c = rw c.if-looseness-eq0.true c.unary.ensures.value
+
+pub binary-returns-in_err-found-2 : goal.binary-returns-in_err-found-2
+binary-returns-in_err-found-2 t c =
+    let p = err_from_is_err_and c.from_residual-in_err-found-2.result c.from_residual-in_err-found-2.ensures.1 in
+    record {
+      value = rw (p.1, p.2, c.in_err-found-2.ensures.memory) tt;
+      height = rw p.1 tt;
+      rest = rw p.1 tt;
+      bounded = rw p.1 tt;
+    }
 
 pub binary-loop-op-preserved : goal.binary-loop-op-preserved
 binary-loop-op-preserved t c =
@@ -100,10 +169,15 @@ binary-returns-clause-value t c =
 
 -- ---- a choice
 
-pub expr-returns-in_err-test-clause-value : goal.expr-returns-in_err-test-clause-value
-expr-returns-in_err-test-clause-value t c =
+pub expr-returns-in_err-test : goal.expr-returns-in_err-test
+expr-returns-in_err-test t c =
     let p = err_from_is_err_and c.from_residual.result c.from_residual.ensures.1 in
-    rw (p.1, p.2) (test_fails c.in_err-test.field-0.0 c.args.left c.args.tokens.now c.in_err-test.ensures.value)
+    record {
+      value = rw (p.1, p.2) (test_fails c.in_err-test.field-0.0 c.args.left c.args.tokens.now c.in_err-test.ensures.value);
+      height = rw p.1 tt;
+      rest = rw p.1 tt;
+      bounded = rw p.1 tt;
+    }
 
 pub expr-returns-then-not-starts_with-clause-value : goal.expr-returns-then-not-starts_with-clause-value
 expr-returns-then-not-starts_with-clause-value t c =
@@ -113,11 +187,26 @@ pub expr-returns-then-height-left-clause-value : goal.expr-returns-then-height-l
 expr-returns-then-height-left-clause-value t c =
     rw c.refuse.ensures (test_deep c.args.left c.args.tokens.now (expr_of c.in_ok-test.test.value) c.in_ok-test.rest.now c.in_ok-test.ensures.value (sym c.starts_with.ensures ∙ c.if-not-starts_with.false) (omega (arith, c.in_ok-test.ensures.height)))
 
-pub expr-returns-in_err-parts-clause-value : goal.expr-returns-in_err-parts-clause-value
-expr-returns-in_err-parts-clause-value t c =
+pub expr-returns-in_err-parts : goal.expr-returns-in_err-parts
+expr-returns-in_err-parts t c =
     let p = err_from_is_err_and c.from_residual-in_err-parts.result c.from_residual-in_err-parts.ensures.1 in
-    rw (p.1, p.2) (parts_fail c.in_err-parts.field-0.0 c.args.left c.args.tokens.now (expr_of c.in_ok-test.test.value) c.in_ok-test.rest.now c.in_ok-test.ensures.value (sym c.starts_with.ensures ∙ c.if-not-starts_with.false) (omega (arith, c.in_ok-test.ensures.height))
-    (subst (λ (l : List Token). Fails c.in_err-parts.field-0.0 (parts_at (expr_at (c.args.left - 1) loosest) l)) c.tail.ensures c.in_err-parts.ensures.value))
+    record {
+      value = rw (p.1, p.2) (parts_fail c.in_err-parts.field-0.0 c.args.left c.args.tokens.now (expr_of c.in_ok-test.test.value) c.in_ok-test.rest.now c.in_ok-test.ensures.value (sym c.starts_with.ensures ∙ c.if-not-starts_with.false) (omega (arith, c.in_ok-test.ensures.height))
+          (subst (λ (l : List Token). Fails c.in_err-parts.field-0.0 (parts_at (expr_at (c.args.left - 1) loosest) l)) c.tail.ensures c.in_err-parts.ensures.value));
+      height = rw p.1 tt;
+      rest = rw p.1 tt;
+      bounded = rw p.1 tt;
+    }
+
+pub expr-returns-in_err-found : goal.expr-returns-in_err-found
+expr-returns-in_err-found t c =
+    let p = err_from_is_err_and c.from_residual-in_err-found.result c.from_residual-in_err-found.ensures.1 in
+    record {
+      value = rw (p.1, p.2, c.in_err-found.ensures.memory) tt;
+      height = rw p.1 tt;
+      rest = rw p.1 tt;
+      bounded = rw p.1 tt;
+    }
 
 pub expr-returns-clause-value : goal.expr-returns-clause-value
 expr-returns-clause-value t c =
@@ -142,6 +231,59 @@ pub place-returns-clause-value : goal.place-returns-clause-value
 place-returns-clause-value t c =
     let z : c.args.left ≡ 0 = omega arith in
     rw (c.refuse-2.ensures, z) (target_none c.args.tokens.now (sym c.names.ensures ∙ c.if-names.false))
+
+pub place_from-returns-then-not-starts_with-clause-value : goal.place_from-returns-then-not-starts_with-clause-value
+unfolding place_at index_at optional
+place_from-returns-then-not-starts_with-clause-value t c = rw (c.in_ok-word.ensures.value, sym c.starts_with.ensures ∙ c.if-not-starts_with.true, variable_view c.in_ok-word.word) refl
+
+pub place_from-returns-in_err-index : goal.place_from-returns-in_err-index
+unfolding place_at index_at optional
+place_from-returns-in_err-index t c =
+    let p = err_from_is_err_and c.from_residual-in_err-index.result c.from_residual-in_err-index.ensures.1 in
+    record {
+      value = rw (p.1, p.2, c.in_ok-word.ensures.value, sym c.starts_with.ensures ∙ c.if-not-starts_with.false, sym c.tail.ensures) (fails_then c.in_err-index.field-0.0 _ _ (fails_then c.in_err-index.field-0.0 _ _ (fails_then c.in_err-index.field-0.0 _ _ c.in_err-index.ensures.value)));
+      height = rw p.1 tt;
+      rest = rw p.1 tt;
+      bounded = rw p.1 tt;
+    }
+
+pub place_from-returns-clause-value : goal.place_from-returns-clause-value
+unfolding place_at index_at optional
+place_from-returns-clause-value t c = rw (c.in_ok-word.ensures.value, sym c.starts_with.ensures ∙ c.if-not-starts_with.false, sym c.tail.ensures, c.in_ok-index.ensures.value, element_view c.in_ok-word.word c.in_ok-index.index c.to-span.result, c.to-span.ensures) refl
+
+pub suffix-returns-in_err-value : goal.suffix-returns-in_err-value
+unfolding suffix_at
+suffix-returns-in_err-value t c =
+    let p = err_from_is_err_and c.from_residual.result c.from_residual.ensures.1 in
+    record {
+      value = rw (p.1, p.2, sym c.starts_with.ensures ∙ c.if-starts_with.true, sym c.tail.ensures) (fails_then c.in_err-value.field-0.0 _ _ c.in_err-value.ensures.value);
+      height = rw p.1 tt;
+      rest = rw p.1 tt;
+      bounded = rw p.1 tt;
+    }
+
+pub suffix-returns-then-starts_with-clause-value : goal.suffix-returns-then-starts_with-clause-value
+unfolding suffix_at
+suffix-returns-then-starts_with-clause-value t c = rw (sym c.starts_with.ensures ∙ c.if-starts_with.true, sym c.tail.ensures, c.in_ok-value.ensures.value) refl
+
+pub suffix-returns-in_err-all : goal.suffix-returns-in_err-all
+unfolding suffix_at
+suffix-returns-in_err-all t c =
+    let p = err_from_is_err_and c.from_residual-in_err-all.result c.from_residual-in_err-all.ensures.1 in
+    record {
+      value = rw (p.1, p.2, sym c.starts_with.ensures ∙ c.if-starts_with.false, sym c.starts_with-2.ensures ∙ c.if-starts_with-2.true, sym c.tail-then-starts_with-2.ensures) (fails_then c.in_err-all.field-0.0 _ _ c.in_err-all.ensures.value);
+      height = rw p.1 tt;
+      rest = rw p.1 tt;
+      bounded = rw p.1 tt;
+    }
+
+pub suffix-returns-then-starts_with-2-clause-value : goal.suffix-returns-then-starts_with-2-clause-value
+unfolding suffix_at
+suffix-returns-then-starts_with-2-clause-value t c = rw (sym c.starts_with.ensures ∙ c.if-starts_with.false, sym c.starts_with-2.ensures ∙ c.if-starts_with-2.true, sym c.tail-then-starts_with-2.ensures, c.in_ok-all.ensures.value) refl
+
+pub suffix-returns-clause-value : goal.suffix-returns-clause-value
+unfolding suffix_at
+suffix-returns-clause-value t c = rw (sym c.starts_with.ensures ∙ c.if-starts_with.false, sym c.starts_with-2.ensures ∙ c.if-starts_with-2.false) refl
 
 -- ---- brackets
 
@@ -173,99 +315,299 @@ unary-returns-clause-value t c =
     let p : expr_at c.args.left 0 c.args.tokens.now ≡ operand_from (expr_at (c.args.left - 1)) (target_at (c.args.left - 1)) (start_of c.in-Some.first.now.kind) c.in-Some.first.now c.in-Some.rest.now = rw w (operand_step c.args.left c.in-Some.first.now c.in-Some.rest.now (omega arith)) in
     rw p c.unary_from.ensures.value
 
+pub unary_from-returns-in-Number-clause-value : goal.unary_from-returns-in-Number-clause-value
+unary_from-returns-in-Number-clause-value t c = rw (sym c.start_of.ensures ∙ c.in-Number.is, sym (number_view c.in-Number.value c.args.first.now.span)) (made_gives expr_of c.made.result _ _ c.made.ensures.value c.made.ensures.rest c.made.ensures.memory)
+
+pub unary_from-returns-in-Truth-clause-value : goal.unary_from-returns-in-Truth-clause-value
+unary_from-returns-in-Truth-clause-value t c = rw (sym c.start_of.ensures ∙ c.in-Truth.is, sym (truth_view c.in-Truth.value c.args.first.now.span)) (made_gives expr_of c.made-in-Truth.result _ _ c.made-in-Truth.ensures.value c.made-in-Truth.ensures.rest c.made-in-Truth.ensures.memory)
+
+pub unary_from-returns-in-ProgramIndex-clause-value : goal.unary_from-returns-in-ProgramIndex-clause-value
+unary_from-returns-in-ProgramIndex-clause-value t c = rw (sym c.start_of.ensures ∙ c.in-ProgramIndex.is, sym (index_view c.args.first.now.span)) (made_gives expr_of c.made-in-ProgramIndex.result _ _ c.made-in-ProgramIndex.ensures.value c.made-in-ProgramIndex.ensures.rest c.made-in-ProgramIndex.ensures.memory)
+
+pub unary_from-returns-in-ProgramCount-clause-value : goal.unary_from-returns-in-ProgramCount-clause-value
+unary_from-returns-in-ProgramCount-clause-value t c = rw (sym c.start_of.ensures ∙ c.in-ProgramCount.is, sym (count_view c.args.first.now.span)) (made_gives expr_of c.made-in-ProgramCount.result _ _ c.made-in-ProgramCount.ensures.value c.made-in-ProgramCount.ensures.rest c.made-in-ProgramCount.ensures.memory)
+
+pub unary_from-returns-in-Word-clause-value : goal.unary_from-returns-in-Word-clause-value
+unary_from-returns-in-Word-clause-value t c = rw (sym c.start_of.ensures ∙ c.in-Word.is, sym c.requires.whole) c.named.ensures.value
+
+pub unary_from-returns-in-Bracket-clause-value : goal.unary_from-returns-in-Bracket-clause-value
+unary_from-returns-in-Bracket-clause-value t c = rw (sym c.start_of.ensures ∙ c.in-Bracket.is) c.bracket.ensures.value
+
+pub unary_from-returns-in-Prefix-clause-value : goal.unary_from-returns-in-Prefix-clause-value
+unary_from-returns-in-Prefix-clause-value t c = rw (sym c.start_of.ensures ∙ c.in-Prefix.is) c.prefixed.ensures.value
+
+pub unary_from-returns-in-Nothing-clause-value : goal.unary_from-returns-in-Nothing-clause-value
+unary_from-returns-in-Nothing-clause-value t c = rw (sym c.start_of.ensures ∙ c.in-Nothing.is, c.refuse.ensures, c.requires.whole) refl
+
 -- ---- parts in turn
 
-pub index-returns-in_err-value-clause-value : goal.index-returns-in_err-value-clause-value
+pub index-returns-in_err-value : goal.index-returns-in_err-value
 unfolding bracketed_at
-index-returns-in_err-value-clause-value t c =
+index-returns-in_err-value t c =
     let p = err_from_is_err_and c.from_residual.result c.from_residual.ensures.1 in
-    rw (p.1, p.2) (fails_then c.in_err-value.field-0.0 _ _ c.in_err-value.ensures.value)
+    record {
+      value = rw (p.1, p.2) (fails_then c.in_err-value.field-0.0 _ _ c.in_err-value.ensures.value);
+      height = rw p.1 tt;
+      rest = rw p.1 tt;
+      bounded = rw p.1 tt;
+    }
 
-pub index-returns-in_err-close-clause-value : goal.index-returns-in_err-close-clause-value
+pub index-returns-in_err-close : goal.index-returns-in_err-close
 unfolding bracketed_at
-index-returns-in_err-close-clause-value t c =
+index-returns-in_err-close t c =
     let p = err_from_is_err_and c.from_residual-in_err-close.result c.from_residual-in_err-close.ensures.1 in
-    rw (p.1, p.2, c.in_ok-value.ensures.value) (fails_then c.in_err-close.field-0.0 _ _ c.in_err-close.ensures.value)
+    record {
+      value = rw (p.1, p.2, c.in_ok-value.ensures.value) (fails_then c.in_err-close.field-0.0 _ _ c.in_err-close.ensures.value);
+      height = rw p.1 tt;
+      rest = rw p.1 tt;
+      bounded = rw p.1 tt;
+    }
 
 pub index-returns-clause-value : goal.index-returns-clause-value
 unfolding bracketed_at
 index-returns-clause-value t c = rw (c.in_ok-value.ensures.value, c.in_ok-close.ensures.value) refl
 
-pub closed_arguments-returns-in_err-all-clause-value : goal.closed_arguments-returns-in_err-all-clause-value
+pub closed_arguments-returns-in_err-all : goal.closed_arguments-returns-in_err-all
 unfolding arguments_at
-closed_arguments-returns-in_err-all-clause-value t c =
+closed_arguments-returns-in_err-all t c =
     let p = err_from_is_err_and c.from_residual.result c.from_residual.ensures.1 in
-    rw (p.1, p.2) (fails_then c.in_err-all.field-0.0 _ _ c.in_err-all.ensures.value)
+    record {
+      value = rw (p.1, p.2) (fails_then c.in_err-all.field-0.0 _ _ c.in_err-all.ensures.value);
+      height = rw p.1 tt;
+      rest = rw p.1 tt;
+      bounded = rw p.1 tt;
+    }
 
-pub closed_arguments-returns-in_err-close-clause-value : goal.closed_arguments-returns-in_err-close-clause-value
+pub closed_arguments-returns-in_err-close : goal.closed_arguments-returns-in_err-close
 unfolding arguments_at
-closed_arguments-returns-in_err-close-clause-value t c =
+closed_arguments-returns-in_err-close t c =
     let p = err_from_is_err_and c.from_residual-in_err-close.result c.from_residual-in_err-close.ensures.1 in
-    rw (p.1, p.2, c.in_ok-all.ensures.value) (fails_then c.in_err-close.field-0.0 _ _ c.in_err-close.ensures.value)
+    record {
+      value = rw (p.1, p.2, c.in_ok-all.ensures.value) (fails_then c.in_err-close.field-0.0 _ _ c.in_err-close.ensures.value);
+      height = rw p.1 tt;
+      rest = rw p.1 tt;
+      bounded = rw p.1 tt;
+    }
 
 pub closed_arguments-returns-clause-value : goal.closed_arguments-returns-clause-value
 unfolding arguments_at
 closed_arguments-returns-clause-value t c = rw (c.in_ok-all.ensures.value, c.in_ok-close.ensures.value) refl
 
-pub named-returns-in_err-word-clause-value : goal.named-returns-in_err-word-clause-value
+pub named-returns-in_err-word : goal.named-returns-in_err-word
 unfolding named_at
-named-returns-in_err-word-clause-value t c =
+named-returns-in_err-word t c =
     let p = err_from_is_err_and c.from_residual.result c.from_residual.ensures.1 in
-    rw (p.1, p.2) (fails_then c.in_err-word.field-0.0 _ _ (fails_then c.in_err-word.field-0.0 _ _ c.in_err-word.ensures.value))
+    record {
+      value = rw (p.1, p.2) (fails_then c.in_err-word.field-0.0 _ _ (fails_then c.in_err-word.field-0.0 _ _ c.in_err-word.ensures.value));
+      height = rw p.1 tt;
+      rest = rw p.1 tt;
+      bounded = rw p.1 tt;
+    }
 
-pub named-returns-in_err-suffix-clause-value : goal.named-returns-in_err-suffix-clause-value
+pub named-returns-in_err-suffix : goal.named-returns-in_err-suffix
 unfolding named_at
-named-returns-in_err-suffix-clause-value t c =
+named-returns-in_err-suffix t c =
     let p = err_from_is_err_and c.from_residual-in_err-suffix.result c.from_residual-in_err-suffix.ensures.1 in
-    rw (p.1, p.2, c.in_ok-word.ensures.value) (fails_then c.in_err-suffix.field-0.0 _ _ (fails_then c.in_err-suffix.field-0.0 _ _ c.in_err-suffix.ensures.value))
+    record {
+      value = rw (p.1, p.2, c.in_ok-word.ensures.value) (fails_then c.in_err-suffix.field-0.0 _ _ (fails_then c.in_err-suffix.field-0.0 _ _ c.in_err-suffix.ensures.value));
+      height = rw p.1 tt;
+      rest = rw p.1 tt;
+      bounded = rw p.1 tt;
+    }
 
-pub cast-returns-in_err-ty-clause-value : goal.cast-returns-in_err-ty-clause-value
+pub named-returns-clause-value : goal.named-returns-clause-value
+unfolding named_at
+named-returns-clause-value t c = rw (c.in_ok-word.ensures.value, c.in_ok-suffix.ensures.value, sym c.with_suffix.ensures) (made_gives expr_of c.made.result _ _ c.made.ensures.value c.made.ensures.rest c.made.ensures.memory)
+
+pub cast-returns-in_err-ty : goal.cast-returns-in_err-ty
 unfolding cast_at
-cast-returns-in_err-ty-clause-value t c =
+cast-returns-in_err-ty t c =
     let p = err_from_is_err_and c.from_residual.result c.from_residual.ensures.1 in
-    rw (p.1, p.2) (fails_then c.in_err-ty.field-0.0 _ _ (fails_then c.in_err-ty.field-0.0 _ _ c.in_err-ty.ensures.value))
+    record {
+      value = rw (p.1, p.2) (fails_then c.in_err-ty.field-0.0 _ _ (fails_then c.in_err-ty.field-0.0 _ _ c.in_err-ty.ensures.value));
+      height = rw p.1 tt;
+      rest = rw p.1 tt;
+      bounded = rw p.1 tt;
+    }
 
-pub closed-returns-in_err-inside-clause-value : goal.closed-returns-in_err-inside-clause-value
+pub cast-returns-in_err-_close : goal.cast-returns-in_err-_close
+unfolding cast_at
+cast-returns-in_err-_close t c =
+    let p = err_from_is_err_and c.from_residual-in_err-_close.result c.from_residual-in_err-_close.ensures.1 in
+    record {
+      value = rw (p.1, p.2, c.in_ok-ty.ensures.value) (fails_then c.in_err-_close.field-0.0 _ _ (fails_then c.in_err-_close.field-0.0 _ _ (fails_then c.in_err-_close.field-0.0 _ _ c.in_err-_close.ensures.value)));
+      height = rw p.1 tt;
+      rest = rw p.1 tt;
+      bounded = rw p.1 tt;
+    }
+
+pub cast-returns-in_err-operand : goal.cast-returns-in_err-operand
+unfolding cast_at
+cast-returns-in_err-operand t c =
+    let p = err_from_is_err_and c.from_residual-in_err-operand.result c.from_residual-in_err-operand.ensures.1 in
+    record {
+      value = rw (p.1, p.2, c.in_ok-ty.ensures.value, c.in_ok-_close.ensures.value) (fails_then c.in_err-operand.field-0.0 _ _ (fails_then c.in_err-operand.field-0.0 _ _ (fails_then c.in_err-operand.field-0.0 _ _ c.in_err-operand.ensures.value)));
+      height = rw p.1 tt;
+      rest = rw p.1 tt;
+      bounded = rw p.1 tt;
+    }
+
+pub cast-returns-clause-value : goal.cast-returns-clause-value
+unfolding cast_at
+cast-returns-clause-value t c =
+    let e : c.to-span.result ≡ span_to c.args.opening (span_of (expr_of c.in_ok-operand.operand.value)) = cc in
+    rw (c.in_ok-ty.ensures.value, c.in_ok-_close.ensures.value, c.in_ok-operand.ensures.value, sym e, sym (cast_view c.in_ok-ty.ty c.in_ok-operand.operand c.to-span.result)) (made_gives expr_of c.made.result _ _ c.made.ensures.value c.made.ensures.rest c.made.ensures.memory)
+
+pub closed-returns-in_err-inside : goal.closed-returns-in_err-inside
 unfolding closed_at
-closed-returns-in_err-inside-clause-value t c =
+closed-returns-in_err-inside t c =
     let p = err_from_is_err_and c.from_residual.result c.from_residual.ensures.1 in
-    rw (p.1, p.2) (fails_then c.in_err-inside.field-0.0 _ _ (fails_then c.in_err-inside.field-0.0 _ _ c.in_err-inside.ensures.value))
+    record {
+      value = rw (p.1, p.2) (fails_then c.in_err-inside.field-0.0 _ _ (fails_then c.in_err-inside.field-0.0 _ _ c.in_err-inside.ensures.value));
+      height = rw p.1 tt;
+      rest = rw p.1 tt;
+      bounded = rw p.1 tt;
+    }
 
-pub closed-returns-in_err-close-clause-value : goal.closed-returns-in_err-close-clause-value
+pub closed-returns-in_err-close : goal.closed-returns-in_err-close
 unfolding closed_at
-closed-returns-in_err-close-clause-value t c =
+closed-returns-in_err-close t c =
     let p = err_from_is_err_and c.from_residual-in_err-close.result c.from_residual-in_err-close.ensures.1 in
-    rw (p.1, p.2, c.in_ok-inside.ensures.value) (fails_then c.in_err-close.field-0.0 _ _ (fails_then c.in_err-close.field-0.0 _ _ c.in_err-close.ensures.value))
+    record {
+      value = rw (p.1, p.2, c.in_ok-inside.ensures.value) (fails_then c.in_err-close.field-0.0 _ _ (fails_then c.in_err-close.field-0.0 _ _ c.in_err-close.ensures.value));
+      height = rw p.1 tt;
+      rest = rw p.1 tt;
+      bounded = rw p.1 tt;
+    }
 
-pub prefixed-returns-in_err-operand-clause-value : goal.prefixed-returns-in_err-operand-clause-value
-prefixed-returns-in_err-operand-clause-value t c =
+pub closed-returns-clause-value : goal.closed-returns-clause-value
+unfolding closed_at
+closed-returns-clause-value t c = rw (c.in_ok-inside.ensures.value, c.in_ok-close.ensures.value, sym c.to-span.ensures, sym (brackets_view c.in_ok-inside.inside c.to-span.result)) (made_gives expr_of c.made.result _ _ c.made.ensures.value c.made.ensures.rest c.made.ensures.memory)
+
+pub prefixed-returns-in_err-operand : goal.prefixed-returns-in_err-operand
+prefixed-returns-in_err-operand t c =
     let p = err_from_is_err_and c.from_residual.result c.from_residual.ensures.1 in
-    rw (p.1, p.2) (fails_then c.in_err-operand.field-0.0 _ _ c.in_err-operand.ensures.value)
+    record {
+      value = rw (p.1, p.2) (fails_then c.in_err-operand.field-0.0 _ _ c.in_err-operand.ensures.value);
+      height = rw p.1 tt;
+      rest = rw p.1 tt;
+      bounded = rw p.1 tt;
+    }
 
-pub parts-returns-in_err-then-clause-value : goal.parts-returns-in_err-then-clause-value
+pub prefixed-returns-clause-value : goal.prefixed-returns-clause-value
+prefixed-returns-clause-value t c =
+    let e : c.to-span.result ≡ span_to c.args.place (span_of (expr_of c.in_ok-operand.operand.value)) = cc in
+    rw (c.in_ok-operand.ensures.value, sym e, sym (prefix_view c.args.operator c.in_ok-operand.operand c.to-span.result)) (made_gives expr_of c.made.result _ _ c.made.ensures.value c.made.ensures.rest c.made.ensures.memory)
+
+pub parts-returns-in_err-then : goal.parts-returns-in_err-then
 unfolding parts_at
-parts-returns-in_err-then-clause-value t c =
+parts-returns-in_err-then t c =
     let p = err_from_is_err_and c.from_residual.result c.from_residual.ensures.1 in
-    rw (p.1, p.2) (fails_then c.in_err-then.field-0.0 _ _ c.in_err-then.ensures.value)
+    record {
+      value = rw (p.1, p.2) (fails_then c.in_err-then.field-0.0 _ _ c.in_err-then.ensures.value);
+      height = rw p.1 tt;
+      rest = rw p.1 tt;
+      bounded = rw p.1 tt;
+    }
 
-pub parts-returns-in_err-colon-clause-value : goal.parts-returns-in_err-colon-clause-value
+pub parts-returns-in_err-colon : goal.parts-returns-in_err-colon
 unfolding parts_at
-parts-returns-in_err-colon-clause-value t c =
+parts-returns-in_err-colon t c =
     let p = err_from_is_err_and c.from_residual-in_err-colon.result c.from_residual-in_err-colon.ensures.1 in
-    rw (p.1, p.2, c.in_ok-then.ensures.value) (fails_then c.in_err-colon.field-0.0 _ _ (fails_then c.in_err-colon.field-0.0 _ _ c.in_err-colon.ensures.value))
+    record {
+      value = rw (p.1, p.2, c.in_ok-then.ensures.value) (fails_then c.in_err-colon.field-0.0 _ _ (fails_then c.in_err-colon.field-0.0 _ _ c.in_err-colon.ensures.value));
+      height = rw p.1 tt;
+      rest = rw p.1 tt;
+      bounded = rw p.1 tt;
+    }
 
-pub parts-returns-in_err-otherwise-clause-value : goal.parts-returns-in_err-otherwise-clause-value
+pub parts-returns-in_err-otherwise : goal.parts-returns-in_err-otherwise
 unfolding parts_at
-parts-returns-in_err-otherwise-clause-value t c =
+parts-returns-in_err-otherwise t c =
     let p = err_from_is_err_and c.from_residual-in_err-otherwise.result c.from_residual-in_err-otherwise.ensures.1 in
-    rw (p.1, p.2, c.in_ok-then.ensures.value, c.in_ok-colon.ensures.value) (fails_then c.in_err-otherwise.field-0.0 _ _ (fails_then c.in_err-otherwise.field-0.0 _ _ c.in_err-otherwise.ensures.value))
+    record {
+      value = rw (p.1, p.2, c.in_ok-then.ensures.value, c.in_ok-colon.ensures.value) (fails_then c.in_err-otherwise.field-0.0 _ _ (fails_then c.in_err-otherwise.field-0.0 _ _ c.in_err-otherwise.ensures.value));
+      height = rw p.1 tt;
+      rest = rw p.1 tt;
+      bounded = rw p.1 tt;
+    }
 
 pub parts-returns-clause-value : goal.parts-returns-clause-value
 unfolding parts_at
 parts-returns-clause-value t c = rw (c.in_ok-then.ensures.value, c.in_ok-colon.ensures.value, c.in_ok-otherwise.ensures.value) refl
 
-pub place_from-returns-in_err-word-clause-value : goal.place_from-returns-in_err-word-clause-value
+pub place_from-returns-in_err-word : goal.place_from-returns-in_err-word
 unfolding place_at
-place_from-returns-in_err-word-clause-value t c =
+place_from-returns-in_err-word t c =
     let p = err_from_is_err_and c.from_residual.result c.from_residual.ensures.1 in
-    rw (p.1, p.2) (fails_then c.in_err-word.field-0.0 _ _ (fails_then c.in_err-word.field-0.0 _ _ c.in_err-word.ensures.value))
+    record {
+      value = rw (p.1, p.2) (fails_then c.in_err-word.field-0.0 _ _ (fails_then c.in_err-word.field-0.0 _ _ c.in_err-word.ensures.value));
+      height = rw p.1 tt;
+      rest = rw p.1 tt;
+      bounded = rw p.1 tt;
+    }
+
+-- ---- what is left behind the first token of an operand, and its depth
+
+pub unary_from-returns-in-Number-clause-height : goal.unary_from-returns-in-Number-clause-height
+unary_from-returns-in-Number-clause-height t c = height_made expr_of depth c.made.result _ _ (ap depth (number_view c.in-Number.value c.args.first.now.span)) c.made.ensures.value c.made.ensures.height
+
+pub unary_from-returns-in-Number-clause-rest : goal.unary_from-returns-in-Number-clause-rest
+unary_from-returns-in-Number-clause-rest t c = shorter_made c.made.result c.args.first.now c.args.rest.now c.args.tokens.now c.requires.whole c.made.ensures.rest
+
+pub unary_from-returns-in-Number-clause-bounded : goal.unary_from-returns-in-Number-clause-bounded
+unary_from-returns-in-Number-clause-bounded t c = bounded_made c.made.result 1 (c.args.inner + 1) (omega arith) c.made.ensures.height
+
+pub unary_from-returns-in-Truth-clause-height : goal.unary_from-returns-in-Truth-clause-height
+unary_from-returns-in-Truth-clause-height t c = height_made expr_of depth c.made-in-Truth.result _ _ (ap depth (truth_view c.in-Truth.value c.args.first.now.span)) c.made-in-Truth.ensures.value c.made-in-Truth.ensures.height
+
+pub unary_from-returns-in-Truth-clause-rest : goal.unary_from-returns-in-Truth-clause-rest
+unary_from-returns-in-Truth-clause-rest t c = shorter_made c.made-in-Truth.result c.args.first.now c.args.rest.now c.args.tokens.now c.requires.whole c.made-in-Truth.ensures.rest
+
+pub unary_from-returns-in-Truth-clause-bounded : goal.unary_from-returns-in-Truth-clause-bounded
+unary_from-returns-in-Truth-clause-bounded t c = bounded_made c.made-in-Truth.result 1 (c.args.inner + 1) (omega arith) c.made-in-Truth.ensures.height
+
+pub unary_from-returns-in-ProgramIndex-clause-height : goal.unary_from-returns-in-ProgramIndex-clause-height
+unary_from-returns-in-ProgramIndex-clause-height t c = height_made expr_of depth c.made-in-ProgramIndex.result _ _ (ap depth (index_view c.args.first.now.span)) c.made-in-ProgramIndex.ensures.value c.made-in-ProgramIndex.ensures.height
+
+pub unary_from-returns-in-ProgramIndex-clause-rest : goal.unary_from-returns-in-ProgramIndex-clause-rest
+unary_from-returns-in-ProgramIndex-clause-rest t c = shorter_made c.made-in-ProgramIndex.result c.args.first.now c.args.rest.now c.args.tokens.now c.requires.whole c.made-in-ProgramIndex.ensures.rest
+
+pub unary_from-returns-in-ProgramIndex-clause-bounded : goal.unary_from-returns-in-ProgramIndex-clause-bounded
+unary_from-returns-in-ProgramIndex-clause-bounded t c = bounded_made c.made-in-ProgramIndex.result 1 (c.args.inner + 1) (omega arith) c.made-in-ProgramIndex.ensures.height
+
+pub unary_from-returns-in-ProgramCount-clause-height : goal.unary_from-returns-in-ProgramCount-clause-height
+unary_from-returns-in-ProgramCount-clause-height t c = height_made expr_of depth c.made-in-ProgramCount.result _ _ (ap depth (count_view c.args.first.now.span)) c.made-in-ProgramCount.ensures.value c.made-in-ProgramCount.ensures.height
+
+pub unary_from-returns-in-ProgramCount-clause-rest : goal.unary_from-returns-in-ProgramCount-clause-rest
+unary_from-returns-in-ProgramCount-clause-rest t c = shorter_made c.made-in-ProgramCount.result c.args.first.now c.args.rest.now c.args.tokens.now c.requires.whole c.made-in-ProgramCount.ensures.rest
+
+pub unary_from-returns-in-ProgramCount-clause-bounded : goal.unary_from-returns-in-ProgramCount-clause-bounded
+unary_from-returns-in-ProgramCount-clause-bounded t c = bounded_made c.made-in-ProgramCount.result 1 (c.args.inner + 1) (omega arith) c.made-in-ProgramCount.ensures.height
+
+pub unary_from-returns-in-Word-clause-height : goal.unary_from-returns-in-Word-clause-height
+unary_from-returns-in-Word-clause-height t c = c.named.ensures.height
+
+pub unary_from-returns-in-Word-clause-rest : goal.unary_from-returns-in-Word-clause-rest
+unary_from-returns-in-Word-clause-rest t c = c.named.ensures.rest
+
+pub unary_from-returns-in-Word-clause-bounded : goal.unary_from-returns-in-Word-clause-bounded
+unary_from-returns-in-Word-clause-bounded t c = c.named.ensures.bounded
+
+pub unary_from-returns-in-Bracket-clause-height : goal.unary_from-returns-in-Bracket-clause-height
+unary_from-returns-in-Bracket-clause-height t c = c.bracket.ensures.height
+
+pub unary_from-returns-in-Bracket-clause-rest : goal.unary_from-returns-in-Bracket-clause-rest
+unary_from-returns-in-Bracket-clause-rest t c = shorter_found c.bracket.result c.args.first.now c.args.rest.now c.args.tokens.now c.requires.whole c.bracket.ensures.rest
+
+pub unary_from-returns-in-Bracket-clause-bounded : goal.unary_from-returns-in-Bracket-clause-bounded
+unary_from-returns-in-Bracket-clause-bounded t c = c.bracket.ensures.bounded
+
+pub unary_from-returns-in-Prefix-clause-height : goal.unary_from-returns-in-Prefix-clause-height
+unary_from-returns-in-Prefix-clause-height t c = c.prefixed.ensures.height
+
+pub unary_from-returns-in-Prefix-clause-rest : goal.unary_from-returns-in-Prefix-clause-rest
+unary_from-returns-in-Prefix-clause-rest t c = shorter_found c.prefixed.result c.args.first.now c.args.rest.now c.args.tokens.now c.requires.whole c.prefixed.ensures.rest
+
+pub unary_from-returns-in-Prefix-clause-bounded : goal.unary_from-returns-in-Prefix-clause-bounded
+unary_from-returns-in-Prefix-clause-bounded t c = c.prefixed.ensures.bounded

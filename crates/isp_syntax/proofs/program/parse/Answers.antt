@@ -1,6 +1,6 @@
 use Rattle.std.proofs.Common.{◌≡◌, List, Ok, Err, subst}
 use Rattle.isp_lex.specs.declared.token.Token.{Token}
-use Rattle.isp_syntax.specs.reader.Programs.{program_at}
+use Rattle.isp_grammar.specs.reader.Programs.{program_at}
 use Rattle.isp_tree.specs.Views.{functions_of}
 use Rattle.isp_syntax.proofs.Programs.{program_sound}
 use Rattle.isp_syntax.proofs.Promised.{left_within, refusal_means, only_tree, no_refusal}

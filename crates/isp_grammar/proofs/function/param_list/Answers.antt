@@ -3,10 +3,10 @@ use Rattle.std.specs.Prelude.{map}
 use Rattle.std.proofs.lemmas.Result.{err_from_is_err_and}
 use Rattle.std.proofs.lemmas.List.{map_push}
 use Rattle.isp_grammar.specs.reader.Readers.{list_at}
-use Rattle.isp_syntax.specs.reader.Programs.{param_at}
+use Rattle.isp_grammar.specs.reader.Programs.{param_at}
 use Rattle.isp_tree.specs.Views.{param_of}
 use Rattle.isp_grammar.proofs.Loops.{list_fails, list_last, list_step, list_begins}
-use Rattle.isp_syntax.proofs.function.param_list.Goals as goal
+use Rattle.isp_grammar.proofs.function.param_list.Goals as goal
 
 pub each-init : goal.each-init
 each-init c = record {

@@ -5,7 +5,7 @@ use Rattle.std.proofs.lemmas.List.{append-nil}
 use Rattle.isp_lex.specs.declared.token.Token.{Token}
 use Rattle.isp_grammar.specs.reader.Readers.{◌>>=◌, Fails}
 use Rattle.isp_grammar.specs.reader.Choices.{signs_from, signs_at}
-use Rattle.isp_syntax.specs.reader.Programs.{linkage_of, linkage_at, linkages_at, function_at, functions_at, program_at}
+use Rattle.isp_grammar.specs.reader.Programs.{linkage_of, linkage_at, linkages_at, function_at, functions_at, program_at}
 use Rattle.isp_tree.specs.Tree.{Function}
 use Rattle.isp_grammar.specs.declared.stop.Refusal.{Refusal}
 use Rattle.isp_grammar.specs.declared.stop.Stop.{Stop}

@@ -2,10 +2,7 @@
 use Rattle.std.specs.Prelude.{map, ℕ, zero, suc, List, [], ◌∷◌, length, drop, Bool, true, false, ◌&&◌, if◌then◌else◌, Option, Some, None, Result, Ok, Err}
 use Rattle.isp_base.specs.Types.{span_to}
 use Rattle.isp_base.specs.declared.types.Span.{Span}
-use Rattle.isp_lex.specs.Faults.{fault}
 use Rattle.isp_lex.specs.Tokens.{starts_with}
-use Rattle.isp_lex.specs.declared.fault.Fault.{Fault}
-use Rattle.isp_lex.specs.declared.fault.Rule.TheVariants as rule
 use Rattle.isp_lex.specs.declared.token.Mark.TheVariants as mark
 use Rattle.isp_lex.specs.declared.token.TokenKind.{TokenKind}
 use Rattle.isp_lex.specs.declared.token.TokenKind.TheVariants as kind
@@ -15,13 +12,11 @@ use Rattle.isp_grammar.specs.reader.Choices.{signs_at}
 use Rattle.isp_grammar.specs.reader.Stmts.{block_at}
 use Rattle.isp_grammar.specs.reader.Types.{type_at}
 use Rattle.isp_grammar.specs.Signs.{first_span}
-use Rattle.isp_syntax.specs.Promise.{refused_span, rule_at}
 use Rattle.isp_tree.specs.Tree.{TypeTree, Block, span_of_block, Param, Function}
 use Rattle.isp_tree.specs.Views.{type_of, param_of}
-use Rattle.isp_syntax.specs.declared.function.Heading as rust_heading
+use Rattle.isp_grammar.specs.declared.function.Heading as rust_heading
 use Rattle.isp_grammar.specs.declared.stop.Refusal.{Refusal}
-use Rattle.isp_grammar.specs.declared.stop.Why.{Why}
-use Rattle.isp_grammar.specs.declared.stop.Why.TheVariants.{Unexpected, TooDeep}
+use Rattle.isp_grammar.specs.declared.stop.Why.TheVariants.{Unexpected}
 use Rattle.isp_tree.specs.declared.function.Linkage.{Linkage}
 use Rattle.isp_tree.specs.declared.function.Linkage.TheVariants.{Export, Static, Inline}
 use Rattle.isp_tree.specs.declared.types.Word.{Word}
@@ -93,8 +88,3 @@ functions_at n (suc f) (t ∷ ts) = function_at n (t ∷ ts) >>= λ x. (function
 
 unfoldable pub program_at : ℕ → List Token → Result (List Function) Refusal
 program_at n ts = functions_at n (suc (length ts)) ts
-
--- the fault of a refusal whose first token stands at the front
-abbrev pub fault_of : Why → ℕ → List Token → Fault
-fault_of Unexpected end ts = fault (rule_at ts) (refused_span end ts)
-fault_of TooDeep end ts = fault rule.TooDeep (refused_span end ts)

@@ -1,9 +1,9 @@
 use Rattle.std.proofs.Common.{◌≡◌, ◌≤◌, ◌<◌, ℕ, length}
 use Rattle.isp_tree.specs.Views.{functions_of}
 use Rattle.isp_tree.specs.Depth.{limit}
-use Rattle.isp_syntax.specs.reader.Programs.{functions_at, program_at}
-use Rattle.isp_syntax.proofs.FunctionSteps.{functions_then}
-use Rattle.isp_syntax.proofs.program.program.Given as goal
+use Rattle.isp_grammar.specs.reader.Programs.{functions_at, program_at}
+use Rattle.isp_grammar.proofs.FunctionSteps.{functions_then}
+use Rattle.isp_grammar.proofs.function.program.Given as goal
 
 abbrev pub invariant-each : goal.invariant-each
 invariant-each l = record {

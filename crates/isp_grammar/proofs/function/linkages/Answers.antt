@@ -1,8 +1,8 @@
 use Rattle.std.proofs.Common.{Ok, sym, ap, ◌∙◌, arith}
 use Rattle.isp_grammar.specs.reader.Choices.{signs_at}
-use Rattle.isp_syntax.specs.reader.Programs.{linkage_of}
-use Rattle.isp_syntax.proofs.FunctionSteps.{linkages_are, linkages_end, linkages_step, linkage_shorter}
-use Rattle.isp_syntax.proofs.function.linkages.Goals as goal
+use Rattle.isp_grammar.specs.reader.Programs.{linkage_of}
+use Rattle.isp_grammar.proofs.FunctionSteps.{linkages_are, linkages_end, linkages_step, linkage_shorter}
+use Rattle.isp_grammar.proofs.function.linkages.Goals as goal
 
 pub returns-in_default-clause-value : goal.returns-in_default-clause-value
 returns-in_default-clause-value c =

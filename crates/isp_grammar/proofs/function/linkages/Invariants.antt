@@ -1,8 +1,8 @@
 use Rattle.std.proofs.Common.{◌≡◌, ◌≤◌, length}
 use Rattle.isp_grammar.specs.reader.Choices.{signs_at}
-use Rattle.isp_syntax.specs.reader.Programs.{linkage_of}
-use Rattle.isp_syntax.proofs.FunctionSteps.{words_then}
-use Rattle.isp_syntax.proofs.function.linkages.Given as goal
+use Rattle.isp_grammar.specs.reader.Programs.{linkage_of}
+use Rattle.isp_grammar.proofs.FunctionSteps.{words_then}
+use Rattle.isp_grammar.proofs.function.linkages.Given as goal
 
 abbrev pub invariant-each : goal.invariant-each
 invariant-each l = record {

@@ -3,9 +3,9 @@ use Rattle.std.proofs.lemmas.Result.{err_from_is_err_and}
 use Rattle.std.proofs.lemmas.List.{map_push}
 use Rattle.isp_tree.specs.Depth.{limit}
 use Rattle.isp_tree.specs.Views.{function_of, functions_of}
-use Rattle.isp_syntax.specs.reader.Programs.{program_at}
-use Rattle.isp_syntax.proofs.FunctionSteps.{program_begins, program_fails, program_ends, program_step, some_left, none_left}
-use Rattle.isp_syntax.proofs.program.program.Goals as goal
+use Rattle.isp_grammar.specs.reader.Programs.{program_at}
+use Rattle.isp_grammar.proofs.FunctionSteps.{program_begins, program_fails, program_ends, program_step, some_left, none_left}
+use Rattle.isp_grammar.proofs.function.program.Goals as goal
 
 pub each-init : goal.each-init
 each-init c = record {

@@ -1,10 +1,10 @@
 use Rattle.std.proofs.Common.{◌≡◌, ◌≤◌, ◌+◌, ◌<◌, ℕ, length}
 use Rattle.std.specs.Prelude.{map}
 use Rattle.isp_grammar.specs.reader.Readers.{list_at}
-use Rattle.isp_syntax.specs.reader.Programs.{param_at}
+use Rattle.isp_grammar.specs.reader.Programs.{param_at}
 use Rattle.isp_tree.specs.Views.{param_of}
 use Rattle.isp_grammar.proofs.Loops.{with_front}
-use Rattle.isp_syntax.proofs.function.param_list.Given as goal
+use Rattle.isp_grammar.proofs.function.param_list.Given as goal
 
 abbrev pub invariant-each : goal.invariant-each
 invariant-each l = record {

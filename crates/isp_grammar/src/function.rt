@@ -1,16 +1,18 @@
-//! Functions.
+//! Functions, and all those of a text.
 ghost use Rattle.std.specs.Prelude.{◌≡◌, ◌≤◌, ◌<◌, ◌+◌, IfOk, length, map, Ok};
-ghost use Rattle.isp_tree.specs.Views.{type_of, block_of, param_of, function_of};
+ghost use Rattle.isp_tree.specs.Depth.{limit};
+ghost use Rattle.isp_tree.specs.Views.{type_of, block_of, param_of, function_of, functions_of};
 ghost use Rattle.isp_grammar.specs.reader.Readers.{Gives, optional, mark_at, both, list_at};
 ghost use Rattle.isp_grammar.specs.reader.Choices.{signs_at};
-ghost use Rattle.isp_syntax.specs.reader.Programs.{linkage_of, linkage_at, linkages_at, param_at, only_void, params_at, signature_of, signature_at, function_from, function_at};
+ghost use Rattle.isp_grammar.specs.reader.Programs.{linkage_of, linkage_at, linkages_at, param_at, only_void, params_at, signature_of, signature_at, function_from, function_at, program_at};
 
+use crate::reading::{closed_by, in_box, mark, starts_with, tail, word};
+use crate::stmt::block;
+use crate::stop::Stop;
+use crate::types::{first_span, type_words};
 use isp_base::Span;
-use isp_grammar::{
-    Stop, block, closed_by, first_span, in_box, mark, starts_with, tail, type_words, word,
-};
 use isp_lex::{Mark, Token, TokenKind};
-use isp_tree::{Block, Function, Linkage, Param, TypeWords, Word};
+use isp_tree::{Block, DEPTH_LIMIT, Function, Linkage, Param, TypeWords, Word};
 use std::alloc::Global;
 
 fn linkage_of(kind: &TokenKind) -> Option<Linkage>
@@ -50,7 +52,7 @@ fn linkages(alloc: Global, tokens: &[Token]) -> Result<(Vec<Linkage>, &[Token]),
 }
 
 /// `[]`, where it ends.
-#[tactic(auto, unfolding(isp_grammar::specs::reader::Readers::optional))]
+#[tactic(auto, unfolding(crate::specs::reader::Readers::optional))]
 fn array_sign(tokens: &[Token]) -> Result<(Option<Span>, &[Token]), Stop>
     ensures value { Gives (λ r. (r.0, r.1.now)) result (optional Mark.BracketOpen (mark_at Mark.BracketClose) tokens.now) }
     ensures rest { IfOk result (λ r. length r.1.now ≤ length tokens.now) }
@@ -115,7 +117,7 @@ fn only_void(tokens: &[Token]) -> bool
 }
 
 /// The parameters before a closing bracket: `void` alone is none.
-#[tactic(auto, unfolding(crate::specs::reader::Programs::params_at, isp_grammar::specs::reader::Readers::listed_at))]
+#[tactic(auto, unfolding(crate::specs::reader::Programs::params_at, crate::specs::reader::Readers::listed_at))]
 fn params(alloc: Global, tokens: &[Token]) -> Result<(Vec<Param>, &[Token]), Stop>
     ensures value { Gives (λ r. (map param_of r.0.items, r.1.now)) result (params_at tokens.now) }
     ensures rest { IfOk result (λ r. length r.1.now ≤ length tokens.now) }
@@ -193,4 +195,18 @@ pub fn function(alloc: Global, left: usize, tokens: &[Token]) -> Result<(Functio
     let (heading, rest) = signature(alloc, tokens)?;
     let (body, rest) = block(alloc, left, rest)?;
     Ok((with_body(start, heading, body), rest))
+}
+
+/// The functions up to the end of the text.
+pub fn program(alloc: Global, tokens: &[Token]) -> Result<Vec<Function>, Stop>
+    ensures { Gives (λ fs. functions_of fs.items) result (program_at limit tokens.now) }
+{
+    let mut all = Vec::new(alloc);
+    let mut rest = tokens;
+    'each: while !rest.is_empty() {
+        let (next, after) = function(alloc, DEPTH_LIMIT, rest)?;
+        all.push(next)?;
+        rest = after;
+    }
+    Ok(all)
 }
