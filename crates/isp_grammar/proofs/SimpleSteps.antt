@@ -97,6 +97,13 @@ pub boxed_gives : {T S : Type 0} (view : T → S) (result : Result (Box T Global
 boxed_gives view (Ok x) v rest a b m = rw (a, b) refl
 boxed_gives view (Err e) v rest a b m = rw m tt
 
+-- the same where a call makes the value
+pub boxed_made : {T S : Type 0} (view : T → S) (result : Result (Box T Global × Bor (List Token)) Stop) (v : S) (rest : List Token)
+    → IfOk result (λ r. view r.0.value ≡ v) → IfOk result (λ r. r.1.now ≡ rest) → IfErr result (λ e. e ≡ stops.Memory)
+    → Gives {Y = S × List Token} (λ (r : Box T Global × Bor (List Token)). (view r.0.value, r.1.now)) result (Ok (v, rest))
+boxed_made view (Ok x) v rest a b m = rw (a, b) refl
+boxed_made view (Err e) v rest a b m = rw m tt
+
 -- what a call gives that puts a value in a box, with its depth
 pub made_gives : {T S : Type 0} (view : T → S) (result : Result (Box T Global × ℕ × Bor (List Token)) Stop) (v : S) (rest : List Token)
     → IfOk result (λ r. view r.0.value ≡ v) → IfOk result (λ r. r.2.now ≡ rest) → IfErr result (λ e. e ≡ stops.Memory)
@@ -124,6 +131,11 @@ pub shorter_found : {X : Type 0} (result : Result (X × ℕ × Bor (List Token))
     → IfOk result (λ r. length r.2.now < length rest) → IfOk result (λ r. length r.2.now < length tokens)
 shorter_found (Ok r) t rest tokens w h = let k : length r.2.now < length rest = h in rw w (omega arith)
 shorter_found (Err e) t rest tokens w h = tt
+
+pub shorter_boxed : {X : Type 0} (result : Result (X × Bor (List Token)) Stop) (t : Token) (rest tokens : List Token) → tokens ≡ t ∷ rest
+    → IfOk result (λ r. r.1.now ≡ rest) → IfOk result (λ r. length r.1.now < length tokens)
+shorter_boxed (Ok r) t rest tokens w h = rw (w, h) (omega arith)
+shorter_boxed (Err e) t rest tokens w h = tt
 
 pub shorter_made : {X : Type 0} (result : Result (X × ℕ × Bor (List Token)) Stop) (t : Token) (rest tokens : List Token) → tokens ≡ t ∷ rest
     → IfOk result (λ r. r.2.now ≡ rest) → IfOk result (λ r. length r.2.now < length tokens)

@@ -1,13 +1,21 @@
-//! Statements made of their parts, each from its first word to the end of its last part.
-ghost use Rattle.std.specs.Prelude.{◌≡◌, option_map};
+//! Statements made of their parts, each from its first word to the end of its last part, and put in a box. The tokens after it
+//! are given on.
+ghost use Rattle.std.specs.Prelude.{◌≡◌, IfOk, IfErr, option_map};
 ghost use Rattle.isp_tree.specs.Tree.{loop_for};
 ghost use Rattle.isp_tree.specs.Views.{expr_of, stmt_of, block_of};
 ghost use Rattle.isp_grammar.specs.reader.Stmts.{head_of, heading_of, if_from, do_from, looped, unmasked_from};
 
 use crate::heads::LoopHead;
 use crate::parts::ForHead;
+use crate::reading::in_box;
+use crate::stop::Stop;
 use isp_base::Span;
+use isp_lex::Token;
 use isp_tree::{Block, Expr, First, Form, Simple, Stmt};
+use std::alloc::Global;
+
+/// A statement in a box, and the tokens after it.
+pub type Found<'a> = (Box<Stmt>, &'a [Token]);
 
 /// What a box holds, if there is one.
 pub fn unboxed_expr(value: Option<Box<Expr>>) -> Option<Expr>
@@ -38,16 +46,20 @@ fn unboxed_step(step: Option<Box<Simple>>) -> Option<Simple>
 }
 
 pub fn make_if(
+    alloc: Global,
     form: Form,
     keyword: Span,
     test: Box<Expr>,
     then: Box<Stmt>,
     other: Option<Box<Stmt>>,
-) -> Stmt
-    ensures { stmt_of result ≡ if_from form keyword (expr_of test.value) (stmt_of then.value) (option_map (λ b. stmt_of b.value) other) }
+    rest: &[Token],
+) -> Result<Found<'_>, Stop>
+    ensures value { IfOk result (λ r. stmt_of r.0.value ≡ if_from form keyword (expr_of test.value) (stmt_of then.value) (option_map (λ b. stmt_of b.value) other)) }
+    ensures rest { IfOk result (λ r. r.1.now ≡ rest.now) }
+    ensures memory { IfErr result (λ e. e ≡ Stop.Memory) }
 {
     let test = Box::into_inner(test);
-    match other {
+    let found = match other {
         None => {
             let span = keyword.to(then.span());
             Stmt::If {
@@ -67,18 +79,30 @@ pub fn make_if(
                 span,
             }
         }
-    }
+    };
+    in_box(alloc, found, rest)
 }
 
-pub fn make_do(form: Form, keyword: Span, body: Box<Stmt>, test: Box<Expr>, end: Span) -> Stmt
-    ensures { stmt_of result ≡ do_from form keyword (stmt_of body.value) (expr_of test.value) end }
+pub fn make_do(
+    alloc: Global,
+    form: Form,
+    keyword: Span,
+    body: Box<Stmt>,
+    test: Box<Expr>,
+    end: Span,
+    rest: &[Token],
+) -> Result<Found<'_>, Stop>
+    ensures value { IfOk result (λ r. stmt_of r.0.value ≡ do_from form keyword (stmt_of body.value) (expr_of test.value) end) }
+    ensures rest { IfOk result (λ r. r.1.now ≡ rest.now) }
+    ensures memory { IfErr result (λ e. e ≡ Stop.Memory) }
 {
-    Stmt::Do {
+    let found = Stmt::Do {
         form,
         body,
         test: Box::into_inner(test),
         span: keyword.to(end),
-    }
+    };
+    in_box(alloc, found, rest)
 }
 
 fn make_for(form: Form, head: ForHead, body: Box<Stmt>, span: Span) -> Stmt
@@ -95,7 +119,21 @@ fn make_for(form: Form, head: ForHead, body: Box<Stmt>, span: Span) -> Stmt
 }
 
 /// A loop of what stands before its body, and the body.
-pub fn make_loop(keyword: Span, head: LoopHead, body: Box<Stmt>) -> Stmt
+pub fn make_loop(
+    alloc: Global,
+    keyword: Span,
+    head: LoopHead,
+    body: Box<Stmt>,
+    rest: &[Token],
+) -> Result<Found<'_>, Stop>
+    ensures value { IfOk result (λ r. stmt_of r.0.value ≡ looped keyword (heading_of head) (stmt_of body.value)) }
+    ensures rest { IfOk result (λ r. r.1.now ≡ rest.now) }
+    ensures memory { IfErr result (λ e. e ≡ Stop.Memory) }
+{
+    in_box(alloc, loop_of(keyword, head, body), rest)
+}
+
+fn loop_of(keyword: Span, head: LoopHead, body: Box<Stmt>) -> Stmt
     ensures { stmt_of result ≡ looped keyword (heading_of head) (stmt_of body.value) }
 {
     let span = keyword.to(body.span());
@@ -126,13 +164,21 @@ pub fn make_loop(keyword: Span, head: LoopHead, body: Box<Stmt>) -> Stmt
     }
 }
 
-pub fn make_unmasked(keyword: Span, body: Block) -> Stmt
-    ensures { stmt_of result ≡ unmasked_from keyword (block_of body) }
+pub fn make_unmasked(
+    alloc: Global,
+    keyword: Span,
+    body: Block,
+    rest: &[Token],
+) -> Result<Found<'_>, Stop>
+    ensures value { IfOk result (λ r. stmt_of r.0.value ≡ unmasked_from keyword (block_of body)) }
+    ensures rest { IfOk result (λ r. r.1.now ≡ rest.now) }
+    ensures memory { IfErr result (λ e. e ≡ Stop.Memory) }
 {
     let span = keyword.to(body.span);
-    Stmt::Unmasked {
+    let found = Stmt::Unmasked {
         keyword,
         body,
         span,
-    }
+    };
+    in_box(alloc, found, rest)
 }

@@ -108,6 +108,14 @@ pub fn with_item<T: Drop>(mut all: Vec<T>, item: T) -> Result<Vec<T>, Stop>
     Ok(all)
 }
 
+/// A list with what a box holds behind.
+pub fn with_boxed<T: Drop>(all: Vec<T>, item: Box<T>) -> Result<Vec<T>, Stop>
+    ensures items { IfOk result (λ r. r.items ≡ all.items ++ item.value ∷ []) }
+    ensures memory { IfErr result (λ e. e ≡ Stop.Memory) }
+{
+    with_item(all, Box::into_inner(item))
+}
+
 /// A value in a box, and the tokens after it: what was read is given on by one call.
 pub fn in_box<T: Drop>(alloc: Global, value: T, rest: &[Token]) -> Result<(Box<T>, &[Token]), Stop>
     ensures value { IfOk result (λ r. r.0.value ≡ value) }

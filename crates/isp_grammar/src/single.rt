@@ -7,7 +7,7 @@ ghost use Rattle.isp_grammar.specs.reader.Stmts.{declare_at, simple_stmt_at, jum
 use crate::declaration::declaration;
 use crate::make::unboxed_expr;
 use crate::parts::{closed_test, closing, maybe_expr, text, values};
-use crate::reading::mark;
+use crate::reading::{in_box, mark};
 use crate::simple::simple;
 use crate::stop::Stop;
 use isp_base::Span;
@@ -17,36 +17,49 @@ use std::alloc::Global;
 
 /// A declaration and its semicolon.
 #[tactic(auto, unfolding(crate::specs::reader::Stmts::declare_at))]
-pub fn declare_stmt(alloc: Global, inner: usize, tokens: &[Token]) -> Result<(Stmt, &[Token]), Stop>
+pub fn declare_stmt(
+    alloc: Global,
+    inner: usize,
+    tokens: &[Token],
+) -> Result<(Box<Stmt>, &[Token]), Stop>
     requires { inner ≤ 128 }
-    ensures value { Gives (λ r. (stmt_of r.0, r.1.now)) result (declare_at inner tokens.now) }
+    ensures value { Gives (λ r. (stmt_of r.0.value, r.1.now)) result (declare_at inner tokens.now) }
     ensures rest { IfOk result (λ r. length r.1.now < length tokens.now) }
 {
     let (declaration, rest) = declaration(alloc, inner, tokens)?;
     let (end, rest) = mark(Mark::Semicolon, rest)?;
     let span = declaration.span.to(end);
     let declaration = Box::into_inner(declaration);
-    Ok((Stmt::Declare { declaration, span }, rest))
+    in_box(alloc, Stmt::Declare { declaration, span }, rest)
 }
 
 /// An expression, an assignment or a step by one, and its semicolon.
 #[tactic(auto, unfolding(crate::specs::reader::Stmts::simple_stmt_at))]
-pub fn simple_stmt(alloc: Global, inner: usize, tokens: &[Token]) -> Result<(Stmt, &[Token]), Stop>
+pub fn simple_stmt(
+    alloc: Global,
+    inner: usize,
+    tokens: &[Token],
+) -> Result<(Box<Stmt>, &[Token]), Stop>
     requires { inner ≤ 128 }
-    ensures value { Gives (λ r. (stmt_of r.0, r.1.now)) result (simple_stmt_at inner tokens.now) }
+    ensures value { Gives (λ r. (stmt_of r.0.value, r.1.now)) result (simple_stmt_at inner tokens.now) }
     ensures rest { IfOk result (λ r. length r.1.now < length tokens.now) }
 {
     let (simple, rest) = simple(alloc, inner, tokens)?;
     let (end, rest) = mark(Mark::Semicolon, rest)?;
     let span = simple.span().to(end);
     let simple = Box::into_inner(simple);
-    Ok((Stmt::Simple { simple, span }, rest))
+    in_box(alloc, Stmt::Simple { simple, span }, rest)
 }
 
 /// What stands behind `break` or `continue` at this place.
 #[tactic(auto, unfolding(crate::specs::reader::Stmts::jump_at))]
-pub fn jump_stmt(jump: Jump, keyword: Span, tokens: &[Token]) -> Result<(Stmt, &[Token]), Stop>
-    ensures value { Gives (λ r. (stmt_of r.0, r.1.now)) result (jump_at jump keyword tokens.now) }
+pub fn jump_stmt(
+    alloc: Global,
+    jump: Jump,
+    keyword: Span,
+    tokens: &[Token],
+) -> Result<(Box<Stmt>, &[Token]), Stop>
+    ensures value { Gives (λ r. (stmt_of r.0.value, r.1.now)) result (jump_at jump keyword tokens.now) }
     ensures rest { IfOk result (λ r. length r.1.now < length tokens.now) }
 {
     let (end, rest) = mark(Mark::Semicolon, tokens)?;
@@ -56,7 +69,7 @@ pub fn jump_stmt(jump: Jump, keyword: Span, tokens: &[Token]) -> Result<(Stmt, &
         keyword,
         span,
     };
-    Ok((found, rest))
+    in_box(alloc, found, rest)
 }
 
 /// What stands behind `return` at this place.
@@ -66,9 +79,9 @@ pub fn return_stmt(
     inner: usize,
     keyword: Span,
     tokens: &[Token],
-) -> Result<(Stmt, &[Token]), Stop>
+) -> Result<(Box<Stmt>, &[Token]), Stop>
     requires { inner ≤ 128 }
-    ensures value { Gives (λ r. (stmt_of r.0, r.1.now)) result (return_at inner keyword tokens.now) }
+    ensures value { Gives (λ r. (stmt_of r.0.value, r.1.now)) result (return_at inner keyword tokens.now) }
     ensures rest { IfOk result (λ r. length r.1.now < length tokens.now) }
 {
     let ((value, end), rest) = maybe_expr(alloc, inner, tokens)?;
@@ -77,7 +90,7 @@ pub fn return_stmt(
         value: unboxed_expr(value),
         span: keyword.to(end),
     };
-    Ok((found, rest))
+    in_box(alloc, found, rest)
 }
 
 /// What stands behind `print` at this place.
@@ -87,9 +100,9 @@ pub fn print_stmt(
     inner: usize,
     keyword: Span,
     tokens: &[Token],
-) -> Result<(Stmt, &[Token]), Stop>
+) -> Result<(Box<Stmt>, &[Token]), Stop>
     requires { inner ≤ 128 }
-    ensures value { Gives (λ r. (stmt_of r.0, r.1.now)) result (print_at inner keyword tokens.now) }
+    ensures value { Gives (λ r. (stmt_of r.0.value, r.1.now)) result (print_at inner keyword tokens.now) }
     ensures rest { IfOk result (λ r. length r.1.now < length tokens.now) }
 {
     let (_open, rest) = mark(Mark::ParenOpen, tokens)?;
@@ -103,7 +116,7 @@ pub fn print_stmt(
         values,
         span: keyword.to(end),
     };
-    Ok((found, rest))
+    in_box(alloc, found, rest)
 }
 
 /// What stands behind `assert` at this place.
@@ -113,9 +126,9 @@ pub fn assert_stmt(
     inner: usize,
     keyword: Span,
     tokens: &[Token],
-) -> Result<(Stmt, &[Token]), Stop>
+) -> Result<(Box<Stmt>, &[Token]), Stop>
     requires { inner ≤ 128 }
-    ensures value { Gives (λ r. (stmt_of r.0, r.1.now)) result (assert_at inner keyword tokens.now) }
+    ensures value { Gives (λ r. (stmt_of r.0.value, r.1.now)) result (assert_at inner keyword tokens.now) }
     ensures rest { IfOk result (λ r. length r.1.now < length tokens.now) }
 {
     let ((test, close), rest) = closed_test(alloc, inner, tokens)?;
@@ -125,5 +138,5 @@ pub fn assert_stmt(
         call_span: keyword.to(close),
         span: keyword.to(end),
     };
-    Ok((found, rest))
+    in_box(alloc, found, rest)
 }

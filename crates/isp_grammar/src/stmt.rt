@@ -8,9 +8,9 @@ ghost use Rattle.isp_grammar.specs.reader.Starts.{start_of, begins_stmt};
 ghost use Rattle.isp_grammar.specs.reader.Stmts.{stmts_at, braced_at, block_at, block_stmt_at, if_at, do_at, loop_at, unmasked_at, stmt_from, stmt_at};
 
 use crate::heads::{Loop, loop_head};
-use crate::make::{make_do, make_if, make_loop, make_unmasked};
+use crate::make::{Found, make_do, make_if, make_loop, make_unmasked};
 use crate::parts::{do_end, refuse_at_limit, test};
-use crate::reading::{in_box, mark, refuse, starts_with, tail, with_item};
+use crate::reading::{closed_by, in_box, mark, refuse, starts_with, tail, with_boxed};
 use crate::single::{assert_stmt, declare_stmt, jump_stmt, print_stmt, return_stmt, simple_stmt};
 use crate::start::{Start, stmt_start};
 use crate::stop::{Stop, Why};
@@ -53,7 +53,7 @@ fn stmts(alloc: Global, left: usize, tokens: &[Token]) -> Result<(Vec<Stmt>, &[T
     let mut rest = tokens;
     'each: while !starts_with(Mark::BraceClose, rest) {
         let (next, after) = stmt(alloc, left, rest)?;
-        all = with_item(all, next)?;
+        all = with_boxed(all, next)?;
         rest = after;
     }
     Ok((all, rest))
@@ -68,8 +68,8 @@ fn braced(alloc: Global, inner: usize, tokens: &[Token]) -> Result<(Block, &[Tok
     ensures rest { IfOk result (λ r. length r.1.now < length tokens.now) }
 {
     let (brace, rest) = mark(Mark::BraceOpen, tokens)?;
-    let (statements, rest) = stmts(alloc, inner, rest)?;
-    let (end, rest) = mark(Mark::BraceClose, rest)?;
+    let (inside, rest) = stmts(alloc, inner, rest)?;
+    let ((statements, end), rest) = closed_by(Mark::BraceClose, inside, rest)?;
     let span = brace.to(end);
     Ok((Block { statements, span }, rest))
 }
@@ -90,24 +90,13 @@ pub fn block(alloc: Global, left: usize, tokens: &[Token]) -> Result<(Block, &[T
 /// A block as a statement.
 #[cycle(stmt)]
 #[tactic(auto, unfolding(crate::specs::reader::Stmts::block_stmt_at))]
-fn block_stmt(alloc: Global, inner: usize, tokens: &[Token]) -> Result<(Stmt, &[Token]), Stop>
+fn block_stmt(alloc: Global, inner: usize, tokens: &[Token]) -> Result<Found<'_>, Stop>
     requires { inner ≤ 128 }
-    ensures value { Gives (λ r. (stmt_of r.0, r.1.now)) result (block_stmt_at (stmt_at inner) tokens.now) }
+    ensures value { Gives (λ r. (stmt_of r.0.value, r.1.now)) result (block_stmt_at (stmt_at inner) tokens.now) }
     ensures rest { IfOk result (λ r. length r.1.now < length tokens.now) }
 {
     let (block, rest) = braced(alloc, inner, tokens)?;
-    Ok((Stmt::Block(block), rest))
-}
-
-/// A statement in another: while more is read, a box holds it.
-#[cycle(stmt)]
-fn boxed(alloc: Global, inner: usize, tokens: &[Token]) -> Result<(Box<Stmt>, &[Token]), Stop>
-    requires { inner ≤ 128 }
-    ensures value { Gives (λ r. (stmt_of r.0.value, r.1.now)) result (stmt_at inner tokens.now) }
-    ensures rest { IfOk result (λ r. length r.1.now < length tokens.now) }
-{
-    let (inside, rest) = stmt(alloc, inner, tokens)?;
-    in_box(alloc, inside, rest)
+    in_box(alloc, Stmt::Block(block), rest)
 }
 
 /// `else` and its statement, where `else` stands: it belongs to the nearest `if`.
@@ -125,7 +114,7 @@ fn else_branch(
     if !starts_with(Mark::Else, tokens) {
         return Ok((None, tokens));
     }
-    let (other, rest) = boxed(alloc, inner, tail(tokens))?;
+    let (other, rest) = stmt(alloc, inner, tail(tokens))?;
     Ok((Some(other), rest))
 }
 
@@ -138,15 +127,15 @@ fn conditional(
     form: Form,
     keyword: Span,
     tokens: &[Token],
-) -> Result<(Stmt, &[Token]), Stop>
+) -> Result<Found<'_>, Stop>
     requires { inner ≤ 128 }
-    ensures value { Gives (λ r. (stmt_of r.0, r.1.now)) result (if_at (stmt_at inner) inner form keyword tokens.now) }
+    ensures value { Gives (λ r. (stmt_of r.0.value, r.1.now)) result (if_at (stmt_at inner) inner form keyword tokens.now) }
     ensures rest { IfOk result (λ r. length r.1.now < length tokens.now) }
 {
     let (test, rest) = test(alloc, inner, tokens)?;
-    let (then, rest) = boxed(alloc, inner, rest)?;
+    let (then, rest) = stmt(alloc, inner, rest)?;
     let (other, rest) = else_branch(alloc, inner, rest)?;
-    Ok((make_if(form, keyword, test, then, other), rest))
+    make_if(alloc, form, keyword, test, then, other, rest)
 }
 
 /// What stands behind the first word of such a loop at this place.
@@ -158,14 +147,14 @@ fn loop_stmt(
     which: Loop,
     keyword: Span,
     tokens: &[Token],
-) -> Result<(Stmt, &[Token]), Stop>
+) -> Result<Found<'_>, Stop>
     requires { inner ≤ 128 }
-    ensures value { Gives (λ r. (stmt_of r.0, r.1.now)) result (loop_at (stmt_at inner) inner which keyword tokens.now) }
+    ensures value { Gives (λ r. (stmt_of r.0.value, r.1.now)) result (loop_at (stmt_at inner) inner which keyword tokens.now) }
     ensures rest { IfOk result (λ r. length r.1.now < length tokens.now) }
 {
     let (head, rest) = loop_head(alloc, inner, which, tokens)?;
-    let (body, rest) = boxed(alloc, inner, rest)?;
-    Ok((make_loop(keyword, head, body), rest))
+    let (body, rest) = stmt(alloc, inner, rest)?;
+    make_loop(alloc, keyword, head, body, rest)
 }
 
 /// What stands behind `do` at this place.
@@ -177,14 +166,14 @@ fn do_loop(
     form: Form,
     keyword: Span,
     tokens: &[Token],
-) -> Result<(Stmt, &[Token]), Stop>
+) -> Result<Found<'_>, Stop>
     requires { inner ≤ 128 }
-    ensures value { Gives (λ r. (stmt_of r.0, r.1.now)) result (do_at (stmt_at inner) inner form keyword tokens.now) }
+    ensures value { Gives (λ r. (stmt_of r.0.value, r.1.now)) result (do_at (stmt_at inner) inner form keyword tokens.now) }
     ensures rest { IfOk result (λ r. length r.1.now < length tokens.now) }
 {
-    let (body, rest) = boxed(alloc, inner, tokens)?;
+    let (body, rest) = stmt(alloc, inner, tokens)?;
     let ((test, end), rest) = do_end(alloc, inner, rest)?;
-    Ok((make_do(form, keyword, body, test, end), rest))
+    make_do(alloc, form, keyword, body, test, end, rest)
 }
 
 /// What stands behind `unmasked` at this place.
@@ -195,13 +184,13 @@ fn unmasked(
     inner: usize,
     keyword: Span,
     tokens: &[Token],
-) -> Result<(Stmt, &[Token]), Stop>
+) -> Result<Found<'_>, Stop>
     requires { inner ≤ 128 }
-    ensures value { Gives (λ r. (stmt_of r.0, r.1.now)) result (unmasked_at (block_at inner) keyword tokens.now) }
+    ensures value { Gives (λ r. (stmt_of r.0.value, r.1.now)) result (unmasked_at (block_at inner) keyword tokens.now) }
     ensures rest { IfOk result (λ r. length r.1.now < length tokens.now) }
 {
     let (body, rest) = block(alloc, inner, tokens)?;
-    Ok((make_unmasked(keyword, body), rest))
+    make_unmasked(alloc, keyword, body, rest)
 }
 
 /// A statement by its first token, its parts no deeper than `inner`.
@@ -213,17 +202,17 @@ fn stmt_from<'a>(
     first: &Token,
     tokens: &'a [Token],
     rest: &'a [Token],
-) -> Result<(Stmt, &'a [Token]), Stop>
+) -> Result<Found<'a>, Stop>
     requires whole { tokens.now ≡ first.now ∷ rest.now }
     requires room { inner < 128 }
-    ensures value { Gives (λ r. (stmt_of r.0, r.1.now)) result
+    ensures value { Gives (λ r. (stmt_of r.0.value, r.1.now)) result
         (stmt_from (stmt_at inner) (block_at inner) inner (start_of first.now.kind) first.now rest.now) }
     ensures rest { IfOk result (λ r. length r.1.now < length tokens.now) }
 {
     let keyword = first.span;
     match stmt_start(&first.kind) {
         Start::Block => block_stmt(alloc, inner, tokens),
-        Start::Empty => Ok((Stmt::Empty { span: keyword }, rest)),
+        Start::Empty => in_box(alloc, Stmt::Empty { span: keyword }, rest),
         Start::Declare => declare_stmt(alloc, inner, tokens),
         Start::Simple => simple_stmt(alloc, inner, tokens),
         Start::If(form) => conditional(alloc, inner, form, keyword, rest),
@@ -233,7 +222,7 @@ fn stmt_from<'a>(
         Start::Foreach(tiling) => loop_stmt(alloc, inner, Loop::Foreach(tiling), keyword, rest),
         Start::ForeachActive => loop_stmt(alloc, inner, Loop::ForeachActive, keyword, rest),
         Start::Unmasked => unmasked(alloc, inner, keyword, rest),
-        Start::Jump(jump) => jump_stmt(jump, keyword, rest),
+        Start::Jump(jump) => jump_stmt(alloc, jump, keyword, rest),
         Start::Return => return_stmt(alloc, inner, keyword, rest),
         Start::Print => print_stmt(alloc, inner, keyword, rest),
         Start::Assert => assert_stmt(alloc, inner, keyword, rest),
@@ -243,9 +232,9 @@ fn stmt_from<'a>(
 
 /// A statement no deeper than `left`.
 #[cycle(stmt)]
-fn stmt(alloc: Global, left: usize, tokens: &[Token]) -> Result<(Stmt, &[Token]), Stop>
+fn stmt(alloc: Global, left: usize, tokens: &[Token]) -> Result<Found<'_>, Stop>
     requires { left ≤ 128 }
-    ensures value { Gives (λ r. (stmt_of r.0, r.1.now)) result (stmt_at left tokens.now) }
+    ensures value { Gives (λ r. (stmt_of r.0.value, r.1.now)) result (stmt_at left tokens.now) }
     ensures rest { IfOk result (λ r. length r.1.now < length tokens.now) }
 {
     if left == 0 {

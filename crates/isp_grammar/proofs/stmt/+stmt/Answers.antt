@@ -7,7 +7,7 @@ use Rattle.isp_grammar.specs.reader.Readers.{optional}
 use Rattle.isp_grammar.specs.reader.Starts.{start_of}
 use Rattle.isp_grammar.specs.reader.Stmts.{stmts_at, braced_at, block_stmt_at, if_at, do_at, unmasked_at, loop_at, stmt_from, stmt_at, block_at}
 use Rattle.isp_grammar.proofs.Loops.{until_fails, until_end, until_step, until_begins}
-use Rattle.isp_grammar.proofs.SimpleSteps.{fails_then, boxed_gives, shorter}
+use Rattle.isp_grammar.proofs.SimpleSteps.{fails_then, boxed_gives, boxed_made, shorter, shorter_boxed}
 use Rattle.isp_grammar.proofs.StmtSteps.{loop_headed, stmt_at_limit, stmt_none, stmt_step, block_at_limit, block_step}
 use Rattle.isp_grammar.proofs.stmt.+stmt.Goals as goal
 
@@ -54,8 +54,8 @@ stmts-returns-in_err-next t c =
 pub stmts-each-preserved : goal.stmts-each-preserved
 stmts-each-preserved t c =
     let v = c.each.invariant.value in
-    let e : stmts_of c.in_ok-all.all.items ≡ stmts_of c.each.all.items ++ stmt_of c.in_ok-next.next ∷ [] = rw c.in_ok-all.ensures.items (map_push _ c.each.all.items c.in_ok-next.next) in
-    let s = until_step mark.BraceClose (stmt_at c.args.left) v.0 (stmts_of c.each.all.items) c.each.rest.now (stmt_of c.in_ok-next.next) c.in_ok-next.after.now (stmts_at (stmt_at c.args.left) c.args.tokens.now) v.1 c.in_ok-next.ensures.rest (sym c.starts_with.ensures ∙ c.each-test.true) c.in_ok-next.ensures.value v.2 in
+    let e : stmts_of c.in_ok-all.all.items ≡ stmts_of c.each.all.items ++ stmt_of c.in_ok-next.next.value ∷ [] = rw c.in_ok-all.ensures.items (map_push _ c.each.all.items c.in_ok-next.next.value) in
+    let s = until_step mark.BraceClose (stmt_at c.args.left) v.0 (stmts_of c.each.all.items) c.each.rest.now (stmt_of c.in_ok-next.next.value) c.in_ok-next.after.now (stmts_at (stmt_at c.args.left) c.args.tokens.now) v.1 c.in_ok-next.ensures.rest (sym c.starts_with.ensures ∙ c.each-test.true) c.in_ok-next.ensures.value v.2 in
     record {
       rest = omega (arith, c.each.invariant.rest, c.in_ok-next.ensures.rest);
       value = rw e s;
@@ -77,21 +77,21 @@ braced-returns-in_err-brace t c =
       rest = rw p.1 tt;
     }
 
+pub braced-returns-in_err-inside : goal.braced-returns-in_err-inside
+unfolding braced_at
+braced-returns-in_err-inside t c =
+    let p = err_from_is_err_and c.from_residual-in_err-inside.result c.from_residual-in_err-inside.ensures.1 in
+    record {
+      value = rw (p.1, p.2, c.in_ok-brace.ensures.value) (fails_then c.in_err-inside.field-0.0 _ _ (fails_then c.in_err-inside.field-0.0 _ _ (fails_then c.in_err-inside.field-0.0 _ _ c.in_err-inside.ensures.value)));
+      rest = rw p.1 tt;
+    }
+
 pub braced-returns-in_err-statements : goal.braced-returns-in_err-statements
 unfolding braced_at
 braced-returns-in_err-statements t c =
     let p = err_from_is_err_and c.from_residual-in_err-statements.result c.from_residual-in_err-statements.ensures.1 in
     record {
-      value = rw (p.1, p.2, c.in_ok-brace.ensures.value) (fails_then c.in_err-statements.field-0.0 _ _ (fails_then c.in_err-statements.field-0.0 _ _ (fails_then c.in_err-statements.field-0.0 _ _ c.in_err-statements.ensures.value)));
-      rest = rw p.1 tt;
-    }
-
-pub braced-returns-in_err-end : goal.braced-returns-in_err-end
-unfolding braced_at
-braced-returns-in_err-end t c =
-    let p = err_from_is_err_and c.from_residual-in_err-end.result c.from_residual-in_err-end.ensures.1 in
-    record {
-      value = rw (p.1, p.2, c.in_ok-brace.ensures.value, c.in_ok-statements.ensures.value) (fails_then c.in_err-end.field-0.0 _ _ (fails_then c.in_err-end.field-0.0 _ _ (fails_then c.in_err-end.field-0.0 _ _ c.in_err-end.ensures.value)));
+      value = rw (p.1, p.2, c.in_ok-brace.ensures.value, c.in_ok-inside.ensures.value) (fails_then c.in_err-statements.field-0.0 _ _ (fails_then c.in_err-statements.field-0.0 _ _ (fails_then c.in_err-statements.field-0.0 _ _ c.in_err-statements.ensures.sign)));
       rest = rw p.1 tt;
     }
 
@@ -103,18 +103,6 @@ block_stmt-returns-in_err-block t c =
       value = rw (p.1, p.2) (fails_then c.in_err-block.field-0.0 _ _ c.in_err-block.ensures.value);
       rest = rw p.1 tt;
     }
-
-pub boxed-returns-in_err-inside : goal.boxed-returns-in_err-inside
-boxed-returns-in_err-inside t c =
-    let p = err_from_is_err_and c.from_residual.result c.from_residual.ensures.1 in
-    record {
-      value = rw (p.1, p.2) c.in_err-inside.ensures.value;
-      rest = rw p.1 tt;
-    }
-
-pub boxed-returns-clause-value : goal.boxed-returns-clause-value
-boxed-returns-clause-value t c =
-    rw c.in_ok-inside.ensures.value (boxed_gives stmt_of c.in_box.result c.in_ok-inside.inside c.in_ok-inside.rest.now c.in_box.ensures.value c.in_box.ensures.rest c.in_box.ensures.memory)
 
 pub else_branch-returns-then-not-starts_with-clause-value : goal.else_branch-returns-then-not-starts_with-clause-value
 unfolding optional
@@ -162,7 +150,7 @@ conditional-returns-in_err-other t c =
 
 pub conditional-returns-clause-value : goal.conditional-returns-clause-value
 unfolding if_at
-conditional-returns-clause-value t c = rw (c.in_ok-test.ensures.value, c.in_ok-then.ensures.value, c.in_ok-other.ensures.value, c.make_if.ensures) refl
+conditional-returns-clause-value t c = rw (c.in_ok-test.ensures.value, c.in_ok-then.ensures.value, c.in_ok-other.ensures.value) (boxed_made stmt_of c.make_if.result _ _ c.make_if.ensures.value c.make_if.ensures.rest c.make_if.ensures.memory)
 
 pub loop_stmt-returns-in_err-head : goal.loop_stmt-returns-in_err-head
 loop_stmt-returns-in_err-head t c =
@@ -181,7 +169,7 @@ loop_stmt-returns-in_err-body t c =
     }
 
 pub loop_stmt-returns-clause-value : goal.loop_stmt-returns-clause-value
-loop_stmt-returns-clause-value t c = rw (loop_headed (stmt_at c.args.inner) c.args.inner c.args.which c.args.keyword c.args.tokens.now, c.in_ok-head.ensures.value, c.in_ok-body.ensures.value, c.make_loop.ensures) refl
+loop_stmt-returns-clause-value t c = rw (loop_headed (stmt_at c.args.inner) c.args.inner c.args.which c.args.keyword c.args.tokens.now, c.in_ok-head.ensures.value, c.in_ok-body.ensures.value) (boxed_made stmt_of c.make_loop.result _ _ c.make_loop.ensures.value c.make_loop.ensures.rest c.make_loop.ensures.memory)
 
 pub do_loop-returns-in_err-body : goal.do_loop-returns-in_err-body
 unfolding do_at
@@ -203,7 +191,7 @@ do_loop-returns-in_err-test t c =
 
 pub do_loop-returns-clause-value : goal.do_loop-returns-clause-value
 unfolding do_at
-do_loop-returns-clause-value t c = rw (c.in_ok-body.ensures.value, c.in_ok-test.ensures.value, c.make_do.ensures) refl
+do_loop-returns-clause-value t c = rw (c.in_ok-body.ensures.value, c.in_ok-test.ensures.value) (boxed_made stmt_of c.make_do.result _ _ c.make_do.ensures.value c.make_do.ensures.rest c.make_do.ensures.memory)
 
 pub unmasked-returns-in_err-body : goal.unmasked-returns-in_err-body
 unfolding unmasked_at
@@ -216,7 +204,7 @@ unmasked-returns-in_err-body t c =
 
 pub unmasked-returns-clause-value : goal.unmasked-returns-clause-value
 unfolding unmasked_at
-unmasked-returns-clause-value t c = rw (c.in_ok-body.ensures.value, c.make_unmasked.ensures) refl
+unmasked-returns-clause-value t c = rw (c.in_ok-body.ensures.value) (boxed_made stmt_of c.make_unmasked.result _ _ c.make_unmasked.ensures.value c.make_unmasked.ensures.rest c.make_unmasked.ensures.memory)
 
 -- ---- by the first token
 

@@ -27,9 +27,6 @@ decreases-block_stmt l = 8 * l.inner + 3
 abbrev pub decreases-else_branch : goal.decreases-else_branch
 decreases-else_branch l = 8 * l.inner + 2
 
-abbrev pub decreases-boxed : goal.decreases-boxed
-decreases-boxed l = 8 * l.inner + 1
-
 abbrev pub decreases-conditional : goal.decreases-conditional
 decreases-conditional l = 8 * l.inner + 3
 
