@@ -7,7 +7,7 @@ ghost use Rattle.isp_grammar.specs.reader.Choices.{begins_with};
 ghost use Rattle.isp_grammar.specs.reader.Stmts.{is_item_sign, item_tail_of, size_at, item_tail_at, item_from, item_at, items_at, declaration_at};
 
 use crate::expr::expr;
-use crate::reading::{in_box, mark, refuse, starts_with, tail, word};
+use crate::reading::{in_box, mark, refuse, starts_with, tail, with_boxed, word};
 use crate::stop::{Stop, Why};
 use crate::types::{first_span, type_words};
 use isp_base::Span;
@@ -94,17 +94,17 @@ fn with_tail(word: Word, tail: ItemTail) -> Item
 
 /// One declared variable.
 #[tactic(auto, unfolding(crate::specs::reader::Stmts::item_at, crate::specs::reader::Choices::perhaps_at))]
-fn item(alloc: Global, left: usize, tokens: &[Token]) -> Result<(Item, &[Token]), Stop>
+fn item(alloc: Global, left: usize, tokens: &[Token]) -> Result<(Box<Item>, &[Token]), Stop>
     requires { left ≤ 128 }
-    ensures value { Gives (λ r. (item_of r.0, r.1.now)) result (item_at left tokens.now) }
+    ensures value { Gives (λ r. (item_of r.0.value, r.1.now)) result (item_at left tokens.now) }
     ensures rest { IfOk result (λ r. length r.1.now < length tokens.now) }
 {
     let (word, rest) = word(tokens)?;
     if !goes_on(rest) {
-        return Ok((Item::Plain(word), rest));
+        return in_box(alloc, Item::Plain(word), rest);
     }
     let (tail, rest) = item_tail(alloc, left, rest)?;
-    Ok((with_tail(word, tail), rest))
+    in_box(alloc, with_tail(word, tail), rest)
 }
 
 /// One declared variable or more, with commas, and where the last one ends.
@@ -119,7 +119,7 @@ fn items(alloc: Global, left: usize, tokens: &[Token]) -> Result<(Vec<Item>, Spa
     'each: loop {
         let (next, after) = item(alloc, left, rest)?;
         let end = next.span();
-        all.push(next)?;
+        all = with_boxed(all, next)?;
         if !starts_with(Mark::Comma, after) {
             return Ok((all, end, after));
         }

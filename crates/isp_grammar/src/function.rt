@@ -6,7 +6,7 @@ ghost use Rattle.isp_grammar.specs.reader.Readers.{Gives, optional, mark_at, bot
 ghost use Rattle.isp_grammar.specs.reader.Choices.{signs_at};
 ghost use Rattle.isp_grammar.specs.reader.Programs.{linkage_of, linkage_at, linkages_at, param_at, only_void, params_at, signature_of, signature_at, function_from, function_at, program_at};
 
-use crate::reading::{closed_by, in_box, mark, starts_with, tail, word};
+use crate::reading::{closed_by, in_box, mark, starts_with, tail, with_boxed, word};
 use crate::stmt::block;
 use crate::stop::Stop;
 use crate::types::{first_span, type_words};
@@ -66,8 +66,8 @@ fn array_sign(tokens: &[Token]) -> Result<(Option<Span>, &[Token]), Stop>
 
 /// One parameter.
 #[tactic(auto, unfolding(crate::specs::reader::Programs::param_at))]
-fn param(alloc: Global, tokens: &[Token]) -> Result<(Param, &[Token]), Stop>
-    ensures value { Gives (λ r. (param_of r.0, r.1.now)) result (param_at tokens.now) }
+fn param(alloc: Global, tokens: &[Token]) -> Result<(Box<Param>, &[Token]), Stop>
+    ensures value { Gives (λ r. (param_of r.0.value, r.1.now)) result (param_at tokens.now) }
     ensures rest { IfOk result (λ r. length r.1.now < length tokens.now) }
 {
     let (ty, rest) = type_words(alloc, tokens)?;
@@ -78,15 +78,13 @@ fn param(alloc: Global, tokens: &[Token]) -> Result<(Param, &[Token]), Stop>
         Some(close) => (true, close),
     };
     let span = ty.span.to(end);
-    Ok((
-        Param {
-            ty,
-            word,
-            is_array,
-            span,
-        },
-        rest,
-    ))
+    let param = Param {
+        ty,
+        word,
+        is_array,
+        span,
+    };
+    in_box(alloc, param, rest)
 }
 
 /// One parameter or more, with commas.
@@ -98,7 +96,7 @@ fn param_list(alloc: Global, tokens: &[Token]) -> Result<(Vec<Param>, &[Token]),
     let mut rest = tokens;
     'each: loop {
         let (next, after) = param(alloc, rest)?;
-        all.push(next)?;
+        all = with_boxed(all, next)?;
         if !starts_with(Mark::Comma, after) {
             return Ok((all, after));
         }
@@ -186,15 +184,19 @@ fn with_body(start: Span, heading: Box<Heading>, body: Block) -> Function
 
 /// A function with a body no deeper than `left`.
 #[tactic(auto, unfolding(crate::specs::reader::Programs::function_at))]
-pub fn function(alloc: Global, left: usize, tokens: &[Token]) -> Result<(Function, &[Token]), Stop>
+pub fn function(
+    alloc: Global,
+    left: usize,
+    tokens: &[Token],
+) -> Result<(Box<Function>, &[Token]), Stop>
     requires { left ≤ 128 }
-    ensures value { Gives (λ r. (function_of r.0, r.1.now)) result (function_at left tokens.now) }
+    ensures value { Gives (λ r. (function_of r.0.value, r.1.now)) result (function_at left tokens.now) }
     ensures rest { IfOk result (λ r. length r.1.now < length tokens.now) }
 {
     let start = first_span(tokens);
     let (heading, rest) = signature(alloc, tokens)?;
     let (body, rest) = block(alloc, left, rest)?;
-    Ok((with_body(start, heading, body), rest))
+    in_box(alloc, with_body(start, heading, body), rest)
 }
 
 /// The functions up to the end of the text.
@@ -205,7 +207,7 @@ pub fn program(alloc: Global, tokens: &[Token]) -> Result<Vec<Function>, Stop>
     let mut rest = tokens;
     'each: while !rest.is_empty() {
         let (next, after) = function(alloc, DEPTH_LIMIT, rest)?;
-        all.push(next)?;
+        all = with_boxed(all, next)?;
         rest = after;
     }
     Ok(all)

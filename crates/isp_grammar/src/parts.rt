@@ -10,7 +10,7 @@ ghost use Rattle.isp_grammar.specs.reader.Stmts.{closed_test_at, test_at, first_
 
 use crate::declaration::declaration;
 use crate::expr::expr;
-use crate::reading::{closed_by, in_box, mark, refuse, starts_with, tail, word};
+use crate::reading::{closed_by, in_box, mark, refuse, starts_with, tail, with_boxed, word};
 use crate::simple::simple;
 use crate::start::{Start, stmt_start};
 use crate::stop::{Stop, Why};
@@ -189,9 +189,9 @@ pub struct ForHead {
 
 /// One dimension of a `foreach`.
 #[tactic(auto, unfolding(crate::specs::reader::Stmts::range_at))]
-fn range(alloc: Global, left: usize, tokens: &[Token]) -> Result<(Range, &[Token]), Stop>
+fn range(alloc: Global, left: usize, tokens: &[Token]) -> Result<(Box<Range>, &[Token]), Stop>
     requires { left ≤ 128 }
-    ensures value { Gives (λ r. (range_of r.0, r.1.now)) result (range_at left tokens.now) }
+    ensures value { Gives (λ r. (range_of r.0.value, r.1.now)) result (range_at left tokens.now) }
     ensures rest { IfOk result (λ r. length r.1.now < length tokens.now) }
 {
     let (word, rest) = word(tokens)?;
@@ -206,14 +206,14 @@ fn range(alloc: Global, left: usize, tokens: &[Token]) -> Result<(Range, &[Token
         end: Box::into_inner(end),
         span,
     };
-    Ok((range, rest))
+    in_box(alloc, range, rest)
 }
 
 /// The ranges before, and the third range if there is one.
 fn last_range(
     alloc: Global,
     left: usize,
-    mut all: Vec<Range>,
+    all: Vec<Range>,
     tokens: &[Token],
 ) -> Result<(Vec<Range>, &[Token]), Stop>
     requires { left ≤ 128 }
@@ -224,7 +224,7 @@ fn last_range(
         return Ok((all, tokens));
     }
     let (range, rest) = range(alloc, left, tail(tokens))?;
-    all.push(range)?;
+    let all = with_boxed(all, range)?;
     Ok((all, rest))
 }
 
@@ -232,7 +232,7 @@ fn last_range(
 fn more_ranges(
     alloc: Global,
     left: usize,
-    mut all: Vec<Range>,
+    all: Vec<Range>,
     tokens: &[Token],
 ) -> Result<(Vec<Range>, &[Token]), Stop>
     requires { left ≤ 128 }
@@ -243,7 +243,7 @@ fn more_ranges(
         return Ok((all, tokens));
     }
     let (range, rest) = range(alloc, left, tail(tokens))?;
-    all.push(range)?;
+    let all = with_boxed(all, range)?;
     last_range(alloc, left, all, rest)
 }
 
@@ -255,8 +255,7 @@ pub fn ranges(alloc: Global, left: usize, tokens: &[Token]) -> Result<(Vec<Range
     ensures rest { IfOk result (λ r. length r.1.now < length tokens.now) }
 {
     let (first, rest) = range(alloc, left, tokens)?;
-    let mut all = Vec::new(alloc);
-    all.push(first)?;
+    let all = with_boxed(Vec::new(alloc), first)?;
     more_ranges(alloc, left, all, rest)
 }
 
@@ -277,14 +276,14 @@ pub fn text(tokens: &[Token]) -> Result<((Text, Span), &[Token]), Stop>
 
 /// A comma and a value.
 #[tactic(auto, unfolding(crate::specs::reader::Stmts::next_value_at))]
-fn next_value(alloc: Global, left: usize, tokens: &[Token]) -> Result<(Expr, &[Token]), Stop>
+fn next_value(alloc: Global, left: usize, tokens: &[Token]) -> Result<(Box<Expr>, &[Token]), Stop>
     requires { left ≤ 128 }
-    ensures value { Gives (λ r. (expr_of r.0, r.1.now)) result (next_value_at left tokens.now) }
+    ensures value { Gives (λ r. (expr_of r.0.value, r.1.now)) result (next_value_at left tokens.now) }
     ensures rest { IfOk result (λ r. length r.1.now < length tokens.now) }
 {
     let (_comma, rest) = mark(Mark::Comma, tokens)?;
     let (value, _height, rest) = expr(alloc, left, rest)?;
-    Ok((Box::into_inner(value), rest))
+    Ok((value, rest))
 }
 
 /// The values behind a text, each behind a comma, up to a closing bracket.
@@ -297,7 +296,7 @@ pub fn values(alloc: Global, left: usize, tokens: &[Token]) -> Result<(Vec<Expr>
     let mut rest = tokens;
     'each: while !starts_with(Mark::ParenClose, rest) {
         let (next, after) = next_value(alloc, left, rest)?;
-        all.push(next)?;
+        all = with_boxed(all, next)?;
         rest = after;
     }
     Ok((all, rest))

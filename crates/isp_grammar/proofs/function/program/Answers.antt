@@ -24,8 +24,8 @@ pub each-preserved : goal.each-preserved
 each-preserved c =
     let v = c.each.invariant.value in
     let left = some_left (length c.each.rest.now) (sym c.is_empty.ensures ∙ c.each-test.true) in
-    let e : functions_of c.push.new.self.items ≡ functions_of c.each.all.items ++ function_of c.in_ok-next.next ∷ [] = rw c.in_ok-push.ensures.items (map_push _ c.each.all.items c.in_ok-next.next) in
-    let s = program_step limit v.0 (functions_of c.each.all.items) c.each.rest.now (function_of c.in_ok-next.next) c.in_ok-next.after.now (program_at limit c.args.tokens.now) v.1 left c.in_ok-next.ensures.rest c.in_ok-next.ensures.value v.2 in
+    let e : functions_of c.in_ok-all.all.items ≡ functions_of c.each.all.items ++ function_of c.in_ok-next.next.value ∷ [] = rw c.in_ok-all.ensures.items (map_push _ c.each.all.items c.in_ok-next.next.value) in
+    let s = program_step limit v.0 (functions_of c.each.all.items) c.each.rest.now (function_of c.in_ok-next.next.value) c.in_ok-next.after.now (program_at limit c.args.tokens.now) v.1 left c.in_ok-next.ensures.rest c.in_ok-next.ensures.value v.2 in
     record {
       rest = omega (arith, c.each.invariant.rest, c.in_ok-next.ensures.rest);
       value = rw e s;

@@ -17,14 +17,9 @@ returns-in_err-range-clause-value c =
     let w = subst (λ (l : List Token). Fails c.in_err-range.field-0.0 (range_at c.args.left l)) c.tail.ensures c.in_err-range.ensures.value in
     rw (p.1, p.2) (more_fails c.in_err-range.field-0.0 c.args.left (map range_of c.args.all.items) c.args.tokens.now (sym c.starts_with.ensures ∙ c.if-not-starts_with.false) w)
 
-pub returns-in_err-push-clause-value : goal.returns-in_err-push-clause-value
-returns-in_err-push-clause-value c =
-    let p = err_from_is_err_and c.from_residual-in_err-push.result c.from_residual-in_err-push.ensures.1 in
-    rw (p.1, p.2) tt
-
 pub returns-clause-value : goal.returns-clause-value
 returns-clause-value c =
     let front = map range_of c.args.all.items in
-    let one = subst (λ (l : List Token). range_at c.args.left l ≡ Ok (range_of c.in_ok-range.range, c.in_ok-range.rest.now)) c.tail.ensures c.in_ok-range.ensures.value in
-    let all : map range_of c.push.new.self.items ≡ front ++ range_of c.in_ok-range.range ∷ [] = rw c.in_ok-push.ensures.items (map_push _ c.args.all.items c.in_ok-range.range) in
-    rw (more_step c.args.left front c.args.tokens.now c.in_ok-range.rest.now (range_of c.in_ok-range.range) (sym c.starts_with.ensures ∙ c.if-not-starts_with.false) one, sym all) c.last_range.ensures.value
+    let one = subst (λ (l : List Token). range_at c.args.left l ≡ Ok (range_of c.in_ok-range.range.value, c.in_ok-range.rest.now)) c.tail.ensures c.in_ok-range.ensures.value in
+    let all : map range_of c.in_ok-all.all.items ≡ front ++ range_of c.in_ok-range.range.value ∷ [] = rw c.in_ok-all.ensures.items (map_push _ c.args.all.items c.in_ok-range.range.value) in
+    rw (more_step c.args.left front c.args.tokens.now c.in_ok-range.rest.now (range_of c.in_ok-range.range.value) (sym c.starts_with.ensures ∙ c.if-not-starts_with.false) one, sym all) c.last_range.ensures.value

@@ -23,8 +23,8 @@ returns-in_err-next-clause-value c =
 pub each-preserved : goal.each-preserved
 each-preserved c =
     let v = c.each.invariant.value in
-    let e : exprs_of c.push.new.self.items ≡ exprs_of c.each.all.items ++ expr_of c.in_ok-next.next ∷ [] = rw c.in_ok-push.ensures.items (map_push _ c.each.all.items c.in_ok-next.next) in
-    let s = until_step mark.ParenClose (next_value_at c.args.left) v.0 (exprs_of c.each.all.items) c.each.rest.now (expr_of c.in_ok-next.next) c.in_ok-next.after.now (values_at c.args.left c.args.tokens.now) v.1 c.in_ok-next.ensures.rest (sym c.starts_with.ensures ∙ c.each-test.true) c.in_ok-next.ensures.value v.2 in
+    let e : exprs_of c.in_ok-all.all.items ≡ exprs_of c.each.all.items ++ expr_of c.in_ok-next.next.value ∷ [] = rw c.in_ok-all.ensures.items (map_push _ c.each.all.items c.in_ok-next.next.value) in
+    let s = until_step mark.ParenClose (next_value_at c.args.left) v.0 (exprs_of c.each.all.items) c.each.rest.now (expr_of c.in_ok-next.next.value) c.in_ok-next.after.now (values_at c.args.left c.args.tokens.now) v.1 c.in_ok-next.ensures.rest (sym c.starts_with.ensures ∙ c.each-test.true) c.in_ok-next.ensures.value v.2 in
     record {
       rest = omega (arith, c.each.invariant.rest, c.in_ok-next.ensures.rest);
       value = rw e s;
