@@ -9,10 +9,10 @@ use Rattle.isp_lex.specs.declared.token.TokenKind.{TokenKind}
 use Rattle.isp_lex.specs.declared.token.Token.{Token}
 use Rattle.isp_grammar.proofs.Basics.{choice_fails}
 use Rattle.isp_grammar.proofs.Choices.{limit_off, limit_deep}
-use Rattle.isp_grammar.proofs.ListForms.{mapped_twice}
+use Rattle.isp_grammar.proofs.ListForms.{mapped_twice, limit_is}
 use Rattle.isp_grammar.proofs.SimpleSteps.{mark_read}
 use Rattle.isp_tree.specs.Depth.{depth, depth_of_argument, depth_of_all}
-use Rattle.isp_grammar.specs.reader.Readers.{Read, Reader, ◌>>=◌, Fails, refusal, refuse, mark_at, both, at_limit, is_word}
+use Rattle.isp_grammar.specs.reader.Readers.{Read, Reader, ◌>>=◌, Fails, refusal, refuse, mark_at, both, at_limit, refusal_at_limit, is_word}
 use Rattle.isp_grammar.specs.reader.Choices.{begins_with, either_at}
 use Rattle.isp_grammar.specs.reader.Types.{begins_type, type_at}
 use Rattle.isp_grammar.specs.reader.Exprs.{start_of, is_start, begins_expr, operator_at, place_at, bracket_of, cast_at, closed_at, bracket_at, operand_from, operand_at, joined, more_at, binary_at, choice_of, parts_at, choice_at, level_from, level_at, expr_at, target_at, argument_by, argument_at}
@@ -214,13 +214,13 @@ bracket_closed inner o ts e = rw e (mapped_twice inr (bracket_of o) (both (inner
 
 -- ---- where nothing begins, or the limit is reached
 
+pub target_at_limit : (ts : List Token) → target_at zero ts ≡ Err (refusal_at_limit (begins_with is_word ts) ts)
+unfolding target_at
+target_at_limit ts = limit_is is_word ts
+
 pub target_none : (u : List Token) → begins_with is_word u ≡ false → target_at zero u ≡ refuse Unexpected u
 unfolding target_at
 target_none u e = limit_off is_word u e
-
-pub target_deep : (u : List Token) → begins_with is_word u ≡ true → target_at zero u ≡ refuse TooDeep u
-unfolding target_at
-target_deep u e = limit_deep is_word u e
 
 from_off : (inner : ℕ → Reader Expr) (target : Reader Place) (c : Start) (t : Token) (u : List Token) → is_start c ≡ false → operand_from inner target c t u ≡ refuse Unexpected (t ∷ u)
 from_off inner target (by.Number v) t u e = absurd cc

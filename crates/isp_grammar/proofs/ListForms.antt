@@ -15,8 +15,7 @@ use Rattle.isp_grammar.proofs.Refused.{IsRefused, list_refused}
 use Rattle.isp_tree.specs.Depth.{deepest_of}
 use Rattle.isp_grammar.specs.Grammar.{span_of_last}
 use Rattle.isp_tree.specs.Tree.{Item, span_of_item}
-use Rattle.isp_grammar.specs.reader.Stmts.{refusal_at_limit}
-use Rattle.isp_grammar.specs.reader.Readers.{Read, Reader, ◌>>=◌, both, at_limit, refusal}
+use Rattle.isp_grammar.specs.reader.Readers.{Read, Reader, ◌>>=◌, both, at_limit, refusal, refusal_at_limit}
 use Rattle.isp_grammar.specs.reader.Choices.{begins_with, maybe_from, maybe_at, either_from, either_at, counted_at}
 use Rattle.isp_grammar.specs.declared.stop.Refusal.{Refusal}
 use Rattle.isp_grammar.specs.declared.stop.Why.TheVariants.{Unexpected, TooDeep}

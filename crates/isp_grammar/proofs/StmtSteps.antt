@@ -6,10 +6,10 @@ use Rattle.isp_lex.specs.declared.token.Mark.TheVariants as mark
 use Rattle.isp_lex.specs.declared.token.Token.{Token}
 use Rattle.isp_grammar.proofs.ListForms.{limit_is}
 use Rattle.isp_grammar.proofs.StmtsRefused.{stmt_off}
-use Rattle.isp_grammar.specs.reader.Readers.{Read, Reader, ◌>>=◌, both, refuse}
+use Rattle.isp_grammar.specs.reader.Readers.{Read, Reader, ◌>>=◌, both, refuse, refusal_at_limit}
 use Rattle.isp_grammar.specs.reader.Choices.{begins_with}
 use Rattle.isp_grammar.specs.reader.Starts.{start_of, begins_stmt}
-use Rattle.isp_grammar.specs.reader.Stmts.{refusal_at_limit, stmt_from, stmt_by, stmt_at, braced_at, block_at, Heading, by_while, by_for, by_foreach, by_active, heading_at, looped, loop_at, while_at, for_at, foreach_at, active_at, test_at, head_at, ranges_head_at, active_head_at}
+use Rattle.isp_grammar.specs.reader.Stmts.{stmt_from, stmt_by, stmt_at, braced_at, block_at, Heading, by_while, by_for, by_foreach, by_active, heading_at, looped, loop_at, while_at, for_at, foreach_at, active_at, test_at, head_at, ranges_head_at, active_head_at}
 use Rattle.isp_grammar.specs.declared.heads.Loop.{Loop}
 use Rattle.isp_grammar.specs.declared.heads.Loop.TheVariants as loops
 use Rattle.isp_tree.specs.Tree.{Stmt}

@@ -6,9 +6,9 @@ ghost use Rattle.isp_tree.specs.Views.{expr_of, place_of, argument_of, arguments
 ghost use Rattle.isp_tree.specs.Depth.{depth, depth_of_place, depth_of_argument, depth_of_all};
 ghost use Rattle.isp_grammar.specs.reader.Readers.{Gives, is_word, listed_at};
 ghost use Rattle.isp_grammar.specs.reader.Choices.{begins_with};
-ghost use Rattle.isp_grammar.specs.reader.Exprs.{start_of, begins_expr, operator_of, operator_at, bracketed_at, place_at, argument_at, arguments_at, suffix_of, depth_of_suffix, suffix_at, named, named_at, cast_at, closed_at, bracket_at, prefixed_at, operand_from, joined, parts_of, parts_at, choice_of, expr_at, target_at};
+ghost use Rattle.isp_grammar.specs.reader.Exprs.{start_of, begins_expr, operator_of, operator_at, bracketed_at, argument_at, arguments_at, suffix_of, depth_of_suffix, suffix_at, named, named_at, cast_at, closed_at, prefixed_at, operand_from, joined, parts_of, parts_at, choice_of, expr_at, target_at};
 
-use crate::reading::{larger, mark, refuse, starts_with, tail, with_item, word};
+use crate::reading::{closed_by, larger, mark, refuse, refuse_at_limit, starts_with, tail, with_item, word};
 use crate::stop::{Stop, Why};
 use crate::types::{begins_type, first_span, type_words};
 use isp_base::{Span, Value};
@@ -205,36 +205,9 @@ fn index(alloc: Global, left: usize, tokens: &[Token]) -> Result<Index<'_>, Stop
     Ok(((value, close), height, rest))
 }
 
-/// A variable, or an element of an array.
+/// What a reference is to: a variable, or an element of an array.
 #[cycle(expr)]
 #[tactic(auto, unfolding(crate::specs::reader::Exprs::place_at, crate::specs::reader::Exprs::index_at, crate::specs::reader::Readers::optional))]
-fn place_from(
-    alloc: Global,
-    inner: usize,
-    tokens: &[Token],
-) -> Result<(Place, usize, &[Token]), Stop>
-    requires { inner < 128 }
-    ensures value { Gives (λ r. (place_of r.0, r.2.now)) result (place_at (expr_at inner loosest) tokens.now) }
-    ensures height { IfOk result (λ r. r.1 ≡ depth_of_place (place_of r.0)) }
-    ensures rest { IfOk result (λ r. length r.2.now < length tokens.now) }
-    ensures bounded { IfOk result (λ r. r.1 ≤ inner + 1) }
-{
-    let (word, rest) = word(tokens)?;
-    if !starts_with(Mark::BracketOpen, rest) {
-        return Ok((Place::Variable(word), 1, rest));
-    }
-    let ((index, close), height, rest) = index(alloc, inner, tail(rest))?;
-    let span = word.span.to(close);
-    let element = Place::Element {
-        array: word,
-        index,
-        span,
-    };
-    Ok((element, height + 1, rest))
-}
-
-/// What a reference is to.
-#[cycle(expr)]
 fn place(alloc: Global, left: usize, tokens: &[Token]) -> Result<(Place, usize, &[Token]), Stop>
     requires { left ≤ 128 }
     ensures value { Gives (λ r. (place_of r.0, r.2.now)) result (target_at left tokens.now) }
@@ -242,13 +215,21 @@ fn place(alloc: Global, left: usize, tokens: &[Token]) -> Result<(Place, usize, 
     ensures rest { IfOk result (λ r. length r.2.now < length tokens.now) }
     ensures bounded { IfOk result (λ r. r.1 ≤ left) }
 {
-    if left > 0 {
-        return place_from(alloc, left - 1, tokens);
+    if left == 0 {
+        return Err(refuse_at_limit(names(tokens), tokens));
     }
-    if names(tokens) {
-        return Err(refuse(Why::TooDeep, tokens));
+    let (word, rest) = word(tokens)?;
+    if !starts_with(Mark::BracketOpen, rest) {
+        return Ok((Place::Variable(word), 1, rest));
     }
-    Err(refuse(Why::Unexpected, tokens))
+    let ((index, close), height, rest) = index(alloc, left - 1, tail(rest))?;
+    let span = word.span.to(close);
+    let element = Place::Element {
+        array: word,
+        index,
+        span,
+    };
+    Ok((element, height + 1, rest))
 }
 
 /// One argument: a value, or a reference.
@@ -303,25 +284,6 @@ fn arguments(
     }
 }
 
-/// The arguments of a call with the closing bracket, and the depth of the deepest.
-#[cycle(expr)]
-#[tactic(auto, unfolding(crate::specs::reader::Exprs::arguments_at))]
-fn closed_arguments(
-    alloc: Global,
-    left: usize,
-    tokens: &[Token],
-) -> Result<((Vec<Argument>, Span), usize, &[Token]), Stop>
-    requires { left ≤ 128 }
-    ensures value { Gives (λ r. ((arguments_of r.0.0.items, r.0.1), r.2.now)) result (arguments_at (expr_at left loosest) (target_at left) tokens.now) }
-    ensures height { IfOk result (λ r. r.1 ≡ depth_of_all (arguments_of r.0.0.items)) }
-    ensures rest { IfOk result (λ r. length r.2.now < length tokens.now) }
-    ensures bounded { IfOk result (λ r. r.1 ≤ left) }
-{
-    let (all, height, rest) = arguments(alloc, left, tokens)?;
-    let (close, rest) = mark(Mark::ParenClose, rest)?;
-    Ok(((all, close), height, rest))
-}
-
 /// What stands behind a name in an expression.
 #[derive(Drop)]
 pub enum Behind {
@@ -334,7 +296,7 @@ pub enum Behind {
 
 /// An index or arguments, if they stand here.
 #[cycle(expr)]
-#[tactic(auto, unfolding(crate::specs::reader::Exprs::suffix_at))]
+#[tactic(auto, unfolding(crate::specs::reader::Exprs::suffix_at, crate::specs::reader::Exprs::arguments_at))]
 fn suffix(alloc: Global, left: usize, tokens: &[Token]) -> Result<(Behind, usize, &[Token]), Stop>
     requires { left ≤ 128 }
     ensures value { Gives (λ r. (suffix_of r.0, r.2.now)) result (suffix_at (bracketed_at (expr_at left loosest)) (arguments_at (expr_at left loosest) (target_at left)) tokens.now) }
@@ -347,7 +309,8 @@ fn suffix(alloc: Global, left: usize, tokens: &[Token]) -> Result<(Behind, usize
         return Ok((Behind::Index(value, close), height, rest));
     }
     if starts_with(Mark::ParenOpen, tokens) {
-        let ((all, close), height, rest) = closed_arguments(alloc, left, tail(tokens))?;
+        let (inside, height, rest) = arguments(alloc, left, tail(tokens))?;
+        let ((all, close), rest) = closed_by(Mark::ParenClose, inside, rest)?;
         return Ok((Behind::Arguments(all, close), height, rest));
     }
     Ok((Behind::Nothing, 0, tokens))
@@ -427,21 +390,6 @@ fn closed(alloc: Global, inner: usize, opening: Span, tokens: &[Token]) -> Resul
     made(alloc, brackets, height + 1, rest)
 }
 
-/// What is behind `(`: a type and what is cast to it, or an expression.
-#[cycle(expr)]
-fn bracket(alloc: Global, inner: usize, opening: Span, tokens: &[Token]) -> Result<Found<'_>, Stop>
-    requires { inner < 128 }
-    ensures value { Gives (λ r. (expr_of r.0.value, r.2.now)) result (bracket_at (expr_at inner) opening tokens.now) }
-    ensures height { IfOk result (λ r. r.1 ≡ depth (expr_of r.0.value)) }
-    ensures rest { IfOk result (λ r. length r.2.now < length tokens.now) }
-    ensures bounded { IfOk result (λ r. r.1 ≤ inner + 1) }
-{
-    if begins_type(tokens) {
-        return cast(alloc, inner, opening, tokens);
-    }
-    closed(alloc, inner, opening, tokens)
-}
-
 /// An operand behind an operator that stands before it.
 #[cycle(expr)]
 fn prefixed(
@@ -490,7 +438,8 @@ fn unary_from<'a>(
         Start::ProgramIndex => made(alloc, Expr::ProgramIndex { span }, 1, rest),
         Start::ProgramCount => made(alloc, Expr::ProgramCount { span }, 1, rest),
         Start::Word => named(alloc, inner, tokens),
-        Start::Bracket => bracket(alloc, inner, span, rest),
+        Start::Bracket if begins_type(rest) => cast(alloc, inner, span, rest),
+        Start::Bracket => closed(alloc, inner, span, rest),
         Start::Prefix(operator) => prefixed(alloc, inner, operator, span, rest),
         Start::Nothing => Err(refuse(Why::Unexpected, tokens)),
     }

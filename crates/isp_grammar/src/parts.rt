@@ -6,11 +6,11 @@ ghost use Rattle.isp_grammar.specs.reader.Readers.{Gives, mark_at, both};
 ghost use Rattle.isp_grammar.specs.reader.Choices.{begins_with, sign_at, maybe_closed_at};
 ghost use Rattle.isp_grammar.specs.reader.Exprs.{expr_at};
 ghost use Rattle.isp_grammar.specs.reader.Starts.{begins_first, begins_simple};
-ghost use Rattle.isp_grammar.specs.reader.Stmts.{closed_test_at, test_at, first_at, first_part_at, step_part_at, range_at, with_last, last_range_at, with_more, more_ranges_at, ranges_at, text_of, next_value_at, values_at, do_end_at, refusal_at_limit};
+ghost use Rattle.isp_grammar.specs.reader.Stmts.{closed_test_at, test_at, first_at, first_part_at, step_part_at, range_at, with_last, last_range_at, with_more, more_ranges_at, ranges_at, text_of, next_value_at, values_at, do_end_at};
 
 use crate::declaration::declaration;
 use crate::expr::expr;
-use crate::reading::{closed_by, in_box, mark, refuse, starts_with, tail, with_boxed, word};
+use crate::reading::{closed_by, in_box, mark, refuse, refuse_at_limit, starts_with, tail, with_boxed, word};
 use crate::simple::simple;
 use crate::start::{Start, stmt_start};
 use crate::stop::{Stop, Why};
@@ -106,17 +106,6 @@ fn first(alloc: Global, left: usize, tokens: &[Token]) -> Result<(Box<First>, &[
     let (simple, rest) = simple(alloc, left, tokens)?;
     let first = First::Simple(Box::into_inner(simple));
     in_box(alloc, first, rest)
-}
-
-/// The refusal where nothing more may be read: of what begins here, if it does.
-pub fn refuse_at_limit(begins: bool, tokens: &[Token]) -> Stop
-    ensures { result ≡ Stop.Refused (refusal_at_limit begins tokens.now) }
-{
-    if begins {
-        refuse(Why::TooDeep, tokens)
-    } else {
-        refuse(Why::Unexpected, tokens)
-    }
 }
 
 /// The first part of a `for`, which counts as a statement.

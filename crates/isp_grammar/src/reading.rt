@@ -1,7 +1,7 @@
 //! Single tokens.
 ghost use Rattle.std.specs.Prelude.{◌≡◌, ◌<◌, ◌∷◌, ◌++◌, [], IfOk, IfErr, length, drop, max};
 ghost use Rattle.isp_lex.specs.Tokens.{starts_with};
-ghost use Rattle.isp_grammar.specs.reader.Readers.{Gives, refusal, behind_mark, mark_at, word_at};
+ghost use Rattle.isp_grammar.specs.reader.Readers.{Gives, refusal, refusal_at_limit, behind_mark, mark_at, word_at};
 
 use crate::stop::{Refusal, Stop, Why};
 use isp_base::Span;
@@ -17,6 +17,17 @@ pub fn refuse(why: Why, tokens: &[Token]) -> Stop
         why,
         left: tokens.len(),
     })
+}
+
+/// The refusal where nothing more may be read: of what begins here, if it does.
+pub fn refuse_at_limit(begins: bool, tokens: &[Token]) -> Stop
+    ensures { result ≡ Stop.Refused (refusal_at_limit begins tokens.now) }
+{
+    if begins {
+        refuse(Why::TooDeep, tokens)
+    } else {
+        refuse(Why::Unexpected, tokens)
+    }
 }
 
 /// Whether the first token is this mark.

@@ -9,8 +9,8 @@ ghost use Rattle.isp_grammar.specs.reader.Stmts.{stmts_at, braced_at, block_at, 
 
 use crate::heads::{Loop, loop_head};
 use crate::make::{Found, make_do, make_if, make_loop, make_unmasked};
-use crate::parts::{do_end, refuse_at_limit, test};
-use crate::reading::{closed_by, in_box, mark, refuse, starts_with, tail, with_boxed};
+use crate::parts::{do_end, test};
+use crate::reading::{closed_by, in_box, mark, refuse, refuse_at_limit, starts_with, tail, with_boxed};
 use crate::single::{assert_stmt, declare_stmt, jump_stmt, print_stmt, return_stmt, simple_stmt};
 use crate::start::{Start, stmt_start};
 use crate::stop::{Stop, Why};

@@ -112,6 +112,11 @@ unfoldable pub at_limit : {A : Type 0} → (TokenKind → Bool) → Reader A
 at_limit begins [] = refuse Unexpected []
 at_limit begins (t ∷ ts) = if begins t.kind then refuse TooDeep (t ∷ ts) else refuse Unexpected (t ∷ ts)
 
+-- the refusal there, of what begins here, if it does
+abbrev pub refusal_at_limit : Bool → List Token → Refusal
+refusal_at_limit true ts = refusal TooDeep ts
+refusal_at_limit false ts = refusal Unexpected ts
+
 -- whether a token is a name
 abbrev pub is_word : TokenKind → Bool
 is_word (kind.Word n) = true

@@ -173,11 +173,6 @@ first_from (inr p) = first_simple p
 unfoldable pub first_at : ℕ → Reader First
 first_at n ts = either_at begins_type (declaration_at n) (simple_at n) ts >>= λ p. Ok (first_from p.0, p.1)
 
--- the refusal where no node may be deeper
-abbrev pub refusal_at_limit : Bool → List Token → Refusal
-refusal_at_limit true ts = refusal TooDeep ts
-refusal_at_limit false ts = refusal Unexpected ts
-
 -- the first part and the step of a `for`, each of which counts as a statement
 unfoldable pub first_part_at : ℕ → Reader First
 first_part_at n ts = counted_at begins_first first_at n ts

@@ -13,7 +13,7 @@ use Rattle.std.proofs.lemmas.Result.{err_from_is_err_and}
 use Rattle.isp_grammar.proofs.Basics.{head_none, head_some}
 use Rattle.isp_grammar.proofs.Loops.{list_fails, list_last, list_step, listed_none, listed_some}
 use Rattle.isp_grammar.proofs.SimpleSteps.{fails_then, made_gives, shorter_found, shorter_made, height_made, bounded_made}
-use Rattle.isp_grammar.proofs.ExprSteps.{depth_pos, arguments_past, depth_past, first_fails, loop_begins, loop_ends, loop_deep, loop_fails, loop_step, test_fails, test_alone, test_deep, parts_fail, parts_made, operand_step, target_step, target_none, target_deep, expr_off, expr_deep, bracket_typed, bracket_closed, argument_referred, argument_valued}
+use Rattle.isp_grammar.proofs.ExprSteps.{depth_pos, arguments_past, depth_past, first_fails, loop_begins, loop_ends, loop_deep, loop_fails, loop_step, test_fails, test_alone, test_deep, parts_fail, parts_made, operand_step, target_step, target_at_limit, expr_off, expr_deep, bracket_typed, bracket_closed, argument_referred, argument_valued}
 use Rattle.isp_grammar.proofs.Views.{number_view, truth_view, index_view, count_view, brackets_view, cast_view, prefix_view, variable_view, element_view, value_view, reference_view}
 use Rattle.isp_grammar.proofs.expr.+expr.Goals as goal
 
@@ -216,40 +216,41 @@ expr-returns-clause-value t c =
 
 -- ---- names and places
 
-pub place_from-returns-clause-rest : goal.place_from-returns-clause-rest
-place_from-returns-clause-rest t c = omega (arith, c.in_ok-word.ensures.rest, c.in_ok-index.ensures.rest, ap length c.tail.ensures, length-drop 1 c.in_ok-word.rest.now)
+pub place-returns-clause-rest : goal.place-returns-clause-rest
+place-returns-clause-rest t c = omega (arith, c.in_ok-word.ensures.rest, c.in_ok-index.ensures.rest, ap length c.tail.ensures, length-drop 1 c.in_ok-word.rest.now)
 
-pub place-returns-then-left-gt0-clause-value : goal.place-returns-then-left-gt0-clause-value
-place-returns-then-left-gt0-clause-value t c = rw (target_step c.args.left c.args.tokens.now (omega arith)) c.place_from.ensures.value
+pub place-returns-then-left-eq0-clause-value : goal.place-returns-then-left-eq0-clause-value
+place-returns-then-left-eq0-clause-value t c = rw (c.refuse_at_limit.ensures, c.names.ensures, c.if-left-eq0.true) (target_at_limit c.args.tokens.now)
 
-pub place-returns-then-names-clause-value : goal.place-returns-then-names-clause-value
-place-returns-then-names-clause-value t c =
-    let z : c.args.left ≡ 0 = omega arith in
-    rw (c.refuse.ensures, z) (target_deep c.args.tokens.now (sym c.names.ensures ∙ c.if-names.true))
-
-pub place-returns-clause-value : goal.place-returns-clause-value
-place-returns-clause-value t c =
-    let z : c.args.left ≡ 0 = omega arith in
-    rw (c.refuse-2.ensures, z) (target_none c.args.tokens.now (sym c.names.ensures ∙ c.if-names.false))
-
-pub place_from-returns-then-not-starts_with-clause-value : goal.place_from-returns-then-not-starts_with-clause-value
-unfolding place_at index_at optional
-place_from-returns-then-not-starts_with-clause-value t c = rw (c.in_ok-word.ensures.value, sym c.starts_with.ensures ∙ c.if-not-starts_with.true, variable_view c.in_ok-word.word) refl
-
-pub place_from-returns-in_err-index : goal.place_from-returns-in_err-index
-unfolding place_at index_at optional
-place_from-returns-in_err-index t c =
-    let p = err_from_is_err_and c.from_residual-in_err-index.result c.from_residual-in_err-index.ensures.1 in
+pub place-returns-in_err-word : goal.place-returns-in_err-word
+unfolding place_at
+place-returns-in_err-word t c =
+    let p = err_from_is_err_and c.from_residual.result c.from_residual.ensures.1 in
     record {
-      value = rw (p.1, p.2, c.in_ok-word.ensures.value, sym c.starts_with.ensures ∙ c.if-not-starts_with.false, sym c.tail.ensures) (fails_then c.in_err-index.field-0.0 _ _ (fails_then c.in_err-index.field-0.0 _ _ (fails_then c.in_err-index.field-0.0 _ _ c.in_err-index.ensures.value)));
+      value = rw (p.1, p.2, target_step c.args.left c.args.tokens.now (omega arith)) (fails_then c.in_err-word.field-0.0 _ _ (fails_then c.in_err-word.field-0.0 _ _ c.in_err-word.ensures.value));
       height = rw p.1 tt;
       rest = rw p.1 tt;
       bounded = rw p.1 tt;
     }
 
-pub place_from-returns-clause-value : goal.place_from-returns-clause-value
+pub place-returns-then-not-starts_with-clause-value : goal.place-returns-then-not-starts_with-clause-value
 unfolding place_at index_at optional
-place_from-returns-clause-value t c = rw (c.in_ok-word.ensures.value, sym c.starts_with.ensures ∙ c.if-not-starts_with.false, sym c.tail.ensures, c.in_ok-index.ensures.value, element_view c.in_ok-word.word c.in_ok-index.index c.to-span.result, c.to-span.ensures) refl
+place-returns-then-not-starts_with-clause-value t c = rw (target_step c.args.left c.args.tokens.now (omega arith), c.in_ok-word.ensures.value, sym c.starts_with.ensures ∙ c.if-not-starts_with.true, variable_view c.in_ok-word.word) refl
+
+pub place-returns-in_err-index : goal.place-returns-in_err-index
+unfolding place_at index_at optional
+place-returns-in_err-index t c =
+    let p = err_from_is_err_and c.from_residual-in_err-index.result c.from_residual-in_err-index.ensures.1 in
+    record {
+      value = rw (p.1, p.2, target_step c.args.left c.args.tokens.now (omega arith), c.in_ok-word.ensures.value, sym c.starts_with.ensures ∙ c.if-not-starts_with.false, sym c.tail.ensures) (fails_then c.in_err-index.field-0.0 _ _ (fails_then c.in_err-index.field-0.0 _ _ (fails_then c.in_err-index.field-0.0 _ _ c.in_err-index.ensures.value)));
+      height = rw p.1 tt;
+      rest = rw p.1 tt;
+      bounded = rw p.1 tt;
+    }
+
+pub place-returns-clause-value : goal.place-returns-clause-value
+unfolding place_at index_at optional
+place-returns-clause-value t c = rw (target_step c.args.left c.args.tokens.now (omega arith), c.in_ok-word.ensures.value, sym c.starts_with.ensures ∙ c.if-not-starts_with.false, sym c.tail.ensures, c.in_ok-index.ensures.value, element_view c.in_ok-word.word c.in_ok-index.index c.to-span.result, c.to-span.ensures) refl
 
 pub suffix-returns-in_err-value : goal.suffix-returns-in_err-value
 unfolding suffix_at
@@ -266,32 +267,38 @@ pub suffix-returns-then-starts_with-clause-value : goal.suffix-returns-then-star
 unfolding suffix_at
 suffix-returns-then-starts_with-clause-value t c = rw (sym c.starts_with.ensures ∙ c.if-starts_with.true, sym c.tail.ensures, c.in_ok-value.ensures.value) refl
 
+pub suffix-returns-in_err-inside : goal.suffix-returns-in_err-inside
+unfolding suffix_at arguments_at
+suffix-returns-in_err-inside t c =
+    let p = err_from_is_err_and c.from_residual-in_err-inside.result c.from_residual-in_err-inside.ensures.1 in
+    record {
+      value = rw (p.1, p.2, sym c.starts_with.ensures ∙ c.if-starts_with.false, sym c.starts_with-2.ensures ∙ c.if-starts_with-2.true, sym c.tail-then-starts_with-2.ensures) (fails_then c.in_err-inside.field-0.0 _ _ (fails_then c.in_err-inside.field-0.0 _ _ c.in_err-inside.ensures.value));
+      height = rw p.1 tt;
+      rest = rw p.1 tt;
+      bounded = rw p.1 tt;
+    }
+
 pub suffix-returns-in_err-all : goal.suffix-returns-in_err-all
-unfolding suffix_at
+unfolding suffix_at arguments_at
 suffix-returns-in_err-all t c =
     let p = err_from_is_err_and c.from_residual-in_err-all.result c.from_residual-in_err-all.ensures.1 in
     record {
-      value = rw (p.1, p.2, sym c.starts_with.ensures ∙ c.if-starts_with.false, sym c.starts_with-2.ensures ∙ c.if-starts_with-2.true, sym c.tail-then-starts_with-2.ensures) (fails_then c.in_err-all.field-0.0 _ _ c.in_err-all.ensures.value);
+      value = rw (p.1, p.2, sym c.starts_with.ensures ∙ c.if-starts_with.false, sym c.starts_with-2.ensures ∙ c.if-starts_with-2.true, sym c.tail-then-starts_with-2.ensures, c.in_ok-inside.ensures.value) (fails_then c.in_err-all.field-0.0 _ _ (fails_then c.in_err-all.field-0.0 _ _ c.in_err-all.ensures.sign));
       height = rw p.1 tt;
       rest = rw p.1 tt;
       bounded = rw p.1 tt;
     }
 
 pub suffix-returns-then-starts_with-2-clause-value : goal.suffix-returns-then-starts_with-2-clause-value
-unfolding suffix_at
-suffix-returns-then-starts_with-2-clause-value t c = rw (sym c.starts_with.ensures ∙ c.if-starts_with.false, sym c.starts_with-2.ensures ∙ c.if-starts_with-2.true, sym c.tail-then-starts_with-2.ensures, c.in_ok-all.ensures.value) refl
+unfolding suffix_at arguments_at
+suffix-returns-then-starts_with-2-clause-value t c = rw (sym c.starts_with.ensures ∙ c.if-starts_with.false, sym c.starts_with-2.ensures ∙ c.if-starts_with-2.true, sym c.tail-then-starts_with-2.ensures, c.in_ok-inside.ensures.value, c.in_ok-all.ensures.sign, c.in_ok-all.ensures.value) refl
+
+pub suffix-returns-then-starts_with-2-clause-height : goal.suffix-returns-then-starts_with-2-clause-height
+suffix-returns-then-starts_with-2-clause-height t c = rw c.in_ok-all.ensures.value c.in_ok-inside.ensures.height
 
 pub suffix-returns-clause-value : goal.suffix-returns-clause-value
 unfolding suffix_at
 suffix-returns-clause-value t c = rw (sym c.starts_with.ensures ∙ c.if-starts_with.false, sym c.starts_with-2.ensures ∙ c.if-starts_with-2.false) refl
-
--- ---- brackets
-
-pub bracket-returns-then-begins_type-clause-value : goal.bracket-returns-then-begins_type-clause-value
-bracket-returns-then-begins_type-clause-value t c = rw (bracket_typed (expr_at c.args.inner) c.args.opening c.args.tokens.now (sym c.begins_type.ensures ∙ c.if-begins_type.true)) c.cast.ensures.value
-
-pub bracket-returns-clause-value : goal.bracket-returns-clause-value
-bracket-returns-clause-value t c = rw (bracket_closed (expr_at c.args.inner) c.args.opening c.args.tokens.now (sym c.begins_type.ensures ∙ c.if-begins_type.false)) c.closed.ensures.value
 
 -- ---- operands
 
@@ -331,7 +338,10 @@ pub unary_from-returns-in-Word-clause-value : goal.unary_from-returns-in-Word-cl
 unary_from-returns-in-Word-clause-value t c = rw (sym c.start_of.ensures ∙ c.in-Word.is, sym c.requires.whole) c.named.ensures.value
 
 pub unary_from-returns-in-Bracket-clause-value : goal.unary_from-returns-in-Bracket-clause-value
-unary_from-returns-in-Bracket-clause-value t c = rw (sym c.start_of.ensures ∙ c.in-Bracket.is) c.bracket.ensures.value
+unary_from-returns-in-Bracket-clause-value t c = rw (sym c.start_of.ensures ∙ c.in-Bracket.is, bracket_typed (expr_at c.args.inner) c.args.first.now.span c.args.rest.now (sym c.begins_type.ensures ∙ c.if-begins_type.true)) c.cast.ensures.value
+
+pub unary_from-returns-in-Bracket-2-clause-value : goal.unary_from-returns-in-Bracket-2-clause-value
+unary_from-returns-in-Bracket-2-clause-value t c = rw (sym c.start_of.ensures ∙ c.in-Bracket-2.is, bracket_closed (expr_at c.args.inner) c.args.first.now.span c.args.rest.now (sym c.begins_type.ensures ∙ c.if-begins_type.false)) c.closed.ensures.value
 
 pub unary_from-returns-in-Prefix-clause-value : goal.unary_from-returns-in-Prefix-clause-value
 unary_from-returns-in-Prefix-clause-value t c = rw (sym c.start_of.ensures ∙ c.in-Prefix.is) c.prefixed.ensures.value
@@ -366,32 +376,6 @@ index-returns-in_err-close t c =
 pub index-returns-clause-value : goal.index-returns-clause-value
 unfolding bracketed_at
 index-returns-clause-value t c = rw (c.in_ok-value.ensures.value, c.in_ok-close.ensures.value) refl
-
-pub closed_arguments-returns-in_err-all : goal.closed_arguments-returns-in_err-all
-unfolding arguments_at
-closed_arguments-returns-in_err-all t c =
-    let p = err_from_is_err_and c.from_residual.result c.from_residual.ensures.1 in
-    record {
-      value = rw (p.1, p.2) (fails_then c.in_err-all.field-0.0 _ _ c.in_err-all.ensures.value);
-      height = rw p.1 tt;
-      rest = rw p.1 tt;
-      bounded = rw p.1 tt;
-    }
-
-pub closed_arguments-returns-in_err-close : goal.closed_arguments-returns-in_err-close
-unfolding arguments_at
-closed_arguments-returns-in_err-close t c =
-    let p = err_from_is_err_and c.from_residual-in_err-close.result c.from_residual-in_err-close.ensures.1 in
-    record {
-      value = rw (p.1, p.2, c.in_ok-all.ensures.value) (fails_then c.in_err-close.field-0.0 _ _ c.in_err-close.ensures.value);
-      height = rw p.1 tt;
-      rest = rw p.1 tt;
-      bounded = rw p.1 tt;
-    }
-
-pub closed_arguments-returns-clause-value : goal.closed_arguments-returns-clause-value
-unfolding arguments_at
-closed_arguments-returns-clause-value t c = rw (c.in_ok-all.ensures.value, c.in_ok-close.ensures.value) refl
 
 pub named-returns-in_err-word : goal.named-returns-in_err-word
 unfolding named_at
@@ -536,17 +520,6 @@ pub parts-returns-clause-value : goal.parts-returns-clause-value
 unfolding parts_at
 parts-returns-clause-value t c = rw (c.in_ok-then.ensures.value, c.in_ok-colon.ensures.value, c.in_ok-otherwise.ensures.value) refl
 
-pub place_from-returns-in_err-word : goal.place_from-returns-in_err-word
-unfolding place_at
-place_from-returns-in_err-word t c =
-    let p = err_from_is_err_and c.from_residual.result c.from_residual.ensures.1 in
-    record {
-      value = rw (p.1, p.2) (fails_then c.in_err-word.field-0.0 _ _ (fails_then c.in_err-word.field-0.0 _ _ c.in_err-word.ensures.value));
-      height = rw p.1 tt;
-      rest = rw p.1 tt;
-      bounded = rw p.1 tt;
-    }
-
 -- ---- what is left behind the first token of an operand, and its depth
 
 pub unary_from-returns-in-Number-clause-height : goal.unary_from-returns-in-Number-clause-height
@@ -595,13 +568,22 @@ pub unary_from-returns-in-Word-clause-bounded : goal.unary_from-returns-in-Word-
 unary_from-returns-in-Word-clause-bounded t c = c.named.ensures.bounded
 
 pub unary_from-returns-in-Bracket-clause-height : goal.unary_from-returns-in-Bracket-clause-height
-unary_from-returns-in-Bracket-clause-height t c = c.bracket.ensures.height
+unary_from-returns-in-Bracket-clause-height t c = c.cast.ensures.height
 
 pub unary_from-returns-in-Bracket-clause-rest : goal.unary_from-returns-in-Bracket-clause-rest
-unary_from-returns-in-Bracket-clause-rest t c = shorter_found c.bracket.result c.args.first.now c.args.rest.now c.args.tokens.now c.requires.whole c.bracket.ensures.rest
+unary_from-returns-in-Bracket-clause-rest t c = shorter_found c.cast.result c.args.first.now c.args.rest.now c.args.tokens.now c.requires.whole c.cast.ensures.rest
 
 pub unary_from-returns-in-Bracket-clause-bounded : goal.unary_from-returns-in-Bracket-clause-bounded
-unary_from-returns-in-Bracket-clause-bounded t c = c.bracket.ensures.bounded
+unary_from-returns-in-Bracket-clause-bounded t c = c.cast.ensures.bounded
+
+pub unary_from-returns-in-Bracket-2-clause-height : goal.unary_from-returns-in-Bracket-2-clause-height
+unary_from-returns-in-Bracket-2-clause-height t c = c.closed.ensures.height
+
+pub unary_from-returns-in-Bracket-2-clause-rest : goal.unary_from-returns-in-Bracket-2-clause-rest
+unary_from-returns-in-Bracket-2-clause-rest t c = shorter_found c.closed.result c.args.first.now c.args.rest.now c.args.tokens.now c.requires.whole c.closed.ensures.rest
+
+pub unary_from-returns-in-Bracket-2-clause-bounded : goal.unary_from-returns-in-Bracket-2-clause-bounded
+unary_from-returns-in-Bracket-2-clause-bounded t c = c.closed.ensures.bounded
 
 pub unary_from-returns-in-Prefix-clause-height : goal.unary_from-returns-in-Prefix-clause-height
 unary_from-returns-in-Prefix-clause-height t c = c.prefixed.ensures.height

@@ -31,12 +31,6 @@ decreases-argument l = 32 * l.left + 13
 abbrev pub decreases-arguments : goal.decreases-arguments
 decreases-arguments l = 32 * l.left + 14
 
-abbrev pub decreases-place_from : goal.decreases-place_from
-decreases-place_from l = 32 * l.inner + 15
-
-abbrev pub decreases-closed_arguments : goal.decreases-closed_arguments
-decreases-closed_arguments l = 32 * l.left + 15
-
 abbrev pub decreases-suffix : goal.decreases-suffix
 decreases-suffix l = 32 * l.left + 16
 
@@ -48,9 +42,6 @@ decreases-cast l = 32 * l.inner + 15
 
 abbrev pub decreases-closed : goal.decreases-closed
 decreases-closed l = 32 * l.inner + 15
-
-abbrev pub decreases-bracket : goal.decreases-bracket
-decreases-bracket l = 32 * l.inner + 16
 
 abbrev pub decreases-prefixed : goal.decreases-prefixed
 decreases-prefixed l = 32 * l.inner + 15

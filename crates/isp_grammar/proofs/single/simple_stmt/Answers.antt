@@ -1,0 +1,16 @@
+use Rattle.std.proofs.lemmas.Result.{err_from_is_err_and}
+use Rattle.isp_grammar.specs.reader.Stmts.{simple_stmt_at}
+use Rattle.isp_grammar.proofs.SimpleSteps.{fails_then}
+use Rattle.isp_grammar.proofs.single.simple_stmt.Goals as goal
+
+pub returns-in_err-simple-clause-value : goal.returns-in_err-simple-clause-value
+unfolding simple_stmt_at
+returns-in_err-simple-clause-value c =
+    let p = err_from_is_err_and c.from_residual.result c.from_residual.ensures.1 in
+    rw (p.1, p.2) (fails_then c.in_err-simple.field-0.0 _ _ (fails_then c.in_err-simple.field-0.0 _ _ c.in_err-simple.ensures.value))
+
+pub returns-in_err-end-clause-value : goal.returns-in_err-end-clause-value
+unfolding simple_stmt_at
+returns-in_err-end-clause-value c =
+    let p = err_from_is_err_and c.from_residual-in_err-end.result c.from_residual-in_err-end.ensures.1 in
+    rw (p.1, p.2, c.in_ok-simple.ensures.value) (fails_then c.in_err-end.field-0.0 _ _ (fails_then c.in_err-end.field-0.0 _ _ c.in_err-end.ensures.value))
