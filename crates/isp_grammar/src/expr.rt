@@ -8,7 +8,9 @@ ghost use Rattle.isp_grammar.specs.reader.Readers.{Gives, is_word, listed_at};
 ghost use Rattle.isp_grammar.specs.reader.Choices.{begins_with};
 ghost use Rattle.isp_grammar.specs.reader.Exprs.{start_of, begins_expr, operator_of, operator_at, bracketed_at, argument_at, arguments_at, suffix_of, depth_of_suffix, suffix_at, named, named_at, cast_at, closed_at, prefixed_at, operand_from, joined, parts_of, parts_at, choice_of, expr_at, target_at};
 
-use crate::reading::{closed_by, larger, mark, refuse, refuse_at_limit, starts_with, tail, with_item, word};
+use crate::reading::{
+    closed_by, larger, mark, refuse, refuse_at_limit, starts_with, tail, with_item, word,
+};
 use crate::stop::{Stop, Why};
 use crate::types::{begins_type, first_span, type_words};
 use isp_base::{Span, Value};

@@ -17,6 +17,15 @@ use std::alloc::Global;
 /// A statement in a box, and the tokens after it.
 pub type Found<'a> = (Box<Stmt>, &'a [Token]);
 
+/// A statement put in a box.
+pub fn boxed(alloc: Global, found: Stmt, rest: &[Token]) -> Result<Found<'_>, Stop>
+    ensures value { IfOk result (λ r. stmt_of r.0.value ≡ stmt_of found) }
+    ensures rest { IfOk result (λ r. r.1.now ≡ rest.now) }
+    ensures memory { IfErr result (λ e. e ≡ Stop.Memory) }
+{
+    in_box(alloc, found, rest)
+}
+
 /// What a box holds, if there is one.
 pub fn unboxed_expr(value: Option<Box<Expr>>) -> Option<Expr>
     ensures { option_map expr_of result ≡ option_map (λ b. expr_of b.value) value }
@@ -80,7 +89,7 @@ pub fn make_if(
             }
         }
     };
-    in_box(alloc, found, rest)
+    boxed(alloc, found, rest)
 }
 
 pub fn make_do(
@@ -102,7 +111,7 @@ pub fn make_do(
         test: Box::into_inner(test),
         span: keyword.to(end),
     };
-    in_box(alloc, found, rest)
+    boxed(alloc, found, rest)
 }
 
 fn make_for(form: Form, head: ForHead, body: Box<Stmt>, span: Span) -> Stmt
@@ -130,7 +139,7 @@ pub fn make_loop(
     ensures rest { IfOk result (λ r. r.1.now ≡ rest.now) }
     ensures memory { IfErr result (λ e. e ≡ Stop.Memory) }
 {
-    in_box(alloc, loop_of(keyword, head, body), rest)
+    boxed(alloc, loop_of(keyword, head, body), rest)
 }
 
 fn loop_of(keyword: Span, head: LoopHead, body: Box<Stmt>) -> Stmt
@@ -180,5 +189,5 @@ pub fn make_unmasked(
         body,
         span,
     };
-    in_box(alloc, found, rest)
+    boxed(alloc, found, rest)
 }

@@ -10,7 +10,9 @@ ghost use Rattle.isp_grammar.specs.reader.Stmts.{closed_test_at, test_at, first_
 
 use crate::declaration::declaration;
 use crate::expr::expr;
-use crate::reading::{closed_by, in_box, mark, refuse, refuse_at_limit, starts_with, tail, with_boxed, word};
+use crate::reading::{
+    closed_by, in_box, mark, refuse, refuse_at_limit, starts_with, tail, with_boxed, word,
+};
 use crate::simple::simple;
 use crate::start::{Start, stmt_start};
 use crate::stop::{Stop, Why};

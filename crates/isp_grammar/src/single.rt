@@ -5,9 +5,9 @@ ghost use Rattle.isp_grammar.specs.reader.Readers.{Gives};
 ghost use Rattle.isp_grammar.specs.reader.Stmts.{declare_at, simple_stmt_at, jump_at, return_at, print_at, assert_at};
 
 use crate::declaration::declaration;
-use crate::make::unboxed_expr;
+use crate::make::{Found, boxed, unboxed_expr};
 use crate::parts::{closed_test, closing, maybe_expr, text, values};
-use crate::reading::{in_box, mark};
+use crate::reading::mark;
 use crate::simple::simple;
 use crate::stop::Stop;
 use isp_base::Span;
@@ -17,11 +17,7 @@ use std::alloc::Global;
 
 /// A declaration and its semicolon.
 #[tactic(auto, unfolding(crate::specs::reader::Stmts::declare_at))]
-pub fn declare_stmt(
-    alloc: Global,
-    inner: usize,
-    tokens: &[Token],
-) -> Result<(Box<Stmt>, &[Token]), Stop>
+pub fn declare_stmt(alloc: Global, inner: usize, tokens: &[Token]) -> Result<Found<'_>, Stop>
     requires { inner ≤ 128 }
     ensures value { Gives (λ r. (stmt_of r.0.value, r.1.now)) result (declare_at inner tokens.now) }
     ensures rest { IfOk result (λ r. length r.1.now < length tokens.now) }
@@ -30,16 +26,12 @@ pub fn declare_stmt(
     let (end, rest) = mark(Mark::Semicolon, rest)?;
     let span = declaration.span.to(end);
     let declaration = Box::into_inner(declaration);
-    in_box(alloc, Stmt::Declare { declaration, span }, rest)
+    boxed(alloc, Stmt::Declare { declaration, span }, rest)
 }
 
 /// An expression, an assignment or a step by one, and its semicolon.
 #[tactic(auto, unfolding(crate::specs::reader::Stmts::simple_stmt_at))]
-pub fn simple_stmt(
-    alloc: Global,
-    inner: usize,
-    tokens: &[Token],
-) -> Result<(Box<Stmt>, &[Token]), Stop>
+pub fn simple_stmt(alloc: Global, inner: usize, tokens: &[Token]) -> Result<Found<'_>, Stop>
     requires { inner ≤ 128 }
     ensures value { Gives (λ r. (stmt_of r.0.value, r.1.now)) result (simple_stmt_at inner tokens.now) }
     ensures rest { IfOk result (λ r. length r.1.now < length tokens.now) }
@@ -48,7 +40,7 @@ pub fn simple_stmt(
     let (end, rest) = mark(Mark::Semicolon, rest)?;
     let span = simple.span().to(end);
     let simple = Box::into_inner(simple);
-    in_box(alloc, Stmt::Simple { simple, span }, rest)
+    boxed(alloc, Stmt::Simple { simple, span }, rest)
 }
 
 /// What stands behind `break` or `continue` at this place.
@@ -58,7 +50,7 @@ pub fn jump_stmt(
     jump: Jump,
     keyword: Span,
     tokens: &[Token],
-) -> Result<(Box<Stmt>, &[Token]), Stop>
+) -> Result<Found<'_>, Stop>
     ensures value { Gives (λ r. (stmt_of r.0.value, r.1.now)) result (jump_at jump keyword tokens.now) }
     ensures rest { IfOk result (λ r. length r.1.now < length tokens.now) }
 {
@@ -69,7 +61,7 @@ pub fn jump_stmt(
         keyword,
         span,
     };
-    in_box(alloc, found, rest)
+    boxed(alloc, found, rest)
 }
 
 /// What stands behind `return` at this place.
@@ -79,7 +71,7 @@ pub fn return_stmt(
     inner: usize,
     keyword: Span,
     tokens: &[Token],
-) -> Result<(Box<Stmt>, &[Token]), Stop>
+) -> Result<Found<'_>, Stop>
     requires { inner ≤ 128 }
     ensures value { Gives (λ r. (stmt_of r.0.value, r.1.now)) result (return_at inner keyword tokens.now) }
     ensures rest { IfOk result (λ r. length r.1.now < length tokens.now) }
@@ -90,7 +82,7 @@ pub fn return_stmt(
         value: unboxed_expr(value),
         span: keyword.to(end),
     };
-    in_box(alloc, found, rest)
+    boxed(alloc, found, rest)
 }
 
 /// What stands behind `print` at this place.
@@ -100,7 +92,7 @@ pub fn print_stmt(
     inner: usize,
     keyword: Span,
     tokens: &[Token],
-) -> Result<(Box<Stmt>, &[Token]), Stop>
+) -> Result<Found<'_>, Stop>
     requires { inner ≤ 128 }
     ensures value { Gives (λ r. (stmt_of r.0.value, r.1.now)) result (print_at inner keyword tokens.now) }
     ensures rest { IfOk result (λ r. length r.1.now < length tokens.now) }
@@ -116,7 +108,7 @@ pub fn print_stmt(
         values,
         span: keyword.to(end),
     };
-    in_box(alloc, found, rest)
+    boxed(alloc, found, rest)
 }
 
 /// What stands behind `assert` at this place.
@@ -126,7 +118,7 @@ pub fn assert_stmt(
     inner: usize,
     keyword: Span,
     tokens: &[Token],
-) -> Result<(Box<Stmt>, &[Token]), Stop>
+) -> Result<Found<'_>, Stop>
     requires { inner ≤ 128 }
     ensures value { Gives (λ r. (stmt_of r.0.value, r.1.now)) result (assert_at inner keyword tokens.now) }
     ensures rest { IfOk result (λ r. length r.1.now < length tokens.now) }
@@ -138,5 +130,5 @@ pub fn assert_stmt(
         call_span: keyword.to(close),
         span: keyword.to(end),
     };
-    in_box(alloc, found, rest)
+    boxed(alloc, found, rest)
 }

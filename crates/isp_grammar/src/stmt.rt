@@ -8,9 +8,9 @@ ghost use Rattle.isp_grammar.specs.reader.Starts.{start_of, begins_stmt};
 ghost use Rattle.isp_grammar.specs.reader.Stmts.{stmts_at, braced_at, block_at, block_stmt_at, if_at, do_at, loop_at, unmasked_at, stmt_from, stmt_at};
 
 use crate::heads::{Loop, loop_head};
-use crate::make::{Found, make_do, make_if, make_loop, make_unmasked};
+use crate::make::{Found, boxed, make_do, make_if, make_loop, make_unmasked};
 use crate::parts::{do_end, test};
-use crate::reading::{closed_by, in_box, mark, refuse, refuse_at_limit, starts_with, tail, with_boxed};
+use crate::reading::{closed_by, mark, refuse, refuse_at_limit, starts_with, tail, with_boxed};
 use crate::single::{assert_stmt, declare_stmt, jump_stmt, print_stmt, return_stmt, simple_stmt};
 use crate::start::{Start, stmt_start};
 use crate::stop::{Stop, Why};
@@ -96,7 +96,7 @@ fn block_stmt(alloc: Global, inner: usize, tokens: &[Token]) -> Result<Found<'_>
     ensures rest { IfOk result (λ r. length r.1.now < length tokens.now) }
 {
     let (block, rest) = braced(alloc, inner, tokens)?;
-    in_box(alloc, Stmt::Block(block), rest)
+    boxed(alloc, Stmt::Block(block), rest)
 }
 
 /// `else` and its statement, where `else` stands: it belongs to the nearest `if`.
@@ -179,12 +179,7 @@ fn do_loop(
 /// What stands behind `unmasked` at this place.
 #[cycle(stmt)]
 #[tactic(auto, unfolding(crate::specs::reader::Stmts::unmasked_at))]
-fn unmasked(
-    alloc: Global,
-    inner: usize,
-    keyword: Span,
-    tokens: &[Token],
-) -> Result<Found<'_>, Stop>
+fn unmasked(alloc: Global, inner: usize, keyword: Span, tokens: &[Token]) -> Result<Found<'_>, Stop>
     requires { inner ≤ 128 }
     ensures value { Gives (λ r. (stmt_of r.0.value, r.1.now)) result (unmasked_at (block_at inner) keyword tokens.now) }
     ensures rest { IfOk result (λ r. length r.1.now < length tokens.now) }
@@ -212,7 +207,7 @@ fn stmt_from<'a>(
     let keyword = first.span;
     match stmt_start(&first.kind) {
         Start::Block => block_stmt(alloc, inner, tokens),
-        Start::Empty => in_box(alloc, Stmt::Empty { span: keyword }, rest),
+        Start::Empty => boxed(alloc, Stmt::Empty { span: keyword }, rest),
         Start::Declare => declare_stmt(alloc, inner, tokens),
         Start::Simple => simple_stmt(alloc, inner, tokens),
         Start::If(form) => conditional(alloc, inner, form, keyword, rest),
