@@ -2,6 +2,7 @@
 use Rattle.std.proofs.Common.{◌≡◌, ℕ, ◌≤◌, Bool, true, false, List, [], ◌∷◌, ◌++◌, length, Option, Some, None, refl, sym, ap, subst, ◌∙◌, arith}
 use Rattle.isp_base.specs.declared.types.Span.{Span}
 use Rattle.isp_lex.specs.Tokens.{at, is_mark, starts_with}
+use Rattle.isp_lex.specs.declared.token.Mark.{Mark}
 use Rattle.isp_lex.specs.declared.token.Mark.TheVariants as mark
 use Rattle.isp_lex.specs.declared.token.TokenKind.{TokenKind}
 use Rattle.isp_lex.specs.declared.token.TokenKind.TheVariants as kind
@@ -11,78 +12,67 @@ use Rattle.isp_grammar.proofs.Choices.{nowhere, nameless, begins_same, Sign, Sig
 use Rattle.isp_grammar.proofs.Declarations.{some_expr}
 use Rattle.isp_grammar.proofs.ExprLaws.{exprs_sound, exprs_complete, exprs_by_head, exprs_refused}
 use Rattle.isp_grammar.proofs.Exprs.{Exprs, closes_ends}
-use Rattle.isp_grammar.proofs.Forms.{Form, IsSound, IsComplete, Can, One, one_sound, one_complete, Named, named_sound, named_complete, Both, Free, Follows, both_sound, both_complete, Behind, one_then, behind_is, is_behind, NameThen, named_then, name_then_is, is_name_then, Until, until_sound}
+use Rattle.isp_grammar.proofs.Forms.{Form, IsSound, IsComplete, Can, One, one_sound, one_complete, Named, named_sound, named_complete, Both, Free, Follows, follows, both_sound, both_complete, Behind, one_then, behind_is, is_behind, NameThen, named_then, name_then_is, is_name_then, Until, until_sound}
 use Rattle.isp_grammar.proofs.FormsComplete.{EndsByHead, one_by_head, named_by_head, Stands, until_complete}
 use Rattle.isp_grammar.proofs.Refused.{IsRefused, one_refused, named_refused, both_refused, until_refused}
-use Rattle.isp_grammar.proofs.Wrapped.{After, after_sound, after_complete, after_refused, Bracketed, bracketed_sound, bracketed_complete, bracketed_refused, some_bracketed}
+use Rattle.isp_grammar.proofs.Wrapped.{After, after_sound, after_complete, after_refused, some_after, Bracketed, bracketed_sound, bracketed_complete, bracketed_refused, some_bracketed}
 use Rattle.isp_tree.specs.Depth.{depth_of_range, deepest_of}
 use Rattle.isp_grammar.specs.Grammar.{AreListed, IsRange, is_range}
 use Rattle.isp_grammar.specs.reader.Choices.{begins_with}
-use Rattle.isp_grammar.specs.reader.Stmts.{range_from, range_at, more_ranges, last_range_at, more_ranges_at, ranges_at, text_of}
+use Rattle.isp_grammar.specs.reader.Stmts.{behind_at, range_from, range_at, more_ranges, last_range_at, more_ranges_at, ranges_at, text_of}
 use Rattle.isp_grammar.specs.Signs.{word, loosest}
 use Rattle.isp_tree.specs.Tree.{Expr, Range}
 use Rattle.isp_tree.specs.declared.types.Word.{Word}
 
 -- ---- one range
 
-abbrev RangeEnd : Form (Span × Expr)
-RangeEnd = Behind mark.Ellipsis (Exprs loosest)
+abbrev RangeStart : Form Expr
+RangeStart = After mark.Assign (Exprs loosest)
 
-abbrev RangeBounds : Form (Expr × (Span × Expr))
-RangeBounds = Both (Exprs loosest) RangeEnd Free
+abbrev RangeEnd : Form Expr
+RangeEnd = After mark.Ellipsis (Exprs loosest)
 
-abbrev RangeTail : Form (Span × (Expr × (Span × Expr)))
-RangeTail = Behind mark.Assign RangeBounds
+abbrev RangeBounds : Form (Expr × Expr)
+RangeBounds = Both RangeStart RangeEnd Free
 
-abbrev RangeParts : Form (Word × (Span × (Expr × (Span × Expr))))
-RangeParts = NameThen RangeTail
+abbrev RangeParts : Form (Word × (Expr × Expr))
+RangeParts = NameThen RangeBounds
 
-abbrev pub range_tree : Word × (Span × (Expr × (Span × Expr))) → Range
-range_tree p = range_from p.0 p.1.1.0 p.1.1.1.1
+abbrev pub range_tree : Word × (Expr × Expr) → Range
+range_tree p = range_from p.0 p.1.0 p.1.1
 
 abbrev pub OneRange : Form Range
 OneRange = record { is = λ ts r. IsRange ts r; deep = depth_of_range; ends = λ r rest. (Exprs loosest).ends r.end rest; read = range_at }
 
 some_end : (b : List Token) × Can RangeEnd b
-some_end = let x = some_expr loosest in (at mark.Ellipsis nowhere ∷ x.0, ((nowhere, x.1.0), is_behind mark.Ellipsis (Exprs loosest) nowhere x.0 x.1.0 x.1.1))
+some_end = some_after mark.Ellipsis (Exprs loosest) (some_expr loosest)
 
 some_bounds : (b : List Token) × Can RangeBounds b
-some_bounds = let x = some_expr loosest in (x.0 ++ some_end.0, ((x.1.0, some_end.1.0), (x.0, some_end.0, refl, x.1.1, some_end.1.1, tt)))
+some_bounds = let x = some_after mark.Assign (Exprs loosest) (some_expr loosest) in (x.0 ++ some_end.0, ((x.1.0, some_end.1.0), (x.0, some_end.0, refl, x.1.1, some_end.1.1, tt)))
 
-some_tail : (b : List Token) × Can RangeTail b
-some_tail = (at mark.Assign nowhere ∷ some_bounds.0, ((nowhere, some_bounds.1.0), is_behind mark.Assign RangeBounds nowhere some_bounds.0 some_bounds.1.0 some_bounds.1.1))
+bounds_then : Follows RangeStart RangeEnd Free
+bounds_then = follows RangeStart RangeEnd (λ x y b rest i h. subst (λ (l : List Token). (Exprs loosest).ends x (l ++ rest)) (sym i.2) (closes_ends loosest mark.Ellipsis refl x i.0 (i.1 ++ rest))) some_end.0 some_end.1
 
-end_behind : Follows (One mark.Ellipsis) (Exprs loosest) Free
-end_behind = one_then mark.Ellipsis (Exprs loosest) (some_expr loosest).0 (some_expr loosest).1
+range_then : Follows Named RangeBounds Free
+range_then = named_then RangeBounds some_bounds.0 some_bounds.1
 
-bounds_then : Follows (Exprs loosest) RangeEnd Free
-bounds_then = then_behind (Exprs loosest) mark.Ellipsis (Exprs loosest) (λ x s rest. closes_ends loosest mark.Ellipsis refl x s rest) (some_expr loosest).0 (some_expr loosest).1
-
-tail_behind : Follows (One mark.Assign) RangeBounds Free
-tail_behind = one_then mark.Assign RangeBounds some_bounds.0 some_bounds.1
-
-range_then : Follows Named RangeTail Free
-range_then = named_then RangeTail some_tail.0 some_tail.1
-
-range_makes_is : (ts : List Token) (p : Word × (Span × (Expr × (Span × Expr)))) → RangeParts.is ts p → IsRange ts (range_tree p)
+range_makes_is : (ts : List Token) (p : Word × (Expr × Expr)) → RangeParts.is ts p → IsRange ts (range_tree p)
 range_makes_is ts p i =
-    let a = name_then_is RangeTail ts p i in
-    let b = behind_is mark.Assign RangeBounds a.0 p.1 a.2 in
-    let c = b.2 in
-    let d = behind_is mark.Ellipsis (Exprs loosest) c.1 p.1.1.1 c.4 in
-    let e = a.1 ∙ ap (λ (l : List Token). word p.0 ∷ l) (b.1 ∙ ap (λ (l : List Token). at mark.Assign p.1.0 ∷ l) (c.2 ∙ ap (λ (l : List Token). c.0 ++ l) d.1)) in
-    subst (λ (l : List Token). IsRange l (range_tree p)) (sym e) (is_range p.0 p.1.0 p.1.1.1.0 c.0 d.0 p.1.1.0 p.1.1.1.1 c.3 d.2)
+    let a = name_then_is RangeBounds ts p i in
+    let b = a.2.3 in
+    let c = a.2.4 in
+    let e = a.1 ∙ ap (λ (l : List Token). word p.0 ∷ l) (a.2.2 ∙ ap (λ (l : List Token). l ++ a.2.1) b.2 ∙ ap (λ (l : List Token). at mark.Assign b.0 ∷ (b.1 ++ l)) c.2) in
+    subst (λ (l : List Token). IsRange l (range_tree p)) (sym e) (is_range p.0 b.0 c.0 b.1 c.1 p.1.0 p.1.1 b.3 c.3)
 
-range_unmakes : {ts : List Token} {r : Range} → IsRange ts r → (p : Word × (Span × (Expr × (Span × Expr)))) × RangeParts.is ts p × (range_tree p ≡ r)
+range_unmakes : {ts : List Token} {r : Range} → IsRange ts r → (p : Word × (Expr × Expr)) × RangeParts.is ts p × (range_tree p ≡ r)
 range_unmakes (is_range w e d a b x y i j) = (
-  (w, (e, (x, (d, y)))),
-  is_name_then RangeTail w (at mark.Assign e ∷ (a ++ at mark.Ellipsis d ∷ b)) (e, (x, (d, y)))
-      (is_behind mark.Assign RangeBounds e (a ++ at mark.Ellipsis d ∷ b) (x, (d, y)) (a, at mark.Ellipsis d ∷ b, refl, i, is_behind mark.Ellipsis (Exprs loosest) d b y j, tt)),
+  (w, (x, y)),
+  is_name_then RangeBounds w (at mark.Assign e ∷ (a ++ at mark.Ellipsis d ∷ b)) (x, y) (at mark.Assign e ∷ a, at mark.Ellipsis d ∷ b, refl, (e, a, refl, i), (d, b, refl, j), tt),
   refl,
 )
 
 range_makes : Makes RangeParts OneRange range_tree
-unfolding range_at
+unfolding range_at behind_at
 range_makes = record {
   reads = λ n ts. refl;
   makes = λ ts x i. range_makes_is ts x i;
@@ -92,25 +82,30 @@ range_makes = record {
   back = λ x rest h. h;
 }
 
+behind_sound : (m : Mark) (n : ℕ) → IsSound (After m (Exprs loosest)) n
+behind_sound m n = after_sound m (Exprs loosest) (some_expr loosest) n (exprs_sound loosest n)
+
+behind_complete : (m : Mark) (n : ℕ) → IsComplete (After m (Exprs loosest)) n
+behind_complete m n = after_complete m (Exprs loosest) (some_expr loosest) n (exprs_complete loosest n)
+
+behind_refused : (m : Mark) (n : ℕ) → IsRefused (After m (Exprs loosest)) n
+behind_refused m n = after_refused m (Exprs loosest) (some_expr loosest) n (exprs_refused loosest n)
+
 range_sound : (n : ℕ) → IsSound OneRange n
 range_sound n =
     makes_sound RangeParts OneRange range_tree range_makes n
-    (both_sound Named RangeTail Free range_then n (named_sound n) (both_sound (One mark.Assign) RangeBounds Free tail_behind n (one_sound mark.Assign n)
-    (both_sound (Exprs loosest) RangeEnd Free bounds_then n (exprs_sound loosest n) (both_sound (One mark.Ellipsis) (Exprs loosest) Free end_behind n (one_sound mark.Ellipsis n) (exprs_sound loosest n)))))
+    (both_sound Named RangeBounds Free range_then n (named_sound n) (both_sound RangeStart RangeEnd Free bounds_then n (behind_sound mark.Assign n) (behind_sound mark.Ellipsis n)))
 
 range_complete : (n : ℕ) → IsComplete OneRange n
 range_complete n =
     makes_complete RangeParts OneRange range_tree range_makes n
-    (both_complete Named RangeTail Free range_then n (named_complete n) (both_complete (One mark.Assign) RangeBounds Free tail_behind n (one_complete mark.Assign n)
-    (both_complete (Exprs loosest) RangeEnd Free bounds_then n (exprs_complete loosest n) (both_complete (One mark.Ellipsis) (Exprs loosest) Free end_behind n (one_complete mark.Ellipsis n) (exprs_complete loosest n)))))
+    (both_complete Named RangeBounds Free range_then n (named_complete n) (both_complete RangeStart RangeEnd Free bounds_then n (behind_complete mark.Assign n) (behind_complete mark.Ellipsis n)))
 
 range_refused : (n : ℕ) → IsRefused OneRange n
 range_refused n =
     makes_refused RangeParts OneRange range_tree range_makes n
-    (both_refused Named RangeTail Free range_then n named_by_head named_complete (named_sound n) (named_refused n)
-    (both_refused (One mark.Assign) RangeBounds Free tail_behind n (one_by_head mark.Assign) (one_complete mark.Assign) (one_sound mark.Assign n) (one_refused mark.Assign n)
-    (both_refused (Exprs loosest) RangeEnd Free bounds_then n (exprs_by_head loosest) (exprs_complete loosest) (exprs_sound loosest n) (exprs_refused loosest n)
-    (both_refused (One mark.Ellipsis) (Exprs loosest) Free end_behind n (one_by_head mark.Ellipsis) (one_complete mark.Ellipsis) (one_sound mark.Ellipsis n) (one_refused mark.Ellipsis n) (exprs_refused loosest n)))))
+    (both_refused Named RangeBounds Free range_then n named_by_head named_complete (named_sound n) (named_refused n)
+    (both_refused RangeStart RangeEnd Free bounds_then n (λ x a b e h. exprs_by_head loosest x a b e h) (behind_complete mark.Assign) (behind_sound mark.Assign n) (behind_refused mark.Assign n) (behind_refused mark.Ellipsis n)))
 
 range_by_head : EndsByHead OneRange
 range_by_head r a b e h = exprs_by_head loosest r.end a b e h
@@ -342,15 +337,6 @@ text_refused n = sign_refused text_of kind.Text texts n
 abbrev pub NextValue : Form Expr
 NextValue = After mark.Comma (Exprs loosest)
 
-next_value_sound : (n : ℕ) → IsSound NextValue n
-next_value_sound n = after_sound mark.Comma (Exprs loosest) (some_expr loosest) n (exprs_sound loosest n)
-
-next_value_complete : (n : ℕ) → IsComplete NextValue n
-next_value_complete n = after_complete mark.Comma (Exprs loosest) (some_expr loosest) n (exprs_complete loosest n)
-
-next_value_refused : (n : ℕ) → IsRefused NextValue n
-next_value_refused n = after_refused mark.Comma (Exprs loosest) (some_expr loosest) n (exprs_refused loosest n)
-
 abbrev pub Values : Form (List Expr)
 Values = Until NextValue mark.ParenClose
 
@@ -362,13 +348,13 @@ value_stands = record {
 }
 
 pub values_sound : (n : ℕ) → IsSound Values n
-values_sound n = until_sound NextValue mark.ParenClose n (next_value_sound n)
+values_sound n = until_sound NextValue mark.ParenClose n (behind_sound mark.Comma n)
 
 pub values_complete : (n : ℕ) → IsComplete Values n
-values_complete n = until_complete NextValue mark.ParenClose value_stands n (next_value_complete n)
+values_complete n = until_complete NextValue mark.ParenClose value_stands n (behind_complete mark.Comma n)
 
 pub values_refused : (n : ℕ) → IsRefused Values n
-values_refused n = until_refused NextValue mark.ParenClose n value_stands.first (λ x a b e h. exprs_by_head loosest x a b e h) next_value_complete (next_value_sound n) (next_value_refused n)
+values_refused n = until_refused NextValue mark.ParenClose n value_stands.first (λ x a b e h. exprs_by_head loosest x a b e h) (behind_complete mark.Comma) (behind_sound mark.Comma n) (behind_refused mark.Comma n)
 
 pub values_by_head : EndsByHead Values
 values_by_head xs a b e h = sym (starts_same mark.ParenClose a b e) ∙ h

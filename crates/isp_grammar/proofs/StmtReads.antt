@@ -18,7 +18,7 @@ use Rattle.isp_grammar.specs.Grammar.{IsStmt, is_block, is_empty, is_unmasked, i
 use Rattle.isp_grammar.specs.reader.Readers.{Read, ◌>>=◌, mark_at}
 use Rattle.isp_grammar.specs.reader.Choices.{maybe_closed_at}
 use Rattle.isp_grammar.specs.reader.Starts.{start_of}
-use Rattle.isp_grammar.specs.reader.Stmts.{Head, simple_at, closed_test_at, test_at, head_at, ranges_head_at, active_head_at, values_at, next_value_at, do_end_at, declare_at, simple_stmt_at, jump_at, return_at, print_at, assert_at, stmts_at, block_from, braced_at, block_stmt_at, if_at, while_at, do_at, for_at, foreach_at, active_at, unmasked_at, stmt_by, stmt_at}
+use Rattle.isp_grammar.specs.reader.Stmts.{Head, simple_at, closed_test_at, test_at, head_at, ranges_head_at, active_head_at, values_at, behind_at, do_end_at, declare_at, simple_stmt_at, jump_at, return_at, print_at, assert_at, stmts_at, block_from, braced_at, block_stmt_at, if_at, while_at, do_at, for_at, foreach_at, active_at, unmasked_at, stmt_by, stmt_at}
 use Rattle.isp_grammar.specs.Signs.{if_mark, while_mark, do_mark, for_mark, foreach_mark, jump_mark}
 use Rattle.isp_tree.specs.Tree.{Expr, Stmt, Block, block, empty, loop_for, simple, assert, Simple, span_of_simple, span_of_stmt}
 use Rattle.isp_base.specs.Types.{span_to}
@@ -156,7 +156,7 @@ unfolding stmt_at stmt_by return_at maybe_closed_at
 return_production = record { reads = λ n s ts. refl; makes = λ s ts x i. return_makes s ts x i; deep = λ s x. return_deep s x; ends = λ s x rest h. λ o. absurd cc }
 
 pub print_production : Production mark.Print Printing print_of
-unfolding stmt_at stmt_by print_at values_at next_value_at
+unfolding stmt_at stmt_by print_at values_at behind_at
 print_production = record { reads = λ n s ts. refl; makes = λ s ts x i. print_makes s ts x i; deep = λ s x. print_deep s x; ends = λ s x rest h. λ o. absurd cc }
 
 abbrev assert_from : Span → (Expr × Span) × Span → Stmt

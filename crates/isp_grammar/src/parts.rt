@@ -6,7 +6,7 @@ ghost use Rattle.isp_grammar.specs.reader.Readers.{Gives, mark_at, both};
 ghost use Rattle.isp_grammar.specs.reader.Choices.{begins_with, sign_at, maybe_closed_at};
 ghost use Rattle.isp_grammar.specs.reader.Exprs.{expr_at};
 ghost use Rattle.isp_grammar.specs.reader.Starts.{begins_first, begins_simple};
-ghost use Rattle.isp_grammar.specs.reader.Stmts.{closed_test_at, test_at, first_at, first_part_at, step_part_at, range_at, with_last, last_range_at, with_more, more_ranges_at, ranges_at, text_of, next_value_at, values_at, do_end_at};
+ghost use Rattle.isp_grammar.specs.reader.Stmts.{closed_test_at, test_at, first_at, first_part_at, step_part_at, range_at, with_last, last_range_at, with_more, more_ranges_at, ranges_at, text_of, behind_at, values_at, do_end_at};
 
 use crate::declaration::declaration;
 use crate::expr::expr;
@@ -178,6 +178,23 @@ pub struct ForHead {
     pub step: Option<Box<Simple>>,
 }
 
+/// An expression behind a mark.
+#[tactic(auto, unfolding(crate::specs::reader::Stmts::behind_at))]
+fn behind(
+    alloc: Global,
+    sign: Mark,
+    left: usize,
+    tokens: &[Token],
+) -> Result<(Box<Expr>, &[Token]), Stop>
+    requires { left ≤ 128 }
+    ensures value { Gives (λ r. (expr_of r.0.value, r.1.now)) result (behind_at sign left tokens.now) }
+    ensures rest { IfOk result (λ r. length r.1.now < length tokens.now) }
+{
+    let (_sign, rest) = mark(sign, tokens)?;
+    let (value, _height, rest) = expr(alloc, left, rest)?;
+    Ok((value, rest))
+}
+
 /// One dimension of a `foreach`.
 #[tactic(auto, unfolding(crate::specs::reader::Stmts::range_at))]
 fn range(alloc: Global, left: usize, tokens: &[Token]) -> Result<(Box<Range>, &[Token]), Stop>
@@ -186,10 +203,8 @@ fn range(alloc: Global, left: usize, tokens: &[Token]) -> Result<(Box<Range>, &[
     ensures rest { IfOk result (λ r. length r.1.now < length tokens.now) }
 {
     let (word, rest) = word(tokens)?;
-    let (_sign, rest) = mark(Mark::Assign, rest)?;
-    let (start, _height, rest) = expr(alloc, left, rest)?;
-    let (_dots, rest) = mark(Mark::Ellipsis, rest)?;
-    let (end, _height, rest) = expr(alloc, left, rest)?;
+    let (start, rest) = behind(alloc, Mark::Assign, left, rest)?;
+    let (end, rest) = behind(alloc, Mark::Ellipsis, left, rest)?;
     let span = word.span.to(end.span());
     let range = Range {
         word,
@@ -265,18 +280,6 @@ pub fn text(tokens: &[Token]) -> Result<((Text, Span), &[Token]), Stop>
     }
 }
 
-/// A comma and a value.
-#[tactic(auto, unfolding(crate::specs::reader::Stmts::next_value_at))]
-fn next_value(alloc: Global, left: usize, tokens: &[Token]) -> Result<(Box<Expr>, &[Token]), Stop>
-    requires { left ≤ 128 }
-    ensures value { Gives (λ r. (expr_of r.0.value, r.1.now)) result (next_value_at left tokens.now) }
-    ensures rest { IfOk result (λ r. length r.1.now < length tokens.now) }
-{
-    let (_comma, rest) = mark(Mark::Comma, tokens)?;
-    let (value, _height, rest) = expr(alloc, left, rest)?;
-    Ok((value, rest))
-}
-
 /// The values behind a text, each behind a comma, up to a closing bracket.
 pub fn values(alloc: Global, left: usize, tokens: &[Token]) -> Result<(Vec<Expr>, &[Token]), Stop>
     requires { left ≤ 128 }
@@ -286,7 +289,7 @@ pub fn values(alloc: Global, left: usize, tokens: &[Token]) -> Result<(Vec<Expr>
     let mut all = Vec::new(alloc);
     let mut rest = tokens;
     'each: while !starts_with(Mark::ParenClose, rest) {
-        let (next, after) = next_value(alloc, left, rest)?;
+        let (next, after) = behind(alloc, Mark::Comma, left, rest)?;
         all = with_boxed(all, next)?;
         rest = after;
     }

@@ -5,6 +5,7 @@ use Rattle.isp_base.specs.Types.{span_to}
 use Rattle.isp_base.specs.declared.types.Span.{Span}
 use Rattle.isp_base.specs.declared.types.Value.{Value}
 use Rattle.isp_lex.specs.Tokens.{is_mark}
+use Rattle.isp_lex.specs.declared.token.Mark.{Mark}
 use Rattle.isp_lex.specs.declared.token.Mark.TheVariants as mark
 use Rattle.isp_lex.specs.declared.token.TokenKind.{TokenKind}
 use Rattle.isp_lex.specs.declared.token.TokenKind.TheVariants as kind
@@ -193,11 +194,15 @@ unfoldable pub head_at : ℕ → Reader Head
 head_at n ts = both (mark_at mark.ParenOpen) (both (maybe_closed_at mark.Semicolon (first_part_at n)) (both (maybe_closed_at mark.Semicolon (expr_at n loosest)) (maybe_closed_at mark.ParenClose (step_part_at n)))) ts
     >>= λ p. Ok (record { first = p.0.1.0.0; test = p.0.1.1.0.0; step = p.0.1.1.1.0 }, p.1)
 
+-- an expression behind a mark
+unfoldable pub behind_at : Mark → ℕ → Reader Expr
+behind_at m n ts = both (mark_at m) (expr_at n loosest) ts >>= λ p. Ok (p.0.1, p.1)
+
 abbrev pub range_from : Word → Expr → Expr → Range
 range_from w x y = record { word = w; start = x; end = y; span = span_to w.span (span_of y) }
 
 unfoldable pub range_at : ℕ → Reader Range
-range_at n ts = both word_at (both (mark_at mark.Assign) (both (expr_at n loosest) (both (mark_at mark.Ellipsis) (expr_at n loosest)))) ts >>= λ p. Ok (range_from p.0.0 p.0.1.1.0 p.0.1.1.1.1, p.1)
+range_at n ts = both word_at (both (behind_at mark.Assign n) (behind_at mark.Ellipsis n)) ts >>= λ p. Ok (range_from p.0.0 p.0.1.0 p.0.1.1, p.1)
 
 -- one to three ranges
 unfoldable pub last_range_at : ℕ → Reader (Option (Span × Range))
@@ -237,12 +242,8 @@ text_of (kind.Text t) = Some t
 text_of (kind.Mark m) = None
 text_of kind.LeftOut = None
 
--- a comma and a value
-unfoldable pub next_value_at : ℕ → Reader Expr
-next_value_at n ts = both (mark_at mark.Comma) (expr_at n loosest) ts >>= λ p. Ok (p.0.1, p.1)
-
 unfoldable pub values_at : ℕ → Reader (List Expr)
-values_at n ts = until_at mark.ParenClose (next_value_at n) (suc (length ts)) ts
+values_at n ts = until_at mark.ParenClose (behind_at mark.Comma n) (suc (length ts)) ts
 
 -- `while`, a test and a semicolon
 unfoldable pub do_end_at : ℕ → Reader (Expr × Span)

@@ -9,26 +9,14 @@ returns-in_err-word-clause-value c =
     let p = err_from_is_err_and c.from_residual.result c.from_residual.ensures.1 in
     rw (p.1, p.2) (fails_then c.in_err-word.field-0.0 _ _ (fails_then c.in_err-word.field-0.0 _ _ c.in_err-word.ensures.value))
 
-pub returns-in_err-_sign-clause-value : goal.returns-in_err-_sign-clause-value
-unfolding range_at
-returns-in_err-_sign-clause-value c =
-    let p = err_from_is_err_and c.from_residual-in_err-_sign.result c.from_residual-in_err-_sign.ensures.1 in
-    rw (p.1, p.2, c.in_ok-word.ensures.value) (fails_then c.in_err-_sign.field-0.0 _ _ (fails_then c.in_err-_sign.field-0.0 _ _ (fails_then c.in_err-_sign.field-0.0 _ _ c.in_err-_sign.ensures.value)))
-
 pub returns-in_err-start-clause-value : goal.returns-in_err-start-clause-value
 unfolding range_at
 returns-in_err-start-clause-value c =
     let p = err_from_is_err_and c.from_residual-in_err-start.result c.from_residual-in_err-start.ensures.1 in
-    rw (p.1, p.2, c.in_ok-word.ensures.value, c.in_ok-_sign.ensures.value) (fails_then c.in_err-start.field-0.0 _ _ (fails_then c.in_err-start.field-0.0 _ _ (fails_then c.in_err-start.field-0.0 _ _ (fails_then c.in_err-start.field-0.0 _ _ c.in_err-start.ensures.value))))
-
-pub returns-in_err-_dots-clause-value : goal.returns-in_err-_dots-clause-value
-unfolding range_at
-returns-in_err-_dots-clause-value c =
-    let p = err_from_is_err_and c.from_residual-in_err-_dots.result c.from_residual-in_err-_dots.ensures.1 in
-    rw (p.1, p.2, c.in_ok-word.ensures.value, c.in_ok-_sign.ensures.value, c.in_ok-start.ensures.value) (fails_then c.in_err-_dots.field-0.0 _ _ (fails_then c.in_err-_dots.field-0.0 _ _ (fails_then c.in_err-_dots.field-0.0 _ _ (fails_then c.in_err-_dots.field-0.0 _ _ (fails_then c.in_err-_dots.field-0.0 _ _ c.in_err-_dots.ensures.value)))))
+    rw (p.1, p.2, c.in_ok-word.ensures.value) (fails_then c.in_err-start.field-0.0 _ _ (fails_then c.in_err-start.field-0.0 _ _ (fails_then c.in_err-start.field-0.0 _ _ c.in_err-start.ensures.value)))
 
 pub returns-in_err-end-clause-value : goal.returns-in_err-end-clause-value
 unfolding range_at
 returns-in_err-end-clause-value c =
     let p = err_from_is_err_and c.from_residual-in_err-end.result c.from_residual-in_err-end.ensures.1 in
-    rw (p.1, p.2, c.in_ok-word.ensures.value, c.in_ok-_sign.ensures.value, c.in_ok-start.ensures.value, c.in_ok-_dots.ensures.value) (fails_then c.in_err-end.field-0.0 _ _ (fails_then c.in_err-end.field-0.0 _ _ (fails_then c.in_err-end.field-0.0 _ _ (fails_then c.in_err-end.field-0.0 _ _ (fails_then c.in_err-end.field-0.0 _ _ c.in_err-end.ensures.value)))))
+    rw (p.1, p.2, c.in_ok-word.ensures.value, c.in_ok-start.ensures.value) (fails_then c.in_err-end.field-0.0 _ _ (fails_then c.in_err-end.field-0.0 _ _ (fails_then c.in_err-end.field-0.0 _ _ c.in_err-end.ensures.value)))
