@@ -8,7 +8,7 @@ use Rattle.isp_lex.specs.declared.token.TokenKind.{TokenKind}
 use Rattle.isp_lex.specs.declared.token.TokenKind.TheVariants as kind
 use Rattle.isp_lex.specs.declared.token.Token.{Token}
 use Rattle.isp_grammar.proofs.Basics.{starts_is, starts_same}
-use Rattle.isp_grammar.proofs.Choices.{nowhere, nameless, begins_same, Sign, Signs, sign_sound, sign_complete, sign_refused, Tail, Joins, tail_sound, tail_complete, tail_refused, Makes, makes_sound, makes_complete, makes_refused, then_behind}
+use Rattle.isp_grammar.proofs.Choices.{nowhere, nameless, begins_same, Sign, Signs, sign_sound, sign_complete, sign_refused, Tail, Joins, tail_sound, tail_complete, tail_refused, Makes, makes_sound, makes_complete, makes_refused}
 use Rattle.isp_grammar.proofs.Declarations.{some_expr}
 use Rattle.isp_grammar.proofs.ExprLaws.{exprs_sound, exprs_complete, exprs_by_head, exprs_refused}
 use Rattle.isp_grammar.proofs.Exprs.{Exprs, closes_ends}

@@ -11,7 +11,7 @@ use Rattle.isp_lex.specs.declared.token.TokenKind.{TokenKind}
 use Rattle.isp_lex.specs.declared.token.TokenKind.TheVariants as kind
 use Rattle.isp_lex.specs.declared.token.Token.{Token}
 use Rattle.isp_grammar.specs.Grammar.{span_of_last}
-use Rattle.isp_grammar.specs.reader.Readers.{Read, Reader, ◌>>=◌, refusal, refuse, mark_at, word_at, both, optional, list_at, until_at, at_limit}
+use Rattle.isp_grammar.specs.reader.Readers.{Read, Reader, ◌>>=◌, refuse, mark_at, word_at, both, optional, list_at, until_at, at_limit}
 use Rattle.isp_grammar.specs.reader.Choices.{sign_at, maybe_closed_at, perhaps_at, either_at, counted_at}
 use Rattle.isp_grammar.specs.reader.Exprs.{expr_at}
 use Rattle.isp_grammar.specs.reader.Starts.{start_of, begins_first, begins_simple, begins_stmt}
@@ -30,8 +30,7 @@ use Rattle.isp_grammar.specs.declared.simple.Ending as rust_ending
 use Rattle.isp_grammar.specs.declared.simple.Ending.TheVariants as ending
 use Rattle.isp_grammar.specs.declared.start.Start.{Start}
 use Rattle.isp_grammar.specs.declared.start.Start.TheVariants as by
-use Rattle.isp_grammar.specs.declared.stop.Why.TheVariants.{Unexpected, TooDeep}
-use Rattle.isp_grammar.specs.declared.stop.Refusal.{Refusal}
+use Rattle.isp_grammar.specs.declared.stop.Why.TheVariants.{Unexpected}
 use Rattle.isp_tree.specs.declared.types.Word.{Word}
 use Rattle.isp_tree.specs.declared.stmt.Size.{Size}
 use Rattle.isp_tree.specs.declared.stmt.Size.TheVariants as size

@@ -7,7 +7,7 @@ use Rattle.isp_grammar.specs.reader.Readers.{optional}
 use Rattle.isp_grammar.specs.reader.Starts.{start_of}
 use Rattle.isp_grammar.specs.reader.Stmts.{stmts_at, braced_at, block_stmt_at, if_at, do_at, unmasked_at, loop_at, stmt_from, stmt_at, block_at}
 use Rattle.isp_grammar.proofs.Loops.{until_fails, until_end, until_step, until_begins}
-use Rattle.isp_grammar.proofs.SimpleSteps.{fails_then, boxed_gives, boxed_made, shorter, shorter_boxed}
+use Rattle.isp_grammar.proofs.SimpleSteps.{fails_then, boxed_made, shorter}
 use Rattle.isp_grammar.proofs.StmtSteps.{loop_headed, stmt_at_limit, stmt_none, stmt_step, block_at_limit, block_step}
 use Rattle.isp_grammar.proofs.stmt.+stmt.Goals as goal
 
