@@ -15,11 +15,13 @@ use Rattle.isp_tree.specs.Depth.{depth, depth_of_argument, depth_of_all}
 use Rattle.isp_grammar.specs.reader.Readers.{Read, Reader, ◌>>=◌, Fails, refusal, refuse, mark_at, both, at_limit, refusal_at_limit, is_word}
 use Rattle.isp_grammar.specs.reader.Choices.{begins_with, either_at}
 use Rattle.isp_grammar.specs.reader.Types.{begins_type, type_at}
-use Rattle.isp_grammar.specs.reader.Exprs.{start_of, is_start, begins_expr, operator_at, place_at, bracket_of, cast_at, closed_at, bracket_at, operand_from, operand_at, joined, more_at, binary_at, choice_of, parts_at, choice_at, level_from, level_at, expr_at, target_at, argument_by, argument_at}
+use Rattle.isp_grammar.specs.reader.Exprs.{start_of, is_start, atom_of, Suffix, by_nothing, by_index, by_arguments, depth_of_suffix, named, begins_expr, operator_at, place_at, bracket_of, cast_at, closed_at, bracket_at, operand_from, operand_at, joined, more_at, binary_at, choice_of, parts_at, choice_at, level_from, level_at, expr_at, target_at, argument_by, argument_at}
 use Rattle.isp_grammar.specs.Signs.{joined_level, loosest, first_span}
 use Rattle.isp_tree.specs.Tree.{Expr, number, truth, program_index, program_count, place, call, brackets, cast, prefix, binary, choose, Place, variable, element, span_of_place, Argument, by_value, by_reference}
 use Rattle.isp_tree.specs.Views.{argument_of, arguments_of}
 use Rattle.isp_tree.specs.declared.expr.Argument as rust
+use Rattle.isp_grammar.specs.declared.expr.Atom.{Atom}
+use Rattle.isp_grammar.specs.declared.expr.Atom.TheVariants as atom
 use Rattle.isp_grammar.specs.declared.expr.Start.{Start}
 use Rattle.isp_grammar.specs.declared.expr.Start.TheVariants as by
 use Rattle.isp_grammar.specs.declared.stop.Why.TheVariants.{Unexpected, TooDeep}
@@ -27,6 +29,7 @@ use Rattle.isp_grammar.specs.declared.stop.Refusal.{Refusal}
 use Rattle.isp_grammar.specs.declared.stop.Stop.{Stop}
 use Rattle.isp_grammar.specs.declared.stop.Stop.TheVariants as stops
 use Rattle.isp_tree.specs.declared.expr.Operator.{Operator}
+use Rattle.isp_tree.specs.declared.types.Word.{Word}
 
 place_depth_pos : (p : Place) → 0 < depth (place p)
 place_depth_pos (variable w) = omega arith
@@ -44,6 +47,17 @@ depth_pos (cast t x s) = omega arith
 depth_pos (prefix p x s) = omega arith
 depth_pos (binary op x y s) = omega arith
 depth_pos (choose x y z s) = omega arith
+
+pub atom_depth : (a : Atom) (s : Span) → depth (atom_of a s) ≡ 1
+atom_depth (atom.Number v) s = refl
+atom_depth (atom.Truth b) s = refl
+atom_depth atom.ProgramIndex s = refl
+atom_depth atom.ProgramCount s = refl
+
+pub depth_named : (w : Word) (s : Suffix) → depth (named w s) ≡ depth_of_suffix s + 1
+depth_named w by_nothing = omega arith
+depth_named w (by_index i) = omega arith
+depth_named w (by_arguments a) = omega arith
 
 -- one more at the end of the arguments
 pub deepest_past : (xs : List Argument) (x : Argument) → depth_of_all (xs ++ x ∷ []) ≡ max (depth_of_all xs) (depth_of_argument x)
@@ -223,10 +237,7 @@ unfolding target_at
 target_none u e = limit_off is_word u e
 
 from_off : (inner : ℕ → Reader Expr) (target : Reader Place) (c : Start) (t : Token) (u : List Token) → is_start c ≡ false → operand_from inner target c t u ≡ refuse Unexpected (t ∷ u)
-from_off inner target (by.Number v) t u e = absurd cc
-from_off inner target (by.Truth b) t u e = absurd cc
-from_off inner target by.ProgramIndex t u e = absurd cc
-from_off inner target by.ProgramCount t u e = absurd cc
+from_off inner target (by.Atom a) t u e = absurd cc
 from_off inner target by.Word t u e = absurd cc
 from_off inner target by.Bracket t u e = absurd cc
 from_off inner target (by.Prefix p) t u e = absurd cc

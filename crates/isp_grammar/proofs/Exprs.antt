@@ -20,9 +20,11 @@ use Rattle.isp_tree.specs.Depth.{depth, depth_of_place, depth_of_argument, depth
 use Rattle.isp_grammar.specs.Grammar.{IsPlace, is_variable, is_element, IsExpr, is_number, is_place, is_call, is_brackets, is_cast, is_tighter, is_choose, IsArgument, is_value_argument, is_reference, IsArguments, is_no_argument, is_some_arguments, IsArgumentList, is_last_argument, is_more_arguments}
 use Rattle.isp_grammar.specs.reader.Readers.{◌>>=◌}
 use Rattle.isp_grammar.specs.reader.Types.{begins_type}
-use Rattle.isp_grammar.specs.reader.Exprs.{start_of, operator_of, of_level, operator_at, bracketed_at, index_at, place_by, place_at, argument_by, argument_at, arguments_at, Suffix, by_nothing, by_index, by_arguments, suffix_from, suffix_at, named, named_at, bracket_of, bracket_at, choice_of, parts_at, expr_at, target_at}
+use Rattle.isp_grammar.specs.reader.Exprs.{start_of, atom_of, operator_of, of_level, operator_at, bracketed_at, index_at, place_by, place_at, argument_by, argument_at, arguments_at, Suffix, by_nothing, by_index, by_arguments, suffix_from, suffix_at, named, named_at, bracket_of, bracket_at, choice_of, parts_at, expr_at, target_at}
 use Rattle.isp_grammar.specs.Signs.{numeral, word, truth_mark, prefix_mark, sign, level, joined_level, loosest}
 use Rattle.isp_tree.specs.Tree.{TypeTree, Expr, number, truth, program_index, program_count, place, call, brackets, cast, prefix, binary, choose, listed, Place, variable, element, Argument, by_value, by_reference}
+use Rattle.isp_grammar.specs.declared.expr.Atom.{Atom}
+use Rattle.isp_grammar.specs.declared.expr.Atom.TheVariants as atom
 use Rattle.isp_grammar.specs.declared.expr.Start.{Start}
 use Rattle.isp_grammar.specs.declared.expr.Start.TheVariants as by
 use Rattle.isp_tree.specs.declared.types.Word.{Word}
@@ -60,11 +62,14 @@ Exprs k = record { is = λ ts x. IsExpr k ts x; deep = depth; ends = λ x rest. 
 
 -- ---- the first token
 
+abbrev pub kind_of : Atom → TokenKind
+kind_of (atom.Number v) = kind.Number v
+kind_of (atom.Truth b) = kind.Mark (truth_mark b)
+kind_of atom.ProgramIndex = kind.Mark mark.ProgramIndex
+kind_of atom.ProgramCount = kind.Mark mark.ProgramCount
+
 abbrev Starts : TokenKind → Start → Type 0
-Starts k (by.Number v) = k ≡ kind.Number v
-Starts k (by.Truth b) = k ≡ kind.Mark (truth_mark b)
-Starts k by.ProgramIndex = k ≡ kind.Mark mark.ProgramIndex
-Starts k by.ProgramCount = k ≡ kind.Mark mark.ProgramCount
+Starts k (by.Atom a) = k ≡ kind_of a
 Starts k by.Word = Unit {0}
 Starts k by.Bracket = k ≡ kind.Mark mark.ParenOpen
 Starts k (by.Prefix p) = k ≡ kind.Mark (prefix_mark p)
@@ -203,6 +208,12 @@ name_ends x rest i a = record { index = i; arguments = a; operators = λ j lt. a
 
 pub no_name_ends : (x : Expr) (rest : List Token) → ends_in_name x ≡ false → Ends zero x rest
 no_name_ends x rest e = name_ends x rest (λ b. absurd cc) (λ b. absurd cc)
+
+pub atom_ends : (a : Atom) (s : Span) (rest : List Token) → Ends zero (atom_of a s) rest
+atom_ends (atom.Number v) s rest = no_name_ends (number v s) rest refl
+atom_ends (atom.Truth b) s rest = no_name_ends (truth b s) rest refl
+atom_ends atom.ProgramIndex s rest = no_name_ends (program_index s) rest refl
+atom_ends atom.ProgramCount s rest = no_name_ends (program_count s) rest refl
 
 -- ---- places
 

@@ -25,6 +25,7 @@ use Rattle.isp_grammar.specs.reader.Types.{begins_type}
 use Rattle.isp_grammar.specs.reader.Exprs.{start_of, begins_expr, operator_of, of_level, operator_at, place_by, argument_by, Suffix, by_nothing, by_index, by_arguments, suffix_at, named, named_at, bracket_of, bracket_at, operand_at, more_at, binary_at, choice_at, expr_at, target_at}
 use Rattle.isp_grammar.specs.Signs.{word, truth_mark, prefix_mark, sign, level, joined_level, loosest}
 use Rattle.isp_tree.specs.Tree.{TypeTree, Expr, place, Place, Argument, by_value, by_reference}
+use Rattle.isp_grammar.specs.declared.expr.Atom.TheVariants as atom
 use Rattle.isp_grammar.specs.declared.expr.Start.TheVariants as by
 use Rattle.isp_tree.specs.declared.types.Word.{Word}
 use Rattle.isp_tree.specs.declared.expr.Prefix.{Prefix}
@@ -121,7 +122,7 @@ ends_at_sign k x op s rest e =
 
 -- ---- the first token of an expression
 
-start_truth : (b : Bool) → start_of (kind.Mark (truth_mark b)) ≡ by.Truth b
+start_truth : (b : Bool) → start_of (kind.Mark (truth_mark b)) ≡ by.Atom (atom.Truth b)
 start_truth true = refl
 start_truth false = refl
 

@@ -165,10 +165,7 @@ module _ (n : ℕ) (ih : (k : ℕ) → IsRefused (Exprs k) n) (target : IsRefuse
       (refused_here (Can (Exprs zero)) FailsOperand n ts zero_tokens (zero_at zero) (λ m more le h. operand_off m more (sym (begins_same begins_expr ts more h) ∙ off)))
 
   from_refused : (c : Start) (t : Token) (ts : List Token) (r : Refusal) → start_of t.kind ≡ c → operand_from (expr_at n) (target_at n) c t ts ≡ Err r → operand_at (expr_at n) (target_at n) (t ∷ ts) ≡ Err r → Refused (Can (Exprs zero)) FailsOperand n (t ∷ ts) r
-  from_refused (by.Number v) t ts r s e w = absurd (ok_err e)
-  from_refused (by.Truth b) t ts r s e w = absurd (ok_err e)
-  from_refused by.ProgramIndex t ts r s e w = absurd (ok_err e)
-  from_refused by.ProgramCount t ts r s e w = absurd (ok_err e)
+  from_refused (by.Atom a) t ts r s e w = absurd (ok_err e)
   from_refused by.Word t ts r s e w =
       made_refused NamedForm (Exprs zero) (λ p. named p.0 p.1) [] FailsOperand n (t ∷ ts) r names_refused (made_err (λ p. named p.0 p.1) (NamedForm.read n (t ∷ ts)) r (sym (named_reads n (t ∷ ts)) ∙ e))
       (λ a p i. named_makes a p i)

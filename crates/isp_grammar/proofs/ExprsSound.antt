@@ -2,23 +2,26 @@
 use Rattle.std.proofs.Common.{◌≡◌, ℕ, zero, suc, ◌+◌, ◌-◌, ◌≤◌, ◌<◌, Bool, true, false, List, [], ◌∷◌, ◌++◌, drop, Option, Some, None, Ok, refl, sym, ap, subst, ◌∙◌, append_assoc, arith, inl, inr, ◌⊎◌}
 use Rattle.std.specs.Prelude.{nat_lt}
 use Rattle.std.proofs.lemmas.Bool.{cases_lt, ltb-false}
+use Rattle.isp_base.specs.declared.types.Span.{Span}
 use Rattle.isp_lex.specs.Tokens.{at, starts_with, is_mark}
 use Rattle.isp_lex.specs.declared.token.Mark.TheVariants as mark
 use Rattle.isp_lex.specs.declared.token.TokenKind.TheVariants as kind
 use Rattle.isp_lex.specs.declared.token.Token.{Token}
-use Rattle.isp_grammar.proofs.Basics.{ok_is, err_ok, bind_ok, chosen, starts_cons}
+use Rattle.isp_grammar.proofs.Basics.{token, ok_is, err_ok, bind_ok, chosen, starts_cons}
 use Rattle.isp_grammar.proofs.Choices.{either_sound, limit_reads_none}
 use Rattle.isp_grammar.proofs.Forms.{Found, IsSound, One, one_sound, Named, named_sound, Free, both_sound, Behind, made_sound, optional_sound, series_sound}
-use Rattle.isp_grammar.proofs.Exprs.{Ends, Exprs, started, with_kind, operator_is, over_none, no_name_ends, name_ends, Bracketed, Index, Placed, Target, placed_makes, place_depth, place_ends, place_reads, place_then, bracket_then, ArgumentForm, Referring, Passed, ArgumentForms, Called, argument_reads, passed_makes, passed_depth, passed_ends, referring_then, called_then, Suffixes, NamedForm, name_then, named_reads, suffix_sound, named_makes, named_depth, named_ends, Closed, Typed, Bracket, bracket_reads, bracket_makes, bracket_depth, bracket_ends, closed_then, cast_then, typed_then, Parts, colon_then, parts_then, parts_read, choice_makes}
-use Rattle.isp_grammar.proofs.ExprSteps.{at_level, at_choice}
+use Rattle.isp_grammar.proofs.Exprs.{Ends, Exprs, kind_of, started, with_kind, operator_is, over_none, atom_ends, name_ends, Bracketed, Index, Placed, Target, placed_makes, place_depth, place_ends, place_reads, place_then, bracket_then, ArgumentForm, Referring, Passed, ArgumentForms, Called, argument_reads, passed_makes, passed_depth, passed_ends, referring_then, called_then, Suffixes, NamedForm, name_then, named_reads, suffix_sound, named_makes, named_depth, named_ends, Closed, Typed, Bracket, bracket_reads, bracket_makes, bracket_depth, bracket_ends, closed_then, cast_then, typed_then, Parts, colon_then, parts_then, parts_read, choice_makes}
+use Rattle.isp_grammar.proofs.ExprSteps.{atom_depth, at_level, at_choice}
 use Rattle.isp_grammar.proofs.TypesRead.{Types, types_sound}
 use Rattle.isp_tree.specs.Depth.{depth}
 use Rattle.isp_grammar.specs.Grammar.{IsExpr, is_number, is_truth, is_program_index, is_program_count, is_prefix, is_tighter, is_binary}
 use Rattle.isp_grammar.specs.reader.Readers.{Reader, ◌>>=◌, refuse, is_word}
 use Rattle.isp_grammar.specs.reader.Types.{begins_type}
-use Rattle.isp_grammar.specs.reader.Exprs.{start_of, begins_expr, operator_at, place_by, argument_by, named, named_at, bracket_of, bracket_at, prefix_of, operand_from, operand_at, joined, step_at, more_at, binary_at, choice_of, parts_at, choice_from, choice_at, expr_at, target_at}
-use Rattle.isp_grammar.specs.Signs.{numeral, truth_mark, prefix_mark, sign, joined_level, loosest}
-use Rattle.isp_tree.specs.Tree.{Expr, number, truth, program_index, program_count}
+use Rattle.isp_grammar.specs.reader.Exprs.{start_of, atom_of, begins_expr, operator_at, place_by, argument_by, named, named_at, bracket_of, bracket_at, prefix_of, operand_from, operand_at, joined, step_at, more_at, binary_at, choice_of, parts_at, choice_from, choice_at, expr_at, target_at}
+use Rattle.isp_grammar.specs.Signs.{prefix_mark, sign, joined_level, loosest}
+use Rattle.isp_tree.specs.Tree.{Expr}
+use Rattle.isp_grammar.specs.declared.expr.Atom.{Atom}
+use Rattle.isp_grammar.specs.declared.expr.Atom.TheVariants as atom
 use Rattle.isp_grammar.specs.declared.expr.Start.{Start}
 use Rattle.isp_grammar.specs.declared.expr.Start.TheVariants as by
 use Rattle.isp_grammar.specs.declared.stop.Why.TheVariants.{TooDeep}
@@ -34,6 +37,12 @@ alone n t u ts x y rest s i le h e =
       shallow = le;
       ends = h;
     })
+
+is_atom : (a : Atom) (s : Span) → IsExpr zero (token (kind_of a) s ∷ []) (atom_of a s)
+is_atom (atom.Number v) s = is_number v s
+is_atom (atom.Truth b) s = is_truth b s
+is_atom atom.ProgramIndex s = is_program_index s
+is_atom atom.ProgramCount s = is_program_count s
 
 module _ (n : ℕ) (ih : (k : ℕ) → IsSound (Exprs k) n) (target : IsSound Target n) where
   bracketed_sound : IsSound Bracketed n
@@ -66,14 +75,8 @@ module _ (n : ℕ) (ih : (k : ℕ) → IsSound (Exprs k) n) (target : IsSound Ta
       (both_sound (Exprs loosest) (One mark.ParenClose) Free closed_then n (ih loosest) (one_sound mark.ParenClose n))
 
   from_sound : (c : Start) (t : Token) (ts : List Token) (x : Expr) (rest : List Token) → start_of t.kind ≡ c → operand_from (expr_at n) (target_at n) c t ts ≡ Ok (x, rest) → Found (Exprs zero) (suc n) (t ∷ ts) x rest
-  from_sound (by.Number v) t ts x rest s e =
-      alone n t (numeral v t.span) ts (number v t.span) x rest (with_kind t (kind.Number v) (started t (by.Number v) s)) (is_number v t.span) (omega arith) (no_name_ends (number v t.span) ts refl) (ok_is e)
-  from_sound (by.Truth b) t ts x rest s e =
-      alone n t (at (truth_mark b) t.span) ts (truth b t.span) x rest (with_kind t (kind.Mark (truth_mark b)) (started t (by.Truth b) s)) (is_truth b t.span) (omega arith) (no_name_ends (truth b t.span) ts refl) (ok_is e)
-  from_sound by.ProgramIndex t ts x rest s e =
-      alone n t (at mark.ProgramIndex t.span) ts (program_index t.span) x rest (with_kind t (kind.Mark mark.ProgramIndex) (started t by.ProgramIndex s)) (is_program_index t.span) (omega arith) (no_name_ends (program_index t.span) ts refl) (ok_is e)
-  from_sound by.ProgramCount t ts x rest s e =
-      alone n t (at mark.ProgramCount t.span) ts (program_count t.span) x rest (with_kind t (kind.Mark mark.ProgramCount) (started t by.ProgramCount s)) (is_program_count t.span) (omega arith) (no_name_ends (program_count t.span) ts refl) (ok_is e)
+  from_sound (by.Atom a) t ts x rest s e =
+      alone n t (token (kind_of a) t.span) ts (atom_of a t.span) x rest (with_kind t (kind_of a) (started t (by.Atom a) s)) (is_atom a t.span) (omega (arith, atom_depth a t.span)) (atom_ends a t.span ts) (ok_is e)
   from_sound by.Word t ts x rest s e =
       made_sound NamedForm (Exprs zero) (λ p. named p.0 p.1) [] n (suc n) (named_at (expr_at n loosest) (target_at n)) (t ∷ ts) (named_reads n (t ∷ ts)) names_sound
       (λ a p i. named_makes a p i) (λ p le. named_depth p.0 p.1 n (omega arith)) (λ p rest h. named_ends p.0 p.1 rest h) x rest e

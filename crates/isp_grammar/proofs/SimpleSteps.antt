@@ -150,3 +150,9 @@ pub height_made : {T S : Type 0} (view : T → S) (deep : S → ℕ) (result : R
     → IfOk result (λ r. view r.0.value ≡ v) → IfOk result (λ r. r.1 ≡ h) → IfOk result (λ r. r.1 ≡ deep (view r.0.value))
 height_made view deep (Ok r) v h d a b = rw (a, b) (sym d)
 height_made view deep (Err e) v h d a b = tt
+
+-- the same, behind what was read before
+pub rest_made : {X : Type 0} (result : Result (X × ℕ × Bor (List Token)) Stop) (rest tokens : List Token) → length rest < length tokens
+    → IfOk result (λ r. r.2.now ≡ rest) → IfOk result (λ r. length r.2.now < length tokens)
+rest_made (Ok r) rest tokens lt h = rw h lt
+rest_made (Err e) rest tokens lt h = tt

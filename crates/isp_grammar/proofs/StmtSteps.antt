@@ -1,7 +1,7 @@
 -- Steps of reading statements, for the code.
 use Rattle.std.proofs.Common.{◌≡◌, ℕ, zero, suc, ◌-◌, ◌<◌, List, [], ◌∷◌, length, Result, Ok, Err, refl, arith}
 use Rattle.isp_base.specs.declared.types.Span.{Span}
-use Rattle.isp_lex.specs.Tokens.{is_mark}
+use Rattle.isp_lex.specs.Tokens.{is_mark, starts_with}
 use Rattle.isp_lex.specs.declared.token.Mark.TheVariants as mark
 use Rattle.isp_lex.specs.declared.token.Token.{Token}
 use Rattle.isp_grammar.proofs.ListForms.{limit_is}
@@ -29,9 +29,10 @@ unfolding stmt_at stmt_by
 stmt_step zero t ts h = absurd (omega arith)
 stmt_step (suc n) t ts h = let e : suc n - 1 ≡ n = omega arith in rw e refl
 
-pub block_at_limit : (ts : List Token) → block_at zero ts ≡ Err (refusal_at_limit (begins_with (is_mark mark.BraceOpen) ts) ts)
+pub block_at_limit : (ts : List Token) → block_at zero ts ≡ Err (refusal_at_limit (starts_with mark.BraceOpen ts) ts)
 unfolding block_at
-block_at_limit ts = limit_is (is_mark mark.BraceOpen) ts
+block_at_limit [] = limit_is (is_mark mark.BraceOpen) []
+block_at_limit (t ∷ ts) = limit_is (is_mark mark.BraceOpen) (t ∷ ts)
 
 pub block_step : (n : ℕ) (ts : List Token) → 0 < n → block_at n ts ≡ braced_at (stmt_at (n - 1)) ts
 unfolding block_at

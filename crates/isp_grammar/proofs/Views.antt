@@ -1,7 +1,6 @@
 -- Nodes of the code seen as trees, one line a kind of node.
-use Rattle.std.proofs.Common.{◌≡◌, Bool, sym, ap, ◌∙◌, Box, Global}
+use Rattle.std.proofs.Common.{◌≡◌, sym, ap, ◌∙◌, Box, Global}
 use Rattle.isp_base.specs.declared.types.Span.{Span}
-use Rattle.isp_base.specs.declared.types.Value.{Value}
 use Rattle.isp_tree.specs.declared.expr.Argument.TheFolds.{fold-roll-Argument, fold-roll-Expr, fold-roll-Place}
 use Rattle.isp_tree.specs.declared.expr.Argument.TheVariants as argument_variant
 use Rattle.isp_tree.specs.declared.expr.Expr as rust
@@ -11,20 +10,8 @@ use Rattle.isp_tree.specs.declared.expr.Place.TheVariants as place_variant
 use Rattle.isp_tree.specs.declared.expr.Prefix.{Prefix}
 use Rattle.isp_tree.specs.declared.types.TypeWords as rust_type
 use Rattle.isp_tree.specs.declared.types.Word.{Word}
-use Rattle.isp_tree.specs.Tree.{Expr, number, truth, program_index, program_count, brackets, cast, prefix, Place, variable, element, Argument, by_value, by_reference}
+use Rattle.isp_tree.specs.Tree.{Expr, brackets, cast, prefix, Place, variable, element, Argument, by_value, by_reference}
 use Rattle.isp_tree.specs.Views.{type_of, argument_step, expr_step, place_step, expr_of, place_of, argument_of}
-
-pub number_view : (v : Value) (s : Span) → expr_of (variant.Number v s) ≡ number v s
-number_view v s = ap expr_of (sym (variant.rolls-Number v s)) ∙ fold-roll-Expr Argument Expr Place argument_step expr_step place_step _
-
-pub truth_view : (b : Bool) (s : Span) → expr_of (variant.Truth b s) ≡ truth b s
-truth_view b s = ap expr_of (sym (variant.rolls-Truth b s)) ∙ fold-roll-Expr Argument Expr Place argument_step expr_step place_step _
-
-pub index_view : (s : Span) → expr_of (variant.ProgramIndex s) ≡ program_index s
-index_view s = ap expr_of (sym (variant.rolls-ProgramIndex s)) ∙ fold-roll-Expr Argument Expr Place argument_step expr_step place_step _
-
-pub count_view : (s : Span) → expr_of (variant.ProgramCount s) ≡ program_count s
-count_view s = ap expr_of (sym (variant.rolls-ProgramCount s)) ∙ fold-roll-Expr Argument Expr Place argument_step expr_step place_step _
 
 pub brackets_view : (x : Box rust.Expr Global) (s : Span) → expr_of (variant.Brackets x s) ≡ brackets (expr_of x.value) s
 brackets_view x s = ap expr_of (sym (variant.rolls-Brackets x s)) ∙ fold-roll-Expr Argument Expr Place argument_step expr_step place_step _

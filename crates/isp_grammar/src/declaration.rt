@@ -2,7 +2,7 @@
 ghost use Rattle.std.specs.Prelude.{◌≡◌, ◌≤◌, ◌<◌, ◌+◌, IfOk, Some, length, map};
 ghost use Rattle.isp_grammar.specs.Grammar.{span_of_last};
 ghost use Rattle.isp_tree.specs.Views.{item_of, declaration_of};
-ghost use Rattle.isp_grammar.specs.reader.Readers.{Gives};
+ghost use Rattle.isp_grammar.specs.reader.Readers.{Gives, mark_at, both};
 ghost use Rattle.isp_grammar.specs.reader.Choices.{begins_with};
 ghost use Rattle.isp_grammar.specs.reader.Stmts.{is_item_sign, item_tail_of, size_at, item_tail_at, item_from, item_at, items_at, declaration_at};
 
@@ -59,6 +59,17 @@ fn size(tokens: &[Token]) -> Result<(Size, &[Token]), Stop>
     }
 }
 
+/// A size in brackets, and where the brackets stand.
+fn size_in_brackets(tokens: &[Token]) -> Result<((Span, (Size, Span)), &[Token]), Stop>
+    ensures value { Gives (λ r. (r.0, r.1.now)) result (both (mark_at Mark.BracketOpen) (both size_at (mark_at Mark.BracketClose)) tokens.now) }
+    ensures rest { IfOk result (λ r. length r.1.now < length tokens.now) }
+{
+    let (open, rest) = mark(Mark::BracketOpen, tokens)?;
+    let (size, rest) = size(rest)?;
+    let (close, rest) = mark(Mark::BracketClose, rest)?;
+    Ok(((open, (size, close)), rest))
+}
+
 /// A value behind `=`, or a size in brackets.
 fn item_tail(alloc: Global, left: usize, tokens: &[Token]) -> Result<(ItemTail, &[Token]), Stop>
     requires { left ≤ 128 }
@@ -69,9 +80,7 @@ fn item_tail(alloc: Global, left: usize, tokens: &[Token]) -> Result<(ItemTail, 
         let (value, _height, rest) = expr(alloc, left, tail(tokens))?;
         return Ok((ItemTail::Value(first_span(tokens), value), rest));
     }
-    let (open, rest) = mark(Mark::BracketOpen, tokens)?;
-    let (size, rest) = size(rest)?;
-    let (close, rest) = mark(Mark::BracketClose, rest)?;
+    let ((open, (size, close)), rest) = size_in_brackets(tokens)?;
     Ok((ItemTail::Size(open, size, close), rest))
 }
 

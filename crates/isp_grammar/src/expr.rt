@@ -6,7 +6,7 @@ ghost use Rattle.isp_tree.specs.Views.{expr_of, place_of, argument_of, arguments
 ghost use Rattle.isp_tree.specs.Depth.{depth, depth_of_place, depth_of_argument, depth_of_all};
 ghost use Rattle.isp_grammar.specs.reader.Readers.{Gives, is_word, listed_at};
 ghost use Rattle.isp_grammar.specs.reader.Choices.{begins_with};
-ghost use Rattle.isp_grammar.specs.reader.Exprs.{start_of, begins_expr, operator_of, operator_at, bracketed_at, argument_at, arguments_at, suffix_of, depth_of_suffix, suffix_at, named, named_at, cast_at, closed_at, prefixed_at, operand_from, joined, parts_of, parts_at, choice_of, expr_at, target_at};
+ghost use Rattle.isp_grammar.specs.reader.Exprs.{start_of, start_of_mark, atom_of, begins_expr, operator_of, operator_at, bracketed_at, argument_at, arguments_at, suffix_of, depth_of_suffix, suffix_at, named, named_at, cast_at, closed_at, prefixed_at, operand_from, joined, parts_of, parts_at, choice_of, expr_at, target_at};
 
 use crate::reading::{
     closed_by, larger, mark, refuse, refuse_at_limit, starts_with, tail, with_item, word,
@@ -21,13 +21,19 @@ use std::alloc::Global;
 /// The level of the operators that bind loosest.
 const JOINED: usize = 10;
 
-/// What a token begins, as an operand.
+/// An operand of one token.
 #[derive(Clone, Copy)]
-pub enum Start {
+pub enum Atom {
     Number(Value),
     Truth(bool),
     ProgramIndex,
     ProgramCount,
+}
+
+/// What a token begins, as an operand.
+#[derive(Clone, Copy)]
+pub enum Start {
+    Atom(Atom),
     Word,
     Bracket,
     Prefix(Prefix),
@@ -38,16 +44,25 @@ fn start_of(kind: &TokenKind) -> Start
     ensures { result ≡ start_of kind.now }
 {
     match kind {
-        TokenKind::Number(value) => Start::Number(*value),
+        TokenKind::Number(value) => Start::Atom(Atom::Number(*value)),
         TokenKind::Word(_) => Start::Word,
-        TokenKind::Mark(Mark::True) => Start::Truth(true),
-        TokenKind::Mark(Mark::False) => Start::Truth(false),
-        TokenKind::Mark(Mark::ProgramIndex) => Start::ProgramIndex,
-        TokenKind::Mark(Mark::ProgramCount) => Start::ProgramCount,
-        TokenKind::Mark(Mark::ParenOpen) => Start::Bracket,
-        TokenKind::Mark(Mark::Minus) => Start::Prefix(Prefix::Negative),
-        TokenKind::Mark(Mark::Inverse) => Start::Prefix(Prefix::Inverse),
-        TokenKind::Mark(Mark::Not) => Start::Prefix(Prefix::Not),
+        TokenKind::Mark(mark) => start_of_mark(*mark),
+        TokenKind::Text(_) | TokenKind::LeftOut => Start::Nothing,
+    }
+}
+
+fn start_of_mark(mark: Mark) -> Start
+    ensures { result ≡ start_of_mark mark }
+{
+    match mark {
+        Mark::True => Start::Atom(Atom::Truth(true)),
+        Mark::False => Start::Atom(Atom::Truth(false)),
+        Mark::ProgramIndex => Start::Atom(Atom::ProgramIndex),
+        Mark::ProgramCount => Start::Atom(Atom::ProgramCount),
+        Mark::ParenOpen => Start::Bracket,
+        Mark::Minus => Start::Prefix(Prefix::Negative),
+        Mark::Inverse => Start::Prefix(Prefix::Inverse),
+        Mark::Not => Start::Prefix(Prefix::Not),
         _ => Start::Nothing,
     }
 }
@@ -134,24 +149,29 @@ fn names(tokens: &[Token]) -> bool
     }
 }
 
+/// An operand of one token, and where it stands.
+fn atom_of(atom: Atom, span: Span) -> Expr
+    ensures { expr_of result ≡ atom_of atom span }
+{
+    match atom {
+        Atom::Number(value) => Expr::Number { value, span },
+        Atom::Truth(value) => Expr::Truth { value, span },
+        Atom::ProgramIndex => Expr::ProgramIndex { span },
+        Atom::ProgramCount => Expr::ProgramCount { span },
+    }
+}
+
 /// Two operands and the operator between them.
-fn join(
-    alloc: Global,
-    left: Box<Expr>,
-    operator: Operator,
-    right: Box<Expr>,
-) -> Result<Box<Expr>, Stop>
-    ensures value { IfOk result (λ z. expr_of z.value ≡ joined (expr_of left.value) operator (expr_of right.value)) }
-    ensures memory { IfErr result (λ e. e ≡ Stop.Memory) }
+fn join(left: Box<Expr>, operator: Operator, right: Box<Expr>) -> Expr
+    ensures { expr_of result ≡ joined (expr_of left.value) operator (expr_of right.value) }
 {
     let span = left.span().to(right.span());
-    let joined = Expr::Binary {
+    Expr::Binary {
         operator,
         left,
         right,
         span,
-    };
-    Ok(Box::new(alloc, joined)?)
+    }
 }
 
 /// An expression put in a box, its depth, and the tokens after it: what was read is given on by one call.
@@ -172,18 +192,16 @@ pub struct Branches {
     pub otherwise: Box<Expr>,
 }
 
-fn choose(alloc: Global, test: Box<Expr>, parts: Branches) -> Result<Box<Expr>, Stop>
-    ensures value { IfOk result (λ z. expr_of z.value ≡ choice_of (expr_of test.value) (parts_of parts)) }
-    ensures memory { IfErr result (λ e. e ≡ Stop.Memory) }
+fn choose(test: Box<Expr>, parts: Branches) -> Expr
+    ensures { expr_of result ≡ choice_of (expr_of test.value) (parts_of parts) }
 {
     let span = test.span().to(parts.otherwise.span());
-    let choice = Expr::Choose {
+    Expr::Choose {
         test,
         then: parts.then,
         otherwise: parts.otherwise,
         span,
-    };
-    Ok(Box::new(alloc, choice)?)
+    }
 }
 
 /// An expression in a box, its depth, and the tokens after it.
@@ -286,6 +304,24 @@ fn arguments(
     }
 }
 
+/// Arguments with their closing bracket, the depth of the deepest, and the tokens after them.
+type Called<'a> = ((Vec<Argument>, Span), usize, &'a [Token]);
+
+/// What is behind the bracket of a call.
+#[cycle(expr)]
+#[tactic(auto, unfolding(crate::specs::reader::Exprs::arguments_at))]
+fn called(alloc: Global, left: usize, tokens: &[Token]) -> Result<Called<'_>, Stop>
+    requires { left ≤ 128 }
+    ensures value { Gives (λ r. ((arguments_of r.0.0.items, r.0.1), r.2.now)) result (arguments_at (expr_at left loosest) (target_at left) tokens.now) }
+    ensures height { IfOk result (λ r. r.1 ≡ depth_of_all (arguments_of r.0.0.items)) }
+    ensures rest { IfOk result (λ r. length r.2.now < length tokens.now) }
+    ensures bounded { IfOk result (λ r. r.1 ≤ left) }
+{
+    let (inside, height, rest) = arguments(alloc, left, tokens)?;
+    let ((all, close), rest) = closed_by(Mark::ParenClose, inside, rest)?;
+    Ok(((all, close), height, rest))
+}
+
 /// What stands behind a name in an expression.
 #[derive(Drop)]
 pub enum Behind {
@@ -298,7 +334,7 @@ pub enum Behind {
 
 /// An index or arguments, if they stand here.
 #[cycle(expr)]
-#[tactic(auto, unfolding(crate::specs::reader::Exprs::suffix_at, crate::specs::reader::Exprs::arguments_at))]
+#[tactic(auto, unfolding(crate::specs::reader::Exprs::suffix_at))]
 fn suffix(alloc: Global, left: usize, tokens: &[Token]) -> Result<(Behind, usize, &[Token]), Stop>
     requires { left ≤ 128 }
     ensures value { Gives (λ r. (suffix_of r.0, r.2.now)) result (suffix_at (bracketed_at (expr_at left loosest)) (arguments_at (expr_at left loosest) (target_at left)) tokens.now) }
@@ -311,8 +347,7 @@ fn suffix(alloc: Global, left: usize, tokens: &[Token]) -> Result<(Behind, usize
         return Ok((Behind::Index(value, close), height, rest));
     }
     if starts_with(Mark::ParenOpen, tokens) {
-        let (inside, height, rest) = arguments(alloc, left, tail(tokens))?;
-        let ((all, close), rest) = closed_by(Mark::ParenClose, inside, rest)?;
+        let ((all, close), height, rest) = called(alloc, left, tail(tokens))?;
         return Ok((Behind::Arguments(all, close), height, rest));
     }
     Ok((Behind::Nothing, 0, tokens))
@@ -435,10 +470,7 @@ fn unary_from<'a>(
 {
     let span = first.span;
     match start_of(&first.kind) {
-        Start::Number(value) => made(alloc, Expr::Number { value, span }, 1, rest),
-        Start::Truth(value) => made(alloc, Expr::Truth { value, span }, 1, rest),
-        Start::ProgramIndex => made(alloc, Expr::ProgramIndex { span }, 1, rest),
-        Start::ProgramCount => made(alloc, Expr::ProgramCount { span }, 1, rest),
+        Start::Atom(atom) => made(alloc, atom_of(atom, span), 1, rest),
         Start::Word => named(alloc, inner, tokens),
         Start::Bracket if begins_type(rest) => cast(alloc, inner, span, rest),
         Start::Bracket => closed(alloc, inner, span, rest),
@@ -487,9 +519,8 @@ fn binary(alloc: Global, looseness: usize, left: usize, tokens: &[Token]) -> Res
             return Err(refuse(Why::TooDeep, rest));
         }
         let (right, right_height, after) = binary(alloc, looseness - 1, left - 1, tail(rest))?;
-        found = join(alloc, found, op, right)?;
-        height = larger(height, right_height) + 1;
-        rest = after;
+        let deeper = larger(height, right_height) + 1;
+        (found, height, rest) = made(alloc, join(found, op, right), deeper, after)?;
     }
     Ok((found, height, rest))
 }
@@ -532,6 +563,6 @@ pub fn expr(alloc: Global, left: usize, tokens: &[Token]) -> Result<Found<'_>, S
         return Err(refuse(Why::TooDeep, rest));
     }
     let (parts, parts_height, rest) = parts(alloc, left - 1, tail(rest))?;
-    let found = choose(alloc, test, parts)?;
-    Ok((found, larger(height, parts_height) + 1, rest))
+    let height = larger(height, parts_height) + 1;
+    made(alloc, choose(test, parts), height, rest)
 }

@@ -129,13 +129,18 @@ fn params(alloc: Global, tokens: &[Token]) -> Result<(Vec<Param>, &[Token]), Sto
     param_list(alloc, tokens)
 }
 
-/// The parameters, and the closing bracket behind them.
-fn closed_params(alloc: Global, tokens: &[Token]) -> Result<((Vec<Param>, Span), &[Token]), Stop>
-    ensures value { Gives (λ r. ((map param_of r.0.0.items, r.0.1), r.1.now)) result (both params_at (mark_at Mark.ParenClose) tokens.now) }
+/// The parameters in brackets, and where the brackets stand.
+fn closed_params(
+    alloc: Global,
+    tokens: &[Token],
+) -> Result<((Span, (Vec<Param>, Span)), &[Token]), Stop>
+    ensures value { Gives (λ r. ((r.0.0, (map param_of r.0.1.0.items, r.0.1.1)), r.1.now)) result (both (mark_at Mark.ParenOpen) (both params_at (mark_at Mark.ParenClose)) tokens.now) }
     ensures rest { IfOk result (λ r. length r.1.now < length tokens.now) }
 {
-    let (params, rest) = params(alloc, tokens)?;
-    closed_by(Mark::ParenClose, params, rest)
+    let (open, rest) = mark(Mark::ParenOpen, tokens)?;
+    let (params, rest) = params(alloc, rest)?;
+    let ((params, close), rest) = closed_by(Mark::ParenClose, params, rest)?;
+    Ok(((open, (params, close)), rest))
 }
 
 /// A function up to its body: its words, its type, its name and its parameters.
@@ -155,8 +160,7 @@ fn signature(alloc: Global, tokens: &[Token]) -> Result<(Box<Heading>, &[Token])
     let (linkages, rest) = linkages(alloc, tokens)?;
     let (result, rest) = type_words(alloc, rest)?;
     let (word, rest) = word(rest)?;
-    let (_open, rest) = mark(Mark::ParenOpen, rest)?;
-    let ((params, _close), rest) = closed_params(alloc, rest)?;
+    let ((_open, (params, _close)), rest) = closed_params(alloc, rest)?;
     let heading = Heading {
         linkages,
         result,

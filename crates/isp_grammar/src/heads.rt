@@ -5,7 +5,7 @@ ghost use Rattle.isp_grammar.specs.reader.Readers.{Gives};
 ghost use Rattle.isp_grammar.specs.reader.Stmts.{heading_of, heading_at};
 
 use crate::parts::{ForHead, maybe_expr, maybe_first, maybe_step, ranges, test};
-use crate::reading::{mark, up_to, word};
+use crate::reading::{closed_by, in_box, mark, word};
 use crate::stop::Stop;
 use isp_lex::{Mark, Token};
 use isp_tree::{Expr, Form, Range, Tiling, Word};
@@ -29,21 +29,6 @@ pub enum LoopHead {
     ForeachActive(Word),
 }
 
-/// The test of a `while` in brackets.
-fn while_head(
-    alloc: Global,
-    left: usize,
-    form: Form,
-    tokens: &[Token],
-) -> Result<(LoopHead, &[Token]), Stop>
-    requires { left ≤ 128 }
-    ensures value { Gives (λ r. (heading_of r.0, r.1.now)) result (heading_at left (loops.While form) tokens.now) }
-    ensures rest { IfOk result (λ r. length r.1.now < length tokens.now) }
-{
-    let (test, rest) = test(alloc, left, tokens)?;
-    Ok((LoopHead::While(form, test), rest))
-}
-
 /// The first part, the test and the step of a `for` in brackets.
 #[tactic(auto, unfolding(crate::specs::reader::Stmts::head_at))]
 fn for_head(
@@ -51,16 +36,17 @@ fn for_head(
     left: usize,
     form: Form,
     tokens: &[Token],
-) -> Result<(LoopHead, &[Token]), Stop>
+) -> Result<(Box<LoopHead>, &[Token]), Stop>
     requires { left ≤ 128 }
-    ensures value { Gives (λ r. (heading_of r.0, r.1.now)) result (heading_at left (loops.For form) tokens.now) }
+    ensures value { Gives (λ r. (heading_of r.0.value, r.1.now)) result (heading_at left (loops.For form) tokens.now) }
     ensures rest { IfOk result (λ r. length r.1.now < length tokens.now) }
 {
     let (_open, rest) = mark(Mark::ParenOpen, tokens)?;
     let ((first, _semicolon), rest) = maybe_first(alloc, left, rest)?;
     let ((test, _semicolon), rest) = maybe_expr(alloc, left, rest)?;
     let ((step, _close), rest) = maybe_step(alloc, left, rest)?;
-    Ok((LoopHead::For(form, ForHead { first, test, step }), rest))
+    let head = LoopHead::For(form, ForHead { first, test, step });
+    in_box(alloc, head, rest)
 }
 
 /// The ranges of a `foreach` in brackets.
@@ -70,25 +56,27 @@ fn foreach_head(
     left: usize,
     tiling: Tiling,
     tokens: &[Token],
-) -> Result<(LoopHead, &[Token]), Stop>
+) -> Result<(Box<LoopHead>, &[Token]), Stop>
     requires { left ≤ 128 }
-    ensures value { Gives (λ r. (heading_of r.0, r.1.now)) result (heading_at left (loops.Foreach tiling) tokens.now) }
+    ensures value { Gives (λ r. (heading_of r.0.value, r.1.now)) result (heading_at left (loops.Foreach tiling) tokens.now) }
     ensures rest { IfOk result (λ r. length r.1.now < length tokens.now) }
 {
     let (_open, rest) = mark(Mark::ParenOpen, tokens)?;
     let (ranges, rest) = ranges(alloc, left, rest)?;
-    up_to(Mark::ParenClose, LoopHead::Foreach(tiling, ranges), rest)
+    let ((ranges, _close), rest) = closed_by(Mark::ParenClose, ranges, rest)?;
+    in_box(alloc, LoopHead::Foreach(tiling, ranges), rest)
 }
 
 /// The name of a `foreach_active` in brackets.
 #[tactic(auto, unfolding(crate::specs::reader::Stmts::active_head_at))]
-fn active_head(tokens: &[Token]) -> Result<(LoopHead, &[Token]), Stop>
-    ensures value { Gives (λ r. (heading_of r.0, r.1.now)) result (heading_at 0 loops.ForeachActive tokens.now) }
+fn active_head(alloc: Global, tokens: &[Token]) -> Result<(Box<LoopHead>, &[Token]), Stop>
+    ensures value { Gives (λ r. (heading_of r.0.value, r.1.now)) result (heading_at 0 loops.ForeachActive tokens.now) }
     ensures rest { IfOk result (λ r. length r.1.now < length tokens.now) }
 {
     let (_open, rest) = mark(Mark::ParenOpen, tokens)?;
     let (word, rest) = word(rest)?;
-    up_to(Mark::ParenClose, LoopHead::ForeachActive(word), rest)
+    let ((word, _close), rest) = closed_by(Mark::ParenClose, word, rest)?;
+    in_box(alloc, LoopHead::ForeachActive(word), rest)
 }
 
 /// What stands before the body of this loop.
@@ -97,15 +85,18 @@ pub fn loop_head(
     left: usize,
     which: Loop,
     tokens: &[Token],
-) -> Result<(LoopHead, &[Token]), Stop>
+) -> Result<(Box<LoopHead>, &[Token]), Stop>
     requires { left ≤ 128 }
-    ensures value { Gives (λ r. (heading_of r.0, r.1.now)) result (heading_at left which tokens.now) }
+    ensures value { Gives (λ r. (heading_of r.0.value, r.1.now)) result (heading_at left which tokens.now) }
     ensures rest { IfOk result (λ r. length r.1.now < length tokens.now) }
 {
     match which {
-        Loop::While(form) => while_head(alloc, left, form, tokens),
+        Loop::While(form) => {
+            let (test, rest) = test(alloc, left, tokens)?;
+            in_box(alloc, LoopHead::While(form, test), rest)
+        }
         Loop::For(form) => for_head(alloc, left, form, tokens),
         Loop::Foreach(tiling) => foreach_head(alloc, left, tiling, tokens),
-        Loop::ForeachActive => active_head(tokens),
+        Loop::ForeachActive => active_head(alloc, tokens),
     }
 }

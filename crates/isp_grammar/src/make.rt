@@ -1,5 +1,4 @@
-//! Statements made of their parts, each from its first word to the end of its last part, and put in a box. The tokens after it
-//! are given on.
+//! Statements made of their parts, each from its first word to the end of its last part, and put in a box.
 ghost use Rattle.std.specs.Prelude.{◌≡◌, IfOk, IfErr, option_map};
 ghost use Rattle.isp_tree.specs.Tree.{loop_for};
 ghost use Rattle.isp_tree.specs.Views.{expr_of, stmt_of, block_of};
@@ -54,21 +53,17 @@ fn unboxed_step(step: Option<Box<Simple>>) -> Option<Simple>
     }
 }
 
-pub fn make_if(
-    alloc: Global,
+pub fn if_of(
     form: Form,
     keyword: Span,
     test: Box<Expr>,
     then: Box<Stmt>,
     other: Option<Box<Stmt>>,
-    rest: &[Token],
-) -> Result<Found<'_>, Stop>
-    ensures value { IfOk result (λ r. stmt_of r.0.value ≡ if_from form keyword (expr_of test.value) (stmt_of then.value) (option_map (λ b. stmt_of b.value) other)) }
-    ensures rest { IfOk result (λ r. r.1.now ≡ rest.now) }
-    ensures memory { IfErr result (λ e. e ≡ Stop.Memory) }
+) -> Stmt
+    ensures { stmt_of result ≡ if_from form keyword (expr_of test.value) (stmt_of then.value) (option_map (λ b. stmt_of b.value) other) }
 {
     let test = Box::into_inner(test);
-    let found = match other {
+    match other {
         None => {
             let span = keyword.to(then.span());
             Stmt::If {
@@ -88,33 +83,21 @@ pub fn make_if(
                 span,
             }
         }
-    };
-    boxed(alloc, found, rest)
+    }
 }
 
-pub fn make_do(
-    alloc: Global,
-    form: Form,
-    keyword: Span,
-    body: Box<Stmt>,
-    test: Box<Expr>,
-    end: Span,
-    rest: &[Token],
-) -> Result<Found<'_>, Stop>
-    ensures value { IfOk result (λ r. stmt_of r.0.value ≡ do_from form keyword (stmt_of body.value) (expr_of test.value) end) }
-    ensures rest { IfOk result (λ r. r.1.now ≡ rest.now) }
-    ensures memory { IfErr result (λ e. e ≡ Stop.Memory) }
+pub fn do_of(form: Form, keyword: Span, body: Box<Stmt>, test: Box<Expr>, end: Span) -> Stmt
+    ensures { stmt_of result ≡ do_from form keyword (stmt_of body.value) (expr_of test.value) end }
 {
-    let found = Stmt::Do {
+    Stmt::Do {
         form,
         body,
         test: Box::into_inner(test),
         span: keyword.to(end),
-    };
-    boxed(alloc, found, rest)
+    }
 }
 
-fn make_for(form: Form, head: ForHead, body: Box<Stmt>, span: Span) -> Stmt
+fn for_of(form: Form, head: ForHead, body: Box<Stmt>, span: Span) -> Stmt
     ensures { stmt_of result ≡ loop_for form (head_of head).first (head_of head).test (head_of head).step (stmt_of body.value) span }
 {
     Stmt::For {
@@ -128,25 +111,11 @@ fn make_for(form: Form, head: ForHead, body: Box<Stmt>, span: Span) -> Stmt
 }
 
 /// A loop of what stands before its body, and the body.
-pub fn make_loop(
-    alloc: Global,
-    keyword: Span,
-    head: LoopHead,
-    body: Box<Stmt>,
-    rest: &[Token],
-) -> Result<Found<'_>, Stop>
-    ensures value { IfOk result (λ r. stmt_of r.0.value ≡ looped keyword (heading_of head) (stmt_of body.value)) }
-    ensures rest { IfOk result (λ r. r.1.now ≡ rest.now) }
-    ensures memory { IfErr result (λ e. e ≡ Stop.Memory) }
-{
-    boxed(alloc, loop_of(keyword, head, body), rest)
-}
-
-fn loop_of(keyword: Span, head: LoopHead, body: Box<Stmt>) -> Stmt
-    ensures { stmt_of result ≡ looped keyword (heading_of head) (stmt_of body.value) }
+pub fn loop_of(keyword: Span, head: Box<LoopHead>, body: Box<Stmt>) -> Stmt
+    ensures { stmt_of result ≡ looped keyword (heading_of head.value) (stmt_of body.value) }
 {
     let span = keyword.to(body.span());
-    match head {
+    match Box::into_inner(head) {
         LoopHead::While(form, test) => {
             let test = Box::into_inner(test);
             Stmt::While {
@@ -156,7 +125,7 @@ fn loop_of(keyword: Span, head: LoopHead, body: Box<Stmt>) -> Stmt
                 span,
             }
         }
-        LoopHead::For(form, head) => make_for(form, head, body, span),
+        LoopHead::For(form, head) => for_of(form, head, body, span),
         LoopHead::Foreach(tiling, ranges) => Stmt::Foreach {
             tiling,
             keyword,
@@ -173,21 +142,13 @@ fn loop_of(keyword: Span, head: LoopHead, body: Box<Stmt>) -> Stmt
     }
 }
 
-pub fn make_unmasked(
-    alloc: Global,
-    keyword: Span,
-    body: Block,
-    rest: &[Token],
-) -> Result<Found<'_>, Stop>
-    ensures value { IfOk result (λ r. stmt_of r.0.value ≡ unmasked_from keyword (block_of body)) }
-    ensures rest { IfOk result (λ r. r.1.now ≡ rest.now) }
-    ensures memory { IfErr result (λ e. e ≡ Stop.Memory) }
+pub fn unmasked_of(keyword: Span, body: Block) -> Stmt
+    ensures { stmt_of result ≡ unmasked_from keyword (block_of body) }
 {
     let span = keyword.to(body.span);
-    let found = Stmt::Unmasked {
+    Stmt::Unmasked {
         keyword,
         body,
         span,
-    };
-    boxed(alloc, found, rest)
+    }
 }

@@ -281,7 +281,7 @@ pub fn text(tokens: &[Token]) -> Result<((Text, Span), &[Token]), Stop>
 }
 
 /// The values behind a text, each behind a comma, up to a closing bracket.
-pub fn values(alloc: Global, left: usize, tokens: &[Token]) -> Result<(Vec<Expr>, &[Token]), Stop>
+fn values(alloc: Global, left: usize, tokens: &[Token]) -> Result<(Vec<Expr>, &[Token]), Stop>
     requires { left ≤ 128 }
     ensures value { Gives (λ r. (exprs_of r.0.items, r.1.now)) result (values_at left tokens.now) }
     ensures rest { IfOk result (λ r. length r.1.now ≤ length tokens.now) }
@@ -296,13 +296,20 @@ pub fn values(alloc: Global, left: usize, tokens: &[Token]) -> Result<(Vec<Expr>
     Ok((all, rest))
 }
 
-/// A closing bracket and a semicolon.
-pub fn closing(tokens: &[Token]) -> Result<((Span, Span), &[Token]), Stop>
-    ensures value { Gives (λ r. (r.0, r.1.now)) result (both (mark_at Mark.ParenClose) (mark_at Mark.Semicolon) tokens.now) }
+/// The values, and where the closing bracket and the semicolon behind them stand.
+pub fn closed_values(
+    alloc: Global,
+    left: usize,
+    tokens: &[Token],
+) -> Result<((Vec<Expr>, (Span, Span)), &[Token]), Stop>
+    requires { left ≤ 128 }
+    ensures value { Gives (λ r. ((exprs_of r.0.0.items, r.0.1), r.1.now)) result (both (values_at left) (both (mark_at Mark.ParenClose) (mark_at Mark.Semicolon)) tokens.now) }
     ensures rest { IfOk result (λ r. length r.1.now < length tokens.now) }
 {
-    let (close, rest) = mark(Mark::ParenClose, tokens)?;
-    closed_by(Mark::Semicolon, close, rest)
+    let (values, rest) = values(alloc, left, tokens)?;
+    let ((values, close), rest) = closed_by(Mark::ParenClose, values, rest)?;
+    let ((values, end), rest) = closed_by(Mark::Semicolon, values, rest)?;
+    Ok(((values, (close, end)), rest))
 }
 
 /// `while`, a test and a semicolon: the test, and where the semicolon stands.

@@ -1,7 +1,7 @@
 //! Single tokens.
 ghost use Rattle.std.specs.Prelude.{◌≡◌, ◌<◌, ◌∷◌, ◌++◌, [], IfOk, IfErr, length, drop, max};
 ghost use Rattle.isp_lex.specs.Tokens.{starts_with};
-ghost use Rattle.isp_grammar.specs.reader.Readers.{Gives, refusal, refusal_at_limit, behind_mark, mark_at, word_at};
+ghost use Rattle.isp_grammar.specs.reader.Readers.{Gives, refusal, refusal_at_limit, mark_at, word_at};
 
 use crate::stop::{Refusal, Stop, Why};
 use isp_base::Span;
@@ -58,16 +58,6 @@ pub fn mark(mark: Mark, tokens: &[Token]) -> Result<(Span, &[Token]), Stop>
         [first, rest @ ..] if first.kind.is(mark) => Ok((first.span, rest)),
         _ => Err(refuse(Why::Unexpected, tokens)),
     }
-}
-
-/// What was read, where this mark stands behind it, and the tokens after the mark.
-pub fn up_to<T: Drop>(sign: Mark, value: T, tokens: &[Token]) -> Result<(T, &[Token]), Stop>
-    ensures sign { Gives (λ r. r.1.now) result (behind_mark sign tokens.now) }
-    ensures value { IfOk result (λ r. r.0 ≡ value) }
-    ensures rest { IfOk result (λ r. length r.1.now < length tokens.now) }
-{
-    let (_span, rest) = mark(sign, tokens)?;
-    Ok((value, rest))
 }
 
 /// What was read, and where this mark stands behind it, and the tokens after the mark.

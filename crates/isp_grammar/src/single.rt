@@ -6,7 +6,7 @@ ghost use Rattle.isp_grammar.specs.reader.Stmts.{declare_at, simple_stmt_at, jum
 
 use crate::declaration::declaration;
 use crate::make::{Found, boxed, unboxed_expr};
-use crate::parts::{closed_test, closing, maybe_expr, text, values};
+use crate::parts::{closed_test, closed_values, maybe_expr, text};
 use crate::reading::mark;
 use crate::simple::simple;
 use crate::stop::Stop;
@@ -99,8 +99,7 @@ pub fn print_stmt(
 {
     let (_open, rest) = mark(Mark::ParenOpen, tokens)?;
     let ((text, text_span), rest) = text(rest)?;
-    let (values, rest) = values(alloc, inner, rest)?;
-    let ((_close, end), rest) = closing(rest)?;
+    let ((values, (_close, end)), rest) = closed_values(alloc, inner, rest)?;
     let found = Stmt::Print {
         keyword,
         text,

@@ -1,6 +1,5 @@
 //! Statements.
 ghost use Rattle.std.specs.Prelude.{◌≡◌, ◌≤◌, ◌<◌, ◌∷◌, IfOk, length, option_map};
-ghost use Rattle.isp_lex.specs.Tokens.{is_mark};
 ghost use Rattle.isp_tree.specs.Views.{stmt_of, block_of, stmts_of};
 ghost use Rattle.isp_grammar.specs.reader.Readers.{Gives, optional};
 ghost use Rattle.isp_grammar.specs.reader.Choices.{begins_with};
@@ -8,7 +7,7 @@ ghost use Rattle.isp_grammar.specs.reader.Starts.{start_of, begins_stmt};
 ghost use Rattle.isp_grammar.specs.reader.Stmts.{stmts_at, braced_at, block_at, block_stmt_at, if_at, do_at, loop_at, unmasked_at, stmt_from, stmt_at};
 
 use crate::heads::{Loop, loop_head};
-use crate::make::{Found, boxed, make_do, make_if, make_loop, make_unmasked};
+use crate::make::{Found, boxed, do_of, if_of, loop_of, unmasked_of};
 use crate::parts::{do_end, test};
 use crate::reading::{closed_by, mark, refuse, refuse_at_limit, starts_with, tail, with_boxed};
 use crate::single::{assert_stmt, declare_stmt, jump_stmt, print_stmt, return_stmt, simple_stmt};
@@ -29,16 +28,6 @@ fn begins_stmt(tokens: &[Token]) -> bool
             Start::Nothing => false,
             _ => true,
         },
-    }
-}
-
-/// Whether a block begins here.
-fn begins_block(tokens: &[Token]) -> bool
-    ensures { result ≡ begins_with (is_mark Mark.BraceOpen) tokens.now }
-{
-    match tokens {
-        [] => false,
-        [first, ..] => first.kind.is(Mark::BraceOpen),
     }
 }
 
@@ -82,7 +71,7 @@ pub fn block(alloc: Global, left: usize, tokens: &[Token]) -> Result<(Block, &[T
     ensures rest { IfOk result (λ r. length r.1.now < length tokens.now) }
 {
     if left == 0 {
-        return Err(refuse_at_limit(begins_block(tokens), tokens));
+        return Err(refuse_at_limit(starts_with(Mark::BraceOpen, tokens), tokens));
     }
     braced(alloc, left - 1, tokens)
 }
@@ -135,7 +124,7 @@ fn conditional(
     let (test, rest) = test(alloc, inner, tokens)?;
     let (then, rest) = stmt(alloc, inner, rest)?;
     let (other, rest) = else_branch(alloc, inner, rest)?;
-    make_if(alloc, form, keyword, test, then, other, rest)
+    boxed(alloc, if_of(form, keyword, test, then, other), rest)
 }
 
 /// What stands behind the first word of such a loop at this place.
@@ -154,7 +143,7 @@ fn loop_stmt(
 {
     let (head, rest) = loop_head(alloc, inner, which, tokens)?;
     let (body, rest) = stmt(alloc, inner, rest)?;
-    make_loop(alloc, keyword, head, body, rest)
+    boxed(alloc, loop_of(keyword, head, body), rest)
 }
 
 /// What stands behind `do` at this place.
@@ -173,7 +162,7 @@ fn do_loop(
 {
     let (body, rest) = stmt(alloc, inner, tokens)?;
     let ((test, end), rest) = do_end(alloc, inner, rest)?;
-    make_do(alloc, form, keyword, body, test, end, rest)
+    boxed(alloc, do_of(form, keyword, body, test, end), rest)
 }
 
 /// What stands behind `unmasked` at this place.
@@ -185,7 +174,7 @@ fn unmasked(alloc: Global, inner: usize, keyword: Span, tokens: &[Token]) -> Res
     ensures rest { IfOk result (λ r. length r.1.now < length tokens.now) }
 {
     let (body, rest) = block(alloc, inner, tokens)?;
-    make_unmasked(alloc, keyword, body, rest)
+    boxed(alloc, unmasked_of(keyword, body), rest)
 }
 
 /// A statement by its first token, its parts no deeper than `inner`.

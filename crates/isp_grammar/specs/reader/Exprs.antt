@@ -4,6 +4,7 @@ use mathlib.Core.Logic.{inl, inr}
 use Rattle.isp_base.specs.Types.{span_to}
 use Rattle.isp_base.specs.declared.types.Span.{Span}
 use Rattle.isp_lex.specs.Tokens.{is_mark, starts_with}
+use Rattle.isp_lex.specs.declared.token.Mark.{Mark}
 use Rattle.isp_lex.specs.declared.token.Mark.TheVariants as mark
 use Rattle.isp_lex.specs.declared.token.TokenKind.{TokenKind}
 use Rattle.isp_lex.specs.declared.token.TokenKind.TheVariants as kind
@@ -15,6 +16,8 @@ use Rattle.isp_grammar.specs.reader.Choices.{either_at}
 use Rattle.isp_grammar.specs.reader.Types.{begins_type, type_at}
 use Rattle.isp_grammar.specs.Signs.{level, joined_level, loosest}
 use Rattle.isp_tree.specs.Tree.{TypeTree, Expr, number, truth, program_index, program_count, place, call, brackets, cast, prefix, binary, choose, listed, span_of, Place, variable, element, span_of_place, Argument, by_value, by_reference}
+use Rattle.isp_grammar.specs.declared.expr.Atom.{Atom}
+use Rattle.isp_grammar.specs.declared.expr.Atom.TheVariants as atom
 use Rattle.isp_grammar.specs.declared.expr.Behind as rust_behind
 use Rattle.isp_grammar.specs.declared.expr.Behind.TheVariants as behind
 use Rattle.isp_grammar.specs.declared.expr.Branches as rust_branches
@@ -29,27 +32,27 @@ use Rattle.isp_tree.specs.declared.expr.Operator.TheVariants as operator
 
 -- ---- the first token
 
--- what a token begins, as an operand
+-- what a mark begins, as an operand
+abbrev pub start_of_mark : Mark → Start
+start_of_mark mark.True = by.Atom (atom.Truth true)
+start_of_mark mark.False = by.Atom (atom.Truth false)
+start_of_mark mark.ProgramIndex = by.Atom atom.ProgramIndex
+start_of_mark mark.ProgramCount = by.Atom atom.ProgramCount
+start_of_mark mark.ParenOpen = by.Bracket
+start_of_mark mark.Minus = by.Prefix Negative
+start_of_mark mark.Inverse = by.Prefix Inverse
+start_of_mark mark.Not = by.Prefix Not
+start_of_mark _ = by.Nothing
+
 abbrev pub start_of : TokenKind → Start
 start_of (kind.Word n) = by.Word
-start_of (kind.Number v) = by.Number v
+start_of (kind.Number v) = by.Atom (atom.Number v)
 start_of (kind.Text t) = by.Nothing
-start_of (kind.Mark mark.True) = by.Truth true
-start_of (kind.Mark mark.False) = by.Truth false
-start_of (kind.Mark mark.ProgramIndex) = by.ProgramIndex
-start_of (kind.Mark mark.ProgramCount) = by.ProgramCount
-start_of (kind.Mark mark.ParenOpen) = by.Bracket
-start_of (kind.Mark mark.Minus) = by.Prefix Negative
-start_of (kind.Mark mark.Inverse) = by.Prefix Inverse
-start_of (kind.Mark mark.Not) = by.Prefix Not
-start_of (kind.Mark _) = by.Nothing
+start_of (kind.Mark m) = start_of_mark m
 start_of kind.LeftOut = by.Nothing
 
 abbrev pub is_start : Start → Bool
-is_start (by.Number v) = true
-is_start (by.Truth b) = true
-is_start by.ProgramIndex = true
-is_start by.ProgramCount = true
+is_start (by.Atom a) = true
 is_start by.Word = true
 is_start by.Bracket = true
 is_start (by.Prefix p) = true
@@ -158,6 +161,12 @@ named_at expr target ts = both word_at (suffix_at (bracketed_at expr) (arguments
 
 -- ---- operands
 
+abbrev pub atom_of : Atom → Span → Expr
+atom_of (atom.Number v) s = number v s
+atom_of (atom.Truth b) s = truth b s
+atom_of atom.ProgramIndex s = program_index s
+atom_of atom.ProgramCount s = program_count s
+
 abbrev pub bracket_of : Span → (TypeTree × (Span × Expr)) ⊎ (Expr × Span) → Expr
 bracket_of o (inl c) = cast c.0 c.1.1 (span_to o (span_of c.1.1))
 bracket_of o (inr b) = brackets b.0 (span_to o b.1)
@@ -182,10 +191,7 @@ abbrev pub prefixed_at : (ℕ → Reader Expr) → Prefix → Span → Reader Ex
 prefixed_at inner p s ts = inner zero ts >>= λ x. Ok (prefix_of p s x.0, x.1)
 
 abbrev pub operand_from : (ℕ → Reader Expr) → Reader Place → Start → Token → List Token → Read Expr
-operand_from inner target (by.Number v) t ts = Ok (number v t.span, ts)
-operand_from inner target (by.Truth b) t ts = Ok (truth b t.span, ts)
-operand_from inner target by.ProgramIndex t ts = Ok (program_index t.span, ts)
-operand_from inner target by.ProgramCount t ts = Ok (program_count t.span, ts)
+operand_from inner target (by.Atom a) t ts = Ok (atom_of a t.span, ts)
 operand_from inner target by.Word t ts = named_at (inner loosest) target (t ∷ ts)
 operand_from inner target by.Bracket t ts = bracket_at inner t.span ts
 operand_from inner target (by.Prefix p) t ts = prefixed_at inner p t.span ts

@@ -57,10 +57,6 @@ unfoldable pub mark_at : Mark → Reader Span
 mark_at m [] = refuse Unexpected []
 mark_at m (t ∷ ts) = if is_mark m t.kind then Ok (t.span, ts) else refuse Unexpected (t ∷ ts)
 
--- the tokens behind a mark
-abbrev pub behind_mark : Mark → List Token → Result (List Token) Refusal
-behind_mark m ts = mark_at m ts >>= λ s. Ok s.1
-
 abbrev pub word_from : TokenKind → Token → List Token → Read Word
 word_from (kind.Word n) t ts = Ok (record { name = n; span = t.span }, ts)
 word_from (kind.Number v) t ts = refuse Unexpected (t ∷ ts)

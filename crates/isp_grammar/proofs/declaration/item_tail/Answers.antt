@@ -15,17 +15,7 @@ returns-then-starts_with-clause-value c = rw (tail_valued c.args.left c.args.tok
 pub returns-in_err-open-clause-value : goal.returns-in_err-open-clause-value
 returns-in_err-open-clause-value c =
     let p = err_from_is_err_and c.from_residual-in_err-open.result c.from_residual-in_err-open.ensures.1 in
-    rw (p.1, p.2, tail_sized c.args.left c.args.tokens.now (sym c.starts_with.ensures ∙ c.if-starts_with.false)) (fails_then c.in_err-open.field-0.0 _ _ (fails_then c.in_err-open.field-0.0 _ _ c.in_err-open.ensures.value))
-
-pub returns-in_err-size-clause-value : goal.returns-in_err-size-clause-value
-returns-in_err-size-clause-value c =
-    let p = err_from_is_err_and c.from_residual-in_err-size.result c.from_residual-in_err-size.ensures.1 in
-    rw (p.1, p.2, tail_sized c.args.left c.args.tokens.now (sym c.starts_with.ensures ∙ c.if-starts_with.false), c.in_ok-open.ensures.value) (fails_then c.in_err-size.field-0.0 _ _ (fails_then c.in_err-size.field-0.0 _ _ (fails_then c.in_err-size.field-0.0 _ _ c.in_err-size.ensures.value)))
-
-pub returns-in_err-close-clause-value : goal.returns-in_err-close-clause-value
-returns-in_err-close-clause-value c =
-    let p = err_from_is_err_and c.from_residual-in_err-close.result c.from_residual-in_err-close.ensures.1 in
-    rw (p.1, p.2, tail_sized c.args.left c.args.tokens.now (sym c.starts_with.ensures ∙ c.if-starts_with.false), c.in_ok-open.ensures.value, c.in_ok-size.ensures.value) (fails_then c.in_err-close.field-0.0 _ _ (fails_then c.in_err-close.field-0.0 _ _ (fails_then c.in_err-close.field-0.0 _ _ c.in_err-close.ensures.value)))
+    rw (p.1, p.2, tail_sized c.args.left c.args.tokens.now (sym c.starts_with.ensures ∙ c.if-starts_with.false)) (fails_then c.in_err-open.field-0.0 _ _ c.in_err-open.ensures.value)
 
 pub returns-clause-value : goal.returns-clause-value
-returns-clause-value c = rw (tail_sized c.args.left c.args.tokens.now (sym c.starts_with.ensures ∙ c.if-starts_with.false), c.in_ok-open.ensures.value, c.in_ok-size.ensures.value, c.in_ok-close.ensures.value) refl
+returns-clause-value c = rw (tail_sized c.args.left c.args.tokens.now (sym c.starts_with.ensures ∙ c.if-starts_with.false), c.in_ok-open.ensures.value) refl

@@ -12,9 +12,9 @@ use Rattle.isp_grammar.specs.reader.Exprs.{argument_at, joined, begins_expr, sta
 use Rattle.std.proofs.lemmas.Result.{err_from_is_err_and}
 use Rattle.isp_grammar.proofs.Basics.{head_none, head_some}
 use Rattle.isp_grammar.proofs.Loops.{list_fails, list_last, list_step, listed_none, listed_some}
-use Rattle.isp_grammar.proofs.SimpleSteps.{fails_then, made_gives, shorter_found, shorter_made, height_made, bounded_made}
-use Rattle.isp_grammar.proofs.ExprSteps.{depth_pos, arguments_past, depth_past, first_fails, loop_begins, loop_ends, loop_deep, loop_fails, loop_step, test_fails, test_alone, test_deep, parts_fail, parts_made, operand_step, target_step, target_at_limit, expr_off, expr_deep, bracket_typed, bracket_closed, argument_referred, argument_valued}
-use Rattle.isp_grammar.proofs.Views.{number_view, truth_view, index_view, count_view, brackets_view, cast_view, prefix_view, variable_view, element_view, value_view, reference_view}
+use Rattle.isp_grammar.proofs.SimpleSteps.{fails_then, made_gives, shorter_found, shorter_made, rest_made, height_made, bounded_made}
+use Rattle.isp_grammar.proofs.ExprSteps.{atom_depth, depth_named, depth_pos, arguments_past, depth_past, first_fails, loop_begins, loop_ends, loop_deep, loop_fails, loop_step, test_fails, test_alone, test_deep, parts_fail, parts_made, operand_step, target_step, target_at_limit, expr_off, expr_deep, bracket_typed, bracket_closed, argument_referred, argument_valued}
+use Rattle.isp_grammar.proofs.Views.{brackets_view, cast_view, prefix_view, variable_view, element_view, value_view, reference_view}
 use Rattle.isp_grammar.proofs.expr.+expr.Goals as goal
 
 -- ---- arguments
@@ -151,15 +151,16 @@ binary-returns-in_err-found-2 t c =
 pub binary-loop-op-preserved : goal.binary-loop-op-preserved
 binary-loop-op-preserved t c =
     let v = c.loop-op.invariant.value in
-    let e : expr_of c.in_ok-found-2.found.value ≡ joined (expr_of c.loop-op.found.value) c.in-Some.op (expr_of c.in_ok-right.right.value) = c.in_ok-found-2.ensures.value in
+    let m = c.in_ok-found-2.ensures in
+    let e : expr_of c.in_ok-found-2.field-0-0.value ≡ joined (expr_of c.loop-op.found.value) c.in-Some.op (expr_of c.in_ok-right.right.value) = m.value ∙ c.join.ensures in
     let w = subst (λ (l : List Token). expr_at (c.args.left - 1) (c.args.looseness - 1) l ≡ Ok (expr_of c.in_ok-right.right.value, c.in_ok-right.after.now)) c.tail.ensures c.in_ok-right.ensures.value in
     let s = loop_step c.args.left c.args.looseness v.0 (expr_of c.loop-op.found.value) c.loop-op.rest.now c.in-Some.op (expr_of c.in_ok-right.right.value) c.in_ok-right.after.now (expr_at c.args.left c.args.looseness c.args.tokens.now) (omega arith) (sym c.operator_at.ensures ∙ c.in-Some.is) (omega (arith, c.loop-op.invariant.height)) (omega (arith, c.loop-op.invariant.height, v.1)) w v.2 in
-    let h : c.larger-height.result + 1 ≡ depth (joined (expr_of c.loop-op.found.value) c.in-Some.op (expr_of c.in_ok-right.right.value)) = omega (arith, c.loop-op.invariant.height, c.in_ok-right.ensures.height, c.larger-height.ensures) in
+    let h : c.in_ok-found-2.field-0-1 ≡ depth (joined (expr_of c.loop-op.found.value) c.in-Some.op (expr_of c.in_ok-right.right.value)) = omega (arith, m.height, c.loop-op.invariant.height, c.in_ok-right.ensures.height, c.larger-deeper.ensures) in
     record {
-      rest = omega (arith, c.loop-op.invariant.rest, c.in_ok-right.ensures.rest, ap length c.tail.ensures, length-drop 1 c.loop-op.rest.now);
+      rest = omega (arith, ap length m.rest, c.loop-op.invariant.rest, c.in_ok-right.ensures.rest, ap length c.tail.ensures, length-drop 1 c.loop-op.rest.now);
       height = rw e h;
-      bounded = omega (arith, c.in_ok-right.ensures.bounded, c.larger-height.ensures);
-      value = rw e (s.0, omega (arith, s.1), s.2);
+      bounded = omega (arith, m.height, c.in_ok-right.ensures.bounded, c.larger-deeper.ensures);
+      value = rw (e, m.rest) (s.0, omega (arith, h, s.1), s.2);
     }
 
 pub binary-returns-clause-value : goal.binary-returns-clause-value
@@ -198,21 +199,11 @@ expr-returns-in_err-parts t c =
       bounded = rw p.1 tt;
     }
 
-pub expr-returns-in_err-found : goal.expr-returns-in_err-found
-expr-returns-in_err-found t c =
-    let p = err_from_is_err_and c.from_residual-in_err-found.result c.from_residual-in_err-found.ensures.1 in
-    record {
-      value = rw (p.1, p.2, c.in_err-found.ensures.memory) tt;
-      height = rw p.1 tt;
-      rest = rw p.1 tt;
-      bounded = rw p.1 tt;
-    }
-
 pub expr-returns-clause-value : goal.expr-returns-clause-value
 expr-returns-clause-value t c =
-    let e : expr_of c.in_ok-found.found.value ≡ choice_of (expr_of c.in_ok-test.test.value) (parts_of c.in_ok-parts.parts) = c.in_ok-found.ensures.value in
     let w = subst (λ (l : List Token). parts_at (expr_at (c.args.left - 1) loosest) l ≡ Ok ((parts_of c.in_ok-parts.parts), c.in_ok-parts.rest.now)) c.tail.ensures c.in_ok-parts.ensures.value in
-    rw e (parts_made c.args.left c.args.tokens.now (expr_of c.in_ok-test.test.value) c.in_ok-test.rest.now (parts_of c.in_ok-parts.parts) c.in_ok-parts.rest.now c.in_ok-test.ensures.value (sym c.starts_with.ensures ∙ c.if-not-starts_with.false) (omega (arith, c.in_ok-test.ensures.height)) w)
+    rw (parts_made c.args.left c.args.tokens.now (expr_of c.in_ok-test.test.value) c.in_ok-test.rest.now (parts_of c.in_ok-parts.parts) c.in_ok-parts.rest.now c.in_ok-test.ensures.value (sym c.starts_with.ensures ∙ c.if-not-starts_with.false) (omega (arith, c.in_ok-test.ensures.height)) w, sym c.choose.ensures)
+    (made_gives expr_of c.made.result _ _ c.made.ensures.value c.made.ensures.rest c.made.ensures.memory)
 
 -- ---- names and places
 
@@ -267,38 +258,53 @@ pub suffix-returns-then-starts_with-clause-value : goal.suffix-returns-then-star
 unfolding suffix_at
 suffix-returns-then-starts_with-clause-value t c = rw (sym c.starts_with.ensures ∙ c.if-starts_with.true, sym c.tail.ensures, c.in_ok-value.ensures.value) refl
 
-pub suffix-returns-in_err-inside : goal.suffix-returns-in_err-inside
-unfolding suffix_at arguments_at
-suffix-returns-in_err-inside t c =
-    let p = err_from_is_err_and c.from_residual-in_err-inside.result c.from_residual-in_err-inside.ensures.1 in
-    record {
-      value = rw (p.1, p.2, sym c.starts_with.ensures ∙ c.if-starts_with.false, sym c.starts_with-2.ensures ∙ c.if-starts_with-2.true, sym c.tail-then-starts_with-2.ensures) (fails_then c.in_err-inside.field-0.0 _ _ (fails_then c.in_err-inside.field-0.0 _ _ c.in_err-inside.ensures.value));
-      height = rw p.1 tt;
-      rest = rw p.1 tt;
-      bounded = rw p.1 tt;
-    }
-
 pub suffix-returns-in_err-all : goal.suffix-returns-in_err-all
-unfolding suffix_at arguments_at
+unfolding suffix_at
 suffix-returns-in_err-all t c =
     let p = err_from_is_err_and c.from_residual-in_err-all.result c.from_residual-in_err-all.ensures.1 in
     record {
-      value = rw (p.1, p.2, sym c.starts_with.ensures ∙ c.if-starts_with.false, sym c.starts_with-2.ensures ∙ c.if-starts_with-2.true, sym c.tail-then-starts_with-2.ensures, c.in_ok-inside.ensures.value) (fails_then c.in_err-all.field-0.0 _ _ (fails_then c.in_err-all.field-0.0 _ _ c.in_err-all.ensures.sign));
+      value = rw (p.1, p.2, sym c.starts_with.ensures ∙ c.if-starts_with.false, sym c.starts_with-2.ensures ∙ c.if-starts_with-2.true, sym c.tail-then-starts_with-2.ensures) (fails_then c.in_err-all.field-0.0 _ _ c.in_err-all.ensures.value);
       height = rw p.1 tt;
       rest = rw p.1 tt;
       bounded = rw p.1 tt;
     }
 
 pub suffix-returns-then-starts_with-2-clause-value : goal.suffix-returns-then-starts_with-2-clause-value
-unfolding suffix_at arguments_at
-suffix-returns-then-starts_with-2-clause-value t c = rw (sym c.starts_with.ensures ∙ c.if-starts_with.false, sym c.starts_with-2.ensures ∙ c.if-starts_with-2.true, sym c.tail-then-starts_with-2.ensures, c.in_ok-inside.ensures.value, c.in_ok-all.ensures.sign, c.in_ok-all.ensures.value) refl
-
-pub suffix-returns-then-starts_with-2-clause-height : goal.suffix-returns-then-starts_with-2-clause-height
-suffix-returns-then-starts_with-2-clause-height t c = rw c.in_ok-all.ensures.value c.in_ok-inside.ensures.height
+unfolding suffix_at
+suffix-returns-then-starts_with-2-clause-value t c = rw (sym c.starts_with.ensures ∙ c.if-starts_with.false, sym c.starts_with-2.ensures ∙ c.if-starts_with-2.true, sym c.tail-then-starts_with-2.ensures, c.in_ok-all.ensures.value) refl
 
 pub suffix-returns-clause-value : goal.suffix-returns-clause-value
 unfolding suffix_at
 suffix-returns-clause-value t c = rw (sym c.starts_with.ensures ∙ c.if-starts_with.false, sym c.starts_with-2.ensures ∙ c.if-starts_with-2.false) refl
+
+pub called-returns-in_err-inside : goal.called-returns-in_err-inside
+unfolding arguments_at
+called-returns-in_err-inside t c =
+    let p = err_from_is_err_and c.from_residual.result c.from_residual.ensures.1 in
+    record {
+      value = rw (p.1, p.2) (fails_then c.in_err-inside.field-0.0 _ _ c.in_err-inside.ensures.value);
+      height = rw p.1 tt;
+      rest = rw p.1 tt;
+      bounded = rw p.1 tt;
+    }
+
+pub called-returns-in_err-all : goal.called-returns-in_err-all
+unfolding arguments_at
+called-returns-in_err-all t c =
+    let p = err_from_is_err_and c.from_residual-in_err-all.result c.from_residual-in_err-all.ensures.1 in
+    record {
+      value = rw (p.1, p.2, c.in_ok-inside.ensures.value) (fails_then c.in_err-all.field-0.0 _ _ c.in_err-all.ensures.sign);
+      height = rw p.1 tt;
+      rest = rw p.1 tt;
+      bounded = rw p.1 tt;
+    }
+
+pub called-returns-clause-value : goal.called-returns-clause-value
+unfolding arguments_at
+called-returns-clause-value t c = rw (c.in_ok-inside.ensures.value, c.in_ok-all.ensures.sign, c.in_ok-all.ensures.value) refl
+
+pub called-returns-clause-height : goal.called-returns-clause-height
+called-returns-clause-height t c = rw c.in_ok-all.ensures.value c.in_ok-inside.ensures.height
 
 -- ---- operands
 
@@ -322,17 +328,8 @@ unary-returns-clause-value t c =
     let p : expr_at c.args.left 0 c.args.tokens.now ≡ operand_from (expr_at (c.args.left - 1)) (target_at (c.args.left - 1)) (start_of c.in-Some.first.now.kind) c.in-Some.first.now c.in-Some.rest.now = rw w (operand_step c.args.left c.in-Some.first.now c.in-Some.rest.now (omega arith)) in
     rw p c.unary_from.ensures.value
 
-pub unary_from-returns-in-Number-clause-value : goal.unary_from-returns-in-Number-clause-value
-unary_from-returns-in-Number-clause-value t c = rw (sym c.start_of.ensures ∙ c.in-Number.is, sym (number_view c.in-Number.value c.args.first.now.span)) (made_gives expr_of c.made.result _ _ c.made.ensures.value c.made.ensures.rest c.made.ensures.memory)
-
-pub unary_from-returns-in-Truth-clause-value : goal.unary_from-returns-in-Truth-clause-value
-unary_from-returns-in-Truth-clause-value t c = rw (sym c.start_of.ensures ∙ c.in-Truth.is, sym (truth_view c.in-Truth.value c.args.first.now.span)) (made_gives expr_of c.made-in-Truth.result _ _ c.made-in-Truth.ensures.value c.made-in-Truth.ensures.rest c.made-in-Truth.ensures.memory)
-
-pub unary_from-returns-in-ProgramIndex-clause-value : goal.unary_from-returns-in-ProgramIndex-clause-value
-unary_from-returns-in-ProgramIndex-clause-value t c = rw (sym c.start_of.ensures ∙ c.in-ProgramIndex.is, sym (index_view c.args.first.now.span)) (made_gives expr_of c.made-in-ProgramIndex.result _ _ c.made-in-ProgramIndex.ensures.value c.made-in-ProgramIndex.ensures.rest c.made-in-ProgramIndex.ensures.memory)
-
-pub unary_from-returns-in-ProgramCount-clause-value : goal.unary_from-returns-in-ProgramCount-clause-value
-unary_from-returns-in-ProgramCount-clause-value t c = rw (sym c.start_of.ensures ∙ c.in-ProgramCount.is, sym (count_view c.args.first.now.span)) (made_gives expr_of c.made-in-ProgramCount.result _ _ c.made-in-ProgramCount.ensures.value c.made-in-ProgramCount.ensures.rest c.made-in-ProgramCount.ensures.memory)
+pub unary_from-returns-in-Atom-clause-value : goal.unary_from-returns-in-Atom-clause-value
+unary_from-returns-in-Atom-clause-value t c = rw (sym c.start_of.ensures ∙ c.in-Atom.is, sym c.atom_of.ensures) (made_gives expr_of c.made.result _ _ c.made.ensures.value c.made.ensures.rest c.made.ensures.memory)
 
 pub unary_from-returns-in-Word-clause-value : goal.unary_from-returns-in-Word-clause-value
 unary_from-returns-in-Word-clause-value t c = rw (sym c.start_of.ensures ∙ c.in-Word.is, sym c.requires.whole) c.named.ensures.value
@@ -522,41 +519,14 @@ parts-returns-clause-value t c = rw (c.in_ok-then.ensures.value, c.in_ok-colon.e
 
 -- ---- what is left behind the first token of an operand, and its depth
 
-pub unary_from-returns-in-Number-clause-height : goal.unary_from-returns-in-Number-clause-height
-unary_from-returns-in-Number-clause-height t c = height_made expr_of depth c.made.result _ _ (ap depth (number_view c.in-Number.value c.args.first.now.span)) c.made.ensures.value c.made.ensures.height
+pub unary_from-returns-in-Atom-clause-height : goal.unary_from-returns-in-Atom-clause-height
+unary_from-returns-in-Atom-clause-height t c = height_made expr_of depth c.made.result _ _ (ap depth c.atom_of.ensures ∙ atom_depth c.in-Atom.atom c.args.first.now.span) c.made.ensures.value c.made.ensures.height
 
-pub unary_from-returns-in-Number-clause-rest : goal.unary_from-returns-in-Number-clause-rest
-unary_from-returns-in-Number-clause-rest t c = shorter_made c.made.result c.args.first.now c.args.rest.now c.args.tokens.now c.requires.whole c.made.ensures.rest
+pub unary_from-returns-in-Atom-clause-rest : goal.unary_from-returns-in-Atom-clause-rest
+unary_from-returns-in-Atom-clause-rest t c = shorter_made c.made.result c.args.first.now c.args.rest.now c.args.tokens.now c.requires.whole c.made.ensures.rest
 
-pub unary_from-returns-in-Number-clause-bounded : goal.unary_from-returns-in-Number-clause-bounded
-unary_from-returns-in-Number-clause-bounded t c = bounded_made c.made.result 1 (c.args.inner + 1) (omega arith) c.made.ensures.height
-
-pub unary_from-returns-in-Truth-clause-height : goal.unary_from-returns-in-Truth-clause-height
-unary_from-returns-in-Truth-clause-height t c = height_made expr_of depth c.made-in-Truth.result _ _ (ap depth (truth_view c.in-Truth.value c.args.first.now.span)) c.made-in-Truth.ensures.value c.made-in-Truth.ensures.height
-
-pub unary_from-returns-in-Truth-clause-rest : goal.unary_from-returns-in-Truth-clause-rest
-unary_from-returns-in-Truth-clause-rest t c = shorter_made c.made-in-Truth.result c.args.first.now c.args.rest.now c.args.tokens.now c.requires.whole c.made-in-Truth.ensures.rest
-
-pub unary_from-returns-in-Truth-clause-bounded : goal.unary_from-returns-in-Truth-clause-bounded
-unary_from-returns-in-Truth-clause-bounded t c = bounded_made c.made-in-Truth.result 1 (c.args.inner + 1) (omega arith) c.made-in-Truth.ensures.height
-
-pub unary_from-returns-in-ProgramIndex-clause-height : goal.unary_from-returns-in-ProgramIndex-clause-height
-unary_from-returns-in-ProgramIndex-clause-height t c = height_made expr_of depth c.made-in-ProgramIndex.result _ _ (ap depth (index_view c.args.first.now.span)) c.made-in-ProgramIndex.ensures.value c.made-in-ProgramIndex.ensures.height
-
-pub unary_from-returns-in-ProgramIndex-clause-rest : goal.unary_from-returns-in-ProgramIndex-clause-rest
-unary_from-returns-in-ProgramIndex-clause-rest t c = shorter_made c.made-in-ProgramIndex.result c.args.first.now c.args.rest.now c.args.tokens.now c.requires.whole c.made-in-ProgramIndex.ensures.rest
-
-pub unary_from-returns-in-ProgramIndex-clause-bounded : goal.unary_from-returns-in-ProgramIndex-clause-bounded
-unary_from-returns-in-ProgramIndex-clause-bounded t c = bounded_made c.made-in-ProgramIndex.result 1 (c.args.inner + 1) (omega arith) c.made-in-ProgramIndex.ensures.height
-
-pub unary_from-returns-in-ProgramCount-clause-height : goal.unary_from-returns-in-ProgramCount-clause-height
-unary_from-returns-in-ProgramCount-clause-height t c = height_made expr_of depth c.made-in-ProgramCount.result _ _ (ap depth (count_view c.args.first.now.span)) c.made-in-ProgramCount.ensures.value c.made-in-ProgramCount.ensures.height
-
-pub unary_from-returns-in-ProgramCount-clause-rest : goal.unary_from-returns-in-ProgramCount-clause-rest
-unary_from-returns-in-ProgramCount-clause-rest t c = shorter_made c.made-in-ProgramCount.result c.args.first.now c.args.rest.now c.args.tokens.now c.requires.whole c.made-in-ProgramCount.ensures.rest
-
-pub unary_from-returns-in-ProgramCount-clause-bounded : goal.unary_from-returns-in-ProgramCount-clause-bounded
-unary_from-returns-in-ProgramCount-clause-bounded t c = bounded_made c.made-in-ProgramCount.result 1 (c.args.inner + 1) (omega arith) c.made-in-ProgramCount.ensures.height
+pub unary_from-returns-in-Atom-clause-bounded : goal.unary_from-returns-in-Atom-clause-bounded
+unary_from-returns-in-Atom-clause-bounded t c = bounded_made c.made.result 1 (c.args.inner + 1) (omega arith) c.made.ensures.height
 
 pub unary_from-returns-in-Word-clause-height : goal.unary_from-returns-in-Word-clause-height
 unary_from-returns-in-Word-clause-height t c = c.named.ensures.height

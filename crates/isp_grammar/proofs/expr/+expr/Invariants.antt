@@ -31,6 +31,9 @@ decreases-argument l = 32 * l.left + 13
 abbrev pub decreases-arguments : goal.decreases-arguments
 decreases-arguments l = 32 * l.left + 14
 
+abbrev pub decreases-called : goal.decreases-called
+decreases-called l = 32 * l.left + 15
+
 abbrev pub decreases-suffix : goal.decreases-suffix
 decreases-suffix l = 32 * l.left + 16
 

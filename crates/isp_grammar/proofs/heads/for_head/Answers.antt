@@ -1,7 +1,6 @@
-use Rattle.std.proofs.Common.{refl}
 use Rattle.std.proofs.lemmas.Result.{err_from_is_err_and}
-use Rattle.isp_grammar.specs.reader.Stmts.{head_at}
-use Rattle.isp_grammar.proofs.SimpleSteps.{fails_then}
+use Rattle.isp_grammar.specs.reader.Stmts.{heading_of, head_at}
+use Rattle.isp_grammar.proofs.SimpleSteps.{fails_then, boxed_gives}
 use Rattle.isp_grammar.proofs.heads.for_head.Goals as goal
 
 pub returns-in_err-_open-clause-value : goal.returns-in_err-_open-clause-value
@@ -30,4 +29,4 @@ returns-in_err-step-clause-value c =
 
 pub returns-clause-value : goal.returns-clause-value
 unfolding head_at
-returns-clause-value c = rw (c.in_ok-_open.ensures.value, c.in_ok-first.ensures.value, c.in_ok-test.ensures.value, c.in_ok-step.ensures.value) refl
+returns-clause-value c = rw (c.in_ok-_open.ensures.value, c.in_ok-first.ensures.value, c.in_ok-test.ensures.value, c.in_ok-step.ensures.value) (boxed_gives heading_of c.in_box.result _ _ c.in_box.ensures.value c.in_box.ensures.rest c.in_box.ensures.memory)

@@ -19,10 +19,4 @@ pub returns-in_err-values-clause-value : goal.returns-in_err-values-clause-value
 unfolding print_at
 returns-in_err-values-clause-value c =
     let p = err_from_is_err_and c.from_residual-in_err-values.result c.from_residual-in_err-values.ensures.1 in
-    rw (p.1, p.2, c.in_ok-_open.ensures.value, c.in_ok-text.ensures.value) (fails_then c.in_err-values.field-0.0 _ _ (fails_then c.in_err-values.field-0.0 _ _ (fails_then c.in_err-values.field-0.0 _ _ (fails_then c.in_err-values.field-0.0 _ _ c.in_err-values.ensures.value))))
-
-pub returns-in_err-_close-clause-value : goal.returns-in_err-_close-clause-value
-unfolding print_at
-returns-in_err-_close-clause-value c =
-    let p = err_from_is_err_and c.from_residual-in_err-_close.result c.from_residual-in_err-_close.ensures.1 in
-    rw (p.1, p.2, c.in_ok-_open.ensures.value, c.in_ok-text.ensures.value, c.in_ok-values.ensures.value) (fails_then c.in_err-_close.field-0.0 _ _ (fails_then c.in_err-_close.field-0.0 _ _ (fails_then c.in_err-_close.field-0.0 _ _ (fails_then c.in_err-_close.field-0.0 _ _ c.in_err-_close.ensures.value))))
+    rw (p.1, p.2, c.in_ok-_open.ensures.value, c.in_ok-text.ensures.value) (fails_then c.in_err-values.field-0.0 _ _ (fails_then c.in_err-values.field-0.0 _ _ (fails_then c.in_err-values.field-0.0 _ _ c.in_err-values.ensures.value)))

@@ -28,7 +28,7 @@ stmt-returns-clause-value t c =
 -- ---- blocks
 
 pub block-returns-then-left-eq0-clause-value : goal.block-returns-then-left-eq0-clause-value
-block-returns-then-left-eq0-clause-value t c = rw (c.refuse_at_limit.ensures, c.begins_block.ensures, c.if-left-eq0.true) (block_at_limit c.args.tokens.now)
+block-returns-then-left-eq0-clause-value t c = rw (c.refuse_at_limit.ensures, c.starts_with.ensures, c.if-left-eq0.true) (block_at_limit c.args.tokens.now)
 
 pub block-returns-clause-value : goal.block-returns-clause-value
 block-returns-clause-value t c = rw (block_step c.args.left c.args.tokens.now (omega arith)) c.braced.ensures.value
@@ -150,7 +150,7 @@ conditional-returns-in_err-other t c =
 
 pub conditional-returns-clause-value : goal.conditional-returns-clause-value
 unfolding if_at
-conditional-returns-clause-value t c = rw (c.in_ok-test.ensures.value, c.in_ok-then.ensures.value, c.in_ok-other.ensures.value) (boxed_made stmt_of c.make_if.result _ _ c.make_if.ensures.value c.make_if.ensures.rest c.make_if.ensures.memory)
+conditional-returns-clause-value t c = rw (c.in_ok-test.ensures.value, c.in_ok-then.ensures.value, c.in_ok-other.ensures.value, sym c.if_of.ensures) (boxed_made stmt_of c.boxed.result _ _ c.boxed.ensures.value c.boxed.ensures.rest c.boxed.ensures.memory)
 
 pub loop_stmt-returns-in_err-head : goal.loop_stmt-returns-in_err-head
 loop_stmt-returns-in_err-head t c =
@@ -169,7 +169,7 @@ loop_stmt-returns-in_err-body t c =
     }
 
 pub loop_stmt-returns-clause-value : goal.loop_stmt-returns-clause-value
-loop_stmt-returns-clause-value t c = rw (loop_headed (stmt_at c.args.inner) c.args.inner c.args.which c.args.keyword c.args.tokens.now, c.in_ok-head.ensures.value, c.in_ok-body.ensures.value) (boxed_made stmt_of c.make_loop.result _ _ c.make_loop.ensures.value c.make_loop.ensures.rest c.make_loop.ensures.memory)
+loop_stmt-returns-clause-value t c = rw (loop_headed (stmt_at c.args.inner) c.args.inner c.args.which c.args.keyword c.args.tokens.now, c.in_ok-head.ensures.value, c.in_ok-body.ensures.value, sym c.loop_of.ensures) (boxed_made stmt_of c.boxed.result _ _ c.boxed.ensures.value c.boxed.ensures.rest c.boxed.ensures.memory)
 
 pub do_loop-returns-in_err-body : goal.do_loop-returns-in_err-body
 unfolding do_at
@@ -191,7 +191,7 @@ do_loop-returns-in_err-test t c =
 
 pub do_loop-returns-clause-value : goal.do_loop-returns-clause-value
 unfolding do_at
-do_loop-returns-clause-value t c = rw (c.in_ok-body.ensures.value, c.in_ok-test.ensures.value) (boxed_made stmt_of c.make_do.result _ _ c.make_do.ensures.value c.make_do.ensures.rest c.make_do.ensures.memory)
+do_loop-returns-clause-value t c = rw (c.in_ok-body.ensures.value, c.in_ok-test.ensures.value, sym c.do_of.ensures) (boxed_made stmt_of c.boxed.result _ _ c.boxed.ensures.value c.boxed.ensures.rest c.boxed.ensures.memory)
 
 pub unmasked-returns-in_err-body : goal.unmasked-returns-in_err-body
 unfolding unmasked_at
@@ -204,7 +204,7 @@ unmasked-returns-in_err-body t c =
 
 pub unmasked-returns-clause-value : goal.unmasked-returns-clause-value
 unfolding unmasked_at
-unmasked-returns-clause-value t c = rw (c.in_ok-body.ensures.value) (boxed_made stmt_of c.make_unmasked.result _ _ c.make_unmasked.ensures.value c.make_unmasked.ensures.rest c.make_unmasked.ensures.memory)
+unmasked-returns-clause-value t c = rw (c.in_ok-body.ensures.value, sym c.unmasked_of.ensures) (boxed_made stmt_of c.boxed.result _ _ c.boxed.ensures.value c.boxed.ensures.rest c.boxed.ensures.memory)
 
 -- ---- by the first token
 
