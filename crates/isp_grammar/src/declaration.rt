@@ -72,7 +72,6 @@ fn size_in_brackets(tokens: &[Token]) -> Result<((Span, (Size, Span)), &[Token])
 
 /// A value behind `=`, or a size in brackets.
 fn item_tail(alloc: Global, left: usize, tokens: &[Token]) -> Result<(ItemTail, &[Token]), Stop>
-    requires { left ≤ 128 }
     ensures value { Gives (λ r. (item_tail_of r.0, r.1.now)) result (item_tail_at left tokens.now) }
     ensures rest { IfOk result (λ r. length r.1.now < length tokens.now) }
 {
@@ -104,7 +103,6 @@ fn with_tail(word: Word, tail: ItemTail) -> Item
 /// One declared variable.
 #[tactic(auto, unfolding(crate::specs::reader::Stmts::item_at, crate::specs::reader::Choices::perhaps_at))]
 fn item(alloc: Global, left: usize, tokens: &[Token]) -> Result<(Box<Item>, &[Token]), Stop>
-    requires { left ≤ 128 }
     ensures value { Gives (λ r. (item_of r.0.value, r.1.now)) result (item_at left tokens.now) }
     ensures rest { IfOk result (λ r. length r.1.now < length tokens.now) }
 {
@@ -118,7 +116,6 @@ fn item(alloc: Global, left: usize, tokens: &[Token]) -> Result<(Box<Item>, &[To
 
 /// One declared variable or more, with commas, and where the last one ends.
 fn items(alloc: Global, left: usize, tokens: &[Token]) -> Result<(Vec<Item>, Span, &[Token]), Stop>
-    requires { left ≤ 128 }
     ensures value { Gives (λ r. (map item_of r.0.items, r.2.now)) result (items_at left tokens.now) }
     ensures end { IfOk result (λ r. r.1 ≡ span_of_last (map item_of r.0.items)) }
     ensures rest { IfOk result (λ r. length r.2.now ≤ length tokens.now) }
@@ -143,7 +140,6 @@ pub fn declaration(
     left: usize,
     tokens: &[Token],
 ) -> Result<(Box<Declaration>, &[Token]), Stop>
-    requires { left ≤ 128 }
     ensures value { Gives (λ r. (declaration_of r.0.value, r.1.now)) result (declaration_at left tokens.now) }
     ensures rest { IfOk result (λ r. length r.1.now < length tokens.now) }
 {

@@ -1,5 +1,5 @@
 //! Expressions.
-ghost use Rattle.std.specs.Prelude.{◌≡◌, ◌≤◌, ◌+◌, ◌<◌, IfOk, IfErr, max, length, ◌∷◌};
+ghost use Rattle.std.specs.Prelude.{◌≡◌, ◌≤◌, ◌-◌, ◌<◌, IfOk, IfErr, max, length, ◌∷◌};
 ghost use Rattle.isp_lex.specs.Tokens.{starts_with};
 ghost use Rattle.isp_grammar.specs.Signs.{level, joined_level, loosest};
 ghost use Rattle.isp_tree.specs.Views.{expr_of, place_of, argument_of, arguments_of};
@@ -214,7 +214,6 @@ type Index<'a> = ((Box<Expr>, Span), usize, &'a [Token]);
 #[cycle(expr)]
 #[tactic(auto, unfolding(crate::specs::reader::Exprs::bracketed_at))]
 fn index(alloc: Global, left: usize, tokens: &[Token]) -> Result<Index<'_>, Stop>
-    requires { left ≤ 128 }
     ensures value { Gives (λ r. ((expr_of r.0.0.value, r.0.1), r.2.now)) result (bracketed_at (expr_at left loosest) tokens.now) }
     ensures height { IfOk result (λ r. r.1 ≡ depth (expr_of r.0.0.value)) }
     ensures rest { IfOk result (λ r. length r.2.now < length tokens.now) }
@@ -229,7 +228,6 @@ fn index(alloc: Global, left: usize, tokens: &[Token]) -> Result<Index<'_>, Stop
 #[cycle(expr)]
 #[tactic(auto, unfolding(crate::specs::reader::Exprs::place_at, crate::specs::reader::Exprs::index_at, crate::specs::reader::Readers::optional))]
 fn place(alloc: Global, left: usize, tokens: &[Token]) -> Result<(Place, usize, &[Token]), Stop>
-    requires { left ≤ 128 }
     ensures value { Gives (λ r. (place_of r.0, r.2.now)) result (target_at left tokens.now) }
     ensures height { IfOk result (λ r. r.1 ≡ depth_of_place (place_of r.0)) }
     ensures rest { IfOk result (λ r. length r.2.now < length tokens.now) }
@@ -259,7 +257,6 @@ fn argument(
     left: usize,
     tokens: &[Token],
 ) -> Result<(Argument, usize, &[Token]), Stop>
-    requires { left ≤ 128 }
     ensures value { Gives (λ r. (argument_of r.0, r.2.now)) result (argument_at (expr_at left loosest) (target_at left) tokens.now) }
     ensures height { IfOk result (λ r. r.1 ≡ depth_of_argument (argument_of r.0)) }
     ensures rest { IfOk result (λ r. length r.2.now < length tokens.now) }
@@ -281,7 +278,6 @@ fn arguments(
     left: usize,
     tokens: &[Token],
 ) -> Result<(Vec<Argument>, usize, &[Token]), Stop>
-    requires { left ≤ 128 }
     ensures value { Gives (λ r. (arguments_of r.0.items, r.2.now)) result (listed_at Mark.ParenClose (argument_at (expr_at left loosest) (target_at left)) tokens.now) }
     ensures height { IfOk result (λ r. r.1 ≡ depth_of_all (arguments_of r.0.items)) }
     ensures rest { IfOk result (λ r. length r.2.now ≤ length tokens.now) }
@@ -311,7 +307,6 @@ type Called<'a> = ((Vec<Argument>, Span), usize, &'a [Token]);
 #[cycle(expr)]
 #[tactic(auto, unfolding(crate::specs::reader::Exprs::arguments_at))]
 fn called(alloc: Global, left: usize, tokens: &[Token]) -> Result<Called<'_>, Stop>
-    requires { left ≤ 128 }
     ensures value { Gives (λ r. ((arguments_of r.0.0.items, r.0.1), r.2.now)) result (arguments_at (expr_at left loosest) (target_at left) tokens.now) }
     ensures height { IfOk result (λ r. r.1 ≡ depth_of_all (arguments_of r.0.0.items)) }
     ensures rest { IfOk result (λ r. length r.2.now < length tokens.now) }
@@ -336,7 +331,6 @@ pub enum Behind {
 #[cycle(expr)]
 #[tactic(auto, unfolding(crate::specs::reader::Exprs::suffix_at))]
 fn suffix(alloc: Global, left: usize, tokens: &[Token]) -> Result<(Behind, usize, &[Token]), Stop>
-    requires { left ≤ 128 }
     ensures value { Gives (λ r. (suffix_of r.0, r.2.now)) result (suffix_at (bracketed_at (expr_at left loosest)) (arguments_at (expr_at left loosest) (target_at left)) tokens.now) }
     ensures height { IfOk result (λ r. r.1 ≡ depth_of_suffix (suffix_of r.0)) }
     ensures rest { IfOk result (λ r. length r.2.now ≤ length tokens.now) }
@@ -378,31 +372,31 @@ fn with_suffix(word: Word, suffix: Behind) -> Expr
 /// A variable, an element of an array, or a call.
 #[cycle(expr)]
 #[tactic(auto, unfolding(crate::specs::reader::Exprs::named_at))]
-fn named(alloc: Global, inner: usize, tokens: &[Token]) -> Result<Found<'_>, Stop>
-    requires { inner < 128 }
-    ensures value { Gives (λ r. (expr_of r.0.value, r.2.now)) result (named_at (expr_at inner loosest) (target_at inner) tokens.now) }
+fn named(alloc: Global, left: usize, tokens: &[Token]) -> Result<Found<'_>, Stop>
+    requires { 0 < left }
+    ensures value { Gives (λ r. (expr_of r.0.value, r.2.now)) result (named_at (expr_at (left - 1) loosest) (target_at (left - 1)) tokens.now) }
     ensures height { IfOk result (λ r. r.1 ≡ depth (expr_of r.0.value)) }
     ensures rest { IfOk result (λ r. length r.2.now < length tokens.now) }
-    ensures bounded { IfOk result (λ r. r.1 ≤ inner + 1) }
+    ensures bounded { IfOk result (λ r. r.1 ≤ left) }
 {
     let (word, rest) = word(tokens)?;
-    let (suffix, height, rest) = suffix(alloc, inner, rest)?;
+    let (suffix, height, rest) = suffix(alloc, left - 1, rest)?;
     made(alloc, with_suffix(word, suffix), height + 1, rest)
 }
 
 /// A type, a closing bracket, and what is cast, behind an opening bracket.
 #[cycle(expr)]
 #[tactic(auto, unfolding(crate::specs::reader::Exprs::cast_at))]
-fn cast(alloc: Global, inner: usize, opening: Span, tokens: &[Token]) -> Result<Found<'_>, Stop>
-    requires { inner < 128 }
-    ensures value { Gives (λ r. (expr_of r.0.value, r.2.now)) result (cast_at (expr_at inner) opening tokens.now) }
+fn cast(alloc: Global, left: usize, opening: Span, tokens: &[Token]) -> Result<Found<'_>, Stop>
+    requires { 0 < left }
+    ensures value { Gives (λ r. (expr_of r.0.value, r.2.now)) result (cast_at (expr_at (left - 1)) opening tokens.now) }
     ensures height { IfOk result (λ r. r.1 ≡ depth (expr_of r.0.value)) }
     ensures rest { IfOk result (λ r. length r.2.now < length tokens.now) }
-    ensures bounded { IfOk result (λ r. r.1 ≤ inner + 1) }
+    ensures bounded { IfOk result (λ r. r.1 ≤ left) }
 {
     let (ty, rest) = type_words(alloc, tokens)?;
     let (_close, rest) = mark(Mark::ParenClose, rest)?;
-    let (operand, height, rest) = unary(alloc, inner, rest)?;
+    let (operand, height, rest) = unary(alloc, left - 1, rest)?;
     let span = opening.to(operand.span());
     made(alloc, Expr::Cast { ty, operand, span }, height + 1, rest)
 }
@@ -410,14 +404,14 @@ fn cast(alloc: Global, inner: usize, opening: Span, tokens: &[Token]) -> Result<
 /// An expression and a closing bracket, behind an opening bracket.
 #[cycle(expr)]
 #[tactic(auto, unfolding(crate::specs::reader::Exprs::closed_at))]
-fn closed(alloc: Global, inner: usize, opening: Span, tokens: &[Token]) -> Result<Found<'_>, Stop>
-    requires { inner < 128 }
-    ensures value { Gives (λ r. (expr_of r.0.value, r.2.now)) result (closed_at (expr_at inner) opening tokens.now) }
+fn closed(alloc: Global, left: usize, opening: Span, tokens: &[Token]) -> Result<Found<'_>, Stop>
+    requires { 0 < left }
+    ensures value { Gives (λ r. (expr_of r.0.value, r.2.now)) result (closed_at (expr_at (left - 1)) opening tokens.now) }
     ensures height { IfOk result (λ r. r.1 ≡ depth (expr_of r.0.value)) }
     ensures rest { IfOk result (λ r. length r.2.now < length tokens.now) }
-    ensures bounded { IfOk result (λ r. r.1 ≤ inner + 1) }
+    ensures bounded { IfOk result (λ r. r.1 ≤ left) }
 {
-    let (inside, height, rest) = expr(alloc, inner, tokens)?;
+    let (inside, height, rest) = expr(alloc, left - 1, tokens)?;
     let (close, rest) = mark(Mark::ParenClose, rest)?;
     let span = opening.to(close);
     let brackets = Expr::Brackets {
@@ -431,18 +425,18 @@ fn closed(alloc: Global, inner: usize, opening: Span, tokens: &[Token]) -> Resul
 #[cycle(expr)]
 fn prefixed(
     alloc: Global,
-    inner: usize,
+    left: usize,
     operator: Prefix,
     place: Span,
     tokens: &[Token],
 ) -> Result<Found<'_>, Stop>
-    requires { inner < 128 }
-    ensures value { Gives (λ r. (expr_of r.0.value, r.2.now)) result (prefixed_at (expr_at inner) operator place tokens.now) }
+    requires { 0 < left }
+    ensures value { Gives (λ r. (expr_of r.0.value, r.2.now)) result (prefixed_at (expr_at (left - 1)) operator place tokens.now) }
     ensures height { IfOk result (λ r. r.1 ≡ depth (expr_of r.0.value)) }
     ensures rest { IfOk result (λ r. length r.2.now < length tokens.now) }
-    ensures bounded { IfOk result (λ r. r.1 ≤ inner + 1) }
+    ensures bounded { IfOk result (λ r. r.1 ≤ left) }
 {
-    let (operand, height, rest) = unary(alloc, inner, tokens)?;
+    let (operand, height, rest) = unary(alloc, left - 1, tokens)?;
     let span = place.to(operand.span());
     let prefixed = Expr::Prefix {
         operator,
@@ -455,26 +449,26 @@ fn prefixed(
 #[cycle(expr)]
 fn unary_from<'a>(
     alloc: Global,
-    inner: usize,
+    left: usize,
     first: &Token,
     tokens: &'a [Token],
     rest: &'a [Token],
 ) -> Result<Found<'a>, Stop>
     requires whole { tokens.now ≡ first.now ∷ rest.now }
-    requires room { inner < 128 }
+    requires room { 0 < left }
     ensures value { Gives (λ r. (expr_of r.0.value, r.2.now)) result
-        (operand_from (expr_at inner) (target_at inner) (start_of first.now.kind) first.now rest.now) }
+        (operand_from (expr_at (left - 1)) (target_at (left - 1)) (start_of first.now.kind) first.now rest.now) }
     ensures height { IfOk result (λ r. r.1 ≡ depth (expr_of r.0.value)) }
     ensures rest { IfOk result (λ r. length r.2.now < length tokens.now) }
-    ensures bounded { IfOk result (λ r. r.1 ≤ inner + 1) }
+    ensures bounded { IfOk result (λ r. r.1 ≤ left) }
 {
     let span = first.span;
     match start_of(&first.kind) {
         Start::Atom(atom) => made(alloc, atom_of(atom, span), 1, rest),
-        Start::Word => named(alloc, inner, tokens),
-        Start::Bracket if begins_type(rest) => cast(alloc, inner, span, rest),
-        Start::Bracket => closed(alloc, inner, span, rest),
-        Start::Prefix(operator) => prefixed(alloc, inner, operator, span, rest),
+        Start::Word => named(alloc, left, tokens),
+        Start::Bracket if begins_type(rest) => cast(alloc, left, span, rest),
+        Start::Bracket => closed(alloc, left, span, rest),
+        Start::Prefix(operator) => prefixed(alloc, left, operator, span, rest),
         Start::Nothing => Err(refuse(Why::Unexpected, tokens)),
     }
 }
@@ -482,7 +476,6 @@ fn unary_from<'a>(
 /// An operand with the operators before it, no deeper than `left`.
 #[cycle(expr)]
 pub fn unary(alloc: Global, left: usize, tokens: &[Token]) -> Result<Found<'_>, Stop>
-    requires { left ≤ 128 }
     ensures value { Gives (λ r. (expr_of r.0.value, r.2.now)) result (expr_at left 0 tokens.now) }
     ensures height { IfOk result (λ r. r.1 ≡ depth (expr_of r.0.value)) }
     ensures rest { IfOk result (λ r. length r.2.now < length tokens.now) }
@@ -497,14 +490,13 @@ pub fn unary(alloc: Global, left: usize, tokens: &[Token]) -> Result<Found<'_>, 
     if left == 0 {
         return Err(refuse(Why::TooDeep, tokens));
     }
-    unary_from(alloc, left - 1, first, tokens, rest)
+    unary_from(alloc, left, first, tokens, rest)
 }
 
 /// Operands joined by operators of a level or tighter ones, no deeper than `left`.
 #[cycle(expr)]
 fn binary(alloc: Global, looseness: usize, left: usize, tokens: &[Token]) -> Result<Found<'_>, Stop>
     requires level { looseness ≤ joined_level }
-    requires room { left ≤ 128 }
     ensures value { Gives (λ r. (expr_of r.0.value, r.2.now)) result (expr_at left looseness tokens.now) }
     ensures height { IfOk result (λ r. r.1 ≡ depth (expr_of r.0.value)) }
     ensures rest { IfOk result (λ r. length r.2.now < length tokens.now) }
@@ -529,7 +521,6 @@ fn binary(alloc: Global, looseness: usize, left: usize, tokens: &[Token]) -> Res
 #[cycle(expr)]
 #[tactic(auto, unfolding(crate::specs::reader::Exprs::parts_at))]
 fn parts(alloc: Global, left: usize, tokens: &[Token]) -> Result<(Branches, usize, &[Token]), Stop>
-    requires { left ≤ 128 }
     ensures value { Gives (λ r. (parts_of r.0, r.2.now)) result (parts_at (expr_at left loosest) tokens.now) }
     ensures height { IfOk result (λ r. r.1 ≡ max (depth (expr_of r.0.then.value)) (depth (expr_of r.0.otherwise.value))) }
     ensures rest { IfOk result (λ r. length r.2.now < length tokens.now) }
@@ -549,7 +540,6 @@ fn parts(alloc: Global, left: usize, tokens: &[Token]) -> Result<(Branches, usiz
 /// An expression, no deeper than `left`.
 #[cycle(expr)]
 pub fn expr(alloc: Global, left: usize, tokens: &[Token]) -> Result<Found<'_>, Stop>
-    requires { left ≤ 128 }
     ensures value { Gives (λ r. (expr_of r.0.value, r.2.now)) result (expr_at left loosest tokens.now) }
     ensures height { IfOk result (λ r. r.1 ≡ depth (expr_of r.0.value)) }
     ensures rest { IfOk result (λ r. length r.2.now < length tokens.now) }

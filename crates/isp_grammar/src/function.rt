@@ -193,7 +193,6 @@ pub fn function(
     left: usize,
     tokens: &[Token],
 ) -> Result<(Box<Function>, &[Token]), Stop>
-    requires { left ≤ 128 }
     ensures value { Gives (λ r. (function_of r.0.value, r.1.now)) result (function_at left tokens.now) }
     ensures rest { IfOk result (λ r. length r.1.now < length tokens.now) }
 {

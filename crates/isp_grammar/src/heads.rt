@@ -37,7 +37,6 @@ fn for_head(
     form: Form,
     tokens: &[Token],
 ) -> Result<(Box<LoopHead>, &[Token]), Stop>
-    requires { left ≤ 128 }
     ensures value { Gives (λ r. (heading_of r.0.value, r.1.now)) result (heading_at left (loops.For form) tokens.now) }
     ensures rest { IfOk result (λ r. length r.1.now < length tokens.now) }
 {
@@ -57,7 +56,6 @@ fn foreach_head(
     tiling: Tiling,
     tokens: &[Token],
 ) -> Result<(Box<LoopHead>, &[Token]), Stop>
-    requires { left ≤ 128 }
     ensures value { Gives (λ r. (heading_of r.0.value, r.1.now)) result (heading_at left (loops.Foreach tiling) tokens.now) }
     ensures rest { IfOk result (λ r. length r.1.now < length tokens.now) }
 {
@@ -86,7 +84,6 @@ pub fn loop_head(
     which: Loop,
     tokens: &[Token],
 ) -> Result<(Box<LoopHead>, &[Token]), Stop>
-    requires { left ≤ 128 }
     ensures value { Gives (λ r. (heading_of r.0.value, r.1.now)) result (heading_at left which tokens.now) }
     ensures rest { IfOk result (λ r. length r.1.now < length tokens.now) }
 {

@@ -29,7 +29,6 @@ pub fn closed_test(
     left: usize,
     tokens: &[Token],
 ) -> Result<((Box<Expr>, Span), &[Token]), Stop>
-    requires { left ≤ 128 }
     ensures value { Gives (λ r. ((expr_of r.0.0.value, r.0.1), r.1.now)) result (closed_test_at left tokens.now) }
     ensures rest { IfOk result (λ r. length r.1.now < length tokens.now) }
 {
@@ -41,7 +40,6 @@ pub fn closed_test(
 /// An expression in brackets.
 #[tactic(auto, unfolding(crate::specs::reader::Stmts::test_at, crate::specs::reader::Stmts::closed_test_at))]
 pub fn test(alloc: Global, left: usize, tokens: &[Token]) -> Result<(Box<Expr>, &[Token]), Stop>
-    requires { left ≤ 128 }
     ensures value { Gives (λ r. (expr_of r.0.value, r.1.now)) result (test_at left tokens.now) }
     ensures rest { IfOk result (λ r. length r.1.now < length tokens.now) }
 {
@@ -56,7 +54,6 @@ pub fn maybe_expr(
     left: usize,
     tokens: &[Token],
 ) -> Result<((Option<Box<Expr>>, Span), &[Token]), Stop>
-    requires { left ≤ 128 }
     ensures value { Gives (λ r. ((option_map (λ b. expr_of b.value) r.0.0, r.0.1), r.1.now)) result (maybe_closed_at Mark.Semicolon (expr_at left loosest) tokens.now) }
     ensures rest { IfOk result (λ r. length r.1.now < length tokens.now) }
 {
@@ -96,7 +93,6 @@ fn begins_simple(tokens: &[Token]) -> bool
 /// A declaration or a simple statement.
 #[tactic(auto, unfolding(crate::specs::reader::Stmts::first_at, crate::specs::reader::Choices::either_at))]
 fn first(alloc: Global, left: usize, tokens: &[Token]) -> Result<(Box<First>, &[Token]), Stop>
-    requires { left ≤ 128 }
     ensures value { Gives (λ r. (first_of r.0.value, r.1.now)) result (first_at left tokens.now) }
     ensures rest { IfOk result (λ r. length r.1.now < length tokens.now) }
 {
@@ -112,7 +108,6 @@ fn first(alloc: Global, left: usize, tokens: &[Token]) -> Result<(Box<First>, &[
 
 /// The first part of a `for`, which counts as a statement.
 fn first_part(alloc: Global, left: usize, tokens: &[Token]) -> Result<(Box<First>, &[Token]), Stop>
-    requires { left ≤ 128 }
     ensures value { Gives (λ r. (first_of r.0.value, r.1.now)) result (first_part_at left tokens.now) }
     ensures rest { IfOk result (λ r. length r.1.now < length tokens.now) }
 {
@@ -124,7 +119,6 @@ fn first_part(alloc: Global, left: usize, tokens: &[Token]) -> Result<(Box<First
 
 /// The step of a `for`, which counts as a statement.
 fn step_part(alloc: Global, left: usize, tokens: &[Token]) -> Result<(Box<Simple>, &[Token]), Stop>
-    requires { left ≤ 128 }
     ensures value { Gives (λ r. (simple_of r.0.value, r.1.now)) result (step_part_at left tokens.now) }
     ensures rest { IfOk result (λ r. length r.1.now < length tokens.now) }
 {
@@ -141,7 +135,6 @@ pub fn maybe_first(
     left: usize,
     tokens: &[Token],
 ) -> Result<((Option<Box<First>>, Span), &[Token]), Stop>
-    requires { left ≤ 128 }
     ensures value { Gives (λ r. ((option_map (λ b. first_of b.value) r.0.0, r.0.1), r.1.now)) result (maybe_closed_at Mark.Semicolon (first_part_at left) tokens.now) }
     ensures rest { IfOk result (λ r. length r.1.now < length tokens.now) }
 {
@@ -159,7 +152,6 @@ pub fn maybe_step(
     left: usize,
     tokens: &[Token],
 ) -> Result<((Option<Box<Simple>>, Span), &[Token]), Stop>
-    requires { left ≤ 128 }
     ensures value { Gives (λ r. ((option_map (λ b. simple_of b.value) r.0.0, r.0.1), r.1.now)) result (maybe_closed_at Mark.ParenClose (step_part_at left) tokens.now) }
     ensures rest { IfOk result (λ r. length r.1.now < length tokens.now) }
 {
@@ -186,7 +178,6 @@ fn behind(
     left: usize,
     tokens: &[Token],
 ) -> Result<(Box<Expr>, &[Token]), Stop>
-    requires { left ≤ 128 }
     ensures value { Gives (λ r. (expr_of r.0.value, r.1.now)) result (behind_at sign left tokens.now) }
     ensures rest { IfOk result (λ r. length r.1.now < length tokens.now) }
 {
@@ -198,7 +189,6 @@ fn behind(
 /// One dimension of a `foreach`.
 #[tactic(auto, unfolding(crate::specs::reader::Stmts::range_at))]
 fn range(alloc: Global, left: usize, tokens: &[Token]) -> Result<(Box<Range>, &[Token]), Stop>
-    requires { left ≤ 128 }
     ensures value { Gives (λ r. (range_of r.0.value, r.1.now)) result (range_at left tokens.now) }
     ensures rest { IfOk result (λ r. length r.1.now < length tokens.now) }
 {
@@ -222,7 +212,6 @@ fn last_range(
     all: Vec<Range>,
     tokens: &[Token],
 ) -> Result<(Vec<Range>, &[Token]), Stop>
-    requires { left ≤ 128 }
     ensures value { Gives (λ r. (map range_of r.0.items, r.1.now)) result (with_last (map range_of all.items) (last_range_at left tokens.now)) }
     ensures rest { IfOk result (λ r. length r.1.now ≤ length tokens.now) }
 {
@@ -241,7 +230,6 @@ fn more_ranges(
     all: Vec<Range>,
     tokens: &[Token],
 ) -> Result<(Vec<Range>, &[Token]), Stop>
-    requires { left ≤ 128 }
     ensures value { Gives (λ r. (map range_of r.0.items, r.1.now)) result (with_more (map range_of all.items) (more_ranges_at left tokens.now)) }
     ensures rest { IfOk result (λ r. length r.1.now ≤ length tokens.now) }
 {
@@ -256,7 +244,6 @@ fn more_ranges(
 /// One to three ranges.
 #[tactic(auto, unfolding(crate::specs::reader::Stmts::ranges_at))]
 pub fn ranges(alloc: Global, left: usize, tokens: &[Token]) -> Result<(Vec<Range>, &[Token]), Stop>
-    requires { left ≤ 128 }
     ensures value { Gives (λ r. (map range_of r.0.items, r.1.now)) result (ranges_at left tokens.now) }
     ensures rest { IfOk result (λ r. length r.1.now < length tokens.now) }
 {
@@ -282,7 +269,6 @@ pub fn text(tokens: &[Token]) -> Result<((Text, Span), &[Token]), Stop>
 
 /// The values behind a text, each behind a comma, up to a closing bracket.
 fn values(alloc: Global, left: usize, tokens: &[Token]) -> Result<(Vec<Expr>, &[Token]), Stop>
-    requires { left ≤ 128 }
     ensures value { Gives (λ r. (exprs_of r.0.items, r.1.now)) result (values_at left tokens.now) }
     ensures rest { IfOk result (λ r. length r.1.now ≤ length tokens.now) }
 {
@@ -302,7 +288,6 @@ pub fn closed_values(
     left: usize,
     tokens: &[Token],
 ) -> Result<((Vec<Expr>, (Span, Span)), &[Token]), Stop>
-    requires { left ≤ 128 }
     ensures value { Gives (λ r. ((exprs_of r.0.0.items, r.0.1), r.1.now)) result (both (values_at left) (both (mark_at Mark.ParenClose) (mark_at Mark.Semicolon)) tokens.now) }
     ensures rest { IfOk result (λ r. length r.1.now < length tokens.now) }
 {
@@ -319,7 +304,6 @@ pub fn do_end(
     left: usize,
     tokens: &[Token],
 ) -> Result<((Box<Expr>, Span), &[Token]), Stop>
-    requires { left ≤ 128 }
     ensures value { Gives (λ r. ((expr_of r.0.0.value, r.0.1), r.1.now)) result (do_end_at left tokens.now) }
     ensures rest { IfOk result (λ r. length r.1.now < length tokens.now) }
 {

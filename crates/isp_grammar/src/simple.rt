@@ -82,7 +82,6 @@ fn maybe_end(
     left: usize,
     tokens: &[Token],
 ) -> Result<(Option<Ending>, &[Token]), Stop>
-    requires { left ≤ 128 }
     ensures value { Gives (λ r. (option_map ending_of r.0, r.1.now)) result (perhaps_at is_ending (ending_at left) tokens.now) }
     ensures rest { IfOk result (λ r. length r.1.now ≤ length tokens.now) }
 {
@@ -136,7 +135,6 @@ fn ended(target: Box<Expr>, ending: Option<Ending>) -> Simple
 
 /// An expression, an assignment or a step by one.
 pub fn simple(alloc: Global, left: usize, tokens: &[Token]) -> Result<(Box<Simple>, &[Token]), Stop>
-    requires { left ≤ 128 }
     ensures value { Gives (λ r. (simple_of r.0.value, r.1.now)) result (simple_at left tokens.now) }
     ensures rest { IfOk result (λ r. length r.1.now < length tokens.now) }
 {

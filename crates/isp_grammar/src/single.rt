@@ -18,7 +18,6 @@ use std::alloc::Global;
 /// A declaration and its semicolon.
 #[tactic(auto, unfolding(crate::specs::reader::Stmts::declare_at))]
 pub fn declare_stmt(alloc: Global, inner: usize, tokens: &[Token]) -> Result<Found<'_>, Stop>
-    requires { inner ≤ 128 }
     ensures value { Gives (λ r. (stmt_of r.0.value, r.1.now)) result (declare_at inner tokens.now) }
     ensures rest { IfOk result (λ r. length r.1.now < length tokens.now) }
 {
@@ -32,7 +31,6 @@ pub fn declare_stmt(alloc: Global, inner: usize, tokens: &[Token]) -> Result<Fou
 /// An expression, an assignment or a step by one, and its semicolon.
 #[tactic(auto, unfolding(crate::specs::reader::Stmts::simple_stmt_at))]
 pub fn simple_stmt(alloc: Global, inner: usize, tokens: &[Token]) -> Result<Found<'_>, Stop>
-    requires { inner ≤ 128 }
     ensures value { Gives (λ r. (stmt_of r.0.value, r.1.now)) result (simple_stmt_at inner tokens.now) }
     ensures rest { IfOk result (λ r. length r.1.now < length tokens.now) }
 {
@@ -72,7 +70,6 @@ pub fn return_stmt(
     keyword: Span,
     tokens: &[Token],
 ) -> Result<Found<'_>, Stop>
-    requires { inner ≤ 128 }
     ensures value { Gives (λ r. (stmt_of r.0.value, r.1.now)) result (return_at inner keyword tokens.now) }
     ensures rest { IfOk result (λ r. length r.1.now < length tokens.now) }
 {
@@ -93,7 +90,6 @@ pub fn print_stmt(
     keyword: Span,
     tokens: &[Token],
 ) -> Result<Found<'_>, Stop>
-    requires { inner ≤ 128 }
     ensures value { Gives (λ r. (stmt_of r.0.value, r.1.now)) result (print_at inner keyword tokens.now) }
     ensures rest { IfOk result (λ r. length r.1.now < length tokens.now) }
 {
@@ -118,7 +114,6 @@ pub fn assert_stmt(
     keyword: Span,
     tokens: &[Token],
 ) -> Result<Found<'_>, Stop>
-    requires { inner ≤ 128 }
     ensures value { Gives (λ r. (stmt_of r.0.value, r.1.now)) result (assert_at inner keyword tokens.now) }
     ensures rest { IfOk result (λ r. length r.1.now < length tokens.now) }
 {

@@ -34,7 +34,6 @@ fn begins_stmt(tokens: &[Token]) -> bool
 /// The statements up to a closing brace, none deeper than `left`.
 #[cycle(stmt)]
 fn stmts(alloc: Global, left: usize, tokens: &[Token]) -> Result<(Vec<Stmt>, &[Token]), Stop>
-    requires { left ≤ 128 }
     ensures value { Gives (λ r. (stmts_of r.0.items, r.1.now)) result (stmts_at (stmt_at left) tokens.now) }
     ensures rest { IfOk result (λ r. length r.1.now ≤ length tokens.now) }
 {
@@ -52,7 +51,6 @@ fn stmts(alloc: Global, left: usize, tokens: &[Token]) -> Result<(Vec<Stmt>, &[T
 #[cycle(stmt)]
 #[tactic(auto, unfolding(crate::specs::reader::Stmts::braced_at))]
 fn braced(alloc: Global, inner: usize, tokens: &[Token]) -> Result<(Block, &[Token]), Stop>
-    requires { inner ≤ 128 }
     ensures value { Gives (λ r. (block_of r.0, r.1.now)) result (braced_at (stmt_at inner) tokens.now) }
     ensures rest { IfOk result (λ r. length r.1.now < length tokens.now) }
 {
@@ -66,7 +64,6 @@ fn braced(alloc: Global, inner: usize, tokens: &[Token]) -> Result<(Block, &[Tok
 /// A block no deeper than `left`.
 #[cycle(stmt)]
 pub fn block(alloc: Global, left: usize, tokens: &[Token]) -> Result<(Block, &[Token]), Stop>
-    requires { left ≤ 128 }
     ensures value { Gives (λ r. (block_of r.0, r.1.now)) result (block_at left tokens.now) }
     ensures rest { IfOk result (λ r. length r.1.now < length tokens.now) }
 {
@@ -80,7 +77,6 @@ pub fn block(alloc: Global, left: usize, tokens: &[Token]) -> Result<(Block, &[T
 #[cycle(stmt)]
 #[tactic(auto, unfolding(crate::specs::reader::Stmts::block_stmt_at))]
 fn block_stmt(alloc: Global, inner: usize, tokens: &[Token]) -> Result<Found<'_>, Stop>
-    requires { inner ≤ 128 }
     ensures value { Gives (λ r. (stmt_of r.0.value, r.1.now)) result (block_stmt_at (stmt_at inner) tokens.now) }
     ensures rest { IfOk result (λ r. length r.1.now < length tokens.now) }
 {
@@ -96,7 +92,6 @@ fn else_branch(
     inner: usize,
     tokens: &[Token],
 ) -> Result<(Option<Box<Stmt>>, &[Token]), Stop>
-    requires { inner ≤ 128 }
     ensures value { Gives (λ r. (option_map (λ b. stmt_of b.value) r.0, r.1.now)) result (optional Mark.Else (stmt_at inner) tokens.now) }
     ensures rest { IfOk result (λ r. length r.1.now ≤ length tokens.now) }
 {
@@ -117,7 +112,6 @@ fn conditional(
     keyword: Span,
     tokens: &[Token],
 ) -> Result<Found<'_>, Stop>
-    requires { inner ≤ 128 }
     ensures value { Gives (λ r. (stmt_of r.0.value, r.1.now)) result (if_at (stmt_at inner) inner form keyword tokens.now) }
     ensures rest { IfOk result (λ r. length r.1.now < length tokens.now) }
 {
@@ -137,7 +131,6 @@ fn loop_stmt(
     keyword: Span,
     tokens: &[Token],
 ) -> Result<Found<'_>, Stop>
-    requires { inner ≤ 128 }
     ensures value { Gives (λ r. (stmt_of r.0.value, r.1.now)) result (loop_at (stmt_at inner) inner which keyword tokens.now) }
     ensures rest { IfOk result (λ r. length r.1.now < length tokens.now) }
 {
@@ -156,7 +149,6 @@ fn do_loop(
     keyword: Span,
     tokens: &[Token],
 ) -> Result<Found<'_>, Stop>
-    requires { inner ≤ 128 }
     ensures value { Gives (λ r. (stmt_of r.0.value, r.1.now)) result (do_at (stmt_at inner) inner form keyword tokens.now) }
     ensures rest { IfOk result (λ r. length r.1.now < length tokens.now) }
 {
@@ -169,7 +161,6 @@ fn do_loop(
 #[cycle(stmt)]
 #[tactic(auto, unfolding(crate::specs::reader::Stmts::unmasked_at))]
 fn unmasked(alloc: Global, inner: usize, keyword: Span, tokens: &[Token]) -> Result<Found<'_>, Stop>
-    requires { inner ≤ 128 }
     ensures value { Gives (λ r. (stmt_of r.0.value, r.1.now)) result (unmasked_at (block_at inner) keyword tokens.now) }
     ensures rest { IfOk result (λ r. length r.1.now < length tokens.now) }
 {
@@ -188,7 +179,6 @@ fn stmt_from<'a>(
     rest: &'a [Token],
 ) -> Result<Found<'a>, Stop>
     requires whole { tokens.now ≡ first.now ∷ rest.now }
-    requires room { inner < 128 }
     ensures value { Gives (λ r. (stmt_of r.0.value, r.1.now)) result
         (stmt_from (stmt_at inner) (block_at inner) inner (start_of first.now.kind) first.now rest.now) }
     ensures rest { IfOk result (λ r. length r.1.now < length tokens.now) }
@@ -217,7 +207,6 @@ fn stmt_from<'a>(
 /// A statement no deeper than `left`.
 #[cycle(stmt)]
 fn stmt(alloc: Global, left: usize, tokens: &[Token]) -> Result<Found<'_>, Stop>
-    requires { left ≤ 128 }
     ensures value { Gives (λ r. (stmt_of r.0.value, r.1.now)) result (stmt_at left tokens.now) }
     ensures rest { IfOk result (λ r. length r.1.now < length tokens.now) }
 {

@@ -335,10 +335,10 @@ pub unary_from-returns-in-Word-clause-value : goal.unary_from-returns-in-Word-cl
 unary_from-returns-in-Word-clause-value t c = rw (sym c.start_of.ensures ∙ c.in-Word.is, sym c.requires.whole) c.named.ensures.value
 
 pub unary_from-returns-in-Bracket-clause-value : goal.unary_from-returns-in-Bracket-clause-value
-unary_from-returns-in-Bracket-clause-value t c = rw (sym c.start_of.ensures ∙ c.in-Bracket.is, bracket_typed (expr_at c.args.inner) c.args.first.now.span c.args.rest.now (sym c.begins_type.ensures ∙ c.if-begins_type.true)) c.cast.ensures.value
+unary_from-returns-in-Bracket-clause-value t c = rw (sym c.start_of.ensures ∙ c.in-Bracket.is, bracket_typed (expr_at (c.args.left - 1)) c.args.first.now.span c.args.rest.now (sym c.begins_type.ensures ∙ c.if-begins_type.true)) c.cast.ensures.value
 
 pub unary_from-returns-in-Bracket-2-clause-value : goal.unary_from-returns-in-Bracket-2-clause-value
-unary_from-returns-in-Bracket-2-clause-value t c = rw (sym c.start_of.ensures ∙ c.in-Bracket-2.is, bracket_closed (expr_at c.args.inner) c.args.first.now.span c.args.rest.now (sym c.begins_type.ensures ∙ c.if-begins_type.false)) c.closed.ensures.value
+unary_from-returns-in-Bracket-2-clause-value t c = rw (sym c.start_of.ensures ∙ c.in-Bracket-2.is, bracket_closed (expr_at (c.args.left - 1)) c.args.first.now.span c.args.rest.now (sym c.begins_type.ensures ∙ c.if-begins_type.false)) c.closed.ensures.value
 
 pub unary_from-returns-in-Prefix-clause-value : goal.unary_from-returns-in-Prefix-clause-value
 unary_from-returns-in-Prefix-clause-value t c = rw (sym c.start_of.ensures ∙ c.in-Prefix.is) c.prefixed.ensures.value
@@ -526,7 +526,7 @@ pub unary_from-returns-in-Atom-clause-rest : goal.unary_from-returns-in-Atom-cla
 unary_from-returns-in-Atom-clause-rest t c = shorter_made c.made.result c.args.first.now c.args.rest.now c.args.tokens.now c.requires.whole c.made.ensures.rest
 
 pub unary_from-returns-in-Atom-clause-bounded : goal.unary_from-returns-in-Atom-clause-bounded
-unary_from-returns-in-Atom-clause-bounded t c = bounded_made c.made.result 1 (c.args.inner + 1) (omega arith) c.made.ensures.height
+unary_from-returns-in-Atom-clause-bounded t c = bounded_made c.made.result 1 c.args.left (omega arith) c.made.ensures.height
 
 pub unary_from-returns-in-Word-clause-height : goal.unary_from-returns-in-Word-clause-height
 unary_from-returns-in-Word-clause-height t c = c.named.ensures.height

@@ -38,19 +38,19 @@ abbrev pub decreases-suffix : goal.decreases-suffix
 decreases-suffix l = 32 * l.left + 16
 
 abbrev pub decreases-named : goal.decreases-named
-decreases-named l = 32 * l.inner + 17
+decreases-named l = 32 * (l.left - 1) + 17
 
 abbrev pub decreases-cast : goal.decreases-cast
-decreases-cast l = 32 * l.inner + 15
+decreases-cast l = 32 * (l.left - 1) + 15
 
 abbrev pub decreases-closed : goal.decreases-closed
-decreases-closed l = 32 * l.inner + 15
+decreases-closed l = 32 * (l.left - 1) + 15
 
 abbrev pub decreases-prefixed : goal.decreases-prefixed
-decreases-prefixed l = 32 * l.inner + 15
+decreases-prefixed l = 32 * (l.left - 1) + 15
 
 abbrev pub decreases-unary_from : goal.decreases-unary_from
-decreases-unary_from l = 32 * l.inner + 18
+decreases-unary_from l = 32 * (l.left - 1) + 18
 
 abbrev pub invariant-binary-loop-op : goal.invariant-binary-loop-op
 invariant-binary-loop-op l = record {
