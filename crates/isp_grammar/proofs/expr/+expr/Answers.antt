@@ -8,12 +8,12 @@ use Rattle.isp_tree.specs.Tree.{span_of}
 use Rattle.isp_grammar.specs.Signs.{loosest}
 use Rattle.isp_tree.specs.Views.{expr_of, argument_of, arguments_of}
 use Rattle.isp_grammar.specs.reader.Readers.{Fails, list_at, optional}
-use Rattle.isp_grammar.specs.reader.Exprs.{argument_at, joined, begins_expr, start_of, operand_from, parts_of, parts_at, choice_of, expr_at, target_at, bracketed_at, arguments_at, named_at, cast_at, closed_at, place_at, index_at, suffix_at}
+use Rattle.isp_grammar.specs.reader.Exprs.{argument_at, joined, begins_expr, start_of, operand_from, parts_of, parts_at, expr_at, target_at, bracketed_at, arguments_at, named_at, cast_at, closed_at, place_at, index_at, suffix_at}
 use Rattle.std.proofs.lemmas.Result.{err_from_is_err_and}
 use Rattle.isp_grammar.proofs.Basics.{head_none, head_some}
 use Rattle.isp_grammar.proofs.Loops.{list_fails, list_last, list_step, listed_none, listed_some}
-use Rattle.isp_grammar.proofs.SimpleSteps.{fails_then, made_gives, shorter_found, shorter_made, rest_made, height_made, bounded_made}
-use Rattle.isp_grammar.proofs.ExprSteps.{atom_depth, depth_named, depth_pos, arguments_past, depth_past, first_fails, loop_begins, loop_ends, loop_deep, loop_fails, loop_step, test_fails, test_alone, test_deep, parts_fail, parts_made, operand_step, target_step, target_at_limit, expr_off, expr_deep, bracket_typed, bracket_closed, argument_referred, argument_valued}
+use Rattle.isp_grammar.proofs.SimpleSteps.{fails_then, made_gives, shorter_found, shorter_made, height_made, bounded_made}
+use Rattle.isp_grammar.proofs.ExprSteps.{atom_depth, depth_pos, arguments_past, depth_past, first_fails, loop_begins, loop_ends, loop_deep, loop_fails, loop_step, test_fails, test_alone, test_deep, parts_fail, parts_made, operand_step, target_step, target_at_limit, expr_off, expr_deep, bracket_typed, bracket_closed, argument_referred, argument_valued}
 use Rattle.isp_grammar.proofs.Views.{brackets_view, cast_view, prefix_view, variable_view, element_view, value_view, reference_view}
 use Rattle.isp_grammar.proofs.expr.+expr.Goals as goal
 
