@@ -15,7 +15,7 @@ use Rattle.isp_tree.specs.Depth.{depth, depth_of_argument, depth_of_all}
 use Rattle.isp_grammar.specs.reader.Readers.{Read, Reader, ◌>>=◌, Fails, refusal, refuse, mark_at, both, at_limit, refusal_at_limit, is_word}
 use Rattle.isp_grammar.specs.reader.Choices.{begins_with, either_at}
 use Rattle.isp_grammar.specs.reader.Types.{begins_type, type_at}
-use Rattle.isp_grammar.specs.reader.Exprs.{start_of, is_start, atom_of, Suffix, by_nothing, by_index, by_arguments, depth_of_suffix, named, begins_expr, operator_at, place_at, bracket_of, cast_at, closed_at, bracket_at, operand_from, operand_at, joined, more_at, binary_at, choice_of, parts_at, choice_at, level_from, level_at, expr_at, target_at, argument_by, argument_at}
+use Rattle.isp_grammar.specs.reader.Exprs.{start_of, is_start, atom_of, begins_expr, operator_at, place_at, bracket_of, cast_at, closed_at, bracket_at, operand_from, operand_at, joined, more_at, binary_at, choice_of, parts_at, choice_at, level_from, level_at, expr_at, target_at, argument_by, argument_at}
 use Rattle.isp_grammar.specs.Signs.{joined_level, loosest, first_span}
 use Rattle.isp_tree.specs.Tree.{Expr, number, truth, program_index, program_count, place, call, brackets, cast, prefix, binary, choose, Place, variable, element, span_of_place, Argument, by_value, by_reference}
 use Rattle.isp_tree.specs.Views.{argument_of, arguments_of}
@@ -29,7 +29,6 @@ use Rattle.isp_grammar.specs.declared.stop.Refusal.{Refusal}
 use Rattle.isp_grammar.specs.declared.stop.Stop.{Stop}
 use Rattle.isp_grammar.specs.declared.stop.Stop.TheVariants as stops
 use Rattle.isp_tree.specs.declared.expr.Operator.{Operator}
-use Rattle.isp_tree.specs.declared.types.Word.{Word}
 
 place_depth_pos : (p : Place) → 0 < depth (place p)
 place_depth_pos (variable w) = omega arith
@@ -53,11 +52,6 @@ atom_depth (atom.Number v) s = refl
 atom_depth (atom.Truth b) s = refl
 atom_depth atom.ProgramIndex s = refl
 atom_depth atom.ProgramCount s = refl
-
-pub depth_named : (w : Word) (s : Suffix) → depth (named w s) ≡ depth_of_suffix s + 1
-depth_named w by_nothing = omega arith
-depth_named w (by_index i) = omega arith
-depth_named w (by_arguments a) = omega arith
 
 -- one more at the end of the arguments
 pub deepest_past : (xs : List Argument) (x : Argument) → depth_of_all (xs ++ x ∷ []) ≡ max (depth_of_all xs) (depth_of_argument x)

@@ -68,11 +68,6 @@ mapped_id (Err d) = refl
 pub maps_id : {A : Type 0} (r : Reader A) → Maps r r (λ x. x)
 maps_id r ts = mapped_id (r ts)
 
--- a reading mapped, and then more
-pub bind_map : {A B C : Type 0} (r : Read A) (g : A → B) (k : B × List Token → Result C Refusal) → (mapped g r >>= k) ≡ (r >>= λ x. k (g x.0, x.1))
-bind_map (Ok x) g k = refl
-bind_map (Err d) g k = refl
-
 -- two maps are one
 pub mapped_twice : {A B C : Type 0} (g : A → B) (h : B → C) (p : Read A) → mapped h (mapped g p) ≡ mapped (λ x. h (g x)) p
 mapped_twice g h (Ok x) = refl

@@ -132,11 +132,6 @@ pub shorter_found : {X : Type 0} (result : Result (X × ℕ × Bor (List Token))
 shorter_found (Ok r) t rest tokens w h = let k : length r.2.now < length rest = h in rw w (omega arith)
 shorter_found (Err e) t rest tokens w h = tt
 
-pub shorter_boxed : {X : Type 0} (result : Result (X × Bor (List Token)) Stop) (t : Token) (rest tokens : List Token) → tokens ≡ t ∷ rest
-    → IfOk result (λ r. r.1.now ≡ rest) → IfOk result (λ r. length r.1.now < length tokens)
-shorter_boxed (Ok r) t rest tokens w h = rw (w, h) (omega arith)
-shorter_boxed (Err e) t rest tokens w h = tt
-
 pub shorter_made : {X : Type 0} (result : Result (X × ℕ × Bor (List Token)) Stop) (t : Token) (rest tokens : List Token) → tokens ≡ t ∷ rest
     → IfOk result (λ r. r.2.now ≡ rest) → IfOk result (λ r. length r.2.now < length tokens)
 shorter_made (Ok r) t rest tokens w h = rw (w, h) (omega arith)
@@ -150,9 +145,3 @@ pub height_made : {T S : Type 0} (view : T → S) (deep : S → ℕ) (result : R
     → IfOk result (λ r. view r.0.value ≡ v) → IfOk result (λ r. r.1 ≡ h) → IfOk result (λ r. r.1 ≡ deep (view r.0.value))
 height_made view deep (Ok r) v h d a b = rw (a, b) (sym d)
 height_made view deep (Err e) v h d a b = tt
-
--- the same, behind what was read before
-pub rest_made : {X : Type 0} (result : Result (X × ℕ × Bor (List Token)) Stop) (rest tokens : List Token) → length rest < length tokens
-    → IfOk result (λ r. r.2.now ≡ rest) → IfOk result (λ r. length r.2.now < length tokens)
-rest_made (Ok r) rest tokens lt h = rw h lt
-rest_made (Err e) rest tokens lt h = tt

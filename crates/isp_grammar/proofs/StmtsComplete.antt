@@ -153,10 +153,6 @@ maybe_step_of : (ts : List Token) (x : Option Simple) → IsMaybe IsSimple ts x 
 maybe_step_of ts None i = (None, i, refl)
 maybe_step_of ts (Some x) i = let p = simple_unmakes i in (Some p.0, p.1, ap Some p.2)
 
--- a test in brackets, before more
-test_front : (o c : Span) (ts b : List Token) (x : Expr) → IsExpr loosest ts x → Test.is (at mark.ParenOpen o ∷ (ts ++ at mark.ParenClose c ∷ [])) x
-test_front o c ts b x i = (o, c, ts, refl, i)
-
 closed_split : (o c : Span) (ts b : List Token) → at mark.ParenOpen o ∷ (ts ++ at mark.ParenClose c ∷ b) ≡ (at mark.ParenOpen o ∷ (ts ++ at mark.ParenClose c ∷ [])) ++ b
 closed_split o c ts b = ap (λ (l : List Token). at mark.ParenOpen o ∷ l) (sym (append_assoc ts (at mark.ParenClose c ∷ []) b))
 
@@ -177,10 +173,6 @@ print_text_of w o p c e t ts xs i =
     let last = is_behind mark.ParenClose (One mark.Semicolon) c (at mark.Semicolon e ∷ []) e refl in
     let values : PrintValues.is (ts ++ at mark.ParenClose c ∷ at mark.Semicolon e ∷ []) (xs, (c, e)) = (ts, at mark.ParenClose c ∷ at mark.Semicolon e ∷ [], refl, i, last, tt) in
     is_behind mark.ParenOpen PrintText o (textual t p ∷ (ts ++ at mark.ParenClose c ∷ at mark.Semicolon e ∷ [])) ((t, p), (xs, (c, e))) (textual t p ∷ [], ts ++ at mark.ParenClose c ∷ at mark.Semicolon e ∷ [], refl, refl, values, tt)
-
-first_token : (f : TokenKind → Bool) (u : List Token) → begins_with f u ≡ true → (t : Token) × (ts : List Token) × (u ≡ t ∷ ts) × (f t.kind ≡ true)
-first_token f [] e = absurd cc
-first_token f (t ∷ ts) e = (t, ts, refl, e)
 
 pub declare_start : (n : ℕ) (u : List Token) → on_head by.Nothing start_of (head u) ≡ by.Declare → stmt_at (suc n) u ≡ (DeclareStmt.read n u >>= λ x. Ok (declare_of x.0, x.1))
 declare_start n [] e = absurd cc
