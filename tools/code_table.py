@@ -1,5 +1,5 @@
 #!/usr/bin/env python3
-"""Writes crates/isp_rows_code/src/codes/table.rt: instructions that the verifier takes, and wrong ones.
+"""Writes table.rt, vectors.rt and others.rt of crates/isp_tests_code/src/codes: instructions that the verifier takes, and wrong ones.
 
 Each line of the table of instructions in docs/MACHINE.md stands here once with what it asks of each
 operand. A wrong instruction differs from a right one in one operand: it is not there (40), has
@@ -12,7 +12,6 @@ the top of the repository:
 # The registers of the function that the tests use: class, number, type.
 #   s0 i32 (a parameter), s1 i32, s2 bool, s3 i64, s4 u8;  v0 i32, v1 i32, v2 bool, v3 i64, v4 u8;  m0, m1
 #   a0 i32 (a parameter), a1 i32 (shared), a2 i32 (of each lane), a3 u8 (shared);  p0;  t0;  two instructions
-FIVE = "(Five, Register, Register, Register, Register"
 OTHER_CLASS = {"s": "v", "v": "s", "m": "s", "a": "s"}
 
 
@@ -36,6 +35,14 @@ LINES = {
         ("Select", "s0 s2 s1 s0", [[], ["s0"], ["s3"], ["s2"]]),
         ("First", "s3 m1", [["s0"], []]),
         ("Load", "s0 a0 s3 m0 p0", [[], ["a2", "a3"], ["s0"], [], []]),
+        ("Reduce(Reduction::Add)", "s3 v0 m0", [["s2", "s4"], ["v2", "v4"], []]),
+        ("Reduce(Reduction::Add)", "s3 v3 m1", [["s2"], ["v2"], []]),
+        ("Reduce(Reduction::Min)", "s0 v1 m0", [["s2"], ["v3"], []]),
+        ("Reduce(Reduction::Max)", "s4 v4 m0", [["s2"], ["v0"], []]),
+        ("Reduce(Reduction::Equal)", "s2 v3 m0", [["s0"], ["v2"], []]),
+        ("Reduce(Reduction::Any)", "s2 v2 m0", [["s0"], ["v0"], []]),
+        ("Reduce(Reduction::All)", "s2 v2 m1", [["s0"], ["v4"], []]),
+        ("Extract", "s0 v1 s1 m0", [["s2"], ["v3"], ["s3"], []]),
     ],
     "vector": [
         ("Copy", "v0 v1 m0", [[], ["v3", "v2"], []]),
@@ -48,6 +55,16 @@ LINES = {
         ("Splat", "v0 s1 m0", [[], ["s3"], []]),
         ("Index", "v0 m0", [["v3"], []]),
         ("Gather", "v0 a2 v3 m0 p0", [[], ["a3"], ["v0"], [], []]),
+        ("LoadRun", "v0 a0 s3 m0 p0", [[], ["a2", "a3"], ["s0"], [], []]),
+        ("Scan(Scan::Add)", "v0 v1 m0", [["v2"], ["v3"], []]),
+        ("Scan(Scan::And)", "v4 v4 m0", [["v2"], ["v0"], []]),
+        ("Scan(Scan::Or)", "v3 v3 m1", [["v2"], ["v0"], []]),
+        ("Exchange(Exchange::Broadcast)", "v0 v1 s1 m0", [["v2"], ["v3"], ["s3"], []]),
+        ("Exchange(Exchange::Rotate)", "v4 v4 s0 m0", [["v2"], ["v0"], ["s4"], []]),
+        ("Exchange(Exchange::Shift)", "v3 v3 s0 m1", [["v2"], ["v0"], ["s2"], []]),
+        ("Shuffle", "v3 v3 v0 m0", [["v2"], ["v0"], ["v3"], []]),
+        ("ShuffleTwo", "v3 v3 v3 v1 m0", [["v2"], ["v0"], ["v4"], ["v3"], []]),
+        ("Insert", "v0 v1 s1 s0 m0", [["v2"], ["v3"], ["s3"], ["s2"], []]),
     ],
     "mask": [
         ("Copy", "m0 m1", [[], []]),
@@ -66,6 +83,12 @@ LINES = {
         ("Divide", "v0 v1 v0 m0 p0", [["v2"], ["v3"], ["v3"], [], []]),
         ("Store", "a0 s3 s1 m0 p0", [["a2"], ["s0"], ["s3"], [], []]),
         ("Scatter", "a2 v3 v1 m0 p0", [[], ["v0"], ["v3"], [], []]),
+        ("StoreRun", "a0 s3 v1 m0 p0", [["a2"], ["s0"], ["v3"], [], []]),
+    ],
+    # the count, the array, the index, the vector, the mask and the place
+    "six": [
+        ("PackedStore", "s0 a1 s3 v0 m0 p0", [["s3", "s4"], ["a2", "a3"], ["s0"], ["v3"], [], []]),
+        ("PackedLoad", "s1 a0 s3 v1 m1 p0", [["s2"], ["a2", "a3"], ["s1"], ["v2"], [], []]),
     ],
 }
 
@@ -101,7 +124,7 @@ def instr(group, name, ops):
     """The Rust form of an instruction, without what it writes."""
     base, _, operator = name.partition("(")
     inner = [operator[:-1]] if operator else []
-    rest = inner + [operand(word) for word in (ops if group == "five" else ops[1:])]
+    rest = inner + [operand(word) for word in (ops[1:])]
     kind = {"scalar": "ScalarInstr", "vector": "VectorInstr", "mask": "MaskInstr"}[group]
     return f"{kind}::{base}({', '.join(rest)})" if rest else f"{kind}::{base}"
 
@@ -116,13 +139,13 @@ def rows(group):
     return fine, wrong
 
 
-def five():
+def others(group):
     fine, wrong = [], []
-    for name, line, kinds in LINES["five"]:
+    for name, line, kinds in LINES[group]:
         def row(ops):
-            return f"Five::{name}, {', '.join(operand(w) for w in ops)}"
+            return f"{group.capitalize()}::{name}, {', '.join(operand(w) for w in ops)}"
         fine.append(f"({row(words(line))})")
-        for ops, rule in wrongs("five", name, line, kinds):
+        for ops, rule in wrongs(group, name, line, kinds):
             wrong.append(f"({row(ops)}, Rule::{rule})")
     return fine, wrong
 
@@ -151,7 +174,27 @@ def static(name, form, entries, doc):
 def main():
     out = """//! Instructions that the verifier takes, and wrong ones. Written by `tools/code_table.py`.
 use isp_base::{Compare, UnaryOp};
-use isp_code::{Class, MaskInstr, MaskOp, Plain, Register, ScalarInstr, VectorInstr};
+use isp_code::{Class, Plain, Reduction, Register, ScalarInstr};
+use isp_verify::Rule;
+
+"""
+    for letter, kind in (("s", "Scalar"), ("v", "Vector"), ("m", "Mask"), ("a", "Array")):
+        last = {"s": 5, "v": 4, "m": 2, "a": 4}[letter]
+        for number in list(range(last + 1)) + [9]:
+            out += f"pub const {letter.upper()}{number}: Register = Register {{ class: Class::{kind}, number: {number} }};\n"
+    out += "\n"
+    lanes = """//! Instructions that write lanes, those that the verifier takes, and wrong ones. Written by `tools/code_table.py`.
+use super::table::{A0, A2, A3, A9, M0, M1, M9, S0, S1, S2, S3, S4, S9, V0, V1, V2, V3, V4, V9};
+use isp_base::{Compare, UnaryOp};
+use isp_code::{Exchange, Plain, Register, Scan, VectorInstr};
+use isp_verify::Rule;
+
+"""
+    rest = """//! Instructions that write masks, and those of many registers and a place, right and wrong. Written by `tools/code_table.py`.
+use super::table::{
+    A0, A1, A2, A3, A9, M0, M1, M9, S0, S1, S2, S3, S4, S9, V0, V1, V2, V3, V9,
+};
+use isp_code::{MaskInstr, MaskOp, Register};
 use isp_verify::Rule;
 
 /// Instructions of four registers and a place.
@@ -160,14 +203,17 @@ pub enum Five {
     Divide,
     Store,
     Scatter,
+    StoreRun,
+}
+
+/// Instructions of five registers and a place.
+#[derive(Clone, Copy)]
+pub enum Six {
+    PackedStore,
+    PackedLoad,
 }
 
 """
-    for letter, kind in (("s", "Scalar"), ("v", "Vector"), ("m", "Mask"), ("a", "Array")):
-        last = {"s": 5, "v": 4, "m": 2, "a": 4}[letter]
-        for number in list(range(last + 1)) + [9]:
-            out += f"pub const {letter.upper()}{number}: Register = Register {{ class: Class::{kind}, number: {number} }};\n"
-    out += "\n"
     total = 0
     for group, kind in (("scalar", "ScalarInstr"), ("vector", "VectorInstr"), ("mask", "MaskInstr")):
         fine, wrong = rows(group)
@@ -175,14 +221,29 @@ pub enum Five {
             more_fine, more_wrong = constants()
             fine, wrong = fine + more_fine, wrong + more_wrong
         total += len(wrong)
-        out += static(f"{group.upper()}S", f"(Register, {kind})", fine, f"What is right of {group} instructions.")
-        out += static(f"WRONG_{group.upper()}S", f"(Register, {kind}, Rule)", wrong, f"What is wrong of {group} instructions.")
-    fine, wrong = five()
-    total += len(wrong)
-    out += static("FIVES", FIVE + ", u32)", fine, "What is right of the others of four registers and a place.")
-    out += static("WRONG_FIVES", FIVE + ", u32, Rule)", wrong, "What is wrong of them.")
-    with open("crates/isp_rows_code/src/codes/table.rt", "w") as file:
+        rows_of = static(f"{group.upper()}S", f"(Register, {kind})", fine, f"What is right of {group} instructions.")
+        rows_of += static(f"WRONG_{group.upper()}S", f"(Register, {kind}, Rule)", wrong, f"What is wrong of {group} instructions.")
+        if group == "vector":
+            lanes += rows_of
+        elif group == "mask":
+            rest += rows_of
+        else:
+            out += rows_of
+    for group, name, doc in (
+        ("five", "FIVES", "What is right of the others of four registers and a place."),
+        ("six", "SIXES", "What is right of those of five registers and a place."),
+    ):
+        fine, wrong = others(group)
+        total += len(wrong)
+        form = f"({group.capitalize()}" + ", Register" * (4 if group == "five" else 5)
+        rest += static(name, form + ", u32)", fine, doc)
+        rest += static(f"WRONG_{name}", form + ", u32, Rule)", wrong, "What is wrong of them.")
+    with open("crates/isp_tests_code/src/codes/table.rt", "w") as file:
         file.write(out.rstrip() + "\n")
+    with open("crates/isp_tests_code/src/codes/vectors.rt", "w") as file:
+        file.write(lanes.rstrip() + "\n")
+    with open("crates/isp_tests_code/src/codes/others.rt", "w") as file:
+        file.write(rest.rstrip() + "\n")
     print(total, "wrong instructions")
 
 

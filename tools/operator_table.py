@@ -1,5 +1,5 @@
 #!/usr/bin/env python3
-"""Writes crates/isp_rows/src/operators/*.rt: what each operator gives at the ends of each type.
+"""Writes crates/isp_tests_base/src/operators/table.rt: what each operator gives at the ends of each type.
 
 The numbers come from Python's whole numbers, of any size, and from the rules of the language;
 nothing here is taken from the crates. Run it at the top of the repository:
@@ -7,10 +7,8 @@ nothing here is taken from the crates. Run it at the top of the repository:
     python3 tools/operator_table.py
 """
 
-import subprocess
-
 TYPES = [
-    ("boolean", 1, False),
+    ("bool", 1, False),
     ("int8", 8, True),
     ("uint8", 8, False),
     ("int16", 16, True),
@@ -64,53 +62,32 @@ def unary(name, x):
 
 
 def converted(x, name, width):
-    return int(x != 0) if name == "boolean" else bits(x, width)
+    return int(x != 0) if name == "bool" else bits(x, width)
 
 
-def rows(numbers):
-    """Numbers in rows that the formatter leaves on one line."""
-    for length in (8, 6, 5, 4, 3, 2):
-        lines = [numbers[k : k + length] for k in range(0, len(numbers), length)]
-        if len(numbers) % length == 0 and all(len(str(line)) <= 60 for line in lines):
-            return lines
-    return [[number] for number in numbers]
+def line(name, numbers, width):
+    """A name and numbers, where a dash stands for none."""
+    return " ".join([name, *("-" if z is None else str(bits(z, width)) for z in numbers)])
 
 
-def table(name, blocks):
-    """Blocks of the same shape, each in rows of the length that suits all of them."""
-    length = min(len(rows(block)[0]) for block in blocks)
-    blocks = [[block[k : k + length] for k in range(0, len(block), length)] for block in blocks]
-    yield f"pub static {name}: [[[u64; {length}]; {len(blocks[0])}]; {len(blocks)}] = ["
-    for block in blocks:
-        yield "    ["
-        yield from (f"        {line}," for line in block)
-        yield "    ],"
-    yield "];"
-
-
-def tables(width, signed):
+def lines(type_name, width, signed):
     tried = ends(width, signed)
-    pairs = [(x, y) for x in tried for y in tried]
-    results = [[binary(op, x, y, width) for x, y in pairs] for op in BINARY]
-    yield "/// The values that are tried, in the order of their numbers."
-    yield f"pub static ENDS: [u64; {len(tried)}] = {[bits(x, width) for x in tried]};"
-    yield ""
-    yield "/// For each operator in the order of `BinOp`, its result at each pair, 0 where it divides by zero."
-    yield from table("BINARY", [[0 if z is None else bits(z, width) for z in block] for block in results])
-    yield ""
-    yield "/// For each operator in the order of `UnaryOp`, its result at each value."
-    yield from table("UNARY", [[bits(unary(op, x), width) for x in tried] for op in UNARY])
-    yield ""
-    yield "/// For each type in the order of `Elem`, each value as one of that type."
-    yield from table("CONVERTED", [[converted(x, other, wide) for x in tried] for other, wide, _ in TYPES])
+    yield line(f"values_of_{type_name}", tried, width)
+    for op in BINARY:
+        yield line(op.lower(), [binary(op, x, y, width) for x in tried for y in tried], width)
+    for op in UNARY:
+        yield line(op.lower(), [unary(op, x) for x in tried], width)
+    for other, wide, _ in TYPES:
+        yield line(other, [converted(x, other, wide) for x in tried], wide)
 
 
 def main():
-    for name, width, signed in TYPES:
-        with open(f"crates/isp_rows/src/operators/{name}.rt", "w") as file:
-            print(f"//! The operators on values of {name}. Written by `tools/operator_table.py`.\n", file=file)
-            print("\n".join(tables(width, signed)), file=file)
-    subprocess.run(["rt", "fmt"], cwd="crates/isp_rows", check=True)
+    with open("crates/isp_tests_base/src/operators/table.rt", "w", encoding="utf-8") as file:
+        print("//! The operators at the ends of each type. Written by `tools/operator_table.py`.\n", file=file)
+        print("/// For each type the values that are tried, in the order of their numbers; for each operator on two values its result at", file=file)
+        print("/// each pair, a dash where it divides by zero; for each on one value its result at each; and each value in each type.", file=file)
+        text = "\n".join(text for type_ in TYPES for text in lines(*type_))
+        print(f'pub(super) const TABLE: &str = "{text}";', file=file)
 
 
 main()

@@ -1,9 +1,9 @@
 #!/usr/bin/env python3
-"""Writes crates/isp_rows_types/src/tables/library.rt and pairs.rt: sources and what comes out.
+"""Writes crates/isp_tests_types/src/tables/library.rt, packed.rt and pairs.rt: sources and what comes out.
 
 Each call of the library stands here once with what it takes and gives, as docs/LANGUAGE.md has it,
 and each fault of names, types and rates once; the tables hold each call with each kind of wrong
-argument, and each two faults in either order. Nothing is taken from the crates. Run it at the top
+argument, each packed call with a wrong number of arguments, and each two faults in either order. Nothing is taken from the crates. Run it at the top
 of the repository:
 
     python3 tools/source_table.py
@@ -35,6 +35,21 @@ CALLS = {
     "select": ("xxx", "as they are"),
 }
 NO_VALUES = ["a", "g()", "&v"]
+PACKED = ["packed_store_active", "packed_load_active"]
+# Arguments that are faultless by themselves, and such that are not, with the fault and its place.
+REFERENCES = ["&a", "&v", "&u", "&c", "&a[0]", "&d[v]", "&v[1]"]
+ALONE = ["a", "c", "v", "1", "t", "g()", "h(v)"]
+FAULTY = [
+    ("20 UnknownName", "⟦zz⟧"),
+    ("20 UnknownName", "&⟦zz⟧"),
+    ("20 UnknownName", "&⟦zz⟧[0]"),
+    ("20 UnknownName", "&a[⟦zz⟧]"),
+    ("22 Mismatch", "&a[⟦a⟧]"),
+    ("22 Mismatch", "&a[⟦g()⟧]"),
+    ("22 Mismatch", "(⟦a⟧)"),
+    ("22 Mismatch", "1 + ⟦g()⟧"),
+    ("23 Arguments", "⟦h()⟧"),
+]
 FAULTS = {
     "20 UnknownName": "v = ⟦zz⟧;",
     "21 NameTwice": "int ⟦v⟧;",
@@ -51,7 +66,7 @@ FAULTS = {
 def file(path, says, what, lines):
     head = f"//! {says}\n\n/// Each line: what comes out, and statements of the function `f` that stands in the frame; the place is in brackets.\n"
     body = "".join(f"{line}\n" for line in lines)
-    with open(f"crates/isp_rows_types/src/tables/{path}.rt", "w") as out:
+    with open(f"crates/isp_tests_types/src/tables/{path}.rt", "w") as out:
         out.write(f'{head}pub(crate) const {what}: &str = r##"{body}"##;\n')
 
 
@@ -81,6 +96,27 @@ def library():
             yield f"23 Arguments|⟦{call(name, right + ['v'])}⟧;"
 
 
+def packed():
+    for name in PACKED:
+        yield f"23 Arguments|⟦{call(name, [])}⟧;"
+        for one in ALONE + REFERENCES:
+            yield f"23 Arguments|⟦{call(name, [one])}⟧;"
+            yield f"23 Arguments|u = ⟦{call(name, [one, one, one])}⟧;"
+        for place in range(3):
+            for one in REFERENCES:
+                some = ["a", "v", "1"]
+                some[place] = one
+                yield f"23 Arguments|⟦{call(name, some)}⟧;"
+            for fault, one in FAULTY:
+                some = ["&a", "&v", "&c"]
+                some[place] = one
+                yield f"{fault}|{call(name, some)};"
+    # another call keeps no `&`, whatever the number of its arguments
+    for name in ["g", "h", "w", "min", "rotate"]:
+        for one in REFERENCES:
+            yield f"22 Mismatch|{call(name, [f'⟦{one}⟧', 'v', 'v'])};"
+
+
 def pairs():
     bare = str.maketrans("", "", "⟦⟧")
     for first, one in FAULTS.items():
@@ -95,4 +131,5 @@ def pairs():
 
 
 file("library", "Each call of the library, with each kind of wrong argument.", "CALLS", library())
+file("packed", "Each packed call with a wrong number of arguments.", "CALLS", packed())
 file("pairs", "Each two faults, in either order.", "PAIRS", pairs())

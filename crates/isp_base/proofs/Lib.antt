@@ -9,3 +9,4 @@ pub mod Laws
 pub mod Roundings
 pub mod Bindings
 pub mod RankLaws
+pub mod Gangs

@@ -1,13 +1,16 @@
 -- What an index means, what stores leave in an array, and what divides by zero.
-use Rattle.std.specs.Prelude.{ℕ, zero, suc, ◌^◌, ◌%◌, ◌==◌, Option, Some, None, Bool, not, ◌||◌, ◌&&◌, pos, int_lt, unsigned_abs}
+use Rattle.std.specs.Prelude.{ℕ, zero, suc, ◌^◌, ◌%◌, ◌==◌, Option, Some, None, Bool, not, ◌||◌, ◌&&◌, ℤ, pos, int_lt, unsigned_abs}
 use Rattle.isp_base.specs.Values.{width, number, divides}
 use Rattle.isp_base.specs.declared.types.Elem.{Elem}
 use Rattle.isp_base.specs.declared.operators.BinOp.{BinOp}
 use Rattle.isp_base.specs.Maps.{Lanes, Map, put}
 
--- an index of n elements is a whole number from 0 up to n - 1
+-- an index of n elements is a whole number from 0 up to n - 1; any other names none
+abbrev pub is_beyond : ℕ → ℤ → Bool
+is_beyond n z = int_lt z (pos 0) || not (int_lt z (pos n))
+
 abbrev pub is_outside : Elem → ℕ → ℕ → Bool
-is_outside t n x = int_lt (number t x) (pos 0) || not (int_lt (number t x) (pos n))
+is_outside t n x = is_beyond n (number t x)
 
 -- the element that an index means
 abbrev pub element : Elem → ℕ → ℕ

@@ -1,7 +1,7 @@
 -- The arguments of a run by number, and their arrays: at its start, and as they are now.
 --     rows xs            the arrays among the arguments, in order
 --     rows_now rs f      the arrays of the types and lengths of rs, with the elements that f gives
-use Rattle.std.specs.Prelude.{ℕ, zero, suc, ◌^◌, ◌%◌, List, [], ◌∷◌, length}
+use Rattle.std.specs.Prelude.{ℕ, zero, suc, ◌^◌, ◌%◌, ◌<◌, List, [], ◌∷◌, length, All}
 use Rattle.isp_base.specs.Values.{width}
 use Rattle.isp_base.specs.Rows.{Row}
 use Rattle.isp_base.specs.Maps.{Lanes}
@@ -36,3 +36,12 @@ tabulate (suc n) f = f 0 ∷ tabulate n (λ i. f (suc i))
 abbrev pub rows_now : List Row → (ℕ → Lanes) → List Row
 rows_now [] f = []
 rows_now (r ∷ rs) f = record { elem = r.elem; bits = tabulate (length r.bits) (f 0) } ∷ rows_now rs (λ b. f (suc b))
+
+-- an int64 can name each element of an array
+abbrev pub IsShort : Argument → Type 0
+IsShort (AValue v) = Unit {0}
+IsShort (AnArray a) = length a.bits < 2 ^ 63
+
+-- true of all arguments that are bound
+abbrev pub AreShort : List Argument → Type 0
+AreShort xs = All IsShort xs

@@ -9,7 +9,8 @@ use Rattle.isp_base.specs.declared.operators.BinOp.{BinOp}
 use Rattle.isp_base.specs.declared.operators.BinOp.TheVariants.{And}
 use Rattle.isp_base.specs.Values.{width, number, wrap, op_bits}
 use Rattle.isp_base.specs.Sets.{Mask}
-use Rattle.isp_base.specs.Maps.{Map}
+use Rattle.isp_base.specs.Access.{is_beyond}
+use Rattle.isp_base.specs.Maps.{Map, on}
 
 -- an instance without a value reads as 0
 abbrev pub or_zero : Option ℕ → ℕ
@@ -119,3 +120,22 @@ rank a (suc p) = rank a p + (if a p then 1 else 0)
 -- the whole number at which a member of the set finds its element, where z is the lowest one's
 abbrev pub packed_index : ℤ → Mask → ℕ → ℤ
 packed_index z a p = z +ℤ pos (rank a p)
+
+-- the members whose element is not among the first n
+abbrev pub packed_outside : ℕ → ℤ → Mask → Mask
+packed_outside n z a p = a p && is_beyond n (packed_index z a p)
+
+-- the elements of the members
+abbrev pub packed_places : ℤ → Mask → Map
+packed_places z a = on a (λ p. unsigned_abs (packed_index z a p))
+
+-- the whole number at which an instance finds its element in a run of elements, where z is that of instance 0
+abbrev pub run_index : ℤ → ℕ → ℤ
+run_index z p = z +ℤ pos p
+
+-- the instances of a set whose element is not among the first n, and the elements of the others
+abbrev pub run_outside : ℕ → ℤ → Mask → Mask
+run_outside n z a p = a p && is_beyond n (run_index z p)
+
+abbrev pub run_places : ℤ → Mask → Map
+run_places z a = on a (λ p. unsigned_abs (run_index z p))

@@ -25,6 +25,11 @@ abbrev pub any : ℕ → Mask → Bool
 any zero a = false
 any (suc n) a = any n a || a n
 
+-- whether each of the first n is in the set
+abbrev pub all : ℕ → Mask → Bool
+all zero a = true
+all (suc n) a = all n a && a n
+
 abbrev pub or_this : Option ℕ → Bool → ℕ → Option ℕ
 or_this (Some p) b n = Some p
 or_this None true n = Some n

@@ -72,6 +72,13 @@ impl Array {
         }
     }
 
+    /// What every array promises: a whole number of 64 bits with a sign can name each of its elements.
+    pub fn told(&self)
+        ensures { length self.now.bits < 2 ^ 63 }
+    {
+        let _held = &self.cells;
+    }
+
     /// The elements' words.
     pub fn cells(&self) -> &Cells
         ensures words { held result.now ≡ self.now.bits }

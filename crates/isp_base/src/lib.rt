@@ -17,6 +17,8 @@ pub use operators::{BinOp, Compare, DivideByZero, UnaryOp, apply, apply_nonzero,
 pub use order::compare;
 pub use signature::{Argument, Bound, Parameter, Signature};
 pub use trap::{Trap, TrapKind};
-pub use types::{Elem, Gang, Rate, Span, Ty, Value, chosen, common, common_laws, operand};
+pub use types::{
+    Elem, Gang, Rate, Span, Ty, Value, chosen, common, common_laws, gang_laws, operand, widened,
+};
 pub use unary::apply_unary;
 pub use values::{amount_mask, convert, greatest_of, low_bits, low_mask, number, value_laws, wrap};

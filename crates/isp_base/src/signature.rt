@@ -34,7 +34,17 @@ pub struct Bound {
 }
 
 impl Argument {
+    ghost use Rattle.isp_base.specs.Arguments.{IsShort};
     ghost use Rattle.isp_base.specs.Binding.{is_for};
+
+    /// What every argument promises: an int64 can name each element of an array.
+    pub fn told(&self)
+        ensures { IsShort self.now }
+    {
+        if let Argument::Array(array) = self {
+            array.told();
+        }
+    }
 
     /// Whether kind and element type are those of the parameter.
     pub fn is_for(&self, parameter: &Parameter) -> bool
@@ -48,7 +58,17 @@ impl Argument {
 }
 
 impl Bound {
+    ghost use Rattle.isp_base.specs.Arguments.{AreShort};
     ghost use Rattle.isp_base.specs.Binding.{has_signature};
+
+    /// What all bound arguments promise: an int64 can name each element of each array.
+    pub fn told(&self)
+        ensures { AreShort self.now.arguments.items }
+    {
+        for argument in &self.arguments {
+            argument.told();
+        }
+    }
 
     /// Whether there is one argument for each parameter, in order, of its kind and element type.
     pub fn has_signature(&self, signature: &Signature) -> bool

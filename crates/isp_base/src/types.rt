@@ -1,8 +1,11 @@
 //! Element types, rates, places and gangs.
-ghost use Rattle.std.specs.Prelude.{◌≡◌, ◌≤◌, ◌⊎◌};
+ghost use Rattle.std.specs.Prelude.{◌≡◌, ◌≢◌, ◌<◌, ◌≤◌, ◌⊎◌, None, Some, true};
+ghost use Rattle.isp_base.specs.Cross.{widened};
+ghost use Rattle.isp_base.specs.Sets.{any, everyone};
 ghost use Rattle.isp_base.specs.Types.{gang_width, span_to};
 ghost use Rattle.isp_base.specs.Ranks.{chosen, common, operand, rank};
 ghost use Rattle.isp_base.specs.declared.types.Elem.{Elem};
+ghost use Rattle.isp_base.specs.declared.types.Gang.{Gang};
 
 use std::fmt;
 
@@ -47,6 +50,20 @@ pub fn chosen(x: Elem, y: Elem) -> Elem
     match (x, y) {
         (Elem::Bool, Elem::Bool) => Elem::Bool,
         _ => common(x, y),
+    }
+}
+
+/// The type of a sum of many: twice as wide, up to 64 bits, of the same sign.
+pub fn widened(elem: Elem) -> Elem
+    ensures { result ≡ widened elem }
+{
+    match elem {
+        Elem::I8 => Elem::I16,
+        Elem::U8 => Elem::U16,
+        Elem::I16 => Elem::I32,
+        Elem::U16 => Elem::U32,
+        Elem::Bool | Elem::I32 | Elem::I64 => Elem::I64,
+        Elem::U32 | Elem::U64 => Elem::U64,
     }
 }
 
@@ -110,6 +127,22 @@ pub enum Gang {
 }
 
 impl Gang {
+    /// Every gang, the smallest first.
+    pub const ALL: [Gang; 3] = [Gang::W4, Gang::W8, Gang::W16];
+
+    /// The gang of so many instances, if there is one.
+    pub fn of_width(width: usize) -> Option<Gang>
+        ensures some { (g : Gang) → result ≡ Some g → gang_width g ≡ width }
+        ensures none { result ≡ None → (g : Gang) → gang_width g ≢ width }
+    {
+        match width {
+            4 => Some(Gang::W4),
+            8 => Some(Gang::W8),
+            16 => Some(Gang::W16),
+            _ => None,
+        }
+    }
+
     /// The number of instances.
     pub fn width(self) -> usize
         ensures { result ≡ gang_width self }
@@ -121,6 +154,13 @@ impl Gang {
         }
     }
 }
+
+/// What holds of every gang: it has an instance, and at most 16, so that a word of 64 bits has a bit for each.
+pub fn gang_laws()
+    ensures some { (g : Gang) → 0 < gang_width g }
+    ensures few { (g : Gang) → gang_width g ≤ 16 }
+    ensures someone { (g : Gang) → any (gang_width g) (everyone (gang_width g)) ≡ true }
+{}
 
 /// One value: the low bits of `bits`, as many as the element type has, stand for a whole number.
 ///

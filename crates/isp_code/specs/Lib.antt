@@ -8,3 +8,4 @@ pub mod Lines
 pub mod Machine
 pub mod Entries
 pub mod Fine
+pub mod Limits

@@ -32,10 +32,13 @@ source_limit = 1048576
 abbrev pub place_fits : Span → Bool
 place_fits s = nat_le s.start s.end && nat_le s.end source_limit
 
--- a text has a byte
+-- a text is of bytes, one at least
+abbrev pub is_byte : ℕ → Bool
+is_byte b = nat_lt b 256
+
 abbrev pub text_fits : List ℕ → Bool
 text_fits [] = false
-text_fits (b ∷ bs) = true
+text_fits (b ∷ bs) = list_all is_byte (b ∷ bs)
 
 -- a letter or `_`, then letters, digits and `_`
 abbrev pub is_word_byte : ℕ → Bool
@@ -68,6 +71,8 @@ scalar_fits (scalar.Compare op x y) = register_fits x && register_fits y
 scalar_fits (scalar.Select c x y) = register_fits c && register_fits x && register_fits y
 scalar_fits (scalar.First x) = register_fits x
 scalar_fits (scalar.Load a i k p) = register_fits a && register_fits i && register_fits k && number_fits p
+scalar_fits (scalar.Reduce r x k) = register_fits x && register_fits k
+scalar_fits (scalar.Extract x i k) = register_fits x && register_fits i && register_fits k
 
 abbrev pub vector_fits : VectorInstr → Bool
 vector_fits (vector.Copy x k) = register_fits x && register_fits k
@@ -79,6 +84,12 @@ vector_fits (vector.Select c x y k) = register_fits c && register_fits x && regi
 vector_fits (vector.Splat x k) = register_fits x && register_fits k
 vector_fits (vector.Index k) = register_fits k
 vector_fits (vector.Gather a i k p) = register_fits a && register_fits i && register_fits k && number_fits p
+vector_fits (vector.LoadRun a i k p) = register_fits a && register_fits i && register_fits k && number_fits p
+vector_fits (vector.Scan op x k) = register_fits x && register_fits k
+vector_fits (vector.Exchange e x i k) = register_fits x && register_fits i && register_fits k
+vector_fits (vector.Shuffle x i k) = register_fits x && register_fits i && register_fits k
+vector_fits (vector.ShuffleTwo x y i k) = register_fits x && register_fits y && register_fits i && register_fits k
+vector_fits (vector.Insert x i y k) = register_fits x && register_fits i && register_fits y && register_fits k
 
 abbrev pub mask_fits : MaskInstr → Bool
 mask_fits (mask.Copy x) = register_fits x
@@ -107,6 +118,9 @@ instr_fits (instr.Mask d i) = register_fits d && mask_fits i
 instr_fits (instr.Divide op d x y k p) = access_fits d x y k p
 instr_fits (instr.Store a i y k p) = access_fits a i y k p
 instr_fits (instr.Scatter a i y k p) = access_fits a i y k p
+instr_fits (instr.StoreRun a i y k p) = access_fits a i y k p
+instr_fits (instr.PackedStore d a i y k p) = register_fits d && access_fits a i y k p
+instr_fits (instr.PackedLoad d a i y k p) = register_fits d && access_fits a i y k p
 instr_fits (instr.Clear a k) = register_fits a && register_fits k
 instr_fits (instr.Jump to) = number_fits to
 instr_fits (instr.JumpIf t x to) = register_fits x && number_fits to

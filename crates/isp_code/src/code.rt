@@ -2,7 +2,7 @@
 ghost use Rattle.std.specs.Prelude.{◌≡◌, ◌<◌, [], ◌∷◌, ◌++◌, length, map, slice_get, true, false, Some, IfOk, IfErr, OnOk, OnErr};
 ghost use Rattle.isp_code.specs.Listing.{routine_of};
 ghost use Rattle.isp_code.specs.Writable.{place_fits, text_fits, routine_fits, table_has_room, IsWritable};
-ghost use Rattle.isp_code.specs.declared.limit.CodeLimit.TheVariants.{OverLimit};
+ghost use Rattle.isp_code.specs.declared.limit.CodeLimit.TheVariants.{Memory, OverLimit};
 
 use crate::function::Function;
 use crate::limit::CodeLimit;
@@ -95,6 +95,7 @@ impl Code {
         ensures added { OnOk result (self.new ≡ record self.old { places = self.old.places ++ place ∷ [] }) }
         ensures fits { OnOk result (table_has_room self.old.places (place_fits place) ≡ true) }
         ensures refused { IfErr result (λ e. e ≡ OverLimit → table_has_room self.old.places (place_fits place) ≡ false) }
+        ensures memory { IfErr result (λ e. e ≡ Memory → table_has_room self.old.places (place_fits place) ≡ true) }
         ensures unchanged { OnErr result (self.new ≡ self.old) }
     {
         let number = self.places.len();
@@ -112,10 +113,11 @@ impl Code {
         ensures added { OnOk result (self.new ≡ record self.old { texts = self.old.texts ++ text.now ∷ [] }) }
         ensures fits { OnOk result (table_has_room self.old.texts (text_fits text.now) ≡ true) }
         ensures refused { IfErr result (λ e. e ≡ OverLimit → table_has_room self.old.texts (text_fits text.now) ≡ false) }
+        ensures memory { IfErr result (λ e. e ≡ Memory → table_has_room self.old.texts (text_fits text.now) ≡ true) }
         ensures unchanged { OnErr result (self.new ≡ self.old) }
     {
         let number = self.texts.len();
-        if number >= TABLE_LIMIT || text.is_empty() {
+        if number >= TABLE_LIMIT || !writable::text_fits(text) {
             return Err(CodeLimit::OverLimit);
         }
         let alloc = *self.texts.allocator();
@@ -130,6 +132,7 @@ impl Code {
         ensures added { OnOk result (self.new ≡ record self.old { routines = self.old.routines ++ routine_of function ∷ [] }) }
         ensures fits { OnOk result (routine_fits (routine_of function) ≡ true) }
         ensures refused { IfErr result (λ e. e.1 ≡ OverLimit → routine_fits (routine_of function) ≡ false) }
+        ensures memory { IfErr result (λ e. e.1 ≡ Memory → routine_fits (routine_of function) ≡ true) }
         ensures unchanged { OnErr result (self.new ≡ self.old) }
         ensures returned { IfErr result (λ e. e.0 ≡ function) }
     {

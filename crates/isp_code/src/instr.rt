@@ -41,13 +41,43 @@ pub enum MaskOp {
     AndNot,
 }
 
-/// When control jumps: where a scalar is false or true, where a set of lanes has none or some.
+/// What one value is made of those of a set of lanes: their sum, the least or the greatest of them, whether all are
+/// equal, and of bools whether one or all are true.
+#[derive(Clone, Copy)]
+pub enum Reduction {
+    Add,
+    Min,
+    Max,
+    Equal,
+    Any,
+    All,
+}
+
+/// An operator on the values of all lower lanes of a set.
+#[derive(Clone, Copy)]
+pub enum Scan {
+    Add,
+    And,
+    Or,
+}
+
+/// What a lane gets from another by one number: the value of the lane with this number, or of the one that many lanes
+/// above, where behind the last lane the first follows, or none does and there is 0.
+#[derive(Clone, Copy)]
+pub enum Exchange {
+    Broadcast,
+    Rotate,
+    Shift,
+}
+
+/// When control jumps: where a scalar is false or true, where a set of lanes has none, some or all.
 #[derive(Clone, Copy)]
 pub enum JumpTest {
     False,
     True,
     Off,
     On,
+    All,
 }
 
 /// What a scalar register is set to.
@@ -71,6 +101,10 @@ pub enum ScalarInstr {
     First(Register),
     /// An element: the array, the index, the mask and the place of a trap.
     Load(Register, Register, Register, u32),
+    /// What is made of the lanes of a vector that a mask has.
+    Reduce(Reduction, Register, Register),
+    /// The value of one lane of a vector: the vector, the lane's number, and the mask.
+    Extract(Register, Register, Register),
 }
 
 /// What the lanes of a vector register are set to under a mask, which comes last, but for the place of a trap.
@@ -94,6 +128,19 @@ pub enum VectorInstr {
     Index(Register),
     /// The element at each lane's index: the array, the indices, the mask and the place of a trap.
     Gather(Register, Register, Register, u32),
+    /// The element as many behind an index as the lane's number says: the array, the index, the mask and the place of
+    /// a trap.
+    LoadRun(Register, Register, Register, u32),
+    /// The result of an operator on the values of the lower lanes.
+    Scan(Scan, Register, Register),
+    /// What another lane has, by one number: the vector, the number, and the mask.
+    Exchange(Exchange, Register, Register, Register),
+    /// What the lane has that each lane's number names: the vector, the numbers, and the mask.
+    Shuffle(Register, Register, Register),
+    /// The same of two vectors side by side.
+    ShuffleTwo(Register, Register, Register, Register),
+    /// The vector with another value in one lane: the vector, the lane's number, the value, and the mask.
+    Insert(Register, Register, Register, Register),
 }
 
 /// What a mask register is set to.
@@ -174,6 +221,14 @@ pub enum Instr {
     Store(Register, Register, Register, Register, u32),
     /// Stores lanes at each lane's index, the highest last.
     Scatter(Register, Register, Register, Register, u32),
+    /// Stores lanes at consecutive elements, each as many behind an index as its number says: the array, the index, what
+    /// is stored, the mask and the place of a trap.
+    StoreRun(Register, Register, Register, Register, u32),
+    /// Stores the lanes of a mask at consecutive elements, the lowest at an index: their count, the array, the index, what
+    /// is stored, the mask and the place of a trap.
+    PackedStore(Register, Register, Register, Register, Register, u32),
+    /// Loads them from there: their count, the array, the index, what is written, the mask and the place of a trap.
+    PackedLoad(Register, Register, Register, Register, Register, u32),
     /// Zeroes a local array.
     Clear(Register, Register),
     /// Jumps.

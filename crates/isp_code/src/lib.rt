@@ -12,7 +12,8 @@ mod writable;
 pub use code::Code;
 pub use function::{Function, Local, Param, ParamKind, Returns, Sharing};
 pub use instr::{
-    Call, CallBox, Division, Instr, JumpTest, MaskInstr, MaskOp, Plain, ScalarInstr, VectorInstr,
+    Call, CallBox, Division, Exchange, Instr, JumpTest, MaskInstr, MaskOp, Plain, Reduction,
+    ScalarInstr, Scan, VectorInstr,
 };
 pub use limit::CodeLimit;
 pub use operand::{ArrayWant, Operand, Want};

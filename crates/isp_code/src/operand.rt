@@ -11,8 +11,14 @@ pub enum Want {
     Is(Elem),
     /// A type of whole numbers: any but `bool`.
     Integer,
+    /// A type of whole numbers of 32 bits.
+    Word32,
+    /// A type that a sum has.
+    Sum,
     /// The type of this register.
     Like(Register),
+    /// A type of whole numbers whose sums have the type of this register.
+    Widens(Register),
 }
 
 /// The arrays that may stand at a place: all; those that all lanes share; those that the function has opened.

@@ -25,6 +25,13 @@ pub(crate) fn place_fits(place: Span) -> bool
     place.start <= place.end && place.end <= SOURCE_LIMIT
 }
 
+/// Whether the text can have a text that is written: it has a byte.
+pub(crate) fn text_fits(text: &[u8]) -> bool
+    ensures { result ≡ writable.text_fits text.now }
+{
+    !text.is_empty()
+}
+
 fn is_word_byte(byte: u8) -> bool
     ensures { result ≡ writable.is_word_byte byte }
 {
@@ -130,6 +137,8 @@ fn scalar_fits(instr: &ScalarInstr) -> bool
         ScalarInstr::Select(c, x, y) => fits(c) && fits(x) && fits(y),
         ScalarInstr::First(x) => fits(x),
         ScalarInstr::Load(a, i, k, place) => fits(a) && fits(i) && fits(k) && number_fits(*place),
+        ScalarInstr::Reduce(_op, x, k) => fits(x) && fits(k),
+        ScalarInstr::Extract(x, i, k) => fits(x) && fits(i) && fits(k),
     }
 }
 
@@ -146,6 +155,15 @@ fn vector_fits(instr: &VectorInstr) -> bool
         VectorInstr::Splat(x, k) => fits(x) && fits(k),
         VectorInstr::Index(k) => fits(k),
         VectorInstr::Gather(a, i, k, place) => fits(a) && fits(i) && fits(k) && number_fits(*place),
+        VectorInstr::LoadRun(a, i, k, place) => fits(a)
+            && fits(i)
+            && fits(k)
+            && number_fits(*place),
+        VectorInstr::Scan(_op, x, k) => fits(x) && fits(k),
+        VectorInstr::Exchange(_exchange, x, i, k) => fits(x) && fits(i) && fits(k),
+        VectorInstr::Shuffle(x, i, k) => fits(x) && fits(i) && fits(k),
+        VectorInstr::ShuffleTwo(x, y, i, k) => fits(x) && fits(y) && fits(i) && fits(k),
+        VectorInstr::Insert(x, i, y, k) => fits(x) && fits(i) && fits(y) && fits(k),
     }
 }
 
@@ -192,6 +210,9 @@ fn instr_fits(instr: &Instr) -> bool
         Instr::Divide(_op, d, x, y, k, place) => access_fits(d, x, y, k, *place),
         Instr::Store(a, i, y, k, place) => access_fits(a, i, y, k, *place),
         Instr::Scatter(a, i, y, k, place) => access_fits(a, i, y, k, *place),
+        Instr::StoreRun(a, i, y, k, place) => access_fits(a, i, y, k, *place),
+        Instr::PackedStore(d, a, i, y, k, place) => fits(d) && access_fits(a, i, y, k, *place),
+        Instr::PackedLoad(d, a, i, y, k, place) => fits(d) && access_fits(a, i, y, k, *place),
         Instr::Clear(a, k) => fits(a) && fits(k),
         Instr::Jump(to) => number_fits(*to),
         Instr::JumpIf(_test, x, to) => fits(x) && number_fits(*to),

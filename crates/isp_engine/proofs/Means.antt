@@ -1,7 +1,7 @@
 -- What the machine answers for code that agrees with a program is what the program means.
 use Rattle.std.proofs.Common.{◌≡◌, ◌≢◌, ℕ, ◌+◌, ◌*◌, ◌<◌, ◌≤◌, List, ◌++◌, true, Result, Ok, Err, refl, sym, ap, ◌∙◌, subst, ⊎_elim, arith}
 use Rattle.std.proofs.lemmas.Bool.{cases_lt}
-use Rattle.isp_base.specs.Arguments.{rows}
+use Rattle.isp_base.specs.Arguments.{rows, AreShort}
 use Rattle.isp_base.specs.Binding.{has_signature}
 use Rattle.isp_base.specs.Outcomes.{Outcome, Ends, Traps, GoesOn, out_of, IsOver}
 use Rattle.isp_base.specs.Prefixes.{IsPrefix}
@@ -16,7 +16,7 @@ use Rattle.isp_meaning.proofs.Grown.{prefix_self, prefix_on}
 use Rattle.isp_meaning.specs.Entries.{IsExport}
 use Rattle.isp_meaning.specs.Runs.{run_of}
 use Rattle.isp_typed.specs.Typed.{Program, TFunction}
-use Rattle.isp_masks.specs.Agreement.{AreShort, RunsAgree, EntryAgrees, Agrees}
+use Rattle.isp_masks.specs.Agreement.{RunsAgree, EntryAgrees, Agrees}
 use Rattle.isp_masks.proofs.Endings.{longer, grows}
 use Rattle.isp_engine.specs.declared.fault.RunFault.{RunFault}
 use Rattle.isp_engine.specs.declared.report.Ending.TheVariants.{Running}
@@ -36,11 +36,6 @@ report_over : (ps : List Parameter) (o : Outcome) (r : Report) → Reports ps o 
 report_over ps (Ends arrays answer out) r h ne = tt
 report_over ps (Traps t arrays out) r h ne = tt
 report_over ps (GoesOn out) r h ne = ne h.0
-
-cut_of : (o : Outcome) → (IsOver o → ⊥) → (out : List ℕ) × (o ≡ GoesOn out)
-cut_of (Ends arrays answer out) h = absurd (h tt)
-cut_of (Traps t arrays out) h = absurd (h tt)
-cut_of (GoesOn out) h = (out, refl)
 
 -- ---- one function
 
@@ -75,20 +70,15 @@ module _ (program : Program) (code : Listing) (f : ℕ) (h : TFunction) (g : Rou
   out_soon n (Traps t arrays out) e = subst (λ o. IsPrefix out (out_of o)) (sym (agree.soon n (Traps t arrays out) tt e)) (prefix_self out)
   out_soon n (GoesOn out) e = agree.soon_goes_on n out e
 
-  cut_far : ((n : ℕ) → IsOver (run n) → ⊥) → (n : ℕ) × IsPrefix r.output.items (out_of (run n))
-  cut_far cut =
-      let k = agree.goes_on_only (λ n. cut_of (run n) (cut n)) budget in
-      (k.0, subst (λ z. IsPrefix z (out_of (run k.0))) (sym out_is) k.1)
-
   tells : Tells program f h xs budget r
   tells = record {
     only = λ ne.
         let k = agree.over_only budget (came budget) (report_over h.parameters (came budget) r reports ne) refl in
-        (k.0, subst (λ o. Reports h.parameters o r) (sym k.1) reports);
+        (k.1.0, subst (λ o. Reports h.parameters o r) (sym k.1.1) reports);
     reached = λ n over le.
         subst (λ o. Reports h.parameters o r) (longer code (rows xs) (enough program f xs n) budget start (run n) le over (agree.soon n (run n) over refl)) reports;
-    so_far = λ n over. let k = agree.over n (run n) over refl in so_far_of n k.0 over k.1;
-    so_far_cut = cut_far;
+    so_far = λ n over. let k = agree.over (run n) (over, (n, refl)) in so_far_of n k.0 over k.1;
+    so_far_some = let k = agree.so_far budget in (k.0, subst (λ z. IsPrefix z (out_of (run k.0))) (sym out_is) k.1);
     written = λ n le.
         prefix_on (out_of (run n)) (out_of (came (enough program f xs n))) r.output.items (out_soon n (run n) refl)
         (subst (λ z. IsPrefix (out_of (came (enough program f xs n))) z) (sym out_is) (grows code (rows xs) (enough program f xs n) budget start le));

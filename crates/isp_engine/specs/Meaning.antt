@@ -29,8 +29,8 @@ pub record Tells (program : Program) (f : ℕ) (h : TFunction) (xs : List Argume
   pub reached : (n : ℕ) → IsOver (run_of program f n xs) → enough program f xs n ≤ budget → Reports h.parameters (run_of program f n xs) r
   -- the output begins that of each run that ends or traps
   pub so_far : (n : ℕ) → IsOver (run_of program f n xs) → IsPrefix r.output.items (out_of (run_of program f n xs))
-  -- or, where every run is cut, that of some run
-  pub so_far_cut : ((n : ℕ) → IsOver (run_of program f n xs) → ⊥) → (n : ℕ) × IsPrefix r.output.items (out_of (run_of program f n xs))
+  -- and in any case that of some run
+  pub so_far_some : (n : ℕ) × IsPrefix r.output.items (out_of (run_of program f n xs))
   -- and it begins with that of each run for whose work the budget is enough
   pub written : (n : ℕ) → enough program f xs n ≤ budget → IsPrefix (out_of (run_of program f n xs)) r.output.items
 

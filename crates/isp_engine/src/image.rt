@@ -1,7 +1,8 @@
 //! Compiled programs.
-ghost use Rattle.std.specs.Prelude.{◌≡◌, List, IfOk, IfErr};
+ghost use Rattle.std.specs.Prelude.{◌≡◌, List, None, IfOk, IfErr};
 ghost use Rattle.isp_lex.specs.declared.fault.Fault.{Fault};
 ghost use Rattle.isp_typed.specs.Typed.{Program};
+ghost use Rattle.isp_verify.specs.Faults.{code_fault};
 ghost use Rattle.isp_engine.specs.Covered.{IsCovered, IsNotCompiled};
 ghost use Rattle.isp_engine.specs.Images.{IsCompilation};
 
@@ -29,9 +30,10 @@ impl Model for Image {
 }
 
 impl Image {
-    /// The code, for the gang that the program was compiled for.
+    /// The code, for the gang that the program was compiled for. The verifier finds no fault in it.
     pub fn code(&self) -> &Code
-        ensures { result.now ≡ self.now }
+        ensures same { result.now ≡ self.now }
+        ensures fine { code_fault self.now ≡ None }
     {
         self.verified.code()
     }

@@ -24,7 +24,8 @@ use Rattle.isp_meaning.specs.Payloads.{Payload, One, is_false, offender, sole, s
 use Rattle.isp_meaning.specs.Outcomes.{Val, Gives, Fails, Stops, Res, Went, Done, go_on, went_all, with_value, checked}
 use Rattle.isp_meaning.specs.Expressions.{values}
 use Rattle.isp_meaning.specs.Simple.{simple, items, first_part}
-use Rattle.isp_meaning.specs.Printing.{print_text, shown_all}
+use Rattle.isp_base.specs.Prints.{print_text}
+use Rattle.isp_meaning.specs.Printing.{shown_all}
 use Rattle.isp_meaning.specs.Statements.{branches, all_go, answered, answered_at, jumped}
 use Rattle.isp_meaning.specs.Calls.{calls_at}
 use Rattle.isp_gang.specs.Seen.{payload_of}

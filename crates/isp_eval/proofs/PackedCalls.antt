@@ -1,7 +1,7 @@
 -- What packed calls leave to be done.
 use Rattle.std.proofs.Common.{◌≡◌, refl, sym, ap, ap₂, ◌∙◌, subst, ℕ, ◌+◌, List, Bor, Bool, Option, Some, None, pos, Vec, Global}
 use Rattle.isp_base.specs.Access.{scatter}
-use Rattle.isp_base.specs.Cross.{rank}
+use Rattle.isp_base.specs.Cross.{rank, packed_outside, packed_places}
 use Rattle.isp_base.specs.Maps.{Map, put}
 use Rattle.isp_base.specs.Sets.{flag_of, lowest}
 use Rattle.isp_base.specs.Traps.{trap}
@@ -21,7 +21,7 @@ use Rattle.isp_meaning.specs.State.{State, extent}
 use Rattle.isp_meaning.specs.Payloads.{Payload, One, sole, spread}
 use Rattle.isp_meaning.specs.Outcomes.{Val, Gives, Fails, Stops, bind, checked}
 use Rattle.isp_meaning.specs.Places.{written}
-use Rattle.isp_meaning.specs.Expressions.{packed_outside, packed_held, packed_kept, packed_places}
+use Rattle.isp_meaning.specs.Expressions.{packed_held, packed_kept}
 use Rattle.isp_gang.specs.Seen.{payload_of}
 use Rattle.isp_gang.specs.declared.computed.Computed.{Computed}
 use Rattle.isp_gang.specs.declared.computed.Computed.TheVariants as computed

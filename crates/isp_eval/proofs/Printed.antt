@@ -3,12 +3,12 @@ use Rattle.std.proofs.Common.{◌≡◌, refl, sym, ap, ap₂, ◌∙◌, ℕ, z
 use Rattle.std.specs.Prelude.{codes}
 use Rattle.isp_base.specs.Maps.{Map}
 use Rattle.isp_base.specs.Sets.{Mask}
-use Rattle.isp_base.specs.Prints.{comma, items_text, item_text, list_text}
+use Rattle.isp_base.specs.Prints.{comma, items_text, item_text, list_text, first_text, later_texts, print_text}
 use Rattle.isp_base.specs.declared.types.Elem.{Elem}
 use Rattle.isp_typed.specs.Typed.{type_of}
 use Rattle.isp_typed.specs.Views.{expr_of, exprs_of}
 use Rattle.isp_typed.specs.declared.expr.TypedExpr.{TypedExpr}
-use Rattle.isp_meaning.specs.Printing.{first_text, later_texts, print_text, shown, shown_all}
+use Rattle.isp_meaning.specs.Printing.{shown, shown_all}
 use Rattle.isp_gang.specs.Seen.{payload_of}
 use Rattle.isp_gang.specs.declared.computed.Computed.{Computed}
 

@@ -17,7 +17,8 @@ use Rattle.isp_meaning.specs.Payloads.{Payload, is_false, offender}
 use Rattle.isp_meaning.specs.Outcomes.{Val, Res, Went, Done, went_all, checked, go_on, with_value}
 use Rattle.isp_meaning.specs.Expressions.{values}
 use Rattle.isp_meaning.specs.Simple.{simple, items, first_part}
-use Rattle.isp_meaning.specs.Printing.{print_text, shown_all}
+use Rattle.isp_base.specs.Prints.{print_text}
+use Rattle.isp_meaning.specs.Printing.{shown_all}
 use Rattle.isp_meaning.specs.Statements.{branches, all_go, answered, jumped}
 use Rattle.isp_meaning.specs.Calls.{calls_at}
 use Rattle.isp_gang.specs.Seen.{payload_of}

@@ -2,7 +2,7 @@
 use Rattle.std.specs.Prelude.{◌≡◌, ℕ, ℤ, ◌+◌, List, [], ◌∷◌, ◌++◌, map, option_map, Option, Some, None}
 use Rattle.std.proofs.Common.{Bor}
 use Rattle.isp_base.specs.Access.{is_zero}
-use Rattle.isp_base.specs.Cross.{rank}
+use Rattle.isp_base.specs.Cross.{rank, packed_outside}
 use Rattle.isp_base.specs.Sets.{Mask, any, flag_of, lowest, nobody, union}
 use Rattle.isp_base.specs.Types.{gang_width}
 use Rattle.isp_base.specs.Unary.{unary_bits}
@@ -21,11 +21,12 @@ use Rattle.isp_meaning.specs.Payloads.{Payload, One, is_true, is_false, sole, jo
 use Rattle.isp_meaning.specs.Outcomes as Outcomes
 use Rattle.isp_meaning.specs.Outcomes.{Val, Gives, Fails, Stops, Res, Went, Done, went_all, bind, checked, go_on, then_run, both_sides, if_so, unless_empty, value_unless_empty, with_value}
 use Rattle.isp_meaning.specs.Places.{Place, Element, held, outside, kept, written}
-use Rattle.isp_meaning.specs.Expressions.{Calls, Passed, Values, needs, settled, value, place, values, call, arguments, packed_outside, packed_held, packed_kept}
+use Rattle.isp_meaning.specs.Expressions.{Calls, Passed, Values, needs, settled, value, place, values, call, arguments, packed_held, packed_kept}
 use Rattle.isp_meaning.specs.Library.{library_value, argument}
 use Rattle.isp_meaning.specs.Simple.{simple, item, items, update, step_part}
 use Rattle.isp_meaning.specs.Loops.{loop_end, turns, tested, stepped}
-use Rattle.isp_meaning.specs.Printing.{print_text, shown_all}
+use Rattle.isp_base.specs.Prints.{print_text}
+use Rattle.isp_meaning.specs.Printing.{shown_all}
 use Rattle.isp_meaning.specs.Rounds.{Range, rounds, active_rounds, foreach_rounds, round_of_run, counted}
 use Rattle.isp_meaning.specs.Statements.{block, run, run_all, ranges, test_part, branches, all_go, answered}
 use Rattle.isp_meaning.specs.Calls.{calls_at, resumed, answer_of}

@@ -1,11 +1,10 @@
 //! The elements of packed calls: consecutive ones for the members of a set, from a first one on.
 ghost use Rattle.std.specs.Prelude.{◌≡◌, ◌<◌, unsigned_abs};
-ghost use Rattle.isp_base.specs.Cross.{packed_index};
+ghost use Rattle.isp_base.specs.Cross.{packed_index, packed_outside};
 ghost use Rattle.isp_base.specs.Maps.{on};
 ghost use Rattle.isp_base.specs.Sets.{flag_of, lowest};
 ghost use Rattle.isp_base.specs.Types.{gang_width};
 ghost use Rattle.isp_base.specs.Values.{number};
-ghost use Rattle.isp_meaning.specs.Expressions.{packed_outside};
 ghost use Rattle.isp_gang.specs.Seen.{map_of};
 ghost use Rattle.isp_eval.specs.Packing.{place_at, places_at};
 ghost use Rattle.isp_eval.specs.Stores.{stores_of};

@@ -1,13 +1,13 @@
 //! What a `print` writes.
 ghost use Rattle.std.specs.Prelude.{◌≡◌, ◌<◌, ◌++◌, map, drop, IfErr, OnOk};
 ghost use Rattle.std.specs.Fmt.{signed_decimal};
-ghost use Rattle.isp_base.specs.Prints.{comma, item_text, list_text, value_text};
+ghost use Rattle.isp_base.specs.Prints.{comma, item_text, list_text, value_text, first_text, print_text};
 ghost use Rattle.isp_base.specs.Sets.{flag_of};
 ghost use Rattle.isp_base.specs.Types.{gang_width};
 ghost use Rattle.isp_typed.specs.Typed.{type_of};
 ghost use Rattle.isp_typed.specs.Views.{expr_of, exprs_of};
 ghost use Rattle.isp_meaning.specs.Printing as Printing;
-ghost use Rattle.isp_meaning.specs.Printing.{first_text, print_text, shown_all};
+ghost use Rattle.isp_meaning.specs.Printing.{shown_all};
 ghost use Rattle.isp_gang.specs.Seen.{map_of, payload_of};
 ghost use Rattle.isp_eval.specs.Arms.{prints};
 ghost use Rattle.isp_eval.specs.Tasks.{Comes};

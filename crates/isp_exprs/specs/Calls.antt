@@ -24,7 +24,7 @@ use Rattle.isp_exprs.specs.declared.scope.Known.{Known}
 use Rattle.isp_exprs.specs.declared.callee.Callee.{Callee}
 use Rattle.isp_exprs.specs.declared.callee.Callee.TheVariants.{Unknown, Miscounted, Function, Library as OfLibrary, PackedStore, PackedLoad}
 use Rattle.isp_exprs.specs.declared.callee.Want.{Want}
-use Rattle.isp_exprs.specs.declared.callee.Want.TheVariants.{AnyValue, ValueOf, ArrayOf, Base, Destination, Anything}
+use Rattle.isp_exprs.specs.declared.callee.Want.TheVariants.{AnyValue, ValueOf, ArrayOf, Base, Destination, NoReference, Anything}
 use Rattle.isp_exprs.specs.Values.{converted}
 use Rattle.isp_exprs.specs.Places.{mismatch, as_array, array_of}
 
@@ -77,9 +77,19 @@ library_wants PackedStore = Base true ∷ AnyValue ∷ []
 library_wants PackedLoad = Base false ∷ Destination ∷ []
 library_wants c = []
 
+abbrev pub is_packed : Callee → Bool
+is_packed PackedStore = true
+is_packed PackedLoad = true
+is_packed c = false
+
 -- arguments are held against what is asked only where their number is right
 abbrev pub counted : ℕ → Callee → List Want → Callee × List Want
-counted n c ws = if length ws == n then (c, ws) else (Miscounted, [])
+counted n c ws = if length ws == n then (c, ws) else (Miscounted (is_packed c), [])
+
+-- nothing is asked past the last; `&` stands in packed calls alone
+abbrev pub asked_past : Callee → Want
+asked_past (Miscounted true) = Anything
+asked_past c = NoReference
 
 -- the first function of a name, with its number, from k on
 abbrev pub function_from : List ℕ → ℕ → List Heading → Option (ℕ × Heading)
@@ -177,14 +187,15 @@ suits (Base stored) s (h_element k n x) = base_named stored s (array_of k) (λ a
 suits (Base stored) s h = mismatch s
 suits Destination s (h_name k n) = destination s k
 suits Destination s h = mismatch s
-suits Anything s (h_name k n) = mismatch s
-suits Anything s (h_element k n x) = mismatch s
+suits NoReference s (h_name k n) = mismatch s
+suits NoReference s (h_element k n x) = mismatch s
+suits NoReference s h = Ok p_unasked
 suits Anything s h = Ok p_unasked
 
--- past the last, anything is let through
-abbrev pub first_want : List Want → Want
-first_want [] = Anything
-first_want (w ∷ ws) = w
+-- what is asked of the first of further arguments, where `past` is asked past the last
+abbrev pub first_want : Want → List Want → Want
+first_want past [] = past
+first_want past (w ∷ ws) = w
 
 abbrev pub rest_of : List Want → List Want
 rest_of [] = []
@@ -275,7 +286,7 @@ call_of s p = by_callee p.0 p.1
   where
     by_callee : Callee → List Passed → Result Called Fault
     by_callee Unknown ps = mismatch s
-    by_callee Miscounted ps = Err (fault Arguments s)
+    by_callee (Miscounted packed) ps = Err (fault Arguments s)
     by_callee (Function k r) ps = answered k s ps r
     by_callee (OfLibrary f) ps = Ok (gives (library_call f s (values_among ps)))
     by_callee PackedStore ps = packed_store s ps

@@ -1,6 +1,6 @@
 //! What a call's name means, and what it asks of each argument.
 ghost use Rattle.std.specs.Prelude.{◌≡◌, ℕ, IfOk, OnOk, OnErr, option_map, slice_get, ◌++◌, ◌∷◌, [], map};
-ghost use Rattle.isp_exprs.specs.Calls.{by_count, callee, counted, cross_library, function_from, instance_library, library_named, library_wants, move_library, named_in, of_function, of_library, unless_unknown};
+ghost use Rattle.isp_exprs.specs.Calls.{asked_past, by_count, callee, counted, cross_library, function_from, instance_library, is_packed, library_named, library_wants, move_library, named_in, of_function, of_library, unless_unknown};
 ghost use Rattle.isp_exprs.specs.reader.Headings.{heading_of};
 
 use isp_base::{Elem, Name, Ty};
@@ -24,6 +24,8 @@ pub enum Want {
     Base { stored: bool },
     /// The variable that a packed call loads.
     Destination,
+    /// Nothing, but that it has no `&`.
+    NoReference,
     /// Nothing.
     Anything,
 }
@@ -33,8 +35,10 @@ pub enum Want {
 pub enum Callee {
     /// Nothing.
     Unknown,
-    /// Something that takes another number of arguments.
-    Miscounted,
+    /// Something that takes another number of arguments: a packed call of the library or not.
+    Miscounted {
+        packed: bool,
+    },
     /// A function of the program, by its number, with the type of its result, if it has one.
     Function {
         number: usize,
@@ -202,6 +206,13 @@ pub fn unless_unknown(word: &Word, callee: Callee) -> Verdict<Callee>
     }
 }
 
+/// Whether a packed call of the library is meant.
+fn is_packed(callee: Callee) -> bool
+    ensures { result ≡ is_packed callee }
+{
+    matches!(callee, Callee::PackedStore | Callee::PackedLoad)
+}
+
 /// Arguments are held against what is asked only where their number is right.
 fn counted(count: usize, callee: Callee, wants: &[Want]) -> (Callee, &[Want])
     ensures { (result.0, result.1.now) ≡ counted count callee wants.entry.now }
@@ -209,7 +220,19 @@ fn counted(count: usize, callee: Callee, wants: &[Want]) -> (Callee, &[Want])
     if wants.len() == count {
         (callee, wants)
     } else {
-        (Callee::Miscounted, &[])
+        let packed = is_packed(callee);
+        (Callee::Miscounted { packed }, &[])
+    }
+}
+
+/// What is asked of an argument past the last that something is asked of: `&` stands in packed calls
+/// alone, in one with a wrong number of arguments too.
+pub fn asked_past(callee: Callee) -> Want
+    ensures { result ≡ asked_past callee }
+{
+    match callee {
+        Callee::Miscounted { packed: true } => Want::Anything,
+        _ => Want::NoReference,
     }
 }
 

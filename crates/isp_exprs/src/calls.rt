@@ -170,9 +170,9 @@ fn destination(span: Span, known: Known) -> Verdict<Passed>
     }
 }
 
-/// An argument of a call that asks nothing of it.
-fn unasked(span: Span, handed: Handed) -> Verdict<Passed>
-    ensures { made passed_of result ≡ suits Want.Anything span (handed_of handed) }
+/// An argument of which nothing is asked, but that it has no `&`.
+fn unreferenced(span: Span, handed: Handed) -> Verdict<Passed>
+    ensures { made passed_of result ≡ suits Want.NoReference span (handed_of handed) }
 {
     match handed {
         Handed::Name(_, _) | Handed::Element(_, _, _) => Err(mismatch(span)),
@@ -207,7 +207,8 @@ fn suit(
             Handed::Name(known, _) => Ok(destination(span, known)),
             _ => Ok(Err(mismatch(span))),
         },
-        Want::Anything => Ok(unasked(span, handed)),
+        Want::NoReference => Ok(unreferenced(span, handed)),
+        Want::Anything => Ok(Ok(Passed::Unasked)),
     }
 }
 
@@ -438,7 +439,7 @@ fn make_call(
 {
     match callee {
         Callee::Unknown => Ok(Err(mismatch(span))),
-        Callee::Miscounted => Ok(Err(Fault {
+        Callee::Miscounted { .. } => Ok(Err(Fault {
             rule: Rule::Arguments,
             span,
         })),

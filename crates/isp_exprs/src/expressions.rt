@@ -7,11 +7,11 @@ ghost use Rattle.isp_typed.specs.Verdicts.{both, made};
 ghost use Rattle.isp_typed.specs.Views.{place_of};
 ghost use Rattle.isp_exprs.specs.Calls.{first_want, h_value};
 ghost use Rattle.isp_exprs.specs.Rules.{handed_element, handed_reference};
-ghost use Rattle.isp_exprs.specs.reader.Judge.{judge, judge_argument, judge_arguments, judge_place};
-ghost use Rattle.isp_exprs.specs.reader.Lists.{and_one, judged_call};
+ghost use Rattle.isp_exprs.specs.reader.Judge.{judge, judge_argument, judge_arguments, judge_call_of, judge_place};
+ghost use Rattle.isp_exprs.specs.reader.Lists.{and_one};
 ghost use Rattle.isp_exprs.specs.reader.Parts.{boxed_of, called_of, handed_of, list_passed, passed_of};
 
-use crate::callee::{Headers, Want, unless_unknown};
+use crate::callee::{Headers, Want, asked_past, unless_unknown};
 use crate::calls::{
     Called, Handed, Passed, call_of, handed_call, handed_name, suits, value_called,
 };
@@ -95,13 +95,13 @@ fn handed_element(
     }
 }
 
-/// What is asked in a place; past the last, anything is let through.
-fn want_at(wants: &[Want], place: usize) -> Want
-    ensures { result ≡ first_want (drop place wants.now) }
+/// What is asked in a place, where `past` is asked past the last.
+fn want_at(past: Want, wants: &[Want], place: usize) -> Want
+    ensures { result ≡ first_want past (drop place wants.now) }
 {
     match wants.get(place) {
         Some(want) => *want,
-        None => Want::Anything,
+        None => past,
     }
 }
 
@@ -181,20 +181,21 @@ fn argument(setting: &Setting, scope: &Scope, x: &Argument) -> Result<Verdict<Ha
     }
 }
 
-/// Arguments, each where something is asked.
+/// Arguments, each where something is asked; `past` is asked past the last.
 #[cycle(expr)]
 fn arguments(
     setting: &Setting,
     scope: &Scope,
+    past: Want,
     wants: &[Want],
     all: &[Argument],
 ) -> Result<Verdict<Vec<Passed>>, AllocError>
-    ensures { IfOk result (λ v. made (λ l. list_passed l.items) v ≡ judge_arguments setting.now.gang setting.now.headers.now scope.now wants.now (listed (read_arguments all.now))) }
+    ensures { IfOk result (λ v. made (λ l. list_passed l.items) v ≡ judge_arguments setting.now.gang setting.now.headers.now scope.now past wants.now (listed (read_arguments all.now))) }
 {
     let mut done = Ok(Vec::new(setting.alloc));
     for (place, x) in all.iter().enumerate() {
         let handed = argument(setting, scope, x)?;
-        let passed = suits(setting.alloc, want_at(wants, place), x.span(), handed)?;
+        let passed = suits(setting.alloc, want_at(past, wants, place), x.span(), handed)?;
         done = push(done, passed)?;
     }
     Ok(done)
@@ -209,10 +210,10 @@ pub fn call(
     all: &[Argument],
     span: Span,
 ) -> Result<Verdict<Called>, AllocError>
-    ensures { IfOk result (λ v. made called_of v ≡ judged_call setting.now.gang setting.now.headers.now scope.now function.now (listed (read_arguments all.now)) span) }
+    ensures { IfOk result (λ v. made called_of v ≡ judge_call_of setting.now.gang setting.now.headers.now scope.now function.now (listed (read_arguments all.now)) span) }
 {
     let (callee, wants) = setting.headers.called(&function.name, all.len());
-    let passed = arguments(setting, scope, wants, all)?;
+    let passed = arguments(setting, scope, asked_past(callee), wants, all)?;
     call_of(
         setting.alloc,
         unless_unknown(function, callee),

@@ -4,7 +4,7 @@ use Rattle.std.specs.List.{All}
 use Rattle.std.proofs.Common.{refl, sym, ap, ◌∙◌, subst, arith, mod-lt, pow_pos, inl, inr}
 use Rattle.std.proofs.lemmas.List.Elements.{All-head, All-tail}
 use Rattle.isp_base.specs.Access.{is_zero}
-use Rattle.isp_base.specs.Cross.{rank}
+use Rattle.isp_base.specs.Cross.{rank, packed_outside}
 use Rattle.isp_base.specs.Sets.{Mask, lowest}
 use Rattle.isp_base.specs.Unary.{unary_bits}
 use Rattle.isp_base.specs.Values.{width, op_bits, compare_bits}
@@ -32,7 +32,7 @@ use Rattle.isp_meaning.specs.State.{State, tick, extent}
 use Rattle.isp_meaning.specs.Payloads.{Payload, is_true, is_false, converted, kept_by, offender}
 use Rattle.isp_meaning.specs.Outcomes.{Val}
 use Rattle.isp_meaning.specs.Places.{outside}
-use Rattle.isp_meaning.specs.Expressions.{Passed, Values, Store, Calls, needs, base_array, packed_outside, value, place, first_element, values, call, arguments, passed}
+use Rattle.isp_meaning.specs.Expressions.{Passed, Values, Store, Calls, needs, base_array, value, place, first_element, values, call, arguments, passed}
 use Rattle.isp_fits.proofs.Bounds.{Fits, wrap_lt, convert_lt, bit_lt, rank_le, on_under, mapped_bounded, joined_bounded, settled_bounded, selected_bounded}
 use Rattle.isp_fits.proofs.Library.{PartsFit, library_fits}
 use Rattle.isp_fits.proofs.Typing.{World, Stands, IsStore, elem_if, elem_at, answer_elem, array_elem, array_store, Sound, ValFits, Any, PlaceFits, gives_fits, bind_fits, checked_fits, unless_value, held_fits, written_fits, packed_held_fits, packed_kept_fits}

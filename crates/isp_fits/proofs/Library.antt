@@ -27,17 +27,6 @@ PartsFit gang e [] ms = Unit {0}
 PartsFit gang e (p ∷ ps) [] = Unit {0}
 PartsFit gang e (p ∷ ps) (m ∷ ms) = Fits gang (typed.part_elem e p) m × PartsFit gang e ps ms
 
-widened_same : (t : Elem) → widened t ≡ typed.widened t
-widened_same Truth = refl
-widened_same I8 = refl
-widened_same U8 = refl
-widened_same I16 = refl
-widened_same U16 = refl
-widened_same I32 = refl
-widened_same U32 = refl
-widened_same I64 = refl
-widened_same U64 = refl
-
 module _ (gang : ℕ) (some : 0 < gang) (m : ℕ) (one : 0 < m) where
   at_instance : (x : Map) (z : ℤ) → Inside gang m x → or_zero (x (instance gang z)) < m
   at_instance x z h = zero_under m (x (instance gang z)) one (h (instance gang z) (instance_lt gang z some))
@@ -95,7 +84,7 @@ module _ (gang : ℕ) (some : 0 < gang) (t : Elem) (a : Mask) where
   all_ones = let h = pow_pos (width t) in omega arith
 
   pub library_fits : (f : Library) (r : Rate) (ms : List Payload) → PartsFit gang t (typed.parts f) ms → Fits gang (typed.library_type f t r).elem (library_value gang t a f (argument ms 0) (argument ms 1) (argument ms 2))
-  library_fits library.ReduceAdd r ms h = subst (λ e. reduce_add t gang (spread a (argument ms 0)) < 2 ^ width e) (widened_same t) (wrap_lt (widened t) _)
+  library_fits library.ReduceAdd r ms h = wrap_lt (widened t) _
   library_fits library.ReduceMin r ms h = best_fits op.Min (argument ms 0) (value_0 Own [] ms h)
   library_fits library.ReduceMax r ms h = best_fits op.Max (argument ms 0) (value_0 Own [] ms h)
   library_fits library.ReduceEqual r ms h = bit_lt _

@@ -16,8 +16,7 @@ use Rattle.isp_base.specs.declared.signature.Argument.TheVariants.{Value as AVal
 use Rattle.isp_base.specs.declared.signature.Parameter.{Parameter}
 use Rattle.isp_base.specs.declared.types.Elem.{Elem}
 use Rattle.isp_base.specs.declared.types.Elem.TheVariants.{Bool as Truth}
-use Rattle.isp_base.specs.declared.types.Gang.{Gang}
-use Rattle.isp_base.specs.declared.types.Gang.TheVariants.{W4, W8, W16}
+use Rattle.isp_base.proofs.Gangs.{few_width, some_width}
 use Rattle.isp_base.proofs.RankLaws.{same_is}
 use Rattle.isp_typed.specs.Fine.{AreParams, IsParam, IsDeclared, FineFunction}
 use Rattle.isp_typed.specs.declared.variable.Holds.{Holds}
@@ -103,16 +102,6 @@ handed_fits gang w (suc n) (v ∷ vs) (p ∷ ps) (AnArray r ∷ xs) b a d e s =
     (array_passes gang w p v.holds r.elem b a.0 k.0 (same_is r.elem p.elem k.1) s.0, handed_fits gang w n vs ps xs (suc b) a.1 d h.1 s.1)
 
 -- ---- runs
-
-some_width : (g : Gang) → 0 < gang_width g
-some_width W4 = omega arith
-some_width W8 = omega arith
-some_width W16 = omega arith
-
-few_width : (g : Gang) → gang_width g ≤ 16
-few_width W4 = omega arith
-few_width W8 = omega arith
-few_width W16 = omega arith
 
 abbrev first_world : List Argument → World
 first_world xs = record { frame = first_frame xs; variables = []; stores = row_elem (rows xs) }

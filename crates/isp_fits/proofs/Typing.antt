@@ -2,7 +2,7 @@
 use Rattle.std.specs.Prelude.{◌≡◌, ℕ, ◌^◌, ◌<◌, List, Option, Some, None, Bool, true, false, nat_eq, if◌then◌else◌, ℤ, unsigned_abs, slice_get}
 use Rattle.std.proofs.Common.{refl, sym, ap, ◌∙◌, subst, pow_pos}
 use Rattle.isp_base.specs.Access.{element}
-use Rattle.isp_base.specs.Cross.{packed_index}
+use Rattle.isp_base.specs.Cross.{packed_index, packed_places}
 use Rattle.isp_base.specs.Sets.{Mask, any}
 use Rattle.isp_base.specs.Maps.{Lanes, Map, over, or_old, put, holds}
 use Rattle.isp_base.specs.Values.{width}
@@ -23,7 +23,7 @@ use Rattle.isp_meaning.specs.State.{State, Frame}
 use Rattle.isp_meaning.specs.Payloads.{Payload, sole, spread, mapped, nothing}
 use Rattle.isp_meaning.specs.Outcomes.{Val, Gives, Fails, Stops, Res, Went, Trapped, Cut, bind, with_value, checked, go_on, went_all, if_so, unless_empty, value_unless_empty}
 use Rattle.isp_meaning.specs.Places.{Place, Variable as AVariable, Element, variable, written, own_stored, elements, with_elements, held, kept}
-use Rattle.isp_meaning.specs.Expressions.{packed_places, packed_held, packed_kept}
+use Rattle.isp_meaning.specs.Expressions.{packed_held, packed_kept}
 use Rattle.isp_meaning.specs.Simple.{cleared}
 use Rattle.isp_meaning.specs.Statements.{answered, answered_at}
 use Rattle.isp_fits.proofs.Bounds.{Under, Fits, on_under, old_under, put_holds, scatter_under, sole_under, spread_inside, mapped_bounded, each_bounded, stored_under}

@@ -2,15 +2,11 @@
 use Rattle.std.proofs.Common.{◌≡◌, ap, refl, sym, ◌∙◌, ℕ, zero, suc, ◌+◌, ◌*◌, ◌^◌, ◌≤◌, arith, Option, Some, None, ℤ, pos, negsuc, ◌+ℤ◌, ◌-ℤ◌, ◌≤ℤ◌, FitsSigned}
 use Rattle.std.specs.Int.{w128}
 use Rattle.std.proofs.lemmas.Int.{ints}
-use Rattle.isp_base.specs.Cross.{and_this, fold_below, widened}
+use Rattle.isp_base.specs.Cross.{and_this, fold_below}
 use Rattle.isp_base.specs.Maps.{Map}
-use Rattle.isp_base.specs.Types.{gang_width}
 use Rattle.isp_base.specs.Values.{number}
-use Rattle.isp_base.specs.declared.types.Gang.{Gang}
-use Rattle.isp_base.specs.declared.types.Gang.TheVariants.{W4, W8, W16}
 use Rattle.isp_base.specs.declared.types.Elem.{Elem}
 use Rattle.isp_base.specs.declared.types.Elem.TheVariants.{Bool as Truth, I8, U8, I16, U16, I32, U32, I64, U64}
-use Rattle.isp_typed.specs.Library as typed
 use Rattle.isp_gang.proofs.Wholes.{number_low, number_high}
 
 abbrev pub sum_below : Elem → Map → ℕ → ℤ
@@ -40,22 +36,6 @@ pub sum_fits : (t : Elem) (x : Map) (n b : ℕ) → n ≤ 16 → FitsSigned w128
 sum_fits t x n b few =
     let l = sum_low t x n in let h = sum_high t x n in let m = number_low t b in let k = number_high t b in
     of_128 _ (omega (arith, ints, l, m, few)) (omega (arith, ints, h, k, few))
-
-pub widened_same : (t : Elem) → typed.widened t ≡ widened t
-widened_same Truth = refl
-widened_same I8 = refl
-widened_same U8 = refl
-widened_same I16 = refl
-widened_same U16 = refl
-widened_same I32 = refl
-widened_same U32 = refl
-widened_same I64 = refl
-widened_same U64 = refl
-
-pub width_few : (g : Gang) → gang_width g ≤ 16
-width_few W4 = omega arith
-width_few W8 = omega arith
-width_few W16 = omega arith
 
 pub sum_next : (t : Elem) (x : Map) (n : ℕ) (v : Option ℕ) → x n ≡ v → and_this (λ s b. s +ℤ number t b) (sum_below t x n) v ≡ sum_below t x (n + 1)
 sum_next t x n v e = ap (and_this (λ s b. s +ℤ number t b) (sum_below t x n)) (sym e) ∙ ap (sum_below t x) (suc_is n)

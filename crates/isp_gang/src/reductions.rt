@@ -6,8 +6,7 @@ ghost use Rattle.isp_meaning.specs.Payloads.{is_true};
 ghost use Rattle.isp_gang.specs.Seen.{map_of};
 
 use crate::row::{Row, operated, or_zero};
-use isp_base::{BinOp, Elem, Gang, number, wrap};
-use isp_typed::widened;
+use isp_base::{BinOp, Elem, Gang, number, widened, wrap};
 
 /// The sum of the whole numbers, wrapped in the type of a sum.
 pub fn sum(gang: Gang, elem: Elem, row: &Row) -> u64

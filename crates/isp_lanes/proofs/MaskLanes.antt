@@ -2,7 +2,7 @@
 use Rattle.std.proofs.Common.{◌≡◌, refl, sym, ap, ap₂, ◌∙◌, ◌≤◌, ◌+◌, subst, Some, None, map-id, lt-ltb, le-ltb, nat_lt, ltb-true, ltb-false, ℕ, zero, suc, ◌<◌, Bool, true, false, cond, not, ◌&&◌, ◌||◌, ◌==◌, ◌/◌, ◌%◌, ◌^◌, arith, bit_and, bit_or, bit_xor, List, [], ◌∷◌, map, length, get_or, set, replicate, lit≤, Fits, Fits-lit, w8}
 use Rattle.std.proofs.lemmas.Bool.Decides.{nat_tests}
 use Rattle.std.proofs.lemmas.Simd.{bit_mask_l, leading_from_mask_l, trailing_mask_l}
-use Rattle.std.specs.List.{position, position_or_len, list_any}
+use Rattle.std.specs.List.{position, position_or_len, list_any, list_all}
 use lib.Count.{count_trailing_zeros}
 use Rattle.std.specs.Simd.Lanes.{zip2, top, mask_l}
 use mir.Val.{bool_byte}
@@ -123,6 +123,14 @@ pub any_bits : (ms : List Bool) → list_any (λ b. b) ms ≡ not (mask_l ms == 
 any_bits [] = refl
 any_bits (true ∷ ms) = grind (arith, nat_tests)
 any_bits (false ∷ ms) = any_bits ms ∙ grind (arith, nat_tests)
+
+-- all lanes are on just where none is off
+pub none_off : (n : ℕ) (ms : List Bool) → length ms ≡ n → not (list_any (λ b. b) (zip2 (λ a b. a && not b) (replicate n true) ms)) ≡ list_all (λ b. b) ms
+none_off zero [] l = refl
+none_off (suc n) [] l = refl
+none_off zero (m ∷ ms) l = absurd (omega arith)
+none_off (suc n) (true ∷ ms) l = none_off n ms (omega arith)
+none_off (suc n) (false ∷ ms) l = refl
 
 -- the lowest lane alone
 off_all : (ms : List Bool) → replicate (length ms) false ≡ map (λ _. false) ms

@@ -206,6 +206,32 @@ impl<const N: usize> Lanes<N> {
         }
     }
 
+    /// The bits of all lanes.
+    pub fn bits(&self) -> [u64; N]
+        ensures value { result ≡ self.now.bits }
+        ensures fits { Fit self.now.elem result }
+    {
+        match &self.row {
+            Row::Bits8(words) => Simd::from_array(*words).wide(),
+            Row::Bits16(words) => Simd::from_array(*words).wide(),
+            Row::Bits32(words) => Simd::from_array(*words).wide(),
+            Row::Bits64(words) => *words,
+        }
+    }
+
+    /// The bits of all lanes, one of a list in each lane.
+    pub fn put(&mut self, bits: &[u64; N], mask: &LaneMask<N>)
+        requires { Fit self.old.elem bits.now }
+        ensures { self.new ≡ written mask.now bits.now self.old }
+    {
+        match self.row() {
+            Row::Bits8(_) => self.cut::<Simd<u8, N>>(bits, mask),
+            Row::Bits16(_) => self.cut::<Simd<u16, N>>(bits, mask),
+            Row::Bits32(_) => self.cut::<Simd<u32, N>>(bits, mask),
+            Row::Bits64(_) => self.cut::<Simd<u64, N>>(bits, mask),
+        }
+    }
+
     /// The word that a source has for the lane at its place, in each lane of the mask. A list gives the places.
     ///
     /// A place in a lane of the mask that is outside is `Err` with the lowest such lane, and then nothing
@@ -290,6 +316,18 @@ impl<const N: usize> Lanes<N> {
         ensures { self.new ≡ written mask.now (replicate N bits) self.old }
     {
         let new: V = V::all(bits);
+        self.blend(new, mask);
+    }
+
+    // One of a list in each lane, where the width of the words is known.
+    #[inline(always)]
+    fn cut<V: Words<N>>(&mut self, bits: &[u64; N], mask: &LaneMask<N>)
+        requires wide { V.width ≡ cell_width self.old.elem }
+        requires fits { Fit self.old.elem bits.now }
+        ensures { self.new ≡ written mask.now bits.now self.old }
+    {
+        mask.told();
+        let new: V = V::all(0).cut(bits);
         self.blend(new, mask);
     }
 

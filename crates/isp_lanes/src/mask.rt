@@ -1,7 +1,7 @@
 //! Which of N lanes are on.
 ghost use Rattle.std.proofs.Common.{ap};
 ghost use Rattle.std.specs.Prelude.{◌≡◌, ℕ, ◌<◌, ◌≤◌, List, Bool, true, false, length, map, replicate, slice_index, slice_get, Some, IfSome, ◌&&◌, ◌||◌, not, slice_set, position, unwrap_or, ◌^◌, ◌==◌, ◌/◌, ◌%◌};
-ghost use Rattle.std.specs.List.{list_any};
+ghost use Rattle.std.specs.List.{list_any, list_all};
 ghost use Rattle.std.specs.Simd.Lanes.{zip2, sel_l, mask_l};
 ghost use Rattle.isp_base.specs.declared.types.Elem.TheVariants.{Bool as Truth};
 ghost use Rattle.isp_lanes.specs.Lanes.{is_on, lowest, range};
@@ -154,6 +154,14 @@ impl<const N: usize> LaneMask<N> {
         ensures { result ≡ list_any (λ b. b) self.now }
     {
         self.bits().bits != 0
+    }
+
+    /// Whether all lanes are on.
+    pub fn all(&self) -> bool
+        ensures { result ≡ list_all (λ b. b) self.now }
+    {
+        self.told();
+        !LaneMask::full().and_not(self).any()
     }
 }
 

@@ -22,8 +22,8 @@ use Rattle.isp_meaning.specs.State.{State, extent_at}
 use Rattle.isp_meaning.specs.Payloads.{Payload, One, Each, sole, spread, mapped, converted, offender, if_fails}
 use Rattle.isp_meaning.specs.Places.{elements}
 use Rattle.isp_lower.specs.Layout.{register, mask_register, array_register}
-use Rattle.isp_lower.specs.Setting.{Setting, gang_of, At, Stands, at_rate, held_at}
-use Rattle.isp_lower.specs.Fits.{Reaches, ArrayFitsAt}
+use Rattle.isp_lower.specs.Setting.{ArrayFitsAt, Setting, gang_of, At, Stands, at_rate, held_at}
+use Rattle.isp_lower.specs.Fits.{Reaches}
 use Rattle.isp_lower.specs.Code.{read, is_whole}
 use Rattle.isp_lower.proofs.Base.{moved_by}
 use Rattle.isp_lower.proofs.Rates.{Filled, filled_on, at_mapped, at_offender, offender_mapped, lowest_below, some_lowest}
@@ -67,11 +67,11 @@ read_line code h c Varying d b i k q some =
 -- ---- the array of a variable
 
 module _ (w : Setting) where
-  pub size_at : (r : Rate) (b : ArrayVariable) (c : Conf) (pc : ℕ) → At w c pc → ArrayFitsAt w r b → size w.code w.routine c (array_register (w.layout.array b.number)) ≡ extent_at r w.frame b.number
-  size_at Uniform b c pc at f =
+  pub size_at : (r : Rate) (b : ArrayVariable) (c : Conf) (pc : ℕ) → w.home.sizes ≡ w.frame.sizes → At w c pc → ArrayFitsAt w r b → size w.code w.routine c (array_register (w.layout.array b.number)) ≡ extent_at r w.frame b.number
+  size_at Uniform b c pc same at f =
       ap (λ z. if z then local_size (slice_get w.routine.locals (w.layout.array b.number - passed w.routine)) else c.home.sizes (c.home.named (w.layout.array b.number))) f.0
-      ∙ ap (λ h. h.sizes (h.named (w.layout.array b.number))) at.home_is ∙ ap w.home.sizes f.1 ∙ f.2
-  size_at Varying b c pc at f =
+      ∙ ap (λ h. h.sizes (h.named (w.layout.array b.number))) at.home_is ∙ ap w.home.sizes f.1 ∙ ap (λ g. g (w.frame.named b.number)) same
+  size_at Varying b c pc same at f =
       ap (λ z. if z then local_size (slice_get w.routine.locals (w.layout.array b.number - passed w.routine)) else c.home.sizes (c.home.named (w.layout.array b.number))) f.0 ∙ f.1
 
   -- the elements of an array, by element and instance

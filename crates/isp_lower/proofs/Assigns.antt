@@ -11,19 +11,20 @@ use Rattle.isp_meaning.specs.Outcomes.{Gives, bind, checked}
 use Rattle.isp_meaning.specs.Places.{outside, kept}
 use Rattle.isp_meaning.specs.Expressions.{place}
 use Rattle.isp_meaning.specs.Simple.{simple}
-use Rattle.isp_lower.specs.Setting.{Setting, IsSettled, gang_of, AreAt, Holds}
+use Rattle.isp_lower.specs.Setting.{Setting, IsSettled, gang_of, calls_of, AreAt, Holds}
 use Rattle.isp_lower.specs.Runs.{Enters, DoneRuns}
 use Rattle.isp_lower.specs.Fits.{ExprFits}
 use Rattle.isp_lower.specs.Code.{write, index, index_code, operand, operand_of, found, expr_places, expr_code}
 use Rattle.isp_lower.specs.Simple.{beyond, assign_code, assign_places, SimpleFits}
-use Rattle.isp_lower.proofs.Base.{are_front, are_back}
+use Rattle.isp_lower.proofs.Base.{are_front, are_back, spares_less}
 use Rattle.isp_lower.proofs.Found.{few}
-use Rattle.isp_lower.proofs.Nodes.{enters_less, enters_part, enters_later, operand_runs}
+use Rattle.isp_lower.proofs.Nodes.{enters_part, enters_later, operand_runs}
 use Rattle.isp_lower.proofs.Exprs.{means, PlaceHolds, expr_runs}
-use Rattle.isp_lower.proofs.Done.{spares_kept, spares_less, done_after, bind_done}
+use Rattle.isp_lower.proofs.Done.{done_after, bind_done}
 use Rattle.isp_lower.proofs.Places.{place_runs, place_kept}
 use Rattle.isp_lower.proofs.Writes.{element_done}
 use Rattle.isp_lower.proofs.Variables.{variable_runs}
+use Rattle.isp_lower.proofs.Kept.{Keeps, runs_kept, value_still}
 
 -- the slot after that of an index is not below it
 pub beyond_more : (z : TPlace) (n : ℕ) → (n ≤ beyond z n) × (beyond z n ≤ n + 1)
@@ -31,10 +32,10 @@ beyond_more (t_variable v t sp) n = (omega arith, omega arith)
 beyond_more (t_element b i t sp) n = (omega arith, omega arith)
 
 module _ (w : Setting) (ready : IsSettled w) where
-  pub assign_runs : (z : TPlace) (x : TExpr) (sp : Span) (pc p k n q : ℕ) (a : Mask) (s : State) (c : Conf) → SimpleFits w (t_assign z x sp) n → AreAt w.routine.code pc (assign_code w.layout z x pc p k n) → AreAt w.code.places p (assign_places w.layout z x) → Enters w pc k n a (tick s) c (3 + q) → DoneRuns w c (pc + length (assign_code w.layout z x pc p k n)) n q (simple (gang_of w) w.frame w.calls (t_assign z x sp) a s)
+  pub assign_runs : (z : TPlace) (x : TExpr) (sp : Span) (pc p k n q : ℕ) (a : Mask) (s : State) (c : Conf) → SimpleFits w (t_assign z x sp) n → AreAt w.routine.code pc (assign_code w.layout z x pc p k n) → AreAt w.code.places p (assign_places w.layout z x) → Enters w pc k n a s c q → DoneRuns w c (pc + length (assign_code w.layout z x pc p k n)) n q (simple (gang_of w) w.frame (calls_of w) (t_assign z x sp) a s)
   assign_runs (t_variable v t sv) x sp pc p k n q a s c fit has places b =
       let fx : heads x ≤ 1 = few w x n fit.2 in
-      variable_runs w ready t.rate t.elem v x pc p k n q a (tick (tick s)) c fit.0 fit.1 fit.2 has (are_front w.code.places p (expr_places w.layout x) _ places) (enters_part w ready pc k n (heads x + (2 + q)) (3 + q) a (tick s) c (omega arith) b)
+      variable_runs w ready t.rate t.elem v x pc p k n (64 + q) q a (tick (tick s)) c fit.0 fit.1 fit.2 has (are_front w.code.places p (expr_places w.layout x) _ places) (omega arith) (enters_part w ready pc k n (64 + q) (32 + q) a (tick s) c (omega arith) (enters_part w ready pc k n (32 + q) q a s c (omega arith) b))
   assign_runs (t_element y i t sv) x sp pc p k n q a s c fit has places b =
       let r = t.rate in
       let m = n + 1 in
@@ -55,22 +56,22 @@ module _ (w : Setting) (ready : IsSettled w) where
       let h1 : AreAt w.routine.code pc1 (ca ++ last) = are_back w.routine.code pc ci (ca ++ last) has in
       let ha : AreAt w.routine.code pc1 ca = are_front w.routine.code pc1 ca last h1 in
       let pl = are_back w.code.places p (expr_places w.layout i) _ places in
-      bind_done w ready c pc1 n 3 q (PlaceHolds w ready z n a) (place (gang_of w) w.frame w.calls z a (tick s)) _ end n
-      (place_runs w ready z pc p k n 3 q a (tick s) c (omega arith) fit.0 (are_front w.routine.code pc ci _ has) (are_front w.code.places p (expr_places w.layout i) _ places) (enters_less w ready pc k n q (3 + q) a (tick s) c (omega arith) b))
+      bind_done w ready c pc1 n 1 q (PlaceHolds w ready z n a) (place (gang_of w) w.frame (calls_of w) z a (tick s)) _ end n
+      (place_runs w ready z pc p k n 1 q a (tick s) c (omega arith) fit.0 (are_front w.routine.code pc ci _ has) (are_front w.code.places p (expr_places w.layout i) _ places) (enters_part w ready pc k n q q a s c (omega arith) b))
       (λ at s1 ok.
       let c1 = ok.conf in
-      done_after w ready c c1 ok.steps end n q _ ok.comes (spares_kept w ready n c c1 ok.keeps) ok.masks
-      (bind_done w ready c1 (pc1 + length ca) m 1 (ok.steps + q) (Holds r a u) (means w ready x a s1) _ end n
-      (operand_runs w ready c1 pc1 k m (1 + (ok.steps + q)) a (means w ready x a s1) r t.elem x cx fit.1 (ok.masks k lk ∙ b.mask) (omega arith) ha
-      (expr_runs w ready x pc1 p1 k m (1 + (1 + (ok.steps + q))) a s1 c1 fit.2 (are_front w.routine.code pc1 cx _ ha) (are_front w.code.places p1 (expr_places w.layout x) _ pl) (enters_later w ready pc pc1 k n m (heads x + (1 + (1 + (ok.steps + q)))) (3 + q) (3 + q) a (tick s) s1 c (omega arith) b ok (omega arith))))
+      done_after w ready c c1 ok.steps end n q _ ok.comes ok.spares ok.masks
+      (bind_done w ready c1 (pc1 + length ca) m 1 (ok.steps + q) (λ d c'. Holds r a u d c' × Keeps w m c1 c') (means w ready x a s1) _ end n
+      (runs_kept w c1 (pc1 + length ca) m (1 + (ok.steps + q)) (Holds r a u) (means w ready x a s1) s1 ok.stands (value_still w ready x m a s1 fit.2) (operand_runs w ready c1 pc1 k m (1 + (ok.steps + q)) a (means w ready x a s1) r t.elem x cx fit.1 (ok.masks k lk ∙ b.mask) (omega arith) ha
+      (expr_runs w ready x pc1 p1 k m (ok.steps + q) (1 + (1 + (ok.steps + q))) a s1 c1 fit.2 (are_front w.routine.code pc1 cx _ ha) (are_front w.code.places p1 (expr_places w.layout x) _ pl) (omega arith) (enters_later w ready pc pc1 k n m (ok.steps + q) q (1 + q) a s s1 c (omega arith) b ok (omega arith)))))
       (λ d s2 ok2.
-      let h = place_kept w ready z n a at c1 ok2.conf fit.0 ok2.keeps ok.holds in
+      let h = place_kept w ready z n a at c1 ok2.conf fit.0 ok2.holds.1 ok.holds in
       subst (λ g. DoneRuns w c1 end n (ok.steps + q) (bind (checked (outside (gang_of w) w.frame g a) Index sv s2 d) (λ b s3. Gives tt (kept (gang_of w) w.frame g a b s3)))) (sym h.1)
-      (element_done w ready t.rate y.ty.rate y (type_of i).elem h.0 d a s2 c1 ok2.conf ok2.steps (pc1 + length ca) end k j u n (ok.steps + q) pw sv fit.0.0.is fit.0.1 fit.0.0.few b.some b.inside ok2.comes ok2.at to (are_back w.routine.code pc1 ca last h1).0 (are_back w.code.places p1 (expr_places w.layout x) _ pl).0 ok2.stands (spares_less w ready n m c1 ok2.conf (omega arith) (spares_kept w ready m c1 ok2.conf ok2.keeps)) (λ r g. ok2.masks r (omega arith)) (ok2.masks k (omega arith) ∙ ok.masks k lk ∙ b.mask) (omega (arith, ok2.bound)) h.2 ok2.holds))))
+      (element_done w ready t.rate y.ty.rate y (type_of i).elem h.0 d a s2 c1 ok2.conf ok2.steps (pc1 + length ca) end k j u n (ok.steps + q) pw sv (ready.arrays y fit.0.0).is fit.0.1 (ready.arrays y fit.0.0).few b.some b.inside ok2.comes ok2.at to (are_back w.routine.code pc1 ca last h1).0 (are_back w.code.places p1 (expr_places w.layout x) _ pl).0 ok2.stands (spares_less w n m c1 ok2.conf (omega arith) ok2.spares) (λ r g. ok2.masks r (omega arith)) (ok2.masks k (omega arith) ∙ ok.masks k lk ∙ b.mask) (omega (arith, ok2.bound)) h.2 ok2.holds.0))))
 
-  pub value_runs : (x : TExpr) (pc p k n q : ℕ) (a : Mask) (s : State) (c : Conf) → ExprFits w x n → AreAt w.routine.code pc (expr_code w.layout x pc p k n) → AreAt w.code.places p (expr_places w.layout x) → Enters w pc k n a (tick s) c (3 + q) → DoneRuns w c (pc + length (expr_code w.layout x pc p k n)) n q (simple (gang_of w) w.frame w.calls (t_value x) a s)
+  pub value_runs : (x : TExpr) (pc p k n q : ℕ) (a : Mask) (s : State) (c : Conf) → ExprFits w x n → AreAt w.routine.code pc (expr_code w.layout x pc p k n) → AreAt w.code.places p (expr_places w.layout x) → Enters w pc k n a s c q → DoneRuns w c (pc + length (expr_code w.layout x pc p k n)) n q (simple (gang_of w) w.frame (calls_of w) (t_value x) a s)
   value_runs x pc p k n q a s c fit has places b =
       let fx : heads x ≤ 1 = few w x n fit in
       bind_done w ready c (pc + length (expr_code w.layout x pc p k n)) n 1 q (Holds (type_of x).rate a (found w.layout x n)) (means w ready x a (tick s)) _ _ n
-      (expr_runs w ready x pc p k n (1 + q) a (tick s) c fit has places (enters_less w ready pc k n (heads x + (1 + q)) (3 + q) a (tick s) c (omega arith) b))
-      (λ m s1 ok. record { conf = ok.conf; steps = ok.steps; comes = ok.comes; at = ok.at; stands = ok.stands; spares = spares_kept w ready n c ok.conf ok.keeps; masks = ok.masks; bound = omega (arith, ok.bound) })
+      (expr_runs w ready x pc p k n (32 + q) (1 + q) a (tick s) c fit has places (omega arith) (enters_part w ready pc k n (32 + q) q a s c (omega arith) b))
+      (λ m s1 ok. record { conf = ok.conf; steps = ok.steps; comes = ok.comes; at = ok.at; stands = ok.stands; spares = ok.spares; masks = ok.masks; bound = omega (arith, ok.bound) })

@@ -1,13 +1,10 @@
--- Lists in a list, steps of the machine, and registers that are kept.
-use Rattle.std.proofs.Common.{◌≡◌, ◌≢◌, ℕ, ◌+◌, ◌<◌, ◌≤◌, List, [], ◌∷◌, ◌++◌, length, Option, Some, None, refl, ap, ◌∙◌, subst, arith, eq-eqb}
+-- Lists in a list, spare registers that stay, and steps of the machine.
+use Rattle.std.proofs.Common.{◌≡◌, ◌≢◌, ℕ, ◌+◌, ◌≤◌, List, [], ◌∷◌, ◌++◌, length, Option, Some, None, refl, ap, ◌∙◌, subst, arith, eq-eqb}
 use Rattle.std.specs.Prelude.{slice_get, nat_eq}
 use Rattle.std.proofs.lemmas.Bool.{ne_eqb, cond-true, cond-false}
 use Rattle.isp_base.specs.Maps.{put}
 use Rattle.isp_base.specs.declared.trap.Trap.{Trap}
 use Rattle.isp_base.specs.declared.trap.TrapKind.{TrapKind}
-use Rattle.isp_base.specs.declared.types.Elem.{Elem}
-use Rattle.isp_base.specs.declared.types.Rate.{Rate}
-use Rattle.isp_base.specs.declared.types.Rate.TheVariants.{Uniform, Varying}
 use Rattle.isp_base.specs.declared.types.Span.{Span}
 use Rattle.isp_base.specs.Traps.{trap}
 use Rattle.isp_code.specs.Conf as machine
@@ -16,8 +13,7 @@ use Rattle.isp_code.specs.Lines.{act}
 use Rattle.isp_code.specs.Machine.{after, step, act_in, act_at, arrive}
 use Rattle.isp_code.proofs.Steps.{after-sum}
 use Rattle.isp_code.specs.declared.instr.Instr.{Instr}
-use Rattle.isp_lower.specs.Layout.{Layout, IsApart}
-use Rattle.isp_lower.specs.Setting.{Setting, IsSettled, AreAt, At, Low, Keeps}
+use Rattle.isp_lower.specs.Setting.{Setting, IsSettled, AreAt, At, Spares}
 use Rattle.isp_lower.specs.Runs.{Comes}
 
 pub are_front : {A : Type 0} (xs : List A) (n : ℕ) (a b : List A) → AreAt xs n (a ++ b) → AreAt xs n a
@@ -36,36 +32,17 @@ put_same f d x = cond-true (nat_eq d d) x (f d) (eq-eqb d d refl)
 pub put_other : {A : Type 0} (f : ℕ → A) (d : ℕ) (x : A) (r : ℕ) → r ≢ d → put f d x r ≡ f r
 put_other f d x r ne = cond-false (nat_eq r d) x (f r) (ne_eqb r d ne)
 
--- ---- registers that are kept
-
-pub low_more : (l : Layout) (r : Rate) (n m x : ℕ) → n ≤ m → Low l r n x → Low l r m x
-low_more l r n m x le low = λ t j h. low t j (omega arith)
-
-pub low_spare : (l : Layout) (r : Rate) (t : Elem) (n j : ℕ) → IsApart l → j < n → Low l r n (l.spare r t j)
-low_spare l r t n j apart lt = λ u i h. let ne : j ≢ i = omega arith in apart.spares r t u j i ne
-
-pub low_variable : (l : Layout) (r : Rate) (n v : ℕ) → IsApart l → Low l r n (l.variable r v)
-low_variable l r n v apart = λ t j h. apart.variable_spare r t v j
-
-pub low_result : (l : Layout) (r : Rate) (n : ℕ) → IsApart l → Low l r n (l.result r)
-low_result l r n apart = λ t j h. apart.result_spare r t j
+-- ---- spare registers of lower slots
 
 module _ (w : Setting) where
-  pub keeps_all : (n : ℕ) (c : Conf) → Keeps w n c c
-  keeps_all n c = record { scalars_stay = λ x h. refl; vectors_stay = λ x h. refl }
+  pub spares_all : (n : ℕ) (c : Conf) → Spares w n c c
+  spares_all n c = record { scalars_stay = λ t j lt. refl; vectors_stay = λ t j lt. refl }
 
-  -- the second leaves more
-  pub keeps_on : (n m : ℕ) (c c1 c2 : Conf) → n ≤ m → Keeps w n c c1 → Keeps w m c1 c2 → Keeps w n c c2
-  keeps_on n m c c1 c2 le k h = record {
-    scalars_stay = λ x low. h.scalars_stay x (low_more w.layout Uniform n m x le low) ∙ k.scalars_stay x low;
-    vectors_stay = λ x low. h.vectors_stay x (low_more w.layout Varying n m x le low) ∙ k.vectors_stay x low;
-  }
+  pub spares_less : (n m : ℕ) (c c' : Conf) → n ≤ m → Spares w m c c' → Spares w n c c'
+  spares_less n m c c' le k = record { scalars_stay = λ t j lt. k.scalars_stay t j (omega arith); vectors_stay = λ t j lt. k.vectors_stay t j (omega arith) }
 
-  pub keeps_less : (n m : ℕ) (c c' : Conf) → n ≤ m → Keeps w m c c' → Keeps w n c c'
-  keeps_less n m c c' le k = record {
-    scalars_stay = λ x low. k.scalars_stay x (low_more w.layout Uniform n m x le low);
-    vectors_stay = λ x low. k.vectors_stay x (low_more w.layout Varying n m x le low);
-  }
+  pub spares_on : (n : ℕ) (c c1 c2 : Conf) → Spares w n c c1 → Spares w n c1 c2 → Spares w n c c2
+  spares_on n c c1 c2 k h = record { scalars_stay = λ t j lt. h.scalars_stay t j lt ∙ k.scalars_stay t j lt; vectors_stay = λ t j lt. h.vectors_stay t j lt ∙ k.vectors_stay t j lt }
 
   -- ---- steps
 

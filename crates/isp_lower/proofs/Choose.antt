@@ -18,18 +18,19 @@ use Rattle.isp_meaning.specs.State.{State}
 use Rattle.isp_meaning.specs.Payloads.{Payload, One, Each, is_true, is_false, spread, kept_by, selected, layer, first_of_two}
 use Rattle.isp_meaning.specs.Outcomes.{Val, Gives, bind, value_unless_empty}
 use Rattle.isp_lower.specs.Layout.{register, mask_register}
-use Rattle.isp_lower.specs.Setting.{Setting, IsSettled, gang_of, AreAt, At, Stands, Low, at_rate, Holds}
+use Rattle.isp_lower.specs.Setting.{Setting, IsSettled, gang_of, AreAt, At, Stands, at_rate, Holds}
 use Rattle.isp_typed.specs.Typed.{TExpr}
 use Rattle.isp_lower.specs.Fits.{Reaches, first_slot, second_slot}
-use Rattle.isp_lower.proofs.Nodes.{enters_less}
 use Rattle.isp_lower.specs.Runs.{Enters, Ok, Runs}
 use Rattle.isp_lower.specs.Code.{move_code, where_so, the_others, jump_on, jump_off, guard, choice, two, select, choose_rest, operand, choose_code}
-use Rattle.isp_lower.proofs.Base.{low_more, keeps_less, are_front, are_back, put_same, put_other, keeps_all, comes_none, comes_on, at_to, step_go}
+use Rattle.isp_lower.proofs.Base.{are_front, are_back, put_same, put_other, comes_none, comes_on, at_to, step_go, spares_all, spares_less}
 use Rattle.isp_lower.proofs.Rates.{at_kept, one_holds, filled_on}
 use Rattle.isp_lower.proofs.Lines.{set_at}
 use Rattle.isp_lower.proofs.Combine.{runs_after, bind_runs, runs_on, ok_less, ok_to, write_runs}
 use Rattle.isp_lower.proofs.Logic.{unless_some, unless_none, any_nobody, others_where, is_nobody, where_inside}
 use Rattle.isp_lower.proofs.Jumps.{jumped, jump_comes, jump_at, masked, where_comes, others_comes, masked_at, move_ok}
+use Rattle.isp_lower.proofs.Kept.{Low, low_more, Keeps, runs_kept, unless_still}
+use Rattle.isp_meaning.specs.Loads.{no_variable, KeepsBy}
 
 -- nothing anywhere
 abbrev nowhere : Map
@@ -82,15 +83,15 @@ module _ (w : Setting) (ready : IsSettled w) where
         comes = comes_on w c c2 c3 ok.steps 1 ok.comes (step_go w c2 pc (instr.Jump to) c3 ready ok.at has refl);
         at = record { home_is = ok.at.home_is; waiting_is = ok.at.waiting_is; pc_is = refl };
         stands = ok.stands;
-        keeps = ok.keeps;
+        spares = ok.spares;
         masks = ok.masks;
         holds = p;
         bound = omega (arith, ok.bound);
       }
 
-  pub choose_one : (r : Rate) (d : ℕ) (c : Conf) (pc k n q : ℕ) (a : Mask) (vt : Val Payload) (va vb : Mask → State → Val Payload) (f : ℕ) (ct : List Instr) (ca cb : ℕ → List Instr) → c.masks k ≡ a → k < n → any (gang_of w) a ≡ true → ((p : ℕ) → a p ≡ true → p < gang_of w) → AreAt w.routine.code pc (two pc ct (λ p1. choice (jump_on jump.False f) p1 ca cb)) → Runs w c (pc + length ct) n (5 + q) (Holds Uniform a f) vt → ((s : State) (c1 : Conf) (pc1 z : ℕ) → AreAt w.routine.code pc1 (ca pc1) → Enters w pc1 k n a s c1 (3 + z) → Runs w c1 (pc1 + length (ca pc1)) n z (Holds r a d) (va a s)) → ((s : State) (c1 : Conf) (pc1 z : ℕ) → AreAt w.routine.code pc1 (cb pc1) → Enters w pc1 k n a s c1 (3 + z) → Runs w c1 (pc1 + length (cb pc1)) n z (Holds r a d) (vb a s)) → Runs w c (pc + length (two pc ct (λ p1. choice (jump_on jump.False f) p1 ca cb))) n q (Holds r a d) (bind vt (λ x s1. bind (value_unless_empty (gang_of w) (kept_by is_true a x) s1 va) (λ m s2. bind (value_unless_empty (gang_of w) (kept_by is_false a x) s2 vb) (λ z s3. Gives (selected a x m z) s3))))
+  pub choose_one : (r : Rate) (d : ℕ) (c : Conf) (pc k n q : ℕ) (a : Mask) (vt : Val Payload) (va vb : Mask → State → Val Payload) (f : ℕ) (ct : List Instr) (ca cb : ℕ → List Instr) → c.masks k ≡ a → k < n → any (gang_of w) a ≡ true → ((p : ℕ) → a p ≡ true → p < gang_of w) → AreAt w.routine.code pc (two pc ct (λ p1. choice (jump_on jump.False f) p1 ca cb)) → Runs w c (pc + length ct) n (2 + q) (Holds Uniform a f) vt → ((s : State) (c1 : Conf) (pc1 z : ℕ) → AreAt w.routine.code pc1 (ca pc1) → Enters w pc1 k n a s c1 z → Runs w c1 (pc1 + length (ca pc1)) n z (Holds r a d) (va a s)) → ((s : State) (c1 : Conf) (pc1 z : ℕ) → AreAt w.routine.code pc1 (cb pc1) → Enters w pc1 k n a s c1 z → Runs w c1 (pc1 + length (cb pc1)) n z (Holds r a d) (vb a s)) → Runs w c (pc + length (two pc ct (λ p1. choice (jump_on jump.False f) p1 ca cb))) n q (Holds r a d) (bind vt (λ x s1. bind (value_unless_empty (gang_of w) (kept_by is_true a x) s1 va) (λ m s2. bind (value_unless_empty (gang_of w) (kept_by is_false a x) s2 vb) (λ z s3. Gives (selected a x m z) s3))))
   choose_one r d c pc k n q a vt va vb f ct ca cb em lk some inside has rt ra rb =
-      bind_runs w ready c p1 n 5 q (Holds Uniform a f) vt _ end n (Holds r a d) rt
+      bind_runs w ready c p1 n 2 q (Holds Uniform a f) vt _ end n (Holds r a d) rt
       (λ m s ok. subst (λ x. Runs w c end n q (Holds r a d) (bind (value_unless_empty (gang_of w) (kept_by is_true a x) s va) (λ m s2. bind (value_unless_empty (gang_of w) (kept_by is_false a x) s2 vb) (λ z s3. Gives (selected a x m z) s3)))) (sym ok.holds) (rest m s ok))
     where
       p1 : ℕ
@@ -114,8 +115,8 @@ module _ (w : Setting) (ready : IsSettled w) where
       ends : to ≡ end
       ends = omega (arith, length-append ct (jump_on jump.False f pb ∷ (ca (p1 + 1) ++ instr.Jump to ∷ cb pb)), length-append (ca (p1 + 1)) (instr.Jump to ∷ cb pb))
 
-      rest : (m : Payload) (s : State) (ok : Ok w c p1 n (5 + q) (Holds Uniform a f m) s) → Runs w c end n q (Holds r a d) (bind (value_unless_empty (gang_of w) (kept_by is_true a (One (ok.conf.scalars f))) s va) (λ m s2. bind (value_unless_empty (gang_of w) (kept_by is_false a (One (ok.conf.scalars f))) s2 vb) (λ z s3. Gives (selected a (One (ok.conf.scalars f)) m z) s3)))
-      rest m s ok = runs_after w ready c c4 (ok.steps + 1) end n q _ _ (comes_on w c c1 c4 ok.steps 1 ok.comes (jump_comes w ready c1 p1 jump.False (register Uniform f) pb ok.at at1.0)) ok.keeps ok.masks (go (is_true (c1.scalars f)) refl)
+      rest : (m : Payload) (s : State) (ok : Ok w c p1 n (2 + q) (Holds Uniform a f m) s) → Runs w c end n q (Holds r a d) (bind (value_unless_empty (gang_of w) (kept_by is_true a (One (ok.conf.scalars f))) s va) (λ m s2. bind (value_unless_empty (gang_of w) (kept_by is_false a (One (ok.conf.scalars f))) s2 vb) (λ z s3. Gives (selected a (One (ok.conf.scalars f)) m z) s3)))
+      rest m s ok = runs_after w ready c c4 (ok.steps + 1) end n q _ _ (comes_on w c c1 c4 ok.steps 1 ok.comes (jump_comes w ready c1 p1 jump.False (register Uniform f) pb ok.at at1.0)) ok.spares ok.masks (go (is_true (c1.scalars f)) refl)
         where
           c1 : Conf
           c1 = ok.conf
@@ -142,9 +143,9 @@ module _ (w : Setting) (ready : IsSettled w) where
   -- ---- in lanes
 
   -- a side for the lanes of mask j, if there are any
-  guard_value : (c : Conf) (pc j n q : ℕ) (T : Mask) (s : State) (body : ℕ → List Instr) (vb : Mask → State → Val Payload) (y : ℕ) → At w c pc → c.masks j ≡ T → ((p : ℕ) → T p ≡ true → p < gang_of w) → Stands w s c → 4 + q ≤ 32 * s.work → j < n → AreAt w.routine.code pc (guard (jump_off j) pc body) → ((c1 : Conf) (z : ℕ) → Enters w (pc + 1) j n T s c1 (3 + z) → Runs w c1 (pc + 1 + length (body (pc + 1))) n z (Holds Varying T y) (vb T s)) → Runs w c (pc + length (guard (jump_off j) pc body)) n q (Holds Varying T y) (value_unless_empty (gang_of w) T s vb)
+  guard_value : (c : Conf) (pc j n q : ℕ) (T : Mask) (s : State) (body : ℕ → List Instr) (vb : Mask → State → Val Payload) (y : ℕ) → At w c pc → c.masks j ≡ T → ((p : ℕ) → T p ≡ true → p < gang_of w) → Stands w s c → 1 + q ≤ 32 * s.work → j < n → AreAt w.routine.code pc (guard (jump_off j) pc body) → ((c1 : Conf) (z : ℕ) → Enters w (pc + 1) j n T s c1 z → Runs w c1 (pc + 1 + length (body (pc + 1))) n z (Holds Varying T y) (vb T s)) → Runs w c (pc + length (guard (jump_off j) pc body)) n q (Holds Varying T y) (value_unless_empty (gang_of w) T s vb)
   guard_value c pc j n q T s body vb y at em inside st us lt has rb =
-      runs_after w ready c c4 1 end n q _ _ (jump_comes w ready c pc jump.Off (mask_register j) to at has.0) (keeps_all w n c) (λ r h. refl) (go (any (gang_of w) T) refl)
+      runs_after w ready c c4 1 end n q _ _ (jump_comes w ready c pc jump.Off (mask_register j) to at has.0) (spares_all w n c) (λ r h. refl) (go (any (gang_of w) T) refl)
     where
       to : ℕ
       to = pc + 1 + length (body (pc + 1))
@@ -168,10 +169,10 @@ module _ (w : Setting) (ready : IsSettled w) where
       go false e =
           let off : T ≡ nobody = is_nobody (gang_of w) T inside e in
           subst (λ u. Runs w c4 end n (1 + q) (Holds Varying T y) u) (sym (unless_none (gang_of w) T s vb e))
-          (record { conf = c4; steps = 0; comes = comes_none w c4; at = at_to w c4 to end (jump_at w ready c pc jump.Off (mask_register j) to true at (off_is false e)) ends; stands = st; keeps = keeps_all w n c4; masks = λ i h. refl; holds = ap (λ t. Each (on t (c.vectors y))) (sym off); bound = omega arith })
+          (record { conf = c4; steps = 0; comes = comes_none w c4; at = at_to w c4 to end (jump_at w ready c pc jump.Off (mask_register j) to true at (off_is false e)) ends; stands = st; spares = spares_all w n c4; masks = λ i h. refl; holds = ap (λ t. Each (on t (c.vectors y))) (sym off); bound = omega arith })
 
-  pub choose_each : (t : Elem) (c : Conf) (pc k n q : ℕ) (a : Mask) (vt : Val Payload) (va vb : Mask → State → Val Payload) (f x y : ℕ) (ct : List Instr) (ca cb : ℕ → ℕ → ℕ → List Instr) → c.masks k ≡ a → k < n → ((p : ℕ) → a p ≡ true → p < gang_of w) → Low w.layout Varying (n + 1) f → Low w.layout Varying (n + 2) x → AreAt w.routine.code pc (two pc ct (λ p1. choose_rest (w.layout.spare Varying t n) f x y p1 k n ca cb)) → Runs w c (pc + length ct) n (11 + q) (Holds Varying a f) vt → ((T : Mask) (s : State) (c1 : Conf) (pc1 z : ℕ) → AreAt w.routine.code pc1 (ca pc1 n (n + 1)) → Enters w pc1 n (n + 1) T s c1 (3 + z) → Runs w c1 (pc1 + length (ca pc1 n (n + 1))) (n + 1) z (Holds Varying T x) (va T s)) → ((T : Mask) (s : State) (c1 : Conf) (pc1 z : ℕ) → AreAt w.routine.code pc1 (cb pc1 (n + 1) (n + 2)) → Enters w pc1 (n + 1) (n + 2) T s c1 (3 + z) → Runs w c1 (pc1 + length (cb pc1 (n + 1) (n + 2))) (n + 2) z (Holds Varying T y) (vb T s)) → Runs w c (pc + length (two pc ct (λ p1. choose_rest (w.layout.spare Varying t n) f x y p1 k n ca cb))) n q (Holds Varying a (w.layout.spare Varying t n)) (bind vt (λ x s1. bind (value_unless_empty (gang_of w) (kept_by is_true a x) s1 va) (λ m s2. bind (value_unless_empty (gang_of w) (kept_by is_false a x) s2 vb) (λ z s3. Gives (selected a x m z) s3))))
-  choose_each t c pc k n q a vt va vb f x y ct ca cb em lk inside low_f low_x has rt ra rb = bind_runs w ready c p1 n 11 q (Holds Varying a f) vt _ end n (Holds Varying a d) rt rest
+  pub choose_each : (t : Elem) (c : Conf) (pc k n q : ℕ) (a : Mask) (vt : Val Payload) (va vb : Mask → State → Val Payload) (f x y : ℕ) (ct : List Instr) (ca cb : ℕ → ℕ → ℕ → List Instr) → c.masks k ≡ a → k < n → ((p : ℕ) → a p ≡ true → p < gang_of w) → Low w.layout Varying (n + 1) f → Low w.layout Varying (n + 2) x → AreAt w.routine.code pc (two pc ct (λ p1. choose_rest (w.layout.spare Varying t n) f x y p1 k n ca cb)) → Runs w c (pc + length ct) n (5 + q) (Holds Varying a f) vt → ((T : Mask) (s : State) (c1 : Conf) (pc1 z : ℕ) → AreAt w.routine.code pc1 (ca pc1 n (n + 1)) → Enters w pc1 n (n + 1) T s c1 z → Runs w c1 (pc1 + length (ca pc1 n (n + 1))) (n + 1) z (Holds Varying T x) (va T s)) → ((T : Mask) (s : State) (c1 : Conf) (pc1 z : ℕ) → AreAt w.routine.code pc1 (cb pc1 (n + 1) (n + 2)) → Enters w pc1 (n + 1) (n + 2) T s c1 z → Runs w c1 (pc1 + length (cb pc1 (n + 1) (n + 2))) (n + 2) z (Holds Varying T y) (vb T s)) → ((T : Mask) (s : State) → KeepsBy no_variable s (va T s)) → ((T : Mask) (s : State) → KeepsBy no_variable s (vb T s)) → Runs w c (pc + length (two pc ct (λ p1. choose_rest (w.layout.spare Varying t n) f x y p1 k n ca cb))) n q (Holds Varying a (w.layout.spare Varying t n)) (bind vt (λ x s1. bind (value_unless_empty (gang_of w) (kept_by is_true a x) s1 va) (λ m s2. bind (value_unless_empty (gang_of w) (kept_by is_false a x) s2 vb) (λ z s3. Gives (selected a x m z) s3))))
+  choose_each t c pc k n q a vt va vb f x y ct ca cb em lk inside low_f low_x has rt ra rb still_a still_b = bind_runs w ready c p1 n 5 q (Holds Varying a f) vt _ end n (Holds Varying a d) rt rest
     where
       d : ℕ
       d = w.layout.spare Varying t n
@@ -212,13 +213,13 @@ module _ (w : Setting) (ready : IsSettled w) where
       ends : p3 + 1 ≡ end
       ends = omega (arith, length-append ct (where_so n f k ∷ (side ++ the_others (n + 1) k n ∷ (other ++ select Varying d f x y k ∷ []))), length-append side (the_others (n + 1) k n ∷ (other ++ select Varying d f x y k ∷ [])), length-append other (select Varying d f x y k ∷ []))
 
-      rest : (b : Payload) (s : State) (ok : Ok w c p1 n (11 + q) (Holds Varying a f b) s) → Runs w c end n q (Holds Varying a d) (bind (value_unless_empty (gang_of w) (kept_by is_true a b) s va) (λ m s2. bind (value_unless_empty (gang_of w) (kept_by is_false a b) s2 vb) (λ z s3. Gives (selected a b m z) s3)))
+      rest : (b : Payload) (s : State) (ok : Ok w c p1 n (5 + q) (Holds Varying a f b) s) → Runs w c end n q (Holds Varying a d) (bind (value_unless_empty (gang_of w) (kept_by is_true a b) s va) (λ m s2. bind (value_unless_empty (gang_of w) (kept_by is_false a b) s2 vb) (λ z s3. Gives (selected a b m z) s3)))
       rest b s ok =
           subst (λ g. Runs w c end n q (Holds Varying a d) (bind (value_unless_empty (gang_of w) g s va) (λ m s2. bind (value_unless_empty (gang_of w) (kept_by is_false a b) s2 vb) (λ z s3. Gives (selected a b m z) s3)))) (sym (at_kept Varying a is_true b ∙ ap (kept_by is_true a) ok.holds))
           (subst (λ g. Runs w c end n q (Holds Varying a d) (bind (value_unless_empty (gang_of w) T s va) (λ m s2. bind (value_unless_empty (gang_of w) g s2 vb) (λ z s3. Gives (selected a b m z) s3)))) (sym (at_kept Varying a is_false b ∙ ap (kept_by is_false a) ok.holds))
-          (runs_after w ready c c2 (ok.steps + 1) end n q _ _ (comes_on w c c1 c2 ok.steps 1 ok.comes (where_comes w ready c1 p1 n f k ok.at at1.0)) ok.keeps (λ r h. let ne : r ≢ n = omega arith in put_other c1.masks n x2 r ne ∙ ok.masks r h)
-          (bind_runs w ready c2 p2 (n + 1) 6 q1 (Holds Varying T x) (value_unless_empty (gang_of w) T s va) _ end n (Holds Varying a d)
-          (guard_value c2 (p1 + 1) n (n + 1) (6 + q1) T s (λ pc1. ca pc1 n (n + 1)) va x (masked_at w ready c1 p1 n x2 ok.at) e2 (where_inside (gang_of w) a is_true v inside) ok.stands (omega (arith, ok.bound)) (omega arith) at_side (λ c3 z en. ra T s c3 (p1 + 1 + 1) z at_side.1 en))
+          (runs_after w ready c c2 (ok.steps + 1) end n q _ _ (comes_on w c c1 c2 ok.steps 1 ok.comes (where_comes w ready c1 p1 n f k ok.at at1.0)) ok.spares (λ r h. let ne : r ≢ n = omega arith in put_other c1.masks n x2 r ne ∙ ok.masks r h)
+          (bind_runs w ready c2 p2 (n + 1) 3 q1 (λ m c'. Holds Varying T x m c' × Keeps w (n + 1) c2 c') (value_unless_empty (gang_of w) T s va) _ end n (Holds Varying a d)
+          (runs_kept w c2 p2 (n + 1) (3 + q1) (Holds Varying T x) (value_unless_empty (gang_of w) T s va) s ok.stands (unless_still w (gang_of w) T s va (still_a T s)) (guard_value c2 (p1 + 1) n (n + 1) (3 + q1) T s (λ pc1. ca pc1 n (n + 1)) va x (masked_at w ready c1 p1 n x2 ok.at) e2 (where_inside (gang_of w) a is_true v inside) ok.stands (omega (arith, ok.bound)) (omega arith) at_side (λ c3 z en. ra T s c3 (p1 + 1 + 1) z at_side.1 en)))
           second)))
         where
           c1 : Conf
@@ -245,11 +246,11 @@ module _ (w : Setting) (ready : IsSettled w) where
           e2 : c2.masks n ≡ T
           e2 = put_same c1.masks n x2 ∙ ap (λ g. where_true is_true (on g v)) (ok.masks k lk ∙ em)
 
-          second : (m : Payload) (s2 : State) (ok2 : Ok w c2 p2 (n + 1) (6 + q1) (Holds Varying T x m) s2) → Runs w c2 end n q1 (Holds Varying a d) (bind (value_unless_empty (gang_of w) F s2 vb) (λ z s3. Gives (selected a b m z) s3))
+          second : (m : Payload) (s2 : State) (ok2 : Ok w c2 p2 (n + 1) (3 + q1) (λ c'. Holds Varying T x m c' × Keeps w (n + 1) c2 c') s2) → Runs w c2 end n q1 (Holds Varying a d) (bind (value_unless_empty (gang_of w) F s2 vb) (λ z s3. Gives (selected a b m z) s3))
           second m s2 ok2 =
-              runs_after w ready c2 c4 (ok2.steps + 1) end n q1 _ _ (comes_on w c2 c3 c4 ok2.steps 1 ok2.comes (others_comes w ready c3 p2 (n + 1) k n ok2.at at2.0)) (keeps_less w n (n + 1) c2 c3 (omega arith) ok2.keeps) (λ r h. let ne : r ≢ n + 1 = omega arith in put_other c3.masks (n + 1) x4 r ne ∙ ok2.masks r (omega arith))
-              (bind_runs w ready c4 p3 (n + 2) 1 q2 (Holds Varying F y) (value_unless_empty (gang_of w) F s2 vb) _ end n (Holds Varying a d)
-              (guard_value c4 (p2 + 1) (n + 1) (n + 2) (1 + q2) F s2 (λ pc2. cb pc2 (n + 1) (n + 2)) vb y (masked_at w ready c3 p2 (n + 1) x4 ok2.at) e4 (where_inside (gang_of w) a is_false v inside) ok2.stands (omega (arith, ok2.bound)) (omega arith) at_other (λ c5 z en. rb F s2 c5 (p2 + 1 + 1) z at_other.1 en))
+              runs_after w ready c2 c4 (ok2.steps + 1) end n q1 _ _ (comes_on w c2 c3 c4 ok2.steps 1 ok2.comes (others_comes w ready c3 p2 (n + 1) k n ok2.at at2.0)) (spares_less w n (n + 1) c2 c3 (omega arith) ok2.spares) (λ r h. let ne : r ≢ n + 1 = omega arith in put_other c3.masks (n + 1) x4 r ne ∙ ok2.masks r (omega arith))
+              (bind_runs w ready c4 p3 (n + 2) 1 q2 (λ z c'. Holds Varying F y z c' × Keeps w (n + 2) c4 c') (value_unless_empty (gang_of w) F s2 vb) _ end n (Holds Varying a d)
+              (runs_kept w c4 p3 (n + 2) (1 + q2) (Holds Varying F y) (value_unless_empty (gang_of w) F s2 vb) s2 ok2.stands (unless_still w (gang_of w) F s2 vb (still_b F s2)) (guard_value c4 (p2 + 1) (n + 1) (n + 2) (1 + q2) F s2 (λ pc2. cb pc2 (n + 1) (n + 2)) vb y (masked_at w ready c3 p2 (n + 1) x4 ok2.at) e4 (where_inside (gang_of w) a is_false v inside) ok2.stands (omega (arith, ok2.bound)) (omega arith) at_other (λ c5 z en. rb F s2 c5 (p2 + 1 + 1) z at_other.1 en)))
               third)
             where
               c3 : Conf
@@ -273,37 +274,36 @@ module _ (w : Setting) (ready : IsSettled w) where
               e4 : c4.masks (n + 1) ≡ F
               e4 = put_same c3.masks (n + 1) x4 ∙ ap (λ g. without g (c3.masks n)) ek ∙ ap (without a) (ok2.masks n (omega arith) ∙ e2) ∙ others_where a v
 
-              third : (z : Payload) (s3 : State) (ok3 : Ok w c4 p3 (n + 2) (1 + q2) (Holds Varying F y z) s3) → Runs w c4 end n q2 (Holds Varying a d) (Gives (selected a b m z) s3)
+              third : (z : Payload) (s3 : State) (ok3 : Ok w c4 p3 (n + 2) (1 + q2) (λ c'. Holds Varying F y z c' × Keeps w (n + 2) c4 c') s3) → Runs w c4 end n q2 (Holds Varying a d) (Gives (selected a b m z) s3)
               third z s3 ok3 =
                   let c5 = ok3.conf in
                   let kn1 : k ≢ n + 1 = omega arith in
                   let chosen = λ (p : ℕ). if is_true (c5.vectors f p) then c5.vectors x p else c5.vectors y p in
-                  let ev : c5.vectors f ≡ v = ok3.keeps.vectors_stay f (low_more w.layout Varying (n + 1) (n + 2) f (omega arith) low_f) ∙ ok2.keeps.vectors_stay f low_f in
-                  let eu : c5.vectors x ≡ c3.vectors x = ok3.keeps.vectors_stay x low_x in
-                  let hm : spread T m ≡ on T (c5.vectors x) = ap (spread nobody) ok2.holds ∙ ap (on T) (sym eu) in
-                  let hz : spread F z ≡ on F (c5.vectors y) = ap (spread nobody) ok3.holds in
+                  let ev : c5.vectors f ≡ v = ok3.holds.1.vectors_stay f (low_more w.layout Varying (n + 1) (n + 2) f (omega arith) low_f) ∙ ok2.holds.1.vectors_stay f low_f in
+                  let eu : c5.vectors x ≡ c3.vectors x = ok3.holds.1.vectors_stay x low_x in
+                  let hm : spread T m ≡ on T (c5.vectors x) = ap (spread nobody) ok2.holds.0 ∙ ap (on T) (sym eu) in
+                  let hz : spread F z ≡ on F (c5.vectors y) = ap (spread nobody) ok3.holds.0 in
                   let ec : on a chosen ≡ layer (on T (c5.vectors x)) (on F (c5.vectors y)) = select_is a (c5.vectors x) (c5.vectors y) (c5.vectors f) ∙ ap (λ g. layer (on (where_true is_true (on a g)) (c5.vectors x)) (on (where_true is_false (on a g)) (c5.vectors y))) ev in
-                  write_runs w ready c4 c5 ok3.steps p3 end n q2 a s3 (select Varying d f x y k) Varying t None Divide no_place (selected a b m z) (Each (on a chosen)) ok3.comes ok3.at ends at3.0 ok3.stands (keeps_less w n (n + 2) c4 c5 (omega arith) ok3.keeps) (λ r h. ok3.masks r (omega arith)) (omega (arith, ok3.bound)) (selected_at a b m z (c5.vectors x) (c5.vectors y) v ok.holds hm hz ∙ sym (ap Each ec)) (λ old. ap Each (filled_on a chosen old)) (ap (λ g. Go (set_at Varying c5 d (Each (on g chosen)))) (ok3.masks k (omega arith) ∙ put_other c3.masks (n + 1) x4 k kn1 ∙ ek))
+                  write_runs w ready c4 c5 ok3.steps p3 end n q2 a s3 (select Varying d f x y k) Varying t None Divide no_place (selected a b m z) (Each (on a chosen)) ok3.comes ok3.at ends at3.0 ok3.stands (spares_less w n (n + 2) c4 c5 (omega arith) ok3.spares) (λ r h. ok3.masks r (omega arith)) (omega (arith, ok3.bound)) (selected_at a b m z (c5.vectors x) (c5.vectors y) v ok.holds hm hz ∙ sym (ap Each ec)) (λ old. ap Each (filled_on a chosen old)) (ap (λ g. Go (set_at Varying c5 d (Each (on g chosen)))) (ok3.masks k (omega arith) ∙ put_other c3.masks (n + 1) x4 k kn1 ∙ ek))
 
   -- a choice by a test of either rate; the sides are taken at the slots that this leaves
-  pub choose_runs : (g r : Rate) (t : Elem) (x y : TExpr) (c : Conf) (pc k n q : ℕ) (a : Mask) (vt : Val Payload) (va vb : Mask → State → Val Payload) (f : ℕ) (ct : List Instr) (ca cb : ℕ → ℕ → ℕ → List Instr) → Reaches g r → c.masks k ≡ a → k < n → any (gang_of w) a ≡ true → ((p : ℕ) → a p ≡ true → p < gang_of w) → Low w.layout g (n + 1) f → Low w.layout r (first_slot g n + 1) (operand w.layout r x (first_slot g n)) → AreAt w.routine.code pc (choose_code w.layout g r t x y f pc k n ct ca cb) → Runs w c (pc + length ct) n (11 + q) (Holds g a f) vt → ((T : Mask) (s : State) (c1 : Conf) (pc1 z j : ℕ) → AreAt w.routine.code pc1 (ca pc1 j (first_slot g n)) → Enters w pc1 j (first_slot g n) T s c1 (2 + z) → Runs w c1 (pc1 + length (ca pc1 j (first_slot g n))) (first_slot g n) z (Holds r T (operand w.layout r x (first_slot g n))) (va T s)) → ((T : Mask) (s : State) (c1 : Conf) (pc1 z j : ℕ) → AreAt w.routine.code pc1 (cb pc1 j (second_slot g n)) → Enters w pc1 j (second_slot g n) T s c1 (2 + z) → Runs w c1 (pc1 + length (cb pc1 j (second_slot g n))) (second_slot g n) z (Holds r T (operand w.layout r y (second_slot g n))) (vb T s)) → Runs w c (pc + length (choose_code w.layout g r t x y f pc k n ct ca cb)) n q (Holds r a (w.layout.spare r t n)) (bind vt (λ x s1. bind (value_unless_empty (gang_of w) (kept_by is_true a x) s1 va) (λ m s2. bind (value_unless_empty (gang_of w) (kept_by is_false a x) s2 vb) (λ z s3. Gives (selected a x m z) s3))))
-  choose_runs Uniform r t x y c pc k n q a vt va vb f ct ca cb re em lk some inside low_f low_x has rt ra rb =
-      choose_one r (w.layout.spare r t n) c pc k n q a vt va vb f ct (λ pc2. ca pc2 k n ++ move_code r (w.layout.spare r t n) (operand w.layout r x n) k) (λ pc2. cb pc2 k n ++ move_code r (w.layout.spare r t n) (operand w.layout r y n) k) em lk some inside has (fewer vt rt) (λ s c1 pc1 z at en. side x (ca pc1 k n) (va a s) c1 pc1 z at en.mask en.low (ra a s c1 pc1 (1 + z) k (are_front w.routine.code pc1 (ca pc1 k n) _ at) (enters_less w ready pc1 k n (2 + (1 + z)) _ a s c1 (omega arith) en))) (λ s c1 pc1 z at en. side y (cb pc1 k n) (vb a s) c1 pc1 z at en.mask en.low (rb a s c1 pc1 (1 + z) k (are_front w.routine.code pc1 (cb pc1 k n) _ at) (enters_less w ready pc1 k n (2 + (1 + z)) _ a s c1 (omega arith) en)))
+  pub choose_runs : (g r : Rate) (t : Elem) (x y : TExpr) (c : Conf) (pc k n q : ℕ) (a : Mask) (vt : Val Payload) (va vb : Mask → State → Val Payload) (f : ℕ) (ct : List Instr) (ca cb : ℕ → ℕ → ℕ → List Instr) → Reaches g r → c.masks k ≡ a → k < n → any (gang_of w) a ≡ true → ((p : ℕ) → a p ≡ true → p < gang_of w) → Low w.layout g (n + 1) f → Low w.layout r (first_slot g n + 1) (operand w.layout r x (first_slot g n)) → AreAt w.routine.code pc (choose_code w.layout g r t x y f pc k n ct ca cb) → Runs w c (pc + length ct) n (5 + q) (Holds g a f) vt → ((T : Mask) (s : State) (c1 : Conf) (pc1 z u j : ℕ) → u ≤ 3 + z → AreAt w.routine.code pc1 (ca pc1 j (first_slot g n)) → Enters w pc1 j (first_slot g n) T s c1 z → Runs w c1 (pc1 + length (ca pc1 j (first_slot g n))) (first_slot g n) u (Holds r T (operand w.layout r x (first_slot g n))) (va T s)) → ((T : Mask) (s : State) (c1 : Conf) (pc1 z u j : ℕ) → u ≤ 3 + z → AreAt w.routine.code pc1 (cb pc1 j (second_slot g n)) → Enters w pc1 j (second_slot g n) T s c1 z → Runs w c1 (pc1 + length (cb pc1 j (second_slot g n))) (second_slot g n) u (Holds r T (operand w.layout r y (second_slot g n))) (vb T s)) → ((T : Mask) (s : State) → KeepsBy no_variable s (va T s)) → ((T : Mask) (s : State) → KeepsBy no_variable s (vb T s)) → Runs w c (pc + length (choose_code w.layout g r t x y f pc k n ct ca cb)) n q (Holds r a (w.layout.spare r t n)) (bind vt (λ x s1. bind (value_unless_empty (gang_of w) (kept_by is_true a x) s1 va) (λ m s2. bind (value_unless_empty (gang_of w) (kept_by is_false a x) s2 vb) (λ z s3. Gives (selected a x m z) s3))))
+  choose_runs Uniform r t x y c pc k n q a vt va vb f ct ca cb re em lk some inside low_f low_x has rt ra rb still_a still_b =
+      choose_one r (w.layout.spare r t n) c pc k n q a vt va vb f ct (λ pc2. ca pc2 k n ++ move_code r (w.layout.spare r t n) (operand w.layout r x n) k) (λ pc2. cb pc2 k n ++ move_code r (w.layout.spare r t n) (operand w.layout r y n) k) em lk some inside has (fewer vt rt) (λ s c1 pc1 z at en. side x (ca pc1 k n) (va a s) c1 pc1 z at en.mask en.low (ra a s c1 pc1 z (1 + z) k (omega arith) (are_front w.routine.code pc1 (ca pc1 k n) _ at) en)) (λ s c1 pc1 z at en. side y (cb pc1 k n) (vb a s) c1 pc1 z at en.mask en.low (rb a s c1 pc1 z (1 + z) k (omega arith) (are_front w.routine.code pc1 (cb pc1 k n) _ at) en))
     where
-      fewer : (v : Val Payload) → Runs w c (pc + length ct) n (11 + q) (Holds Uniform a f) v → Runs w c (pc + length ct) n (5 + q) (Holds Uniform a f) v
-      fewer v run = runs_on w ready c (pc + length ct) n 6 (5 + q) _ v (pc + length ct) n _ (runs_eq v run) (λ m s ok. ok_less w ready c _ _ n 6 (5 + q) _ s refl ok)
-        where
-          runs_eq : (v : Val Payload) → Runs w c (pc + length ct) n (11 + q) (Holds Uniform a f) v → Runs w c (pc + length ct) n (6 + (5 + q)) (Holds Uniform a f) v
-          runs_eq v run = let e : 11 + q ≡ 6 + (5 + q) = omega arith in subst (λ z. Runs w c (pc + length ct) n z (Holds Uniform a f) v) e run
+      fewer : (v : Val Payload) → Runs w c (pc + length ct) n (5 + q) (Holds Uniform a f) v → Runs w c (pc + length ct) n (2 + q) (Holds Uniform a f) v
+      fewer v run =
+          let e : 5 + q ≡ 3 + (2 + q) = omega arith in
+          runs_on w ready c (pc + length ct) n 3 (2 + q) _ v (pc + length ct) n _ (subst (λ z. Runs w c (pc + length ct) n z (Holds Uniform a f) v) e run) (λ m s ok. ok_less w ready c _ _ n 3 (2 + q) _ s refl ok)
 
       side : (e : TExpr) (code : List Instr) (v : Val Payload) (c1 : Conf) (pc1 z : ℕ) → AreAt w.routine.code pc1 (code ++ move_code r (w.layout.spare r t n) (operand w.layout r e n) k) → c1.masks k ≡ a → k < n → Runs w c1 (pc1 + length code) n (1 + z) (Holds r a (operand w.layout r e n)) v → Runs w c1 (pc1 + length (code ++ move_code r (w.layout.spare r t n) (operand w.layout r e n) k)) n z (Holds r a (w.layout.spare r t n)) v
       side e code v c1 pc1 z at e1 lt run =
           let mv = move_code r (w.layout.spare r t n) (operand w.layout r e n) k in
           let to : pc1 + length code + length mv ≡ pc1 + length (code ++ mv) = omega (arith, length-append code mv) in
           subst (λ p. Runs w c1 p n z (Holds r a (w.layout.spare r t n)) v) to (runs_on w ready c1 (pc1 + length code) n 1 z _ v _ n _ run (λ m s ok. move_ok w ready c1 (pc1 + length code) k n z a m s r t (operand w.layout r e n) ok (ok.masks k lt ∙ e1) (are_back w.routine.code pc1 code mv at)))
-  choose_runs Varying Uniform t x y c pc k n q a vt va vb f ct ca cb re em lk some inside low_f low_x has rt ra rb = absurd re
-  choose_runs Varying Varying t x y c pc k n q a vt va vb f ct ca cb re em lk some inside low_f low_x has rt ra rb =
-      choose_each t c pc k n q a vt va vb f (operand w.layout Varying x (n + 1)) (operand w.layout Varying y (n + 2)) ct ca cb em lk inside low_f (low_more w.layout Varying (n + 1 + 1) (n + 2) _ (omega arith) low_x) has rt (λ T s c1 pc1 z at en. ra T s c1 pc1 z n at (enters_less w ready pc1 n (n + 1) (2 + z) _ T s c1 (omega arith) en)) (λ T s c1 pc1 z at en. rb T s c1 pc1 z (n + 1) at (enters_less w ready pc1 (n + 1) (n + 2) (2 + z) _ T s c1 (omega arith) en))
+  choose_runs Varying Uniform t x y c pc k n q a vt va vb f ct ca cb re em lk some inside low_f low_x has rt ra rb still_a still_b = absurd re
+  choose_runs Varying Varying t x y c pc k n q a vt va vb f ct ca cb re em lk some inside low_f low_x has rt ra rb still_a still_b =
+      choose_each t c pc k n q a vt va vb f (operand w.layout Varying x (n + 1)) (operand w.layout Varying y (n + 2)) ct ca cb em lk inside low_f (low_more w.layout Varying (n + 1 + 1) (n + 2) _ (omega arith) low_x) has rt (λ T s c1 pc1 z at en. ra T s c1 pc1 z z n (omega arith) at en) (λ T s c1 pc1 z at en. rb T s c1 pc1 z z (n + 1) (omega arith) at en) still_a still_b
 
   -- the test comes first
   pub choose_front : (g r : Rate) (t : Elem) (x y : TExpr) (f pc k n : ℕ) (ct : List Instr) (ca cb : ℕ → ℕ → ℕ → List Instr) → AreAt w.routine.code pc (choose_code w.layout g r t x y f pc k n ct ca cb) → AreAt w.routine.code pc ct

@@ -1,5 +1,5 @@
 -- How code is put together: what follows a value, what comes before it, and one instruction that writes.
-use Rattle.std.proofs.Common.{◌≡◌, ℕ, ◌+◌, ◌*◌, ◌<◌, ◌≤◌, length, Option, Some, None, refl, sym, ap, ◌∙◌, subst, arith}
+use Rattle.std.proofs.Common.{◌≡◌, ◌≢◌, ℕ, ◌+◌, ◌*◌, ◌<◌, ◌≤◌, length, Option, Some, None, refl, sym, ap, ◌∙◌, subst, arith}
 use Rattle.std.specs.Prelude.{slice_get}
 use Rattle.isp_base.specs.Maps.{on, over}
 use Rattle.isp_base.specs.Sets.{Mask, nobody}
@@ -21,11 +21,11 @@ use Rattle.isp_meaning.specs.State.{State}
 use Rattle.isp_meaning.specs.Payloads.{Payload, One, Each, sole, spread}
 use Rattle.isp_meaning.specs.Outcomes.{Val, Gives, Fails, Stops, bind, checked}
 use Rattle.isp_lower.specs.Layout.{register, mask_register}
-use Rattle.isp_lower.specs.Setting.{Setting, IsSettled, AreAt, At, Stands, Low, Keeps, at_rate, held_at, Holds}
+use Rattle.isp_lower.specs.Setting.{Setting, IsSettled, AreAt, At, Stands, at_rate, held_at, Holds, Spares}
 use Rattle.isp_lower.specs.Runs.{Comes, Ok, Failed, Stopped, Runs}
 use Rattle.isp_lower.specs.Fits.{Reaches}
 use Rattle.isp_lower.specs.Code.{lifted, lift_code}
-use Rattle.isp_lower.proofs.Base.{put_same, put_other, low_variable, low_result, keeps_on, keeps_less, comes_on, fails_on, step_go, step_fail, next_at, at_to, moved_by}
+use Rattle.isp_lower.proofs.Base.{put_same, put_other, comes_on, fails_on, step_go, step_fail, next_at, at_to, moved_by, spares_less, spares_on}
 use Rattle.isp_lower.proofs.Rates.{Filled, filled_on}
 use Rattle.isp_lower.proofs.Lines.{set_at}
 
@@ -38,20 +38,20 @@ module _ (w : Setting) (ready : IsSettled w) where
   pub stopped_after : (turns : ℕ) (c c1 : Conf) (t q : ℕ) (s : State) → Comes w c t c1 → Stopped w turns c1 (t + q) s → Stopped w turns c q s
   stopped_after turns c c1 t q s h f = record { conf = f.conf; steps = t + f.steps; far = omega (arith, f.far); goes = comes_on w c c1 f.conf t f.steps h f.goes; out_is = f.out_is; bound = omega (arith, f.bound) }
 
-  pub ok_after : (c c1 : Conf) (t pc n q : ℕ) (P : Conf → Type 0) (s : State) → Comes w c t c1 → Keeps w n c c1 → ((r : ℕ) → r < n → c1.masks r ≡ c.masks r) → Ok w c1 pc n (t + q) P s → Ok w c pc n q P s
+  pub ok_after : (c c1 : Conf) (t pc n q : ℕ) (P : Conf → Type 0) (s : State) → Comes w c t c1 → Spares w n c c1 → ((r : ℕ) → r < n → c1.masks r ≡ c.masks r) → Ok w c1 pc n (t + q) P s → Ok w c pc n q P s
   ok_after c c1 t pc n q P s h k m r = record {
     conf = r.conf;
     steps = t + r.steps;
     comes = comes_on w c c1 r.conf t r.steps h r.comes;
     at = r.at;
     stands = r.stands;
-    keeps = keeps_on w n n c c1 r.conf (omega arith) k r.keeps;
+    spares = spares_on w n c c1 r.conf k r.spares;
     masks = λ i lt. r.masks i lt ∙ m i lt;
     holds = r.holds;
     bound = omega (arith, r.bound);
   }
 
-  pub runs_after : {A : Type 0} (c c1 : Conf) (t pc n q : ℕ) (P : A → Conf → Type 0) (v : Val A) → Comes w c t c1 → Keeps w n c c1 → ((r : ℕ) → r < n → c1.masks r ≡ c.masks r) → Runs w c1 pc n (t + q) P v → Runs w c pc n q P v
+  pub runs_after : {A : Type 0} (c c1 : Conf) (t pc n q : ℕ) (P : A → Conf → Type 0) (v : Val A) → Comes w c t c1 → Spares w n c c1 → ((r : ℕ) → r < n → c1.masks r ≡ c.masks r) → Runs w c1 pc n (t + q) P v → Runs w c pc n q P v
   runs_after c c1 t pc n q P (Gives x s) h k m r = ok_after c c1 t pc n q (P x) s h k m r
   runs_after c c1 t pc n q P (Fails p s) h k m r = failed_after c c1 t q p s h r
   runs_after c c1 t pc n q P (Stops s) h k m r = stopped_after w.turns c c1 t q s h r
@@ -82,7 +82,7 @@ module _ (w : Setting) (ready : IsSettled w) where
     comes = r.comes;
     at = at_to w r.conf pc pc' r.at e;
     stands = r.stands;
-    keeps = r.keeps;
+    spares = r.spares;
     masks = r.masks;
     holds = r.holds;
     bound = omega (arith, r.bound);
@@ -102,39 +102,45 @@ module _ (w : Setting) (ready : IsSettled w) where
   set_masks Uniform c d x k = refl
   set_masks Varying c d x k = refl
 
-  set_keeps : (r : Rate) (c : Conf) (t : Elem) (n j : ℕ) (x : Payload) → n ≤ j → Keeps w n c (set_at r c (w.layout.spare r t j) x)
-  set_keeps Uniform c t n j x le = record { scalars_stay = λ y low. put_other c.scalars (w.layout.spare Uniform t j) (sole x) y (low t j le); vectors_stay = λ y low. refl }
-  set_keeps Varying c t n j x le = record { scalars_stay = λ y low. refl; vectors_stay = λ y low. put_other c.vectors (w.layout.spare Varying t j) (over (spread nobody x) (c.vectors (w.layout.spare Varying t j))) y (low t j le) }
-
-  -- registers that are kept stand as before
-  kept_stands : (n : ℕ) (c c' : Conf) (s : State) → Keeps w n c c' → c'.own ≡ c.own → c'.arrays ≡ c.arrays → c'.out ≡ c.out → Stands w s c → Stands w s c'
-  kept_stands n c c' s k e1 e2 e3 st = record {
-    uniforms = λ v. k.scalars_stay _ (low_variable w.layout Uniform n v ready.apart) ∙ st.uniforms v;
-    varying = λ v. k.vectors_stay _ (low_variable w.layout Varying n v ready.apart) ∙ st.varying v;
-    result = k.scalars_stay _ (low_result w.layout Uniform n ready.apart) ∙ st.result;
-    results = k.vectors_stay _ (low_result w.layout Varying n ready.apart) ∙ st.results;
-    own_arrays = λ v. ap (λ o. o (w.layout.array v)) e1 ∙ st.own_arrays v;
-    arrays_are = e2 ∙ st.arrays_are;
-    out_is = e3 ∙ st.out_is;
-  }
+  set_spares : (r : Rate) (c : Conf) (t : Elem) (n j : ℕ) (x : Payload) → n ≤ j → Spares w n c (set_at r c (w.layout.spare r t j) x)
+  set_spares Uniform c t n j x le = record { scalars_stay = λ u i lt. let ne : i ≢ j = omega arith in put_other c.scalars (w.layout.spare Uniform t j) (sole x) (w.layout.spare Uniform u i) (ready.apart.spares Uniform u t i j ne); vectors_stay = λ u i lt. refl }
+  set_spares Varying c t n j x le = record { scalars_stay = λ u i lt. refl; vectors_stay = λ u i lt. let ne : i ≢ j = omega arith in put_other c.vectors (w.layout.spare Varying t j) (over (spread nobody x) (c.vectors (w.layout.spare Varying t j))) (w.layout.spare Varying u i) (ready.apart.spares Varying u t i j ne) }
 
   pub set_stands : (r : Rate) (c : Conf) (t : Elem) (j : ℕ) (x : Payload) (s : State) → Stands w s c → Stands w s (set_at r c (w.layout.spare r t j) x)
-  set_stands Uniform c t j x s st = kept_stands j c (set_at Uniform c (w.layout.spare Uniform t j) x) s (set_keeps Uniform c t j j x (omega arith)) refl refl refl st
-  set_stands Varying c t j x s st = kept_stands j c (set_at Varying c (w.layout.spare Varying t j) x) s (set_keeps Varying c t j j x (omega arith)) refl refl refl st
+  set_stands Uniform c t j x s st = record {
+    uniforms = λ v. put_other c.scalars (w.layout.spare Uniform t j) (sole x) (w.layout.variable Uniform v) (ready.apart.variable_spare Uniform t v j) ∙ st.uniforms v;
+    varying = st.varying;
+    result = put_other c.scalars (w.layout.spare Uniform t j) (sole x) (w.layout.result Uniform) (ready.apart.result_spare Uniform t j) ∙ st.result;
+    results = st.results;
+    own_arrays = st.own_arrays;
+    arrays_are = st.arrays_are;
+    out_is = st.out_is;
+  }
+  set_stands Varying c t j x s st =
+      let y = over (spread nobody x) (c.vectors (w.layout.spare Varying t j)) in
+      record {
+        uniforms = st.uniforms;
+        varying = λ v. put_other c.vectors (w.layout.spare Varying t j) y (w.layout.variable Varying v) (ready.apart.variable_spare Varying t v j) ∙ st.varying v;
+        result = st.result;
+        results = put_other c.vectors (w.layout.spare Varying t j) y (w.layout.result Varying) (ready.apart.result_spare Varying t j) ∙ st.results;
+        own_arrays = st.own_arrays;
+        arrays_are = st.arrays_are;
+        out_is = st.out_is;
+      }
 
   pub set_holds : (r : Rate) (c : Conf) (d : ℕ) (a : Mask) (x : Payload) → Filled r a x → x ≡ held_at r (set_at r c d x).scalars (set_at r c d x).vectors a d
   set_holds Uniform c d a x f = sym (ap One (put_same c.scalars d (sole x)) ∙ f)
   set_holds Varying c d a x f = sym (ap (λ v. Each (on a v)) (put_same c.vectors d (over (spread nobody x) (c.vectors d))) ∙ f (c.vectors d))
 
   -- one instruction that writes slot n, or traps
-  pub write_any : (c c2 : Conf) (t pc pc' n q : ℕ) (a : Mask) (s : State) (i : Instr) (r : Rate) (e : Elem) (o : Option ℕ) (kind : TrapKind) (sp : Span) (x y : Payload) → Comes w c t c2 → At w c2 pc → pc + 1 ≡ pc' → slice_get w.routine.code pc ≡ Some i → Stands w s c2 → Keeps w n c c2 → ((r : ℕ) → r < n → c2.masks r ≡ c.masks r) → t + 1 + q ≤ 32 * s.work → (o ≡ None → at_rate r a x ≡ held_at r (set_at r c2 (w.layout.spare r e n) y).scalars (set_at r c2 (w.layout.spare r e n) y).vectors a (w.layout.spare r e n)) → act w.code w.routine c2 i ≡ moved_by o kind sp (set_at r c2 (w.layout.spare r e n) y) → Runs w c pc' n q (Holds r a (w.layout.spare r e n)) (checked o kind sp s x)
+  pub write_any : (c c2 : Conf) (t pc pc' n q : ℕ) (a : Mask) (s : State) (i : Instr) (r : Rate) (e : Elem) (o : Option ℕ) (kind : TrapKind) (sp : Span) (x y : Payload) → Comes w c t c2 → At w c2 pc → pc + 1 ≡ pc' → slice_get w.routine.code pc ≡ Some i → Stands w s c2 → Spares w n c c2 → ((r : ℕ) → r < n → c2.masks r ≡ c.masks r) → t + 1 + q ≤ 32 * s.work → (o ≡ None → at_rate r a x ≡ held_at r (set_at r c2 (w.layout.spare r e n) y).scalars (set_at r c2 (w.layout.spare r e n) y).vectors a (w.layout.spare r e n)) → act w.code w.routine c2 i ≡ moved_by o kind sp (set_at r c2 (w.layout.spare r e n) y) → Runs w c pc' n q (Holds r a (w.layout.spare r e n)) (checked o kind sp s x)
   write_any c c2 t pc pc' n q a s i r e None kind sp x y h at to has st ke ma le ex is = record {
     conf = set_at r c2 (w.layout.spare r e n) y;
     steps = t + 1;
     comes = comes_on w c c2 (set_at r c2 (w.layout.spare r e n) y) t 1 h (set_comes r c2 (w.layout.spare r e n) y pc i at has is);
     at = at_to w (set_at r c2 (w.layout.spare r e n) y) (pc + 1) pc' (set_goes r c2 (w.layout.spare r e n) y pc at) to;
     stands = set_stands r c2 e n y s st;
-    keeps = keeps_on w n n c c2 (set_at r c2 (w.layout.spare r e n) y) (omega arith) ke (set_keeps r c2 e n n y (omega arith));
+    spares = spares_on w n c c2 (set_at r c2 (w.layout.spare r e n) y) ke (set_spares r c2 e n n y (omega arith));
     masks = λ k lt. set_masks r c2 (w.layout.spare r e n) y k ∙ ma k lt;
     holds = ex refl;
     bound = le;
@@ -142,17 +148,11 @@ module _ (w : Setting) (ready : IsSettled w) where
   write_any c c2 t pc pc' n q a s i r e (Some p) kind sp x y h at to has st ke ma le ex is =
       record { conf = c2; steps = t + 1; fails = fails_on w c c2 c2 t 1 (trap kind sp p) h (step_fail w c2 pc i (trap kind sp p) ready at has is); arrays_are = st.arrays_are; out_is = st.out_is; bound = le }
 
-  pub write_checked : (c c2 : Conf) (t pc pc' n q : ℕ) (a : Mask) (s : State) (i : Instr) (r : Rate) (e : Elem) (o : Option ℕ) (kind : TrapKind) (sp : Span) (x y : Payload) → Comes w c t c2 → At w c2 pc → pc + 1 ≡ pc' → slice_get w.routine.code pc ≡ Some i → Stands w s c2 → Keeps w n c c2 → ((r : ℕ) → r < n → c2.masks r ≡ c.masks r) → t + 1 + q ≤ 32 * s.work → (o ≡ None → at_rate r a x ≡ y) → Filled r a y → act w.code w.routine c2 i ≡ moved_by o kind sp (set_at r c2 (w.layout.spare r e n) y) → Runs w c pc' n q (Holds r a (w.layout.spare r e n)) (checked o kind sp s x)
+  pub write_checked : (c c2 : Conf) (t pc pc' n q : ℕ) (a : Mask) (s : State) (i : Instr) (r : Rate) (e : Elem) (o : Option ℕ) (kind : TrapKind) (sp : Span) (x y : Payload) → Comes w c t c2 → At w c2 pc → pc + 1 ≡ pc' → slice_get w.routine.code pc ≡ Some i → Stands w s c2 → Spares w n c c2 → ((r : ℕ) → r < n → c2.masks r ≡ c.masks r) → t + 1 + q ≤ 32 * s.work → (o ≡ None → at_rate r a x ≡ y) → Filled r a y → act w.code w.routine c2 i ≡ moved_by o kind sp (set_at r c2 (w.layout.spare r e n) y) → Runs w c pc' n q (Holds r a (w.layout.spare r e n)) (checked o kind sp s x)
   write_checked c c2 t pc pc' n q a s i r e o kind sp x y h at to has st ke ma le ex fill is = write_any c c2 t pc pc' n q a s i r e o kind sp x y h at to has st ke ma le (λ none. ex none ∙ set_holds r c2 (w.layout.spare r e n) a y fill) is
 
-  pub write_runs : (c c2 : Conf) (t pc pc' n q : ℕ) (a : Mask) (s : State) (i : Instr) (r : Rate) (e : Elem) (o : Option ℕ) (kind : TrapKind) (sp : Span) (x y : Payload) → Comes w c t c2 → At w c2 pc → pc + 1 ≡ pc' → slice_get w.routine.code pc ≡ Some i → Stands w s c2 → Keeps w n c c2 → ((r : ℕ) → r < n → c2.masks r ≡ c.masks r) → t + 1 + q ≤ 32 * s.work → at_rate r a x ≡ y → Filled r a y → act w.code w.routine c2 i ≡ moved_by o kind sp (set_at r c2 (w.layout.spare r e n) y) → Runs w c pc' n q (Holds r a (w.layout.spare r e n)) (checked o kind sp s x)
+  pub write_runs : (c c2 : Conf) (t pc pc' n q : ℕ) (a : Mask) (s : State) (i : Instr) (r : Rate) (e : Elem) (o : Option ℕ) (kind : TrapKind) (sp : Span) (x y : Payload) → Comes w c t c2 → At w c2 pc → pc + 1 ≡ pc' → slice_get w.routine.code pc ≡ Some i → Stands w s c2 → Spares w n c c2 → ((r : ℕ) → r < n → c2.masks r ≡ c.masks r) → t + 1 + q ≤ 32 * s.work → at_rate r a x ≡ y → Filled r a y → act w.code w.routine c2 i ≡ moved_by o kind sp (set_at r c2 (w.layout.spare r e n) y) → Runs w c pc' n q (Holds r a (w.layout.spare r e n)) (checked o kind sp s x)
   write_runs c c2 t pc pc' n q a s i r e o kind sp x y h at to has st ke ma le ex fill is = write_checked c c2 t pc pc' n q a s i r e o kind sp x y h at to has st ke ma le (λ none. ex) fill is
-
-  -- ---- what a register holds for a set stays where the register is kept
-
-  pub held_kept : (r : Rate) (n : ℕ) (c c' : Conf) (a : Mask) (x : ℕ) → Keeps w n c c' → Low w.layout r n x → held_at r c'.scalars c'.vectors a x ≡ held_at r c.scalars c.vectors a x
-  held_kept Uniform n c c' a x k low = ap One (k.scalars_stay x low)
-  held_kept Varying n c c' a x k low = ap (λ v. Each (on a v)) (k.vectors_stay x low)
 
   -- ---- a value of one rate where another is wanted
 
@@ -166,12 +166,12 @@ module _ (w : Setting) (ready : IsSettled w) where
       let c2 = ok.conf in
       let y = Each (on a (λ p. c2.scalars f)) in
       let is : act w.code w.routine c2 (instr.Vector (register Varying (w.layout.spare Varying e n)) (vector.Splat (register Uniform f) (mask_register k))) ≡ Go (set_at Varying c2 (w.layout.spare Varying e n) y) = ap (λ m. Go (set_at Varying c2 (w.layout.spare Varying e n) (Each (on m (λ p. c2.scalars f))))) (ok.masks k lt ∙ em) in
-      write_runs c c2 ok.steps pc _ n q a s _ Varying e None Divide no_place x y ok.comes ok.at refl has.0 ok.stands ok.keeps ok.masks (omega (arith, ok.bound)) (ap (λ z. Each (spread a z)) ok.holds) (λ old. ap Each (filled_on a (λ p. c2.scalars f) old)) is)
+      write_runs c c2 ok.steps pc _ n q a s _ Varying e None Divide no_place x y ok.comes ok.at refl has.0 ok.stands ok.spares ok.masks (omega (arith, ok.bound)) (ap (λ z. Each (spread a z)) ok.holds) (λ old. ap Each (filled_on a (λ p. c2.scalars f) old)) is)
 
   -- ---- the same run with another name for what is given
 
   pub renamed : {A B D : Type 0} (c : Conf) (pc n q : ℕ) (P : B → Conf → Type 0) (Q : D → Conf → Type 0) (v : Val A) (f : A → B) (g : A → D) → ((x : A) (c : Conf) → P (f x) c → Q (g x) c) → Runs w c pc n q P (bind v (λ x s. Gives (f x) s)) → Runs w c pc n q Q (bind v (λ x s. Gives (g x) s))
-  renamed c pc n q P Q (Gives x s) f g h r = record { conf = r.conf; steps = r.steps; comes = r.comes; at = r.at; stands = r.stands; keeps = r.keeps; masks = r.masks; holds = h x r.conf r.holds; bound = r.bound }
+  renamed c pc n q P Q (Gives x s) f g h r = record { conf = r.conf; steps = r.steps; comes = r.comes; at = r.at; stands = r.stands; spares = r.spares; masks = r.masks; holds = h x r.conf r.holds; bound = r.bound }
   renamed c pc n q P Q (Fails p s) f g h r = r
   renamed c pc n q P Q (Stops s) f g h r = r
 
@@ -180,4 +180,4 @@ module _ (w : Setting) (ready : IsSettled w) where
 
   -- fewer slots are said to be kept
   abbrev pub ok_down : (c : Conf) (pc n m q : ℕ) (P : Conf → Type 0) (s : State) → n ≤ m → Ok w c pc m q P s → Ok w c pc n q P s
-  ok_down c pc n m q P s le r = record { conf = r.conf; steps = r.steps; comes = r.comes; at = r.at; stands = r.stands; keeps = keeps_less w n m c r.conf le r.keeps; masks = λ i lt. r.masks i (omega arith); holds = r.holds; bound = r.bound }
+  ok_down c pc n m q P s le r = record { conf = r.conf; steps = r.steps; comes = r.comes; at = r.at; stands = r.stands; spares = spares_less w n m c r.conf le r.spares; masks = λ i lt. r.masks i (omega arith); holds = r.holds; bound = r.bound }

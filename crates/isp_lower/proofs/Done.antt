@@ -14,32 +14,17 @@ use Rattle.isp_meaning.specs.State.{State}
 use Rattle.isp_meaning.specs.Payloads.{Payload, Each, sole, spread}
 use Rattle.isp_meaning.specs.Outcomes.{Val, Gives, Fails, Stops, Done, bind, checked}
 use Rattle.isp_meaning.specs.Places.{written}
-use Rattle.isp_lower.specs.Setting.{Setting, IsSettled, At, Stands, Spares, Keeps, held_at, Holds}
+use Rattle.isp_lower.specs.Setting.{Setting, IsSettled, At, Stands, Spares, held_at, Holds}
 use Rattle.isp_lower.specs.Runs.{Comes, Ok, Runs, DoneOk, DoneRuns}
 use Rattle.isp_lower.specs.Code.{copy, splat}
-use Rattle.isp_lower.proofs.Base.{put_other, low_spare, comes_on}
+use Rattle.isp_lower.proofs.Base.{put_other, comes_on, spares_on}
 use Rattle.isp_lower.proofs.Lines.{set_at}
 use Rattle.isp_lower.proofs.Combine.{failed_after, stopped_after, failed_less, stopped_less, set_goes}
 use Rattle.isp_lower.proofs.Writes.{written_stands, step_done}
 
 module _ (w : Setting) (ready : IsSettled w) where
-  pub spares_kept : (n : ℕ) (c c' : Conf) → Keeps w n c c' → Spares w n c c'
-  spares_kept n c c' k = record {
-    scalars_stay = λ t j lt. k.scalars_stay _ (low_spare w.layout Uniform t n j ready.apart lt);
-    vectors_stay = λ t j lt. k.vectors_stay _ (low_spare w.layout Varying t n j ready.apart lt);
-  }
-
-  pub spares_less : (n m : ℕ) (c c' : Conf) → n ≤ m → Spares w m c c' → Spares w n c c'
-  spares_less n m c c' le k = record { scalars_stay = λ t j lt. k.scalars_stay t j (omega arith); vectors_stay = λ t j lt. k.vectors_stay t j (omega arith) }
-
-  pub spares_on : (n : ℕ) (c c1 c2 : Conf) → Spares w n c c1 → Spares w n c1 c2 → Spares w n c c2
-  spares_on n c c1 c2 k h = record { scalars_stay = λ t j lt. h.scalars_stay t j lt ∙ k.scalars_stay t j lt; vectors_stay = λ t j lt. h.vectors_stay t j lt ∙ k.vectors_stay t j lt }
-
-  pub spares_all : (n : ℕ) (c : Conf) → Spares w n c c
-  spares_all n c = record { scalars_stay = λ t j lt. refl; vectors_stay = λ t j lt. refl }
-
   pub done_after : (c c1 : Conf) (t pc n q : ℕ) (v : Val Done) → Comes w c t c1 → Spares w n c c1 → ((r : ℕ) → r < n → c1.masks r ≡ c.masks r) → DoneRuns w c1 pc n (t + q) v → DoneRuns w c pc n q v
-  done_after c c1 t pc n q (Gives x s) h k m r = record { conf = r.conf; steps = t + r.steps; comes = comes_on w c c1 r.conf t r.steps h r.comes; at = r.at; stands = r.stands; spares = spares_on n c c1 r.conf k r.spares; masks = λ i lt. r.masks i lt ∙ m i lt; bound = omega (arith, r.bound) }
+  done_after c c1 t pc n q (Gives x s) h k m r = record { conf = r.conf; steps = t + r.steps; comes = comes_on w c c1 r.conf t r.steps h r.comes; at = r.at; stands = r.stands; spares = spares_on w n c c1 r.conf k r.spares; masks = λ i lt. r.masks i lt ∙ m i lt; bound = omega (arith, r.bound) }
   done_after c c1 t pc n q (Fails p s) h k m r = failed_after w ready c c1 t q p s h r
   done_after c c1 t pc n q (Stops s) h k m r = stopped_after w ready w.turns c c1 t q s h r
 
@@ -58,11 +43,11 @@ module _ (w : Setting) (ready : IsSettled w) where
   variable_done Uniform v m a s c c2 st pc pc' k x n q h at to has stands spares masks em le hx =
       let y = held_at Uniform c2.scalars c2.vectors a x in
       let c3 = set_at Uniform c2 (w.layout.variable Uniform v) y in
-      step_done w ready c c2 c3 st pc pc' n q (copy Uniform (w.layout.variable Uniform v) x k) None Index no_place m s (written Uniform v a) h at to has refl refl (set_goes w ready Uniform c2 (w.layout.variable Uniform v) y pc at) stands (λ none. written_stands w ready Uniform v c2 a m s y stands hx) (spares_on n c c2 c3 spares (variable_spares Uniform v n c2 y)) masks le le
+      step_done w ready c c2 c3 st pc pc' n q (copy Uniform (w.layout.variable Uniform v) x k) None Index no_place m s (written Uniform v a) h at to has refl refl (set_goes w ready Uniform c2 (w.layout.variable Uniform v) y pc at) stands (λ none. written_stands w ready Uniform v c2 a m s y stands hx) (spares_on w n c c2 c3 spares (variable_spares Uniform v n c2 y)) masks le le
   variable_done Varying v m a s c c2 st pc pc' k x n q h at to has stands spares masks em le hx =
       let y = held_at Varying c2.scalars c2.vectors a x in
       let c3 = set_at Varying c2 (w.layout.variable Varying v) y in
-      step_done w ready c c2 c3 st pc pc' n q (copy Varying (w.layout.variable Varying v) x k) None Index no_place m s (written Varying v a) h at to has (ap (λ g. Go (set_at Varying c2 (w.layout.variable Varying v) (held_at Varying c2.scalars c2.vectors g x))) em) refl (set_goes w ready Varying c2 (w.layout.variable Varying v) y pc at) stands (λ none. written_stands w ready Varying v c2 a m s y stands hx) (spares_on n c c2 c3 spares (variable_spares Varying v n c2 y)) masks le le
+      step_done w ready c c2 c3 st pc pc' n q (copy Varying (w.layout.variable Varying v) x k) None Index no_place m s (written Varying v a) h at to has (ap (λ g. Go (set_at Varying c2 (w.layout.variable Varying v) (held_at Varying c2.scalars c2.vectors g x))) em) refl (set_goes w ready Varying c2 (w.layout.variable Varying v) y pc at) stands (λ none. written_stands w ready Varying v c2 a m s y stands hx) (spares_on w n c c2 c3 spares (variable_spares Varying v n c2 y)) masks le le
 
   -- a varying one gets one value
   pub splat_done : (v : ℕ) (m : Payload) (a : Mask) (s : State) (c c2 : Conf) (st pc pc' k x n q : ℕ) → Comes w c st c2 → At w c2 pc → pc + 1 ≡ pc' → slice_get w.routine.code pc ≡ Some (splat (w.layout.variable Varying v) x k) → Stands w s c2 → Spares w n c c2 → ((r : ℕ) → r < n → c2.masks r ≡ c.masks r) → c2.masks k ≡ a → st + 1 + q ≤ 32 * s.work → Holds Uniform a x m c2 → DoneRuns w c pc' n q (Gives tt (written Varying v a m s))
@@ -70,7 +55,7 @@ module _ (w : Setting) (ready : IsSettled w) where
       let d = w.layout.variable Varying v in
       let y = Each (on a (λ p. c2.scalars x)) in
       let c3 = set_at Varying c2 d y in
-      step_done w ready c c2 c3 st pc pc' n q (splat d x k) None Index no_place m s (written Varying v a) h at to has (ap (λ g. Go (set_at Varying c2 d (Each (on g (λ p. c2.scalars x))))) em) refl (set_goes w ready Varying c2 d y pc at) stands (λ none. written_stands w ready Varying v c2 a m s y stands (ap (λ z. Each (spread a z)) hx)) (spares_on n c c2 c3 spares (variable_spares Varying v n c2 y)) masks le le
+      step_done w ready c c2 c3 st pc pc' n q (splat d x k) None Index no_place m s (written Varying v a) h at to has (ap (λ g. Go (set_at Varying c2 d (Each (on g (λ p. c2.scalars x))))) em) refl (set_goes w ready Varying c2 d y pc at) stands (λ none. written_stands w ready Varying v c2 a m s y stands (ap (λ z. Each (spread a z)) hx)) (spares_on w n c c2 c3 spares (variable_spares Varying v n c2 y)) masks le le
 
   -- what follows what was done
   pub done_on : (c : Conf) (pc n q : ℕ) (v : Val Done) (go : Done → State → Val Done) (pc' n' : ℕ) → DoneRuns w c pc n q v → ((s : State) → DoneOk w c pc n q s → DoneRuns w c pc' n' q (go tt s)) → DoneRuns w c pc' n' q (bind v go)

@@ -31,11 +31,11 @@ use Rattle.isp_typed.specs.Fine.{heads}
 use Rattle.isp_typed.specs.declared.variable.ArrayVariable.{ArrayVariable}
 use Rattle.isp_typed.specs.Typed.{TExpr, t_constant, t_program_index, t_place, t_convert, t_cast, t_unary, t_binary, t_compare, t_logic, t_choose, t_call, t_library, t_packed_store, t_packed_load, TPlace, t_variable, t_element, type_of}
 use Rattle.isp_lower.specs.Layout.{register, array_register}
-use Rattle.isp_lower.specs.Setting.{Setting, IsSettled, gang_of, AreAt, At, Stands, Keeps, at_rate, held_at, Holds}
+use Rattle.isp_lower.specs.Setting.{ArrayFits, Setting, IsSettled, gang_of, calls_of, AreAt, At, Stands, at_rate, held_at, Holds, Spares}
 use Rattle.isp_lower.specs.Runs.{Comes, Enters, Runs}
-use Rattle.isp_lower.specs.Fits.{Reaches, first_slot, second_slot, IsTyped, SpareFits, ArrayFits, ExprFits}
+use Rattle.isp_lower.specs.Fits.{Reaches, first_slot, second_slot, IsTyped, SpareFits, ExprFits}
 use Rattle.isp_lower.specs.Code.{convert, constant, constant_of, convert_to, part_to, lift_to, lifted, found, operand, operand_of, lift_code, is_whole, whole, whole_of, index, index_of, read, expr_places, expr_code, expr_to, select, same_rate, stays, stays_at, is_short, choose_code, choose_to}
-use Rattle.isp_lower.proofs.Base.{are_front, are_back, keeps_all, comes_none, at_to, moved_by}
+use Rattle.isp_lower.proofs.Base.{are_front, are_back, comes_none, at_to, moved_by, spares_all}
 use Rattle.isp_lower.proofs.Rates.{held_same, at_mapped, at_offender, filled_on}
 use Rattle.isp_lower.proofs.Lines.{set_at, value_at, convert_line, unary_line, compare_line, operate_at, place_named}
 use Rattle.isp_lower.proofs.Access.{as_whole, found_items, filled_items, read_line, size_at, item_at, get_at, read_is, outside_is}
@@ -46,7 +46,8 @@ use Rattle.isp_lower.proofs.Choose.{choose_front, choose_runs}
 use Rattle.isp_lower.proofs.Short.{same_rate-is, InPlace, stays_in_place, short_runs}
 use Rattle.isp_lower.proofs.Logic.{logic_one, logic_each}
 use Rattle.isp_lower.proofs.Targets.{Target, InSlot, target, Leaves, bind_leaves, write_leaves}
-use Rattle.isp_lower.proofs.Nodes.{enters_less, enters_part, enters_later, leaf_runs, operand_runs, one_runs, pair_runs}
+use Rattle.isp_lower.proofs.Nodes.{enters_part, enters_later, leaf_runs, operand_runs, one_runs, pair_runs}
+use Rattle.isp_lower.proofs.Kept.{value_still}
 
 -- the places of a node are in the code
 abbrev PlaceIs : Setting → ℕ → Span → Type 0
@@ -55,37 +56,37 @@ PlaceIs w p sp = place_at w.code p ≡ sp
 module _ (w : Setting) (ready : IsSettled w) where
   -- what an expression means here
   abbrev pub means : TExpr → Mask → State → Val Payload
-  means = value (gang_of w) w.frame w.calls
+  means = value (gang_of w) w.frame (calls_of w)
 
   pub variable_held : (r : Rate) (v : ℕ) (a : Mask) (s : State) (c : Conf) → Stands w s c → at_rate r a (variable r v a s) ≡ held_at r c.scalars c.vectors a (w.layout.variable r v)
   variable_held Uniform v a s c st = ap One (sym (st.uniforms v))
   variable_held Varying v a s c st = ap (λ z. Each (on a z)) (sym (st.varying v))
 
-  constant_runs : (g : Target) (pc k n q : ℕ) (a : Mask) (s : State) (c : Conf) (t : Elem) (bits b : ℕ) → Enters w pc k n a s c q → IsTyped w Uniform (target w.layout g Uniform t n) t → slice_get w.routine.code pc ≡ Some (constant (target w.layout g Uniform t n) t bits) → wrap t (number t bits) ≡ b → Leaves w g (target w.layout g Uniform t n) c (pc + 1) n q Uniform a (Gives (One b) (tick s))
-  constant_runs g pc k n q a s c t bits b e ty has is =
+  constant_runs : (g : Target) (pc k n q rest : ℕ) (a : Mask) (s : State) (c : Conf) (t : Elem) (bits b : ℕ) → rest ≤ 31 + q → Enters w pc k n a s c q → IsTyped w Uniform (target w.layout g Uniform t n) t → slice_get w.routine.code pc ≡ Some (constant (target w.layout g Uniform t n) t bits) → wrap t (number t bits) ≡ b → Leaves w g (target w.layout g Uniform t n) c (pc + 1) n rest Uniform a (Gives (One b) (tick s))
+  constant_runs g pc k n q rest a s c t bits b le e ty has is =
       let d = target w.layout g Uniform t n in
-      leaf_runs w ready g pc k n q a s c (constant d t bits) Uniform t (One b) (One b) e has refl refl
+      leaf_runs w ready g pc k n q rest a s c (constant d t bits) Uniform t (One b) (One b) le e has refl refl
       (ap (λ u. Go (set_at Uniform c d (One (wrap u (number t bits))))) ty ∙ ap (λ z. Go (set_at Uniform c d (One z))) is)
 
   -- a value as one of another type
-  convert_runs : (g : Target) (x : TExpr) (e : Elem) (pc k n q : ℕ) (a : Mask) (s : State) (c : Conf) (code : List Instr) → Enters w pc k n a s c (1 + q) → IsTyped w (type_of x).rate (found w.layout x n) (type_of x).elem → IsTyped w (type_of x).rate (target w.layout g (type_of x).rate e n) e → AreAt w.routine.code pc (convert_to w.layout (constant_of x) e (type_of x).rate (target w.layout g (type_of x).rate e n) (found w.layout x n) k code) → (AreAt w.routine.code pc code → Runs w c (pc + length code) n (1 + q) (Holds (type_of x).rate a (found w.layout x n)) (means x a s)) → Leaves w g (target w.layout g (type_of x).rate e n) c (pc + length (convert_to w.layout (constant_of x) e (type_of x).rate (target w.layout g (type_of x).rate e n) (found w.layout x n) k code)) n q (type_of x).rate a (bind (means x a s) (λ m s1. Gives (mapped (converted (type_of x).elem e) m) s1))
-  convert_runs g x e pc k n q a s c code b tx te has run = go (constant_of x) refl has
+  convert_runs : (g : Target) (x : TExpr) (e : Elem) (pc k n q rest : ℕ) (a : Mask) (s : State) (c : Conf) (code : List Instr) → rest ≤ 31 + q → Enters w pc k n a s c q → IsTyped w (type_of x).rate (found w.layout x n) (type_of x).elem → IsTyped w (type_of x).rate (target w.layout g (type_of x).rate e n) e → AreAt w.routine.code pc (convert_to w.layout (constant_of x) e (type_of x).rate (target w.layout g (type_of x).rate e n) (found w.layout x n) k code) → (AreAt w.routine.code pc code → Runs w c (pc + length code) n (1 + rest) (Holds (type_of x).rate a (found w.layout x n)) (means x a s)) → Leaves w g (target w.layout g (type_of x).rate e n) c (pc + length (convert_to w.layout (constant_of x) e (type_of x).rate (target w.layout g (type_of x).rate e n) (found w.layout x n) k code)) n rest (type_of x).rate a (bind (means x a s) (λ m s1. Gives (mapped (converted (type_of x).elem e) m) s1))
+  convert_runs g x e pc k n q rest a s c code le b tx te has run = go (constant_of x) refl has
     where
       d : ℕ
       d = target w.layout g (type_of x).rate e n
 
-      constantly : (v : Value) (sp : Span) → slice_get w.routine.code pc ≡ Some (constant (target w.layout g Uniform e n) e (converted v.elem e v.bits)) → IsTyped w Uniform (target w.layout g Uniform e n) e → Leaves w g (target w.layout g Uniform e n) c (pc + 1) n q Uniform a (Gives (One (converted v.elem e (v.bits % 2 ^ width v.elem))) (tick s))
+      constantly : (v : Value) (sp : Span) → slice_get w.routine.code pc ≡ Some (constant (target w.layout g Uniform e n) e (converted v.elem e v.bits)) → IsTyped w Uniform (target w.layout g Uniform e n) e → Leaves w g (target w.layout g Uniform e n) c (pc + 1) n rest Uniform a (Gives (One (converted v.elem e (v.bits % 2 ^ width v.elem))) (tick s))
       constantly v sp at ty =
-          constant_runs g pc k n q a s c e (converted v.elem e v.bits) (converted v.elem e (v.bits % 2 ^ width v.elem)) (enters_less w ready pc k n q (1 + q) a s c (omega arith) b) ty at (constant_is v.elem e v.bits)
+          constant_runs g pc k n q rest a s c e (converted v.elem e v.bits) (converted v.elem e (v.bits % 2 ^ width v.elem)) le b ty at (constant_is v.elem e v.bits)
 
-      go : (o : Option Value) → constant_of x ≡ o → AreAt w.routine.code pc (convert_to w.layout o e (type_of x).rate d (found w.layout x n) k code) → Leaves w g d c (pc + length (convert_to w.layout o e (type_of x).rate d (found w.layout x n) k code)) n q (type_of x).rate a (bind (means x a s) (λ m s1. Gives (mapped (converted (type_of x).elem e) m) s1))
+      go : (o : Option Value) → constant_of x ≡ o → AreAt w.routine.code pc (convert_to w.layout o e (type_of x).rate d (found w.layout x n) k code) → Leaves w g d c (pc + length (convert_to w.layout o e (type_of x).rate d (found w.layout x n) k code)) n rest (type_of x).rate a (bind (means x a s) (λ m s1. Gives (mapped (converted (type_of x).elem e) m) s1))
       go None eo at =
-          one_runs w ready g c pc k n q a (means x a s) (type_of x).rate e (found w.layout x n) code (convert (type_of x).rate d (found w.layout x n) k) (converted (type_of x).elem e) b.mask b.low at
+          one_runs w ready g c pc k n rest a (means x a s) (type_of x).rate e (found w.layout x n) code (convert (type_of x).rate d (found w.layout x n) k) (converted (type_of x).elem e) b.mask b.low at
           (λ c2. convert_line w.code w.routine c2 (type_of x).rate d (found w.layout x n) k ∙ ap (λ u. Go (set_at (type_of x).rate c2 d (mapped (converted u (elem_of w.routine (register (type_of x).rate d))) (value_at (type_of x).rate c2 k (found w.layout x n))))) tx ∙ ap (λ u. Go (set_at (type_of x).rate c2 d (mapped (converted (type_of x).elem u) (value_at (type_of x).rate c2 k (found w.layout x n))))) te)
           (run (are_front w.routine.code pc code _ at))
       go (Some v) eo at =
           let one = constant_is_one x v eo in
-          subst (λ y. slice_get w.routine.code pc ≡ Some (constant (target w.layout g (type_of y).rate e n) e (converted v.elem e v.bits)) → IsTyped w (type_of y).rate (target w.layout g (type_of y).rate e n) e → Leaves w g (target w.layout g (type_of y).rate e n) c (pc + 1) n q (type_of y).rate a (bind (means y a s) (λ m s1. Gives (mapped (converted (type_of y).elem e) m) s1))) (sym one.1) (λ at ty. constantly v one.0 at ty) at.0 te
+          subst (λ y. slice_get w.routine.code pc ≡ Some (constant (target w.layout g (type_of y).rate e n) e (converted v.elem e v.bits)) → IsTyped w (type_of y).rate (target w.layout g (type_of y).rate e n) e → Leaves w g (target w.layout g (type_of y).rate e n) c (pc + 1) n rest (type_of y).rate a (bind (means y a s) (λ m s1. Gives (mapped (converted (type_of y).elem e) m) s1))) (sym one.1) (λ at ty. constantly v one.0 at ty) at.0 te
 
   -- ---- places: the index is taken at slot n
 
@@ -96,29 +97,29 @@ module _ (w : Setting) (ready : IsSettled w) where
       (m : Payload) × (z ≡ Element y (type_of i).elem m) × Holds t.rate a (index w.layout t.rate i n) (mapped (as_whole (is_whole (type_of i).elem) (type_of i).elem) m) c
 
   -- an index as int64
-  whole_runs : (i : TExpr) (z : Bool) (pc k n q : ℕ) (a : Mask) (s : State) (c : Conf) (code : List Instr) → is_whole (type_of i).elem ≡ z → Enters w pc k n a s c (1 + q) → ExprFits w i n → SpareFits w (type_of i).rate I64 n → AreAt w.routine.code pc (whole_of w.layout z i k n code) → (AreAt w.routine.code pc code → Runs w c (pc + length code) n (1 + q) (Holds (type_of i).rate a (found w.layout i n)) (means i a s)) → Runs w c (pc + length (whole_of w.layout z i k n code)) n q (Holds (type_of i).rate a (whole w.layout z i n)) (bind (means i a s) (λ m s1. Gives (mapped (as_whole z (type_of i).elem) m) s1))
-  whole_runs i true pc k n q a s c code ez b fit ty has run =
-      runs_same (means i a s) (runs_on w ready c (pc + length code) n 1 q _ (means i a s) (pc + length code) n _ (run has) (λ x s1 ok. ok_less w ready c _ _ n 1 q _ s1 refl ok))
+  whole_runs : (i : TExpr) (z : Bool) (pc k n q rest : ℕ) (a : Mask) (s : State) (c : Conf) (code : List Instr) → is_whole (type_of i).elem ≡ z → rest ≤ 31 + q → Enters w pc k n a s c q → ExprFits w i n → SpareFits w (type_of i).rate I64 n → AreAt w.routine.code pc (whole_of w.layout z i k n code) → (AreAt w.routine.code pc code → Runs w c (pc + length code) n (1 + rest) (Holds (type_of i).rate a (found w.layout i n)) (means i a s)) → Runs w c (pc + length (whole_of w.layout z i k n code)) n rest (Holds (type_of i).rate a (whole w.layout z i n)) (bind (means i a s) (λ m s1. Gives (mapped (as_whole z (type_of i).elem) m) s1))
+  whole_runs i true pc k n q rest a s c code ez le b fit ty has run =
+      runs_same (means i a s) (runs_on w ready c (pc + length code) n 1 rest _ (means i a s) (pc + length code) n _ (run has) (λ x s1 ok. ok_less w ready c _ _ n 1 rest _ s1 refl ok))
     where
-      runs_same : (v : Val Payload) → Runs w c (pc + length code) n q (Holds (type_of i).rate a (found w.layout i n)) v → Runs w c (pc + length code) n q (Holds (type_of i).rate a (found w.layout i n)) (bind v (λ m s1. Gives (mapped (λ x. x) m) s1))
-      runs_same (Gives x s1) r = record { conf = r.conf; steps = r.steps; comes = r.comes; at = r.at; stands = r.stands; keeps = r.keeps; masks = r.masks; holds = at_mapped (type_of i).rate a (λ x. x) x ∙ ap (mapped (λ x. x)) r.holds ∙ held_same (type_of i).rate a r.conf.scalars r.conf.vectors (found w.layout i n); bound = r.bound }
+      runs_same : (v : Val Payload) → Runs w c (pc + length code) n rest (Holds (type_of i).rate a (found w.layout i n)) v → Runs w c (pc + length code) n rest (Holds (type_of i).rate a (found w.layout i n)) (bind v (λ m s1. Gives (mapped (λ x. x) m) s1))
+      runs_same (Gives x s1) r = record { conf = r.conf; steps = r.steps; comes = r.comes; at = r.at; stands = r.stands; spares = r.spares; masks = r.masks; holds = at_mapped (type_of i).rate a (λ x. x) x ∙ ap (mapped (λ x. x)) r.holds ∙ held_same (type_of i).rate a r.conf.scalars r.conf.vectors (found w.layout i n); bound = r.bound }
       runs_same (Fails p s1) r = r
       runs_same (Stops s1) r = r
-  whole_runs i false pc k n q a s c code ez b fit ty has run = convert_runs InSlot i I64 pc k n q a s c code b (found_typed w i n fit) ty has run
+  whole_runs i false pc k n q rest a s c code ez le b fit ty has run = convert_runs InSlot i I64 pc k n q rest a s c code le b (found_typed w i n fit) ty has run
 
-  pub index_runs : (y : ArrayVariable) (i : TExpr) (t : Ty) (sp : Span) (pc k n q : ℕ) (a : Mask) (s : State) (c : Conf) (code : List Instr) → Enters w pc k n a s c (1 + (1 + q)) → ExprFits w i n → Reaches (type_of i).rate t.rate → SpareFits w (type_of i).rate I64 n → AreAt w.routine.code pc (index_of w.layout t.rate i k n code) → (AreAt w.routine.code pc code → Runs w c (pc + length code) n (1 + (1 + q)) (Holds (type_of i).rate a (found w.layout i n)) (means i a s)) → Runs w c (pc + length (index_of w.layout t.rate i k n code)) n q (PlaceHolds (t_element y i t sp) n a) (bind (means i a s) (λ m s1. Gives (Element y (type_of i).elem m) s1))
-  index_runs y i t sp pc k n q a s c code b fit re ty has run =
+  pub index_runs : (y : ArrayVariable) (i : TExpr) (t : Ty) (sp : Span) (pc k n q rest : ℕ) (a : Mask) (s : State) (c : Conf) (code : List Instr) → rest ≤ 30 + q → Enters w pc k n a s c q → ExprFits w i n → Reaches (type_of i).rate t.rate → SpareFits w (type_of i).rate I64 n → AreAt w.routine.code pc (index_of w.layout t.rate i k n code) → (AreAt w.routine.code pc code → Runs w c (pc + length code) n (1 + (1 + rest)) (Holds (type_of i).rate a (found w.layout i n)) (means i a s)) → Runs w c (pc + length (index_of w.layout t.rate i k n code)) n rest (PlaceHolds (t_element y i t sp) n a) (bind (means i a s) (λ m s1. Gives (Element y (type_of i).elem m) s1))
+  index_runs y i t sp pc k n q rest a s c code le b fit re ty has run =
       let z = is_whole (type_of i).elem in
       let cw = whole_of w.layout z i k n code in
       let lift = lift_code w.layout t.rate (type_of i).rate I64 (whole w.layout z i n) k n in
       let to : pc + length cw + length lift ≡ pc + length (cw ++ lift) = omega (arith, length-append cw lift) in
-      renamed w ready c _ n q _ _ (means i a s) (mapped (as_whole z (type_of i).elem)) (λ m. Element y (type_of i).elem m) (λ m c1 h. (m, refl, h))
-      (subst (λ p. Runs w c p n q (Holds t.rate a (index w.layout t.rate i n)) (bind (means i a s) (λ m s1. Gives (mapped (as_whole z (type_of i).elem) m) s1))) to
-      (lift_runs w ready c (pc + length cw) k n q a _ t.rate (type_of i).rate I64 (whole w.layout z i n) re b.mask b.low (are_back w.routine.code pc cw lift has)
-      (whole_runs i z pc k n (1 + q) a s c code refl b fit ty (are_front w.routine.code pc cw lift has) run)))
+      renamed w ready c _ n rest _ _ (means i a s) (mapped (as_whole z (type_of i).elem)) (λ m. Element y (type_of i).elem m) (λ m c1 h. (m, refl, h))
+      (subst (λ p. Runs w c p n rest (Holds t.rate a (index w.layout t.rate i n)) (bind (means i a s) (λ m s1. Gives (mapped (as_whole z (type_of i).elem) m) s1))) to
+      (lift_runs w ready c (pc + length cw) k n rest a _ t.rate (type_of i).rate I64 (whole w.layout z i n) re b.mask b.low (are_back w.routine.code pc cw lift has)
+      (whole_runs i z pc k n q (1 + rest) a s c code refl (omega arith) b fit ty (are_front w.routine.code pc cw lift has) run)))
 
   -- an element is read into slot n
-  pub element_runs : (u : Target) (y : ArrayVariable) (i : TExpr) (t : Ty) (sp : Span) (c c2 : Conf) (st pc pc' k n m p q : ℕ) (a : Mask) (s : State) (z : Payload) → ArrayFits w y → Reaches y.ty.rate t.rate → Comes w c st c2 → At w c2 pc → pc + 1 ≡ pc' → slice_get w.routine.code pc ≡ Some (read t.rate (target w.layout u t.rate t.elem n) (w.layout.array y.number) (index w.layout t.rate i m) k p) → slice_get w.code.places p ≡ Some sp → Stands w s c2 → Keeps w n c c2 → ((r : ℕ) → r < n → c2.masks r ≡ c.masks r) → c2.masks k ≡ a → any (gang_of w) a ≡ true → ((r : ℕ) → a r ≡ true → r < gang_of w) → st + 1 + q ≤ 32 * s.work → Holds t.rate a (index w.layout t.rate i m) (mapped (as_whole (is_whole (type_of i).elem) (type_of i).elem) z) c2 → Leaves w u (target w.layout u t.rate t.elem n) c pc' n q t.rate a (checked (outside (gang_of w) w.frame (Element y (type_of i).elem z) a) Index sp s (held (gang_of w) w.frame (Element y (type_of i).elem z) a s))
+  pub element_runs : (u : Target) (y : ArrayVariable) (i : TExpr) (t : Ty) (sp : Span) (c c2 : Conf) (st pc pc' k n m p q : ℕ) (a : Mask) (s : State) (z : Payload) → ArrayFits w y → Reaches y.ty.rate t.rate → Comes w c st c2 → At w c2 pc → pc + 1 ≡ pc' → slice_get w.routine.code pc ≡ Some (read t.rate (target w.layout u t.rate t.elem n) (w.layout.array y.number) (index w.layout t.rate i m) k p) → slice_get w.code.places p ≡ Some sp → Stands w s c2 → Spares w n c c2 → ((r : ℕ) → r < n → c2.masks r ≡ c.masks r) → c2.masks k ≡ a → any (gang_of w) a ≡ true → ((r : ℕ) → a r ≡ true → r < gang_of w) → st + 1 + q ≤ 32 * s.work → Holds t.rate a (index w.layout t.rate i m) (mapped (as_whole (is_whole (type_of i).elem) (type_of i).elem) z) c2 → Leaves w u (target w.layout u t.rate t.elem n) c pc' n q t.rate a (checked (outside (gang_of w) w.frame (Element y (type_of i).elem z) a) Index sp s (held (gang_of w) w.frame (Element y (type_of i).elem z) a s))
   element_runs u y i t sp c c2 st pc pc' k n m p q a s z fy re h at to has place stands keeps masks em some inside le hold =
       let e = (type_of i).elem in
       let j = index w.layout t.rate i m in
@@ -127,7 +128,7 @@ module _ (w : Setting) (ready : IsSettled w) where
       let d = target w.layout u t.rate t.elem n in
       let line = read_line w.code w.routine c2 t.rate d (w.layout.array y.number) j k p (ap (any (gang_of w)) em ∙ some) in
       let is1 = ap (λ o. moved_by (offender (gang_of w) (is_outside I64 (size w.code w.routine c2 (array_register (w.layout.array y.number)))) o (held_at t.rate c2.scalars c2.vectors o j)) Index (place_at w.code p) (set_at t.rate c2 d (found_items t.rate (item w.code w.routine c2 (array_register (w.layout.array y.number))) c2.scalars c2.vectors o j))) em in
-      let is2 = ap (λ o. moved_by (offender (gang_of w) (is_outside I64 o) a (held_at t.rate c2.scalars c2.vectors a j)) Index (place_at w.code p) (set_at t.rate c2 d (found_items t.rate (item w.code w.routine c2 (array_register (w.layout.array y.number))) c2.scalars c2.vectors a j))) (size_at w y.ty.rate y c2 pc at fy.is) in
+      let is2 = ap (λ o. moved_by (offender (gang_of w) (is_outside I64 o) a (held_at t.rate c2.scalars c2.vectors a j)) Index (place_at w.code p) (set_at t.rate c2 d (found_items t.rate (item w.code w.routine c2 (array_register (w.layout.array y.number))) c2.scalars c2.vectors a j))) (size_at w y.ty.rate y c2 pc ready.sizes at fy.is) in
       let is3 = ap (λ o. moved_by (offender (gang_of w) (is_outside I64 g) a (held_at t.rate c2.scalars c2.vectors a j)) Index (place_at w.code p) (set_at t.rate c2 d (found_items t.rate o c2.scalars c2.vectors a j))) (item_at w y.ty.rate y c2 pc s at fy.is stands) in
       let is4 = ap (λ o. moved_by o Index (place_at w.code p) (set_at t.rate c2 d Y)) (outside_is w t.rate e (is_whole e) z a c2.scalars c2.vectors j g refl fy.few hold) in
       let is5 = ap (λ o. moved_by (offender (gang_of w) (is_outside e g) a z) Index o (set_at t.rate c2 d Y)) (place_named w.code w.routine c2 p sp place) in
@@ -138,57 +139,58 @@ module _ (w : Setting) (ready : IsSettled w) where
 
   -- ---- one node, given what holds of its parts
 
+  -- five steps are left after it, or four behind a conversion, which has no count of its own
   abbrev pub RunsHere : TExpr → Type 0
   RunsHere x =
-      (pc p k n q : ℕ) (a : Mask) (s : State) (c : Conf) → ExprFits w x n → AreAt w.routine.code pc (expr_code w.layout x pc p k n) → AreAt w.code.places p (expr_places w.layout x) → Enters w pc k n a s c (heads x + q) → Runs w c (pc + length (expr_code w.layout x pc p k n)) n q (Holds (type_of x).rate a (found w.layout x n)) (means x a s)
+      (pc p k n q rest : ℕ) (a : Mask) (s : State) (c : Conf) → ExprFits w x n → AreAt w.routine.code pc (expr_code w.layout x pc p k n) → AreAt w.code.places p (expr_places w.layout x) → heads x + rest ≤ 5 + q → Enters w pc k n a s c q → Runs w c (pc + length (expr_code w.layout x pc p k n)) n rest (Holds (type_of x).rate a (found w.layout x n)) (means x a s)
 
   -- the node leaves its value in a slot, or in a variable
   abbrev pub NodeRuns : Target → TExpr → Type 0
   NodeRuns u z =
-      (pc p k n q : ℕ) (a : Mask) (s : State) (c : Conf) → ExprFits w z n → IsTyped w (type_of z).rate (target w.layout u (type_of z).rate (type_of z).elem n) (type_of z).elem → AreAt w.routine.code pc (expr_to w.layout (target w.layout u (type_of z).rate (type_of z).elem n) z pc p k n) → AreAt w.code.places p (expr_places w.layout z) → Enters w pc k n a s c (heads z + q) → Leaves w u (target w.layout u (type_of z).rate (type_of z).elem n) c (pc + length (expr_to w.layout (target w.layout u (type_of z).rate (type_of z).elem n) z pc p k n)) n q (type_of z).rate a (means z a s)
+      (pc p k n q rest : ℕ) (a : Mask) (s : State) (c : Conf) → ExprFits w z n → IsTyped w (type_of z).rate (target w.layout u (type_of z).rate (type_of z).elem n) (type_of z).elem → AreAt w.routine.code pc (expr_to w.layout (target w.layout u (type_of z).rate (type_of z).elem n) z pc p k n) → AreAt w.code.places p (expr_places w.layout z) → heads z + rest ≤ 5 + q → Enters w pc k n a s c q → Leaves w u (target w.layout u (type_of z).rate (type_of z).elem n) c (pc + length (expr_to w.layout (target w.layout u (type_of z).rate (type_of z).elem n) z pc p k n)) n rest (type_of z).rate a (means z a s)
 
   pub number_node : (u : Target) (v : Value) (sp : Span) → NodeRuns u (t_constant v sp)
-  number_node u v sp pc p k n q a s c fit ty has places b =
-      constant_runs u pc k n q a s c v.elem v.bits (v.bits % 2 ^ width v.elem) (enters_less w ready pc k n q _ a s c (omega arith) b) ty has.0 (wrap_bits v.elem v.bits)
+  number_node u v sp pc p k n q rest a s c fit ty has places le b =
+      constant_runs u pc k n q rest a s c v.elem v.bits (v.bits % 2 ^ width v.elem) (omega arith) b ty has.0 (wrap_bits v.elem v.bits)
 
   pub index_node : (u : Target) (sp : Span) → NodeRuns u (t_program_index sp)
-  index_node u sp pc p k n q a s c fit ty has places b =
-      leaf_runs w ready u pc k n q a s c _ Varying I32 (Each (on a (λ i. i))) (Each (on a (λ i. i))) (enters_less w ready pc k n q _ a s c (omega arith) b) has.0 refl (λ old. ap Each (filled_on a (λ i. i) old)) (ap (λ m. Go (set_at Varying c (target w.layout u Varying I32 n) (Each (on m (λ i. i))))) b.mask)
+  index_node u sp pc p k n q rest a s c fit ty has places le b =
+      leaf_runs w ready u pc k n q rest a s c _ Varying I32 (Each (on a (λ i. i))) (Each (on a (λ i. i))) (omega arith) b has.0 refl (λ old. ap Each (filled_on a (λ i. i) old)) (ap (λ m. Go (set_at Varying c (target w.layout u Varying I32 n) (Each (on m (λ i. i))))) b.mask)
 
   pub element_node : (u : Target) (y : ArrayVariable) (i : TExpr) (t : Ty) (sp : Span) → RunsHere i → NodeRuns u (t_place (t_element y i t sp))
-  element_node u y i t sp ih pc p k n q a s c fit ty has places b =
+  element_node u y i t sp ih pc p k n q rest a s c fit ty has places le b =
       let fi : heads i ≤ 1 = few w i n fit.0.4 in
       let ci = expr_code w.layout i pc p k n in
       let cj = index_of w.layout t.rate i k n ci in
       let d = target w.layout u t.rate t.elem n in
       let rd = read t.rate d (w.layout.array y.number) (index w.layout t.rate i n) k (p + length (expr_places w.layout i)) in
       let to : pc + length cj + 1 ≡ pc + length (cj ++ rd ∷ []) = omega (arith, length-append cj (rd ∷ [])) in
-      bind_leaves w ready u d c (pc + length cj) n 1 q (PlaceHolds (t_element y i t sp) n a) (bind (means i a (tick s)) (λ m s1. Gives (Element y (type_of i).elem m) s1)) _ _ n t.rate a
-      (index_runs y i t sp pc k n (1 + q) a (tick s) c ci (enters_part w ready pc k n (1 + (1 + (1 + q))) _ a s c (omega arith) b) fit.0.4 fit.0.2 fit.0.3 (are_front w.routine.code pc cj _ has)
-      (λ at. ih pc p k n (1 + (1 + (1 + q))) a (tick s) c fit.0.4 at (are_front w.code.places p (expr_places w.layout i) _ places) (enters_part w ready pc k n (heads i + (1 + (1 + (1 + q)))) _ a s c (omega arith) b)))
+      bind_leaves w ready u d c (pc + length cj) n 1 rest (PlaceHolds (t_element y i t sp) n a) (bind (means i a (tick s)) (λ m s1. Gives (Element y (type_of i).elem m) s1)) _ _ n t.rate a
+      (index_runs y i t sp pc k n (32 + q) (1 + rest) a (tick s) c ci (omega arith) (enters_part w ready pc k n (32 + q) q a s c (omega arith) b) fit.0.4 fit.0.2 fit.0.3 (are_front w.routine.code pc cj _ has)
+      (λ at. ih pc p k n (32 + q) (1 + (1 + (1 + rest))) a (tick s) c fit.0.4 at (are_front w.code.places p (expr_places w.layout i) _ places) (omega arith) (enters_part w ready pc k n (32 + q) q a s c (omega arith) b)))
       (λ z s1 ok.
       let h = ok.holds in
-      subst (λ g. Leaves w u d c (pc + length (cj ++ rd ∷ [])) n q t.rate a (checked (outside (gang_of w) w.frame g a) Index sp s1 (held (gang_of w) w.frame g a s1))) (sym h.1)
-      (element_runs u y i t sp c ok.conf ok.steps (pc + length cj) _ k n n (p + length (expr_places w.layout i)) q a s1 h.0 fit.0.0 fit.0.1 ok.comes ok.at to (are_back w.routine.code pc cj (rd ∷ []) has).0 (are_back w.code.places p (expr_places w.layout i) _ places).0 ok.stands ok.keeps ok.masks (ok.masks k b.low ∙ b.mask) b.some b.inside (omega (arith, ok.bound)) h.2))
+      subst (λ g. Leaves w u d c (pc + length (cj ++ rd ∷ [])) n rest t.rate a (checked (outside (gang_of w) w.frame g a) Index sp s1 (held (gang_of w) w.frame g a s1))) (sym h.1)
+      (element_runs u y i t sp c ok.conf ok.steps (pc + length cj) _ k n n (p + length (expr_places w.layout i)) rest a s1 h.0 (ready.arrays y fit.0.0) fit.0.1 ok.comes ok.at to (are_back w.routine.code pc cj (rd ∷ []) has).0 (are_back w.code.places p (expr_places w.layout i) _ places).0 ok.stands ok.spares ok.masks (ok.masks k b.low ∙ b.mask) b.some b.inside (omega (arith, ok.bound)) h.2))
 
   pub convert_node : (u : Target) (e : Elem) (x : TExpr) → RunsHere x → NodeRuns u (t_convert e x)
-  convert_node u e x ih pc p k n q a s c fit ty has places b =
-      convert_runs u x e pc k n q a s c (expr_code w.layout x pc p k n) (enters_less w ready pc k n (1 + q) _ a s c (omega arith) b) (found_typed w x n fit.2) ty has
-      (λ at. ih pc p k n (1 + q) a s c fit.2 at places (enters_less w ready pc k n (heads x + (1 + q)) _ a s c (omega arith) b))
+  convert_node u e x ih pc p k n q rest a s c fit ty has places le b =
+      convert_runs u x e pc k n q rest a s c (expr_code w.layout x pc p k n) (omega arith) b (found_typed w x n fit.2) ty has
+      (λ at. ih pc p k n q (1 + rest) a s c fit.2 at places (omega (arith, le)) b)
 
   pub unary_node : (u : Target) (o : UnaryOp) (x : TExpr) (t : Ty) (sp : Span) → RunsHere x → NodeRuns u (t_unary o x t sp)
-  unary_node u o x t sp ih pc p k n q a s c fit ty has places b =
+  unary_node u o x t sp ih pc p k n q rest a s c fit ty has places le b =
       let f : heads x ≤ 1 = few w x n fit.2 in
       let cx = expr_code w.layout x pc p k n in
       let ca = operand_of w.layout t.rate x k n cx in
       let ha : AreAt w.routine.code pc ca = are_front w.routine.code pc ca _ has in
-      one_runs w ready u c pc k n q a (means x a (tick s)) t.rate t.elem (operand w.layout t.rate x n) ca _ (unary_bits o t.elem) b.mask b.low has
+      one_runs w ready u c pc k n rest a (means x a (tick s)) t.rate t.elem (operand w.layout t.rate x n) ca _ (unary_bits o t.elem) b.mask b.low has
       (λ c2. unary_line w.code w.routine c2 t.rate o (target w.layout u t.rate t.elem n) (operand w.layout t.rate x n) k ∙ ap (λ g. Go (set_at t.rate c2 (target w.layout u t.rate t.elem n) (mapped (unary_bits o g) (value_at t.rate c2 k (operand w.layout t.rate x n))))) ty)
-      (operand_runs w ready c pc k n (1 + q) a (means x a (tick s)) t.rate t.elem x cx fit.0 b.mask b.low ha
-      (ih pc p k n (1 + (1 + q)) a (tick s) c fit.2 (are_front w.routine.code pc cx _ ha) places (enters_part w ready pc k n (heads x + (1 + (1 + q))) _ a s c (omega arith) b)))
+      (operand_runs w ready c pc k n (1 + rest) a (means x a (tick s)) t.rate t.elem x cx fit.0 b.mask b.low ha
+      (ih pc p k n (32 + q) (1 + (1 + rest)) a (tick s) c fit.2 (are_front w.routine.code pc cx _ ha) places (omega arith) (enters_part w ready pc k n (32 + q) q a s c (omega arith) b)))
 
   pub binary_node : (u : Target) (o : BinOp) (x y : TExpr) (t : Ty) (sp : Span) → RunsHere x → RunsHere y → NodeRuns u (t_binary o x y t sp)
-  binary_node u o x y t sp ihx ihy pc p k n q a s c fit ty has places b =
+  binary_node u o x y t sp ihx ihy pc p k n q rest a s c fit ty has places le b =
       let fx : heads x ≤ 1 = few w x n fit.3 in
       let fy : heads y ≤ 1 = few w y (n + 1) fit.4 in
       let lk : k < n = b.low in
@@ -199,16 +201,17 @@ module _ (w : Setting) (ready : IsSettled w) where
       let pl = are_back w.code.places p (expr_places w.layout x) _ places in
       let cy = λ (pc1 : ℕ). expr_code w.layout y pc1 p1 k (n + 1) in
       let hb : AreAt w.routine.code (pc + length ca) (operand_of w.layout t.rate y k (n + 1) (cy (pc + length ca))) = are_front w.routine.code (pc + length ca) (operand_of w.layout t.rate y k (n + 1) (cy (pc + length ca))) _ (are_back w.routine.code pc ca _ has) in
-      pair_runs w ready u c pc k n 3 q a (means x a (tick s)) (λ m s1. means y a s1) t.rate t.elem (operand w.layout t.rate x n) (operand w.layout t.rate y (n + 1)) ca (λ pc1. operand_of w.layout t.rate y k (n + 1) (cy pc1)) _ (op_bits o t.elem) (offender (gang_of w) (is_zero o t.elem) a) Divide sp b.mask lk (operand_low w ready t.rate t.elem x n fit.0 fit.3) has (at_offender t.rate (gang_of w) a (is_zero o t.elem))
+      pair_runs w ready u c pc k n rest a (means x a (tick s)) (λ m s1. means y a s1) t.rate t.elem (operand w.layout t.rate x n) (operand w.layout t.rate y (n + 1)) ca (λ pc1. operand_of w.layout t.rate y k (n + 1) (cy pc1)) _ (op_bits o t.elem) (offender (gang_of w) (is_zero o t.elem) a) Divide sp b.mask lk (operand_low w ready t.rate t.elem x n fit.0 fit.3) has (at_offender t.rate (gang_of w) a (is_zero o t.elem))
       (λ c2 em. operate_at w.code w.routine c2 t.rate o t.elem (target w.layout u t.rate t.elem n) (operand w.layout t.rate x n) (operand w.layout t.rate y (n + 1)) k _ a sp b.some em ty (are_back w.code.places p1 (expr_places w.layout y) _ pl))
-      (operand_runs w ready c pc k n (3 + q) a (means x a (tick s)) t.rate t.elem x cx fit.0 b.mask lk ha
-      (ihx pc p k n (1 + (3 + q)) a (tick s) c fit.3 (are_front w.routine.code pc cx _ ha) (are_front w.code.places p (expr_places w.layout x) _ places) (enters_part w ready pc k n (heads x + (1 + (3 + q))) _ a s c (omega arith) b)))
+      (operand_runs w ready c pc k n (1 + rest) a (means x a (tick s)) t.rate t.elem x cx fit.0 b.mask lk ha
+      (ihx pc p k n (32 + q) (1 + (1 + rest)) a (tick s) c fit.3 (are_front w.routine.code pc cx _ ha) (are_front w.code.places p (expr_places w.layout x) _ places) (omega arith) (enters_part w ready pc k n (32 + q) q a s c (omega arith) b)))
       (λ m s1 ok.
-      operand_runs w ready ok.conf (pc + length ca) k (n + 1) (1 + (ok.steps + q)) a (means y a s1) t.rate t.elem y (cy (pc + length ca)) fit.1 (ok.masks k lk ∙ b.mask) (omega arith) hb
-      (ihy (pc + length ca) p1 k (n + 1) (1 + (1 + (ok.steps + q))) a s1 ok.conf fit.4 (are_front w.routine.code (pc + length ca) (cy (pc + length ca)) _ hb) (are_front w.code.places p1 (expr_places w.layout y) _ pl) (enters_later w ready pc (pc + length ca) k n (n + 1) (heads y + (1 + (1 + (ok.steps + q)))) _ (3 + q) a s s1 c (omega arith) b ok (omega arith))))
+      operand_runs w ready ok.conf (pc + length ca) k (n + 1) (1 + (ok.steps + rest)) a (means y a s1) t.rate t.elem y (cy (pc + length ca)) fit.1 (ok.masks k lk ∙ b.mask) (omega arith) hb
+      (ihy (pc + length ca) p1 k (n + 1) (ok.steps + rest) (1 + (1 + (ok.steps + rest))) a s1 ok.conf fit.4 (are_front w.routine.code (pc + length ca) (cy (pc + length ca)) _ hb) (are_front w.code.places p1 (expr_places w.layout y) _ pl) (omega arith) (enters_later w ready pc (pc + length ca) k n (n + 1) (ok.steps + rest) q (1 + rest) a s s1 c (omega arith) b ok (omega arith))))
+      (λ m s1. value_still w ready y (n + 1) a s1 fit.4)
 
   pub compare_node : (u : Target) (o : Compare) (x y : TExpr) (r : Rate) (sp : Span) → RunsHere x → RunsHere y → NodeRuns u (t_compare o x y r sp)
-  compare_node u o x y r sp ihx ihy pc p k n q a s c fit ty has places b =
+  compare_node u o x y r sp ihx ihy pc p k n q rest a s c fit ty has places le b =
       let fx : heads x ≤ 1 = few w x n fit.3 in
       let fy : heads y ≤ 1 = few w y (n + 1) fit.4 in
       let lk : k < n = b.low in
@@ -219,15 +222,16 @@ module _ (w : Setting) (ready : IsSettled w) where
       let pl = are_back w.code.places p (expr_places w.layout x) _ places in
       let cy = λ (pc1 : ℕ). expr_code w.layout y pc1 p1 k (n + 1) in
       let hb : AreAt w.routine.code (pc + length ca) (operand_of w.layout r y k (n + 1) (cy (pc + length ca))) = are_front w.routine.code (pc + length ca) (operand_of w.layout r y k (n + 1) (cy (pc + length ca))) _ (are_back w.routine.code pc ca _ has) in
-      pair_runs w ready u c pc k n 3 q a (means x a (tick s)) (λ m s1. means y a s1) r Truth (operand w.layout r x n) (operand w.layout r y (n + 1)) ca (λ pc1. operand_of w.layout r y k (n + 1) (cy pc1)) _ (compare_bits o (type_of x).elem) (λ z. None) Divide sp b.mask lk (operand_low w ready r (type_of x).elem x n fit.0 fit.3) has (λ z. refl)
+      pair_runs w ready u c pc k n rest a (means x a (tick s)) (λ m s1. means y a s1) r Truth (operand w.layout r x n) (operand w.layout r y (n + 1)) ca (λ pc1. operand_of w.layout r y k (n + 1) (cy pc1)) _ (compare_bits o (type_of x).elem) (λ z. None) Divide sp b.mask lk (operand_low w ready r (type_of x).elem x n fit.0 fit.3) has (λ z. refl)
       (λ c2 em. compare_line w.code w.routine c2 r o (target w.layout u r Truth n) (operand w.layout r x n) (operand w.layout r y (n + 1)) k
       ∙ ap (λ g. Go (set_at r c2 (target w.layout u r Truth n) (joined (compare_bits o g) (c2.masks k) (value_at r c2 k (operand w.layout r x n)) (value_at r c2 k (operand w.layout r y (n + 1)))))) (operand_typed w r (type_of x).elem x n fit.0 fit.3)
       ∙ ap (λ m. Go (set_at r c2 (target w.layout u r Truth n) (joined (compare_bits o (type_of x).elem) m (held_at r c2.scalars c2.vectors m (operand w.layout r x n)) (held_at r c2.scalars c2.vectors m (operand w.layout r y (n + 1)))))) em)
-      (operand_runs w ready c pc k n (3 + q) a (means x a (tick s)) r (type_of x).elem x cx fit.0 b.mask lk ha
-      (ihx pc p k n (1 + (3 + q)) a (tick s) c fit.3 (are_front w.routine.code pc cx _ ha) (are_front w.code.places p (expr_places w.layout x) _ places) (enters_part w ready pc k n (heads x + (1 + (3 + q))) _ a s c (omega arith) b)))
+      (operand_runs w ready c pc k n (1 + rest) a (means x a (tick s)) r (type_of x).elem x cx fit.0 b.mask lk ha
+      (ihx pc p k n (32 + q) (1 + (1 + rest)) a (tick s) c fit.3 (are_front w.routine.code pc cx _ ha) (are_front w.code.places p (expr_places w.layout x) _ places) (omega arith) (enters_part w ready pc k n (32 + q) q a s c (omega arith) b)))
       (λ m s1 ok.
-      operand_runs w ready ok.conf (pc + length ca) k (n + 1) (1 + (ok.steps + q)) a (means y a s1) r (type_of x).elem y (cy (pc + length ca)) fit.1 (ok.masks k lk ∙ b.mask) (omega arith) hb
-      (ihy (pc + length ca) p1 k (n + 1) (1 + (1 + (ok.steps + q))) a s1 ok.conf fit.4 (are_front w.routine.code (pc + length ca) (cy (pc + length ca)) _ hb) pl (enters_later w ready pc (pc + length ca) k n (n + 1) (heads y + (1 + (1 + (ok.steps + q)))) _ (3 + q) a s s1 c (omega arith) b ok (omega arith))))
+      operand_runs w ready ok.conf (pc + length ca) k (n + 1) (1 + (ok.steps + rest)) a (means y a s1) r (type_of x).elem y (cy (pc + length ca)) fit.1 (ok.masks k lk ∙ b.mask) (omega arith) hb
+      (ihy (pc + length ca) p1 k (n + 1) (ok.steps + rest) (1 + (1 + (ok.steps + rest))) a s1 ok.conf fit.4 (are_front w.routine.code (pc + length ca) (cy (pc + length ca)) _ hb) pl (omega arith) (enters_later w ready pc (pc + length ca) k n (n + 1) (ok.steps + rest) q (1 + rest) a s s1 c (omega arith) b ok (omega arith))))
+      (λ m s1. value_still w ready y (n + 1) a s1 fit.4)
 
   -- a part of one rate where another is wanted
   cast_on : (c : Conf) (pc k n q : ℕ) (a : Mask) (v : Val Payload) (r given : Rate) (e : Elem) (f : ℕ) (code : List Instr) → Reaches given r → c.masks k ≡ a → k < n → AreAt w.routine.code pc (code ++ lift_code w.layout r given e f k n) → (AreAt w.routine.code pc code → Runs w c (pc + length code) n (1 + q) (Holds given a f) v) → Runs w c (pc + length (code ++ lift_code w.layout r given e f k n)) n q (Holds r a (lifted w.layout r given e f n)) v
@@ -247,8 +251,8 @@ module _ (w : Setting) (ready : IsSettled w) where
       choose_code w.layout (type_of e).rate t.rate t.elem x y (found w.layout e n) pc k n (expr_code w.layout e pc p k n) (λ pc1 m i. operand_of w.layout t.rate x m i (expr_code w.layout x pc1 (p + length (expr_places w.layout e)) m i)) (λ pc1 m i. operand_of w.layout t.rate y m i (expr_code w.layout y pc1 (p + length (expr_places w.layout e) + length (expr_places w.layout x)) m i))
 
   -- both sides may have code
-  long_node : (e x y : TExpr) (t : Ty) (sp : Span) → RunsHere e → RunsHere x → RunsHere y → (pc p k n q : ℕ) (a : Mask) (s : State) (c : Conf) → ExprFits w (t_choose e x y t sp) n → AreAt w.routine.code pc (choosing e x y t pc p k n) → AreAt w.code.places p (expr_places w.layout (t_choose e x y t sp)) → Enters w pc k n a s c (0 + q) → Runs w c (pc + length (choosing e x y t pc p k n)) n q (Holds t.rate a (w.layout.spare t.rate t.elem n)) (means (t_choose e x y t sp) a s)
-  long_node e x y t sp ihe ihx ihy pc p k n q a s c fit has places b =
+  long_node : (e x y : TExpr) (t : Ty) (sp : Span) → RunsHere e → RunsHere x → RunsHere y → (pc p k n q rest : ℕ) (a : Mask) (s : State) (c : Conf) → ExprFits w (t_choose e x y t sp) n → AreAt w.routine.code pc (choosing e x y t pc p k n) → AreAt w.code.places p (expr_places w.layout (t_choose e x y t sp)) → rest ≤ 5 + q → Enters w pc k n a s c q → Runs w c (pc + length (choosing e x y t pc p k n)) n rest (Holds t.rate a (w.layout.spare t.rate t.elem n)) (means (t_choose e x y t sp) a s)
+  long_node e x y t sp ihe ihx ihy pc p k n q rest a s c fit has places le b =
       let g = (type_of e).rate in
       let n1 = first_slot g n in
       let n2 = second_slot g n in
@@ -261,18 +265,19 @@ module _ (w : Setting) (ready : IsSettled w) where
       let p2 = p1 + length (expr_places w.layout x) in
       let pl = are_back w.code.places p (expr_places w.layout e) _ places in
       let ply = are_back w.code.places p1 (expr_places w.layout x) _ pl in
-      choose_runs w ready g t.rate t.elem x y c pc k n q a (means e a (tick s)) (λ z s1. means x z s1) (λ z s1. means y z s1) (found w.layout e n) ce (λ pc1 m i. operand_of w.layout t.rate x m i (expr_code w.layout x pc1 p1 m i)) (λ pc1 m i. operand_of w.layout t.rate y m i (expr_code w.layout y pc1 p2 m i)) fit.1 b.mask b.low b.some b.inside (found_low w ready e n fit.5) (operand_low w ready t.rate t.elem x n1 fit.3 fit.6) has
-      (ihe pc p k n (11 + q) a (tick s) c fit.5 he (are_front w.code.places p (expr_places w.layout e) _ places) (enters_part w ready pc k n (heads e + (11 + q)) _ a s c (omega arith) b))
-      (λ T s1 c1 pc1 z j at en. operand_runs w ready c1 pc1 j n1 z T (means x T s1) t.rate t.elem x (expr_code w.layout x pc1 p1 j n1) fit.3 en.mask en.low at (ihx pc1 p1 j n1 (1 + z) T s1 c1 fit.6 (are_front w.routine.code pc1 (expr_code w.layout x pc1 p1 j n1) _ at) (are_front w.code.places p1 (expr_places w.layout x) _ pl) (enters_less w ready pc1 j n1 (heads x + (1 + z)) _ T s1 c1 (omega arith) en)))
-      (λ T s1 c1 pc1 z j at en. operand_runs w ready c1 pc1 j n2 z T (means y T s1) t.rate t.elem y (expr_code w.layout y pc1 p2 j n2) fit.4 en.mask en.low at (ihy pc1 p2 j n2 (1 + z) T s1 c1 fit.7 (are_front w.routine.code pc1 (expr_code w.layout y pc1 p2 j n2) _ at) ply (enters_less w ready pc1 j n2 (heads y + (1 + z)) _ T s1 c1 (omega arith) en)))
+      choose_runs w ready g t.rate t.elem x y c pc k n rest a (means e a (tick s)) (λ z s1. means x z s1) (λ z s1. means y z s1) (found w.layout e n) ce (λ pc1 m i. operand_of w.layout t.rate x m i (expr_code w.layout x pc1 p1 m i)) (λ pc1 m i. operand_of w.layout t.rate y m i (expr_code w.layout y pc1 p2 m i)) fit.1 b.mask b.low b.some b.inside (found_low w ready e n fit.5) (operand_low w ready t.rate t.elem x n1 fit.3 fit.6) has
+      (ihe pc p k n (32 + q) (5 + rest) a (tick s) c fit.5 he (are_front w.code.places p (expr_places w.layout e) _ places) (omega arith) (enters_part w ready pc k n (32 + q) q a s c (omega arith) b))
+      (λ T s1 c1 pc1 z y j le1 at en. operand_runs w ready c1 pc1 j n1 y T (means x T s1) t.rate t.elem x (expr_code w.layout x pc1 p1 j n1) fit.3 en.mask en.low at (ihx pc1 p1 j n1 z (1 + y) T s1 c1 fit.6 (are_front w.routine.code pc1 (expr_code w.layout x pc1 p1 j n1) _ at) (are_front w.code.places p1 (expr_places w.layout x) _ pl) (omega arith) en))
+      (λ T s1 c1 pc1 z u j le1 at en. operand_runs w ready c1 pc1 j n2 u T (means y T s1) t.rate t.elem y (expr_code w.layout y pc1 p2 j n2) fit.4 en.mask en.low at (ihy pc1 p2 j n2 z (1 + u) T s1 c1 fit.7 (are_front w.routine.code pc1 (expr_code w.layout y pc1 p2 j n2) _ at) ply (omega arith) en))
+      (λ T s1. value_still w ready x n1 T s1 fit.6) (λ T s1. value_still w ready y n2 T s1 fit.7)
 
   -- neither side has code
-  short_on : (u : Target) (e x y : TExpr) (t : Ty) (sp : Span) → RunsHere e → t.rate ≡ (type_of e).rate → stays_at w.layout t.rate x ≡ true → stays_at w.layout t.rate y ≡ true → (pc p k n q : ℕ) (a : Mask) (s : State) (c : Conf) → ExprFits w e n → AreAt w.routine.code pc (expr_code w.layout e pc p k n ++ select t.rate (target w.layout u t.rate t.elem n) (found w.layout e n) (found w.layout x n) (found w.layout y n) k ∷ []) → AreAt w.code.places p (expr_places w.layout e) → Enters w pc k n a s c (0 + q) → Leaves w u (target w.layout u t.rate t.elem n) c (pc + length (expr_code w.layout e pc p k n ++ select t.rate (target w.layout u t.rate t.elem n) (found w.layout e n) (found w.layout x n) (found w.layout y n) k ∷ [])) n q t.rate a (means (t_choose e x y t sp) a s)
-  short_on u e x y t sp ih er ex ey pc p k n q a s c fit has places b =
+  short_on : (u : Target) (e x y : TExpr) (t : Ty) (sp : Span) → RunsHere e → t.rate ≡ (type_of e).rate → stays_at w.layout t.rate x ≡ true → stays_at w.layout t.rate y ≡ true → (pc p k n q rest : ℕ) (a : Mask) (s : State) (c : Conf) → ExprFits w e n → AreAt w.routine.code pc (expr_code w.layout e pc p k n ++ select t.rate (target w.layout u t.rate t.elem n) (found w.layout e n) (found w.layout x n) (found w.layout y n) k ∷ []) → AreAt w.code.places p (expr_places w.layout e) → rest ≤ 5 + q → Enters w pc k n a s c q → Leaves w u (target w.layout u t.rate t.elem n) c (pc + length (expr_code w.layout e pc p k n ++ select t.rate (target w.layout u t.rate t.elem n) (found w.layout e n) (found w.layout x n) (found w.layout y n) k ∷ [])) n rest t.rate a (means (t_choose e x y t sp) a s)
+  short_on u e x y t sp ih er ex ey pc p k n q rest a s c fit has places le b =
       let fe : heads e ≤ 1 = few w e n fit in
-      short_runs w ready u t.rate t.elem (found w.layout e n) (found w.layout x n) (found w.layout y n) (means x) (means y) c pc k n q a (means e a (tick s)) (expr_code w.layout e pc p k n) b.mask b.low b.some b.inside (there x ex) (there y ey) has
-      (subst (λ r. Runs w c (pc + length (expr_code w.layout e pc p k n)) n (1 + q) (Holds r a (found w.layout e n)) (means e a (tick s))) (sym er)
-      (ih pc p k n (1 + q) a (tick s) c fit (are_front w.routine.code pc (expr_code w.layout e pc p k n) _ has) places (enters_part w ready pc k n (heads e + (1 + q)) _ a s c (omega arith) b)))
+      short_runs w ready u t.rate t.elem (found w.layout e n) (found w.layout x n) (found w.layout y n) (means x) (means y) c pc k n rest a (means e a (tick s)) (expr_code w.layout e pc p k n) b.mask b.low b.some b.inside (there x ex) (there y ey) has
+      (subst (λ r. Runs w c (pc + length (expr_code w.layout e pc p k n)) n (1 + rest) (Holds r a (found w.layout e n)) (means e a (tick s))) (sym er)
+      (ih pc p k n (32 + q) (1 + rest) a (tick s) c fit (are_front w.routine.code pc (expr_code w.layout e pc p k n) _ has) places (omega arith) (enters_part w ready pc k n (32 + q) q a s c (omega arith) b)))
     where
       there : (z : TExpr) → stays_at w.layout t.rate z ≡ true → InPlace w t.rate (found w.layout z n) (means z)
       there z h = go (same_rate t.rate (type_of z).rate) refl h
@@ -281,49 +286,49 @@ module _ (w : Setting) (ready : IsSettled w) where
           go true ed hz = subst (λ r. InPlace w r (found w.layout z n) (means z)) (sym (same_rate-is t.rate (type_of z).rate ed)) (stays_in_place w z n hz)
           go false ed hz = absurd (cc)
 
-  pub choose_node : (u : Target) (e x y : TExpr) (t : Ty) (sp : Span) → RunsHere e → is_short w.layout t.rate e x y ≡ true → (pc p k n q : ℕ) (a : Mask) (s : State) (c : Conf) → ExprFits w e n → AreAt w.routine.code pc (expr_code w.layout e pc p k n ++ select t.rate (target w.layout u t.rate t.elem n) (found w.layout e n) (found w.layout x n) (found w.layout y n) k ∷ []) → AreAt w.code.places p (expr_places w.layout e) → Enters w pc k n a s c (0 + q) → Leaves w u (target w.layout u t.rate t.elem n) c (pc + length (expr_code w.layout e pc p k n ++ select t.rate (target w.layout u t.rate t.elem n) (found w.layout e n) (found w.layout x n) (found w.layout y n) k ∷ [])) n q t.rate a (means (t_choose e x y t sp) a s)
-  choose_node u e x y t sp ih ez pc p k n q a s c fit has places b = go (same_rate t.rate (type_of e).rate) (stays_at w.layout t.rate x) (stays_at w.layout t.rate y) refl refl refl ez
+  pub choose_node : (u : Target) (e x y : TExpr) (t : Ty) (sp : Span) → RunsHere e → is_short w.layout t.rate e x y ≡ true → (pc p k n q rest : ℕ) (a : Mask) (s : State) (c : Conf) → ExprFits w e n → AreAt w.routine.code pc (expr_code w.layout e pc p k n ++ select t.rate (target w.layout u t.rate t.elem n) (found w.layout e n) (found w.layout x n) (found w.layout y n) k ∷ []) → AreAt w.code.places p (expr_places w.layout e) → rest ≤ 5 + q → Enters w pc k n a s c q → Leaves w u (target w.layout u t.rate t.elem n) c (pc + length (expr_code w.layout e pc p k n ++ select t.rate (target w.layout u t.rate t.elem n) (found w.layout e n) (found w.layout x n) (found w.layout y n) k ∷ [])) n rest t.rate a (means (t_choose e x y t sp) a s)
+  choose_node u e x y t sp ih ez pc p k n q rest a s c fit has places le b = go (same_rate t.rate (type_of e).rate) (stays_at w.layout t.rate x) (stays_at w.layout t.rate y) refl refl refl ez
     where
-      go : (d1 d2 d3 : Bool) → same_rate t.rate (type_of e).rate ≡ d1 → stays_at w.layout t.rate x ≡ d2 → stays_at w.layout t.rate y ≡ d3 → (d1 && (d2 && d3)) ≡ true → Leaves w u (target w.layout u t.rate t.elem n) c (pc + length (expr_code w.layout e pc p k n ++ select t.rate (target w.layout u t.rate t.elem n) (found w.layout e n) (found w.layout x n) (found w.layout y n) k ∷ [])) n q t.rate a (means (t_choose e x y t sp) a s)
-      go true true true e1 e2 e3 h = short_on u e x y t sp ih (same_rate-is t.rate (type_of e).rate e1) e2 e3 pc p k n q a s c fit has places b
+      go : (d1 d2 d3 : Bool) → same_rate t.rate (type_of e).rate ≡ d1 → stays_at w.layout t.rate x ≡ d2 → stays_at w.layout t.rate y ≡ d3 → (d1 && (d2 && d3)) ≡ true → Leaves w u (target w.layout u t.rate t.elem n) c (pc + length (expr_code w.layout e pc p k n ++ select t.rate (target w.layout u t.rate t.elem n) (found w.layout e n) (found w.layout x n) (found w.layout y n) k ∷ [])) n rest t.rate a (means (t_choose e x y t sp) a s)
+      go true true true e1 e2 e3 h = short_on u e x y t sp ih (same_rate-is t.rate (type_of e).rate e1) e2 e3 pc p k n q rest a s c fit has places le b
       go true true false e1 e2 e3 h = absurd (cc)
       go true false d3 e1 e2 e3 h = absurd (cc)
       go false d2 d3 e1 e2 e3 h = absurd (cc)
 
   choose_any : (e x y : TExpr) (t : Ty) (sp : Span) → RunsHere e → RunsHere x → RunsHere y → RunsHere (t_choose e x y t sp)
-  choose_any e x y t sp ihe ihx ihy pc p k n q a s c fit has places b = go (is_short w.layout t.rate e x y) refl has
+  choose_any e x y t sp ihe ihx ihy pc p k n q rest a s c fit has places le b = go (is_short w.layout t.rate e x y) refl has
     where
       code : Bool → List Instr
       code z = choose_to w.layout z (w.layout.spare t.rate t.elem n) e x y t pc k n (expr_code w.layout e pc p k n) (λ pc1 m i. operand_of w.layout t.rate x m i (expr_code w.layout x pc1 (p + length (expr_places w.layout e)) m i)) (λ pc1 m i. operand_of w.layout t.rate y m i (expr_code w.layout y pc1 (p + length (expr_places w.layout e) + length (expr_places w.layout x)) m i))
 
-      go : (z : Bool) → is_short w.layout t.rate e x y ≡ z → AreAt w.routine.code pc (code z) → Runs w c (pc + length (code z)) n q (Holds t.rate a (w.layout.spare t.rate t.elem n)) (means (t_choose e x y t sp) a s)
-      go true ez at = choose_node InSlot e x y t sp ihe ez pc p k n q a s c fit.5 at (are_front w.code.places p (expr_places w.layout e) _ places) b
-      go false ez at = long_node e x y t sp ihe ihx ihy pc p k n q a s c fit at places b
+      go : (z : Bool) → is_short w.layout t.rate e x y ≡ z → AreAt w.routine.code pc (code z) → Runs w c (pc + length (code z)) n rest (Holds t.rate a (w.layout.spare t.rate t.elem n)) (means (t_choose e x y t sp) a s)
+      go true ez at = choose_node InSlot e x y t sp ihe ez pc p k n q rest a s c fit.5 at (are_front w.code.places p (expr_places w.layout e) _ places) (omega arith) b
+      go false ez at = long_node e x y t sp ihe ihx ihy pc p k n q rest a s c fit at places (omega arith) b
 
-  pub expr_runs : (x : TExpr) (pc p k n q : ℕ) (a : Mask) (s : State) (c : Conf) → ExprFits w x n → AreAt w.routine.code pc (expr_code w.layout x pc p k n) → AreAt w.code.places p (expr_places w.layout x) → Enters w pc k n a s c (heads x + q) → Runs w c (pc + length (expr_code w.layout x pc p k n)) n q (Holds (type_of x).rate a (found w.layout x n)) (means x a s)
-  expr_runs (t_constant v sp) pc p k n q a s c fit has places b = number_node InSlot v sp pc p k n q a s c fit fit has places b
-  expr_runs (t_program_index sp) pc p k n q a s c fit has places b = index_node InSlot sp pc p k n q a s c fit fit has places b
-  expr_runs (t_place (t_variable v t sp)) pc p k n q a s c fit has places b = record {
+  pub expr_runs : (x : TExpr) (pc p k n q rest : ℕ) (a : Mask) (s : State) (c : Conf) → ExprFits w x n → AreAt w.routine.code pc (expr_code w.layout x pc p k n) → AreAt w.code.places p (expr_places w.layout x) → heads x + rest ≤ 5 + q → Enters w pc k n a s c q → Runs w c (pc + length (expr_code w.layout x pc p k n)) n rest (Holds (type_of x).rate a (found w.layout x n)) (means x a s)
+  expr_runs (t_constant v sp) pc p k n q rest a s c fit has places le b = number_node InSlot v sp pc p k n q rest a s c fit fit has places le b
+  expr_runs (t_program_index sp) pc p k n q rest a s c fit has places le b = index_node InSlot sp pc p k n q rest a s c fit fit has places le b
+  expr_runs (t_place (t_variable v t sp)) pc p k n q rest a s c fit has places le b = record {
     conf = c;
     steps = 0;
     comes = comes_none w c;
     at = at_to w c pc _ b.at (omega arith);
     stands = b.stands;
-    keeps = keeps_all w n c;
+    spares = spares_all w n c;
     masks = λ j h. refl;
     holds = variable_held t.rate v a (tick s) c b.stands;
     bound = omega (arith, b.used);
   }
-  expr_runs (t_place (t_element y i t sp)) pc p k n q a s c fit has places b = element_node InSlot y i t sp (λ pc p k n q a s c f h pl e. expr_runs i pc p k n q a s c f h pl e) pc p k n q a s c fit fit.1 has places b
-  expr_runs (t_convert e x) pc p k n q a s c fit has places b = convert_node InSlot e x (λ pc p k n q a s c f h pl e. expr_runs x pc p k n q a s c f h pl e) pc p k n q a s c fit fit.1 has places b
-  expr_runs (t_cast x t sp) pc p k n q a s c fit has places b =
+  expr_runs (t_place (t_element y i t sp)) pc p k n q rest a s c fit has places le b = element_node InSlot y i t sp (λ pc p k n q rest a s c f h pl le z. expr_runs i pc p k n q rest a s c f h pl le z) pc p k n q rest a s c fit fit.1 has places le b
+  expr_runs (t_convert e x) pc p k n q rest a s c fit has places le b = convert_node InSlot e x (λ pc p k n q rest a s c f h pl le z. expr_runs x pc p k n q rest a s c f h pl le z) pc p k n q rest a s c fit fit.1 has places le b
+  expr_runs (t_cast x t sp) pc p k n q rest a s c fit has places le b =
       let f : heads x ≤ 1 = few w x n fit.1 in
-      cast_runs c pc k n q a (means x a (tick s)) t.rate (type_of x).rate (type_of x).elem (found w.layout x n) (λ d. expr_to w.layout d x pc p k n) fit.0.reaches b.mask b.low has
-      (λ at. expr_runs x pc p k n (1 + q) a (tick s) c fit.1 at places (enters_part w ready pc k n (heads x + (1 + q)) _ a s c (omega arith) b))
-  expr_runs (t_unary o x t sp) pc p k n q a s c fit has places b = unary_node InSlot o x t sp (λ pc p k n q a s c f h pl e. expr_runs x pc p k n q a s c f h pl e) pc p k n q a s c fit fit.1 has places b
-  expr_runs (t_binary o x y t sp) pc p k n q a s c fit has places b = binary_node InSlot o x y t sp (λ pc p k n q a s c f h pl e. expr_runs x pc p k n q a s c f h pl e) (λ pc p k n q a s c f h pl e. expr_runs y pc p k n q a s c f h pl e) pc p k n q a s c fit fit.2 has places b
-  expr_runs (t_compare o x y r sp) pc p k n q a s c fit has places b = compare_node InSlot o x y r sp (λ pc p k n q a s c f h pl e. expr_runs x pc p k n q a s c f h pl e) (λ pc p k n q a s c f h pl e. expr_runs y pc p k n q a s c f h pl e) pc p k n q a s c fit fit.2 has places b
-  expr_runs (t_logic g x y Uniform sp) pc p k n q a s c fit has places b =
+      cast_runs c pc k n rest a (means x a (tick s)) t.rate (type_of x).rate (type_of x).elem (found w.layout x n) (λ d. expr_to w.layout d x pc p k n) fit.0.reaches b.mask b.low has
+      (λ at. expr_runs x pc p k n (32 + q) (1 + rest) a (tick s) c fit.1 at places (omega arith) (enters_part w ready pc k n (32 + q) q a s c (omega arith) b))
+  expr_runs (t_unary o x t sp) pc p k n q rest a s c fit has places le b = unary_node InSlot o x t sp (λ pc p k n q rest a s c f h pl le z. expr_runs x pc p k n q rest a s c f h pl le z) pc p k n q rest a s c fit fit.1 has places le b
+  expr_runs (t_binary o x y t sp) pc p k n q rest a s c fit has places le b = binary_node InSlot o x y t sp (λ pc p k n q rest a s c f h pl le z. expr_runs x pc p k n q rest a s c f h pl le z) (λ pc p k n q rest a s c f h pl le z. expr_runs y pc p k n q rest a s c f h pl le z) pc p k n q rest a s c fit fit.2 has places le b
+  expr_runs (t_compare o x y r sp) pc p k n q rest a s c fit has places le b = compare_node InSlot o x y r sp (λ pc p k n q rest a s c f h pl le z. expr_runs x pc p k n q rest a s c f h pl le z) (λ pc p k n q rest a s c f h pl le z. expr_runs y pc p k n q rest a s c f h pl le z) pc p k n q rest a s c fit fit.2 has places le b
+  expr_runs (t_logic g x y Uniform sp) pc p k n q rest a s c fit has places le b =
       let fx : heads x ≤ 1 = few w x n fit.3 in
       let fy : heads y ≤ 1 = few w y (n + 1) fit.4 in
       let lk : k < n = b.low in
@@ -332,11 +337,11 @@ module _ (w : Setting) (ready : IsSettled w) where
       let ha : AreAt w.routine.code pc ca = are_front w.routine.code pc ca _ (are_front w.routine.code pc (ca ++ _) _ has) in
       let p1 = p + length (expr_places w.layout x) in
       let pl = are_back w.code.places p (expr_places w.layout x) _ places in
-      logic_one w ready g c pc k n q a (means x a (tick s)) (λ z s1. means y z s1) (operand w.layout Uniform x n) (operand w.layout Uniform y (n + 1)) ca (λ pc1 m. operand_of w.layout Uniform y m (n + 1) (expr_code w.layout y pc1 p1 m (n + 1))) b.mask lk b.some b.inside has
-      (operand_runs w ready c pc k n (1 + (4 + q)) a (means x a (tick s)) Uniform Truth x cx fit.0 b.mask lk ha
-      (expr_runs x pc p k n (1 + (1 + (4 + q))) a (tick s) c fit.3 (are_front w.routine.code pc cx _ ha) (are_front w.code.places p (expr_places w.layout x) _ places) (enters_part w ready pc k n (heads x + (1 + (1 + (4 + q)))) _ a s c (omega arith) b)))
-      (λ s1 c1 pc1 z at en. operand_runs w ready c1 pc1 k (n + 1) (1 + z) a (means y a s1) Uniform Truth y (expr_code w.layout y pc1 p1 k (n + 1)) fit.1 en.mask en.low at (expr_runs y pc1 p1 k (n + 1) (1 + (1 + z)) a s1 c1 fit.4 (are_front w.routine.code pc1 (expr_code w.layout y pc1 p1 k (n + 1)) _ at) pl (enters_less w ready pc1 k (n + 1) (heads y + (1 + (1 + z))) _ a s1 c1 (omega arith) en)))
-  expr_runs (t_logic g x y Varying sp) pc p k n q a s c fit has places b =
+      logic_one w ready g c pc k n rest a (means x a (tick s)) (λ z s1. means y z s1) (operand w.layout Uniform x n) (operand w.layout Uniform y (n + 1)) ca (λ pc1 m. operand_of w.layout Uniform y m (n + 1) (expr_code w.layout y pc1 p1 m (n + 1))) b.mask lk b.some b.inside has
+      (operand_runs w ready c pc k n (1 + (1 + rest)) a (means x a (tick s)) Uniform Truth x cx fit.0 b.mask lk ha
+      (expr_runs x pc p k n (32 + q) (1 + (1 + (1 + rest))) a (tick s) c fit.3 (are_front w.routine.code pc cx _ ha) (are_front w.code.places p (expr_places w.layout x) _ places) (omega arith) (enters_part w ready pc k n (32 + q) q a s c (omega arith) b)))
+      (λ s1 c1 pc1 z at en. operand_runs w ready c1 pc1 k (n + 1) (1 + z) a (means y a s1) Uniform Truth y (expr_code w.layout y pc1 p1 k (n + 1)) fit.1 en.mask en.low at (expr_runs y pc1 p1 k (n + 1) z (1 + (1 + z)) a s1 c1 fit.4 (are_front w.routine.code pc1 (expr_code w.layout y pc1 p1 k (n + 1)) _ at) pl (omega arith) en))
+  expr_runs (t_logic g x y Varying sp) pc p k n q rest a s c fit has places le b =
       let fx : heads x ≤ 1 = few w x n fit.3 in
       let fy : heads y ≤ 1 = few w y (n + 1) fit.4 in
       let lk : k < n = b.low in
@@ -345,12 +350,12 @@ module _ (w : Setting) (ready : IsSettled w) where
       let ha : AreAt w.routine.code pc ca = are_front w.routine.code pc ca _ (are_front w.routine.code pc (ca ++ _) _ has) in
       let p1 = p + length (expr_places w.layout x) in
       let pl = are_back w.code.places p (expr_places w.layout x) _ places in
-      logic_each w ready g c pc k n q a (means x a (tick s)) (λ z s1. means y z s1) (operand w.layout Varying x n) (operand w.layout Varying y (n + 1)) ca (λ pc1 m. operand_of w.layout Varying y m (n + 1) (expr_code w.layout y pc1 p1 m (n + 1))) b.mask lk b.some b.inside has
-      (operand_runs w ready c pc k n (1 + (2 + (4 + q))) a (means x a (tick s)) Varying Truth x cx fit.0 b.mask lk ha
-      (expr_runs x pc p k n (1 + (1 + (2 + (4 + q)))) a (tick s) c fit.3 (are_front w.routine.code pc cx _ ha) (are_front w.code.places p (expr_places w.layout x) _ places) (enters_part w ready pc k n (heads x + (1 + (1 + (2 + (4 + q))))) _ a s c (omega arith) b)))
-      (λ T s1 c1 pc1 z at en. operand_runs w ready c1 pc1 n (n + 1) (1 + z) T (means y T s1) Varying Truth y (expr_code w.layout y pc1 p1 n (n + 1)) fit.1 en.mask en.low at (expr_runs y pc1 p1 n (n + 1) (1 + (1 + z)) T s1 c1 fit.4 (are_front w.routine.code pc1 (expr_code w.layout y pc1 p1 n (n + 1)) _ at) pl (enters_less w ready pc1 n (n + 1) (heads y + (1 + (1 + z))) _ T s1 c1 (omega arith) en)))
-  expr_runs (t_choose e x y t sp) pc p k n q a s c fit has places b = choose_any e x y t sp (λ pc p k n q a s c f h pl z. expr_runs e pc p k n q a s c f h pl z) (λ pc p k n q a s c f h pl e. expr_runs x pc p k n q a s c f h pl e) (λ pc p k n q a s c f h pl e. expr_runs y pc p k n q a s c f h pl e) pc p k n q a s c fit has places b
-  expr_runs (t_call e t) pc p k n q a s c fit has places b = absurd fit
-  expr_runs (t_library g e xs t sp) pc p k n q a s c fit has places b = absurd fit
-  expr_runs (t_packed_store d x sp) pc p k n q a s c fit has places b = absurd fit
-  expr_runs (t_packed_load d v sp) pc p k n q a s c fit has places b = absurd fit
+      logic_each w ready g c pc k n rest a (means x a (tick s)) (λ z s1. means y z s1) (operand w.layout Varying x n) (operand w.layout Varying y (n + 1)) ca (λ pc1 m. operand_of w.layout Varying y m (n + 1) (expr_code w.layout y pc1 p1 m (n + 1))) b.mask lk b.some b.inside has
+      (operand_runs w ready c pc k n (1 + (2 + (1 + rest))) a (means x a (tick s)) Varying Truth x cx fit.0 b.mask lk ha
+      (expr_runs x pc p k n (32 + q) (1 + (1 + (2 + (1 + rest)))) a (tick s) c fit.3 (are_front w.routine.code pc cx _ ha) (are_front w.code.places p (expr_places w.layout x) _ places) (omega arith) (enters_part w ready pc k n (32 + q) q a s c (omega arith) b)))
+      (λ T s1 c1 pc1 z at en. operand_runs w ready c1 pc1 n (n + 1) (1 + z) T (means y T s1) Varying Truth y (expr_code w.layout y pc1 p1 n (n + 1)) fit.1 en.mask en.low at (expr_runs y pc1 p1 n (n + 1) z (1 + (1 + z)) T s1 c1 fit.4 (are_front w.routine.code pc1 (expr_code w.layout y pc1 p1 n (n + 1)) _ at) pl (omega arith) en))
+  expr_runs (t_choose e x y t sp) pc p k n q rest a s c fit has places le b = choose_any e x y t sp (λ pc p k n q rest a s c f h pl le z. expr_runs e pc p k n q rest a s c f h pl le z) (λ pc p k n q rest a s c f h pl le z. expr_runs x pc p k n q rest a s c f h pl le z) (λ pc p k n q rest a s c f h pl le z. expr_runs y pc p k n q rest a s c f h pl le z) pc p k n q rest a s c fit has places le b
+  expr_runs (t_call e t) pc p k n q rest a s c fit has places le b = absurd fit
+  expr_runs (t_library g e xs t sp) pc p k n q rest a s c fit has places le b = absurd fit
+  expr_runs (t_packed_store d x sp) pc p k n q rest a s c fit has places le b = absurd fit
+  expr_runs (t_packed_load d v sp) pc p k n q rest a s c fit has places le b = absurd fit

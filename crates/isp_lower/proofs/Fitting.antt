@@ -1,60 +1,92 @@
 -- What trees and what tables promise, together.
-use Rattle.std.proofs.Common.{ℕ, ◌+◌, List, [], ◌∷◌}
+use Rattle.std.proofs.Common.{ℕ, ◌+◌, List, [], ◌∷◌, Bool, true, false, subst}
+use Rattle.isp_base.specs.Ranks.{same_elem}
 use Rattle.isp_base.specs.declared.types.Elem.{Elem}
 use Rattle.isp_base.specs.declared.types.Elem.TheVariants.{Bool as Truth}
 use Rattle.isp_base.specs.declared.types.Rate.{Rate}
+use Rattle.isp_base.specs.declared.types.Rate.TheVariants.{Uniform, Varying}
 use Rattle.isp_typed.specs.Typed.{TExpr, t_constant, t_program_index, t_place, t_convert, t_cast, t_unary, t_binary, t_compare, t_logic, t_choose, t_call, t_library, t_packed_store, t_packed_load, TPlace, t_variable, t_element, TItem, t_plain, t_with_value, t_with_size, TSimple, t_value, t_run, t_assign, t_update, t_step, place_type, type_of}
 use Rattle.isp_lower.specs.Setting.{Setting}
-use Rattle.isp_lower.specs.Fits.{first_slot, second_slot, OperandFits, ExprFits, PlaceFits}
-use Rattle.isp_lower.specs.Simple.{beyond, SimpleFits}
-use Rattle.isp_lower.specs.Items.{ItemFits, ItemsFit}
+use Rattle.isp_lower.specs.Fits.{first_slot, second_slot, LiftFits, OperandFits, ExprFits, PlaceFits, PlaceTyped}
+use Rattle.isp_lower.specs.Simple.{beyond, SimpleFits, WorkFits}
+use Rattle.isp_lower.specs.Items.{ItemFits, ItemsFit, ZeroFits}
 use Rattle.isp_lower.specs.Trees.{OperandTree, ExprTree, PlaceTree, SimpleTree, ItemTree, ItemsTree}
-use Rattle.isp_lower.specs.Tables.{LiftTable, ExprTable, PlaceTable, SimpleTable, ItemTable, ItemsTable}
+use Rattle.isp_lower.specs.Tables.{Table, ExprTable, PlaceTable, SimpleTable, ItemTable, ItemsTable}
+use Rattle.isp_lower.specs.Asks.{lift_asks, operand_asks, read_asks, work_asks, zero_asks}
 
 module _ (w : Setting) where
-  operand_fits : (r : Rate) (t : Elem) (x : TExpr) (n : ℕ) → OperandTree r t x → LiftTable w r t x n → OperandFits w r t x n
-  operand_fits r t x n o l = record { elem = o.elem; reaches = o.reaches; lift = l }
+  -- ---- single registers
+
+  lift_fits : (given r : Rate) (t : Elem) (n : ℕ) → Table w.routine w.layout w.function.variables (lift_asks r given t n) → LiftFits w given r t n
+  lift_fits Uniform Uniform t n h = tt
+  lift_fits Uniform Varying t n h = h
+  lift_fits Varying Uniform t n h = tt
+  lift_fits Varying Varying t n h = tt
+
+  read_fits : (z : TPlace) (n : ℕ) → Table w.routine w.layout w.function.variables (read_asks z n) → PlaceTyped w z n
+  read_fits (t_variable v t sp) n h = tt
+  read_fits (t_element b i t sp) n h = h
+
+  work_fits : (b : Bool) (r : Rate) (t : Elem) (i : ℕ) → Table w.routine w.layout w.function.variables (work_asks b r t i) → WorkFits w b r t i
+  work_fits true r t i h = tt
+  work_fits false r t i h = h
+
+  zero_fits : (r : Rate) (t : Elem) (v n : ℕ) → Table w.routine w.layout w.function.variables (zero_asks r t v n) → ZeroFits w r t v n
+  zero_fits Uniform t v n h = h
+  zero_fits Varying t v n h = h
+
+  -- ---- trees
+
+  pub operand_fits : (r : Rate) (t : Elem) (x : TExpr) (n : ℕ) → OperandTree r t x → Table w.routine w.layout w.function.variables (operand_asks r x n) → OperandFits w r t x n
+  operand_fits r t x n o h =
+      record {
+        elem = o.elem;
+        reaches = o.reaches;
+        lift = subst (λ u. LiftFits w (type_of x).rate r u n) o.elem (lift_fits (type_of x).rate r (type_of x).elem n h.0);
+      }
 
   mutual
-    pub expr_fits : (x : TExpr) (n : ℕ) → ExprTree x → ExprTable w x n → ExprFits w x n
+    pub expr_fits : (x : TExpr) (n : ℕ) → ExprTree x → ExprTable w.routine w.layout w.function.variables x n → ExprFits w x n
     expr_fits (t_constant v sp) n t h = h
     expr_fits (t_program_index sp) n t h = h
-    expr_fits (t_place q) n t h = (place_fits q n t h.0, h.1)
+    expr_fits (t_place q) n t h = (place_fits q n t h.0, read_fits q n h.1)
     expr_fits (t_convert e x) n t h = (t.0, h.0, expr_fits x n t.1 h.1)
-    expr_fits (t_cast x u sp) n t h = (operand_fits u.rate u.elem x n t.0 h.0, expr_fits x n t.1 h.1)
-    expr_fits (t_unary o x u sp) n t h = (operand_fits u.rate u.elem x n t.0 h.0, h.1, expr_fits x n t.1 h.2)
+    expr_fits (t_cast x u sp) n t h = (operand_fits u.rate u.elem x n t.0 h, expr_fits x n t.1 h.1)
+    expr_fits (t_unary o x u sp) n t h = (operand_fits u.rate u.elem x n t.0 h.1, h.0, expr_fits x n t.1 h.1.1)
     expr_fits (t_binary o x y u sp) n t h =
-        (operand_fits u.rate u.elem x n t.0 h.0, operand_fits u.rate u.elem y (n + 1) t.1 h.1, h.2, expr_fits x n t.2 h.3, expr_fits y (n + 1) t.3 h.4)
+        (operand_fits u.rate u.elem x n t.0 h.1.1.0, operand_fits u.rate u.elem y (n + 1) t.1 h.1.1.1, h.0, expr_fits x n t.2 h.1.1.0.1, expr_fits y (n + 1) t.3 h.1.1.1.1)
     expr_fits (t_compare c x y r sp) n t h =
-        (operand_fits r (type_of x).elem x n t.0 h.0, operand_fits r (type_of x).elem y (n + 1) t.1 h.1, h.2, expr_fits x n t.2 h.3, expr_fits y (n + 1) t.3 h.4)
+        (operand_fits r (type_of x).elem x n t.0 h.1.1.0, operand_fits r (type_of x).elem y (n + 1) t.1 h.1.1.1, h.0, expr_fits x n t.2 h.1.1.0.1, expr_fits y (n + 1) t.3 h.1.1.1.1)
     expr_fits (t_logic g x y r sp) n t h =
-        (operand_fits r Truth x n t.0 h.0, operand_fits r Truth y (n + 1) t.1 h.1, h.2, expr_fits x n t.2 h.3, expr_fits y (n + 1) t.3 h.4)
+        (operand_fits r Truth x n t.0 h.1.1.1.0, operand_fits r Truth y (n + 1) t.1 h.1.1.1.1, h.0, expr_fits x n t.2 h.1.1.1.0.1, expr_fits y (n + 1) t.3 h.1.1.1.1.1)
     expr_fits (t_choose c x y u sp) n t h =
-        (t.0.elem, t.0.reaches, h.0, operand_fits u.rate u.elem x (first_slot (type_of c).rate n) t.1 h.1, operand_fits u.rate u.elem y (second_slot (type_of c).rate n) t.2 h.2, expr_fits c n t.3 h.3, expr_fits x (first_slot (type_of c).rate n) t.4 h.4, expr_fits y (second_slot (type_of c).rate n) t.5 h.5)
+        (t.0.elem, t.0.reaches, h.0, operand_fits u.rate u.elem x (first_slot (type_of c).rate n) t.1 h.1.1.0, operand_fits u.rate u.elem y (second_slot (type_of c).rate n) t.2 h.1.1.1.0, expr_fits c n t.3 h.1.0, expr_fits x (first_slot (type_of c).rate n) t.4 h.1.1.0.1, expr_fits y (second_slot (type_of c).rate n) t.5 h.1.1.1.0.1)
     expr_fits (t_call c u) n t h = absurd t
     expr_fits (t_library f e xs u sp) n t h = absurd t
     expr_fits (t_packed_store b x sp) n t h = absurd t
     expr_fits (t_packed_load b v sp) n t h = absurd t
 
-    place_fits : (z : TPlace) (n : ℕ) → PlaceTree z → PlaceTable w z n → PlaceFits w z n
+    place_fits : (z : TPlace) (n : ℕ) → PlaceTree z → PlaceTable w.routine w.layout w.function.variables z n → PlaceFits w z n
     place_fits (t_variable v u sp) n t h = h
-    place_fits (t_element b i u sp) n t h = (h.0, t.0, t.1, h.1, expr_fits i n t.2 h.2)
+    place_fits (t_element b i u sp) n t h = (h.0, t.0, t.1, h.1.1.0, expr_fits i n t.2 h.1.1.1)
 
-  pub simple_fits : (x : TSimple) (n : ℕ) → SimpleTree x → SimpleTable w x n → SimpleFits w x n
+  pub simple_fits : (x : TSimple) (n : ℕ) → SimpleTree x → SimpleTable w.routine w.layout w.function.variables x n → SimpleFits w x n
   simple_fits (t_value x) n t h = expr_fits x n t h
   simple_fits (t_run c) n t h = absurd t
   simple_fits (t_assign z x sp) n t h =
-      (place_fits z n t.0 h.0, operand_fits (place_type z).rate (place_type z).elem x (beyond z n) t.1 h.1, expr_fits x (beyond z n) t.2 h.2)
+      (place_fits z n t.0 h.0, operand_fits (place_type z).rate (place_type z).elem x (beyond z n) t.1 h.1.1, expr_fits x (beyond z n) t.2 h.1.1.1)
   simple_fits (t_update o u z x sp) n t h =
-      (record { number = t.3; target = place_fits z n t.0 h.0.0; working = h.0.1; back = h.0.2 }, operand_fits (place_type z).rate u x (beyond z n) t.1 h.1, expr_fits x (beyond z n) t.2 h.2)
+      let working = work_fits (same_elem (place_type z).elem u) (place_type z).rate u (beyond z n + 1) h.1.1.1.0 in
+      (record { number = t.3; target = place_fits z n t.0 h.0; working = working; back = read_fits z (beyond z n + 1) h.1.1.1.1 }, operand_fits (place_type z).rate u x (beyond z n) t.1 h.1.1.0, expr_fits x (beyond z n) t.2 h.1.1.0.1)
   simple_fits (t_step o u z sp) n t h =
-      (record { number = t.1; target = place_fits z n t.0 h.0.0; working = h.0.1; back = h.0.2 }, h.1, h.2)
+      let working = work_fits (same_elem (place_type z).elem u) (place_type z).rate u (beyond z n + 1) h.1.1.1.0 in
+      (record { number = t.1; target = place_fits z n t.0 h.0; working = working; back = read_fits z (beyond z n + 1) h.1.1.1.1 }, h.1.1.0.0, lift_fits Uniform (place_type z).rate u (beyond z n) h.1.1.0.1)
 
-  item_fits : (x : TItem) (n : ℕ) → ItemTree x → ItemTable w n x → ItemFits w n x
-  item_fits (t_plain v u sp) n t h = h
-  item_fits (t_with_value v u x sp) n t h = (h.0, operand_fits u.rate u.elem x n t.0 h.1, expr_fits x n t.1 h.2)
+  item_fits : (x : TItem) (n : ℕ) → ItemTree x → ItemTable w.routine w.layout w.function.variables n x → ItemFits w n x
+  item_fits (t_plain v u sp) n t h = zero_fits u.rate u.elem v n h
+  item_fits (t_with_value v u x sp) n t h = (h.0, operand_fits u.rate u.elem x n t.0 h.1, expr_fits x n t.1 h.1.1)
   item_fits (t_with_size b sp) n t h = h
 
-  pub items_fit : (xs : List TItem) (n : ℕ) → ItemsTree xs → ItemsTable w n xs → ItemsFit w n xs
+  pub items_fit : (xs : List TItem) (n : ℕ) → ItemsTree xs → ItemsTable w.routine w.layout w.function.variables n xs → ItemsFit w n xs
   items_fit [] n t h = tt
   items_fit (x ∷ xs) n t h = (item_fits x n t.0 h.0, items_fit xs n t.1 h.1)

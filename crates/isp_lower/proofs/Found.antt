@@ -8,10 +8,10 @@ use Rattle.isp_base.specs.declared.types.Span.{Span}
 use Rattle.isp_base.specs.declared.types.Value.{Value}
 use Rattle.isp_typed.specs.Fine.{heads}
 use Rattle.isp_typed.specs.Typed.{TExpr, t_constant, t_program_index, t_place, t_convert, t_cast, t_unary, t_binary, t_compare, t_logic, t_choose, t_call, t_library, t_packed_store, t_packed_load, t_variable, t_element, type_of}
-use Rattle.isp_lower.specs.Setting.{Setting, IsSettled, Low}
+use Rattle.isp_lower.specs.Setting.{Setting, IsSettled}
 use Rattle.isp_lower.specs.Code.{lifted, found, operand, constant_of, is_whole, whole, index}
 use Rattle.isp_lower.specs.Fits.{Reaches, IsTyped, LiftFits, OperandFits, ExprFits}
-use Rattle.isp_lower.proofs.Base.{low_spare, low_variable}
+use Rattle.isp_lower.proofs.Kept.{Low, low_spare, low_variable}
 
 -- a conversion converts no conversion
 pub few : (w : Setting) (x : TExpr) (n : ℕ) → ExprFits w x n → heads x ≤ 1
@@ -88,7 +88,7 @@ module _ (w : Setting) where
 
 module _ (w : Setting) (ready : IsSettled w) where
   spare_low : (r : Rate) (t : Elem) (n : ℕ) → Low w.layout r (n + 1) (w.layout.spare r t n)
-  spare_low r t n = low_spare w.layout r t (n + 1) n ready.apart (omega arith)
+  spare_low r t n = low_spare w.layout r t (n + 1) n (omega arith)
 
   pub lifted_low : (r given : Rate) (t : Elem) (f n : ℕ) → Reaches given r → Low w.layout given (n + 1) f → Low w.layout r (n + 1) (lifted w.layout r given t f n)
   lifted_low Uniform Uniform t f n re low = low
@@ -99,7 +99,7 @@ module _ (w : Setting) (ready : IsSettled w) where
   pub found_low : (x : TExpr) (n : ℕ) → ExprFits w x n → Low w.layout (type_of x).rate (n + 1) (found w.layout x n)
   found_low (t_constant v sp) n f = spare_low Uniform v.elem n
   found_low (t_program_index sp) n f = spare_low Varying I32 n
-  found_low (t_place (t_variable v t sp)) n f = low_variable w.layout t.rate (n + 1) v ready.apart
+  found_low (t_place (t_variable v t sp)) n f = low_variable w.layout t.rate (n + 1) v
   found_low (t_place (t_element b i t sp)) n f = spare_low t.rate t.elem n
   found_low (t_convert e x) n f = spare_low (type_of x).rate e n
   found_low (t_cast x t sp) n f = lifted_low t.rate (type_of x).rate (type_of x).elem (found w.layout x n) n f.0.reaches (found_low x n f.1)

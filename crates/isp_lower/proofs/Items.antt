@@ -23,12 +23,11 @@ use Rattle.isp_meaning.specs.Outcomes.{Gives}
 use Rattle.isp_meaning.specs.Places.{written}
 use Rattle.isp_meaning.specs.Simple.{cleared, item, items}
 use Rattle.isp_lower.specs.Layout.{mask_register, array_register}
-use Rattle.isp_lower.specs.Setting.{Setting, IsSettled, gang_of, AreAt, Holds}
+use Rattle.isp_lower.specs.Setting.{ArrayFitsAt, Setting, IsSettled, gang_of, calls_of, AreAt, Holds}
 use Rattle.isp_lower.specs.Runs.{Enters, Ok, DoneRuns}
-use Rattle.isp_lower.specs.Fits.{ArrayFitsAt}
 use Rattle.isp_lower.specs.Code.{constant}
 use Rattle.isp_lower.specs.Items.{zero_code, item_code, item_places, items_code, items_places, ZeroFits, ItemFits, ItemsFit}
-use Rattle.isp_lower.proofs.Base.{are_front, are_back, keeps_all, comes_none, next_at, at_to}
+use Rattle.isp_lower.proofs.Base.{are_front, are_back, comes_none, next_at, at_to, spares_all}
 use Rattle.isp_lower.proofs.Values.{wrap_bits}
 use Rattle.isp_lower.proofs.Found.{few}
 use Rattle.isp_lower.proofs.Lines.{set_at}
@@ -36,7 +35,7 @@ use Rattle.isp_lower.proofs.Combine.{set_goes, write_runs}
 use Rattle.isp_lower.proofs.Nodes.{enters_part}
 use Rattle.isp_lower.proofs.Variables.{variable_runs}
 use Rattle.isp_lower.proofs.Writes.{put_through, written_stands, step_done}
-use Rattle.isp_lower.proofs.Done.{spares_all, spares_kept, done_after, done_on, variable_spares, splat_done}
+use Rattle.isp_lower.proofs.Done.{done_after, done_on, variable_spares, splat_done}
 
 zero_is : (t : Elem) → wrap t (number t 0) ≡ 0
 zero_is Truth = wrap_bits Truth 0
@@ -62,9 +61,9 @@ module _ (w : Setting) (ready : IsSettled w) where
   zero_runs Varying t v pc k n q a s c fit has b =
       let d = w.layout.spare Uniform t n in
       let e = w.layout.variable Varying v in
-      let ok : Ok w c (pc + 1) n (1 + q) (Holds Uniform a d (One 0)) (tick s) = write_runs w ready c c 0 pc (pc + 1) n (1 + q) a (tick s) (constant d t 0) Uniform t None Divide no_place (One 0) (One 0) (comes_none w c) b.at refl has.0 b.stands (keeps_all w n c) (λ g l. refl) (omega (arith, b.used)) refl refl
+      let ok : Ok w c (pc + 1) n (1 + q) (Holds Uniform a d (One 0)) (tick s) = write_runs w ready c c 0 pc (pc + 1) n (1 + q) a (tick s) (constant d t 0) Uniform t None Divide no_place (One 0) (One 0) (comes_none w c) b.at refl has.0 b.stands (spares_all w n c) (λ g l. refl) (omega (arith, b.used)) refl refl
       (ap (λ u. Go (set_at Uniform c d (One (wrap u (number t 0))))) fit.0 ∙ ap (λ z. Go (set_at Uniform c d (One z))) (zero_is t)) in
-      splat_done w ready v (One 0) a (tick s) c ok.conf ok.steps (pc + 1) (pc + 2) k d n q ok.comes ok.at (omega arith) has.1.0 ok.stands (spares_kept w ready n c ok.conf ok.keeps) ok.masks (ok.masks k b.low ∙ b.mask) (omega (arith, ok.bound)) ok.holds
+      splat_done w ready v (One 0) a (tick s) c ok.conf ok.steps (pc + 1) (pc + 2) k d n q ok.comes ok.at (omega arith) has.1.0 ok.stands ok.spares ok.masks (ok.masks k b.low ∙ b.mask) (omega (arith, ok.bound)) ok.holds
 
   -- ---- arrays
 
@@ -77,7 +76,7 @@ module _ (w : Setting) (ready : IsSettled w) where
       step_done w ready c c c3 0 pc (pc + 1) n q (instr.Clear (array_register A) (mask_register k)) None Divide no_place (One 0) (tick s) (λ m. cleared w.frame Uniform y.number a) (comes_none w c) b.at refl has
       (ap (λ z. Go (lines.cleared w.code w.routine c z (array_register A) (mask_register k))) fit.0) refl (next_at w c c3 pc b.at refl refl refl) b.stands
       (λ none. record { uniforms = b.stands.uniforms; varying = b.stands.varying; result = b.stands.result; results = b.stands.results; own_arrays = b.stands.own_arrays; arrays_are = ap (λ z. put z N (λ e. 0)) b.stands.arrays_are ∙ ap (λ z. put s.arrays z (λ e. 0)) en; out_is = b.stands.out_is })
-      (spares_all w ready n c) (λ g l. refl) (omega (arith, b.used)) (omega (arith, b.used))
+      (spares_all w n c) (λ g l. refl) (omega (arith, b.used)) (omega (arith, b.used))
   cleared_runs Varying y pc k n q a s c fit has b =
       let A = w.layout.array y.number in
       let F : ℕ → Lanes = λ e p. if c.masks k p then 0 else c.own A e p in
@@ -87,25 +86,25 @@ module _ (w : Setting) (ready : IsSettled w) where
       step_done w ready c c c3 0 pc (pc + 1) n q (instr.Clear (array_register A) (mask_register k)) None Divide no_place (One 0) (tick s) (λ m. cleared w.frame Varying y.number a) (comes_none w c) b.at refl has
       (ap (λ z. Go (lines.cleared w.code w.routine c z (array_register A) (mask_register k))) fit.0) refl (next_at w c c3 pc b.at refl refl refl) b.stands
       (λ none. record { uniforms = b.stands.uniforms; varying = b.stands.varying; result = b.stands.result; results = b.stands.results; own_arrays = put_through c.own s.own w.layout.array y.number F G ready.apart.arrays b.stands.own_arrays ef; arrays_are = b.stands.arrays_are; out_is = b.stands.out_is })
-      (spares_all w ready n c) (λ g l. refl) (omega (arith, b.used)) (omega (arith, b.used))
+      (spares_all w n c) (λ g l. refl) (omega (arith, b.used)) (omega (arith, b.used))
 
   -- ---- items
 
-  item_runs : (x : TItem) (pc p k n q : ℕ) (a : Mask) (s : State) (c : Conf) → ItemFits w n x → AreAt w.routine.code pc (item_code w.layout x pc p k n) → AreAt w.code.places p (item_places w.layout x) → Enters w pc k n a s c q → DoneRuns w c (pc + length (item_code w.layout x pc p k n)) n q (item (gang_of w) w.frame w.calls x a s)
+  item_runs : (x : TItem) (pc p k n q : ℕ) (a : Mask) (s : State) (c : Conf) → ItemFits w n x → AreAt w.routine.code pc (item_code w.layout x pc p k n) → AreAt w.code.places p (item_places w.layout x) → Enters w pc k n a s c q → DoneRuns w c (pc + length (item_code w.layout x pc p k n)) n q (item (gang_of w) w.frame (calls_of w) x a s)
   item_runs (t_plain v t sp) pc p k n q a s c fit has places b = zero_runs t.rate t.elem v pc k n q a s c fit has b
   item_runs (t_with_value v t x sp) pc p k n q a s c fit has places b =
       let fx : heads x ≤ 1 = few w x n fit.2 in
-      variable_runs w ready t.rate t.elem v x pc p k n q a (tick s) c fit.0 fit.1 fit.2 has places (enters_part w ready pc k n (heads x + (2 + q)) q a s c (omega arith) b)
-  item_runs (t_with_size y sp) pc p k n q a s c fit has places b = cleared_runs y.ty.rate y pc k n q a s c fit.is has.0 b
+      variable_runs w ready t.rate t.elem v x pc p k n (32 + q) q a (tick s) c fit.0 fit.1 fit.2 has places (omega arith) (enters_part w ready pc k n (32 + q) q a s c (omega arith) b)
+  item_runs (t_with_size y sp) pc p k n q a s c fit has places b = cleared_runs y.ty.rate y pc k n q a s c (ready.arrays y fit).is has.0 b
 
-  pub items_run : (xs : List TItem) (pc p k n q : ℕ) (a : Mask) (s : State) (c : Conf) → ItemsFit w n xs → AreAt w.routine.code pc (items_code w.layout xs pc p k n) → AreAt w.code.places p (items_places w.layout xs) → Enters w pc k n a s c q → DoneRuns w c (pc + length (items_code w.layout xs pc p k n)) n q (items (gang_of w) w.frame w.calls xs a s)
+  pub items_run : (xs : List TItem) (pc p k n q : ℕ) (a : Mask) (s : State) (c : Conf) → ItemsFit w n xs → AreAt w.routine.code pc (items_code w.layout xs pc p k n) → AreAt w.code.places p (items_places w.layout xs) → Enters w pc k n a s c q → DoneRuns w c (pc + length (items_code w.layout xs pc p k n)) n q (items (gang_of w) w.frame (calls_of w) xs a s)
   items_run [] pc p k n q a s c fit has places b = record {
     conf = c;
     steps = 0;
     comes = comes_none w c;
     at = at_to w c pc _ b.at (omega arith);
     stands = b.stands;
-    spares = spares_all w ready n c;
+    spares = spares_all w n c;
     masks = λ r lt. refl;
     bound = omega (arith, b.used);
   }
@@ -115,9 +114,9 @@ module _ (w : Setting) (ready : IsSettled w) where
       let p1 = p + length (item_places w.layout x) in
       let rest = items_code w.layout xs pc1 p1 k n in
       let to : pc1 + length rest ≡ pc + length (cx ++ rest) = omega (arith, length-append cx rest) in
-      done_on w ready c pc1 n q (item (gang_of w) w.frame w.calls x a s) (λ d s1. items (gang_of w) w.frame w.calls xs a s1) (pc + length (cx ++ rest)) n
+      done_on w ready c pc1 n q (item (gang_of w) w.frame (calls_of w) x a s) (λ d s1. items (gang_of w) w.frame (calls_of w) xs a s1) (pc + length (cx ++ rest)) n
       (item_runs x pc p k n q a s c fit.0 (are_front w.routine.code pc cx rest has) (are_front w.code.places p (item_places w.layout x) _ places) b)
       (λ s1 ok.
       done_after w ready c ok.conf ok.steps (pc + length (cx ++ rest)) n q _ ok.comes ok.spares ok.masks
-      (subst (λ g. DoneRuns w ok.conf g n (ok.steps + q) (items (gang_of w) w.frame w.calls xs a s1)) to
+      (subst (λ g. DoneRuns w ok.conf g n (ok.steps + q) (items (gang_of w) w.frame (calls_of w) xs a s1)) to
       (items_run xs pc1 p1 k n (ok.steps + q) a s1 ok.conf fit.1 (are_back w.routine.code pc cx rest has) (are_back w.code.places p (item_places w.layout x) _ places) (record { at = ok.at; mask = ok.masks k b.low ∙ b.mask; some = b.some; inside = b.inside; stands = ok.stands; used = ok.bound; low = b.low }))))

@@ -53,7 +53,7 @@ module _ (w : Setting) (ready : IsSettled w) where
   pub copy_ok : (c : Conf) (pc k n q : ℕ) (a : Mask) (m : Payload) (s : State) (r : Rate) (t : Elem) (x : ℕ) → (ok : Ok w c pc n (1 + q) (Holds r a x m) s) → ok.conf.masks k ≡ a → slice_get w.routine.code pc ≡ Some (copy r (w.layout.spare r t n) x k) → Ok w c (pc + 1) n q (Holds r a (w.layout.spare r t n) m) s
   copy_ok c pc k n q a m s r t x ok em has =
       let c2 = ok.conf in
-      write_runs w ready c c2 ok.steps pc _ n q a s (copy r (w.layout.spare r t n) x k) r t None Divide no_place m (held_at r c2.scalars c2.vectors a x) ok.comes ok.at refl has ok.stands ok.keeps ok.masks (omega (arith, ok.bound)) ok.holds (filled_held r a c2.scalars c2.vectors x)
+      write_runs w ready c c2 ok.steps pc _ n q a s (copy r (w.layout.spare r t n) x k) r t None Divide no_place m (held_at r c2.scalars c2.vectors a x) ok.comes ok.at refl has ok.stands ok.spares ok.masks (omega (arith, ok.bound)) ok.holds (filled_held r a c2.scalars c2.vectors x)
       (copy_line w.code w.routine c2 r (w.layout.spare r t n) x k ∙ ap (λ u. Go (set_at r c2 (w.layout.spare r t n) (held_at r c2.scalars c2.vectors u x))) em)
 
   -- a value moves to slot n

@@ -1,6 +1,7 @@
 pub mod Views
-pub mod Following
-pub mod Sequels
+pub mod Growing
+pub mod Landing
+pub mod Stayed
 pub mod Staying
 pub mod Homes
 pub mod Splits
@@ -8,6 +9,7 @@ pub mod Base
 pub mod Rates
 pub mod Lines
 pub mod Combine
+pub mod Kept
 pub mod Values
 pub mod Found
 pub mod Access
@@ -27,7 +29,6 @@ pub mod Updates
 pub mod Items
 pub mod Fitting
 pub mod Rows
-pub mod Presences
 pub mod Held
 pub mod Numbers
 pub mod SoundLines
@@ -36,5 +37,4 @@ pub mod SoundParts
 pub mod SoundExprs
 pub mod SoundSimples
 pub mod Counts
-pub mod Reserving
 pub mod Lookup

@@ -21,10 +21,10 @@ use Rattle.isp_meaning.specs.Payloads.{Payload, One, Each, nothing, is_true, is_
 use Rattle.isp_meaning.specs.Outcomes.{Val, Gives, bind, if_so, value_unless_empty}
 use Rattle.isp_meaning.specs.Expressions.{needs, settled}
 use Rattle.isp_lower.specs.Layout.{register, mask_register}
-use Rattle.isp_lower.specs.Setting.{Setting, IsSettled, gang_of, AreAt, Low, at_rate, Holds}
+use Rattle.isp_lower.specs.Setting.{Setting, IsSettled, gang_of, AreAt, at_rate, Holds}
 use Rattle.isp_lower.specs.Runs.{Enters, Ok, Runs}
 use Rattle.isp_lower.specs.Code.{copy, move_code, needing, decided, jump_on, jump_off, logic_code}
-use Rattle.isp_lower.proofs.Base.{low_spare, are_front, are_back, put_same, put_other, keeps_all, comes_none, comes_on, at_to}
+use Rattle.isp_lower.proofs.Base.{are_front, are_back, put_same, put_other, comes_none, comes_on, at_to, spares_all}
 use Rattle.isp_lower.proofs.Rates.{at_kept, one_holds}
 use Rattle.isp_lower.proofs.Lines.{set_at, copy_line}
 use Rattle.isp_lower.proofs.Combine.{runs_after, bind_runs, runs_on, ok_to, ok_down, write_any}
@@ -51,11 +51,11 @@ module _ (w : Setting) (ready : IsSettled w) where
   jumps_is c Or d = sym (not_not (is_true (c.scalars d)))
 
   -- one value decides for all
-  pub logic_one : (g : Logic) (c : Conf) (pc k n q : ℕ) (a : Mask) (va : Val Payload) (vb : Mask → State → Val Payload) (x y : ℕ) (ca : List Instr) (cb : ℕ → ℕ → List Instr) → c.masks k ≡ a → k < n → any (gang_of w) a ≡ true → ((p : ℕ) → a p ≡ true → p < gang_of w) → AreAt w.routine.code pc (logic_code Uniform g (w.layout.spare Uniform Truth n) x y pc k n ca cb) → Runs w c (pc + length ca) n (1 + (4 + q)) (Holds Uniform a x) va → ((s : State) (c1 : Conf) (pc1 z : ℕ) → AreAt w.routine.code pc1 (cb pc1 k) → Enters w pc1 k (n + 1) a s c1 (3 + z) → Runs w c1 (pc1 + length (cb pc1 k)) (n + 1) (1 + z) (Holds Uniform a y) (vb a s)) → Runs w c (pc + length (logic_code Uniform g (w.layout.spare Uniform Truth n) x y pc k n ca cb)) n q (Holds Uniform a (w.layout.spare Uniform Truth n)) (bind va (λ m s1. bind (value_unless_empty (gang_of w) (kept_by (needs g) a m) s1 vb) (λ z s2. Gives (settled g a m z) s2)))
+  pub logic_one : (g : Logic) (c : Conf) (pc k n q : ℕ) (a : Mask) (va : Val Payload) (vb : Mask → State → Val Payload) (x y : ℕ) (ca : List Instr) (cb : ℕ → ℕ → List Instr) → c.masks k ≡ a → k < n → any (gang_of w) a ≡ true → ((p : ℕ) → a p ≡ true → p < gang_of w) → AreAt w.routine.code pc (logic_code Uniform g (w.layout.spare Uniform Truth n) x y pc k n ca cb) → Runs w c (pc + length ca) n (1 + (1 + q)) (Holds Uniform a x) va → ((s : State) (c1 : Conf) (pc1 z : ℕ) → AreAt w.routine.code pc1 (cb pc1 k) → Enters w pc1 k (n + 1) a s c1 z → Runs w c1 (pc1 + length (cb pc1 k)) (n + 1) (1 + z) (Holds Uniform a y) (vb a s)) → Runs w c (pc + length (logic_code Uniform g (w.layout.spare Uniform Truth n) x y pc k n ca cb)) n q (Holds Uniform a (w.layout.spare Uniform Truth n)) (bind va (λ m s1. bind (value_unless_empty (gang_of w) (kept_by (needs g) a m) s1 vb) (λ z s2. Gives (settled g a m z) s2)))
   logic_one g c pc k n q a va vb x y ca cb em lk some inside has ra rb =
-      bind_runs w ready c p1 n 4 q (Holds Uniform a d) va _ _ n _
-      (runs_on w ready c (pc + length ca) n 1 (4 + q) (Holds Uniform a x) va p1 n (Holds Uniform a d) ra
-      (λ m s ok. ok_to w ready c _ p1 n (4 + q) _ s here (move_ok w ready c (pc + length ca) k n (4 + q) a m s Uniform Truth x ok (ok.masks k lk ∙ em) (are_back w.routine.code pc ca mv (are_front w.routine.code pc (ca ++ mv) _ has)))))
+      bind_runs w ready c p1 n 1 q (Holds Uniform a d) va _ _ n _
+      (runs_on w ready c (pc + length ca) n 1 (1 + q) (Holds Uniform a x) va p1 n (Holds Uniform a d) ra
+      (λ m s ok. ok_to w ready c _ p1 n (1 + q) _ s here (move_ok w ready c (pc + length ca) k n (1 + q) a m s Uniform Truth x ok (ok.masks k lk ∙ em) (are_back w.routine.code pc ca mv (are_front w.routine.code pc (ca ++ mv) _ has)))))
       (λ m s ok. subst (λ m. Runs w c end n q (Holds Uniform a d) (bind (value_unless_empty (gang_of w) (kept_by (needs g) a m) s vb) (λ z s2. Gives (settled g a m z) s2))) (sym ok.holds) (rest m s ok))
     where
       d : ℕ
@@ -73,8 +73,8 @@ module _ (w : Setting) (ready : IsSettled w) where
       here : pc + length ca + length (move_code Uniform (w.layout.spare Uniform Truth n) x k) ≡ pc + length (ca ++ move_code Uniform (w.layout.spare Uniform Truth n) x k)
       here = omega (arith, length-append ca (move_code Uniform (w.layout.spare Uniform Truth n) x k))
 
-      rest : (m : Payload) (s : State) (ok : Ok w c (pc + length (ca ++ move_code Uniform (w.layout.spare Uniform Truth n) x k)) n (4 + q) (Holds Uniform a (w.layout.spare Uniform Truth n) m) s) → Runs w c (pc + length (logic_code Uniform g (w.layout.spare Uniform Truth n) x y pc k n ca cb)) n q (Holds Uniform a (w.layout.spare Uniform Truth n)) (bind (value_unless_empty (gang_of w) (kept_by (needs g) a (One (ok.conf.scalars (w.layout.spare Uniform Truth n)))) s vb) (λ z s2. Gives (settled g a (One (ok.conf.scalars (w.layout.spare Uniform Truth n))) z) s2))
-      rest m s ok = runs_after w ready c c4 (ok.steps + 1) end n q _ _ (comes_on w c c1 c4 ok.steps 1 ok.comes (jump_comes w ready c1 p1 (decided g) (register Uniform d) to ok.at at1.0)) ok.keeps ok.masks (go (needs g (c1.scalars d)) refl)
+      rest : (m : Payload) (s : State) (ok : Ok w c (pc + length (ca ++ move_code Uniform (w.layout.spare Uniform Truth n) x k)) n (1 + q) (Holds Uniform a (w.layout.spare Uniform Truth n) m) s) → Runs w c (pc + length (logic_code Uniform g (w.layout.spare Uniform Truth n) x y pc k n ca cb)) n q (Holds Uniform a (w.layout.spare Uniform Truth n)) (bind (value_unless_empty (gang_of w) (kept_by (needs g) a (One (ok.conf.scalars (w.layout.spare Uniform Truth n)))) s vb) (λ z s2. Gives (settled g a (One (ok.conf.scalars (w.layout.spare Uniform Truth n))) z) s2))
+      rest m s ok = runs_after w ready c c4 (ok.steps + 1) end n q _ _ (comes_on w c c1 c4 ok.steps 1 ok.comes (jump_comes w ready c1 p1 (decided g) (register Uniform d) to ok.at at1.0)) ok.spares ok.masks (go (needs g (c1.scalars d)) refl)
         where
           c1 : Conf
           c1 = ok.conf
@@ -108,7 +108,7 @@ module _ (w : Setting) (ready : IsSettled w) where
               (λ z s2 ok2. ok_to w ready c4 (pcy + 1) end n q1 _ s2 ends (copy_ok w ready c4 pcy k n q1 a z s2 Uniform Truth y (ok_down w ready c4 pcy n (n + 1) (1 + q1) _ s2 (omega arith) ok2) (ok2.masks k (omega arith) ∙ ok.masks k lk ∙ em) (are_back w.routine.code (p1 + 1) (cb (p1 + 1) k) last at1.1).0)))
           go false e =
               subst (λ v. Runs w c4 end n q1 (Holds Uniform a d) (bind v (λ z s2. Gives (One (c1.scalars d)) s2))) (sym (unless_none (gang_of w) nobody s vb (any_nobody (gang_of w))))
-              (record { conf = c4; steps = 0; comes = comes_none w c4; at = at_to w c4 to end (jump_at w ready c1 p1 (decided g) (register Uniform d) to true ok.at (jumps_is c1 g d ∙ ap not e)) (omega (arith, ends, length-append (cb (p1 + 1) k) last)); stands = ok.stands; keeps = keeps_all w n c4; masks = λ i h. refl; holds = refl; bound = omega (arith, ok.bound) })
+              (record { conf = c4; steps = 0; comes = comes_none w c4; at = at_to w c4 to end (jump_at w ready c1 p1 (decided g) (register Uniform d) to true ok.at (jumps_is c1 g d ∙ ap not e)) (omega (arith, ends, length-append (cb (p1 + 1) k) last)); stands = ok.stands; spares = spares_all w n c4; masks = λ i h. refl; holds = refl; bound = omega (arith, ok.bound) })
 
 -- ---- in lanes
 
@@ -196,7 +196,7 @@ module _ (w : Setting) (ready : IsSettled w) where
         comes = comes_on w c c2 c3 ok.steps 1 ok.comes (where_comes w ready c2 pc n d k ok.at has.0);
         at = masked_at w ready c2 pc n x3 ok.at;
         stands = ok.stands;
-        keeps = ok.keeps;
+        spares = ok.spares;
         masks = λ r h. let ne : r ≢ n = omega arith in put_other c2.masks n x3 r ne ∙ ok.masks r h;
         holds = (ok.holds, put_same c2.masks n x3 ∙ ap (λ b. where_true is_true (on b (c2.vectors d))) (ok.masks k lk ∙ em));
         bound = omega (arith, ok.bound);
@@ -218,7 +218,7 @@ module _ (w : Setting) (ready : IsSettled w) where
         comes = comes_on w c c2 c4 ok.steps 2 ok.comes (comes_on w c2 c3 c4 1 1 (where_comes w ready c2 pc n d k ok.at has.0) (others_comes w ready c3 (pc + 1) n k n (masked_at w ready c2 pc n x3 ok.at) has.1.0));
         at = at_to w c4 (pc + 1 + 1) _ (masked_at w ready c3 (pc + 1) n x4 (masked_at w ready c2 pc n x3 ok.at)) (omega arith);
         stands = ok.stands;
-        keeps = ok.keeps;
+        spares = ok.spares;
         masks = λ r h. let ne : r ≢ n = omega arith in put_other c3.masks n x4 r ne ∙ put_other c2.masks n x3 r ne ∙ ok.masks r h;
         holds = (ok.holds, put_same c3.masks n x4 ∙ e4);
         bound = omega (arith, ok.bound);
@@ -233,18 +233,18 @@ module _ (w : Setting) (ready : IsSettled w) where
       let T = where_true (needs g) (on a v) in
       let hz : spread T z ≡ on T u = ap (spread nobody) ok.holds in
       let e5 : on a (over (on T u) (c2.vectors d)) ≡ layer (on T u) (on a v) = ap (λ z. on a (over (on T u) z)) hv ∙ layer_over a (needs g) u v in
-      write_any w ready c c2 ok.steps pc (pc + 1) n q a s (copy Varying d y n) Varying Truth None Divide no_place (settled g a m z) (Each (on T u)) ok.comes ok.at refl has ok.stands ok.keeps ok.masks (omega (arith, ok.bound))
+      write_any w ready c c2 ok.steps pc (pc + 1) n q a s (copy Varying d y n) Varying Truth None Divide no_place (settled g a m z) (Each (on T u)) ok.comes ok.at refl has ok.stands ok.spares ok.masks (omega (arith, ok.bound))
       (λ none. settled_at g a m z u v hm hz ∙ sym (ap (λ z. Each (on a z)) (put_same c2.vectors d (over (on T u) (c2.vectors d))) ∙ ap Each e5))
       (copy_line w.code w.routine c2 Varying d y n ∙ ap (λ b. Go (set_at Varying c2 d (Each (on b u)))) em)
 
   -- in each lane its own value decides
-  pub logic_each : (g : Logic) (c : Conf) (pc k n q : ℕ) (a : Mask) (va : Val Payload) (vb : Mask → State → Val Payload) (x y : ℕ) (ca : List Instr) (cb : ℕ → ℕ → List Instr) → c.masks k ≡ a → k < n → any (gang_of w) a ≡ true → ((p : ℕ) → a p ≡ true → p < gang_of w) → AreAt w.routine.code pc (logic_code Varying g (w.layout.spare Varying Truth n) x y pc k n ca cb) → Runs w c (pc + length ca) n (1 + (2 + (4 + q))) (Holds Varying a x) va → ((T : Mask) (s : State) (c1 : Conf) (pc1 z : ℕ) → AreAt w.routine.code pc1 (cb pc1 n) → Enters w pc1 n (n + 1) T s c1 (3 + z) → Runs w c1 (pc1 + length (cb pc1 n)) (n + 1) (1 + z) (Holds Varying T y) (vb T s)) → Runs w c (pc + length (logic_code Varying g (w.layout.spare Varying Truth n) x y pc k n ca cb)) n q (Holds Varying a (w.layout.spare Varying Truth n)) (bind va (λ m s1. bind (value_unless_empty (gang_of w) (kept_by (needs g) a m) s1 vb) (λ z s2. Gives (settled g a m z) s2)))
+  pub logic_each : (g : Logic) (c : Conf) (pc k n q : ℕ) (a : Mask) (va : Val Payload) (vb : Mask → State → Val Payload) (x y : ℕ) (ca : List Instr) (cb : ℕ → ℕ → List Instr) → c.masks k ≡ a → k < n → any (gang_of w) a ≡ true → ((p : ℕ) → a p ≡ true → p < gang_of w) → AreAt w.routine.code pc (logic_code Varying g (w.layout.spare Varying Truth n) x y pc k n ca cb) → Runs w c (pc + length ca) n (1 + (2 + (1 + q))) (Holds Varying a x) va → ((T : Mask) (s : State) (c1 : Conf) (pc1 z : ℕ) → AreAt w.routine.code pc1 (cb pc1 n) → Enters w pc1 n (n + 1) T s c1 z → Runs w c1 (pc1 + length (cb pc1 n)) (n + 1) (1 + z) (Holds Varying T y) (vb T s)) → Runs w c (pc + length (logic_code Varying g (w.layout.spare Varying Truth n) x y pc k n ca cb)) n q (Holds Varying a (w.layout.spare Varying Truth n)) (bind va (λ m s1. bind (value_unless_empty (gang_of w) (kept_by (needs g) a m) s1 vb) (λ z s2. Gives (settled g a m z) s2)))
   logic_each g c pc k n q a va vb x y ca cb em lk some inside has ra rb =
-      bind_runs w ready c p1 n 4 q (Decided g n a) va _ _ n _
-      (runs_on w ready c (pc + length ca + length mv) n 2 (4 + q) (Holds Varying a d) va p1 n (Decided g n a)
-      (runs_on w ready c (pc + length ca) n 1 (2 + (4 + q)) (Holds Varying a x) va (pc + length ca + length mv) n (Holds Varying a d) ra
-      (λ m s ok. move_ok w ready c (pc + length ca) k n (2 + (4 + q)) a m s Varying Truth x ok (ok.masks k lk ∙ em) (are_front w.routine.code (pc + length ca) mv nd (are_back w.routine.code pc ca (mv ++ nd) (are_front w.routine.code pc (ca ++ (mv ++ nd)) _ has)))))
-      (λ m s ok. ok_to w ready c _ p1 n (4 + q) _ s here (needing_ok g c (pc + length ca + length mv) k n (4 + q) a m s lk em (are_back w.routine.code (pc + length ca) mv nd (are_back w.routine.code pc ca (mv ++ nd) (are_front w.routine.code pc (ca ++ (mv ++ nd)) _ has))) ok)))
+      bind_runs w ready c p1 n 1 q (Decided g n a) va _ _ n _
+      (runs_on w ready c (pc + length ca + length mv) n 2 (1 + q) (Holds Varying a d) va p1 n (Decided g n a)
+      (runs_on w ready c (pc + length ca) n 1 (2 + (1 + q)) (Holds Varying a x) va (pc + length ca + length mv) n (Holds Varying a d) ra
+      (λ m s ok. move_ok w ready c (pc + length ca) k n (2 + (1 + q)) a m s Varying Truth x ok (ok.masks k lk ∙ em) (are_front w.routine.code (pc + length ca) mv nd (are_back w.routine.code pc ca (mv ++ nd) (are_front w.routine.code pc (ca ++ (mv ++ nd)) _ has)))))
+      (λ m s ok. ok_to w ready c _ p1 n (1 + q) _ s here (needing_ok g c (pc + length ca + length mv) k n (1 + q) a m s lk em (are_back w.routine.code (pc + length ca) mv nd (are_back w.routine.code pc ca (mv ++ nd) (are_front w.routine.code pc (ca ++ (mv ++ nd)) _ has))) ok)))
       rest
     where
       d : ℕ
@@ -265,10 +265,10 @@ module _ (w : Setting) (ready : IsSettled w) where
       here : pc + length ca + length mv + length nd ≡ p1
       here = omega (arith, length-append ca (mv ++ nd), length-append mv nd)
 
-      rest : (m : Payload) (s : State) (ok : Ok w c p1 n (4 + q) (Decided g n a m) s) → Runs w c end n q (Holds Varying a d) (bind (value_unless_empty (gang_of w) (kept_by (needs g) a m) s vb) (λ z s2. Gives (settled g a m z) s2))
+      rest : (m : Payload) (s : State) (ok : Ok w c p1 n (1 + q) (Decided g n a m) s) → Runs w c end n q (Holds Varying a d) (bind (value_unless_empty (gang_of w) (kept_by (needs g) a m) s vb) (λ z s2. Gives (settled g a m z) s2))
       rest m s ok =
           subst (λ b. Runs w c end n q (Holds Varying a d) (bind (value_unless_empty (gang_of w) b s vb) (λ z s2. Gives (settled g a m z) s2))) (sym (at_kept Varying a (needs g) m ∙ ap (kept_by (needs g) a) ok.holds.0))
-          (runs_after w ready c c4 (ok.steps + 1) end n q _ _ (comes_on w c c1 c4 ok.steps 1 ok.comes (jump_comes w ready c1 p1 jump.Off (mask_register n) to ok.at at1.0)) ok.keeps ok.masks (go (any (gang_of w) T) refl))
+          (runs_after w ready c c4 (ok.steps + 1) end n q _ _ (comes_on w c c1 c4 ok.steps 1 ok.comes (jump_comes w ready c1 p1 jump.Off (mask_register n) to ok.at at1.0)) ok.spares ok.masks (go (any (gang_of w) T) refl))
         where
           c1 : Conf
           c1 = ok.conf
@@ -305,13 +305,12 @@ module _ (w : Setting) (ready : IsSettled w) where
 
           go : (b : Bool) → any (gang_of w) T ≡ b → Runs w c4 end n q1 (Holds Varying a d) (bind (value_unless_empty (gang_of w) T s vb) (λ z s2. Gives (settled g a m z) s2))
           go true e =
-              let kept : Low w.layout Varying (n + 1) d = low_spare w.layout Varying Truth (n + 1) n ready.apart (omega arith) in
               subst (λ u. Runs w c4 end n q1 (Holds Varying a d) (bind u (λ z s2. Gives (settled g a m z) s2))) (sym (unless_some (gang_of w) T s vb e))
               (bind_runs w ready c4 pcy (n + 1) 1 q1 (Holds Varying T y) (vb T s) (λ z s2. Gives (settled g a m z) s2) end n (Holds Varying a d)
               (rb T s c4 (p1 + 1) q1 (are_front w.routine.code (p1 + 1) (cb (p1 + 1) n) last at1.1) (record { at = jump_at w ready c1 p1 jump.Off (mask_register n) to false ok.at (off_is true e); mask = ok.holds.1; some = e; inside = where_inside (gang_of w) a (needs g) v inside; stands = ok.stands; used = omega (arith, ok.bound); low = omega arith }))
-              (λ z s2 ok2. ok_to w ready c4 (pcy + 1) end n q1 _ s2 ends (joined_ok g c4 pcy k n q1 a m z s2 v y (ok_down w ready c4 pcy n (n + 1) (1 + q1) _ s2 (omega arith) ok2) ok.holds.0 (ok2.keeps.vectors_stay d kept) (ok2.masks n (omega arith) ∙ ok.holds.1) (are_back w.routine.code (p1 + 1) (cb (p1 + 1) n) last at1.1).0)))
+              (λ z s2 ok2. ok_to w ready c4 (pcy + 1) end n q1 _ s2 ends (joined_ok g c4 pcy k n q1 a m z s2 v y (ok_down w ready c4 pcy n (n + 1) (1 + q1) _ s2 (omega arith) ok2) ok.holds.0 (ok2.spares.vectors_stay Truth n (omega arith)) (ok2.masks n (omega arith) ∙ ok.holds.1) (are_back w.routine.code (p1 + 1) (cb (p1 + 1) n) last at1.1).0)))
           go false e =
               let off : T ≡ nobody = is_nobody (gang_of w) T (where_inside (gang_of w) a (needs g) v inside) e in
               let hz : spread T nothing ≡ on T v = subst (λ t. spread t nothing ≡ on t v) (sym off) refl in
               subst (λ u. Runs w c4 end n q1 (Holds Varying a d) (bind u (λ z s2. Gives (settled g a m z) s2))) (sym (unless_none (gang_of w) T s vb e))
-              (record { conf = c4; steps = 0; comes = comes_none w c4; at = at_to w c4 to end (jump_at w ready c1 p1 jump.Off (mask_register n) to true ok.at (off_is false e)) (omega (arith, ends, length-append (cb (p1 + 1) n) last)); stands = ok.stands; keeps = keeps_all w n c4; masks = λ i h. refl; holds = settled_at g a m nothing v v ok.holds.0 hz ∙ ap (λ t. Each (layer (on t v) (on a v))) off; bound = omega (arith, ok.bound) })
+              (record { conf = c4; steps = 0; comes = comes_none w c4; at = at_to w c4 to end (jump_at w ready c1 p1 jump.Off (mask_register n) to true ok.at (off_is false e)) (omega (arith, ends, length-append (cb (p1 + 1) n) last)); stands = ok.stands; spares = spares_all w n c4; masks = λ i h. refl; holds = settled_at g a m nothing v v ok.holds.0 hz ∙ ap (λ t. Each (layer (on t v) (on a v))) off; bound = omega (arith, ok.bound) })

@@ -1,5 +1,5 @@
 -- Rows of registers, and a map that tells where the first row of each name stands.
-use Rattle.std.proofs.Common.{◌≡◌, ℕ, zero, suc, map, subst, ◌+◌, length, List, [], ◌∷◌, ◌++◌, Some, None, Bool, true, false, refl, sym, ap, ◌∙◌, arith, eqb-true}
+use Rattle.std.proofs.Common.{◌≡◌, ◌<◌, ℕ, zero, suc, map, subst, ◌+◌, length, List, [], ◌∷◌, ◌++◌, Some, None, Bool, true, false, refl, sym, ap, ◌∙◌, arith, eqb-true}
 use Rattle.std.specs.Prelude.{◌==◌, if◌then◌else◌, Option, IfSome, IfNone, is_some, slice_get, cond, nat_lt}
 use Rattle.std.specs.BTreeMap.{BTreeMap, get}
 use Rattle.std.specs.Ordering.{nat_cmp, is_eq}
@@ -156,3 +156,16 @@ module _ (rows new : List RegisterRow) (r : RegisterRow) (found : Option (ℕ ×
       go : (o : Option (ℕ × Elem)) → is_some o ≡ false → IfNone o (elem_in (map row_of rows) (name_of r.name) ≡ None) → elem_in (map row_of rows) (name_of r.name) ≡ None
       go None absent at = at
       go (Some x) absent at = absurd (cc)
+
+-- ---- a name that has a row has a number below the count of rows
+
+below : (rows : List Row) (x : Name) (t : Elem) → elem_in rows x ≡ Some t → number_in rows x < length rows
+below [] x t e = absurd (cc)
+below (z ∷ rows) x t e = go (name_number z.name == name_number x) (below rows x t) e
+  where
+    go : (b : Bool) → (elem_in rows x ≡ Some t → number_in rows x < length rows) → (if b then Some z.elem else elem_in rows x) ≡ Some t → (if b then 0 else 1 + number_in rows x) < length (z ∷ rows)
+    go true ih h = omega arith
+    go false ih h = let i = ih h in omega (arith, i)
+
+pub number_below : (rows : List RegisterRow) (x : Name) (t : Elem) → elem_in (map row_of rows) x ≡ Some t → number_in (map row_of rows) x < length rows
+number_below rows x t e = omega (arith, below (map row_of rows) x t e, length-map rows row_of)

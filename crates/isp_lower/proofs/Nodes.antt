@@ -15,15 +15,17 @@ use Rattle.isp_meaning.specs.State.{State, tick}
 use Rattle.isp_meaning.specs.Payloads.{Payload, mapped, joined}
 use Rattle.isp_meaning.specs.Outcomes.{Val, Gives, bind, checked}
 use Rattle.isp_typed.specs.Typed.{TExpr, type_of}
-use Rattle.isp_lower.specs.Setting.{Setting, IsSettled, AreAt, Low, at_rate, held_at, Holds}
+use Rattle.isp_lower.specs.Setting.{Setting, IsSettled, AreAt, at_rate, held_at, Holds}
 use Rattle.isp_lower.specs.Runs.{Enters, Ok, Runs}
 use Rattle.isp_lower.specs.Fits.{OperandFits}
 use Rattle.isp_lower.specs.Code.{found, operand, operand_of, lift_code, pair_code}
-use Rattle.isp_lower.proofs.Base.{are_back, keeps_all, keeps_less, comes_none, moved_by}
+use Rattle.isp_lower.proofs.Base.{are_back, comes_none, moved_by, spares_all, spares_less}
 use Rattle.isp_lower.proofs.Rates.{Filled, at_mapped, at_joined, filled_mapped, filled_joined}
 use Rattle.isp_lower.proofs.Lines.{set_at, value_at}
-use Rattle.isp_lower.proofs.Combine.{held_kept, lift_runs}
+use Rattle.isp_lower.proofs.Combine.{lift_runs}
 use Rattle.isp_lower.proofs.Targets.{Target, target, Leaves, leaves_after, bind_leaves, write_sure}
+use Rattle.isp_lower.proofs.Kept.{Low, runs_kept, held_kept}
+use Rattle.isp_meaning.specs.Loads.{no_variable, KeepsBy}
 
 module _ (w : Setting) (ready : IsSettled w) where
   pub enters_less : (pc k n z q : ℕ) (a : Mask) (s : State) (c : Conf) → z ≤ q → Enters w pc k n a s c q → Enters w pc k n a s c z
@@ -38,9 +40,9 @@ module _ (w : Setting) (ready : IsSettled w) where
   enters_later pc pc1 k n m z q q1 a s s1 c lt b ok le = record { at = ok.at; mask = ok.masks k b.low ∙ b.mask; some = b.some; inside = b.inside; stands = ok.stands; used = omega (arith, ok.bound); low = omega (arith, b.low) }
 
   -- one instruction that gives a value
-  pub leaf_runs : (g : Target) (pc k n q : ℕ) (a : Mask) (s : State) (c : Conf) (i : Instr) (r : Rate) (t : Elem) (x y : Payload) → Enters w pc k n a s c q → slice_get w.routine.code pc ≡ Some i → at_rate r a x ≡ y → Filled r a y → act w.code w.routine c i ≡ Go (set_at r c (target w.layout g r t n) y) → Leaves w g (target w.layout g r t n) c (pc + 1) n q r a (Gives x (tick s))
-  leaf_runs g pc k n q a s c i r t x y b has ex fill is =
-      write_sure w ready g c c 0 pc (pc + 1) n q a (tick s) i r t None Divide no_place x y (comes_none w c) b.at refl has b.stands (keeps_all w n c) (λ k lt. refl) (omega (arith, b.used)) ex fill is
+  pub leaf_runs : (g : Target) (pc k n q rest : ℕ) (a : Mask) (s : State) (c : Conf) (i : Instr) (r : Rate) (t : Elem) (x y : Payload) → rest ≤ 31 + q → Enters w pc k n a s c q → slice_get w.routine.code pc ≡ Some i → at_rate r a x ≡ y → Filled r a y → act w.code w.routine c i ≡ Go (set_at r c (target w.layout g r t n) y) → Leaves w g (target w.layout g r t n) c (pc + 1) n rest r a (Gives x (tick s))
+  leaf_runs g pc k n q rest a s c i r t x y le b has ex fill is =
+      write_sure w ready g c c 0 pc (pc + 1) n rest a (tick s) i r t None Divide no_place x y (comes_none w c) b.at refl has b.stands (spares_all w n c) (λ k lt. refl) (omega (arith, b.used)) ex fill is
 
   -- an operand, once its own code ran
   pub operand_runs : (c : Conf) (pc k n q : ℕ) (a : Mask) (v : Val Payload) (r : Rate) (t : Elem) (x : TExpr) (code : List Instr) → OperandFits w r t x n → c.masks k ≡ a → k < n → AreAt w.routine.code pc (operand_of w.layout r x k n code) → Runs w c (pc + length code) n (1 + q) (Holds (type_of x).rate a (found w.layout x n)) v → Runs w c (pc + length (operand_of w.layout r x k n code)) n q (Holds r a (operand w.layout r x n)) v
@@ -58,25 +60,25 @@ module _ (w : Setting) (ready : IsSettled w) where
       let c2 = ok.conf in
       let y = mapped f (held_at r c2.scalars c2.vectors a x) in
       let is : act w.code w.routine c2 i ≡ Go (set_at r c2 (target w.layout g r t n) y) = line c2 ∙ ap (λ b. Go (set_at r c2 (target w.layout g r t n) (mapped f (held_at r c2.scalars c2.vectors b x)))) (ok.masks k lt ∙ em) in
-      write_sure w ready g c c2 ok.steps (pc + length ca) _ n q a s i r t None Divide no_place (mapped f m) y ok.comes ok.at to (are_back w.routine.code pc ca (i ∷ []) has).0 ok.stands ok.keeps ok.masks (omega (arith, ok.bound)) (at_mapped r a f m ∙ ap (mapped f) ok.holds) (filled_mapped r a f c2.scalars c2.vectors x) is)
+      write_sure w ready g c c2 ok.steps (pc + length ca) _ n q a s i r t None Divide no_place (mapped f m) y ok.comes ok.at to (are_back w.routine.code pc ca (i ∷ []) has).0 ok.stands ok.spares ok.masks (omega (arith, ok.bound)) (at_mapped r a f m ∙ ap (mapped f) ok.holds) (filled_mapped r a f c2.scalars c2.vectors x) is)
 
   -- two operands and an instruction on them, which may trap by the second
-  pub pair_runs : (g : Target) (c : Conf) (pc k n d q : ℕ) (a : Mask) (va : Val Payload) (vb : Payload → State → Val Payload) (r : Rate) (t : Elem) (x y : ℕ) (ca : List Instr) (cb : ℕ → List Instr) (i : Instr) (f : ℕ → ℕ → ℕ) (o : Payload → Option ℕ) (kind : TrapKind) (sp : Span) → c.masks k ≡ a → k < n → Low w.layout r (n + 1) x → AreAt w.routine.code pc (pair_code pc ca cb i) → ((z : Payload) → o z ≡ o (at_rate r a z)) → ((c : Conf) → c.masks k ≡ a → act w.code w.routine c i ≡ moved_by (o (held_at r c.scalars c.vectors a y)) kind sp (set_at r c (target w.layout g r t n) (joined f a (held_at r c.scalars c.vectors a x) (held_at r c.scalars c.vectors a y)))) → Runs w c (pc + length ca) n (d + q) (Holds r a x) va → ((m : Payload) (s : State) (ok : Ok w c (pc + length ca) n (d + q) (Holds r a x m) s) → Runs w ok.conf (pc + length ca + length (cb (pc + length ca))) (n + 1) (1 + (ok.steps + q)) (Holds r a y) (vb m s)) → Leaves w g (target w.layout g r t n) c (pc + length (pair_code pc ca cb i)) n q r a (bind va (λ m s. bind (vb m s) (λ z s'. checked (o z) kind sp s' (joined f a m z))))
-  pair_runs g c pc k n d q a va vb r t x y ca cb i f o kind sp em lt low has ocong line ra rb =
+  pub pair_runs : (g : Target) (c : Conf) (pc k n q : ℕ) (a : Mask) (va : Val Payload) (vb : Payload → State → Val Payload) (r : Rate) (t : Elem) (x y : ℕ) (ca : List Instr) (cb : ℕ → List Instr) (i : Instr) (f : ℕ → ℕ → ℕ) (o : Payload → Option ℕ) (kind : TrapKind) (sp : Span) → c.masks k ≡ a → k < n → Low w.layout r (n + 1) x → AreAt w.routine.code pc (pair_code pc ca cb i) → ((z : Payload) → o z ≡ o (at_rate r a z)) → ((c : Conf) → c.masks k ≡ a → act w.code w.routine c i ≡ moved_by (o (held_at r c.scalars c.vectors a y)) kind sp (set_at r c (target w.layout g r t n) (joined f a (held_at r c.scalars c.vectors a x) (held_at r c.scalars c.vectors a y)))) → Runs w c (pc + length ca) n (1 + q) (Holds r a x) va → ((m : Payload) (s : State) (ok : Ok w c (pc + length ca) n (1 + q) (Holds r a x m) s) → Runs w ok.conf (pc + length ca + length (cb (pc + length ca))) (n + 1) (1 + (ok.steps + q)) (Holds r a y) (vb m s)) → ((m : Payload) (s : State) → KeepsBy no_variable s (vb m s)) → Leaves w g (target w.layout g r t n) c (pc + length (pair_code pc ca cb i)) n q r a (bind va (λ m s. bind (vb m s) (λ z s'. checked (o z) kind sp s' (joined f a m z))))
+  pair_runs g c pc k n q a va vb r t x y ca cb i f o kind sp em lt low has ocong line ra rb still =
       let b = cb (pc + length ca) in
       let to : pc + length ca + length b + 1 ≡ pc + length (ca ++ (b ++ i ∷ [])) = omega (arith, length-append ca (b ++ i ∷ []), length-append b (i ∷ [])) in
       let here = (are_back w.routine.code (pc + length ca) b (i ∷ []) (are_back w.routine.code pc ca (b ++ i ∷ []) has)).0 in
-      bind_leaves w ready g (target w.layout g r t n) c (pc + length ca) n d q _ va _ _ n r a ra
+      bind_leaves w ready g (target w.layout g r t n) c (pc + length ca) n 1 q _ va _ _ n r a ra
       (λ m s ok.
       let c1 = ok.conf in
-      leaves_after w ready g (target w.layout g r t n) c c1 ok.steps _ n q r a _ ok.comes ok.keeps ok.masks
-      (bind_leaves w ready g (target w.layout g r t n) c1 _ (n + 1) 1 (ok.steps + q) _ (vb m s) _ _ n r a (rb m s ok)
+      leaves_after w ready g (target w.layout g r t n) c c1 ok.steps _ n q r a _ ok.comes ok.spares ok.masks
+      (bind_leaves w ready g (target w.layout g r t n) c1 _ (n + 1) 1 (ok.steps + q) _ (vb m s) _ _ n r a (runs_kept w c1 _ (n + 1) (1 + (ok.steps + q)) (Holds r a y) (vb m s) s ok.stands (still m s) (rb m s ok))
       (λ z s' ok2.
       let c2 = ok2.conf in
       let u = held_at r c2.scalars c2.vectors a x in
       let v = held_at r c2.scalars c2.vectors a y in
       let e2 : c2.masks k ≡ a = ok2.masks k (omega arith) ∙ ok.masks k lt ∙ em in
-      let ex : at_rate r a m ≡ u = ok.holds ∙ sym (held_kept w ready r (n + 1) c1 c2 a x ok2.keeps low) in
-      let eo : o v ≡ o z = ap o (sym ok2.holds) ∙ sym (ocong z) in
+      let ex : at_rate r a m ≡ u = ok.holds ∙ sym (held_kept w r (n + 1) c1 c2 a x ok2.holds.1 low) in
+      let eo : o v ≡ o z = ap o (sym ok2.holds.0) ∙ sym (ocong z) in
       let is : act w.code w.routine c2 i ≡ moved_by (o z) kind sp (set_at r c2 (target w.layout g r t n) (joined f a u v)) = line c2 e2 ∙ ap (λ p. moved_by p kind sp (set_at r c2 (target w.layout g r t n) (joined f a u v))) eo in
-      write_sure w ready g c1 c2 ok2.steps _ _ n (ok.steps + q) a s' i r t (o z) kind sp (joined f a m z) (joined f a u v) ok2.comes ok2.at to here ok2.stands (keeps_less w n (n + 1) c1 c2 (omega arith) ok2.keeps) (λ j h. ok2.masks j (omega arith)) (omega (arith, ok2.bound)) (at_joined r a f m z ∙ ap (λ p. joined f a p (at_rate r a z)) ex ∙ ap (joined f a u) ok2.holds) (filled_joined r a f c2.scalars c2.vectors x y) is)))
+      write_sure w ready g c1 c2 ok2.steps _ _ n (ok.steps + q) a s' i r t (o z) kind sp (joined f a m z) (joined f a u v) ok2.comes ok2.at to here ok2.stands (spares_less w n (n + 1) c1 c2 (omega arith) ok2.spares) (λ j h. ok2.masks j (omega arith)) (omega (arith, ok2.bound)) (at_joined r a f m z ∙ ap (λ p. joined f a p (at_rate r a z)) ex ∙ ap (joined f a u) ok2.holds.0) (filled_joined r a f c2.scalars c2.vectors x y) is)))

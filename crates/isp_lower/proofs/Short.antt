@@ -17,7 +17,7 @@ use Rattle.isp_meaning.specs.Payloads.{Payload, One, Each, nothing, is_true, is_
 use Rattle.isp_meaning.specs.Outcomes.{Val, Gives, bind, value_unless_empty}
 use Rattle.isp_meaning.specs.Places.{variable}
 use Rattle.isp_meaning.specs.Expressions.{value}
-use Rattle.isp_lower.specs.Setting.{Setting, IsSettled, gang_of, AreAt, Stands, at_rate, held_at, Holds}
+use Rattle.isp_lower.specs.Setting.{Setting, IsSettled, gang_of, calls_of, AreAt, Stands, at_rate, held_at, Holds}
 use Rattle.isp_lower.specs.Runs.{Runs}
 use Rattle.isp_lower.specs.Code.{same_rate, stays, lifted, found, select}
 use Rattle.isp_lower.proofs.Base.{are_back}
@@ -55,7 +55,7 @@ module _ (w : Setting) where
   ticked : (s : State) → Later s (tick s)
   ticked s = record { stands = λ c st. st; work = omega arith }
 
-  pub stays_in_place : (x : TExpr) (n : ℕ) → stays w.layout x ≡ true → InPlace (type_of x).rate (found w.layout x n) (value (gang_of w) w.frame w.calls x)
+  pub stays_in_place : (x : TExpr) (n : ℕ) → stays w.layout x ≡ true → InPlace (type_of x).rate (found w.layout x n) (value (gang_of w) w.frame (calls_of w) x)
   stays_in_place (t_constant v sp) n e T s c st = absurd (cc)
   stays_in_place (t_program_index sp) n e T s c st = absurd (cc)
   stays_in_place (t_place (t_variable v t sp)) n e T s c st = (variable t.rate v T (tick s), tick s, refl, ticked s, held_there t.rate v T (tick s) c st)
@@ -63,7 +63,7 @@ module _ (w : Setting) where
   stays_in_place (t_convert u x) n e T s c st = absurd (cc)
   stays_in_place (t_cast x t sp) n e T s c st = go (same_rate t.rate (type_of x).rate) refl (λ h. stays_in_place x n h T (tick s) c st) e
     where
-      go : (d : Bool) → same_rate t.rate (type_of x).rate ≡ d → (stays w.layout x ≡ true → (m : Payload) × (s' : State) × (value (gang_of w) w.frame w.calls x T (tick s) ≡ Gives m s') × Later (tick s) s' × Holds (type_of x).rate T (found w.layout x n) m c) → (d && stays w.layout x) ≡ true → (m : Payload) × (s' : State) × (value (gang_of w) w.frame w.calls x T (tick s) ≡ Gives m s') × Later s s' × Holds t.rate T (lifted w.layout t.rate (type_of x).rate (type_of x).elem (found w.layout x n) n) m c
+      go : (d : Bool) → same_rate t.rate (type_of x).rate ≡ d → (stays w.layout x ≡ true → (m : Payload) × (s' : State) × (value (gang_of w) w.frame (calls_of w) x T (tick s) ≡ Gives m s') × Later (tick s) s' × Holds (type_of x).rate T (found w.layout x n) m c) → (d && stays w.layout x) ≡ true → (m : Payload) × (s' : State) × (value (gang_of w) w.frame (calls_of w) x T (tick s) ≡ Gives m s') × Later s s' × Holds t.rate T (lifted w.layout t.rate (type_of x).rate (type_of x).elem (found w.layout x n) n) m c
       go true ed ih h =
           let er : t.rate ≡ (type_of x).rate = same_rate-is t.rate (type_of x).rate ed in
           let in_x = ih h in
@@ -159,5 +159,5 @@ module _ (w : Setting) (ready : IsSettled w) where
       let h = chosen_is w r a b s c2 f x y va vb some inside ok.stands hx hy ok.holds in
       let le = h.3.work in
       subst (λ z. Leaves w g d c end n q r a z) (sym h.2)
-      (write_sure w ready g c c2 ok.steps (pc + length ct) end n q a h.1 i r t None Divide no_place h.0 (picked w r c2 a f x y) ok.comes ok.at to (are_back w.routine.code pc ct _ has).0 (h.3.stands c2 ok.stands) ok.keeps ok.masks (omega (arith, ok.bound, le)) h.4 (filled_picked w r c2 a f x y)
+      (write_sure w ready g c c2 ok.steps (pc + length ct) end n q a h.1 i r t None Divide no_place h.0 (picked w r c2 a f x y) ok.comes ok.at to (are_back w.routine.code pc ct _ has).0 (h.3.stands c2 ok.stands) ok.spares ok.masks (omega (arith, ok.bound, le)) h.4 (filled_picked w r c2 a f x y)
       (select_line w r c2 d f x y k ∙ ap (λ m. Go (set_at r c2 d (picked w r c2 m f x y))) (ok.masks k lk ∙ em))))

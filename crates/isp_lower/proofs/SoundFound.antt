@@ -8,13 +8,14 @@ use Rattle.isp_base.specs.declared.types.Rate.TheVariants.{Uniform, Varying}
 use Rattle.isp_code.specs.Listing.{Routine}
 use Rattle.isp_typed.specs.Typed.{TExpr, t_constant, t_program_index, t_place, t_convert, t_cast, t_unary, t_binary, t_compare, t_logic, t_choose, t_call, t_library, t_packed_store, t_packed_load, TPlace, t_variable, t_element, place_type, type_of}
 use Rattle.isp_lower.specs.Layout.{Layout}
-use Rattle.isp_lower.specs.Rows.{Spare}
 use Rattle.isp_lower.specs.Code.{same_rate, is_whole, lifted, part_to, place_found, found, operand, whole, index, stays, stays_at}
 use Rattle.isp_lower.specs.Fits.{Reaches}
 use Rattle.isp_lower.specs.Trees.{OperandTree, ExprTree}
-use Rattle.isp_lower.specs.Sound.{IsRegister, HasRegister, LiftPresent, ExprPresent}
+use Rattle.isp_lower.specs.Asks.{expr_asks, index_asks, lift_asks, operand_asks, whole_asks}
+use Rattle.isp_lower.specs.Sound.{IsRegister, Granted}
 use Rattle.isp_lower.proofs.Found.{whole_is}
 use Rattle.isp_lower.proofs.Short.{same_rate-is}
+use Rattle.isp_lower.proofs.Stayed.{stays_same}
 
 pub both_first : (a b : Bool) → (a && b) ≡ true → a ≡ true
 both_first true b e = refl
@@ -27,9 +28,9 @@ both_second false b e = absurd (cc)
 module _ (h : Routine) (l : Layout) where
   -- ---- a value of one rate where another is wanted
 
-  pub lift_there : (given r : Rate) (u t : Elem) (x n : ℕ) → Reaches given r → u ≡ t → LiftPresent h l given r t n → IsRegister h given x u → IsRegister h r (lifted l r given u x n) t
+  pub lift_there : (given r : Rate) (u t : Elem) (x n : ℕ) → Reaches given r → u ≡ t → Granted h l (lift_asks r given u n) → IsRegister h given x u → IsRegister h r (lifted l r given u x n) t
   lift_there Uniform Uniform u t x n is e f hx = (hx.0, hx.1 ∙ e)
-  lift_there Uniform Varying u t x n is e f hx = subst (λ v. IsRegister h Varying (l.spare Varying v n) t) (sym e) f
+  lift_there Uniform Varying u t x n is e f hx = (f.0, f.1 ∙ e)
   lift_there Varying Uniform u t x n is e f hx = absurd is
   lift_there Varying Varying u t x n is e f hx = (hx.0, hx.1 ∙ e)
 
@@ -42,70 +43,45 @@ module _ (h : Routine) (l : Layout) where
 
   -- ---- where values are found
 
-  pub place_there : (z : TPlace) (n : ℕ) → ExprPresent h l (t_place z) n → IsRegister h (place_type z).rate (place_found l z n) (place_type z).elem
+  pub place_there : (z : TPlace) (n : ℕ) → Granted h l (expr_asks (t_place z) n) → IsRegister h (place_type z).rate (place_found l z n) (place_type z).elem
   place_there (t_variable v t sp) n f = f.0
   place_there (t_element b i t sp) n f = f.1
 
-  pub found_there : (x : TExpr) (n : ℕ) → ExprTree x → ExprPresent h l x n → IsRegister h (type_of x).rate (found l x n) (type_of x).elem
+  pub found_there : (x : TExpr) (n : ℕ) → ExprTree x → Granted h l (expr_asks x n) → IsRegister h (type_of x).rate (found l x n) (type_of x).elem
   found_there (t_constant v sp) n is f = f
   found_there (t_program_index sp) n is f = f
   found_there (t_place z) n is f = place_there z n f
   found_there (t_convert e x) n is f = f.0
   found_there (t_cast x t sp) n is f =
       lift_there (type_of x).rate t.rate (type_of x).elem t.elem (found l x n) n is.0.reaches is.0.elem f.0 (found_there x n is.1 f.1)
-  found_there (t_unary o x t sp) n is f = f.1
-  found_there (t_binary o x y t sp) n is f = f.2
-  found_there (t_compare c x y r sp) n is f = f.2
-  found_there (t_logic g x y r sp) n is f = f.2
+  found_there (t_unary o x t sp) n is f = f.0
+  found_there (t_binary o x y t sp) n is f = f.0
+  found_there (t_compare c x y r sp) n is f = f.0
+  found_there (t_logic g x y r sp) n is f = f.0
   found_there (t_choose c x y t sp) n is f = f.0
   found_there (t_call c t) n is f = absurd is
   found_there (t_library g e xs t sp) n is f = absurd is
   found_there (t_packed_store b x sp) n is f = absurd is
   found_there (t_packed_load b v sp) n is f = absurd is
 
-  pub operand_there : (r : Rate) (t : Elem) (x : TExpr) (n : ℕ) → OperandTree r t x → ExprTree x → LiftPresent h l (type_of x).rate r t n → ExprPresent h l x n → IsRegister h r (operand l r x n) t
-  operand_there r t x n o is f g = lift_there (type_of x).rate r (type_of x).elem t (found l x n) n o.reaches o.elem f (found_there x n is g)
+  pub operand_there : (r : Rate) (t : Elem) (x : TExpr) (n : ℕ) → OperandTree r t x → ExprTree x → Granted h l (operand_asks r x n) → IsRegister h r (operand l r x n) t
+  operand_there r t x n o is f = lift_there (type_of x).rate r (type_of x).elem t (found l x n) n o.reaches o.elem f.0 (found_there x n is f.1)
 
   -- ---- an index, as int64
 
-  pub whole_there : (b : Bool) (i : TExpr) (n : ℕ) → is_whole (type_of i).elem ≡ b → ExprTree i → HasRegister h l (type_of i).rate (Spare I64 n) I64 → ExprPresent h l i n → IsRegister h (type_of i).rate (whole l b i n) I64
-  whole_there true i n e is f g = let hi = found_there i n is g in (hi.0, hi.1 ∙ whole_is (type_of i).elem e)
-  whole_there false i n e is f g = f
+  pub whole_there : (b : Bool) (i : TExpr) (n : ℕ) → is_whole (type_of i).elem ≡ b → ExprTree i → Granted h l (whole_asks i n (expr_asks i n)) → IsRegister h (type_of i).rate (whole l b i n) I64
+  whole_there true i n e is f = let hi = found_there i n is f.1 in (hi.0, hi.1 ∙ whole_is (type_of i).elem e)
+  whole_there false i n e is f = f.0
 
-  pub index_there : (r : Rate) (i : TExpr) (n : ℕ) → Reaches (type_of i).rate r → ExprTree i → HasRegister h l (type_of i).rate (Spare I64 n) I64 → ExprPresent h l i n → LiftPresent h l (type_of i).rate r I64 n → IsRegister h r (index l r i n) I64
-  index_there r i n re is f g m =
-      lift_there (type_of i).rate r I64 I64 (whole l (is_whole (type_of i).elem) i n) n re refl m (whole_there (is_whole (type_of i).elem) i n refl is f g)
+  pub index_there : (r : Rate) (i : TExpr) (n : ℕ) → Reaches (type_of i).rate r → ExprTree i → Granted h l (index_asks r i n (expr_asks i n)) → IsRegister h r (index l r i n) I64
+  index_there r i n re is f =
+      lift_there (type_of i).rate r I64 I64 (whole l (is_whole (type_of i).elem) i n) n re refl f.0 (whole_there (is_whole (type_of i).elem) i n refl is f.1)
 
   -- ---- a choice
 
-  -- a variable in place is in no slot
-  lifted_same : (r : Rate) (t : Elem) (f n : ℕ) → lifted l r r t f n ≡ f
-  lifted_same Uniform t f n = refl
-  lifted_same Varying t f n = refl
-
-  stays_found : (x : TExpr) (n m : ℕ) → stays l x ≡ true → found l x n ≡ found l x m
-  stays_found (t_constant v sp) n m e = absurd (cc)
-  stays_found (t_program_index sp) n m e = absurd (cc)
-  stays_found (t_place (t_variable v t sp)) n m e = refl
-  stays_found (t_place (t_element b i t sp)) n m e = absurd (cc)
-  stays_found (t_convert u x) n m e = absurd (cc)
-  stays_found (t_cast x t sp) n m e =
-      let same = same_rate-is t.rate (type_of x).rate (both_first (same_rate t.rate (type_of x).rate) (stays l x) e) in
-      let in_x = stays_found x n m (both_second (same_rate t.rate (type_of x).rate) (stays l x) e) in
-      subst (λ r. lifted l r (type_of x).rate (type_of x).elem (found l x n) n ≡ lifted l r (type_of x).rate (type_of x).elem (found l x m) m) (sym same) (lifted_same (type_of x).rate (type_of x).elem (found l x n) n ∙ in_x ∙ sym (lifted_same (type_of x).rate (type_of x).elem (found l x m) m))
-  stays_found (t_unary o x t sp) n m e = absurd (cc)
-  stays_found (t_binary o x y t sp) n m e = absurd (cc)
-  stays_found (t_compare c x y r sp) n m e = absurd (cc)
-  stays_found (t_logic g x y r sp) n m e = absurd (cc)
-  stays_found (t_choose c x y t sp) n m e = absurd (cc)
-  stays_found (t_call c t) n m e = absurd (cc)
-  stays_found (t_library f u xs t sp) n m e = absurd (cc)
-  stays_found (t_packed_store b x sp) n m e = absurd (cc)
-  stays_found (t_packed_load b v sp) n m e = absurd (cc)
-
   -- one that stays at a rate has that rate
-  pub stayed_there : (r : Rate) (t : Elem) (x : TExpr) (n m : ℕ) → stays_at l r x ≡ true → OperandTree r t x → ExprTree x → ExprPresent h l x m → IsRegister h r (found l x n) t
+  pub stayed_there : (r : Rate) (t : Elem) (x : TExpr) (n m : ℕ) → stays_at l r x ≡ true → OperandTree r t x → ExprTree x → Granted h l (expr_asks x m) → IsRegister h r (found l x n) t
   stayed_there r t x n m e o is f =
       let same = same_rate-is r (type_of x).rate (both_first (same_rate r (type_of x).rate) (stays l x) e) in
-      let there : IsRegister h (type_of x).rate (found l x n) (type_of x).elem = subst (λ y. IsRegister h (type_of x).rate y (type_of x).elem) (stays_found x m n (both_second (same_rate r (type_of x).rate) (stays l x) e)) (found_there x m is f) in
+      let there : IsRegister h (type_of x).rate (found l x n) (type_of x).elem = subst (λ y. IsRegister h (type_of x).rate y (type_of x).elem) (stays_same l x m n (both_second (same_rate r (type_of x).rate) (stays l x) e)) (found_there x m is f) in
       subst (λ u. IsRegister h r (found l x n) u) o.elem (subst (λ q. IsRegister h q (found l x n) (type_of x).elem) (sym same) there)

@@ -14,12 +14,11 @@ use Rattle.isp_meaning.specs.Payloads.{converted}
 use Rattle.isp_typed.specs.Typed.{TExpr, type_of}
 use Rattle.isp_typed.specs.declared.variable.Logic.{Logic}
 use Rattle.isp_lower.specs.Layout.{Layout}
-use Rattle.isp_lower.specs.Rows.{Spare}
 use Rattle.isp_lower.specs.Code.{convert, copy, select, jump_on, jump_off, decided, guard, choice, move_code, same_rate, is_whole, constant_of, needing, pair_code, logic_code, choose_rest, the_others, lift_code, lift_to, convert_to, found, operand, operand_of, whole, whole_of, index_of, choose_code, stays_at, is_short}
 use Rattle.isp_lower.specs.Fits.{Reaches}
-use Rattle.isp_lower.specs.Presence.{TestHas, SidesHave, first_slot, second_slot}
+use Rattle.isp_lower.specs.Asks.{expr_asks, first_slot, index_asks, lift_asks, operand_asks, second_slot, sides_ask, test_asks, whole_asks}
 use Rattle.isp_lower.specs.Trees.{OperandTree, ExprTree}
-use Rattle.isp_lower.specs.Sound.{IsSound, AreSound, IsRegister, HasMask, HasRegister, LiftPresent, ExprPresent}
+use Rattle.isp_lower.specs.Sound.{IsSound, AreSound, IsRegister, Granted}
 use Rattle.isp_lower.proofs.Found.{constant_is_one}
 use Rattle.isp_lower.proofs.Short.{same_rate-is}
 use Rattle.isp_lower.proofs.SoundFound.{both_first, both_second, lift_there, found_there, whole_there, stayed_there}
@@ -72,32 +71,32 @@ module _ (code : Listing) (h : Routine) where
       let e1 = length-append ca (instr.Jump (pb + length (b pb)) ∷ b pb) in
       (s pb (omega (arith, e1, lt)), sound_both code h ca (instr.Jump (pb + length (b pb)) ∷ b pb) (f (pc + 1) (omega (arith, e1, lt))) (jump_sound code h (pb + length (b pb)) (omega (arith, e1, lt)), g pb (omega (arith, e1, lt))))
 
-  -- `&&` and `||`
-  pub logic_sound : (r : Rate) (g : Logic) (d x y pc k n : ℕ) (a : List Instr) (b : ℕ → ℕ → List Instr) → IsRegister h r d Truth → IsRegister h r x Truth → IsRegister h r y Truth → k < h.masks → TestHas (HasMask h) r n → Here pc a → AnyMask b → Here pc (logic_code r g d x y pc k n a b)
-  logic_sound Uniform g d x y pc k n a b hd hx hy lk test f t =
-      let first = a ++ move_code Uniform d x k in
-      here_both pc first (guard (jump_on (decided g) d) (pc + length first) (λ pc2. b pc2 k ++ copy Uniform d y k ∷ []))
-      (here_both pc a (move_code Uniform d x k) f (λ lt. move_sound code h Uniform Truth d x k hd hx lk))
-      (guard_sound (jump_on (decided g) d) (λ pc2. b pc2 k ++ copy Uniform d y k ∷ []) (λ to lt. decided_sound code h g d to hd lt) (λ pc2. here_then pc2 (b pc2 k) (copy Uniform d y k) (t pc2 k lk) (copy_sound code h Uniform Truth d y k hd hy lk)) (pc + length first))
-  logic_sound Varying g d x y pc k n a b hd hx hy lk test f t =
-      let first = a ++ (move_code Varying d x k ++ needing g n d k) in
-      here_both pc first (guard (jump_off n) (pc + length first) (λ pc2. b pc2 n ++ copy Varying d y n ∷ []))
-      (here_both pc a (move_code Varying d x k ++ needing g n d k) f (λ lt. sound_both code h (move_code Varying d x k) (needing g n d k) (move_sound code h Varying Truth d x k hd hx lk) (needing_sound code h g n d k test hd lk)))
-      (guard_sound (jump_off n) (λ pc2. b pc2 n ++ copy Varying d y n ∷ []) (λ to lt. off_sound code h n to test lt) (λ pc2. here_then pc2 (b pc2 n) (copy Varying d y n) (t pc2 n test) (copy_sound code h Varying Truth d y n hd hy test)) (pc + length first))
-
-  -- the sides of a varying test
-  pub rest_sound : (t : Elem) (d c x y pc k n : ℕ) (a b : ℕ → ℕ → ℕ → List Instr) → IsRegister h Varying d t → IsRegister h Varying c Truth → IsRegister h Varying x t → IsRegister h Varying y t → k < h.masks → SidesHave (HasMask h) Varying n → AnyMask (λ pc m. a pc m (n + 1)) → AnyMask (λ pc m. b pc m (n + 2)) → Here pc (choose_rest d c x y pc k n a b)
-  rest_sound t d c x y pc k n a b hd hc hx hy lk masks f g lt =
-      let side = guard (jump_off n) (pc + 1) (λ pc1. a pc1 n (n + 1)) in
-      let p2 = pc + 1 + length side in
-      let other = guard (jump_off (n + 1)) (p2 + 1) (λ pc2. b pc2 (n + 1) (n + 2)) in
-      let last = the_others (n + 1) k n ∷ (other ++ select Varying d c x y k ∷ []) in
-      let e1 = length-append side last in
-      let e2 = length-append other (select Varying d c x y k ∷ []) in
-      (where_sound code h n c k masks.0 hc lk, sound_both code h side last (guard_sound (jump_off n) (λ pc1. a pc1 n (n + 1)) (λ to low. off_sound code h n to masks.0 low) (λ pc1. f pc1 n masks.0) (pc + 1) (omega (arith, e1, lt))) (others_sound code h (n + 1) k n masks.1 lk masks.0, here_then (p2 + 1) other (select Varying d c x y k) (guard_sound (jump_off (n + 1)) (λ pc2. b pc2 (n + 1) (n + 2)) (λ to low. off_sound code h (n + 1) to masks.1 low) (λ pc2. g pc2 (n + 1) masks.1) (p2 + 1)) (select_sound code h Varying t d c x y k hd hc hx hy lk) (omega (arith, e1, lt))))
-
   module _ (l : Layout) where
-    pub lift_sound : (given r : Rate) (u t : Elem) (x k n : ℕ) → Reaches given r → u ≡ t → LiftPresent h l given r t n → IsRegister h given x u → k < h.masks → AreSound code h (lift_code l r given u x k n)
+    -- `&&` and `||`
+    pub logic_sound : (r : Rate) (g : Logic) (d x y pc k n : ℕ) (a : List Instr) (b : ℕ → ℕ → List Instr) → IsRegister h r d Truth → IsRegister h r x Truth → IsRegister h r y Truth → k < h.masks → Granted h l (test_asks r n) → Here pc a → AnyMask b → Here pc (logic_code r g d x y pc k n a b)
+    logic_sound Uniform g d x y pc k n a b hd hx hy lk test f t =
+        let first = a ++ move_code Uniform d x k in
+        here_both pc first (guard (jump_on (decided g) d) (pc + length first) (λ pc2. b pc2 k ++ copy Uniform d y k ∷ []))
+        (here_both pc a (move_code Uniform d x k) f (λ lt. move_sound code h Uniform Truth d x k hd hx lk))
+        (guard_sound (jump_on (decided g) d) (λ pc2. b pc2 k ++ copy Uniform d y k ∷ []) (λ to lt. decided_sound code h g d to hd lt) (λ pc2. here_then pc2 (b pc2 k) (copy Uniform d y k) (t pc2 k lk) (copy_sound code h Uniform Truth d y k hd hy lk)) (pc + length first))
+    logic_sound Varying g d x y pc k n a b hd hx hy lk test f t =
+        let first = a ++ (move_code Varying d x k ++ needing g n d k) in
+        here_both pc first (guard (jump_off n) (pc + length first) (λ pc2. b pc2 n ++ copy Varying d y n ∷ []))
+        (here_both pc a (move_code Varying d x k ++ needing g n d k) f (λ lt. sound_both code h (move_code Varying d x k) (needing g n d k) (move_sound code h Varying Truth d x k hd hx lk) (needing_sound code h g n d k test hd lk)))
+        (guard_sound (jump_off n) (λ pc2. b pc2 n ++ copy Varying d y n ∷ []) (λ to lt. off_sound code h n to test lt) (λ pc2. here_then pc2 (b pc2 n) (copy Varying d y n) (t pc2 n test) (copy_sound code h Varying Truth d y n hd hy test)) (pc + length first))
+
+    -- the sides of a varying test
+    pub rest_sound : (t : Elem) (d c x y pc k n : ℕ) (a b : ℕ → ℕ → ℕ → List Instr) → IsRegister h Varying d t → IsRegister h Varying c Truth → IsRegister h Varying x t → IsRegister h Varying y t → k < h.masks → Granted h l (sides_ask Varying n) → AnyMask (λ pc m. a pc m (n + 1)) → AnyMask (λ pc m. b pc m (n + 2)) → Here pc (choose_rest d c x y pc k n a b)
+    rest_sound t d c x y pc k n a b hd hc hx hy lk masks f g lt =
+        let side = guard (jump_off n) (pc + 1) (λ pc1. a pc1 n (n + 1)) in
+        let p2 = pc + 1 + length side in
+        let other = guard (jump_off (n + 1)) (p2 + 1) (λ pc2. b pc2 (n + 1) (n + 2)) in
+        let last = the_others (n + 1) k n ∷ (other ++ select Varying d c x y k ∷ []) in
+        let e1 = length-append side last in
+        let e2 = length-append other (select Varying d c x y k ∷ []) in
+        (where_sound code h n c k masks.1.0 hc lk, sound_both code h side last (guard_sound (jump_off n) (λ pc1. a pc1 n (n + 1)) (λ to low. off_sound code h n to masks.1.0 low) (λ pc1. f pc1 n masks.1.0) (pc + 1) (omega (arith, e1, lt))) (others_sound code h (n + 1) k n masks.1.1 lk masks.1.0, here_then (p2 + 1) other (select Varying d c x y k) (guard_sound (jump_off (n + 1)) (λ pc2. b pc2 (n + 1) (n + 2)) (λ to low. off_sound code h (n + 1) to masks.1.1 low) (λ pc2. g pc2 (n + 1) masks.1.1) (p2 + 1)) (select_sound code h Varying t d c x y k hd hc hx hy lk) (omega (arith, e1, lt))))
+
+    pub lift_sound : (given r : Rate) (u t : Elem) (x k n : ℕ) → Reaches given r → u ≡ t → Granted h l (lift_asks r given u n) → IsRegister h given x u → k < h.masks → AreSound code h (lift_code l r given u x k n)
     lift_sound Uniform Uniform u t x k n is e f hx lk = tt
     lift_sound Uniform Varying u t x k n is e f hx lk =
         (splat_sound code h t (l.spare Varying u n) x k (lift_there h l Uniform Varying u t x n is e f hx) (hx.0, hx.1 ∙ e) lk, tt)
@@ -110,9 +109,9 @@ module _ (code : Listing) (h : Routine) where
     lift_to_sound Varying Uniform u t d x k is e hd hx lk = absurd is
     lift_to_sound Varying Varying u t d x k is e hd hx lk = tt
 
-    pub operand_sound : (r : Rate) (t : Elem) (x : TExpr) (pc k n : ℕ) (a : List Instr) → OperandTree r t x → ExprTree x → LiftPresent h l (type_of x).rate r t n → ExprPresent h l x n → k < h.masks → Here pc a → Here pc (operand_of l r x k n a)
-    operand_sound r t x pc k n a o is f g lk s =
-        here_both pc a (lift_code l r (type_of x).rate (type_of x).elem (found l x n) k n) s (λ lt. lift_sound (type_of x).rate r (type_of x).elem t (found l x n) k n o.reaches o.elem f (found_there h l x n is g) lk)
+    pub operand_sound : (r : Rate) (t : Elem) (x : TExpr) (pc k n : ℕ) (a : List Instr) → OperandTree r t x → ExprTree x → Granted h l (operand_asks r x n) → k < h.masks → Here pc a → Here pc (operand_of l r x k n a)
+    operand_sound r t x pc k n a o is f lk s =
+        here_both pc a (lift_code l r (type_of x).rate (type_of x).elem (found l x n) k n) s (λ lt. lift_sound (type_of x).rate r (type_of x).elem t (found l x n) k n o.reaches o.elem f.0 (found_there h l x n is f.1) lk)
 
     -- ---- a value of one type where another is wanted
 
@@ -126,18 +125,18 @@ module _ (code : Listing) (h : Routine) where
         go None is = here_then pc a (convert (type_of x).rate d (found l x n) k) f (convert_sound code h (type_of x).rate e (type_of x).elem d (found l x n) k hd hx lk)
         go (Some v) is = λ lt. (constant_sound code h e d (converted v.elem e v.bits) (uniform v is), tt)
 
-    whole_sound : (b : Bool) (i : TExpr) (pc k n : ℕ) (a : List Instr) → ExprTree i → HasRegister h l (type_of i).rate (Spare I64 n) I64 → ExprPresent h l i n → k < h.masks → Here pc a → Here pc (whole_of l b i k n a)
-    whole_sound true i pc k n a is f g lk s = s
-    whole_sound false i pc k n a is f g lk s =
-        convert_to_sound i I64 (l.spare (type_of i).rate I64 n) pc k n a f (found_there h l i n is g) lk s
+    whole_sound : (b : Bool) (i : TExpr) (pc k n : ℕ) (a : List Instr) → ExprTree i → Granted h l (whole_asks i n (expr_asks i n)) → k < h.masks → Here pc a → Here pc (whole_of l b i k n a)
+    whole_sound true i pc k n a is f lk s = s
+    whole_sound false i pc k n a is f lk s =
+        convert_to_sound i I64 (l.spare (type_of i).rate I64 n) pc k n a f.0 (found_there h l i n is f.1) lk s
 
-    pub index_sound : (r : Rate) (i : TExpr) (pc k n : ℕ) (a : List Instr) → Reaches (type_of i).rate r → ExprTree i → HasRegister h l (type_of i).rate (Spare I64 n) I64 → ExprPresent h l i n → LiftPresent h l (type_of i).rate r I64 n → k < h.masks → Here pc a → Here pc (index_of l r i k n a)
-    index_sound r i pc k n a re is f g m lk s =
+    pub index_sound : (r : Rate) (i : TExpr) (pc k n : ℕ) (a : List Instr) → Reaches (type_of i).rate r → ExprTree i → Granted h l (index_asks r i n (expr_asks i n)) → k < h.masks → Here pc a → Here pc (index_of l r i k n a)
+    index_sound r i pc k n a re is f lk s =
         let x = whole l (is_whole (type_of i).elem) i n in
-        here_both pc (whole_of l (is_whole (type_of i).elem) i k n a) (lift_code l r (type_of i).rate I64 x k n) (whole_sound (is_whole (type_of i).elem) i pc k n a is f g lk s) (λ lt. lift_sound (type_of i).rate r I64 I64 x k n re refl m (whole_there h l (is_whole (type_of i).elem) i n refl is f g) lk)
+        here_both pc (whole_of l (is_whole (type_of i).elem) i k n a) (lift_code l r (type_of i).rate I64 x k n) (whole_sound (is_whole (type_of i).elem) i pc k n a is f.1 lk s) (λ lt. lift_sound (type_of i).rate r I64 I64 x k n re refl f.0 (whole_there h l (is_whole (type_of i).elem) i n refl is f.1) lk)
 
     -- by a uniform test, or by a varying one; the value goes to slot n
-    pub choose_sound : (g r : Rate) (t : Elem) (x y : TExpr) (c pc k n : ℕ) (test : List Instr) (a b : ℕ → ℕ → ℕ → List Instr) → Reaches g r → IsRegister h g c Truth → IsRegister h r (l.spare r t n) t → IsRegister h r (operand l r x (first_slot g n)) t → IsRegister h r (operand l r y (second_slot g n)) t → k < h.masks → SidesHave (HasMask h) g n → Here pc test → AnyMask (λ pc m. a pc m (first_slot g n)) → AnyMask (λ pc m. b pc m (second_slot g n)) → Here pc (choose_code l g r t x y c pc k n test a b)
+    pub choose_sound : (g r : Rate) (t : Elem) (x y : TExpr) (c pc k n : ℕ) (test : List Instr) (a b : ℕ → ℕ → ℕ → List Instr) → Reaches g r → IsRegister h g c Truth → IsRegister h r (l.spare r t n) t → IsRegister h r (operand l r x (first_slot g n)) t → IsRegister h r (operand l r y (second_slot g n)) t → k < h.masks → Granted h l (sides_ask g n) → Here pc test → AnyMask (λ pc m. a pc m (first_slot g n)) → AnyMask (λ pc m. b pc m (second_slot g n)) → Here pc (choose_code l g r t x y c pc k n test a b)
     choose_sound Uniform r t x y c pc k n test a b re hc hd hx hy lk masks s f g =
         here_both pc test (choice (jump_on jump.False c) (pc + length test) (λ pc2. a pc2 k n ++ move_code r (l.spare r t n) (operand l r x n) k) (λ pc2. b pc2 k n ++ move_code r (l.spare r t n) (operand l r y n) k)) s
         (choice_sound (jump_on jump.False c) (λ pc2. a pc2 k n ++ move_code r (l.spare r t n) (operand l r x n) k) (λ pc2. b pc2 k n ++ move_code r (l.spare r t n) (operand l r y n) k) (λ to lt. (((hc.0, hc.1), (lt, tt)), tt)) (λ pc2. here_both pc2 (a pc2 k n) (move_code r (l.spare r t n) (operand l r x n) k) (f pc2 k lk) (λ lt. move_sound code h r t (l.spare r t n) (operand l r x n) k hd hx lk)) (λ pc2. here_both pc2 (b pc2 k n) (move_code r (l.spare r t n) (operand l r y n) k) (g pc2 k lk) (λ lt. move_sound code h r t (l.spare r t n) (operand l r y n) k hd hy lk)) (pc + length test))
@@ -147,7 +146,7 @@ module _ (code : Listing) (h : Routine) where
         here_both pc test rest s (rest_sound t (l.spare Varying t n) c (operand l Varying x (n + 1)) (operand l Varying y (n + 2)) (pc + length test) k n a b hd hc hx hy lk masks f g)
 
     -- between two variables one instruction is enough
-    pub short_sound : (r : Rate) (t : Elem) (c x y : TExpr) (d k n mx my : ℕ) → is_short l r c x y ≡ true → IsRegister h r d t → OperandTree r Truth c → OperandTree r t x → OperandTree r t y → ExprTree c → ExprTree x → ExprTree y → ExprPresent h l c n → ExprPresent h l x mx → ExprPresent h l y my → k < h.masks → IsSound code h (select r d (found l c n) (found l x n) (found l y n) k)
+    pub short_sound : (r : Rate) (t : Elem) (c x y : TExpr) (d k n mx my : ℕ) → is_short l r c x y ≡ true → IsRegister h r d t → OperandTree r Truth c → OperandTree r t x → OperandTree r t y → ExprTree c → ExprTree x → ExprTree y → Granted h l (expr_asks c n) → Granted h l (expr_asks x mx) → Granted h l (expr_asks y my) → k < h.masks → IsSound code h (select r d (found l c n) (found l x n) (found l y n) k)
     short_sound r t c x y d k n mx my e hd oc ox oy ic ix iy fc fx fy lk =
         let same = same_rate-is r (type_of c).rate (both_first (same_rate r (type_of c).rate) (stays_at l r x && stays_at l r y) e) in
         let both = both_second (same_rate r (type_of c).rate) (stays_at l r x && stays_at l r y) e in

@@ -36,24 +36,25 @@ use Rattle.isp_lower.specs.Code.{constant, write, index, lift_code, operand, ope
 use Rattle.isp_lower.proofs.Splits.{same_elem-is}
 use Rattle.isp_lower.proofs.Found.{few, index_low, lifted_low, operand_low}
 use Rattle.isp_lower.proofs.Exprs.{means, PlaceHolds, variable_held, element_runs, expr_runs}
-use Rattle.isp_lower.proofs.Done.{spares_kept, spares_less, done_after, bind_done, bind_checked}
+use Rattle.isp_lower.proofs.Done.{done_after, bind_done, bind_checked}
 use Rattle.isp_lower.proofs.Places.{place_runs, place_kept}
 use Rattle.isp_lower.proofs.Assigns.{beyond_more, assign_runs, value_runs}
-use Rattle.isp_lower.proofs.Nodes.{enters_less, enters_later, operand_runs}
+use Rattle.isp_lower.proofs.Nodes.{enters_part, enters_later, operand_runs}
 use Rattle.isp_lower.specs.Layout.{register}
-use Rattle.isp_lower.specs.Setting.{Setting, IsSettled, gang_of, AreAt, At, Stands, Low, at_rate, held_at, Holds}
+use Rattle.isp_lower.specs.Setting.{Setting, IsSettled, gang_of, calls_of, AreAt, At, Stands, at_rate, held_at, Holds}
 use Rattle.isp_lower.specs.Runs.{Runs, Ok}
 use Rattle.isp_lower.specs.Fits.{IsTyped, SpareFits}
 use Rattle.isp_lower.specs.Code.{convert, operate, operate_places}
 use Rattle.isp_lower.specs.Simple.{IsNumber, WorkFits, ChangeFits, SimpleFits, beyond, update_to, change_code, change_by_code, change_places, one_in, one_code, step_code, simple_code, simple_places}
-use Rattle.isp_lower.proofs.Base.{are_front, are_back, low_spare, keeps_all, keeps_on, keeps_less, comes_none, moved_by}
+use Rattle.isp_lower.proofs.Base.{are_front, are_back, comes_none, moved_by, spares_all, spares_less}
 use Rattle.isp_lower.proofs.Rates.{at_mapped, at_joined, at_offender, filled_mapped, filled_joined}
 use Rattle.isp_lower.proofs.Lines.{set_at, value_at, convert_line, operate_at}
-use Rattle.isp_lower.proofs.Combine.{write_runs, held_kept, lift_runs}
+use Rattle.isp_lower.proofs.Combine.{write_runs, lift_runs}
 use Rattle.isp_lower.proofs.Targets.{Target, InSlot, InVariable, target, Leaves, write_sure}
 use Rattle.isp_lower.proofs.Writes.{element_done}
 use Rattle.isp_lower.proofs.Nodes.{one_runs}
 use Rattle.isp_lower.proofs.Values.{number_is, wrap_bits}
+use Rattle.isp_lower.proofs.Kept.{Low, low_spare, Keeps, runs_kept, kept_same, keeps_on, held_kept, checked_still, value_still}
 
 plainly : (t : Elem) (z : ℤ) → IsNumber t → convert_bits t z ≡ wrap t z
 plainly Truth z n = absurd n
@@ -136,7 +137,7 @@ module _ (w : Setting) (ready : IsSettled w) where
       let m1 : mapped (converted t u) (joined f a (mapped (converted u t) x) z) ≡ joined f a x z = ap (λ g. mapped (converted t g) (joined f a (mapped (converted g t) x) z)) e ∙ ap (mapped (converted t t)) (joined_same f (converted t t) a x z (λ b d. same_op o t b d num)) ∙ mapped_same f (converted t t) a x z (λ b d. same_back o t b d num) in
       let line = operate_at w.code w.routine c r o t d h y k p a sp some em td places ∙ ap (λ g. moved_by g Divide sp (set_at r c d Y)) (ap (offender (gang_of w) (is_zero o t) a) (sym hz) ∙ sym (at_offender r (gang_of w) a (is_zero o t) z)) in
       subst (λ v. Leaves w g d c (pc + 1) i q r a v) (sym (checked_mapped out Divide sp s (joined f a (mapped (converted u t) x) z) (mapped (converted t u)) ∙ ap (checked out Divide sp s) m1))
-      (write_sure w ready g c c 0 pc (pc + 1) i q a s (operate r o d h y k p) r u out Divide sp (joined f a x z) Y (comes_none w c) at refl has.0 st (keeps_all w i c) (λ g l. refl) (omega arith) (at_joined r a f x z ∙ ap (λ g. joined f a g (at_rate r a z)) hx ∙ ap (joined f a (held_at r c.scalars c.vectors a h)) hz) (filled_joined r a f c.scalars c.vectors h y) line)
+      (write_sure w ready g c c 0 pc (pc + 1) i q a s (operate r o d h y k p) r u out Divide sp (joined f a x z) Y (comes_none w c) at refl has.0 st (spares_all w i c) (λ g l. refl) (omega arith) (at_joined r a f x z ∙ ap (λ g. joined f a g (at_rate r a z)) hx ∙ ap (joined f a (held_at r c.scalars c.vectors a h)) hz) (filled_joined r a f c.scalars c.vectors h y) line)
   update_leaves g false o t u r h y c pc k i q p a s x z sp num same th work tu low at em some lt st us hx hz has places =
       let f = op_bits o t in
       let d = w.layout.spare r t i in
@@ -144,15 +145,15 @@ module _ (w : Setting) (ready : IsSettled w) where
       let out = offender (gang_of w) (is_zero o t) a z in
       let x1 = mapped (converted u t) x in
       let converts = λ (c2 : Conf) (from to : ℕ) (v v' : Elem) (ev : IsTyped w r from v) (ev' : IsTyped w r to v'). convert_line w.code w.routine c2 r to from k ∙ ap (λ g. Go (set_at r c2 to (mapped (converted g (elem_of w.routine (register r to))) (value_at r c2 k from)))) ev ∙ ap (λ g. Go (set_at r c2 to (mapped (converted v g) (value_at r c2 k from)))) ev' in
-      let ok1 : Ok w c (pc + 1) i (2 + q) (Holds r a d x1) s = write_runs w ready c c 0 pc (pc + 1) i (2 + q) a s (convert r d h k) r t None Divide no_place x1 (mapped (converted u t) (held_at r c.scalars c.vectors a h)) (comes_none w c) at refl has.0 st (keeps_all w i c) (λ g l. refl) (omega arith) (at_mapped r a (converted u t) x ∙ ap (mapped (converted u t)) hx) (filled_mapped r a (converted u t) c.scalars c.vectors h) (converts c h d u t th work ∙ ap (λ g. Go (set_at r c d (mapped (converted u t) (held_at r c.scalars c.vectors g h)))) em) in
+      let ok1 : Ok w c (pc + 1) i (2 + q) (Holds r a d x1) s = write_runs w ready c c 0 pc (pc + 1) i (2 + q) a s (convert r d h k) r t None Divide no_place x1 (mapped (converted u t) (held_at r c.scalars c.vectors a h)) (comes_none w c) at refl has.0 st (spares_all w i c) (λ g l. refl) (omega arith) (at_mapped r a (converted u t) x ∙ ap (mapped (converted u t)) hx) (filled_mapped r a (converted u t) c.scalars c.vectors h) (converts c h d u t th work ∙ ap (λ g. Go (set_at r c d (mapped (converted u t) (held_at r c.scalars c.vectors g h)))) em) in
       let c1 = ok1.conf in
       let e1 : c1.masks k ≡ a = ok1.masks k lt ∙ em in
-      let hy : at_rate r a z ≡ held_at r c1.scalars c1.vectors a y = hz ∙ sym (held_kept w ready r i c c1 a y ok1.keeps low) in
+      let hy : at_rate r a z ≡ held_at r c1.scalars c1.vectors a y = hz ∙ sym (held_kept w r i c c1 a y (kept_same w i c c1 s st ok1.stands ok1.spares) low) in
       let Y = joined f a (held_at r c1.scalars c1.vectors a d) (held_at r c1.scalars c1.vectors a y) in
       let line = operate_at w.code w.routine c1 r o t d d y k p a sp some e1 work places ∙ ap (λ g. moved_by g Divide sp (set_at r c1 d Y)) (ap (offender (gang_of w) (is_zero o t) a) (sym hy) ∙ sym (at_offender r (gang_of w) a (is_zero o t) z)) in
       let to : pc + 1 + 1 ≡ pc + length (convert r d h k ∷ operate r o d d y k p ∷ []) = omega arith in
       let va = checked out Divide sp s (joined f a x1 z) in
-      let run2 : Runs w c (pc + 1 + 1) i (1 + q) (Holds r a d) va = write_runs w ready c c1 ok1.steps (pc + 1) (pc + 1 + 1) i (1 + q) a s (operate r o d d y k p) r t out Divide sp (joined f a x1 z) Y ok1.comes ok1.at refl has.1.0 ok1.stands ok1.keeps ok1.masks (omega (arith, ok1.bound)) (at_joined r a f x1 z ∙ ap (λ g. joined f a g (at_rate r a z)) ok1.holds ∙ ap (joined f a (held_at r c1.scalars c1.vectors a d)) hy) (filled_joined r a f c1.scalars c1.vectors d y) line in
+      let run2 : Runs w c (pc + 1 + 1) i (1 + q) (Holds r a d) va = write_runs w ready c c1 ok1.steps (pc + 1) (pc + 1 + 1) i (1 + q) a s (operate r o d d y k p) r t out Divide sp (joined f a x1 z) Y ok1.comes ok1.at refl has.1.0 ok1.stands ok1.spares ok1.masks (omega (arith, ok1.bound)) (at_joined r a f x1 z ∙ ap (λ g. joined f a g (at_rate r a z)) ok1.holds ∙ ap (joined f a (held_at r c1.scalars c1.vectors a d)) hy) (filled_joined r a f c1.scalars c1.vectors d y) line in
       one_runs w ready g c pc k i q a va r u d (convert r d h k ∷ operate r o d d y k p ∷ []) (convert r e d k) (converted t u) em lt has (λ c2. converts c2 d e t u work tu) (subst (λ g. Runs w c g i (1 + q) (Holds r a d) va) to run2)
 
   abbrev done : (Payload → State → State) → Payload → State → Val Done
@@ -163,12 +164,12 @@ module _ (w : Setting) (ready : IsSettled w) where
   twice (Some p) kind sp s v g f = refl
 
   done_less : (n m : ℕ) (c : Conf) (pc q : ℕ) (v : Val Done) → n ≤ m → DoneRuns w c pc m q v → DoneRuns w c pc n q v
-  done_less n m c pc q (Gives x s) le r = record { conf = r.conf; steps = r.steps; comes = r.comes; at = r.at; stands = r.stands; spares = spares_less w ready n m c r.conf le r.spares; masks = λ g l. r.masks g (omega arith); bound = r.bound }
+  done_less n m c pc q (Gives x s) le r = record { conf = r.conf; steps = r.steps; comes = r.comes; at = r.at; stands = r.stands; spares = spares_less w n m c r.conf le r.spares; masks = λ g l. r.masks g (omega arith); bound = r.bound }
   done_less n m c pc q (Fails p s) le r = r
   done_less n m c pc q (Stops s) le r = r
 
   -- the place is read, the operator works, the place is written
-  pub change_runs : (o : BinOp) (t : Elem) (z : TPlace) (sp : Span) (at : Place) (v : Payload) (pc p k n i y q : ℕ) (a : Mask) (s : State) (c : Conf) → ChangeFits w t z n i → beyond z n ≤ i → n ≤ i → k < n → Low w.layout (place_type z).rate i y → At w c pc → c.masks k ≡ a → any (gang_of w) a ≡ true → ((r : ℕ) → a r ≡ true → r < gang_of w) → Stands w s c → 6 + q ≤ 32 * s.work → PlaceHolds w ready z n a at c → Holds (place_type z).rate a y v c → AreAt w.routine.code pc (change_code w.layout o t z y p k n i) → AreAt w.code.places p (change_places w.layout o z sp) → DoneRuns w c (pc + length (change_code w.layout o t z y p k n i)) n q (update (gang_of w) w.frame w.calls o t z at v sp a s)
+  pub change_runs : (o : BinOp) (t : Elem) (z : TPlace) (sp : Span) (at : Place) (v : Payload) (pc p k n i y q : ℕ) (a : Mask) (s : State) (c : Conf) → ChangeFits w t z n i → beyond z n ≤ i → n ≤ i → k < n → Low w.layout (place_type z).rate i y → At w c pc → c.masks k ≡ a → any (gang_of w) a ≡ true → ((r : ℕ) → a r ≡ true → r < gang_of w) → Stands w s c → 6 + q ≤ 32 * s.work → PlaceHolds w ready z n a at c → Holds (place_type z).rate a y v c → AreAt w.routine.code pc (change_code w.layout o t z y p k n i) → AreAt w.code.places p (change_places w.layout o z sp) → DoneRuns w c (pc + length (change_code w.layout o t z y p k n i)) n q (update (gang_of w) w.frame (calls_of w) o t z at v sp a s)
   change_runs o t (t_variable x u sv) sp at v pc p k n i y q a s c fit lz le lk low here em some inside st us h hy has places =
       let same = same_elem u.elem t in
       let r = u.rate in
@@ -176,7 +177,7 @@ module _ (w : Setting) (ready : IsSettled w) where
       let end = pc + length (update_to w.layout same o t r f f y k i p) in
       let who = offender (gang_of w) (is_zero o t) a v in
       let val = joined (op_bits o t) a (mapped (converted u.elem t) (variable r x a s)) v in
-      subst (λ g. DoneRuns w c end n q (update (gang_of w) w.frame w.calls o t (t_variable x u sv) g v sp a s)) (sym h)
+      subst (λ g. DoneRuns w c end n q (update (gang_of w) w.frame (calls_of w) o t (t_variable x u sv) g v sp a s)) (sym h)
       (subst (λ g. DoneRuns w c end n q g) (sym (twice who Divide sp s val (mapped (converted t u.elem)) (written r x a)))
       (done_less n i c end q _ le
       (update_leaves (InVariable x) same o t u.elem r f y c pc k i q p a s (variable r x a s) v sp fit.number (same_elem-is u.elem t) fit.target fit.working fit.target low here em some (omega arith) st (omega (arith, us)) (variable_held w ready r x a s c st) hy has places)))
@@ -196,25 +197,27 @@ module _ (w : Setting) (ready : IsSettled w) where
       let put_there = λ (m : Payload) (s2 : State). kept (gang_of w) w.frame (Element b (type_of j).elem m0) a m s2 in
       let x = held (gang_of w) w.frame (Element b (type_of j).elem m0) a s in
       let val = joined (op_bits o t) a (mapped (converted u.elem t) x) v in
-      subst (λ g. DoneRuns w c end n q (update (gang_of w) w.frame w.calls o t z g v sp a s)) (sym h.1)
+      subst (λ g. DoneRuns w c end n q (update (gang_of w) w.frame (calls_of w) o t z g v sp a s)) (sym h.1)
       (bind_checked w ready c (pc + 1) i 5 q (Holds r a f) (outside (gang_of w) w.frame (Element b (type_of j).elem m0) a) Index sv s x (λ x1 s1. bind (checked who Divide sp s1 (joined (op_bits o t) a (mapped (converted u.elem t) x1) v)) (λ m s2. done put_there (mapped (converted t u.elem) m) s2)) end n
-      (element_runs w ready InSlot b j u sv c c 0 pc (pc + 1) k i n p (5 + q) a s m0 fit.target.0 fit.target.1 (comes_none w c) here refl has.0 places.0 st (keeps_all w i c) (λ g l. refl) em some inside (omega (arith, us)) h.2)
+      (element_runs w ready InSlot b j u sv c c 0 pc (pc + 1) k i n p (5 + q) a s m0 (ready.arrays b fit.target.0) fit.target.1 (comes_none w c) here refl has.0 places.0 st (spares_all w i c) (λ g l. refl) em some inside (omega (arith, us)) h.2)
       (λ none ok.
       let c1 = ok.conf in
       let q1 = ok.steps + q in
       let e1 : c1.masks k ≡ a = ok.masks k (omega arith) ∙ em in
-      done_after w ready c c1 ok.steps end n q _ ok.comes (spares_kept w ready n c c1 (keeps_less w n i c c1 le ok.keeps)) (λ g l. ok.masks g (omega arith))
+      let here_kept : Keeps w i c c1 = kept_same w i c c1 s st ok.stands ok.spares in
+      done_after w ready c c1 ok.steps end n q _ ok.comes (spares_less w n i c c1 le ok.spares) (λ g l. ok.masks g (omega arith))
       (subst (λ g. DoneRuns w c1 end n q1 g) (sym (twice who Divide sp s val (mapped (converted t u.elem)) put_there))
-      (bind_done w ready c1 pc2 i 1 q1 (Holds r a f) (bind (checked who Divide sp s val) (λ m s3. Gives (mapped (converted t u.elem) m) s3)) (done put_there) end n
-      (update_leaves InSlot same o t u.elem r f y c1 (pc + 1) k i (1 + q1) (p + 1) a s x v sp fit.number (same_elem-is u.elem t) fit.back fit.working fit.back low ok.at e1 some (omega arith) ok.stands (omega (arith, ok.bound)) ok.holds (hy ∙ sym (held_kept w ready r i c c1 a y ok.keeps low)) (are_front w.routine.code (pc + 1) cu last has.1) places.1)
+      (bind_done w ready c1 pc2 i 1 q1 (λ m c'. Holds r a f m c' × Keeps w i c1 c') (bind (checked who Divide sp s val) (λ m s3. Gives (mapped (converted t u.elem) m) s3)) (done put_there) end n
+      (runs_kept w c1 pc2 i (1 + q1) (Holds r a f) (bind (checked who Divide sp s val) (λ m s3. Gives (mapped (converted t u.elem) m) s3)) s ok.stands (checked_still w who Divide sp s val (mapped (converted t u.elem)))
+      (update_leaves InSlot same o t u.elem r f y c1 (pc + 1) k i (1 + q1) (p + 1) a s x v sp fit.number (same_elem-is u.elem t) fit.back fit.working fit.back low ok.at e1 some (omega arith) ok.stands (omega (arith, ok.bound)) ok.holds (hy ∙ sym (held_kept w r i c c1 a y here_kept low)) (are_front w.routine.code (pc + 1) cu last has.1) places.1))
       (λ m s3 ok2.
-      let h2 = h.2 ∙ sym (held_kept w ready r (n + 1) c ok2.conf a at_j (keeps_on w (n + 1) i c c1 ok2.conf lz (keeps_less w (n + 1) i c c1 lz ok.keeps) ok2.keeps) (index_low w ready r j n fit.target.2 fit.target.4)) in
+      let h2 = h.2 ∙ sym (held_kept w r (n + 1) c ok2.conf a at_j (keeps_on w (n + 1) i c c1 ok2.conf lz (kept_same w (n + 1) c c1 s st ok.stands (spares_less w (n + 1) i c c1 lz ok.spares)) ok2.holds.1) (index_low w ready r j n fit.target.2 fit.target.4)) in
       subst (λ g. DoneRuns w c1 end n q1 (bind (checked g Index sv s3 m) (done put_there))) none
-      (element_done w ready r b.ty.rate b (type_of j).elem m0 m a s3 c1 ok2.conf ok2.steps pc2 end k at_j f n q1 p sv fit.target.0.is fit.target.1 fit.target.0.few some inside ok2.comes ok2.at to (are_back w.routine.code (pc + 1) cu last has.1).0 places.0 ok2.stands (spares_less w ready n i c1 ok2.conf le (spares_kept w ready i c1 ok2.conf ok2.keeps)) (λ g l. ok2.masks g (omega arith)) (ok2.masks k (omega arith) ∙ e1) (omega (arith, ok2.bound)) h2 ok2.holds))))))
+      (element_done w ready r b.ty.rate b (type_of j).elem m0 m a s3 c1 ok2.conf ok2.steps pc2 end k at_j f n q1 p sv (ready.arrays b fit.target.0).is fit.target.1 (ready.arrays b fit.target.0).few some inside ok2.comes ok2.at to (are_back w.routine.code (pc + 1) cu last has.1).0 places.0 ok2.stands (spares_less w n i c1 ok2.conf le ok2.spares) (λ g l. ok2.masks g (omega arith)) (ok2.masks k (omega arith) ∙ e1) (omega (arith, ok2.bound)) h2 ok2.holds.0))))))
 
   -- ---- `op=`
 
-  pub change_by_runs : (o : BinOp) (t : Elem) (z : TPlace) (x : TExpr) (sp : Span) (pc p k n q : ℕ) (a : Mask) (s : State) (c : Conf) → SimpleFits w (t_update o t z x sp) n → AreAt w.routine.code pc (change_by_code w.layout o t z x pc p k n) → AreAt w.code.places p (simple_places w.layout (t_update o t z x sp)) → Enters w pc k n a (tick s) c (3 + q) → DoneRuns w c (pc + length (change_by_code w.layout o t z x pc p k n)) n q (simple (gang_of w) w.frame w.calls (t_update o t z x sp) a s)
+  pub change_by_runs : (o : BinOp) (t : Elem) (z : TPlace) (x : TExpr) (sp : Span) (pc p k n q : ℕ) (a : Mask) (s : State) (c : Conf) → SimpleFits w (t_update o t z x sp) n → AreAt w.routine.code pc (change_by_code w.layout o t z x pc p k n) → AreAt w.code.places p (simple_places w.layout (t_update o t z x sp)) → Enters w pc k n a s c q → DoneRuns w c (pc + length (change_by_code w.layout o t z x pc p k n)) n q (simple (gang_of w) w.frame (calls_of w) (t_update o t z x sp) a s)
   change_by_runs o t z x sp pc p k n q a s c fit has places b =
       let r = (place_type z).rate in
       let m = beyond z n in
@@ -234,18 +237,18 @@ module _ (w : Setting) (ready : IsSettled w) where
       let h1 : AreAt w.routine.code pc1 (ca ++ last) = are_back w.routine.code pc ci (ca ++ last) has in
       let ha : AreAt w.routine.code pc1 ca = are_front w.routine.code pc1 ca last h1 in
       let pl = are_back w.code.places p (index_places w.layout z) _ places in
-      bind_done w ready c pc1 n 9 q (PlaceHolds w ready z n a) (place (gang_of w) w.frame w.calls z a (tick s)) _ end n
-      (place_runs w ready z pc p k n 9 q a (tick s) c (omega arith) fit.0.target (are_front w.routine.code pc ci _ has) (are_front w.code.places p (index_places w.layout z) _ places) (enters_less w ready pc k n q (3 + q) a (tick s) c (omega arith) b))
+      bind_done w ready c pc1 n 8 q (PlaceHolds w ready z n a) (place (gang_of w) w.frame (calls_of w) z a (tick s)) _ end n
+      (place_runs w ready z pc p k n 8 q a (tick s) c (omega arith) fit.0.target (are_front w.routine.code pc ci _ has) (are_front w.code.places p (index_places w.layout z) _ places) (enters_part w ready pc k n q q a s c (omega arith) b))
       (λ at s1 ok.
       let c1 = ok.conf in
-      done_after w ready c c1 ok.steps end n q _ ok.comes (spares_kept w ready n c c1 ok.keeps) ok.masks
-      (bind_done w ready c1 (pc1 + length ca) m 6 (ok.steps + q) (Holds r a y) (means w ready x a s1) _ end n
-      (operand_runs w ready c1 pc1 k m (6 + (ok.steps + q)) a (means w ready x a s1) r t x cx fit.1 (ok.masks k lk ∙ b.mask) (omega (arith, more.0)) ha
-      (expr_runs w ready x pc1 p1 k m (1 + (6 + (ok.steps + q))) a s1 c1 fit.2 (are_front w.routine.code pc1 cx _ ha) (are_front w.code.places p1 (expr_places w.layout x) _ pl) (enters_later w ready pc pc1 k n m (heads x + (1 + (6 + (ok.steps + q)))) (3 + q) (9 + q) a (tick s) s1 c more.0 b ok (omega arith))))
+      done_after w ready c c1 ok.steps end n q _ ok.comes ok.spares ok.masks
+      (bind_done w ready c1 (pc1 + length ca) m 6 (ok.steps + q) (λ d c'. Holds r a y d c' × Keeps w m c1 c') (means w ready x a s1) _ end n
+      (runs_kept w c1 (pc1 + length ca) m (6 + (ok.steps + q)) (Holds r a y) (means w ready x a s1) s1 ok.stands (value_still w ready x m a s1 fit.2) (operand_runs w ready c1 pc1 k m (6 + (ok.steps + q)) a (means w ready x a s1) r t x cx fit.1 (ok.masks k lk ∙ b.mask) (omega (arith, more.0)) ha
+      (expr_runs w ready x pc1 p1 k m (8 + (ok.steps + q)) (1 + (6 + (ok.steps + q))) a s1 c1 fit.2 (are_front w.routine.code pc1 cx _ ha) (are_front w.code.places p1 (expr_places w.layout x) _ pl) (omega arith) (enters_later w ready pc pc1 k n m (8 + (ok.steps + q)) q (8 + q) a s s1 c more.0 b ok (omega arith)))))
       (λ v s2 ok2.
-      done_after w ready c1 ok2.conf ok2.steps end n (ok.steps + q) _ ok2.comes (spares_less w ready n m c1 ok2.conf more.0 (spares_kept w ready m c1 ok2.conf ok2.keeps)) (λ g l. ok2.masks g (omega (arith, more.0)))
-      (subst (λ g. DoneRuns w ok2.conf g n (ok2.steps + (ok.steps + q)) (update (gang_of w) w.frame w.calls o t z at v sp a s2)) to
-      (change_runs o t z sp at v (pc1 + length ca) pw k n (m + 1) y (ok2.steps + (ok.steps + q)) a s2 ok2.conf fit.0 (omega arith) (omega (arith, more.0)) lk (operand_low w ready r t x m fit.1 fit.2) ok2.at (ok2.masks k (omega (arith, more.0)) ∙ ok.masks k lk ∙ b.mask) b.some b.inside ok2.stands (omega (arith, ok2.bound)) (place_kept w ready z n a at c1 ok2.conf fit.0.target ok2.keeps ok.holds) ok2.holds (are_back w.routine.code pc1 ca last h1) (are_back w.code.places p1 (expr_places w.layout x) _ pl))))))
+      done_after w ready c1 ok2.conf ok2.steps end n (ok.steps + q) _ ok2.comes (spares_less w n m c1 ok2.conf more.0 ok2.spares) (λ g l. ok2.masks g (omega (arith, more.0)))
+      (subst (λ g. DoneRuns w ok2.conf g n (ok2.steps + (ok.steps + q)) (update (gang_of w) w.frame (calls_of w) o t z at v sp a s2)) to
+      (change_runs o t z sp at v (pc1 + length ca) pw k n (m + 1) y (ok2.steps + (ok.steps + q)) a s2 ok2.conf fit.0 (omega arith) (omega (arith, more.0)) lk (operand_low w ready r t x m fit.1 fit.2) ok2.at (ok2.masks k (omega (arith, more.0)) ∙ ok.masks k lk ∙ b.mask) b.some b.inside ok2.stands (omega (arith, ok2.bound)) (place_kept w ready z n a at c1 ok2.conf fit.0.target ok2.holds.1 ok.holds) ok2.holds.0 (are_back w.routine.code pc1 ca last h1) (are_back w.code.places p1 (expr_places w.layout x) _ pl))))))
 
   -- ---- `++` and `--`
 
@@ -257,10 +260,10 @@ module _ (w : Setting) (ready : IsSettled w) where
       let to : pc + 1 + length lift ≡ pc + length (one_code w.layout r t k m) = omega arith in
       subst (λ g. Runs w c g m q (Holds r a (one_in w.layout r t m)) (Gives (One 1) s)) to
       (lift_runs w ready c (pc + 1) k m q a (Gives (One 1) s) r Uniform t d tt em lk has.1
-      (write_runs w ready c c 0 pc (pc + 1) m (1 + q) a s (constant d t 1) Uniform t None Divide no_place (One 1) (One 1) (comes_none w c) at refl has.0 st (keeps_all w m c) (λ g l. refl) (omega (arith, us)) refl refl
+      (write_runs w ready c c 0 pc (pc + 1) m (1 + q) a s (constant d t 1) Uniform t None Divide no_place (One 1) (One 1) (comes_none w c) at refl has.0 st (spares_all w m c) (λ g l. refl) (omega (arith, us)) refl refl
       (ap (λ u. Go (set_at Uniform c d (One (wrap u (number t 1))))) ty ∙ ap (λ z. Go (set_at Uniform c d (One z))) (one_is t num))))
 
-  pub step_runs : (o : BinOp) (t : Elem) (z : TPlace) (sp : Span) (pc p k n q : ℕ) (a : Mask) (s : State) (c : Conf) → SimpleFits w (t_step o t z sp) n → AreAt w.routine.code pc (step_code w.layout o t z pc p k n) → AreAt w.code.places p (simple_places w.layout (t_step o t z sp)) → Enters w pc k n a (tick s) c (3 + q) → DoneRuns w c (pc + length (step_code w.layout o t z pc p k n)) n q (simple (gang_of w) w.frame w.calls (t_step o t z sp) a s)
+  pub step_runs : (o : BinOp) (t : Elem) (z : TPlace) (sp : Span) (pc p k n q : ℕ) (a : Mask) (s : State) (c : Conf) → SimpleFits w (t_step o t z sp) n → AreAt w.routine.code pc (step_code w.layout o t z pc p k n) → AreAt w.code.places p (simple_places w.layout (t_step o t z sp)) → Enters w pc k n a s c q → DoneRuns w c (pc + length (step_code w.layout o t z pc p k n)) n q (simple (gang_of w) w.frame (calls_of w) (t_step o t z sp) a s)
   step_runs o t z sp pc p k n q a s c fit has places b =
       let r = (place_type z).rate in
       let m = beyond z n in
@@ -276,18 +279,18 @@ module _ (w : Setting) (ready : IsSettled w) where
       let to : pc1 + length ca + length last ≡ end = omega (arith, length-append ci (ca ++ last), length-append ca last) in
       let h1 : AreAt w.routine.code pc1 (ca ++ last) = are_back w.routine.code pc ci (ca ++ last) has in
       let ha : AreAt w.routine.code pc1 ca = are_front w.routine.code pc1 ca last h1 in
-      bind_done w ready c pc1 n 9 q (PlaceHolds w ready z n a) (place (gang_of w) w.frame w.calls z a (tick s)) _ end n
-      (place_runs w ready z pc p k n 9 q a (tick s) c (omega arith) fit.0.target (are_front w.routine.code pc ci _ has) (are_front w.code.places p (index_places w.layout z) _ places) (enters_less w ready pc k n q (3 + q) a (tick s) c (omega arith) b))
+      bind_done w ready c pc1 n 8 q (PlaceHolds w ready z n a) (place (gang_of w) w.frame (calls_of w) z a (tick s)) _ end n
+      (place_runs w ready z pc p k n 8 q a (tick s) c (omega arith) fit.0.target (are_front w.routine.code pc ci _ has) (are_front w.code.places p (index_places w.layout z) _ places) (enters_part w ready pc k n q q a s c (omega arith) b))
       (λ at s1 ok.
       let c1 = ok.conf in
       let e1 : c1.masks k ≡ a = ok.masks k lk ∙ b.mask in
       let ok2 : Ok w c1 (pc1 + length ca) m (6 + (ok.steps + q)) (Holds r a y (One 1)) s1 = one_ok r t pc1 k m (6 + (ok.steps + q)) a s1 c1 fit.0.number fit.1 (omega (arith, more.0)) e1 ok.at ok.stands (omega (arith, ok.bound)) ha in
-      done_after w ready c c1 ok.steps end n q _ ok.comes (spares_kept w ready n c c1 ok.keeps) ok.masks
-      (done_after w ready c1 ok2.conf ok2.steps end n (ok.steps + q) _ ok2.comes (spares_less w ready n m c1 ok2.conf more.0 (spares_kept w ready m c1 ok2.conf ok2.keeps)) (λ g l. ok2.masks g (omega (arith, more.0)))
-      (subst (λ g. DoneRuns w ok2.conf g n (ok2.steps + (ok.steps + q)) (update (gang_of w) w.frame w.calls o t z at (One 1) sp a s1)) to
-      (change_runs o t z sp at (One 1) (pc1 + length ca) p1 k n (m + 1) y (ok2.steps + (ok.steps + q)) a s1 ok2.conf fit.0 (omega arith) (omega (arith, more.0)) lk (lifted_low w ready r Uniform t (w.layout.spare Uniform t m) m tt (low_spare w.layout Uniform t (m + 1) m ready.apart (omega arith))) ok2.at (ok2.masks k (omega (arith, more.0)) ∙ e1) b.some b.inside ok2.stands (omega (arith, ok2.bound)) (place_kept w ready z n a at c1 ok2.conf fit.0.target ok2.keeps ok.holds) ok2.holds (are_back w.routine.code pc1 ca last h1) (are_back w.code.places p (index_places w.layout z) _ places)))))
+      done_after w ready c c1 ok.steps end n q _ ok.comes ok.spares ok.masks
+      (done_after w ready c1 ok2.conf ok2.steps end n (ok.steps + q) _ ok2.comes (spares_less w n m c1 ok2.conf more.0 ok2.spares) (λ g l. ok2.masks g (omega (arith, more.0)))
+      (subst (λ g. DoneRuns w ok2.conf g n (ok2.steps + (ok.steps + q)) (update (gang_of w) w.frame (calls_of w) o t z at (One 1) sp a s1)) to
+      (change_runs o t z sp at (One 1) (pc1 + length ca) p1 k n (m + 1) y (ok2.steps + (ok.steps + q)) a s1 ok2.conf fit.0 (omega arith) (omega (arith, more.0)) lk (lifted_low w ready r Uniform t (w.layout.spare Uniform t m) m tt (low_spare w.layout Uniform t (m + 1) m (omega arith))) ok2.at (ok2.masks k (omega (arith, more.0)) ∙ e1) b.some b.inside ok2.stands (omega (arith, ok2.bound)) (place_kept w ready z n a at c1 ok2.conf fit.0.target (kept_same w m c1 ok2.conf s1 ok.stands ok2.stands ok2.spares) ok.holds) ok2.holds (are_back w.routine.code pc1 ca last h1) (are_back w.code.places p (index_places w.layout z) _ places)))))
 
-  pub simple_runs : (x : TSimple) (pc p k n q : ℕ) (a : Mask) (s : State) (c : Conf) → SimpleFits w x n → AreAt w.routine.code pc (simple_code w.layout x pc p k n) → AreAt w.code.places p (simple_places w.layout x) → Enters w pc k n a (tick s) c (3 + q) → DoneRuns w c (pc + length (simple_code w.layout x pc p k n)) n q (simple (gang_of w) w.frame w.calls x a s)
+  pub simple_runs : (x : TSimple) (pc p k n q : ℕ) (a : Mask) (s : State) (c : Conf) → SimpleFits w x n → AreAt w.routine.code pc (simple_code w.layout x pc p k n) → AreAt w.code.places p (simple_places w.layout x) → Enters w pc k n a s c q → DoneRuns w c (pc + length (simple_code w.layout x pc p k n)) n q (simple (gang_of w) w.frame (calls_of w) x a s)
   simple_runs (t_value x) pc p k n q a s c fit has places b = value_runs w ready x pc p k n q a s c fit has places b
   simple_runs (t_run e) pc p k n q a s c fit has places b = absurd fit
   simple_runs (t_assign z x sp) pc p k n q a s c fit has places b = assign_runs w ready z x sp pc p k n q a s c fit has places b

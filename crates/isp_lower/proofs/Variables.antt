@@ -17,10 +17,10 @@ use Rattle.isp_lower.specs.Runs.{Enters, Runs, DoneRuns}
 use Rattle.isp_lower.specs.Fits.{Reaches, IsTyped, OperandFits, ExprFits}
 use Rattle.isp_lower.specs.Code.{copy, part_to, lift_to, writes_part, writes_last, found, operand, operand_of, expr_places, expr_code, expr_to, is_short, choose_to, variable_from, variable_code}
 use Rattle.isp_lower.proofs.Base.{are_front, are_back}
-use Rattle.isp_lower.proofs.Done.{spares_kept, bind_done, variable_done, splat_done}
+use Rattle.isp_lower.proofs.Done.{bind_done, variable_done, splat_done}
 use Rattle.isp_lower.proofs.Found.{few}
 use Rattle.isp_lower.proofs.Targets.{InVariable}
-use Rattle.isp_lower.proofs.Nodes.{enters_less, enters_part, operand_runs}
+use Rattle.isp_lower.proofs.Nodes.{enters_part, operand_runs}
 use Rattle.isp_lower.proofs.Exprs.{means, NodeRuns, number_node, index_node, element_node, convert_node, unary_node, binary_node, compare_node, choose_node, expr_runs}
 
 module _ (w : Setting) (ready : IsSettled w) where
@@ -39,42 +39,42 @@ module _ (w : Setting) (ready : IsSettled w) where
       let xs = code f in
       let to : pc + length xs + 1 ≡ pc + length (xs ++ lift_to w.layout Varying Uniform (w.layout.variable Varying v) f k) = omega (arith, length-append xs (lift_to w.layout Varying Uniform (w.layout.variable Varying v) f k)) in
       bind_done w ready c (pc + length xs) n 1 q (Holds Uniform a f) vx _ _ n (copied (are_front w.routine.code pc xs _ has))
-      (λ m s ok. splat_done w ready v m a s c ok.conf ok.steps (pc + length xs) _ k f n q ok.comes ok.at to (are_back w.routine.code pc xs _ has).0 ok.stands (spares_kept w ready n c ok.conf ok.keeps) ok.masks (ok.masks k lk ∙ em) (omega (arith, ok.bound)) ok.holds)
+      (λ m s ok. splat_done w ready v m a s c ok.conf ok.steps (pc + length xs) _ k f n q ok.comes ok.at to (are_back w.routine.code pc xs _ has).0 ok.stands ok.spares ok.masks (ok.masks k lk ∙ em) (omega (arith, ok.bound)) ok.holds)
 
   -- an expression whose last instruction writes the variable
   direct_runs : (v : ℕ) (x : TExpr) → writes_last w.layout x ≡ true → NodeRuns w ready (InVariable v) x
-  direct_runs v (t_constant u sp) e pc p k n q a s c fit ty has places b = number_node w ready (InVariable v) u sp pc p k n q a s c fit ty has places b
-  direct_runs v (t_program_index sp) e pc p k n q a s c fit ty has places b = index_node w ready (InVariable v) sp pc p k n q a s c fit ty has places b
-  direct_runs v (t_place (t_variable u t sp)) e pc p k n q a s c fit ty has places b = absurd (cc)
-  direct_runs v (t_place (t_element y i t sp)) e pc p k n q a s c fit ty has places b = element_node w ready (InVariable v) y i t sp (expr_runs w ready i) pc p k n q a s c fit ty has places b
-  direct_runs v (t_convert u x) e pc p k n q a s c fit ty has places b = convert_node w ready (InVariable v) u x (expr_runs w ready x) pc p k n q a s c fit ty has places b
-  direct_runs v (t_cast x t sp) e pc p k n q a s c fit ty has places b =
+  direct_runs v (t_constant u sp) e pc p k n q rest a s c fit ty has places le b = number_node w ready (InVariable v) u sp pc p k n q rest a s c fit ty has places le b
+  direct_runs v (t_program_index sp) e pc p k n q rest a s c fit ty has places le b = index_node w ready (InVariable v) sp pc p k n q rest a s c fit ty has places le b
+  direct_runs v (t_place (t_variable u t sp)) e pc p k n q rest a s c fit ty has places le b = absurd (cc)
+  direct_runs v (t_place (t_element y i t sp)) e pc p k n q rest a s c fit ty has places le b = element_node w ready (InVariable v) y i t sp (expr_runs w ready i) pc p k n q rest a s c fit ty has places le b
+  direct_runs v (t_convert u x) e pc p k n q rest a s c fit ty has places le b = convert_node w ready (InVariable v) u x (expr_runs w ready x) pc p k n q rest a s c fit ty has places le b
+  direct_runs v (t_cast x t sp) e pc p k n q rest a s c fit ty has places le b =
       let f : heads x ≤ 1 = few w x n fit.1 in
-      part_done v (writes_last w.layout x) c pc k n q a (means w ready x a (tick s)) t.rate (type_of x).rate (found w.layout x n) (λ d. expr_to w.layout d x pc p k n) fit.0.reaches b.mask b.low e has
-      (λ at. expr_runs w ready x pc p k n (1 + q) a (tick s) c fit.1 at places (enters_part w ready pc k n (heads x + (1 + q)) _ a s c (omega arith) b))
-      (λ same es at. direct_runs v x es pc p k n q a (tick s) c fit.1 (typed same) at places (enters_part w ready pc k n (heads x + q) _ a s c (omega arith) b))
+      part_done v (writes_last w.layout x) c pc k n rest a (means w ready x a (tick s)) t.rate (type_of x).rate (found w.layout x n) (λ d. expr_to w.layout d x pc p k n) fit.0.reaches b.mask b.low e has
+      (λ at. expr_runs w ready x pc p k n (32 + q) (1 + rest) a (tick s) c fit.1 at places (omega arith) (enters_part w ready pc k n (32 + q) q a s c (omega arith) b))
+      (λ same es at. direct_runs v x es pc p k n (32 + q) rest a (tick s) c fit.1 (typed same) at places (omega arith) (enters_part w ready pc k n (32 + q) q a s c (omega arith) b))
     where
       typed : (type_of x).rate ≡ t.rate → IsTyped w (type_of x).rate (w.layout.variable (type_of x).rate v) (type_of x).elem
       typed same = subst (λ g. IsTyped w g (w.layout.variable g v) (type_of x).elem) (sym same) (ty ∙ sym fit.0.elem)
-  direct_runs v (t_unary o x t sp) e pc p k n q a s c fit ty has places b = unary_node w ready (InVariable v) o x t sp (expr_runs w ready x) pc p k n q a s c fit ty has places b
-  direct_runs v (t_binary o x y t sp) e pc p k n q a s c fit ty has places b = binary_node w ready (InVariable v) o x y t sp (expr_runs w ready x) (expr_runs w ready y) pc p k n q a s c fit ty has places b
-  direct_runs v (t_compare o x y r sp) e pc p k n q a s c fit ty has places b = compare_node w ready (InVariable v) o x y r sp (expr_runs w ready x) (expr_runs w ready y) pc p k n q a s c fit ty has places b
-  direct_runs v (t_logic g x y r sp) e pc p k n q a s c fit ty has places b = absurd (cc)
-  direct_runs v (t_choose d x y t sp) e pc p k n q a s c fit ty has places b = go (is_short w.layout t.rate d x y) refl e has
+  direct_runs v (t_unary o x t sp) e pc p k n q rest a s c fit ty has places le b = unary_node w ready (InVariable v) o x t sp (expr_runs w ready x) pc p k n q rest a s c fit ty has places le b
+  direct_runs v (t_binary o x y t sp) e pc p k n q rest a s c fit ty has places le b = binary_node w ready (InVariable v) o x y t sp (expr_runs w ready x) (expr_runs w ready y) pc p k n q rest a s c fit ty has places le b
+  direct_runs v (t_compare o x y r sp) e pc p k n q rest a s c fit ty has places le b = compare_node w ready (InVariable v) o x y r sp (expr_runs w ready x) (expr_runs w ready y) pc p k n q rest a s c fit ty has places le b
+  direct_runs v (t_logic g x y r sp) e pc p k n q rest a s c fit ty has places le b = absurd (cc)
+  direct_runs v (t_choose d x y t sp) e pc p k n q rest a s c fit ty has places le b = go (is_short w.layout t.rate d x y) refl e has
     where
       code : Bool → List Instr
       code z = choose_to w.layout z (w.layout.variable t.rate v) d x y t pc k n (expr_code w.layout d pc p k n) (λ pc1 m i. operand_of w.layout t.rate x m i (expr_code w.layout x pc1 (p + length (expr_places w.layout d)) m i)) (λ pc1 m i. operand_of w.layout t.rate y m i (expr_code w.layout y pc1 (p + length (expr_places w.layout d) + length (expr_places w.layout x)) m i))
 
-      go : (z : Bool) → is_short w.layout t.rate d x y ≡ z → z ≡ true → AreAt w.routine.code pc (code z) → DoneRuns w c (pc + length (code z)) n q (bind (means w ready (t_choose d x y t sp) a s) (λ m s. Gives tt (written t.rate v a m s)))
-      go true ez h at = choose_node w ready (InVariable v) d x y t sp (expr_runs w ready d) ez pc p k n q a s c fit.5 at (are_front w.code.places p (expr_places w.layout d) _ places) b
+      go : (z : Bool) → is_short w.layout t.rate d x y ≡ z → z ≡ true → AreAt w.routine.code pc (code z) → DoneRuns w c (pc + length (code z)) n rest (bind (means w ready (t_choose d x y t sp) a s) (λ m s. Gives tt (written t.rate v a m s)))
+      go true ez h at = choose_node w ready (InVariable v) d x y t sp (expr_runs w ready d) ez pc p k n q rest a s c fit.5 at (are_front w.code.places p (expr_places w.layout d) _ places) (omega arith) b
       go false ez h at = absurd (cc)
-  direct_runs v (t_call d t) e pc p k n q a s c fit ty has places b = absurd (cc)
-  direct_runs v (t_library g u xs t sp) e pc p k n q a s c fit ty has places b = absurd (cc)
-  direct_runs v (t_packed_store d x sp) e pc p k n q a s c fit ty has places b = absurd (cc)
-  direct_runs v (t_packed_load d u sp) e pc p k n q a s c fit ty has places b = absurd (cc)
+  direct_runs v (t_call d t) e pc p k n q rest a s c fit ty has places le b = absurd (cc)
+  direct_runs v (t_library g u xs t sp) e pc p k n q rest a s c fit ty has places le b = absurd (cc)
+  direct_runs v (t_packed_store d x sp) e pc p k n q rest a s c fit ty has places le b = absurd (cc)
+  direct_runs v (t_packed_load d u sp) e pc p k n q rest a s c fit ty has places le b = absurd (cc)
 
-  pub variable_runs : (r : Rate) (e : Elem) (v : ℕ) (x : TExpr) (pc p k n q : ℕ) (a : Mask) (s : State) (c : Conf) → IsTyped w r (w.layout.variable r v) e → OperandFits w r e x n → ExprFits w x n → AreAt w.routine.code pc (variable_code w.layout r v x pc p k n) → AreAt w.code.places p (expr_places w.layout x) → Enters w pc k n a s c (heads x + (2 + q)) → DoneRuns w c (pc + length (variable_code w.layout r v x pc p k n)) n q (bind (means w ready x a s) (λ m s1. Gives tt (written r v a m s1)))
-  variable_runs r e v x pc p k n q a s c ty ofit fit has places b = go (writes_part w.layout r (type_of x).rate (writes_last w.layout x)) refl has
+  pub variable_runs : (r : Rate) (e : Elem) (v : ℕ) (x : TExpr) (pc p k n q rest : ℕ) (a : Mask) (s : State) (c : Conf) → IsTyped w r (w.layout.variable r v) e → OperandFits w r e x n → ExprFits w x n → AreAt w.routine.code pc (variable_code w.layout r v x pc p k n) → AreAt w.code.places p (expr_places w.layout x) → heads x + rest ≤ 3 + q → Enters w pc k n a s c q → DoneRuns w c (pc + length (variable_code w.layout r v x pc p k n)) n rest (bind (means w ready x a s) (λ m s1. Gives tt (written r v a m s1)))
+  variable_runs r e v x pc p k n q rest a s c ty ofit fit has places le b = go (writes_part w.layout r (type_of x).rate (writes_last w.layout x)) refl has
     where
       d : ℕ
       d = w.layout.variable r v
@@ -82,18 +82,18 @@ module _ (w : Setting) (ready : IsSettled w) where
       typed : (type_of x).rate ≡ r → IsTyped w (type_of x).rate (w.layout.variable (type_of x).rate v) (type_of x).elem
       typed same = subst (λ g. IsTyped w g (w.layout.variable g v) (type_of x).elem) (sym same) (ty ∙ sym ofit.elem)
 
-      go : (z : Bool) → writes_part w.layout r (type_of x).rate (writes_last w.layout x) ≡ z → AreAt w.routine.code pc (variable_from w.layout z r d x pc p k n) → DoneRuns w c (pc + length (variable_from w.layout z r d x pc p k n)) n q (bind (means w ready x a s) (λ m s1. Gives tt (written r v a m s1)))
+      go : (z : Bool) → writes_part w.layout r (type_of x).rate (writes_last w.layout x) ≡ z → AreAt w.routine.code pc (variable_from w.layout z r d x pc p k n) → DoneRuns w c (pc + length (variable_from w.layout z r d x pc p k n)) n rest (bind (means w ready x a s) (λ m s1. Gives tt (written r v a m s1)))
       go true ez at =
-          part_done v (writes_last w.layout x) c pc k n q a (means w ready x a s) r (type_of x).rate (found w.layout x n) (λ d. expr_to w.layout d x pc p k n) ofit.reaches b.mask b.low ez at
-          (λ h. expr_runs w ready x pc p k n (1 + q) a s c fit h places (enters_less w ready pc k n (heads x + (1 + q)) _ a s c (omega arith) b))
-          (λ same es h. direct_runs v x es pc p k n q a s c fit (typed same) h places (enters_less w ready pc k n (heads x + q) _ a s c (omega arith) b))
+          part_done v (writes_last w.layout x) c pc k n rest a (means w ready x a s) r (type_of x).rate (found w.layout x n) (λ d. expr_to w.layout d x pc p k n) ofit.reaches b.mask b.low ez at
+          (λ h. expr_runs w ready x pc p k n q (1 + rest) a s c fit h places (omega arith) b)
+          (λ same es h. direct_runs v x es pc p k n q rest a s c fit (typed same) h places (omega arith) b)
       go false ez at =
           let cx = expr_code w.layout x pc p k n in
           let ca = operand_of w.layout r x k n cx in
           let last = copy r d (operand w.layout r x n) k ∷ [] in
           let ha : AreAt w.routine.code pc ca = are_front w.routine.code pc ca last at in
           let to : pc + length ca + 1 ≡ pc + length (ca ++ last) = omega (arith, length-append ca last) in
-          bind_done w ready c (pc + length ca) n 1 q (Holds r a (operand w.layout r x n)) (means w ready x a s) _ _ n
-          (operand_runs w ready c pc k n (1 + q) a (means w ready x a s) r e x cx ofit b.mask b.low ha
-          (expr_runs w ready x pc p k n (1 + (1 + q)) a s c fit (are_front w.routine.code pc cx _ ha) places (enters_less w ready pc k n (heads x + (1 + (1 + q))) _ a s c (omega arith) b)))
-          (λ m s2 ok. variable_done w ready r v m a s2 c ok.conf ok.steps (pc + length ca) _ k (operand w.layout r x n) n q ok.comes ok.at to (are_back w.routine.code pc ca last at).0 ok.stands (spares_kept w ready n c ok.conf ok.keeps) ok.masks (ok.masks k b.low ∙ b.mask) (omega (arith, ok.bound)) ok.holds)
+          bind_done w ready c (pc + length ca) n 1 rest (Holds r a (operand w.layout r x n)) (means w ready x a s) _ _ n
+          (operand_runs w ready c pc k n (1 + rest) a (means w ready x a s) r e x cx ofit b.mask b.low ha
+          (expr_runs w ready x pc p k n q (1 + (1 + rest)) a s c fit (are_front w.routine.code pc cx _ ha) places (omega arith) b))
+          (λ m s2 ok. variable_done w ready r v m a s2 c ok.conf ok.steps (pc + length ca) _ k (operand w.layout r x n) n rest ok.comes ok.at to (are_back w.routine.code pc ca last at).0 ok.stands ok.spares ok.masks (ok.masks k b.low ∙ b.mask) (omega (arith, ok.bound)) ok.holds)

@@ -25,7 +25,7 @@ use Rattle.isp_meaning.specs.Payloads.{Payload, One, Each, sole, spread, mapped,
 use Rattle.isp_meaning.specs.Places as meant
 use Rattle.isp_meaning.specs.Places.{written, own_stored, with_elements}
 use Rattle.isp_lower.specs.Layout.{register, mask_register, array_register}
-use Rattle.isp_lower.specs.Setting.{Setting, IsSettled, gang_of, At, Stands, Spares, at_rate, held_at, Holds}
+use Rattle.isp_lower.specs.Setting.{ArrayFitsAt, Setting, IsSettled, gang_of, At, Stands, Spares, at_rate, held_at, Holds}
 use Rattle.isp_lower.specs.Code.{write}
 use Rattle.isp_lower.proofs.Base.{put_same, put_other, moved_by, comes_on, fails_on, step_go, step_fail, next_at, at_to}
 use Rattle.isp_lower.proofs.Rates.{at_mapped}
@@ -34,7 +34,7 @@ use Rattle.isp_base.specs.declared.trap.TrapKind.{TrapKind}
 use Rattle.isp_code.specs.declared.instr.Instr.{Instr}
 use Rattle.isp_meaning.specs.Outcomes.{Gives, bind, checked}
 use Rattle.isp_lower.specs.Runs.{Comes, DoneRuns}
-use Rattle.isp_lower.specs.Fits.{Reaches, ArrayFitsAt}
+use Rattle.isp_lower.specs.Fits.{Reaches}
 use Rattle.isp_lower.specs.Code.{is_whole}
 use Rattle.isp_lower.proofs.Access.{as_whole, size_at, outside_is, index_element, same_elements, one_inside, map_of}
 use Rattle.isp_lower.proofs.Rates.{at_offender}
@@ -159,7 +159,7 @@ module _ (w : Setting) (ready : IsSettled w) where
       let c3 = wrote w.code w.routine c2 r (w.layout.array y.number) j x k in
       write_line w.code w.routine c2 r (w.layout.array y.number) j x k p (ap (any (gang_of w)) em ∙ some)
       ∙ ap (λ u. moved_by (offender (gang_of w) (is_outside I64 (size w.code w.routine c2 (array_register (w.layout.array y.number)))) u (held_at r c2.scalars c2.vectors u j)) Index (place_at w.code p) c3) em
-      ∙ ap (λ u. moved_by (offender (gang_of w) (is_outside I64 u) a (held_at r c2.scalars c2.vectors a j)) Index (place_at w.code p) c3) (size_at w br y c2 pc at fy)
+      ∙ ap (λ u. moved_by (offender (gang_of w) (is_outside I64 u) a (held_at r c2.scalars c2.vectors a j)) Index (place_at w.code p) c3) (size_at w br y c2 pc ready.sizes at fy)
       ∙ ap (λ u. moved_by u Index (place_at w.code p) c3) (outside_is w r t (is_whole t) i a c2.scalars c2.vectors j (extent_at br w.frame y.number) refl few hold)
       ∙ ap (λ u. moved_by (offender (gang_of w) (is_outside t (extent_at br w.frame y.number)) a i) Index u c3) (place_named w.code w.routine c2 p sp place)
 

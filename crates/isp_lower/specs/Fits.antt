@@ -1,17 +1,15 @@
 -- What is demanded of a typed tree, and of the table of registers: operands have the types that their node works in, a
 -- uniform part may stand in a varying node and never the reverse, and each register that is named has its type.
-use Rattle.std.specs.Prelude.{◌≡◌, ◌≤◌, ℕ, ◌+◌, ◌-◌, ◌^◌, true, false, slice_get}
+use Rattle.std.specs.Prelude.{◌≡◌, ℕ, ◌+◌}
 use Rattle.isp_base.specs.declared.types.Elem.{Elem}
 use Rattle.isp_base.specs.declared.types.Elem.TheVariants.{Bool as Truth, I32, I64}
 use Rattle.isp_base.specs.declared.types.Rate.{Rate}
 use Rattle.isp_base.specs.declared.types.Rate.TheVariants.{Uniform, Varying}
-use Rattle.isp_code.specs.Lines.{local_size}
-use Rattle.isp_code.specs.Registers.{elem_of, is_per_lane, passed}
+use Rattle.isp_code.specs.Listing.{Routine}
+use Rattle.isp_code.specs.Registers.{elem_of}
 use Rattle.isp_typed.specs.Typed.{TExpr, t_constant, t_program_index, t_place, t_convert, t_cast, t_unary, t_binary, t_compare, t_logic, t_choose, t_call, t_library, t_packed_store, t_packed_load, TPlace, t_variable, t_element, type_of}
-use Rattle.isp_typed.specs.Fine.{heads}
-use Rattle.isp_typed.specs.declared.variable.ArrayVariable.{ArrayVariable}
-use Rattle.isp_meaning.specs.State.{extent}
-use Rattle.isp_lower.specs.Layout.{register, array_register}
+use Rattle.isp_typed.specs.Fine.{heads, HoldsArray}
+use Rattle.isp_lower.specs.Layout.{Layout, register}
 pub use Rattle.isp_lower.specs.Presence.{first_slot, second_slot}
 use Rattle.isp_lower.specs.Presence.{LiftHas, ReadHas}
 use Rattle.isp_lower.specs.Rows.{Name, Spare, numbered}
@@ -23,13 +21,16 @@ Reaches Uniform r = Unit {0}
 Reaches Varying Uniform = ⊥
 Reaches Varying Varying = Unit {0}
 
+-- the register that a layout has for a name has this type
+abbrev pub IsNamedIn : Routine → Layout → Rate → Name → Elem → Type 0
+IsNamedIn h l r x t = elem_of h (register r (numbered l r x)) ≡ t
+
 module _ (w : Setting) where
   abbrev pub IsTyped : Rate → ℕ → Elem → Type 0
   IsTyped r x t = elem_of w.routine (register r x) ≡ t
 
-  -- the register that the layout has for a name has this type
   abbrev pub IsNamed : Rate → Name → Elem → Type 0
-  IsNamed r x t = IsTyped r (numbered w.layout r x) t
+  IsNamed r x t = IsNamedIn w.routine w.layout r x t
 
   abbrev pub SpareFits : Rate → Elem → ℕ → Type 0
   SpareFits r t n = IsNamed r (Spare t n) t
@@ -43,17 +44,6 @@ module _ (w : Setting) where
     pub elem : (type_of x).elem ≡ t
     pub reaches : Reaches (type_of x).rate r
     pub lift : LiftFits (type_of x).rate r t n
-
-  -- an array: the machine's register is what the variable is
-  abbrev pub ArrayFitsAt : Rate → ArrayVariable → Type 0
-  ArrayFitsAt Uniform b =
-      (is_per_lane w.routine (array_register (w.layout.array b.number)) ≡ false) × (w.home.named (w.layout.array b.number) ≡ w.frame.named b.number) × (w.home.sizes (w.frame.named b.number) ≡ w.frame.sizes (w.frame.named b.number))
-  ArrayFitsAt Varying b =
-      (is_per_lane w.routine (array_register (w.layout.array b.number)) ≡ true) × (local_size (slice_get w.routine.locals (w.layout.array b.number - passed w.routine)) ≡ w.frame.own_sizes b.number)
-
-  pub record ArrayFits (b : ArrayVariable) : Type 0 where
-    pub is : ArrayFitsAt b.ty.rate b
-    pub few : extent w.frame b ≤ 2 ^ 63
 
   -- its value is read into slot n
   abbrev pub PlaceTyped : TPlace → ℕ → Type 0
@@ -84,4 +74,4 @@ module _ (w : Setting) where
     pub PlaceFits : TPlace → ℕ → Type 0
     PlaceFits (t_variable v t sp) n = IsTyped t.rate (w.layout.variable t.rate v) t.elem
     PlaceFits (t_element b i t sp) n =
-        ArrayFits b × Reaches b.ty.rate t.rate × Reaches (type_of i).rate t.rate × SpareFits (type_of i).rate I64 n × ExprFits i n
+        HoldsArray w.function.variables b × Reaches b.ty.rate t.rate × Reaches (type_of i).rate t.rate × SpareFits (type_of i).rate I64 n × ExprFits i n

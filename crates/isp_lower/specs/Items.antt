@@ -6,11 +6,12 @@ use Rattle.isp_base.specs.declared.types.Elem.{Elem}
 use Rattle.isp_base.specs.declared.types.Span.{Span}
 use Rattle.isp_code.specs.declared.instr.Instr.{Instr}
 use Rattle.isp_code.specs.declared.instr.Instr.TheVariants as instr
+use Rattle.isp_typed.specs.Fine.{HoldsArray}
 use Rattle.isp_typed.specs.Typed.{TItem, t_plain, t_with_value, t_with_size}
 use Rattle.isp_lower.specs.Layout.{Layout, mask_register, array_register}
 use Rattle.isp_lower.specs.Setting.{Setting}
 use Rattle.isp_lower.specs.Code.{constant, splat, two, expr_places, variable_code}
-use Rattle.isp_lower.specs.Fits.{IsTyped, IsNamed, OperandFits, ExprFits, ArrayFits}
+use Rattle.isp_lower.specs.Fits.{IsTyped, IsNamed, OperandFits, ExprFits}
 use Rattle.isp_lower.specs.Presence.{ZeroHas}
 
 module _ (l : Layout) where
@@ -44,7 +45,7 @@ module _ (w : Setting) where
   abbrev pub ItemFits : ℕ → TItem → Type 0
   ItemFits n (t_plain v t sp) = ZeroFits t.rate t.elem v n
   ItemFits n (t_with_value v t x sp) = IsTyped w t.rate (w.layout.variable t.rate v) t.elem × OperandFits w t.rate t.elem x n × ExprFits w x n
-  ItemFits n (t_with_size b sp) = ArrayFits w b
+  ItemFits n (t_with_size b sp) = HoldsArray w.function.variables b
 
   abbrev pub ItemsFit : ℕ → List TItem → Type 0
   ItemsFit n [] = Unit {0}

@@ -3,10 +3,9 @@ use Rattle.std.specs.Prelude.{◌≡◌, ℕ, List, ◌+◌, ◌++◌, length, m
 use Rattle.isp_base.specs.Sets.{Mask}
 use Rattle.isp_code.specs.Conf.{Conf}
 use Rattle.isp_typed.specs.Typed.{TExpr, TSimple, TItem, type_of}
-use Rattle.isp_meaning.specs.State.{State, tick}
+use Rattle.isp_meaning.specs.State.{State}
 use Rattle.isp_meaning.specs.Expressions.{value}
 use Rattle.isp_meaning.specs.Simple.{simple, items}
-use Rattle.isp_typed.specs.Fine.{heads}
 use Rattle.isp_base.specs.declared.types.Elem.{Elem}
 use Rattle.isp_base.specs.declared.types.Rate.{Rate}
 use Rattle.isp_code.specs.Registers.{table_of, types_in}
@@ -18,33 +17,34 @@ use Rattle.isp_lower.specs.Tables.{ExprTable, SimpleTable, ItemsTable}
 use Rattle.isp_lower.specs.Sound.{PartSound, IsRegister, HasRegister, ExprPresent, SimplePresent, ItemsPresent}
 use Rattle.isp_lower.specs.Items.{items_code, items_places, ItemsFit}
 use Rattle.isp_lower.specs.Simple.{simple_code, simple_places, SimpleFits}
-use Rattle.isp_lower.specs.Setting.{Setting, IsSettled, gang_of, AreAt, Holds}
+use Rattle.isp_lower.specs.Setting.{Setting, IsSettled, gang_of, calls_of, AreAt, Holds}
 use Rattle.isp_lower.specs.Runs.{Enters, Runs, DoneRuns}
 use Rattle.isp_lower.specs.Fits.{IsTyped, ExprFits}
 use Rattle.isp_lower.specs.Code.{found, expr_places, expr_code}
 
 -- From registers that stand for a state and a mask that stands for a set with members, the code of an expression gives
--- its value and its state, traps as it traps, or goes on where it is cut.
+-- its value and its state, traps as it traps, or goes on where it is cut. It leaves four steps: an expression of work w
+-- comes to its value, its trap or its cut after at most 32 w - 4.
 abbrev pub ExprRuns : Type 0
 ExprRuns =
-    (w : Setting) → IsSettled w → (x : TExpr) (pc p k n q : ℕ) (a : Mask) (s : State) (c : Conf) → ExprFits w x n → AreAt w.routine.code pc (expr_code w.layout x pc p k n) → AreAt w.code.places p (expr_places w.layout x) → Enters w pc k n a s c (heads x + q) → Runs w c (pc + length (expr_code w.layout x pc p k n)) n q (Holds (type_of x).rate a (found w.layout x n)) (value (gang_of w) w.frame w.calls x a s)
+    (w : Setting) → IsSettled w → (x : TExpr) (pc p k n q : ℕ) (a : Mask) (s : State) (c : Conf) → ExprFits w x n → AreAt w.routine.code pc (expr_code w.layout x pc p k n) → AreAt w.code.places p (expr_places w.layout x) → Enters w pc k n a s c q → Runs w c (pc + length (expr_code w.layout x pc p k n)) n (4 + q) (Holds (type_of x).rate a (found w.layout x n)) (value (gang_of w) w.frame (calls_of w) x a s)
 
 -- The code of what stands before a semicolon leaves registers that stand for the state after it: a place is written for
 -- the members of the set alone, after its index and the right side, and the highest instance wins in one element; an
--- operator reads its place after the right side. The statement's own unit of work pays for three steps.
+-- operator reads its place after the right side. It takes at most 32 steps for each unit of work.
 abbrev pub SimpleRuns : Type 0
 SimpleRuns =
-    (w : Setting) → IsSettled w → (x : TSimple) (pc p k n q : ℕ) (a : Mask) (s : State) (c : Conf) → SimpleFits w x n → AreAt w.routine.code pc (simple_code w.layout x pc p k n) → AreAt w.code.places p (simple_places w.layout x) → Enters w pc k n a (tick s) c (3 + q) → DoneRuns w c (pc + length (simple_code w.layout x pc p k n)) n q (simple (gang_of w) w.frame w.calls x a s)
+    (w : Setting) → IsSettled w → (x : TSimple) (pc p k n q : ℕ) (a : Mask) (s : State) (c : Conf) → SimpleFits w x n → AreAt w.routine.code pc (simple_code w.layout x pc p k n) → AreAt w.code.places p (simple_places w.layout x) → Enters w pc k n a s c q → DoneRuns w c (pc + length (simple_code w.layout x pc p k n)) n q (simple (gang_of w) w.frame (calls_of w) x a s)
 
 -- The same of declared variables, which begin with their value or with 0, and of arrays, which begin with zeros.
 abbrev pub ItemsRun : Type 0
 ItemsRun =
-    (w : Setting) → IsSettled w → (xs : List TItem) (pc p k n q : ℕ) (a : Mask) (s : State) (c : Conf) → ItemsFit w n xs → AreAt w.routine.code pc (items_code w.layout xs pc p k n) → AreAt w.code.places p (items_places w.layout xs) → Enters w pc k n a s c q → DoneRuns w c (pc + length (items_code w.layout xs pc p k n)) n q (items (gang_of w) w.frame w.calls xs a s)
+    (w : Setting) → IsSettled w → (xs : List TItem) (pc p k n q : ℕ) (a : Mask) (s : State) (c : Conf) → ItemsFit w n xs → AreAt w.routine.code pc (items_code w.layout xs pc p k n) → AreAt w.code.places p (items_places w.layout xs) → Enters w pc k n a s c q → DoneRuns w c (pc + length (items_code w.layout xs pc p k n)) n q (items (gang_of w) w.frame (calls_of w) xs a s)
 
 -- What code asks is what it asks of trees, and what it asks of the table of registers.
 abbrev pub PartsFit : Type 0
 PartsFit =
-    (w : Setting) (n : ℕ) → ((x : TExpr) → ExprTree x → ExprTable w x n → ExprFits w x n) × ((x : TSimple) → SimpleTree x → SimpleTable w x n → SimpleFits w x n) × ((xs : List TItem) → ItemsTree xs → ItemsTable w n xs → ItemsFit w n xs)
+    (w : Setting) (n : ℕ) → ((x : TExpr) → ExprTree x → ExprTable w.routine w.layout w.function.variables x n → ExprFits w x n) × ((x : TSimple) → SimpleTree x → SimpleTable w.routine w.layout w.function.variables x n → SimpleFits w x n) × ((xs : List TItem) → ItemsTree xs → ItemsTable w.routine w.layout w.function.variables n xs → ItemsFit w n xs)
 
 -- A layout from rows gives each name a register of its own.
 abbrev pub LayoutsAreApart : Type 0

@@ -7,6 +7,7 @@ pub mod Fits
 pub mod Simple
 pub mod Items
 pub mod Trees
+pub mod Asks
 pub mod Presence
 pub mod Tables
 pub mod Sound

@@ -5,15 +5,46 @@ use Rattle.isp_base.specs.Sets.{Mask, any}
 use Rattle.isp_base.specs.declared.trap.Trap.{Trap}
 use Rattle.isp_code.specs.Conf as machine
 use Rattle.isp_code.specs.Conf.{Conf}
+use Rattle.isp_code.specs.Listing.{Listing}
 use Rattle.isp_code.specs.Machine.{after}
 use Rattle.isp_meaning.specs.State.{State}
 use Rattle.isp_meaning.specs.Outcomes.{Val, Gives, Fails, Stops, Done}
-use Rattle.isp_lower.specs.Setting.{Setting, gang_of, At, Stands, Keeps, Spares}
+use Rattle.isp_lower.specs.Setting.{Setting, gang_of, At, Stands, Spares}
+
+-- ---- runs of the code, whatever call they are in
+
+module _ (code : Listing) where
+  -- the machine goes from one configuration to another in so many steps
+  abbrev pub ComesIn : Conf → ℕ → Conf → Type 0
+  ComesIn c t c' = after code t (machine.Runs c) ≡ machine.Runs c'
+
+  -- the code trapped
+  pub record FailedIn (c : Conf) (q : ℕ) (t : Trap) (s : State) : Type 0 where
+    pub conf : Conf
+    pub steps : ℕ
+    pub fails : after code steps (machine.Runs c) ≡ machine.Trapped t conf
+    pub arrays_are : conf.arrays ≡ s.arrays
+    pub out_is : conf.out ≡ s.out
+    pub bound : steps + q ≤ 32 * s.work
+
+  -- the code goes on past so many turns
+  pub record StoppedIn (turns : ℕ) (c : Conf) (q : ℕ) (s : State) : Type 0 where
+    pub conf : Conf
+    pub steps : ℕ
+    pub far : turns ≤ steps
+    pub goes : ComesIn c steps conf
+    pub out_is : conf.out ≡ s.out
+    pub bound : steps + q ≤ 32 * s.work
 
 module _ (w : Setting) where
-  -- the machine goes from one configuration to another in so many steps
   abbrev pub Comes : Conf → ℕ → Conf → Type 0
-  Comes c t c' = after w.code t (machine.Runs c) ≡ machine.Runs c'
+  Comes = ComesIn w.code
+
+  abbrev pub Failed : Conf → ℕ → Trap → State → Type 0
+  Failed = FailedIn w.code
+
+  abbrev pub Stopped : ℕ → Conf → ℕ → State → Type 0
+  Stopped = StoppedIn w.code
 
   -- what holds where code begins: mask register k has the members of a set that is not empty, registers stand for the
   -- state, and slots from n on are free
@@ -26,34 +57,16 @@ module _ (w : Setting) where
     pub used : q ≤ 32 * s.work
     pub low : k < n
 
-  -- the code came to its end with what was asked; variables and lower slots are as they were but for what the state says
+  -- the code came to its end with what was asked; the spare registers of lower slots are as they were
   pub record Ok (c : Conf) (pc n q : ℕ) (holds_there : Conf → Type 0) (s : State) : Type 0 where
     pub conf : Conf
     pub steps : ℕ
     pub comes : Comes c steps conf
     pub at : At w conf pc
     pub stands : Stands w s conf
-    pub keeps : Keeps w n c conf
+    pub spares : Spares w n c conf
     pub masks : (r : ℕ) → r < n → conf.masks r ≡ c.masks r
     pub holds : holds_there conf
-    pub bound : steps + q ≤ 32 * s.work
-
-  -- the code trapped
-  pub record Failed (c : Conf) (q : ℕ) (t : Trap) (s : State) : Type 0 where
-    pub conf : Conf
-    pub steps : ℕ
-    pub fails : after w.code steps (machine.Runs c) ≡ machine.Trapped t conf
-    pub arrays_are : conf.arrays ≡ s.arrays
-    pub out_is : conf.out ≡ s.out
-    pub bound : steps + q ≤ 32 * s.work
-
-  -- the code goes on past so many turns
-  pub record Stopped (turns : ℕ) (c : Conf) (q : ℕ) (s : State) : Type 0 where
-    pub conf : Conf
-    pub steps : ℕ
-    pub far : turns ≤ steps
-    pub goes : Comes c steps conf
-    pub out_is : conf.out ≡ s.out
     pub bound : steps + q ≤ 32 * s.work
 
   -- code from c on, that ends before instruction pc, does what a value means, of which P says where it is held

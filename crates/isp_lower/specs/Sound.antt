@@ -11,11 +11,11 @@ use Rattle.isp_code.specs.Operands.{operands}
 use Rattle.isp_code.specs.Registers.{elem_of, is_per_lane, is_local}
 use Rattle.isp_code.specs.declared.instr.Instr.{Instr}
 use Rattle.isp_code.specs.declared.register.Class.TheVariants as class
-use Rattle.isp_typed.specs.Typed.{TExpr, TPlace, TSimple, TItem}
+use Rattle.isp_typed.specs.Typed.{TExpr, TSimple, TItem}
 use Rattle.isp_typed.specs.declared.variable.ArrayVariable.{ArrayVariable}
 use Rattle.isp_lower.specs.Layout.{Layout, class_at, register, array_register}
 use Rattle.isp_lower.specs.Rows.{Name, numbered}
-use Rattle.isp_lower.specs.Presence.{LiftHas, ExprHas, PlaceHas, ChangeHas, SimpleHas, ItemHas, ItemsHave}
+use Rattle.isp_lower.specs.Asks.{Ask, All, expr_asks, simple_asks, items_asks}
 
 module _ (code : Listing) (h : Routine) where
   abbrev pub IsSound : Instr → Type 0
@@ -60,23 +60,14 @@ module _ (h : Routine) where
 
     -- ---- the registers that code asks for are there
 
-    abbrev pub LiftPresent : Rate → Rate → Elem → ℕ → Type 0
-    LiftPresent given r t n = LiftHas HasRegister given r t n
+    abbrev pub Granted : Ask → Type 0
+    Granted a = All HasRegister HasArray HasLocal HasMask a
 
     abbrev pub ExprPresent : TExpr → ℕ → Type 0
-    ExprPresent x n = ExprHas HasRegister HasArray HasLocal HasMask x n
-
-    abbrev pub PlacePresent : TPlace → ℕ → Type 0
-    PlacePresent z n = PlaceHas HasRegister HasArray HasLocal HasMask z n
-
-    abbrev pub ChangePresent : Elem → TPlace → ℕ → ℕ → Type 0
-    ChangePresent t z n i = ChangeHas HasRegister HasArray HasLocal HasMask t z n i
+    ExprPresent x n = Granted (expr_asks x n)
 
     abbrev pub SimplePresent : TSimple → ℕ → Type 0
-    SimplePresent x n = SimpleHas HasRegister HasArray HasLocal HasMask x n
-
-    abbrev pub ItemPresent : ℕ → TItem → Type 0
-    ItemPresent n x = ItemHas HasRegister HasArray HasLocal HasMask n x
+    SimplePresent x n = Granted (simple_asks x n)
 
     abbrev pub ItemsPresent : ℕ → List TItem → Type 0
-    ItemsPresent n xs = ItemsHave HasRegister HasArray HasLocal HasMask n xs
+    ItemsPresent n xs = Granted (items_asks n xs)

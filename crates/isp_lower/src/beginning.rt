@@ -4,11 +4,9 @@ ghost use Rattle.isp_base.specs.declared.types.Rate.TheVariants.{Uniform, Varyin
 ghost use Rattle.isp_lower.specs.Code.{same_rate};
 ghost use Rattle.isp_lower.specs.Emitted.{array_row, array_rows, first_rows, name_of, result_rows, row_where, rows_of, value_row, value_rows};
 
-use crate::builder::FunctionBuilder;
 use crate::register_rows::RegisterRows;
 use crate::registers::{RegisterName, RegisterRow, Registers};
 use isp_base::{Elem, Rate, Ty};
-use isp_code::Code;
 use isp_typed::{Holds, Variable};
 use std::alloc::{AllocError, Global};
 
@@ -73,28 +71,21 @@ fn add_result(registers: &mut Registers, answer: Option<Ty>) -> Result<(), Alloc
     }
 }
 
-/// A function without instructions, behind the functions and places of a listing. Its variables have registers in their
-/// order, each the next of its class, so parameters have the first; what it gives back has the one behind them.
+/// The registers with which a function begins: one for each of its variables, in their order, each the next of its class,
+/// so parameters have the first; what it gives back has the one behind them.
 pub fn begin(
     alloc: Global,
-    listing: Code,
     variables: &[Variable],
     answer: Option<Ty>,
-) -> Result<FunctionBuilder, AllocError>
-    ensures code { IfOk result (λ b. b.code.items ≡ []) }
-    ensures listing { IfOk result (λ b. b.listing ≡ listing) }
-    ensures rows { IfOk result (λ b. rows_of b.registers ≡ first_rows variables.now answer) }
+) -> Result<Registers, AllocError>
+    ensures { IfOk result (λ r. rows_of r ≡ first_rows variables.now answer) }
 {
-    let mut b = FunctionBuilder {
-        listing,
-        registers: Registers {
-            scalars: RegisterRows::new(alloc),
-            vectors: RegisterRows::new(alloc),
-            arrays: RegisterRows::new(alloc),
-        },
-        code: Vec::new(alloc),
+    let mut registers = Registers {
+        scalars: RegisterRows::new(alloc),
+        vectors: RegisterRows::new(alloc),
+        arrays: RegisterRows::new(alloc),
     };
-    add_variables(&mut b.registers, variables)?;
-    add_result(&mut b.registers, answer)?;
-    Ok(b)
+    add_variables(&mut registers, variables)?;
+    add_result(&mut registers, answer)?;
+    Ok(registers)
 }

@@ -4,13 +4,16 @@ ghost use Rattle.isp_base.specs.Ranks.{same_elem};
 ghost use Rattle.isp_base.specs.declared.types.Span.{Span};
 ghost use Rattle.isp_typed.specs.Typed.{t_element, t_variable};
 ghost use Rattle.isp_typed.specs.Views.{expr_of, place_of};
+ghost use Rattle.isp_lower.specs.Asks.{ArrayOf, Register as Ask, one_asks, spare_ask, step_asks, update_asks, work_asks};
 ghost use Rattle.isp_lower.specs.Code.{expr_places, index_places, operate_places, read, write};
-ghost use Rattle.isp_lower.specs.Emitted.{Emits, Puts};
+ghost use Rattle.isp_lower.specs.Emitted.{Appends, Present, layout};
+ghost use Rattle.isp_lower.specs.Rows.{Variable};
 ghost use Rattle.isp_lower.specs.Simple.{change_by_code, change_places, one_code, one_in, step_code, update_to};
 
-use crate::builder::FunctionBuilder;
 use crate::expression::{index, operand};
-use crate::leaves::{after, constant, convert, put_lifted, read, write};
+use crate::leaves::{constant, convert, read, write};
+use crate::located::lift;
+use crate::types::{Body, Scope};
 use crate::written::operate_to;
 use isp_base::{BinOp, Elem, Rate, Span, Ty};
 use isp_typed::{ArrayVariable, TypedExpr, TypedPlace};
@@ -26,7 +29,8 @@ fn same_elem(a: Elem, b: Elem) -> bool
 /// A register gets an operator on what another has and on a value, each converted where the operator works in another
 /// type than theirs.
 fn update_to(
-    b: &mut FunctionBuilder,
+    b: &mut Body,
+    on: &Scope,
     operator: BinOp,
     elem: Elem,
     ty: Ty,
@@ -37,13 +41,14 @@ fn update_to(
     slot: u32,
     span: Span,
 ) -> Result<(), AllocError>
-    ensures { OnOk result (Emits b.old b.new (λ l pc p. update_to l (same_elem ty.elem elem) operator elem ty.rate to from by k slot p) (λ l. operate_places operator span)) }
+    requires { Present on.now (work_asks (same_elem ty.elem elem) ty.rate elem slot) }
+    ensures { OnOk result (Appends b.old b.new (λ pc p. update_to (layout on.now) (same_elem ty.elem elem) operator elem ty.rate to from by k slot p) (operate_places operator span)) }
 {
     if same_elem(ty.elem, elem) {
         operate_to(b, ty.rate, operator, to, from, by, k, span)?;
         Ok(())
     } else {
-        let held = b.spare(ty.rate, elem, slot)?;
+        let held = on.spare(ty.rate, elem, slot);
         b.push(convert(ty.rate, held, from, k))?;
         operate_to(b, ty.rate, operator, held, held, by, k, span)?;
         b.push(convert(ty.rate, to, held, k))?;
@@ -51,10 +56,32 @@ fn update_to(
     }
 }
 
+/// A variable gets an operator on itself and a value.
+fn change_variable(
+    b: &mut Body,
+    on: &Scope,
+    operator: BinOp,
+    elem: Elem,
+    number: usize,
+    ty: Ty,
+    by: u32,
+    k: u32,
+    slot: u32,
+    span: Span,
+) -> Result<(), AllocError>
+    requires home { Present on.now (Ask ty.rate (Variable number) ty.elem) }
+    requires work { Present on.now (work_asks (same_elem ty.elem elem) ty.rate elem slot) }
+    ensures { OnOk result (Appends b.old b.new (λ pc p. update_to (layout on.now) (same_elem ty.elem elem) operator elem ty.rate ((layout on.now).variable ty.rate number) ((layout on.now).variable ty.rate number) by k slot p) (operate_places operator span)) }
+{
+    let to = on.variable(number, ty);
+    update_to(b, on, operator, elem, ty, to, to, by, k, slot, span)
+}
+
 /// An element of an array, whose index is in a register, is read into a slot, changed and written. Both accesses name one
 /// place.
 fn change_element(
-    b: &mut FunctionBuilder,
+    b: &mut Body,
+    on: &Scope,
     operator: BinOp,
     elem: Elem,
     array: ArrayVariable,
@@ -66,41 +93,46 @@ fn change_element(
     slot: u32,
     span: Span,
 ) -> Result<(), AllocError>
-    ensures { OnOk result (Emits b.old b.new (λ l pc p. read ty.rate (l.spare ty.rate ty.elem slot) (l.array array.number) place k p ∷ (update_to l (same_elem ty.elem elem) operator elem ty.rate (l.spare ty.rate ty.elem slot) (l.spare ty.rate ty.elem slot) by k slot (p + 1) ++ write ty.rate (l.array array.number) place (l.spare ty.rate ty.elem slot) k p ∷ [])) (λ l. at ∷ operate_places operator span)) }
+    requires array { Present on.now (ArrayOf array) }
+    requires work { Present on.now (work_asks (same_elem ty.elem elem) ty.rate elem slot) }
+    requires held { Present on.now (spare_ask ty.rate ty.elem slot) }
+    ensures { OnOk result (Appends b.old b.new (λ pc p. read ty.rate ((layout on.now).spare ty.rate ty.elem slot) ((layout on.now).array array.number) place k p ∷ (update_to (layout on.now) (same_elem ty.elem elem) operator elem ty.rate ((layout on.now).spare ty.rate ty.elem slot) ((layout on.now).spare ty.rate ty.elem slot) by k slot (p + 1) ++ write ty.rate ((layout on.now).array array.number) place ((layout on.now).spare ty.rate ty.elem slot) k p ∷ [])) (at ∷ operate_places operator span)) }
 {
-    let from = b.array(array)?;
-    let held = b.spare(ty.rate, ty.elem, slot)?;
+    let from = on.array(array);
+    let held = on.spare(ty.rate, ty.elem, slot);
     let number = b.place(at)?;
     b.push(read(ty.rate, held, from, place, k, number))?;
-    update_to(b, operator, elem, ty, held, held, by, k, slot, span)?;
+    update_to(b, on, operator, elem, ty, held, held, by, k, slot, span)?;
     b.push(write(ty.rate, from, place, held, k, number))?;
     Ok(())
 }
 
-/// A variable gets an operator on itself and a value.
+/// A variable gets an operator on itself and the value of an expression.
 fn change_variable_by(
-    b: &mut FunctionBuilder,
+    b: &mut Body,
+    on: &Scope,
     operator: BinOp,
     elem: Elem,
     number: usize,
     ty: Ty,
+    at: Span,
     x: &TypedExpr,
     span: Span,
     k: u32,
     slot: u32,
 ) -> Result<(), AllocError>
-    ensures { OnOk result ((s : Span) → Emits b.old b.new (λ l pc p. change_by_code l operator elem (t_variable number ty s) (expr_of x.now) pc p k slot) (λ l. expr_places l (expr_of x.now) ++ operate_places operator span)) }
+    requires { Present on.now (update_asks elem (t_variable number ty at) (expr_of x.now) slot) }
+    ensures { OnOk result (Appends b.old b.new (λ pc p. change_by_code (layout on.now) operator elem (t_variable number ty at) (expr_of x.now) pc p k slot) (expr_places (layout on.now) (expr_of x.now) ++ operate_places operator span)) }
 {
-    let next = after(slot)?;
-    let by = operand(b, ty.rate, x, k, slot)?;
-    let to = b.variable(number, ty)?;
-    update_to(b, operator, elem, ty, to, to, by, k, next, span)?;
+    let by = operand(b, on, ty.rate, x, k, slot)?;
+    change_variable(b, on, operator, elem, number, ty, by, k, slot + 1, span)?;
     Ok(())
 }
 
-/// An element gets an operator on itself and a value: its index comes before the right side.
+/// An element gets an operator on itself and the value of an expression: its index comes before the right side.
 fn change_element_by(
-    b: &mut FunctionBuilder,
+    b: &mut Body,
+    on: &Scope,
     operator: BinOp,
     elem: Elem,
     array: ArrayVariable,
@@ -112,19 +144,32 @@ fn change_element_by(
     k: u32,
     slot: u32,
 ) -> Result<(), AllocError>
-    ensures { OnOk result (Emits b.old b.new (λ l pc p. change_by_code l operator elem (t_element array (expr_of inner.now) ty at) (expr_of x.now) pc p k slot) (λ l. expr_places l (expr_of inner.now) ++ (expr_places l (expr_of x.now) ++ at ∷ operate_places operator span))) }
+    requires { Present on.now (update_asks elem (t_element array (expr_of inner.now) ty at) (expr_of x.now) slot) }
+    ensures { OnOk result (Appends b.old b.new (λ pc p. change_by_code (layout on.now) operator elem (t_element array (expr_of inner.now) ty at) (expr_of x.now) pc p k slot) (expr_places (layout on.now) (expr_of inner.now) ++ (expr_places (layout on.now) (expr_of x.now) ++ at ∷ operate_places operator span))) }
 {
-    let next = after(slot)?;
-    let last = after(next)?;
-    let place = index(b, ty.rate, inner, k, slot)?;
-    let by = operand(b, ty.rate, x, k, next)?;
-    change_element(b, operator, elem, array, ty, at, place, by, k, last, span)?;
+    let place = index(b, on, ty.rate, inner, k, slot)?;
+    let by = operand(b, on, ty.rate, x, k, slot + 1)?;
+    change_element(
+        b,
+        on,
+        operator,
+        elem,
+        array,
+        ty,
+        at,
+        place,
+        by,
+        k,
+        slot + 2,
+        span,
+    )?;
     Ok(())
 }
 
 /// `op=`.
 pub fn change_by(
-    b: &mut FunctionBuilder,
+    b: &mut Body,
+    on: &Scope,
     operator: BinOp,
     elem: Elem,
     place: &TypedPlace,
@@ -133,60 +178,69 @@ pub fn change_by(
     k: u32,
     slot: u32,
 ) -> Result<(), AllocError>
-    ensures { OnOk result (Emits b.old b.new (λ l pc p. change_by_code l operator elem (place_of place.now) (expr_of x.now) pc p k slot) (λ l. index_places l (place_of place.now) ++ (expr_places l (expr_of x.now) ++ change_places l operator (place_of place.now) span))) }
+    requires { Present on.now (update_asks elem (place_of place.now) (expr_of x.now) slot) }
+    ensures { OnOk result (Appends b.old b.new (λ pc p. change_by_code (layout on.now) operator elem (place_of place.now) (expr_of x.now) pc p k slot) (index_places (layout on.now) (place_of place.now) ++ (expr_places (layout on.now) (expr_of x.now) ++ change_places (layout on.now) operator (place_of place.now) span))) }
 {
     match place {
-        TypedPlace::Variable { number, ty, .. } => {
-            change_variable_by(b, operator, elem, *number, *ty, x, span, k, slot)
-        }
+        TypedPlace::Variable {
+            number,
+            ty,
+            span: at,
+        } => change_variable_by(b, on, operator, elem, *number, *ty, *at, x, span, k, slot),
         TypedPlace::Element {
             array,
             index: inner,
             ty,
             span: at,
-        } => change_element_by(b, operator, elem, *array, inner, *ty, *at, x, span, k, slot),
+        } => change_element_by(
+            b, on, operator, elem, *array, inner, *ty, *at, x, span, k, slot,
+        ),
     }
 }
 
 /// The number 1 as a value of a type and rate.
 fn one(
-    b: &mut FunctionBuilder,
+    b: &mut Body,
+    on: &Scope,
     rate: Rate,
     elem: Elem,
     k: u32,
     slot: u32,
 ) -> Result<u32, AllocError>
-    ensures { IfOk result (λ d. Puts b.old b.new (λ l pc p. one_code l rate elem k slot) (λ l. []) (λ l. one_in l rate elem slot) d) }
+    requires { Present on.now (one_asks rate elem slot) }
+    ensures register { IfOk result (λ d. d ≡ one_in (layout on.now) rate elem slot) }
+    ensures code { OnOk result (Appends b.old b.new (λ pc p. one_code (layout on.now) rate elem k slot) []) }
 {
-    let held = b.spare(Rate::Uniform, elem, slot)?;
+    let held = on.spare(Rate::Uniform, elem, slot);
     b.push(constant(held, elem, 1))?;
-    let to = put_lifted(b, rate, Rate::Uniform, elem, held, k, slot)?;
-    Ok(to)
+    lift(b, on, rate, Rate::Uniform, elem, held, k, slot)
 }
 
 /// A variable gets an operator on itself and 1.
 fn step_variable(
-    b: &mut FunctionBuilder,
+    b: &mut Body,
+    on: &Scope,
     operator: BinOp,
     elem: Elem,
     number: usize,
     ty: Ty,
+    at: Span,
     span: Span,
     k: u32,
     slot: u32,
 ) -> Result<(), AllocError>
-    ensures { OnOk result ((s : Span) → Emits b.old b.new (λ l pc p. step_code l operator elem (t_variable number ty s) pc p k slot) (λ l. operate_places operator span)) }
+    requires { Present on.now (step_asks elem (t_variable number ty at) slot) }
+    ensures { OnOk result (Appends b.old b.new (λ pc p. step_code (layout on.now) operator elem (t_variable number ty at) pc p k slot) (operate_places operator span)) }
 {
-    let next = after(slot)?;
-    let by = one(b, ty.rate, elem, k, slot)?;
-    let to = b.variable(number, ty)?;
-    update_to(b, operator, elem, ty, to, to, by, k, next, span)?;
+    let by = one(b, on, ty.rate, elem, k, slot)?;
+    change_variable(b, on, operator, elem, number, ty, by, k, slot + 1, span)?;
     Ok(())
 }
 
 /// An element gets an operator on itself and 1.
 fn step_element(
-    b: &mut FunctionBuilder,
+    b: &mut Body,
+    on: &Scope,
     operator: BinOp,
     elem: Elem,
     array: ArrayVariable,
@@ -197,19 +251,32 @@ fn step_element(
     k: u32,
     slot: u32,
 ) -> Result<(), AllocError>
-    ensures { OnOk result (Emits b.old b.new (λ l pc p. step_code l operator elem (t_element array (expr_of inner.now) ty at) pc p k slot) (λ l. expr_places l (expr_of inner.now) ++ at ∷ operate_places operator span)) }
+    requires { Present on.now (step_asks elem (t_element array (expr_of inner.now) ty at) slot) }
+    ensures { OnOk result (Appends b.old b.new (λ pc p. step_code (layout on.now) operator elem (t_element array (expr_of inner.now) ty at) pc p k slot) (expr_places (layout on.now) (expr_of inner.now) ++ at ∷ operate_places operator span)) }
 {
-    let next = after(slot)?;
-    let last = after(next)?;
-    let place = index(b, ty.rate, inner, k, slot)?;
-    let by = one(b, ty.rate, elem, k, next)?;
-    change_element(b, operator, elem, array, ty, at, place, by, k, last, span)?;
+    let place = index(b, on, ty.rate, inner, k, slot)?;
+    let by = one(b, on, ty.rate, elem, k, slot + 1)?;
+    change_element(
+        b,
+        on,
+        operator,
+        elem,
+        array,
+        ty,
+        at,
+        place,
+        by,
+        k,
+        slot + 2,
+        span,
+    )?;
     Ok(())
 }
 
 /// `++` and `--`.
 pub fn step(
-    b: &mut FunctionBuilder,
+    b: &mut Body,
+    on: &Scope,
     operator: BinOp,
     elem: Elem,
     place: &TypedPlace,
@@ -217,17 +284,22 @@ pub fn step(
     k: u32,
     slot: u32,
 ) -> Result<(), AllocError>
-    ensures { OnOk result (Emits b.old b.new (λ l pc p. step_code l operator elem (place_of place.now) pc p k slot) (λ l. index_places l (place_of place.now) ++ change_places l operator (place_of place.now) span)) }
+    requires { Present on.now (step_asks elem (place_of place.now) slot) }
+    ensures { OnOk result (Appends b.old b.new (λ pc p. step_code (layout on.now) operator elem (place_of place.now) pc p k slot) (index_places (layout on.now) (place_of place.now) ++ change_places (layout on.now) operator (place_of place.now) span)) }
 {
     match place {
-        TypedPlace::Variable { number, ty, .. } => {
-            step_variable(b, operator, elem, *number, *ty, span, k, slot)
-        }
+        TypedPlace::Variable {
+            number,
+            ty,
+            span: at,
+        } => step_variable(b, on, operator, elem, *number, *ty, *at, span, k, slot),
         TypedPlace::Element {
             array,
             index: inner,
             ty,
             span: at,
-        } => step_element(b, operator, elem, *array, inner, *ty, *at, span, k, slot),
+        } => step_element(
+            b, on, operator, elem, *array, inner, *ty, *at, span, k, slot,
+        ),
     }
 }

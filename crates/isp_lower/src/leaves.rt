@@ -1,14 +1,12 @@
 //! Instructions of a rate: on scalars, or on the lanes of a mask.
-ghost use Rattle.std.specs.Prelude.{◌≡◌, ◌+◌, [], IfOk};
+ghost use Rattle.std.specs.Prelude.{◌≡◌, ◌+◌, IfOk};
 ghost use Rattle.isp_base.specs.Values.{number};
 ghost use Rattle.isp_base.specs.declared.types.Rate.TheVariants.{Uniform, Varying};
 ghost use Rattle.isp_code.specs.declared.instr.Instr.TheVariants as instr;
 ghost use Rattle.isp_code.specs.declared.instr.VectorInstr.TheVariants as instr_vector;
 ghost use Rattle.isp_lower.specs.Layout.{array_register, mask_register, register};
-ghost use Rattle.isp_lower.specs.Code.{compare, compute, constant, convert, copy, lift_code, lifted, operate, read, select, the_others, unary, where_so, write};
-ghost use Rattle.isp_lower.specs.Emitted.{Puts};
+ghost use Rattle.isp_lower.specs.Code.{compare, compute, constant, convert, copy, operate, read, select, the_others, unary, where_so, write};
 
-use crate::builder::FunctionBuilder;
 use isp_base::{BinOp, Compare, Elem, Rate, UnaryOp, number};
 use isp_code::{
     Class, Division, Instr, MaskInstr, MaskOp, Plain, Register, ScalarInstr, VectorInstr,
@@ -279,27 +277,5 @@ pub fn after(slot: u32) -> Result<u32, AllocError>
     match slot.checked_add(1) {
         Some(next) => Ok(next),
         None => Err(AllocError),
-    }
-}
-
-/// A value of one rate where another is wanted: one value goes to each lane.
-pub fn put_lifted(
-    b: &mut FunctionBuilder,
-    wanted: Rate,
-    given: Rate,
-    elem: Elem,
-    from: u32,
-    k: u32,
-    slot: u32,
-) -> Result<u32, AllocError>
-    ensures { IfOk result (λ d. Puts b.old b.new (λ l pc p. lift_code l wanted given elem from k slot) (λ l. []) (λ l. lifted l wanted given elem from slot) d) }
-{
-    match (wanted, given) {
-        (Rate::Varying, Rate::Uniform) => {
-            let to = b.spare(Rate::Varying, elem, slot)?;
-            b.push(splat(to, from, k))?;
-            Ok(to)
-        }
-        _ => Ok(from),
     }
 }

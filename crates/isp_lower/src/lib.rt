@@ -3,21 +3,23 @@
 
 mod assigned;
 mod beginning;
-mod builder;
+mod body;
 mod changed;
 mod expression;
 mod laws;
 mod leaves;
+mod located;
 mod register_rows;
 mod registers;
 mod reserve;
+mod scope;
 mod statements;
 mod truths;
+mod types;
 mod written;
 
 pub use assigned::variable_to;
 pub use beginning::begin;
-pub use builder::FunctionBuilder;
 pub use expression::{expr, index, operand};
 pub use laws::{
     assignments_run, assignments_sound, declarations_run, declarations_sound, expressions_run,
@@ -28,3 +30,4 @@ pub use register_rows::RegisterRows;
 pub use registers::{RegisterName, RegisterRow, Registers};
 pub use reserve::Reserve;
 pub use statements::{declared, simple};
+pub use types::{Body, Scope};

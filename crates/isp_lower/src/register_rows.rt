@@ -1,5 +1,5 @@
 //! The registers of one class.
-ghost use Rattle.std.specs.Prelude.{◌≡◌, ◌++◌, ◌∷◌, [], map, slice_get, Some, None, IfSome, IfNone, OnOk, OnErr};
+ghost use Rattle.std.specs.Prelude.{◌≡◌, ◌≤◌, ◌++◌, ◌∷◌, [], length, map, slice_get, Some, None, IfSome, IfNone, OnOk, OnErr};
 ghost use Rattle.isp_base.specs.Ranks.{rank};
 ghost use Rattle.isp_lower.specs.Lookup.{name_of, row_of};
 ghost use Rattle.isp_lower.specs.Rows.{elem_in, name_number, number_in};
@@ -20,7 +20,7 @@ pub struct RegisterRows {
 }
 
 impl Model for RegisterRows {
-    ghost use Rattle.std.specs.Prelude.{List, map};
+    ghost use Rattle.std.specs.Prelude.{◌≤◌, List, length, map};
     ghost use Rattle.isp_lower.specs.Lookup.{Tells, row_of};
     ghost use Rattle.isp_lower.specs.declared.registers.RegisterRow.{RegisterRow};
 
@@ -28,7 +28,7 @@ impl Model for RegisterRows {
 
     ghost view = { λ r. r.rows.items };
 
-    ghost invariant = { λ r. Tells r.places (map row_of r.rows.items) };
+    ghost invariant = { λ r. Tells r.places (map row_of r.rows.items) × (length r.rows.items ≤ 4294967295) };
 }
 
 /// The place of a type in the order of the types.
@@ -66,6 +66,19 @@ fn row_at(rows: &[RegisterRow], place: usize) -> Option<RegisterRow>
     rows.get(place).copied()
 }
 
+/// One more register behind the others.
+fn append(rows: &mut Vec<RegisterRow>, row: RegisterRow) -> Result<(), AllocError>
+    ensures ok { OnOk result (rows.new.items ≡ rows.old.items ++ row ∷ []) }
+    ensures few { OnOk result (length rows.new.items ≤ 4294967295) }
+    ensures err { OnErr result (rows.new.items ≡ rows.old.items) }
+{
+    if rows.len() >= 4_294_967_295 {
+        return Err(AllocError);
+    }
+    rows.push(row)?;
+    Ok(())
+}
+
 impl RegisterRows {
     /// No registers.
     pub fn new(alloc: Global) -> RegisterRows
@@ -89,6 +102,7 @@ impl RegisterRows {
         ensures number { IfSome result (λ x. x.0 ≡ number_in (map row_of self.now) (name_of name)) }
         ensures elem { IfSome result (λ x. elem_in (map row_of self.now) (name_of name) ≡ Some x.1) }
         ensures none { IfNone result (elem_in (map row_of self.now) (name_of name) ≡ None) }
+        ensures few { length self.now ≤ 4294967295 }
     {
         let number = name_number(name);
         let place = *self.places.get(&number)?;
@@ -98,7 +112,8 @@ impl RegisterRows {
         }
     }
 
-    /// One more register. Where memory is refused, they stay as they were.
+    /// One more register. Where memory is refused, they stay as they were. It is refused too where the register would be
+    /// number 4,294,967,295 of its class.
     pub fn push(&mut self, row: RegisterRow) -> Result<(), AllocError>
         ensures ok { OnOk result (self.new ≡ self.old ++ row ∷ []) }
         ensures err { OnErr result (self.new ≡ self.old) }
@@ -106,7 +121,7 @@ impl RegisterRows {
         if self.find(row.name).is_none() {
             self.places.insert(name_number(row.name), self.rows.len())?;
         }
-        self.rows.push(row)?;
+        append(&mut self.rows, row)?;
         Ok(())
     }
 }

@@ -1,18 +1,18 @@
 //! The registers that code asks for, before it is written.
-ghost use Rattle.std.specs.Prelude.{◌≡◌, ◌<◌, ◌+◌, IfOk, OnOk};
+ghost use Rattle.std.specs.Prelude.{◌≡◌, ◌+◌, IfOk, OnOk};
 ghost use Rattle.isp_base.specs.Ranks.{same_elem};
-ghost use Rattle.isp_base.specs.declared.types.Rate.TheVariants.{Uniform};
+ghost use Rattle.isp_base.specs.declared.types.Elem.TheVariants.{Bool as Truth};
+ghost use Rattle.isp_base.specs.declared.types.Rate.TheVariants.{Uniform, Varying};
 ghost use Rattle.isp_typed.specs.Typed.{type_of};
 ghost use Rattle.isp_typed.specs.Views.{expr_of, item_of, items_of, place_of, simple_of};
-ghost use Rattle.isp_lower.specs.Emitted.{HasRow};
-ghost use Rattle.isp_lower.specs.Presence.{SidesHave, TestHas, beyond, first_slot, second_slot};
-ghost use Rattle.isp_lower.specs.Reserved.{Adds, HasChange, HasAssign, HasExpr, HasIndex, HasItem, HasItems, HasLift, HasLogic, HasMask, HasPair, HasPlace, HasRead, HasSimple, HasStep, HasUpdate, HasWork, HasZero};
-ghost use Rattle.isp_lower.specs.Rows.{Result, Spare, Variable};
+ghost use Rattle.isp_lower.specs.Asks.{ArrayOf, Both, MaskOf, Number, Register as Ask, assign_asks, change_asks, expr_asks, index_asks, item_asks, items_asks, lift_asks, one_asks, operand_asks, pair_asks, read_asks, sides_ask, simple_asks, spare_ask, step_asks, target_asks, test_asks, update_asks, variable_asks, work_asks, zero_asks, beyond, first_slot, second_slot};
+ghost use Rattle.isp_lower.specs.Reserved.{Gives};
+ghost use Rattle.isp_lower.specs.Rows.{Result, Variable};
 
 use crate::leaves::after;
 use crate::registers::Registers;
 use isp_base::{Elem, Rate, Ty};
-use isp_typed::{TypedExpr, TypedItem, TypedPlace, TypedSimple};
+use isp_typed::{ArrayVariable, TypedExpr, TypedItem, TypedPlace, TypedSimple};
 use std::alloc::AllocError;
 
 /// The registers of a function so far, and how many masks it has.
@@ -25,8 +25,7 @@ pub struct Reserve {
 impl Reserve {
     /// A register of a slot for values of a type.
     pub fn spare(&mut self, rate: Rate, elem: Elem, slot: u32) -> Result<(), AllocError>
-        ensures adds { OnOk result (Adds self.old self.new) }
-        ensures has { OnOk result (HasRow self.new.registers rate (Spare elem slot) elem) }
+        ensures { OnOk result (Gives self.old self.new (spare_ask rate elem slot)) }
     {
         self.registers.spare(rate, elem, slot)?;
         Ok(())
@@ -34,17 +33,31 @@ impl Reserve {
 
     /// The register of a variable's value. Memory is refused where the variable has none of its type.
     pub fn variable(&mut self, number: usize, ty: Ty) -> Result<(), AllocError>
-        ensures adds { OnOk result (Adds self.old self.new) }
-        ensures has { OnOk result (HasRow self.new.registers ty.rate (Variable number) ty.elem) }
+        ensures { OnOk result (Gives self.old self.new (Ask ty.rate (Variable number) ty.elem)) }
     {
         self.registers.variable(number, ty)?;
         Ok(())
     }
 
+    /// The register of what the function gives back. Memory is refused where it gives back nothing of the type.
+    pub fn result(&mut self, ty: Ty) -> Result<(), AllocError>
+        ensures { OnOk result (Gives self.old self.new (Ask ty.rate Result ty.elem)) }
+    {
+        self.registers.result(ty)?;
+        Ok(())
+    }
+
+    /// The register of an array. Memory is refused where the variable has none of its type.
+    fn array(&mut self, array: ArrayVariable) -> Result<(), AllocError>
+        ensures { OnOk result (Gives self.old self.new (ArrayOf array)) }
+    {
+        self.registers.array(array)?;
+        Ok(())
+    }
+
     /// The mask register of a slot.
     pub fn mask(&mut self, slot: u32) -> Result<(), AllocError>
-        ensures adds { OnOk result (Adds self.old self.new) }
-        ensures has { OnOk result (HasMask self.new slot) }
+        ensures { OnOk result (Gives self.old self.new (MaskOf slot)) }
     {
         if self.masks <= slot {
             self.masks = after(slot)?;
@@ -52,21 +65,27 @@ impl Reserve {
         Ok(())
     }
 
-    /// A register for a uniform value that a varying one is made of.
-    fn lift(&mut self, given: Rate, wanted: Rate, elem: Elem, slot: u32) -> Result<(), AllocError>
-        ensures adds { OnOk result (Adds self.old self.new) }
-        ensures has { OnOk result (HasLift self.new given wanted elem slot) }
+    /// The number of the next slot.
+    pub fn next(&mut self, slot: u32) -> Result<u32, AllocError>
+        ensures number { IfOk result (λ n. n ≡ slot + 1) }
+        ensures gives { IfOk result (λ n. Gives self.old self.new (Number n)) }
     {
-        match (given, wanted) {
-            (Rate::Uniform, Rate::Varying) => self.spare(Rate::Varying, elem, slot),
+        after(slot)
+    }
+
+    /// A register for a uniform value that a varying one is made of.
+    fn lift(&mut self, wanted: Rate, given: Rate, elem: Elem, slot: u32) -> Result<(), AllocError>
+        ensures { OnOk result (Gives self.old self.new (lift_asks wanted given elem slot)) }
+    {
+        match (wanted, given) {
+            (Rate::Varying, Rate::Uniform) => self.spare(Rate::Varying, elem, slot),
             _ => Ok(()),
         }
     }
 
     /// A mask for those that pass a varying test.
     pub fn test(&mut self, rate: Rate, slot: u32) -> Result<(), AllocError>
-        ensures adds { OnOk result (Adds self.old self.new) }
-        ensures has { OnOk result (TestHas (HasMask self.new) rate slot) }
+        ensures { OnOk result (Gives self.old self.new (test_asks rate slot)) }
     {
         match rate {
             Rate::Uniform => Ok(()),
@@ -75,52 +94,55 @@ impl Reserve {
     }
 
     /// Masks for those that pass a varying test, and for the others.
+    fn both_sides(&mut self, slot: u32) -> Result<(), AllocError>
+        ensures { OnOk result (Gives self.old self.new (sides_ask Varying slot)) }
+    {
+        let next = self.next(slot)?;
+        self.next(next)?;
+        self.mask(slot)?;
+        self.mask(next)?;
+        Ok(())
+    }
+
     fn sides(&mut self, rate: Rate, slot: u32) -> Result<(), AllocError>
-        ensures adds { OnOk result (Adds self.old self.new) }
-        ensures has { OnOk result (SidesHave (HasMask self.new) rate slot) }
+        ensures { OnOk result (Gives self.old self.new (sides_ask rate slot)) }
     {
         match rate {
             Rate::Uniform => Ok(()),
-            Rate::Varying => {
-                self.mask(slot)?;
-                let next = after(slot)?;
-                self.mask(next)?;
-                Ok(())
-            }
+            Rate::Varying => self.both_sides(slot),
         }
     }
 
     /// What the code of an expression asks for, in the slots from one on.
     #[cycle(expr)]
     pub fn expr(&mut self, x: &TypedExpr, slot: u32) -> Result<(), AllocError>
-        ensures adds { OnOk result (Adds self.old self.new) }
-        ensures has { OnOk result (HasExpr self.new (expr_of x.now) slot) }
+        ensures { OnOk result (Gives self.old self.new (expr_asks (expr_of x.now) slot)) }
     {
         match x {
             TypedExpr::Constant { value, .. } => self.spare(Rate::Uniform, value.elem, slot),
             TypedExpr::ProgramIndex { .. } => self.spare(Rate::Varying, Elem::I32, slot),
             TypedExpr::Place(place) => self.read(place, slot),
             TypedExpr::Convert { elem, operand } => self.converted(*elem, operand, slot),
-            TypedExpr::Cast { operand, ty, .. } => self.cast(*ty, operand, slot),
+            TypedExpr::Cast { operand, ty, .. } => self.operand(ty.rate, operand, slot),
             TypedExpr::Unary { operand, ty, .. } => self.unary(*ty, operand, slot),
             TypedExpr::Binary {
                 left,
                 right,
                 ty,
                 ..
-            } => self.pair(left, right, ty.rate, ty.elem, ty.elem, slot),
+            } => self.work_of_two(ty.rate, ty.elem, left, right, slot),
             TypedExpr::Compare {
                 left,
                 right,
                 rate,
                 ..
-            } => self.pair(left, right, *rate, left.ty().elem, Elem::Bool, slot),
+            } => self.work_of_two(*rate, Elem::Bool, left, right, slot),
             TypedExpr::Logic {
                 left,
                 right,
                 rate,
                 ..
-            } => self.logic(left, right, *rate, slot),
+            } => self.logic(*rate, left, right, slot),
             TypedExpr::Choose {
                 test,
                 then,
@@ -131,61 +153,73 @@ impl Reserve {
             TypedExpr::Call { .. }
             | TypedExpr::Library { .. }
             | TypedExpr::PackedStore { .. }
-            | TypedExpr::PackedLoad { .. } => Ok(()),
+            | TypedExpr::PackedLoad { .. } => {
+                let ty = x.ty();
+                self.spare(ty.rate, ty.elem, slot)
+            }
         }
     }
 
     #[cycle(expr)]
     fn converted(&mut self, elem: Elem, x: &TypedExpr, slot: u32) -> Result<(), AllocError>
-        ensures adds { OnOk result (Adds self.old self.new) }
-        ensures has { OnOk result (HasRow self.new.registers (type_of (expr_of x.now)).rate (Spare elem slot) elem × HasExpr self.new (expr_of x.now) slot) }
+        ensures { OnOk result (Gives self.old self.new (Both (spare_ask (type_of (expr_of x.now)).rate elem slot) (expr_asks (expr_of x.now) slot))) }
     {
         self.spare(x.ty().rate, elem, slot)?;
         self.expr(x, slot)?;
         Ok(())
     }
 
+    /// A value that is taken at a rate.
     #[cycle(expr)]
-    fn cast(&mut self, ty: Ty, x: &TypedExpr, slot: u32) -> Result<(), AllocError>
-        ensures adds { OnOk result (Adds self.old self.new) }
-        ensures has { OnOk result (HasLift self.new (type_of (expr_of x.now)).rate ty.rate ty.elem slot × HasExpr self.new (expr_of x.now) slot) }
+    pub fn operand(&mut self, rate: Rate, x: &TypedExpr, slot: u32) -> Result<(), AllocError>
+        ensures { OnOk result (Gives self.old self.new (operand_asks rate (expr_of x.now) slot)) }
     {
-        self.lift(x.ty().rate, ty.rate, ty.elem, slot)?;
+        let ty = x.ty();
+        self.lift(rate, ty.rate, ty.elem, slot)?;
         self.expr(x, slot)?;
         Ok(())
     }
 
     #[cycle(expr)]
     fn unary(&mut self, ty: Ty, x: &TypedExpr, slot: u32) -> Result<(), AllocError>
-        ensures adds { OnOk result (Adds self.old self.new) }
-        ensures has { OnOk result (HasLift self.new (type_of (expr_of x.now)).rate ty.rate ty.elem slot × HasRow self.new.registers ty.rate (Spare ty.elem slot) ty.elem × HasExpr self.new (expr_of x.now) slot) }
+        ensures { OnOk result (Gives self.old self.new (Both (spare_ask ty.rate ty.elem slot) (operand_asks ty.rate (expr_of x.now) slot))) }
     {
-        self.lift(x.ty().rate, ty.rate, ty.elem, slot)?;
         self.spare(ty.rate, ty.elem, slot)?;
-        self.expr(x, slot)?;
+        self.operand(ty.rate, x, slot)?;
         Ok(())
     }
 
-    /// Two operands that are taken at a rate and in a type, and what is made of them.
+    /// Two operands that are taken at a rate, the second one slot on.
     #[cycle(expr)]
     fn pair(
         &mut self,
+        rate: Rate,
         left: &TypedExpr,
         right: &TypedExpr,
-        rate: Rate,
-        taken: Elem,
-        made: Elem,
         slot: u32,
     ) -> Result<(), AllocError>
-        ensures adds { OnOk result (Adds self.old self.new) }
-        ensures has { OnOk result (HasPair self.new (expr_of left.now) (expr_of right.now) rate taken made slot) }
+        ensures { OnOk result (Gives self.old self.new (pair_asks rate (expr_of left.now) (expr_of right.now) slot (expr_asks (expr_of left.now) slot) (expr_asks (expr_of right.now) (slot + 1)))) }
     {
-        let next = after(slot)?;
-        self.lift(left.ty().rate, rate, taken, slot)?;
-        self.lift(right.ty().rate, rate, taken, next)?;
+        let next = self.next(slot)?;
+        self.operand(rate, left, slot)?;
+        self.operand(rate, right, next)?;
+        Ok(())
+    }
+
+    /// Two operands, and what is made of them.
+    #[cycle(expr)]
+    fn work_of_two(
+        &mut self,
+        rate: Rate,
+        made: Elem,
+        left: &TypedExpr,
+        right: &TypedExpr,
+        slot: u32,
+    ) -> Result<(), AllocError>
+        ensures { OnOk result (Gives self.old self.new (Both (spare_ask rate made slot) (pair_asks rate (expr_of left.now) (expr_of right.now) slot (expr_asks (expr_of left.now) slot) (expr_asks (expr_of right.now) (slot + 1))))) }
+    {
         self.spare(rate, made, slot)?;
-        self.expr(left, slot)?;
-        self.expr(right, next)?;
+        self.pair(rate, left, right, slot)?;
         Ok(())
     }
 
@@ -193,16 +227,16 @@ impl Reserve {
     #[cycle(expr)]
     fn logic(
         &mut self,
+        rate: Rate,
         left: &TypedExpr,
         right: &TypedExpr,
-        rate: Rate,
         slot: u32,
     ) -> Result<(), AllocError>
-        ensures adds { OnOk result (Adds self.old self.new) }
-        ensures has { OnOk result (HasLogic self.new (expr_of left.now) (expr_of right.now) rate slot) }
+        ensures { OnOk result (Gives self.old self.new (Both (spare_ask rate Truth slot) (Both (test_asks rate slot) (pair_asks rate (expr_of left.now) (expr_of right.now) slot (expr_asks (expr_of left.now) slot) (expr_asks (expr_of right.now) (slot + 1)))))) }
     {
-        self.pair(left, right, rate, Elem::Bool, Elem::Bool, slot)?;
+        self.spare(rate, Elem::Bool, slot)?;
         self.test(rate, slot)?;
+        self.pair(rate, left, right, slot)?;
         Ok(())
     }
 
@@ -216,24 +250,18 @@ impl Reserve {
         otherwise: &TypedExpr,
         slot: u32,
     ) -> Result<(), AllocError>
-        ensures adds { OnOk result (Adds self.old self.new) }
-        ensures has { OnOk result (HasRow self.new.registers ty.rate (Spare ty.elem slot) ty.elem
-            × HasLift self.new (type_of (expr_of then.now)).rate ty.rate ty.elem (first_slot (type_of (expr_of test.now)).rate slot)
-            × HasLift self.new (type_of (expr_of otherwise.now)).rate ty.rate ty.elem (second_slot (type_of (expr_of test.now)).rate slot)
-            × HasExpr self.new (expr_of test.now) slot
-            × HasExpr self.new (expr_of then.now) (first_slot (type_of (expr_of test.now)).rate slot)
-            × HasExpr self.new (expr_of otherwise.now) (second_slot (type_of (expr_of test.now)).rate slot)
-            × SidesHave (HasMask self.new) (type_of (expr_of test.now)).rate slot) }
+        ensures { OnOk result (Gives self.old self.new (Both (spare_ask ty.rate ty.elem slot)
+            (Both (expr_asks (expr_of test.now) slot)
+            (Both (operand_asks ty.rate (expr_of then.now) (first_slot (type_of (expr_of test.now)).rate slot))
+            (Both (operand_asks ty.rate (expr_of otherwise.now) (second_slot (type_of (expr_of test.now)).rate slot)) (sides_ask (type_of (expr_of test.now)).rate slot)))))) }
     {
         let rate = test.ty().rate;
         let first = side(rate, slot)?;
         let second = side(rate, first)?;
         self.spare(ty.rate, ty.elem, slot)?;
-        self.lift(then.ty().rate, ty.rate, ty.elem, first)?;
-        self.lift(otherwise.ty().rate, ty.rate, ty.elem, second)?;
         self.expr(test, slot)?;
-        self.expr(then, first)?;
-        self.expr(otherwise, second)?;
+        self.operand(ty.rate, then, first)?;
+        self.operand(ty.rate, otherwise, second)?;
         self.sides(rate, slot)?;
         Ok(())
     }
@@ -241,18 +269,16 @@ impl Reserve {
     /// A place, and the register that its value is read into.
     #[cycle(expr)]
     fn read(&mut self, place: &TypedPlace, slot: u32) -> Result<(), AllocError>
-        ensures adds { OnOk result (Adds self.old self.new) }
-        ensures has { OnOk result (HasPlace self.new (place_of place.now) slot × HasRead self.new (place_of place.now) slot) }
+        ensures { OnOk result (Gives self.old self.new (Both (target_asks (place_of place.now) slot) (read_asks (place_of place.now) slot))) }
     {
-        self.place(place, slot)?;
+        self.target(place, slot)?;
         self.element(place, slot)?;
         Ok(())
     }
 
     /// The register that an element is read into; none for a variable.
     fn element(&mut self, place: &TypedPlace, slot: u32) -> Result<(), AllocError>
-        ensures adds { OnOk result (Adds self.old self.new) }
-        ensures has { OnOk result (HasRead self.new (place_of place.now) slot) }
+        ensures { OnOk result (Gives self.old self.new (read_asks (place_of place.now) slot)) }
     {
         match place {
             TypedPlace::Variable { .. } => Ok(()),
@@ -262,50 +288,48 @@ impl Reserve {
 
     /// A place whose index is taken at a slot.
     #[cycle(expr)]
-    fn place(&mut self, place: &TypedPlace, slot: u32) -> Result<(), AllocError>
-        ensures adds { OnOk result (Adds self.old self.new) }
-        ensures has { OnOk result (HasPlace self.new (place_of place.now) slot) }
+    fn target(&mut self, place: &TypedPlace, slot: u32) -> Result<(), AllocError>
+        ensures { OnOk result (Gives self.old self.new (target_asks (place_of place.now) slot)) }
     {
         match place {
             TypedPlace::Variable { number, ty, .. } => self.variable(*number, *ty),
-            TypedPlace::Element { index, ty, .. } => self.index(ty.rate, index, slot),
+            TypedPlace::Element {
+                array,
+                index,
+                ty,
+                ..
+            } => self.place_in(*array, ty.rate, index, slot),
         }
+    }
+
+    #[cycle(expr)]
+    fn place_in(
+        &mut self,
+        array: ArrayVariable,
+        rate: Rate,
+        index: &TypedExpr,
+        slot: u32,
+    ) -> Result<(), AllocError>
+        ensures { OnOk result (Gives self.old self.new (Both (ArrayOf array) (index_asks rate (expr_of index.now) slot (expr_asks (expr_of index.now) slot)))) }
+    {
+        self.array(array)?;
+        self.index(rate, index, slot)?;
+        Ok(())
     }
 
     /// An index, as int64, at the rate of the element.
     #[cycle(expr)]
     fn index(&mut self, rate: Rate, index: &TypedExpr, slot: u32) -> Result<(), AllocError>
-        ensures adds { OnOk result (Adds self.old self.new) }
-        ensures has { OnOk result (HasIndex self.new (expr_of index.now) rate slot) }
+        ensures { OnOk result (Gives self.old self.new (index_asks rate (expr_of index.now) slot (expr_asks (expr_of index.now) slot))) }
     {
-        let given = index.ty().rate;
-        self.spare(given, Elem::I64, slot)?;
-        self.expr(index, slot)?;
-        self.lift(given, rate, Elem::I64, slot)?;
-        Ok(())
-    }
-
-    /// A place that an operator of a type reads and writes, at a slot of its own.
-    fn change(
-        &mut self,
-        elem: Elem,
-        place: &TypedPlace,
-        slot: u32,
-        work: u32,
-    ) -> Result<(), AllocError>
-        ensures adds { OnOk result (Adds self.old self.new) }
-        ensures has { OnOk result (HasChange self.new elem (place_of place.now) slot work) }
-    {
-        self.place(place, slot)?;
-        self.work(place.ty(), elem, work)?;
-        self.element(place, work)?;
+        self.lift(rate, index.ty().rate, Elem::I64, slot)?;
+        self.converted(Elem::I64, index, slot)?;
         Ok(())
     }
 
     /// The register in which an operator works whose type is not that of its place.
     fn work(&mut self, ty: Ty, elem: Elem, slot: u32) -> Result<(), AllocError>
-        ensures adds { OnOk result (Adds self.old self.new) }
-        ensures has { OnOk result (HasWork self.new (same_elem ty.elem elem) ty.rate elem slot) }
+        ensures { OnOk result (Gives self.old self.new (work_asks (same_elem ty.elem elem) ty.rate elem slot)) }
     {
         if ty.elem == elem {
             Ok(())
@@ -314,35 +338,27 @@ impl Reserve {
         }
     }
 
-    /// The register of what the function gives back. Memory is refused where it gives back nothing of the type.
-    pub fn result(&mut self, ty: Ty) -> Result<(), AllocError>
-        ensures adds { OnOk result (Adds self.old self.new) }
-        ensures has { OnOk result (HasRow self.new.registers ty.rate Result ty.elem) }
+    /// A place that an operator of a type reads and writes, at a slot of its own.
+    fn change(&mut self, elem: Elem, place: &TypedPlace, slot: u32) -> Result<(), AllocError>
+        ensures { OnOk result (Gives self.old self.new (change_asks elem (place_of place.now) slot)) }
     {
-        self.registers.result(ty)?;
+        self.work(place.ty(), elem, slot)?;
+        self.element(place, slot)?;
         Ok(())
     }
 
-    /// A value that is taken at a rate, in its type.
-    pub fn operand(
-        &mut self,
-        rate: Rate,
-        elem: Elem,
-        x: &TypedExpr,
-        slot: u32,
-    ) -> Result<(), AllocError>
-        ensures adds { OnOk result (Adds self.old self.new) }
-        ensures has { OnOk result (HasLift self.new (type_of (expr_of x.now)).rate rate elem slot × HasExpr self.new (expr_of x.now) slot) }
+    /// The number 1 at a rate.
+    fn one(&mut self, rate: Rate, elem: Elem, slot: u32) -> Result<(), AllocError>
+        ensures { OnOk result (Gives self.old self.new (one_asks rate elem slot)) }
     {
-        self.lift(x.ty().rate, rate, elem, slot)?;
-        self.expr(x, slot)?;
+        self.spare(Rate::Uniform, elem, slot)?;
+        self.lift(rate, Rate::Uniform, elem, slot)?;
         Ok(())
     }
 
     /// What the code of an assignment asks for, and of what else stands before a semicolon.
     pub fn simple(&mut self, x: &TypedSimple, slot: u32) -> Result<(), AllocError>
-        ensures adds { OnOk result (Adds self.old self.new) }
-        ensures has { OnOk result (HasSimple self.new (simple_of x.now) slot) }
+        ensures { OnOk result (Gives self.old self.new (simple_asks (simple_of x.now) slot)) }
     {
         match x {
             TypedSimple::Value(value) => self.expr(value, slot),
@@ -358,19 +374,28 @@ impl Reserve {
         }
     }
 
+    /// The slot behind that of a place's index.
+    fn beyond(&mut self, place: &TypedPlace, slot: u32) -> Result<u32, AllocError>
+        ensures number { IfOk result (λ n. n ≡ beyond (place_of place.now) slot) }
+        ensures gives { IfOk result (λ n. Gives self.old self.new (Number n)) }
+    {
+        match place {
+            TypedPlace::Variable { .. } => Ok(slot),
+            TypedPlace::Element { .. } => self.next(slot),
+        }
+    }
+
     fn assign(
         &mut self,
         target: &TypedPlace,
         value: &TypedExpr,
         slot: u32,
     ) -> Result<(), AllocError>
-        ensures adds { OnOk result (Adds self.old self.new) }
-        ensures has { OnOk result (HasAssign self.new (place_of target.now) (expr_of value.now) slot) }
+        ensures { OnOk result (Gives self.old self.new (assign_asks (place_of target.now) (expr_of value.now) slot)) }
     {
-        let ty = target.ty();
-        let next = beyond(target, slot)?;
-        self.place(target, slot)?;
-        self.operand(ty.rate, ty.elem, value, next)?;
+        self.target(target, slot)?;
+        let next = self.beyond(target, slot)?;
+        self.operand(target.ty().rate, value, next)?;
         Ok(())
     }
 
@@ -381,32 +406,30 @@ impl Reserve {
         value: &TypedExpr,
         slot: u32,
     ) -> Result<(), AllocError>
-        ensures adds { OnOk result (Adds self.old self.new) }
-        ensures has { OnOk result (HasUpdate self.new elem (place_of target.now) (expr_of value.now) slot) }
+        ensures { OnOk result (Gives self.old self.new (update_asks elem (place_of target.now) (expr_of value.now) slot)) }
     {
-        let next = beyond(target, slot)?;
-        let work = after(next)?;
-        self.change(elem, target, slot, work)?;
-        self.operand(target.ty().rate, elem, value, next)?;
+        let next = self.beyond(target, slot)?;
+        self.target(target, slot)?;
+        let work = self.next(next)?;
+        self.operand(target.ty().rate, value, next)?;
+        self.change(elem, target, work)?;
         Ok(())
     }
 
     fn step(&mut self, elem: Elem, target: &TypedPlace, slot: u32) -> Result<(), AllocError>
-        ensures adds { OnOk result (Adds self.old self.new) }
-        ensures has { OnOk result (HasStep self.new elem (place_of target.now) slot) }
+        ensures { OnOk result (Gives self.old self.new (step_asks elem (place_of target.now) slot)) }
     {
-        let next = beyond(target, slot)?;
-        let work = after(next)?;
-        self.change(elem, target, slot, work)?;
-        self.spare(Rate::Uniform, elem, next)?;
-        self.lift(Rate::Uniform, target.ty().rate, elem, next)?;
+        let next = self.beyond(target, slot)?;
+        self.target(target, slot)?;
+        let work = self.next(next)?;
+        self.one(target.ty().rate, elem, next)?;
+        self.change(elem, target, work)?;
         Ok(())
     }
 
     /// A variable begins with 0: a varying one gets it from a slot.
     fn zero(&mut self, number: usize, ty: Ty, slot: u32) -> Result<(), AllocError>
-        ensures adds { OnOk result (Adds self.old self.new) }
-        ensures has { OnOk result (HasZero self.new ty.rate ty.elem number slot) }
+        ensures { OnOk result (Gives self.old self.new (zero_asks ty.rate ty.elem number slot)) }
     {
         match ty.rate {
             Rate::Uniform => self.variable(number, ty),
@@ -415,8 +438,7 @@ impl Reserve {
     }
 
     fn zero_lanes(&mut self, number: usize, ty: Ty, slot: u32) -> Result<(), AllocError>
-        ensures adds { OnOk result (Adds self.old self.new) }
-        ensures has { OnOk result (HasRow self.new.registers Uniform (Spare ty.elem slot) ty.elem × HasRow self.new.registers ty.rate (Variable number) ty.elem) }
+        ensures { OnOk result (Gives self.old self.new (Both (spare_ask Uniform ty.elem slot) (Ask ty.rate (Variable number) ty.elem))) }
     {
         self.spare(Rate::Uniform, ty.elem, slot)?;
         self.variable(number, ty)?;
@@ -430,18 +452,15 @@ impl Reserve {
         value: &TypedExpr,
         slot: u32,
     ) -> Result<(), AllocError>
-        ensures adds { OnOk result (Adds self.old self.new) }
-        ensures has { OnOk result (HasRow self.new.registers ty.rate (Variable number) ty.elem
-            × HasLift self.new (type_of (expr_of value.now)).rate ty.rate ty.elem slot × HasExpr self.new (expr_of value.now) slot) }
+        ensures { OnOk result (Gives self.old self.new (variable_asks ty.rate ty.elem number (expr_of value.now) slot)) }
     {
         self.variable(number, ty)?;
-        self.operand(ty.rate, ty.elem, value, slot)?;
+        self.operand(ty.rate, value, slot)?;
         Ok(())
     }
 
     fn item(&mut self, x: &TypedItem, slot: u32) -> Result<(), AllocError>
-        ensures adds { OnOk result (Adds self.old self.new) }
-        ensures has { OnOk result (HasItem self.new slot (item_of x.now)) }
+        ensures { OnOk result (Gives self.old self.new (item_asks slot (item_of x.now))) }
     {
         match x {
             TypedItem::Plain { number, ty, .. } => self.zero(*number, *ty, slot),
@@ -451,29 +470,18 @@ impl Reserve {
                 value,
                 ..
             } => self.with_value(*number, *ty, value, slot),
-            TypedItem::Array { .. } => Ok(()),
+            TypedItem::Array { array, .. } => self.array(*array),
         }
     }
 
     /// What the code of declared variables and arrays asks for.
     pub fn items(&mut self, all: &[TypedItem], slot: u32) -> Result<(), AllocError>
-        ensures adds { OnOk result (Adds self.old self.new) }
-        ensures has { OnOk result (HasItems self.new slot (items_of all.now)) }
+        ensures { OnOk result (Gives self.old self.new (items_asks slot (items_of all.now))) }
     {
         for x in all {
             self.item(x, slot)?;
         }
         Ok(())
-    }
-}
-
-/// The slot behind that of a place's index.
-fn beyond(place: &TypedPlace, slot: u32) -> Result<u32, AllocError>
-    ensures { IfOk result (λ n. n ≡ beyond (place_of place.now) slot) }
-{
-    match place {
-        TypedPlace::Variable { .. } => Ok(slot),
-        TypedPlace::Element { .. } => after(slot),
     }
 }
 

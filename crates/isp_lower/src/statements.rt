@@ -1,66 +1,76 @@
 //! What stands before a semicolon, and declared variables and arrays.
 ghost use Rattle.std.specs.Prelude.{[], OnOk};
 ghost use Rattle.isp_typed.specs.Views.{item_of, items_of, simple_of};
-ghost use Rattle.isp_lower.specs.Emitted.{Emits};
+ghost use Rattle.isp_lower.specs.Asks.{item_asks, items_asks, simple_asks, zero_asks};
+ghost use Rattle.isp_lower.specs.Emitted.{Appends, Present, layout};
 ghost use Rattle.isp_lower.specs.Items.{item_code, item_places, items_code, items_places, zero_code};
 ghost use Rattle.isp_lower.specs.Simple.{simple_code, simple_places};
 
 use crate::assigned::{assign, variable_to};
-use crate::builder::FunctionBuilder;
 use crate::changed::{change_by, step};
 use crate::expression::expr;
 use crate::leaves::{clear, constant, splat};
+use crate::types::{Body, Scope};
 use isp_base::{Rate, Ty};
 use isp_typed::{TypedItem, TypedSimple};
 use std::alloc::AllocError;
 
-/// The code of what stands before a semicolon, under a mask, in the slots from one on. Memory is refused too where a
-/// number would pass 4,294,967,295, where a variable has no register of its type, and of what has no code yet: calls,
-/// the library and packed calls.
-pub fn simple(b: &mut FunctionBuilder, x: &TypedSimple, k: u32, slot: u32) -> Result<(), AllocError>
-    ensures { OnOk result (Emits b.old b.new (λ l pc p. simple_code l (simple_of x.now) pc p k slot) (λ l. simple_places l (simple_of x.now))) }
+/// The code of what stands before a semicolon, under a mask, in the slots from one on. Memory is refused too
+/// of what has no code yet: calls, the library and packed calls.
+pub fn simple(
+    b: &mut Body,
+    on: &Scope,
+    x: &TypedSimple,
+    k: u32,
+    slot: u32,
+) -> Result<(), AllocError>
+    requires { Present on.now (simple_asks (simple_of x.now) slot) }
+    ensures { OnOk result (Appends b.old b.new (λ pc p. simple_code (layout on.now) (simple_of x.now) pc p k slot) (simple_places (layout on.now) (simple_of x.now))) }
 {
     match x {
         TypedSimple::Value(value) => {
-            expr(b, value, k, slot)?;
+            expr(b, on, value, k, slot)?;
             Ok(())
         }
         TypedSimple::Call(_) => Err(AllocError),
-        TypedSimple::Assign { target, value, .. } => assign(b, target, value, k, slot),
+        TypedSimple::Assign { target, value, .. } => assign(b, on, target, value, k, slot),
         TypedSimple::Update {
             operator,
             elem,
             target,
             value,
             span,
-        } => change_by(b, *operator, *elem, target, value, *span, k, slot),
+        } => change_by(b, on, *operator, *elem, target, value, *span, k, slot),
         TypedSimple::Step {
             operator,
             elem,
             target,
             span,
-        } => step(b, *operator, *elem, target, *span, k, slot),
+        } => step(b, on, *operator, *elem, target, *span, k, slot),
     }
 }
 
 /// A variable begins with 0.
 fn zero_to(
-    b: &mut FunctionBuilder,
+    b: &mut Body,
+    on: &Scope,
     number: usize,
     ty: Ty,
     k: u32,
     slot: u32,
 ) -> Result<(), AllocError>
-    ensures { OnOk result (Emits b.old b.new (λ l pc p. zero_code l ty.rate ty.elem number k slot) (λ l. [])) }
+    requires { Present on.now (zero_asks ty.rate ty.elem number slot) }
+    ensures { OnOk result (Appends b.old b.new (λ pc p. zero_code (layout on.now) ty.rate ty.elem number k slot) []) }
 {
-    let to = b.variable(number, ty)?;
     match ty.rate {
         Rate::Uniform => {
+            let to = on.variable(number, ty);
             b.push(constant(to, ty.elem, 0))?;
             Ok(())
         }
         Rate::Varying => {
-            let from = b.spare(Rate::Uniform, ty.elem, slot)?;
+            let to = on.variable(number, ty);
+            let from = on.spare(Rate::Uniform, ty.elem, slot);
             b.push(constant(from, ty.elem, 0))?;
             b.push(splat(to, from, k))?;
             Ok(())
@@ -69,19 +79,20 @@ fn zero_to(
 }
 
 /// The code of a declared variable or array.
-fn item(b: &mut FunctionBuilder, x: &TypedItem, k: u32, slot: u32) -> Result<(), AllocError>
-    ensures { OnOk result (Emits b.old b.new (λ l pc p. item_code l (item_of x.now) pc p k slot) (λ l. item_places l (item_of x.now))) }
+fn item(b: &mut Body, on: &Scope, x: &TypedItem, k: u32, slot: u32) -> Result<(), AllocError>
+    requires { Present on.now (item_asks slot (item_of x.now)) }
+    ensures { OnOk result (Appends b.old b.new (λ pc p. item_code (layout on.now) (item_of x.now) pc p k slot) (item_places (layout on.now) (item_of x.now))) }
 {
     match x {
-        TypedItem::Plain { number, ty, .. } => zero_to(b, *number, *ty, k, slot),
+        TypedItem::Plain { number, ty, .. } => zero_to(b, on, *number, *ty, k, slot),
         TypedItem::Value {
             number,
             ty,
             value,
             ..
-        } => variable_to(b, *number, *ty, value, k, slot),
+        } => variable_to(b, on, *number, *ty, value, k, slot),
         TypedItem::Array { array, .. } => {
-            let to = b.array(*array)?;
+            let to = on.array(*array);
             b.push(clear(to, k))?;
             Ok(())
         }
@@ -91,15 +102,17 @@ fn item(b: &mut FunctionBuilder, x: &TypedItem, k: u32, slot: u32) -> Result<(),
 /// The code of declared variables and arrays, under a mask, in the slots from one on: each begins with its value, or
 /// with 0.
 pub fn declared(
-    b: &mut FunctionBuilder,
+    b: &mut Body,
+    on: &Scope,
     items: &[TypedItem],
     k: u32,
     slot: u32,
 ) -> Result<(), AllocError>
-    ensures { OnOk result (Emits b.old b.new (λ l pc p. items_code l (items_of items.now) pc p k slot) (λ l. items_places l (items_of items.now))) }
+    requires { Present on.now (items_asks slot (items_of items.now)) }
+    ensures { OnOk result (Appends b.old b.new (λ pc p. items_code (layout on.now) (items_of items.now) pc p k slot) (items_places (layout on.now) (items_of items.now))) }
 {
     for x in items.iter() {
-        item(b, x, k, slot)?;
+        item(b, on, x, k, slot)?;
     }
     Ok(())
 }

@@ -1,16 +1,12 @@
-//! What `&&`, `||` and `?:` are made of.
-ghost use Rattle.std.specs.Prelude.{◌≡◌, ◌&&◌, [], IfOk, OnOk};
-ghost use Rattle.isp_lower.specs.Code.{decided, is_short, move_code, needing, same_rate, stays, stays_at};
-ghost use Rattle.isp_lower.specs.Emitted.{Emits, Puts};
+//! Tests of trees that choose the code of `&&`, `||` and `?:`.
+ghost use Rattle.std.specs.Prelude.{◌≡◌, ◌&&◌};
+ghost use Rattle.isp_lower.specs.Code.{decided, is_short, same_rate, stays, stays_at};
 ghost use Rattle.isp_lower.specs.Layout.{Layout};
 ghost use Rattle.isp_typed.specs.Views.{expr_of};
 
-use crate::builder::FunctionBuilder;
-use crate::leaves::{copy, the_others, where_so};
-use isp_base::{Elem, Rate};
+use isp_base::Rate;
 use isp_code::JumpTest;
 use isp_typed::{Logic, TypedExpr, TypedPlace};
-use std::alloc::AllocError;
 
 /// When a uniform left side needs no right one.
 pub fn decided(logic: Logic) -> JumpTest
@@ -19,44 +15,6 @@ pub fn decided(logic: Logic) -> JumpTest
     match logic {
         Logic::And => JumpTest::False,
         Logic::Or => JumpTest::True,
-    }
-}
-
-/// A value in a slot: a copy, or nothing where it is there.
-pub fn put_moved(
-    b: &mut FunctionBuilder,
-    rate: Rate,
-    elem: Elem,
-    from: u32,
-    k: u32,
-    slot: u32,
-) -> Result<u32, AllocError>
-    ensures { IfOk result (λ d. Puts b.old b.new (λ l pc p. move_code rate (l.spare rate elem slot) from k) (λ l. []) (λ l. l.spare rate elem slot) d) }
-{
-    let to = b.spare(rate, elem, slot)?;
-    if to != from {
-        b.push(copy(rate, to, from, k))?;
-    }
-    Ok(to)
-}
-
-/// The lanes of a mask that need the right side, into another mask.
-pub fn put_needing(
-    b: &mut FunctionBuilder,
-    logic: Logic,
-    to: u32,
-    from: u32,
-    k: u32,
-) -> Result<(), AllocError>
-    ensures { OnOk result (Emits b.old b.new (λ l pc p. needing logic to from k) (λ l. [])) }
-{
-    b.push(where_so(to, from, k))?;
-    match logic {
-        Logic::And => Ok(()),
-        Logic::Or => {
-            b.push(the_others(to, k, to))?;
-            Ok(())
-        }
     }
 }
 

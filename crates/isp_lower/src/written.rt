@@ -1,19 +1,34 @@
-//! One instruction that names a place in the source.
+//! One instruction that names a place in the source, or two on masks.
 ghost use Rattle.std.specs.Prelude.{◌≡◌, ◌∷◌, [], length, true, IfOk, OnOk};
 ghost use Rattle.isp_base.specs.Values.{divides};
-ghost use Rattle.isp_lower.specs.Code.{operate, operate_places, read, write};
-ghost use Rattle.isp_lower.specs.Emitted.{Emits};
+ghost use Rattle.isp_lower.specs.Asks.{ArrayOf};
+ghost use Rattle.isp_lower.specs.Code.{needing, operate, operate_places, read, write};
+ghost use Rattle.isp_lower.specs.Emitted.{Appends, Present, layout};
 
-use crate::builder::FunctionBuilder;
-use crate::leaves::{operate, read, write};
+use crate::leaves::{operate, read, the_others, where_so, write};
+use crate::types::{Body, Scope};
 use isp_base::{BinOp, Rate, Span};
-use isp_typed::ArrayVariable;
+use isp_typed::{ArrayVariable, Logic};
 use std::alloc::AllocError;
 
+/// The lanes of a mask that need the right side, into another mask.
+pub fn put_needing(b: &mut Body, logic: Logic, to: u32, from: u32, k: u32) -> Result<(), AllocError>
+    ensures { OnOk result (Appends b.old b.new (λ pc p. needing logic to from k) []) }
+{
+    b.push(where_so(to, from, k))?;
+    match logic {
+        Logic::And => Ok(()),
+        Logic::Or => {
+            b.push(the_others(to, k, to))?;
+            Ok(())
+        }
+    }
+}
+
 /// The number of the place of a division's trap, 0 for another operator.
-fn place_of(b: &mut FunctionBuilder, operator: BinOp, span: Span) -> Result<u32, AllocError>
-    ensures place { IfOk result (λ n. divides operator ≡ true → n ≡ length b.old.listing.places) }
-    ensures added { OnOk result (Emits b.old b.new (λ l pc p. []) (λ l. operate_places operator span)) }
+fn place_of(b: &mut Body, operator: BinOp, span: Span) -> Result<u32, AllocError>
+    ensures place { IfOk result (λ n. divides operator ≡ true → n ≡ length b.old.places.items) }
+    ensures added { OnOk result (Appends b.old b.new (λ pc p. []) (operate_places operator span)) }
 {
     if operator.divides() {
         let number = b.place(span)?;
@@ -25,7 +40,7 @@ fn place_of(b: &mut FunctionBuilder, operator: BinOp, span: Span) -> Result<u32,
 
 /// A register gets the result of an operator on two values.
 pub fn operate_to(
-    b: &mut FunctionBuilder,
+    b: &mut Body,
     rate: Rate,
     operator: BinOp,
     to: u32,
@@ -34,7 +49,7 @@ pub fn operate_to(
     k: u32,
     span: Span,
 ) -> Result<(), AllocError>
-    ensures { OnOk result (Emits b.old b.new (λ l pc p. operate rate operator to left right k p ∷ []) (λ l. operate_places operator span)) }
+    ensures { OnOk result (Appends b.old b.new (λ pc p. operate rate operator to left right k p ∷ []) (operate_places operator span)) }
 {
     let place = place_of(b, operator, span)?;
     b.push(operate(rate, operator, to, left, right, k, place))?;
@@ -43,7 +58,8 @@ pub fn operate_to(
 
 /// A register gets what an array has at an index.
 pub fn read_to(
-    b: &mut FunctionBuilder,
+    b: &mut Body,
+    on: &Scope,
     rate: Rate,
     to: u32,
     array: ArrayVariable,
@@ -51,9 +67,10 @@ pub fn read_to(
     k: u32,
     span: Span,
 ) -> Result<(), AllocError>
-    ensures { OnOk result (Emits b.old b.new (λ l pc p. read rate to (l.array array.number) index k p ∷ []) (λ l. span ∷ [])) }
+    requires { Present on.now (ArrayOf array) }
+    ensures { OnOk result (Appends b.old b.new (λ pc p. read rate to ((layout on.now).array array.number) index k p ∷ []) (span ∷ [])) }
 {
-    let from = b.array(array)?;
+    let from = on.array(array);
     let place = b.place(span)?;
     b.push(read(rate, to, from, index, k, place))?;
     Ok(())
@@ -61,7 +78,8 @@ pub fn read_to(
 
 /// An element of an array gets what a register has.
 pub fn write_at(
-    b: &mut FunctionBuilder,
+    b: &mut Body,
+    on: &Scope,
     rate: Rate,
     array: ArrayVariable,
     index: u32,
@@ -69,9 +87,10 @@ pub fn write_at(
     k: u32,
     span: Span,
 ) -> Result<(), AllocError>
-    ensures { OnOk result (Emits b.old b.new (λ l pc p. write rate (l.array array.number) index from k p ∷ []) (λ l. span ∷ [])) }
+    requires { Present on.now (ArrayOf array) }
+    ensures { OnOk result (Appends b.old b.new (λ pc p. write rate ((layout on.now).array array.number) index from k p ∷ []) (span ∷ [])) }
 {
-    let to = b.array(array)?;
+    let to = on.array(array);
     let place = b.place(span)?;
     b.push(write(rate, to, index, from, k, place))?;
     Ok(())

@@ -17,3 +17,5 @@ pub mod Called
 pub mod Starting
 pub mod Returned
 pub mod Readies
+mod Consecutive
+mod Crossed

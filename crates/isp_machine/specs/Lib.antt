@@ -9,3 +9,5 @@ pub mod Steps
 pub mod Kept
 pub mod Runs
 pub mod Starts
+pub mod StartTexts
+pub mod Crossing

@@ -119,6 +119,8 @@ pub(crate) fn call<const N: usize>(
     }
     let _count = here.count();
     waiting.reserve(1)?;
+    // The calls that wait and this one leave their frames where they return: that place is made here.
+    rooms.reserve(waiting.len() + 2)?;
     let mut callee = room(alloc, rooms)?;
     let arguments = call.arguments.as_slice();
     callee.at.pass_call(here, &frame.at, arguments, &mask)?;

@@ -14,9 +14,9 @@ ghost use Rattle.std.specs.List.{range_with_len};
 ghost use Rattle.std.specs.Simd.Lanes.{zip2, sel_l};
 ghost use Rattle.isp_base.specs.Values.{width, number, op_bits, compare_bits, convert_bits};
 ghost use Rattle.isp_base.specs.Unary.{unary_bits};
-ghost use Rattle.isp_lanes.specs.Lanes.{is_on, first_zero, written};
+ghost use Rattle.isp_lanes.specs.Lanes.{is_on, first_zero, written, no_row};
 ghost use Rattle.isp_machine.specs.Arrays.{ArrayThere, Rewritten, array_count, array_elem, array_found, array_in, vector_in, mask_in};
-ghost use Rattle.isp_machine.specs.Views.{no_row, no_array, vectors_at, masks_at};
+ghost use Rattle.isp_machine.specs.Views.{no_array, vectors_at, masks_at};
 
 use crate::array::FrameArray;
 use crate::here::Here;
@@ -204,6 +204,14 @@ impl<const N: usize> Frame<N> {
         ensures { self.new ≡ record self.old { scalars = slice_set self.old.scalars r bits } }
     {
         self.scalars[r as usize] = bits;
+    }
+
+    /// Writes a vector register.
+    pub(crate) fn set_vector(&mut self, r: u32, value: &Lanes<N>)
+        requires { r < length self.old.vectors }
+        ensures { self.new ≡ record self.old { vectors = slice_set self.old.vectors r value.now } }
+    {
+        self.vectors[r as usize] = *value;
     }
 
     /// Writes a mask register.

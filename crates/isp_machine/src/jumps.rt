@@ -12,7 +12,7 @@ ghost use Rattle.isp_store.specs.Held.{Held, shapes};
 
 use crate::frame::Frame;
 use crate::here::Here;
-use crate::kernels::{any_lane, first_lane};
+use crate::kernels::{all_lanes, any_lane, first_lane};
 use isp_base::{Trap, TrapKind};
 use isp_code::{Class, Instr, JumpTest, Register};
 
@@ -36,6 +36,7 @@ fn jumps<const N: usize>(here: &Here, frame: &Frame<N>, test: JumpTest, x: Regis
         JumpTest::True => here.scalar(frame, x) != 0,
         JumpTest::Off => !any_lane(here.mask(frame, x)),
         JumpTest::On => any_lane(here.mask(frame, x)),
+        JumpTest::All => all_lanes(here.mask(frame, x)),
     }
 }
 

@@ -2,7 +2,7 @@
 ghost use Rattle.std.specs.Prelude.{◌≡◌, ◌<◌, ◌≤◌, length, None, Some, IfOk, IfErr};
 ghost use Rattle.isp_base.specs.Access.{is_zero};
 ghost use Rattle.isp_base.specs.Maps.{lane_of, on, over, map2, lowest_failing};
-ghost use Rattle.isp_base.specs.Sets.{flag_of, lowest, any};
+ghost use Rattle.isp_base.specs.Sets.{flag_of, lowest, any, all};
 ghost use Rattle.isp_base.specs.Cross.{or_zero};
 ghost use Rattle.isp_base.specs.Values.{op_bits};
 ghost use Rattle.isp_code.specs.Lines.{plain_of, division_of};
@@ -58,6 +58,14 @@ pub(crate) fn any_lane<const N: usize>(mask: &LaneMask<N>) -> bool
 {
     mask.told();
     mask.any()
+}
+
+/// Whether all lanes of a mask are on.
+pub(crate) fn all_lanes<const N: usize>(mask: &LaneMask<N>) -> bool
+    ensures { result ≡ all N (flag_of mask.now) }
+{
+    mask.told();
+    mask.all()
 }
 
 /// The lanes of another vector.

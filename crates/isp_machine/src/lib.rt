@@ -3,6 +3,7 @@
 
 mod array;
 mod calls;
+mod cross;
 mod divide;
 mod frame;
 mod here;
@@ -12,6 +13,7 @@ mod lanes;
 mod locals;
 mod machine;
 mod masks;
+mod packed;
 mod passed;
 mod returns;
 mod says;

@@ -76,7 +76,7 @@ fn receive<const N: usize>(
     }
 }
 
-// Keeps the memory of a call that is over for a later one. Where there is no place for it, it is dropped.
+// Keeps the memory of a call that is over for a later one. The call has made the place for it; were there none, it would be dropped.
 fn keep<const N: usize>(rooms: &mut Vec<FrameBox<N>>, callee: FrameBox<N>)
     requires { N ≤ 64 }
     ensures { length rooms.old.items ≤ length rooms.new.items }

@@ -14,6 +14,7 @@ ghost use Rattle.isp_machine.specs.Views.{conf_of, scalars_at};
 ghost use Rattle.isp_store.specs.Held.{shapes};
 ghost use Rattle.isp_base.specs.declared.types.Elem.{Elem};
 
+use crate::cross::{extract, reduce};
 use crate::frame::Frame;
 use crate::here::Here;
 use crate::kernels::{first_lane, plain_operator};
@@ -113,6 +114,8 @@ fn scalar_value<const N: usize>(
         ScalarInstr::Select(test, x, y) => Ok(select(here, frame, test, x, y)),
         ScalarInstr::First(k) => Ok(first_lane(here.mask(frame, k)) as u64),
         ScalarInstr::Load(a, i, k, place) => load(here, frame, stores, d, a, i, k, place),
+        ScalarInstr::Reduce(op, x, k) => Ok(reduce(here, frame, d, op, x, k)),
+        ScalarInstr::Extract(x, i, k) => Ok(extract(here, frame, d, x, i, k)),
     }
 }
 

@@ -16,11 +16,12 @@ use crate::frame::{Frame, FrameBox};
 use crate::here::Here;
 use crate::jumps::{fail, jump, jump_if};
 use crate::masks::mask;
+use crate::packed::{packed_load, packed_store};
 use crate::returns::give_back;
 use crate::says::{print_scalar, print_vector, say};
 use crate::scalars::scalar;
 use crate::stop::Step;
-use crate::stores::{clear, scatter, store};
+use crate::stores::{clear, scatter, store, store_run};
 use crate::vectors::vector;
 use crate::zeros::ZerosBox;
 use isp_base::Trap;
@@ -79,6 +80,15 @@ fn compute<const N: usize>(
         Instr::Mask(d, instr) => mask(here, frame, *d, *instr),
         Instr::Divide(op, d, x, y, k, place) => divide(here, frame, *op, *d, *x, *y, *k, *place)?,
         Instr::Store(a, i, y, k, place) => store(here, frame, stores, *a, *i, *y, *k, *place)?,
+        Instr::StoreRun(a, i, y, k, place) => {
+            store_run(here, frame, stores, *a, *i, *y, *k, *place)?
+        }
+        Instr::PackedStore(d, a, i, y, k, place) => {
+            packed_store(here, frame, stores, *d, *a, *i, *y, *k, *place)?
+        }
+        Instr::PackedLoad(d, a, i, y, k, place) => {
+            packed_load(here, frame, stores, *d, *a, *i, *y, *k, *place)?
+        }
         Instr::Clear(a, k) => clear(here, frame, stores, *a, *k),
         Instr::Jump(to) => jump(here, frame, *to),
         Instr::JumpIf(test, x, to) => jump_if(here, frame, *test, *x, *to),

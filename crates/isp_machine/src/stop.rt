@@ -4,7 +4,8 @@ ghost use Rattle.isp_machine.specs.declared.stop.StartFault.TheVariants.{Memory}
 
 use isp_base::{Trap, Value};
 use std::alloc::AllocError;
-use thiserror::Error;
+use std::error::Error;
+use std::fmt;
 
 /// Where a run stands after some instructions.
 #[derive(Clone, Copy, Debug)]
@@ -20,15 +21,29 @@ pub enum Stop {
 }
 
 /// Why a run does not begin.
-#[derive(Clone, Copy, Debug, PartialEq, Eq, Error)]
+#[derive(Clone, Copy, Debug, PartialEq, Eq)]
 pub enum StartFault {
     /// 0: memory was refused.
-    #[error("memory")]
     Memory,
     /// 50: no exported function has the entry's name and the signature of the arguments.
-    #[error("50 NoEntry")]
     NoEntry,
 }
+
+impl fmt::Display for StartFault {
+    ghost use Rattle.std.specs.Prelude.{Some};
+    ghost use Rattle.isp_machine.specs.StartTexts.{start_text};
+
+    ghost output = { λ s. Some (start_text s) };
+
+    fn fmt<W: fmt::Write>(&self, f: &mut fmt::Formatter<W>) -> fmt::Result {
+        match self {
+            StartFault::Memory => f.write_str("memory"),
+            StartFault::NoEntry => f.write_str("50 NoEntry"),
+        }
+    }
+}
+
+impl Error for StartFault {}
 
 impl From<AllocError> for StartFault {
     ghost from_gives = { λ _ e. e ≡ Memory };

@@ -82,6 +82,41 @@ pub(crate) fn scatter<const N: usize>(
     }
 }
 
+/// Stores lanes at consecutive elements, and goes on to the next instruction.
+#[inline(never)]
+pub(crate) fn store_run<const N: usize>(
+    here: &Here,
+    frame: &mut Frame<N>,
+    stores: &mut Arrays,
+    a: Register,
+    i: Register,
+    y: Register,
+    k: Register,
+    place: u32,
+) -> Result<(), Trap>
+    requires gang { N ≡ gang_width here.now.code.gang }
+    requires shaped { Shaped here.now.routine frame.old }
+    requires arrays { Opened here.now.routine (shapes stores.old) frame.old }
+    requires operands { AllFine here.now.code here.now.routine (operands (Instr.StoreRun a i y k place)) }
+    requires next { frame.old.pc + 1 < length here.now.routine.code }
+    ensures ok { IfOk result (λ _. Goes here.now (Instr.StoreRun a i y k place) stores.old frame.old stores.new frame.new) }
+    ensures err { IfErr result (λ t. Fails here.now (Instr.StoreRun a i y k place) stores.old frame.old t) }
+    ensures same { IfErr result (λ t. frame.new ≡ frame.old) }
+    ensures same_stores { IfErr result (λ t. stores.new ≡ stores.old) }
+{
+    let store = here.store(frame, stores, a);
+    let index = here.scalar(frame, i);
+    let value = here.vector(frame, y);
+    match stores.store_run(store, index, value, here.mask(frame, k)) {
+        Ok(()) => {
+            let _count = here.count();
+            frame.next();
+            Ok(())
+        }
+        Err(trap) => Err(here.trap(TrapKind::Index, place, trap.instance)),
+    }
+}
+
 /// Zeroes a local array, and goes on to the next instruction.
 #[inline(never)]
 pub(crate) fn clear<const N: usize>(

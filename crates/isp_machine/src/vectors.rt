@@ -7,6 +7,7 @@ ghost use Rattle.isp_machine.specs.Moves.{Sure, VectorIs, InPlace, Goes, Fails};
 ghost use Rattle.isp_machine.specs.Shapes.{Shaped, Opened};
 ghost use Rattle.isp_store.specs.Held.{Held, shapes};
 
+use crate::cross::{exchange, insert, scan, shuffle, shuffle_two};
 use crate::frame::Frame;
 use crate::here::Here;
 use crate::lanes::{apply, combine, compare, convert, copy, number, select, splat};
@@ -17,6 +18,7 @@ use isp_store::Arrays;
 // What an instruction that cannot fail leaves in the lanes of the register, which is written where it stands.
 #[inline(never)]
 fn change<const N: usize>(here: &Here, frame: &mut Frame<N>, d: Register, instr: VectorInstr)
+    requires gang { N ≡ gang_width here.now.code.gang }
     requires shaped { Shaped here.now.routine frame.old }
     requires operands { AllFine here.now.code here.now.routine (vector_operands d instr) }
     requires sure { Sure instr }
@@ -32,7 +34,13 @@ fn change<const N: usize>(here: &Here, frame: &mut Frame<N>, d: Register, instr:
         VectorInstr::Select(test, x, y, k) => select(here, frame, d, test, x, y, k),
         VectorInstr::Splat(x, k) => splat(here, frame, d, x, k),
         VectorInstr::Index(k) => number(here, frame, d, k),
+        VectorInstr::Scan(op, x, k) => scan(here, frame, d, op, x, k),
+        VectorInstr::Exchange(op, x, i, k) => exchange(here, frame, d, op, x, i, k),
+        VectorInstr::Shuffle(x, i, k) => shuffle(here, frame, d, x, i, k),
+        VectorInstr::ShuffleTwo(x, y, i, k) => shuffle_two(here, frame, d, x, y, i, k),
+        VectorInstr::Insert(x, i, y, k) => insert(here, frame, d, x, i, y, k),
         VectorInstr::Gather(..) => unreachable!(),
+        VectorInstr::LoadRun(..) => unreachable!(),
     }
 }
 
@@ -57,6 +65,7 @@ fn vector_value<const N: usize>(
 {
     match instr {
         VectorInstr::Gather(a, i, k, place) => gather(here, frame, stores, d, a, i, k, place),
+        VectorInstr::LoadRun(a, i, k, place) => load_run(here, frame, stores, d, a, i, k, place),
         _ => {
             change(here, frame, d, instr);
             Ok(())
@@ -87,6 +96,39 @@ fn gather<const N: usize>(
 {
     match frame.gather(stores, d.number, a.number, i.number, k.number) {
         Ok(()) => Ok(()),
+        Err(trap) => Err(here.trap(TrapKind::Index, place, trap.instance)),
+    }
+}
+
+// The elements from an index on.
+#[inline(always)]
+fn load_run<const N: usize>(
+    here: &Here,
+    frame: &mut Frame<N>,
+    stores: &Arrays,
+    d: Register,
+    a: Register,
+    i: Register,
+    k: Register,
+    place: u32,
+) -> Result<(), Trap>
+    requires gang { N ≡ gang_width here.now.code.gang }
+    requires shaped { Shaped here.now.routine frame.old }
+    requires arrays { Opened here.now.routine (shapes stores.now) frame.old }
+    requires operands { AllFine here.now.code here.now.routine (vector_operands d (VectorInstr.LoadRun a i k place)) }
+    ensures pc { IfOk result (λ _. frame.new.pc ≡ frame.old.pc) }
+    ensures ok { IfOk result (λ _. InPlace here.now stores.now frame.old d (VectorInstr.LoadRun a i k place) frame.new) }
+    ensures err { IfErr result (λ t. VectorIs here.now stores.now frame.old d (VectorInstr.LoadRun a i k place) (Err t)) }
+    ensures same { IfErr result (λ t. frame.new ≡ frame.old) }
+{
+    let store = here.store(frame, stores, a);
+    let index = here.scalar(frame, i);
+    let mut value = *here.vector(frame, d);
+    match stores.load_run(store, index, here.mask(frame, k), &mut value) {
+        Ok(()) => {
+            frame.set_vector(d.number, &value);
+            Ok(())
+        }
         Err(trap) => Err(here.trap(TrapKind::Index, place, trap.instance)),
     }
 }

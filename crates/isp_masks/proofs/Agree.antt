@@ -1,8 +1,8 @@
 -- Agreement in both directions, from what the code of a body does and from there being one run of the machine alone.
-use Rattle.std.proofs.Common.{◌≡◌, ◌≢◌, ℕ, ◌+◌, ◌*◌, ◌<◌, ◌≤◌, List, [], ◌∷◌, length, Option, Some, None, true, refl, sym, ap, ◌∙◌, subst, arith}
+use Rattle.std.proofs.Common.{◌≡◌, ◌≢◌, ℕ, ◌+◌, ◌*◌, ◌<◌, ◌≤◌, List, [], ◌∷◌, length, Option, Some, None, true, refl, sym, ap, ◌∙◌, subst, arith, ⊎_elim}
 use Rattle.std.specs.Prelude.{slice_get, nat_lt}
-use Rattle.std.proofs.lemmas.Bool.{lt-ltb, ltb-true, cond-true}
-use Rattle.isp_base.specs.Arguments.{rows, rows_now}
+use Rattle.std.proofs.lemmas.Bool.{lt-ltb, ltb-true, cond-true, cases_lt}
+use Rattle.isp_base.specs.Arguments.{rows, rows_now, AreShort}
 use Rattle.isp_base.specs.Binding.{has_signature}
 use Rattle.isp_base.specs.Outcomes.{Outcome, Ends, Traps, GoesOn, IsOver, out_of}
 use Rattle.isp_base.specs.Prefixes.{IsPrefix}
@@ -37,10 +37,11 @@ use Rattle.isp_lower.specs.Layout.{Layout, register}
 use Rattle.isp_lower.specs.Setting.{Setting, IsSettled, Stands}
 use Rattle.isp_lower.proofs.Base.{are_front, are_back, put_same, step_is}
 use Rattle.isp_code.proofs.Steps.{after-sum}
-use Rattle.isp_masks.specs.Agreement.{AreShort, RunsAgree}
+use Rattle.isp_masks.specs.Agreement.{RunsAgree}
 use Rattle.isp_masks.specs.Compiled.{entry_state, entry_setting, ResultFits, IsCompiled}
 use Rattle.isp_masks.specs.Statements.{block_code, returned}
 use Rattle.isp_masks.specs.StmtRuns.{StmtRuns}
+use Rattle.isp_masks.proofs.Arrays.{opened_same, sizes_same, arrays_fit}
 use Rattle.isp_masks.proofs.Begins.{begins}
 use Rattle.isp_masks.proofs.Endings.{longer, one_end, grows, rows_same}
 use Rattle.isp_masks.proofs.Parts.{block_fits}
@@ -57,7 +58,7 @@ all_inside n p h = ltb-true p n h
 below_same : (n b : ℕ) (f : ℕ → ℕ → ℕ) → b < n → below n f b ≡ f b
 below_same n b f lt = cond-true (nat_lt b n) (f b) (λ e. 0) (lt-ltb b n lt)
 
-module _ (program : Program) (code : Listing) (f : ℕ) (h : TFunction) (g : Routine) (l : Layout) (p : ℕ) (is : IsCompiled program code f h g l p) (xs : List Argument) where
+module _ (program : Program) (code : Listing) (f : ℕ) (h : TFunction) (g : Routine) (l : Layout) (p : ℕ) (is : IsCompiled program code f h g l p) (xs : List Argument) (sig : has_signature h.parameters xs ≡ true) (short : AreShort xs) where
   abbrev world : ℕ → Setting
   world n = entry_setting program code f h g l n xs
 
@@ -65,7 +66,16 @@ module _ (program : Program) (code : Listing) (f : ℕ) (h : TFunction) (g : Rou
   start = machine.Runs (first_conf code f g xs)
 
   settled : (n : ℕ) → IsSettled (world n)
-  settled n = record { found = is.found; apart = is.apart }
+  settled n = record {
+    gang = is.gang;
+    found = is.found;
+    apart = is.apart;
+    deep = refl;
+    answer = refl;
+    opened = opened_same program code f h g l n xs is.arrays sig short;
+    sizes = sizes_same program code f h g l n xs is.arrays sig short;
+    arrays = arrays_fit program code f h g l n xs is.arrays sig short;
+  }
 
   -- what a run is, by how it stands: late where it was cut
   abbrev Late : ℕ → ℕ → Val Payload → Type 0
@@ -119,15 +129,15 @@ module _ (program : Program) (code : Listing) (f : ℕ) (h : TFunction) (g : Rou
       (r.steps, omega (arith, r.bound), ap (outcome (rows xs)) r.fails ∙ ap (λ z. Traps t (rows_now (rows xs) z) r.conf.out) r.arrays_are ∙ ap (Traps t (rows_now (rows xs) s.arrays)) r.out_is, tt)
   follows_from n (Cut s) r = (r.steps, omega (arith, r.bound), ap (outcome (rows xs)) r.goes ∙ ap GoesOn r.out_is, r.far)
 
-  body_runs : (n : ℕ) → has_signature h.parameters xs ≡ true → AreShort xs → StmtRuns (world n) n (first_conf code f g xs) (0 + length (block_code l h.answer h.body 0 p 0 1 2 3)) 0 1 2 3 (1 + 0) (block (gang_width program.gang) (frame_of h (handed 0 xs) (first_frame xs)) (calls_at program n 255) n h.body everybody (entry_state program h xs))
-  body_runs n sig short =
+  body_runs : (n : ℕ) → StmtRuns (world n) n (first_conf code f g xs) (0 + length (block_code l h.answer h.body 0 p 0 1 2 3)) 0 1 2 3 (1 + 0) (block (gang_width program.gang) (frame_of h (handed 0 xs) (first_frame xs)) (calls_at program n 255) n h.body everybody (entry_state program h xs))
+  body_runs n =
       let c = first_conf code f g xs in
       let begin = λ (z : Gang). begun h (handed 0 xs) (first_frame xs) (everyone (gang_width z)) (first_state xs) in
       let n01 : ◌≢◌ {A = ℕ} 0 1 = omega arith in
       let n02 : ◌≢◌ {A = ℕ} 0 2 = omega arith in
       let n12 : ◌≢◌ {A = ℕ} 1 2 = omega arith in
       subst (λ z. StmtRuns (world n) n c (0 + length body) 0 1 2 3 (1 + 0) (block (gang_width z) (frame_of h (handed 0 xs) (first_frame xs)) (calls_at program n 255) n h.body (everyone (gang_width z)) (begin z))) is.gang
-      (block_runs (world n) (settled n) h.body 0 p 0 1 2 3 0 (everyone (gang_width code.gang)) (begin code.gang) c (block_fits (world n) h.body 3 is.tree (is.table n xs sig short)) (are_front g.code 0 body (last ∷ []) is.code_is) is.places_are (record { low_k = omega arith; low_co = omega arith; low_rr = omega arith; k_co = n01; k_rr = n02; co_rr = n12 })
+      (block_runs (world n) (settled n) h.body 0 p 0 1 2 3 0 (everyone (gang_width code.gang)) (begin code.gang) c (block_fits (world n) h.body 3 is.tree is.table) (are_front g.code 0 body (last ∷ []) is.code_is) is.places_are (record { low_k = omega arith; low_co = omega arith; low_rr = omega arith; k_co = n01; k_rr = n02; co_rr = n12 })
       (record {
         at = record { home_is = refl; waiting_is = refl; pc_is = refl };
         mask = put_same (λ k. nobody) 0 (everyone (gang_width code.gang));
@@ -138,21 +148,29 @@ module _ (program : Program) (code : Listing) (f : ℕ) (h : TFunction) (g : Rou
         low = omega arith;
       }))
 
-  follows : has_signature h.parameters xs ≡ true → AreShort xs → (n : ℕ) → Follows n (meaning program f n xs)
-  follows sig short n =
+  follows : (n : ℕ) → Follows n (meaning program f n xs)
+  follows n =
       subst (λ o. Follows n (called program n (calls_at program n 255) o everybody (handed 0 xs) (first_frame xs) (first_state xs))) (sym is.source)
-      (follows_from n (block (gang_width program.gang) (frame_of h (handed 0 xs) (first_frame xs)) (calls_at program n 255) n h.body everybody (entry_state program h xs)) (body_runs n sig short))
+      (follows_from n (block (gang_width program.gang) (frame_of h (handed 0 xs) (first_frame xs)) (calls_at program n 255) n h.body everybody (entry_state program h xs)) (body_runs n))
 
   -- ---- both directions
 
   run_is : (n : ℕ) → outcome_of h.gives xs (meaning program f n xs) ≡ run_of program f n xs
   run_is n = ap (λ o. outcome_of (gives_of o) xs (meaning program f n xs)) (sym is.source)
 
-  -- a run that goes on was cut, and late
-  cut_late : (n m : ℕ) (v : Val Payload) (out : List ℕ) → Late n m v → outcome_of h.gives xs v ≡ GoesOn out → n ≤ m
-  cut_late n m (Gives x s) out late e = absurd (subst IsOver e tt)
-  cut_late n m (Fails t s) out late e = absurd (subst IsOver e tt)
-  cut_late n m (Stops s) out late e = late
+  -- the output so far is the beginning of that of a run that is over
+  over_far : (m k : ℕ) (o : Outcome) → IsOver o → outcome_after code f g xs k ≡ o → IsPrefix (out_of (outcome_after code f g xs m)) (out_of o)
+  over_far m k o over e =
+      ⊎_elim
+      (λ (lt : k < m). subst (λ z. IsPrefix (out_of z) (out_of o)) (sym (longer code (rows xs) k m start o (omega arith) over e)) (prefix_self (out_of o)))
+      (λ (le : m ≤ k). subst (λ z. IsPrefix (out_of (outcome_after code f g xs m)) (out_of z)) e (grows code (rows xs) m k start le))
+      (cases_lt k m)
+
+  -- and of that of the run of as many turns as there were instructions
+  far : (m : ℕ) (v : Val Payload) → Follows m v → IsPrefix (out_of (outcome_after code f g xs m)) (out_of (outcome_of h.gives xs v))
+  far m (Gives x s) r = over_far m r.0 (outcome_of h.gives xs (Gives x s)) tt r.2
+  far m (Fails t s) r = over_far m r.0 (Traps t (rows_now (rows xs) s.arrays) s.out) tt r.2
+  far m (Stops s) r = subst (λ z. IsPrefix (out_of (outcome_after code f g xs m)) (out_of z)) r.2 (grows code (rows xs) m r.0 start r.3)
 
   -- the code's run is over after m instructions, so that of m turns is not cut
   over_too : (m : ℕ) (o : Outcome) (v : Val Payload) → IsOver o → outcome_after code f g xs m ≡ o → Follows m v → outcome_of h.gives xs v ≡ o
@@ -162,17 +180,14 @@ module _ (program : Program) (code : Listing) (f : ℕ) (h : TFunction) (g : Rou
       let same = longer code (rows xs) m r.0 start o r.3 over e in
       absurd (subst IsOver (sym same ∙ r.2) over)
 
-  pub agrees : has_signature h.parameters xs ≡ true → AreShort xs → RunsAgree program code f g xs
-  agrees sig short = record {
-    over = λ n o over e. let r = follows sig short n in (r.0, r.2 ∙ run_is n ∙ e);
-    over_only = λ m o over e. (m, sym (run_is m) ∙ over_too m o (meaning program f m xs) over e (follows sig short m));
-    goes_on = λ n out e. let r = follows sig short n in (r.0, subst (λ z. IsPrefix out (out_of z)) (sym (r.2 ∙ run_is n ∙ e)) (prefix_self out));
-    goes_on_only = λ all m.
-        let r = follows sig short m in
-        let late = cut_late m r.0 (meaning program f m xs) (all m).0 r.3 (run_is m ∙ (all m).1) in
-        (m, subst (λ z. IsPrefix (out_of (outcome_after code f g xs m)) (out_of z)) (r.2 ∙ run_is m) (grows code (rows xs) m r.0 start late));
-    soon = λ n o over e. let r = follows sig short n in longer code (rows xs) r.0 (32 * work_of program f n xs + 32) start o r.1 over (r.2 ∙ run_is n ∙ e);
+  pub agrees : RunsAgree program code f g xs
+  agrees = record {
+    over = λ o x. let r = follows x.1.0 in (r.0, r.2 ∙ run_is x.1.0 ∙ x.1.1);
+    over_only = λ m o over e. (over, (m, sym (run_is m) ∙ over_too m o (meaning program f m xs) over e (follows m)));
+    goes_on = λ n out e. let r = follows n in (r.0, subst (λ z. IsPrefix out (out_of z)) (sym (r.2 ∙ run_is n ∙ e)) (prefix_self out));
+    so_far = λ m. (m, subst (λ z. IsPrefix (out_of (outcome_after code f g xs m)) (out_of z)) (run_is m) (far m (meaning program f m xs) (follows m)));
+    soon = λ n o over e. let r = follows n in longer code (rows xs) r.0 (32 * work_of program f n xs + 32) start o r.1 over (r.2 ∙ run_is n ∙ e);
     soon_goes_on = λ n out e.
-        let r = follows sig short n in
+        let r = follows n in
         subst (λ z. IsPrefix (out_of z) (out_of (outcome_after code f g xs (32 * work_of program f n xs + 32)))) (r.2 ∙ run_is n ∙ e) (grows code (rows xs) r.0 (32 * work_of program f n xs + 32) start r.1);
   }

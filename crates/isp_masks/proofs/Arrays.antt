@@ -2,7 +2,9 @@
 use Rattle.std.proofs.Common.{◌≡◌, ℕ, zero, suc, ◌+◌, ◌<◌, ◌≤◌, ◌^◌, List, [], ◌∷◌, length, take, Some, None, Bool, true, false, refl, sym, ap, ◌∙◌, subst, arith}
 use Rattle.std.specs.Prelude.{slice_get, slice_index, nat_lt, ◌-◌, ◌&&◌, if◌then◌else◌}
 use Rattle.std.proofs.lemmas.Bool.{lt-ltb, le-ltb, lt-leb, le-leb, cond-true, cond-false}
-use Rattle.isp_base.specs.Arguments.{rows, row_bits}
+use Rattle.std.specs.List.{AllByRecursion}
+use Rattle.std.proofs.lemmas.List.Elements.{recursion_from_All}
+use Rattle.isp_base.specs.Arguments.{rows, row_bits, IsShort, AreShort}
 use Rattle.isp_base.specs.Binding.{is_for, has_signature}
 use Rattle.isp_base.specs.declared.signature.Argument.{Argument}
 use Rattle.isp_base.specs.declared.signature.Argument.TheVariants.{Value as AValue, Array as AnArray}
@@ -23,10 +25,8 @@ use Rattle.isp_meaning.specs.State.{extent_at}
 use Rattle.isp_typed.specs.Fine.{array_type, HoldsArray}
 use Rattle.isp_typed.specs.Typed.{ty_of, Program, TFunction}
 use Rattle.isp_typed.specs.declared.variable.ArrayVariable.{ArrayVariable}
-use Rattle.isp_lower.specs.Fits.{ArrayFitsAt, ArrayFits}
 use Rattle.isp_lower.specs.Layout.{Layout, array_register}
-use Rattle.isp_lower.specs.Setting.{Setting}
-use Rattle.isp_masks.specs.Agreement.{AreShort}
+use Rattle.isp_lower.specs.Setting.{ArrayFitsAt, ArrayFits, Setting}
 use Rattle.isp_masks.specs.Compiled.{entry_setting}
 use Rattle.isp_typed.specs.declared.variable.Holds.{Holds}
 use Rattle.isp_typed.specs.declared.variable.Holds.TheVariants as holds
@@ -34,6 +34,14 @@ use Rattle.isp_typed.specs.declared.variable.Variable.{Variable}
 use Rattle.isp_masks.specs.Arrays.{array_then, array_count, sharing_of, local_of, local_then, locals_of, count_then, local_count, ArraysStand}
 use Rattle.isp_masks.proofs.Begins.{some_same, not_so, handed_none}
 use Rattle.isp_masks.proofs.Unions.{both_so}
+
+-- ---- arrays that are handed over
+
+rows_few : (xs : List Argument) → AllByRecursion IsShort xs → (b : ℕ) → length (row_bits (rows xs) b) ≤ 2 ^ 63
+rows_few [] h b = omega arith
+rows_few (AValue v ∷ xs) h b = rows_few xs h.1 b
+rows_few (AnArray a ∷ xs) h zero = omega (arith, h.0)
+rows_few (AnArray a ∷ xs) h (suc b) = rows_few xs h.1 b
 
 -- ---- local arrays
 
@@ -152,11 +160,15 @@ module _ (program : Program) (listing : Listing) (f : ℕ) (h : TFunction) (g : 
   same_sizes : code.shared_sizes g.locals ≡ meaning.shared_sizes h.variables
   same_sizes = ap code.shared_sizes stand.locals_are ∙ shared_is h.variables
 
-  sizes_same : (z : ℕ) → world.home.sizes z ≡ world.frame.sizes z
-  sizes_same z = ap (λ s. if nat_lt z opened then length (row_bits (rows xs) z) else slice_index s (z - opened)) same_sizes
+  -- the same stores are open on both sides, with the same sizes
+  pub opened_same : world.home.opened ≡ world.frame.opened
+  opened_same = ap (λ s. opened + length s) same_sizes
+
+  pub sizes_same : world.home.sizes ≡ world.frame.sizes
+  sizes_same = ap (λ s. (λ (z : ℕ). if nat_lt z opened then length (row_bits (rows xs) z) else slice_index s (z - opened))) same_sizes
 
   given_fits : (b : ArrayVariable) (x : Variable) (e : Elem) → slice_get h.variables b.number ≡ Some x → x.holds ≡ holds.Given e → b.ty.rate ≡ Uniform → ArrayFits world b
-  given_fits b x e ex k er = record { is = subst (λ z. ArrayFitsAt world z b) (sym er) (per_lane, named, sizes_same (world.frame.named v)); few = subst (λ z. extent_at z world.frame v ≤ 2 ^ 63) (sym er) small }
+  given_fits b x e ex k er = record { is = subst (λ z. ArrayFitsAt world z b) (sym er) (per_lane, named); few = subst (λ z. extent_at z world.frame v ≤ 2 ^ 63) (sym er) small }
     where
       v : ℕ
       v = b.number
@@ -187,7 +199,7 @@ module _ (program : Program) (listing : Listing) (f : ℕ) (h : TFunction) (g : 
       small : extent_at Uniform world.frame b.number ≤ 2 ^ 63
       small =
           let inside : n < opened = omega (arith, under, rows_count h.parameters xs sig) in
-          subst (λ z. z ≤ 2 ^ 63) (sym (ap world.frame.sizes frame_named ∙ cond-true (nat_lt n opened) (length (row_bits (rows xs) n)) (slice_index sizes (n - opened)) (lt-ltb n opened inside))) (short n)
+          subst (λ z. z ≤ 2 ^ 63) (sym (ap world.frame.sizes frame_named ∙ cond-true (nat_lt n opened) (length (row_bits (rows xs) n)) (slice_index sizes (n - opened)) (lt-ltb n opened inside))) (rows_few xs (recursion_from_All IsShort xs short) n)
 
   local_fits : (b : ArrayVariable) (x : Variable) (n : ℕ) → slice_get h.variables b.number ≡ Some x → x.holds ≡ holds.Local b.ty n → ArrayFits world b
   local_fits b x n ex k = go b.ty.rate refl
@@ -234,7 +246,7 @@ module _ (program : Program) (listing : Listing) (f : ℕ) (h : TFunction) (g : 
 
       go : (r : Rate) → b.ty.rate ≡ r → ArrayFits world b
       go Uniform er = record {
-        is = subst (λ z. ArrayFitsAt world z b) (sym er) (per_lane ∙ ap (λ z. is_per_instance (sharing_of z)) er, home_named ∙ sym frame_named, sizes_same (world.frame.named b.number));
+        is = subst (λ z. ArrayFitsAt world z b) (sym er) (per_lane ∙ ap (λ z. is_per_instance (sharing_of z)) er, home_named ∙ sym frame_named);
         few = subst (λ z. extent_at z world.frame b.number ≤ 2 ^ 63) (sym er) (subst (λ z. z ≤ 2 ^ 63) (sym (shared_size er)) few_elements);
       }
       go Varying er = record {

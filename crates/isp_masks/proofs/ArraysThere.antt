@@ -4,8 +4,6 @@ use Rattle.std.proofs.Common.{◌≡◌, ℕ, zero, suc, ◌+◌, ◌-◌, List,
 use Rattle.std.specs.Prelude.{slice_get, ◌&&◌}
 use Rattle.std.proofs.lemmas.Bool.{lt-leb, le-leb}
 use Rattle.std.proofs.lemmas.Option.{get_or_from_slice_get, slice_get_within, slice_get-map}
-use Rattle.isp_base.specs.Binding.{has_signature}
-use Rattle.isp_base.specs.declared.signature.Argument.{Argument}
 use Rattle.isp_base.specs.declared.signature.Parameter.{Parameter}
 use Rattle.isp_base.specs.declared.types.Elem.{Elem}
 use Rattle.isp_base.specs.declared.types.Elem.TheVariants.{Bool as Truth}
@@ -13,7 +11,7 @@ use Rattle.isp_base.specs.declared.types.Rate.{Rate}
 use Rattle.isp_base.specs.declared.types.Rate.TheVariants.{Uniform, Varying}
 use Rattle.isp_code.specs.Entries.{is_array, parameter_of, parameters_of}
 use Rattle.isp_code.specs.Fine.{IsThere}
-use Rattle.isp_code.specs.Listing.{Listing, Routine}
+use Rattle.isp_code.specs.Listing.{Routine}
 use Rattle.isp_code.specs.Registers.{class_of, same_class, if_class, param_elems, local_elem, arrays_of, passed, elem_of, is_per_instance, is_own, is_per_lane, is_local}
 use Rattle.isp_code.specs.declared.function.Local.{Local}
 use Rattle.isp_code.specs.declared.function.Param.{Param}
@@ -21,7 +19,7 @@ use Rattle.isp_code.specs.declared.function.ParamKind.{ParamKind}
 use Rattle.isp_code.specs.declared.function.ParamKind.TheVariants as kind
 use Rattle.isp_code.specs.declared.register.Class.TheVariants as class
 use Rattle.isp_typed.specs.Fine.{array_type, HoldsArray, IsParam, AreParams, params_of, FineFunction}
-use Rattle.isp_typed.specs.Typed.{ty_of, Program, TFunction}
+use Rattle.isp_typed.specs.Typed.{ty_of, TFunction}
 use Rattle.isp_typed.specs.declared.variable.ArrayVariable.{ArrayVariable}
 use Rattle.isp_typed.specs.declared.variable.Holds.{Holds}
 use Rattle.isp_typed.specs.declared.variable.Holds.TheVariants as holds
@@ -29,18 +27,18 @@ use Rattle.isp_typed.specs.declared.variable.Variable.{Variable}
 use Rattle.isp_lower.specs.Layout.{Layout, array_register}
 use Rattle.isp_lower.specs.Sound.{IsShared, HasMask, HasRegister, HasArray, HasLocal}
 use Rattle.isp_lower.specs.Tables.{AnyMask, AnyArray}
-use Rattle.isp_lower.specs.Fits.{IsNamed, ArrayFits}
-use Rattle.isp_masks.specs.Agreement.{AreShort}
+use Rattle.isp_lower.specs.Fits.{IsNamedIn}
 use Rattle.isp_masks.specs.Arrays.{array_then, array_count, sharing_of, local_of, local_count, ArraysStand, HoldsLocal}
-use Rattle.isp_masks.specs.Compiled.{entry_setting}
 use Rattle.isp_masks.specs.Parts.{BlockTable}
 use Rattle.isp_masks.specs.Presence.{BlockHas}
 use Rattle.isp_masks.specs.Sound.{BlockPresent}
-use Rattle.isp_masks.proofs.Arrays.{local_at, arrays_fit}
+use Rattle.isp_masks.proofs.Arrays.{local_at}
 use Rattle.isp_masks.proofs.Begins.{some_same}
 use Rattle.isp_masks.specs.Laws.{BodyPresent}
 use Rattle.isp_masks.proofs.Held.{block_held}
-use Rattle.isp_masks.proofs.Presences.{block_grows}
+use Rattle.isp_masks.specs.Asks.{block_asks}
+use Rattle.isp_lower.proofs.Growing.{all_grow}
+use Rattle.isp_lower.proofs.Held.{all_held}
 
 -- ---- lists
 
@@ -185,15 +183,14 @@ module _ (h : TFunction) (g : Routine) (l : Layout) (stand : ArraysStand h g l) 
 
   present_of : (n : ℕ) → Held n → BlockPresent g l h.answer h.body n
   present_of n f =
-      block_grows (HasRegister g l) (HasRegister g l) (λ r x t z. z) (HoldsArray h.variables) (HasArray g l) (HoldsLocal h.variables) (HasLocal g l) (HasMask g) (HasMask g) arrays_there locals_there (λ m z. z) h.answer h.body n f
+      all_grow (HasRegister g l) (HasRegister g l) (HoldsArray h.variables) (HasArray g l) (HoldsLocal h.variables) (HasLocal g l) (HasMask g) (HasMask g) (λ r x t z. z) arrays_there locals_there (λ m z. z) (block_asks h.answer h.body n) f
 
-  table_of : (n : ℕ) → Held n → (program : Program) (code : Listing) (f turns : ℕ) (xs : List Argument) → has_signature h.parameters xs ≡ true → AreShort xs → BlockTable (entry_setting program code f h g l turns xs) h.body n
-  table_of n f program code q turns xs sig few =
-      let w = entry_setting program code q h g l turns xs in
-      let fit = arrays_fit program code q h g l turns xs stand sig few in
-      block_grows (HasRegister g l) (IsNamed w) (λ r x t z. z.1) (HoldsArray h.variables) (ArrayFits w) (HoldsLocal h.variables) (ArrayFits w) (HasMask g) AnyMask fit (λ c z. fit c (locals_held c z)) (λ m z. tt) h.answer h.body n f
+  table_of : (n : ℕ) → Held n → BlockTable g l h.variables h.answer h.body n
+  table_of n f =
+      all_grow (HasRegister g l) (IsNamedIn g l) (HoldsArray h.variables) (HoldsArray h.variables) (HoldsLocal h.variables) (HoldsArray h.variables) (HasMask g) AnyMask (λ r x t z. z.1) (λ b z. z) locals_held (λ m z. tt) (block_asks h.answer h.body n) f
 
 pub body_present : (fs : List TFunction) (h : TFunction) (g : Routine) (l : Layout) → FineFunction fs h → ArraysStand h g l → parameters_of g ≡ h.parameters → (n : ℕ) → BlockHas (HasRegister g l) AnyArray AnyArray (HasMask g) h.answer h.body n → BodyPresent h g l n
 body_present fs h g l fine stand made n f =
-    let held = block_held fs h.variables (HasRegister g l) AnyArray (HoldsArray h.variables) AnyArray (HoldsLocal h.variables) (HasMask g) (λ b z. z) (λ b sp z. (z.0, z.1)) h.answer h.body n fine.body f in
+    let arrays = block_held (HoldsArray h.variables) (HoldsLocal h.variables) fs h.variables (λ b z. z) (λ b sp z. (z.0, z.1)) h.answer h.body n fine.body in
+    let held = all_held (HoldsArray h.variables) (HoldsLocal h.variables) (HasRegister g l) AnyArray AnyArray (HasMask g) (block_asks h.answer h.body n) arrays f in
     record { present = present_of h g l stand made fine.params n held; table = table_of h g l stand made fine.params n held }

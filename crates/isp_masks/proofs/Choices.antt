@@ -18,15 +18,14 @@ use Rattle.isp_lower.specs.Fits.{first_slot}
 use Rattle.isp_lower.specs.Layout.{register}
 use Rattle.isp_lower.specs.Runs.{Enters}
 use Rattle.isp_lower.specs.Setting.{Setting, IsSettled, gang_of, AreAt, At, Stands, Holds}
-use Rattle.isp_lower.proofs.Done.{spares_all, spares_less, spares_on}
-use Rattle.isp_lower.proofs.Base.{are_front, are_back, put_same, put_other, comes_none, comes_on, step_go, at_to}
+use Rattle.isp_lower.proofs.Base.{are_front, are_back, put_same, put_other, comes_none, comes_on, step_go, at_to, spares_all, spares_less, spares_on}
 use Rattle.isp_lower.proofs.Combine.{failed_after, stopped_after, failed_less, stopped_less}
 use Rattle.isp_lower.proofs.Jumps.{jumped, jump_comes, jump_at, masked, where_comes, others_comes, masked_at}
 use Rattle.isp_lower.proofs.Logic.{any_nobody, where_inside}
 use Rattle.isp_lower.proofs.Rates.{at_kept}
 use Rattle.isp_masks.specs.Statements.{unite, parted_code, if_code, if_else_code}
 use Rattle.isp_masks.specs.StmtRuns.{AreThree, Inside, StmtOk, StmtRuns}
-use Rattle.isp_masks.proofs.Unions.{union_nobody, union_assoc, without_nobody, without_self, below_union, below_without}
+use Rattle.isp_masks.proofs.Unions.{union_nobody, union_assoc, without_nobody, without_self, below_without}
 use Rattle.isp_masks.proofs.Combine.{stmt_after, go_runs, plain_ok, jump_after, guard_runs}
 
 -- ---- one value chooses as two parts do
@@ -72,7 +71,7 @@ module _ (w : Setting) (ready : IsSettled w) where
   pub parted_runs : (x pc k co rr n q : ℕ) (a : Mask) (m : Payload) (s : State) (c : Conf) (first rest : ℕ → List Instr) (va vb : Mask → State → Res) → At w c pc → c.masks k ≡ a → any (gang_of w) a ≡ true → Inside w a → Stands w s c → Holds Varying a x m c → 5 + q ≤ 32 * s.work → AreThree k co rr n → AreAt w.routine.code pc (parted_code x pc k n first rest) → ((T : Mask) (s1 : State) (c1 : Conf) (pc1 z : ℕ) → AreThree n co rr (n + 1) → AreAt w.routine.code pc1 (first pc1) → Enters w pc1 n (n + 1) T s1 c1 z → StmtRuns w w.turns c1 (pc1 + length (first pc1)) n co rr (n + 1) z (va T s1)) → ((F : Mask) (s1 : State) (c1 : Conf) (pc1 z : ℕ) → AreThree k co rr (n + 1) → AreAt w.routine.code pc1 (rest pc1) → At w c1 pc1 → c1.masks k ≡ F → Inside w F → Stands w s1 c1 → 1 + z ≤ 32 * s1.work → StmtRuns w w.turns c1 (pc1 + length (rest pc1)) k co rr (n + 1) z (unless_empty (gang_of w) F s1 vb)) → StmtRuns w w.turns c (pc + length (parted_code x pc k n first rest)) k co rr n q (branches (gang_of w) a va vb m s)
   parted_runs x pc k co rr n q a m s c first rest va vb at em some inside st hold le three has fa fb =
       subst (λ v. StmtRuns w w.turns c end k co rr n q v) (sym (branches_parts (gang_of w) a va vb m s some ∙ ap (λ z. both_sides (unless_empty (gang_of w) z s va) (λ s1. unless_empty (gang_of w) (without a z) s1 vb)) kept))
-      (stmt_after w ready w.turns c c2 2 end k co rr n q _ (comes_on w c c1 c2 1 1 (where_comes w ready c pc n x k at has.0) (others_comes w ready c1 (pc + 1) k k n (masked_at w ready c pc n t1 at) has.1.0)) (spares_all w ready n c) (λ r lt ne. let rn : r ≢ n = omega arith in put_other c1.masks k f2 r ne ∙ put_other c.masks n t1 r rn) three
+      (stmt_after w ready w.turns c c2 2 end k co rr n q _ (comes_on w c c1 c2 1 1 (where_comes w ready c pc n x k at has.0) (others_comes w ready c1 (pc + 1) k k n (masked_at w ready c pc n t1 at) has.1.0)) (spares_all w n c) (λ r lt ne. let rn : r ≢ n = omega arith in put_other c1.masks k f2 r ne ∙ put_other c.masks n t1 r rn) three
       (go_runs w ready w.turns c2 p2 n co rr (n + 1) 2 (2 + q) (unless_empty (gang_of w) T s va) _ end k co rr n begin second))
     where
       v : Lanes
@@ -172,13 +171,11 @@ module _ (w : Setting) (ready : IsSettled w) where
             comes = comes_on w c2 ok.conf c4 ok.steps (r.steps + 1) ok.comes (comes_on w ok.conf c3 c4 r.steps 1 r.comes (step_go w c3 p3 (unite k n k) c4 ready r.at at_last refl));
             at = at_to w c4 (p3 + 1) end (masked_at w ready c3 p3 k (union (c3.masks n) (c3.masks k)) r.at) ends;
             stands = r.stands;
-            spares = spares_less w ready n (n + 1) c2 c3 (omega arith) (spares_on w ready (n + 1) c2 ok.conf c3 ok.spares r.spares);
+            spares = spares_less w n (n + 1) c2 c3 (omega arith) (spares_on w (n + 1) c2 ok.conf c3 ok.spares r.spares);
             went = put_same c3.masks k _ ∙ ap (λ z. union z (c3.masks k)) (r.masks n (omega arith) nk nco nrr ∙ ok.went) ∙ ap (union g) r.went;
             continued = put_other c3.masks k _ co cok ∙ r.continued ∙ ap (λ z. union z c') ok.continued ∙ union_assoc (c2.masks co) ct c';
             returned = put_other c3.masks k _ rr rrk ∙ r.returned ∙ ap (λ z. union z r') ok.returned ∙ union_assoc (c2.masks rr) rt r';
             masks = λ i lt ik ic ir. let i_n : i ≢ n = omega arith in put_other c3.masks k _ i ik ∙ r.masks i (omega arith) ik ic ir ∙ ok.masks i (omega arith) i_n ic ir;
-            inside = below_union (gang_of w) g g' ok.inside r.inside;
-            back = below_union (gang_of w) ct c' ok.back r.back;
             bound = omega (arith, r.bound);
           }
             where
@@ -209,7 +206,7 @@ module _ (w : Setting) (ready : IsSettled w) where
   pub if_runs : (r : Rate) (x pc k co rr n q : ℕ) (a : Mask) (m : Payload) (s : State) (c : Conf) (first : ℕ → ℕ → ℕ → List Instr) (va : Mask → State → Res) → At w c pc → c.masks k ≡ a → any (gang_of w) a ≡ true → Inside w a → Stands w s c → Holds r a x m c → 5 + q ≤ 32 * s.work → AreThree k co rr n → AreAt w.routine.code pc (if_code r x pc k n first) → PartRuns r co rr n first va → StmtRuns w w.turns c (pc + length (if_code r x pc k n first)) k co rr n q (branches (gang_of w) a va went_all m s)
   if_runs Uniform x pc k co rr n q a m s c first va at em some inside st hold le three has fa =
       subst (λ z. StmtRuns w w.turns c end k co rr n q (branches (gang_of w) a va went_all z s)) (sym hold)
-      (stmt_after w ready w.turns c c4 1 end k co rr n q _ (jump_comes w ready c pc jump.False (register Uniform x) to at has.0) (spares_all w ready n c) (λ r lt ne. refl) three (go (is_true (c.scalars x)) refl))
+      (stmt_after w ready w.turns c c4 1 end k co rr n q _ (jump_comes w ready c pc jump.False (register Uniform x) to at has.0) (spares_all w n c) (λ r lt ne. refl) three (go (is_true (c.scalars x)) refl))
     where
       to : ℕ
       to = pc + 1 + length (first (pc + 1) k n)
@@ -225,18 +222,18 @@ module _ (w : Setting) (ready : IsSettled w) where
 
       go : (b : Bool) → is_true (c.scalars x) ≡ b → StmtRuns w w.turns c4 end k co rr n (1 + q) (if_so b (va a) (went_all a) s)
       go true e = subst (λ z. StmtRuns w w.turns c4 z k co rr n (1 + q) (va a s)) ends (fa k a s c4 (pc + 1) (1 + q) three has.1 (record { at = test_at c pc x to true at e; mask = em; some = some; inside = inside; stands = st; used = omega (arith, le); low = three.low_k }))
-      go false e = plain_ok w ready c4 c4 0 end k co rr n (1 + q) a s (comes_none w c4) (at_to w c4 to end (test_at c pc x to false at e) ends) st (spares_all w ready n c4) (λ r h. refl) three em inside (omega (arith, le))
+      go false e = plain_ok w ready c4 c4 0 end k co rr n (1 + q) a s (comes_none w c4) (at_to w c4 to end (test_at c pc x to false at e) ends) st (spares_all w n c4) (λ r h. refl) three em (omega (arith, le))
   if_runs Varying x pc k co rr n q a m s c first va at em some inside st hold le three has fa =
       parted_runs x pc k co rr n q a m s c (λ pc1. first pc1 n (n + 1)) (λ pc1. []) va went_all at em some inside st hold le three has (λ T s1 c1 pc1 z th h en. fa n T s1 c1 pc1 z th h en)
       (λ F s1 c1 pc1 z th h at1 em1 in1 st1 le1.
       let e : pc1 ≡ pc1 + 0 = omega arith in
       subst (λ v. StmtRuns w w.turns c1 (pc1 + 0) k co rr (n + 1) z v) (nobody_left (gang_of w) F s1)
-      (plain_ok w ready c1 c1 0 (pc1 + 0) k co rr (n + 1) z F s1 (comes_none w c1) (at_to w c1 pc1 (pc1 + 0) at1 e) st1 (spares_all w ready (n + 1) c1) (λ r lt. refl) th em1 in1 (omega (arith, le1))))
+      (plain_ok w ready c1 c1 0 (pc1 + 0) k co rr (n + 1) z F s1 (comes_none w c1) (at_to w c1 pc1 (pc1 + 0) at1 e) st1 (spares_all w (n + 1) c1) (λ r lt. refl) th em1 (omega (arith, le1))))
 
   pub if_else_runs : (r : Rate) (x pc k co rr n q : ℕ) (a : Mask) (m : Payload) (s : State) (c : Conf) (first second : ℕ → ℕ → ℕ → List Instr) (va vb : Mask → State → Res) → At w c pc → c.masks k ≡ a → any (gang_of w) a ≡ true → Inside w a → Stands w s c → Holds r a x m c → 5 + q ≤ 32 * s.work → AreThree k co rr n → AreAt w.routine.code pc (if_else_code r x pc k n first second) → PartRuns r co rr n first va → PartRuns r co rr n second vb → StmtRuns w w.turns c (pc + length (if_else_code r x pc k n first second)) k co rr n q (branches (gang_of w) a va vb m s)
   if_else_runs Uniform x pc k co rr n q a m s c first second va vb at em some inside st hold le three has fa fb =
       subst (λ z. StmtRuns w w.turns c end k co rr n q (branches (gang_of w) a va vb z s)) (sym hold)
-      (stmt_after w ready w.turns c c4 1 end k co rr n q _ (jump_comes w ready c pc jump.False (register Uniform x) pb at has.0) (spares_all w ready n c) (λ r lt ne. refl) three (go (is_true (c.scalars x)) refl))
+      (stmt_after w ready w.turns c c4 1 end k co rr n q _ (jump_comes w ready c pc jump.False (register Uniform x) pb at has.0) (spares_all w n c) (λ r lt ne. refl) three (go (is_true (c.scalars x)) refl))
     where
       ca : List Instr
       ca = first (pc + 1) k n

@@ -14,12 +14,11 @@ use Rattle.isp_lower.specs.Code.{guard, jump_off}
 use Rattle.isp_lower.specs.Layout.{mask_register}
 use Rattle.isp_lower.specs.Runs.{Comes, Enters, Ok, Runs, DoneRuns}
 use Rattle.isp_lower.specs.Setting.{Setting, IsSettled, gang_of, AreAt, At, Stands, Spares}
-use Rattle.isp_lower.proofs.Done.{spares_all, spares_on}
-use Rattle.isp_lower.proofs.Base.{comes_none, comes_on, step_go, at_to}
+use Rattle.isp_lower.proofs.Base.{comes_none, comes_on, step_go, at_to, spares_all, spares_on}
 use Rattle.isp_lower.proofs.Combine.{failed_after, stopped_after, failed_less, stopped_less}
 use Rattle.isp_lower.proofs.Jumps.{jumped, jump_comes, jump_at}
 use Rattle.isp_masks.specs.StmtRuns.{AreThree, Inside, StmtOk, StmtRuns}
-use Rattle.isp_masks.proofs.Unions.{union_nobody, below_nobody}
+use Rattle.isp_masks.proofs.Unions.{union_nobody}
 
 module _ (w : Setting) (ready : IsSettled w) where
   -- ---- a stretch before
@@ -34,13 +33,11 @@ module _ (w : Setting) (ready : IsSettled w) where
         comes = comes_on w c c1 r.conf d r.steps h r.comes;
         at = r.at;
         stands = r.stands;
-        spares = spares_on w ready n c c1 r.conf sp r.spares;
+        spares = spares_on w n c c1 r.conf sp r.spares;
         went = r.went;
         continued = r.continued ∙ ap (λ z. union z ct) (ma co m.low_co ck);
         returned = r.returned ∙ ap (λ z. union z rt) (ma rr m.low_rr rk);
         masks = λ i lt x y z. r.masks i lt x y z ∙ ma i lt x;
-        inside = r.inside;
-        back = r.back;
         bound = omega (arith, r.bound);
       }
   stmt_after t c c1 d pc k co rr n q (Trapped p s) h sp ma m r = failed_after w ready c c1 d q p s h r
@@ -49,7 +46,7 @@ module _ (w : Setting) (ready : IsSettled w) where
   -- ---- what follows; d steps are set aside for it
 
   pub stmt_less : (t : ℕ) (c : Conf) (pc pc' k co rr n d q : ℕ) (v : Res) → pc ≡ pc' → StmtRuns w t c pc k co rr n (d + q) v → StmtRuns w t c pc' k co rr n q v
-  stmt_less t c pc pc' k co rr n d q (Went s g b ct rt) e r = record { conf = r.conf; steps = r.steps; comes = r.comes; at = at_to w r.conf pc pc' r.at e; stands = r.stands; spares = r.spares; went = r.went; continued = r.continued; returned = r.returned; masks = r.masks; inside = r.inside; back = r.back; bound = omega (arith, r.bound) }
+  stmt_less t c pc pc' k co rr n d q (Went s g b ct rt) e r = record { conf = r.conf; steps = r.steps; comes = r.comes; at = at_to w r.conf pc pc' r.at e; stands = r.stands; spares = r.spares; went = r.went; continued = r.continued; returned = r.returned; masks = r.masks; bound = omega (arith, r.bound) }
   stmt_less t c pc pc' k co rr n d q (Trapped p s) e r = failed_less w ready c d q p s r
   stmt_less t c pc pc' k co rr n d q (Cut s) e r = stopped_less w ready t c d q s r
 
@@ -67,8 +64,8 @@ module _ (w : Setting) (ready : IsSettled w) where
 
   -- ---- all go on
 
-  pub plain_ok : (c c1 : Conf) (d pc k co rr n q : ℕ) (a : Mask) (s : State) → Comes w c d c1 → At w c1 pc → Stands w s c1 → Spares w n c c1 → ((r : ℕ) → r < n → c1.masks r ≡ c.masks r) → AreThree k co rr n → c.masks k ≡ a → Inside w a → d + q ≤ 32 * s.work → StmtOk w c pc k co rr n q s a nobody nobody
-  plain_ok c c1 d pc k co rr n q a s h at st sp ma m em inside le = record {
+  pub plain_ok : (c c1 : Conf) (d pc k co rr n q : ℕ) (a : Mask) (s : State) → Comes w c d c1 → At w c1 pc → Stands w s c1 → Spares w n c c1 → ((r : ℕ) → r < n → c1.masks r ≡ c.masks r) → AreThree k co rr n → c.masks k ≡ a → d + q ≤ 32 * s.work → StmtOk w c pc k co rr n q s a nobody nobody
+  plain_ok c c1 d pc k co rr n q a s h at st sp ma m em le = record {
     conf = c1;
     steps = d;
     comes = h;
@@ -79,15 +76,13 @@ module _ (w : Setting) (ready : IsSettled w) where
     continued = ma co m.low_co ∙ sym (union_nobody (c.masks co));
     returned = ma rr m.low_rr ∙ sym (union_nobody (c.masks rr));
     masks = λ r lt x y z. ma r lt;
-    inside = inside;
-    back = below_nobody (gang_of w);
     bound = le;
   }
 
-  pub all_runs : (c : Conf) (pc k co rr n q : ℕ) (a : Mask) (v : Val Done) → AreThree k co rr n → c.masks k ≡ a → Inside w a → DoneRuns w c pc n q v → StmtRuns w w.turns c pc k co rr n q (all_go a v)
-  all_runs c pc k co rr n q a (Gives x s) m em inside r = plain_ok c r.conf r.steps pc k co rr n q a s r.comes r.at r.stands r.spares r.masks m em inside r.bound
-  all_runs c pc k co rr n q a (Fails p s) m em inside r = r
-  all_runs c pc k co rr n q a (Stops s) m em inside r = r
+  pub all_runs : (c : Conf) (pc k co rr n q : ℕ) (a : Mask) (v : Val Done) → AreThree k co rr n → c.masks k ≡ a → DoneRuns w c pc n q v → StmtRuns w w.turns c pc k co rr n q (all_go a v)
+  all_runs c pc k co rr n q a (Gives x s) m em r = plain_ok c r.conf r.steps pc k co rr n q a s r.comes r.at r.stands r.spares r.masks m em r.bound
+  all_runs c pc k co rr n q a (Fails p s) m em r = r
+  all_runs c pc k co rr n q a (Stops s) m em r = r
 
   -- ---- a jump after what is done
 
@@ -106,8 +101,6 @@ module _ (w : Setting) (ready : IsSettled w) where
         continued = r.continued;
         returned = r.returned;
         masks = r.masks;
-        inside = r.inside;
-        back = r.back;
         bound = omega (arith, r.bound);
       }
   jump_after t c pc to k co rr n q (Trapped p s) has r = failed_less w ready c 1 q p s r
@@ -117,7 +110,7 @@ module _ (w : Setting) (ready : IsSettled w) where
 
   pub guard_runs : (t pc j co rr n q : ℕ) (a : Mask) (s : State) (c : Conf) (body : ℕ → List Instr) (v : Mask → State → Res) → At w c pc → c.masks j ≡ a → Inside w a → Stands w s c → 1 + q ≤ 32 * s.work → AreThree j co rr n → AreAt w.routine.code pc (guard (jump_off j) pc body) → ((c1 : Conf) (z : ℕ) → Enters w (pc + 1) j n a s c1 z → StmtRuns w t c1 (pc + 1 + length (body (pc + 1))) j co rr n z (v a s)) → StmtRuns w t c (pc + length (guard (jump_off j) pc body)) j co rr n q (unless_empty (gang_of w) a s v)
   guard_runs t pc j co rr n q a s c body v at em inside st le m has rb =
-      stmt_after t c c4 1 end j co rr n q _ (jump_comes w ready c pc jump.Off (mask_register j) to at has.0) (spares_all w ready n c) (λ r h ne. refl) m (go (any (gang_of w) a) refl)
+      stmt_after t c c4 1 end j co rr n q _ (jump_comes w ready c pc jump.Off (mask_register j) to at has.0) (spares_all w n c) (λ r h ne. refl) m (go (any (gang_of w) a) refl)
     where
       to : ℕ
       to = pc + 1 + length (body (pc + 1))
@@ -136,4 +129,4 @@ module _ (w : Setting) (ready : IsSettled w) where
 
       go : (b : Bool) → any (gang_of w) a ≡ b → StmtRuns w t c4 end j co rr n (1 + q) (if_so b (v a) (went_all a) s)
       go true e = subst (λ z. StmtRuns w t c4 z j co rr n (1 + q) (v a s)) ends (rb c4 (1 + q) (record { at = jump_at w ready c pc jump.Off (mask_register j) to false at (off_is true e); mask = em; some = e; inside = inside; stands = st; used = le; low = m.low_k }))
-      go false e = plain_ok c4 c4 0 end j co rr n (1 + q) a s (comes_none w c4) (at_to w c4 to end (jump_at w ready c pc jump.Off (mask_register j) to true at (off_is false e)) ends) st (spares_all w ready n c4) (λ r h. refl) m em inside (omega arith)
+      go false e = plain_ok c4 c4 0 end j co rr n (1 + q) a s (comes_none w c4) (at_to w c4 to end (jump_at w ready c pc jump.Off (mask_register j) to true at (off_is false e)) ends) st (spares_all w n c4) (λ r h. refl) m em (omega arith)

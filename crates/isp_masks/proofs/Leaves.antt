@@ -17,9 +17,8 @@ use Rattle.isp_meaning.specs.Expressions.{value}
 use Rattle.isp_meaning.specs.Statements.{answered, answered_at, jumped}
 use Rattle.isp_lower.specs.Code.{copy, found, operand, operand_of, expr_places, expr_code}
 use Rattle.isp_lower.specs.Runs.{Comes, Enters}
-use Rattle.isp_lower.specs.Setting.{Setting, IsSettled, gang_of, AreAt, At, Stands, Spares, at_rate, held_at, Holds}
-use Rattle.isp_lower.proofs.Done.{spares_all, spares_kept, spares_on}
-use Rattle.isp_lower.proofs.Base.{are_front, are_back, put_same, put_other, comes_on, step_go, at_to}
+use Rattle.isp_lower.specs.Setting.{Setting, IsSettled, gang_of, calls_of, AreAt, At, Stands, Spares, at_rate, held_at, Holds}
+use Rattle.isp_lower.proofs.Base.{are_front, are_back, put_same, put_other, comes_on, step_go, at_to, spares_all, spares_on}
 use Rattle.isp_lower.proofs.Combine.{set_comes, set_goes, set_masks}
 use Rattle.isp_lower.proofs.Found.{few}
 use Rattle.isp_lower.proofs.Jumps.{masked, masked_at}
@@ -29,7 +28,7 @@ use Rattle.isp_lower.proofs.Exprs.{expr_runs}
 use Rattle.isp_masks.specs.Statements.{unite, clear_mask, leave_code, jump_code, answer_code}
 use Rattle.isp_masks.specs.Fits.{AnswerFits}
 use Rattle.isp_masks.specs.StmtRuns.{AreThree, StmtOk, StmtRuns}
-use Rattle.isp_masks.proofs.Unions.{union_nobody, below_nobody}
+use Rattle.isp_masks.proofs.Unions.{union_nobody}
 use Rattle.isp_masks.proofs.Combine.{with_runs}
 
 module _ (w : Setting) (ready : IsSettled w) where
@@ -61,13 +60,11 @@ module _ (w : Setting) (ready : IsSettled w) where
         comes = step_go w c pc (clear_mask k) (masked w ready c k nobody) ready b.at has.0 refl;
         at = masked_at w ready c pc k nobody b.at;
         stands = b.stands;
-        spares = spares_all w ready n c;
+        spares = spares_all w n c;
         went = put_same c.masks k nobody;
         continued = put_other c.masks k nobody co ck ∙ sym (union_nobody (c.masks co));
         returned = put_other c.masks k nobody rr rk ∙ sym (union_nobody (c.masks rr));
         masks = λ i lt x y z. put_other c.masks k nobody i x;
-        inside = below_nobody (gang_of w);
-        back = below_nobody (gang_of w);
         bound = omega (arith, b.used);
       }
   jump_runs Continue pc k co rr n q a s c has three b =
@@ -81,13 +78,11 @@ module _ (w : Setting) (ready : IsSettled w) where
         comes = gone_comes c pc co k b.at has;
         at = at_to w (gone c co k) (pc + 1 + 1) (pc + 2) (gone_at c pc co k b.at) to;
         stands = b.stands;
-        spares = spares_all w ready n c;
+        spares = spares_all w n c;
         went = put_same (masked w ready c co (union (c.masks co) (c.masks k))).masks k nobody;
         continued = gone_grows c co k a ck b.mask;
         returned = gone_other c co k rr rk rc ∙ sym (union_nobody (c.masks rr));
         masks = λ i lt x y z. gone_other c co k i x y;
-        inside = below_nobody (gang_of w);
-        back = b.inside;
         bound = omega (arith, b.used);
       }
 
@@ -108,8 +103,6 @@ module _ (w : Setting) (ready : IsSettled w) where
         continued = gone_other c1 rr k co ck three.co_rr ∙ ma co three.low_co ∙ sym (union_nobody (c.masks co));
         returned = gone_grows c1 rr k a rk (ma k three.low_k ∙ em) ∙ ap (λ z. union z a) (ma rr three.low_rr);
         masks = λ i lt x y z. gone_other c1 rr k i x z ∙ ma i lt;
-        inside = below_nobody (gang_of w);
-        back = below_nobody (gang_of w);
         bound = le;
       }
 
@@ -145,15 +138,15 @@ module _ (w : Setting) (ready : IsSettled w) where
   answered_work Uniform a m s = refl
   answered_work Varying a m s = refl
 
-  pub return_runs : (answer : Option Ty) (x : TExpr) (pc p k co rr n q : ℕ) (a : Mask) (s : State) (c : Conf) → AnswerFits w answer x n → AreAt w.routine.code pc (answer_code w.layout answer x pc p k n ++ leave_code rr k) → AreAt w.code.places p (expr_places w.layout x) → AreThree k co rr n → Enters w pc k n a s c q → StmtRuns w w.turns c (pc + length (answer_code w.layout answer x pc p k n ++ leave_code rr k)) k co rr n (1 + q) (with_value (value (gang_of w) w.frame w.calls x a (tick s)) (λ m s1. Went (answered answer a m s1) nobody nobody nobody a))
+  pub return_runs : (answer : Option Ty) (x : TExpr) (pc p k co rr n q : ℕ) (a : Mask) (s : State) (c : Conf) → AnswerFits w answer x n → AreAt w.routine.code pc (answer_code w.layout answer x pc p k n ++ leave_code rr k) → AreAt w.code.places p (expr_places w.layout x) → AreThree k co rr n → Enters w pc k n a s c q → StmtRuns w w.turns c (pc + length (answer_code w.layout answer x pc p k n ++ leave_code rr k)) k co rr n (1 + q) (with_value (value (gang_of w) w.frame (calls_of w) x a (tick s)) (λ m s1. Went (answered answer a m s1) nobody nobody nobody a))
   return_runs None x pc p k co rr n q a s c fit has places three b =
       let fx : heads x ≤ 1 = few w x n fit in
       let cx = expr_code w.layout x pc p k n in
       let pc1 = pc + length cx in
       let to : pc1 + 2 ≡ pc + length (cx ++ leave_code rr k) = omega (arith, length-append cx (leave_code rr k)) in
       with_runs w ready c pc1 n 2 (1 + q) (Holds (type_of x).rate a (found w.layout x n)) _ _ (pc + length (cx ++ leave_code rr k)) k co rr n
-      (expr_runs w ready x pc p k n (2 + (1 + q)) a (tick s) c fit (are_front w.routine.code pc cx _ has) places (enters_part w ready pc k n (heads x + (2 + (1 + q))) q a s c (omega arith) b))
-      (λ m s1 ok. subst (λ z. StmtOk w c z k co rr n (1 + q) s1 nobody nobody a) to (return_ok c ok.conf ok.steps pc1 k co rr n (1 + q) a s1 ok.comes ok.at ok.stands (spares_kept w ready n c ok.conf ok.keeps) ok.masks b.mask (are_back w.routine.code pc cx _ has) three (omega (arith, ok.bound))))
+      (expr_runs w ready x pc p k n (32 + q) (2 + (1 + q)) a (tick s) c fit (are_front w.routine.code pc cx _ has) places (omega arith) (enters_part w ready pc k n (32 + q) q a s c (omega arith) b))
+      (λ m s1 ok. subst (λ z. StmtOk w c z k co rr n (1 + q) s1 nobody nobody a) to (return_ok c ok.conf ok.steps pc1 k co rr n (1 + q) a s1 ok.comes ok.at ok.stands ok.spares ok.masks b.mask (are_back w.routine.code pc cx _ has) three (omega (arith, ok.bound))))
   return_runs (Some t) x pc p k co rr n q a s c fit has places three b =
       let fx : heads x ≤ 1 = few w x n fit.1 in
       let cx = expr_code w.layout x pc p k n in
@@ -168,9 +161,9 @@ module _ (w : Setting) (ready : IsSettled w) where
       let ha : AreAt w.routine.code pc ca = are_front w.routine.code pc ca put_it h1 in
       let e2 : pc + length (ca ++ put_it) ≡ pc1 + 1 = omega (arith, length-append ca put_it) in
       let h2 : AreAt w.routine.code (pc1 + 1) (leave_code rr k) = subst (λ z. AreAt w.routine.code z (leave_code rr k)) e2 (are_back w.routine.code pc (ca ++ put_it) (leave_code rr k) has) in
-      with_runs w ready c pc1 n 3 (1 + q) (Holds t.rate a u) (value (gang_of w) w.frame w.calls x a (tick s)) _ end k co rr n
-      (operand_runs w ready c pc k n (3 + (1 + q)) a (value (gang_of w) w.frame w.calls x a (tick s)) t.rate t.elem x cx fit.0 b.mask b.low ha
-      (expr_runs w ready x pc p k n (1 + (3 + (1 + q))) a (tick s) c fit.1 (are_front w.routine.code pc cx _ ha) places (enters_part w ready pc k n (heads x + (1 + (3 + (1 + q)))) q a s c (omega arith) b)))
+      with_runs w ready c pc1 n 3 (1 + q) (Holds t.rate a u) (value (gang_of w) w.frame (calls_of w) x a (tick s)) _ end k co rr n
+      (operand_runs w ready c pc k n (3 + (1 + q)) a (value (gang_of w) w.frame (calls_of w) x a (tick s)) t.rate t.elem x cx fit.0 b.mask b.low ha
+      (expr_runs w ready x pc p k n (32 + q) (1 + (3 + (1 + q))) a (tick s) c fit.1 (are_front w.routine.code pc cx _ ha) places (omega arith) (enters_part w ready pc k n (32 + q) q a s c (omega arith) b)))
       (λ m s1 ok.
       let c1 = ok.conf in
       let em : c1.masks k ≡ a = ok.masks k b.low ∙ b.mask in
@@ -179,4 +172,4 @@ module _ (w : Setting) (ready : IsSettled w) where
       let ew : (answered_at t.rate a m s1).work ≡ s1.work = answered_work t.rate a m s1 in
       let is = copy_line w.code w.routine c1 t.rate d u k ∙ ap (λ z. Go (set_at t.rate c1 d (held_at t.rate c1.scalars c1.vectors z u))) em in
       subst (λ z. StmtOk w c z k co rr n (1 + q) (answered_at t.rate a m s1) nobody nobody a) to
-      (return_ok c c2 (ok.steps + 1) (pc1 + 1) k co rr n (1 + q) a (answered_at t.rate a m s1) (comes_on w c c1 c2 ok.steps 1 ok.comes (set_comes w ready t.rate c1 d y pc1 (copy t.rate d u k) ok.at (are_back w.routine.code pc ca put_it h1).0 is)) (set_goes w ready t.rate c1 d y pc1 ok.at) (result_stands t.rate c1 a m s1 y ok.stands ok.holds) (spares_on w ready n c c1 c2 (spares_kept w ready n c c1 ok.keeps) (result_spares t.rate n c1 y)) (λ r lt. set_masks w ready t.rate c1 d y r ∙ ok.masks r lt) b.mask h2 three (omega (arith, ok.bound, ew))))
+      (return_ok c c2 (ok.steps + 1) (pc1 + 1) k co rr n (1 + q) a (answered_at t.rate a m s1) (comes_on w c c1 c2 ok.steps 1 ok.comes (set_comes w ready t.rate c1 d y pc1 (copy t.rate d u k) ok.at (are_back w.routine.code pc ca put_it h1).0 is)) (set_goes w ready t.rate c1 d y pc1 ok.at) (result_stands t.rate c1 a m s1 y ok.stands ok.holds) (spares_on w n c c1 c2 ok.spares (result_spares t.rate n c1 y)) (λ r lt. set_masks w ready t.rate c1 d y r ∙ ok.masks r lt) b.mask h2 three (omega (arith, ok.bound, ew))))

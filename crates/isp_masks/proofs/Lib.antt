@@ -1,16 +1,19 @@
 mod Unions
+mod Exiting
+mod Members
 mod Combine
 mod Choices
 mod Leaves
 mod Sequences
 mod Stmts
+mod Turns
+mod Loops
 mod Parts
 pub mod Endings
 mod Checked
 mod Begins
 mod Firsts
 mod Arrays
-pub mod Presences
 mod Held
 pub mod ArraysThere
 mod Agree
@@ -23,7 +26,6 @@ mod Awaiting
 mod Lists
 mod Forms
 mod Views
-mod Reserving
 mod Headers
 mod Routines
 mod Listings

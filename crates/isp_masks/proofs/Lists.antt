@@ -6,16 +6,17 @@ use Rattle.isp_lower.specs.Code.{jump_off}
 use Rattle.isp_lower.specs.Layout.{Layout}
 use Rattle.isp_typed.specs.Typed.{TStmt, t_stmts}
 use Rattle.isp_masks.specs.Awaited.{jump_where}
-use Rattle.isp_masks.specs.Statements.{rest_code, stays, stmt_code, stmt_places, stmts_code, stmts_places}
+use Rattle.isp_masks.specs.Exits.{all_go_on}
+use Rattle.isp_masks.specs.Statements.{rest_code, stmt_code, stmt_places, stmts_code, stmts_places}
 
 -- some may have left before what follows
 abbrev pub left_after : Bool → List TStmt → Bool
 left_after f [] = f
-left_after f (x ∷ xs) = left_after (not (stays x)) xs
+left_after f (x ∷ xs) = left_after (not (all_go_on x)) xs
 
-pub left_last : (f : Bool) (xs : List TStmt) (x : TStmt) → left_after f (xs ++ x ∷ []) ≡ not (stays x)
+pub left_last : (f : Bool) (xs : List TStmt) (x : TStmt) → left_after f (xs ++ x ∷ []) ≡ not (all_go_on x)
 left_last f [] x = refl
-left_last f (y ∷ ys) x = left_last (not (stays y)) ys x
+left_last f (y ∷ ys) x = left_last (not (all_go_on y)) ys x
 
 pub places_last : (l : Layout) (xs : List TStmt) (x : TStmt) → stmts_places l (t_stmts (xs ++ x ∷ [])) ≡ stmts_places l (t_stmts xs) ++ stmt_places l x
 places_last l [] x = append-nil (stmt_places l x)
@@ -35,7 +36,7 @@ module _ (answer : Option Ty) (k co rr n : ℕ) (t : ℕ) (l : Layout) where
   abbrev pub flat : Bool → List TStmt → ℕ → ℕ → List Instr
   flat f [] pc p = []
   flat f (x ∷ xs) pc p =
-      jump_where f k t ++ (one_code x (pc + length (jump_where f k t)) p ++ flat (not (stays x)) xs (pc + length (jump_where f k t) + length (one_code x (pc + length (jump_where f k t)) p)) (p + length (stmt_places l x)))
+      jump_where f k t ++ (one_code x (pc + length (jump_where f k t)) p ++ flat (not (all_go_on x)) xs (pc + length (jump_where f k t) + length (one_code x (pc + length (jump_where f k t)) p)) (p + length (stmt_places l x)))
 
   pub flat_last : (f : Bool) (xs : List TStmt) (x : TStmt) (pc p : ℕ)
       → flat f (xs ++ x ∷ []) pc p
@@ -47,7 +48,7 @@ module _ (answer : Option Ty) (k co rr n : ℕ) (t : ℕ) (l : Layout) where
   flat_last f (y ∷ ys) x pc p =
       let jump = jump_where f k t in
       let one = one_code y (pc + length jump) p in
-      let g = not (stays y) in
+      let g = not (all_go_on y) in
       let pc2 = pc + length jump + length one in
       let p2 = p + length (stmt_places l y) in
       let rest = flat g ys pc2 p2 in
@@ -70,8 +71,8 @@ module _ (answer : Option Ty) (k co rr n : ℕ) (t : ℕ) (l : Layout) where
   rest_is false (y ∷ ys) pc p all e =
       let zero : pc + 1 + 0 ≡ pc + 1 = omega arith in
       let p2 = p + length (stmt_places l y) in
-      let tail : flat false (y ∷ ys) (pc + 1) p ≡ one_code y (pc + 1) p ++ flat (not (stays y)) ys (pc + 1 + length (one_code y (pc + 1) p)) p2 =
-      ap (λ m. one_code y m p ++ flat (not (stays y)) ys (m + length (one_code y m p)) p2) zero in
+      let tail : flat false (y ∷ ys) (pc + 1) p ≡ one_code y (pc + 1) p ++ flat (not (all_go_on y)) ys (pc + 1 + length (one_code y (pc + 1) p)) p2 =
+      ap (λ m. one_code y m p ++ flat (not (all_go_on y)) ys (m + length (one_code y m p)) p2) zero in
       let same = all (pc + 1) p (omega (arith, e, ap length tail)) in
       let end : t ≡ pc + 1 + length (stmts_code l answer (t_stmts (y ∷ ys)) (pc + 1) p k co rr n) = omega (arith, e, ap length tail, ap length same) in
       ap (λ z. jump_off k t ∷ z) (sym tail ∙ same)
@@ -84,8 +85,8 @@ module _ (answer : Option Ty) (k co rr n : ℕ) (t : ℕ) (l : Layout) where
       let zero : pc + 0 ≡ pc = omega arith in
       let one = one_code x pc p in
       let p2 = p + length (stmt_places l x) in
-      let flatly : flat false (x ∷ xs) pc p ≡ one ++ flat (not (stays x)) xs (pc + length one) p2 =
-      ap (λ m. one_code x m p ++ flat (not (stays x)) xs (m + length (one_code x m p)) p2) zero in
+      let flatly : flat false (x ∷ xs) pc p ≡ one ++ flat (not (all_go_on x)) xs (pc + length one) p2 =
+      ap (λ m. one_code x m p ++ flat (not (all_go_on x)) xs (m + length (one_code x m p)) p2) zero in
       flatly
       ∙ ap (λ z. one ++ z)
-      (rest_is (stays x) xs (pc + length one) p2 (flat_is xs) (omega (arith, e, ap length flatly, length-append one (flat (not (stays x)) xs (pc + length one) p2))))
+      (rest_is (all_go_on x) xs (pc + length one) p2 (flat_is xs) (omega (arith, e, ap length flatly, length-append one (flat (not (all_go_on x)) xs (pc + length one) p2))))

@@ -26,7 +26,8 @@ use Rattle.isp_masks.specs.Parts.{BlockTree}
 use Rattle.isp_masks.specs.Statements.{block_places, returned, function_code}
 use Rattle.isp_masks.proofs.ArraysThere.{body_present}
 use Rattle.isp_masks.proofs.Firsts.{parameters_first}
-use Rattle.isp_masks.proofs.Presences.{block_grows}
+use Rattle.isp_masks.specs.Asks.{block_asks}
+use Rattle.isp_lower.proofs.Growing.{all_grow}
 
 -- ---- lists
 
@@ -50,7 +51,7 @@ at_low xs n (y ∷ ys) le is =
 module _ (fs : List TFunction) (code : Listing) (h : TFunction) (g : Routine) (rows : Rows) (p : ℕ) (fine : FineFunction fs h) (made : IsMade code h g rows p) where
   present : BodyPresent h g (layout_of rows) 3
   present =
-      body_present fs h g (layout_of rows) fine made.arrays made.parameters 3 (block_grows (HasRow rows) (HasRegister g (layout_of rows)) (register_there g rows made.types) AnyArray AnyArray AnyArray AnyArray (HasMask g) (HasMask g) (λ b z. z) (λ b z. z) (λ n z. z) h.answer h.body 3 made.rows_are)
+      body_present fs h g (layout_of rows) fine made.arrays made.parameters 3 (all_grow (HasRow rows) (HasRegister g (layout_of rows)) AnyArray AnyArray AnyArray AnyArray (HasMask g) (HasMask g) (register_there g rows made.types) (λ b z. z) (λ b z. z) (λ n z. z) (block_asks h.answer h.body 3) made.rows_are)
 
   given_at : (r : Rate) (t : Elem) → HasRegister g (layout_of rows) r Result t → IsGiven g (value_returned r t) (Some (register r ((layout_of rows).result r)))
   given_at Uniform t is = is
@@ -91,5 +92,6 @@ made_compiled program code f h g rows more p gang source found fine plain made f
   code_is = subst (λ c. AreAt c 0 (function_code (layout_of rows) h.answer h.body p)) (sym made.code_is) (at_whole (function_code (layout_of rows) h.answer h.body p));
   places_are = made.places_are;
   tree = plain;
-  table = λ turns xs sig few. (present program.functions code h g rows p fine made).table program code f turns xs sig few;
+  table = (present program.functions code h g rows p fine made).table;
+  arrays = made.arrays;
 }

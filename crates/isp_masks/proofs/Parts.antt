@@ -4,22 +4,22 @@ use Rattle.isp_base.specs.declared.types.Ty.{Ty}
 use Rattle.isp_typed.specs.Typed.{TExpr, type_of, TStmt, t_block, t_declare, t_simple, t_if, t_if_else, t_while, t_do, t_for, t_foreach, t_foreach_active, t_unmasked, t_jump, t_return, t_print, t_assert, TBlock, t_braces, TStmts, t_no_stmts, t_stmt_then}
 use Rattle.isp_lower.specs.Fits.{first_slot}
 use Rattle.isp_lower.specs.Setting.{Setting}
-use Rattle.isp_lower.proofs.Fitting.{expr_fits, simple_fits, items_fit}
+use Rattle.isp_lower.proofs.Fitting.{expr_fits, operand_fits, simple_fits, items_fit}
 use Rattle.isp_masks.specs.Fits.{AnswerFits, StmtFits, BlockFits, StmtsFit}
 use Rattle.isp_masks.specs.Parts.{AnswerTree, StmtTree, BlockTree, StmtsTree, AnswerTable, StmtTable, BlockTable, StmtsTable}
 
 module _ (w : Setting) where
-  answer_fits : (answer : Option Ty) (x : TExpr) (n : ℕ) → AnswerTree answer x → AnswerTable w answer x n → AnswerFits w answer x n
+  answer_fits : (answer : Option Ty) (x : TExpr) (n : ℕ) → AnswerTree answer x → AnswerTable w.routine w.layout w.function.variables answer x n → AnswerFits w answer x n
   answer_fits None x n t b = expr_fits w x n t b
-  answer_fits (Some u) x n t b = (record { elem = t.0.elem; reaches = t.0.reaches; lift = b.0 }, expr_fits w x n t.1 b.1)
+  answer_fits (Some u) x n t b = (operand_fits w u.rate u.elem x n t.0 b.1, expr_fits w x n t.1 b.1.1)
 
   mutual
-    pub stmt_fits : (x : TStmt) (n : ℕ) → StmtTree w.frame.answer x → StmtTable w x n → StmtFits w x n
+    pub stmt_fits : (x : TStmt) (n : ℕ) → StmtTree w.frame.answer x → StmtTable w.routine w.layout w.function.variables w.frame.answer x n → StmtFits w x n
     stmt_fits (t_block b) n t i = block_fits b n t i
     stmt_fits (t_declare xs sp) n t i = items_fit w xs n t i
     stmt_fits (t_simple x sp) n t i = simple_fits w x n t i
-    stmt_fits (t_if f g e x sp) n t i = (expr_fits w e n t.0 i.0, stmt_fits x (first_slot (type_of e).rate n) t.1 i.1)
-    stmt_fits (t_if_else f g e x y sp) n t i = (expr_fits w e n t.0 i.0, stmt_fits x (first_slot (type_of e).rate n) t.1 i.1, stmt_fits y (first_slot (type_of e).rate n) t.2 i.2)
+    stmt_fits (t_if f g e x sp) n t i = (expr_fits w e n t.0 i.0, stmt_fits x (first_slot (type_of e).rate n) t.1 i.1.1)
+    stmt_fits (t_if_else f g e x y sp) n t i = (expr_fits w e n t.0 i.0, stmt_fits x (first_slot (type_of e).rate n) t.1 i.1.1.0, stmt_fits y (first_slot (type_of e).rate n) t.2 i.1.1.1)
     stmt_fits (t_while f g e x sp) n t i = t
     stmt_fits (t_do f g x e sp) n t i = t
     stmt_fits (t_for f g first e step z x sp) n t i = t
@@ -32,9 +32,9 @@ module _ (w : Setting) where
     stmt_fits (t_print k text xs sp) n t i = t
     stmt_fits (t_assert x c sp) n t i = t
 
-    pub block_fits : (b : TBlock) (n : ℕ) → BlockTree w.frame.answer b → BlockTable w b n → BlockFits w b n
+    pub block_fits : (b : TBlock) (n : ℕ) → BlockTree w.frame.answer b → BlockTable w.routine w.layout w.function.variables w.frame.answer b n → BlockFits w b n
     block_fits (t_braces xs sp) n t i = stmts_fit xs n t i
 
-    pub stmts_fit : (xs : TStmts) (n : ℕ) → StmtsTree w.frame.answer xs → StmtsTable w xs n → StmtsFit w xs n
+    pub stmts_fit : (xs : TStmts) (n : ℕ) → StmtsTree w.frame.answer xs → StmtsTable w.routine w.layout w.function.variables w.frame.answer xs n → StmtsFit w xs n
     stmts_fit t_no_stmts n t i = tt
     stmts_fit (t_stmt_then x xs) n t i = (stmt_fits x n t.0 i.0, stmts_fit xs n t.1 i.1)

@@ -1,5 +1,5 @@
 -- A routine from its parts.
-use Rattle.std.proofs.Common.{◌≡◌, ℕ, suc, ◌+◌, ◌<◌, ◌≤◌, List, [], ◌∷◌, ◌++◌, length, refl, sym, ap, subst, ◌∙◌, arith, append_assoc, append-nil, length-append, drop, Option, Some, slice_get}
+use Rattle.std.proofs.Common.{◌≡◌, ℕ, suc, ◌+◌, ◌<◌, ◌≤◌, List, [], ◌∷◌, ◌++◌, length, refl, sym, ap, subst, ◌∙◌, arith, append_assoc, append-nil, length-append, drop, Some, slice_get}
 use Rattle.std.proofs.Math.Seq.{drop-append_seam}
 use Rattle.std.proofs.lemmas.List.{map-append}
 use Rattle.isp_base.specs.declared.signature.Parameter.{Parameter}
@@ -7,44 +7,30 @@ use Rattle.isp_base.specs.declared.types.Elem.{Elem}
 use Rattle.isp_base.specs.declared.types.Rate.{Rate}
 use Rattle.isp_base.specs.declared.types.Rate.TheVariants.{Uniform, Varying}
 use Rattle.isp_base.specs.declared.types.Span.{Span}
-use Rattle.isp_base.specs.declared.types.Ty.{Ty}
 use Rattle.isp_code.specs.Listing.{Routine}
 use Rattle.isp_code.specs.Registers.{class_of, if_class, param_elems, same_class}
 use Rattle.isp_code.specs.declared.function.Param.{Param}
 use Rattle.isp_code.specs.declared.instr.Instr.{Instr}
 use Rattle.isp_code.specs.declared.instr.Instr.TheVariants as instr
 use Rattle.isp_code.specs.declared.register.Class.TheVariants as class
-use Rattle.isp_code.specs.declared.register.Register.{Register}
 use Rattle.isp_lower.specs.Code.{same_rate}
-use Rattle.isp_lower.specs.Emitted.{Begins, Emits, Follows, Grows, HasRow, first_rows, result_rows, row_at, row_where, rows_of, value_row, value_rows}
-use Rattle.isp_lower.specs.Layout.{Layout, class_at}
+use Rattle.isp_lower.specs.Emitted.{Appends, Begins, Grows, HasArray, HasRow, first_rows, result_rows, row_at, row_where, rows_of, value_row, value_rows}
+use Rattle.isp_lower.specs.Layout.{class_at}
 use Rattle.isp_lower.specs.Rows.{Row, Rows, layout_of}
 use Rattle.isp_lower.specs.Setting.{AreAt}
-use Rattle.isp_lower.specs.declared.builder.FunctionBuilder.{FunctionBuilder}
+use Rattle.isp_lower.specs.Asks.{All}
+use Rattle.isp_lower.specs.declared.registers.Registers.{Registers}
+use Rattle.isp_lower.specs.declared.types.Body.{Body}
 use Rattle.isp_lower.specs.Tables.{AnyArray}
-use Rattle.isp_lower.proofs.Following.{before, emits_so, emits_then, follows_itself, grows_then}
-use Rattle.isp_typed.specs.Typed.{TBlock, TFunction}
+use Rattle.isp_lower.proofs.Growing.{all_grow}
+use Rattle.isp_typed.specs.Typed.{TFunction}
 use Rattle.isp_typed.specs.declared.variable.Holds.{Holds}
 use Rattle.isp_typed.specs.declared.variable.Holds.TheVariants as holds
 use Rattle.isp_typed.specs.declared.variable.Variable.{Variable as Declared}
 use Rattle.isp_masks.specs.Arrays.{locals_of}
-use Rattle.isp_masks.specs.Lowered.{GrowsTo, IsLowered, param_of, params_of, returns_of, types_of, value_kind}
-use Rattle.isp_masks.specs.Presence.{BlockHas}
+use Rattle.isp_masks.specs.Lowered.{IsLowered, param_of, params_of, returns_of, types_of, value_kind}
+use Rattle.isp_masks.specs.Asks.{block_asks}
 use Rattle.isp_masks.specs.Statements.{block_code, block_places, returned}
-use Rattle.isp_masks.proofs.Reserving.{block_stays}
-
--- ---- a body and its last instruction
-
-pub body_is : (a b c : FunctionBuilder) (answer : Option Ty) (x : TBlock) (back : Option Register)
-    → Emits a b (λ l pc p. block_code l answer x pc p 0 1 2 3) (λ l. block_places l x)
-    → ((l : Layout) → Follows l b.registers → back ≡ returned l answer)
-    → Emits b c (λ l pc p. instr.Return back ∷ []) (λ l. [])
-    → Emits a c (λ l pc p. block_code l answer x pc p 0 1 2 3 ++ instr.Return (returned l answer) ∷ []) (λ l. block_places l x)
-body_is a b c answer x back y is z =
-    emits_so a c (λ l pc p. block_code l answer x pc p 0 1 2 3 ++ instr.Return back ∷ []) (λ l pc p. block_code l answer x pc p 0 1 2 3 ++ instr.Return (returned l answer) ∷ []) (λ l. block_places l x ++ []) (λ l. block_places l x)
-    (emits_then a b c (λ l pc p. block_code l answer x pc p 0 1 2 3) (λ l pc p. instr.Return back ∷ []) (λ l. block_places l x) (λ l. []) y z)
-    (λ l s. ap (λ r. block_code l answer x (length a.code.items) (length a.listing.places) 0 1 2 3 ++ instr.Return r ∷ []) (is l (before l _ _ z.rows s)))
-    (λ l s. append-nil (block_places l x))
 
 -- ---- registers: those of the parameters come first
 
@@ -101,17 +87,15 @@ at_seam xs (y ∷ ys) zs = (
 
 -- ---- a routine
 
-pub lowered : (h : TFunction) (g : Routine) (z a b : FunctionBuilder) → a.code.items ≡ [] → rows_of z.registers ≡ first_rows h.variables h.answer → Grows z.registers a.registers
-    → Emits a b (λ l pc p. block_code l h.answer h.body pc p 0 1 2 3 ++ instr.Return (returned l h.answer) ∷ []) (λ l. block_places l h.body)
+pub lowered : (h : TFunction) (g : Routine) (z r : Registers) (a b : Body) → a.code.items ≡ [] → rows_of z ≡ first_rows h.variables h.answer → Grows z r
+    → Appends a b (λ pc p. block_code (layout_of (rows_of r)) h.answer h.body pc p 0 1 2 3 ++ instr.Return (returned (layout_of (rows_of r)) h.answer) ∷ []) (block_places (layout_of (rows_of r)) h.body)
     → g.name ≡ h.name → g.exported ≡ h.exported → g.params ≡ params_of h.parameters h.variables → g.returns ≡ returns_of h.answer → g.locals ≡ locals_of h.variables
-    → g.scalars ≡ drop (length (param_elems class.Scalar g.params)) (types_of (rows_of b.registers).scalars)
-    → g.vectors ≡ drop (length (param_elems class.Vector g.params)) (types_of (rows_of b.registers).vectors)
-    → BlockHas (HasRow a.registers) AnyArray AnyArray (λ k. k < g.masks) h.answer h.body 3 → 3 ≤ g.masks → g.code ≡ b.code.items → IsLowered h g b.listing.places
-lowered h g z a b none first grows y name exported params returns locals scalars vectors present three code =
-    let l = layout_of (rows_of b.registers) in
-    let adds = y.adds l (follows_itself b.registers) in
-    let all = grows_then z.registers a.registers b.registers grows y.rows in
-    let rows = subst (λ (q : Rows). Begins q.scalars (rows_of b.registers).scalars × Begins q.vectors (rows_of b.registers).vectors × Begins q.arrays (rows_of b.registers).arrays) first (all.scalars, all.vectors, all.arrays) in
+    → g.scalars ≡ drop (length (param_elems class.Scalar g.params)) (types_of (rows_of r).scalars)
+    → g.vectors ≡ drop (length (param_elems class.Vector g.params)) (types_of (rows_of r).vectors)
+    → All (HasRow r) (HasArray r) (HasArray r) (λ k. k < g.masks) (block_asks h.answer h.body 3) → 3 ≤ g.masks → g.code ≡ b.code.items → IsLowered h g b.places.items
+lowered h g z r a b none first grows y name exported params returns locals scalars vectors present three code =
+    let l = layout_of (rows_of r) in
+    let rows = subst (λ (q : Rows). Begins q.scalars (rows_of r).scalars × Begins q.vectors (rows_of r).vectors × Begins q.arrays (rows_of r).arrays) first (grows.scalars, grows.vectors, grows.arrays) in
     let part : List Instr → ℕ → List Instr = λ before p. before ++ (block_code l h.answer h.body (length before) p 0 1 2 3 ++ instr.Return (returned l h.answer) ∷ []) in
     record {
       name = name;
@@ -119,23 +103,18 @@ lowered h g z a b none first grows y name exported params returns locals scalars
       params = params;
       returns = returns;
       locals = locals;
-      rows = rows_of b.registers;
+      rows = rows_of r;
       scalars_first = rows.0;
       vectors_first = rows.1;
       arrays_first = rows.2;
-      scalars = registers_are Uniform h.parameters h.variables (result_rows Uniform h.answer ++ rows.0.more) (rows_of b.registers).scalars g.params g.scalars params
+      scalars = registers_are Uniform h.parameters h.variables (result_rows Uniform h.answer ++ rows.0.more) (rows_of r).scalars g.params g.scalars params
           (rows.0.is ∙ append_assoc (value_rows Uniform 0 h.variables) (result_rows Uniform h.answer) rows.0.more) scalars;
-      vectors = registers_are Varying h.parameters h.variables (result_rows Varying h.answer ++ rows.1.more) (rows_of b.registers).vectors g.params g.vectors params
+      vectors = registers_are Varying h.parameters h.variables (result_rows Varying h.answer ++ rows.1.more) (rows_of r).vectors g.params g.vectors params
           (rows.1.is ∙ append_assoc (value_rows Varying 0 h.variables) (result_rows Varying h.answer) rows.1.more) vectors;
       three = three;
-      present = block_stays a.registers b.registers y.rows g.masks h.answer h.body 3 present;
-      place = length a.listing.places;
-      low = let n = ap length adds.places ∙ length-append a.listing.places (block_places l h.body) in omega (arith, n);
-      code_is = code ∙ adds.code ∙ ap (λ z. part z (length a.listing.places)) none;
-      places_are = subst (λ z. AreAt z (length a.listing.places) (block_places l h.body)) (ap (λ z. a.listing.places ++ z) (append-nil (block_places l h.body)) ∙ sym adds.places) (at_seam a.listing.places (block_places l h.body) []);
+      present = all_grow (HasRow r) (HasRow r) (HasArray r) AnyArray (HasArray r) AnyArray (λ k. k < g.masks) (λ k. k < g.masks) (λ q x t f. f) (λ v f. tt) (λ v f. tt) (λ k f. f) (block_asks h.answer h.body 3) present;
+      place = length a.places.items;
+      low = let n = ap length y.places ∙ length-append a.places.items (block_places l h.body) in omega (arith, n);
+      code_is = code ∙ y.code ∙ ap (λ z. part z (length a.places.items)) none;
+      places_are = subst (λ z. AreAt z (length a.places.items) (block_places l h.body)) (ap (λ z. a.places.items ++ z) (append-nil (block_places l h.body)) ∙ sym y.places) (at_seam a.places.items (block_places l h.body) []);
     }
-
-pub grown : (listing : List Span) (a b : FunctionBuilder) (c : Layout → ℕ → ℕ → List Instr) (s : Layout → List Span) → a.listing.places ≡ listing → Emits a b c s → GrowsTo listing b.listing.places
-grown listing a b c s is y =
-    let l = layout_of (rows_of b.registers) in
-    record { more = s l; is = (y.adds l (follows_itself b.registers)).places ∙ ap (λ z. z ++ s l) is }

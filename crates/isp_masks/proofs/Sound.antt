@@ -15,10 +15,11 @@ use Rattle.isp_typed.specs.Typed.{TExpr, type_of, TStmt, t_block, t_declare, t_s
 use Rattle.isp_lower.specs.Code.{jump_off, guard, found, expr_places, expr_code}
 use Rattle.isp_lower.specs.Fits.{first_slot}
 use Rattle.isp_lower.specs.Layout.{Layout, class_at, register}
-use Rattle.isp_masks.specs.Statements.{stays, unite, leave_code, jump_code, rest_code, parted_code, if_code, if_else_code, answer_code, returned, stmt_places, block_places, stmts_places, stmt_code, block_code, stmts_code, function_code}
+use Rattle.isp_masks.specs.Exits.{all_go_on}
+use Rattle.isp_masks.specs.Statements.{unite, leave_code, jump_code, rest_code, parted_code, if_code, if_else_code, answer_code, returned, stmt_places, block_places, stmts_places, stmt_code, block_code, stmts_code, function_code}
 use Rattle.isp_lower.specs.Code.{copy, operand, operand_of}
-use Rattle.isp_lower.specs.Presence.{TestHas}
-use Rattle.isp_lower.specs.Sound.{AreSound, IsRegister, HasMask, ExprPresent}
+use Rattle.isp_masks.specs.Asks.{part_asks}
+use Rattle.isp_lower.specs.Sound.{AreSound, IsRegister, Granted, ExprPresent}
 use Rattle.isp_lower.specs.Trees.{ExprTree}
 use Rattle.isp_lower.proofs.SoundFound.{found_there, operand_there}
 use Rattle.isp_lower.proofs.SoundLines.{sound_both, copy_sound}
@@ -65,19 +66,19 @@ module _ (code : Listing) (h : Routine) where
   -- a test: a bool; a varying one has a mask
   record TestThere (l : Layout) (e : TExpr) (n : ℕ) : Type 0 where
     there : IsRegister h (type_of e).rate (found l e n) Truth
-    mask : TestHas (HasMask h) (type_of e).rate n
+    mask : Granted h l (part_asks (type_of e).rate n)
 
   if_sound : (l : Layout) (e : TExpr) (k n : ℕ) (first : ℕ → ℕ → ℕ → List Instr) → k < h.masks → TestThere l e n → AnySound (type_of e).rate n first → HereSound (λ pc. if_code (type_of e).rate (found l e n) pc k n first)
   if_sound l e k n first lk test f = go (type_of e).rate refl test.there.0 test.there.1 test.mask f
     where
-      go : (r : Rate) → (type_of e).rate ≡ r → IsThere h (class_at r) (register r (found l e n)) → elem_of h (register r (found l e n)) ≡ Truth → TestHas (HasMask h) r n → AnySound r n first → HereSound (λ pc. if_code r (found l e n) pc k n first)
+      go : (r : Rate) → (type_of e).rate ≡ r → IsThere h (class_at r) (register r (found l e n)) → elem_of h (register r (found l e n)) ≡ Truth → Granted h l (part_asks r n) → AnySound r n first → HereSound (λ pc. if_code r (found l e n) pc k n first)
       go Uniform er there bool mask f pc lt = ((((there, bool), (omega arith, tt)), tt), f (pc + 1) k lk (omega arith))
-      go Varying er there bool mask f pc lt = parted_sound (found l e n) k n (λ pc1. first pc1 n (n + 1)) (λ pc1. []) lk mask there bool (λ pc1 lt1. f pc1 n mask lt1) (λ pc1 lt1. tt) pc lt
+      go Varying er there bool mask f pc lt = parted_sound (found l e n) k n (λ pc1. first pc1 n (n + 1)) (λ pc1. []) lk mask.1 there bool (λ pc1 lt1. f pc1 n mask.1 lt1) (λ pc1 lt1. tt) pc lt
 
   if_else_sound : (l : Layout) (e : TExpr) (k n : ℕ) (first second : ℕ → ℕ → ℕ → List Instr) → k < h.masks → TestThere l e n → AnySound (type_of e).rate n first → AnySound (type_of e).rate n second → HereSound (λ pc. if_else_code (type_of e).rate (found l e n) pc k n first second)
   if_else_sound l e k n first second lk test f g = go (type_of e).rate refl test.there.0 test.there.1 test.mask f g
     where
-      go : (r : Rate) → (type_of e).rate ≡ r → IsThere h (class_at r) (register r (found l e n)) → elem_of h (register r (found l e n)) ≡ Truth → TestHas (HasMask h) r n → AnySound r n first → AnySound r n second → HereSound (λ pc. if_else_code r (found l e n) pc k n first second)
+      go : (r : Rate) → (type_of e).rate ≡ r → IsThere h (class_at r) (register r (found l e n)) → elem_of h (register r (found l e n)) ≡ Truth → Granted h l (part_asks r n) → AnySound r n first → AnySound r n second → HereSound (λ pc. if_else_code r (found l e n) pc k n first second)
       go Uniform er there bool mask f g pc lt =
           let ca = first (pc + 1) k n in
           let pb = pc + 1 + length ca + 1 in
@@ -85,19 +86,19 @@ module _ (code : Listing) (h : Routine) where
           let e1 = length-append ca (instr.Jump (pb + length cb) ∷ cb) in
           ((((there, bool), (omega (arith, e1, lt), tt)), tt), sound_both code h ca (instr.Jump (pb + length cb) ∷ cb) (f (pc + 1) k lk (omega (arith, e1, lt))) (((omega (arith, e1, lt), tt), tt), g pb k lk (omega (arith, e1, lt))))
       go Varying er there bool mask f g pc lt =
-          parted_sound (found l e n) k n (λ pc1. first pc1 n (n + 1)) (λ pc1. guard (jump_off k) pc1 (λ pc2. second pc2 k (n + 1))) lk mask there bool (λ pc1 lt1. f pc1 n mask lt1) (guard_sound k (λ pc2. second pc2 k (n + 1)) lk (λ pc2 lt2. g pc2 k lk lt2)) pc lt
+          parted_sound (found l e n) k n (λ pc1. first pc1 n (n + 1)) (λ pc1. guard (jump_off k) pc1 (λ pc2. second pc2 k (n + 1))) lk mask.1 there bool (λ pc1 lt1. f pc1 n mask.1 lt1) (guard_sound k (λ pc2. second pc2 k (n + 1)) lk (λ pc2 lt2. g pc2 k lk lt2)) pc lt
 
   -- ---- statements
 
   module _ (l : Layout) (answer : Option Ty) where
-    test_there : (e : TExpr) (n : ℕ) → ExprTree e → (type_of e).elem ≡ Truth → ExprPresent h l e n → TestHas (HasMask h) (type_of e).rate n → TestThere l e n
+    test_there : (e : TExpr) (n : ℕ) → ExprTree e → (type_of e).elem ≡ Truth → ExprPresent h l e n → Granted h l (part_asks (type_of e).rate n) → TestThere l e n
     test_there e n is bool f mask = let x = found_there h l e n is f in record { there = (x.0, x.1 ∙ bool); mask = mask }
 
     -- a value goes to the register of the result
     answer_sound : (a : Option Ty) (x : TExpr) (pc p k n : ℕ) → AnswerTree a x → AnswerPresent h l a x n → k < h.masks → p + length (expr_places l x) ≤ length code.places → pc + length (answer_code l a x pc p k n) < length h.code → AreSound code h (answer_code l a x pc p k n)
     answer_sound None x pc p k n is f lk pl lt = value_sound code h l x n is f pc p k lk pl lt
     answer_sound (Some t) x pc p k n is f lk pl lt =
-        here_then code h pc (operand_of l t.rate x k n (expr_code l x pc p k n)) (copy t.rate (l.result t.rate) (operand l t.rate x n) k) (part_sound code h l t.rate t.elem x pc p k n is.0 is.1 f.0 f.1 lk pl) (copy_sound code h t.rate t.elem (l.result t.rate) (operand l t.rate x n) k f.2 (operand_there h l t.rate t.elem x n is.0 is.1 f.0 f.1) lk) lt
+        here_then code h pc (operand_of l t.rate x k n (expr_code l x pc p k n)) (copy t.rate (l.result t.rate) (operand l t.rate x n) k) (part_sound code h l t.rate t.elem x pc p k n is.0 is.1 f.1 lk pl) (copy_sound code h t.rate t.elem (l.result t.rate) (operand l t.rate x n) k f.0 (operand_there h l t.rate t.elem x n is.0 is.1 f.1) lk) lt
 
     mutual
       pub stmt_sound : (x : TStmt) (pc p k co rr n : ℕ) → StmtTree answer x → StmtPresent h l answer x n → k < h.masks → co < h.masks → rr < h.masks → p + length (stmt_places l x) ≤ length code.places → pc + length (stmt_code l answer x pc p k co rr n) < length h.code → AreSound code h (stmt_code l answer x pc p k co rr n)
@@ -111,7 +112,7 @@ module _ (code : Listing) (h : Routine) where
           let rest = if_code (type_of e).rate (found l e n) (pc + length ce) k n part in
           let e1 = length-append ce rest in
           let e2 = length-append pe (stmt_places l x) in
-          sound_both code h ce rest (value_sound code h l e n is.0 f.0 pc p k lk (omega (arith, e2, pl)) (omega (arith, e1, lt))) (if_sound l e k n part lk (test_there e n is.0 is.2 f.0 f.2) (λ pc2 m lm lt2. stmt_sound x pc2 (p + length pe) m co rr (first_slot (type_of e).rate n) is.1 f.1 lm lc lr (omega (arith, e2, pl)) lt2) (pc + length ce) (omega (arith, e1, lt)))
+          sound_both code h ce rest (value_sound code h l e n is.0 f.0 pc p k lk (omega (arith, e2, pl)) (omega (arith, e1, lt))) (if_sound l e k n part lk (test_there e n is.0 is.2 f.0 f.1.0) (λ pc2 m lm lt2. stmt_sound x pc2 (p + length pe) m co rr (first_slot (type_of e).rate n) is.1 f.1.1 lm lc lr (omega (arith, e2, pl)) lt2) (pc + length ce) (omega (arith, e1, lt)))
       stmt_sound (t_if_else b g e x y sp) pc p k co rr n is f lk lc lr pl lt =
           let ce = expr_code l e pc p k n in
           let pe = expr_places l e in
@@ -122,7 +123,7 @@ module _ (code : Listing) (h : Routine) where
           let e1 = length-append ce rest in
           let e2 = length-append pe (px ++ stmt_places l y) in
           let e3 = length-append px (stmt_places l y) in
-          sound_both code h ce rest (value_sound code h l e n is.0 f.0 pc p k lk (omega (arith, e2, pl)) (omega (arith, e1, lt))) (if_else_sound l e k n part other lk (test_there e n is.0 is.3 f.0 f.3) (λ pc2 m lm lt2. stmt_sound x pc2 (p + length pe) m co rr (first_slot (type_of e).rate n) is.1 f.1 lm lc lr (omega (arith, e2, e3, pl)) lt2) (λ pc2 m lm lt2. stmt_sound y pc2 (p + length pe + length px) m co rr (first_slot (type_of e).rate n) is.2 f.2 lm lc lr (omega (arith, e2, e3, pl)) lt2) (pc + length ce) (omega (arith, e1, lt)))
+          sound_both code h ce rest (value_sound code h l e n is.0 f.0 pc p k lk (omega (arith, e2, pl)) (omega (arith, e1, lt))) (if_else_sound l e k n part other lk (test_there e n is.0 is.3 f.0 f.1.0) (λ pc2 m lm lt2. stmt_sound x pc2 (p + length pe) m co rr (first_slot (type_of e).rate n) is.1 f.1.1.0 lm lc lr (omega (arith, e2, e3, pl)) lt2) (λ pc2 m lm lt2. stmt_sound y pc2 (p + length pe + length px) m co rr (first_slot (type_of e).rate n) is.2 f.1.1.1 lm lc lr (omega (arith, e2, e3, pl)) lt2) (pc + length ce) (omega (arith, e1, lt)))
       stmt_sound (t_while b g e x sp) pc p k co rr n is f lk lc lr pl lt = absurd is
       stmt_sound (t_do b g x e sp) pc p k co rr n is f lk lc lr pl lt = absurd is
       stmt_sound (t_for b g first e step i x sp) pc p k co rr n is f lk lc lr pl lt = absurd is
@@ -146,10 +147,10 @@ module _ (code : Listing) (h : Routine) where
           let ca = stmt_code l answer x pc p k co rr n in
           let px = stmt_places l x in
           let part = λ (pc2 : ℕ). stmts_code l answer xs pc2 (p + length px) k co rr n in
-          let rest = rest_code (stays x) xs k (pc + length ca) part in
+          let rest = rest_code (all_go_on x) xs k (pc + length ca) part in
           let e1 = length-append ca rest in
           let e2 = length-append px (stmts_places l xs) in
-          sound_both code h ca rest (stmt_sound x pc p k co rr n is.0 f.0 lk lc lr (omega (arith, e2, pl)) (omega (arith, e1, lt))) (rest_sound (stays x) xs k part lk (λ pc2 lt2. stmts_sound xs pc2 (p + length px) k co rr n is.1 f.1 lk lc lr (omega (arith, e2, pl)) lt2) (pc + length ca) (omega (arith, e1, lt)))
+          sound_both code h ca rest (stmt_sound x pc p k co rr n is.0 f.0 lk lc lr (omega (arith, e2, pl)) (omega (arith, e1, lt))) (rest_sound (all_go_on x) xs k part lk (λ pc2 lt2. stmts_sound xs pc2 (p + length px) k co rr n is.1 f.1 lk lc lr (omega (arith, e2, pl)) lt2) (pc + length ca) (omega (arith, e1, lt)))
 
 -- a whole function: its body, and the return
 pub function_sound : (code : Listing) (h : Routine) (l : Layout) (answer : Option Ty) (b : TBlock) (p : ℕ) → h.code ≡ function_code l answer b p → BlockTree answer b → BlockPresent h l answer b 3 → 3 ≤ h.masks → p + length (block_places l b) ≤ length code.places → IsGiven h h.returns (returned l answer) → AreSound code h h.code

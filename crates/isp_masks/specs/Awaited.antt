@@ -3,9 +3,7 @@ use Rattle.std.specs.Prelude.{◌≡◌, ◌<◌, ℕ, List, [], ◌∷◌, ◌+
 use Rattle.isp_base.specs.declared.types.Span.{Span}
 use Rattle.isp_code.specs.declared.instr.Instr.{Instr}
 use Rattle.isp_lower.specs.Code.{jump_off}
-use Rattle.isp_lower.specs.Emitted.{Follows, Grows}
-use Rattle.isp_lower.specs.Layout.{Layout}
-use Rattle.isp_lower.specs.declared.builder.FunctionBuilder.{FunctionBuilder}
+use Rattle.isp_lower.specs.declared.types.Body.{Body}
 
 -- the instructions with these numbers are this one
 abbrev pub set_all : List Instr → List ℕ → Instr → List Instr
@@ -18,11 +16,10 @@ AreBelow n [] = Unit {0}
 AreBelow n (j ∷ js) = (j < n) × AreBelow n js
 
 -- With these jumps to instruction t, taken where mask k has nobody, code and places have grown by these.
-pub record Awaits (old new : FunctionBuilder) (jumps : List ℕ) (k : ℕ) (c : ℕ → Layout → ℕ → ℕ → List Instr) (s : Layout → List Span) : Type 0 where
-  pub rows : Grows old.registers new.registers
-  pub low : (l : Layout) → Follows l new.registers → AreBelow (length new.code.items) jumps
-  pub code : (l : Layout) → Follows l new.registers → (t : ℕ) → set_all new.code.items jumps (jump_off k t) ≡ old.code.items ++ c t l (length old.code.items) (length old.listing.places)
-  pub places : (l : Layout) → Follows l new.registers → new.listing.places ≡ old.listing.places ++ s l
+pub record Awaits (old new : Body) (jumps : List ℕ) (k : ℕ) (c : ℕ → ℕ → ℕ → List Instr) (s : List Span) : Type 0 where
+  pub low : AreBelow (length new.code.items) jumps
+  pub code : (t : ℕ) → set_all new.code.items jumps (jump_off k t) ≡ old.code.items ++ c t (length old.code.items) (length old.places.items)
+  pub places : new.places.items ≡ old.places.items ++ s
 
 -- a jump where some may have left
 abbrev pub jump_where : Bool → ℕ → ℕ → List Instr

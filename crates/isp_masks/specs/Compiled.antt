@@ -1,6 +1,5 @@
 -- A function and the routine that is its code.
 use Rattle.std.specs.Prelude.{◌≡◌, ◌≤◌, ℕ, suc, List, [], ◌∷◌, length, take, Option, Some, None, Bool, true, false, slice_get}
-use Rattle.isp_base.specs.Binding.{has_signature}
 use Rattle.isp_base.specs.Sets.{everyone}
 use Rattle.isp_base.specs.Types.{gang_width}
 use Rattle.isp_base.specs.declared.signature.Argument.{Argument}
@@ -16,13 +15,13 @@ use Rattle.isp_typed.specs.Typed.{Program, TFunction}
 use Rattle.isp_typed.specs.declared.variable.Holds.{Holds}
 use Rattle.isp_typed.specs.declared.variable.Holds.TheVariants.{Value as AValue, Given, Local}
 use Rattle.isp_typed.specs.declared.variable.Variable.{Variable as Declared}
-use Rattle.isp_meaning.specs.Calls.{frame_of, begun, calls_at}
+use Rattle.isp_meaning.specs.Calls.{frame_of, begun}
 use Rattle.isp_meaning.specs.Runs.{handed, first_frame, first_state}
 use Rattle.isp_meaning.specs.State.{State}
 use Rattle.isp_lower.specs.Layout.{Layout, IsApart, register}
 use Rattle.isp_lower.specs.Rows.{Row, Variable}
 use Rattle.isp_lower.specs.Setting.{Setting, AreAt}
-use Rattle.isp_masks.specs.Agreement.{AreShort}
+use Rattle.isp_masks.specs.Arrays.{ArraysStand}
 use Rattle.isp_masks.specs.Parts.{BlockTree, BlockTable}
 use Rattle.isp_masks.specs.Statements.{block_places, function_code}
 
@@ -33,14 +32,16 @@ entry_state program h xs = begun h (handed 0 xs) (first_frame xs) (everyone (gan
 abbrev pub entry_setting : Program → Listing → ℕ → TFunction → Routine → Layout → ℕ → List Argument → Setting
 entry_setting program code f h g l turns xs =
     record {
+      program = program;
       code = code;
+      function = h;
       routine = g;
       layout = l;
       home = (first_conf code f g xs).home;
       waiting = [];
       frame = frame_of h (handed 0 xs) (first_frame xs);
-      calls = calls_at program turns 255;
       turns = turns;
+      left = 255;
     }
 
 -- what the function gives stands in a scalar of its type
@@ -85,7 +86,7 @@ parameter_rows v [] = []
 parameter_rows v (p ∷ ps) = row_then p.is_array v p.elem (parameter_rows (suc v) ps)
 
 -- Routine f is the code of function f, by this layout; the places that it names begin at number p. The tree is as code
--- asks, and so is the table of registers, whatever the arguments are: of these only arrays ask, for their sizes.
+-- asks, and so is the table of registers; and the arrays stand where an entry has them.
 pub record IsCompiled (program : Program) (code : Listing) (f : ℕ) (h : TFunction) (g : Routine) (l : Layout) (p : ℕ) : Type 0 where
   pub gang : code.gang ≡ program.gang
   pub source : slice_get program.functions f ≡ Some h
@@ -96,7 +97,8 @@ pub record IsCompiled (program : Program) (code : Listing) (f : ℕ) (h : TFunct
   pub code_is : AreAt g.code 0 (function_code l h.answer h.body p)
   pub places_are : AreAt code.places p (block_places l h.body)
   pub tree : BlockTree h.answer h.body
-  pub table : (turns : ℕ) (xs : List Argument) → has_signature h.parameters xs ≡ true → AreShort xs → BlockTable (entry_setting program code f h g l turns xs) h.body 3
+  pub table : BlockTable g l h.variables h.answer h.body 3
+  pub arrays : ArraysStand h g l
 
 -- The code has the functions of a program by number, and those that are exported with their names and signatures.
 pub record IsEntryCode (program : Program) (code : Listing) (f : ℕ) (h : TFunction) (g : Routine) : Type 0 where

@@ -11,18 +11,18 @@ use Rattle.isp_code.specs.Listing.{Listing, Routine}
 use Rattle.isp_typed.specs.Typed.{TStmt, TBlock, Program, TFunction}
 use Rattle.isp_meaning.specs.State.{State}
 use Rattle.isp_meaning.specs.Statements.{run}
-use Rattle.isp_lower.specs.Setting.{Setting, IsSettled, gang_of, AreAt}
+use Rattle.isp_lower.specs.Setting.{ArrayFits, Setting, IsSettled, gang_of, calls_of, AreAt}
 use Rattle.isp_lower.specs.Layout.{Layout}
 use Rattle.isp_lower.specs.Runs.{Enters}
-use Rattle.isp_masks.specs.Agreement.{AreShort, RunsAgree, Agrees}
+use Rattle.isp_base.specs.Arguments.{AreShort}
+use Rattle.isp_masks.specs.Agreement.{RunsAgree, Agrees}
 use Rattle.isp_masks.specs.Compiled.{entry_setting, IsCompiled, IsProgramCode, PassedUniform, PassedFirst, parameter_rows}
 use Rattle.isp_lower.specs.Rows.{Row, Rows, layout_of}
-use Rattle.isp_masks.specs.Statements.{stays, stmt_code, stmt_places, block_places, returned, function_code}
+use Rattle.isp_masks.specs.Statements.{stmt_code, stmt_places, block_places, returned, function_code}
 use Rattle.isp_lower.specs.Sound.{AreSound}
 use Rattle.isp_masks.specs.Sound.{BlockPresent}
 use Rattle.isp_masks.specs.Fits.{StmtFits, BlockFits}
 use Rattle.isp_masks.specs.Parts.{BlockTree, BlockTable}
-use Rattle.isp_lower.specs.Fits.{ArrayFits}
 use Rattle.isp_code.specs.Entries.{parameters_of}
 use Rattle.isp_lower.specs.Sound.{HasRegister, HasMask}
 use Rattle.isp_lower.specs.Tables.{AnyArray}
@@ -33,6 +33,7 @@ use Rattle.isp_typed.specs.declared.variable.ArrayVariable.{ArrayVariable}
 use Rattle.isp_rates.specs.Covered.{block_left, program_left}
 use Rattle.isp_rates.specs.Program.{ProgramBreach}
 use Rattle.isp_lex.specs.declared.fault.Fault.{Fault}
+use Rattle.isp_masks.specs.Exits.{all_go_on}
 use Rattle.isp_masks.specs.StmtRuns.{AreThree, aside, StmtRuns}
 
 -- From registers that stand for a state and a mask that stands for a set with members, the code of a statement leaves
@@ -40,7 +41,7 @@ use Rattle.isp_masks.specs.StmtRuns.{AreThree, aside, StmtRuns}
 -- statement traps, and goes on where it is cut.
 abbrev pub StatementRuns : Type 0
 StatementRuns =
-    (w : Setting) → IsSettled w → (x : TStmt) (pc p k co rr n q : ℕ) (a : Mask) (s : State) (c : Conf) → StmtFits w x n → AreAt w.routine.code pc (stmt_code w.layout w.frame.answer x pc p k co rr n) → AreAt w.code.places p (stmt_places w.layout x) → AreThree k co rr n → Enters w pc k n a s c q → StmtRuns w w.turns c (pc + length (stmt_code w.layout w.frame.answer x pc p k co rr n)) k co rr n (aside (stays x) + q) (run (gang_of w) w.frame w.calls w.turns x a s)
+    (w : Setting) → IsSettled w → (x : TStmt) (pc p k co rr n q : ℕ) (a : Mask) (s : State) (c : Conf) → StmtFits w x n → AreAt w.routine.code pc (stmt_code w.layout w.frame.answer x pc p k co rr n) → AreAt w.code.places p (stmt_places w.layout x) → AreThree k co rr n → Enters w pc k n a s c q → StmtRuns w w.turns c (pc + length (stmt_code w.layout w.frame.answer x pc p k co rr n)) k co rr n (aside (all_go_on x) + q) (run (gang_of w) w.frame (calls_of w) w.turns x a s)
 
 -- The code of a function agrees with it, whatever the arguments are.
 abbrev pub EntryRuns : Type 0
@@ -59,7 +60,7 @@ FunctionSound =
 
 -- What is demanded of a body is what is asked of its tree, and what is asked of the table of registers.
 abbrev pub BodiesFit : Type 0
-BodiesFit = (w : Setting) (b : TBlock) (n : ℕ) → BlockTree w.frame.answer b → BlockTable w b n → BlockFits w b n
+BodiesFit = (w : Setting) (b : TBlock) (n : ℕ) → BlockTree w.frame.answer b → BlockTable w.routine w.layout w.function.variables w.frame.answer b n → BlockFits w b n
 
 -- The body of a function is as code asks, where all of it has code; and an exported function takes one value for the gang
 -- where it takes a value, and gives one where it gives a value.
@@ -84,11 +85,11 @@ abbrev pub EntryArraysFit : Type 0
 EntryArraysFit =
     (program : Program) (code : Listing) (f : ℕ) (h : TFunction) (g : Routine) (l : Layout) (turns : ℕ) (xs : List Argument) → ArraysStand h g l → has_signature h.parameters xs ≡ true → AreShort xs → (b : ArrayVariable) → HoldsArray h.variables b → ArrayFits (entry_setting program code f h g l turns xs) b
 
--- What a body of an accepted program asks for is there for the verifier, and the table is as the laws ask, whatever the
--- arguments are, where its registers and masks are there: its arrays are variables of the function.
+-- What a body of an accepted program asks for is there for the verifier, and the table is as the laws ask, where its
+-- registers and masks are there: its arrays are variables of the function.
 pub record BodyPresent (h : TFunction) (g : Routine) (l : Layout) (n : ℕ) : Type 0 where
   pub present : BlockPresent g l h.answer h.body n
-  pub table : (program : Program) (code : Listing) (f turns : ℕ) (xs : List Argument) → has_signature h.parameters xs ≡ true → AreShort xs → BlockTable (entry_setting program code f h g l turns xs) h.body n
+  pub table : BlockTable g l h.variables h.answer h.body n
 
 abbrev pub BodiesPresent : Type 0
 BodiesPresent =

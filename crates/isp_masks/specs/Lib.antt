@@ -1,8 +1,11 @@
+pub mod Exits
 pub mod Statements
 pub mod Fits
 pub mod Presence
 pub mod Parts
 pub mod StmtRuns
+pub mod Loops
+pub mod LoopRuns
 pub mod Agreement
 pub mod Compiled
 pub mod Arrays
@@ -11,6 +14,6 @@ pub mod Accepted
 pub mod Made
 pub mod Laws
 pub mod Awaited
-pub mod Reserved
+pub mod Asks
 pub mod Lowered
 pub mod Agreed

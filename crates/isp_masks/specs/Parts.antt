@@ -1,10 +1,13 @@
 -- What `StmtFits` demands falls in two: what is asked of the tree alone, and that each register has its type.
-use Rattle.std.specs.Prelude.{◌≡◌, ℕ, Option, Some, None}
+use Rattle.std.specs.Prelude.{◌≡◌, ℕ, List, Option, Some, None}
 use Rattle.isp_base.specs.declared.types.Elem.TheVariants.{Bool as Truth}
 use Rattle.isp_base.specs.declared.types.Ty.{Ty}
+use Rattle.isp_code.specs.Listing.{Routine}
+use Rattle.isp_typed.specs.Fine.{HoldsArray}
+use Rattle.isp_typed.specs.declared.variable.Variable.{Variable}
 use Rattle.isp_typed.specs.Typed.{TExpr, type_of, TStmt, t_block, t_declare, t_simple, t_if, t_if_else, t_while, t_do, t_for, t_foreach, t_foreach_active, t_unmasked, t_jump, t_return, t_print, t_assert, TBlock, t_braces, TStmts, t_no_stmts, t_stmt_then}
-use Rattle.isp_lower.specs.Fits.{IsNamed, ArrayFits}
-use Rattle.isp_lower.specs.Setting.{Setting}
+use Rattle.isp_lower.specs.Fits.{IsNamedIn}
+use Rattle.isp_lower.specs.Layout.{Layout}
 use Rattle.isp_lower.specs.Tables.{AnyMask}
 use Rattle.isp_lower.specs.Trees.{OperandTree, ExprTree, SimpleTree, ItemsTree}
 use Rattle.isp_masks.specs.Presence.{AnswerHas, StmtHas, BlockHas, StmtsHave}
@@ -44,15 +47,16 @@ module _ (answer : Option Ty) where
 
 -- ---- the table of registers
 
-module _ (w : Setting) where
-  abbrev pub AnswerTable : Option Ty → TExpr → ℕ → Type 0
-  AnswerTable answer x n = AnswerHas (IsNamed w) (ArrayFits w) (ArrayFits w) AnyMask answer x n
+-- by the routine, the layout and the variables of a function, and what it gives back
+module _ (g : Routine) (l : Layout) (vars : List Variable) (answer : Option Ty) where
+  abbrev pub AnswerTable : TExpr → ℕ → Type 0
+  AnswerTable x n = AnswerHas (IsNamedIn g l) (HoldsArray vars) (HoldsArray vars) AnyMask answer x n
 
   abbrev pub StmtTable : TStmt → ℕ → Type 0
-  StmtTable x n = StmtHas (IsNamed w) (ArrayFits w) (ArrayFits w) AnyMask w.frame.answer x n
+  StmtTable x n = StmtHas (IsNamedIn g l) (HoldsArray vars) (HoldsArray vars) AnyMask answer x n
 
   abbrev pub BlockTable : TBlock → ℕ → Type 0
-  BlockTable b n = BlockHas (IsNamed w) (ArrayFits w) (ArrayFits w) AnyMask w.frame.answer b n
+  BlockTable b n = BlockHas (IsNamedIn g l) (HoldsArray vars) (HoldsArray vars) AnyMask answer b n
 
   abbrev pub StmtsTable : TStmts → ℕ → Type 0
-  StmtsTable xs n = StmtsHave (IsNamed w) (ArrayFits w) (ArrayFits w) AnyMask w.frame.answer xs n
+  StmtsTable xs n = StmtsHave (IsNamedIn g l) (HoldsArray vars) (HoldsArray vars) AnyMask answer xs n

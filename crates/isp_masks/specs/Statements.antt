@@ -1,7 +1,7 @@
 -- The code of statements, as a function of their trees. Three mask registers go with it: k has the set, and afterwards
 -- those that went on; co and rr grow by those that continued and by those that returned; who broke is in none. As for
 -- expressions, code begins at instruction pc, its first place in the source has number p, and slots from n on are free.
-use Rattle.std.specs.Prelude.{ℕ, ◌+◌, List, [], ◌∷◌, ◌++◌, length, Option, Some, None, Bool, true, false, ◌&&◌}
+use Rattle.std.specs.Prelude.{ℕ, ◌+◌, List, [], ◌∷◌, ◌++◌, length, Option, Some, None, Bool, true, false}
 use Rattle.isp_base.specs.declared.types.Rate.{Rate}
 use Rattle.isp_base.specs.declared.types.Rate.TheVariants.{Uniform, Varying}
 use Rattle.isp_base.specs.declared.types.Span.{Span}
@@ -19,6 +19,7 @@ use Rattle.isp_lower.specs.Layout.{Layout, register, mask_register}
 use Rattle.isp_lower.specs.Code.{copy, where_so, the_others, jump_off, jump_on, two, guard, choice, found, operand, operand_of, expr_places, expr_code}
 use Rattle.isp_lower.specs.Items.{items_code, items_places}
 use Rattle.isp_lower.specs.Simple.{simple_code, simple_places}
+use Rattle.isp_masks.specs.Exits.{all_go_on}
 
 -- ---- sets
 
@@ -38,32 +39,6 @@ jump_code Break k co = clear_mask k ∷ []
 jump_code Continue k co = leave_code co k
 
 -- ---- one statement after the other
-
--- some of the set go on, whatever happens: nobody leaves
-abbrev mutual
-  pub stays : TStmt → Bool
-  stays (t_block b) = block_stays b
-  stays (t_declare xs sp) = true
-  stays (t_simple x sp) = true
-  stays (t_if f g e x sp) = stays x
-  stays (t_if_else f g e x y sp) = stays x && stays y
-  stays (t_while f g e x sp) = false
-  stays (t_do f g x e sp) = false
-  stays (t_for f g first e step i x sp) = false
-  stays (t_foreach w g rs x sp) = false
-  stays (t_foreach_active w g i x sp) = false
-  stays (t_unmasked w b sp) = false
-  stays (t_jump j w sp) = false
-  stays (t_return w x sp) = false
-  stays (t_print w text xs sp) = true
-  stays (t_assert x c sp) = true
-
-  pub block_stays : TBlock → Bool
-  block_stays (t_braces xs sp) = all_stay xs
-
-  pub all_stay : TStmts → Bool
-  all_stay t_no_stmts = true
-  all_stay (t_stmt_then x xs) = stays x && all_stay xs
 
 -- What follows a statement is jumped over where nobody is left: this is not asked where nobody leaves, and not where
 -- nothing follows.
@@ -157,7 +132,7 @@ module _ (l : Layout) (answer : Option Ty) where
     pub stmts_code : TStmts → ℕ → ℕ → ℕ → ℕ → ℕ → ℕ → List Instr
     stmts_code t_no_stmts pc p k co rr n = []
     stmts_code (t_stmt_then x xs) pc p k co rr n =
-        two pc (stmt_code x pc p k co rr n) (λ pc1. rest_code (stays x) xs k pc1 (λ pc2. stmts_code xs pc2 (p + length (stmt_places l x)) k co rr n))
+        two pc (stmt_code x pc p k co rr n) (λ pc1. rest_code (all_go_on x) xs k pc1 (λ pc2. stmts_code xs pc2 (p + length (stmt_places l x)) k co rr n))
 
   -- mask 0 has those that called, masks 1 and 2 get those that continued and returned
   abbrev pub function_code : TBlock → ℕ → List Instr

@@ -40,8 +40,6 @@ module _ (w : Setting) where
     pub continued : conf.masks co ≡ union (c.masks co) ct
     pub returned : conf.masks rr ≡ union (c.masks rr) rt
     pub masks : (r : ℕ) → r < n → r ≢ k → r ≢ co → r ≢ rr → conf.masks r ≡ c.masks r
-    pub inside : Inside g
-    pub back : Inside ct
     pub bound : steps + q ≤ 32 * s.work
 
   -- code from c on, that ends before instruction pc, does what a statement comes to; a cut is past so many turns

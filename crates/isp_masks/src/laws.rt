@@ -2,6 +2,7 @@
 ghost use Rattle.isp_masks.specs.Accepted.{CodeAccepted};
 ghost use Rattle.isp_masks.specs.Agreed.{LoweredAgrees};
 ghost use Rattle.isp_masks.specs.Laws.{BodiesFit, BodiesPresent, CheckedFits, EntryArraysFit, EntryRuns, FunctionSound, ParametersFirst, ProgramRuns, StatementRuns};
+ghost use Rattle.isp_masks.specs.LoopRuns.{AllLoopsRun};
 ghost use Rattle.isp_masks.specs.Made.{MadeIsCode};
 
 /// The code of a statement does it for the instances of a mask that has members: afterwards the mask
@@ -10,6 +11,12 @@ ghost use Rattle.isp_masks.specs.Made.{MadeIsCode};
 /// work. No other mask and no register that code before it uses has changed.
 pub fn statements_run()
     ensures { StatementRuns }
+{}
+
+/// The code of a `while`, a `for` and a `do` does what the loop means, where the codes of its test, its
+/// body and its step do what these mean. `stmt_code` does not have it yet.
+pub fn loops_run()
+    ensures { AllLoopsRun }
 {}
 
 /// The code of a function agrees with it, whatever the arguments are: it ends or traps where the

@@ -7,25 +7,21 @@ ghost use Rattle.isp_masks.specs.Lowered.{AreLowered, HasCode};
 use crate::routine::function;
 use isp_base::Span;
 use isp_code::{Code, Function};
+use isp_lower::Body;
 use isp_typed::{Program, TypedFunction};
 use std::alloc::{AllocError, Global};
 
-/// The routines of functions, in their order, and behind the places of a listing those that they name.
-fn routines(
-    alloc: Global,
-    listing: Code,
-    functions: &[TypedFunction],
-) -> Result<(Code, Vec<Function>), AllocError>
-    ensures { IfOk result (λ r. AreLowered (functions_of functions.now) (map routine_of r.1.items) r.0.places) }
+/// The routines of functions, in their order, and the places in the source that they name.
+fn routines(alloc: Global, functions: &[TypedFunction]) -> Result<(Body, Vec<Function>), AllocError>
+    ensures { IfOk result (λ r. AreLowered (functions_of functions.now) (map routine_of r.1.items) r.0.places.items) }
 {
-    let mut listing = listing;
+    let mut b = Body::new(alloc);
     let mut all = Vec::new(alloc);
     for f in functions.iter() {
-        let (more, one) = function(alloc, listing, f)?;
-        listing = more;
+        let one = function(alloc, &mut b, f)?;
         all.push(one)?;
     }
-    Ok((listing, all))
+    Ok((b, all))
 }
 
 /// Adds places, in their order.
@@ -55,13 +51,13 @@ fn add_functions(code: &mut Code, functions: Vec<Function>) -> Result<(), AllocE
 }
 
 /// The code of a program: a routine for each function, in their order, and the places in the source that they name.
-/// Memory is refused too where a number would pass 4,294,967,295, and of what has no code yet.
+/// Memory is refused too of what has no code yet.
 pub(crate) fn program(alloc: Global, program: &Program) -> Result<Code, AllocError>
     ensures { IfOk result (λ code. HasCode (program_of program.now) code) }
 {
-    let (listing, all) = routines(alloc, Code::new(alloc, program.gang), &program.functions)?;
+    let (body, all) = routines(alloc, &program.functions)?;
     let mut code = Code::new(alloc, program.gang);
-    add_places(&mut code, listing.places())?;
+    add_places(&mut code, body.places.as_slice())?;
     add_functions(&mut code, all)?;
     Ok(code)
 }

@@ -1,11 +1,12 @@
 //! Instructions on sets of lanes, and statements that lanes leave by.
 ghost use Rattle.std.specs.Prelude.{◌≡◌, ◌∷◌, [], OnOk};
 ghost use Rattle.isp_lower.specs.Code.{the_others, where_so};
-ghost use Rattle.isp_lower.specs.Emitted.{Emits};
+ghost use Rattle.isp_lower.specs.Emitted.{Appends};
 ghost use Rattle.isp_masks.specs.Statements.{clear_mask, jump_code, leave_code, unite};
 
+use crate::masks::Masks;
 use isp_code::{Instr, MaskInstr, MaskOp};
-use isp_lower::{FunctionBuilder, mask, the_others, where_so};
+use isp_lower::{Body, mask, the_others, where_so};
 use isp_tree::Jump;
 use std::alloc::AllocError;
 
@@ -27,8 +28,8 @@ fn clear_mask(to: u32) -> Instr
 }
 
 /// The lanes of a mask for which a test in a register is true go to another mask, and it keeps the others.
-pub(crate) fn part(b: &mut FunctionBuilder, to: u32, tested: u32, k: u32) -> Result<(), AllocError>
-    ensures { OnOk result (Emits b.old b.new (λ l pc p. where_so to tested k ∷ the_others k k to ∷ []) (λ l. [])) }
+pub(crate) fn part(b: &mut Body, to: u32, tested: u32, k: u32) -> Result<(), AllocError>
+    ensures { OnOk result (Appends b.old b.new (λ pc p. where_so to tested k ∷ the_others k k to ∷ []) []) }
 {
     b.push(where_so(to, tested, k))?;
     b.push(the_others(k, k, to))?;
@@ -36,8 +37,8 @@ pub(crate) fn part(b: &mut FunctionBuilder, to: u32, tested: u32, k: u32) -> Res
 }
 
 /// The lanes of a mask leave, into another.
-pub(crate) fn leave(b: &mut FunctionBuilder, to: u32, k: u32) -> Result<(), AllocError>
-    ensures { OnOk result (Emits b.old b.new (λ l pc p. leave_code to k) (λ l. [])) }
+pub(crate) fn leave(b: &mut Body, to: u32, k: u32) -> Result<(), AllocError>
+    ensures { OnOk result (Appends b.old b.new (λ pc p. leave_code to k) []) }
 {
     b.push(unite(to, to, k))?;
     b.push(clear_mask(k))?;
@@ -45,14 +46,14 @@ pub(crate) fn leave(b: &mut FunctionBuilder, to: u32, k: u32) -> Result<(), Allo
 }
 
 /// `break` and `continue`, by the lanes of a mask; those that continue go to another.
-pub(crate) fn jump(b: &mut FunctionBuilder, jump: Jump, k: u32, co: u32) -> Result<(), AllocError>
-    ensures { OnOk result (Emits b.old b.new (λ l pc p. jump_code jump k co) (λ l. [])) }
+pub(crate) fn jump(b: &mut Body, jump: Jump, masks: Masks) -> Result<(), AllocError>
+    ensures { OnOk result (Appends b.old b.new (λ pc p. jump_code jump masks.on masks.continued) []) }
 {
     match jump {
         Jump::Break => {
-            b.push(clear_mask(k))?;
+            b.push(clear_mask(masks.on))?;
             Ok(())
         }
-        Jump::Continue => leave(b, co, k),
+        Jump::Continue => leave(b, masks.continued, masks.on),
     }
 }

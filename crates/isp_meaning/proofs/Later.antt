@@ -22,11 +22,13 @@ use Rattle.isp_meaning.specs.State.{State, Frame, tick, extent}
 use Rattle.isp_meaning.specs.Payloads.{Payload, One, Each, is_true, is_false, kept_by, offender}
 use Rattle.isp_meaning.specs.Outcomes.{Val, Gives, Fails, Stops, Res, Went, Trapped, Cut, Done, go_on, if_so}
 use Rattle.isp_meaning.specs.Places.{Place, Variable, Element, written, with_elements, outside, kept}
-use Rattle.isp_meaning.specs.Expressions.{Passed, Calls, needs, base_array, packed_outside, value, place, first_element, values, call, arguments, passed}
+use Rattle.isp_base.specs.Cross.{packed_outside}
+use Rattle.isp_meaning.specs.Expressions.{Passed, Calls, needs, base_array, value, place, first_element, values, call, arguments, passed}
 use Rattle.isp_meaning.specs.Simple.{cleared, update, simple, item, items, first_part, step_part}
 use Rattle.isp_meaning.specs.Loops.{loop_end, tested, stepped, turns}
 use Rattle.isp_meaning.specs.Rounds.{Round, rounds, round_of_one, active_rounds, members, Run, round_of_run, runs_of, foreach_rounds, set_indices, counted}
-use Rattle.isp_meaning.specs.Printing.{print_text, shown_all}
+use Rattle.isp_base.specs.Prints.{print_text}
+use Rattle.isp_meaning.specs.Printing.{shown_all}
 use Rattle.isp_meaning.specs.Statements.{all_go, branches, answered, answered_at, jumped, ranges, test_part, run, block, run_all}
 use Rattle.isp_meaning.specs.Calls.{frame_of, begun, ended, called, calls_at, most_calls}
 use Rattle.isp_meaning.specs.Runs.{handed, first_frame, first_state, no_place, outcome_of}

@@ -6,3 +6,4 @@ pub mod Small
 pub mod Outside
 pub mod Parts
 pub mod Others
+pub mod Loads

@@ -23,7 +23,8 @@ use Rattle.isp_meaning.specs.Payloads.{Payload, One, Each, is_true, is_false, sp
 use Rattle.isp_meaning.specs.Outcomes.{Val, Gives, Fails, Stops, Res, Went, Trapped, Cut, bind, checked, if_so, value_unless_empty}
 use Rattle.isp_meaning.specs.Places.{Place, Variable, Element, variable, written, own_stored, elements, with_elements, outside, held, kept}
 use Rattle.isp_meaning.specs.Library.{library_value, argument, chosen_one, chosen_by}
-use Rattle.isp_meaning.specs.Expressions.{Passed, Calls, needs, settled, base_array, packed_outside, value, place, first_element, values, call, arguments, passed}
+use Rattle.isp_base.specs.Cross.{packed_outside}
+use Rattle.isp_meaning.specs.Expressions.{Passed, Calls, needs, settled, base_array, value, place, first_element, values, call, arguments, passed}
 use Rattle.isp_meaning.specs.Simple.{cleared}
 use Rattle.isp_meaning.specs.Calls.{ended, called, calls_at, answer_of, answer_at}
 use Rattle.isp_meaning.specs.Laws.{Untouched}

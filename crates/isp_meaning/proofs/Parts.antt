@@ -16,7 +16,8 @@ use Rattle.isp_meaning.specs.Simple.{simple, items, first_part, step_part}
 use Rattle.isp_meaning.specs.Loops.{loop_end, tested, turns}
 use Rattle.isp_meaning.specs.Rounds.{Round, rounds, foreach_rounds, counted}
 use Rattle.isp_meaning.specs.Statements.{all_go, answered, branches, jumped, ranges, test_part, run, block, run_all}
-use Rattle.isp_meaning.specs.Printing.{print_text, shown_all}
+use Rattle.isp_base.specs.Prints.{print_text}
+use Rattle.isp_meaning.specs.Printing.{shown_all}
 use Rattle.isp_meaning.specs.Calls.{calls_at}
 use Rattle.isp_meaning.specs.Laws.{Parted, FourSets}
 use Rattle.isp_meaning.proofs.Outside.{Absent, Off, CallsOff, same, kept_off, value_off, calls_off}

@@ -1,8 +1,8 @@
 -- What an expression gives over a set of instances that is not empty. Each node that is reached counts for the work
 -- before its parts; a conversion is no node.
-use Rattle.std.specs.Prelude.{ℕ, ◌%◌, ◌^◌, List, [], ◌∷◌, Bool, not, if◌then◌else◌, ◌&&◌, ◌||◌, ℤ, pos, int_lt, unsigned_abs}
+use Rattle.std.specs.Prelude.{ℕ, ◌%◌, ◌^◌, List, [], ◌∷◌, Bool, not, if◌then◌else◌, ◌&&◌, ◌||◌, ℤ, pos, unsigned_abs}
 use Rattle.isp_base.specs.Access.{is_zero, scatter}
-use Rattle.isp_base.specs.Cross.{rank, packed_index}
+use Rattle.isp_base.specs.Cross.{rank, packed_index, packed_outside, packed_places}
 use Rattle.isp_base.specs.Sets.{Mask, lowest}
 use Rattle.isp_base.specs.Maps.{Map, on, where_true, put}
 use Rattle.isp_base.specs.Unary.{unary_bits}
@@ -47,13 +47,6 @@ settled l a (Each x) n = Each (layer (spread (where_true (needs l) x) n) x)
 abbrev pub base_array : TBase → ArrayVariable
 base_array (t_whole b s) = b
 base_array (t_from b i s) = b
-
--- the members whose element is not among the first n
-abbrev pub packed_outside : ℕ → ℤ → Mask → Mask
-packed_outside n z a p = a p && (int_lt (packed_index z a p) (pos 0) || not (int_lt (packed_index z a p) (pos n)))
-
-abbrev pub packed_places : ℤ → Mask → Map
-packed_places z a = on a (λ p. unsigned_abs (packed_index z a p))
 
 -- the elements of a store there, and the state once they are stored
 abbrev pub packed_held : ℕ → ℤ → Mask → State → Payload

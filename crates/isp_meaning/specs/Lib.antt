@@ -14,3 +14,5 @@ pub mod Runs
 pub mod Entries
 pub mod Samples
 pub mod Laws
+pub mod Loads
+pub mod Gang

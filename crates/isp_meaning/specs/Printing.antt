@@ -1,5 +1,5 @@
--- What a `print` writes: its text, where each `%` stands for a value.
-use Rattle.std.specs.Prelude.{ℕ, ◌==◌, List, [], ◌∷◌, ◌++◌, if◌then◌else◌}
+-- The values of a `print` as they are printed.
+use Rattle.std.specs.Prelude.{ℕ, List, [], ◌∷◌}
 use Rattle.isp_base.specs.Prints.{value_text, list_text}
 use Rattle.isp_base.specs.Sets.{Mask}
 use Rattle.isp_base.specs.declared.types.Rate.{Rate}
@@ -22,19 +22,3 @@ abbrev pub shown_all : ℕ → Mask → List TExpr → List Payload → List (Li
 shown_all gang a [] ms = []
 shown_all gang a (x ∷ xs) [] = []
 shown_all gang a (x ∷ xs) (m ∷ ms) = shown gang a (type_of x) m ∷ shown_all gang a xs ms
-
-abbrev pub first_text : List (List ℕ) → List ℕ
-first_text [] = []
-first_text (x ∷ xs) = x
-
-abbrev pub later_texts : List (List ℕ) → List (List ℕ)
-later_texts [] = []
-later_texts (x ∷ xs) = xs
-
--- the byte of `%`
-abbrev pub percent : ℕ
-percent = 37
-
-abbrev pub print_text : List ℕ → List (List ℕ) → List ℕ
-print_text [] xs = []
-print_text (b ∷ bs) xs = if b == percent then first_text xs ++ print_text bs (later_texts xs) else b ∷ print_text bs xs

@@ -18,7 +18,8 @@ use Rattle.isp_meaning.specs.Expressions.{Calls, value, values}
 use Rattle.isp_meaning.specs.Simple.{simple, items, first_part, step_part}
 use Rattle.isp_meaning.specs.Loops.{turns, tested}
 use Rattle.isp_meaning.specs.Rounds.{Range, rounds, active_rounds, foreach_rounds, counted}
-use Rattle.isp_meaning.specs.Printing.{shown_all, print_text}
+use Rattle.isp_base.specs.Prints.{print_text}
+use Rattle.isp_meaning.specs.Printing.{shown_all}
 
 -- all of the set go on
 abbrev pub all_go : Mask → Val Done → Res

@@ -1,5 +1,6 @@
 //! What holds of every program. No code is run here: each function carries a law in its contract.
 ghost use Rattle.isp_meaning.specs.Laws.{CountsWork, FourSets, MoreTurns, NobodyActs, OthersStay};
+ghost use Rattle.isp_meaning.specs.Loads.{VariablesStay};
 
 /// A run that has ended or trapped stays so for every greater number of turns, and the output of a
 /// run that is cut is the beginning of its output for every greater number.
@@ -30,4 +31,10 @@ pub fn four_sets()
 /// `foreach` or an `unmasked` in them are left out, since all instances take part in these.
 pub fn others_stay()
     ensures { OthersStay }
+{}
+
+/// A value changes no variable but those that a packed load in it writes, whatever is called: the
+/// function that calls has its variables back as they were.
+pub fn variables_stay()
+    ensures { VariablesStay }
 {}

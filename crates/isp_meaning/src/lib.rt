@@ -3,4 +3,4 @@
 
 mod laws;
 
-pub use laws::{counts_work, four_sets, more_turns, nobody_acts, others_stay};
+pub use laws::{counts_work, four_sets, more_turns, nobody_acts, others_stay, variables_stay};

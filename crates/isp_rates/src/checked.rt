@@ -2,6 +2,7 @@
 ghost use Rattle.std.specs.Prelude.{◌≡◌, ◌&&◌, bytes_eq, filter, find, map, option_map, slice_get};
 ghost use Rattle.isp_lex.specs.declared.fault.Fault.{Fault};
 ghost use Rattle.isp_typed.specs.Fine.{IsFine};
+ghost use Rattle.isp_typed.specs.Scoped.{IsScoped};
 ghost use Rattle.isp_typed.specs.Views.{functions_of, program_of};
 ghost use Rattle.isp_rates.specs.Reaches.{function_calls};
 ghost use Rattle.isp_rates.specs.reader.Lists.{lists_of};
@@ -66,12 +67,13 @@ impl Checked {
         ensures same { result.now ≡ self.now }
         ensures sound { (f : Fault) → ProgramBreach (program_of result.now) f → ⊥ }
         ensures fine { IsFine (program_of self.now) }
+        ensures scoped { IsScoped (program_of self.now) }
     {
         self.typed.program()
     }
 
-    /// The numbers of the functions that a function calls, by its number, in the order of its text. None past
-    /// the last function.
+    /// The numbers of the functions that a function calls, by its number, in the order in which the parts of a
+    /// body are evaluated: `f(g())` gives g and then f. None past the last function.
     pub fn calls(&self, function: usize) -> Option<&[usize]>
         ensures { option_map (λ s. s.now) result ≡ option_map function_calls (slice_get (functions_of self.now.functions.items) function) }
     {

@@ -1,5 +1,5 @@
 -- Cells that are read, written, and written back.
-use Rattle.std.proofs.Common.{◌≡◌, refl, sym, ap, ◌∙◌, subst, ℕ, zero, suc, ◌+◌, ◌<◌, replicate, Bool, true, false, None, List, [], ◌∷◌, length, get_or, arith, add-one, Result, Ok, Err}
+use Rattle.std.proofs.Common.{◌≡◌, refl, sym, ap, ◌∙◌, subst, ℕ, zero, suc, ◌+◌, ◌<◌, ◌≤◌, replicate, Bool, true, false, None, List, [], ◌∷◌, length, get_or, arith, add-one, Result, Ok, Err}
 use Rattle.std.specs.Prelude.{slice_set, if◌then◌else◌, IfOk}
 use Rattle.std.specs.List.{range_with_len}
 use Rattle.std.specs.Simd.Lanes.{zip2, sel_l}
@@ -20,6 +20,12 @@ pub found_at : {A : Type 0} (find : A → ℕ → ℕ) (cs : List A) (e p : ℕ)
 found_at find [] e p d h = absurd (omega (arith, h))
 found_at find (c ∷ cs) zero p d h = refl
 found_at find (c ∷ cs) (suc e) p d h = found_at find cs e p d (omega (arith, h))
+
+-- nothing is found past the end
+pub found_past : {A : Type 0} (find : A → ℕ → ℕ) (cs : List A) (e p : ℕ) → length cs ≤ e → found find cs e p ≡ 0
+found_past find [] e p past = refl
+found_past find (c ∷ cs) zero p past = absurd (omega (arith, past))
+found_past find (c ∷ cs) (suc e) p past = found_past find cs e p (omega (arith, past))
 
 pub below_inside : (n : ℕ) (m : List Bool) (bits : List ℕ) → Fit I64 bits → (k : ℕ) → lowest_failing k (is_outside I64 n) (on (flag_of m) (lane_of bits)) ≡ None → (p : ℕ) → p < k → flag_of m p ≡ true → IsInside n (lane_of bits p)
 below_inside n m bits fits k none p h is = inside_is n (lane_of bits p) (fits p) (none_fails (is_outside I64 n) (flag_of m) (lane_of bits) k none p h is)

@@ -18,7 +18,7 @@ use Rattle.isp_store.proofs.Inside.{IsInside, AreInside}
 out : ℤ → ℕ → Bool
 out z n = int_lt z (pos 0) || not (int_lt z (pos n))
 
-number_low : (x : ℕ) → x < 2 ^ 63 → number I64 x ≡ pos x
+pub number_low : (x : ℕ) → x < 2 ^ 63 → number I64 x ≡ pos x
 number_low x h = ap (number_to 64 (2 ^ 63 - 1)) (mod-eq_of_lt (omega (arith, h))) ∙ number_below 64 (2 ^ 63 - 1) x (omega (arith, h))
 
 negative : (x : ℕ) → 2 ^ 63 ≤ x → x < 2 ^ 64 → int_lt (number I64 x) (pos 0) ≡ true

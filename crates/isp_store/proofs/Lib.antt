@@ -6,3 +6,4 @@ mod Own
 mod Picked
 mod Gathered
 mod Apart
+mod PlacesInOrder

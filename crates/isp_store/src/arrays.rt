@@ -1,13 +1,15 @@
 //! The arrays that all lanes share.
-ghost use Rattle.std.specs.Prelude.{◌≡◌, ◌+◌, ◌<◌, ◌≤◌, ◌^◌, ◌++◌, ◌∷◌, [], length, take, replicate, slice_set, true, false, Some, None, IfOk, IfErr, OnOk, OnErr};
+ghost use Rattle.std.specs.Prelude.{◌≡◌, ◌+◌, ◌<◌, ◌≤◌, ◌^◌, ◌++◌, ◌∷◌, [], unsigned_abs, length, take, replicate, slice_set, true, false, Some, None, IfOk, IfErr, OnOk, OnErr};
 ghost use Rattle.isp_base.specs.declared.types.Elem.TheVariants.{I64};
 ghost use Rattle.isp_base.specs.Access.{is_outside, element, scatter};
 ghost use Rattle.isp_base.specs.Maps.{lane_of, on, over, map1, lowest_failing, put};
-ghost use Rattle.isp_base.specs.Sets.{flag_of};
-ghost use Rattle.isp_base.specs.Values.{width};
+ghost use Rattle.isp_base.specs.Cross.{rank, run_index, run_outside, run_places, packed_index, packed_outside, packed_places};
+ghost use Rattle.isp_base.specs.Sets.{flag_of, lowest};
+ghost use Rattle.isp_base.specs.Values.{number, width};
 ghost use Rattle.isp_lanes.specs.Lanes.{vector};
 ghost use Rattle.isp_store.specs.Held.{elements, size, elem, shapes, named};
 
+use crate::consecutive::{packed_places, run_places};
 use crate::index::{IndexTrap, limit, trap_under};
 use crate::rows;
 use isp_base::{Array, Elem};
@@ -248,5 +250,111 @@ impl Arrays {
         ensures same { IfErr result (λ t. self.new ≡ self.old) }
     {
         rows::scatter(&mut self.items, self.alloc, array, index, mask, value)
+    }
+}
+
+// Consecutive elements.
+impl Arrays {
+    /// In each lane of the mask the element that is as many behind an index as the lane's number says.
+    ///
+    /// Index where one is outside, with the lowest such lane, and then nothing changes.
+    pub fn load_run<const N: usize>(
+        &self,
+        array: usize,
+        index: u64,
+        mask: &LaneMask<N>,
+        into: &mut Lanes<N>,
+    ) -> Result<(), IndexTrap>
+        requires there { array < length self.now.rows }
+        requires elem { into.old.elem ≡ elem self.now array }
+        ensures inside { IfOk result (λ _. lowest N (run_outside (size self.now array) (number I64 index) (flag_of mask.now)) ≡ None) }
+        ensures lanes { IfOk result (λ _. lane_of into.new.bits ≡ over (on (flag_of mask.now) (λ p. elements self.now array (unsigned_abs (run_index (number I64 index) p)))) (lane_of into.old.bits)) }
+        ensures elem { into.new.elem ≡ into.old.elem }
+        ensures lowest { IfErr result (λ t. lowest N (run_outside (size self.now array) (number I64 index) (flag_of mask.now)) ≡ Some t.instance) }
+        ensures same { IfErr result (λ t. into.new ≡ into.old) }
+    {
+        let mut places = [0; N];
+        run_places(rows::count(&self.items, array), index, mask, &mut places)?;
+        rows::load_lanes(&self.items, array, &places, mask, into);
+        Ok(())
+    }
+
+    /// Each lane of the mask writes its value as many elements behind an index as the lane's number says.
+    ///
+    /// Index where one is outside, with the lowest such lane, and then nothing changes.
+    pub fn store_run<const N: usize>(
+        &mut self,
+        array: usize,
+        index: u64,
+        value: &Lanes<N>,
+        mask: &LaneMask<N>,
+    ) -> Result<(), IndexTrap>
+        requires there { array < length self.old.rows }
+        requires elem { value.now.elem ≡ elem self.old array }
+        ensures inside { IfOk result (λ _. lowest N (run_outside (size self.old array) (number I64 index) (flag_of mask.now)) ≡ None) }
+        ensures elements { IfOk result (λ _. elements self.new ≡ put (elements self.old) array (scatter N (run_places (number I64 index) (flag_of mask.now)) (on (flag_of mask.now) (lane_of value.now.bits)) (elements self.old array))) }
+        ensures shapes { shapes self.new ≡ shapes self.old }
+        ensures lowest { IfErr result (λ t. lowest N (run_outside (size self.old array) (number I64 index) (flag_of mask.now)) ≡ Some t.instance) }
+        ensures same { IfErr result (λ t. self.new ≡ self.old) }
+    {
+        let mut places = [0; N];
+        run_places(rows::count(&self.items, array), index, mask, &mut places)?;
+        rows::put_lanes(&mut self.items, self.alloc, array, &places, mask, value);
+        Ok(())
+    }
+
+    /// In the lanes of the mask, from the lowest on, the elements from an index on. Answers how many lanes there are.
+    ///
+    /// Index where an element is outside, with the lowest such lane, and then nothing changes.
+    pub fn pack_load<const N: usize>(
+        &self,
+        array: usize,
+        index: u64,
+        mask: &LaneMask<N>,
+        into: &mut Lanes<N>,
+    ) -> Result<u64, IndexTrap>
+        requires there { array < length self.now.rows }
+        requires elem { into.old.elem ≡ elem self.now array }
+        ensures inside { IfOk result (λ _. lowest N (packed_outside (size self.now array) (number I64 index) (flag_of mask.now)) ≡ None) }
+        ensures count { IfOk result (λ n. n ≡ rank (flag_of mask.now) N) }
+        ensures few { IfOk result (λ n. n ≤ 64) }
+        ensures lanes { IfOk result (λ _. lane_of into.new.bits ≡ over (on (flag_of mask.now) (λ p. elements self.now array (unsigned_abs (packed_index (number I64 index) (flag_of mask.now) p)))) (lane_of into.old.bits)) }
+        ensures elem { into.new.elem ≡ into.old.elem }
+        ensures lowest { IfErr result (λ t. lowest N (packed_outside (size self.now array) (number I64 index) (flag_of mask.now)) ≡ Some t.instance) }
+        ensures same { IfErr result (λ t. into.new ≡ into.old) }
+    {
+        mask.told();
+        let mut places = [0; N];
+        let count = packed_places(rows::count(&self.items, array), index, mask, &mut places)?;
+        rows::load_lanes(&self.items, array, &places, mask, into);
+        Ok(count)
+    }
+
+    /// The lanes of the mask, from the lowest on, write their values to the elements from an index on. Answers how many lanes
+    /// there are.
+    ///
+    /// Index where an element is outside, with the lowest such lane, and then nothing changes.
+    pub fn pack_store<const N: usize>(
+        &mut self,
+        array: usize,
+        index: u64,
+        value: &Lanes<N>,
+        mask: &LaneMask<N>,
+    ) -> Result<u64, IndexTrap>
+        requires there { array < length self.old.rows }
+        requires elem { value.now.elem ≡ elem self.old array }
+        ensures inside { IfOk result (λ _. lowest N (packed_outside (size self.old array) (number I64 index) (flag_of mask.now)) ≡ None) }
+        ensures count { IfOk result (λ n. n ≡ rank (flag_of mask.now) N) }
+        ensures few { IfOk result (λ n. n ≤ 64) }
+        ensures elements { IfOk result (λ _. elements self.new ≡ put (elements self.old) array (scatter N (packed_places (number I64 index) (flag_of mask.now)) (on (flag_of mask.now) (lane_of value.now.bits)) (elements self.old array))) }
+        ensures shapes { shapes self.new ≡ shapes self.old }
+        ensures lowest { IfErr result (λ t. lowest N (packed_outside (size self.old array) (number I64 index) (flag_of mask.now)) ≡ Some t.instance) }
+        ensures same { IfErr result (λ t. self.new ≡ self.old) }
+    {
+        mask.told();
+        let mut places = [0; N];
+        let stored = packed_places(rows::count(&self.items, array), index, mask, &mut places)?;
+        rows::put_lanes(&mut self.items, self.alloc, array, &places, mask, value);
+        Ok(stored)
     }
 }

@@ -8,6 +8,7 @@ ghost use Rattle.isp_base.specs.Values.{width};
 ghost use Rattle.isp_store.specs.Cells.{found, stored, cleared};
 
 use crate::cell::Cell;
+use crate::elements::Elements;
 use crate::index::{IndexTrap, first_outside};
 use crate::places::Places;
 use isp_lanes::{LaneMask, Lanes};
@@ -34,6 +35,26 @@ pub(crate) fn gathered<C: Cell<N>, const N: usize>(
     match into.gather(places, &Places { cells }, mask) {
         Ok(()) => Ok(()),
         Err(instance) => Err(IndexTrap { instance }),
+    }
+}
+
+// The word at its place in each lane of the mask, and 0 past the end.
+#[inline(always)]
+pub(crate) fn loaded<C: Cell<N>, const N: usize>(
+    cells: &[C],
+    places: &[u64; N],
+    mask: &LaneMask<N>,
+    into: &mut Lanes<N>,
+)
+    requires { (e p : ℕ) → found C.find cells.now e p < 2 ^ width into.old.elem }
+    ensures lanes { lane_of into.new.bits ≡ over (λ p. each1 (λ x. found C.find cells.now x p) (on (flag_of mask.now) (lane_of places.now) p)) (lane_of into.old.bits) }
+    ensures elem { into.new.elem ≡ into.old.elem }
+{
+    mask.told();
+    into.told();
+    match into.gather(places, &Elements { cells }, mask) {
+        Ok(()) => {}
+        Err(_lane) => unreachable!(),
     }
 }
 
@@ -68,7 +89,7 @@ pub(crate) fn scattered<C: Cell<N>, R: Cell<N>, const N: usize>(
 
 // Each lane of the mask leaves its word of a row at its place, which is there.
 #[inline(always)]
-fn leave<C: Cell<N>, R: Cell<N>, const N: usize>(
+pub(crate) fn leave<C: Cell<N>, R: Cell<N>, const N: usize>(
     cells: &mut [C],
     places: &[u64; N],
     mask: &LaneMask<N>,

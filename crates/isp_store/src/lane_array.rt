@@ -5,7 +5,8 @@ ghost use Rattle.isp_base.specs.Access.{is_outside, element};
 ghost use Rattle.isp_base.specs.Maps.{lane_of, on, over, map1, each1, lowest_failing};
 ghost use Rattle.isp_base.specs.Sets.{flag_of};
 ghost use Rattle.isp_lanes.specs.Lanes.{vector};
-ghost use Rattle.isp_store.specs.Own.{own, size, own_put};
+ghost use Rattle.isp_base.specs.Stores.{own_put};
+ghost use Rattle.isp_store.specs.Own.{own, size};
 
 use crate::index::IndexTrap;
 use crate::lane_rows::LaneRows;

@@ -3,6 +3,8 @@
 
 mod arrays;
 mod cell;
+mod consecutive;
+mod elements;
 mod gather;
 mod index;
 mod lane_array;

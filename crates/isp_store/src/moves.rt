@@ -1,5 +1,5 @@
 //! Elements from an array into lanes, and back.
-ghost use Rattle.std.specs.Prelude.{◌≡◌, ℕ, ◌<◌, ◌^◌, length, Some, None, IfOk, IfErr};
+ghost use Rattle.std.specs.Prelude.{◌≡◌, ℕ, ◌<◌, ◌^◌, length, true, Some, None, IfOk, IfErr};
 ghost use Rattle.isp_base.specs.declared.types.Elem.TheVariants.{I64};
 ghost use Rattle.isp_base.specs.Access.{element, is_outside, scatter};
 ghost use Rattle.isp_base.specs.Cells.{cell_width};
@@ -8,7 +8,7 @@ ghost use Rattle.isp_base.specs.Maps.{lane_of, map1, on, over, lowest_failing};
 ghost use Rattle.isp_base.specs.Sets.{flag_of};
 ghost use Rattle.isp_store.specs.Cells.{stored, word_with};
 
-use crate::gather::{gathered, scattered};
+use crate::gather::{gathered, leave, loaded, scattered};
 use crate::index::IndexTrap;
 use isp_base::{Array, Cells};
 use isp_lanes::{LaneMask, Lanes, Row};
@@ -105,6 +105,69 @@ fn store<const N: usize>(
             mask,
             row,
         ),
+        _ => unreachable!(),
+    }
+}
+
+// The element at its place in each lane of the mask, and 0 past the end. How wide the array's words are is asked once.
+pub(crate) fn load<const N: usize>(
+    array: &Array,
+    places: &[u64; N],
+    mask: &LaneMask<N>,
+    into: &mut Lanes<N>,
+)
+    requires { into.old.elem ≡ array.now.elem }
+    ensures lanes { lane_of into.new.bits ≡ over (map1 (lane_of array.now.bits) (on (flag_of mask.now) (lane_of places.now))) (lane_of into.old.bits) }
+    ensures elem { into.new.elem ≡ into.old.elem }
+{
+    mask.told();
+    match array.cells() {
+        Cells::Bits8(cells) => loaded(cells.as_slice(), places, mask, into),
+        Cells::Bits16(cells) => loaded(cells.as_slice(), places, mask, into),
+        Cells::Bits32(cells) => loaded(cells.as_slice(), places, mask, into),
+        Cells::Bits64(cells) => loaded(cells.as_slice(), places, mask, into),
+    }
+}
+
+// Each lane of the mask writes its value at its place, which is there. Where two write at one, the higher wins. The words are taken
+// out of the array while lanes write them, and put back.
+pub(crate) fn put<const N: usize>(
+    array: &mut Array,
+    alloc: Global,
+    places: &[u64; N],
+    mask: &LaneMask<N>,
+    value: &Lanes<N>,
+)
+    requires elem { value.now.elem ≡ array.old.elem }
+    requires there { (p : ℕ) → flag_of mask.now p ≡ true → lane_of places.now p < length array.old.bits }
+    ensures elements { lane_of array.new.bits ≡ scatter N (on (flag_of mask.now) (lane_of places.now)) (on (flag_of mask.now) (lane_of value.now.bits)) (lane_of array.old.bits) }
+    ensures elem { array.new.elem ≡ array.old.elem }
+    ensures size { length array.new.bits ≡ length array.old.bits }
+{
+    value.told();
+    let mut cells = array.take_cells(alloc);
+    leave_all(&mut cells, places, mask, value);
+    array.put_cells(cells);
+}
+
+// Each lane of the mask leaves its value at its place, which is there. How wide the words are is asked once.
+fn leave_all<const N: usize>(
+    cells: &mut Cells,
+    places: &[u64; N],
+    mask: &LaneMask<N>,
+    value: &Lanes<N>,
+)
+    requires wide { held_width cells.old ≡ cell_width value.now.elem }
+    requires fits { (p : ℕ) → lane_of value.now.bits p < 2 ^ held_width cells.old }
+    requires there { (p : ℕ) → flag_of mask.now p ≡ true → lane_of places.now p < length (held cells.old) }
+    ensures held { held cells.new ≡ stored word_with N (flag_of mask.now) (lane_of places.now) (lane_of value.now.bits) (held cells.old) }
+    ensures wide { held_width cells.new ≡ held_width cells.old }
+{
+    match (cells, value.row()) {
+        (Cells::Bits8(items), Row::Bits8(row)) => leave(items.as_mut_slice(), places, mask, row),
+        (Cells::Bits16(items), Row::Bits16(row)) => leave(items.as_mut_slice(), places, mask, row),
+        (Cells::Bits32(items), Row::Bits32(row)) => leave(items.as_mut_slice(), places, mask, row),
+        (Cells::Bits64(items), Row::Bits64(row)) => leave(items.as_mut_slice(), places, mask, row),
         _ => unreachable!(),
     }
 }

@@ -1,5 +1,5 @@
 //! Arrays by their numbers, where the places are known to be there.
-ghost use Rattle.std.specs.Prelude.{◌≡◌, ◌<◌, ◌^◌, length, replicate, Some, None, IfOk, IfErr};
+ghost use Rattle.std.specs.Prelude.{◌≡◌, ℕ, ◌<◌, ◌^◌, length, replicate, true, Some, None, IfOk, IfErr};
 ghost use Rattle.isp_base.specs.declared.types.Elem.TheVariants.{I64};
 ghost use Rattle.isp_base.specs.Access.{element, is_outside, scatter};
 ghost use Rattle.isp_base.specs.Arguments.{row_bits};
@@ -95,6 +95,40 @@ pub(crate) fn scatter<const N: usize>(
 {
     mask.told();
     write(&mut rows[array], alloc, index, mask, value)
+}
+
+// The element at its place in each lane of the mask, and 0 past the end.
+pub(crate) fn load_lanes<const N: usize>(
+    rows: &[Array],
+    array: usize,
+    places: &[u64; N],
+    mask: &LaneMask<N>,
+    into: &mut Lanes<N>,
+)
+    requires there { array < length rows.now }
+    requires elem { into.old.elem ≡ type_of rows.now array }
+    ensures lanes { lane_of into.new.bits ≡ over (map1 (bits_of rows.now array) (on (flag_of mask.now) (lane_of places.now))) (lane_of into.old.bits) }
+    ensures elem { into.new.elem ≡ into.old.elem }
+{
+    moves::load(&rows[array], places, mask, into);
+}
+
+// Each lane of the mask writes its value at its place, which is there. Where two write at one, the higher wins.
+pub(crate) fn put_lanes<const N: usize>(
+    rows: &mut [Array],
+    alloc: Global,
+    array: usize,
+    places: &[u64; N],
+    mask: &LaneMask<N>,
+    value: &Lanes<N>,
+)
+    requires there { array < length rows.old }
+    requires elem { value.now.elem ≡ type_of rows.old array }
+    requires inside { (p : ℕ) → flag_of mask.now p ≡ true → lane_of places.now p < length (row_bits rows.old array) }
+    ensures elements { bits_of rows.new ≡ put (bits_of rows.old) array (scatter N (on (flag_of mask.now) (lane_of places.now)) (on (flag_of mask.now) (lane_of value.now.bits)) (bits_of rows.old array)) }
+    ensures shapes { shapes_of rows.new ≡ shapes_of rows.old }
+{
+    moves::put(&mut rows[array], alloc, places, mask, value);
 }
 
 // An array of zeros.

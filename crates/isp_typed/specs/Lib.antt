@@ -1,6 +1,7 @@
 pub mod Typed
 pub mod Nodes
 pub mod Fine
+pub mod Scoped
 pub mod Views
 pub mod Library
 pub mod Order

@@ -5,6 +5,7 @@ use Rattle.isp_base.specs.declared.types.Elem.TheVariants.{Bool as Truth, I8, U8
 use Rattle.isp_base.specs.declared.types.Rate.{Rate}
 use Rattle.isp_base.specs.declared.types.Rate.TheVariants.{Uniform, Varying}
 use Rattle.isp_base.specs.declared.types.Ty.{Ty}
+use Rattle.isp_base.specs.Cross.{widened}
 use Rattle.isp_base.specs.Ranks.{operand, common}
 use Rattle.isp_typed.specs.declared.library.Library.{Library}
 use Rattle.isp_typed.specs.declared.library.Library.TheVariants.{ReduceAdd, ReduceMin, ReduceMax, ReduceEqual, Any, All, None as NoneTrue, ScanAdd, ScanAnd, ScanOr, Broadcast, Rotate, Shift, Shuffle, ShuffleTwo, Extract, Insert, Min, Max, Clamp, Abs, Select}
@@ -52,18 +53,6 @@ part_elem t Same = t
 part_elem t Number = I32
 part_elem t Index = I32
 part_elem t Test = Truth
-
--- the sum of 8, 16, 32 and 64 bits has 16, 32, 64 and 64 bits of the same sign
-abbrev pub widened : Elem → Elem
-widened Truth = I64
-widened I8 = I16
-widened U8 = U16
-widened I16 = I32
-widened U16 = U32
-widened I32 = I64
-widened U32 = U64
-widened I64 = I64
-widened U64 = U64
 
 -- what a call gives, where T is its element type and the rate that of its arguments: varying where one is
 abbrev pub library_type : Library → Elem → Rate → Ty

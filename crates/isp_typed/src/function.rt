@@ -1,6 +1,7 @@
 //! Functions and programs.
 ghost use Rattle.std.specs.Prelude.{◌≡◌};
 ghost use Rattle.isp_typed.specs.Fine.{IsFine};
+ghost use Rattle.isp_typed.specs.Scoped.{IsScoped};
 ghost use Rattle.isp_typed.specs.Views.{program_of};
 
 use crate::stmt::TypedBlock;
@@ -37,6 +38,10 @@ pub struct Program {
 /// Each is fine: a variable is used as what it holds, an operand has the element type that its node
 /// works in, a call fits the function that it calls, a local array has 1 to 65,536 elements. Names
 /// differ, and there are fewer than 16,777,216 nodes.
+///
+/// Each is scoped: what is used is a parameter or was declared before in a block around it, variables
+/// are numbered in the order of the text, each is declared once, and `before` and `inside` are the
+/// count so far. A `foreach` has one to three ranges; names of functions and parameters are words.
 #[derive(Drop)]
 pub struct Typed {
     program: Program,
@@ -52,17 +57,19 @@ impl Model for Typed {
     ghost coded = { Prim.hlevel (codes, function_code.the_row.coded) };
 
     ghost use Rattle.isp_typed.specs.Fine.{IsFine};
+    ghost use Rattle.isp_typed.specs.Scoped.{IsScoped};
     ghost use Rattle.isp_typed.specs.Views.{program_of};
 
     ghost view = { λ t. t.program };
 
-    ghost invariant = { λ t. IsFine (program_of t.program) };
+    ghost invariant = { λ t. IsFine (program_of t.program) × IsScoped (program_of t.program) };
 }
 
 impl Typed {
     /// The program of these functions.
     pub fn new(program: Program) -> Typed
         requires fine { IsFine (program_of program) }
+        requires scoped { IsScoped (program_of program) }
         ensures { result ≡ program }
     {
         Typed { program }
@@ -72,6 +79,7 @@ impl Typed {
     pub fn program(&self) -> &Program
         ensures same { result.now ≡ self.now }
         ensures fine { IsFine (program_of self.now) }
+        ensures scoped { IsScoped (program_of self.now) }
     {
         &self.program
     }

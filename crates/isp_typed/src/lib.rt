@@ -11,7 +11,7 @@ mod verdict;
 
 pub use expr::{TypedArgument, TypedBase, TypedCall, TypedExpr, TypedPlace};
 pub use function::{Program, Typed, TypedFunction};
-pub use library::{Library, Part, widened};
+pub use library::{Library, Part};
 pub use stmt::{TypedBlock, TypedFirst, TypedItem, TypedRange, TypedSimple, TypedStmt};
 pub use variable::{ArrayVariable, Holds, Logic, Variable};
 pub use verdict::{Verdict, beside, both, earlier, first, unless};

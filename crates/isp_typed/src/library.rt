@@ -1,8 +1,8 @@
 //! The library's functions that take values and give one.
 ghost use Rattle.std.specs.Prelude.{◌≡◌};
-ghost use Rattle.isp_typed.specs.Library.{asks_uniform, library_type, part_elem, parts, widened};
+ghost use Rattle.isp_typed.specs.Library.{asks_uniform, library_type, part_elem, parts};
 
-use isp_base::{Elem, Rate, Ty};
+use isp_base::{Elem, Rate, Ty, widened};
 
 /// A function of the library on values. Each has one element type, which its first value has (of
 /// `Select` the second), and what the others are converted to is said beside it.
@@ -76,20 +76,6 @@ impl Part {
             Part::Number | Part::Index => Elem::I32,
             Part::Truth => Elem::Bool,
         }
-    }
-}
-
-/// The type of a sum of many: twice as wide, up to 64 bits, of the same sign.
-pub fn widened(elem: Elem) -> Elem
-    ensures { result ≡ widened elem }
-{
-    match elem {
-        Elem::I8 => Elem::I16,
-        Elem::U8 => Elem::U16,
-        Elem::I16 => Elem::I32,
-        Elem::U16 => Elem::U32,
-        Elem::Bool | Elem::I32 | Elem::I64 => Elem::I64,
-        Elem::U32 | Elem::U64 => Elem::U64,
     }
 }
 

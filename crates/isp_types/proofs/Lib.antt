@@ -9,4 +9,6 @@ pub mod NamesKept
 pub mod StmtTrees
 pub mod StmtSteps
 pub mod StmtParts
+pub mod Meanings
 pub mod fine
+pub mod scoped

@@ -10,7 +10,7 @@ use Rattle.isp_typed.specs.declared.variable.Variable.{Variable}
 use Rattle.isp_exprs.specs.declared.scope.Binding.{Binding}
 use Rattle.isp_exprs.specs.declared.words.ValueWords.{ValueWords}
 use Rattle.isp_exprs.specs.Words.{value_said}
-use Rattle.isp_types.specs.Statements.{item_names, item_variables, items_names, first_names, range_names, names_after}
+use Rattle.isp_types.specs.Numbering.{item_names, item_variables, items_names, first_names, range_names, names_after}
 
 -- one list is another with more behind it
 pub record Grown {A : Type 0} (before after : List A) : Type 0 where

@@ -16,7 +16,8 @@ use Rattle.isp_typed.proofs.Order.{earlier_assoc}
 use Rattle.isp_typed.proofs.Verdicts.{both_made}
 use Rattle.isp_exprs.specs.declared.scope.Binding.{Binding}
 use Rattle.isp_exprs.specs.Calls.{Heading}
-use Rattle.isp_types.specs.Statements.{names_after, variables_after, stmts_variables, stmts_made}
+use Rattle.isp_types.specs.Numbering.{names_after, variables_after, stmts_variables}
+use Rattle.isp_types.specs.Nodes.{stmts_made}
 use Rattle.isp_types.specs.reader.JudgeStmts.{judge_stmt, judge_stmts}
 use Rattle.isp_exprs.specs.reader.Lists.{and_one}
 

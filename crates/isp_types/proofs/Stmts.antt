@@ -19,13 +19,19 @@ use Rattle.isp_exprs.specs.Words.{value_said, type_declared}
 use Rattle.isp_exprs.specs.Scopes.{named, is_new, with_name}
 use Rattle.isp_exprs.specs.Places.{variable_target, element_target}
 use Rattle.isp_exprs.specs.Calls.{Heading}
-use Rattle.isp_exprs.specs.Rules.{second, callee_at, pair_then, ExprBreach}
-use Rattle.isp_types.specs.Statements.{or_nothing, array_sized, item_names, item_variables, first_names, first_variables, range_names, range_variables, names_after, variables_after, with_initial, sized_item, as_test, stated, assigned, stepped, range_made, places, agrees, as_answer}
+use Rattle.isp_exprs.specs.Rules.{second, pair_then, ExprBreach}
+use Rattle.isp_types.specs.Numbering.{or_nothing, item_names, item_variables, first_names, first_variables, range_names, range_variables, names_after, variables_after}
+use Rattle.isp_types.specs.Declarations.{array_sized, with_initial, sized_item}
+use Rattle.isp_types.specs.Simple.{stated, assigned, stepped}
+use Rattle.isp_types.specs.Statements.{as_test, range_made, places, agrees, as_answer}
 use Rattle.isp_typed.specs.Fine.{foreach_index as index, active_index}
-use Rattle.isp_types.specs.Statements.{no_place, declared_first, declared_stmt, simple_stmt, if_stmt, if_else_stmt, while_stmt, do_stmt, for_stmt, foreach_stmt, active_stmt, unmasked_stmt, return_stmt, print_stmt, assert_stmt, braces_made, stmts_made}
-use Rattle.isp_types.specs.Statements.{IsItem, ItemBreach, AreItems, ItemsBreach, IsDeclaration, DeclarationBreach, IsTarget, TargetBreach, IsSimple, SimpleBreach, IsFirst, FirstBreach, IsTest, AreRanges, RangesBreach, AreValues, ValuesBreach, IsReturned, ReturnedBreach, IsStmt, StmtBreach, IsBlock, BlockBreach, AreStmts, StmtsBreach}
+use Rattle.isp_types.specs.Simple.{no_place}
+use Rattle.isp_types.specs.Nodes.{declared_first, declared_stmt, simple_stmt, if_stmt, if_else_stmt, while_stmt, do_stmt, for_stmt, foreach_stmt, active_stmt, unmasked_stmt, return_stmt, print_stmt, assert_stmt, braces_made, stmts_made}
+use Rattle.isp_types.specs.Declarations.{IsItem, ItemBreach, AreItems, ItemsBreach, IsDeclaration, DeclarationBreach}
+use Rattle.isp_types.specs.Simple.{IsTarget, TargetBreach, IsSimple, SimpleBreach}
+use Rattle.isp_types.specs.Statements.{IsFirst, FirstBreach, IsTest, AreRanges, RangesBreach, AreValues, ValuesBreach, IsReturned, ReturnedBreach, IsStmt, StmtBreach, IsBlock, BlockBreach, AreStmts, StmtsBreach}
 use Rattle.isp_types.specs.reader.JudgeStmts.{judge_item, judge_items, judge_declaration, judge_target, judge_simple, judge_first, judge_test, judge_ranges, judge_values, judge_returned, judge_stmt, judge_block, judge_stmts}
-use Rattle.isp_exprs.proofs.Exprs.{call_right, expr_right, arguments_right}
+use Rattle.isp_exprs.proofs.Exprs.{call_of_right, expr_right}
 
 module _ (gang : Gang) (hs : List Heading) where
   module _ (r : Result ValueWords Fault) (start : ℕ) where
@@ -62,7 +68,7 @@ module _ (gang : Gang) (hs : List Heading) where
   target_right ns (call w xs s) = found_right (no_place s) _ _ _ (expr_right gang hs ns (call w xs s))
 
   simple_right : (ns : List Binding) (p : Simple) → Right (judge_simple gang hs ns p) (IsSimple gang hs ns p) (SimpleBreach gang hs ns p)
-  simple_right ns (value (call w xs s)) = made_right stated _ _ _ (call_right hs w xs s _ _ _ (arguments_right gang hs ns (callee_at hs w xs).1 xs))
+  simple_right ns (value (call w xs s)) = made_right stated _ _ _ (call_of_right gang hs ns w xs s)
   simple_right ns (value (number v s)) = made_right t_value _ _ _ (expr_right gang hs ns (number v s))
   simple_right ns (value (truth b s)) = made_right t_value _ _ _ (expr_right gang hs ns (truth b s))
   simple_right ns (value (program_index s)) = made_right t_value _ _ _ (expr_right gang hs ns (program_index s))

@@ -18,14 +18,15 @@ use Rattle.isp_typed.specs.declared.variable.Variable.{Variable}
 use Rattle.isp_typed.specs.Forms.{Both, Either, No_breach, Just, Made, Given, Refused, Provided, Unless}
 use Rattle.isp_typed.specs.Typed.{TBlock, TFunction, Program}
 use Rattle.isp_exprs.specs.declared.callee.Want.{Want}
-use Rattle.isp_exprs.specs.declared.callee.Want.TheVariants.{ValueOf, ArrayOf, Anything}
+use Rattle.isp_exprs.specs.declared.callee.Want.TheVariants.{ValueOf, ArrayOf, NoReference}
 use Rattle.isp_exprs.specs.declared.scope.Binding.{Binding}
 use Rattle.isp_exprs.specs.declared.words.ValueWords.{ValueWords}
 use Rattle.isp_exprs.specs.Words.{value_said, answer_said, rate_or_varying}
 use Rattle.isp_exprs.specs.Scopes.{is_new, with_name}
 use Rattle.isp_exprs.specs.Calls.{Heading, library_named}
 use Rattle.isp_exprs.specs.Rules.{second, pair_then}
-use Rattle.isp_types.specs.Statements.{or_nothing, declared, value_variable, block_variables, IsBlock, BlockBreach}
+use Rattle.isp_types.specs.Numbering.{or_nothing, declared, value_variable, block_variables}
+use Rattle.isp_types.specs.Statements.{IsBlock, BlockBreach}
 
 -- ---- parameters
 
@@ -40,12 +41,12 @@ variable_for false w = value_variable w
 abbrev pub param_variable : Param → Variable
 param_variable p = variable_for p.is_array (param_words p)
 
--- what it asks of an argument; nothing where its type is not found
+-- what it asks of an argument; where its type is not found, that it has no `&`
 abbrev pub param_want : Param → Want
 param_want p = asked p.is_array (value_said p.ty)
   where
     asked : Bool → Result ValueWords Fault → Want
-    asked array (Err f) = Anything
+    asked array (Err f) = NoReference
     asked true (Ok w) = ArrayOf w.elem w.constant
     asked false (Ok w) = ValueOf w.elem
 

@@ -59,7 +59,7 @@ fn param_want(p: &Param) -> Want
         } else {
             Want::ValueOf(words.elem)
         },
-        Err(_) => Want::Anything,
+        Err(_) => Want::NoReference,
     }
 }
 

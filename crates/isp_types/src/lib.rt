@@ -10,4 +10,5 @@ mod program;
 mod simple;
 mod stmt;
 
+pub use isp_typed::{Program, Typed, TypedFunction};
 pub use program::resolve;

@@ -5,7 +5,7 @@ ghost use Rattle.isp_typed.specs.Verdicts.{both, made};
 ghost use Rattle.isp_typed.specs.Views.{block_of, expr_of, exprs_of, first_of, items_of, ranges_of, simple_of, stmt_of, stmts_of};
 ghost use Rattle.isp_exprs.specs.reader.Parts.{boxed_of};
 ghost use Rattle.isp_types.specs.reader.Boxes.{boxed_first, boxed_simple};
-ghost use Rattle.isp_types.specs.Statements.{active_stmt, assert_stmt, braces_made, declared_stmt, do_stmt, for_stmt, foreach_stmt, if_else_stmt, if_stmt, print_stmt, return_stmt, simple_stmt, unmasked_stmt, while_stmt};
+ghost use Rattle.isp_types.specs.Nodes.{active_stmt, assert_stmt, braces_made, declared_stmt, do_stmt, for_stmt, foreach_stmt, if_else_stmt, if_stmt, print_stmt, return_stmt, simple_stmt, unmasked_stmt, while_stmt};
 ghost use Rattle.isp_exprs.specs.reader.Lists.{and_one};
 
 use crate::gathered;

@@ -6,7 +6,8 @@ ghost use Rattle.isp_typed.specs.Verdicts.{beside, both, fault_unless, found, ma
 ghost use Rattle.isp_typed.specs.Views.{exprs_of, ranges_of, stmt_of};
 ghost use Rattle.isp_exprs.specs.reader.Parts.{boxed_of};
 ghost use Rattle.isp_types.specs.reader.Boxes.{boxed_first, boxed_pair, boxed_range, boxed_simple};
-ghost use Rattle.isp_types.specs.Statements.{as_answer, first_names, first_variables, places, range_made, range_names, range_variables};
+ghost use Rattle.isp_types.specs.Numbering.{first_names, first_variables, range_names, range_variables};
+ghost use Rattle.isp_types.specs.Statements.{as_answer, places, range_made};
 ghost use Rattle.isp_typed.specs.Fine.{active_index, foreach_index as index};
 ghost use Rattle.isp_exprs.specs.Values.{converted};
 ghost use Rattle.isp_exprs.specs.reader.Judge.{judge};

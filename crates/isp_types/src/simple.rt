@@ -5,7 +5,9 @@ ghost use Rattle.isp_tree.specs.Views.{expr_of as read_expr, first_of as read_fi
 ghost use Rattle.isp_typed.specs.Typed.{t_first_simple, t_value};
 ghost use Rattle.isp_typed.specs.Verdicts.{both, found, made};
 ghost use Rattle.isp_typed.specs.Views.{items_of, place_of};
-ghost use Rattle.isp_types.specs.Statements.{assigned, assigned_by, assignment_operator, change_operator, declared_first, first_names, first_variables, no_place, stated, stepped};
+ghost use Rattle.isp_types.specs.Numbering.{first_names, first_variables};
+ghost use Rattle.isp_types.specs.Simple.{assigned, assigned_by, assignment_operator, change_operator, no_place, stated, stepped};
+ghost use Rattle.isp_types.specs.Nodes.{declared_first};
 ghost use Rattle.isp_types.specs.reader.JudgeStmts.{judge_first, judge_simple, judge_target};
 ghost use Rattle.isp_exprs.specs.reader.Parts.{boxed_of, called_of};
 ghost use Rattle.isp_types.specs.reader.Boxes.{boxed_first, boxed_simple};

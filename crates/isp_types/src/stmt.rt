@@ -3,7 +3,7 @@ ghost use Rattle.std.specs.Prelude.{◌≡◌, IfOk, IsTrue, length, take};
 ghost use Rattle.isp_tree.specs.Views.{block_of as read_block, stmt_of as read_stmt};
 ghost use Rattle.isp_typed.specs.Verdicts.{both, made};
 ghost use Rattle.isp_typed.specs.Views.{block_of, stmt_of};
-ghost use Rattle.isp_types.specs.Statements.{block_variables, names_after, variables_after};
+ghost use Rattle.isp_types.specs.Numbering.{block_variables, names_after, variables_after};
 ghost use Rattle.isp_types.specs.reader.JudgeStmts.{judge_block, judge_stmt};
 ghost use Rattle.isp_types.specs.reader.Kinds.{is_active, is_branch, is_called, is_for, is_foreach, is_repeated};
 

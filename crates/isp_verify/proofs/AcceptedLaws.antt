@@ -1,6 +1,7 @@
 -- What is fine has no fault, and what has no fault is fine.
 use Rattle.std.proofs.Common.{◌≡◌, ◌≢◌, sym, ◌∙◌, ap, ap₂, refl, subst, ℕ, suc, ◌+◌, ◌<◌, List, [], ◌∷◌, length, take, Option, Some, None, Bool, true, not, ◌&&◌, eq-eqb, lt-ltb, arith}
 use Rattle.std.specs.Prelude.{nat_lt, slice_get}
+use Rattle.isp_base.specs.Cross.{widened}
 use Rattle.isp_base.specs.Ranks.{rank, same_elem}
 use Rattle.isp_base.specs.declared.types.Elem.{Elem}
 use Rattle.isp_base.specs.declared.types.Elem.TheVariants.{Bool as Truth, I8, U8, I16, U16, I32, U32, I64, U64}
@@ -21,7 +22,7 @@ use Rattle.isp_code.specs.declared.operand.ArrayWant.TheVariants as array
 use Rattle.isp_code.specs.declared.operand.Operand.{Operand}
 use Rattle.isp_code.specs.declared.operand.Operand.TheVariants.{Any as AnyRegister, Scalar, Vector, Mask, Array, Number, Place, Text, Target, Back}
 use Rattle.isp_code.specs.declared.operand.Want.{Want}
-use Rattle.isp_code.specs.declared.operand.Want.TheVariants.{Any, Is, Integer, Like}
+use Rattle.isp_code.specs.declared.operand.Want.TheVariants.{Any, Is, Integer, Word32, Sum, Like, Widens}
 use Rattle.isp_code.specs.declared.register.Class.{Class}
 use Rattle.isp_code.specs.declared.register.Class.TheVariants as class
 use Rattle.isp_code.specs.declared.register.Register.{Register}
@@ -81,7 +82,10 @@ module _ (h : Routine) where
   wanted Any t is = refl
   wanted (Is u) t is = same t u is
   wanted Integer t is = not_truth t is
+  wanted Word32 t is = is
+  wanted Sum t is = is
   wanted (Like r) t is = same t (elem_of h r) is
+  wanted (Widens r) t is = both (not (same_elem t Truth)) (same_elem (widened t) (elem_of h r)) (not_truth t is.0) (same (widened t) (elem_of h r) is.1)
 
   wanted_array : (k : ArrayWant) (a : Register) → IsWantedArray h k a → is_wanted_array h k a ≡ true
   wanted_array array.Any a is = refl
@@ -158,6 +162,9 @@ module _ (h : Routine) where
     instr_passes (instr.Divide o d x y k p) is calls = operands_pass (operands (instr.Divide o d x y k p)) is
     instr_passes (instr.Store a i y k p) is calls = operands_pass (operands (instr.Store a i y k p)) is
     instr_passes (instr.Scatter a i y k p) is calls = operands_pass (operands (instr.Scatter a i y k p)) is
+    instr_passes (instr.StoreRun a i y k p) is calls = operands_pass (operands (instr.StoreRun a i y k p)) is
+    instr_passes (instr.PackedStore d a i y k p) is calls = operands_pass (operands (instr.PackedStore d a i y k p)) is
+    instr_passes (instr.PackedLoad d a i y k p) is calls = operands_pass (operands (instr.PackedLoad d a i y k p)) is
     instr_passes (instr.Clear a k) is calls = operands_pass (operands (instr.Clear a k)) is
     instr_passes (instr.Jump to) is calls = operands_pass (operands (instr.Jump to)) is
     instr_passes (instr.JumpIf t x to) is calls = operands_pass (operands (instr.JumpIf t x to)) is

@@ -1,7 +1,10 @@
 -- What has no fault is fine.
-use Rattle.std.proofs.Common.{◌≡◌, sym, ◌∙◌, refl, subst, ◌<◌, List, [], ◌∷◌, length, map, Option, Some, None, true, false, ◌&&◌}
+use Rattle.std.proofs.Common.{◌≡◌, sym, ◌∙◌, refl, subst, ◌<◌, List, [], ◌∷◌, length, map, Option, Some, None, true, false, not, ◌&&◌}
 use Rattle.std.specs.Prelude.{slice_get}
+use Rattle.isp_base.specs.Cross.{widened}
+use Rattle.isp_base.specs.Ranks.{same_elem}
 use Rattle.isp_base.specs.declared.types.Elem.{Elem}
+use Rattle.isp_base.specs.declared.types.Elem.TheVariants.{Bool as Truth}
 use Rattle.isp_code.specs.Fine.{has_value, IsThere, IsWanted, IsWantedArray, IsGiven, OperandFine, AllFine, IsPassed, ArePassed, CallFine, CallsFine}
 use Rattle.isp_code.specs.Listing.{Listing, Routine}
 use Rattle.isp_code.specs.Operands.{operands, call_operands, result_operands, any_register}
@@ -19,7 +22,7 @@ use Rattle.isp_code.specs.declared.operand.ArrayWant.TheVariants as array
 use Rattle.isp_code.specs.declared.operand.Operand.{Operand}
 use Rattle.isp_code.specs.declared.operand.Operand.TheVariants.{Any as AnyRegister, Scalar, Vector, Mask, Array, Number, Place, Text, Target, Back}
 use Rattle.isp_code.specs.declared.operand.Want.{Want}
-use Rattle.isp_code.specs.declared.operand.Want.TheVariants.{Any, Is, Integer, Like}
+use Rattle.isp_code.specs.declared.operand.Want.TheVariants.{Any, Is, Integer, Word32, Sum, Like, Widens}
 use Rattle.isp_code.specs.declared.register.Class.{Class}
 use Rattle.isp_code.specs.declared.register.Class.TheVariants as class
 use Rattle.isp_code.specs.declared.register.Register.{Register}
@@ -32,7 +35,11 @@ wanted_is : (h : Routine) (w : Want) (t : Elem) → is_wanted (table_of h) w t �
 wanted_is h Any t e = tt
 wanted_is h (Is u) t e = same_elem-is t u e
 wanted_is h Integer t e = same_elem-not t e
+wanted_is h Word32 t e = e
+wanted_is h Sum t e = e
 wanted_is h (Like r) t e = same_elem-is t (elem_of h r) e
+wanted_is h (Widens r) t e =
+    (same_elem-not t (both_first (not (same_elem t Truth)) (same_elem (widened t) (elem_of h r)) e), same_elem-is (widened t) (elem_of h r) (both_second (not (same_elem t Truth)) (same_elem (widened t) (elem_of h r)) e))
 
 array_is : (h : Routine) (k : ArrayWant) (a : Register) → is_wanted_array h k a ≡ true → IsWantedArray h k a
 array_is h array.Any a e = tt
@@ -131,6 +138,9 @@ instr_fine code h (instr.Mask d i) e = (all_fine code h (operands (instr.Mask d 
 instr_fine code h (instr.Divide o d x y k p) e = (all_fine code h (operands (instr.Divide o d x y k p)) e, tt)
 instr_fine code h (instr.Store a i y k p) e = (all_fine code h (operands (instr.Store a i y k p)) e, tt)
 instr_fine code h (instr.Scatter a i y k p) e = (all_fine code h (operands (instr.Scatter a i y k p)) e, tt)
+instr_fine code h (instr.StoreRun a i y k p) e = (all_fine code h (operands (instr.StoreRun a i y k p)) e, tt)
+instr_fine code h (instr.PackedStore d a i y k p) e = (all_fine code h (operands (instr.PackedStore d a i y k p)) e, tt)
+instr_fine code h (instr.PackedLoad d a i y k p) e = (all_fine code h (operands (instr.PackedLoad d a i y k p)) e, tt)
 instr_fine code h (instr.Clear a k) e = (all_fine code h (operands (instr.Clear a k)) e, tt)
 instr_fine code h (instr.Jump to) e = (all_fine code h (operands (instr.Jump to)) e, tt)
 instr_fine code h (instr.JumpIf t x to) e = (all_fine code h (operands (instr.JumpIf t x to)) e, tt)

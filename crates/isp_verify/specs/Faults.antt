@@ -2,10 +2,11 @@
 -- instructions in order, last whether control falls off the end.
 use Rattle.std.specs.Prelude.{ℕ, suc, ◌-◌, List, [], ◌∷◌, length, take, bytes_eq, Option, Some, None, Bool, true, false, not, ◌&&◌, ◌==◌, nat_lt, slice_get}
 use Rattle.std.specs.List.{list_any}
+use Rattle.isp_base.specs.Cross.{widened}
 use Rattle.isp_base.specs.Ranks.{same_elem}
 use Rattle.isp_base.specs.declared.types.Elem.{Elem}
 use Rattle.isp_base.specs.declared.types.Elem.TheVariants.{Bool as Truth}
-use Rattle.isp_code.specs.Fine.{has_value}
+use Rattle.isp_code.specs.Fine.{has_value, is_word32, is_sum}
 use Rattle.isp_code.specs.Listing.{Listing, Routine}
 use Rattle.isp_code.specs.Operands.{operands, call_operands}
 use Rattle.isp_code.specs.Registers.{Table, table_of, count_in, elem_in, elem_of, is_per_lane, is_local, same_class, class_of}
@@ -22,7 +23,7 @@ use Rattle.isp_code.specs.declared.operand.ArrayWant.TheVariants as array
 use Rattle.isp_code.specs.declared.operand.Operand.{Operand}
 use Rattle.isp_code.specs.declared.operand.Operand.TheVariants.{Any as AnyRegister, Scalar, Vector, Mask, Array, Number, Place, Text, Target, Back}
 use Rattle.isp_code.specs.declared.operand.Want.{Want}
-use Rattle.isp_code.specs.declared.operand.Want.TheVariants.{Any, Is, Integer, Like}
+use Rattle.isp_code.specs.declared.operand.Want.TheVariants.{Any, Is, Integer, Word32, Sum, Like, Widens}
 use Rattle.isp_code.specs.declared.register.Class.{Class}
 use Rattle.isp_code.specs.declared.register.Class.TheVariants as class
 use Rattle.isp_code.specs.declared.register.Register.{Register}
@@ -53,7 +54,10 @@ module _ (t : Table) where
   is_wanted Any e = true
   is_wanted (Is u) e = same_elem e u
   is_wanted Integer e = not (same_elem e Truth)
+  is_wanted Word32 e = is_word32 e
+  is_wanted Sum e = is_sum e
   is_wanted (Like r) e = same_elem e (elem_in t r)
+  is_wanted (Widens r) e = not (same_elem e Truth) && same_elem (widened e) (elem_in t r)
 
   -- a register has this class, and a type that is wanted
   abbrev pub is_a : Class → Want → Register → Bool

@@ -1,7 +1,7 @@
 //! Whether an instruction is one that a line of the table of instructions takes.
 ghost use Rattle.std.specs.Prelude.{◌≡◌};
 ghost use Rattle.isp_code.specs.Listing.{routine_of};
-ghost use Rattle.isp_code.specs.Operands.{scalar_operands, vector_operands, mask_operands, divided, unary_want, tested};
+ghost use Rattle.isp_code.specs.Operands.{scalar_operands, vector_operands, mask_operands, divided, packed, unary_want, reduced_want, reducing_want, tested};
 ghost use Rattle.isp_code.specs.Registers.{table_of};
 ghost use Rattle.isp_verify.specs.Faults.{operands_fault, instr_fault};
 
@@ -11,8 +11,8 @@ use crate::operands::check_all;
 use crate::registers::Registers;
 use isp_base::{Elem, UnaryOp};
 use isp_code::{
-    ArrayWant, Class, Code, Function, Instr, JumpTest, MaskInstr, Operand, Register, ScalarInstr,
-    VectorInstr, Want,
+    ArrayWant, Class, Code, Function, Instr, JumpTest, MaskInstr, Operand, Reduction, Register,
+    ScalarInstr, VectorInstr, Want,
 };
 
 // `!` is an operator on bool, the others are on whole numbers.
@@ -22,6 +22,29 @@ fn unary_want(op: UnaryOp) -> Want
     match op {
         UnaryOp::Not => Want::Is(Elem::Bool),
         _ => Want::Integer,
+    }
+}
+
+// What a reduction gives.
+fn reduced_want(reduction: Reduction) -> Want
+    ensures { result ≡ reduced_want reduction }
+{
+    match reduction {
+        Reduction::Add => Want::Sum,
+        Reduction::Min | Reduction::Max => Want::Integer,
+        Reduction::Equal | Reduction::Any | Reduction::All => Want::Is(Elem::Bool),
+    }
+}
+
+// What a reduction takes that gives this register.
+fn reducing_want(reduction: Reduction, d: Register) -> Want
+    ensures { result ≡ reducing_want reduction d }
+{
+    match reduction {
+        Reduction::Add => Want::Widens(d),
+        Reduction::Min | Reduction::Max => Want::Like(d),
+        Reduction::Equal => Want::Integer,
+        Reduction::Any | Reduction::All => Want::Is(Elem::Bool),
     }
 }
 
@@ -107,6 +130,27 @@ fn check_scalar(
                 Operand::Scalar(i, Want::Is(Elem::I64)),
                 Operand::Mask(k),
                 Operand::Place(place),
+            ],
+        ),
+        ScalarInstr::Reduce(op, x, k) => check_all(
+            code,
+            function,
+            registers,
+            &[
+                Operand::Scalar(d, reduced_want(op)),
+                Operand::Vector(x, reducing_want(op, d)),
+                Operand::Mask(k),
+            ],
+        ),
+        ScalarInstr::Extract(x, i, k) => check_all(
+            code,
+            function,
+            registers,
+            &[
+                whole,
+                Operand::Vector(x, like),
+                Operand::Scalar(i, Want::Is(Elem::I32)),
+                Operand::Mask(k),
             ],
         ),
     }
@@ -207,6 +251,70 @@ fn check_vector(
                 Operand::Place(place),
             ],
         ),
+        VectorInstr::LoadRun(a, i, k, place) => check_all(
+            code,
+            function,
+            registers,
+            &[
+                any,
+                Operand::Array(a, ArrayWant::Shared, like),
+                Operand::Scalar(i, Want::Is(Elem::I64)),
+                Operand::Mask(k),
+                Operand::Place(place),
+            ],
+        ),
+        VectorInstr::Scan(_op, x, k) => check_all(
+            code,
+            function,
+            registers,
+            &[whole, Operand::Vector(x, like), Operand::Mask(k)],
+        ),
+        VectorInstr::Exchange(_exchange, x, i, k) => check_all(
+            code,
+            function,
+            registers,
+            &[
+                whole,
+                Operand::Vector(x, like),
+                Operand::Scalar(i, Want::Is(Elem::I32)),
+                Operand::Mask(k),
+            ],
+        ),
+        VectorInstr::Shuffle(x, i, k) => check_all(
+            code,
+            function,
+            registers,
+            &[
+                whole,
+                Operand::Vector(x, like),
+                Operand::Vector(i, Want::Is(Elem::I32)),
+                Operand::Mask(k),
+            ],
+        ),
+        VectorInstr::ShuffleTwo(x, y, i, k) => check_all(
+            code,
+            function,
+            registers,
+            &[
+                whole,
+                Operand::Vector(x, like),
+                Operand::Vector(y, like),
+                Operand::Vector(i, Want::Is(Elem::I32)),
+                Operand::Mask(k),
+            ],
+        ),
+        VectorInstr::Insert(x, i, y, k) => check_all(
+            code,
+            function,
+            registers,
+            &[
+                whole,
+                Operand::Vector(x, like),
+                Operand::Scalar(i, Want::Is(Elem::I32)),
+                Operand::Scalar(y, like),
+                Operand::Mask(k),
+            ],
+        ),
     }
 }
 
@@ -273,7 +381,29 @@ fn tested(test: JumpTest, register: Register) -> Operand
         JumpTest::True => Operand::Scalar(register, Want::Is(Elem::Bool)),
         JumpTest::Off => Operand::Mask(register),
         JumpTest::On => Operand::Mask(register),
+        JumpTest::All => Operand::Mask(register),
     }
+}
+
+// A packed call: the count, the array, the index, the vector, the mask and the place.
+fn packed(
+    d: Register,
+    a: Register,
+    i: Register,
+    y: Register,
+    k: Register,
+    place: u32,
+) -> [Operand; 6]
+    ensures { result ≡ packed d a i y k place }
+{
+    [
+        Operand::Scalar(d, Want::Is(Elem::I32)),
+        Operand::Array(a, ArrayWant::Shared, Want::Word32),
+        Operand::Scalar(i, Want::Is(Elem::I64)),
+        Operand::Vector(y, Want::Like(a)),
+        Operand::Mask(k),
+        Operand::Place(place),
+    ]
 }
 
 /// The first fault of an instruction.
@@ -325,6 +455,30 @@ pub(crate) fn check_instr(
                 Operand::Mask(*k),
                 Operand::Place(*place),
             ],
+        ),
+        Instr::StoreRun(a, i, y, k, place) => check_all(
+            code,
+            function,
+            registers,
+            &[
+                Operand::Array(*a, ArrayWant::Shared, Want::Any),
+                Operand::Scalar(*i, Want::Is(Elem::I64)),
+                Operand::Vector(*y, Want::Like(*a)),
+                Operand::Mask(*k),
+                Operand::Place(*place),
+            ],
+        ),
+        Instr::PackedStore(d, a, i, y, k, place) => check_all(
+            code,
+            function,
+            registers,
+            &packed(*d, *a, *i, *y, *k, *place),
+        ),
+        Instr::PackedLoad(d, a, i, y, k, place) => check_all(
+            code,
+            function,
+            registers,
+            &packed(*d, *a, *i, *y, *k, *place),
         ),
         Instr::Clear(a, k) => check_all(
             code,

@@ -7,7 +7,7 @@ ghost use Rattle.isp_verify.specs.Faults.{there, register_fault, is_wanted, is_a
 
 use crate::fault::Rule;
 use crate::registers::{Registers, same_class};
-use isp_base::{Elem, greatest_of, low_mask};
+use isp_base::{Elem, greatest_of, low_mask, widened};
 use isp_code::{ArrayWant, Class, Code, Function, Operand, Register, Returns, Sharing, Want};
 
 // What is named is to be there, and then to be of its kind.
@@ -36,7 +36,12 @@ fn is_wanted(registers: &Registers, want: Want, elem: Elem) -> bool
         Want::Any => true,
         Want::Is(other) => elem == other,
         Want::Integer => elem != Elem::Bool,
+        Want::Word32 => matches!(elem, Elem::I32 | Elem::U32),
+        Want::Sum => !matches!(elem, Elem::Bool | Elem::I8 | Elem::U8),
         Want::Like(register) => elem == registers.elem(register),
+        Want::Widens(register) => {
+            elem != Elem::Bool && widened(elem) == registers.elem(register)
+        }
     }
 }
 

@@ -14,7 +14,7 @@ use Rattle.isp_exprs.specs.Scopes.{named}
 use Rattle.isp_exprs.specs.Values.{truth_value, count_value, in_brackets, cast_to, with_sign, joined, choice}
 use Rattle.isp_exprs.specs.Places.{variable_at, element_at}
 use Rattle.isp_exprs.specs.Calls.{Heading, Handed, h_value, Passed, Called, unless_unknown, suits, first_want, rest_of, call_of, value_called, handed_call, handed_name}
-use Rattle.isp_exprs.specs.Rules.{callee_at, handed_reference, handed_element, pair_then}
+use Rattle.isp_exprs.specs.Rules.{callee_at, wants_at, past_at, handed_reference, handed_element, pair_then}
 
 abbrev pub judge_call : List Heading → Word → Arguments → Span → Result (List Passed) Fault → Result Called Fault
 judge_call hs w xs s v = found (call_of s) (both (unless_unknown w (callee_at hs w xs).0) v)
@@ -27,7 +27,7 @@ module _ (gang : Gang) (hs : List Heading) (ns : List Binding) where
     judge (program_index s) = Ok (t_program_index s)
     judge (program_count s) = Ok (t_constant (count_value gang) s)
     judge (place p) = made t_place (judge_place p)
-    judge (call w xs s) = found (value_called s) (judge_call hs w xs s (judge_arguments (callee_at hs w xs).1 xs))
+    judge (call w xs s) = found (value_called s) (judge_call hs w xs s (judge_arguments (past_at hs w xs) (wants_at hs w xs) xs))
     judge (brackets x s) = made (in_brackets s) (judge x)
     judge (cast t x s) = made (cast_to s) (both (value_said t) (judge x))
     judge (prefix op x s) = made (with_sign op s) (judge x)
@@ -40,11 +40,15 @@ module _ (gang : Gang) (hs : List Heading) (ns : List Binding) where
 
     pub judge_argument : Argument → Result Handed Fault
     judge_argument (by_value (place (variable w))) = made (handed_name w.span) (named ns w)
-    judge_argument (by_value (call w xs s)) = made handed_call (judge_call hs w xs s (judge_arguments (callee_at hs w xs).1 xs))
+    judge_argument (by_value (call w xs s)) = made handed_call (judge_call hs w xs s (judge_arguments (past_at hs w xs) (wants_at hs w xs) xs))
     judge_argument (by_value x) = made h_value (judge x)
     judge_argument (by_reference (variable w) s) = made (handed_reference w.span) (named ns w)
     judge_argument (by_reference (element w x e) s) = made (handed_element w.span) (both (named ns w) (judge x))
 
-    pub judge_arguments : List Want → Arguments → Result (List Passed) Fault
-    judge_arguments ws no_arguments = Ok []
-    judge_arguments ws (argument_then x xs) = made pair_then (both (found (suits (first_want ws) (span_of_argument x)) (judge_argument x)) (judge_arguments (rest_of ws) xs))
+    pub judge_arguments : Want → List Want → Arguments → Result (List Passed) Fault
+    judge_arguments past ws no_arguments = Ok []
+    judge_arguments past ws (argument_then x xs) =
+        made pair_then (both (found (suits (first_want past ws) (span_of_argument x)) (judge_argument x)) (judge_arguments past (rest_of ws) xs))
+
+  abbrev pub judge_call_of : Word → Arguments → Span → Result Called Fault
+  judge_call_of w xs s = judge_call hs w xs s (judge_arguments (past_at hs w xs) (wants_at hs w xs) xs)

@@ -13,8 +13,8 @@ use Rattle.isp_typed.specs.Fine.{params_of}
 use Rattle.isp_exprs.specs.declared.callee.Callee.{Callee}
 use Rattle.isp_exprs.specs.declared.callee.Callee.TheVariants.{Unknown, Miscounted, Function, Library as OfLibrary, PackedStore, PackedLoad}
 use Rattle.isp_exprs.specs.declared.callee.Want.{Want}
-use Rattle.isp_exprs.specs.declared.callee.Want.TheVariants.{AnyValue, ValueOf, ArrayOf, Base, Destination, Anything}
-use Rattle.isp_exprs.specs.Calls.{Heading, cross_library, move_library, instance_library, or_else, library_named, by_count, library_wants, counted, function_from, of_function, of_library, callee}
+use Rattle.isp_exprs.specs.declared.callee.Want.TheVariants.{AnyValue, ValueOf, ArrayOf, Base, Destination, NoReference, Anything}
+use Rattle.isp_exprs.specs.Calls.{Heading, cross_library, move_library, instance_library, or_else, library_named, by_count, library_wants, is_packed, counted, function_from, of_function, of_library, callee}
 
 -- what is asked for a parameter, by what it holds
 abbrev pub IsWant : Want → Variable → Type 0
@@ -23,6 +23,7 @@ IsWant (ArrayOf e c) v = (v.holds ≡ holds.Given e) × (v.constant ≡ c)
 IsWant AnyValue v = ⊥
 IsWant (Base stored) v = ⊥
 IsWant Destination v = ⊥
+IsWant NoReference v = ⊥
 IsWant Anything v = ⊥
 
 abbrev pub AreWants : List Want → List Variable → Type 0
@@ -43,7 +44,7 @@ Fits hs n (OfLibrary f) ws = (ws ≡ map (λ p. AnyValue) (parts f)) × (length 
 Fits hs n PackedStore ws = (ws ≡ Base true ∷ AnyValue ∷ []) × (length ws ≡ n)
 Fits hs n PackedLoad ws = (ws ≡ Base false ∷ Destination ∷ []) × (length ws ≡ n)
 Fits hs n Unknown ws = Unit {0}
-Fits hs n Miscounted ws = Unit {0}
+Fits hs n (Miscounted packed) ws = Unit {0}
 
 -- ---- the library
 
@@ -93,10 +94,10 @@ library_fits hs n (Function k r) l e = absurd (no l)
     no : false ≡ true → ⊥
     no e = cc
 library_fits hs n Unknown l e = tt
-library_fits hs n Miscounted l e = tt
+library_fits hs n (Miscounted packed) l e = tt
 
 abbrev counted_if : Bool → Callee → List Want → Callee × List Want
-counted_if t c ws = if t then (c, ws) else (Miscounted, [])
+counted_if t c ws = if t then (c, ws) else (Miscounted (is_packed c), [])
 
 counted_fits : (hs : List Heading) (n : ℕ) (c : Callee) (ws : List Want) → (length ws ≡ n → Fits hs n c ws) → Fits hs n (counted n c ws).0 (counted n c ws).1
 counted_fits hs n c ws f = go (length ws == n) (λ e. f (eqb-true (length ws) n e))

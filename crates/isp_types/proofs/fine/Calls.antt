@@ -21,7 +21,7 @@ use Rattle.isp_exprs.specs.declared.scope.Known.{Known}
 use Rattle.isp_exprs.specs.declared.callee.Callee.{Callee}
 use Rattle.isp_exprs.specs.declared.callee.Callee.TheVariants.{Unknown, Miscounted, Function, Library as OfLibrary, PackedStore, PackedLoad}
 use Rattle.isp_exprs.specs.declared.callee.Want.{Want}
-use Rattle.isp_exprs.specs.declared.callee.Want.TheVariants.{AnyValue, ValueOf, ArrayOf, Base, Destination, Anything}
+use Rattle.isp_exprs.specs.declared.callee.Want.TheVariants.{AnyValue, ValueOf, ArrayOf, Base, Destination, NoReference, Anything}
 use Rattle.isp_exprs.specs.Values.{converted}
 use Rattle.isp_exprs.specs.Calls.{Heading, Passed, p_value, p_array, p_base, p_destination, first_want, rest_of, Called, gives, runs, value_called, handed_call, values_among, arguments_among, function_call, worked_in, rate_all, as_parts, library_call, packed_store, loaded, packed_load, call_of}
 use Rattle.isp_types.proofs.fine.Callees.{AreWants, Headed, Fits}
@@ -71,9 +71,9 @@ loaded_open s b k t p d m = two_tests _ _ _ _ _ d m
 
 module _ (hs : List Heading) (gs : List TFunction) (all : List Variable) where
   -- all that is passed suits what is asked
-  abbrev pub AllSuited : List Want → List Passed → Type 0
-  AllSuited ws [] = Unit {0}
-  AllSuited ws (p ∷ ps) = Suited gs all (first_want ws) p × AllSuited (rest_of ws) ps
+  abbrev pub AllSuited : Want → List Want → List Passed → Type 0
+  AllSuited past ws [] = Unit {0}
+  AllSuited past ws (p ∷ ps) = Suited gs all (first_want past ws) p × AllSuited past (rest_of ws) ps
 
   abbrev pub FineCalled : Called → Type 0
   FineCalled (gives x) = BareExpr gs all x
@@ -89,22 +89,23 @@ module _ (hs : List Heading) (gs : List TFunction) (all : List Variable) where
 
   -- ---- a function's arguments
 
-  arguments_fine : (ws : List Want) (vs : List Variable) (ps : List Passed) → AreWants ws vs → AllSuited ws ps → length ps ≡ length ws → FineArguments gs all vs (arguments_among ps)
-  arguments_fine [] [] [] a s l = tt
-  arguments_fine [] [] (p ∷ ps) a s l = absurd (let no : ⊥ = cc in no)
-  arguments_fine (w ∷ ws) (v ∷ vs) [] a s l = absurd (let no : ⊥ = cc in no)
-  arguments_fine (ValueOf e ∷ ws) (v ∷ vs) (p_value x ∷ ps) a s l =
-      (rw a.0.1 (s.0.0, s.0.1 ∙ sym a.0.2), arguments_fine ws vs ps a.1 s.1 (omega (arith, l)))
-  arguments_fine (ArrayOf e c ∷ ws) (v ∷ vs) (p_array b n ∷ ps) a s l =
-      (rw (a.0.0, a.0.1) (s.0.0, s.0.1, s.0.2), arguments_fine ws vs ps a.1 s.1 (omega (arith, l)))
-  arguments_fine (AnyValue ∷ ws) (v ∷ vs) (p ∷ ps) a s l = absurd a.0
-  arguments_fine (Base b ∷ ws) (v ∷ vs) (p ∷ ps) a s l = absurd a.0
-  arguments_fine (Destination ∷ ws) (v ∷ vs) (p ∷ ps) a s l = absurd a.0
-  arguments_fine (Anything ∷ ws) (v ∷ vs) (p ∷ ps) a s l = absurd a.0
-  arguments_fine [] (v ∷ vs) ps a s l = absurd a
-  arguments_fine (w ∷ ws) [] ps a s l = absurd a
-  arguments_fine (ValueOf e ∷ ws) (v ∷ vs) (p ∷ ps) a s l = absurd s.0
-  arguments_fine (ArrayOf e c ∷ ws) (v ∷ vs) (p ∷ ps) a s l = absurd s.0
+  arguments_fine : (past : Want) (ws : List Want) (vs : List Variable) (ps : List Passed) → AreWants ws vs → AllSuited past ws ps → length ps ≡ length ws → FineArguments gs all vs (arguments_among ps)
+  arguments_fine past [] [] [] a s l = tt
+  arguments_fine past [] [] (p ∷ ps) a s l = absurd (let no : ⊥ = cc in no)
+  arguments_fine past (w ∷ ws) (v ∷ vs) [] a s l = absurd (let no : ⊥ = cc in no)
+  arguments_fine past (ValueOf e ∷ ws) (v ∷ vs) (p_value x ∷ ps) a s l =
+      (rw a.0.1 (s.0.0, s.0.1 ∙ sym a.0.2), arguments_fine past ws vs ps a.1 s.1 (omega (arith, l)))
+  arguments_fine past (ArrayOf e c ∷ ws) (v ∷ vs) (p_array b n ∷ ps) a s l =
+      (rw (a.0.0, a.0.1) (s.0.0, s.0.1, s.0.2), arguments_fine past ws vs ps a.1 s.1 (omega (arith, l)))
+  arguments_fine past (AnyValue ∷ ws) (v ∷ vs) (p ∷ ps) a s l = absurd a.0
+  arguments_fine past (Base b ∷ ws) (v ∷ vs) (p ∷ ps) a s l = absurd a.0
+  arguments_fine past (Destination ∷ ws) (v ∷ vs) (p ∷ ps) a s l = absurd a.0
+  arguments_fine past (NoReference ∷ ws) (v ∷ vs) (p ∷ ps) a s l = absurd a.0
+  arguments_fine past (Anything ∷ ws) (v ∷ vs) (p ∷ ps) a s l = absurd a.0
+  arguments_fine past [] (v ∷ vs) ps a s l = absurd a
+  arguments_fine past (w ∷ ws) [] ps a s l = absurd a
+  arguments_fine past (ValueOf e ∷ ws) (v ∷ vs) (p ∷ ps) a s l = absurd s.0
+  arguments_fine past (ArrayOf e c ∷ ws) (v ∷ vs) (p ∷ ps) a s l = absurd s.0
 
   -- ---- the library
 
@@ -112,13 +113,13 @@ module _ (hs : List Heading) (gs : List TFunction) (all : List Variable) where
   AreFine [] = Unit {0}
   AreFine (x ∷ xs) = BareExpr gs all x × AreFine xs
 
-  values_fine : (qs : List Part) (ps : List Passed) → AllSuited (map (λ p. AnyValue) qs) ps → length ps ≡ length qs
+  values_fine : (past : Want) (qs : List Part) (ps : List Passed) → AllSuited past (map (λ p. AnyValue) qs) ps → length ps ≡ length qs
       → AreFine (values_among ps) × (length (values_among ps) ≡ length qs)
-  values_fine [] [] s l = (tt, refl)
-  values_fine [] (p ∷ ps) s l = absurd (let no : ⊥ = cc in no)
-  values_fine (q ∷ qs) [] s l = absurd (let no : ⊥ = cc in no)
-  values_fine (q ∷ qs) (p_value x ∷ ps) s l = let v = values_fine qs ps s.1 (omega (arith, l)) in ((s.0, v.0), ap suc v.1)
-  values_fine (q ∷ qs) (p ∷ ps) s l = absurd s.0
+  values_fine past [] [] s l = (tt, refl)
+  values_fine past [] (p ∷ ps) s l = absurd (let no : ⊥ = cc in no)
+  values_fine past (q ∷ qs) [] s l = absurd (let no : ⊥ = cc in no)
+  values_fine past (q ∷ qs) (p_value x ∷ ps) s l = let v = values_fine past qs ps s.1 (omega (arith, l)) in ((s.0, v.0), ap suc v.1)
+  values_fine past (q ∷ qs) (p ∷ ps) s l = absurd s.0
 
   parts_fine : (t : Elem) (qs : List Part) (xs : List TExpr) → AreFine xs → length xs ≡ length qs → FineParts gs all t qs (as_parts t qs xs)
   parts_fine t [] [] f l = tt
@@ -139,14 +140,14 @@ module _ (hs : List Heading) (gs : List TFunction) (all : List Variable) where
   function_fine k s i ps None g e a f = (g, e, a, f, i)
   function_fine k s i ps (Some t) g e a f = ((g, e, a, f, i), refl)
 
-  store_fine : (s : Span) → InText s → (ps : List Passed) → AllSuited (Base true ∷ AnyValue ∷ []) ps → (r : Called) → packed_store s ps ≡ Ok r → FineCalled r
-  store_fine s i (p_base b ∷ p_value x ∷ ps) f r e =
+  store_fine : (past : Want) (s : Span) → InText s → (ps : List Passed) → AllSuited past (Base true ∷ AnyValue ∷ []) ps → (r : Called) → packed_store s ps ≡ Ok r → FineCalled r
+  store_fine past s i (p_base b ∷ p_value x ∷ ps) f r e =
       subst FineCalled (ok_is (gives (t_packed_store b (converted (base_array b).ty.elem x) s)) r e)
       ((f.0.0, converted_fine gs all (base_array b).ty.elem x f.1.0, converted_elem (base_array b).ty.elem x, and_false (base_array b).constant f.0.1, i), refl)
-  store_fine s i [] f r e = absurd (no_ok e)
-  store_fine s i (p_base b ∷ []) f r e = absurd (no_ok e)
-  store_fine s i (p_base b ∷ p ∷ ps) f r e = absurd f.1.0
-  store_fine s i (p ∷ ps) f r e = absurd f.0
+  store_fine past s i [] f r e = absurd (no_ok e)
+  store_fine past s i (p_base b ∷ []) f r e = absurd (no_ok e)
+  store_fine past s i (p_base b ∷ p ∷ ps) f r e = absurd f.1.0
+  store_fine past s i (p ∷ ps) f r e = absurd f.0
 
   loaded_fine : (s : Span) → InText s → (b : TBase) (k : Known) (t : Ty) (p : Span) → FineBase gs all b → IsKnown all k → k.variable.holds ≡ holds.Value t → t.rate ≡ Varying
       → (r : Called) → loaded s b k t p ≡ Ok r → FineCalled r
@@ -164,23 +165,23 @@ module _ (hs : List Heading) (gs : List TFunction) (all : List Variable) where
           opened : same_elem t.elem (base_array b).ty.elem ≡ true → k.variable.constant ≡ false → ◌≡◌ {A = Result Called Fault} (Ok (gives (t_packed_load b k.number s))) (Ok r)
           opened d m = sym (loaded_open s b k t p d m) ∙ e
 
-  load_fine : (s : Span) → InText s → (ps : List Passed) → AllSuited (Base false ∷ Destination ∷ []) ps → (r : Called) → packed_load s ps ≡ Ok r → FineCalled r
-  load_fine s i (p_base b ∷ p_destination k t p ∷ ps) f r e = loaded_fine s i b k t p f.0.0 f.1.0.0 f.1.0.1 f.1.0.2 r e
-  load_fine s i [] f r e = absurd (no_ok e)
-  load_fine s i (p_base b ∷ []) f r e = absurd (no_ok e)
-  load_fine s i (p_base b ∷ p ∷ ps) f r e = absurd f.1.0
-  load_fine s i (p ∷ ps) f r e = absurd f.0
+  load_fine : (past : Want) (s : Span) → InText s → (ps : List Passed) → AllSuited past (Base false ∷ Destination ∷ []) ps → (r : Called) → packed_load s ps ≡ Ok r → FineCalled r
+  load_fine past s i (p_base b ∷ p_destination k t p ∷ ps) f r e = loaded_fine s i b k t p f.0.0 f.1.0.0 f.1.0.1 f.1.0.2 r e
+  load_fine past s i [] f r e = absurd (no_ok e)
+  load_fine past s i (p_base b ∷ []) f r e = absurd (no_ok e)
+  load_fine past s i (p_base b ∷ p ∷ ps) f r e = absurd f.1.0
+  load_fine past s i (p ∷ ps) f r e = absurd f.0
 
-  pub call_fine : (s : Span) → InText s → Headed hs gs → (n : ℕ) (c : Callee) (ws : List Want) → Fits hs n c ws → (ps : List Passed) → AllSuited ws ps → length ps ≡ n
+  pub call_fine : (s : Span) → InText s → Headed hs gs → (n : ℕ) (c : Callee) (ws : List Want) → Fits hs n c ws → (past : Want) (ps : List Passed) → AllSuited past ws ps → length ps ≡ n
       → (r : Called) → call_of s (c, ps) ≡ Ok r → FineCalled r
-  call_fine s i headed n Unknown ws f ps a l r e = absurd (no_ok e)
-  call_fine s i headed n Miscounted ws f ps a l r e = absurd (no_ok e)
-  call_fine s i headed n (Function k (Err d)) ws f ps a l r e = absurd (no_ok e)
-  call_fine s i headed n (Function k (Ok t)) ws f ps a l r e =
+  call_fine s i headed n Unknown ws f past ps a l r e = absurd (no_ok e)
+  call_fine s i headed n (Miscounted packed) ws f past ps a l r e = absurd (no_ok e)
+  call_fine s i headed n (Function k (Err d)) ws f past ps a l r e = absurd (no_ok e)
+  call_fine s i headed n (Function k (Ok t)) ws f past ps a l r e =
       let g = headed k f.0 t f.1 f.2 in
-      subst FineCalled (ok_is _ r e) (function_fine k s i ps t g.0 g.1 g.2 (arguments_fine f.0.wants (params_of g.0) ps g.3 (rw (← f.3) a) (l ∙ sym (rw (← f.3) f.4))))
-  call_fine s i headed n (OfLibrary f) ws fits ps a l r e =
-      let v = values_fine (parts f) ps (rw fits.0 at a) (l ∙ sym (rw (fits.0, length-map (parts f) (λ p. AnyValue)) at fits.1)) in
+      subst FineCalled (ok_is _ r e) (function_fine k s i ps t g.0 g.1 g.2 (arguments_fine past f.0.wants (params_of g.0) ps g.3 (rw (← f.3) a) (l ∙ sym (rw (← f.3) f.4))))
+  call_fine s i headed n (OfLibrary f) ws fits past ps a l r e =
+      let v = values_fine past (parts f) ps (rw fits.0 at a) (l ∙ sym (rw (fits.0, length-map (parts f) (λ p. AnyValue)) at fits.1)) in
       subst FineCalled (ok_is (gives (library_call f s (values_among ps))) r e) (library_fine f s (values_among ps) v.0 v.1)
-  call_fine s i headed n PackedStore ws f ps a l r e = store_fine s i ps (rw f.0 at a) r e
-  call_fine s i headed n PackedLoad ws f ps a l r e = load_fine s i ps (rw f.0 at a) r e
+  call_fine s i headed n PackedStore ws f past ps a l r e = store_fine past s i ps (rw f.0 at a) r e
+  call_fine s i headed n PackedLoad ws f past ps a l r e = load_fine past s i ps (rw f.0 at a) r e

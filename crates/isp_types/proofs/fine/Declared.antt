@@ -16,7 +16,9 @@ use Rattle.isp_exprs.specs.declared.scope.Binding.{Binding}
 use Rattle.isp_exprs.specs.declared.words.ValueWords.{ValueWords}
 use Rattle.isp_exprs.specs.Words.{value_said}
 use Rattle.isp_exprs.specs.Calls.{Heading}
-use Rattle.isp_types.specs.Statements.{item_names, item_variables, items_variables, first_variables, range_variables, names_after, variables_after, block_variables, stmts_variables, IsItem, AreItems, IsFirst, IsStmt, IsBlock, AreStmts}
+use Rattle.isp_types.specs.Numbering.{item_names, item_variables, items_variables, first_variables, range_variables, names_after, variables_after, block_variables, stmts_variables}
+use Rattle.isp_types.specs.Declarations.{IsItem, AreItems}
+use Rattle.isp_types.specs.Statements.{IsFirst, IsStmt, IsBlock, AreStmts}
 use Rattle.isp_types.proofs.fine.Passed.{no_ok}
 use Rattle.isp_types.proofs.fine.Simples.{no_all, array_bounds}
 

@@ -13,7 +13,7 @@ use Rattle.isp_exprs.specs.declared.scope.Binding.{Binding}
 use Rattle.isp_exprs.specs.Words.{value_said}
 use Rattle.isp_exprs.specs.Scopes.{with_name}
 use Rattle.isp_exprs.specs.Calls.{Heading, library_named}
-use Rattle.isp_types.specs.Statements.{declared}
+use Rattle.isp_types.specs.Numbering.{declared}
 use Rattle.isp_types.specs.Functions.{param_variable, parameter_of, IsBody, AreFunctions}
 
 both : (a b : Bool) → a ≡ true → b ≡ true → (a && b) ≡ true

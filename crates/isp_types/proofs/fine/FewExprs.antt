@@ -27,7 +27,7 @@ use Rattle.isp_typed.specs.Typed.{TExpr, TPlace, TBase, t_whole, t_from, base_ar
 use Rattle.isp_exprs.specs.declared.callee.Callee.{Callee}
 use Rattle.isp_exprs.specs.declared.callee.Callee.TheVariants as callees
 use Rattle.isp_exprs.specs.declared.callee.Want.{Want}
-use Rattle.isp_exprs.specs.declared.callee.Want.TheVariants.{AnyValue, ValueOf, ArrayOf, Base, Destination, Anything}
+use Rattle.isp_exprs.specs.declared.callee.Want.TheVariants.{AnyValue, ValueOf, ArrayOf, Base, Destination, NoReference, Anything}
 use Rattle.isp_exprs.specs.declared.scope.Known.{Known}
 use Rattle.isp_exprs.specs.declared.scope.Binding.{Binding}
 use Rattle.isp_exprs.specs.declared.values.Joining.{Joining}
@@ -35,7 +35,7 @@ use Rattle.isp_exprs.specs.declared.values.Joining.TheVariants as joined_as
 use Rattle.isp_exprs.specs.Values.{converted, with_sign, joins, joining, choice}
 use Rattle.isp_exprs.specs.Places.{array_of, variable_at, element_at}
 use Rattle.isp_exprs.specs.Calls.{Heading, Handed, h_value, h_run, h_array, h_name, h_element, handed_name, Passed, p_value, p_array, p_base, p_destination, p_unasked, first_want, rest_of, Called, gives, runs, value_called, handed_call, values_among, arguments_among, function_call, worked_in, as_parts, library_call, loaded, call_of, array_fits, base_fits, base_named, destination, suits}
-use Rattle.isp_exprs.specs.Rules.{callee_at, IsCall, IsExpr, IsPlace, IsArgument, AreArguments}
+use Rattle.isp_exprs.specs.Rules.{wants_at, past_at, IsCall, IsCallOf, IsExpr, IsPlace, IsArgument, AreArguments}
 use Rattle.isp_types.proofs.fine.Passed.{ok_is, no_ok}
 
 -- ---- conversions
@@ -110,15 +110,15 @@ passed_nodes (p_destination k t s) = 1
 passed_nodes p_unasked = 0
 
 -- what two tests let through
-let_through : {A : Type 0} (t u : Bool) (f g : Fault) (a b : A) → ◌≡◌ {A = Result A Fault} (if not t then Err f else (if u then Err g else Ok a)) (Ok b) → a ≡ b
+pub let_through : {A : Type 0} (t u : Bool) (f g : Fault) (a b : A) → ◌≡◌ {A = Result A Fault} (if not t then Err f else (if u then Err g else Ok a)) (Ok b) → a ≡ b
 let_through true false f g a b e = ok_is a b e
 let_through true true f g a b e = absurd (no_ok e)
 let_through false u f g a b e = absurd (no_ok e)
 
-array_let : (t : Elem) (c : Bool) (s : Span) (a : ArrayVariable) (p : Passed) → array_fits t c s a ≡ Ok p → p_array a s ≡ p
+pub array_let : (t : Elem) (c : Bool) (s : Span) (a : ArrayVariable) (p : Passed) → array_fits t c s a ≡ Ok p → p_array a s ≡ p
 array_let t c s a p e = let_through (same_elem a.ty.elem t) (a.constant && not c) (fault Mismatch s) (fault ConstAssigned s) (p_array a s) p e
 
-base_let : (stored : Bool) (s : Span) (a : ArrayVariable) (b : TBase) (p : Passed) → base_fits stored s a b ≡ Ok p → p_base b ≡ p
+pub base_let : (stored : Bool) (s : Span) (a : ArrayVariable) (b : TBase) (p : Passed) → base_fits stored s a b ≡ Ok p → p_base b ≡ p
 base_let stored s a b p e = let_through (same_elem a.ty.elem I32 || same_elem a.ty.elem U32) (a.constant && stored) (fault Mismatch s) (fault ConstAssigned s) (p_base b) p e
 
 base_few : (stored : Bool) (s : Span) (k : Known) (b : ArrayVariable → TBase) (n : ℕ) → ((a : ArrayVariable) → base_nodes (b a) ≤ n) → (p : Passed) → base_named stored s (array_of k) b ≡ Ok p
@@ -149,9 +149,10 @@ suits_few (Base stored) s (h_array a n) p e = subst (λ z. passed_nodes z ≤ 3)
 suits_few (Base stored) s (h_name k n) p e = base_few stored s k (λ a. t_whole a n) 3 (λ a. omega arith) p e
 suits_few (Base stored) s (h_element k n x) p e = base_few stored s k (λ a. t_from a x n) (suc (suc (suc (typed_nodes x)))) (λ a. omega arith) p e
 suits_few Destination s (h_name k n) p e = destination_few s k p e
-suits_few Anything s (h_value x) p e = subst (λ z. passed_nodes z ≤ suc (suc (typed_nodes x))) (ok_is _ p e) (omega arith)
-suits_few Anything s (h_run c) p e = subst (λ z. passed_nodes z ≤ suc (suc (call_nodes c))) (ok_is _ p e) (omega arith)
-suits_few Anything s (h_array a n) p e = subst (λ z. passed_nodes z ≤ 3) (ok_is _ p e) (omega arith)
+suits_few NoReference s (h_value x) p e = subst (λ z. passed_nodes z ≤ suc (suc (typed_nodes x))) (ok_is _ p e) (omega arith)
+suits_few NoReference s (h_run c) p e = subst (λ z. passed_nodes z ≤ suc (suc (call_nodes c))) (ok_is _ p e) (omega arith)
+suits_few NoReference s (h_array a n) p e = subst (λ z. passed_nodes z ≤ 3) (ok_is _ p e) (omega arith)
+suits_few Anything s h p e = subst (λ z. passed_nodes z ≤ suc (suc (handed_nodes h))) (ok_is _ p e) (omega arith)
 suits_few w s h p e = absurd (no_ok e)
 
 -- ---- calls
@@ -185,7 +186,7 @@ loaded_few s b k t p r e = let_through (same_elem t.elem (base_array b).ty.elem)
 
 call_few : (s : Span) (c : Callee) (ps : List Passed) (r : Called) → call_of s (c, ps) ≡ Ok r → called_nodes r ≤ suc (all_nodes ps)
 call_few s callees.Unknown ps r e = absurd (no_ok e)
-call_few s callees.Miscounted ps r e = absurd (no_ok e)
+call_few s (callees.Miscounted packed) ps r e = absurd (no_ok e)
 call_few s (callees.Function k (Err d)) ps r e = absurd (no_ok e)
 call_few s (callees.Function k (Ok t)) ps r e = subst (λ z. called_nodes z ≤ suc (all_nodes ps)) (ok_is _ r e) (function_few k s ps t)
 call_few s (callees.Library f) ps r e =
@@ -199,7 +200,7 @@ call_few s callees.PackedLoad ps r e = absurd (no_ok e)
 
 module _ (gang : Gang) (hs : List Heading) (ns : List Binding) where
   -- a call whose arguments are few
-  pub made_few : (w : Word) (xs : Arguments) (s : Span) (P : List Passed → Type 0) → ((ps : List Passed) → P ps → all_nodes ps ≤ 3 * nodes_of_row xs)
+  made_few : (w : Word) (xs : Arguments) (s : Span) (P : List Passed → Type 0) → ((ps : List Passed) → P ps → all_nodes ps ≤ 3 * nodes_of_row xs)
       → (r : Called) → IsCall hs w xs s P r → called_nodes r ≤ suc (3 * nodes_of_row xs)
   made_few w xs s P few r p = omega (arith, call_few s p.0.0 p.0.1 r p.2, few p.0.1 p.1.1)
 
@@ -218,7 +219,7 @@ module _ (gang : Gang) (hs : List Heading) (ns : List Binding) where
     expr_few (program_index s) t i = rw i (omega arith)
     expr_few (program_count s) t i = rw i (omega arith)
     expr_few (place p) t i = subst (λ z. Few z (nodes_of_place p)) (sym i.2) (place_is_few p i.0 i.1)
-    expr_few (call w xs s) t i = omega (arith, value_few s i.0 t i.2, made_few w xs s _ (λ ps. arguments_are_few (callee_at hs w xs).1 xs ps) i.0 i.1)
+    expr_few (call w xs s) t i = omega (arith, value_few s i.0 t i.2, made_few w xs s _ (λ ps. arguments_are_few (past_at hs w xs) (wants_at hs w xs) xs ps) i.0 i.1)
     expr_few (brackets x s) t i = subst (λ z. Few z (suc (nodes x))) (sym i.2) (omega (arith, expr_few x i.0 i.1))
     expr_few (cast k x s) t i = subst (λ z. Few z (suc (nodes x))) (sym i.2) (omega (arith, expr_few x i.0.1 i.1.1, converted_few i.0.0.elem i.0.1))
     expr_few (prefix op x s) t i = subst (λ z. Few z (suc (nodes x))) (sym i.2) (sign_few op s i.0 (nodes x) (expr_few x i.0 i.1))
@@ -235,13 +236,16 @@ module _ (gang : Gang) (hs : List Heading) (ns : List Binding) where
     argument_few : (x : Argument) (t : Handed) → IsArgument gang hs ns x t → suc (suc (handed_nodes t)) ≤ 3 * nodes_of_argument x
     argument_few (by_value (place (variable w))) t i = rw i.2 (omega (arith, handed_few w.span i.0))
     argument_few (by_value (call w xs s)) t i =
-        rw i.2 (omega (arith, handed_is i.0, made_few w xs s _ (λ ps. arguments_are_few (callee_at hs w xs).1 xs ps) i.0 i.1))
+        rw i.2 (omega (arith, handed_is i.0, made_few w xs s _ (λ ps. arguments_are_few (past_at hs w xs) (wants_at hs w xs) xs ps) i.0 i.1))
     argument_few (by_value x) t i = rw i.2 (expr_few x i.0 i.1)
     argument_few (by_reference (variable w) s) t i = rw i.2 (omega arith)
     argument_few (by_reference (element w x e) s) t i = rw i.2 (omega (arith, expr_few x i.0.1 i.1.1))
 
-    pub arguments_are_few : (ws : List Want) (xs : Arguments) (ps : List Passed) → AreArguments gang hs ns ws xs ps → all_nodes ps ≤ 3 * nodes_of_row xs
-    arguments_are_few ws no_arguments ps i = rw i (omega arith)
-    arguments_are_few ws (argument_then x xs) ps i =
+    arguments_are_few : (past : Want) (ws : List Want) (xs : Arguments) (ps : List Passed) → AreArguments gang hs ns past ws xs ps → all_nodes ps ≤ 3 * nodes_of_row xs
+    arguments_are_few past ws no_arguments ps i = rw i (omega arith)
+    arguments_are_few past ws (argument_then x xs) ps i =
         let one = i.1.0 in
-        rw i.2 (omega (arith, suits_few (first_want ws) (span_of_argument x) one.0 i.0.0 one.2, argument_few x one.0 one.1, arguments_are_few (rest_of ws) xs i.0.1 i.1.1))
+        rw i.2 (omega (arith, suits_few (first_want past ws) (span_of_argument x) one.0 i.0.0 one.2, argument_few x one.0 one.1, arguments_are_few past (rest_of ws) xs i.0.1 i.1.1))
+
+  pub call_of_few : (w : Word) (xs : Arguments) (s : Span) (r : Called) → IsCallOf gang hs ns w xs s r → called_nodes r ≤ suc (3 * nodes_of_row xs)
+  call_of_few w xs s r i = made_few w xs s _ (λ ps. arguments_are_few (past_at hs w xs) (wants_at hs w xs) xs ps) r i

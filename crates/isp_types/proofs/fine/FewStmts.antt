@@ -22,13 +22,15 @@ use Rattle.isp_exprs.specs.Words.{value_said, answer_said, type_declared}
 use Rattle.isp_exprs.specs.Scopes.{with_name}
 use Rattle.isp_exprs.specs.Places.{variable_at, element_at, unless_constant}
 use Rattle.isp_exprs.specs.Calls.{Heading, Called, gives, runs}
-use Rattle.isp_exprs.specs.Rules.{callee_at}
-use Rattle.isp_types.specs.Statements.{declared, or_nothing, item_names, item_variables, first_names, first_variables, range_names, range_variables, names_after, variables_after, stated, assigned_by, assignment_operator, as_answer, IsItem, AreItems, IsDeclaration, IsTarget, IsSimple, IsFirst, IsTest, AreRanges, AreValues, IsReturned, IsStmt, IsBlock, AreStmts}
+use Rattle.isp_types.specs.Numbering.{declared, or_nothing, item_names, item_variables, first_names, first_variables, range_names, range_variables, names_after, variables_after}
+use Rattle.isp_types.specs.Declarations.{IsItem, AreItems, IsDeclaration}
+use Rattle.isp_types.specs.Simple.{stated, assigned_by, assignment_operator, IsTarget, IsSimple}
+use Rattle.isp_types.specs.Statements.{as_answer, IsFirst, IsTest, AreRanges, AreValues, IsReturned, IsStmt, IsBlock, AreStmts}
 use Rattle.isp_typed.specs.Fine.{foreach_index as index, active_index}
 use Rattle.isp_types.specs.Functions.{param_variable, param_span, IsBody, IsFunction, AreFunctions}
 use Rattle.isp_types.proofs.fine.Simples.{open_is}
 use Rattle.isp_types.proofs.fine.Passed.{no_ok}
-use Rattle.isp_types.proofs.fine.FewExprs.{FewPlace, converted_few, place_few, element_few, called_nodes, made_few, expr_few, arguments_are_few}
+use Rattle.isp_types.proofs.fine.FewExprs.{FewPlace, converted_few, place_few, element_few, called_nodes, call_of_few, expr_few}
 
 assigned_few : (o : Option BinOp) (s : Span) (p : TPlace) (x : TExpr) → simple_nodes (assigned_by o s (p, x)) ≤ suc (place_nodes p + typed_nodes x)
 assigned_few None s p x = omega (arith, converted_few (place_type p).elem x)
@@ -61,7 +63,7 @@ module _ (gang : Gang) (hs : List Heading) where
 
   simple_few : (ns : List Binding) (p : Simple) (t : TSimple) → IsSimple gang hs ns p t → simple_nodes t ≤ 3 * nodes_of_simple p
   simple_few ns (value (call w xs s)) t i =
-      rw i.2 (omega (arith, stated_is i.0, made_few gang hs ns w xs s _ (λ ps. arguments_are_few gang hs ns (callee_at hs w xs).1 xs ps) i.0 i.1))
+      rw i.2 (omega (arith, stated_is i.0, call_of_few gang hs ns w xs s i.0 i.1))
   simple_few ns (value x) t i = rw i.2 (omega (arith, expr_few gang hs ns x i.0 i.1))
   simple_few ns (assign a x y s) t i =
       rw i.2 (omega (arith, assigned_few (assignment_operator a) s i.0.0 i.0.1, target_few ns x i.0.0 i.1.0, expr_few gang hs ns y i.0.1 i.1.1))

@@ -18,7 +18,7 @@ use Rattle.isp_exprs.specs.declared.words.ValueWords.{ValueWords}
 use Rattle.isp_exprs.specs.Words.{value_said, answer_said, type_declared}
 use Rattle.isp_exprs.specs.Scopes.{with_name}
 use Rattle.isp_exprs.specs.Calls.{Heading}
-use Rattle.isp_types.specs.Statements.{declared, block_variables}
+use Rattle.isp_types.specs.Numbering.{declared, block_variables}
 use Rattle.isp_types.specs.Functions.{param_variable, param_want, parameter_of, heading, variables_of, param_span, IsBody, IsFunction, AreFunctions, IsProgram}
 use Rattle.isp_types.proofs.NamesKept.{Grown, same, then as and_then}
 use Rattle.isp_types.proofs.fine.Names.{InScope, no_names, name_added}
@@ -37,18 +37,18 @@ abbrev AreSaid : List Param → Type 0
 AreSaid [] = Unit {0}
 AreSaid (p ∷ ps) = ((w : ValueWords) × (value_said p.ty ≡ Ok w)) × AreSaid ps
 
-abbrev params_after : List Variable → List Param → List Variable
+abbrev pub params_after : List Variable → List Param → List Variable
 params_after vars [] = vars
 params_after vars (p ∷ ps) = params_after (vars ++ param_variable p ∷ []) ps
 
-params_are : (vars : List Variable) (ps : List Param) → params_after vars ps ≡ vars ++ map param_variable ps
+pub params_are : (vars : List Variable) (ps : List Param) → params_after vars ps ≡ vars ++ map param_variable ps
 params_are vars [] = sym (append-nil vars)
 params_are vars (p ∷ ps) = params_are (vars ++ param_variable p ∷ []) ps ∙ append_assoc vars (param_variable p ∷ []) (map param_variable ps)
 
 params_grow : (vars : List Variable) (ps : List Param) → Grown vars (params_after vars ps)
 params_grow vars ps = record { more = map param_variable ps; is = params_are vars ps }
 
-declared_is : (r : Result ValueWords Fault) (w : ValueWords) (v : Variable) → r ≡ Ok w → declared r v ≡ Ok v
+pub declared_is : (r : Result ValueWords Fault) (w : ValueWords) (v : Variable) → r ≡ Ok w → declared r v ≡ Ok v
 declared_is (Ok u) w v e = refl
 declared_is (Err f) w v e = absurd (no_ok e)
 

@@ -18,7 +18,7 @@ use Rattle.isp_typed.specs.Typed.{TExpr, TPlace, TFunction, TBase, t_whole, t_fr
 use Rattle.isp_typed.specs.Fine.{FineExpr, FinePlace, FineBase, FineCall, HoldsArray, HoldsValue, array_type}
 use Rattle.isp_exprs.specs.declared.scope.Known.{Known}
 use Rattle.isp_exprs.specs.declared.callee.Want.{Want}
-use Rattle.isp_exprs.specs.declared.callee.Want.TheVariants.{AnyValue, ValueOf, ArrayOf, Base, Destination, Anything}
+use Rattle.isp_exprs.specs.declared.callee.Want.TheVariants.{AnyValue, ValueOf, ArrayOf, Base, Destination, NoReference, Anything}
 use Rattle.isp_exprs.specs.Places.{as_array, array_of, variable_at, element_at}
 use Rattle.isp_exprs.specs.Calls.{Handed, h_value, h_run, h_array, h_name, h_element, handed_name, Passed, p_value, p_array, p_base, p_destination, p_unasked, array_fits, base_fits, base_named, destination, suits}
 use Rattle.isp_base.proofs.RankLaws.{same_is}
@@ -94,6 +94,7 @@ module _ (gs : List TFunction) (all : List Variable) where
   Suited (ArrayOf e c) (p_array a s) = HoldsArray all a × (a.ty.elem ≡ e) × ((a.constant && not c) ≡ false)
   Suited (Base stored) (p_base b) = FineBase gs all b × (((base_array b).constant && stored) ≡ false)
   Suited Destination (p_destination k t s) = IsKnown all k × (k.variable.holds ≡ holds.Value t) × (t.rate ≡ Varying)
+  Suited NoReference p_unasked = Unit {0}
   Suited Anything p_unasked = Unit {0}
   Suited w p = ⊥
 
@@ -147,7 +148,8 @@ module _ (gs : List TFunction) (all : List Variable) where
   suits_fine (Base stored) s (h_name k n) f p q = named_suits stored s k f (λ a. t_whole a n) (λ a. refl) (λ a h d. (h, d)) p q
   suits_fine (Base stored) s (h_element k n x) f p q = named_suits stored s k f.0 (λ a. t_from a x n) (λ a. refl) (λ a h d. (h, f.1, d)) p q
   suits_fine Destination s (h_name k n) f p q = destination_suits s k f p q
-  suits_fine Anything s (h_value x) f p q = subst (Suited Anything) (ok_is _ p q) tt
-  suits_fine Anything s (h_run x) f p q = subst (Suited Anything) (ok_is _ p q) tt
-  suits_fine Anything s (h_array a n) f p q = subst (Suited Anything) (ok_is _ p q) tt
+  suits_fine NoReference s (h_value x) f p q = subst (Suited NoReference) (ok_is _ p q) tt
+  suits_fine NoReference s (h_run x) f p q = subst (Suited NoReference) (ok_is _ p q) tt
+  suits_fine NoReference s (h_array a n) f p q = subst (Suited NoReference) (ok_is _ p q) tt
+  suits_fine Anything s h f p q = subst (Suited Anything) (ok_is _ p q) tt
   suits_fine w s h f p q = absurd (no_ok q)

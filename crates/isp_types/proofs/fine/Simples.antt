@@ -28,15 +28,17 @@ use Rattle.isp_exprs.specs.Scopes.{with_name}
 use Rattle.isp_exprs.specs.Values.{converted}
 use Rattle.isp_exprs.specs.Places.{array_of, variable_at, element_at, unless_constant}
 use Rattle.isp_exprs.specs.Calls.{Heading, Called, gives, runs}
-use Rattle.isp_exprs.specs.Rules.{callee_at}
-use Rattle.isp_types.specs.Statements.{size_number, array_sized, item_names, item_variables, items_names, items_variables, first_names, first_variables, range_names, range_variables, stated, assigned_by, assignment_operator, IsItem, AreItems, IsDeclaration, IsTarget, IsSimple, IsFirst, AreRanges, AreValues}
+use Rattle.isp_types.specs.Numbering.{size_number, item_names, item_variables, items_names, items_variables, first_names, first_variables, range_names, range_variables}
+use Rattle.isp_types.specs.Declarations.{array_sized, IsItem, AreItems, IsDeclaration}
+use Rattle.isp_types.specs.Simple.{stated, assigned_by, assignment_operator, IsTarget, IsSimple}
+use Rattle.isp_types.specs.Statements.{IsFirst, AreRanges, AreValues}
 use Rattle.isp_types.proofs.NamesKept.{Grown, same, then as and_then, one_more}
 use Rattle.isp_types.proofs.fine.Names.{InScope, named_is, name_added, get_next}
 use Rattle.isp_types.proofs.fine.Callees.{Headed, and_true}
 use Rattle.isp_types.proofs.fine.Values.{BareExpr, converted_elem, converted_fine, common_whole}
 use Rattle.isp_types.proofs.fine.Passed.{ok_is, no_ok, some_is, no_some, IsKnown, element_known}
 use Rattle.isp_types.proofs.fine.Calls.{FineCalled}
-use Rattle.isp_types.proofs.fine.Exprs.{made_fine, expr_fine, arguments_fine}
+use Rattle.isp_types.proofs.fine.Exprs.{call_of_fine, expr_fine}
 
 -- ---- variables only grow
 
@@ -138,7 +140,7 @@ module _ (gang : Gang) (hs : List Heading) (gs : List TFunction) (all : List Var
 
     pub simple_fine : (p : Simple) → IsSoundSimple p → (t : TSimple) → IsSimple gang hs ns p t → FineSimple gs all t
     simple_fine (value (call w xs s)) h t i = subst (FineSimple gs all) (sym i.2)
-        (stated_fine i.0 (made_fine gang hs gs all ns headed scope w xs s h.2 _ (λ ps. arguments_fine gang hs gs all ns headed scope (callee_at hs w xs).1 xs h.1 ps) i.0 i.1))
+        (stated_fine i.0 (call_of_fine gang hs gs all ns headed scope w xs s h.1 h.2 i.0 i.1))
     simple_fine (value x) h t i = subst (FineSimple gs all) (sym i.2) (expr_fine gang hs gs all ns headed scope x h i.0 i.1).0
     simple_fine (assign a x y s) h t i = subst (FineSimple gs all) (sym i.2)
         (assigned_fine (assignment_operator a) s h.2 i.0.0 i.0.1 (target_fine x h.0 i.0.0 i.1.0) (expr_fine gang hs gs all ns headed scope y h.1 i.0.1 i.1.1))

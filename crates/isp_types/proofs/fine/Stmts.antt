@@ -13,7 +13,9 @@ use Rattle.isp_typed.specs.Fine.{FineValue, FineFirst, FineSimple, FineReturned,
 use Rattle.isp_exprs.specs.declared.scope.Binding.{Binding}
 use Rattle.isp_exprs.specs.Scopes.{with_name}
 use Rattle.isp_exprs.specs.Calls.{Heading}
-use Rattle.isp_types.specs.Statements.{first_names, first_variables, range_names, range_variables, names_after, variables_after, block_variables, stmts_variables, places, IsTest, IsSimple, IsFirst, AreValues, IsReturned, IsStmt, IsBlock, AreStmts}
+use Rattle.isp_types.specs.Numbering.{first_names, first_variables, range_names, range_variables, names_after, variables_after, block_variables, stmts_variables}
+use Rattle.isp_types.specs.Simple.{IsSimple}
+use Rattle.isp_types.specs.Statements.{places, IsTest, IsFirst, AreValues, IsReturned, IsStmt, IsBlock, AreStmts}
 use Rattle.isp_exprs.specs.Words.{value_said}
 use Rattle.isp_typed.specs.Forms.{Perhaps}
 use Rattle.isp_types.proofs.NamesKept.{Grown, same, then as and_then, one_more}

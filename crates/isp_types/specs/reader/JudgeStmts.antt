@@ -19,11 +19,15 @@ use Rattle.isp_exprs.specs.Words.{value_said, type_declared}
 use Rattle.isp_exprs.specs.Scopes.{named, is_new, with_name}
 use Rattle.isp_exprs.specs.Places.{variable_target, element_target}
 use Rattle.isp_exprs.specs.Calls.{Heading}
-use Rattle.isp_exprs.specs.Rules.{second, callee_at, pair_then}
-use Rattle.isp_types.specs.Statements.{or_nothing, array_sized, item_names, item_variables, first_names, first_variables, range_names, range_variables, names_after, variables_after, with_initial, sized_item, as_test, stated, assigned, stepped, range_made, places, agrees, as_answer}
+use Rattle.isp_exprs.specs.Rules.{second, pair_then}
+use Rattle.isp_types.specs.Numbering.{or_nothing, item_names, item_variables, first_names, first_variables, range_names, range_variables, names_after, variables_after}
+use Rattle.isp_types.specs.Declarations.{array_sized, with_initial, sized_item}
+use Rattle.isp_types.specs.Simple.{stated, assigned, stepped}
+use Rattle.isp_types.specs.Statements.{as_test, range_made, places, agrees, as_answer}
 use Rattle.isp_typed.specs.Fine.{foreach_index as index, active_index}
-use Rattle.isp_types.specs.Statements.{no_place, declared_first, declared_stmt, simple_stmt, if_stmt, if_else_stmt, while_stmt, do_stmt, for_stmt, foreach_stmt, active_stmt, unmasked_stmt, return_stmt, print_stmt, assert_stmt, braces_made, stmts_made}
-use Rattle.isp_exprs.specs.reader.Judge.{judge_call, judge, judge_arguments}
+use Rattle.isp_types.specs.Simple.{no_place}
+use Rattle.isp_types.specs.Nodes.{declared_first, declared_stmt, simple_stmt, if_stmt, if_else_stmt, while_stmt, do_stmt, for_stmt, foreach_stmt, active_stmt, unmasked_stmt, return_stmt, print_stmt, assert_stmt, braces_made, stmts_made}
+use Rattle.isp_exprs.specs.reader.Judge.{judge_call_of, judge}
 
 -- the fault of a name that is not new
 abbrev pub twice : Word → ℕ → List Binding → Option Fault
@@ -55,7 +59,7 @@ module _ (gang : Gang) (hs : List Heading) where
   judge_target ns x = found (no_place (span_of x)) (judge gang hs ns x)
 
   abbrev pub judge_simple : List Binding → Simple → Result TSimple Fault
-  judge_simple ns (value (call w xs s)) = made stated (judge_call hs w xs s (judge_arguments gang hs ns (callee_at hs w xs).1 xs))
+  judge_simple ns (value (call w xs s)) = made stated (judge_call_of gang hs ns w xs s)
   judge_simple ns (value x) = made t_value (judge gang hs ns x)
   judge_simple ns (assign a t x s) = made (assigned a s) (both (judge_target ns t) (judge gang hs ns x))
   judge_simple ns (change c t s) = made (stepped c s) (judge_target ns t)

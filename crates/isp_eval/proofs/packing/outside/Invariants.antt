@@ -1,7 +1,7 @@
 use Rattle.std.proofs.Common.{false}
 use Rattle.isp_base.specs.Sets.{flag_of}
 use Rattle.isp_base.specs.Values.{number}
-use Rattle.isp_meaning.specs.Expressions.{packed_outside}
+use Rattle.isp_base.specs.Cross.{packed_outside}
 use Rattle.isp_gang.proofs.Made.{Made}
 use Rattle.isp_eval.proofs.packing.outside.Given as goal
 

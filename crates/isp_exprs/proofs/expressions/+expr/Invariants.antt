@@ -9,5 +9,5 @@ use Rattle.isp_exprs.proofs.expressions.+expr.Given as goal
 
 abbrev pub invariant-arguments-loop-place : goal.invariant-arguments-loop-place
 invariant-arguments-loop-place l =
-    before (made (λ v. list_passed v.items) l.done) (judge_arguments l.setting.gang l.setting.headers.now l.scope (drop l.place l.wants) (listed (arguments_of (drop l.place l.all))))
-    ≡ judge_arguments l.setting.gang l.setting.headers.now l.scope l.wants (listed (arguments_of l.all))
+    before (made (λ v. list_passed v.items) l.done) (judge_arguments l.setting.gang l.setting.headers.now l.scope l.past (drop l.place l.wants) (listed (arguments_of (drop l.place l.all))))
+    ≡ judge_arguments l.setting.gang l.setting.headers.now l.scope l.past l.wants (listed (arguments_of l.all))

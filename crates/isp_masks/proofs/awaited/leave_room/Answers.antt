@@ -1,8 +1,8 @@
-use Rattle.std.proofs.Common.{[], ◌∷◌, ◌++◌, ap, ◌∙◌}
+use Rattle.std.proofs.Common.{[], ◌∷◌, ◌++◌, ap, ◌∙◌, subst}
 use Rattle.isp_code.specs.declared.instr.Instr.TheVariants as instr
 use Rattle.isp_code.specs.declared.instr.JumpTest.TheVariants as jump
+use Rattle.isp_lower.specs.Emitted.{Appends}
 use Rattle.isp_masks.proofs.Awaiting.{awaits_room}
-use Rattle.isp_lower.proofs.Following.{pushed_is}
 use Rattle.isp_masks.proofs.awaited.leave_room.Goals as goal
 
 pub returns-in_ok-push-2 : goal.returns-in_ok-push-2
@@ -10,4 +10,4 @@ returns-in_ok-push-2 c = λ o d s x.
     rw (c.if-left.true)
     (awaits_room o c.args.b.now c.push-then-left.new.self c.args.jumps.now.items c.push.new.self.items c.args.k d s x
     (c.in_ok-push.ensures.items ∙ ap (λ m. c.args.jumps.now.items ++ m ∷ []) (c.len.ensures ∙ c.args.b.now.code.ok.0))
-    (pushed_is _ _ _ _ (ap (λ r. instr.JumpIf jump.Off r 0) c.mask.ensures) c.in_ok-push-2.ensures))
+    (subst (λ i. Appends c.args.b.now c.push-then-left.new.self (λ pc n. i ∷ []) []) (ap (λ r. instr.JumpIf jump.Off r 0) c.mask.ensures) c.in_ok-push-2.ensures))

@@ -11,8 +11,8 @@ returns c =
     let all = c.in_ok-add_functions.ensures in
     let some = c.in_ok-add_places.ensures in
     let empty = c.new-code.ensures in
-    has_code (program_of c.args.program.now) c.add_functions.new.code (map routine_of c.in_ok-listing.all.items) c.in_ok-listing.listing.places
-    (subst (λ fs. AreLowered (functions_of fs) (map routine_of c.in_ok-listing.all.items) c.in_ok-listing.listing.places) c.deref.ensures.value c.in_ok-listing.ensures)
+    has_code (program_of c.args.program.now) c.add_functions.new.code (map routine_of c.in_ok-body.all.items) c.in_ok-body.body.places.items
+    (subst (λ fs. AreLowered (functions_of fs) (map routine_of c.in_ok-body.all.items) c.in_ok-body.body.places.items) c.deref.ensures.value c.in_ok-body.ensures)
     (ap (λ (z : Listing). z.gang) all ∙ ap (λ (z : Listing). z.gang) some ∙ ap (λ (z : Listing). z.gang) empty)
-    (ap (λ (z : Listing). z.routines) all ∙ ap (λ (z : Listing). z.routines ++ map routine_of c.in_ok-listing.all.items) some ∙ ap (λ (z : Listing). z.routines ++ map routine_of c.in_ok-listing.all.items) empty)
-    (ap (λ (z : Listing). z.places) all ∙ ap (λ (z : Listing). z.places) some ∙ ap (λ (z : Listing). z.places ++ c.places.result.now) empty ∙ c.places.ensures)
+    (ap (λ (z : Listing). z.routines) all ∙ ap (λ (z : Listing). z.routines ++ map routine_of c.in_ok-body.all.items) some ∙ ap (λ (z : Listing). z.routines ++ map routine_of c.in_ok-body.all.items) empty)
+    (ap (λ (z : Listing). z.places) all ∙ ap (λ (z : Listing). z.places) some ∙ ap (λ (z : Listing). z.places ++ c.as_slice.result.now) empty ∙ c.as_slice.ensures.value)

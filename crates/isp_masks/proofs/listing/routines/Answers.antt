@@ -3,5 +3,5 @@ use Rattle.isp_masks.proofs.listing.routines.Goals as goal
 
 pub loop-f-preserved : goal.loop-f-preserved
 loop-f-preserved c =
-    routines_step c.args.functions.now c.loop-f.f-index c.f-item.result c.loop-f.all.items c.push.new.self.items c.in_ok-more.one c.loop-f.listing.places c.in_ok-more.more.places c.loop-f-test.true c.f-item.is
-    c.loop-f.invariant c.in_ok-more.ensures.places c.in_ok-more.ensures.lowered c.in_ok-push.ensures.items
+    routines_step c.args.functions.now c.loop-f.f-index c.f-item.result c.loop-f.all.items c.push.new.self.items c.in_ok-one.one c.loop-f.b.places.items c.function.new.b.places.items c.loop-f-test.true c.f-item.is
+    c.loop-f.invariant c.in_ok-one.ensures.places c.in_ok-one.ensures.lowered c.in_ok-push.ensures.items

@@ -1,12 +1,12 @@
--- The recursion goes down the tree. In the loop: where there is what the statements that are left ask for, there is what all
--- ask for.
+-- The recursion goes down the tree. In the loop: who is given what the statements that are left ask for, is given what all ask
+-- for.
 use Rattle.std.proofs.Common.{◌+◌, ◌-◌, ◌*◌, drop}
 use Rattle.isp_typed.specs.Nodes.{stmt_nodes, block_nodes}
 use Rattle.isp_typed.specs.Typed.{t_stmts}
 use Rattle.isp_typed.specs.Views.{block_of, stmt_of, stmts_of}
-use Rattle.isp_lower.specs.Reserved.{Adds}
+use Rattle.isp_lower.specs.Reserved.{Gives}
 use Rattle.isp_lower.specs.declared.reserve.Reserve.{Reserve}
-use Rattle.isp_masks.specs.Reserved.{HasStmts}
+use Rattle.isp_masks.specs.Asks.{stmts_asks}
 use Rattle.isp_masks.proofs.reserved.+stmt.Given as goal
 
 abbrev pub decreases-stmt : goal.decreases-stmt
@@ -23,4 +23,4 @@ decreases-two_sides l = 4 * (stmt_nodes (stmt_of l.then.now) + stmt_nodes (stmt_
 
 abbrev pub invariant-block-loop-x : goal.invariant-block-loop-x
 invariant-block-loop-x l =
-    Adds l.initial.r l.r × ((c : Reserve) → Adds l.r c → HasStmts c l.answer (t_stmts (stmts_of (drop l.x-index l.x-items))) l.slot → HasStmts c l.answer (t_stmts (stmts_of l.x-items)) l.slot)
+    (c : Reserve) → Gives l.r c (stmts_asks l.answer (t_stmts (stmts_of (drop l.x-index l.x-items))) l.slot) → Gives l.initial.r c (stmts_asks l.answer (t_stmts (stmts_of l.x-items)) l.slot)

@@ -1,38 +1,51 @@
--- The recursion goes down the tree. In the loop: the statements so far, with their jumps to the end not written yet.
-use Rattle.std.proofs.Common.{◌≡◌, ◌+◌, ◌-◌, ◌*◌, take, false}
+-- The recursion goes down the tree. In the loop: the statements so far, with their jumps to the end not written yet, and what
+-- the others ask for is there.
+use Rattle.std.proofs.Common.{◌≡◌, ◌+◌, ◌-◌, ◌*◌, take, drop, false}
 use Rattle.isp_typed.specs.Nodes.{stmt_nodes, block_nodes}
 use Rattle.isp_typed.specs.Typed.{t_stmts}
 use Rattle.isp_typed.specs.Views.{block_of, stmt_of, stmts_of}
+use Rattle.isp_lower.specs.Emitted.{Present, layout}
+use Rattle.isp_masks.specs.Asks.{stmts_asks}
 use Rattle.isp_masks.specs.Awaited.{Awaits}
 use Rattle.isp_masks.specs.Statements.{stmts_places}
 use Rattle.isp_masks.proofs.Lists.{flat, left_after}
 use Rattle.isp_masks.proofs.statement.+stmt.Given as goal
 
 abbrev pub decreases-stmt : goal.decreases-stmt
-decreases-stmt l = 4 * stmt_nodes (stmt_of l.x.now)
+decreases-stmt l = 8 * stmt_nodes (stmt_of l.x.now)
 
 abbrev pub decreases-block : goal.decreases-block
-decreases-block l = 4 * block_nodes (block_of l.body.now) - 1
+decreases-block l = 8 * block_nodes (block_of l.body.now) - 1
 
 abbrev pub decreases-if_alone : goal.decreases-if_alone
-decreases-if_alone l = 4 * stmt_nodes (stmt_of l.then.now) + 3
+decreases-if_alone l = 8 * stmt_nodes (stmt_of l.then.now) + 4
 
 abbrev pub decreases-part_by : goal.decreases-part_by
-decreases-part_by l = 4 * stmt_nodes (stmt_of l.then.now) + 2
+decreases-part_by l = 8 * stmt_nodes (stmt_of l.then.now) + 3
+
+abbrev pub decreases-part_by_jump : goal.decreases-part_by_jump
+decreases-part_by_jump l = 8 * stmt_nodes (stmt_of l.then.now) + 2
+
+abbrev pub decreases-part_by_mask : goal.decreases-part_by_mask
+decreases-part_by_mask l = 8 * stmt_nodes (stmt_of l.then.now) + 2
 
 abbrev pub decreases-under_mask : goal.decreases-under_mask
-decreases-under_mask l = 4 * stmt_nodes (stmt_of l.x.now) + 1
+decreases-under_mask l = 8 * stmt_nodes (stmt_of l.x.now) + 1
 
 abbrev pub decreases-if_else : goal.decreases-if_else
-decreases-if_else l = 4 * (stmt_nodes (stmt_of l.then.now) + stmt_nodes (stmt_of l.otherwise.now)) + 3
+decreases-if_else l = 8 * (stmt_nodes (stmt_of l.then.now) + stmt_nodes (stmt_of l.otherwise.now)) + 4
+
+abbrev pub decreases-parts_by : goal.decreases-parts_by
+decreases-parts_by l = 8 * (stmt_nodes (stmt_of l.then.now) + stmt_nodes (stmt_of l.otherwise.now)) + 3
 
 abbrev pub decreases-one_of : goal.decreases-one_of
-decreases-one_of l = 4 * (stmt_nodes (stmt_of l.then.now) + stmt_nodes (stmt_of l.otherwise.now)) + 2
+decreases-one_of l = 8 * (stmt_nodes (stmt_of l.then.now) + stmt_nodes (stmt_of l.otherwise.now)) + 2
 
 abbrev pub decreases-parted : goal.decreases-parted
-decreases-parted l = 4 * (stmt_nodes (stmt_of l.then.now) + stmt_nodes (stmt_of l.otherwise.now)) + 2
+decreases-parted l = 8 * (stmt_nodes (stmt_of l.then.now) + stmt_nodes (stmt_of l.otherwise.now)) + 2
 
 abbrev pub invariant-block-loop-x : goal.invariant-block-loop-x
 invariant-block-loop-x l =
-    Awaits l.initial.b l.b l.jumps.items l.k (λ t lay pc p. flat l.answer l.k l.co l.rr l.slot t lay false (stmts_of (take l.x-index l.x-items)) pc p) (λ lay. stmts_places lay (t_stmts (stmts_of (take l.x-index l.x-items))))
+    Awaits l.initial.b l.b l.jumps.items l.spot.masks.on (λ t pc p. flat l.on.answer l.spot.masks.on l.spot.masks.continued l.spot.masks.returned l.spot.slot t (layout l.on) false (stmts_of (take l.x-index l.x-items)) pc p) (stmts_places (layout l.on) (t_stmts (stmts_of (take l.x-index l.x-items))))
     × (l.left ≡ left_after false (stmts_of (take l.x-index l.x-items)))
+    × Present l.on (stmts_asks l.on.answer (t_stmts (stmts_of (drop l.x-index l.x-items))) l.spot.slot)

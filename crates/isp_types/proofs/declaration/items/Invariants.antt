@@ -2,7 +2,7 @@ use Rattle.std.proofs.Common.{◌≡◌, drop, map}
 use Rattle.isp_tree.specs.Views.{item_of as read_item}
 use Rattle.isp_typed.specs.Verdicts.{made}
 use Rattle.isp_typed.specs.Views.{items_of}
-use Rattle.isp_types.specs.Statements.{items_names, items_variables}
+use Rattle.isp_types.specs.Numbering.{items_names, items_variables}
 use Rattle.isp_types.specs.reader.JudgeStmts.{judge_items}
 use Rattle.isp_exprs.proofs.Gathered.{before}
 use Rattle.isp_types.proofs.declaration.items.Given as goal

@@ -5,7 +5,7 @@ use Rattle.std.specs.Vec.Iter.{into_iter_items, into_iter_len}
 use Rattle.isp_tree.specs.Views.{range_of as read_range}
 use Rattle.isp_typed.specs.Views.{ranges_of}
 use Rattle.isp_typed.specs.Verdicts.{made}
-use Rattle.isp_types.specs.Statements.{range_names, range_variables}
+use Rattle.isp_types.specs.Numbering.{range_names, range_variables}
 use Rattle.isp_types.specs.reader.JudgeStmts.{judge_ranges}
 use Rattle.isp_types.specs.reader.Boxes.{boxed_pair}
 use Rattle.isp_types.specs.reader.Lists.{judge_bounds}

@@ -5,6 +5,7 @@ use Rattle.isp_typed.specs.Views.{functions_of}
 use Rattle.isp_types.specs.Functions.{IsProgram, Breach}
 use Rattle.isp_types.proofs.FunctionSteps.{accepted, refused, ok_seen, err_seen, fault_is}
 use Rattle.isp_types.proofs.fine.Functions.{program_fine}
+use Rattle.isp_types.proofs.scoped.Functions.{program_scoped}
 use Rattle.isp_types.proofs.program.resolve.Goals as goal
 
 pub returns-in-Ok-clause-accepted : goal.returns-in-Ok-clause-accepted
@@ -25,4 +26,4 @@ new-requires c =
     let fs = map read_function c.args.tree.now in
     let a = accepted c.args.gang fs (functions_of c.in-Ok.functions.items)
     (ok_seen (λ l. functions_of l.items) _ _ _ c.in-Ok.is (rw (c.in_ok-headers.ensures, c.functions.ensures.functions, c.functions-2.ensures.functions) at c.in_ok-functions.ensures)) in
-    record { fine = program_fine c.args.gang fs _ c.functions.ensures.sound a.is }
+    record { fine = program_fine c.args.gang fs _ c.functions.ensures.sound a.is; scoped = program_scoped c.args.gang fs _ c.functions.ensures.sound a.is }

@@ -5,7 +5,8 @@ use Rattle.isp_tree.specs.Views.{expr_of as read_expr, first_of as read_first, r
 use Rattle.isp_typed.specs.Typed.{TFirst, TStmt}
 use Rattle.isp_typed.specs.Verdicts.{made, perhaps}
 use Rattle.isp_typed.specs.Views.{stmt_of as typed_stmt_of}
-use Rattle.isp_types.specs.Statements.{braces_made, block_variables, first_names, first_variables, range_names, names_after, variables_after, if_stmt, if_else_stmt, while_stmt, do_stmt, for_stmt}
+use Rattle.isp_types.specs.Numbering.{block_variables, first_names, first_variables, range_names, names_after, variables_after}
+use Rattle.isp_types.specs.Nodes.{braces_made, if_stmt, if_else_stmt, while_stmt, do_stmt, for_stmt}
 use Rattle.isp_types.specs.reader.JudgeStmts.{judge_block, judge_first, judge_stmt, judge_test}
 use Rattle.isp_types.proofs.NamesKept.{names_kept, first_kept, ranges_kept, kept_then}
 use Rattle.isp_types.proofs.StmtParts.{joined_parts, joined_for, both_are, left_again, test_judged, body_judged, rest_judged}

@@ -3,7 +3,7 @@ use Rattle.isp_tree.specs.Tree.{all}
 use Rattle.isp_tree.specs.Views.{stmts_of as read_stmts}
 use Rattle.isp_typed.specs.Verdicts.{made}
 use Rattle.isp_typed.specs.Views.{stmts_of}
-use Rattle.isp_types.specs.Statements.{stmts_variables}
+use Rattle.isp_types.specs.Numbering.{stmts_variables}
 use Rattle.isp_types.specs.reader.JudgeStmts.{judge_stmts}
 use Rattle.isp_types.proofs.StmtSteps.{joined}
 use Rattle.isp_types.proofs.stmt.+stmt.Given as goal

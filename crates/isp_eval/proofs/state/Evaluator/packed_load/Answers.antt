@@ -1,11 +1,10 @@
 use Rattle.std.proofs.Common.{ℕ, List, Vec, Global, sym, ap, ap₂, ◌∙◌, unsigned_abs}
-use Rattle.isp_base.specs.Cross.{packed_index, rank}
+use Rattle.isp_base.specs.Cross.{packed_index, rank, packed_outside}
 use Rattle.isp_base.specs.Maps.{Map, on}
 use Rattle.isp_base.specs.Sets.{flag_of, lowest}
 use Rattle.isp_base.specs.Types.{gang_width}
 use Rattle.isp_base.specs.Values.{number}
 use Rattle.isp_base.specs.declared.types.Gang.{Gang}
-use Rattle.isp_meaning.specs.Expressions.{packed_outside}
 use Rattle.isp_meaning.specs.Payloads.{One, Each}
 use Rattle.isp_gang.specs.Seen.{map_of}
 use Rattle.isp_eval.specs.Passing.{packs_from}

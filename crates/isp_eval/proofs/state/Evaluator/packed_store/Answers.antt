@@ -5,7 +5,7 @@ use Rattle.isp_base.specs.Sets.{flag_of, lowest}
 use Rattle.isp_base.specs.Types.{gang_width}
 use Rattle.isp_base.specs.Values.{number}
 use Rattle.isp_base.specs.declared.types.Gang.{Gang}
-use Rattle.isp_meaning.specs.Expressions.{packed_outside}
+use Rattle.isp_base.specs.Cross.{packed_outside}
 use Rattle.isp_gang.specs.Seen.{map_of}
 use Rattle.isp_eval.specs.Packing.{places_at}
 use Rattle.isp_eval.specs.Stores.{stores_of}

@@ -2,7 +2,8 @@ use Rattle.std.proofs.Common.{◌++◌, map, ap, ◌∙◌}
 use Rattle.isp_base.specs.Sets.{flag_of}
 use Rattle.isp_base.specs.Types.{gang_width}
 use Rattle.isp_typed.specs.Views.{exprs_of}
-use Rattle.isp_meaning.specs.Printing.{print_text, shown_all}
+use Rattle.isp_base.specs.Prints.{print_text}
+use Rattle.isp_meaning.specs.Printing.{shown_all}
 use Rattle.isp_gang.specs.Seen.{payload_of}
 use Rattle.isp_eval.proofs.Arms.{print_comes}
 use Rattle.isp_eval.proofs.state.Evaluator.print.Goals as goal

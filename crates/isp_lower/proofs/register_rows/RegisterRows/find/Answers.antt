@@ -17,7 +17,7 @@ returns-in-Some-clause-number c =
     let at = ap (λ z. slice_get z place) (sym c.as_slice.ensures.value) ∙ (sym c.row_at.ensures ∙ c.in-Some.is) in
     let stands = slice_get-map row_of rows place ∙ ap (option_map row_of) at in
     let same = eq-eqb (name_number (name_of row.name)) (name_number (name_of c.args.name)) (sym c.name_number.ensures ∙ (c.if-name_number-number.true ∙ c.name_number-number.ensures)) in
-    rw (← c.self.view_is) (found_number c.self.inside.places (map row_of rows) (name_of c.args.name) c.self.invariant place (row_of row) told stands same)
+    rw (← c.self.view_is) (found_number c.self.inside.places (map row_of rows) (name_of c.args.name) c.self.invariant.0 place (row_of row) told stands same)
 
 pub returns-in-Some-clause-elem : goal.returns-in-Some-clause-elem
 returns-in-Some-clause-elem c =
@@ -28,7 +28,7 @@ returns-in-Some-clause-elem c =
     let at = ap (λ z. slice_get z place) (sym c.as_slice.ensures.value) ∙ (sym c.row_at.ensures ∙ c.in-Some.is) in
     let stands = slice_get-map row_of rows place ∙ ap (option_map row_of) at in
     let same = eq-eqb (name_number (name_of row.name)) (name_number (name_of c.args.name)) (sym c.name_number.ensures ∙ (c.if-name_number-number.true ∙ c.name_number-number.ensures)) in
-    rw (← c.self.view_is) (found_elem c.self.inside.places (map row_of rows) (name_of c.args.name) c.self.invariant place (row_of row) told stands same)
+    rw (← c.self.view_is) (found_elem c.self.inside.places (map row_of rows) (name_of c.args.name) c.self.invariant.0 place (row_of row) told stands same)
 
 pub returns-in_default-clause-none : goal.returns-in_default-clause-none
 returns-in_default-clause-none c =
@@ -39,7 +39,7 @@ returns-in_default-clause-none c =
     let at = ap (λ z. slice_get z place) (sym c.as_slice.ensures.value) ∙ (sym c.row_at.ensures ∙ c.in-Some.is) in
     let stands = slice_get-map row_of rows place ∙ ap (option_map row_of) at in
     let other = ne_eqb (name_number (name_of row.name)) (name_number (name_of c.args.name)) (λ e. c.if-name_number-number.false (c.name_number.ensures ∙ (e ∙ sym c.name_number-number.ensures))) in
-    rw (← c.self.view_is) (none_other c.self.inside.places (map row_of rows) (name_of c.args.name) c.self.invariant place (row_of row) told stands other)
+    rw (← c.self.view_is) (none_other c.self.inside.places (map row_of rows) (name_of c.args.name) c.self.invariant.0 place (row_of row) told stands other)
 
 pub returns-in_default-2-clause-none : goal.returns-in_default-2-clause-none
 returns-in_default-2-clause-none c =
@@ -48,4 +48,4 @@ returns-in_default-2-clause-none c =
     let told = ap (get nat_cmp c.self.inside.places) (sym c.name_number-number.ensures) ∙ sym c.in_ok-place.ensures.value in
     let at = ap (λ z. slice_get z place) (sym c.as_slice.ensures.value) ∙ (sym c.row_at.ensures ∙ c.in_default.is) in
     let stands = slice_get-map row_of rows place ∙ ap (option_map row_of) at in
-    rw (← c.self.view_is) (none_behind c.self.inside.places (map row_of rows) (name_of c.args.name) c.self.invariant place told stands)
+    rw (← c.self.view_is) (none_behind c.self.inside.places (map row_of rows) (name_of c.args.name) c.self.invariant.0 place told stands)

@@ -6,12 +6,14 @@ use Rattle.isp_lower.proofs.register_rows.RegisterRows.push.Goals.{then-is_none+
 pub invariant_of-self-2 : goal.invariant_of-self-2
 invariant_of-self-2 c =
     let s = c.self.inside in
-    let new = c.push.new.self.items in
-    elim c.if-is_none.branch [
-      | then-is_none+in_ok-insert w ↦ rw (ap (λ z. z.places) w.self-inside-is)
-          (pushed_new s.rows.items new c.args.row c.find.result (c.in_ok-push.ensures.items ∙ ap (λ z. z.rows.items ++ c.args.row ∷ []) w.self-inside-is)
-          s.places w.insert.new.self w.name_number.result w.len.result c.self.invariant w.if-is_none.ensures (rw (sym c.self.view_is) at c.find.ensures.none) w.name_number.ensures (w.len.ensures ∙ s.rows.ok.0) w.in_ok-insert.ensures.updates.0)
-      | else-is_none w ↦ rw (ap (λ z. z.places) w.self-inside-is)
-          (pushed_known s.rows.items new c.args.row c.find.result (c.in_ok-push.ensures.items ∙ ap (λ z. z.rows.items ++ c.args.row ∷ []) w.self-inside-is)
-          s.places c.self.invariant w.if-is_none.ensures (rw (sym c.self.view_is) at c.find.ensures.elem))
-    ]
+    let new = c.append.new.rows.items in (
+      elim c.if-is_none.branch [
+        | then-is_none+in_ok-insert w ↦ rw (ap (λ z. z.places) w.self-inside-is)
+            (pushed_new s.rows.items new c.args.row c.find.result (c.in_ok-append.ensures.ok ∙ ap (λ z. z.rows.items ++ c.args.row ∷ []) w.self-inside-is)
+            s.places w.insert.new.self w.name_number.result w.len.result c.self.invariant.0 w.if-is_none.ensures (rw (sym c.self.view_is) at c.find.ensures.none) w.name_number.ensures (w.len.ensures ∙ s.rows.ok.0) w.in_ok-insert.ensures.updates.0)
+        | else-is_none w ↦ rw (ap (λ z. z.places) w.self-inside-is)
+            (pushed_known s.rows.items new c.args.row c.find.result (c.in_ok-append.ensures.ok ∙ ap (λ z. z.rows.items ++ c.args.row ∷ []) w.self-inside-is)
+            s.places c.self.invariant.0 w.if-is_none.ensures (rw (sym c.self.view_is) at c.find.ensures.elem))
+      ],
+      c.in_ok-append.ensures.few,
+    )

@@ -5,31 +5,37 @@ use Rattle.isp_typed.specs.Views.{expr_of, place_of}
 use Rattle.isp_lower.proofs.reserve.Reserve.+expr.Given as goal
 
 abbrev pub decreases-expr : goal.decreases-expr
-decreases-expr l = 4 * typed_nodes (expr_of l.x.now)
+decreases-expr l = 8 * typed_nodes (expr_of l.x.now)
 
 abbrev pub decreases-converted : goal.decreases-converted
-decreases-converted l = 4 * typed_nodes (expr_of l.x.now) + 1
+decreases-converted l = 8 * typed_nodes (expr_of l.x.now) + 1
 
-abbrev pub decreases-cast : goal.decreases-cast
-decreases-cast l = 4 * typed_nodes (expr_of l.x.now) + 1
+abbrev pub decreases-operand : goal.decreases-operand
+decreases-operand l = 8 * typed_nodes (expr_of l.x.now) + 1
 
 abbrev pub decreases-unary : goal.decreases-unary
-decreases-unary l = 4 * typed_nodes (expr_of l.x.now) + 1
+decreases-unary l = 8 * typed_nodes (expr_of l.x.now) + 2
 
 abbrev pub decreases-pair : goal.decreases-pair
-decreases-pair l = 4 * (typed_nodes (expr_of l.left.now) + typed_nodes (expr_of l.right.now)) + 1
+decreases-pair l = 8 * (typed_nodes (expr_of l.left.now) + typed_nodes (expr_of l.right.now)) + 2
 
-abbrev pub decreases-choice : goal.decreases-choice
-decreases-choice l = 4 * (typed_nodes (expr_of l.test.now) + typed_nodes (expr_of l.then.now) + typed_nodes (expr_of l.otherwise.now)) + 1
-
-abbrev pub decreases-read : goal.decreases-read
-decreases-read l = 4 * place_nodes (place_of l.place.now) - 1
-
-abbrev pub decreases-place : goal.decreases-place
-decreases-place l = 4 * place_nodes (place_of l.place.now) - 2
-
-abbrev pub decreases-index : goal.decreases-index
-decreases-index l = 4 * typed_nodes (expr_of l.index.now) + 1
+abbrev pub decreases-work_of_two : goal.decreases-work_of_two
+decreases-work_of_two l = 8 * (typed_nodes (expr_of l.left.now) + typed_nodes (expr_of l.right.now)) + 3
 
 abbrev pub decreases-logic : goal.decreases-logic
-decreases-logic l = 4 * (typed_nodes (expr_of l.left.now) + typed_nodes (expr_of l.right.now)) + 2
+decreases-logic l = 8 * (typed_nodes (expr_of l.left.now) + typed_nodes (expr_of l.right.now)) + 3
+
+abbrev pub decreases-choice : goal.decreases-choice
+decreases-choice l = 8 * (typed_nodes (expr_of l.test.now) + typed_nodes (expr_of l.then.now) + typed_nodes (expr_of l.otherwise.now)) + 2
+
+abbrev pub decreases-read : goal.decreases-read
+decreases-read l = 8 * place_nodes (place_of l.place.now) - 1
+
+abbrev pub decreases-target : goal.decreases-target
+decreases-target l = 8 * place_nodes (place_of l.place.now) - 2
+
+abbrev pub decreases-place_in : goal.decreases-place_in
+decreases-place_in l = 8 * typed_nodes (expr_of l.index.now) + 3
+
+abbrev pub decreases-index : goal.decreases-index
+decreases-index l = 8 * typed_nodes (expr_of l.index.now) + 2

@@ -1,16 +1,15 @@
-use Rattle.std.proofs.Common.{◌≡◌, [], length, drop, refl, sym, subst, ◌≤◌}
-use Rattle.isp_typed.specs.Views.{items_of}
-use Rattle.isp_lower.specs.Reserved.{HasItems}
-use Rattle.isp_lower.proofs.Reserving.{adds_self, adds_then, item_stays, one_item_more, none_left}
+use Rattle.std.proofs.Common.{sym, subst}
+use Rattle.isp_lower.specs.Reserved.{Gives}
+use Rattle.isp_lower.proofs.Growing.{items_more, items_end, both_given, gives_none}
 use Rattle.isp_lower.proofs.reserve.Reserve.items.Goals as goal
 
 pub loop-x-preserved : goal.loop-x-preserved
-loop-x-preserved c = (
-  adds_then _ _ _ c.loop-x.invariant.0 c.in_ok-item.ensures.adds,
-  λ k is has.
-      c.loop-x.invariant.1 k (adds_then _ _ _ c.in_ok-item.ensures.adds is)
-      (one_item_more k c.args.slot c.args.all.now c.loop-x.x-index c.x-item.result c.loop-x-test.true c.x-item.is (item_stays _ k is _ _ c.in_ok-item.ensures.has) has),
-)
+loop-x-preserved c = λ k g.
+    c.loop-x.invariant k
+    (subst (λ a. Gives c.loop-x.self k a) (sym (items_more c.args.slot c.args.all.now c.loop-x.x-index c.x-item.result c.loop-x-test.true c.x-item.is))
+    (both_given c.loop-x.self c.item.new.self k _ _ c.in_ok-item.ensures g))
 
-pub returns-clause-has : goal.returns-clause-has
-returns-clause-has c = c.loop-x.invariant.1 c.loop-x.self (adds_self c.loop-x.self) (none_left c.loop-x.self c.args.slot c.args.all.now c.loop-x.x-index c.loop-x-test.false)
+pub returns : goal.returns
+returns c =
+    c.loop-x.invariant c.loop-x.self
+    (subst (λ a. Gives c.loop-x.self c.loop-x.self a) (sym (items_end c.args.slot c.args.all.now c.loop-x.x-index c.loop-x-test.false)) (gives_none c.loop-x.self))

@@ -1,12 +1,10 @@
-use Rattle.std.proofs.Common.{subst}
-use Rattle.isp_base.specs.declared.types.Ty.{Ty}
-use Rattle.isp_lower.specs.Reserved.{HasLift}
-use Rattle.isp_typed.specs.Typed.{type_of}
-use Rattle.isp_typed.specs.Views.{expr_of}
-use Rattle.isp_lower.proofs.Reserving.{change_stays}
+use Rattle.isp_lower.proofs.Growing.{both_given, then_given}
 use Rattle.isp_lower.proofs.reserve.Reserve.update.Goals as goal
 
-pub returns-clause-has : goal.returns-clause-has
-returns-clause-has c =
-    let value = c.in_ok-operand.ensures.has in
-    rw (← c.in_ok-next.ensures, ← c.in_ok-work.ensures) (change_stays _ _ c.in_ok-operand.ensures.adds _ _ _ _ c.in_ok-change.ensures.has, subst (λ (y : Ty). HasLift c.operand.new.self (type_of (expr_of c.args.value.now)).rate y.rate c.args.elem c.in_ok-next.next) c.ty.ensures value.0, value.1)
+pub returns : goal.returns
+returns c =
+    rw (← c.in_ok-next.ensures.number) (rw (← c.in_ok-work.ensures.number) (
+    then_given _ _ _ _ _ c.in_ok-next.ensures.gives
+    (both_given _ _ _ _ _ c.in_ok-target.ensures
+    (both_given _ _ _ _ _ c.in_ok-work.ensures.gives (both_given _ _ _ _ _ (rw c.ty.ensures at c.in_ok-operand.ensures) c.in_ok-change.ensures)))
+    ))

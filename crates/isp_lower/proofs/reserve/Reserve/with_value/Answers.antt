@@ -1,7 +1,5 @@
-use Rattle.isp_lower.proofs.Reserving.{row_stays}
+use Rattle.isp_lower.proofs.Growing.{both_given}
 use Rattle.isp_lower.proofs.reserve.Reserve.with_value.Goals as goal
 
-pub returns-clause-has : goal.returns-clause-has
-returns-clause-has c =
-    let value = c.in_ok-operand.ensures.has in
-    (row_stays _ _ c.in_ok-operand.ensures.adds _ _ _ c.in_ok-variable.ensures.has, value.0, value.1)
+pub returns : goal.returns
+returns c = both_given _ _ _ _ _ c.in_ok-variable.ensures c.in_ok-operand.ensures

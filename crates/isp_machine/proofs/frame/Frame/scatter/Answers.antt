@@ -9,7 +9,8 @@ use Rattle.isp_base.specs.Stores.{own_put}
 use Rattle.isp_base.specs.declared.types.Elem.TheVariants.{I64}
 use Rattle.isp_machine.specs.Arrays.{ArrayThere, Rewritten, array_count, array_elem, array_in, vector_in}
 use Rattle.isp_machine.specs.Rows.{FrameRows}
-use Rattle.isp_machine.specs.Views.{masks_at, vectors_at, no_array, no_row}
+use Rattle.isp_lanes.specs.Lanes.{no_row}
+use Rattle.isp_machine.specs.Views.{masks_at, vectors_at, no_array}
 use Rattle.isp_machine.proofs.Rewrites.{along}
 use Rattle.isp_machine.proofs.frame.Frame.scatter.Goals as goal
 

@@ -8,7 +8,8 @@ use Rattle.isp_base.specs.declared.types.Elem.{Elem}
 use Rattle.isp_base.specs.declared.types.Elem.TheVariants.{I64}
 use Rattle.isp_store.specs.Cells.{found, row_word, row_with}
 use Rattle.isp_store.specs.LaneRows.{lists, rows_width, AreRows}
-use Rattle.isp_store.specs.Own.{Own, own, size, own_put}
+use Rattle.isp_base.specs.Stores.{own_put}
+use Rattle.isp_store.specs.Own.{Own, own, size}
 use Rattle.isp_lanes.proofs.Gathered.{either}
 use Rattle.isp_store.proofs.Gathered.{both_ok, length_stored}
 use Rattle.isp_store.proofs.Indices.{all_inside, on_there, past_end}

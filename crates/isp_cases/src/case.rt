@@ -1,0 +1,148 @@
+//! One case, line by line.
+use crate::found::Found;
+use crate::ways::{evaluated, executed};
+use isp_base::Gang;
+use std::alloc::{AllocError, Global};
+
+/// What a case says, up to the line that was read last.
+#[derive(Drop)]
+pub(crate) struct Case<'a> {
+    alloc: Global,
+    name: &'a str,
+    /// The source without marks.
+    pub source: String,
+    /// Where a trap's place begins and ends in the source.
+    start: usize,
+    end: usize,
+    pub gang: Gang,
+    pub entry: &'a str,
+    pub arguments: String,
+    pub turns: u64,
+    /// The work of the run, where it is said.
+    pub work: Option<u64>,
+    output: String,
+}
+
+impl<'a> Case<'a> {
+    pub(crate) fn new(alloc: Global, name: &'a str) -> Case<'a> {
+        Case {
+            alloc,
+            name,
+            source: String::new(alloc),
+            start: 0,
+            end: 0,
+            gang: Gang::W4,
+            entry: "",
+            arguments: String::new(alloc),
+            turns: 0,
+            work: None,
+            output: String::new(alloc),
+        }
+    }
+
+    /// Takes a line. One that says what must come out is tried, and what differs is added.
+    pub(crate) fn follow(
+        &mut self,
+        line: &'a str,
+        differences: &mut Vec<String>,
+    ) -> Result<(), AllocError> {
+        let (word, rest) = line.split_once(' ').unwrap_or((line, ""));
+        match word {
+            "." | "" => {}
+            "source" => self.take_source(rest)?,
+            "gang" => self.gang = gang_named(rest),
+            "entry" => self.entry = rest,
+            "arguments" => self.arguments = spelt_out(self.alloc, rest)?,
+            "turns" => self.turns = number(rest),
+            "work" => self.work = Some(number(rest)),
+            "writes" => self.output = spelt_out(self.alloc, rest)?,
+            _ => self.compare(word, rest, differences)?,
+        }
+        Ok(())
+    }
+
+    fn take_source(&mut self, marked: &str) -> Result<(), AllocError> {
+        let text = spelt_out(self.alloc, marked)?;
+        let (before, rest) = parted(text.as_str(), '⟦');
+        let (place, after) = parted(rest, '⟧');
+        let mut source = String::from_str(self.alloc, before)?;
+        self.start = source.len();
+        source.push_str(place)?;
+        self.end = source.len();
+        source.push_str(after)?;
+        self.source = source;
+        Ok(())
+    }
+
+    // What must come out by a line.
+    fn wanted(&self, word: &str, rest: &str) -> Result<Found, AllocError> {
+        let output = String::from_str(self.alloc, self.output.as_str())?;
+        if word != "traps" {
+            return Ok(Found {
+                ending: format!(in self.alloc; "{word} {rest}")?,
+                arrays: String::new(self.alloc),
+                output: output.into_bytes(),
+            });
+        }
+        let (kind, rest) = parted(rest, ' ');
+        let (instance, arrays) = parted(rest, ' ');
+        Ok(Found {
+            ending: format!(in self.alloc;
+                "trap {kind} at {}..{}, instance {instance}",
+                self.start, self.end
+            )?,
+            arrays: String::from_str(self.alloc, arrays)?,
+            output: output.into_bytes(),
+        })
+    }
+
+    fn compare(
+        &mut self,
+        word: &str,
+        rest: &str,
+        differences: &mut Vec<String>,
+    ) -> Result<(), AllocError> {
+        let wanted = self.wanted(word, rest)?;
+        let found = evaluated(self.alloc, self)?;
+        if !found.is(&wanted) {
+            differences.push(format!(in self.alloc; "{}: {found}, not {wanted}", self.name)?)?;
+        }
+        if let Some(found) = executed(self.alloc, self, &wanted)? {
+            if !found.begins(&wanted) {
+                differences.push(format!(in self.alloc;
+                    "{}: as code {found}, not {wanted}",
+                    self.name
+                )?)?;
+            }
+        }
+        self.output = String::new(self.alloc);
+        self.work = None;
+        Ok(())
+    }
+}
+
+fn gang_named(lanes: &str) -> Gang {
+    Gang::of_width(number(lanes) as usize).unwrap_or(Gang::W4)
+}
+
+fn number(text: &str) -> u64 {
+    text.parse::<u64>().unwrap_or(0)
+}
+
+// What stands before and behind a sign, nothing behind it where it is not there.
+fn parted(text: &str, sign: char) -> (&str, &str) {
+    text.split_once(sign).unwrap_or((text, ""))
+}
+
+// A text with line feeds and tabs for their signs.
+fn spelt_out(alloc: Global, text: &str) -> Result<String, AllocError> {
+    let mut out = String::new(alloc);
+    for c in text.chars() {
+        out.push(match c {
+            '␤' => '\n',
+            '␉' => '\t',
+            _ => c,
+        })?;
+    }
+    Ok(out)
+}

@@ -1,0 +1,125 @@
+//! The ways in which a program is run: by the evaluator, and by its code.
+use crate::case::Case;
+use crate::found::Found;
+use isp_base::{Bound, Signature};
+use isp_bind::{answer, bind};
+use isp_engine::{Ending, Report, compile, execute, front};
+use isp_eval::{Outcome, evaluate};
+use isp_rates::Checked;
+use std::alloc::{AllocError, Global};
+
+/// More instructions than any program of the cases takes to its end.
+const AMPLE: u64 = 10_000_000;
+
+fn silent(alloc: Global, ending: String) -> Found {
+    Found {
+        ending,
+        arrays: String::new(alloc),
+        output: Vec::new(alloc),
+    }
+}
+
+/// What a case comes to by the front and the evaluator.
+pub(crate) fn evaluated(alloc: Global, case: &Case<'_>) -> Result<Found, AllocError> {
+    match front(alloc, case.source.as_str(), case.gang) {
+        Err(fault) => Ok(silent(alloc, format!(in alloc; "refused {fault}")?)),
+        Ok(_) if case.entry.is_empty() => Ok(silent(alloc, String::from_str(alloc, "accepted ")?)),
+        Ok(checked) => entered(alloc, case, &checked),
+    }
+}
+
+fn entered(alloc: Global, case: &Case<'_>, checked: &Checked) -> Result<Found, AllocError> {
+    let Some(signature) = checked.signature(case.entry) else {
+        return Ok(silent(alloc, String::from_str(alloc, "no entry")?));
+    };
+    match bind(alloc, signature, case.arguments.as_str()) {
+        Err(fault) => Ok(silent(alloc, format!(in alloc; "unbound {fault}")?)),
+        Ok(bound) => run(alloc, case, checked, signature, &bound),
+    }
+}
+
+fn run(
+    alloc: Global,
+    case: &Case<'_>,
+    checked: &Checked,
+    signature: &Signature,
+    bound: &Bound,
+) -> Result<Found, AllocError> {
+    match evaluate(alloc, checked, case.entry, bound, case.turns) {
+        Err(fault) => Ok(silent(alloc, format!(in alloc; "not evaluated: {fault}")?)),
+        Ok(outcome) => told(alloc, signature, outcome),
+    }
+}
+
+fn told(alloc: Global, signature: &Signature, outcome: Outcome) -> Result<Found, AllocError> {
+    match outcome {
+        Outcome::Ends {
+            arrays,
+            answer: returned,
+            output,
+        } => {
+            let text = answer(alloc, signature, arrays.as_slice(), returned)?;
+            Ok(Found {
+                ending: format!(in alloc; "ends {text}")?,
+                arrays: String::new(alloc),
+                output,
+            })
+        }
+        Outcome::Traps {
+            trap,
+            arrays,
+            output,
+        } => Ok(Found {
+            ending: format!(in alloc; "{trap}")?,
+            arrays: answer(alloc, signature, arrays.as_slice(), None)?,
+            output,
+        }),
+        Outcome::Cut { output } => Ok(Found {
+            ending: String::from_str(alloc, "cut ")?,
+            arrays: String::new(alloc),
+            output,
+        }),
+    }
+}
+
+// How many instructions the code of a case may run: 32 for each unit of work, and 32, are enough for an end. A run that is cut goes on
+// for as many instructions at least as a loop may make turns.
+fn budget(case: &Case<'_>, wanted: &Found) -> u64 {
+    if wanted.ending.as_str() == "cut " {
+        return case.turns;
+    }
+    match case.work {
+        Some(work) => work.saturating_mul(32).saturating_add(32),
+        None => AMPLE,
+    }
+}
+
+/// What the code of a case comes to, where it has code.
+pub(crate) fn executed(
+    alloc: Global,
+    case: &Case<'_>,
+    wanted: &Found,
+) -> Result<Option<Found>, AllocError> {
+    let Ok(image) = compile(alloc, case.source.as_str(), case.gang) else {
+        return Ok(None);
+    };
+    let budget = budget(case, wanted);
+    match execute(alloc, &image, case.entry, case.arguments.as_str(), budget) {
+        Err(_fault) => Ok(None),
+        Ok(report) => Ok(Some(reported(alloc, report)?)),
+    }
+}
+
+fn reported(alloc: Global, report: Report) -> Result<Found, AllocError> {
+    let ending = match (report.ending, &report.answer) {
+        (Ending::Ended, Some(text)) => format!(in alloc; "ends {text}")?,
+        (Ending::Trapped(trap), None) => format!(in alloc; "{trap}")?,
+        (Ending::Running, None) => String::from_str(alloc, "cut ")?,
+        _ => String::from_str(alloc, "an answer without an end")?,
+    };
+    Ok(Found {
+        ending,
+        arrays: String::new(alloc),
+        output: report.output,
+    })
+}

@@ -1,0 +1,9 @@
+pub mod Written
+pub mod Places
+pub mod Spans
+pub mod Operators
+pub mod Sums
+pub mod Counts
+pub mod Tests
+pub mod Bests
+pub mod CrossLaws

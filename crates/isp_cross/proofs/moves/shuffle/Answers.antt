@@ -1,0 +1,18 @@
+use Rattle.std.proofs.Common.{rules, sym, ap, ◌∙◌, ℕ, get_or, List}
+use Rattle.isp_base.specs.Cross.{or_zero, instance, shuffle}
+use Rattle.isp_base.specs.declared.types.Elem.TheVariants.{I32}
+use Rattle.isp_base.specs.Values.{number}
+use Rattle.isp_cross.specs.Lanes.{active}
+use Rattle.isp_cross.proofs.Written.{written_is, on_at}
+use Rattle.isp_cross.proofs.moves.shuffle.Goals as goal
+
+pub returns-clause-lanes : goal.returns-clause-lanes
+returns-clause-lanes g c =
+    let mask = c.args.mask.now in
+    let x = active mask c.args.x.now in
+    let index = c.args.index.now in
+    let n = g.row.N in
+    written_is mask c.picked-lanes.result c.args.out.now (shuffle n x (active mask index)) n c.put.ensures c.told.ensures.long (search rules) c.told-2.ensures.long (λ p h on.
+    c.picked-lanes.ensures p h
+    ∙ c.active.ensures.value (instance n (number I32 (get_or c.bits.result p 0)))
+    ∙ ap (λ (b : ℕ). or_zero (x (instance n (number I32 b)))) (ap (λ (xs : List ℕ). get_or xs p 0) c.bits.ensures.value ∙ ap or_zero (sym (on_at mask index.bits p on))))

@@ -1,0 +1,114 @@
+-- Rows that are added change no register that is there; so what code asks for stays there.
+use Rattle.std.proofs.Common.{◌≡◌, ℕ, ◌<◌, ◌≤◌, ◌+◌, List, [], ◌++◌, length, drop, get_or, refl, sym, ap, subst, ◌∙◌, arith, append_assoc, append-nil, Some}
+use Rattle.std.proofs.lemmas.List.{drop_more, drop_all}
+use Rattle.isp_base.specs.declared.types.Elem.{Elem}
+use Rattle.isp_base.specs.declared.types.Rate.{Rate}
+use Rattle.isp_base.specs.declared.types.Rate.TheVariants.{Uniform, Varying}
+use Rattle.isp_typed.specs.Views.{item_of, items_of}
+use Rattle.isp_typed.specs.declared.stmt.TypedItem as rust
+use Rattle.isp_typed.specs.declared.variable.ArrayVariable.{ArrayVariable}
+use Rattle.isp_lower.specs.Asks.{Ask, Nothing, Both, Register, ArrayOf, LocalOf, MaskOf, Number, All, item_asks, items_asks}
+use Rattle.isp_lower.specs.Emitted.{rows_of, Begins, Grows, HasArray, HasRow}
+use Rattle.isp_lower.specs.Asks.{first_slot, second_slot}
+use Rattle.isp_lower.specs.Reserved.{Has, Gives}
+use Rattle.isp_lower.specs.Rows.{Name, Variable, Row, number_in, elem_in}
+use Rattle.isp_lower.specs.declared.registers.Registers.{Registers}
+use Rattle.isp_lower.specs.declared.reserve.Reserve.{Reserve}
+use Rattle.isp_lower.proofs.Rows.{rows_stay}
+
+-- ---- rows that are added
+
+pub begins_self : (xs : List Row) → Begins xs xs
+begins_self xs = record { more = []; is = sym (append-nil xs) }
+
+pub begins_then : (xs ys zs : List Row) → Begins xs ys → Begins ys zs → Begins xs zs
+begins_then xs ys zs a b =
+    record { more = a.more ++ b.more; is = b.is ∙ ap (λ w. w ++ b.more) a.is ∙ append_assoc xs a.more b.more }
+
+pub grows_self : (r : Registers) → Grows r r
+grows_self r =
+    record {
+      scalars = begins_self (rows_of r).scalars;
+      vectors = begins_self (rows_of r).vectors;
+      arrays = begins_self (rows_of r).arrays;
+    }
+
+pub grows_then : (r s t : Registers) → Grows r s → Grows s t → Grows r t
+grows_then r s t a b =
+    record {
+      scalars = begins_then (rows_of r).scalars (rows_of s).scalars (rows_of t).scalars a.scalars b.scalars;
+      vectors = begins_then (rows_of r).vectors (rows_of s).vectors (rows_of t).vectors a.vectors b.vectors;
+      arrays = begins_then (rows_of r).arrays (rows_of s).arrays (rows_of t).arrays a.arrays b.arrays;
+    }
+
+pub stays_in : (xs ys : List Row) (x : Name) (t : Elem) → Begins xs ys → elem_in xs x ≡ Some t → (number_in ys x ≡ number_in xs x) × (elem_in ys x ≡ Some t)
+stays_in xs ys x t b e =
+    subst (λ zs. (number_in zs x ≡ number_in xs x) × (elem_in zs x ≡ Some t)) (sym b.is) (rows_stay xs b.more x t e)
+
+-- ---- what code asks for
+
+-- what is asked of one thing is there of another one that has all that the first has
+module _ (H H1 : Rate → Name → Elem → Type 0) (A A1 L L1 : ArrayVariable → Type 0) (M M1 : ℕ → Type 0) (names : (r : Rate) (x : Name) (t : Elem) → H r x t → H1 r x t) (arrays : (b : ArrayVariable) → A b → A1 b) (locals : (b : ArrayVariable) → L b → L1 b) (masks : (k : ℕ) → M k → M1 k) where
+  pub all_grow : (a : Ask) → All H A L M a → All H1 A1 L1 M1 a
+  all_grow Nothing f = tt
+  all_grow (Both x y) f = (all_grow x f.0, all_grow y f.1)
+  all_grow (Register r x t) f = names r x t f
+  all_grow (ArrayOf b) f = arrays b f
+  all_grow (LocalOf b) f = locals b f
+  all_grow (MaskOf k) f = masks k f
+  all_grow (Number k) f = f
+
+row_grows : (a b : Registers) → Grows a b → (r : Rate) (x : Name) (t : Elem) → HasRow a r x t → HasRow b r x t
+row_grows a b g Uniform x t e = (stays_in (rows_of a).scalars (rows_of b).scalars x t g.scalars e).1
+row_grows a b g Varying x t e = (stays_in (rows_of a).vectors (rows_of b).vectors x t g.vectors e).1
+
+array_grows : (a b : Registers) → Grows a b → (v : ArrayVariable) → HasArray a v → HasArray b v
+array_grows a b g v e = (stays_in (rows_of a).arrays (rows_of b).arrays (Variable v.number) v.ty.elem g.arrays e).1
+
+pub has_grows : (a b : Reserve) → Grows a.registers b.registers → a.masks ≤ b.masks → (x : Ask) → Has a x → Has b x
+has_grows a b g m x f =
+    all_grow (HasRow a.registers) (HasRow b.registers) (HasArray a.registers) (HasArray b.registers) (HasArray a.registers) (HasArray b.registers) (λ k. k < a.masks) (λ k. k < b.masks) (row_grows a.registers b.registers g) (array_grows a.registers b.registers g) (array_grows a.registers b.registers g) (λ k l. omega (arith, l, m)) x f
+
+-- ---- the walk: what one call gives and then another one is given
+
+pub gives_none : (a : Reserve) → Gives a a Nothing
+gives_none a = record { rows = grows_self a.registers; masks = omega arith; has = tt }
+
+pub both_given : (a b c : Reserve) (x y : Ask) → Gives a b x → Gives b c y → Gives a c (Both x y)
+both_given a b c x y g h =
+    record {
+      rows = grows_then a.registers b.registers c.registers g.rows h.rows;
+      masks = omega (arith, g.masks, h.masks);
+      has = (has_grows b c h.rows h.masks x g.has, h.has);
+    }
+
+pub then_given : (a b c : Reserve) (x y : Ask) → Gives a b x → Gives b c y → Gives a c y
+then_given a b c x y g h =
+    record {
+      rows = grows_then a.registers b.registers c.registers g.rows h.rows;
+      masks = omega (arith, g.masks, h.masks);
+      has = h.has;
+    }
+
+-- the second side's slot is the one behind the first's
+pub second_is : (r : Rate) (n : ℕ) → first_slot r (first_slot r n) ≡ second_slot r n
+second_is Uniform n = refl
+second_is Varying n = omega arith
+
+-- ---- lists of items
+
+pub items_more : (n : ℕ) (all : List rust.TypedItem) (i : ℕ) (x : rust.TypedItem) → i < length all → x ≡ get_or all i x → items_asks n (items_of (drop i all)) ≡ Both (item_asks n (item_of x)) (items_asks n (items_of (drop (i + 1) all)))
+items_more n all i x lt is =
+    ap (λ z. items_asks n (items_of z)) (drop_more all i x lt) ∙ ap (λ z. Both (item_asks n (item_of z)) (items_asks n (items_of (drop (i + 1) all)))) (sym is)
+
+pub items_end : (n : ℕ) (all : List rust.TypedItem) (i : ℕ) → length all ≤ i → items_asks n (items_of (drop i all)) ≡ Nothing
+items_end n all i le = ap (λ z. items_asks n (items_of z)) (drop_all i all le)
+
+-- a varying test: its two slots and its two masks
+pub sides_given : (a b c d e : Reserve) (n m k : ℕ) → m ≡ n + 1 → k ≡ m + 1 → Gives a b (Number m) → Gives b c (Number k) → Gives c d (MaskOf n) → Gives d e (MaskOf m) → Gives a e (Both (Number (n + 2)) (Both (MaskOf n) (MaskOf (n + 1))))
+sides_given a b c d e n m k first second x y z w =
+    let two : k ≡ n + 2 = omega (arith, first, second) in
+    subst (λ i. Gives a e (Both (Number i) (Both (MaskOf n) (MaskOf (n + 1))))) two
+    (subst (λ j. Gives a e (Both (Number k) (Both (MaskOf n) (MaskOf j)))) first
+    (then_given a b e (Number m) (Both (Number k) (Both (MaskOf n) (MaskOf m))) x
+    (both_given b c e (Number k) (Both (MaskOf n) (MaskOf m)) y (both_given c d e (MaskOf n) (MaskOf m) z w))))

@@ -1,0 +1,130 @@
+-- What later code leaves as it is: spare registers of lower slots, and variables, which no value changes but by packed loads.
+use Rattle.std.proofs.Common.{◌≡◌, ℕ, ◌+◌, ◌<◌, ◌≤◌, Option, Some, None, Bool, true, false, refl, sym, ap, ◌∙◌, subst, arith, ◌⊎◌, inl, inr}
+use Rattle.std.specs.Prelude.{◌||◌}
+use Rattle.isp_base.specs.Maps.{Lanes, on}
+use Rattle.isp_base.specs.Sets.{Mask, any}
+use Rattle.isp_base.specs.Types.{gang_width}
+use Rattle.isp_base.specs.declared.trap.TrapKind.{TrapKind}
+use Rattle.isp_base.specs.declared.types.Elem.{Elem}
+use Rattle.isp_base.specs.declared.types.Rate.{Rate}
+use Rattle.isp_base.specs.declared.types.Rate.TheVariants.{Uniform, Varying}
+use Rattle.isp_base.specs.declared.types.Span.{Span}
+use Rattle.isp_code.specs.Conf.{Conf}
+use Rattle.isp_typed.specs.Typed.{TExpr, t_constant, t_program_index, t_place, t_convert, t_cast, t_unary, t_binary, t_compare, t_logic, t_choose, t_call, t_library, t_packed_store, t_packed_load, t_variable, t_element, type_of}
+use Rattle.isp_meaning.specs.State.{State}
+use Rattle.isp_meaning.specs.Payloads.{Payload, One, Each, nothing}
+use Rattle.isp_meaning.specs.Outcomes.{Val, Gives, Fails, Stops, bind, checked, if_so, value_unless_empty}
+use Rattle.isp_meaning.specs.Expressions.{value}
+use Rattle.isp_meaning.specs.Loads.{no_variable, loads, KeepsVariables, KeepsBy}
+use Rattle.isp_meaning.proofs.Loads.{same, variables_stay}
+use Rattle.isp_lower.specs.Layout.{Layout}
+use Rattle.isp_lower.specs.Setting.{Setting, IsSettled, gang_of, calls_of, Stands, Spares, held_at}
+use Rattle.isp_lower.specs.Runs.{Runs}
+use Rattle.isp_lower.specs.Fits.{first_slot, second_slot, ExprFits}
+
+-- the register of a variable, or a spare one of a slot below n
+abbrev pub Low : Layout → Rate → ℕ → ℕ → Type 0
+Low l r n x = ((v : ℕ) × (x ≡ l.variable r v)) ⊎ ((t : Elem) × (j : ℕ) × (j < n) × (x ≡ l.spare r t j))
+
+pub low_more : (l : Layout) (r : Rate) (n m x : ℕ) → n ≤ m → Low l r n x → Low l r m x
+low_more l r n m x le (inl v) = inl v
+low_more l r n m x le (inr j) = inr (j.0, j.1, omega (arith, j.2), j.3)
+
+pub low_spare : (l : Layout) (r : Rate) (t : Elem) (n j : ℕ) → j < n → Low l r n (l.spare r t j)
+low_spare l r t n j lt = inr (t, j, lt, refl)
+
+pub low_variable : (l : Layout) (r : Rate) (n v : ℕ) → Low l r n (l.variable r v)
+low_variable l r n v = inl (v, refl)
+
+pub record KeepsLow (l : Layout) (n : ℕ) (scalars : ℕ → ℕ) (vectors : ℕ → Lanes) (scalars' : ℕ → ℕ) (vectors' : ℕ → Lanes) : Type 0 where
+  pub scalars_stay : (x : ℕ) → Low l Uniform n x → scalars' x ≡ scalars x
+  pub vectors_stay : (x : ℕ) → Low l Varying n x → vectors' x ≡ vectors x
+
+abbrev pub Keeps : Setting → ℕ → Conf → Conf → Type 0
+Keeps w n c c' = KeepsLow w.layout n c.scalars c.vectors c'.scalars c'.vectors
+
+module _ (w : Setting) where
+  -- a value that changes no variable keeps these registers
+  pub kept_of : (n : ℕ) (c c' : Conf) (s s' : State) → Stands w s c → Stands w s' c' → KeepsVariables no_variable s s' → Spares w n c c' → Keeps w n c c'
+  kept_of n c c' s s' st st' k sp = record { scalars_stay = scalar; vectors_stay = vector }
+    where
+      scalar : (x : ℕ) → Low w.layout Uniform n x → c'.scalars x ≡ c.scalars x
+      scalar x (inl v) = ap c'.scalars v.1 ∙ st'.uniforms v.0 ∙ ap (λ f. f v.0) k.0 ∙ sym (st.uniforms v.0) ∙ ap c.scalars (sym v.1)
+      scalar x (inr j) = ap c'.scalars j.3 ∙ sp.scalars_stay j.0 j.1 j.2 ∙ ap c.scalars (sym j.3)
+
+      vector : (x : ℕ) → Low w.layout Varying n x → c'.vectors x ≡ c.vectors x
+      vector x (inl v) = ap c'.vectors v.1 ∙ st'.varying v.0 ∙ k.1 v.0 refl ∙ sym (st.varying v.0) ∙ ap c.vectors (sym v.1)
+      vector x (inr j) = ap c'.vectors j.3 ∙ sp.vectors_stay j.0 j.1 j.2 ∙ ap c.vectors (sym j.3)
+
+  -- and so does its code
+  pub runs_kept : {A : Type 0} (c : Conf) (pc n q : ℕ) (P : A → Conf → Type 0) (v : Val A) (s : State) → Stands w s c → KeepsBy no_variable s v → Runs w c pc n q P v → Runs w c pc n q (λ x c'. P x c' × Keeps w n c c') v
+  runs_kept c pc n q P (Gives x s1) s st k r = record {
+    conf = r.conf;
+    steps = r.steps;
+    comes = r.comes;
+    at = r.at;
+    stands = r.stands;
+    spares = r.spares;
+    masks = r.masks;
+    holds = (r.holds, kept_of n c r.conf s s1 st r.stands k r.spares);
+    bound = r.bound;
+  }
+  runs_kept c pc n q P (Fails t s1) s st k r = r
+  runs_kept c pc n q P (Stops s1) s st k r = r
+
+  -- the state is the same
+  pub kept_same : (n : ℕ) (c c' : Conf) (s : State) → Stands w s c → Stands w s c' → Spares w n c c' → Keeps w n c c'
+  kept_same n c c' s st st' sp = kept_of n c c' s s st st' (same no_variable s) sp
+
+  -- first one, then another that leaves more
+  pub keeps_on : (n m : ℕ) (c c1 c2 : Conf) → n ≤ m → Keeps w n c c1 → Keeps w m c1 c2 → Keeps w n c c2
+  keeps_on n m c c1 c2 le k h = record {
+    scalars_stay = λ x low. h.scalars_stay x (low_more w.layout Uniform n m x le low) ∙ k.scalars_stay x low;
+    vectors_stay = λ x low. h.vectors_stay x (low_more w.layout Varying n m x le low) ∙ k.vectors_stay x low;
+  }
+
+  pub held_kept : (r : Rate) (n : ℕ) (c c' : Conf) (a : Mask) (x : ℕ) → Keeps w n c c' → Low w.layout r n x → held_at r c'.scalars c'.vectors a x ≡ held_at r c.scalars c.vectors a x
+  held_kept Uniform n c c' a x k low = ap One (k.scalars_stay x low)
+  held_kept Varying n c c' a x k low = ap (λ v. Each (on a v)) (k.vectors_stay x low)
+
+  -- ---- values that change no variable
+
+  -- code has no packed loads yet
+  pub no_loads : (x : TExpr) (n v : ℕ) → ExprFits w x n → loads x v ≡ false
+  no_loads (t_constant u sp) n v f = refl
+  no_loads (t_program_index sp) n v f = refl
+  no_loads (t_place (t_variable u t sp)) n v f = refl
+  no_loads (t_place (t_element b i t sp)) n v f = no_loads i n v f.0.4
+  no_loads (t_convert e x) n v f = no_loads x n v f.2
+  no_loads (t_cast x t sp) n v f = no_loads x n v f.1
+  no_loads (t_unary o x t sp) n v f = no_loads x n v f.2
+  no_loads (t_binary o x y t sp) n v f = ap (λ b. b || loads y v) (no_loads x n v f.3) ∙ no_loads y (n + 1) v f.4
+  no_loads (t_compare c x y r sp) n v f = ap (λ b. b || loads y v) (no_loads x n v f.3) ∙ no_loads y (n + 1) v f.4
+  no_loads (t_logic g x y r sp) n v f = ap (λ b. b || loads y v) (no_loads x n v f.3) ∙ no_loads y (n + 1) v f.4
+  no_loads (t_choose c x y t sp) n v f =
+      ap (λ b. b || (loads x v || loads y v)) (no_loads c n v f.5) ∙ ap (λ b. b || loads y v) (no_loads x (first_slot (type_of c).rate n) v f.6) ∙ no_loads y (second_slot (type_of c).rate n) v f.7
+  no_loads (t_call c t) n v f = absurd f
+  no_loads (t_library g e xs t sp) n v f = absurd f
+  no_loads (t_packed_store b x sp) n v f = absurd f
+  no_loads (t_packed_load b u sp) n v f = absurd f
+
+  still_by : (b : ℕ → Bool) (s : State) (v : Val Payload) → ((u : ℕ) → b u ≡ false) → KeepsBy b s v → KeepsBy no_variable s v
+  still_by b s (Gives x s1) without k = (k.0, λ u e. k.1 u (without u), k.2, k.3, k.4)
+  still_by b s (Fails t s1) without k = tt
+  still_by b s (Stops s1) without k = tt
+
+  pub checked_still : {A B : Type 0} (o : Option ℕ) (kind : TrapKind) (sp : Span) (s : State) (x : A) (f : A → B) → KeepsBy no_variable s (bind (checked o kind sp s x) (λ m s1. Gives (f m) s1))
+  checked_still None kind sp s x f = same no_variable s
+  checked_still (Some p) kind sp s x f = tt
+
+  pub unless_still : (gang : ℕ) (a : Mask) (s : State) (v : Mask → State → Val Payload) → KeepsBy no_variable s (v a s) → KeepsBy no_variable s (value_unless_empty gang a s v)
+  unless_still gang a s v k = go (any gang a)
+    where
+      go : (b : Bool) → KeepsBy no_variable s (if_so b (v a) (Gives nothing) s)
+      go true = k
+      go false = same no_variable s
+
+module _ (w : Setting) (ready : IsSettled w) where
+  pub value_still : (x : TExpr) (n : ℕ) (a : Mask) (s : State) → ExprFits w x n → KeepsBy no_variable s (value (gang_of w) w.frame (calls_of w) x a s)
+  value_still x n a s f =
+      still_by w (loads x) s _ (λ v. no_loads w x n v f) (subst (λ u. KeepsBy (loads x) s (value (gang_width u) w.frame (calls_of w) x a s)) (sym ready.gang) (variables_stay w.program w.turns w.left w.frame x a s))

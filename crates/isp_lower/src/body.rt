@@ -1,0 +1,66 @@
+//! Code grows, and jumps are written once it is known where they lead.
+ghost use Rattle.std.specs.Prelude.{◌≡◌, ◌<◌, ◌∷◌, [], length, slice_set, IfOk, OnOk};
+ghost use Rattle.isp_code.specs.declared.instr.Instr.TheVariants as instr;
+ghost use Rattle.isp_lower.specs.Emitted.{Appends};
+
+use crate::types::Body;
+use isp_base::Span;
+use isp_code::{Instr, JumpTest, Register};
+use std::alloc::{AllocError, Global};
+
+impl Body {
+    /// No code.
+    pub fn new(alloc: Global) -> Body
+        ensures code { result.code.items ≡ [] }
+        ensures places { result.places.items ≡ [] }
+    {
+        Body {
+            places: Vec::new(alloc),
+            code: Vec::new(alloc),
+        }
+    }
+
+    /// Appends an instruction. Memory is refused too where it would be number 4,294,967,295.
+    pub fn push(&mut self, instr: Instr) -> Result<(), AllocError>
+        ensures { OnOk result (Appends self.old self.new (λ pc p. instr ∷ []) []) }
+    {
+        if self.code.len() >= 4_294_967_295 {
+            return Err(AllocError);
+        }
+        self.code.push(instr)?;
+        Ok(())
+    }
+
+    /// Appends a place in the source, and gives its number. Memory is refused too where that would be 4,294,967,295.
+    pub fn place(&mut self, span: Span) -> Result<u32, AllocError>
+        ensures number { IfOk result (λ n. n ≡ length self.old.places.items) }
+        ensures added { OnOk result (Appends self.old self.new (λ pc p. []) (span ∷ [])) }
+    {
+        let number = self.places.len();
+        if number >= 4_294_967_295 {
+            return Err(AllocError);
+        }
+        self.places.push(span)?;
+        Ok(number as u32)
+    }
+
+    /// Writes a jump, of which the number is known, once it is known that it leads to the next instruction.
+    pub fn land(&mut self, at: usize, test: JumpTest, register: Register)
+        requires { at < length self.old.code.items }
+        ensures code { self.new.code.items ≡ slice_set self.old.code.items at (instr.JumpIf test register (length self.old.code.items)) }
+        ensures places { self.new.places ≡ self.old.places }
+    {
+        let next = self.code.len() as u32;
+        self.code[at] = Instr::JumpIf(test, register, next);
+    }
+
+    /// The same for a jump that is always taken.
+    pub fn land_always(&mut self, at: usize)
+        requires { at < length self.old.code.items }
+        ensures code { self.new.code.items ≡ slice_set self.old.code.items at (instr.Jump (length self.old.code.items)) }
+        ensures places { self.new.places ≡ self.old.places }
+    {
+        let next = self.code.len() as u32;
+        self.code[at] = Instr::Jump(next);
+    }
+}

@@ -1,0 +1,71 @@
+//! Registers are looked up; each that is asked for is there.
+ghost use Rattle.std.specs.Prelude.{◌≡◌, map, Some};
+ghost use Rattle.isp_lower.specs.Asks.{ArrayOf, Register as Ask};
+ghost use Rattle.isp_lower.specs.Emitted.{Present, layout, name_of, row_of};
+ghost use Rattle.isp_lower.specs.Rows.{Result, Spare, Variable, elem_in, number_in};
+
+use crate::register_rows::RegisterRows;
+use crate::registers::RegisterName;
+use crate::types::Scope;
+use isp_base::{Elem, Rate, Ty};
+use isp_typed::ArrayVariable;
+
+/// The register of a name that has one.
+fn given(rows: &RegisterRows, name: RegisterName, elem: Elem) -> u32
+    requires { elem_in (map row_of rows.now) (name_of name) ≡ Some elem }
+    ensures { result ≡ number_in (map row_of rows.now) (name_of name) }
+{
+    match rows.find(name) {
+        Some((place, _)) => place as u32,
+        None => 0,
+    }
+}
+
+impl Scope<'_> {
+    /// The register of a slot for values of a type.
+    pub fn spare(&self, rate: Rate, elem: Elem, slot: u32) -> u32
+        requires { Present self.now (Ask rate (Spare elem slot) elem) }
+        ensures { result ≡ (layout self.now).spare rate elem slot }
+    {
+        let name = RegisterName::Spare(elem, slot);
+        match rate {
+            Rate::Uniform => given(&self.registers.scalars, name, elem),
+            Rate::Varying => given(&self.registers.vectors, name, elem),
+        }
+    }
+
+    /// The register of a variable's value.
+    pub fn variable(&self, number: usize, ty: Ty) -> u32
+        requires { Present self.now (Ask ty.rate (Variable number) ty.elem) }
+        ensures { result ≡ (layout self.now).variable ty.rate number }
+    {
+        let name = RegisterName::Variable(number);
+        match ty.rate {
+            Rate::Uniform => given(&self.registers.scalars, name, ty.elem),
+            Rate::Varying => given(&self.registers.vectors, name, ty.elem),
+        }
+    }
+
+    /// The register of what the function gives back.
+    pub fn result(&self, ty: Ty) -> u32
+        requires { Present self.now (Ask ty.rate Result ty.elem) }
+        ensures { result ≡ (layout self.now).result ty.rate }
+    {
+        match ty.rate {
+            Rate::Uniform => given(&self.registers.scalars, RegisterName::Result, ty.elem),
+            Rate::Varying => given(&self.registers.vectors, RegisterName::Result, ty.elem),
+        }
+    }
+
+    /// The register of an array.
+    pub fn array(&self, array: ArrayVariable) -> u32
+        requires { Present self.now (ArrayOf array) }
+        ensures { result ≡ (layout self.now).array array.number }
+    {
+        given(
+            &self.registers.arrays,
+            RegisterName::Variable(array.number),
+            array.ty.elem,
+        )
+    }
+}

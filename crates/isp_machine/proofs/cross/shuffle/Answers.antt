@@ -1,0 +1,28 @@
+use Rattle.std.proofs.Common.{◌≡◌, refl, sym, ap, ◌∙◌, subst, ◌<◌, ◌^◌, Ok, rules}
+use Rattle.isp_base.specs.Cross.{shuffle}
+use Rattle.isp_base.specs.Maps.{lane_of, on, over}
+use Rattle.isp_base.specs.Types.{gang_width}
+use Rattle.isp_base.specs.Values.{number, width}
+use Rattle.isp_base.specs.declared.types.Elem.{Elem}
+use Rattle.isp_base.specs.declared.types.Elem.TheVariants.{I32}
+use Rattle.isp_machine.specs.Arrays.{vector_in}
+use Rattle.isp_machine.specs.Views.{masks_at, scalars_at, vectors_at}
+use Rattle.isp_machine.proofs.Written.{vector_elem_is}
+use Rattle.isp_machine.proofs.cross.shuffle.Goals as goal
+
+pub returns-clause-written : goal.returns-clause-written
+returns-clause-written g c =
+    let a = c.args in
+    let h = a.here.now.routine in
+    let f = a.frame.now in
+    let m = masks_at f a.k.number in
+    λ s. record {
+      value = c.shuffle.new.out;
+      elem = c.shuffle.ensures.elem ∙ c.vector.ensures.elem ∙ sym (vector_elem_is h f c.requires.shaped a.d c.requires.operands.0.0);
+      written = record {
+        lanes = on m (shuffle (gang_width a.here.now.code.gang) (on m (vectors_at f a.x.number)) (on m (vectors_at f a.i.number)));
+        value = λ ws out. refl;
+        bits = c.shuffle.ensures.lanes ∙ (λ j. over (on (c.mask-mask.ensures j) (shuffle (c.requires.gang j) (on (c.mask-mask.ensures j) (c.vector-from.ensures.lanes j)) (on (c.mask-mask.ensures j) (c.vector-lanes.ensures.lanes j)))) (c.vector.ensures.lanes j));
+      };
+      now = c.set_vector.ensures;
+    }

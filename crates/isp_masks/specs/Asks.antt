@@ -1,0 +1,54 @@
+-- What the code of statements asks for: what its parts ask for, the result's register where a value is returned, and for a
+-- varying test a mask and a slot behind it.
+use Rattle.std.specs.Prelude.{ℕ, ◌+◌, Option, Some, None}
+use Rattle.isp_base.specs.declared.types.Rate.{Rate}
+use Rattle.isp_base.specs.declared.types.Rate.TheVariants.{Uniform, Varying}
+use Rattle.isp_base.specs.declared.types.Ty.{Ty}
+use Rattle.isp_typed.specs.Typed.{TExpr, type_of, TStmt, t_block, t_declare, t_simple, t_if, t_if_else, t_while, t_do, t_for, t_foreach, t_foreach_active, t_unmasked, t_jump, t_return, t_print, t_assert, TBlock, t_braces, TStmts, t_no_stmts, t_stmt_then}
+use Rattle.isp_lower.specs.Asks.{Ask, Nothing, Both, Register, MaskOf, Number, first_slot, expr_asks, operand_asks, simple_asks, items_asks}
+use Rattle.isp_lower.specs.Rows.{Result}
+
+-- a part behind a test
+abbrev pub part_asks : Rate → ℕ → Ask
+part_asks Uniform n = Nothing
+part_asks Varying n = Both (Number (n + 1)) (MaskOf n)
+
+-- what is returned is wanted at the rate of what the function gives, and stands where results do
+abbrev pub answer_asks : Option Ty → TExpr → ℕ → Ask
+answer_asks None x n = expr_asks x n
+answer_asks (Some t) x n = Both (Register t.rate Result t.elem) (operand_asks t.rate x n)
+
+-- the register of what a function gives back
+abbrev pub result_asks : Option Ty → Ask
+result_asks None = Nothing
+result_asks (Some t) = Register t.rate Result t.elem
+
+module _ (answer : Option Ty) where
+  abbrev mutual
+    pub stmt_asks : TStmt → ℕ → Ask
+    stmt_asks (t_block b) n = block_asks b n
+    stmt_asks (t_declare xs sp) n = items_asks n xs
+    stmt_asks (t_simple x sp) n = simple_asks x n
+    stmt_asks (t_if f g e x sp) n =
+        Both (expr_asks e n) (Both (part_asks (type_of e).rate n) (stmt_asks x (first_slot (type_of e).rate n)))
+    stmt_asks (t_if_else f g e x y sp) n =
+        let i = first_slot (type_of e).rate n in
+        Both (expr_asks e n) (Both (part_asks (type_of e).rate n) (Both (stmt_asks x i) (stmt_asks y i)))
+    stmt_asks (t_while f g e x sp) n = Nothing
+    stmt_asks (t_do f g x e sp) n = Nothing
+    stmt_asks (t_for f g first e step i x sp) n = Nothing
+    stmt_asks (t_foreach k g rs x sp) n = Nothing
+    stmt_asks (t_foreach_active k g i x sp) n = Nothing
+    stmt_asks (t_unmasked k b sp) n = Nothing
+    stmt_asks (t_jump j k sp) n = Nothing
+    stmt_asks (t_return k None sp) n = Nothing
+    stmt_asks (t_return k (Some x) sp) n = answer_asks answer x n
+    stmt_asks (t_print k text xs sp) n = Nothing
+    stmt_asks (t_assert x c sp) n = Nothing
+
+    pub block_asks : TBlock → ℕ → Ask
+    block_asks (t_braces xs sp) n = stmts_asks xs n
+
+    pub stmts_asks : TStmts → ℕ → Ask
+    stmts_asks t_no_stmts n = Nothing
+    stmts_asks (t_stmt_then x xs) n = Both (stmt_asks x n) (stmts_asks xs n)

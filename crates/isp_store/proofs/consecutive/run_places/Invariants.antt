@@ -1,0 +1,11 @@
+use Rattle.std.proofs.Common.{◌≡◌, length, None}
+use Rattle.isp_base.specs.Cross.{run_index, run_outside}
+use Rattle.isp_base.specs.Sets.{flag_of, lowest}
+use Rattle.isp_base.specs.Values.{number}
+use Rattle.isp_base.specs.declared.types.Elem.TheVariants.{I64}
+use Rattle.isp_store.proofs.PlacesInOrder.{Placed}
+use Rattle.isp_store.proofs.consecutive.run_places.Given as goal
+
+abbrev pub invariant-loop-lane : goal.invariant-loop-lane
+invariant-loop-lane g l =
+    (lowest l.lane (run_outside l.count (number I64 l.index) (flag_of l.mask)) ≡ None) × Placed l.count (run_index (number I64 l.index)) (flag_of l.mask) l.places l.lane × (length l.places ≡ g.row.N)

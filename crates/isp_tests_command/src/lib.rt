@@ -1,0 +1,13 @@
+//! The whole way, from words and files to statuses and lines, against answers that were found without it.
+#![tactic(auto)]
+
+#[cfg(test)]
+mod commands;
+#[cfg(test)]
+mod covered;
+#[cfg(test)]
+mod fakes;
+#[cfg(test)]
+mod reading;
+#[cfg(test)]
+mod runs;

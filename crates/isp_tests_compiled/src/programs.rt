@@ -1,0 +1,122 @@
+//! Programs that are compiled and run, against what comes out by the language's rules, and against what the evaluator finds.
+//!
+//! A record of a table has five lines: `=== ` and its name; how what comes out was worked out, where p is the number of each
+//! instance; the gang's size, the entry, the budget and the arguments; what comes out, which is the answer, or the trap's kind and
+//! instance; and the source, in which a trap's place stands between `⟦` and `⟧`.
+use crate::machines::AMPLE;
+use crate::runs::{evaluated, executed};
+use isp_base::Gang;
+use isp_engine::compile;
+use std::alloc::Global;
+use std::process::Abort;
+use std::test::Fail;
+
+mod worked;
+
+/// A program, how its entry is called, and what comes out.
+#[derive(Clone, Copy)]
+pub(crate) struct Row<'a> {
+    name: &'a str,
+    pub gang: Gang,
+    pub entry: &'a str,
+    budget: u64,
+    pub arguments: &'a str,
+    outcome: &'a str,
+    source: &'a str,
+}
+
+fn number(text: &str) -> Option<u64> {
+    match text.parse::<u64>() {
+        Ok(number) => Some(number),
+        Err(_fault) => None,
+    }
+}
+
+// What a record says: the working is for the reader alone.
+fn read(record: &str) -> Option<Row<'_>> {
+    let (name, rest) = record.split_once('\n')?;
+    let (_working, rest) = rest.split_once('\n')?;
+    let (call, rest) = rest.split_once('\n')?;
+    let (outcome, source) = rest.split_once('\n')?;
+    let (lanes, call) = call.split_once(' ')?;
+    let (entry, call) = call.split_once(' ')?;
+    let (budget, arguments) = call.split_once(' ')?;
+    Some(Row {
+        name,
+        gang: Gang::of_width(number(lanes)? as usize)?,
+        entry,
+        budget: number(budget)?,
+        arguments,
+        outcome,
+        source,
+    })
+}
+
+// What comes out at a place, which is behind a kind and before an instance.
+fn placed(alloc: Global, outcome: &str, start: usize, end: usize) -> Result<String, Fail> {
+    match outcome.split_once(", ") {
+        Some((kind, instance)) => Ok(format!(in alloc; "{kind} at {start}..{end}, {instance}")?),
+        None => Err(Fail::from("a trap without an instance")),
+    }
+}
+
+// A source without the brackets around a place, and what comes out with that place.
+fn unmarked(alloc: Global, outcome: &str, marked: &str) -> Result<(String, String), Fail> {
+    let mut source = String::new(alloc);
+    let Some((before, rest)) = marked.split_once('⟦') else {
+        source.push_str(marked)?;
+        return Ok((source, String::from_str(alloc, outcome)?));
+    };
+    let Some((place, after)) = rest.split_once('⟧') else {
+        return Err(Fail::from("a place without an end"));
+    };
+    source.push_str(before)?;
+    let start = source.len();
+    source.push_str(place)?;
+    let line = placed(alloc, outcome, start, source.len())?;
+    source.push_str(after)?;
+    Ok((source, line))
+}
+
+fn same(rt: &impl Abort, name: &str, found: &str, wanted: &str) {
+    assert!(rt; found == wanted, "{name}: {found}, not {wanted}");
+}
+
+fn compare(rt: &impl Abort, alloc: Global, row: Row<'_>) -> Result<(), Fail> {
+    let (source, wanted) = unmarked(alloc, row.outcome, row.source)?;
+    let image = compile(alloc, source.as_str(), row.gang)?;
+    let found = executed(alloc, &image, row, row.budget)?;
+    same(rt, row.name, found.as_str(), wanted.as_str());
+    let ample = executed(alloc, &image, row, AMPLE)?;
+    let evaluated = evaluated(alloc, source.as_str(), row)?;
+    same(rt, row.name, ample.as_str(), evaluated.as_str());
+    Ok(())
+}
+
+fn compare_record(rt: &impl Abort, alloc: Global, record: &str) -> Result<(), Fail> {
+    match read(record) {
+        Some(row) => compare(rt, alloc, row),
+        None => Err(Fail::from("a record that says too little")),
+    }
+}
+
+// Each of so many records of a table.
+fn compare_all(rt: &impl Abort, alloc: Global, table: &str, count: usize) -> Result<(), Fail> {
+    let mut left = count;
+    for record in table.split("=== ") {
+        if !record.is_empty() {
+            compare_record(rt, alloc, record.trim_end())?;
+            let Some(fewer) = left.checked_sub(1) else {
+                return Err(Fail::from("more records than there should be"));
+            };
+            left = fewer;
+        }
+    }
+    assert!(rt; left == 0, "{left} records are not there");
+    Ok(())
+}
+
+#[test]
+fn worked_examples(rt: HostRuntime) -> Result<(), Fail> {
+    compare_all(&rt, rt.alloc(), worked::ROWS, worked::COUNT)
+}

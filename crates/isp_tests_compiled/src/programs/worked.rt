@@ -1,0 +1,158 @@
+//! Worked examples, each record with its working.
+
+/// How many records there are.
+pub(super) const COUNT: usize = 30;
+
+/// The records.
+pub(super) const ROWS: &str = r##"=== a division behind a select
+The divisor is asked of 1 and 3 alone.
+4 f 10000 {"a":[0,3,0,5],"b":[0,0,0,0]}
+{"arrays":{"a":[0,3,0,5],"b":[7,4,7,2]},"result":null}
+export void f(uniform int a[], uniform int b[]) { b[programIndex] = a[programIndex] != 0 ? 12 / a[programIndex] : 7; }
+=== a uniform assigned in the first branch alone
+All are below 4.
+4 f 10000 {"k":4}
+{"arrays":{},"result":1}
+export uniform int f(uniform int k) { uniform int u = 0; if (programIndex < k) u = 1; else u = 2; return u; }
+=== a uniform assigned in both branches
+The second branch comes last.
+4 f 10000 {"k":2}
+{"arrays":{},"result":2}
+export uniform int f(uniform int k) { uniform int u = 0; if (programIndex < k) u = 1; else u = 2; return u; }
+=== a scatter to one element
+The highest instance wins.
+4 f 10000 {"a":[9]}
+{"arrays":{"a":[3]},"result":null}
+export void f(uniform int a[]) { int j = 0; a[j] = programIndex; }
+=== the least int8 as an argument
+It is bound, and nothing is done.
+4 f 10000 {"x":-128}
+{"arrays":{},"result":null}
+export void f(uniform int8 x) { }
+=== the least value by minus one
+The least value, remainder 0; 33 is 1 modulo 32.
+4 f 10000 {"a":[9,9,9]}
+{"arrays":{"a":[-2147483648,0,2]},"result":null}
+export void f(uniform int a[]) { uniform int x = -2147483647 - 1; uniform int y = 0 - 1; a[0] = x / y; a[1] = x % y; a[2] = 1 << 33; }
+=== double plus one
+10 + 1, 12 + 1, 14 + 1, 16 + 1.
+4 f 10000 {"a":[5,6,7,8]}
+{"arrays":{"a":[11,13,15,17]},"result":null}
+export void f(uniform int a[]) { a[programIndex] = a[programIndex] * 2 + 1; }
+=== double plus one of three elements
+The right side reads before the store: 3 is outside.
+4 f 10000 {"a":[5,6,7]}
+trap index, instance 3
+export void f(uniform int a[]) { a[programIndex] = ⟦a[programIndex]⟧ * 2 + 1; }
+=== double plus one by eight
+2 n + 1.
+8 f 10000 {"a":[1,2,3,4,5,6,7,8]}
+{"arrays":{"a":[3,5,7,9,11,13,15,17]},"result":null}
+export void f(uniform int a[]) { a[programIndex] = a[programIndex] * 2 + 1; }
+=== an array of each instance
+0 and 2 write t[0] again.
+4 f 10000 {"a":[0,0,0,0]}
+{"arrays":{"a":[9,1,9,3]},"result":null}
+export void f(uniform int a[]) { int t[2]; t[0] = programIndex; t[programIndex & 1] = 9; a[programIndex] = t[0]; }
+=== an int8 wraps
+127 + 1.
+4 f 10000 {}
+{"arrays":{},"result":-128}
+export uniform int8 f() { uniform int8 x = 127; x += 1; return x; }
+=== a condition with &&
+1 is negative, 3 is not asked for an element.
+4 f 10000 {"a":[5,-1,2],"b":[9,9,9,9]}
+{"arrays":{"a":[5,-1,2],"b":[1,0,1,0]},"result":null}
+export void f(uniform int a[], uniform int b[]) { b[programIndex] = programIndex < 3 && a[programIndex] > 0 ? 1 : 0; }
+=== a uniform under an if that nobody takes
+No instance is above 9.
+4 f 10000 {}
+{"arrays":{},"result":0}
+export uniform int f() { uniform int u = 0; if (programIndex > 9) u = 5; return u; }
+=== forty-one complements
+An odd number of complements of 1.
+16 f 1536 {"a":[1,1,1,1,1,1,1,1,1,1,1,1,1,1,1,1]}
+{"arrays":{"a":[-2,-2,-2,-2,-2,-2,-2,-2,-2,-2,-2,-2,-2,-2,-2,-2]},"result":null}
+export void f(uniform int a[]) { a[programIndex] = ~~~~~~~~~~~~~~~~~~~~~~~~~~~~~~~~~~~~~~~~~a[programIndex]; }
+=== one element for all
+All read 7 and store it.
+4 f 10000 {"a":[7,1,2,3]}
+{"arrays":{"a":[7,7,7,7]},"result":null}
+export void f(uniform int a[]) { int x = a[0]; a[programIndex] = x; }
+=== sixteen int8 wrap
+100 + 100 - 256.
+16 f 10000 {"a":[100,100,100,100,100,100,100,100,100,100,100,100,100,100,100,100]}
+{"arrays":{"a":[-56,-56,-56,-56,-56,-56,-56,-56,-56,-56,-56,-56,-56,-56,-56,-56]},"result":null}
+export void f(uniform int8 a[]) { a[programIndex] += 100; }
+=== twenty cif
+p is below k for k of p + 1 to 20.
+4 f 10000 {"a":[0,0,0,0]}
+{"arrays":{"a":[20,19,18,17]},"result":null}
+export void f(uniform int a[]) { cif (programIndex < 1) a[programIndex]++; cif (programIndex < 2) a[programIndex]++; cif (programIndex < 3) a[programIndex]++; cif (programIndex < 4) a[programIndex]++; cif (programIndex < 5) a[programIndex]++; cif (programIndex < 6) a[programIndex]++; cif (programIndex < 7) a[programIndex]++; cif (programIndex < 8) a[programIndex]++; cif (programIndex < 9) a[programIndex]++; cif (programIndex < 10) a[programIndex]++; cif (programIndex < 11) a[programIndex]++; cif (programIndex < 12) a[programIndex]++; cif (programIndex < 13) a[programIndex]++; cif (programIndex < 14) a[programIndex]++; cif (programIndex < 15) a[programIndex]++; cif (programIndex < 16) a[programIndex]++; cif (programIndex < 17) a[programIndex]++; cif (programIndex < 18) a[programIndex]++; cif (programIndex < 19) a[programIndex]++; cif (programIndex < 20) a[programIndex]++; }
+=== the right side comes before the store
+a[9] is outside, but 1 / 0 comes first.
+4 f 10000 {"a":[0,0,0,0]}
+trap divide, instance 0
+export void f(uniform int a[]) { a[9] = ⟦1 / a[0]⟧; }
+=== the index comes before the right side
+b[9] is the index, and 1 / 0 would come after it.
+4 f 10000 {"a":[0],"b":[0]}
+trap index, instance 0
+export void f(uniform int a[], uniform int b[]) { a[⟦b[9]⟧] = 1 / a[0]; }
+=== the left operand first, a division
+1 / 0, then a[9] would come.
+4 f 10000 {"a":[5,0]}
+trap divide, instance 0
+export void f(uniform int a[]) { a[0] = ⟦1 / a[1]⟧ + a[9]; }
+=== the left operand first, an index
+a[9], then 1 / 0 would come.
+4 f 10000 {"a":[5,0]}
+trap index, instance 0
+export void f(uniform int a[]) { a[0] = ⟦a[9]⟧ + 1 / a[1]; }
+=== a division behind && and ||
+The divisors are 1 and 2 for 2 and 3, and -1 for 0.
+4 f 10000 {"a":[0,0,0,0]}
+{"arrays":{"a":[1,0,1,0]},"result":null}
+export void f(uniform int a[]) { a[programIndex] = programIndex > 1 && 2 / (programIndex - 1) > 1 || programIndex == 0 && 1 / (programIndex - 1) < 0; }
+=== both indices and values of a scatter come first
+All read the value of their right neighbour before any is stored.
+4 f 10000 {"a":[1,2,3,4]}
+{"arrays":{"a":[2,3,4,1]},"result":null}
+export void f(uniform int a[]) { a[programIndex] = a[(programIndex + 1) % 4]; }
+=== the highest of those that are on wins a scatter
+0 and 2 store to a[1]: 2 wins; 1 and 3 store to a[0]: 3 wins.
+4 f 10000 {"a":[0,0,0,0]}
+{"arrays":{"a":[4,3,0,0]},"result":null}
+export void f(uniform int a[]) { a[1 - programIndex % 2] = programIndex + 1; }
+=== a test is taken once for both branches
+0 and 1 become 5 and 6, and are not taken for the second branch.
+4 f 10000 {"a":[0,0,0,0]}
+{"arrays":{"a":[5,6,1,2]},"result":null}
+export void f(uniform int a[]) { int x = programIndex; if (x < 2) { x += 5; } else { x -= 1; } a[programIndex] = x; }
+=== the work of an empty body
+The body.
+4 f 64 {}
+{"arrays":{},"result":null}
+export void f() { }
+=== the work of double plus one
+The body, the assignment, index and operand on the left, two operators, one index and three operands on the right.
+4 f 352 {"a":[5,6,7,8]}
+{"arrays":{"a":[11,13,15,17]},"result":null}
+export void f(uniform int a[]) { a[programIndex] = a[programIndex] * 2 + 1; }
+=== the work of && of which the second operand is not needed
+The body; the if, &&, the comparison and its operands; the operand right is reached by nobody.
+4 f 224 {}
+{"arrays":{},"result":null}
+export void f() { if (programIndex > 9 && programIndex < 3) ; }
+=== too small a budget
+One instruction is not enough.
+4 f 1 {"a":[5,6,7,8]}
+running
+export void f(uniform int a[]) { a[programIndex] = a[programIndex] * 2 + 1; }
+
+=== a budget of nothing
+Nothing is run.
+4 f 0 {}
+running
+export void f() { }
+"##;

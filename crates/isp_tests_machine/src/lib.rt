@@ -1,0 +1,31 @@
+//! Worked examples of runs, against answers that were found without the crates.
+#![tactic(auto)]
+
+#[cfg(test)]
+mod calls;
+#[cfg(test)]
+mod consecutive;
+#[cfg(test)]
+mod crossed;
+#[cfg(test)]
+mod divisions;
+#[cfg(test)]
+mod ends;
+#[cfg(test)]
+mod listing;
+#[cfg(test)]
+mod locals;
+#[cfg(test)]
+mod masks;
+#[cfg(test)]
+mod operators;
+#[cfg(test)]
+mod refused;
+#[cfg(test)]
+mod registers;
+#[cfg(test)]
+mod runs;
+#[cfg(test)]
+mod texts;
+#[cfg(test)]
+mod trials;
