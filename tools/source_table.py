@@ -1,8 +1,8 @@
 #!/usr/bin/env python3
-"""Writes crates/isp_tests_types/src/tables/library.rt, packed.rt and pairs.rt: sources and what comes out.
+"""Writes library.rows, packed.rows and pairs.rows of crates/isp_cases/data: texts and what becomes of them.
 
 Each call of the library stands here once with what it takes and gives, as docs/LANGUAGE.md has it,
-and each fault of names, types and rates once; the tables hold each call with each kind of wrong
+and each fault of names, types and rates once; the rows hold each call with each kind of wrong
 argument, each packed call with a wrong number of arguments, and each two faults in either order. Nothing is taken from the crates. Run it at the top
 of the repository:
 
@@ -63,11 +63,19 @@ FAULTS = {
 }
 
 
-def file(path, says, what, lines):
-    head = f"//! {says}\n\n/// Each line: what comes out, and statements of the function `f` that stands in the frame; the place is in brackets.\n"
-    body = "".join(f"{line}\n" for line in lines)
-    with open(f"crates/isp_tests_types/src/tables/{path}.rt", "w") as out:
-        out.write(f'{head}pub(crate) const {what}: &str = r##"{body}"##;\n')
+# The functions before the statements of a row, and the head of the function that they stand in.
+FRAME = (
+    "void g() { } int h(int x) { return x; } uniform int k(uniform int x) { return x; }␤"
+    "void w(uniform int b[]) { } void r(const uniform int b[]) { } void q(uniform int8 b[]) { }␤"
+    "void f(uniform int a[], const uniform int c[], uniform int8 d[], uniform int u, int v, bool t) { … }"
+)
+
+
+def file(name, says, rows):
+    with open(f"crates/isp_cases/data/{name}.rows", "w") as out:
+        out.write(f". {says}.\n. Written by tools/source_table.py from the rules of the language.\n=== {says.lower()}\nframe {FRAME}\n")
+        for row in rows:
+            out.write(f"{row}\n")
 
 
 def call(name, arguments):
@@ -78,43 +86,43 @@ def library():
     for name, (kinds, gives) in CALLS.items():
         right = ["v" if kind == "x" else "u" for kind in kinds]
         uniform = ["u"] * len(kinds)
-        yield f"accepted|v = {call(name, right)}; v = {call(name, uniform)};"
+        yield f"accepts v = {call(name, right)}; v = {call(name, uniform)};"
         if gives == "varying":
-            yield f"30 VaryingToUniform|u = ⟦{call(name, uniform)}⟧;"
+            yield f"refuses 30 VaryingToUniform|u = ⟦{call(name, uniform)}⟧;"
         else:
-            yield f"accepted|u = {call(name, right if gives == 'uniform' else uniform)};"
+            yield f"accepts u = {call(name, right if gives == 'uniform' else uniform)};"
         for place, kind in enumerate(kinds):
             for wrong in NO_VALUES:
-                yield f"22 Mismatch|{call(name, right[:place] + [f'⟦{wrong}⟧'] + right[place + 1:])};"
+                yield f"refuses 22 Mismatch|{call(name, right[:place] + [f'⟦{wrong}⟧'] + right[place + 1:])};"
             if kind == "i":
-                yield f"30 VaryingToUniform|{call(name, right[:place] + ['⟦v⟧'] + right[place + 1:])};"
+                yield f"refuses 30 VaryingToUniform|{call(name, right[:place] + ['⟦v⟧'] + right[place + 1:])};"
             if gives == "as they are":
-                yield f"30 VaryingToUniform|u = ⟦{call(name, uniform[:place] + ['v'] + uniform[place + 1:])}⟧;"
+                yield f"refuses 30 VaryingToUniform|u = ⟦{call(name, uniform[:place] + ['v'] + uniform[place + 1:])}⟧;"
         if name != "shuffle of two":
-            yield f"23 Arguments|⟦{call(name, right[1:])}⟧;"
+            yield f"refuses 23 Arguments|⟦{call(name, right[1:])}⟧;"
         if name != "shuffle":
-            yield f"23 Arguments|⟦{call(name, right + ['v'])}⟧;"
+            yield f"refuses 23 Arguments|⟦{call(name, right + ['v'])}⟧;"
 
 
 def packed():
     for name in PACKED:
-        yield f"23 Arguments|⟦{call(name, [])}⟧;"
+        yield f"refuses 23 Arguments|⟦{call(name, [])}⟧;"
         for one in ALONE + REFERENCES:
-            yield f"23 Arguments|⟦{call(name, [one])}⟧;"
-            yield f"23 Arguments|u = ⟦{call(name, [one, one, one])}⟧;"
+            yield f"refuses 23 Arguments|⟦{call(name, [one])}⟧;"
+            yield f"refuses 23 Arguments|u = ⟦{call(name, [one, one, one])}⟧;"
         for place in range(3):
             for one in REFERENCES:
                 some = ["a", "v", "1"]
                 some[place] = one
-                yield f"23 Arguments|⟦{call(name, some)}⟧;"
+                yield f"refuses 23 Arguments|⟦{call(name, some)}⟧;"
             for fault, one in FAULTY:
                 some = ["&a", "&v", "&c"]
                 some[place] = one
-                yield f"{fault}|{call(name, some)};"
+                yield f"refuses {fault}|{call(name, some)};"
     # another call keeps no `&`, whatever the number of its arguments
     for name in ["g", "h", "w", "min", "rotate"]:
         for one in REFERENCES:
-            yield f"22 Mismatch|{call(name, [f'⟦{one}⟧', 'v', 'v'])};"
+            yield f"refuses 22 Mismatch|{call(name, [f'⟦{one}⟧', 'v', 'v'])};"
 
 
 def pairs():
@@ -125,11 +133,11 @@ def pairs():
                 continue
             # names and types come before rates and exits; else the place that ends first
             if first >= "30" and second < "30":
-                yield f"{second}|{one.translate(bare)} {other}"
+                yield f"refuses {second}|{one.translate(bare)} {other}"
             else:
-                yield f"{first}|{one} {other.translate(bare)}"
+                yield f"refuses {first}|{one} {other.translate(bare)}"
 
 
-file("library", "Each call of the library, with each kind of wrong argument.", "CALLS", library())
-file("packed", "Each packed call with a wrong number of arguments.", "CALLS", packed())
-file("pairs", "Each two faults, in either order.", "PAIRS", pairs())
+file("library", "Each call of the library, with each kind of wrong argument", library())
+file("packed", "Each packed call with a wrong number of arguments", packed())
+file("pairs", "Each two faults, in either order", pairs())

@@ -1,10 +1,17 @@
-//! One case, line by line.
+//! One record of cases, line by line.
 use crate::found::Found;
-use crate::ways::{evaluated, executed};
+use crate::ways::{accepted, compiled, evaluated, executed};
 use isp_base::Gang;
 use std::alloc::{AllocError, Global};
 
-/// What a case says, up to the line that was read last.
+/// How many cases were tried, and a line for each thing in which one does not come to what it says.
+#[derive(Drop)]
+pub(crate) struct Tried {
+    pub cases: u64,
+    pub differences: Vec<String>,
+}
+
+/// What a record says, up to the line that was read last.
 #[derive(Drop)]
 pub(crate) struct Case<'a> {
     alloc: Global,
@@ -21,6 +28,8 @@ pub(crate) struct Case<'a> {
     /// The work of the run, where it is said.
     pub work: Option<u64>,
     output: String,
+    /// The text in which those of the lines stand that are judged alone, in place of `…`.
+    frame: &'a str,
 }
 
 impl<'a> Case<'a> {
@@ -37,15 +46,12 @@ impl<'a> Case<'a> {
             turns: 0,
             work: None,
             output: String::new(alloc),
+            frame: "…",
         }
     }
 
     /// Takes a line. One that says what must come out is tried, and what differs is added.
-    pub(crate) fn follow(
-        &mut self,
-        line: &'a str,
-        differences: &mut Vec<String>,
-    ) -> Result<(), AllocError> {
+    pub(crate) fn follow(&mut self, line: &'a str, tried: &mut Tried) -> Result<(), AllocError> {
         let (word, rest) = line.split_once(' ').unwrap_or((line, ""));
         match word {
             "." | "" => {}
@@ -56,7 +62,36 @@ impl<'a> Case<'a> {
             "turns" => self.turns = number(rest),
             "work" => self.work = Some(number(rest)),
             "writes" => self.output = spelt_out(self.alloc, rest)?,
-            _ => self.compare(word, rest, differences)?,
+            "frame" => self.frame = rest,
+            "accepts" | "refuses" | "compiles" | "leaves" => self.judge(word, rest, tried)?,
+            _ => self.compare(word, rest, tried)?,
+        }
+        Ok(())
+    }
+
+    // Tries a line that judges a text.
+    fn judge(&mut self, word: &str, rest: &str, tried: &mut Tried) -> Result<(), AllocError> {
+        let (fault, text) = match word {
+            "refuses" => parted(rest, '|'),
+            "leaves" => ("90 NotYet", rest),
+            _ => ("", rest),
+        };
+        let (before, after) = parted(self.frame, '…');
+        let framed = format!(in self.alloc; "{before}{text}{after}")?;
+        self.take_source(framed.as_str())?;
+        let wanted = match fault {
+            "" => String::from_str(self.alloc, "accepted")?,
+            _ => format!(in self.alloc; "{fault} at {}..{}", self.start, self.end)?,
+        };
+        let found = match word {
+            "accepts" | "refuses" => accepted(self.alloc, self)?,
+            _ => compiled(self.alloc, self)?,
+        };
+        tried.cases = tried.cases.saturating_add(1);
+        if found != wanted {
+            tried
+                .differences
+                .push(format!(in self.alloc; "{text}: {found}, not {wanted}")?)?;
         }
         Ok(())
     }
@@ -96,20 +131,19 @@ impl<'a> Case<'a> {
         })
     }
 
-    fn compare(
-        &mut self,
-        word: &str,
-        rest: &str,
-        differences: &mut Vec<String>,
-    ) -> Result<(), AllocError> {
+    fn compare(&mut self, word: &str, rest: &str, tried: &mut Tried) -> Result<(), AllocError> {
+        tried.cases = tried.cases.saturating_add(1);
         let wanted = self.wanted(word, rest)?;
         let found = evaluated(self.alloc, self)?;
         if !found.is(&wanted) {
-            differences.push(format!(in self.alloc; "{}: {found}, not {wanted}", self.name)?)?;
+            tried.differences.push(format!(in self.alloc;
+                "{}: {found}, not {wanted}",
+                self.name
+            )?)?;
         }
         if let Some(found) = executed(self.alloc, self, &wanted)? {
             if !found.begins(&wanted) {
-                differences.push(format!(in self.alloc;
+                tried.differences.push(format!(in self.alloc;
                     "{}: as code {found}, not {wanted}",
                     self.name
                 )?)?;

@@ -1,6 +1,6 @@
 //! Programs with what must come out: each is judged, evaluated, and where it has code compiled and run.
 //!
-//! The words name files of cases. A case is the lines from `=== ` and its name on. Each line begins with a word that says what it is:
+//! The words name files of records. A record is the lines from `=== ` and its name on. Each line begins with a word that says what it is:
 //!
 //! - `.` how what comes out was found, for the reader alone;
 //! - `source` the text, where `␤` is a line feed, `␉` a tab, and a trap's place stands between `⟦` and `⟧`;
@@ -10,51 +10,44 @@
 //! Then comes what must come out: `refused` and the fault of the source, `accepted` where no entry is run, `unbound` and the fault of the
 //! arguments, `ends` and the answer, `traps` with the kind, the instance and the arrays as an answer without a result, or `cut`. Lines
 //! behind it may say other turns and what must come out then.
+//!
+//! A text that is only judged stands in one line with what becomes of it, and inside the last `frame` in place of its `…`: `accepts TEXT`;
+//! `refuses 20 UnknownName|TEXT`, where the place of the fault stands between `⟦` and `⟧`; `compiles TEXT`, of which all has code; and
+//! `leaves TEXT`, of which the first node that has no code is marked. Each line that says what must come out is a case.
 #![tactic(auto)]
 
 mod case;
 mod found;
 mod ways;
 
-use case::Case;
+use case::{Case, Tried};
 use std::alloc::{AllocError, Global};
 use std::{env, fs, io};
 
-/// How many cases were tried, and in how much they differ from what must come out.
-#[derive(Clone, Copy)]
-struct Tally {
-    cases: u64,
-    differ: u64,
-}
-
 fn main(rt: HostRuntime) -> io::Result<()> {
     let alloc = rt.alloc();
-    let mut tally = Tally {
+    let mut tried = Tried {
         cases: 0,
-        differ: 0,
+        differences: Vec::new(alloc),
     };
     let words = env::args(&rt)?.collect::<Vec<String>>(alloc)?;
     for word in words.iter().skip(1) {
         let text = fs::read_to_string(&rt, word)?;
         for record in text.as_str().split("=== ").skip(1) {
-            let differences = differences(alloc, record)?;
-            for line in &differences {
-                println!(rt; "{line}")?;
-            }
-            tally.cases = tally.cases.saturating_add(1);
-            tally.differ = tally.differ.saturating_add(differences.len() as u64);
+            follow(alloc, record, &mut tried)?;
         }
     }
-    println!(rt; "{} cases, {} differ", tally.cases, tally.differ)
+    for line in &tried.differences {
+        println!(rt; "{line}")?;
+    }
+    println!(rt; "{} cases, {} differ", tried.cases, tried.differences.len())
 }
 
-// A line for each thing in which a case does not come to what it says.
-fn differences(alloc: Global, record: &str) -> Result<Vec<String>, AllocError> {
+fn follow(alloc: Global, record: &str, tried: &mut Tried) -> Result<(), AllocError> {
     let mut lines = record.split('\n');
     let mut case = Case::new(alloc, lines.next().unwrap_or(""));
-    let mut differences = Vec::new(alloc);
     for line in lines {
-        case.follow(line, &mut differences)?;
+        case.follow(line, tried)?;
     }
-    Ok(differences)
+    Ok(())
 }

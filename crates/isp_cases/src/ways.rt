@@ -5,6 +5,7 @@ use isp_base::{Bound, Signature};
 use isp_bind::{answer, bind};
 use isp_engine::{Ending, Report, compile, execute, front};
 use isp_eval::{Outcome, evaluate};
+use isp_lex::SourceFault;
 use isp_rates::Checked;
 use std::alloc::{AllocError, Global};
 
@@ -17,6 +18,27 @@ fn silent(alloc: Global, ending: String) -> Found {
         arrays: String::new(alloc),
         output: Vec::new(alloc),
     }
+}
+
+// What is told of a source: its fault, or that it has none.
+fn told_fault<T: Drop>(
+    alloc: Global,
+    judged: Result<T, SourceFault>,
+) -> Result<String, AllocError> {
+    match judged {
+        Ok(_) => String::from_str(alloc, "accepted"),
+        Err(fault) => format!(in alloc; "{fault}"),
+    }
+}
+
+/// Whether the source of a case is accepted, or its fault.
+pub(crate) fn accepted(alloc: Global, case: &Case<'_>) -> Result<String, AllocError> {
+    told_fault(alloc, front(alloc, case.source.as_str(), case.gang))
+}
+
+/// Whether all of the source of a case has code, or the first node that has none.
+pub(crate) fn compiled(alloc: Global, case: &Case<'_>) -> Result<String, AllocError> {
+    told_fault(alloc, compile(alloc, case.source.as_str(), case.gang))
 }
 
 /// What a case comes to by the front and the evaluator.
