@@ -10,15 +10,13 @@ mod crossed;
 #[cfg(test)]
 mod divisions;
 #[cfg(test)]
-mod ends;
+mod jumps;
+#[cfg(test)]
+mod lines;
 #[cfg(test)]
 mod listing;
 #[cfg(test)]
 mod locals;
-#[cfg(test)]
-mod masks;
-#[cfg(test)]
-mod operators;
 #[cfg(test)]
 mod refused;
 #[cfg(test)]
@@ -27,5 +25,3 @@ mod registers;
 mod runs;
 #[cfg(test)]
 mod texts;
-#[cfg(test)]
-mod trials;

@@ -31,6 +31,11 @@ pub const S5: Register = Register {
     number: 5,
 };
 
+pub const S6: Register = Register {
+    class: Class::Scalar,
+    number: 6,
+};
+
 pub const V0: Register = Register {
     class: Class::Vector,
     number: 0,
@@ -69,6 +74,11 @@ pub const V6: Register = Register {
 pub const V7: Register = Register {
     class: Class::Vector,
     number: 7,
+};
+
+pub const V8: Register = Register {
+    class: Class::Vector,
+    number: 8,
 };
 
 pub const M0: Register = Register {

@@ -187,3 +187,25 @@ pub fn goes_in_parts(
     }
     Ok(true)
 }
+
+fn writes_in<const N: usize>(alloc: Global, code: &Verified, bound: Bound, output: &str) -> bool
+    requires { N ≡ gang_width code.now.gang }
+{
+    match Machine::<'_, N>::start(alloc, code, "f", bound) {
+        Ok(mut machine) => {
+            is_wanted(machine.run(100), Wanted::Ended) && machine.output() == output.as_bytes()
+        }
+        Err((_bound, _fault)) => false,
+    }
+}
+
+/// Whether a run of `f` ends within 100 instructions and writes this.
+pub fn writes(alloc: Global, code: &Verified, given: &[Given], output: &str) -> Result<bool, Fail> {
+    let bound = bound(alloc, given)?;
+    let right = match code.gang() {
+        Gang::W4 => writes_in::<4>(alloc, code, bound, output),
+        Gang::W8 => writes_in::<8>(alloc, code, bound, output),
+        Gang::W16 => writes_in::<16>(alloc, code, bound, output),
+    };
+    Ok(right)
+}
