@@ -2,6 +2,7 @@
 use crate::found::Found;
 use crate::ways::{accepted, compiled, evaluated, executed};
 use isp_base::Gang;
+use isp_testing::{Marked, number, parted, spelt_out};
 use std::alloc::{AllocError, Global};
 
 /// How many cases were tried, and a line for each thing in which one does not come to what it says.
@@ -16,11 +17,8 @@ pub(crate) struct Tried {
 pub(crate) struct Case<'a> {
     alloc: Global,
     name: &'a str,
-    /// The source without marks.
-    pub source: String,
-    /// Where a trap's place begins and ends in the source.
-    start: usize,
-    end: usize,
+    /// The source, with a place.
+    pub marked: Marked,
     pub gang: Gang,
     pub entry: &'a str,
     pub arguments: String,
@@ -37,9 +35,11 @@ impl<'a> Case<'a> {
         Case {
             alloc,
             name,
-            source: String::new(alloc),
-            start: 0,
-            end: 0,
+            marked: Marked {
+                source: String::new(alloc),
+                start: 0,
+                end: 0,
+            },
             gang: Gang::W4,
             entry: "",
             arguments: String::new(alloc),
@@ -55,17 +55,23 @@ impl<'a> Case<'a> {
         let (word, rest) = line.split_once(' ').unwrap_or((line, ""));
         match word {
             "." | "" => {}
-            "source" => self.take_source(rest)?,
+            "source" => self.take(rest)?,
             "gang" => self.gang = gang_named(rest),
             "entry" => self.entry = rest,
             "arguments" => self.arguments = spelt_out(self.alloc, rest)?,
-            "turns" => self.turns = number(rest),
-            "work" => self.work = Some(number(rest)),
+            "turns" => self.turns = number(rest).unwrap_or(0),
+            "work" => self.work = number(rest),
             "writes" => self.output = spelt_out(self.alloc, rest)?,
             "frame" => self.frame = rest,
             "accepts" | "refuses" | "compiles" | "leaves" => self.judge(word, rest, tried)?,
             _ => self.compare(word, rest, tried)?,
         }
+        Ok(())
+    }
+
+    fn take(&mut self, source: &str) -> Result<(), AllocError> {
+        let text = spelt_out(self.alloc, source)?;
+        self.marked = Marked::new(self.alloc, text.as_str())?;
         Ok(())
     }
 
@@ -78,10 +84,10 @@ impl<'a> Case<'a> {
         };
         let (before, after) = parted(self.frame, '…');
         let framed = format!(in self.alloc; "{before}{text}{after}")?;
-        self.take_source(framed.as_str())?;
+        self.take(framed.as_str())?;
         let wanted = match fault {
             "" => String::from_str(self.alloc, "accepted")?,
-            _ => format!(in self.alloc; "{fault} at {}..{}", self.start, self.end)?,
+            _ => format!(in self.alloc; "{fault} at {}..{}", self.marked.start, self.marked.end)?,
         };
         let found = match word {
             "accepts" | "refuses" => accepted(self.alloc, self)?,
@@ -93,19 +99,6 @@ impl<'a> Case<'a> {
                 .differences
                 .push(format!(in self.alloc; "{text}: {found}, not {wanted}")?)?;
         }
-        Ok(())
-    }
-
-    fn take_source(&mut self, marked: &str) -> Result<(), AllocError> {
-        let text = spelt_out(self.alloc, marked)?;
-        let (before, rest) = parted(text.as_str(), '⟦');
-        let (place, after) = parted(rest, '⟧');
-        let mut source = String::from_str(self.alloc, before)?;
-        self.start = source.len();
-        source.push_str(place)?;
-        self.end = source.len();
-        source.push_str(after)?;
-        self.source = source;
         Ok(())
     }
 
@@ -124,7 +117,7 @@ impl<'a> Case<'a> {
         Ok(Found {
             ending: format!(in self.alloc;
                 "trap {kind} at {}..{}, instance {instance}",
-                self.start, self.end
+                self.marked.start, self.marked.end
             )?,
             arrays: String::from_str(self.alloc, arrays)?,
             output: output.into_bytes(),
@@ -156,27 +149,5 @@ impl<'a> Case<'a> {
 }
 
 fn gang_named(lanes: &str) -> Gang {
-    Gang::of_width(number(lanes) as usize).unwrap_or(Gang::W4)
-}
-
-fn number(text: &str) -> u64 {
-    text.parse::<u64>().unwrap_or(0)
-}
-
-// What stands before and behind a sign, nothing behind it where it is not there.
-fn parted(text: &str, sign: char) -> (&str, &str) {
-    text.split_once(sign).unwrap_or((text, ""))
-}
-
-// A text with line feeds and tabs for their signs.
-fn spelt_out(alloc: Global, text: &str) -> Result<String, AllocError> {
-    let mut out = String::new(alloc);
-    for c in text.chars() {
-        out.push(match c {
-            '␤' => '\n',
-            '␉' => '\t',
-            _ => c,
-        })?;
-    }
-    Ok(out)
+    Gang::of_width(number(lanes).unwrap_or(0) as usize).unwrap_or(Gang::W4)
 }

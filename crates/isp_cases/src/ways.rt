@@ -33,17 +33,20 @@ fn told_fault<T: Drop>(
 
 /// Whether the source of a case is accepted, or its fault.
 pub(crate) fn accepted(alloc: Global, case: &Case<'_>) -> Result<String, AllocError> {
-    told_fault(alloc, front(alloc, case.source.as_str(), case.gang))
+    told_fault(alloc, front(alloc, case.marked.source.as_str(), case.gang))
 }
 
 /// Whether all of the source of a case has code, or the first node that has none.
 pub(crate) fn compiled(alloc: Global, case: &Case<'_>) -> Result<String, AllocError> {
-    told_fault(alloc, compile(alloc, case.source.as_str(), case.gang))
+    told_fault(
+        alloc,
+        compile(alloc, case.marked.source.as_str(), case.gang),
+    )
 }
 
 /// What a case comes to by the front and the evaluator.
 pub(crate) fn evaluated(alloc: Global, case: &Case<'_>) -> Result<Found, AllocError> {
-    match front(alloc, case.source.as_str(), case.gang) {
+    match front(alloc, case.marked.source.as_str(), case.gang) {
         Err(fault) => Ok(silent(alloc, format!(in alloc; "refused {fault}")?)),
         Ok(_) if case.entry.is_empty() => Ok(silent(alloc, String::from_str(alloc, "accepted ")?)),
         Ok(checked) => entered(alloc, case, &checked),
@@ -122,7 +125,7 @@ pub(crate) fn executed(
     case: &Case<'_>,
     wanted: &Found,
 ) -> Result<Option<Found>, AllocError> {
-    let Ok(image) = compile(alloc, case.source.as_str(), case.gang) else {
+    let Ok(image) = compile(alloc, case.marked.source.as_str(), case.gang) else {
         return Ok(None);
     };
     let budget = budget(case, wanted);

@@ -7,7 +7,8 @@ use crate::machines::AMPLE;
 use crate::runs::{evaluated, executed};
 use isp_base::Gang;
 use isp_engine::compile;
-use std::alloc::Global;
+use isp_testing::{Marked, number};
+use std::alloc::{AllocError, Global};
 use std::process::Abort;
 use std::test::Fail;
 
@@ -23,13 +24,6 @@ pub(crate) struct Row<'a> {
     pub arguments: &'a str,
     outcome: &'a str,
     source: &'a str,
-}
-
-fn number(text: &str) -> Option<u64> {
-    match text.parse::<u64>() {
-        Ok(number) => Some(number),
-        Err(_fault) => None,
-    }
 }
 
 // What a record says: the working is for the reader alone.
@@ -52,30 +46,14 @@ fn read(record: &str) -> Option<Row<'_>> {
     })
 }
 
-// What comes out at a place, which is behind a kind and before an instance.
-fn placed(alloc: Global, outcome: &str, start: usize, end: usize) -> Result<String, Fail> {
+// What comes out of a source whose place is marked: a trap's place stands behind its kind and before its instance.
+fn wanted(alloc: Global, marked: &Marked, outcome: &str) -> Result<String, AllocError> {
     match outcome.split_once(", ") {
-        Some((kind, instance)) => Ok(format!(in alloc; "{kind} at {start}..{end}, {instance}")?),
-        None => Err(Fail::from("a trap without an instance")),
+        Some((kind, instance)) if outcome.starts_with("trap ") => {
+            format!(in alloc; "{kind} at {}..{}, {instance}", marked.start, marked.end)
+        }
+        _ => String::from_str(alloc, outcome),
     }
-}
-
-// A source without the brackets around a place, and what comes out with that place.
-fn unmarked(alloc: Global, outcome: &str, marked: &str) -> Result<(String, String), Fail> {
-    let mut source = String::new(alloc);
-    let Some((before, rest)) = marked.split_once('⟦') else {
-        source.push_str(marked)?;
-        return Ok((source, String::from_str(alloc, outcome)?));
-    };
-    let Some((place, after)) = rest.split_once('⟧') else {
-        return Err(Fail::from("a place without an end"));
-    };
-    source.push_str(before)?;
-    let start = source.len();
-    source.push_str(place)?;
-    let line = placed(alloc, outcome, start, source.len())?;
-    source.push_str(after)?;
-    Ok((source, line))
 }
 
 fn same(rt: &impl Abort, name: &str, found: &str, wanted: &str) {
@@ -83,12 +61,13 @@ fn same(rt: &impl Abort, name: &str, found: &str, wanted: &str) {
 }
 
 fn compare(rt: &impl Abort, alloc: Global, row: Row<'_>) -> Result<(), Fail> {
-    let (source, wanted) = unmarked(alloc, row.outcome, row.source)?;
-    let image = compile(alloc, source.as_str(), row.gang)?;
+    let marked = Marked::new(alloc, row.source)?;
+    let wanted = wanted(alloc, &marked, row.outcome)?;
+    let image = compile(alloc, marked.source.as_str(), row.gang)?;
     let found = executed(alloc, &image, row, row.budget)?;
     same(rt, row.name, found.as_str(), wanted.as_str());
     let ample = executed(alloc, &image, row, AMPLE)?;
-    let evaluated = evaluated(alloc, source.as_str(), row)?;
+    let evaluated = evaluated(alloc, marked.source.as_str(), row)?;
     same(rt, row.name, ample.as_str(), evaluated.as_str());
     Ok(())
 }

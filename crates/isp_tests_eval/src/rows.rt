@@ -1,11 +1,12 @@
 //! What a record of a table says, and its comparison with a run.
-use crate::marks::without_marks;
+use crate::marks::wanted;
 use isp_base::{Array, Bound, Gang, Signature, Value};
 use isp_bind::{answer, bind};
 use isp_eval::{Outcome, evaluate};
 use isp_lex::{SourceFault, lex};
 use isp_rates::{Checked, check};
 use isp_syntax::parse;
+use isp_testing::{Marked, number, spelt_out};
 use isp_types::resolve;
 use std::alloc::{AllocError, Global};
 use std::process::Abort;
@@ -34,13 +35,6 @@ pub(crate) struct Call<'a> {
     pub turns: u64,
     /// The arguments in JSON.
     pub arguments: &'a str,
-}
-
-fn number(text: &str) -> Option<u64> {
-    match text.parse::<u64>() {
-        Ok(number) => Some(number),
-        Err(_fault) => None,
-    }
 }
 
 // How the third line of a record says that a program is run.
@@ -156,26 +150,13 @@ fn same_output(rt: &impl Abort, name: &str, found: &[u8], wanted: &[u8]) {
 
 /// Runs the program of a row and compares what comes out.
 fn compare(rt: &impl Abort, alloc: Global, row: Row<'_>) -> Result<(), Fail> {
-    let marked = without_marks(alloc, row.source)?;
-    let wanted = marked.wanted(alloc, row.ending)?;
+    let marked = Marked::new(alloc, row.source)?;
+    let wanted = wanted(alloc, &marked, row.ending)?;
     let found = run(alloc, marked.source.as_str(), row.call)?;
     same_ending(rt, row.name, found.ending.as_str(), wanted.as_str());
-    let output = written(alloc, row.output)?;
+    let output = spelt_out(alloc, row.output)?;
     same_output(rt, row.name, found.output.as_slice(), output.as_bytes());
     Ok(())
-}
-
-// What a record says that is written.
-fn written(alloc: Global, output: &str) -> Result<String, AllocError> {
-    let mut text = String::new(alloc);
-    for c in output.chars() {
-        match c {
-            '␤' => text.push('\n')?,
-            '␉' => text.push('\t')?,
-            _ => text.push(c)?,
-        }
-    }
-    Ok(text)
 }
 
 fn compare_record(rt: &impl Abort, alloc: Global, record: &str) -> Result<(), Fail> {

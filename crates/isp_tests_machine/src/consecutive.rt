@@ -30,13 +30,13 @@ fn routine<'a>(code: &'a [Line<'a>]) -> Routine<'a> {
 type Effect<'a> = (Wanted, &'a [u64], &'a str, Option<u64>);
 
 // Runs a line from an index, with an array and a mask, and prints v2.
-fn runs(
+fn runs<'x>(
     alloc: Global,
-    line: Line<'_>,
+    line: Line<'static>,
     from: u64,
-    before: &[u64],
-    on: &[u64],
-    effect: Effect,
+    before: &'x [u64],
+    on: &'x [u64],
+    effect: Effect<'x>,
 ) -> Result<bool, Fail> {
     let lines = [
         Line::Scalar(S2, ScalarInstr::Constant(0)),

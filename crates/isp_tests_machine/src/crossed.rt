@@ -1,11 +1,12 @@
 //! Lines across the lanes of a mask.
 use crate::listing::{Line, Routine, verified};
 use crate::registers::{A0, A1, A2, M0, M1, S0, S1, S2, V0, V1, V2, V3};
-use crate::runs::{Given, Seen, Wanted, goes};
+use crate::runs::{Given, writes};
 use isp_base::{Elem, Gang};
 use isp_code::{
     Exchange, MaskInstr, ParamKind, Reduction, Returns, ScalarInstr, Scan, VectorInstr,
 };
+use isp_verify::Verified;
 use std::alloc::Global;
 use std::test::Fail;
 
@@ -21,8 +22,8 @@ type Row = (
 );
 
 // v1 is x, v2 is y, v3 is written, v0 are the lanes that are on, m1; s0 is n, s1 is written, s2 is 0.
-fn prints(alloc: Global, row: &Row, n: u64) -> Result<bool, Fail> {
-    let (line, elem, result, x, y, on, text) = row;
+fn code(alloc: Global, row: &Row) -> Result<Verified, Fail> {
+    let (line, elem, result, _x, _y, _on, _text) = row;
     let printed = match line {
         Line::Scalar(_d, _instr) => Line::PrintScalar(S1),
         _ => Line::PrintVector(V3, M1),
@@ -52,20 +53,18 @@ fn prints(alloc: Global, row: &Row, n: u64) -> Result<bool, Fail> {
         masks: 2,
         code: &lines,
     };
-    let code = verified(alloc, Gang::W4, &[routine])?;
+    verified(alloc, Gang::W4, &[routine])
+}
+
+fn prints(alloc: Global, row: &Row, n: u64) -> Result<bool, Fail> {
+    let (_line, elem, _result, x, y, on, text) = row;
     let given = [
         Given::Value(Elem::I32, n),
         Given::Array(*elem, x),
         Given::Array(Elem::I32, y),
         Given::Array(Elem::Bool, on),
     ];
-    let seen = Seen {
-        stop: Wanted::Ended,
-        output: *text,
-        arrays: &[x, y, on],
-        result: None,
-    };
-    goes(alloc, &code, &given, &[(7, seen)])
+    writes(alloc, &code(alloc, row)?, &given, text)
 }
 
 const ALL: [u64; 4] = [1, 1, 1, 1];

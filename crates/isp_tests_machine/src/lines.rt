@@ -6,6 +6,7 @@ use crate::registers::{A0, A1, A2, A3, M0, M1, M2, S2, S6, V0, V1, V2, V4, V5, V
 use crate::runs::{Given, writes};
 use isp_base::{Elem, Gang};
 use isp_code::{Class, MaskInstr, ParamKind, Register, Returns, ScalarInstr, VectorInstr};
+use isp_verify::Verified;
 use std::alloc::Global;
 use std::process::Abort;
 use std::test::Fail;
@@ -109,26 +110,40 @@ fn first(gang: Gang, all: &[u64; 16]) -> &[u64] {
     }
 }
 
-fn is_seen(alloc: Global, gang: Gang, line: Line<'static>, seen: &str) -> Result<bool, Fail> {
+fn code(alloc: Global, gang: Gang, line: Line<'static>) -> Result<Verified, Fail> {
     let lines = around(line);
-    let code = verified(alloc, gang, &[routine(&lines)])?;
-    let (x, y, on, other) = (over(X), over(Y), over(ON), over(OTHER));
+    verified(alloc, gang, &[routine(&lines)])
+}
+
+// Of each lane x, y, whether m1 has it, and whether m2 has it.
+fn lists() -> [[u64; 16]; 4] {
+    [over(X), over(Y), over(ON), over(OTHER)]
+}
+
+fn is_seen(
+    alloc: Global,
+    code: &Verified,
+    lists: &[[u64; 16]; 4],
+    seen: &str,
+) -> Result<bool, Fail> {
+    let [x, y, on, other] = lists;
     let given = [
         Given::Value(Elem::I32, 9),
         Given::Value(Elem::I32, 0xffff_fffc),
-        Given::Array(Elem::I32, first(gang, &x)),
-        Given::Array(Elem::I32, first(gang, &y)),
-        Given::Array(Elem::Bool, first(gang, &on)),
-        Given::Array(Elem::Bool, first(gang, &other)),
+        Given::Array(Elem::I32, first(code.gang(), x)),
+        Given::Array(Elem::I32, first(code.gang(), y)),
+        Given::Array(Elem::Bool, first(code.gang(), on)),
+        Given::Array(Elem::Bool, first(code.gang(), other)),
     ];
-    writes(alloc, &code, &given, seen)
+    writes(alloc, code, &given, seen)
 }
 
 fn each(rt: &impl Abort, alloc: Global, lines: &[Line<'static>], seen: &str) -> Result<(), Fail> {
     for (number, (line, texts)) in lines.iter().zip(seen.lines()).enumerate() {
         for (gang, text) in Gang::ALL.iter().zip(texts.split(' ')) {
+            let code = code(alloc, *gang, *line)?;
             assert!(rt;
-                is_seen(alloc, *gang, *line, text)?,
+                is_seen(alloc, &code, &lists(), text)?,
                 "{number} {gang:?}: not {text}"
             );
         }
