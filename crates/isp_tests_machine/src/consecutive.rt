@@ -4,12 +4,25 @@ use crate::registers::{A0, A1, M0, M1, S0, S1, S2, V0, V1, V2};
 use crate::runs::{Given, Seen, Wanted, goes};
 use isp_base::{Elem, Gang, TrapKind};
 use isp_code::{JumpTest, MaskInstr, ParamKind, Returns, ScalarInstr, VectorInstr};
+use isp_verify::Verified;
 use std::alloc::Global;
 use std::test::Fail;
 
-// The lanes of m1 are those where `on` is true; v1 has 0, 1, 2, 3. Then a line is run, and s1 given back.
-fn routine<'a>(code: &'a [Line<'a>]) -> Routine<'a> {
-    Routine {
+/// What is seen of a run of one line: how it stops, the array then, what is printed, and the result.
+type Effect<'a> = (Wanted, &'a [u64], &'a str, Option<u64>);
+
+// The lanes of m1 are those where `on` is true; v1 has 0, 1, 2, 3. Then a line is run, v2 printed, and s1 given back.
+fn code(alloc: Global, line: &Line<'static>) -> Result<Verified, Fail> {
+    let lines = [
+        Line::Scalar(S2, ScalarInstr::Constant(0)),
+        Line::Vector(V0, VectorInstr::LoadRun(A1, S2, M0, 1)),
+        Line::Mask(M1, MaskInstr::Test(V0, M0)),
+        Line::Vector(V1, VectorInstr::Index(M0)),
+        *line,
+        Line::PrintVector(V2, M1),
+        Line::Return(Some(S1)),
+    ];
+    let routine = Routine {
         name: "f",
         exported: true,
         returns: Returns::Scalar(Elem::I32),
@@ -22,14 +35,12 @@ fn routine<'a>(code: &'a [Line<'a>]) -> Routine<'a> {
         scalars: &[Elem::I32, Elem::I64],
         vectors: &[Elem::Bool, Elem::I32, Elem::I32],
         masks: 2,
-        code,
-    }
+        code: &lines,
+    };
+    verified(alloc, Gang::W4, &[routine])
 }
 
-/// What is seen of a run of one line: how it stops, the array then, what is printed, and the result.
-type Effect<'a> = (Wanted, &'a [u64], &'a str, Option<u64>);
-
-// Runs a line from an index, with an array and a mask, and prints v2.
+// Runs a line from an index, with an array and a mask.
 fn runs<'x>(
     alloc: Global,
     line: Line<'static>,
@@ -38,28 +49,19 @@ fn runs<'x>(
     on: &'x [u64],
     effect: Effect<'x>,
 ) -> Result<bool, Fail> {
-    let lines = [
-        Line::Scalar(S2, ScalarInstr::Constant(0)),
-        Line::Vector(V0, VectorInstr::LoadRun(A1, S2, M0, 1)),
-        Line::Mask(M1, MaskInstr::Test(V0, M0)),
-        Line::Vector(V1, VectorInstr::Index(M0)),
-        line,
-        Line::PrintVector(V2, M1),
-        Line::Return(Some(S1)),
-    ];
-    let code = verified(alloc, Gang::W4, &[routine(&lines)])?;
+    let (stop, after, output, result) = effect;
     let given = [
         Given::Value(Elem::I64, from),
         Given::Array(Elem::I32, before),
         Given::Array(Elem::Bool, on),
     ];
     let seen = Seen {
-        stop: effect.0,
-        output: effect.2,
-        arrays: &[effect.1, on],
-        result: effect.3,
+        stop,
+        output,
+        arrays: &[after, on],
+        result,
     };
-    goes(alloc, &code, &given, &[(7, seen)])
+    goes(alloc, &code(alloc, &line)?, &given, &[(7, seen)])
 }
 
 const NINES: [u64; 5] = [9, 9, 9, 9, 9];

@@ -20,6 +20,19 @@ const ON: [u64; 4] = [1, 1, 0, 1];
 
 const OTHER: [u64; 4] = [0, 1, 1, 1];
 
+// The types of v0 to v8.
+const VECTORS: [Elem; 9] = [
+    Elem::Bool,
+    Elem::I32,
+    Elem::I32,
+    Elem::I32,
+    Elem::Bool,
+    Elem::I64,
+    Elem::I8,
+    Elem::Bool,
+    Elem::I32,
+];
+
 fn written(line: &Line) -> Option<Register> {
     match line {
         Line::Scalar(d, _instr) => Some(*d),
@@ -43,9 +56,9 @@ fn shows(line: &Line) -> Line<'static> {
     }
 }
 
-// The code that runs a line: what it reads stands in registers before.
-fn around(line: Line<'static>) -> [Line<'static>; 12] {
-    [
+// The code that runs a line: what it reads stands in registers before, and what it wrote is shown.
+fn code(alloc: Global, gang: Gang, line: &Line<'static>) -> Result<Verified, Fail> {
+    let lines = [
         Line::Vector(V1, VectorInstr::LoadRun(A0, S2, M0, 0)),
         Line::Vector(V2, VectorInstr::LoadRun(A1, S2, M0, 0)),
         Line::Vector(V0, VectorInstr::LoadRun(A2, S2, M0, 0)),
@@ -54,15 +67,12 @@ fn around(line: Line<'static>) -> [Line<'static>; 12] {
         Line::Mask(M2, MaskInstr::Test(V4, M0)),
         Line::Vector(V5, VectorInstr::Convert(V2, M0)),
         Line::Scalar(S6, ScalarInstr::Constant(6)),
-        line,
+        *line,
         Line::Vector(V8, VectorInstr::LoadRun(A0, S2, M0, 0)),
-        shows(&line),
+        shows(line),
         Line::Return(None),
-    ]
-}
-
-fn routine<'a>(code: &'a [Line<'a>]) -> Routine<'a> {
-    Routine {
+    ];
+    let routine = Routine {
         name: "f",
         exported: true,
         returns: Returns::Nothing,
@@ -76,20 +86,11 @@ fn routine<'a>(code: &'a [Line<'a>]) -> Routine<'a> {
         ],
         locals: &[],
         scalars: &[Elem::I64, Elem::I64, Elem::I32, Elem::Bool, Elem::I64],
-        vectors: &[
-            Elem::Bool,
-            Elem::I32,
-            Elem::I32,
-            Elem::I32,
-            Elem::Bool,
-            Elem::I64,
-            Elem::I8,
-            Elem::Bool,
-            Elem::I32,
-        ],
+        vectors: &VECTORS,
         masks: 4,
-        code,
-    }
+        code: &lines,
+    };
+    verified(alloc, gang, &[routine])
 }
 
 // The four, over and over.
@@ -108,11 +109,6 @@ fn first(gang: Gang, all: &[u64; 16]) -> &[u64] {
         Gang::W8 => &all[..8],
         Gang::W16 => all,
     }
-}
-
-fn code(alloc: Global, gang: Gang, line: Line<'static>) -> Result<Verified, Fail> {
-    let lines = around(line);
-    verified(alloc, gang, &[routine(&lines)])
 }
 
 // Of each lane x, y, whether m1 has it, and whether m2 has it.
@@ -141,7 +137,7 @@ fn is_seen(
 fn each(rt: &impl Abort, alloc: Global, lines: &[Line<'static>], seen: &str) -> Result<(), Fail> {
     for (number, (line, texts)) in lines.iter().zip(seen.lines()).enumerate() {
         for (gang, text) in Gang::ALL.iter().zip(texts.split(' ')) {
-            let code = code(alloc, *gang, *line)?;
+            let code = code(alloc, *gang, line)?;
             assert!(rt;
                 is_seen(alloc, &code, &lists(), text)?,
                 "{number} {gang:?}: not {text}"
