@@ -13,8 +13,9 @@ use Rattle.isp_base.specs.declared.types.Ty.{Ty}
 use Rattle.isp_lex.specs.declared.fault.Fault.{Fault}
 use Rattle.isp_lex.specs.declared.fault.Rule.TheVariants.{VaryingToUniform, BadExport}
 use Rattle.isp_lex.specs.Faults.{fault}
-use Rattle.isp_typed.specs.Fine.{IsFine, FineFunction, IsParam, AreParams, IsWhole, AreOperands, FineExpr, FinePlace, FineTarget, FineSimple, FineItem, FineReturned, FineStmt, FineBlock, FineStmts}
-use Rattle.isp_typed.specs.Typed.{TExpr, t_constant, t_program_index, t_place, t_convert, t_cast, t_unary, t_binary, t_compare, t_logic, t_choose, t_call, t_library, t_packed_store, t_packed_load, TPlace, t_variable, t_element, TItem, t_plain, t_with_value, t_with_size, TSimple, t_value, t_run, t_assign, t_update, t_step, TFunction, Program, place_type, type_of, span_of, rate_or}
+use Rattle.isp_tree.specs.Sound.{IfAny}
+use Rattle.isp_typed.specs.Fine.{IsFine, FineFunction, IsParam, AreParams, IsWhole, AreOperands, FineExpr, FineValue, FinePlace, FineTarget, FineSimple, FineFirst, FineItem, FineReturned, FineStmt, FineBlock, FineStmts}
+use Rattle.isp_typed.specs.Typed.{TExpr, t_constant, t_program_index, t_place, t_convert, t_cast, t_unary, t_binary, t_compare, t_logic, t_choose, t_call, t_library, t_packed_store, t_packed_load, TPlace, t_variable, t_element, TItem, t_plain, t_with_value, t_with_size, TSimple, t_value, t_run, t_assign, t_update, t_step, TFirst, t_first_declare, t_first_simple, TFunction, Program, place_type, type_of, span_of, rate_or}
 use Rattle.isp_typed.specs.Typed.{TStmt, t_block, t_declare, t_simple, t_if, t_if_else, t_while, t_do, t_for, t_foreach, t_foreach_active, t_unmasked, t_jump, t_return, t_print, t_assert, TBlock, t_braces, TStmts, t_no_stmts, t_stmt_then}
 use Rattle.isp_base.specs.declared.signature.Parameter.{Parameter}
 use Rattle.isp_typed.specs.declared.variable.Holds.{Holds}
@@ -22,16 +23,16 @@ use Rattle.isp_typed.specs.declared.variable.Holds.TheVariants.{Value as AValue,
 use Rattle.isp_typed.specs.declared.variable.Variable.{Variable}
 use Rattle.isp_rates.specs.declared.exits.Within.{Within}
 use Rattle.isp_rates.specs.Breaches.{OfAny, OfEach}
-use Rattle.isp_rates.specs.Covered.{compiled_where, expr_left, place_left, simple_left, items_left, stmt_left, block_left, stmts_left, function_left, functions_left}
+use Rattle.isp_rates.specs.Covered.{compiled_where, expr_left, place_left, simple_left, items_left, given_left, first_left, step_left, stmt_left, block_left, stmts_left, function_left, functions_left}
 use Rattle.isp_rates.specs.Rates.{goes_to, rate_held, DemandBreach, ExprBreach, PlaceBreach}
-use Rattle.isp_rates.specs.Exits.{at_start, ItemBreach, SimpleBreach, StmtBreach, BlockBreach, StmtsBreach}
+use Rattle.isp_rates.specs.Exits.{at_start, in_loop, ItemBreach, SimpleBreach, FirstBreach, StmtBreach, BlockBreach, StmtsBreach}
 use Rattle.isp_rates.specs.Program.{ParametersBreach, ResultBreach, FunctionBreach, ProgramBreach}
 use Rattle.isp_lower.specs.Fits.{Reaches}
 use Rattle.isp_lower.specs.Simple.{IsNumber}
 use Rattle.isp_lower.specs.Trees.{OperandTree, ExprTree, PlaceTree, SimpleTree, ItemsTree}
 use Rattle.isp_masks.specs.Compiled.{HoldsOne}
 use Rattle.isp_masks.specs.Laws.{FunctionFits}
-use Rattle.isp_masks.specs.Parts.{AnswerTree, StmtTree, BlockTree, StmtsTree}
+use Rattle.isp_masks.specs.Parts.{AnswerTree, FirstTree, TestTree, StepTree, StmtTree, BlockTree, StmtsTree}
 use Rattle.isp_masks.proofs.Begins.{some_same}
 
 -- ---- rates
@@ -163,6 +164,20 @@ module _ (fs : List TFunction) (vars : List Variable) where
       let is : FineItem fs vars (t_with_value v t x sp) = f 0 (t_with_value v t x sp) (omega arith) in
       ((record { elem = is.1.1; reaches = demand_reaches t.rate x (ExprBreach fs x) own }, expr_tree x is.1.0 (demand_own t.rate x (ExprBreach fs x) own) (first_none (expr_left x) (items_left xs) c)), items_tree xs (λ k d lt. f (suc k) d (omega arith)) (λ e b. clean e (inr b)) (next_none (expr_left x) (items_left xs) c))
 
+  -- the parts of a `for` that may be left out
+  first_tree : (o : Option TFirst) → IfAny (FineFirst fs vars) o → NoneOf (OfAny (FirstBreach fs) o) → first_left o ≡ None → FirstTree o
+  first_tree None f clean c = tt
+  first_tree (Some (t_first_declare xs sp)) f clean c = items_tree xs f clean c
+  first_tree (Some (t_first_simple x)) f clean c = simple_tree x f clean c
+
+  test_tree : (o : Option TExpr) → IfAny (FineValue fs vars Truth) o → NoneOf (OfAny (ExprBreach fs) o) → given_left o ≡ None → TestTree o
+  test_tree None f clean c = tt
+  test_tree (Some e) f clean c = (expr_tree e f.0 clean c, f.1)
+
+  step_tree : (o : Option TSimple) → IfAny (FineSimple fs vars) o → NoneOf (OfAny (SimpleBreach fs) o) → step_left o ≡ None → StepTree o
+  step_tree None f clean c = tt
+  step_tree (Some x) f clean c = simple_tree x f clean c
+
   module _ (answer : Option Ty) where
     returned_tree : (w : Within) (k : Span) (o : Option Ty) (x : TExpr) (sp : Span) → FineReturned fs vars o (Some x) → NoneOf (StmtBreach fs o w (t_return k (Some x) sp)) → expr_left x ≡ None → AnswerTree o x
     returned_tree w k None x sp f clean c = absurd f
@@ -180,9 +195,14 @@ module _ (fs : List TFunction) (vars : List Variable) where
       stmt_tree w (t_if_else k n e x y sp) f clean c =
           let rest = next_none (expr_left e) (option_or (stmt_left x) (stmt_left y)) c in
           (expr_tree e f.1.0 (λ g b. clean g (inl b)) (first_none (expr_left e) (option_or (stmt_left x) (stmt_left y)) c), stmt_tree w x f.2 (λ g b. clean g (inr (inl b))) (first_none (stmt_left x) (stmt_left y) rest), stmt_tree w y f.3 (λ g b. clean g (inr (inr b))) (next_none (stmt_left x) (stmt_left y) rest), f.1.1)
-      stmt_tree w (t_while k n e x sp) f clean c = absurd (some_left c)
-      stmt_tree w (t_do k n x e sp) f clean c = absurd (some_left c)
-      stmt_tree w (t_for k n first e step i x sp) f clean c = absurd (some_left c)
+      stmt_tree w (t_while k n e x sp) f clean c =
+          ((expr_tree e f.1.0 (λ g b. clean g (inl b)) (first_none (expr_left e) (stmt_left x) c), f.1.1), stmt_tree (in_loop w) x f.2 (λ g b. clean g (inr b)) (next_none (expr_left e) (stmt_left x) c))
+      stmt_tree w (t_do k n x e sp) f clean c =
+          ((expr_tree e f.2.0 (λ g b. clean g (inr b)) (next_none (stmt_left x) (expr_left e) c), f.2.1), stmt_tree (in_loop w) x f.1 (λ g b. clean g (inl b)) (first_none (stmt_left x) (expr_left e) c))
+      stmt_tree w (t_for k n first e step i x sp) f clean c =
+          let rest = next_none (first_left first) (option_or (given_left e) (option_or (step_left step) (stmt_left x))) c in
+          let more = next_none (given_left e) (option_or (step_left step) (stmt_left x)) rest in
+          (first_tree first f.2 (λ g b. clean g (inl b)) (first_none (first_left first) (option_or (given_left e) (option_or (step_left step) (stmt_left x))) c), test_tree e f.3 (λ g b. clean g (inr (inl b))) (first_none (given_left e) (option_or (step_left step) (stmt_left x)) rest), step_tree step f.4 (λ g b. clean g (inr (inr (inl b)))) (first_none (step_left step) (stmt_left x) more), stmt_tree (in_loop w) x f.5 (λ g b. clean g (inr (inr (inr b)))) (next_none (step_left step) (stmt_left x) more))
       stmt_tree w (t_foreach k n rs x sp) f clean c = absurd (some_left c)
       stmt_tree w (t_foreach_active k n i x sp) f clean c = absurd (some_left c)
       stmt_tree w (t_unmasked k b sp) f clean c = absurd (some_left c)

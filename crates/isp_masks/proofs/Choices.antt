@@ -23,7 +23,8 @@ use Rattle.isp_lower.proofs.Combine.{failed_after, stopped_after, failed_less, s
 use Rattle.isp_lower.proofs.Jumps.{jumped, jump_comes, jump_at, masked, where_comes, others_comes, masked_at}
 use Rattle.isp_lower.proofs.Logic.{any_nobody, where_inside}
 use Rattle.isp_lower.proofs.Rates.{at_kept}
-use Rattle.isp_masks.specs.Statements.{unite, parted_code, if_code, if_else_code}
+use Rattle.isp_masks.specs.Sets.{unite}
+use Rattle.isp_masks.specs.Statements.{parted_code, if_code, if_else_code}
 use Rattle.isp_masks.specs.StmtRuns.{AreThree, Inside, StmtOk, StmtRuns}
 use Rattle.isp_masks.proofs.Unions.{union_nobody, union_assoc, without_nobody, without_self, below_without}
 use Rattle.isp_masks.proofs.Combine.{stmt_after, go_runs, plain_ok, jump_after, guard_runs}

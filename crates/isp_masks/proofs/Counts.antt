@@ -2,7 +2,8 @@
 use Rattle.std.proofs.Common.{◌≡◌, ℕ, [], length, refl}
 use Rattle.isp_base.specs.declared.types.Rate.TheVariants.{Uniform, Varying}
 use Rattle.isp_tree.specs.declared.stmt.Jump.TheVariants.{Break, Continue}
-use Rattle.isp_masks.specs.Statements.{leave_code, jump_code, if_code, if_else_code}
+use Rattle.isp_masks.specs.Sets.{leave_code, jump_code}
+use Rattle.isp_masks.specs.Statements.{if_code, if_else_code}
 
 uniform_if : (x pc k n : ℕ) → length (if_code Uniform x pc k n (λ p m i. [])) ≡ 1
 uniform_if x pc k n = refl

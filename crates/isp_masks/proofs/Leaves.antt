@@ -25,7 +25,8 @@ use Rattle.isp_lower.proofs.Jumps.{masked, masked_at}
 use Rattle.isp_lower.proofs.Lines.{set_at, copy_line}
 use Rattle.isp_lower.proofs.Nodes.{enters_part, operand_runs}
 use Rattle.isp_lower.proofs.Exprs.{expr_runs}
-use Rattle.isp_masks.specs.Statements.{unite, clear_mask, leave_code, jump_code, answer_code}
+use Rattle.isp_masks.specs.Sets.{unite, clear_mask, leave_code, jump_code}
+use Rattle.isp_masks.specs.Statements.{answer_code}
 use Rattle.isp_masks.specs.Fits.{AnswerFits}
 use Rattle.isp_masks.specs.StmtRuns.{AreThree, StmtOk, StmtRuns}
 use Rattle.isp_masks.proofs.Unions.{union_nobody}

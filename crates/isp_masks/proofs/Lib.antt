@@ -5,6 +5,7 @@ mod Combine
 mod Choices
 mod Leaves
 mod Sequences
+mod LoopStmts
 mod Stmts
 mod Turns
 mod Loops
@@ -18,6 +19,7 @@ mod Held
 pub mod ArraysThere
 mod Agree
 mod Programs
+mod SoundLoops
 pub mod Sound
 pub mod Accepted
 pub mod Made
@@ -25,6 +27,7 @@ mod Counts
 mod Awaiting
 mod Lists
 mod Forms
+mod Sifting
 mod Views
 mod Headers
 mod Routines

@@ -1,17 +1,39 @@
 -- What is demanded of statements, from what is asked of trees and tables.
-use Rattle.std.proofs.Common.{ℕ, Option, Some, None}
+use Rattle.std.proofs.Common.{ℕ, ◌+◌, Option, Some, None}
 use Rattle.isp_base.specs.declared.types.Ty.{Ty}
-use Rattle.isp_typed.specs.Typed.{TExpr, type_of, TStmt, t_block, t_declare, t_simple, t_if, t_if_else, t_while, t_do, t_for, t_foreach, t_foreach_active, t_unmasked, t_jump, t_return, t_print, t_assert, TBlock, t_braces, TStmts, t_no_stmts, t_stmt_then}
-use Rattle.isp_lower.specs.Fits.{first_slot}
+use Rattle.isp_typed.specs.Fine.{HoldsArray}
+use Rattle.isp_typed.specs.Typed.{TExpr, type_of, TSimple, TFirst, t_first_declare, t_first_simple, TStmt, t_block, t_declare, t_simple, t_if, t_if_else, t_while, t_do, t_for, t_foreach, t_foreach_active, t_unmasked, t_jump, t_return, t_print, t_assert, TBlock, t_braces, TStmts, t_no_stmts, t_stmt_then}
+use Rattle.isp_lower.specs.Asks.{Ask, All}
+use Rattle.isp_lower.specs.Fits.{first_slot, IsNamedIn}
 use Rattle.isp_lower.specs.Setting.{Setting}
+use Rattle.isp_lower.specs.Tables.{AnyMask}
 use Rattle.isp_lower.proofs.Fitting.{expr_fits, operand_fits, simple_fits, items_fit}
-use Rattle.isp_masks.specs.Fits.{AnswerFits, StmtFits, BlockFits, StmtsFit}
-use Rattle.isp_masks.specs.Parts.{AnswerTree, StmtTree, BlockTree, StmtsTree, AnswerTable, StmtTable, BlockTable, StmtsTable}
+use Rattle.isp_masks.specs.Asks.{first_asks, test_part_asks, step_asks}
+use Rattle.isp_masks.specs.Fits.{AnswerFits, FirstFits, TestFits, StepFits, StmtFits, BlockFits, StmtsFit}
+use Rattle.isp_masks.specs.Parts.{AnswerTree, FirstTree, TestTree, StepTree, StmtTree, BlockTree, StmtsTree, AnswerTable, StmtTable, BlockTable, StmtsTable}
 
 module _ (w : Setting) where
+  -- the table of the function's registers has all of these
+  abbrev Named : Ask → Type 0
+  Named a = All (IsNamedIn w.routine w.layout) (HoldsArray w.function.variables) (HoldsArray w.function.variables) AnyMask a
+
   answer_fits : (answer : Option Ty) (x : TExpr) (n : ℕ) → AnswerTree answer x → AnswerTable w.routine w.layout w.function.variables answer x n → AnswerFits w answer x n
   answer_fits None x n t b = expr_fits w x n t b
   answer_fits (Some u) x n t b = (operand_fits w u.rate u.elem x n t.0 b.1, expr_fits w x n t.1 b.1.1)
+
+  -- the parts of a `for` that may be left out
+  first_fits : (o : Option TFirst) (n : ℕ) → FirstTree o → Named (first_asks o n) → FirstFits w o n
+  first_fits None n t i = tt
+  first_fits (Some (t_first_declare xs sp)) n t i = items_fit w xs n t i
+  first_fits (Some (t_first_simple x)) n t i = simple_fits w x n t i
+
+  test_fits : (o : Option TExpr) (n : ℕ) → TestTree o → Named (test_part_asks o n) → TestFits w o n
+  test_fits None n t i = tt
+  test_fits (Some e) n t i = expr_fits w e n t.0 i
+
+  step_fits : (o : Option TSimple) (n : ℕ) → StepTree o → Named (step_asks o n) → StepFits w o n
+  step_fits None n t i = tt
+  step_fits (Some x) n t i = simple_fits w x n t i
 
   mutual
     pub stmt_fits : (x : TStmt) (n : ℕ) → StmtTree w.frame.answer x → StmtTable w.routine w.layout w.function.variables w.frame.answer x n → StmtFits w x n
@@ -20,9 +42,10 @@ module _ (w : Setting) where
     stmt_fits (t_simple x sp) n t i = simple_fits w x n t i
     stmt_fits (t_if f g e x sp) n t i = (expr_fits w e n t.0 i.0, stmt_fits x (first_slot (type_of e).rate n) t.1 i.1.1)
     stmt_fits (t_if_else f g e x y sp) n t i = (expr_fits w e n t.0 i.0, stmt_fits x (first_slot (type_of e).rate n) t.1 i.1.1.0, stmt_fits y (first_slot (type_of e).rate n) t.2 i.1.1.1)
-    stmt_fits (t_while f g e x sp) n t i = t
-    stmt_fits (t_do f g x e sp) n t i = t
-    stmt_fits (t_for f g first e step z x sp) n t i = t
+    stmt_fits (t_while f g e x sp) n t i = (expr_fits w e (n + 3) t.0.0 i.1.0, stmt_fits x (n + 3) t.1 i.1.1)
+    stmt_fits (t_do f g x e sp) n t i = (expr_fits w e (n + 3) t.0.0 i.1.1, stmt_fits x (n + 3) t.1 i.1.0)
+    stmt_fits (t_for f g first e step z x sp) n t i =
+        (first_fits first n t.0 i.0, test_fits e (n + 3) t.1 i.1.1.0, step_fits step (n + 3) t.2 i.1.1.1.0, stmt_fits x (n + 3) t.3 i.1.1.1.1)
     stmt_fits (t_foreach k g rs x sp) n t i = t
     stmt_fits (t_foreach_active k g z x sp) n t i = t
     stmt_fits (t_unmasked k b sp) n t i = t

@@ -11,32 +11,29 @@ use Rattle.isp_code.specs.declared.instr.Instr.{Instr}
 use Rattle.isp_code.specs.declared.instr.Instr.TheVariants as instr
 use Rattle.isp_tree.specs.declared.stmt.Jump.{Jump}
 use Rattle.isp_tree.specs.declared.stmt.Jump.TheVariants.{Break, Continue}
-use Rattle.isp_typed.specs.Typed.{TExpr, type_of, TStmt, t_block, t_declare, t_simple, t_if, t_if_else, t_while, t_do, t_for, t_foreach, t_foreach_active, t_unmasked, t_jump, t_return, t_print, t_assert, TBlock, t_braces, TStmts, t_no_stmts, t_stmt_then}
+use Rattle.isp_typed.specs.Typed.{TExpr, type_of, TSimple, TFirst, t_first_declare, t_first_simple, TStmt, t_block, t_declare, t_simple, t_if, t_if_else, t_while, t_do, t_for, t_foreach, t_foreach_active, t_unmasked, t_jump, t_return, t_print, t_assert, TBlock, t_braces, TStmts, t_no_stmts, t_stmt_then}
 use Rattle.isp_lower.specs.Code.{jump_off, guard, found, expr_places, expr_code}
 use Rattle.isp_lower.specs.Fits.{first_slot}
 use Rattle.isp_lower.specs.Layout.{Layout, class_at, register}
-use Rattle.isp_masks.specs.Exits.{all_go_on}
-use Rattle.isp_masks.specs.Statements.{unite, leave_code, jump_code, rest_code, parted_code, if_code, if_else_code, answer_code, returned, stmt_places, block_places, stmts_places, stmt_code, block_code, stmts_code, function_code}
+use Rattle.isp_masks.specs.Exits.{exits_of, all_go_on}
+use Rattle.isp_masks.specs.Fors.{first_code, step_code, first_places, step_places}
+use Rattle.isp_masks.specs.Loops.{endless_code, for_code}
+use Rattle.isp_masks.specs.Sets.{unite, leave_code, jump_code}
+use Rattle.isp_masks.specs.Statements.{rest_code, parted_code, if_code, if_else_code, answer_code, returned, stmt_places, block_places, stmts_places, stmt_code, block_code, stmts_code, function_code}
 use Rattle.isp_lower.specs.Code.{copy, operand, operand_of}
-use Rattle.isp_masks.specs.Asks.{part_asks}
-use Rattle.isp_lower.specs.Sound.{AreSound, IsRegister, Granted, ExprPresent}
+use Rattle.isp_masks.specs.Asks.{part_asks, first_asks, step_asks}
+use Rattle.isp_lower.specs.Sound.{AreSound, PartSound, IsRegister, Granted, ExprPresent}
 use Rattle.isp_lower.specs.Trees.{ExprTree}
 use Rattle.isp_lower.proofs.SoundFound.{found_there, operand_there}
 use Rattle.isp_lower.proofs.SoundLines.{sound_both, copy_sound}
 use Rattle.isp_lower.proofs.SoundParts.{here_then}
 use Rattle.isp_lower.proofs.SoundExprs.{value_sound, part_sound}
 use Rattle.isp_lower.proofs.SoundSimples.{simple_sound, items_sound}
-use Rattle.isp_masks.specs.Parts.{AnswerTree, StmtTree, BlockTree, StmtsTree}
+use Rattle.isp_masks.specs.Parts.{AnswerTree, FirstTree, StepTree, StmtTree, BlockTree, StmtsTree}
+use Rattle.isp_masks.proofs.SoundLoops.{HereSound, guard_sound, two_sound, while_sound, for_sound, endless_sound, do_sound}
 use Rattle.isp_masks.specs.Sound.{AnswerPresent, StmtPresent, BlockPresent, StmtsPresent}
 
 module _ (code : Listing) (h : Routine) where
-  -- code at a place, before the last instruction
-  abbrev HereSound : (ℕ → List Instr) → Type 0
-  HereSound part = (pc : ℕ) → pc + length (part pc) < length h.code → AreSound code h (part pc)
-
-  guard_sound : (k : ℕ) (part : ℕ → List Instr) → k < h.masks → HereSound part → HereSound (λ pc. guard (jump_off k) pc part)
-  guard_sound k part there f pc lt = ((((refl, there), (omega arith, tt)), tt), f (pc + 1) (omega arith))
-
   leave_sound : (m k : ℕ) → m < h.masks → k < h.masks → AreSound code h (leave_code m k)
   leave_sound m k lm lk = ((((refl, lm), ((refl, lm), ((refl, lk), tt))), tt), ((((refl, lk), tt), tt), tt))
 
@@ -44,20 +41,20 @@ module _ (code : Listing) (h : Routine) where
   jump_sound Break k co lk lc = ((((refl, lk), tt), tt), tt)
   jump_sound Continue k co lk lc = leave_sound co k lc lk
 
-  rest_sound : (b : Bool) (xs : TStmts) (k : ℕ) (part : ℕ → List Instr) → k < h.masks → HereSound part → HereSound (λ pc. rest_code b xs k pc part)
+  rest_sound : (b : Bool) (xs : TStmts) (k : ℕ) (part : ℕ → List Instr) → k < h.masks → HereSound code h part → HereSound code h (λ pc. rest_code b xs k pc part)
   rest_sound true xs k part there f pc lt = f pc lt
   rest_sound false t_no_stmts k part there f pc lt = tt
-  rest_sound false (t_stmt_then x xs) k part there f pc lt = guard_sound k part there f pc lt
+  rest_sound false (t_stmt_then x xs) k part there f pc lt = guard_sound code h k part there f pc lt
 
   -- ---- choices
 
-  parted_sound : (x k n : ℕ) (first rest : ℕ → List Instr) → k < h.masks → n < h.masks → IsThere h (class_at Varying) (register Varying x) → elem_of h (register Varying x) ≡ Truth → HereSound first → HereSound rest → HereSound (λ pc. parted_code x pc k n first rest)
+  parted_sound : (x k n : ℕ) (first rest : ℕ → List Instr) → k < h.masks → n < h.masks → IsThere h (class_at Varying) (register Varying x) → elem_of h (register Varying x) ≡ Truth → HereSound code h first → HereSound code h rest → HereSound code h (λ pc. parted_code x pc k n first rest)
   parted_sound x k n first rest lk ln there bool f g pc lt =
       let side = guard (jump_off n) (pc + 1 + 1) first in
       let p2 = pc + 1 + 1 + length side in
       let e1 = length-append side (rest p2 ++ unite k n k ∷ []) in
       let e2 = length-append (rest p2) (unite k n k ∷ []) in
-      ((((refl, ln), ((there, bool), ((refl, lk), tt))), tt), ((((refl, lk), ((refl, lk), ((refl, ln), tt))), tt), sound_both code h side (rest p2 ++ unite k n k ∷ []) (guard_sound n first ln f (pc + 1 + 1) (omega (arith, e1, e2, lt))) (sound_both code h (rest p2) (unite k n k ∷ []) (g p2 (omega (arith, e1, e2, lt))) ((((refl, lk), ((refl, ln), ((refl, lk), tt))), tt), tt))))
+      ((((refl, ln), ((there, bool), ((refl, lk), tt))), tt), ((((refl, lk), ((refl, lk), ((refl, ln), tt))), tt), sound_both code h side (rest p2 ++ unite k n k ∷ []) (guard_sound code h n first ln f (pc + 1 + 1) (omega (arith, e1, e2, lt))) (sound_both code h (rest p2) (unite k n k ∷ []) (g p2 (omega (arith, e1, e2, lt))) ((((refl, lk), ((refl, ln), ((refl, lk), tt))), tt), tt))))
 
   -- a part that may be asked for any mask and slot
   abbrev AnySound : Rate → ℕ → (ℕ → ℕ → ℕ → List Instr) → Type 0
@@ -68,17 +65,17 @@ module _ (code : Listing) (h : Routine) where
     there : IsRegister h (type_of e).rate (found l e n) Truth
     mask : Granted h l (part_asks (type_of e).rate n)
 
-  if_sound : (l : Layout) (e : TExpr) (k n : ℕ) (first : ℕ → ℕ → ℕ → List Instr) → k < h.masks → TestThere l e n → AnySound (type_of e).rate n first → HereSound (λ pc. if_code (type_of e).rate (found l e n) pc k n first)
+  if_sound : (l : Layout) (e : TExpr) (k n : ℕ) (first : ℕ → ℕ → ℕ → List Instr) → k < h.masks → TestThere l e n → AnySound (type_of e).rate n first → HereSound code h (λ pc. if_code (type_of e).rate (found l e n) pc k n first)
   if_sound l e k n first lk test f = go (type_of e).rate refl test.there.0 test.there.1 test.mask f
     where
-      go : (r : Rate) → (type_of e).rate ≡ r → IsThere h (class_at r) (register r (found l e n)) → elem_of h (register r (found l e n)) ≡ Truth → Granted h l (part_asks r n) → AnySound r n first → HereSound (λ pc. if_code r (found l e n) pc k n first)
+      go : (r : Rate) → (type_of e).rate ≡ r → IsThere h (class_at r) (register r (found l e n)) → elem_of h (register r (found l e n)) ≡ Truth → Granted h l (part_asks r n) → AnySound r n first → HereSound code h (λ pc. if_code r (found l e n) pc k n first)
       go Uniform er there bool mask f pc lt = ((((there, bool), (omega arith, tt)), tt), f (pc + 1) k lk (omega arith))
       go Varying er there bool mask f pc lt = parted_sound (found l e n) k n (λ pc1. first pc1 n (n + 1)) (λ pc1. []) lk mask.1 there bool (λ pc1 lt1. f pc1 n mask.1 lt1) (λ pc1 lt1. tt) pc lt
 
-  if_else_sound : (l : Layout) (e : TExpr) (k n : ℕ) (first second : ℕ → ℕ → ℕ → List Instr) → k < h.masks → TestThere l e n → AnySound (type_of e).rate n first → AnySound (type_of e).rate n second → HereSound (λ pc. if_else_code (type_of e).rate (found l e n) pc k n first second)
+  if_else_sound : (l : Layout) (e : TExpr) (k n : ℕ) (first second : ℕ → ℕ → ℕ → List Instr) → k < h.masks → TestThere l e n → AnySound (type_of e).rate n first → AnySound (type_of e).rate n second → HereSound code h (λ pc. if_else_code (type_of e).rate (found l e n) pc k n first second)
   if_else_sound l e k n first second lk test f g = go (type_of e).rate refl test.there.0 test.there.1 test.mask f g
     where
-      go : (r : Rate) → (type_of e).rate ≡ r → IsThere h (class_at r) (register r (found l e n)) → elem_of h (register r (found l e n)) ≡ Truth → Granted h l (part_asks r n) → AnySound r n first → AnySound r n second → HereSound (λ pc. if_else_code r (found l e n) pc k n first second)
+      go : (r : Rate) → (type_of e).rate ≡ r → IsThere h (class_at r) (register r (found l e n)) → elem_of h (register r (found l e n)) ≡ Truth → Granted h l (part_asks r n) → AnySound r n first → AnySound r n second → HereSound code h (λ pc. if_else_code r (found l e n) pc k n first second)
       go Uniform er there bool mask f g pc lt =
           let ca = first (pc + 1) k n in
           let pb = pc + 1 + length ca + 1 in
@@ -86,13 +83,23 @@ module _ (code : Listing) (h : Routine) where
           let e1 = length-append ca (instr.Jump (pb + length cb) ∷ cb) in
           ((((there, bool), (omega (arith, e1, lt), tt)), tt), sound_both code h ca (instr.Jump (pb + length cb) ∷ cb) (f (pc + 1) k lk (omega (arith, e1, lt))) (((omega (arith, e1, lt), tt), tt), g pb k lk (omega (arith, e1, lt))))
       go Varying er there bool mask f g pc lt =
-          parted_sound (found l e n) k n (λ pc1. first pc1 n (n + 1)) (λ pc1. guard (jump_off k) pc1 (λ pc2. second pc2 k (n + 1))) lk mask.1 there bool (λ pc1 lt1. f pc1 n mask.1 lt1) (guard_sound k (λ pc2. second pc2 k (n + 1)) lk (λ pc2 lt2. g pc2 k lk lt2)) pc lt
+          parted_sound (found l e n) k n (λ pc1. first pc1 n (n + 1)) (λ pc1. guard (jump_off k) pc1 (λ pc2. second pc2 k (n + 1))) lk mask.1 there bool (λ pc1 lt1. f pc1 n mask.1 lt1) (guard_sound code h k (λ pc2. second pc2 k (n + 1)) lk (λ pc2 lt2. g pc2 k lk lt2)) pc lt
 
   -- ---- statements
 
   module _ (l : Layout) (answer : Option Ty) where
     test_there : (e : TExpr) (n : ℕ) → ExprTree e → (type_of e).elem ≡ Truth → ExprPresent h l e n → Granted h l (part_asks (type_of e).rate n) → TestThere l e n
     test_there e n is bool f mask = let x = found_there h l e n is f in record { there = (x.0, x.1 ∙ bool); mask = mask }
+
+    -- the parts of a `for` that may be left out
+    first_sound : (o : Option TFirst) (n : ℕ) → FirstTree o → Granted h l (first_asks o n) → PartSound code h (first_places l o) (λ pc p k. first_code l o pc p k n)
+    first_sound None n is f pc p k lk pl lt = tt
+    first_sound (Some (t_first_declare xs sp)) n is f pc p k lk pl lt = items_sound code h l xs n is f pc p k lk pl lt
+    first_sound (Some (t_first_simple x)) n is f pc p k lk pl lt = simple_sound code h l x n is f pc p k lk pl lt
+
+    step_sound : (o : Option TSimple) (n : ℕ) → StepTree o → Granted h l (step_asks o n) → PartSound code h (step_places l o) (λ pc p k. step_code l o pc p k n)
+    step_sound None n is f pc p k lk pl lt = tt
+    step_sound (Some x) n is f pc p k lk pl lt = simple_sound code h l x n is f pc p k lk pl lt
 
     -- a value goes to the register of the result
     answer_sound : (a : Option Ty) (x : TExpr) (pc p k n : ℕ) → AnswerTree a x → AnswerPresent h l a x n → k < h.masks → p + length (expr_places l x) ≤ length code.places → pc + length (answer_code l a x pc p k n) < length h.code → AreSound code h (answer_code l a x pc p k n)
@@ -124,9 +131,47 @@ module _ (code : Listing) (h : Routine) where
           let e2 = length-append pe (px ++ stmt_places l y) in
           let e3 = length-append px (stmt_places l y) in
           sound_both code h ce rest (value_sound code h l e n is.0 f.0 pc p k lk (omega (arith, e2, pl)) (omega (arith, e1, lt))) (if_else_sound l e k n part other lk (test_there e n is.0 is.3 f.0 f.1.0) (λ pc2 m lm lt2. stmt_sound x pc2 (p + length pe) m co rr (first_slot (type_of e).rate n) is.1 f.1.1.0 lm lc lr (omega (arith, e2, e3, pl)) lt2) (λ pc2 m lm lt2. stmt_sound y pc2 (p + length pe + length px) m co rr (first_slot (type_of e).rate n) is.2 f.1.1.1 lm lc lr (omega (arith, e2, e3, pl)) lt2) (pc + length ce) (omega (arith, e1, lt)))
-      stmt_sound (t_while b g e x sp) pc p k co rr n is f lk lc lr pl lt = absurd is
-      stmt_sound (t_do b g x e sp) pc p k co rr n is f lk lc lr pl lt = absurd is
-      stmt_sound (t_for b g first e step i x sp) pc p k co rr n is f lk lc lr pl lt = absurd is
+      stmt_sound (t_while b g e x sp) pc p k co rr n is f lk lc lr pl lt =
+          let pe = expr_places l e in
+          let e2 = length-append pe (stmt_places l x) in
+          let own = f.0.1 in
+          let test = found_there h l e (n + 3) is.0.0 f.1.0 in
+          while_sound code h (exits_of x) k rr n lk lr own.0 own.1.0 own.1.1 (type_of e).rate (found l e (n + 3)) (λ pc1. expr_code l e pc1 p n (n + 3)) (λ pc1. stmt_code l answer x pc1 (p + length pe) n (n + 1) (n + 2) (n + 3)) test.0 (test.1 ∙ is.0.1)
+          (λ pc1 lt1. value_sound code h l e (n + 3) is.0.0 f.1.0 pc1 p n own.0 (omega (arith, e2, pl)) lt1) (λ pc1 lt1. stmt_sound x pc1 (p + length pe) n (n + 1) (n + 2) (n + 3) is.1 f.1.1 own.0 own.1.0 own.1.1 (omega (arith, e2, pl)) lt1) pc lt
+      stmt_sound (t_do b g x e sp) pc p k co rr n is f lk lc lr pl lt =
+          let px = stmt_places l x in
+          let e2 = length-append px (expr_places l e) in
+          let own = f.0.1 in
+          let test = found_there h l e (n + 3) is.0.0 f.1.1 in
+          do_sound code h (exits_of x) k rr n lk lr own.0 own.1.0 own.1.1 (type_of e).rate (found l e (n + 3)) (λ pc1. expr_code l e pc1 (p + length px) n (n + 3)) (λ pc1. stmt_code l answer x pc1 p n (n + 1) (n + 2) (n + 3)) test.0 (test.1 ∙ is.0.1)
+          (λ pc1 lt1. value_sound code h l e (n + 3) is.0.0 f.1.1 pc1 (p + length px) n own.0 (omega (arith, e2, pl)) lt1) (λ pc1 lt1. stmt_sound x pc1 p n (n + 1) (n + 2) (n + 3) is.1 f.1.0 own.0 own.1.0 own.1.1 (omega (arith, e2, pl)) lt1) pc lt
+      stmt_sound (t_for b g first None step i x sp) pc p k co rr n is f lk lc lr pl lt =
+          let pf = first_places l first in
+          let px = stmt_places l x in
+          let p1 = p + length pf in
+          let e1 = length-append pf (px ++ step_places l step) in
+          let e2 = length-append px (step_places l step) in
+          let own = f.1.0.1 in
+          let body = λ (pc1 : ℕ). stmt_code l answer x pc1 p1 n (n + 1) (n + 2) (n + 3) in
+          let stepping = λ (pc1 : ℕ). step_code l step pc1 (p1 + length px) n (n + 3) in
+          two_sound code h (λ pc1. first_code l first pc1 p k n) (λ pc1. endless_code (exits_of x) pc1 k rr n body stepping) (λ pc1 lt1. first_sound first n is.0 f.0 pc1 p k lk (omega (arith, e1, pl)) lt1)
+          (endless_sound code h (exits_of x) k rr n lk lr own.0 own.1.0 own.1.1 body stepping (λ pc1 lt1. stmt_sound x pc1 p1 n (n + 1) (n + 2) (n + 3) is.3 f.1.1.1.1 own.0 own.1.0 own.1.1 (omega (arith, e1, e2, pl)) lt1) (λ pc1 lt1. step_sound step (n + 3) is.2 f.1.1.1.0 pc1 (p1 + length px) n own.0 (omega (arith, e1, e2, pl)) lt1)) pc lt
+      stmt_sound (t_for b g first (Some e) step i x sp) pc p k co rr n is f lk lc lr pl lt =
+          let pf = first_places l first in
+          let pe = expr_places l e in
+          let px = stmt_places l x in
+          let p1 = p + length pf in
+          let p2 = p1 + length pe in
+          let e1 = length-append pf (pe ++ (px ++ step_places l step)) in
+          let e2 = length-append pe (px ++ step_places l step) in
+          let e3 = length-append px (step_places l step) in
+          let own = f.1.0.1 in
+          let test = found_there h l e (n + 3) is.1.0 f.1.1.0 in
+          let tests = λ (pc1 : ℕ). expr_code l e pc1 p1 n (n + 3) in
+          let body = λ (pc1 : ℕ). stmt_code l answer x pc1 p2 n (n + 1) (n + 2) (n + 3) in
+          let stepping = λ (pc1 : ℕ). step_code l step pc1 (p2 + length px) n (n + 3) in
+          two_sound code h (λ pc1. first_code l first pc1 p k n) (λ pc1. for_code (exits_of x) (type_of e).rate (found l e (n + 3)) pc1 k rr n tests body stepping) (λ pc1 lt1. first_sound first n is.0 f.0 pc1 p k lk (omega (arith, e1, pl)) lt1)
+          (for_sound code h (exits_of x) k rr n lk lr own.0 own.1.0 own.1.1 (type_of e).rate (found l e (n + 3)) tests body test.0 (test.1 ∙ is.1.1) (λ pc1 lt1. value_sound code h l e (n + 3) is.1.0 f.1.1.0 pc1 p1 n own.0 (omega (arith, e1, e2, pl)) lt1) (λ pc1 lt1. stmt_sound x pc1 p2 n (n + 1) (n + 2) (n + 3) is.3 f.1.1.1.1 own.0 own.1.0 own.1.1 (omega (arith, e1, e2, e3, pl)) lt1) stepping (λ pc1 lt1. step_sound step (n + 3) is.2 f.1.1.1.0 pc1 (p2 + length px) n own.0 (omega (arith, e1, e2, e3, pl)) lt1)) pc lt
       stmt_sound (t_foreach w g rs x sp) pc p k co rr n is f lk lc lr pl lt = absurd is
       stmt_sound (t_foreach_active w g i x sp) pc p k co rr n is f lk lc lr pl lt = absurd is
       stmt_sound (t_unmasked w b sp) pc p k co rr n is f lk lc lr pl lt = absurd is

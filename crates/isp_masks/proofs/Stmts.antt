@@ -28,6 +28,7 @@ use Rattle.isp_masks.proofs.Choices.{if_runs, if_else_runs}
 use Rattle.isp_lower.proofs.Items.{items_run}
 use Rattle.isp_lower.proofs.Updates.{simple_runs}
 use Rattle.isp_masks.proofs.Members.{went_inside, went_whole}
+use Rattle.isp_masks.proofs.LoopStmts.{while_runs, do_runs, for_runs}
 use Rattle.isp_masks.proofs.Leaves.{jump_runs, return_ok, return_runs}
 use Rattle.isp_masks.proofs.Sequences.{set_aside, rest_runs, then_runs}
 
@@ -69,9 +70,9 @@ module _ (w : Setting) (ready : IsSettled w) where
         set_aside w ready (nobody_leaves (either_leaves (exits_of x) (exits_of y))) c _ k co rr n q _
         (tested_runs e pc p k co rr n q a s c (λ pc1. if_else_code (type_of e).rate (found w.layout e n) pc1 k n part other) (branches (gang_of w) a (run (gang_of w) w.frame (calls_of w) w.turns x) (run (gang_of w) w.frame (calls_of w) w.turns y)) fit.0 has (are_front w.code.places p pl _ places) three b
         (λ m s1 ok. if_else_runs w ready (type_of e).rate (found w.layout e n) (pc + length ce) k co rr n (ok.steps + (1 + q)) a m s1 ok.conf part other (run (gang_of w) w.frame (calls_of w) w.turns x) (run (gang_of w) w.frame (calls_of w) w.turns y) ok.at (ok.masks k b.low ∙ b.mask) b.some b.inside ok.stands ok.holds (omega (arith, ok.bound)) three (are_back w.routine.code pc ce _ has) (λ j T s2 c2 pc2 z th h en. stmt_less w ready w.turns c2 _ _ j co rr _ (aside (all_go_on x)) z _ refl (stmt_runs x pc2 (p + length pl) j co rr (first_slot (type_of e).rate n) z T s2 c2 fit.1 h (are_front w.code.places (p + length pl) px _ plx) th en)) (λ j T s2 c2 pc2 z th h en. stmt_less w ready w.turns c2 _ _ j co rr _ (aside (all_go_on y)) z _ refl (stmt_runs y pc2 (p + length pl + length px) j co rr (first_slot (type_of e).rate n) z T s2 c2 fit.2 h (are_back w.code.places (p + length pl) px _ plx) th en))))
-    stmt_runs (t_while f g e x sp) pc p k co rr n q a s c fit has places three b = absurd fit
-    stmt_runs (t_do f g x e sp) pc p k co rr n q a s c fit has places three b = absurd fit
-    stmt_runs (t_for f g first e step i x sp) pc p k co rr n q a s c fit has places three b = absurd fit
+    stmt_runs (t_while f g e x sp) pc p k co rr n q a s c fit has places three b = while_runs w ready f g e x sp (stmt_runs x) pc p k co rr n q a s c fit has places three b
+    stmt_runs (t_do f g x e sp) pc p k co rr n q a s c fit has places three b = do_runs w ready f g x e sp (stmt_runs x) pc p k co rr n q a s c fit has places three b
+    stmt_runs (t_for f g first e step i x sp) pc p k co rr n q a s c fit has places three b = for_runs w ready f g first e step i x sp (stmt_runs x) pc p k co rr n q a s c fit has places three b
     stmt_runs (t_foreach v g rs x sp) pc p k co rr n q a s c fit has places three b = absurd fit
     stmt_runs (t_foreach_active v g i x sp) pc p k co rr n q a s c fit has places three b = absurd fit
     stmt_runs (t_unmasked v z sp) pc p k co rr n q a s c fit has places three b = absurd fit

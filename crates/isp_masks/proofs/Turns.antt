@@ -27,7 +27,7 @@ use Rattle.isp_lower.proofs.Logic.{any_nobody, where_inside}
 use Rattle.isp_lower.proofs.Rates.{at_kept}
 use Rattle.isp_masks.specs.LoopRuns.{TestRuns, BodyRuns, StepRuns}
 use Rattle.isp_masks.specs.Loops.{copy_mask, if_needed, enter_code, loop_end_code, turn_code, back_code, sift_code, live_code, again_code}
-use Rattle.isp_masks.specs.Statements.{unite, clear_mask}
+use Rattle.isp_masks.specs.Sets.{unite, clear_mask}
 use Rattle.isp_masks.specs.StmtRuns.{AreThree, Inside, StmtOk, StmtRuns}
 use Rattle.isp_masks.specs.declared.exits.Exits.{Exits}
 use Rattle.isp_masks.proofs.Combine.{stmt_after}

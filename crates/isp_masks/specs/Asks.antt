@@ -1,10 +1,10 @@
--- What the code of statements asks for: what its parts ask for, the result's register where a value is returned, and for a
--- varying test a mask and a slot behind it.
+-- What the code of statements asks for: what its parts ask for, the result's register where a value is returned, for a
+-- varying test a mask and a slot behind it, and for a loop three masks and slots behind them.
 use Rattle.std.specs.Prelude.{ℕ, ◌+◌, Option, Some, None}
 use Rattle.isp_base.specs.declared.types.Rate.{Rate}
 use Rattle.isp_base.specs.declared.types.Rate.TheVariants.{Uniform, Varying}
 use Rattle.isp_base.specs.declared.types.Ty.{Ty}
-use Rattle.isp_typed.specs.Typed.{TExpr, type_of, TStmt, t_block, t_declare, t_simple, t_if, t_if_else, t_while, t_do, t_for, t_foreach, t_foreach_active, t_unmasked, t_jump, t_return, t_print, t_assert, TBlock, t_braces, TStmts, t_no_stmts, t_stmt_then}
+use Rattle.isp_typed.specs.Typed.{TExpr, type_of, TSimple, TFirst, t_first_declare, t_first_simple, TStmt, t_block, t_declare, t_simple, t_if, t_if_else, t_while, t_do, t_for, t_foreach, t_foreach_active, t_unmasked, t_jump, t_return, t_print, t_assert, TBlock, t_braces, TStmts, t_no_stmts, t_stmt_then}
 use Rattle.isp_lower.specs.Asks.{Ask, Nothing, Both, Register, MaskOf, Number, first_slot, expr_asks, operand_asks, simple_asks, items_asks}
 use Rattle.isp_lower.specs.Rows.{Result}
 
@@ -17,6 +17,24 @@ part_asks Varying n = Both (Number (n + 1)) (MaskOf n)
 abbrev pub answer_asks : Option Ty → TExpr → ℕ → Ask
 answer_asks None x n = expr_asks x n
 answer_asks (Some t) x n = Both (Register t.rate Result t.elem) (operand_asks t.rate x n)
+
+-- a loop's own masks, behind which its parts have their slots
+abbrev pub loop_asks : ℕ → Ask
+loop_asks n = Both (Number (n + 3)) (Both (MaskOf n) (Both (MaskOf (n + 1)) (MaskOf (n + 2))))
+
+-- the parts of a `for` that may be left out
+abbrev pub first_asks : Option TFirst → ℕ → Ask
+first_asks None n = Nothing
+first_asks (Some (t_first_declare xs sp)) n = items_asks n xs
+first_asks (Some (t_first_simple x)) n = simple_asks x n
+
+abbrev pub test_part_asks : Option TExpr → ℕ → Ask
+test_part_asks None n = Nothing
+test_part_asks (Some e) n = expr_asks e n
+
+abbrev pub step_asks : Option TSimple → ℕ → Ask
+step_asks None n = Nothing
+step_asks (Some x) n = simple_asks x n
 
 -- the register of what a function gives back
 abbrev pub result_asks : Option Ty → Ask
@@ -34,9 +52,10 @@ module _ (answer : Option Ty) where
     stmt_asks (t_if_else f g e x y sp) n =
         let i = first_slot (type_of e).rate n in
         Both (expr_asks e n) (Both (part_asks (type_of e).rate n) (Both (stmt_asks x i) (stmt_asks y i)))
-    stmt_asks (t_while f g e x sp) n = Nothing
-    stmt_asks (t_do f g x e sp) n = Nothing
-    stmt_asks (t_for f g first e step i x sp) n = Nothing
+    stmt_asks (t_while f g e x sp) n = Both (loop_asks n) (Both (expr_asks e (n + 3)) (stmt_asks x (n + 3)))
+    stmt_asks (t_do f g x e sp) n = Both (loop_asks n) (Both (stmt_asks x (n + 3)) (expr_asks e (n + 3)))
+    stmt_asks (t_for f g first e step i x sp) n =
+        Both (first_asks first n) (Both (loop_asks n) (Both (test_part_asks e (n + 3)) (Both (step_asks step (n + 3)) (stmt_asks x (n + 3)))))
     stmt_asks (t_foreach k g rs x sp) n = Nothing
     stmt_asks (t_foreach_active k g i x sp) n = Nothing
     stmt_asks (t_unmasked k b sp) n = Nothing

@@ -1,10 +1,12 @@
 pub mod Exits
+pub mod Sets
+pub mod Fors
+pub mod Loops
 pub mod Statements
 pub mod Fits
 pub mod Presence
 pub mod Parts
 pub mod StmtRuns
-pub mod Loops
 pub mod LoopRuns
 pub mod Agreement
 pub mod Compiled

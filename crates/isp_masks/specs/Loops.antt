@@ -11,7 +11,7 @@ use Rattle.isp_code.specs.declared.instr.MaskInstr.TheVariants as mask
 use Rattle.isp_lower.specs.Layout.{mask_register}
 use Rattle.isp_lower.specs.Code.{where_so, the_others, jump_off, jump_on, two, guard}
 use Rattle.isp_masks.specs.Exits.{nobody_leaves}
-use Rattle.isp_masks.specs.Statements.{unite, clear_mask}
+use Rattle.isp_masks.specs.Sets.{unite, clear_mask}
 use Rattle.isp_masks.specs.declared.exits.Exits.{Exits}
 
 abbrev pub copy_mask : ℕ → ℕ → Instr
@@ -45,6 +45,15 @@ abbrev pub sift_code : Rate → ℕ → ℕ → ℕ → (ℕ → List Instr) →
 sift_code Uniform x pc n rest = guard (jump_on jump.False x) pc rest
 sift_code Varying x pc n rest = where_so n x n ∷ guard (jump_off n) (pc + 1) rest
 
+-- The same in two parts, as it is written: what stands before the jump past the rest, and this jump.
+abbrev pub sift_begin : Rate → ℕ → ℕ → List Instr
+sift_begin Uniform x n = []
+sift_begin Varying x n = where_so n x n ∷ []
+
+abbrev pub sift_jump : Rate → ℕ → ℕ → ℕ → Instr
+sift_jump Uniform x n = jump_on jump.False x
+sift_jump Varying x n = jump_off n
+
 -- what is for those that are live alone: where all of the set go on after the body, somebody is
 abbrev pub live_code : Bool → ℕ → ℕ → (ℕ → List Instr) → List Instr
 live_code true n pc code = code pc
@@ -55,6 +64,10 @@ abbrev pub again_code : Rate → ℕ → ℕ → ℕ → List Instr
 again_code Uniform x n top = jump_on jump.True x top ∷ []
 again_code Varying x n top = where_so n x n ∷ instr.JumpIf jump.On (mask_register n) top ∷ []
 
+-- behind a turn of a `for`: the step, and back to the test
+abbrev pub step_back_code : Bool → ℕ → ℕ → ℕ → (ℕ → List Instr) → List Instr
+step_back_code alone n top pc step = live_code alone n pc (λ pc1. step pc1 ++ instr.Jump top ∷ [])
+
 abbrev pub while_code : Exits → Rate → ℕ → ℕ → ℕ → ℕ → ℕ → (ℕ → List Instr) → (ℕ → List Instr) → List Instr
 while_code e r x pc k rr n test body =
     two pc (enter_code e k n) (λ top. two top (two top (test top) (λ pc1. sift_code r x pc1 n (λ pc2. two pc2 (turn_code e pc2 n body) (λ pc3. back_code (nobody_leaves e) n top ∷ [])))) (λ pc4. loop_end_code e k rr n))
@@ -62,12 +75,12 @@ while_code e r x pc k rr n test body =
 -- the first part of a `for` stands before
 abbrev pub for_code : Exits → Rate → ℕ → ℕ → ℕ → ℕ → ℕ → (ℕ → List Instr) → (ℕ → List Instr) → (ℕ → List Instr) → List Instr
 for_code e r x pc k rr n test body step =
-    two pc (enter_code e k n) (λ top. two top (two top (test top) (λ pc1. sift_code r x pc1 n (λ pc2. two pc2 (turn_code e pc2 n body) (λ pc3. live_code (nobody_leaves e) n pc3 (λ pc4. step pc4 ++ instr.Jump top ∷ []))))) (λ pc5. loop_end_code e k rr n))
+    two pc (enter_code e k n) (λ top. two top (two top (test top) (λ pc1. sift_code r x pc1 n (λ pc2. two pc2 (turn_code e pc2 n body) (λ pc3. step_back_code (nobody_leaves e) n top pc3 step)))) (λ pc5. loop_end_code e k rr n))
 
 -- a `for` whose test is left out
 abbrev pub endless_code : Exits → ℕ → ℕ → ℕ → ℕ → (ℕ → List Instr) → (ℕ → List Instr) → List Instr
 endless_code e pc k rr n body step =
-    two pc (enter_code e k n) (λ top. two top (two top (turn_code e top n body) (λ pc1. live_code (nobody_leaves e) n pc1 (λ pc2. step pc2 ++ instr.Jump top ∷ []))) (λ pc3. loop_end_code e k rr n))
+    two pc (enter_code e k n) (λ top. two top (two top (turn_code e top n body) (λ pc1. step_back_code (nobody_leaves e) n top pc1 step)) (λ pc3. loop_end_code e k rr n))
 
 abbrev pub do_code : Exits → Rate → ℕ → ℕ → ℕ → ℕ → ℕ → (ℕ → List Instr) → (ℕ → List Instr) → List Instr
 do_code e r x pc k rr n test body =

@@ -9,34 +9,17 @@ use Rattle.isp_base.specs.declared.types.Ty.{Ty}
 use Rattle.isp_code.specs.declared.instr.Instr.{Instr}
 use Rattle.isp_code.specs.declared.instr.Instr.TheVariants as instr
 use Rattle.isp_code.specs.declared.instr.JumpTest.TheVariants as jump
-use Rattle.isp_code.specs.declared.instr.MaskInstr.TheVariants as mask
-use Rattle.isp_code.specs.declared.instr.MaskOp.TheVariants as mask_op
 use Rattle.isp_code.specs.declared.register.Register.{Register}
-use Rattle.isp_tree.specs.declared.stmt.Jump.{Jump}
-use Rattle.isp_tree.specs.declared.stmt.Jump.TheVariants.{Break, Continue}
-use Rattle.isp_typed.specs.Typed.{TExpr, type_of, TStmt, t_block, t_declare, t_simple, t_if, t_if_else, t_while, t_do, t_for, t_foreach, t_foreach_active, t_unmasked, t_jump, t_return, t_print, t_assert, TBlock, t_braces, TStmts, t_no_stmts, t_stmt_then}
-use Rattle.isp_lower.specs.Layout.{Layout, register, mask_register}
+use Rattle.isp_typed.specs.Typed.{TExpr, type_of, TSimple, TStmt, t_block, t_declare, t_simple, t_if, t_if_else, t_while, t_do, t_for, t_foreach, t_foreach_active, t_unmasked, t_jump, t_return, t_print, t_assert, TBlock, t_braces, TStmts, t_no_stmts, t_stmt_then}
+use Rattle.isp_lower.specs.Layout.{Layout, register}
 use Rattle.isp_lower.specs.Code.{copy, where_so, the_others, jump_off, jump_on, two, guard, choice, found, operand, operand_of, expr_places, expr_code}
 use Rattle.isp_lower.specs.Items.{items_code, items_places}
 use Rattle.isp_lower.specs.Simple.{simple_code, simple_places}
-use Rattle.isp_masks.specs.Exits.{all_go_on}
-
--- ---- sets
-
--- mask d gets those of two masks; mask d gets nobody
-abbrev pub unite : ℕ → ℕ → ℕ → Instr
-unite d x y = instr.Mask (mask_register d) (mask.Binary mask_op.Or (mask_register x) (mask_register y))
-
-abbrev pub clear_mask : ℕ → Instr
-clear_mask d = instr.Mask (mask_register d) mask.Off
-
--- those of mask k leave, into mask m
-abbrev pub leave_code : ℕ → ℕ → List Instr
-leave_code m k = unite m m k ∷ clear_mask k ∷ []
-
-abbrev pub jump_code : Jump → ℕ → ℕ → List Instr
-jump_code Break k co = clear_mask k ∷ []
-jump_code Continue k co = leave_code co k
+use Rattle.isp_masks.specs.Exits.{exits_of, nobody_leaves, all_go_on}
+use Rattle.isp_masks.specs.Fors.{first_code, step_code, first_places, test_places, step_places}
+use Rattle.isp_masks.specs.Loops.{turn_code, step_back_code, while_code, for_code, endless_code, do_code}
+use Rattle.isp_masks.specs.Sets.{unite, leave_code, jump_code}
+use Rattle.isp_masks.specs.declared.exits.Exits.{Exits}
 
 -- ---- one statement after the other
 
@@ -84,9 +67,9 @@ module _ (l : Layout) where
     stmt_places (t_simple x sp) = simple_places l x
     stmt_places (t_if f g e x sp) = expr_places l e ++ stmt_places x
     stmt_places (t_if_else f g e x y sp) = expr_places l e ++ (stmt_places x ++ stmt_places y)
-    stmt_places (t_while f g e x sp) = []
-    stmt_places (t_do f g x e sp) = []
-    stmt_places (t_for f g first e step i x sp) = []
+    stmt_places (t_while f g e x sp) = expr_places l e ++ stmt_places x
+    stmt_places (t_do f g x e sp) = stmt_places x ++ expr_places l e
+    stmt_places (t_for f g first e step i x sp) = first_places l first ++ (test_places l e ++ (stmt_places x ++ step_places l step))
     stmt_places (t_foreach w g rs x sp) = []
     stmt_places (t_foreach_active w g i x sp) = []
     stmt_places (t_unmasked w b sp) = []
@@ -114,9 +97,17 @@ module _ (l : Layout) (answer : Option Ty) where
         two pc (expr_code l e pc p k n) (λ pc1. if_code (type_of e).rate (found l e n) pc1 k n (λ pc2 m i. stmt_code x pc2 (p + length (expr_places l e)) m co rr i))
     stmt_code (t_if_else f g e x y sp) pc p k co rr n =
         two pc (expr_code l e pc p k n) (λ pc1. if_else_code (type_of e).rate (found l e n) pc1 k n (λ pc2 m i. stmt_code x pc2 (p + length (expr_places l e)) m co rr i) (λ pc2 m i. stmt_code y pc2 (p + length (expr_places l e) + length (stmt_places l x)) m co rr i))
-    stmt_code (t_while f g e x sp) pc p k co rr n = []
-    stmt_code (t_do f g x e sp) pc p k co rr n = []
-    stmt_code (t_for f g first e step i x sp) pc p k co rr n = []
+    stmt_code (t_while f g e x sp) pc p k co rr n =
+        while_code (exits_of x) (type_of e).rate (found l e (n + 3)) pc k rr n (λ pc1. expr_code l e pc1 p n (n + 3)) (λ pc1. stmt_code x pc1 (p + length (expr_places l e)) n (n + 1) (n + 2) (n + 3))
+    stmt_code (t_do f g x e sp) pc p k co rr n =
+        do_code (exits_of x) (type_of e).rate (found l e (n + 3)) pc k rr n (λ pc1. expr_code l e pc1 (p + length (stmt_places l x)) n (n + 3)) (λ pc1. stmt_code x pc1 p n (n + 1) (n + 2) (n + 3))
+    stmt_code (t_for f g first None step i x sp) pc p k co rr n =
+        let p1 = p + length (first_places l first) in
+        two pc (first_code l first pc p k n) (λ pc1. endless_code (exits_of x) pc1 k rr n (λ pc2. stmt_code x pc2 p1 n (n + 1) (n + 2) (n + 3)) (λ pc2. step_code l step pc2 (p1 + length (stmt_places l x)) n (n + 3)))
+    stmt_code (t_for f g first (Some e) step i x sp) pc p k co rr n =
+        let p1 = p + length (first_places l first) in
+        let p2 = p1 + length (expr_places l e) in
+        two pc (first_code l first pc p k n) (λ pc1. for_code (exits_of x) (type_of e).rate (found l e (n + 3)) pc1 k rr n (λ pc2. expr_code l e pc2 p1 n (n + 3)) (λ pc2. stmt_code x pc2 p2 n (n + 1) (n + 2) (n + 3)) (λ pc2. step_code l step pc2 (p2 + length (stmt_places l x)) n (n + 3)))
     stmt_code (t_foreach w g rs x sp) pc p k co rr n = []
     stmt_code (t_foreach_active w g i x sp) pc p k co rr n = []
     stmt_code (t_unmasked w b sp) pc p k co rr n = []
@@ -133,6 +124,23 @@ module _ (l : Layout) (answer : Option Ty) where
     stmts_code t_no_stmts pc p k co rr n = []
     stmts_code (t_stmt_then x xs) pc p k co rr n =
         two pc (stmt_code x pc p k co rr n) (λ pc1. rest_code (all_go_on x) xs k pc1 (λ pc2. stmts_code xs pc2 (p + length (stmt_places l x)) k co rr n))
+
+  -- the body of a loop whose masks are n, n + 1 and n + 2
+  abbrev pub body_code : TStmt → ℕ → ℕ → ℕ → List Instr
+  body_code x n p pc = stmt_code x pc p n (n + 1) (n + 2) (n + 3)
+
+  -- a turn of a `for`, its step, and the jump back to the test
+  abbrev pub stepped_code : Option TSimple → TStmt → Exits → ℕ → ℕ → ℕ → ℕ → List Instr
+  stepped_code step x e n top pc p =
+      two pc (turn_code e pc n (body_code x n p)) (λ pc1. step_back_code (nobody_leaves e) n top pc1 (λ pc2. step_code l step pc2 (p + length (stmt_places l x)) n (n + 3)))
+
+  -- a `for` behind its first part
+  abbrev pub turns_code : Option TExpr → Option TSimple → TStmt → ℕ → ℕ → ℕ → ℕ → ℕ → List Instr
+  turns_code None step x pc p k rr n =
+      endless_code (exits_of x) pc k rr n (body_code x n p) (λ pc1. step_code l step pc1 (p + length (stmt_places l x)) n (n + 3))
+  turns_code (Some e) step x pc p k rr n =
+      let p1 = p + length (expr_places l e) in
+      for_code (exits_of x) (type_of e).rate (found l e (n + 3)) pc k rr n (λ pc1. expr_code l e pc1 p n (n + 3)) (body_code x n p1) (λ pc1. step_code l step pc1 (p1 + length (stmt_places l x)) n (n + 3))
 
   -- mask 0 has those that called, masks 1 and 2 get those that continued and returned
   abbrev pub function_code : TBlock → ℕ → List Instr

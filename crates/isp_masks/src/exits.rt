@@ -46,7 +46,8 @@ impl Exits {
         }
     }
 
-    fn is_none(self) -> bool
+    /// Whether nobody may.
+    pub(crate) fn is_none(self) -> bool
         ensures { result ≡ nobody_leaves self }
     {
         !(self.breaks || (self.continues || self.returns))

@@ -6,6 +6,7 @@ mod exits;
 mod header;
 mod laws;
 mod listing;
+mod looping;
 mod lowering;
 mod masks;
 mod reserved;

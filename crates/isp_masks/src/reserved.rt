@@ -1,16 +1,16 @@
 //! The registers and masks that the code of statements asks for, before it is written.
-ghost use Rattle.std.specs.Prelude.{◌≡◌, OnOk, IfOk};
+ghost use Rattle.std.specs.Prelude.{◌≡◌, ◌+◌, option_map, OnOk, IfOk};
 ghost use Rattle.isp_base.specs.declared.types.Rate.TheVariants.{Varying};
 ghost use Rattle.isp_typed.specs.Typed.{type_of};
-ghost use Rattle.isp_typed.specs.Views.{block_of, expr_of, stmt_of};
+ghost use Rattle.isp_typed.specs.Views.{block_of, expr_of, first_of, simple_of, stmt_of};
 ghost use Rattle.isp_lower.specs.Asks.{Both, Register as Ask, expr_asks, first_slot, operand_asks};
 ghost use Rattle.isp_lower.specs.Reserved.{Gives};
 ghost use Rattle.isp_lower.specs.Rows.{Result as ResultName};
-ghost use Rattle.isp_masks.specs.Asks.{answer_asks, block_asks, part_asks, result_asks, stmt_asks};
+ghost use Rattle.isp_masks.specs.Asks.{answer_asks, block_asks, first_asks, loop_asks, part_asks, result_asks, step_asks, stmt_asks, test_part_asks};
 
 use isp_base::{Rate, Ty};
 use isp_lower::Reserve;
-use isp_typed::{TypedBlock, TypedExpr, TypedStmt};
+use isp_typed::{TypedBlock, TypedExpr, TypedFirst, TypedSimple, TypedStmt};
 use std::alloc::AllocError;
 
 /// What the code of a statement asks for, in the slots from one on; nothing is asked for what has no code yet.
@@ -33,10 +33,19 @@ fn stmt(r: &mut Reserve, x: &TypedStmt, answer: Option<Ty>, slot: u32) -> Result
             Some(x) => returned(r, x, answer, slot),
             None => Ok(()),
         },
+        TypedStmt::While { test, body, .. } => while_loop(r, test, body, answer, slot),
+        TypedStmt::Do { body, test, .. } => do_loop(r, body, test, answer, slot),
+        TypedStmt::For {
+            first,
+            test,
+            step,
+            body,
+            ..
+        } => {
+            first_part(r, first, slot)?;
+            turns(r, test, step, body, answer, slot)
+        }
         TypedStmt::Jump { .. }
-        | TypedStmt::While { .. }
-        | TypedStmt::Do { .. }
-        | TypedStmt::For { .. }
         | TypedStmt::Foreach { .. }
         | TypedStmt::ForeachActive { .. }
         | TypedStmt::Unmasked { .. }
@@ -145,4 +154,100 @@ fn two_sides(
     stmt(r, then, answer, next)?;
     stmt(r, otherwise, answer, next)?;
     Ok(())
+}
+
+/// The masks of a loop, and the slot of its parts.
+fn own(r: &mut Reserve, slot: u32) -> Result<u32, AllocError>
+    ensures number { IfOk result (λ n. n ≡ slot + 3) }
+    ensures gives { OnOk result (Gives r.old r.new (loop_asks slot)) }
+{
+    let second = r.next(slot)?;
+    let third = r.next(second)?;
+    let parts = r.next(third)?;
+    r.mask(slot)?;
+    r.mask(second)?;
+    r.mask(third)?;
+    Ok(parts)
+}
+
+#[cycle(stmt)]
+fn while_loop(
+    r: &mut Reserve,
+    test: &TypedExpr,
+    body: &TypedStmt,
+    answer: Option<Ty>,
+    slot: u32,
+) -> Result<(), AllocError>
+    ensures { OnOk result (Gives r.old r.new (Both (loop_asks slot) (Both (expr_asks (expr_of test.now) (slot + 3)) (stmt_asks answer (stmt_of body.now) (slot + 3))))) }
+{
+    let parts = own(r, slot)?;
+    r.expr(test, parts)?;
+    stmt(r, body, answer, parts)?;
+    Ok(())
+}
+
+#[cycle(stmt)]
+fn do_loop(
+    r: &mut Reserve,
+    body: &TypedStmt,
+    test: &TypedExpr,
+    answer: Option<Ty>,
+    slot: u32,
+) -> Result<(), AllocError>
+    ensures { OnOk result (Gives r.old r.new (Both (loop_asks slot) (Both (stmt_asks answer (stmt_of body.now) (slot + 3)) (expr_asks (expr_of test.now) (slot + 3))))) }
+{
+    let parts = own(r, slot)?;
+    stmt(r, body, answer, parts)?;
+    r.expr(test, parts)?;
+    Ok(())
+}
+
+/// A `for` behind its first part.
+#[cycle(stmt)]
+fn turns(
+    r: &mut Reserve,
+    test: &Option<TypedExpr>,
+    step: &Option<TypedSimple>,
+    body: &TypedStmt,
+    answer: Option<Ty>,
+    slot: u32,
+) -> Result<(), AllocError>
+    ensures { OnOk result (Gives r.old r.new (Both (loop_asks slot) (Both (test_part_asks (option_map expr_of test.now) (slot + 3)) (Both (step_asks (option_map simple_of step.now) (slot + 3)) (stmt_asks answer (stmt_of body.now) (slot + 3)))))) }
+{
+    let parts = own(r, slot)?;
+    test_part(r, test, parts)?;
+    step_part(r, step, parts)?;
+    stmt(r, body, answer, parts)?;
+    Ok(())
+}
+
+/// The first part of a `for`.
+fn first_part(r: &mut Reserve, first: &Option<TypedFirst>, slot: u32) -> Result<(), AllocError>
+    ensures { OnOk result (Gives r.old r.new (first_asks (option_map first_of first.now) slot)) }
+{
+    match first {
+        None => Ok(()),
+        Some(TypedFirst::Declare { items, .. }) => r.items(items, slot),
+        Some(TypedFirst::Simple(x)) => r.simple(x, slot),
+    }
+}
+
+/// The test of a `for`.
+fn test_part(r: &mut Reserve, test: &Option<TypedExpr>, slot: u32) -> Result<(), AllocError>
+    ensures { OnOk result (Gives r.old r.new (test_part_asks (option_map expr_of test.now) slot)) }
+{
+    match test {
+        None => Ok(()),
+        Some(x) => r.expr(x, slot),
+    }
+}
+
+/// The step of a `for`.
+fn step_part(r: &mut Reserve, step: &Option<TypedSimple>, slot: u32) -> Result<(), AllocError>
+    ensures { OnOk result (Gives r.old r.new (step_asks (option_map simple_of step.now) slot)) }
+{
+    match step {
+        None => Ok(()),
+        Some(x) => r.simple(x, slot),
+    }
 }

@@ -2,7 +2,7 @@
 ghost use Rattle.std.specs.Prelude.{◌≡◌, ◌∷◌, [], OnOk};
 ghost use Rattle.isp_lower.specs.Code.{the_others, where_so};
 ghost use Rattle.isp_lower.specs.Emitted.{Appends};
-ghost use Rattle.isp_masks.specs.Statements.{clear_mask, jump_code, leave_code, unite};
+ghost use Rattle.isp_masks.specs.Sets.{clear_mask, jump_code, leave_code, unite};
 
 use crate::masks::Masks;
 use isp_code::{Instr, MaskInstr, MaskOp};
@@ -21,7 +21,7 @@ pub(crate) fn unite(to: u32, one: u32, other: u32) -> Instr
 }
 
 /// A mask gets no lane.
-fn clear_mask(to: u32) -> Instr
+pub(crate) fn clear_mask(to: u32) -> Instr
     ensures { result ≡ clear_mask to }
 {
     Instr::Mask(mask(to), MaskInstr::Off)

@@ -1,27 +1,33 @@
 //! The code of statements. A mask has the lanes that run a statement, and afterwards those that went on; those that
 //! continued and those that returned are added to two others.
-ghost use Rattle.std.specs.Prelude.{◌≡◌, ◌<◌, ◌+◌, ◌++◌, length, option_map, OnOk};
+ghost use Rattle.std.specs.Prelude.{◌≡◌, ◌<◌, ◌+◌, ◌++◌, ◌∷◌, [], length, option_map, true, false, OnOk};
 ghost use Rattle.isp_base.specs.declared.types.Rate.TheVariants.{Uniform, Varying};
 ghost use Rattle.isp_typed.specs.Typed.{t_return, type_of};
-ghost use Rattle.isp_typed.specs.Views.{block_of, expr_of, stmt_of};
+ghost use Rattle.isp_typed.specs.Views.{block_of, expr_of, first_of, simple_of, stmt_of};
 ghost use Rattle.isp_lower.specs.Asks.{expr_asks, first_slot};
 ghost use Rattle.isp_lower.specs.Code.{expr_code, expr_places, found, guard, jump_off, two};
 ghost use Rattle.isp_lower.specs.Emitted.{Appends, Present, layout};
-ghost use Rattle.isp_masks.specs.Asks.{answer_asks, block_asks, part_asks, stmt_asks};
-ghost use Rattle.isp_masks.specs.Statements.{answer_code, block_code, block_places, if_code, if_else_code, stmt_code, stmt_places};
+ghost use Rattle.isp_masks.specs.Asks.{answer_asks, block_asks, first_asks, part_asks, step_asks, stmt_asks, test_part_asks};
+ghost use Rattle.isp_masks.specs.Exits.{exits_of, nobody_leaves};
+ghost use Rattle.isp_masks.specs.Fors.{first_code, first_places, step_code, step_places, test_places};
+ghost use Rattle.isp_masks.specs.Loops.{again_code, back_code, do_code, live_code, sift_code, step_back_code, turn_code, while_code};
+ghost use Rattle.isp_masks.specs.Statements.{answer_code, block_code, block_places, body_code, if_code, if_else_code, stepped_code, stmt_code, stmt_places, turns_code};
 
 use crate::awaited::{land_all, leave_room};
-use crate::exits::all_go_on;
+use crate::exits::{all_go_on, exits_of};
+use crate::looping::{
+    Loop, Test, again, back, clear_where, enter, join_where, land_sift, leave_loop, next, sift,
+};
 use crate::masks::{Masks, Spot};
 use crate::sets::{jump, leave, part, unite};
 use isp_base::{Rate, Span};
 use isp_code::{Instr, JumpTest};
 use isp_lower::{Body, Scope, copy, declared, expr, mask, operand, scalar, simple};
-use isp_typed::{TypedBlock, TypedExpr, TypedStmt};
+use isp_typed::{TypedBlock, TypedExpr, TypedFirst, TypedSimple, TypedStmt};
 use std::alloc::AllocError;
 
-/// The code of a statement. Memory is refused too of what has no code yet: loops, `foreach`, `unmasked`, `print` and
-/// `assert`.
+/// The code of a statement. Memory is refused too of what has no code yet: `foreach`, `foreach_active`, `unmasked`, `print`
+/// and `assert`.
 #[cycle(stmt)]
 pub(crate) fn stmt(b: &mut Body, on: &Scope, x: &TypedStmt, spot: Spot) -> Result<(), AllocError>
     requires { Present on.now (stmt_asks on.now.answer (stmt_of x.now) spot.slot) }
@@ -44,10 +50,19 @@ pub(crate) fn stmt(b: &mut Body, on: &Scope, x: &TypedStmt, spot: Spot) -> Resul
             value,
             span,
         } => returns(b, on, *keyword, value, *span, spot),
-        TypedStmt::While { .. }
-        | TypedStmt::Do { .. }
-        | TypedStmt::For { .. }
-        | TypedStmt::Foreach { .. }
+        TypedStmt::While { test, body, .. } => while_loop(b, on, test, body, spot),
+        TypedStmt::Do { body, test, .. } => do_loop(b, on, body, test, spot),
+        TypedStmt::For {
+            first,
+            test,
+            step,
+            body,
+            ..
+        } => {
+            first_part(b, on, first, spot.masks.on, spot.slot)?;
+            turns(b, on, test, step, body, spot)
+        }
+        TypedStmt::Foreach { .. }
         | TypedStmt::ForeachActive { .. }
         | TypedStmt::Unmasked { .. }
         | TypedStmt::Print { .. }
@@ -257,13 +272,6 @@ fn if_else(
     Ok(())
 }
 
-/// The rate of a test, and the register of its value.
-#[derive(Clone, Copy)]
-struct Test {
-    rate: Rate,
-    register: u32,
-}
-
 /// Both parts behind a test.
 #[cycle(stmt)]
 fn parts_by(
@@ -330,4 +338,329 @@ fn parted(
     under_mask(b, on, otherwise, spot, spot.masks.on, spot.slot + 1)?;
     b.push(unite(spot.masks.on, spot.slot, spot.masks.on))?;
     Ok(())
+}
+
+/// A turn: those that continue in it come back behind the body.
+#[cycle(stmt)]
+fn turn(b: &mut Body, on: &Scope, body: &TypedStmt, it: Loop) -> Result<(), AllocError>
+    requires slots { it.slot + 3 < 4294967296 }
+    requires body { Present on.now (stmt_asks on.now.answer (stmt_of body.now) (it.slot + 3)) }
+    ensures { OnOk result (Appends b.old b.new (λ pc p. turn_code it.exits pc it.slot (body_code (layout on.now) on.now.answer (stmt_of body.now) it.slot p)) (stmt_places (layout on.now) (stmt_of body.now))) }
+{
+    let masks = Masks {
+        on: it.slot,
+        continued: it.slot + 1,
+        returned: it.slot + 2,
+    };
+    clear_where(b, it.exits.continues, masks.continued)?;
+    stmt(
+        b,
+        on,
+        body,
+        Spot {
+            masks,
+            slot: it.slot + 3,
+        },
+    )?;
+    join_where(b, it.exits.continues, masks.on, masks.continued)?;
+    Ok(())
+}
+
+/// `while`.
+#[cycle(stmt)]
+fn while_loop(
+    b: &mut Body,
+    on: &Scope,
+    test: &TypedExpr,
+    body: &TypedStmt,
+    spot: Spot,
+) -> Result<(), AllocError>
+    requires slots { spot.slot + 3 < 4294967296 }
+    requires test { Present on.now (expr_asks (expr_of test.now) (spot.slot + 3)) }
+    requires body { Present on.now (stmt_asks on.now.answer (stmt_of body.now) (spot.slot + 3)) }
+    ensures { OnOk result (Appends b.old b.new (λ pc p. while_code (exits_of (stmt_of body.now)) (type_of (expr_of test.now)).rate (found (layout on.now) (expr_of test.now) (spot.slot + 3)) pc spot.masks.on spot.masks.returned spot.slot (λ pc1. expr_code (layout on.now) (expr_of test.now) pc1 p spot.slot (spot.slot + 3)) (body_code (layout on.now) on.now.answer (stmt_of body.now) spot.slot (p + length (expr_places (layout on.now) (expr_of test.now))))) (expr_places (layout on.now) (expr_of test.now) ++ stmt_places (layout on.now) (stmt_of body.now))) }
+{
+    let exits = exits_of(body);
+    enter(b, exits, spot.masks.on, spot.slot)?;
+    let it = Loop {
+        exits,
+        slot: spot.slot,
+        top: next(b),
+    };
+    let tested = expr(b, on, test, spot.slot, spot.slot + 3)?;
+    let given = Test {
+        rate: test.ty().rate,
+        register: tested,
+    };
+    while_turn(b, on, given, body, it)?;
+    leave_loop(b, it, spot.masks)?;
+    Ok(())
+}
+
+/// A turn of a `while` for those that pass its test, and the jump back.
+#[cycle(stmt)]
+fn while_turn(
+    b: &mut Body,
+    on: &Scope,
+    test: Test,
+    body: &TypedStmt,
+    it: Loop,
+) -> Result<(), AllocError>
+    requires slots { it.slot + 3 < 4294967296 }
+    requires body { Present on.now (stmt_asks on.now.answer (stmt_of body.now) (it.slot + 3)) }
+    ensures { OnOk result (Appends b.old b.new (λ pc p. sift_code test.rate test.register pc it.slot (λ pc1. two pc1 (turn_code it.exits pc1 it.slot (body_code (layout on.now) on.now.answer (stmt_of body.now) it.slot p)) (λ pc2. back_code (nobody_leaves it.exits) it.slot it.top ∷ []))) (stmt_places (layout on.now) (stmt_of body.now))) }
+{
+    sift(b, test, it.slot)?;
+    let at = b.code.len();
+    b.push(Instr::Jump(0))?;
+    turn(b, on, body, it)?;
+    back(b, it)?;
+    land_sift(b, at, test, it.slot);
+    Ok(())
+}
+
+/// `do`.
+#[cycle(stmt)]
+fn do_loop(
+    b: &mut Body,
+    on: &Scope,
+    body: &TypedStmt,
+    test: &TypedExpr,
+    spot: Spot,
+) -> Result<(), AllocError>
+    requires slots { spot.slot + 3 < 4294967296 }
+    requires test { Present on.now (expr_asks (expr_of test.now) (spot.slot + 3)) }
+    requires body { Present on.now (stmt_asks on.now.answer (stmt_of body.now) (spot.slot + 3)) }
+    ensures { OnOk result (Appends b.old b.new (λ pc p. do_code (exits_of (stmt_of body.now)) (type_of (expr_of test.now)).rate (found (layout on.now) (expr_of test.now) (spot.slot + 3)) pc spot.masks.on spot.masks.returned spot.slot (λ pc1. expr_code (layout on.now) (expr_of test.now) pc1 (p + length (stmt_places (layout on.now) (stmt_of body.now))) spot.slot (spot.slot + 3)) (body_code (layout on.now) on.now.answer (stmt_of body.now) spot.slot p)) (stmt_places (layout on.now) (stmt_of body.now) ++ expr_places (layout on.now) (expr_of test.now))) }
+{
+    let exits = exits_of(body);
+    enter(b, exits, spot.masks.on, spot.slot)?;
+    let it = Loop {
+        exits,
+        slot: spot.slot,
+        top: next(b),
+    };
+    turn(b, on, body, it)?;
+    live_again(b, on, test, it)?;
+    leave_loop(b, it, spot.masks)?;
+    Ok(())
+}
+
+/// The test of a `do` and the jump back, if somebody is live.
+fn live_again(b: &mut Body, on: &Scope, test: &TypedExpr, it: Loop) -> Result<(), AllocError>
+    requires slots { it.slot + 3 < 4294967296 }
+    requires test { Present on.now (expr_asks (expr_of test.now) (it.slot + 3)) }
+    ensures { OnOk result (Appends b.old b.new (λ pc p. live_code (nobody_leaves it.exits) it.slot pc (λ pc1. expr_code (layout on.now) (expr_of test.now) pc1 p it.slot (it.slot + 3) ++ again_code (type_of (expr_of test.now)).rate (found (layout on.now) (expr_of test.now) (it.slot + 3)) it.slot it.top)) (expr_places (layout on.now) (expr_of test.now))) }
+{
+    if it.exits.is_none() {
+        tested_again(b, on, test, it)
+    } else {
+        some_again(b, on, test, it)
+    }
+}
+
+/// The same, jumped over where nobody is live.
+fn some_again(b: &mut Body, on: &Scope, test: &TypedExpr, it: Loop) -> Result<(), AllocError>
+    requires slots { it.slot + 3 < 4294967296 }
+    requires test { Present on.now (expr_asks (expr_of test.now) (it.slot + 3)) }
+    ensures { OnOk result (Appends b.old b.new (λ pc p. guard (jump_off it.slot) pc (λ pc1. expr_code (layout on.now) (expr_of test.now) pc1 p it.slot (it.slot + 3) ++ again_code (type_of (expr_of test.now)).rate (found (layout on.now) (expr_of test.now) (it.slot + 3)) it.slot it.top)) (expr_places (layout on.now) (expr_of test.now))) }
+{
+    let at = b.code.len();
+    b.push(Instr::JumpIf(JumpTest::Off, mask(it.slot), 0))?;
+    tested_again(b, on, test, it)?;
+    b.land(at, JumpTest::Off, mask(it.slot));
+    Ok(())
+}
+
+fn tested_again(b: &mut Body, on: &Scope, test: &TypedExpr, it: Loop) -> Result<(), AllocError>
+    requires slots { it.slot + 3 < 4294967296 }
+    requires test { Present on.now (expr_asks (expr_of test.now) (it.slot + 3)) }
+    ensures { OnOk result (Appends b.old b.new (λ pc p. expr_code (layout on.now) (expr_of test.now) pc p it.slot (it.slot + 3) ++ again_code (type_of (expr_of test.now)).rate (found (layout on.now) (expr_of test.now) (it.slot + 3)) it.slot it.top) (expr_places (layout on.now) (expr_of test.now))) }
+{
+    let tested = expr(b, on, test, it.slot, it.slot + 3)?;
+    let given = Test {
+        rate: test.ty().rate,
+        register: tested,
+    };
+    again(b, given, it)?;
+    Ok(())
+}
+
+/// The first part of a `for`.
+fn first_part(
+    b: &mut Body,
+    on: &Scope,
+    first: &Option<TypedFirst>,
+    k: u32,
+    slot: u32,
+) -> Result<(), AllocError>
+    requires { Present on.now (first_asks (option_map first_of first.now) slot) }
+    ensures { OnOk result (Appends b.old b.new (λ pc p. first_code (layout on.now) (option_map first_of first.now) pc p k slot) (first_places (layout on.now) (option_map first_of first.now))) }
+{
+    match first {
+        None => Ok(()),
+        Some(TypedFirst::Declare { items, .. }) => declared(b, on, items, k, slot),
+        Some(TypedFirst::Simple(x)) => simple(b, on, x, k, slot),
+    }
+}
+
+/// A `for` behind its first part.
+#[cycle(stmt)]
+fn turns(
+    b: &mut Body,
+    on: &Scope,
+    test: &Option<TypedExpr>,
+    step: &Option<TypedSimple>,
+    body: &TypedStmt,
+    spot: Spot,
+) -> Result<(), AllocError>
+    requires slots { spot.slot + 3 < 4294967296 }
+    requires test { Present on.now (test_part_asks (option_map expr_of test.now) (spot.slot + 3)) }
+    requires step { Present on.now (step_asks (option_map simple_of step.now) (spot.slot + 3)) }
+    requires body { Present on.now (stmt_asks on.now.answer (stmt_of body.now) (spot.slot + 3)) }
+    ensures { OnOk result (Appends b.old b.new (λ pc p. turns_code (layout on.now) on.now.answer (option_map expr_of test.now) (option_map simple_of step.now) (stmt_of body.now) pc p spot.masks.on spot.masks.returned spot.slot) (test_places (layout on.now) (option_map expr_of test.now) ++ (stmt_places (layout on.now) (stmt_of body.now) ++ step_places (layout on.now) (option_map simple_of step.now)))) }
+{
+    let exits = exits_of(body);
+    enter(b, exits, spot.masks.on, spot.slot)?;
+    let it = Loop {
+        exits,
+        slot: spot.slot,
+        top: next(b),
+    };
+    match test {
+        None => stepped_turn(b, on, step, body, it)?,
+        Some(test) => for_turn(b, on, test, step, body, it)?,
+    }
+    leave_loop(b, it, spot.masks)?;
+    Ok(())
+}
+
+/// The test of a `for`, and a turn for those that pass it.
+#[cycle(stmt)]
+fn for_turn(
+    b: &mut Body,
+    on: &Scope,
+    test: &TypedExpr,
+    step: &Option<TypedSimple>,
+    body: &TypedStmt,
+    it: Loop,
+) -> Result<(), AllocError>
+    requires slots { it.slot + 3 < 4294967296 }
+    requires test { Present on.now (expr_asks (expr_of test.now) (it.slot + 3)) }
+    requires step { Present on.now (step_asks (option_map simple_of step.now) (it.slot + 3)) }
+    requires body { Present on.now (stmt_asks on.now.answer (stmt_of body.now) (it.slot + 3)) }
+    ensures { OnOk result (Appends b.old b.new (λ pc p. two pc (expr_code (layout on.now) (expr_of test.now) pc p it.slot (it.slot + 3)) (λ pc1. sift_code (type_of (expr_of test.now)).rate (found (layout on.now) (expr_of test.now) (it.slot + 3)) pc1 it.slot (λ pc2. stepped_code (layout on.now) on.now.answer (option_map simple_of step.now) (stmt_of body.now) it.exits it.slot it.top pc2 (p + length (expr_places (layout on.now) (expr_of test.now)))))) (expr_places (layout on.now) (expr_of test.now) ++ (stmt_places (layout on.now) (stmt_of body.now) ++ step_places (layout on.now) (option_map simple_of step.now)))) }
+{
+    let tested = expr(b, on, test, it.slot, it.slot + 3)?;
+    let given = Test {
+        rate: test.ty().rate,
+        register: tested,
+    };
+    passed_turn(b, on, given, step, body, it)?;
+    Ok(())
+}
+
+/// A turn of a `for` for those that pass its test.
+#[cycle(stmt)]
+fn passed_turn(
+    b: &mut Body,
+    on: &Scope,
+    test: Test,
+    step: &Option<TypedSimple>,
+    body: &TypedStmt,
+    it: Loop,
+) -> Result<(), AllocError>
+    requires slots { it.slot + 3 < 4294967296 }
+    requires step { Present on.now (step_asks (option_map simple_of step.now) (it.slot + 3)) }
+    requires body { Present on.now (stmt_asks on.now.answer (stmt_of body.now) (it.slot + 3)) }
+    ensures { OnOk result (Appends b.old b.new (λ pc p. sift_code test.rate test.register pc it.slot (λ pc1. stepped_code (layout on.now) on.now.answer (option_map simple_of step.now) (stmt_of body.now) it.exits it.slot it.top pc1 p)) (stmt_places (layout on.now) (stmt_of body.now) ++ step_places (layout on.now) (option_map simple_of step.now))) }
+{
+    sift(b, test, it.slot)?;
+    let at = b.code.len();
+    b.push(Instr::Jump(0))?;
+    stepped_turn(b, on, step, body, it)?;
+    land_sift(b, at, test, it.slot);
+    Ok(())
+}
+
+/// A turn of a `for`, its step, and the jump back.
+#[cycle(stmt)]
+fn stepped_turn(
+    b: &mut Body,
+    on: &Scope,
+    step: &Option<TypedSimple>,
+    body: &TypedStmt,
+    it: Loop,
+) -> Result<(), AllocError>
+    requires slots { it.slot + 3 < 4294967296 }
+    requires step { Present on.now (step_asks (option_map simple_of step.now) (it.slot + 3)) }
+    requires body { Present on.now (stmt_asks on.now.answer (stmt_of body.now) (it.slot + 3)) }
+    ensures { OnOk result (Appends b.old b.new (stepped_code (layout on.now) on.now.answer (option_map simple_of step.now) (stmt_of body.now) it.exits it.slot it.top) (stmt_places (layout on.now) (stmt_of body.now) ++ step_places (layout on.now) (option_map simple_of step.now))) }
+{
+    turn(b, on, body, it)?;
+    step_back(b, on, step, it)?;
+    Ok(())
+}
+
+/// The step and the jump back, if somebody is live.
+fn step_back(
+    b: &mut Body,
+    on: &Scope,
+    step: &Option<TypedSimple>,
+    it: Loop,
+) -> Result<(), AllocError>
+    requires slots { it.slot + 3 < 4294967296 }
+    requires step { Present on.now (step_asks (option_map simple_of step.now) (it.slot + 3)) }
+    ensures { OnOk result (Appends b.old b.new (λ pc p. step_back_code (nobody_leaves it.exits) it.slot it.top pc (λ pc1. step_code (layout on.now) (option_map simple_of step.now) pc1 p it.slot (it.slot + 3))) (step_places (layout on.now) (option_map simple_of step.now))) }
+{
+    if it.exits.is_none() {
+        stepped(b, on, step, it)
+    } else {
+        some_stepped(b, on, step, it)
+    }
+}
+
+/// The same, jumped over where nobody is live.
+fn some_stepped(
+    b: &mut Body,
+    on: &Scope,
+    step: &Option<TypedSimple>,
+    it: Loop,
+) -> Result<(), AllocError>
+    requires slots { it.slot + 3 < 4294967296 }
+    requires step { Present on.now (step_asks (option_map simple_of step.now) (it.slot + 3)) }
+    ensures { OnOk result (Appends b.old b.new (λ pc p. step_back_code false it.slot it.top pc (λ pc1. step_code (layout on.now) (option_map simple_of step.now) pc1 p it.slot (it.slot + 3))) (step_places (layout on.now) (option_map simple_of step.now))) }
+{
+    let at = b.code.len();
+    b.push(Instr::JumpIf(JumpTest::Off, mask(it.slot), 0))?;
+    stepped(b, on, step, it)?;
+    b.land(at, JumpTest::Off, mask(it.slot));
+    Ok(())
+}
+
+fn stepped(b: &mut Body, on: &Scope, step: &Option<TypedSimple>, it: Loop) -> Result<(), AllocError>
+    requires slots { it.slot + 3 < 4294967296 }
+    requires step { Present on.now (step_asks (option_map simple_of step.now) (it.slot + 3)) }
+    ensures { OnOk result (Appends b.old b.new (λ pc p. step_back_code true it.slot it.top pc (λ pc1. step_code (layout on.now) (option_map simple_of step.now) pc1 p it.slot (it.slot + 3))) (step_places (layout on.now) (option_map simple_of step.now))) }
+{
+    step_part(b, on, step, it.slot)?;
+    b.push(Instr::Jump(it.top))?;
+    Ok(())
+}
+
+/// The step of a `for`.
+fn step_part(
+    b: &mut Body,
+    on: &Scope,
+    step: &Option<TypedSimple>,
+    slot: u32,
+) -> Result<(), AllocError>
+    requires slots { slot + 3 < 4294967296 }
+    requires step { Present on.now (step_asks (option_map simple_of step.now) (slot + 3)) }
+    ensures { OnOk result (Appends b.old b.new (λ pc p. step_code (layout on.now) (option_map simple_of step.now) pc p slot (slot + 3)) (step_places (layout on.now) (option_map simple_of step.now))) }
+{
+    match step {
+        None => Ok(()),
+        Some(x) => simple(b, on, x, slot, slot + 3),
+    }
 }

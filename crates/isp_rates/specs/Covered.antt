@@ -1,10 +1,10 @@
 -- Which nodes of a program have code, and the first in the text that has none: a node comes before its parts. Left without
--- are functions that are not exported, calls, of functions and of the library, packed calls, loops, `foreach`,
--- `foreach_active`, `unmasked`, `print` and `assert`. One line for each kind of node.
+-- are functions that are not exported, calls, of functions and of the library, packed calls, `foreach`, `foreach_active`,
+-- `unmasked`, `print` and `assert`. One line for each kind of node; parts in the order of the text.
 use Rattle.std.specs.Prelude.{List, [], ◌∷◌, Bool, true, false, Option, Some, None}
 use Rattle.std.specs.Option.{option_or}
 use Rattle.isp_base.specs.declared.types.Span.{Span}
-use Rattle.isp_typed.specs.Typed.{TExpr, t_constant, t_program_index, t_place, t_convert, t_cast, t_unary, t_binary, t_compare, t_logic, t_choose, t_call, t_library, t_packed_store, t_packed_load, TPlace, t_variable, t_element, call_span, TItem, t_plain, t_with_value, t_with_size, TSimple, t_value, t_run, t_assign, t_update, t_step}
+use Rattle.isp_typed.specs.Typed.{TExpr, t_constant, t_program_index, t_place, t_convert, t_cast, t_unary, t_binary, t_compare, t_logic, t_choose, t_call, t_library, t_packed_store, t_packed_load, TPlace, t_variable, t_element, call_span, TItem, t_plain, t_with_value, t_with_size, TSimple, t_value, t_run, t_assign, t_update, t_step, TFirst, t_first_declare, t_first_simple}
 use Rattle.isp_typed.specs.Typed.{TStmt, t_block, t_declare, t_simple, t_if, t_if_else, t_while, t_do, t_for, t_foreach, t_foreach_active, t_unmasked, t_jump, t_return, t_print, t_assert, TBlock, t_braces, TStmts, t_no_stmts, t_stmt_then, TFunction, Program}
 
 -- the first of a node itself, which has code where a test holds, and its parts
@@ -54,10 +54,20 @@ simple_left (t_assign p x s) = option_or (place_left p) (expr_left x)
 simple_left (t_update op e p x s) = option_or (place_left p) (expr_left x)
 simple_left (t_step op e p s) = place_left p
 
--- the value of a `return`
-abbrev pub returned_left : Option TExpr → Option Span
-returned_left None = None
-returned_left (Some x) = expr_left x
+-- the value of a `return`, and the test of a `for`
+abbrev pub given_left : Option TExpr → Option Span
+given_left None = None
+given_left (Some x) = expr_left x
+
+-- the first part of a `for`, and its step
+abbrev pub first_left : Option TFirst → Option Span
+first_left None = None
+first_left (Some (t_first_declare is s)) = items_left is
+first_left (Some (t_first_simple p)) = simple_left p
+
+abbrev pub step_left : Option TSimple → Option Span
+step_left None = None
+step_left (Some p) = simple_left p
 
 abbrev mutual
   pub stmt_left : TStmt → Option Span
@@ -66,14 +76,14 @@ abbrev mutual
   stmt_left (t_simple p s) = simple_left p
   stmt_left (t_if f n x a s) = option_or (expr_left x) (stmt_left a)
   stmt_left (t_if_else f n x a b s) = option_or (expr_left x) (option_or (stmt_left a) (stmt_left b))
-  stmt_left (t_while f n x a s) = Some s
-  stmt_left (t_do f n a x s) = Some s
-  stmt_left (t_for f n i x p m a s) = Some s
+  stmt_left (t_while f n x a s) = option_or (expr_left x) (stmt_left a)
+  stmt_left (t_do f n a x s) = option_or (stmt_left a) (expr_left x)
+  stmt_left (t_for f n i x p m a s) = option_or (first_left i) (option_or (given_left x) (option_or (step_left p) (stmt_left a)))
   stmt_left (t_foreach k n rs a s) = Some s
   stmt_left (t_foreach_active k n i a s) = Some s
   stmt_left (t_unmasked k b s) = Some s
   stmt_left (t_jump j k s) = None
-  stmt_left (t_return k x s) = returned_left x
+  stmt_left (t_return k x s) = given_left x
   stmt_left (t_print k t xs s) = Some s
   stmt_left (t_assert x c s) = Some s
 

@@ -1,11 +1,12 @@
 //! What has code, and the first node in the text that has none.
 ghost use Rattle.std.specs.Prelude.{◌≡◌, option_map};
-ghost use Rattle.isp_typed.specs.Views.{block_of, expr_of, function_of, functions_of, item_of, items_of, place_of, program_of, simple_of, stmt_of};
-ghost use Rattle.isp_rates.specs.Covered.{block_left, expr_left, function_left, functions_left, item_left, items_left, place_left, program_left, returned_left, simple_left, stmt_left};
+ghost use Rattle.isp_typed.specs.Views.{block_of, expr_of, first_of, function_of, functions_of, item_of, items_of, place_of, program_of, simple_of, stmt_of};
+ghost use Rattle.isp_rates.specs.Covered.{block_left, expr_left, first_left, function_left, functions_left, given_left, item_left, items_left, place_left, program_left, simple_left, step_left, stmt_left};
 
 use isp_base::Span;
 use isp_typed::{
-    Program, TypedBlock, TypedExpr, TypedFunction, TypedItem, TypedPlace, TypedSimple, TypedStmt,
+    Program, TypedBlock, TypedExpr, TypedFirst, TypedFunction, TypedItem, TypedPlace, TypedSimple,
+    TypedStmt,
 };
 
 /// The first node of an expression that has no code.
@@ -79,11 +80,30 @@ fn simple(s: &TypedSimple) -> Option<Span>
     }
 }
 
-fn returned(value: &Option<TypedExpr>) -> Option<Span>
-    ensures { result ≡ returned_left (option_map expr_of value.now) }
+fn given(value: &Option<TypedExpr>) -> Option<Span>
+    ensures { result ≡ given_left (option_map expr_of value.now) }
 {
     match value {
         Some(value) => expr(value),
+        None => None,
+    }
+}
+
+fn first(part: &Option<TypedFirst>) -> Option<Span>
+    ensures { result ≡ first_left (option_map first_of part.now) }
+{
+    match part {
+        Some(TypedFirst::Declare { items: all, .. }) => items(all),
+        Some(TypedFirst::Simple(part)) => simple(part),
+        None => None,
+    }
+}
+
+fn step(part: &Option<TypedSimple>) -> Option<Span>
+    ensures { result ≡ step_left (option_map simple_of part.now) }
+{
+    match part {
+        Some(part) => simple(part),
         None => None,
     }
 }
@@ -105,11 +125,17 @@ fn stmt(s: &TypedStmt) -> Option<Span>
             ..
         } => expr(test).or(stmt(then).or(stmt(otherwise))),
         TypedStmt::Jump { .. } => None,
-        TypedStmt::Return { value, .. } => returned(value),
-        TypedStmt::While { span, .. }
-        | TypedStmt::Do { span, .. }
-        | TypedStmt::For { span, .. }
-        | TypedStmt::Foreach { span, .. }
+        TypedStmt::Return { value, .. } => given(value),
+        TypedStmt::While { test, body, .. } => expr(test).or(stmt(body)),
+        TypedStmt::Do { body, test, .. } => stmt(body).or(expr(test)),
+        TypedStmt::For {
+            first: before,
+            test,
+            step: after,
+            body,
+            ..
+        } => first(before).or(given(test).or(step(after).or(stmt(body)))),
+        TypedStmt::Foreach { span, .. }
         | TypedStmt::ForeachActive { span, .. }
         | TypedStmt::Unmasked { span, .. }
         | TypedStmt::Print { span, .. }

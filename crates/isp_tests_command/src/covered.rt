@@ -66,19 +66,19 @@ fn first_node_not_yet(rt: HostRuntime) -> Result<(), Fail> {
         ),
         (
             "export void f() { if (programIndex < 2) { while (any(true)) ; } else f(); }",
-            "90 NotYet at 42..61",
+            "90 NotYet at 49..58",
         ),
         (
             "export void f() { cif (programIndex < 2) ; else do f(); while (false); f(); }",
-            "90 NotYet at 48..70",
+            "90 NotYet at 51..54",
         ),
         (
             "export void f() { for (int i = abs(1); i < 3; i++) f(); }",
-            "90 NotYet at 18..55",
+            "90 NotYet at 31..37",
         ),
         (
-            "export void f() { cwhile (programIndex < 2) break; }",
-            "90 NotYet at 18..50",
+            "export void f() { for (;; f()) min(1, 2); }",
+            "90 NotYet at 26..29",
         ),
         (
             "export void f() { { { foreach (i = 0 ... abs(4)) f(); } } }",
@@ -133,6 +133,7 @@ fn compiled(rt: HostRuntime) -> Result<(), Fail> {
         "export void f() { int8 x[4]; uniform uint64 y[programCount]; x[programIndex & 3] = y[0]; }",
         "export void f() { if (true) ; else { cif (programIndex < 1) return; } }",
         "export void f(void) { bool x = programIndex && true || !false; x = x == true; x++; --x; }",
+        "export void f() { cwhile (programIndex < 2) break; }",
     ] {
         assert!(rt; compile(alloc, text, Gang::W4).is_ok(), "{text}");
     }

@@ -99,3 +99,28 @@ fn compare_all(rt: &impl Abort, alloc: Global, table: &str, count: usize) -> Res
 fn worked_examples(rt: HostRuntime) -> Result<(), Fail> {
     compare_all(&rt, rt.alloc(), worked::ROWS, worked::COUNT)
 }
+
+// A loop without an end goes on at every budget, and prints nothing.
+#[test]
+fn endless_loop(rt: HostRuntime) -> Result<(), Fail> {
+    let alloc = rt.alloc();
+    for gang in &Gang::ALL {
+        let row = Row {
+            name: "for ever",
+            gang: *gang,
+            entry: "f",
+            budget: 1000,
+            arguments: "{}",
+            outcome: "running",
+            source: "export void f() { while (true) ; }",
+        };
+        let image = compile(alloc, row.source, row.gang)?;
+        for budget in 0..41u64 {
+            let found = executed(alloc, &image, row, budget)?;
+            same(&rt, row.name, found.as_str(), row.outcome);
+        }
+        let found = executed(alloc, &image, row, row.budget)?;
+        same(&rt, row.name, found.as_str(), row.outcome);
+    }
+    Ok(())
+}

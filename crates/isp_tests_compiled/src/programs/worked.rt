@@ -1,7 +1,7 @@
 //! Worked examples, each record with its working.
 
 /// How many records there are.
-pub(super) const COUNT: usize = 30;
+pub(super) const COUNT: usize = 34;
 
 /// The records.
 pub(super) const ROWS: &str = r##"=== a division behind a select
@@ -155,4 +155,24 @@ Nothing is run.
 4 f 0 {}
 running
 export void f() { }
+=== a uniform counter in a varying while
+0 makes two turns and breaks in the third; the counter does not grow where nobody is left.
+4 f 10000 {}
+{"arrays":{},"result":2}
+export uniform int f() { int x = programIndex; uniform int t = 0; while (true) { if (x >= 2) break; x++; t++; } return t; }
+=== a varying continue in a for
+0 + 1 + 2 + 3, without p.
+4 f 10000 {"a":[0,0,0,0]}
+{"arrays":{"a":[6,5,4,3]},"result":null}
+export void f(uniform int a[]) { int s = 0; for (int i = 0; i < 4; i++) { if (i == programIndex) continue; s += i; } a[programIndex] = s; }
+=== a varying continue in a do
+1 + 2 + 3, without p; 3 continues in its last turn.
+4 f 10000 {"a":[0,0,0,0]}
+{"arrays":{"a":[6,5,4,3]},"result":null}
+export void f(uniform int a[]) { int s = 0; int i = 0; do { i++; if (i == programIndex) continue; s += i; } while (i < 3); a[programIndex] = s; }
+=== two breaks in a while in a for
+j ends at i or at p + 1, whichever is less: 0 + 1 + 1 for 0, else 0 + 1 + 2.
+4 f 10000 {"a":[0,0,0,0]}
+{"arrays":{"a":[2,3,3,3]},"result":null}
+export void f(uniform int a[]) { int s = 0; for (int i = 0; i < 3; i++) { int j = 0; while (true) { if (j > programIndex) break; if (j == i) break; j++; } s += j; } a[programIndex] = s; }
 "##;

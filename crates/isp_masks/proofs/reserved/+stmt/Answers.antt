@@ -1,10 +1,13 @@
 use Rattle.std.proofs.Common.{◌≡◌, suc, ◌∙◌, ap, sym, subst, arith}
+use Rattle.std.specs.Prelude.{option_map}
+use Rattle.std.proofs.lemmas.Result.{on_ok_weaker}
 use Rattle.isp_typed.specs.Nodes.{stmts_nodes, block_nodes}
-use Rattle.isp_typed.specs.Typed.{t_stmts}
-use Rattle.isp_typed.specs.Views.{block_of, stmts_of}
+use Rattle.isp_typed.specs.Typed.{TStmt, t_for, t_stmts}
+use Rattle.isp_typed.proofs.StmtViews.{for_view}
+use Rattle.isp_typed.specs.Views.{block_of, expr_of, first_of, simple_of, stmt_of, stmts_of}
 use Rattle.isp_lower.specs.Reserved.{Gives}
 use Rattle.isp_lower.proofs.Growing.{both_given, gives_none}
-use Rattle.isp_masks.specs.Asks.{block_asks, stmts_asks}
+use Rattle.isp_masks.specs.Asks.{block_asks, stmt_asks, stmts_asks}
 use Rattle.isp_masks.proofs.Forms.{nodes_low, stmts_more, stmts_end}
 use Rattle.isp_masks.proofs.Views.{block_view}
 use Rattle.isp_masks.proofs.reserved.+stmt.Goals as goal
@@ -37,3 +40,27 @@ block-returns t c =
     let has = c.loop-x.invariant c.loop-x.r (subst (λ a. Gives c.loop-x.r c.loop-x.r a) (sym (stmts_end c.args.answer c.args.slot items c.loop-x.x-index c.loop-x-test.false)) (gives_none c.loop-x.r)) in
     subst (λ z. Gives c.args.r.now c.loop-x.r (block_asks c.args.answer z c.args.slot)) (sym (block_view c.args.body.now))
     (subst (λ zs. Gives c.args.r.now c.loop-x.r (stmts_asks c.args.answer (t_stmts (stmts_of zs)) c.args.slot)) c.deref-x-items.ensures.value has)
+
+pub while_loop-returns : goal.while_loop-returns
+while_loop-returns t c =
+    both_given _ _ _ _ _ c.in_ok-parts.ensures.gives (both_given _ _ _ _ _ (rw c.in_ok-parts.ensures.number at c.in_ok-expr.ensures) (rw c.in_ok-parts.ensures.number at c.in_ok-stmt.ensures))
+
+pub do_loop-returns : goal.do_loop-returns
+do_loop-returns t c =
+    both_given _ _ _ _ _ c.in_ok-parts.ensures.gives (both_given _ _ _ _ _ (rw c.in_ok-parts.ensures.number at c.in_ok-stmt.ensures) (rw c.in_ok-parts.ensures.number at c.in_ok-expr.ensures))
+
+pub turns-returns : goal.turns-returns
+turns-returns t c =
+    both_given _ _ _ _ _ c.in_ok-parts.ensures.gives
+    (both_given _ _ _ _ _ (rw c.in_ok-parts.ensures.number at c.in_ok-test_part.ensures) (both_given _ _ _ _ _ (rw c.in_ok-parts.ensures.number at c.in_ok-step_part.ensures) (rw c.in_ok-parts.ensures.number at c.in_ok-stmt.ensures)))
+
+pub stmt-returns-in_ok-first_part-in-For : goal.stmt-returns-in_ok-first_part-in-For
+stmt-returns-in_ok-first_part-in-For t c =
+    let a = c.args in
+    let e = c.in-For in
+    let so = λ (z : TStmt). Gives a.r.now c.turns.new.r (stmt_asks a.answer z a.slot) in
+    on_ok_weaker c.turns.result
+    (λ w. subst so (sym (ap stmt_of e.is ∙ for_view e.form e.before e.first e.test e.step e.inside e.body e.span))
+    (subst (λ z. so (t_for e.form e.before (option_map first_of e.first) (option_map expr_of e.test) (option_map simple_of e.step) e.inside (stmt_of z) e.span)) c.deref-in-For.ensures
+    (both_given _ _ _ _ _ c.in_ok-first_part-in-For.ensures w)))
+    c.turns.ensures

@@ -21,6 +21,15 @@ decreases-one_side l = 4 * stmt_nodes (stmt_of l.then.now) + 1
 abbrev pub decreases-two_sides : goal.decreases-two_sides
 decreases-two_sides l = 4 * (stmt_nodes (stmt_of l.then.now) + stmt_nodes (stmt_of l.otherwise.now)) + 1
 
+abbrev pub decreases-while_loop : goal.decreases-while_loop
+decreases-while_loop l = 4 * stmt_nodes (stmt_of l.body.now) + 1
+
+abbrev pub decreases-do_loop : goal.decreases-do_loop
+decreases-do_loop l = 4 * stmt_nodes (stmt_of l.body.now) + 1
+
+abbrev pub decreases-turns : goal.decreases-turns
+decreases-turns l = 4 * stmt_nodes (stmt_of l.body.now) + 1
+
 abbrev pub invariant-block-loop-x : goal.invariant-block-loop-x
 invariant-block-loop-x l =
     (c : Reserve) → Gives l.r c (stmts_asks l.answer (t_stmts (stmts_of (drop l.x-index l.x-items))) l.slot) → Gives l.initial.r c (stmts_asks l.answer (t_stmts (stmts_of l.x-items)) l.slot)

@@ -1,18 +1,23 @@
-use Rattle.std.proofs.Common.{◌≡◌, ◌≤◌, length, sym, ap, subst, ◌∙◌, arith, false, not, suc, take_all}
+use Rattle.std.proofs.Common.{◌≡◌, ◌≤◌, ℕ, ◌+◌, [], ◌∷◌, ◌++◌, length, sym, ap, subst, ◌∙◌, arith, false, not, suc, take_all, append-nil}
+use Rattle.std.specs.Prelude.{option_map}
 use Rattle.isp_code.specs.declared.instr.JumpTest.TheVariants as jump
-use Rattle.isp_lower.specs.Code.{jump_off, jump_on}
+use Rattle.isp_lower.specs.Code.{jump_off, jump_on, two}
 use Rattle.isp_lower.specs.Emitted.{Appends, Present, layout}
-use Rattle.isp_lower.proofs.Landing.{chosen, landed}
+use Rattle.isp_lower.proofs.Landing.{appends_then, chosen, landed}
 use Rattle.isp_typed.specs.Nodes.{block_nodes, stmts_nodes}
-use Rattle.isp_typed.specs.Typed.{TBlock, TStmt, t_braces, t_if, t_if_else, t_stmts}
-use Rattle.isp_typed.specs.Views.{block_of, expr_of, stmt_of, stmts_of}
-use Rattle.isp_typed.proofs.StmtViews.{if_view, if_else_view}
+use Rattle.isp_typed.specs.Typed.{TBlock, TStmt, t_braces, t_if, t_if_else, t_while, t_for, t_stmts}
+use Rattle.isp_typed.specs.Views.{block_of, expr_of, first_of, simple_of, stmt_of, stmts_of}
+use Rattle.isp_typed.proofs.StmtViews.{if_view, if_else_view, while_view, for_view}
 use Rattle.std.proofs.lemmas.Result.{on_ok_weaker}
 use Rattle.isp_masks.specs.Awaited.{AreBelow, Awaits, set_all}
-use Rattle.isp_masks.specs.Statements.{block_code, block_places, stmt_code, stmt_places, stmts_code, stmts_places}
+use Rattle.isp_masks.specs.Exits.{nobody_leaves}
+use Rattle.isp_masks.specs.Fors.{first_code, first_places, step_places, test_places}
+use Rattle.isp_masks.specs.Loops.{back_code, sift_jump, turn_code}
+use Rattle.isp_masks.specs.Statements.{block_code, block_places, body_code, stepped_code, stmt_code, stmt_places, stmts_code, stmts_places, turns_code}
 use Rattle.isp_masks.proofs.Awaiting.{awaits_end}
 use Rattle.isp_masks.proofs.Forms.{list_step, nodes_low, stmts_more}
 use Rattle.isp_masks.proofs.Lists.{flat, flat_is}
+use Rattle.isp_masks.proofs.Sifting.{for_written, sifted}
 use Rattle.isp_masks.proofs.Views.{block_view}
 use Rattle.isp_masks.proofs.statement.+stmt.Goals as goal
 
@@ -113,3 +118,65 @@ block-returns t c =
     (c.land_all.ensures.code ∙ ap (λ js. set_all c.loop-x.b.code.items js (jump_off m.on (length c.loop-x.b.code.items))) c.as_slice.ensures.value)
     c.land_all.ensures.places
     (λ t pc p e. flat_is h m.on m.continued m.returned n t l xs pc p e))
+
+pub stmt-returns-in-While : goal.stmt-returns-in-While
+stmt-returns-in-While t c =
+    let a = c.args in
+    let m = a.spot.masks in
+    let l = layout a.on.now in
+    let h = a.on.now.answer in
+    let e = c.in-While in
+    let so = λ (z : TStmt). Appends a.b.now c.while_loop.new.b (λ pc p. stmt_code l h z pc p m.on m.continued m.returned a.spot.slot) (stmt_places l z) in
+    on_ok_weaker c.while_loop.result
+    (λ w. subst so (sym (ap stmt_of e.is ∙ while_view e.form e.before e.test e.body e.span)) (subst (λ y. so (t_while e.form e.before (expr_of e.test) (stmt_of y) e.span)) c.deref-in-While.ensures w))
+    c.while_loop.ensures
+
+pub while_turn-returns : goal.while_turn-returns
+while_turn-returns t c =
+    let a = c.args in
+    let l = layout a.on.now in
+    let h = a.on.now.answer in
+    let x = stmt_of a.body.now in
+    let e = a.it.exits in
+    let n = a.it.slot in
+    let r = a.test.rate in
+    let d = a.test.register in
+    let turn = λ (pc p : ℕ). two pc (turn_code e pc n (body_code l h x n p)) (λ pc1. back_code (nobody_leaves e) n a.it.top ∷ []) in
+    let both = appends_then c.push.new.self c.turn.new.b c.back.new.b (λ pc p. turn_code e pc n (body_code l h x n p)) (λ pc p. back_code (nobody_leaves e) n a.it.top ∷ []) (stmt_places l x) [] c.in_ok-turn.ensures c.in_ok-back.ensures in
+    let written : Appends c.push.new.self c.back.new.b turn (stmt_places l x) = subst (Appends c.push.new.self c.back.new.b turn) (append-nil (stmt_places l x)) both in
+    sifted a.b.now c.sift.new.b c.land_sift.new.b r d n turn (stmt_places l x) c.in_ok-sift.ensures
+    (landed c.sift.new.b c.push.new.self c.back.new.b c.land_sift.new.b c.len-at.result _ (sift_jump r d n) turn (stmt_places l x)
+    (c.len-at.ensures ∙ c.sift.new.b.code.ok.0) c.in_ok-push.ensures written (cc) c.land_sift.ensures.places)
+
+pub passed_turn-returns : goal.passed_turn-returns
+passed_turn-returns t c =
+    let a = c.args in
+    let l = layout a.on.now in
+    let x = stmt_of a.body.now in
+    let y = option_map simple_of a.step.now in
+    let n = a.it.slot in
+    let turn = stepped_code l a.on.now.answer y x a.it.exits n a.it.top in
+    let pl = stmt_places l x ++ step_places l y in
+    sifted a.b.now c.sift.new.b c.land_sift.new.b a.test.rate a.test.register n turn pl c.in_ok-sift.ensures
+    (landed c.sift.new.b c.push.new.self c.stepped_turn.new.b c.land_sift.new.b c.len-at.result _ (sift_jump a.test.rate a.test.register n) turn pl
+    (c.len-at.ensures ∙ c.sift.new.b.code.ok.0) c.in_ok-push.ensures c.in_ok-stepped_turn.ensures (cc) c.land_sift.ensures.places)
+
+pub stmt-returns-in_ok-first_part-in-For : goal.stmt-returns-in_ok-first_part-in-For
+stmt-returns-in_ok-first_part-in-For t c =
+    let a = c.args in
+    let m = a.spot.masks in
+    let n = a.spot.slot in
+    let l = layout a.on.now in
+    let h = a.on.now.answer in
+    let e = c.in-For in
+    let first = option_map first_of e.first in
+    let o = option_map expr_of e.test in
+    let y = option_map simple_of e.step in
+    let x = stmt_of c.deref-in-For.result.now in
+    let so = λ (z : TStmt). Appends a.b.now c.turns.new.b (λ pc p. stmt_code l h z pc p m.on m.continued m.returned n) (stmt_places l z) in
+    on_ok_weaker c.turns.result
+    (λ w. subst so (sym (ap stmt_of e.is ∙ for_view e.form e.before e.first e.test e.step e.inside e.body e.span))
+    (subst (λ z. so (t_for e.form e.before first o y e.inside (stmt_of z) e.span)) c.deref-in-For.ensures
+    (for_written a.b.now c.turns.new.b l h e.form e.before first o y e.inside x e.span m.on m.continued m.returned n
+    (appends_then a.b.now c.first_part.new.b c.turns.new.b (λ pc p. first_code l first pc p m.on n) (λ pc p. turns_code l h o y x pc p m.on m.returned n) (first_places l first) (test_places l o ++ (stmt_places l x ++ step_places l y)) c.in_ok-first_part-in-For.ensures w))))
+    c.turns.ensures

@@ -44,6 +44,30 @@ decreases-one_of l = 8 * (stmt_nodes (stmt_of l.then.now) + stmt_nodes (stmt_of 
 abbrev pub decreases-parted : goal.decreases-parted
 decreases-parted l = 8 * (stmt_nodes (stmt_of l.then.now) + stmt_nodes (stmt_of l.otherwise.now)) + 2
 
+abbrev pub decreases-turn : goal.decreases-turn
+decreases-turn l = 8 * stmt_nodes (stmt_of l.body.now) + 1
+
+abbrev pub decreases-while_turn : goal.decreases-while_turn
+decreases-while_turn l = 8 * stmt_nodes (stmt_of l.body.now) + 2
+
+abbrev pub decreases-while_loop : goal.decreases-while_loop
+decreases-while_loop l = 8 * stmt_nodes (stmt_of l.body.now) + 3
+
+abbrev pub decreases-do_loop : goal.decreases-do_loop
+decreases-do_loop l = 8 * stmt_nodes (stmt_of l.body.now) + 3
+
+abbrev pub decreases-stepped_turn : goal.decreases-stepped_turn
+decreases-stepped_turn l = 8 * stmt_nodes (stmt_of l.body.now) + 2
+
+abbrev pub decreases-passed_turn : goal.decreases-passed_turn
+decreases-passed_turn l = 8 * stmt_nodes (stmt_of l.body.now) + 3
+
+abbrev pub decreases-for_turn : goal.decreases-for_turn
+decreases-for_turn l = 8 * stmt_nodes (stmt_of l.body.now) + 4
+
+abbrev pub decreases-turns : goal.decreases-turns
+decreases-turns l = 8 * stmt_nodes (stmt_of l.body.now) + 5
+
 abbrev pub invariant-block-loop-x : goal.invariant-block-loop-x
 invariant-block-loop-x l =
     Awaits l.initial.b l.b l.jumps.items l.spot.masks.on (λ t pc p. flat l.on.answer l.spot.masks.on l.spot.masks.continued l.spot.masks.returned l.spot.slot t (layout l.on) false (stmts_of (take l.x-index l.x-items)) pc p) (stmts_places (layout l.on) (t_stmts (stmts_of (take l.x-index l.x-items))))

@@ -1,0 +1,126 @@
+-- Each instruction of the code of a loop has its operands, where those of its parts have.
+use Rattle.std.proofs.Common.{◌≡◌, ℕ, ◌+◌, ◌<◌, List, [], ◌∷◌, ◌++◌, length, Bool, true, false, refl, arith, length-append}
+use Rattle.isp_base.specs.declared.types.Elem.TheVariants.{Bool as Truth}
+use Rattle.isp_base.specs.declared.types.Rate.{Rate}
+use Rattle.isp_base.specs.declared.types.Rate.TheVariants.{Uniform, Varying}
+use Rattle.isp_code.specs.Fine.{IsThere}
+use Rattle.isp_code.specs.Listing.{Listing, Routine}
+use Rattle.isp_code.specs.Registers.{elem_of}
+use Rattle.isp_code.specs.declared.instr.Instr.{Instr}
+use Rattle.isp_code.specs.declared.instr.Instr.TheVariants as instr
+use Rattle.isp_lower.specs.Code.{the_others, jump_off, two, guard}
+use Rattle.isp_lower.specs.Layout.{class_at, register}
+use Rattle.isp_lower.specs.Sound.{AreSound}
+use Rattle.isp_lower.proofs.SoundLines.{sound_both}
+use Rattle.isp_masks.specs.Exits.{nobody_leaves}
+use Rattle.isp_masks.specs.Loops.{if_needed, enter_code, loop_end_code, turn_code, back_code, sift_code, live_code, again_code, while_code, for_code, endless_code, do_code}
+use Rattle.isp_masks.specs.Sets.{unite, clear_mask}
+use Rattle.isp_masks.specs.declared.exits.Exits.{Exits}
+
+module _ (code : Listing) (h : Routine) where
+  -- code at a place, before the last instruction
+  abbrev pub HereSound : (ℕ → List Instr) → Type 0
+  HereSound part = (pc : ℕ) → pc + length (part pc) < length h.code → AreSound code h (part pc)
+
+  pub guard_sound : (k : ℕ) (part : ℕ → List Instr) → k < h.masks → HereSound part → HereSound (λ pc. guard (jump_off k) pc part)
+  guard_sound k part there f pc lt = ((((refl, there), (omega arith, tt)), tt), f (pc + 1) (omega arith))
+
+  pub two_sound : (a b : ℕ → List Instr) → HereSound a → HereSound b → HereSound (λ pc. two pc (a pc) b)
+  two_sound a b f g pc lt =
+      let e = length-append (a pc) (b (pc + length (a pc))) in
+      sound_both code h (a pc) (b (pc + length (a pc))) (f pc (omega (arith, e, lt))) (g (pc + length (a pc)) (omega (arith, e, lt)))
+
+  needed_sound : (b : Bool) (part : List Instr) → AreSound code h part → AreSound code h (if_needed b part)
+  needed_sound true part f = f
+  needed_sound false part f = tt
+
+  module _ (e : Exits) (k rr n : ℕ) (lk : k < h.masks) (lr : rr < h.masks) (live : n < h.masks) (continued : n + 1 < h.masks) (returned : n + 2 < h.masks) where
+    -- ---- what all loops have
+
+    enter_sound : AreSound code h (enter_code e k n)
+    enter_sound =
+        let clear = clear_mask (n + 2) ∷ [] in
+        let cleared : AreSound code h clear = ((((refl, returned), tt), tt), tt) in
+        ((((refl, live), ((refl, lk), tt)), tt), needed_sound e.returns clear cleared)
+
+    end_sound : AreSound code h (loop_end_code e k rr n)
+    end_sound =
+        let end = the_others k k (n + 2) ∷ unite rr rr (n + 2) ∷ [] in
+        let ended : AreSound code h end = ((((refl, lk), ((refl, lk), ((refl, returned), tt))), tt), ((((refl, lr), ((refl, lr), ((refl, returned), tt))), tt), tt)) in
+        needed_sound e.returns end ended
+
+    turn_sound : (body : ℕ → List Instr) → HereSound body → HereSound (λ pc. turn_code e pc n body)
+    turn_sound body f =
+        let clear = clear_mask (n + 1) ∷ [] in
+        let join = unite n n (n + 1) ∷ [] in
+        let cleared : AreSound code h clear = ((((refl, continued), tt), tt), tt) in
+        let joined : AreSound code h join = ((((refl, live), ((refl, live), ((refl, continued), tt))), tt), tt) in
+        two_sound (λ pc. if_needed e.continues clear) (λ pc. body pc ++ if_needed e.continues join) (λ pc lt. needed_sound e.continues clear cleared) (two_sound body (λ pc. if_needed e.continues join) f (λ pc lt. needed_sound e.continues join joined))
+
+    back_sound : (b : Bool) (top : ℕ) → top < length h.code → AreSound code h (back_code b n top ∷ [])
+    back_sound true top lt = (((lt, tt), tt), tt)
+    back_sound false top lt = ((((refl, live), (lt, tt)), tt), tt)
+
+    live_sound : (b : Bool) (part : ℕ → List Instr) → HereSound part → HereSound (λ pc. live_code b n pc part)
+    live_sound true part f = f
+    live_sound false part f = guard_sound n part live f
+
+    step_back : (top : ℕ) (step : ℕ → List Instr) → top < length h.code → HereSound step → HereSound (λ pc. step pc ++ instr.Jump top ∷ [])
+    step_back top step lt f = two_sound step (λ pc. instr.Jump top ∷ []) f (λ pc lt1. (((lt, tt), tt), tt))
+
+    module _ (r : Rate) (x : ℕ) (there : IsThere h (class_at r) (register r x)) (bool : elem_of h (register r x) ≡ Truth) where
+      sift_sound : (rest : ℕ → List Instr) → HereSound rest → HereSound (λ pc. sift_code r x pc n rest)
+      sift_sound rest f = go r there bool
+        where
+          go : (t : Rate) → IsThere h (class_at t) (register t x) → elem_of h (register t x) ≡ Truth → HereSound (λ pc. sift_code t x pc n rest)
+          go Uniform is has pc lt = ((((is, has), (omega arith, tt)), tt), f (pc + 1) (omega arith))
+          go Varying is has pc lt = ((((refl, live), ((is, has), ((refl, live), tt))), tt), guard_sound n rest live f (pc + 1) (omega arith))
+
+      again_sound : (top : ℕ) → top < length h.code → AreSound code h (again_code r x n top)
+      again_sound top lt = go r there bool
+        where
+          go : (t : Rate) → IsThere h (class_at t) (register t x) → elem_of h (register t x) ≡ Truth → AreSound code h (again_code t x n top)
+          go Uniform is has = ((((is, has), (lt, tt)), tt), tt)
+          go Varying is has = ((((refl, live), ((is, has), ((refl, live), tt))), tt), ((((refl, live), (lt, tt)), tt), tt))
+
+    -- a loop begins, makes its turns from the next instruction on, and ends
+    looped : (inside : ℕ → List Instr) → ((top : ℕ) → top < length h.code → top + length (inside top) < length h.code → AreSound code h (inside top)) → HereSound (λ pc. two pc (enter_code e k n) (λ top. two top (inside top) (λ pc1. loop_end_code e k rr n)))
+    looped inside f pc lt =
+        let begin = enter_code e k n in
+        let last = loop_end_code e k rr n in
+        let top = pc + length begin in
+        let e1 = length-append begin (inside top ++ last) in
+        let e2 = length-append (inside top) last in
+        sound_both code h begin (inside top ++ last) enter_sound (sound_both code h (inside top) last (f top (omega (arith, e1, lt)) (omega (arith, e1, e2, lt))) end_sound)
+
+    -- a turn, and behind it the step and the jump back
+    abbrev behind : ℕ → (ℕ → List Instr) → ℕ → List Instr
+    behind top step pc = live_code (nobody_leaves e) n pc (λ pc1. step pc1 ++ instr.Jump top ∷ [])
+
+    behind_sound : (top : ℕ) (step : ℕ → List Instr) → top < length h.code → HereSound step → HereSound (behind top step)
+    behind_sound top step lt f = live_sound (nobody_leaves e) (λ pc1. step pc1 ++ instr.Jump top ∷ []) (step_back top step lt f)
+
+    -- ---- the loops
+
+    pub endless_sound : (body step : ℕ → List Instr) → HereSound body → HereSound step → HereSound (λ pc. endless_code e pc k rr n body step)
+    endless_sound body step fb fs =
+        looped (λ top. two top (turn_code e top n body) (behind top step)) (λ top lt lt1. two_sound (λ pc. turn_code e pc n body) (behind top step) (turn_sound body fb) (behind_sound top step lt fs) top lt1)
+
+    module _ (r : Rate) (x : ℕ) (test body : ℕ → List Instr) (there : IsThere h (class_at r) (register r x)) (bool : elem_of h (register r x) ≡ Truth) (ft : HereSound test) (fb : HereSound body) where
+      -- the test, and what follows it for those that pass
+      passed_sound : (rest : ℕ → List Instr) → HereSound rest → HereSound (λ pc. two pc (test pc) (λ pc1. sift_code r x pc1 n rest))
+      passed_sound rest f = two_sound test (λ pc1. sift_code r x pc1 n rest) ft (sift_sound r x there bool rest f)
+
+      pub while_sound : HereSound (λ pc. while_code e r x pc k rr n test body)
+      while_sound =
+          let back = λ (top : ℕ). back_code (nobody_leaves e) n top ∷ [] in
+          looped (λ top. two top (test top) (λ pc1. sift_code r x pc1 n (λ pc2. two pc2 (turn_code e pc2 n body) (λ pc3. back top)))) (λ top lt lt1. passed_sound (λ pc2. two pc2 (turn_code e pc2 n body) (λ pc3. back top)) (two_sound (λ pc2. turn_code e pc2 n body) (λ pc3. back top) (turn_sound body fb) (λ pc3 lt3. back_sound (nobody_leaves e) top lt)) top lt1)
+
+      pub for_sound : (step : ℕ → List Instr) → HereSound step → HereSound (λ pc. for_code e r x pc k rr n test body step)
+      for_sound step fs =
+          looped (λ top. two top (test top) (λ pc1. sift_code r x pc1 n (λ pc2. two pc2 (turn_code e pc2 n body) (behind top step)))) (λ top lt lt1. passed_sound (λ pc2. two pc2 (turn_code e pc2 n body) (behind top step)) (two_sound (λ pc2. turn_code e pc2 n body) (behind top step) (turn_sound body fb) (behind_sound top step lt fs)) top lt1)
+
+      pub do_sound : HereSound (λ pc. do_code e r x pc k rr n test body)
+      do_sound =
+          let again = λ (top pc1 : ℕ). live_code (nobody_leaves e) n pc1 (λ pc2. test pc2 ++ again_code r x n top) in
+          looped (λ top. two top (turn_code e top n body) (again top)) (λ top lt lt1. two_sound (λ pc. turn_code e pc n body) (again top) (turn_sound body fb) (live_sound (nobody_leaves e) (λ pc2. test pc2 ++ again_code r x n top) (two_sound test (λ pc3. again_code r x n top) ft (λ pc3 lt3. again_sound r x there bool top lt))) top lt1)

@@ -1,0 +1,18 @@
+use Rattle.std.proofs.Common.{◌≡◌, ◌+◌, ◌++◌, ◌∙◌}
+use Rattle.isp_lower.specs.Code.{expr_code, expr_places, found, jump_off}
+use Rattle.isp_lower.specs.Emitted.{layout}
+use Rattle.isp_lower.proofs.Landing.{landed}
+use Rattle.isp_typed.specs.Typed.{type_of}
+use Rattle.isp_typed.specs.Views.{expr_of}
+use Rattle.isp_masks.specs.Loops.{again_code}
+use Rattle.isp_masks.proofs.statement.some_again.Goals as goal
+
+pub returns : goal.returns
+returns c =
+    let a = c.args in
+    let l = layout a.on.now in
+    let e = expr_of a.test.now in
+    let n = a.it.slot in
+    landed a.b.now c.push.new.self c.tested_again.new.b c.land.new.self c.len-at.result _ (jump_off n)
+    (λ pc p. expr_code l e pc p n (n + 3) ++ again_code (type_of e).rate (found l e (n + 3)) n a.it.top) (expr_places l e)
+    (c.len-at.ensures ∙ a.b.now.code.ok.0) c.in_ok-push.ensures c.in_ok-tested_again.ensures (cc) c.land.ensures.places

@@ -1,0 +1,139 @@
+//! What the code of each loop has besides its parts. The loop's first mask has the lanes that run it, the next those that
+//! continued in a turn, the third those that returned.
+ghost use Rattle.std.specs.Prelude.{◌≡◌, ◌<◌, ◌+◌, ◌∷◌, [], length, slice_set, OnOk};
+ghost use Rattle.isp_lower.specs.Emitted.{Appends};
+ghost use Rattle.isp_masks.specs.Exits.{nobody_leaves};
+ghost use Rattle.isp_masks.specs.Loops.{again_code, back_code, copy_mask, enter_code, if_needed, loop_end_code, sift_begin, sift_jump};
+ghost use Rattle.isp_masks.specs.Sets.{clear_mask, unite};
+
+use crate::exits::Exits;
+use crate::masks::Masks;
+use crate::sets::{clear_mask, unite};
+use isp_base::Rate;
+use isp_code::{Instr, JumpTest, MaskInstr};
+use isp_lower::{Body, mask, scalar, the_others, where_so};
+use std::alloc::AllocError;
+
+/// A loop: who may leave its body, its first mask, and the instruction where its turns begin.
+#[derive(Clone, Copy)]
+pub(crate) struct Loop {
+    pub exits: Exits,
+    pub slot: u32,
+    pub top: u32,
+}
+
+/// The rate of a test, and the register of its value.
+#[derive(Clone, Copy)]
+pub(crate) struct Test {
+    pub rate: Rate,
+    pub register: u32,
+}
+
+/// The number of the next instruction.
+pub(crate) fn next(b: &Body) -> u32
+    ensures { result ≡ length b.now.code.items }
+{
+    b.code.len() as u32
+}
+
+/// A mask gets the lanes of another.
+fn copy_mask(to: u32, from: u32) -> Instr
+    ensures { result ≡ copy_mask to from }
+{
+    Instr::Mask(mask(to), MaskInstr::Copy(mask(from)))
+}
+
+/// A mask gets no lane, where that is needed.
+pub(crate) fn clear_where(b: &mut Body, needed: bool, to: u32) -> Result<(), AllocError>
+    ensures { OnOk result (Appends b.old b.new (λ pc p. if_needed needed (clear_mask to ∷ [])) []) }
+{
+    if needed {
+        b.push(clear_mask(to))?;
+    }
+    Ok(())
+}
+
+/// A mask gets the lanes of another besides its own, where that is needed.
+pub(crate) fn join_where(b: &mut Body, needed: bool, to: u32, from: u32) -> Result<(), AllocError>
+    ensures { OnOk result (Appends b.old b.new (λ pc p. if_needed needed (unite to to from ∷ [])) []) }
+{
+    if needed {
+        b.push(unite(to, to, from))?;
+    }
+    Ok(())
+}
+
+/// A loop begins, for the lanes of a mask.
+pub(crate) fn enter(b: &mut Body, exits: Exits, k: u32, slot: u32) -> Result<(), AllocError>
+    requires { slot + 2 < 4294967296 }
+    ensures { OnOk result (Appends b.old b.new (λ pc p. enter_code exits k slot) []) }
+{
+    b.push(copy_mask(slot, k))?;
+    clear_where(b, exits.returns, slot + 2)?;
+    Ok(())
+}
+
+/// A loop ends: those that returned leave the lanes that went on.
+pub(crate) fn leave_loop(b: &mut Body, it: Loop, masks: Masks) -> Result<(), AllocError>
+    requires { it.slot + 2 < 4294967296 }
+    ensures { OnOk result (Appends b.old b.new (λ pc p. loop_end_code it.exits masks.on masks.returned it.slot) []) }
+{
+    if it.exits.returns {
+        b.push(the_others(masks.on, masks.on, it.slot + 2))?;
+        b.push(unite(masks.returned, masks.returned, it.slot + 2))?;
+    }
+    Ok(())
+}
+
+/// Back to the test of a `while`.
+pub(crate) fn back(b: &mut Body, it: Loop) -> Result<(), AllocError>
+    ensures { OnOk result (Appends b.old b.new (λ pc p. back_code (nobody_leaves it.exits) it.slot it.top ∷ []) []) }
+{
+    if it.exits.is_none() {
+        b.push(Instr::Jump(it.top))?;
+    } else {
+        b.push(Instr::JumpIf(JumpTest::On, mask(it.slot), it.top))?;
+    }
+    Ok(())
+}
+
+/// Back to the body of a `do`, for those that pass its test.
+pub(crate) fn again(b: &mut Body, test: Test, it: Loop) -> Result<(), AllocError>
+    ensures { OnOk result (Appends b.old b.new (λ pc p. again_code test.rate test.register it.slot it.top) []) }
+{
+    match test.rate {
+        Rate::Uniform => {
+            b.push(Instr::JumpIf(JumpTest::True, scalar(test.register), it.top))?;
+        }
+        Rate::Varying => {
+            b.push(where_so(it.slot, test.register, it.slot))?;
+            b.push(Instr::JumpIf(JumpTest::On, mask(it.slot), it.top))?;
+        }
+    }
+    Ok(())
+}
+
+/// A varying test leaves those that pass it.
+pub(crate) fn sift(b: &mut Body, test: Test, slot: u32) -> Result<(), AllocError>
+    ensures { OnOk result (Appends b.old b.new (λ pc p. sift_begin test.rate test.register slot) []) }
+{
+    match test.rate {
+        Rate::Uniform => Ok(()),
+        Rate::Varying => {
+            b.push(where_so(slot, test.register, slot))?;
+            Ok(())
+        }
+    }
+}
+
+/// The jump past what follows a test, where nobody passes, leads to the next instruction.
+pub(crate) fn land_sift(b: &mut Body, at: usize, test: Test, slot: u32)
+    requires { at < length b.old.code.items }
+    ensures code { b.new.code.items ≡ slice_set b.old.code.items at (sift_jump test.rate test.register slot (length b.old.code.items)) }
+    ensures places { b.new.places ≡ b.old.places }
+{
+    match test.rate {
+        Rate::Uniform => b.land(at, JumpTest::False, scalar(test.register)),
+        Rate::Varying => b.land(at, JumpTest::Off, mask(slot)),
+    }
+}
