@@ -10,8 +10,6 @@ use Rattle.isp_meaning.specs.Expressions.{Calls, value, values}
 use Rattle.isp_meaning.specs.Loops.{loop_end, tested, stepped, turns}
 use Rattle.isp_meaning.specs.Outcomes.{Val, Gives, Fails, Stops, Done, Res, Went, Trapped, Cut, checked, with_value, go_on, went_all, then_run, both_sides, unless_empty, if_so}
 use Rattle.isp_meaning.specs.Payloads.{Payload, One, Each, is_true, is_false, kept_by, offender}
-use Rattle.isp_base.specs.Prints.{print_text}
-use Rattle.isp_meaning.specs.Printing.{shown_all}
 use Rattle.isp_meaning.specs.Rounds.{Round, rounds, active_rounds, foreach_rounds, counted}
 use Rattle.isp_meaning.specs.Simple.{simple, items, first_part, step_part}
 use Rattle.isp_meaning.specs.State.{State, Frame, tick}

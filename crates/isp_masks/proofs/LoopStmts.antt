@@ -1,5 +1,5 @@
 -- The code of a loop does what the loop means, where the code of its body does.
-use Rattle.std.proofs.Common.{◌≡◌, ◌≢◌, ℕ, ◌+◌, ◌≤◌, List, ◌++◌, length, Option, Some, None, refl, sym, ◌∙◌, subst, arith, length-append}
+use Rattle.std.proofs.Common.{◌≡◌, ℕ, ◌+◌, ◌≤◌, List, ◌++◌, length, Option, Some, None, refl, sym, ◌∙◌, subst, arith, length-append}
 use Rattle.isp_base.specs.Sets.{Mask, nobody}
 use Rattle.isp_base.specs.Types.{gang_width}
 use Rattle.isp_base.specs.declared.types.Span.{Span}
@@ -27,9 +27,9 @@ use Rattle.isp_lower.proofs.Found.{few}
 use Rattle.isp_lower.proofs.Items.{items_run}
 use Rattle.isp_lower.proofs.Nodes.{enters_part}
 use Rattle.isp_lower.proofs.Updates.{simple_runs}
-use Rattle.isp_masks.specs.Exits.{exits_of, all_go_on, nobody_leaves, only_returns, Leave}
+use Rattle.isp_masks.specs.Exits.{exits_of, all_go_on, nobody_leaves, only_returns}
 use Rattle.isp_masks.specs.Fits.{FirstFits, StepFits, StmtFits}
-use Rattle.isp_masks.specs.Fors.{first_code, step_code, first_places, test_places, step_places}
+use Rattle.isp_masks.specs.Fors.{first_code, step_code, first_places, step_places}
 use Rattle.isp_masks.specs.LoopRuns.{TestRuns, BodyRuns, StepRuns, IsBody, LoopsRun}
 use Rattle.isp_masks.specs.Loops.{for_code, endless_code}
 use Rattle.isp_masks.specs.Statements.{stmt_places, stmt_code}

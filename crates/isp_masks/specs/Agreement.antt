@@ -1,6 +1,6 @@
 -- When code agrees with a program: it has the exported functions with their signatures, and does what each does, whatever
 -- the arguments are. The code of function f of the program is function f of the code.
-use Rattle.std.specs.Prelude.{◌≡◌, ℕ, ◌+◌, ◌*◌, ◌≤◌, ◌^◌, List, length, true}
+use Rattle.std.specs.Prelude.{◌≡◌, ℕ, ◌+◌, ◌*◌, List, true}
 use Rattle.isp_base.specs.Arguments.{AreShort}
 use Rattle.isp_base.specs.Binding.{has_signature}
 use Rattle.isp_base.specs.Outcomes.{Outcome, GoesOn, IsOver, out_of}

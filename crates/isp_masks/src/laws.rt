@@ -14,7 +14,7 @@ pub fn statements_run()
 {}
 
 /// The code of a `while`, a `for` and a `do` does what the loop means, where the codes of its test, its
-/// body and its step do what these mean. `stmt_code` does not have it yet.
+/// body and its step do what these mean.
 pub fn loops_run()
     ensures { AllLoopsRun }
 {}

@@ -1,4 +1,4 @@
-use Rattle.std.proofs.Common.{◌≡◌, ◌+◌, ◌++◌, ◌∙◌}
+use Rattle.std.proofs.Common.{◌+◌, ◌++◌, ◌∙◌}
 use Rattle.isp_lower.specs.Code.{expr_code, expr_places, found, jump_off}
 use Rattle.isp_lower.specs.Emitted.{layout}
 use Rattle.isp_lower.proofs.Landing.{landed}

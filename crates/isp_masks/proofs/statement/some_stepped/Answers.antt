@@ -1,4 +1,4 @@
-use Rattle.std.proofs.Common.{◌≡◌, ◌+◌, ◌++◌, ◌∷◌, [], ◌∙◌}
+use Rattle.std.proofs.Common.{◌+◌, ◌++◌, ◌∷◌, [], ◌∙◌}
 use Rattle.std.specs.Prelude.{option_map}
 use Rattle.isp_code.specs.declared.instr.Instr.TheVariants as instr
 use Rattle.isp_lower.specs.Code.{jump_off}
