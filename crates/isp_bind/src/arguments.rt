@@ -1,5 +1,6 @@
 //! The arguments that a JSON text gives to a signature.
-ghost use Rattle.std.specs.Prelude.{◌≡◌, ◌≢◌, ◌<◌, ◌^◌, IfOk, IfErr};
+ghost use Rattle.std.specs.Prelude.{◌≡◌, ◌≢◌, ◌<◌, ◌^◌, ℕ, List, IfOk, IfErr, is_some};
+ghost use Rattle.std.specs.BTreeMap.{get_by_text};
 ghost use Rattle.serde_json.specs.View.{view, items_view, members_view};
 ghost use Rattle.isp_base.specs.Values.{width};
 ghost use Rattle.isp_bind.specs.Bounds.{AreBound};
@@ -8,7 +9,8 @@ ghost use Rattle.isp_bind.specs.Binding.{element_bits, whole_bits, elements_bits
 use crate::fault::BindFault;
 use isp_base::{Argument, Array, Bound, Elem, Parameter, Signature, Value, greatest_of, low_mask};
 use serde_json::{Category, Map, Number, Value as Json};
-use std::alloc::Global;
+use std::alloc::{AllocError, Global};
+use std::collections::BTreeMap;
 
 /// The elements that an array may have.
 const LONGEST: usize = 16_777_216;
@@ -43,7 +45,8 @@ pub fn bind(alloc: Global, signature: &Signature, text: &str) -> Result<Bound, B
         return Err(BindFault::NotObject);
     };
     let arguments = arguments(alloc, &signature.params, &value)?;
-    if has_extra(&signature.params, members) {
+    let names = names(alloc, &signature.params)?;
+    if has_extra(&signature.params, &names, members) {
         return Err(BindFault::Extra);
     }
     Ok(Bound { arguments })
@@ -61,23 +64,41 @@ fn arguments(alloc: Global, params: &[Parameter], value: &Json) -> Result<Vec<Ar
     Ok(arguments)
 }
 
+// The names of the parameters, each found in steps by the logarithm of their number.
+fn names(alloc: Global, params: &[Parameter]) -> Result<BTreeMap<String, ()>, AllocError>
+    ensures { IfOk result (λ m. (w : List ℕ) → is_some (get_by_text m w) ≡ is_parameter params.now w) }
+{
+    let mut names = BTreeMap::new(alloc);
+    for param in params {
+        let name = String::from_str(alloc, param.name.as_str())?;
+        names.insert(name, ())?;
+    }
+    Ok(names)
+}
+
 // Whether a member's key is no parameter's name.
 #[tactic(auto, using(crate::proofs::Members::has_extra_keys))]
-fn has_extra(params: &[Parameter], members: &Map<String, Json>) -> bool
+fn has_extra(
+    params: &[Parameter],
+    names: &BTreeMap<String, ()>,
+    members: &Map<String, Json>,
+) -> bool
+    requires names { (w : List ℕ) → is_some (get_by_text names.now w) ≡ is_parameter params.now w }
     ensures { result ≡ has_extra params.now (members_view members.now.entries) }
 {
     for key in members.keys() {
-        if !is_parameter(params, key.as_str()) {
+        if !is_parameter(params, names, key.as_str()) {
             return true;
         }
     }
     false
 }
 
-fn is_parameter(params: &[Parameter], key: &str) -> bool
+fn is_parameter(params: &[Parameter], names: &BTreeMap<String, ()>, key: &str) -> bool
+    requires names { (w : List ℕ) → is_some (get_by_text names.now w) ≡ is_parameter params.now w }
     ensures { result ≡ is_parameter params.now key.now }
 {
-    params.iter().any(|param| param.name.as_str() == key)
+    names.contains_key(key)
 }
 
 fn argument(alloc: Global, param: &Parameter, value: &Json) -> Result<Argument, BindFault>
