@@ -19,7 +19,9 @@ use Rattle.isp_exprs.specs.declared.calls.Passed as rust_passed
 use Rattle.isp_exprs.specs.declared.scope.Known.{Known}
 use Rattle.isp_exprs.specs.Values.{converted}
 use Rattle.isp_exprs.specs.Places.{mismatch}
-use Rattle.isp_exprs.specs.Calls.{Passed, p_value, p_array, p_base, p_destination, p_unasked, Called, gives, packed_store, packed_load, loaded, function_call, arguments_among}
+use Rattle.isp_exprs.specs.Passing.{Passed, p_value, p_array, p_base, p_destination, p_unasked, Called, gives}
+use Rattle.isp_exprs.specs.PackedCalls.{packed_store, packed_load, loaded}
+use Rattle.isp_exprs.specs.Calls.{function_call, arguments_among}
 use Rattle.isp_exprs.specs.reader.Parts.{boxed_of, passed_of, list_passed, base_passed, value_passed, destination_passed}
 
 store_view : (b : rust_base.TypedBase) (x : Box rust.TypedExpr Global) (s : Span) → expr_of (variant.PackedStore b x s) ≡ t_packed_store (base_of b) (expr_of x.value) s

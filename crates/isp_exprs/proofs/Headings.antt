@@ -1,6 +1,7 @@
 -- Functions by their names and numbers.
 use Rattle.std.proofs.Common.{◌≡◌, ℕ, suc, ◌+◌, ◌++◌, Bool, true, false, cond, refl, sym, ap, ap₂, ◌∙◌, arith, String, Global}
 use Rattle.std.specs.Prelude.{Option, Some, None, List, [], ◌∷◌, length, bytes_eq, option_map, slice_get, is_some}
+use Rattle.std.specs.Option.{option_or}
 use Rattle.std.proofs.lemmas.Slice.Eq.{bytes_eq-Decides}
 use Rattle.std.specs.BTreeMap.{BTreeMap, get_by_text}
 use Rattle.std.proofs.lemmas.List.{map-append, length-map}
@@ -8,7 +9,7 @@ use Rattle.std.proofs.lemmas.Option.{slice_get-map}
 use Rattle.isp_exprs.specs.declared.callee.Header.{Header}
 use Rattle.isp_exprs.specs.declared.callee.Callee.{Callee}
 use Rattle.isp_exprs.specs.declared.callee.Want.{Want}
-use Rattle.isp_exprs.specs.Calls.{Heading, function_from, or_else, library_named, of_function, callee}
+use Rattle.isp_exprs.specs.Callees.{Heading, function_from, library_named, of_function, callee}
 use Rattle.isp_exprs.specs.reader.Headings.{heading_of, headings_of}
 
 -- the first function of a name stands where its number says
@@ -50,22 +51,22 @@ numbered_there w hs n e at = go (function_from w 0 hs) refl e
 
 -- one function more
 function_more : (w : List ℕ) (k n : ℕ) (hs : List Heading) (h : Heading) → n ≡ k + length hs
-    → function_from w k (hs ++ h ∷ []) ≡ or_else (function_from w k hs) (cond (bytes_eq h.name w) (Some (n, h)) None)
+    → function_from w k (hs ++ h ∷ []) ≡ option_or (function_from w k hs) (cond (bytes_eq h.name w) (Some (n, h)) None)
 function_more w k n [] h e = let s : k ≡ n = omega arith in ap (λ z. cond (bytes_eq h.name w) (Some (z, h)) None) s
 function_more w k n (g ∷ hs) h e = go (bytes_eq g.name w) (function_more w (suc k) n hs h (omega (arith, e)))
   where
-    go : (t : Bool) → function_from w (suc k) (hs ++ h ∷ []) ≡ or_else (function_from w (suc k) hs) (cond (bytes_eq h.name w) (Some (n, h)) None)
-        → cond t (Some (k, g)) (function_from w (suc k) (hs ++ h ∷ [])) ≡ or_else (cond t (Some (k, g)) (function_from w (suc k) hs)) (cond (bytes_eq h.name w) (Some (n, h)) None)
+    go : (t : Bool) → function_from w (suc k) (hs ++ h ∷ []) ≡ option_or (function_from w (suc k) hs) (cond (bytes_eq h.name w) (Some (n, h)) None)
+        → cond t (Some (k, g)) (function_from w (suc k) (hs ++ h ∷ [])) ≡ option_or (cond t (Some (k, g)) (function_from w (suc k) hs)) (cond (bytes_eq h.name w) (Some (n, h)) None)
     go true r = refl
     go false r = r
 
 abbrev pub number_of : List ℕ → List Heading → Option ℕ
 number_of w hs = option_map (λ (f : ℕ × Heading). f.0) (function_from w 0 hs)
 
-number_more : (w : List ℕ) (hs : List Heading) (h : Heading) → number_of w (hs ++ h ∷ []) ≡ or_else (number_of w hs) (cond (bytes_eq h.name w) (Some (length hs)) None)
+number_more : (w : List ℕ) (hs : List Heading) (h : Heading) → number_of w (hs ++ h ∷ []) ≡ option_or (number_of w hs) (cond (bytes_eq h.name w) (Some (length hs)) None)
 number_more w hs h = ap (option_map (λ (f : ℕ × Heading). f.0)) (function_more w 0 (length hs) hs h (omega arith)) ∙ go (function_from w 0 hs) (bytes_eq h.name w)
   where
-    go : (o : Option (ℕ × Heading)) (t : Bool) → option_map (λ (f : ℕ × Heading). f.0) (or_else o (cond t (Some (length hs, h)) None)) ≡ or_else (option_map (λ (f : ℕ × Heading). f.0) o) (cond t (Some (length hs)) None)
+    go : (o : Option (ℕ × Heading)) (t : Bool) → option_map (λ (f : ℕ × Heading). f.0) (option_or o (cond t (Some (length hs, h)) None)) ≡ option_or (option_map (λ (f : ℕ × Heading). f.0) o) (cond t (Some (length hs)) None)
     go None true = refl
     go None false = refl
     go (Some p) t = refl
@@ -74,7 +75,7 @@ number_more w hs h = ap (option_map (λ (f : ℕ × Heading). f.0)) (function_mo
 pub number_known : (w : List ℕ) (hs : List Heading) (h : Heading) (o : Option ℕ) → o ≡ number_of w hs → true ≡ is_some (number_of h.name hs) → o ≡ number_of w (hs ++ h ∷ [])
 number_known w hs h o e k = e ∙ (go (number_of w hs) refl (bytes_eq h.name w) refl ∙ sym (number_more w hs h))
   where
-    go : (m : Option ℕ) → number_of w hs ≡ m → (t : Bool) → bytes_eq h.name w ≡ t → m ≡ or_else m (cond t (Some (length hs)) None)
+    go : (m : Option ℕ) → number_of w hs ≡ m → (t : Bool) → bytes_eq h.name w ≡ t → m ≡ option_or m (cond t (Some (length hs)) None)
     go (Some n) q t d = refl
     go None q false d = refl
     go None q true d = let s : true ≡ is_some (number_of w hs) = k ∙ ap (λ z. is_some (number_of z hs)) ((bytes_eq-Decides h.name w).0 d) in
@@ -85,7 +86,7 @@ pub number_new : (w : List ℕ) (hs : List Heading) (h : Heading) (key : List �
     → false ≡ is_some (number_of h.name hs) → after ≡ cond (bytes_eq key w) (Some n) before → after ≡ number_of w (hs ++ h ∷ [])
 number_new w hs h key n before after k l e u a = a ∙ (rw (k, l, e) (go (number_of w hs) refl (bytes_eq h.name w) refl) ∙ sym (number_more w hs h))
   where
-    go : (m : Option ℕ) → number_of w hs ≡ m → (t : Bool) → bytes_eq h.name w ≡ t → cond t (Some (length hs)) m ≡ or_else m (cond t (Some (length hs)) None)
+    go : (m : Option ℕ) → number_of w hs ≡ m → (t : Bool) → bytes_eq h.name w ≡ t → cond t (Some (length hs)) m ≡ option_or m (cond t (Some (length hs)) None)
     go (Some x) q false d = refl
     go (Some x) q true d = let s : false ≡ is_some (number_of w hs) = u ∙ ap (λ z. is_some (number_of z hs)) ((bytes_eq-Decides h.name w).0 d) in
         let f : false ≡ true = s ∙ ap is_some q in cc

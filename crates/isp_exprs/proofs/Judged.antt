@@ -12,7 +12,9 @@ use Rattle.isp_typed.specs.Verdicts.{both, found}
 use Rattle.isp_exprs.specs.declared.scope.Binding.{Binding}
 use Rattle.isp_exprs.specs.declared.callee.Callee.{Callee}
 use Rattle.isp_exprs.specs.declared.callee.Want.{Want}
-use Rattle.isp_exprs.specs.Calls.{Heading, Handed, Passed, callee, asked_past, unless_unknown, call_of, suits}
+use Rattle.isp_exprs.specs.Passing.{Handed, Passed}
+use Rattle.isp_exprs.specs.Callees.{Heading, callee, asked_past, unless_unknown}
+use Rattle.isp_exprs.specs.Calls.{call_of, suits}
 use Rattle.isp_exprs.specs.Rules.{count}
 use Rattle.isp_exprs.specs.reader.Judge.{judge_call_of, judge_arguments}
 

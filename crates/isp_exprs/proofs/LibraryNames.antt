@@ -5,7 +5,7 @@ use Rattle.std.specs.Bool.{⊤}
 use Rattle.std.proofs.lemmas.Bool.{false_from_ne_true}
 use Rattle.std.proofs.lemmas.Slice.Eq.{bytes_eq-Decides}
 use Rattle.isp_exprs.specs.declared.callee.Callee.{Callee}
-use Rattle.isp_exprs.specs.Calls.{named_in}
+use Rattle.isp_exprs.specs.Callees.{named_in}
 
 abbrev pub DiffersFromAll : List (List ℕ × Callee) → List ℕ → Type 0
 DiffersFromAll [] w = ⊤

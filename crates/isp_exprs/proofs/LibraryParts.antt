@@ -11,7 +11,7 @@ use Rattle.isp_typed.specs.Library.{part_elem}
 use Rattle.isp_typed.specs.Typed.{TExpr, t_exprs, t_expr_then}
 use Rattle.isp_exprs.specs.Values.{converted}
 use Rattle.isp_exprs.specs.reader.Parts.{boxed_of, boxes_of}
-use Rattle.isp_exprs.specs.Calls.{as_parts}
+use Rattle.isp_exprs.specs.LibraryCalls.{as_parts}
 
 -- a value as its place asks
 abbrev pub as_part : Elem → Bor Part × Box rust.TypedExpr → TExpr

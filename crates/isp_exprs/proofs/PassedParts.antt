@@ -8,7 +8,9 @@ use Rattle.isp_typed.specs.declared.expr.TypedArgument as rust_argument
 use Rattle.isp_typed.specs.Typed.{TArgument, t_by_value, t_by_name, t_argument_then, t_arguments}
 use Rattle.isp_typed.specs.Views.{arguments_of}
 use Rattle.isp_exprs.specs.declared.calls.Passed as rust_passed
-use Rattle.isp_exprs.specs.Calls.{Passed, p_value, p_array, p_base, p_destination, p_unasked, values_among, arguments_among}
+use Rattle.isp_exprs.specs.Passing.{Passed, p_value, p_array, p_base, p_destination, p_unasked}
+use Rattle.isp_exprs.specs.LibraryCalls.{values_among}
+use Rattle.isp_exprs.specs.Calls.{arguments_among}
 use Rattle.isp_exprs.specs.reader.Parts.{boxes_of, passed_of, list_passed, value_in, argument_in}
 
 -- the arguments as a list

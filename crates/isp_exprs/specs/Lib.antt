@@ -2,6 +2,10 @@ pub mod Words
 pub mod Scopes
 pub mod Values
 pub mod Places
+pub mod Passing
+pub mod PackedCalls
+pub mod LibraryCalls
+pub mod Callees
 pub mod Calls
 pub mod Rules
 pub mod reader

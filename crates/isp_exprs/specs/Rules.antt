@@ -16,19 +16,14 @@ use Rattle.isp_exprs.specs.Words.{value_said}
 use Rattle.isp_exprs.specs.Scopes.{named}
 use Rattle.isp_exprs.specs.Values.{truth_value, count_value, in_brackets, cast_to, with_sign, joined, choice}
 use Rattle.isp_exprs.specs.Places.{variable_at, element_at}
-use Rattle.isp_exprs.specs.Calls.{Heading, Handed, h_value, h_name, h_element, Passed, Called, callee, asked_past, unless_unknown, suits, first_want, rest_of, call_of, value_called, handed_call, handed_name}
+use Rattle.isp_exprs.specs.Passing.{Handed, h_value, Passed, Called, value_called, handed_call, handed_name, handed_reference, handed_element}
+use Rattle.isp_exprs.specs.Callees.{Heading, callee, asked_past, unless_unknown}
+use Rattle.isp_exprs.specs.Calls.{suits, first_want, rest_of, call_of}
 
 -- how many arguments stand in a call
 abbrev pub count : Arguments → ℕ
 count no_arguments = 0
 count (argument_then x xs) = suc (count xs)
-
--- `&x` and `&a[e]`, with the span of the name
-abbrev pub handed_reference : Span → Known → Handed
-handed_reference s k = h_name k s
-
-abbrev pub handed_element : Span → Known × TExpr → Handed
-handed_element s p = h_element p.0 s p.1
 
 abbrev pub second : {A B : Type 0} → A × B → B
 second p = p.1
@@ -48,12 +43,17 @@ module _ (hs : List Heading) where
   abbrev pub past_at : Word → Arguments → Want
   past_at w xs = asked_past (callee_at w xs).0
 
-  -- a call of what stands in it; an unknown name is a fault beside those of the arguments
-  abbrev pub IsCall : Word → Arguments → Span → (List Passed → Type 0) → Called → Type 0
-  IsCall w xs s P = Found (call_of s) (Both (Given (unless_unknown w (callee_at w xs).0)) P)
+  -- A call: P says what its arguments are passed as, where something is asked of each and of each past the last, and F what
+  -- their breaches are.
+  abbrev pub IsCall : Word → Arguments → Span → (Want → List Want → List Passed → Type 0) → Called → Type 0
+  IsCall w xs s P = Found (call_of s) (Both (Given (unless_unknown w (callee_at w xs).0)) (P (past_at w xs) (wants_at w xs)))
 
-  abbrev pub CallBreach : Word → Arguments → Span → (List Passed → Type 0) → (Fault → Type 0) → Fault → Type 0
-  CallBreach w xs s P F = Wrong (call_of s) (Both (Given (unless_unknown w (callee_at w xs).0)) P) (Either (Refused (unless_unknown w (callee_at w xs).0)) F)
+  -- 20 at an unknown name, which stands beside the faults of the arguments; 23 at a call with another number of arguments, 22
+  -- or 24 at a variable that cannot be loaded
+  abbrev pub CallBreach : Word → Arguments → Span → (Want → List Want → List Passed → Type 0) → (Want → List Want → Fault → Type 0) → Fault → Type 0
+  CallBreach w xs s P F =
+      Wrong (call_of s) (Both (Given (unless_unknown w (callee_at w xs).0)) (P (past_at w xs) (wants_at w xs)))
+      (Either (Refused (unless_unknown w (callee_at w xs).0)) (F (past_at w xs) (wants_at w xs)))
 
 module _ (gang : Gang) (hs : List Heading) (ns : List Binding) where
   abbrev mutual
@@ -66,7 +66,7 @@ module _ (gang : Gang) (hs : List Heading) (ns : List Binding) where
     -- A variable and an element have the type they were declared with.
     IsExpr (place p) = Made t_place (IsPlace p)
     -- A call has the type of its result.
-    IsExpr (call w xs s) = Found (value_called s) (IsCall hs w xs s (AreArguments (past_at hs w xs) (wants_at hs w xs) xs))
+    IsExpr (call w xs s) = Found (value_called s) (IsCall hs w xs s (AreArguments xs))
     -- Brackets keep the type, a cast says it.
     IsExpr (brackets x s) = Made (in_brackets s) (IsExpr x)
     IsExpr (cast t x s) = Made (cast_to s) (Both (Given (value_said t)) (IsExpr x))
@@ -83,20 +83,20 @@ module _ (gang : Gang) (hs : List Heading) (ns : List Binding) where
     -- What an argument is by itself: a name may be that of an array, and a call may be without a result.
     pub IsArgument : Argument → Handed → Type 0
     IsArgument (by_value (place (variable w))) = Made (handed_name w.span) (Given (named ns w))
-    IsArgument (by_value (call w xs s)) = Made handed_call (IsCall hs w xs s (AreArguments (past_at hs w xs) (wants_at hs w xs) xs))
+    IsArgument (by_value (call w xs s)) = Made handed_call (IsCall hs w xs s (AreArguments xs))
     IsArgument (by_value x) = Made h_value (IsExpr x)
     IsArgument (by_reference (variable w) s) = Made (handed_reference w.span) (Given (named ns w))
     IsArgument (by_reference (element w x e) s) = Made (handed_element w.span) (Both (Given (named ns w)) (IsExpr x))
 
     -- Each argument suits what is asked in its place.
-    pub AreArguments : Want → List Want → Arguments → List Passed → Type 0
-    AreArguments past ws no_arguments = Just []
-    AreArguments past ws (argument_then x xs) =
-        Made pair_then (Both (Found (suits (first_want past ws) (span_of_argument x)) (IsArgument x)) (AreArguments past (rest_of ws) xs))
+    pub AreArguments : Arguments → Want → List Want → List Passed → Type 0
+    AreArguments no_arguments past ws = Just []
+    AreArguments (argument_then x xs) past ws =
+        Made pair_then (Both (Found (suits (first_want past ws) (span_of_argument x)) (IsArgument x)) (AreArguments xs past (rest_of ws)))
 
   -- a call of this name with these arguments
   abbrev pub IsCallOf : Word → Arguments → Span → Called → Type 0
-  IsCallOf w xs s = IsCall hs w xs s (AreArguments (past_at hs w xs) (wants_at hs w xs) xs)
+  IsCallOf w xs s = IsCall hs w xs s (AreArguments xs)
 
   abbrev mutual
     pub ExprBreach : Expr → Fault → Type 0
@@ -106,8 +106,7 @@ module _ (gang : Gang) (hs : List Heading) (ns : List Binding) where
     ExprBreach (program_count s) = No_breach
     ExprBreach (place p) = PlaceBreach p
     -- 22 at a call without a result
-    ExprBreach (call w xs s) = Wrong (value_called s) (IsCallOf w xs s)
-        (CallBreach hs w xs s (AreArguments (past_at hs w xs) (wants_at hs w xs) xs) (ArgumentsBreach (past_at hs w xs) (wants_at hs w xs) xs))
+    ExprBreach (call w xs s) = Wrong (value_called s) (IsCallOf w xs s) (CallBreach hs w xs s (AreArguments xs) (ArgumentsBreach xs))
     ExprBreach (brackets x s) = ExprBreach x
     -- 22 at the words of a type
     ExprBreach (cast t x s) = Either (Refused (value_said t)) (ExprBreach x)
@@ -122,18 +121,16 @@ module _ (gang : Gang) (hs : List Heading) (ns : List Binding) where
 
     pub ArgumentBreach : Argument → Fault → Type 0
     ArgumentBreach (by_value (place (variable w))) = Refused (named ns w)
-    ArgumentBreach (by_value (call w xs s)) =
-        CallBreach hs w xs s (AreArguments (past_at hs w xs) (wants_at hs w xs) xs) (ArgumentsBreach (past_at hs w xs) (wants_at hs w xs) xs)
+    ArgumentBreach (by_value (call w xs s)) = CallBreach hs w xs s (AreArguments xs) (ArgumentsBreach xs)
     ArgumentBreach (by_value x) = ExprBreach x
     ArgumentBreach (by_reference (variable w) s) = Refused (named ns w)
     ArgumentBreach (by_reference (element w x e) s) = Either (Refused (named ns w)) (ExprBreach x)
 
     -- 22 or 24 at an argument that does not suit
-    pub ArgumentsBreach : Want → List Want → Arguments → Fault → Type 0
-    ArgumentsBreach past ws no_arguments = No_breach
-    ArgumentsBreach past ws (argument_then x xs) =
-        Either (Wrong (suits (first_want past ws) (span_of_argument x)) (IsArgument x) (ArgumentBreach x)) (ArgumentsBreach past (rest_of ws) xs)
+    pub ArgumentsBreach : Arguments → Want → List Want → Fault → Type 0
+    ArgumentsBreach no_arguments past ws = No_breach
+    ArgumentsBreach (argument_then x xs) past ws =
+        Either (Wrong (suits (first_want past ws) (span_of_argument x)) (IsArgument x) (ArgumentBreach x)) (ArgumentsBreach xs past (rest_of ws))
 
-  -- 20 at an unknown name, 23 at a call with another number of arguments, 22 or 24 at a variable that cannot be loaded
   abbrev pub CallOfBreach : Word → Arguments → Span → Fault → Type 0
-  CallOfBreach w xs s = CallBreach hs w xs s (AreArguments (past_at hs w xs) (wants_at hs w xs) xs) (ArgumentsBreach (past_at hs w xs) (wants_at hs w xs) xs)
+  CallOfBreach w xs s = CallBreach hs w xs s (AreArguments xs) (ArgumentsBreach xs)

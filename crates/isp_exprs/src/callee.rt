@@ -1,6 +1,6 @@
 //! What a call's name means, and what it asks of each argument.
 ghost use Rattle.std.specs.Prelude.{◌≡◌, ℕ, IfOk, OnOk, OnErr, option_map, slice_get, ◌++◌, ◌∷◌, [], map};
-ghost use Rattle.isp_exprs.specs.Calls.{asked_past, by_count, callee, counted, cross_library, function_from, instance_library, is_packed, library_named, library_wants, move_library, named_in, of_function, of_library, unless_unknown};
+ghost use Rattle.isp_exprs.specs.Callees.{asked_past, by_count, callee, counted, cross_library, function_from, instance_library, is_packed, library_named, library_wants, move_library, named_in, of_function, of_library, unless_unknown};
 ghost use Rattle.isp_exprs.specs.reader.Headings.{heading_of};
 
 use isp_base::{Elem, Name, Ty};
@@ -69,7 +69,7 @@ pub struct Headers {
 impl Model for Headers {
     ghost use Rattle.std.specs.Prelude.{◌≡◌, ℕ, List, map, option_map};
     ghost use Rattle.std.specs.BTreeMap.{get_by_text};
-    ghost use Rattle.isp_exprs.specs.Calls.{Heading, function_from};
+    ghost use Rattle.isp_exprs.specs.Callees.{Heading, function_from};
     ghost use Rattle.isp_exprs.specs.reader.Headings.{headings_of};
 
     ghost Value = { List Heading };

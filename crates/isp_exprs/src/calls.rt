@@ -3,7 +3,10 @@ ghost use Rattle.std.specs.Prelude.{◌≡◌, ◌++◌, IfOk, OnOk, option_map,
 ghost use Rattle.isp_typed.specs.Verdicts.{both, found, made};
 ghost use Rattle.isp_typed.specs.Typed.{t_arguments};
 ghost use Rattle.isp_typed.specs.Views.{base_of, arguments_of};
-ghost use Rattle.isp_exprs.specs.Calls.{arguments_among, answered, array_fits, base_fits, call_of, destination, function_call, handed_call, handed_name, loaded, packed_load, packed_store, suits, value_called, values_among};
+ghost use Rattle.isp_exprs.specs.Passing.{handed_call, handed_name, value_called};
+ghost use Rattle.isp_exprs.specs.PackedCalls.{as_base, base_fits, destination, loaded, packed_load, packed_store};
+ghost use Rattle.isp_exprs.specs.LibraryCalls.{values_among};
+ghost use Rattle.isp_exprs.specs.Calls.{arguments_among, answered, array_fits, call_of, function_call, suits};
 ghost use Rattle.isp_exprs.specs.reader.Parts.{argument_in, base_passed, boxed_of, boxes_of, called_of, destination_passed, handed_of, list_passed, passed_of, value_in, value_passed};
 
 use crate::callee::{Callee, Want};
@@ -129,7 +132,7 @@ fn base_fits(stored: bool, span: Span, array: ArrayVariable, base: TypedBase) ->
 
 /// An argument as the base of a packed call.
 fn as_base(stored: bool, span: Span, handed: Handed) -> Verdict<Passed>
-    ensures { made passed_of result ≡ suits (Want.Base stored) span (handed_of handed) }
+    ensures { made passed_of result ≡ as_base stored span (handed_of handed) }
 {
     match handed {
         Handed::Array(array, name) => base_fits(

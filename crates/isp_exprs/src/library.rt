@@ -3,7 +3,7 @@ ghost use Rattle.std.specs.Prelude.{◌≡◌, IfOk, map};
 ghost use Rattle.isp_typed.specs.Typed.{t_exprs, elem_of};
 ghost use Rattle.isp_typed.specs.Views.{exprs_of};
 ghost use Rattle.isp_exprs.specs.reader.Parts.{boxed_of, boxes_of};
-ghost use Rattle.isp_exprs.specs.Calls.{as_parts, library_call, rate_all, worked_in};
+ghost use Rattle.isp_exprs.specs.LibraryCalls.{as_parts, library_call, rate_all, worked_in};
 
 use crate::values::{boxed, chosen, converted, rate_or};
 use isp_base::{Elem, Rate, Span, common, operand};

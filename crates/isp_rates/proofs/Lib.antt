@@ -3,4 +3,5 @@ pub mod RateLaws
 pub mod Steps
 pub mod CallLaws
 pub mod Views
+pub mod Entries
 pub mod Examples

@@ -2,6 +2,7 @@ pub mod Breaches
 pub mod Rates
 pub mod Exits
 pub mod Program
+pub mod Exports
 pub mod Covered
 pub mod Reaches
 pub mod reader

@@ -1,5 +1,6 @@
 //! Checked programs.
-ghost use Rattle.std.specs.Prelude.{◌≡◌, ◌&&◌, bytes_eq, filter, find, map, option_map, slice_get};
+ghost use Rattle.std.specs.Prelude.{◌≡◌, ◌&&◌, ℕ, List, bytes_eq, filter, find, map, option_map, slice_get};
+ghost use Rattle.std.specs.BTreeMap.{get_by_text};
 ghost use Rattle.isp_lex.specs.declared.fault.Fault.{Fault};
 ghost use Rattle.isp_typed.specs.Fine.{IsFine};
 ghost use Rattle.isp_typed.specs.Scoped.{IsScoped};
@@ -7,11 +8,13 @@ ghost use Rattle.isp_typed.specs.Views.{functions_of, program_of};
 ghost use Rattle.isp_rates.specs.Reaches.{function_calls};
 ghost use Rattle.isp_rates.specs.reader.Lists.{lists_of};
 ghost use Rattle.isp_rates.specs.Covered.{program_left};
-ghost use Rattle.isp_rates.specs.Program.{ProgramBreach};
+ghost use Rattle.isp_rates.specs.Exports.{at_number, entry_from, exports_from};
+ghost use Rattle.isp_rates.specs.Program.{IsAccepted, ProgramBreach};
 
 use crate::covered;
 use isp_base::{Signature, Span};
 use isp_typed::{Program, Typed, TypedFunction};
+use std::collections::BTreeMap;
 use std::marker::Model;
 
 /// A program that no rule of the language forbids. Contracts see the program.
@@ -20,16 +23,22 @@ pub struct Checked {
     typed: Typed,
     /// For each function the numbers of those that it calls.
     calls: Vec<Vec<usize>>,
+    /// The numbers of the exported functions, in the order of the text.
+    exports: Vec<usize>,
+    /// The number of each exported function, by its name.
+    entries: BTreeMap<String, usize>,
 }
 
 impl Model for Checked {
     ghost use Rattle.isp_lex.specs.declared.fault.Fault.{Fault};
     ghost use Rattle.isp_typed.specs.declared.function.Program.{Program};
     ghost use Rattle.isp_typed.specs.contracts.function.TypedFunction as function_code;
-    ghost use Rattle.std.specs.Prelude.{◌≡◌, map};
+    ghost use Rattle.std.specs.Prelude.{◌≡◌, ℕ, List, map};
+    ghost use Rattle.std.specs.BTreeMap.{get_by_text};
     ghost use Rattle.isp_typed.specs.Views.{functions_of, program_of};
     ghost use Rattle.isp_rates.specs.Reaches.{function_calls};
     ghost use Rattle.isp_rates.specs.reader.Lists.{lists_of};
+    ghost use Rattle.isp_rates.specs.Exports.{entry_from, exports_from};
     ghost use Rattle.isp_rates.specs.Program.{ProgramBreach};
     ghost use Rattle.std.specs.Coded.{codes};
 
@@ -39,7 +48,7 @@ impl Model for Checked {
 
     ghost view = { λ c. c.typed };
 
-    ghost invariant = { λ c. ((f : Fault) → ProgramBreach (program_of c.typed) f → ⊥) × (lists_of c.calls.items ≡ map function_calls (functions_of c.typed.functions.items)) };
+    ghost invariant = { λ c. ((f : Fault) → ProgramBreach (program_of c.typed) f → ⊥) × (lists_of c.calls.items ≡ map function_calls (functions_of c.typed.functions.items)) × (c.exports.items ≡ exports_from 0 c.typed.functions.items) × ((w : List ℕ) → get_by_text c.entries w ≡ entry_from w 0 c.typed.functions.items) };
 }
 
 /// One of several lists.
@@ -52,14 +61,43 @@ fn list_at(lists: &[Vec<usize>], place: usize) -> Option<&[usize]>
     }
 }
 
+/// One of several numbers.
+fn number_at(numbers: &[usize], place: usize) -> Option<usize>
+    ensures { result ≡ slice_get numbers.now place }
+{
+    numbers.get(place).copied()
+}
+
+/// The function of a number, if there is one.
+fn function_at(functions: &[TypedFunction], number: Option<usize>) -> Option<&TypedFunction>
+    ensures { option_map (λ f. f.now) result ≡ at_number functions.entry.now number }
+{
+    match number {
+        Some(number) => functions.get(number),
+        None => None,
+    }
+}
+
 impl Checked {
     /// A program in which no breach is.
-    pub(crate) fn new(typed: Typed, calls: Vec<Vec<usize>>) -> Checked
+    pub(crate) fn new(
+        typed: Typed,
+        calls: Vec<Vec<usize>>,
+        exports: Vec<usize>,
+        entries: BTreeMap<String, usize>,
+    ) -> Checked
         requires sound { (f : Fault) → ProgramBreach (program_of typed) f → ⊥ }
         requires calls { lists_of calls.items ≡ map function_calls (functions_of typed.functions.items) }
+        requires exports { exports.items ≡ exports_from 0 typed.functions.items }
+        requires entries { (w : List ℕ) → get_by_text entries w ≡ entry_from w 0 typed.functions.items }
         ensures { result ≡ typed }
     {
-        Checked { typed, calls }
+        Checked {
+            typed,
+            calls,
+            exports,
+            entries,
+        }
     }
 
     /// The program: its gang size, and its functions, each known by its number in the order of the text.
@@ -68,26 +106,38 @@ impl Checked {
         ensures sound { (f : Fault) → ProgramBreach (program_of result.now) f → ⊥ }
         ensures fine { IsFine (program_of self.now) }
         ensures scoped { IsScoped (program_of self.now) }
+        ensures accepted { IsAccepted (program_of self.now) }
     {
         self.typed.program()
     }
 
-    /// The numbers of the functions that a function calls, by its number, in the order in which the parts of a
-    /// body are evaluated: `f(g())` gives g and then f. None past the last function.
+    /// The numbers of the functions that a function calls, by its number, each call once and in the order in
+    /// which the parts of a body are evaluated: `f(g())` gives g and then f. None past the last function.
     pub fn calls(&self, function: usize) -> Option<&[usize]>
         ensures { option_map (λ s. s.now) result ≡ option_map function_calls (slice_get (functions_of self.now.functions.items) function) }
     {
         list_at(&self.calls, function)
     }
 
+    /// The numbers of the exported functions, in the order of the text.
+    pub fn exports(&self) -> &[usize]
+        ensures { result.now ≡ exports_from 0 self.now.functions.items }
+    {
+        &self.exports
+    }
+
+    /// The number of the exported function of a name. None where there is none.
+    pub fn entry(&self, name: &str) -> Option<usize>
+        ensures { result ≡ entry_from name.now 0 self.now.functions.items }
+    {
+        self.entries.get(name).copied()
+    }
+
     /// The exported function of a name. None where there is none.
     pub fn exported(&self, entry: &str) -> Option<&TypedFunction>
         ensures { option_map (λ f. f.now) result ≡ find (λ f. f.exported && bytes_eq f.name entry.now) self.now.functions.items }
     {
-        self.program()
-            .functions
-            .iter()
-            .find(|f| f.exported && f.name.as_str() == entry)
+        function_at(&self.program().functions, self.entry(entry))
     }
 
     /// What an exported function takes and gives. None where no exported function has that name.
@@ -105,16 +155,10 @@ impl Checked {
     pub fn export(&self, k: usize) -> Option<&str>
         ensures { option_map (λ s. s.now) result ≡ option_map (λ f. f.name) (slice_get (filter (λ f. f.exported) self.now.functions.items) k) }
     {
-        let mut left = k;
-        for function in &self.program().functions {
-            if function.exported {
-                if left == 0 {
-                    return Some(function.name.as_str());
-                }
-                left -= 1;
-            }
+        match function_at(&self.program().functions, number_at(&self.exports, k)) {
+            Some(function) => Some(function.name.as_str()),
+            None => None,
         }
-        None
     }
 
     /// Where the first node in the text stands that has no code yet, a node before its parts; a function that

@@ -7,6 +7,7 @@ ghost use Rattle.isp_rates.specs.Program.{ProgramBreach};
 
 use crate::calls::table;
 use crate::checked::Checked;
+use crate::exports::{entries, exports};
 use crate::function::program;
 use isp_lex::SourceFault;
 use isp_typed::Typed;
@@ -28,8 +29,11 @@ pub fn check(alloc: Global, typed: Typed) -> Result<Checked, SourceFault>
     match program(typed.program()) {
         Some(fault) => Err(SourceFault::Refused(fault)),
         None => {
-            let calls = table(alloc, &typed.program().functions)?;
-            Ok(Checked::new(typed, calls))
+            let functions = &typed.program().functions;
+            let calls = table(alloc, functions)?;
+            let exports = exports(alloc, functions)?;
+            let entries = entries(alloc, functions)?;
+            Ok(Checked::new(typed, calls, exports, entries))
         }
     }
 }

@@ -7,6 +7,7 @@ mod checker;
 mod covered;
 mod demand;
 mod exits;
+mod exports;
 mod expr;
 mod function;
 mod simple;

@@ -1,5 +1,7 @@
 -- What names and types promise of every program that they accept, in the words of its meaning: a variable is used as what
--- it holds, an operand has the element type that its node works in, a call fits what it calls.
+-- it holds, an operand has the element type that its node works in, a call fits what it calls. Which typed tree a tree is, so
+-- what well typed means, is said elsewhere: specs/Rules.antt of isp_exprs, Statements.antt and Functions.antt of isp_types. This
+-- follows from it, and is what the layers above rely on, together with Scoped.antt.
 --     fs   the functions of the program        vars   the variables of the function        answer   what it gives back
 use Rattle.std.specs.Prelude.{◌≡◌, ℕ, ◌+◌, ◌≤◌, ◌<◌, List, [], ◌∷◌, ◌++◌, length, map, take, drop, count_by, slice_get, bytes_eq, Bool, true, false, ◌==◌, ◌&&◌, ◌||◌, not, Option, Some, None, option_map}
 use Rattle.std.specs.List.{All, list_any}

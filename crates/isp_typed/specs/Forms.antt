@@ -1,5 +1,12 @@
 -- How a node is put together of its parts, and what its breaches are. P, Q say what parts are found to be, F, G are
 -- their breaches. A node's own breach asks for its parts, so that a node whose part is faulty has none of its own.
+--
+-- For example `a[e]` has two parts, the name and the index, and a rule:
+--     IsPlace (element w x s)     = Found (element_at s) (Both (Given (named ns w)) (IsExpr x))
+--     PlaceBreach (element w x s) = Wrong (element_at s) (Both (Given (named ns w)) (IsExpr x)) (Either (Refused (named ns w)) (ExprBreach x))
+-- It is the typed place q where w means a variable k, x is the typed expression i, and `element_at s (k, i)` is `Ok q`. Its
+-- breaches are that of w, those of x, and, where w means k and x is i, the fault f that `element_at s (k, i)` is `Err f` with.
+-- So where x is faulty, that w is no array is not asked.
 use Rattle.std.specs.Prelude.{◌≡◌, ◌⊎◌, Bool, true, false, Option, Some, None, Result, Ok, Err}
 use Rattle.isp_lex.specs.declared.fault.Fault.{Fault}
 

@@ -2,6 +2,7 @@ pub mod Typed
 pub mod Nodes
 pub mod Fine
 pub mod Scoped
+pub mod Samples
 pub mod Views
 pub mod Library
 pub mod Order

@@ -4,6 +4,7 @@
 
 mod expr;
 mod function;
+mod laws;
 mod library;
 mod stmt;
 mod variable;
@@ -11,6 +12,7 @@ mod verdict;
 
 pub use expr::{TypedArgument, TypedBase, TypedCall, TypedExpr, TypedPlace};
 pub use function::{Program, Typed, TypedFunction};
+pub use laws::scopes_of_samples;
 pub use library::{Library, Part};
 pub use stmt::{TypedBlock, TypedFirst, TypedItem, TypedRange, TypedSimple, TypedStmt};
 pub use variable::{ArrayVariable, Holds, Logic, Variable};

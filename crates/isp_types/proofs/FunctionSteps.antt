@@ -19,7 +19,7 @@ use Rattle.isp_typed.specs.Typed.{TBlock, TFunction}
 use Rattle.isp_typed.specs.Verdicts.{both, made, beside, fault_unless, first_of}
 use Rattle.isp_typed.proofs.Verdicts.{beside_made, kept_made}
 use Rattle.isp_exprs.specs.declared.scope.Binding.{Binding}
-use Rattle.isp_exprs.specs.Calls.{Heading}
+use Rattle.isp_exprs.specs.Callees.{Heading}
 use Rattle.isp_exprs.specs.Words.{value_said, answer_said}
 use Rattle.isp_exprs.specs.Rules.{second}
 use Rattle.isp_types.specs.Functions.{param_variable, param_fits, heading, is_free, variables_of, function_made, program_made, IsProgram, Breach}

@@ -12,7 +12,7 @@ use Rattle.isp_typed.proofs.Right.{just_right, given_right, made_right, both_rig
 use Rattle.isp_exprs.specs.declared.scope.Binding.{Binding}
 use Rattle.isp_exprs.specs.Words.{value_said, answer_said}
 use Rattle.isp_exprs.specs.Scopes.{is_new, with_name}
-use Rattle.isp_exprs.specs.Calls.{Heading}
+use Rattle.isp_exprs.specs.Callees.{Heading}
 use Rattle.isp_exprs.specs.Rules.{second, pair_then}
 use Rattle.isp_types.specs.Numbering.{declared}
 use Rattle.isp_types.specs.Functions.{param_variable, param_fits, heading, is_free, function_made, program_made, IsBody, BodyBreach, AreFunctions, FunctionsBreach, IsProgram, Breach}

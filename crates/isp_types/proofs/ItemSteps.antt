@@ -12,7 +12,7 @@ use Rattle.isp_typed.specs.Verdicts.{both, made}
 use Rattle.isp_typed.specs.Typed.{TItem}
 use Rattle.isp_exprs.specs.declared.scope.Binding.{Binding}
 use Rattle.isp_exprs.specs.declared.words.ValueWords.{ValueWords}
-use Rattle.isp_exprs.specs.Calls.{Heading}
+use Rattle.isp_exprs.specs.Callees.{Heading}
 use Rattle.isp_types.specs.Numbering.{or_nothing, item_word, item_names, item_variables, items_names, items_variables}
 use Rattle.isp_types.specs.reader.JudgeStmts.{judge_item, judge_items, twice}
 use Rattle.isp_exprs.specs.reader.Lists.{and_one}

@@ -31,7 +31,7 @@ use Rattle.isp_types.specs.reader.Boxes.{boxed_pair}
 use Rattle.isp_typed.proofs.Verdicts.{beside_made}
 use Rattle.isp_exprs.specs.declared.scope.Binding.{Binding}
 use Rattle.isp_exprs.specs.Scopes.{with_name}
-use Rattle.isp_exprs.specs.Calls.{Heading}
+use Rattle.isp_exprs.specs.Callees.{Heading}
 use Rattle.isp_types.specs.Numbering.{range_names, range_variables}
 use Rattle.isp_types.specs.Statements.{range_made, agrees, as_answer}
 use Rattle.isp_typed.specs.Fine.{foreach_index as index}

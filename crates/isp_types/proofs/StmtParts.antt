@@ -9,7 +9,7 @@ use Rattle.isp_typed.specs.declared.variable.Variable.{Variable}
 use Rattle.isp_typed.specs.Typed.{TExpr, TSimple, TStmt}
 use Rattle.isp_typed.specs.Verdicts.{both, made, perhaps}
 use Rattle.isp_exprs.specs.declared.scope.Binding.{Binding}
-use Rattle.isp_exprs.specs.Calls.{Heading}
+use Rattle.isp_exprs.specs.Callees.{Heading}
 use Rattle.isp_types.specs.reader.JudgeStmts.{judge_test, judge_simple, judge_stmt}
 
 -- what is made of two parts, behind so many variables

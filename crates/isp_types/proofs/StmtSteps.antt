@@ -15,7 +15,7 @@ use Rattle.isp_typed.specs.Verdicts.{both, made}
 use Rattle.isp_typed.proofs.Order.{earlier_assoc}
 use Rattle.isp_typed.proofs.Verdicts.{both_made}
 use Rattle.isp_exprs.specs.declared.scope.Binding.{Binding}
-use Rattle.isp_exprs.specs.Calls.{Heading}
+use Rattle.isp_exprs.specs.Callees.{Heading}
 use Rattle.isp_types.specs.Numbering.{names_after, variables_after, stmts_variables}
 use Rattle.isp_types.specs.Nodes.{stmts_made}
 use Rattle.isp_types.specs.reader.JudgeStmts.{judge_stmt, judge_stmts}

@@ -18,7 +18,7 @@ use Rattle.isp_exprs.specs.declared.words.ValueWords.{ValueWords}
 use Rattle.isp_exprs.specs.Words.{value_said, type_declared}
 use Rattle.isp_exprs.specs.Scopes.{named, is_new, with_name}
 use Rattle.isp_exprs.specs.Places.{variable_target, element_target}
-use Rattle.isp_exprs.specs.Calls.{Heading}
+use Rattle.isp_exprs.specs.Callees.{Heading}
 use Rattle.isp_exprs.specs.Rules.{second, pair_then, ExprBreach}
 use Rattle.isp_types.specs.Numbering.{or_nothing, item_names, item_variables, first_names, first_variables, range_names, range_variables, names_after, variables_after}
 use Rattle.isp_types.specs.Declarations.{array_sized, with_initial, sized_item}

@@ -19,7 +19,7 @@ use Rattle.isp_exprs.specs.Words.{value_said, type_declared}
 use Rattle.isp_exprs.specs.Scopes.{is_new}
 use Rattle.isp_exprs.specs.Values.{converted}
 use Rattle.isp_exprs.specs.Places.{mismatch}
-use Rattle.isp_exprs.specs.Calls.{Heading}
+use Rattle.isp_exprs.specs.Callees.{Heading}
 use Rattle.isp_exprs.specs.Rules.{second, IsExpr, ExprBreach, pair_then}
 use Rattle.isp_types.specs.Numbering.{or_nothing, size_number, item_names, item_variables}
 

@@ -23,7 +23,7 @@ use Rattle.isp_exprs.specs.declared.scope.Binding.{Binding}
 use Rattle.isp_exprs.specs.declared.words.ValueWords.{ValueWords}
 use Rattle.isp_exprs.specs.Words.{value_said, answer_said, rate_or_varying}
 use Rattle.isp_exprs.specs.Scopes.{is_new, with_name}
-use Rattle.isp_exprs.specs.Calls.{Heading, library_named}
+use Rattle.isp_exprs.specs.Callees.{Heading, library_named}
 use Rattle.isp_exprs.specs.Rules.{second, pair_then}
 use Rattle.isp_types.specs.Numbering.{or_nothing, declared, value_variable, block_variables}
 use Rattle.isp_types.specs.Statements.{IsBlock, BlockBreach}

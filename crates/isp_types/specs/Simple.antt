@@ -18,7 +18,8 @@ use Rattle.isp_exprs.specs.declared.scope.Binding.{Binding}
 use Rattle.isp_exprs.specs.Scopes.{named}
 use Rattle.isp_exprs.specs.Values.{converted}
 use Rattle.isp_exprs.specs.Places.{mismatch, variable_target, element_target}
-use Rattle.isp_exprs.specs.Calls.{Heading, Called, gives, runs}
+use Rattle.isp_exprs.specs.Passing.{Called, gives, runs}
+use Rattle.isp_exprs.specs.Callees.{Heading}
 use Rattle.isp_exprs.specs.Rules.{IsCallOf, CallOfBreach, IsExpr, ExprBreach}
 
 -- a call as a statement

@@ -17,7 +17,7 @@ use Rattle.isp_typed.specs.Typed.{TExpr, TFirst, t_first_simple, TRange, TStmt, 
 use Rattle.isp_exprs.specs.declared.scope.Binding.{Binding}
 use Rattle.isp_exprs.specs.Scopes.{is_new, with_name}
 use Rattle.isp_exprs.specs.Values.{converted}
-use Rattle.isp_exprs.specs.Calls.{Heading}
+use Rattle.isp_exprs.specs.Callees.{Heading}
 use Rattle.isp_exprs.specs.Rules.{IsExpr, ExprBreach, pair_then}
 use Rattle.isp_types.specs.Numbering.{first_names, first_variables, range_names, range_variables, names_after, variables_after}
 use Rattle.isp_types.specs.Declarations.{IsDeclaration, DeclarationBreach}

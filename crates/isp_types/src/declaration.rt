@@ -43,10 +43,8 @@ pub fn or_nothing(words: Verdict<ValueWords>) -> ValueWords
 pub fn declared(words: Verdict<ValueWords>, number: usize, variable: Variable) -> Verdict<Known>
     ensures { result ≡ known_next number (declared words variable) }
 {
-    match words {
-        Ok(_) => Ok(Known { number, variable }),
-        Err(fault) => Err(fault),
-    }
+    words?;
+    Ok(Known { number, variable })
 }
 
 /// The fault of a name that stands in its scope already.
@@ -260,10 +258,8 @@ fn behind_words(
 ) -> Verdict<Vec<TypedItem>>
     ensures { made (λ l. items_of l.items) result ≡ made second (both words (made (λ l. items_of l.items) items)) }
 {
-    match both(words, items) {
-        Ok((_, items)) => Ok(items),
-        Err(fault) => Err(fault),
-    }
+    let (_, items) = both(words, items)?;
+    Ok(items)
 }
 
 /// A declaration, whose names and variables join the others.

@@ -10,7 +10,7 @@ ghost use Rattle.isp_tree.specs.Views.{function_of as read_function, param_of as
 ghost use Rattle.isp_tree.specs.Tree.{Block};
 ghost use Rattle.isp_typed.specs.Verdicts.{beside, both, fault_unless, made};
 ghost use Rattle.isp_typed.specs.Views.{block_of, function_of, functions_of};
-ghost use Rattle.isp_exprs.specs.Calls.{Heading, library_named};
+ghost use Rattle.isp_exprs.specs.Callees.{Heading, library_named};
 ghost use Rattle.isp_types.specs.Functions.{heading, is_export, param_fits, param_span, param_variable, param_want, parameter_of, variable_for};
 ghost use Rattle.isp_exprs.specs.reader.Headings.{heading_of};
 ghost use Rattle.isp_types.specs.reader.JudgeFunctions.{judge_body, judge_function, judge_functions};

@@ -20,31 +20,21 @@ use std::alloc::{AllocError, Global};
 pub fn declared_stmt(items: Verdict<Vec<TypedItem>>, span: Span) -> Verdict<TypedStmt>
     ensures { made stmt_of result ≡ made (declared_stmt span) (made (λ l. items_of l.items) items) }
 {
-    match items {
-        Ok(items) => Ok(TypedStmt::Declare { items, span }),
-        Err(fault) => Err(fault),
-    }
+    let items = items?;
+    Ok(TypedStmt::Declare { items, span })
 }
 
 pub fn simple_stmt(simple: Verdict<Box<TypedSimple>>, span: Span) -> Verdict<TypedStmt>
     ensures { made stmt_of result ≡ made (simple_stmt span) (made boxed_simple simple) }
 {
-    match simple {
-        Ok(simple) => Ok(TypedStmt::Simple {
-            simple: Box::into_inner(simple),
-            span,
-        }),
-        Err(fault) => Err(fault),
-    }
+    let simple = Box::into_inner(simple?);
+    Ok(TypedStmt::Simple { simple, span })
 }
 
 pub fn block_stmt(block: Verdict<TypedBlock>) -> Verdict<TypedStmt>
     ensures { made stmt_of result ≡ made t_block (made block_of block) }
 {
-    match block {
-        Ok(block) => Ok(TypedStmt::Block(block)),
-        Err(fault) => Err(fault),
-    }
+    Ok(TypedStmt::Block(block?))
 }
 
 /// A `;`, which is a block without statements.
@@ -76,16 +66,14 @@ pub fn if_stmt(
 ) -> Verdict<TypedStmt>
     ensures { made stmt_of result ≡ made (if_stmt form before span) (both (made boxed_of test) (made (λ b. stmt_of b.value) then)) }
 {
-    match both(test, then) {
-        Ok((test, then)) => Ok(TypedStmt::If {
-            form,
-            before,
-            test: Box::into_inner(test),
-            then,
-            span,
-        }),
-        Err(fault) => Err(fault),
-    }
+    let (test, then) = both(test, then)?;
+    Ok(TypedStmt::If {
+        form,
+        before,
+        test: Box::into_inner(test),
+        then,
+        span,
+    })
 }
 
 pub fn if_else_stmt(
@@ -97,17 +85,15 @@ pub fn if_else_stmt(
 ) -> Verdict<TypedStmt>
     ensures { made stmt_of result ≡ made (if_else_stmt form before span) (both (made boxed_of test) (made (λ p. (stmt_of p.0.value, stmt_of p.1.value)) branches)) }
 {
-    match both(test, branches) {
-        Ok((test, (then, otherwise))) => Ok(TypedStmt::IfElse {
-            form,
-            before,
-            test: Box::into_inner(test),
-            then,
-            otherwise,
-            span,
-        }),
-        Err(fault) => Err(fault),
-    }
+    let (test, (then, otherwise)) = both(test, branches)?;
+    Ok(TypedStmt::IfElse {
+        form,
+        before,
+        test: Box::into_inner(test),
+        then,
+        otherwise,
+        span,
+    })
 }
 
 pub fn while_stmt(
@@ -119,16 +105,14 @@ pub fn while_stmt(
 ) -> Verdict<TypedStmt>
     ensures { made stmt_of result ≡ made (while_stmt form before span) (both (made boxed_of test) (made (λ b. stmt_of b.value) body)) }
 {
-    match both(test, body) {
-        Ok((test, body)) => Ok(TypedStmt::While {
-            form,
-            before,
-            test: Box::into_inner(test),
-            body,
-            span,
-        }),
-        Err(fault) => Err(fault),
-    }
+    let (test, body) = both(test, body)?;
+    Ok(TypedStmt::While {
+        form,
+        before,
+        test: Box::into_inner(test),
+        body,
+        span,
+    })
 }
 
 pub fn do_stmt(
@@ -140,16 +124,14 @@ pub fn do_stmt(
 ) -> Verdict<TypedStmt>
     ensures { made stmt_of result ≡ made (do_stmt form before span) (both (made (λ b. stmt_of b.value) body) (made boxed_of test)) }
 {
-    match both(body, test) {
-        Ok((body, test)) => Ok(TypedStmt::Do {
-            form,
-            before,
-            body,
-            test: Box::into_inner(test),
-            span,
-        }),
-        Err(fault) => Err(fault),
-    }
+    let (body, test) = both(body, test)?;
+    Ok(TypedStmt::Do {
+        form,
+        before,
+        body,
+        test: Box::into_inner(test),
+        span,
+    })
 }
 
 /// A value that may be left out, out of its box.
@@ -197,19 +179,17 @@ pub fn for_stmt(
 ) -> Verdict<TypedStmt>
     ensures { made stmt_of result ≡ made (for_stmt form before inside span) (both (made (option_map boxed_first) first) (made (λ p. (option_map boxed_of p.0, (option_map boxed_simple p.1.0, stmt_of p.1.1.value))) rest)) }
 {
-    match both(first, rest) {
-        Ok((first, (test, (step, body)))) => Ok(TypedStmt::For {
-            form,
-            before,
-            first: first_out(first),
-            test: value_out(test),
-            step: step_out(step),
-            inside,
-            body,
-            span,
-        }),
-        Err(fault) => Err(fault),
-    }
+    let (first, (test, (step, body))) = both(first, rest)?;
+    Ok(TypedStmt::For {
+        form,
+        before,
+        first: first_out(first),
+        test: value_out(test),
+        step: step_out(step),
+        inside,
+        body,
+        span,
+    })
 }
 
 pub fn foreach_stmt(
@@ -221,16 +201,14 @@ pub fn foreach_stmt(
 ) -> Verdict<TypedStmt>
     ensures { made stmt_of result ≡ made (foreach_stmt keyword before span) (both (made (λ l. ranges_of l.items) ranges) (made (λ b. stmt_of b.value) body)) }
 {
-    match both(ranges, body) {
-        Ok((ranges, body)) => Ok(TypedStmt::Foreach {
-            keyword,
-            before,
-            ranges,
-            body,
-            span,
-        }),
-        Err(fault) => Err(fault),
-    }
+    let (ranges, body) = both(ranges, body)?;
+    Ok(TypedStmt::Foreach {
+        keyword,
+        before,
+        ranges,
+        body,
+        span,
+    })
 }
 
 pub fn active_stmt(
@@ -241,29 +219,25 @@ pub fn active_stmt(
 ) -> Verdict<TypedStmt>
     ensures { made stmt_of result ≡ made (active_stmt keyword before span) (made (λ b. stmt_of b.value) body) }
 {
-    match body {
-        Ok(body) => Ok(TypedStmt::ForeachActive {
-            keyword,
-            before,
-            index: before,
-            body,
-            span,
-        }),
-        Err(fault) => Err(fault),
-    }
+    let body = body?;
+    Ok(TypedStmt::ForeachActive {
+        keyword,
+        before,
+        index: before,
+        body,
+        span,
+    })
 }
 
 pub fn unmasked_stmt(keyword: Span, body: Verdict<TypedBlock>, span: Span) -> Verdict<TypedStmt>
     ensures { made stmt_of result ≡ made (unmasked_stmt keyword span) (made block_of body) }
 {
-    match body {
-        Ok(body) => Ok(TypedStmt::Unmasked {
-            keyword,
-            body,
-            span,
-        }),
-        Err(fault) => Err(fault),
-    }
+    let body = body?;
+    Ok(TypedStmt::Unmasked {
+        keyword,
+        body,
+        span,
+    })
 }
 
 pub fn return_stmt(
@@ -273,14 +247,12 @@ pub fn return_stmt(
 ) -> Verdict<TypedStmt>
     ensures { made stmt_of result ≡ made (return_stmt keyword span) (made (option_map boxed_of) value) }
 {
-    match value {
-        Ok(value) => Ok(TypedStmt::Return {
-            keyword,
-            value: value_out(value),
-            span,
-        }),
-        Err(fault) => Err(fault),
-    }
+    let value = value?;
+    Ok(TypedStmt::Return {
+        keyword,
+        value: value_out(value),
+        span,
+    })
 }
 
 pub fn print_stmt(
@@ -305,23 +277,19 @@ pub fn print_stmt(
 pub fn assert_stmt(test: Verdict<Box<TypedExpr>>, call_span: Span, span: Span) -> Verdict<TypedStmt>
     ensures { made stmt_of result ≡ made (assert_stmt call_span span) (made boxed_of test) }
 {
-    match test {
-        Ok(test) => Ok(TypedStmt::Assert {
-            test: Box::into_inner(test),
-            call_span,
-            span,
-        }),
-        Err(fault) => Err(fault),
-    }
+    let test = test?;
+    Ok(TypedStmt::Assert {
+        test: Box::into_inner(test),
+        call_span,
+        span,
+    })
 }
 
 pub fn braces(statements: Verdict<Vec<TypedStmt>>, span: Span) -> Verdict<TypedBlock>
     ensures { made block_of result ≡ made (braces_made span) (made t_stmts (made (λ l. stmts_of l.items) statements)) }
 {
-    match statements {
-        Ok(statements) => Ok(TypedBlock { statements, span }),
-        Err(fault) => Err(fault),
-    }
+    let statements = statements?;
+    Ok(TypedBlock { statements, span })
 }
 
 /// One more statement behind the others.

@@ -56,10 +56,7 @@ pub fn test(
 fn some<T: Drop>(found: Verdict<T>) -> Verdict<Option<T>>
     ensures { result ≡ made (λ t. Some t) found }
 {
-    match found {
-        Ok(found) => Ok(Some(found)),
-        Err(fault) => Err(fault),
-    }
+    Ok(Some(found?))
 }
 
 /// A test that may be left out.

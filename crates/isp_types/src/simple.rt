@@ -26,10 +26,8 @@ use std::alloc::{AllocError, Global};
 fn no_place(value: Verdict<Box<TypedExpr>>, span: Span) -> Verdict<TypedPlace>
     ensures { made place_of result ≡ found (no_place span) (made boxed_of value) }
 {
-    match value {
-        Ok(_) => Err(mismatch(span)),
-        Err(fault) => Err(fault),
-    }
+    value?;
+    Err(mismatch(span))
 }
 
 /// What is assigned.

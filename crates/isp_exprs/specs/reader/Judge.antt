@@ -13,8 +13,10 @@ use Rattle.isp_exprs.specs.Words.{value_said}
 use Rattle.isp_exprs.specs.Scopes.{named}
 use Rattle.isp_exprs.specs.Values.{truth_value, count_value, in_brackets, cast_to, with_sign, joined, choice}
 use Rattle.isp_exprs.specs.Places.{variable_at, element_at}
-use Rattle.isp_exprs.specs.Calls.{Heading, Handed, h_value, Passed, Called, unless_unknown, suits, first_want, rest_of, call_of, value_called, handed_call, handed_name}
-use Rattle.isp_exprs.specs.Rules.{callee_at, wants_at, past_at, handed_reference, handed_element, pair_then}
+use Rattle.isp_exprs.specs.Passing.{Handed, h_value, Passed, Called, value_called, handed_call, handed_name, handed_reference, handed_element}
+use Rattle.isp_exprs.specs.Callees.{Heading, unless_unknown}
+use Rattle.isp_exprs.specs.Calls.{suits, first_want, rest_of, call_of}
+use Rattle.isp_exprs.specs.Rules.{callee_at, wants_at, past_at, pair_then}
 
 abbrev pub judge_call : List Heading → Word → Arguments → Span → Result (List Passed) Fault → Result Called Fault
 judge_call hs w xs s v = found (call_of s) (both (unless_unknown w (callee_at hs w xs).0) v)

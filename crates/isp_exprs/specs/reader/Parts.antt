@@ -13,7 +13,7 @@ use Rattle.isp_exprs.specs.declared.calls.Passed as rust_passed
 use Rattle.isp_exprs.specs.declared.calls.Passed.TheVariants as passed
 use Rattle.isp_exprs.specs.declared.calls.Called as rust_called
 use Rattle.isp_exprs.specs.declared.calls.Called.TheVariants as called
-use Rattle.isp_exprs.specs.Calls.{Handed, h_value, h_run, h_array, h_name, h_element, Passed, p_value, p_array, p_base, p_destination, p_unasked, Called, gives, runs}
+use Rattle.isp_exprs.specs.Passing.{Handed, h_value, h_run, h_array, h_name, h_element, Passed, p_value, p_array, p_base, p_destination, p_unasked, Called, gives, runs}
 
 abbrev pub boxed_of : Box TypedExpr → TExpr
 boxed_of b = expr_of b.value

@@ -1,6 +1,7 @@
 -- What a call's name means, and what it asks, for calls that fit.
 use Rattle.std.proofs.Common.{◌≡◌, ℕ, suc, ◌+◌, Bool, true, false, cond, refl, subst, arith}
 use Rattle.std.specs.Prelude.{Option, Some, None, List, [], ◌∷◌, length, map, find, bytes_eq, option_map, slice_get, ◌==◌, ◌&&◌, if◌then◌else◌, Result}
+use Rattle.std.specs.Option.{option_or}
 use Rattle.std.specs.List.{list_all}
 use Rattle.std.proofs.lemmas.Bool.{eqb-true}
 use Rattle.isp_base.specs.declared.types.Ty.{Ty}
@@ -14,7 +15,7 @@ use Rattle.isp_exprs.specs.declared.callee.Callee.{Callee}
 use Rattle.isp_exprs.specs.declared.callee.Callee.TheVariants.{Unknown, Miscounted, Function, Library as OfLibrary, PackedStore, PackedLoad}
 use Rattle.isp_exprs.specs.declared.callee.Want.{Want}
 use Rattle.isp_exprs.specs.declared.callee.Want.TheVariants.{AnyValue, ValueOf, ArrayOf, Base, Destination, NoReference, Anything}
-use Rattle.isp_exprs.specs.Calls.{Heading, cross_library, move_library, instance_library, or_else, library_named, by_count, library_wants, is_packed, counted, function_from, of_function, of_library, callee}
+use Rattle.isp_exprs.specs.Callees.{Heading, cross_library, move_library, instance_library, library_named, by_count, library_wants, is_packed, counted, function_from, of_function, of_library, callee}
 
 -- what is asked for a parameter, by what it holds
 abbrev pub IsWant : Want → Variable → Type 0
@@ -77,7 +78,7 @@ found_one p (x ∷ es) a c e = go (λ f. found_one p es (and_true (is_library x.
     go later true e = subst (λ z. is_library z ≡ true) (some_is x.1 c e) (and_true (is_library x.1) (list_all (λ e. is_library e.1) es) a).0
     go later false e = later e
 
-either_one : (o p : Option Callee) (c : Callee) → (o ≡ Some c → is_library c ≡ true) → (p ≡ Some c → is_library c ≡ true) → or_else o p ≡ Some c → is_library c ≡ true
+either_one : (o p : Option Callee) (c : Callee) → (o ≡ Some c → is_library c ≡ true) → (p ≡ Some c → is_library c ≡ true) → option_or o p ≡ Some c → is_library c ≡ true
 either_one (Some a) p c f g e = f e
 either_one None p c f g e = g e
 

@@ -23,7 +23,11 @@ use Rattle.isp_exprs.specs.declared.callee.Callee.TheVariants.{Unknown, Miscount
 use Rattle.isp_exprs.specs.declared.callee.Want.{Want}
 use Rattle.isp_exprs.specs.declared.callee.Want.TheVariants.{AnyValue, ValueOf, ArrayOf, Base, Destination, NoReference, Anything}
 use Rattle.isp_exprs.specs.Values.{converted}
-use Rattle.isp_exprs.specs.Calls.{Heading, Passed, p_value, p_array, p_base, p_destination, first_want, rest_of, Called, gives, runs, value_called, handed_call, values_among, arguments_among, function_call, worked_in, rate_all, as_parts, library_call, packed_store, loaded, packed_load, call_of}
+use Rattle.isp_exprs.specs.Passing.{Passed, p_value, p_array, p_base, p_destination, Called, gives, runs, value_called, handed_call}
+use Rattle.isp_exprs.specs.PackedCalls.{packed_store, loaded, packed_load}
+use Rattle.isp_exprs.specs.LibraryCalls.{values_among, worked_in, rate_all, as_parts, library_call}
+use Rattle.isp_exprs.specs.Callees.{Heading}
+use Rattle.isp_exprs.specs.Calls.{first_want, rest_of, arguments_among, function_call, call_of}
 use Rattle.isp_types.proofs.fine.Callees.{AreWants, Headed, Fits}
 use Rattle.isp_types.proofs.fine.Passed.{ok_is, no_ok, IsKnown, Suited, FineHanded}
 use Rattle.isp_base.proofs.RankLaws.{same_is}

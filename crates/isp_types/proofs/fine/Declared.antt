@@ -15,7 +15,7 @@ use Rattle.isp_typed.specs.Fine.{IsDeclared, foreach_index as index, active_inde
 use Rattle.isp_exprs.specs.declared.scope.Binding.{Binding}
 use Rattle.isp_exprs.specs.declared.words.ValueWords.{ValueWords}
 use Rattle.isp_exprs.specs.Words.{value_said}
-use Rattle.isp_exprs.specs.Calls.{Heading}
+use Rattle.isp_exprs.specs.Callees.{Heading}
 use Rattle.isp_types.specs.Numbering.{item_names, item_variables, items_variables, first_variables, range_variables, names_after, variables_after, block_variables, stmts_variables}
 use Rattle.isp_types.specs.Declarations.{IsItem, AreItems}
 use Rattle.isp_types.specs.Statements.{IsFirst, IsStmt, IsBlock, AreStmts}

@@ -12,7 +12,7 @@ use Rattle.isp_typed.specs.Fine.{all_new}
 use Rattle.isp_exprs.specs.declared.scope.Binding.{Binding}
 use Rattle.isp_exprs.specs.Words.{value_said}
 use Rattle.isp_exprs.specs.Scopes.{with_name}
-use Rattle.isp_exprs.specs.Calls.{Heading, library_named}
+use Rattle.isp_exprs.specs.Callees.{Heading, library_named}
 use Rattle.isp_types.specs.Numbering.{declared}
 use Rattle.isp_types.specs.Functions.{param_variable, parameter_of, IsBody, AreFunctions}
 

@@ -14,7 +14,9 @@ use Rattle.isp_exprs.specs.declared.callee.Callee.TheVariants as callees
 use Rattle.isp_exprs.specs.declared.callee.Want.{Want}
 use Rattle.isp_exprs.specs.declared.scope.Binding.{Binding}
 use Rattle.isp_exprs.specs.Values.{joining}
-use Rattle.isp_exprs.specs.Calls.{Heading, Handed, Passed, Called, unless_unknown, first_want, rest_of}
+use Rattle.isp_exprs.specs.Passing.{Handed, Passed, Called}
+use Rattle.isp_exprs.specs.Callees.{Heading, unless_unknown}
+use Rattle.isp_exprs.specs.Calls.{first_want, rest_of}
 use Rattle.isp_exprs.specs.Rules.{count, callee_at, wants_at, past_at, IsCall, IsCallOf, IsExpr, IsPlace, IsArgument, AreArguments}
 use Rattle.isp_types.proofs.fine.Names.{InScope, named_is}
 use Rattle.isp_types.proofs.fine.Callees.{Headed, Fits, callee_fits}
@@ -33,13 +35,13 @@ unless_is w callees.Unknown d e = absurd (no_ok e)
 
 module _ (gang : Gang) (hs : List Heading) (gs : List TFunction) (all : List Variable) (ns : List Binding) (headed : Headed hs gs) (scope : InScope all ns) where
   -- a call whose arguments are fine
-  made_fine : (w : Word) (xs : Arguments) (s : Span) → InText s → (past : Want) (P : List Passed → Type 0)
-      → ((ps : List Passed) → P ps → AllSuited hs gs all past (callee_at hs w xs).1 ps × (length ps ≡ count xs))
+  made_fine : (w : Word) (xs : Arguments) (s : Span) → InText s → (P : Want → List Want → List Passed → Type 0)
+      → ((ps : List Passed) → P (past_at hs w xs) (wants_at hs w xs) ps → AllSuited hs gs all (past_at hs w xs) (wants_at hs w xs) ps × (length ps ≡ count xs))
       → (r : Called) → IsCall hs w xs s P r → FineCalled hs gs all r
-  made_fine w xs s i past P fine r p =
+  made_fine w xs s i P fine r p =
       let is = unless_is w (callee_at hs w xs).0 p.0.0 p.1.0 in
       let f = fine p.0.1 p.1.1 in
-      call_fine hs gs all s i headed (count xs) p.0.0 (callee_at hs w xs).1 (subst (λ c. Fits hs (count xs) c (callee_at hs w xs).1) is (callee_fits hs w.name (count xs))) past p.0.1 f.0 f.1 r p.2
+      call_fine hs gs all s i headed (count xs) p.0.0 (wants_at hs w xs) (subst (λ c. Fits hs (count xs) c (wants_at hs w xs)) is (callee_fits hs w.name (count xs))) (past_at hs w xs) p.0.1 f.0 f.1 r p.2
 
   mutual
     pub expr_fine : (x : Expr) → IsSoundExpr x → (t : TExpr) → IsExpr gang hs ns x t → BareExpr gs all t
@@ -48,7 +50,7 @@ module _ (gang : Gang) (hs : List Heading) (gs : List TFunction) (all : List Var
     expr_fine (program_index s) h t i = subst (BareExpr gs all) (sym i) (tt, refl)
     expr_fine (program_count s) h t i = subst (BareExpr gs all) (sym i) (count_fine gs all gang, refl)
     expr_fine (place p) h t i = subst (BareExpr gs all) (sym i.2) (place_fine p h i.0 i.1, refl)
-    expr_fine (call w xs s) h t i = value_fine hs gs all s i.0 (made_fine w xs s h.2 (past_at hs w xs) _ (λ ps. arguments_fine (past_at hs w xs) (wants_at hs w xs) xs h.1 ps) i.0 i.1) t i.2
+    expr_fine (call w xs s) h t i = value_fine hs gs all s i.0 (made_fine w xs s h.2 (AreArguments gang hs ns xs) (λ ps. arguments_fine xs (past_at hs w xs) (wants_at hs w xs) h.1 ps) i.0 i.1) t i.2
     expr_fine (brackets x s) h t i = subst (BareExpr gs all) (sym i.2) (((expr_fine x h.0 i.0 i.1).0, refl), refl)
     expr_fine (cast k x s) h t i = subst (BareExpr gs all) (sym i.2) (cast_fine gs all s i.0.0 i.0.1 (expr_fine x h.1 i.0.1 i.1.1))
     expr_fine (prefix op x s) h t i = subst (BareExpr gs all) (sym i.2) (sign_fine gs all op s i.0 (expr_fine x h.0 i.0 i.1))
@@ -64,19 +66,19 @@ module _ (gang : Gang) (hs : List Heading) (gs : List TFunction) (all : List Var
     argument_fine : (x : Argument) → IsSoundArgument x → (t : Handed) → IsArgument gang hs ns x t → FineHanded gs all t
     argument_fine (by_value (place (variable w))) h t i = subst (FineHanded gs all) (sym i.2) (handed_known gs all w.span i.0 (named_is all ns scope w i.0 i.1))
     argument_fine (by_value (call w xs s)) h t i =
-        subst (FineHanded gs all) (sym i.2) (handed_fine hs gs all i.0 (made_fine w xs s h.2 (past_at hs w xs) _ (λ ps. arguments_fine (past_at hs w xs) (wants_at hs w xs) xs h.1 ps) i.0 i.1))
+        subst (FineHanded gs all) (sym i.2) (handed_fine hs gs all i.0 (made_fine w xs s h.2 (AreArguments gang hs ns xs) (λ ps. arguments_fine xs (past_at hs w xs) (wants_at hs w xs) h.1 ps) i.0 i.1))
     argument_fine (by_value x) h t i = subst (FineHanded gs all) (sym i.2) (expr_fine x h i.0 i.1)
     argument_fine (by_reference (variable w) s) h t i = subst (FineHanded gs all) (sym i.2) (named_is all ns scope w i.0 i.1)
     argument_fine (by_reference (element w x e) s) h t i =
         subst (FineHanded gs all) (sym i.2) (named_is all ns scope w i.0.0 i.1.0, (expr_fine x h.0.1 i.0.1 i.1.1).0)
 
-    arguments_fine : (past : Want) (ws : List Want) (xs : Arguments) → AreSoundArguments xs → (ps : List Passed) → AreArguments gang hs ns past ws xs ps
+    arguments_fine : (xs : Arguments) (past : Want) (ws : List Want) → AreSoundArguments xs → (ps : List Passed) → AreArguments gang hs ns xs past ws ps
         → AllSuited hs gs all past ws ps × (length ps ≡ count xs)
-    arguments_fine past ws no_arguments h ps i = rw i (tt, refl)
-    arguments_fine past ws (argument_then x xs) h ps i =
+    arguments_fine no_arguments past ws h ps i = rw i (tt, refl)
+    arguments_fine (argument_then x xs) past ws h ps i =
         let one = i.1.0 in
-        let later = arguments_fine past (rest_of ws) xs h.1 i.0.1 i.1.1 in
+        let later = arguments_fine xs past (rest_of ws) h.1 i.0.1 i.1.1 in
         rw i.2 ((suits_fine gs all (first_want past ws) (span_of_argument x) one.0 (argument_fine x h.0 one.0 one.1) i.0.0 one.2, later.0), ap suc later.1)
 
   pub call_of_fine : (w : Word) (xs : Arguments) (s : Span) → AreSoundArguments xs → InText s → (r : Called) → IsCallOf gang hs ns w xs s r → FineCalled hs gs all r
-  call_of_fine w xs s h i r p = made_fine w xs s i (past_at hs w xs) _ (λ ps. arguments_fine (past_at hs w xs) (wants_at hs w xs) xs h ps) r p
+  call_of_fine w xs s h i r p = made_fine w xs s i (AreArguments gang hs ns xs) (λ ps. arguments_fine xs (past_at hs w xs) (wants_at hs w xs) h ps) r p

@@ -21,7 +21,8 @@ use Rattle.isp_exprs.specs.declared.words.ValueWords.{ValueWords}
 use Rattle.isp_exprs.specs.Words.{value_said, answer_said, type_declared}
 use Rattle.isp_exprs.specs.Scopes.{with_name}
 use Rattle.isp_exprs.specs.Places.{variable_at, element_at, unless_constant}
-use Rattle.isp_exprs.specs.Calls.{Heading, Called, gives, runs}
+use Rattle.isp_exprs.specs.Passing.{Called, gives, runs}
+use Rattle.isp_exprs.specs.Callees.{Heading}
 use Rattle.isp_types.specs.Numbering.{declared, or_nothing, item_names, item_variables, first_names, first_variables, range_names, range_variables, names_after, variables_after}
 use Rattle.isp_types.specs.Declarations.{IsItem, AreItems, IsDeclaration}
 use Rattle.isp_types.specs.Simple.{stated, assigned_by, assignment_operator, IsTarget, IsSimple}

@@ -17,7 +17,7 @@ use Rattle.isp_exprs.specs.declared.scope.Binding.{Binding}
 use Rattle.isp_exprs.specs.declared.words.ValueWords.{ValueWords}
 use Rattle.isp_exprs.specs.Words.{value_said, answer_said, type_declared}
 use Rattle.isp_exprs.specs.Scopes.{with_name}
-use Rattle.isp_exprs.specs.Calls.{Heading}
+use Rattle.isp_exprs.specs.Callees.{Heading}
 use Rattle.isp_types.specs.Numbering.{declared, block_variables}
 use Rattle.isp_types.specs.Functions.{param_variable, param_want, parameter_of, heading, variables_of, param_span, IsBody, IsFunction, AreFunctions, IsProgram}
 use Rattle.isp_types.proofs.NamesKept.{Grown, same, then as and_then}

@@ -20,7 +20,9 @@ use Rattle.isp_exprs.specs.declared.scope.Known.{Known}
 use Rattle.isp_exprs.specs.declared.callee.Want.{Want}
 use Rattle.isp_exprs.specs.declared.callee.Want.TheVariants.{AnyValue, ValueOf, ArrayOf, Base, Destination, NoReference, Anything}
 use Rattle.isp_exprs.specs.Places.{as_array, array_of, variable_at, element_at}
-use Rattle.isp_exprs.specs.Calls.{Handed, h_value, h_run, h_array, h_name, h_element, handed_name, Passed, p_value, p_array, p_base, p_destination, p_unasked, array_fits, base_fits, base_named, destination, suits}
+use Rattle.isp_exprs.specs.Passing.{Handed, h_value, h_run, h_array, h_name, h_element, handed_name, Passed, p_value, p_array, p_base, p_destination, p_unasked}
+use Rattle.isp_exprs.specs.PackedCalls.{base_fits, base_named, destination}
+use Rattle.isp_exprs.specs.Calls.{array_fits, suits}
 use Rattle.isp_base.proofs.RankLaws.{same_is}
 use Rattle.isp_types.proofs.fine.Values.{BareExpr, converted_elem, converted_fine}
 

@@ -27,7 +27,8 @@ use Rattle.isp_exprs.specs.Words.{value_said, type_declared}
 use Rattle.isp_exprs.specs.Scopes.{with_name}
 use Rattle.isp_exprs.specs.Values.{converted}
 use Rattle.isp_exprs.specs.Places.{array_of, variable_at, element_at, unless_constant}
-use Rattle.isp_exprs.specs.Calls.{Heading, Called, gives, runs}
+use Rattle.isp_exprs.specs.Passing.{Called, gives, runs}
+use Rattle.isp_exprs.specs.Callees.{Heading}
 use Rattle.isp_types.specs.Numbering.{size_number, item_names, item_variables, items_names, items_variables, first_names, first_variables, range_names, range_variables}
 use Rattle.isp_types.specs.Declarations.{array_sized, IsItem, AreItems, IsDeclaration}
 use Rattle.isp_types.specs.Simple.{stated, assigned_by, assignment_operator, IsTarget, IsSimple}

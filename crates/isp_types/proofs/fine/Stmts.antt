@@ -12,7 +12,7 @@ use Rattle.isp_typed.specs.Typed.{TExpr, TFirst, TSimple, TStmt, TBlock, TStmts,
 use Rattle.isp_typed.specs.Fine.{FineValue, FineFirst, FineSimple, FineReturned, FineStmt, FineBlock, FineStmts, active_index}
 use Rattle.isp_exprs.specs.declared.scope.Binding.{Binding}
 use Rattle.isp_exprs.specs.Scopes.{with_name}
-use Rattle.isp_exprs.specs.Calls.{Heading}
+use Rattle.isp_exprs.specs.Callees.{Heading}
 use Rattle.isp_types.specs.Numbering.{first_names, first_variables, range_names, range_variables, names_after, variables_after, block_variables, stmts_variables}
 use Rattle.isp_types.specs.Simple.{IsSimple}
 use Rattle.isp_types.specs.Statements.{places, IsTest, IsFirst, AreValues, IsReturned, IsStmt, IsBlock, AreStmts}

@@ -19,7 +19,7 @@ use Rattle.isp_exprs.specs.declared.scope.Known.{Known}
 use Rattle.isp_exprs.specs.declared.scope.Binding.{Binding}
 use Rattle.isp_exprs.specs.Words.{value_said}
 use Rattle.isp_exprs.specs.Scopes.{with_name}
-use Rattle.isp_exprs.specs.Calls.{Heading}
+use Rattle.isp_exprs.specs.Callees.{Heading}
 use Rattle.isp_types.specs.Numbering.{declared, block_variables}
 use Rattle.isp_types.specs.Functions.{param_variable, parameter_of, heading, variables_of, param_span, IsBody, IsFunction, AreFunctions, IsProgram}
 use Rattle.isp_types.proofs.Meanings.{none_known, known_mapped, known_added}

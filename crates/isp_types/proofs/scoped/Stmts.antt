@@ -14,7 +14,7 @@ use Rattle.isp_typed.specs.Fine.{active_index}
 use Rattle.isp_typed.specs.Scoped.{Scope, declared, ExprIn, SimpleIn, FirstAt, number_after, scope_after, number_after_first, scope_after_first, number_after_stmt, number_after_block, number_after_stmts, scope_after_stmt, StmtAt, BlockAt, StmtsAt}
 use Rattle.isp_exprs.specs.declared.scope.Binding.{Binding}
 use Rattle.isp_exprs.specs.Scopes.{with_name}
-use Rattle.isp_exprs.specs.Calls.{Heading}
+use Rattle.isp_exprs.specs.Callees.{Heading}
 use Rattle.isp_types.specs.Numbering.{first_names, first_variables, range_names, range_variables, names_after, variables_after, block_variables, stmts_variables}
 use Rattle.isp_types.specs.Simple.{IsSimple}
 use Rattle.isp_types.specs.Statements.{as_answer, IsTest, IsFirst, IsReturned, IsStmt, IsBlock, AreStmts}

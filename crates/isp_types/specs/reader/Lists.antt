@@ -14,7 +14,7 @@ use Rattle.isp_exprs.specs.declared.scope.Binding.{Binding}
 use Rattle.isp_exprs.specs.declared.words.ValueWords.{ValueWords}
 use Rattle.isp_exprs.specs.Words.{value_said, type_declared}
 use Rattle.isp_exprs.specs.Scopes.{Meaning, with_name}
-use Rattle.isp_exprs.specs.Calls.{Heading}
+use Rattle.isp_exprs.specs.Callees.{Heading}
 use Rattle.isp_types.specs.Numbering.{declared}
 use Rattle.isp_types.specs.Declarations.{array_sized, with_initial, sized_item}
 use Rattle.isp_types.specs.Functions.{param_variable, param_fits, parameter_of, param_span, is_export}

@@ -1,4 +1,4 @@
-use Rattle.isp_exprs.specs.Calls.{cross_library}
+use Rattle.isp_exprs.specs.Callees.{cross_library}
 use Rattle.isp_exprs.proofs.LibraryNames.{none_named}
 use Rattle.isp_exprs.proofs.callee.cross_named.Goals as goal
 

@@ -1,4 +1,4 @@
-use Rattle.isp_exprs.specs.Calls.{instance_library}
+use Rattle.isp_exprs.specs.Callees.{instance_library}
 use Rattle.isp_exprs.proofs.LibraryNames.{none_named}
 use Rattle.isp_exprs.proofs.callee.instance_named.Goals as goal
 

@@ -1,4 +1,4 @@
-use Rattle.isp_exprs.specs.Calls.{move_library}
+use Rattle.isp_exprs.specs.Callees.{move_library}
 use Rattle.isp_exprs.proofs.LibraryNames.{none_named}
 use Rattle.isp_exprs.proofs.callee.move_named.Goals as goal
 

@@ -1,7 +1,7 @@
 use Rattle.std.proofs.Common.{◌∙◌, ap}
 use Rattle.isp_typed.specs.declared.expr.TypedExpr.{TypedExpr}
 use Rattle.isp_typed.specs.Views.{expr_of}
-use Rattle.isp_exprs.specs.Calls.{gives}
+use Rattle.isp_exprs.specs.Passing.{gives}
 use Rattle.isp_exprs.specs.reader.Parts.{list_passed}
 use Rattle.isp_exprs.proofs.CallViews.{call_gives}
 use Rattle.isp_exprs.proofs.calls.function_call.Goals as goal

@@ -2,7 +2,7 @@ use Rattle.std.proofs.Common.{◌≡◌, IfOk, refl, subst}
 use Rattle.std.specs.Prelude.{Result}
 use Rattle.isp_lex.specs.declared.fault.Fault.{Fault}
 use Rattle.isp_typed.specs.Verdicts.{made}
-use Rattle.isp_exprs.specs.Calls.{Called}
+use Rattle.isp_exprs.specs.Passing.{Called}
 use Rattle.isp_exprs.specs.reader.Parts.{called_of}
 use Rattle.isp_exprs.proofs.CallViews.{load_no_base, load_no_variable, load_both}
 use Rattle.isp_exprs.proofs.calls.packed_load.Goals as goal

@@ -3,7 +3,7 @@ use Rattle.std.specs.Prelude.{Ok}
 use Rattle.isp_typed.specs.declared.expr.TypedExpr.{TypedExpr}
 use Rattle.isp_typed.specs.declared.variable.ArrayVariable.{ArrayVariable}
 use Rattle.isp_typed.specs.Views.{expr_of}
-use Rattle.isp_exprs.specs.Calls.{gives}
+use Rattle.isp_exprs.specs.Passing.{gives}
 use Rattle.isp_exprs.specs.Values.{converted}
 use Rattle.isp_exprs.specs.reader.Parts.{boxed_of}
 use Rattle.isp_exprs.proofs.CallViews.{store_no_base, store_no_value, store_both}

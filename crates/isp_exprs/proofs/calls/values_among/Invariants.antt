@@ -1,5 +1,5 @@
 use Rattle.std.proofs.Common.{◌≡◌}
-use Rattle.isp_exprs.specs.Calls.{values_among}
+use Rattle.isp_exprs.specs.LibraryCalls.{values_among}
 use Rattle.isp_exprs.specs.reader.Parts.{boxes_of, list_passed}
 use Rattle.isp_exprs.proofs.calls.values_among.Given as goal
 

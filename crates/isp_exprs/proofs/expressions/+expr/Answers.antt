@@ -6,7 +6,8 @@ use Rattle.isp_tree.specs.Tree.{listed, span_of_argument}
 use Rattle.isp_tree.specs.Views.{argument_of, arguments_of}
 use Rattle.isp_typed.specs.Verdicts.{found, made}
 use Rattle.isp_exprs.specs.declared.callee.Want.{Want}
-use Rattle.isp_exprs.specs.Calls.{Called, first_want, suits}
+use Rattle.isp_exprs.specs.Passing.{Called}
+use Rattle.isp_exprs.specs.Calls.{first_want, suits}
 use Rattle.isp_exprs.specs.reader.Judge.{judge_argument, judge_arguments}
 use Rattle.isp_exprs.specs.reader.Parts.{called_of, list_passed, passed_of}
 use Rattle.isp_exprs.proofs.Gathered.{before_new, beside_next}

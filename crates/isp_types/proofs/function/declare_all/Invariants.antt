@@ -6,7 +6,7 @@ use Rattle.isp_lex.specs.declared.fault.Fault.{Fault}
 use Rattle.isp_tree.specs.Tree.{Block}
 use Rattle.isp_tree.specs.Views.{param_of as read_param}
 use Rattle.isp_typed.specs.Verdicts.{beside}
-use Rattle.isp_exprs.specs.Calls.{Heading}
+use Rattle.isp_exprs.specs.Callees.{Heading}
 use Rattle.isp_types.specs.Functions.{param_variable}
 use Rattle.isp_types.specs.reader.JudgeFunctions.{judge_body}
 use Rattle.isp_types.proofs.function.declare_all.Given as goal
