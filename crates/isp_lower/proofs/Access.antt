@@ -23,13 +23,13 @@ use Rattle.isp_meaning.specs.Payloads.{Payload, One, Each, sole, spread, mapped,
 use Rattle.isp_meaning.specs.Places.{elements}
 use Rattle.isp_lower.specs.Layout.{register, mask_register, array_register}
 use Rattle.isp_lower.specs.Setting.{ArrayFitsAt, Setting, gang_of, At, Stands, at_rate, held_at}
-use Rattle.isp_lower.specs.Fits.{Reaches}
 use Rattle.isp_lower.specs.Code.{read, is_whole}
 use Rattle.isp_lower.proofs.Base.{moved_by}
 use Rattle.isp_lower.proofs.Rates.{Filled, filled_on, at_mapped, at_offender, offender_mapped, lowest_below, some_lowest}
 use Rattle.isp_lower.proofs.Values.{whole_outside, whole_element}
 use Rattle.isp_lower.proofs.Found.{whole_is}
 use Rattle.isp_lower.proofs.Lines.{set_at, value_at, unless_is, failing_is}
+use Rattle.isp_lower.specs.Rated.{Reaches}
 
 -- an index as code has it
 abbrev pub as_whole : Bool → Elem → ℕ → ℕ

@@ -13,9 +13,8 @@ use Rattle.isp_meaning.specs.Expressions.{place}
 use Rattle.isp_meaning.specs.Simple.{simple}
 use Rattle.isp_lower.specs.Setting.{Setting, IsSettled, gang_of, calls_of, AreAt, Holds}
 use Rattle.isp_lower.specs.Runs.{Enters, DoneRuns}
-use Rattle.isp_lower.specs.Fits.{ExprFits}
 use Rattle.isp_lower.specs.Code.{write, index, index_code, operand, operand_of, found, expr_places, expr_code}
-use Rattle.isp_lower.specs.Simple.{beyond, assign_code, assign_places, SimpleFits}
+use Rattle.isp_lower.specs.Simple.{assign_code, assign_places}
 use Rattle.isp_lower.proofs.Base.{are_front, are_back, spares_less}
 use Rattle.isp_lower.proofs.Found.{few}
 use Rattle.isp_lower.proofs.Nodes.{enters_part, enters_later, operand_runs}
@@ -25,6 +24,8 @@ use Rattle.isp_lower.proofs.Places.{place_runs, place_kept}
 use Rattle.isp_lower.proofs.Writes.{element_done}
 use Rattle.isp_lower.proofs.Variables.{variable_runs}
 use Rattle.isp_lower.proofs.Kept.{Keeps, runs_kept, value_still}
+use Rattle.isp_lower.proofs.Parts.{ExprParts, SimpleParts}
+use Rattle.isp_lower.specs.Asks.{beyond}
 
 -- the slot after that of an index is not below it
 pub beyond_more : (z : TPlace) (n : ℕ) → (n ≤ beyond z n) × (beyond z n ≤ n + 1)
@@ -32,7 +33,7 @@ beyond_more (t_variable v t sp) n = (omega arith, omega arith)
 beyond_more (t_element b i t sp) n = (omega arith, omega arith)
 
 module _ (w : Setting) (ready : IsSettled w) where
-  pub assign_runs : (z : TPlace) (x : TExpr) (sp : Span) (pc p k n q : ℕ) (a : Mask) (s : State) (c : Conf) → SimpleFits w (t_assign z x sp) n → AreAt w.routine.code pc (assign_code w.layout z x pc p k n) → AreAt w.code.places p (assign_places w.layout z x) → Enters w pc k n a s c q → DoneRuns w c (pc + length (assign_code w.layout z x pc p k n)) n q (simple (gang_of w) w.frame (calls_of w) (t_assign z x sp) a s)
+  pub assign_runs : (z : TPlace) (x : TExpr) (sp : Span) (pc p k n q : ℕ) (a : Mask) (s : State) (c : Conf) → SimpleParts w (t_assign z x sp) n → AreAt w.routine.code pc (assign_code w.layout z x pc p k n) → AreAt w.code.places p (assign_places w.layout z x) → Enters w pc k n a s c q → DoneRuns w c (pc + length (assign_code w.layout z x pc p k n)) n q (simple (gang_of w) w.frame (calls_of w) (t_assign z x sp) a s)
   assign_runs (t_variable v t sv) x sp pc p k n q a s c fit has places b =
       let fx : heads x ≤ 1 = few w x n fit.2 in
       variable_runs w ready t.rate t.elem v x pc p k n (64 + q) q a (tick (tick s)) c fit.0 fit.1 fit.2 has (are_front w.code.places p (expr_places w.layout x) _ places) (omega arith) (enters_part w ready pc k n (64 + q) (32 + q) a (tick s) c (omega arith) (enters_part w ready pc k n (32 + q) q a s c (omega arith) b))
@@ -69,7 +70,7 @@ module _ (w : Setting) (ready : IsSettled w) where
       subst (λ g. DoneRuns w c1 end n (ok.steps + q) (bind (checked (outside (gang_of w) w.frame g a) Index sv s2 d) (λ b s3. Gives tt (kept (gang_of w) w.frame g a b s3)))) (sym h.1)
       (element_done w ready t.rate y.ty.rate y (type_of i).elem h.0 d a s2 c1 ok2.conf ok2.steps (pc1 + length ca) end k j u n (ok.steps + q) pw sv (ready.arrays y fit.0.0).is fit.0.1 (ready.arrays y fit.0.0).few b.some b.inside ok2.comes ok2.at to (are_back w.routine.code pc1 ca last h1).0 (are_back w.code.places p1 (expr_places w.layout x) _ pl).0 ok2.stands (spares_less w n m c1 ok2.conf (omega arith) ok2.spares) (λ r g. ok2.masks r (omega arith)) (ok2.masks k (omega arith) ∙ ok.masks k lk ∙ b.mask) (omega (arith, ok2.bound)) h.2 ok2.holds.0))))
 
-  pub value_runs : (x : TExpr) (pc p k n q : ℕ) (a : Mask) (s : State) (c : Conf) → ExprFits w x n → AreAt w.routine.code pc (expr_code w.layout x pc p k n) → AreAt w.code.places p (expr_places w.layout x) → Enters w pc k n a s c q → DoneRuns w c (pc + length (expr_code w.layout x pc p k n)) n q (simple (gang_of w) w.frame (calls_of w) (t_value x) a s)
+  pub value_runs : (x : TExpr) (pc p k n q : ℕ) (a : Mask) (s : State) (c : Conf) → ExprParts w x n → AreAt w.routine.code pc (expr_code w.layout x pc p k n) → AreAt w.code.places p (expr_places w.layout x) → Enters w pc k n a s c q → DoneRuns w c (pc + length (expr_code w.layout x pc p k n)) n q (simple (gang_of w) w.frame (calls_of w) (t_value x) a s)
   value_runs x pc p k n q a s c fit has places b =
       let fx : heads x ≤ 1 = few w x n fit in
       bind_done w ready c (pc + length (expr_code w.layout x pc p k n)) n 1 q (Holds (type_of x).rate a (found w.layout x n)) (means w ready x a (tick s)) _ _ n

@@ -20,7 +20,6 @@ use Rattle.isp_meaning.specs.Outcomes.{Val, Gives, bind, value_unless_empty}
 use Rattle.isp_lower.specs.Layout.{register, mask_register}
 use Rattle.isp_lower.specs.Setting.{Setting, IsSettled, gang_of, AreAt, At, Stands, at_rate, Holds}
 use Rattle.isp_typed.specs.Typed.{TExpr}
-use Rattle.isp_lower.specs.Fits.{Reaches, first_slot, second_slot}
 use Rattle.isp_lower.specs.Runs.{Enters, Ok, Runs}
 use Rattle.isp_lower.specs.Code.{move_code, where_so, the_others, jump_on, jump_off, guard, choice, two, select, choose_rest, operand, choose_code}
 use Rattle.isp_lower.proofs.Base.{are_front, are_back, put_same, put_other, comes_none, comes_on, at_to, step_go, spares_all, spares_less}
@@ -31,6 +30,8 @@ use Rattle.isp_lower.proofs.Logic.{unless_some, unless_none, any_nobody, others_
 use Rattle.isp_lower.proofs.Jumps.{jumped, jump_comes, jump_at, masked, where_comes, others_comes, masked_at, move_ok}
 use Rattle.isp_lower.proofs.Kept.{Low, low_more, Keeps, runs_kept, unless_still}
 use Rattle.isp_meaning.specs.Loads.{no_variable, KeepsBy}
+use Rattle.isp_lower.specs.Asks.{first_slot, second_slot}
+use Rattle.isp_lower.specs.Rated.{Reaches}
 
 -- nothing anywhere
 abbrev nowhere : Map

@@ -23,11 +23,11 @@ use Rattle.isp_meaning.specs.Outcomes.{Val, Gives, Fails, Stops, bind, checked}
 use Rattle.isp_lower.specs.Layout.{register, mask_register}
 use Rattle.isp_lower.specs.Setting.{Setting, IsSettled, AreAt, At, Stands, at_rate, held_at, Holds, Spares}
 use Rattle.isp_lower.specs.Runs.{Comes, Ok, Failed, Stopped, Runs}
-use Rattle.isp_lower.specs.Fits.{Reaches}
 use Rattle.isp_lower.specs.Code.{lifted, lift_code}
 use Rattle.isp_lower.proofs.Base.{put_same, put_other, comes_on, fails_on, step_go, step_fail, next_at, at_to, moved_by, spares_less, spares_on}
 use Rattle.isp_lower.proofs.Rates.{Filled, filled_on}
 use Rattle.isp_lower.proofs.Lines.{set_at}
+use Rattle.isp_lower.specs.Rated.{Reaches}
 
 module _ (w : Setting) (ready : IsSettled w) where
   -- ---- a stretch before

@@ -33,7 +33,6 @@ use Rattle.isp_typed.specs.Typed.{TExpr, t_constant, t_program_index, t_place, t
 use Rattle.isp_lower.specs.Layout.{register, array_register}
 use Rattle.isp_lower.specs.Setting.{ArrayFits, Setting, IsSettled, gang_of, calls_of, AreAt, At, Stands, at_rate, held_at, Holds, Spares}
 use Rattle.isp_lower.specs.Runs.{Comes, Enters, Runs}
-use Rattle.isp_lower.specs.Fits.{Reaches, first_slot, second_slot, IsTyped, SpareFits, ExprFits}
 use Rattle.isp_lower.specs.Code.{convert, constant, constant_of, convert_to, part_to, lift_to, lifted, found, operand, operand_of, lift_code, is_whole, whole, whole_of, index, index_of, read, expr_places, expr_code, expr_to, select, same_rate, stays, stays_at, is_short, choose_code, choose_to}
 use Rattle.isp_lower.proofs.Base.{are_front, are_back, comes_none, at_to, moved_by, spares_all}
 use Rattle.isp_lower.proofs.Rates.{held_same, at_mapped, at_offender, filled_on}
@@ -48,6 +47,10 @@ use Rattle.isp_lower.proofs.Logic.{logic_one, logic_each}
 use Rattle.isp_lower.proofs.Targets.{Target, InSlot, target, Leaves, bind_leaves, write_leaves}
 use Rattle.isp_lower.proofs.Nodes.{enters_part, enters_later, leaf_runs, operand_runs, one_runs, pair_runs}
 use Rattle.isp_lower.proofs.Kept.{value_still}
+use Rattle.isp_lower.proofs.Parts.{ExprParts, SpareFits}
+use Rattle.isp_lower.specs.Asks.{first_slot, second_slot}
+use Rattle.isp_lower.specs.Rated.{Reaches}
+use Rattle.isp_lower.specs.Tables.{IsTyped}
 
 -- the places of a node are in the code
 abbrev PlaceIs : Setting → ℕ → Span → Type 0
@@ -97,7 +100,7 @@ module _ (w : Setting) (ready : IsSettled w) where
       (m : Payload) × (z ≡ Element y (type_of i).elem m) × Holds t.rate a (index w.layout t.rate i n) (mapped (as_whole (is_whole (type_of i).elem) (type_of i).elem) m) c
 
   -- an index as int64
-  whole_runs : (i : TExpr) (z : Bool) (pc k n q rest : ℕ) (a : Mask) (s : State) (c : Conf) (code : List Instr) → is_whole (type_of i).elem ≡ z → rest ≤ 31 + q → Enters w pc k n a s c q → ExprFits w i n → SpareFits w (type_of i).rate I64 n → AreAt w.routine.code pc (whole_of w.layout z i k n code) → (AreAt w.routine.code pc code → Runs w c (pc + length code) n (1 + rest) (Holds (type_of i).rate a (found w.layout i n)) (means i a s)) → Runs w c (pc + length (whole_of w.layout z i k n code)) n rest (Holds (type_of i).rate a (whole w.layout z i n)) (bind (means i a s) (λ m s1. Gives (mapped (as_whole z (type_of i).elem) m) s1))
+  whole_runs : (i : TExpr) (z : Bool) (pc k n q rest : ℕ) (a : Mask) (s : State) (c : Conf) (code : List Instr) → is_whole (type_of i).elem ≡ z → rest ≤ 31 + q → Enters w pc k n a s c q → ExprParts w i n → SpareFits w (type_of i).rate I64 n → AreAt w.routine.code pc (whole_of w.layout z i k n code) → (AreAt w.routine.code pc code → Runs w c (pc + length code) n (1 + rest) (Holds (type_of i).rate a (found w.layout i n)) (means i a s)) → Runs w c (pc + length (whole_of w.layout z i k n code)) n rest (Holds (type_of i).rate a (whole w.layout z i n)) (bind (means i a s) (λ m s1. Gives (mapped (as_whole z (type_of i).elem) m) s1))
   whole_runs i true pc k n q rest a s c code ez le b fit ty has run =
       runs_same (means i a s) (runs_on w ready c (pc + length code) n 1 rest _ (means i a s) (pc + length code) n _ (run has) (λ x s1 ok. ok_less w ready c _ _ n 1 rest _ s1 refl ok))
     where
@@ -107,7 +110,7 @@ module _ (w : Setting) (ready : IsSettled w) where
       runs_same (Stops s1) r = r
   whole_runs i false pc k n q rest a s c code ez le b fit ty has run = convert_runs InSlot i I64 pc k n q rest a s c code le b (found_typed w i n fit) ty has run
 
-  pub index_runs : (y : ArrayVariable) (i : TExpr) (t : Ty) (sp : Span) (pc k n q rest : ℕ) (a : Mask) (s : State) (c : Conf) (code : List Instr) → rest ≤ 30 + q → Enters w pc k n a s c q → ExprFits w i n → Reaches (type_of i).rate t.rate → SpareFits w (type_of i).rate I64 n → AreAt w.routine.code pc (index_of w.layout t.rate i k n code) → (AreAt w.routine.code pc code → Runs w c (pc + length code) n (1 + (1 + rest)) (Holds (type_of i).rate a (found w.layout i n)) (means i a s)) → Runs w c (pc + length (index_of w.layout t.rate i k n code)) n rest (PlaceHolds (t_element y i t sp) n a) (bind (means i a s) (λ m s1. Gives (Element y (type_of i).elem m) s1))
+  pub index_runs : (y : ArrayVariable) (i : TExpr) (t : Ty) (sp : Span) (pc k n q rest : ℕ) (a : Mask) (s : State) (c : Conf) (code : List Instr) → rest ≤ 30 + q → Enters w pc k n a s c q → ExprParts w i n → Reaches (type_of i).rate t.rate → SpareFits w (type_of i).rate I64 n → AreAt w.routine.code pc (index_of w.layout t.rate i k n code) → (AreAt w.routine.code pc code → Runs w c (pc + length code) n (1 + (1 + rest)) (Holds (type_of i).rate a (found w.layout i n)) (means i a s)) → Runs w c (pc + length (index_of w.layout t.rate i k n code)) n rest (PlaceHolds (t_element y i t sp) n a) (bind (means i a s) (λ m s1. Gives (Element y (type_of i).elem m) s1))
   index_runs y i t sp pc k n q rest a s c code le b fit re ty has run =
       let z = is_whole (type_of i).elem in
       let cw = whole_of w.layout z i k n code in
@@ -142,12 +145,12 @@ module _ (w : Setting) (ready : IsSettled w) where
   -- five steps are left after it, or four behind a conversion, which has no count of its own
   abbrev pub RunsHere : TExpr → Type 0
   RunsHere x =
-      (pc p k n q rest : ℕ) (a : Mask) (s : State) (c : Conf) → ExprFits w x n → AreAt w.routine.code pc (expr_code w.layout x pc p k n) → AreAt w.code.places p (expr_places w.layout x) → heads x + rest ≤ 5 + q → Enters w pc k n a s c q → Runs w c (pc + length (expr_code w.layout x pc p k n)) n rest (Holds (type_of x).rate a (found w.layout x n)) (means x a s)
+      (pc p k n q rest : ℕ) (a : Mask) (s : State) (c : Conf) → ExprParts w x n → AreAt w.routine.code pc (expr_code w.layout x pc p k n) → AreAt w.code.places p (expr_places w.layout x) → heads x + rest ≤ 5 + q → Enters w pc k n a s c q → Runs w c (pc + length (expr_code w.layout x pc p k n)) n rest (Holds (type_of x).rate a (found w.layout x n)) (means x a s)
 
   -- the node leaves its value in a slot, or in a variable
   abbrev pub NodeRuns : Target → TExpr → Type 0
   NodeRuns u z =
-      (pc p k n q rest : ℕ) (a : Mask) (s : State) (c : Conf) → ExprFits w z n → IsTyped w (type_of z).rate (target w.layout u (type_of z).rate (type_of z).elem n) (type_of z).elem → AreAt w.routine.code pc (expr_to w.layout (target w.layout u (type_of z).rate (type_of z).elem n) z pc p k n) → AreAt w.code.places p (expr_places w.layout z) → heads z + rest ≤ 5 + q → Enters w pc k n a s c q → Leaves w u (target w.layout u (type_of z).rate (type_of z).elem n) c (pc + length (expr_to w.layout (target w.layout u (type_of z).rate (type_of z).elem n) z pc p k n)) n rest (type_of z).rate a (means z a s)
+      (pc p k n q rest : ℕ) (a : Mask) (s : State) (c : Conf) → ExprParts w z n → IsTyped w (type_of z).rate (target w.layout u (type_of z).rate (type_of z).elem n) (type_of z).elem → AreAt w.routine.code pc (expr_to w.layout (target w.layout u (type_of z).rate (type_of z).elem n) z pc p k n) → AreAt w.code.places p (expr_places w.layout z) → heads z + rest ≤ 5 + q → Enters w pc k n a s c q → Leaves w u (target w.layout u (type_of z).rate (type_of z).elem n) c (pc + length (expr_to w.layout (target w.layout u (type_of z).rate (type_of z).elem n) z pc p k n)) n rest (type_of z).rate a (means z a s)
 
   pub number_node : (u : Target) (v : Value) (sp : Span) → NodeRuns u (t_constant v sp)
   number_node u v sp pc p k n q rest a s c fit ty has places le b =
@@ -251,7 +254,7 @@ module _ (w : Setting) (ready : IsSettled w) where
       choose_code w.layout (type_of e).rate t.rate t.elem x y (found w.layout e n) pc k n (expr_code w.layout e pc p k n) (λ pc1 m i. operand_of w.layout t.rate x m i (expr_code w.layout x pc1 (p + length (expr_places w.layout e)) m i)) (λ pc1 m i. operand_of w.layout t.rate y m i (expr_code w.layout y pc1 (p + length (expr_places w.layout e) + length (expr_places w.layout x)) m i))
 
   -- both sides may have code
-  long_node : (e x y : TExpr) (t : Ty) (sp : Span) → RunsHere e → RunsHere x → RunsHere y → (pc p k n q rest : ℕ) (a : Mask) (s : State) (c : Conf) → ExprFits w (t_choose e x y t sp) n → AreAt w.routine.code pc (choosing e x y t pc p k n) → AreAt w.code.places p (expr_places w.layout (t_choose e x y t sp)) → rest ≤ 5 + q → Enters w pc k n a s c q → Runs w c (pc + length (choosing e x y t pc p k n)) n rest (Holds t.rate a (w.layout.spare t.rate t.elem n)) (means (t_choose e x y t sp) a s)
+  long_node : (e x y : TExpr) (t : Ty) (sp : Span) → RunsHere e → RunsHere x → RunsHere y → (pc p k n q rest : ℕ) (a : Mask) (s : State) (c : Conf) → ExprParts w (t_choose e x y t sp) n → AreAt w.routine.code pc (choosing e x y t pc p k n) → AreAt w.code.places p (expr_places w.layout (t_choose e x y t sp)) → rest ≤ 5 + q → Enters w pc k n a s c q → Runs w c (pc + length (choosing e x y t pc p k n)) n rest (Holds t.rate a (w.layout.spare t.rate t.elem n)) (means (t_choose e x y t sp) a s)
   long_node e x y t sp ihe ihx ihy pc p k n q rest a s c fit has places le b =
       let g = (type_of e).rate in
       let n1 = first_slot g n in
@@ -272,7 +275,7 @@ module _ (w : Setting) (ready : IsSettled w) where
       (λ T s1. value_still w ready x n1 T s1 fit.6) (λ T s1. value_still w ready y n2 T s1 fit.7)
 
   -- neither side has code
-  short_on : (u : Target) (e x y : TExpr) (t : Ty) (sp : Span) → RunsHere e → t.rate ≡ (type_of e).rate → stays_at w.layout t.rate x ≡ true → stays_at w.layout t.rate y ≡ true → (pc p k n q rest : ℕ) (a : Mask) (s : State) (c : Conf) → ExprFits w e n → AreAt w.routine.code pc (expr_code w.layout e pc p k n ++ select t.rate (target w.layout u t.rate t.elem n) (found w.layout e n) (found w.layout x n) (found w.layout y n) k ∷ []) → AreAt w.code.places p (expr_places w.layout e) → rest ≤ 5 + q → Enters w pc k n a s c q → Leaves w u (target w.layout u t.rate t.elem n) c (pc + length (expr_code w.layout e pc p k n ++ select t.rate (target w.layout u t.rate t.elem n) (found w.layout e n) (found w.layout x n) (found w.layout y n) k ∷ [])) n rest t.rate a (means (t_choose e x y t sp) a s)
+  short_on : (u : Target) (e x y : TExpr) (t : Ty) (sp : Span) → RunsHere e → t.rate ≡ (type_of e).rate → stays_at w.layout t.rate x ≡ true → stays_at w.layout t.rate y ≡ true → (pc p k n q rest : ℕ) (a : Mask) (s : State) (c : Conf) → ExprParts w e n → AreAt w.routine.code pc (expr_code w.layout e pc p k n ++ select t.rate (target w.layout u t.rate t.elem n) (found w.layout e n) (found w.layout x n) (found w.layout y n) k ∷ []) → AreAt w.code.places p (expr_places w.layout e) → rest ≤ 5 + q → Enters w pc k n a s c q → Leaves w u (target w.layout u t.rate t.elem n) c (pc + length (expr_code w.layout e pc p k n ++ select t.rate (target w.layout u t.rate t.elem n) (found w.layout e n) (found w.layout x n) (found w.layout y n) k ∷ [])) n rest t.rate a (means (t_choose e x y t sp) a s)
   short_on u e x y t sp ih er ex ey pc p k n q rest a s c fit has places le b =
       let fe : heads e ≤ 1 = few w e n fit in
       short_runs w ready u t.rate t.elem (found w.layout e n) (found w.layout x n) (found w.layout y n) (means x) (means y) c pc k n rest a (means e a (tick s)) (expr_code w.layout e pc p k n) b.mask b.low b.some b.inside (there x ex) (there y ey) has
@@ -286,7 +289,7 @@ module _ (w : Setting) (ready : IsSettled w) where
           go true ed hz = subst (λ r. InPlace w r (found w.layout z n) (means z)) (sym (same_rate-is t.rate (type_of z).rate ed)) (stays_in_place w z n hz)
           go false ed hz = absurd (cc)
 
-  pub choose_node : (u : Target) (e x y : TExpr) (t : Ty) (sp : Span) → RunsHere e → is_short w.layout t.rate e x y ≡ true → (pc p k n q rest : ℕ) (a : Mask) (s : State) (c : Conf) → ExprFits w e n → AreAt w.routine.code pc (expr_code w.layout e pc p k n ++ select t.rate (target w.layout u t.rate t.elem n) (found w.layout e n) (found w.layout x n) (found w.layout y n) k ∷ []) → AreAt w.code.places p (expr_places w.layout e) → rest ≤ 5 + q → Enters w pc k n a s c q → Leaves w u (target w.layout u t.rate t.elem n) c (pc + length (expr_code w.layout e pc p k n ++ select t.rate (target w.layout u t.rate t.elem n) (found w.layout e n) (found w.layout x n) (found w.layout y n) k ∷ [])) n rest t.rate a (means (t_choose e x y t sp) a s)
+  pub choose_node : (u : Target) (e x y : TExpr) (t : Ty) (sp : Span) → RunsHere e → is_short w.layout t.rate e x y ≡ true → (pc p k n q rest : ℕ) (a : Mask) (s : State) (c : Conf) → ExprParts w e n → AreAt w.routine.code pc (expr_code w.layout e pc p k n ++ select t.rate (target w.layout u t.rate t.elem n) (found w.layout e n) (found w.layout x n) (found w.layout y n) k ∷ []) → AreAt w.code.places p (expr_places w.layout e) → rest ≤ 5 + q → Enters w pc k n a s c q → Leaves w u (target w.layout u t.rate t.elem n) c (pc + length (expr_code w.layout e pc p k n ++ select t.rate (target w.layout u t.rate t.elem n) (found w.layout e n) (found w.layout x n) (found w.layout y n) k ∷ [])) n rest t.rate a (means (t_choose e x y t sp) a s)
   choose_node u e x y t sp ih ez pc p k n q rest a s c fit has places le b = go (same_rate t.rate (type_of e).rate) (stays_at w.layout t.rate x) (stays_at w.layout t.rate y) refl refl refl ez
     where
       go : (d1 d2 d3 : Bool) → same_rate t.rate (type_of e).rate ≡ d1 → stays_at w.layout t.rate x ≡ d2 → stays_at w.layout t.rate y ≡ d3 → (d1 && (d2 && d3)) ≡ true → Leaves w u (target w.layout u t.rate t.elem n) c (pc + length (expr_code w.layout e pc p k n ++ select t.rate (target w.layout u t.rate t.elem n) (found w.layout e n) (found w.layout x n) (found w.layout y n) k ∷ [])) n rest t.rate a (means (t_choose e x y t sp) a s)
@@ -305,7 +308,7 @@ module _ (w : Setting) (ready : IsSettled w) where
       go true ez at = choose_node InSlot e x y t sp ihe ez pc p k n q rest a s c fit.5 at (are_front w.code.places p (expr_places w.layout e) _ places) (omega arith) b
       go false ez at = long_node e x y t sp ihe ihx ihy pc p k n q rest a s c fit at places (omega arith) b
 
-  pub expr_runs : (x : TExpr) (pc p k n q rest : ℕ) (a : Mask) (s : State) (c : Conf) → ExprFits w x n → AreAt w.routine.code pc (expr_code w.layout x pc p k n) → AreAt w.code.places p (expr_places w.layout x) → heads x + rest ≤ 5 + q → Enters w pc k n a s c q → Runs w c (pc + length (expr_code w.layout x pc p k n)) n rest (Holds (type_of x).rate a (found w.layout x n)) (means x a s)
+  pub expr_runs : (x : TExpr) (pc p k n q rest : ℕ) (a : Mask) (s : State) (c : Conf) → ExprParts w x n → AreAt w.routine.code pc (expr_code w.layout x pc p k n) → AreAt w.code.places p (expr_places w.layout x) → heads x + rest ≤ 5 + q → Enters w pc k n a s c q → Runs w c (pc + length (expr_code w.layout x pc p k n)) n rest (Holds (type_of x).rate a (found w.layout x n)) (means x a s)
   expr_runs (t_constant v sp) pc p k n q rest a s c fit has places le b = number_node InSlot v sp pc p k n q rest a s c fit fit has places le b
   expr_runs (t_program_index sp) pc p k n q rest a s c fit has places le b = index_node InSlot sp pc p k n q rest a s c fit fit has places le b
   expr_runs (t_place (t_variable v t sp)) pc p k n q rest a s c fit has places le b = record {

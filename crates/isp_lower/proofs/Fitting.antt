@@ -7,12 +7,12 @@ use Rattle.isp_base.specs.declared.types.Rate.{Rate}
 use Rattle.isp_base.specs.declared.types.Rate.TheVariants.{Uniform, Varying}
 use Rattle.isp_typed.specs.Typed.{TExpr, t_constant, t_program_index, t_place, t_convert, t_cast, t_unary, t_binary, t_compare, t_logic, t_choose, t_call, t_library, t_packed_store, t_packed_load, TPlace, t_variable, t_element, TItem, t_plain, t_with_value, t_with_size, TSimple, t_value, t_run, t_assign, t_update, t_step, place_type, type_of}
 use Rattle.isp_lower.specs.Setting.{Setting}
-use Rattle.isp_lower.specs.Fits.{first_slot, second_slot, LiftFits, OperandFits, ExprFits, PlaceFits, PlaceTyped}
-use Rattle.isp_lower.specs.Simple.{beyond, SimpleFits, WorkFits}
-use Rattle.isp_lower.specs.Items.{ItemFits, ItemsFit, ZeroFits}
-use Rattle.isp_lower.specs.Trees.{OperandTree, ExprTree, PlaceTree, SimpleTree, ItemTree, ItemsTree}
-use Rattle.isp_lower.specs.Tables.{Table, ExprTable, PlaceTable, SimpleTable, ItemTable, ItemsTable}
-use Rattle.isp_lower.specs.Asks.{lift_asks, operand_asks, read_asks, work_asks, zero_asks}
+use Rattle.isp_lower.specs.Tables.{Table}
+use Rattle.isp_lower.specs.Asks.{lift_asks, operand_asks, read_asks, work_asks, zero_asks, beyond, first_slot, second_slot, expr_asks, target_asks, simple_asks, item_asks, items_asks}
+use Rattle.isp_lower.proofs.Parts.{ExprParts, ItemParts, ItemsParts, LiftFits, OperandFits, PlaceParts, PlaceTyped, SimpleParts, WorkFits, ZeroFits}
+use Rattle.isp_lower.proofs.Trees.{ExprTree, ItemTree, ItemsTree, OperandTree, PlaceTree, SimpleTree}
+use Rattle.isp_lower.specs.Fits.{ExprFits, SimpleFits, ItemsFit}
+use Rattle.isp_lower.proofs.Rated.{expr_tree, simple_tree, items_tree}
 
 module _ (w : Setting) where
   -- ---- single registers
@@ -46,7 +46,7 @@ module _ (w : Setting) where
       }
 
   mutual
-    pub expr_fits : (x : TExpr) (n : ℕ) → ExprTree x → ExprTable w.routine w.layout w.function.variables x n → ExprFits w x n
+    pub expr_fits : (x : TExpr) (n : ℕ) → ExprTree x → Table w.routine w.layout w.function.variables (expr_asks x n) → ExprParts w x n
     expr_fits (t_constant v sp) n t h = h
     expr_fits (t_program_index sp) n t h = h
     expr_fits (t_place q) n t h = (place_fits q n t h.0, read_fits q n h.1)
@@ -66,11 +66,11 @@ module _ (w : Setting) where
     expr_fits (t_packed_store b x sp) n t h = absurd t
     expr_fits (t_packed_load b v sp) n t h = absurd t
 
-    place_fits : (z : TPlace) (n : ℕ) → PlaceTree z → PlaceTable w.routine w.layout w.function.variables z n → PlaceFits w z n
+    place_fits : (z : TPlace) (n : ℕ) → PlaceTree z → Table w.routine w.layout w.function.variables (target_asks z n) → PlaceParts w z n
     place_fits (t_variable v u sp) n t h = h
     place_fits (t_element b i u sp) n t h = (h.0, t.0, t.1, h.1.1.0, expr_fits i n t.2 h.1.1.1)
 
-  pub simple_fits : (x : TSimple) (n : ℕ) → SimpleTree x → SimpleTable w.routine w.layout w.function.variables x n → SimpleFits w x n
+  pub simple_fits : (x : TSimple) (n : ℕ) → SimpleTree x → Table w.routine w.layout w.function.variables (simple_asks x n) → SimpleParts w x n
   simple_fits (t_value x) n t h = expr_fits x n t h
   simple_fits (t_run c) n t h = absurd t
   simple_fits (t_assign z x sp) n t h =
@@ -82,11 +82,22 @@ module _ (w : Setting) where
       let working = work_fits (same_elem (place_type z).elem u) (place_type z).rate u (beyond z n + 1) h.1.1.1.0 in
       (record { number = t.1; target = place_fits z n t.0 h.0; working = working; back = read_fits z (beyond z n + 1) h.1.1.1.1 }, h.1.1.0.0, lift_fits Uniform (place_type z).rate u (beyond z n) h.1.1.0.1)
 
-  item_fits : (x : TItem) (n : ℕ) → ItemTree x → ItemTable w.routine w.layout w.function.variables n x → ItemFits w n x
+  item_fits : (x : TItem) (n : ℕ) → ItemTree x → Table w.routine w.layout w.function.variables (item_asks n x) → ItemParts w n x
   item_fits (t_plain v u sp) n t h = zero_fits u.rate u.elem v n h
   item_fits (t_with_value v u x sp) n t h = (h.0, operand_fits u.rate u.elem x n t.0 h.1, expr_fits x n t.1 h.1.1)
   item_fits (t_with_size b sp) n t h = h
 
-  pub items_fit : (xs : List TItem) (n : ℕ) → ItemsTree xs → ItemsTable w.routine w.layout w.function.variables n xs → ItemsFit w n xs
+  pub items_fit : (xs : List TItem) (n : ℕ) → ItemsTree xs → Table w.routine w.layout w.function.variables (items_asks n xs) → ItemsParts w n xs
   items_fit [] n t h = tt
   items_fit (x ∷ xs) n t h = (item_fits x n t.0 h.0, items_fit xs n t.1 h.1)
+
+  -- ---- what fits, part by part
+
+  pub expr_parts : (x : TExpr) (n : ℕ) → ExprFits w x n → ExprParts w x n
+  expr_parts x n fit = expr_fits x n (expr_tree w.program.functions w.function.variables x fit.fine fit.rated) fit.named
+
+  pub simple_parts : (x : TSimple) (n : ℕ) → SimpleFits w x n → SimpleParts w x n
+  simple_parts x n fit = simple_fits x n (simple_tree w.program.functions w.function.variables x fit.fine fit.rated) fit.named
+
+  pub items_parts : (xs : List TItem) (n : ℕ) → ItemsFit w n xs → ItemsParts w n xs
+  items_parts xs n fit = items_fit xs n (items_tree w.program.functions w.function.variables xs fit.fine fit.rated) fit.named

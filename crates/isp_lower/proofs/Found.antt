@@ -10,11 +10,13 @@ use Rattle.isp_typed.specs.Fine.{heads}
 use Rattle.isp_typed.specs.Typed.{TExpr, t_constant, t_program_index, t_place, t_convert, t_cast, t_unary, t_binary, t_compare, t_logic, t_choose, t_call, t_library, t_packed_store, t_packed_load, t_variable, t_element, type_of}
 use Rattle.isp_lower.specs.Setting.{Setting, IsSettled}
 use Rattle.isp_lower.specs.Code.{lifted, found, operand, constant_of, is_whole, whole, index}
-use Rattle.isp_lower.specs.Fits.{Reaches, IsTyped, LiftFits, OperandFits, ExprFits}
 use Rattle.isp_lower.proofs.Kept.{Low, low_spare, low_variable}
+use Rattle.isp_lower.proofs.Parts.{ExprParts, LiftFits, OperandFits}
+use Rattle.isp_lower.specs.Rated.{Reaches}
+use Rattle.isp_lower.specs.Tables.{IsTyped}
 
 -- a conversion converts no conversion
-pub few : (w : Setting) (x : TExpr) (n : ℕ) → ExprFits w x n → heads x ≤ 1
+pub few : (w : Setting) (x : TExpr) (n : ℕ) → ExprParts w x n → heads x ≤ 1
 few w (t_constant v sp) n f = omega arith
 few w (t_program_index sp) n f = omega arith
 few w (t_place p) n f = omega arith
@@ -64,7 +66,7 @@ module _ (w : Setting) where
   lifted_typed Varying Uniform t f n re lf ty = lf
   lifted_typed Varying Varying t f n re lf ty = ty
 
-  pub found_typed : (x : TExpr) (n : ℕ) → ExprFits w x n → IsTyped w (type_of x).rate (found w.layout x n) (type_of x).elem
+  pub found_typed : (x : TExpr) (n : ℕ) → ExprParts w x n → IsTyped w (type_of x).rate (found w.layout x n) (type_of x).elem
   found_typed (t_constant v sp) n f = f
   found_typed (t_program_index sp) n f = f
   found_typed (t_place (t_variable v t sp)) n f = f.0
@@ -82,7 +84,7 @@ module _ (w : Setting) where
   found_typed (t_packed_store b x sp) n f = absurd f
   found_typed (t_packed_load b v sp) n f = absurd f
 
-  pub operand_typed : (r : Rate) (t : Elem) (x : TExpr) (n : ℕ) → OperandFits w r t x n → ExprFits w x n → IsTyped w r (operand w.layout r x n) t
+  pub operand_typed : (r : Rate) (t : Elem) (x : TExpr) (n : ℕ) → OperandFits w r t x n → ExprParts w x n → IsTyped w r (operand w.layout r x n) t
   operand_typed r t x n o f =
       subst (λ u. IsTyped w r (lifted w.layout r (type_of x).rate u (found w.layout x n) n) t) (sym o.elem) (lifted_typed r (type_of x).rate t (found w.layout x n) n o.reaches o.lift (found_typed x n f ∙ o.elem))
 
@@ -96,7 +98,7 @@ module _ (w : Setting) (ready : IsSettled w) where
   lifted_low Varying Uniform t f n re low = spare_low Varying t n
   lifted_low Varying Varying t f n re low = low
 
-  pub found_low : (x : TExpr) (n : ℕ) → ExprFits w x n → Low w.layout (type_of x).rate (n + 1) (found w.layout x n)
+  pub found_low : (x : TExpr) (n : ℕ) → ExprParts w x n → Low w.layout (type_of x).rate (n + 1) (found w.layout x n)
   found_low (t_constant v sp) n f = spare_low Uniform v.elem n
   found_low (t_program_index sp) n f = spare_low Varying I32 n
   found_low (t_place (t_variable v t sp)) n f = low_variable w.layout t.rate (n + 1) v
@@ -113,12 +115,12 @@ module _ (w : Setting) (ready : IsSettled w) where
   found_low (t_packed_store b x sp) n f = absurd f
   found_low (t_packed_load b v sp) n f = absurd f
 
-  pub operand_low : (r : Rate) (t : Elem) (x : TExpr) (n : ℕ) → OperandFits w r t x n → ExprFits w x n → Low w.layout r (n + 1) (operand w.layout r x n)
+  pub operand_low : (r : Rate) (t : Elem) (x : TExpr) (n : ℕ) → OperandFits w r t x n → ExprParts w x n → Low w.layout r (n + 1) (operand w.layout r x n)
   operand_low r t x n o f = lifted_low r (type_of x).rate (type_of x).elem (found w.layout x n) n o.reaches (found_low x n f)
 
-  whole_low : (z : Bool) (i : TExpr) (n : ℕ) → ExprFits w i n → Low w.layout (type_of i).rate (n + 1) (whole w.layout z i n)
+  whole_low : (z : Bool) (i : TExpr) (n : ℕ) → ExprParts w i n → Low w.layout (type_of i).rate (n + 1) (whole w.layout z i n)
   whole_low true i n f = found_low i n f
   whole_low false i n f = spare_low (type_of i).rate I64 n
 
-  pub index_low : (r : Rate) (i : TExpr) (n : ℕ) → Reaches (type_of i).rate r → ExprFits w i n → Low w.layout r (n + 1) (index w.layout r i n)
+  pub index_low : (r : Rate) (i : TExpr) (n : ℕ) → Reaches (type_of i).rate r → ExprParts w i n → Low w.layout r (n + 1) (index w.layout r i n)
   index_low r i n re f = lifted_low r (type_of i).rate I64 (whole w.layout (is_whole (type_of i).elem) i n) n re (whole_low (is_whole (type_of i).elem) i n f)

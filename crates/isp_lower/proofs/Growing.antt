@@ -8,10 +8,11 @@ use Rattle.isp_typed.specs.Views.{item_of, items_of}
 use Rattle.isp_typed.specs.declared.stmt.TypedItem as rust
 use Rattle.isp_typed.specs.declared.variable.ArrayVariable.{ArrayVariable}
 use Rattle.isp_lower.specs.Asks.{Ask, Nothing, Both, Register, ArrayOf, LocalOf, MaskOf, Number, All, item_asks, items_asks}
-use Rattle.isp_lower.specs.Emitted.{rows_of, Begins, Grows, HasArray, HasRow}
+use Rattle.isp_lower.specs.Emitted.{rows_of, Begins, Grows, HasRow}
 use Rattle.isp_lower.specs.Asks.{first_slot, second_slot}
-use Rattle.isp_lower.specs.Reserved.{Has, Gives}
-use Rattle.isp_lower.specs.Rows.{Name, Variable, Row, number_in, elem_in}
+use Rattle.isp_lower.specs.Reserved.{Gives, HasSpare, IsReserved}
+use Rattle.isp_lower.specs.Rows.{Name, Variable, Result, Spare, Fresh, Row, number_in, elem_in}
+use Rattle.isp_lower.specs.Tables.{AnyArray}
 use Rattle.isp_lower.specs.declared.registers.Registers.{Registers}
 use Rattle.isp_lower.specs.declared.reserve.Reserve.{Reserve}
 use Rattle.isp_lower.proofs.Rows.{rows_stay}
@@ -58,16 +59,19 @@ module _ (H H1 : Rate → Name → Elem → Type 0) (A A1 L L1 : ArrayVariable �
   all_grow (MaskOf k) f = masks k f
   all_grow (Number k) f = f
 
-row_grows : (a b : Registers) → Grows a b → (r : Rate) (x : Name) (t : Elem) → HasRow a r x t → HasRow b r x t
+pub row_grows : (a b : Registers) → Grows a b → (r : Rate) (x : Name) (t : Elem) → HasRow a r x t → HasRow b r x t
 row_grows a b g Uniform x t e = (stays_in (rows_of a).scalars (rows_of b).scalars x t g.scalars e).1
 row_grows a b g Varying x t e = (stays_in (rows_of a).vectors (rows_of b).vectors x t g.vectors e).1
 
-array_grows : (a b : Registers) → Grows a b → (v : ArrayVariable) → HasArray a v → HasArray b v
-array_grows a b g v e = (stays_in (rows_of a).arrays (rows_of b).arrays (Variable v.number) v.ty.elem g.arrays e).1
+spare_grows : (a b : Registers) → Grows a b → (r : Rate) (x : Name) (t : Elem) → HasSpare a r x t → HasSpare b r x t
+spare_grows a b g r (Variable v) t e = tt
+spare_grows a b g r Result t e = tt
+spare_grows a b g r (Spare u j) t e = row_grows a b g r (Spare u j) t e
+spare_grows a b g r (Fresh j) t e = row_grows a b g r (Fresh j) t e
 
-pub has_grows : (a b : Reserve) → Grows a.registers b.registers → a.masks ≤ b.masks → (x : Ask) → Has a x → Has b x
+pub has_grows : (a b : Reserve) → Grows a.registers b.registers → a.masks ≤ b.masks → (x : Ask) → IsReserved a x → IsReserved b x
 has_grows a b g m x f =
-    all_grow (HasRow a.registers) (HasRow b.registers) (HasArray a.registers) (HasArray b.registers) (HasArray a.registers) (HasArray b.registers) (λ k. k < a.masks) (λ k. k < b.masks) (row_grows a.registers b.registers g) (array_grows a.registers b.registers g) (array_grows a.registers b.registers g) (λ k l. omega (arith, l, m)) x f
+    all_grow (HasSpare a.registers) (HasSpare b.registers) AnyArray AnyArray AnyArray AnyArray (λ k. k < a.masks) (λ k. k < b.masks) (spare_grows a.registers b.registers g) (λ v z. z) (λ v z. z) (λ k l. omega (arith, l, m)) x f
 
 -- ---- the walk: what one call gives and then another one is given
 

@@ -26,7 +26,7 @@ use Rattle.isp_lower.specs.Layout.{mask_register, array_register}
 use Rattle.isp_lower.specs.Setting.{ArrayFitsAt, Setting, IsSettled, gang_of, calls_of, AreAt, Holds}
 use Rattle.isp_lower.specs.Runs.{Enters, Ok, DoneRuns}
 use Rattle.isp_lower.specs.Code.{constant}
-use Rattle.isp_lower.specs.Items.{zero_code, item_code, item_places, items_code, items_places, ZeroFits, ItemFits, ItemsFit}
+use Rattle.isp_lower.specs.Items.{zero_code, item_code, item_places, items_code, items_places}
 use Rattle.isp_lower.proofs.Base.{are_front, are_back, comes_none, next_at, at_to, spares_all}
 use Rattle.isp_lower.proofs.Values.{wrap_bits}
 use Rattle.isp_lower.proofs.Found.{few}
@@ -36,6 +36,7 @@ use Rattle.isp_lower.proofs.Nodes.{enters_part}
 use Rattle.isp_lower.proofs.Variables.{variable_runs}
 use Rattle.isp_lower.proofs.Writes.{put_through, written_stands, step_done}
 use Rattle.isp_lower.proofs.Done.{done_after, done_on, variable_spares, splat_done}
+use Rattle.isp_lower.proofs.Parts.{ItemParts, ItemsParts, ZeroFits}
 
 zero_is : (t : Elem) → wrap t (number t 0) ≡ 0
 zero_is Truth = wrap_bits Truth 0
@@ -90,14 +91,14 @@ module _ (w : Setting) (ready : IsSettled w) where
 
   -- ---- items
 
-  item_runs : (x : TItem) (pc p k n q : ℕ) (a : Mask) (s : State) (c : Conf) → ItemFits w n x → AreAt w.routine.code pc (item_code w.layout x pc p k n) → AreAt w.code.places p (item_places w.layout x) → Enters w pc k n a s c q → DoneRuns w c (pc + length (item_code w.layout x pc p k n)) n q (item (gang_of w) w.frame (calls_of w) x a s)
+  item_runs : (x : TItem) (pc p k n q : ℕ) (a : Mask) (s : State) (c : Conf) → ItemParts w n x → AreAt w.routine.code pc (item_code w.layout x pc p k n) → AreAt w.code.places p (item_places w.layout x) → Enters w pc k n a s c q → DoneRuns w c (pc + length (item_code w.layout x pc p k n)) n q (item (gang_of w) w.frame (calls_of w) x a s)
   item_runs (t_plain v t sp) pc p k n q a s c fit has places b = zero_runs t.rate t.elem v pc k n q a s c fit has b
   item_runs (t_with_value v t x sp) pc p k n q a s c fit has places b =
       let fx : heads x ≤ 1 = few w x n fit.2 in
       variable_runs w ready t.rate t.elem v x pc p k n (32 + q) q a (tick s) c fit.0 fit.1 fit.2 has places (omega arith) (enters_part w ready pc k n (32 + q) q a s c (omega arith) b)
   item_runs (t_with_size y sp) pc p k n q a s c fit has places b = cleared_runs y.ty.rate y pc k n q a s c (ready.arrays y fit).is has.0 b
 
-  pub items_run : (xs : List TItem) (pc p k n q : ℕ) (a : Mask) (s : State) (c : Conf) → ItemsFit w n xs → AreAt w.routine.code pc (items_code w.layout xs pc p k n) → AreAt w.code.places p (items_places w.layout xs) → Enters w pc k n a s c q → DoneRuns w c (pc + length (items_code w.layout xs pc p k n)) n q (items (gang_of w) w.frame (calls_of w) xs a s)
+  pub items_run : (xs : List TItem) (pc p k n q : ℕ) (a : Mask) (s : State) (c : Conf) → ItemsParts w n xs → AreAt w.routine.code pc (items_code w.layout xs pc p k n) → AreAt w.code.places p (items_places w.layout xs) → Enters w pc k n a s c q → DoneRuns w c (pc + length (items_code w.layout xs pc p k n)) n q (items (gang_of w) w.frame (calls_of w) xs a s)
   items_run [] pc p k n q a s c fit has places b = record {
     conf = c;
     steps = 0;

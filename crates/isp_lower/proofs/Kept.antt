@@ -20,7 +20,8 @@ use Rattle.isp_meaning.proofs.Loads.{same, variables_stay}
 use Rattle.isp_lower.specs.Layout.{Layout}
 use Rattle.isp_lower.specs.Setting.{Setting, IsSettled, gang_of, calls_of, Stands, Spares, held_at}
 use Rattle.isp_lower.specs.Runs.{Runs}
-use Rattle.isp_lower.specs.Fits.{first_slot, second_slot, ExprFits}
+use Rattle.isp_lower.proofs.Parts.{ExprParts}
+use Rattle.isp_lower.specs.Asks.{first_slot, second_slot}
 
 -- the register of a variable, or a spare one of a slot below n
 abbrev pub Low : Layout → Rate → ℕ → ℕ → Type 0
@@ -90,7 +91,7 @@ module _ (w : Setting) where
   -- ---- values that change no variable
 
   -- code has no packed loads yet
-  pub no_loads : (x : TExpr) (n v : ℕ) → ExprFits w x n → loads x v ≡ false
+  pub no_loads : (x : TExpr) (n v : ℕ) → ExprParts w x n → loads x v ≡ false
   no_loads (t_constant u sp) n v f = refl
   no_loads (t_program_index sp) n v f = refl
   no_loads (t_place (t_variable u t sp)) n v f = refl
@@ -125,6 +126,6 @@ module _ (w : Setting) where
       go false = same no_variable s
 
 module _ (w : Setting) (ready : IsSettled w) where
-  pub value_still : (x : TExpr) (n : ℕ) (a : Mask) (s : State) → ExprFits w x n → KeepsBy no_variable s (value (gang_of w) w.frame (calls_of w) x a s)
+  pub value_still : (x : TExpr) (n : ℕ) (a : Mask) (s : State) → ExprParts w x n → KeepsBy no_variable s (value (gang_of w) w.frame (calls_of w) x a s)
   value_still x n a s f =
       still_by w (loads x) s _ (λ v. no_loads w x n v f) (subst (λ u. KeepsBy (loads x) s (value (gang_width u) w.frame (calls_of w) x a s)) (sym ready.gang) (variables_stay w.program w.turns w.left w.frame x a s))

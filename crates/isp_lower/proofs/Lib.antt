@@ -27,9 +27,13 @@ pub mod Variables
 pub mod Assigns
 pub mod Updates
 pub mod Items
+pub mod Trees
+pub mod Parts
+pub mod Rated
 pub mod Fitting
 pub mod Rows
-pub mod Held
+pub mod Own
+pub mod FirstRows
 pub mod Numbers
 pub mod SoundLines
 pub mod SoundFound
@@ -38,3 +42,7 @@ pub mod SoundExprs
 pub mod SoundSimples
 pub mod Counts
 pub mod Lookup
+mod Headers
+mod Naming
+mod Aparts
+mod NamedThere

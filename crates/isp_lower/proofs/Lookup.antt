@@ -1,14 +1,15 @@
 -- Rows of registers, and a map that tells where the first row of each name stands.
-use Rattle.std.proofs.Common.{◌≡◌, ◌<◌, ℕ, zero, suc, map, subst, ◌+◌, length, List, [], ◌∷◌, ◌++◌, Some, None, Bool, true, false, refl, sym, ap, ◌∙◌, arith, eqb-true}
+use Rattle.std.proofs.Common.{◌≡◌, ◌<◌, ℕ, zero, suc, map, subst, ◌+◌, length, List, [], ◌∷◌, ◌++◌, Some, None, Bool, true, false, refl, sym, ap, ◌∙◌, ◌≢◌, arith, eqb-true, eq-eqb, ne_eqb, get_or, take}
 use Rattle.std.specs.Prelude.{◌==◌, if◌then◌else◌, Option, IfSome, IfNone, is_some, slice_get, cond, nat_lt}
 use Rattle.std.specs.BTreeMap.{BTreeMap, get}
 use Rattle.std.specs.Ordering.{nat_cmp, is_eq}
 use Rattle.std.specs.declared.cmp.Ordering.TheVariants.{Less, Equal, Greater}
-use Rattle.std.proofs.lemmas.List.{map-append, length-map}
+use Rattle.std.proofs.lemmas.List.{map-append, length-map, length-take-le}
+use Rattle.std.proofs.lemmas.Option.{slice_get-get_or}
 use Rattle.std.proofs.lemmas.Cmp.{tied_itself, nat_cmp_total}
 use Rattle.isp_base.specs.declared.types.Elem.{Elem}
-use Rattle.isp_lower.specs.Lookup.{Tells, name_of, row_of}
-use Rattle.isp_lower.specs.Rows.{Name, Row, name_number, number_in, elem_in}
+use Rattle.isp_lower.specs.Lookup.{AreNamedFrom, IsNamedAt, Tells, name_of, row_of}
+use Rattle.isp_lower.specs.Rows.{Name, Variable, Result, Spare, Fresh, Row, name_number, number_in, elem_in, with_fresh}
 use Rattle.isp_lower.specs.declared.registers.RegisterRow.{RegisterRow}
 use Rattle.isp_lower.proofs.Rows.{rows_stay}
 
@@ -169,3 +170,59 @@ below (z ∷ rows) x t e = go (name_number z.name == name_number x) (below rows 
 
 pub number_below : (rows : List RegisterRow) (x : Name) (t : Elem) → elem_in (map row_of rows) x ≡ Some t → number_in (map row_of rows) x < length rows
 number_below rows x t e = omega (arith, below (map row_of rows) x t e, length-map rows row_of)
+
+-- ---- fresh registers
+
+named_more : (n : ℕ) (rows : List Row) (r : Row) → AreNamedFrom n rows → IsNamedAt (n + length rows) r.name → AreNamedFrom n (rows ++ r ∷ [])
+named_more n [] r h at = let e : n + 0 ≡ n = omega arith in (subst (λ m. IsNamedAt m r.name) e at, tt)
+named_more n (y ∷ ys) r h at =
+    let e : n + length (y ∷ ys) ≡ suc n + length ys = omega arith in
+    (h.0, named_more (suc n) ys r h.1 (subst (λ m. IsNamedAt m r.name) e at))
+
+pub pushed_named : (rows new : List RegisterRow) (r : RegisterRow) → new ≡ rows ++ r ∷ [] → AreNamedFrom 0 (map row_of rows) → IsNamedAt (length rows) (name_of r.name) → AreNamedFrom 0 (map row_of new)
+pushed_named rows new r e h at =
+    let k : length rows ≡ 0 + length (map row_of rows) = omega (arith, length-map rows row_of) in
+    subst (AreNamedFrom 0) (sym (ap (map row_of) e ∙ map-append row_of rows (r ∷ [])))
+    (named_more 0 (map row_of rows) (row_of r) h (subst (λ m. IsNamedAt m (name_of r.name)) k at))
+
+other_name : (x : Name) (n m : ℕ) → IsNamedAt n x → n < m → name_number x ≢ name_number (Fresh m)
+other_name (Variable v) n m h lt = λ e. omega (arith, e)
+other_name Result n m h lt = λ e. omega (arith, e)
+other_name (Spare t j) n m h lt = λ e. omega (arith, e)
+other_name (Fresh j) n m h lt = λ e. omega (arith, e, h, lt)
+
+fresh_last : (n m : ℕ) (rows : List Row) (t : Elem) → AreNamedFrom n rows → n + length rows ≡ m → number_in (rows ++ (record { name = Fresh m; elem = t }) ∷ []) (Fresh m) ≡ length rows
+fresh_last n m [] t h e = ap (λ b. if b then 0 else 1 + name_number (Fresh m)) (eq-eqb (name_number (Fresh m)) (name_number (Fresh m)) refl)
+fresh_last n m (y ∷ ys) t h e =
+    let step : 1 + length ys ≡ length (y ∷ ys) = omega arith in
+    ap (λ b. if b then 0 else 1 + number_in (ys ++ (record { name = Fresh m; elem = t }) ∷ []) (Fresh m)) (ne_eqb (name_number y.name) (name_number (Fresh m)) (other_name y.name n m h.0 (omega (arith, e))))
+    ∙ ap (λ z. 1 + z) (fresh_last (suc n) m ys t h.1 (omega (arith, e))) ∙ step
+
+-- one more row, of a fresh register
+module _ (rows new : List RegisterRow) (r : RegisterRow) (t : Elem) (all : new ≡ rows ++ r ∷ []) (is : row_of r ≡ record { name = Fresh (length rows); elem = t }) where
+  pub fresh_added : map row_of new ≡ with_fresh t (map row_of rows)
+  fresh_added =
+      ap (map row_of) all ∙ map-append row_of rows (r ∷ []) ∙ ap (λ (z : Row). map row_of rows ++ z ∷ []) is
+      ∙ ap (λ n. map row_of rows ++ (record { name = Fresh n; elem = t }) ∷ []) (sym (length-map rows row_of))
+
+  pub fresh_number : AreNamedFrom 0 (map row_of rows) → number_in (map row_of new) (Fresh (length rows)) ≡ length rows
+  fresh_number h =
+      let n = length-map rows row_of in
+      ap (λ zs. number_in zs (Fresh (length rows))) (ap (map row_of) all ∙ map-append row_of rows (r ∷ []) ∙ ap (λ (z : Row). map row_of rows ++ z ∷ []) is)
+      ∙ fresh_last 0 (length rows) (map row_of rows) t h (omega (arith, n)) ∙ n
+
+named_in : (n : ℕ) (rows : List RegisterRow) (at : ℕ) (r : RegisterRow) → slice_get rows at ≡ Some r → AreNamedFrom n (map row_of rows) → IsNamedAt (n + at) (name_of r.name)
+named_in n [] at r e h = none_some (sym e)
+named_in n (y ∷ ys) zero r e h =
+    let k : n ≡ n + 0 = omega arith in
+    subst (λ m. IsNamedAt m (name_of r.name)) k (subst (λ (z : RegisterRow). IsNamedAt n (name_of z.name)) (some_same e) h.0)
+named_in n (y ∷ ys) (suc at) r e h =
+    let k : suc n + at ≡ n + suc at = omega arith in
+    subst (λ m. IsNamedAt m (name_of r.name)) k (named_in (suc n) ys at r e h.1)
+
+-- the next row of those that are added one by one
+pub named_next : (all rows : List RegisterRow) (at : ℕ) (d : RegisterRow) → all ≡ take at rows → at < length rows → AreNamedFrom 0 (map row_of rows) → IsNamedAt (length all) (name_of (get_or rows at d).name)
+named_next all rows at d is lt h =
+    let n : length all ≡ at = ap length is ∙ length-take-le at rows (omega (arith, lt)) in
+    let k : 0 + at ≡ length all = omega (arith, n) in
+    subst (λ m. IsNamedAt m (name_of (get_or rows at d).name)) k (named_in 0 rows at (get_or rows at d) (slice_get-get_or rows at d lt) h)

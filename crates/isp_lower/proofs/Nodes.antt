@@ -17,7 +17,6 @@ use Rattle.isp_meaning.specs.Outcomes.{Val, Gives, bind, checked}
 use Rattle.isp_typed.specs.Typed.{TExpr, type_of}
 use Rattle.isp_lower.specs.Setting.{Setting, IsSettled, AreAt, at_rate, held_at, Holds}
 use Rattle.isp_lower.specs.Runs.{Enters, Ok, Runs}
-use Rattle.isp_lower.specs.Fits.{OperandFits}
 use Rattle.isp_lower.specs.Code.{found, operand, operand_of, lift_code, pair_code}
 use Rattle.isp_lower.proofs.Base.{are_back, comes_none, moved_by, spares_all, spares_less}
 use Rattle.isp_lower.proofs.Rates.{Filled, at_mapped, at_joined, filled_mapped, filled_joined}
@@ -26,6 +25,7 @@ use Rattle.isp_lower.proofs.Combine.{lift_runs}
 use Rattle.isp_lower.proofs.Targets.{Target, target, Leaves, leaves_after, bind_leaves, write_sure}
 use Rattle.isp_lower.proofs.Kept.{Low, runs_kept, held_kept}
 use Rattle.isp_meaning.specs.Loads.{no_variable, KeepsBy}
+use Rattle.isp_lower.proofs.Parts.{OperandFits}
 
 module _ (w : Setting) (ready : IsSettled w) where
   pub enters_less : (pc k n z q : ℕ) (a : Mask) (s : State) (c : Conf) → z ≤ q → Enters w pc k n a s c q → Enters w pc k n a s c z

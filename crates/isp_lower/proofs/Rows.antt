@@ -10,10 +10,10 @@ use Rattle.isp_base.specs.declared.types.Rate.TheVariants.{Uniform, Varying}
 use Rattle.isp_code.specs.Listing.{Routine}
 use Rattle.isp_code.specs.Registers.{table_of, types_in, count_of}
 use Rattle.isp_lower.specs.Layout.{IsApart, class_at}
-use Rattle.isp_lower.specs.Rows.{Name, Variable, Result, Spare, name_number, Row, number_in, elem_in, Rows, rows_at, layout_of, numbered, HasRow}
+use Rattle.isp_lower.specs.Rows.{Name, Variable, Result, Spare, Fresh, name_number, Row, number_in, elem_in, Rows, rows_at, layout_of, numbered, HasRow}
 use Rattle.isp_lower.specs.Sound.{IsRegister, HasRegister}
 use Rattle.isp_lower.specs.Setting.{Setting}
-use Rattle.isp_lower.specs.Fits.{IsTyped}
+use Rattle.isp_lower.specs.Tables.{IsTyped}
 
 -- names with one number are one name
 one_number : (rows : List Row) (x y : Name) → number_in rows x ≡ number_in rows y → name_number x ≡ name_number y
@@ -44,11 +44,15 @@ layout_apart rows = record {
   variable_spare = λ r t v j e. let h = one_number (rows_at rows r) (Variable v) (Spare t j) e in omega (arith, h);
   result_variable = λ r v e. let h = one_number (rows_at rows r) Result (Variable v) e in omega (arith, h);
   result_spare = λ r t j e. let h = one_number (rows_at rows r) Result (Spare t j) e in omega (arith, h);
+  freshes = λ r i j ne e. let h = one_number (rows_at rows r) (Fresh i) (Fresh j) e in ne (omega (arith, h));
+  variable_fresh = λ r v j e. let h = one_number (rows_at rows r) (Variable v) (Fresh j) e in omega (arith, h);
+  result_fresh = λ r j e. let h = one_number (rows_at rows r) Result (Fresh j) e in omega (arith, h);
+  spare_fresh = λ r t i j e. let h = one_number (rows_at rows r) (Spare t i) (Fresh j) e in omega (arith, h);
   arrays = λ v w ne e. let h = one_number rows.arrays (Variable v) (Variable w) e in ne (omega (arith, h));
 }
 
 -- the type of a row stands at its number
-row_typed : (rows : List Row) (x : Name) (t : Elem) → elem_in rows x ≡ Some t → slice_get (map (λ y. y.elem) rows) (number_in rows x) ≡ Some t
+pub row_typed : (rows : List Row) (x : Name) (t : Elem) → elem_in rows x ≡ Some t → slice_get (map (λ y. y.elem) rows) (number_in rows x) ≡ Some t
 row_typed [] x t e = absurd (cc)
 row_typed (z ∷ rows) x t e = go (name_number z.name == name_number x) (row_typed rows x t) e
   where
@@ -77,6 +81,7 @@ numbered_in : (rows : Rows) (r : Rate) (x : Name) → number_in (rows_at rows r)
 numbered_in rows r (Variable v) = refl
 numbered_in rows r Result = refl
 numbered_in rows r (Spare t j) = refl
+numbered_in rows r (Fresh j) = refl
 
 count_at : (h : Routine) (r : Rate) → length (types_in (table_of h) (class_at r)) ≡ count_of h (class_at r)
 count_at h Uniform = refl

@@ -11,13 +11,13 @@ use Rattle.isp_typed.specs.Typed.{TExpr, t_constant, t_program_index, t_place, t
 use Rattle.isp_typed.specs.declared.variable.ArrayVariable.{ArrayVariable}
 use Rattle.isp_lower.specs.Layout.{Layout}
 use Rattle.isp_lower.specs.Code.{compare, unary, operate, operate_places, select, part_to, lift_to, found, operand, operand_of, index, choose_to, is_short, expr_places, index_places, read_places, expr_to, index_code, read_code, expr_code}
-use Rattle.isp_lower.specs.Fits.{Reaches}
 use Rattle.isp_lower.specs.Asks.{expr_asks, first_slot, operand_asks, second_slot, target_asks}
-use Rattle.isp_lower.specs.Trees.{OperandTree, ExprTree, PlaceTree}
 use Rattle.isp_lower.specs.Sound.{AreSound, PartSound, IsRegister, HasArray, Granted}
 use Rattle.isp_lower.proofs.SoundLines.{IsArray, array_is, unary_sound, compare_sound, operate_sound, read_sound, constant_sound, index_sound as lane_sound}
 use Rattle.isp_lower.proofs.SoundFound.{part_there, found_there, operand_there, index_there}
 use Rattle.isp_lower.proofs.SoundParts.{few_front, few_back, Here, AnyMask, here_both, here_then, pair_sound, logic_sound, lift_to_sound, operand_sound, convert_to_sound, index_sound, choose_sound, short_sound}
+use Rattle.isp_lower.proofs.Trees.{ExprTree, OperandTree, PlaceTree}
+use Rattle.isp_lower.specs.Rated.{Reaches}
 
 module _ (code : Listing) (h : Routine) (l : Layout) where
   -- the places are there that some trees name

@@ -9,13 +9,13 @@ use Rattle.isp_code.specs.Listing.{Routine}
 use Rattle.isp_typed.specs.Typed.{TExpr, t_constant, t_program_index, t_place, t_convert, t_cast, t_unary, t_binary, t_compare, t_logic, t_choose, t_call, t_library, t_packed_store, t_packed_load, TPlace, t_variable, t_element, place_type, type_of}
 use Rattle.isp_lower.specs.Layout.{Layout}
 use Rattle.isp_lower.specs.Code.{same_rate, is_whole, lifted, part_to, place_found, found, operand, whole, index, stays, stays_at}
-use Rattle.isp_lower.specs.Fits.{Reaches}
-use Rattle.isp_lower.specs.Trees.{OperandTree, ExprTree}
 use Rattle.isp_lower.specs.Asks.{expr_asks, index_asks, lift_asks, operand_asks, whole_asks}
 use Rattle.isp_lower.specs.Sound.{IsRegister, Granted}
 use Rattle.isp_lower.proofs.Found.{whole_is}
 use Rattle.isp_lower.proofs.Short.{same_rate-is}
 use Rattle.isp_lower.proofs.Stayed.{stays_same}
+use Rattle.isp_lower.proofs.Trees.{ExprTree, OperandTree}
+use Rattle.isp_lower.specs.Rated.{Reaches}
 
 pub both_first : (a b : Bool) → (a && b) ≡ true → a ≡ true
 both_first true b e = refl

@@ -15,14 +15,14 @@ use Rattle.isp_typed.specs.Typed.{TExpr, type_of}
 use Rattle.isp_typed.specs.declared.variable.Logic.{Logic}
 use Rattle.isp_lower.specs.Layout.{Layout}
 use Rattle.isp_lower.specs.Code.{convert, copy, select, jump_on, jump_off, decided, guard, choice, move_code, same_rate, is_whole, constant_of, needing, pair_code, logic_code, choose_rest, the_others, lift_code, lift_to, convert_to, found, operand, operand_of, whole, whole_of, index_of, choose_code, stays_at, is_short}
-use Rattle.isp_lower.specs.Fits.{Reaches}
 use Rattle.isp_lower.specs.Asks.{expr_asks, first_slot, index_asks, lift_asks, operand_asks, second_slot, sides_ask, test_asks, whole_asks}
-use Rattle.isp_lower.specs.Trees.{OperandTree, ExprTree}
 use Rattle.isp_lower.specs.Sound.{IsSound, AreSound, IsRegister, Granted}
 use Rattle.isp_lower.proofs.Found.{constant_is_one}
 use Rattle.isp_lower.proofs.Short.{same_rate-is}
 use Rattle.isp_lower.proofs.SoundFound.{both_first, both_second, lift_there, found_there, whole_there, stayed_there}
 use Rattle.isp_lower.proofs.SoundLines.{convert_sound, copy_sound, constant_sound, splat_sound, select_sound, where_sound, others_sound, off_sound, decided_sound, jump_sound, sound_both, move_sound, needing_sound}
+use Rattle.isp_lower.proofs.Trees.{ExprTree, OperandTree}
+use Rattle.isp_lower.specs.Rated.{Reaches}
 
 -- ---- lengths
 

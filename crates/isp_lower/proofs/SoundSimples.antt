@@ -12,14 +12,15 @@ use Rattle.isp_lower.specs.Layout.{Layout}
 use Rattle.isp_lower.specs.Code.{copy, operate_places, write, part_to, lift_to, found, operand, operand_of, index, writes_part, writes_last, expr_places, index_places, expr_to, expr_code, index_code, variable_from, variable_code}
 use Rattle.isp_lower.specs.Items.{zero_code, item_code, item_places, items_code, items_places}
 use Rattle.isp_lower.specs.Asks.{beyond, change_asks, item_asks, items_asks, operand_asks, simple_asks, step_asks, target_asks, work_asks, zero_asks}
-use Rattle.isp_lower.specs.Simple.{IsNumber, update_to, change_code, change_places, one_in, one_code, assign_code, assign_places, change_by_code, step_code, simple_code, simple_places}
+use Rattle.isp_lower.specs.Simple.{update_to, change_code, change_places, one_in, one_code, assign_code, assign_places, change_by_code, step_code, simple_code, simple_places}
 use Rattle.isp_lower.specs.Sound.{AreSound, PartSound, IsRegister, Granted}
-use Rattle.isp_lower.specs.Trees.{OperandTree, ExprTree, PlaceTree, SimpleTree, ItemTree, ItemsTree}
 use Rattle.isp_lower.proofs.Splits.{same_elem-is}
 use Rattle.isp_lower.proofs.SoundExprs.{Named, array_there, expr_sound, place_sound, part_sound, value_sound}
 use Rattle.isp_lower.proofs.SoundFound.{part_there, lift_there, found_there, operand_there, index_there}
 use Rattle.isp_lower.proofs.SoundLines.{copy_sound, convert_sound, operate_sound, read_sound, write_sound, constant_sound, splat_sound, sound_both}
 use Rattle.isp_lower.proofs.SoundParts.{few_front, few_back, Here, here_both, here_then, lift_sound, lift_to_sound}
+use Rattle.isp_lower.proofs.Parts.{IsNumber}
+use Rattle.isp_lower.proofs.Trees.{ExprTree, ItemTree, ItemsTree, OperandTree, PlaceTree, SimpleTree}
 
 module _ (code : Listing) (h : Routine) (l : Layout) where
   -- ---- a register of a variable gets a value

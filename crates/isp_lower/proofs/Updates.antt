@@ -43,9 +43,8 @@ use Rattle.isp_lower.proofs.Nodes.{enters_part, enters_later, operand_runs}
 use Rattle.isp_lower.specs.Layout.{register}
 use Rattle.isp_lower.specs.Setting.{Setting, IsSettled, gang_of, calls_of, AreAt, At, Stands, at_rate, held_at, Holds}
 use Rattle.isp_lower.specs.Runs.{Runs, Ok}
-use Rattle.isp_lower.specs.Fits.{IsTyped, SpareFits}
 use Rattle.isp_lower.specs.Code.{convert, operate, operate_places}
-use Rattle.isp_lower.specs.Simple.{IsNumber, WorkFits, ChangeFits, SimpleFits, beyond, update_to, change_code, change_by_code, change_places, one_in, one_code, step_code, simple_code, simple_places}
+use Rattle.isp_lower.specs.Simple.{update_to, change_code, change_by_code, change_places, one_in, one_code, step_code, simple_code, simple_places}
 use Rattle.isp_lower.proofs.Base.{are_front, are_back, comes_none, moved_by, spares_all, spares_less}
 use Rattle.isp_lower.proofs.Rates.{at_mapped, at_joined, at_offender, filled_mapped, filled_joined}
 use Rattle.isp_lower.proofs.Lines.{set_at, value_at, convert_line, operate_at}
@@ -55,6 +54,9 @@ use Rattle.isp_lower.proofs.Writes.{element_done}
 use Rattle.isp_lower.proofs.Nodes.{one_runs}
 use Rattle.isp_lower.proofs.Values.{number_is, wrap_bits}
 use Rattle.isp_lower.proofs.Kept.{Low, low_spare, Keeps, runs_kept, kept_same, keeps_on, held_kept, checked_still, value_still}
+use Rattle.isp_lower.proofs.Parts.{ChangeFits, IsNumber, SimpleParts, SpareFits, WorkFits}
+use Rattle.isp_lower.specs.Asks.{beyond}
+use Rattle.isp_lower.specs.Tables.{IsTyped}
 
 plainly : (t : Elem) (z : ℤ) → IsNumber t → convert_bits t z ≡ wrap t z
 plainly Truth z n = absurd n
@@ -217,7 +219,7 @@ module _ (w : Setting) (ready : IsSettled w) where
 
   -- ---- `op=`
 
-  pub change_by_runs : (o : BinOp) (t : Elem) (z : TPlace) (x : TExpr) (sp : Span) (pc p k n q : ℕ) (a : Mask) (s : State) (c : Conf) → SimpleFits w (t_update o t z x sp) n → AreAt w.routine.code pc (change_by_code w.layout o t z x pc p k n) → AreAt w.code.places p (simple_places w.layout (t_update o t z x sp)) → Enters w pc k n a s c q → DoneRuns w c (pc + length (change_by_code w.layout o t z x pc p k n)) n q (simple (gang_of w) w.frame (calls_of w) (t_update o t z x sp) a s)
+  pub change_by_runs : (o : BinOp) (t : Elem) (z : TPlace) (x : TExpr) (sp : Span) (pc p k n q : ℕ) (a : Mask) (s : State) (c : Conf) → SimpleParts w (t_update o t z x sp) n → AreAt w.routine.code pc (change_by_code w.layout o t z x pc p k n) → AreAt w.code.places p (simple_places w.layout (t_update o t z x sp)) → Enters w pc k n a s c q → DoneRuns w c (pc + length (change_by_code w.layout o t z x pc p k n)) n q (simple (gang_of w) w.frame (calls_of w) (t_update o t z x sp) a s)
   change_by_runs o t z x sp pc p k n q a s c fit has places b =
       let r = (place_type z).rate in
       let m = beyond z n in
@@ -263,7 +265,7 @@ module _ (w : Setting) (ready : IsSettled w) where
       (write_runs w ready c c 0 pc (pc + 1) m (1 + q) a s (constant d t 1) Uniform t None Divide no_place (One 1) (One 1) (comes_none w c) at refl has.0 st (spares_all w m c) (λ g l. refl) (omega (arith, us)) refl refl
       (ap (λ u. Go (set_at Uniform c d (One (wrap u (number t 1))))) ty ∙ ap (λ z. Go (set_at Uniform c d (One z))) (one_is t num))))
 
-  pub step_runs : (o : BinOp) (t : Elem) (z : TPlace) (sp : Span) (pc p k n q : ℕ) (a : Mask) (s : State) (c : Conf) → SimpleFits w (t_step o t z sp) n → AreAt w.routine.code pc (step_code w.layout o t z pc p k n) → AreAt w.code.places p (simple_places w.layout (t_step o t z sp)) → Enters w pc k n a s c q → DoneRuns w c (pc + length (step_code w.layout o t z pc p k n)) n q (simple (gang_of w) w.frame (calls_of w) (t_step o t z sp) a s)
+  pub step_runs : (o : BinOp) (t : Elem) (z : TPlace) (sp : Span) (pc p k n q : ℕ) (a : Mask) (s : State) (c : Conf) → SimpleParts w (t_step o t z sp) n → AreAt w.routine.code pc (step_code w.layout o t z pc p k n) → AreAt w.code.places p (simple_places w.layout (t_step o t z sp)) → Enters w pc k n a s c q → DoneRuns w c (pc + length (step_code w.layout o t z pc p k n)) n q (simple (gang_of w) w.frame (calls_of w) (t_step o t z sp) a s)
   step_runs o t z sp pc p k n q a s c fit has places b =
       let r = (place_type z).rate in
       let m = beyond z n in
@@ -290,7 +292,7 @@ module _ (w : Setting) (ready : IsSettled w) where
       (subst (λ g. DoneRuns w ok2.conf g n (ok2.steps + (ok.steps + q)) (update (gang_of w) w.frame (calls_of w) o t z at (One 1) sp a s1)) to
       (change_runs o t z sp at (One 1) (pc1 + length ca) p1 k n (m + 1) y (ok2.steps + (ok.steps + q)) a s1 ok2.conf fit.0 (omega arith) (omega (arith, more.0)) lk (lifted_low w ready r Uniform t (w.layout.spare Uniform t m) m tt (low_spare w.layout Uniform t (m + 1) m (omega arith))) ok2.at (ok2.masks k (omega (arith, more.0)) ∙ e1) b.some b.inside ok2.stands (omega (arith, ok2.bound)) (place_kept w ready z n a at c1 ok2.conf fit.0.target (kept_same w m c1 ok2.conf s1 ok.stands ok2.stands ok2.spares) ok.holds) ok2.holds (are_back w.routine.code pc1 ca last h1) (are_back w.code.places p (index_places w.layout z) _ places)))))
 
-  pub simple_runs : (x : TSimple) (pc p k n q : ℕ) (a : Mask) (s : State) (c : Conf) → SimpleFits w x n → AreAt w.routine.code pc (simple_code w.layout x pc p k n) → AreAt w.code.places p (simple_places w.layout x) → Enters w pc k n a s c q → DoneRuns w c (pc + length (simple_code w.layout x pc p k n)) n q (simple (gang_of w) w.frame (calls_of w) x a s)
+  pub simple_runs : (x : TSimple) (pc p k n q : ℕ) (a : Mask) (s : State) (c : Conf) → SimpleParts w x n → AreAt w.routine.code pc (simple_code w.layout x pc p k n) → AreAt w.code.places p (simple_places w.layout x) → Enters w pc k n a s c q → DoneRuns w c (pc + length (simple_code w.layout x pc p k n)) n q (simple (gang_of w) w.frame (calls_of w) x a s)
   simple_runs (t_value x) pc p k n q a s c fit has places b = value_runs w ready x pc p k n q a s c fit has places b
   simple_runs (t_run e) pc p k n q a s c fit has places b = absurd fit
   simple_runs (t_assign z x sp) pc p k n q a s c fit has places b = assign_runs w ready z x sp pc p k n q a s c fit has places b

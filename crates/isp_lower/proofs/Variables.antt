@@ -14,7 +14,6 @@ use Rattle.isp_meaning.specs.Outcomes.{Val, Gives, bind}
 use Rattle.isp_meaning.specs.Places.{written}
 use Rattle.isp_lower.specs.Setting.{Setting, IsSettled, AreAt, Holds}
 use Rattle.isp_lower.specs.Runs.{Enters, Runs, DoneRuns}
-use Rattle.isp_lower.specs.Fits.{Reaches, IsTyped, OperandFits, ExprFits}
 use Rattle.isp_lower.specs.Code.{copy, part_to, lift_to, writes_part, writes_last, found, operand, operand_of, expr_places, expr_code, expr_to, is_short, choose_to, variable_from, variable_code}
 use Rattle.isp_lower.proofs.Base.{are_front, are_back}
 use Rattle.isp_lower.proofs.Done.{bind_done, variable_done, splat_done}
@@ -22,6 +21,9 @@ use Rattle.isp_lower.proofs.Found.{few}
 use Rattle.isp_lower.proofs.Targets.{InVariable}
 use Rattle.isp_lower.proofs.Nodes.{enters_part, operand_runs}
 use Rattle.isp_lower.proofs.Exprs.{means, NodeRuns, number_node, index_node, element_node, convert_node, unary_node, binary_node, compare_node, choose_node, expr_runs}
+use Rattle.isp_lower.proofs.Parts.{ExprParts, OperandFits}
+use Rattle.isp_lower.specs.Rated.{Reaches}
+use Rattle.isp_lower.specs.Tables.{IsTyped}
 
 module _ (w : Setting) (ready : IsSettled w) where
   -- a part that may be of another rate
@@ -73,7 +75,7 @@ module _ (w : Setting) (ready : IsSettled w) where
   direct_runs v (t_packed_store d x sp) e pc p k n q rest a s c fit ty has places le b = absurd (cc)
   direct_runs v (t_packed_load d u sp) e pc p k n q rest a s c fit ty has places le b = absurd (cc)
 
-  pub variable_runs : (r : Rate) (e : Elem) (v : ℕ) (x : TExpr) (pc p k n q rest : ℕ) (a : Mask) (s : State) (c : Conf) → IsTyped w r (w.layout.variable r v) e → OperandFits w r e x n → ExprFits w x n → AreAt w.routine.code pc (variable_code w.layout r v x pc p k n) → AreAt w.code.places p (expr_places w.layout x) → heads x + rest ≤ 3 + q → Enters w pc k n a s c q → DoneRuns w c (pc + length (variable_code w.layout r v x pc p k n)) n rest (bind (means w ready x a s) (λ m s1. Gives tt (written r v a m s1)))
+  pub variable_runs : (r : Rate) (e : Elem) (v : ℕ) (x : TExpr) (pc p k n q rest : ℕ) (a : Mask) (s : State) (c : Conf) → IsTyped w r (w.layout.variable r v) e → OperandFits w r e x n → ExprParts w x n → AreAt w.routine.code pc (variable_code w.layout r v x pc p k n) → AreAt w.code.places p (expr_places w.layout x) → heads x + rest ≤ 3 + q → Enters w pc k n a s c q → DoneRuns w c (pc + length (variable_code w.layout r v x pc p k n)) n rest (bind (means w ready x a s) (λ m s1. Gives tt (written r v a m s1)))
   variable_runs r e v x pc p k n q rest a s c ty ofit fit has places le b = go (writes_part w.layout r (type_of x).rate (writes_last w.layout x)) refl has
     where
       d : ℕ

@@ -34,11 +34,11 @@ use Rattle.isp_base.specs.declared.trap.TrapKind.{TrapKind}
 use Rattle.isp_code.specs.declared.instr.Instr.{Instr}
 use Rattle.isp_meaning.specs.Outcomes.{Gives, bind, checked}
 use Rattle.isp_lower.specs.Runs.{Comes, DoneRuns}
-use Rattle.isp_lower.specs.Fits.{Reaches}
 use Rattle.isp_lower.specs.Code.{is_whole}
 use Rattle.isp_lower.proofs.Access.{as_whole, size_at, outside_is, index_element, same_elements, one_inside, map_of}
 use Rattle.isp_lower.proofs.Rates.{at_offender}
 use Rattle.isp_lower.proofs.Lines.{set_at, value_at, unless_is, failing_is, place_named}
+use Rattle.isp_lower.specs.Rated.{Reaches}
 
 -- functions that agree, changed at one place each, where one numbers the other
 pub put_through : {A : Type 0} (f g : ℕ → A) (h : ℕ → ℕ) (d : ℕ) (x y : A) → ((u v : ℕ) → u ≢ v → h u ≢ h v) → ((u : ℕ) → f (h u) ≡ g u) → x ≡ y → (u : ℕ) → put f (h d) x (h u) ≡ put g d y u

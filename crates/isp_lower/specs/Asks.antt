@@ -119,6 +119,9 @@ abbrev mutual
 abbrev pub operand_asks : Rate → TExpr → ℕ → Ask
 operand_asks r x n = taken r x n (expr_asks x n)
 
+abbrev pub operands_asks : Rate → TExpr → TExpr → ℕ → Ask
+operands_asks r x y n = pair_asks r x y n (expr_asks x n) (expr_asks y (n + 1))
+
 -- ---- what stands before a semicolon
 
 -- an operator works in slot i where its type is not that of the place

@@ -94,3 +94,7 @@ Present on a = All (HasRow on.registers.now) (HasArray on.registers.now) (HasArr
 pub record Appends (old new : Body) (c : ℕ → ℕ → List Instr) (s : List Span) : Type 0 where
   pub code : new.code.items ≡ old.code.items ++ c (length old.code.items) (length old.places.items)
   pub places : new.places.items ≡ old.places.items ++ s
+
+pub record Unchanged (old new : Body) : Type 0 where
+  pub code : new.code.items ≡ old.code.items
+  pub places : new.places.items ≡ old.places.items

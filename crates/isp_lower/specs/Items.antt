@@ -6,13 +6,9 @@ use Rattle.isp_base.specs.declared.types.Elem.{Elem}
 use Rattle.isp_base.specs.declared.types.Span.{Span}
 use Rattle.isp_code.specs.declared.instr.Instr.{Instr}
 use Rattle.isp_code.specs.declared.instr.Instr.TheVariants as instr
-use Rattle.isp_typed.specs.Fine.{HoldsArray}
 use Rattle.isp_typed.specs.Typed.{TItem, t_plain, t_with_value, t_with_size}
 use Rattle.isp_lower.specs.Layout.{Layout, mask_register, array_register}
-use Rattle.isp_lower.specs.Setting.{Setting}
 use Rattle.isp_lower.specs.Code.{constant, splat, two, expr_places, variable_code}
-use Rattle.isp_lower.specs.Fits.{IsTyped, IsNamed, OperandFits, ExprFits}
-use Rattle.isp_lower.specs.Presence.{ZeroHas}
 
 module _ (l : Layout) where
   -- a variable begins with 0
@@ -37,16 +33,3 @@ module _ (l : Layout) where
   abbrev pub items_places : List TItem → List Span
   items_places [] = []
   items_places (x ∷ xs) = item_places x ++ items_places xs
-
-module _ (w : Setting) where
-  abbrev pub ZeroFits : Rate → Elem → ℕ → ℕ → Type 0
-  ZeroFits r t v n = ZeroHas (IsNamed w) r t v n
-
-  abbrev pub ItemFits : ℕ → TItem → Type 0
-  ItemFits n (t_plain v t sp) = ZeroFits t.rate t.elem v n
-  ItemFits n (t_with_value v t x sp) = IsTyped w t.rate (w.layout.variable t.rate v) t.elem × OperandFits w t.rate t.elem x n × ExprFits w x n
-  ItemFits n (t_with_size b sp) = HoldsArray w.function.variables b
-
-  abbrev pub ItemsFit : ℕ → List TItem → Type 0
-  ItemsFit n [] = Unit {0}
-  ItemsFit n (x ∷ xs) = ItemFits n x × ItemsFit n xs

@@ -2,7 +2,10 @@
 use Rattle.std.specs.Prelude.{◌≡◌, ℕ, List, ◌+◌, ◌++◌, length, map, Some}
 use Rattle.isp_base.specs.Sets.{Mask}
 use Rattle.isp_code.specs.Conf.{Conf}
-use Rattle.isp_typed.specs.Typed.{TExpr, TSimple, TItem, type_of}
+use Rattle.std.specs.List.{All}
+use Rattle.isp_typed.specs.Fine.{FineExpr, FineSimple, FineItem}
+use Rattle.isp_typed.specs.Typed.{TExpr, TSimple, TItem, TFunction, type_of}
+use Rattle.isp_typed.specs.declared.variable.Variable.{Variable}
 use Rattle.isp_meaning.specs.State.{State}
 use Rattle.isp_meaning.specs.Expressions.{value}
 use Rattle.isp_meaning.specs.Simple.{simple, items}
@@ -12,14 +15,14 @@ use Rattle.isp_code.specs.Registers.{table_of, types_in}
 use Rattle.isp_code.specs.Listing.{Listing, Routine}
 use Rattle.isp_lower.specs.Layout.{Layout, IsApart, class_at}
 use Rattle.isp_lower.specs.Rows.{Name, Row, Rows, rows_at, number_in, elem_in, layout_of, HasRow}
-use Rattle.isp_lower.specs.Trees.{ExprTree, SimpleTree, ItemsTree}
-use Rattle.isp_lower.specs.Tables.{ExprTable, SimpleTable, ItemsTable}
+use Rattle.isp_lower.specs.Rated.{IsRated, SimpleRated, ItemsRated}
+use Rattle.isp_lower.specs.Tables.{IsTyped}
 use Rattle.isp_lower.specs.Sound.{PartSound, IsRegister, HasRegister, ExprPresent, SimplePresent, ItemsPresent}
-use Rattle.isp_lower.specs.Items.{items_code, items_places, ItemsFit}
-use Rattle.isp_lower.specs.Simple.{simple_code, simple_places, SimpleFits}
+use Rattle.isp_lower.specs.Items.{items_code, items_places}
+use Rattle.isp_lower.specs.Simple.{simple_code, simple_places}
 use Rattle.isp_lower.specs.Setting.{Setting, IsSettled, gang_of, calls_of, AreAt, Holds}
 use Rattle.isp_lower.specs.Runs.{Enters, Runs, DoneRuns}
-use Rattle.isp_lower.specs.Fits.{IsTyped, ExprFits}
+use Rattle.isp_lower.specs.Fits.{ExprFits, SimpleFits, ItemsFit}
 use Rattle.isp_lower.specs.Code.{found, expr_places, expr_code}
 
 -- From registers that stand for a state and a mask that stands for a set with members, the code of an expression gives
@@ -41,11 +44,6 @@ abbrev pub ItemsRun : Type 0
 ItemsRun =
     (w : Setting) → IsSettled w → (xs : List TItem) (pc p k n q : ℕ) (a : Mask) (s : State) (c : Conf) → ItemsFit w n xs → AreAt w.routine.code pc (items_code w.layout xs pc p k n) → AreAt w.code.places p (items_places w.layout xs) → Enters w pc k n a s c q → DoneRuns w c (pc + length (items_code w.layout xs pc p k n)) n q (items (gang_of w) w.frame (calls_of w) xs a s)
 
--- What code asks is what it asks of trees, and what it asks of the table of registers.
-abbrev pub PartsFit : Type 0
-PartsFit =
-    (w : Setting) (n : ℕ) → ((x : TExpr) → ExprTree x → ExprTable w.routine w.layout w.function.variables x n → ExprFits w x n) × ((x : TSimple) → SimpleTree x → SimpleTable w.routine w.layout w.function.variables x n → SimpleFits w x n) × ((xs : List TItem) → ItemsTree xs → ItemsTable w.routine w.layout w.function.variables n xs → ItemsFit w n xs)
-
 -- A layout from rows gives each name a register of its own.
 abbrev pub LayoutsAreApart : Type 0
 LayoutsAreApart = (rows : Rows) → IsApart (layout_of rows)
@@ -65,16 +63,16 @@ abbrev pub RowsStay : Type 0
 RowsStay =
     (rows more : List Row) (x : Name) (t : Elem) → elem_in rows x ≡ Some t → (number_in (rows ++ more) x ≡ number_in rows x) × (elem_in (rows ++ more) x ≡ Some t)
 
--- The code of a tree has its operands, where the registers that it asks for are there; and so is the register in which
--- the value of an expression is found, with the expression's type.
+-- The code of a tree has its operands, where names, types and rates accept it and the registers that it asks for are there; and so
+-- is the register in which the value of an expression is found, with the expression's type.
 pub record ExprSound : Type 0 where
-  pub part : (code : Listing) (h : Routine) (l : Layout) (x : TExpr) (n : ℕ) → ExprTree x → ExprPresent h l x n → PartSound code h (expr_places l x) (λ pc p k. expr_code l x pc p k n)
-  pub there : (h : Routine) (l : Layout) (x : TExpr) (n : ℕ) → ExprTree x → ExprPresent h l x n → IsRegister h (type_of x).rate (found l x n) (type_of x).elem
+  pub part : (fs : List TFunction) (vars : List Variable) (code : Listing) (h : Routine) (l : Layout) (x : TExpr) (n : ℕ) → FineExpr fs vars x → IsRated x → ExprPresent h l x n → PartSound code h (expr_places l x) (λ pc p k. expr_code l x pc p k n)
+  pub there : (fs : List TFunction) (vars : List Variable) (h : Routine) (l : Layout) (x : TExpr) (n : ℕ) → FineExpr fs vars x → IsRated x → ExprPresent h l x n → IsRegister h (type_of x).rate (found l x n) (type_of x).elem
 
 abbrev pub SimpleSound : Type 0
 SimpleSound =
-    (code : Listing) (h : Routine) (l : Layout) (x : TSimple) (n : ℕ) → SimpleTree x → SimplePresent h l x n → PartSound code h (simple_places l x) (λ pc p k. simple_code l x pc p k n)
+    (fs : List TFunction) (vars : List Variable) (code : Listing) (h : Routine) (l : Layout) (x : TSimple) (n : ℕ) → FineSimple fs vars x → SimpleRated x → SimplePresent h l x n → PartSound code h (simple_places l x) (λ pc p k. simple_code l x pc p k n)
 
 abbrev pub ItemsSound : Type 0
 ItemsSound =
-    (code : Listing) (h : Routine) (l : Layout) (xs : List TItem) (n : ℕ) → ItemsTree xs → ItemsPresent h l n xs → PartSound code h (items_places l xs) (λ pc p k. items_code l xs pc p k n)
+    (fs : List TFunction) (vars : List Variable) (code : Listing) (h : Routine) (l : Layout) (xs : List TItem) (n : ℕ) → All (FineItem fs vars) xs → ItemsRated xs → ItemsPresent h l n xs → PartSound code h (items_places l xs) (λ pc p k. items_code l xs pc p k n)

@@ -1,6 +1,7 @@
 -- The registers of a function's frame. A uniform variable is a scalar register, a varying one a vector register, and so
 -- are what the function gives back and the spare registers of each type. Spare registers come in slots, which code uses
--- as a stack; slot j has mask register j too. Each of these is another register.
+-- as a stack; slot j has mask register j too. Fresh registers are those that no tree asks for. Each of these is another
+-- register.
 use Rattle.std.specs.Prelude.{◌≢◌, ℕ}
 use Rattle.isp_base.specs.declared.types.Elem.{Elem}
 use Rattle.isp_base.specs.declared.types.Rate.{Rate}
@@ -13,6 +14,7 @@ pub record Layout : Type 0 where
   pub variable : Rate → ℕ → ℕ
   pub result : Rate → ℕ
   pub spare : Rate → Elem → ℕ → ℕ
+  pub fresh : Rate → ℕ → ℕ
   pub array : ℕ → ℕ
 
 pub record IsApart (l : Layout) : Type 0 where
@@ -21,6 +23,10 @@ pub record IsApart (l : Layout) : Type 0 where
   pub variable_spare : (r : Rate) (t : Elem) (v j : ℕ) → l.variable r v ≢ l.spare r t j
   pub result_variable : (r : Rate) (v : ℕ) → l.result r ≢ l.variable r v
   pub result_spare : (r : Rate) (t : Elem) (j : ℕ) → l.result r ≢ l.spare r t j
+  pub freshes : (r : Rate) (i j : ℕ) → i ≢ j → l.fresh r i ≢ l.fresh r j
+  pub variable_fresh : (r : Rate) (v j : ℕ) → l.variable r v ≢ l.fresh r j
+  pub result_fresh : (r : Rate) (j : ℕ) → l.result r ≢ l.fresh r j
+  pub spare_fresh : (r : Rate) (t : Elem) (i j : ℕ) → l.spare r t i ≢ l.fresh r j
   pub arrays : (v w : ℕ) → v ≢ w → l.array v ≢ l.array w
 
 abbrev pub class_at : Rate → Class

@@ -1,13 +1,76 @@
--- What a walk reserves: what was there stays, and what is asked for is there.
-use Rattle.std.specs.Prelude.{◌<◌, ◌≤◌}
-use Rattle.isp_lower.specs.Asks.{Ask, All}
+-- What a walk reserves: what was there stays, and what is asked for is there. The variables of a function and what it gives
+-- back have their registers from its beginning, so of these nothing is reserved.
+use Rattle.std.specs.Prelude.{◌≡◌, ◌<◌, ◌≤◌, ℕ, List, Option, Some, slice_get}
+use Rattle.isp_base.specs.declared.types.Elem.{Elem}
+use Rattle.isp_base.specs.declared.types.Rate.{Rate}
+use Rattle.isp_base.specs.declared.types.Ty.{Ty}
+use Rattle.isp_typed.specs.Fine.{HoldsArray, HoldsValue}
+use Rattle.isp_typed.specs.Typed.{ty_of}
+use Rattle.isp_typed.specs.declared.variable.ArrayVariable.{ArrayVariable}
+use Rattle.isp_typed.specs.declared.variable.Holds.TheVariants as holds
+use Rattle.isp_typed.specs.declared.variable.Variable as declared
+use Rattle.isp_lower.specs.Asks.{Ask, Nothing, Both, Register, ArrayOf, LocalOf, MaskOf, Number, All}
 use Rattle.isp_lower.specs.Emitted.{Grows, HasArray, HasRow}
+use Rattle.isp_lower.specs.Rows as row
+use Rattle.isp_lower.specs.Rows.{Name, Variable, Result, Spare, Fresh, Rows, elem_in}
+use Rattle.isp_lower.specs.Tables.{AnyArray}
+use Rattle.isp_lower.specs.declared.registers.Registers.{Registers}
 use Rattle.isp_lower.specs.declared.reserve.Reserve.{Reserve}
 
 abbrev pub Has : Reserve → Ask → Type 0
 Has r a = All (HasRow r.registers) (HasArray r.registers) (HasArray r.registers) (λ k. k < r.masks) a
 
+-- a register is there if it is a spare one
+abbrev pub HasSpare : Registers → Rate → Name → Elem → Type 0
+HasSpare r rate (Variable v) t = Unit {0}
+HasSpare r rate Result t = Unit {0}
+HasSpare r rate (Spare u j) t = HasRow r rate (Spare u j) t
+HasSpare r rate (Fresh j) t = HasRow r rate (Fresh j) t
+
+abbrev pub IsReserved : Reserve → Ask → Type 0
+IsReserved r a = All (HasSpare r.registers) AnyArray AnyArray (λ k. k < r.masks) a
+
 pub record Gives (old new : Reserve) (a : Ask) : Type 0 where
   pub rows : Grows old.registers new.registers
   pub masks : old.masks ≤ new.masks
-  pub has : Has new a
+  pub has : IsReserved new a
+
+-- ---- what is asked for is the function's own: its variables, and what it gives back
+
+-- the array is a local one of the function
+abbrev pub HoldsLocal : List declared.Variable → ArrayVariable → Type 0
+HoldsLocal vars b = (n : ℕ) × (slice_get vars b.number ≡ Some (record { holds = holds.Local b.ty n; constant = b.constant }))
+
+module _ (vars : List declared.Variable) (answer : Option Ty) where
+  abbrev pub OwnRegister : Rate → Name → Elem → Type 0
+  OwnRegister r (Variable v) t = HoldsValue vars v (ty_of r t)
+  OwnRegister r Result t = answer ≡ Some (ty_of r t)
+  OwnRegister r (Spare u j) t = Unit {0}
+  OwnRegister r (Fresh j) t = Unit {0}
+
+  abbrev pub IsOwn : Ask → Type 0
+  IsOwn Nothing = Unit {0}
+  IsOwn (Both x y) = IsOwn x × IsOwn y
+  IsOwn (Register r x t) = OwnRegister r x t
+  IsOwn (ArrayOf b) = HoldsArray vars b
+  IsOwn (LocalOf b) = HoldsLocal vars b
+  IsOwn (MaskOf k) = Unit {0}
+  IsOwn (Number k) = Unit {0}
+
+-- ---- a function at work has the registers of its own that are asked for
+
+module _ (rows : Rows) where
+  abbrev pub HasOwnRow : Rate → Name → Elem → Type 0
+  HasOwnRow r (Variable v) t = row.HasRow rows r (Variable v) t
+  HasOwnRow r Result t = row.HasRow rows r Result t
+  HasOwnRow r (Spare u j) t = Unit {0}
+  HasOwnRow r (Fresh j) t = Unit {0}
+
+  abbrev pub HasOwn : Ask → Type 0
+  HasOwn Nothing = Unit {0}
+  HasOwn (Both x y) = HasOwn x × HasOwn y
+  HasOwn (Register r x t) = HasOwnRow r x t
+  HasOwn (ArrayOf b) = elem_in rows.arrays (Variable b.number) ≡ Some b.ty.elem
+  HasOwn (LocalOf b) = elem_in rows.arrays (Variable b.number) ≡ Some b.ty.elem
+  HasOwn (MaskOf k) = Unit {0}
+  HasOwn (Number k) = Unit {0}

@@ -1,6 +1,6 @@
 -- A layout from lists of rows: a register has the number of the first row of its class that has its name. So rows are
 -- added at the end, as names come up, and no number changes. A name that no row has gets a number past the last row.
-use Rattle.std.specs.Prelude.{◌≡◌, ℕ, ◌+◌, ◌*◌, ◌==◌, List, [], ◌∷◌, Option, Some, None, if◌then◌else◌}
+use Rattle.std.specs.Prelude.{◌≡◌, ℕ, ◌+◌, ◌*◌, ◌==◌, List, [], ◌∷◌, ◌++◌, length, Option, Some, None, if◌then◌else◌}
 use Rattle.isp_base.specs.Ranks.{rank}
 use Rattle.isp_base.specs.declared.types.Elem.{Elem}
 use Rattle.isp_base.specs.declared.types.Rate.{Rate}
@@ -11,12 +11,14 @@ pub data Name : Type 0 where
   Variable : ℕ → Name
   Result : Name
   Spare : Elem → ℕ → Name
+  Fresh : ℕ → Name
 
 -- each name has another number
 abbrev pub name_number : Name → ℕ
 name_number Result = 0
-name_number (Variable v) = 1 + 2 * v
-name_number (Spare t j) = 2 + 2 * (9 * j + rank t)
+name_number (Variable v) = 1 + 3 * v
+name_number (Spare t j) = 2 + 3 * (9 * j + rank t)
+name_number (Fresh j) = 3 + 3 * j
 
 pub record Row : Type 0 where
   pub name : Name
@@ -42,14 +44,23 @@ rows_at rows Varying = rows.vectors
 
 abbrev pub layout_of : Rows → Layout
 layout_of rows =
-    record { variable = λ r v. number_in (rows_at rows r) (Variable v); result = λ r. number_in (rows_at rows r) Result; spare = λ r t j. number_in (rows_at rows r) (Spare t j); array = λ v. number_in rows.arrays (Variable v) }
+    record { variable = λ r v. number_in (rows_at rows r) (Variable v); result = λ r. number_in (rows_at rows r) Result; spare = λ r t j. number_in (rows_at rows r) (Spare t j); fresh = λ r j. number_in (rows_at rows r) (Fresh j); array = λ v. number_in rows.arrays (Variable v) }
 
 -- the number of the register that a layout has for a name
 abbrev pub numbered : Layout → Rate → Name → ℕ
 numbered l r (Variable v) = l.variable r v
 numbered l r Result = l.result r
 numbered l r (Spare t j) = l.spare r t j
+numbered l r (Fresh j) = l.fresh r j
 
 -- a name has a row of this rate and this type
 abbrev pub HasRow : Rows → Rate → Name → Elem → Type 0
 HasRow rows r x t = elem_in (rows_at rows r) x ≡ Some t
+
+-- one more row, of a fresh register
+abbrev pub with_fresh : Elem → List Row → List Row
+with_fresh t rows = rows ++ record { name = Fresh (length rows); elem = t } ∷ []
+
+abbrev pub with_fresh_at : Rate → Elem → Rows → Rows
+with_fresh_at Uniform t rows = record rows { scalars = with_fresh t rows.scalars }
+with_fresh_at Varying t rows = record rows { vectors = with_fresh t rows.vectors }

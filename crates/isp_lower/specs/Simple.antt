@@ -1,4 +1,4 @@
--- The code of what stands before a semicolon, as a function of its tree, and what is demanded of these.
+-- The code of what stands before a semicolon, as a function of its tree.
 use Rattle.std.specs.Prelude.{Bool, true, false, ℕ, ◌+◌, ◌∷◌, [], ◌++◌, List, length}
 use Rattle.isp_base.specs.declared.operators.BinOp.{BinOp}
 use Rattle.isp_base.specs.declared.types.Elem.{Elem}
@@ -9,12 +9,8 @@ use Rattle.isp_base.specs.Ranks.{same_elem}
 use Rattle.isp_base.specs.declared.types.Rate.TheVariants.{Uniform}
 use Rattle.isp_typed.specs.Typed.{TExpr, TPlace, t_variable, t_element, place_type, TSimple, t_value, t_run, t_assign, t_update, t_step}
 use Rattle.isp_lower.specs.Layout.{Layout}
-use Rattle.isp_lower.specs.Setting.{Setting}
 use Rattle.isp_lower.specs.Code.{convert, operate, operate_places, read, write, constant, lifted, lift_code, two, operand, operand_of, index, expr_places, index_places, read_places, expr_code, index_code, variable_code}
-use Rattle.isp_base.specs.declared.types.Elem.TheVariants.{Bool as Truth}
-use Rattle.isp_lower.specs.Fits.{IsNamed, SpareFits, LiftFits, OperandFits, ExprFits, PlaceFits}
-pub use Rattle.isp_lower.specs.Presence.{beyond}
-use Rattle.isp_lower.specs.Presence.{ReadHas, WorkHas}
+pub use Rattle.isp_lower.specs.Asks.{beyond}
 
 module _ (l : Layout) where
   -- the target's index, the right side, the access
@@ -75,32 +71,3 @@ module _ (l : Layout) where
   simple_places (t_assign z x sp) = assign_places z x
   simple_places (t_update o t z x sp) = index_places l z ++ (expr_places l x ++ change_places o z sp)
   simple_places (t_step o t z sp) = index_places l z ++ change_places o z sp
-
--- every type but bool: operators work in these
-abbrev pub IsNumber : Elem → Type 0
-IsNumber Truth = ⊥
-IsNumber t = Unit {0}
-
-module _ (w : Setting) where
-  -- slot i has a register of the operator's type where that is another, and one of an element's
-  abbrev pub WorkFits : Bool → Rate → Elem → ℕ → Type 0
-  WorkFits same r t i = WorkHas (IsNamed w) same r t i
-
-  abbrev pub ReadFits : TPlace → ℕ → Type 0
-  ReadFits z i = ReadHas (IsNamed w) z i
-
-  -- a place with its index at slot n, that an operator of type t reads and writes
-  pub record ChangeFits (t : Elem) (z : TPlace) (n i : ℕ) : Type 0 where
-    pub number : IsNumber t
-    pub target : PlaceFits w z n
-    pub working : WorkFits (same_elem (place_type z).elem t) (place_type z).rate t i
-    pub back : ReadFits z i
-
-  abbrev pub SimpleFits : TSimple → ℕ → Type 0
-  SimpleFits (t_value x) n = ExprFits w x n
-  SimpleFits (t_run c) n = ⊥
-  SimpleFits (t_assign z x sp) n = PlaceFits w z n × OperandFits w (place_type z).rate (place_type z).elem x (beyond z n) × ExprFits w x (beyond z n)
-  SimpleFits (t_update o t z x sp) n =
-      ChangeFits t z n (beyond z n + 1) × OperandFits w (place_type z).rate t x (beyond z n) × ExprFits w x (beyond z n)
-  SimpleFits (t_step o t z sp) n =
-      ChangeFits t z n (beyond z n + 1) × SpareFits w Uniform t (beyond z n) × LiftFits w Uniform (place_type z).rate t (beyond z n)

@@ -1,15 +1,25 @@
--- What is demanded of the table of registers alone: each register that code names has its type, and each array is a
--- variable of the function.
-use Rattle.std.specs.Prelude.{ℕ, List}
+-- What is asked of the table of registers: each register that code asks for has its type, and each array is a variable of the
+-- function.
+use Rattle.std.specs.Prelude.{◌≡◌, ℕ, List}
+use Rattle.isp_base.specs.declared.types.Elem.{Elem}
+use Rattle.isp_base.specs.declared.types.Rate.{Rate}
 use Rattle.isp_code.specs.Listing.{Routine}
+use Rattle.isp_code.specs.Registers.{elem_of}
 use Rattle.isp_typed.specs.Fine.{HoldsArray}
-use Rattle.isp_typed.specs.Typed.{TExpr, TPlace, TItem, TSimple}
 use Rattle.isp_typed.specs.declared.variable.ArrayVariable.{ArrayVariable}
 use Rattle.isp_typed.specs.declared.variable.Variable.{Variable}
-use Rattle.isp_lower.specs.Layout.{Layout}
-use Rattle.isp_lower.specs.Fits.{IsNamedIn}
 use Rattle.isp_lower.specs.Asks.{Ask, All}
-use Rattle.isp_lower.specs.Presence.{ExprHas, PlaceHas, SimpleHas, ItemHas, ItemsHave}
+use Rattle.isp_lower.specs.Layout.{Layout, register}
+use Rattle.isp_lower.specs.Rows.{Name, numbered}
+use Rattle.isp_lower.specs.Setting.{Setting}
+
+-- the register of a rate and a number has this type
+abbrev pub IsTyped : Setting → Rate → ℕ → Elem → Type 0
+IsTyped w r x t = elem_of w.routine (register r x) ≡ t
+
+-- so has the register that a layout has for a name
+abbrev pub IsNamedIn : Routine → Layout → Rate → Name → Elem → Type 0
+IsNamedIn h l r x t = elem_of h (register r (numbered l r x)) ≡ t
 
 -- nothing is asked of a mask, or of an array
 abbrev pub AnyMask : ℕ → Type 0
@@ -19,21 +29,5 @@ abbrev pub AnyArray : ArrayVariable → Type 0
 AnyArray b = Unit {0}
 
 -- by the routine, the layout and the variables of a function
-module _ (h : Routine) (l : Layout) (vars : List Variable) where
-  abbrev pub Table : Ask → Type 0
-  Table a = All (IsNamedIn h l) (HoldsArray vars) (HoldsArray vars) AnyMask a
-
-  abbrev pub ExprTable : TExpr → ℕ → Type 0
-  ExprTable x n = ExprHas (IsNamedIn h l) (HoldsArray vars) (HoldsArray vars) AnyMask x n
-
-  abbrev pub PlaceTable : TPlace → ℕ → Type 0
-  PlaceTable z n = PlaceHas (IsNamedIn h l) (HoldsArray vars) (HoldsArray vars) AnyMask z n
-
-  abbrev pub SimpleTable : TSimple → ℕ → Type 0
-  SimpleTable x n = SimpleHas (IsNamedIn h l) (HoldsArray vars) (HoldsArray vars) AnyMask x n
-
-  abbrev pub ItemTable : ℕ → TItem → Type 0
-  ItemTable n x = ItemHas (IsNamedIn h l) (HoldsArray vars) (HoldsArray vars) AnyMask n x
-
-  abbrev pub ItemsTable : ℕ → List TItem → Type 0
-  ItemsTable n xs = ItemsHave (IsNamedIn h l) (HoldsArray vars) (HoldsArray vars) AnyMask n xs
+abbrev pub Table : Routine → Layout → List Variable → Ask → Type 0
+Table h l vars a = All (IsNamedIn h l) (HoldsArray vars) (HoldsArray vars) AnyMask a

@@ -1,19 +1,19 @@
 //! Variables and elements that get a value.
 ghost use Rattle.std.specs.Prelude.{◌≡◌, OnOk};
-ghost use Rattle.isp_typed.specs.Typed.{t_element};
 ghost use Rattle.isp_typed.specs.Views.{expr_of, place_of};
-ghost use Rattle.isp_lower.specs.Asks.{assign_asks, variable_asks};
-ghost use Rattle.isp_lower.specs.Code.{expr_places, variable_code, writes_last, writes_part};
-ghost use Rattle.isp_lower.specs.Emitted.{Appends, Present, layout};
+ghost use Rattle.isp_lower.specs.Asks.{ArrayOf, assign_asks, operand_asks, variable_asks};
+ghost use Rattle.isp_lower.specs.Code.{writes_last, writes_part};
+ghost use Rattle.isp_lower.specs.Emitted.{Present};
 ghost use Rattle.isp_lower.specs.Layout.{Layout};
-ghost use Rattle.isp_lower.specs.Simple.{assign_code, assign_places};
+ghost use Rattle.isp_lower.specs.Written.{Writes, assign_at, element_to_at, variable_at};
 
 use crate::expression::{cast_to, copied, index, operand};
+use crate::sites::{Element, Home, Site, Target};
 use crate::truths::is_short;
 use crate::types::{Body, Scope};
-use crate::written::write_at;
-use isp_base::{Rate, Span, Ty};
-use isp_typed::{ArrayVariable, TypedExpr, TypedPlace};
+use crate::written::write_from;
+use isp_base::Rate;
+use isp_typed::{TypedExpr, TypedPlace};
 use std::alloc::AllocError;
 
 /// Whether the last instruction writes the value, where one of a rate is wanted.
@@ -58,68 +58,78 @@ fn writes_last(x: &TypedExpr) -> bool
 }
 
 /// A variable gets a value.
-pub fn variable_to(
+pub(crate) fn variable_to(
     b: &mut Body,
     on: &Scope,
-    number: usize,
-    ty: Ty,
+    home: Home,
     x: &TypedExpr,
-    k: u32,
-    slot: u32,
+    site: Site,
 ) -> Result<(), AllocError>
-    requires { Present on.now (variable_asks ty.rate ty.elem number (expr_of x.now) slot) }
-    ensures { OnOk result (Appends b.old b.new (λ pc p. variable_code (layout on.now) ty.rate number (expr_of x.now) pc p k slot) (expr_places (layout on.now) (expr_of x.now))) }
+    requires { Present on.now (variable_asks home.ty.rate home.ty.elem home.number (expr_of x.now) site.slot) }
+    ensures { OnOk result (Writes b.old b.new (variable_at on.now home (expr_of x.now) site)) }
 {
-    let to = on.variable(number, ty);
-    if writes_part(ty.rate, x.ty().rate, writes_last(x)) {
-        cast_to(b, on, to, ty.rate, x, k, slot)?;
+    let to = on.variable(home.number, home.ty);
+    let target = Target::new(to, home.ty, home.span, site);
+    if writes_part(home.ty.rate, x.ty().rate, writes_last(x)) {
+        cast_to(b, on, x, target)?;
         Ok(())
     } else {
-        copied(b, on, ty.rate, x, to, k, slot)?;
+        copied(b, on, x, target)?;
         Ok(())
     }
 }
 
-/// An element gets a value: its index comes before the right side.
+/// An element gets a value, once its index is in a register.
 fn element_to(
     b: &mut Body,
     on: &Scope,
-    array: ArrayVariable,
-    at: &TypedExpr,
-    ty: Ty,
-    span: Span,
+    element: Element,
     x: &TypedExpr,
-    k: u32,
-    slot: u32,
+    site: Site,
 ) -> Result<(), AllocError>
-    requires { Present on.now (assign_asks (t_element array (expr_of at.now) ty span) (expr_of x.now) slot) }
-    ensures { OnOk result (Appends b.old b.new (λ pc p. assign_code (layout on.now) (t_element array (expr_of at.now) ty span) (expr_of x.now) pc p k slot) (assign_places (layout on.now) (t_element array (expr_of at.now) ty span) (expr_of x.now))) }
+    requires array { Present on.now (ArrayOf element.array) }
+    requires value { Present on.now (operand_asks element.ty.rate (expr_of x.now) site.slot) }
+    ensures { OnOk result (Writes b.old b.new (element_to_at on.now element (expr_of x.now) site)) }
 {
-    let place = index(b, on, ty.rate, at, k, slot)?;
-    let from = operand(b, on, ty.rate, x, k, slot + 1)?;
-    write_at(b, on, ty.rate, array, place, from, k, span)?;
+    let from = operand(b, on, element.ty.rate, x, site.mask, site.slot)?;
+    write_from(b, on, element, from, site.mask)?;
     Ok(())
 }
 
-/// A place gets a value.
-pub fn assign(
+/// A place gets a value: the index of an element comes before the right side.
+pub(crate) fn assign(
     b: &mut Body,
     on: &Scope,
     place: &TypedPlace,
     x: &TypedExpr,
-    k: u32,
-    slot: u32,
+    site: Site,
 ) -> Result<(), AllocError>
-    requires { Present on.now (assign_asks (place_of place.now) (expr_of x.now) slot) }
-    ensures { OnOk result (Appends b.old b.new (λ pc p. assign_code (layout on.now) (place_of place.now) (expr_of x.now) pc p k slot) (assign_places (layout on.now) (place_of place.now) (expr_of x.now))) }
+    requires { Present on.now (assign_asks (place_of place.now) (expr_of x.now) site.slot) }
+    ensures { OnOk result (Writes b.old b.new (assign_at on.now (place_of place.now) (expr_of x.now) site)) }
 {
     match place {
-        TypedPlace::Variable { number, ty, .. } => variable_to(b, on, *number, *ty, x, k, slot),
+        TypedPlace::Variable { number, ty, span } => {
+            let home = Home {
+                number: *number,
+                ty: *ty,
+                span: *span,
+            };
+            variable_to(b, on, home, x, site)
+        }
         TypedPlace::Element {
             array,
-            index: at,
+            index: inner,
             ty,
             span,
-        } => element_to(b, on, *array, at, *ty, *span, x, k, slot),
+        } => {
+            let at = index(b, on, ty.rate, inner, site.mask, site.slot)?;
+            let element = Element {
+                array: *array,
+                index: at,
+                ty: *ty,
+                span: *span,
+            };
+            element_to(b, on, element, x, site.next())
+        }
     }
 }

@@ -3,6 +3,7 @@ ghost use Rattle.std.specs.Prelude.{◌≡◌, ◌++◌, [], IfOk, OnOk};
 ghost use Rattle.isp_base.specs.declared.types.Rate.TheVariants.{Uniform, Varying};
 ghost use Rattle.isp_lower.specs.Code.{same_rate};
 ghost use Rattle.isp_lower.specs.Emitted.{array_row, array_rows, first_rows, name_of, result_rows, row_where, rows_of, value_row, value_rows};
+ghost use Rattle.isp_lower.specs.Lookup.{IsAsked};
 
 use crate::register_rows::RegisterRows;
 use crate::registers::{RegisterName, RegisterRow, Registers};
@@ -17,6 +18,7 @@ fn add_value(
     name: RegisterName,
     elem: Elem,
 ) -> Result<(), AllocError>
+    requires { IsAsked (name_of name) }
     ensures scalars { OnOk result ((rows_of registers.new).scalars ≡ (rows_of registers.old).scalars ++ row_where (same_rate Uniform rate) (record { name = name_of name; elem = elem }) []) }
     ensures vectors { OnOk result ((rows_of registers.new).vectors ≡ (rows_of registers.old).vectors ++ row_where (same_rate Varying rate) (record { name = name_of name; elem = elem }) []) }
     ensures arrays { OnOk result ((rows_of registers.new).arrays ≡ (rows_of registers.old).arrays) }
@@ -71,6 +73,17 @@ fn add_result(registers: &mut Registers, answer: Option<Ty>) -> Result<(), Alloc
     }
 }
 
+/// No registers.
+pub fn no_registers(alloc: Global) -> Registers
+    ensures { rows_of result ≡ record { scalars = []; vectors = []; arrays = [] } }
+{
+    Registers {
+        scalars: RegisterRows::new(alloc),
+        vectors: RegisterRows::new(alloc),
+        arrays: RegisterRows::new(alloc),
+    }
+}
+
 /// The registers with which a function begins: one for each of its variables, in their order, each the next of its class,
 /// so parameters have the first; what it gives back has the one behind them.
 pub fn begin(
@@ -80,11 +93,7 @@ pub fn begin(
 ) -> Result<Registers, AllocError>
     ensures { IfOk result (λ r. rows_of r ≡ first_rows variables.now answer) }
 {
-    let mut registers = Registers {
-        scalars: RegisterRows::new(alloc),
-        vectors: RegisterRows::new(alloc),
-        arrays: RegisterRows::new(alloc),
-    };
+    let mut registers = no_registers(alloc);
     add_variables(&mut registers, variables)?;
     add_result(&mut registers, answer)?;
     Ok(registers)

@@ -1,7 +1,8 @@
 //! Code grows, and jumps are written once it is known where they lead.
-ghost use Rattle.std.specs.Prelude.{◌≡◌, ◌<◌, ◌∷◌, [], length, slice_set, IfOk, OnOk};
+ghost use Rattle.std.specs.Prelude.{◌≡◌, ◌<◌, ◌∷◌, [], length, slice_set, IfOk, OnErr, OnOk};
 ghost use Rattle.isp_code.specs.declared.instr.Instr.TheVariants as instr;
-ghost use Rattle.isp_lower.specs.Emitted.{Appends};
+ghost use Rattle.isp_lower.specs.Emitted.{Appends, Unchanged};
+ghost use Rattle.isp_lower.specs.Patched.{IsJump, instr_at, patched};
 
 use crate::types::Body;
 use isp_base::Span;
@@ -31,10 +32,25 @@ impl Body {
         Ok(())
     }
 
+    /// The same, which gives its number.
+    pub fn append(&mut self, instr: Instr) -> Result<u32, AllocError>
+        ensures number { IfOk result (λ n. n ≡ length self.old.code.items) }
+        ensures added { OnOk result (Appends self.old self.new (λ pc p. instr ∷ []) []) }
+        ensures refused { OnErr result (Unchanged self.old self.new) }
+    {
+        let at = self.code.len();
+        if at >= 4_294_967_295 {
+            return Err(AllocError);
+        }
+        self.code.push(instr)?;
+        Ok(at as u32)
+    }
+
     /// Appends a place in the source, and gives its number. Memory is refused too where that would be 4,294,967,295.
     pub fn place(&mut self, span: Span) -> Result<u32, AllocError>
         ensures number { IfOk result (λ n. n ≡ length self.old.places.items) }
         ensures added { OnOk result (Appends self.old self.new (λ pc p. []) (span ∷ [])) }
+        ensures refused { OnErr result (Unchanged self.old self.new) }
     {
         let number = self.places.len();
         if number >= 4_294_967_295 {
@@ -62,5 +78,19 @@ impl Body {
     {
         let next = self.code.len() as u32;
         self.code[at] = Instr::Jump(next);
+    }
+
+    /// A jump leads to another instruction.
+    pub fn patch(&mut self, at: usize, target: u32)
+        requires there { at < length self.old.code.items }
+        requires jump { IsJump (instr_at self.old.code.items at) }
+        ensures code { self.new.code.items ≡ patched self.old.code.items at target }
+        ensures places { self.new.places ≡ self.old.places }
+    {
+        self.code[at] = match &self.code[at] {
+            Instr::Jump(_) => Instr::Jump(target),
+            Instr::JumpIf(test, register, _) => Instr::JumpIf(*test, *register, target),
+            _ => return,
+        };
     }
 }

@@ -1,22 +1,21 @@
 //! Places that an operator reads and writes: `op=`, `++` and `--`.
-ghost use Rattle.std.specs.Prelude.{◌≡◌, ◌+◌, ◌++◌, ◌∷◌, [], IfOk, OnOk};
+ghost use Rattle.std.specs.Prelude.{◌≡◌, ◌<◌, ◌+◌, [], IfOk, OnOk};
 ghost use Rattle.isp_base.specs.Ranks.{same_elem};
-ghost use Rattle.isp_base.specs.declared.types.Span.{Span};
-ghost use Rattle.isp_typed.specs.Typed.{t_element, t_variable};
+ghost use Rattle.isp_typed.specs.Typed.{t_variable};
 ghost use Rattle.isp_typed.specs.Views.{expr_of, place_of};
-ghost use Rattle.isp_lower.specs.Asks.{ArrayOf, Register as Ask, one_asks, spare_ask, step_asks, update_asks, work_asks};
-ghost use Rattle.isp_lower.specs.Code.{expr_places, index_places, operate_places, read, write};
+ghost use Rattle.isp_lower.specs.Asks.{ArrayOf, one_asks, operand_asks, spare_ask, step_asks, update_asks, work_asks};
 ghost use Rattle.isp_lower.specs.Emitted.{Appends, Present, layout};
-ghost use Rattle.isp_lower.specs.Rows.{Variable};
-ghost use Rattle.isp_lower.specs.Simple.{change_by_code, change_places, one_code, one_in, step_code, update_to};
+ghost use Rattle.isp_lower.specs.Simple.{one_code, one_in};
+ghost use Rattle.isp_lower.specs.Written.{Writes, change_by_at, changed_at, element_by_at, element_step_at, step_at, update_at};
 
 use crate::expression::{index, operand};
 use crate::leaves::{constant, convert, read, write};
 use crate::located::lift;
+use crate::sites::{Element, Held, Home, Operation, Site, Target};
 use crate::types::{Body, Scope};
 use crate::written::operate_to;
-use isp_base::{BinOp, Elem, Rate, Span, Ty};
-use isp_typed::{ArrayVariable, TypedExpr, TypedPlace};
+use isp_base::{Elem, Rate, Ty};
+use isp_typed::{TypedExpr, TypedPlace};
 use std::alloc::AllocError;
 
 /// Whether two element types are one.
@@ -31,79 +30,54 @@ fn same_elem(a: Elem, b: Elem) -> bool
 fn update_to(
     b: &mut Body,
     on: &Scope,
-    operator: BinOp,
-    elem: Elem,
-    ty: Ty,
-    to: u32,
+    operation: Operation,
     from: u32,
     by: u32,
-    k: u32,
-    slot: u32,
-    span: Span,
+    target: Target,
 ) -> Result<(), AllocError>
-    requires { Present on.now (work_asks (same_elem ty.elem elem) ty.rate elem slot) }
-    ensures { OnOk result (Appends b.old b.new (λ pc p. update_to (layout on.now) (same_elem ty.elem elem) operator elem ty.rate to from by k slot p) (operate_places operator span)) }
+    requires { Present on.now (work_asks (same_elem target.ty.elem operation.elem) target.ty.rate operation.elem target.site.slot) }
+    ensures { OnOk result (Writes b.old b.new (update_at on.now operation from by target)) }
 {
-    if same_elem(ty.elem, elem) {
-        operate_to(b, ty.rate, operator, to, from, by, k, span)?;
+    let operator = operation.operator;
+    if same_elem(target.ty.elem, operation.elem) {
+        operate_to(b, operator, from, by, target)?;
         Ok(())
     } else {
-        let held = on.spare(ty.rate, elem, slot);
-        b.push(convert(ty.rate, held, from, k))?;
-        operate_to(b, ty.rate, operator, held, held, by, k, span)?;
-        b.push(convert(ty.rate, to, held, k))?;
+        let ty = Ty {
+            rate: target.ty.rate,
+            elem: operation.elem,
+        };
+        let held = on.spare(ty.rate, ty.elem, target.site.slot);
+        b.push(convert(ty.rate, held, from, target.site.mask))?;
+        let work = Target::new(held, ty, target.span, target.site);
+        operate_to(b, operator, held, by, work)?;
+        b.push(convert(ty.rate, target.to, held, target.site.mask))?;
         Ok(())
     }
 }
 
-/// A variable gets an operator on itself and a value.
-fn change_variable(
-    b: &mut Body,
-    on: &Scope,
-    operator: BinOp,
-    elem: Elem,
-    number: usize,
-    ty: Ty,
-    by: u32,
-    k: u32,
-    slot: u32,
-    span: Span,
-) -> Result<(), AllocError>
-    requires home { Present on.now (Ask ty.rate (Variable number) ty.elem) }
-    requires work { Present on.now (work_asks (same_elem ty.elem elem) ty.rate elem slot) }
-    ensures { OnOk result (Appends b.old b.new (λ pc p. update_to (layout on.now) (same_elem ty.elem elem) operator elem ty.rate ((layout on.now).variable ty.rate number) ((layout on.now).variable ty.rate number) by k slot p) (operate_places operator span)) }
-{
-    let to = on.variable(number, ty);
-    update_to(b, on, operator, elem, ty, to, to, by, k, slot, span)
-}
-
-/// An element of an array, whose index is in a register, is read into a slot, changed and written. Both accesses name one
-/// place.
+/// An element is read into a slot, changed and written. Both accesses name one place.
 fn change_element(
     b: &mut Body,
     on: &Scope,
-    operator: BinOp,
-    elem: Elem,
-    array: ArrayVariable,
-    ty: Ty,
-    at: Span,
-    place: u32,
+    operation: Operation,
+    element: Element,
     by: u32,
-    k: u32,
-    slot: u32,
-    span: Span,
+    site: Site,
 ) -> Result<(), AllocError>
-    requires array { Present on.now (ArrayOf array) }
-    requires work { Present on.now (work_asks (same_elem ty.elem elem) ty.rate elem slot) }
-    requires held { Present on.now (spare_ask ty.rate ty.elem slot) }
-    ensures { OnOk result (Appends b.old b.new (λ pc p. read ty.rate ((layout on.now).spare ty.rate ty.elem slot) ((layout on.now).array array.number) place k p ∷ (update_to (layout on.now) (same_elem ty.elem elem) operator elem ty.rate ((layout on.now).spare ty.rate ty.elem slot) ((layout on.now).spare ty.rate ty.elem slot) by k slot (p + 1) ++ write ty.rate ((layout on.now).array array.number) place ((layout on.now).spare ty.rate ty.elem slot) k p ∷ [])) (at ∷ operate_places operator span)) }
+    requires array { Present on.now (ArrayOf element.array) }
+    requires work { Present on.now (work_asks (same_elem element.ty.elem operation.elem) element.ty.rate operation.elem site.slot) }
+    requires held { Present on.now (spare_ask element.ty.rate element.ty.elem site.slot) }
+    ensures { OnOk result (Writes b.old b.new (changed_at on.now operation element by site)) }
 {
-    let from = on.array(array);
-    let held = on.spare(ty.rate, ty.elem, slot);
-    let number = b.place(at)?;
-    b.push(read(ty.rate, held, from, place, k, number))?;
-    update_to(b, on, operator, elem, ty, held, held, by, k, slot, span)?;
-    b.push(write(ty.rate, from, place, held, k, number))?;
+    let ty = element.ty;
+    let array = on.array(element.array);
+    let held = on.spare(ty.rate, ty.elem, site.slot);
+    let number = b.place(element.span)?;
+    b.push(read(ty.rate, held, array, element.index, site.mask, number))?;
+    let target = Target::new(held, ty, operation.span, site);
+    update_to(b, on, operation, held, by, target)?;
+    b.push(write(ty.rate, array, element.index, held, site.mask, number))?;
     Ok(())
 }
 
@@ -111,195 +85,168 @@ fn change_element(
 fn change_variable_by(
     b: &mut Body,
     on: &Scope,
-    operator: BinOp,
-    elem: Elem,
-    number: usize,
-    ty: Ty,
-    at: Span,
+    operation: Operation,
+    home: Home,
     x: &TypedExpr,
-    span: Span,
-    k: u32,
-    slot: u32,
+    site: Site,
 ) -> Result<(), AllocError>
-    requires { Present on.now (update_asks elem (t_variable number ty at) (expr_of x.now) slot) }
-    ensures { OnOk result (Appends b.old b.new (λ pc p. change_by_code (layout on.now) operator elem (t_variable number ty at) (expr_of x.now) pc p k slot) (expr_places (layout on.now) (expr_of x.now) ++ operate_places operator span)) }
+    requires { Present on.now (update_asks operation.elem (t_variable home.number home.ty home.span) (expr_of x.now) site.slot) }
+    ensures { OnOk result (Writes b.old b.new (change_by_at on.now operation (t_variable home.number home.ty home.span) (expr_of x.now) site)) }
 {
-    let by = operand(b, on, ty.rate, x, k, slot)?;
-    change_variable(b, on, operator, elem, number, ty, by, k, slot + 1, span)?;
+    let to = on.variable(home.number, home.ty);
+    let by = operand(b, on, home.ty.rate, x, site.mask, site.slot)?;
+    let target = Target::new(to, home.ty, operation.span, site.next());
+    update_to(b, on, operation, to, by, target)?;
     Ok(())
 }
 
-/// An element gets an operator on itself and the value of an expression: its index comes before the right side.
+/// An element gets an operator on itself and the value of an expression, once its index is in a register.
 fn change_element_by(
     b: &mut Body,
     on: &Scope,
-    operator: BinOp,
-    elem: Elem,
-    array: ArrayVariable,
-    inner: &TypedExpr,
-    ty: Ty,
-    at: Span,
+    operation: Operation,
+    element: Element,
     x: &TypedExpr,
-    span: Span,
-    k: u32,
-    slot: u32,
+    site: Site,
 ) -> Result<(), AllocError>
-    requires { Present on.now (update_asks elem (t_element array (expr_of inner.now) ty at) (expr_of x.now) slot) }
-    ensures { OnOk result (Appends b.old b.new (λ pc p. change_by_code (layout on.now) operator elem (t_element array (expr_of inner.now) ty at) (expr_of x.now) pc p k slot) (expr_places (layout on.now) (expr_of inner.now) ++ (expr_places (layout on.now) (expr_of x.now) ++ at ∷ operate_places operator span))) }
+    requires array { Present on.now (ArrayOf element.array) }
+    requires slots { site.slot + 1 < 4294967296 }
+    requires value { Present on.now (operand_asks element.ty.rate (expr_of x.now) site.slot) }
+    requires work { Present on.now (work_asks (same_elem element.ty.elem operation.elem) element.ty.rate operation.elem (site.slot + 1)) }
+    requires held { Present on.now (spare_ask element.ty.rate element.ty.elem (site.slot + 1)) }
+    ensures { OnOk result (Writes b.old b.new (element_by_at on.now operation element (expr_of x.now) site)) }
 {
-    let place = index(b, on, ty.rate, inner, k, slot)?;
-    let by = operand(b, on, ty.rate, x, k, slot + 1)?;
-    change_element(
-        b,
-        on,
-        operator,
-        elem,
-        array,
-        ty,
-        at,
-        place,
-        by,
-        k,
-        slot + 2,
-        span,
-    )?;
+    let by = operand(b, on, element.ty.rate, x, site.mask, site.slot)?;
+    change_element(b, on, operation, element, by, site.next())?;
     Ok(())
 }
 
-/// `op=`.
-pub fn change_by(
+/// `op=`: the index of an element comes before the right side.
+pub(crate) fn change_by(
     b: &mut Body,
     on: &Scope,
-    operator: BinOp,
-    elem: Elem,
+    operation: Operation,
     place: &TypedPlace,
     x: &TypedExpr,
-    span: Span,
-    k: u32,
-    slot: u32,
+    site: Site,
 ) -> Result<(), AllocError>
-    requires { Present on.now (update_asks elem (place_of place.now) (expr_of x.now) slot) }
-    ensures { OnOk result (Appends b.old b.new (λ pc p. change_by_code (layout on.now) operator elem (place_of place.now) (expr_of x.now) pc p k slot) (index_places (layout on.now) (place_of place.now) ++ (expr_places (layout on.now) (expr_of x.now) ++ change_places (layout on.now) operator (place_of place.now) span))) }
+    requires { Present on.now (update_asks operation.elem (place_of place.now) (expr_of x.now) site.slot) }
+    ensures { OnOk result (Writes b.old b.new (change_by_at on.now operation (place_of place.now) (expr_of x.now) site)) }
 {
     match place {
-        TypedPlace::Variable {
-            number,
-            ty,
-            span: at,
-        } => change_variable_by(b, on, operator, elem, *number, *ty, *at, x, span, k, slot),
+        TypedPlace::Variable { number, ty, span } => {
+            let home = Home {
+                number: *number,
+                ty: *ty,
+                span: *span,
+            };
+            change_variable_by(b, on, operation, home, x, site)
+        }
         TypedPlace::Element {
             array,
             index: inner,
             ty,
-            span: at,
-        } => change_element_by(
-            b, on, operator, elem, *array, inner, *ty, *at, x, span, k, slot,
-        ),
+            span,
+        } => {
+            let at = index(b, on, ty.rate, inner, site.mask, site.slot)?;
+            let element = Element {
+                array: *array,
+                index: at,
+                ty: *ty,
+                span: *span,
+            };
+            change_element_by(b, on, operation, element, x, site.next())
+        }
     }
 }
 
 /// The number 1 as a value of a type and rate.
-fn one(
-    b: &mut Body,
-    on: &Scope,
-    rate: Rate,
-    elem: Elem,
-    k: u32,
-    slot: u32,
-) -> Result<u32, AllocError>
-    requires { Present on.now (one_asks rate elem slot) }
-    ensures register { IfOk result (λ d. d ≡ one_in (layout on.now) rate elem slot) }
-    ensures code { OnOk result (Appends b.old b.new (λ pc p. one_code (layout on.now) rate elem k slot) []) }
+fn one(b: &mut Body, on: &Scope, rate: Rate, elem: Elem, site: Site) -> Result<u32, AllocError>
+    requires { Present on.now (one_asks rate elem site.slot) }
+    ensures register { IfOk result (λ d. d ≡ one_in (layout on.now) rate elem site.slot) }
+    ensures code { OnOk result (Appends b.old b.new (λ pc p. one_code (layout on.now) rate elem site.mask site.slot) []) }
 {
-    let held = on.spare(Rate::Uniform, elem, slot);
-    b.push(constant(held, elem, 1))?;
-    lift(b, on, rate, Rate::Uniform, elem, held, k, slot)
+    let ty = Ty {
+        rate: Rate::Uniform,
+        elem,
+    };
+    let from = on.spare(ty.rate, elem, site.slot);
+    b.push(constant(from, elem, 1))?;
+    lift(b, on, rate, Held { from, ty }, site)
 }
 
 /// A variable gets an operator on itself and 1.
 fn step_variable(
     b: &mut Body,
     on: &Scope,
-    operator: BinOp,
-    elem: Elem,
-    number: usize,
-    ty: Ty,
-    at: Span,
-    span: Span,
-    k: u32,
-    slot: u32,
+    operation: Operation,
+    home: Home,
+    site: Site,
 ) -> Result<(), AllocError>
-    requires { Present on.now (step_asks elem (t_variable number ty at) slot) }
-    ensures { OnOk result (Appends b.old b.new (λ pc p. step_code (layout on.now) operator elem (t_variable number ty at) pc p k slot) (operate_places operator span)) }
+    requires { Present on.now (step_asks operation.elem (t_variable home.number home.ty home.span) site.slot) }
+    ensures { OnOk result (Writes b.old b.new (step_at on.now operation (t_variable home.number home.ty home.span) site)) }
 {
-    let by = one(b, on, ty.rate, elem, k, slot)?;
-    change_variable(b, on, operator, elem, number, ty, by, k, slot + 1, span)?;
+    let to = on.variable(home.number, home.ty);
+    let by = one(b, on, home.ty.rate, operation.elem, site)?;
+    let target = Target::new(to, home.ty, operation.span, site.next());
+    update_to(b, on, operation, to, by, target)?;
     Ok(())
 }
 
-/// An element gets an operator on itself and 1.
+/// An element gets an operator on itself and 1, once its index is in a register.
 fn step_element(
     b: &mut Body,
     on: &Scope,
-    operator: BinOp,
-    elem: Elem,
-    array: ArrayVariable,
-    inner: &TypedExpr,
-    ty: Ty,
-    at: Span,
-    span: Span,
-    k: u32,
-    slot: u32,
+    operation: Operation,
+    element: Element,
+    site: Site,
 ) -> Result<(), AllocError>
-    requires { Present on.now (step_asks elem (t_element array (expr_of inner.now) ty at) slot) }
-    ensures { OnOk result (Appends b.old b.new (λ pc p. step_code (layout on.now) operator elem (t_element array (expr_of inner.now) ty at) pc p k slot) (expr_places (layout on.now) (expr_of inner.now) ++ at ∷ operate_places operator span)) }
+    requires array { Present on.now (ArrayOf element.array) }
+    requires slots { site.slot + 1 < 4294967296 }
+    requires one { Present on.now (one_asks element.ty.rate operation.elem site.slot) }
+    requires work { Present on.now (work_asks (same_elem element.ty.elem operation.elem) element.ty.rate operation.elem (site.slot + 1)) }
+    requires held { Present on.now (spare_ask element.ty.rate element.ty.elem (site.slot + 1)) }
+    ensures { OnOk result (Writes b.old b.new (element_step_at on.now operation element site)) }
 {
-    let place = index(b, on, ty.rate, inner, k, slot)?;
-    let by = one(b, on, ty.rate, elem, k, slot + 1)?;
-    change_element(
-        b,
-        on,
-        operator,
-        elem,
-        array,
-        ty,
-        at,
-        place,
-        by,
-        k,
-        slot + 2,
-        span,
-    )?;
+    let by = one(b, on, element.ty.rate, operation.elem, site)?;
+    change_element(b, on, operation, element, by, site.next())?;
     Ok(())
 }
 
 /// `++` and `--`.
-pub fn step(
+pub(crate) fn step(
     b: &mut Body,
     on: &Scope,
-    operator: BinOp,
-    elem: Elem,
+    operation: Operation,
     place: &TypedPlace,
-    span: Span,
-    k: u32,
-    slot: u32,
+    site: Site,
 ) -> Result<(), AllocError>
-    requires { Present on.now (step_asks elem (place_of place.now) slot) }
-    ensures { OnOk result (Appends b.old b.new (λ pc p. step_code (layout on.now) operator elem (place_of place.now) pc p k slot) (index_places (layout on.now) (place_of place.now) ++ change_places (layout on.now) operator (place_of place.now) span)) }
+    requires { Present on.now (step_asks operation.elem (place_of place.now) site.slot) }
+    ensures { OnOk result (Writes b.old b.new (step_at on.now operation (place_of place.now) site)) }
 {
     match place {
-        TypedPlace::Variable {
-            number,
-            ty,
-            span: at,
-        } => step_variable(b, on, operator, elem, *number, *ty, *at, span, k, slot),
+        TypedPlace::Variable { number, ty, span } => {
+            let home = Home {
+                number: *number,
+                ty: *ty,
+                span: *span,
+            };
+            step_variable(b, on, operation, home, site)
+        }
         TypedPlace::Element {
             array,
             index: inner,
             ty,
-            span: at,
-        } => step_element(
-            b, on, operator, elem, *array, inner, *ty, *at, span, k, slot,
-        ),
+            span,
+        } => {
+            let at = index(b, on, ty.rate, inner, site.mask, site.slot)?;
+            let element = Element {
+                array: *array,
+                index: at,
+                ty: *ty,
+                span: *span,
+            };
+            step_element(b, on, operation, element, site.next())
+        }
     }
 }

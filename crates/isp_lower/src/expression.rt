@@ -1,26 +1,24 @@
 //! The code of expressions.
-ghost use Rattle.std.specs.Prelude.{◌≡◌, ◌<◌, ◌+◌, ◌∷◌, [], ◌++◌, ℕ, length, true, IfOk, OnOk};
-ghost use Rattle.isp_base.specs.declared.types.Elem.TheVariants.{Bool as Truth, I64};
+ghost use Rattle.std.specs.Prelude.{◌≡◌, ◌<◌, ◌+◌, ℕ, true, false, IfOk, OnOk};
 ghost use Rattle.isp_base.specs.declared.types.Rate.TheVariants.{Uniform, Varying};
-ghost use Rattle.isp_base.specs.declared.types.Span.{Span};
-ghost use Rattle.isp_code.specs.declared.instr.Instr.TheVariants as instr;
-ghost use Rattle.isp_code.specs.declared.instr.JumpTest.TheVariants as jump;
 ghost use Rattle.isp_typed.specs.Typed.{t_binary, t_choose, t_compare, t_convert, t_element, t_logic, t_place, t_unary, type_of};
 ghost use Rattle.isp_typed.specs.Views.{expr_of, place_of};
 ghost use Rattle.isp_lower.specs.Asks.{expr_asks, index_asks, operand_asks, spare_ask, target_asks, whole_asks};
-ghost use Rattle.isp_lower.specs.Code.{choice, choose_code, choose_rest, constant_of, copy, expr_code, expr_places, expr_to, found, guard, index, index_of, is_short, is_whole, jump_off, jump_on, lift_to, move_code, operand, operand_of, part_to, select, stays, whole, whole_of};
+ghost use Rattle.isp_lower.specs.Code.{constant_of, expr_code, expr_places, found, index, is_short, is_whole, operand, stays, whole};
 ghost use Rattle.isp_lower.specs.Emitted.{Appends, Present, layout};
+ghost use Rattle.isp_lower.specs.Written.{Writes, by_jump_at, by_masks_at, chosen_at, guarded_at, index_at, node_at, operand_at, short_at, side_at, skipped_at, to_at, value_at, whole_at};
 
 use crate::leaves::{
     compare, constant, convert, copy, index as lane_numbers, mask, scalar, select, splat,
     the_others, unary, where_so,
 };
 use crate::located::{found, lift, moved};
+use crate::sites::{Element, Held, Site, Skip, Target};
 use crate::truths::{decided, is_short};
 use crate::types::{Body, Scope};
 use crate::written::{operate_to, put_needing, read_to};
-use isp_base::{BinOp, Compare, Elem, Rate, Span, Ty, UnaryOp, Value, convert as value_as};
-use isp_code::{Instr, JumpTest, Register};
+use isp_base::{BinOp, Compare, Elem, Rate, Ty, UnaryOp, Value, convert as value_as};
+use isp_code::{Instr, JumpTest};
 use isp_typed::{ArrayVariable, Logic, TypedExpr, TypedPlace};
 use std::alloc::AllocError;
 
@@ -33,70 +31,56 @@ pub fn expr(b: &mut Body, on: &Scope, x: &TypedExpr, k: u32, slot: u32) -> Resul
     ensures code { OnOk result (Appends b.old b.new (λ pc p. expr_code (layout on.now) (expr_of x.now) pc p k slot) (expr_places (layout on.now) (expr_of x.now))) }
 {
     let to = found(on, x, slot);
-    write_to(b, on, to, x, k, slot)?;
+    write_to(b, on, x, to, Site { mask: k, slot })?;
     Ok(to)
 }
 
 /// The same where the last instruction writes a register, for expressions that have one.
 #[cycle(expr)]
-fn write_to(
-    b: &mut Body,
-    on: &Scope,
-    to: u32,
-    x: &TypedExpr,
-    k: u32,
-    slot: u32,
-) -> Result<(), AllocError>
-    requires { Present on.now (expr_asks (expr_of x.now) slot) }
-    ensures { OnOk result (Appends b.old b.new (λ pc p. expr_to (layout on.now) to (expr_of x.now) pc p k slot) (expr_places (layout on.now) (expr_of x.now))) }
+fn write_to(b: &mut Body, on: &Scope, x: &TypedExpr, to: u32, site: Site) -> Result<(), AllocError>
+    requires { Present on.now (expr_asks (expr_of x.now) site.slot) }
+    ensures { OnOk result (Writes b.old b.new (to_at on.now (expr_of x.now) to site)) }
 {
+    let target = Target::new(to, x.ty(), x.span(), site);
     match x {
         TypedExpr::Constant { value, .. } => b.push(constant(to, value.elem, value.bits)),
-        TypedExpr::ProgramIndex { .. } => b.push(lane_numbers(to, k)),
-        TypedExpr::Place(place) => place_to(b, on, to, place, k, slot),
-        TypedExpr::Convert { elem, operand } => convert_to(b, on, to, *elem, operand, k, slot),
-        TypedExpr::Cast { operand, ty, .. } => cast_to(b, on, to, ty.rate, operand, k, slot),
+        TypedExpr::ProgramIndex { .. } => b.push(lane_numbers(to, site.mask)),
+        TypedExpr::Place(place) => place_to(b, on, place, to, site),
+        TypedExpr::Convert { elem, operand } => convert_to(b, on, *elem, operand, to, site),
+        TypedExpr::Cast { operand, .. } => cast_to(b, on, operand, target),
         TypedExpr::Unary {
             operator,
             operand,
-            ty,
-            span,
-        } => unary_to(b, on, to, *operator, *ty, operand, *span, k, slot),
+            ..
+        } => unary_to(b, on, *operator, operand, target),
         TypedExpr::Binary {
             operator,
             left,
             right,
-            ty,
-            span,
-        } => binary_to(b, on, to, *operator, *ty, left, right, *span, k, slot),
+            ..
+        } => binary_to(b, on, *operator, left, right, target),
         TypedExpr::Compare {
             comparison,
             left,
             right,
+            ..
+        } => compare_to(b, on, *comparison, left, right, target),
+        TypedExpr::Logic {
+            logic,
+            left,
+            right,
             rate,
-            span,
-        } => compare_to(b, on, to, *comparison, *rate, left, right, *span, k, slot),
-        TypedExpr::Logic {
-            logic,
-            left,
-            right,
-            rate: Rate::Uniform,
-            span,
-        } => logic_of_one(b, on, to, *logic, left, right, *span, k, slot),
-        TypedExpr::Logic {
-            logic,
-            left,
-            right,
-            rate: Rate::Varying,
-            span,
-        } => logic_of_each(b, on, to, *logic, left, right, *span, k, slot),
+            ..
+        } => match rate {
+            Rate::Uniform => logic_of_one(b, on, *logic, left, right, target),
+            Rate::Varying => logic_of_each(b, on, *logic, left, right, target),
+        },
         TypedExpr::Choose {
             test,
             then,
             otherwise,
-            ty,
-            span,
-        } => choose_to(b, on, to, *ty, test, then, otherwise, *span, k, slot),
+            ..
+        } => choose_to(b, on, test, then, otherwise, target),
         TypedExpr::Call { .. }
         | TypedExpr::Library { .. }
         | TypedExpr::PackedStore { .. }
@@ -116,11 +100,11 @@ pub fn operand(
 ) -> Result<u32, AllocError>
     requires { Present on.now (operand_asks rate (expr_of x.now) slot) }
     ensures register { IfOk result (λ d. d ≡ operand (layout on.now) rate (expr_of x.now) slot) }
-    ensures code { OnOk result (Appends b.old b.new (λ pc p. operand_of (layout on.now) rate (expr_of x.now) k slot (expr_code (layout on.now) (expr_of x.now) pc p k slot)) (expr_places (layout on.now) (expr_of x.now))) }
+    ensures code { OnOk result (Writes b.old b.new (operand_at on.now rate (expr_of x.now) k slot)) }
 {
     let from = expr(b, on, x, k, slot)?;
-    let given = x.ty();
-    lift(b, on, rate, given.rate, given.elem, from, k, slot)
+    let ty = x.ty();
+    lift(b, on, rate, Held { from, ty }, Site { mask: k, slot })
 }
 
 /// A register gets the result of an operator on one value.
@@ -128,43 +112,38 @@ pub fn operand(
 fn unary_to(
     b: &mut Body,
     on: &Scope,
-    to: u32,
     operator: UnaryOp,
-    ty: Ty,
     x: &TypedExpr,
-    span: Span,
-    k: u32,
-    slot: u32,
+    target: Target,
 ) -> Result<(), AllocError>
-    requires { Present on.now (expr_asks (t_unary operator (expr_of x.now) ty span) slot) }
-    ensures { OnOk result (Appends b.old b.new (λ pc p. expr_to (layout on.now) to (t_unary operator (expr_of x.now) ty span) pc p k slot) (expr_places (layout on.now) (t_unary operator (expr_of x.now) ty span))) }
+    requires { Present on.now (expr_asks (t_unary operator (expr_of x.now) target.ty target.span) target.site.slot) }
+    ensures { OnOk result (Writes b.old b.new (node_at on.now (t_unary operator (expr_of x.now) target.ty target.span) target)) }
 {
-    let from = operand(b, on, ty.rate, x, k, slot)?;
-    b.push(unary(ty.rate, operator, to, from, k))?;
+    let Site { mask: k, slot } = target.site;
+    let from = operand(b, on, target.ty.rate, x, k, slot)?;
+    b.push(unary(target.ty.rate, operator, target.to, from, k))?;
     Ok(())
 }
 
 /// A register gets the value as one of a rate.
 #[cycle(expr)]
-pub fn cast_to(
+pub(crate) fn cast_to(
     b: &mut Body,
     on: &Scope,
-    to: u32,
-    rate: Rate,
     x: &TypedExpr,
-    k: u32,
-    slot: u32,
+    target: Target,
 ) -> Result<(), AllocError>
-    requires { Present on.now (operand_asks rate (expr_of x.now) slot) }
-    ensures { OnOk result (Appends b.old b.new (λ pc p. expr_to (layout on.now) (part_to (layout on.now) rate (type_of (expr_of x.now)).rate to (found (layout on.now) (expr_of x.now) slot)) (expr_of x.now) pc p k slot ++ lift_to (layout on.now) rate (type_of (expr_of x.now)).rate to (found (layout on.now) (expr_of x.now) slot) k) (expr_places (layout on.now) (expr_of x.now))) }
+    requires { Present on.now (operand_asks target.ty.rate (expr_of x.now) target.site.slot) }
+    ensures { OnOk result (Writes b.old b.new (value_at on.now true (expr_of x.now) target)) }
 {
-    match (rate, x.ty().rate) {
+    match (target.ty.rate, x.ty().rate) {
         (Rate::Varying, Rate::Uniform) => {
+            let Site { mask: k, slot } = target.site;
             let from = expr(b, on, x, k, slot)?;
-            b.push(splat(to, from, k))?;
+            b.push(splat(target.to, from, k))?;
             Ok(())
         }
-        _ => write_to(b, on, to, x, k, slot),
+        _ => write_to(b, on, x, target.to, target.site),
     }
 }
 
@@ -173,21 +152,18 @@ pub fn cast_to(
 fn binary_to(
     b: &mut Body,
     on: &Scope,
-    to: u32,
     operator: BinOp,
-    ty: Ty,
     left: &TypedExpr,
     right: &TypedExpr,
-    span: Span,
-    k: u32,
-    slot: u32,
+    target: Target,
 ) -> Result<(), AllocError>
-    requires { Present on.now (expr_asks (t_binary operator (expr_of left.now) (expr_of right.now) ty span) slot) }
-    ensures { OnOk result (Appends b.old b.new (λ pc p. expr_to (layout on.now) to (t_binary operator (expr_of left.now) (expr_of right.now) ty span) pc p k slot) (expr_places (layout on.now) (t_binary operator (expr_of left.now) (expr_of right.now) ty span))) }
+    requires { Present on.now (expr_asks (t_binary operator (expr_of left.now) (expr_of right.now) target.ty target.span) target.site.slot) }
+    ensures { OnOk result (Writes b.old b.new (node_at on.now (t_binary operator (expr_of left.now) (expr_of right.now) target.ty target.span) target)) }
 {
-    let x = operand(b, on, ty.rate, left, k, slot)?;
-    let y = operand(b, on, ty.rate, right, k, slot + 1)?;
-    operate_to(b, ty.rate, operator, to, x, y, k, span)?;
+    let Site { mask: k, slot } = target.site;
+    let x = operand(b, on, target.ty.rate, left, k, slot)?;
+    let y = operand(b, on, target.ty.rate, right, k, slot + 1)?;
+    operate_to(b, operator, x, y, target)?;
     Ok(())
 }
 
@@ -196,21 +172,19 @@ fn binary_to(
 fn compare_to(
     b: &mut Body,
     on: &Scope,
-    to: u32,
     comparison: Compare,
-    rate: Rate,
     left: &TypedExpr,
     right: &TypedExpr,
-    span: Span,
-    k: u32,
-    slot: u32,
+    target: Target,
 ) -> Result<(), AllocError>
-    requires { Present on.now (expr_asks (t_compare comparison (expr_of left.now) (expr_of right.now) rate span) slot) }
-    ensures { OnOk result (Appends b.old b.new (λ pc p. expr_to (layout on.now) to (t_compare comparison (expr_of left.now) (expr_of right.now) rate span) pc p k slot) (expr_places (layout on.now) (t_compare comparison (expr_of left.now) (expr_of right.now) rate span))) }
+    requires { Present on.now (expr_asks (t_compare comparison (expr_of left.now) (expr_of right.now) target.ty.rate target.span) target.site.slot) }
+    ensures { OnOk result (Writes b.old b.new (node_at on.now (t_compare comparison (expr_of left.now) (expr_of right.now) target.ty.rate target.span) target)) }
 {
+    let Site { mask: k, slot } = target.site;
+    let rate = target.ty.rate;
     let x = operand(b, on, rate, left, k, slot)?;
     let y = operand(b, on, rate, right, k, slot + 1)?;
-    b.push(compare(rate, comparison, to, x, y, k))?;
+    b.push(compare(rate, comparison, target.to, x, y, k))?;
     Ok(())
 }
 
@@ -241,14 +215,13 @@ fn constant_of(x: &TypedExpr) -> Option<Value>
 fn convert_to(
     b: &mut Body,
     on: &Scope,
-    to: u32,
     elem: Elem,
     x: &TypedExpr,
-    k: u32,
-    slot: u32,
+    to: u32,
+    site: Site,
 ) -> Result<(), AllocError>
-    requires { Present on.now (expr_asks (expr_of x.now) slot) }
-    ensures { OnOk result (Appends b.old b.new (λ pc p. expr_to (layout on.now) to (t_convert elem (expr_of x.now)) pc p k slot) (expr_places (layout on.now) (expr_of x.now))) }
+    requires { Present on.now (expr_asks (expr_of x.now) site.slot) }
+    ensures { OnOk result (Writes b.old b.new (to_at on.now (t_convert elem (expr_of x.now)) to site)) }
 {
     match constant_of(x) {
         Some(value) => {
@@ -257,8 +230,8 @@ fn convert_to(
             Ok(())
         }
         None => {
-            let from = expr(b, on, x, k, slot)?;
-            b.push(convert(x.ty().rate, to, from, k))?;
+            let from = expr(b, on, x, site.mask, site.slot)?;
+            b.push(convert(x.ty().rate, to, from, site.mask))?;
             Ok(())
         }
     }
@@ -276,14 +249,14 @@ fn is_whole(elem: Elem) -> bool
 fn whole(b: &mut Body, on: &Scope, x: &TypedExpr, k: u32, slot: u32) -> Result<u32, AllocError>
     requires { Present on.now (whole_asks (expr_of x.now) slot (expr_asks (expr_of x.now) slot)) }
     ensures register { IfOk result (λ d. d ≡ whole (layout on.now) (is_whole (type_of (expr_of x.now)).elem) (expr_of x.now) slot) }
-    ensures code { OnOk result (Appends b.old b.new (λ pc p. whole_of (layout on.now) (is_whole (type_of (expr_of x.now)).elem) (expr_of x.now) k slot (expr_code (layout on.now) (expr_of x.now) pc p k slot)) (expr_places (layout on.now) (expr_of x.now))) }
+    ensures code { OnOk result (Writes b.old b.new (whole_at on.now (expr_of x.now) k slot)) }
 {
     let given = x.ty();
     if is_whole(given.elem) {
         expr(b, on, x, k, slot)
     } else {
         let to = on.spare(given.rate, Elem::I64, slot);
-        convert_to(b, on, to, Elem::I64, x, k, slot)?;
+        convert_to(b, on, Elem::I64, x, to, Site { mask: k, slot })?;
         Ok(to)
     }
 }
@@ -300,11 +273,14 @@ pub fn index(
 ) -> Result<u32, AllocError>
     requires { Present on.now (index_asks rate (expr_of x.now) slot (expr_asks (expr_of x.now) slot)) }
     ensures register { IfOk result (λ d. d ≡ index (layout on.now) rate (expr_of x.now) slot) }
-    ensures code { OnOk result (Appends b.old b.new (λ pc p. index_of (layout on.now) rate (expr_of x.now) k slot (expr_code (layout on.now) (expr_of x.now) pc p k slot)) (expr_places (layout on.now) (expr_of x.now))) }
+    ensures code { OnOk result (Writes b.old b.new (index_at on.now rate (expr_of x.now) k slot)) }
 {
     let from = whole(b, on, x, k, slot)?;
-    let given = x.ty();
-    lift(b, on, rate, given.rate, Elem::I64, from, k, slot)
+    let ty = Ty {
+        rate: x.ty().rate,
+        elem: Elem::I64,
+    };
+    lift(b, on, rate, Held { from, ty }, Site { mask: k, slot })
 }
 
 /// A register gets what an element has; a variable stays in place.
@@ -312,13 +288,12 @@ pub fn index(
 fn place_to(
     b: &mut Body,
     on: &Scope,
-    to: u32,
     place: &TypedPlace,
-    k: u32,
-    slot: u32,
+    to: u32,
+    site: Site,
 ) -> Result<(), AllocError>
-    requires { Present on.now (expr_asks (t_place (place_of place.now)) slot) }
-    ensures { OnOk result (Appends b.old b.new (λ pc p. expr_to (layout on.now) to (t_place (place_of place.now)) pc p k slot) (expr_places (layout on.now) (t_place (place_of place.now)))) }
+    requires { Present on.now (expr_asks (t_place (place_of place.now)) site.slot) }
+    ensures { OnOk result (Writes b.old b.new (to_at on.now (t_place (place_of place.now)) to site)) }
 {
     match place {
         TypedPlace::Variable { .. } => Ok(()),
@@ -327,7 +302,7 @@ fn place_to(
             index: inner,
             ty,
             span,
-        } => element_to(b, on, to, *array, inner, *ty, *span, k, slot),
+        } => element_to(b, on, *array, inner, Target::new(to, *ty, *span, site)),
     }
 }
 
@@ -336,61 +311,58 @@ fn place_to(
 fn element_to(
     b: &mut Body,
     on: &Scope,
-    to: u32,
     array: ArrayVariable,
     inner: &TypedExpr,
-    ty: Ty,
-    span: Span,
-    k: u32,
-    slot: u32,
+    target: Target,
 ) -> Result<(), AllocError>
-    requires { Present on.now (target_asks (t_element array (expr_of inner.now) ty span) slot) }
-    ensures { OnOk result (Appends b.old b.new (λ pc p. expr_to (layout on.now) to (t_place (t_element array (expr_of inner.now) ty span)) pc p k slot) (expr_places (layout on.now) (t_place (t_element array (expr_of inner.now) ty span)))) }
+    requires { Present on.now (target_asks (t_element array (expr_of inner.now) target.ty target.span) target.site.slot) }
+    ensures { OnOk result (Writes b.old b.new (node_at on.now (t_place (t_element array (expr_of inner.now) target.ty target.span)) target)) }
 {
-    let at = index(b, on, ty.rate, inner, k, slot)?;
-    read_to(b, on, ty.rate, to, array, at, k, span)?;
+    let Site { mask: k, slot } = target.site;
+    let index = index(b, on, target.ty.rate, inner, k, slot)?;
+    let element = Element {
+        array,
+        index,
+        ty: target.ty,
+        span: target.span,
+    };
+    read_to(b, on, element, target.to, k)?;
     Ok(())
 }
 
 /// A register gets the value as one of a rate, by a copy.
 #[cycle(expr)]
-pub fn copied(
+pub(crate) fn copied(
     b: &mut Body,
     on: &Scope,
-    rate: Rate,
     x: &TypedExpr,
-    to: u32,
-    k: u32,
-    slot: u32,
+    target: Target,
 ) -> Result<(), AllocError>
-    requires { Present on.now (operand_asks rate (expr_of x.now) slot) }
-    ensures { OnOk result (Appends b.old b.new (λ pc p. operand_of (layout on.now) rate (expr_of x.now) k slot (expr_code (layout on.now) (expr_of x.now) pc p k slot) ++ copy rate to (operand (layout on.now) rate (expr_of x.now) slot) k ∷ []) (expr_places (layout on.now) (expr_of x.now))) }
+    requires { Present on.now (operand_asks target.ty.rate (expr_of x.now) target.site.slot) }
+    ensures { OnOk result (Writes b.old b.new (value_at on.now false (expr_of x.now) target)) }
 {
-    let from = operand(b, on, rate, x, k, slot)?;
-    b.push(copy(rate, to, from, k))?;
+    let Site { mask: k, slot } = target.site;
+    let from = operand(b, on, target.ty.rate, x, k, slot)?;
+    b.push(copy(target.ty.rate, target.to, from, k))?;
     Ok(())
 }
 
-/// The right side of `&&` or `||` under a mask, copied to a register. It is jumped over where a register passes a test.
+/// The right side of `&&` or `||`, copied to a register; a jump goes past it.
 #[cycle(expr)]
 fn right_side(
     b: &mut Body,
     on: &Scope,
-    test: JumpTest,
-    tested: Register,
-    rate: Rate,
+    skip: Skip,
     x: &TypedExpr,
-    to: u32,
-    k: u32,
-    slot: u32,
+    target: Target,
 ) -> Result<(), AllocError>
-    requires { Present on.now (operand_asks rate (expr_of x.now) slot) }
-    ensures { OnOk result (Appends b.old b.new (λ pc p. guard (λ at. instr.JumpIf test tested at) pc (λ pc1. operand_of (layout on.now) rate (expr_of x.now) k slot (expr_code (layout on.now) (expr_of x.now) pc1 p k slot) ++ copy rate to (operand (layout on.now) rate (expr_of x.now) slot) k ∷ [])) (expr_places (layout on.now) (expr_of x.now))) }
+    requires { Present on.now (operand_asks target.ty.rate (expr_of x.now) target.site.slot) }
+    ensures { OnOk result (Writes b.old b.new (skipped_at on.now skip (expr_of x.now) target)) }
 {
     let at = b.code.len();
-    b.push(Instr::JumpIf(test, tested, 0))?;
-    copied(b, on, rate, x, to, k, slot)?;
-    b.land(at, test, tested);
+    b.push(Instr::JumpIf(skip.test, skip.register, 0))?;
+    copied(b, on, x, target)?;
+    b.land(at, skip.test, skip.register);
     Ok(())
 }
 
@@ -399,30 +371,27 @@ fn right_side(
 fn logic_of_one(
     b: &mut Body,
     on: &Scope,
-    to: u32,
     logic: Logic,
     left: &TypedExpr,
     right: &TypedExpr,
-    span: Span,
-    k: u32,
-    slot: u32,
+    target: Target,
 ) -> Result<(), AllocError>
-    requires { Present on.now (expr_asks (t_logic logic (expr_of left.now) (expr_of right.now) Uniform span) slot) }
-    ensures { OnOk result (Appends b.old b.new (λ pc p. expr_to (layout on.now) to (t_logic logic (expr_of left.now) (expr_of right.now) Uniform span) pc p k slot) (expr_places (layout on.now) (t_logic logic (expr_of left.now) (expr_of right.now) Uniform span))) }
+    requires { Present on.now (expr_asks (t_logic logic (expr_of left.now) (expr_of right.now) Uniform target.span) target.site.slot) }
+    ensures { OnOk result (Writes b.old b.new (node_at on.now (t_logic logic (expr_of left.now) (expr_of right.now) Uniform target.span) target)) }
 {
+    let Site { mask: k, slot } = target.site;
     let from = operand(b, on, Rate::Uniform, left, k, slot)?;
-    let result = moved(b, on, Rate::Uniform, Elem::Bool, from, k, slot)?;
-    right_side(
-        b,
-        on,
-        decided(logic),
-        scalar(result),
-        Rate::Uniform,
-        right,
-        result,
-        k,
-        slot + 1,
-    )?;
+    let ty = Ty {
+        rate: Rate::Uniform,
+        elem: Elem::Bool,
+    };
+    let result = moved(b, on, Held { from, ty }, target.site)?;
+    let skip = Skip {
+        test: decided(logic),
+        register: scalar(result),
+    };
+    let aim = Target::new(result, ty, target.span, target.site.next());
+    right_side(b, on, skip, right, aim)?;
     Ok(())
 }
 
@@ -431,50 +400,40 @@ fn logic_of_one(
 fn logic_of_each(
     b: &mut Body,
     on: &Scope,
-    to: u32,
     logic: Logic,
     left: &TypedExpr,
     right: &TypedExpr,
-    span: Span,
-    k: u32,
-    slot: u32,
+    target: Target,
 ) -> Result<(), AllocError>
-    requires { Present on.now (expr_asks (t_logic logic (expr_of left.now) (expr_of right.now) Varying span) slot) }
-    ensures { OnOk result (Appends b.old b.new (λ pc p. expr_to (layout on.now) to (t_logic logic (expr_of left.now) (expr_of right.now) Varying span) pc p k slot) (expr_places (layout on.now) (t_logic logic (expr_of left.now) (expr_of right.now) Varying span))) }
+    requires { Present on.now (expr_asks (t_logic logic (expr_of left.now) (expr_of right.now) Varying target.span) target.site.slot) }
+    ensures { OnOk result (Writes b.old b.new (node_at on.now (t_logic logic (expr_of left.now) (expr_of right.now) Varying target.span) target)) }
 {
+    let Site { mask: k, slot } = target.site;
     let from = operand(b, on, Rate::Varying, left, k, slot)?;
-    let result = moved(b, on, Rate::Varying, Elem::Bool, from, k, slot)?;
+    let ty = Ty {
+        rate: Rate::Varying,
+        elem: Elem::Bool,
+    };
+    let result = moved(b, on, Held { from, ty }, target.site)?;
     put_needing(b, logic, slot, result, k)?;
-    right_side(
-        b,
-        on,
-        JumpTest::Off,
-        mask(slot),
-        Rate::Varying,
-        right,
-        result,
-        slot,
-        slot + 1,
-    )?;
+    let skip = Skip {
+        test: JumpTest::Off,
+        register: mask(slot),
+    };
+    let aim = Target::new(result, ty, target.span, target.site.under());
+    right_side(b, on, skip, right, aim)?;
     Ok(())
 }
 
 /// A side of a choice, moved to the slot.
 #[cycle(expr)]
-fn side(
-    b: &mut Body,
-    on: &Scope,
-    ty: Ty,
-    x: &TypedExpr,
-    k: u32,
-    slot: u32,
-) -> Result<(), AllocError>
-    requires to { Present on.now (spare_ask ty.rate ty.elem slot) }
-    requires value { Present on.now (operand_asks ty.rate (expr_of x.now) slot) }
-    ensures { OnOk result (Appends b.old b.new (λ pc p. operand_of (layout on.now) ty.rate (expr_of x.now) k slot (expr_code (layout on.now) (expr_of x.now) pc p k slot) ++ move_code ty.rate ((layout on.now).spare ty.rate ty.elem slot) (operand (layout on.now) ty.rate (expr_of x.now) slot) k) (expr_places (layout on.now) (expr_of x.now))) }
+fn side(b: &mut Body, on: &Scope, ty: Ty, x: &TypedExpr, site: Site) -> Result<(), AllocError>
+    requires to { Present on.now (spare_ask ty.rate ty.elem site.slot) }
+    requires value { Present on.now (operand_asks ty.rate (expr_of x.now) site.slot) }
+    ensures { OnOk result (Writes b.old b.new (side_at on.now ty (expr_of x.now) site)) }
 {
-    let from = operand(b, on, ty.rate, x, k, slot)?;
-    moved(b, on, ty.rate, ty.elem, from, k, slot)?;
+    let from = operand(b, on, ty.rate, x, site.mask, site.slot)?;
+    moved(b, on, Held { from, ty }, site)?;
     Ok(())
 }
 
@@ -484,24 +443,22 @@ fn choose_by_jump(
     b: &mut Body,
     on: &Scope,
     tested: u32,
-    ty: Ty,
     then: &TypedExpr,
     otherwise: &TypedExpr,
-    k: u32,
-    slot: u32,
+    target: Target,
 ) -> Result<(), AllocError>
-    requires to { Present on.now (spare_ask ty.rate ty.elem slot) }
-    requires then { Present on.now (operand_asks ty.rate (expr_of then.now) slot) }
-    requires otherwise { Present on.now (operand_asks ty.rate (expr_of otherwise.now) slot) }
-    ensures { OnOk result (Appends b.old b.new (λ pc p. choice (jump_on jump.False tested) pc (λ pc1. operand_of (layout on.now) ty.rate (expr_of then.now) k slot (expr_code (layout on.now) (expr_of then.now) pc1 p k slot) ++ move_code ty.rate ((layout on.now).spare ty.rate ty.elem slot) (operand (layout on.now) ty.rate (expr_of then.now) slot) k) (λ pc1. operand_of (layout on.now) ty.rate (expr_of otherwise.now) k slot (expr_code (layout on.now) (expr_of otherwise.now) pc1 (p + length (expr_places (layout on.now) (expr_of then.now))) k slot) ++ move_code ty.rate ((layout on.now).spare ty.rate ty.elem slot) (operand (layout on.now) ty.rate (expr_of otherwise.now) slot) k)) (expr_places (layout on.now) (expr_of then.now) ++ expr_places (layout on.now) (expr_of otherwise.now))) }
+    requires to { Present on.now (spare_ask target.ty.rate target.ty.elem target.site.slot) }
+    requires then { Present on.now (operand_asks target.ty.rate (expr_of then.now) target.site.slot) }
+    requires otherwise { Present on.now (operand_asks target.ty.rate (expr_of otherwise.now) target.site.slot) }
+    ensures { OnOk result (Writes b.old b.new (by_jump_at on.now tested (expr_of then.now) (expr_of otherwise.now) target)) }
 {
     let at = b.code.len();
     b.push(Instr::JumpIf(JumpTest::False, scalar(tested), 0))?;
-    side(b, on, ty, then, k, slot)?;
+    side(b, on, target.ty, then, target.site)?;
     let over = b.code.len();
     b.push(Instr::Jump(0))?;
     b.land(at, JumpTest::False, scalar(tested));
-    side(b, on, ty, otherwise, k, slot)?;
+    side(b, on, target.ty, otherwise, target.site)?;
     b.land_always(over);
     Ok(())
 }
@@ -511,21 +468,19 @@ fn choose_by_jump(
 fn choose_one(
     b: &mut Body,
     on: &Scope,
-    ty: Ty,
     test: &TypedExpr,
     then: &TypedExpr,
     otherwise: &TypedExpr,
-    k: u32,
-    slot: u32,
+    target: Target,
 ) -> Result<(), AllocError>
-    requires test { Present on.now (expr_asks (expr_of test.now) slot) }
-    requires to { Present on.now (spare_ask ty.rate ty.elem slot) }
-    requires then { Present on.now (operand_asks ty.rate (expr_of then.now) slot) }
-    requires otherwise { Present on.now (operand_asks ty.rate (expr_of otherwise.now) slot) }
-    ensures { OnOk result (Appends b.old b.new (λ pc p. choose_code (layout on.now) Uniform ty.rate ty.elem (expr_of then.now) (expr_of otherwise.now) (found (layout on.now) (expr_of test.now) slot) pc k slot (expr_code (layout on.now) (expr_of test.now) pc p k slot) (λ pc1 m i. operand_of (layout on.now) ty.rate (expr_of then.now) m i (expr_code (layout on.now) (expr_of then.now) pc1 (p + length (expr_places (layout on.now) (expr_of test.now))) m i)) (λ pc1 m i. operand_of (layout on.now) ty.rate (expr_of otherwise.now) m i (expr_code (layout on.now) (expr_of otherwise.now) pc1 (p + length (expr_places (layout on.now) (expr_of test.now)) + length (expr_places (layout on.now) (expr_of then.now))) m i))) (expr_places (layout on.now) (expr_of test.now) ++ (expr_places (layout on.now) (expr_of then.now) ++ expr_places (layout on.now) (expr_of otherwise.now)))) }
+    requires test { Present on.now (expr_asks (expr_of test.now) target.site.slot) }
+    requires to { Present on.now (spare_ask target.ty.rate target.ty.elem target.site.slot) }
+    requires then { Present on.now (operand_asks target.ty.rate (expr_of then.now) target.site.slot) }
+    requires otherwise { Present on.now (operand_asks target.ty.rate (expr_of otherwise.now) target.site.slot) }
+    ensures { OnOk result (Writes b.old b.new (chosen_at on.now Uniform (expr_of test.now) (expr_of then.now) (expr_of otherwise.now) target)) }
 {
-    let tested = expr(b, on, test, k, slot)?;
-    choose_by_jump(b, on, tested, ty, then, otherwise, k, slot)?;
+    let tested = expr(b, on, test, target.site.mask, target.site.slot)?;
+    choose_by_jump(b, on, tested, then, otherwise, target)?;
     Ok(())
 }
 
@@ -541,7 +496,7 @@ fn masked_side(
 ) -> Result<u32, AllocError>
     requires { Present on.now (operand_asks rate (expr_of x.now) slot) }
     ensures register { IfOk result (λ d. d ≡ operand (layout on.now) rate (expr_of x.now) slot) }
-    ensures code { OnOk result (Appends b.old b.new (λ pc p. guard (jump_off k) pc (λ pc1. operand_of (layout on.now) rate (expr_of x.now) k slot (expr_code (layout on.now) (expr_of x.now) pc1 p k slot))) (expr_places (layout on.now) (expr_of x.now))) }
+    ensures code { OnOk result (Writes b.old b.new (guarded_at on.now rate (expr_of x.now) k slot)) }
 {
     let at = b.code.len();
     b.push(Instr::JumpIf(JumpTest::Off, mask(k), 0))?;
@@ -556,18 +511,18 @@ fn choose_by_masks(
     b: &mut Body,
     on: &Scope,
     tested: u32,
-    ty: Ty,
     then: &TypedExpr,
     otherwise: &TypedExpr,
-    k: u32,
-    slot: u32,
+    target: Target,
 ) -> Result<(), AllocError>
-    requires to { Present on.now (spare_ask ty.rate ty.elem slot) }
-    requires slots { slot + 2 < 4294967296 }
-    requires then { Present on.now (operand_asks ty.rate (expr_of then.now) (slot + 1)) }
-    requires otherwise { Present on.now (operand_asks ty.rate (expr_of otherwise.now) (slot + 2)) }
-    ensures { OnOk result (Appends b.old b.new (λ pc p. choose_rest ((layout on.now).spare ty.rate ty.elem slot) tested (operand (layout on.now) ty.rate (expr_of then.now) (slot + 1)) (operand (layout on.now) ty.rate (expr_of otherwise.now) (slot + 2)) pc k slot (λ pc1 m i. operand_of (layout on.now) ty.rate (expr_of then.now) m i (expr_code (layout on.now) (expr_of then.now) pc1 p m i)) (λ pc1 m i. operand_of (layout on.now) ty.rate (expr_of otherwise.now) m i (expr_code (layout on.now) (expr_of otherwise.now) pc1 (p + length (expr_places (layout on.now) (expr_of then.now))) m i))) (expr_places (layout on.now) (expr_of then.now) ++ expr_places (layout on.now) (expr_of otherwise.now))) }
+    requires to { Present on.now (spare_ask target.ty.rate target.ty.elem target.site.slot) }
+    requires slots { target.site.slot + 2 < 4294967296 }
+    requires then { Present on.now (operand_asks target.ty.rate (expr_of then.now) (target.site.slot + 1)) }
+    requires otherwise { Present on.now (operand_asks target.ty.rate (expr_of otherwise.now) (target.site.slot + 2)) }
+    ensures { OnOk result (Writes b.old b.new (by_masks_at on.now tested (expr_of then.now) (expr_of otherwise.now) target)) }
 {
+    let Site { mask: k, slot } = target.site;
+    let ty = target.ty;
     b.push(where_so(slot, tested, k))?;
     let first = masked_side(b, on, ty.rate, then, slot, slot + 1)?;
     b.push(the_others(slot + 1, k, slot))?;
@@ -582,22 +537,20 @@ fn choose_by_masks(
 fn choose_each(
     b: &mut Body,
     on: &Scope,
-    ty: Ty,
     test: &TypedExpr,
     then: &TypedExpr,
     otherwise: &TypedExpr,
-    k: u32,
-    slot: u32,
+    target: Target,
 ) -> Result<(), AllocError>
-    requires test { Present on.now (expr_asks (expr_of test.now) slot) }
-    requires to { Present on.now (spare_ask ty.rate ty.elem slot) }
-    requires slots { slot + 2 < 4294967296 }
-    requires then { Present on.now (operand_asks ty.rate (expr_of then.now) (slot + 1)) }
-    requires otherwise { Present on.now (operand_asks ty.rate (expr_of otherwise.now) (slot + 2)) }
-    ensures { OnOk result (Appends b.old b.new (λ pc p. choose_code (layout on.now) Varying ty.rate ty.elem (expr_of then.now) (expr_of otherwise.now) (found (layout on.now) (expr_of test.now) slot) pc k slot (expr_code (layout on.now) (expr_of test.now) pc p k slot) (λ pc1 m i. operand_of (layout on.now) ty.rate (expr_of then.now) m i (expr_code (layout on.now) (expr_of then.now) pc1 (p + length (expr_places (layout on.now) (expr_of test.now))) m i)) (λ pc1 m i. operand_of (layout on.now) ty.rate (expr_of otherwise.now) m i (expr_code (layout on.now) (expr_of otherwise.now) pc1 (p + length (expr_places (layout on.now) (expr_of test.now)) + length (expr_places (layout on.now) (expr_of then.now))) m i))) (expr_places (layout on.now) (expr_of test.now) ++ (expr_places (layout on.now) (expr_of then.now) ++ expr_places (layout on.now) (expr_of otherwise.now)))) }
+    requires test { Present on.now (expr_asks (expr_of test.now) target.site.slot) }
+    requires to { Present on.now (spare_ask target.ty.rate target.ty.elem target.site.slot) }
+    requires slots { target.site.slot + 2 < 4294967296 }
+    requires then { Present on.now (operand_asks target.ty.rate (expr_of then.now) (target.site.slot + 1)) }
+    requires otherwise { Present on.now (operand_asks target.ty.rate (expr_of otherwise.now) (target.site.slot + 2)) }
+    ensures { OnOk result (Writes b.old b.new (chosen_at on.now Varying (expr_of test.now) (expr_of then.now) (expr_of otherwise.now) target)) }
 {
-    let tested = expr(b, on, test, k, slot)?;
-    choose_by_masks(b, on, tested, ty, then, otherwise, k, slot)?;
+    let tested = expr(b, on, test, target.site.mask, target.site.slot)?;
+    choose_by_masks(b, on, tested, then, otherwise, target)?;
     Ok(())
 }
 
@@ -615,25 +568,22 @@ fn stayed(on: &Scope, x: &TypedExpr, slot: u32) -> u32
 fn choose_short(
     b: &mut Body,
     on: &Scope,
-    to: u32,
-    ty: Ty,
     test: &TypedExpr,
     then: &TypedExpr,
     otherwise: &TypedExpr,
-    span: Span,
-    k: u32,
-    slot: u32,
+    target: Target,
 ) -> Result<(), AllocError>
-    requires asked { Present on.now (expr_asks (t_choose (expr_of test.now) (expr_of then.now) (expr_of otherwise.now) ty span) slot) }
-    requires short { is_short (layout on.now) ty.rate (expr_of test.now) (expr_of then.now) (expr_of otherwise.now) ≡ true }
-    ensures { OnOk result (Appends b.old b.new (λ pc p. expr_code (layout on.now) (expr_of test.now) pc p k slot ++ select ty.rate to (found (layout on.now) (expr_of test.now) slot) (found (layout on.now) (expr_of then.now) slot) (found (layout on.now) (expr_of otherwise.now) slot) k ∷ []) (expr_places (layout on.now) (expr_of test.now))) }
+    requires asked { Present on.now (expr_asks (t_choose (expr_of test.now) (expr_of then.now) (expr_of otherwise.now) target.ty target.span) target.site.slot) }
+    requires short { is_short (layout on.now) target.ty.rate (expr_of test.now) (expr_of then.now) (expr_of otherwise.now) ≡ true }
+    ensures { OnOk result (Writes b.old b.new (short_at on.now (expr_of test.now) (expr_of then.now) (expr_of otherwise.now) target)) }
 {
+    let Site { mask: k, slot } = target.site;
     let tested = expr(b, on, test, k, slot)?;
     let (first, second) = match test.ty().rate {
         Rate::Uniform => (stayed(on, then, slot), stayed(on, otherwise, slot)),
         Rate::Varying => (stayed(on, then, slot + 1), stayed(on, otherwise, slot + 2)),
     };
-    b.push(select(ty.rate, to, tested, first, second, k))?;
+    b.push(select(target.ty.rate, target.to, tested, first, second, k))?;
     Ok(())
 }
 
@@ -643,29 +593,25 @@ fn choose_short(
 fn choose_to(
     b: &mut Body,
     on: &Scope,
-    to: u32,
-    ty: Ty,
     test: &TypedExpr,
     then: &TypedExpr,
     otherwise: &TypedExpr,
-    span: Span,
-    k: u32,
-    slot: u32,
+    target: Target,
 ) -> Result<(), AllocError>
-    requires { Present on.now (expr_asks (t_choose (expr_of test.now) (expr_of then.now) (expr_of otherwise.now) ty span) slot) }
-    ensures { OnOk result (Appends b.old b.new (λ pc p. expr_to (layout on.now) to (t_choose (expr_of test.now) (expr_of then.now) (expr_of otherwise.now) ty span) pc p k slot) (expr_places (layout on.now) (t_choose (expr_of test.now) (expr_of then.now) (expr_of otherwise.now) ty span))) }
+    requires { Present on.now (expr_asks (t_choose (expr_of test.now) (expr_of then.now) (expr_of otherwise.now) target.ty target.span) target.site.slot) }
+    ensures { OnOk result (Writes b.old b.new (node_at on.now (t_choose (expr_of test.now) (expr_of then.now) (expr_of otherwise.now) target.ty target.span) target)) }
 {
-    if is_short(ty.rate, test, then, otherwise) {
-        choose_short(b, on, to, ty, test, then, otherwise, span, k, slot)?;
+    if is_short(target.ty.rate, test, then, otherwise) {
+        choose_short(b, on, test, then, otherwise, target)?;
         return Ok(());
     }
     match test.ty().rate {
         Rate::Uniform => {
-            choose_one(b, on, ty, test, then, otherwise, k, slot)?;
+            choose_one(b, on, test, then, otherwise, target)?;
             Ok(())
         }
         Rate::Varying => {
-            choose_each(b, on, ty, test, then, otherwise, k, slot)?;
+            choose_each(b, on, test, then, otherwise, target)?;
             Ok(())
         }
     }

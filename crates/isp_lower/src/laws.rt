@@ -1,5 +1,5 @@
 //! What holds of all code. No code is run here: each function carries a law in its contract.
-ghost use Rattle.isp_lower.specs.Laws.{ExprRuns, ExprSound, ItemsRun, ItemsSound, LayoutsAreApart, PartsFit, RowsAreThere, RowsAreTyped, RowsStay, SimpleRuns, SimpleSound};
+ghost use Rattle.isp_lower.specs.Laws.{ExprRuns, ExprSound, ItemsRun, ItemsSound, LayoutsAreApart, RowsAreThere, RowsAreTyped, RowsStay, SimpleRuns, SimpleSound};
 
 /// The code of an expression gives its value in the lanes of a mask, traps as it traps, and goes on
 /// where it is cut, within 32 instructions for each unit of work. Variables, and the registers that
@@ -19,12 +19,6 @@ pub fn assignments_run()
 /// alone; an array that all lanes share is set whole.
 pub fn declarations_run()
     ensures { ItemsRun }
-{}
-
-/// What the laws ask of a tree and its registers falls in two: what is asked of the tree alone, and that
-/// each register has its type.
-pub fn parts_fit()
-    ensures { PartsFit }
 {}
 
 /// A layout from lists of rows, in which a register has the number of the first row of its name, gives

@@ -6,7 +6,9 @@ ghost use Rattle.isp_code.specs.declared.instr.Instr.TheVariants as instr;
 ghost use Rattle.isp_code.specs.declared.instr.VectorInstr.TheVariants as instr_vector;
 ghost use Rattle.isp_lower.specs.Layout.{array_register, mask_register, register};
 ghost use Rattle.isp_lower.specs.Code.{compare, compute, constant, convert, copy, operate, read, select, the_others, unary, where_so, write};
+ghost use Rattle.isp_lower.specs.Written.{division_at};
 
+use crate::sites::Target;
 use isp_base::{BinOp, Compare, Elem, Rate, UnaryOp, number};
 use isp_code::{
     Class, Division, Instr, MaskInstr, MaskOp, Plain, Register, ScalarInstr, VectorInstr,
@@ -119,16 +121,8 @@ pub fn compute(rate: Rate, operator: Plain, to: u32, left: u32, right: u32, k: u
 }
 
 /// An operator on two values; a division names the place of its trap.
-pub fn operate(
-    rate: Rate,
-    operator: BinOp,
-    to: u32,
-    left: u32,
-    right: u32,
-    k: u32,
-    place: u32,
-) -> Instr
-    ensures { result ≡ operate rate operator to left right k place }
+pub(crate) fn operate(operator: BinOp, left: u32, right: u32, target: Target, place: u32) -> Instr
+    ensures { result ≡ operate target.ty.rate operator target.to left right target.site.mask place }
 {
     let plain = match operator {
         BinOp::Add => Plain::Add,
@@ -142,33 +136,33 @@ pub fn operate(
         BinOp::Min => Plain::Min,
         BinOp::Max => Plain::Max,
         BinOp::Div => {
-            return divide(rate, Division::Div, to, left, right, k, place);
+            return divide(Division::Div, left, right, target, place);
         }
         BinOp::Rem => {
-            return divide(rate, Division::Rem, to, left, right, k, place);
+            return divide(Division::Rem, left, right, target, place);
         }
     };
-    compute(rate, plain, to, left, right, k)
+    compute(
+        target.ty.rate,
+        plain,
+        target.to,
+        left,
+        right,
+        target.site.mask,
+    )
 }
 
 /// A division, which names the place of its trap.
-fn divide(
-    rate: Rate,
-    division: Division,
-    to: u32,
-    left: u32,
-    right: u32,
-    k: u32,
-    place: u32,
-) -> Instr
-    ensures { result ≡ instr.Divide division (register rate to) (register rate left) (register rate right) (mask_register k) place }
+fn divide(division: Division, left: u32, right: u32, target: Target, place: u32) -> Instr
+    ensures { result ≡ division_at division left right target place }
 {
+    let rate = target.ty.rate;
     Instr::Divide(
         division,
-        of_rate(rate, to),
+        of_rate(rate, target.to),
         of_rate(rate, left),
         of_rate(rate, right),
-        mask(k),
+        mask(target.site.mask),
         place,
     )
 }

@@ -1,33 +1,40 @@
 //! Code of expressions and of assignments: what is emitted, and that it does what they mean.
 #![tactic(auto)]
 
+mod apart;
 mod assigned;
 mod beginning;
 mod body;
 mod changed;
+mod closing;
+mod copies;
+mod emitter;
+mod expressed;
 mod expression;
+mod header;
 mod laws;
 mod leaves;
+mod listing;
 mod located;
 mod register_rows;
 mod registers;
 mod reserve;
 mod scope;
+mod sites;
 mod statements;
 mod truths;
 mod types;
 mod written;
 
-pub use assigned::variable_to;
-pub use beginning::begin;
 pub use expression::{expr, index, operand};
+pub use header::Heading;
 pub use laws::{
     assignments_run, assignments_sound, declarations_run, declarations_sound, expressions_run,
-    expressions_sound, layouts_are_apart, parts_fit, rows_are_there, rows_are_typed, rows_stay,
+    expressions_sound, layouts_are_apart, rows_are_there, rows_are_typed, rows_stay,
 };
 pub use leaves::{after, copy, mask, scalar, the_others, vector, where_so};
 pub use register_rows::RegisterRows;
 pub use registers::{RegisterName, RegisterRow, Registers};
 pub use reserve::Reserve;
 pub use statements::{declared, simple};
-pub use types::{Body, Scope};
+pub use types::{Body, Emitter, Scope};

@@ -1,11 +1,13 @@
 //! Where the values of expressions are found.
-ghost use Rattle.std.specs.Prelude.{◌≡◌, ◌∷◌, [], IfOk, OnOk};
+ghost use Rattle.std.specs.Prelude.{◌≡◌, IfOk, OnOk};
 ghost use Rattle.isp_typed.specs.Views.{expr_of};
 ghost use Rattle.isp_lower.specs.Asks.{expr_asks, lift_asks, spare_ask};
-ghost use Rattle.isp_lower.specs.Code.{found, lift_code, lifted, move_code};
-ghost use Rattle.isp_lower.specs.Emitted.{Appends, Present, layout};
+ghost use Rattle.isp_lower.specs.Code.{found, lifted};
+ghost use Rattle.isp_lower.specs.Emitted.{Present, layout};
+ghost use Rattle.isp_lower.specs.Written.{Writes, lift_at, moved_at};
 
 use crate::leaves::{copy, splat};
+use crate::sites::{Held, Site};
 use crate::types::{Body, Scope};
 use isp_base::{Elem, Rate};
 use isp_typed::{TypedExpr, TypedPlace};
@@ -22,28 +24,25 @@ fn lifted(on: &Scope, wanted: Rate, given: Rate, elem: Elem, from: u32, slot: u3
     }
 }
 
-/// A value of one rate where another is wanted: one value goes to each lane.
-pub fn lift(
+/// A value where one of a rate is wanted: one value goes to each lane.
+pub(crate) fn lift(
     b: &mut Body,
     on: &Scope,
     wanted: Rate,
-    given: Rate,
-    elem: Elem,
-    from: u32,
-    k: u32,
-    slot: u32,
+    held: Held,
+    site: Site,
 ) -> Result<u32, AllocError>
-    requires { Present on.now (lift_asks wanted given elem slot) }
-    ensures register { IfOk result (λ d. d ≡ lifted (layout on.now) wanted given elem from slot) }
-    ensures code { OnOk result (Appends b.old b.new (λ pc p. lift_code (layout on.now) wanted given elem from k slot) []) }
+    requires { Present on.now (lift_asks wanted held.ty.rate held.ty.elem site.slot) }
+    ensures register { IfOk result (λ d. d ≡ lifted (layout on.now) wanted held.ty.rate held.ty.elem held.from site.slot) }
+    ensures code { OnOk result (Writes b.old b.new (lift_at on.now wanted held site)) }
 {
-    match (wanted, given) {
+    match (wanted, held.ty.rate) {
         (Rate::Varying, Rate::Uniform) => {
-            let to = on.spare(Rate::Varying, elem, slot);
-            b.push(splat(to, from, k))?;
+            let to = on.spare(Rate::Varying, held.ty.elem, site.slot);
+            b.push(splat(to, held.from, site.mask))?;
             Ok(to)
         }
-        _ => Ok(from),
+        _ => Ok(held.from),
     }
 }
 
@@ -80,22 +79,14 @@ pub fn found(on: &Scope, x: &TypedExpr, slot: u32) -> u32
 }
 
 /// A value in a slot: a copy, or nothing where it is there.
-pub fn moved(
-    b: &mut Body,
-    on: &Scope,
-    rate: Rate,
-    elem: Elem,
-    from: u32,
-    k: u32,
-    slot: u32,
-) -> Result<u32, AllocError>
-    requires { Present on.now (spare_ask rate elem slot) }
-    ensures register { IfOk result (λ d. d ≡ (layout on.now).spare rate elem slot) }
-    ensures code { OnOk result (Appends b.old b.new (λ pc p. move_code rate ((layout on.now).spare rate elem slot) from k) []) }
+pub(crate) fn moved(b: &mut Body, on: &Scope, held: Held, site: Site) -> Result<u32, AllocError>
+    requires { Present on.now (spare_ask held.ty.rate held.ty.elem site.slot) }
+    ensures register { IfOk result (λ d. d ≡ (layout on.now).spare held.ty.rate held.ty.elem site.slot) }
+    ensures code { OnOk result (Writes b.old b.new (moved_at on.now held site)) }
 {
-    let to = on.spare(rate, elem, slot);
-    if to != from {
-        b.push(copy(rate, to, from, k))?;
+    let to = on.spare(held.ty.rate, held.ty.elem, site.slot);
+    if to != held.from {
+        b.push(copy(held.ty.rate, to, held.from, site.mask))?;
     }
     Ok(to)
 }

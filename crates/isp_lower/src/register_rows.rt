@@ -1,9 +1,10 @@
 //! The registers of one class.
-ghost use Rattle.std.specs.Prelude.{◌≡◌, ◌≤◌, ◌++◌, ◌∷◌, [], length, map, slice_get, Some, None, IfSome, IfNone, OnOk, OnErr};
+ghost use Rattle.std.specs.Prelude.{◌≡◌, ◌≤◌, ◌++◌, ◌∷◌, [], length, map, slice_get, Some, None, IfOk, IfSome, IfNone, OnOk, OnErr};
 ghost use Rattle.isp_base.specs.Ranks.{rank};
-ghost use Rattle.isp_lower.specs.Lookup.{name_of, row_of};
-ghost use Rattle.isp_lower.specs.Rows.{elem_in, name_number, number_in};
+ghost use Rattle.isp_lower.specs.Lookup.{IsNamedAt, name_of, row_of};
+ghost use Rattle.isp_lower.specs.Rows.{Fresh, elem_in, name_number, number_in, with_fresh};
 
+use crate::copies::push_all;
 use crate::registers::{RegisterName, RegisterRow};
 use isp_base::Elem;
 use std::alloc::{AllocError, Global};
@@ -21,14 +22,14 @@ pub struct RegisterRows {
 
 impl Model for RegisterRows {
     ghost use Rattle.std.specs.Prelude.{◌≤◌, List, length, map};
-    ghost use Rattle.isp_lower.specs.Lookup.{Tells, row_of};
+    ghost use Rattle.isp_lower.specs.Lookup.{AreNamedFrom, Tells, row_of};
     ghost use Rattle.isp_lower.specs.declared.registers.RegisterRow.{RegisterRow};
 
     ghost Value = { List RegisterRow };
 
     ghost view = { λ r. r.rows.items };
 
-    ghost invariant = { λ r. Tells r.places (map row_of r.rows.items) × (length r.rows.items ≤ 4294967295) };
+    ghost invariant = { λ r. Tells r.places (map row_of r.rows.items) × (length r.rows.items ≤ 4294967295) × AreNamedFrom 0 (map row_of r.rows.items) };
 }
 
 /// The place of a type in the order of the types.
@@ -54,8 +55,9 @@ fn name_number(name: RegisterName) -> u128
 {
     match name {
         RegisterName::Result => 0,
-        RegisterName::Variable(number) => 1 + 2 * number as u128,
-        RegisterName::Spare(elem, slot) => 2 + 2 * (9 * slot as u128 + rank(elem)),
+        RegisterName::Variable(number) => 1 + 3 * number as u128,
+        RegisterName::Spare(elem, slot) => 2 + 3 * (9 * slot as u128 + rank(elem)),
+        RegisterName::Fresh(number) => 3 + 3 * number as u128,
     }
 }
 
@@ -97,6 +99,15 @@ impl RegisterRows {
         self.rows.as_slice()
     }
 
+    /// The same registers.
+    pub fn copied(&self, alloc: Global) -> Result<RegisterRows, AllocError>
+        ensures { IfOk result (λ r. r ≡ self.now) }
+    {
+        let mut all = RegisterRows::new(alloc);
+        push_all(&mut all, self.rows.as_slice())?;
+        Ok(all)
+    }
+
     /// The first register of a name, and its type, if there is one.
     pub fn find(&self, name: RegisterName) -> Option<(usize, Elem)>
         ensures number { IfSome result (λ x. x.0 ≡ number_in (map row_of self.now) (name_of name)) }
@@ -115,6 +126,7 @@ impl RegisterRows {
     /// One more register. Where memory is refused, they stay as they were. It is refused too where the register would be
     /// number 4,294,967,295 of its class.
     pub fn push(&mut self, row: RegisterRow) -> Result<(), AllocError>
+        requires { IsNamedAt (length self.old) (name_of row.name) }
         ensures ok { OnOk result (self.new ≡ self.old ++ row ∷ []) }
         ensures err { OnErr result (self.new ≡ self.old) }
     {
@@ -123,5 +135,20 @@ impl RegisterRows {
         }
         append(&mut self.rows, row)?;
         Ok(())
+    }
+
+    /// One more register, which no tree asks for, and its number. Where memory is refused, they stay as they were.
+    pub fn fresh(&mut self, elem: Elem) -> Result<u32, AllocError>
+        ensures number { IfOk result (λ d. d ≡ length self.old) }
+        ensures added { OnOk result (map row_of self.new ≡ with_fresh elem (map row_of self.old)) }
+        ensures named { IfOk result (λ d. number_in (map row_of self.new) (Fresh d) ≡ d) }
+        ensures refused { OnErr result (self.new ≡ self.old) }
+    {
+        let number = self.rows.len();
+        self.push(RegisterRow {
+            name: RegisterName::Fresh(number),
+            elem,
+        })?;
+        Ok(number as u32)
     }
 }

@@ -1,19 +1,22 @@
 //! The registers of the function in hand.
-ghost use Rattle.std.specs.Prelude.{◌≡◌, map, Some, OnOk};
-ghost use Rattle.isp_lower.specs.Emitted.{Begins, Grows, HasArray, HasRow, name_of, row_of};
-ghost use Rattle.isp_lower.specs.Rows.{Result, Spare, Variable as VariableName, elem_in};
+ghost use Rattle.std.specs.Prelude.{◌≡◌, length, map, Some, IfOk, OnErr, OnOk};
+ghost use Rattle.isp_lower.specs.Emitted.{Begins, Grows, HasArray, HasRow, name_of, row_of, rows_of};
+ghost use Rattle.isp_lower.specs.Lookup.{IsAsked};
+ghost use Rattle.isp_lower.specs.Rows.{Result, Spare, Variable as VariableName, elem_in, layout_of, rows_at, with_fresh_at};
 
 use crate::register_rows::RegisterRows;
 use isp_base::{Elem, Rate, Ty};
 use isp_typed::ArrayVariable;
 use std::alloc::AllocError;
 
-/// What a register is for: a variable, by its number, what the function gives back, or values of a type in a slot.
+/// What a register is for: a variable, by its number, what the function gives back, values of a type in a slot, or what
+/// no tree asks for; then it is named by its own number.
 #[derive(Clone, Copy)]
 pub enum RegisterName {
     Variable(usize),
     Result,
     Spare(Elem, u32),
+    Fresh(usize),
 }
 
 /// A register.
@@ -43,6 +46,7 @@ fn given(rows: &RegisterRows, name: RegisterName, elem: Elem) -> Result<(), Allo
 
 /// A register of a name: the next one where there is none. Memory is refused too where there is one of another type.
 fn given_or_new(rows: &mut RegisterRows, name: RegisterName, elem: Elem) -> Result<(), AllocError>
+    requires { IsAsked (name_of name) }
     ensures rows { OnOk result (Begins (map row_of rows.old) (map row_of rows.new)) }
     ensures elem { OnOk result (elem_in (map row_of rows.new) (name_of name) ≡ Some elem) }
 {
@@ -72,35 +76,16 @@ impl Registers {
         }
     }
 
-    /// Whether a variable's value has a register. Memory is refused where the variable has none of its type.
-    pub fn variable(&self, number: usize, ty: Ty) -> Result<(), AllocError>
-        ensures { OnOk result (HasRow self.now ty.rate (VariableName number) ty.elem) }
+    /// One more register of a rate, which no tree asks for, and its number. Where memory is refused, they stay as they were.
+    pub fn fresh(&mut self, rate: Rate, elem: Elem) -> Result<u32, AllocError>
+        ensures number { IfOk result (λ d. d ≡ length (rows_at (rows_of self.old) rate)) }
+        ensures added { OnOk result (rows_of self.new ≡ with_fresh_at rate elem (rows_of self.old)) }
+        ensures named { IfOk result (λ d. (layout_of (rows_of self.new)).fresh rate d ≡ d) }
+        ensures refused { OnErr result (rows_of self.new ≡ rows_of self.old) }
     {
-        let name = RegisterName::Variable(number);
-        match ty.rate {
-            Rate::Uniform => given(&self.scalars, name, ty.elem),
-            Rate::Varying => given(&self.vectors, name, ty.elem),
+        match rate {
+            Rate::Uniform => self.scalars.fresh(elem),
+            Rate::Varying => self.vectors.fresh(elem),
         }
-    }
-
-    /// Whether what the function gives back has a register. Memory is refused where it gives back nothing of the type.
-    pub fn result(&self, ty: Ty) -> Result<(), AllocError>
-        ensures { OnOk result (HasRow self.now ty.rate Result ty.elem) }
-    {
-        match ty.rate {
-            Rate::Uniform => given(&self.scalars, RegisterName::Result, ty.elem),
-            Rate::Varying => given(&self.vectors, RegisterName::Result, ty.elem),
-        }
-    }
-
-    /// Whether an array has a register. Memory is refused where the variable has none of the type.
-    pub fn array(&self, array: ArrayVariable) -> Result<(), AllocError>
-        ensures { OnOk result (HasArray self.now array) }
-    {
-        given(
-            &self.arrays,
-            RegisterName::Variable(array.number),
-            array.ty.elem,
-        )
     }
 }

@@ -5,7 +5,7 @@ ghost use Rattle.isp_base.specs.declared.types.Elem.TheVariants.{Bool as Truth};
 ghost use Rattle.isp_base.specs.declared.types.Rate.TheVariants.{Uniform, Varying};
 ghost use Rattle.isp_typed.specs.Typed.{type_of};
 ghost use Rattle.isp_typed.specs.Views.{expr_of, item_of, items_of, place_of, simple_of};
-ghost use Rattle.isp_lower.specs.Asks.{ArrayOf, Both, MaskOf, Number, Register as Ask, assign_asks, change_asks, expr_asks, index_asks, item_asks, items_asks, lift_asks, one_asks, operand_asks, pair_asks, read_asks, sides_ask, simple_asks, spare_ask, step_asks, target_asks, test_asks, update_asks, variable_asks, work_asks, zero_asks, beyond, first_slot, second_slot};
+ghost use Rattle.isp_lower.specs.Asks.{ArrayOf, Both, MaskOf, Number, Register as Ask, assign_asks, change_asks, expr_asks, index_asks, item_asks, items_asks, lift_asks, one_asks, operand_asks, operands_asks, read_asks, sides_ask, simple_asks, spare_ask, step_asks, target_asks, test_asks, update_asks, variable_asks, work_asks, zero_asks, beyond, first_slot, second_slot};
 ghost use Rattle.isp_lower.specs.Reserved.{Gives};
 ghost use Rattle.isp_lower.specs.Rows.{Result, Variable};
 
@@ -15,7 +15,8 @@ use isp_base::{Elem, Rate, Ty};
 use isp_typed::{ArrayVariable, TypedExpr, TypedItem, TypedPlace, TypedSimple};
 use std::alloc::AllocError;
 
-/// The registers of a function so far, and how many masks it has.
+/// The registers of a function so far, and how many masks it has. Its variables and what it gives back have registers from its
+/// beginning ([begin](crate::begin)), so a walk reserves spare registers and masks alone.
 #[derive(Drop)]
 pub struct Reserve {
     pub registers: Registers,
@@ -28,30 +29,6 @@ impl Reserve {
         ensures { OnOk result (Gives self.old self.new (spare_ask rate elem slot)) }
     {
         self.registers.spare(rate, elem, slot)?;
-        Ok(())
-    }
-
-    /// The register of a variable's value. Memory is refused where the variable has none of its type.
-    pub fn variable(&mut self, number: usize, ty: Ty) -> Result<(), AllocError>
-        ensures { OnOk result (Gives self.old self.new (Ask ty.rate (Variable number) ty.elem)) }
-    {
-        self.registers.variable(number, ty)?;
-        Ok(())
-    }
-
-    /// The register of what the function gives back. Memory is refused where it gives back nothing of the type.
-    pub fn result(&mut self, ty: Ty) -> Result<(), AllocError>
-        ensures { OnOk result (Gives self.old self.new (Ask ty.rate Result ty.elem)) }
-    {
-        self.registers.result(ty)?;
-        Ok(())
-    }
-
-    /// The register of an array. Memory is refused where the variable has none of its type.
-    fn array(&mut self, array: ArrayVariable) -> Result<(), AllocError>
-        ensures { OnOk result (Gives self.old self.new (ArrayOf array)) }
-    {
-        self.registers.array(array)?;
         Ok(())
     }
 
@@ -198,7 +175,7 @@ impl Reserve {
         right: &TypedExpr,
         slot: u32,
     ) -> Result<(), AllocError>
-        ensures { OnOk result (Gives self.old self.new (pair_asks rate (expr_of left.now) (expr_of right.now) slot (expr_asks (expr_of left.now) slot) (expr_asks (expr_of right.now) (slot + 1)))) }
+        ensures { OnOk result (Gives self.old self.new (operands_asks rate (expr_of left.now) (expr_of right.now) slot)) }
     {
         let next = self.next(slot)?;
         self.operand(rate, left, slot)?;
@@ -216,7 +193,7 @@ impl Reserve {
         right: &TypedExpr,
         slot: u32,
     ) -> Result<(), AllocError>
-        ensures { OnOk result (Gives self.old self.new (Both (spare_ask rate made slot) (pair_asks rate (expr_of left.now) (expr_of right.now) slot (expr_asks (expr_of left.now) slot) (expr_asks (expr_of right.now) (slot + 1))))) }
+        ensures { OnOk result (Gives self.old self.new (Both (spare_ask rate made slot) (operands_asks rate (expr_of left.now) (expr_of right.now) slot))) }
     {
         self.spare(rate, made, slot)?;
         self.pair(rate, left, right, slot)?;
@@ -232,7 +209,7 @@ impl Reserve {
         right: &TypedExpr,
         slot: u32,
     ) -> Result<(), AllocError>
-        ensures { OnOk result (Gives self.old self.new (Both (spare_ask rate Truth slot) (Both (test_asks rate slot) (pair_asks rate (expr_of left.now) (expr_of right.now) slot (expr_asks (expr_of left.now) slot) (expr_asks (expr_of right.now) (slot + 1)))))) }
+        ensures { OnOk result (Gives self.old self.new (Both (spare_ask rate Truth slot) (Both (test_asks rate slot) (operands_asks rate (expr_of left.now) (expr_of right.now) slot)))) }
     {
         self.spare(rate, Elem::Bool, slot)?;
         self.test(rate, slot)?;
@@ -292,29 +269,9 @@ impl Reserve {
         ensures { OnOk result (Gives self.old self.new (target_asks (place_of place.now) slot)) }
     {
         match place {
-            TypedPlace::Variable { number, ty, .. } => self.variable(*number, *ty),
-            TypedPlace::Element {
-                array,
-                index,
-                ty,
-                ..
-            } => self.place_in(*array, ty.rate, index, slot),
+            TypedPlace::Variable { .. } => Ok(()),
+            TypedPlace::Element { index, ty, .. } => self.index(ty.rate, index, slot),
         }
-    }
-
-    #[cycle(expr)]
-    fn place_in(
-        &mut self,
-        array: ArrayVariable,
-        rate: Rate,
-        index: &TypedExpr,
-        slot: u32,
-    ) -> Result<(), AllocError>
-        ensures { OnOk result (Gives self.old self.new (Both (ArrayOf array) (index_asks rate (expr_of index.now) slot (expr_asks (expr_of index.now) slot)))) }
-    {
-        self.array(array)?;
-        self.index(rate, index, slot)?;
-        Ok(())
     }
 
     /// An index, as int64, at the rate of the element.
@@ -432,31 +389,9 @@ impl Reserve {
         ensures { OnOk result (Gives self.old self.new (zero_asks ty.rate ty.elem number slot)) }
     {
         match ty.rate {
-            Rate::Uniform => self.variable(number, ty),
-            Rate::Varying => self.zero_lanes(number, ty, slot),
+            Rate::Uniform => Ok(()),
+            Rate::Varying => self.spare(Rate::Uniform, ty.elem, slot),
         }
-    }
-
-    fn zero_lanes(&mut self, number: usize, ty: Ty, slot: u32) -> Result<(), AllocError>
-        ensures { OnOk result (Gives self.old self.new (Both (spare_ask Uniform ty.elem slot) (Ask ty.rate (Variable number) ty.elem))) }
-    {
-        self.spare(Rate::Uniform, ty.elem, slot)?;
-        self.variable(number, ty)?;
-        Ok(())
-    }
-
-    fn with_value(
-        &mut self,
-        number: usize,
-        ty: Ty,
-        value: &TypedExpr,
-        slot: u32,
-    ) -> Result<(), AllocError>
-        ensures { OnOk result (Gives self.old self.new (variable_asks ty.rate ty.elem number (expr_of value.now) slot)) }
-    {
-        self.variable(number, ty)?;
-        self.operand(ty.rate, value, slot)?;
-        Ok(())
     }
 
     fn item(&mut self, x: &TypedItem, slot: u32) -> Result<(), AllocError>
@@ -464,13 +399,8 @@ impl Reserve {
     {
         match x {
             TypedItem::Plain { number, ty, .. } => self.zero(*number, *ty, slot),
-            TypedItem::Value {
-                number,
-                ty,
-                value,
-                ..
-            } => self.with_value(*number, *ty, value, slot),
-            TypedItem::Array { array, .. } => self.array(*array),
+            TypedItem::Value { ty, value, .. } => self.operand(ty.rate, value, slot),
+            TypedItem::Array { .. } => Ok(()),
         }
     }
 

@@ -10,6 +10,7 @@ use crate::assigned::{assign, variable_to};
 use crate::changed::{change_by, step};
 use crate::expression::expr;
 use crate::leaves::{clear, constant, splat};
+use crate::sites::{Home, Operation, Site};
 use crate::types::{Body, Scope};
 use isp_base::{Rate, Ty};
 use isp_typed::{TypedItem, TypedSimple};
@@ -33,20 +34,36 @@ pub fn simple(
             Ok(())
         }
         TypedSimple::Call(_) => Err(AllocError),
-        TypedSimple::Assign { target, value, .. } => assign(b, on, target, value, k, slot),
+        TypedSimple::Assign { target, value, .. } => {
+            assign(b, on, target, value, Site { mask: k, slot })
+        }
         TypedSimple::Update {
             operator,
             elem,
             target,
             value,
             span,
-        } => change_by(b, on, *operator, *elem, target, value, *span, k, slot),
+        } => {
+            let operation = Operation {
+                operator: *operator,
+                elem: *elem,
+                span: *span,
+            };
+            change_by(b, on, operation, target, value, Site { mask: k, slot })
+        }
         TypedSimple::Step {
             operator,
             elem,
             target,
             span,
-        } => step(b, on, *operator, *elem, target, *span, k, slot),
+        } => {
+            let operation = Operation {
+                operator: *operator,
+                elem: *elem,
+                span: *span,
+            };
+            step(b, on, operation, target, Site { mask: k, slot })
+        }
     }
 }
 
@@ -89,8 +106,15 @@ fn item(b: &mut Body, on: &Scope, x: &TypedItem, k: u32, slot: u32) -> Result<()
             number,
             ty,
             value,
-            ..
-        } => variable_to(b, on, *number, *ty, value, k, slot),
+            span,
+        } => {
+            let home = Home {
+                number: *number,
+                ty: *ty,
+                span: *span,
+            };
+            variable_to(b, on, home, value, Site { mask: k, slot })
+        }
         TypedItem::Array { array, .. } => {
             let to = on.array(*array);
             b.push(clear(to, k))?;

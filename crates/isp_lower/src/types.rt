@@ -1,9 +1,11 @@
-//! What writers of code read, and what they append to.
+//! What writers of code read, what they append to, and the owner of it all.
 ghost use Rattle.std.specs.Prelude.{◌≤◌, length};
 
+use crate::header::Heading;
 use crate::registers::Registers;
-use isp_base::{Span, Ty};
-use isp_code::Instr;
+use crate::reserve::Reserve;
+use isp_base::{Gang, Span, Ty};
+use isp_code::{Function, Instr};
 
 /// What does not change while the code of a function is written: its registers, how many masks it has, and what it gives
 /// back.
@@ -21,4 +23,22 @@ pub struct Body {
     pub code: Vec<Instr>,
     pub ghost few_places: { length places.items ≤ 4294967295 },
     pub ghost few: { length code.items ≤ 4294967295 },
+}
+
+/// The code of a program while it is written: the functions that are closed, and one at work. Where memory is refused,
+/// all is as it was before the call.
+#[derive(Drop)]
+pub struct Emitter {
+    pub gang: Gang,
+    /// By number.
+    pub texts: Vec<Vec<u8>>,
+    /// Those that are closed, by number.
+    pub functions: Vec<Function>,
+    /// That of the function at work, if there is one.
+    pub heading: Option<Heading>,
+    /// Its registers, and how many masks it has.
+    pub reserved: Reserve,
+    /// Its code, and the places in the source that all functions name.
+    pub body: Body,
+    pub ghost few_texts: { length texts.items ≤ 4294967295 },
 }

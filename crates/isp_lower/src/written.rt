@@ -1,14 +1,16 @@
 //! One instruction that names a place in the source, or two on masks.
-ghost use Rattle.std.specs.Prelude.{◌≡◌, ◌∷◌, [], length, true, IfOk, OnOk};
+ghost use Rattle.std.specs.Prelude.{◌≡◌, [], length, true, IfOk, OnOk};
 ghost use Rattle.isp_base.specs.Values.{divides};
 ghost use Rattle.isp_lower.specs.Asks.{ArrayOf};
-ghost use Rattle.isp_lower.specs.Code.{needing, operate, operate_places, read, write};
-ghost use Rattle.isp_lower.specs.Emitted.{Appends, Present, layout};
+ghost use Rattle.isp_lower.specs.Code.{needing, operate_places};
+ghost use Rattle.isp_lower.specs.Emitted.{Appends, Present};
+ghost use Rattle.isp_lower.specs.Written.{Writes, operate_at, read_at, write_at};
 
 use crate::leaves::{operate, read, the_others, where_so, write};
+use crate::sites::{Element, Target};
 use crate::types::{Body, Scope};
-use isp_base::{BinOp, Rate, Span};
-use isp_typed::{ArrayVariable, Logic};
+use isp_base::{BinOp, Span};
+use isp_typed::Logic;
 use std::alloc::AllocError;
 
 /// The lanes of a mask that need the right side, into another mask.
@@ -39,59 +41,50 @@ fn place_of(b: &mut Body, operator: BinOp, span: Span) -> Result<u32, AllocError
 }
 
 /// A register gets the result of an operator on two values.
-pub fn operate_to(
+pub(crate) fn operate_to(
     b: &mut Body,
-    rate: Rate,
     operator: BinOp,
-    to: u32,
     left: u32,
     right: u32,
-    k: u32,
-    span: Span,
+    target: Target,
 ) -> Result<(), AllocError>
-    ensures { OnOk result (Appends b.old b.new (λ pc p. operate rate operator to left right k p ∷ []) (operate_places operator span)) }
+    ensures { OnOk result (Writes b.old b.new (operate_at operator left right target)) }
 {
-    let place = place_of(b, operator, span)?;
-    b.push(operate(rate, operator, to, left, right, k, place))?;
+    let place = place_of(b, operator, target.span)?;
+    b.push(operate(operator, left, right, target, place))?;
     Ok(())
 }
 
-/// A register gets what an array has at an index.
-pub fn read_to(
+/// A register gets what an element has.
+pub(crate) fn read_to(
     b: &mut Body,
     on: &Scope,
-    rate: Rate,
+    element: Element,
     to: u32,
-    array: ArrayVariable,
-    index: u32,
     k: u32,
-    span: Span,
 ) -> Result<(), AllocError>
-    requires { Present on.now (ArrayOf array) }
-    ensures { OnOk result (Appends b.old b.new (λ pc p. read rate to ((layout on.now).array array.number) index k p ∷ []) (span ∷ [])) }
+    requires { Present on.now (ArrayOf element.array) }
+    ensures { OnOk result (Writes b.old b.new (read_at on.now element to k)) }
 {
-    let from = on.array(array);
-    let place = b.place(span)?;
-    b.push(read(rate, to, from, index, k, place))?;
+    let from = on.array(element.array);
+    let place = b.place(element.span)?;
+    b.push(read(element.ty.rate, to, from, element.index, k, place))?;
     Ok(())
 }
 
-/// An element of an array gets what a register has.
-pub fn write_at(
+/// An element gets what a register has.
+pub(crate) fn write_from(
     b: &mut Body,
     on: &Scope,
-    rate: Rate,
-    array: ArrayVariable,
-    index: u32,
+    element: Element,
     from: u32,
     k: u32,
-    span: Span,
 ) -> Result<(), AllocError>
-    requires { Present on.now (ArrayOf array) }
-    ensures { OnOk result (Appends b.old b.new (λ pc p. write rate ((layout on.now).array array.number) index from k p ∷ []) (span ∷ [])) }
+    requires { Present on.now (ArrayOf element.array) }
+    ensures { OnOk result (Writes b.old b.new (write_at on.now element from k)) }
 {
-    let to = on.array(array);
-    let place = b.place(span)?;
-    b.push(write(rate, to, index, from, k, place))?;
+    let to = on.array(element.array);
+    let place = b.place(element.span)?;
+    b.push(write(element.ty.rate, to, element.index, from, k, place))?;
     Ok(())
 }

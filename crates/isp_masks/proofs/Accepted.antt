@@ -1,5 +1,6 @@
 -- The verifier accepts the code of bodies whose registers are there.
 use Rattle.std.proofs.Common.{◌≡◌, ℕ, zero, suc, ◌-◌, List, [], ◌∷◌, ◌++◌, length, take, Some, None, true, refl, ap, ◌∙◌, subst, arith, length-append}
+use Rattle.std.proofs.lemmas.Option.{same_Some}
 use Rattle.std.specs.Prelude.{slice_get}
 use Rattle.isp_code.specs.Listing.{Listing, Routine}
 use Rattle.isp_code.specs.declared.instr.Instr.{Instr}
@@ -9,14 +10,12 @@ use Rattle.isp_verify.proofs.AcceptedLaws.{fine_accepted}
 use Rattle.isp_lower.specs.Sound.{IsSound, AreSound}
 use Rattle.isp_masks.specs.Accepted.{IsBodyCode}
 use Rattle.isp_masks.specs.Statements.{block_code, returned}
+use Rattle.isp_masks.proofs.Rated.{block_tree}
 use Rattle.isp_masks.proofs.Sound.{function_sound}
-
-some_same : {A : Type 0} {x y : A} → Some x ≡ Some y → x ≡ y
-some_same e = cc
 
 sound_at : (code : Listing) (h : Routine) (is : List Instr) → AreSound code h is → (j : ℕ) (i : Instr) → slice_get is j ≡ Some i → IsSound code h i
 sound_at code h [] all j i at = absurd (cc)
-sound_at code h (x ∷ is) all zero i at = subst (IsSound code h) (some_same at) all.0
+sound_at code h (x ∷ is) all zero i at = subst (IsSound code h) (same_Some x i at) all.0
 sound_at code h (x ∷ is) all (suc j) i at = sound_at code h is all.1 j i at
 
 -- what stands behind a list
@@ -25,7 +24,7 @@ last_of [] x = refl
 last_of (i ∷ a) x = last_of a x
 
 body_sound : (code : Listing) (h : Routine) → IsBodyCode code h → AreSound code h h.code
-body_sound code h is = function_sound code h is.layout is.answer is.body is.place is.code_is is.tree is.present is.masks is.places is.given
+body_sound code h is = function_sound code h is.layout is.answer is.body is.place is.code_is (block_tree is.functions is.variables is.answer is.body is.fine is.rated) is.present is.masks is.places is.given
 
 body_ends : (code : Listing) (h : Routine) → IsBodyCode code h → stays (slice_get h.code (last h)) ≡ true
 body_ends code h is =

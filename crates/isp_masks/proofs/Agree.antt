@@ -41,11 +41,11 @@ use Rattle.isp_masks.specs.Agreement.{RunsAgree}
 use Rattle.isp_masks.specs.Compiled.{entry_state, entry_setting, ResultFits, IsCompiled}
 use Rattle.isp_masks.specs.Statements.{block_code, returned}
 use Rattle.isp_masks.specs.StmtRuns.{StmtRuns}
-use Rattle.isp_masks.proofs.Arrays.{opened_same, sizes_same, arrays_fit}
+use Rattle.isp_masks.proofs.Arrays.{opened_same, sizes_same, entry_opens, arrays_fit}
 use Rattle.isp_masks.proofs.Begins.{begins}
 use Rattle.isp_masks.proofs.Endings.{longer, one_end, grows, rows_same}
-use Rattle.isp_masks.proofs.Parts.{block_fits}
 use Rattle.isp_masks.proofs.Stmts.{block_runs}
+use Rattle.isp_masks.proofs.Fitting.{block_parts}
 
 all_some : (g : Gang) → any (gang_width g) (everyone (gang_width g)) ≡ true
 all_some W4 = refl
@@ -72,8 +72,8 @@ module _ (program : Program) (code : Listing) (f : ℕ) (h : TFunction) (g : Rou
     apart = is.apart;
     deep = refl;
     answer = refl;
-    opened = opened_same program code f h g l n xs is.arrays sig short;
-    sizes = sizes_same program code f h g l n xs is.arrays sig short;
+    opened = opened_same program code f h g l (λ a. a) [] (handed 0 xs) (first_frame xs) n 255 is.arrays (entry_opens program code f h g l n xs is.arrays sig short);
+    sizes = sizes_same program code f h g l (λ a. a) [] (handed 0 xs) (first_frame xs) n 255 is.arrays (entry_opens program code f h g l n xs is.arrays sig short);
     arrays = arrays_fit program code f h g l n xs is.arrays sig short;
   }
 
@@ -137,13 +137,13 @@ module _ (program : Program) (code : Listing) (f : ℕ) (h : TFunction) (g : Rou
       let n02 : ◌≢◌ {A = ℕ} 0 2 = omega arith in
       let n12 : ◌≢◌ {A = ℕ} 1 2 = omega arith in
       subst (λ z. StmtRuns (world n) n c (0 + length body) 0 1 2 3 (1 + 0) (block (gang_width z) (frame_of h (handed 0 xs) (first_frame xs)) (calls_at program n 255) n h.body (everyone (gang_width z)) (begin z))) is.gang
-      (block_runs (world n) (settled n) h.body 0 p 0 1 2 3 0 (everyone (gang_width code.gang)) (begin code.gang) c (block_fits (world n) h.body 3 is.tree is.table) (are_front g.code 0 body (last ∷ []) is.code_is) is.places_are (record { low_k = omega arith; low_co = omega arith; low_rr = omega arith; k_co = n01; k_rr = n02; co_rr = n12 })
+      (block_runs (world n) (settled n) h.body 0 p 0 1 2 3 0 (everyone (gang_width code.gang)) (begin code.gang) c (block_parts (world n) h.body 3 (record { fine = is.fine.body; rated = is.rated; named = is.named })) (are_front g.code 0 body (last ∷ []) is.code_is) is.places_are (record { low_k = omega arith; low_co = omega arith; low_rr = omega arith; k_co = n01; k_rr = n02; co_rr = n12 })
       (record {
         at = record { home_is = refl; waiting_is = refl; pc_is = refl };
         mask = put_same (λ k. nobody) 0 (everyone (gang_width code.gang));
         some = all_some code.gang;
         inside = all_inside (gang_width code.gang);
-        stands = subst (λ z. Stands (world n) (begin z) c) (sym is.gang) (begins program code f h g l n xs is.passed sig);
+        stands = subst (λ z. Stands (world n) (begin z) c) (sym is.gang) (begins program code f h g l n xs is.passed is.fine.params is.one sig);
         used = omega arith;
         low = omega arith;
       }))

@@ -3,7 +3,7 @@
 use Rattle.std.proofs.Common.{◌≡◌, ℕ, zero, suc, ◌+◌, ◌-◌, List, [], ◌∷◌, ◌++◌, length, map, take, Option, Some, None, true, false, refl, sym, ap, ◌∙◌, subst, arith}
 use Rattle.std.specs.Prelude.{slice_get, ◌&&◌}
 use Rattle.std.proofs.lemmas.Bool.{lt-leb, le-leb}
-use Rattle.std.proofs.lemmas.Option.{get_or_from_slice_get, slice_get_within, slice_get-map}
+use Rattle.std.proofs.lemmas.Option.{same_Some, get_or_from_slice_get, slice_get_within, slice_get-map}
 use Rattle.isp_base.specs.declared.signature.Parameter.{Parameter}
 use Rattle.isp_base.specs.declared.types.Elem.{Elem}
 use Rattle.isp_base.specs.declared.types.Elem.TheVariants.{Bool as Truth}
@@ -25,20 +25,17 @@ use Rattle.isp_typed.specs.declared.variable.Holds.{Holds}
 use Rattle.isp_typed.specs.declared.variable.Holds.TheVariants as holds
 use Rattle.isp_typed.specs.declared.variable.Variable.{Variable}
 use Rattle.isp_lower.specs.Layout.{Layout, array_register}
-use Rattle.isp_lower.specs.Sound.{IsShared, HasMask, HasRegister, HasArray, HasLocal}
-use Rattle.isp_lower.specs.Tables.{AnyMask, AnyArray}
-use Rattle.isp_lower.specs.Fits.{IsNamedIn}
-use Rattle.isp_masks.specs.Arrays.{array_then, array_count, sharing_of, local_of, local_count, ArraysStand, HoldsLocal}
-use Rattle.isp_masks.specs.Parts.{BlockTable}
-use Rattle.isp_masks.specs.Presence.{BlockHas}
-use Rattle.isp_masks.specs.Sound.{BlockPresent}
+use Rattle.isp_lower.specs.Sound.{IsShared, HasMask, HasRegister, HasArray, HasLocal, Granted}
+use Rattle.isp_lower.specs.Tables.{AnyMask, AnyArray, IsNamedIn, Table}
+use Rattle.isp_lower.specs.Header.{sharing_of, local_of}
+use Rattle.isp_masks.specs.Arrays.{array_then, array_count, local_count, ArraysStand, HoldsLocal}
 use Rattle.isp_masks.proofs.Arrays.{local_at}
-use Rattle.isp_masks.proofs.Begins.{some_same}
 use Rattle.isp_masks.specs.Laws.{BodyPresent}
-use Rattle.isp_masks.proofs.Held.{block_held}
+use Rattle.isp_masks.proofs.Own.{block_own}
 use Rattle.isp_masks.specs.Asks.{block_asks}
 use Rattle.isp_lower.proofs.Growing.{all_grow}
-use Rattle.isp_lower.proofs.Held.{all_held}
+use Rattle.isp_lower.proofs.Own.{all_held}
+use Rattle.isp_lower.specs.Asks.{All}
 
 -- ---- lists
 
@@ -64,7 +61,7 @@ taken_at (y ∷ xs) (suc k) (suc n) x e = taken_at xs k n x e
 
 elems_at : (ps : List Param) (v : ℕ) (p : Parameter) → slice_get (map parameter_of ps) v ≡ Some p → p.is_array ≡ true → slice_get (param_elems class.Array ps) (array_count (take v (map parameter_of ps))) ≡ Some p.elem
 elems_at [] v p e k = absurd (cc)
-elems_at (q ∷ ps) zero p e k = go q.kind (ap (λ z. z.is_array) (some_same (parameter_of q) p e) ∙ k) ∙ ap (λ z. Some z.elem) (some_same (parameter_of q) p e)
+elems_at (q ∷ ps) zero p e k = go q.kind (ap (λ z. z.is_array) (same_Some (parameter_of q) p e) ∙ k) ∙ ap (λ z. Some z.elem) (same_Some (parameter_of q) p e)
   where
     go : (m : ParamKind) → is_array m ≡ true → slice_get (if_class (same_class (class_of m) class.Array) q.elem (param_elems class.Array ps)) 0 ≡ Some q.elem
     go kind.Scalar is = absurd (cc)
@@ -81,7 +78,7 @@ elems_at (q ∷ ps) (suc v) p e k = go q.kind (elems_at ps v p e k)
 param_is : (ps : List Parameter) (vs : List Variable) (v : ℕ) (p : Parameter) → AreParams ps vs → slice_get ps v ≡ Some p → (x : Variable) × (slice_get vs v ≡ Some x) × IsParam p x.holds
 param_is [] vs v p are e = absurd (cc)
 param_is (q ∷ ps) [] v p are e = absurd are
-param_is (q ∷ ps) (y ∷ vs) zero p are e = (y, refl, subst (λ z. IsParam z y.holds) (some_same q p e) are.0)
+param_is (q ∷ ps) (y ∷ vs) zero p are e = (y, refl, subst (λ z. IsParam z y.holds) (same_Some q p e) are.0)
 param_is (q ∷ ps) (y ∷ vs) (suc v) p are e = param_is ps vs v p are.1 e
 
 module _ (h : TFunction) (g : Routine) (l : Layout) (stand : ArraysStand h g l) (made : parameters_of g ≡ h.parameters) (are : AreParams h.parameters (params_of h)) where
@@ -108,7 +105,7 @@ module _ (h : TFunction) (g : Routine) (l : Layout) (stand : ArraysStand h g l) 
       elem_is : p.elem ≡ e
       elem_is =
           let q = param_is h.parameters (params_of h) b.number p are found in
-          let same : q.0 ≡ x = some_same q.0 x (sym (taken_at h.variables _ b.number q.0 q.1) ∙ ex) in
+          let same : q.0 ≡ x = same_Some q.0 x (sym (taken_at h.variables _ b.number q.0 q.1) ∙ ex) in
           let is : IsParam p (holds.Given e) = subst (IsParam p) (ap (λ z. z.holds) same ∙ k) q.2 in
           is.1
 
@@ -166,9 +163,9 @@ module _ (h : TFunction) (g : Routine) (l : Layout) (stand : ArraysStand h g l) 
     where
       go : (y : Holds) → has.variable.holds ≡ y → HasArray g l b
       go (holds.Value t) e = let no : None ≡ Some b.ty = ap array_type (sym e) ∙ has.ty in absurd (cc)
-      go (holds.Given t) e = given_there b has.variable t has.is e (sym (some_same (ty_of Uniform t) b.ty (ap array_type (sym e) ∙ has.ty)))
+      go (holds.Given t) e = given_there b has.variable t has.is e (sym (same_Some (ty_of Uniform t) b.ty (ap array_type (sym e) ∙ has.ty)))
       go (holds.Local t n) e =
-          let same : t ≡ b.ty = some_same t b.ty (ap array_type (sym e) ∙ has.ty) in
+          let same : t ≡ b.ty = same_Some t b.ty (ap array_type (sym e) ∙ has.ty) in
           (local_there b has.variable n has.is (e ∙ ap (λ z. holds.Local z n) same)).0
 
   locals_there : (b : ArrayVariable) → HoldsLocal h.variables b → HasLocal g l b
@@ -179,18 +176,17 @@ module _ (h : TFunction) (g : Routine) (l : Layout) (stand : ArraysStand h g l) 
 
   -- what is there of arrays that are variables
   abbrev Held : ℕ → Type 0
-  Held n = BlockHas (HasRegister g l) (HoldsArray h.variables) (HoldsLocal h.variables) (HasMask g) h.answer h.body n
+  Held n = All (HasRegister g l) (HoldsArray h.variables) (HoldsLocal h.variables) (HasMask g) (block_asks h.answer h.body n)
 
-  present_of : (n : ℕ) → Held n → BlockPresent g l h.answer h.body n
+  present_of : (n : ℕ) → Held n → Granted g l (block_asks h.answer h.body n)
   present_of n f =
       all_grow (HasRegister g l) (HasRegister g l) (HoldsArray h.variables) (HasArray g l) (HoldsLocal h.variables) (HasLocal g l) (HasMask g) (HasMask g) (λ r x t z. z) arrays_there locals_there (λ m z. z) (block_asks h.answer h.body n) f
 
-  table_of : (n : ℕ) → Held n → BlockTable g l h.variables h.answer h.body n
+  table_of : (n : ℕ) → Held n → Table g l h.variables (block_asks h.answer h.body n)
   table_of n f =
       all_grow (HasRegister g l) (IsNamedIn g l) (HoldsArray h.variables) (HoldsArray h.variables) (HoldsLocal h.variables) (HoldsArray h.variables) (HasMask g) AnyMask (λ r x t z. z.1) (λ b z. z) locals_held (λ m z. tt) (block_asks h.answer h.body n) f
 
-pub body_present : (fs : List TFunction) (h : TFunction) (g : Routine) (l : Layout) → FineFunction fs h → ArraysStand h g l → parameters_of g ≡ h.parameters → (n : ℕ) → BlockHas (HasRegister g l) AnyArray AnyArray (HasMask g) h.answer h.body n → BodyPresent h g l n
+pub body_present : (fs : List TFunction) (h : TFunction) (g : Routine) (l : Layout) → FineFunction fs h → ArraysStand h g l → parameters_of g ≡ h.parameters → (n : ℕ) → All (HasRegister g l) AnyArray AnyArray (HasMask g) (block_asks h.answer h.body n) → BodyPresent h g l n
 body_present fs h g l fine stand made n f =
-    let arrays = block_held (HoldsArray h.variables) (HoldsLocal h.variables) fs h.variables (λ b z. z) (λ b sp z. (z.0, z.1)) h.answer h.body n fine.body in
-    let held = all_held (HoldsArray h.variables) (HoldsLocal h.variables) (HasRegister g l) AnyArray AnyArray (HasMask g) (block_asks h.answer h.body n) arrays f in
-    record { present = present_of h g l stand made fine.params n held; table = table_of h g l stand made fine.params n held }
+    let held = all_held h.variables h.answer (HasRegister g l) (HasMask g) (block_asks h.answer h.body n) (block_own fs h.variables h.answer h.body n fine.body) f in
+    record { present = present_of h g l stand made fine.params n held; named = table_of h g l stand made fine.params n held }

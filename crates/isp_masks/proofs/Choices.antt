@@ -14,7 +14,6 @@ use Rattle.isp_meaning.specs.Payloads.{Payload, One, Each, is_true, kept_by}
 use Rattle.isp_meaning.specs.Outcomes.{Res, Went, Trapped, Cut, go_on, went_all, both_sides, unless_empty, if_so}
 use Rattle.isp_meaning.specs.Statements.{branches}
 use Rattle.isp_lower.specs.Code.{jump_off, guard}
-use Rattle.isp_lower.specs.Fits.{first_slot}
 use Rattle.isp_lower.specs.Layout.{register}
 use Rattle.isp_lower.specs.Runs.{Enters}
 use Rattle.isp_lower.specs.Setting.{Setting, IsSettled, gang_of, AreAt, At, Stands, Holds}
@@ -28,6 +27,7 @@ use Rattle.isp_masks.specs.Statements.{parted_code, if_code, if_else_code}
 use Rattle.isp_masks.specs.StmtRuns.{AreThree, Inside, StmtOk, StmtRuns}
 use Rattle.isp_masks.proofs.Unions.{union_nobody, union_assoc, without_nobody, without_self, below_without}
 use Rattle.isp_masks.proofs.Combine.{stmt_after, go_runs, plain_ok, jump_after, guard_runs}
+use Rattle.isp_lower.specs.Asks.{first_slot}
 
 -- ---- one value chooses as two parts do
 

@@ -1,6 +1,7 @@
 -- The header of an exported function's routine fits: its name and those of its parameters are new, it takes no vector and
 -- gives none, and it has masks.
 use Rattle.std.proofs.Common.{◌≡◌, ◌≢◌, ℕ, zero, suc, ◌≤◌, List, [], ◌∷◌, ◌++◌, length, map, take, Option, Some, None, Bool, true, false, refl, sym, ap, ◌∙◌, subst, arith}
+use Rattle.std.proofs.lemmas.Option.{same_Some}
 use Rattle.std.specs.Prelude.{slice_get, ◌==◌, ◌&&◌, ◌||◌, not, bytes_eq}
 use Rattle.std.specs.List.{list_any}
 use Rattle.std.proofs.lemmas.Bool.{ne_eqb}
@@ -20,11 +21,10 @@ use Rattle.isp_typed.specs.declared.variable.Holds.{Holds}
 use Rattle.isp_typed.specs.declared.variable.Holds.TheVariants as holds
 use Rattle.isp_typed.specs.declared.variable.Variable.{Variable as Declared}
 use Rattle.isp_verify.specs.Faults.{is_named, names_differ, is_vector, gives_vector, can_export, export_fits, is_function, header_fits}
-use Rattle.isp_masks.specs.Compiled.{HoldsOne}
-use Rattle.isp_masks.specs.Lowered.{value_kind, param_of, params_of, value_returned, returns_of}
+use Rattle.isp_masks.specs.Compiled.{AreOne, IsOne}
+use Rattle.isp_lower.specs.Header.{value_kind, param_of, params_of, value_returned, returns_of}
 use Rattle.isp_masks.specs.Made.{GivesUniform}
-use Rattle.isp_masks.proofs.Begins.{some_same, not_so}
-use Rattle.isp_masks.proofs.FirstRows.{ValuesOne, one_held}
+use Rattle.isp_masks.proofs.Begins.{not_so}
 use Rattle.isp_masks.proofs.Unions.{both_so}
 
 all_so : (a b : Bool) → a ≡ true → b ≡ true → (a && b) ≡ true
@@ -84,7 +84,7 @@ earlier_differ before [] f w new e = absurd (cc)
 earlier_differ before (x ∷ ws) zero w new e =
     let h = both_so (not (list_any (λ n. bytes_eq n x) before)) (all_new (before ++ x ∷ []) ws) new in
     let own : list_any (λ n. bytes_eq n x) before ≡ false = not_so (list_any (λ n. bytes_eq n x) before) h.0 in
-    ap (list_any (λ n. bytes_eq n w)) (append-nil before) ∙ subst (λ z. list_any (λ n. bytes_eq n z) before ≡ false) (some_same x w e) own
+    ap (list_any (λ n. bytes_eq n w)) (append-nil before) ∙ subst (λ z. list_any (λ n. bytes_eq n z) before ≡ false) (same_Some x w e) own
 earlier_differ before (x ∷ ws) (suc f) w new e =
     let h = both_so (not (list_any (λ n. bytes_eq n x) before)) (all_new (before ++ x ∷ []) ws) new in
     ap (list_any (λ n. bytes_eq n w)) (sym (append_assoc before (x ∷ []) (take f ws))) ∙ earlier_differ (before ++ x ∷ []) ws f w h.1 e
@@ -99,7 +99,7 @@ names_same (h ∷ hs) (g ∷ gs) n each =
 
 at_map : {A B : Type 0} (m : A → B) (xs : List A) (f : ℕ) (x : A) → slice_get xs f ≡ Some x → slice_get (map m xs) f ≡ Some (m x)
 at_map m [] f x e = absurd (cc)
-at_map m (y ∷ xs) zero x e = ap (λ z. Some (m z)) (some_same y x e)
+at_map m (y ∷ xs) zero x e = ap (λ z. Some (m z)) (same_Some y x e)
 at_map m (y ∷ xs) (suc f) x e = at_map m xs f x e
 
 pub new_name : (gs : List Routine) (f : ℕ) (g : Routine) → all_new [] (map (λ k. k.name) gs) ≡ true → slice_get gs f ≡ Some g → list_any (is_function g.name) (take f gs) ≡ false
@@ -109,27 +109,27 @@ new_name gs f g new e =
 
 -- ---- what is exported
 
-no_vectors : (n : ℕ) (ps : List Parameter) (vs : List Declared) → AreParams ps (take n vs) → ValuesOne ps vs → list_any is_vector (params_of ps vs) ≡ false
+no_vectors : (n : ℕ) (ps : List Parameter) (vs : List Declared) → AreParams ps (take n vs) → AreOne (take n vs) → list_any is_vector (params_of ps vs) ≡ false
 no_vectors n [] vs a one = refl
 no_vectors zero (p ∷ ps) vs a one = absurd a
 no_vectors (suc n) (p ∷ ps) [] a one = absurd a
 no_vectors (suc n) (p ∷ ps) (x ∷ vs) a one =
-    none_of (is_vector (param_of p x.holds)) (list_any is_vector (params_of ps vs)) (go x.holds a.0 (one_held p ps x vs one)) (no_vectors n ps vs a.1 (λ v q e i. one (suc v) q e i))
+    none_of (is_vector (param_of p x.holds)) (list_any is_vector (params_of ps vs)) (go x.holds a.0 one.0) (no_vectors n ps vs a.1 one.1)
   where
     at : (r : Rate) → r ≡ Uniform → (y : Param) → y.kind ≡ value_kind r → is_vector y ≡ false
     at Uniform e y k = ap (λ z. is_vector (record { name = y.name; kind = z; elem = y.elem })) k
     at Varying e y k = absurd (cc)
 
-    go : (y : Holds) → IsParam p y → (p.is_array ≡ false → HoldsOne y) → is_vector (param_of p y) ≡ false
-    go (holds.Value t) i h = at t.rate (h i.0) (param_of p (holds.Value t)) refl
-    go (holds.Given t) i h = refl
+    go : (y : Holds) → IsParam p y → IsOne y → is_vector (param_of p y) ≡ false
+    go (holds.Value t) i one = at t.rate one (param_of p (holds.Value t)) refl
+    go (holds.Given t) i one = refl
     go (holds.Local t m) i h = absurd i
 
 no_vector_given : (answer : Option Ty) → GivesUniform answer → gives_vector (returns_of answer) ≡ false
 no_vector_given None u = refl
 no_vector_given (Some t) u = ap (λ r. gives_vector (value_returned r t.elem)) u
 
-pub exports : (n : ℕ) (ps : List Parameter) (vs : List Declared) (answer : Option Ty) (g : Routine) → AreParams ps (take n vs) → ValuesOne ps vs → GivesUniform answer → g.params ≡ params_of ps vs → g.returns ≡ returns_of answer → can_export g ≡ true
+pub exports : (n : ℕ) (ps : List Parameter) (vs : List Declared) (answer : Option Ty) (g : Routine) → AreParams ps (take n vs) → AreOne (take n vs) → GivesUniform answer → g.params ≡ params_of ps vs → g.returns ≡ returns_of answer → can_export g ≡ true
 exports n ps vs answer g a one u params returns =
     all_so (not (list_any is_vector g.params)) (not (gives_vector g.returns)) (so_not (list_any is_vector g.params) (ap (list_any is_vector) params ∙ no_vectors n ps vs a one)) (so_not (gives_vector g.returns) (ap gives_vector returns ∙ no_vector_given answer u))
 

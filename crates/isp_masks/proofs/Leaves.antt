@@ -27,10 +27,10 @@ use Rattle.isp_lower.proofs.Nodes.{enters_part, operand_runs}
 use Rattle.isp_lower.proofs.Exprs.{expr_runs}
 use Rattle.isp_masks.specs.Sets.{unite, clear_mask, leave_code, jump_code}
 use Rattle.isp_masks.specs.Statements.{answer_code}
-use Rattle.isp_masks.specs.Fits.{AnswerFits}
 use Rattle.isp_masks.specs.StmtRuns.{AreThree, StmtOk, StmtRuns}
 use Rattle.isp_masks.proofs.Unions.{union_nobody}
 use Rattle.isp_masks.proofs.Combine.{with_runs}
+use Rattle.isp_masks.proofs.Parts.{AnswerFits}
 
 module _ (w : Setting) (ready : IsSettled w) where
   -- after those of mask k left into mask m

@@ -10,12 +10,15 @@ mod Stmts
 mod Turns
 mod Loops
 mod Parts
+mod Trees
+mod Rated
+mod Fitting
 pub mod Endings
 mod Checked
 mod Begins
-mod Firsts
+mod Passing
 mod Arrays
-mod Held
+mod Own
 pub mod ArraysThere
 mod Agree
 mod Programs
@@ -29,7 +32,6 @@ mod Lists
 mod Forms
 mod Sifting
 mod Views
-mod Headers
 mod Routines
 mod Listings
 mod FirstRows

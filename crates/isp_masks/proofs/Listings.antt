@@ -1,16 +1,17 @@
 -- Routines beside the functions whose code they are.
-use Rattle.std.proofs.Common.{◌≡◌, ℕ, zero, suc, ◌+◌, ◌<◌, List, [], ◌∷◌, ◌++◌, length, map, refl, sym, ap, subst, ◌∙◌, arith, take, get_or, add-one, Some, slice_get}
+use Rattle.std.proofs.Common.{◌≡◌, ℕ, zero, suc, ◌+◌, ◌<◌, List, [], ◌∷◌, ◌++◌, length, refl, sym, ap, subst, ◌∙◌, arith, take, get_or, add-one, Some, slice_get}
 use Rattle.std.proofs.Math.Seq.{take-suc}
 use Rattle.std.proofs.lemmas.List.{length-append, map-append}
 use Rattle.std.proofs.lemmas.Option.{slice_get_within}
+use Rattle.std.specs.List.{All}
 use Rattle.isp_base.specs.declared.types.Span.{Span}
-use Rattle.isp_code.specs.Listing.{Listing, Routine, routine_of}
-use Rattle.isp_code.specs.declared.function.Function.{Function}
+use Rattle.isp_code.specs.Listing.{Listing, Routine}
+use Rattle.isp_lower.specs.Drafts.{Draft, all_routines}
 use Rattle.isp_lower.specs.Setting.{AreAt}
 use Rattle.isp_typed.specs.Typed.{Program, TFunction}
 use Rattle.isp_typed.specs.Views.{function_of, functions_of}
 use Rattle.isp_typed.specs.declared.function.TypedFunction.{TypedFunction}
-use Rattle.isp_masks.specs.Lowered.{AreLowered, GrowsTo, HasCode, IsLowered}
+use Rattle.isp_masks.specs.Lowered.{AddsLowered, AreLowered, GrowsTo, HasCode, IsFineFunction, IsLowered}
 
 get_more : (xs zs : List Span) (n : ℕ) (y : Span) → slice_get xs n ≡ Some y → slice_get (xs ++ zs) n ≡ Some y
 get_more [] zs n y e = absurd (omega (arith, slice_get_within [] n y e))
@@ -59,16 +60,15 @@ all_last (k ∷ hs) [] h g places a x = absurd a
 all_last (k ∷ hs) (m ∷ gs) h g places a x = (a.0, all_last hs gs h g places a.1 x)
 
 -- one function more
-pub routines_step : (fs : List TypedFunction) (at : ℕ) (f : TypedFunction) (all new : List Function) (g : Function) (places more : List Span) → at < length fs → f ≡ get_or fs at f
-    → AreLowered (functions_of (take at fs)) (map routine_of all) places → GrowsTo places more → IsLowered (function_of f) (routine_of g) more → new ≡ all ++ g ∷ []
-    → AreLowered (functions_of (take (at + 1) fs)) (map routine_of new) more
-routines_step fs at f all new g places more low is a m x e =
+pub routine_more : (fs : List TypedFunction) (at : ℕ) (f : TypedFunction) (old new : Draft) → at < length fs → f ≡ get_or fs at f
+    → AreLowered (functions_of (take at fs)) (all_routines old) old.places → AddsLowered (function_of f) old new
+    → AreLowered (functions_of (take (at + 1) fs)) (all_routines new) new.places
+routine_more fs at f old new low is a x =
     let taken : functions_of (take (at + 1) fs) ≡ functions_of (take at fs) ++ function_of f ∷ [] =
     ap (λ n. functions_of (take n fs)) (add-one at) ∙ ap functions_of (take-suc fs at f low ∙ ap (λ z. take at fs ++ z ∷ []) (sym is)) ∙ map-append function_of (take at fs) (f ∷ []) in
-    let pushed : map routine_of new ≡ map routine_of all ++ routine_of g ∷ [] = ap (map routine_of) e ∙ map-append routine_of all (g ∷ []) in
-    subst (λ z. AreLowered z (map routine_of new) more) (sym taken)
-    (subst (λ z. AreLowered (functions_of (take at fs) ++ function_of f ∷ []) z more) (sym pushed)
-    (all_last (functions_of (take at fs)) (map routine_of all) (function_of f) (routine_of g) more (all_more (functions_of (take at fs)) (map routine_of all) places more m a) x))
+    subst (λ z. AreLowered z (all_routines new) new.places) (sym taken)
+    (subst (λ z. AreLowered (functions_of (take at fs) ++ function_of f ∷ []) z new.places) (sym x.added)
+    (all_last (functions_of (take at fs)) (all_routines old) (function_of f) x.routine new.places (all_more (functions_of (take at fs)) (all_routines old) old.places new.places x.places a) x.lowered))
 
 same_count : (hs : List TFunction) (gs : List Routine) (places : List Span) → AreLowered hs gs places → length gs ≡ length hs
 same_count [] [] places a = refl
@@ -94,3 +94,10 @@ has_code program code gs places a gang routines places_are =
       count = same_count program.functions code.routines code.places b;
       each = each_at program.functions code.routines code.places b;
     }
+
+-- ---- each function is fine
+
+pub fine_at : (fs : List TypedFunction) (i : ℕ) (f : TypedFunction) → All IsFineFunction (functions_of fs) → i < length fs → f ≡ get_or fs i f → IsFineFunction (function_of f)
+fine_at [] i f all lt is = absurd (omega (arith, lt))
+fine_at (x ∷ fs) zero f all lt is = subst (λ z. IsFineFunction (function_of z)) (sym is) (all 0 (function_of f) (omega arith))
+fine_at (x ∷ fs) (suc i) f all lt is = fine_at fs i f (λ k d l. all (suc k) d (omega (arith, l))) (omega (arith, lt)) is

@@ -17,7 +17,6 @@ use Rattle.isp_meaning.specs.State.{State, tick}
 use Rattle.isp_meaning.specs.Statements.{run, test_part}
 use Rattle.isp_meaning.proofs.Parts.{four_sets}
 use Rattle.isp_lower.specs.Code.{two, found, expr_places, expr_code}
-use Rattle.isp_lower.specs.Fits.{ExprFits}
 use Rattle.isp_lower.specs.Runs.{Enters, Failed, Stopped, DoneOk, DoneRuns}
 use Rattle.isp_lower.specs.Setting.{Setting, IsSettled, gang_of, calls_of, AreAt}
 use Rattle.isp_lower.proofs.Base.{are_front, are_back, comes_none, at_to, spares_all}
@@ -28,7 +27,6 @@ use Rattle.isp_lower.proofs.Items.{items_run}
 use Rattle.isp_lower.proofs.Nodes.{enters_part}
 use Rattle.isp_lower.proofs.Updates.{simple_runs}
 use Rattle.isp_masks.specs.Exits.{exits_of, all_go_on, nobody_leaves, only_returns}
-use Rattle.isp_masks.specs.Fits.{FirstFits, StepFits, StmtFits}
 use Rattle.isp_masks.specs.Fors.{first_code, step_code, first_places, step_places}
 use Rattle.isp_masks.specs.LoopRuns.{TestRuns, BodyRuns, StepRuns, IsBody, LoopsRun}
 use Rattle.isp_masks.specs.Loops.{for_code, endless_code}
@@ -38,6 +36,8 @@ use Rattle.isp_masks.proofs.Combine.{stmt_after, stmt_less}
 use Rattle.isp_masks.proofs.Exiting.{run_leaves}
 use Rattle.isp_masks.proofs.Loops.{loops_run}
 use Rattle.isp_masks.proofs.Sequences.{set_aside}
+use Rattle.isp_lower.proofs.Parts.{ExprParts}
+use Rattle.isp_masks.proofs.Parts.{FirstFits, StepFits, StmtParts}
 
 -- the masks of a loop, for its body
 masks_of : (n : ℕ) → AreThree n (n + 1) (n + 2) (n + 3)
@@ -54,16 +54,16 @@ module _ (w : Setting) (ready : IsSettled w) where
   -- what is to be shown of the code of a statement
   abbrev pub CodeRuns : TStmt → Type 0
   CodeRuns x =
-      (pc p k co rr n q : ℕ) (a : Mask) (s : State) (c : Conf) → StmtFits w x n → AreAt w.routine.code pc (stmt_code w.layout w.frame.answer x pc p k co rr n) → AreAt w.code.places p (stmt_places w.layout x) → AreThree k co rr n → Enters w pc k n a s c q → StmtRuns w w.turns c (pc + length (stmt_code w.layout w.frame.answer x pc p k co rr n)) k co rr n (aside (all_go_on x) + q) (run (gang_of w) w.frame (calls_of w) w.turns x a s)
+      (pc p k co rr n q : ℕ) (a : Mask) (s : State) (c : Conf) → StmtParts w x n → AreAt w.routine.code pc (stmt_code w.layout w.frame.answer x pc p k co rr n) → AreAt w.code.places p (stmt_places w.layout x) → AreThree k co rr n → Enters w pc k n a s c q → StmtRuns w w.turns c (pc + length (stmt_code w.layout w.frame.answer x pc p k co rr n)) k co rr n (aside (all_go_on x) + q) (run (gang_of w) w.frame (calls_of w) w.turns x a s)
 
   -- ---- the parts
 
-  test_runs : (e : TExpr) (n p : ℕ) → ExprFits w e (n + 3) → AreAt w.code.places p (expr_places w.layout e) → TestRuns w n (type_of e).rate (found w.layout e (n + 3)) (λ pc. expr_code w.layout e pc p n (n + 3)) (value (gang_of w) w.frame (calls_of w) e)
+  test_runs : (e : TExpr) (n p : ℕ) → ExprParts w e (n + 3) → AreAt w.code.places p (expr_places w.layout e) → TestRuns w n (type_of e).rate (found w.layout e (n + 3)) (λ pc. expr_code w.layout e pc p n (n + 3)) (value (gang_of w) w.frame (calls_of w) e)
   test_runs e n p fit places T s c pc z has b =
       let fe : heads e ≤ 1 = few w e (n + 3) fit in
       expr_runs w ready e pc p n (n + 3) z (4 + z) T s c fit has places (omega arith) b
 
-  body_runs : (x : TStmt) (n p : ℕ) → CodeRuns x → StmtFits w x (n + 3) → AreAt w.code.places p (stmt_places w.layout x) → BodyRuns w n (λ pc. stmt_code w.layout w.frame.answer x pc p n (n + 1) (n + 2) (n + 3)) (run (gang_of w) w.frame (calls_of w) w.turns x)
+  body_runs : (x : TStmt) (n p : ℕ) → CodeRuns x → StmtParts w x (n + 3) → AreAt w.code.places p (stmt_places w.layout x) → BodyRuns w n (λ pc. stmt_code w.layout w.frame.answer x pc p n (n + 1) (n + 2) (n + 3)) (run (gang_of w) w.frame (calls_of w) w.turns x)
   body_runs x n p f fit places T s c pc z has b =
       stmt_less w ready w.turns c _ _ n (n + 1) (n + 2) (n + 3) (aside (all_go_on x)) z _ refl (f pc p n (n + 1) (n + 2) (n + 3) z T s c fit has places (masks_of n) b)
 

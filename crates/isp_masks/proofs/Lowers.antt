@@ -22,12 +22,13 @@ use Rattle.isp_masks.specs.Accepted.{IsBodyCode, CodeAccepted}
 use Rattle.isp_masks.specs.Agreed.{LoweredAgrees}
 use Rattle.isp_masks.specs.Compiled.{IsEntryCode, IsProgramCode}
 use Rattle.isp_masks.specs.Laws.{FunctionFits, CheckedFits, ProgramRuns}
-use Rattle.isp_masks.specs.Lowered.{IsLowered, HasCode, returns_of, types_of, value_returned}
+use Rattle.isp_lower.specs.Header.{returns_of, types_of, value_returned}
+use Rattle.isp_masks.specs.Lowered.{IsLowered, HasCode}
 use Rattle.isp_masks.specs.Made.{IsMade, GivesUniform, MadeIsCode}
-use Rattle.isp_masks.specs.Parts.{BlockTree}
-use Rattle.isp_masks.proofs.FirstRows.{parameters_same, scalars_first, result_row}
+use Rattle.isp_masks.proofs.FirstRows.{parameters_same, result_row}
 use Rattle.isp_masks.proofs.Heads.{names_apart, names_same, new_name, exports, head_fits}
 use Rattle.isp_masks.proofs.Standing.{arrays_stand}
+use Rattle.isp_masks.specs.Rated.{BlockRated}
 
 -- ---- one function
 
@@ -82,8 +83,8 @@ module _ (checked : CheckedFits) (made : MadeIsCode) (program : Program) (code :
   fits_at : (f : ℕ) (h : TFunction) → slice_get program.functions f ≡ Some h → FunctionFits h
   fits_at f h e = checked.each program fine sound f h e
 
-  plain_at : (f : ℕ) (h : TFunction) → slice_get program.functions f ≡ Some h → BlockTree h.answer h.body
-  plain_at f h e = (fits_at f h e).tree (checked.whole program whole f h e).1
+  rated_at : (f : ℕ) (h : TFunction) → slice_get program.functions f ≡ Some h → BlockRated h.answer h.body
+  rated_at f h e = (fits_at f h e).rated (checked.whole program whole f h e).1
 
   gives_at : (f : ℕ) (h : TFunction) → slice_get program.functions f ≡ Some h → GivesUniform h.answer
   gives_at f h e = gives_one h.answer ((fits_at f h e).result (checked.whole program whole f h e).0)
@@ -99,12 +100,12 @@ module _ (checked : CheckedFits) (made : MadeIsCode) (program : Program) (code :
       let low = has.each f h g eh eg in
       let own = fine_at f h eh in
       let passed = (fits_at f h eh).passed (checked.whole program whole f h eh).0 in
-      let first = scalars_first (length h.params) h.parameters h.variables h.answer low.rows own.params passed low.scalars_first in record {
+      record {
         parameters = parameters program.functions code h g own low;
         result = ap result_of low.returns ∙ given_is h.answer ∙ sym own.gives;
         layout = layout_of low.rows;
         place = low.place;
-        compiled = made.compiled program code f h g low.rows first.0 low.place has.gang eh eg own (plain_at f h eh) (is_made program.functions code h g own low) first.1 passed (gives_at f h eh);
+        compiled = made.compiled program code f h g low.rows low.place has.gang eh eg own (rated_at f h eh) (is_made program.functions code h g own low) low.scalars_first low.vectors_first passed (gives_at f h eh);
       }
 
   pub program_code : IsProgramCode program code
@@ -120,7 +121,7 @@ module _ (checked : CheckedFits) (made : MadeIsCode) (program : Program) (code :
       let h = source f g eg in
       let low = has.each f h.0 g h.1 eg in
       let own = fine_at f h.0 h.1 in
-      made.accepted program.functions code h.0 g low.rows low.place own (plain_at f h.0 h.1) (is_made program.functions code h.0 g own low)
+      made.accepted program.functions code h.0 g low.rows low.place own (rated_at f h.0 h.1) (is_made program.functions code h.0 g own low)
 
   all_differ : all_new [] (map (λ g. g.name) code.routines) ≡ true
   all_differ = subst (λ z. all_new [] z ≡ true) (sym (names_same program.functions code.routines has.count (λ f h g eh eg. (has.each f h g eh eg).name))) fine.names

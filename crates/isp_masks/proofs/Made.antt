@@ -1,5 +1,5 @@
 -- A routine that is made from a function is what is asked of code.
-use Rattle.std.proofs.Common.{◌≡◌, ℕ, suc, ◌+◌, ◌≤◌, List, [], ◌∷◌, ◌++◌, length, Option, Some, None, refl, sym, subst, arith}
+use Rattle.std.proofs.Common.{◌≡◌, ℕ, suc, ◌+◌, ◌≤◌, List, [], ◌∷◌, length, Option, Some, None, refl, sym, subst, arith}
 use Rattle.std.specs.Prelude.{slice_get, option_map}
 use Rattle.std.proofs.lemmas.Option.{slice_get_within}
 use Rattle.isp_base.specs.declared.types.Elem.{Elem}
@@ -9,25 +9,26 @@ use Rattle.isp_base.specs.declared.types.Ty.{Ty}
 use Rattle.isp_code.specs.Fine.{IsGiven}
 use Rattle.isp_code.specs.Listing.{Listing, Routine}
 use Rattle.isp_code.specs.Registers.{elem_of}
-use Rattle.isp_typed.specs.Fine.{FineFunction}
+use Rattle.isp_typed.specs.Fine.{FineFunction, params_of}
 use Rattle.isp_typed.specs.Typed.{Program, TFunction}
 use Rattle.isp_lower.specs.Layout.{register}
-use Rattle.isp_lower.specs.Rows.{Row, Rows, Result, HasRow, layout_of}
+use Rattle.isp_lower.specs.Emitted.{Begins, first_rows}
+use Rattle.isp_lower.specs.Rows.{Rows, Result, HasRow, layout_of}
 use Rattle.isp_lower.specs.Setting.{AreAt}
 use Rattle.isp_lower.specs.Sound.{HasMask, HasRegister}
 use Rattle.isp_lower.specs.Tables.{AnyArray}
 use Rattle.isp_lower.proofs.Rows.{layout_apart, register_there}
 use Rattle.isp_masks.specs.Accepted.{IsBodyCode}
-use Rattle.isp_masks.specs.Compiled.{ResultFits, IsCompiled, PassedUniform, parameter_rows}
+use Rattle.isp_masks.specs.Compiled.{AreOne, ResultFits, IsCompiled}
 use Rattle.isp_masks.specs.Laws.{BodyPresent}
-use Rattle.isp_masks.specs.Lowered.{value_returned, returns_of}
+use Rattle.isp_lower.specs.Header.{value_returned, returns_of}
 use Rattle.isp_masks.specs.Made.{ResultRow, IsMade, GivesUniform}
-use Rattle.isp_masks.specs.Parts.{BlockTree}
 use Rattle.isp_masks.specs.Statements.{block_places, returned, function_code}
 use Rattle.isp_masks.proofs.ArraysThere.{body_present}
-use Rattle.isp_masks.proofs.Firsts.{parameters_first}
+use Rattle.isp_masks.proofs.Passing.{passed_first}
 use Rattle.isp_masks.specs.Asks.{block_asks}
 use Rattle.isp_lower.proofs.Growing.{all_grow}
+use Rattle.isp_masks.specs.Rated.{BlockRated}
 
 -- ---- lists
 
@@ -62,14 +63,17 @@ module _ (fs : List TFunction) (code : Listing) (h : TFunction) (g : Routine) (r
   given (Some t) row e =
       subst (λ z. IsGiven g z (Some (register t.rate ((layout_of rows).result t.rate)))) (sym e) (given_at t.rate t.elem (register_there g rows made.types t.rate Result t.elem row))
 
-  pub made_accepted : BlockTree h.answer h.body → IsBodyCode code g
+  pub made_accepted : BlockRated h.answer h.body → IsBodyCode code g
   made_accepted plain = record {
     layout = layout_of rows;
     answer = h.answer;
     body = h.body;
     place = p;
     code_is = made.code_is;
-    tree = plain;
+    functions = fs;
+    variables = h.variables;
+    fine = fine.body;
+    rated = plain;
     present = present.present;
     masks = made.masks;
     places = at_low code.places p (block_places (layout_of rows) h.body) made.low made.places_are;
@@ -81,17 +85,19 @@ module _ (fs : List TFunction) (code : Listing) (h : TFunction) (g : Routine) (r
   result_fits (Some t) e row u =
       (u, e, subst (λ r. elem_of g (register r ((layout_of rows).result r)) ≡ t.elem) u (register_there g rows made.types t.rate Result t.elem row).1)
 
-pub made_compiled : (program : Program) (code : Listing) (f : ℕ) (h : TFunction) (g : Routine) (rows : Rows) (more : List Row) (p : ℕ) → code.gang ≡ program.gang → slice_get program.functions f ≡ Some h → slice_get code.routines f ≡ Some g → FineFunction program.functions h → BlockTree h.answer h.body → IsMade code h g rows p → rows.scalars ≡ parameter_rows 0 h.parameters ++ more → PassedUniform h → GivesUniform h.answer → IsCompiled program code f h g (layout_of rows) p
-made_compiled program code f h g rows more p gang source found fine plain made first uniform gives = record {
+pub made_compiled : (program : Program) (code : Listing) (f : ℕ) (h : TFunction) (g : Routine) (rows : Rows) (p : ℕ) → code.gang ≡ program.gang → slice_get program.functions f ≡ Some h → slice_get code.routines f ≡ Some g → FineFunction program.functions h → BlockRated h.answer h.body → IsMade code h g rows p → Begins (first_rows h.variables h.answer).scalars rows.scalars → Begins (first_rows h.variables h.answer).vectors rows.vectors → AreOne (params_of h) → GivesUniform h.answer → IsCompiled program code f h g (layout_of rows) p
+made_compiled program code f h g rows p gang source found fine plain made scalars vectors one gives = record {
   gang = gang;
   source = source;
   found = found;
   apart = layout_apart rows;
-  passed = parameters_first h rows more first uniform;
+  fine = fine;
+  one = one;
+  passed = passed_first h rows scalars vectors;
   result = result_fits program.functions code h g rows p fine made h.answer fine.gives made.result gives;
   code_is = subst (λ c. AreAt c 0 (function_code (layout_of rows) h.answer h.body p)) (sym made.code_is) (at_whole (function_code (layout_of rows) h.answer h.body p));
   places_are = made.places_are;
-  tree = plain;
-  table = (present program.functions code h g rows p fine made).table;
+  rated = plain;
+  named = (present program.functions code h g rows p fine made).named;
   arrays = made.arrays;
 }

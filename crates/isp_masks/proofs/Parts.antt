@@ -1,63 +1,53 @@
--- What is demanded of statements, from what is asked of trees and tables.
+-- What the laws use of a statement that fits, part by part.
 use Rattle.std.proofs.Common.{ℕ, ◌+◌, Option, Some, None}
 use Rattle.isp_base.specs.declared.types.Ty.{Ty}
-use Rattle.isp_typed.specs.Fine.{HoldsArray}
 use Rattle.isp_typed.specs.Typed.{TExpr, type_of, TSimple, TFirst, t_first_declare, t_first_simple, TStmt, t_block, t_declare, t_simple, t_if, t_if_else, t_while, t_do, t_for, t_foreach, t_foreach_active, t_unmasked, t_jump, t_return, t_print, t_assert, TBlock, t_braces, TStmts, t_no_stmts, t_stmt_then}
-use Rattle.isp_lower.specs.Asks.{Ask, All}
-use Rattle.isp_lower.specs.Fits.{first_slot, IsNamedIn}
+use Rattle.isp_lower.specs.Asks.{first_slot}
 use Rattle.isp_lower.specs.Setting.{Setting}
-use Rattle.isp_lower.specs.Tables.{AnyMask}
-use Rattle.isp_lower.proofs.Fitting.{expr_fits, operand_fits, simple_fits, items_fit}
-use Rattle.isp_masks.specs.Asks.{first_asks, test_part_asks, step_asks}
-use Rattle.isp_masks.specs.Fits.{AnswerFits, FirstFits, TestFits, StepFits, StmtFits, BlockFits, StmtsFit}
-use Rattle.isp_masks.specs.Parts.{AnswerTree, FirstTree, TestTree, StepTree, StmtTree, BlockTree, StmtsTree, AnswerTable, StmtTable, BlockTable, StmtsTable}
+use Rattle.isp_lower.proofs.Parts.{OperandFits, ExprParts, SimpleParts, ItemsParts}
 
 module _ (w : Setting) where
-  -- the table of the function's registers has all of these
-  abbrev Named : Ask → Type 0
-  Named a = All (IsNamedIn w.routine w.layout) (HoldsArray w.function.variables) (HoldsArray w.function.variables) AnyMask a
-
-  answer_fits : (answer : Option Ty) (x : TExpr) (n : ℕ) → AnswerTree answer x → AnswerTable w.routine w.layout w.function.variables answer x n → AnswerFits w answer x n
-  answer_fits None x n t b = expr_fits w x n t b
-  answer_fits (Some u) x n t b = (operand_fits w u.rate u.elem x n t.0 b.1, expr_fits w x n t.1 b.1.1)
+  -- what is returned is one of what the function gives
+  abbrev pub AnswerFits : Option Ty → TExpr → ℕ → Type 0
+  AnswerFits None x n = ExprParts w x n
+  AnswerFits (Some t) x n = OperandFits w t.rate t.elem x n × ExprParts w x n
 
   -- the parts of a `for` that may be left out
-  first_fits : (o : Option TFirst) (n : ℕ) → FirstTree o → Named (first_asks o n) → FirstFits w o n
-  first_fits None n t i = tt
-  first_fits (Some (t_first_declare xs sp)) n t i = items_fit w xs n t i
-  first_fits (Some (t_first_simple x)) n t i = simple_fits w x n t i
+  abbrev pub FirstFits : Option TFirst → ℕ → Type 0
+  FirstFits None n = Unit {0}
+  FirstFits (Some (t_first_declare xs sp)) n = ItemsParts w n xs
+  FirstFits (Some (t_first_simple x)) n = SimpleParts w x n
 
-  test_fits : (o : Option TExpr) (n : ℕ) → TestTree o → Named (test_part_asks o n) → TestFits w o n
-  test_fits None n t i = tt
-  test_fits (Some e) n t i = expr_fits w e n t.0 i
+  abbrev pub TestFits : Option TExpr → ℕ → Type 0
+  TestFits None n = Unit {0}
+  TestFits (Some e) n = ExprParts w e n
 
-  step_fits : (o : Option TSimple) (n : ℕ) → StepTree o → Named (step_asks o n) → StepFits w o n
-  step_fits None n t i = tt
-  step_fits (Some x) n t i = simple_fits w x n t i
+  abbrev pub StepFits : Option TSimple → ℕ → Type 0
+  StepFits None n = Unit {0}
+  StepFits (Some x) n = SimpleParts w x n
 
-  mutual
-    pub stmt_fits : (x : TStmt) (n : ℕ) → StmtTree w.frame.answer x → StmtTable w.routine w.layout w.function.variables w.frame.answer x n → StmtFits w x n
-    stmt_fits (t_block b) n t i = block_fits b n t i
-    stmt_fits (t_declare xs sp) n t i = items_fit w xs n t i
-    stmt_fits (t_simple x sp) n t i = simple_fits w x n t i
-    stmt_fits (t_if f g e x sp) n t i = (expr_fits w e n t.0 i.0, stmt_fits x (first_slot (type_of e).rate n) t.1 i.1.1)
-    stmt_fits (t_if_else f g e x y sp) n t i = (expr_fits w e n t.0 i.0, stmt_fits x (first_slot (type_of e).rate n) t.1 i.1.1.0, stmt_fits y (first_slot (type_of e).rate n) t.2 i.1.1.1)
-    stmt_fits (t_while f g e x sp) n t i = (expr_fits w e (n + 3) t.0.0 i.1.0, stmt_fits x (n + 3) t.1 i.1.1)
-    stmt_fits (t_do f g x e sp) n t i = (expr_fits w e (n + 3) t.0.0 i.1.1, stmt_fits x (n + 3) t.1 i.1.0)
-    stmt_fits (t_for f g first e step z x sp) n t i =
-        (first_fits first n t.0 i.0, test_fits e (n + 3) t.1 i.1.1.0, step_fits step (n + 3) t.2 i.1.1.1.0, stmt_fits x (n + 3) t.3 i.1.1.1.1)
-    stmt_fits (t_foreach k g rs x sp) n t i = t
-    stmt_fits (t_foreach_active k g z x sp) n t i = t
-    stmt_fits (t_unmasked k b sp) n t i = t
-    stmt_fits (t_jump j k sp) n t i = tt
-    stmt_fits (t_return k None sp) n t i = tt
-    stmt_fits (t_return k (Some x) sp) n t i = answer_fits w.frame.answer x n t i
-    stmt_fits (t_print k text xs sp) n t i = t
-    stmt_fits (t_assert x c sp) n t i = t
+  abbrev mutual
+    pub StmtParts : TStmt → ℕ → Type 0
+    StmtParts (t_block b) n = BlockParts b n
+    StmtParts (t_declare xs sp) n = ItemsParts w n xs
+    StmtParts (t_simple x sp) n = SimpleParts w x n
+    StmtParts (t_if f g e x sp) n = ExprParts w e n × StmtParts x (first_slot (type_of e).rate n)
+    StmtParts (t_if_else f g e x y sp) n = ExprParts w e n × StmtParts x (first_slot (type_of e).rate n) × StmtParts y (first_slot (type_of e).rate n)
+    StmtParts (t_while f g e x sp) n = ExprParts w e (n + 3) × StmtParts x (n + 3)
+    StmtParts (t_do f g x e sp) n = ExprParts w e (n + 3) × StmtParts x (n + 3)
+    StmtParts (t_for f g first e step i x sp) n = FirstFits first n × TestFits e (n + 3) × StepFits step (n + 3) × StmtParts x (n + 3)
+    StmtParts (t_foreach k g rs x sp) n = ⊥
+    StmtParts (t_foreach_active k g i x sp) n = ⊥
+    StmtParts (t_unmasked k b sp) n = ⊥
+    StmtParts (t_jump j k sp) n = Unit {0}
+    StmtParts (t_return k None sp) n = Unit {0}
+    StmtParts (t_return k (Some x) sp) n = AnswerFits w.frame.answer x n
+    StmtParts (t_print k text xs sp) n = ⊥
+    StmtParts (t_assert x c sp) n = ⊥
 
-    pub block_fits : (b : TBlock) (n : ℕ) → BlockTree w.frame.answer b → BlockTable w.routine w.layout w.function.variables w.frame.answer b n → BlockFits w b n
-    block_fits (t_braces xs sp) n t i = stmts_fit xs n t i
+    pub BlockParts : TBlock → ℕ → Type 0
+    BlockParts (t_braces xs sp) n = StmtsParts xs n
 
-    pub stmts_fit : (xs : TStmts) (n : ℕ) → StmtsTree w.frame.answer xs → StmtsTable w.routine w.layout w.function.variables w.frame.answer xs n → StmtsFit w xs n
-    stmts_fit t_no_stmts n t i = tt
-    stmts_fit (t_stmt_then x xs) n t i = (stmt_fits x n t.0 i.0, stmts_fit xs n t.1 i.1)
+    pub StmtsParts : TStmts → ℕ → Type 0
+    StmtsParts t_no_stmts n = Unit {0}
+    StmtsParts (t_stmt_then x xs) n = StmtParts x n × StmtsParts xs n

@@ -27,8 +27,11 @@ use Rattle.isp_typed.specs.Typed.{TFunction}
 use Rattle.isp_typed.specs.declared.variable.Holds.{Holds}
 use Rattle.isp_typed.specs.declared.variable.Holds.TheVariants as holds
 use Rattle.isp_typed.specs.declared.variable.Variable.{Variable as Declared}
-use Rattle.isp_masks.specs.Arrays.{locals_of}
-use Rattle.isp_masks.specs.Lowered.{IsLowered, param_of, params_of, returns_of, types_of, value_kind}
+use Rattle.isp_lower.specs.Drafts.{Draft, begun, routine_at_work}
+use Rattle.isp_lower.specs.Header.{heading_of, locals_of, param_of, params_of, returns_of, routine_with, types_of, value_kind}
+use Rattle.isp_lower.specs.Reserved.{Has}
+use Rattle.isp_lower.specs.declared.reserve.Reserve.{Reserve}
+use Rattle.isp_masks.specs.Lowered.{AddsLowered, IsLowered}
 use Rattle.isp_masks.specs.Asks.{block_asks}
 use Rattle.isp_masks.specs.Statements.{block_code, block_places, returned}
 
@@ -117,4 +120,21 @@ lowered h g z r a b none first grows y name exported params returns locals scala
       low = let n = ap length y.places ∙ length-append a.places.items (block_places l h.body) in omega (arith, n);
       code_is = code ∙ y.code ∙ ap (λ z. part z (length a.places.items)) none;
       places_are = subst (λ z. AreAt z (length a.places.items) (block_places l h.body)) (ap (λ z. a.places.items ++ z) (append-nil (block_places l h.body)) ∙ sym y.places) (at_seam a.places.items (block_places l h.body) []);
+    }
+
+-- the function at work, whose registers are reserved and whose body is written, is added
+pub adds : (h : TFunction) (old d : Draft) (z r : Reserve) (a b : Body) → d ≡ begun h old → a.code.items ≡ d.code → a.places.items ≡ d.places → rows_of z.registers ≡ d.rows → z.masks ≡ d.masks
+    → Grows z.registers r.registers → z.masks ≤ r.masks → Has r (block_asks h.answer h.body 3)
+    → Appends a b (λ pc p. block_code (layout_of (rows_of r.registers)) h.answer h.body pc p 0 1 2 3 ++ instr.Return (returned (layout_of (rows_of r.registers)) h.answer) ∷ []) (block_places (layout_of (rows_of r.registers)) h.body)
+    → AddsLowered h old (record d { places = b.places.items; rows = rows_of r.registers; masks = r.masks; code = b.code.items })
+adds h old d z r a b is code places rows masks grows more has y =
+    let l = layout_of (rows_of r.registers) in
+    let three : 3 ≤ r.masks = omega (arith, more, masks ∙ ap (λ (x : Draft). x.masks) is) in
+    record {
+      routine = routine_with (heading_of h) (rows_of r.registers) r.masks b.code.items;
+      added = ap (λ (x : Draft). x.routines ++ routine_at_work x.heading (rows_of r.registers) r.masks b.code.items) is;
+      places = record { more = block_places l h.body; is = y.places ∙ ap (λ ps. ps ++ block_places l h.body) (places ∙ ap (λ (x : Draft). x.places) is) };
+      gang = ap (λ (x : Draft). x.gang) is;
+      lowered = lowered h (routine_with (heading_of h) (rows_of r.registers) r.masks b.code.items) z.registers r.registers a b (code ∙ ap (λ (x : Draft). x.code) is)
+          (rows ∙ ap (λ (x : Draft). x.rows) is) grows y refl refl refl refl refl refl refl has three refl;
     }

@@ -13,7 +13,6 @@ use Rattle.isp_tree.specs.declared.stmt.Jump.{Jump}
 use Rattle.isp_tree.specs.declared.stmt.Jump.TheVariants.{Break, Continue}
 use Rattle.isp_typed.specs.Typed.{TExpr, type_of, TSimple, TFirst, t_first_declare, t_first_simple, TStmt, t_block, t_declare, t_simple, t_if, t_if_else, t_while, t_do, t_for, t_foreach, t_foreach_active, t_unmasked, t_jump, t_return, t_print, t_assert, TBlock, t_braces, TStmts, t_no_stmts, t_stmt_then}
 use Rattle.isp_lower.specs.Code.{jump_off, guard, found, expr_places, expr_code}
-use Rattle.isp_lower.specs.Fits.{first_slot}
 use Rattle.isp_lower.specs.Layout.{Layout, class_at, register}
 use Rattle.isp_masks.specs.Exits.{exits_of, all_go_on}
 use Rattle.isp_masks.specs.Fors.{first_code, step_code, first_places, step_places}
@@ -21,17 +20,17 @@ use Rattle.isp_masks.specs.Loops.{endless_code, for_code}
 use Rattle.isp_masks.specs.Sets.{unite, leave_code, jump_code}
 use Rattle.isp_masks.specs.Statements.{rest_code, parted_code, if_code, if_else_code, answer_code, returned, stmt_places, block_places, stmts_places, stmt_code, block_code, stmts_code, function_code}
 use Rattle.isp_lower.specs.Code.{copy, operand, operand_of}
-use Rattle.isp_masks.specs.Asks.{part_asks, first_asks, step_asks}
+use Rattle.isp_masks.specs.Asks.{part_asks, first_asks, step_asks, answer_asks, block_asks, stmt_asks, stmts_asks}
 use Rattle.isp_lower.specs.Sound.{AreSound, PartSound, IsRegister, Granted, ExprPresent}
-use Rattle.isp_lower.specs.Trees.{ExprTree}
 use Rattle.isp_lower.proofs.SoundFound.{found_there, operand_there}
 use Rattle.isp_lower.proofs.SoundLines.{sound_both, copy_sound}
 use Rattle.isp_lower.proofs.SoundParts.{here_then}
 use Rattle.isp_lower.proofs.SoundExprs.{value_sound, part_sound}
 use Rattle.isp_lower.proofs.SoundSimples.{simple_sound, items_sound}
-use Rattle.isp_masks.specs.Parts.{AnswerTree, FirstTree, StepTree, StmtTree, BlockTree, StmtsTree}
 use Rattle.isp_masks.proofs.SoundLoops.{HereSound, guard_sound, two_sound, while_sound, for_sound, endless_sound, do_sound}
-use Rattle.isp_masks.specs.Sound.{AnswerPresent, StmtPresent, BlockPresent, StmtsPresent}
+use Rattle.isp_lower.proofs.Trees.{ExprTree}
+use Rattle.isp_lower.specs.Asks.{first_slot}
+use Rattle.isp_masks.proofs.Trees.{AnswerTree, BlockTree, FirstTree, StepTree, StmtTree, StmtsTree}
 
 module _ (code : Listing) (h : Routine) where
   leave_sound : (m k : ℕ) → m < h.masks → k < h.masks → AreSound code h (leave_code m k)
@@ -102,13 +101,13 @@ module _ (code : Listing) (h : Routine) where
     step_sound (Some x) n is f pc p k lk pl lt = simple_sound code h l x n is f pc p k lk pl lt
 
     -- a value goes to the register of the result
-    answer_sound : (a : Option Ty) (x : TExpr) (pc p k n : ℕ) → AnswerTree a x → AnswerPresent h l a x n → k < h.masks → p + length (expr_places l x) ≤ length code.places → pc + length (answer_code l a x pc p k n) < length h.code → AreSound code h (answer_code l a x pc p k n)
+    answer_sound : (a : Option Ty) (x : TExpr) (pc p k n : ℕ) → AnswerTree a x → Granted h l (answer_asks a x n) → k < h.masks → p + length (expr_places l x) ≤ length code.places → pc + length (answer_code l a x pc p k n) < length h.code → AreSound code h (answer_code l a x pc p k n)
     answer_sound None x pc p k n is f lk pl lt = value_sound code h l x n is f pc p k lk pl lt
     answer_sound (Some t) x pc p k n is f lk pl lt =
         here_then code h pc (operand_of l t.rate x k n (expr_code l x pc p k n)) (copy t.rate (l.result t.rate) (operand l t.rate x n) k) (part_sound code h l t.rate t.elem x pc p k n is.0 is.1 f.1 lk pl) (copy_sound code h t.rate t.elem (l.result t.rate) (operand l t.rate x n) k f.0 (operand_there h l t.rate t.elem x n is.0 is.1 f.1) lk) lt
 
     mutual
-      pub stmt_sound : (x : TStmt) (pc p k co rr n : ℕ) → StmtTree answer x → StmtPresent h l answer x n → k < h.masks → co < h.masks → rr < h.masks → p + length (stmt_places l x) ≤ length code.places → pc + length (stmt_code l answer x pc p k co rr n) < length h.code → AreSound code h (stmt_code l answer x pc p k co rr n)
+      pub stmt_sound : (x : TStmt) (pc p k co rr n : ℕ) → StmtTree answer x → Granted h l (stmt_asks answer x n) → k < h.masks → co < h.masks → rr < h.masks → p + length (stmt_places l x) ≤ length code.places → pc + length (stmt_code l answer x pc p k co rr n) < length h.code → AreSound code h (stmt_code l answer x pc p k co rr n)
       stmt_sound (t_block b) pc p k co rr n is f lk lc lr pl lt = block_sound b pc p k co rr n is f lk lc lr pl lt
       stmt_sound (t_declare xs sp) pc p k co rr n is f lk lc lr pl lt = items_sound code h l xs n is f pc p k lk pl lt
       stmt_sound (t_simple x sp) pc p k co rr n is f lk lc lr pl lt = simple_sound code h l x n is f pc p k lk pl lt
@@ -183,10 +182,10 @@ module _ (code : Listing) (h : Routine) where
       stmt_sound (t_print w text xs sp) pc p k co rr n is f lk lc lr pl lt = absurd is
       stmt_sound (t_assert x c sp) pc p k co rr n is f lk lc lr pl lt = absurd is
 
-      pub block_sound : (x : TBlock) (pc p k co rr n : ℕ) → BlockTree answer x → BlockPresent h l answer x n → k < h.masks → co < h.masks → rr < h.masks → p + length (block_places l x) ≤ length code.places → pc + length (block_code l answer x pc p k co rr n) < length h.code → AreSound code h (block_code l answer x pc p k co rr n)
+      pub block_sound : (x : TBlock) (pc p k co rr n : ℕ) → BlockTree answer x → Granted h l (block_asks answer x n) → k < h.masks → co < h.masks → rr < h.masks → p + length (block_places l x) ≤ length code.places → pc + length (block_code l answer x pc p k co rr n) < length h.code → AreSound code h (block_code l answer x pc p k co rr n)
       block_sound (t_braces xs sp) pc p k co rr n is f lk lc lr pl lt = stmts_sound xs pc p k co rr n is f lk lc lr pl lt
 
-      pub stmts_sound : (xs : TStmts) (pc p k co rr n : ℕ) → StmtsTree answer xs → StmtsPresent h l answer xs n → k < h.masks → co < h.masks → rr < h.masks → p + length (stmts_places l xs) ≤ length code.places → pc + length (stmts_code l answer xs pc p k co rr n) < length h.code → AreSound code h (stmts_code l answer xs pc p k co rr n)
+      pub stmts_sound : (xs : TStmts) (pc p k co rr n : ℕ) → StmtsTree answer xs → Granted h l (stmts_asks answer xs n) → k < h.masks → co < h.masks → rr < h.masks → p + length (stmts_places l xs) ≤ length code.places → pc + length (stmts_code l answer xs pc p k co rr n) < length h.code → AreSound code h (stmts_code l answer xs pc p k co rr n)
       stmts_sound t_no_stmts pc p k co rr n is f lk lc lr pl lt = tt
       stmts_sound (t_stmt_then x xs) pc p k co rr n is f lk lc lr pl lt =
           let ca = stmt_code l answer x pc p k co rr n in
@@ -198,7 +197,7 @@ module _ (code : Listing) (h : Routine) where
           sound_both code h ca rest (stmt_sound x pc p k co rr n is.0 f.0 lk lc lr (omega (arith, e2, pl)) (omega (arith, e1, lt))) (rest_sound (all_go_on x) xs k part lk (λ pc2 lt2. stmts_sound xs pc2 (p + length px) k co rr n is.1 f.1 lk lc lr (omega (arith, e2, pl)) lt2) (pc + length ca) (omega (arith, e1, lt)))
 
 -- a whole function: its body, and the return
-pub function_sound : (code : Listing) (h : Routine) (l : Layout) (answer : Option Ty) (b : TBlock) (p : ℕ) → h.code ≡ function_code l answer b p → BlockTree answer b → BlockPresent h l answer b 3 → 3 ≤ h.masks → p + length (block_places l b) ≤ length code.places → IsGiven h h.returns (returned l answer) → AreSound code h h.code
+pub function_sound : (code : Listing) (h : Routine) (l : Layout) (answer : Option Ty) (b : TBlock) (p : ℕ) → h.code ≡ function_code l answer b p → BlockTree answer b → Granted h l (block_asks answer b 3) → 3 ≤ h.masks → p + length (block_places l b) ≤ length code.places → IsGiven h h.returns (returned l answer) → AreSound code h h.code
 function_sound code h l answer b p is tree body masks places given =
     let cb = block_code l answer b 0 p 0 1 2 3 in
     let last = instr.Return (returned l answer) ∷ [] in

@@ -3,7 +3,7 @@ use Rattle.std.proofs.Common.{◌≡◌, ◌≢◌, ℕ, zero, suc, ◌+◌, ◌
 use Rattle.std.specs.Prelude.{slice_get, if◌then◌else◌}
 use Rattle.std.specs.List.{All}
 use Rattle.std.proofs.lemmas.Bool.{ne_eqb}
-use Rattle.std.proofs.lemmas.Option.{get_or_from_slice_get, slice_get_within}
+use Rattle.std.proofs.lemmas.Option.{same_Some, get_or_from_slice_get, slice_get_within}
 use Rattle.isp_base.specs.declared.signature.Parameter.{Parameter}
 use Rattle.isp_base.specs.declared.types.Elem.{Elem}
 use Rattle.isp_base.specs.declared.types.Ty.{Ty}
@@ -21,8 +21,8 @@ use Rattle.isp_typed.specs.declared.variable.Holds.TheVariants as holds
 use Rattle.isp_typed.specs.declared.variable.Variable.{Variable as Declared}
 use Rattle.isp_lower.specs.Emitted.{Begins, row_at, array_row, array_rows}
 use Rattle.isp_lower.specs.Rows.{Variable, Row, Rows, name_number, number_in, layout_of}
-use Rattle.isp_masks.specs.Arrays.{array_then, array_count, locals_of, count_then, local_count, ArraysStand}
-use Rattle.isp_masks.proofs.Begins.{some_same}
+use Rattle.isp_lower.specs.Header.{locals_of}
+use Rattle.isp_masks.specs.Arrays.{array_then, array_count, count_then, local_count, ArraysStand}
 
 -- ---- how many are passed
 
@@ -68,7 +68,7 @@ declared_number : (vs : List Declared) (more : List Row) (k v y : ℕ) (x : Decl
     → number_in (array_rows k vs ++ more) (Variable y) ≡ local_count (take v vs)
 declared_number [] more k v y x t m ey d e h = absurd (cc)
 declared_number (w ∷ vs) more k zero y x t m ey d e h =
-    let is : w.holds ≡ holds.Local t m = ap (λ (z : Declared). z.holds) (some_same w x e) ∙ h in
+    let is : w.holds ≡ holds.Local t m = ap (λ (z : Declared). z.holds) (same_Some w x e) ∙ h in
     ap (λ z. number_in (array_row z k (array_rows (suc k) vs) ++ more) (Variable y)) is ∙ own_row k y t.elem (array_rows (suc k) vs ++ more) (omega (arith, ey))
 declared_number (w ∷ vs) more k (suc v) y x t m ey d e h =
     go w.holds refl (declared_number vs more (suc k) v y x t m (omega (arith, ey)) (λ j q lt. d (suc j) q (omega (arith, lt))) e h)
@@ -89,7 +89,7 @@ given_at zero ps vs more k v y x t ey a d e h = absurd (no_given x t h (declared
 given_at (suc n) ps [] more k v y x t ey a d e h = absurd (cc)
 given_at (suc n) [] (w ∷ vs) more k v y x t ey a d e h = absurd a
 given_at (suc n) (p ∷ ps) (w ∷ vs) more k zero y x t ey a d e h =
-    let is : w.holds ≡ holds.Given t = ap (λ (z : Declared). z.holds) (some_same w x e) ∙ h in
+    let is : w.holds ≡ holds.Given t = ap (λ (z : Declared). z.holds) (same_Some w x e) ∙ h in
     let i : IsParam p (holds.Given t) = subst (IsParam p) is a.0 in
     (p, refl, i.0, ap (λ z. number_in (array_row z k (array_rows (suc k) vs) ++ more) (Variable y)) is ∙ own_row k y t (array_rows (suc k) vs ++ more) (omega (arith, ey)))
 given_at (suc n) (p ∷ ps) (w ∷ vs) more k (suc v) y x t ey a d e h =
@@ -116,7 +116,7 @@ local_at zero ps vs more k v y x t m ey a d e h =
 local_at (suc n) ps [] more k v y x t m ey a d e h = absurd (cc)
 local_at (suc n) [] (w ∷ vs) more k v y x t m ey a d e h = absurd a
 local_at (suc n) (p ∷ ps) (w ∷ vs) more k zero y x t m ey a d e h =
-    let is : w.holds ≡ holds.Local t m = ap (λ (z : Declared). z.holds) (some_same w x e) ∙ h in
+    let is : w.holds ≡ holds.Local t m = ap (λ (z : Declared). z.holds) (same_Some w x e) ∙ h in
     absurd (subst (IsParam p) is a.0)
 local_at (suc n) (p ∷ ps) (w ∷ vs) more k (suc v) y x t m ey a d e h =
     let ih = local_at n ps vs more (suc k) v y x t m (omega (arith, ey)) a.1 d e h in

@@ -12,7 +12,6 @@ use Rattle.isp_meaning.specs.Outcomes.{Res, went_all, with_value, unless_empty}
 use Rattle.isp_meaning.specs.Expressions.{value}
 use Rattle.isp_meaning.specs.Statements.{branches, run, block, run_all}
 use Rattle.isp_lower.specs.Code.{found, expr_places, expr_code}
-use Rattle.isp_lower.specs.Fits.{first_slot, ExprFits}
 use Rattle.isp_lower.specs.Runs.{Enters, Ok}
 use Rattle.isp_lower.specs.Setting.{Setting, IsSettled, gang_of, calls_of, AreAt, Holds}
 use Rattle.isp_lower.proofs.Base.{are_front, are_back, comes_none, at_to, spares_all}
@@ -21,7 +20,6 @@ use Rattle.isp_lower.proofs.Found.{few}
 use Rattle.isp_lower.proofs.Nodes.{enters_less, enters_part}
 use Rattle.isp_masks.specs.Statements.{rest_code, if_code, if_else_code, stmt_places, block_places, stmts_places, stmt_code, block_code, stmts_code}
 use Rattle.isp_masks.specs.Exits.{either_leaves, exits_of, block_exits, nobody_leaves, all_go_on}
-use Rattle.isp_masks.specs.Fits.{StmtFits, BlockFits, StmtsFit}
 use Rattle.isp_masks.specs.StmtRuns.{AreThree, aside, StmtRuns}
 use Rattle.isp_masks.proofs.Combine.{stmt_after, stmt_less, with_runs, all_runs, plain_ok}
 use Rattle.isp_masks.proofs.Choices.{if_runs, if_else_runs}
@@ -31,10 +29,13 @@ use Rattle.isp_masks.proofs.Members.{went_inside, went_whole}
 use Rattle.isp_masks.proofs.LoopStmts.{while_runs, do_runs, for_runs}
 use Rattle.isp_masks.proofs.Leaves.{jump_runs, return_ok, return_runs}
 use Rattle.isp_masks.proofs.Sequences.{set_aside, rest_runs, then_runs}
+use Rattle.isp_lower.proofs.Parts.{ExprParts}
+use Rattle.isp_lower.specs.Asks.{first_slot}
+use Rattle.isp_masks.proofs.Parts.{BlockParts, StmtParts, StmtsParts}
 
 module _ (w : Setting) (ready : IsSettled w) where
   -- a test, and what follows it for the same set
-  tested_runs : (e : TExpr) (pc p k co rr n q : ℕ) (a : Mask) (s : State) (c : Conf) (code : ℕ → List Instr) (go : Payload → State → Res) → ExprFits w e n → AreAt w.routine.code pc (expr_code w.layout e pc p k n ++ code (pc + length (expr_code w.layout e pc p k n))) → AreAt w.code.places p (expr_places w.layout e) → AreThree k co rr n → Enters w pc k n a s c q → ((m : Payload) (s1 : State) (ok : Ok w c (pc + length (expr_code w.layout e pc p k n)) n (5 + (1 + q)) (Holds (type_of e).rate a (found w.layout e n) m) s1) → StmtRuns w w.turns ok.conf (pc + length (expr_code w.layout e pc p k n) + length (code (pc + length (expr_code w.layout e pc p k n)))) k co rr n (ok.steps + (1 + q)) (go m s1)) → StmtRuns w w.turns c (pc + length (expr_code w.layout e pc p k n ++ code (pc + length (expr_code w.layout e pc p k n)))) k co rr n (1 + q) (with_value (value (gang_of w) w.frame (calls_of w) e a (tick s)) go)
+  tested_runs : (e : TExpr) (pc p k co rr n q : ℕ) (a : Mask) (s : State) (c : Conf) (code : ℕ → List Instr) (go : Payload → State → Res) → ExprParts w e n → AreAt w.routine.code pc (expr_code w.layout e pc p k n ++ code (pc + length (expr_code w.layout e pc p k n))) → AreAt w.code.places p (expr_places w.layout e) → AreThree k co rr n → Enters w pc k n a s c q → ((m : Payload) (s1 : State) (ok : Ok w c (pc + length (expr_code w.layout e pc p k n)) n (5 + (1 + q)) (Holds (type_of e).rate a (found w.layout e n) m) s1) → StmtRuns w w.turns ok.conf (pc + length (expr_code w.layout e pc p k n) + length (code (pc + length (expr_code w.layout e pc p k n)))) k co rr n (ok.steps + (1 + q)) (go m s1)) → StmtRuns w w.turns c (pc + length (expr_code w.layout e pc p k n ++ code (pc + length (expr_code w.layout e pc p k n)))) k co rr n (1 + q) (with_value (value (gang_of w) w.frame (calls_of w) e a (tick s)) go)
   tested_runs e pc p k co rr n q a s c code go fit has places three b f =
       let fe : heads e ≤ 1 = few w e n fit in
       let ce = expr_code w.layout e pc p k n in
@@ -46,7 +47,7 @@ module _ (w : Setting) (ready : IsSettled w) where
       (λ m s1 ok. stmt_after w ready w.turns c ok.conf ok.steps (pc1 + length (code pc1)) k co rr n (1 + q) (go m s1) ok.comes ok.spares (λ r lt ne. ok.masks r lt) three (f m s1 ok)))
 
   mutual
-    pub stmt_runs : (x : TStmt) (pc p k co rr n q : ℕ) (a : Mask) (s : State) (c : Conf) → StmtFits w x n → AreAt w.routine.code pc (stmt_code w.layout w.frame.answer x pc p k co rr n) → AreAt w.code.places p (stmt_places w.layout x) → AreThree k co rr n → Enters w pc k n a s c q → StmtRuns w w.turns c (pc + length (stmt_code w.layout w.frame.answer x pc p k co rr n)) k co rr n (aside (all_go_on x) + q) (run (gang_of w) w.frame (calls_of w) w.turns x a s)
+    pub stmt_runs : (x : TStmt) (pc p k co rr n q : ℕ) (a : Mask) (s : State) (c : Conf) → StmtParts w x n → AreAt w.routine.code pc (stmt_code w.layout w.frame.answer x pc p k co rr n) → AreAt w.code.places p (stmt_places w.layout x) → AreThree k co rr n → Enters w pc k n a s c q → StmtRuns w w.turns c (pc + length (stmt_code w.layout w.frame.answer x pc p k co rr n)) k co rr n (aside (all_go_on x) + q) (run (gang_of w) w.frame (calls_of w) w.turns x a s)
     stmt_runs (t_block z) pc p k co rr n q a s c fit has places three b = set_aside w ready (nobody_leaves (block_exits z)) c _ k co rr n q _ (block_runs z pc p k co rr n q a s c fit has places three b)
     stmt_runs (t_declare xs sp) pc p k co rr n q a s c fit has places three b =
         all_runs w ready c _ k co rr n (0 + q) a _ three b.mask (items_run w ready xs pc p k n (0 + q) a (tick s) c fit has places (enters_part w ready pc k n (0 + q) q a s c (omega arith) b))
@@ -84,10 +85,10 @@ module _ (w : Setting) (ready : IsSettled w) where
     stmt_runs (t_print v text xs sp) pc p k co rr n q a s c fit has places three b = absurd fit
     stmt_runs (t_assert x z sp) pc p k co rr n q a s c fit has places three b = absurd fit
 
-    pub block_runs : (x : TBlock) (pc p k co rr n q : ℕ) (a : Mask) (s : State) (c : Conf) → BlockFits w x n → AreAt w.routine.code pc (block_code w.layout w.frame.answer x pc p k co rr n) → AreAt w.code.places p (block_places w.layout x) → AreThree k co rr n → Enters w pc k n a s c q → StmtRuns w w.turns c (pc + length (block_code w.layout w.frame.answer x pc p k co rr n)) k co rr n (1 + q) (block (gang_of w) w.frame (calls_of w) w.turns x a s)
+    pub block_runs : (x : TBlock) (pc p k co rr n q : ℕ) (a : Mask) (s : State) (c : Conf) → BlockParts w x n → AreAt w.routine.code pc (block_code w.layout w.frame.answer x pc p k co rr n) → AreAt w.code.places p (block_places w.layout x) → AreThree k co rr n → Enters w pc k n a s c q → StmtRuns w w.turns c (pc + length (block_code w.layout w.frame.answer x pc p k co rr n)) k co rr n (1 + q) (block (gang_of w) w.frame (calls_of w) w.turns x a s)
     block_runs (t_braces xs sp) pc p k co rr n q a s c fit has places three b = stmts_runs xs pc p k co rr n (1 + q) a (tick s) c fit has places three (enters_part w ready pc k n (1 + q) q a s c (omega arith) b)
 
-    pub stmts_runs : (xs : TStmts) (pc p k co rr n q : ℕ) (a : Mask) (s : State) (c : Conf) → StmtsFit w xs n → AreAt w.routine.code pc (stmts_code w.layout w.frame.answer xs pc p k co rr n) → AreAt w.code.places p (stmts_places w.layout xs) → AreThree k co rr n → Enters w pc k n a s c q → StmtRuns w w.turns c (pc + length (stmts_code w.layout w.frame.answer xs pc p k co rr n)) k co rr n q (run_all (gang_of w) w.frame (calls_of w) w.turns xs a s)
+    pub stmts_runs : (xs : TStmts) (pc p k co rr n q : ℕ) (a : Mask) (s : State) (c : Conf) → StmtsParts w xs n → AreAt w.routine.code pc (stmts_code w.layout w.frame.answer xs pc p k co rr n) → AreAt w.code.places p (stmts_places w.layout xs) → AreThree k co rr n → Enters w pc k n a s c q → StmtRuns w w.turns c (pc + length (stmts_code w.layout w.frame.answer xs pc p k co rr n)) k co rr n q (run_all (gang_of w) w.frame (calls_of w) w.turns xs a s)
     stmts_runs t_no_stmts pc p k co rr n q a s c fit has places three b =
         let e : pc ≡ pc + 0 = omega arith in
         plain_ok w ready c c 0 (pc + 0) k co rr n q a s (comes_none w c) (at_to w c pc (pc + 0) b.at e) b.stands (spares_all w n c) (λ r lt. refl) three b.mask (omega (arith, b.used))

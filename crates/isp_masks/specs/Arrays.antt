@@ -2,20 +2,16 @@
 use Rattle.std.specs.Prelude.{◌≡◌, ◌≤◌, ℕ, suc, ◌+◌, List, [], ◌∷◌, take, Some, None, true, Bool, false, slice_get}
 use Rattle.isp_base.specs.declared.signature.Parameter.{Parameter}
 use Rattle.isp_base.specs.declared.types.Elem.{Elem}
-use Rattle.isp_base.specs.declared.types.Rate.{Rate}
-use Rattle.isp_base.specs.declared.types.Rate.TheVariants.{Uniform, Varying}
 use Rattle.isp_base.specs.declared.types.Ty.{Ty}
 use Rattle.isp_code.specs.Listing.{Routine}
 use Rattle.isp_code.specs.Registers.{passed}
-use Rattle.isp_code.specs.declared.function.Local.{Local}
-use Rattle.isp_code.specs.declared.function.Sharing.{Sharing}
-use Rattle.isp_code.specs.declared.function.Sharing.TheVariants.{Shared, PerInstance}
 use Rattle.isp_typed.specs.Typed.{TFunction}
-use Rattle.isp_typed.specs.declared.variable.ArrayVariable.{ArrayVariable}
 use Rattle.isp_typed.specs.declared.variable.Holds.{Holds}
 use Rattle.isp_typed.specs.declared.variable.Holds.TheVariants as holds
 use Rattle.isp_typed.specs.declared.variable.Variable.{Variable}
+use Rattle.isp_lower.specs.Header.{locals_of}
 use Rattle.isp_lower.specs.Layout.{Layout}
+pub use Rattle.isp_lower.specs.Reserved.{HoldsLocal}
 
 -- how many of the parameters are arrays
 abbrev pub array_then : Bool → ℕ → ℕ
@@ -26,23 +22,7 @@ abbrev pub array_count : List Parameter → ℕ
 array_count [] = 0
 array_count (p ∷ ps) = array_then p.is_array (array_count ps)
 
--- the local arrays among variables
-abbrev pub sharing_of : Rate → Sharing
-sharing_of Uniform = Shared
-sharing_of Varying = PerInstance
-
-abbrev pub local_of : Ty → ℕ → Local
-local_of t n = record { sharing = sharing_of t.rate; elem = t.elem; size = n }
-
-abbrev pub local_then : Holds → List Local → List Local
-local_then (holds.Value t) ls = ls
-local_then (holds.Given t) ls = ls
-local_then (holds.Local t n) ls = local_of t n ∷ ls
-
-abbrev pub locals_of : List Variable → List Local
-locals_of [] = []
-locals_of (v ∷ vs) = local_then v.holds (locals_of vs)
-
+-- how many of variables are local arrays
 abbrev pub count_then : Holds → ℕ → ℕ
 count_then (holds.Value t) n = n
 count_then (holds.Given t) n = n
@@ -59,7 +39,3 @@ pub record ArraysStand (h : TFunction) (g : Routine) (l : Layout) : Type 0 where
   pub given : (v : ℕ) (x : Variable) (e : Elem) → slice_get h.variables v ≡ Some x → x.holds ≡ holds.Given e → (p : Parameter) × (slice_get h.parameters v ≡ Some p) × (p.is_array ≡ true) × (l.array v ≡ array_count (take v h.parameters))
   -- a local one is no parameter, and not too large
   pub local : (v : ℕ) (x : Variable) (t : Ty) (n : ℕ) → slice_get h.variables v ≡ Some x → x.holds ≡ holds.Local t n → (slice_get h.parameters v ≡ None) × (l.array v ≡ passed g + local_count (take v h.variables)) × (n ≤ 65536)
-
--- the array is a local one of the function
-abbrev pub HoldsLocal : List Variable → ArrayVariable → Type 0
-HoldsLocal vars b = (n : ℕ) × (slice_get vars b.number ≡ Some (record { holds = holds.Local b.ty n; constant = b.constant }))

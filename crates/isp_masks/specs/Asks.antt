@@ -41,21 +41,29 @@ abbrev pub result_asks : Option Ty → Ask
 result_asks None = Nothing
 result_asks (Some t) = Register t.rate Result t.elem
 
+-- ---- statements, told what their parts ask for in a slot
+
+abbrev pub if_asks : TExpr → ℕ → (ℕ → Ask) → Ask
+if_asks e n parts =
+    Both (expr_asks e n) (Both (part_asks (type_of e).rate n) (parts (first_slot (type_of e).rate n)))
+
+-- a `for` behind its first part
+abbrev pub turns_asks : Option TExpr → Option TSimple → ℕ → (ℕ → Ask) → Ask
+turns_asks e step n body =
+    Both (loop_asks n) (Both (test_part_asks e (n + 3)) (Both (step_asks step (n + 3)) (body (n + 3))))
+
 module _ (answer : Option Ty) where
   abbrev mutual
     pub stmt_asks : TStmt → ℕ → Ask
     stmt_asks (t_block b) n = block_asks b n
     stmt_asks (t_declare xs sp) n = items_asks n xs
     stmt_asks (t_simple x sp) n = simple_asks x n
-    stmt_asks (t_if f g e x sp) n =
-        Both (expr_asks e n) (Both (part_asks (type_of e).rate n) (stmt_asks x (first_slot (type_of e).rate n)))
-    stmt_asks (t_if_else f g e x y sp) n =
-        let i = first_slot (type_of e).rate n in
-        Both (expr_asks e n) (Both (part_asks (type_of e).rate n) (Both (stmt_asks x i) (stmt_asks y i)))
+    stmt_asks (t_if f g e x sp) n = if_asks e n (λ i. stmt_asks x i)
+    stmt_asks (t_if_else f g e x y sp) n = if_asks e n (λ i. Both (stmt_asks x i) (stmt_asks y i))
     stmt_asks (t_while f g e x sp) n = Both (loop_asks n) (Both (expr_asks e (n + 3)) (stmt_asks x (n + 3)))
     stmt_asks (t_do f g x e sp) n = Both (loop_asks n) (Both (stmt_asks x (n + 3)) (expr_asks e (n + 3)))
     stmt_asks (t_for f g first e step i x sp) n =
-        Both (first_asks first n) (Both (loop_asks n) (Both (test_part_asks e (n + 3)) (Both (step_asks step (n + 3)) (stmt_asks x (n + 3)))))
+        Both (first_asks first n) (turns_asks e step n (λ j. stmt_asks x j))
     stmt_asks (t_foreach k g rs x sp) n = Nothing
     stmt_asks (t_foreach_active k g i x sp) n = Nothing
     stmt_asks (t_unmasked k b sp) n = Nothing

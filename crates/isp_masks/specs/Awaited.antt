@@ -25,3 +25,8 @@ pub record Awaits (old new : Body) (jumps : List ℕ) (k : ℕ) (c : ℕ → ℕ
 abbrev pub jump_where : Bool → ℕ → ℕ → List Instr
 jump_where true k t = jump_off k t ∷ []
 jump_where false k t = []
+
+-- behind what was written before, room is kept for such a jump
+abbrev pub LeavesRoom : Body → Body → List ℕ → List ℕ → ℕ → Bool → Type 0
+LeavesRoom old new before jumps k left =
+    (first : Body) (c : ℕ → ℕ → ℕ → List Instr) (s : List Span) → Awaits first old before k c s → Awaits first new jumps k (λ t pc p. c t pc p ++ jump_where left k t) s

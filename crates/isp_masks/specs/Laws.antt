@@ -1,5 +1,5 @@
 -- What holds of the code of every statement that fits.
-use Rattle.std.specs.Prelude.{◌≡◌, ◌≤◌, ℕ, ◌+◌, List, ◌++◌, length, slice_get, Option, Some, None, true}
+use Rattle.std.specs.Prelude.{◌≡◌, ◌≤◌, ℕ, ◌+◌, List, length, slice_get, Option, Some, None, true}
 use Rattle.isp_base.specs.Binding.{has_signature}
 use Rattle.isp_base.specs.declared.signature.Argument.{Argument}
 use Rattle.isp_base.specs.Sets.{Mask}
@@ -16,19 +16,22 @@ use Rattle.isp_lower.specs.Layout.{Layout}
 use Rattle.isp_lower.specs.Runs.{Enters}
 use Rattle.isp_base.specs.Arguments.{AreShort}
 use Rattle.isp_masks.specs.Agreement.{RunsAgree, Agrees}
-use Rattle.isp_masks.specs.Compiled.{entry_setting, IsCompiled, IsProgramCode, PassedUniform, PassedFirst, parameter_rows}
-use Rattle.isp_lower.specs.Rows.{Row, Rows, layout_of}
+use Rattle.isp_lower.specs.Emitted.{Begins, first_rows}
+use Rattle.isp_masks.specs.Compiled.{AreOne, entry_setting, IsCompiled, IsProgramCode}
+use Rattle.isp_masks.specs.Passing.{PassedFirst}
+use Rattle.isp_lower.specs.Rows.{Rows, layout_of}
 use Rattle.isp_masks.specs.Statements.{stmt_code, stmt_places, block_places, returned, function_code}
-use Rattle.isp_lower.specs.Sound.{AreSound}
-use Rattle.isp_masks.specs.Sound.{BlockPresent}
-use Rattle.isp_masks.specs.Fits.{StmtFits, BlockFits}
-use Rattle.isp_masks.specs.Parts.{BlockTree, BlockTable}
+use Rattle.isp_lower.specs.Sound.{AreSound, Granted}
+use Rattle.isp_masks.specs.Asks.{block_asks}
+use Rattle.isp_masks.specs.Rated.{BlockRated}
+use Rattle.isp_masks.specs.Fits.{StmtFits}
 use Rattle.isp_code.specs.Entries.{parameters_of}
 use Rattle.isp_lower.specs.Sound.{HasRegister, HasMask}
-use Rattle.isp_lower.specs.Tables.{AnyArray}
-use Rattle.isp_masks.specs.Presence.{BlockHas}
+use Rattle.isp_lower.specs.Asks.{All}
+use Rattle.isp_lower.specs.Tables.{AnyArray, Table}
+use Rattle.isp_typed.specs.declared.variable.Variable.{Variable}
 use Rattle.isp_masks.specs.Arrays.{ArraysStand}
-use Rattle.isp_typed.specs.Fine.{HoldsArray, IsFine, FineFunction}
+use Rattle.isp_typed.specs.Fine.{HoldsArray, IsFine, FineBlock, FineFunction, params_of}
 use Rattle.isp_typed.specs.declared.variable.ArrayVariable.{ArrayVariable}
 use Rattle.isp_rates.specs.Covered.{block_left, program_left}
 use Rattle.isp_rates.specs.Program.{ProgramBreach}
@@ -52,21 +55,17 @@ EntryRuns =
 abbrev pub ProgramRuns : Type 0
 ProgramRuns = (program : Program) (code : Listing) → IsProgramCode program code → Agrees program code
 
--- Each instruction of a function's code has its operands, where the registers that its body asks for are there, and its
--- result is one of the function.
+-- Each instruction of a function's code has its operands, where names, types and rates accept its body and the registers that it asks
+-- for are there, and its result is one of the function.
 abbrev pub FunctionSound : Type 0
 FunctionSound =
-    (code : Listing) (h : Routine) (l : Layout) (answer : Option Ty) (b : TBlock) (p : ℕ) → h.code ≡ function_code l answer b p → BlockTree answer b → BlockPresent h l answer b 3 → 3 ≤ h.masks → p + length (block_places l b) ≤ length code.places → IsGiven h h.returns (returned l answer) → AreSound code h h.code
-
--- What is demanded of a body is what is asked of its tree, and what is asked of the table of registers.
-abbrev pub BodiesFit : Type 0
-BodiesFit = (w : Setting) (b : TBlock) (n : ℕ) → BlockTree w.frame.answer b → BlockTable w.routine w.layout w.function.variables w.frame.answer b n → BlockFits w b n
+    (fs : List TFunction) (vars : List Variable) (code : Listing) (h : Routine) (l : Layout) (answer : Option Ty) (b : TBlock) (p : ℕ) → h.code ≡ function_code l answer b p → FineBlock fs vars answer b → BlockRated answer b → Granted h l (block_asks answer b 3) → 3 ≤ h.masks → p + length (block_places l b) ≤ length code.places → IsGiven h h.returns (returned l answer) → AreSound code h h.code
 
 -- The body of a function is as code asks, where all of it has code; and an exported function takes one value for the gang
 -- where it takes a value, and gives one where it gives a value.
 pub record FunctionFits (h : TFunction) : Type 0 where
-  pub tree : block_left h.body ≡ None → BlockTree h.answer h.body
-  pub passed : h.exported ≡ true → PassedUniform h
+  pub rated : block_left h.body ≡ None → BlockRated h.answer h.body
+  pub passed : h.exported ≡ true → AreOne (params_of h)
   pub result : h.exported ≡ true → (t : Ty) → h.answer ≡ Some t → t.rate ≡ Uniform
 
 -- Each function of a fine program without a breach is so; and where all of the program has code, each function is exported,
@@ -75,10 +74,10 @@ pub record CheckedFits : Type 0 where
   pub each : (program : Program) → IsFine program → ((e : Fault) → ProgramBreach program e → ⊥) → (f : ℕ) (h : TFunction) → slice_get program.functions f ≡ Some h → FunctionFits h
   pub whole : (program : Program) → program_left program ≡ None → (f : ℕ) (h : TFunction) → slice_get program.functions f ≡ Some h → (h.exported ≡ true) × (block_left h.body ≡ None)
 
--- A layout from rows passes values first, if the rows of the parameters come first.
+-- A layout from rows passes values first, if the rows of the variables and of the result come first.
 abbrev pub ParametersFirst : Type 0
 ParametersFirst =
-    (h : TFunction) (rows : Rows) (more : List Row) → rows.scalars ≡ parameter_rows 0 h.parameters ++ more → PassedUniform h → PassedFirst h (layout_of rows)
+    (h : TFunction) (rows : Rows) → Begins (first_rows h.variables h.answer).scalars rows.scalars → Begins (first_rows h.variables h.answer).vectors rows.vectors → PassedFirst h (layout_of rows)
 
 -- The registers of an entry's arrays are what its variables are, whatever the arguments are.
 abbrev pub EntryArraysFit : Type 0
@@ -88,9 +87,9 @@ EntryArraysFit =
 -- What a body of an accepted program asks for is there for the verifier, and the table is as the laws ask, where its
 -- registers and masks are there: its arrays are variables of the function.
 pub record BodyPresent (h : TFunction) (g : Routine) (l : Layout) (n : ℕ) : Type 0 where
-  pub present : BlockPresent g l h.answer h.body n
-  pub table : BlockTable g l h.variables h.answer h.body n
+  pub present : Granted g l (block_asks h.answer h.body n)
+  pub named : Table g l h.variables (block_asks h.answer h.body n)
 
 abbrev pub BodiesPresent : Type 0
 BodiesPresent =
-    (fs : List TFunction) (h : TFunction) (g : Routine) (l : Layout) → FineFunction fs h → ArraysStand h g l → parameters_of g ≡ h.parameters → (n : ℕ) → BlockHas (HasRegister g l) AnyArray AnyArray (HasMask g) h.answer h.body n → BodyPresent h g l n
+    (fs : List TFunction) (h : TFunction) (g : Routine) (l : Layout) → FineFunction fs h → ArraysStand h g l → parameters_of g ≡ h.parameters → (n : ℕ) → All (HasRegister g l) AnyArray AnyArray (HasMask g) (block_asks h.answer h.body n) → BodyPresent h g l n

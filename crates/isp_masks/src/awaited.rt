@@ -1,10 +1,7 @@
 //! Jumps to the end of a block, which are written once the end is known.
-ghost use Rattle.std.specs.Prelude.{◌≡◌, ◌++◌, List, ℕ, length, OnOk};
-ghost use Rattle.isp_base.specs.declared.types.Span.{Span};
-ghost use Rattle.isp_code.specs.declared.instr.Instr.{Instr as Instruction};
+ghost use Rattle.std.specs.Prelude.{◌≡◌, length, OnOk};
 ghost use Rattle.isp_lower.specs.Code.{jump_off};
-ghost use Rattle.isp_lower.specs.declared.types.Body.{Body as Written};
-ghost use Rattle.isp_masks.specs.Awaited.{AreBelow, Awaits, jump_where, set_all};
+ghost use Rattle.isp_masks.specs.Awaited.{AreBelow, LeavesRoom, set_all};
 
 use isp_code::{Instr, JumpTest};
 use isp_lower::{Body, mask};
@@ -17,7 +14,7 @@ pub(crate) fn leave_room(
     left: bool,
     k: u32,
 ) -> Result<(), AllocError>
-    ensures { OnOk result ((o : Written) (c : ℕ → ℕ → ℕ → List Instruction) (s : List Span) → Awaits o b.old jumps.old.items k c s → Awaits o b.new jumps.new.items k (λ t pc p. c t pc p ++ jump_where left k t) s) }
+    ensures { OnOk result (LeavesRoom b.old b.new jumps.old.items jumps.new.items k left) }
 {
     if left {
         jumps.push(b.code.len())?;

@@ -1,7 +1,7 @@
 //! What holds of all code. No code is run here: each function carries a law in its contract.
 ghost use Rattle.isp_masks.specs.Accepted.{CodeAccepted};
 ghost use Rattle.isp_masks.specs.Agreed.{LoweredAgrees};
-ghost use Rattle.isp_masks.specs.Laws.{BodiesFit, BodiesPresent, CheckedFits, EntryArraysFit, EntryRuns, FunctionSound, ParametersFirst, ProgramRuns, StatementRuns};
+ghost use Rattle.isp_masks.specs.Laws.{BodiesPresent, CheckedFits, EntryArraysFit, EntryRuns, FunctionSound, ParametersFirst, ProgramRuns, StatementRuns};
 ghost use Rattle.isp_masks.specs.LoopRuns.{AllLoopsRun};
 ghost use Rattle.isp_masks.specs.Made.{MadeIsCode};
 
@@ -44,12 +44,6 @@ pub fn functions_sound()
 /// registers are there.
 pub fn bodies_accepted()
     ensures { CodeAccepted }
-{}
-
-/// What the laws ask of a body and its registers falls in two: what is asked of the tree alone, and
-/// that each register has its type.
-pub fn bodies_fit()
-    ensures { BodiesFit }
 {}
 
 /// The bodies of every accepted program are as the first asks, where they have only what has code, and

@@ -3,7 +3,6 @@
 
 mod awaited;
 mod exits;
-mod header;
 mod laws;
 mod listing;
 mod looping;
@@ -15,8 +14,7 @@ mod sets;
 mod statement;
 
 pub use laws::{
-    arrays_fit, bodies_accepted, bodies_fit, bodies_present, checked_fits, entries_run,
-    functions_sound, loops_run, lowered_agrees, made_is_code, parameters_first, programs_run,
-    statements_run,
+    arrays_fit, bodies_accepted, bodies_present, checked_fits, entries_run, functions_sound,
+    loops_run, lowered_agrees, made_is_code, parameters_first, programs_run, statements_run,
 };
 pub use lowering::lower;

@@ -1,51 +1,26 @@
 //! The code of programs.
-ghost use Rattle.std.specs.Prelude.{◌≡◌, [], ◌++◌, map, IfOk, OnOk};
-ghost use Rattle.isp_code.specs.Listing.{routine_of};
+ghost use Rattle.std.specs.Prelude.{◌≡◌, [], IfOk, OnOk};
+ghost use Rattle.std.specs.List.{All};
+ghost use Rattle.isp_lower.specs.Drafts.{all_routines, draft_of};
+ghost use Rattle.isp_typed.specs.Fine.{IsFine};
 ghost use Rattle.isp_typed.specs.Views.{functions_of, program_of};
-ghost use Rattle.isp_masks.specs.Lowered.{AreLowered, HasCode};
+ghost use Rattle.isp_masks.specs.Lowered.{AreLowered, HasCode, IsFineFunction};
 
 use crate::routine::function;
-use isp_base::Span;
-use isp_code::{Code, Function};
-use isp_lower::Body;
+use isp_code::Code;
+use isp_lower::Emitter;
 use isp_typed::{Program, TypedFunction};
 use std::alloc::{AllocError, Global};
 
-/// The routines of functions, in their order, and the places in the source that they name.
-fn routines(alloc: Global, functions: &[TypedFunction]) -> Result<(Body, Vec<Function>), AllocError>
-    ensures { IfOk result (λ r. AreLowered (functions_of functions.now) (map routine_of r.1.items) r.0.places.items) }
+/// Writes the routines of functions, in their order, and the places in the source that they name.
+fn routines(e: &mut Emitter, functions: &[TypedFunction]) -> Result<(), AllocError>
+    requires none { all_routines (draft_of e.old) ≡ [] }
+    requires fine { All IsFineFunction (functions_of functions.now) }
+    ensures gang { OnOk result ((draft_of e.new).gang ≡ (draft_of e.old).gang) }
+    ensures lowered { OnOk result (AreLowered (functions_of functions.now) (all_routines (draft_of e.new)) (draft_of e.new).places) }
 {
-    let mut b = Body::new(alloc);
-    let mut all = Vec::new(alloc);
     for f in functions.iter() {
-        let one = function(alloc, &mut b, f)?;
-        all.push(one)?;
-    }
-    Ok((b, all))
-}
-
-/// Adds places, in their order.
-fn add_places(code: &mut Code, places: &[Span]) -> Result<(), AllocError>
-    ensures { OnOk result (code.new ≡ record code.old { places = code.old.places ++ places.now }) }
-{
-    for place in places.iter() {
-        match code.add_place(*place) {
-            Ok(_) => {}
-            Err(_) => return Err(AllocError),
-        }
-    }
-    Ok(())
-}
-
-/// Adds functions, in their order.
-fn add_functions(code: &mut Code, functions: Vec<Function>) -> Result<(), AllocError>
-    ensures { OnOk result (code.new ≡ record code.old { routines = code.old.routines ++ map routine_of functions.items }) }
-{
-    for f in functions {
-        match code.add_function(f) {
-            Ok(()) => {}
-            Err(_) => return Err(AllocError),
-        }
+        function(e, f)?;
     }
     Ok(())
 }
@@ -53,11 +28,10 @@ fn add_functions(code: &mut Code, functions: Vec<Function>) -> Result<(), AllocE
 /// The code of a program: a routine for each function, in their order, and the places in the source that they name.
 /// Memory is refused too of what has no code yet.
 pub(crate) fn program(alloc: Global, program: &Program) -> Result<Code, AllocError>
+    requires { IsFine (program_of program.now) }
     ensures { IfOk result (λ code. HasCode (program_of program.now) code) }
 {
-    let (body, all) = routines(alloc, &program.functions)?;
-    let mut code = Code::new(alloc, program.gang);
-    add_places(&mut code, body.places.as_slice())?;
-    add_functions(&mut code, all)?;
-    Ok(code)
+    let mut e = Emitter::new(alloc, program);
+    routines(&mut e, &program.functions)?;
+    e.finish()
 }

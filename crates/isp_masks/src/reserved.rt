@@ -1,12 +1,11 @@
 //! The registers and masks that the code of statements asks for, before it is written.
 ghost use Rattle.std.specs.Prelude.{◌≡◌, ◌+◌, option_map, OnOk, IfOk};
 ghost use Rattle.isp_base.specs.declared.types.Rate.TheVariants.{Varying};
-ghost use Rattle.isp_typed.specs.Typed.{type_of};
 ghost use Rattle.isp_typed.specs.Views.{block_of, expr_of, first_of, simple_of, stmt_of};
 ghost use Rattle.isp_lower.specs.Asks.{Both, Register as Ask, expr_asks, first_slot, operand_asks};
 ghost use Rattle.isp_lower.specs.Reserved.{Gives};
 ghost use Rattle.isp_lower.specs.Rows.{Result as ResultName};
-ghost use Rattle.isp_masks.specs.Asks.{answer_asks, block_asks, first_asks, loop_asks, part_asks, result_asks, step_asks, stmt_asks, test_part_asks};
+ghost use Rattle.isp_masks.specs.Asks.{answer_asks, block_asks, first_asks, if_asks, loop_asks, part_asks, result_asks, step_asks, stmt_asks, test_part_asks, turns_asks};
 
 use isp_base::{Rate, Ty};
 use isp_lower::Reserve;
@@ -70,33 +69,14 @@ pub(crate) fn block(
     Ok(())
 }
 
-/// The register of what the function gives back, if anything.
-pub(crate) fn result(r: &mut Reserve, answer: Option<Ty>) -> Result<(), AllocError>
-    ensures { OnOk result (Gives r.old r.new (result_asks answer)) }
-{
-    match answer {
-        None => Ok(()),
-        Some(ty) => r.result(ty),
-    }
-}
-
-/// A value that is returned.
+/// A value that is returned, at the rate of what the function gives back.
 fn returned(r: &mut Reserve, x: &TypedExpr, answer: Option<Ty>, slot: u32) -> Result<(), AllocError>
     ensures { OnOk result (Gives r.old r.new (answer_asks answer (expr_of x.now) slot)) }
 {
     match answer {
         None => r.expr(x, slot),
-        Some(ty) => given(r, x, ty, slot),
+        Some(ty) => r.operand(ty.rate, x, slot),
     }
-}
-
-/// A value that is returned where the function gives back one of a type.
-fn given(r: &mut Reserve, x: &TypedExpr, ty: Ty, slot: u32) -> Result<(), AllocError>
-    ensures { OnOk result (Gives r.old r.new (Both (Ask ty.rate ResultName ty.elem) (operand_asks ty.rate (expr_of x.now) slot))) }
-{
-    r.result(ty)?;
-    r.operand(ty.rate, x, slot)?;
-    Ok(())
 }
 
 /// The mask of a varying test, and the slot behind it.
@@ -128,7 +108,7 @@ fn one_side(
     answer: Option<Ty>,
     slot: u32,
 ) -> Result<(), AllocError>
-    ensures { OnOk result (Gives r.old r.new (Both (expr_asks (expr_of test.now) slot) (Both (part_asks (type_of (expr_of test.now)).rate slot) (stmt_asks answer (stmt_of then.now) (first_slot (type_of (expr_of test.now)).rate slot))))) }
+    ensures { OnOk result (Gives r.old r.new (if_asks (expr_of test.now) slot (λ i. stmt_asks answer (stmt_of then.now) i))) }
 {
     let rate = test.ty().rate;
     r.expr(test, slot)?;
@@ -146,7 +126,7 @@ fn two_sides(
     answer: Option<Ty>,
     slot: u32,
 ) -> Result<(), AllocError>
-    ensures { OnOk result (Gives r.old r.new (Both (expr_asks (expr_of test.now) slot) (Both (part_asks (type_of (expr_of test.now)).rate slot) (Both (stmt_asks answer (stmt_of then.now) (first_slot (type_of (expr_of test.now)).rate slot)) (stmt_asks answer (stmt_of otherwise.now) (first_slot (type_of (expr_of test.now)).rate slot)))))) }
+    ensures { OnOk result (Gives r.old r.new (if_asks (expr_of test.now) slot (λ i. Both (stmt_asks answer (stmt_of then.now) i) (stmt_asks answer (stmt_of otherwise.now) i)))) }
 {
     let rate = test.ty().rate;
     r.expr(test, slot)?;
@@ -212,7 +192,7 @@ fn turns(
     answer: Option<Ty>,
     slot: u32,
 ) -> Result<(), AllocError>
-    ensures { OnOk result (Gives r.old r.new (Both (loop_asks slot) (Both (test_part_asks (option_map expr_of test.now) (slot + 3)) (Both (step_asks (option_map simple_of step.now) (slot + 3)) (stmt_asks answer (stmt_of body.now) (slot + 3)))))) }
+    ensures { OnOk result (Gives r.old r.new (turns_asks (option_map expr_of test.now) (option_map simple_of step.now) slot (λ i. stmt_asks answer (stmt_of body.now) i))) }
 {
     let parts = own(r, slot)?;
     test_part(r, test, parts)?;

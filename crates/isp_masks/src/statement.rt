@@ -1,17 +1,15 @@
 //! The code of statements. A mask has the lanes that run a statement, and afterwards those that went on; those that
 //! continued and those that returned are added to two others.
-ghost use Rattle.std.specs.Prelude.{◌≡◌, ◌<◌, ◌+◌, ◌++◌, ◌∷◌, [], length, option_map, true, false, OnOk};
+ghost use Rattle.std.specs.Prelude.{◌<◌, ◌+◌, option_map, true, false, OnOk};
 ghost use Rattle.isp_base.specs.declared.types.Rate.TheVariants.{Uniform, Varying};
 ghost use Rattle.isp_typed.specs.Typed.{t_return, type_of};
 ghost use Rattle.isp_typed.specs.Views.{block_of, expr_of, first_of, simple_of, stmt_of};
 ghost use Rattle.isp_lower.specs.Asks.{expr_asks, first_slot};
-ghost use Rattle.isp_lower.specs.Code.{expr_code, expr_places, found, guard, jump_off, two};
-ghost use Rattle.isp_lower.specs.Emitted.{Appends, Present, layout};
+ghost use Rattle.isp_lower.specs.Emitted.{Present};
+ghost use Rattle.isp_lower.specs.Written.{Writes};
 ghost use Rattle.isp_masks.specs.Asks.{answer_asks, block_asks, first_asks, part_asks, step_asks, stmt_asks, test_part_asks};
-ghost use Rattle.isp_masks.specs.Exits.{exits_of, nobody_leaves};
-ghost use Rattle.isp_masks.specs.Fors.{first_code, first_places, step_code, step_places, test_places};
-ghost use Rattle.isp_masks.specs.Loops.{again_code, back_code, do_code, live_code, sift_code, step_back_code, turn_code, while_code};
-ghost use Rattle.isp_masks.specs.Statements.{answer_code, block_code, block_places, body_code, if_code, if_else_code, stepped_code, stmt_code, stmt_places, turns_code};
+ghost use Rattle.isp_masks.specs.Exits.{nobody_leaves};
+ghost use Rattle.isp_masks.specs.Written.{again_at, answer_at, block_at, do_at, first_at, for_turn_at, guarded_at, if_at, if_else_at, live_again_at, part_at, parts_at, passed_at, step_at, step_back_at, stepped_at, stmt_at, turn_at, turns_at, while_at, while_turn_at};
 
 use crate::awaited::{land_all, leave_room};
 use crate::exits::{all_go_on, exits_of};
@@ -31,7 +29,7 @@ use std::alloc::AllocError;
 #[cycle(stmt)]
 pub(crate) fn stmt(b: &mut Body, on: &Scope, x: &TypedStmt, spot: Spot) -> Result<(), AllocError>
     requires { Present on.now (stmt_asks on.now.answer (stmt_of x.now) spot.slot) }
-    ensures { OnOk result (Appends b.old b.new (λ pc p. stmt_code (layout on.now) on.now.answer (stmt_of x.now) pc p spot.masks.on spot.masks.continued spot.masks.returned spot.slot) (stmt_places (layout on.now) (stmt_of x.now))) }
+    ensures { OnOk result (Writes b.old b.new (stmt_at on.now (stmt_of x.now) spot)) }
 {
     match x {
         TypedStmt::Block(body) => block(b, on, body, spot),
@@ -80,7 +78,7 @@ pub(crate) fn block(
     spot: Spot,
 ) -> Result<(), AllocError>
     requires { Present on.now (block_asks on.now.answer (block_of body.now) spot.slot) }
-    ensures { OnOk result (Appends b.old b.new (λ pc p. block_code (layout on.now) on.now.answer (block_of body.now) pc p spot.masks.on spot.masks.continued spot.masks.returned spot.slot) (block_places (layout on.now) (block_of body.now))) }
+    ensures { OnOk result (Writes b.old b.new (block_at on.now (block_of body.now) spot)) }
 {
     let mut jumps = Vec::new(*b.code.allocator());
     let mut left = false;
@@ -96,7 +94,7 @@ pub(crate) fn block(
 /// A value where results are.
 fn answered(b: &mut Body, on: &Scope, x: &TypedExpr, k: u32, slot: u32) -> Result<(), AllocError>
     requires { Present on.now (answer_asks on.now.answer (expr_of x.now) slot) }
-    ensures { OnOk result (Appends b.old b.new (λ pc p. answer_code (layout on.now) on.now.answer (expr_of x.now) pc p k slot) (expr_places (layout on.now) (expr_of x.now))) }
+    ensures { OnOk result (Writes b.old b.new (answer_at on.now (expr_of x.now) k slot)) }
 {
     match on.answer {
         None => {
@@ -122,7 +120,7 @@ fn returns(
     spot: Spot,
 ) -> Result<(), AllocError>
     requires { Present on.now (stmt_asks on.now.answer (t_return keyword (option_map expr_of value.now) span) spot.slot) }
-    ensures { OnOk result (Appends b.old b.new (λ pc p. stmt_code (layout on.now) on.now.answer (t_return keyword (option_map expr_of value.now) span) pc p spot.masks.on spot.masks.continued spot.masks.returned spot.slot) (stmt_places (layout on.now) (t_return keyword (option_map expr_of value.now) span))) }
+    ensures { OnOk result (Writes b.old b.new (stmt_at on.now (t_return keyword (option_map expr_of value.now) span) spot)) }
 {
     match value {
         None => {
@@ -149,11 +147,14 @@ fn if_alone(
     requires test { Present on.now (expr_asks (expr_of test.now) spot.slot) }
     requires part { Present on.now (part_asks (type_of (expr_of test.now)).rate spot.slot) }
     requires then { Present on.now (stmt_asks on.now.answer (stmt_of then.now) (first_slot (type_of (expr_of test.now)).rate spot.slot)) }
-    ensures { OnOk result (Appends b.old b.new (λ pc p. two pc (expr_code (layout on.now) (expr_of test.now) pc p spot.masks.on spot.slot) (λ pc1. if_code (type_of (expr_of test.now)).rate (found (layout on.now) (expr_of test.now) spot.slot) pc1 spot.masks.on spot.slot (λ pc2 m i. stmt_code (layout on.now) on.now.answer (stmt_of then.now) pc2 (p + length (expr_places (layout on.now) (expr_of test.now))) m spot.masks.continued spot.masks.returned i))) (expr_places (layout on.now) (expr_of test.now) ++ stmt_places (layout on.now) (stmt_of then.now))) }
+    ensures { OnOk result (Writes b.old b.new (if_at on.now (expr_of test.now) (stmt_of then.now) spot)) }
 {
     let tested = expr(b, on, test, spot.masks.on, spot.slot)?;
-    let given = test.ty();
-    part_by(b, on, given.rate, tested, then, spot)?;
+    let given = Test {
+        rate: test.ty().rate,
+        register: tested,
+    };
+    part_by(b, on, given, then, spot)?;
     Ok(())
 }
 
@@ -162,18 +163,17 @@ fn if_alone(
 fn part_by(
     b: &mut Body,
     on: &Scope,
-    rate: Rate,
-    tested: u32,
+    test: Test,
     then: &TypedStmt,
     spot: Spot,
 ) -> Result<(), AllocError>
-    requires part { Present on.now (part_asks rate spot.slot) }
-    requires then { Present on.now (stmt_asks on.now.answer (stmt_of then.now) (first_slot rate spot.slot)) }
-    ensures { OnOk result (Appends b.old b.new (λ pc p. if_code rate tested pc spot.masks.on spot.slot (λ pc2 m i. stmt_code (layout on.now) on.now.answer (stmt_of then.now) pc2 p m spot.masks.continued spot.masks.returned i)) (stmt_places (layout on.now) (stmt_of then.now))) }
+    requires part { Present on.now (part_asks test.rate spot.slot) }
+    requires then { Present on.now (stmt_asks on.now.answer (stmt_of then.now) (first_slot test.rate spot.slot)) }
+    ensures { OnOk result (Writes b.old b.new (part_at on.now test.rate test.register (stmt_of then.now) spot)) }
 {
-    match rate {
-        Rate::Uniform => part_by_jump(b, on, tested, then, spot),
-        Rate::Varying => part_by_mask(b, on, tested, then, spot),
+    match test.rate {
+        Rate::Uniform => part_by_jump(b, on, test.register, then, spot),
+        Rate::Varying => part_by_mask(b, on, test.register, then, spot),
     }
 }
 
@@ -187,7 +187,7 @@ fn part_by_jump(
     spot: Spot,
 ) -> Result<(), AllocError>
     requires { Present on.now (stmt_asks on.now.answer (stmt_of then.now) spot.slot) }
-    ensures { OnOk result (Appends b.old b.new (λ pc p. if_code Uniform tested pc spot.masks.on spot.slot (λ pc2 m i. stmt_code (layout on.now) on.now.answer (stmt_of then.now) pc2 p m spot.masks.continued spot.masks.returned i)) (stmt_places (layout on.now) (stmt_of then.now))) }
+    ensures { OnOk result (Writes b.old b.new (part_at on.now Uniform tested (stmt_of then.now) spot)) }
 {
     let at = b.code.len();
     b.push(Instr::JumpIf(JumpTest::False, scalar(tested), 0))?;
@@ -207,7 +207,7 @@ fn part_by_mask(
 ) -> Result<(), AllocError>
     requires slots { spot.slot + 1 < 4294967296 }
     requires then { Present on.now (stmt_asks on.now.answer (stmt_of then.now) (spot.slot + 1)) }
-    ensures { OnOk result (Appends b.old b.new (λ pc p. if_code Varying tested pc spot.masks.on spot.slot (λ pc2 m i. stmt_code (layout on.now) on.now.answer (stmt_of then.now) pc2 p m spot.masks.continued spot.masks.returned i)) (stmt_places (layout on.now) (stmt_of then.now))) }
+    ensures { OnOk result (Writes b.old b.new (part_at on.now Varying tested (stmt_of then.now) spot)) }
 {
     part(b, spot.slot, tested, spot.masks.on)?;
     under_mask(b, on, then, spot, spot.slot, spot.slot + 1)?;
@@ -226,7 +226,7 @@ fn under_mask(
     slot: u32,
 ) -> Result<(), AllocError>
     requires { Present on.now (stmt_asks on.now.answer (stmt_of x.now) slot) }
-    ensures { OnOk result (Appends b.old b.new (λ pc p. guard (jump_off k) pc (λ pc1. stmt_code (layout on.now) on.now.answer (stmt_of x.now) pc1 p k spot.masks.continued spot.masks.returned slot)) (stmt_places (layout on.now) (stmt_of x.now))) }
+    ensures { OnOk result (Writes b.old b.new (guarded_at on.now (stmt_of x.now) spot k slot)) }
 {
     let masks = Masks {
         on: k,
@@ -254,21 +254,14 @@ fn if_else(
     requires part { Present on.now (part_asks (type_of (expr_of test.now)).rate spot.slot) }
     requires then { Present on.now (stmt_asks on.now.answer (stmt_of then.now) (first_slot (type_of (expr_of test.now)).rate spot.slot)) }
     requires otherwise { Present on.now (stmt_asks on.now.answer (stmt_of otherwise.now) (first_slot (type_of (expr_of test.now)).rate spot.slot)) }
-    ensures { OnOk result (Appends b.old b.new (λ pc p. two pc (expr_code (layout on.now) (expr_of test.now) pc p spot.masks.on spot.slot) (λ pc1. if_else_code (type_of (expr_of test.now)).rate (found (layout on.now) (expr_of test.now) spot.slot) pc1 spot.masks.on spot.slot (λ pc2 m i. stmt_code (layout on.now) on.now.answer (stmt_of then.now) pc2 (p + length (expr_places (layout on.now) (expr_of test.now))) m spot.masks.continued spot.masks.returned i) (λ pc2 m i. stmt_code (layout on.now) on.now.answer (stmt_of otherwise.now) pc2 (p + length (expr_places (layout on.now) (expr_of test.now)) + length (stmt_places (layout on.now) (stmt_of then.now))) m spot.masks.continued spot.masks.returned i))) (expr_places (layout on.now) (expr_of test.now) ++ (stmt_places (layout on.now) (stmt_of then.now) ++ stmt_places (layout on.now) (stmt_of otherwise.now)))) }
+    ensures { OnOk result (Writes b.old b.new (if_else_at on.now (expr_of test.now) (stmt_of then.now) (stmt_of otherwise.now) spot)) }
 {
     let tested = expr(b, on, test, spot.masks.on, spot.slot)?;
-    let given = test.ty();
-    parts_by(
-        b,
-        on,
-        Test {
-            rate: given.rate,
-            register: tested,
-        },
-        then,
-        otherwise,
-        spot,
-    )?;
+    let given = Test {
+        rate: test.ty().rate,
+        register: tested,
+    };
+    parts_by(b, on, given, then, otherwise, spot)?;
     Ok(())
 }
 
@@ -285,7 +278,7 @@ fn parts_by(
     requires part { Present on.now (part_asks test.rate spot.slot) }
     requires then { Present on.now (stmt_asks on.now.answer (stmt_of then.now) (first_slot test.rate spot.slot)) }
     requires otherwise { Present on.now (stmt_asks on.now.answer (stmt_of otherwise.now) (first_slot test.rate spot.slot)) }
-    ensures { OnOk result (Appends b.old b.new (λ pc p. if_else_code test.rate test.register pc spot.masks.on spot.slot (λ pc2 m i. stmt_code (layout on.now) on.now.answer (stmt_of then.now) pc2 p m spot.masks.continued spot.masks.returned i) (λ pc2 m i. stmt_code (layout on.now) on.now.answer (stmt_of otherwise.now) pc2 (p + length (stmt_places (layout on.now) (stmt_of then.now))) m spot.masks.continued spot.masks.returned i)) (stmt_places (layout on.now) (stmt_of then.now) ++ stmt_places (layout on.now) (stmt_of otherwise.now))) }
+    ensures { OnOk result (Writes b.old b.new (parts_at on.now test.rate test.register (stmt_of then.now) (stmt_of otherwise.now) spot)) }
 {
     match test.rate {
         Rate::Uniform => one_of(b, on, test.register, then, otherwise, spot),
@@ -305,7 +298,7 @@ fn one_of(
 ) -> Result<(), AllocError>
     requires then { Present on.now (stmt_asks on.now.answer (stmt_of then.now) spot.slot) }
     requires otherwise { Present on.now (stmt_asks on.now.answer (stmt_of otherwise.now) spot.slot) }
-    ensures { OnOk result (Appends b.old b.new (λ pc p. if_else_code Uniform tested pc spot.masks.on spot.slot (λ pc2 m i. stmt_code (layout on.now) on.now.answer (stmt_of then.now) pc2 p m spot.masks.continued spot.masks.returned i) (λ pc2 m i. stmt_code (layout on.now) on.now.answer (stmt_of otherwise.now) pc2 (p + length (stmt_places (layout on.now) (stmt_of then.now))) m spot.masks.continued spot.masks.returned i)) (stmt_places (layout on.now) (stmt_of then.now) ++ stmt_places (layout on.now) (stmt_of otherwise.now))) }
+    ensures { OnOk result (Writes b.old b.new (parts_at on.now Uniform tested (stmt_of then.now) (stmt_of otherwise.now) spot)) }
 {
     let at = b.code.len();
     b.push(Instr::JumpIf(JumpTest::False, scalar(tested), 0))?;
@@ -331,7 +324,7 @@ fn parted(
     requires slots { spot.slot + 1 < 4294967296 }
     requires then { Present on.now (stmt_asks on.now.answer (stmt_of then.now) (spot.slot + 1)) }
     requires otherwise { Present on.now (stmt_asks on.now.answer (stmt_of otherwise.now) (spot.slot + 1)) }
-    ensures { OnOk result (Appends b.old b.new (λ pc p. if_else_code Varying tested pc spot.masks.on spot.slot (λ pc2 m i. stmt_code (layout on.now) on.now.answer (stmt_of then.now) pc2 p m spot.masks.continued spot.masks.returned i) (λ pc2 m i. stmt_code (layout on.now) on.now.answer (stmt_of otherwise.now) pc2 (p + length (stmt_places (layout on.now) (stmt_of then.now))) m spot.masks.continued spot.masks.returned i)) (stmt_places (layout on.now) (stmt_of then.now) ++ stmt_places (layout on.now) (stmt_of otherwise.now))) }
+    ensures { OnOk result (Writes b.old b.new (parts_at on.now Varying tested (stmt_of then.now) (stmt_of otherwise.now) spot)) }
 {
     part(b, spot.slot, tested, spot.masks.on)?;
     under_mask(b, on, then, spot, spot.slot, spot.slot + 1)?;
@@ -345,7 +338,7 @@ fn parted(
 fn turn(b: &mut Body, on: &Scope, body: &TypedStmt, it: Loop) -> Result<(), AllocError>
     requires slots { it.slot + 3 < 4294967296 }
     requires body { Present on.now (stmt_asks on.now.answer (stmt_of body.now) (it.slot + 3)) }
-    ensures { OnOk result (Appends b.old b.new (λ pc p. turn_code it.exits pc it.slot (body_code (layout on.now) on.now.answer (stmt_of body.now) it.slot p)) (stmt_places (layout on.now) (stmt_of body.now))) }
+    ensures { OnOk result (Writes b.old b.new (turn_at on.now (stmt_of body.now) it)) }
 {
     let masks = Masks {
         on: it.slot,
@@ -378,7 +371,7 @@ fn while_loop(
     requires slots { spot.slot + 3 < 4294967296 }
     requires test { Present on.now (expr_asks (expr_of test.now) (spot.slot + 3)) }
     requires body { Present on.now (stmt_asks on.now.answer (stmt_of body.now) (spot.slot + 3)) }
-    ensures { OnOk result (Appends b.old b.new (λ pc p. while_code (exits_of (stmt_of body.now)) (type_of (expr_of test.now)).rate (found (layout on.now) (expr_of test.now) (spot.slot + 3)) pc spot.masks.on spot.masks.returned spot.slot (λ pc1. expr_code (layout on.now) (expr_of test.now) pc1 p spot.slot (spot.slot + 3)) (body_code (layout on.now) on.now.answer (stmt_of body.now) spot.slot (p + length (expr_places (layout on.now) (expr_of test.now))))) (expr_places (layout on.now) (expr_of test.now) ++ stmt_places (layout on.now) (stmt_of body.now))) }
+    ensures { OnOk result (Writes b.old b.new (while_at on.now (expr_of test.now) (stmt_of body.now) spot)) }
 {
     let exits = exits_of(body);
     enter(b, exits, spot.masks.on, spot.slot)?;
@@ -408,7 +401,7 @@ fn while_turn(
 ) -> Result<(), AllocError>
     requires slots { it.slot + 3 < 4294967296 }
     requires body { Present on.now (stmt_asks on.now.answer (stmt_of body.now) (it.slot + 3)) }
-    ensures { OnOk result (Appends b.old b.new (λ pc p. sift_code test.rate test.register pc it.slot (λ pc1. two pc1 (turn_code it.exits pc1 it.slot (body_code (layout on.now) on.now.answer (stmt_of body.now) it.slot p)) (λ pc2. back_code (nobody_leaves it.exits) it.slot it.top ∷ []))) (stmt_places (layout on.now) (stmt_of body.now))) }
+    ensures { OnOk result (Writes b.old b.new (while_turn_at on.now test (stmt_of body.now) it)) }
 {
     sift(b, test, it.slot)?;
     let at = b.code.len();
@@ -431,7 +424,7 @@ fn do_loop(
     requires slots { spot.slot + 3 < 4294967296 }
     requires test { Present on.now (expr_asks (expr_of test.now) (spot.slot + 3)) }
     requires body { Present on.now (stmt_asks on.now.answer (stmt_of body.now) (spot.slot + 3)) }
-    ensures { OnOk result (Appends b.old b.new (λ pc p. do_code (exits_of (stmt_of body.now)) (type_of (expr_of test.now)).rate (found (layout on.now) (expr_of test.now) (spot.slot + 3)) pc spot.masks.on spot.masks.returned spot.slot (λ pc1. expr_code (layout on.now) (expr_of test.now) pc1 (p + length (stmt_places (layout on.now) (stmt_of body.now))) spot.slot (spot.slot + 3)) (body_code (layout on.now) on.now.answer (stmt_of body.now) spot.slot p)) (stmt_places (layout on.now) (stmt_of body.now) ++ expr_places (layout on.now) (expr_of test.now))) }
+    ensures { OnOk result (Writes b.old b.new (do_at on.now (stmt_of body.now) (expr_of test.now) spot)) }
 {
     let exits = exits_of(body);
     enter(b, exits, spot.masks.on, spot.slot)?;
@@ -450,7 +443,7 @@ fn do_loop(
 fn live_again(b: &mut Body, on: &Scope, test: &TypedExpr, it: Loop) -> Result<(), AllocError>
     requires slots { it.slot + 3 < 4294967296 }
     requires test { Present on.now (expr_asks (expr_of test.now) (it.slot + 3)) }
-    ensures { OnOk result (Appends b.old b.new (λ pc p. live_code (nobody_leaves it.exits) it.slot pc (λ pc1. expr_code (layout on.now) (expr_of test.now) pc1 p it.slot (it.slot + 3) ++ again_code (type_of (expr_of test.now)).rate (found (layout on.now) (expr_of test.now) (it.slot + 3)) it.slot it.top)) (expr_places (layout on.now) (expr_of test.now))) }
+    ensures { OnOk result (Writes b.old b.new (live_again_at on.now (nobody_leaves it.exits) (expr_of test.now) it)) }
 {
     if it.exits.is_none() {
         tested_again(b, on, test, it)
@@ -463,7 +456,7 @@ fn live_again(b: &mut Body, on: &Scope, test: &TypedExpr, it: Loop) -> Result<()
 fn some_again(b: &mut Body, on: &Scope, test: &TypedExpr, it: Loop) -> Result<(), AllocError>
     requires slots { it.slot + 3 < 4294967296 }
     requires test { Present on.now (expr_asks (expr_of test.now) (it.slot + 3)) }
-    ensures { OnOk result (Appends b.old b.new (λ pc p. guard (jump_off it.slot) pc (λ pc1. expr_code (layout on.now) (expr_of test.now) pc1 p it.slot (it.slot + 3) ++ again_code (type_of (expr_of test.now)).rate (found (layout on.now) (expr_of test.now) (it.slot + 3)) it.slot it.top)) (expr_places (layout on.now) (expr_of test.now))) }
+    ensures { OnOk result (Writes b.old b.new (live_again_at on.now false (expr_of test.now) it)) }
 {
     let at = b.code.len();
     b.push(Instr::JumpIf(JumpTest::Off, mask(it.slot), 0))?;
@@ -475,7 +468,7 @@ fn some_again(b: &mut Body, on: &Scope, test: &TypedExpr, it: Loop) -> Result<()
 fn tested_again(b: &mut Body, on: &Scope, test: &TypedExpr, it: Loop) -> Result<(), AllocError>
     requires slots { it.slot + 3 < 4294967296 }
     requires test { Present on.now (expr_asks (expr_of test.now) (it.slot + 3)) }
-    ensures { OnOk result (Appends b.old b.new (λ pc p. expr_code (layout on.now) (expr_of test.now) pc p it.slot (it.slot + 3) ++ again_code (type_of (expr_of test.now)).rate (found (layout on.now) (expr_of test.now) (it.slot + 3)) it.slot it.top) (expr_places (layout on.now) (expr_of test.now))) }
+    ensures { OnOk result (Writes b.old b.new (again_at on.now (expr_of test.now) it)) }
 {
     let tested = expr(b, on, test, it.slot, it.slot + 3)?;
     let given = Test {
@@ -495,7 +488,7 @@ fn first_part(
     slot: u32,
 ) -> Result<(), AllocError>
     requires { Present on.now (first_asks (option_map first_of first.now) slot) }
-    ensures { OnOk result (Appends b.old b.new (λ pc p. first_code (layout on.now) (option_map first_of first.now) pc p k slot) (first_places (layout on.now) (option_map first_of first.now))) }
+    ensures { OnOk result (Writes b.old b.new (first_at on.now (option_map first_of first.now) k slot)) }
 {
     match first {
         None => Ok(()),
@@ -518,7 +511,7 @@ fn turns(
     requires test { Present on.now (test_part_asks (option_map expr_of test.now) (spot.slot + 3)) }
     requires step { Present on.now (step_asks (option_map simple_of step.now) (spot.slot + 3)) }
     requires body { Present on.now (stmt_asks on.now.answer (stmt_of body.now) (spot.slot + 3)) }
-    ensures { OnOk result (Appends b.old b.new (λ pc p. turns_code (layout on.now) on.now.answer (option_map expr_of test.now) (option_map simple_of step.now) (stmt_of body.now) pc p spot.masks.on spot.masks.returned spot.slot) (test_places (layout on.now) (option_map expr_of test.now) ++ (stmt_places (layout on.now) (stmt_of body.now) ++ step_places (layout on.now) (option_map simple_of step.now)))) }
+    ensures { OnOk result (Writes b.old b.new (turns_at on.now (option_map expr_of test.now) (option_map simple_of step.now) (stmt_of body.now) spot)) }
 {
     let exits = exits_of(body);
     enter(b, exits, spot.masks.on, spot.slot)?;
@@ -549,7 +542,7 @@ fn for_turn(
     requires test { Present on.now (expr_asks (expr_of test.now) (it.slot + 3)) }
     requires step { Present on.now (step_asks (option_map simple_of step.now) (it.slot + 3)) }
     requires body { Present on.now (stmt_asks on.now.answer (stmt_of body.now) (it.slot + 3)) }
-    ensures { OnOk result (Appends b.old b.new (λ pc p. two pc (expr_code (layout on.now) (expr_of test.now) pc p it.slot (it.slot + 3)) (λ pc1. sift_code (type_of (expr_of test.now)).rate (found (layout on.now) (expr_of test.now) (it.slot + 3)) pc1 it.slot (λ pc2. stepped_code (layout on.now) on.now.answer (option_map simple_of step.now) (stmt_of body.now) it.exits it.slot it.top pc2 (p + length (expr_places (layout on.now) (expr_of test.now)))))) (expr_places (layout on.now) (expr_of test.now) ++ (stmt_places (layout on.now) (stmt_of body.now) ++ step_places (layout on.now) (option_map simple_of step.now)))) }
+    ensures { OnOk result (Writes b.old b.new (for_turn_at on.now (expr_of test.now) (option_map simple_of step.now) (stmt_of body.now) it)) }
 {
     let tested = expr(b, on, test, it.slot, it.slot + 3)?;
     let given = Test {
@@ -573,7 +566,7 @@ fn passed_turn(
     requires slots { it.slot + 3 < 4294967296 }
     requires step { Present on.now (step_asks (option_map simple_of step.now) (it.slot + 3)) }
     requires body { Present on.now (stmt_asks on.now.answer (stmt_of body.now) (it.slot + 3)) }
-    ensures { OnOk result (Appends b.old b.new (λ pc p. sift_code test.rate test.register pc it.slot (λ pc1. stepped_code (layout on.now) on.now.answer (option_map simple_of step.now) (stmt_of body.now) it.exits it.slot it.top pc1 p)) (stmt_places (layout on.now) (stmt_of body.now) ++ step_places (layout on.now) (option_map simple_of step.now))) }
+    ensures { OnOk result (Writes b.old b.new (passed_at on.now test (option_map simple_of step.now) (stmt_of body.now) it)) }
 {
     sift(b, test, it.slot)?;
     let at = b.code.len();
@@ -595,7 +588,7 @@ fn stepped_turn(
     requires slots { it.slot + 3 < 4294967296 }
     requires step { Present on.now (step_asks (option_map simple_of step.now) (it.slot + 3)) }
     requires body { Present on.now (stmt_asks on.now.answer (stmt_of body.now) (it.slot + 3)) }
-    ensures { OnOk result (Appends b.old b.new (stepped_code (layout on.now) on.now.answer (option_map simple_of step.now) (stmt_of body.now) it.exits it.slot it.top) (stmt_places (layout on.now) (stmt_of body.now) ++ step_places (layout on.now) (option_map simple_of step.now))) }
+    ensures { OnOk result (Writes b.old b.new (stepped_at on.now (option_map simple_of step.now) (stmt_of body.now) it)) }
 {
     turn(b, on, body, it)?;
     step_back(b, on, step, it)?;
@@ -611,7 +604,7 @@ fn step_back(
 ) -> Result<(), AllocError>
     requires slots { it.slot + 3 < 4294967296 }
     requires step { Present on.now (step_asks (option_map simple_of step.now) (it.slot + 3)) }
-    ensures { OnOk result (Appends b.old b.new (λ pc p. step_back_code (nobody_leaves it.exits) it.slot it.top pc (λ pc1. step_code (layout on.now) (option_map simple_of step.now) pc1 p it.slot (it.slot + 3))) (step_places (layout on.now) (option_map simple_of step.now))) }
+    ensures { OnOk result (Writes b.old b.new (step_back_at on.now (nobody_leaves it.exits) (option_map simple_of step.now) it)) }
 {
     if it.exits.is_none() {
         stepped(b, on, step, it)
@@ -629,7 +622,7 @@ fn some_stepped(
 ) -> Result<(), AllocError>
     requires slots { it.slot + 3 < 4294967296 }
     requires step { Present on.now (step_asks (option_map simple_of step.now) (it.slot + 3)) }
-    ensures { OnOk result (Appends b.old b.new (λ pc p. step_back_code false it.slot it.top pc (λ pc1. step_code (layout on.now) (option_map simple_of step.now) pc1 p it.slot (it.slot + 3))) (step_places (layout on.now) (option_map simple_of step.now))) }
+    ensures { OnOk result (Writes b.old b.new (step_back_at on.now false (option_map simple_of step.now) it)) }
 {
     let at = b.code.len();
     b.push(Instr::JumpIf(JumpTest::Off, mask(it.slot), 0))?;
@@ -641,7 +634,7 @@ fn some_stepped(
 fn stepped(b: &mut Body, on: &Scope, step: &Option<TypedSimple>, it: Loop) -> Result<(), AllocError>
     requires slots { it.slot + 3 < 4294967296 }
     requires step { Present on.now (step_asks (option_map simple_of step.now) (it.slot + 3)) }
-    ensures { OnOk result (Appends b.old b.new (λ pc p. step_back_code true it.slot it.top pc (λ pc1. step_code (layout on.now) (option_map simple_of step.now) pc1 p it.slot (it.slot + 3))) (step_places (layout on.now) (option_map simple_of step.now))) }
+    ensures { OnOk result (Writes b.old b.new (step_back_at on.now true (option_map simple_of step.now) it)) }
 {
     step_part(b, on, step, it.slot)?;
     b.push(Instr::Jump(it.top))?;
@@ -657,7 +650,7 @@ fn step_part(
 ) -> Result<(), AllocError>
     requires slots { slot + 3 < 4294967296 }
     requires step { Present on.now (step_asks (option_map simple_of step.now) (slot + 3)) }
-    ensures { OnOk result (Appends b.old b.new (λ pc p. step_code (layout on.now) (option_map simple_of step.now) pc p slot (slot + 3)) (step_places (layout on.now) (option_map simple_of step.now))) }
+    ensures { OnOk result (Writes b.old b.new (step_at on.now (option_map simple_of step.now) slot)) }
 {
     match step {
         None => Ok(()),

@@ -1,11 +1,12 @@
-use Rattle.std.proofs.Common.{rules, ◌≡◌, true, false, sym, ap, ◌∷◌, [], ◌++◌, ◌∙◌}
+use Rattle.std.proofs.Common.{rules, ◌≡◌, true, false, sym, ap, ◌∙◌}
 use Rattle.isp_base.specs.declared.types.Rate.TheVariants.{Uniform, Varying}
 use Rattle.isp_base.specs.declared.types.Ty.{Ty}
 use Rattle.isp_code.specs.declared.instr.Instr.TheVariants as instr
 use Rattle.isp_code.specs.declared.instr.JumpTest.TheVariants as jump
 use Rattle.isp_typed.specs.Views.{expr_of}
-use Rattle.isp_lower.specs.Code.{copy, expr_code, expr_places, is_short, jump_off, jump_on, move_code, operand, operand_of}
+use Rattle.isp_lower.specs.Code.{expr_code, expr_places, is_short, jump_off, jump_on, operand_of, variable_from}
 use Rattle.isp_lower.specs.Emitted.{layout}
+use Rattle.isp_lower.specs.Written.{side_at}
 use Rattle.isp_lower.proofs.Landing.{chosen, landed, short_chosen, long_chosen}
 use Rattle.isp_lower.proofs.expression.+expr.Goals as goal
 
@@ -13,11 +14,9 @@ pub right_side-returns : goal.right_side-returns
 right_side-returns t c =
     let l = layout c.args.on.now in
     let x = expr_of c.args.x.now in
-    let r = c.args.rate in
-    let k = c.args.k in
-    let n = c.args.slot in
-    landed c.args.b.now c.push.new.self c.copied.new.b c.land.new.self c.len-at.result _ (λ at. instr.JumpIf c.args.test c.args.tested at)
-    (λ pc p. operand_of l r x k n (expr_code l x pc p k n) ++ copy r c.args.to (operand l r x n) k ∷ []) (expr_places l x)
+    let to = c.args.target in
+    landed c.args.b.now c.push.new.self c.copied.new.b c.land.new.self c.len-at.result _ (λ at. instr.JumpIf c.args.skip.test c.args.skip.register at)
+    (λ pc p. variable_from l false to.ty.rate to.to x pc p to.site.mask to.site.slot) (expr_places l x)
     (c.len-at.ensures ∙ c.args.b.now.code.ok.0) c.in_ok-push.ensures c.in_ok-copied.ensures c.land.ensures.code c.land.ensures.places
 
 pub masked_side-returns-clause-code : goal.masked_side-returns-clause-code
@@ -34,46 +33,46 @@ choose_by_jump-returns t c =
     let l = layout c.args.on.now in
     let x = expr_of c.args.then.now in
     let y = expr_of c.args.otherwise.now in
-    let r = c.args.ty.rate in
-    let d = l.spare r c.args.ty.elem c.args.slot in
-    let k = c.args.k in
-    let n = c.args.slot in
+    let to = c.args.target in
     chosen c.args.b.now c.push.new.self c.side.new.b c.push-2.new.self c.land.new.self c.side-2.new.b c.land_always.new.self c.len-at.result c.len-over.result _ _ (jump_on jump.False c.args.tested)
-    (λ pc p. operand_of l r x k n (expr_code l x pc p k n) ++ move_code r d (operand l r x n) k) (λ pc p. operand_of l r y k n (expr_code l y pc p k n) ++ move_code r d (operand l r y n) k) (expr_places l x) (expr_places l y)
+    (side_at c.args.on.now to.ty x to.site).code (side_at c.args.on.now to.ty y to.site).code (expr_places l x) (expr_places l y)
     (c.len-at.ensures ∙ c.args.b.now.code.ok.0) c.in_ok-push.ensures c.in_ok-side.ensures (c.len-over.ensures ∙ c.side.new.b.code.ok.0) c.in_ok-push-2.ensures
     (cc) c.land.ensures.places c.in_ok-side-2.ensures c.land_always.ensures.code c.land_always.ensures.places
 
 pub choose_to-choose_short-requires : goal.choose_to-choose_short-requires
 choose_to-choose_short-requires t c =
-    let short : is_short (layout c.args.on.now) c.args.ty.rate (expr_of c.args.test.now) (expr_of c.args.then.now) (expr_of c.args.otherwise.now) ≡ true = sym (c.is_short.ensures (layout c.args.on.now)) ∙ c.if-is_short.true in
+    let short : is_short (layout c.args.on.now) c.args.target.ty.rate (expr_of c.args.test.now) (expr_of c.args.then.now) (expr_of c.args.otherwise.now) ≡ true = sym (c.is_short.ensures (layout c.args.on.now)) ∙ c.if-is_short.true in
     search (rules, short)
 
 pub choose_to-returns-then-is_short : goal.choose_to-returns-then-is_short
 choose_to-returns-then-is_short t c =
     let a = c.args in
+    let to = a.target in
     let l = layout a.on.now in
     let z = expr_of a.test.now in
     let x = expr_of a.then.now in
     let y = expr_of a.otherwise.now in
-    let short : is_short l a.ty.rate z x y ≡ true = sym (c.is_short.ensures l) ∙ c.if-is_short.true in
-    short_chosen a.b.now c.choose_short.new.b l a.to z x y a.ty a.k a.slot short c.in_ok-choose_short.ensures a.span
+    let short : is_short l to.ty.rate z x y ≡ true = sym (c.is_short.ensures l) ∙ c.if-is_short.true in
+    short_chosen a.b.now c.choose_short.new.b l to.to z x y to.ty to.site.mask to.site.slot short c.in_ok-choose_short.ensures to.span
 
 pub choose_to-returns-in_ok-choose_one-in-Uniform : goal.choose_to-returns-in_ok-choose_one-in-Uniform
 choose_to-returns-in_ok-choose_one-in-Uniform t c =
     let a = c.args in
+    let to = a.target in
     let l = layout a.on.now in
     let z = expr_of a.test.now in
     let x = expr_of a.then.now in
     let y = expr_of a.otherwise.now in
-    let long : is_short l a.ty.rate z x y ≡ false = sym (c.is_short.ensures l) ∙ c.if-is_short.false in
-    long_chosen a.b.now c.choose_one.new.b l Uniform a.to z x y a.ty a.k a.slot long (sym c.in-Uniform.is ∙ ap (λ (t : Ty). t.rate) c.ty.ensures) c.in_ok-choose_one-in-Uniform.ensures a.span
+    let long : is_short l to.ty.rate z x y ≡ false = sym (c.is_short.ensures l) ∙ c.if-is_short.false in
+    long_chosen a.b.now c.choose_one.new.b l Uniform to.to z x y to.ty to.site.mask to.site.slot long (sym c.in-Uniform.is ∙ ap (λ (t : Ty). t.rate) c.ty.ensures) c.in_ok-choose_one-in-Uniform.ensures to.span
 
 pub choose_to-returns-in_ok-choose_each-in-Varying : goal.choose_to-returns-in_ok-choose_each-in-Varying
 choose_to-returns-in_ok-choose_each-in-Varying t c =
     let a = c.args in
+    let to = a.target in
     let l = layout a.on.now in
     let z = expr_of a.test.now in
     let x = expr_of a.then.now in
     let y = expr_of a.otherwise.now in
-    let long : is_short l a.ty.rate z x y ≡ false = sym (c.is_short.ensures l) ∙ c.if-is_short.false in
-    long_chosen a.b.now c.choose_each.new.b l Varying a.to z x y a.ty a.k a.slot long (sym c.in-Varying.is ∙ ap (λ (t : Ty). t.rate) c.ty.ensures) c.in_ok-choose_each-in-Varying.ensures a.span
+    let long : is_short l to.ty.rate z x y ≡ false = sym (c.is_short.ensures l) ∙ c.if-is_short.false in
+    long_chosen a.b.now c.choose_each.new.b l Varying to.to z x y to.ty to.site.mask to.site.slot long (sym c.in-Varying.is ∙ ap (λ (t : Ty). t.rate) c.ty.ensures) c.in_ok-choose_each-in-Varying.ensures to.span

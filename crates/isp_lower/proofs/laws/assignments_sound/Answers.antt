@@ -1,5 +1,6 @@
+use Rattle.isp_lower.proofs.Rated.{simple_tree}
 use Rattle.isp_lower.proofs.SoundSimples.{simple_sound}
 use Rattle.isp_lower.proofs.laws.assignments_sound.Goals as goal
 
 pub returns : goal.returns
-returns c = simple_sound
+returns c = λ fs vars code h l x n fine rated has. simple_sound code h l x n (simple_tree fs vars x fine rated) has

@@ -1,5 +1,6 @@
+use Rattle.isp_lower.proofs.Rated.{items_tree}
 use Rattle.isp_lower.proofs.SoundSimples.{items_sound}
 use Rattle.isp_lower.proofs.laws.declarations_sound.Goals as goal
 
 pub returns : goal.returns
-returns c = items_sound
+returns c = λ fs vars code h l xs n fine rated has. items_sound code h l xs n (items_tree fs vars xs fine rated) has

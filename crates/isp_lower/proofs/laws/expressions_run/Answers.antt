@@ -1,7 +1,10 @@
 use Rattle.std.proofs.Common.{◌+◌, arith}
 use Rattle.isp_lower.proofs.Exprs.{expr_runs}
+use Rattle.isp_lower.proofs.Fitting.{expr_parts}
 use Rattle.isp_lower.proofs.Found.{few}
 use Rattle.isp_lower.proofs.laws.expressions_run.Goals as goal
 
 pub returns : goal.returns
-returns c = λ w ready x pc p k n q a s c fit has places b. expr_runs w ready x pc p k n q (4 + q) a s c fit has places (omega (arith, few w x n fit)) b
+returns c = λ w ready x pc p k n q a s c fit has places b.
+    let parts = expr_parts w x n fit in
+    expr_runs w ready x pc p k n q (4 + q) a s c parts has places (omega (arith, few w x n parts)) b

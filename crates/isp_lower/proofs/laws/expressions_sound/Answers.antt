@@ -1,6 +1,10 @@
+use Rattle.isp_lower.proofs.Rated.{expr_tree}
 use Rattle.isp_lower.proofs.SoundFound.{found_there}
 use Rattle.isp_lower.proofs.SoundExprs.{value_sound}
 use Rattle.isp_lower.proofs.laws.expressions_sound.Goals as goal
 
 pub returns : goal.returns
-returns c = record { part = value_sound; there = found_there }
+returns c = record {
+  part = λ fs vars code h l x n fine rated has. value_sound code h l x n (expr_tree fs vars x fine rated) has;
+  there = λ fs vars h l x n fine rated has. found_there h l x n (expr_tree fs vars x fine rated) has;
+}

@@ -1,18 +1,27 @@
-use Rattle.std.proofs.Common.{ap, ◌∙◌, ◌++◌, subst}
-use Rattle.isp_code.specs.Listing.{Listing, routine_of}
+use Rattle.std.proofs.Common.{◌≡◌, ap, ◌∙◌, subst, sym}
+use Rattle.std.specs.List.{All}
+use Rattle.std.proofs.lemmas.Result.{IfOk-weaker}
+use Rattle.isp_code.specs.Listing.{Listing}
+use Rattle.isp_lower.specs.Drafts.{Draft, all_routines, draft_of, finished}
 use Rattle.isp_typed.specs.Views.{functions_of, program_of}
-use Rattle.std.specs.Prelude.{map}
-use Rattle.isp_masks.specs.Lowered.{AreLowered}
+use Rattle.isp_masks.specs.Lowered.{AreLowered, HasCode, IsFineFunction}
 use Rattle.isp_masks.proofs.Listings.{has_code}
 use Rattle.isp_masks.proofs.listing.program.Goals as goal
 
+pub routines-requires : goal.routines-requires
+routines-requires c = record {
+  none = ap all_routines c.new-e.ensures;
+  fine = subst (λ fs. All IsFineFunction (functions_of fs)) (sym c.deref.ensures.value) (λ k d lt. (functions_of c.args.program.now.functions.items, c.requires.each k d lt));
+}
+
 pub returns : goal.returns
 returns c =
-    let all = c.in_ok-add_functions.ensures in
-    let some = c.in_ok-add_places.ensures in
-    let empty = c.new-code.ensures in
-    has_code (program_of c.args.program.now) c.add_functions.new.code (map routine_of c.in_ok-body.all.items) c.in_ok-body.body.places.items
-    (subst (λ fs. AreLowered (functions_of fs) (map routine_of c.in_ok-body.all.items) c.in_ok-body.body.places.items) c.deref.ensures.value c.in_ok-body.ensures)
-    (ap (λ (z : Listing). z.gang) all ∙ ap (λ (z : Listing). z.gang) some ∙ ap (λ (z : Listing). z.gang) empty)
-    (ap (λ (z : Listing). z.routines) all ∙ ap (λ (z : Listing). z.routines ++ map routine_of c.in_ok-body.all.items) some ∙ ap (λ (z : Listing). z.routines ++ map routine_of c.in_ok-body.all.items) empty)
-    (ap (λ (z : Listing). z.places) all ∙ ap (λ (z : Listing). z.places) some ∙ ap (λ (z : Listing). z.places ++ c.as_slice.result.now) empty ∙ c.as_slice.ensures.value)
+    let p = program_of c.args.program.now in
+    let d = draft_of c.routines.new.e in
+    IfOk-weaker c.finish.result (λ code. code ≡ finished d) (λ code. HasCode p code)
+    (λ code is.
+    has_code p code (all_routines d) d.places
+    (subst (λ fs. AreLowered (functions_of fs) (all_routines d) d.places) c.deref.ensures.value c.in_ok-routines.ensures.lowered)
+    (ap (λ (z : Listing). z.gang) is ∙ (c.in_ok-routines.ensures.gang ∙ ap (λ (z : Draft). z.gang) c.new-e.ensures))
+    (ap (λ (z : Listing). z.routines) is)
+    (ap (λ (z : Listing). z.places) is)) c.finish.ensures

@@ -1,7 +1,18 @@
-use Rattle.isp_masks.proofs.Listings.{routines_step}
+use Rattle.std.proofs.Common.{◌∙◌, [], refl, sym, subst}
+use Rattle.isp_lower.specs.Drafts.{draft_of}
+use Rattle.isp_masks.specs.Lowered.{AreLowered}
+use Rattle.isp_masks.proofs.Listings.{fine_at, routine_more}
 use Rattle.isp_masks.proofs.listing.routines.Goals as goal
+
+pub loop-f-init : goal.loop-f-init
+loop-f-init c = (subst (λ gs. AreLowered [] gs (draft_of c.args.e.now).places) (sym c.requires.none) tt, refl)
 
 pub loop-f-preserved : goal.loop-f-preserved
 loop-f-preserved c =
-    routines_step c.args.functions.now c.loop-f.f-index c.f-item.result c.loop-f.all.items c.push.new.self.items c.in_ok-one.one c.loop-f.b.places.items c.function.new.b.places.items c.loop-f-test.true c.f-item.is
-    c.loop-f.invariant c.in_ok-one.ensures.places c.in_ok-one.ensures.lowered c.in_ok-push.ensures.items
+    let added = c.in_ok-function.ensures in (
+      routine_more c.args.functions.now c.loop-f.f-index c.f-item.result (draft_of c.loop-f.e) (draft_of c.function.new.e) c.loop-f-test.true c.f-item.is c.loop-f.invariant.0 added,
+      added.gang ∙ c.loop-f.invariant.1,
+    )
+
+pub function-requires : goal.function-requires
+function-requires c = fine_at c.args.functions.now c.loop-f.f-index c.f-item.result c.requires.fine c.loop-f-test.true c.f-item.is

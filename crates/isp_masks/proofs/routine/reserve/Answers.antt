@@ -1,8 +1,18 @@
-use Rattle.isp_lower.proofs.Growing.{grows_then, has_grows}
+use Rattle.std.proofs.lemmas.Result.{on_ok_weaker}
+use Rattle.isp_typed.specs.Views.{function_of}
+use Rattle.isp_lower.proofs.FirstRows.{all_there}
+use Rattle.isp_masks.specs.Asks.{block_asks, result_asks}
+use Rattle.isp_masks.proofs.Own.{result_own, result_reserved}
 use Rattle.isp_masks.proofs.routine.reserve.Goals as goal
 
-pub returns-clause-result : goal.returns-clause-result
-returns-clause-result c = has_grows _ _ c.in_ok-block.ensures.rows c.in_ok-block.ensures.masks _ c.in_ok-result.ensures.has
+pub returns-clause-body : goal.returns-clause-body
+returns-clause-body c =
+    let h = function_of c.args.f.now in
+    on_ok_weaker c.block.result
+    (λ g. all_there h.variables h.answer c.args.asked.now.registers c.requires.first c.block.new.r g.rows (block_asks h.answer h.body 3) g.has c.requires.own) c.block.ensures
 
-pub returns-clause-rows : goal.returns-clause-rows
-returns-clause-rows c = grows_then _ _ _ c.in_ok-result.ensures.rows c.in_ok-block.ensures.rows
+pub returns-clause-result : goal.returns-clause-result
+returns-clause-result c =
+    let h = function_of c.args.f.now in
+    on_ok_weaker c.block.result
+    (λ g. all_there h.variables h.answer c.args.asked.now.registers c.requires.first c.block.new.r g.rows (result_asks h.answer) (result_reserved c.block.new.r h.answer) (result_own h.variables h.answer)) c.block.ensures

@@ -1,12 +1,13 @@
 use Rattle.std.proofs.Common.{◌∙◌, sym, ap, ◌++◌, ◌∷◌, []}
-use Rattle.isp_lower.proofs.Lookup.{pushed_known, pushed_new}
+use Rattle.isp_lower.proofs.Lookup.{pushed_known, pushed_named, pushed_new}
 use Rattle.isp_lower.proofs.register_rows.RegisterRows.push.Goals as goal
 use Rattle.isp_lower.proofs.register_rows.RegisterRows.push.Goals.{then-is_none+in_ok-insert, else-is_none}
 
 pub invariant_of-self-2 : goal.invariant_of-self-2
 invariant_of-self-2 c =
     let s = c.self.inside in
-    let new = c.append.new.rows.items in (
+    let new = c.append.new.rows.items in
+    let at = rw (sym c.self.view_is) at c.requires in (
       elim c.if-is_none.branch [
         | then-is_none+in_ok-insert w ↦ rw (ap (λ z. z.places) w.self-inside-is)
             (pushed_new s.rows.items new c.args.row c.find.result (c.in_ok-append.ensures.ok ∙ ap (λ z. z.rows.items ++ c.args.row ∷ []) w.self-inside-is)
@@ -16,4 +17,8 @@ invariant_of-self-2 c =
             s.places c.self.invariant.0 w.if-is_none.ensures (rw (sym c.self.view_is) at c.find.ensures.elem))
       ],
       c.in_ok-append.ensures.few,
+      elim c.if-is_none.branch [
+        | then-is_none+in_ok-insert w ↦ pushed_named s.rows.items new c.args.row (c.in_ok-append.ensures.ok ∙ ap (λ z. z.rows.items ++ c.args.row ∷ []) w.self-inside-is) c.self.invariant.2 at
+        | else-is_none w ↦ pushed_named s.rows.items new c.args.row (c.in_ok-append.ensures.ok ∙ ap (λ z. z.rows.items ++ c.args.row ∷ []) w.self-inside-is) c.self.invariant.2 at
+      ],
     )

@@ -36,8 +36,5 @@ choice-returns t c =
 pub read-returns : goal.read-returns
 read-returns t c = both_given _ _ _ _ _ c.in_ok-target.ensures c.in_ok-element.ensures
 
-pub place_in-returns : goal.place_in-returns
-place_in-returns t c = both_given _ _ _ _ _ c.in_ok-array.ensures c.in_ok-index.ensures
-
 pub index-returns : goal.index-returns
 index-returns t c = both_given _ _ _ _ _ (rw c.ty.ensures at c.in_ok-lift.ensures) c.in_ok-converted.ensures

@@ -34,8 +34,5 @@ decreases-read l = 8 * place_nodes (place_of l.place.now) - 1
 abbrev pub decreases-target : goal.decreases-target
 decreases-target l = 8 * place_nodes (place_of l.place.now) - 2
 
-abbrev pub decreases-place_in : goal.decreases-place_in
-decreases-place_in l = 8 * typed_nodes (expr_of l.index.now) + 3
-
 abbrev pub decreases-index : goal.decreases-index
 decreases-index l = 8 * typed_nodes (expr_of l.index.now) + 2

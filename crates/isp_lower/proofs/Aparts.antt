@@ -1,0 +1,103 @@
+-- What is written apart, and then taken, is appended; and what it names is there.
+use Rattle.std.proofs.Common.{◌≡◌, ℕ, zero, suc, ◌≤◌, List, [], ◌∷◌, ◌++◌, length, drop, ap, subst, sym, ◌∙◌, arith, length-append}
+use Rattle.std.proofs.Math.Seq.{drop-append_seam}
+use Rattle.isp_base.specs.declared.types.Elem.{Elem}
+use Rattle.isp_base.specs.declared.types.Rate.{Rate}
+use Rattle.isp_base.specs.declared.types.Rate.TheVariants.{Uniform, Varying}
+use Rattle.isp_base.specs.declared.types.Span.{Span}
+use Rattle.isp_code.specs.declared.instr.Instr.{Instr}
+use Rattle.isp_code.specs.declared.instr.Instr.TheVariants as instr
+use Rattle.isp_code.specs.declared.register.Class.{Class}
+use Rattle.isp_code.specs.declared.register.Class.TheVariants as class
+use Rattle.isp_code.specs.declared.register.Register.{Register}
+use Rattle.isp_lower.specs.Drafts.{HasAllNamed, draft_of}
+use Rattle.isp_lower.specs.Emitted.{Appends, Begins, Grows, rows_of}
+use Rattle.isp_lower.specs.Named.{InCode, InInstr, IsOf, count_of}
+use Rattle.isp_lower.specs.Patched.{patched, retargeted}
+use Rattle.isp_lower.specs.Rows.{Fresh, Row, Rows, with_fresh, with_fresh_at}
+use Rattle.isp_lower.specs.Adding.{AddsCode}
+use Rattle.isp_lower.specs.declared.registers.Registers.{Registers}
+use Rattle.isp_lower.specs.declared.types.Body.{Body}
+use Rattle.isp_lower.specs.declared.types.Emitter.{Emitter}
+use Rattle.isp_lower.proofs.Naming.{code_both, code_weaker}
+
+module _ (a b w : Body) (c : ℕ → ℕ → List Instr) (s : List Span) (long : length b.code.items ≡ length a.code.items) (same : b.places.items ≡ a.places.items) (y : Appends b w c s) where
+  pub apart_long : length a.code.items ≤ length w.code.items
+  apart_long = omega (arith, long, ap length y.code, length-append b.code.items (c (length b.code.items) (length b.places.items)))
+
+  pub apart_appends : (z : Body) → z.code.items ≡ a.code.items ++ drop (length a.code.items) w.code.items → z.places.items ≡ w.places.items → Appends a z c s
+  apart_appends z code places =
+      record {
+        code =
+            code ∙ ap (λ n. a.code.items ++ drop n w.code.items) (sym long)
+            ∙ ap (λ is. a.code.items ++ drop (length b.code.items) is) y.code
+            ∙ ap (λ is. a.code.items ++ is) (drop-append_seam b.code.items (c (length b.code.items) (length b.places.items)))
+            ∙ ap (λ n. a.code.items ++ c n (length b.places.items)) long
+            ∙ ap (λ ps. a.code.items ++ c (length a.code.items) (length ps)) same;
+        places = places ∙ y.places ∙ ap (λ ps. ps ++ s) same;
+      }
+
+-- ---- registers and masks are only added
+
+longer : (xs ys : List Row) → Begins xs ys → length xs ≤ length ys
+longer xs ys g = omega (arith, ap length g.is, length-append xs g.more)
+
+more_of : (r z : Registers) (k m : ℕ) → Grows r z → k ≤ m → (c : Class) → count_of (rows_of r) k c ≤ count_of (rows_of z) m c
+more_of r z k m g le class.Scalar = longer (rows_of r).scalars (rows_of z).scalars g.scalars
+more_of r z k m g le class.Vector = longer (rows_of r).vectors (rows_of z).vectors g.vectors
+more_of r z k m g le class.Array = longer (rows_of r).arrays (rows_of z).arrays g.arrays
+more_of r z k m g le class.Mask = le
+
+pub all_named : (old new : Emitter) (c : ℕ → ℕ → List Instr) (s : List Span) → AddsCode old new c s
+    → InCode (IsOf (rows_of new.reserved.registers) new.reserved.masks) (c (length old.body.code.items) (length old.body.places.items))
+    → HasAllNamed (draft_of old) → HasAllNamed (draft_of new)
+all_named old new c s w part h =
+    let P = IsOf (rows_of old.reserved.registers) old.reserved.masks in
+    let Q = IsOf (rows_of new.reserved.registers) new.reserved.masks in
+    let more = more_of old.reserved.registers new.reserved.registers old.reserved.masks new.reserved.masks w.rows w.masks in
+    let before : InCode Q old.body.code.items = code_weaker P Q (λ x lt. omega (arith, lt, more x.class)) old.body.code.items h in
+    subst (InCode Q) (sym w.appends.code) (code_both Q old.body.code.items (c (length old.body.code.items) (length old.body.places.items)) before part)
+
+one_longer : (t : Elem) (xs : List Row) → length xs ≤ length (with_fresh t xs)
+one_longer t xs = omega (arith, length-append xs (record { name = Fresh (length xs); elem = t } ∷ []))
+
+with_more : (r : Rate) (t : Elem) (rows : Rows) (masks : ℕ) (c : Class) → count_of rows masks c ≤ count_of (with_fresh_at r t rows) masks c
+with_more Uniform t rows masks class.Scalar = one_longer t rows.scalars
+with_more Uniform t rows masks class.Vector = omega arith
+with_more Uniform t rows masks class.Array = omega arith
+with_more Uniform t rows masks class.Mask = omega arith
+with_more Varying t rows masks class.Scalar = omega arith
+with_more Varying t rows masks class.Vector = one_longer t rows.vectors
+with_more Varying t rows masks class.Array = omega arith
+with_more Varying t rows masks class.Mask = omega arith
+
+pub fresh_named : (r : Rate) (t : Elem) (rows : Rows) (masks : ℕ) (code : List Instr) → InCode (IsOf rows masks) code → InCode (IsOf (with_fresh_at r t rows) masks) code
+fresh_named r t rows masks code h = code_weaker (IsOf rows masks) (IsOf (with_fresh_at r t rows) masks) (λ x lt. omega (arith, lt, with_more r t rows masks x.class)) code h
+
+-- ---- another target names no other register
+
+module _ (P : Register → Type 0) where
+  retargeted_named : (i : Instr) (to : ℕ) → InInstr P i → InInstr P (retargeted i to)
+  retargeted_named (instr.Scalar d i) to h = h
+  retargeted_named (instr.Vector d i) to h = h
+  retargeted_named (instr.Mask d i) to h = h
+  retargeted_named (instr.Divide op d x y k p) to h = h
+  retargeted_named (instr.Store a i y k p) to h = h
+  retargeted_named (instr.Scatter a i y k p) to h = h
+  retargeted_named (instr.StoreRun a i y k p) to h = h
+  retargeted_named (instr.PackedStore d a i y k p) to h = h
+  retargeted_named (instr.PackedLoad d a i y k p) to h = h
+  retargeted_named (instr.Clear a k) to h = h
+  retargeted_named (instr.Jump old) to h = h
+  retargeted_named (instr.JumpIf t x old) to h = h
+  retargeted_named (instr.Say t) to h = h
+  retargeted_named (instr.PrintScalar x) to h = h
+  retargeted_named (instr.PrintVector x k) to h = h
+  retargeted_named (instr.Fail x p) to h = h
+  retargeted_named (instr.Call c) to h = h
+  retargeted_named (instr.Return x) to h = h
+
+  pub patched_named : (code : List Instr) (at to : ℕ) → InCode P code → InCode P (patched code at to)
+  patched_named [] at to h = tt
+  patched_named (i ∷ is) zero to h = (retargeted_named i to h.0, h.1)
+  patched_named (i ∷ is) (suc at) to h = (h.0, patched_named is at to h.1)

@@ -1,0 +1,103 @@
+-- What code asks for is the function's own, where names and types accept its trees.
+use Rattle.std.proofs.Common.{ℕ, ◌+◌, List, Option, Bool, true, false}
+use Rattle.isp_base.specs.Ranks.{same_elem}
+use Rattle.isp_base.specs.declared.types.Elem.{Elem}
+use Rattle.isp_base.specs.declared.types.Elem.TheVariants.{I64}
+use Rattle.isp_base.specs.declared.types.Rate.{Rate}
+use Rattle.isp_base.specs.declared.types.Rate.TheVariants.{Uniform, Varying}
+use Rattle.isp_base.specs.declared.types.Ty.{Ty}
+use Rattle.isp_typed.specs.Fine.{HoldsArray, HoldsValue, FineExpr, FinePlace, FineTarget, FineSimple, FineItem}
+use Rattle.isp_typed.specs.Typed.{TExpr, t_constant, t_program_index, t_place, t_convert, t_cast, t_unary, t_binary, t_compare, t_logic, t_choose, t_call, t_library, t_packed_store, t_packed_load, TPlace, t_variable, t_element, TItem, t_plain, t_with_value, t_with_size, TSimple, t_value, t_run, t_assign, t_update, t_step, TFunction, place_type, ty_of, type_of}
+use Rattle.isp_typed.specs.declared.variable.Variable.{Variable}
+use Rattle.isp_lower.specs.Asks.{Ask, Nothing, Both, Register, ArrayOf, LocalOf, MaskOf, Number, All, first_slot, second_slot, beyond, lift_asks, test_asks, sides_ask, read_asks, work_asks, zero_asks, expr_asks, target_asks, change_asks, simple_asks, item_asks}
+use Rattle.isp_lower.specs.Reserved.{HoldsLocal, IsOwn}
+use Rattle.isp_lower.specs.Rows.{Name}
+use Rattle.isp_lower.specs.Tables.{AnyArray}
+
+module _ (vars : List Variable) (answer : Option Ty) where
+  -- the arrays that are asked for are variables
+  pub all_held : (H : Rate → Name → Elem → Type 0) (M : ℕ → Type 0) (x : Ask) → IsOwn vars answer x → All H AnyArray AnyArray M x → All H (HoldsArray vars) (HoldsLocal vars) M x
+  all_held H M Nothing own f = tt
+  all_held H M (Both x y) own f = (all_held H M x own.0 f.0, all_held H M y own.1 f.1)
+  all_held H M (Register r x t) own f = f
+  all_held H M (ArrayOf b) own f = own
+  all_held H M (LocalOf b) own f = own
+  all_held H M (MaskOf k) own f = f
+  all_held H M (Number k) own f = f
+
+  pub lift_own : (r given : Rate) (t : Elem) (n : ℕ) → IsOwn vars answer (lift_asks r given t n)
+  lift_own Uniform given t n = tt
+  lift_own Varying Uniform t n = tt
+  lift_own Varying Varying t n = tt
+
+  pub test_own : (r : Rate) (n : ℕ) → IsOwn vars answer (test_asks r n)
+  test_own Uniform n = tt
+  test_own Varying n = tt
+
+  sides_own : (r : Rate) (n : ℕ) → IsOwn vars answer (sides_ask r n)
+  sides_own Uniform n = tt
+  sides_own Varying n = (tt, (tt, tt))
+
+  read_own : (z : TPlace) (n : ℕ) → IsOwn vars answer (read_asks z n)
+  read_own (t_variable v t sp) n = tt
+  read_own (t_element b i t sp) n = tt
+
+  work_own : (b : Bool) (r : Rate) (t : Elem) (i : ℕ) → IsOwn vars answer (work_asks b r t i)
+  work_own true r t i = tt
+  work_own false r t i = tt
+
+  change_own : (t : Elem) (z : TPlace) (i : ℕ) → IsOwn vars answer (change_asks t z i)
+  change_own t z i = (work_own (same_elem (place_type z).elem t) (place_type z).rate t i, read_own z i)
+
+  zero_own : (r : Rate) (t : Elem) (v n : ℕ) → HoldsValue vars v (ty_of r t) → IsOwn vars answer (zero_asks r t v n)
+  zero_own Uniform t v n f = f
+  zero_own Varying t v n f = (tt, f)
+
+  module _ (fs : List TFunction) where
+    mutual
+      pub expr_own : (x : TExpr) (n : ℕ) → FineExpr fs vars x → IsOwn vars answer (expr_asks x n)
+      expr_own (t_constant v sp) n f = tt
+      expr_own (t_program_index sp) n f = tt
+      expr_own (t_place q) n f = (place_own q n f, read_own q n)
+      expr_own (t_convert e x) n f = (tt, expr_own x n f.0)
+      expr_own (t_cast x t sp) n f = (lift_own t.rate (type_of x).rate (type_of x).elem n, expr_own x n f.0)
+      expr_own (t_unary o x t sp) n f = (tt, (lift_own t.rate (type_of x).rate (type_of x).elem n, expr_own x n f.0))
+      expr_own (t_binary o x y t sp) n f =
+          (tt, (tt, ((lift_own t.rate (type_of x).rate (type_of x).elem n, expr_own x n f.0), (lift_own t.rate (type_of y).rate (type_of y).elem (n + 1), expr_own y (n + 1) f.1))))
+      expr_own (t_compare c x y r sp) n f =
+          (tt, (tt, ((lift_own r (type_of x).rate (type_of x).elem n, expr_own x n f.0), (lift_own r (type_of y).rate (type_of y).elem (n + 1), expr_own y (n + 1) f.1))))
+      expr_own (t_logic g x y r sp) n f =
+          (tt, (test_own r n, (tt, ((lift_own r (type_of x).rate (type_of x).elem n, expr_own x n f.0), (lift_own r (type_of y).rate (type_of y).elem (n + 1), expr_own y (n + 1) f.1)))))
+      expr_own (t_choose c x y t sp) n f =
+          let i = first_slot (type_of c).rate n in
+          let j = second_slot (type_of c).rate n in
+          (tt, (expr_own c n f.0, ((lift_own t.rate (type_of x).rate (type_of x).elem i, expr_own x i f.1), ((lift_own t.rate (type_of y).rate (type_of y).elem j, expr_own y j f.2), sides_own (type_of c).rate n))))
+      expr_own (t_call c t) n f = tt
+      expr_own (t_library g e xs t sp) n f = tt
+      expr_own (t_packed_store b x sp) n f = tt
+      expr_own (t_packed_load b v sp) n f = tt
+
+      place_own : (z : TPlace) (n : ℕ) → FinePlace fs vars z → IsOwn vars answer (target_asks z n)
+      place_own (t_variable v t sp) n f = f
+      place_own (t_element b i t sp) n f = (f.0, (lift_own t.rate (type_of i).rate I64 n, (tt, expr_own i n f.1)))
+
+    pub operand_own : (r : Rate) (x : TExpr) (n : ℕ) → FineExpr fs vars x → IsOwn vars answer (Both (lift_asks r (type_of x).rate (type_of x).elem n) (expr_asks x n))
+    operand_own r x n f = (lift_own r (type_of x).rate (type_of x).elem n, expr_own x n f)
+
+    target_own : (z : TPlace) (n : ℕ) → FineTarget fs vars z → IsOwn vars answer (target_asks z n)
+    target_own (t_variable v t sp) n f = record { constant = false; is = f }
+    target_own (t_element b i t sp) n f = place_own (t_element b i t sp) n f.0
+
+    pub simple_own : (x : TSimple) (n : ℕ) → FineSimple fs vars x → IsOwn vars answer (simple_asks x n)
+    simple_own (t_value x) n f = expr_own x n f
+    simple_own (t_run c) n f = tt
+    simple_own (t_assign z x sp) n f = (target_own z n f.0, (tt, operand_own (place_type z).rate x (beyond z n) f.1.0))
+    simple_own (t_update o t z x sp) n f =
+        (target_own z n f.0, (tt, (operand_own (place_type z).rate x (beyond z n) f.1.0, change_own t z (beyond z n + 1))))
+    simple_own (t_step o t z sp) n f =
+        (target_own z n f.0, (tt, ((tt, lift_own (place_type z).rate Uniform t (beyond z n)), change_own t z (beyond z n + 1))))
+
+    pub item_own : (x : TItem) (n : ℕ) → FineItem fs vars x → IsOwn vars answer (item_asks n x)
+    item_own (t_plain v t sp) n f = zero_own t.rate t.elem v n f
+    item_own (t_with_value v t x sp) n f = (f.0, operand_own t.rate x n f.1.0)
+    item_own (t_with_size b sp) n f = (f.0, f.1)

@@ -1,0 +1,128 @@
+-- What the laws use of a tree that fits, part by part: operands have the types that their node works in, a uniform part may stand in
+-- a varying node, and each register that is named has its type.
+use Rattle.std.proofs.Common.{◌≡◌, ℕ, ◌+◌, List, [], ◌∷◌, Bool, true, false}
+use Rattle.isp_base.specs.Ranks.{same_elem}
+use Rattle.isp_base.specs.declared.types.Elem.{Elem}
+use Rattle.isp_base.specs.declared.types.Elem.TheVariants.{Bool as Truth, I32, I64}
+use Rattle.isp_base.specs.declared.types.Rate.{Rate}
+use Rattle.isp_base.specs.declared.types.Rate.TheVariants.{Uniform, Varying}
+use Rattle.isp_typed.specs.Typed.{TExpr, t_constant, t_program_index, t_place, t_convert, t_cast, t_unary, t_binary, t_compare, t_logic, t_choose, t_call, t_library, t_packed_store, t_packed_load, TPlace, t_variable, t_element, TItem, t_plain, t_with_value, t_with_size, TSimple, t_value, t_run, t_assign, t_update, t_step, place_type, type_of}
+use Rattle.isp_typed.specs.Fine.{heads, HoldsArray}
+use Rattle.isp_lower.specs.Asks.{first_slot, second_slot, beyond}
+use Rattle.isp_lower.specs.Rated.{Reaches}
+use Rattle.isp_lower.specs.Rows.{Name, Variable, Spare}
+use Rattle.isp_lower.specs.Setting.{Setting}
+use Rattle.isp_lower.specs.Tables.{IsTyped, IsNamedIn}
+
+-- ---- single registers, by what it is to have one
+
+module _ (Has : Rate → Name → Elem → Type 0) where
+  -- a uniform value in slot n is made a varying one there
+  abbrev pub LiftHas : Rate → Rate → Elem → ℕ → Type 0
+  LiftHas Uniform Varying t n = Has Varying (Spare t n) t
+  LiftHas given r t n = Unit {0}
+
+  -- an element is read into slot n
+  abbrev pub ReadHas : TPlace → ℕ → Type 0
+  ReadHas (t_variable v t sp) n = Unit {0}
+  ReadHas (t_element b i t sp) n = Has t.rate (Spare t.elem n) t.elem
+
+  -- an operator works in slot i where its type is not that of the place
+  abbrev pub WorkHas : Bool → Rate → Elem → ℕ → Type 0
+  WorkHas true r t i = Unit {0}
+  WorkHas false r t i = Has r (Spare t i) t
+
+  -- a variable begins with 0: a varying one gets it from slot n
+  abbrev pub ZeroHas : Rate → Elem → ℕ → ℕ → Type 0
+  ZeroHas Uniform t v n = Has Uniform (Variable v) t
+  ZeroHas Varying t v n = Has Uniform (Spare t n) t × Has Varying (Variable v) t
+
+module _ (w : Setting) where
+  abbrev pub IsNamed : Rate → Name → Elem → Type 0
+  IsNamed r x t = IsNamedIn w.routine w.layout r x t
+
+  abbrev pub SpareFits : Rate → Elem → ℕ → Type 0
+  SpareFits r t n = IsNamed r (Spare t n) t
+
+  -- a uniform value in slot n is made a varying one there
+  abbrev pub LiftFits : Rate → Rate → Elem → ℕ → Type 0
+  LiftFits given r t n = LiftHas IsNamed given r t n
+
+  -- an operand of a node that works at rate r in type t
+  pub record OperandFits (r : Rate) (t : Elem) (x : TExpr) (n : ℕ) : Type 0 where
+    pub elem : (type_of x).elem ≡ t
+    pub reaches : Reaches (type_of x).rate r
+    pub lift : LiftFits (type_of x).rate r t n
+
+  -- its value is read into slot n
+  abbrev pub PlaceTyped : TPlace → ℕ → Type 0
+  PlaceTyped z n = ReadHas IsNamed z n
+
+  abbrev mutual
+    pub ExprParts : TExpr → ℕ → Type 0
+    ExprParts (t_constant v sp) n = SpareFits Uniform v.elem n
+    ExprParts (t_program_index sp) n = SpareFits Varying I32 n
+    ExprParts (t_place q) n = PlaceParts q n × PlaceTyped q n
+    ExprParts (t_convert e x) n = (heads x ≡ 0) × SpareFits (type_of x).rate e n × ExprParts x n
+    ExprParts (t_cast x t sp) n = OperandFits t.rate t.elem x n × ExprParts x n
+    ExprParts (t_unary o x t sp) n = OperandFits t.rate t.elem x n × SpareFits t.rate t.elem n × ExprParts x n
+    ExprParts (t_binary o x y t sp) n =
+        OperandFits t.rate t.elem x n × OperandFits t.rate t.elem y (n + 1) × SpareFits t.rate t.elem n × ExprParts x n × ExprParts y (n + 1)
+    ExprParts (t_compare c x y r sp) n =
+        OperandFits r (type_of x).elem x n × OperandFits r (type_of x).elem y (n + 1) × SpareFits r Truth n × ExprParts x n × ExprParts y (n + 1)
+    ExprParts (t_logic g x y r sp) n =
+        OperandFits r Truth x n × OperandFits r Truth y (n + 1) × SpareFits r Truth n × ExprParts x n × ExprParts y (n + 1)
+    ExprParts (t_choose c x y t sp) n =
+        ((type_of c).elem ≡ Truth) × Reaches (type_of c).rate t.rate × SpareFits t.rate t.elem n × OperandFits t.rate t.elem x (first_slot (type_of c).rate n) × OperandFits t.rate t.elem y (second_slot (type_of c).rate n) × ExprParts c n × ExprParts x (first_slot (type_of c).rate n) × ExprParts y (second_slot (type_of c).rate n)
+    ExprParts (t_call c t) n = ⊥
+    ExprParts (t_library f e xs t sp) n = ⊥
+    ExprParts (t_packed_store b x sp) n = ⊥
+    ExprParts (t_packed_load b v sp) n = ⊥
+
+    -- a place whose index is taken at slot n; the element's rate is that of the array and the index
+    pub PlaceParts : TPlace → ℕ → Type 0
+    PlaceParts (t_variable v t sp) n = IsTyped w t.rate (w.layout.variable t.rate v) t.elem
+    PlaceParts (t_element b i t sp) n =
+        HoldsArray w.function.variables b × Reaches b.ty.rate t.rate × Reaches (type_of i).rate t.rate × SpareFits (type_of i).rate I64 n × ExprParts i n
+
+-- every type but bool: operators work in these
+abbrev pub IsNumber : Elem → Type 0
+IsNumber Truth = ⊥
+IsNumber t = Unit {0}
+
+module _ (w : Setting) where
+  -- slot i has a register of the operator's type where that is another, and one of an element's
+  abbrev pub WorkFits : Bool → Rate → Elem → ℕ → Type 0
+  WorkFits same r t i = WorkHas (IsNamed w) same r t i
+
+  abbrev pub ReadFits : TPlace → ℕ → Type 0
+  ReadFits z i = ReadHas (IsNamed w) z i
+
+  -- a place with its index at slot n, that an operator of type t reads and writes
+  pub record ChangeFits (t : Elem) (z : TPlace) (n i : ℕ) : Type 0 where
+    pub number : IsNumber t
+    pub target : PlaceParts w z n
+    pub working : WorkFits (same_elem (place_type z).elem t) (place_type z).rate t i
+    pub back : ReadFits z i
+
+  abbrev pub SimpleParts : TSimple → ℕ → Type 0
+  SimpleParts (t_value x) n = ExprParts w x n
+  SimpleParts (t_run c) n = ⊥
+  SimpleParts (t_assign z x sp) n = PlaceParts w z n × OperandFits w (place_type z).rate (place_type z).elem x (beyond z n) × ExprParts w x (beyond z n)
+  SimpleParts (t_update o t z x sp) n =
+      ChangeFits t z n (beyond z n + 1) × OperandFits w (place_type z).rate t x (beyond z n) × ExprParts w x (beyond z n)
+  SimpleParts (t_step o t z sp) n =
+      ChangeFits t z n (beyond z n + 1) × SpareFits w Uniform t (beyond z n) × LiftFits w Uniform (place_type z).rate t (beyond z n)
+
+module _ (w : Setting) where
+  abbrev pub ZeroFits : Rate → Elem → ℕ → ℕ → Type 0
+  ZeroFits r t v n = ZeroHas (IsNamed w) r t v n
+
+  abbrev pub ItemParts : ℕ → TItem → Type 0
+  ItemParts n (t_plain v t sp) = ZeroFits t.rate t.elem v n
+  ItemParts n (t_with_value v t x sp) = IsTyped w t.rate (w.layout.variable t.rate v) t.elem × OperandFits w t.rate t.elem x n × ExprParts w x n
+  ItemParts n (t_with_size b sp) = HoldsArray w.function.variables b
+
+  abbrev pub ItemsParts : ℕ → List TItem → Type 0
+  ItemsParts n [] = Unit {0}
+  ItemsParts n (x ∷ xs) = ItemParts n x × ItemsParts n xs

@@ -1,0 +1,104 @@
+-- What names, types and rates promise of a tree is what the laws use of it.
+use Rattle.std.proofs.Common.{◌≡◌, suc, List, [], ◌∷◌, sym, ap, subst, arith}
+use Rattle.std.specs.List.{All}
+use Rattle.isp_base.specs.declared.types.Elem.{Elem}
+use Rattle.isp_base.specs.declared.types.Elem.TheVariants.{Bool as Truth, I8, U8, I16, U16, I32, U32, I64, U64}
+use Rattle.isp_base.specs.declared.types.Rate.{Rate}
+use Rattle.isp_base.specs.declared.types.Rate.TheVariants.{Uniform, Varying}
+use Rattle.isp_typed.specs.Fine.{IsWhole, AreOperands, FineExpr, FinePlace, FineTarget, FineSimple, FineItem}
+use Rattle.isp_typed.specs.Typed.{TExpr, t_constant, t_program_index, t_place, t_convert, t_cast, t_unary, t_binary, t_compare, t_logic, t_choose, t_call, t_library, t_packed_store, t_packed_load, TPlace, t_variable, t_element, TItem, t_plain, t_with_value, t_with_size, TSimple, t_value, t_run, t_assign, t_update, t_step, TFunction, place_type, type_of, rate_or}
+use Rattle.isp_typed.specs.declared.variable.Variable.{Variable}
+use Rattle.isp_lower.specs.Rated.{Reaches, IsRated, PlaceRated, RatedAt, SimpleRated, ItemsRated}
+use Rattle.isp_lower.proofs.Parts.{IsNumber}
+use Rattle.isp_lower.proofs.Trees.{OperandTree, ExprTree, PlaceTree, SimpleTree, ItemsTree}
+
+-- ---- rates
+
+reaches_first : (a b : Rate) → Reaches a (rate_or a b)
+reaches_first Uniform b = tt
+reaches_first Varying b = tt
+
+reaches_second : (a b : Rate) → Reaches b (rate_or a b)
+reaches_second Uniform Uniform = tt
+reaches_second Uniform Varying = tt
+reaches_second Varying Uniform = tt
+reaches_second Varying Varying = tt
+
+reaches_itself : (a : Rate) → Reaches a a
+reaches_itself Uniform = tt
+reaches_itself Varying = tt
+
+reaches_on : (a b c : Rate) → Reaches a b → Reaches b c → Reaches a c
+reaches_on Uniform b c h g = tt
+reaches_on Varying Uniform c h g = absurd h
+reaches_on Varying Varying c h g = g
+
+whole_number : (t : Elem) → IsWhole t → IsNumber t
+whole_number Truth e = absurd (cc)
+whole_number I8 e = tt
+whole_number U8 e = tt
+whole_number I16 e = tt
+whole_number U16 e = tt
+whole_number I32 e = tt
+whole_number U32 e = tt
+whole_number I64 e = tt
+whole_number U64 e = tt
+
+first_operand : (x y : TExpr) (t : Elem) (r : Rate) → AreOperands x y t r → OperandTree r t x
+first_operand x y t r o = record { elem = o.left; reaches = subst (Reaches (type_of x).rate) (sym o.rate) (reaches_first (type_of x).rate (type_of y).rate) }
+
+second_operand : (x y : TExpr) (t : Elem) (r : Rate) → AreOperands x y t r → OperandTree r t y
+second_operand x y t r o = record { elem = o.right; reaches = subst (Reaches (type_of y).rate) (sym o.rate) (reaches_second (type_of x).rate (type_of y).rate) }
+
+-- ---- trees
+
+module _ (fs : List TFunction) (vars : List Variable) where
+  mutual
+    pub expr_tree : (x : TExpr) → FineExpr fs vars x → IsRated x → ExprTree x
+    expr_tree (t_constant v sp) f r = tt
+    expr_tree (t_program_index sp) f r = tt
+    expr_tree (t_place q) f r = place_tree q f r
+    expr_tree (t_convert e x) f r = (f.1, expr_tree x f.0 r)
+    expr_tree (t_cast x t sp) f r = (record { elem = f.1; reaches = r.0 }, expr_tree x f.0 r.1)
+    expr_tree (t_unary o x t sp) f r =
+        (record { elem = ap (λ u. u.elem) f.1; reaches = subst (λ u. Reaches (type_of x).rate u.rate) f.1 (reaches_itself (type_of x).rate) }, expr_tree x f.0 r, f.2)
+    expr_tree (t_binary o x y t sp) f r =
+        (first_operand x y t.elem t.rate f.2, second_operand x y t.elem t.rate f.2, expr_tree x f.0 r.0, expr_tree y f.1 r.1, whole_number t.elem f.3)
+    expr_tree (t_compare k x y q sp) f r = (first_operand x y (type_of x).elem q f.2, second_operand x y (type_of x).elem q f.2, expr_tree x f.0 r.0, expr_tree y f.1 r.1)
+    expr_tree (t_logic g x y q sp) f r = (first_operand x y Truth q f.2, second_operand x y Truth q f.2, expr_tree x f.0 r.0, expr_tree y f.1 r.1)
+    expr_tree (t_choose q x y t sp) f r =
+        let rc = (type_of q).rate in
+        let rx = (type_of x).rate in
+        let ry = (type_of y).rate in
+        (record { elem = f.3; reaches = subst (Reaches rc) (sym f.6) (reaches_first rc (rate_or rx ry)) }, record { elem = f.4; reaches = subst (Reaches rx) (sym f.6) (reaches_on rx (rate_or rx ry) (rate_or rc (rate_or rx ry)) (reaches_first rx ry) (reaches_second rc (rate_or rx ry))) }, record { elem = f.5; reaches = subst (Reaches ry) (sym f.6) (reaches_on ry (rate_or rx ry) (rate_or rc (rate_or rx ry)) (reaches_second rx ry) (reaches_second rc (rate_or rx ry))) }, expr_tree q f.0 r.0, expr_tree x f.1 r.1, expr_tree y f.2 r.2)
+    expr_tree (t_call k t) f r = absurd r
+    expr_tree (t_library g e xs t sp) f r = absurd r
+    expr_tree (t_packed_store b x sp) f r = absurd r
+    expr_tree (t_packed_load b v sp) f r = absurd r
+
+    place_tree : (z : TPlace) → FinePlace fs vars z → PlaceRated z → PlaceTree z
+    place_tree (t_variable v t sp) f r = tt
+    place_tree (t_element b i t sp) f r =
+        (subst (λ u. Reaches b.ty.rate u.rate) (sym f.2) (reaches_first b.ty.rate (type_of i).rate), subst (λ u. Reaches (type_of i).rate u.rate) (sym f.2) (reaches_second b.ty.rate (type_of i).rate), expr_tree i f.1 r, sym (ap (λ u. u.elem) f.2))
+
+  target_tree : (z : TPlace) → FineTarget fs vars z → PlaceRated z → PlaceTree z
+  target_tree (t_variable v t sp) f r = tt
+  target_tree (t_element b i t sp) f r = place_tree (t_element b i t sp) f.0 r
+
+  pub operand_tree : (r : Rate) (t : Elem) (x : TExpr) → (type_of x).elem ≡ t → RatedAt r x → OperandTree r t x
+  operand_tree r t x e g = record { elem = e; reaches = g.0 }
+
+  pub simple_tree : (x : TSimple) → FineSimple fs vars x → SimpleRated x → SimpleTree x
+  simple_tree (t_value x) f r = expr_tree x f r
+  simple_tree (t_run k) f r = absurd r
+  simple_tree (t_assign z x sp) f r = (target_tree z f.0 r.0, operand_tree (place_type z).rate (place_type z).elem x f.1.1 r.1, expr_tree x f.1.0 r.1.1)
+  simple_tree (t_update o t z x sp) f r = (target_tree z f.0 r.0, operand_tree (place_type z).rate t x f.1.1 r.1, expr_tree x f.1.0 r.1.1, whole_number t f.2)
+  simple_tree (t_step o t z sp) f r = (target_tree z f.0 r, whole_number t f.1)
+
+  pub items_tree : (xs : List TItem) → All (FineItem fs vars) xs → ItemsRated xs → ItemsTree xs
+  items_tree [] f r = tt
+  items_tree (t_plain v t sp ∷ xs) f r = (tt, items_tree xs (λ k d lt. f (suc k) d (omega arith)) r.1)
+  items_tree (t_with_size a sp ∷ xs) f r = (tt, items_tree xs (λ k d lt. f (suc k) d (omega arith)) r.1)
+  items_tree (t_with_value v t x sp ∷ xs) f r =
+      let is : FineItem fs vars (t_with_value v t x sp) = f 0 (t_with_value v t x sp) (omega arith) in
+      ((operand_tree t.rate t.elem x is.1.1 r.0, expr_tree x is.1.0 r.0.1), items_tree xs (λ k d lt. f (suc k) d (omega arith)) r.1)

@@ -1,0 +1,10 @@
+use Rattle.std.proofs.Common.{◌≡◌, ◌++◌, map}
+use Rattle.isp_code.specs.Listing.{routine_of}
+use Rattle.isp_lower.proofs.listing.add_functions.Given as goal
+
+abbrev pub invariant-loop-f : goal.invariant-loop-f
+invariant-loop-f l =
+    (l.code.routines ++ map routine_of l.f-iterator.rest.items ≡ l.initial.code.routines ++ map routine_of l.fn.functions.items)
+    × (l.code.gang ≡ l.initial.code.gang)
+    × (l.code.places ≡ l.initial.code.places)
+    × (l.code.texts ≡ l.initial.code.texts)

@@ -1,0 +1,45 @@
+use Rattle.std.proofs.Common.{◌≤◌, ◌<◌, subst, refl, arith}
+use Rattle.isp_typed.specs.Views.{expr_of}
+use Rattle.isp_lower.specs.Asks.{expr_asks}
+use Rattle.isp_lower.specs.Emitted.{Grows}
+use Rattle.isp_lower.specs.declared.reserve.Reserve.{Reserve}
+use Rattle.isp_lower.proofs.Aparts.{all_named, apart_appends, apart_long}
+use Rattle.isp_lower.proofs.FirstRows.{all_joined}
+use Rattle.isp_lower.proofs.Rated.{expr_tree}
+use Rattle.isp_lower.proofs.NamedThere.{expr_named}
+use Rattle.isp_lower.proofs.types.Emitter.expr.Goals as goal
+
+pub expr-requires-2 : goal.expr-requires-2
+expr-requires-2 c =
+    let asked = c.expr.new.self in
+    let gives = c.in_ok-expr.ensures in
+    let grown : Grows c.args.self.now.reserved.registers asked.registers = subst (λ (r : Reserve). Grows r.registers asked.registers) c.in_ok-asked.ensures gives.rows in
+    all_joined c.args.self.now.reserved asked grown (expr_asks (expr_of c.args.x.now) c.args.slot) gives.has c.requires.own
+
+pub join-requires : goal.join-requires
+join-requires c = apart_long c.args.self.now.body c.in_ok-written.written c.expr-2.new.b _ _ c.in_ok-written.ensures.code c.in_ok-written.ensures.places c.in_ok-to.ensures.code
+
+pub returns-clause-code : goal.returns-clause-code
+returns-clause-code c =
+    let asked = c.expr.new.self in
+    let gives = c.in_ok-expr.ensures in
+    let grown : Grows c.args.self.now.reserved.registers asked.registers = subst (λ (r : Reserve). Grows r.registers asked.registers) c.in_ok-asked.ensures gives.rows in
+    let more : c.args.self.now.reserved.masks ≤ asked.masks = subst (λ (r : Reserve). r.masks ≤ asked.masks) c.in_ok-asked.ensures gives.masks in
+    record {
+      appends = apart_appends c.args.self.now.body c.in_ok-written.written c.expr-2.new.b _ _ c.in_ok-written.ensures.code c.in_ok-written.ensures.places c.in_ok-to.ensures.code c.join.new.self c.in_ok-join.ensures.code c.in_ok-join.ensures.places;
+      rows = grown;
+      masks = more;
+      kept = refl;
+    }
+
+pub returns-clause-all_named : goal.returns-clause-all_named
+returns-clause-all_named c =
+    let asked = c.expr.new.self in
+    let gives = c.in_ok-expr.ensures in
+    let grown : Grows c.args.self.now.reserved.registers asked.registers = subst (λ (r : Reserve). Grows r.registers asked.registers) c.in_ok-asked.ensures gives.rows in
+    let more : c.args.self.now.reserved.masks ≤ asked.masks = subst (λ (r : Reserve). r.masks ≤ asked.masks) c.in_ok-asked.ensures gives.masks in
+    let low : c.args.k < asked.masks = omega (arith, c.requires.mask, more) in
+    λ h.
+    all_named c.args.self.now _ _ _ (returns-clause-code c)
+    (expr_named asked _ _ c.args.k c.args.slot low (expr_of c.args.x.now) (expr_tree c.requires.fine.0 c.requires.fine.1 (expr_of c.args.x.now) c.requires.fine.2 c.requires.rated)
+    (all_joined c.args.self.now.reserved asked grown (expr_asks (expr_of c.args.x.now) c.args.slot) gives.has c.requires.own)) h

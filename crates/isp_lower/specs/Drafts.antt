@@ -1,0 +1,94 @@
+-- A program's code while it is written: what an emitter has, as lists.
+use Rattle.std.specs.Prelude.{ℕ, List, [], ◌∷◌, ◌++◌, map, Option, Some, None, IsSome, option_map}
+use Rattle.isp_base.specs.declared.types.Elem.{Elem}
+use Rattle.isp_base.specs.declared.types.Gang.{Gang}
+use Rattle.isp_base.specs.declared.types.Rate.{Rate}
+use Rattle.isp_base.specs.declared.types.Span.{Span}
+use Rattle.isp_code.specs.Listing.{Listing, Routine, routine_of}
+use Rattle.isp_code.specs.declared.instr.Instr.{Instr}
+use Rattle.isp_typed.specs.Typed.{TFunction}
+use Rattle.isp_lower.specs.Emitted.{first_rows, rows_of}
+use Rattle.isp_lower.specs.Header.{Heading, heading_of, routine_with}
+pub use Rattle.isp_lower.specs.Headings.{heading_in}
+use Rattle.isp_lower.specs.Named.{InCode, InInstr, IsOf}
+use Rattle.isp_lower.specs.Patched.{patched}
+use Rattle.isp_lower.specs.Rows.{Rows, with_fresh_at}
+use Rattle.isp_lower.specs.declared.types.Emitter.{Emitter}
+
+-- Places and texts of all functions, the routines of those that are closed, and of the function at work its heading, if
+-- there is one, its registers, how many masks it has, and its code.
+pub record Draft : Type 0 where
+  pub gang : Gang
+  pub places : List Span
+  pub texts : List (List ℕ)
+  pub routines : List Routine
+  pub heading : Option Heading
+  pub rows : Rows
+  pub masks : ℕ
+  pub code : List Instr
+
+abbrev pub draft_of : Emitter → Draft
+draft_of e =
+    record { gang = e.gang; places = e.body.places.items; texts = map (λ t. t.items) e.texts.items; routines = map routine_of e.functions.items; heading = option_map heading_in e.heading; rows = rows_of e.reserved.registers; masks = e.reserved.masks; code = e.body.code.items }
+
+-- ---- from one to the next
+
+abbrev pub first_draft : Gang → Draft
+first_draft g =
+    record { gang = g; places = []; texts = []; routines = []; heading = None; rows = record { scalars = []; vectors = []; arrays = [] }; masks = 0; code = [] }
+
+-- the routine of the function at work, if there is one
+abbrev pub routine_at_work : Option Heading → Rows → ℕ → List Instr → List Routine
+routine_at_work None rows masks code = []
+routine_at_work (Some h) rows masks code = routine_with h rows masks code ∷ []
+
+-- its code is put away
+abbrev pub code_left : Option Heading → List Instr → List Instr
+code_left None code = code
+code_left (Some h) code = []
+
+abbrev pub all_routines : Draft → List Routine
+all_routines d = d.routines ++ routine_at_work d.heading d.rows d.masks d.code
+
+-- the function at work is closed
+abbrev pub closed : Draft → Draft
+closed d = record d { routines = all_routines d; heading = None; code = code_left d.heading d.code }
+
+abbrev pub with_heading : Heading → Draft → Draft
+with_heading h d = record d { heading = Some h }
+
+-- the function at work is closed, and the next one begins
+abbrev pub begun : TFunction → Draft → Draft
+begun h d =
+    record d { routines = all_routines d; heading = Some (heading_of h); rows = first_rows h.variables h.answer; masks = 3; code = [] }
+
+abbrev pub finished : Draft → Listing
+finished d = record { gang = d.gang; places = d.places; texts = d.texts; routines = all_routines d }
+
+abbrev pub with_place : Span → Draft → Draft
+with_place s d = record d { places = d.places ++ s ∷ [] }
+
+abbrev pub with_text : List ℕ → Draft → Draft
+with_text t d = record d { texts = d.texts ++ t ∷ [] }
+
+abbrev pub with_instr : Instr → Draft → Draft
+with_instr i d = record d { code = d.code ++ i ∷ [] }
+
+abbrev pub with_register : Rate → Elem → Draft → Draft
+with_register r t d = record d { rows = with_fresh_at r t d.rows }
+
+abbrev pub with_target : ℕ → ℕ → Draft → Draft
+with_target at to d = record d { code = patched d.code at to }
+
+-- ---- what is asked of a draft
+
+abbrev pub IsBegun : Draft → Type 0
+IsBegun d = IsSome d.heading
+
+-- the function at work has each register that an instruction names
+abbrev pub HasNamed : Draft → Instr → Type 0
+HasNamed d i = InInstr (IsOf d.rows d.masks) i
+
+-- and that its code names
+abbrev pub HasAllNamed : Draft → Type 0
+HasAllNamed d = InCode (IsOf d.rows d.masks) d.code

@@ -1,0 +1,45 @@
+//! Code that is written apart first, so that a refusal leaves no trace.
+ghost use Rattle.std.specs.Prelude.{◌≡◌, ◌≤◌, ◌++◌, drop, length, IfOk, OnErr, OnOk};
+ghost use Rattle.isp_lower.specs.Emitted.{Unchanged};
+
+use crate::types::Body;
+use isp_code::Instr;
+use std::alloc::{AllocError, Global};
+
+/// So many instructions.
+fn fillers(alloc: Global, count: usize) -> Result<Vec<Instr>, AllocError>
+    ensures { IfOk result (λ code. length code.items ≡ count) }
+{
+    let mut code = Vec::new(alloc);
+    for at in 0..count {
+        code.push(Instr::Return(None))?;
+    }
+    Ok(code)
+}
+
+impl Body {
+    /// A body of as many instructions and of the same places: what is written behind them is numbered as in this one.
+    pub(crate) fn apart(&self, alloc: Global) -> Result<Body, AllocError>
+        ensures code { IfOk result (λ b. length b.code.items ≡ length self.now.code.items) }
+        ensures places { IfOk result (λ b. b.places.items ≡ self.now.places.items) }
+    {
+        Ok(Body {
+            places: Vec::from_slice(alloc, self.places.as_slice())?,
+            code: fillers(alloc, self.code.len())?,
+        })
+    }
+
+    /// Takes what was written apart: the instructions behind as many as this one has, and the places. Where memory is
+    /// refused, all stays as it was.
+    pub(crate) fn join(&mut self, mut written: Body) -> Result<(), AllocError>
+        requires { length self.old.code.items ≤ length written.code.items }
+        ensures code { OnOk result (self.new.code.items ≡ self.old.code.items ++ drop (length self.old.code.items) written.code.items) }
+        ensures places { OnOk result (self.new.places.items ≡ written.places.items) }
+        ensures refused { OnErr result (Unchanged self.old self.new) }
+    {
+        let mut more = written.code.split_off(self.code.len())?;
+        self.code.append(&mut more)?;
+        self.places = written.places;
+        Ok(())
+    }
+}

@@ -1,0 +1,67 @@
+//! The function at work becomes a routine.
+ghost use Rattle.std.specs.Prelude.{◌≡◌, [], Some, None, OnErr, OnOk, option_map};
+ghost use Rattle.isp_lower.specs.Drafts.{closed, draft_of, heading_in, with_heading};
+ghost use Rattle.isp_lower.specs.Emitted.{rows_of};
+ghost use Rattle.isp_lower.specs.Header.{scalars_behind, vectors_behind};
+
+use crate::header::{Heading, Types, types_of};
+use crate::types::Emitter;
+use isp_code::Function;
+use std::alloc::{AllocError, Global};
+use std::mem;
+
+impl Emitter {
+    /// The routine of the function at work, if there is one, is the next one. Where memory is refused, all stays as it was.
+    pub(crate) fn close(&mut self, alloc: Global) -> Result<(), AllocError>
+        ensures closed { OnOk result (draft_of self.new ≡ closed (draft_of self.old)) }
+        ensures refused { OnErr result (draft_of self.new ≡ draft_of self.old) }
+    {
+        let heading = match self.heading.take() {
+            Some(heading) => heading,
+            None => return Ok(()),
+        };
+        match types_of(alloc, &self.reserved.registers, heading.params.as_slice()) {
+            Ok(types) => self.append(alloc, heading, types),
+            Err(refused) => {
+                self.heading = Some(heading);
+                Err(refused)
+            }
+        }
+    }
+
+    /// The same where its heading and the types of its registers are given.
+    fn append(&mut self, alloc: Global, heading: Heading, types: Types) -> Result<(), AllocError>
+        requires none { self.old.heading ≡ None }
+        requires scalars { types.scalars.items ≡ scalars_behind heading.params.items (rows_of self.old.reserved.registers) }
+        requires vectors { types.vectors.items ≡ vectors_behind heading.params.items (rows_of self.old.reserved.registers) }
+        ensures closed { OnOk result (draft_of self.new ≡ closed (with_heading (heading_in heading) (draft_of self.old))) }
+        ensures refused { OnErr result (draft_of self.new ≡ with_heading (heading_in heading) (draft_of self.old)) }
+    {
+        let routine = Function {
+            name: heading.name,
+            exported: heading.exported,
+            returns: heading.returns,
+            params: heading.params,
+            locals: heading.locals,
+            scalars: types.scalars,
+            vectors: types.vectors,
+            masks: self.reserved.masks,
+            code: mem::replace(&mut self.body.code, Vec::new(alloc)),
+        };
+        match self.functions.push(routine) {
+            Ok(()) => Ok(()),
+            Err(failed) => {
+                let routine = failed.value;
+                self.body.code = routine.code;
+                self.heading = Some(Heading {
+                    name: routine.name,
+                    exported: routine.exported,
+                    returns: routine.returns,
+                    params: routine.params,
+                    locals: routine.locals,
+                });
+                Err(AllocError)
+            }
+        }
+    }
+}

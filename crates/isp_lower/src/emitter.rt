@@ -1,0 +1,133 @@
+//! The code of a program while it is written.
+ghost use Rattle.std.specs.Prelude.{◌≡◌, ◌≤◌, ◌<◌, length, IfOk, OnErr, OnOk};
+ghost use Rattle.isp_typed.specs.Views.{function_of};
+ghost use Rattle.isp_lower.specs.Drafts.{HasAllNamed, HasNamed, IsBegun, begun, draft_of, finished, first_draft, with_instr, with_place, with_register, with_target, with_text};
+ghost use Rattle.isp_lower.specs.Header.{HeadingFits};
+ghost use Rattle.isp_lower.specs.Layout.{register};
+ghost use Rattle.isp_lower.specs.Named.{Unnamed};
+ghost use Rattle.isp_lower.specs.Patched.{IsJump, instr_at};
+ghost use Rattle.isp_lower.specs.Rows.{layout_of, rows_at};
+
+use crate::beginning::{begin, no_registers};
+use crate::header::heading_of;
+use crate::listing::{add_functions, add_places, add_texts};
+use crate::reserve::Reserve;
+use crate::types::{Body, Emitter};
+use isp_base::{Elem, Rate, Span};
+use isp_code::{Code, Instr};
+use isp_typed::{Program, TypedFunction};
+use std::alloc::{AllocError, Global};
+
+impl Emitter {
+    /// No code, no place, no text and no function, for a program's gang.
+    pub fn new(alloc: Global, program: &Program) -> Emitter
+        ensures { draft_of result ≡ first_draft program.now.gang }
+    {
+        Emitter {
+            gang: program.gang,
+            texts: Vec::new(alloc),
+            functions: Vec::new(alloc),
+            heading: None,
+            reserved: Reserve {
+                registers: no_registers(alloc),
+                masks: 0,
+            },
+            body: Body::new(alloc),
+        }
+    }
+
+    /// Closes the function at work, if there is one, and begins another: it has a register for each variable, in their
+    /// order, one for what it gives back, three masks, and no instruction. 0 where memory is refused.
+    pub fn begin(&mut self, f: &TypedFunction) -> Result<(), AllocError>
+        requires { HeadingFits (function_of f.now) }
+        ensures begun { OnOk result (draft_of self.new ≡ begun (function_of f.now) (draft_of self.old)) }
+        ensures refused { OnErr result (draft_of self.new ≡ draft_of self.old) }
+    {
+        let alloc = *self.texts.allocator();
+        let heading = heading_of(alloc, f)?;
+        let registers = begin(alloc, f.variables.as_slice(), f.result)?;
+        self.close(alloc)?;
+        self.body.code = Vec::new(alloc);
+        self.heading = Some(heading);
+        self.reserved = Reserve {
+            registers,
+            masks: 3,
+        };
+        Ok(())
+    }
+
+    /// Adds a place in the source and gives its number. 0 where memory is refused, or there are 4,294,967,295 places.
+    pub fn place(&mut self, span: Span) -> Result<u32, AllocError>
+        ensures number { IfOk result (λ n. n ≡ length (draft_of self.old).places) }
+        ensures added { OnOk result (draft_of self.new ≡ with_place span (draft_of self.old)) }
+        ensures refused { OnErr result (draft_of self.new ≡ draft_of self.old) }
+    {
+        self.body.place(span)
+    }
+
+    /// Adds a text, its bytes, and gives its number. 0 where memory is refused, or there are 4,294,967,295 texts.
+    pub fn text(&mut self, bytes: &[u8]) -> Result<u32, AllocError>
+        ensures number { IfOk result (λ n. n ≡ length (draft_of self.old).texts) }
+        ensures added { OnOk result (draft_of self.new ≡ with_text bytes.now (draft_of self.old)) }
+        ensures refused { OnErr result (draft_of self.new ≡ draft_of self.old) }
+    {
+        let number = self.texts.len();
+        if number >= 4_294_967_295 {
+            return Err(AllocError);
+        }
+        let alloc = *self.texts.allocator();
+        self.texts.push(Vec::from_slice(alloc, bytes)?)?;
+        Ok(number as u32)
+    }
+
+    /// Adds an instruction, all of whose registers the function at work has, and gives its number. 0 where memory is
+    /// refused, or there are 4,294,967,295 instructions.
+    pub fn emit(&mut self, instr: Instr) -> Result<u32, AllocError>
+        requires begun { IsBegun (draft_of self.old) }
+        requires there { HasNamed (draft_of self.old) instr }
+        ensures number { IfOk result (λ n. n ≡ length (draft_of self.old).code) }
+        ensures added { OnOk result (draft_of self.new ≡ with_instr instr (draft_of self.old)) }
+        ensures all_named { HasAllNamed (draft_of self.old) → OnOk result (HasAllNamed (draft_of self.new)) }
+        ensures refused { OnErr result (draft_of self.new ≡ draft_of self.old) }
+    {
+        self.body.append(instr)
+    }
+
+    /// A register of the function at work for values of a type, and its number: no instruction names it, and no other call
+    /// gives it. 0 where memory is refused, or there are 4,294,967,295 registers of the rate.
+    pub fn fresh(&mut self, rate: Rate, elem: Elem) -> Result<u32, AllocError>
+        requires { IsBegun (draft_of self.old) }
+        ensures number { IfOk result (λ d. d ≡ length (rows_at (draft_of self.old).rows rate)) }
+        ensures added { OnOk result (draft_of self.new ≡ with_register rate elem (draft_of self.old)) }
+        ensures named { IfOk result (λ d. (layout_of (draft_of self.new).rows).fresh rate d ≡ d) }
+        ensures all_named { HasAllNamed (draft_of self.old) → OnOk result (HasAllNamed (draft_of self.new)) }
+        ensures unnamed { HasAllNamed (draft_of self.old) → IfOk result (λ d. Unnamed (register rate d) (draft_of self.old).code) }
+        ensures refused { OnErr result (draft_of self.new ≡ draft_of self.old) }
+    {
+        self.reserved.registers.fresh(rate, elem)
+    }
+
+    /// The jump of a number leads to another instruction; nothing else changes.
+    pub fn patch(&mut self, at: u32, target: u32)
+        requires there { at < length (draft_of self.old).code }
+        requires jump { IsJump (instr_at (draft_of self.old).code at) }
+        ensures patched { draft_of self.new ≡ with_target at target (draft_of self.old) }
+        ensures all_named { HasAllNamed (draft_of self.old) → HasAllNamed (draft_of self.new) }
+    {
+        self.body.patch(at as usize, target)
+    }
+
+    /// Closes the function at work, if there is one, and gives the code. 0 where memory is refused, or the text of code
+    /// cannot have a place, a text or a function.
+    pub fn finish(mut self) -> Result<Code, AllocError>
+        ensures { IfOk result (λ code. code ≡ finished (draft_of self)) }
+    {
+        let alloc = *self.texts.allocator();
+        self.close(alloc)?;
+        let mut code = Code::new(alloc, self.gang);
+        add_places(&mut code, self.body.places.as_slice())?;
+        add_texts(&mut code, self.texts.as_slice())?;
+        add_functions(&mut code, self.functions)?;
+        Ok(code)
+    }
+}

@@ -1,0 +1,57 @@
+-- What names, types and rates promise of a body is what the laws use of it.
+use Rattle.std.proofs.Common.{List, Option, Some, None}
+use Rattle.isp_base.specs.declared.types.Elem.TheVariants.{Bool as Truth}
+use Rattle.isp_base.specs.declared.types.Ty.{Ty}
+use Rattle.isp_tree.specs.Sound.{IfAny}
+use Rattle.isp_typed.specs.Fine.{FineValue, FineSimple, FineFirst, FineReturned, FineStmt, FineBlock, FineStmts}
+use Rattle.isp_typed.specs.Typed.{TFunction, TExpr, TSimple, TFirst, t_first_declare, t_first_simple, TStmt, t_block, t_declare, t_simple, t_if, t_if_else, t_while, t_do, t_for, t_foreach, t_foreach_active, t_unmasked, t_jump, t_return, t_print, t_assert, TBlock, t_braces, TStmts, t_no_stmts, t_stmt_then}
+use Rattle.isp_typed.specs.declared.variable.Variable.{Variable}
+use Rattle.isp_lower.proofs.Rated.{expr_tree, operand_tree, simple_tree, items_tree}
+use Rattle.isp_masks.specs.Rated.{AnswerRated, FirstRated, TestRated, StepRated, StmtRated, BlockRated, StmtsRated}
+use Rattle.isp_masks.proofs.Trees.{AnswerTree, FirstTree, TestTree, StepTree, StmtTree, BlockTree, StmtsTree}
+
+module _ (fs : List TFunction) (vars : List Variable) where
+  -- the parts of a `for` that may be left out
+  first_tree : (o : Option TFirst) → IfAny (FineFirst fs vars) o → FirstRated o → FirstTree o
+  first_tree None f r = tt
+  first_tree (Some (t_first_declare xs sp)) f r = items_tree fs vars xs f r
+  first_tree (Some (t_first_simple x)) f r = simple_tree fs vars x f r
+
+  test_tree : (o : Option TExpr) → IfAny (FineValue fs vars Truth) o → TestRated o → TestTree o
+  test_tree None f r = tt
+  test_tree (Some e) f r = (expr_tree fs vars e f.0 r, f.1)
+
+  step_tree : (o : Option TSimple) → IfAny (FineSimple fs vars) o → StepRated o → StepTree o
+  step_tree None f r = tt
+  step_tree (Some x) f r = simple_tree fs vars x f r
+
+  returned_tree : (answer : Option Ty) (x : TExpr) → FineReturned fs vars answer (Some x) → AnswerRated answer x → AnswerTree answer x
+  returned_tree None x f r = absurd f
+  returned_tree (Some t) x f r = (operand_tree fs vars t.rate t.elem x f.1 r, expr_tree fs vars x f.0 r.1)
+
+  module _ (answer : Option Ty) where
+    mutual
+      pub stmt_tree : (x : TStmt) → FineStmt fs vars answer x → StmtRated answer x → StmtTree answer x
+      stmt_tree (t_block b) f r = block_tree b f r
+      stmt_tree (t_declare xs sp) f r = items_tree fs vars xs f r
+      stmt_tree (t_simple x sp) f r = simple_tree fs vars x f r
+      stmt_tree (t_if k n e x sp) f r = (expr_tree fs vars e f.1.0 r.0, stmt_tree x f.2 r.1, f.1.1)
+      stmt_tree (t_if_else k n e x y sp) f r = (expr_tree fs vars e f.1.0 r.0, stmt_tree x f.2 r.1, stmt_tree y f.3 r.2, f.1.1)
+      stmt_tree (t_while k n e x sp) f r = ((expr_tree fs vars e f.1.0 r.0, f.1.1), stmt_tree x f.2 r.1)
+      stmt_tree (t_do k n x e sp) f r = ((expr_tree fs vars e f.2.0 r.1, f.2.1), stmt_tree x f.1 r.0)
+      stmt_tree (t_for k n first e step i x sp) f r = (first_tree first f.2 r.0, test_tree e f.3 r.1, step_tree step f.4 r.2, stmt_tree x f.5 r.3)
+      stmt_tree (t_foreach k n rs x sp) f r = absurd r
+      stmt_tree (t_foreach_active k n i x sp) f r = absurd r
+      stmt_tree (t_unmasked k b sp) f r = absurd r
+      stmt_tree (t_jump j k sp) f r = tt
+      stmt_tree (t_return k None sp) f r = tt
+      stmt_tree (t_return k (Some x) sp) f r = returned_tree answer x f r
+      stmt_tree (t_print k text xs sp) f r = absurd r
+      stmt_tree (t_assert x k sp) f r = absurd r
+
+      pub block_tree : (b : TBlock) → FineBlock fs vars answer b → BlockRated answer b → BlockTree answer b
+      block_tree (t_braces xs sp) f r = stmts_tree xs f r
+
+      stmts_tree : (xs : TStmts) → FineStmts fs vars answer xs → StmtsRated answer xs → StmtsTree answer xs
+      stmts_tree t_no_stmts f r = tt
+      stmts_tree (t_stmt_then x xs) f r = (stmt_tree x f.0 r.0, stmts_tree xs f.1 r.1)

@@ -1,0 +1,112 @@
+//! A function is written call by call. Each number, and the finished code, are as worked out beforehand.
+ghost use Rattle.std.specs.Prelude.{IfOk};
+ghost use Rattle.isp_lower.specs.Header.{HeadingFits};
+ghost use Rattle.isp_typed.specs.Views.{function_of};
+
+use isp_base::{Elem, Gang, Name, Rate, Signature, Span, Ty};
+use isp_code::{Code, Function, Instr, Returns};
+use isp_lower::Emitter;
+use isp_typed::{Holds, Program, TypedBlock, TypedFunction, Variable};
+use std::alloc::{AllocError, Global};
+use std::test::Fail;
+
+const PLACE: Span = Span { start: 3, end: 5 };
+
+// `export void f() { uniform int32 x; }`, whose variable has the first scalar register.
+fn function(alloc: Global) -> Result<TypedFunction, AllocError>
+    ensures { IfOk result (λ f. HeadingFits (function_of f)) }
+{
+    let mut variables = Vec::new(alloc);
+    variables.push(Variable {
+        holds: Holds::Value(Ty {
+            rate: Rate::Uniform,
+            elem: Elem::I32,
+        }),
+        constant: false,
+    })?;
+    Ok(TypedFunction {
+        name: Name::new(String::from_str(alloc, "f")?),
+        span: PLACE,
+        exported: true,
+        signature: Signature {
+            params: Vec::new(alloc),
+            result: None,
+        },
+        params: Vec::new(alloc),
+        result: None,
+        variables,
+        body: TypedBlock {
+            statements: Vec::new(alloc),
+            span: PLACE,
+        },
+    })
+}
+
+// The numbers that calls give, in their order, and the finished code.
+#[derive(Drop)]
+struct Written {
+    register: u32,
+    instruction: u32,
+    place: u32,
+    text: u32,
+    code: Code,
+}
+
+// A function of a fresh register, the second scalar one, and a return; a place and a text.
+fn made(alloc: Global, program: &Program, f: &TypedFunction) -> Result<Written, AllocError>
+    requires { HeadingFits (function_of f.now) }
+{
+    let mut e = Emitter::new(alloc, program);
+    e.begin(f)?;
+    let register = e.fresh(Rate::Uniform, Elem::I64)?;
+    let instruction = e.emit(Instr::Return(None))?;
+    let place = e.place(PLACE)?;
+    let text = e.text(b"hi")?;
+    Ok(Written {
+        register,
+        instruction,
+        place,
+        text,
+        code: e.finish()?,
+    })
+}
+
+fn is_routine(f: &Function) -> bool {
+    f.name.is("f")
+        && f.exported
+        && matches!(f.returns, Returns::Nothing)
+        && f.params.is_empty()
+        && f.locals.is_empty()
+        && f.scalars.as_slice() == [Elem::I32, Elem::I64].as_slice()
+        && f.vectors.is_empty()
+        && f.masks == 3
+        && f.code.len() == 1
+        && matches!(f.code.first(), Some(Instr::Return(None)))
+}
+
+#[test]
+fn one_function(rt: HostRuntime) -> Result<(), Fail> {
+    let alloc = rt.alloc();
+    let program = Program {
+        gang: Gang::W8,
+        functions: Vec::new(alloc),
+    };
+    let f = function(alloc)?;
+    let all = made(alloc, &program, &f)?;
+    assert!(rt;
+        all.register == 1 && all.instruction == 0,
+        "another register or instruction"
+    );
+    assert!(rt; all.place == 0 && all.text == 0, "another place or text");
+    assert!(rt; all.code.gang() == Gang::W8, "another gang");
+    assert!(rt;
+        all.code.places().len() == 1 && all.code.text_count() == 1,
+        "places or texts"
+    );
+    assert!(rt; all.code.functions().len() == 1, "not one function");
+    assert!(rt;
+        all.code.functions().iter().all(is_routine),
+        "another routine"
+    );
+    Ok(())
+}
