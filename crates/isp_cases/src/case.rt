@@ -1,6 +1,6 @@
 //! One record of cases, line by line.
 use crate::found::Found;
-use crate::ways::{accepted, compiled, evaluated, executed};
+use crate::ways::{accepted, compiled, evaluated, executed, worked};
 use isp_base::Gang;
 use isp_testing::{Marked, number, parted, spelt_out};
 use std::alloc::{AllocError, Global};
@@ -60,7 +60,7 @@ impl<'a> Case<'a> {
             "entry" => self.entry = rest,
             "arguments" => self.arguments = spelt_out(self.alloc, rest)?,
             "turns" => self.turns = number(rest).unwrap_or(0),
-            "work" => self.work = number(rest),
+            "work" => self.count(rest, tried)?,
             "writes" => self.output = spelt_out(self.alloc, rest)?,
             "frame" => self.frame = rest,
             "accepts" | "refuses" | "compiles" | "leaves" => self.judge(word, rest, tried)?,
@@ -98,6 +98,21 @@ impl<'a> Case<'a> {
             tried
                 .differences
                 .push(format!(in self.alloc; "{text}: {found}, not {wanted}")?)?;
+        }
+        Ok(())
+    }
+
+    // Tries a line that says the work of the run.
+    fn count(&mut self, rest: &str, tried: &mut Tried) -> Result<(), AllocError> {
+        tried.cases = tried.cases.saturating_add(1);
+        self.work = number(rest);
+        let found = worked(self.alloc, self);
+        if found != self.work {
+            let found = found.unwrap_or(0);
+            tried.differences.push(format!(in self.alloc;
+                "{}: work {found}, not {rest}",
+                self.name
+            )?)?;
         }
         Ok(())
     }

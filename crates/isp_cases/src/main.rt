@@ -5,9 +5,9 @@
 //! - `.` how what comes out was found, for the reader alone;
 //! - `source` the text, where `␤` is a line feed, `␉` a tab, and a trap's place stands between `⟦` and `⟧`;
 //! - `gang` how many instances run it, `entry` the function that is run, `arguments` its arguments in JSON;
-//! - `turns` how many turns each loop may make each time it is entered, `work` the work of that run, `writes` what it writes.
+//! - `turns` how many turns each loop may make each time it is entered, `writes` what the run writes.
 //!
-//! Then comes what must come out: `refused` and the fault of the source, `accepted` where no entry is run, `unbound` and the fault of the
+//! Then comes what must come out: `work` the work of the run; `refused` and the fault of the source, `accepted` where no entry is run, `unbound` and the fault of the
 //! arguments, `ends` and the answer, `traps` with the kind, the instance and the arrays as an answer without a result, or `cut`. Lines
 //! behind it may say other turns and what must come out then.
 //!

@@ -4,7 +4,7 @@ use crate::found::Found;
 use isp_base::{Bound, Signature};
 use isp_bind::{answer, bind};
 use isp_engine::{Ending, Report, compile, execute, front};
-use isp_eval::{Outcome, evaluate};
+use isp_eval::{Outcome, evaluate, work};
 use isp_lex::SourceFault;
 use isp_rates::Checked;
 use std::alloc::{AllocError, Global};
@@ -74,6 +74,14 @@ fn run(
         Err(fault) => Ok(silent(alloc, format!(in alloc; "not evaluated: {fault}")?)),
         Ok(outcome) => told(alloc, signature, outcome),
     }
+}
+
+/// The work of the run of a case, where it runs.
+pub(crate) fn worked(alloc: Global, case: &Case<'_>) -> Option<u64> {
+    let checked = front(alloc, case.marked.source.as_str(), case.gang).ok()?;
+    let signature = checked.signature(case.entry)?;
+    let bound = bind(alloc, signature, case.arguments.as_str()).ok()?;
+    work(alloc, &checked, case.entry, &bound, case.turns).ok()
 }
 
 fn told(alloc: Global, signature: &Signature, outcome: Outcome) -> Result<Found, AllocError> {

@@ -8,10 +8,10 @@ use Rattle.isp_eval.specs.declared.state.Stop.TheVariants as stop
 use Rattle.isp_eval.specs.declared.tasks.Task.{Task}
 
 pub does_comes : (old new : Evaluator) (t : Task) → Does old new t → Comes old new (does old t)
-does_comes old new t d = record { by = λ w. d.by w }
+does_comes old new t d = record { by = λ w. d.by w; counts = λ w k. d.counts w k }
 
 pub traps_halts : (old new : Evaluator) (t : Task) (e : Stop) → (x : Trap) × (e ≡ stop.Trapped x) × Traps old new t x → Halts old new (does old t) e
-traps_halts old new t e h = trapped h.0 h.1 (λ w. h.2.by w)
+traps_halts old new t e h = trapped h.0 h.1 (λ w. h.2.by w) (λ w k. h.2.counts w k)
 
 module _ (old new : Evaluator) (t u : Task) (is : t ≡ u) where
   pub act_comes : Comes old new (does old u) → Comes old new (does old t)

@@ -15,11 +15,13 @@ use Rattle.isp_meaning.specs.Outcomes.{Res, Went, go_on, went_all, then_run, if_
 use Rattle.isp_gang.specs.declared.computed.Computed.TheVariants as computed
 use Rattle.isp_eval.specs.Seen.{state_seen}
 use Rattle.isp_eval.specs.Tasks.{Store, Parts, Goes, First, go, ran, does, rest, Comes, store_seen, parts_seen, left_as, left_too, blocks, runs_all, all_in, run_in}
+use Rattle.isp_eval.specs.declared.counting.Work.{Work}
 use Rattle.isp_eval.specs.declared.state.Evaluator.{Evaluator}
 use Rattle.isp_eval.specs.declared.state.Exits.{Exits}
 use Rattle.isp_eval.specs.declared.state.Sets.{Sets}
 use Rattle.isp_eval.specs.declared.tasks.Statements.{Statements}
 use Rattle.isp_eval.specs.declared.tasks.Task.TheVariants as task
+use Rattle.isp_eval.proofs.Counts.{Adds, counts_same, counts_more}
 use Rattle.isp_eval.proofs.Steps.{go_assoc}
 use Rattle.isp_eval.proofs.Runs.{reran, union_nobody, union_assoc}
 use Rattle.isp_eval.proofs.Branching.{comes_same, leaves}
@@ -81,6 +83,7 @@ module _ (old new : Evaluator) where
               ∙ go_twice (ran (store_seen old w) (run_in (program_of old.program.now) old.turns (store_seen old w).frame (store_seen old w).left (stmt_of x.now) (flag_of set) (state_seen old w))) (does old (task.Statements b)) (rest old)
               ∙ sym (f.by w),
         );
+        counts = λ w k. counts_same old new w f.work k;
       })))
     where
       go_twice : (g : Goes) (h k : Store → Goes) → go (go g h) k ≡ go g (λ r. go (h r) k)
@@ -111,9 +114,9 @@ module _ (old new : Evaluator) where
 block_view : (b : TypedBlock) → block_of b ≡ t_braces (t_stmts (stmts_of b.statements.items)) b.span
 block_view b = fold_out-TypedBlock TStmt TBlock stmt_step block_step b
 
-pub block_comes : (old new : Evaluator) (b : Bor TypedBlock) (set : List Bool) (xs : List TypedStmt) (e : Exits) → xs ≡ b.now.statements.items → flag_of e.broke ≡ nobody → flag_of e.continued ≡ nobody → flag_of e.returned ≡ nobody
-    → Comes old new (runs_all old xs e (flag_of set)) → Comes old new (blocks old (block_of b.now) (flag_of set))
-block_comes old new b set xs e all eb ec eq c =
+pub block_comes : (old new : Evaluator) (work : Work) (one : Adds old work 1) (b : Bor TypedBlock) (set : List Bool) (xs : List TypedStmt) (e : Exits) → xs ≡ b.now.statements.items → flag_of e.broke ≡ nobody → flag_of e.continued ≡ nobody → flag_of e.returned ≡ nobody
+    → Comes (record old { work = work }) new (runs_all old xs e (flag_of set)) → Comes old new (blocks old (block_of b.now) (flag_of set))
+block_comes old new work one b set xs e all eb ec eq c =
     record {
       by = λ w.
           let r = store_seen old w in
@@ -125,6 +128,7 @@ block_comes old new b set xs e all eb ec eq c =
                 ∙ ap (λ (ys : List TypedStmt). go (runs_all old ys e (flag_of set) (store_seen old (w + 1))) (rest old)) (sym all)
                 ∙ (c.by (w + 1)).1,
           );
+      counts = λ w k. c.counts (w + 1) (counts_more old work 1 w one k);
     }
 
 pub none_left : (xs : List TypedStmt) → length xs < 1 → xs ≡ []

@@ -21,13 +21,14 @@ use Rattle.isp_eval.specs.declared.state.Sets.{Sets}
 use Rattle.isp_eval.specs.declared.tasks.Branches.{Branches}
 use Rattle.isp_eval.specs.declared.tasks.Task.{Task}
 use Rattle.isp_eval.specs.declared.tasks.Task.TheVariants as task
-use Rattle.isp_eval.proofs.Steps.{Later, go_assoc, later_rest, later_store}
+use Rattle.isp_eval.proofs.Counts.{work_of, counts_same}
+use Rattle.isp_eval.proofs.Steps.{Later, go_assoc, later_rest, later_store, later_work}
 use Rattle.isp_eval.proofs.Runs.{reran}
 
 module _ (old new : Evaluator) where
   -- what is done with the registers as they are
   pub comes_same : (f g : Store → Goes) → ((w : ℕ) → f (store_seen old w) ≡ g (store_seen old w)) → Comes old new g → Comes old new f
-  comes_same f g e c = record { by = λ w. ((c.by w).0, ap (λ x. go x (rest old)) (e w) ∙ (c.by w).1) }
+  comes_same f g e c = record { by = λ w. ((c.by w).0, ap (λ x. go x (rest old)) (e w) ∙ (c.by w).1); counts = c.counts }
 
   -- a statement has left its members
   pub leaves : (f : Store → Goes) (sets : Sets) (p : Parts) → new ≡ record old { value = computed.One 0; sets = sets } → parts_seen sets ≡ p → ((w : ℕ) → f (store_seen old w) ≡ ran (store_seen old w) (left_as p (state_seen old w))) → Comes old new f
@@ -39,6 +40,7 @@ module _ (old new : Evaluator) where
               ∙ ap (λ q. rest old (record (store_seen old w) { value = One 0; parts = q })) (sym e)
               ∙ sym (ap (λ (x : Evaluator). rest x (store_seen x w)) same),
         );
+        counts = λ w k. counts_same old new w (ap work_of same) k;
       }
 
   pub all_go_on : (set : List Bool) (sets : Sets) (x : Option (Bor TypedStmt)) → x ≡ None → parts_seen sets ≡ all_parts (flag_of set) → new ≡ record old { value = computed.One 0; sets = sets } → Comes old new (runs old x (flag_of set))
@@ -48,7 +50,7 @@ module _ (old new : Evaluator) where
   pub pushes : (t : Task) → new.tasks.items ≡ old.tasks.items ++ t ∷ [] → new ≡ record old { tasks = new.tasks } → Comes old new (does old t)
   pushes t i s =
       let l : Later old new t = record { items = i; same = s } in
-      record { by = λ w. (w, sym (ap₂ (λ (f : Store → Goes) (r : Store). f r) (later_rest old new t l) (later_store old new t l w))) }
+      record { by = λ w. (w, sym (ap₂ (λ (f : Store → Goes) (r : Store). f r) (later_rest old new t l) (later_store old new t l w))); counts = λ w k. counts_same old new w (later_work old new t l) k }
 
   pub run_comes : (y : Bor TypedStmt) (set : List Bool) (x : Option (Bor TypedStmt)) → x ≡ Some y → new.tasks.items ≡ old.tasks.items ++ task.Run y set ∷ [] → new ≡ record old { tasks = new.tasks } → Comes old new (runs old x (flag_of set))
   run_comes y set x some i s = subst (λ z. Comes old new (runs old z (flag_of set))) (sym some) (pushes (task.Run y set) i s)
@@ -66,6 +68,7 @@ module _ (old mid new : Evaluator) where
               ∙ ap (λ (h : Store → Goes). go (f mid (store_seen mid w)) h) (sym (later_rest old mid t l))
               ∙ (c.by w).1,
         );
+        counts = λ w k. c.counts w (counts_same old mid w (later_work old mid t l) k);
       }
 
   pub some_then : (x : Option (Bor TypedStmt)) (set : List Bool) (t : Task) → any (gang_width old.program.now.gang) (flag_of set) ≡ true → mid.tasks.items ≡ old.tasks.items ++ t ∷ [] → mid ≡ record old { tasks = mid.tasks }

@@ -1,5 +1,5 @@
 -- A run is a call, and its outcome is what the call came to.
-use Rattle.std.proofs.Common.{◌≡◌, refl, sym, ap, ap₂, ◌∙◌, subst, ℕ, ◌-◌, List, Option, Some, None, Result, OnOk, IfErr}
+use Rattle.std.proofs.Common.{◌≡◌, refl, sym, ap, ap₂, ◌∙◌, subst, ℕ, ◌-◌, List, Option, Some, None, Result, Ok, Err, OnOk, IfErr}
 use Rattle.std.specs.Prelude.{slice_get}
 use Rattle.isp_base.specs.Arguments.{rows, rows_now}
 use Rattle.isp_base.specs.Outcomes as base
@@ -19,6 +19,7 @@ use Rattle.isp_meaning.specs.Payloads.{Payload}
 use Rattle.isp_meaning.specs.Runs.{answer_as, first_frame, first_state, handed, meaning, outcome_of, state_of}
 use Rattle.isp_meaning.specs.State.{State, Frame}
 use Rattle.isp_gang.specs.Seen.{payload_of}
+use Rattle.isp_eval.specs.Capped.{capped}
 use Rattle.isp_eval.specs.Cut.{rows_cut}
 use Rattle.isp_eval.specs.Ends.{Ends}
 use Rattle.isp_fits.specs.Fits.{RowsFit}
@@ -27,9 +28,10 @@ use Rattle.isp_eval.specs.Seen.{frame_seen, state_seen}
 use Rattle.isp_eval.specs.Settled.{Stands}
 use Rattle.isp_eval.specs.Starts.{Starts}
 use Rattle.isp_eval.specs.Stores.{stores_of}
-use Rattle.isp_eval.specs.Tasks.{given, Halts, store_seen}
+use Rattle.isp_eval.specs.Tasks.{given, Counts, Halts, store_seen}
 use Rattle.isp_eval.specs.declared.state.Evaluator.{Evaluator}
 use Rattle.isp_eval.specs.declared.state.Stop.{Stop}
+use Rattle.isp_eval.specs.declared.state.Stop.TheVariants as stop
 use Rattle.isp_eval.proofs.Fitting.{fits_cut}
 use Rattle.isp_eval.proofs.Settling.{stands}
 
@@ -65,7 +67,7 @@ module _ (e : Evaluator) (p : Program) (n : ℕ) (xs : List Argument) (g : TFunc
       → IfErr r (Halts e new (does_call e (e.left - 1) g (everyone (gang_width e.program.now.gang)) ps)) → Stands r new (meaning p k n xs)
   run_stands new r =
       let call = does_call e (e.left - 1) g (everyone (gang_width e.program.now.gang)) ps in
-      stands e new call (meaning p k n xs) (ap (given (store_seen e 0)) comes_to) r
+      stands e new call (meaning p k n xs) (ap (given (store_seen e 0)) comes_to) starts.counts r
 
 -- ---- the outcome
 
@@ -86,3 +88,14 @@ module _ (e : Evaluator) (xs : List Argument) (t : Option Elem) (w : ℕ) where
       → RowsFit (rows xs) (state_of v).arrays → rs ≡ rows_cut (rows xs) (stores_of e.stores.items) → base.Traps trap rs e.output.items ≡ outcome_of t xs v
   trapped_as v rs trap is fit cut =
       ap (λ (r : List Row). base.Traps trap r e.output.items) (rows_are (Fails trap (state_seen e w)) v rs is fit cut) ∙ ap (outcome_of t xs) (sym is)
+
+-- ---- the work
+
+worked_as : (e : Evaluator) (w : ℕ) (v : Val Payload) → state_of v ≡ state_seen e w → Counts e w → e.work.count ≡ capped (state_of v).work
+worked_as e w v is counts = counts ∙ ap (λ (s : State). capped s.work) (sym is)
+
+pub work_stands : (e : Evaluator) (r : Result (Unit {0}) Stop) (v : Val Payload) → (r ≡ Err stop.Memory → ⊥) → Stands r e v → e.work.count ≡ capped (state_of v).work
+work_stands e (Ok x) v ran s = worked_as e s.0 v (ap state_of s.2) s.1
+work_stands e (Err stop.Memory) v ran s = absurd (ran refl)
+work_stands e (Err (stop.Trapped t)) v ran s = worked_as e s.0 v (ap state_of s.2) s.1
+work_stands e (Err stop.Cut) v ran s = worked_as e s.0 v (ap state_of s.2) s.1

@@ -28,6 +28,7 @@ use Rattle.isp_eval.specs.declared.rounds.Bounds.{Bounds}
 use Rattle.isp_eval.specs.declared.rounds.Members.{Members}
 use Rattle.isp_eval.specs.declared.rounds.Range.{Range}
 use Rattle.isp_eval.specs.declared.rounds.Rounds.{Rounds}
+use Rattle.isp_eval.specs.declared.counting.Work.{Work}
 use Rattle.isp_eval.specs.declared.state.Evaluator.{Evaluator}
 use Rattle.isp_eval.specs.declared.state.Sets.{Sets}
 use Rattle.isp_eval.specs.declared.tasks.Task.{Task}
@@ -35,6 +36,7 @@ use Rattle.isp_eval.specs.declared.tasks.Task.TheVariants as task
 use Rattle.isp_eval.proofs.Runs.{reran, then_ran}
 use Rattle.isp_eval.proofs.Branching.{comes_same, leaves}
 use Rattle.isp_eval.proofs.Changes.{changed_rest, changed_store}
+use Rattle.isp_eval.proofs.Counts.{Adds, work_of, counts_same}
 use Rattle.isp_eval.proofs.Arms.{ticked, value_first, worked}
 use Rattle.isp_eval.proofs.Left.{left_begins, next_run}
 use Rattle.isp_eval.proofs.Members.{lowest_first, none_listed}
@@ -57,6 +59,7 @@ module _ (old mid new : Evaluator) where
                   ∙ sym (ap (λ (h : Store → Goes). go (does mid (task.Run x set) (store_seen mid w)) (λ q. go (does mid t q) h)) (changed_rest old mid f c))
                   ∙ sym (g.by w),
             );
+        counts = λ w n. counts_same old new w (g.work ∙ ap work_of c.same) n;
       }
     where
       after : (g : Goes) (next : Store → Goes) → go g (λ q. go (ran q (k q.frame q.left q.state)) next) ≡ go g (λ q. go (does old t q) next)
@@ -82,10 +85,10 @@ module _ (old : Evaluator) (b : Box Members Global) (index : ℕ) (body : Bor Ty
       members_are r
       ∙ ap (λ ps. ran r (rounds (run_in (program_of old.program.now) old.turns r.frame r.left (stmt_of body.now)) (flag_of set) (map (round_of_one index) ps) r.state)) (none_listed (gang_width old.program.now.gang) (flag_of left) none))
 
-  pub member_goes : (mid new : Evaluator) (p : ℕ) (set1 left1 : List Bool) (d : Box Members Global) → lowest (gang_width old.program.now.gang) (flag_of left) ≡ Some p → flag_of set1 ≡ lone (Some p)
-      → flag_of left1 ≡ without (flag_of left) (flag_of set1) → d.value ≡ record { index = index; body = body; left = left1; set = set } → Changes old mid (written Uniform index (flag_of set1) (One p)) → First mid new (task.Run body set1) (task.Members d)
+  pub member_goes : (mid new : Evaluator) (work : Work) (one : Adds old work 1) (p : ℕ) (set1 left1 : List Bool) (d : Box Members Global) → lowest (gang_width old.program.now.gang) (flag_of left) ≡ Some p → flag_of set1 ≡ lone (Some p)
+      → flag_of left1 ≡ without (flag_of left) (flag_of set1) → d.value ≡ record { index = index; body = body; left = left1; set = set } → Changes (record old { work = work }) mid (written Uniform index (flag_of set1) (One p)) → First mid new (task.Run body set1) (task.Members d)
       → Comes old new (does old (task.Members b))
-  member_goes mid new p set1 left1 d some alone others held c g =
+  member_goes mid new work one p set1 left1 d some alone others held c g =
       comes_same old new (does old (task.Members b)) (λ r. ran r (turn r.frame r.left (tick r.state)))
       (λ w.
       let r = store_seen old w in
@@ -93,18 +96,18 @@ module _ (old : Evaluator) (b : Box Members Global) (index : ℕ) (body : Bor Ty
       ∙ ap (λ ps. ran r (rounds (run_in (program_of old.program.now) old.turns r.frame r.left (stmt_of body.now)) (flag_of set) (map (round_of_one index) ps) r.state)) (lowest_first (gang_width old.program.now.gang) (flag_of left) p some)
       ∙ ap (λ (a : Mask). ran r (go_on (run_in (program_of old.program.now) old.turns r.frame r.left (stmt_of body.now) a (written Uniform index a (One p) (tick r.state))) (λ s g b c q. actives_in (without (flag_of left) a) r.frame r.left s))) (sym alone)
       ∙ ap (λ (a : Mask). ran r (go_on (run_in (program_of old.program.now) old.turns r.frame r.left (stmt_of body.now) (flag_of set1) (written Uniform index (flag_of set1) (One p) (tick r.state))) (λ s g b c q. actives_in a r.frame r.left s))) (sym others))
-      (ticked old new turn
-      (round_goes old mid new (written Uniform index (flag_of set1) (One p)) body set1 (task.Members d) (actives_in (flag_of left1)) c
+      (ticked old new turn work one
+      (round_goes (record old { work = work }) mid new (written Uniform index (flag_of set1) (One p)) body set1 (task.Members d) (actives_in (flag_of left1)) c
       (λ r. ap (λ (m : Members). ran r (rounds (run_in (program_of old.program.now) old.turns r.frame r.left (stmt_of m.body.now)) (flag_of m.set) (active_rounds (gang_width old.program.now.gang) m.index (flag_of m.left)) r.state)) held) g))
     where
       turn : Frame → ℕ → State → Res
       turn fr l s = go_on (run_in (program_of old.program.now) old.turns fr l (stmt_of body.now) (flag_of set1) (written Uniform index (flag_of set1) (One p) s)) (λ s1 g b c q. actives_in (flag_of left1) fr l s1)
 
-pub active_comes : (old new : Evaluator) (b : Box Members Global) (index : ℕ) (body : Bor TypedStmt) (set : List Bool) → b.value ≡ record { index = index; body = body; left = set; set = set }
-    → Comes old new (does old (task.Members b)) → Comes old new (actives old index body (flag_of set))
-active_comes old new b index body set is c =
-    ticked old new (actives_in old b index body set set is (flag_of set))
-    (comes_same old new (λ r. ran r (actives_in old b index body set set is (flag_of set) r.frame r.left r.state)) (does old (task.Members b)) (λ w. sym (members_are old b index body set set is (store_seen old w))) c)
+pub active_comes : (old new : Evaluator) (work : Work) (one : Adds old work 1) (b : Box Members Global) (index : ℕ) (body : Bor TypedStmt) (set : List Bool) → b.value ≡ record { index = index; body = body; left = set; set = set }
+    → Comes (record old { work = work }) new (does old (task.Members b)) → Comes old new (actives old index body (flag_of set))
+active_comes old new work one b index body set is c =
+    ticked old new (actives_in old b index body set set is (flag_of set)) work one
+    (comes_same (record old { work = work }) new (λ r. ran r (actives_in old b index body set set is (flag_of set) r.frame r.left r.state)) (does old (task.Members b)) (λ w. sym (members_are old b index body set set is (store_seen old w))) c)
 
 -- ---- the bounds of a foreach
 
@@ -128,10 +131,10 @@ one_more (Fails t s) x before k = refl
 one_more (Stops s) x before k = refl
 
 module _ (old new : Evaluator) (body : Bor TypedStmt) (set : List Bool) where
-  pub foreach_comes : (rs : List TRange) (done : List Range) → done ≡ [] → Comes old new (bounds_from old rs (map range_seen done) body (flag_of set)) → Comes old new (foreaches old rs body (flag_of set))
-  foreach_comes rs done none c =
-      ticked old new (bounds_in old rs [] body (flag_of set))
-      (subst (λ (ds : List Range). Comes old new (bounds_from old rs (map range_seen ds) body (flag_of set))) none c)
+  pub foreach_comes : (work : Work) (one : Adds old work 1) (rs : List TRange) (done : List Range) → done ≡ [] → Comes (record old { work = work }) new (bounds_from old rs (map range_seen done) body (flag_of set)) → Comes old new (foreaches old rs body (flag_of set))
+  foreach_comes work one rs done none c =
+      ticked old new (bounds_in old rs [] body (flag_of set)) work one
+      (subst (λ (ds : List Range). Comes (record old { work = work }) new (bounds_from old rs (map range_seen ds) body (flag_of set))) none c)
 
   pub bounds_end : (rs : List TRange) (before : List Meaning.Range) → rs ≡ [] → Comes old new (begins old before body (flag_of set)) → Comes old new (bounds_from old rs before body (flag_of set))
   bounds_end rs before none c =
@@ -193,12 +196,13 @@ module _ (old new : Evaluator) (b : Box Bounds Global) where
 abbrev runs_in : List Round → Bor TypedStmt → List Bool → Evaluator → Frame → ℕ → State → Res
 runs_in xs body set e fr l s = rounds (run_in (program_of e.program.now) e.turns fr l (stmt_of body.now)) (flag_of set) xs s
 
-pub begins_goes : (old new : Evaluator) (b : Box Rounds Global) (rs : List Range) (v : Vec Range Global) (body : Bor TypedStmt) (set : List Bool) → v.items ≡ restarted 0 rs → b.value ≡ record { ranges = v; body = body; set = set }
-    → Comes old new (does old (task.Rounds b)) → Comes old new (begins old (map range_seen rs) body (flag_of set))
-begins_goes old new b rs v body set anew held c =
+pub begins_goes : (old new : Evaluator) (work : Work) (b : Box Rounds Global) (rs : List Range) (v : Vec Range Global) (body : Bor TypedStmt) (set : List Bool) → v.items ≡ restarted 0 rs → b.value ≡ record { ranges = v; body = body; set = set }
+    → Adds old work (counted (gang_width old.program.now.gang) 1 (map range_seen rs))
+    → Comes (record old { work = work }) new (does old (task.Rounds b)) → Comes old new (begins old (map range_seen rs) body (flag_of set))
+begins_goes old new work b rs v body set anew held more c =
     let xs = foreach_rounds (gang_width old.program.now.gang) (map range_seen rs) in
-    worked old new (runs_in xs body set old) (counted (gang_width old.program.now.gang) 1 (map range_seen rs))
-    (comes_same old new (λ r. ran r (runs_in xs body set old r.frame r.left r.state)) (does old (task.Rounds b))
+    worked old new (runs_in xs body set old) (counted (gang_width old.program.now.gang) 1 (map range_seen rs)) work more
+    (comes_same (record old { work = work }) new (λ r. ran r (runs_in xs body set old r.frame r.left r.state)) (does old (task.Rounds b))
     (λ w.
     let r = store_seen old w in
     sym (ap (λ (d : Rounds). ran r (rounds (run_in (program_of old.program.now) old.turns r.frame r.left (stmt_of d.body.now)) (flag_of d.set) (map round_of_run (runs_left (gang_width old.program.now.gang) d.ranges.items)) r.state)) held

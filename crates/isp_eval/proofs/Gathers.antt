@@ -21,11 +21,13 @@ use Rattle.isp_gang.specs.declared.computed.Computed.{Computed}
 use Rattle.isp_eval.specs.Passing.{gathers, gathers_all}
 use Rattle.isp_eval.specs.Seen.{state_seen}
 use Rattle.isp_eval.specs.Tasks.{Store, Goes, First, Comes, Does, go, go_with, given, rest, gather, gathered, value_at, calls_in, gang_of, store_seen}
+use Rattle.isp_eval.specs.declared.counting.Work.{Work}
 use Rattle.isp_eval.specs.declared.state.Evaluator.{Evaluator}
 use Rattle.isp_eval.specs.declared.tasks.Gathering.{Gathering}
 use Rattle.isp_eval.specs.declared.tasks.Gathering.TheVariants as gathering
 use Rattle.isp_eval.specs.declared.tasks.Task.TheVariants as task
 use Rattle.isp_eval.proofs.Branching.{comes_same, pushes}
+use Rattle.isp_eval.proofs.Counts.{Adds, work_of, counts_same, counts_more}
 use Rattle.isp_eval.proofs.Nodes.{valued}
 
 module _ (program : Program) (most : ℕ) where
@@ -66,6 +68,7 @@ module _ (old new : Evaluator) where
               ∙ gather_next (program_of old.program.now) old.turns g (expr_of x.now) (exprs_of ys.now) (map payload_of before.items) (flag_of set) (store_seen old w) (rest old) (value_at (program_of old.program.now) old.turns (store_seen old w) (expr_of x.now) (flag_of set) (state_seen old w))
               ∙ sym (f.by w),
         );
+        counts = λ w k. counts_same old new w f.work k;
       }
 
   -- one more value was found
@@ -77,12 +80,13 @@ module _ (old new : Evaluator) where
           ap (λ ms. go (gathers old g (exprs_of ys.now) ms (flag_of set) (store_seen old w)) (rest old)) (sym (ap (map payload_of) is ∙ map-append payload_of before.items (old.value ∷ [])))
               ∙ (c.by w).1,
         );
+        counts = c.counts;
       }
 
   -- the library has given its value
   pub library_comes : (f : Library) (e : Elem) (a : Mask) (ms : List Payload) (g : Gathering) → g ≡ gathering.Library f e → new ≡ record old { value = new.value } → payload_of new.value ≡ library_value (gang_width old.program.now.gang) e a f (argument ms 0) (argument ms 1) (argument ms 2) → Comes old new (gathers_all old g a ms)
   library_comes f e a ms g is same given_is =
-      subst (λ k. Comes old new (gathers_all old k a ms)) (sym is) (record { by = λ w. (w, valued old new same _ given_is w) })
+      subst (λ k. Comes old new (gathers_all old k a ms)) (sym is) (record { by = λ w. (w, valued old new same _ given_is w); counts = λ w k. counts_same old new w (ap work_of same) k })
 
 -- ---- nodes
 
@@ -94,9 +98,9 @@ library_found program most f e a r t (Gives ms s) = refl
 library_found program most f e a r t (Fails x s) = refl
 library_found program most f e a r t (Stops s) = refl
 
-pub library_node : (old new : Evaluator) (x : Bor TypedExpr) (set : List Bool) (f : Library) (e : Elem) (xs : List TypedExpr) (done : Vec Computed Global) (t : Ty) (sp : Span) → expr_of x.now ≡ t_library f e (t_exprs (exprs_of xs)) t sp → done.items ≡ []
-    → Comes old new (gathers old (gathering.Library f e) (exprs_of xs) (map payload_of done.items) (flag_of set)) → Does old new (task.Value x set)
-library_node old new x set f e xs done t sp is none c =
+pub library_node : (old new : Evaluator) (work : Work) (one : Adds old work 1) (x : Bor TypedExpr) (set : List Bool) (f : Library) (e : Elem) (xs : List TypedExpr) (done : Vec Computed Global) (t : Ty) (sp : Span) → expr_of x.now ≡ t_library f e (t_exprs (exprs_of xs)) t sp → done.items ≡ []
+    → Comes (record old { work = work }) new (gathers old (gathering.Library f e) (exprs_of xs) (map payload_of done.items) (flag_of set)) → Does old new (task.Value x set)
+library_node old new work one x set f e xs done t sp is none c =
     record {
       by = λ w. (
         (c.by (w + 1)).0,
@@ -105,13 +109,14 @@ library_node old new x set f e xs done t sp is none c =
             ∙ sym (ap (λ ys. go (gathers old (gathering.Library f e) (exprs_of xs) (map payload_of ys) (flag_of set) (store_seen old (w + 1))) (rest old)) none)
             ∙ (c.by (w + 1)).1,
       );
+      counts = λ w k. c.counts (w + 1) (counts_more old work 1 w one k);
     }
 
 pub call_node : (old new : Evaluator) (x : Bor TypedExpr) (c : Bor TypedCall) (set : List Bool) (t : Ty) → expr_of x.now ≡ t_call (call_of c.now) t → new.tasks.items ≡ old.tasks.items ++ task.Call c set ∷ [] → new ≡ record old { tasks = new.tasks } → Does old new (task.Value x set)
 call_node old new x c set t is i s =
     let k = pushes old new (task.Call c set) i s in
-    record { by = λ w. ((k.by w).0, ap (λ n. go (given (store_seen old w) (value_at (program_of old.program.now) old.turns (store_seen old w) n (flag_of set) (state_seen old w))) (rest old)) is ∙ (k.by w).1) }
+    record { by = λ w. ((k.by w).0, ap (λ n. go (given (store_seen old w) (value_at (program_of old.program.now) old.turns (store_seen old w) n (flag_of set) (state_seen old w))) (rest old)) is ∙ (k.by w).1); counts = k.counts }
 
 -- a task that is left to its turn
 pub itself : (old new : Evaluator) (x : Bor TypedExpr) (set : List Bool) → new.tasks.items ≡ old.tasks.items ++ task.Value x set ∷ [] → new ≡ record old { tasks = new.tasks } → Does old new (task.Value x set)
-itself old new x set i s = let k = pushes old new (task.Value x set) i s in record { by = λ w. k.by w }
+itself old new x set i s = let k = pushes old new (task.Value x set) i s in record { by = λ w. k.by w; counts = λ w c. k.counts w c }

@@ -32,6 +32,7 @@ use Rattle.isp_eval.specs.Seen.{answer_in, frame_seen, state_seen, variables_see
 use Rattle.isp_eval.specs.Stores.{stores_of}
 use Rattle.isp_eval.specs.Tasks.{Store, Goes, First, Halts, trapped, cut, Comes, Does, finish, go, given, ran, does, rest, hand, value_at, calls_in, gang_of, store_seen, parts_seen, blocks}
 use Rattle.isp_eval.specs.declared.activation.Activation.{Activation}
+use Rattle.isp_eval.specs.declared.counting.Work.{Work}
 use Rattle.isp_eval.specs.declared.state.Evaluator.{Evaluator}
 use Rattle.isp_eval.specs.declared.state.Sets.{Sets}
 use Rattle.isp_eval.specs.declared.state.Stop.{Stop}
@@ -41,6 +42,7 @@ use Rattle.isp_eval.specs.declared.tasks.Passed.TheVariants as rust_passed
 use Rattle.isp_eval.specs.declared.tasks.Task.TheVariants as task
 use Rattle.isp_eval.proofs.Begun.{below_taken}
 use Rattle.isp_eval.proofs.Branching.{comes_same, pushes}
+use Rattle.isp_eval.proofs.Counts.{Adds, work_of, counts_same, counts_more}
 use Rattle.isp_eval.proofs.Steps.{pushed, regiven}
 use Rattle.isp_eval.proofs.Turns.{halts_same}
 
@@ -74,10 +76,10 @@ module _ (program : Program) (most : ℕ) where
   hand_next f span xs ps a r next (Stops s) = refl
 
 module _ (old : Evaluator) (c : Bor TypedCall) (set : List Bool) where
-  pub call_does : (new : Evaluator) (ys : Bor (List TypedArgument)) (done : Vec rust_passed_type.Passed Global) → ys.now ≡ c.now.arguments.items → done.items ≡ []
-      → new.tasks.items ≡ old.tasks.items ++ task.Arguments c ys done set ∷ [] → new ≡ record old { tasks = new.tasks } → Does old new (task.Call c set)
-  call_does new ys done all none i s =
-      let k = pushes old new (task.Arguments c ys done set) i s in
+  pub call_does : (new : Evaluator) (work : Work) (one : Adds old work 1) (ys : Bor (List TypedArgument)) (done : Vec rust_passed_type.Passed Global) → ys.now ≡ c.now.arguments.items → done.items ≡ []
+      → new.tasks.items ≡ old.tasks.items ++ task.Arguments c ys done set ∷ [] → new ≡ record old { work = work; tasks = new.tasks } → Does old new (task.Call c set)
+  call_does new work one ys done all none i s =
+      let k = pushes (record old { work = work }) new (task.Arguments c ys done set) i s in
       record {
         by = λ w.
             let r = store_seen old w in
@@ -90,6 +92,7 @@ module _ (old : Evaluator) (c : Bor TypedCall) (set : List Bool) where
                   ∙ sym (ap₂ (λ (xs : List TypedArgument) (ds : List rust_passed_type.Passed). go (hand (program_of old.program.now) old.turns (call_of c.now) (arguments_of xs) (map passed_seen ds) a r') (rest old)) all none)
                   ∙ (k.by (w + 1)).1,
             );
+        counts = λ w n. k.counts (w + 1) (counts_more old work 1 w one n);
       }
 
   module _ (new : Evaluator) (ys : Bor (List TypedArgument)) (done : Vec rust_passed_type.Passed Global) where
@@ -103,7 +106,7 @@ module _ (old : Evaluator) (c : Bor TypedCall) (set : List Bool) where
     pub no_argument : (xs : List rust_passed_type.Passed) → ys.now ≡ [] → xs ≡ done.items → Comes old new (goes_in old c.now.function c.now.span (flag_of set) (map passed_seen xs)) → Does old new (task.Arguments c ys done set)
     no_argument xs none is k =
         let h = comes_same old new (does old (task.Arguments c ys done set)) (goes_in old c.now.function c.now.span (flag_of set) (map passed_seen xs)) (enters xs none is) k in
-        record { by = λ w. h.by w }
+        record { by = λ w. h.by w; counts = λ w n. h.counts w n }
 
     pub no_argument_halts : (xs : List rust_passed_type.Passed) (e : Stop) → ys.now ≡ [] → xs ≡ done.items → Halts old new (goes_in old c.now.function c.now.span (flag_of set) (map passed_seen xs)) e → Halts old new (does old (task.Arguments c ys done set)) e
     no_argument_halts xs e none is h = halts_same old new (does old (task.Arguments c ys done set)) (goes_in old c.now.function c.now.span (flag_of set) (map passed_seen xs)) e (enters xs none is) h
@@ -124,13 +127,14 @@ module _ (old : Evaluator) (c : Bor TypedCall) (set : List Bool) where
                     ∙ ap (λ (h : Store → Goes). go (does old (task.Value x set) r) h) (fun_ext (λ q. ap (λ g. go g (rest old)) (sym (hand_is (program_of old.program.now) old.turns c.now (arguments_of zs.now) (ps ++ Values q.value ∷ []) a q))))
                     ∙ sym (f.by w),
               );
+          counts = λ w n. counts_same old new w f.work n;
         }
 
     -- the next argument is an array: it counts, and is its store
-    pub named_argument : (zs : Bor (List TypedArgument)) (y : TypedArgument) (b : ArrayVariable) (sp : Span) (n : ℕ) (after : Vec rust_passed_type.Passed Global) → ys.now ≡ y ∷ zs.now → argument_of y ≡ t_by_name b sp
-        → n ≡ (frame_seen old.here).named b.number → after.items ≡ done.items ++ rust_passed.Store n ∷ [] → new.tasks.items ≡ old.tasks.items ++ task.Arguments c zs after set ∷ [] → new ≡ record old { tasks = new.tasks } → Does old new (task.Arguments c ys done set)
-    named_argument zs y b sp n after is seen store more i s =
-        let k = pushes old new (task.Arguments c zs after set) i s in
+    pub named_argument : (work : Work) (one : Adds old work 1) (zs : Bor (List TypedArgument)) (y : TypedArgument) (b : ArrayVariable) (sp : Span) (n : ℕ) (after : Vec rust_passed_type.Passed Global) → ys.now ≡ y ∷ zs.now → argument_of y ≡ t_by_name b sp
+        → n ≡ (frame_seen old.here).named b.number → after.items ≡ done.items ++ rust_passed.Store n ∷ [] → new.tasks.items ≡ old.tasks.items ++ task.Arguments c zs after set ∷ [] → new ≡ record old { work = work; tasks = new.tasks } → Does old new (task.Arguments c ys done set)
+    named_argument work one zs y b sp n after is seen store more i s =
+        let k = pushes (record old { work = work }) new (task.Arguments c zs after set) i s in
         record {
           by = λ w.
               let r = store_seen old w in
@@ -146,6 +150,7 @@ module _ (old : Evaluator) (c : Bor TypedCall) (set : List Bool) where
                     ∙ ap (λ (qs : List Passed). go (hand (program_of old.program.now) old.turns (call_of c.now) (arguments_of zs.now) qs a r') (rest old)) (ap (λ j. ps ++ PassedStore j ∷ []) (sym store) ∙ sym (ap (map passed_seen) more ∙ map-append passed_seen done.items (rust_passed.Store n ∷ [])))
                     ∙ (k.by (w + 1)).1,
               );
+          counts = λ w m. k.counts (w + 1) (counts_more old work 1 w one m);
         }
 
     -- an argument was found
@@ -158,6 +163,7 @@ module _ (old : Evaluator) (c : Bor TypedCall) (set : List Bool) where
             ap (λ ps. go (hand (program_of old.program.now) old.turns (call_of c.now) (arguments_of ys.now) ps (flag_of set) (store_seen old w)) (rest old)) (sym (ap (map passed_seen) more ∙ map-append passed_seen done.items (rust_passed.Value old.value ∷ [])))
                 ∙ (k.by w).1,
           );
+          counts = k.counts;
         }
 
 -- ---- the function that is called
@@ -171,7 +177,7 @@ module _ (old : Evaluator) (f : ℕ) (span : Span) (set : List Bool) (ps : List 
   pub no_call_left : (e : Stop) (i : ℕ) → old.left ≡ 0 → i ≡ or_zero (lowest (gang_width old.program.now.gang) (flag_of set)) → e ≡ stop.Trapped (trap Depth span i) → Halts old old (goes_in old f span (flag_of set) ps) e
   no_call_left e i none first is =
       trapped (trap Depth span (or_zero (lowest (gang_width old.program.now.gang) (flag_of set)))) (is ∙ ap (λ j. stop.Trapped (trap Depth span j)) first)
-      (λ w. (w, ap (λ n. given (store_seen old w) (calls_at (program_of old.program.now) old.turns n f span (flag_of set) ps (frame_seen old.here) (state_seen old w))) none))
+      (λ w. (w, ap (λ n. given (store_seen old w) (calls_at (program_of old.program.now) old.turns n f span (flag_of set) ps (frame_seen old.here) (state_seen old w))) none)) (λ w k. k)
 
   found : (n : ℕ) (o : Option TypedFunction) → old.left ≡ suc n → slice_get old.program.now.functions.items f ≡ o → (w : ℕ)
       → goes_in old f span (flag_of set) ps (store_seen old w) ≡ given (store_seen old w) (called (program_of old.program.now) old.turns (calls_at (program_of old.program.now) old.turns n) (option_map function_of o) (flag_of set) ps (frame_seen old.here) (state_seen old w))
@@ -180,7 +186,7 @@ module _ (old : Evaluator) (f : ℕ) (span : Span) (set : List Bool) (ps : List 
       ∙ ap (λ q. given (store_seen old w) (called (program_of old.program.now) old.turns (calls_at (program_of old.program.now) old.turns n) q (flag_of set) ps (frame_seen old.here) (state_seen old w))) (got old.program.now.functions.items f ∙ ap (option_map function_of) is)
 
   pub no_function : (n : ℕ) → old.left ≡ suc n → slice_get old.program.now.functions.items f ≡ None → Halts old old (goes_in old f span (flag_of set) ps) stop.Cut
-  no_function n more none = cut refl (λ w. (w, found n None more none w))
+  no_function n more none = cut refl (λ w. (w, found n None more none w)) (λ w k. k)
 
   pub function_enters : (new : Evaluator) (n : ℕ) (g : TypedFunction) → old.left ≡ suc n → slice_get old.program.now.functions.items f ≡ Some g → Comes old new (does_call old n (function_of g) (flag_of set) ps) → Comes old new (goes_in old f span (flag_of set) ps)
   function_enters new n g more is k = comes_same old new (goes_in old f span (flag_of set) ps) (does_call old n (function_of g) (flag_of set) ps) (found n (Some g) more is) k
@@ -219,6 +225,7 @@ begin_comes old p new f ps set b h l st i s own cutoff fr state k =
                 ∙ sym (ap (λ (e : Evaluator). go (blocks e (block_of f.now.body) a (store_seen p w)) (finish (program_of e.program.now) e.turns p.tasks.items)) s)
                 ∙ (k.by w).1,
           );
+      counts = λ w n. k.counts w (counts_same old p w (ap work_of s) n);
     }
 
 pub resume_does : (old : Evaluator) (caller : Box Activation Global) (left : ℕ) (sets : Sets) (set : List Bool) (v : Computed) (h : Activation) (st : Vec (Vec ℕ Global) Global) → h ≡ caller.value → ((w : ℕ) → payload_of v ≡ answer_of (answer_in old.here.function) (flag_of set) (state_seen old w))
@@ -231,4 +238,5 @@ resume_does old caller left sets set v h st own answer cutoff =
             ap (λ (z : Activation). on z (below (length z.sizes.items) (stores_of old.stores.items)) (answer_of (answer_in old.here.function) (flag_of set) (state_seen old w))) (sym own)
                 ∙ ap₂ (λ (t : ℕ → ℕ → ℕ) (m : Payload). on h t m) (sym (ap stores_of cutoff ∙ below_taken (λ x. values_of x.items) (length h.sizes.items) old.stores.items)) (sym (answer w)),
           );
+      counts = λ w k. k;
     }

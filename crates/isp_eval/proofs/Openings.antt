@@ -50,9 +50,9 @@ counted [] = refl
 counted (r ∷ rs) = ap suc (counted rs)
 
 pub starts : (p : Bor Program) (turns : ℕ) (xs : List Argument) (e : Evaluator) (vs : List (Vec ℕ Global)) (ns : List ℕ) → map (λ (v : Vec ℕ Global). v.items) vs ≡ map (λ (r : Row). r.bits) (rows xs) → ns ≡ map (λ (r : Row). length r.bits) (rows xs)
-    → e.program ≡ p → e.turns ≡ turns → e.left ≡ 256 → frame_seen e.here ≡ record (frame_seen e.here) { sizes = values_of ns; opened = length ns; own_sizes = λ v. 0; answer = None } → state_seen e 0 ≡ nothing_written (stores_of vs) → e.tasks.items ≡ []
+    → e.program ≡ p → e.turns ≡ turns → e.left ≡ 256 → frame_seen e.here ≡ record (frame_seen e.here) { sizes = values_of ns; opened = length ns; own_sizes = λ v. 0; answer = None } → state_seen e 0 ≡ nothing_written (stores_of vs) → e.tasks.items ≡ [] → e.work.count ≡ 0
     → Starts (program_of p.now) turns xs e
-starts p turns xs e vs ns vi ni ep et el ef es en =
+starts p turns xs e vs ns vi ni ep et el ef es en ew =
     record {
       program = ap (λ (q : Bor Program). program_of q.now) ep;
       turns = et;
@@ -60,4 +60,5 @@ starts p turns xs e vs ns vi ni ep et el ef es en =
       frame = ef ∙ ap₂ (λ (s : ℕ → ℕ) (n : ℕ). record (first_frame xs) { named = (frame_seen e.here).named; sizes = s; opened = n }) (ap values_of ni ∙ fun_ext (sizes_are (rows xs))) (ap length ni ∙ counted (rows xs));
       state = es ∙ ap nothing_written (fun_ext (λ b. fun_ext (λ i. stores_are vs b i ∙ ap (λ ys. bits_at ys b i) vi ∙ rows_are (rows xs) b i)));
       nothing = en;
+      counts = ew;
     }

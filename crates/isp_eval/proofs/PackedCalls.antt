@@ -30,6 +30,7 @@ use Rattle.isp_eval.specs.Passing.{packs, packs_from}
 use Rattle.isp_eval.specs.Seen.{frame_seen, state_seen}
 use Rattle.isp_eval.specs.Stores.{stores_of}
 use Rattle.isp_eval.specs.Tasks.{Store, Goes, First, Halts, refused, trapped, cut, Comes, Does, Changes, go, given, does, rest, pack, value_at, store_seen}
+use Rattle.isp_eval.specs.declared.counting.Work.{Work}
 use Rattle.isp_eval.specs.declared.state.Evaluator.{Evaluator}
 use Rattle.isp_eval.specs.declared.state.Stop.{Stop}
 use Rattle.isp_eval.specs.declared.state.Stop.TheVariants as stop
@@ -37,13 +38,14 @@ use Rattle.isp_eval.specs.declared.tasks.Packing.{Packing}
 use Rattle.isp_eval.specs.declared.tasks.Packing.TheVariants as packing
 use Rattle.isp_eval.specs.declared.tasks.Task.TheVariants as task
 use Rattle.isp_eval.proofs.Changes.{changed_rest, changed_store}
+use Rattle.isp_eval.proofs.Counts.{Adds, work_of, counts_same, counts_more, counts_one}
 use Rattle.isp_eval.proofs.Packs.{stored_within}
 use Rattle.isp_eval.proofs.Steps.{regiven, then_given_in}
 use Rattle.isp_eval.proofs.Turns.{halts_same}
 
 -- ---- the node counts, then comes the base
 
-module _ (old new : Evaluator) (x : Bor TypedExpr) (set : List Bool) (b : Bor TypedBase) (sp : Span) where
+module _ (old new : Evaluator) (work : Work) (one : Adds old work 1) (x : Bor TypedExpr) (set : List Bool) (b : Bor TypedBase) (sp : Span) where
   abbrev pub packed_as : Packing → TExpr
   packed_as (packing.Store y) = t_packed_store (base_of b.now) (expr_of y.now) sp
   packed_as (packing.Load v) = t_packed_load (base_of b.now) v sp
@@ -57,7 +59,7 @@ module _ (old new : Evaluator) (x : Bor TypedExpr) (set : List Bool) (b : Bor Ty
       ap (λ n. given (store_seen old w) (value_at (program_of old.program.now) old.turns (store_seen old w) n (flag_of set) (state_seen old w))) is
       ∙ sym (regiven (store_seen old w) (payload_of old.value) (state_seen old (w + 1)) _)
 
-  pub packed_node : (p : Packing) → expr_of x.now ≡ packed_as p → Comes old new (packs old p (base_of b.now) sp (flag_of set)) → Does old new (task.Value x set)
+  pub packed_node : (p : Packing) → expr_of x.now ≡ packed_as p → Comes (record old { work = work }) new (packs old p (base_of b.now) sp (flag_of set)) → Does old new (task.Value x set)
   packed_node p is c =
       record {
         by = λ w. (
@@ -65,15 +67,16 @@ module _ (old new : Evaluator) (x : Bor TypedExpr) (set : List Bool) (b : Bor Ty
           ap (λ g. go g (rest old)) (node_is p is w)
               ∙ (c.by (w + 1)).1,
         );
+        counts = λ w k. c.counts (w + 1) (counts_more old work 1 w one k);
       }
 
-  pub packed_node_halts : (p : Packing) (e : Stop) → expr_of x.now ≡ packed_as p → Halts old new (packs old p (base_of b.now) sp (flag_of set)) e → Halts old new (does old (task.Value x set)) e
+  pub packed_node_halts : (p : Packing) (e : Stop) → expr_of x.now ≡ packed_as p → Halts (record old { work = work }) new (packs old p (base_of b.now) sp (flag_of set)) e → Halts old new (does old (task.Value x set)) e
   packed_node_halts p e is h = by h
     where
-      by : Halts old new (packs old p (base_of b.now) sp (flag_of set)) e → Halts old new (does old (task.Value x set)) e
+      by : Halts (record old { work = work }) new (packs old p (base_of b.now) sp (flag_of set)) e → Halts old new (does old (task.Value x set)) e
       by (refused r) = refused r
-      by (trapped t i g) = trapped t i (λ w. ((g (w + 1)).0, node_is p is w ∙ (g (w + 1)).1))
-      by (cut i g) = cut i (λ w. ((g (w + 1)).0, node_is p is w ∙ (g (w + 1)).1))
+      by (trapped t i g h) = trapped t i (λ w. ((g (w + 1)).0, node_is p is w ∙ (g (w + 1)).1)) (λ w k. h (w + 1) (counts_more old work 1 w one k))
+      by (cut i g h) = cut i (λ w. ((g (w + 1)).0, node_is p is w ∙ (g (w + 1)).1)) (λ w k. h (w + 1) (counts_more old work 1 w one k))
 
 -- ---- the base
 
@@ -81,7 +84,7 @@ from_none : number I32 0 ≡ pos 0
 unfolding number_to
 from_none = refl
 
-module _ (old new : Evaluator) (p : Packing) (b : TypedBase) (span : Span) (set : List Bool) where
+module _ (old new : Evaluator) (work : Work) (one : Adds old work 1) (p : Packing) (b : TypedBase) (span : Span) (set : List Bool) where
   -- the whole array: from the first element on
   whole_is : (v : ArrayVariable) (sp : Span) → base_of b ≡ t_whole v sp → (w : ℕ) → packs old p (base_of b) span (flag_of set) (store_seen old w) ≡ does (record old { value = computed.One 0 }) (task.Packed p v I32 span set) (store_seen (record old { value = computed.One 0 }) (w + 1))
   whole_is v sp is w =
@@ -89,7 +92,7 @@ module _ (old new : Evaluator) (p : Packing) (b : TypedBase) (span : Span) (set 
       ∙ ap (λ z. given (store_seen old w) (pack (program_of old.program.now) old.turns p v z span (flag_of set) (frame_seen old.here) old.left (state_seen old (w + 1)))) (sym from_none)
       ∙ sym (regiven (store_seen old w) (One 0) (state_seen old (w + 1)) (pack (program_of old.program.now) old.turns p v (number I32 0) span (flag_of set) (frame_seen old.here) old.left (state_seen old (w + 1))))
 
-  pub whole_comes : (v : ArrayVariable) (sp : Span) → base_of b ≡ t_whole v sp → Does (record old { value = computed.One 0 }) new (task.Packed p v I32 span set) → Comes old new (packs old p (base_of b) span (flag_of set))
+  pub whole_comes : (v : ArrayVariable) (sp : Span) → base_of b ≡ t_whole v sp → Does (record old { work = work; value = computed.One 0 }) new (task.Packed p v I32 span set) → Comes old new (packs old p (base_of b) span (flag_of set))
   whole_comes v sp is d =
       record {
         by = λ w. (
@@ -97,15 +100,16 @@ module _ (old new : Evaluator) (p : Packing) (b : TypedBase) (span : Span) (set 
           ap (λ g. go g (rest old)) (whole_is v sp is w)
               ∙ (d.by (w + 1)).1,
         );
+        counts = λ w k. d.counts (w + 1) (counts_more old work 1 w one k);
       }
 
-  pub whole_halts : (v : ArrayVariable) (sp : Span) (e : Stop) → base_of b ≡ t_whole v sp → Halts (record old { value = computed.One 0 }) new (does (record old { value = computed.One 0 }) (task.Packed p v I32 span set)) e → Halts old new (packs old p (base_of b) span (flag_of set)) e
+  pub whole_halts : (v : ArrayVariable) (sp : Span) (e : Stop) → base_of b ≡ t_whole v sp → Halts (record old { work = work; value = computed.One 0 }) new (does (record old { value = computed.One 0 }) (task.Packed p v I32 span set)) e → Halts old new (packs old p (base_of b) span (flag_of set)) e
   whole_halts v sp e is h = by h
     where
-      by : Halts (record old { value = computed.One 0 }) new (does (record old { value = computed.One 0 }) (task.Packed p v I32 span set)) e → Halts old new (packs old p (base_of b) span (flag_of set)) e
+      by : Halts (record old { work = work; value = computed.One 0 }) new (does (record old { value = computed.One 0 }) (task.Packed p v I32 span set)) e → Halts old new (packs old p (base_of b) span (flag_of set)) e
       by (refused r) = refused r
-      by (trapped t i g) = trapped t i (λ w. ((g (w + 1)).0, whole_is v sp is w ∙ (g (w + 1)).1))
-      by (cut i g) = cut i (λ w. ((g (w + 1)).0, whole_is v sp is w ∙ (g (w + 1)).1))
+      by (trapped t i g h) = trapped t i (λ w. ((g (w + 1)).0, whole_is v sp is w ∙ (g (w + 1)).1)) (λ w k. h (w + 1) (counts_more old work 1 w one k))
+      by (cut i g h) = cut i (λ w. ((g (w + 1)).0, whole_is v sp is w ∙ (g (w + 1)).1)) (λ w k. h (w + 1) (counts_more old work 1 w one k))
 
   -- from an index on
   from_next : (v : ArrayVariable) (t : Elem) (r : Store) (s : State) (u : Val Payload) (next : Store → Goes)
@@ -115,7 +119,7 @@ module _ (old new : Evaluator) (p : Packing) (b : TypedBase) (span : Span) (set 
   from_next v t r s (Fails x s1) next = refl
   from_next v t r s (Stops s1) next = refl
 
-  pub from_comes : (v : ArrayVariable) (y : Bor TypedExpr) (t : Elem) (sp : Span) → t ≡ (type_of (expr_of y.now)).elem → base_of b ≡ t_from v (expr_of y.now) sp → First old new (task.Value y set) (task.Packed p v t span set) → Comes old new (packs old p (base_of b) span (flag_of set))
+  pub from_comes : (v : ArrayVariable) (y : Bor TypedExpr) (t : Elem) (sp : Span) → t ≡ (type_of (expr_of y.now)).elem → base_of b ≡ t_from v (expr_of y.now) sp → First (record old { work = work }) new (task.Value y set) (task.Packed p v t span set) → Comes old new (packs old p (base_of b) span (flag_of set))
   from_comes v y t sp typed is f =
       record {
         by = λ w. (
@@ -125,6 +129,7 @@ module _ (old new : Evaluator) (p : Packing) (b : TypedBase) (span : Span) (set 
               ∙ from_next v t (store_seen old w) (state_seen old (w + 1)) (value_at (program_of old.program.now) old.turns (store_seen old w) (expr_of y.now) (flag_of set) (state_seen old (w + 1))) (rest old)
               ∙ sym (f.by (w + 1)),
         );
+        counts = λ w k. counts_one old new work w one f.work k;
       }
 
 -- ---- the first index was found
@@ -140,6 +145,7 @@ store_next old new y v t n span set p is e f =
             (λ fr l m s. bind (checked (lowest (gang_width old.program.now.gang) (packed_outside (extent fr v) (number t n) (flag_of set))) Index span s m) (λ k s1. Gives (One (rank (flag_of set) (gang_width old.program.now.gang))) (packed_kept (gang_width old.program.now.gang) (fr.named v.number) (number t n) (flag_of set) k s1))) (rest old)
             ∙ sym (f.by w),
       );
+      counts = λ w k. counts_same old new w f.work k;
     })
 
 load_is : (old : Evaluator) (v n : ℕ) (b : ArrayVariable) (t : Elem) (span : Span) (set : List Bool) (p : Packing) → p ≡ packing.Load v → n ≡ sole (payload_of old.value) → (w : ℕ) → does old (task.Packed p b t span set) (store_seen old w) ≡ packs_from old (packing.Load v) b (number t n) span (flag_of set) (store_seen old w)
@@ -147,7 +153,7 @@ load_is old v n b t span set p is e w =
     ap₂ (λ (q : Packing) (k : ℕ). given (store_seen old w) (pack (program_of old.program.now) old.turns q b (number t k) span (flag_of set) (frame_seen old.here) old.left (state_seen old w))) is (sym e)
 
 pub load_next : (old new : Evaluator) (v n : ℕ) (b : ArrayVariable) (t : Elem) (span : Span) (set : List Bool) (p : Packing) → p ≡ packing.Load v → n ≡ sole (payload_of old.value) → Comes old new (packs_from old (packing.Load v) b (number t n) span (flag_of set)) → Does old new (task.Packed p b t span set)
-load_next old new v n b t span set p is e c = record { by = λ w. ((c.by w).0, ap (λ g. go g (rest old)) (load_is old v n b t span set p is e w) ∙ (c.by w).1) }
+load_next old new v n b t span set p is e c = record { by = λ w. ((c.by w).0, ap (λ g. go g (rest old)) (load_is old v n b t span set p is e w) ∙ (c.by w).1); counts = c.counts }
 
 pub load_next_halts : (old new : Evaluator) (v n : ℕ) (b : ArrayVariable) (t : Elem) (span : Span) (set : List Bool) (p : Packing) (e : Stop) → p ≡ packing.Load v → n ≡ sole (payload_of old.value) → Halts old new (packs_from old (packing.Load v) b (number t n) span (flag_of set)) e → Halts old new (does old (task.Packed p b t span set)) e
 load_next_halts old new v n b t span set p e is eq h = halts_same old new (does old (task.Packed p b t span set)) (packs_from old (packing.Load v) b (number t n) span (flag_of set)) e (load_is old v n b t span set p is eq) h
@@ -164,21 +170,22 @@ module _ (old : Evaluator) (b : ArrayVariable) (t : Elem) (n : ℕ) (span : Span
       ap (λ k. given (store_seen old w) (bind (checked k Index span (state_seen old (w + 1)) (packed_held ((frame_seen old.here).named b.number) (number t n) (flag_of set) (state_seen old w))) (λ m s. Gives (One (rank (flag_of set) (gang_width old.program.now.gang))) (written Varying v (flag_of set) m s)))) e
 
   -- into a variable
-  pub load_comes : (v : ℕ) (new : Evaluator) (m : Payload) (c : Computed) → offending ≡ None → ((w : ℕ) → m ≡ packed_held ((frame_seen old.here).named b.number) (number t n) (flag_of set) (state_seen old w))
-      → Changes old new (written Varying v (flag_of set) m) → payload_of c ≡ One (rank (flag_of set) (gang_width old.program.now.gang)) → Comes old (record new { value = c }) (packs_from old (packing.Load v) b (number t n) span (flag_of set))
-  load_comes v new m c none is ch e =
+  pub load_comes : (work : Work) (one : Adds old work 1) (v : ℕ) (new : Evaluator) (m : Payload) (c : Computed) → offending ≡ None → ((w : ℕ) → m ≡ packed_held ((frame_seen old.here).named b.number) (number t n) (flag_of set) (state_seen old w))
+      → Changes (record old { work = work }) new (written Varying v (flag_of set) m) → payload_of c ≡ One (rank (flag_of set) (gang_width old.program.now.gang)) → Comes old (record new { value = c }) (packs_from old (packing.Load v) b (number t n) span (flag_of set))
+  load_comes work one v new m c none is ch e =
       record {
         by = λ w. (
           w + 1,
           ap (λ g. go g (rest old)) (loads v None none w)
               ∙ ap₂ (λ (x y : Payload). rest old (record (store_seen old w) { state = written Varying v (flag_of set) x (state_seen old (w + 1)); value = y })) (sym (is w)) (sym e)
-              ∙ sym (ap₂ (λ (h : Store → Goes) (r : Store). h (record r { value = payload_of c })) (changed_rest old new (written Varying v (flag_of set) m) ch) (changed_store old new (written Varying v (flag_of set) m) ch (w + 1))),
+              ∙ sym (ap₂ (λ (h : Store → Goes) (r : Store). h (record r { value = payload_of c })) (changed_rest (record old { work = work }) new (written Varying v (flag_of set) m) ch) (changed_store (record old { work = work }) new (written Varying v (flag_of set) m) ch (w + 1))),
         );
+        counts = λ w k. counts_one old new work w one (ap work_of ch.same) k;
       }
 
-  pub load_halts : (v : ℕ) (e : Stop) (i : ℕ) → offending ≡ Some i → e ≡ stop.Trapped (trap Index span i) → Halts old old (packs_from old (packing.Load v) b (number t n) span (flag_of set)) e
-  load_halts v e i some is =
-      trapped (trap Index span i) is (λ w. (w + 1, loads v (Some i) some w))
+  pub load_halts : (work : Work) (one : Adds old work 1) (v : ℕ) (e : Stop) (i : ℕ) → offending ≡ Some i → e ≡ stop.Trapped (trap Index span i) → Halts old (record old { work = work }) (packs_from old (packing.Load v) b (number t n) span (flag_of set)) e
+  load_halts work one v e i some is =
+      trapped (trap Index span i) is (λ w. (w + 1, loads v (Some i) some w)) (λ w k. counts_more old work 1 w one k)
 
   stores : (o : Option ℕ) → offending ≡ o → (w : ℕ) → does old (task.PackedStore b t n span set) (store_seen old w)
       ≡ given (store_seen old w) (bind (checked o Index span (state_seen old w) (payload_of old.value)) (λ m s. Gives (One (rank (flag_of set) (gang_width old.program.now.gang))) (packed_kept (gang_width old.program.now.gang) ((frame_seen old.here).named b.number) (number t n) (flag_of set) m s)))
@@ -202,7 +209,8 @@ module _ (old : Evaluator) (b : ArrayVariable) (t : Elem) (n : ℕ) (span : Span
               ap (λ x. go x (rest old)) (stores None none w)
                   ∙ ap₂ (λ (x : ℕ → ℕ → ℕ) (y : Payload). rest old (record (store_seen old w) { state = record (state_seen old w) { arrays = x }; value = y })) (sym kept) (sym e),
             );
+        counts = λ w k. k;
       }
 
   pub store_halts : (e : Stop) (i : ℕ) → offending ≡ Some i → e ≡ stop.Trapped (trap Index span i) → Halts old old (does old (task.PackedStore b t n span set)) e
-  store_halts e i some is = trapped (trap Index span i) is (λ w. (w, stores (Some i) some w))
+  store_halts e i some is = trapped (trap Index span i) is (λ w. (w, stores (Some i) some w)) (λ w k. k)

@@ -7,8 +7,10 @@ use Rattle.isp_meaning.specs.State.{State, Frame}
 use Rattle.isp_meaning.specs.Payloads.{Payload}
 use Rattle.isp_meaning.specs.Outcomes.{Val, Gives, Fails, Stops, bind}
 use Rattle.isp_eval.specs.Tasks.{Store, Goes, On, Trapped, Cut, go, given, act, finish, does, rest, First, store_seen}
+use Rattle.isp_eval.specs.declared.counting.Work.{Work}
 use Rattle.isp_eval.specs.declared.state.Evaluator.{Evaluator}
 use Rattle.isp_eval.specs.declared.tasks.Task.{Task}
+use Rattle.isp_eval.proofs.Counts.{work_of}
 
 go_id : (g : Goes) → go g On ≡ g
 go_id (On r) = refl
@@ -41,6 +43,9 @@ module _ (old new : Evaluator) where
   pub later_store : (t : Task) → Later t → (w : ℕ) → store_seen new w ≡ store_seen old w
   later_store t l w = ap (λ e. store_seen e w) l.same
 
+  pub later_work : (t : Task) → Later t → new.work ≡ old.work
+  later_work t l = ap work_of l.same
+
   pub later_does : (t : Task) → Later t → does new ≡ does old
   later_does t l = ap (λ e. does e) l.same
 
@@ -52,7 +57,11 @@ two_later old mid new t u l m w =
     ∙ ap₂ (λ (d : Task → Store → Goes) (f : Store → Goes). go (d u (store_seen old w)) f) (later_does old mid t l) (later_rest old mid t l)
 
 pub two_first : (old mid new : Evaluator) (t u : Task) → mid.tasks.items ≡ old.tasks.items ++ t ∷ [] → mid ≡ record old { tasks = mid.tasks } → new.tasks.items ≡ mid.tasks.items ++ u ∷ [] → new ≡ record mid { tasks = new.tasks } → First old new u t
-two_first old mid new t u i s i' s' = record { by = two_later old mid new t u (record { items = i; same = s }) (record { items = i'; same = s' }) }
+two_first old mid new t u i s i' s' =
+    record {
+      by = two_later old mid new t u (record { items = i; same = s }) (record { items = i'; same = s' });
+      work = ap work_of s' ∙ ap work_of s;
+    }
 
 -- ---- a value, and what is done with it
 

@@ -18,19 +18,21 @@ use Rattle.isp_gang.specs.declared.computed.Computed.TheVariants as computed
 use Rattle.isp_eval.specs.Seen.{state_seen}
 use Rattle.isp_eval.specs.Tasks.{Store, Parts, Goes, Cut, First, Halts, refused, trapped, cut, go, ran, does, rest, Comes, store_seen, body_in, turns_in, tested_in, stepped_in, ends_in, turns_on, tests_on, ends_on, keeps_on, steps_on, turned_on}
 use Rattle.isp_eval.specs.declared.loops.Turning.{Turning}
+use Rattle.isp_eval.specs.declared.counting.Work.{Work}
 use Rattle.isp_eval.specs.declared.state.Evaluator.{Evaluator}
 use Rattle.isp_eval.specs.declared.state.Sets.{Sets}
 use Rattle.isp_eval.specs.declared.state.Stop.{Stop}
 use Rattle.isp_eval.specs.declared.state.Stop.TheVariants as stop
 use Rattle.isp_eval.specs.declared.tasks.Task.TheVariants as task
+use Rattle.isp_eval.proofs.Counts.{Adds, work_of, counts_same, counts_one}
 use Rattle.isp_eval.proofs.Runs.{reran, then_ran, value_ran, done_ran}
 use Rattle.isp_eval.proofs.Branching.{comes_same, leaves, parts_are}
 
 -- what stops the one stops the other
 pub halts_same : (old new : Evaluator) (f g : Store → Goes) (e : Stop) → ((w : ℕ) → f (store_seen old w) ≡ g (store_seen old w)) → Halts old new g e → Halts old new f e
 halts_same old new f g e is (refused m) = refused m
-halts_same old new f g e is (trapped x m h) = trapped x m (λ w. ((h w).0, is w ∙ (h w).1))
-halts_same old new f g e is (cut m h) = cut m (λ w. ((h w).0, is w ∙ (h w).1))
+halts_same old new f g e is (trapped x m h k) = trapped x m (λ w. ((h w).0, is w ∙ (h w).1)) (λ w c. k w c)
+halts_same old new f g e is (cut m h k) = cut m (λ w. ((h w).0, is w ∙ (h w).1)) (λ w c. k w c)
 
 module _ (old new : Evaluator) where
   pub loop_ends : (t : Turning) (sets : Sets) → flag_of sets.went ≡ without (flag_of t.all) (flag_of t.returned) → flag_of sets.exits.broke ≡ nobody → flag_of sets.exits.continued ≡ nobody → flag_of sets.exits.returned ≡ flag_of t.returned
@@ -50,6 +52,7 @@ module _ (old new : Evaluator) where
                   ∙ done_ran r (step_part (gang_width old.program.now.gang) r.frame (calls_at (program_of old.program.now) old.turns r.left) (Some (simple_of x.now)) (flag_of v.live) r.state) (λ fr l s1. tested_in (program_of old.program.now) old.turns fr l v.looping (flag_of v.all) v.left (flag_of v.live) (flag_of v.returned) s1) (rest old)
                   ∙ sym (f.by w),
             );
+        counts = λ w k. counts_same old new w f.work k;
       }) some f
 
   pub no_step : (t : Turning) (b : Box Turning Global) → b.value ≡ t → t.looping.step ≡ None → Comes old new (does old (task.Test b)) → Comes old new (steps_on old t)
@@ -112,11 +115,12 @@ module _ (old new : Evaluator) where
                   ∙ value_ran r (test_part (gang_width old.program.now.gang) r.frame (calls_at (program_of old.program.now) old.turns r.left) (Some (expr_of x.now)) (flag_of v.live) r.state) g (rest old)
                   ∙ sym (f.by w),
             );
+        counts = λ w k. counts_same old new w f.work k;
       }) some f
 
   -- a turn
-  pub turn_goes : (t : Turning) (b : Box Turning Global) (n : ℕ) → t.left ≡ suc n → b.value ≡ record t { left = n } → First old new (task.Run t.looping.body t.live) (task.Turned b) → Comes old new (turns_on old t)
-  turn_goes t b n more is f =
+  pub turn_goes : (work : Work) (one : Adds old work 1) (t : Turning) (b : Box Turning Global) (n : ℕ) → t.left ≡ suc n → b.value ≡ record t { left = n } → First (record old { work = work }) new (task.Run t.looping.body t.live) (task.Turned b) → Comes old new (turns_on old t)
+  turn_goes work one t b n more is f =
       record {
         by = λ w.
             let r = store_seen old w in
@@ -130,11 +134,12 @@ module _ (old new : Evaluator) where
                   ∙ ap (λ (u : Turning). go (does old (task.Run t.looping.body t.live) (store_seen old (w + 1))) (λ q. go (turned_on old u q) (rest old))) (sym is)
                   ∙ sym (f.by (w + 1)),
             );
+        counts = λ w k. counts_one old new work w one f.work k;
       }
 
   pub no_turn : (t : Turning) → new ≡ old → t.left ≡ 0 → Halts old new (turns_on old t) stop.Cut
   no_turn t same none =
-      cut refl (λ w. (w, ap (λ (k : ℕ). ran (store_seen old w) (turns_in (program_of old.program.now) old.turns (store_seen old w).frame (store_seen old w).left t.looping (flag_of t.all) k (flag_of t.live) (flag_of t.returned) (state_seen old w))) none ∙ ap (λ (x : Evaluator). Cut (state_seen x w)) (sym same)))
+      cut refl (λ w. (w, ap (λ (k : ℕ). ran (store_seen old w) (turns_in (program_of old.program.now) old.turns (store_seen old w).frame (store_seen old w).left t.looping (flag_of t.all) k (flag_of t.live) (flag_of t.returned) (state_seen old w))) none ∙ ap (λ (x : Evaluator). Cut (state_seen x w)) (sym same))) (λ w k. counts_same old new w (ap work_of same) k)
 
 -- with no test it is true
 module _ (old mid new : Evaluator) where
@@ -156,12 +161,13 @@ module _ (old mid new : Evaluator) where
               ∙ sym (ap (λ (h : Store → Goes). go (keeps_on mid t (store_seen mid w)) h) (ap (λ (x : Evaluator). rest x) same))
               ∙ (c.by w).1,
         );
+        counts = λ w k. c.counts w (counts_same old mid w (ap work_of same) k);
       }
 
   pub no_test_halts : (t : Turning) (e : Stop) → mid ≡ record old { value = computed.One 1 } → t.looping.test ≡ None → Halts mid new (keeps_on mid t) e → Halts old new (tests_on old t) e
   no_test_halts t e same none (refused m) = refused m
-  no_test_halts t e same none (trapped x m h) = trapped x m (λ w. ((h w).0, untested t same none w ∙ (h w).1))
-  no_test_halts t e same none (cut m h) = cut m (λ w. ((h w).0, untested t same none w ∙ (h w).1))
+  no_test_halts t e same none (trapped x m h k) = trapped x m (λ w. ((h w).0, untested t same none w ∙ (h w).1)) (λ w c. k w (counts_same old mid w (ap work_of same) c))
+  no_test_halts t e same none (cut m h k) = cut m (λ w. ((h w).0, untested t same none w ∙ (h w).1)) (λ w c. k w (counts_same old mid w (ap work_of same) c))
 
 -- what `?` hands on
 pub at_err : {A : Type 0} (r : Result A Stop) (x : Stop) (P : Stop → Type 0) → IsErrAnd r (λ e. e ≡ x) → P x → IfErr r P

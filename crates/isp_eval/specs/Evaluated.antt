@@ -3,7 +3,8 @@ use Rattle.std.specs.Prelude.{◌≡◌, ℕ, List}
 use Rattle.isp_base.specs.Outcomes as base
 use Rattle.isp_base.specs.declared.signature.Argument.{Argument}
 use Rattle.isp_typed.specs.Typed.{Program}
-use Rattle.isp_meaning.specs.Runs.{run_of}
+use Rattle.isp_meaning.specs.Runs.{run_of, work_of}
+use Rattle.isp_eval.specs.Capped.{capped}
 use Rattle.isp_eval.specs.Entered.{Begins, NoneBegins}
 use Rattle.isp_eval.specs.declared.fault.EvalFault.{EvalFault}
 use Rattle.isp_eval.specs.declared.fault.EvalFault.TheVariants.{Memory, NoEntry}
@@ -18,6 +19,10 @@ outcome_seen (Cut output) = base.GoesOn output.items
 -- the outcome is that of the run of n turns of a function with which a run can begin
 abbrev pub IsRun : Program → List ℕ → List Argument → ℕ → Outcome → Type 0
 IsRun program name xs n o = (f : ℕ) × Begins program name xs f × (outcome_seen o ≡ run_of program f n xs)
+
+-- the work of that run, as far as 64 bits count
+abbrev pub IsWork : Program → List ℕ → List Argument → ℕ → ℕ → Type 0
+IsWork program name xs n k = (f : ℕ) × Begins program name xs f × (k ≡ capped (work_of program f n xs))
 
 -- memory may be refused at any time; else an evaluation is refused exactly where no run can begin
 abbrev pub IsRefused : EvalFault → Program → List ℕ → List Argument → Type 0

@@ -1,4 +1,5 @@
 pub mod Arms
+pub mod Capped
 pub mod Cut
 pub mod Ends
 pub mod Entered

@@ -7,6 +7,7 @@ use Rattle.isp_meaning.specs.State.{State}
 use Rattle.isp_meaning.specs.Calls.{most_calls}
 use Rattle.isp_meaning.specs.Runs.{first_frame, first_state}
 use Rattle.isp_eval.specs.Seen.{frame_seen, state_seen}
+use Rattle.isp_eval.specs.Tasks.{Counts}
 use Rattle.isp_eval.specs.declared.state.Evaluator.{Evaluator}
 
 -- nothing but such stores
@@ -23,7 +24,7 @@ nothing_written arrays =
       work = 0;
     }
 
--- Nothing is to be done, the stores are the arrays among the arguments, and nothing else was written. A call looks at no
+-- Nothing is to be done, the stores are the arrays among the arguments, and nothing else was written or counted. A call looks at no
 -- store that its caller names.
 pub record Starts (p : Program) (n : ℕ) (xs : List Argument) (e : Evaluator) : Type 0 where
   pub program : program_of e.program.now ≡ p
@@ -32,3 +33,4 @@ pub record Starts (p : Program) (n : ℕ) (xs : List Argument) (e : Evaluator) :
   pub frame : frame_seen e.here ≡ record (first_frame xs) { named = (frame_seen e.here).named }
   pub state : state_seen e 0 ≡ first_state xs
   pub nothing : e.tasks.items ≡ []
+  pub counts : Counts e 0

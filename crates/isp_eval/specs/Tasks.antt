@@ -31,6 +31,7 @@ use Rattle.isp_meaning.specs.Rounds.{Range, rounds, active_rounds, foreach_round
 use Rattle.isp_meaning.specs.Statements.{block, run, run_all, ranges, test_part, branches, all_go, answered}
 use Rattle.isp_meaning.specs.Calls.{calls_at, resumed, answer_of}
 use Rattle.isp_gang.specs.Seen.{payload_of}
+use Rattle.isp_eval.specs.Capped.{capped}
 use Rattle.isp_eval.specs.Left.{range_seen, runs_left}
 use Rattle.isp_eval.specs.Seen.{frame_seen, state_seen, variables_seen, place_seen, passed_seen}
 use Rattle.isp_eval.specs.declared.state.Evaluator.{Evaluator}
@@ -326,15 +327,23 @@ does e = act (program_of e.program.now) e.turns
 abbrev pub rest : Evaluator → Store → Goes
 rest e = finish (program_of e.program.now) e.turns e.tasks.items
 
--- all that the one has still to do comes to what this and then the other's tasks come to
+-- so much work is what an evaluator counts
+abbrev pub Counts : Evaluator → ℕ → Type 0
+Counts e w = e.work.count ≡ capped w
+
+-- All that the one has still to do, after so much work, comes to what this and then the other's tasks come to, after the
+-- work that the other counts.
 pub record Comes (old new : Evaluator) (f : Store → Goes) : Type 0 where
   pub by : (w : ℕ) → (w' : ℕ) × (go (f (store_seen old w)) (rest old) ≡ rest new (store_seen new w'))
+  pub counts : (w : ℕ) → Counts old w → Counts new (by w).0
 
--- why this stops before its end: memory is refused, it traps, or is cut
+-- why this stops before its end: memory is refused, it traps, or is cut, after the work that is counted
 pub data Halts (old new : Evaluator) (f : Store → Goes) (e : Stop) : Type 0 where
   refused : e ≡ stop.Memory → Halts old new f e
-  trapped : (x : Trap) → e ≡ stop.Trapped x → ((w : ℕ) → (w' : ℕ) × (f (store_seen old w) ≡ Trapped x (state_seen new w'))) → Halts old new f e
-  cut : e ≡ stop.Cut → ((w : ℕ) → (w' : ℕ) × (f (store_seen old w) ≡ Cut (state_seen new w'))) → Halts old new f e
+  trapped : (x : Trap) → e ≡ stop.Trapped x → (by : (w : ℕ) → (w' : ℕ) × (f (store_seen old w) ≡ Trapped x (state_seen new w')))
+      → ((w : ℕ) → Counts old w → Counts new (by w).0) → Halts old new f e
+  cut : e ≡ stop.Cut → (by : (w : ℕ) → (w' : ℕ) × (f (store_seen old w) ≡ Cut (state_seen new w')))
+      → ((w : ℕ) → Counts old w → Counts new (by w).0) → Halts old new f e
 
 -- the state is changed so, and nothing else
 pub record Changes (old new : Evaluator) (f : State → State) : Type 0 where
@@ -365,18 +374,27 @@ declares e x a r = done r (item (gang_of (program_of e.program.now) e.turns) r.f
 -- likewise of a task
 pub record Does (old new : Evaluator) (t : Task) : Type 0 where
   pub by : (w : ℕ) → (w' : ℕ) × (go (does old t (store_seen old w)) (rest old) ≡ rest new (store_seen new w'))
+  pub counts : (w : ℕ) → Counts old w → Counts new (by w).0
 
 -- first the one task, then the other, then what the old one had to do
 pub record First (old new : Evaluator) (u t : Task) : Type 0 where
   pub by : (w : ℕ) → rest new (store_seen new w) ≡ go (does old u (store_seen old w)) (λ r. go (does old t r) (rest old))
+  pub work : new.work ≡ old.work
 
--- likewise, where the first is an expression over a set that may be empty
+-- likewise, where one node more was reached
+pub record Reaches (old new : Evaluator) (u t : Task) : Type 0 where
+  pub by : (w : ℕ) → rest new (store_seen new w) ≡ go (does old u (store_seen old w)) (λ r. go (does old t r) (rest old))
+  pub work : new.work.count ≡ capped (old.work.count + 1)
+
+-- first the one, then the other, where the first is an expression over a set that may be empty
 pub record FirstValue (old new : Evaluator) (x : TExpr) (a : Mask) (t : Task) : Type 0 where
   pub by : (w : ℕ) → rest new (store_seen new w) ≡ go (given (store_seen old w)
       (perhaps (program_of old.program.now) old.turns (store_seen old w) x a (state_seen old w))) (λ r. go (does old t r) (rest old))
+  pub work : new.work ≡ old.work
 
 pub record Traps (old new : Evaluator) (t : Task) (trap : Trap) : Type 0 where
   pub by : (w : ℕ) → (w' : ℕ) × (does old t (store_seen old w) ≡ Trapped trap (state_seen new w'))
+  pub counts : (w : ℕ) → Counts old w → Counts new (by w).0
 
 -- a statement that may be left out
 abbrev pub runs : Evaluator → Option (Bor TypedStmt) → Mask → Store → Goes

@@ -24,6 +24,7 @@ impl<'a> Evaluator<'a> {
         ensures ok { OnOk result (Does self.old self.new (Task.Call call.entry set)) }
         ensures err { IfErr result (λ e. e ≡ Stop.Memory) }
     {
+        self.work.tick();
         let after = Task::Arguments {
             call,
             rest: call.arguments.as_slice(),
@@ -60,6 +61,7 @@ impl<'a> Evaluator<'a> {
                     Ok(())
                 }
                 TypedArgument::Array { array, .. } => {
+                    self.work.tick();
                     done.push(Passed::Store(self.here.store(array.number)))?;
                     let after = Task::Arguments {
                         call,

@@ -13,6 +13,7 @@ ghost use Rattle.isp_eval.specs.Stores.{stores_of};
 ghost use Rattle.isp_eval.specs.Tasks.{Halts, rest};
 
 use crate::activation::Activation;
+use crate::counting::Work;
 use crate::starting::{sizes, stores};
 use crate::state::{Evaluator, Sets, Stop};
 use crate::tasks::Passed;
@@ -56,6 +57,7 @@ fn evaluator<'a>(
         { sizes = values_of sizes.items; opened = length sizes.items; own_sizes = λ v. 0; answer = None } }
     ensures state { state_seen result 0 ≡ nothing_written (stores_of stores.items) }
     ensures nothing { result.tasks.items ≡ [] }
+    ensures work { result.work.count ≡ 0 }
 {
     let here = Activation {
         function: None,
@@ -75,6 +77,7 @@ fn evaluator<'a>(
         here,
         stores,
         output: Vec::new(alloc),
+        work: Work::none(),
         value: Computed::One(0),
         sets: Sets::all(&nobody()),
         tasks: Vec::new(alloc),

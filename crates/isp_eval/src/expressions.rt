@@ -4,7 +4,7 @@ ghost use Rattle.isp_base.specs.Sets.{flag_of};
 ghost use Rattle.isp_base.specs.declared.trap.Trap.{Trap};
 ghost use Rattle.isp_typed.specs.Views.{expr_of, place_of};
 ghost use Rattle.isp_typed.specs.Typed.{t_place};
-ghost use Rattle.isp_eval.specs.Tasks.{Comes, Does, First, FirstValue, Halts, Traps, does, finds};
+ghost use Rattle.isp_eval.specs.Tasks.{Comes, Does, FirstValue, Halts, Reaches, Traps, does, finds};
 ghost use Rattle.isp_eval.specs.declared.tasks.Joining.TheVariants as Joining;
 ghost use Rattle.isp_eval.specs.declared.state.Stop.TheVariants as Stop;
 ghost use Rattle.isp_eval.specs.declared.tasks.Task.TheVariants as Task;
@@ -28,10 +28,12 @@ impl<'a> Evaluator<'a> {
     {
         match x {
             TypedExpr::Constant { value, .. } => {
+                self.work.tick();
                 self.value = Computed::One(low_bits(value.elem, value.bits));
                 Ok(())
             }
             TypedExpr::ProgramIndex { .. } => {
+                self.work.tick();
                 self.value = numbers(&set);
                 Ok(())
             }
@@ -48,6 +50,7 @@ impl<'a> Evaluator<'a> {
                 Ok(())
             }
             TypedExpr::Cast { operand, .. } => {
+                self.work.tick();
                 self.later(Task::Value(operand, set))?;
                 Ok(())
             }
@@ -145,17 +148,22 @@ impl<'a> Evaluator<'a> {
                     elem: *elem,
                 };
                 let done = Vec::new(self.alloc);
+                self.work.tick();
                 self.values(gathering, values.as_slice(), done, set)?;
                 Ok(())
             }
             TypedExpr::PackedStore { base, value, span } => {
+                self.work.tick();
                 self.base(Packing::Store(value), base, *span, set)
             }
             TypedExpr::PackedLoad {
                 base,
                 variable,
                 span,
-            } => { self.base(Packing::Load(*variable), base, *span, set) }
+            } => {
+                self.work.tick();
+                self.base(Packing::Load(*variable), base, *span, set)
+            }
         }
     }
 
@@ -164,6 +172,7 @@ impl<'a> Evaluator<'a> {
         ensures ok { OnOk result (Comes self.old self.new (finds self.old (t_place (place_of place.now)) (flag_of set))) }
         ensures err { IfErr result (λ e. e ≡ Stop.Memory) }
     {
+        self.work.tick();
         match place {
             TypedPlace::Variable { number, ty, .. } => {
                 let place = Place::Variable {
@@ -185,7 +194,7 @@ impl<'a> Evaluator<'a> {
                     span: *span,
                     set,
                 };
-                self.reach(index, set, after)?;
+                self.both(Task::Value(index, set), after)?;
                 Ok(())
             }
         }
@@ -213,11 +222,12 @@ impl<'a> Evaluator<'a> {
         Ok(())
     }
 
-    /// A node's first operand, and then a task.
-    pub fn reach(&mut self, first: &'a TypedExpr, set: Active, after: Task<'a>) -> Result<(), Stop>
-        ensures ok { OnOk result (First self.old self.new (Task.Value first.entry set) after.entry) }
+    // A node counts: its first operand comes first, and then a task.
+    fn reach(&mut self, first: &'a TypedExpr, set: Active, after: Task<'a>) -> Result<(), Stop>
+        ensures ok { OnOk result (Reaches self.old self.new (Task.Value first.entry set) after.entry) }
         ensures err { IfErr result (λ e. e ≡ Stop.Memory) }
     {
+        self.work.tick();
         self.both(Task::Value(first, set), after)?;
         Ok(())
     }

@@ -3,6 +3,7 @@
 
 mod activation;
 mod calls;
+mod counting;
 mod ending;
 mod entering;
 mod entry;
@@ -28,4 +29,4 @@ mod tasks;
 
 pub use fault::EvalFault;
 pub use outcome::Outcome;
-pub use run::evaluate;
+pub use run::{evaluate, work};

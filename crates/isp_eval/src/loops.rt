@@ -57,6 +57,7 @@ impl<'a> Evaluator<'a> {
         ensures ok { OnOk result (Comes self.old self.new (enters self.old None (Some test.entry) None body.entry (flag_of set))) }
         ensures err { IfErr result (Halts self.old self.new (enters self.old None (Some test.entry) None body.entry (flag_of set))) }
     {
+        self.work.tick();
         let looping = Looping {
             test: Some(test),
             step: None,
@@ -78,6 +79,7 @@ impl<'a> Evaluator<'a> {
         ensures ok { OnOk result (Comes self.old self.new (enters_by_turn self.old (Some test.entry) body.entry (flag_of set))) }
         ensures err { IfErr result (Halts self.old self.new (enters_by_turn self.old (Some test.entry) body.entry (flag_of set))) }
     {
+        self.work.tick();
         let looping = Looping {
             test: Some(test),
             step: None,
@@ -101,6 +103,7 @@ impl<'a> Evaluator<'a> {
         ensures ok { OnOk result (Comes self.old self.new (enters self.old first.entry test.entry step.entry body.entry (flag_of set))) }
         ensures err { IfErr result (λ e. e ≡ Stop.Memory) }
     {
+        self.work.tick();
         let looping = Looping { test, step, body };
         let turning = Turning::new(looping, &set, self.turns);
         let after = Box::new(self.alloc, turning)?;
@@ -134,6 +137,7 @@ impl<'a> Evaluator<'a> {
     {
         match first {
             TypedFirst::Declare { items, .. } => {
+                self.work.tick();
                 self.later(Task::Items(items.as_slice(), set))?;
                 Ok(())
             }
@@ -212,6 +216,7 @@ impl<'a> Evaluator<'a> {
         if left == 0 {
             return Err(Stop::Cut);
         }
+        self.work.tick();
         let after = Turning {
             looping,
             all,

@@ -35,6 +35,7 @@ impl<'a> Evaluator<'a> {
         ensures ok { OnOk result (Comes self.old self.new (packs self.old packing.entry (base_of base.now) span (flag_of set))) }
         ensures err { IfErr result (Halts self.old self.new (packs self.old packing.entry (base_of base.now) span (flag_of set))) }
     {
+        self.work.tick();
         match base {
             TypedBase::Whole { array, .. } => {
                 self.value = Computed::One(0);
@@ -100,6 +101,7 @@ impl<'a> Evaluator<'a> {
         ensures err { IfErr result (Halts self.old self.new (packs_from self.old (Packing.Load variable) array (number elem first)
             span (flag_of set))) }
     {
+        self.work.tick();
         let count = self.here.extent(array);
         let offender = outside(self.gang(), elem, first, count, &set);
         checked(offender, TrapKind::Index, span)?;

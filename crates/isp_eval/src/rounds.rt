@@ -14,6 +14,7 @@ ghost use Rattle.isp_eval.specs.Tasks.{Changes, Comes, does};
 ghost use Rattle.isp_eval.specs.declared.state.Stop.TheVariants as Stop;
 ghost use Rattle.isp_eval.specs.declared.tasks.Task.TheVariants as Task;
 
+use crate::counting::counted;
 use crate::state::{Evaluator, Sets, Stop};
 use crate::tasks::Task;
 use isp_base::{Elem, Gang, Rate, wrap};
@@ -73,6 +74,7 @@ impl<'a> Evaluator<'a> {
         ensures ok { OnOk result (Comes self.old self.new (foreaches self.old (ranges_of ranges.now) body.entry (flag_of set))) }
         ensures err { IfErr result (λ e. e ≡ Stop.Memory) }
     {
+        self.work.tick();
         let done = Vec::new(self.alloc);
         self.bounds(ranges, done, body, set)?;
         Ok(())
@@ -156,6 +158,8 @@ impl<'a> Evaluator<'a> {
         ensures ok { OnOk result (Comes self.old self.new (begins self.old (map range_seen ranges.items) body.entry (flag_of set))) }
         ensures err { IfErr result (λ e. e ≡ Stop.Memory) }
     {
+        let count = counted(self.gang(), ranges.as_slice());
+        self.work.add(count);
         reset(&mut ranges, 0);
         let rounds = Rounds { ranges, body, set };
         let rounds = Box::new(self.alloc, rounds)?;
@@ -223,6 +227,7 @@ impl<'a> Evaluator<'a> {
         ensures ok { OnOk result (Comes self.old self.new (actives self.old index body.entry (flag_of set))) }
         ensures err { IfErr result (λ e. e ≡ Stop.Memory) }
     {
+        self.work.tick();
         let members = Members {
             index,
             body,
@@ -251,6 +256,7 @@ impl<'a> Evaluator<'a> {
                 Ok(())
             }
             Some(instance) => {
+                self.work.tick();
                 let one = alone(instance);
                 let number = Computed::One(instance as u64);
                 self.write(index, Rate::Uniform, &one, &number)?;

@@ -22,6 +22,7 @@ impl<'a> Evaluator<'a> {
         ensures ok { OnOk result (Does self.old self.new (Task.Simple simple.entry set)) }
         ensures err { IfErr result (Halts self.old self.new (does self.old (Task.Simple simple.entry set))) }
     {
+        self.work.tick();
         match simple {
             TypedSimple::Value(x) => {
                 self.both(Task::Value(x, set), Task::Forget)?;
@@ -76,6 +77,7 @@ impl<'a> Evaluator<'a> {
         ensures ok { OnOk result (Comes self.old self.new (targets self.old writing.entry (place_of target.now) (flag_of set))) }
         ensures err { IfErr result (Halts self.old self.new (targets self.old writing.entry (place_of target.now) (flag_of set))) }
     {
+        self.work.tick();
         match target {
             TypedPlace::Variable { number, ty, .. } => {
                 let place = Place::Variable {
@@ -92,7 +94,7 @@ impl<'a> Evaluator<'a> {
                     writing,
                     set,
                 };
-                self.reach(index, set, after)?;
+                self.both(Task::Value(index, set), after)?;
                 Ok(())
             }
         }
@@ -231,6 +233,7 @@ impl<'a> Evaluator<'a> {
         ensures ok { OnOk result (Comes self.old self.new (declares self.old (item_of item.now) (flag_of set))) }
         ensures err { IfErr result (λ e. e ≡ Stop.Memory) }
     {
+        self.work.tick();
         match item {
             TypedItem::Plain { number, ty, .. } => {
                 self.write(*number, ty.rate, &set, &Computed::One(0))?;
@@ -248,7 +251,7 @@ impl<'a> Evaluator<'a> {
                     ty: *ty,
                     set,
                 };
-                self.reach(value, set, after)?;
+                self.both(Task::Value(value, set), after)?;
                 Ok(())
             }
             TypedItem::Array { array, .. } => {

@@ -6,6 +6,7 @@ ghost use Rattle.isp_gang.specs.declared.computed.Computed.TheVariants as Comput
 ghost use Rattle.isp_eval.specs.Tasks.{First, all_parts, parts_seen};
 
 use crate::activation::Activation;
+use crate::counting::Work;
 use crate::tasks::Task;
 use isp_base::{Gang, Span, Trap, TrapKind};
 use isp_gang::computed::Computed;
@@ -100,6 +101,8 @@ pub struct Evaluator<'a> {
     pub here: Activation<'a>,
     pub stores: Vec<Vec<u64>>,
     pub output: Vec<u8>,
+    /// How much was reached.
+    pub work: Work,
     /// What the last expression gave.
     pub value: Computed,
     /// Where the last statement left its members.
@@ -144,7 +147,6 @@ impl<'a> Evaluator<'a> {
 
 impl<'a> Evaluator<'a> {
     /// Two more tasks, of which the first is done before the second.
-    #[tactic(auto, using(crate::proofs::Steps::two_first))]
     pub fn both(&mut self, first: Task<'a>, second: Task<'a>) -> Result<(), Stop>
         ensures ok { OnOk result (First self.old self.new first.entry second.entry) }
         ensures rest { OnOk result (self.new ≡ record self.old { tasks = self.new.tasks }) }

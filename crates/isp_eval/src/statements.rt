@@ -80,11 +80,11 @@ impl<'a> Evaluator<'a> {
     }
 
     // Declared items.
-    #[tactic(auto, using(crate::proofs::Arms::declared))]
     fn declare(&mut self, items: &'a [TypedItem], set: Active) -> Result<(), Stop>
         ensures ok { OnOk result (Comes self.old self.new (declares_all self.old (items_of items.now) (flag_of set))) }
         ensures err { IfErr result (λ e. e ≡ Stop.Memory) }
     {
+        self.work.tick();
         self.both(Task::Items(items, set), Task::Went(set))?;
         Ok(())
     }
@@ -100,7 +100,6 @@ impl<'a> Evaluator<'a> {
     }
 
     // An `if`: its test comes first.
-    #[tactic(auto, using(crate::proofs::Arms::chosen))]
     fn choice(
         &mut self,
         test: &'a TypedExpr,
@@ -111,6 +110,7 @@ impl<'a> Evaluator<'a> {
         ensures ok { OnOk result (Comes self.old self.new (chooses self.old (expr_of test.now) then.entry otherwise.entry (flag_of set))) }
         ensures err { IfErr result (λ e. e ≡ Stop.Memory) }
     {
+        self.work.tick();
         let branches = Branches {
             then,
             otherwise,
@@ -122,11 +122,11 @@ impl<'a> Evaluator<'a> {
     }
 
     // A block over all instances, after which those that came go on.
-    #[tactic(auto, using(crate::proofs::Arms::unmasked))]
     fn unmask(&mut self, body: &'a TypedBlock, set: Active) -> Result<(), Stop>
         ensures ok { OnOk result (Comes self.old self.new (unmasks self.old (block_of body.now) (flag_of set))) }
         ensures err { IfErr result (λ e. e ≡ Stop.Memory) }
     {
+        self.work.tick();
         let all = everyone(self.gang());
         self.later(Task::Went(set))?;
         self.block(body, all)?;
@@ -138,6 +138,7 @@ impl<'a> Evaluator<'a> {
     fn jump(&mut self, jump: Jump, set: &Active)
         ensures { Comes self.old self.new (jumps self.old jump (flag_of set.now)) }
     {
+        self.work.tick();
         self.leave(jumped(jump, set));
     }
 
@@ -147,6 +148,7 @@ impl<'a> Evaluator<'a> {
         ensures ok { OnOk result (Comes self.old self.new (gives self.old value.entry (flag_of set))) }
         ensures err { IfErr result (λ e. e ≡ Stop.Memory) }
     {
+        self.work.tick();
         match value {
             None => {
                 self.leave(returned(&set));
@@ -170,6 +172,7 @@ impl<'a> Evaluator<'a> {
         ensures ok { OnOk result (Comes self.old self.new (prints_all self.old text.now (exprs_of values.now) (flag_of set))) }
         ensures err { IfErr result (λ e. e ≡ Stop.Memory) }
     {
+        self.work.tick();
         let gathering = Gathering::Print { text, values };
         let done = Vec::new(self.alloc);
         self.values(gathering, values, done, set)?;
@@ -177,11 +180,11 @@ impl<'a> Evaluator<'a> {
     }
 
     // An `assert`: its test comes first.
-    #[tactic(auto, using(crate::proofs::Arms::claimed))]
     fn claim(&mut self, test: &'a TypedExpr, span: Span, set: Active) -> Result<(), Stop>
         ensures ok { OnOk result (Comes self.old self.new (claims self.old (expr_of test.now) span (flag_of set))) }
         ensures err { IfErr result (λ e. e ≡ Stop.Memory) }
     {
+        self.work.tick();
         self.both(Task::Value(test, set), Task::Assert { span, set })?;
         Ok(())
     }
@@ -289,6 +292,7 @@ impl<'a> Evaluator<'a> {
         ensures ok { OnOk result (Comes self.old self.new (blocks self.old (block_of block.now) (flag_of set))) }
         ensures err { IfErr result (λ e. e ≡ Stop.Memory) }
     {
+        self.work.tick();
         self.statements(block.statements.as_slice(), Exits::none(), set)?;
         Ok(())
     }

@@ -2,7 +2,7 @@
 use crate::rows::front;
 use isp_base::{Bound, Gang};
 use isp_bind::bind;
-use isp_eval::{EvalFault, evaluate};
+use isp_eval::{EvalFault, evaluate, work};
 use isp_rates::Checked;
 use std::alloc::Global;
 use std::process::Abort;
@@ -70,6 +70,14 @@ fn is_found(alloc: Global, checked: &Checked, entry: &str, bound: &Bound) -> boo
     )
 }
 
+// Whether it is found where its work is asked for.
+fn is_counted(alloc: Global, checked: &Checked, entry: &str, bound: &Bound) -> bool {
+    !matches!(
+        work(alloc, checked, entry, bound, 1),
+        Err(EvalFault::NoEntry)
+    )
+}
+
 fn same(rt: &impl Abort, asked: Asked<'_>, found: bool) {
     assert!(rt;
         found == asked.takes,
@@ -85,6 +93,7 @@ fn compare(rt: &impl Abort, alloc: Global, checked: &Checked, line: &str) -> Res
     };
     let bound = bound(alloc, checked, asked)?;
     same(rt, asked, is_found(alloc, checked, asked.entry, &bound));
+    same(rt, asked, is_counted(alloc, checked, asked.entry, &bound));
     Ok(())
 }
 

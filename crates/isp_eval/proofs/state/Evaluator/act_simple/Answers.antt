@@ -2,6 +2,7 @@ use Rattle.std.proofs.Common.{sym, ap}
 use Rattle.isp_eval.specs.Tasks.{rest, store_seen}
 use Rattle.isp_eval.specs.declared.state.Evaluator.{Evaluator}
 use Rattle.isp_eval.specs.declared.tasks.Task.TheVariants as task
+use Rattle.isp_eval.proofs.Counts.{work_of, counts_same}
 use Rattle.isp_eval.proofs.Acting.{act_comes, does_ok, halts_err, refused_err}
 use Rattle.isp_eval.proofs.state.Evaluator.act_simple.Goals as goal
 
@@ -43,4 +44,7 @@ returns-in-Declared-clause-err c = refused_err c.args.self.now c.declared.new.se
 
 pub returns-in-Forget-clause-ok : goal.returns-in-Forget-clause-ok
 returns-in-Forget-clause-ok c =
-    act_comes c.args.self.now c.forget.new.self c.args.task task.Forget c.in-Forget.is (record { by = λ w. (w, sym (ap (λ (k : Evaluator). rest k (store_seen k w)) c.forget.ensures)) })
+    act_comes c.args.self.now c.forget.new.self c.args.task task.Forget c.in-Forget.is (record {
+      by = λ w. (w, sym (ap (λ (k : Evaluator). rest k (store_seen k w)) c.forget.ensures));
+      counts = λ w k. counts_same c.args.self.now c.forget.new.self w (ap work_of c.forget.ensures) k;
+    })

@@ -30,7 +30,7 @@ returns-in_ok-both-in-Value-clause-ok c =
 
 pub returns-in_ok-later-in-Array-clause-ok : goal.returns-in_ok-later-in-Array-clause-ok
 returns-in_ok-later-in-Array-clause-ok c =
-    named_argument c.args.self.now c.args.call c.args.set c.later.new.self c.args.rest c.args.done _ c.next-item.result c.in-Array.array c.in-Array.span c.store.result c.push.new.self
+    named_argument c.args.self.now c.args.call c.args.set c.later.new.self c.args.rest c.args.done c.tick.new.self c.tick.ensures _ c.next-item.result c.in-Array.array c.in-Array.span c.store.result c.push.new.self
     (headed c.args.rest.now c.next-item.result (omega (arith, c.in-len1-up.len_at_least)) c.next-item.is)
     (ap argument_of (c.in-Array.is ∙ sym (variant.rolls-Array c.in-Array.array c.in-Array.span)) ∙ fold-roll-TypedArgument TArgument TBase TExpr TPlace TCall argument_step base_step expr_step place_step call_step _)
     c.store.ensures c.in_ok-push-in-Array.ensures.items c.in_ok-later-in-Array.ensures.ok c.in_ok-later-in-Array.ensures.rest

@@ -4,4 +4,4 @@ use Rattle.isp_eval.proofs.state.Evaluator.foreach.Goals as goal
 
 pub returns-clause-ok : goal.returns-clause-ok
 returns-clause-ok c =
-    foreach_comes c.args.self.now c.bounds.new.self c.args.body c.args.set (ranges_of c.args.ranges.now) c.new-done.result.items c.new-done.ensures.items c.in_ok-bounds.ensures.ok
+    foreach_comes c.args.self.now c.bounds.new.self c.args.body c.args.set c.tick.new.self c.tick.ensures (ranges_of c.args.ranges.now) c.new-done.result.items c.new-done.ensures.items c.in_ok-bounds.ensures.ok

@@ -13,5 +13,5 @@ returns-in-None-clause-ok c =
 pub returns-clause-ok : goal.returns-clause-ok
 returns-clause-ok c =
     let x = c.deref.result.now in
-    member_goes c.args.self.now c.args.members x.index x.body x.left x.set (sym c.deref.ensures) c.write.new.self c.both.new.self c.in-Some.instance c.alone-one.result c.without.result c.in_ok-others-in-Some.others
+    member_goes c.args.self.now c.args.members x.index x.body x.left x.set (sym c.deref.ensures) c.write.new.self c.both.new.self c.tick.new.self c.tick.ensures c.in-Some.instance c.alone-one.result c.without.result c.in_ok-others-in-Some.others
     (ap (λ g. lowest (gang_width g) (flag_of x.left)) (sym c.gang.ensures) ∙ sym c.lowest.ensures ∙ c.in-Some.is) c.alone-one.ensures c.without.ensures c.in_ok-others-in-Some.ensures.ok c.in_ok-write-in-Some.ensures.ok c.in_ok-both-in-Some.ensures.ok

@@ -1,6 +1,10 @@
-use Rattle.isp_eval.proofs.Assignments.{placed_step_halts}
+use Rattle.isp_eval.proofs.Assignments.{placed_step_halts, placed_update}
 use Rattle.isp_eval.proofs.Results.{if_err}
 use Rattle.isp_eval.proofs.state.Evaluator.placed.Goals as goal
+
+pub returns-in_ok-both-in-Update-clause-ok : goal.returns-in_ok-both-in-Update-clause-ok
+returns-in_ok-both-in-Update-clause-ok c =
+    placed_update c.args.self.now c.both-in-Update.new.self c.args.target c.args.place c.args.set c.in-Update.operator c.in-Update.elem c.in-Update.value c.in-Update.span c.args.writing c.in-Update.is c.in_ok-both-in-Update.ensures.ok
 
 pub returns-in-Step-clause-err : goal.returns-in-Step-clause-err
 returns-in-Step-clause-err c =

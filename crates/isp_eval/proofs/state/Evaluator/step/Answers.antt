@@ -1,7 +1,11 @@
-use Rattle.isp_eval.proofs.Turns.{no_step}
+use Rattle.isp_eval.proofs.Turns.{no_step, step_goes}
 use Rattle.isp_eval.proofs.Branching.{pushes}
 use Rattle.isp_eval.specs.declared.tasks.Task.TheVariants as task
 use Rattle.isp_eval.proofs.state.Evaluator.step.Goals as goal
+
+pub returns-in_ok-both-in-Some-clause-ok : goal.returns-in_ok-both-in-Some-clause-ok
+returns-in_ok-both-in-Some-clause-ok c =
+    step_goes c.args.self.now c.both.new.self c.args.turning c.in_ok-after.after c.in-Some.step c.in_ok-after.ensures.ok c.in-Some.is c.in_ok-both-in-Some.ensures.ok
 
 pub returns-in_ok-later-in-None-clause-ok : goal.returns-in_ok-later-in-None-clause-ok
 returns-in_ok-later-in-None-clause-ok c =

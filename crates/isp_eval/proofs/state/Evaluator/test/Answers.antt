@@ -1,7 +1,11 @@
 use Rattle.std.proofs.Common.{refl}
 use Rattle.isp_eval.specs.Tasks.{Halts, tests_on}
-use Rattle.isp_eval.proofs.Turns.{at_err, no_test_halts}
+use Rattle.isp_eval.proofs.Turns.{at_err, no_test_halts, test_goes}
 use Rattle.isp_eval.proofs.state.Evaluator.test.Goals as goal
+
+pub returns-in_ok-both-in-Some-clause-ok : goal.returns-in_ok-both-in-Some-clause-ok
+returns-in_ok-both-in-Some-clause-ok c =
+    test_goes c.args.self.now c.both.new.self c.args.turning c.in_ok-after-in-Some.after c.in-Some.test c.in_ok-after-in-Some.ensures.ok c.in-Some.is c.in_ok-both-in-Some.ensures.ok
 
 pub returns-in_err-tested-in-None-clause-err : goal.returns-in_err-tested-in-None-clause-err
 returns-in_err-tested-in-None-clause-err c =

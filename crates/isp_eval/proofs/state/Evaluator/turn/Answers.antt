@@ -8,4 +8,4 @@ returns-then-left-eq0-clause-err c = no_turn c.args.self.now c.args.self.now c.a
 pub returns-clause-ok : goal.returns-clause-ok
 returns-clause-ok c =
     let more : c.args.turning.left ≡ suc (c.args.turning.left - 1) = omega (arith, c.if-left-eq0.false) in
-    turn_goes c.args.self.now c.both.new.self c.args.turning c.in_ok-after.after (c.args.turning.left - 1) more c.in_ok-after.ensures.ok c.in_ok-both.ensures.ok
+    turn_goes c.args.self.now c.both.new.self c.tick.new.self c.tick.ensures c.args.turning c.in_ok-after.after (c.args.turning.left - 1) more c.in_ok-after.ensures.ok c.in_ok-both.ensures.ok

@@ -13,13 +13,13 @@ use Rattle.isp_eval.proofs.state.Evaluator.value.Goals as goal
 
 pub returns-in-Constant-clause-ok : goal.returns-in-Constant-clause-ok
 returns-in-Constant-clause-ok c =
-    constant_node c.args.self.now c.low_bits.result c.args.x c.args.set c.in-Constant.value c.in-Constant.span
+    constant_node c.args.self.now c.tick.new.self c.tick.ensures c.low_bits.result c.args.x c.args.set c.in-Constant.value c.in-Constant.span
     (ap expr_of (c.in-Constant.is ∙ sym (variant.rolls-Constant c.in-Constant.value c.in-Constant.span)) ∙ fold-roll-TypedExpr TArgument TBase TExpr TPlace TCall argument_step base_step expr_step place_step call_step _)
     c.low_bits.ensures
 
 pub returns-in-ProgramIndex-clause-ok : goal.returns-in-ProgramIndex-clause-ok
 returns-in-ProgramIndex-clause-ok c =
-    index_node c.args.self.now c.numbers-self.result c.args.x c.args.set c.in-ProgramIndex.span
+    index_node c.args.self.now c.tick-in-ProgramIndex.new.self c.tick-in-ProgramIndex.ensures c.numbers-self.result c.args.x c.args.set c.in-ProgramIndex.span
     (ap expr_of (c.in-ProgramIndex.is ∙ sym (variant.rolls-ProgramIndex c.in-ProgramIndex.span)) ∙ fold-roll-TypedExpr TArgument TBase TExpr TPlace TCall argument_step base_step expr_step place_step call_step _)
     c.numbers-self.ensures
 
@@ -38,7 +38,7 @@ returns-in_ok-both-in-Convert-clause-ok c =
 
 pub returns-in_ok-later-in-Cast-clause-ok : goal.returns-in_ok-later-in-Cast-clause-ok
 returns-in_ok-later-in-Cast-clause-ok c =
-    cast_node c.args.self.now c.later.new.self c.args.x c.deref-in-Cast.result c.args.set c.in-Cast.ty c.in-Cast.span
+    cast_node c.args.self.now c.later.new.self c.tick-in-Cast.new.self c.tick-in-Cast.ensures c.args.x c.deref-in-Cast.result c.args.set c.in-Cast.ty c.in-Cast.span
     (ap expr_of (c.in-Cast.is ∙ sym (variant.rolls-Cast c.in-Cast.operand c.in-Cast.ty c.in-Cast.span)) ∙ fold-roll-TypedExpr TArgument TBase TExpr TPlace TCall argument_step base_step expr_step place_step call_step _ ∙ ap (λ i. t_cast (expr_of i) c.in-Cast.ty c.in-Cast.span) (sym c.deref-in-Cast.ensures))
     (record { items = c.in_ok-later-in-Cast.ensures.ok; same = c.in_ok-later-in-Cast.ensures.rest })
 
@@ -82,7 +82,7 @@ returns-in_ok-later-in-Call-clause-ok c =
 
 pub returns-in_ok-values-in-Library-clause-ok : goal.returns-in_ok-values-in-Library-clause-ok
 returns-in_ok-values-in-Library-clause-ok c =
-    library_node c.args.self.now c.values.new.self c.args.x c.args.set c.in-Library.function c.in-Library.elem c.as_slice.result.now c.new-done.result c.in-Library.ty c.in-Library.span
+    library_node c.args.self.now c.values.new.self c.tick-in-Library.new.self c.tick-in-Library.ensures c.args.x c.args.set c.in-Library.function c.in-Library.elem c.as_slice.result.now c.new-done.result c.in-Library.ty c.in-Library.span
     (ap expr_of (c.in-Library.is ∙ sym (variant.rolls-Library c.in-Library.function c.in-Library.elem c.in-Library.values c.in-Library.ty c.in-Library.span)) ∙ fold-roll-TypedExpr TArgument TBase TExpr TPlace TCall argument_step base_step expr_step place_step call_step _
     ∙ ap (λ ys. t_library c.in-Library.function c.in-Library.elem (t_exprs (exprs_of ys)) c.in-Library.ty c.in-Library.span) (sym c.as_slice.ensures.value))
     c.new-done.ensures.items c.in_ok-values-in-Library.ensures.ok
@@ -90,7 +90,7 @@ returns-in_ok-values-in-Library-clause-ok c =
 pub returns-in-PackedStore-clause-ok : goal.returns-in-PackedStore-clause-ok
 returns-in-PackedStore-clause-ok c =
     on_ok c.base.result
-    (packed_node c.args.self.now c.base.new.self c.args.x c.args.set (record { ref_ptr = c.args.x.ref_ptr; now = c.in-PackedStore.base }) c.in-PackedStore.span (packing.Store c.deref-in-PackedStore.result)
+    (packed_node c.args.self.now c.base.new.self c.tick-in-PackedStore.new.self c.tick-in-PackedStore.ensures c.args.x c.args.set (record { ref_ptr = c.args.x.ref_ptr; now = c.in-PackedStore.base }) c.in-PackedStore.span (packing.Store c.deref-in-PackedStore.result)
     (ap expr_of (c.in-PackedStore.is ∙ sym (variant.rolls-PackedStore c.in-PackedStore.base c.in-PackedStore.value c.in-PackedStore.span)) ∙ fold-roll-TypedExpr TArgument TBase TExpr TPlace TCall argument_step base_step expr_step place_step call_step _
     ∙ ap (λ i. t_packed_store (base_of c.in-PackedStore.base) (expr_of i) c.in-PackedStore.span) (sym c.deref-in-PackedStore.ensures)))
     c.base.ensures.ok
@@ -98,7 +98,7 @@ returns-in-PackedStore-clause-ok c =
 pub returns-in-PackedStore-clause-err : goal.returns-in-PackedStore-clause-err
 returns-in-PackedStore-clause-err c =
     if_err c.base.result
-    (λ e h. packed_node_halts c.args.self.now c.base.new.self c.args.x c.args.set (record { ref_ptr = c.args.x.ref_ptr; now = c.in-PackedStore.base }) c.in-PackedStore.span (packing.Store c.deref-in-PackedStore.result) e
+    (λ e h. packed_node_halts c.args.self.now c.base.new.self c.tick-in-PackedStore.new.self c.tick-in-PackedStore.ensures c.args.x c.args.set (record { ref_ptr = c.args.x.ref_ptr; now = c.in-PackedStore.base }) c.in-PackedStore.span (packing.Store c.deref-in-PackedStore.result) e
     (ap expr_of (c.in-PackedStore.is ∙ sym (variant.rolls-PackedStore c.in-PackedStore.base c.in-PackedStore.value c.in-PackedStore.span)) ∙ fold-roll-TypedExpr TArgument TBase TExpr TPlace TCall argument_step base_step expr_step place_step call_step _
     ∙ ap (λ i. t_packed_store (base_of c.in-PackedStore.base) (expr_of i) c.in-PackedStore.span) (sym c.deref-in-PackedStore.ensures)) h)
     c.base.ensures.err
@@ -106,13 +106,13 @@ returns-in-PackedStore-clause-err c =
 pub returns-in-PackedLoad-clause-ok : goal.returns-in-PackedLoad-clause-ok
 returns-in-PackedLoad-clause-ok c =
     on_ok c.base-in-PackedLoad.result
-    (packed_node c.args.self.now c.base-in-PackedLoad.new.self c.args.x c.args.set (record { ref_ptr = c.args.x.ref_ptr; now = c.in-PackedLoad.base }) c.in-PackedLoad.span (packing.Load c.in-PackedLoad.variable)
+    (packed_node c.args.self.now c.base-in-PackedLoad.new.self c.tick-in-PackedLoad.new.self c.tick-in-PackedLoad.ensures c.args.x c.args.set (record { ref_ptr = c.args.x.ref_ptr; now = c.in-PackedLoad.base }) c.in-PackedLoad.span (packing.Load c.in-PackedLoad.variable)
     (ap expr_of (c.in-PackedLoad.is ∙ sym (variant.rolls-PackedLoad c.in-PackedLoad.base c.in-PackedLoad.variable c.in-PackedLoad.span)) ∙ fold-roll-TypedExpr TArgument TBase TExpr TPlace TCall argument_step base_step expr_step place_step call_step _))
     c.base-in-PackedLoad.ensures.ok
 
 pub returns-in-PackedLoad-clause-err : goal.returns-in-PackedLoad-clause-err
 returns-in-PackedLoad-clause-err c =
     if_err c.base-in-PackedLoad.result
-    (λ e h. packed_node_halts c.args.self.now c.base-in-PackedLoad.new.self c.args.x c.args.set (record { ref_ptr = c.args.x.ref_ptr; now = c.in-PackedLoad.base }) c.in-PackedLoad.span (packing.Load c.in-PackedLoad.variable) e
+    (λ e h. packed_node_halts c.args.self.now c.base-in-PackedLoad.new.self c.tick-in-PackedLoad.new.self c.tick-in-PackedLoad.ensures c.args.x c.args.set (record { ref_ptr = c.args.x.ref_ptr; now = c.in-PackedLoad.base }) c.in-PackedLoad.span (packing.Load c.in-PackedLoad.variable) e
     (ap expr_of (c.in-PackedLoad.is ∙ sym (variant.rolls-PackedLoad c.in-PackedLoad.base c.in-PackedLoad.variable c.in-PackedLoad.span)) ∙ fold-roll-TypedExpr TArgument TBase TExpr TPlace TCall argument_step base_step expr_step place_step call_step _) h)
     c.base-in-PackedLoad.ensures.err
