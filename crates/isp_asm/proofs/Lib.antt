@@ -1,0 +1,16 @@
+pub mod Texts
+pub mod FaultRows
+pub mod Numerals
+pub mod HeadLaws
+pub mod Splits
+pub mod WordReadings
+pub mod RowLaws
+pub mod LineReadings
+pub mod ListingReadings
+pub mod Rights
+pub mod LineRights
+pub mod Chains
+pub mod TextLaws
+pub mod Spelled
+pub mod Steps
+pub mod Pages
