@@ -1,0 +1,9 @@
+pub mod Dependences
+pub mod Exits
+pub mod Control
+pub mod Crossing
+pub mod Statements
+pub mod Reaches
+pub mod Independent
+pub mod Samples
+pub mod reader
