@@ -10,6 +10,7 @@ use Rattle.isp_typed.specs.Typed.{t_constant, t_program_index, t_place}
 use Rattle.isp_typed.proofs.Right.{just_right, given_right, made_right, found_right, both_right}
 use Rattle.isp_exprs.specs.declared.scope.Binding.{Binding}
 use Rattle.isp_exprs.specs.declared.callee.Want.{Want}
+use Rattle.isp_exprs.specs.Typing.{Typing}
 use Rattle.isp_exprs.specs.Words.{value_said}
 use Rattle.isp_exprs.specs.Scopes.{named}
 use Rattle.isp_exprs.specs.Values.{truth_value, count_value, in_brackets, cast_to, with_sign, joined, choice}
@@ -17,35 +18,39 @@ use Rattle.isp_exprs.specs.Places.{variable_at, element_at}
 use Rattle.isp_exprs.specs.Passing.{h_value, Passed, value_called, handed_call, handed_name, handed_reference, handed_element}
 use Rattle.isp_exprs.specs.Callees.{Heading, unless_unknown}
 use Rattle.isp_exprs.specs.Calls.{suits, first_want, rest_of, call_of}
-use Rattle.isp_exprs.specs.Rules.{callee_at, wants_at, past_at, pair_then, IsCall, CallBreach, IsCallOf, CallOfBreach, IsExpr, ExprBreach, IsPlace, PlaceBreach, IsArgument, ArgumentBreach, AreArguments, ArgumentsBreach}
+use Rattle.isp_exprs.specs.Rules.{callee_at, wants_at, past_at, pair_then, call_typing, call_of_typing, expr_typing, place_typing, argument_typing, arguments_typing}
 use Rattle.isp_exprs.specs.reader.Judge.{judge_call, judge_call_of, judge, judge_place, judge_argument, judge_arguments}
 
-call_right : (hs : List Heading) (w : Word) (xs : Arguments) (s : Span) (v : Result (List Passed) Fault) (P : Want → List Want → List Passed → Type 0) (F : Want → List Want → Fault → Type 0)
-    → Right v (P (past_at hs w xs) (wants_at hs w xs)) (F (past_at hs w xs) (wants_at hs w xs)) → Right (judge_call hs w xs s v) (IsCall hs w xs s P) (CallBreach hs w xs s P F)
-call_right hs w xs s v P F r = found_right (call_of s) _ _ _ (both_right _ _ _ _ _ _ (given_right (unless_unknown w (callee_at hs w xs).0)) r)
+-- what is found is what the rule says, or else its first breach
+abbrev pub RightTyping : {A : Type 0} → Result A Fault → Typing A → Type 0
+RightTyping v rule = Right v rule.is rule.breach
+
+call_right : (hs : List Heading) (w : Word) (xs : Arguments) (s : Span) (v : Result (List Passed) Fault) (rule : Want → List Want → Typing (List Passed))
+    → RightTyping v (rule (past_at hs w xs) (wants_at hs w xs)) → RightTyping (judge_call hs w xs s v) (call_typing hs w xs s rule)
+call_right hs w xs s v rule r = found_right (call_of s) _ _ _ (both_right _ _ _ _ _ _ (given_right (unless_unknown w (callee_at hs w xs).0)) r)
 
 module _ (gang : Gang) (hs : List Heading) (ns : List Binding) where
   mutual
-    pub expr_right : (x : Expr) → Right (judge gang hs ns x) (IsExpr gang hs ns x) (ExprBreach gang hs ns x)
+    pub expr_right : (x : Expr) → RightTyping (judge gang hs ns x) (expr_typing gang hs ns x)
     expr_right (number v s) = just_right (t_constant v s)
     expr_right (truth b s) = just_right (t_constant (truth_value b) s)
     expr_right (program_index s) = just_right (t_program_index s)
     expr_right (program_count s) = just_right (t_constant (count_value gang) s)
     expr_right (place p) = made_right t_place _ _ _ (place_right p)
-    expr_right (call w xs s) = found_right (value_called s) _ _ _ (call_right hs w xs s _ (AreArguments gang hs ns xs) (ArgumentsBreach gang hs ns xs) (arguments_right xs (past_at hs w xs) (wants_at hs w xs)))
+    expr_right (call w xs s) = found_right (value_called s) _ _ _ (call_right hs w xs s _ (arguments_typing gang hs ns xs) (arguments_right xs (past_at hs w xs) (wants_at hs w xs)))
     expr_right (brackets x s) = made_right (in_brackets s) _ _ _ (expr_right x)
     expr_right (cast t x s) = made_right (cast_to s) _ _ _ (both_right _ _ _ _ _ _ (given_right (value_said t)) (expr_right x))
     expr_right (prefix op x s) = made_right (with_sign op s) _ _ _ (expr_right x)
     expr_right (binary op x y s) = made_right (joined op s) _ _ _ (both_right _ _ _ _ _ _ (expr_right x) (expr_right y))
     expr_right (choose c x y s) = made_right (choice s) _ _ _ (both_right _ _ _ _ _ _ (expr_right c) (both_right _ _ _ _ _ _ (expr_right x) (expr_right y)))
 
-    pub place_right : (p : Place) → Right (judge_place gang hs ns p) (IsPlace gang hs ns p) (PlaceBreach gang hs ns p)
+    pub place_right : (p : Place) → RightTyping (judge_place gang hs ns p) (place_typing gang hs ns p)
     place_right (variable w) = found_right (variable_at w.span) _ _ _ (given_right (named ns w))
     place_right (element w x s) = found_right (element_at s) _ _ _ (both_right _ _ _ _ _ _ (given_right (named ns w)) (expr_right x))
 
-    pub argument_right : (x : Argument) → Right (judge_argument gang hs ns x) (IsArgument gang hs ns x) (ArgumentBreach gang hs ns x)
+    pub argument_right : (x : Argument) → RightTyping (judge_argument gang hs ns x) (argument_typing gang hs ns x)
     argument_right (by_value (place (variable w))) = made_right (handed_name w.span) _ _ _ (given_right (named ns w))
-    argument_right (by_value (call w xs s)) = made_right handed_call _ _ _ (call_right hs w xs s _ (AreArguments gang hs ns xs) (ArgumentsBreach gang hs ns xs) (arguments_right xs (past_at hs w xs) (wants_at hs w xs)))
+    argument_right (by_value (call w xs s)) = made_right handed_call _ _ _ (call_right hs w xs s _ (arguments_typing gang hs ns xs) (arguments_right xs (past_at hs w xs) (wants_at hs w xs)))
     argument_right (by_value (number v s)) = made_right h_value _ _ _ (expr_right (number v s))
     argument_right (by_value (truth b s)) = made_right h_value _ _ _ (expr_right (truth b s))
     argument_right (by_value (program_index s)) = made_right h_value _ _ _ (expr_right (program_index s))
@@ -59,10 +64,10 @@ module _ (gang : Gang) (hs : List Heading) (ns : List Binding) where
     argument_right (by_reference (variable w) s) = made_right (handed_reference w.span) _ _ _ (given_right (named ns w))
     argument_right (by_reference (element w x e) s) = made_right (handed_element w.span) _ _ _ (both_right _ _ _ _ _ _ (given_right (named ns w)) (expr_right x))
 
-    arguments_right : (xs : Arguments) (past : Want) (ws : List Want) → Right (judge_arguments gang hs ns past ws xs) (AreArguments gang hs ns xs past ws) (ArgumentsBreach gang hs ns xs past ws)
+    arguments_right : (xs : Arguments) (past : Want) (ws : List Want) → RightTyping (judge_arguments gang hs ns past ws xs) (arguments_typing gang hs ns xs past ws)
     arguments_right no_arguments past ws = just_right []
     arguments_right (argument_then x xs) past ws = made_right pair_then _ _ _
         (both_right _ _ _ _ _ _ (found_right (suits (first_want past ws) (span_of_argument x)) _ _ _ (argument_right x)) (arguments_right xs past (rest_of ws)))
 
-  pub call_of_right : (w : Word) (xs : Arguments) (s : Span) → Right (judge_call_of gang hs ns w xs s) (IsCallOf gang hs ns w xs s) (CallOfBreach gang hs ns w xs s)
-  call_of_right w xs s = call_right hs w xs s _ (AreArguments gang hs ns xs) (ArgumentsBreach gang hs ns xs) (arguments_right xs (past_at hs w xs) (wants_at hs w xs))
+  pub call_of_right : (w : Word) (xs : Arguments) (s : Span) → RightTyping (judge_call_of gang hs ns w xs s) (call_of_typing gang hs ns w xs s)
+  call_of_right w xs s = call_right hs w xs s _ (arguments_typing gang hs ns xs) (arguments_right xs (past_at hs w xs) (wants_at hs w xs))

@@ -1,3 +1,4 @@
+pub mod Typing
 pub mod Words
 pub mod Scopes
 pub mod Values

@@ -1,17 +1,15 @@
--- Expressions: which typed tree each is, and its breaches.
+-- Expressions: which typed tree each is, and beside it what its breaches are.
 --     gang   the gang's size       hs   the functions of the program, as callers see them       ns   the names in scope
 use Rattle.std.specs.Prelude.{ℕ, suc, List, [], ◌∷◌}
 use Rattle.isp_base.specs.declared.types.Gang.{Gang}
 use Rattle.isp_base.specs.declared.types.Span.{Span}
-use Rattle.isp_lex.specs.declared.fault.Fault.{Fault}
 use Rattle.isp_tree.specs.declared.types.Word.{Word}
 use Rattle.isp_tree.specs.Tree.{Expr, number, truth, program_index, program_count, place, call, brackets, cast, prefix, binary, choose, Place, variable, element, Argument, by_value, by_reference, Arguments, no_arguments, argument_then, span_of_argument}
-use Rattle.isp_typed.specs.Forms.{Both, Either, No_breach, Just, Made, Found, Wrong, Given, Refused}
 use Rattle.isp_typed.specs.Typed.{TExpr, t_constant, t_program_index, t_place, TPlace}
-use Rattle.isp_exprs.specs.declared.scope.Known.{Known}
 use Rattle.isp_exprs.specs.declared.scope.Binding.{Binding}
 use Rattle.isp_exprs.specs.declared.callee.Callee.{Callee}
 use Rattle.isp_exprs.specs.declared.callee.Want.{Want}
+use Rattle.isp_exprs.specs.Typing.{Typing, exactly, given, both, made, found}
 use Rattle.isp_exprs.specs.Words.{value_said}
 use Rattle.isp_exprs.specs.Scopes.{named}
 use Rattle.isp_exprs.specs.Values.{truth_value, count_value, in_brackets, cast_to, with_sign, joined, choice}
@@ -43,94 +41,52 @@ module _ (hs : List Heading) where
   abbrev pub past_at : Word → Arguments → Want
   past_at w xs = asked_past (callee_at w xs).0
 
-  -- A call: P says what its arguments are passed as, where something is asked of each and of each past the last, and F what
-  -- their breaches are.
-  abbrev pub IsCall : Word → Arguments → Span → (Want → List Want → List Passed → Type 0) → Called → Type 0
-  IsCall w xs s P = Found (call_of s) (Both (Given (unless_unknown w (callee_at w xs).0)) (P (past_at w xs) (wants_at w xs)))
-
-  -- 20 at an unknown name, which stands beside the faults of the arguments; 23 at a call with another number of arguments, 22
-  -- or 24 at a variable that cannot be loaded
-  abbrev pub CallBreach : Word → Arguments → Span → (Want → List Want → List Passed → Type 0) → (Want → List Want → Fault → Type 0) → Fault → Type 0
-  CallBreach w xs s P F =
-      Wrong (call_of s) (Both (Given (unless_unknown w (callee_at w xs).0)) (P (past_at w xs) (wants_at w xs)))
-      (Either (Refused (unless_unknown w (callee_at w xs).0)) (F (past_at w xs) (wants_at w xs)))
+  -- A call, where `rule` types its arguments by what is asked of each, and of each past the last: 20 at an unknown name, which
+  -- stands beside the faults of the arguments; 23 at a call with another number of arguments, 22 or 24 at a variable that
+  -- cannot be loaded.
+  abbrev pub call_typing : Word → Arguments → Span → (Want → List Want → Typing (List Passed)) → Typing Called
+  call_typing w xs s rule = found (call_of s) (both (given (unless_unknown w (callee_at w xs).0)) (rule (past_at w xs) (wants_at w xs)))
 
 module _ (gang : Gang) (hs : List Heading) (ns : List Binding) where
   abbrev mutual
-    pub IsExpr : Expr → TExpr → Type 0
+    pub expr_typing : Expr → Typing TExpr
     -- A number has its own type; `programCount` is a number.
-    IsExpr (number v s) = Just (t_constant v s)
-    IsExpr (truth b s) = Just (t_constant (truth_value b) s)
-    IsExpr (program_index s) = Just (t_program_index s)
-    IsExpr (program_count s) = Just (t_constant (count_value gang) s)
+    expr_typing (number v s) = exactly (t_constant v s)
+    expr_typing (truth b s) = exactly (t_constant (truth_value b) s)
+    expr_typing (program_index s) = exactly (t_program_index s)
+    expr_typing (program_count s) = exactly (t_constant (count_value gang) s)
     -- A variable and an element have the type they were declared with.
-    IsExpr (place p) = Made t_place (IsPlace p)
-    -- A call has the type of its result.
-    IsExpr (call w xs s) = Found (value_called s) (IsCall hs w xs s (AreArguments xs))
-    -- Brackets keep the type, a cast says it.
-    IsExpr (brackets x s) = Made (in_brackets s) (IsExpr x)
-    IsExpr (cast t x s) = Made (cast_to s) (Both (Given (value_said t)) (IsExpr x))
+    expr_typing (place p) = made t_place (place_typing p)
+    -- A call has the type of its result; 22 at a call without one.
+    expr_typing (call w xs s) = found (value_called s) (call_typing hs w xs s (arguments_typing xs))
+    -- Brackets keep the type, a cast says it; 22 at the words of a type.
+    expr_typing (brackets x s) = made (in_brackets s) (expr_typing x)
+    expr_typing (cast t x s) = made (cast_to s) (both (given (value_said t)) (expr_typing x))
     -- Operators convert their operands; the result has the common type, or is a bool.
-    IsExpr (prefix op x s) = Made (with_sign op s) (IsExpr x)
-    IsExpr (binary op x y s) = Made (joined op s) (Both (IsExpr x) (IsExpr y))
-    IsExpr (choose c x y s) = Made (choice s) (Both (IsExpr c) (Both (IsExpr x) (IsExpr y)))
+    expr_typing (prefix op x s) = made (with_sign op s) (expr_typing x)
+    expr_typing (binary op x y s) = made (joined op s) (both (expr_typing x) (expr_typing y))
+    expr_typing (choose c x y s) = made (choice s) (both (expr_typing c) (both (expr_typing x) (expr_typing y)))
 
-    -- A name is that of a variable which holds a value; before an index it is that of an array.
-    pub IsPlace : Place → TPlace → Type 0
-    IsPlace (variable w) = Found (variable_at w.span) (Given (named ns w))
-    IsPlace (element w x s) = Found (element_at s) (Both (Given (named ns w)) (IsExpr x))
+    -- A name is that of a variable which holds a value; before an index it is that of an array: 20 at an unknown name, 22 at an
+    -- array where a value is wanted, and at an element of what is no array.
+    pub place_typing : Place → Typing TPlace
+    place_typing (variable w) = found (variable_at w.span) (given (named ns w))
+    place_typing (element w x s) = found (element_at s) (both (given (named ns w)) (expr_typing x))
 
     -- What an argument is by itself: a name may be that of an array, and a call may be without a result.
-    pub IsArgument : Argument → Handed → Type 0
-    IsArgument (by_value (place (variable w))) = Made (handed_name w.span) (Given (named ns w))
-    IsArgument (by_value (call w xs s)) = Made handed_call (IsCall hs w xs s (AreArguments xs))
-    IsArgument (by_value x) = Made h_value (IsExpr x)
-    IsArgument (by_reference (variable w) s) = Made (handed_reference w.span) (Given (named ns w))
-    IsArgument (by_reference (element w x e) s) = Made (handed_element w.span) (Both (Given (named ns w)) (IsExpr x))
+    pub argument_typing : Argument → Typing Handed
+    argument_typing (by_value (place (variable w))) = made (handed_name w.span) (given (named ns w))
+    argument_typing (by_value (call w xs s)) = made handed_call (call_typing hs w xs s (arguments_typing xs))
+    argument_typing (by_value x) = made h_value (expr_typing x)
+    argument_typing (by_reference (variable w) s) = made (handed_reference w.span) (given (named ns w))
+    argument_typing (by_reference (element w x e) s) = made (handed_element w.span) (both (given (named ns w)) (expr_typing x))
 
-    -- Each argument suits what is asked in its place.
-    pub AreArguments : Arguments → Want → List Want → List Passed → Type 0
-    AreArguments no_arguments past ws = Just []
-    AreArguments (argument_then x xs) past ws =
-        Made pair_then (Both (Found (suits (first_want past ws) (span_of_argument x)) (IsArgument x)) (AreArguments xs past (rest_of ws)))
+    -- Each argument suits what is asked in its place; 22 or 24 at one that does not.
+    pub arguments_typing : Arguments → Want → List Want → Typing (List Passed)
+    arguments_typing no_arguments past ws = exactly []
+    arguments_typing (argument_then x xs) past ws =
+        made pair_then (both (found (suits (first_want past ws) (span_of_argument x)) (argument_typing x)) (arguments_typing xs past (rest_of ws)))
 
   -- a call of this name with these arguments
-  abbrev pub IsCallOf : Word → Arguments → Span → Called → Type 0
-  IsCallOf w xs s = IsCall hs w xs s (AreArguments xs)
-
-  abbrev mutual
-    pub ExprBreach : Expr → Fault → Type 0
-    ExprBreach (number v s) = No_breach
-    ExprBreach (truth b s) = No_breach
-    ExprBreach (program_index s) = No_breach
-    ExprBreach (program_count s) = No_breach
-    ExprBreach (place p) = PlaceBreach p
-    -- 22 at a call without a result
-    ExprBreach (call w xs s) = Wrong (value_called s) (IsCallOf w xs s) (CallBreach hs w xs s (AreArguments xs) (ArgumentsBreach xs))
-    ExprBreach (brackets x s) = ExprBreach x
-    -- 22 at the words of a type
-    ExprBreach (cast t x s) = Either (Refused (value_said t)) (ExprBreach x)
-    ExprBreach (prefix op x s) = ExprBreach x
-    ExprBreach (binary op x y s) = Either (ExprBreach x) (ExprBreach y)
-    ExprBreach (choose c x y s) = Either (ExprBreach c) (Either (ExprBreach x) (ExprBreach y))
-
-    -- 20 at an unknown name; 22 at an array where a value is wanted, and at an element of what is no array
-    pub PlaceBreach : Place → Fault → Type 0
-    PlaceBreach (variable w) = Wrong (variable_at w.span) (Given (named ns w)) (Refused (named ns w))
-    PlaceBreach (element w x s) = Wrong (element_at s) (Both (Given (named ns w)) (IsExpr x)) (Either (Refused (named ns w)) (ExprBreach x))
-
-    pub ArgumentBreach : Argument → Fault → Type 0
-    ArgumentBreach (by_value (place (variable w))) = Refused (named ns w)
-    ArgumentBreach (by_value (call w xs s)) = CallBreach hs w xs s (AreArguments xs) (ArgumentsBreach xs)
-    ArgumentBreach (by_value x) = ExprBreach x
-    ArgumentBreach (by_reference (variable w) s) = Refused (named ns w)
-    ArgumentBreach (by_reference (element w x e) s) = Either (Refused (named ns w)) (ExprBreach x)
-
-    -- 22 or 24 at an argument that does not suit
-    pub ArgumentsBreach : Arguments → Want → List Want → Fault → Type 0
-    ArgumentsBreach no_arguments past ws = No_breach
-    ArgumentsBreach (argument_then x xs) past ws =
-        Either (Wrong (suits (first_want past ws) (span_of_argument x)) (IsArgument x) (ArgumentBreach x)) (ArgumentsBreach xs past (rest_of ws))
-
-  abbrev pub CallOfBreach : Word → Arguments → Span → Fault → Type 0
-  CallOfBreach w xs s = CallBreach hs w xs s (AreArguments xs) (ArgumentsBreach xs)
+  abbrev pub call_of_typing : Word → Arguments → Span → Typing Called
+  call_of_typing w xs s = call_typing hs w xs s (arguments_typing xs)

@@ -115,10 +115,10 @@ state_fits gang w Q (Fails t s) h = h.by
 state_fits gang w Q (Stops s) h = h.by
 
 pub elements_fit : ElementsFit
-elements_fit program f h xs n fine clean is signed fit =
+elements_fit program f h xs n accepted is signed fit =
     let gang = gang_width program.gang in
     let w = first_world xs in
-    let own = fine_of (FineFunction program.functions) program.functions f h fine.each is in
+    let own = fine_of (FineFunction program.functions) program.functions f h accepted.fine.each is in
     let passes = handed_fits gang w (length h.params) h.variables h.parameters xs 0 own.params own.declared signed (stores_are w 0 (rows xs) (λ j. let same : 0 + j ≡ j = omega arith in ap (row_elem (rows xs)) same) (omega arith)) in
-    let ran = calls_fit program (some_width program.gang) (few_width program.gang) fine.each clean n most_calls f h is no_place (everyone gang) (handed 0 xs) w (first_state xs) passes (first_fits gang xs fit) in
+    let ran = calls_fit program (some_width program.gang) (few_width program.gang) accepted.fine.each accepted.sound n most_calls f h is no_place (everyone gang) (handed 0 xs) w (first_state xs) passes (first_fits gang xs fit) in
     rows_fit (rows xs) (state_of (meaning program f n xs)).arrays (state_fits gang w (Fits gang (answer_elem h.answer)) (meaning program f n xs) ran)

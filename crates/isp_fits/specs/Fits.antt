@@ -7,10 +7,8 @@ use Rattle.isp_base.specs.Maps.{Lanes}
 use Rattle.isp_base.specs.Rows.{Row, Fit}
 use Rattle.isp_base.specs.Values.{width}
 use Rattle.isp_base.specs.declared.signature.Argument.{Argument}
-use Rattle.isp_lex.specs.declared.fault.Fault.{Fault}
-use Rattle.isp_typed.specs.Fine.{IsFine}
 use Rattle.isp_typed.specs.Typed.{Program, TFunction}
-use Rattle.isp_rates.specs.Program.{ProgramBreach}
+use Rattle.isp_rates.specs.Program.{IsAccepted}
 use Rattle.isp_meaning.specs.Runs.{meaning, state_of}
 
 -- each element that f gives for an array is below 2 ^ width of the array's type
@@ -23,8 +21,7 @@ RowsFit (r ∷ rs) f = ((e : ℕ) → f 0 e < 2 ^ width r.elem) × RowsFit rs (�
 abbrev pub ElementsFit : Type 0
 ElementsFit =
     (program : Program) (f : ℕ) (h : TFunction) (xs : List Argument) (n : ℕ)
-    → IsFine program
-    → ((e : Fault) → ProgramBreach program e → ⊥)
+    → IsAccepted program
     → slice_get program.functions f ≡ Some h
     → has_signature h.parameters xs ≡ true
     → All (λ r. Fit r.elem r.bits) (rows xs)

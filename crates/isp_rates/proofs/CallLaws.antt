@@ -2,7 +2,7 @@
 use Rattle.std.proofs.Common.{◌≡◌, ℕ, zero, suc, refl, ◌+◌, ◌<◌, ◌++◌, sym, ap, ◌∙◌, drop, get_or, append_assoc}
 use Rattle.std.specs.Prelude.{List, [], ◌∷◌, length, map, Option, option_map, slice_get}
 use Rattle.isp_typed.specs.Typed.{TFunction}
-use Rattle.isp_rates.specs.Reaches.{function_calls}
+use Rattle.isp_independence.specs.Reaches.{function_calls}
 use Rattle.isp_rates.proofs.Steps.{split_at}
 
 module _ {R : Type 0} (all : List R → List ℕ) (one : R → List ℕ) (turn : (x : R) (xs : List R) → all (x ∷ xs) ≡ one x ++ all xs) where

@@ -2,7 +2,6 @@
 use Rattle.std.proofs.Common.{◌≡◌, ℕ, zero, suc, ◌+◌, ◌<◌, ◌++◌, Bool, true, false, cond, refl, sym, ap, subst, ◌∙◌, arith, drop, add-one, get_or, append_assoc}
 use Rattle.std.specs.Prelude.{Option, Some, None, List, [], ◌∷◌, length, bytes_eq, ◌&&◌, filter, find, is_some, slice_get}
 use Rattle.std.specs.Option.{option_or}
-use Rattle.std.proofs.lemmas.List.{append-nil}
 use Rattle.std.proofs.lemmas.Slice.Eq.{bytes_eq-Decides}
 use Rattle.isp_typed.specs.declared.function.TypedFunction.{TypedFunction}
 use Rattle.isp_rates.specs.Exports.{exports_from, is_entry, entry_from, at_number}

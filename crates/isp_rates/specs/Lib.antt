@@ -4,5 +4,4 @@ pub mod Exits
 pub mod Program
 pub mod Exports
 pub mod Covered
-pub mod Reaches
 pub mod reader

@@ -2,10 +2,8 @@
 ghost use Rattle.std.specs.Prelude.{◌≡◌, ◌&&◌, ℕ, List, bytes_eq, filter, find, map, option_map, slice_get};
 ghost use Rattle.std.specs.BTreeMap.{get_by_text};
 ghost use Rattle.isp_lex.specs.declared.fault.Fault.{Fault};
-ghost use Rattle.isp_typed.specs.Fine.{IsFine};
-ghost use Rattle.isp_typed.specs.Scoped.{IsScoped};
 ghost use Rattle.isp_typed.specs.Views.{functions_of, program_of};
-ghost use Rattle.isp_rates.specs.Reaches.{function_calls};
+ghost use Rattle.isp_independence.specs.Reaches.{function_calls};
 ghost use Rattle.isp_rates.specs.reader.Lists.{lists_of};
 ghost use Rattle.isp_rates.specs.Covered.{program_left};
 ghost use Rattle.isp_rates.specs.Exports.{at_number, entry_from, exports_from};
@@ -36,7 +34,7 @@ impl Model for Checked {
     ghost use Rattle.std.specs.Prelude.{◌≡◌, ℕ, List, map};
     ghost use Rattle.std.specs.BTreeMap.{get_by_text};
     ghost use Rattle.isp_typed.specs.Views.{functions_of, program_of};
-    ghost use Rattle.isp_rates.specs.Reaches.{function_calls};
+    ghost use Rattle.isp_independence.specs.Reaches.{function_calls};
     ghost use Rattle.isp_rates.specs.reader.Lists.{lists_of};
     ghost use Rattle.isp_rates.specs.Exports.{entry_from, exports_from};
     ghost use Rattle.isp_rates.specs.Program.{ProgramBreach};
@@ -100,12 +98,10 @@ impl Checked {
         }
     }
 
-    /// The program: its gang size, and its functions, each known by its number in the order of the text.
+    /// The program: its gang size, and its functions, each known by its number in the order of the text. It is
+    /// one that names, types, rates, exits and exports accept.
     pub fn program(&self) -> &Program
         ensures same { result.now ≡ self.now }
-        ensures sound { (f : Fault) → ProgramBreach (program_of result.now) f → ⊥ }
-        ensures fine { IsFine (program_of self.now) }
-        ensures scoped { IsScoped (program_of self.now) }
         ensures accepted { IsAccepted (program_of self.now) }
     {
         self.typed.program()

@@ -9,7 +9,6 @@ use Rattle.isp_lex.specs.Faults.{fault}
 use Rattle.isp_tree.specs.Tree.{Expr, number, truth, program_index, program_count, place, call, brackets, cast, prefix, binary, choose, variable, element, Item, plain, with_value, with_size, Declaration, Simple, value, assign, change, First, first_declare, first_simple, Range}
 use Rattle.isp_tree.specs.Tree.{Stmt, block, empty, declare, simple, if_then, if_else, loop_while, loop_do, loop_for, foreach, foreach_active, unmasked, jump, returning, print, assert, Block, braces, Stmts, no_stmts, stmt_then}
 use Rattle.isp_typed.specs.declared.variable.Variable.{Variable}
-use Rattle.isp_typed.specs.Promise.{Right}
 use Rattle.isp_typed.proofs.Right.{just_right, given_right, made_right, found_right, both_right, beside_right, perhaps_right}
 use Rattle.isp_typed.specs.Typed.{t_value, t_first_simple}
 use Rattle.isp_typed.specs.Typed.{t_block, t_no_stmts}
@@ -19,7 +18,7 @@ use Rattle.isp_exprs.specs.Words.{value_said, type_declared}
 use Rattle.isp_exprs.specs.Scopes.{named, is_new, with_name}
 use Rattle.isp_exprs.specs.Places.{variable_target, element_target}
 use Rattle.isp_exprs.specs.Callees.{Heading}
-use Rattle.isp_exprs.specs.Rules.{second, pair_then, ExprBreach}
+use Rattle.isp_exprs.specs.Rules.{second, pair_then}
 use Rattle.isp_types.specs.Numbering.{or_nothing, item_names, item_variables, first_names, first_variables, range_names, range_variables, names_after, variables_after}
 use Rattle.isp_types.specs.Declarations.{array_sized, with_initial, sized_item}
 use Rattle.isp_types.specs.Simple.{stated, assigned, stepped}
@@ -27,16 +26,16 @@ use Rattle.isp_types.specs.Statements.{as_test, range_made, places, agrees, as_a
 use Rattle.isp_typed.specs.Fine.{foreach_index as index, active_index}
 use Rattle.isp_types.specs.Simple.{no_place}
 use Rattle.isp_types.specs.Nodes.{declared_first, declared_stmt, simple_stmt, if_stmt, if_else_stmt, while_stmt, do_stmt, for_stmt, foreach_stmt, active_stmt, unmasked_stmt, return_stmt, print_stmt, assert_stmt, braces_made, stmts_made}
-use Rattle.isp_types.specs.Declarations.{IsItem, ItemBreach, AreItems, ItemsBreach, IsDeclaration, DeclarationBreach}
-use Rattle.isp_types.specs.Simple.{IsTarget, TargetBreach, IsSimple, SimpleBreach}
-use Rattle.isp_types.specs.Statements.{IsFirst, FirstBreach, IsTest, AreRanges, RangesBreach, AreValues, ValuesBreach, IsReturned, ReturnedBreach, IsStmt, StmtBreach, IsBlock, BlockBreach, AreStmts, StmtsBreach}
+use Rattle.isp_types.specs.Declarations.{item_typing, items_typing, declaration_typing}
+use Rattle.isp_types.specs.Simple.{target_typing, simple_typing}
+use Rattle.isp_types.specs.Statements.{first_typing, test_typing, ranges_typing, values_typing, returned_typing, stmt_typing, block_typing, stmts_typing}
 use Rattle.isp_types.specs.reader.JudgeStmts.{judge_item, judge_items, judge_declaration, judge_target, judge_simple, judge_first, judge_test, judge_ranges, judge_values, judge_returned, judge_stmt, judge_block, judge_stmts}
-use Rattle.isp_exprs.proofs.Exprs.{call_of_right, expr_right}
+use Rattle.isp_exprs.proofs.Exprs.{RightTyping, call_of_right, expr_right}
 
 module _ (gang : Gang) (hs : List Heading) where
   module _ (r : Result ValueWords Fault) (start : ℕ) where
     item_right : (ns : List Binding) (vars : List Variable) (i : Item)
-        → Right (judge_item gang hs r start ns vars i) (IsItem gang hs r start ns vars i) (ItemBreach gang hs r start ns vars i)
+        → RightTyping (judge_item gang hs r start ns vars i) (item_typing gang hs r start ns vars i)
     item_right ns vars (plain w) = beside_right (is_new w.name start ns) (fault NameTwice w.span) _ _ _ (just_right _)
     item_right ns vars (with_value w x s) = made_right (with_initial (length vars) (type_declared (or_nothing r)) s) _ _ _
         (beside_right (is_new w.name start ns) (fault NameTwice w.span) _ _ _ (expr_right gang hs ns x))
@@ -44,16 +43,16 @@ module _ (gang : Gang) (hs : List Heading) where
         (beside_right (is_new w.name start ns) (fault NameTwice w.span) _ _ _ (given_right (array_sized gang (length vars) (or_nothing r) n)))
 
     items_right : (ns : List Binding) (vars : List Variable) (is : List Item)
-        → Right (judge_items gang hs r start ns vars is) (AreItems gang hs r start ns vars is) (ItemsBreach gang hs r start ns vars is)
+        → RightTyping (judge_items gang hs r start ns vars is) (items_typing gang hs r start ns vars is)
     items_right ns vars [] = just_right []
     items_right ns vars (i ∷ is) = made_right pair_then _ _ _
         (both_right _ _ _ _ _ _ (item_right ns vars i) (items_right (item_names gang r ns vars i) (item_variables gang r vars i) is))
 
   declaration_right : (ns : List Binding) (start : ℕ) (vars : List Variable) (d : Declaration)
-      → Right (judge_declaration gang hs ns start vars d) (IsDeclaration gang hs ns start vars d) (DeclarationBreach gang hs ns start vars d)
+      → RightTyping (judge_declaration gang hs ns start vars d) (declaration_typing gang hs ns start vars d)
   declaration_right ns start vars d = made_right second _ _ _ (both_right _ _ _ _ _ _ (given_right (value_said d.ty)) (items_right (value_said d.ty) start ns vars d.items))
 
-  target_right : (ns : List Binding) (x : Expr) → Right (judge_target gang hs ns x) (IsTarget gang hs ns x) (TargetBreach gang hs ns x)
+  target_right : (ns : List Binding) (x : Expr) → RightTyping (judge_target gang hs ns x) (target_typing gang hs ns x)
   target_right ns (place (variable w)) = found_right (variable_target w.span) _ _ _ (given_right (named ns w))
   target_right ns (place (element w x s)) = found_right (element_target s) _ _ _ (both_right _ _ _ _ _ _ (given_right (named ns w)) (expr_right gang hs ns x))
   target_right ns (number v s) = found_right (no_place s) _ _ _ (expr_right gang hs ns (number v s))
@@ -67,7 +66,7 @@ module _ (gang : Gang) (hs : List Heading) where
   target_right ns (choose c x y s) = found_right (no_place s) _ _ _ (expr_right gang hs ns (choose c x y s))
   target_right ns (call w xs s) = found_right (no_place s) _ _ _ (expr_right gang hs ns (call w xs s))
 
-  simple_right : (ns : List Binding) (p : Simple) → Right (judge_simple gang hs ns p) (IsSimple gang hs ns p) (SimpleBreach gang hs ns p)
+  simple_right : (ns : List Binding) (p : Simple) → RightTyping (judge_simple gang hs ns p) (simple_typing gang hs ns p)
   simple_right ns (value (call w xs s)) = made_right stated _ _ _ (call_of_right gang hs ns w xs s)
   simple_right ns (value (number v s)) = made_right t_value _ _ _ (expr_right gang hs ns (number v s))
   simple_right ns (value (truth b s)) = made_right t_value _ _ _ (expr_right gang hs ns (truth b s))
@@ -83,34 +82,34 @@ module _ (gang : Gang) (hs : List Heading) where
   simple_right ns (change c t s) = made_right (stepped c s) _ _ _ (target_right ns t)
 
   first_right : (ns : List Binding) (start : ℕ) (vars : List Variable) (i : First)
-      → Right (judge_first gang hs ns start vars i) (IsFirst gang hs ns start vars i) (FirstBreach gang hs ns start vars i)
+      → RightTyping (judge_first gang hs ns start vars i) (first_typing gang hs ns start vars i)
   first_right ns start vars (first_declare d) = made_right (declared_first d.span) _ _ _ (declaration_right ns start vars d)
   first_right ns start vars (first_simple s) = made_right t_first_simple _ _ _ (simple_right ns s)
 
-  test_right : (ns : List Binding) (x : Expr) → Right (judge_test gang hs ns x) (IsTest gang hs ns x) (ExprBreach gang hs ns x)
+  test_right : (ns : List Binding) (x : Expr) → RightTyping (judge_test gang hs ns x) (test_typing gang hs ns x)
   test_right ns x = made_right as_test _ _ _ (expr_right gang hs ns x)
 
   ranges_right : (ns : List Binding) (start : ℕ) (is : List Binding) (vars : List Variable) (rs : List Range)
-      → Right (judge_ranges gang hs ns start is vars rs) (AreRanges gang hs ns start is vars rs) (RangesBreach gang hs ns start is vars rs)
+      → RightTyping (judge_ranges gang hs ns start is vars rs) (ranges_typing gang hs ns start is vars rs)
   ranges_right ns start is vars [] = just_right []
   ranges_right ns start is vars (r ∷ rs) = made_right pair_then _ _ _ (both_right _ _ _ _ _ _
       (made_right (range_made (length vars) r.span) _ _ _ (beside_right (is_new r.word.name start is) (fault NameTwice r.word.span) _ _ _
       (both_right _ _ _ _ _ _ (expr_right gang hs ns r.start) (expr_right gang hs ns r.end))))
       (ranges_right ns start (with_name is vars r.word.name (Ok index)) (vars ++ index ∷ []) rs))
 
-  values_right : (ns : List Binding) (xs : List Expr) → Right (judge_values gang hs ns xs) (AreValues gang hs ns xs) (ValuesBreach gang hs ns xs)
+  values_right : (ns : List Binding) (xs : List Expr) → RightTyping (judge_values gang hs ns xs) (values_typing gang hs ns xs)
   values_right ns [] = just_right []
   values_right ns (x ∷ xs) = made_right pair_then _ _ _ (both_right _ _ _ _ _ _ (expr_right gang hs ns x) (values_right ns xs))
 
   module _ (answer : Result (Option Ty) Fault) where
     returned_right : (ns : List Binding) (k : Span) (x : Option Expr)
-        → Right (judge_returned gang hs answer ns k x) (IsReturned gang hs answer ns x) (ReturnedBreach gang hs answer ns k x)
+        → RightTyping (judge_returned gang hs answer ns k x) (returned_typing gang hs answer ns k x)
     returned_right ns k x = beside_right (agrees answer x) (fault Mismatch k) _ _ _
         (perhaps_right _ _ _ (λ y. made_right (as_answer answer) _ _ _ (expr_right gang hs ns y)) x)
 
     mutual
       pub stmt_right : (ns : List Binding) (start : ℕ) (vars : List Variable) (x : Stmt)
-          → Right (judge_stmt gang hs answer ns start vars x) (IsStmt gang hs answer ns start vars x) (StmtBreach gang hs answer ns start vars x)
+          → RightTyping (judge_stmt gang hs answer ns start vars x) (stmt_typing gang hs answer ns start vars x)
       stmt_right ns start vars (block b) = made_right t_block _ _ _ (block_right ns (length ns) vars b)
       stmt_right ns start vars (empty s) = just_right _
       stmt_right ns start vars (declare d s) = made_right (declared_stmt s) _ _ _ (declaration_right ns start vars d)
@@ -141,11 +140,11 @@ module _ (gang : Gang) (hs : List Heading) where
       stmt_right ns start vars (assert x c s) = made_right (assert_stmt c s) _ _ _ (test_right ns x)
 
       pub block_right : (ns : List Binding) (start : ℕ) (vars : List Variable) (b : Block)
-          → Right (judge_block gang hs answer ns start vars b) (IsBlock gang hs answer ns start vars b) (BlockBreach gang hs answer ns start vars b)
+          → RightTyping (judge_block gang hs answer ns start vars b) (block_typing gang hs answer ns start vars b)
       block_right ns start vars (braces ss s) = made_right (braces_made s) _ _ _ (stmts_right ns start vars ss)
 
       pub stmts_right : (ns : List Binding) (start : ℕ) (vars : List Variable) (ss : Stmts)
-          → Right (judge_stmts gang hs answer ns start vars ss) (AreStmts gang hs answer ns start vars ss) (StmtsBreach gang hs answer ns start vars ss)
+          → RightTyping (judge_stmts gang hs answer ns start vars ss) (stmts_typing gang hs answer ns start vars ss)
       stmts_right ns start vars no_stmts = just_right t_no_stmts
       stmts_right ns start vars (stmt_then s ss) = made_right stmts_made _ _ _
           (both_right _ _ _ _ _ _ (stmt_right ns start vars s) (stmts_right (names_after gang ns vars s) start (variables_after gang vars s) ss))

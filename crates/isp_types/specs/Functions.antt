@@ -1,4 +1,4 @@
--- Functions and programs: which typed tree each is, and its breaches.
+-- Functions and programs: which typed tree each is, and beside it what its breaches are.
 use Rattle.std.specs.Prelude.{ℕ, List, [], ◌∷◌, ◌++◌, map, bytes_eq, Bool, true, false, not, ◌||◌, Option, option_map, is_some, Result, Ok, Err}
 use Rattle.std.specs.List.{list_any}
 use Rattle.isp_base.specs.declared.types.Gang.{Gang}
@@ -15,18 +15,18 @@ use Rattle.isp_tree.specs.declared.function.Linkage.TheVariants as linkage
 use Rattle.isp_tree.specs.Tree.{Param, Block, Function}
 use Rattle.isp_typed.specs.declared.variable.Holds.TheVariants as holds
 use Rattle.isp_typed.specs.declared.variable.Variable.{Variable}
-use Rattle.isp_typed.specs.Forms.{Both, Either, No_breach, Just, Made, Given, Refused, Provided, Unless}
 use Rattle.isp_typed.specs.Typed.{TBlock, TFunction, Program}
 use Rattle.isp_exprs.specs.declared.callee.Want.{Want}
 use Rattle.isp_exprs.specs.declared.callee.Want.TheVariants.{ValueOf, ArrayOf, NoReference}
 use Rattle.isp_exprs.specs.declared.scope.Binding.{Binding}
 use Rattle.isp_exprs.specs.declared.words.ValueWords.{ValueWords}
+use Rattle.isp_exprs.specs.Typing.{Typing, exactly, given, both, made, provided}
 use Rattle.isp_exprs.specs.Words.{value_said, answer_said, rate_or_varying}
 use Rattle.isp_exprs.specs.Scopes.{is_new, with_name}
 use Rattle.isp_exprs.specs.Callees.{Heading, library_named}
 use Rattle.isp_exprs.specs.Rules.{second, pair_then}
 use Rattle.isp_types.specs.Numbering.{or_nothing, declared, value_variable, block_variables}
-use Rattle.isp_types.specs.Statements.{IsBlock, BlockBreach}
+use Rattle.isp_types.specs.Statements.{block_typing}
 
 -- ---- parameters
 
@@ -102,43 +102,35 @@ function_made gang f p = record {
 }
 
 module _ (gang : Gang) (hs : List Heading) where
-  -- Parameters and the body's outermost declarations are one scope.
-  abbrev pub IsBody : Result (Option Ty) Fault → List Binding → List Variable → List Param → Block → TBlock → Type 0
-  IsBody answer ns vars [] b = IsBlock gang hs answer ns 0 vars b
-  IsBody answer ns vars (p ∷ ps) b = Provided (is_new p.word.name 0 ns) (Provided (param_fits p)
-      (Made second (Both (Given (value_said p.ty)) (IsBody answer (with_name ns vars p.word.name (declared (value_said p.ty) (param_variable p))) (vars ++ param_variable p ∷ []) ps b))))
+  -- Parameters and the body's outermost declarations are one scope: 21 at the later of two equal names, 22 at an array that is
+  -- not uniform and at words that contradict each other.
+  abbrev pub body_typing : Result (Option Ty) Fault → List Binding → List Variable → List Param → Block → Typing TBlock
+  body_typing answer ns vars [] b = block_typing gang hs answer ns 0 vars b
+  body_typing answer ns vars (p ∷ ps) b = provided (is_new p.word.name 0 ns) (fault NameTwice p.word.span) (provided (param_fits p) (fault Mismatch p.word.span)
+      (made second (both (given (value_said p.ty))
+      (body_typing answer (with_name ns vars p.word.name (declared (value_said p.ty) (param_variable p))) (vars ++ param_variable p ∷ []) ps b))))
 
-  -- 21 at the later of two equal names, 22 at an array that is not uniform and at words that contradict each other
-  abbrev pub BodyBreach : Result (Option Ty) Fault → List Binding → List Variable → List Param → Block → Fault → Type 0
-  BodyBreach answer ns vars [] b = BlockBreach gang hs answer ns 0 vars b
-  BodyBreach answer ns vars (p ∷ ps) b = Unless (is_new p.word.name 0 ns) (fault NameTwice p.word.span) (Unless (param_fits p) (fault Mismatch p.word.span)
-      (Either (Refused (value_said p.ty)) (BodyBreach answer (with_name ns vars p.word.name (declared (value_said p.ty) (param_variable p))) (vars ++ param_variable p ∷ []) ps b)))
+  -- a function behind earlier ones, of which the names are given; 21 at a name that is taken
+  abbrev pub function_typing : List (List ℕ) → Function → Typing TFunction
+  function_typing earlier f = made (function_made gang f) (provided (is_free earlier f.word.name) (fault NameTwice f.word.span)
+      (both (given (answer_said f.answer)) (body_typing (answer_said f.answer) [] [] f.params f.body)))
 
-  -- a function behind earlier ones, of which the names are given
-  abbrev pub IsFunction : List (List ℕ) → Function → TFunction → Type 0
-  IsFunction earlier f = Made (function_made gang f) (Provided (is_free earlier f.word.name)
-      (Both (Given (answer_said f.answer)) (IsBody (answer_said f.answer) [] [] f.params f.body)))
-
-  -- 21 at a name that is taken
-  abbrev pub FunctionBreach : List (List ℕ) → Function → Fault → Type 0
-  FunctionBreach earlier f = Unless (is_free earlier f.word.name) (fault NameTwice f.word.span)
-      (Either (Refused (answer_said f.answer)) (BodyBreach (answer_said f.answer) [] [] f.params f.body))
-
-  abbrev pub AreFunctions : List (List ℕ) → List Function → List TFunction → Type 0
-  AreFunctions earlier [] = Just []
-  AreFunctions earlier (f ∷ fs) = Made pair_then (Both (IsFunction earlier f) (AreFunctions (earlier ++ f.word.name ∷ []) fs))
-
-  abbrev pub FunctionsBreach : List (List ℕ) → List Function → Fault → Type 0
-  FunctionsBreach earlier [] = No_breach
-  FunctionsBreach earlier (f ∷ fs) = Either (FunctionBreach earlier f) (FunctionsBreach (earlier ++ f.word.name ∷ []) fs)
+  abbrev pub functions_typing : List (List ℕ) → List Function → Typing (List TFunction)
+  functions_typing earlier [] = exactly []
+  functions_typing earlier (f ∷ fs) = made pair_then (both (function_typing earlier f) (functions_typing (earlier ++ f.word.name ∷ []) fs))
 
 -- ---- programs: a function may be called before it stands
 
 abbrev pub program_made : Gang → List TFunction → Program
 program_made gang gs = record { gang = gang; functions = gs }
 
-abbrev pub IsProgram : Gang → List Function → Program → Type 0
-IsProgram gang fs = Made (program_made gang) (AreFunctions gang (map heading fs) [] fs)
+abbrev pub program_typing : Gang → List Function → Typing Program
+program_typing gang fs = made (program_made gang) (functions_typing gang (map heading fs) [] fs)
 
+-- which typed program the functions of a text are
+abbrev pub IsProgram : Gang → List Function → Program → Type 0
+IsProgram gang fs = (program_typing gang fs).is
+
+-- their breaches
 abbrev pub Breach : Gang → List Function → Fault → Type 0
-Breach gang fs = FunctionsBreach gang (map heading fs) [] fs
+Breach gang fs = (program_typing gang fs).breach

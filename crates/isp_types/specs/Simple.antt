@@ -1,4 +1,4 @@
--- What stands before a semicolon: which typed tree it is, and its breaches.
+-- What stands before a semicolon: which typed tree it is, and beside it what its breaches are.
 use Rattle.std.specs.Prelude.{List, Option, Some, None, Result}
 use Rattle.isp_base.specs.declared.types.Elem.TheVariants.{I32}
 use Rattle.isp_base.specs.declared.types.Gang.{Gang}
@@ -12,15 +12,15 @@ use Rattle.isp_tree.specs.declared.stmt.Assignment.TheVariants as with
 use Rattle.isp_tree.specs.declared.stmt.Change.{Change}
 use Rattle.isp_tree.specs.declared.stmt.Change.TheVariants.{Increment, Decrement}
 use Rattle.isp_tree.specs.Tree.{Expr, place, call, variable, element, Simple, value, assign, change, span_of}
-use Rattle.isp_typed.specs.Forms.{Both, Either, Made, Found, Wrong, Given, Refused}
 use Rattle.isp_typed.specs.Typed.{TExpr, TPlace, place_type, TSimple, t_value, t_run, t_assign, t_update, t_step, elem_of}
 use Rattle.isp_exprs.specs.declared.scope.Binding.{Binding}
+use Rattle.isp_exprs.specs.Typing.{Typing, given, both, made, found}
 use Rattle.isp_exprs.specs.Scopes.{named}
 use Rattle.isp_exprs.specs.Values.{converted}
 use Rattle.isp_exprs.specs.Places.{mismatch, variable_target, element_target}
 use Rattle.isp_exprs.specs.Passing.{Called, gives, runs}
 use Rattle.isp_exprs.specs.Callees.{Heading}
-use Rattle.isp_exprs.specs.Rules.{IsCallOf, CallOfBreach, IsExpr, ExprBreach}
+use Rattle.isp_exprs.specs.Rules.{call_of_typing, expr_typing}
 
 -- a call as a statement
 abbrev pub stated : Called → TSimple
@@ -63,28 +63,15 @@ abbrev pub no_place : Span → TExpr → Result TPlace Fault
 no_place s x = mismatch s
 
 module _ (gang : Gang) (hs : List Heading) where
-  -- A target is a variable or an element, and not constant.
-  abbrev pub IsTarget : List Binding → Expr → TPlace → Type 0
-  IsTarget ns (place (variable w)) = Found (variable_target w.span) (Given (named ns w))
-  IsTarget ns (place (element w x s)) = Found (element_target s) (Both (Given (named ns w)) (IsExpr gang hs ns x))
-  IsTarget ns x = Found (no_place (span_of x)) (IsExpr gang hs ns x)
-
-  -- 22 at another target, 24 at a constant one
-  abbrev pub TargetBreach : List Binding → Expr → Fault → Type 0
-  TargetBreach ns (place (variable w)) = Wrong (variable_target w.span) (Given (named ns w)) (Refused (named ns w))
-  TargetBreach ns (place (element w x s)) =
-      Wrong (element_target s) (Both (Given (named ns w)) (IsExpr gang hs ns x)) (Either (Refused (named ns w)) (ExprBreach gang hs ns x))
-  TargetBreach ns x = Wrong (no_place (span_of x)) (IsExpr gang hs ns x) (ExprBreach gang hs ns x)
+  -- A target is a variable or an element, and not constant: 22 at another, 24 at a constant one.
+  abbrev pub target_typing : List Binding → Expr → Typing TPlace
+  target_typing ns (place (variable w)) = found (variable_target w.span) (given (named ns w))
+  target_typing ns (place (element w x s)) = found (element_target s) (both (given (named ns w)) (expr_typing gang hs ns x))
+  target_typing ns x = found (no_place (span_of x)) (expr_typing gang hs ns x)
 
   -- An assigned value is converted to the target's type. A call without a result may stand as a statement.
-  abbrev pub IsSimple : List Binding → Simple → TSimple → Type 0
-  IsSimple ns (value (call w xs s)) = Made stated (IsCallOf gang hs ns w xs s)
-  IsSimple ns (value x) = Made t_value (IsExpr gang hs ns x)
-  IsSimple ns (assign a t x s) = Made (assigned a s) (Both (IsTarget ns t) (IsExpr gang hs ns x))
-  IsSimple ns (change c t s) = Made (stepped c s) (IsTarget ns t)
-
-  abbrev pub SimpleBreach : List Binding → Simple → Fault → Type 0
-  SimpleBreach ns (value (call w xs s)) = CallOfBreach gang hs ns w xs s
-  SimpleBreach ns (value x) = ExprBreach gang hs ns x
-  SimpleBreach ns (assign a t x s) = Either (TargetBreach ns t) (ExprBreach gang hs ns x)
-  SimpleBreach ns (change c t s) = TargetBreach ns t
+  abbrev pub simple_typing : List Binding → Simple → Typing TSimple
+  simple_typing ns (value (call w xs s)) = made stated (call_of_typing gang hs ns w xs s)
+  simple_typing ns (value x) = made t_value (expr_typing gang hs ns x)
+  simple_typing ns (assign a t x s) = made (assigned a s) (both (target_typing ns t) (expr_typing gang hs ns x))
+  simple_typing ns (change c t s) = made (stepped c s) (target_typing ns t)

@@ -1,7 +1,7 @@
--- Statements: which typed tree each is, and its breaches.
+-- Statements: which typed tree each is, and beside it what its breaches are.
 --     answer   what the function gives back       start   names from here on are the innermost scope's
 --     vars     the variables that were declared so far
-use Rattle.std.specs.Prelude.{ℕ, List, [], ◌∷◌, ◌++◌, length, count_by, Bool, true, false, ◌==◌, if◌then◌else◌, Option, Some, None, Result, Ok, Err}
+use Rattle.std.specs.Prelude.{ℕ, List, [], ◌∷◌, ◌++◌, length, count_by, Bool, true, false, ◌==◌, Option, Some, None, Result, Ok, Err}
 use Rattle.isp_base.specs.declared.types.Elem.TheVariants.{Bool as Truth, I32}
 use Rattle.isp_base.specs.declared.types.Gang.{Gang}
 use Rattle.isp_base.specs.declared.types.Span.{Span}
@@ -11,17 +11,17 @@ use Rattle.isp_lex.specs.declared.fault.Rule.TheVariants.{NameTwice, Mismatch, B
 use Rattle.isp_lex.specs.Faults.{fault}
 use Rattle.isp_tree.specs.Tree.{Expr, First, first_declare, first_simple, Range, Stmt, block, empty, declare, simple, if_then, if_else, loop_while, loop_do, loop_for, foreach, foreach_active, unmasked, jump, returning, print, assert, Block, braces, Stmts, no_stmts, stmt_then}
 use Rattle.isp_typed.specs.declared.variable.Variable.{Variable}
-use Rattle.isp_typed.specs.Forms.{Both, Either, No_breach, Just, Made, Provided, Unless, Perhaps, OfPerhaps}
 use Rattle.isp_typed.specs.Fine.{foreach_index as index, active_index}
 use Rattle.isp_typed.specs.Typed.{TExpr, TFirst, t_first_simple, TRange, TStmt, t_block, t_jump, TBlock, t_braces, TStmts, t_no_stmts}
 use Rattle.isp_exprs.specs.declared.scope.Binding.{Binding}
+use Rattle.isp_exprs.specs.Typing.{Typing, exactly, both, made, provided, perhaps}
 use Rattle.isp_exprs.specs.Scopes.{is_new, with_name}
 use Rattle.isp_exprs.specs.Values.{converted}
 use Rattle.isp_exprs.specs.Callees.{Heading}
-use Rattle.isp_exprs.specs.Rules.{IsExpr, ExprBreach, pair_then}
+use Rattle.isp_exprs.specs.Rules.{expr_typing, pair_then}
 use Rattle.isp_types.specs.Numbering.{first_names, first_variables, range_names, range_variables, names_after, variables_after}
-use Rattle.isp_types.specs.Declarations.{IsDeclaration, DeclarationBreach}
-use Rattle.isp_types.specs.Simple.{IsSimple, SimpleBreach}
+use Rattle.isp_types.specs.Declarations.{declaration_typing}
+use Rattle.isp_types.specs.Simple.{simple_typing}
 use Rattle.isp_types.specs.Nodes.{declared_first, declared_stmt, simple_stmt, if_stmt, if_else_stmt, while_stmt, do_stmt, for_stmt, foreach_stmt, active_stmt, unmasked_stmt, return_stmt, print_stmt, assert_stmt, braces_made, stmts_made}
 
 -- ---- parts
@@ -54,118 +54,68 @@ as_answer (Ok None) x = x
 as_answer (Ok (Some t)) x = converted t.elem x
 
 module _ (gang : Gang) (hs : List Heading) where
-  abbrev pub IsFirst : List Binding → ℕ → List Variable → First → TFirst → Type 0
-  IsFirst ns start vars (first_declare d) = Made (declared_first d.span) (IsDeclaration gang hs ns start vars d)
-  IsFirst ns start vars (first_simple s) = Made t_first_simple (IsSimple gang hs ns s)
-
-  abbrev pub FirstBreach : List Binding → ℕ → List Variable → First → Fault → Type 0
-  FirstBreach ns start vars (first_declare d) = DeclarationBreach gang hs ns start vars d
-  FirstBreach ns start vars (first_simple s) = SimpleBreach gang hs ns s
+  abbrev pub first_typing : List Binding → ℕ → List Variable → First → Typing TFirst
+  first_typing ns start vars (first_declare d) = made (declared_first d.span) (declaration_typing gang hs ns start vars d)
+  first_typing ns start vars (first_simple s) = made t_first_simple (simple_typing gang hs ns s)
 
   -- ---- parts of statements
 
-  abbrev pub IsTest : List Binding → Expr → TExpr → Type 0
-  IsTest ns x = Made as_test (IsExpr gang hs ns x)
+  abbrev pub test_typing : List Binding → Expr → Typing TExpr
+  test_typing ns x = made as_test (expr_typing gang hs ns x)
 
-  -- The bounds know the names outside alone; the indices are names of one scope, from `start` on.
-  abbrev pub AreRanges : List Binding → ℕ → List Binding → List Variable → List Range → List TRange → Type 0
-  AreRanges ns start is vars [] = Just []
-  AreRanges ns start is vars (r ∷ rs) = Made pair_then (Both
-      (Made (range_made (length vars) r.span) (Provided (is_new r.word.name start is) (Both (IsExpr gang hs ns r.start) (IsExpr gang hs ns r.end))))
-      (AreRanges ns start (with_name is vars r.word.name (Ok index)) (vars ++ index ∷ []) rs))
-
-  abbrev pub RangesBreach : List Binding → ℕ → List Binding → List Variable → List Range → Fault → Type 0
-  RangesBreach ns start is vars [] = No_breach
-  RangesBreach ns start is vars (r ∷ rs) = Either
-      (Unless (is_new r.word.name start is) (fault NameTwice r.word.span) (Either (ExprBreach gang hs ns r.start) (ExprBreach gang hs ns r.end)))
-      (RangesBreach ns start (with_name is vars r.word.name (Ok index)) (vars ++ index ∷ []) rs)
+  -- The bounds know the names outside alone; the indices are names of one scope, from `start` on: 21 at the later of two equal
+  -- ones.
+  abbrev pub ranges_typing : List Binding → ℕ → List Binding → List Variable → List Range → Typing (List TRange)
+  ranges_typing ns start is vars [] = exactly []
+  ranges_typing ns start is vars (r ∷ rs) = made pair_then (both
+      (made (range_made (length vars) r.span) (provided (is_new r.word.name start is) (fault NameTwice r.word.span)
+      (both (expr_typing gang hs ns r.start) (expr_typing gang hs ns r.end))))
+      (ranges_typing ns start (with_name is vars r.word.name (Ok index)) (vars ++ index ∷ []) rs))
 
   -- values that are printed
-  abbrev pub AreValues : List Binding → List Expr → List TExpr → Type 0
-  AreValues ns [] = Just []
-  AreValues ns (x ∷ xs) = Made pair_then (Both (IsExpr gang hs ns x) (AreValues ns xs))
-
-  abbrev pub ValuesBreach : List Binding → List Expr → Fault → Type 0
-  ValuesBreach ns [] = No_breach
-  ValuesBreach ns (x ∷ xs) = Either (ExprBreach gang hs ns x) (ValuesBreach ns xs)
+  abbrev pub values_typing : List Binding → List Expr → Typing (List TExpr)
+  values_typing ns [] = exactly []
+  values_typing ns (x ∷ xs) = made pair_then (both (expr_typing gang hs ns x) (values_typing ns xs))
 
   -- ---- statements: each body is a scope of its own, and so is a whole `for`, and a `foreach` from its indices on
 
   module _ (answer : Result (Option Ty) Fault) where
-    abbrev pub IsReturned : List Binding → Option Expr → Option TExpr → Type 0
-    IsReturned ns x = Provided (agrees answer x) (Perhaps (λ y. Made (as_answer answer) (IsExpr gang hs ns y)) x)
-
     -- 22 at the word `return`
-    abbrev pub ReturnedBreach : List Binding → Span → Option Expr → Fault → Type 0
-    ReturnedBreach ns k x = Unless (agrees answer x) (fault Mismatch k) (OfPerhaps (ExprBreach gang hs ns) x)
+    abbrev pub returned_typing : List Binding → Span → Option Expr → Typing (Option TExpr)
+    returned_typing ns k x = provided (agrees answer x) (fault Mismatch k) (perhaps (λ y. made (as_answer answer) (expr_typing gang hs ns y)) x)
 
     abbrev mutual
-      pub IsStmt : List Binding → ℕ → List Variable → Stmt → TStmt → Type 0
-      IsStmt ns start vars (block b) = Made t_block (IsBlock ns (length ns) vars b)
-      IsStmt ns start vars (empty s) = Just (t_block (t_braces t_no_stmts s))
-      IsStmt ns start vars (declare d s) = Made (declared_stmt s) (IsDeclaration gang hs ns start vars d)
-      IsStmt ns start vars (simple p s) = Made (simple_stmt s) (IsSimple gang hs ns p)
-      IsStmt ns start vars (if_then f x a s) = Made (if_stmt f (length vars) s) (Both (IsTest ns x) (IsStmt ns (length ns) vars a))
-      IsStmt ns start vars (if_else f x a b s) = Made (if_else_stmt f (length vars) s)
-          (Both (IsTest ns x) (Both (IsStmt ns (length ns) vars a) (IsStmt ns (length ns) (variables_after gang vars a) b)))
-      IsStmt ns start vars (loop_while f x a s) = Made (while_stmt f (length vars) s) (Both (IsTest ns x) (IsStmt ns (length ns) vars a))
-      IsStmt ns start vars (loop_do f a x s) = Made (do_stmt f (length vars) s) (Both (IsStmt ns (length ns) vars a) (IsTest ns x))
-      IsStmt ns start vars (loop_for f i x p a s) = Made (for_stmt f (length vars) (length (first_variables gang vars i)) s)
-          (Both (Perhaps (IsFirst ns (length ns) vars) i)
-          (Both (Perhaps (IsTest (first_names gang ns vars i)) x)
-          (Both (Perhaps (IsSimple gang hs (first_names gang ns vars i)) p)
-          (IsStmt (first_names gang ns vars i) (length (first_names gang ns vars i)) (first_variables gang vars i) a))))
-      IsStmt ns start vars (foreach t k rs a s) = Made (foreach_stmt k (length vars) s)
-          (Both (AreRanges ns (length ns) ns vars rs)
-          (IsStmt (range_names ns vars rs) (length (range_names ns vars rs)) (range_variables vars rs) a))
-      IsStmt ns start vars (foreach_active k w a s) = Made (active_stmt k (length vars) s)
-          (IsStmt (with_name ns vars w.name (Ok active_index)) (length (with_name ns vars w.name (Ok active_index))) (vars ++ active_index ∷ []) a)
-      IsStmt ns start vars (unmasked k b s) = Made (unmasked_stmt k s) (IsBlock ns (length ns) vars b)
-      IsStmt ns start vars (jump j k s) = Just (t_jump j k s)
-      IsStmt ns start vars (returning k x s) = Made (return_stmt k s) (IsReturned ns x)
-      IsStmt ns start vars (print k t p xs s) = Made (print_stmt k t s) (Provided (places t == length xs) (AreValues ns xs))
-      IsStmt ns start vars (assert x c s) = Made (assert_stmt c s) (IsTest ns x)
-
-      pub IsBlock : List Binding → ℕ → List Variable → Block → TBlock → Type 0
-      IsBlock ns start vars (braces ss s) = Made (braces_made s) (AreStmts ns start vars ss)
-
-      pub AreStmts : List Binding → ℕ → List Variable → Stmts → TStmts → Type 0
-      AreStmts ns start vars no_stmts = Just t_no_stmts
-      AreStmts ns start vars (stmt_then s ss) =
-          Made stmts_made (Both (IsStmt ns start vars s) (AreStmts (names_after gang ns vars s) start (variables_after gang vars s) ss))
-
-    abbrev mutual
-      pub StmtBreach : List Binding → ℕ → List Variable → Stmt → Fault → Type 0
-      StmtBreach ns start vars (block b) = BlockBreach ns (length ns) vars b
-      StmtBreach ns start vars (empty s) = No_breach
-      StmtBreach ns start vars (declare d s) = DeclarationBreach gang hs ns start vars d
-      StmtBreach ns start vars (simple p s) = SimpleBreach gang hs ns p
-      StmtBreach ns start vars (if_then f x a s) = Either (ExprBreach gang hs ns x) (StmtBreach ns (length ns) vars a)
-      StmtBreach ns start vars (if_else f x a b s) =
-          Either (ExprBreach gang hs ns x) (Either (StmtBreach ns (length ns) vars a) (StmtBreach ns (length ns) (variables_after gang vars a) b))
-      StmtBreach ns start vars (loop_while f x a s) = Either (ExprBreach gang hs ns x) (StmtBreach ns (length ns) vars a)
-      StmtBreach ns start vars (loop_do f a x s) = Either (StmtBreach ns (length ns) vars a) (ExprBreach gang hs ns x)
-      StmtBreach ns start vars (loop_for f i x p a s) =
-          Either (OfPerhaps (FirstBreach ns (length ns) vars) i)
-          (Either (OfPerhaps (ExprBreach gang hs (first_names gang ns vars i)) x)
-          (Either (OfPerhaps (SimpleBreach gang hs (first_names gang ns vars i)) p)
-          (StmtBreach (first_names gang ns vars i) (length (first_names gang ns vars i)) (first_variables gang vars i) a)))
-      StmtBreach ns start vars (foreach t k rs a s) =
-          Either (RangesBreach ns (length ns) ns vars rs)
-          (StmtBreach (range_names ns vars rs) (length (range_names ns vars rs)) (range_variables vars rs) a)
-      StmtBreach ns start vars (foreach_active k w a s) =
-          StmtBreach (with_name ns vars w.name (Ok active_index)) (length (with_name ns vars w.name (Ok active_index))) (vars ++ active_index ∷ []) a
-      StmtBreach ns start vars (unmasked k b s) = BlockBreach ns (length ns) vars b
-      StmtBreach ns start vars (jump j k s) = No_breach
-      StmtBreach ns start vars (returning k x s) = ReturnedBreach ns k x
+      pub stmt_typing : List Binding → ℕ → List Variable → Stmt → Typing TStmt
+      stmt_typing ns start vars (block b) = made t_block (block_typing ns (length ns) vars b)
+      stmt_typing ns start vars (empty s) = exactly (t_block (t_braces t_no_stmts s))
+      stmt_typing ns start vars (declare d s) = made (declared_stmt s) (declaration_typing gang hs ns start vars d)
+      stmt_typing ns start vars (simple p s) = made (simple_stmt s) (simple_typing gang hs ns p)
+      stmt_typing ns start vars (if_then f x a s) = made (if_stmt f (length vars) s) (both (test_typing ns x) (stmt_typing ns (length ns) vars a))
+      stmt_typing ns start vars (if_else f x a b s) = made (if_else_stmt f (length vars) s)
+          (both (test_typing ns x) (both (stmt_typing ns (length ns) vars a) (stmt_typing ns (length ns) (variables_after gang vars a) b)))
+      stmt_typing ns start vars (loop_while f x a s) = made (while_stmt f (length vars) s) (both (test_typing ns x) (stmt_typing ns (length ns) vars a))
+      stmt_typing ns start vars (loop_do f a x s) = made (do_stmt f (length vars) s) (both (stmt_typing ns (length ns) vars a) (test_typing ns x))
+      stmt_typing ns start vars (loop_for f i x p a s) = made (for_stmt f (length vars) (length (first_variables gang vars i)) s)
+          (both (perhaps (first_typing ns (length ns) vars) i)
+          (both (perhaps (test_typing (first_names gang ns vars i)) x)
+          (both (perhaps (simple_typing gang hs (first_names gang ns vars i)) p)
+          (stmt_typing (first_names gang ns vars i) (length (first_names gang ns vars i)) (first_variables gang vars i) a))))
+      stmt_typing ns start vars (foreach t k rs a s) = made (foreach_stmt k (length vars) s)
+          (both (ranges_typing ns (length ns) ns vars rs)
+          (stmt_typing (range_names ns vars rs) (length (range_names ns vars rs)) (range_variables vars rs) a))
+      stmt_typing ns start vars (foreach_active k w a s) = made (active_stmt k (length vars) s)
+          (stmt_typing (with_name ns vars w.name (Ok active_index)) (length (with_name ns vars w.name (Ok active_index))) (vars ++ active_index ∷ []) a)
+      stmt_typing ns start vars (unmasked k b s) = made (unmasked_stmt k s) (block_typing ns (length ns) vars b)
+      stmt_typing ns start vars (jump j k s) = exactly (t_jump j k s)
+      stmt_typing ns start vars (returning k x s) = made (return_stmt k s) (returned_typing ns k x)
       -- 25 at the text
-      StmtBreach ns start vars (print k t p xs s) = Unless (places t == length xs) (fault BadPrint p) (ValuesBreach ns xs)
-      StmtBreach ns start vars (assert x c s) = ExprBreach gang hs ns x
+      stmt_typing ns start vars (print k t p xs s) = made (print_stmt k t s) (provided (places t == length xs) (fault BadPrint p) (values_typing ns xs))
+      stmt_typing ns start vars (assert x c s) = made (assert_stmt c s) (test_typing ns x)
 
-      pub BlockBreach : List Binding → ℕ → List Variable → Block → Fault → Type 0
-      BlockBreach ns start vars (braces ss s) = StmtsBreach ns start vars ss
+      pub block_typing : List Binding → ℕ → List Variable → Block → Typing TBlock
+      block_typing ns start vars (braces ss s) = made (braces_made s) (stmts_typing ns start vars ss)
 
-      pub StmtsBreach : List Binding → ℕ → List Variable → Stmts → Fault → Type 0
-      StmtsBreach ns start vars no_stmts = No_breach
-      StmtsBreach ns start vars (stmt_then s ss) =
-          Either (StmtBreach ns start vars s) (StmtsBreach (names_after gang ns vars s) start (variables_after gang vars s) ss)
+      pub stmts_typing : List Binding → ℕ → List Variable → Stmts → Typing TStmts
+      stmts_typing ns start vars no_stmts = exactly t_no_stmts
+      stmts_typing ns start vars (stmt_then s ss) =
+          made stmts_made (both (stmt_typing ns start vars s) (stmts_typing (names_after gang ns vars s) start (variables_after gang vars s) ss))

@@ -9,7 +9,7 @@ use Rattle.isp_base.specs.declared.types.Ty.{Ty}
 use Rattle.isp_lex.specs.declared.fault.Fault.{Fault}
 use Rattle.isp_tree.specs.Tree.{Item, plain, with_value, with_size, First, first_declare, first_simple, Range, Stmt, block, empty, declare, simple, if_then, if_else, loop_while, loop_do, loop_for, foreach, foreach_active, unmasked, jump, returning, print, assert, Block, braces, Stmts, no_stmts, stmt_then}
 use Rattle.isp_typed.specs.declared.variable.Variable.{Variable}
-use Rattle.isp_typed.specs.Forms.{Perhaps}
+use Rattle.isp_exprs.specs.Typing.{perhaps}
 use Rattle.isp_typed.specs.Typed.{TItem, TFirst, TStmt, TBlock, TStmts}
 use Rattle.isp_typed.specs.Fine.{IsDeclared, foreach_index as index, active_index}
 use Rattle.isp_exprs.specs.declared.scope.Binding.{Binding}
@@ -17,8 +17,8 @@ use Rattle.isp_exprs.specs.declared.words.ValueWords.{ValueWords}
 use Rattle.isp_exprs.specs.Words.{value_said}
 use Rattle.isp_exprs.specs.Callees.{Heading}
 use Rattle.isp_types.specs.Numbering.{item_names, item_variables, items_variables, first_variables, range_variables, names_after, variables_after, block_variables, stmts_variables}
-use Rattle.isp_types.specs.Declarations.{IsItem, AreItems}
-use Rattle.isp_types.specs.Statements.{IsFirst, IsStmt, IsBlock, AreStmts}
+use Rattle.isp_types.specs.Declarations.{item_typing, items_typing}
+use Rattle.isp_types.specs.Statements.{first_typing, stmt_typing, block_typing, stmts_typing}
 use Rattle.isp_types.proofs.fine.Passed.{no_ok}
 use Rattle.isp_types.proofs.fine.Simples.{no_all, array_bounds}
 
@@ -42,22 +42,22 @@ later a b c g h = record {
 }
 
 module _ (gang : Gang) (hs : List Heading) where
-  item_declares : (w : ValueWords) (start : ℕ) (ns : List Binding) (vars : List Variable) (i : Item) (t : TItem) → IsItem gang hs (Ok w) start ns vars i t → Declares vars (item_variables gang (Ok w) vars i)
+  item_declares : (w : ValueWords) (start : ℕ) (ns : List Binding) (vars : List Variable) (i : Item) (t : TItem) → (item_typing gang hs (Ok w) start ns vars i).is t → Declares vars (item_variables gang (Ok w) vars i)
   item_declares w start ns vars (plain v) t i = one vars _ tt
   item_declares w start ns vars (with_value v x s) t i = one vars _ tt
   item_declares w start ns vars (with_size v n s) t i = one vars _ (array_bounds gang (length vars) w n i.0 i.1.1)
 
-  items_declare : (w : ValueWords) (start : ℕ) (ns : List Binding) (vars : List Variable) (is : List Item) (ts : List TItem) → AreItems gang hs (Ok w) start ns vars is ts → Declares vars (items_variables gang (Ok w) vars is)
+  items_declare : (w : ValueWords) (start : ℕ) (ns : List Binding) (vars : List Variable) (is : List Item) (ts : List TItem) → (items_typing gang hs (Ok w) start ns vars is).is ts → Declares vars (items_variables gang (Ok w) vars is)
   items_declare w start ns vars [] ts i = none vars
   items_declare w start ns vars (x ∷ xs) ts i =
       later _ _ _ (item_declares w start ns vars x i.0.0 i.1.0) (items_declare w start (item_names gang (Ok w) ns vars x) (item_variables gang (Ok w) vars x) xs i.0.1 i.1.1)
 
-  said_declares : (r : Result ValueWords Fault) (w : ValueWords) → r ≡ Ok w → (start : ℕ) (ns : List Binding) (vars : List Variable) (is : List Item) (ts : List TItem) → AreItems gang hs r start ns vars is ts
+  said_declares : (r : Result ValueWords Fault) (w : ValueWords) → r ≡ Ok w → (start : ℕ) (ns : List Binding) (vars : List Variable) (is : List Item) (ts : List TItem) → (items_typing gang hs r start ns vars is).is ts
       → Declares vars (items_variables gang r vars is)
   said_declares (Ok v) w e start ns vars is ts i = items_declare v start ns vars is ts i
   said_declares (Err f) w e start ns vars is ts i = absurd (no_ok e)
 
-  first_declares : (start : ℕ) (ns : List Binding) (vars : List Variable) (x : Option First) (t : Option TFirst) → Perhaps (IsFirst gang hs ns start vars) x t → Declares vars (first_variables gang vars x)
+  first_declares : (start : ℕ) (ns : List Binding) (vars : List Variable) (x : Option First) (t : Option TFirst) → (perhaps (first_typing gang hs ns start vars) x).is t → Declares vars (first_variables gang vars x)
   first_declares start ns vars None t i = none vars
   first_declares start ns vars (Some (first_simple p)) t i = none vars
   first_declares start ns vars (Some (first_declare d)) t i =
@@ -70,7 +70,7 @@ module _ (gang : Gang) (hs : List Heading) where
 
   module _ (answer : Result (Option Ty) Fault) where
     mutual
-      stmt_declares : (ns : List Binding) (start : ℕ) (vars : List Variable) (s : Stmt) (t : TStmt) → IsStmt gang hs answer ns start vars s t → Declares vars (variables_after gang vars s)
+      stmt_declares : (ns : List Binding) (start : ℕ) (vars : List Variable) (s : Stmt) (t : TStmt) → (stmt_typing gang hs answer ns start vars s).is t → Declares vars (variables_after gang vars s)
       stmt_declares ns start vars (block b) t i = block_declares ns _ vars b i.0 i.1
       stmt_declares ns start vars (empty s) t i = none vars
       stmt_declares ns start vars (declare d s) t i = let p = i.1 in said_declares (value_said d.ty) p.0.0 p.1.0 start ns vars d.items p.0.1 p.1.1
@@ -88,10 +88,10 @@ module _ (gang : Gang) (hs : List Heading) where
       stmt_declares ns start vars (print k w p xs s) t i = none vars
       stmt_declares ns start vars (assert x c s) t i = none vars
 
-      pub block_declares : (ns : List Binding) (start : ℕ) (vars : List Variable) (b : Block) (t : TBlock) → IsBlock gang hs answer ns start vars b t → Declares vars (block_variables gang vars b)
+      pub block_declares : (ns : List Binding) (start : ℕ) (vars : List Variable) (b : Block) (t : TBlock) → (block_typing gang hs answer ns start vars b).is t → Declares vars (block_variables gang vars b)
       block_declares ns start vars (braces ss s) t i = stmts_declare ns start vars ss i.0 i.1
 
-      stmts_declare : (ns : List Binding) (start : ℕ) (vars : List Variable) (ss : Stmts) (t : TStmts) → AreStmts gang hs answer ns start vars ss t → Declares vars (stmts_variables gang vars ss)
+      stmts_declare : (ns : List Binding) (start : ℕ) (vars : List Variable) (ss : Stmts) (t : TStmts) → (stmts_typing gang hs answer ns start vars ss).is t → Declares vars (stmts_variables gang vars ss)
       stmts_declare ns start vars no_stmts t i = none vars
       stmts_declare ns start vars (stmt_then s ss) t i =
           later _ _ _ (stmt_declares ns start vars s i.0.0 i.1.0) (stmts_declare (names_after gang ns vars s) start (variables_after gang vars s) ss i.0.1 i.1.1)

@@ -14,7 +14,7 @@ use Rattle.isp_exprs.specs.Words.{value_said}
 use Rattle.isp_exprs.specs.Scopes.{with_name}
 use Rattle.isp_exprs.specs.Callees.{Heading, library_named}
 use Rattle.isp_types.specs.Numbering.{declared}
-use Rattle.isp_types.specs.Functions.{param_variable, parameter_of, IsBody, AreFunctions}
+use Rattle.isp_types.specs.Functions.{param_variable, parameter_of, body_typing, functions_typing}
 
 both : (a b : Bool) → a ≡ true → b ≡ true → (a && b) ≡ true
 both a b p q = rw (p, q) refl
@@ -31,7 +31,7 @@ named_more : (ns : List Binding) (b : Binding) → map (λ (b : Binding). b.name
 named_more [] b = refl
 named_more (c ∷ ns) b = ap (λ z. c.name ∷ z) (named_more ns b)
 
-pub params_differ : (gang : Gang) (hs : List Heading) (answer : Result (Option Ty) Fault) (ns : List Binding) (vars : List Variable) (ps : List Param) (b : Block) (t : TBlock) → IsBody gang hs answer ns vars ps b t
+pub params_differ : (gang : Gang) (hs : List Heading) (answer : Result (Option Ty) Fault) (ns : List Binding) (vars : List Variable) (ps : List Param) (b : Block) (t : TBlock) → (body_typing gang hs answer ns vars ps b).is t
     → all_new (map (λ (b : Binding). b.name) ns) (map (λ p. p.name) (map parameter_of ps)) ≡ true
 params_differ gang hs answer ns vars [] b t i = refl
 params_differ gang hs answer ns vars (p ∷ ps) b t i =
@@ -41,7 +41,7 @@ params_differ gang hs answer ns vars (p ∷ ps) b t i =
     (subst (λ z. all_new z (map (λ p. p.name) (map parameter_of ps)) ≡ true) (named_more ns _)
     (params_differ gang hs answer more (vars ++ param_variable p ∷ []) ps b q.0.1 q.1.1))
 
-pub functions_differ : (gang : Gang) (hs : List Heading) (earlier : List (List ℕ)) (fs : List Function) (gs : List TFunction) → AreFunctions gang hs earlier fs gs
+pub functions_differ : (gang : Gang) (hs : List Heading) (earlier : List (List ℕ)) (fs : List Function) (gs : List TFunction) → (functions_typing gang hs earlier fs).is gs
     → all_new earlier (map (λ g. g.name) gs) ≡ true
 functions_differ gang hs earlier [] gs i = rw i refl
 functions_differ gang hs earlier (f ∷ fs) gs i =

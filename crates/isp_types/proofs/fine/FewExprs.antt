@@ -39,7 +39,8 @@ use Rattle.isp_exprs.specs.PackedCalls.{loaded, base_fits, base_named, destinati
 use Rattle.isp_exprs.specs.LibraryCalls.{values_among, worked_in, as_parts, library_call}
 use Rattle.isp_exprs.specs.Callees.{Heading}
 use Rattle.isp_exprs.specs.Calls.{first_want, rest_of, arguments_among, function_call, call_of, array_fits, suits}
-use Rattle.isp_exprs.specs.Rules.{wants_at, past_at, IsCall, IsCallOf, IsExpr, IsPlace, IsArgument, AreArguments}
+use Rattle.isp_exprs.specs.Typing.{Typing}
+use Rattle.isp_exprs.specs.Rules.{wants_at, past_at, call_typing, call_of_typing, expr_typing, place_typing, argument_typing, arguments_typing}
 use Rattle.isp_types.proofs.fine.Passed.{ok_is, no_ok}
 
 -- ---- conversions
@@ -204,9 +205,9 @@ call_few s callees.PackedLoad ps r e = absurd (no_ok e)
 
 module _ (gang : Gang) (hs : List Heading) (ns : List Binding) where
   -- a call whose arguments are few
-  made_few : (w : Word) (xs : Arguments) (s : Span) (P : Want → List Want → List Passed → Type 0) → ((ps : List Passed) → P (past_at hs w xs) (wants_at hs w xs) ps → all_nodes ps ≤ 3 * nodes_of_row xs)
-      → (r : Called) → IsCall hs w xs s P r → called_nodes r ≤ suc (3 * nodes_of_row xs)
-  made_few w xs s P few r p = omega (arith, call_few s p.0.0 p.0.1 r p.2, few p.0.1 p.1.1)
+  made_few : (w : Word) (xs : Arguments) (s : Span) (rule : Want → List Want → Typing (List Passed)) → ((ps : List Passed) → (rule (past_at hs w xs) (wants_at hs w xs)).is ps → all_nodes ps ≤ 3 * nodes_of_row xs)
+      → (r : Called) → (call_typing hs w xs s rule).is r → called_nodes r ≤ suc (3 * nodes_of_row xs)
+  made_few w xs s rule few r p = omega (arith, call_few s p.0.0 p.0.1 r p.2, few p.0.1 p.1.1)
 
   value_few : (s : Span) (c : Called) (x : TExpr) → value_called s c ≡ Ok x → called_nodes c ≡ typed_nodes x
   value_few s (gives y) x e = ap typed_nodes (ok_is y x e)
@@ -217,13 +218,13 @@ module _ (gang : Gang) (hs : List Heading) (ns : List Binding) where
   handed_is (runs c) = refl
 
   mutual
-    pub expr_few : (x : Expr) (t : TExpr) → IsExpr gang hs ns x t → Few t (nodes x)
+    pub expr_few : (x : Expr) (t : TExpr) → (expr_typing gang hs ns x).is t → Few t (nodes x)
     expr_few (number v s) t i = rw i (omega arith)
     expr_few (truth b s) t i = rw i (omega arith)
     expr_few (program_index s) t i = rw i (omega arith)
     expr_few (program_count s) t i = rw i (omega arith)
     expr_few (place p) t i = subst (λ z. Few z (nodes_of_place p)) (sym i.2) (place_is_few p i.0 i.1)
-    expr_few (call w xs s) t i = omega (arith, value_few s i.0 t i.2, made_few w xs s (AreArguments gang hs ns xs) (λ ps. arguments_are_few xs (past_at hs w xs) (wants_at hs w xs) ps) i.0 i.1)
+    expr_few (call w xs s) t i = omega (arith, value_few s i.0 t i.2, made_few w xs s (arguments_typing gang hs ns xs) (λ ps. arguments_are_few xs (past_at hs w xs) (wants_at hs w xs) ps) i.0 i.1)
     expr_few (brackets x s) t i = subst (λ z. Few z (suc (nodes x))) (sym i.2) (omega (arith, expr_few x i.0 i.1))
     expr_few (cast k x s) t i = subst (λ z. Few z (suc (nodes x))) (sym i.2) (omega (arith, expr_few x i.0.1 i.1.1, converted_few i.0.0.elem i.0.1))
     expr_few (prefix op x s) t i = subst (λ z. Few z (suc (nodes x))) (sym i.2) (sign_few op s i.0 (nodes x) (expr_few x i.0 i.1))
@@ -233,23 +234,23 @@ module _ (gang : Gang) (hs : List Heading) (ns : List Binding) where
         subst (λ z. Few z (suc (nodes c + (nodes x + nodes y)))) (sym i.2)
         (choice_few s i.0.0 i.0.1.0 i.0.1.1 (nodes c) (nodes x) (nodes y) (expr_few c i.0.0 i.1.0) (expr_few x i.0.1.0 i.1.1.0) (expr_few y i.0.1.1 i.1.1.1))
 
-    pub place_is_few : (p : Place) (t : TPlace) → IsPlace gang hs ns p t → FewPlace t (nodes_of_place p)
+    pub place_is_few : (p : Place) (t : TPlace) → (place_typing gang hs ns p).is t → FewPlace t (nodes_of_place p)
     place_is_few (variable w) t i = place_few w.span i.0 t i.2
     place_is_few (element w x s) t i = element_few s i.0.0 i.0.1 (nodes x) (expr_few x i.0.1 i.1.1) t i.2
 
-    argument_few : (x : Argument) (t : Handed) → IsArgument gang hs ns x t → suc (suc (handed_nodes t)) ≤ 3 * nodes_of_argument x
+    argument_few : (x : Argument) (t : Handed) → (argument_typing gang hs ns x).is t → suc (suc (handed_nodes t)) ≤ 3 * nodes_of_argument x
     argument_few (by_value (place (variable w))) t i = rw i.2 (omega (arith, handed_few w.span i.0))
     argument_few (by_value (call w xs s)) t i =
-        rw i.2 (omega (arith, handed_is i.0, made_few w xs s (AreArguments gang hs ns xs) (λ ps. arguments_are_few xs (past_at hs w xs) (wants_at hs w xs) ps) i.0 i.1))
+        rw i.2 (omega (arith, handed_is i.0, made_few w xs s (arguments_typing gang hs ns xs) (λ ps. arguments_are_few xs (past_at hs w xs) (wants_at hs w xs) ps) i.0 i.1))
     argument_few (by_value x) t i = rw i.2 (expr_few x i.0 i.1)
     argument_few (by_reference (variable w) s) t i = rw i.2 (omega arith)
     argument_few (by_reference (element w x e) s) t i = rw i.2 (omega (arith, expr_few x i.0.1 i.1.1))
 
-    arguments_are_few : (xs : Arguments) (past : Want) (ws : List Want) (ps : List Passed) → AreArguments gang hs ns xs past ws ps → all_nodes ps ≤ 3 * nodes_of_row xs
+    arguments_are_few : (xs : Arguments) (past : Want) (ws : List Want) (ps : List Passed) → (arguments_typing gang hs ns xs past ws).is ps → all_nodes ps ≤ 3 * nodes_of_row xs
     arguments_are_few no_arguments past ws ps i = rw i (omega arith)
     arguments_are_few (argument_then x xs) past ws ps i =
         let one = i.1.0 in
         rw i.2 (omega (arith, suits_few (first_want past ws) (span_of_argument x) one.0 i.0.0 one.2, argument_few x one.0 one.1, arguments_are_few xs past (rest_of ws) i.0.1 i.1.1))
 
-  pub call_of_few : (w : Word) (xs : Arguments) (s : Span) (r : Called) → IsCallOf gang hs ns w xs s r → called_nodes r ≤ suc (3 * nodes_of_row xs)
-  call_of_few w xs s r i = made_few w xs s (AreArguments gang hs ns xs) (λ ps. arguments_are_few xs (past_at hs w xs) (wants_at hs w xs) ps) r i
+  pub call_of_few : (w : Word) (xs : Arguments) (s : Span) (r : Called) → (call_of_typing gang hs ns w xs s).is r → called_nodes r ≤ suc (3 * nodes_of_row xs)
+  call_of_few w xs s r i = made_few w xs s (arguments_typing gang hs ns xs) (λ ps. arguments_are_few xs (past_at hs w xs) (wants_at hs w xs) ps) r i

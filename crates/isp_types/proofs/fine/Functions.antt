@@ -19,7 +19,7 @@ use Rattle.isp_exprs.specs.Words.{value_said, answer_said, type_declared}
 use Rattle.isp_exprs.specs.Scopes.{with_name}
 use Rattle.isp_exprs.specs.Callees.{Heading}
 use Rattle.isp_types.specs.Numbering.{declared, block_variables}
-use Rattle.isp_types.specs.Functions.{param_variable, param_want, parameter_of, heading, variables_of, param_span, IsBody, IsFunction, AreFunctions, IsProgram}
+use Rattle.isp_types.specs.Functions.{param_variable, param_want, parameter_of, heading, variables_of, param_span, body_typing, function_typing, functions_typing, IsProgram}
 use Rattle.isp_types.proofs.NamesKept.{Grown, same, then as and_then}
 use Rattle.isp_types.proofs.fine.Names.{InScope, no_names, name_added}
 use Rattle.isp_types.proofs.fine.Callees.{IsWant, AreWants, Headed}
@@ -75,18 +75,18 @@ all_seen [] = tt
 all_seen (p ∷ ps) = (seen p, all_seen ps)
 
 module _ (gang : Gang) (hs : List Heading) where
-  body_said : (answer : Result (Option Ty) Fault) (ns : List Binding) (vars : List Variable) (ps : List Param) (b : Block) (t : TBlock) → IsBody gang hs answer ns vars ps b t → AreSaid ps
+  body_said : (answer : Result (Option Ty) Fault) (ns : List Binding) (vars : List Variable) (ps : List Param) (b : Block) (t : TBlock) → (body_typing gang hs answer ns vars ps b).is t → AreSaid ps
   body_said answer ns vars [] b t i = tt
   body_said answer ns vars (p ∷ ps) b t i = let q = i.1.1 in ((q.0.0, q.1.0), body_said answer (with_name ns vars p.word.name (declared (value_said p.ty) (param_variable p))) (vars ++ param_variable p ∷ []) ps b q.0.1 q.1.1)
 
-  body_declares : (answer : Result (Option Ty) Fault) (ns : List Binding) (vars : List Variable) (ps : List Param) (b : Block) (t : TBlock) → IsBody gang hs answer ns vars ps b t
+  body_declares : (answer : Result (Option Ty) Fault) (ns : List Binding) (vars : List Variable) (ps : List Param) (b : Block) (t : TBlock) → (body_typing gang hs answer ns vars ps b).is t
       → Declares (params_after vars ps) (block_variables gang (params_after vars ps) b)
   body_declares answer ns vars [] b t i = block_declares gang hs answer ns 0 vars b t i
   body_declares answer ns vars (p ∷ ps) b t i = let q = i.1.1 in body_declares answer (with_name ns vars p.word.name (declared (value_said p.ty) (param_variable p))) (vars ++ param_variable p ∷ []) ps b q.0.1 q.1.1
 
   module _ (gs : List TFunction) (all : List Variable) (headed : Headed hs gs) (answer : Option Ty) where
     body_fine : (ns : List Binding) (vars : List Variable) (ps : List Param) (b : Block) → IsSoundBlock b → InScope all ns → Grown (block_variables gang (params_after vars ps) b) all
-        → (t : TBlock) → IsBody gang hs (Ok answer) ns vars ps b t → FineBlock gs all answer t
+        → (t : TBlock) → (body_typing gang hs (Ok answer) ns vars ps b).is t → FineBlock gs all answer t
     body_fine ns vars [] b h scope g t i = block_fine gang hs gs all headed answer ns 0 vars b h scope g t i
     body_fine ns vars (p ∷ ps) b h scope g t i =
         let q = i.1.1 in
@@ -97,7 +97,7 @@ module _ (gang : Gang) (hs : List Heading) where
 -- ---- functions
 
 -- the variables of a function are its parameters and what its body declares
-variables_split : (gang : Gang) (hs : List Heading) (f : Function) (t : TBlock) → IsBody gang hs (answer_said f.answer) [] [] f.params f.body t
+variables_split : (gang : Gang) (hs : List Heading) (f : Function) (t : TBlock) → (body_typing gang hs (answer_said f.answer) [] [] f.params f.body).is t
     → (take (length (map param_span f.params)) (variables_of gang f) ≡ map param_variable f.params) × All IsDeclared (drop (length (map param_span f.params)) (variables_of gang f))
 variables_split gang hs f t i =
     let d = body_declares gang hs (answer_said f.answer) [] [] f.params f.body t i in
@@ -106,7 +106,7 @@ variables_split gang hs f t i =
     (rw (n, is) (take-append_seam (map param_variable f.params) d.more), rw (n, is) (subst (All IsDeclared) (sym (drop-append_seam (map param_variable f.params) d.more)) d.each))
 
 module _ (gang : Gang) (hs : List Heading) (gs : List TFunction) (headed : Headed hs gs) where
-  function_fine : (earlier : List (List ℕ)) (f : Function) → IsSoundFunction f → (g : TFunction) → IsFunction gang hs earlier f g → FineFunction gs g
+  function_fine : (earlier : List (List ℕ)) (f : Function) → IsSoundFunction f → (g : TFunction) → (function_typing gang hs earlier f).is g → FineFunction gs g
   function_fine earlier f h g i =
       let split = variables_split gang hs f i.0.1 i.1.1.1 in
       subst (FineFunction gs) (sym i.2) (record {
@@ -115,16 +115,16 @@ module _ (gang : Gang) (hs : List Heading) (gs : List TFunction) (headed : Heade
         gives = refl;
         names = params_differ gang hs (answer_said f.answer) [] [] f.params f.body i.0.1 i.1.1.1;
         body = body_fine gang hs gs (variables_of gang f) headed i.0.0 [] [] f.params f.body h.body (no_names (variables_of gang f)) (rw (params_are [] f.params) (same (variables_of gang f))) i.0.1
-            (subst (λ r. IsBody gang hs r [] [] f.params f.body i.0.1) i.1.1.0 i.1.1.1);
+            (subst (λ r. (body_typing gang hs r [] [] f.params f.body).is i.0.1) i.1.1.0 i.1.1.1);
       })
 
-  functions_fine : (earlier : List (List ℕ)) (fs : List Function) → All IsSoundFunction fs → (ts : List TFunction) → AreFunctions gang hs earlier fs ts → All (FineFunction gs) ts
+  functions_fine : (earlier : List (List ℕ)) (fs : List Function) → All IsSoundFunction fs → (ts : List TFunction) → (functions_typing gang hs earlier fs).is ts → All (FineFunction gs) ts
   functions_fine earlier [] h ts i = subst (All (FineFunction gs)) (sym i) (no_all (FineFunction gs))
   functions_fine earlier (f ∷ fs) h ts i = subst (All (FineFunction gs)) (sym i.2)
       (All-cons (FineFunction gs) i.0.0 i.0.1 (function_fine earlier f (All-head IsSoundFunction f fs h) i.0.0 i.1.0) (functions_fine (earlier ++ f.word.name ∷ []) fs (All-tail IsSoundFunction f fs h) i.0.1 i.1.1))
 
 -- each function, as callers see it, is the one of its number
-headings_right : (gang : Gang) (hs : List Heading) (earlier : List (List ℕ)) (fs : List Function) (gs : List TFunction) → AreFunctions gang hs earlier fs gs → Headed (map heading fs) gs
+headings_right : (gang : Gang) (hs : List Heading) (earlier : List (List ℕ)) (fs : List Function) (gs : List TFunction) → (functions_typing gang hs earlier fs).is gs → Headed (map heading fs) gs
 headings_right gang hs earlier [] gs i k h t e a = absurd (no_some e)
 headings_right gang hs earlier (f ∷ fs) gs i zero h t e a =
     let one = i.1.0 in

@@ -30,9 +30,9 @@ use Rattle.isp_exprs.specs.Places.{array_of, variable_at, element_at, unless_con
 use Rattle.isp_exprs.specs.Passing.{Called, gives, runs}
 use Rattle.isp_exprs.specs.Callees.{Heading}
 use Rattle.isp_types.specs.Numbering.{size_number, item_names, item_variables, items_names, items_variables, first_names, first_variables, range_names, range_variables}
-use Rattle.isp_types.specs.Declarations.{array_sized, IsItem, AreItems, IsDeclaration}
-use Rattle.isp_types.specs.Simple.{stated, assigned_by, assignment_operator, IsTarget, IsSimple}
-use Rattle.isp_types.specs.Statements.{IsFirst, AreRanges, AreValues}
+use Rattle.isp_types.specs.Declarations.{array_sized, item_typing, items_typing, declaration_typing}
+use Rattle.isp_types.specs.Simple.{stated, assigned_by, assignment_operator, target_typing, simple_typing}
+use Rattle.isp_types.specs.Statements.{first_typing, ranges_typing, values_typing}
 use Rattle.isp_types.proofs.NamesKept.{Grown, same, then as and_then, one_more}
 use Rattle.isp_types.proofs.fine.Names.{InScope, named_is, name_added, get_next}
 use Rattle.isp_types.proofs.fine.Callees.{Headed, and_true}
@@ -113,7 +113,7 @@ module _ (gang : Gang) (hs : List Heading) (gs : List TFunction) (all : List Var
   value_is_fine e x f = (converted_fine gs all e x f, converted_elem e x)
 
   module _ (ns : List Binding) (scope : InScope all ns) where
-    target_fine : (x : Expr) → IsSoundExpr x → (p : TPlace) → IsTarget gang hs ns x p → FineTarget gs all p
+    target_fine : (x : Expr) → IsSoundExpr x → (p : TPlace) → (target_typing gang hs ns x).is p → FineTarget gs all p
     target_fine (place (variable w)) h p i =
         let o = open_is i.0.variable.constant w.span (variable_at w.span i.0) p i.2 in
         variable_open gs all w.span i.0 (named_is all ns scope w i.0 i.1) o.0 p o.1
@@ -139,7 +139,7 @@ module _ (gang : Gang) (hs : List Heading) (gs : List TFunction) (all : List Var
     stated_fine (gives x) f = f.0
     stated_fine (runs c) f = f
 
-    pub simple_fine : (p : Simple) → IsSoundSimple p → (t : TSimple) → IsSimple gang hs ns p t → FineSimple gs all t
+    pub simple_fine : (p : Simple) → IsSoundSimple p → (t : TSimple) → (simple_typing gang hs ns p).is t → FineSimple gs all t
     simple_fine (value (call w xs s)) h t i = subst (FineSimple gs all) (sym i.2)
         (stated_fine i.0 (call_of_fine gang hs gs all ns headed scope w xs s h.1 h.2 i.0 i.1))
     simple_fine (value x) h t i = subst (FineSimple gs all) (sym i.2) (expr_fine gang hs gs all ns headed scope x h i.0 i.1).0
@@ -147,7 +147,7 @@ module _ (gang : Gang) (hs : List Heading) (gs : List TFunction) (all : List Var
         (assigned_fine (assignment_operator a) s h.2 i.0.0 i.0.1 (target_fine x h.0 i.0.0 i.1.0) (expr_fine gang hs gs all ns headed scope y h.1 i.0.1 i.1.1))
     simple_fine (change c x s) h t i = subst (FineSimple gs all) (sym i.2) (target_fine x h.0 i.0 i.1, common_whole (place_type i.0).elem I32, h.1)
 
-    pub values_fine : (xs : List Expr) → All IsSoundExpr xs → (ts : List TExpr) → AreValues gang hs ns xs ts → All (FineExpr gs all) ts
+    pub values_fine : (xs : List Expr) → All IsSoundExpr xs → (ts : List TExpr) → (values_typing gang hs ns xs).is ts → All (FineExpr gs all) ts
     values_fine [] h ts i = subst (All (FineExpr gs all)) (sym i) (no_all (FineExpr gs all))
     values_fine (x ∷ xs) h ts i = subst (All (FineExpr gs all)) (sym i.2)
         (All-cons (FineExpr gs all) i.0.0 i.0.1 (expr_fine gang hs gs all ns headed scope x (All-head IsSoundExpr x xs h) i.0.0 i.1.0).0 (values_fine xs (All-tail IsSoundExpr x xs h) i.0.1 i.1.1))
@@ -164,14 +164,14 @@ module _ (gang : Gang) (hs : List Heading) (gs : List TFunction) (all : List Var
 
   module _ (w : ValueWords) (start : ℕ) where
     item_fine : (ns : List Binding) (vars : List Variable) (i : Item) → IsSoundItem i → InScope all ns → Grown (item_variables gang (Ok w) vars i) all
-        → (t : TItem) → IsItem gang hs (Ok w) start ns vars i t → FineItem gs all t
+        → (t : TItem) → (item_typing gang hs (Ok w) start ns vars i).is t → FineItem gs all t
     item_fine ns vars (plain v) h scope g t i = subst (FineItem gs all) (sym i.1) (record { constant = w.constant; is = get_next vars _ all g })
     item_fine ns vars (with_value v x s) h scope g t i =
         subst (FineItem gs all) (sym i.2) (record { constant = w.constant; is = get_next vars _ all g }, value_is_fine (type_declared w).elem i.0 (expr_fine gang hs gs all ns headed scope x h.1 i.0 i.1.1))
     item_fine ns vars (with_size v n s) h scope g t i = subst (FineItem gs all) (sym i.2) (sized_fine (length vars) w n s i.0 (get_next vars _ all g) i.1.1)
 
     items_fine : (ns : List Binding) (vars : List Variable) (is : List Item) → All IsSoundItem is → InScope all ns → Grown (items_variables gang (Ok w) vars is) all
-        → (ts : List TItem) → AreItems gang hs (Ok w) start ns vars is ts → All (FineItem gs all) ts × InScope all (items_names gang (Ok w) ns vars is)
+        → (ts : List TItem) → (items_typing gang hs (Ok w) start ns vars is).is ts → All (FineItem gs all) ts × InScope all (items_names gang (Ok w) ns vars is)
     items_fine ns vars [] h scope g ts i = (subst (All (FineItem gs all)) (sym i) (no_all (FineItem gs all)), scope)
     items_fine ns vars (x ∷ xs) h scope g ts i =
         let g1 = and_then _ _ _ (items_grow_variables gang (Ok w) (item_variables gang (Ok w) vars x) xs) g in
@@ -179,18 +179,18 @@ module _ (gang : Gang) (hs : List Heading) (gs : List TFunction) (all : List Var
         (subst (All (FineItem gs all)) (sym i.2) (All-cons (FineItem gs all) i.0.0 i.0.1 (item_fine ns vars x (All-head IsSoundItem x xs h) scope g1 i.0.0 i.1.0) later.0), later.1)
 
   said_fine : (r : Result ValueWords Fault) (w : ValueWords) → r ≡ Ok w → (start : ℕ) (ns : List Binding) (vars : List Variable) (is : List Item) → All IsSoundItem is → InScope all ns
-      → Grown (items_variables gang r vars is) all → (ts : List TItem) → AreItems gang hs r start ns vars is ts → All (FineItem gs all) ts × InScope all (items_names gang r ns vars is)
+      → Grown (items_variables gang r vars is) all → (ts : List TItem) → (items_typing gang hs r start ns vars is).is ts → All (FineItem gs all) ts × InScope all (items_names gang r ns vars is)
   said_fine (Ok v) w e start ns vars is h scope g ts i = items_fine v start ns vars is h scope g ts i
   said_fine (Err f) w e start ns vars is h scope g ts i = absurd (no_ok e)
 
   pub declaration_fine : (start : ℕ) (ns : List Binding) (vars : List Variable) (d : Declaration) → IsSoundDeclaration d → InScope all ns → Grown (items_variables gang (value_said d.ty) vars d.items) all
-      → (ts : List TItem) → IsDeclaration gang hs ns start vars d ts → All (FineItem gs all) ts × InScope all (items_names gang (value_said d.ty) ns vars d.items)
+      → (ts : List TItem) → (declaration_typing gang hs ns start vars d).is ts → All (FineItem gs all) ts × InScope all (items_names gang (value_said d.ty) ns vars d.items)
   declaration_fine start ns vars d h scope g ts i =
       let f = said_fine (value_said d.ty) i.0.0 i.1.0 start ns vars d.items h.items scope g i.0.1 i.1.1 in
       (subst (All (FineItem gs all)) (sym i.2) f.0, f.1)
 
   pub first_fine : (start : ℕ) (ns : List Binding) (vars : List Variable) (f : First) → IsSoundFirst f → InScope all ns → Grown (first_variables gang vars (Some f)) all
-      → (t : TFirst) → IsFirst gang hs ns start vars f t → FineFirst gs all t × InScope all (first_names gang ns vars (Some f))
+      → (t : TFirst) → (first_typing gang hs ns start vars f).is t → FineFirst gs all t × InScope all (first_names gang ns vars (Some f))
   first_fine start ns vars (first_declare d) h scope g t i =
       let f = declaration_fine start ns vars d h scope g i.0 i.1 in
       (subst (FineFirst gs all) (sym i.2) f.0, f.1)
@@ -199,7 +199,7 @@ module _ (gang : Gang) (hs : List Heading) (gs : List TFunction) (all : List Var
   -- ---- the ranges of a `foreach`
 
   pub ranges_fine : (start : ℕ) (ns is : List Binding) (vars : List Variable) (rs : List Range) → All IsSoundRange rs → InScope all ns → InScope all is → Grown (range_variables vars rs) all
-      → (ts : List TRange) → AreRanges gang hs ns start is vars rs ts → All (FineRange gs all) ts × InScope all (range_names is vars rs)
+      → (ts : List TRange) → (ranges_typing gang hs ns start is vars rs).is ts → All (FineRange gs all) ts × InScope all (range_names is vars rs)
   ranges_fine start ns is vars [] h scope inner g ts i = (subst (All (FineRange gs all)) (sym i) (no_all (FineRange gs all)), inner)
   ranges_fine start ns is vars (r ∷ rs) h scope inner g ts i =
       let g1 = and_then _ _ _ (ranges_grow_variables (vars ++ index ∷ []) rs) g in

@@ -4,6 +4,7 @@ use Rattle.std.specs.Prelude.{Option, Some, None, List, [], ◌∷◌, length, O
 use Rattle.std.proofs.lemmas.Bool.{eqb-true}
 use Rattle.isp_base.specs.declared.types.Elem.TheVariants.{Bool as Truth}
 use Rattle.isp_base.specs.declared.types.Gang.{Gang}
+use Rattle.isp_base.specs.declared.types.Span.{Span}
 use Rattle.isp_base.specs.declared.types.Ty.{Ty}
 use Rattle.isp_tree.specs.Sound.{IfAny, IsSoundExpr, IsSoundFirst, IsSoundSimple, IsSoundStmt, IsSoundBlock, AreSoundStmts}
 use Rattle.isp_tree.specs.Tree.{Expr, First, Simple, Stmt, block, empty, declare, simple, if_then, if_else, loop_while, loop_do, loop_for, foreach, foreach_active, unmasked, jump, returning, print, assert, Block, braces, Stmts, no_stmts, stmt_then}
@@ -14,10 +15,10 @@ use Rattle.isp_exprs.specs.declared.scope.Binding.{Binding}
 use Rattle.isp_exprs.specs.Scopes.{with_name}
 use Rattle.isp_exprs.specs.Callees.{Heading}
 use Rattle.isp_types.specs.Numbering.{first_names, first_variables, range_names, range_variables, names_after, variables_after, block_variables, stmts_variables}
-use Rattle.isp_types.specs.Simple.{IsSimple}
-use Rattle.isp_types.specs.Statements.{places, IsTest, IsFirst, AreValues, IsReturned, IsStmt, IsBlock, AreStmts}
+use Rattle.isp_types.specs.Simple.{simple_typing}
+use Rattle.isp_types.specs.Statements.{places, test_typing, first_typing, values_typing, returned_typing, stmt_typing, block_typing, stmts_typing}
 use Rattle.isp_exprs.specs.Words.{value_said}
-use Rattle.isp_typed.specs.Forms.{Perhaps}
+use Rattle.isp_exprs.specs.Typing.{perhaps}
 use Rattle.isp_types.proofs.NamesKept.{Grown, same, then as and_then, one_more}
 use Rattle.isp_types.proofs.fine.Names.{InScope, name_added, get_next, grown_length}
 use Rattle.isp_types.proofs.fine.Callees.{Headed}
@@ -57,39 +58,39 @@ module _ (gang : Gang) (hs : List Heading) (gs : List TFunction) (all : List Var
   low : (vars after : List Variable) → Grown vars after → Grown after all → length vars ≤ length all
   low vars after g h = grown_length vars all (and_then _ _ _ g h)
 
-  test_fine : (ns : List Binding) → InScope all ns → (x : Expr) → IsSoundExpr x → (t : TExpr) → IsTest gang hs ns x t → FineValue gs all Truth t
+  test_fine : (ns : List Binding) → InScope all ns → (x : Expr) → IsSoundExpr x → (t : TExpr) → (test_typing gang hs ns x).is t → FineValue gs all Truth t
   test_fine ns scope x h t i = subst (FineValue gs all Truth) (sym i.2) (value_is_fine gang hs gs all headed Truth i.0 (expr_fine gang hs gs all ns headed scope x h i.0 i.1))
 
   -- what may be left out
-  maybe_test : (ns : List Binding) → InScope all ns → (x : Option Expr) → IfAny IsSoundExpr x → (t : Option TExpr) → Perhaps (IsTest gang hs ns) x t → IfAny (FineValue gs all Truth) t
+  maybe_test : (ns : List Binding) → InScope all ns → (x : Option Expr) → IfAny IsSoundExpr x → (t : Option TExpr) → (perhaps (test_typing gang hs ns) x).is t → IfAny (FineValue gs all Truth) t
   maybe_test ns scope None h t i = subst (IfAny (FineValue gs all Truth)) (sym i) tt
   maybe_test ns scope (Some x) h t i = subst (IfAny (FineValue gs all Truth)) (sym i.2) (test_fine ns scope x h i.0 i.1)
 
-  maybe_simple : (ns : List Binding) → InScope all ns → (x : Option Simple) → IfAny IsSoundSimple x → (t : Option TSimple) → Perhaps (IsSimple gang hs ns) x t → IfAny (FineSimple gs all) t
+  maybe_simple : (ns : List Binding) → InScope all ns → (x : Option Simple) → IfAny IsSoundSimple x → (t : Option TSimple) → (perhaps (simple_typing gang hs ns) x).is t → IfAny (FineSimple gs all) t
   maybe_simple ns scope None h t i = subst (IfAny (FineSimple gs all)) (sym i) tt
   maybe_simple ns scope (Some x) h t i = subst (IfAny (FineSimple gs all)) (sym i.2) (simple_fine gang hs gs all headed ns scope x h i.0 i.1)
 
   maybe_first : (start : ℕ) (ns : List Binding) (vars : List Variable) → InScope all ns → (x : Option First) → IfAny IsSoundFirst x → Grown (first_variables gang vars x) all
-      → (t : Option TFirst) → Perhaps (IsFirst gang hs ns start vars) x t → IfAny (FineFirst gs all) t × InScope all (first_names gang ns vars x)
+      → (t : Option TFirst) → (perhaps (first_typing gang hs ns start vars) x).is t → IfAny (FineFirst gs all) t × InScope all (first_names gang ns vars x)
   maybe_first start ns vars scope None h g t i = (subst (IfAny (FineFirst gs all)) (sym i) tt, scope)
   maybe_first start ns vars scope (Some x) h g t i =
       let f = first_fine gang hs gs all headed start ns vars x h scope g i.0 i.1 in
       (subst (IfAny (FineFirst gs all)) (sym i.2) f.0, f.1)
 
-  returned_fine : (ns : List Binding) → InScope all ns → (o : Option Ty) (x : Option Expr) → IfAny IsSoundExpr x → (t : Option TExpr) → IsReturned gang hs (Ok o) ns x t → FineReturned gs all o t
-  returned_fine ns scope None None h t i = subst (FineReturned gs all None) (sym i.1) tt
-  returned_fine ns scope (Some a) (Some x) h t i =
+  returned_fine : (ns : List Binding) → InScope all ns → (o : Option Ty) (k : Span) (x : Option Expr) → IfAny IsSoundExpr x → (t : Option TExpr) → (returned_typing gang hs (Ok o) ns k x).is t → FineReturned gs all o t
+  returned_fine ns scope None k None h t i = subst (FineReturned gs all None) (sym i.1) tt
+  returned_fine ns scope (Some a) k (Some x) h t i =
       let one = i.1 in
       subst (FineReturned gs all (Some a)) (sym (one.2 ∙ ap (λ z. Some z) one.1.2)) (value_is_fine gang hs gs all headed a.elem one.1.0 (expr_fine gang hs gs all ns headed scope x h one.1.0 one.1.1))
-  returned_fine ns scope None (Some x) h t i = absurd (let no : ⊥ = cc in no)
-  returned_fine ns scope (Some a) None h t i = absurd (let no : ⊥ = cc in no)
+  returned_fine ns scope None k (Some x) h t i = absurd (let no : ⊥ = cc in no)
+  returned_fine ns scope (Some a) k None h t i = absurd (let no : ⊥ = cc in no)
 
-  values_length : (ns : List Binding) (xs : List Expr) (ts : List TExpr) → AreValues gang hs ns xs ts → length xs ≡ length ts
+  values_length : (ns : List Binding) (xs : List Expr) (ts : List TExpr) → (values_typing gang hs ns xs).is ts → length xs ≡ length ts
   values_length ns [] ts i = ap length (sym i)
   values_length ns (x ∷ xs) ts i = ap suc (values_length ns xs i.0.1 i.1.1) ∙ ap length (sym i.2)
 
   -- the names after a statement are those of variables too
-  names_scope : (ns : List Binding) (start : ℕ) (vars : List Variable) (s : Stmt) → IsSoundStmt s → InScope all ns → Grown (variables_after gang vars s) all → (t : TStmt) → IsStmt gang hs (Ok answer) ns start vars s t
+  names_scope : (ns : List Binding) (start : ℕ) (vars : List Variable) (s : Stmt) → IsSoundStmt s → InScope all ns → Grown (variables_after gang vars s) all → (t : TStmt) → (stmt_typing gang hs (Ok answer) ns start vars s).is t
       → InScope all (names_after gang ns vars s)
   names_scope ns start vars (declare d s) h scope g t i = (declaration_fine gang hs gs all headed start ns vars d h.0 scope g i.0 i.1).1
   names_scope ns start vars (block b) h scope g t i = scope
@@ -109,7 +110,7 @@ module _ (gang : Gang) (hs : List Heading) (gs : List TFunction) (all : List Var
   names_scope ns start vars (assert x c s) h scope g t i = scope
 
   mutual
-    pub stmt_fine : (ns : List Binding) (start : ℕ) (vars : List Variable) (s : Stmt) → IsSoundStmt s → InScope all ns → Grown (variables_after gang vars s) all → (t : TStmt) → IsStmt gang hs (Ok answer) ns start vars s t
+    pub stmt_fine : (ns : List Binding) (start : ℕ) (vars : List Variable) (s : Stmt) → IsSoundStmt s → InScope all ns → Grown (variables_after gang vars s) all → (t : TStmt) → (stmt_typing gang hs (Ok answer) ns start vars s).is t
         → FineStmt gs all answer t
     stmt_fine ns start vars (block b) h scope g t i = subst (FineStmt gs all answer) (sym i.2) (block_fine ns (length ns) vars b h scope g i.0 i.1)
     stmt_fine ns start vars (empty s) h scope g t i = subst (FineStmt gs all answer) (sym i) tt
@@ -155,16 +156,16 @@ module _ (gang : Gang) (hs : List Heading) (gs : List TFunction) (all : List Var
         )
     stmt_fine ns start vars (unmasked k b s) h scope g t i = subst (FineStmt gs all answer) (sym i.2) (block_fine ns (length ns) vars b h.1 scope g i.0 i.1)
     stmt_fine ns start vars (jump j k s) h scope g t i = subst (FineStmt gs all answer) (sym i) tt
-    stmt_fine ns start vars (returning k x s) h scope g t i = subst (FineStmt gs all answer) (sym i.2) (returned_fine ns scope answer x h.1 i.0 i.1)
+    stmt_fine ns start vars (returning k x s) h scope g t i = subst (FineStmt gs all answer) (sym i.2) (returned_fine ns scope answer k x h.1 i.0 i.1)
     stmt_fine ns start vars (print k w p xs s) h scope g t i = subst (FineStmt gs all answer) (sym i.2)
         (eqb-true (places w) (length xs) i.1.0 ∙ values_length ns xs i.0 i.1.1, values_fine gang hs gs all headed ns scope xs h.2 i.0 i.1.1)
     stmt_fine ns start vars (assert x c s) h scope g t i = subst (FineStmt gs all answer) (sym i.2) (test_fine ns scope x h.0 i.0 i.1, h.1)
 
-    pub block_fine : (ns : List Binding) (start : ℕ) (vars : List Variable) (b : Block) → IsSoundBlock b → InScope all ns → Grown (block_variables gang vars b) all → (t : TBlock) → IsBlock gang hs (Ok answer) ns start vars b t
+    pub block_fine : (ns : List Binding) (start : ℕ) (vars : List Variable) (b : Block) → IsSoundBlock b → InScope all ns → Grown (block_variables gang vars b) all → (t : TBlock) → (block_typing gang hs (Ok answer) ns start vars b).is t
         → FineBlock gs all answer t
     block_fine ns start vars (braces ss s) h scope g t i = subst (FineBlock gs all answer) (sym i.2) (stmts_fine ns start vars ss h.0 scope g i.0 i.1)
 
-    stmts_fine : (ns : List Binding) (start : ℕ) (vars : List Variable) (ss : Stmts) → AreSoundStmts ss → InScope all ns → Grown (stmts_variables gang vars ss) all → (t : TStmts) → AreStmts gang hs (Ok answer) ns start vars ss t
+    stmts_fine : (ns : List Binding) (start : ℕ) (vars : List Variable) (ss : Stmts) → AreSoundStmts ss → InScope all ns → Grown (stmts_variables gang vars ss) all → (t : TStmts) → (stmts_typing gang hs (Ok answer) ns start vars ss).is t
         → FineStmts gs all answer t
     stmts_fine ns start vars no_stmts h scope g t i = subst (FineStmts gs all answer) (sym i) tt
     stmts_fine ns start vars (stmt_then s ss) h scope g t i =

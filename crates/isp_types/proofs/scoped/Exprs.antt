@@ -1,6 +1,6 @@
 -- What an expression names is in scope.
 use Rattle.std.proofs.Common.{◌≡◌, ℕ, Bool, true, false, refl, sym, subst}
-use Rattle.std.specs.Prelude.{Option, Some, None, List, [], ◌∷◌, length, map, Result, Ok, Err}
+use Rattle.std.specs.Prelude.{Option, Some, None, List, [], ◌∷◌, map, Ok, Err}
 use Rattle.isp_base.specs.declared.types.Elem.{Elem}
 use Rattle.isp_base.specs.declared.types.Elem.TheVariants.{Bool as Truth}
 use Rattle.isp_base.specs.declared.types.Gang.{Gang}
@@ -34,11 +34,12 @@ use Rattle.isp_exprs.specs.Values.{converted, with_sign, joins, joining}
 use Rattle.isp_exprs.specs.Scopes.{named}
 use Rattle.isp_exprs.specs.Places.{array_of, variable_at, element_at}
 use Rattle.isp_exprs.specs.Passing.{Handed, h_value, h_run, h_array, h_name, h_element, handed_name, Passed, p_value, p_array, p_base, p_destination, p_unasked, Called, gives, runs, value_called, handed_call}
-use Rattle.isp_exprs.specs.PackedCalls.{base_named, destination, loaded}
+use Rattle.isp_exprs.specs.PackedCalls.{base_named, destination}
 use Rattle.isp_exprs.specs.LibraryCalls.{values_among, worked_in, as_parts, library_call}
 use Rattle.isp_exprs.specs.Callees.{Heading}
 use Rattle.isp_exprs.specs.Calls.{suits, first_want, rest_of, arguments_among, function_call, call_of}
-use Rattle.isp_exprs.specs.Rules.{wants_at, past_at, IsCall, IsCallOf, IsExpr, IsPlace, IsArgument, AreArguments}
+use Rattle.isp_exprs.specs.Typing.{Typing}
+use Rattle.isp_exprs.specs.Rules.{wants_at, past_at, call_typing, call_of_typing, expr_typing, place_typing, argument_typing, arguments_typing}
 use Rattle.isp_types.proofs.Meanings.{known_named}
 use Rattle.isp_types.proofs.fine.Passed.{ok_is, no_ok, some_is, no_some}
 use Rattle.isp_types.proofs.fine.FewExprs.{let_through, array_let, base_let}
@@ -205,17 +206,17 @@ module _ (gang : Gang) (hs : List Heading) (v : Scope) (ns : List Binding) (scop
   named_known = known_named (IsIn v) ns scope
 
   -- a call whose arguments are in scope
-  made_in : (w : Word) (xs : Arguments) (s : Span) (P : Want → List Want → List Passed → Type 0) → ((ps : List Passed) → P (past_at hs w xs) (wants_at hs w xs) ps → AllPassedIn v ps) → (r : Called) → IsCall hs w xs s P r → CalledIn v r
-  made_in w xs s P inside r p = call_in v s p.0.0 p.0.1 (inside p.0.1 p.1.1) r p.2
+  made_in : (w : Word) (xs : Arguments) (s : Span) (rule : Want → List Want → Typing (List Passed)) → ((ps : List Passed) → (rule (past_at hs w xs) (wants_at hs w xs)).is ps → AllPassedIn v ps) → (r : Called) → (call_typing hs w xs s rule).is r → CalledIn v r
+  made_in w xs s rule inside r p = call_in v s p.0.0 p.0.1 (inside p.0.1 p.1.1) r p.2
 
   mutual
-    pub expr_in : (x : Expr) (t : TExpr) → IsExpr gang hs ns x t → ExprIn v t
+    pub expr_in : (x : Expr) (t : TExpr) → (expr_typing gang hs ns x).is t → ExprIn v t
     expr_in (number c s) t i = subst (ExprIn v) (sym i) tt
     expr_in (truth b s) t i = subst (ExprIn v) (sym i) tt
     expr_in (program_index s) t i = subst (ExprIn v) (sym i) tt
     expr_in (program_count s) t i = subst (ExprIn v) (sym i) tt
     expr_in (place p) t i = subst (ExprIn v) (sym i.2) (place_in p i.0 i.1)
-    expr_in (call w xs s) t i = value_in v s i.0 (made_in w xs s (AreArguments gang hs ns xs) (λ ps. arguments_in xs (past_at hs w xs) (wants_at hs w xs) ps) i.0 i.1) t i.2
+    expr_in (call w xs s) t i = value_in v s i.0 (made_in w xs s (arguments_typing gang hs ns xs) (λ ps. arguments_in xs (past_at hs w xs) (wants_at hs w xs) ps) i.0 i.1) t i.2
     expr_in (brackets x s) t i = subst (ExprIn v) (sym i.2) (expr_in x i.0 i.1)
     expr_in (cast k x s) t i = subst (ExprIn v) (sym i.2) (converted_in v i.0.0.elem i.0.1 (expr_in x i.0.1 i.1.1))
     expr_in (prefix op x s) t i = subst (ExprIn v) (sym i.2) (sign_in v op s i.0 (expr_in x i.0 i.1))
@@ -224,22 +225,22 @@ module _ (gang : Gang) (hs : List Heading) (v : Scope) (ns : List Binding) (scop
         let e = chosen (elem_of i.0.1.0) (elem_of i.0.1.1) in
         subst (ExprIn v) (sym i.2) (converted_in v Truth i.0.0 (expr_in c i.0.0 i.1.0), converted_in v e i.0.1.0 (expr_in x i.0.1.0 i.1.1.0), converted_in v e i.0.1.1 (expr_in y i.0.1.1 i.1.1.1))
 
-    place_in : (p : Place) (t : TPlace) → IsPlace gang hs ns p t → PlaceIn v t
+    place_in : (p : Place) (t : TPlace) → (place_typing gang hs ns p).is t → PlaceIn v t
     place_in (variable w) t i = variable_in v w.span i.0 (named_known w i.0 i.1) t i.2
     place_in (element w x s) t i = element_in v s i.0.0 (named_known w i.0.0 i.1.0) i.0.1 (expr_in x i.0.1 i.1.1) t i.2
 
-    argument_in : (x : Argument) (t : Handed) → IsArgument gang hs ns x t → HandedIn v t
+    argument_in : (x : Argument) (t : Handed) → (argument_typing gang hs ns x).is t → HandedIn v t
     argument_in (by_value (place (variable w))) t i = subst (HandedIn v) (sym i.2) (handed_in v w.span i.0 (named_known w i.0 i.1))
-    argument_in (by_value (call w xs s)) t i = subst (HandedIn v) (sym i.2) (called_in v i.0 (made_in w xs s (AreArguments gang hs ns xs) (λ ps. arguments_in xs (past_at hs w xs) (wants_at hs w xs) ps) i.0 i.1))
+    argument_in (by_value (call w xs s)) t i = subst (HandedIn v) (sym i.2) (called_in v i.0 (made_in w xs s (arguments_typing gang hs ns xs) (λ ps. arguments_in xs (past_at hs w xs) (wants_at hs w xs) ps) i.0 i.1))
     argument_in (by_value x) t i = subst (HandedIn v) (sym i.2) (expr_in x i.0 i.1)
     argument_in (by_reference (variable w) s) t i = subst (HandedIn v) (sym i.2) (named_known w i.0 i.1)
     argument_in (by_reference (element w x e) s) t i = subst (HandedIn v) (sym i.2) (named_known w i.0.0 i.1.0, expr_in x i.0.1 i.1.1)
 
-    arguments_in : (xs : Arguments) (past : Want) (ws : List Want) (ps : List Passed) → AreArguments gang hs ns xs past ws ps → AllPassedIn v ps
+    arguments_in : (xs : Arguments) (past : Want) (ws : List Want) (ps : List Passed) → (arguments_typing gang hs ns xs past ws).is ps → AllPassedIn v ps
     arguments_in no_arguments past ws ps i = subst (AllPassedIn v) (sym i) tt
     arguments_in (argument_then x xs) past ws ps i =
         let one = i.1.0 in
         subst (AllPassedIn v) (sym i.2) (suits_in v (first_want past ws) (span_of_argument x) one.0 (argument_in x one.0 one.1) i.0.0 one.2, arguments_in xs past (rest_of ws) i.0.1 i.1.1)
 
-  pub call_of_in : (w : Word) (xs : Arguments) (s : Span) (r : Called) → IsCallOf gang hs ns w xs s r → CalledIn v r
-  call_of_in w xs s r i = made_in w xs s (AreArguments gang hs ns xs) (λ ps. arguments_in xs (past_at hs w xs) (wants_at hs w xs) ps) r i
+  pub call_of_in : (w : Word) (xs : Arguments) (s : Span) (r : Called) → (call_of_typing gang hs ns w xs s).is r → CalledIn v r
+  call_of_in w xs s r i = made_in w xs s (arguments_typing gang hs ns xs) (λ ps. arguments_in xs (past_at hs w xs) (wants_at hs w xs) ps) r i

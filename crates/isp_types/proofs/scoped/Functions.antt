@@ -1,13 +1,12 @@
 -- Every program that names and types accept is scoped.
-use Rattle.std.proofs.Common.{◌≡◌, ℕ, ◌++◌, ◌<◌, Bool, true, refl, sym, ap, subst, ◌∙◌, arith, length-append, ltb-true}
-use Rattle.std.specs.Prelude.{Option, List, [], ◌∷◌, length, map, nat_lt, Result, Ok, Err}
+use Rattle.std.proofs.Common.{◌≡◌, ℕ, ◌++◌, true, refl, sym, ap, subst, ◌∙◌, arith, length-append, ltb-true}
+use Rattle.std.specs.Prelude.{Option, List, [], ◌∷◌, length, map, nat_lt, Result, Ok}
 use Rattle.std.specs.List.{All}
 use Rattle.std.proofs.lemmas.Bool.{lt-ltb}
 use Rattle.std.proofs.lemmas.List.{length-map}
 use Rattle.std.proofs.lemmas.List.Elements.{All-cons, All-head, All-tail}
 use Rattle.isp_base.specs.declared.types.Gang.{Gang}
 use Rattle.isp_base.specs.declared.types.Ty.{Ty}
-use Rattle.isp_base.specs.declared.signature.Parameter.{Parameter}
 use Rattle.isp_lex.specs.Lexing.{IsWord}
 use Rattle.isp_lex.specs.declared.fault.Fault.{Fault}
 use Rattle.isp_tree.specs.Sound.{IsSoundBlock, IsSoundParam, IsSoundFunction, IsSound}
@@ -21,7 +20,7 @@ use Rattle.isp_exprs.specs.Words.{value_said}
 use Rattle.isp_exprs.specs.Scopes.{with_name}
 use Rattle.isp_exprs.specs.Callees.{Heading}
 use Rattle.isp_types.specs.Numbering.{declared, block_variables}
-use Rattle.isp_types.specs.Functions.{param_variable, parameter_of, heading, variables_of, param_span, IsBody, IsFunction, AreFunctions, IsProgram}
+use Rattle.isp_types.specs.Functions.{param_variable, parameter_of, heading, param_span, body_typing, function_typing, functions_typing, IsProgram}
 use Rattle.isp_types.proofs.Meanings.{none_known, known_mapped, known_added}
 use Rattle.isp_types.proofs.fine.Simples.{no_all}
 use Rattle.isp_types.proofs.fine.Functions.{params_after, params_are, declared_is}
@@ -44,7 +43,7 @@ param_added ns vars w x scope =
     (known_mapped (IsIn (below (length vars))) (IsIn (below (length (vars ++ x ∷ [])))) (λ (k : Known). longer vars x k.number) ns scope) (last_below vars x)
 
 module _ (gang : Gang) (hs : List Heading) (answer : Result (Option Ty) Fault) where
-  body_scoped : (ns : List Binding) (vars : List Variable) (ps : List Param) (b : Block) → IsSoundBlock b → AllIn (below (length vars)) ns → (t : TBlock) → IsBody gang hs answer ns vars ps b t
+  body_scoped : (ns : List Binding) (vars : List Variable) (ps : List Param) (b : Block) → IsSoundBlock b → AllIn (below (length vars)) ns → (t : TBlock) → (body_typing gang hs answer ns vars ps b).is t
       → BlockDone (below (length (params_after vars ps))) (length (params_after vars ps)) (block_variables gang (params_after vars ps) b) t
   body_scoped ns vars [] b h scope t i = block_scoped gang hs answer (below (length vars)) ns 0 vars (length vars) b h scope refl t i
   body_scoped ns vars (p ∷ ps) b h scope t i =
@@ -64,7 +63,7 @@ params_counted : (ps : List Param) → length (params_after [] ps) ≡ length (m
 params_counted ps = ap length (params_are [] ps) ∙ (length-map ps param_variable ∙ sym (length-map ps param_span))
 
 module _ (gang : Gang) (hs : List Heading) where
-  function_scoped : (earlier : List (List ℕ)) (f : Function) → IsSoundFunction f → (g : TFunction) → IsFunction gang hs earlier f g → ScopedFunction g
+  function_scoped : (earlier : List (List ℕ)) (f : Function) → IsSoundFunction f → (g : TFunction) → (function_typing gang hs earlier f).is g → ScopedFunction g
   function_scoped earlier f h g i =
       let ps = f.params in
       let done = body_scoped gang hs _ [] [] ps f.body h.body (none_known (IsIn (below 0))) i.0.1 i.1.1.1 in
@@ -76,7 +75,7 @@ module _ (gang : Gang) (hs : List Heading) where
         words = param_words ps h.params;
       })
 
-  functions_scoped : (earlier : List (List ℕ)) (fs : List Function) → All IsSoundFunction fs → (ts : List TFunction) → AreFunctions gang hs earlier fs ts → All ScopedFunction ts
+  functions_scoped : (earlier : List (List ℕ)) (fs : List Function) → All IsSoundFunction fs → (ts : List TFunction) → (functions_typing gang hs earlier fs).is ts → All ScopedFunction ts
   functions_scoped earlier [] h ts i = subst (All ScopedFunction) (sym i) (no_all ScopedFunction)
   functions_scoped earlier (f ∷ fs) h ts i = subst (All ScopedFunction) (sym i.2)
       (All-cons ScopedFunction i.0.0 i.0.1 (function_scoped earlier f (All-head IsSoundFunction f fs h) i.0.0 i.1.0) (functions_scoped (earlier ++ f.word.name ∷ []) fs (All-tail IsSoundFunction f fs h) i.0.1 i.1.1))

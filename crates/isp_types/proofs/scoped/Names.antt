@@ -1,5 +1,5 @@
 -- Names stand for variables in scope, and a declaration adds the next number.
-use Rattle.std.proofs.Common.{◌≡◌, ℕ, suc, ◌++◌, refl, eq-eqb, sym, ap, subst, ◌∙◌}
+use Rattle.std.proofs.Common.{◌≡◌, ℕ, suc, ◌++◌, refl, eq-eqb, ap, subst, ◌∙◌}
 use Rattle.std.specs.Prelude.{List, [], ◌∷◌, length, Bool, true, false, ◌||◌, nat_eq, Ok}
 use Rattle.isp_typed.specs.declared.variable.Variable.{Variable}
 use Rattle.isp_typed.specs.Scoped.{Scope, declared}

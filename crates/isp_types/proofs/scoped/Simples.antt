@@ -25,9 +25,9 @@ use Rattle.isp_exprs.specs.Places.{variable_at, element_at}
 use Rattle.isp_exprs.specs.Passing.{Called, gives, runs}
 use Rattle.isp_exprs.specs.Callees.{Heading}
 use Rattle.isp_types.specs.Numbering.{size_number, item_names, item_variables, items_names, items_variables, first_names, first_variables, range_names, range_variables}
-use Rattle.isp_types.specs.Declarations.{array_sized, IsItem, AreItems, IsDeclaration}
-use Rattle.isp_types.specs.Simple.{stated, assigned_by, assignment_operator, IsTarget, IsSimple}
-use Rattle.isp_types.specs.Statements.{IsFirst, AreRanges, AreValues}
+use Rattle.isp_types.specs.Declarations.{array_sized, item_typing, items_typing, declaration_typing}
+use Rattle.isp_types.specs.Simple.{stated, assigned_by, assignment_operator, target_typing, simple_typing}
+use Rattle.isp_types.specs.Statements.{first_typing, ranges_typing, values_typing}
 use Rattle.isp_types.proofs.Meanings.{known_named}
 use Rattle.isp_types.proofs.fine.Passed.{ok_is, no_ok}
 use Rattle.isp_types.proofs.fine.Simples.{no_all, open_is}
@@ -55,7 +55,7 @@ RangesDone v inner n ns vars rs ts = RangesAt v n ts × (number_after n ts ≡ l
 
 module _ (gang : Gang) (hs : List Heading) where
   module _ (v : Scope) (ns : List Binding) (scope : AllIn v ns) where
-    target_in : (x : Expr) (p : TPlace) → IsTarget gang hs ns x p → PlaceIn v p
+    target_in : (x : Expr) (p : TPlace) → (target_typing gang hs ns x).is p → PlaceIn v p
     target_in (place (variable w)) p i =
         variable_in v w.span i.0 (known_named (IsIn v) ns scope w i.0 i.1) p (open_is i.0.variable.constant w.span (variable_at w.span i.0) p i.2).1
     target_in (place (element w x s)) p i =
@@ -79,14 +79,14 @@ module _ (gang : Gang) (hs : List Heading) where
     stated_in (gives x) i = i
     stated_in (runs c) i = i
 
-    pub simple_in : (p : Simple) (t : TSimple) → IsSimple gang hs ns p t → SimpleIn v t
+    pub simple_in : (p : Simple) (t : TSimple) → (simple_typing gang hs ns p).is t → SimpleIn v t
     simple_in (value (call w xs s)) t i = subst (SimpleIn v) (sym i.2) (stated_in i.0 (call_of_in gang hs v ns scope w xs s i.0 i.1))
     simple_in (value x) t i = subst (SimpleIn v) (sym i.2) (expr_in gang hs v ns scope x i.0 i.1)
     simple_in (assign a x y s) t i =
         subst (SimpleIn v) (sym i.2) (assigned_in (assignment_operator a) s i.0.0 i.0.1 (target_in x i.0.0 i.1.0) (expr_in gang hs v ns scope y i.0.1 i.1.1))
     simple_in (change c x s) t i = subst (SimpleIn v) (sym i.2) (target_in x i.0 i.1)
 
-    pub values_in : (xs : List Expr) (ts : List TExpr) → AreValues gang hs ns xs ts → All (ExprIn v) ts
+    pub values_in : (xs : List Expr) (ts : List TExpr) → (values_typing gang hs ns xs).is ts → All (ExprIn v) ts
     values_in [] ts i = subst (All (ExprIn v)) (sym i) (no_all (ExprIn v))
     values_in (x ∷ xs) ts i =
         subst (All (ExprIn v)) (sym i.2) (All-cons (ExprIn v) i.0.0 i.0.1 (expr_in gang hs v ns scope x i.0.0 i.1.0) (values_in xs i.0.1 i.1.1))
@@ -94,12 +94,12 @@ module _ (gang : Gang) (hs : List Heading) where
   -- ---- declarations
 
   module _ (w : ValueWords) (start : ℕ) where
-    item_at : (v : Scope) (ns : List Binding) (vars : List Variable) (n : ℕ) (x : Item) → AllIn v ns → n ≡ length vars → (t : TItem) → IsItem gang hs (Ok w) start ns vars x t → ItemAt v n t
+    item_at : (v : Scope) (ns : List Binding) (vars : List Variable) (n : ℕ) (x : Item) → AllIn v ns → n ≡ length vars → (t : TItem) → (item_typing gang hs (Ok w) start ns vars x).is t → ItemAt v n t
     item_at v ns vars n (plain u) scope e t i = subst (ItemAt v n) (sym i.1) (sym e)
     item_at v ns vars n (with_value u x s) scope e t i = subst (ItemAt v n) (sym i.2) (sym e, converted_in v (type_declared w).elem i.0 (expr_in gang hs v ns scope x i.0 i.1.1))
     item_at v ns vars n (with_size u k s) scope e t i = subst (ItemAt v n) (sym i.2) (sized_number gang (length vars) w k i.0 i.1.1 ∙ sym e)
 
-    items_at : (v : Scope) (ns : List Binding) (vars : List Variable) (n : ℕ) (xs : List Item) → AllIn v ns → n ≡ length vars → (ts : List TItem) → AreItems gang hs (Ok w) start ns vars xs ts
+    items_at : (v : Scope) (ns : List Binding) (vars : List Variable) (n : ℕ) (xs : List Item) → AllIn v ns → n ≡ length vars → (ts : List TItem) → (items_typing gang hs (Ok w) start ns vars xs).is ts
         → ItemsDone v n (items_names gang (Ok w) ns vars xs) (items_variables gang (Ok w) vars xs) ts
     items_at v ns vars n [] scope e ts i = subst (ItemsDone v n ns vars) (sym i) (tt, e, scope)
     items_at v ns vars n (x ∷ xs) scope e ts i =
@@ -108,17 +108,17 @@ module _ (gang : Gang) (hs : List Heading) where
         ((item_at v ns vars n x scope e i.0.0 i.1.0, later.0), later.1, later.2)
 
   said_at : (r : Result ValueWords Fault) (w : ValueWords) → r ≡ Ok w → (start : ℕ) (v : Scope) (ns : List Binding) (vars : List Variable) (n : ℕ) (xs : List Item) → AllIn v ns → n ≡ length vars
-      → (ts : List TItem) → AreItems gang hs r start ns vars xs ts → ItemsDone v n (items_names gang r ns vars xs) (items_variables gang r vars xs) ts
+      → (ts : List TItem) → (items_typing gang hs r start ns vars xs).is ts → ItemsDone v n (items_names gang r ns vars xs) (items_variables gang r vars xs) ts
   said_at (Ok u) w q start v ns vars n xs scope e ts i = items_at u start v ns vars n xs scope e ts i
   said_at (Err f) w q start v ns vars n xs scope e ts i = absurd (no_ok q)
 
-  pub declaration_at : (start : ℕ) (v : Scope) (ns : List Binding) (vars : List Variable) (n : ℕ) (d : Declaration) → AllIn v ns → n ≡ length vars → (ts : List TItem) → IsDeclaration gang hs ns start vars d ts
+  pub declaration_at : (start : ℕ) (v : Scope) (ns : List Binding) (vars : List Variable) (n : ℕ) (d : Declaration) → AllIn v ns → n ≡ length vars → (ts : List TItem) → (declaration_typing gang hs ns start vars d).is ts
       → ItemsDone v n (items_names gang (value_said d.ty) ns vars d.items) (items_variables gang (value_said d.ty) vars d.items) ts
   declaration_at start v ns vars n d scope e ts i =
       subst (ItemsDone v n (items_names gang (value_said d.ty) ns vars d.items) (items_variables gang (value_said d.ty) vars d.items)) (sym i.2)
       (said_at (value_said d.ty) i.0.0 i.1.0 start v ns vars n d.items scope e i.0.1 i.1.1)
 
-  pub first_at : (start : ℕ) (v : Scope) (ns : List Binding) (vars : List Variable) (n : ℕ) (f : First) → AllIn v ns → n ≡ length vars → (t : TFirst) → IsFirst gang hs ns start vars f t
+  pub first_at : (start : ℕ) (v : Scope) (ns : List Binding) (vars : List Variable) (n : ℕ) (f : First) → AllIn v ns → n ≡ length vars → (t : TFirst) → (first_typing gang hs ns start vars f).is t
       → FirstDone v n (first_names gang ns vars (Some f)) (first_variables gang vars (Some f)) (Some t)
   first_at start v ns vars n (first_declare d) scope e t i =
       subst (λ z. FirstDone v n (first_names gang ns vars (Some (first_declare d))) (first_variables gang vars (Some (first_declare d))) (Some z)) (sym i.2) (declaration_at start v ns vars n d scope e i.0 i.1)
@@ -127,7 +127,7 @@ module _ (gang : Gang) (hs : List Heading) where
   -- ---- the ranges of a `foreach`
 
   pub ranges_at : (start : ℕ) (v inner : Scope) (ns is : List Binding) (vars : List Variable) (n : ℕ) (rs : List Range) → AllIn v ns → AllIn inner is → n ≡ length vars
-      → (ts : List TRange) → AreRanges gang hs ns start is vars rs ts → RangesDone v inner n (range_names is vars rs) (range_variables vars rs) rs ts
+      → (ts : List TRange) → (ranges_typing gang hs ns start is vars rs).is ts → RangesDone v inner n (range_names is vars rs) (range_variables vars rs) rs ts
   ranges_at start v inner ns is vars n [] scope known e ts i = subst (RangesDone v inner n is vars []) (sym i) (tt, e, known, refl)
   ranges_at start v inner ns is vars n (r ∷ rs) scope known e ts i =
       let one = i.1.0 in

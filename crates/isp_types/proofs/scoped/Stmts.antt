@@ -1,23 +1,24 @@
 -- Every statement that names and types accept is scoped.
-use Rattle.std.proofs.Common.{◌≡◌, ℕ, suc, ◌++◌, ◌≤◌, refl, sym, ap, subst, ◌∙◌}
+use Rattle.std.proofs.Common.{◌≡◌, ℕ, suc, ◌++◌, ◌≤◌, sym, ap, subst, ◌∙◌}
 use Rattle.std.specs.Prelude.{Option, Some, None, List, [], ◌∷◌, length, Result, Ok, Err}
 use Rattle.isp_base.specs.declared.types.Elem.TheVariants.{Bool as Truth}
 use Rattle.isp_base.specs.declared.types.Gang.{Gang}
+use Rattle.isp_base.specs.declared.types.Span.{Span}
 use Rattle.isp_base.specs.declared.types.Ty.{Ty}
 use Rattle.isp_lex.specs.declared.fault.Fault.{Fault}
 use Rattle.isp_tree.specs.Sound.{IfAny, IsSoundStmt, IsSoundBlock, AreSoundStmts}
 use Rattle.isp_tree.specs.Tree.{Expr, First, Simple, Stmt, block, empty, declare, simple, if_then, if_else, loop_while, loop_do, loop_for, foreach, foreach_active, unmasked, jump, returning, print, assert, Block, braces, Stmts, no_stmts, stmt_then}
 use Rattle.isp_typed.specs.declared.variable.Variable.{Variable}
-use Rattle.isp_typed.specs.Forms.{Perhaps}
+use Rattle.isp_exprs.specs.Typing.{perhaps}
 use Rattle.isp_typed.specs.Typed.{TExpr, TFirst, TSimple, TStmt, TBlock, TStmts}
 use Rattle.isp_typed.specs.Fine.{active_index}
-use Rattle.isp_typed.specs.Scoped.{Scope, declared, ExprIn, SimpleIn, FirstAt, number_after, scope_after, number_after_first, scope_after_first, number_after_stmt, number_after_block, number_after_stmts, scope_after_stmt, StmtAt, BlockAt, StmtsAt}
+use Rattle.isp_typed.specs.Scoped.{Scope, declared, ExprIn, SimpleIn, number_after, scope_after, number_after_first, scope_after_first, number_after_stmt, number_after_block, number_after_stmts, scope_after_stmt, StmtAt, BlockAt, StmtsAt}
 use Rattle.isp_exprs.specs.declared.scope.Binding.{Binding}
 use Rattle.isp_exprs.specs.Scopes.{with_name}
 use Rattle.isp_exprs.specs.Callees.{Heading}
 use Rattle.isp_types.specs.Numbering.{first_names, first_variables, range_names, range_variables, names_after, variables_after, block_variables, stmts_variables}
-use Rattle.isp_types.specs.Simple.{IsSimple}
-use Rattle.isp_types.specs.Statements.{as_answer, IsTest, IsFirst, IsReturned, IsStmt, IsBlock, AreStmts}
+use Rattle.isp_types.specs.Simple.{simple_typing}
+use Rattle.isp_types.specs.Statements.{as_answer, test_typing, first_typing, returned_typing, stmt_typing, block_typing, stmts_typing}
 use Rattle.isp_types.proofs.scoped.Names.{AllIn, one_longer, scope_added}
 use Rattle.isp_types.proofs.scoped.Exprs.{converted_in, expr_in}
 use Rattle.isp_types.proofs.scoped.Simples.{FirstDone, simple_in, values_in, declaration_at, first_at, ranges_at}
@@ -33,19 +34,19 @@ abbrev StmtsDone : Scope → ℕ → List Variable → TStmts → Type 0
 StmtsDone v n vars t = StmtsAt v n t × (number_after_stmts n t ≡ length vars)
 
 module _ (gang : Gang) (hs : List Heading) (answer : Result (Option Ty) Fault) where
-  test_in : (v : Scope) (ns : List Binding) → AllIn v ns → (x : Expr) (t : TExpr) → IsTest gang hs ns x t → ExprIn v t
+  test_in : (v : Scope) (ns : List Binding) → AllIn v ns → (x : Expr) (t : TExpr) → (test_typing gang hs ns x).is t → ExprIn v t
   test_in v ns scope x t i = subst (ExprIn v) (sym i.2) (converted_in v Truth i.0 (expr_in gang hs v ns scope x i.0 i.1))
 
   -- what may be left out
-  maybe_test : (v : Scope) (ns : List Binding) → AllIn v ns → (x : Option Expr) (t : Option TExpr) → Perhaps (IsTest gang hs ns) x t → IfAny (ExprIn v) t
+  maybe_test : (v : Scope) (ns : List Binding) → AllIn v ns → (x : Option Expr) (t : Option TExpr) → (perhaps (test_typing gang hs ns) x).is t → IfAny (ExprIn v) t
   maybe_test v ns scope None t i = subst (IfAny (ExprIn v)) (sym i) tt
   maybe_test v ns scope (Some x) t i = subst (IfAny (ExprIn v)) (sym i.2) (test_in v ns scope x i.0 i.1)
 
-  maybe_simple : (v : Scope) (ns : List Binding) → AllIn v ns → (x : Option Simple) (t : Option TSimple) → Perhaps (IsSimple gang hs ns) x t → IfAny (SimpleIn v) t
+  maybe_simple : (v : Scope) (ns : List Binding) → AllIn v ns → (x : Option Simple) (t : Option TSimple) → (perhaps (simple_typing gang hs ns) x).is t → IfAny (SimpleIn v) t
   maybe_simple v ns scope None t i = subst (IfAny (SimpleIn v)) (sym i) tt
   maybe_simple v ns scope (Some x) t i = subst (IfAny (SimpleIn v)) (sym i.2) (simple_in gang hs v ns scope x i.0 i.1)
 
-  maybe_first : (start : ℕ) (v : Scope) (ns : List Binding) (vars : List Variable) (n : ℕ) → AllIn v ns → n ≡ length vars → (x : Option First) (t : Option TFirst) → Perhaps (IsFirst gang hs ns start vars) x t
+  maybe_first : (start : ℕ) (v : Scope) (ns : List Binding) (vars : List Variable) (n : ℕ) → AllIn v ns → n ≡ length vars → (x : Option First) (t : Option TFirst) → (perhaps (first_typing gang hs ns start vars) x).is t
       → FirstDone v n (first_names gang ns vars x) (first_variables gang vars x) t
   maybe_first start v ns vars n scope e None t i = subst (FirstDone v n ns vars) (sym i) (tt, e, scope)
   maybe_first start v ns vars n scope e (Some x) t i =
@@ -56,14 +57,14 @@ module _ (gang : Gang) (hs : List Heading) (answer : Result (Option Ty) Fault) w
   answer_in v (Ok None) x i = i
   answer_in v (Ok (Some t)) x i = converted_in v t.elem x i
 
-  returned_in : (v : Scope) (ns : List Binding) → AllIn v ns → (x : Option Expr) (t : Option TExpr) → IsReturned gang hs answer ns x t → IfAny (ExprIn v) t
-  returned_in v ns scope None t i = subst (IfAny (ExprIn v)) (sym i.1) tt
-  returned_in v ns scope (Some x) t i =
+  returned_in : (v : Scope) (ns : List Binding) → AllIn v ns → (k : Span) (x : Option Expr) (t : Option TExpr) → (returned_typing gang hs answer ns k x).is t → IfAny (ExprIn v) t
+  returned_in v ns scope k None t i = subst (IfAny (ExprIn v)) (sym i.1) tt
+  returned_in v ns scope k (Some x) t i =
       let one = i.1 in
       subst (IfAny (ExprIn v)) (sym (one.2 ∙ ap (λ z. Some z) one.1.2)) (answer_in v answer one.1.0 (expr_in gang hs v ns scope x one.1.0 one.1.1))
 
   mutual
-    stmt_scoped : (v : Scope) (ns : List Binding) (start : ℕ) (vars : List Variable) (n : ℕ) (s : Stmt) → IsSoundStmt s → AllIn v ns → n ≡ length vars → (t : TStmt) → IsStmt gang hs answer ns start vars s t
+    stmt_scoped : (v : Scope) (ns : List Binding) (start : ℕ) (vars : List Variable) (n : ℕ) (s : Stmt) → IsSoundStmt s → AllIn v ns → n ≡ length vars → (t : TStmt) → (stmt_typing gang hs answer ns start vars s).is t
         → StmtDone v n (names_after gang ns vars s) (variables_after gang vars s) t
     stmt_scoped v ns start vars n (block b) h scope e t i =
         let b1 = block_scoped v ns (length ns) vars n b h scope e i.0 i.1 in
@@ -106,16 +107,16 @@ module _ (gang : Gang) (hs : List Heading) (answer : Result (Option Ty) Fault) w
         let b1 = block_scoped v ns (length ns) vars n b h.1 scope e i.0 i.1 in
         subst (StmtDone v n ns (block_variables gang vars b)) (sym i.2) (b1.0, b1.1, scope)
     stmt_scoped v ns start vars n (jump j k s) h scope e t i = subst (StmtDone v n ns vars) (sym i) (tt, e, scope)
-    stmt_scoped v ns start vars n (returning k x s) h scope e t i = subst (StmtDone v n ns vars) (sym i.2) (returned_in v ns scope x i.0 i.1, e, scope)
+    stmt_scoped v ns start vars n (returning k x s) h scope e t i = subst (StmtDone v n ns vars) (sym i.2) (returned_in v ns scope k x i.0 i.1, e, scope)
     stmt_scoped v ns start vars n (print k w p xs s) h scope e t i = subst (StmtDone v n ns vars) (sym i.2) (values_in gang hs v ns scope xs i.0 i.1.1, e, scope)
     stmt_scoped v ns start vars n (assert x c s) h scope e t i = subst (StmtDone v n ns vars) (sym i.2) (test_in v ns scope x i.0 i.1, e, scope)
 
-    pub block_scoped : (v : Scope) (ns : List Binding) (start : ℕ) (vars : List Variable) (n : ℕ) (b : Block) → IsSoundBlock b → AllIn v ns → n ≡ length vars → (t : TBlock) → IsBlock gang hs answer ns start vars b t
+    pub block_scoped : (v : Scope) (ns : List Binding) (start : ℕ) (vars : List Variable) (n : ℕ) (b : Block) → IsSoundBlock b → AllIn v ns → n ≡ length vars → (t : TBlock) → (block_typing gang hs answer ns start vars b).is t
         → BlockDone v n (block_variables gang vars b) t
     block_scoped v ns start vars n (braces ss s) h scope e t i =
         subst (BlockDone v n (stmts_variables gang vars ss)) (sym i.2) (stmts_scoped v ns start vars n ss h.0 scope e i.0 i.1)
 
-    stmts_scoped : (v : Scope) (ns : List Binding) (start : ℕ) (vars : List Variable) (n : ℕ) (ss : Stmts) → AreSoundStmts ss → AllIn v ns → n ≡ length vars → (t : TStmts) → AreStmts gang hs answer ns start vars ss t
+    stmts_scoped : (v : Scope) (ns : List Binding) (start : ℕ) (vars : List Variable) (n : ℕ) (ss : Stmts) → AreSoundStmts ss → AllIn v ns → n ≡ length vars → (t : TStmts) → (stmts_typing gang hs answer ns start vars ss).is t
         → StmtsDone v n (stmts_variables gang vars ss) t
     stmts_scoped v ns start vars n no_stmts h scope e t i = subst (StmtsDone v n vars) (sym i) (tt, e)
     stmts_scoped v ns start vars n (stmt_then s ss) h scope e t i =

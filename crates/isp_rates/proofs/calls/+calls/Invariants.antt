@@ -1,7 +1,7 @@
 use Rattle.std.proofs.Common.{◌≡◌, ◌++◌, drop}
 use Rattle.isp_typed.specs.Typed.{t_arguments, t_exprs}
 use Rattle.isp_typed.specs.Views.{arguments_of, exprs_of}
-use Rattle.isp_rates.specs.Reaches.{arguments_calls, values_calls}
+use Rattle.isp_independence.specs.Reaches.{arguments_calls, values_calls}
 use Rattle.isp_rates.proofs.calls.+calls.Given as goal
 
 abbrev pub invariant-call-loop-given : goal.invariant-call-loop-given

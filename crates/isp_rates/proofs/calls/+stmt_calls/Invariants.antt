@@ -1,7 +1,7 @@
 use Rattle.std.proofs.Common.{◌≡◌, ◌++◌, drop}
 use Rattle.isp_typed.specs.Typed.{t_stmts}
 use Rattle.isp_typed.specs.Views.{stmts_of}
-use Rattle.isp_rates.specs.Reaches.{stmts_calls}
+use Rattle.isp_independence.specs.Reaches.{stmts_calls}
 use Rattle.isp_rates.proofs.calls.+stmt_calls.Given as goal
 
 abbrev pub invariant-block-loop-s : goal.invariant-block-loop-s

@@ -1,6 +1,6 @@
 use Rattle.std.proofs.Common.{◌≡◌, ◌++◌, drop}
 use Rattle.isp_typed.specs.Views.{items_of}
-use Rattle.isp_rates.specs.Reaches.{item_calls, calls_of_each}
+use Rattle.isp_independence.specs.Reaches.{item_calls, calls_of_each}
 use Rattle.isp_rates.proofs.calls.items.Given as goal
 
 abbrev pub invariant-loop-declared : goal.invariant-loop-declared

@@ -1,6 +1,6 @@
 use Rattle.std.proofs.Common.{◌≡◌, ◌++◌, drop}
 use Rattle.isp_typed.specs.Views.{exprs_of}
-use Rattle.isp_rates.specs.Reaches.{expr_calls, calls_of_each}
+use Rattle.isp_independence.specs.Reaches.{expr_calls, calls_of_each}
 use Rattle.isp_rates.proofs.calls.values.Given as goal
 
 abbrev pub invariant-loop-value : goal.invariant-loop-value

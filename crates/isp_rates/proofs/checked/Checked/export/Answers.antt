@@ -1,5 +1,5 @@
 use Rattle.std.proofs.Common.{ap, ◌∙◌}
-use Rattle.std.specs.Prelude.{ℕ, List, Some, option_map}
+use Rattle.std.specs.Prelude.{Some, option_map}
 use Rattle.isp_typed.specs.declared.function.Program.{Program}
 use Rattle.isp_typed.specs.declared.function.TypedFunction.{TypedFunction}
 use Rattle.isp_rates.specs.Exports.{exports_from}
