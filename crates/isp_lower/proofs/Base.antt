@@ -60,12 +60,16 @@ module _ (w : Setting) where
   pub fails_on : (c c1 c2 : Conf) (s t : ℕ) (p : Trap) → Comes w c s c1 → after w.code t (machine.Runs c1) ≡ machine.Trapped p c2 → after w.code (s + t) (machine.Runs c) ≡ machine.Trapped p c2
   fails_on c c1 c2 s t p h g = after_more c c1 s t h ∙ g
 
-  pub step_is : (c : Conf) (pc : ℕ) (i : Instr) → IsSettled w → At w c pc → slice_get w.routine.code pc ≡ Some i → step w.code c ≡ act w.code w.routine c i
-  step_is c pc i ready at has =
+  -- where the routine is the one that runs
+  pub step_by : (c : Conf) (pc : ℕ) (i : Instr) → slice_get w.code.routines w.home.fn ≡ Some w.routine → At w c pc → slice_get w.routine.code pc ≡ Some i → step w.code c ≡ act w.code w.routine c i
+  step_by c pc i found at has =
       ap (λ h. act_in w.code c (slice_get w.code.routines h.fn)) at.home_is
-      ∙ ap (act_in w.code c) ready.found
+      ∙ ap (act_in w.code c) found
       ∙ ap (λ p. act_at w.code w.routine c (slice_get w.routine.code p)) at.pc_is
       ∙ ap (act_at w.code w.routine c) has
+
+  pub step_is : (c : Conf) (pc : ℕ) (i : Instr) → IsSettled w → At w c pc → slice_get w.routine.code pc ≡ Some i → step w.code c ≡ act w.code w.routine c i
+  step_is c pc i ready at has = step_by c pc i ready.found at has
 
   pub step_go : (c : Conf) (pc : ℕ) (i : Instr) (c' : Conf) → IsSettled w → At w c pc → slice_get w.routine.code pc ≡ Some i → act w.code w.routine c i ≡ Go c' → Comes w c 1 (record c' { out = c.out })
   step_go c pc i c' ready at has is = ap (λ m. arrive w.code m c) (step_is c pc i ready at has ∙ is)

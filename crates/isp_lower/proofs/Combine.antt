@@ -102,7 +102,7 @@ module _ (w : Setting) (ready : IsSettled w) where
   set_masks Uniform c d x k = refl
   set_masks Varying c d x k = refl
 
-  set_spares : (r : Rate) (c : Conf) (t : Elem) (n j : ℕ) (x : Payload) → n ≤ j → Spares w n c (set_at r c (w.layout.spare r t j) x)
+  pub set_spares : (r : Rate) (c : Conf) (t : Elem) (n j : ℕ) (x : Payload) → n ≤ j → Spares w n c (set_at r c (w.layout.spare r t j) x)
   set_spares Uniform c t n j x le = record { scalars_stay = λ u i lt. let ne : i ≢ j = omega arith in put_other c.scalars (w.layout.spare Uniform t j) (sole x) (w.layout.spare Uniform u i) (ready.apart.spares Uniform u t i j ne); vectors_stay = λ u i lt. refl }
   set_spares Varying c t n j x le = record { scalars_stay = λ u i lt. refl; vectors_stay = λ u i lt. let ne : i ≢ j = omega arith in put_other c.vectors (w.layout.spare Varying t j) (over (spread nobody x) (c.vectors (w.layout.spare Varying t j))) (w.layout.spare Varying u i) (ready.apart.spares Varying u t i j ne) }
 
@@ -174,6 +174,12 @@ module _ (w : Setting) (ready : IsSettled w) where
   renamed c pc n q P Q (Gives x s) f g h r = record { conf = r.conf; steps = r.steps; comes = r.comes; at = r.at; stands = r.stands; spares = r.spares; masks = r.masks; holds = h x r.conf r.holds; bound = r.bound }
   renamed c pc n q P Q (Fails p s) f g h r = r
   renamed c pc n q P Q (Stops s) f g h r = r
+
+  -- a value that is told as another one
+  pub told_as : {A B : Type 0} (c : Conf) (pc n q : ℕ) (P : A → Conf → Type 0) (Q : B → Conf → Type 0) (v : Val A) (g : A → B) → ((x : A) (c : Conf) → P x c → Q (g x) c) → Runs w c pc n q P v → Runs w c pc n q Q (bind v (λ x s. Gives (g x) s))
+  told_as c pc n q P Q (Gives x s) g h r = record { conf = r.conf; steps = r.steps; comes = r.comes; at = r.at; stands = r.stands; spares = r.spares; masks = r.masks; holds = h x r.conf r.holds; bound = r.bound }
+  told_as c pc n q P Q (Fails p s) g h r = r
+  told_as c pc n q P Q (Stops s) g h r = r
 
   pub ok_to : (c : Conf) (pc pc' n q : ℕ) (P : Conf → Type 0) (s : State) → pc ≡ pc' → Ok w c pc n q P s → Ok w c pc' n q P s
   ok_to c pc pc' n q P s e ok = subst (λ z. Ok w c z n q P s) e ok

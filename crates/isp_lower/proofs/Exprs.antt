@@ -17,37 +17,47 @@ use Rattle.isp_base.specs.declared.types.Rate.TheVariants.{Uniform, Varying}
 use Rattle.isp_base.specs.declared.types.Span.{Span}
 use Rattle.isp_base.specs.declared.types.Value.{Value}
 use Rattle.isp_code.specs.Calls.{place_at}
+use Rattle.isp_code.specs.Conf as machine
 use Rattle.isp_code.specs.Conf.{Conf, Go}
 use Rattle.isp_code.specs.Lines.{size, item}
 use Rattle.isp_code.specs.Registers.{elem_of}
+use Rattle.isp_code.specs.declared.instr.Call.{Call}
 use Rattle.isp_code.specs.declared.instr.Instr.{Instr}
-use Rattle.isp_meaning.specs.State.{State, tick, extent}
+use Rattle.isp_code.specs.declared.register.Register.{Register}
+use Rattle.isp_meaning.specs.State.{State, tick, extent, extent_at}
 use Rattle.isp_meaning.specs.Payloads.{Payload, One, Each, mapped, joined, converted, offender}
 use Rattle.isp_meaning.specs.Outcomes.{Val, Gives, Fails, Stops, bind, checked}
 use Rattle.isp_meaning.specs.Places.{Place, Variable, Element, variable, outside, held}
-use Rattle.isp_meaning.specs.Expressions.{value}
+use Rattle.isp_meaning.specs.Expressions.{Passed, Values, Store, value, arguments, passed}
+use Rattle.isp_meaning.specs.Loads.{no_variable, KeepsBy}
 use Rattle.isp_base.specs.declared.types.Ty.{Ty}
-use Rattle.isp_typed.specs.Fine.{heads}
+use Rattle.isp_typed.specs.Fine.{heads, HoldsArray, params_of}
+use Rattle.isp_typed.specs.declared.variable.Holds.{Holds as Held}
+use Rattle.isp_typed.specs.declared.variable.Holds.TheVariants as holds
+use Rattle.isp_typed.specs.declared.variable.Variable.{Variable as Declared}
 use Rattle.isp_typed.specs.declared.variable.ArrayVariable.{ArrayVariable}
-use Rattle.isp_typed.specs.Typed.{TExpr, t_constant, t_program_index, t_place, t_convert, t_cast, t_unary, t_binary, t_compare, t_logic, t_choose, t_call, t_library, t_packed_store, t_packed_load, TPlace, t_variable, t_element, type_of}
-use Rattle.isp_lower.specs.Layout.{register, array_register}
-use Rattle.isp_lower.specs.Setting.{ArrayFits, Setting, IsSettled, gang_of, calls_of, AreAt, At, Stands, at_rate, held_at, Holds, Spares}
+use Rattle.isp_typed.specs.Typed.{TExpr, t_constant, t_program_index, t_place, t_convert, t_cast, t_unary, t_binary, t_compare, t_logic, t_choose, t_call, t_library, t_packed_store, t_packed_load, TPlace, t_variable, t_element, TArgument, t_by_value, t_by_name, TCall, t_called, TArguments, t_no_arguments, t_argument_then, TFunction, type_of}
+use Rattle.isp_lower.specs.Callees.{rate_held, rates_held, rates_of}
+use Rattle.isp_lower.specs.Calls.{IsHanded, AreHanded, Takes, given_back, CallRuns}
+use Rattle.isp_lower.specs.Layout.{class_at, register, mask_register, array_register}
+use Rattle.isp_lower.specs.Setting.{ArrayFitsAt, ArrayFits, Setting, IsSettled, gang_of, calls_of, AreAt, At, Stands, at_rate, held_at, Holds, Spares}
 use Rattle.isp_lower.specs.Runs.{Comes, Enters, Runs}
-use Rattle.isp_lower.specs.Code.{convert, constant, constant_of, convert_to, part_to, lift_to, lifted, found, operand, operand_of, lift_code, is_whole, whole, whole_of, index, index_of, read, expr_places, expr_code, expr_to, select, same_rate, stays, stays_at, is_short, choose_code, choose_to}
-use Rattle.isp_lower.proofs.Base.{are_front, are_back, comes_none, at_to, moved_by, spares_all}
-use Rattle.isp_lower.proofs.Rates.{held_same, at_mapped, at_offender, filled_on}
+use Rattle.isp_lower.specs.Code.{convert, constant, constant_of, convert_to, part_to, lift_to, lifted, found, operand, operand_of, lift_code, is_whole, whole, whole_of, index, index_of, read, expr_places, expr_code, expr_to, argument_places, arguments_places, argument_register, argument_registers, argument_code, arguments_code, calling, select, same_rate, stays, stays_at, is_short, choose_code, choose_to}
+use Rattle.isp_lower.proofs.Base.{are_front, are_back, comes_none, at_to, moved_by, spares_all, spares_less}
+use Rattle.isp_lower.proofs.Rates.{Filled, held_same, at_mapped, at_offender, filled_on}
 use Rattle.isp_lower.proofs.Lines.{set_at, value_at, convert_line, unary_line, compare_line, operate_at, place_named}
 use Rattle.isp_lower.proofs.Access.{as_whole, found_items, filled_items, read_line, size_at, item_at, get_at, read_is, outside_is}
 use Rattle.isp_lower.proofs.Values.{wrap_bits, constant_is}
-use Rattle.isp_lower.proofs.Combine.{runs_on, ok_less, renamed, lift_runs}
+use Rattle.isp_lower.proofs.Combine.{runs_after, runs_on, bind_runs, ok_less, renamed, told_as, lift_runs}
 use Rattle.isp_lower.proofs.Found.{few, constant_is_one, found_typed, found_low, operand_typed, operand_low}
 use Rattle.isp_lower.proofs.Choose.{choose_front, choose_runs}
 use Rattle.isp_lower.proofs.Short.{same_rate-is, InPlace, stays_in_place, short_runs}
 use Rattle.isp_lower.proofs.Logic.{logic_one, logic_each}
-use Rattle.isp_lower.proofs.Targets.{Target, InSlot, target, Leaves, bind_leaves, write_leaves}
+use Rattle.isp_lower.proofs.Targets.{Target, InSlot, InVariable, target, Leaves, leaves_after, bind_leaves, write_leaves, came_leaves}
+use Rattle.isp_lower.proofs.GivenBack.{GivesBackBy, call_gives, answer_held, answer_filled, given_is}
 use Rattle.isp_lower.proofs.Nodes.{enters_part, enters_later, leaf_runs, operand_runs, one_runs, pair_runs}
-use Rattle.isp_lower.proofs.Kept.{value_still}
-use Rattle.isp_lower.proofs.Parts.{ExprParts, SpareFits}
+use Rattle.isp_lower.proofs.Kept.{Keeps, kept_of, held_kept, arguments_still, value_still}
+use Rattle.isp_lower.proofs.Parts.{ExprParts, CallParts, ArgumentsParts, ArgumentParts, SpareFits}
 use Rattle.isp_lower.specs.Asks.{first_slot, second_slot}
 use Rattle.isp_lower.specs.Rated.{Reaches}
 use Rattle.isp_lower.specs.Tables.{IsTyped}
@@ -308,57 +318,226 @@ module _ (w : Setting) (ready : IsSettled w) where
       go true ez at = choose_node InSlot e x y t sp ihe ez pc p k n q rest a s c fit.5 at (are_front w.code.places p (expr_places w.layout e) _ places) (omega arith) b
       go false ez at = long_node e x y t sp ihe ihx ihy pc p k n q rest a s c fit at places (omega arith) b
 
-  pub expr_runs : (x : TExpr) (pc p k n q rest : ℕ) (a : Mask) (s : State) (c : Conf) → ExprParts w x n → AreAt w.routine.code pc (expr_code w.layout x pc p k n) → AreAt w.code.places p (expr_places w.layout x) → heads x + rest ≤ 5 + q → Enters w pc k n a s c q → Runs w c (pc + length (expr_code w.layout x pc p k n)) n rest (Holds (type_of x).rate a (found w.layout x n)) (means x a s)
-  expr_runs (t_constant v sp) pc p k n q rest a s c fit has places le b = number_node InSlot v sp pc p k n q rest a s c fit fit has places le b
-  expr_runs (t_program_index sp) pc p k n q rest a s c fit has places le b = index_node InSlot sp pc p k n q rest a s c fit fit has places le b
-  expr_runs (t_place (t_variable v t sp)) pc p k n q rest a s c fit has places le b = record {
-    conf = c;
-    steps = 0;
-    comes = comes_none w c;
-    at = at_to w c pc _ b.at (omega arith);
-    stands = b.stands;
-    spares = spares_all w n c;
-    masks = λ j h. refl;
-    holds = variable_held t.rate v a (tick s) c b.stands;
-    bound = omega (arith, b.used);
+  -- ---- calls
+
+  -- what is handed over stays so while lower slots and variables do
+  handed_kept : (y : Held) (x : TArgument) (n : ℕ) (a : Mask) (z : Passed) (c c' : Conf) → ArgumentParts w y x n → Keeps w (n + 1) c c' → c'.home ≡ c.home → IsHanded a c y z (argument_register w.layout (rate_held y) x n) → IsHanded a c' y z (argument_register w.layout (rate_held y) x n)
+  handed_kept (holds.Value t) (t_by_value x) n a (Values m) c c' fit keeps home i =
+      (i.0, i.1 ∙ sym (held_kept w t.rate (n + 1) c c' a (operand w.layout t.rate x n) keeps (operand_low w ready t.rate t.elem x n fit.0 fit.1)))
+  handed_kept (holds.Value t) (t_by_value x) n a (Store u) c c' fit keeps home i = absurd i
+  handed_kept (holds.Value t) (t_by_name b sp) n a z c c' fit keeps home i = absurd fit
+  handed_kept (holds.Given e) (t_by_value x) n a z c c' fit keeps home i = absurd fit
+  handed_kept (holds.Given e) (t_by_name b sp) n a (Values m) c c' fit keeps home i = absurd i
+  handed_kept (holds.Given e) (t_by_name b sp) n a (Store u) c c' fit keeps home i =
+      (i.0, ap (λ g. g.named (w.layout.array b.number)) home ∙ i.1, subst (λ g. u < g.opened) (sym home) i.2, subst (λ g. g.sizes u ≤ 2 ^ 63) (sym home) i.3)
+  handed_kept (holds.Local t m) (t_by_value x) n a z c c' fit keeps home i = absurd fit
+  handed_kept (holds.Local t m) (t_by_name b sp) n a z c c' fit keeps home i = absurd fit
+
+  -- an array is an open store
+  named_run : (e : Elem) (b : ArrayVariable) (sp : Span) (pc k n q rest : ℕ) (a : Mask) (s : State) (c : Conf) → HoldsArray w.function.variables b → b.ty.rate ≡ Uniform → rest ≤ q → Enters w pc k n a s c q → Runs w c (pc + 0) n rest (λ z c'. IsHanded a c' (holds.Given e) z (array_register (w.layout.array b.number))) (passed (gang_of w) w.frame (calls_of w) (t_by_name b sp) a s)
+  named_run e b sp pc k n q rest a s c has er le en =
+      let fits = ready.arrays b has in
+      let is : ArrayFitsAt w Uniform b = subst (λ r. ArrayFitsAt w r b) er fits.is in
+      let few : extent_at Uniform w.frame b.number ≤ 2 ^ 63 = subst (λ r. extent_at r w.frame b.number ≤ 2 ^ 63) er fits.few in
+      let opened : c.home.opened ≡ w.frame.opened = ap (λ g. g.opened) en.at.home_is ∙ ready.opened in
+      let sizes : c.home.sizes ≡ w.frame.sizes = ap (λ g. g.sizes) en.at.home_is ∙ ready.sizes in
+      record {
+        conf = c;
+        steps = 0;
+        comes = comes_none w c;
+        at = at_to w c pc _ en.at (omega arith);
+        stands = en.stands;
+        spares = spares_all w n c;
+        masks = λ j h. refl;
+        holds = (refl, ap (λ g. g.named (w.layout.array b.number)) en.at.home_is ∙ is.1, subst (λ g. w.frame.named b.number < g) (sym opened) (fits.below er), subst (λ g. g (w.frame.named b.number) ≤ 2 ^ 63) (sym sizes) few);
+        bound = omega (arith, en.used);
+      }
+
+  -- the rest of the arguments, once the first is handed over
+  handed_both : (y : Held) (x : TArgument) (vs : List Declared) (regs : List Register) (n pc q : ℕ) (a : Mask) (z : Passed) (s : State) (c : Conf) (v : Val (List Passed)) → ArgumentParts w y x n → c.home ≡ w.home → Stands w s c → KeepsBy no_variable s v → IsHanded a c y z (argument_register w.layout (rate_held y) x n) → Runs w c pc (n + 1) q (λ zs c'. AreHanded a c' vs zs regs) v → Runs w c pc n q (λ zs c'. AreHanded a c' (record { holds = y; constant = false } ∷ vs) zs (argument_register w.layout (rate_held y) x n ∷ regs)) (bind v (λ zs s1. Gives (z ∷ zs) s1))
+  handed_both y x vs regs n pc q a z s c (Gives zs s1) fit home st k i r = record {
+    conf = r.conf;
+    steps = r.steps;
+    comes = r.comes;
+    at = r.at;
+    stands = r.stands;
+    spares = spares_less w n (n + 1) c r.conf (omega arith) r.spares;
+    masks = λ j h. r.masks j (omega arith);
+    holds = (handed_kept y x n a z c r.conf fit (kept_of w (n + 1) c r.conf s s1 st r.stands k r.spares) (r.at.home_is ∙ sym home) i, r.holds);
+    bound = r.bound;
   }
-  expr_runs (t_place (t_element y i t sp)) pc p k n q rest a s c fit has places le b = element_node InSlot y i t sp (λ pc p k n q rest a s c f h pl le z. expr_runs i pc p k n q rest a s c f h pl le z) pc p k n q rest a s c fit fit.1 has places le b
-  expr_runs (t_convert e x) pc p k n q rest a s c fit has places le b = convert_node InSlot e x (λ pc p k n q rest a s c f h pl le z. expr_runs x pc p k n q rest a s c f h pl le z) pc p k n q rest a s c fit fit.1 has places le b
-  expr_runs (t_cast x t sp) pc p k n q rest a s c fit has places le b =
-      let f : heads x ≤ 1 = few w x n fit.1 in
-      cast_runs c pc k n rest a (means x a (tick s)) t.rate (type_of x).rate (type_of x).elem (found w.layout x n) (λ d. expr_to w.layout d x pc p k n) fit.0.reaches b.mask b.low has
-      (λ at. expr_runs x pc p k n (32 + q) (1 + rest) a (tick s) c fit.1 at places (omega arith) (enters_part w ready pc k n (32 + q) q a s c (omega arith) b))
-  expr_runs (t_unary o x t sp) pc p k n q rest a s c fit has places le b = unary_node InSlot o x t sp (λ pc p k n q rest a s c f h pl le z. expr_runs x pc p k n q rest a s c f h pl le z) pc p k n q rest a s c fit fit.1 has places le b
-  expr_runs (t_binary o x y t sp) pc p k n q rest a s c fit has places le b = binary_node InSlot o x y t sp (λ pc p k n q rest a s c f h pl le z. expr_runs x pc p k n q rest a s c f h pl le z) (λ pc p k n q rest a s c f h pl le z. expr_runs y pc p k n q rest a s c f h pl le z) pc p k n q rest a s c fit fit.2 has places le b
-  expr_runs (t_compare o x y r sp) pc p k n q rest a s c fit has places le b = compare_node InSlot o x y r sp (λ pc p k n q rest a s c f h pl le z. expr_runs x pc p k n q rest a s c f h pl le z) (λ pc p k n q rest a s c f h pl le z. expr_runs y pc p k n q rest a s c f h pl le z) pc p k n q rest a s c fit fit.2 has places le b
-  expr_runs (t_logic g x y Uniform sp) pc p k n q rest a s c fit has places le b =
-      let fx : heads x ≤ 1 = few w x n fit.3 in
-      let fy : heads y ≤ 1 = few w y (n + 1) fit.4 in
-      let lk : k < n = b.low in
-      let cx = expr_code w.layout x pc p k n in
-      let ca = operand_of w.layout Uniform x k n cx in
-      let ha : AreAt w.routine.code pc ca = are_front w.routine.code pc ca _ (are_front w.routine.code pc (ca ++ _) _ has) in
-      let p1 = p + length (expr_places w.layout x) in
-      let pl = are_back w.code.places p (expr_places w.layout x) _ places in
-      logic_one w ready g c pc k n rest a (means x a (tick s)) (λ z s1. means y z s1) (operand w.layout Uniform x n) (operand w.layout Uniform y (n + 1)) ca (λ pc1 m. operand_of w.layout Uniform y m (n + 1) (expr_code w.layout y pc1 p1 m (n + 1))) b.mask lk b.some b.inside has
-      (operand_runs w ready c pc k n (1 + (1 + rest)) a (means x a (tick s)) Uniform Truth x cx fit.0 b.mask lk ha
-      (expr_runs x pc p k n (32 + q) (1 + (1 + (1 + rest))) a (tick s) c fit.3 (are_front w.routine.code pc cx _ ha) (are_front w.code.places p (expr_places w.layout x) _ places) (omega arith) (enters_part w ready pc k n (32 + q) q a s c (omega arith) b)))
-      (λ s1 c1 pc1 z at en. operand_runs w ready c1 pc1 k (n + 1) (1 + z) a (means y a s1) Uniform Truth y (expr_code w.layout y pc1 p1 k (n + 1)) fit.1 en.mask en.low at (expr_runs y pc1 p1 k (n + 1) z (1 + (1 + z)) a s1 c1 fit.4 (are_front w.routine.code pc1 (expr_code w.layout y pc1 p1 k (n + 1)) _ at) pl (omega arith) en))
-  expr_runs (t_logic g x y Varying sp) pc p k n q rest a s c fit has places le b =
-      let fx : heads x ≤ 1 = few w x n fit.3 in
-      let fy : heads y ≤ 1 = few w y (n + 1) fit.4 in
-      let lk : k < n = b.low in
-      let cx = expr_code w.layout x pc p k n in
-      let ca = operand_of w.layout Varying x k n cx in
-      let ha : AreAt w.routine.code pc ca = are_front w.routine.code pc ca _ (are_front w.routine.code pc (ca ++ _) _ has) in
-      let p1 = p + length (expr_places w.layout x) in
-      let pl = are_back w.code.places p (expr_places w.layout x) _ places in
-      logic_each w ready g c pc k n rest a (means x a (tick s)) (λ z s1. means y z s1) (operand w.layout Varying x n) (operand w.layout Varying y (n + 1)) ca (λ pc1 m. operand_of w.layout Varying y m (n + 1) (expr_code w.layout y pc1 p1 m (n + 1))) b.mask lk b.some b.inside has
-      (operand_runs w ready c pc k n (1 + (2 + (1 + rest))) a (means x a (tick s)) Varying Truth x cx fit.0 b.mask lk ha
-      (expr_runs x pc p k n (32 + q) (1 + (1 + (2 + (1 + rest)))) a (tick s) c fit.3 (are_front w.routine.code pc cx _ ha) (are_front w.code.places p (expr_places w.layout x) _ places) (omega arith) (enters_part w ready pc k n (32 + q) q a s c (omega arith) b)))
-      (λ T s1 c1 pc1 z at en. operand_runs w ready c1 pc1 n (n + 1) (1 + z) T (means y T s1) Varying Truth y (expr_code w.layout y pc1 p1 n (n + 1)) fit.1 en.mask en.low at (expr_runs y pc1 p1 n (n + 1) z (1 + (1 + z)) T s1 c1 fit.4 (are_front w.routine.code pc1 (expr_code w.layout y pc1 p1 n (n + 1)) _ at) pl (omega arith) en))
-  expr_runs (t_choose e x y t sp) pc p k n q rest a s c fit has places le b = choose_any e x y t sp (λ pc p k n q rest a s c f h pl le z. expr_runs e pc p k n q rest a s c f h pl le z) (λ pc p k n q rest a s c f h pl le z. expr_runs x pc p k n q rest a s c f h pl le z) (λ pc p k n q rest a s c f h pl le z. expr_runs y pc p k n q rest a s c f h pl le z) pc p k n q rest a s c fit has places le b
-  expr_runs (t_call e t) pc p k n q rest a s c fit has places le b = absurd fit
-  expr_runs (t_library g e xs t sp) pc p k n q rest a s c fit has places le b = absurd fit
-  expr_runs (t_packed_store d x sp) pc p k n q rest a s c fit has places le b = absurd fit
-  expr_runs (t_packed_load d v sp) pc p k n q rest a s c fit has places le b = absurd fit
+  handed_both y x vs regs n pc q a z s c (Fails p s1) fit home st k i r = r
+  handed_both y x vs regs n pc q a z s c (Stops s1) fit home st k i r = r
+
+  abbrev pub ArgumentsRun : TArguments → Type 0
+  ArgumentsRun xs =
+      (vs : List Declared) (pc p k n q rest : ℕ) (a : Mask) (s : State) (c : Conf) → ArgumentsParts w vs xs n → AreAt w.routine.code pc (arguments_code w.layout (rates_held vs) xs pc p k n) → AreAt w.code.places p (arguments_places w.layout xs) → rest ≤ q → Enters w pc k n a s c q → Runs w c (pc + length (arguments_code w.layout (rates_held vs) xs pc p k n)) n rest (λ zs c'. AreHanded a c' vs zs (argument_registers w.layout (rates_held vs) xs n)) (arguments (gang_of w) w.frame (calls_of w) xs a s)
+
+  -- what came back
+  back_leaves : (u : Target) (t : Ty) (kc : Call) (pc pc' n q : ℕ) (a : Mask) (s : State) (c : Conf) (v : Val Payload) → kc.result ≡ Some (register t.rate (target w.layout u t.rate t.elem n)) → At w c pc → pc + 1 ≡ pc' → Stands w s c → GivesBackBy (Some t) w.frame a s v → CallRuns w.code w.turns c kc q v → Leaves w u (target w.layout u t.rate t.elem n) c pc' n q t.rate a v
+  back_leaves u t kc pc pc' n q a s c (Gives m s1) er at to st gives run =
+      let d = target w.layout u t.rate t.elem n in
+      let c2 : Conf = record c { arrays = s1.arrays; out = s1.out } in
+      let come : Comes w c run.steps (set_at t.rate c2 d m) = run.comes ∙ ap (λ o. machine.Runs (given_back o m c2)) er ∙ ap machine.Runs (given_is t.rate d m c2) in
+      came_leaves w ready u c c2 run.steps pc pc' n q a s1 t.rate t.elem m m come (record { home_is = at.home_is; waiting_is = at.waiting_is; pc_is = at.pc_is }) to
+      (record {
+        uniforms = λ x. st.uniforms x ∙ ap (λ z. z.uniforms x) (sym gives.state);
+        varying = λ x. st.varying x ∙ ap (λ z. z.varying x) (sym gives.state);
+        result = st.result ∙ ap (λ z. z.result) (sym gives.state);
+        results = st.results ∙ ap (λ z. z.results) (sym gives.state);
+        own_arrays = λ x. st.own_arrays x ∙ ap (λ z. z.own x) (sym gives.state);
+        arrays_are = refl;
+        out_is = refl;
+      })
+      (record { scalars_stay = λ e j lt. refl; vectors_stay = λ e j lt. refl }) (λ r lt. refl) run.bound (subst (λ z. at_rate t.rate a z ≡ z) (sym gives.value) (answer_held t.rate a gives.last)) (subst (Filled t.rate a) (sym gives.value) (answer_filled t.rate a gives.last))
+  back_leaves InSlot t kc pc pc' n q a s c (Fails p s1) er at to st gives run = run
+  back_leaves (InVariable x) t kc pc pc' n q a s c (Fails p s1) er at to st gives run = run
+  back_leaves InSlot t kc pc pc' n q a s c (Stops s1) er at to st gives run = run
+  back_leaves (InVariable x) t kc pc pc' n q a s c (Stops s1) er at to st gives run = run
+
+  -- the rates by which code hands over are those of the parameters
+  pub rates_here : (f : ℕ) (g : TFunction) → slice_get w.program.functions f ≡ Some g → w.layout.rates f ≡ rates_held (params_of g)
+  rates_here f g e = ap (λ z. z f) ready.rates ∙ ap rates_of e
+
+  class_is : (r : Rate) (d : ℕ) → (register r d).class ≡ class_at r
+  class_is r d = refl
+
+  -- the call itself
+  pub called_here : (d : Option Register) (f : ℕ) (xs : TArguments) (sp : Span) (answer : Option Ty) (pc p k n q : ℕ) (a : Mask) (s : State) (c : Conf) (zs : List Passed) (fit : CallParts w (t_called f xs sp) answer n) → Takes answer d → slice_get w.routine.code pc ≡ Some (calling w.layout d f xs p k n) → slice_get w.code.places p ≡ Some sp → At w c pc → c.masks k ≡ a → any (gang_of w) a ≡ true → ((r : ℕ) → a r ≡ true → r < gang_of w) → Stands w s c → 1 + q ≤ 32 * s.work → AreHanded a c (params_of fit.0) zs (argument_registers w.layout (rates_held (params_of fit.0)) xs n) → CallRuns w.code w.turns c (record { function = f; result = d; mask = mask_register k; place = p; arguments = argument_registers w.layout (w.layout.rates f) xs n }) q (calls_of w f sp a zs w.frame s)
+  called_here d f xs sp answer pc p k n q a s c zs fit takes has place at em some inside st us hands =
+      ready.calls (record { function = f; result = d; mask = mask_register k; place = p; arguments = argument_registers w.layout (w.layout.rates f) xs n }) fit.0 pc q sp a zs s c
+      (record {
+        function = fit.1;
+        here = has;
+        place = place;
+        at = at;
+        mask = em;
+        some = some;
+        inside = inside;
+        hands = subst (λ rs. AreHanded a c (params_of fit.0) zs (argument_registers w.layout rs xs n)) (sym (rates_here f fit.0 fit.1)) hands;
+        result = subst (λ o. Takes o d) (sym fit.2) takes;
+        arrays_are = st.arrays_are;
+        out_is = st.out_is;
+        used = us;
+      })
+
+  pub call_node : (u : Target) (f : ℕ) (xs : TArguments) (sp : Span) (t : Ty) → ArgumentsRun xs → NodeRuns u (t_call (t_called f xs sp) t)
+  call_node u f xs sp t ih pc p k n q rest a s c fit ty has places le b =
+      let vs = params_of fit.1.0 in
+      let d = target w.layout u t.rate t.elem n in
+      let er : w.layout.rates f ≡ rates_held vs = rates_here f fit.1.0 fit.1.1 in
+      let ca = arguments_code w.layout (w.layout.rates f) xs pc p k n in
+      let cb = arguments_code w.layout (rates_held vs) xs pc p k n in
+      let ec : cb ≡ ca = ap (λ rs. arguments_code w.layout rs xs pc p k n) (sym er) in
+      let last = calling w.layout (Some (register t.rate d)) f xs (p + length (arguments_places w.layout xs)) k n in
+      let to : pc + length cb + 1 ≡ pc + length (ca ++ last ∷ []) = omega (arith, length-append ca (last ∷ []), ap length ec) in
+      let here : slice_get w.routine.code (pc + length cb) ≡ Some last = subst (λ z. slice_get w.routine.code (pc + length z) ≡ Some last) (sym ec) (are_back w.routine.code pc ca (last ∷ []) has).0 in
+      bind_leaves w ready u d c (pc + length cb) n 1 rest (λ zs c'. AreHanded a c' vs zs (argument_registers w.layout (rates_held vs) xs n)) (arguments (gang_of w) w.frame (calls_of w) xs a (tick s)) _ (pc + length (ca ++ last ∷ [])) n t.rate a
+      (ih vs pc p k n (32 + q) (1 + rest) a (tick s) c fit.1.3 (subst (AreAt w.routine.code pc) (sym ec) (are_front w.routine.code pc ca (last ∷ []) has)) (are_front w.code.places p (arguments_places w.layout xs) (sp ∷ []) places) (omega (arith, le)) (enters_part w ready pc k n (32 + q) q a s c (omega arith) b))
+      (λ zs s1 ok.
+      leaves_after w ready u d c ok.conf ok.steps _ n rest t.rate a _ ok.comes ok.spares ok.masks
+      (back_leaves u t (record { function = f; result = Some (register t.rate d); mask = mask_register k; place = p + length (arguments_places w.layout xs); arguments = argument_registers w.layout (w.layout.rates f) xs n }) (pc + length cb) _ n (ok.steps + rest) a s1 ok.conf _ refl ok.at to ok.stands
+      (subst (λ o. GivesBackBy o w.frame a s1 (calls_of w f sp a zs w.frame s1)) fit.1.2 (call_gives w.program w.turns w.left f sp a zs w.frame s1 fit.1.0 fit.1.1))
+      (called_here (Some (register t.rate d)) f xs sp (Some t) (pc + length cb) (p + length (arguments_places w.layout xs)) k n (ok.steps + rest) a s1 ok.conf zs fit.1 (class_is t.rate d) here (are_back w.code.places p (arguments_places w.layout xs) (sp ∷ []) places).0 ok.at (ok.masks k b.low ∙ b.mask) b.some b.inside ok.stands (omega (arith, ok.bound)) ok.holds)))
+
+  mutual
+    pub expr_runs : (x : TExpr) (pc p k n q rest : ℕ) (a : Mask) (s : State) (c : Conf) → ExprParts w x n → AreAt w.routine.code pc (expr_code w.layout x pc p k n) → AreAt w.code.places p (expr_places w.layout x) → heads x + rest ≤ 5 + q → Enters w pc k n a s c q → Runs w c (pc + length (expr_code w.layout x pc p k n)) n rest (Holds (type_of x).rate a (found w.layout x n)) (means x a s)
+    expr_runs (t_constant v sp) pc p k n q rest a s c fit has places le b = number_node InSlot v sp pc p k n q rest a s c fit fit has places le b
+    expr_runs (t_program_index sp) pc p k n q rest a s c fit has places le b = index_node InSlot sp pc p k n q rest a s c fit fit has places le b
+    expr_runs (t_place (t_variable v t sp)) pc p k n q rest a s c fit has places le b = record {
+      conf = c;
+      steps = 0;
+      comes = comes_none w c;
+      at = at_to w c pc _ b.at (omega arith);
+      stands = b.stands;
+      spares = spares_all w n c;
+      masks = λ j h. refl;
+      holds = variable_held t.rate v a (tick s) c b.stands;
+      bound = omega (arith, b.used);
+    }
+    expr_runs (t_place (t_element y i t sp)) pc p k n q rest a s c fit has places le b = element_node InSlot y i t sp (λ pc p k n q rest a s c f h pl le z. expr_runs i pc p k n q rest a s c f h pl le z) pc p k n q rest a s c fit fit.1 has places le b
+    expr_runs (t_convert e x) pc p k n q rest a s c fit has places le b = convert_node InSlot e x (λ pc p k n q rest a s c f h pl le z. expr_runs x pc p k n q rest a s c f h pl le z) pc p k n q rest a s c fit fit.1 has places le b
+    expr_runs (t_cast x t sp) pc p k n q rest a s c fit has places le b =
+        let f : heads x ≤ 1 = few w x n fit.1 in
+        cast_runs c pc k n rest a (means x a (tick s)) t.rate (type_of x).rate (type_of x).elem (found w.layout x n) (λ d. expr_to w.layout d x pc p k n) fit.0.reaches b.mask b.low has
+        (λ at. expr_runs x pc p k n (32 + q) (1 + rest) a (tick s) c fit.1 at places (omega arith) (enters_part w ready pc k n (32 + q) q a s c (omega arith) b))
+    expr_runs (t_unary o x t sp) pc p k n q rest a s c fit has places le b = unary_node InSlot o x t sp (λ pc p k n q rest a s c f h pl le z. expr_runs x pc p k n q rest a s c f h pl le z) pc p k n q rest a s c fit fit.1 has places le b
+    expr_runs (t_binary o x y t sp) pc p k n q rest a s c fit has places le b = binary_node InSlot o x y t sp (λ pc p k n q rest a s c f h pl le z. expr_runs x pc p k n q rest a s c f h pl le z) (λ pc p k n q rest a s c f h pl le z. expr_runs y pc p k n q rest a s c f h pl le z) pc p k n q rest a s c fit fit.2 has places le b
+    expr_runs (t_compare o x y r sp) pc p k n q rest a s c fit has places le b = compare_node InSlot o x y r sp (λ pc p k n q rest a s c f h pl le z. expr_runs x pc p k n q rest a s c f h pl le z) (λ pc p k n q rest a s c f h pl le z. expr_runs y pc p k n q rest a s c f h pl le z) pc p k n q rest a s c fit fit.2 has places le b
+    expr_runs (t_logic g x y Uniform sp) pc p k n q rest a s c fit has places le b =
+        let fx : heads x ≤ 1 = few w x n fit.3 in
+        let fy : heads y ≤ 1 = few w y (n + 1) fit.4 in
+        let lk : k < n = b.low in
+        let cx = expr_code w.layout x pc p k n in
+        let ca = operand_of w.layout Uniform x k n cx in
+        let ha : AreAt w.routine.code pc ca = are_front w.routine.code pc ca _ (are_front w.routine.code pc (ca ++ _) _ has) in
+        let p1 = p + length (expr_places w.layout x) in
+        let pl = are_back w.code.places p (expr_places w.layout x) _ places in
+        logic_one w ready g c pc k n rest a (means x a (tick s)) (λ z s1. means y z s1) (operand w.layout Uniform x n) (operand w.layout Uniform y (n + 1)) ca (λ pc1 m. operand_of w.layout Uniform y m (n + 1) (expr_code w.layout y pc1 p1 m (n + 1))) b.mask lk b.some b.inside has
+        (operand_runs w ready c pc k n (1 + (1 + rest)) a (means x a (tick s)) Uniform Truth x cx fit.0 b.mask lk ha
+        (expr_runs x pc p k n (32 + q) (1 + (1 + (1 + rest))) a (tick s) c fit.3 (are_front w.routine.code pc cx _ ha) (are_front w.code.places p (expr_places w.layout x) _ places) (omega arith) (enters_part w ready pc k n (32 + q) q a s c (omega arith) b)))
+        (λ s1 c1 pc1 z at en. operand_runs w ready c1 pc1 k (n + 1) (1 + z) a (means y a s1) Uniform Truth y (expr_code w.layout y pc1 p1 k (n + 1)) fit.1 en.mask en.low at (expr_runs y pc1 p1 k (n + 1) z (1 + (1 + z)) a s1 c1 fit.4 (are_front w.routine.code pc1 (expr_code w.layout y pc1 p1 k (n + 1)) _ at) pl (omega arith) en))
+    expr_runs (t_logic g x y Varying sp) pc p k n q rest a s c fit has places le b =
+        let fx : heads x ≤ 1 = few w x n fit.3 in
+        let fy : heads y ≤ 1 = few w y (n + 1) fit.4 in
+        let lk : k < n = b.low in
+        let cx = expr_code w.layout x pc p k n in
+        let ca = operand_of w.layout Varying x k n cx in
+        let ha : AreAt w.routine.code pc ca = are_front w.routine.code pc ca _ (are_front w.routine.code pc (ca ++ _) _ has) in
+        let p1 = p + length (expr_places w.layout x) in
+        let pl = are_back w.code.places p (expr_places w.layout x) _ places in
+        logic_each w ready g c pc k n rest a (means x a (tick s)) (λ z s1. means y z s1) (operand w.layout Varying x n) (operand w.layout Varying y (n + 1)) ca (λ pc1 m. operand_of w.layout Varying y m (n + 1) (expr_code w.layout y pc1 p1 m (n + 1))) b.mask lk b.some b.inside has
+        (operand_runs w ready c pc k n (1 + (2 + (1 + rest))) a (means x a (tick s)) Varying Truth x cx fit.0 b.mask lk ha
+        (expr_runs x pc p k n (32 + q) (1 + (1 + (2 + (1 + rest)))) a (tick s) c fit.3 (are_front w.routine.code pc cx _ ha) (are_front w.code.places p (expr_places w.layout x) _ places) (omega arith) (enters_part w ready pc k n (32 + q) q a s c (omega arith) b)))
+        (λ T s1 c1 pc1 z at en. operand_runs w ready c1 pc1 n (n + 1) (1 + z) T (means y T s1) Varying Truth y (expr_code w.layout y pc1 p1 n (n + 1)) fit.1 en.mask en.low at (expr_runs y pc1 p1 n (n + 1) z (1 + (1 + z)) T s1 c1 fit.4 (are_front w.routine.code pc1 (expr_code w.layout y pc1 p1 n (n + 1)) _ at) pl (omega arith) en))
+    expr_runs (t_choose e x y t sp) pc p k n q rest a s c fit has places le b = choose_any e x y t sp (λ pc p k n q rest a s c f h pl le z. expr_runs e pc p k n q rest a s c f h pl le z) (λ pc p k n q rest a s c f h pl le z. expr_runs x pc p k n q rest a s c f h pl le z) (λ pc p k n q rest a s c f h pl le z. expr_runs y pc p k n q rest a s c f h pl le z) pc p k n q rest a s c fit has places le b
+    expr_runs (t_call (t_called g xs sp) t) pc p k n q rest a s c fit has places le b = call_node InSlot g xs sp t (λ vs pc p k n q rest a s c f h pl le z. arguments_run xs vs pc p k n q rest a s c f h pl le z) pc p k n q rest a s c fit fit.0 has places le b
+    expr_runs (t_library g e xs t sp) pc p k n q rest a s c fit has places le b = absurd fit
+    expr_runs (t_packed_store d x sp) pc p k n q rest a s c fit has places le b = absurd fit
+    expr_runs (t_packed_load d v sp) pc p k n q rest a s c fit has places le b = absurd fit
+
+    -- the arguments of a call, each at its slot
+    pub arguments_run : (xs : TArguments) → ArgumentsRun xs
+    arguments_run t_no_arguments [] pc p k n q rest a s c fit has places le b = record {
+      conf = c;
+      steps = 0;
+      comes = comes_none w c;
+      at = at_to w c pc _ b.at (omega arith);
+      stands = b.stands;
+      spares = spares_all w n c;
+      masks = λ j h. refl;
+      holds = tt;
+      bound = omega (arith, b.used);
+    }
+    arguments_run t_no_arguments (v ∷ vs) pc p k n q rest a s c fit has places le b = absurd fit
+    arguments_run (t_argument_then x xs) [] pc p k n q rest a s c fit has places le b = absurd fit
+    arguments_run (t_argument_then x xs) (v ∷ vs) pc p k n q rest a s c fit has places le b =
+        let r = rate_held v.holds in
+        let ca = argument_code w.layout r x pc p k n in
+        let pc1 = pc + length ca in
+        let px = argument_places w.layout x in
+        let p1 = p + length px in
+        let cb = arguments_code w.layout (rates_held vs) xs pc1 p1 k (n + 1) in
+        let regs = argument_registers w.layout (rates_held vs) xs (n + 1) in
+        let to : pc1 + length cb ≡ pc + length (ca ++ cb) = omega (arith, length-append ca cb) in
+        bind_runs w ready c pc1 n 0 rest (λ z c'. IsHanded a c' v.holds z (argument_register w.layout r x n)) (passed (gang_of w) w.frame (calls_of w) x a s) _ (pc + length (ca ++ cb)) n (λ zs c'. AreHanded a c' (v ∷ vs) zs (argument_register w.layout r x n ∷ regs))
+        (argument_run v.holds x pc p k n q (0 + rest) a s c fit.0 (are_front w.routine.code pc ca cb has) (are_front w.code.places p px _ places) (omega (arith, le)) b)
+        (λ z s1 ok.
+        runs_after w ready c ok.conf ok.steps (pc + length (ca ++ cb)) n rest _ _ ok.comes ok.spares ok.masks
+        (subst (λ g. Runs w ok.conf g n (ok.steps + rest) (λ zs c'. AreHanded a c' (v ∷ vs) zs (argument_register w.layout r x n ∷ regs)) (bind (arguments (gang_of w) w.frame (calls_of w) xs a s1) (λ zs s2. Gives (z ∷ zs) s2))) to
+        (handed_both v.holds x vs regs n (pc1 + length cb) (ok.steps + rest) a z s1 ok.conf (arguments (gang_of w) w.frame (calls_of w) xs a s1) fit.0 ok.at.home_is ok.stands (arguments_still w ready vs xs (n + 1) a s1 fit.1) ok.holds
+        (arguments_run xs vs pc1 p1 k (n + 1) (ok.steps + rest) (ok.steps + rest) a s1 ok.conf fit.1 (are_back w.routine.code pc ca cb has) (are_back w.code.places p px _ places) (omega arith) (enters_later w ready pc pc1 k n (n + 1) (ok.steps + rest) q (0 + rest) a s s1 c (omega arith) b ok (omega arith))))))
+
+    argument_run : (y : Held) (x : TArgument) (pc p k n q rest : ℕ) (a : Mask) (s : State) (c : Conf) → ArgumentParts w y x n → AreAt w.routine.code pc (argument_code w.layout (rate_held y) x pc p k n) → AreAt w.code.places p (argument_places w.layout x) → rest ≤ q → Enters w pc k n a s c q → Runs w c (pc + length (argument_code w.layout (rate_held y) x pc p k n)) n rest (λ z c'. IsHanded a c' y z (argument_register w.layout (rate_held y) x n)) (passed (gang_of w) w.frame (calls_of w) x a s)
+    argument_run (holds.Value t) (t_by_value x) pc p k n q rest a s c fit has places le b =
+        let f : heads x ≤ 1 = few w x n fit.1 in
+        let cx = expr_code w.layout x pc p k n in
+        let ca = operand_of w.layout t.rate x k n cx in
+        told_as w ready c (pc + length ca) n rest (Holds t.rate a (operand w.layout t.rate x n)) _ (means x a s) Values (λ m c1 h. (refl, h))
+        (operand_runs w ready c pc k n rest a (means x a s) t.rate t.elem x cx fit.0 b.mask b.low has
+        (expr_runs x pc p k n q (1 + rest) a s c fit.1 (are_front w.routine.code pc cx _ has) places (omega arith) b))
+    argument_run (holds.Value t) (t_by_name y sp) pc p k n q rest a s c fit has places le b = absurd fit
+    argument_run (holds.Given e) (t_by_value x) pc p k n q rest a s c fit has places le b = absurd fit
+    argument_run (holds.Given e) (t_by_name y sp) pc p k n q rest a s c fit has places le b = named_run e y sp pc k n q rest a s c fit.0 fit.1 le b
+    argument_run (holds.Local t m) (t_by_value x) pc p k n q rest a s c fit has places le b = absurd fit
+    argument_run (holds.Local t m) (t_by_name y sp) pc p k n q rest a s c fit has places le b = absurd fit

@@ -1,16 +1,21 @@
 -- What trees and what tables promise, together.
-use Rattle.std.proofs.Common.{ℕ, ◌+◌, List, [], ◌∷◌, Bool, true, false, subst}
+use Rattle.std.proofs.Common.{ℕ, ◌+◌, List, [], ◌∷◌, Option, Some, None, Bool, true, false, subst}
 use Rattle.isp_base.specs.Ranks.{same_elem}
 use Rattle.isp_base.specs.declared.types.Elem.{Elem}
 use Rattle.isp_base.specs.declared.types.Elem.TheVariants.{Bool as Truth}
 use Rattle.isp_base.specs.declared.types.Rate.{Rate}
 use Rattle.isp_base.specs.declared.types.Rate.TheVariants.{Uniform, Varying}
-use Rattle.isp_typed.specs.Typed.{TExpr, t_constant, t_program_index, t_place, t_convert, t_cast, t_unary, t_binary, t_compare, t_logic, t_choose, t_call, t_library, t_packed_store, t_packed_load, TPlace, t_variable, t_element, TItem, t_plain, t_with_value, t_with_size, TSimple, t_value, t_run, t_assign, t_update, t_step, place_type, type_of}
+use Rattle.isp_typed.specs.Typed.{TExpr, t_constant, t_program_index, t_place, t_convert, t_cast, t_unary, t_binary, t_compare, t_logic, t_choose, t_call, t_library, t_packed_store, t_packed_load, TPlace, t_variable, t_element, TArgument, t_by_value, t_by_name, TCall, t_called, TArguments, t_no_arguments, t_argument_then, TItem, t_plain, t_with_value, t_with_size, TSimple, t_value, t_run, t_assign, t_update, t_step, place_type, type_of}
+use Rattle.isp_typed.specs.Fine.{params_of}
+use Rattle.isp_typed.specs.declared.variable.Holds.{Holds}
+use Rattle.isp_typed.specs.declared.variable.Holds.TheVariants as holds
+use Rattle.isp_typed.specs.declared.variable.Variable.{Variable as Declared}
+use Rattle.isp_base.specs.declared.types.Ty.{Ty}
 use Rattle.isp_lower.specs.Setting.{Setting}
 use Rattle.isp_lower.specs.Tables.{Table}
-use Rattle.isp_lower.specs.Asks.{lift_asks, operand_asks, read_asks, work_asks, zero_asks, beyond, first_slot, second_slot, expr_asks, target_asks, simple_asks, item_asks, items_asks}
-use Rattle.isp_lower.proofs.Parts.{ExprParts, ItemParts, ItemsParts, LiftFits, OperandFits, PlaceParts, PlaceTyped, SimpleParts, WorkFits, ZeroFits}
-use Rattle.isp_lower.proofs.Trees.{ExprTree, ItemTree, ItemsTree, OperandTree, PlaceTree, SimpleTree}
+use Rattle.isp_lower.specs.Asks.{lift_asks, operand_asks, read_asks, work_asks, zero_asks, beyond, first_slot, second_slot, expr_asks, target_asks, call_asks, arguments_asks, argument_asks, simple_asks, item_asks, items_asks}
+use Rattle.isp_lower.proofs.Parts.{ExprParts, CallParts, ArgumentsParts, ArgumentParts, ItemParts, ItemsParts, LiftFits, OperandFits, PlaceParts, PlaceTyped, SimpleParts, WorkFits, ZeroFits}
+use Rattle.isp_lower.proofs.Trees.{ExprTree, CallTree, ArgumentsTree, ArgumentTree, ItemTree, ItemsTree, OperandTree, PlaceTree, SimpleTree}
 use Rattle.isp_lower.specs.Fits.{ExprFits, SimpleFits, ItemsFit}
 use Rattle.isp_lower.proofs.Rated.{expr_tree, simple_tree, items_tree}
 
@@ -22,6 +27,13 @@ module _ (w : Setting) where
   lift_fits Uniform Varying t n h = h
   lift_fits Varying Uniform t n h = tt
   lift_fits Varying Varying t n h = tt
+
+  -- what may be made a varying one may be left as it is
+  lift_any : (given r : Rate) (t : Elem) (n : ℕ) → Table w.routine w.layout w.function.variables (lift_asks Varying given t n) → LiftFits w given r t n
+  lift_any Uniform Uniform t n h = tt
+  lift_any Uniform Varying t n h = h
+  lift_any Varying Uniform t n h = tt
+  lift_any Varying Varying t n h = tt
 
   read_fits : (z : TPlace) (n : ℕ) → Table w.routine w.layout w.function.variables (read_asks z n) → PlaceTyped w z n
   read_fits (t_variable v t sp) n h = tt
@@ -46,7 +58,7 @@ module _ (w : Setting) where
       }
 
   mutual
-    pub expr_fits : (x : TExpr) (n : ℕ) → ExprTree x → Table w.routine w.layout w.function.variables (expr_asks x n) → ExprParts w x n
+    pub expr_fits : (x : TExpr) (n : ℕ) → ExprTree w.program.functions x → Table w.routine w.layout w.function.variables (expr_asks x n) → ExprParts w x n
     expr_fits (t_constant v sp) n t h = h
     expr_fits (t_program_index sp) n t h = h
     expr_fits (t_place q) n t h = (place_fits q n t h.0, read_fits q n h.1)
@@ -61,18 +73,36 @@ module _ (w : Setting) where
         (operand_fits r Truth x n t.0 h.1.1.1.0, operand_fits r Truth y (n + 1) t.1 h.1.1.1.1, h.0, expr_fits x n t.2 h.1.1.1.0.1, expr_fits y (n + 1) t.3 h.1.1.1.1.1)
     expr_fits (t_choose c x y u sp) n t h =
         (t.0.elem, t.0.reaches, h.0, operand_fits u.rate u.elem x (first_slot (type_of c).rate n) t.1 h.1.1.0, operand_fits u.rate u.elem y (second_slot (type_of c).rate n) t.2 h.1.1.1.0, expr_fits c n t.3 h.1.0, expr_fits x (first_slot (type_of c).rate n) t.4 h.1.1.0.1, expr_fits y (second_slot (type_of c).rate n) t.5 h.1.1.1.0.1)
-    expr_fits (t_call c u) n t h = absurd t
+    expr_fits (t_call c u) n t h = (h.0, call_fits c (Some u) n t h.1)
     expr_fits (t_library f e xs u sp) n t h = absurd t
     expr_fits (t_packed_store b x sp) n t h = absurd t
     expr_fits (t_packed_load b v sp) n t h = absurd t
 
-    place_fits : (z : TPlace) (n : ℕ) → PlaceTree z → Table w.routine w.layout w.function.variables (target_asks z n) → PlaceParts w z n
+    place_fits : (z : TPlace) (n : ℕ) → PlaceTree w.program.functions z → Table w.routine w.layout w.function.variables (target_asks z n) → PlaceParts w z n
     place_fits (t_variable v u sp) n t h = h
     place_fits (t_element b i u sp) n t h = (h.0, t.0, t.1, h.1.1.0, expr_fits i n t.2 h.1.1.1)
 
-  pub simple_fits : (x : TSimple) (n : ℕ) → SimpleTree x → Table w.routine w.layout w.function.variables (simple_asks x n) → SimpleParts w x n
+    call_fits : (c : TCall) (answer : Option Ty) (n : ℕ) → CallTree w.program.functions c answer → Table w.routine w.layout w.function.variables (call_asks c n) → CallParts w c answer n
+    call_fits (t_called f xs sp) answer n t h = (t.0, t.1, t.2, arguments_fit (params_of t.0) xs n t.3 h)
+
+    arguments_fit : (vs : List Declared) (xs : TArguments) (n : ℕ) → ArgumentsTree w.program.functions vs xs → Table w.routine w.layout w.function.variables (arguments_asks xs n) → ArgumentsParts w vs xs n
+    arguments_fit [] t_no_arguments n t h = tt
+    arguments_fit [] (t_argument_then x xs) n t h = absurd t
+    arguments_fit (v ∷ vs) t_no_arguments n t h = absurd t
+    arguments_fit (v ∷ vs) (t_argument_then x xs) n t h = (argument_fits v.holds x n t.0 h.1.0, arguments_fit vs xs (n + 1) t.1 h.1.1)
+
+    argument_fits : (y : Holds) (x : TArgument) (n : ℕ) → ArgumentTree w.program.functions y x → Table w.routine w.layout w.function.variables (argument_asks x n) → ArgumentParts w y x n
+    argument_fits (holds.Value u) (t_by_value x) n t h =
+        (record { elem = t.0.elem; reaches = t.0.reaches; lift = subst (λ e. LiftFits w (type_of x).rate u.rate e n) t.0.elem (lift_any (type_of x).rate u.rate (type_of x).elem n h.0) }, expr_fits x n t.1 h.1)
+    argument_fits (holds.Value u) (t_by_name b sp) n t h = absurd t
+    argument_fits (holds.Given e) (t_by_value x) n t h = absurd t
+    argument_fits (holds.Given e) (t_by_name b sp) n t h = (h, t.0)
+    argument_fits (holds.Local u m) (t_by_value x) n t h = absurd t
+    argument_fits (holds.Local u m) (t_by_name b sp) n t h = absurd t
+
+  pub simple_fits : (x : TSimple) (n : ℕ) → SimpleTree w.program.functions x → Table w.routine w.layout w.function.variables (simple_asks x n) → SimpleParts w x n
   simple_fits (t_value x) n t h = expr_fits x n t h
-  simple_fits (t_run c) n t h = absurd t
+  simple_fits (t_run c) n t h = call_fits c None n t h
   simple_fits (t_assign z x sp) n t h =
       (place_fits z n t.0 h.0, operand_fits (place_type z).rate (place_type z).elem x (beyond z n) t.1 h.1.1, expr_fits x (beyond z n) t.2 h.1.1.1)
   simple_fits (t_update o u z x sp) n t h =
@@ -82,12 +112,12 @@ module _ (w : Setting) where
       let working = work_fits (same_elem (place_type z).elem u) (place_type z).rate u (beyond z n + 1) h.1.1.1.0 in
       (record { number = t.1; target = place_fits z n t.0 h.0; working = working; back = read_fits z (beyond z n + 1) h.1.1.1.1 }, h.1.1.0.0, lift_fits Uniform (place_type z).rate u (beyond z n) h.1.1.0.1)
 
-  item_fits : (x : TItem) (n : ℕ) → ItemTree x → Table w.routine w.layout w.function.variables (item_asks n x) → ItemParts w n x
+  item_fits : (x : TItem) (n : ℕ) → ItemTree w.program.functions x → Table w.routine w.layout w.function.variables (item_asks n x) → ItemParts w n x
   item_fits (t_plain v u sp) n t h = zero_fits u.rate u.elem v n h
   item_fits (t_with_value v u x sp) n t h = (h.0, operand_fits u.rate u.elem x n t.0 h.1, expr_fits x n t.1 h.1.1)
   item_fits (t_with_size b sp) n t h = h
 
-  pub items_fit : (xs : List TItem) (n : ℕ) → ItemsTree xs → Table w.routine w.layout w.function.variables (items_asks n xs) → ItemsParts w n xs
+  pub items_fit : (xs : List TItem) (n : ℕ) → ItemsTree w.program.functions xs → Table w.routine w.layout w.function.variables (items_asks n xs) → ItemsParts w n xs
   items_fit [] n t h = tt
   items_fit (x ∷ xs) n t h = (item_fits x n t.0 h.0, items_fit xs n t.1 h.1)
 

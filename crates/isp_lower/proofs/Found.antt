@@ -79,7 +79,7 @@ module _ (w : Setting) where
   found_typed (t_compare c x y r sp) n f = f.2
   found_typed (t_logic g x y r sp) n f = f.2
   found_typed (t_choose c x y t sp) n f = f.2
-  found_typed (t_call c t) n f = absurd f
+  found_typed (t_call c t) n f = f.0
   found_typed (t_library g e xs t sp) n f = absurd f
   found_typed (t_packed_store b x sp) n f = absurd f
   found_typed (t_packed_load b v sp) n f = absurd f
@@ -110,7 +110,7 @@ module _ (w : Setting) (ready : IsSettled w) where
   found_low (t_compare c x y r sp) n f = spare_low r Truth n
   found_low (t_logic g x y r sp) n f = spare_low r Truth n
   found_low (t_choose c x y t sp) n f = spare_low t.rate t.elem n
-  found_low (t_call c t) n f = absurd f
+  found_low (t_call c t) n f = spare_low t.rate t.elem n
   found_low (t_library g e xs t sp) n f = absurd f
   found_low (t_packed_store b x sp) n f = absurd f
   found_low (t_packed_load b v sp) n f = absurd f

@@ -1,5 +1,5 @@
 -- What later code leaves as it is: spare registers of lower slots, and variables, which no value changes but by packed loads.
-use Rattle.std.proofs.Common.{◌≡◌, ℕ, ◌+◌, ◌<◌, ◌≤◌, Option, Some, None, Bool, true, false, refl, sym, ap, ◌∙◌, subst, arith, ◌⊎◌, inl, inr}
+use Rattle.std.proofs.Common.{◌≡◌, ℕ, ◌+◌, ◌<◌, ◌≤◌, List, [], ◌∷◌, Option, Some, None, Bool, true, false, refl, sym, ap, ◌∙◌, subst, arith, ◌⊎◌, inl, inr}
 use Rattle.std.specs.Prelude.{◌||◌}
 use Rattle.isp_base.specs.Maps.{Lanes, on}
 use Rattle.isp_base.specs.Sets.{Mask, any}
@@ -10,17 +10,22 @@ use Rattle.isp_base.specs.declared.types.Rate.{Rate}
 use Rattle.isp_base.specs.declared.types.Rate.TheVariants.{Uniform, Varying}
 use Rattle.isp_base.specs.declared.types.Span.{Span}
 use Rattle.isp_code.specs.Conf.{Conf}
-use Rattle.isp_typed.specs.Typed.{TExpr, t_constant, t_program_index, t_place, t_convert, t_cast, t_unary, t_binary, t_compare, t_logic, t_choose, t_call, t_library, t_packed_store, t_packed_load, t_variable, t_element, type_of}
+use Rattle.isp_typed.specs.Typed.{TExpr, t_constant, t_program_index, t_place, t_convert, t_cast, t_unary, t_binary, t_compare, t_logic, t_choose, t_call, t_library, t_packed_store, t_packed_load, t_variable, t_element, TArgument, t_by_value, t_by_name, TCall, t_called, TArguments, t_no_arguments, t_argument_then, type_of}
 use Rattle.isp_meaning.specs.State.{State}
 use Rattle.isp_meaning.specs.Payloads.{Payload, One, Each, nothing}
 use Rattle.isp_meaning.specs.Outcomes.{Val, Gives, Fails, Stops, bind, checked, if_so, value_unless_empty}
-use Rattle.isp_meaning.specs.Expressions.{value}
-use Rattle.isp_meaning.specs.Loads.{no_variable, loads, KeepsVariables, KeepsBy}
-use Rattle.isp_meaning.proofs.Loads.{same, variables_stay}
+use Rattle.isp_meaning.specs.Expressions.{value, arguments}
+use Rattle.isp_meaning.specs.Loads.{no_variable, loads, call_loads, arguments_load, argument_loads, KeepsVariables, KeepsBy}
+use Rattle.isp_meaning.proofs.Loads.{same, arguments_keep, calls_keep, variables_stay}
+use Rattle.isp_base.specs.declared.types.Ty.{Ty}
+use Rattle.isp_typed.specs.Fine.{params_of}
+use Rattle.isp_typed.specs.declared.variable.Holds.{Holds}
+use Rattle.isp_typed.specs.declared.variable.Holds.TheVariants as holds
+use Rattle.isp_typed.specs.declared.variable.Variable.{Variable as Declared}
 use Rattle.isp_lower.specs.Layout.{Layout}
 use Rattle.isp_lower.specs.Setting.{Setting, IsSettled, gang_of, calls_of, Stands, Spares, held_at}
 use Rattle.isp_lower.specs.Runs.{Runs}
-use Rattle.isp_lower.proofs.Parts.{ExprParts}
+use Rattle.isp_lower.proofs.Parts.{ExprParts, CallParts, ArgumentsParts, ArgumentParts}
 use Rattle.isp_lower.specs.Asks.{first_slot, second_slot}
 
 -- the register of a variable, or a spare one of a slot below n
@@ -91,25 +96,44 @@ module _ (w : Setting) where
   -- ---- values that change no variable
 
   -- code has no packed loads yet
-  pub no_loads : (x : TExpr) (n v : ℕ) → ExprParts w x n → loads x v ≡ false
-  no_loads (t_constant u sp) n v f = refl
-  no_loads (t_program_index sp) n v f = refl
-  no_loads (t_place (t_variable u t sp)) n v f = refl
-  no_loads (t_place (t_element b i t sp)) n v f = no_loads i n v f.0.4
-  no_loads (t_convert e x) n v f = no_loads x n v f.2
-  no_loads (t_cast x t sp) n v f = no_loads x n v f.1
-  no_loads (t_unary o x t sp) n v f = no_loads x n v f.2
-  no_loads (t_binary o x y t sp) n v f = ap (λ b. b || loads y v) (no_loads x n v f.3) ∙ no_loads y (n + 1) v f.4
-  no_loads (t_compare c x y r sp) n v f = ap (λ b. b || loads y v) (no_loads x n v f.3) ∙ no_loads y (n + 1) v f.4
-  no_loads (t_logic g x y r sp) n v f = ap (λ b. b || loads y v) (no_loads x n v f.3) ∙ no_loads y (n + 1) v f.4
-  no_loads (t_choose c x y t sp) n v f =
-      ap (λ b. b || (loads x v || loads y v)) (no_loads c n v f.5) ∙ ap (λ b. b || loads y v) (no_loads x (first_slot (type_of c).rate n) v f.6) ∙ no_loads y (second_slot (type_of c).rate n) v f.7
-  no_loads (t_call c t) n v f = absurd f
-  no_loads (t_library g e xs t sp) n v f = absurd f
-  no_loads (t_packed_store b x sp) n v f = absurd f
-  no_loads (t_packed_load b u sp) n v f = absurd f
+  mutual
+    pub no_loads : (x : TExpr) (n v : ℕ) → ExprParts w x n → loads x v ≡ false
+    no_loads (t_constant u sp) n v f = refl
+    no_loads (t_program_index sp) n v f = refl
+    no_loads (t_place (t_variable u t sp)) n v f = refl
+    no_loads (t_place (t_element b i t sp)) n v f = no_loads i n v f.0.4
+    no_loads (t_convert e x) n v f = no_loads x n v f.2
+    no_loads (t_cast x t sp) n v f = no_loads x n v f.1
+    no_loads (t_unary o x t sp) n v f = no_loads x n v f.2
+    no_loads (t_binary o x y t sp) n v f = ap (λ b. b || loads y v) (no_loads x n v f.3) ∙ no_loads y (n + 1) v f.4
+    no_loads (t_compare c x y r sp) n v f = ap (λ b. b || loads y v) (no_loads x n v f.3) ∙ no_loads y (n + 1) v f.4
+    no_loads (t_logic g x y r sp) n v f = ap (λ b. b || loads y v) (no_loads x n v f.3) ∙ no_loads y (n + 1) v f.4
+    no_loads (t_choose c x y t sp) n v f =
+        ap (λ b. b || (loads x v || loads y v)) (no_loads c n v f.5) ∙ ap (λ b. b || loads y v) (no_loads x (first_slot (type_of c).rate n) v f.6) ∙ no_loads y (second_slot (type_of c).rate n) v f.7
+    no_loads (t_call c t) n v f = call_no_loads c (Some t) n v f.1
+    no_loads (t_library g e xs t sp) n v f = absurd f
+    no_loads (t_packed_store b x sp) n v f = absurd f
+    no_loads (t_packed_load b u sp) n v f = absurd f
 
-  still_by : (b : ℕ → Bool) (s : State) (v : Val Payload) → ((u : ℕ) → b u ≡ false) → KeepsBy b s v → KeepsBy no_variable s v
+    pub call_no_loads : (c : TCall) (answer : Option Ty) (n v : ℕ) → CallParts w c answer n → call_loads c v ≡ false
+    call_no_loads (t_called g xs sp) answer n v f = arguments_no_loads (params_of f.0) xs n v f.3
+
+    pub arguments_no_loads : (vs : List Declared) (xs : TArguments) (n v : ℕ) → ArgumentsParts w vs xs n → arguments_load xs v ≡ false
+    arguments_no_loads [] t_no_arguments n v f = refl
+    arguments_no_loads [] (t_argument_then x xs) n v f = absurd f
+    arguments_no_loads (y ∷ vs) t_no_arguments n v f = absurd f
+    arguments_no_loads (y ∷ vs) (t_argument_then x xs) n v f =
+        ap (λ b. b || arguments_load xs v) (argument_no_loads y.holds x n v f.0) ∙ arguments_no_loads vs xs (n + 1) v f.1
+
+    argument_no_loads : (y : Holds) (x : TArgument) (n v : ℕ) → ArgumentParts w y x n → argument_loads x v ≡ false
+    argument_no_loads (holds.Value t) (t_by_value x) n v f = no_loads x n v f.1
+    argument_no_loads (holds.Value t) (t_by_name b sp) n v f = absurd f
+    argument_no_loads (holds.Given e) (t_by_value x) n v f = absurd f
+    argument_no_loads (holds.Given e) (t_by_name b sp) n v f = refl
+    argument_no_loads (holds.Local t m) (t_by_value x) n v f = absurd f
+    argument_no_loads (holds.Local t m) (t_by_name b sp) n v f = absurd f
+
+  still_by : {A : Type 0} (b : ℕ → Bool) (s : State) (v : Val A) → ((u : ℕ) → b u ≡ false) → KeepsBy b s v → KeepsBy no_variable s v
   still_by b s (Gives x s1) without k = (k.0, λ u e. k.1 u (without u), k.2, k.3, k.4)
   still_by b s (Fails t s1) without k = tt
   still_by b s (Stops s1) without k = tt
@@ -129,3 +153,7 @@ module _ (w : Setting) (ready : IsSettled w) where
   pub value_still : (x : TExpr) (n : ℕ) (a : Mask) (s : State) → ExprParts w x n → KeepsBy no_variable s (value (gang_of w) w.frame (calls_of w) x a s)
   value_still x n a s f =
       still_by w (loads x) s _ (λ v. no_loads w x n v f) (subst (λ u. KeepsBy (loads x) s (value (gang_width u) w.frame (calls_of w) x a s)) (sym ready.gang) (variables_stay w.program w.turns w.left w.frame x a s))
+
+  pub arguments_still : (vs : List Declared) (xs : TArguments) (n : ℕ) (a : Mask) (s : State) → ArgumentsParts w vs xs n → KeepsBy no_variable s (arguments (gang_of w) w.frame (calls_of w) xs a s)
+  arguments_still vs xs n a s f =
+      still_by w (arguments_load xs) s _ (λ v. arguments_no_loads w vs xs n v f) (arguments_keep (gang_of w) w.frame (calls_of w) (calls_keep w.program w.turns w.left) xs a s)

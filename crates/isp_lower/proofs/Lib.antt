@@ -1,47 +1,51 @@
-pub mod Views
-pub mod Growing
-pub mod Landing
-pub mod Stayed
-pub mod Staying
-pub mod Homes
-pub mod Splits
-pub mod Base
-pub mod Rates
-pub mod Lines
-pub mod Combine
-pub mod Kept
-pub mod Values
-pub mod Found
-pub mod Access
-pub mod Writes
-pub mod Done
-pub mod Targets
-pub mod Nodes
-pub mod Jumps
-pub mod Logic
-pub mod Choose
-pub mod Short
-pub mod Exprs
-pub mod Places
-pub mod Variables
-pub mod Assigns
-pub mod Updates
-pub mod Items
-pub mod Trees
-pub mod Parts
-pub mod Rated
-pub mod Fitting
-pub mod Rows
-pub mod Own
-pub mod FirstRows
-pub mod Numbers
-pub mod SoundLines
-pub mod SoundFound
-pub mod SoundParts
-pub mod SoundExprs
-pub mod SoundSimples
-pub mod Counts
-pub mod Lookup
+pub mod Lemmas
+mod Views
+mod Growing
+mod Landing
+mod Stayed
+mod Staying
+mod Homes
+mod Splits
+mod Base
+mod Rates
+mod Lines
+mod Combine
+mod Kept
+mod Values
+mod Found
+mod Access
+mod Writes
+mod Done
+mod Targets
+mod GivenBack
+mod Nodes
+mod Jumps
+mod Logic
+mod Choose
+mod Short
+mod Exprs
+mod Alone
+mod Places
+mod Variables
+mod Assigns
+mod Updates
+mod Items
+mod Trees
+mod Parts
+mod Rated
+mod Fitting
+mod Rows
+mod Own
+mod FirstRows
+mod Numbers
+mod SoundLines
+mod SoundFound
+mod SoundParts
+mod SoundCalls
+mod SoundExprs
+mod SoundSimples
+mod Counts
+mod Lookup
 mod Headers
 mod Naming
 mod Aparts

@@ -3,7 +3,7 @@ use Rattle.std.proofs.Common.{◌≡◌, ℕ, zero, suc, ◌+◌, ◌-◌, ◌<�
 use Rattle.std.specs.Prelude.{nat_le, ◌&&◌, slice_get}
 use Rattle.std.proofs.lemmas.Bool.{le-leb}
 use Rattle.std.proofs.lemmas.List.{length-map}
-use Rattle.std.proofs.lemmas.Option.{get_or_from_slice_get, slice_get_within}
+use Rattle.std.proofs.lemmas.Option.{get_or_from_slice_get, same_Some, slice_get_within}
 use Rattle.isp_base.specs.declared.types.Elem.TheVariants.{Bool as Truth}
 use Rattle.isp_base.specs.declared.types.Gang.TheVariants.{W4}
 use Rattle.isp_base.specs.declared.types.Rate.{Rate}
@@ -14,6 +14,7 @@ use Rattle.isp_code.specs.Operands.{operands}
 use Rattle.isp_code.specs.Registers as routine
 use Rattle.isp_code.specs.Registers.{arrays_of, elem_of, is_local, is_own, is_per_lane, local_elem, passed, table_of, types_in}
 use Rattle.isp_code.specs.declared.function.Local.{Local}
+use Rattle.isp_code.specs.declared.function.Param.{Param}
 use Rattle.isp_code.specs.declared.function.Returns.{Returns}
 use Rattle.isp_code.specs.declared.function.Returns.TheVariants.{Nothing, Scalar as GivesScalar, Vector as GivesVector}
 use Rattle.isp_code.specs.declared.function.Sharing.TheVariants.{Shared}
@@ -24,19 +25,22 @@ use Rattle.isp_code.specs.declared.operand.Operand.TheVariants.{Any as AnyRegist
 use Rattle.isp_code.specs.declared.register.Class.{Class}
 use Rattle.isp_code.specs.declared.register.Class.TheVariants as class
 use Rattle.isp_code.specs.declared.register.Register.{Register}
-use Rattle.isp_typed.specs.Typed.{TExpr, TSimple}
+use Rattle.isp_typed.specs.Fine.{params_of}
+use Rattle.isp_typed.specs.Typed.{TExpr, TFunction, TSimple}
+use Rattle.isp_typed.specs.declared.variable.Variable.{Variable as Declared}
 use Rattle.isp_typed.specs.declared.variable.ArrayVariable.{ArrayVariable}
 use Rattle.isp_lower.specs.Asks.{Ask, expr_asks, simple_asks}
 use Rattle.isp_lower.specs.Code.{expr_code, expr_places}
 use Rattle.isp_lower.specs.Emitted as emitted
 use Rattle.isp_lower.specs.Emitted.{rows_of}
-use Rattle.isp_lower.specs.Header.{types_of}
-use Rattle.isp_lower.specs.Layout.{class_at}
+use Rattle.isp_lower.specs.Callees.{rates_in}
+use Rattle.isp_lower.specs.Header.{elem_held, kind_of, returns_of, types_of}
+use Rattle.isp_lower.specs.Layout.{Layout, class_at}
 use Rattle.isp_lower.specs.Named.{InOption, InOperand, InOperands, InCode, IsOf, count_of}
 use Rattle.isp_lower.specs.Reserved.{Has}
 use Rattle.isp_lower.specs.Rows.{Row, Rows, Variable, elem_in, layout_of, number_in, rows_at}
 use Rattle.isp_lower.specs.Simple.{simple_code, simple_places}
-use Rattle.isp_lower.specs.Sound.{AreSound, Granted, HasArray, HasLocal, HasMask, HasRegister, IsShared}
+use Rattle.isp_lower.specs.Sound.{AreHeld, AreSound, Granted, Links, HasArray, HasLocal, HasMask, HasRegister, IsShared}
 use Rattle.isp_lower.proofs.Trees.{ExprTree, SimpleTree}
 use Rattle.isp_lower.specs.declared.reserve.Reserve.{Reserve}
 use Rattle.isp_lower.proofs.Growing.{all_grow}
@@ -119,8 +123,8 @@ module _ (rows : Rows) (masks : ℕ) (code : List Instr) where
   shared_all Uniform n = ap (λ b. nat_le 0 n && b) (none_own rows.arrays (n - 0)) ∙ and_false (nat_le 0 n)
   shared_all Varying n = tt
 
-  array_there : (b : ArrayVariable) → elem_in rows.arrays (Variable b.number) ≡ Some b.ty.elem → HasLocal h (layout_of rows) b
-  array_there b e =
+  array_there : (rates : ℕ → List Rate) (b : ArrayVariable) → elem_in rows.arrays (Variable b.number) ≡ Some b.ty.elem → HasLocal h (layout_of rates rows) b
+  array_there rates b e =
       let n = number_in rows.arrays (Variable b.number) in
       let at : slice_get (arrays_of h) n ≡ Some b.ty.elem = ap (λ ts. slice_get ts n) (array_elems rows.arrays) ∙ row_typed rows.arrays (Variable b.number) b.ty.elem e in
       (((refl, slice_get_within (arrays_of h) n b.ty.elem at), get_or_from_slice_get (arrays_of h) n b.ty.elem Truth at, shared_all b.ty.rate n), le-leb 0 n (omega arith))
@@ -134,47 +138,69 @@ module _ (rows : Rows) (masks : ℕ) (code : List Instr) where
   of_rows : (is : List Instr) → InCode (λ y. y.number < routine.count_of h y.class) is → InCode (IsOf rows masks) is
   of_rows is f = code_weaker (λ y. y.number < routine.count_of h y.class) (IsOf rows masks) (λ x lt. subst (λ m. x.number < m) (counts x.class) lt) is f
 
-granted : (r : Reserve) (code : List Instr) (a : Ask) → Has r a → Granted (with_rows (rows_of r.registers) r.masks code) (layout_of (rows_of r.registers)) a
-granted r code a has =
+granted : (rates : ℕ → List Rate) (r : Reserve) (code : List Instr) (a : Ask) → Has r a → Granted (with_rows (rows_of r.registers) r.masks code) (layout_of rates (rows_of r.registers)) a
+granted rates r code a has =
     let rows = rows_of r.registers in
     let g = with_rows rows r.masks code in
-    let l = layout_of rows in
+    let l = layout_of rates rows in
     all_grow (emitted.HasRow r.registers) (HasRegister g l) (emitted.HasArray r.registers) (HasArray g l) (emitted.HasArray r.registers) (HasLocal g l) (λ k. k < r.masks) (HasMask g)
-    (λ q x t f. register_there g rows (rows_made rows r.masks code) q x t f)
-    (λ b f. (array_there rows r.masks code b f).0)
-    (λ b f. array_there rows r.masks code b f)
+    (λ q x t f. register_there g rates rows (rows_made rows r.masks code) q x t f)
+    (λ b f. (array_there rows r.masks code rates b f).0)
+    (λ b f. array_there rows r.masks code rates b f)
     (λ k f. f) a has
 
--- a listing with places enough
-abbrev with_places : ℕ → Listing
-with_places n = record { gang = W4; places = many (record { start = 0; end = 0 }) n; texts = []; routines = [] }
+-- ---- a listing with places enough, and a routine with the header of each function
 
-module _ (r : Reserve) (pc p k n : ℕ) (lt : k < r.masks) where
+abbrev param_for : Declared → Param
+param_for v = record { name = []; kind = kind_of v.holds; elem = elem_held v.holds }
+
+abbrev routine_for : TFunction → Routine
+routine_for g =
+    record { name = []; exported = false; returns = returns_of g.answer; params = map param_for (params_of g); locals = []; scalars = []; vectors = []; masks = 0; code = [] }
+
+abbrev with_places : List TFunction → ℕ → Listing
+with_places fs n =
+    record { gang = W4; places = many (record { start = 0; end = 0 }) n; texts = []; routines = map routine_for fs }
+
+params_held : (vs : List Declared) → AreHeld vs (map param_for vs)
+params_held [] = tt
+params_held (v ∷ vs) = (refl, refl, params_held vs)
+
+routine_at : (fs : List TFunction) (f : ℕ) (g : TFunction) → slice_get fs f ≡ Some g → slice_get (map routine_for fs) f ≡ Some (routine_for g)
+routine_at [] f g e = absurd (cc)
+routine_at (k ∷ fs) zero g e = ap (λ z. Some (routine_for z)) (same_Some k g e)
+routine_at (k ∷ fs) (suc f) g e = routine_at fs f g e
+
+linked : (fs : List TFunction) (n : ℕ) (rows : Rows) → Links fs (with_places fs n) (layout_of (rates_in fs) rows)
+linked fs n rows = record { rates = refl; headers = λ f g e. record { routine = routine_for g; found = routine_at fs f g e; params = params_held (params_of g); returns = refl } }
+
+module _ (fs : List TFunction) (r : Reserve) (pc p k n : ℕ) (lt : k < r.masks) where
   abbrev rows : Rows
   rows = rows_of r.registers
 
-  pub expr_named : (x : TExpr) → ExprTree x → Has r (expr_asks x n) → InCode (IsOf rows r.masks) (expr_code (layout_of rows) x pc p k n)
+  abbrev l : Layout
+  l = layout_of (rates_in fs) rows
+
+  pub expr_named : (x : TExpr) → ExprTree fs x → Has r (expr_asks x n) → InCode (IsOf rows r.masks) (expr_code l x pc p k n)
   expr_named x tree has =
-      let l = layout_of rows in
       let is = expr_code l x pc p k n in
       let long = pc + length is + 1 in
       let code = many (instr.Return None) long in
       let places = p + length (expr_places l x) in
       let a = many_long (instr.Return None) long in
-      let b : length (with_places places).places ≡ places = many_long (record { start = 0; end = 0 }) places in
+      let b : length (with_places fs places).places ≡ places = many_long (record { start = 0; end = 0 }) places in
       of_rows rows r.masks code is
-      (sound_there (with_places places) (with_rows rows r.masks code) is
-      (value_sound (with_places places) (with_rows rows r.masks code) l x n tree (granted r code (expr_asks x n) has) pc p k lt (omega (arith, b)) (omega (arith, a))))
+      (sound_there (with_places fs places) (with_rows rows r.masks code) is
+      (value_sound fs (with_places fs places) (with_rows rows r.masks code) l (linked fs places rows) x n tree (granted (rates_in fs) r code (expr_asks x n) has) pc p k lt (omega (arith, b)) (omega (arith, a))))
 
-  pub simple_named : (x : TSimple) → SimpleTree x → Has r (simple_asks x n) → InCode (IsOf rows r.masks) (simple_code (layout_of rows) x pc p k n)
+  pub simple_named : (x : TSimple) → SimpleTree fs x → Has r (simple_asks x n) → InCode (IsOf rows r.masks) (simple_code l x pc p k n)
   simple_named x tree has =
-      let l = layout_of rows in
       let is = simple_code l x pc p k n in
       let long = pc + length is + 1 in
       let code = many (instr.Return None) long in
       let places = p + length (simple_places l x) in
       let a = many_long (instr.Return None) long in
-      let b : length (with_places places).places ≡ places = many_long (record { start = 0; end = 0 }) places in
+      let b : length (with_places fs places).places ≡ places = many_long (record { start = 0; end = 0 }) places in
       of_rows rows r.masks code is
-      (sound_there (with_places places) (with_rows rows r.masks code) is
-      (simple_sound (with_places places) (with_rows rows r.masks code) l x n tree (granted r code (simple_asks x n) has) pc p k lt (omega (arith, b)) (omega (arith, a))))
+      (sound_there (with_places fs places) (with_rows rows r.masks code) is
+      (simple_sound fs (with_places fs places) (with_rows rows r.masks code) l (linked fs places rows) x n tree (granted (rates_in fs) r code (simple_asks x n) has) pc p k lt (omega (arith, b)) (omega (arith, a))))

@@ -1,15 +1,17 @@
 -- What code asks for is the function's own, where names and types accept its trees.
-use Rattle.std.proofs.Common.{ℕ, ◌+◌, List, Option, Bool, true, false}
+use Rattle.std.proofs.Common.{ℕ, ◌+◌, List, [], ◌∷◌, Option, Some, None, Bool, true, false}
 use Rattle.isp_base.specs.Ranks.{same_elem}
 use Rattle.isp_base.specs.declared.types.Elem.{Elem}
 use Rattle.isp_base.specs.declared.types.Elem.TheVariants.{I64}
 use Rattle.isp_base.specs.declared.types.Rate.{Rate}
 use Rattle.isp_base.specs.declared.types.Rate.TheVariants.{Uniform, Varying}
 use Rattle.isp_base.specs.declared.types.Ty.{Ty}
-use Rattle.isp_typed.specs.Fine.{HoldsArray, HoldsValue, FineExpr, FinePlace, FineTarget, FineSimple, FineItem}
-use Rattle.isp_typed.specs.Typed.{TExpr, t_constant, t_program_index, t_place, t_convert, t_cast, t_unary, t_binary, t_compare, t_logic, t_choose, t_call, t_library, t_packed_store, t_packed_load, TPlace, t_variable, t_element, TItem, t_plain, t_with_value, t_with_size, TSimple, t_value, t_run, t_assign, t_update, t_step, TFunction, place_type, ty_of, type_of}
+use Rattle.isp_typed.specs.Fine.{HoldsArray, HoldsValue, FineExpr, FinePlace, FineCall, FineArguments, FineArgument, params_of, FineTarget, FineSimple, FineItem}
+use Rattle.isp_typed.specs.Typed.{TExpr, t_constant, t_program_index, t_place, t_convert, t_cast, t_unary, t_binary, t_compare, t_logic, t_choose, t_call, t_library, t_packed_store, t_packed_load, TPlace, t_variable, t_element, TArgument, t_by_value, t_by_name, TCall, t_called, TArguments, t_no_arguments, t_argument_then, TItem, t_plain, t_with_value, t_with_size, TSimple, t_value, t_run, t_assign, t_update, t_step, TFunction, place_type, ty_of, type_of}
+use Rattle.isp_typed.specs.declared.variable.Holds.{Holds}
+use Rattle.isp_typed.specs.declared.variable.Holds.TheVariants as holds
 use Rattle.isp_typed.specs.declared.variable.Variable.{Variable}
-use Rattle.isp_lower.specs.Asks.{Ask, Nothing, Both, Register, ArrayOf, LocalOf, MaskOf, Number, All, first_slot, second_slot, beyond, lift_asks, test_asks, sides_ask, read_asks, work_asks, zero_asks, expr_asks, target_asks, change_asks, simple_asks, item_asks}
+use Rattle.isp_lower.specs.Asks.{Ask, Nothing, Both, Register, ArrayOf, LocalOf, MaskOf, Number, All, first_slot, second_slot, beyond, lift_asks, test_asks, sides_ask, read_asks, work_asks, zero_asks, expr_asks, target_asks, call_asks, arguments_asks, argument_asks, change_asks, simple_asks, item_asks}
 use Rattle.isp_lower.specs.Reserved.{HoldsLocal, IsOwn}
 use Rattle.isp_lower.specs.Rows.{Name}
 use Rattle.isp_lower.specs.Tables.{AnyArray}
@@ -72,7 +74,7 @@ module _ (vars : List Variable) (answer : Option Ty) where
           let i = first_slot (type_of c).rate n in
           let j = second_slot (type_of c).rate n in
           (tt, (expr_own c n f.0, ((lift_own t.rate (type_of x).rate (type_of x).elem i, expr_own x i f.1), ((lift_own t.rate (type_of y).rate (type_of y).elem j, expr_own y j f.2), sides_own (type_of c).rate n))))
-      expr_own (t_call c t) n f = tt
+      expr_own (t_call c t) n f = (tt, call_own c (Some t) n f)
       expr_own (t_library g e xs t sp) n f = tt
       expr_own (t_packed_store b x sp) n f = tt
       expr_own (t_packed_load b v sp) n f = tt
@@ -80,6 +82,23 @@ module _ (vars : List Variable) (answer : Option Ty) where
       place_own : (z : TPlace) (n : ℕ) → FinePlace fs vars z → IsOwn vars answer (target_asks z n)
       place_own (t_variable v t sp) n f = f
       place_own (t_element b i t sp) n f = (f.0, (lift_own t.rate (type_of i).rate I64 n, (tt, expr_own i n f.1)))
+
+      pub call_own : (c : TCall) (gives : Option Ty) (n : ℕ) → FineCall fs vars c gives → IsOwn vars answer (call_asks c n)
+      call_own (t_called g xs sp) gives n f = arguments_own (params_of f.0) xs n f.3
+
+      arguments_own : (vs : List Variable) (xs : TArguments) (n : ℕ) → FineArguments fs vars vs xs → IsOwn vars answer (arguments_asks xs n)
+      arguments_own [] t_no_arguments n f = tt
+      arguments_own [] (t_argument_then x xs) n f = absurd f
+      arguments_own (v ∷ vs) t_no_arguments n f = absurd f
+      arguments_own (v ∷ vs) (t_argument_then x xs) n f = (tt, (argument_own v.holds v.constant x n f.0, arguments_own vs xs (n + 1) f.1))
+
+      argument_own : (y : Holds) (k : Bool) (x : TArgument) (n : ℕ) → FineArgument fs vars y k x → IsOwn vars answer (argument_asks x n)
+      argument_own (holds.Value t) k (t_by_value x) n f = (lift_own Varying (type_of x).rate (type_of x).elem n, expr_own x n f.0)
+      argument_own (holds.Value t) k (t_by_name b sp) n f = absurd f
+      argument_own (holds.Given e) k (t_by_value x) n f = absurd f
+      argument_own (holds.Given e) k (t_by_name b sp) n f = f.0
+      argument_own (holds.Local t m) k (t_by_value x) n f = absurd f
+      argument_own (holds.Local t m) k (t_by_name b sp) n f = absurd f
 
     pub operand_own : (r : Rate) (x : TExpr) (n : ℕ) → FineExpr fs vars x → IsOwn vars answer (Both (lift_asks r (type_of x).rate (type_of x).elem n) (expr_asks x n))
     operand_own r x n f = (lift_own r (type_of x).rate (type_of x).elem n, expr_own x n f)
@@ -90,7 +109,7 @@ module _ (vars : List Variable) (answer : Option Ty) where
 
     pub simple_own : (x : TSimple) (n : ℕ) → FineSimple fs vars x → IsOwn vars answer (simple_asks x n)
     simple_own (t_value x) n f = expr_own x n f
-    simple_own (t_run c) n f = tt
+    simple_own (t_run c) n f = call_own c None n f
     simple_own (t_assign z x sp) n f = (target_own z n f.0, (tt, operand_own (place_type z).rate x (beyond z n) f.1.0))
     simple_own (t_update o t z x sp) n f =
         (target_own z n f.0, (tt, (operand_own (place_type z).rate x (beyond z n) f.1.0, change_own t z (beyond z n + 1))))

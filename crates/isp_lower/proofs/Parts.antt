@@ -1,13 +1,18 @@
 -- What the laws use of a tree that fits, part by part: operands have the types that their node works in, a uniform part may stand in
 -- a varying node, and each register that is named has its type.
-use Rattle.std.proofs.Common.{◌≡◌, ℕ, ◌+◌, List, [], ◌∷◌, Bool, true, false}
+use Rattle.std.proofs.Common.{◌≡◌, ℕ, ◌+◌, List, [], ◌∷◌, Option, Some, None, Bool, true, false}
+use Rattle.std.specs.Prelude.{slice_get}
+use Rattle.isp_base.specs.declared.types.Ty.{Ty}
 use Rattle.isp_base.specs.Ranks.{same_elem}
 use Rattle.isp_base.specs.declared.types.Elem.{Elem}
 use Rattle.isp_base.specs.declared.types.Elem.TheVariants.{Bool as Truth, I32, I64}
 use Rattle.isp_base.specs.declared.types.Rate.{Rate}
 use Rattle.isp_base.specs.declared.types.Rate.TheVariants.{Uniform, Varying}
-use Rattle.isp_typed.specs.Typed.{TExpr, t_constant, t_program_index, t_place, t_convert, t_cast, t_unary, t_binary, t_compare, t_logic, t_choose, t_call, t_library, t_packed_store, t_packed_load, TPlace, t_variable, t_element, TItem, t_plain, t_with_value, t_with_size, TSimple, t_value, t_run, t_assign, t_update, t_step, place_type, type_of}
-use Rattle.isp_typed.specs.Fine.{heads, HoldsArray}
+use Rattle.isp_typed.specs.Typed.{TExpr, t_constant, t_program_index, t_place, t_convert, t_cast, t_unary, t_binary, t_compare, t_logic, t_choose, t_call, t_library, t_packed_store, t_packed_load, TPlace, t_variable, t_element, TArgument, t_by_value, t_by_name, TCall, t_called, TArguments, t_no_arguments, t_argument_then, TFunction, TItem, t_plain, t_with_value, t_with_size, TSimple, t_value, t_run, t_assign, t_update, t_step, place_type, type_of}
+use Rattle.isp_typed.specs.Fine.{heads, HoldsArray, params_of}
+use Rattle.isp_typed.specs.declared.variable.Holds.{Holds}
+use Rattle.isp_typed.specs.declared.variable.Holds.TheVariants as holds
+use Rattle.isp_typed.specs.declared.variable.Variable.{Variable as Declared}
 use Rattle.isp_lower.specs.Asks.{first_slot, second_slot, beyond}
 use Rattle.isp_lower.specs.Rated.{Reaches}
 use Rattle.isp_lower.specs.Rows.{Name, Variable, Spare}
@@ -74,7 +79,7 @@ module _ (w : Setting) where
         OperandFits r Truth x n × OperandFits r Truth y (n + 1) × SpareFits r Truth n × ExprParts x n × ExprParts y (n + 1)
     ExprParts (t_choose c x y t sp) n =
         ((type_of c).elem ≡ Truth) × Reaches (type_of c).rate t.rate × SpareFits t.rate t.elem n × OperandFits t.rate t.elem x (first_slot (type_of c).rate n) × OperandFits t.rate t.elem y (second_slot (type_of c).rate n) × ExprParts c n × ExprParts x (first_slot (type_of c).rate n) × ExprParts y (second_slot (type_of c).rate n)
-    ExprParts (t_call c t) n = ⊥
+    ExprParts (t_call c t) n = SpareFits t.rate t.elem n × CallParts c (Some t) n
     ExprParts (t_library f e xs t sp) n = ⊥
     ExprParts (t_packed_store b x sp) n = ⊥
     ExprParts (t_packed_load b v sp) n = ⊥
@@ -84,6 +89,23 @@ module _ (w : Setting) where
     PlaceParts (t_variable v t sp) n = IsTyped w t.rate (w.layout.variable t.rate v) t.elem
     PlaceParts (t_element b i t sp) n =
         HoldsArray w.function.variables b × Reaches b.ty.rate t.rate × Reaches (type_of i).rate t.rate × SpareFits (type_of i).rate I64 n × ExprParts i n
+
+    -- the function that is called gives this; each argument is what its parameter holds
+    pub CallParts : TCall → Option Ty → ℕ → Type 0
+    CallParts (t_called f xs sp) answer n =
+        (g : TFunction) × (slice_get w.program.functions f ≡ Some g) × (g.answer ≡ answer) × ArgumentsParts (params_of g) xs n
+
+    pub ArgumentsParts : List Declared → TArguments → ℕ → Type 0
+    ArgumentsParts [] t_no_arguments n = Unit {0}
+    ArgumentsParts [] (t_argument_then x xs) n = ⊥
+    ArgumentsParts (v ∷ vs) t_no_arguments n = ⊥
+    ArgumentsParts (v ∷ vs) (t_argument_then x xs) n = ArgumentParts v.holds x n × ArgumentsParts vs xs (n + 1)
+
+    -- an array that is handed over is one for the gang
+    pub ArgumentParts : Holds → TArgument → ℕ → Type 0
+    ArgumentParts (holds.Value t) (t_by_value x) n = OperandFits t.rate t.elem x n × ExprParts x n
+    ArgumentParts (holds.Given e) (t_by_name b sp) n = HoldsArray w.function.variables b × (b.ty.rate ≡ Uniform)
+    ArgumentParts y x n = ⊥
 
 -- every type but bool: operators work in these
 abbrev pub IsNumber : Elem → Type 0
@@ -107,7 +129,7 @@ module _ (w : Setting) where
 
   abbrev pub SimpleParts : TSimple → ℕ → Type 0
   SimpleParts (t_value x) n = ExprParts w x n
-  SimpleParts (t_run c) n = ⊥
+  SimpleParts (t_run c) n = CallParts w c None n
   SimpleParts (t_assign z x sp) n = PlaceParts w z n × OperandFits w (place_type z).rate (place_type z).elem x (beyond z n) × ExprParts w x (beyond z n)
   SimpleParts (t_update o t z x sp) n =
       ChangeFits t z n (beyond z n + 1) × OperandFits w (place_type z).rate t x (beyond z n) × ExprParts w x (beyond z n)

@@ -1,16 +1,20 @@
 -- What names, types and rates promise of a tree is what the laws use of it.
-use Rattle.std.proofs.Common.{◌≡◌, suc, List, [], ◌∷◌, sym, ap, subst, arith}
+use Rattle.std.proofs.Common.{◌≡◌, suc, List, [], ◌∷◌, Bool, Option, Some, None, sym, ap, subst, arith}
 use Rattle.std.specs.List.{All}
 use Rattle.isp_base.specs.declared.types.Elem.{Elem}
 use Rattle.isp_base.specs.declared.types.Elem.TheVariants.{Bool as Truth, I8, U8, I16, U16, I32, U32, I64, U64}
 use Rattle.isp_base.specs.declared.types.Rate.{Rate}
 use Rattle.isp_base.specs.declared.types.Rate.TheVariants.{Uniform, Varying}
-use Rattle.isp_typed.specs.Fine.{IsWhole, AreOperands, FineExpr, FinePlace, FineTarget, FineSimple, FineItem}
-use Rattle.isp_typed.specs.Typed.{TExpr, t_constant, t_program_index, t_place, t_convert, t_cast, t_unary, t_binary, t_compare, t_logic, t_choose, t_call, t_library, t_packed_store, t_packed_load, TPlace, t_variable, t_element, TItem, t_plain, t_with_value, t_with_size, TSimple, t_value, t_run, t_assign, t_update, t_step, TFunction, place_type, type_of, rate_or}
+use Rattle.isp_base.specs.declared.types.Ty.{Ty}
+use Rattle.isp_typed.specs.Fine.{IsWhole, AreOperands, FineExpr, FinePlace, FineCall, FineArguments, FineArgument, params_of, FineTarget, FineSimple, FineItem}
+use Rattle.isp_typed.specs.Typed.{TExpr, t_constant, t_program_index, t_place, t_convert, t_cast, t_unary, t_binary, t_compare, t_logic, t_choose, t_call, t_library, t_packed_store, t_packed_load, TPlace, t_variable, t_element, TArgument, t_by_value, t_by_name, TCall, t_called, TArguments, t_no_arguments, t_argument_then, TItem, t_plain, t_with_value, t_with_size, TSimple, t_value, t_run, t_assign, t_update, t_step, TFunction, place_type, type_of, rate_or}
+use Rattle.isp_typed.specs.declared.variable.Holds.{Holds}
+use Rattle.isp_typed.specs.declared.variable.Holds.TheVariants as holds
 use Rattle.isp_typed.specs.declared.variable.Variable.{Variable}
-use Rattle.isp_lower.specs.Rated.{Reaches, IsRated, PlaceRated, RatedAt, SimpleRated, ItemsRated}
+use Rattle.isp_lower.specs.Callees.{rate_held, rates_held, rates_of}
+use Rattle.isp_lower.specs.Rated.{Reaches, IsRated, CallRated, ArgumentsRated, ArgumentRated, PlaceRated, RatedAt, SimpleRated, ItemsRated}
 use Rattle.isp_lower.proofs.Parts.{IsNumber}
-use Rattle.isp_lower.proofs.Trees.{OperandTree, ExprTree, PlaceTree, SimpleTree, ItemsTree}
+use Rattle.isp_lower.proofs.Trees.{OperandTree, ExprTree, PlaceTree, CallTree, ArgumentsTree, ArgumentTree, SimpleTree, ItemsTree}
 
 -- ---- rates
 
@@ -54,7 +58,7 @@ second_operand x y t r o = record { elem = o.right; reaches = subst (Reaches (ty
 
 module _ (fs : List TFunction) (vars : List Variable) where
   mutual
-    pub expr_tree : (x : TExpr) → FineExpr fs vars x → IsRated x → ExprTree x
+    pub expr_tree : (x : TExpr) → FineExpr fs vars x → IsRated fs x → ExprTree fs x
     expr_tree (t_constant v sp) f r = tt
     expr_tree (t_program_index sp) f r = tt
     expr_tree (t_place q) f r = place_tree q f r
@@ -71,31 +75,49 @@ module _ (fs : List TFunction) (vars : List Variable) where
         let rx = (type_of x).rate in
         let ry = (type_of y).rate in
         (record { elem = f.3; reaches = subst (Reaches rc) (sym f.6) (reaches_first rc (rate_or rx ry)) }, record { elem = f.4; reaches = subst (Reaches rx) (sym f.6) (reaches_on rx (rate_or rx ry) (rate_or rc (rate_or rx ry)) (reaches_first rx ry) (reaches_second rc (rate_or rx ry))) }, record { elem = f.5; reaches = subst (Reaches ry) (sym f.6) (reaches_on ry (rate_or rx ry) (rate_or rc (rate_or rx ry)) (reaches_second rx ry) (reaches_second rc (rate_or rx ry))) }, expr_tree q f.0 r.0, expr_tree x f.1 r.1, expr_tree y f.2 r.2)
-    expr_tree (t_call k t) f r = absurd r
+    expr_tree (t_call k t) f r = call_tree k (Some t) f r
     expr_tree (t_library g e xs t sp) f r = absurd r
     expr_tree (t_packed_store b x sp) f r = absurd r
     expr_tree (t_packed_load b v sp) f r = absurd r
 
-    place_tree : (z : TPlace) → FinePlace fs vars z → PlaceRated z → PlaceTree z
+    place_tree : (z : TPlace) → FinePlace fs vars z → PlaceRated fs z → PlaceTree fs z
     place_tree (t_variable v t sp) f r = tt
     place_tree (t_element b i t sp) f r =
         (subst (λ u. Reaches b.ty.rate u.rate) (sym f.2) (reaches_first b.ty.rate (type_of i).rate), subst (λ u. Reaches (type_of i).rate u.rate) (sym f.2) (reaches_second b.ty.rate (type_of i).rate), expr_tree i f.1 r, sym (ap (λ u. u.elem) f.2))
 
-  target_tree : (z : TPlace) → FineTarget fs vars z → PlaceRated z → PlaceTree z
+    call_tree : (k : TCall) (answer : Option Ty) → FineCall fs vars k answer → CallRated fs k → CallTree fs k answer
+    call_tree (t_called g xs sp) answer f r =
+        (f.0, f.1, f.2, arguments_tree (params_of f.0) xs f.3 (subst (λ o. ArgumentsRated fs (rates_of o) xs) f.1 r))
+
+    arguments_tree : (vs : List Variable) (xs : TArguments) → FineArguments fs vars vs xs → ArgumentsRated fs (rates_held vs) xs → ArgumentsTree fs vs xs
+    arguments_tree [] t_no_arguments f r = tt
+    arguments_tree [] (t_argument_then x xs) f r = absurd f
+    arguments_tree (v ∷ vs) t_no_arguments f r = absurd f
+    arguments_tree (v ∷ vs) (t_argument_then x xs) f r = (argument_tree v.holds v.constant x f.0 r.0, arguments_tree vs xs f.1 r.1)
+
+    argument_tree : (y : Holds) (k : Bool) (x : TArgument) → FineArgument fs vars y k x → ArgumentRated fs (rate_held y) x → ArgumentTree fs y x
+    argument_tree (holds.Value t) k (t_by_value x) f r = (record { elem = f.1; reaches = r.0 }, expr_tree x f.0 r.1)
+    argument_tree (holds.Value t) k (t_by_name b sp) f r = absurd f
+    argument_tree (holds.Given e) k (t_by_value x) f r = absurd f
+    argument_tree (holds.Given e) k (t_by_name b sp) f r = (r, f.1)
+    argument_tree (holds.Local t n) k (t_by_value x) f r = absurd f
+    argument_tree (holds.Local t n) k (t_by_name b sp) f r = absurd f
+
+  target_tree : (z : TPlace) → FineTarget fs vars z → PlaceRated fs z → PlaceTree fs z
   target_tree (t_variable v t sp) f r = tt
   target_tree (t_element b i t sp) f r = place_tree (t_element b i t sp) f.0 r
 
-  pub operand_tree : (r : Rate) (t : Elem) (x : TExpr) → (type_of x).elem ≡ t → RatedAt r x → OperandTree r t x
+  pub operand_tree : (r : Rate) (t : Elem) (x : TExpr) → (type_of x).elem ≡ t → RatedAt fs r x → OperandTree r t x
   operand_tree r t x e g = record { elem = e; reaches = g.0 }
 
-  pub simple_tree : (x : TSimple) → FineSimple fs vars x → SimpleRated x → SimpleTree x
+  pub simple_tree : (x : TSimple) → FineSimple fs vars x → SimpleRated fs x → SimpleTree fs x
   simple_tree (t_value x) f r = expr_tree x f r
-  simple_tree (t_run k) f r = absurd r
+  simple_tree (t_run k) f r = call_tree k None f r
   simple_tree (t_assign z x sp) f r = (target_tree z f.0 r.0, operand_tree (place_type z).rate (place_type z).elem x f.1.1 r.1, expr_tree x f.1.0 r.1.1)
   simple_tree (t_update o t z x sp) f r = (target_tree z f.0 r.0, operand_tree (place_type z).rate t x f.1.1 r.1, expr_tree x f.1.0 r.1.1, whole_number t f.2)
   simple_tree (t_step o t z sp) f r = (target_tree z f.0 r, whole_number t f.1)
 
-  pub items_tree : (xs : List TItem) → All (FineItem fs vars) xs → ItemsRated xs → ItemsTree xs
+  pub items_tree : (xs : List TItem) → All (FineItem fs vars) xs → ItemsRated fs xs → ItemsTree fs xs
   items_tree [] f r = tt
   items_tree (t_plain v t sp ∷ xs) f r = (tt, items_tree xs (λ k d lt. f (suc k) d (omega arith)) r.1)
   items_tree (t_with_size a sp ∷ xs) f r = (tt, items_tree xs (λ k d lt. f (suc k) d (omega arith)) r.1)

@@ -37,8 +37,8 @@ few_ranks U32 = omega arith
 few_ranks I64 = omega arith
 few_ranks U64 = omega arith
 
-pub layout_apart : (rows : Rows) → IsApart (layout_of rows)
-layout_apart rows = record {
+pub layout_apart : (rates : ℕ → List Rate) (rows : Rows) → IsApart (layout_of rates rows)
+layout_apart rates rows = record {
   variables = λ r v w ne e. let h = one_number (rows_at rows r) (Variable v) (Variable w) e in ne (omega (arith, h));
   spares = λ r t u i j ne e. let h = one_number (rows_at rows r) (Spare t i) (Spare u j) e in let a = few_ranks t in let b = few_ranks u in ne (omega (arith, h, a, b));
   variable_spare = λ r t v j e. let h = one_number (rows_at rows r) (Variable v) (Spare t j) e in omega (arith, h);
@@ -77,20 +77,20 @@ rows_stay (z ∷ rows) more x t e = go (name_number z.name == name_number x) (ro
     go false ih h = let r = ih h in (ap (λ n. 1 + n) r.0, r.1)
 
 -- the register of a name that has a row is there
-numbered_in : (rows : Rows) (r : Rate) (x : Name) → number_in (rows_at rows r) x ≡ numbered (layout_of rows) r x
-numbered_in rows r (Variable v) = refl
-numbered_in rows r Result = refl
-numbered_in rows r (Spare t j) = refl
-numbered_in rows r (Fresh j) = refl
+numbered_in : (rates : ℕ → List Rate) (rows : Rows) (r : Rate) (x : Name) → number_in (rows_at rows r) x ≡ numbered (layout_of rates rows) r x
+numbered_in rates rows r (Variable v) = refl
+numbered_in rates rows r Result = refl
+numbered_in rates rows r (Spare t j) = refl
+numbered_in rates rows r (Fresh j) = refl
 
 count_at : (h : Routine) (r : Rate) → length (types_in (table_of h) (class_at r)) ≡ count_of h (class_at r)
 count_at h Uniform = refl
 count_at h Varying = refl
 
-pub register_there : (h : Routine) (rows : Rows) → ((r : Rate) → types_in (table_of h) (class_at r) ≡ map (λ y. y.elem) (rows_at rows r)) → (r : Rate) (x : Name) (t : Elem) → HasRow rows r x t → HasRegister h (layout_of rows) r x t
-register_there h rows made r x t has =
+pub register_there : (h : Routine) (rates : ℕ → List Rate) (rows : Rows) → ((r : Rate) → types_in (table_of h) (class_at r) ≡ map (λ y. y.elem) (rows_at rows r)) → (r : Rate) (x : Name) (t : Elem) → HasRow rows r x t → HasRegister h (layout_of rates rows) r x t
+register_there h rates rows made r x t has =
     let n = number_in (rows_at rows r) x in
     let types = types_in (table_of h) (class_at r) in
     let at : slice_get types n ≡ Some t = ap (λ ts. slice_get ts n) (made r) ∙ row_typed (rows_at rows r) x t has in
     let low : n < count_of h (class_at r) = subst (λ m. n < m) (count_at h r) (slice_get_within types n t at) in
-    subst (λ m. IsRegister h r m t) (numbered_in rows r x) ((refl, low), get_or_from_slice_get types n t Truth at)
+    subst (λ m. IsRegister h r m t) (numbered_in rates rows r x) ((refl, low), get_or_from_slice_get types n t Truth at)

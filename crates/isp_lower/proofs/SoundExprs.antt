@@ -1,5 +1,5 @@
 -- Each instruction of the code of an expression has its operands.
-use Rattle.std.proofs.Common.{◌≡◌, ℕ, ◌+◌, ◌<◌, ◌≤◌, List, ◌++◌, length, Bool, true, false, refl, ◌∙◌, arith}
+use Rattle.std.proofs.Common.{◌≡◌, ℕ, ◌+◌, ◌<◌, ◌≤◌, List, [], ◌∷◌, ◌++◌, length, Option, Some, None, Bool, true, false, refl, sym, ap, ◌∙◌, subst, arith}
 use Rattle.isp_base.specs.declared.types.Elem.{Elem}
 use Rattle.isp_base.specs.declared.types.Elem.TheVariants.{Bool as Truth}
 use Rattle.isp_base.specs.declared.types.Rate.{Rate}
@@ -7,16 +7,26 @@ use Rattle.isp_base.specs.declared.types.Span.{Span}
 use Rattle.isp_base.specs.declared.types.Ty.{Ty}
 use Rattle.isp_code.specs.Listing.{Listing, Routine}
 use Rattle.isp_code.specs.declared.instr.Instr.{Instr}
-use Rattle.isp_typed.specs.Typed.{TExpr, t_constant, t_program_index, t_place, t_convert, t_cast, t_unary, t_binary, t_compare, t_logic, t_choose, t_call, t_library, t_packed_store, t_packed_load, TPlace, t_variable, t_element, place_type, type_of}
+use Rattle.isp_typed.specs.Typed.{TExpr, t_constant, t_program_index, t_place, t_convert, t_cast, t_unary, t_binary, t_compare, t_logic, t_choose, t_call, t_library, t_packed_store, t_packed_load, TPlace, t_variable, t_element, TArgument, t_by_value, t_by_name, TCall, t_called, TArguments, t_no_arguments, t_argument_then, TFunction, place_type, type_of}
 use Rattle.isp_typed.specs.declared.variable.ArrayVariable.{ArrayVariable}
-use Rattle.isp_lower.specs.Layout.{Layout}
-use Rattle.isp_lower.specs.Code.{compare, unary, operate, operate_places, select, part_to, lift_to, found, operand, operand_of, index, choose_to, is_short, expr_places, index_places, read_places, expr_to, index_code, read_code, expr_code}
-use Rattle.isp_lower.specs.Asks.{expr_asks, first_slot, operand_asks, second_slot, target_asks}
-use Rattle.isp_lower.specs.Sound.{AreSound, PartSound, IsRegister, HasArray, Granted}
+use Rattle.isp_code.specs.Fine.{AllFine, IsGiven, ArePassed}
+use Rattle.isp_code.specs.Operands.{result_operands}
+use Rattle.isp_code.specs.declared.register.Register.{Register}
+use Rattle.isp_typed.specs.Fine.{params_of}
+use Rattle.isp_typed.specs.declared.variable.Holds.{Holds as Held}
+use Rattle.isp_typed.specs.declared.variable.Holds.TheVariants as holds
+use Rattle.isp_typed.specs.declared.variable.Variable.{Variable}
+use Rattle.isp_lower.specs.Callees.{rate_held, rates_held, rates_of}
+use Rattle.isp_lower.specs.Header.{returns_of}
+use Rattle.isp_lower.specs.Layout.{Layout, register}
+use Rattle.isp_lower.specs.Code.{compare, unary, operate, operate_places, select, part_to, lift_to, found, operand, operand_of, index, choose_to, is_short, expr_places, index_places, read_places, expr_to, index_code, read_code, expr_code, argument_places, arguments_places, call_places, argument_registers, argument_code, arguments_code, call_code, calling}
+use Rattle.isp_lower.specs.Asks.{argument_asks, arguments_asks, call_asks, expr_asks, first_slot, operand_asks, second_slot, target_asks}
+use Rattle.isp_lower.specs.Sound.{AreSound, Links, PartSound, IsRegister, HasArray, Granted}
 use Rattle.isp_lower.proofs.SoundLines.{IsArray, array_is, unary_sound, compare_sound, operate_sound, read_sound, constant_sound, index_sound as lane_sound}
 use Rattle.isp_lower.proofs.SoundFound.{part_there, found_there, operand_there, index_there}
 use Rattle.isp_lower.proofs.SoundParts.{few_front, few_back, Here, AnyMask, here_both, here_then, pair_sound, logic_sound, lift_to_sound, operand_sound, convert_to_sound, index_sound, choose_sound, short_sound}
-use Rattle.isp_lower.proofs.Trees.{ExprTree, OperandTree, PlaceTree}
+use Rattle.isp_lower.proofs.Trees.{ExprTree, OperandTree, PlaceTree, CallTree, ArgumentsTree, ArgumentTree}
+use Rattle.isp_lower.proofs.SoundCalls.{taken_there, result_given, result_there, arguments_passed, calling_sound}
 use Rattle.isp_lower.specs.Rated.{Reaches}
 
 module _ (code : Listing) (h : Routine) (l : Layout) where
@@ -24,26 +34,27 @@ module _ (code : Listing) (h : Routine) (l : Layout) where
   abbrev pub Named : ℕ → List Span → Type 0
   Named p places = p + length places ≤ length code.places
 
-  -- a value in register d
-  abbrev ToSound : TExpr → Type 0
-  ToSound x =
-      (d pc p k n : ℕ) → ExprTree x → Granted h l (expr_asks x n) → IsRegister h (type_of x).rate d (type_of x).elem → k < h.masks → Named p (expr_places l x) → Here code h pc (expr_to l d x pc p k n)
-
   -- an array has elements of the type of a place, and is shared where the place is uniform
   pub array_there : (b : ArrayVariable) (r : Rate) (t : Elem) → HasArray h l b → Reaches b.ty.rate r → b.ty.elem ≡ t → IsArray code h r (l.array b.number) t
   array_there b r t f re e = array_is code h b.ty.rate r b.ty.elem t (l.array b.number) f re e
 
-  pub read_there : (q : TPlace) (d pc p k n : ℕ) → PlaceTree q → Granted h l (target_asks q n) → IsRegister h (place_type q).rate d (place_type q).elem → k < h.masks → Named p (read_places l q) → AreSound code h (read_code l d q p k n)
+module _ (fs : List TFunction) (code : Listing) (h : Routine) (l : Layout) (links : Links fs code l) where
+  -- a value in register d
+  abbrev ToSound : TExpr → Type 0
+  ToSound x =
+      (d pc p k n : ℕ) → ExprTree fs x → Granted h l (expr_asks x n) → IsRegister h (type_of x).rate d (type_of x).elem → k < h.masks → Named code h l p (expr_places l x) → Here code h pc (expr_to l d x pc p k n)
+
+  pub read_there : (q : TPlace) (d pc p k n : ℕ) → PlaceTree fs q → Granted h l (target_asks q n) → IsRegister h (place_type q).rate d (place_type q).elem → k < h.masks → Named code h l p (read_places l q) → AreSound code h (read_code l d q p k n)
   read_there (t_variable v t sp) d pc p k n is f hd lk lp = tt
   read_there (t_element b i t sp) d pc p k n is f hd lk lp =
-      (read_sound code h t.rate t.elem d (l.array b.number) (index l t.rate i n) k p hd (array_there b t.rate t.elem f.0 is.0 is.3) (index_there h l t.rate i n is.1 is.2 f.1) lk (omega (arith, lp)), tt)
+      (read_sound code h t.rate t.elem d (l.array b.number) (index l t.rate i n) k p hd (array_there code h l b t.rate t.elem f.0 is.0 is.3) (index_there fs h l t.rate i n is.1 is.2 f.1) lk (omega (arith, lp)), tt)
 
-  choose_there : (b : Bool) (d : ℕ) (c x y : TExpr) (t : Ty) (sp : Span) (pc k n : ℕ) (test : List Instr) (one other : ℕ → ℕ → ℕ → List Instr) → is_short l t.rate c x y ≡ b → ExprTree (t_choose c x y t sp) → Granted h l (expr_asks (t_choose c x y t sp) n) → IsRegister h t.rate d t.elem → k < h.masks → Here code h pc test → AnyMask code h (λ pc m. one pc m (first_slot (type_of c).rate n)) → AnyMask code h (λ pc m. other pc m (second_slot (type_of c).rate n)) → Here code h pc (choose_to l b d c x y t pc k n test one other)
+  choose_there : (b : Bool) (d : ℕ) (c x y : TExpr) (t : Ty) (sp : Span) (pc k n : ℕ) (test : List Instr) (one other : ℕ → ℕ → ℕ → List Instr) → is_short l t.rate c x y ≡ b → ExprTree fs (t_choose c x y t sp) → Granted h l (expr_asks (t_choose c x y t sp) n) → IsRegister h t.rate d t.elem → k < h.masks → Here code h pc test → AnyMask code h (λ pc m. one pc m (first_slot (type_of c).rate n)) → AnyMask code h (λ pc m. other pc m (second_slot (type_of c).rate n)) → Here code h pc (choose_to l b d c x y t pc k n test one other)
   choose_there true d c x y t sp pc k n test one other e is f hd lk s g1 g2 =
-      here_then code h pc test (select t.rate d (found l c n) (found l x n) (found l y n) k) s (short_sound code h l t.rate t.elem c x y d k n (first_slot (type_of c).rate n) (second_slot (type_of c).rate n) e hd is.0 is.1 is.2 is.3 is.4 is.5 f.1.0 f.1.1.0.1 f.1.1.1.0.1 lk)
+      here_then code h pc test (select t.rate d (found l c n) (found l x n) (found l y n) k) s (short_sound code h fs l t.rate t.elem c x y d k n (first_slot (type_of c).rate n) (second_slot (type_of c).rate n) e hd is.0 is.1 is.2 is.3 is.4 is.5 f.1.0 f.1.1.0.1 f.1.1.1.0.1 lk)
   choose_there false d c x y t sp pc k n test one other e is f hd lk s g1 g2 =
-      let hc = found_there h l c n is.3 f.1.0 in
-      choose_sound code h l (type_of c).rate t.rate t.elem x y (found l c n) pc k n test one other is.0.reaches (hc.0, hc.1 ∙ is.0.elem) f.0 (operand_there h l t.rate t.elem x (first_slot (type_of c).rate n) is.1 is.4 f.1.1.0) (operand_there h l t.rate t.elem y (second_slot (type_of c).rate n) is.2 is.5 f.1.1.1.0) lk f.1.1.1.1 s g1 g2
+      let hc = found_there fs h l c n is.3 f.1.0 in
+      choose_sound code h fs l (type_of c).rate t.rate t.elem x y (found l c n) pc k n test one other is.0.reaches (hc.0, hc.1 ∙ is.0.elem) f.0 (operand_there fs h l t.rate t.elem x (first_slot (type_of c).rate n) is.1 is.4 f.1.1.0) (operand_there fs h l t.rate t.elem y (second_slot (type_of c).rate n) is.2 is.5 f.1.1.1.0) lk f.1.1.1.1 s g1 g2
 
   mutual
     pub expr_sound : (x : TExpr) → ToSound x
@@ -52,34 +63,34 @@ module _ (code : Listing) (h : Routine) (l : Layout) where
     expr_sound (t_place q) d pc p k n is f hd lk lp =
         here_both code h pc (index_code l q pc p k n) (read_code l d q (p + length (index_places l q)) k n) (place_sound q pc p k n is f.0 lk (few_front (length code.places) p (index_places l q) (read_places l q) lp)) (λ lt. read_there q d pc (p + length (index_places l q)) k n is f.0 hd lk (few_back (length code.places) p (index_places l q) (read_places l q) lp))
     expr_sound (t_convert e x) d pc p k n is f hd lk lp =
-        convert_to_sound code h l x e d pc k n (expr_code l x pc p k n) hd (found_there h l x n is.1 f.1) lk (λ lt. expr_sound x (found l x n) pc p k n is.1 f.1 (found_there h l x n is.1 f.1) lk lp lt)
+        convert_to_sound code h fs l x e d pc k n (expr_code l x pc p k n) hd (found_there fs h l x n is.1 f.1) lk (λ lt. expr_sound x (found l x n) pc p k n is.1 f.1 (found_there fs h l x n is.1 f.1) lk lp lt)
     expr_sound (t_cast x t sp) d pc p k n is f hd lk lp =
-        let hx = found_there h l x n is.1 f.1 in
+        let hx = found_there fs h l x n is.1 f.1 in
         let e = part_to l t.rate (type_of x).rate d (found l x n) in
-        here_both code h pc (expr_to l e x pc p k n) (lift_to l t.rate (type_of x).rate d (found l x n) k) (λ lt. expr_sound x e pc p k n is.1 f.1 (part_there h l (type_of x).rate t.rate (type_of x).elem t.elem d (found l x n) is.0.reaches is.0.elem hd hx) lk lp lt) (λ lt. lift_to_sound code h l (type_of x).rate t.rate (type_of x).elem t.elem d (found l x n) k is.0.reaches is.0.elem hd hx lk)
+        here_both code h pc (expr_to l e x pc p k n) (lift_to l t.rate (type_of x).rate d (found l x n) k) (λ lt. expr_sound x e pc p k n is.1 f.1 (part_there fs h l (type_of x).rate t.rate (type_of x).elem t.elem d (found l x n) is.0.reaches is.0.elem hd hx) lk lp lt) (λ lt. lift_to_sound code h fs l (type_of x).rate t.rate (type_of x).elem t.elem d (found l x n) k is.0.reaches is.0.elem hd hx lk)
     expr_sound (t_unary o x t sp) d pc p k n is f hd lk lp =
-        here_then code h pc (operand_of l t.rate x k n (expr_code l x pc p k n)) (unary t.rate o d (operand l t.rate x n) k) (operand_sound code h l t.rate t.elem x pc k n (expr_code l x pc p k n) is.0 is.1 f.1 lk (λ lt. expr_sound x (found l x n) pc p k n is.1 f.1.1 (found_there h l x n is.1 f.1.1) lk lp lt)) (unary_sound code h t.rate o t.elem d (operand l t.rate x n) k is.2 hd (operand_there h l t.rate t.elem x n is.0 is.1 f.1) lk)
+        here_then code h pc (operand_of l t.rate x k n (expr_code l x pc p k n)) (unary t.rate o d (operand l t.rate x n) k) (operand_sound code h fs l t.rate t.elem x pc k n (expr_code l x pc p k n) is.0 is.1 f.1 lk (λ lt. expr_sound x (found l x n) pc p k n is.1 f.1.1 (found_there fs h l x n is.1 f.1.1) lk lp lt)) (unary_sound code h t.rate o t.elem d (operand l t.rate x n) k is.2 hd (operand_there fs h l t.rate t.elem x n is.0 is.1 f.1) lk)
     expr_sound (t_binary o x y t sp) d pc p k n is f hd lk lp =
         let px = expr_places l x in
         let py = expr_places l y in
         let back = few_back (length code.places) p px (py ++ operate_places o sp) lp in
         pair_sound code h pc (operand_of l t.rate x k n (expr_code l x pc p k n)) (λ pc1. operand_of l t.rate y k (n + 1) (expr_code l y pc1 (p + length px) k (n + 1))) (operate t.rate o d (operand l t.rate x n) (operand l t.rate y (n + 1)) k (p + length px + length py))
-        (operand_sound code h l t.rate t.elem x pc k n (expr_code l x pc p k n) is.0 is.2 f.1.1.0 lk (λ lt. expr_sound x (found l x n) pc p k n is.2 f.1.1.0.1 (found_there h l x n is.2 f.1.1.0.1) lk (few_front (length code.places) p px (py ++ operate_places o sp) lp) lt))
-        (λ pc1. operand_sound code h l t.rate t.elem y pc1 k (n + 1) (expr_code l y pc1 (p + length px) k (n + 1)) is.1 is.3 f.1.1.1 lk (λ lt. expr_sound y (found l y (n + 1)) pc1 (p + length px) k (n + 1) is.3 f.1.1.1.1 (found_there h l y (n + 1) is.3 f.1.1.1.1) lk (few_front (length code.places) (p + length px) py (operate_places o sp) back) lt))
-        (operate_sound code h t.rate o t.elem d (operand l t.rate x n) (operand l t.rate y (n + 1)) k (p + length px + length py) sp is.4 hd (operand_there h l t.rate t.elem x n is.0 is.2 f.1.1.0) (operand_there h l t.rate t.elem y (n + 1) is.1 is.3 f.1.1.1) lk (few_back (length code.places) (p + length px) py (operate_places o sp) back))
+        (operand_sound code h fs l t.rate t.elem x pc k n (expr_code l x pc p k n) is.0 is.2 f.1.1.0 lk (λ lt. expr_sound x (found l x n) pc p k n is.2 f.1.1.0.1 (found_there fs h l x n is.2 f.1.1.0.1) lk (few_front (length code.places) p px (py ++ operate_places o sp) lp) lt))
+        (λ pc1. operand_sound code h fs l t.rate t.elem y pc1 k (n + 1) (expr_code l y pc1 (p + length px) k (n + 1)) is.1 is.3 f.1.1.1 lk (λ lt. expr_sound y (found l y (n + 1)) pc1 (p + length px) k (n + 1) is.3 f.1.1.1.1 (found_there fs h l y (n + 1) is.3 f.1.1.1.1) lk (few_front (length code.places) (p + length px) py (operate_places o sp) back) lt))
+        (operate_sound code h t.rate o t.elem d (operand l t.rate x n) (operand l t.rate y (n + 1)) k (p + length px + length py) sp is.4 hd (operand_there fs h l t.rate t.elem x n is.0 is.2 f.1.1.0) (operand_there fs h l t.rate t.elem y (n + 1) is.1 is.3 f.1.1.1) lk (few_back (length code.places) (p + length px) py (operate_places o sp) back))
     expr_sound (t_compare c x y r sp) d pc p k n is f hd lk lp =
         let px = expr_places l x in
         let py = expr_places l y in
         pair_sound code h pc (operand_of l r x k n (expr_code l x pc p k n)) (λ pc1. operand_of l r y k (n + 1) (expr_code l y pc1 (p + length px) k (n + 1))) (compare r c d (operand l r x n) (operand l r y (n + 1)) k)
-        (operand_sound code h l r (type_of x).elem x pc k n (expr_code l x pc p k n) is.0 is.2 f.1.1.0 lk (λ lt. expr_sound x (found l x n) pc p k n is.2 f.1.1.0.1 (found_there h l x n is.2 f.1.1.0.1) lk (few_front (length code.places) p px py lp) lt))
-        (λ pc1. operand_sound code h l r (type_of x).elem y pc1 k (n + 1) (expr_code l y pc1 (p + length px) k (n + 1)) is.1 is.3 f.1.1.1 lk (λ lt. expr_sound y (found l y (n + 1)) pc1 (p + length px) k (n + 1) is.3 f.1.1.1.1 (found_there h l y (n + 1) is.3 f.1.1.1.1) lk (few_back (length code.places) p px py lp) lt))
-        (compare_sound code h r c (type_of x).elem d (operand l r x n) (operand l r y (n + 1)) k hd (operand_there h l r (type_of x).elem x n is.0 is.2 f.1.1.0) (operand_there h l r (type_of x).elem y (n + 1) is.1 is.3 f.1.1.1) lk)
+        (operand_sound code h fs l r (type_of x).elem x pc k n (expr_code l x pc p k n) is.0 is.2 f.1.1.0 lk (λ lt. expr_sound x (found l x n) pc p k n is.2 f.1.1.0.1 (found_there fs h l x n is.2 f.1.1.0.1) lk (few_front (length code.places) p px py lp) lt))
+        (λ pc1. operand_sound code h fs l r (type_of x).elem y pc1 k (n + 1) (expr_code l y pc1 (p + length px) k (n + 1)) is.1 is.3 f.1.1.1 lk (λ lt. expr_sound y (found l y (n + 1)) pc1 (p + length px) k (n + 1) is.3 f.1.1.1.1 (found_there fs h l y (n + 1) is.3 f.1.1.1.1) lk (few_back (length code.places) p px py lp) lt))
+        (compare_sound code h r c (type_of x).elem d (operand l r x n) (operand l r y (n + 1)) k hd (operand_there fs h l r (type_of x).elem x n is.0 is.2 f.1.1.0) (operand_there fs h l r (type_of x).elem y (n + 1) is.1 is.3 f.1.1.1) lk)
     expr_sound (t_logic g x y r sp) d pc p k n is f hd lk lp =
         let px = expr_places l x in
         let py = expr_places l y in
-        logic_sound code h l r g (l.spare r Truth n) (operand l r x n) (operand l r y (n + 1)) pc k n (operand_of l r x k n (expr_code l x pc p k n)) (λ pc1 m. operand_of l r y m (n + 1) (expr_code l y pc1 (p + length px) m (n + 1))) f.0 (operand_there h l r Truth x n is.0 is.2 f.1.1.1.0) (operand_there h l r Truth y (n + 1) is.1 is.3 f.1.1.1.1) lk f.1.0
-        (operand_sound code h l r Truth x pc k n (expr_code l x pc p k n) is.0 is.2 f.1.1.1.0 lk (λ lt. expr_sound x (found l x n) pc p k n is.2 f.1.1.1.0.1 (found_there h l x n is.2 f.1.1.1.0.1) lk (few_front (length code.places) p px py lp) lt))
-        (λ pc1 m lm. operand_sound code h l r Truth y pc1 m (n + 1) (expr_code l y pc1 (p + length px) m (n + 1)) is.1 is.3 f.1.1.1.1 lm (λ lt. expr_sound y (found l y (n + 1)) pc1 (p + length px) m (n + 1) is.3 f.1.1.1.1.1 (found_there h l y (n + 1) is.3 f.1.1.1.1.1) lm (few_back (length code.places) p px py lp) lt))
+        logic_sound code h fs l r g (l.spare r Truth n) (operand l r x n) (operand l r y (n + 1)) pc k n (operand_of l r x k n (expr_code l x pc p k n)) (λ pc1 m. operand_of l r y m (n + 1) (expr_code l y pc1 (p + length px) m (n + 1))) f.0 (operand_there fs h l r Truth x n is.0 is.2 f.1.1.1.0) (operand_there fs h l r Truth y (n + 1) is.1 is.3 f.1.1.1.1) lk f.1.0
+        (operand_sound code h fs l r Truth x pc k n (expr_code l x pc p k n) is.0 is.2 f.1.1.1.0 lk (λ lt. expr_sound x (found l x n) pc p k n is.2 f.1.1.1.0.1 (found_there fs h l x n is.2 f.1.1.1.0.1) lk (few_front (length code.places) p px py lp) lt))
+        (λ pc1 m lm. operand_sound code h fs l r Truth y pc1 m (n + 1) (expr_code l y pc1 (p + length px) m (n + 1)) is.1 is.3 f.1.1.1.1 lm (λ lt. expr_sound y (found l y (n + 1)) pc1 (p + length px) m (n + 1) is.3 f.1.1.1.1.1 (found_there fs h l y (n + 1) is.3 f.1.1.1.1.1) lm (few_back (length code.places) p px py lp) lt))
     expr_sound (t_choose c x y t sp) d pc p k n is f hd lk lp =
         let pl = expr_places l c in
         let px = expr_places l x in
@@ -88,24 +99,53 @@ module _ (code : Listing) (h : Routine) (l : Layout) where
         let ny = second_slot (type_of c).rate n in
         let back = few_back (length code.places) p pl (px ++ py) lp in
         choose_there (is_short l t.rate c x y) d c x y t sp pc k n (expr_code l c pc p k n) (λ pc1 m i. operand_of l t.rate x m i (expr_code l x pc1 (p + length pl) m i)) (λ pc1 m i. operand_of l t.rate y m i (expr_code l y pc1 (p + length pl + length px) m i)) refl is f hd lk
-        (λ lt. expr_sound c (found l c n) pc p k n is.3 f.1.0 (found_there h l c n is.3 f.1.0) lk (few_front (length code.places) p pl (px ++ py) lp) lt)
-        (λ pc1 m lm. operand_sound code h l t.rate t.elem x pc1 m nx (expr_code l x pc1 (p + length pl) m nx) is.1 is.4 f.1.1.0 lm (λ lt. expr_sound x (found l x nx) pc1 (p + length pl) m nx is.4 f.1.1.0.1 (found_there h l x nx is.4 f.1.1.0.1) lm (few_front (length code.places) (p + length pl) px py back) lt))
-        (λ pc1 m lm. operand_sound code h l t.rate t.elem y pc1 m ny (expr_code l y pc1 (p + length pl + length px) m ny) is.2 is.5 f.1.1.1.0 lm (λ lt. expr_sound y (found l y ny) pc1 (p + length pl + length px) m ny is.5 f.1.1.1.0.1 (found_there h l y ny is.5 f.1.1.1.0.1) lm (few_back (length code.places) (p + length pl) px py back) lt))
-    expr_sound (t_call c t) d pc p k n is f hd lk lp = absurd is
+        (λ lt. expr_sound c (found l c n) pc p k n is.3 f.1.0 (found_there fs h l c n is.3 f.1.0) lk (few_front (length code.places) p pl (px ++ py) lp) lt)
+        (λ pc1 m lm. operand_sound code h fs l t.rate t.elem x pc1 m nx (expr_code l x pc1 (p + length pl) m nx) is.1 is.4 f.1.1.0 lm (λ lt. expr_sound x (found l x nx) pc1 (p + length pl) m nx is.4 f.1.1.0.1 (found_there fs h l x nx is.4 f.1.1.0.1) lm (few_front (length code.places) (p + length pl) px py back) lt))
+        (λ pc1 m lm. operand_sound code h fs l t.rate t.elem y pc1 m ny (expr_code l y pc1 (p + length pl + length px) m ny) is.2 is.5 f.1.1.1.0 lm (λ lt. expr_sound y (found l y ny) pc1 (p + length pl + length px) m ny is.5 f.1.1.1.0.1 (found_there fs h l y ny is.5 f.1.1.1.0.1) lm (few_back (length code.places) (p + length pl) px py back) lt))
+    expr_sound (t_call c t) d pc p k n is f hd lk lp = call_sound c (Some t) (Some (register t.rate d)) pc p k n is f.1 (result_given h t.rate t.elem d hd) (result_there h t.rate t.elem d hd, tt) lk lp
     expr_sound (t_library g e xs t sp) d pc p k n is f hd lk lp = absurd is
     expr_sound (t_packed_store b x sp) d pc p k n is f hd lk lp = absurd is
     expr_sound (t_packed_load b v sp) d pc p k n is f hd lk lp = absurd is
 
     -- the index of a place
-    pub place_sound : (q : TPlace) (pc p k n : ℕ) → PlaceTree q → Granted h l (target_asks q n) → k < h.masks → Named p (index_places l q) → Here code h pc (index_code l q pc p k n)
+    pub place_sound : (q : TPlace) (pc p k n : ℕ) → PlaceTree fs q → Granted h l (target_asks q n) → k < h.masks → Named code h l p (index_places l q) → Here code h pc (index_code l q pc p k n)
     place_sound (t_variable v t sp) pc p k n is f lk lp = λ lt. tt
     place_sound (t_element b i t sp) pc p k n is f lk lp =
-        index_sound code h l t.rate i pc k n (expr_code l i pc p k n) is.1 is.2 f.1 lk (λ lt. expr_sound i (found l i n) pc p k n is.2 f.1.1.1 (found_there h l i n is.2 f.1.1.1) lk lp lt)
+        index_sound code h fs l t.rate i pc k n (expr_code l i pc p k n) is.1 is.2 f.1 lk (λ lt. expr_sound i (found l i n) pc p k n is.2 f.1.1.1 (found_there fs h l i n is.2 f.1.1.1) lk lp lt)
 
-  pub value_sound : (x : TExpr) (n : ℕ) → ExprTree x → Granted h l (expr_asks x n) → PartSound code h (expr_places l x) (λ pc p k. expr_code l x pc p k n)
-  value_sound x n is f pc p k lk lp lt = expr_sound x (found l x n) pc p k n is f (found_there h l x n is f) lk lp lt
+    -- a call has what its callee's routine asks
+    pub call_sound : (c : TCall) (answer : Option Ty) (d : Option Register) (pc p k n : ℕ) → CallTree fs c answer → Granted h l (call_asks c n) → IsGiven h (returns_of answer) d → AllFine code h (result_operands d) → k < h.masks → Named code h l p (call_places l c) → Here code h pc (call_code l d c pc p k n)
+    call_sound (t_called f xs sp) answer d pc p k n is g given there lk lp =
+        let vs = params_of is.0 in
+        let er : rates_held vs ≡ l.rates f = sym (ap (λ z. z f) links.rates ∙ ap rates_of is.1) in
+        let to = links.headers f is.0 is.1 in
+        let ps = arguments_places l xs in
+        here_then code h pc (arguments_code l (l.rates f) xs pc p k n) (calling l d f xs (p + length ps) k n) (subst (λ rs. Here code h pc (arguments_code l rs xs pc p k n)) er (arguments_sound vs xs pc p k n is.3 g lk (few_front (length code.places) p ps (sp ∷ []) lp)))
+        (calling_sound code h l d f xs (p + length ps) k n is.0 to (subst (λ a. IsGiven h a d) (sym (to.returns ∙ ap returns_of is.2)) given) there lk (few_back (length code.places) p ps (sp ∷ []) lp) (subst (λ rs. ArePassed h to.routine.params (argument_registers l rs xs n)) er (arguments_passed fs h l vs xs to.routine.params n is.3 g to.params)))
+
+    arguments_sound : (vs : List Variable) (xs : TArguments) (pc p k n : ℕ) → ArgumentsTree fs vs xs → Granted h l (arguments_asks xs n) → k < h.masks → Named code h l p (arguments_places l xs) → Here code h pc (arguments_code l (rates_held vs) xs pc p k n)
+    arguments_sound [] t_no_arguments pc p k n is f lk lp = λ lt. tt
+    arguments_sound [] (t_argument_then x xs) pc p k n is f lk lp = absurd is
+    arguments_sound (v ∷ vs) t_no_arguments pc p k n is f lk lp = absurd is
+    arguments_sound (v ∷ vs) (t_argument_then x xs) pc p k n is f lk lp =
+        let px = argument_places l x in
+        let ca = argument_code l (rate_held v.holds) x pc p k n in
+        here_both code h pc ca (arguments_code l (rates_held vs) xs (pc + length ca) (p + length px) k (n + 1)) (argument_sound v.holds x pc p k n is.0 f.1.0 lk (few_front (length code.places) p px (arguments_places l xs) lp)) (arguments_sound vs xs (pc + length ca) (p + length px) k (n + 1) is.1 f.1.1 lk (few_back (length code.places) p px (arguments_places l xs) lp))
+
+    argument_sound : (y : Held) (x : TArgument) (pc p k n : ℕ) → ArgumentTree fs y x → Granted h l (argument_asks x n) → k < h.masks → Named code h l p (argument_places l x) → Here code h pc (argument_code l (rate_held y) x pc p k n)
+    argument_sound (holds.Value t) (t_by_value x) pc p k n is f lk lp =
+        let g = taken_there h l t.rate x n (expr_asks x n) f in
+        operand_sound code h fs l t.rate t.elem x pc k n (expr_code l x pc p k n) is.0 is.1 g lk (λ lt. expr_sound x (found l x n) pc p k n is.1 f.1 (found_there fs h l x n is.1 f.1) lk lp lt)
+    argument_sound (holds.Value t) (t_by_name b sp) pc p k n is f lk lp = absurd is
+    argument_sound (holds.Given e) (t_by_value x) pc p k n is f lk lp = absurd is
+    argument_sound (holds.Given e) (t_by_name b sp) pc p k n is f lk lp = λ lt. tt
+    argument_sound (holds.Local t m) (t_by_value x) pc p k n is f lk lp = absurd is
+    argument_sound (holds.Local t m) (t_by_name b sp) pc p k n is f lk lp = absurd is
+
+  pub value_sound : (x : TExpr) (n : ℕ) → ExprTree fs x → Granted h l (expr_asks x n) → PartSound code h (expr_places l x) (λ pc p k. expr_code l x pc p k n)
+  value_sound x n is f pc p k lk lp lt = expr_sound x (found l x n) pc p k n is f (found_there fs h l x n is f) lk lp lt
 
   -- an operand, lifted to its rate
-  pub part_sound : (r : Rate) (t : Elem) (x : TExpr) (pc p k n : ℕ) → OperandTree r t x → ExprTree x → Granted h l (operand_asks r x n) → k < h.masks → Named p (expr_places l x) → Here code h pc (operand_of l r x k n (expr_code l x pc p k n))
+  pub part_sound : (r : Rate) (t : Elem) (x : TExpr) (pc p k n : ℕ) → OperandTree r t x → ExprTree fs x → Granted h l (operand_asks r x n) → k < h.masks → Named code h l p (expr_places l x) → Here code h pc (operand_of l r x k n (expr_code l x pc p k n))
   part_sound r t x pc p k n o is f lk lp =
-      operand_sound code h l r t x pc k n (expr_code l x pc p k n) o is f lk (λ lt. value_sound x n is f.1 pc p k lk lp lt)
+      operand_sound code h fs l r t x pc k n (expr_code l x pc p k n) o is f lk (λ lt. value_sound x n is f.1 pc p k lk lp lt)

@@ -1,12 +1,12 @@
 -- Values are found in registers that are there and of their types.
-use Rattle.std.proofs.Common.{◌≡◌, ℕ, Bool, true, false, refl, sym, ◌∙◌, subst}
+use Rattle.std.proofs.Common.{◌≡◌, ℕ, List, Bool, true, false, refl, sym, ◌∙◌, subst}
 use Rattle.std.specs.Prelude.{◌&&◌}
 use Rattle.isp_base.specs.declared.types.Elem.{Elem}
 use Rattle.isp_base.specs.declared.types.Elem.TheVariants.{I64}
 use Rattle.isp_base.specs.declared.types.Rate.{Rate}
 use Rattle.isp_base.specs.declared.types.Rate.TheVariants.{Uniform, Varying}
 use Rattle.isp_code.specs.Listing.{Routine}
-use Rattle.isp_typed.specs.Typed.{TExpr, t_constant, t_program_index, t_place, t_convert, t_cast, t_unary, t_binary, t_compare, t_logic, t_choose, t_call, t_library, t_packed_store, t_packed_load, TPlace, t_variable, t_element, place_type, type_of}
+use Rattle.isp_typed.specs.Typed.{TExpr, t_constant, t_program_index, t_place, t_convert, t_cast, t_unary, t_binary, t_compare, t_logic, t_choose, t_call, t_library, t_packed_store, t_packed_load, TPlace, t_variable, t_element, TFunction, place_type, type_of}
 use Rattle.isp_lower.specs.Layout.{Layout}
 use Rattle.isp_lower.specs.Code.{same_rate, is_whole, lifted, part_to, place_found, found, operand, whole, index, stays, stays_at}
 use Rattle.isp_lower.specs.Asks.{expr_asks, index_asks, lift_asks, operand_asks, whole_asks}
@@ -25,7 +25,7 @@ pub both_second : (a b : Bool) → (a && b) ≡ true → b ≡ true
 both_second true b e = e
 both_second false b e = absurd (cc)
 
-module _ (h : Routine) (l : Layout) where
+module _ (fs : List TFunction) (h : Routine) (l : Layout) where
   -- ---- a value of one rate where another is wanted
 
   pub lift_there : (given r : Rate) (u t : Elem) (x n : ℕ) → Reaches given r → u ≡ t → Granted h l (lift_asks r given u n) → IsRegister h given x u → IsRegister h r (lifted l r given u x n) t
@@ -47,7 +47,7 @@ module _ (h : Routine) (l : Layout) where
   place_there (t_variable v t sp) n f = f.0
   place_there (t_element b i t sp) n f = f.1
 
-  pub found_there : (x : TExpr) (n : ℕ) → ExprTree x → Granted h l (expr_asks x n) → IsRegister h (type_of x).rate (found l x n) (type_of x).elem
+  pub found_there : (x : TExpr) (n : ℕ) → ExprTree fs x → Granted h l (expr_asks x n) → IsRegister h (type_of x).rate (found l x n) (type_of x).elem
   found_there (t_constant v sp) n is f = f
   found_there (t_program_index sp) n is f = f
   found_there (t_place z) n is f = place_there z n f
@@ -59,28 +59,28 @@ module _ (h : Routine) (l : Layout) where
   found_there (t_compare c x y r sp) n is f = f.0
   found_there (t_logic g x y r sp) n is f = f.0
   found_there (t_choose c x y t sp) n is f = f.0
-  found_there (t_call c t) n is f = absurd is
+  found_there (t_call c t) n is f = f.0
   found_there (t_library g e xs t sp) n is f = absurd is
   found_there (t_packed_store b x sp) n is f = absurd is
   found_there (t_packed_load b v sp) n is f = absurd is
 
-  pub operand_there : (r : Rate) (t : Elem) (x : TExpr) (n : ℕ) → OperandTree r t x → ExprTree x → Granted h l (operand_asks r x n) → IsRegister h r (operand l r x n) t
+  pub operand_there : (r : Rate) (t : Elem) (x : TExpr) (n : ℕ) → OperandTree r t x → ExprTree fs x → Granted h l (operand_asks r x n) → IsRegister h r (operand l r x n) t
   operand_there r t x n o is f = lift_there (type_of x).rate r (type_of x).elem t (found l x n) n o.reaches o.elem f.0 (found_there x n is f.1)
 
   -- ---- an index, as int64
 
-  pub whole_there : (b : Bool) (i : TExpr) (n : ℕ) → is_whole (type_of i).elem ≡ b → ExprTree i → Granted h l (whole_asks i n (expr_asks i n)) → IsRegister h (type_of i).rate (whole l b i n) I64
+  pub whole_there : (b : Bool) (i : TExpr) (n : ℕ) → is_whole (type_of i).elem ≡ b → ExprTree fs i → Granted h l (whole_asks i n (expr_asks i n)) → IsRegister h (type_of i).rate (whole l b i n) I64
   whole_there true i n e is f = let hi = found_there i n is f.1 in (hi.0, hi.1 ∙ whole_is (type_of i).elem e)
   whole_there false i n e is f = f.0
 
-  pub index_there : (r : Rate) (i : TExpr) (n : ℕ) → Reaches (type_of i).rate r → ExprTree i → Granted h l (index_asks r i n (expr_asks i n)) → IsRegister h r (index l r i n) I64
+  pub index_there : (r : Rate) (i : TExpr) (n : ℕ) → Reaches (type_of i).rate r → ExprTree fs i → Granted h l (index_asks r i n (expr_asks i n)) → IsRegister h r (index l r i n) I64
   index_there r i n re is f =
       lift_there (type_of i).rate r I64 I64 (whole l (is_whole (type_of i).elem) i n) n re refl f.0 (whole_there (is_whole (type_of i).elem) i n refl is f.1)
 
   -- ---- a choice
 
   -- one that stays at a rate has that rate
-  pub stayed_there : (r : Rate) (t : Elem) (x : TExpr) (n m : ℕ) → stays_at l r x ≡ true → OperandTree r t x → ExprTree x → Granted h l (expr_asks x m) → IsRegister h r (found l x n) t
+  pub stayed_there : (r : Rate) (t : Elem) (x : TExpr) (n m : ℕ) → stays_at l r x ≡ true → OperandTree r t x → ExprTree fs x → Granted h l (expr_asks x m) → IsRegister h r (found l x n) t
   stayed_there r t x n m e o is f =
       let same = same_rate-is r (type_of x).rate (both_first (same_rate r (type_of x).rate) (stays l x) e) in
       let there : IsRegister h (type_of x).rate (found l x n) (type_of x).elem = subst (λ y. IsRegister h (type_of x).rate y (type_of x).elem) (stays_same l x m n (both_second (same_rate r (type_of x).rate) (stays l x) e)) (found_there x m is f) in

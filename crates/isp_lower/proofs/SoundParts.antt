@@ -11,7 +11,7 @@ use Rattle.isp_code.specs.declared.instr.Instr.{Instr}
 use Rattle.isp_code.specs.declared.instr.Instr.TheVariants as instr
 use Rattle.isp_code.specs.declared.instr.JumpTest.TheVariants as jump
 use Rattle.isp_meaning.specs.Payloads.{converted}
-use Rattle.isp_typed.specs.Typed.{TExpr, type_of}
+use Rattle.isp_typed.specs.Typed.{TExpr, TFunction, type_of}
 use Rattle.isp_typed.specs.declared.variable.Logic.{Logic}
 use Rattle.isp_lower.specs.Layout.{Layout}
 use Rattle.isp_lower.specs.Code.{convert, copy, select, jump_on, jump_off, decided, guard, choice, move_code, same_rate, is_whole, constant_of, needing, pair_code, logic_code, choose_rest, the_others, lift_code, lift_to, convert_to, found, operand, operand_of, whole, whole_of, index_of, choose_code, stays_at, is_short}
@@ -71,7 +71,7 @@ module _ (code : Listing) (h : Routine) where
       let e1 = length-append ca (instr.Jump (pb + length (b pb)) ∷ b pb) in
       (s pb (omega (arith, e1, lt)), sound_both code h ca (instr.Jump (pb + length (b pb)) ∷ b pb) (f (pc + 1) (omega (arith, e1, lt))) (jump_sound code h (pb + length (b pb)) (omega (arith, e1, lt)), g pb (omega (arith, e1, lt))))
 
-  module _ (l : Layout) where
+  module _ (fs : List TFunction) (l : Layout) where
     -- `&&` and `||`
     pub logic_sound : (r : Rate) (g : Logic) (d x y pc k n : ℕ) (a : List Instr) (b : ℕ → ℕ → List Instr) → IsRegister h r d Truth → IsRegister h r x Truth → IsRegister h r y Truth → k < h.masks → Granted h l (test_asks r n) → Here pc a → AnyMask b → Here pc (logic_code r g d x y pc k n a b)
     logic_sound Uniform g d x y pc k n a b hd hx hy lk test f t =
@@ -99,7 +99,7 @@ module _ (code : Listing) (h : Routine) where
     pub lift_sound : (given r : Rate) (u t : Elem) (x k n : ℕ) → Reaches given r → u ≡ t → Granted h l (lift_asks r given u n) → IsRegister h given x u → k < h.masks → AreSound code h (lift_code l r given u x k n)
     lift_sound Uniform Uniform u t x k n is e f hx lk = tt
     lift_sound Uniform Varying u t x k n is e f hx lk =
-        (splat_sound code h t (l.spare Varying u n) x k (lift_there h l Uniform Varying u t x n is e f hx) (hx.0, hx.1 ∙ e) lk, tt)
+        (splat_sound code h t (l.spare Varying u n) x k (lift_there fs h l Uniform Varying u t x n is e f hx) (hx.0, hx.1 ∙ e) lk, tt)
     lift_sound Varying Uniform u t x k n is e f hx lk = absurd is
     lift_sound Varying Varying u t x k n is e f hx lk = tt
 
@@ -109,9 +109,9 @@ module _ (code : Listing) (h : Routine) where
     lift_to_sound Varying Uniform u t d x k is e hd hx lk = absurd is
     lift_to_sound Varying Varying u t d x k is e hd hx lk = tt
 
-    pub operand_sound : (r : Rate) (t : Elem) (x : TExpr) (pc k n : ℕ) (a : List Instr) → OperandTree r t x → ExprTree x → Granted h l (operand_asks r x n) → k < h.masks → Here pc a → Here pc (operand_of l r x k n a)
+    pub operand_sound : (r : Rate) (t : Elem) (x : TExpr) (pc k n : ℕ) (a : List Instr) → OperandTree r t x → ExprTree fs x → Granted h l (operand_asks r x n) → k < h.masks → Here pc a → Here pc (operand_of l r x k n a)
     operand_sound r t x pc k n a o is f lk s =
-        here_both pc a (lift_code l r (type_of x).rate (type_of x).elem (found l x n) k n) s (λ lt. lift_sound (type_of x).rate r (type_of x).elem t (found l x n) k n o.reaches o.elem f.0 (found_there h l x n is f.1) lk)
+        here_both pc a (lift_code l r (type_of x).rate (type_of x).elem (found l x n) k n) s (λ lt. lift_sound (type_of x).rate r (type_of x).elem t (found l x n) k n o.reaches o.elem f.0 (found_there fs h l x n is f.1) lk)
 
     -- ---- a value of one type where another is wanted
 
@@ -125,15 +125,15 @@ module _ (code : Listing) (h : Routine) where
         go None is = here_then pc a (convert (type_of x).rate d (found l x n) k) f (convert_sound code h (type_of x).rate e (type_of x).elem d (found l x n) k hd hx lk)
         go (Some v) is = λ lt. (constant_sound code h e d (converted v.elem e v.bits) (uniform v is), tt)
 
-    whole_sound : (b : Bool) (i : TExpr) (pc k n : ℕ) (a : List Instr) → ExprTree i → Granted h l (whole_asks i n (expr_asks i n)) → k < h.masks → Here pc a → Here pc (whole_of l b i k n a)
+    whole_sound : (b : Bool) (i : TExpr) (pc k n : ℕ) (a : List Instr) → ExprTree fs i → Granted h l (whole_asks i n (expr_asks i n)) → k < h.masks → Here pc a → Here pc (whole_of l b i k n a)
     whole_sound true i pc k n a is f lk s = s
     whole_sound false i pc k n a is f lk s =
-        convert_to_sound i I64 (l.spare (type_of i).rate I64 n) pc k n a f.0 (found_there h l i n is f.1) lk s
+        convert_to_sound i I64 (l.spare (type_of i).rate I64 n) pc k n a f.0 (found_there fs h l i n is f.1) lk s
 
-    pub index_sound : (r : Rate) (i : TExpr) (pc k n : ℕ) (a : List Instr) → Reaches (type_of i).rate r → ExprTree i → Granted h l (index_asks r i n (expr_asks i n)) → k < h.masks → Here pc a → Here pc (index_of l r i k n a)
+    pub index_sound : (r : Rate) (i : TExpr) (pc k n : ℕ) (a : List Instr) → Reaches (type_of i).rate r → ExprTree fs i → Granted h l (index_asks r i n (expr_asks i n)) → k < h.masks → Here pc a → Here pc (index_of l r i k n a)
     index_sound r i pc k n a re is f lk s =
         let x = whole l (is_whole (type_of i).elem) i n in
-        here_both pc (whole_of l (is_whole (type_of i).elem) i k n a) (lift_code l r (type_of i).rate I64 x k n) (whole_sound (is_whole (type_of i).elem) i pc k n a is f.1 lk s) (λ lt. lift_sound (type_of i).rate r I64 I64 x k n re refl f.0 (whole_there h l (is_whole (type_of i).elem) i n refl is f.1) lk)
+        here_both pc (whole_of l (is_whole (type_of i).elem) i k n a) (lift_code l r (type_of i).rate I64 x k n) (whole_sound (is_whole (type_of i).elem) i pc k n a is f.1 lk s) (λ lt. lift_sound (type_of i).rate r I64 I64 x k n re refl f.0 (whole_there fs h l (is_whole (type_of i).elem) i n refl is f.1) lk)
 
     -- by a uniform test, or by a varying one; the value goes to slot n
     pub choose_sound : (g r : Rate) (t : Elem) (x y : TExpr) (c pc k n : ℕ) (test : List Instr) (a b : ℕ → ℕ → ℕ → List Instr) → Reaches g r → IsRegister h g c Truth → IsRegister h r (l.spare r t n) t → IsRegister h r (operand l r x (first_slot g n)) t → IsRegister h r (operand l r y (second_slot g n)) t → k < h.masks → Granted h l (sides_ask g n) → Here pc test → AnyMask (λ pc m. a pc m (first_slot g n)) → AnyMask (λ pc m. b pc m (second_slot g n)) → Here pc (choose_code l g r t x y c pc k n test a b)
@@ -146,10 +146,10 @@ module _ (code : Listing) (h : Routine) where
         here_both pc test rest s (rest_sound t (l.spare Varying t n) c (operand l Varying x (n + 1)) (operand l Varying y (n + 2)) (pc + length test) k n a b hd hc hx hy lk masks f g)
 
     -- between two variables one instruction is enough
-    pub short_sound : (r : Rate) (t : Elem) (c x y : TExpr) (d k n mx my : ℕ) → is_short l r c x y ≡ true → IsRegister h r d t → OperandTree r Truth c → OperandTree r t x → OperandTree r t y → ExprTree c → ExprTree x → ExprTree y → Granted h l (expr_asks c n) → Granted h l (expr_asks x mx) → Granted h l (expr_asks y my) → k < h.masks → IsSound code h (select r d (found l c n) (found l x n) (found l y n) k)
+    pub short_sound : (r : Rate) (t : Elem) (c x y : TExpr) (d k n mx my : ℕ) → is_short l r c x y ≡ true → IsRegister h r d t → OperandTree r Truth c → OperandTree r t x → OperandTree r t y → ExprTree fs c → ExprTree fs x → ExprTree fs y → Granted h l (expr_asks c n) → Granted h l (expr_asks x mx) → Granted h l (expr_asks y my) → k < h.masks → IsSound code h (select r d (found l c n) (found l x n) (found l y n) k)
     short_sound r t c x y d k n mx my e hd oc ox oy ic ix iy fc fx fy lk =
         let same = same_rate-is r (type_of c).rate (both_first (same_rate r (type_of c).rate) (stays_at l r x && stays_at l r y) e) in
         let both = both_second (same_rate r (type_of c).rate) (stays_at l r x && stays_at l r y) e in
-        let hc = found_there h l c n ic fc in
+        let hc = found_there fs h l c n ic fc in
         let test : IsRegister h r (found l c n) Truth = subst (λ u. IsRegister h r (found l c n) u) oc.elem (subst (λ q. IsRegister h q (found l c n) (type_of c).elem) (sym same) hc) in
-        select_sound code h r t d (found l c n) (found l x n) (found l y n) k hd test (stayed_there h l r t x n mx (both_first (stays_at l r x) (stays_at l r y) both) ox ix fx) (stayed_there h l r t y n my (both_second (stays_at l r x) (stays_at l r y) both) oy iy fy) lk
+        select_sound code h r t d (found l c n) (found l x n) (found l y n) k hd test (stayed_there fs h l r t x n mx (both_first (stays_at l r x) (stays_at l r y) both) ox ix fx) (stayed_there fs h l r t y n my (both_second (stays_at l r x) (stays_at l r y) both) oy iy fy) lk

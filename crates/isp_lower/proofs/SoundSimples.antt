@@ -1,5 +1,5 @@
 -- Each instruction of the code of what stands before a semicolon has its operands, and so has that of declarations.
-use Rattle.std.proofs.Common.{◌≡◌, ℕ, ◌+◌, ◌<◌, List, [], ◌∷◌, ◌++◌, length, Bool, true, false, refl, ◌∙◌, arith}
+use Rattle.std.proofs.Common.{◌≡◌, ℕ, ◌+◌, ◌<◌, List, [], ◌∷◌, ◌++◌, length, Option, None, Bool, true, false, refl, ◌∙◌, arith}
 use Rattle.isp_base.specs.Ranks.{same_elem}
 use Rattle.isp_base.specs.declared.operators.BinOp.{BinOp}
 use Rattle.isp_base.specs.declared.types.Elem.{Elem}
@@ -7,39 +7,39 @@ use Rattle.isp_base.specs.declared.types.Rate.{Rate}
 use Rattle.isp_base.specs.declared.types.Rate.TheVariants.{Uniform, Varying}
 use Rattle.isp_base.specs.declared.types.Span.{Span}
 use Rattle.isp_code.specs.Listing.{Listing, Routine}
-use Rattle.isp_typed.specs.Typed.{TExpr, TPlace, t_variable, t_element, TItem, t_plain, t_with_value, t_with_size, TSimple, t_value, t_run, t_assign, t_update, t_step, place_type, type_of}
+use Rattle.isp_typed.specs.Typed.{TExpr, TPlace, t_variable, t_element, TItem, t_plain, t_with_value, t_with_size, TFunction, TSimple, t_value, t_run, t_assign, t_update, t_step, place_type, type_of}
 use Rattle.isp_lower.specs.Layout.{Layout}
 use Rattle.isp_lower.specs.Code.{copy, operate_places, write, part_to, lift_to, found, operand, operand_of, index, writes_part, writes_last, expr_places, index_places, expr_to, expr_code, index_code, variable_from, variable_code}
 use Rattle.isp_lower.specs.Items.{zero_code, item_code, item_places, items_code, items_places}
 use Rattle.isp_lower.specs.Asks.{beyond, change_asks, item_asks, items_asks, operand_asks, simple_asks, step_asks, target_asks, work_asks, zero_asks}
 use Rattle.isp_lower.specs.Simple.{update_to, change_code, change_places, one_in, one_code, assign_code, assign_places, change_by_code, step_code, simple_code, simple_places}
-use Rattle.isp_lower.specs.Sound.{AreSound, PartSound, IsRegister, Granted}
+use Rattle.isp_lower.specs.Sound.{AreSound, Links, PartSound, IsRegister, Granted}
 use Rattle.isp_lower.proofs.Splits.{same_elem-is}
-use Rattle.isp_lower.proofs.SoundExprs.{Named, array_there, expr_sound, place_sound, part_sound, value_sound}
+use Rattle.isp_lower.proofs.SoundExprs.{Named, array_there, call_sound, expr_sound, place_sound, part_sound, value_sound}
 use Rattle.isp_lower.proofs.SoundFound.{part_there, lift_there, found_there, operand_there, index_there}
 use Rattle.isp_lower.proofs.SoundLines.{copy_sound, convert_sound, operate_sound, read_sound, write_sound, constant_sound, splat_sound, sound_both}
 use Rattle.isp_lower.proofs.SoundParts.{few_front, few_back, Here, here_both, here_then, lift_sound, lift_to_sound}
 use Rattle.isp_lower.proofs.Parts.{IsNumber}
 use Rattle.isp_lower.proofs.Trees.{ExprTree, ItemTree, ItemsTree, OperandTree, PlaceTree, SimpleTree}
 
-module _ (code : Listing) (h : Routine) (l : Layout) where
+module _ (fs : List TFunction) (code : Listing) (h : Routine) (l : Layout) (links : Links fs code l) where
   -- ---- a register of a variable gets a value
 
-  from_sound : (b : Bool) (r : Rate) (t : Elem) (d : ℕ) (x : TExpr) (pc p k n : ℕ) → IsRegister h r d t → OperandTree r t x → ExprTree x → Granted h l (operand_asks r x n) → k < h.masks → Named code h l p (expr_places l x) → Here code h pc (variable_from l b r d x pc p k n)
+  from_sound : (b : Bool) (r : Rate) (t : Elem) (d : ℕ) (x : TExpr) (pc p k n : ℕ) → IsRegister h r d t → OperandTree r t x → ExprTree fs x → Granted h l (operand_asks r x n) → k < h.masks → Named code h l p (expr_places l x) → Here code h pc (variable_from l b r d x pc p k n)
   from_sound true r t d x pc p k n hd o is f lk lp =
-      let hx = found_there h l x n is f.1 in
+      let hx = found_there fs h l x n is f.1 in
       let e = part_to l r (type_of x).rate d (found l x n) in
-      here_both code h pc (expr_to l e x pc p k n) (lift_to l r (type_of x).rate d (found l x n) k) (expr_sound code h l x e pc p k n is f.1 (part_there h l (type_of x).rate r (type_of x).elem t d (found l x n) o.reaches o.elem hd hx) lk lp) (λ lt. lift_to_sound code h l (type_of x).rate r (type_of x).elem t d (found l x n) k o.reaches o.elem hd hx lk)
+      here_both code h pc (expr_to l e x pc p k n) (lift_to l r (type_of x).rate d (found l x n) k) (expr_sound fs code h l links x e pc p k n is f.1 (part_there fs h l (type_of x).rate r (type_of x).elem t d (found l x n) o.reaches o.elem hd hx) lk lp) (λ lt. lift_to_sound code h fs l (type_of x).rate r (type_of x).elem t d (found l x n) k o.reaches o.elem hd hx lk)
   from_sound false r t d x pc p k n hd o is f lk lp =
-      here_then code h pc (operand_of l r x k n (expr_code l x pc p k n)) (copy r d (operand l r x n) k) (part_sound code h l r t x pc p k n o is f lk lp) (copy_sound code h r t d (operand l r x n) k hd (operand_there h l r t x n o is f) lk)
+      here_then code h pc (operand_of l r x k n (expr_code l x pc p k n)) (copy r d (operand l r x n) k) (part_sound fs code h l links r t x pc p k n o is f lk lp) (copy_sound code h r t d (operand l r x n) k hd (operand_there fs h l r t x n o is f) lk)
 
-  variable_sound : (r : Rate) (t : Elem) (v : ℕ) (x : TExpr) (pc p k n : ℕ) → IsRegister h r (l.variable r v) t → OperandTree r t x → ExprTree x → Granted h l (operand_asks r x n) → k < h.masks → Named code h l p (expr_places l x) → Here code h pc (variable_code l r v x pc p k n)
+  variable_sound : (r : Rate) (t : Elem) (v : ℕ) (x : TExpr) (pc p k n : ℕ) → IsRegister h r (l.variable r v) t → OperandTree r t x → ExprTree fs x → Granted h l (operand_asks r x n) → k < h.masks → Named code h l p (expr_places l x) → Here code h pc (variable_code l r v x pc p k n)
   variable_sound r t v x pc p k n hd o is f lk lp =
       from_sound (writes_part l r (type_of x).rate (writes_last l x)) r t (l.variable r v) x pc p k n hd o is f lk lp
 
   -- ---- assignments
 
-  assign_sound : (z : TPlace) (x : TExpr) (pc p k n : ℕ) → PlaceTree z → OperandTree (place_type z).rate (place_type z).elem x → ExprTree x → Granted h l (target_asks z n) → Granted h l (operand_asks (place_type z).rate x (beyond z n)) → k < h.masks → Named code h l p (assign_places l z x) → Here code h pc (assign_code l z x pc p k n)
+  assign_sound : (z : TPlace) (x : TExpr) (pc p k n : ℕ) → PlaceTree fs z → OperandTree (place_type z).rate (place_type z).elem x → ExprTree fs x → Granted h l (target_asks z n) → Granted h l (operand_asks (place_type z).rate x (beyond z n)) → k < h.masks → Named code h l p (assign_places l z x) → Here code h pc (assign_code l z x pc p k n)
   assign_sound (t_variable v t sp) x pc p k n iz o ix fz f lk lp =
       variable_sound t.rate t.elem v x pc p k n fz o ix f lk (few_front (length code.places) p (expr_places l x) [] lp)
   assign_sound (t_element b i t sp) x pc p k n iz o ix fz f lk lp =
@@ -51,8 +51,8 @@ module _ (code : Listing) (h : Routine) (l : Layout) where
       let cx = operand_of l t.rate x k (n + 1) (expr_code l x pc1 (p + length pi) k (n + 1)) in
       let last = write t.rate (l.array b.number) (index l t.rate i n) (operand l t.rate x (n + 1)) k (p + length pi + length px) in
       let low = few_back (length code.places) (p + length pi) px (sp ∷ []) back in
-      here_both code h pc ci (cx ++ last ∷ []) (place_sound code h l (t_element b i t sp) pc p k n iz fz lk (few_front (length code.places) p pi (px ++ sp ∷ []) lp))
-      (here_then code h pc1 cx last (part_sound code h l t.rate t.elem x pc1 (p + length pi) k (n + 1) o ix f lk (few_front (length code.places) (p + length pi) px (sp ∷ []) back)) (write_sound code h t.rate t.elem (l.array b.number) (index l t.rate i n) (operand l t.rate x (n + 1)) k (p + length pi + length px) (array_there code h l b t.rate t.elem fz.0 iz.0 iz.3) (index_there h l t.rate i n iz.1 iz.2 fz.1) (operand_there h l t.rate t.elem x (n + 1) o ix f) lk (omega (arith, low))))
+      here_both code h pc ci (cx ++ last ∷ []) (place_sound fs code h l links (t_element b i t sp) pc p k n iz fz lk (few_front (length code.places) p pi (px ++ sp ∷ []) lp))
+      (here_then code h pc1 cx last (part_sound fs code h l links t.rate t.elem x pc1 (p + length pi) k (n + 1) o ix f lk (few_front (length code.places) (p + length pi) px (sp ∷ []) back)) (write_sound code h t.rate t.elem (l.array b.number) (index l t.rate i n) (operand l t.rate x (n + 1)) k (p + length pi + length px) (array_there code h l b t.rate t.elem fz.0 iz.0 iz.3) (index_there fs h l t.rate i n iz.1 iz.2 fz.1) (operand_there fs h l t.rate t.elem x (n + 1) o ix f) lk (omega (arith, low))))
 
   -- ---- an operator on a place
 
@@ -63,18 +63,18 @@ module _ (code : Listing) (h : Routine) (l : Layout) where
   update_sound false o t u r d x y k i p sp e is hd hx hy f lk lp =
       (convert_sound code h r t u (l.spare r t i) x k f hx lk, (operate_sound code h r o t (l.spare r t i) (l.spare r t i) y k p sp is f f hy lk lp, (convert_sound code h r u t d (l.spare r t i) k hd f lk, tt)))
 
-  change_sound : (o : BinOp) (t : Elem) (z : TPlace) (y p k n i : ℕ) (sp : Span) → IsNumber t → PlaceTree z → Granted h l (target_asks z n) → Granted h l (change_asks t z i) → IsRegister h (place_type z).rate y t → k < h.masks → Named code h l p (change_places l o z sp) → AreSound code h (change_code l o t z y p k n i)
+  change_sound : (o : BinOp) (t : Elem) (z : TPlace) (y p k n i : ℕ) (sp : Span) → IsNumber t → PlaceTree fs z → Granted h l (target_asks z n) → Granted h l (change_asks t z i) → IsRegister h (place_type z).rate y t → k < h.masks → Named code h l p (change_places l o z sp) → AreSound code h (change_code l o t z y p k n i)
   change_sound o t (t_variable v u s) y p k n i sp is iz fz f hy lk lp =
       update_sound (same_elem u.elem t) o t u.elem u.rate (l.variable u.rate v) (l.variable u.rate v) y k i p sp refl is fz fz hy f.0 lk lp
   change_sound o t (t_element b j u s) y p k n i sp is iz fz f hy lk lp =
       let there = array_there code h l b u.rate u.elem fz.0 iz.0 iz.3 in
-      let at = index_there h l u.rate j n iz.1 iz.2 fz.1 in
+      let at = index_there fs h l u.rate j n iz.1 iz.2 fz.1 in
       let d = l.spare u.rate u.elem i in
       let middle = update_to l (same_elem u.elem t) o t u.rate d d y k i (p + 1) in
       let last = write u.rate (l.array b.number) (index l u.rate j n) d k p in
       (read_sound code h u.rate u.elem d (l.array b.number) (index l u.rate j n) k p f.1 there at lk (omega (arith, lp)), sound_both code h middle (last ∷ []) (update_sound (same_elem u.elem t) o t u.elem u.rate d d y k i (p + 1) sp refl is f.1 f.1 hy f.0 lk (omega (arith, lp))) (write_sound code h u.rate u.elem (l.array b.number) (index l u.rate j n) d k p there at f.1 lk (omega (arith, lp)), tt))
 
-  change_by_sound : (o : BinOp) (t : Elem) (z : TPlace) (x : TExpr) (pc p k n : ℕ) (sp : Span) → IsNumber t → PlaceTree z → OperandTree (place_type z).rate t x → ExprTree x → Granted h l (target_asks z n) → Granted h l (operand_asks (place_type z).rate x (beyond z n)) → Granted h l (change_asks t z (beyond z n + 1)) → k < h.masks → Named code h l p (index_places l z ++ (expr_places l x ++ change_places l o z sp)) → Here code h pc (change_by_code l o t z x pc p k n)
+  change_by_sound : (o : BinOp) (t : Elem) (z : TPlace) (x : TExpr) (pc p k n : ℕ) (sp : Span) → IsNumber t → PlaceTree fs z → OperandTree (place_type z).rate t x → ExprTree fs x → Granted h l (target_asks z n) → Granted h l (operand_asks (place_type z).rate x (beyond z n)) → Granted h l (change_asks t z (beyond z n + 1)) → k < h.masks → Named code h l p (index_places l z ++ (expr_places l x ++ change_places l o z sp)) → Here code h pc (change_by_code l o t z x pc p k n)
   change_by_sound o t z x pc p k n sp is iz ox ix fz f fc lk lp =
       let pz = index_places l z in
       let px = expr_places l x in
@@ -84,10 +84,10 @@ module _ (code : Listing) (h : Routine) (l : Layout) where
       let pc1 = pc + length cz in
       let cx = operand_of l (place_type z).rate x k m (expr_code l x pc1 (p + length pz) k m) in
       let last = change_code l o t z (operand l (place_type z).rate x m) (p + length pz + length px) k n (m + 1) in
-      here_both code h pc cz (cx ++ last) (place_sound code h l z pc p k n iz fz lk (few_front (length code.places) p pz (px ++ change_places l o z sp) lp))
-      (here_both code h pc1 cx last (part_sound code h l (place_type z).rate t x pc1 (p + length pz) k m ox ix f lk (few_front (length code.places) (p + length pz) px (change_places l o z sp) back)) (λ lt. change_sound o t z (operand l (place_type z).rate x m) (p + length pz + length px) k n (m + 1) sp is iz fz fc (operand_there h l (place_type z).rate t x m ox ix f) lk (few_back (length code.places) (p + length pz) px (change_places l o z sp) back)))
+      here_both code h pc cz (cx ++ last) (place_sound fs code h l links z pc p k n iz fz lk (few_front (length code.places) p pz (px ++ change_places l o z sp) lp))
+      (here_both code h pc1 cx last (part_sound fs code h l links (place_type z).rate t x pc1 (p + length pz) k m ox ix f lk (few_front (length code.places) (p + length pz) px (change_places l o z sp) back)) (λ lt. change_sound o t z (operand l (place_type z).rate x m) (p + length pz + length px) k n (m + 1) sp is iz fz fc (operand_there fs h l (place_type z).rate t x m ox ix f) lk (few_back (length code.places) (p + length pz) px (change_places l o z sp) back)))
 
-  step_sound : (o : BinOp) (t : Elem) (z : TPlace) (pc p k n : ℕ) (sp : Span) → IsNumber t → PlaceTree z → Granted h l (step_asks t z n) → k < h.masks → Named code h l p (index_places l z ++ change_places l o z sp) → Here code h pc (step_code l o t z pc p k n)
+  step_sound : (o : BinOp) (t : Elem) (z : TPlace) (pc p k n : ℕ) (sp : Span) → IsNumber t → PlaceTree fs z → Granted h l (step_asks t z n) → k < h.masks → Named code h l p (index_places l z ++ change_places l o z sp) → Here code h pc (step_code l o t z pc p k n)
   step_sound o t z pc p k n sp is iz f lk lp =
       let pz = index_places l z in
       let m = beyond z n in
@@ -95,11 +95,11 @@ module _ (code : Listing) (h : Routine) (l : Layout) where
       let cz = index_code l z pc p k n in
       let one = one_code l r t k m in
       let last = change_code l o t z (one_in l r t m) (p + length pz) k n (m + 1) in
-      here_both code h pc cz (one ++ last) (place_sound code h l z pc p k n iz f.0 lk (few_front (length code.places) p pz (change_places l o z sp) lp)) (λ lt. sound_both code h one last (constant_sound code h t (l.spare Uniform t m) 1 f.1.1.0.0, lift_sound code h l Uniform r t t (l.spare Uniform t m) k m tt refl f.1.1.0.1 f.1.1.0.0 lk) (change_sound o t z (one_in l r t m) (p + length pz) k n (m + 1) sp is iz f.0 f.1.1.1 (lift_there h l Uniform r t t (l.spare Uniform t m) m tt refl f.1.1.0.1 f.1.1.0.0) lk (few_back (length code.places) p pz (change_places l o z sp) lp)))
+      here_both code h pc cz (one ++ last) (place_sound fs code h l links z pc p k n iz f.0 lk (few_front (length code.places) p pz (change_places l o z sp) lp)) (λ lt. sound_both code h one last (constant_sound code h t (l.spare Uniform t m) 1 f.1.1.0.0, lift_sound code h fs l Uniform r t t (l.spare Uniform t m) k m tt refl f.1.1.0.1 f.1.1.0.0 lk) (change_sound o t z (one_in l r t m) (p + length pz) k n (m + 1) sp is iz f.0 f.1.1.1 (lift_there fs h l Uniform r t t (l.spare Uniform t m) m tt refl f.1.1.0.1 f.1.1.0.0) lk (few_back (length code.places) p pz (change_places l o z sp) lp)))
 
-  pub simple_sound : (x : TSimple) (n : ℕ) → SimpleTree x → Granted h l (simple_asks x n) → PartSound code h (simple_places l x) (λ pc p k. simple_code l x pc p k n)
-  simple_sound (t_value x) n is f pc p k lk lp lt = value_sound code h l x n is f pc p k lk lp lt
-  simple_sound (t_run c) n is f pc p k lk lp lt = absurd is
+  pub simple_sound : (x : TSimple) (n : ℕ) → SimpleTree fs x → Granted h l (simple_asks x n) → PartSound code h (simple_places l x) (λ pc p k. simple_code l x pc p k n)
+  simple_sound (t_value x) n is f pc p k lk lp lt = value_sound fs code h l links x n is f pc p k lk lp lt
+  simple_sound (t_run c) n is f pc p k lk lp lt = call_sound fs code h l links c None None pc p k n is f tt tt lk lp lt
   simple_sound (t_assign z x sp) n is f pc p k lk lp lt = assign_sound z x pc p k n is.0 is.1 is.2 f.0 f.1.1 lk lp lt
   simple_sound (t_update o t z x sp) n is f pc p k lk lp lt = change_by_sound o t z x pc p k n sp is.3 is.0 is.1 is.2 f.0 f.1.1.0 f.1.1.1 lk lp lt
   simple_sound (t_step o t z sp) n is f pc p k lk lp lt = step_sound o t z pc p k n sp is.1 is.0 f lk lp lt
@@ -110,12 +110,12 @@ module _ (code : Listing) (h : Routine) (l : Layout) where
   zero_sound Uniform t v k n f lk = (constant_sound code h t (l.variable Uniform v) 0 f, tt)
   zero_sound Varying t v k n f lk = (constant_sound code h t (l.spare Uniform t n) 0 f.0, (splat_sound code h t (l.variable Varying v) (l.spare Uniform t n) k f.1 f.0 lk, tt))
 
-  item_sound : (x : TItem) (pc p k n : ℕ) → ItemTree x → Granted h l (item_asks n x) → k < h.masks → Named code h l p (item_places l x) → Here code h pc (item_code l x pc p k n)
+  item_sound : (x : TItem) (pc p k n : ℕ) → ItemTree fs x → Granted h l (item_asks n x) → k < h.masks → Named code h l p (item_places l x) → Here code h pc (item_code l x pc p k n)
   item_sound (t_plain v t sp) pc p k n is f lk lp = λ lt. zero_sound t.rate t.elem v k n f lk
   item_sound (t_with_value v t x sp) pc p k n is f lk lp = variable_sound t.rate t.elem v x pc p k n f.0 is.0 is.1 f.1 lk lp
   item_sound (t_with_size b sp) pc p k n is f lk lp = λ lt. ((((f.0.0, f.1, tt), ((refl, lk), tt)), tt), tt)
 
-  pub items_sound : (xs : List TItem) (n : ℕ) → ItemsTree xs → Granted h l (items_asks n xs) → PartSound code h (items_places l xs) (λ pc p k. items_code l xs pc p k n)
+  pub items_sound : (xs : List TItem) (n : ℕ) → ItemsTree fs xs → Granted h l (items_asks n xs) → PartSound code h (items_places l xs) (λ pc p k. items_code l xs pc p k n)
   items_sound [] n is f pc p k lk lp = λ lt. tt
   items_sound (x ∷ xs) n is f pc p k lk lp =
       let px = item_places l x in

@@ -1,5 +1,5 @@
 -- Where the last instruction of a node leaves its value: in a spare register, or in a variable.
-use Rattle.std.proofs.Common.{◌≡◌, ℕ, ◌+◌, ◌*◌, ◌<◌, ◌≤◌, Option, Some, None, refl}
+use Rattle.std.proofs.Common.{◌≡◌, ℕ, ◌+◌, ◌*◌, ◌<◌, ◌≤◌, Option, Some, None, refl, ◌∙◌, arith}
 use Rattle.std.specs.Prelude.{slice_get}
 use Rattle.isp_base.specs.Sets.{Mask}
 use Rattle.isp_base.specs.declared.trap.TrapKind.{TrapKind}
@@ -17,10 +17,10 @@ use Rattle.isp_meaning.specs.Places.{written}
 use Rattle.isp_lower.specs.Layout.{Layout}
 use Rattle.isp_lower.specs.Setting.{Setting, IsSettled, At, Stands, at_rate, Holds, Spares}
 use Rattle.isp_lower.specs.Runs.{Comes, Ok, Runs, DoneRuns}
-use Rattle.isp_lower.proofs.Base.{moved_by, spares_on}
+use Rattle.isp_lower.proofs.Base.{at_to, moved_by, spares_on}
 use Rattle.isp_lower.proofs.Rates.{Filled}
 use Rattle.isp_lower.proofs.Lines.{set_at}
-use Rattle.isp_lower.proofs.Combine.{failed_less, stopped_less, runs_after, bind_runs, set_goes, write_checked}
+use Rattle.isp_lower.proofs.Combine.{failed_less, stopped_less, runs_after, bind_runs, set_goes, set_masks, set_spares, set_stands, set_holds, write_checked}
 use Rattle.isp_lower.proofs.Writes.{written_stands, step_done}
 use Rattle.isp_lower.proofs.Done.{done_after, variable_spares}
 
@@ -37,6 +37,11 @@ module _ (w : Setting) where
   abbrev pub Leaves : Target → ℕ → Conf → ℕ → ℕ → ℕ → Rate → Mask → Val Payload → Type 0
   Leaves InSlot d c pc n q r a v = Runs w c pc n q (Holds r a d) v
   Leaves (InVariable x) d c pc n q r a v = DoneRuns w c pc n q (bind v (λ m s. Gives tt (written r x a m s)))
+
+-- a variable that is written costs nothing
+written_bound : (r : Rate) (v : ℕ) (a : Mask) (x : Payload) (s : State) (t q : ℕ) → t + q ≤ 32 * s.work → t + q ≤ 32 * (written r v a x s).work
+written_bound Uniform v a x s t q le = le
+written_bound Varying v a x s t q le = le
 
 module _ (w : Setting) (ready : IsSettled w) where
   pub leaves_after : (g : Target) (d : ℕ) (c c1 : Conf) (t pc n q : ℕ) (r : Rate) (a : Mask) (v : Val Payload) → Comes w c t c1 → Spares w n c c1 → ((r : ℕ) → r < n → c1.masks r ≡ c.masks r) → Leaves w g d c1 pc n (t + q) r a v → Leaves w g d c pc n q r a v
@@ -59,3 +64,31 @@ module _ (w : Setting) (ready : IsSettled w) where
 
   pub write_sure : (g : Target) (c c2 : Conf) (t pc pc' n q : ℕ) (a : Mask) (s : State) (i : Instr) (r : Rate) (e : Elem) (o : Option ℕ) (kind : TrapKind) (sp : Span) (x y : Payload) → Comes w c t c2 → At w c2 pc → pc + 1 ≡ pc' → slice_get w.routine.code pc ≡ Some i → Stands w s c2 → Spares w n c c2 → ((r : ℕ) → r < n → c2.masks r ≡ c.masks r) → t + 1 + q ≤ 32 * s.work → at_rate r a x ≡ y → Filled r a y → act w.code w.routine c2 i ≡ moved_by o kind sp (set_at r c2 (target w.layout g r e n) y) → Leaves w g (target w.layout g r e n) c pc' n q r a (checked o kind sp s x)
   write_sure g c c2 t pc pc' n q a s i r e o kind sp x y h at to has st ke ma le ex fill is = write_leaves g c c2 t pc pc' n q a s i r e o kind sp x y h at to has st ke ma le (λ none. ex) fill is
+
+  -- a value that has come into its register
+  pub came_leaves : (g : Target) (c c2 : Conf) (t pc pc' n q : ℕ) (a : Mask) (s : State) (r : Rate) (e : Elem) (x y : Payload) → Comes w c t (set_at r c2 (target w.layout g r e n) y) → At w c2 pc → pc + 1 ≡ pc' → Stands w s c2 → Spares w n c c2 → ((r : ℕ) → r < n → c2.masks r ≡ c.masks r) → t + q ≤ 32 * s.work → at_rate r a x ≡ y → Filled r a y → Leaves w g (target w.layout g r e n) c pc' n q r a (Gives x s)
+  came_leaves InSlot c c2 t pc pc' n q a s r e x y h at to st ke ma le ex fill =
+      let c3 = set_at r c2 (w.layout.spare r e n) y in
+      record {
+        conf = c3;
+        steps = t;
+        comes = h;
+        at = at_to w c3 (pc + 1) pc' (set_goes w ready r c2 (w.layout.spare r e n) y pc at) to;
+        stands = set_stands w ready r c2 e n y s st;
+        spares = spares_on w n c c2 c3 ke (set_spares w ready r c2 e n n y (omega arith));
+        masks = λ k lt. set_masks w ready r c2 (w.layout.spare r e n) y k ∙ ma k lt;
+        holds = ex ∙ set_holds w ready r c2 (w.layout.spare r e n) a y fill;
+        bound = le;
+      }
+  came_leaves (InVariable v) c c2 t pc pc' n q a s r e x y h at to st ke ma le ex fill =
+      let c3 = set_at r c2 (w.layout.variable r v) y in
+      record {
+        conf = c3;
+        steps = t;
+        comes = h;
+        at = at_to w c3 (pc + 1) pc' (set_goes w ready r c2 (w.layout.variable r v) y pc at) to;
+        stands = written_stands w ready r v c2 a x s y st ex;
+        spares = spares_on w n c c2 c3 ke (variable_spares w ready r v n c2 y);
+        masks = λ k lt. set_masks w ready r c2 (w.layout.variable r v) y k ∙ ma k lt;
+        bound = written_bound r v a x s t q le;
+      }

@@ -1,11 +1,17 @@
 -- What is demanded of the tree alone: operands have the types in which their node works, a uniform part may stand in a
 -- varying node and never the reverse, and a conversion's operand is no conversion.
-use Rattle.std.proofs.Common.{◌≡◌, List, [], ◌∷◌}
+use Rattle.std.proofs.Common.{◌≡◌, List, [], ◌∷◌, Option, Some, None}
+use Rattle.std.specs.Prelude.{slice_get}
 use Rattle.isp_base.specs.declared.types.Elem.{Elem}
 use Rattle.isp_base.specs.declared.types.Elem.TheVariants.{Bool as Truth}
 use Rattle.isp_base.specs.declared.types.Rate.{Rate}
-use Rattle.isp_typed.specs.Fine.{WorksIn, heads}
-use Rattle.isp_typed.specs.Typed.{TExpr, t_constant, t_program_index, t_place, t_convert, t_cast, t_unary, t_binary, t_compare, t_logic, t_choose, t_call, t_library, t_packed_store, t_packed_load, TPlace, t_variable, t_element, TItem, t_plain, t_with_value, t_with_size, TSimple, t_value, t_run, t_assign, t_update, t_step, place_type, type_of}
+use Rattle.isp_base.specs.declared.types.Rate.TheVariants.{Uniform}
+use Rattle.isp_base.specs.declared.types.Ty.{Ty}
+use Rattle.isp_typed.specs.Fine.{WorksIn, heads, params_of}
+use Rattle.isp_typed.specs.declared.variable.Holds.{Holds}
+use Rattle.isp_typed.specs.declared.variable.Holds.TheVariants as holds
+use Rattle.isp_typed.specs.declared.variable.Variable.{Variable}
+use Rattle.isp_typed.specs.Typed.{TExpr, t_constant, t_program_index, t_place, t_convert, t_cast, t_unary, t_binary, t_compare, t_logic, t_choose, t_call, t_library, t_packed_store, t_packed_load, TPlace, t_variable, t_element, TArgument, t_by_value, t_by_name, TCall, t_called, TArguments, t_no_arguments, t_argument_then, TFunction, TItem, t_plain, t_with_value, t_with_size, TSimple, t_value, t_run, t_assign, t_update, t_step, place_type, type_of}
 use Rattle.isp_lower.specs.Rated.{Reaches}
 use Rattle.isp_lower.proofs.Parts.{IsNumber}
 
@@ -13,43 +19,60 @@ pub record OperandTree (r : Rate) (t : Elem) (x : TExpr) : Type 0 where
   pub elem : (type_of x).elem ≡ t
   pub reaches : Reaches (type_of x).rate r
 
-abbrev mutual
-  pub ExprTree : TExpr → Type 0
-  ExprTree (t_constant v sp) = Unit {0}
-  ExprTree (t_program_index sp) = Unit {0}
-  ExprTree (t_place q) = PlaceTree q
-  ExprTree (t_convert e x) = (heads x ≡ 0) × ExprTree x
-  ExprTree (t_cast x t sp) = OperandTree t.rate t.elem x × ExprTree x
-  ExprTree (t_unary o x t sp) = OperandTree t.rate t.elem x × ExprTree x × WorksIn o t.elem
-  ExprTree (t_binary o x y t sp) =
-      OperandTree t.rate t.elem x × OperandTree t.rate t.elem y × ExprTree x × ExprTree y × IsNumber t.elem
-  ExprTree (t_compare c x y r sp) =
-      OperandTree r (type_of x).elem x × OperandTree r (type_of x).elem y × ExprTree x × ExprTree y
-  ExprTree (t_logic g x y r sp) = OperandTree r Truth x × OperandTree r Truth y × ExprTree x × ExprTree y
-  ExprTree (t_choose c x y t sp) =
-      OperandTree t.rate Truth c × OperandTree t.rate t.elem x × OperandTree t.rate t.elem y × ExprTree c × ExprTree x × ExprTree y
-  ExprTree (t_call c t) = ⊥
-  ExprTree (t_library f e xs t sp) = ⊥
-  ExprTree (t_packed_store b x sp) = ⊥
-  ExprTree (t_packed_load b v sp) = ⊥
+-- in a program of these functions
+module _ (fs : List TFunction) where
+  abbrev mutual
+    pub ExprTree : TExpr → Type 0
+    ExprTree (t_constant v sp) = Unit {0}
+    ExprTree (t_program_index sp) = Unit {0}
+    ExprTree (t_place q) = PlaceTree q
+    ExprTree (t_convert e x) = (heads x ≡ 0) × ExprTree x
+    ExprTree (t_cast x t sp) = OperandTree t.rate t.elem x × ExprTree x
+    ExprTree (t_unary o x t sp) = OperandTree t.rate t.elem x × ExprTree x × WorksIn o t.elem
+    ExprTree (t_binary o x y t sp) =
+        OperandTree t.rate t.elem x × OperandTree t.rate t.elem y × ExprTree x × ExprTree y × IsNumber t.elem
+    ExprTree (t_compare c x y r sp) =
+        OperandTree r (type_of x).elem x × OperandTree r (type_of x).elem y × ExprTree x × ExprTree y
+    ExprTree (t_logic g x y r sp) = OperandTree r Truth x × OperandTree r Truth y × ExprTree x × ExprTree y
+    ExprTree (t_choose c x y t sp) =
+        OperandTree t.rate Truth c × OperandTree t.rate t.elem x × OperandTree t.rate t.elem y × ExprTree c × ExprTree x × ExprTree y
+    ExprTree (t_call c t) = CallTree c (Some t)
+    ExprTree (t_library f e xs t sp) = ⊥
+    ExprTree (t_packed_store b x sp) = ⊥
+    ExprTree (t_packed_load b v sp) = ⊥
 
-  pub PlaceTree : TPlace → Type 0
-  PlaceTree (t_variable v t sp) = Unit {0}
-  PlaceTree (t_element b i t sp) =
-      Reaches b.ty.rate t.rate × Reaches (type_of i).rate t.rate × ExprTree i × (b.ty.elem ≡ t.elem)
+    pub PlaceTree : TPlace → Type 0
+    PlaceTree (t_variable v t sp) = Unit {0}
+    PlaceTree (t_element b i t sp) =
+        Reaches b.ty.rate t.rate × Reaches (type_of i).rate t.rate × ExprTree i × (b.ty.elem ≡ t.elem)
 
-abbrev pub SimpleTree : TSimple → Type 0
-SimpleTree (t_value x) = ExprTree x
-SimpleTree (t_run c) = ⊥
-SimpleTree (t_assign z x sp) = PlaceTree z × OperandTree (place_type z).rate (place_type z).elem x × ExprTree x
-SimpleTree (t_update o t z x sp) = PlaceTree z × OperandTree (place_type z).rate t x × ExprTree x × IsNumber t
-SimpleTree (t_step o t z sp) = PlaceTree z × IsNumber t
+    pub CallTree : TCall → Option Ty → Type 0
+    CallTree (t_called f xs sp) answer =
+        (g : TFunction) × (slice_get fs f ≡ Some g) × (g.answer ≡ answer) × ArgumentsTree (params_of g) xs
 
-abbrev pub ItemTree : TItem → Type 0
-ItemTree (t_plain v t sp) = Unit {0}
-ItemTree (t_with_value v t x sp) = OperandTree t.rate t.elem x × ExprTree x
-ItemTree (t_with_size b sp) = Unit {0}
+    pub ArgumentsTree : List Variable → TArguments → Type 0
+    ArgumentsTree [] t_no_arguments = Unit {0}
+    ArgumentsTree [] (t_argument_then x xs) = ⊥
+    ArgumentsTree (v ∷ vs) t_no_arguments = ⊥
+    ArgumentsTree (v ∷ vs) (t_argument_then x xs) = ArgumentTree v.holds x × ArgumentsTree vs xs
 
-abbrev pub ItemsTree : List TItem → Type 0
-ItemsTree [] = Unit {0}
-ItemsTree (x ∷ xs) = ItemTree x × ItemsTree xs
+    pub ArgumentTree : Holds → TArgument → Type 0
+    ArgumentTree (holds.Value t) (t_by_value x) = OperandTree t.rate t.elem x × ExprTree x
+    ArgumentTree (holds.Given e) (t_by_name b sp) = (b.ty.rate ≡ Uniform) × (b.ty.elem ≡ e)
+    ArgumentTree y x = ⊥
+
+  abbrev pub SimpleTree : TSimple → Type 0
+  SimpleTree (t_value x) = ExprTree x
+  SimpleTree (t_run c) = CallTree c None
+  SimpleTree (t_assign z x sp) = PlaceTree z × OperandTree (place_type z).rate (place_type z).elem x × ExprTree x
+  SimpleTree (t_update o t z x sp) = PlaceTree z × OperandTree (place_type z).rate t x × ExprTree x × IsNumber t
+  SimpleTree (t_step o t z sp) = PlaceTree z × IsNumber t
+
+  abbrev pub ItemTree : TItem → Type 0
+  ItemTree (t_plain v t sp) = Unit {0}
+  ItemTree (t_with_value v t x sp) = OperandTree t.rate t.elem x × ExprTree x
+  ItemTree (t_with_size b sp) = Unit {0}
+
+  abbrev pub ItemsTree : List TItem → Type 0
+  ItemsTree [] = Unit {0}
+  ItemsTree (x ∷ xs) = ItemTree x × ItemsTree xs

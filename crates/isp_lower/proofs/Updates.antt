@@ -27,7 +27,7 @@ use Rattle.isp_base.specs.Ranks.{same_elem}
 use Rattle.isp_base.specs.declared.trap.TrapKind.TheVariants.{Index}
 use Rattle.isp_base.specs.declared.types.Rate.TheVariants.{Uniform}
 use Rattle.isp_typed.specs.Fine.{heads}
-use Rattle.isp_typed.specs.Typed.{TExpr, TPlace, t_variable, t_element, place_type, TSimple, t_value, t_run, t_assign, t_update, t_step, type_of}
+use Rattle.isp_typed.specs.Typed.{TExpr, TPlace, t_variable, t_element, place_type, t_called, TSimple, t_value, t_run, t_assign, t_update, t_step, type_of}
 use Rattle.isp_meaning.specs.Places.{Place, Element, variable, written, outside, held, kept}
 use Rattle.isp_meaning.specs.Expressions.{place}
 use Rattle.isp_meaning.specs.Simple.{simple, update}
@@ -39,6 +39,7 @@ use Rattle.isp_lower.proofs.Exprs.{means, PlaceHolds, variable_held, element_run
 use Rattle.isp_lower.proofs.Done.{done_after, bind_done, bind_checked}
 use Rattle.isp_lower.proofs.Places.{place_runs, place_kept}
 use Rattle.isp_lower.proofs.Assigns.{beyond_more, assign_runs, value_runs}
+use Rattle.isp_lower.proofs.Alone.{run_runs}
 use Rattle.isp_lower.proofs.Nodes.{enters_part, enters_later, operand_runs}
 use Rattle.isp_lower.specs.Layout.{register}
 use Rattle.isp_lower.specs.Setting.{Setting, IsSettled, gang_of, calls_of, AreAt, At, Stands, at_rate, held_at, Holds}
@@ -294,7 +295,7 @@ module _ (w : Setting) (ready : IsSettled w) where
 
   pub simple_runs : (x : TSimple) (pc p k n q : ℕ) (a : Mask) (s : State) (c : Conf) → SimpleParts w x n → AreAt w.routine.code pc (simple_code w.layout x pc p k n) → AreAt w.code.places p (simple_places w.layout x) → Enters w pc k n a s c q → DoneRuns w c (pc + length (simple_code w.layout x pc p k n)) n q (simple (gang_of w) w.frame (calls_of w) x a s)
   simple_runs (t_value x) pc p k n q a s c fit has places b = value_runs w ready x pc p k n q a s c fit has places b
-  simple_runs (t_run e) pc p k n q a s c fit has places b = absurd fit
+  simple_runs (t_run (t_called f xs sp)) pc p k n q a s c fit has places b = run_runs w ready f xs sp pc p k n q a s c fit has places b
   simple_runs (t_assign z x sp) pc p k n q a s c fit has places b = assign_runs w ready z x sp pc p k n q a s c fit has places b
   simple_runs (t_update o t z x sp) pc p k n q a s c fit has places b = change_by_runs o t z x sp pc p k n q a s c fit has places b
   simple_runs (t_step o t z sp) pc p k n q a s c fit has places b = step_runs o t z sp pc p k n q a s c fit has places b

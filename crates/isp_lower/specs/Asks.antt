@@ -6,7 +6,7 @@ use Rattle.isp_base.specs.declared.types.Elem.{Elem}
 use Rattle.isp_base.specs.declared.types.Elem.TheVariants.{Bool as Truth, I32, I64}
 use Rattle.isp_base.specs.declared.types.Rate.{Rate}
 use Rattle.isp_base.specs.declared.types.Rate.TheVariants.{Uniform, Varying}
-use Rattle.isp_typed.specs.Typed.{TExpr, t_constant, t_program_index, t_place, t_convert, t_cast, t_unary, t_binary, t_compare, t_logic, t_choose, t_call, t_library, t_packed_store, t_packed_load, TPlace, t_variable, t_element, TItem, t_plain, t_with_value, t_with_size, TSimple, t_value, t_run, t_assign, t_update, t_step, place_type, type_of}
+use Rattle.isp_typed.specs.Typed.{TExpr, t_constant, t_program_index, t_place, t_convert, t_cast, t_unary, t_binary, t_compare, t_logic, t_choose, t_call, t_library, t_packed_store, t_packed_load, TPlace, t_variable, t_element, TArgument, t_by_value, t_by_name, TCall, t_called, TArguments, t_no_arguments, t_argument_then, TItem, t_plain, t_with_value, t_with_size, TSimple, t_value, t_run, t_assign, t_update, t_step, place_type, type_of}
 use Rattle.isp_typed.specs.declared.variable.ArrayVariable.{ArrayVariable}
 use Rattle.isp_lower.specs.Rows.{Name, Variable, Spare}
 
@@ -106,7 +106,7 @@ abbrev mutual
       let i = first_slot (type_of c).rate n in
       let j = second_slot (type_of c).rate n in
       Both (spare_ask t.rate t.elem n) (Both (expr_asks c n) (Both (taken t.rate x i (expr_asks x i)) (Both (taken t.rate y j (expr_asks y j)) (sides_ask (type_of c).rate n))))
-  expr_asks (t_call c t) n = spare_ask t.rate t.elem n
+  expr_asks (t_call c t) n = Both (spare_ask t.rate t.elem n) (call_asks c n)
   expr_asks (t_library f e xs t sp) n = spare_ask t.rate t.elem n
   expr_asks (t_packed_store b x sp) n = spare_ask Uniform I32 n
   expr_asks (t_packed_load b v sp) n = spare_ask Uniform I32 n
@@ -115,6 +115,18 @@ abbrev mutual
   pub target_asks : TPlace → ℕ → Ask
   target_asks (t_variable v t sp) n = Register t.rate (Variable v) t.elem
   target_asks (t_element b i t sp) n = Both (ArrayOf b) (index_asks t.rate i n (expr_asks i n))
+
+  -- argument j of a call at slot n + j: a uniform one may be handed over as a varying one
+  pub call_asks : TCall → ℕ → Ask
+  call_asks (t_called f xs sp) n = arguments_asks xs n
+
+  pub arguments_asks : TArguments → ℕ → Ask
+  arguments_asks t_no_arguments n = Nothing
+  arguments_asks (t_argument_then x xs) n = Both (Number (n + 1)) (Both (argument_asks x n) (arguments_asks xs (n + 1)))
+
+  pub argument_asks : TArgument → ℕ → Ask
+  argument_asks (t_by_value x) n = taken Varying x n (expr_asks x n)
+  argument_asks (t_by_name b sp) n = ArrayOf b
 
 abbrev pub operand_asks : Rate → TExpr → ℕ → Ask
 operand_asks r x n = taken r x n (expr_asks x n)
@@ -150,7 +162,7 @@ step_asks t z n =
 
 abbrev pub simple_asks : TSimple → ℕ → Ask
 simple_asks (t_value x) n = expr_asks x n
-simple_asks (t_run c) n = Nothing
+simple_asks (t_run c) n = call_asks c n
 simple_asks (t_assign z x sp) n = assign_asks z x n
 simple_asks (t_update o t z x sp) n = update_asks t z x n
 simple_asks (t_step o t z sp) n = step_asks t z n

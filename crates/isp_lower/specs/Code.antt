@@ -24,10 +24,12 @@ use Rattle.isp_code.specs.declared.instr.Plain.{Plain}
 use Rattle.isp_code.specs.declared.instr.Plain.TheVariants as plain
 use Rattle.isp_code.specs.declared.instr.ScalarInstr.TheVariants as scalar
 use Rattle.isp_code.specs.declared.instr.VectorInstr.TheVariants as vector
-use Rattle.isp_typed.specs.Typed.{TExpr, t_constant, t_program_index, t_place, t_convert, t_cast, t_unary, t_binary, t_compare, t_logic, t_choose, t_call, t_library, t_packed_store, t_packed_load, TPlace, t_variable, t_element, type_of}
+use Rattle.isp_code.specs.declared.register.Register.{Register}
+use Rattle.isp_typed.specs.Typed.{TExpr, t_constant, t_program_index, t_place, t_convert, t_cast, t_unary, t_binary, t_compare, t_logic, t_choose, t_call, t_library, t_packed_store, t_packed_load, TPlace, t_variable, t_element, TArgument, t_by_value, t_by_name, TCall, t_called, TArguments, t_no_arguments, t_argument_then, type_of}
 use Rattle.isp_typed.specs.declared.variable.Logic.{Logic}
 use Rattle.isp_typed.specs.declared.variable.Logic.TheVariants.{And, Or}
 use Rattle.isp_meaning.specs.Payloads.{converted}
+use Rattle.isp_lower.specs.Callees.{next_rate, later}
 use Rattle.isp_lower.specs.Layout.{Layout, register, mask_register, array_register}
 
 -- ---- instructions of a rate: on scalars, or on lanes of mask k
@@ -273,7 +275,7 @@ module _ (l : Layout) where
     expr_places (t_compare c x y r sp) = expr_places x ++ expr_places y
     expr_places (t_logic g x y r sp) = expr_places x ++ expr_places y
     expr_places (t_choose c x y t sp) = expr_places c ++ (expr_places x ++ expr_places y)
-    expr_places (t_call c t) = []
+    expr_places (t_call c t) = call_places c
     expr_places (t_library f e xs t sp) = []
     expr_places (t_packed_store b x sp) = []
     expr_places (t_packed_load b v sp) = []
@@ -286,6 +288,18 @@ module _ (l : Layout) where
     read_places (t_variable v t sp) = []
     read_places (t_element b i t sp) = sp ∷ []
 
+    -- a call names its place behind those of its arguments
+    pub call_places : TCall → List Span
+    call_places (t_called f xs sp) = arguments_places xs ++ sp ∷ []
+
+    pub arguments_places : TArguments → List Span
+    arguments_places t_no_arguments = []
+    arguments_places (t_argument_then x xs) = argument_places x ++ arguments_places xs
+
+    pub argument_places : TArgument → List Span
+    argument_places (t_by_value x) = expr_places x
+    argument_places (t_by_name b sp) = []
+
   -- ---- expressions
 
   abbrev pub read_code : ℕ → TPlace → ℕ → ℕ → ℕ → List Instr
@@ -297,6 +311,20 @@ module _ (l : Layout) where
       two pc test (λ pc1. choice (jump_on jump.False c) pc1 (λ pc2. a pc2 k n ++ move_code r (l.spare r t n) (operand r x n) k) (λ pc2. b pc2 k n ++ move_code r (l.spare r t n) (operand r y n) k))
   choose_code Varying r t x y c pc k n test a b =
       two pc test (λ pc1. choose_rest (l.spare r t n) c (operand r x (n + 1)) (operand r y (n + 2)) pc1 k n a b)
+
+  -- ---- calls: argument j stands at slot n + j, in a register of its parameter's rate; an array is as it is
+
+  abbrev pub argument_register : Rate → TArgument → ℕ → Register
+  argument_register r (t_by_value x) n = register r (operand r x n)
+  argument_register r (t_by_name b sp) n = array_register (l.array b.number)
+
+  abbrev pub argument_registers : List Rate → TArguments → ℕ → List Register
+  argument_registers rs t_no_arguments n = []
+  argument_registers rs (t_argument_then x xs) n = argument_register (next_rate rs) x n ∷ argument_registers (later rs) xs (n + 1)
+
+  abbrev pub calling : Option Register → ℕ → TArguments → ℕ → ℕ → ℕ → Instr
+  calling d f xs p k n =
+      instr.Call (record { function = f; result = d; mask = mask_register k; place = p; arguments = argument_registers (l.rates f) xs n })
 
   -- a variable, in brackets or not: it has no code where its own rate is wanted
   abbrev pub stays : TExpr → Bool
@@ -348,7 +376,7 @@ module _ (l : Layout) where
         logic_code r g (l.spare r Truth n) (operand r x n) (operand r y (n + 1)) pc k n (operand_of r x k n (expr_to (found x n) x pc p k n)) (λ pc1 m. operand_of r y m (n + 1) (expr_to (found y (n + 1)) y pc1 (p + length (expr_places x)) m (n + 1)))
     expr_to d (t_choose c x y t sp) pc p k n =
         choose_to (is_short t.rate c x y) d c x y t pc k n (expr_to (found c n) c pc p k n) (λ pc1 m i. operand_of t.rate x m i (expr_to (found x i) x pc1 (p + length (expr_places c)) m i)) (λ pc1 m i. operand_of t.rate y m i (expr_to (found y i) y pc1 (p + length (expr_places c) + length (expr_places x)) m i))
-    expr_to d (t_call c t) pc p k n = []
+    expr_to d (t_call c t) pc p k n = call_code (Some (register t.rate d)) c pc p k n
     expr_to d (t_library f e xs t sp) pc p k n = []
     expr_to d (t_packed_store b x sp) pc p k n = []
     expr_to d (t_packed_load b v sp) pc p k n = []
@@ -357,6 +385,20 @@ module _ (l : Layout) where
     pub index_code : TPlace → ℕ → ℕ → ℕ → ℕ → List Instr
     index_code (t_variable v t sp) pc p k n = []
     index_code (t_element b i t sp) pc p k n = index_of t.rate i k n (expr_to (found i n) i pc p k n)
+
+    -- the arguments from left to right, then the call, which leaves what is given back in a register
+    pub call_code : Option Register → TCall → ℕ → ℕ → ℕ → ℕ → List Instr
+    call_code d (t_called f xs sp) pc p k n =
+        arguments_code (l.rates f) xs pc p k n ++ calling d f xs (p + length (arguments_places xs)) k n ∷ []
+
+    pub arguments_code : List Rate → TArguments → ℕ → ℕ → ℕ → ℕ → List Instr
+    arguments_code rs t_no_arguments pc p k n = []
+    arguments_code rs (t_argument_then x xs) pc p k n =
+        two pc (argument_code (next_rate rs) x pc p k n) (λ pc1. arguments_code (later rs) xs pc1 (p + length (argument_places x)) k (n + 1))
+
+    pub argument_code : Rate → TArgument → ℕ → ℕ → ℕ → ℕ → List Instr
+    argument_code r (t_by_value x) pc p k n = operand_of r x k n (expr_to (found x n) x pc p k n)
+    argument_code r (t_by_name b sp) pc p k n = []
 
   -- the value is left in slot n or in place
   abbrev pub expr_code : TExpr → ℕ → ℕ → ℕ → ℕ → List Instr
@@ -380,7 +422,7 @@ module _ (l : Layout) where
   writes_last (t_compare c x y r sp) = true
   writes_last (t_logic g x y r sp) = false
   writes_last (t_choose c x y t sp) = is_short t.rate c x y
-  writes_last (t_call c t) = false
+  writes_last (t_call c t) = true
   writes_last (t_library f e xs t sp) = false
   writes_last (t_packed_store b x sp) = false
   writes_last (t_packed_load b v sp) = false

@@ -6,7 +6,8 @@ use Rattle.isp_base.specs.declared.types.Rate.{Rate}
 use Rattle.isp_base.specs.declared.types.Span.{Span}
 use Rattle.isp_code.specs.Listing.{Listing, Routine, routine_of}
 use Rattle.isp_code.specs.declared.instr.Instr.{Instr}
-use Rattle.isp_typed.specs.Typed.{TFunction}
+use Rattle.isp_typed.specs.Typed.{Program, TFunction}
+use Rattle.isp_typed.specs.Views.{functions_of}
 use Rattle.isp_lower.specs.Emitted.{first_rows, rows_of}
 use Rattle.isp_lower.specs.Header.{Heading, heading_of, routine_with}
 pub use Rattle.isp_lower.specs.Headings.{heading_in}
@@ -15,10 +16,11 @@ use Rattle.isp_lower.specs.Patched.{patched}
 use Rattle.isp_lower.specs.Rows.{Rows, with_fresh_at}
 use Rattle.isp_lower.specs.declared.types.Emitter.{Emitter}
 
--- Places and texts of all functions, the routines of those that are closed, and of the function at work its heading, if
+-- The functions that code may call, the places and texts of all functions, the routines of those that are closed, and of the function at work its heading, if
 -- there is one, its registers, how many masks it has, and its code.
 pub record Draft : Type 0 where
   pub gang : Gang
+  pub callees : List TFunction
   pub places : List Span
   pub texts : List (List ℕ)
   pub routines : List Routine
@@ -29,13 +31,13 @@ pub record Draft : Type 0 where
 
 abbrev pub draft_of : Emitter → Draft
 draft_of e =
-    record { gang = e.gang; places = e.body.places.items; texts = map (λ t. t.items) e.texts.items; routines = map routine_of e.functions.items; heading = option_map heading_in e.heading; rows = rows_of e.reserved.registers; masks = e.reserved.masks; code = e.body.code.items }
+    record { gang = e.gang; callees = functions_of e.callees.now; places = e.body.places.items; texts = map (λ t. t.items) e.texts.items; routines = map routine_of e.functions.items; heading = option_map heading_in e.heading; rows = rows_of e.reserved.registers; masks = e.reserved.masks; code = e.body.code.items }
 
 -- ---- from one to the next
 
-abbrev pub first_draft : Gang → Draft
-first_draft g =
-    record { gang = g; places = []; texts = []; routines = []; heading = None; rows = record { scalars = []; vectors = []; arrays = [] }; masks = 0; code = [] }
+abbrev pub first_draft : Program → Draft
+first_draft p =
+    record { gang = p.gang; callees = p.functions; places = []; texts = []; routines = []; heading = None; rows = record { scalars = []; vectors = []; arrays = [] }; masks = 0; code = [] }
 
 -- the routine of the function at work, if there is one
 abbrev pub routine_at_work : Option Heading → Rows → ℕ → List Instr → List Routine

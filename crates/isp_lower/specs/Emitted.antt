@@ -16,6 +16,8 @@ use Rattle.isp_lower.specs.Code.{same_rate}
 use Rattle.isp_lower.specs.Layout.{Layout}
 pub use Rattle.isp_lower.specs.Lookup.{name_of, row_of}
 use Rattle.isp_lower.specs.Rows.{Name, Variable, Result, Row, Rows, rows_at, elem_in, layout_of}
+use Rattle.isp_typed.specs.Views.{functions_of}
+use Rattle.isp_lower.specs.Callees.{rates_in}
 use Rattle.isp_lower.specs.declared.registers.Registers.{Registers}
 use Rattle.isp_lower.specs.declared.types.Body.{Body}
 use Rattle.isp_lower.specs.declared.types.Scope.{Scope}
@@ -83,9 +85,9 @@ first_rows xs answer =
 
 -- ---- what code is written with, and what is appended
 
--- where registers lie is fixed
+-- where registers lie is fixed, and at which rates functions take what is handed over
 abbrev pub layout : Scope → Layout
-layout on = layout_of (rows_of on.registers.now)
+layout on = layout_of (rates_in (functions_of on.callees.now)) (rows_of on.registers.now)
 
 -- all that code asks for is there
 abbrev pub Present : Scope → Ask → Type 0

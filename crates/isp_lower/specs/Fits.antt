@@ -15,15 +15,15 @@ module _ (w : Setting) where
 
   pub record ExprFits (x : TExpr) (n : ℕ) : Type 0 where
     pub fine : FineExpr w.program.functions w.function.variables x
-    pub rated : IsRated x
+    pub rated : IsRated w.program.functions x
     pub named : InTable (expr_asks x n)
 
   pub record SimpleFits (x : TSimple) (n : ℕ) : Type 0 where
     pub fine : FineSimple w.program.functions w.function.variables x
-    pub rated : SimpleRated x
+    pub rated : SimpleRated w.program.functions x
     pub named : InTable (simple_asks x n)
 
   pub record ItemsFit (n : ℕ) (xs : List TItem) : Type 0 where
     pub fine : All (FineItem w.program.functions w.function.variables) xs
-    pub rated : ItemsRated xs
+    pub rated : ItemsRated w.program.functions xs
     pub named : InTable (items_asks n xs)

@@ -1,5 +1,5 @@
 -- What holds of the code of every expression and assignment.
-use Rattle.std.specs.Prelude.{◌≡◌, ℕ, List, ◌+◌, ◌++◌, length, map, Some}
+use Rattle.std.specs.Prelude.{ℕ, List, ◌+◌, length}
 use Rattle.isp_base.specs.Sets.{Mask}
 use Rattle.isp_code.specs.Conf.{Conf}
 use Rattle.std.specs.List.{All}
@@ -9,15 +9,12 @@ use Rattle.isp_typed.specs.declared.variable.Variable.{Variable}
 use Rattle.isp_meaning.specs.State.{State}
 use Rattle.isp_meaning.specs.Expressions.{value}
 use Rattle.isp_meaning.specs.Simple.{simple, items}
-use Rattle.isp_base.specs.declared.types.Elem.{Elem}
-use Rattle.isp_base.specs.declared.types.Rate.{Rate}
-use Rattle.isp_code.specs.Registers.{table_of, types_in}
 use Rattle.isp_code.specs.Listing.{Listing, Routine}
-use Rattle.isp_lower.specs.Layout.{Layout, IsApart, class_at}
-use Rattle.isp_lower.specs.Rows.{Name, Row, Rows, rows_at, number_in, elem_in, layout_of, HasRow}
+use Rattle.isp_lower.specs.Layout.{Layout, IsApart}
+use Rattle.isp_lower.specs.Rows.{Rows, layout_of}
 use Rattle.isp_lower.specs.Rated.{IsRated, SimpleRated, ItemsRated}
-use Rattle.isp_lower.specs.Tables.{IsTyped}
-use Rattle.isp_lower.specs.Sound.{PartSound, IsRegister, HasRegister, ExprPresent, SimplePresent, ItemsPresent}
+use Rattle.isp_base.specs.declared.types.Rate.{Rate}
+use Rattle.isp_lower.specs.Sound.{Links, PartSound, IsRegister, ExprPresent, SimplePresent, ItemsPresent}
 use Rattle.isp_lower.specs.Items.{items_code, items_places}
 use Rattle.isp_lower.specs.Simple.{simple_code, simple_places}
 use Rattle.isp_lower.specs.Setting.{Setting, IsSettled, gang_of, calls_of, AreAt, Holds}
@@ -46,33 +43,19 @@ ItemsRun =
 
 -- A layout from rows gives each name a register of its own.
 abbrev pub LayoutsAreApart : Type 0
-LayoutsAreApart = (rows : Rows) → IsApart (layout_of rows)
+LayoutsAreApart = (rates : ℕ → List Rate) (rows : Rows) → IsApart (layout_of rates rows)
 
--- A register has the type of its row, where a function has the types of the rows.
-abbrev pub RowsAreTyped : Type 0
-RowsAreTyped =
-    (w : Setting) (rows : Rows) (r : Rate) (x : Name) (t : Elem) → types_in (table_of w.routine) (class_at r) ≡ map (λ y. y.elem) (rows_at rows r) → elem_in (rows_at rows r) x ≡ Some t → IsTyped w r (number_in (rows_at rows r) x) t
-
--- The same of the function alone: the register of a name that has a row is there, with the row's type.
-abbrev pub RowsAreThere : Type 0
-RowsAreThere =
-    (h : Routine) (rows : Rows) → ((r : Rate) → types_in (table_of h) (class_at r) ≡ map (λ y. y.elem) (rows_at rows r)) → (r : Rate) (x : Name) (t : Elem) → HasRow rows r x t → HasRegister h (layout_of rows) r x t
-
--- Rows that are added change nothing of a name that has a row.
-abbrev pub RowsStay : Type 0
-RowsStay =
-    (rows more : List Row) (x : Name) (t : Elem) → elem_in rows x ≡ Some t → (number_in (rows ++ more) x ≡ number_in rows x) × (elem_in (rows ++ more) x ≡ Some t)
-
--- The code of a tree has its operands, where names, types and rates accept it and the registers that it asks for are there; and so
+-- The code of a tree has its operands, where names, types and rates accept it, the registers that it asks for are there, and the functions that it calls
+-- have routines with their headers; and so
 -- is the register in which the value of an expression is found, with the expression's type.
 pub record ExprSound : Type 0 where
-  pub part : (fs : List TFunction) (vars : List Variable) (code : Listing) (h : Routine) (l : Layout) (x : TExpr) (n : ℕ) → FineExpr fs vars x → IsRated x → ExprPresent h l x n → PartSound code h (expr_places l x) (λ pc p k. expr_code l x pc p k n)
-  pub there : (fs : List TFunction) (vars : List Variable) (h : Routine) (l : Layout) (x : TExpr) (n : ℕ) → FineExpr fs vars x → IsRated x → ExprPresent h l x n → IsRegister h (type_of x).rate (found l x n) (type_of x).elem
+  pub part : (fs : List TFunction) (vars : List Variable) (code : Listing) (h : Routine) (l : Layout) (x : TExpr) (n : ℕ) → Links fs code l → FineExpr fs vars x → IsRated fs x → ExprPresent h l x n → PartSound code h (expr_places l x) (λ pc p k. expr_code l x pc p k n)
+  pub there : (fs : List TFunction) (vars : List Variable) (h : Routine) (l : Layout) (x : TExpr) (n : ℕ) → FineExpr fs vars x → IsRated fs x → ExprPresent h l x n → IsRegister h (type_of x).rate (found l x n) (type_of x).elem
 
 abbrev pub SimpleSound : Type 0
 SimpleSound =
-    (fs : List TFunction) (vars : List Variable) (code : Listing) (h : Routine) (l : Layout) (x : TSimple) (n : ℕ) → FineSimple fs vars x → SimpleRated x → SimplePresent h l x n → PartSound code h (simple_places l x) (λ pc p k. simple_code l x pc p k n)
+    (fs : List TFunction) (vars : List Variable) (code : Listing) (h : Routine) (l : Layout) (x : TSimple) (n : ℕ) → Links fs code l → FineSimple fs vars x → SimpleRated fs x → SimplePresent h l x n → PartSound code h (simple_places l x) (λ pc p k. simple_code l x pc p k n)
 
 abbrev pub ItemsSound : Type 0
 ItemsSound =
-    (fs : List TFunction) (vars : List Variable) (code : Listing) (h : Routine) (l : Layout) (xs : List TItem) (n : ℕ) → All (FineItem fs vars) xs → ItemsRated xs → ItemsPresent h l n xs → PartSound code h (items_places l xs) (λ pc p k. items_code l xs pc p k n)
+    (fs : List TFunction) (vars : List Variable) (code : Listing) (h : Routine) (l : Layout) (xs : List TItem) (n : ℕ) → Links fs code l → All (FineItem fs vars) xs → ItemsRated fs xs → ItemsPresent h l n xs → PartSound code h (items_places l xs) (λ pc p k. items_code l xs pc p k n)

@@ -1,8 +1,8 @@
 -- The registers of a function's frame. A uniform variable is a scalar register, a varying one a vector register, and so
 -- are what the function gives back and the spare registers of each type. Spare registers come in slots, which code uses
 -- as a stack; slot j has mask register j too. Fresh registers are those that no tree asks for. Each of these is another
--- register.
-use Rattle.std.specs.Prelude.{◌≢◌, ℕ}
+-- register. With them stand the rates of the parameters of functions that code calls, by the functions' numbers.
+use Rattle.std.specs.Prelude.{◌≢◌, ℕ, List}
 use Rattle.isp_base.specs.declared.types.Elem.{Elem}
 use Rattle.isp_base.specs.declared.types.Rate.{Rate}
 use Rattle.isp_base.specs.declared.types.Rate.TheVariants.{Uniform, Varying}
@@ -16,6 +16,7 @@ pub record Layout : Type 0 where
   pub spare : Rate → Elem → ℕ → ℕ
   pub fresh : Rate → ℕ → ℕ
   pub array : ℕ → ℕ
+  pub rates : ℕ → List Rate
 
 pub record IsApart (l : Layout) : Type 0 where
   pub variables : (r : Rate) (v w : ℕ) → v ≢ w → l.variable r v ≢ l.variable r w

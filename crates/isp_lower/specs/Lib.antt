@@ -1,4 +1,8 @@
+pub mod Callees
+pub mod Steps
+pub mod Held
 pub mod Layout
+pub mod Calls
 pub mod Code
 pub mod Emitted
 pub mod Setting

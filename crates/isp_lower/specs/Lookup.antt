@@ -11,7 +11,7 @@ use Rattle.isp_lower.specs.declared.registers.RegisterRow.{RegisterRow}
 abbrev pub name_of : RegisterName → Name
 name_of (one.Variable v) = Variable v
 name_of one.Result = Result
-name_of (one.Spare t j) = Spare t j
+name_of (one.Spare t j) = Spare t j.number
 name_of (one.Fresh j) = Fresh j
 
 abbrev pub row_of : RegisterRow → Row

@@ -2,14 +2,15 @@
 -- back have their registers from its beginning, so of these nothing is reserved.
 use Rattle.std.specs.Prelude.{◌≡◌, ◌<◌, ◌≤◌, ℕ, List, Option, Some, slice_get}
 use Rattle.isp_base.specs.declared.types.Elem.{Elem}
+use Rattle.isp_base.specs.declared.types.Elem.TheVariants.{Bool as Truth}
 use Rattle.isp_base.specs.declared.types.Rate.{Rate}
 use Rattle.isp_base.specs.declared.types.Ty.{Ty}
 use Rattle.isp_typed.specs.Fine.{HoldsArray, HoldsValue}
-use Rattle.isp_typed.specs.Typed.{ty_of}
+use Rattle.isp_typed.specs.Typed.{TExpr, ty_of, type_of}
 use Rattle.isp_typed.specs.declared.variable.ArrayVariable.{ArrayVariable}
 use Rattle.isp_typed.specs.declared.variable.Holds.TheVariants as holds
 use Rattle.isp_typed.specs.declared.variable.Variable as declared
-use Rattle.isp_lower.specs.Asks.{Ask, Nothing, Both, Register, ArrayOf, LocalOf, MaskOf, Number, All}
+use Rattle.isp_lower.specs.Asks.{Ask, Nothing, Both, Register, ArrayOf, LocalOf, MaskOf, Number, All, expr_asks, operand_asks, operands_asks, sides_ask, spare_ask, test_asks, first_slot, second_slot}
 use Rattle.isp_lower.specs.Emitted.{Grows, HasArray, HasRow}
 use Rattle.isp_lower.specs.Rows as row
 use Rattle.isp_lower.specs.Rows.{Name, Variable, Result, Spare, Fresh, Rows, elem_in}
@@ -34,6 +35,17 @@ pub record Gives (old new : Reserve) (a : Ask) : Type 0 where
   pub rows : Grows old.registers new.registers
   pub masks : old.masks ≤ new.masks
   pub has : IsReserved new a
+
+-- ---- what two walks ask for: of two bools, and of a choice
+
+abbrev pub logic_asks : Rate → TExpr → TExpr → ℕ → Ask
+logic_asks r x y n = Both (spare_ask r Truth n) (Both (test_asks r n) (operands_asks r x y n))
+
+abbrev pub choice_asks : Ty → TExpr → TExpr → TExpr → ℕ → Ask
+choice_asks t c x y n =
+    let i = first_slot (type_of c).rate n in
+    let j = second_slot (type_of c).rate n in
+    Both (spare_ask t.rate t.elem n) (Both (expr_asks c n) (Both (operand_asks t.rate x i) (Both (operand_asks t.rate y j) (sides_ask (type_of c).rate n))))
 
 -- ---- what is asked for is the function's own: its variables, and what it gives back
 

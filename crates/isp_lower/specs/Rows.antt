@@ -42,9 +42,14 @@ abbrev pub rows_at : Rows → Rate → List Row
 rows_at rows Uniform = rows.scalars
 rows_at rows Varying = rows.vectors
 
-abbrev pub layout_of : Rows → Layout
-layout_of rows =
-    record { variable = λ r v. number_in (rows_at rows r) (Variable v); result = λ r. number_in (rows_at rows r) Result; spare = λ r t j. number_in (rows_at rows r) (Spare t j); fresh = λ r j. number_in (rows_at rows r) (Fresh j); array = λ v. number_in rows.arrays (Variable v) }
+-- the register of a fresh name
+abbrev pub fresh_at : Rows → Rate → ℕ → ℕ
+fresh_at rows r j = number_in (rows_at rows r) (Fresh j)
+
+-- with the rates of the parameters of functions
+abbrev pub layout_of : (ℕ → List Rate) → Rows → Layout
+layout_of rates rows =
+    record { rates = rates; variable = λ r v. number_in (rows_at rows r) (Variable v); result = λ r. number_in (rows_at rows r) Result; spare = λ r t j. number_in (rows_at rows r) (Spare t j); fresh = fresh_at rows; array = λ v. number_in rows.arrays (Variable v) }
 
 -- the number of the register that a layout has for a name
 abbrev pub numbered : Layout → Rate → Name → ℕ

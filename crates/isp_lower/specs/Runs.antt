@@ -3,38 +3,11 @@
 use Rattle.std.specs.Prelude.{◌≡◌, ◌≤◌, ◌<◌, ℕ, ◌+◌, ◌*◌, true}
 use Rattle.isp_base.specs.Sets.{Mask, any}
 use Rattle.isp_base.specs.declared.trap.Trap.{Trap}
-use Rattle.isp_code.specs.Conf as machine
 use Rattle.isp_code.specs.Conf.{Conf}
-use Rattle.isp_code.specs.Listing.{Listing}
-use Rattle.isp_code.specs.Machine.{after}
 use Rattle.isp_meaning.specs.State.{State}
 use Rattle.isp_meaning.specs.Outcomes.{Val, Gives, Fails, Stops, Done}
 use Rattle.isp_lower.specs.Setting.{Setting, gang_of, At, Stands, Spares}
-
--- ---- runs of the code, whatever call they are in
-
-module _ (code : Listing) where
-  -- the machine goes from one configuration to another in so many steps
-  abbrev pub ComesIn : Conf → ℕ → Conf → Type 0
-  ComesIn c t c' = after code t (machine.Runs c) ≡ machine.Runs c'
-
-  -- the code trapped
-  pub record FailedIn (c : Conf) (q : ℕ) (t : Trap) (s : State) : Type 0 where
-    pub conf : Conf
-    pub steps : ℕ
-    pub fails : after code steps (machine.Runs c) ≡ machine.Trapped t conf
-    pub arrays_are : conf.arrays ≡ s.arrays
-    pub out_is : conf.out ≡ s.out
-    pub bound : steps + q ≤ 32 * s.work
-
-  -- the code goes on past so many turns
-  pub record StoppedIn (turns : ℕ) (c : Conf) (q : ℕ) (s : State) : Type 0 where
-    pub conf : Conf
-    pub steps : ℕ
-    pub far : turns ≤ steps
-    pub goes : ComesIn c steps conf
-    pub out_is : conf.out ≡ s.out
-    pub bound : steps + q ≤ 32 * s.work
+pub use Rattle.isp_lower.specs.Steps.{ComesIn, FailedIn, StoppedIn}
 
 module _ (w : Setting) where
   abbrev pub Comes : Conf → ℕ → Conf → Type 0

@@ -1,24 +1,29 @@
 -- A call of a compiled function, and when the machine in it stands for a state of the meaning.
-use Rattle.std.specs.Prelude.{◌≡◌, ◌≤◌, ◌<◌, ℕ, suc, ◌+◌, ◌-◌, ◌^◌, List, [], ◌∷◌, length, Some, true, false, slice_get}
-use Rattle.isp_base.specs.Maps.{Lanes, on}
-use Rattle.isp_base.specs.Sets.{Mask}
+use Rattle.std.specs.Prelude.{◌≡◌, ◌≤◌, ◌<◌, ℕ, suc, ◌+◌, ◌*◌, ◌-◌, ◌^◌, List, [], ◌∷◌, length, Some, true, false, slice_get}
+use Rattle.isp_base.specs.Maps.{Lanes}
+use Rattle.isp_base.specs.Sets.{Mask, any}
 use Rattle.isp_base.specs.Types.{gang_width}
 use Rattle.isp_base.specs.declared.types.Elem.{Elem}
 use Rattle.isp_base.specs.declared.types.Rate.{Rate}
 use Rattle.isp_base.specs.declared.types.Rate.TheVariants.{Uniform, Varying}
+use Rattle.isp_base.specs.declared.types.Span.{Span}
 use Rattle.isp_code.specs.Conf as machine
 use Rattle.isp_code.specs.Conf.{Home, Conf}
 use Rattle.isp_code.specs.Lines.{local_size}
 use Rattle.isp_code.specs.Listing.{Listing, Routine}
 use Rattle.isp_code.specs.Registers.{is_per_lane, passed}
-use Rattle.isp_typed.specs.Fine.{HoldsArray}
+use Rattle.isp_code.specs.declared.instr.Call.{Call}
+use Rattle.isp_code.specs.declared.instr.Instr.TheVariants as instr
+use Rattle.isp_typed.specs.Fine.{HoldsArray, params_of}
 use Rattle.isp_typed.specs.Typed.{Program, TFunction}
 use Rattle.isp_typed.specs.declared.variable.ArrayVariable.{ArrayVariable}
 use Rattle.isp_meaning.specs.State.{State, Frame, extent}
-use Rattle.isp_meaning.specs.Payloads.{Payload, One, Each, spread}
-use Rattle.isp_meaning.specs.Expressions.{Calls}
+use Rattle.isp_meaning.specs.Expressions.{Passed, Calls}
 use Rattle.isp_meaning.specs.Calls.{most_calls, calls_at}
+use Rattle.isp_lower.specs.Callees.{rates_in}
+use Rattle.isp_lower.specs.Calls.{AreHanded, Takes, CallRuns}
 use Rattle.isp_lower.specs.Layout.{Layout, IsApart, array_register}
+pub use Rattle.isp_lower.specs.Held.{at_rate, held_at, Holds}
 
 -- The program and its code, the function that runs with its routine and registers, what stays during the call on both
 -- sides, the calls that wait, how many turns a loop makes each time it is entered, and how many calls deeper may run.
@@ -41,7 +46,7 @@ gang_of w = gang_width w.code.gang
 abbrev pub calls_of : Setting → Calls
 calls_of w = calls_at w.program w.turns w.left
 
--- ---- an array: the machine's register is what the variable is
+-- ---- an array: the machine's register is what the variable is, and one that all share is an open store
 
 module _ (w : Setting) where
   abbrev pub ArrayFitsAt : Rate → ArrayVariable → Type 0
@@ -52,19 +57,8 @@ module _ (w : Setting) where
 
   pub record ArrayFits (b : ArrayVariable) : Type 0 where
     pub is : ArrayFitsAt b.ty.rate b
+    pub below : b.ty.rate ≡ Uniform → w.frame.named b.number < w.frame.opened
     pub few : extent w.frame b ≤ 2 ^ 63
-
--- The routine is that of the call, its registers are apart, and its arrays are those of the function's variables, with the
--- same stores open on both sides; those that run and those that may still run are as many calls as there may be.
-pub record IsSettled (w : Setting) : Type 0 where
-  pub gang : w.code.gang ≡ w.program.gang
-  pub found : slice_get w.code.routines w.home.fn ≡ Some w.routine
-  pub apart : IsApart w.layout
-  pub deep : w.left + suc (length w.waiting) ≡ most_calls
-  pub answer : w.frame.answer ≡ w.function.answer
-  pub opened : w.home.opened ≡ w.frame.opened
-  pub sizes : w.home.sizes ≡ w.frame.sizes
-  pub arrays : (b : ArrayVariable) → HoldsArray w.function.variables b → ArrayFits w b
 
 -- some things stand in a list from a place on
 abbrev pub AreAt : {A : Type 0} → List A → ℕ → List A → Type 0
@@ -80,6 +74,41 @@ pub record IsAt (home home' : Home) (waiting waiting' : List machine.Frame) (pc 
 abbrev pub At : Setting → Conf → ℕ → Type 0
 At w c pc = IsAt c.home w.home c.waiting w.waiting c.pc pc
 
+-- where an instruction calls a function: what is handed over stands in its registers, and the state is the machine's
+pub record IsCalling (w : Setting) (k : Call) (g : TFunction) (pc q : ℕ) (sp : Span) (a : Mask) (ps : List Passed) (s : State) (c : Conf) : Type 0 where
+  pub function : slice_get w.program.functions k.function ≡ Some g
+  pub here : slice_get w.routine.code pc ≡ Some (instr.Call k)
+  pub place : slice_get w.code.places k.place ≡ Some sp
+  pub at : At w c pc
+  pub mask : c.masks k.mask.number ≡ a
+  pub some : any (gang_of w) a ≡ true
+  pub inside : (p : ℕ) → a p ≡ true → p < gang_of w
+  pub hands : AreHanded a c (params_of g) ps k.arguments
+  pub result : Takes g.answer k.result
+  pub arrays_are : c.arrays ≡ s.arrays
+  pub out_is : c.out ≡ s.out
+  pub used : 1 + q ≤ 32 * s.work
+
+-- each call from here does what it means, with the levels that are left
+abbrev pub CallsRun : Setting → Type 0
+CallsRun w =
+    (k : Call) (g : TFunction) (pc q : ℕ) (sp : Span) (a : Mask) (ps : List Passed) (s : State) (c : Conf) → IsCalling w k g pc q sp a ps s c → CallRuns w.code w.turns c k q (calls_of w k.function sp a ps w.frame s)
+
+-- The routine is that of the call, its registers are apart, it hands over as the functions' parameters ask, and its arrays
+-- are those of the function's variables, with the same stores open on both sides; those that run and those that may still
+-- run are as many calls as there may be; and a call from here does what it means.
+pub record IsSettled (w : Setting) : Type 0 where
+  pub gang : w.code.gang ≡ w.program.gang
+  pub found : slice_get w.code.routines w.home.fn ≡ Some w.routine
+  pub apart : IsApart w.layout
+  pub rates : w.layout.rates ≡ rates_in w.program.functions
+  pub deep : w.left + suc (length w.waiting) ≡ most_calls
+  pub answer : w.frame.answer ≡ w.function.answer
+  pub opened : w.home.opened ≡ w.frame.opened
+  pub sizes : w.home.sizes ≡ w.frame.sizes
+  pub arrays : (b : ArrayVariable) → HoldsArray w.function.variables b → ArrayFits w b
+  pub calls : CallsRun w
+
 -- Registers, own arrays, arrays and output stand for a state. It is stated of these parts alone, so that a step that
 -- changes other parts of the machine leaves the fact as it is.
 pub record StandsFor (l : Layout) (ones : ℕ → ℕ) (each : ℕ → Lanes) (owns : ℕ → ℕ → Lanes) (one : ℕ) (in_each : Lanes) (stores : ℕ → Lanes) (text : List ℕ) (scalars : ℕ → ℕ) (vectors : ℕ → Lanes) (own : ℕ → ℕ → Lanes) (arrays : ℕ → Lanes) (out : List ℕ) : Type 0 where
@@ -93,18 +122,6 @@ pub record StandsFor (l : Layout) (ones : ℕ → ℕ) (each : ℕ → Lanes) (o
 
 abbrev pub Stands : Setting → State → Conf → Type 0
 Stands w s c = StandsFor w.layout s.uniforms s.varying s.own s.result s.results s.arrays s.out c.scalars c.vectors c.own c.arrays c.out
-
--- a value as it is held at a rate: one, or one in each member of a set
-abbrev pub at_rate : Rate → Mask → Payload → Payload
-at_rate Uniform a x = x
-at_rate Varying a x = Each (spread a x)
-
-abbrev pub held_at : Rate → (ℕ → ℕ) → (ℕ → Lanes) → Mask → ℕ → Payload
-held_at Uniform scalars vectors a d = One (scalars d)
-held_at Varying scalars vectors a d = Each (on a (vectors d))
-
-abbrev pub Holds : Rate → Mask → ℕ → Payload → Conf → Type 0
-Holds r a d x c = at_rate r a x ≡ held_at r c.scalars c.vectors a d
 
 -- the spare registers of lower slots are as they were, whatever variables are written
 pub record SparesStay (l : Layout) (n : ℕ) (scalars : ℕ → ℕ) (vectors : ℕ → Lanes) (scalars' : ℕ → ℕ) (vectors' : ℕ → Lanes) : Type 0 where

@@ -1,5 +1,5 @@
 -- The code of what stands before a semicolon, as a function of its tree.
-use Rattle.std.specs.Prelude.{Bool, true, false, ℕ, ◌+◌, ◌∷◌, [], ◌++◌, List, length}
+use Rattle.std.specs.Prelude.{Bool, true, false, ℕ, ◌+◌, ◌∷◌, [], ◌++◌, List, length, None}
 use Rattle.isp_base.specs.declared.operators.BinOp.{BinOp}
 use Rattle.isp_base.specs.declared.types.Elem.{Elem}
 use Rattle.isp_base.specs.declared.types.Rate.{Rate}
@@ -9,7 +9,7 @@ use Rattle.isp_base.specs.Ranks.{same_elem}
 use Rattle.isp_base.specs.declared.types.Rate.TheVariants.{Uniform}
 use Rattle.isp_typed.specs.Typed.{TExpr, TPlace, t_variable, t_element, place_type, TSimple, t_value, t_run, t_assign, t_update, t_step}
 use Rattle.isp_lower.specs.Layout.{Layout}
-use Rattle.isp_lower.specs.Code.{convert, operate, operate_places, read, write, constant, lifted, lift_code, two, operand, operand_of, index, expr_places, index_places, read_places, expr_code, index_code, variable_code}
+use Rattle.isp_lower.specs.Code.{convert, operate, operate_places, read, write, constant, lifted, lift_code, two, operand, operand_of, index, expr_places, index_places, read_places, call_places, expr_code, index_code, call_code, variable_code}
 pub use Rattle.isp_lower.specs.Asks.{beyond}
 
 module _ (l : Layout) where
@@ -60,14 +60,14 @@ module _ (l : Layout) where
 
   abbrev pub simple_code : TSimple → ℕ → ℕ → ℕ → ℕ → List Instr
   simple_code (t_value x) pc p k n = expr_code l x pc p k n
-  simple_code (t_run c) pc p k n = []
+  simple_code (t_run c) pc p k n = call_code l None c pc p k n
   simple_code (t_assign z x sp) pc p k n = assign_code z x pc p k n
   simple_code (t_update o t z x sp) pc p k n = change_by_code o t z x pc p k n
   simple_code (t_step o t z sp) pc p k n = step_code o t z pc p k n
 
   abbrev pub simple_places : TSimple → List Span
   simple_places (t_value x) = expr_places l x
-  simple_places (t_run c) = []
+  simple_places (t_run c) = call_places l c
   simple_places (t_assign z x sp) = assign_places z x
   simple_places (t_update o t z x sp) = index_places l z ++ (expr_places l x ++ change_places o z sp)
   simple_places (t_step o t z sp) = index_places l z ++ change_places o z sp

@@ -1,6 +1,6 @@
 -- Each instruction of some code is one whose line of the machine's table applies: its registers are there and of their
 -- kinds, its places are there, and its jumps go to instructions of the function.
-use Rattle.std.specs.Prelude.{◌≡◌, ◌≤◌, ◌<◌, ℕ, ◌+◌, List, [], ◌∷◌, length, true, false}
+use Rattle.std.specs.Prelude.{◌≡◌, ◌≤◌, ◌<◌, ℕ, ◌+◌, List, [], ◌∷◌, length, Some, true, false, slice_get}
 use Rattle.isp_base.specs.declared.types.Elem.{Elem}
 use Rattle.isp_base.specs.declared.types.Rate.{Rate}
 use Rattle.isp_base.specs.declared.types.Rate.TheVariants.{Uniform, Varying}
@@ -11,7 +11,12 @@ use Rattle.isp_code.specs.Operands.{operands}
 use Rattle.isp_code.specs.Registers.{elem_of, is_per_lane, is_local}
 use Rattle.isp_code.specs.declared.instr.Instr.{Instr}
 use Rattle.isp_code.specs.declared.register.Class.TheVariants as class
-use Rattle.isp_typed.specs.Typed.{TExpr, TSimple, TItem}
+use Rattle.isp_code.specs.declared.function.Param.{Param}
+use Rattle.isp_typed.specs.Fine.{params_of}
+use Rattle.isp_typed.specs.Typed.{TExpr, TFunction, TSimple, TItem}
+use Rattle.isp_typed.specs.declared.variable.Variable.{Variable}
+use Rattle.isp_lower.specs.Callees.{rates_in}
+use Rattle.isp_lower.specs.Header.{kind_of, elem_held, returns_of}
 use Rattle.isp_typed.specs.declared.variable.ArrayVariable.{ArrayVariable}
 use Rattle.isp_lower.specs.Layout.{Layout, class_at, register, array_register}
 use Rattle.isp_lower.specs.Rows.{Name, numbered}
@@ -29,6 +34,26 @@ module _ (code : Listing) (h : Routine) where
   -- mask that is there
   abbrev pub PartSound : List Span → (ℕ → ℕ → ℕ → List Instr) → Type 0
   PartSound places part = (pc p k : ℕ) → k < h.masks → p + length places ≤ length code.places → pc + length (part pc p k) < length h.code → AreSound (part pc p k)
+
+-- ---- the functions that code calls
+
+-- a routine's parameters are what some variables hold
+abbrev pub AreHeld : List Variable → List Param → Type 0
+AreHeld [] [] = Unit {0}
+AreHeld (v ∷ vs) (p ∷ ps) = (p.kind ≡ kind_of v.holds) × (p.elem ≡ elem_held v.holds) × AreHeld vs ps
+AreHeld vs ps = ⊥
+
+-- routine f takes what function g takes, and gives what it gives
+pub record HasHeader (code : Listing) (f : ℕ) (g : TFunction) : Type 0 where
+  pub routine : Routine
+  pub found : slice_get code.routines f ≡ Some routine
+  pub params : AreHeld (params_of g) routine.params
+  pub returns : routine.returns ≡ returns_of g.answer
+
+-- so each function has its routine, and code hands over at the rates of the parameters
+pub record Links (fs : List TFunction) (code : Listing) (l : Layout) : Type 0 where
+  pub rates : l.rates ≡ rates_in fs
+  pub headers : (f : ℕ) (g : TFunction) → slice_get fs f ≡ Some g → HasHeader code f g
 
 -- ---- the registers that a function has
 

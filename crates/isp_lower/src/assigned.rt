@@ -47,10 +47,10 @@ fn writes_last(x: &TypedExpr) -> bool
         | TypedExpr::Convert { .. }
         | TypedExpr::Unary { .. }
         | TypedExpr::Binary { .. }
-        | TypedExpr::Compare { .. } => true,
+        | TypedExpr::Compare { .. }
+        | TypedExpr::Call { .. } => true,
         TypedExpr::Place(TypedPlace::Variable { .. })
         | TypedExpr::Logic { .. }
-        | TypedExpr::Call { .. }
         | TypedExpr::Library { .. }
         | TypedExpr::PackedStore { .. }
         | TypedExpr::PackedLoad { .. } => false,
@@ -65,7 +65,7 @@ pub(crate) fn variable_to(
     x: &TypedExpr,
     site: Site,
 ) -> Result<(), AllocError>
-    requires { Present on.now (variable_asks home.ty.rate home.ty.elem home.number (expr_of x.now) site.slot) }
+    requires { Present on.now (variable_asks home.ty.rate home.ty.elem home.number (expr_of x.now) site.slot.number) }
     ensures { OnOk result (Writes b.old b.new (variable_at on.now home (expr_of x.now) site)) }
 {
     let to = on.variable(home.number, home.ty);
@@ -88,10 +88,10 @@ fn element_to(
     site: Site,
 ) -> Result<(), AllocError>
     requires array { Present on.now (ArrayOf element.array) }
-    requires value { Present on.now (operand_asks element.ty.rate (expr_of x.now) site.slot) }
+    requires value { Present on.now (operand_asks element.ty.rate (expr_of x.now) site.slot.number) }
     ensures { OnOk result (Writes b.old b.new (element_to_at on.now element (expr_of x.now) site)) }
 {
-    let from = operand(b, on, element.ty.rate, x, site.mask, site.slot)?;
+    let from = operand(b, on, element.ty.rate, x, site)?;
     write_from(b, on, element, from, site.mask)?;
     Ok(())
 }
@@ -104,7 +104,7 @@ pub(crate) fn assign(
     x: &TypedExpr,
     site: Site,
 ) -> Result<(), AllocError>
-    requires { Present on.now (assign_asks (place_of place.now) (expr_of x.now) site.slot) }
+    requires { Present on.now (assign_asks (place_of place.now) (expr_of x.now) site.slot.number) }
     ensures { OnOk result (Writes b.old b.new (assign_at on.now (place_of place.now) (expr_of x.now) site)) }
 {
     match place {
@@ -122,7 +122,7 @@ pub(crate) fn assign(
             ty,
             span,
         } => {
-            let at = index(b, on, ty.rate, inner, site.mask, site.slot)?;
+            let at = index(b, on, ty.rate, inner, site)?;
             let element = Element {
                 array: *array,
                 index: at,

@@ -4,6 +4,7 @@ ghost use Rattle.isp_code.specs.declared.instr.Instr.TheVariants as instr;
 ghost use Rattle.isp_lower.specs.Emitted.{Appends, Unchanged};
 ghost use Rattle.isp_lower.specs.Patched.{IsJump, instr_at, patched};
 
+use crate::numbered::{PlaceNumber, next_number};
 use crate::types::Body;
 use isp_base::Span;
 use isp_code::{Instr, JumpTest, Register};
@@ -21,43 +22,34 @@ impl Body {
         }
     }
 
-    /// Appends an instruction. Memory is refused too where it would be number 4,294,967,295.
+    /// Appends an instruction.
     pub fn push(&mut self, instr: Instr) -> Result<(), AllocError>
         ensures { OnOk result (Appends self.old self.new (λ pc p. instr ∷ []) []) }
     {
-        if self.code.len() >= 4_294_967_295 {
-            return Err(AllocError);
-        }
-        self.code.push(instr)?;
+        self.append(instr)?;
         Ok(())
     }
 
-    /// The same, which gives its number.
+    /// Appends an instruction, and gives its number. Memory is refused too where that would be 4,294,967,295.
     pub fn append(&mut self, instr: Instr) -> Result<u32, AllocError>
         ensures number { IfOk result (λ n. n ≡ length self.old.code.items) }
         ensures added { OnOk result (Appends self.old self.new (λ pc p. instr ∷ []) []) }
         ensures refused { OnErr result (Unchanged self.old self.new) }
     {
-        let at = self.code.len();
-        if at >= 4_294_967_295 {
-            return Err(AllocError);
-        }
+        let at = next_number(self.code.len())?;
         self.code.push(instr)?;
-        Ok(at as u32)
+        Ok(at)
     }
 
     /// Appends a place in the source, and gives its number. Memory is refused too where that would be 4,294,967,295.
-    pub fn place(&mut self, span: Span) -> Result<u32, AllocError>
-        ensures number { IfOk result (λ n. n ≡ length self.old.places.items) }
+    pub fn place(&mut self, span: Span) -> Result<PlaceNumber, AllocError>
+        ensures number { IfOk result (λ n. n.number ≡ length self.old.places.items) }
         ensures added { OnOk result (Appends self.old self.new (λ pc p. []) (span ∷ [])) }
         ensures refused { OnErr result (Unchanged self.old self.new) }
     {
-        let number = self.places.len();
-        if number >= 4_294_967_295 {
-            return Err(AllocError);
-        }
+        let number = next_number(self.places.len())?;
         self.places.push(span)?;
-        Ok(number as u32)
+        Ok(PlaceNumber { number })
     }
 
     /// Writes a jump, of which the number is known, once it is known that it leads to the next instruction.

@@ -11,6 +11,7 @@ ghost use Rattle.isp_lower.specs.Written.{Writes, change_by_at, changed_at, elem
 use crate::expression::{index, operand};
 use crate::leaves::{constant, convert, read, write};
 use crate::located::lift;
+use crate::numbered::RegisterNumber;
 use crate::sites::{Element, Held, Home, Operation, Site, Target};
 use crate::types::{Body, Scope};
 use crate::written::operate_to;
@@ -31,11 +32,11 @@ fn update_to(
     b: &mut Body,
     on: &Scope,
     operation: Operation,
-    from: u32,
-    by: u32,
+    from: RegisterNumber,
+    by: RegisterNumber,
     target: Target,
 ) -> Result<(), AllocError>
-    requires { Present on.now (work_asks (same_elem target.ty.elem operation.elem) target.ty.rate operation.elem target.site.slot) }
+    requires { Present on.now (work_asks (same_elem target.ty.elem operation.elem) target.ty.rate operation.elem target.site.slot.number) }
     ensures { OnOk result (Writes b.old b.new (update_at on.now operation from by target)) }
 {
     let operator = operation.operator;
@@ -62,12 +63,12 @@ fn change_element(
     on: &Scope,
     operation: Operation,
     element: Element,
-    by: u32,
+    by: RegisterNumber,
     site: Site,
 ) -> Result<(), AllocError>
     requires array { Present on.now (ArrayOf element.array) }
-    requires work { Present on.now (work_asks (same_elem element.ty.elem operation.elem) element.ty.rate operation.elem site.slot) }
-    requires held { Present on.now (spare_ask element.ty.rate element.ty.elem site.slot) }
+    requires work { Present on.now (work_asks (same_elem element.ty.elem operation.elem) element.ty.rate operation.elem site.slot.number) }
+    requires held { Present on.now (spare_ask element.ty.rate element.ty.elem site.slot.number) }
     ensures { OnOk result (Writes b.old b.new (changed_at on.now operation element by site)) }
 {
     let ty = element.ty;
@@ -90,11 +91,11 @@ fn change_variable_by(
     x: &TypedExpr,
     site: Site,
 ) -> Result<(), AllocError>
-    requires { Present on.now (update_asks operation.elem (t_variable home.number home.ty home.span) (expr_of x.now) site.slot) }
+    requires { Present on.now (update_asks operation.elem (t_variable home.number home.ty home.span) (expr_of x.now) site.slot.number) }
     ensures { OnOk result (Writes b.old b.new (change_by_at on.now operation (t_variable home.number home.ty home.span) (expr_of x.now) site)) }
 {
     let to = on.variable(home.number, home.ty);
-    let by = operand(b, on, home.ty.rate, x, site.mask, site.slot)?;
+    let by = operand(b, on, home.ty.rate, x, site)?;
     let target = Target::new(to, home.ty, operation.span, site.next());
     update_to(b, on, operation, to, by, target)?;
     Ok(())
@@ -110,13 +111,13 @@ fn change_element_by(
     site: Site,
 ) -> Result<(), AllocError>
     requires array { Present on.now (ArrayOf element.array) }
-    requires slots { site.slot + 1 < 4294967296 }
-    requires value { Present on.now (operand_asks element.ty.rate (expr_of x.now) site.slot) }
-    requires work { Present on.now (work_asks (same_elem element.ty.elem operation.elem) element.ty.rate operation.elem (site.slot + 1)) }
-    requires held { Present on.now (spare_ask element.ty.rate element.ty.elem (site.slot + 1)) }
+    requires slots { site.slot.number + 1 < 4294967296 }
+    requires value { Present on.now (operand_asks element.ty.rate (expr_of x.now) site.slot.number) }
+    requires work { Present on.now (work_asks (same_elem element.ty.elem operation.elem) element.ty.rate operation.elem (site.slot.number + 1)) }
+    requires held { Present on.now (spare_ask element.ty.rate element.ty.elem (site.slot.number + 1)) }
     ensures { OnOk result (Writes b.old b.new (element_by_at on.now operation element (expr_of x.now) site)) }
 {
-    let by = operand(b, on, element.ty.rate, x, site.mask, site.slot)?;
+    let by = operand(b, on, element.ty.rate, x, site)?;
     change_element(b, on, operation, element, by, site.next())?;
     Ok(())
 }
@@ -130,7 +131,7 @@ pub(crate) fn change_by(
     x: &TypedExpr,
     site: Site,
 ) -> Result<(), AllocError>
-    requires { Present on.now (update_asks operation.elem (place_of place.now) (expr_of x.now) site.slot) }
+    requires { Present on.now (update_asks operation.elem (place_of place.now) (expr_of x.now) site.slot.number) }
     ensures { OnOk result (Writes b.old b.new (change_by_at on.now operation (place_of place.now) (expr_of x.now) site)) }
 {
     match place {
@@ -148,7 +149,7 @@ pub(crate) fn change_by(
             ty,
             span,
         } => {
-            let at = index(b, on, ty.rate, inner, site.mask, site.slot)?;
+            let at = index(b, on, ty.rate, inner, site)?;
             let element = Element {
                 array: *array,
                 index: at,
@@ -161,10 +162,16 @@ pub(crate) fn change_by(
 }
 
 /// The number 1 as a value of a type and rate.
-fn one(b: &mut Body, on: &Scope, rate: Rate, elem: Elem, site: Site) -> Result<u32, AllocError>
-    requires { Present on.now (one_asks rate elem site.slot) }
-    ensures register { IfOk result (λ d. d ≡ one_in (layout on.now) rate elem site.slot) }
-    ensures code { OnOk result (Appends b.old b.new (λ pc p. one_code (layout on.now) rate elem site.mask site.slot) []) }
+fn one(
+    b: &mut Body,
+    on: &Scope,
+    rate: Rate,
+    elem: Elem,
+    site: Site,
+) -> Result<RegisterNumber, AllocError>
+    requires { Present on.now (one_asks rate elem site.slot.number) }
+    ensures register { IfOk result (λ d. d.number ≡ one_in (layout on.now) rate elem site.slot.number) }
+    ensures code { OnOk result (Appends b.old b.new (λ pc p. one_code (layout on.now) rate elem site.mask.number site.slot.number) []) }
 {
     let ty = Ty {
         rate: Rate::Uniform,
@@ -183,7 +190,7 @@ fn step_variable(
     home: Home,
     site: Site,
 ) -> Result<(), AllocError>
-    requires { Present on.now (step_asks operation.elem (t_variable home.number home.ty home.span) site.slot) }
+    requires { Present on.now (step_asks operation.elem (t_variable home.number home.ty home.span) site.slot.number) }
     ensures { OnOk result (Writes b.old b.new (step_at on.now operation (t_variable home.number home.ty home.span) site)) }
 {
     let to = on.variable(home.number, home.ty);
@@ -202,10 +209,10 @@ fn step_element(
     site: Site,
 ) -> Result<(), AllocError>
     requires array { Present on.now (ArrayOf element.array) }
-    requires slots { site.slot + 1 < 4294967296 }
-    requires one { Present on.now (one_asks element.ty.rate operation.elem site.slot) }
-    requires work { Present on.now (work_asks (same_elem element.ty.elem operation.elem) element.ty.rate operation.elem (site.slot + 1)) }
-    requires held { Present on.now (spare_ask element.ty.rate element.ty.elem (site.slot + 1)) }
+    requires slots { site.slot.number + 1 < 4294967296 }
+    requires one { Present on.now (one_asks element.ty.rate operation.elem site.slot.number) }
+    requires work { Present on.now (work_asks (same_elem element.ty.elem operation.elem) element.ty.rate operation.elem (site.slot.number + 1)) }
+    requires held { Present on.now (spare_ask element.ty.rate element.ty.elem (site.slot.number + 1)) }
     ensures { OnOk result (Writes b.old b.new (element_step_at on.now operation element site)) }
 {
     let by = one(b, on, element.ty.rate, operation.elem, site)?;
@@ -221,7 +228,7 @@ pub(crate) fn step(
     place: &TypedPlace,
     site: Site,
 ) -> Result<(), AllocError>
-    requires { Present on.now (step_asks operation.elem (place_of place.now) site.slot) }
+    requires { Present on.now (step_asks operation.elem (place_of place.now) site.slot.number) }
     ensures { OnOk result (Writes b.old b.new (step_at on.now operation (place_of place.now) site)) }
 {
     match place {
@@ -239,7 +246,7 @@ pub(crate) fn step(
             ty,
             span,
         } => {
-            let at = index(b, on, ty.rate, inner, site.mask, site.slot)?;
+            let at = index(b, on, ty.rate, inner, site)?;
             let element = Element {
                 array: *array,
                 index: at,

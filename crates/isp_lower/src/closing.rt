@@ -10,7 +10,7 @@ use isp_code::Function;
 use std::alloc::{AllocError, Global};
 use std::mem;
 
-impl Emitter {
+impl Emitter<'_> {
     /// The routine of the function at work, if there is one, is the next one. Where memory is refused, all stays as it was.
     pub(crate) fn close(&mut self, alloc: Global) -> Result<(), AllocError>
         ensures closed { OnOk result (draft_of self.new ≡ closed (draft_of self.old)) }

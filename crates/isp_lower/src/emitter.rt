@@ -1,16 +1,17 @@
 //! The code of a program while it is written.
 ghost use Rattle.std.specs.Prelude.{◌≡◌, ◌≤◌, ◌<◌, length, IfOk, OnErr, OnOk};
-ghost use Rattle.isp_typed.specs.Views.{function_of};
+ghost use Rattle.isp_typed.specs.Views.{function_of, program_of};
 ghost use Rattle.isp_lower.specs.Drafts.{HasAllNamed, HasNamed, IsBegun, begun, draft_of, finished, first_draft, with_instr, with_place, with_register, with_target, with_text};
 ghost use Rattle.isp_lower.specs.Header.{HeadingFits};
 ghost use Rattle.isp_lower.specs.Layout.{register};
 ghost use Rattle.isp_lower.specs.Named.{Unnamed};
 ghost use Rattle.isp_lower.specs.Patched.{IsJump, instr_at};
-ghost use Rattle.isp_lower.specs.Rows.{layout_of, rows_at};
+ghost use Rattle.isp_lower.specs.Rows.{fresh_at, rows_at};
 
 use crate::beginning::{begin, no_registers};
 use crate::header::heading_of;
 use crate::listing::{add_functions, add_places, add_texts};
+use crate::numbered::{PlaceNumber, RegisterNumber, TextNumber, next_number};
 use crate::reserve::Reserve;
 use crate::types::{Body, Emitter};
 use isp_base::{Elem, Rate, Span};
@@ -18,13 +19,14 @@ use isp_code::{Code, Instr};
 use isp_typed::{Program, TypedFunction};
 use std::alloc::{AllocError, Global};
 
-impl Emitter {
+impl<'p> Emitter<'p> {
     /// No code, no place, no text and no function, for a program's gang.
-    pub fn new(alloc: Global, program: &Program) -> Emitter
-        ensures { draft_of result ≡ first_draft program.now.gang }
+    pub fn new(alloc: Global, program: &'p Program) -> Emitter<'p>
+        ensures { draft_of result ≡ first_draft (program_of program.now) }
     {
         Emitter {
             gang: program.gang,
+            callees: &program.functions,
             texts: Vec::new(alloc),
             functions: Vec::new(alloc),
             heading: None,
@@ -57,8 +59,8 @@ impl Emitter {
     }
 
     /// Adds a place in the source and gives its number. 0 where memory is refused, or there are 4,294,967,295 places.
-    pub fn place(&mut self, span: Span) -> Result<u32, AllocError>
-        ensures number { IfOk result (λ n. n ≡ length (draft_of self.old).places) }
+    pub fn place(&mut self, span: Span) -> Result<PlaceNumber, AllocError>
+        ensures number { IfOk result (λ n. n.number ≡ length (draft_of self.old).places) }
         ensures added { OnOk result (draft_of self.new ≡ with_place span (draft_of self.old)) }
         ensures refused { OnErr result (draft_of self.new ≡ draft_of self.old) }
     {
@@ -66,18 +68,15 @@ impl Emitter {
     }
 
     /// Adds a text, its bytes, and gives its number. 0 where memory is refused, or there are 4,294,967,295 texts.
-    pub fn text(&mut self, bytes: &[u8]) -> Result<u32, AllocError>
-        ensures number { IfOk result (λ n. n ≡ length (draft_of self.old).texts) }
+    pub fn text(&mut self, bytes: &[u8]) -> Result<TextNumber, AllocError>
+        ensures number { IfOk result (λ n. n.number ≡ length (draft_of self.old).texts) }
         ensures added { OnOk result (draft_of self.new ≡ with_text bytes.now (draft_of self.old)) }
         ensures refused { OnErr result (draft_of self.new ≡ draft_of self.old) }
     {
-        let number = self.texts.len();
-        if number >= 4_294_967_295 {
-            return Err(AllocError);
-        }
+        let number = next_number(self.texts.len())?;
         let alloc = *self.texts.allocator();
         self.texts.push(Vec::from_slice(alloc, bytes)?)?;
-        Ok(number as u32)
+        Ok(TextNumber { number })
     }
 
     /// Adds an instruction, all of whose registers the function at work has, and gives its number. 0 where memory is
@@ -95,13 +94,13 @@ impl Emitter {
 
     /// A register of the function at work for values of a type, and its number: no instruction names it, and no other call
     /// gives it. 0 where memory is refused, or there are 4,294,967,295 registers of the rate.
-    pub fn fresh(&mut self, rate: Rate, elem: Elem) -> Result<u32, AllocError>
+    pub fn fresh(&mut self, rate: Rate, elem: Elem) -> Result<RegisterNumber, AllocError>
         requires { IsBegun (draft_of self.old) }
-        ensures number { IfOk result (λ d. d ≡ length (rows_at (draft_of self.old).rows rate)) }
+        ensures number { IfOk result (λ d. d.number ≡ length (rows_at (draft_of self.old).rows rate)) }
         ensures added { OnOk result (draft_of self.new ≡ with_register rate elem (draft_of self.old)) }
-        ensures named { IfOk result (λ d. (layout_of (draft_of self.new).rows).fresh rate d ≡ d) }
+        ensures named { IfOk result (λ d. fresh_at (draft_of self.new).rows rate d.number ≡ d.number) }
         ensures all_named { HasAllNamed (draft_of self.old) → OnOk result (HasAllNamed (draft_of self.new)) }
-        ensures unnamed { HasAllNamed (draft_of self.old) → IfOk result (λ d. Unnamed (register rate d) (draft_of self.old).code) }
+        ensures unnamed { HasAllNamed (draft_of self.old) → IfOk result (λ d. Unnamed (register rate d.number) (draft_of self.old).code) }
         ensures refused { OnErr result (draft_of self.new ≡ draft_of self.old) }
     {
         self.reserved.registers.fresh(rate, elem)
@@ -120,7 +119,7 @@ impl Emitter {
     /// Closes the function at work, if there is one, and gives the code. 0 where memory is refused, or the text of code
     /// cannot have a place, a text or a function.
     pub fn finish(mut self) -> Result<Code, AllocError>
-        ensures { IfOk result (λ code. code ≡ finished (draft_of self)) }
+        ensures { IfOk result (λ code. code ≡ finished (draft_of self.entry)) }
     {
         let alloc = *self.texts.allocator();
         self.close(alloc)?;

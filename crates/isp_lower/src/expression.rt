@@ -13,6 +13,7 @@ use crate::leaves::{
     the_others, unary, where_so,
 };
 use crate::located::{found, lift, moved};
+use crate::numbered::{RegisterNumber, Slot};
 use crate::sites::{Element, Held, Site, Skip, Target};
 use crate::truths::{decided, is_short};
 use crate::types::{Body, Scope};
@@ -25,20 +26,31 @@ use std::alloc::AllocError;
 /// The code of an expression under a mask, in the slots from one on. It answers the register of the value, scalar
 /// where the expression is uniform. Memory is refused too of what has no code yet: calls, the library and packed calls.
 #[cycle(expr)]
-pub fn expr(b: &mut Body, on: &Scope, x: &TypedExpr, k: u32, slot: u32) -> Result<u32, AllocError>
-    requires { Present on.now (expr_asks (expr_of x.now) slot) }
-    ensures register { IfOk result (λ d. d ≡ found (layout on.now) (expr_of x.now) slot) }
-    ensures code { OnOk result (Appends b.old b.new (λ pc p. expr_code (layout on.now) (expr_of x.now) pc p k slot) (expr_places (layout on.now) (expr_of x.now))) }
+pub fn expr(
+    b: &mut Body,
+    on: &Scope,
+    x: &TypedExpr,
+    site: Site,
+) -> Result<RegisterNumber, AllocError>
+    requires { Present on.now (expr_asks (expr_of x.now) site.slot.number) }
+    ensures register { IfOk result (λ d. d.number ≡ found (layout on.now) (expr_of x.now) site.slot.number) }
+    ensures code { OnOk result (Appends b.old b.new (λ pc p. expr_code (layout on.now) (expr_of x.now) pc p site.mask.number site.slot.number) (expr_places (layout on.now) (expr_of x.now))) }
 {
-    let to = found(on, x, slot);
-    write_to(b, on, x, to, Site { mask: k, slot })?;
+    let to = found(on, x, site.slot);
+    write_to(b, on, x, to, site)?;
     Ok(to)
 }
 
 /// The same where the last instruction writes a register, for expressions that have one.
 #[cycle(expr)]
-fn write_to(b: &mut Body, on: &Scope, x: &TypedExpr, to: u32, site: Site) -> Result<(), AllocError>
-    requires { Present on.now (expr_asks (expr_of x.now) site.slot) }
+fn write_to(
+    b: &mut Body,
+    on: &Scope,
+    x: &TypedExpr,
+    to: RegisterNumber,
+    site: Site,
+) -> Result<(), AllocError>
+    requires { Present on.now (expr_asks (expr_of x.now) site.slot.number) }
     ensures { OnOk result (Writes b.old b.new (to_at on.now (expr_of x.now) to site)) }
 {
     let target = Target::new(to, x.ty(), x.span(), site);
@@ -59,6 +71,31 @@ fn write_to(b: &mut Body, on: &Scope, x: &TypedExpr, to: u32, site: Site) -> Res
             right,
             ..
         } => binary_to(b, on, *operator, left, right, target),
+        TypedExpr::Compare { .. }
+        | TypedExpr::Logic { .. }
+        | TypedExpr::Choose { .. }
+        | TypedExpr::Call { .. }
+        | TypedExpr::Library { .. }
+        | TypedExpr::PackedStore { .. }
+        | TypedExpr::PackedLoad { .. } => compare_or_branch(b, on, x, to, site),
+    }
+}
+
+/// The same of comparisons, and of expressions that may leave out a part. Memory is refused of all others, which have no
+/// code yet.
+#[cycle(expr)]
+fn compare_or_branch(
+    b: &mut Body,
+    on: &Scope,
+    x: &TypedExpr,
+    to: RegisterNumber,
+    site: Site,
+) -> Result<(), AllocError>
+    requires { Present on.now (expr_asks (expr_of x.now) site.slot.number) }
+    ensures { OnOk result (Writes b.old b.new (to_at on.now (expr_of x.now) to site)) }
+{
+    let target = Target::new(to, x.ty(), x.span(), site);
+    match x {
         TypedExpr::Compare {
             comparison,
             left,
@@ -69,22 +106,15 @@ fn write_to(b: &mut Body, on: &Scope, x: &TypedExpr, to: u32, site: Site) -> Res
             logic,
             left,
             right,
-            rate,
             ..
-        } => match rate {
-            Rate::Uniform => logic_of_one(b, on, *logic, left, right, target),
-            Rate::Varying => logic_of_each(b, on, *logic, left, right, target),
-        },
+        } => logic_to(b, on, *logic, left, right, target),
         TypedExpr::Choose {
             test,
             then,
             otherwise,
             ..
         } => choose_to(b, on, test, then, otherwise, target),
-        TypedExpr::Call { .. }
-        | TypedExpr::Library { .. }
-        | TypedExpr::PackedStore { .. }
-        | TypedExpr::PackedLoad { .. } => Err(AllocError),
+        _ => Err(AllocError),
     }
 }
 
@@ -95,16 +125,15 @@ pub fn operand(
     on: &Scope,
     rate: Rate,
     x: &TypedExpr,
-    k: u32,
-    slot: u32,
-) -> Result<u32, AllocError>
-    requires { Present on.now (operand_asks rate (expr_of x.now) slot) }
-    ensures register { IfOk result (λ d. d ≡ operand (layout on.now) rate (expr_of x.now) slot) }
-    ensures code { OnOk result (Writes b.old b.new (operand_at on.now rate (expr_of x.now) k slot)) }
+    site: Site,
+) -> Result<RegisterNumber, AllocError>
+    requires { Present on.now (operand_asks rate (expr_of x.now) site.slot.number) }
+    ensures register { IfOk result (λ d. d.number ≡ operand (layout on.now) rate (expr_of x.now) site.slot.number) }
+    ensures code { OnOk result (Writes b.old b.new (operand_at on.now rate (expr_of x.now) site)) }
 {
-    let from = expr(b, on, x, k, slot)?;
+    let from = expr(b, on, x, site)?;
     let ty = x.ty();
-    lift(b, on, rate, Held { from, ty }, Site { mask: k, slot })
+    lift(b, on, rate, Held { from, ty }, site)
 }
 
 /// A register gets the result of an operator on one value.
@@ -116,12 +145,11 @@ fn unary_to(
     x: &TypedExpr,
     target: Target,
 ) -> Result<(), AllocError>
-    requires { Present on.now (expr_asks (t_unary operator (expr_of x.now) target.ty target.span) target.site.slot) }
+    requires { Present on.now (expr_asks (t_unary operator (expr_of x.now) target.ty target.span) target.site.slot.number) }
     ensures { OnOk result (Writes b.old b.new (node_at on.now (t_unary operator (expr_of x.now) target.ty target.span) target)) }
 {
-    let Site { mask: k, slot } = target.site;
-    let from = operand(b, on, target.ty.rate, x, k, slot)?;
-    b.push(unary(target.ty.rate, operator, target.to, from, k))?;
+    let from = operand(b, on, target.ty.rate, x, target.site)?;
+    b.push(unary(target.ty.rate, operator, target.to, from, target.site.mask))?;
     Ok(())
 }
 
@@ -133,14 +161,13 @@ pub(crate) fn cast_to(
     x: &TypedExpr,
     target: Target,
 ) -> Result<(), AllocError>
-    requires { Present on.now (operand_asks target.ty.rate (expr_of x.now) target.site.slot) }
+    requires { Present on.now (operand_asks target.ty.rate (expr_of x.now) target.site.slot.number) }
     ensures { OnOk result (Writes b.old b.new (value_at on.now true (expr_of x.now) target)) }
 {
     match (target.ty.rate, x.ty().rate) {
         (Rate::Varying, Rate::Uniform) => {
-            let Site { mask: k, slot } = target.site;
-            let from = expr(b, on, x, k, slot)?;
-            b.push(splat(target.to, from, k))?;
+            let from = expr(b, on, x, target.site)?;
+            b.push(splat(target.to, from, target.site.mask))?;
             Ok(())
         }
         _ => write_to(b, on, x, target.to, target.site),
@@ -157,12 +184,11 @@ fn binary_to(
     right: &TypedExpr,
     target: Target,
 ) -> Result<(), AllocError>
-    requires { Present on.now (expr_asks (t_binary operator (expr_of left.now) (expr_of right.now) target.ty target.span) target.site.slot) }
+    requires { Present on.now (expr_asks (t_binary operator (expr_of left.now) (expr_of right.now) target.ty target.span) target.site.slot.number) }
     ensures { OnOk result (Writes b.old b.new (node_at on.now (t_binary operator (expr_of left.now) (expr_of right.now) target.ty target.span) target)) }
 {
-    let Site { mask: k, slot } = target.site;
-    let x = operand(b, on, target.ty.rate, left, k, slot)?;
-    let y = operand(b, on, target.ty.rate, right, k, slot + 1)?;
+    let x = operand(b, on, target.ty.rate, left, target.site)?;
+    let y = operand(b, on, target.ty.rate, right, target.site.next())?;
     operate_to(b, operator, x, y, target)?;
     Ok(())
 }
@@ -177,14 +203,13 @@ fn compare_to(
     right: &TypedExpr,
     target: Target,
 ) -> Result<(), AllocError>
-    requires { Present on.now (expr_asks (t_compare comparison (expr_of left.now) (expr_of right.now) target.ty.rate target.span) target.site.slot) }
+    requires { Present on.now (expr_asks (t_compare comparison (expr_of left.now) (expr_of right.now) target.ty.rate target.span) target.site.slot.number) }
     ensures { OnOk result (Writes b.old b.new (node_at on.now (t_compare comparison (expr_of left.now) (expr_of right.now) target.ty.rate target.span) target)) }
 {
-    let Site { mask: k, slot } = target.site;
     let rate = target.ty.rate;
-    let x = operand(b, on, rate, left, k, slot)?;
-    let y = operand(b, on, rate, right, k, slot + 1)?;
-    b.push(compare(rate, comparison, target.to, x, y, k))?;
+    let x = operand(b, on, rate, left, target.site)?;
+    let y = operand(b, on, rate, right, target.site.next())?;
+    b.push(compare(rate, comparison, target.to, x, y, target.site.mask))?;
     Ok(())
 }
 
@@ -217,10 +242,10 @@ fn convert_to(
     on: &Scope,
     elem: Elem,
     x: &TypedExpr,
-    to: u32,
+    to: RegisterNumber,
     site: Site,
 ) -> Result<(), AllocError>
-    requires { Present on.now (expr_asks (expr_of x.now) site.slot) }
+    requires { Present on.now (expr_asks (expr_of x.now) site.slot.number) }
     ensures { OnOk result (Writes b.old b.new (to_at on.now (t_convert elem (expr_of x.now)) to site)) }
 {
     match constant_of(x) {
@@ -230,7 +255,7 @@ fn convert_to(
             Ok(())
         }
         None => {
-            let from = expr(b, on, x, site.mask, site.slot)?;
+            let from = expr(b, on, x, site)?;
             b.push(convert(x.ty().rate, to, from, site.mask))?;
             Ok(())
         }
@@ -246,17 +271,17 @@ fn is_whole(elem: Elem) -> bool
 
 /// A whole number as int64.
 #[cycle(expr)]
-fn whole(b: &mut Body, on: &Scope, x: &TypedExpr, k: u32, slot: u32) -> Result<u32, AllocError>
-    requires { Present on.now (whole_asks (expr_of x.now) slot (expr_asks (expr_of x.now) slot)) }
-    ensures register { IfOk result (λ d. d ≡ whole (layout on.now) (is_whole (type_of (expr_of x.now)).elem) (expr_of x.now) slot) }
-    ensures code { OnOk result (Writes b.old b.new (whole_at on.now (expr_of x.now) k slot)) }
+fn whole(b: &mut Body, on: &Scope, x: &TypedExpr, site: Site) -> Result<RegisterNumber, AllocError>
+    requires { Present on.now (whole_asks (expr_of x.now) site.slot.number (expr_asks (expr_of x.now) site.slot.number)) }
+    ensures register { IfOk result (λ d. d.number ≡ whole (layout on.now) (is_whole (type_of (expr_of x.now)).elem) (expr_of x.now) site.slot.number) }
+    ensures code { OnOk result (Writes b.old b.new (whole_at on.now (expr_of x.now) site)) }
 {
     let given = x.ty();
     if is_whole(given.elem) {
-        expr(b, on, x, k, slot)
+        expr(b, on, x, site)
     } else {
-        let to = on.spare(given.rate, Elem::I64, slot);
-        convert_to(b, on, Elem::I64, x, to, Site { mask: k, slot })?;
+        let to = on.spare(given.rate, Elem::I64, site.slot);
+        convert_to(b, on, Elem::I64, x, to, site)?;
         Ok(to)
     }
 }
@@ -268,19 +293,18 @@ pub fn index(
     on: &Scope,
     rate: Rate,
     x: &TypedExpr,
-    k: u32,
-    slot: u32,
-) -> Result<u32, AllocError>
-    requires { Present on.now (index_asks rate (expr_of x.now) slot (expr_asks (expr_of x.now) slot)) }
-    ensures register { IfOk result (λ d. d ≡ index (layout on.now) rate (expr_of x.now) slot) }
-    ensures code { OnOk result (Writes b.old b.new (index_at on.now rate (expr_of x.now) k slot)) }
+    site: Site,
+) -> Result<RegisterNumber, AllocError>
+    requires { Present on.now (index_asks rate (expr_of x.now) site.slot.number (expr_asks (expr_of x.now) site.slot.number)) }
+    ensures register { IfOk result (λ d. d.number ≡ index (layout on.now) rate (expr_of x.now) site.slot.number) }
+    ensures code { OnOk result (Writes b.old b.new (index_at on.now rate (expr_of x.now) site)) }
 {
-    let from = whole(b, on, x, k, slot)?;
+    let from = whole(b, on, x, site)?;
     let ty = Ty {
         rate: x.ty().rate,
         elem: Elem::I64,
     };
-    lift(b, on, rate, Held { from, ty }, Site { mask: k, slot })
+    lift(b, on, rate, Held { from, ty }, site)
 }
 
 /// A register gets what an element has; a variable stays in place.
@@ -289,10 +313,10 @@ fn place_to(
     b: &mut Body,
     on: &Scope,
     place: &TypedPlace,
-    to: u32,
+    to: RegisterNumber,
     site: Site,
 ) -> Result<(), AllocError>
-    requires { Present on.now (expr_asks (t_place (place_of place.now)) site.slot) }
+    requires { Present on.now (expr_asks (t_place (place_of place.now)) site.slot.number) }
     ensures { OnOk result (Writes b.old b.new (to_at on.now (t_place (place_of place.now)) to site)) }
 {
     match place {
@@ -315,18 +339,17 @@ fn element_to(
     inner: &TypedExpr,
     target: Target,
 ) -> Result<(), AllocError>
-    requires { Present on.now (target_asks (t_element array (expr_of inner.now) target.ty target.span) target.site.slot) }
+    requires { Present on.now (target_asks (t_element array (expr_of inner.now) target.ty target.span) target.site.slot.number) }
     ensures { OnOk result (Writes b.old b.new (node_at on.now (t_place (t_element array (expr_of inner.now) target.ty target.span)) target)) }
 {
-    let Site { mask: k, slot } = target.site;
-    let index = index(b, on, target.ty.rate, inner, k, slot)?;
+    let index = index(b, on, target.ty.rate, inner, target.site)?;
     let element = Element {
         array,
         index,
         ty: target.ty,
         span: target.span,
     };
-    read_to(b, on, element, target.to, k)?;
+    read_to(b, on, element, target.to, target.site.mask)?;
     Ok(())
 }
 
@@ -338,12 +361,11 @@ pub(crate) fn copied(
     x: &TypedExpr,
     target: Target,
 ) -> Result<(), AllocError>
-    requires { Present on.now (operand_asks target.ty.rate (expr_of x.now) target.site.slot) }
+    requires { Present on.now (operand_asks target.ty.rate (expr_of x.now) target.site.slot.number) }
     ensures { OnOk result (Writes b.old b.new (value_at on.now false (expr_of x.now) target)) }
 {
-    let Site { mask: k, slot } = target.site;
-    let from = operand(b, on, target.ty.rate, x, k, slot)?;
-    b.push(copy(target.ty.rate, target.to, from, k))?;
+    let from = operand(b, on, target.ty.rate, x, target.site)?;
+    b.push(copy(target.ty.rate, target.to, from, target.site.mask))?;
     Ok(())
 }
 
@@ -356,7 +378,7 @@ fn right_side(
     x: &TypedExpr,
     target: Target,
 ) -> Result<(), AllocError>
-    requires { Present on.now (operand_asks target.ty.rate (expr_of x.now) target.site.slot) }
+    requires { Present on.now (operand_asks target.ty.rate (expr_of x.now) target.site.slot.number) }
     ensures { OnOk result (Writes b.old b.new (skipped_at on.now skip (expr_of x.now) target)) }
 {
     let at = b.code.len();
@@ -364,6 +386,25 @@ fn right_side(
     copied(b, on, x, target)?;
     b.land(at, skip.test, skip.register);
     Ok(())
+}
+
+/// `&&` or `||`, left in the slot.
+#[cycle(expr)]
+fn logic_to(
+    b: &mut Body,
+    on: &Scope,
+    logic: Logic,
+    left: &TypedExpr,
+    right: &TypedExpr,
+    target: Target,
+) -> Result<(), AllocError>
+    requires { Present on.now (expr_asks (t_logic logic (expr_of left.now) (expr_of right.now) target.ty.rate target.span) target.site.slot.number) }
+    ensures { OnOk result (Writes b.old b.new (node_at on.now (t_logic logic (expr_of left.now) (expr_of right.now) target.ty.rate target.span) target)) }
+{
+    match target.ty.rate {
+        Rate::Uniform => logic_of_one(b, on, logic, left, right, target),
+        Rate::Varying => logic_of_each(b, on, logic, left, right, target),
+    }
 }
 
 /// `&&` or `||` of one value, left in the slot.
@@ -376,11 +417,10 @@ fn logic_of_one(
     right: &TypedExpr,
     target: Target,
 ) -> Result<(), AllocError>
-    requires { Present on.now (expr_asks (t_logic logic (expr_of left.now) (expr_of right.now) Uniform target.span) target.site.slot) }
+    requires { Present on.now (expr_asks (t_logic logic (expr_of left.now) (expr_of right.now) Uniform target.span) target.site.slot.number) }
     ensures { OnOk result (Writes b.old b.new (node_at on.now (t_logic logic (expr_of left.now) (expr_of right.now) Uniform target.span) target)) }
 {
-    let Site { mask: k, slot } = target.site;
-    let from = operand(b, on, Rate::Uniform, left, k, slot)?;
+    let from = operand(b, on, Rate::Uniform, left, target.site)?;
     let ty = Ty {
         rate: Rate::Uniform,
         elem: Elem::Bool,
@@ -405,20 +445,20 @@ fn logic_of_each(
     right: &TypedExpr,
     target: Target,
 ) -> Result<(), AllocError>
-    requires { Present on.now (expr_asks (t_logic logic (expr_of left.now) (expr_of right.now) Varying target.span) target.site.slot) }
+    requires { Present on.now (expr_asks (t_logic logic (expr_of left.now) (expr_of right.now) Varying target.span) target.site.slot.number) }
     ensures { OnOk result (Writes b.old b.new (node_at on.now (t_logic logic (expr_of left.now) (expr_of right.now) Varying target.span) target)) }
 {
-    let Site { mask: k, slot } = target.site;
-    let from = operand(b, on, Rate::Varying, left, k, slot)?;
+    let from = operand(b, on, Rate::Varying, left, target.site)?;
     let ty = Ty {
         rate: Rate::Varying,
         elem: Elem::Bool,
     };
     let result = moved(b, on, Held { from, ty }, target.site)?;
-    put_needing(b, logic, slot, result, k)?;
+    let needing = target.site.slot.mask();
+    put_needing(b, logic, needing, result, target.site.mask)?;
     let skip = Skip {
         test: JumpTest::Off,
-        register: mask(slot),
+        register: mask(needing),
     };
     let aim = Target::new(result, ty, target.span, target.site.under());
     right_side(b, on, skip, right, aim)?;
@@ -428,11 +468,11 @@ fn logic_of_each(
 /// A side of a choice, moved to the slot.
 #[cycle(expr)]
 fn side(b: &mut Body, on: &Scope, ty: Ty, x: &TypedExpr, site: Site) -> Result<(), AllocError>
-    requires to { Present on.now (spare_ask ty.rate ty.elem site.slot) }
-    requires value { Present on.now (operand_asks ty.rate (expr_of x.now) site.slot) }
+    requires to { Present on.now (spare_ask ty.rate ty.elem site.slot.number) }
+    requires value { Present on.now (operand_asks ty.rate (expr_of x.now) site.slot.number) }
     ensures { OnOk result (Writes b.old b.new (side_at on.now ty (expr_of x.now) site)) }
 {
-    let from = operand(b, on, ty.rate, x, site.mask, site.slot)?;
+    let from = operand(b, on, ty.rate, x, site)?;
     moved(b, on, Held { from, ty }, site)?;
     Ok(())
 }
@@ -442,14 +482,14 @@ fn side(b: &mut Body, on: &Scope, ty: Ty, x: &TypedExpr, site: Site) -> Result<(
 fn choose_by_jump(
     b: &mut Body,
     on: &Scope,
-    tested: u32,
+    tested: RegisterNumber,
     then: &TypedExpr,
     otherwise: &TypedExpr,
     target: Target,
 ) -> Result<(), AllocError>
-    requires to { Present on.now (spare_ask target.ty.rate target.ty.elem target.site.slot) }
-    requires then { Present on.now (operand_asks target.ty.rate (expr_of then.now) target.site.slot) }
-    requires otherwise { Present on.now (operand_asks target.ty.rate (expr_of otherwise.now) target.site.slot) }
+    requires to { Present on.now (spare_ask target.ty.rate target.ty.elem target.site.slot.number) }
+    requires then { Present on.now (operand_asks target.ty.rate (expr_of then.now) target.site.slot.number) }
+    requires otherwise { Present on.now (operand_asks target.ty.rate (expr_of otherwise.now) target.site.slot.number) }
     ensures { OnOk result (Writes b.old b.new (by_jump_at on.now tested (expr_of then.now) (expr_of otherwise.now) target)) }
 {
     let at = b.code.len();
@@ -473,13 +513,13 @@ fn choose_one(
     otherwise: &TypedExpr,
     target: Target,
 ) -> Result<(), AllocError>
-    requires test { Present on.now (expr_asks (expr_of test.now) target.site.slot) }
-    requires to { Present on.now (spare_ask target.ty.rate target.ty.elem target.site.slot) }
-    requires then { Present on.now (operand_asks target.ty.rate (expr_of then.now) target.site.slot) }
-    requires otherwise { Present on.now (operand_asks target.ty.rate (expr_of otherwise.now) target.site.slot) }
+    requires test { Present on.now (expr_asks (expr_of test.now) target.site.slot.number) }
+    requires to { Present on.now (spare_ask target.ty.rate target.ty.elem target.site.slot.number) }
+    requires then { Present on.now (operand_asks target.ty.rate (expr_of then.now) target.site.slot.number) }
+    requires otherwise { Present on.now (operand_asks target.ty.rate (expr_of otherwise.now) target.site.slot.number) }
     ensures { OnOk result (Writes b.old b.new (chosen_at on.now Uniform (expr_of test.now) (expr_of then.now) (expr_of otherwise.now) target)) }
 {
-    let tested = expr(b, on, test, target.site.mask, target.site.slot)?;
+    let tested = expr(b, on, test, target.site)?;
     choose_by_jump(b, on, tested, then, otherwise, target)?;
     Ok(())
 }
@@ -491,17 +531,16 @@ fn masked_side(
     on: &Scope,
     rate: Rate,
     x: &TypedExpr,
-    k: u32,
-    slot: u32,
-) -> Result<u32, AllocError>
-    requires { Present on.now (operand_asks rate (expr_of x.now) slot) }
-    ensures register { IfOk result (λ d. d ≡ operand (layout on.now) rate (expr_of x.now) slot) }
-    ensures code { OnOk result (Writes b.old b.new (guarded_at on.now rate (expr_of x.now) k slot)) }
+    site: Site,
+) -> Result<RegisterNumber, AllocError>
+    requires { Present on.now (operand_asks rate (expr_of x.now) site.slot.number) }
+    ensures register { IfOk result (λ d. d.number ≡ operand (layout on.now) rate (expr_of x.now) site.slot.number) }
+    ensures code { OnOk result (Writes b.old b.new (guarded_at on.now rate (expr_of x.now) site)) }
 {
     let at = b.code.len();
-    b.push(Instr::JumpIf(JumpTest::Off, mask(k), 0))?;
-    let from = operand(b, on, rate, x, k, slot)?;
-    b.land(at, JumpTest::Off, mask(k));
+    b.push(Instr::JumpIf(JumpTest::Off, mask(site.mask), 0))?;
+    let from = operand(b, on, rate, x, site)?;
+    b.land(at, JumpTest::Off, mask(site.mask));
     Ok(from)
 }
 
@@ -510,23 +549,28 @@ fn masked_side(
 fn choose_by_masks(
     b: &mut Body,
     on: &Scope,
-    tested: u32,
+    tested: RegisterNumber,
     then: &TypedExpr,
     otherwise: &TypedExpr,
     target: Target,
 ) -> Result<(), AllocError>
-    requires to { Present on.now (spare_ask target.ty.rate target.ty.elem target.site.slot) }
-    requires slots { target.site.slot + 2 < 4294967296 }
-    requires then { Present on.now (operand_asks target.ty.rate (expr_of then.now) (target.site.slot + 1)) }
-    requires otherwise { Present on.now (operand_asks target.ty.rate (expr_of otherwise.now) (target.site.slot + 2)) }
+    requires to { Present on.now (spare_ask target.ty.rate target.ty.elem target.site.slot.number) }
+    requires slots { target.site.slot.number + 2 < 4294967296 }
+    requires then { Present on.now (operand_asks target.ty.rate (expr_of then.now) (target.site.slot.number + 1)) }
+    requires otherwise { Present on.now (operand_asks target.ty.rate (expr_of otherwise.now) (target.site.slot.number + 2)) }
     ensures { OnOk result (Writes b.old b.new (by_masks_at on.now tested (expr_of then.now) (expr_of otherwise.now) target)) }
 {
     let Site { mask: k, slot } = target.site;
     let ty = target.ty;
-    b.push(where_so(slot, tested, k))?;
-    let first = masked_side(b, on, ty.rate, then, slot, slot + 1)?;
-    b.push(the_others(slot + 1, k, slot))?;
-    let second = masked_side(b, on, ty.rate, otherwise, slot + 1, slot + 2)?;
+    let first_side = target.site.under();
+    let second_side = Site {
+        mask: slot.next().mask(),
+        slot: slot.plus(2),
+    };
+    b.push(where_so(first_side.mask, tested, k))?;
+    let first = masked_side(b, on, ty.rate, then, first_side)?;
+    b.push(the_others(second_side.mask, k, first_side.mask))?;
+    let second = masked_side(b, on, ty.rate, otherwise, second_side)?;
     let to = on.spare(ty.rate, ty.elem, slot);
     b.push(select(Rate::Varying, to, tested, first, second, k))?;
     Ok(())
@@ -542,23 +586,23 @@ fn choose_each(
     otherwise: &TypedExpr,
     target: Target,
 ) -> Result<(), AllocError>
-    requires test { Present on.now (expr_asks (expr_of test.now) target.site.slot) }
-    requires to { Present on.now (spare_ask target.ty.rate target.ty.elem target.site.slot) }
-    requires slots { target.site.slot + 2 < 4294967296 }
-    requires then { Present on.now (operand_asks target.ty.rate (expr_of then.now) (target.site.slot + 1)) }
-    requires otherwise { Present on.now (operand_asks target.ty.rate (expr_of otherwise.now) (target.site.slot + 2)) }
+    requires test { Present on.now (expr_asks (expr_of test.now) target.site.slot.number) }
+    requires to { Present on.now (spare_ask target.ty.rate target.ty.elem target.site.slot.number) }
+    requires slots { target.site.slot.number + 2 < 4294967296 }
+    requires then { Present on.now (operand_asks target.ty.rate (expr_of then.now) (target.site.slot.number + 1)) }
+    requires otherwise { Present on.now (operand_asks target.ty.rate (expr_of otherwise.now) (target.site.slot.number + 2)) }
     ensures { OnOk result (Writes b.old b.new (chosen_at on.now Varying (expr_of test.now) (expr_of then.now) (expr_of otherwise.now) target)) }
 {
-    let tested = expr(b, on, test, target.site.mask, target.site.slot)?;
+    let tested = expr(b, on, test, target.site)?;
     choose_by_masks(b, on, tested, then, otherwise, target)?;
     Ok(())
 }
 
 /// The register of a variable, in brackets or not, whatever the slot.
-fn stayed(on: &Scope, x: &TypedExpr, slot: u32) -> u32
-    requires there { Present on.now (expr_asks (expr_of x.now) slot) }
+fn stayed(on: &Scope, x: &TypedExpr, slot: Slot) -> RegisterNumber
+    requires there { Present on.now (expr_asks (expr_of x.now) slot.number) }
     requires stays { stays (layout on.now) (expr_of x.now) ≡ true }
-    ensures { (n : ℕ) → result ≡ found (layout on.now) (expr_of x.now) n }
+    ensures { (n : ℕ) → result.number ≡ found (layout on.now) (expr_of x.now) n }
 {
     found(on, x, slot)
 }
@@ -573,15 +617,18 @@ fn choose_short(
     otherwise: &TypedExpr,
     target: Target,
 ) -> Result<(), AllocError>
-    requires asked { Present on.now (expr_asks (t_choose (expr_of test.now) (expr_of then.now) (expr_of otherwise.now) target.ty target.span) target.site.slot) }
+    requires asked { Present on.now (expr_asks (t_choose (expr_of test.now) (expr_of then.now) (expr_of otherwise.now) target.ty target.span) target.site.slot.number) }
     requires short { is_short (layout on.now) target.ty.rate (expr_of test.now) (expr_of then.now) (expr_of otherwise.now) ≡ true }
     ensures { OnOk result (Writes b.old b.new (short_at on.now (expr_of test.now) (expr_of then.now) (expr_of otherwise.now) target)) }
 {
     let Site { mask: k, slot } = target.site;
-    let tested = expr(b, on, test, k, slot)?;
+    let tested = expr(b, on, test, target.site)?;
     let (first, second) = match test.ty().rate {
         Rate::Uniform => (stayed(on, then, slot), stayed(on, otherwise, slot)),
-        Rate::Varying => (stayed(on, then, slot + 1), stayed(on, otherwise, slot + 2)),
+        Rate::Varying => (
+            stayed(on, then, slot.next()),
+            stayed(on, otherwise, slot.plus(2)),
+        ),
     };
     b.push(select(target.ty.rate, target.to, tested, first, second, k))?;
     Ok(())
@@ -598,7 +645,7 @@ fn choose_to(
     otherwise: &TypedExpr,
     target: Target,
 ) -> Result<(), AllocError>
-    requires { Present on.now (expr_asks (t_choose (expr_of test.now) (expr_of then.now) (expr_of otherwise.now) target.ty target.span) target.site.slot) }
+    requires { Present on.now (expr_asks (t_choose (expr_of test.now) (expr_of then.now) (expr_of otherwise.now) target.ty target.span) target.site.slot.number) }
     ensures { OnOk result (Writes b.old b.new (node_at on.now (t_choose (expr_of test.now) (expr_of then.now) (expr_of otherwise.now) target.ty target.span) target)) }
 {
     if is_short(target.ty.rate, test, then, otherwise) {

@@ -1,5 +1,5 @@
 //! What holds of all code. No code is run here: each function carries a law in its contract.
-ghost use Rattle.isp_lower.specs.Laws.{ExprRuns, ExprSound, ItemsRun, ItemsSound, LayoutsAreApart, RowsAreThere, RowsAreTyped, RowsStay, SimpleRuns, SimpleSound};
+ghost use Rattle.isp_lower.specs.Laws.{ExprRuns, ExprSound, ItemsRun, ItemsSound, LayoutsAreApart, SimpleRuns, SimpleSound};
 
 /// The code of an expression gives its value in the lanes of a mask, traps as it traps, and goes on
 /// where it is cut, within 32 instructions for each unit of work. Variables, and the registers that
@@ -25,21 +25,6 @@ pub fn declarations_run()
 /// each name a register of its own.
 pub fn layouts_are_apart()
     ensures { LayoutsAreApart }
-{}
-
-/// A register has the type of its row, where a function has the types of the rows.
-pub fn rows_are_typed()
-    ensures { RowsAreTyped }
-{}
-
-/// And it is there.
-pub fn rows_are_there()
-    ensures { RowsAreThere }
-{}
-
-/// Rows that are added change neither the number nor the type of a name that has a row.
-pub fn rows_stay()
-    ensures { RowsStay }
 {}
 
 /// Each instruction of the code of an expression has registers that are there and of their types, names

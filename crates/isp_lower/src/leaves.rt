@@ -1,5 +1,5 @@
 //! Instructions of a rate: on scalars, or on the lanes of a mask.
-ghost use Rattle.std.specs.Prelude.{◌≡◌, ◌+◌, IfOk};
+ghost use Rattle.std.specs.Prelude.{◌≡◌};
 ghost use Rattle.isp_base.specs.Values.{number};
 ghost use Rattle.isp_base.specs.declared.types.Rate.TheVariants.{Uniform, Varying};
 ghost use Rattle.isp_code.specs.declared.instr.Instr.TheVariants as instr;
@@ -8,56 +8,56 @@ ghost use Rattle.isp_lower.specs.Layout.{array_register, mask_register, register
 ghost use Rattle.isp_lower.specs.Code.{compare, compute, constant, convert, copy, operate, read, select, the_others, unary, where_so, write};
 ghost use Rattle.isp_lower.specs.Written.{division_at};
 
+use crate::numbered::{MaskNumber, PlaceNumber, RegisterNumber};
 use crate::sites::Target;
 use isp_base::{BinOp, Compare, Elem, Rate, UnaryOp, number};
 use isp_code::{
     Class, Division, Instr, MaskInstr, MaskOp, Plain, Register, ScalarInstr, VectorInstr,
 };
-use std::alloc::AllocError;
 
 /// A scalar register.
-pub fn scalar(number: u32) -> Register
-    ensures { result ≡ register Uniform number }
+pub fn scalar(x: RegisterNumber) -> Register
+    ensures { result ≡ register Uniform x.number }
 {
     Register {
         class: Class::Scalar,
-        number,
+        number: x.number,
     }
 }
 
 /// A vector register.
-pub fn vector(number: u32) -> Register
-    ensures { result ≡ register Varying number }
+pub fn vector(x: RegisterNumber) -> Register
+    ensures { result ≡ register Varying x.number }
 {
     Register {
         class: Class::Vector,
-        number,
+        number: x.number,
     }
 }
 
 /// A mask register.
-pub fn mask(number: u32) -> Register
-    ensures { result ≡ mask_register number }
+pub fn mask(k: MaskNumber) -> Register
+    ensures { result ≡ mask_register k.number }
 {
     Register {
         class: Class::Mask,
-        number,
+        number: k.number,
     }
 }
 
 /// A register of a rate.
-pub fn of_rate(rate: Rate, number: u32) -> Register
-    ensures { result ≡ register rate number }
+pub fn of_rate(rate: Rate, x: RegisterNumber) -> Register
+    ensures { result ≡ register rate x.number }
 {
     match rate {
-        Rate::Uniform => scalar(number),
-        Rate::Varying => vector(number),
+        Rate::Uniform => scalar(x),
+        Rate::Varying => vector(x),
     }
 }
 
 /// A register gets what another has.
-pub fn copy(rate: Rate, to: u32, from: u32, k: u32) -> Instr
-    ensures { result ≡ copy rate to from k }
+pub fn copy(rate: Rate, to: RegisterNumber, from: RegisterNumber, k: MaskNumber) -> Instr
+    ensures { result ≡ copy rate to.number from.number k.number }
 {
     match rate {
         Rate::Uniform => Instr::Scalar(scalar(to), ScalarInstr::Copy(scalar(from))),
@@ -66,8 +66,8 @@ pub fn copy(rate: Rate, to: u32, from: u32, k: u32) -> Instr
 }
 
 /// The same as a value of the type of the register that is written.
-pub fn convert(rate: Rate, to: u32, from: u32, k: u32) -> Instr
-    ensures { result ≡ convert rate to from k }
+pub fn convert(rate: Rate, to: RegisterNumber, from: RegisterNumber, k: MaskNumber) -> Instr
+    ensures { result ≡ convert rate to.number from.number k.number }
 {
     match rate {
         Rate::Uniform => Instr::Scalar(scalar(to), ScalarInstr::Convert(scalar(from))),
@@ -76,8 +76,14 @@ pub fn convert(rate: Rate, to: u32, from: u32, k: u32) -> Instr
 }
 
 /// An operator on one value.
-pub fn unary(rate: Rate, operator: UnaryOp, to: u32, from: u32, k: u32) -> Instr
-    ensures { result ≡ unary rate operator to from k }
+pub fn unary(
+    rate: Rate,
+    operator: UnaryOp,
+    to: RegisterNumber,
+    from: RegisterNumber,
+    k: MaskNumber,
+) -> Instr
+    ensures { result ≡ unary rate operator to.number from.number k.number }
 {
     match rate {
         Rate::Uniform => Instr::Scalar(scalar(to), ScalarInstr::Unary(operator, scalar(from))),
@@ -89,8 +95,15 @@ pub fn unary(rate: Rate, operator: UnaryOp, to: u32, from: u32, k: u32) -> Instr
 }
 
 /// Whether two values compare so.
-pub fn compare(rate: Rate, comparison: Compare, to: u32, left: u32, right: u32, k: u32) -> Instr
-    ensures { result ≡ compare rate comparison to left right k }
+pub fn compare(
+    rate: Rate,
+    comparison: Compare,
+    to: RegisterNumber,
+    left: RegisterNumber,
+    right: RegisterNumber,
+    k: MaskNumber,
+) -> Instr
+    ensures { result ≡ compare rate comparison to.number left.number right.number k.number }
 {
     match rate {
         Rate::Uniform => Instr::Scalar(
@@ -105,8 +118,15 @@ pub fn compare(rate: Rate, comparison: Compare, to: u32, left: u32, right: u32, 
 }
 
 /// An operator on two values that has a result for each two.
-pub fn compute(rate: Rate, operator: Plain, to: u32, left: u32, right: u32, k: u32) -> Instr
-    ensures { result ≡ compute rate operator to left right k }
+pub fn compute(
+    rate: Rate,
+    operator: Plain,
+    to: RegisterNumber,
+    left: RegisterNumber,
+    right: RegisterNumber,
+    k: MaskNumber,
+) -> Instr
+    ensures { result ≡ compute rate operator to.number left.number right.number k.number }
 {
     match rate {
         Rate::Uniform => Instr::Scalar(
@@ -121,8 +141,14 @@ pub fn compute(rate: Rate, operator: Plain, to: u32, left: u32, right: u32, k: u
 }
 
 /// An operator on two values; a division names the place of its trap.
-pub(crate) fn operate(operator: BinOp, left: u32, right: u32, target: Target, place: u32) -> Instr
-    ensures { result ≡ operate target.ty.rate operator target.to left right target.site.mask place }
+pub(crate) fn operate(
+    operator: BinOp,
+    left: RegisterNumber,
+    right: RegisterNumber,
+    target: Target,
+    place: PlaceNumber,
+) -> Instr
+    ensures { result ≡ operate target.ty.rate operator target.to.number left.number right.number target.site.mask.number place.number }
 {
     let plain = match operator {
         BinOp::Add => Plain::Add,
@@ -153,8 +179,14 @@ pub(crate) fn operate(operator: BinOp, left: u32, right: u32, target: Target, pl
 }
 
 /// A division, which names the place of its trap.
-fn divide(division: Division, left: u32, right: u32, target: Target, place: u32) -> Instr
-    ensures { result ≡ division_at division left right target place }
+fn divide(
+    division: Division,
+    left: RegisterNumber,
+    right: RegisterNumber,
+    target: Target,
+    place: PlaceNumber,
+) -> Instr
+    ensures { result ≡ division_at division left right target place.number }
 {
     let rate = target.ty.rate;
     Instr::Divide(
@@ -163,77 +195,110 @@ fn divide(division: Division, left: u32, right: u32, target: Target, place: u32)
         of_rate(rate, left),
         of_rate(rate, right),
         mask(target.site.mask),
-        place,
+        place.number,
     )
 }
 
 /// A number of an element type.
-pub fn constant(to: u32, elem: Elem, bits: u64) -> Instr
-    ensures { result ≡ constant to elem bits }
+pub fn constant(to: RegisterNumber, elem: Elem, bits: u64) -> Instr
+    ensures { result ≡ constant to.number elem bits }
 {
     Instr::Scalar(scalar(to), ScalarInstr::Constant(number(elem, bits)))
 }
 
 /// The number of each lane.
-pub fn index(to: u32, k: u32) -> Instr
-    ensures { result ≡ instr.Vector (register Varying to) (instr_vector.Index (mask_register k)) }
+pub fn index(to: RegisterNumber, k: MaskNumber) -> Instr
+    ensures { result ≡ instr.Vector (register Varying to.number) (instr_vector.Index (mask_register k.number)) }
 {
     Instr::Vector(vector(to), VectorInstr::Index(mask(k)))
 }
 
 /// One value in each lane.
-pub fn splat(to: u32, from: u32, k: u32) -> Instr
-    ensures { result ≡ instr.Vector (register Varying to) (instr_vector.Splat (register Uniform from) (mask_register k)) }
+pub fn splat(to: RegisterNumber, from: RegisterNumber, k: MaskNumber) -> Instr
+    ensures { result ≡ instr.Vector (register Varying to.number) (instr_vector.Splat (register Uniform from.number) (mask_register k.number)) }
 {
     Instr::Vector(vector(to), VectorInstr::Splat(scalar(from), mask(k)))
 }
 
 /// An array.
-fn array(number: u32) -> Register
-    ensures { result ≡ array_register number }
+fn array(x: RegisterNumber) -> Register
+    ensures { result ≡ array_register x.number }
 {
     Register {
         class: Class::Array,
-        number,
+        number: x.number,
     }
 }
 
 /// An element of an array, or one for each lane.
-pub fn read(rate: Rate, to: u32, from: u32, index: u32, k: u32, place: u32) -> Instr
-    ensures { result ≡ read rate to from index k place }
+pub fn read(
+    rate: Rate,
+    to: RegisterNumber,
+    from: RegisterNumber,
+    index: RegisterNumber,
+    k: MaskNumber,
+    place: PlaceNumber,
+) -> Instr
+    ensures { result ≡ read rate to.number from.number index.number k.number place.number }
 {
     match rate {
         Rate::Uniform => Instr::Scalar(
             scalar(to),
-            ScalarInstr::Load(array(from), scalar(index), mask(k), place),
+            ScalarInstr::Load(array(from), scalar(index), mask(k), place.number),
         ),
         Rate::Varying => Instr::Vector(
             vector(to),
-            VectorInstr::Gather(array(from), vector(index), mask(k), place),
+            VectorInstr::Gather(array(from), vector(index), mask(k), place.number),
         ),
     }
 }
 
 /// An element of an array gets a value, or one for each lane.
-pub fn write(rate: Rate, to: u32, index: u32, from: u32, k: u32, place: u32) -> Instr
-    ensures { result ≡ write rate to index from k place }
+pub fn write(
+    rate: Rate,
+    to: RegisterNumber,
+    index: RegisterNumber,
+    from: RegisterNumber,
+    k: MaskNumber,
+    place: PlaceNumber,
+) -> Instr
+    ensures { result ≡ write rate to.number index.number from.number k.number place.number }
 {
     match rate {
-        Rate::Uniform => Instr::Store(array(to), scalar(index), scalar(from), mask(k), place),
-        Rate::Varying => Instr::Scatter(array(to), vector(index), vector(from), mask(k), place),
+        Rate::Uniform => Instr::Store(
+            array(to),
+            scalar(index),
+            scalar(from),
+            mask(k),
+            place.number,
+        ),
+        Rate::Varying => Instr::Scatter(
+            array(to),
+            vector(index),
+            vector(from),
+            mask(k),
+            place.number,
+        ),
     }
 }
 
 /// An array gets zeros.
-pub fn clear(to: u32, k: u32) -> Instr
-    ensures { result ≡ instr.Clear (array_register to) (mask_register k) }
+pub fn clear(to: RegisterNumber, k: MaskNumber) -> Instr
+    ensures { result ≡ instr.Clear (array_register to.number) (mask_register k.number) }
 {
     Instr::Clear(array(to), mask(k))
 }
 
 /// The second register where the first is true, else the third.
-pub fn select(rate: Rate, to: u32, test: u32, then: u32, otherwise: u32, k: u32) -> Instr
-    ensures { result ≡ select rate to test then otherwise k }
+pub fn select(
+    rate: Rate,
+    to: RegisterNumber,
+    test: RegisterNumber,
+    then: RegisterNumber,
+    otherwise: RegisterNumber,
+    k: MaskNumber,
+) -> Instr
+    ensures { result ≡ select rate to.number test.number then.number otherwise.number k.number }
 {
     match rate {
         Rate::Uniform => Instr::Scalar(
@@ -248,28 +313,18 @@ pub fn select(rate: Rate, to: u32, test: u32, then: u32, otherwise: u32, k: u32)
 }
 
 /// The lanes of a mask where a vector is true.
-pub fn where_so(to: u32, from: u32, k: u32) -> Instr
-    ensures { result ≡ where_so to from k }
+pub fn where_so(to: MaskNumber, from: RegisterNumber, k: MaskNumber) -> Instr
+    ensures { result ≡ where_so to.number from.number k.number }
 {
     Instr::Mask(mask(to), MaskInstr::Test(vector(from), mask(k)))
 }
 
 /// The lanes of a mask that are not in another.
-pub fn the_others(to: u32, k: u32, other: u32) -> Instr
-    ensures { result ≡ the_others to k other }
+pub fn the_others(to: MaskNumber, k: MaskNumber, other: MaskNumber) -> Instr
+    ensures { result ≡ the_others to.number k.number other.number }
 {
     Instr::Mask(
         mask(to),
         MaskInstr::Binary(MaskOp::AndNot, mask(k), mask(other)),
     )
-}
-
-/// The slot behind this one; memory is refused where there is none.
-pub fn after(slot: u32) -> Result<u32, AllocError>
-    ensures { IfOk result (λ n. n ≡ slot + 1) }
-{
-    match slot.checked_add(1) {
-        Some(next) => Ok(next),
-        None => Err(AllocError),
-    }
 }

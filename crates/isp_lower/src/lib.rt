@@ -16,6 +16,7 @@ mod laws;
 mod leaves;
 mod listing;
 mod located;
+mod numbered;
 mod register_rows;
 mod registers;
 mod reserve;
@@ -30,11 +31,13 @@ pub use expression::{expr, index, operand};
 pub use header::Heading;
 pub use laws::{
     assignments_run, assignments_sound, declarations_run, declarations_sound, expressions_run,
-    expressions_sound, layouts_are_apart, rows_are_there, rows_are_typed, rows_stay,
+    expressions_sound, layouts_are_apart,
 };
-pub use leaves::{after, copy, mask, scalar, the_others, vector, where_so};
+pub use leaves::{copy, mask, scalar, the_others, vector, where_so};
+pub use numbered::{MaskNumber, PlaceNumber, RegisterNumber, Slot, TextNumber};
 pub use register_rows::RegisterRows;
 pub use registers::{RegisterName, RegisterRow, Registers};
 pub use reserve::Reserve;
+pub use sites::Site;
 pub use statements::{declared, simple};
 pub use types::{Body, Emitter, Scope};

@@ -7,6 +7,7 @@ ghost use Rattle.isp_lower.specs.Emitted.{Present, layout};
 ghost use Rattle.isp_lower.specs.Written.{Writes, lift_at, moved_at};
 
 use crate::leaves::{copy, splat};
+use crate::numbered::{RegisterNumber, Slot};
 use crate::sites::{Held, Site};
 use crate::types::{Body, Scope};
 use isp_base::{Elem, Rate};
@@ -14,9 +15,16 @@ use isp_typed::{TypedExpr, TypedPlace};
 use std::alloc::AllocError;
 
 /// The register in which one of a rate is found where another rate is wanted.
-fn lifted(on: &Scope, wanted: Rate, given: Rate, elem: Elem, from: u32, slot: u32) -> u32
-    requires { Present on.now (lift_asks wanted given elem slot) }
-    ensures { result ≡ lifted (layout on.now) wanted given elem from slot }
+fn lifted(
+    on: &Scope,
+    wanted: Rate,
+    given: Rate,
+    elem: Elem,
+    from: RegisterNumber,
+    slot: Slot,
+) -> RegisterNumber
+    requires { Present on.now (lift_asks wanted given elem slot.number) }
+    ensures { result.number ≡ lifted (layout on.now) wanted given elem from.number slot.number }
 {
     match (wanted, given) {
         (Rate::Varying, Rate::Uniform) => on.spare(Rate::Varying, elem, slot),
@@ -31,9 +39,9 @@ pub(crate) fn lift(
     wanted: Rate,
     held: Held,
     site: Site,
-) -> Result<u32, AllocError>
-    requires { Present on.now (lift_asks wanted held.ty.rate held.ty.elem site.slot) }
-    ensures register { IfOk result (λ d. d ≡ lifted (layout on.now) wanted held.ty.rate held.ty.elem held.from site.slot) }
+) -> Result<RegisterNumber, AllocError>
+    requires { Present on.now (lift_asks wanted held.ty.rate held.ty.elem site.slot.number) }
+    ensures register { IfOk result (λ d. d.number ≡ lifted (layout on.now) wanted held.ty.rate held.ty.elem held.from.number site.slot.number) }
     ensures code { OnOk result (Writes b.old b.new (lift_at on.now wanted held site)) }
 {
     match (wanted, held.ty.rate) {
@@ -48,9 +56,9 @@ pub(crate) fn lift(
 
 /// The register in which an expression's value is found: a variable's own, else one of the slot.
 #[cycle(found)]
-pub fn found(on: &Scope, x: &TypedExpr, slot: u32) -> u32
-    requires { Present on.now (expr_asks (expr_of x.now) slot) }
-    ensures { result ≡ found (layout on.now) (expr_of x.now) slot }
+pub fn found(on: &Scope, x: &TypedExpr, slot: Slot) -> RegisterNumber
+    requires { Present on.now (expr_asks (expr_of x.now) slot.number) }
+    ensures { result.number ≡ found (layout on.now) (expr_of x.now) slot.number }
 {
     match x {
         TypedExpr::Place(TypedPlace::Variable { number, ty, .. }) => on.variable(*number, *ty),
@@ -79,13 +87,18 @@ pub fn found(on: &Scope, x: &TypedExpr, slot: u32) -> u32
 }
 
 /// A value in a slot: a copy, or nothing where it is there.
-pub(crate) fn moved(b: &mut Body, on: &Scope, held: Held, site: Site) -> Result<u32, AllocError>
-    requires { Present on.now (spare_ask held.ty.rate held.ty.elem site.slot) }
-    ensures register { IfOk result (λ d. d ≡ (layout on.now).spare held.ty.rate held.ty.elem site.slot) }
+pub(crate) fn moved(
+    b: &mut Body,
+    on: &Scope,
+    held: Held,
+    site: Site,
+) -> Result<RegisterNumber, AllocError>
+    requires { Present on.now (spare_ask held.ty.rate held.ty.elem site.slot.number) }
+    ensures register { IfOk result (λ d. d.number ≡ (layout on.now).spare held.ty.rate held.ty.elem site.slot.number) }
     ensures code { OnOk result (Writes b.old b.new (moved_at on.now held site)) }
 {
     let to = on.spare(held.ty.rate, held.ty.elem, site.slot);
-    if to != held.from {
+    if to.number != held.from.number {
         b.push(copy(held.ty.rate, to, held.from, site.mask))?;
     }
     Ok(to)

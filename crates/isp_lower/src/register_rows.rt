@@ -5,6 +5,7 @@ ghost use Rattle.isp_lower.specs.Lookup.{IsNamedAt, name_of, row_of};
 ghost use Rattle.isp_lower.specs.Rows.{Fresh, elem_in, name_number, number_in, with_fresh};
 
 use crate::copies::push_all;
+use crate::numbered::{RegisterNumber, next_number};
 use crate::registers::{RegisterName, RegisterRow};
 use isp_base::Elem;
 use std::alloc::{AllocError, Global};
@@ -56,7 +57,7 @@ fn name_number(name: RegisterName) -> u128
     match name {
         RegisterName::Result => 0,
         RegisterName::Variable(number) => 1 + 3 * number as u128,
-        RegisterName::Spare(elem, slot) => 2 + 3 * (9 * slot as u128 + rank(elem)),
+        RegisterName::Spare(elem, slot) => 2 + 3 * (9 * slot.number as u128 + rank(elem)),
         RegisterName::Fresh(number) => 3 + 3 * number as u128,
     }
 }
@@ -74,9 +75,7 @@ fn append(rows: &mut Vec<RegisterRow>, row: RegisterRow) -> Result<(), AllocErro
     ensures few { OnOk result (length rows.new.items ≤ 4294967295) }
     ensures err { OnErr result (rows.new.items ≡ rows.old.items) }
 {
-    if rows.len() >= 4_294_967_295 {
-        return Err(AllocError);
-    }
+    next_number(rows.len())?;
     rows.push(row)?;
     Ok(())
 }
@@ -123,8 +122,8 @@ impl RegisterRows {
         }
     }
 
-    /// One more register. Where memory is refused, they stay as they were. It is refused too where the register would be
-    /// number 4,294,967,295 of its class.
+    /// One more register. Where memory is refused, they stay as they were. It is refused too where the register's number would
+    /// be 4,294,967,295.
     pub fn push(&mut self, row: RegisterRow) -> Result<(), AllocError>
         requires { IsNamedAt (length self.old) (name_of row.name) }
         ensures ok { OnOk result (self.new ≡ self.old ++ row ∷ []) }
@@ -138,10 +137,10 @@ impl RegisterRows {
     }
 
     /// One more register, which no tree asks for, and its number. Where memory is refused, they stay as they were.
-    pub fn fresh(&mut self, elem: Elem) -> Result<u32, AllocError>
-        ensures number { IfOk result (λ d. d ≡ length self.old) }
+    pub fn fresh(&mut self, elem: Elem) -> Result<RegisterNumber, AllocError>
+        ensures number { IfOk result (λ d. d.number ≡ length self.old) }
         ensures added { OnOk result (map row_of self.new ≡ with_fresh elem (map row_of self.old)) }
-        ensures named { IfOk result (λ d. number_in (map row_of self.new) (Fresh d) ≡ d) }
+        ensures named { IfOk result (λ d. number_in (map row_of self.new) (Fresh d.number) ≡ d.number) }
         ensures refused { OnErr result (self.new ≡ self.old) }
     {
         let number = self.rows.len();
@@ -149,6 +148,8 @@ impl RegisterRows {
             name: RegisterName::Fresh(number),
             elem,
         })?;
-        Ok(number as u32)
+        Ok(RegisterNumber {
+            number: number as u32,
+        })
     }
 }

@@ -2,8 +2,9 @@
 ghost use Rattle.std.specs.Prelude.{◌≡◌, length, map, Some, IfOk, OnErr, OnOk};
 ghost use Rattle.isp_lower.specs.Emitted.{Begins, Grows, HasArray, HasRow, name_of, row_of, rows_of};
 ghost use Rattle.isp_lower.specs.Lookup.{IsAsked};
-ghost use Rattle.isp_lower.specs.Rows.{Result, Spare, Variable as VariableName, elem_in, layout_of, rows_at, with_fresh_at};
+ghost use Rattle.isp_lower.specs.Rows.{Result, Spare, Variable as VariableName, elem_in, fresh_at, rows_at, with_fresh_at};
 
+use crate::numbered::{RegisterNumber, Slot};
 use crate::register_rows::RegisterRows;
 use isp_base::{Elem, Rate, Ty};
 use isp_typed::ArrayVariable;
@@ -15,7 +16,7 @@ use std::alloc::AllocError;
 pub enum RegisterName {
     Variable(usize),
     Result,
-    Spare(Elem, u32),
+    Spare(Elem, Slot),
     Fresh(usize),
 }
 
@@ -59,9 +60,9 @@ fn given_or_new(rows: &mut RegisterRows, name: RegisterName, elem: Elem) -> Resu
 
 impl Registers {
     /// A register of a slot for values of a type. It is a new one where the slot has none for that type.
-    pub fn spare(&mut self, rate: Rate, elem: Elem, slot: u32) -> Result<(), AllocError>
+    pub fn spare(&mut self, rate: Rate, elem: Elem, slot: Slot) -> Result<(), AllocError>
         ensures rows { OnOk result (Grows self.old self.new) }
-        ensures given { OnOk result (HasRow self.new rate (Spare elem slot) elem) }
+        ensures given { OnOk result (HasRow self.new rate (Spare elem slot.number) elem) }
     {
         let name = RegisterName::Spare(elem, slot);
         match rate {
@@ -77,10 +78,10 @@ impl Registers {
     }
 
     /// One more register of a rate, which no tree asks for, and its number. Where memory is refused, they stay as they were.
-    pub fn fresh(&mut self, rate: Rate, elem: Elem) -> Result<u32, AllocError>
-        ensures number { IfOk result (λ d. d ≡ length (rows_at (rows_of self.old) rate)) }
+    pub fn fresh(&mut self, rate: Rate, elem: Elem) -> Result<RegisterNumber, AllocError>
+        ensures number { IfOk result (λ d. d.number ≡ length (rows_at (rows_of self.old) rate)) }
         ensures added { OnOk result (rows_of self.new ≡ with_fresh_at rate elem (rows_of self.old)) }
-        ensures named { IfOk result (λ d. (layout_of (rows_of self.new)).fresh rate d ≡ d) }
+        ensures named { IfOk result (λ d. fresh_at (rows_of self.new) rate d.number ≡ d.number) }
         ensures refused { OnErr result (rows_of self.new ≡ rows_of self.old) }
     {
         match rate {

@@ -1,15 +1,13 @@
 //! The registers that code asks for, before it is written.
 ghost use Rattle.std.specs.Prelude.{◌≡◌, ◌+◌, IfOk, OnOk};
 ghost use Rattle.isp_base.specs.Ranks.{same_elem};
-ghost use Rattle.isp_base.specs.declared.types.Elem.TheVariants.{Bool as Truth};
-ghost use Rattle.isp_base.specs.declared.types.Rate.TheVariants.{Uniform, Varying};
+ghost use Rattle.isp_base.specs.declared.types.Rate.TheVariants.{Varying};
 ghost use Rattle.isp_typed.specs.Typed.{type_of};
 ghost use Rattle.isp_typed.specs.Views.{expr_of, item_of, items_of, place_of, simple_of};
-ghost use Rattle.isp_lower.specs.Asks.{ArrayOf, Both, MaskOf, Number, Register as Ask, assign_asks, change_asks, expr_asks, index_asks, item_asks, items_asks, lift_asks, one_asks, operand_asks, operands_asks, read_asks, sides_ask, simple_asks, spare_ask, step_asks, target_asks, test_asks, update_asks, variable_asks, work_asks, zero_asks, beyond, first_slot, second_slot};
-ghost use Rattle.isp_lower.specs.Reserved.{Gives};
-ghost use Rattle.isp_lower.specs.Rows.{Result, Variable};
+ghost use Rattle.isp_lower.specs.Asks.{Both, MaskOf, Number, assign_asks, change_asks, expr_asks, index_asks, item_asks, items_asks, lift_asks, one_asks, operand_asks, operands_asks, read_asks, sides_ask, spare_ask, step_asks, target_asks, test_asks, update_asks, work_asks, zero_asks, beyond, first_slot, simple_asks};
+ghost use Rattle.isp_lower.specs.Reserved.{Gives, choice_asks, logic_asks};
 
-use crate::leaves::after;
+use crate::numbered::Slot;
 use crate::registers::Registers;
 use isp_base::{Elem, Rate, Ty};
 use isp_typed::{ArrayVariable, TypedExpr, TypedItem, TypedPlace, TypedSimple};
@@ -25,34 +23,41 @@ pub struct Reserve {
 
 impl Reserve {
     /// A register of a slot for values of a type.
-    pub fn spare(&mut self, rate: Rate, elem: Elem, slot: u32) -> Result<(), AllocError>
-        ensures { OnOk result (Gives self.old self.new (spare_ask rate elem slot)) }
+    pub fn spare(&mut self, rate: Rate, elem: Elem, slot: Slot) -> Result<(), AllocError>
+        ensures { OnOk result (Gives self.old self.new (spare_ask rate elem slot.number)) }
     {
         self.registers.spare(rate, elem, slot)?;
         Ok(())
     }
 
-    /// The mask register of a slot.
-    pub fn mask(&mut self, slot: u32) -> Result<(), AllocError>
-        ensures { OnOk result (Gives self.old self.new (MaskOf slot)) }
+    /// The same of a type with its rate.
+    fn value(&mut self, ty: Ty, slot: Slot) -> Result<(), AllocError>
+        ensures { OnOk result (Gives self.old self.new (spare_ask ty.rate ty.elem slot.number)) }
     {
-        if self.masks <= slot {
-            self.masks = after(slot)?;
+        self.spare(ty.rate, ty.elem, slot)
+    }
+
+    /// The mask register of a slot.
+    pub fn mask(&mut self, slot: Slot) -> Result<(), AllocError>
+        ensures { OnOk result (Gives self.old self.new (MaskOf slot.number)) }
+    {
+        if self.masks <= slot.number {
+            self.masks = slot.after()?.number;
         }
         Ok(())
     }
 
     /// The number of the next slot.
-    pub fn next(&mut self, slot: u32) -> Result<u32, AllocError>
-        ensures number { IfOk result (λ n. n ≡ slot + 1) }
-        ensures gives { IfOk result (λ n. Gives self.old self.new (Number n)) }
+    pub fn next(&mut self, slot: Slot) -> Result<Slot, AllocError>
+        ensures number { IfOk result (λ n. n.number ≡ slot.number + 1) }
+        ensures gives { IfOk result (λ n. Gives self.old self.new (Number n.number)) }
     {
-        after(slot)
+        slot.after()
     }
 
     /// A register for a uniform value that a varying one is made of.
-    fn lift(&mut self, wanted: Rate, given: Rate, elem: Elem, slot: u32) -> Result<(), AllocError>
-        ensures { OnOk result (Gives self.old self.new (lift_asks wanted given elem slot)) }
+    fn lift(&mut self, wanted: Rate, given: Rate, elem: Elem, slot: Slot) -> Result<(), AllocError>
+        ensures { OnOk result (Gives self.old self.new (lift_asks wanted given elem slot.number)) }
     {
         match (wanted, given) {
             (Rate::Varying, Rate::Uniform) => self.spare(Rate::Varying, elem, slot),
@@ -61,8 +66,8 @@ impl Reserve {
     }
 
     /// A mask for those that pass a varying test.
-    pub fn test(&mut self, rate: Rate, slot: u32) -> Result<(), AllocError>
-        ensures { OnOk result (Gives self.old self.new (test_asks rate slot)) }
+    pub fn test(&mut self, rate: Rate, slot: Slot) -> Result<(), AllocError>
+        ensures { OnOk result (Gives self.old self.new (test_asks rate slot.number)) }
     {
         match rate {
             Rate::Uniform => Ok(()),
@@ -71,8 +76,8 @@ impl Reserve {
     }
 
     /// Masks for those that pass a varying test, and for the others.
-    fn both_sides(&mut self, slot: u32) -> Result<(), AllocError>
-        ensures { OnOk result (Gives self.old self.new (sides_ask Varying slot)) }
+    fn both_sides(&mut self, slot: Slot) -> Result<(), AllocError>
+        ensures { OnOk result (Gives self.old self.new (sides_ask Varying slot.number)) }
     {
         let next = self.next(slot)?;
         self.next(next)?;
@@ -81,8 +86,8 @@ impl Reserve {
         Ok(())
     }
 
-    fn sides(&mut self, rate: Rate, slot: u32) -> Result<(), AllocError>
-        ensures { OnOk result (Gives self.old self.new (sides_ask rate slot)) }
+    fn sides(&mut self, rate: Rate, slot: Slot) -> Result<(), AllocError>
+        ensures { OnOk result (Gives self.old self.new (sides_ask rate slot.number)) }
     {
         match rate {
             Rate::Uniform => Ok(()),
@@ -90,10 +95,11 @@ impl Reserve {
         }
     }
 
-    /// What the code of an expression asks for, in the slots from one on.
+    /// What the code of an expression asks for, in the slots from one on. Memory is refused too of calls, whose code is not
+    /// written yet.
     #[cycle(expr)]
-    pub fn expr(&mut self, x: &TypedExpr, slot: u32) -> Result<(), AllocError>
-        ensures { OnOk result (Gives self.old self.new (expr_asks (expr_of x.now) slot)) }
+    pub fn expr(&mut self, x: &TypedExpr, slot: Slot) -> Result<(), AllocError>
+        ensures { OnOk result (Gives self.old self.new (expr_asks (expr_of x.now) slot.number)) }
     {
         match x {
             TypedExpr::Constant { value, .. } => self.spare(Rate::Uniform, value.elem, slot),
@@ -124,22 +130,18 @@ impl Reserve {
                 test,
                 then,
                 otherwise,
-                ty,
                 ..
-            } => self.choice(*ty, test, then, otherwise, slot),
-            TypedExpr::Call { .. }
-            | TypedExpr::Library { .. }
+            } => self.choice(x.ty(), test, then, otherwise, slot),
+            TypedExpr::Call { .. } => Err(AllocError),
+            TypedExpr::Library { .. }
             | TypedExpr::PackedStore { .. }
-            | TypedExpr::PackedLoad { .. } => {
-                let ty = x.ty();
-                self.spare(ty.rate, ty.elem, slot)
-            }
+            | TypedExpr::PackedLoad { .. } => self.value(x.ty(), slot),
         }
     }
 
     #[cycle(expr)]
-    fn converted(&mut self, elem: Elem, x: &TypedExpr, slot: u32) -> Result<(), AllocError>
-        ensures { OnOk result (Gives self.old self.new (Both (spare_ask (type_of (expr_of x.now)).rate elem slot) (expr_asks (expr_of x.now) slot))) }
+    fn converted(&mut self, elem: Elem, x: &TypedExpr, slot: Slot) -> Result<(), AllocError>
+        ensures { OnOk result (Gives self.old self.new (Both (spare_ask (type_of (expr_of x.now)).rate elem slot.number) (expr_asks (expr_of x.now) slot.number))) }
     {
         self.spare(x.ty().rate, elem, slot)?;
         self.expr(x, slot)?;
@@ -148,8 +150,8 @@ impl Reserve {
 
     /// A value that is taken at a rate.
     #[cycle(expr)]
-    pub fn operand(&mut self, rate: Rate, x: &TypedExpr, slot: u32) -> Result<(), AllocError>
-        ensures { OnOk result (Gives self.old self.new (operand_asks rate (expr_of x.now) slot)) }
+    pub fn operand(&mut self, rate: Rate, x: &TypedExpr, slot: Slot) -> Result<(), AllocError>
+        ensures { OnOk result (Gives self.old self.new (operand_asks rate (expr_of x.now) slot.number)) }
     {
         let ty = x.ty();
         self.lift(rate, ty.rate, ty.elem, slot)?;
@@ -158,8 +160,8 @@ impl Reserve {
     }
 
     #[cycle(expr)]
-    fn unary(&mut self, ty: Ty, x: &TypedExpr, slot: u32) -> Result<(), AllocError>
-        ensures { OnOk result (Gives self.old self.new (Both (spare_ask ty.rate ty.elem slot) (operand_asks ty.rate (expr_of x.now) slot))) }
+    fn unary(&mut self, ty: Ty, x: &TypedExpr, slot: Slot) -> Result<(), AllocError>
+        ensures { OnOk result (Gives self.old self.new (Both (spare_ask ty.rate ty.elem slot.number) (operand_asks ty.rate (expr_of x.now) slot.number))) }
     {
         self.spare(ty.rate, ty.elem, slot)?;
         self.operand(ty.rate, x, slot)?;
@@ -173,9 +175,9 @@ impl Reserve {
         rate: Rate,
         left: &TypedExpr,
         right: &TypedExpr,
-        slot: u32,
+        slot: Slot,
     ) -> Result<(), AllocError>
-        ensures { OnOk result (Gives self.old self.new (operands_asks rate (expr_of left.now) (expr_of right.now) slot)) }
+        ensures { OnOk result (Gives self.old self.new (operands_asks rate (expr_of left.now) (expr_of right.now) slot.number)) }
     {
         let next = self.next(slot)?;
         self.operand(rate, left, slot)?;
@@ -191,9 +193,9 @@ impl Reserve {
         made: Elem,
         left: &TypedExpr,
         right: &TypedExpr,
-        slot: u32,
+        slot: Slot,
     ) -> Result<(), AllocError>
-        ensures { OnOk result (Gives self.old self.new (Both (spare_ask rate made slot) (operands_asks rate (expr_of left.now) (expr_of right.now) slot))) }
+        ensures { OnOk result (Gives self.old self.new (Both (spare_ask rate made slot.number) (operands_asks rate (expr_of left.now) (expr_of right.now) slot.number))) }
     {
         self.spare(rate, made, slot)?;
         self.pair(rate, left, right, slot)?;
@@ -207,9 +209,9 @@ impl Reserve {
         rate: Rate,
         left: &TypedExpr,
         right: &TypedExpr,
-        slot: u32,
+        slot: Slot,
     ) -> Result<(), AllocError>
-        ensures { OnOk result (Gives self.old self.new (Both (spare_ask rate Truth slot) (Both (test_asks rate slot) (operands_asks rate (expr_of left.now) (expr_of right.now) slot)))) }
+        ensures { OnOk result (Gives self.old self.new (logic_asks rate (expr_of left.now) (expr_of right.now) slot.number)) }
     {
         self.spare(rate, Elem::Bool, slot)?;
         self.test(rate, slot)?;
@@ -225,12 +227,9 @@ impl Reserve {
         test: &TypedExpr,
         then: &TypedExpr,
         otherwise: &TypedExpr,
-        slot: u32,
+        slot: Slot,
     ) -> Result<(), AllocError>
-        ensures { OnOk result (Gives self.old self.new (Both (spare_ask ty.rate ty.elem slot)
-            (Both (expr_asks (expr_of test.now) slot)
-            (Both (operand_asks ty.rate (expr_of then.now) (first_slot (type_of (expr_of test.now)).rate slot))
-            (Both (operand_asks ty.rate (expr_of otherwise.now) (second_slot (type_of (expr_of test.now)).rate slot)) (sides_ask (type_of (expr_of test.now)).rate slot)))))) }
+        ensures { OnOk result (Gives self.old self.new (choice_asks ty (expr_of test.now) (expr_of then.now) (expr_of otherwise.now) slot.number)) }
     {
         let rate = test.ty().rate;
         let first = side(rate, slot)?;
@@ -245,8 +244,8 @@ impl Reserve {
 
     /// A place, and the register that its value is read into.
     #[cycle(expr)]
-    fn read(&mut self, place: &TypedPlace, slot: u32) -> Result<(), AllocError>
-        ensures { OnOk result (Gives self.old self.new (Both (target_asks (place_of place.now) slot) (read_asks (place_of place.now) slot))) }
+    fn read(&mut self, place: &TypedPlace, slot: Slot) -> Result<(), AllocError>
+        ensures { OnOk result (Gives self.old self.new (Both (target_asks (place_of place.now) slot.number) (read_asks (place_of place.now) slot.number))) }
     {
         self.target(place, slot)?;
         self.element(place, slot)?;
@@ -254,8 +253,8 @@ impl Reserve {
     }
 
     /// The register that an element is read into; none for a variable.
-    fn element(&mut self, place: &TypedPlace, slot: u32) -> Result<(), AllocError>
-        ensures { OnOk result (Gives self.old self.new (read_asks (place_of place.now) slot)) }
+    fn element(&mut self, place: &TypedPlace, slot: Slot) -> Result<(), AllocError>
+        ensures { OnOk result (Gives self.old self.new (read_asks (place_of place.now) slot.number)) }
     {
         match place {
             TypedPlace::Variable { .. } => Ok(()),
@@ -265,8 +264,8 @@ impl Reserve {
 
     /// A place whose index is taken at a slot.
     #[cycle(expr)]
-    fn target(&mut self, place: &TypedPlace, slot: u32) -> Result<(), AllocError>
-        ensures { OnOk result (Gives self.old self.new (target_asks (place_of place.now) slot)) }
+    fn target(&mut self, place: &TypedPlace, slot: Slot) -> Result<(), AllocError>
+        ensures { OnOk result (Gives self.old self.new (target_asks (place_of place.now) slot.number)) }
     {
         match place {
             TypedPlace::Variable { .. } => Ok(()),
@@ -276,8 +275,8 @@ impl Reserve {
 
     /// An index, as int64, at the rate of the element.
     #[cycle(expr)]
-    fn index(&mut self, rate: Rate, index: &TypedExpr, slot: u32) -> Result<(), AllocError>
-        ensures { OnOk result (Gives self.old self.new (index_asks rate (expr_of index.now) slot (expr_asks (expr_of index.now) slot))) }
+    fn index(&mut self, rate: Rate, index: &TypedExpr, slot: Slot) -> Result<(), AllocError>
+        ensures { OnOk result (Gives self.old self.new (index_asks rate (expr_of index.now) slot.number (expr_asks (expr_of index.now) slot.number))) }
     {
         self.lift(rate, index.ty().rate, Elem::I64, slot)?;
         self.converted(Elem::I64, index, slot)?;
@@ -285,8 +284,8 @@ impl Reserve {
     }
 
     /// The register in which an operator works whose type is not that of its place.
-    fn work(&mut self, ty: Ty, elem: Elem, slot: u32) -> Result<(), AllocError>
-        ensures { OnOk result (Gives self.old self.new (work_asks (same_elem ty.elem elem) ty.rate elem slot)) }
+    fn work(&mut self, ty: Ty, elem: Elem, slot: Slot) -> Result<(), AllocError>
+        ensures { OnOk result (Gives self.old self.new (work_asks (same_elem ty.elem elem) ty.rate elem slot.number)) }
     {
         if ty.elem == elem {
             Ok(())
@@ -296,8 +295,8 @@ impl Reserve {
     }
 
     /// A place that an operator of a type reads and writes, at a slot of its own.
-    fn change(&mut self, elem: Elem, place: &TypedPlace, slot: u32) -> Result<(), AllocError>
-        ensures { OnOk result (Gives self.old self.new (change_asks elem (place_of place.now) slot)) }
+    fn change(&mut self, elem: Elem, place: &TypedPlace, slot: Slot) -> Result<(), AllocError>
+        ensures { OnOk result (Gives self.old self.new (change_asks elem (place_of place.now) slot.number)) }
     {
         self.work(place.ty(), elem, slot)?;
         self.element(place, slot)?;
@@ -305,21 +304,21 @@ impl Reserve {
     }
 
     /// The number 1 at a rate.
-    fn one(&mut self, rate: Rate, elem: Elem, slot: u32) -> Result<(), AllocError>
-        ensures { OnOk result (Gives self.old self.new (one_asks rate elem slot)) }
+    fn one(&mut self, rate: Rate, elem: Elem, slot: Slot) -> Result<(), AllocError>
+        ensures { OnOk result (Gives self.old self.new (one_asks rate elem slot.number)) }
     {
         self.spare(Rate::Uniform, elem, slot)?;
         self.lift(rate, Rate::Uniform, elem, slot)?;
         Ok(())
     }
 
-    /// What the code of an assignment asks for, and of what else stands before a semicolon.
-    pub fn simple(&mut self, x: &TypedSimple, slot: u32) -> Result<(), AllocError>
-        ensures { OnOk result (Gives self.old self.new (simple_asks (simple_of x.now) slot)) }
+    /// What the code of an assignment asks for, and of what else stands before a semicolon; of calls as [expr](Reserve::expr).
+    pub fn simple(&mut self, x: &TypedSimple, slot: Slot) -> Result<(), AllocError>
+        ensures { OnOk result (Gives self.old self.new (simple_asks (simple_of x.now) slot.number)) }
     {
         match x {
             TypedSimple::Value(value) => self.expr(value, slot),
-            TypedSimple::Call(_) => Ok(()),
+            TypedSimple::Call(_) => Err(AllocError),
             TypedSimple::Assign { target, value, .. } => self.assign(target, value, slot),
             TypedSimple::Update {
                 elem,
@@ -332,9 +331,9 @@ impl Reserve {
     }
 
     /// The slot behind that of a place's index.
-    fn beyond(&mut self, place: &TypedPlace, slot: u32) -> Result<u32, AllocError>
-        ensures number { IfOk result (λ n. n ≡ beyond (place_of place.now) slot) }
-        ensures gives { IfOk result (λ n. Gives self.old self.new (Number n)) }
+    fn beyond(&mut self, place: &TypedPlace, slot: Slot) -> Result<Slot, AllocError>
+        ensures number { IfOk result (λ n. n.number ≡ beyond (place_of place.now) slot.number) }
+        ensures gives { IfOk result (λ n. Gives self.old self.new (Number n.number)) }
     {
         match place {
             TypedPlace::Variable { .. } => Ok(slot),
@@ -346,9 +345,9 @@ impl Reserve {
         &mut self,
         target: &TypedPlace,
         value: &TypedExpr,
-        slot: u32,
+        slot: Slot,
     ) -> Result<(), AllocError>
-        ensures { OnOk result (Gives self.old self.new (assign_asks (place_of target.now) (expr_of value.now) slot)) }
+        ensures { OnOk result (Gives self.old self.new (assign_asks (place_of target.now) (expr_of value.now) slot.number)) }
     {
         self.target(target, slot)?;
         let next = self.beyond(target, slot)?;
@@ -361,9 +360,9 @@ impl Reserve {
         elem: Elem,
         target: &TypedPlace,
         value: &TypedExpr,
-        slot: u32,
+        slot: Slot,
     ) -> Result<(), AllocError>
-        ensures { OnOk result (Gives self.old self.new (update_asks elem (place_of target.now) (expr_of value.now) slot)) }
+        ensures { OnOk result (Gives self.old self.new (update_asks elem (place_of target.now) (expr_of value.now) slot.number)) }
     {
         let next = self.beyond(target, slot)?;
         self.target(target, slot)?;
@@ -373,8 +372,8 @@ impl Reserve {
         Ok(())
     }
 
-    fn step(&mut self, elem: Elem, target: &TypedPlace, slot: u32) -> Result<(), AllocError>
-        ensures { OnOk result (Gives self.old self.new (step_asks elem (place_of target.now) slot)) }
+    fn step(&mut self, elem: Elem, target: &TypedPlace, slot: Slot) -> Result<(), AllocError>
+        ensures { OnOk result (Gives self.old self.new (step_asks elem (place_of target.now) slot.number)) }
     {
         let next = self.beyond(target, slot)?;
         self.target(target, slot)?;
@@ -385,8 +384,8 @@ impl Reserve {
     }
 
     /// A variable begins with 0: a varying one gets it from a slot.
-    fn zero(&mut self, number: usize, ty: Ty, slot: u32) -> Result<(), AllocError>
-        ensures { OnOk result (Gives self.old self.new (zero_asks ty.rate ty.elem number slot)) }
+    fn zero(&mut self, number: usize, ty: Ty, slot: Slot) -> Result<(), AllocError>
+        ensures { OnOk result (Gives self.old self.new (zero_asks ty.rate ty.elem number slot.number)) }
     {
         match ty.rate {
             Rate::Uniform => Ok(()),
@@ -394,8 +393,8 @@ impl Reserve {
         }
     }
 
-    fn item(&mut self, x: &TypedItem, slot: u32) -> Result<(), AllocError>
-        ensures { OnOk result (Gives self.old self.new (item_asks slot (item_of x.now))) }
+    fn item(&mut self, x: &TypedItem, slot: Slot) -> Result<(), AllocError>
+        ensures { OnOk result (Gives self.old self.new (item_asks slot.number (item_of x.now))) }
     {
         match x {
             TypedItem::Plain { number, ty, .. } => self.zero(*number, *ty, slot),
@@ -405,8 +404,8 @@ impl Reserve {
     }
 
     /// What the code of declared variables and arrays asks for.
-    pub fn items(&mut self, all: &[TypedItem], slot: u32) -> Result<(), AllocError>
-        ensures { OnOk result (Gives self.old self.new (items_asks slot (items_of all.now))) }
+    pub fn items(&mut self, all: &[TypedItem], slot: Slot) -> Result<(), AllocError>
+        ensures { OnOk result (Gives self.old self.new (items_asks slot.number (items_of all.now))) }
     {
         for x in all {
             self.item(x, slot)?;
@@ -416,11 +415,11 @@ impl Reserve {
 }
 
 /// The slot behind that of a varying test.
-fn side(rate: Rate, slot: u32) -> Result<u32, AllocError>
-    ensures { IfOk result (λ n. n ≡ first_slot rate slot) }
+fn side(rate: Rate, slot: Slot) -> Result<Slot, AllocError>
+    ensures { IfOk result (λ n. n.number ≡ first_slot rate slot.number) }
 {
     match rate {
         Rate::Uniform => Ok(slot),
-        Rate::Varying => after(slot),
+        Rate::Varying => slot.after(),
     }
 }

@@ -4,6 +4,7 @@ ghost use Rattle.isp_lower.specs.Asks.{ArrayOf, Register as Ask};
 ghost use Rattle.isp_lower.specs.Emitted.{Present, layout, name_of, row_of};
 ghost use Rattle.isp_lower.specs.Rows.{Result, Spare, Variable, elem_in, number_in};
 
+use crate::numbered::{RegisterNumber, Slot};
 use crate::register_rows::RegisterRows;
 use crate::registers::RegisterName;
 use crate::types::Scope;
@@ -11,21 +12,23 @@ use isp_base::{Elem, Rate, Ty};
 use isp_typed::ArrayVariable;
 
 /// The register of a name that has one.
-fn given(rows: &RegisterRows, name: RegisterName, elem: Elem) -> u32
+fn given(rows: &RegisterRows, name: RegisterName, elem: Elem) -> RegisterNumber
     requires { elem_in (map row_of rows.now) (name_of name) ≡ Some elem }
-    ensures { result ≡ number_in (map row_of rows.now) (name_of name) }
+    ensures { result.number ≡ number_in (map row_of rows.now) (name_of name) }
 {
     match rows.find(name) {
-        Some((place, _)) => place as u32,
-        None => 0,
+        Some((place, _)) => RegisterNumber {
+            number: place as u32,
+        },
+        None => RegisterNumber { number: 0 },
     }
 }
 
 impl Scope<'_> {
     /// The register of a slot for values of a type.
-    pub fn spare(&self, rate: Rate, elem: Elem, slot: u32) -> u32
-        requires { Present self.now (Ask rate (Spare elem slot) elem) }
-        ensures { result ≡ (layout self.now).spare rate elem slot }
+    pub fn spare(&self, rate: Rate, elem: Elem, slot: Slot) -> RegisterNumber
+        requires { Present self.now (Ask rate (Spare elem slot.number) elem) }
+        ensures { result.number ≡ (layout self.now).spare rate elem slot.number }
     {
         let name = RegisterName::Spare(elem, slot);
         match rate {
@@ -35,9 +38,9 @@ impl Scope<'_> {
     }
 
     /// The register of a variable's value.
-    pub fn variable(&self, number: usize, ty: Ty) -> u32
+    pub fn variable(&self, number: usize, ty: Ty) -> RegisterNumber
         requires { Present self.now (Ask ty.rate (Variable number) ty.elem) }
-        ensures { result ≡ (layout self.now).variable ty.rate number }
+        ensures { result.number ≡ (layout self.now).variable ty.rate number }
     {
         let name = RegisterName::Variable(number);
         match ty.rate {
@@ -47,9 +50,9 @@ impl Scope<'_> {
     }
 
     /// The register of what the function gives back.
-    pub fn result(&self, ty: Ty) -> u32
+    pub fn result(&self, ty: Ty) -> RegisterNumber
         requires { Present self.now (Ask ty.rate Result ty.elem) }
-        ensures { result ≡ (layout self.now).result ty.rate }
+        ensures { result.number ≡ (layout self.now).result ty.rate }
     {
         match ty.rate {
             Rate::Uniform => given(&self.registers.scalars, RegisterName::Result, ty.elem),
@@ -58,9 +61,9 @@ impl Scope<'_> {
     }
 
     /// The register of an array.
-    pub fn array(&self, array: ArrayVariable) -> u32
+    pub fn array(&self, array: ArrayVariable) -> RegisterNumber
         requires { Present self.now (ArrayOf array) }
-        ensures { result ≡ (layout self.now).array array.number }
+        ensures { result.number ≡ (layout self.now).array array.number }
     {
         given(
             &self.registers.arrays,

@@ -1,37 +1,38 @@
 //! Where code works, and what it works on.
 ghost use Rattle.std.specs.Prelude.{◌≡◌, ◌<◌, ◌+◌};
 
+use crate::numbered::{MaskNumber, RegisterNumber, Slot};
 use isp_base::{BinOp, Elem, Span, Ty};
 use isp_code::{JumpTest, Register};
 use isp_typed::ArrayVariable;
 
-/// Where the code of an expression works: for the lanes of a mask, in the slots from one on.
+/// Where the code of an expression or an assignment works: for the lanes of a mask, in the slots from one on.
 #[derive(Clone, Copy)]
-pub(crate) struct Site {
-    pub mask: u32,
-    pub slot: u32,
+pub struct Site {
+    pub mask: MaskNumber,
+    pub slot: Slot,
 }
 
 impl Site {
     /// For the same lanes, one slot on.
     pub(crate) fn next(self) -> Site
-        requires { self.slot + 1 < 4294967296 }
-        ensures { result ≡ record { mask = self.mask; slot = self.slot + 1 } }
+        requires { self.slot.number + 1 < 4294967296 }
+        ensures { result ≡ record { mask = self.mask; slot = record { number = self.slot.number + 1 } } }
     {
         Site {
             mask: self.mask,
-            slot: self.slot + 1,
+            slot: self.slot.next(),
         }
     }
 
     /// For the lanes of this slot's mask, one slot on.
     pub(crate) fn under(self) -> Site
-        requires { self.slot + 1 < 4294967296 }
-        ensures { result ≡ record { mask = self.slot; slot = self.slot + 1 } }
+        requires { self.slot.number + 1 < 4294967296 }
+        ensures { result ≡ record { mask = record { number = self.slot.number }; slot = record { number = self.slot.number + 1 } } }
     {
         Site {
-            mask: self.slot,
-            slot: self.slot + 1,
+            mask: self.slot.mask(),
+            slot: self.slot.next(),
         }
     }
 }
@@ -40,14 +41,14 @@ impl Site {
 /// its code works.
 #[derive(Clone, Copy)]
 pub(crate) struct Target {
-    pub to: u32,
+    pub to: RegisterNumber,
     pub ty: Ty,
     pub span: Span,
     pub site: Site,
 }
 
 impl Target {
-    pub(crate) fn new(to: u32, ty: Ty, span: Span, site: Site) -> Target
+    pub(crate) fn new(to: RegisterNumber, ty: Ty, span: Span, site: Site) -> Target
         ensures { result ≡ record { to = to; ty = ty; span = span; site = site } }
     {
         Target { to, ty, span, site }
@@ -57,7 +58,7 @@ impl Target {
 /// A value of a type in a register.
 #[derive(Clone, Copy)]
 pub(crate) struct Held {
-    pub from: u32,
+    pub from: RegisterNumber,
     pub ty: Ty,
 }
 
@@ -81,7 +82,7 @@ pub(crate) struct Home {
 #[derive(Clone, Copy)]
 pub(crate) struct Element {
     pub array: ArrayVariable,
-    pub index: u32,
+    pub index: RegisterNumber,
     pub ty: Ty,
     pub span: Span,
 }

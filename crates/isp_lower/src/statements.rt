@@ -18,25 +18,17 @@ use std::alloc::AllocError;
 
 /// The code of what stands before a semicolon, under a mask, in the slots from one on. Memory is refused too
 /// of what has no code yet: calls, the library and packed calls.
-pub fn simple(
-    b: &mut Body,
-    on: &Scope,
-    x: &TypedSimple,
-    k: u32,
-    slot: u32,
-) -> Result<(), AllocError>
-    requires { Present on.now (simple_asks (simple_of x.now) slot) }
-    ensures { OnOk result (Appends b.old b.new (λ pc p. simple_code (layout on.now) (simple_of x.now) pc p k slot) (simple_places (layout on.now) (simple_of x.now))) }
+pub fn simple(b: &mut Body, on: &Scope, x: &TypedSimple, site: Site) -> Result<(), AllocError>
+    requires { Present on.now (simple_asks (simple_of x.now) site.slot.number) }
+    ensures { OnOk result (Appends b.old b.new (λ pc p. simple_code (layout on.now) (simple_of x.now) pc p site.mask.number site.slot.number) (simple_places (layout on.now) (simple_of x.now))) }
 {
     match x {
         TypedSimple::Value(value) => {
-            expr(b, on, value, k, slot)?;
+            expr(b, on, value, site)?;
             Ok(())
         }
         TypedSimple::Call(_) => Err(AllocError),
-        TypedSimple::Assign { target, value, .. } => {
-            assign(b, on, target, value, Site { mask: k, slot })
-        }
+        TypedSimple::Assign { target, value, .. } => { assign(b, on, target, value, site) }
         TypedSimple::Update {
             operator,
             elem,
@@ -49,7 +41,7 @@ pub fn simple(
                 elem: *elem,
                 span: *span,
             };
-            change_by(b, on, operation, target, value, Site { mask: k, slot })
+            change_by(b, on, operation, target, value, site)
         }
         TypedSimple::Step {
             operator,
@@ -62,22 +54,15 @@ pub fn simple(
                 elem: *elem,
                 span: *span,
             };
-            step(b, on, operation, target, Site { mask: k, slot })
+            step(b, on, operation, target, site)
         }
     }
 }
 
 /// A variable begins with 0.
-fn zero_to(
-    b: &mut Body,
-    on: &Scope,
-    number: usize,
-    ty: Ty,
-    k: u32,
-    slot: u32,
-) -> Result<(), AllocError>
-    requires { Present on.now (zero_asks ty.rate ty.elem number slot) }
-    ensures { OnOk result (Appends b.old b.new (λ pc p. zero_code (layout on.now) ty.rate ty.elem number k slot) []) }
+fn zero_to(b: &mut Body, on: &Scope, number: usize, ty: Ty, site: Site) -> Result<(), AllocError>
+    requires { Present on.now (zero_asks ty.rate ty.elem number site.slot.number) }
+    ensures { OnOk result (Appends b.old b.new (λ pc p. zero_code (layout on.now) ty.rate ty.elem number site.mask.number site.slot.number) []) }
 {
     match ty.rate {
         Rate::Uniform => {
@@ -87,21 +72,21 @@ fn zero_to(
         }
         Rate::Varying => {
             let to = on.variable(number, ty);
-            let from = on.spare(Rate::Uniform, ty.elem, slot);
+            let from = on.spare(Rate::Uniform, ty.elem, site.slot);
             b.push(constant(from, ty.elem, 0))?;
-            b.push(splat(to, from, k))?;
+            b.push(splat(to, from, site.mask))?;
             Ok(())
         }
     }
 }
 
 /// The code of a declared variable or array.
-fn item(b: &mut Body, on: &Scope, x: &TypedItem, k: u32, slot: u32) -> Result<(), AllocError>
-    requires { Present on.now (item_asks slot (item_of x.now)) }
-    ensures { OnOk result (Appends b.old b.new (λ pc p. item_code (layout on.now) (item_of x.now) pc p k slot) (item_places (layout on.now) (item_of x.now))) }
+fn item(b: &mut Body, on: &Scope, x: &TypedItem, site: Site) -> Result<(), AllocError>
+    requires { Present on.now (item_asks site.slot.number (item_of x.now)) }
+    ensures { OnOk result (Appends b.old b.new (λ pc p. item_code (layout on.now) (item_of x.now) pc p site.mask.number site.slot.number) (item_places (layout on.now) (item_of x.now))) }
 {
     match x {
-        TypedItem::Plain { number, ty, .. } => zero_to(b, on, *number, *ty, k, slot),
+        TypedItem::Plain { number, ty, .. } => zero_to(b, on, *number, *ty, site),
         TypedItem::Value {
             number,
             ty,
@@ -113,11 +98,11 @@ fn item(b: &mut Body, on: &Scope, x: &TypedItem, k: u32, slot: u32) -> Result<()
                 ty: *ty,
                 span: *span,
             };
-            variable_to(b, on, home, value, Site { mask: k, slot })
+            variable_to(b, on, home, value, site)
         }
         TypedItem::Array { array, .. } => {
             let to = on.array(*array);
-            b.push(clear(to, k))?;
+            b.push(clear(to, site.mask))?;
             Ok(())
         }
     }
@@ -125,18 +110,12 @@ fn item(b: &mut Body, on: &Scope, x: &TypedItem, k: u32, slot: u32) -> Result<()
 
 /// The code of declared variables and arrays, under a mask, in the slots from one on: each begins with its value, or
 /// with 0.
-pub fn declared(
-    b: &mut Body,
-    on: &Scope,
-    items: &[TypedItem],
-    k: u32,
-    slot: u32,
-) -> Result<(), AllocError>
-    requires { Present on.now (items_asks slot (items_of items.now)) }
-    ensures { OnOk result (Appends b.old b.new (λ pc p. items_code (layout on.now) (items_of items.now) pc p k slot) (items_places (layout on.now) (items_of items.now))) }
+pub fn declared(b: &mut Body, on: &Scope, items: &[TypedItem], site: Site) -> Result<(), AllocError>
+    requires { Present on.now (items_asks site.slot.number (items_of items.now)) }
+    ensures { OnOk result (Appends b.old b.new (λ pc p. items_code (layout on.now) (items_of items.now) pc p site.mask.number site.slot.number) (items_places (layout on.now) (items_of items.now))) }
 {
     for x in items.iter() {
-        item(b, on, x, k, slot)?;
+        item(b, on, x, site)?;
     }
     Ok(())
 }

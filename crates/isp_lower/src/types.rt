@@ -6,11 +6,13 @@ use crate::registers::Registers;
 use crate::reserve::Reserve;
 use isp_base::{Gang, Span, Ty};
 use isp_code::{Function, Instr};
+use isp_typed::TypedFunction;
 
-/// What does not change while the code of a function is written: its registers, how many masks it has, and what it gives
-/// back.
+/// What does not change while the code of a function is written: the functions that it may call, by number, its registers,
+/// how many masks it has, and what it gives back.
 #[derive(Clone, Copy)]
 pub struct Scope<'a> {
+    pub callees: &'a [TypedFunction],
     pub registers: &'a Registers,
     pub masks: u32,
     pub answer: Option<Ty>,
@@ -28,8 +30,10 @@ pub struct Body {
 /// The code of a program while it is written: the functions that are closed, and one at work. Where memory is refused,
 /// all is as it was before the call.
 #[derive(Drop)]
-pub struct Emitter {
+pub struct Emitter<'p> {
     pub gang: Gang,
+    /// The functions of the program, by number.
+    pub callees: &'p [TypedFunction],
     /// By number.
     pub texts: Vec<Vec<u8>>,
     /// Those that are closed, by number.

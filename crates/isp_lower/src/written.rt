@@ -7,6 +7,7 @@ ghost use Rattle.isp_lower.specs.Emitted.{Appends, Present};
 ghost use Rattle.isp_lower.specs.Written.{Writes, operate_at, read_at, write_at};
 
 use crate::leaves::{operate, read, the_others, where_so, write};
+use crate::numbered::{MaskNumber, PlaceNumber, RegisterNumber};
 use crate::sites::{Element, Target};
 use crate::types::{Body, Scope};
 use isp_base::{BinOp, Span};
@@ -14,8 +15,14 @@ use isp_typed::Logic;
 use std::alloc::AllocError;
 
 /// The lanes of a mask that need the right side, into another mask.
-pub fn put_needing(b: &mut Body, logic: Logic, to: u32, from: u32, k: u32) -> Result<(), AllocError>
-    ensures { OnOk result (Appends b.old b.new (λ pc p. needing logic to from k) []) }
+pub fn put_needing(
+    b: &mut Body,
+    logic: Logic,
+    to: MaskNumber,
+    from: RegisterNumber,
+    k: MaskNumber,
+) -> Result<(), AllocError>
+    ensures { OnOk result (Appends b.old b.new (λ pc p. needing logic to.number from.number k.number) []) }
 {
     b.push(where_so(to, from, k))?;
     match logic {
@@ -28,15 +35,15 @@ pub fn put_needing(b: &mut Body, logic: Logic, to: u32, from: u32, k: u32) -> Re
 }
 
 /// The number of the place of a division's trap, 0 for another operator.
-fn place_of(b: &mut Body, operator: BinOp, span: Span) -> Result<u32, AllocError>
-    ensures place { IfOk result (λ n. divides operator ≡ true → n ≡ length b.old.places.items) }
+fn place_of(b: &mut Body, operator: BinOp, span: Span) -> Result<PlaceNumber, AllocError>
+    ensures place { IfOk result (λ n. divides operator ≡ true → n.number ≡ length b.old.places.items) }
     ensures added { OnOk result (Appends b.old b.new (λ pc p. []) (operate_places operator span)) }
 {
     if operator.divides() {
         let number = b.place(span)?;
         Ok(number)
     } else {
-        Ok(0)
+        Ok(PlaceNumber { number: 0 })
     }
 }
 
@@ -44,8 +51,8 @@ fn place_of(b: &mut Body, operator: BinOp, span: Span) -> Result<u32, AllocError
 pub(crate) fn operate_to(
     b: &mut Body,
     operator: BinOp,
-    left: u32,
-    right: u32,
+    left: RegisterNumber,
+    right: RegisterNumber,
     target: Target,
 ) -> Result<(), AllocError>
     ensures { OnOk result (Writes b.old b.new (operate_at operator left right target)) }
@@ -60,8 +67,8 @@ pub(crate) fn read_to(
     b: &mut Body,
     on: &Scope,
     element: Element,
-    to: u32,
-    k: u32,
+    to: RegisterNumber,
+    k: MaskNumber,
 ) -> Result<(), AllocError>
     requires { Present on.now (ArrayOf element.array) }
     ensures { OnOk result (Writes b.old b.new (read_at on.now element to k)) }
@@ -77,8 +84,8 @@ pub(crate) fn write_from(
     b: &mut Body,
     on: &Scope,
     element: Element,
-    from: u32,
-    k: u32,
+    from: RegisterNumber,
+    k: MaskNumber,
 ) -> Result<(), AllocError>
     requires { Present on.now (ArrayOf element.array) }
     ensures { OnOk result (Writes b.old b.new (write_at on.now element from k)) }

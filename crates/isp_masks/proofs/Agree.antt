@@ -35,14 +35,16 @@ use Rattle.isp_meaning.specs.Statements.{block}
 use Rattle.isp_meaning.proofs.Grown.{prefix_self}
 use Rattle.isp_lower.specs.Layout.{Layout, register}
 use Rattle.isp_lower.specs.Setting.{Setting, IsSettled, Stands}
-use Rattle.isp_lower.proofs.Base.{are_front, are_back, put_same, step_is}
+use Rattle.isp_lower.proofs.Lemmas.{are_front, are_back, put_same, step_is}
 use Rattle.isp_code.proofs.Steps.{after-sum}
 use Rattle.isp_masks.specs.Agreement.{RunsAgree}
-use Rattle.isp_masks.specs.Compiled.{entry_state, entry_setting, ResultFits, IsCompiled}
+use Rattle.isp_masks.specs.Compiled.{entry_state, entry_setting, ResultFits, IsCompiled, IsEntry, AreCompiled}
+use Rattle.isp_masks.specs.Spots.{Numbers, first_spot}
 use Rattle.isp_masks.specs.Statements.{block_code, returned}
 use Rattle.isp_masks.specs.StmtRuns.{StmtRuns}
 use Rattle.isp_masks.proofs.Arrays.{opened_same, sizes_same, entry_opens, arrays_fit}
 use Rattle.isp_masks.proofs.Begins.{begins}
+use Rattle.isp_masks.proofs.Calls.{calls_run}
 use Rattle.isp_masks.proofs.Endings.{longer, one_end, grows, rows_same}
 use Rattle.isp_masks.proofs.Stmts.{block_runs}
 use Rattle.isp_masks.proofs.Fitting.{block_parts}
@@ -58,23 +60,31 @@ all_inside n p h = ltb-true p n h
 below_same : (n b : ℕ) (f : ℕ → ℕ → ℕ) → b < n → below n f b ≡ f b
 below_same n b f lt = cond-true (nat_lt b n) (f b) (λ e. 0) (lt-ltb b n lt)
 
-module _ (program : Program) (code : Listing) (f : ℕ) (h : TFunction) (g : Routine) (l : Layout) (p : ℕ) (is : IsCompiled program code f h g l p) (xs : List Argument) (sig : has_signature h.parameters xs ≡ true) (short : AreShort xs) where
+module _ (program : Program) (code : Listing) (all : AreCompiled program code) (f : ℕ) (h : TFunction) (g : Routine) (l : Layout) (z : Numbers) (is : IsCompiled program code f h g l z) (entry : IsEntry h g l) (xs : List Argument) (sig : has_signature h.parameters xs ≡ true) (short : AreShort xs) where
   abbrev world : ℕ → Setting
   world n = entry_setting program code f h g l n xs
 
   abbrev start : machine.State
   start = machine.Runs (first_conf code f g xs)
 
+  opened_there : (n : ℕ) → (world n).home.opened ≡ (world n).frame.opened
+  opened_there n = opened_same program code f h g l (λ a. a) [] (handed 0 xs) (first_frame xs) n 255 is.arrays (entry_opens program code f h g l n xs is.arrays sig short)
+
+  sizes_there : (n : ℕ) → (world n).home.sizes ≡ (world n).frame.sizes
+  sizes_there n = sizes_same program code f h g l (λ a. a) [] (handed 0 xs) (first_frame xs) n 255 is.arrays (entry_opens program code f h g l n xs is.arrays sig short)
+
   settled : (n : ℕ) → IsSettled (world n)
   settled n = record {
     gang = is.gang;
     found = is.found;
     apart = is.apart;
+    rates = is.rates;
     deep = refl;
     answer = refl;
-    opened = opened_same program code f h g l (λ a. a) [] (handed 0 xs) (first_frame xs) n 255 is.arrays (entry_opens program code f h g l n xs is.arrays sig short);
-    sizes = sizes_same program code f h g l (λ a. a) [] (handed 0 xs) (first_frame xs) n 255 is.arrays (entry_opens program code f h g l n xs is.arrays sig short);
+    opened = opened_there n;
+    sizes = sizes_there n;
     arrays = arrays_fit program code f h g l n xs is.arrays sig short;
+    calls = calls_run program code all 255 f h g l (λ a. a) [] (handed 0 xs) (first_frame xs) n is.found (opened_there n) (sizes_there n) refl;
   }
 
   -- what a run is, by how it stands: late where it was cut
@@ -99,7 +109,7 @@ module _ (program : Program) (code : Listing) (f : ℕ) (h : TFunction) (g : Rou
       go Varying er = absurd (cc)
 
   abbrev body : List Instr
-  body = block_code l h.answer h.body 0 p 0 1 2 3
+  body = block_code l h.answer h.body 0 z first_spot
 
   abbrev last : Instr
   last = instr.Return (returned l h.answer)
@@ -107,7 +117,7 @@ module _ (program : Program) (code : Listing) (f : ℕ) (h : TFunction) (g : Rou
   abbrev everybody : Mask
   everybody = everyone (gang_width program.gang)
 
-  follows_from : (n : ℕ) (v : Res) → StmtRuns (world n) n (first_conf code f g xs) (0 + length (block_code l h.answer h.body 0 p 0 1 2 3)) 0 1 2 3 (1 + 0) v → Follows n (ended h.answer (first_frame xs) everybody (first_state xs) v)
+  follows_from : (n : ℕ) (v : Res) → StmtRuns (world n) n (first_conf code f g xs) (0 + length (block_code l h.answer h.body 0 z first_spot)) first_spot (1 + 0) v → Follows n (ended h.answer (first_frame xs) everybody (first_state xs) v)
   follows_from n (Went s g1 b ct rt) r =
       let c = r.conf in
       let pc = 0 + length body in
@@ -121,7 +131,7 @@ module _ (program : Program) (code : Listing) (f : ℕ) (h : TFunction) (g : Rou
         omega (arith, r.bound),
         ap (outcome (rows xs)) ends
             ∙ ap (λ z. Ends z (answer g c (returned l h.answer)) c.out) arrays
-            ∙ ap (λ z. Ends (rows_now (rows xs) (below (length (rows xs)) s.arrays)) z c.out) (answer_is h.answer h.gives everybody s c is.result r.stands.result)
+            ∙ ap (λ z. Ends (rows_now (rows xs) (below (length (rows xs)) s.arrays)) z c.out) (answer_is h.answer h.gives everybody s c entry.gives r.stands.result)
             ∙ ap (Ends (rows_now (rows xs) (below (length (rows xs)) s.arrays)) (answer_as h.gives (answer_of h.answer everybody s))) r.stands.out_is,
         tt,
       )
@@ -129,21 +139,21 @@ module _ (program : Program) (code : Listing) (f : ℕ) (h : TFunction) (g : Rou
       (r.steps, omega (arith, r.bound), ap (outcome (rows xs)) r.fails ∙ ap (λ z. Traps t (rows_now (rows xs) z) r.conf.out) r.arrays_are ∙ ap (Traps t (rows_now (rows xs) s.arrays)) r.out_is, tt)
   follows_from n (Cut s) r = (r.steps, omega (arith, r.bound), ap (outcome (rows xs)) r.goes ∙ ap GoesOn r.out_is, r.far)
 
-  body_runs : (n : ℕ) → StmtRuns (world n) n (first_conf code f g xs) (0 + length (block_code l h.answer h.body 0 p 0 1 2 3)) 0 1 2 3 (1 + 0) (block (gang_width program.gang) (frame_of h (handed 0 xs) (first_frame xs)) (calls_at program n 255) n h.body everybody (entry_state program h xs))
+  body_runs : (n : ℕ) → StmtRuns (world n) n (first_conf code f g xs) (0 + length (block_code l h.answer h.body 0 z first_spot)) first_spot (1 + 0) (block (gang_width program.gang) (frame_of h (handed 0 xs) (first_frame xs)) (calls_at program n 255) n h.body everybody (entry_state program h xs))
   body_runs n =
       let c = first_conf code f g xs in
-      let begin = λ (z : Gang). begun h (handed 0 xs) (first_frame xs) (everyone (gang_width z)) (first_state xs) in
+      let begin = λ (u : Gang). begun h (handed 0 xs) (first_frame xs) (everyone (gang_width u)) (first_state xs) in
       let n01 : ◌≢◌ {A = ℕ} 0 1 = omega arith in
       let n02 : ◌≢◌ {A = ℕ} 0 2 = omega arith in
       let n12 : ◌≢◌ {A = ℕ} 1 2 = omega arith in
-      subst (λ z. StmtRuns (world n) n c (0 + length body) 0 1 2 3 (1 + 0) (block (gang_width z) (frame_of h (handed 0 xs) (first_frame xs)) (calls_at program n 255) n h.body (everyone (gang_width z)) (begin z))) is.gang
-      (block_runs (world n) (settled n) h.body 0 p 0 1 2 3 0 (everyone (gang_width code.gang)) (begin code.gang) c (block_parts (world n) h.body 3 (record { fine = is.fine.body; rated = is.rated; named = is.named })) (are_front g.code 0 body (last ∷ []) is.code_is) is.places_are (record { low_k = omega arith; low_co = omega arith; low_rr = omega arith; k_co = n01; k_rr = n02; co_rr = n12 })
+      subst (λ u. StmtRuns (world n) n c (0 + length body) first_spot (1 + 0) (block (gang_width u) (frame_of h (handed 0 xs) (first_frame xs)) (calls_at program n 255) n h.body (everyone (gang_width u)) (begin u))) is.gang
+      (block_runs (world n) (settled n) h.body 0 z first_spot 0 (everyone (gang_width code.gang)) (begin code.gang) c (block_parts (world n) h.body 3 (record { fine = is.fine.body; rated = is.rated; named = is.named })) (are_front g.code 0 body (last ∷ []) is.code_is) is.names (record { low_on = omega arith; low_continued = omega arith; low_returned = omega arith; on_continued = n01; on_returned = n02; continued_returned = n12 })
       (record {
         at = record { home_is = refl; waiting_is = refl; pc_is = refl };
         mask = put_same (λ k. nobody) 0 (everyone (gang_width code.gang));
         some = all_some code.gang;
         inside = all_inside (gang_width code.gang);
-        stands = subst (λ z. Stands (world n) (begin z) c) (sym is.gang) (begins program code f h g l n xs is.passed is.fine.params is.one sig);
+        stands = subst (λ z. Stands (world n) (begin z) c) (sym is.gang) (begins program code f h g l n xs is.passed is.fine.params entry.one sig);
         used = omega arith;
         low = omega arith;
       }))

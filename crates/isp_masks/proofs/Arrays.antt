@@ -38,6 +38,25 @@ use Rattle.isp_masks.specs.Arrays.{array_then, array_count, count_then, local_co
 use Rattle.isp_masks.proofs.Begins.{not_so, handed_none}
 use Rattle.isp_masks.proofs.Unions.{both_so}
 
+-- which is one of them
+size_below : (vs : List Variable) (v : ℕ) (x : Variable) (t : Ty) (n : ℕ) → slice_get vs v ≡ Some x → x.holds ≡ holds.Local t n → t.rate ≡ Uniform → length (meaning.shared_sizes (take v vs)) < length (meaning.shared_sizes vs)
+size_below [] v x t n e k r = absurd (cc)
+size_below (y ∷ vs) zero x t n e k r =
+    subst (λ z. 0 < length (meaning.size_of z (meaning.shared_sizes vs))) (sym (ap (λ z. z.holds) (same_Some y x e) ∙ k)) (subst (λ z. 0 < length (meaning.size_at z n (meaning.shared_sizes vs))) (sym r) (omega arith))
+size_below (y ∷ vs) (suc v) x t n e k r = go y.holds (size_below vs v x t n e k r)
+  where
+    go : (z : Holds) → length (meaning.shared_sizes (take v vs)) < length (meaning.shared_sizes vs) → length (meaning.size_of z (meaning.shared_sizes (take v vs))) < length (meaning.size_of z (meaning.shared_sizes vs))
+    go (holds.Value u) ih = ih
+    go (holds.Given u) ih = ih
+    go (holds.Local u m) ih = at u.rate
+      where
+        at : (q : Rate) → length (meaning.size_at q m (meaning.shared_sizes (take v vs))) < length (meaning.size_at q m (meaning.shared_sizes vs))
+        at Uniform = omega (arith, ih)
+        at Varying = ih
+
+apart_rates : Uniform ≡ Varying → ⊥
+apart_rates e = cc
+
 -- ---- arrays that are handed over
 
 rows_few : (xs : List Argument) → AllByRecursion IsShort xs → (b : ℕ) → length (row_bits (rows xs) b) ≤ 2 ^ 63
@@ -183,7 +202,7 @@ module _ (program : Program) (listing : Listing) (f : ℕ) (h : TFunction) (g : 
   sizes_same = ap (λ s. (λ (z : ℕ). if nat_lt z opened then caller.sizes z else slice_index s (z - opened))) same_sizes
 
   given_fits : (b : ArrayVariable) (x : Variable) (e : Elem) → slice_get h.variables b.number ≡ Some x → x.holds ≡ holds.Given e → b.ty.rate ≡ Uniform → ArrayFits world b
-  given_fits b x e ex k er = record { is = subst (λ z. ArrayFitsAt world z b) (sym er) (per_lane, named); few = subst (λ z. extent_at z world.frame b.number ≤ 2 ^ 63) (sym er) small }
+  given_fits b x e ex k er = record { is = subst (λ z. ArrayFitsAt world z b) (sym er) (per_lane, named); below = λ one. low_store; few = subst (λ z. extent_at z world.frame b.number ≤ 2 ^ 63) (sym er) small }
     where
       n : ℕ
       n = array_count (take b.number h.parameters)
@@ -209,6 +228,9 @@ module _ (program : Program) (listing : Listing) (f : ℕ) (h : TFunction) (g : 
 
       named : world.home.named (l.array b.number) ≡ world.frame.named b.number
       named = cond-true (nat_lt (l.array b.number) (passed g)) (names (l.array b.number)) (opened + length (code.shared_sizes (take (l.array b.number - passed g) g.locals))) (lt-ltb (l.array b.number) (passed g) low) ∙ ap names a_is ∙ sym frame_named
+
+      low_store : world.frame.named b.number < world.frame.opened
+      low_store = subst (λ z. z < world.frame.opened) (sym frame_named) (omega (arith, is.below))
 
       small : extent_at Uniform world.frame b.number ≤ 2 ^ 63
       small =
@@ -260,10 +282,12 @@ module _ (program : Program) (listing : Listing) (f : ℕ) (h : TFunction) (g : 
       go : (r : Rate) → b.ty.rate ≡ r → ArrayFits world b
       go Uniform er = record {
         is = subst (λ z. ArrayFitsAt world z b) (sym er) (per_lane ∙ ap (λ z. is_per_instance (sharing_of z)) er, home_named ∙ sym frame_named);
+        below = λ one. subst (λ z. z < world.frame.opened) (sym frame_named) (let lt : place < length sizes = size_below h.variables b.number x b.ty n ex k er in omega (arith, lt));
         few = subst (λ z. extent_at z world.frame b.number ≤ 2 ^ 63) (sym er) (subst (λ z. z ≤ 2 ^ 63) (sym (shared_size er)) few_elements);
       }
       go Varying er = record {
         is = subst (λ z. ArrayFitsAt world z b) (sym er) (per_lane ∙ ap (λ z. is_per_instance (sharing_of z)) er, ap local_size at ∙ sym own_is);
+        below = λ one. absurd (apart_rates (sym one ∙ er));
         few = subst (λ z. extent_at z world.frame b.number ≤ 2 ^ 63) (sym er) (subst (λ z. z ≤ 2 ^ 63) (sym own_is) few_elements);
       }
 

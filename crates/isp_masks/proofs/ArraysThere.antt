@@ -30,11 +30,9 @@ use Rattle.isp_lower.specs.Tables.{AnyMask, AnyArray, IsNamedIn, Table}
 use Rattle.isp_lower.specs.Header.{sharing_of, local_of}
 use Rattle.isp_masks.specs.Arrays.{array_then, array_count, local_count, ArraysStand, HoldsLocal}
 use Rattle.isp_masks.proofs.Arrays.{local_at}
-use Rattle.isp_masks.specs.Laws.{BodyPresent}
 use Rattle.isp_masks.proofs.Own.{block_own}
 use Rattle.isp_masks.specs.Asks.{block_asks}
-use Rattle.isp_lower.proofs.Growing.{all_grow}
-use Rattle.isp_lower.proofs.Own.{all_held}
+use Rattle.isp_lower.proofs.Lemmas.{all_grow, all_held}
 use Rattle.isp_lower.specs.Asks.{All}
 
 -- ---- lists
@@ -185,6 +183,12 @@ module _ (h : TFunction) (g : Routine) (l : Layout) (stand : ArraysStand h g l) 
   table_of : (n : ℕ) → Held n → Table g l h.variables (block_asks h.answer h.body n)
   table_of n f =
       all_grow (HasRegister g l) (IsNamedIn g l) (HoldsArray h.variables) (HoldsArray h.variables) (HoldsLocal h.variables) (HoldsArray h.variables) (HasMask g) AnyMask (λ r x t z. z.1) (λ b z. z) locals_held (λ m z. tt) (block_asks h.answer h.body n) f
+
+-- What a body of an accepted program asks for is there for the verifier, and the table is as the laws ask, where its
+-- registers and masks are there: its arrays are variables of the function.
+pub record BodyPresent (h : TFunction) (g : Routine) (l : Layout) (n : ℕ) : Type 0 where
+  pub present : Granted g l (block_asks h.answer h.body n)
+  pub named : Table g l h.variables (block_asks h.answer h.body n)
 
 pub body_present : (fs : List TFunction) (h : TFunction) (g : Routine) (l : Layout) → FineFunction fs h → ArraysStand h g l → parameters_of g ≡ h.parameters → (n : ℕ) → All (HasRegister g l) AnyArray AnyArray (HasMask g) (block_asks h.answer h.body n) → BodyPresent h g l n
 body_present fs h g l fine stand made n f =

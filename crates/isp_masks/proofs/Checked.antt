@@ -11,7 +11,7 @@ use Rattle.isp_base.specs.declared.types.Ty.{Ty}
 use Rattle.isp_lex.specs.declared.fault.Fault.{Fault}
 use Rattle.isp_lex.specs.declared.fault.Rule.TheVariants.{VaryingToUniform, BadExport}
 use Rattle.isp_lex.specs.Faults.{fault}
-use Rattle.isp_typed.specs.Fine.{IsFine, FineFunction}
+use Rattle.isp_typed.specs.Fine.{FineFunction, params_of}
 use Rattle.isp_typed.specs.Typed.{TExpr, t_constant, t_program_index, t_place, t_convert, t_cast, t_unary, t_binary, t_compare, t_logic, t_choose, t_call, t_library, t_packed_store, t_packed_load, TPlace, t_variable, t_element, TItem, t_plain, t_with_value, t_with_size, TSimple, t_value, t_run, t_assign, t_update, t_step, TFirst, t_first_declare, t_first_simple, TFunction, Program, place_type, type_of, span_of}
 use Rattle.isp_typed.specs.Typed.{TStmt, t_block, t_declare, t_simple, t_if, t_if_else, t_while, t_do, t_for, t_foreach, t_foreach_active, t_unmasked, t_jump, t_return, t_print, t_assert, TBlock, t_braces, TStmts, t_no_stmts, t_stmt_then}
 use Rattle.isp_typed.specs.declared.variable.Holds.{Holds}
@@ -22,10 +22,9 @@ use Rattle.isp_rates.specs.Breaches.{OfAny, OfEach}
 use Rattle.isp_rates.specs.Covered.{compiled_where, expr_left, place_left, simple_left, items_left, given_left, first_left, step_left, stmt_left, block_left, stmts_left, function_left, functions_left}
 use Rattle.isp_rates.specs.Rates.{goes_to, rate_held, DemandBreach, ExprBreach, PlaceBreach}
 use Rattle.isp_rates.specs.Exits.{at_start, in_loop, ItemBreach, SimpleBreach, FirstBreach, StmtBreach, BlockBreach, StmtsBreach}
-use Rattle.isp_rates.specs.Program.{ParametersBreach, ResultBreach, FunctionBreach, ProgramBreach}
+use Rattle.isp_rates.specs.Program.{ParametersBreach, ResultBreach, FunctionBreach, IsAccepted}
 use Rattle.isp_lower.specs.Rated.{Reaches, IsRated, PlaceRated, RatedAt, SimpleRated, ItemsRated}
 use Rattle.isp_masks.specs.Compiled.{AreOne, IsOne}
-use Rattle.isp_masks.specs.Laws.{FunctionFits}
 use Rattle.isp_masks.specs.Rated.{AnswerRated, FirstRated, TestRated, StepRated, StmtRated, BlockRated, StmtsRated}
 
 -- ---- no breach
@@ -62,7 +61,7 @@ some_left e = cc
 
 module _ (fs : List TFunction) where
   mutual
-    expr_rated : (x : TExpr) → NoneOf (ExprBreach fs x) → expr_left x ≡ None → IsRated x
+    expr_rated : (x : TExpr) → NoneOf (ExprBreach fs x) → expr_left x ≡ None → IsRated fs x
     expr_rated (t_constant v sp) clean c = tt
     expr_rated (t_program_index sp) clean c = tt
     expr_rated (t_place q) clean c = place_rated q clean c
@@ -84,14 +83,14 @@ module _ (fs : List TFunction) where
     expr_rated (t_packed_store b x sp) clean c = absurd (some_left c)
     expr_rated (t_packed_load b v sp) clean c = absurd (some_left c)
 
-    place_rated : (z : TPlace) → NoneOf (PlaceBreach fs z) → place_left z ≡ None → PlaceRated z
+    place_rated : (z : TPlace) → NoneOf (PlaceBreach fs z) → place_left z ≡ None → PlaceRated fs z
     place_rated (t_variable v t sp) clean c = tt
     place_rated (t_element b i t sp) clean c = expr_rated i clean c
 
-  rated_at : (r : Rate) (x : TExpr) → NoneOf (DemandBreach r x (ExprBreach fs x)) → expr_left x ≡ None → RatedAt r x
+  rated_at : (r : Rate) (x : TExpr) → NoneOf (DemandBreach r x (ExprBreach fs x)) → expr_left x ≡ None → RatedAt fs r x
   rated_at r x clean c = (demand_reaches r x (ExprBreach fs x) clean, expr_rated x (demand_own r x (ExprBreach fs x) clean) c)
 
-  simple_rated : (x : TSimple) → NoneOf (SimpleBreach fs x) → simple_left x ≡ None → SimpleRated x
+  simple_rated : (x : TSimple) → NoneOf (SimpleBreach fs x) → simple_left x ≡ None → SimpleRated fs x
   simple_rated (t_value x) clean c = expr_rated x clean c
   simple_rated (t_run k) clean c = absurd (some_left c)
   simple_rated (t_assign z x sp) clean c =
@@ -100,7 +99,7 @@ module _ (fs : List TFunction) where
       (place_rated z (λ e b. clean e (inl b)) (first_none (place_left z) (expr_left x) c), rated_at (place_type z).rate x (λ e b. clean e (inr b)) (next_none (place_left z) (expr_left x) c))
   simple_rated (t_step o t z sp) clean c = place_rated z clean c
 
-  items_rated : (xs : List TItem) → NoneOf (OfEach (ItemBreach fs) xs) → items_left xs ≡ None → ItemsRated xs
+  items_rated : (xs : List TItem) → NoneOf (OfEach (ItemBreach fs) xs) → items_left xs ≡ None → ItemsRated fs xs
   items_rated [] clean c = tt
   items_rated (t_plain v t sp ∷ xs) clean c = (tt, items_rated xs (λ e b. clean e (inr b)) c)
   items_rated (t_with_size a sp ∷ xs) clean c = (tt, items_rated xs (λ e b. clean e (inr b)) c)
@@ -108,26 +107,26 @@ module _ (fs : List TFunction) where
       (rated_at t.rate x (λ e b. clean e (inl b)) (first_none (expr_left x) (items_left xs) c), items_rated xs (λ e b. clean e (inr b)) (next_none (expr_left x) (items_left xs) c))
 
   -- the parts of a `for` that may be left out
-  first_rated : (o : Option TFirst) → NoneOf (OfAny (FirstBreach fs) o) → first_left o ≡ None → FirstRated o
+  first_rated : (o : Option TFirst) → NoneOf (OfAny (FirstBreach fs) o) → first_left o ≡ None → FirstRated fs o
   first_rated None clean c = tt
   first_rated (Some (t_first_declare xs sp)) clean c = items_rated xs clean c
   first_rated (Some (t_first_simple x)) clean c = simple_rated x clean c
 
-  test_rated : (o : Option TExpr) → NoneOf (OfAny (ExprBreach fs) o) → given_left o ≡ None → TestRated o
+  test_rated : (o : Option TExpr) → NoneOf (OfAny (ExprBreach fs) o) → given_left o ≡ None → TestRated fs o
   test_rated None clean c = tt
   test_rated (Some e) clean c = expr_rated e clean c
 
-  step_rated : (o : Option TSimple) → NoneOf (OfAny (SimpleBreach fs) o) → step_left o ≡ None → StepRated o
+  step_rated : (o : Option TSimple) → NoneOf (OfAny (SimpleBreach fs) o) → step_left o ≡ None → StepRated fs o
   step_rated None clean c = tt
   step_rated (Some x) clean c = simple_rated x clean c
 
-  returned_rated : (answer : Option Ty) (w : Within) (k : Span) (x : TExpr) (sp : Span) → NoneOf (StmtBreach fs answer w (t_return k (Some x) sp)) → expr_left x ≡ None → AnswerRated answer x
+  returned_rated : (answer : Option Ty) (w : Within) (k : Span) (x : TExpr) (sp : Span) → NoneOf (StmtBreach fs answer w (t_return k (Some x) sp)) → expr_left x ≡ None → AnswerRated fs answer x
   returned_rated None w k x sp clean c = expr_rated x (demand_own Varying x (ExprBreach fs x) (λ e b. clean e (inr b))) c
   returned_rated (Some t) w k x sp clean c = rated_at t.rate x (λ e b. clean e (inr b)) c
 
   module _ (answer : Option Ty) where
     mutual
-      stmt_rated : (w : Within) (x : TStmt) → NoneOf (StmtBreach fs answer w x) → stmt_left x ≡ None → StmtRated answer x
+      stmt_rated : (w : Within) (x : TStmt) → NoneOf (StmtBreach fs answer w x) → stmt_left x ≡ None → StmtRated fs answer x
       stmt_rated w (t_block b) clean c = block_rated w b clean c
       stmt_rated w (t_declare xs sp) clean c = items_rated xs clean c
       stmt_rated w (t_simple x sp) clean c = simple_rated x clean c
@@ -153,10 +152,10 @@ module _ (fs : List TFunction) where
       stmt_rated w (t_print k text xs sp) clean c = absurd (some_left c)
       stmt_rated w (t_assert x k sp) clean c = absurd (some_left c)
 
-      pub block_rated : (w : Within) (b : TBlock) → NoneOf (BlockBreach fs answer w b) → block_left b ≡ None → BlockRated answer b
+      pub block_rated : (w : Within) (b : TBlock) → NoneOf (BlockBreach fs answer w b) → block_left b ≡ None → BlockRated fs answer b
       block_rated w (t_braces xs sp) clean c = stmts_rated w xs clean c
 
-      stmts_rated : (w : Within) (xs : TStmts) → NoneOf (StmtsBreach fs answer w xs) → stmts_left xs ≡ None → StmtsRated answer xs
+      stmts_rated : (w : Within) (xs : TStmts) → NoneOf (StmtsBreach fs answer w xs) → stmts_left xs ≡ None → StmtsRated fs answer xs
       stmts_rated w t_no_stmts clean c = tt
       stmts_rated w (t_stmt_then x xs) clean c =
           (stmt_rated w x (λ g b. clean g (inl b)) (first_none (stmt_left x) (stmts_left xs) c), stmts_rated w xs (λ g b. clean g (inr b)) (next_none (stmt_left x) (stmts_left xs) c))
@@ -194,10 +193,17 @@ breach_of B (x ∷ xs) (suc k) a e f b = inr (breach_of B xs k a e f b)
 fine_of : {A : Type 0} (P : A → Type 0) (xs : List A) (k : ℕ) (a : A) → All P xs → slice_get xs k ≡ Some a → P a
 fine_of P xs k a all e = subst P (get_or_from_slice_get xs k a a e) (all k a (slice_get_within xs k a e))
 
-pub function_fits : (p : Program) → IsFine p → NoneOf (ProgramBreach p) → (f : ℕ) (h : TFunction) → slice_get p.functions f ≡ Some h → FunctionFits h
-function_fits p fine clean f h e =
-    let is : FineFunction p.functions h = fine_of (FineFunction p.functions) p.functions f h fine.each e in
-    let own : NoneOf (FunctionBreach p.functions h) = λ g b. clean g (breach_of (FunctionBreach p.functions) p.functions f h e g b) in record {
+-- The body of a function is as code asks, where all of it has code; and an exported function takes one value for the gang
+-- where it takes a value, and gives one where it gives a value.
+pub record FunctionFits (fs : List TFunction) (h : TFunction) : Type 0 where
+  pub rated : block_left h.body ≡ None → BlockRated fs h.answer h.body
+  pub passed : h.exported ≡ true → AreOne (params_of h)
+  pub result : h.exported ≡ true → (t : Ty) → h.answer ≡ Some t → t.rate ≡ Uniform
+
+pub function_fits : (p : Program) → IsAccepted p → (f : ℕ) (h : TFunction) → slice_get p.functions f ≡ Some h → FunctionFits p.functions h
+function_fits p accepted f h e =
+    let is : FineFunction p.functions h = fine_of (FineFunction p.functions) p.functions f h accepted.fine.each e in
+    let own : NoneOf (FunctionBreach p.functions h) = λ g b. accepted.sound g (breach_of (FunctionBreach p.functions) p.functions f h e g b) in record {
       rated = block_rated p.functions h.answer at_start h.body (λ g b. own g (inr b));
       passed = λ out. passed_one h.params h.variables (λ g b. own g (inl (out, inl b)));
       result = λ out. result_one h.span h.answer (λ g b. own g (inl (out, inr b)));

@@ -14,7 +14,7 @@ use Rattle.isp_typed.specs.declared.variable.Holds.TheVariants as holds
 use Rattle.isp_typed.specs.declared.variable.Variable.{Variable as Declared}
 use Rattle.isp_lower.specs.Emitted.{Begins, first_rows}
 use Rattle.isp_lower.specs.Rows.{Result, Rows, elem_in, rows_at}
-use Rattle.isp_lower.proofs.FirstRows.{result_at}
+use Rattle.isp_lower.proofs.Lemmas.{result_at}
 use Rattle.isp_lower.specs.Header.{value_kind, kind_of, elem_held, param_of, params_of}
 use Rattle.isp_masks.specs.Made.{ResultRow}
 

@@ -5,7 +5,7 @@ use Rattle.isp_typed.specs.Typed.{TExpr, type_of, TSimple, TFirst, t_first_decla
 use Rattle.isp_lower.specs.Asks.{Ask, first_slot}
 use Rattle.isp_lower.specs.Fits.{InTable}
 use Rattle.isp_lower.specs.Setting.{Setting}
-use Rattle.isp_lower.proofs.Fitting.{expr_fits, operand_fits, simple_fits, items_fit}
+use Rattle.isp_lower.proofs.Lemmas.{expr_fits, operand_fits, simple_fits, items_fit}
 use Rattle.isp_masks.specs.Asks.{answer_asks, first_asks, test_part_asks, step_asks, stmt_asks, block_asks, stmts_asks}
 use Rattle.isp_masks.specs.Fits.{StmtFits, BlockFits}
 use Rattle.isp_masks.proofs.Parts.{AnswerFits, FirstFits, TestFits, StepFits, StmtParts, BlockParts, StmtsParts}
@@ -16,26 +16,26 @@ module _ (w : Setting) where
   abbrev Named : Ask → Type 0
   Named a = InTable w a
 
-  answer_fits : (answer : Option Ty) (x : TExpr) (n : ℕ) → AnswerTree answer x → Named (answer_asks answer x n) → AnswerFits w answer x n
+  answer_fits : (answer : Option Ty) (x : TExpr) (n : ℕ) → AnswerTree w.program.functions answer x → Named (answer_asks answer x n) → AnswerFits w answer x n
   answer_fits None x n t b = expr_fits w x n t b
   answer_fits (Some u) x n t b = (operand_fits w u.rate u.elem x n t.0 b.1, expr_fits w x n t.1 b.1.1)
 
   -- the parts of a `for` that may be left out
-  first_fits : (o : Option TFirst) (n : ℕ) → FirstTree o → Named (first_asks o n) → FirstFits w o n
+  first_fits : (o : Option TFirst) (n : ℕ) → FirstTree w.program.functions o → Named (first_asks o n) → FirstFits w o n
   first_fits None n t i = tt
   first_fits (Some (t_first_declare xs sp)) n t i = items_fit w xs n t i
   first_fits (Some (t_first_simple x)) n t i = simple_fits w x n t i
 
-  test_fits : (o : Option TExpr) (n : ℕ) → TestTree o → Named (test_part_asks o n) → TestFits w o n
+  test_fits : (o : Option TExpr) (n : ℕ) → TestTree w.program.functions o → Named (test_part_asks o n) → TestFits w o n
   test_fits None n t i = tt
   test_fits (Some e) n t i = expr_fits w e n t.0 i
 
-  step_fits : (o : Option TSimple) (n : ℕ) → StepTree o → Named (step_asks o n) → StepFits w o n
+  step_fits : (o : Option TSimple) (n : ℕ) → StepTree w.program.functions o → Named (step_asks o n) → StepFits w o n
   step_fits None n t i = tt
   step_fits (Some x) n t i = simple_fits w x n t i
 
   mutual
-    pub stmt_fits : (x : TStmt) (n : ℕ) → StmtTree w.frame.answer x → Named (stmt_asks w.frame.answer x n) → StmtParts w x n
+    pub stmt_fits : (x : TStmt) (n : ℕ) → StmtTree w.program.functions w.frame.answer x → Named (stmt_asks w.frame.answer x n) → StmtParts w x n
     stmt_fits (t_block b) n t i = block_fits b n t i
     stmt_fits (t_declare xs sp) n t i = items_fit w xs n t i
     stmt_fits (t_simple x sp) n t i = simple_fits w x n t i
@@ -54,10 +54,10 @@ module _ (w : Setting) where
     stmt_fits (t_print k text xs sp) n t i = t
     stmt_fits (t_assert x c sp) n t i = t
 
-    pub block_fits : (b : TBlock) (n : ℕ) → BlockTree w.frame.answer b → Named (block_asks w.frame.answer b n) → BlockParts w b n
+    pub block_fits : (b : TBlock) (n : ℕ) → BlockTree w.program.functions w.frame.answer b → Named (block_asks w.frame.answer b n) → BlockParts w b n
     block_fits (t_braces xs sp) n t i = stmts_fit xs n t i
 
-    pub stmts_fit : (xs : TStmts) (n : ℕ) → StmtsTree w.frame.answer xs → Named (stmts_asks w.frame.answer xs n) → StmtsParts w xs n
+    pub stmts_fit : (xs : TStmts) (n : ℕ) → StmtsTree w.program.functions w.frame.answer xs → Named (stmts_asks w.frame.answer xs n) → StmtsParts w xs n
     stmts_fit t_no_stmts n t i = tt
     stmts_fit (t_stmt_then x xs) n t i = (stmt_fits x n t.0 i.0, stmts_fit xs n t.1 i.1)
 

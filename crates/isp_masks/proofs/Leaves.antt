@@ -16,18 +16,13 @@ use Rattle.isp_meaning.specs.Outcomes.{Went, with_value}
 use Rattle.isp_meaning.specs.Expressions.{value}
 use Rattle.isp_meaning.specs.Statements.{answered, answered_at, jumped}
 use Rattle.isp_lower.specs.Code.{copy, found, operand, operand_of, expr_places, expr_code}
-use Rattle.isp_lower.specs.Runs.{Comes, Enters}
+use Rattle.isp_lower.specs.Runs.{Comes}
 use Rattle.isp_lower.specs.Setting.{Setting, IsSettled, gang_of, calls_of, AreAt, At, Stands, Spares, at_rate, held_at, Holds}
-use Rattle.isp_lower.proofs.Base.{are_front, are_back, put_same, put_other, comes_on, step_go, at_to, spares_all, spares_on}
-use Rattle.isp_lower.proofs.Combine.{set_comes, set_goes, set_masks}
-use Rattle.isp_lower.proofs.Found.{few}
-use Rattle.isp_lower.proofs.Jumps.{masked, masked_at}
-use Rattle.isp_lower.proofs.Lines.{set_at, copy_line}
-use Rattle.isp_lower.proofs.Nodes.{enters_part, operand_runs}
-use Rattle.isp_lower.proofs.Exprs.{expr_runs}
+use Rattle.isp_lower.proofs.Lemmas.{are_front, are_back, put_same, put_other, comes_on, step_go, at_to, spares_all, spares_on, set_comes, set_goes, set_masks, few, masked, masked_at, set_at, copy_line, enters_part, operand_runs, expr_runs}
 use Rattle.isp_masks.specs.Sets.{unite, clear_mask, leave_code, jump_code}
 use Rattle.isp_masks.specs.Statements.{answer_code}
-use Rattle.isp_masks.specs.StmtRuns.{AreThree, StmtOk, StmtRuns}
+use Rattle.isp_masks.specs.Spots.{Spot}
+use Rattle.isp_masks.specs.StmtRuns.{AreThree, EntersAt, StmtOk, StmtRuns}
 use Rattle.isp_masks.proofs.Unions.{union_nobody}
 use Rattle.isp_masks.proofs.Combine.{with_runs}
 use Rattle.isp_masks.proofs.Parts.{AnswerFits}
@@ -51,59 +46,59 @@ module _ (w : Setting) (ready : IsSettled w) where
   gone_other : (c : Conf) (m k i : ℕ) → i ≢ k → i ≢ m → (gone c m k).masks i ≡ c.masks i
   gone_other c m k i nk nm = put_other (masked w ready c m (union (c.masks m) (c.masks k))).masks k nobody i nk ∙ put_other c.masks m (union (c.masks m) (c.masks k)) i nm
 
-  pub jump_runs : (j : Jump) (pc k co rr n q : ℕ) (a : Mask) (s : State) (c : Conf) → AreAt w.routine.code pc (jump_code j k co) → AreThree k co rr n → Enters w pc k n a s c q → StmtRuns w w.turns c (pc + length (jump_code j k co)) k co rr n (1 + q) (jumped j a (tick s))
-  jump_runs Break pc k co rr n q a s c has three b =
-      let ck : co ≢ k = λ e. three.k_co (sym e) in
-      let rk : rr ≢ k = λ e. three.k_rr (sym e) in
+  pub jump_runs : (j : Jump) (pc : ℕ) (spot : Spot) (q : ℕ) (a : Mask) (s : State) (c : Conf) → AreAt w.routine.code pc (jump_code j spot.on spot.continued) → AreThree spot → EntersAt w pc spot a s c q → StmtRuns w w.turns c (pc + length (jump_code j spot.on spot.continued)) spot (1 + q) (jumped j a (tick s))
+  jump_runs Break pc spot q a s c has three b =
+      let ck : spot.continued ≢ spot.on = λ e. three.on_continued (sym e) in
+      let rk : spot.returned ≢ spot.on = λ e. three.on_returned (sym e) in
       record {
-        conf = masked w ready c k nobody;
+        conf = masked w ready c spot.on nobody;
         steps = 1;
-        comes = step_go w c pc (clear_mask k) (masked w ready c k nobody) ready b.at has.0 refl;
-        at = masked_at w ready c pc k nobody b.at;
+        comes = step_go w c pc (clear_mask spot.on) (masked w ready c spot.on nobody) ready b.at has.0 refl;
+        at = masked_at w ready c pc spot.on nobody b.at;
         stands = b.stands;
-        spares = spares_all w n c;
-        went = put_same c.masks k nobody;
-        continued = put_other c.masks k nobody co ck ∙ sym (union_nobody (c.masks co));
-        returned = put_other c.masks k nobody rr rk ∙ sym (union_nobody (c.masks rr));
-        masks = λ i lt x y z. put_other c.masks k nobody i x;
+        spares = spares_all w spot.slot c;
+        went = put_same c.masks spot.on nobody;
+        continued = put_other c.masks spot.on nobody spot.continued ck ∙ sym (union_nobody (c.masks spot.continued));
+        returned = put_other c.masks spot.on nobody spot.returned rk ∙ sym (union_nobody (c.masks spot.returned));
+        masks = λ i lt x y z. put_other c.masks spot.on nobody i x;
         bound = omega (arith, b.used);
       }
-  jump_runs Continue pc k co rr n q a s c has three b =
-      let ck : co ≢ k = λ e. three.k_co (sym e) in
-      let rk : rr ≢ k = λ e. three.k_rr (sym e) in
-      let rc : rr ≢ co = λ e. three.co_rr (sym e) in
+  jump_runs Continue pc spot q a s c has three b =
+      let ck : spot.continued ≢ spot.on = λ e. three.on_continued (sym e) in
+      let rk : spot.returned ≢ spot.on = λ e. three.on_returned (sym e) in
+      let rc : spot.returned ≢ spot.continued = λ e. three.continued_returned (sym e) in
       let to : pc + 1 + 1 ≡ pc + 2 = omega arith in
       record {
-        conf = gone c co k;
+        conf = gone c spot.continued spot.on;
         steps = 2;
-        comes = gone_comes c pc co k b.at has;
-        at = at_to w (gone c co k) (pc + 1 + 1) (pc + 2) (gone_at c pc co k b.at) to;
+        comes = gone_comes c pc spot.continued spot.on b.at has;
+        at = at_to w (gone c spot.continued spot.on) (pc + 1 + 1) (pc + 2) (gone_at c pc spot.continued spot.on b.at) to;
         stands = b.stands;
-        spares = spares_all w n c;
-        went = put_same (masked w ready c co (union (c.masks co) (c.masks k))).masks k nobody;
-        continued = gone_grows c co k a ck b.mask;
-        returned = gone_other c co k rr rk rc ∙ sym (union_nobody (c.masks rr));
-        masks = λ i lt x y z. gone_other c co k i x y;
+        spares = spares_all w spot.slot c;
+        went = put_same (masked w ready c spot.continued (union (c.masks spot.continued) (c.masks spot.on))).masks spot.on nobody;
+        continued = gone_grows c spot.continued spot.on a ck b.mask;
+        returned = gone_other c spot.continued spot.on spot.returned rk rc ∙ sym (union_nobody (c.masks spot.returned));
+        masks = λ i lt x y z. gone_other c spot.continued spot.on i x y;
         bound = omega (arith, b.used);
       }
 
   -- after t steps all of the set return
-  pub return_ok : (c c1 : Conf) (t pc k co rr n q : ℕ) (a : Mask) (s : State) → Comes w c t c1 → At w c1 pc → Stands w s c1 → Spares w n c c1 → ((r : ℕ) → r < n → c1.masks r ≡ c.masks r) → c.masks k ≡ a → AreAt w.routine.code pc (leave_code rr k) → AreThree k co rr n → t + 2 + q ≤ 32 * s.work → StmtOk w c (pc + 2) k co rr n q s nobody nobody a
-  return_ok c c1 t pc k co rr n q a s h at st sp ma em has three le =
-      let ck : co ≢ k = λ e. three.k_co (sym e) in
-      let rk : rr ≢ k = λ e. three.k_rr (sym e) in
+  pub return_ok : (c c1 : Conf) (t pc : ℕ) (spot : Spot) (q : ℕ) (a : Mask) (s : State) → Comes w c t c1 → At w c1 pc → Stands w s c1 → Spares w spot.slot c c1 → ((r : ℕ) → r < spot.slot → c1.masks r ≡ c.masks r) → c.masks spot.on ≡ a → AreAt w.routine.code pc (leave_code spot.returned spot.on) → AreThree spot → t + 2 + q ≤ 32 * s.work → StmtOk w c (pc + 2) spot q s nobody nobody a
+  return_ok c c1 t pc spot q a s h at st sp ma em has three le =
+      let ck : spot.continued ≢ spot.on = λ e. three.on_continued (sym e) in
+      let rk : spot.returned ≢ spot.on = λ e. three.on_returned (sym e) in
       let to : pc + 1 + 1 ≡ pc + 2 = omega arith in
       record {
-        conf = gone c1 rr k;
+        conf = gone c1 spot.returned spot.on;
         steps = t + 2;
-        comes = comes_on w c c1 (gone c1 rr k) t 2 h (gone_comes c1 pc rr k at has);
-        at = at_to w (gone c1 rr k) (pc + 1 + 1) (pc + 2) (gone_at c1 pc rr k at) to;
+        comes = comes_on w c c1 (gone c1 spot.returned spot.on) t 2 h (gone_comes c1 pc spot.returned spot.on at has);
+        at = at_to w (gone c1 spot.returned spot.on) (pc + 1 + 1) (pc + 2) (gone_at c1 pc spot.returned spot.on at) to;
         stands = st;
         spares = sp;
-        went = put_same (masked w ready c1 rr (union (c1.masks rr) (c1.masks k))).masks k nobody;
-        continued = gone_other c1 rr k co ck three.co_rr ∙ ma co three.low_co ∙ sym (union_nobody (c.masks co));
-        returned = gone_grows c1 rr k a rk (ma k three.low_k ∙ em) ∙ ap (λ z. union z a) (ma rr three.low_rr);
-        masks = λ i lt x y z. gone_other c1 rr k i x z ∙ ma i lt;
+        went = put_same (masked w ready c1 spot.returned (union (c1.masks spot.returned) (c1.masks spot.on))).masks spot.on nobody;
+        continued = gone_other c1 spot.returned spot.on spot.continued ck three.continued_returned ∙ ma spot.continued three.low_continued ∙ sym (union_nobody (c.masks spot.continued));
+        returned = gone_grows c1 spot.returned spot.on a rk (ma spot.on three.low_on ∙ em) ∙ ap (λ z. union z a) (ma spot.returned three.low_returned);
+        masks = λ i lt x y z. gone_other c1 spot.returned spot.on i x z ∙ ma i lt;
         bound = le;
       }
 
@@ -139,38 +134,38 @@ module _ (w : Setting) (ready : IsSettled w) where
   answered_work Uniform a m s = refl
   answered_work Varying a m s = refl
 
-  pub return_runs : (answer : Option Ty) (x : TExpr) (pc p k co rr n q : ℕ) (a : Mask) (s : State) (c : Conf) → AnswerFits w answer x n → AreAt w.routine.code pc (answer_code w.layout answer x pc p k n ++ leave_code rr k) → AreAt w.code.places p (expr_places w.layout x) → AreThree k co rr n → Enters w pc k n a s c q → StmtRuns w w.turns c (pc + length (answer_code w.layout answer x pc p k n ++ leave_code rr k)) k co rr n (1 + q) (with_value (value (gang_of w) w.frame (calls_of w) x a (tick s)) (λ m s1. Went (answered answer a m s1) nobody nobody nobody a))
-  return_runs None x pc p k co rr n q a s c fit has places three b =
-      let fx : heads x ≤ 1 = few w x n fit in
-      let cx = expr_code w.layout x pc p k n in
+  pub return_runs : (answer : Option Ty) (x : TExpr) (pc p : ℕ) (spot : Spot) (q : ℕ) (a : Mask) (s : State) (c : Conf) → AnswerFits w answer x spot.slot → AreAt w.routine.code pc (answer_code w.layout answer x pc p spot.on spot.slot ++ leave_code spot.returned spot.on) → AreAt w.code.places p (expr_places w.layout x) → AreThree spot → EntersAt w pc spot a s c q → StmtRuns w w.turns c (pc + length (answer_code w.layout answer x pc p spot.on spot.slot ++ leave_code spot.returned spot.on)) spot (1 + q) (with_value (value (gang_of w) w.frame (calls_of w) x a (tick s)) (λ m s1. Went (answered answer a m s1) nobody nobody nobody a))
+  return_runs None x pc p spot q a s c fit has places three b =
+      let fx : heads x ≤ 1 = few w x spot.slot fit in
+      let cx = expr_code w.layout x pc p spot.on spot.slot in
       let pc1 = pc + length cx in
-      let to : pc1 + 2 ≡ pc + length (cx ++ leave_code rr k) = omega (arith, length-append cx (leave_code rr k)) in
-      with_runs w ready c pc1 n 2 (1 + q) (Holds (type_of x).rate a (found w.layout x n)) _ _ (pc + length (cx ++ leave_code rr k)) k co rr n
-      (expr_runs w ready x pc p k n (32 + q) (2 + (1 + q)) a (tick s) c fit (are_front w.routine.code pc cx _ has) places (omega arith) (enters_part w ready pc k n (32 + q) q a s c (omega arith) b))
-      (λ m s1 ok. subst (λ z. StmtOk w c z k co rr n (1 + q) s1 nobody nobody a) to (return_ok c ok.conf ok.steps pc1 k co rr n (1 + q) a s1 ok.comes ok.at ok.stands ok.spares ok.masks b.mask (are_back w.routine.code pc cx _ has) three (omega (arith, ok.bound))))
-  return_runs (Some t) x pc p k co rr n q a s c fit has places three b =
-      let fx : heads x ≤ 1 = few w x n fit.1 in
-      let cx = expr_code w.layout x pc p k n in
-      let ca = operand_of w.layout t.rate x k n cx in
-      let u = operand w.layout t.rate x n in
+      let to : pc1 + 2 ≡ pc + length (cx ++ leave_code spot.returned spot.on) = omega (arith, length-append cx (leave_code spot.returned spot.on)) in
+      with_runs w ready c pc1 spot.slot 2 (1 + q) (Holds (type_of x).rate a (found w.layout x spot.slot)) _ _ (pc + length (cx ++ leave_code spot.returned spot.on)) spot
+      (expr_runs w ready x pc p spot.on spot.slot (32 + q) (2 + (1 + q)) a (tick s) c fit (are_front w.routine.code pc cx _ has) places (omega arith) (enters_part w ready pc spot.on spot.slot (32 + q) q a s c (omega arith) b))
+      (λ m s1 ok. subst (λ z. StmtOk w c z spot (1 + q) s1 nobody nobody a) to (return_ok c ok.conf ok.steps pc1 spot (1 + q) a s1 ok.comes ok.at ok.stands ok.spares ok.masks b.mask (are_back w.routine.code pc cx _ has) three (omega (arith, ok.bound))))
+  return_runs (Some t) x pc p spot q a s c fit has places three b =
+      let fx : heads x ≤ 1 = few w x spot.slot fit.1 in
+      let cx = expr_code w.layout x pc p spot.on spot.slot in
+      let ca = operand_of w.layout t.rate x spot.on spot.slot cx in
+      let u = operand w.layout t.rate x spot.slot in
       let d = w.layout.result t.rate in
-      let put_it = copy t.rate d u k ∷ [] in
+      let put_it = copy t.rate d u spot.on ∷ [] in
       let pc1 = pc + length ca in
-      let end = pc + length ((ca ++ put_it) ++ leave_code rr k) in
-      let to : pc1 + 1 + 2 ≡ end = omega (arith, length-append (ca ++ put_it) (leave_code rr k), length-append ca put_it) in
-      let h1 : AreAt w.routine.code pc (ca ++ put_it) = are_front w.routine.code pc (ca ++ put_it) (leave_code rr k) has in
+      let end = pc + length ((ca ++ put_it) ++ leave_code spot.returned spot.on) in
+      let to : pc1 + 1 + 2 ≡ end = omega (arith, length-append (ca ++ put_it) (leave_code spot.returned spot.on), length-append ca put_it) in
+      let h1 : AreAt w.routine.code pc (ca ++ put_it) = are_front w.routine.code pc (ca ++ put_it) (leave_code spot.returned spot.on) has in
       let ha : AreAt w.routine.code pc ca = are_front w.routine.code pc ca put_it h1 in
       let e2 : pc + length (ca ++ put_it) ≡ pc1 + 1 = omega (arith, length-append ca put_it) in
-      let h2 : AreAt w.routine.code (pc1 + 1) (leave_code rr k) = subst (λ z. AreAt w.routine.code z (leave_code rr k)) e2 (are_back w.routine.code pc (ca ++ put_it) (leave_code rr k) has) in
-      with_runs w ready c pc1 n 3 (1 + q) (Holds t.rate a u) (value (gang_of w) w.frame (calls_of w) x a (tick s)) _ end k co rr n
-      (operand_runs w ready c pc k n (3 + (1 + q)) a (value (gang_of w) w.frame (calls_of w) x a (tick s)) t.rate t.elem x cx fit.0 b.mask b.low ha
-      (expr_runs w ready x pc p k n (32 + q) (1 + (3 + (1 + q))) a (tick s) c fit.1 (are_front w.routine.code pc cx _ ha) places (omega arith) (enters_part w ready pc k n (32 + q) q a s c (omega arith) b)))
+      let h2 : AreAt w.routine.code (pc1 + 1) (leave_code spot.returned spot.on) = subst (λ z. AreAt w.routine.code z (leave_code spot.returned spot.on)) e2 (are_back w.routine.code pc (ca ++ put_it) (leave_code spot.returned spot.on) has) in
+      with_runs w ready c pc1 spot.slot 3 (1 + q) (Holds t.rate a u) (value (gang_of w) w.frame (calls_of w) x a (tick s)) _ end spot
+      (operand_runs w ready c pc spot.on spot.slot (3 + (1 + q)) a (value (gang_of w) w.frame (calls_of w) x a (tick s)) t.rate t.elem x cx fit.0 b.mask b.low ha
+      (expr_runs w ready x pc p spot.on spot.slot (32 + q) (1 + (3 + (1 + q))) a (tick s) c fit.1 (are_front w.routine.code pc cx _ ha) places (omega arith) (enters_part w ready pc spot.on spot.slot (32 + q) q a s c (omega arith) b)))
       (λ m s1 ok.
       let c1 = ok.conf in
-      let em : c1.masks k ≡ a = ok.masks k b.low ∙ b.mask in
+      let em : c1.masks spot.on ≡ a = ok.masks spot.on b.low ∙ b.mask in
       let y = held_at t.rate c1.scalars c1.vectors a u in
       let c2 = set_at t.rate c1 d y in
       let ew : (answered_at t.rate a m s1).work ≡ s1.work = answered_work t.rate a m s1 in
-      let is = copy_line w.code w.routine c1 t.rate d u k ∙ ap (λ z. Go (set_at t.rate c1 d (held_at t.rate c1.scalars c1.vectors z u))) em in
-      subst (λ z. StmtOk w c z k co rr n (1 + q) (answered_at t.rate a m s1) nobody nobody a) to
-      (return_ok c c2 (ok.steps + 1) (pc1 + 1) k co rr n (1 + q) a (answered_at t.rate a m s1) (comes_on w c c1 c2 ok.steps 1 ok.comes (set_comes w ready t.rate c1 d y pc1 (copy t.rate d u k) ok.at (are_back w.routine.code pc ca put_it h1).0 is)) (set_goes w ready t.rate c1 d y pc1 ok.at) (result_stands t.rate c1 a m s1 y ok.stands ok.holds) (spares_on w n c c1 c2 ok.spares (result_spares t.rate n c1 y)) (λ r lt. set_masks w ready t.rate c1 d y r ∙ ok.masks r lt) b.mask h2 three (omega (arith, ok.bound, ew))))
+      let is = copy_line w.code w.routine c1 t.rate d u spot.on ∙ ap (λ z. Go (set_at t.rate c1 d (held_at t.rate c1.scalars c1.vectors z u))) em in
+      subst (λ z. StmtOk w c z spot (1 + q) (answered_at t.rate a m s1) nobody nobody a) to
+      (return_ok c c2 (ok.steps + 1) (pc1 + 1) spot (1 + q) a (answered_at t.rate a m s1) (comes_on w c c1 c2 ok.steps 1 ok.comes (set_comes w ready t.rate c1 d y pc1 (copy t.rate d u spot.on) ok.at (are_back w.routine.code pc ca put_it h1).0 is)) (set_goes w ready t.rate c1 d y pc1 ok.at) (result_stands t.rate c1 a m s1 y ok.stands ok.holds) (spares_on w spot.slot c c1 c2 ok.spares (result_spares t.rate spot.slot c1 y)) (λ r lt. set_masks w ready t.rate c1 d y r ∙ ok.masks r lt) b.mask h2 three (omega (arith, ok.bound, ew))))

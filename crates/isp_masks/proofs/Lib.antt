@@ -1,6 +1,7 @@
 mod Unions
 mod Exiting
 mod Members
+mod Names
 mod Combine
 mod Choices
 mod Leaves
@@ -19,13 +20,15 @@ mod Begins
 mod Passing
 mod Arrays
 mod Own
-pub mod ArraysThere
+mod ArraysThere
+mod Handing
+mod Calls
 mod Agree
 mod Programs
 mod SoundLoops
-pub mod Sound
-pub mod Accepted
-pub mod Made
+mod Sound
+mod Accepted
+mod Made
 mod Counts
 mod Awaiting
 mod Lists
@@ -38,4 +41,3 @@ mod FirstRows
 mod Standing
 mod Heads
 mod Lowers
-mod Agreed

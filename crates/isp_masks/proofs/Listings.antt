@@ -23,9 +23,9 @@ at_more xs zs n [] a = tt
 at_more xs zs n (y ∷ ys) a = (get_more xs zs n y a.0, at_more xs zs (n + 1) ys a.1)
 
 -- with more places
-lowered_more : (h : TFunction) (g : Routine) (places new : List Span) → GrowsTo places new → IsLowered h g places → IsLowered h g new
-lowered_more h g places new m x =
-    subst (λ ps. IsLowered h g ps) (sym m.is)
+lowered_more : (fs : List TFunction) (h : TFunction) (g : Routine) (places new : List Span) → GrowsTo places new → IsLowered fs h g places → IsLowered fs h g new
+lowered_more fs h g places new m x =
+    subst (λ ps. IsLowered fs h g ps) (sym m.is)
     (record {
       name = x.name;
       exported = x.exported;
@@ -40,59 +40,59 @@ lowered_more h g places new m x =
       vectors = x.vectors;
       three = x.three;
       present = x.present;
-      place = x.place;
+      numbers = x.numbers;
       low = omega (arith, x.low, length-append places m.more);
       code_is = x.code_is;
-      places_are = at_more places m.more x.place _ x.places_are;
+      places_are = at_more places m.more x.numbers.place _ x.places_are;
     })
 
-all_more : (hs : List TFunction) (gs : List Routine) (places new : List Span) → GrowsTo places new → AreLowered hs gs places → AreLowered hs gs new
-all_more [] [] places new m a = tt
-all_more [] (g ∷ gs) places new m a = absurd a
-all_more (h ∷ hs) [] places new m a = absurd a
-all_more (h ∷ hs) (g ∷ gs) places new m a = (lowered_more h g places new m a.0, all_more hs gs places new m a.1)
+all_more : (fs hs : List TFunction) (gs : List Routine) (places new : List Span) → GrowsTo places new → AreLowered fs hs gs places → AreLowered fs hs gs new
+all_more fs [] [] places new m a = tt
+all_more fs [] (g ∷ gs) places new m a = absurd a
+all_more fs (h ∷ hs) [] places new m a = absurd a
+all_more fs (h ∷ hs) (g ∷ gs) places new m a = (lowered_more fs h g places new m a.0, all_more fs hs gs places new m a.1)
 
-all_last : (hs : List TFunction) (gs : List Routine) (h : TFunction) (g : Routine) (places : List Span) → AreLowered hs gs places → IsLowered h g places
-    → AreLowered (hs ++ h ∷ []) (gs ++ g ∷ []) places
-all_last [] [] h g places a x = (x, tt)
-all_last [] (k ∷ gs) h g places a x = absurd a
-all_last (k ∷ hs) [] h g places a x = absurd a
-all_last (k ∷ hs) (m ∷ gs) h g places a x = (a.0, all_last hs gs h g places a.1 x)
+all_last : (fs hs : List TFunction) (gs : List Routine) (h : TFunction) (g : Routine) (places : List Span) → AreLowered fs hs gs places → IsLowered fs h g places
+    → AreLowered fs (hs ++ h ∷ []) (gs ++ g ∷ []) places
+all_last fs [] [] h g places a x = (x, tt)
+all_last fs [] (k ∷ gs) h g places a x = absurd a
+all_last fs (k ∷ hs) [] h g places a x = absurd a
+all_last fs (k ∷ hs) (m ∷ gs) h g places a x = (a.0, all_last fs hs gs h g places a.1 x)
 
 -- one function more
-pub routine_more : (fs : List TypedFunction) (at : ℕ) (f : TypedFunction) (old new : Draft) → at < length fs → f ≡ get_or fs at f
-    → AreLowered (functions_of (take at fs)) (all_routines old) old.places → AddsLowered (function_of f) old new
-    → AreLowered (functions_of (take (at + 1) fs)) (all_routines new) new.places
-routine_more fs at f old new low is a x =
+pub routine_more : (callees : List TFunction) (fs : List TypedFunction) (at : ℕ) (f : TypedFunction) (old new : Draft) → at < length fs → f ≡ get_or fs at f
+    → old.callees ≡ callees → AreLowered callees (functions_of (take at fs)) (all_routines old) old.places → AddsLowered (function_of f) old new
+    → AreLowered callees (functions_of (take (at + 1) fs)) (all_routines new) new.places
+routine_more callees fs at f old new low is same a x =
     let taken : functions_of (take (at + 1) fs) ≡ functions_of (take at fs) ++ function_of f ∷ [] =
     ap (λ n. functions_of (take n fs)) (add-one at) ∙ ap functions_of (take-suc fs at f low ∙ ap (λ z. take at fs ++ z ∷ []) (sym is)) ∙ map-append function_of (take at fs) (f ∷ []) in
-    subst (λ z. AreLowered z (all_routines new) new.places) (sym taken)
-    (subst (λ z. AreLowered (functions_of (take at fs) ++ function_of f ∷ []) z new.places) (sym x.added)
-    (all_last (functions_of (take at fs)) (all_routines old) (function_of f) x.routine new.places (all_more (functions_of (take at fs)) (all_routines old) old.places new.places x.places a) x.lowered))
+    subst (λ z. AreLowered callees z (all_routines new) new.places) (sym taken)
+    (subst (λ z. AreLowered callees (functions_of (take at fs) ++ function_of f ∷ []) z new.places) (sym x.added)
+    (all_last callees (functions_of (take at fs)) (all_routines old) (function_of f) x.routine new.places (all_more callees (functions_of (take at fs)) (all_routines old) old.places new.places x.places a) (subst (λ z. IsLowered z (function_of f) x.routine new.places) same x.lowered)))
 
-same_count : (hs : List TFunction) (gs : List Routine) (places : List Span) → AreLowered hs gs places → length gs ≡ length hs
-same_count [] [] places a = refl
-same_count [] (g ∷ gs) places a = absurd a
-same_count (h ∷ hs) [] places a = absurd a
-same_count (h ∷ hs) (g ∷ gs) places a = ap suc (same_count hs gs places a.1)
+same_count : (fs hs : List TFunction) (gs : List Routine) (places : List Span) → AreLowered fs hs gs places → length gs ≡ length hs
+same_count fs [] [] places a = refl
+same_count fs [] (g ∷ gs) places a = absurd a
+same_count fs (h ∷ hs) [] places a = absurd a
+same_count fs (h ∷ hs) (g ∷ gs) places a = ap suc (same_count fs hs gs places a.1)
 
-each_at : (hs : List TFunction) (gs : List Routine) (places : List Span) → AreLowered hs gs places → (f : ℕ) (h : TFunction) (g : Routine) → slice_get hs f ≡ Some h → slice_get gs f ≡ Some g → IsLowered h g places
-each_at [] gs places a f h g e d = absurd (omega (arith, slice_get_within [] f h e))
-each_at (k ∷ hs) [] places a f h g e d = absurd a
-each_at (k ∷ hs) (m ∷ gs) places a zero h g e d = subst (λ z. IsLowered z g places) (some_is k h e) (subst (λ z. IsLowered k z places) (some_is m g d) a.0)
+each_at : (fs hs : List TFunction) (gs : List Routine) (places : List Span) → AreLowered fs hs gs places → (f : ℕ) (h : TFunction) (g : Routine) → slice_get hs f ≡ Some h → slice_get gs f ≡ Some g → IsLowered fs h g places
+each_at fs [] gs places a f h g e d = absurd (omega (arith, slice_get_within [] f h e))
+each_at fs (k ∷ hs) [] places a f h g e d = absurd a
+each_at fs (k ∷ hs) (m ∷ gs) places a zero h g e d = subst (λ z. IsLowered fs z g places) (some_is k h e) (subst (λ z. IsLowered fs k z places) (some_is m g d) a.0)
   where
     some_is : {X : Type 0} (x y : X) → Some x ≡ Some y → x ≡ y
     some_is x y e = cc
-each_at (k ∷ hs) (m ∷ gs) places a (suc f) h g e d = each_at hs gs places a.1 f h g e d
+each_at fs (k ∷ hs) (m ∷ gs) places a (suc f) h g e d = each_at fs hs gs places a.1 f h g e d
 
-pub has_code : (program : Program) (code : Listing) (gs : List Routine) (places : List Span) → AreLowered program.functions gs places → code.gang ≡ program.gang → code.routines ≡ gs → code.places ≡ places
+pub has_code : (program : Program) (code : Listing) (gs : List Routine) (places : List Span) → AreLowered program.functions program.functions gs places → code.gang ≡ program.gang → code.routines ≡ gs → code.places ≡ places
     → HasCode program code
 has_code program code gs places a gang routines places_are =
-    let b = subst (λ z. AreLowered program.functions code.routines z) (sym places_are) (subst (λ z. AreLowered program.functions z places) (sym routines) a) in
+    let b = subst (λ z. AreLowered program.functions program.functions code.routines z) (sym places_are) (subst (λ z. AreLowered program.functions program.functions z places) (sym routines) a) in
     record {
       gang = gang;
-      count = same_count program.functions code.routines code.places b;
-      each = each_at program.functions code.routines code.places b;
+      count = same_count program.functions program.functions code.routines code.places b;
+      each = each_at program.functions program.functions code.routines code.places b;
     }
 
 -- ---- each function is fine

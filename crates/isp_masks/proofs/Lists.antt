@@ -7,7 +7,8 @@ use Rattle.isp_lower.specs.Layout.{Layout}
 use Rattle.isp_typed.specs.Typed.{TStmt, t_stmts}
 use Rattle.isp_masks.specs.Awaited.{jump_where}
 use Rattle.isp_masks.specs.Exits.{all_go_on}
-use Rattle.isp_masks.specs.Statements.{rest_code, stmt_code, stmt_places, stmts_code, stmts_places}
+use Rattle.isp_masks.specs.Spots.{Numbers, Spot}
+use Rattle.isp_masks.specs.Statements.{behind, rest_code, stmt_code, stmt_places, stmt_texts, stmts_code, stmts_places, stmts_texts}
 
 -- some may have left before what follows
 abbrev pub left_after : Bool → List TStmt → Bool
@@ -22,6 +23,14 @@ pub places_last : (l : Layout) (xs : List TStmt) (x : TStmt) → stmts_places l 
 places_last l [] x = append-nil (stmt_places l x)
 places_last l (y ∷ ys) x = ap (λ z. stmt_places l y ++ z) (places_last l ys x) ∙ sym (append_assoc (stmt_places l y) (stmts_places l (t_stmts ys)) (stmt_places l x))
 
+-- the numbers behind a list
+abbrev pub behind_all : Layout → List TStmt → Numbers → Numbers
+behind_all l xs z =
+    record { place = z.place + length (stmts_places l (t_stmts xs)); text = z.text + length (stmts_texts (t_stmts xs)) }
+
+pub same_numbers : (z y : Numbers) → z.place ≡ y.place → z.text ≡ y.text → z ≡ y
+same_numbers z y e f = ap (λ p. record z { place = p }) e ∙ ap (λ t. record y { text = t }) f
+
 -- lists in other brackets
 brackets : (a b f j s : List Instr) → a ++ (b ++ ((f ++ j) ++ s)) ≡ ((a ++ (b ++ f)) ++ j) ++ s
 brackets a b f j s =
@@ -29,64 +38,71 @@ brackets a b f j s =
     ∙ sym (append_assoc a (b ++ f) (j ++ s))
     ∙ sym (append_assoc (a ++ (b ++ f)) j s)
 
-module _ (answer : Option Ty) (k co rr n : ℕ) (t : ℕ) (l : Layout) where
-  abbrev pub one_code : TStmt → ℕ → ℕ → List Instr
-  one_code x pc p = stmt_code l answer x pc p k co rr n
+module _ (answer : Option Ty) (spot : Spot) (t : ℕ) (l : Layout) where
+  abbrev pub one_code : TStmt → ℕ → Numbers → List Instr
+  one_code x pc z = stmt_code l answer x pc z spot
 
-  abbrev pub flat : Bool → List TStmt → ℕ → ℕ → List Instr
-  flat f [] pc p = []
-  flat f (x ∷ xs) pc p =
-      jump_where f k t ++ (one_code x (pc + length (jump_where f k t)) p ++ flat (not (all_go_on x)) xs (pc + length (jump_where f k t) + length (one_code x (pc + length (jump_where f k t)) p)) (p + length (stmt_places l x)))
+  -- a jump to t where some may have left
+  abbrev leap : Bool → List Instr
+  leap f = jump_where f spot.on t
 
-  pub flat_last : (f : Bool) (xs : List TStmt) (x : TStmt) (pc p : ℕ)
-      → flat f (xs ++ x ∷ []) pc p
-      ≡ (flat f xs pc p ++ jump_where (left_after f xs) k t) ++ one_code x (pc + length (flat f xs pc p ++ jump_where (left_after f xs) k t)) (p + length (stmts_places l (t_stmts xs)))
-  flat_last f [] x pc p =
-      let jump = jump_where f k t in
-      ap (λ z. jump ++ z) (append-nil (one_code x (pc + length jump) p))
-      ∙ ap (λ m. jump ++ one_code x (pc + length jump) m) (let e : p ≡ p + 0 = omega arith in e)
-  flat_last f (y ∷ ys) x pc p =
-      let jump = jump_where f k t in
-      let one = one_code y (pc + length jump) p in
+  abbrev pub flat : Bool → List TStmt → ℕ → Numbers → List Instr
+  flat f [] pc z = []
+  flat f (x ∷ xs) pc z =
+      leap f ++ (one_code x (pc + length (leap f)) z ++ flat (not (all_go_on x)) xs (pc + length (leap f) + length (one_code x (pc + length (leap f)) z)) (behind l x z))
+
+  pub flat_last : (f : Bool) (xs : List TStmt) (x : TStmt) (pc : ℕ) (z : Numbers)
+      → flat f (xs ++ x ∷ []) pc z
+      ≡ (flat f xs pc z ++ leap (left_after f xs)) ++ one_code x (pc + length (flat f xs pc z ++ leap (left_after f xs))) (behind_all l xs z)
+  flat_last f [] x pc z =
+      let place : z.place ≡ z.place + 0 = omega arith in
+      let text : z.text ≡ z.text + 0 = omega arith in
+      ap (λ y. leap f ++ y) (append-nil (one_code x (pc + length (leap f)) z))
+      ∙ ap (λ m. leap f ++ one_code x (pc + length (leap f)) m) (same_numbers z (behind_all l [] z) place text)
+  flat_last f (y ∷ ys) x pc z =
+      let jump = leap f in
+      let one = one_code y (pc + length jump) z in
       let g = not (all_go_on y) in
       let pc2 = pc + length jump + length one in
-      let p2 = p + length (stmt_places l y) in
-      let rest = flat g ys pc2 p2 in
-      let last = jump_where (left_after g ys) k t in
+      let z2 = behind l y z in
+      let rest = flat g ys pc2 z2 in
+      let last = leap (left_after g ys) in
       let spans = stmts_places l (t_stmts ys) in
+      let texts = stmts_texts (t_stmts ys) in
       let far : pc2 + length (rest ++ last) ≡ pc + length ((jump ++ (one ++ rest)) ++ last) =
       omega (arith, length-append rest last, length-append (jump ++ (one ++ rest)) last, length-append jump (one ++ rest), length-append one rest) in
-      let seat : p2 + length spans ≡ p + length (stmt_places l y ++ spans) = omega (arith, length-append (stmt_places l y) spans) in
-      ap (λ z. jump ++ (one ++ z)) (flat_last g ys x pc2 p2)
-      ∙ brackets jump one rest last (one_code x (pc2 + length (rest ++ last)) (p2 + length spans))
-      ∙ ap (λ m. ((jump ++ (one ++ rest)) ++ last) ++ one_code x m (p2 + length spans)) far
+      let seat : behind_all l ys z2 ≡ behind_all l (y ∷ ys) z =
+      same_numbers (behind_all l ys z2) (behind_all l (y ∷ ys) z) (omega (arith, length-append (stmt_places l y) spans)) (omega (arith, length-append (stmt_texts y) texts)) in
+      ap (λ c. jump ++ (one ++ c)) (flat_last g ys x pc2 z2)
+      ∙ brackets jump one rest last (one_code x (pc2 + length (rest ++ last)) (behind_all l ys z2))
+      ∙ ap (λ m. ((jump ++ (one ++ rest)) ++ last) ++ one_code x m (behind_all l ys z2)) far
       ∙ ap (λ m. ((jump ++ (one ++ rest)) ++ last) ++ one_code x (pc + length ((jump ++ (one ++ rest)) ++ last)) m) seat
 
   -- what follows a statement, by what is said of the list itself
-  rest_is : (s : Bool) (xs : List TStmt) (pc p : ℕ)
-      → ((m q : ℕ) → t ≡ m + length (flat false xs m q) → flat false xs m q ≡ stmts_code l answer (t_stmts xs) m q k co rr n)
-      → t ≡ pc + length (flat (not s) xs pc p) → flat (not s) xs pc p ≡ rest_code s (t_stmts xs) k pc (λ pc2. stmts_code l answer (t_stmts xs) pc2 p k co rr n)
-  rest_is true xs pc p all e = all pc p e
-  rest_is false [] pc p all e = refl
-  rest_is false (y ∷ ys) pc p all e =
+  rest_is : (s : Bool) (xs : List TStmt) (pc : ℕ) (z : Numbers)
+      → ((m : ℕ) (y : Numbers) → t ≡ m + length (flat false xs m y) → flat false xs m y ≡ stmts_code l answer (t_stmts xs) m y spot)
+      → t ≡ pc + length (flat (not s) xs pc z) → flat (not s) xs pc z ≡ rest_code s (t_stmts xs) spot.on pc (λ pc2. stmts_code l answer (t_stmts xs) pc2 z spot)
+  rest_is true xs pc z all e = all pc z e
+  rest_is false [] pc z all e = refl
+  rest_is false (y ∷ ys) pc z all e =
       let zero : pc + 1 + 0 ≡ pc + 1 = omega arith in
-      let p2 = p + length (stmt_places l y) in
-      let tail : flat false (y ∷ ys) (pc + 1) p ≡ one_code y (pc + 1) p ++ flat (not (all_go_on y)) ys (pc + 1 + length (one_code y (pc + 1) p)) p2 =
-      ap (λ m. one_code y m p ++ flat (not (all_go_on y)) ys (m + length (one_code y m p)) p2) zero in
-      let same = all (pc + 1) p (omega (arith, e, ap length tail)) in
-      let end : t ≡ pc + 1 + length (stmts_code l answer (t_stmts (y ∷ ys)) (pc + 1) p k co rr n) = omega (arith, e, ap length tail, ap length same) in
-      ap (λ z. jump_off k t ∷ z) (sym tail ∙ same)
-      ∙ ap (λ m. jump_off k m ∷ stmts_code l answer (t_stmts (y ∷ ys)) (pc + 1) p k co rr n) end
+      let z2 = behind l y z in
+      let tail : flat false (y ∷ ys) (pc + 1) z ≡ one_code y (pc + 1) z ++ flat (not (all_go_on y)) ys (pc + 1 + length (one_code y (pc + 1) z)) z2 =
+      ap (λ m. one_code y m z ++ flat (not (all_go_on y)) ys (m + length (one_code y m z)) z2) zero in
+      let same = all (pc + 1) z (omega (arith, e, ap length tail)) in
+      let end : t ≡ pc + 1 + length (stmts_code l answer (t_stmts (y ∷ ys)) (pc + 1) z spot) = omega (arith, e, ap length tail, ap length same) in
+      ap (λ c. jump_off spot.on t ∷ c) (sym tail ∙ same)
+      ∙ ap (λ m. jump_off spot.on m ∷ stmts_code l answer (t_stmts (y ∷ ys)) (pc + 1) z spot) end
 
   -- where the jumps lead to the end, this is the code of the list
-  pub flat_is : (xs : List TStmt) (pc p : ℕ) → t ≡ pc + length (flat false xs pc p) → flat false xs pc p ≡ stmts_code l answer (t_stmts xs) pc p k co rr n
-  flat_is [] pc p e = refl
-  flat_is (x ∷ xs) pc p e =
+  pub flat_is : (xs : List TStmt) (pc : ℕ) (z : Numbers) → t ≡ pc + length (flat false xs pc z) → flat false xs pc z ≡ stmts_code l answer (t_stmts xs) pc z spot
+  flat_is [] pc z e = refl
+  flat_is (x ∷ xs) pc z e =
       let zero : pc + 0 ≡ pc = omega arith in
-      let one = one_code x pc p in
-      let p2 = p + length (stmt_places l x) in
-      let flatly : flat false (x ∷ xs) pc p ≡ one ++ flat (not (all_go_on x)) xs (pc + length one) p2 =
-      ap (λ m. one_code x m p ++ flat (not (all_go_on x)) xs (m + length (one_code x m p)) p2) zero in
+      let one = one_code x pc z in
+      let z2 = behind l x z in
+      let flatly : flat false (x ∷ xs) pc z ≡ one ++ flat (not (all_go_on x)) xs (pc + length one) z2 =
+      ap (λ m. one_code x m z ++ flat (not (all_go_on x)) xs (m + length (one_code x m z)) z2) zero in
       flatly
-      ∙ ap (λ z. one ++ z)
-      (rest_is (all_go_on x) xs (pc + length one) p2 (flat_is xs) (omega (arith, e, ap length flatly, length-append one (flat (not (all_go_on x)) xs (pc + length one) p2))))
+      ∙ ap (λ c. one ++ c)
+      (rest_is (all_go_on x) xs (pc + length one) z2 (flat_is xs) (omega (arith, e, ap length flatly, length-append one (flat (not (all_go_on x)) xs (pc + length one) z2))))

@@ -19,42 +19,39 @@ use Rattle.isp_meaning.proofs.Parts.{four_sets}
 use Rattle.isp_lower.specs.Code.{two, found, expr_places, expr_code}
 use Rattle.isp_lower.specs.Runs.{Enters, Failed, Stopped, DoneOk, DoneRuns}
 use Rattle.isp_lower.specs.Setting.{Setting, IsSettled, gang_of, calls_of, AreAt}
-use Rattle.isp_lower.proofs.Base.{are_front, are_back, comes_none, at_to, spares_all}
-use Rattle.isp_lower.proofs.Combine.{failed_less, stopped_less}
-use Rattle.isp_lower.proofs.Exprs.{expr_runs}
-use Rattle.isp_lower.proofs.Found.{few}
-use Rattle.isp_lower.proofs.Items.{items_run}
-use Rattle.isp_lower.proofs.Nodes.{enters_part}
-use Rattle.isp_lower.proofs.Updates.{simple_runs}
+use Rattle.isp_lower.proofs.Lemmas.{are_front, are_back, comes_none, at_to, spares_all, failed_less, stopped_less, expr_runs, few, items_run, enters_part, simple_runs, ExprParts}
 use Rattle.isp_masks.specs.Exits.{exits_of, all_go_on, nobody_leaves, only_returns}
 use Rattle.isp_masks.specs.Fors.{first_code, step_code, first_places, step_places}
 use Rattle.isp_masks.specs.LoopRuns.{TestRuns, BodyRuns, StepRuns, IsBody, LoopsRun}
 use Rattle.isp_masks.specs.Loops.{for_code, endless_code}
+use Rattle.isp_masks.specs.Named.{Named}
+use Rattle.isp_masks.specs.Spots.{Numbers, Spot, body_spot, past}
 use Rattle.isp_masks.specs.Statements.{stmt_places, stmt_code}
-use Rattle.isp_masks.specs.StmtRuns.{AreThree, aside, StmtRuns}
+use Rattle.isp_masks.specs.StmtRuns.{AreThree, aside, EntersAt, StmtRuns}
 use Rattle.isp_masks.proofs.Combine.{stmt_after, stmt_less}
 use Rattle.isp_masks.proofs.Exiting.{run_leaves}
 use Rattle.isp_masks.proofs.Loops.{loops_run}
+use Rattle.isp_masks.proofs.Names.{named_before, named_past}
 use Rattle.isp_masks.proofs.Sequences.{set_aside}
-use Rattle.isp_lower.proofs.Parts.{ExprParts}
 use Rattle.isp_masks.proofs.Parts.{FirstFits, StepFits, StmtParts}
 
 -- the masks of a loop, for its body
-masks_of : (n : ℕ) → AreThree n (n + 1) (n + 2) (n + 3)
+masks_of : (n : ℕ) → AreThree (body_spot n)
 masks_of n = record {
-  low_k = omega arith;
-  low_co = omega arith;
-  low_rr = omega arith;
-  k_co = λ e. omega (arith, e);
-  k_rr = λ e. omega (arith, e);
-  co_rr = λ e. omega (arith, e);
+  low_on = omega arith;
+  low_continued = omega arith;
+  low_returned = omega arith;
+  on_continued = λ e. omega (arith, e);
+  on_returned = λ e. omega (arith, e);
+  continued_returned = λ e. omega (arith, e);
 }
 
 module _ (w : Setting) (ready : IsSettled w) where
   -- what is to be shown of the code of a statement
   abbrev pub CodeRuns : TStmt → Type 0
   CodeRuns x =
-      (pc p k co rr n q : ℕ) (a : Mask) (s : State) (c : Conf) → StmtParts w x n → AreAt w.routine.code pc (stmt_code w.layout w.frame.answer x pc p k co rr n) → AreAt w.code.places p (stmt_places w.layout x) → AreThree k co rr n → Enters w pc k n a s c q → StmtRuns w w.turns c (pc + length (stmt_code w.layout w.frame.answer x pc p k co rr n)) k co rr n (aside (all_go_on x) + q) (run (gang_of w) w.frame (calls_of w) w.turns x a s)
+      (pc : ℕ) (z : Numbers) (spot : Spot) (q : ℕ) (a : Mask) (s : State) (c : Conf) → StmtParts w x spot.slot → AreAt w.routine.code pc (stmt_code w.layout w.frame.answer x pc z spot) → Named w z x → AreThree spot → EntersAt w pc spot a s c q
+      → StmtRuns w w.turns c (pc + length (stmt_code w.layout w.frame.answer x pc z spot)) spot (aside (all_go_on x) + q) (run (gang_of w) w.frame (calls_of w) w.turns x a s)
 
   -- ---- the parts
 
@@ -63,9 +60,9 @@ module _ (w : Setting) (ready : IsSettled w) where
       let fe : heads e ≤ 1 = few w e (n + 3) fit in
       expr_runs w ready e pc p n (n + 3) z (4 + z) T s c fit has places (omega arith) b
 
-  body_runs : (x : TStmt) (n p : ℕ) → CodeRuns x → StmtParts w x (n + 3) → AreAt w.code.places p (stmt_places w.layout x) → BodyRuns w n (λ pc. stmt_code w.layout w.frame.answer x pc p n (n + 1) (n + 2) (n + 3)) (run (gang_of w) w.frame (calls_of w) w.turns x)
-  body_runs x n p f fit places T s c pc z has b =
-      stmt_less w ready w.turns c _ _ n (n + 1) (n + 2) (n + 3) (aside (all_go_on x)) z _ refl (f pc p n (n + 1) (n + 2) (n + 3) z T s c fit has places (masks_of n) b)
+  body_runs : (x : TStmt) (n : ℕ) (z : Numbers) → CodeRuns x → StmtParts w x (n + 3) → Named w z x → BodyRuns w n (λ pc. stmt_code w.layout w.frame.answer x pc z (body_spot n)) (run (gang_of w) w.frame (calls_of w) w.turns x)
+  body_runs x n z f fit names T s c pc q has b =
+      stmt_less w ready w.turns c _ _ (body_spot n) (aside (all_go_on x)) q _ refl (f pc z (body_spot n) q T s c fit has names (masks_of n) b)
 
   is_body : (x : TStmt) → IsBody (exits_of x) (run (gang_of w) w.frame (calls_of w) w.turns x)
   is_body x T s =
@@ -97,28 +94,30 @@ module _ (w : Setting) (ready : IsSettled w) where
   -- ---- the loops
 
   pub while_runs : (f : Form) (g : ℕ) (e : TExpr) (x : TStmt) (sp : Span) → CodeRuns x → CodeRuns (t_while f g e x sp)
-  while_runs f g e x sp r pc p k co rr n q a s c fit has places three b =
+  while_runs f g e x sp r pc z spot q a s c fit has names three b =
       let pe = expr_places w.layout e in
-      let l : LoopsRun w (exits_of x) k co rr n a = loops_run w ready (exits_of x) k co rr n a three in
-      set_aside w ready (nobody_leaves (only_returns (exits_of x))) c _ k co rr n q _
-      (l.while_loop (type_of e).rate (found w.layout e (n + 3)) pc q s c _ _ _ _ (test_runs e n p fit.0 (are_front w.code.places p pe _ places)) (body_runs x n (p + length pe) r fit.1 (are_back w.code.places p pe _ places)) (is_body x) has b)
+      let n = spot.slot in
+      let l : LoopsRun w (exits_of x) spot a = loops_run w ready (exits_of x) spot a three in
+      set_aside w ready (nobody_leaves (only_returns (exits_of x))) c _ spot q _
+      (l.while_loop (type_of e).rate (found w.layout e (n + 3)) pc q s c _ _ _ _ (test_runs e n z.place fit.0 (are_front w.code.places z.place pe _ names.places_are)) (body_runs x n (past pe z) r fit.1 (named_past w.code z pe _ _ names)) (is_body x) has b)
 
   pub do_runs : (f : Form) (g : ℕ) (x : TStmt) (e : TExpr) (sp : Span) → CodeRuns x → CodeRuns (t_do f g x e sp)
-  do_runs f g x e sp r pc p k co rr n q a s c fit has places three b =
+  do_runs f g x e sp r pc z spot q a s c fit has names three b =
       let px = stmt_places w.layout x in
-      let l : LoopsRun w (exits_of x) k co rr n a = loops_run w ready (exits_of x) k co rr n a three in
-      set_aside w ready (nobody_leaves (only_returns (exits_of x))) c _ k co rr n q _
-      (l.do_loop (type_of e).rate (found w.layout e (n + 3)) pc q (tick s) c _ _ _ _ (test_runs e n (p + length px) fit.0 (are_back w.code.places p px _ places)) (body_runs x n p r fit.1 (are_front w.code.places p px _ places)) (is_body x) has (enters_part w ready pc k n (3 + q) q a s c (omega arith) b))
+      let n = spot.slot in
+      let l : LoopsRun w (exits_of x) spot a = loops_run w ready (exits_of x) spot a three in
+      set_aside w ready (nobody_leaves (only_returns (exits_of x))) c _ spot q _
+      (l.do_loop (type_of e).rate (found w.layout e (n + 3)) pc q (tick s) c _ _ _ _ (test_runs e n (z.place + length px) fit.0 (are_back w.code.places z.place px _ names.places_are)) (body_runs x n z r fit.1 (named_before w.code z px _ _ names)) (is_body x) has (enters_part w ready pc spot.on n (3 + q) q a s c (omega arith) b))
 
   -- the first part of a `for`, and what follows it
-  behind_first : (o : Option TFirst) (pc p k co rr n q : ℕ) (a : Mask) (s : State) (c : Conf) (code : ℕ → List Instr) (next : State → Res) → FirstFits w o n → AreAt w.routine.code pc (two pc (first_code w.layout o pc p k n) code) → AreAt w.code.places p (first_places w.layout o) → AreThree k co rr n → Enters w pc k n a s c q
-      → ((pc1 : ℕ) (s1 : State) (c1 : Conf) (z : ℕ) → AreAt w.routine.code pc1 (code pc1) → Enters w pc1 k n a s1 c1 (3 + z) → StmtRuns w w.turns c1 (pc1 + length (code pc1)) k co rr n (1 + z) (next s1))
-      → StmtRuns w w.turns c (pc + length (two pc (first_code w.layout o pc p k n) code)) k co rr n (1 + q) (with_value (first_part (gang_of w) w.frame (calls_of w) o a (tick s)) (λ u s1. next s1))
-  behind_first o pc p k co rr n q a s c code next fit has places three b f =
-      go (first_part (gang_of w) w.frame (calls_of w) o a (tick s)) (first_runs o pc p k n (3 + q) a (tick s) c fit (are_front w.routine.code pc ca (code pc1) has) places (enters_part w ready pc k n (3 + q) q a s c (omega arith) b))
+  behind_first : (o : Option TFirst) (pc p : ℕ) (spot : Spot) (q : ℕ) (a : Mask) (s : State) (c : Conf) (code : ℕ → List Instr) (next : State → Res) → FirstFits w o spot.slot → AreAt w.routine.code pc (two pc (first_code w.layout o pc p spot.on spot.slot) code) → AreAt w.code.places p (first_places w.layout o) → AreThree spot → EntersAt w pc spot a s c q
+      → ((pc1 : ℕ) (s1 : State) (c1 : Conf) (z : ℕ) → AreAt w.routine.code pc1 (code pc1) → EntersAt w pc1 spot a s1 c1 (3 + z) → StmtRuns w w.turns c1 (pc1 + length (code pc1)) spot (1 + z) (next s1))
+      → StmtRuns w w.turns c (pc + length (two pc (first_code w.layout o pc p spot.on spot.slot) code)) spot (1 + q) (with_value (first_part (gang_of w) w.frame (calls_of w) o a (tick s)) (λ u s1. next s1))
+  behind_first o pc p spot q a s c code next fit has places three b f =
+      go (first_part (gang_of w) w.frame (calls_of w) o a (tick s)) (first_runs o pc p spot.on spot.slot (3 + q) a (tick s) c fit (are_front w.routine.code pc ca (code pc1) has) places (enters_part w ready pc spot.on spot.slot (3 + q) q a s c (omega arith) b))
     where
       ca : List Instr
-      ca = first_code w.layout o pc p k n
+      ca = first_code w.layout o pc p spot.on spot.slot
 
       pc1 : ℕ
       pc1 = pc + length ca
@@ -132,11 +131,11 @@ module _ (w : Setting) (ready : IsSettled w) where
       three_is : 3 + q ≡ 2 + (1 + q)
       three_is = omega arith
 
-      go : (v : Val Done) → DoneRuns w c pc1 n (3 + q) v → StmtRuns w w.turns c end k co rr n (1 + q) (with_value v (λ u s1. next s1))
+      go : (v : Val Done) → DoneRuns w c pc1 spot.slot (3 + q) v → StmtRuns w w.turns c end spot (1 + q) (with_value v (λ u s1. next s1))
       go (Gives u s1) ok =
-          let r = f pc1 s1 ok.conf (ok.steps + q) (are_back w.routine.code pc ca (code pc1) has) (record { at = ok.at; mask = ok.masks k b.low ∙ b.mask; some = b.some; inside = b.inside; stands = ok.stands; used = omega (arith, ok.bound); low = b.low }) in
+          let r = f pc1 s1 ok.conf (ok.steps + q) (are_back w.routine.code pc ca (code pc1) has) (record { at = ok.at; mask = ok.masks spot.on b.low ∙ b.mask; some = b.some; inside = b.inside; stands = ok.stands; used = omega (arith, ok.bound); low = b.low }) in
           let e : 1 + (ok.steps + q) ≡ ok.steps + (1 + q) = omega arith in
-          stmt_after w ready w.turns c ok.conf ok.steps end k co rr n (1 + q) (next s1) ok.comes ok.spares (λ y lt ne. ok.masks y lt) three (subst (λ z. StmtRuns w w.turns ok.conf z k co rr n (ok.steps + (1 + q)) (next s1)) ends (subst (λ z. StmtRuns w w.turns ok.conf (pc1 + length (code pc1)) k co rr n z (next s1)) e r))
+          stmt_after w ready w.turns c ok.conf ok.steps end spot (1 + q) (next s1) ok.comes ok.spares (λ y lt ne. ok.masks y lt) three (subst (λ z. StmtRuns w w.turns ok.conf z spot (ok.steps + (1 + q)) (next s1)) ends (subst (λ z. StmtRuns w w.turns ok.conf (pc1 + length (code pc1)) spot z (next s1)) e r))
       go (Fails t s1) bad = failed_less w ready c 2 (1 + q) t s1 (subst (λ z. Failed w c z t s1) three_is bad)
       go (Stops s1) cut = stopped_less w ready w.turns c 2 (1 + q) s1 (subst (λ z. Stopped w w.turns c z s1) three_is cut)
 
@@ -149,26 +148,30 @@ module _ (w : Setting) (ready : IsSettled w) where
       tested (gang_of w) test body stepping a (turns (gang_of w) test body stepping a w.turns) a nobody s1
 
   pub for_runs : (f : Form) (g : ℕ) (first : Option TFirst) (o : Option TExpr) (step : Option TSimple) (i : ℕ) (x : TStmt) (sp : Span) → CodeRuns x → CodeRuns (t_for f g first o step i x sp)
-  for_runs f g first None step i x sp r pc p k co rr n q a s c fit has places three b =
-      let p1 = p + length (first_places w.layout first) in
+  for_runs f g first None step i x sp r pc z spot q a s c fit has names three b =
+      let pf = first_places w.layout first in
       let px = stmt_places w.layout x in
-      let own = are_back w.code.places p (first_places w.layout first) _ places in
-      let l : LoopsRun w (exits_of x) k co rr n a = loops_run w ready (exits_of x) k co rr n a three in
-      set_aside w ready (nobody_leaves (only_returns (exits_of x))) c _ k co rr n q _
-      (behind_first first pc p k co rr n q a s c
-      (λ pc1. endless_code (exits_of x) pc1 k rr n (λ pc2. stmt_code w.layout w.frame.answer x pc2 p1 n (n + 1) (n + 2) (n + 3)) (λ pc2. step_code w.layout step pc2 (p1 + length px) n (n + 3)))
-      (λ s1. looped None x step a s1) fit.0 has (are_front w.code.places p (first_places w.layout first) _ places) three b
-      (λ pc1 s1 c1 z at en. l.endless_loop pc1 z s1 c1 _ _ _ _ (body_runs x n p1 r fit.3 (are_front w.code.places p1 px _ own)) (step_runs step n (p1 + length px) fit.2 (are_back w.code.places p1 px _ own)) (is_body x) at en))
-  for_runs f g first (Some e) step i x sp r pc p k co rr n q a s c fit has places three b =
-      let p1 = p + length (first_places w.layout first) in
+      let n = spot.slot in
+      let z1 = past pf z in
+      let own = named_past w.code z pf _ _ names in
+      let l : LoopsRun w (exits_of x) spot a = loops_run w ready (exits_of x) spot a three in
+      set_aside w ready (nobody_leaves (only_returns (exits_of x))) c _ spot q _
+      (behind_first first pc z.place spot q a s c
+      (λ pc1. endless_code (exits_of x) pc1 spot (λ pc2. stmt_code w.layout w.frame.answer x pc2 z1 (body_spot n)) (λ pc2. step_code w.layout step pc2 (z1.place + length px) n (n + 3)))
+      (λ s1. looped None x step a s1) fit.0 has (are_front w.code.places z.place pf _ names.places_are) three b
+      (λ pc1 s1 c1 y at en. l.endless_loop pc1 y s1 c1 _ _ _ _ (body_runs x n z1 r fit.3 (named_before w.code z1 px _ _ own)) (step_runs step n (z1.place + length px) fit.2 (are_back w.code.places z1.place px _ own.places_are)) (is_body x) at en))
+  for_runs f g first (Some e) step i x sp r pc z spot q a s c fit has names three b =
+      let pf = first_places w.layout first in
       let pe = expr_places w.layout e in
-      let p2 = p1 + length pe in
       let px = stmt_places w.layout x in
-      let own = are_back w.code.places p (first_places w.layout first) _ places in
-      let rest = are_back w.code.places p1 pe _ own in
-      let l : LoopsRun w (exits_of x) k co rr n a = loops_run w ready (exits_of x) k co rr n a three in
-      set_aside w ready (nobody_leaves (only_returns (exits_of x))) c _ k co rr n q _
-      (behind_first first pc p k co rr n q a s c
-      (λ pc1. for_code (exits_of x) (type_of e).rate (found w.layout e (n + 3)) pc1 k rr n (λ pc2. expr_code w.layout e pc2 p1 n (n + 3)) (λ pc2. stmt_code w.layout w.frame.answer x pc2 p2 n (n + 1) (n + 2) (n + 3)) (λ pc2. step_code w.layout step pc2 (p2 + length px) n (n + 3)))
-      (λ s1. looped (Some e) x step a s1) fit.0 has (are_front w.code.places p (first_places w.layout first) _ places) three b
-      (λ pc1 s1 c1 z at en. l.for_loop (type_of e).rate (found w.layout e (n + 3)) pc1 z s1 c1 _ _ _ _ _ _ (test_runs e n p1 fit.1 (are_front w.code.places p1 pe _ own)) (body_runs x n p2 r fit.3 (are_front w.code.places p2 px _ rest)) (step_runs step n (p2 + length px) fit.2 (are_back w.code.places p2 px _ rest)) (is_body x) at en))
+      let n = spot.slot in
+      let z1 = past pf z in
+      let z2 = past pe z1 in
+      let own = named_past w.code z pf _ _ names in
+      let rest = named_past w.code z1 pe _ _ own in
+      let l : LoopsRun w (exits_of x) spot a = loops_run w ready (exits_of x) spot a three in
+      set_aside w ready (nobody_leaves (only_returns (exits_of x))) c _ spot q _
+      (behind_first first pc z.place spot q a s c
+      (λ pc1. for_code (exits_of x) (type_of e).rate (found w.layout e (n + 3)) pc1 spot (λ pc2. expr_code w.layout e pc2 z1.place n (n + 3)) (λ pc2. stmt_code w.layout w.frame.answer x pc2 z2 (body_spot n)) (λ pc2. step_code w.layout step pc2 (z2.place + length px) n (n + 3)))
+      (λ s1. looped (Some e) x step a s1) fit.0 has (are_front w.code.places z.place pf _ names.places_are) three b
+      (λ pc1 s1 c1 y at en. l.for_loop (type_of e).rate (found w.layout e (n + 3)) pc1 y s1 c1 _ _ _ _ _ _ (test_runs e n z1.place fit.1 (are_front w.code.places z1.place pe _ own.places_are)) (body_runs x n z2 r fit.3 (named_before w.code z2 px _ _ rest)) (step_runs step n (z2.place + length px) fit.2 (are_back w.code.places z2.place px _ rest.places_are)) (is_body x) at en))

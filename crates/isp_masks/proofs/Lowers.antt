@@ -10,23 +10,31 @@ use Rattle.isp_base.specs.declared.types.Ty.{Ty}
 use Rattle.isp_code.specs.Entries.{parameter_of, parameters_of, result_of}
 use Rattle.isp_code.specs.Listing.{Listing, Routine}
 use Rattle.isp_code.specs.Registers.{table_of, types_in}
-use Rattle.isp_lex.specs.declared.fault.Fault.{Fault}
 use Rattle.isp_rates.specs.Covered.{program_left}
-use Rattle.isp_rates.specs.Program.{ProgramBreach}
-use Rattle.isp_typed.specs.Fine.{FineFunction, IsFine, all_new}
+use Rattle.isp_rates.specs.Program.{IsAccepted}
+use Rattle.isp_typed.specs.Fine.{AreParams, FineFunction, all_new, params_of}
 use Rattle.isp_typed.specs.Typed.{Program, TFunction}
 use Rattle.isp_verify.specs.Faults.{header_fits, code_fault}
+use Rattle.isp_base.specs.declared.signature.Parameter.{Parameter}
+use Rattle.isp_typed.specs.declared.variable.Variable.{Variable}
+use Rattle.isp_lower.specs.Callees.{rates_in}
+use Rattle.isp_lower.specs.Header as header
+use Rattle.isp_lower.specs.Sound.{AreHeld, HasHeader}
 use Rattle.isp_lower.specs.Layout.{class_at}
 use Rattle.isp_lower.specs.Rows.{rows_at, layout_of}
-use Rattle.isp_masks.specs.Accepted.{IsBodyCode, CodeAccepted}
+use Rattle.isp_masks.specs.Accepted.{IsBodyCode}
 use Rattle.isp_masks.specs.Agreed.{LoweredAgrees}
-use Rattle.isp_masks.specs.Compiled.{IsEntryCode, IsProgramCode}
-use Rattle.isp_masks.specs.Laws.{FunctionFits, CheckedFits, ProgramRuns}
+use Rattle.isp_masks.specs.Compiled.{IsEntry, IsFunctionCode, IsProgramCode}
 use Rattle.isp_lower.specs.Header.{returns_of, types_of, value_returned}
 use Rattle.isp_masks.specs.Lowered.{IsLowered, HasCode}
-use Rattle.isp_masks.specs.Made.{IsMade, GivesUniform, MadeIsCode}
+use Rattle.isp_masks.specs.Made.{IsMade, GivesUniform}
+use Rattle.isp_masks.proofs.Accepted.{code_accepted}
+use Rattle.isp_masks.proofs.Checked.{FunctionFits, function_fits, function_covered}
 use Rattle.isp_masks.proofs.FirstRows.{parameters_same, result_row}
 use Rattle.isp_masks.proofs.Heads.{names_apart, names_same, new_name, exports, head_fits}
+use Rattle.isp_masks.proofs.Made.{made_accepted, made_compiled, made_entry}
+use Rattle.isp_masks.proofs.Names.{named_block}
+use Rattle.isp_masks.proofs.Programs.{program_agrees}
 use Rattle.isp_masks.proofs.Standing.{arrays_stand}
 use Rattle.isp_masks.specs.Rated.{BlockRated}
 
@@ -44,7 +52,16 @@ gives_one : (answer : Option Ty) → ((t : Ty) → answer ≡ Some t → t.rate 
 gives_one None one = tt
 gives_one (Some t) one = one t refl
 
-module _ (fs : List TFunction) (code : Listing) (h : TFunction) (g : Routine) (fine : FineFunction fs h) (low : IsLowered h g code.places) where
+-- a header's parameters are what the variables hold
+params_held : (n : ℕ) (ps : List Parameter) (vs : List Variable) → AreParams ps (take n vs) → AreHeld (take n vs) (header.params_of ps vs)
+params_held zero [] vs a = tt
+params_held (suc n) [] [] a = tt
+params_held (suc n) [] (v ∷ vs) a = absurd a
+params_held zero (p ∷ ps) vs a = absurd a
+params_held (suc n) (p ∷ ps) [] a = absurd a
+params_held (suc n) (p ∷ ps) (v ∷ vs) a = (refl, refl, params_held n ps vs a.1)
+
+module _ (fs : List TFunction) (code : Listing) (h : TFunction) (g : Routine) (fine : FineFunction fs h) (low : IsLowered fs h g code.places) where
   pub parameters : parameters_of g ≡ h.parameters
   parameters = ap (map parameter_of) low.params ∙ parameters_same (length h.params) h.parameters h.variables fine.params
 
@@ -52,18 +69,18 @@ module _ (fs : List TFunction) (code : Listing) (h : TFunction) (g : Routine) (f
   types Uniform = low.scalars
   types Varying = low.vectors
 
-  pub is_made : IsMade code h g low.rows low.place
+  pub is_made : IsMade fs code h g low.rows low.numbers
   is_made = record {
     types = types;
     parameters = parameters;
     returns = low.returns;
-    arrays = arrays_stand fs h g low.rows fine parameters low.locals low.arrays_first;
+    arrays = arrays_stand fs h g (rates_in fs) low.rows fine parameters low.locals low.arrays_first;
     rows_are = low.present;
     result = result_row h.variables h.answer low.rows low.scalars_first low.vectors_first;
     masks = low.three;
     code_is = low.code_is;
     low = low.low;
-    places_are = low.places_are;
+    names = named_block code low.numbers _ h.body low.places_are;
   }
 
 -- ---- a program
@@ -76,18 +93,18 @@ is_there (x ∷ xs) (suc k) lt = is_there xs k (omega arith)
 fine_of : {A : Type 0} (P : A → Type 0) (xs : List A) (k : ℕ) (a : A) → All P xs → slice_get xs k ≡ Some a → P a
 fine_of P xs k a all e = subst P (get_or_from_slice_get xs k a a e) (all k a (slice_get_within xs k a e))
 
-module _ (checked : CheckedFits) (made : MadeIsCode) (program : Program) (code : Listing) (fine : IsFine program) (sound : (e : Fault) → ProgramBreach program e → ⊥) (whole : program_left program ≡ None) (has : HasCode program code) where
+module _ (program : Program) (code : Listing) (accepted : IsAccepted program) (whole : program_left program ≡ None) (has : HasCode program code) where
   fine_at : (f : ℕ) (h : TFunction) → slice_get program.functions f ≡ Some h → FineFunction program.functions h
-  fine_at f h e = fine_of (FineFunction program.functions) program.functions f h fine.each e
+  fine_at f h e = fine_of (FineFunction program.functions) program.functions f h accepted.fine.each e
 
-  fits_at : (f : ℕ) (h : TFunction) → slice_get program.functions f ≡ Some h → FunctionFits h
-  fits_at f h e = checked.each program fine sound f h e
+  fits_at : (f : ℕ) (h : TFunction) → slice_get program.functions f ≡ Some h → FunctionFits program.functions h
+  fits_at f h e = function_fits program accepted f h e
 
-  rated_at : (f : ℕ) (h : TFunction) → slice_get program.functions f ≡ Some h → BlockRated h.answer h.body
-  rated_at f h e = (fits_at f h e).rated (checked.whole program whole f h e).1
+  rated_at : (f : ℕ) (h : TFunction) → slice_get program.functions f ≡ Some h → BlockRated program.functions h.answer h.body
+  rated_at f h e = (fits_at f h e).rated (function_covered program.functions whole f h e).1
 
   gives_at : (f : ℕ) (h : TFunction) → slice_get program.functions f ≡ Some h → GivesUniform h.answer
-  gives_at f h e = gives_one h.answer ((fits_at f h e).result (checked.whole program whole f h e).0)
+  gives_at f h e = gives_one h.answer ((fits_at f h e).result (function_covered program.functions whole f h e).0)
 
   -- the function whose routine it is
   source : (f : ℕ) (g : Routine) → slice_get code.routines f ≡ Some g → (h : TFunction) × (slice_get program.functions f ≡ Some h)
@@ -95,25 +112,36 @@ module _ (checked : CheckedFits) (made : MadeIsCode) (program : Program) (code :
       let in_code = slice_get_within code.routines f g e in
       is_there program.functions f (omega (arith, in_code, has.count))
 
-  entry : (f : ℕ) (h : TFunction) (g : Routine) → slice_get program.functions f ≡ Some h → slice_get code.routines f ≡ Some g → IsEntryCode program code f h g
-  entry f h g eh eg =
+  -- each function has its header
+  head : (f : ℕ) (h : TFunction) → slice_get program.functions f ≡ Some h → HasHeader code f h
+  head f h e =
+      let in_program = slice_get_within program.functions f h e in
+      let g = is_there code.routines f (omega (arith, in_program, has.count)) in
+      let low = has.each f h g.0 e g.1 in
+      record { routine = g.0; found = g.1; params = subst (AreHeld (params_of h)) (sym low.params) (params_held (length h.params) h.parameters h.variables (fine_at f h e).params); returns = low.returns }
+
+  abbrev function : (f : ℕ) (h : TFunction) (g : Routine) → slice_get program.functions f ≡ Some h → slice_get code.routines f ≡ Some g → IsFunctionCode program code f h g
+  function f h g eh eg =
       let low = has.each f h g eh eg in
       let own = fine_at f h eh in
-      let passed = (fits_at f h eh).passed (checked.whole program whole f h eh).0 in
       record {
-        parameters = parameters program.functions code h g own low;
-        result = ap result_of low.returns ∙ given_is h.answer ∙ sym own.gives;
-        layout = layout_of low.rows;
-        place = low.place;
-        compiled = made.compiled program code f h g low.rows low.place has.gang eh eg own (rated_at f h eh) (is_made program.functions code h g own low) low.scalars_first low.vectors_first passed (gives_at f h eh);
+        layout = layout_of (rates_in program.functions) low.rows;
+        numbers = low.numbers;
+        compiled = made_compiled program code f h g low.rows low.numbers has.gang eh eg own (rated_at f h eh) (is_made program.functions code h g own low) low.scalars_first low.vectors_first;
       }
+
+  entry : (f : ℕ) (h : TFunction) (g : Routine) (eh : slice_get program.functions f ≡ Some h) (eg : slice_get code.routines f ≡ Some g) → h.exported ≡ true → IsEntry h g (function f h g eh eg).layout
+  entry f h g eh eg out =
+      let low = has.each f h g eh eg in
+      let own = fine_at f h eh in
+      made_entry program.functions code h g low.rows low.numbers own (is_made program.functions code h g own low) (ap result_of low.returns ∙ given_is h.answer ∙ sym own.gives) (record { takes = (fits_at f h eh).passed out; gives = gives_one h.answer ((fits_at f h eh).result out) })
 
   pub program_code : IsProgramCode program code
   program_code = record {
     gang = has.gang;
-    count = has.count;
+    compiled = record { count = has.count; each = function };
     named = λ f h g eh eg. ((has.each f h g eh eg).name, (has.each f h g eh eg).exported);
-    each = λ f h g eh eg out. entry f h g eh eg;
+    entries = entry;
   }
 
   bodies : (f : ℕ) (g : Routine) → slice_get code.routines f ≡ Some g → IsBodyCode code g
@@ -121,24 +149,24 @@ module _ (checked : CheckedFits) (made : MadeIsCode) (program : Program) (code :
       let h = source f g eg in
       let low = has.each f h.0 g h.1 eg in
       let own = fine_at f h.0 h.1 in
-      made.accepted program.functions code h.0 g low.rows low.place own (rated_at f h.0 h.1) (is_made program.functions code h.0 g own low)
+      made_accepted program.functions code h.0 g low.rows low.numbers own (is_made program.functions code h.0 g own low) head (rated_at f h.0 h.1)
 
   all_differ : all_new [] (map (λ g. g.name) code.routines) ≡ true
-  all_differ = subst (λ z. all_new [] z ≡ true) (sym (names_same program.functions code.routines has.count (λ f h g eh eg. (has.each f h g eh eg).name))) fine.names
+  all_differ = subst (λ z. all_new [] z ≡ true) (sym (names_same program.functions code.routines has.count (λ f h g eh eg. (has.each f h g eh eg).name))) accepted.fine.names
 
   headers : (f : ℕ) (g : Routine) → slice_get code.routines f ≡ Some g → header_fits (take f code.routines) g ≡ true
   headers f g eg =
       let h = source f g eg in
       let low = has.each f h.0 g h.1 eg in
       let own = fine_at f h.0 h.1 in
-      let passed = (fits_at f h.0 h.1).passed (checked.whole program whole f h.0 h.1).0 in
+      let passed = (fits_at f h.0 h.1).passed (function_covered program.functions whole f h.0 h.1).0 in
       head_fits (take f code.routines) g (new_name code.routines f g all_differ eg) (names_apart g h.0.parameters (parameters program.functions code h.0 g own low) own.names) (exports (length h.0.params) h.0.parameters h.0.variables h.0.answer g own.params passed (gives_at f h.0 h.1) low.params low.returns) low.three
 
-  pub code_passes : CodeAccepted → code_fault code ≡ None
-  code_passes accepts = accepts code headers bodies
+  pub code_passes : code_fault code ≡ None
+  code_passes = code_accepted code headers bodies
 
-pub lowered_agrees : CheckedFits → MadeIsCode → CodeAccepted → ProgramRuns → LoweredAgrees
-lowered_agrees checked made accepts runs = record {
-  agrees = λ program code fine sound whole has. runs program code (program_code checked made program code fine sound whole has);
-  accepted = λ program code fine sound whole has. code_passes checked made program code fine sound whole has accepts;
+pub lowered_agrees : LoweredAgrees
+lowered_agrees = record {
+  agrees = λ program code accepted whole has. program_agrees program code (program_code program code accepted whole has);
+  accepted = λ program code accepted whole has. code_passes program code accepted whole has;
 }

@@ -6,28 +6,29 @@ use Rattle.isp_base.specs.declared.types.Elem.{Elem}
 use Rattle.isp_base.specs.declared.types.Rate.{Rate}
 use Rattle.isp_base.specs.declared.types.Rate.TheVariants.{Uniform, Varying}
 use Rattle.isp_base.specs.declared.types.Ty.{Ty}
+use Rattle.isp_code.specs.Entries.{result_of}
 use Rattle.isp_code.specs.Fine.{IsGiven}
 use Rattle.isp_code.specs.Listing.{Listing, Routine}
 use Rattle.isp_code.specs.Registers.{elem_of}
-use Rattle.isp_typed.specs.Fine.{FineFunction, params_of}
+use Rattle.isp_typed.specs.Fine.{FineFunction}
 use Rattle.isp_typed.specs.Typed.{Program, TFunction}
+use Rattle.isp_lower.specs.Callees.{rates_in}
 use Rattle.isp_lower.specs.Layout.{register}
 use Rattle.isp_lower.specs.Emitted.{Begins, first_rows}
 use Rattle.isp_lower.specs.Rows.{Rows, Result, HasRow, layout_of}
 use Rattle.isp_lower.specs.Setting.{AreAt}
-use Rattle.isp_lower.specs.Sound.{HasMask, HasRegister}
+use Rattle.isp_lower.specs.Sound.{HasMask, HasHeader, HasRegister}
 use Rattle.isp_lower.specs.Tables.{AnyArray}
-use Rattle.isp_lower.proofs.Rows.{layout_apart, register_there}
+use Rattle.isp_lower.proofs.Lemmas.{layout_apart, register_there, all_grow}
 use Rattle.isp_masks.specs.Accepted.{IsBodyCode}
-use Rattle.isp_masks.specs.Compiled.{AreOne, ResultFits, IsCompiled}
-use Rattle.isp_masks.specs.Laws.{BodyPresent}
+use Rattle.isp_masks.specs.Compiled.{ResultFits, IsCompiled, IsEntry}
 use Rattle.isp_lower.specs.Header.{value_returned, returns_of}
-use Rattle.isp_masks.specs.Made.{ResultRow, IsMade, GivesUniform}
+use Rattle.isp_masks.specs.Made.{ResultRow, IsMade, IsUniform, GivesUniform}
+use Rattle.isp_masks.specs.Spots.{Numbers}
 use Rattle.isp_masks.specs.Statements.{block_places, returned, function_code}
-use Rattle.isp_masks.proofs.ArraysThere.{body_present}
+use Rattle.isp_masks.proofs.ArraysThere.{BodyPresent, body_present}
 use Rattle.isp_masks.proofs.Passing.{passed_first}
 use Rattle.isp_masks.specs.Asks.{block_asks}
-use Rattle.isp_lower.proofs.Growing.{all_grow}
 use Rattle.isp_masks.specs.Rated.{BlockRated}
 
 -- ---- lists
@@ -49,55 +50,58 @@ at_low xs n (y ∷ ys) le is =
     let rest = at_low xs (n + 1) ys (omega (arith, low)) is.1 in
     omega (arith, rest)
 
-module _ (fs : List TFunction) (code : Listing) (h : TFunction) (g : Routine) (rows : Rows) (p : ℕ) (fine : FineFunction fs h) (made : IsMade code h g rows p) where
-  present : BodyPresent h g (layout_of rows) 3
+module _ (fs : List TFunction) (code : Listing) (h : TFunction) (g : Routine) (rows : Rows) (z : Numbers) (fine : FineFunction fs h) (made : IsMade fs code h g rows z) where
+  present : BodyPresent h g (layout_of (rates_in fs) rows) 3
   present =
-      body_present fs h g (layout_of rows) fine made.arrays made.parameters 3 (all_grow (HasRow rows) (HasRegister g (layout_of rows)) AnyArray AnyArray AnyArray AnyArray (HasMask g) (HasMask g) (register_there g rows made.types) (λ b z. z) (λ b z. z) (λ n z. z) (block_asks h.answer h.body 3) made.rows_are)
+      body_present fs h g (layout_of (rates_in fs) rows) fine made.arrays made.parameters 3 (all_grow (HasRow rows) (HasRegister g (layout_of (rates_in fs) rows)) AnyArray AnyArray AnyArray AnyArray (HasMask g) (HasMask g) (register_there g (rates_in fs) rows made.types) (λ b z. z) (λ b z. z) (λ n z. z) (block_asks h.answer h.body 3) made.rows_are)
 
-  given_at : (r : Rate) (t : Elem) → HasRegister g (layout_of rows) r Result t → IsGiven g (value_returned r t) (Some (register r ((layout_of rows).result r)))
+  given_at : (r : Rate) (t : Elem) → HasRegister g (layout_of (rates_in fs) rows) r Result t → IsGiven g (value_returned r t) (Some (register r ((layout_of (rates_in fs) rows).result r)))
   given_at Uniform t is = is
   given_at Varying t is = is
 
-  given : (answer : Option Ty) → ResultRow rows answer → g.returns ≡ returns_of answer → IsGiven g g.returns (returned (layout_of rows) answer)
+  given : (answer : Option Ty) → ResultRow rows answer → g.returns ≡ returns_of answer → IsGiven g g.returns (returned (layout_of (rates_in fs) rows) answer)
   given None row e = subst (λ z. IsGiven g z None) (sym e) tt
   given (Some t) row e =
-      subst (λ z. IsGiven g z (Some (register t.rate ((layout_of rows).result t.rate)))) (sym e) (given_at t.rate t.elem (register_there g rows made.types t.rate Result t.elem row))
+      subst (λ z. IsGiven g z (Some (register t.rate ((layout_of (rates_in fs) rows).result t.rate)))) (sym e) (given_at t.rate t.elem (register_there g (rates_in fs) rows made.types t.rate Result t.elem row))
 
-  pub made_accepted : BlockRated h.answer h.body → IsBodyCode code g
-  made_accepted plain = record {
-    layout = layout_of rows;
+  pub made_accepted : ((f : ℕ) (k : TFunction) → slice_get fs f ≡ Some k → HasHeader code f k) → BlockRated fs h.answer h.body → IsBodyCode code g
+  made_accepted headers plain = record {
+    layout = layout_of (rates_in fs) rows;
     answer = h.answer;
     body = h.body;
-    place = p;
+    numbers = z;
     code_is = made.code_is;
     functions = fs;
     variables = h.variables;
     fine = fine.body;
     rated = plain;
+    links = record { rates = refl; headers = headers };
     present = present.present;
     masks = made.masks;
-    places = at_low code.places p (block_places (layout_of rows) h.body) made.low made.places_are;
+    places = at_low code.places z.place (block_places (layout_of (rates_in fs) rows) h.body) made.low made.names.places_are;
     given = given h.answer made.result made.returns;
   }
 
-  result_fits : (answer : Option Ty) → h.gives ≡ option_map (λ t. t.elem) answer → ResultRow rows answer → GivesUniform answer → ResultFits g (layout_of rows) answer h.gives
+  result_fits : (answer : Option Ty) → h.gives ≡ option_map (λ t. t.elem) answer → ResultRow rows answer → GivesUniform answer → ResultFits g (layout_of (rates_in fs) rows) answer h.gives
   result_fits None e row u = e
   result_fits (Some t) e row u =
-      (u, e, subst (λ r. elem_of g (register r ((layout_of rows).result r)) ≡ t.elem) u (register_there g rows made.types t.rate Result t.elem row).1)
+      (u, e, subst (λ r. elem_of g (register r ((layout_of (rates_in fs) rows).result r)) ≡ t.elem) u (register_there g (rates_in fs) rows made.types t.rate Result t.elem row).1)
 
-pub made_compiled : (program : Program) (code : Listing) (f : ℕ) (h : TFunction) (g : Routine) (rows : Rows) (p : ℕ) → code.gang ≡ program.gang → slice_get program.functions f ≡ Some h → slice_get code.routines f ≡ Some g → FineFunction program.functions h → BlockRated h.answer h.body → IsMade code h g rows p → Begins (first_rows h.variables h.answer).scalars rows.scalars → Begins (first_rows h.variables h.answer).vectors rows.vectors → AreOne (params_of h) → GivesUniform h.answer → IsCompiled program code f h g (layout_of rows) p
-made_compiled program code f h g rows p gang source found fine plain made scalars vectors one gives = record {
+  pub made_entry : result_of g.returns ≡ h.gives → IsUniform h → IsEntry h g (layout_of (rates_in fs) rows)
+  made_entry result uniform = record { parameters = made.parameters; result = result; one = uniform.takes; gives = result_fits h.answer fine.gives made.result uniform.gives }
+
+pub made_compiled : (program : Program) (code : Listing) (f : ℕ) (h : TFunction) (g : Routine) (rows : Rows) (z : Numbers) → code.gang ≡ program.gang → slice_get program.functions f ≡ Some h → slice_get code.routines f ≡ Some g → FineFunction program.functions h → BlockRated program.functions h.answer h.body → IsMade program.functions code h g rows z → Begins (first_rows h.variables h.answer).scalars rows.scalars → Begins (first_rows h.variables h.answer).vectors rows.vectors → IsCompiled program code f h g (layout_of (rates_in program.functions) rows) z
+made_compiled program code f h g rows z gang source found fine plain made scalars vectors = record {
   gang = gang;
   source = source;
   found = found;
-  apart = layout_apart rows;
+  apart = layout_apart (rates_in program.functions) rows;
+  rates = refl;
   fine = fine;
-  one = one;
-  passed = passed_first h rows scalars vectors;
-  result = result_fits program.functions code h g rows p fine made h.answer fine.gives made.result gives;
-  code_is = subst (λ c. AreAt c 0 (function_code (layout_of rows) h.answer h.body p)) (sym made.code_is) (at_whole (function_code (layout_of rows) h.answer h.body p));
-  places_are = made.places_are;
+  passed = passed_first h (rates_in program.functions) rows scalars vectors;
+  code_is = subst (λ c. AreAt c 0 (function_code (layout_of (rates_in program.functions) rows) h.answer h.body 0 z)) (sym made.code_is) (at_whole (function_code (layout_of (rates_in program.functions) rows) h.answer h.body 0 z));
+  names = made.names;
   rated = plain;
-  named = (present program.functions code h g rows p fine made).named;
+  named = (present program.functions code h g rows z fine made).named;
   arrays = made.arrays;
 }

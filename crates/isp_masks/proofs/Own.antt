@@ -16,7 +16,7 @@ use Rattle.isp_lower.specs.Header.{AreSmall, HeadingFits, IsSmall}
 use Rattle.isp_lower.specs.Asks.{first_slot, items_asks}
 use Rattle.isp_lower.specs.Reserved.{IsOwn, IsReserved}
 use Rattle.isp_lower.specs.declared.reserve.Reserve.{Reserve}
-use Rattle.isp_lower.proofs.Own.{expr_own, operand_own, simple_own, item_own}
+use Rattle.isp_lower.proofs.Lemmas.{expr_own, operand_own, simple_own, item_own}
 use Rattle.isp_masks.specs.Asks.{answer_asks, part_asks, loop_asks, first_asks, test_part_asks, step_asks, stmt_asks, block_asks, stmts_asks, result_asks}
 use Rattle.isp_masks.specs.Lowered.{BodyIsOwn}
 

@@ -4,7 +4,7 @@ use Rattle.isp_base.specs.declared.types.Ty.{Ty}
 use Rattle.isp_typed.specs.Typed.{TExpr, type_of, TSimple, TFirst, t_first_declare, t_first_simple, TStmt, t_block, t_declare, t_simple, t_if, t_if_else, t_while, t_do, t_for, t_foreach, t_foreach_active, t_unmasked, t_jump, t_return, t_print, t_assert, TBlock, t_braces, TStmts, t_no_stmts, t_stmt_then}
 use Rattle.isp_lower.specs.Asks.{first_slot}
 use Rattle.isp_lower.specs.Setting.{Setting}
-use Rattle.isp_lower.proofs.Parts.{OperandFits, ExprParts, SimpleParts, ItemsParts}
+use Rattle.isp_lower.proofs.Lemmas.{OperandFits, ExprParts, SimpleParts, ItemsParts}
 
 module _ (w : Setting) where
   -- what is returned is one of what the function gives

@@ -118,8 +118,8 @@ values_begin : (vs : List Declared) (h : TFunction) (rows : Rows) → vs ≡ h.v
 values_begin vs h rows e s v Uniform = (result_rows Uniform h.answer ++ s.more, s.is ∙ append_assoc (value_rows Uniform 0 vs) (result_rows Uniform h.answer) s.more)
 values_begin vs h rows e s v Varying = (result_rows Varying h.answer ++ v.more, v.is ∙ append_assoc (value_rows Varying 0 vs) (result_rows Varying h.answer) v.more)
 
-pub passed_first : (h : TFunction) (rows : Rows) → Begins (first_rows h.variables h.answer).scalars rows.scalars → Begins (first_rows h.variables h.answer).vectors rows.vectors → PassedFirst h (layout_of rows)
-passed_first h rows s v = record {
+pub passed_first : (h : TFunction) (rates : ℕ → List Rate) (rows : Rows) → Begins (first_rows h.variables h.answer).scalars rows.scalars → Begins (first_rows h.variables h.answer).vectors rows.vectors → PassedFirst h (layout_of rates rows)
+passed_first h rates rows s v = record {
   value = λ r y x e has.
       let b = begun r in
       let own : y ≡ 0 + y = omega arith in

@@ -18,19 +18,20 @@ is_there (x ∷ xs) (suc k) lt = is_there xs k (omega arith)
 module _ (program : Program) (code : Listing) (is : IsProgramCode program code) where
   entry_agrees : (f : ℕ) (h : TFunction) (g : Routine) → slice_get program.functions f ≡ Some h → slice_get code.routines f ≡ Some g → h.exported ≡ true → EntryAgrees program code f h g
   entry_agrees f h g eh eg ex =
-      let e = is.each f h g eh eg ex in
-      record { parameters = e.parameters; result = e.result; runs = λ xs sig short. agrees program code f h g e.layout e.place e.compiled xs sig short }
+      let own = is.compiled.each f h g eh eg in
+      let e = is.entries f h g eh eg ex in
+      record { parameters = e.parameters; result = e.result; runs = λ xs sig short. agrees program code is.compiled f h g own.layout own.numbers own.compiled e xs sig short }
 
   exports : (name : List ℕ) (f : ℕ) (h : TFunction) → meaning.IsExport program name f h → (g : Routine) × machine.IsExport code name f g × EntryAgrees program code f h g
   exports name f h x =
-      let lt : f < length code.routines = omega (arith, slice_get_within program.functions f h x.found, is.count) in
+      let lt : f < length code.routines = omega (arith, slice_get_within program.functions f h x.found, is.compiled.count) in
       let g = is_there code.routines f lt in
       let n = is.named f h g.0 x.found g.1 in
       (g.0, record { found = g.1; named = n.0 ∙ x.named; exported = n.1 ∙ x.exported }, entry_agrees f h g.0 x.found g.1 x.exported)
 
   exports_only : (name : List ℕ) (f : ℕ) (g : Routine) → machine.IsExport code name f g → (h : TFunction) × meaning.IsExport program name f h × EntryAgrees program code f h g
   exports_only name f g x =
-      let lt : f < length program.functions = omega (arith, slice_get_within code.routines f g x.found, is.count) in
+      let lt : f < length program.functions = omega (arith, slice_get_within code.routines f g x.found, is.compiled.count) in
       let h = is_there program.functions f lt in
       let n = is.named f h.0 g h.1 x.found in
       let ex : h.0.exported ≡ true = sym n.1 ∙ x.exported in

@@ -6,32 +6,32 @@ use Rattle.isp_tree.specs.Sound.{IfAny}
 use Rattle.isp_typed.specs.Fine.{FineValue, FineSimple, FineFirst, FineReturned, FineStmt, FineBlock, FineStmts}
 use Rattle.isp_typed.specs.Typed.{TFunction, TExpr, TSimple, TFirst, t_first_declare, t_first_simple, TStmt, t_block, t_declare, t_simple, t_if, t_if_else, t_while, t_do, t_for, t_foreach, t_foreach_active, t_unmasked, t_jump, t_return, t_print, t_assert, TBlock, t_braces, TStmts, t_no_stmts, t_stmt_then}
 use Rattle.isp_typed.specs.declared.variable.Variable.{Variable}
-use Rattle.isp_lower.proofs.Rated.{expr_tree, operand_tree, simple_tree, items_tree}
+use Rattle.isp_lower.proofs.Lemmas.{expr_tree, operand_tree, simple_tree, items_tree}
 use Rattle.isp_masks.specs.Rated.{AnswerRated, FirstRated, TestRated, StepRated, StmtRated, BlockRated, StmtsRated}
 use Rattle.isp_masks.proofs.Trees.{AnswerTree, FirstTree, TestTree, StepTree, StmtTree, BlockTree, StmtsTree}
 
 module _ (fs : List TFunction) (vars : List Variable) where
   -- the parts of a `for` that may be left out
-  first_tree : (o : Option TFirst) → IfAny (FineFirst fs vars) o → FirstRated o → FirstTree o
+  first_tree : (o : Option TFirst) → IfAny (FineFirst fs vars) o → FirstRated fs o → FirstTree fs o
   first_tree None f r = tt
   first_tree (Some (t_first_declare xs sp)) f r = items_tree fs vars xs f r
   first_tree (Some (t_first_simple x)) f r = simple_tree fs vars x f r
 
-  test_tree : (o : Option TExpr) → IfAny (FineValue fs vars Truth) o → TestRated o → TestTree o
+  test_tree : (o : Option TExpr) → IfAny (FineValue fs vars Truth) o → TestRated fs o → TestTree fs o
   test_tree None f r = tt
   test_tree (Some e) f r = (expr_tree fs vars e f.0 r, f.1)
 
-  step_tree : (o : Option TSimple) → IfAny (FineSimple fs vars) o → StepRated o → StepTree o
+  step_tree : (o : Option TSimple) → IfAny (FineSimple fs vars) o → StepRated fs o → StepTree fs o
   step_tree None f r = tt
   step_tree (Some x) f r = simple_tree fs vars x f r
 
-  returned_tree : (answer : Option Ty) (x : TExpr) → FineReturned fs vars answer (Some x) → AnswerRated answer x → AnswerTree answer x
+  returned_tree : (answer : Option Ty) (x : TExpr) → FineReturned fs vars answer (Some x) → AnswerRated fs answer x → AnswerTree fs answer x
   returned_tree None x f r = absurd f
   returned_tree (Some t) x f r = (operand_tree fs vars t.rate t.elem x f.1 r, expr_tree fs vars x f.0 r.1)
 
   module _ (answer : Option Ty) where
     mutual
-      pub stmt_tree : (x : TStmt) → FineStmt fs vars answer x → StmtRated answer x → StmtTree answer x
+      pub stmt_tree : (x : TStmt) → FineStmt fs vars answer x → StmtRated fs answer x → StmtTree fs answer x
       stmt_tree (t_block b) f r = block_tree b f r
       stmt_tree (t_declare xs sp) f r = items_tree fs vars xs f r
       stmt_tree (t_simple x sp) f r = simple_tree fs vars x f r
@@ -49,9 +49,9 @@ module _ (fs : List TFunction) (vars : List Variable) where
       stmt_tree (t_print k text xs sp) f r = absurd r
       stmt_tree (t_assert x k sp) f r = absurd r
 
-      pub block_tree : (b : TBlock) → FineBlock fs vars answer b → BlockRated answer b → BlockTree answer b
+      pub block_tree : (b : TBlock) → FineBlock fs vars answer b → BlockRated fs answer b → BlockTree fs answer b
       block_tree (t_braces xs sp) f r = stmts_tree xs f r
 
-      stmts_tree : (xs : TStmts) → FineStmts fs vars answer xs → StmtsRated answer xs → StmtsTree answer xs
+      stmts_tree : (xs : TStmts) → FineStmts fs vars answer xs → StmtsRated fs answer xs → StmtsTree fs answer xs
       stmts_tree t_no_stmts f r = tt
       stmts_tree (t_stmt_then x xs) f r = (stmt_tree x f.0 r.0, stmts_tree xs f.1 r.1)

@@ -11,8 +11,8 @@ use Rattle.isp_code.specs.Listing.{Routine}
 use Rattle.isp_code.specs.Registers.{class_of, if_class, param_elems, same_class}
 use Rattle.isp_code.specs.declared.function.Param.{Param}
 use Rattle.isp_code.specs.declared.instr.Instr.{Instr}
-use Rattle.isp_code.specs.declared.instr.Instr.TheVariants as instr
 use Rattle.isp_code.specs.declared.register.Class.TheVariants as class
+use Rattle.isp_lower.specs.Callees.{rates_in}
 use Rattle.isp_lower.specs.Code.{same_rate}
 use Rattle.isp_lower.specs.Emitted.{Appends, Begins, Grows, HasArray, HasRow, first_rows, result_rows, row_at, row_where, rows_of, value_row, value_rows}
 use Rattle.isp_lower.specs.Layout.{class_at}
@@ -22,7 +22,7 @@ use Rattle.isp_lower.specs.Asks.{All}
 use Rattle.isp_lower.specs.declared.registers.Registers.{Registers}
 use Rattle.isp_lower.specs.declared.types.Body.{Body}
 use Rattle.isp_lower.specs.Tables.{AnyArray}
-use Rattle.isp_lower.proofs.Growing.{all_grow}
+use Rattle.isp_lower.proofs.Lemmas.{all_grow}
 use Rattle.isp_typed.specs.Typed.{TFunction}
 use Rattle.isp_typed.specs.declared.variable.Holds.{Holds}
 use Rattle.isp_typed.specs.declared.variable.Holds.TheVariants as holds
@@ -33,7 +33,8 @@ use Rattle.isp_lower.specs.Reserved.{Has}
 use Rattle.isp_lower.specs.declared.reserve.Reserve.{Reserve}
 use Rattle.isp_masks.specs.Lowered.{AddsLowered, IsLowered}
 use Rattle.isp_masks.specs.Asks.{block_asks}
-use Rattle.isp_masks.specs.Statements.{block_code, block_places, returned}
+use Rattle.isp_masks.specs.Statements.{block_places, function_code}
+use Rattle.isp_masks.specs.Written.{numbers}
 
 -- ---- registers: those of the parameters come first
 
@@ -90,16 +91,16 @@ at_seam xs (y ∷ ys) zs = (
 
 -- ---- a routine
 
-pub lowered : (h : TFunction) (g : Routine) (z r : Registers) (a b : Body) → a.code.items ≡ [] → rows_of z ≡ first_rows h.variables h.answer → Grows z r
-    → Appends a b (λ pc p. block_code (layout_of (rows_of r)) h.answer h.body pc p 0 1 2 3 ++ instr.Return (returned (layout_of (rows_of r)) h.answer) ∷ []) (block_places (layout_of (rows_of r)) h.body)
+pub lowered : (fs : List TFunction) (h : TFunction) (g : Routine) (z r : Registers) (a b : Body) → a.code.items ≡ [] → rows_of z ≡ first_rows h.variables h.answer → Grows z r
+    → Appends a b (λ pc p. function_code (layout_of (rates_in fs) (rows_of r)) h.answer h.body pc (numbers p)) (block_places (layout_of (rates_in fs) (rows_of r)) h.body)
     → g.name ≡ h.name → g.exported ≡ h.exported → g.params ≡ params_of h.parameters h.variables → g.returns ≡ returns_of h.answer → g.locals ≡ locals_of h.variables
     → g.scalars ≡ drop (length (param_elems class.Scalar g.params)) (types_of (rows_of r).scalars)
     → g.vectors ≡ drop (length (param_elems class.Vector g.params)) (types_of (rows_of r).vectors)
-    → All (HasRow r) (HasArray r) (HasArray r) (λ k. k < g.masks) (block_asks h.answer h.body 3) → 3 ≤ g.masks → g.code ≡ b.code.items → IsLowered h g b.places.items
-lowered h g z r a b none first grows y name exported params returns locals scalars vectors present three code =
-    let l = layout_of (rows_of r) in
+    → All (HasRow r) (HasArray r) (HasArray r) (λ k. k < g.masks) (block_asks h.answer h.body 3) → 3 ≤ g.masks → g.code ≡ b.code.items → IsLowered fs h g b.places.items
+lowered fs h g z r a b none first grows y name exported params returns locals scalars vectors present three code =
+    let l = layout_of (rates_in fs) (rows_of r) in
     let rows = subst (λ (q : Rows). Begins q.scalars (rows_of r).scalars × Begins q.vectors (rows_of r).vectors × Begins q.arrays (rows_of r).arrays) first (grows.scalars, grows.vectors, grows.arrays) in
-    let part : List Instr → ℕ → List Instr = λ before p. before ++ (block_code l h.answer h.body (length before) p 0 1 2 3 ++ instr.Return (returned l h.answer) ∷ []) in
+    let part : List Instr → ℕ → List Instr = λ before p. before ++ function_code l h.answer h.body (length before) (numbers p) in
     record {
       name = name;
       exported = exported;
@@ -116,7 +117,7 @@ lowered h g z r a b none first grows y name exported params returns locals scala
           (rows.1.is ∙ append_assoc (value_rows Varying 0 h.variables) (result_rows Varying h.answer) rows.1.more) vectors;
       three = three;
       present = all_grow (HasRow r) (HasRow r) (HasArray r) AnyArray (HasArray r) AnyArray (λ k. k < g.masks) (λ k. k < g.masks) (λ q x t f. f) (λ v f. tt) (λ v f. tt) (λ k f. f) (block_asks h.answer h.body 3) present;
-      place = length a.places.items;
+      numbers = numbers (length a.places.items);
       low = let n = ap length y.places ∙ length-append a.places.items (block_places l h.body) in omega (arith, n);
       code_is = code ∙ y.code ∙ ap (λ z. part z (length a.places.items)) none;
       places_are = subst (λ z. AreAt z (length a.places.items) (block_places l h.body)) (ap (λ z. a.places.items ++ z) (append-nil (block_places l h.body)) ∙ sym y.places) (at_seam a.places.items (block_places l h.body) []);
@@ -125,16 +126,17 @@ lowered h g z r a b none first grows y name exported params returns locals scala
 -- the function at work, whose registers are reserved and whose body is written, is added
 pub adds : (h : TFunction) (old d : Draft) (z r : Reserve) (a b : Body) → d ≡ begun h old → a.code.items ≡ d.code → a.places.items ≡ d.places → rows_of z.registers ≡ d.rows → z.masks ≡ d.masks
     → Grows z.registers r.registers → z.masks ≤ r.masks → Has r (block_asks h.answer h.body 3)
-    → Appends a b (λ pc p. block_code (layout_of (rows_of r.registers)) h.answer h.body pc p 0 1 2 3 ++ instr.Return (returned (layout_of (rows_of r.registers)) h.answer) ∷ []) (block_places (layout_of (rows_of r.registers)) h.body)
+    → Appends a b (λ pc p. function_code (layout_of (rates_in d.callees) (rows_of r.registers)) h.answer h.body pc (numbers p)) (block_places (layout_of (rates_in d.callees) (rows_of r.registers)) h.body)
     → AddsLowered h old (record d { places = b.places.items; rows = rows_of r.registers; masks = r.masks; code = b.code.items })
 adds h old d z r a b is code places rows masks grows more has y =
-    let l = layout_of (rows_of r.registers) in
+    let l = layout_of (rates_in d.callees) (rows_of r.registers) in
     let three : 3 ≤ r.masks = omega (arith, more, masks ∙ ap (λ (x : Draft). x.masks) is) in
     record {
       routine = routine_with (heading_of h) (rows_of r.registers) r.masks b.code.items;
       added = ap (λ (x : Draft). x.routines ++ routine_at_work x.heading (rows_of r.registers) r.masks b.code.items) is;
       places = record { more = block_places l h.body; is = y.places ∙ ap (λ ps. ps ++ block_places l h.body) (places ∙ ap (λ (x : Draft). x.places) is) };
       gang = ap (λ (x : Draft). x.gang) is;
-      lowered = lowered h (routine_with (heading_of h) (rows_of r.registers) r.masks b.code.items) z.registers r.registers a b (code ∙ ap (λ (x : Draft). x.code) is)
-          (rows ∙ ap (λ (x : Draft). x.rows) is) grows y refl refl refl refl refl refl refl has three refl;
+      callees = ap (λ (x : Draft). x.callees) is;
+      lowered = subst (λ fs. IsLowered fs h (routine_with (heading_of h) (rows_of r.registers) r.masks b.code.items) b.places.items) (ap (λ (x : Draft). x.callees) is) (lowered d.callees h (routine_with (heading_of h) (rows_of r.registers) r.masks b.code.items) z.registers r.registers a b (code ∙ ap (λ (x : Draft). x.code) is)
+          (rows ∙ ap (λ (x : Draft). x.rows) is) grows y refl refl refl refl refl refl refl has three refl);
     }

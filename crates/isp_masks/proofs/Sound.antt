@@ -11,25 +11,21 @@ use Rattle.isp_code.specs.declared.instr.Instr.{Instr}
 use Rattle.isp_code.specs.declared.instr.Instr.TheVariants as instr
 use Rattle.isp_tree.specs.declared.stmt.Jump.{Jump}
 use Rattle.isp_tree.specs.declared.stmt.Jump.TheVariants.{Break, Continue}
-use Rattle.isp_typed.specs.Typed.{TExpr, type_of, TSimple, TFirst, t_first_declare, t_first_simple, TStmt, t_block, t_declare, t_simple, t_if, t_if_else, t_while, t_do, t_for, t_foreach, t_foreach_active, t_unmasked, t_jump, t_return, t_print, t_assert, TBlock, t_braces, TStmts, t_no_stmts, t_stmt_then}
+use Rattle.isp_typed.specs.Typed.{TExpr, type_of, TSimple, TFirst, t_first_declare, t_first_simple, TStmt, t_block, t_declare, t_simple, t_if, t_if_else, t_while, t_do, t_for, t_foreach, t_foreach_active, t_unmasked, t_jump, t_return, t_print, t_assert, TBlock, t_braces, TStmts, t_no_stmts, t_stmt_then, TFunction}
 use Rattle.isp_lower.specs.Code.{jump_off, guard, found, expr_places, expr_code}
 use Rattle.isp_lower.specs.Layout.{Layout, class_at, register}
 use Rattle.isp_masks.specs.Exits.{exits_of, all_go_on}
 use Rattle.isp_masks.specs.Fors.{first_code, step_code, first_places, step_places}
 use Rattle.isp_masks.specs.Loops.{endless_code, for_code}
 use Rattle.isp_masks.specs.Sets.{unite, leave_code, jump_code}
-use Rattle.isp_masks.specs.Statements.{rest_code, parted_code, if_code, if_else_code, answer_code, returned, stmt_places, block_places, stmts_places, stmt_code, block_code, stmts_code, function_code}
+use Rattle.isp_masks.specs.Spots.{Numbers, Spot, body_spot, first_spot, past, under}
+use Rattle.isp_masks.specs.Statements.{behind, rest_code, parted_code, if_code, if_else_code, answer_code, returned, stmt_places, block_places, stmts_places, stmt_code, block_code, stmts_code, function_code}
 use Rattle.isp_lower.specs.Code.{copy, operand, operand_of}
 use Rattle.isp_masks.specs.Asks.{part_asks, first_asks, step_asks, answer_asks, block_asks, stmt_asks, stmts_asks}
-use Rattle.isp_lower.specs.Sound.{AreSound, PartSound, IsRegister, Granted, ExprPresent}
-use Rattle.isp_lower.proofs.SoundFound.{found_there, operand_there}
-use Rattle.isp_lower.proofs.SoundLines.{sound_both, copy_sound}
-use Rattle.isp_lower.proofs.SoundParts.{here_then}
-use Rattle.isp_lower.proofs.SoundExprs.{value_sound, part_sound}
-use Rattle.isp_lower.proofs.SoundSimples.{simple_sound, items_sound}
+use Rattle.isp_lower.specs.Sound.{AreSound, Links, PartSound, IsRegister, Granted, ExprPresent}
+use Rattle.isp_lower.proofs.Lemmas.{found_there, operand_there, sound_both, copy_sound, here_then, value_sound, part_sound, simple_sound, items_sound, ExprTree}
+use Rattle.isp_masks.proofs.Combine.{part_spot}
 use Rattle.isp_masks.proofs.SoundLoops.{HereSound, guard_sound, two_sound, while_sound, for_sound, endless_sound, do_sound}
-use Rattle.isp_lower.proofs.Trees.{ExprTree}
-use Rattle.isp_lower.specs.Asks.{first_slot}
 use Rattle.isp_masks.proofs.Trees.{AnswerTree, BlockTree, FirstTree, StepTree, StmtTree, StmtsTree}
 
 module _ (code : Listing) (h : Routine) where
@@ -55,151 +51,175 @@ module _ (code : Listing) (h : Routine) where
       let e2 = length-append (rest p2) (unite k n k ∷ []) in
       ((((refl, ln), ((there, bool), ((refl, lk), tt))), tt), ((((refl, lk), ((refl, lk), ((refl, ln), tt))), tt), sound_both code h side (rest p2 ++ unite k n k ∷ []) (guard_sound code h n first ln f (pc + 1 + 1) (omega (arith, e1, e2, lt))) (sound_both code h (rest p2) (unite k n k ∷ []) (g p2 (omega (arith, e1, e2, lt))) ((((refl, lk), ((refl, ln), ((refl, lk), tt))), tt), tt))))
 
-  -- a part that may be asked for any mask and slot
-  abbrev AnySound : Rate → ℕ → (ℕ → ℕ → ℕ → List Instr) → Type 0
-  AnySound r n part = (pc m : ℕ) → m < h.masks → pc + length (part pc m (first_slot r n)) < length h.code → AreSound code h (part pc m (first_slot r n))
+  -- the three masks are there
+  abbrev HasMasks : Spot → Type 0
+  HasMasks spot = (spot.on < h.masks) × (spot.continued < h.masks) × (spot.returned < h.masks)
+
+  -- a part that may be asked for any mask
+  abbrev AnySound : Rate → Spot → (ℕ → Spot → List Instr) → Type 0
+  AnySound r spot part = (pc m : ℕ) → m < h.masks → pc + length (part pc (part_spot r m spot)) < length h.code → AreSound code h (part pc (part_spot r m spot))
 
   -- a test: a bool; a varying one has a mask
   record TestThere (l : Layout) (e : TExpr) (n : ℕ) : Type 0 where
     there : IsRegister h (type_of e).rate (found l e n) Truth
     mask : Granted h l (part_asks (type_of e).rate n)
 
-  if_sound : (l : Layout) (e : TExpr) (k n : ℕ) (first : ℕ → ℕ → ℕ → List Instr) → k < h.masks → TestThere l e n → AnySound (type_of e).rate n first → HereSound code h (λ pc. if_code (type_of e).rate (found l e n) pc k n first)
-  if_sound l e k n first lk test f = go (type_of e).rate refl test.there.0 test.there.1 test.mask f
+  if_sound : (l : Layout) (e : TExpr) (spot : Spot) (first : ℕ → Spot → List Instr) → spot.on < h.masks → TestThere l e spot.slot → AnySound (type_of e).rate spot first → HereSound code h (λ pc. if_code (type_of e).rate (found l e spot.slot) pc spot first)
+  if_sound l e spot first lk test f = go (type_of e).rate refl test.there.0 test.there.1 test.mask f
     where
-      go : (r : Rate) → (type_of e).rate ≡ r → IsThere h (class_at r) (register r (found l e n)) → elem_of h (register r (found l e n)) ≡ Truth → Granted h l (part_asks r n) → AnySound r n first → HereSound code h (λ pc. if_code r (found l e n) pc k n first)
-      go Uniform er there bool mask f pc lt = ((((there, bool), (omega arith, tt)), tt), f (pc + 1) k lk (omega arith))
-      go Varying er there bool mask f pc lt = parted_sound (found l e n) k n (λ pc1. first pc1 n (n + 1)) (λ pc1. []) lk mask.1 there bool (λ pc1 lt1. f pc1 n mask.1 lt1) (λ pc1 lt1. tt) pc lt
+      k : ℕ
+      k = spot.on
 
-  if_else_sound : (l : Layout) (e : TExpr) (k n : ℕ) (first second : ℕ → ℕ → ℕ → List Instr) → k < h.masks → TestThere l e n → AnySound (type_of e).rate n first → AnySound (type_of e).rate n second → HereSound code h (λ pc. if_else_code (type_of e).rate (found l e n) pc k n first second)
-  if_else_sound l e k n first second lk test f g = go (type_of e).rate refl test.there.0 test.there.1 test.mask f g
+      n : ℕ
+      n = spot.slot
+
+      go : (r : Rate) → (type_of e).rate ≡ r → IsThere h (class_at r) (register r (found l e n)) → elem_of h (register r (found l e n)) ≡ Truth → Granted h l (part_asks r n) → AnySound r spot first → HereSound code h (λ pc. if_code r (found l e n) pc spot first)
+      go Uniform er there bool mask f pc lt = ((((there, bool), (omega arith, tt)), tt), f (pc + 1) k lk (omega arith))
+      go Varying er there bool mask f pc lt = parted_sound (found l e n) k n (λ pc1. first pc1 (under n spot)) (λ pc1. []) lk mask.1 there bool (λ pc1 lt1. f pc1 n mask.1 lt1) (λ pc1 lt1. tt) pc lt
+
+  if_else_sound : (l : Layout) (e : TExpr) (spot : Spot) (first second : ℕ → Spot → List Instr) → spot.on < h.masks → TestThere l e spot.slot → AnySound (type_of e).rate spot first → AnySound (type_of e).rate spot second → HereSound code h (λ pc. if_else_code (type_of e).rate (found l e spot.slot) pc spot first second)
+  if_else_sound l e spot first second lk test f g = go (type_of e).rate refl test.there.0 test.there.1 test.mask f g
     where
-      go : (r : Rate) → (type_of e).rate ≡ r → IsThere h (class_at r) (register r (found l e n)) → elem_of h (register r (found l e n)) ≡ Truth → Granted h l (part_asks r n) → AnySound r n first → AnySound r n second → HereSound code h (λ pc. if_else_code r (found l e n) pc k n first second)
+      k : ℕ
+      k = spot.on
+
+      n : ℕ
+      n = spot.slot
+
+      go : (r : Rate) → (type_of e).rate ≡ r → IsThere h (class_at r) (register r (found l e n)) → elem_of h (register r (found l e n)) ≡ Truth → Granted h l (part_asks r n) → AnySound r spot first → AnySound r spot second → HereSound code h (λ pc. if_else_code r (found l e n) pc spot first second)
       go Uniform er there bool mask f g pc lt =
-          let ca = first (pc + 1) k n in
+          let ca = first (pc + 1) spot in
           let pb = pc + 1 + length ca + 1 in
-          let cb = second pb k n in
+          let cb = second pb spot in
           let e1 = length-append ca (instr.Jump (pb + length cb) ∷ cb) in
           ((((there, bool), (omega (arith, e1, lt), tt)), tt), sound_both code h ca (instr.Jump (pb + length cb) ∷ cb) (f (pc + 1) k lk (omega (arith, e1, lt))) (((omega (arith, e1, lt), tt), tt), g pb k lk (omega (arith, e1, lt))))
       go Varying er there bool mask f g pc lt =
-          parted_sound (found l e n) k n (λ pc1. first pc1 n (n + 1)) (λ pc1. guard (jump_off k) pc1 (λ pc2. second pc2 k (n + 1))) lk mask.1 there bool (λ pc1 lt1. f pc1 n mask.1 lt1) (guard_sound code h k (λ pc2. second pc2 k (n + 1)) lk (λ pc2 lt2. g pc2 k lk lt2)) pc lt
+          parted_sound (found l e n) k n (λ pc1. first pc1 (under n spot)) (λ pc1. guard (jump_off k) pc1 (λ pc2. second pc2 (under k spot))) lk mask.1 there bool (λ pc1 lt1. f pc1 n mask.1 lt1) (guard_sound code h k (λ pc2. second pc2 (under k spot)) lk (λ pc2 lt2. g pc2 k lk lt2)) pc lt
 
   -- ---- statements
 
-  module _ (l : Layout) (answer : Option Ty) where
-    test_there : (e : TExpr) (n : ℕ) → ExprTree e → (type_of e).elem ≡ Truth → ExprPresent h l e n → Granted h l (part_asks (type_of e).rate n) → TestThere l e n
-    test_there e n is bool f mask = let x = found_there h l e n is f in record { there = (x.0, x.1 ∙ bool); mask = mask }
+  module _ (fs : List TFunction) (l : Layout) (links : Links fs code l) (answer : Option Ty) where
+    test_there : (e : TExpr) (n : ℕ) → ExprTree fs e → (type_of e).elem ≡ Truth → ExprPresent h l e n → Granted h l (part_asks (type_of e).rate n) → TestThere l e n
+    test_there e n is bool f mask = let x = found_there fs h l e n is f in record { there = (x.0, x.1 ∙ bool); mask = mask }
 
     -- the parts of a `for` that may be left out
-    first_sound : (o : Option TFirst) (n : ℕ) → FirstTree o → Granted h l (first_asks o n) → PartSound code h (first_places l o) (λ pc p k. first_code l o pc p k n)
+    first_sound : (o : Option TFirst) (n : ℕ) → FirstTree fs o → Granted h l (first_asks o n) → PartSound code h (first_places l o) (λ pc p k. first_code l o pc p k n)
     first_sound None n is f pc p k lk pl lt = tt
-    first_sound (Some (t_first_declare xs sp)) n is f pc p k lk pl lt = items_sound code h l xs n is f pc p k lk pl lt
-    first_sound (Some (t_first_simple x)) n is f pc p k lk pl lt = simple_sound code h l x n is f pc p k lk pl lt
+    first_sound (Some (t_first_declare xs sp)) n is f pc p k lk pl lt = items_sound fs code h l links xs n is f pc p k lk pl lt
+    first_sound (Some (t_first_simple x)) n is f pc p k lk pl lt = simple_sound fs code h l links x n is f pc p k lk pl lt
 
-    step_sound : (o : Option TSimple) (n : ℕ) → StepTree o → Granted h l (step_asks o n) → PartSound code h (step_places l o) (λ pc p k. step_code l o pc p k n)
+    step_sound : (o : Option TSimple) (n : ℕ) → StepTree fs o → Granted h l (step_asks o n) → PartSound code h (step_places l o) (λ pc p k. step_code l o pc p k n)
     step_sound None n is f pc p k lk pl lt = tt
-    step_sound (Some x) n is f pc p k lk pl lt = simple_sound code h l x n is f pc p k lk pl lt
+    step_sound (Some x) n is f pc p k lk pl lt = simple_sound fs code h l links x n is f pc p k lk pl lt
 
     -- a value goes to the register of the result
-    answer_sound : (a : Option Ty) (x : TExpr) (pc p k n : ℕ) → AnswerTree a x → Granted h l (answer_asks a x n) → k < h.masks → p + length (expr_places l x) ≤ length code.places → pc + length (answer_code l a x pc p k n) < length h.code → AreSound code h (answer_code l a x pc p k n)
-    answer_sound None x pc p k n is f lk pl lt = value_sound code h l x n is f pc p k lk pl lt
+    answer_sound : (a : Option Ty) (x : TExpr) (pc p k n : ℕ) → AnswerTree fs a x → Granted h l (answer_asks a x n) → k < h.masks → p + length (expr_places l x) ≤ length code.places → pc + length (answer_code l a x pc p k n) < length h.code → AreSound code h (answer_code l a x pc p k n)
+    answer_sound None x pc p k n is f lk pl lt = value_sound fs code h l links x n is f pc p k lk pl lt
     answer_sound (Some t) x pc p k n is f lk pl lt =
-        here_then code h pc (operand_of l t.rate x k n (expr_code l x pc p k n)) (copy t.rate (l.result t.rate) (operand l t.rate x n) k) (part_sound code h l t.rate t.elem x pc p k n is.0 is.1 f.1 lk pl) (copy_sound code h t.rate t.elem (l.result t.rate) (operand l t.rate x n) k f.0 (operand_there h l t.rate t.elem x n is.0 is.1 f.1) lk) lt
+        here_then code h pc (operand_of l t.rate x k n (expr_code l x pc p k n)) (copy t.rate (l.result t.rate) (operand l t.rate x n) k) (part_sound fs code h l links t.rate t.elem x pc p k n is.0 is.1 f.1 lk pl) (copy_sound code h t.rate t.elem (l.result t.rate) (operand l t.rate x n) k f.0 (operand_there fs h l t.rate t.elem x n is.0 is.1 f.1) lk) lt
 
     mutual
-      pub stmt_sound : (x : TStmt) (pc p k co rr n : ℕ) → StmtTree answer x → Granted h l (stmt_asks answer x n) → k < h.masks → co < h.masks → rr < h.masks → p + length (stmt_places l x) ≤ length code.places → pc + length (stmt_code l answer x pc p k co rr n) < length h.code → AreSound code h (stmt_code l answer x pc p k co rr n)
-      stmt_sound (t_block b) pc p k co rr n is f lk lc lr pl lt = block_sound b pc p k co rr n is f lk lc lr pl lt
-      stmt_sound (t_declare xs sp) pc p k co rr n is f lk lc lr pl lt = items_sound code h l xs n is f pc p k lk pl lt
-      stmt_sound (t_simple x sp) pc p k co rr n is f lk lc lr pl lt = simple_sound code h l x n is f pc p k lk pl lt
-      stmt_sound (t_if b g e x sp) pc p k co rr n is f lk lc lr pl lt =
-          let ce = expr_code l e pc p k n in
+      pub stmt_sound : (x : TStmt) (pc : ℕ) (z : Numbers) (spot : Spot) → StmtTree fs answer x → Granted h l (stmt_asks answer x spot.slot) → HasMasks spot → z.place + length (stmt_places l x) ≤ length code.places → pc + length (stmt_code l answer x pc z spot) < length h.code → AreSound code h (stmt_code l answer x pc z spot)
+      stmt_sound (t_block b) pc z spot is f lm pl lt = block_sound b pc z spot is f lm pl lt
+      stmt_sound (t_declare xs sp) pc z spot is f lm pl lt = items_sound fs code h l links xs spot.slot is f pc z.place spot.on lm.0 pl lt
+      stmt_sound (t_simple x sp) pc z spot is f lm pl lt = simple_sound fs code h l links x spot.slot is f pc z.place spot.on lm.0 pl lt
+      stmt_sound (t_if b g e x sp) pc z spot is f lm pl lt =
+          let n = spot.slot in
+          let ce = expr_code l e pc z.place spot.on n in
           let pe = expr_places l e in
-          let part = λ (pc2 m i : ℕ). stmt_code l answer x pc2 (p + length pe) m co rr i in
-          let rest = if_code (type_of e).rate (found l e n) (pc + length ce) k n part in
+          let z1 = past pe z in
+          let part = λ (pc2 : ℕ) (at : Spot). stmt_code l answer x pc2 z1 at in
+          let rest = if_code (type_of e).rate (found l e n) (pc + length ce) spot part in
           let e1 = length-append ce rest in
           let e2 = length-append pe (stmt_places l x) in
-          sound_both code h ce rest (value_sound code h l e n is.0 f.0 pc p k lk (omega (arith, e2, pl)) (omega (arith, e1, lt))) (if_sound l e k n part lk (test_there e n is.0 is.2 f.0 f.1.0) (λ pc2 m lm lt2. stmt_sound x pc2 (p + length pe) m co rr (first_slot (type_of e).rate n) is.1 f.1.1 lm lc lr (omega (arith, e2, pl)) lt2) (pc + length ce) (omega (arith, e1, lt)))
-      stmt_sound (t_if_else b g e x y sp) pc p k co rr n is f lk lc lr pl lt =
-          let ce = expr_code l e pc p k n in
+          sound_both code h ce rest (value_sound fs code h l links e n is.0 f.0 pc z.place spot.on lm.0 (omega (arith, e2, pl)) (omega (arith, e1, lt))) (if_sound l e spot part lm.0 (test_there e n is.0 is.2 f.0 f.1.0) (λ pc2 m low lt2. stmt_sound x pc2 z1 (part_spot (type_of e).rate m spot) is.1 f.1.1 (low, lm.1, lm.2) (omega (arith, e2, pl)) lt2) (pc + length ce) (omega (arith, e1, lt)))
+      stmt_sound (t_if_else b g e x y sp) pc z spot is f lm pl lt =
+          let n = spot.slot in
+          let ce = expr_code l e pc z.place spot.on n in
           let pe = expr_places l e in
           let px = stmt_places l x in
-          let part = λ (pc2 m i : ℕ). stmt_code l answer x pc2 (p + length pe) m co rr i in
-          let other = λ (pc2 m i : ℕ). stmt_code l answer y pc2 (p + length pe + length px) m co rr i in
-          let rest = if_else_code (type_of e).rate (found l e n) (pc + length ce) k n part other in
+          let z1 = past pe z in
+          let part = λ (pc2 : ℕ) (at : Spot). stmt_code l answer x pc2 z1 at in
+          let other = λ (pc2 : ℕ) (at : Spot). stmt_code l answer y pc2 (behind l x z1) at in
+          let rest = if_else_code (type_of e).rate (found l e n) (pc + length ce) spot part other in
           let e1 = length-append ce rest in
           let e2 = length-append pe (px ++ stmt_places l y) in
           let e3 = length-append px (stmt_places l y) in
-          sound_both code h ce rest (value_sound code h l e n is.0 f.0 pc p k lk (omega (arith, e2, pl)) (omega (arith, e1, lt))) (if_else_sound l e k n part other lk (test_there e n is.0 is.3 f.0 f.1.0) (λ pc2 m lm lt2. stmt_sound x pc2 (p + length pe) m co rr (first_slot (type_of e).rate n) is.1 f.1.1.0 lm lc lr (omega (arith, e2, e3, pl)) lt2) (λ pc2 m lm lt2. stmt_sound y pc2 (p + length pe + length px) m co rr (first_slot (type_of e).rate n) is.2 f.1.1.1 lm lc lr (omega (arith, e2, e3, pl)) lt2) (pc + length ce) (omega (arith, e1, lt)))
-      stmt_sound (t_while b g e x sp) pc p k co rr n is f lk lc lr pl lt =
+          sound_both code h ce rest (value_sound fs code h l links e n is.0 f.0 pc z.place spot.on lm.0 (omega (arith, e2, pl)) (omega (arith, e1, lt))) (if_else_sound l e spot part other lm.0 (test_there e n is.0 is.3 f.0 f.1.0) (λ pc2 m low lt2. stmt_sound x pc2 z1 (part_spot (type_of e).rate m spot) is.1 f.1.1.0 (low, lm.1, lm.2) (omega (arith, e2, e3, pl)) lt2) (λ pc2 m low lt2. stmt_sound y pc2 (behind l x z1) (part_spot (type_of e).rate m spot) is.2 f.1.1.1 (low, lm.1, lm.2) (omega (arith, e2, e3, pl)) lt2) (pc + length ce) (omega (arith, e1, lt)))
+      stmt_sound (t_while b g e x sp) pc z spot is f lm pl lt =
           let pe = expr_places l e in
           let e2 = length-append pe (stmt_places l x) in
-          let own = f.0.1 in
-          let test = found_there h l e (n + 3) is.0.0 f.1.0 in
-          while_sound code h (exits_of x) k rr n lk lr own.0 own.1.0 own.1.1 (type_of e).rate (found l e (n + 3)) (λ pc1. expr_code l e pc1 p n (n + 3)) (λ pc1. stmt_code l answer x pc1 (p + length pe) n (n + 1) (n + 2) (n + 3)) test.0 (test.1 ∙ is.0.1)
-          (λ pc1 lt1. value_sound code h l e (n + 3) is.0.0 f.1.0 pc1 p n own.0 (omega (arith, e2, pl)) lt1) (λ pc1 lt1. stmt_sound x pc1 (p + length pe) n (n + 1) (n + 2) (n + 3) is.1 f.1.1 own.0 own.1.0 own.1.1 (omega (arith, e2, pl)) lt1) pc lt
-      stmt_sound (t_do b g x e sp) pc p k co rr n is f lk lc lr pl lt =
+          let n = spot.slot in
+          let own : HasMasks (body_spot n) = (f.0.1.0, f.0.1.1.0, f.0.1.1.1) in
+          let test = found_there fs h l e (n + 3) is.0.0 f.1.0 in
+          while_sound code h (exits_of x) spot lm.0 lm.2 own (type_of e).rate (found l e (n + 3)) (λ pc1. expr_code l e pc1 z.place n (n + 3)) (λ pc1. stmt_code l answer x pc1 (past pe z) (body_spot n)) test.0 (test.1 ∙ is.0.1)
+          (λ pc1 lt1. value_sound fs code h l links e (n + 3) is.0.0 f.1.0 pc1 z.place n own.0 (omega (arith, e2, pl)) lt1) (λ pc1 lt1. stmt_sound x pc1 (past pe z) (body_spot n) is.1 f.1.1 own (omega (arith, e2, pl)) lt1) pc lt
+      stmt_sound (t_do b g x e sp) pc z spot is f lm pl lt =
           let px = stmt_places l x in
           let e2 = length-append px (expr_places l e) in
-          let own = f.0.1 in
-          let test = found_there h l e (n + 3) is.0.0 f.1.1 in
-          do_sound code h (exits_of x) k rr n lk lr own.0 own.1.0 own.1.1 (type_of e).rate (found l e (n + 3)) (λ pc1. expr_code l e pc1 (p + length px) n (n + 3)) (λ pc1. stmt_code l answer x pc1 p n (n + 1) (n + 2) (n + 3)) test.0 (test.1 ∙ is.0.1)
-          (λ pc1 lt1. value_sound code h l e (n + 3) is.0.0 f.1.1 pc1 (p + length px) n own.0 (omega (arith, e2, pl)) lt1) (λ pc1 lt1. stmt_sound x pc1 p n (n + 1) (n + 2) (n + 3) is.1 f.1.0 own.0 own.1.0 own.1.1 (omega (arith, e2, pl)) lt1) pc lt
-      stmt_sound (t_for b g first None step i x sp) pc p k co rr n is f lk lc lr pl lt =
+          let n = spot.slot in
+          let own : HasMasks (body_spot n) = (f.0.1.0, f.0.1.1.0, f.0.1.1.1) in
+          let test = found_there fs h l e (n + 3) is.0.0 f.1.1 in
+          do_sound code h (exits_of x) spot lm.0 lm.2 own (type_of e).rate (found l e (n + 3)) (λ pc1. expr_code l e pc1 (behind l x z).place n (n + 3)) (λ pc1. stmt_code l answer x pc1 z (body_spot n)) test.0 (test.1 ∙ is.0.1)
+          (λ pc1 lt1. value_sound fs code h l links e (n + 3) is.0.0 f.1.1 pc1 (z.place + length px) n own.0 (omega (arith, e2, pl)) lt1) (λ pc1 lt1. stmt_sound x pc1 z (body_spot n) is.1 f.1.0 own (omega (arith, e2, pl)) lt1) pc lt
+      stmt_sound (t_for b g first None step i x sp) pc z spot is f lm pl lt =
           let pf = first_places l first in
           let px = stmt_places l x in
-          let p1 = p + length pf in
+          let z1 = past pf z in
           let e1 = length-append pf (px ++ step_places l step) in
           let e2 = length-append px (step_places l step) in
-          let own = f.1.0.1 in
-          let body = λ (pc1 : ℕ). stmt_code l answer x pc1 p1 n (n + 1) (n + 2) (n + 3) in
-          let stepping = λ (pc1 : ℕ). step_code l step pc1 (p1 + length px) n (n + 3) in
-          two_sound code h (λ pc1. first_code l first pc1 p k n) (λ pc1. endless_code (exits_of x) pc1 k rr n body stepping) (λ pc1 lt1. first_sound first n is.0 f.0 pc1 p k lk (omega (arith, e1, pl)) lt1)
-          (endless_sound code h (exits_of x) k rr n lk lr own.0 own.1.0 own.1.1 body stepping (λ pc1 lt1. stmt_sound x pc1 p1 n (n + 1) (n + 2) (n + 3) is.3 f.1.1.1.1 own.0 own.1.0 own.1.1 (omega (arith, e1, e2, pl)) lt1) (λ pc1 lt1. step_sound step (n + 3) is.2 f.1.1.1.0 pc1 (p1 + length px) n own.0 (omega (arith, e1, e2, pl)) lt1)) pc lt
-      stmt_sound (t_for b g first (Some e) step i x sp) pc p k co rr n is f lk lc lr pl lt =
+          let n = spot.slot in
+          let own : HasMasks (body_spot n) = (f.1.0.1.0, f.1.0.1.1.0, f.1.0.1.1.1) in
+          let body = λ (pc1 : ℕ). stmt_code l answer x pc1 z1 (body_spot n) in
+          let stepping = λ (pc1 : ℕ). step_code l step pc1 (z1.place + length px) n (n + 3) in
+          two_sound code h (λ pc1. first_code l first pc1 z.place spot.on n) (λ pc1. endless_code (exits_of x) pc1 spot body stepping) (λ pc1 lt1. first_sound first n is.0 f.0 pc1 z.place spot.on lm.0 (omega (arith, e1, pl)) lt1)
+          (endless_sound code h (exits_of x) spot lm.0 lm.2 own body stepping (λ pc1 lt1. stmt_sound x pc1 z1 (body_spot n) is.3 f.1.1.1.1 own (omega (arith, e1, e2, pl)) lt1) (λ pc1 lt1. step_sound step (n + 3) is.2 f.1.1.1.0 pc1 (z1.place + length px) n own.0 (omega (arith, e1, e2, pl)) lt1)) pc lt
+      stmt_sound (t_for b g first (Some e) step i x sp) pc z spot is f lm pl lt =
           let pf = first_places l first in
           let pe = expr_places l e in
           let px = stmt_places l x in
-          let p1 = p + length pf in
-          let p2 = p1 + length pe in
+          let z1 = past pf z in
+          let z2 = past pe z1 in
           let e1 = length-append pf (pe ++ (px ++ step_places l step)) in
           let e2 = length-append pe (px ++ step_places l step) in
           let e3 = length-append px (step_places l step) in
-          let own = f.1.0.1 in
-          let test = found_there h l e (n + 3) is.1.0 f.1.1.0 in
-          let tests = λ (pc1 : ℕ). expr_code l e pc1 p1 n (n + 3) in
-          let body = λ (pc1 : ℕ). stmt_code l answer x pc1 p2 n (n + 1) (n + 2) (n + 3) in
-          let stepping = λ (pc1 : ℕ). step_code l step pc1 (p2 + length px) n (n + 3) in
-          two_sound code h (λ pc1. first_code l first pc1 p k n) (λ pc1. for_code (exits_of x) (type_of e).rate (found l e (n + 3)) pc1 k rr n tests body stepping) (λ pc1 lt1. first_sound first n is.0 f.0 pc1 p k lk (omega (arith, e1, pl)) lt1)
-          (for_sound code h (exits_of x) k rr n lk lr own.0 own.1.0 own.1.1 (type_of e).rate (found l e (n + 3)) tests body test.0 (test.1 ∙ is.1.1) (λ pc1 lt1. value_sound code h l e (n + 3) is.1.0 f.1.1.0 pc1 p1 n own.0 (omega (arith, e1, e2, pl)) lt1) (λ pc1 lt1. stmt_sound x pc1 p2 n (n + 1) (n + 2) (n + 3) is.3 f.1.1.1.1 own.0 own.1.0 own.1.1 (omega (arith, e1, e2, e3, pl)) lt1) stepping (λ pc1 lt1. step_sound step (n + 3) is.2 f.1.1.1.0 pc1 (p2 + length px) n own.0 (omega (arith, e1, e2, e3, pl)) lt1)) pc lt
-      stmt_sound (t_foreach w g rs x sp) pc p k co rr n is f lk lc lr pl lt = absurd is
-      stmt_sound (t_foreach_active w g i x sp) pc p k co rr n is f lk lc lr pl lt = absurd is
-      stmt_sound (t_unmasked w b sp) pc p k co rr n is f lk lc lr pl lt = absurd is
-      stmt_sound (t_jump j w sp) pc p k co rr n is f lk lc lr pl lt = jump_sound j k co lk lc
-      stmt_sound (t_return w None sp) pc p k co rr n is f lk lc lr pl lt = leave_sound rr k lr lk
-      stmt_sound (t_return w (Some x) sp) pc p k co rr n is f lk lc lr pl lt =
-          let ca = answer_code l answer x pc p k n in
-          sound_both code h ca (leave_code rr k) (answer_sound answer x pc p k n is f lk pl (omega (arith, length-append ca (leave_code rr k), lt))) (leave_sound rr k lr lk)
-      stmt_sound (t_print w text xs sp) pc p k co rr n is f lk lc lr pl lt = absurd is
-      stmt_sound (t_assert x c sp) pc p k co rr n is f lk lc lr pl lt = absurd is
+          let n = spot.slot in
+          let own : HasMasks (body_spot n) = (f.1.0.1.0, f.1.0.1.1.0, f.1.0.1.1.1) in
+          let test = found_there fs h l e (n + 3) is.1.0 f.1.1.0 in
+          let tests = λ (pc1 : ℕ). expr_code l e pc1 z1.place n (n + 3) in
+          let body = λ (pc1 : ℕ). stmt_code l answer x pc1 z2 (body_spot n) in
+          let stepping = λ (pc1 : ℕ). step_code l step pc1 (z2.place + length px) n (n + 3) in
+          two_sound code h (λ pc1. first_code l first pc1 z.place spot.on n) (λ pc1. for_code (exits_of x) (type_of e).rate (found l e (n + 3)) pc1 spot tests body stepping) (λ pc1 lt1. first_sound first n is.0 f.0 pc1 z.place spot.on lm.0 (omega (arith, e1, pl)) lt1)
+          (for_sound code h (exits_of x) spot lm.0 lm.2 own (type_of e).rate (found l e (n + 3)) tests body test.0 (test.1 ∙ is.1.1) (λ pc1 lt1. value_sound fs code h l links e (n + 3) is.1.0 f.1.1.0 pc1 z1.place n own.0 (omega (arith, e1, e2, pl)) lt1) (λ pc1 lt1. stmt_sound x pc1 z2 (body_spot n) is.3 f.1.1.1.1 own (omega (arith, e1, e2, e3, pl)) lt1) stepping (λ pc1 lt1. step_sound step (n + 3) is.2 f.1.1.1.0 pc1 (z2.place + length px) n own.0 (omega (arith, e1, e2, e3, pl)) lt1)) pc lt
+      stmt_sound (t_foreach w g rs x sp) pc z spot is f lm pl lt = absurd is
+      stmt_sound (t_foreach_active w g i x sp) pc z spot is f lm pl lt = absurd is
+      stmt_sound (t_unmasked w b sp) pc z spot is f lm pl lt = absurd is
+      stmt_sound (t_jump j w sp) pc z spot is f lm pl lt = jump_sound j spot.on spot.continued lm.0 lm.1
+      stmt_sound (t_return w None sp) pc z spot is f lm pl lt = leave_sound spot.returned spot.on lm.2 lm.0
+      stmt_sound (t_return w (Some x) sp) pc z spot is f lm pl lt =
+          let ca = answer_code l answer x pc z.place spot.on spot.slot in
+          sound_both code h ca (leave_code spot.returned spot.on) (answer_sound answer x pc z.place spot.on spot.slot is f lm.0 pl (omega (arith, length-append ca (leave_code spot.returned spot.on), lt))) (leave_sound spot.returned spot.on lm.2 lm.0)
+      stmt_sound (t_print w text xs sp) pc z spot is f lm pl lt = absurd is
+      stmt_sound (t_assert x c sp) pc z spot is f lm pl lt = absurd is
 
-      pub block_sound : (x : TBlock) (pc p k co rr n : ℕ) → BlockTree answer x → Granted h l (block_asks answer x n) → k < h.masks → co < h.masks → rr < h.masks → p + length (block_places l x) ≤ length code.places → pc + length (block_code l answer x pc p k co rr n) < length h.code → AreSound code h (block_code l answer x pc p k co rr n)
-      block_sound (t_braces xs sp) pc p k co rr n is f lk lc lr pl lt = stmts_sound xs pc p k co rr n is f lk lc lr pl lt
+      pub block_sound : (x : TBlock) (pc : ℕ) (z : Numbers) (spot : Spot) → BlockTree fs answer x → Granted h l (block_asks answer x spot.slot) → HasMasks spot → z.place + length (block_places l x) ≤ length code.places → pc + length (block_code l answer x pc z spot) < length h.code → AreSound code h (block_code l answer x pc z spot)
+      block_sound (t_braces xs sp) pc z spot is f lm pl lt = stmts_sound xs pc z spot is f lm pl lt
 
-      pub stmts_sound : (xs : TStmts) (pc p k co rr n : ℕ) → StmtsTree answer xs → Granted h l (stmts_asks answer xs n) → k < h.masks → co < h.masks → rr < h.masks → p + length (stmts_places l xs) ≤ length code.places → pc + length (stmts_code l answer xs pc p k co rr n) < length h.code → AreSound code h (stmts_code l answer xs pc p k co rr n)
-      stmts_sound t_no_stmts pc p k co rr n is f lk lc lr pl lt = tt
-      stmts_sound (t_stmt_then x xs) pc p k co rr n is f lk lc lr pl lt =
-          let ca = stmt_code l answer x pc p k co rr n in
+      pub stmts_sound : (xs : TStmts) (pc : ℕ) (z : Numbers) (spot : Spot) → StmtsTree fs answer xs → Granted h l (stmts_asks answer xs spot.slot) → HasMasks spot → z.place + length (stmts_places l xs) ≤ length code.places → pc + length (stmts_code l answer xs pc z spot) < length h.code → AreSound code h (stmts_code l answer xs pc z spot)
+      stmts_sound t_no_stmts pc z spot is f lm pl lt = tt
+      stmts_sound (t_stmt_then x xs) pc z spot is f lm pl lt =
+          let ca = stmt_code l answer x pc z spot in
           let px = stmt_places l x in
-          let part = λ (pc2 : ℕ). stmts_code l answer xs pc2 (p + length px) k co rr n in
-          let rest = rest_code (all_go_on x) xs k (pc + length ca) part in
+          let part = λ (pc2 : ℕ). stmts_code l answer xs pc2 (behind l x z) spot in
+          let rest = rest_code (all_go_on x) xs spot.on (pc + length ca) part in
           let e1 = length-append ca rest in
           let e2 = length-append px (stmts_places l xs) in
-          sound_both code h ca rest (stmt_sound x pc p k co rr n is.0 f.0 lk lc lr (omega (arith, e2, pl)) (omega (arith, e1, lt))) (rest_sound (all_go_on x) xs k part lk (λ pc2 lt2. stmts_sound xs pc2 (p + length px) k co rr n is.1 f.1 lk lc lr (omega (arith, e2, pl)) lt2) (pc + length ca) (omega (arith, e1, lt)))
+          sound_both code h ca rest (stmt_sound x pc z spot is.0 f.0 lm (omega (arith, e2, pl)) (omega (arith, e1, lt))) (rest_sound (all_go_on x) xs spot.on part lm.0 (λ pc2 lt2. stmts_sound xs pc2 (behind l x z) spot is.1 f.1 lm (omega (arith, e2, pl)) lt2) (pc + length ca) (omega (arith, e1, lt)))
 
 -- a whole function: its body, and the return
-pub function_sound : (code : Listing) (h : Routine) (l : Layout) (answer : Option Ty) (b : TBlock) (p : ℕ) → h.code ≡ function_code l answer b p → BlockTree answer b → Granted h l (block_asks answer b 3) → 3 ≤ h.masks → p + length (block_places l b) ≤ length code.places → IsGiven h h.returns (returned l answer) → AreSound code h h.code
-function_sound code h l answer b p is tree body masks places given =
-    let cb = block_code l answer b 0 p 0 1 2 3 in
+pub function_sound : (fs : List TFunction) (code : Listing) (h : Routine) (l : Layout) → Links fs code l → (answer : Option Ty) (b : TBlock) (z : Numbers) → h.code ≡ function_code l answer b 0 z → BlockTree fs answer b → Granted h l (block_asks answer b 3) → 3 ≤ h.masks → z.place + length (block_places l b) ≤ length code.places → IsGiven h h.returns (returned l answer) → AreSound code h h.code
+function_sound fs code h l links answer b z is tree body masks places given =
+    let cb = block_code l answer b 0 z first_spot in
     let last = instr.Return (returned l answer) ∷ [] in
     let size : length h.code ≡ length cb + 1 = ap length is ∙ length-append cb last in
-    subst (AreSound code h) (sym is) (sound_both code h cb last (block_sound code h l answer b 0 p 0 1 2 3 tree body (omega (arith, masks)) (omega (arith, masks)) (omega (arith, masks)) places (omega (arith, size))) (((given, tt), tt), tt))
+    subst (AreSound code h) (sym is) (sound_both code h cb last (block_sound code h fs l links answer b 0 z first_spot tree body (omega (arith, masks), omega (arith, masks), omega (arith, masks)) places (omega (arith, size))) (((given, tt), tt), tt))

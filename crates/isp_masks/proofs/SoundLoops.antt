@@ -11,10 +11,11 @@ use Rattle.isp_code.specs.declared.instr.Instr.TheVariants as instr
 use Rattle.isp_lower.specs.Code.{the_others, jump_off, two, guard}
 use Rattle.isp_lower.specs.Layout.{class_at, register}
 use Rattle.isp_lower.specs.Sound.{AreSound}
-use Rattle.isp_lower.proofs.SoundLines.{sound_both}
+use Rattle.isp_lower.proofs.Lemmas.{sound_both}
 use Rattle.isp_masks.specs.Exits.{nobody_leaves}
 use Rattle.isp_masks.specs.Loops.{if_needed, enter_code, loop_end_code, turn_code, back_code, sift_code, live_code, again_code, while_code, for_code, endless_code, do_code}
 use Rattle.isp_masks.specs.Sets.{unite, clear_mask}
+use Rattle.isp_masks.specs.Spots.{Spot}
 use Rattle.isp_masks.specs.declared.exits.Exits.{Exits}
 
 module _ (code : Listing) (h : Routine) where
@@ -34,7 +35,26 @@ module _ (code : Listing) (h : Routine) where
   needed_sound true part f = f
   needed_sound false part f = tt
 
-  module _ (e : Exits) (k rr n : ℕ) (lk : k < h.masks) (lr : rr < h.masks) (live : n < h.masks) (continued : n + 1 < h.masks) (returned : n + 2 < h.masks) where
+  module _ (e : Exits) (spot : Spot) (lk : spot.on < h.masks) (lr : spot.returned < h.masks) (own : (spot.slot < h.masks) × (spot.slot + 1 < h.masks) × (spot.slot + 2 < h.masks)) where
+    -- the masks of the whole, and those of the loop
+    abbrev k : ℕ
+    k = spot.on
+
+    abbrev rr : ℕ
+    rr = spot.returned
+
+    abbrev n : ℕ
+    n = spot.slot
+
+    live : n < h.masks
+    live = own.0
+
+    continued : n + 1 < h.masks
+    continued = own.1
+
+    returned : n + 2 < h.masks
+    returned = own.2
+
     -- ---- what all loops have
 
     enter_sound : AreSound code h (enter_code e k n)
@@ -102,7 +122,7 @@ module _ (code : Listing) (h : Routine) where
 
     -- ---- the loops
 
-    pub endless_sound : (body step : ℕ → List Instr) → HereSound body → HereSound step → HereSound (λ pc. endless_code e pc k rr n body step)
+    pub endless_sound : (body step : ℕ → List Instr) → HereSound body → HereSound step → HereSound (λ pc. endless_code e pc spot body step)
     endless_sound body step fb fs =
         looped (λ top. two top (turn_code e top n body) (behind top step)) (λ top lt lt1. two_sound (λ pc. turn_code e pc n body) (behind top step) (turn_sound body fb) (behind_sound top step lt fs) top lt1)
 
@@ -111,16 +131,16 @@ module _ (code : Listing) (h : Routine) where
       passed_sound : (rest : ℕ → List Instr) → HereSound rest → HereSound (λ pc. two pc (test pc) (λ pc1. sift_code r x pc1 n rest))
       passed_sound rest f = two_sound test (λ pc1. sift_code r x pc1 n rest) ft (sift_sound r x there bool rest f)
 
-      pub while_sound : HereSound (λ pc. while_code e r x pc k rr n test body)
+      pub while_sound : HereSound (λ pc. while_code e r x pc spot test body)
       while_sound =
           let back = λ (top : ℕ). back_code (nobody_leaves e) n top ∷ [] in
           looped (λ top. two top (test top) (λ pc1. sift_code r x pc1 n (λ pc2. two pc2 (turn_code e pc2 n body) (λ pc3. back top)))) (λ top lt lt1. passed_sound (λ pc2. two pc2 (turn_code e pc2 n body) (λ pc3. back top)) (two_sound (λ pc2. turn_code e pc2 n body) (λ pc3. back top) (turn_sound body fb) (λ pc3 lt3. back_sound (nobody_leaves e) top lt)) top lt1)
 
-      pub for_sound : (step : ℕ → List Instr) → HereSound step → HereSound (λ pc. for_code e r x pc k rr n test body step)
+      pub for_sound : (step : ℕ → List Instr) → HereSound step → HereSound (λ pc. for_code e r x pc spot test body step)
       for_sound step fs =
           looped (λ top. two top (test top) (λ pc1. sift_code r x pc1 n (λ pc2. two pc2 (turn_code e pc2 n body) (behind top step)))) (λ top lt lt1. passed_sound (λ pc2. two pc2 (turn_code e pc2 n body) (behind top step)) (two_sound (λ pc2. turn_code e pc2 n body) (behind top step) (turn_sound body fb) (behind_sound top step lt fs)) top lt1)
 
-      pub do_sound : HereSound (λ pc. do_code e r x pc k rr n test body)
+      pub do_sound : HereSound (λ pc. do_code e r x pc spot test body)
       do_sound =
           let again = λ (top pc1 : ℕ). live_code (nobody_leaves e) n pc1 (λ pc2. test pc2 ++ again_code r x n top) in
           looped (λ top. two top (turn_code e top n body) (again top)) (λ top lt lt1. two_sound (λ pc. turn_code e pc n body) (again top) (turn_sound body fb) (live_sound (nobody_leaves e) (λ pc2. test pc2 ++ again_code r x n top) (two_sound test (λ pc3. again_code r x n top) ft (λ pc3 lt3. again_sound r x there bool top lt))) top lt1)

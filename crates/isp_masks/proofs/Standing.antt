@@ -6,6 +6,7 @@ use Rattle.std.proofs.lemmas.Bool.{ne_eqb}
 use Rattle.std.proofs.lemmas.Option.{same_Some, get_or_from_slice_get, slice_get_within}
 use Rattle.isp_base.specs.declared.signature.Parameter.{Parameter}
 use Rattle.isp_base.specs.declared.types.Elem.{Elem}
+use Rattle.isp_base.specs.declared.types.Rate.{Rate}
 use Rattle.isp_base.specs.declared.types.Ty.{Ty}
 use Rattle.isp_code.specs.Entries.{is_array, parameter_of, parameters_of}
 use Rattle.isp_code.specs.Listing.{Routine}
@@ -130,9 +131,9 @@ local_at (suc n) (p ∷ ps) (w ∷ vs) more k (suc v) y x t m ey a d e h =
         other_row k y (array_count ps + local_count (take v vs)) u (array_rows (suc k) vs ++ more) (omega (arith, ey)) ih ∙ step ∙ ap (λ z. array_then z (array_count ps) + local_count (take v vs)) (sym i.0)
     go (holds.Local u j) i ih = absurd i
 
-pub arrays_stand : (fs : List TFunction) (h : TFunction) (g : Routine) (rows : Rows) → FineFunction fs h → parameters_of g ≡ h.parameters → g.locals ≡ locals_of h.variables → Begins (array_rows 0 h.variables) rows.arrays
-    → ArraysStand h g (layout_of rows)
-arrays_stand fs h g rows fine made locals b = record {
+pub arrays_stand : (fs : List TFunction) (h : TFunction) (g : Routine) (rates : ℕ → List Rate) (rows : Rows) → FineFunction fs h → parameters_of g ≡ h.parameters → g.locals ≡ locals_of h.variables → Begins (array_rows 0 h.variables) rows.arrays
+    → ArraysStand h g (layout_of rates rows)
+arrays_stand fs h g rates rows fine made locals b = record {
   passed_is = many;
   locals_are = locals;
   given = λ v x t e k.

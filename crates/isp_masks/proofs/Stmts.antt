@@ -12,91 +12,89 @@ use Rattle.isp_meaning.specs.Outcomes.{Res, went_all, with_value, unless_empty}
 use Rattle.isp_meaning.specs.Expressions.{value}
 use Rattle.isp_meaning.specs.Statements.{branches, run, block, run_all}
 use Rattle.isp_lower.specs.Code.{found, expr_places, expr_code}
-use Rattle.isp_lower.specs.Runs.{Enters, Ok}
+use Rattle.isp_lower.specs.Runs.{Ok}
 use Rattle.isp_lower.specs.Setting.{Setting, IsSettled, gang_of, calls_of, AreAt, Holds}
-use Rattle.isp_lower.proofs.Base.{are_front, are_back, comes_none, at_to, spares_all}
-use Rattle.isp_lower.proofs.Exprs.{expr_runs}
-use Rattle.isp_lower.proofs.Found.{few}
-use Rattle.isp_lower.proofs.Nodes.{enters_less, enters_part}
-use Rattle.isp_masks.specs.Statements.{rest_code, if_code, if_else_code, stmt_places, block_places, stmts_places, stmt_code, block_code, stmts_code}
+use Rattle.isp_lower.proofs.Lemmas.{are_front, are_back, comes_none, at_to, spares_all, expr_runs, few, enters_less, enters_part, items_run, simple_runs, ExprParts}
+use Rattle.isp_masks.specs.Named.{AllNamed, BlockNamed, Named}
+use Rattle.isp_masks.specs.Spots.{Numbers, Spot, past}
+use Rattle.isp_masks.specs.Statements.{behind, rest_code, if_code, if_else_code, stmt_places, stmt_code, block_code, stmts_code, stmt_texts}
 use Rattle.isp_masks.specs.Exits.{either_leaves, exits_of, block_exits, nobody_leaves, all_go_on}
-use Rattle.isp_masks.specs.StmtRuns.{AreThree, aside, StmtRuns}
-use Rattle.isp_masks.proofs.Combine.{stmt_after, stmt_less, with_runs, all_runs, plain_ok}
+use Rattle.isp_masks.specs.StmtRuns.{AreThree, aside, EntersAt, StmtRuns}
+use Rattle.isp_masks.proofs.Combine.{part_spot, stmt_after, stmt_less, with_runs, all_runs, plain_ok}
 use Rattle.isp_masks.proofs.Choices.{if_runs, if_else_runs}
-use Rattle.isp_lower.proofs.Items.{items_run}
-use Rattle.isp_lower.proofs.Updates.{simple_runs}
 use Rattle.isp_masks.proofs.Members.{went_inside, went_whole}
 use Rattle.isp_masks.proofs.LoopStmts.{while_runs, do_runs, for_runs}
 use Rattle.isp_masks.proofs.Leaves.{jump_runs, return_ok, return_runs}
+use Rattle.isp_masks.proofs.Names.{named_back, named_front, named_past}
 use Rattle.isp_masks.proofs.Sequences.{set_aside, rest_runs, then_runs}
-use Rattle.isp_lower.proofs.Parts.{ExprParts}
-use Rattle.isp_lower.specs.Asks.{first_slot}
 use Rattle.isp_masks.proofs.Parts.{BlockParts, StmtParts, StmtsParts}
 
 module _ (w : Setting) (ready : IsSettled w) where
   -- a test, and what follows it for the same set
-  tested_runs : (e : TExpr) (pc p k co rr n q : ℕ) (a : Mask) (s : State) (c : Conf) (code : ℕ → List Instr) (go : Payload → State → Res) → ExprParts w e n → AreAt w.routine.code pc (expr_code w.layout e pc p k n ++ code (pc + length (expr_code w.layout e pc p k n))) → AreAt w.code.places p (expr_places w.layout e) → AreThree k co rr n → Enters w pc k n a s c q → ((m : Payload) (s1 : State) (ok : Ok w c (pc + length (expr_code w.layout e pc p k n)) n (5 + (1 + q)) (Holds (type_of e).rate a (found w.layout e n) m) s1) → StmtRuns w w.turns ok.conf (pc + length (expr_code w.layout e pc p k n) + length (code (pc + length (expr_code w.layout e pc p k n)))) k co rr n (ok.steps + (1 + q)) (go m s1)) → StmtRuns w w.turns c (pc + length (expr_code w.layout e pc p k n ++ code (pc + length (expr_code w.layout e pc p k n)))) k co rr n (1 + q) (with_value (value (gang_of w) w.frame (calls_of w) e a (tick s)) go)
-  tested_runs e pc p k co rr n q a s c code go fit has places three b f =
-      let fe : heads e ≤ 1 = few w e n fit in
-      let ce = expr_code w.layout e pc p k n in
+  tested_runs : (e : TExpr) (pc p : ℕ) (spot : Spot) (q : ℕ) (a : Mask) (s : State) (c : Conf) (code : ℕ → List Instr) (go : Payload → State → Res) → ExprParts w e spot.slot → AreAt w.routine.code pc (expr_code w.layout e pc p spot.on spot.slot ++ code (pc + length (expr_code w.layout e pc p spot.on spot.slot))) → AreAt w.code.places p (expr_places w.layout e) → AreThree spot → EntersAt w pc spot a s c q → ((m : Payload) (s1 : State) (ok : Ok w c (pc + length (expr_code w.layout e pc p spot.on spot.slot)) spot.slot (5 + (1 + q)) (Holds (type_of e).rate a (found w.layout e spot.slot) m) s1) → StmtRuns w w.turns ok.conf (pc + length (expr_code w.layout e pc p spot.on spot.slot) + length (code (pc + length (expr_code w.layout e pc p spot.on spot.slot)))) spot (ok.steps + (1 + q)) (go m s1)) → StmtRuns w w.turns c (pc + length (expr_code w.layout e pc p spot.on spot.slot ++ code (pc + length (expr_code w.layout e pc p spot.on spot.slot)))) spot (1 + q) (with_value (value (gang_of w) w.frame (calls_of w) e a (tick s)) go)
+  tested_runs e pc p spot q a s c code go fit has places three b f =
+      let fe : heads e ≤ 1 = few w e spot.slot fit in
+      let ce = expr_code w.layout e pc p spot.on spot.slot in
       let pc1 = pc + length ce in
       let to : pc1 + length (code pc1) ≡ pc + length (ce ++ code pc1) = omega (arith, length-append ce (code pc1)) in
-      subst (λ z. StmtRuns w w.turns c z k co rr n (1 + q) (with_value (value (gang_of w) w.frame (calls_of w) e a (tick s)) go)) to
-      (with_runs w ready c pc1 n 5 (1 + q) (Holds (type_of e).rate a (found w.layout e n)) (value (gang_of w) w.frame (calls_of w) e a (tick s)) go (pc1 + length (code pc1)) k co rr n
-      (expr_runs w ready e pc p k n (32 + q) (5 + (1 + q)) a (tick s) c fit (are_front w.routine.code pc ce _ has) places (omega arith) (enters_part w ready pc k n (32 + q) q a s c (omega arith) b))
-      (λ m s1 ok. stmt_after w ready w.turns c ok.conf ok.steps (pc1 + length (code pc1)) k co rr n (1 + q) (go m s1) ok.comes ok.spares (λ r lt ne. ok.masks r lt) three (f m s1 ok)))
+      subst (λ z. StmtRuns w w.turns c z spot (1 + q) (with_value (value (gang_of w) w.frame (calls_of w) e a (tick s)) go)) to
+      (with_runs w ready c pc1 spot.slot 5 (1 + q) (Holds (type_of e).rate a (found w.layout e spot.slot)) (value (gang_of w) w.frame (calls_of w) e a (tick s)) go (pc1 + length (code pc1)) spot
+      (expr_runs w ready e pc p spot.on spot.slot (32 + q) (5 + (1 + q)) a (tick s) c fit (are_front w.routine.code pc ce _ has) places (omega arith) (enters_part w ready pc spot.on spot.slot (32 + q) q a s c (omega arith) b))
+      (λ m s1 ok. stmt_after w ready w.turns c ok.conf ok.steps (pc1 + length (code pc1)) spot (1 + q) (go m s1) ok.comes ok.spares (λ r lt ne. ok.masks r lt) three (f m s1 ok)))
 
   mutual
-    pub stmt_runs : (x : TStmt) (pc p k co rr n q : ℕ) (a : Mask) (s : State) (c : Conf) → StmtParts w x n → AreAt w.routine.code pc (stmt_code w.layout w.frame.answer x pc p k co rr n) → AreAt w.code.places p (stmt_places w.layout x) → AreThree k co rr n → Enters w pc k n a s c q → StmtRuns w w.turns c (pc + length (stmt_code w.layout w.frame.answer x pc p k co rr n)) k co rr n (aside (all_go_on x) + q) (run (gang_of w) w.frame (calls_of w) w.turns x a s)
-    stmt_runs (t_block z) pc p k co rr n q a s c fit has places three b = set_aside w ready (nobody_leaves (block_exits z)) c _ k co rr n q _ (block_runs z pc p k co rr n q a s c fit has places three b)
-    stmt_runs (t_declare xs sp) pc p k co rr n q a s c fit has places three b =
-        all_runs w ready c _ k co rr n (0 + q) a _ three b.mask (items_run w ready xs pc p k n (0 + q) a (tick s) c fit has places (enters_part w ready pc k n (0 + q) q a s c (omega arith) b))
-    stmt_runs (t_simple x sp) pc p k co rr n q a s c fit has places three b =
-        all_runs w ready c _ k co rr n (0 + q) a _ three b.mask (simple_runs w ready x pc p k n (0 + q) a s c fit has places (enters_less w ready pc k n (0 + q) q a s c (omega arith) b))
-    stmt_runs (t_if f g e x sp) pc p k co rr n q a s c fit has places three b =
-        let ce = expr_code w.layout e pc p k n in
+    pub stmt_runs : (x : TStmt) (pc : ℕ) (z : Numbers) (spot : Spot) (q : ℕ) (a : Mask) (s : State) (c : Conf) → StmtParts w x spot.slot → AreAt w.routine.code pc (stmt_code w.layout w.frame.answer x pc z spot) → Named w z x → AreThree spot → EntersAt w pc spot a s c q → StmtRuns w w.turns c (pc + length (stmt_code w.layout w.frame.answer x pc z spot)) spot (aside (all_go_on x) + q) (run (gang_of w) w.frame (calls_of w) w.turns x a s)
+    stmt_runs (t_block x) pc z spot q a s c fit has names three b = set_aside w ready (nobody_leaves (block_exits x)) c _ spot q _ (block_runs x pc z spot q a s c fit has names three b)
+    stmt_runs (t_declare xs sp) pc z spot q a s c fit has names three b =
+        all_runs w ready c _ spot (0 + q) a _ three b.mask (items_run w ready xs pc z.place spot.on spot.slot (0 + q) a (tick s) c fit has names.places_are (enters_part w ready pc spot.on spot.slot (0 + q) q a s c (omega arith) b))
+    stmt_runs (t_simple x sp) pc z spot q a s c fit has names three b =
+        all_runs w ready c _ spot (0 + q) a _ three b.mask (simple_runs w ready x pc z.place spot.on spot.slot (0 + q) a s c fit has names.places_are (enters_less w ready pc spot.on spot.slot (0 + q) q a s c (omega arith) b))
+    stmt_runs (t_if f g e x sp) pc z spot q a s c fit has names three b =
+        let ce = expr_code w.layout e pc z.place spot.on spot.slot in
         let pl = expr_places w.layout e in
-        let part = λ (pc2 m i : ℕ). stmt_code w.layout w.frame.answer x pc2 (p + length pl) m co rr i in
-        let plx = are_back w.code.places p pl _ places in
-        set_aside w ready (all_go_on x) c _ k co rr n q _
-        (tested_runs e pc p k co rr n q a s c (λ pc1. if_code (type_of e).rate (found w.layout e n) pc1 k n part) (branches (gang_of w) a (run (gang_of w) w.frame (calls_of w) w.turns x) went_all) fit.0 has (are_front w.code.places p pl _ places) three b
-        (λ m s1 ok. if_runs w ready (type_of e).rate (found w.layout e n) (pc + length ce) k co rr n (ok.steps + (1 + q)) a m s1 ok.conf part (run (gang_of w) w.frame (calls_of w) w.turns x) ok.at (ok.masks k b.low ∙ b.mask) b.some b.inside ok.stands ok.holds (omega (arith, ok.bound)) three (are_back w.routine.code pc ce _ has) (λ j T s2 c2 pc2 z th h en. stmt_less w ready w.turns c2 _ _ j co rr _ (aside (all_go_on x)) z _ refl (stmt_runs x pc2 (p + length pl) j co rr (first_slot (type_of e).rate n) z T s2 c2 fit.1 h plx th en))))
-    stmt_runs (t_if_else f g e x y sp) pc p k co rr n q a s c fit has places three b =
-        let ce = expr_code w.layout e pc p k n in
+        let z1 = past pl z in
+        let part = λ (pc2 : ℕ) (at : Spot). stmt_code w.layout w.frame.answer x pc2 z1 at in
+        let own = named_past w.code z pl _ _ names in
+        set_aside w ready (all_go_on x) c _ spot q _
+        (tested_runs e pc z.place spot q a s c (λ pc1. if_code (type_of e).rate (found w.layout e spot.slot) pc1 spot part) (branches (gang_of w) a (run (gang_of w) w.frame (calls_of w) w.turns x) went_all) fit.0 has (are_front w.code.places z.place pl _ names.places_are) three b
+        (λ m s1 ok. if_runs w ready (type_of e).rate (found w.layout e spot.slot) (pc + length ce) spot (ok.steps + (1 + q)) a m s1 ok.conf part (run (gang_of w) w.frame (calls_of w) w.turns x) ok.at (ok.masks spot.on b.low ∙ b.mask) b.some b.inside ok.stands ok.holds (omega (arith, ok.bound)) three (are_back w.routine.code pc ce _ has) (λ j T s2 c2 pc2 y th h en. stmt_less w ready w.turns c2 _ _ _ (aside (all_go_on x)) y _ refl (stmt_runs x pc2 z1 (part_spot (type_of e).rate j spot) y T s2 c2 fit.1 h own th en))))
+    stmt_runs (t_if_else f g e x y sp) pc z spot q a s c fit has names three b =
+        let ce = expr_code w.layout e pc z.place spot.on spot.slot in
         let pl = expr_places w.layout e in
         let px = stmt_places w.layout x in
-        let part = λ (pc2 m i : ℕ). stmt_code w.layout w.frame.answer x pc2 (p + length pl) m co rr i in
-        let other = λ (pc2 m i : ℕ). stmt_code w.layout w.frame.answer y pc2 (p + length pl + length px) m co rr i in
-        let plx = are_back w.code.places p pl _ places in
-        set_aside w ready (nobody_leaves (either_leaves (exits_of x) (exits_of y))) c _ k co rr n q _
-        (tested_runs e pc p k co rr n q a s c (λ pc1. if_else_code (type_of e).rate (found w.layout e n) pc1 k n part other) (branches (gang_of w) a (run (gang_of w) w.frame (calls_of w) w.turns x) (run (gang_of w) w.frame (calls_of w) w.turns y)) fit.0 has (are_front w.code.places p pl _ places) three b
-        (λ m s1 ok. if_else_runs w ready (type_of e).rate (found w.layout e n) (pc + length ce) k co rr n (ok.steps + (1 + q)) a m s1 ok.conf part other (run (gang_of w) w.frame (calls_of w) w.turns x) (run (gang_of w) w.frame (calls_of w) w.turns y) ok.at (ok.masks k b.low ∙ b.mask) b.some b.inside ok.stands ok.holds (omega (arith, ok.bound)) three (are_back w.routine.code pc ce _ has) (λ j T s2 c2 pc2 z th h en. stmt_less w ready w.turns c2 _ _ j co rr _ (aside (all_go_on x)) z _ refl (stmt_runs x pc2 (p + length pl) j co rr (first_slot (type_of e).rate n) z T s2 c2 fit.1 h (are_front w.code.places (p + length pl) px _ plx) th en)) (λ j T s2 c2 pc2 z th h en. stmt_less w ready w.turns c2 _ _ j co rr _ (aside (all_go_on y)) z _ refl (stmt_runs y pc2 (p + length pl + length px) j co rr (first_slot (type_of e).rate n) z T s2 c2 fit.2 h (are_back w.code.places (p + length pl) px _ plx) th en))))
-    stmt_runs (t_while f g e x sp) pc p k co rr n q a s c fit has places three b = while_runs w ready f g e x sp (stmt_runs x) pc p k co rr n q a s c fit has places three b
-    stmt_runs (t_do f g x e sp) pc p k co rr n q a s c fit has places three b = do_runs w ready f g x e sp (stmt_runs x) pc p k co rr n q a s c fit has places three b
-    stmt_runs (t_for f g first e step i x sp) pc p k co rr n q a s c fit has places three b = for_runs w ready f g first e step i x sp (stmt_runs x) pc p k co rr n q a s c fit has places three b
-    stmt_runs (t_foreach v g rs x sp) pc p k co rr n q a s c fit has places three b = absurd fit
-    stmt_runs (t_foreach_active v g i x sp) pc p k co rr n q a s c fit has places three b = absurd fit
-    stmt_runs (t_unmasked v z sp) pc p k co rr n q a s c fit has places three b = absurd fit
-    stmt_runs (t_jump Break v sp) pc p k co rr n q a s c fit has places three b = jump_runs w ready Break pc k co rr n q a s c has three b
-    stmt_runs (t_jump Continue v sp) pc p k co rr n q a s c fit has places three b = jump_runs w ready Continue pc k co rr n q a s c has three b
-    stmt_runs (t_return v None sp) pc p k co rr n q a s c fit has places three b =
-        return_ok w ready c c 0 pc k co rr n (1 + q) a (tick s) (comes_none w c) b.at b.stands (spares_all w n c) (λ r lt. refl) b.mask has three (omega (arith, b.used))
-    stmt_runs (t_return v (Some x) sp) pc p k co rr n q a s c fit has places three b = return_runs w ready w.frame.answer x pc p k co rr n q a s c fit has places three b
-    stmt_runs (t_print v text xs sp) pc p k co rr n q a s c fit has places three b = absurd fit
-    stmt_runs (t_assert x z sp) pc p k co rr n q a s c fit has places three b = absurd fit
+        let z1 = past pl z in
+        let part = λ (pc2 : ℕ) (at : Spot). stmt_code w.layout w.frame.answer x pc2 z1 at in
+        let other = λ (pc2 : ℕ) (at : Spot). stmt_code w.layout w.frame.answer y pc2 (behind w.layout x z1) at in
+        let own = named_past w.code z pl _ _ names in
+        set_aside w ready (nobody_leaves (either_leaves (exits_of x) (exits_of y))) c _ spot q _
+        (tested_runs e pc z.place spot q a s c (λ pc1. if_else_code (type_of e).rate (found w.layout e spot.slot) pc1 spot part other) (branches (gang_of w) a (run (gang_of w) w.frame (calls_of w) w.turns x) (run (gang_of w) w.frame (calls_of w) w.turns y)) fit.0 has (are_front w.code.places z.place pl _ names.places_are) three b
+        (λ m s1 ok. if_else_runs w ready (type_of e).rate (found w.layout e spot.slot) (pc + length ce) spot (ok.steps + (1 + q)) a m s1 ok.conf part other (run (gang_of w) w.frame (calls_of w) w.turns x) (run (gang_of w) w.frame (calls_of w) w.turns y) ok.at (ok.masks spot.on b.low ∙ b.mask) b.some b.inside ok.stands ok.holds (omega (arith, ok.bound)) three (are_back w.routine.code pc ce _ has) (λ j T s2 c2 pc2 u th h en. stmt_less w ready w.turns c2 _ _ _ (aside (all_go_on x)) u _ refl (stmt_runs x pc2 z1 (part_spot (type_of e).rate j spot) u T s2 c2 fit.1 h (named_front w.code z1 px _ (stmt_texts x) _ own) th en)) (λ j T s2 c2 pc2 u th h en. stmt_less w ready w.turns c2 _ _ _ (aside (all_go_on y)) u _ refl (stmt_runs y pc2 (behind w.layout x z1) (part_spot (type_of e).rate j spot) u T s2 c2 fit.2 h (named_back w.code z1 px _ (stmt_texts x) _ own) th en))))
+    stmt_runs (t_while f g e x sp) pc z spot q a s c fit has names three b = while_runs w ready f g e x sp (stmt_runs x) pc z spot q a s c fit has names three b
+    stmt_runs (t_do f g x e sp) pc z spot q a s c fit has names three b = do_runs w ready f g x e sp (stmt_runs x) pc z spot q a s c fit has names three b
+    stmt_runs (t_for f g first e step i x sp) pc z spot q a s c fit has names three b = for_runs w ready f g first e step i x sp (stmt_runs x) pc z spot q a s c fit has names three b
+    stmt_runs (t_foreach v g rs x sp) pc z spot q a s c fit has names three b = absurd fit
+    stmt_runs (t_foreach_active v g i x sp) pc z spot q a s c fit has names three b = absurd fit
+    stmt_runs (t_unmasked v x sp) pc z spot q a s c fit has names three b = absurd fit
+    stmt_runs (t_jump Break v sp) pc z spot q a s c fit has names three b = jump_runs w ready Break pc spot q a s c has three b
+    stmt_runs (t_jump Continue v sp) pc z spot q a s c fit has names three b = jump_runs w ready Continue pc spot q a s c has three b
+    stmt_runs (t_return v None sp) pc z spot q a s c fit has names three b =
+        return_ok w ready c c 0 pc spot (1 + q) a (tick s) (comes_none w c) b.at b.stands (spares_all w spot.slot c) (λ r lt. refl) b.mask has three (omega (arith, b.used))
+    stmt_runs (t_return v (Some x) sp) pc z spot q a s c fit has names three b = return_runs w ready w.frame.answer x pc z.place spot q a s c fit has names.places_are three b
+    stmt_runs (t_print v text xs sp) pc z spot q a s c fit has names three b = absurd fit
+    stmt_runs (t_assert x y sp) pc z spot q a s c fit has names three b = absurd fit
 
-    pub block_runs : (x : TBlock) (pc p k co rr n q : ℕ) (a : Mask) (s : State) (c : Conf) → BlockParts w x n → AreAt w.routine.code pc (block_code w.layout w.frame.answer x pc p k co rr n) → AreAt w.code.places p (block_places w.layout x) → AreThree k co rr n → Enters w pc k n a s c q → StmtRuns w w.turns c (pc + length (block_code w.layout w.frame.answer x pc p k co rr n)) k co rr n (1 + q) (block (gang_of w) w.frame (calls_of w) w.turns x a s)
-    block_runs (t_braces xs sp) pc p k co rr n q a s c fit has places three b = stmts_runs xs pc p k co rr n (1 + q) a (tick s) c fit has places three (enters_part w ready pc k n (1 + q) q a s c (omega arith) b)
+    pub block_runs : (x : TBlock) (pc : ℕ) (z : Numbers) (spot : Spot) (q : ℕ) (a : Mask) (s : State) (c : Conf) → BlockParts w x spot.slot → AreAt w.routine.code pc (block_code w.layout w.frame.answer x pc z spot) → BlockNamed w z x → AreThree spot → EntersAt w pc spot a s c q → StmtRuns w w.turns c (pc + length (block_code w.layout w.frame.answer x pc z spot)) spot (1 + q) (block (gang_of w) w.frame (calls_of w) w.turns x a s)
+    block_runs (t_braces xs sp) pc z spot q a s c fit has names three b = stmts_runs xs pc z spot (1 + q) a (tick s) c fit has names three (enters_part w ready pc spot.on spot.slot (1 + q) q a s c (omega arith) b)
 
-    pub stmts_runs : (xs : TStmts) (pc p k co rr n q : ℕ) (a : Mask) (s : State) (c : Conf) → StmtsParts w xs n → AreAt w.routine.code pc (stmts_code w.layout w.frame.answer xs pc p k co rr n) → AreAt w.code.places p (stmts_places w.layout xs) → AreThree k co rr n → Enters w pc k n a s c q → StmtRuns w w.turns c (pc + length (stmts_code w.layout w.frame.answer xs pc p k co rr n)) k co rr n q (run_all (gang_of w) w.frame (calls_of w) w.turns xs a s)
-    stmts_runs t_no_stmts pc p k co rr n q a s c fit has places three b =
+    pub stmts_runs : (xs : TStmts) (pc : ℕ) (z : Numbers) (spot : Spot) (q : ℕ) (a : Mask) (s : State) (c : Conf) → StmtsParts w xs spot.slot → AreAt w.routine.code pc (stmts_code w.layout w.frame.answer xs pc z spot) → AllNamed w z xs → AreThree spot → EntersAt w pc spot a s c q → StmtRuns w w.turns c (pc + length (stmts_code w.layout w.frame.answer xs pc z spot)) spot q (run_all (gang_of w) w.frame (calls_of w) w.turns xs a s)
+    stmts_runs t_no_stmts pc z spot q a s c fit has names three b =
         let e : pc ≡ pc + 0 = omega arith in
-        plain_ok w ready c c 0 (pc + 0) k co rr n q a s (comes_none w c) (at_to w c pc (pc + 0) b.at e) b.stands (spares_all w n c) (λ r lt. refl) three b.mask (omega (arith, b.used))
-    stmts_runs (t_stmt_then x xs) pc p k co rr n q a s c fit has places three b =
-        let ca = stmt_code w.layout w.frame.answer x pc p k co rr n in
+        plain_ok w ready c c 0 (pc + 0) spot q a s (comes_none w c) (at_to w c pc (pc + 0) b.at e) b.stands (spares_all w spot.slot c) (λ r lt. refl) three b.mask (omega (arith, b.used))
+    stmts_runs (t_stmt_then x xs) pc z spot q a s c fit has names three b =
+        let ca = stmt_code w.layout w.frame.answer x pc z spot in
         let px = stmt_places w.layout x in
-        let code = λ (pc2 : ℕ). stmts_code w.layout w.frame.answer xs pc2 (p + length px) k co rr n in
+        let code = λ (pc2 : ℕ). stmts_code w.layout w.frame.answer xs pc2 (behind w.layout x z) spot in
         let pc1 = pc + length ca in
         let v = run (gang_of w) w.frame (calls_of w) w.turns x a s in
-        then_runs w ready pc k co rr n (aside (all_go_on x)) q ca (λ pc1. rest_code (all_go_on x) xs k pc1 code) c v (λ g s1. unless_empty (gang_of w) g s1 (run_all (gang_of w) w.frame (calls_of w) w.turns xs)) (stmt_runs x pc p k co rr n q a s c fit.0 (are_front w.routine.code pc ca _ has) (are_front w.code.places p px _ places) three b)
-        (λ s1 g z ct rt e ok. rest_runs w ready (all_go_on x) xs pc1 k co rr n (ok.steps + q) g s1 ok.conf code (λ h. ap (any (gang_of w)) (went_whole w ready x a s s1 g z ct rt e h) ∙ b.some) ok.at ok.went (went_inside w ready x a s s1 g z ct rt e b.inside) ok.stands (omega (arith, ok.bound)) three (are_back w.routine.code pc ca _ has) (λ pc2 c2 y h en. stmts_runs xs pc2 (p + length px) k co rr n y g s1 c2 fit.1 h (are_back w.code.places p px _ places) three en))
+        then_runs w ready pc spot (aside (all_go_on x)) q ca (λ pc1. rest_code (all_go_on x) xs spot.on pc1 code) c v (λ g s1. unless_empty (gang_of w) g s1 (run_all (gang_of w) w.frame (calls_of w) w.turns xs)) (stmt_runs x pc z spot q a s c fit.0 (are_front w.routine.code pc ca _ has) (named_front w.code z px _ (stmt_texts x) _ names) three b)
+        (λ s1 g u ct rt e ok. rest_runs w ready (all_go_on x) xs pc1 spot (ok.steps + q) g s1 ok.conf code (λ h. ap (any (gang_of w)) (went_whole w ready x a s s1 g u ct rt e h) ∙ b.some) ok.at ok.went (went_inside w ready x a s s1 g u ct rt e b.inside) ok.stands (omega (arith, ok.bound)) three (are_back w.routine.code pc ca _ has) (λ pc2 c2 y h en. stmts_runs xs pc2 (behind w.layout x z) spot y g s1 c2 fit.1 h (named_back w.code z px _ (stmt_texts x) _ names) three en))

@@ -1,51 +1,53 @@
 -- What the laws use of the tree of a statement alone.
-use Rattle.std.proofs.Common.{◌≡◌, Option, Some, None}
+use Rattle.std.proofs.Common.{◌≡◌, List, Option, Some, None}
 use Rattle.isp_base.specs.declared.types.Elem.TheVariants.{Bool as Truth}
 use Rattle.isp_base.specs.declared.types.Ty.{Ty}
-use Rattle.isp_typed.specs.Typed.{TExpr, type_of, TSimple, TFirst, t_first_declare, t_first_simple, TStmt, t_block, t_declare, t_simple, t_if, t_if_else, t_while, t_do, t_for, t_foreach, t_foreach_active, t_unmasked, t_jump, t_return, t_print, t_assert, TBlock, t_braces, TStmts, t_no_stmts, t_stmt_then}
-use Rattle.isp_lower.proofs.Trees.{OperandTree, ExprTree, SimpleTree, ItemsTree}
+use Rattle.isp_typed.specs.Typed.{TExpr, type_of, TSimple, TFirst, t_first_declare, t_first_simple, TStmt, t_block, t_declare, t_simple, t_if, t_if_else, t_while, t_do, t_for, t_foreach, t_foreach_active, t_unmasked, t_jump, t_return, t_print, t_assert, TBlock, t_braces, TStmts, t_no_stmts, t_stmt_then, TFunction}
+use Rattle.isp_lower.proofs.Lemmas.{OperandTree, ExprTree, SimpleTree, ItemsTree}
 
-abbrev pub AnswerTree : Option Ty → TExpr → Type 0
-AnswerTree None x = ExprTree x
-AnswerTree (Some t) x = OperandTree t.rate t.elem x × ExprTree x
+-- in a program of these functions
+module _ (fs : List TFunction) where
+  abbrev pub AnswerTree : Option Ty → TExpr → Type 0
+  AnswerTree None x = ExprTree fs x
+  AnswerTree (Some t) x = OperandTree t.rate t.elem x × ExprTree fs x
 
--- the parts of a loop; its test is a bool
-abbrev pub TestTree : Option TExpr → Type 0
-TestTree None = Unit {0}
-TestTree (Some e) = ExprTree e × ((type_of e).elem ≡ Truth)
+  -- the parts of a loop; its test is a bool
+  abbrev pub TestTree : Option TExpr → Type 0
+  TestTree None = Unit {0}
+  TestTree (Some e) = ExprTree fs e × ((type_of e).elem ≡ Truth)
 
-abbrev pub FirstTree : Option TFirst → Type 0
-FirstTree None = Unit {0}
-FirstTree (Some (t_first_declare xs sp)) = ItemsTree xs
-FirstTree (Some (t_first_simple x)) = SimpleTree x
+  abbrev pub FirstTree : Option TFirst → Type 0
+  FirstTree None = Unit {0}
+  FirstTree (Some (t_first_declare xs sp)) = ItemsTree fs xs
+  FirstTree (Some (t_first_simple x)) = SimpleTree fs x
 
-abbrev pub StepTree : Option TSimple → Type 0
-StepTree None = Unit {0}
-StepTree (Some x) = SimpleTree x
+  abbrev pub StepTree : Option TSimple → Type 0
+  StepTree None = Unit {0}
+  StepTree (Some x) = SimpleTree fs x
 
-module _ (answer : Option Ty) where
-  abbrev mutual
-    pub StmtTree : TStmt → Type 0
-    StmtTree (t_block b) = BlockTree b
-    StmtTree (t_declare xs sp) = ItemsTree xs
-    StmtTree (t_simple x sp) = SimpleTree x
-    StmtTree (t_if f g e x sp) = ExprTree e × StmtTree x × ((type_of e).elem ≡ Truth)
-    StmtTree (t_if_else f g e x y sp) = ExprTree e × StmtTree x × StmtTree y × ((type_of e).elem ≡ Truth)
-    StmtTree (t_while f g e x sp) = TestTree (Some e) × StmtTree x
-    StmtTree (t_do f g x e sp) = TestTree (Some e) × StmtTree x
-    StmtTree (t_for f g first e step i x sp) = FirstTree first × TestTree e × StepTree step × StmtTree x
-    StmtTree (t_foreach k g rs x sp) = ⊥
-    StmtTree (t_foreach_active k g i x sp) = ⊥
-    StmtTree (t_unmasked k b sp) = ⊥
-    StmtTree (t_jump j k sp) = Unit {0}
-    StmtTree (t_return k None sp) = Unit {0}
-    StmtTree (t_return k (Some x) sp) = AnswerTree answer x
-    StmtTree (t_print k text xs sp) = ⊥
-    StmtTree (t_assert x c sp) = ⊥
+  module _ (answer : Option Ty) where
+    abbrev mutual
+      pub StmtTree : TStmt → Type 0
+      StmtTree (t_block b) = BlockTree b
+      StmtTree (t_declare xs sp) = ItemsTree fs xs
+      StmtTree (t_simple x sp) = SimpleTree fs x
+      StmtTree (t_if f g e x sp) = ExprTree fs e × StmtTree x × ((type_of e).elem ≡ Truth)
+      StmtTree (t_if_else f g e x y sp) = ExprTree fs e × StmtTree x × StmtTree y × ((type_of e).elem ≡ Truth)
+      StmtTree (t_while f g e x sp) = TestTree (Some e) × StmtTree x
+      StmtTree (t_do f g x e sp) = TestTree (Some e) × StmtTree x
+      StmtTree (t_for f g first e step i x sp) = FirstTree first × TestTree e × StepTree step × StmtTree x
+      StmtTree (t_foreach k g rs x sp) = ⊥
+      StmtTree (t_foreach_active k g i x sp) = ⊥
+      StmtTree (t_unmasked k b sp) = ⊥
+      StmtTree (t_jump j k sp) = Unit {0}
+      StmtTree (t_return k None sp) = Unit {0}
+      StmtTree (t_return k (Some x) sp) = AnswerTree answer x
+      StmtTree (t_print k text xs sp) = ⊥
+      StmtTree (t_assert x c sp) = ⊥
 
-    pub BlockTree : TBlock → Type 0
-    BlockTree (t_braces xs sp) = StmtsTree xs
+      pub BlockTree : TBlock → Type 0
+      BlockTree (t_braces xs sp) = StmtsTree xs
 
-    pub StmtsTree : TStmts → Type 0
-    StmtsTree t_no_stmts = Unit {0}
-    StmtsTree (t_stmt_then x xs) = StmtTree x × StmtsTree xs
+      pub StmtsTree : TStmts → Type 0
+      StmtsTree t_no_stmts = Unit {0}
+      StmtsTree (t_stmt_then x xs) = StmtTree x × StmtsTree xs

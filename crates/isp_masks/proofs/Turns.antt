@@ -18,17 +18,14 @@ use Rattle.isp_meaning.specs.Payloads.{Payload, is_true, kept_by, bit}
 use Rattle.isp_meaning.specs.State.{State, tick}
 use Rattle.isp_lower.specs.Code.{two, the_others}
 use Rattle.isp_lower.specs.Layout.{register, mask_register}
-use Rattle.isp_lower.specs.Runs.{Comes, Enters, Runs, DoneRuns, Stopped}
+use Rattle.isp_lower.specs.Runs.{Comes, Runs, DoneRuns, Stopped}
 use Rattle.isp_lower.specs.Setting.{Setting, IsSettled, gang_of, AreAt, At, Stands, Spares, Holds}
-use Rattle.isp_lower.proofs.Base.{are_front, are_back, put_same, put_other, comes_none, comes_on, step_go, at_to, spares_all, spares_less, spares_on}
-use Rattle.isp_lower.proofs.Combine.{failed_after, stopped_after, failed_less, stopped_less}
-use Rattle.isp_lower.proofs.Jumps.{jumped, jump_comes, jump_at, masked, where_comes, others_comes, masked_at}
-use Rattle.isp_lower.proofs.Logic.{any_nobody, where_inside}
-use Rattle.isp_lower.proofs.Rates.{at_kept}
+use Rattle.isp_lower.proofs.Lemmas.{are_front, are_back, put_same, put_other, comes_none, comes_on, step_go, at_to, spares_all, spares_less, spares_on, failed_after, stopped_after, failed_less, stopped_less, jumped, jump_comes, jump_at, masked, where_comes, others_comes, masked_at, any_nobody, where_inside, at_kept}
 use Rattle.isp_masks.specs.LoopRuns.{TestRuns, BodyRuns, StepRuns}
 use Rattle.isp_masks.specs.Loops.{copy_mask, if_needed, enter_code, loop_end_code, turn_code, back_code, sift_code, live_code, again_code}
 use Rattle.isp_masks.specs.Sets.{unite, clear_mask}
-use Rattle.isp_masks.specs.StmtRuns.{AreThree, Inside, StmtOk, StmtRuns}
+use Rattle.isp_masks.specs.Spots.{Spot, body_spot}
+use Rattle.isp_masks.specs.StmtRuns.{AreThree, EntersAt, Inside, StmtOk, StmtRuns}
 use Rattle.isp_masks.specs.declared.exits.Exits.{Exits}
 use Rattle.isp_masks.proofs.Combine.{stmt_after}
 use Rattle.isp_masks.specs.Exits.{nobody_leaves, Leave}
@@ -60,27 +57,40 @@ module _ (w : Setting) (ready : IsSettled w) where
   fewer : (t m : ℕ) (c : Conf) (q : ℕ) (s : State) → m ≤ t → Stopped w t c q s → Stopped w m c q s
   fewer t m c q s le f = record { conf = f.conf; steps = f.steps; far = omega (arith, f.far); goes = f.goes; out_is = f.out_is; bound = f.bound }
 
-  stmt_fewer : (t m : ℕ) (c : Conf) (pc k co rr n q : ℕ) (v : Res) → m ≤ t → StmtRuns w t c pc k co rr n q v → StmtRuns w m c pc k co rr n q v
-  stmt_fewer t m c pc k co rr n q (Went s g b ct rt) le r = r
-  stmt_fewer t m c pc k co rr n q (Trapped p s) le r = r
-  stmt_fewer t m c pc k co rr n q (Cut s) le r = fewer t m c q s le r
+  stmt_fewer : (t m : ℕ) (c : Conf) (pc : ℕ) (spot : Spot) (q : ℕ) (v : Res) → m ≤ t → StmtRuns w t c pc spot q v → StmtRuns w m c pc spot q v
+  stmt_fewer t m c pc spot q (Went s g b ct rt) le r = r
+  stmt_fewer t m c pc spot q (Trapped p s) le r = r
+  stmt_fewer t m c pc spot q (Cut s) le r = fewer t m c q s le r
 
   -- after a step that came before, it is one past one more
-  stmt_further : (m : ℕ) (c c1 : Conf) (d pc k co rr n q : ℕ) (v : Res) → Comes w c (suc d) c1 → Spares w n c c1 → ((r : ℕ) → r < n → r ≢ k → c1.masks r ≡ c.masks r) → AreThree k co rr n → StmtRuns w m c1 pc k co rr n (suc d + q) v → StmtRuns w (suc m) c pc k co rr n q v
-  stmt_further m c c1 d pc k co rr n q (Went s g b ct rt) h sp ma th r = stmt_after w ready m c c1 (suc d) pc k co rr n q (Went s g b ct rt) h sp ma th r
-  stmt_further m c c1 d pc k co rr n q (Trapped p s) h sp ma th r = failed_after w ready c c1 (suc d) q p s h r
-  stmt_further m c c1 d pc k co rr n q (Cut s) h sp ma th r =
+  stmt_further : (m : ℕ) (c c1 : Conf) (d pc : ℕ) (spot : Spot) (q : ℕ) (v : Res) → Comes w c (suc d) c1 → Spares w spot.slot c c1 → ((r : ℕ) → r < spot.slot → r ≢ spot.on → c1.masks r ≡ c.masks r) → AreThree spot → StmtRuns w m c1 pc spot (suc d + q) v → StmtRuns w (suc m) c pc spot q v
+  stmt_further m c c1 d pc spot q (Went s g b ct rt) h sp ma th r = stmt_after w ready m c c1 (suc d) pc spot q (Went s g b ct rt) h sp ma th r
+  stmt_further m c c1 d pc spot q (Trapped p s) h sp ma th r = failed_after w ready c c1 (suc d) q p s h r
+  stmt_further m c c1 d pc spot q (Cut s) h sp ma th r =
       record { conf = r.conf; steps = suc d + r.steps; far = omega (arith, r.far); goes = comes_on w c c1 r.conf (suc d) r.steps h r.goes; out_is = r.out_is; bound = omega (arith, r.bound) }
 
-  module _ (e : Exits) (k co rr n : ℕ) (three : AreThree k co rr n) (all : Mask) where
+  module _ (e : Exits) (spot : Spot) (three : AreThree spot) (all : Mask) where
+    -- the masks of the whole, and the first slot
+    abbrev k : ℕ
+    k = spot.on
+
+    abbrev co : ℕ
+    co = spot.continued
+
+    abbrev rr : ℕ
+    rr = spot.returned
+
+    abbrev n : ℕ
+    n = spot.slot
+
     lk : k < n
-    lk = three.low_k
+    lk = three.low_on
 
     lco : co < n
-    lco = three.low_co
+    lco = three.low_continued
 
     lrr : rr < n
-    lrr = three.low_rr
+    lrr = three.low_returned
 
     -- those that returned so far: in mask n + 2, or nobody where the body lets nobody return
     abbrev pub Gone : Bool → Mask → Conf → Type 0
@@ -97,19 +107,19 @@ module _ (w : Setting) (ready : IsSettled w) where
 
     -- ---- the end
 
-    pub end_runs : (t pc q : ℕ) (live returned : Mask) (s : State) (c : Conf) → InLoop pc live returned s c → 2 + q ≤ 32 * s.work → AreAt w.routine.code pc (loop_end_code e k rr n) → StmtRuns w t c (pc + length (loop_end_code e k rr n)) k co rr n q (Went s (without all returned) nobody nobody returned)
+    pub end_runs : (t pc q : ℕ) (live returned : Mask) (s : State) (c : Conf) → InLoop pc live returned s c → 2 + q ≤ 32 * s.work → AreAt w.routine.code pc (loop_end_code e k rr n) → StmtRuns w t c (pc + length (loop_end_code e k rr n)) spot q (Went s (without all returned) nobody nobody returned)
     end_runs t pc q live returned s c i le has = go e.returns i.gone has
       where
         ck : co ≢ k
-        ck = λ h. three.k_co (sym h)
+        ck = λ h. three.on_continued (sym h)
 
         rk : rr ≢ k
-        rk = λ h. three.k_rr (sym h)
+        rk = λ h. three.on_returned (sym h)
 
         m2k : n + 2 ≢ k
         m2k = omega arith
 
-        go : (b : Bool) → Gone b returned c → AreAt w.routine.code pc (if_needed b (the_others k k (n + 2) ∷ unite rr rr (n + 2) ∷ [])) → StmtOk w c (pc + length (if_needed b (the_others k k (n + 2) ∷ unite rr rr (n + 2) ∷ []))) k co rr n q s (without all returned) nobody returned
+        go : (b : Bool) → Gone b returned c → AreAt w.routine.code pc (if_needed b (the_others k k (n + 2) ∷ unite rr rr (n + 2) ∷ [])) → StmtOk w c (pc + length (if_needed b (the_others k k (n + 2) ∷ unite rr rr (n + 2) ∷ []))) spot q s (without all returned) nobody returned
         go false g h = record {
           conf = c;
           steps = 0;
@@ -130,8 +140,8 @@ module _ (w : Setting) (ready : IsSettled w) where
           at = at_to w c2 (pc + 1 + 1) (pc + 2) (masked_at w ready c1 (pc + 1) rr u2 at1) (omega arith);
           stands = i.stands;
           spares = spares_all w n c;
-          went = put_other c1.masks rr u2 k three.k_rr ∙ put_same c.masks k u1 ∙ ap (λ z. without z (c.masks (n + 2))) i.all_is ∙ ap (without all) g;
-          continued = put_other c1.masks rr u2 co three.co_rr ∙ put_other c.masks k u1 co ck ∙ sym (union_nobody (c.masks co));
+          went = put_other c1.masks rr u2 k three.on_returned ∙ put_same c.masks k u1 ∙ ap (λ z. without z (c.masks (n + 2))) i.all_is ∙ ap (without all) g;
+          continued = put_other c1.masks rr u2 co three.continued_returned ∙ put_other c.masks k u1 co ck ∙ sym (union_nobody (c.masks co));
           returned = put_same c1.masks rr u2 ∙ ap (λ z. union z (c1.masks (n + 2))) (put_other c.masks k u1 rr rk) ∙ ap (union (c.masks rr)) (put_other c.masks k u1 (n + 2) m2k ∙ g);
           masks = λ j lt x y z. put_other c1.masks rr u2 j z ∙ put_other c.masks k u1 j x;
           bound = omega (arith, le);
@@ -178,7 +188,7 @@ module _ (w : Setting) (ready : IsSettled w) where
         n2 = omega arith
 
         k1 : k ≢ n + 1
-        k1 = omega (arith, three.low_k)
+        k1 = omega (arith, three.low_on)
 
         gone_on : (b : Bool) → Gone b returned c → Gone b returned c1
         gone_on true g = put_other c.masks (n + 1) nobody (n + 2) n2 ∙ g
@@ -203,14 +213,14 @@ module _ (w : Setting) (ready : IsSettled w) where
         )
 
     -- behind the body those that continued come back
-    rejoined : (pc z : ℕ) (returned g b ct rt : Mask) (s : State) (c1 : Conf) → (ok : StmtOk w c1 pc n (n + 1) (n + 2) (n + 3) z s g ct rt) → c1.masks k ≡ all → (e.continues ≡ true → c1.masks (n + 1) ≡ nobody) → Gone e.returns returned c1 → Leave e (Went s g b ct rt) → AreAt w.routine.code pc (if_needed e.continues (unite n n (n + 1) ∷ [])) → Moved (pc + length (if_needed e.continues (unite n n (n + 1) ∷ []))) (union g ct) (union returned rt) s ok.conf 1
+    rejoined : (pc z : ℕ) (returned g b ct rt : Mask) (s : State) (c1 : Conf) → (ok : StmtOk w c1 pc (body_spot n) z s g ct rt) → c1.masks k ≡ all → (e.continues ≡ true → c1.masks (n + 1) ≡ nobody) → Gone e.returns returned c1 → Leave e (Went s g b ct rt) → AreAt w.routine.code pc (if_needed e.continues (unite n n (n + 1) ∷ [])) → Moved (pc + length (if_needed e.continues (unite n n (n + 1) ∷ []))) (union g ct) (union returned rt) s ok.conf 1
     rejoined pc z returned g b ct rt s c1 ok ek cleared gone leave has = go e.continues refl has
       where
         c2 : Conf
         c2 = ok.conf
 
         all2 : c2.masks k ≡ all
-        all2 = (let k0 : k ≢ n = omega (arith, three.low_k) in let k1 : k ≢ n + 1 = omega (arith, three.low_k) in let k2 : k ≢ n + 2 = omega (arith, three.low_k) in ok.masks k (omega (arith, three.low_k)) k0 k1 k2) ∙ ek
+        all2 = (let k0 : k ≢ n = omega (arith, three.low_on) in let k1 : k ≢ n + 1 = omega (arith, three.low_on) in let k2 : k ≢ n + 2 = omega (arith, three.low_on) in ok.masks k (omega (arith, three.low_on)) k0 k1 k2) ∙ ek
 
         gone2 : (x : Bool) → e.returns ≡ x → Gone x returned c1 → Gone x (union returned rt) c2
         gone2 true er h = ok.returned ∙ ap (λ m. union m rt) h
@@ -234,7 +244,7 @@ module _ (w : Setting) (ready : IsSettled w) where
             c3 = masked w ready c2 n u3
 
             kn : k ≢ n
-            kn = omega (arith, three.low_k)
+            kn = omega (arith, three.low_on)
 
             n2 : n + 2 ≢ n
             n2 = omega arith
@@ -253,7 +263,7 @@ module _ (w : Setting) (ready : IsSettled w) where
         }
 
     -- where a turn begins with some kept: the body runs, and what follows goes on from those that are live
-    pub turn_runs : (m pc end q : ℕ) (kept returned : Mask) (s : State) (c : Conf) (code : ℕ → List Instr) (body : Mask → State → Res) (go : Mask → Mask → State → Res) → m ≤ w.turns → InLoop pc kept returned s c → any (gang_of w) kept ≡ true → Inside w kept → q ≤ 32 * s.work → AreAt w.routine.code pc (turn_code e pc n code) → BodyRuns w n code body → ((T : Mask) (s : State) → Parted T (body T s)) → ((T : Mask) (s : State) → Leave e (body T s)) → ((live returned : Mask) (s1 : State) (c1 : Conf) (q1 : ℕ) → InLoop (pc + length (turn_code e pc n code)) live returned s1 c1 → ((p : ℕ) → live p ≡ true → kept p ≡ true) → (nobody_leaves e ≡ true → live ≡ kept) → 10 + q1 ≤ 32 * s1.work → StmtRuns w m c1 end k co rr n q1 (go live returned s1)) → StmtRuns w m c end k co rr n q (go_on (body kept (tick s)) (λ s1 g b c r. go (union g c) (union returned r) s1))
+    pub turn_runs : (m pc end q : ℕ) (kept returned : Mask) (s : State) (c : Conf) (code : ℕ → List Instr) (body : Mask → State → Res) (go : Mask → Mask → State → Res) → m ≤ w.turns → InLoop pc kept returned s c → any (gang_of w) kept ≡ true → Inside w kept → q ≤ 32 * s.work → AreAt w.routine.code pc (turn_code e pc n code) → BodyRuns w n code body → ((T : Mask) (s : State) → Parted T (body T s)) → ((T : Mask) (s : State) → Leave e (body T s)) → ((live returned : Mask) (s1 : State) (c1 : Conf) (q1 : ℕ) → InLoop (pc + length (turn_code e pc n code)) live returned s1 c1 → ((p : ℕ) → live p ≡ true → kept p ≡ true) → (nobody_leaves e ≡ true → live ≡ kept) → 10 + q1 ≤ 32 * s1.work → StmtRuns w m c1 end spot q1 (go live returned s1)) → StmtRuns w m c end spot q (go_on (body kept (tick s)) (λ s1 g b c r. go (union g c) (union returned r) s1))
     turn_runs m pc end q kept returned s c code body go le i some inside used has run parts leaves next =
         let first = cleared pc kept returned s c i (are_front w.routine.code pc (if_needed e.continues (clear_mask (n + 1) ∷ [])) _ has) in
         with_body first (body kept (tick s)) (run kept (tick s) first.0.conf p1 (first.0.steps + (12 + q)) at_body (record { at = first.0.loop.at; mask = first.0.loop.live_is; some = some; inside = inside; stands = first.0.loop.stands; used = omega (arith, used, first.0.few); low = omega arith })) (parts kept (tick s)) (leaves kept (tick s))
@@ -282,16 +292,16 @@ module _ (w : Setting) (ready : IsSettled w) where
         ends : p2 + length join ≡ pc + length (turn_code e pc n code)
         ends = omega (arith, length-append clear (code p1 ++ join), length-append (code p1) join)
 
-        with_body : (first : (m : Moved p1 kept returned s c 1) × (e.continues ≡ true → m.conf.masks (n + 1) ≡ nobody)) (v : Res) → StmtRuns w w.turns first.0.conf p2 n (n + 1) (n + 2) (n + 3) (first.0.steps + (12 + q)) v → Parted kept v → Leave e v → StmtRuns w m c end k co rr n q (go_on v (λ s1 g b c r. go (union g c) (union returned r) s1))
-        with_body first (Trapped t s1) r pa lv = failed_after w ready c first.0.conf first.0.steps q t s1 first.0.comes (failed_less w ready first.0.conf 12 (first.0.steps + q) t s1 (let eq : first.0.steps + (12 + q) ≡ 12 + (first.0.steps + q) = omega arith in subst (λ z. StmtRuns w w.turns first.0.conf p2 n (n + 1) (n + 2) (n + 3) z (Trapped t s1)) eq r))
-        with_body first (Cut s1) r pa lv = fewer w.turns m c q s1 le (stopped_after w ready w.turns c first.0.conf first.0.steps q s1 first.0.comes (stopped_less w ready w.turns first.0.conf 12 (first.0.steps + q) s1 (let eq : first.0.steps + (12 + q) ≡ 12 + (first.0.steps + q) = omega arith in subst (λ z. StmtRuns w w.turns first.0.conf p2 n (n + 1) (n + 2) (n + 3) z (Cut s1)) eq r)))
+        with_body : (first : (m : Moved p1 kept returned s c 1) × (e.continues ≡ true → m.conf.masks (n + 1) ≡ nobody)) (v : Res) → StmtRuns w w.turns first.0.conf p2 (body_spot n) (first.0.steps + (12 + q)) v → Parted kept v → Leave e v → StmtRuns w m c end spot q (go_on v (λ s1 g b c r. go (union g c) (union returned r) s1))
+        with_body first (Trapped t s1) r pa lv = failed_after w ready c first.0.conf first.0.steps q t s1 first.0.comes (failed_less w ready first.0.conf 12 (first.0.steps + q) t s1 (let eq : first.0.steps + (12 + q) ≡ 12 + (first.0.steps + q) = omega arith in subst (λ z. StmtRuns w w.turns first.0.conf p2 (body_spot n) z (Trapped t s1)) eq r))
+        with_body first (Cut s1) r pa lv = fewer w.turns m c q s1 le (stopped_after w ready w.turns c first.0.conf first.0.steps q s1 first.0.comes (stopped_less w ready w.turns first.0.conf 12 (first.0.steps + q) s1 (let eq : first.0.steps + (12 + q) ≡ 12 + (first.0.steps + q) = omega arith in subst (λ z. StmtRuns w w.turns first.0.conf p2 (body_spot n) z (Cut s1)) eq r)))
         with_body first (Went s1 g b ct rt) r pa lv =
             let f = first.0 in
             let j = rejoined p2 (f.steps + (12 + q)) returned g b ct rt s1 f.conf r f.loop.all_is first.1 f.loop.gone lv at_join in
             let d = f.steps + (r.steps + j.steps) in
             let low : (x : ℕ) → x < n → j.conf.masks x ≡ c.masks x =
             (λ x lt. (let x0 : x ≢ n = omega arith in let x1 : x ≢ n + 1 = omega arith in let x2 : x ≢ n + 2 = omega arith in j.masks x lt ∙ r.masks x (omega arith) x0 x1 x2) ∙ f.masks x lt) in
-            stmt_after w ready m c j.conf d end k co rr n q (go (union g ct) (union returned rt) s1) (comes_on w c f.conf j.conf f.steps (r.steps + j.steps) f.comes (comes_on w f.conf r.conf j.conf r.steps j.steps r.comes j.comes)) (spares_on w n c f.conf j.conf f.spares (spares_on w n f.conf r.conf j.conf (spares_less w n (n + 3) f.conf r.conf (omega arith) r.spares) j.spares)) (λ x lt ne. low x lt) three
+            stmt_after w ready m c j.conf d end spot q (go (union g ct) (union returned rt) s1) (comes_on w c f.conf j.conf f.steps (r.steps + j.steps) f.comes (comes_on w f.conf r.conf j.conf r.steps j.steps r.comes j.comes)) (spares_on w n c f.conf j.conf f.spares (spares_on w n f.conf r.conf j.conf (spares_less w n (n + 3) f.conf r.conf (omega arith) r.spares) j.spares)) (λ x lt ne. low x lt) three
             (next (union g ct) (union returned rt) s1 j.conf (d + q) (subst (λ z. InLoop z (union g ct) (union returned rt) s1 j.conf) ends j.loop) (live_in kept g b ct rt s1 pa) (λ none. ap (union g) (lv.1 (none_of e.breaks e.continues e.returns none).1) ∙ union_nobody g ∙ whole e kept g b ct rt s1 pa lv none) (omega (arith, r.bound, j.few)))
 
     -- ---- the test
@@ -303,13 +313,13 @@ module _ (w : Setting) (ready : IsSettled w) where
     -- what goes on behind a test, for those that pass
     abbrev pub KeptRuns : ℕ → (ℕ → List Instr) → ℕ → ℕ → (Mask → Mask → State → Res) → Type 0
     KeptRuns t rest past end turn =
-        (kept returned : Mask) (s : State) (c : Conf) (pc q : ℕ) → AreAt w.routine.code pc (rest pc) → pc + length (rest pc) ≡ past → InLoop pc kept returned s c → any (gang_of w) kept ≡ true → Inside w kept → q ≤ 32 * s.work → StmtRuns w t c end k co rr n q (turn kept returned s)
+        (kept returned : Mask) (s : State) (c : Conf) (pc q : ℕ) → AreAt w.routine.code pc (rest pc) → pc + length (rest pc) ≡ past → InLoop pc kept returned s c → any (gang_of w) kept ≡ true → Inside w kept → q ≤ 32 * s.work → StmtRuns w t c end spot q (turn kept returned s)
 
     -- the test's value is known
-    sifted : (t : ℕ) (r : Rate) (x pc past q : ℕ) (live returned : Mask) (m : Payload) (s : State) (c : Conf) (rest : ℕ → List Instr) (turn : Mask → Mask → State → Res) → pc + length (sift_code r x pc n rest) ≡ past → InLoop pc live returned s c → Inside w live → any (gang_of w) live ≡ true → Holds r live x m c → 4 + q ≤ 32 * s.work → AreAt w.routine.code pc (sift_code r x pc n rest) → AreAt w.routine.code past (loop_end_code e k rr n) → KeptRuns t rest past (past + length (loop_end_code e k rr n)) turn → StmtRuns w t c (past + length (loop_end_code e k rr n)) k co rr n q (if_so (any (gang_of w) (kept_by is_true live m)) (turn (kept_by is_true live m) returned) (λ s1. Went s1 (without all returned) nobody nobody returned) s)
+    sifted : (t : ℕ) (r : Rate) (x pc past q : ℕ) (live returned : Mask) (m : Payload) (s : State) (c : Conf) (rest : ℕ → List Instr) (turn : Mask → Mask → State → Res) → pc + length (sift_code r x pc n rest) ≡ past → InLoop pc live returned s c → Inside w live → any (gang_of w) live ≡ true → Holds r live x m c → 4 + q ≤ 32 * s.work → AreAt w.routine.code pc (sift_code r x pc n rest) → AreAt w.routine.code past (loop_end_code e k rr n) → KeptRuns t rest past (past + length (loop_end_code e k rr n)) turn → StmtRuns w t c (past + length (loop_end_code e k rr n)) spot q (if_so (any (gang_of w) (kept_by is_true live m)) (turn (kept_by is_true live m) returned) (λ s1. Went s1 (without all returned) nobody nobody returned) s)
     sifted t Uniform x pc past q live returned m s c rest turn eq i inside some hold used has has_end f =
-        subst (λ z. StmtRuns w t c end k co rr n q (if_so (any (gang_of w) (kept_by is_true live z)) (turn (kept_by is_true live z) returned) (λ s1. Went s1 (without all returned) nobody nobody returned) s)) (sym hold)
-        (stmt_after w ready t c c4 1 end k co rr n q _ (jump_comes w ready c pc jump.False (register Uniform x) to i.at has.0) (spares_all w n c) (λ y lt ne. refl) three (go (is_true (c.scalars x)) refl))
+        subst (λ z. StmtRuns w t c end spot q (if_so (any (gang_of w) (kept_by is_true live z)) (turn (kept_by is_true live z) returned) (λ s1. Went s1 (without all returned) nobody nobody returned) s)) (sym hold)
+        (stmt_after w ready t c c4 1 end spot q _ (jump_comes w ready c pc jump.False (register Uniform x) to i.at has.0) (spares_all w n c) (λ y lt ne. refl) three (go (is_true (c.scalars x)) refl))
       where
         to : ℕ
         to = pc + 1 + length (rest (pc + 1))
@@ -326,16 +336,16 @@ module _ (w : Setting) (ready : IsSettled w) where
         at4 : (b : Bool) → is_true (c.scalars x) ≡ b → At w c4 (if not b then to else pc + 1)
         at4 b h = jump_at w ready c pc jump.False (register Uniform x) to (not b) i.at (ap not h)
 
-        go : (b : Bool) → is_true (c.scalars x) ≡ b → StmtRuns w t c4 end k co rr n (1 + q) (if_so (any (gang_of w) (if b then live else nobody)) (turn (if b then live else nobody) returned) (λ s1. Went s1 (without all returned) nobody nobody returned) s)
+        go : (b : Bool) → is_true (c.scalars x) ≡ b → StmtRuns w t c4 end spot (1 + q) (if_so (any (gang_of w) (if b then live else nobody)) (turn (if b then live else nobody) returned) (λ s1. Went s1 (without all returned) nobody nobody returned) s)
         go true h =
-            subst (λ z. StmtRuns w t c4 end k co rr n (1 + q) (if_so z (turn live returned) (λ s1. Went s1 (without all returned) nobody nobody returned) s)) (sym some)
+            subst (λ z. StmtRuns w t c4 end spot (1 + q) (if_so z (turn live returned) (λ s1. Went s1 (without all returned) nobody nobody returned) s)) (sym some)
             (f live returned s c4 (pc + 1) (1 + q) has.1 to_past (record { at = at4 true h; all_is = i.all_is; live_is = i.live_is; gone = gone_moved e.returns returned c c4 refl i.gone; stands = i.stands }) some inside (omega (arith, used)))
         go false h =
-            subst (λ z. StmtRuns w t c4 end k co rr n (1 + q) (if_so z (turn nobody returned) (λ s1. Went s1 (without all returned) nobody nobody returned) s)) (sym (any_nobody (gang_of w)))
+            subst (λ z. StmtRuns w t c4 end spot (1 + q) (if_so z (turn nobody returned) (λ s1. Went s1 (without all returned) nobody nobody returned) s)) (sym (any_nobody (gang_of w)))
             (end_runs t past (1 + q) live returned s c4 (record { at = at_to w c4 to past (at4 false h) to_past; all_is = i.all_is; live_is = i.live_is; gone = gone_moved e.returns returned c c4 refl i.gone; stands = i.stands }) (omega (arith, used)) has_end)
     sifted t Varying x pc past q live returned m s c rest turn eq i inside some hold used has has_end f =
-        subst (λ z. StmtRuns w t c end k co rr n q (if_so (any (gang_of w) z) (turn z returned) (λ s1. Went s1 (without all returned) nobody nobody returned) s)) (sym (at_kept Varying live is_true m ∙ ap (kept_by is_true live) hold))
-        (stmt_after w ready t c c4 2 end k co rr n q _ (comes_on w c c3 c4 1 1 (where_comes w ready c pc n x n i.at has.0) (jump_comes w ready c3 (pc + 1) jump.Off (mask_register n) to at3 has.1.0)) (spares_all w n c) (λ y lt ne. low y lt) three (go (any (gang_of w) kept) refl))
+        subst (λ z. StmtRuns w t c end spot q (if_so (any (gang_of w) z) (turn z returned) (λ s1. Went s1 (without all returned) nobody nobody returned) s)) (sym (at_kept Varying live is_true m ∙ ap (kept_by is_true live) hold))
+        (stmt_after w ready t c c4 2 end spot q _ (comes_on w c c3 c4 1 1 (where_comes w ready c pc n x n i.at has.0) (jump_comes w ready c3 (pc + 1) jump.Off (mask_register n) to at3 has.1.0)) (spares_all w n c) (λ y lt ne. low y lt) three (go (any (gang_of w) kept) refl))
       where
         kept : Mask
         kept = where_true is_true (on live (c.vectors x))
@@ -379,14 +389,14 @@ module _ (w : Setting) (ready : IsSettled w) where
         at4 : (b : Bool) → any (gang_of w) kept ≡ b → At w c4 (if not b then to else pc + 1 + 1)
         at4 b h = jump_at w ready c3 (pc + 1) jump.Off (mask_register n) to (not b) at3 (off_is b h)
 
-        go : (b : Bool) → any (gang_of w) kept ≡ b → StmtRuns w t c4 end k co rr n (2 + q) (if_so b (turn kept returned) (λ s1. Went s1 (without all returned) nobody nobody returned) s)
+        go : (b : Bool) → any (gang_of w) kept ≡ b → StmtRuns w t c4 end spot (2 + q) (if_so b (turn kept returned) (λ s1. Went s1 (without all returned) nobody nobody returned) s)
         go true h =
             f kept returned s c4 (pc + 1 + 1) (2 + q) has.1.1 to_past (record { at = at4 true h; all_is = low k lk ∙ i.all_is; live_is = kept_is; gone = gone4; stands = i.stands }) h (where_inside (gang_of w) live is_true (c.vectors x) inside) (omega (arith, used))
         go false h =
             end_runs t past (2 + q) kept returned s c4 (record { at = at_to w c4 to past (at4 false h) to_past; all_is = low k lk ∙ i.all_is; live_is = kept_is; gone = gone4; stands = i.stands }) (omega (arith, used)) has_end
 
     -- from where the test begins
-    pub tested_runs : (t : ℕ) (r : Rate) (x top past q : ℕ) (live returned : Mask) (s : State) (c : Conf) (code rest : ℕ → List Instr) (test : Mask → State → Val Payload) (turn : Mask → Mask → State → Res) → t ≤ w.turns → top + length (code top) + length (sift_code r x (top + length (code top)) n rest) ≡ past → InLoop top live returned s c → Inside w live → any (gang_of w) live ≡ true → q ≤ 32 * s.work → AreAt w.routine.code top (code top) → AreAt w.routine.code (top + length (code top)) (sift_code r x (top + length (code top)) n rest) → AreAt w.routine.code past (loop_end_code e k rr n) → TestRuns w n r x code test → KeptRuns t rest past (past + length (loop_end_code e k rr n)) turn → StmtRuns w t c (past + length (loop_end_code e k rr n)) k co rr n q (with_value (test live s) (λ m s1. if_so (any (gang_of w) (kept_by is_true live m)) (turn (kept_by is_true live m) returned) (λ s2. Went s2 (without all returned) nobody nobody returned) s1))
+    pub tested_runs : (t : ℕ) (r : Rate) (x top past q : ℕ) (live returned : Mask) (s : State) (c : Conf) (code rest : ℕ → List Instr) (test : Mask → State → Val Payload) (turn : Mask → Mask → State → Res) → t ≤ w.turns → top + length (code top) + length (sift_code r x (top + length (code top)) n rest) ≡ past → InLoop top live returned s c → Inside w live → any (gang_of w) live ≡ true → q ≤ 32 * s.work → AreAt w.routine.code top (code top) → AreAt w.routine.code (top + length (code top)) (sift_code r x (top + length (code top)) n rest) → AreAt w.routine.code past (loop_end_code e k rr n) → TestRuns w n r x code test → KeptRuns t rest past (past + length (loop_end_code e k rr n)) turn → StmtRuns w t c (past + length (loop_end_code e k rr n)) spot q (with_value (test live s) (λ m s1. if_so (any (gang_of w) (kept_by is_true live m)) (turn (kept_by is_true live m) returned) (λ s2. Went s2 (without all returned) nobody nobody returned) s1))
     tested_runs t r x top past q live returned s c code rest test turn le eq i inside some used at_test at_sift at_end run f =
         go (test live s) (run live s c top q at_test (record { at = i.at; mask = i.live_is; some = some; inside = inside; stands = i.stands; used = used; low = omega arith }))
       where
@@ -396,12 +406,12 @@ module _ (w : Setting) (ready : IsSettled w) where
         end : ℕ
         end = past + length (loop_end_code e k rr n)
 
-        go : (v : Val Payload) → Runs w c pc1 (n + 3) (4 + q) (Holds r live x) v → StmtRuns w t c end k co rr n q (with_value v (λ m s1. if_so (any (gang_of w) (kept_by is_true live m)) (turn (kept_by is_true live m) returned) (λ s2. Went s2 (without all returned) nobody nobody returned) s1))
+        go : (v : Val Payload) → Runs w c pc1 (n + 3) (4 + q) (Holds r live x) v → StmtRuns w t c end spot q (with_value v (λ m s1. if_so (any (gang_of w) (kept_by is_true live m)) (turn (kept_by is_true live m) returned) (λ s2. Went s2 (without all returned) nobody nobody returned) s1))
         go (Gives m s1) ok =
             let c1 = ok.conf in
             let same : (y : ℕ) → y < n + 3 → c1.masks y ≡ c.masks y = ok.masks in
-            stmt_after w ready t c c1 ok.steps end k co rr n q _ ok.comes (spares_less w n (n + 3) c c1 (omega arith) ok.spares) (λ y lt ne. ok.masks y (omega arith)) three
-            (sifted t r x pc1 past (ok.steps + q) live returned m s1 c1 rest turn eq (record { at = ok.at; all_is = ok.masks k (omega (arith, three.low_k)) ∙ i.all_is; live_is = ok.masks n (omega arith) ∙ i.live_is; gone = gone_moved e.returns returned c c1 (ok.masks (n + 2) (omega arith)) i.gone; stands = ok.stands }) inside some ok.holds (omega (arith, ok.bound)) at_sift at_end f)
+            stmt_after w ready t c c1 ok.steps end spot q _ ok.comes (spares_less w n (n + 3) c c1 (omega arith) ok.spares) (λ y lt ne. ok.masks y (omega arith)) three
+            (sifted t r x pc1 past (ok.steps + q) live returned m s1 c1 rest turn eq (record { at = ok.at; all_is = ok.masks k (omega (arith, three.low_on)) ∙ i.all_is; live_is = ok.masks n (omega arith) ∙ i.live_is; gone = gone_moved e.returns returned c c1 (ok.masks (n + 2) (omega arith)) i.gone; stands = ok.stands }) inside some ok.holds (omega (arith, ok.bound)) at_sift at_end f)
         go (Fails p s1) bad = failed_less w ready c 4 q p s1 bad
         go (Stops s1) cut = fewer w.turns t c q s1 le (stopped_less w ready w.turns c 4 q s1 cut)
 
@@ -411,7 +421,7 @@ module _ (w : Setting) (ready : IsSettled w) where
     -- else the end
     abbrev pub Behind : ℕ → (ℕ → List Instr) → ℕ → ℕ → (Mask → Mask → State → Res) → Type 0
     Behind m code past end next =
-        (live returned : Mask) (s : State) (c : Conf) (pc q : ℕ) → AreAt w.routine.code pc (code pc) → pc + length (code pc) ≡ past → InLoop pc live returned s c → Inside w live → (nobody_leaves e ≡ true → any (gang_of w) live ≡ true) → 10 + q ≤ 32 * s.work → StmtRuns w (suc m) c end k co rr n q (if_so (any (gang_of w) live) (next live returned) (λ s1. Went s1 (without all returned) nobody nobody returned) s)
+        (live returned : Mask) (s : State) (c : Conf) (pc q : ℕ) → AreAt w.routine.code pc (code pc) → pc + length (code pc) ≡ past → InLoop pc live returned s c → Inside w live → (nobody_leaves e ≡ true → any (gang_of w) live ≡ true) → 10 + q ≤ 32 * s.work → StmtRuns w (suc m) c end spot q (if_so (any (gang_of w) live) (next live returned) (λ s1. Went s1 (without all returned) nobody nobody returned) s)
 
     module _ (past end : ℕ) (body_code behind : ℕ → List Instr) (test : Mask → State → Val Payload) (body : Mask → State → Res) (step : Mask → State → Val Done) where
       abbrev pub turns_of : ℕ → Mask → Mask → State → Res
@@ -432,7 +442,7 @@ module _ (w : Setting) (ready : IsSettled w) where
           pc1 : ℕ
           pc1 = pc + length turn
 
-          on_from : Behind m behind past end (stepped (gang_of w) test body step all (turns_of m)) → (live ret : Mask) (s1 : State) (c1 : Conf) (q1 : ℕ) → InLoop pc1 live ret s1 c1 → ((p : ℕ) → live p ≡ true → kept p ≡ true) → (nobody_leaves e ≡ true → live ≡ kept) → 10 + q1 ≤ 32 * s1.work → StmtRuns w (suc m) c1 end k co rr n q1 (if_so (any (gang_of w) live) (stepped (gang_of w) test body step all (turns_of m) live ret) (loop_end (gang_of w) test body step all ret) s1)
+          on_from : Behind m behind past end (stepped (gang_of w) test body step all (turns_of m)) → (live ret : Mask) (s1 : State) (c1 : Conf) (q1 : ℕ) → InLoop pc1 live ret s1 c1 → ((p : ℕ) → live p ≡ true → kept p ≡ true) → (nobody_leaves e ≡ true → live ≡ kept) → 10 + q1 ≤ 32 * s1.work → StmtRuns w (suc m) c1 end spot q1 (if_so (any (gang_of w) live) (stepped (gang_of w) test body step all (turns_of m) live ret) (loop_end (gang_of w) test body step all ret) s1)
           on_from f live ret s1 c1 q1 j sub whole le1 =
               f live ret s1 c1 pc1 q1 (are_back w.routine.code pc turn (behind pc1) has) (omega (arith, to, length-append turn (behind pc1))) j (λ p h. inside p (sub p h)) (λ h. ap (any (gang_of w)) (whole h) ∙ some) le1
 
@@ -441,11 +451,11 @@ module _ (w : Setting) (ready : IsSettled w) where
     moved_on pc live returned s c to i = record { at = record { home_is = i.at.home_is; waiting_is = i.at.waiting_is; pc_is = refl }; all_is = i.all_is; live_is = i.live_is; gone = gone_moved e.returns returned c (record c { pc = to }) refl i.gone; stands = i.stands }
 
     -- what is for those that are live
-    live_runs : (t : ℕ) (d : Bool) (past end pc q : ℕ) (live returned : Mask) (s : State) (c : Conf) (code : ℕ → List Instr) (go : Mask → Mask → State → Res) → end ≡ past + length (loop_end_code e k rr n) → (d ≡ true → any (gang_of w) live ≡ true) → AreAt w.routine.code pc (live_code d n pc code) → pc + length (live_code d n pc code) ≡ past → AreAt w.routine.code past (loop_end_code e k rr n) → InLoop pc live returned s c → 10 + q ≤ 32 * s.work → ((c1 : Conf) (pc1 q1 : ℕ) → AreAt w.routine.code pc1 (code pc1) → pc1 + length (code pc1) ≡ past → InLoop pc1 live returned s c1 → any (gang_of w) live ≡ true → 9 + q1 ≤ 32 * s.work → StmtRuns w t c1 end k co rr n q1 (go live returned s)) → StmtRuns w t c end k co rr n q (if_so (any (gang_of w) live) (go live returned) (λ s1. Went s1 (without all returned) nobody nobody returned) s)
+    live_runs : (t : ℕ) (d : Bool) (past end pc q : ℕ) (live returned : Mask) (s : State) (c : Conf) (code : ℕ → List Instr) (go : Mask → Mask → State → Res) → end ≡ past + length (loop_end_code e k rr n) → (d ≡ true → any (gang_of w) live ≡ true) → AreAt w.routine.code pc (live_code d n pc code) → pc + length (live_code d n pc code) ≡ past → AreAt w.routine.code past (loop_end_code e k rr n) → InLoop pc live returned s c → 10 + q ≤ 32 * s.work → ((c1 : Conf) (pc1 q1 : ℕ) → AreAt w.routine.code pc1 (code pc1) → pc1 + length (code pc1) ≡ past → InLoop pc1 live returned s c1 → any (gang_of w) live ≡ true → 9 + q1 ≤ 32 * s.work → StmtRuns w t c1 end spot q1 (go live returned s)) → StmtRuns w t c end spot q (if_so (any (gang_of w) live) (go live returned) (λ s1. Went s1 (without all returned) nobody nobody returned) s)
     live_runs t true past end pc q live returned s c code go ends must has to at_end i used f =
-        subst (λ z. StmtRuns w t c end k co rr n q (if_so z (go live returned) (λ s1. Went s1 (without all returned) nobody nobody returned) s)) (sym (must refl)) (f c pc q has to i (must refl) (omega (arith, used)))
+        subst (λ z. StmtRuns w t c end spot q (if_so z (go live returned) (λ s1. Went s1 (without all returned) nobody nobody returned) s)) (sym (must refl)) (f c pc q has to i (must refl) (omega (arith, used)))
     live_runs t false past end pc q live returned s c code go ends must has to at_end i used f =
-        stmt_after w ready t c c4 1 end k co rr n q _ (jump_comes w ready c pc jump.Off (mask_register n) out i.at has.0) (spares_all w n c) (λ y lt ne. refl) three (by (any (gang_of w) live) refl)
+        stmt_after w ready t c c4 1 end spot q _ (jump_comes w ready c pc jump.Off (mask_register n) out i.at has.0) (spares_all w n c) (λ y lt ne. refl) three (by (any (gang_of w) live) refl)
       where
         out : ℕ
         out = pc + 1 + length (code (pc + 1))
@@ -462,10 +472,10 @@ module _ (w : Setting) (ready : IsSettled w) where
         in4 : (pc1 : ℕ) → At w c4 pc1 → InLoop pc1 live returned s c4
         in4 pc1 at = record { at = at; all_is = i.all_is; live_is = i.live_is; gone = gone_moved e.returns returned c c4 refl i.gone; stands = i.stands }
 
-        by : (b : Bool) → any (gang_of w) live ≡ b → StmtRuns w t c4 end k co rr n (1 + q) (if_so b (go live returned) (λ s1. Went s1 (without all returned) nobody nobody returned) s)
+        by : (b : Bool) → any (gang_of w) live ≡ b → StmtRuns w t c4 end spot (1 + q) (if_so b (go live returned) (λ s1. Went s1 (without all returned) nobody nobody returned) s)
         by true h = f c4 (pc + 1) (1 + q) has.1 out_is (in4 (pc + 1) (jump_at w ready c pc jump.Off (mask_register n) out false i.at (off_is true h))) h (omega (arith, used))
         by false h =
-            subst (λ z. StmtRuns w t c4 z k co rr n (1 + q) (Went s (without all returned) nobody nobody returned)) (sym ends)
+            subst (λ z. StmtRuns w t c4 z spot (1 + q) (Went s (without all returned) nobody nobody returned)) (sym ends)
             (end_runs t past (1 + q) live returned s c4 (in4 past (at_to w c4 out past (jump_at w ready c pc jump.Off (mask_register n) out true i.at (off_is false h)) out_is)) (omega (arith, used)) at_end)
 
     -- ---- a step and a jump back to the test: `for`
@@ -473,20 +483,20 @@ module _ (w : Setting) (ready : IsSettled w) where
     -- what goes on from the test
     abbrev pub TopRuns : ℕ → ℕ → ℕ → (Mask → Mask → State → Res) → Type 0
     TopRuns t top end value =
-        (q : ℕ) (live returned : Mask) (s : State) (c : Conf) → InLoop top live returned s c → Inside w live → any (gang_of w) live ≡ true → q ≤ 32 * s.work → StmtRuns w t c end k co rr n q (value live returned s)
+        (q : ℕ) (live returned : Mask) (s : State) (c : Conf) → InLoop top live returned s c → Inside w live → any (gang_of w) live ≡ true → q ≤ 32 * s.work → StmtRuns w t c end spot q (value live returned s)
 
     pub step_runs : (m top past end : ℕ) (step_code : ℕ → List Instr) (step : Mask → State → Val Done) (next : Mask → Mask → State → Res) → suc m ≤ w.turns → end ≡ past + length (loop_end_code e k rr n) → AreAt w.routine.code past (loop_end_code e k rr n) → StepRuns w n step_code step → TopRuns m top end next → Behind m (λ pc. live_code (nobody_leaves e) n pc (λ pc1. step_code pc1 ++ instr.Jump top ∷ [])) past end (λ live returned s. with_value (step live s) (λ _ s1. next live returned s1))
     step_runs m top past end step_code step next le ends at_end run from_top live returned s c pc q has to i inside must used =
         live_runs (suc m) (nobody_leaves e) past end pc q live returned s c (λ pc1. step_code pc1 ++ instr.Jump top ∷ []) (λ live returned s. with_value (step live s) (λ _ s1. next live returned s1)) ends must has to at_end i used
         (λ c1 pc1 q1 at1 to1 i1 some used1. go c1 pc1 q1 i1 some (step live s) (are_back w.routine.code pc1 (step_code pc1) (instr.Jump top ∷ []) at1).0 (run live s c1 pc1 (4 + q1) (are_front w.routine.code pc1 (step_code pc1) (instr.Jump top ∷ []) at1) (record { at = i1.at; mask = i1.live_is; some = some; inside = inside; stands = i1.stands; used = omega (arith, used1); low = omega arith })))
       where
-        go : (c1 : Conf) (pc1 q1 : ℕ) → InLoop pc1 live returned s c1 → any (gang_of w) live ≡ true → (v : Val Done) → slice_get w.routine.code (pc1 + length (step_code pc1)) ≡ Some (instr.Jump top) → DoneRuns w c1 (pc1 + length (step_code pc1)) (n + 3) (4 + q1) v → StmtRuns w (suc m) c1 end k co rr n q1 (with_value v (λ _ s1. next live returned s1))
+        go : (c1 : Conf) (pc1 q1 : ℕ) → InLoop pc1 live returned s c1 → any (gang_of w) live ≡ true → (v : Val Done) → slice_get w.routine.code (pc1 + length (step_code pc1)) ≡ Some (instr.Jump top) → DoneRuns w c1 (pc1 + length (step_code pc1)) (n + 3) (4 + q1) v → StmtRuns w (suc m) c1 end spot q1 (with_value v (λ _ s1. next live returned s1))
         go c1 pc1 q1 i1 some (Gives u s1) at ok =
             let c2 = ok.conf in
             let c3 : Conf = record c2 { pc = top } in
             let long : ok.steps + 1 ≡ suc ok.steps = omega arith in
-            stmt_further m c1 c3 ok.steps end k co rr n q1 _ (subst (λ z. Comes w c1 z c3) long (comes_on w c1 c2 c3 ok.steps 1 ok.comes (step_go w c2 (pc1 + length (step_code pc1)) (instr.Jump top) c3 ready ok.at at refl))) (spares_less w n (n + 3) c1 c2 (omega arith) ok.spares) (λ y lt ne. ok.masks y (omega arith)) three
-            (from_top (suc ok.steps + q1) live returned s1 c3 (record { at = record { home_is = ok.at.home_is; waiting_is = ok.at.waiting_is; pc_is = refl }; all_is = ok.masks k (omega (arith, three.low_k)) ∙ i1.all_is; live_is = ok.masks n (omega arith) ∙ i1.live_is; gone = gone_moved e.returns returned c1 c3 (ok.masks (n + 2) (omega arith)) i1.gone; stands = ok.stands }) inside some (omega (arith, ok.bound)))
+            stmt_further m c1 c3 ok.steps end spot q1 _ (subst (λ z. Comes w c1 z c3) long (comes_on w c1 c2 c3 ok.steps 1 ok.comes (step_go w c2 (pc1 + length (step_code pc1)) (instr.Jump top) c3 ready ok.at at refl))) (spares_less w n (n + 3) c1 c2 (omega arith) ok.spares) (λ y lt ne. ok.masks y (omega arith)) three
+            (from_top (suc ok.steps + q1) live returned s1 c3 (record { at = record { home_is = ok.at.home_is; waiting_is = ok.at.waiting_is; pc_is = refl }; all_is = ok.masks k (omega (arith, three.low_on)) ∙ i1.all_is; live_is = ok.masks n (omega arith) ∙ i1.live_is; gone = gone_moved e.returns returned c1 c3 (ok.masks (n + 2) (omega arith)) i1.gone; stands = ok.stands }) inside some (omega (arith, ok.bound)))
         go c1 pc1 q1 i1 some (Fails p s1) at bad = failed_less w ready c1 4 q1 p s1 bad
         go c1 pc1 q1 i1 some (Stops s1) at cut = fewer w.turns (suc m) c1 q1 s1 le (stopped_less w ready w.turns c1 4 q1 s1 cut)
 
@@ -501,9 +511,9 @@ module _ (w : Setting) (ready : IsSettled w) where
         finish s2 = Went s2 (without all returned) nobody nobody returned
 
         -- the jump is taken, or the end follows; the test's value is known
-        jump_back : (r : Rate) (pc2 q2 : ℕ) (v : Payload) (s1 : State) (c2 : Conf) → InLoop pc2 live returned s1 c2 → any (gang_of w) live ≡ true → Holds r live x v c2 → 4 + q2 ≤ 32 * s1.work → AreAt w.routine.code pc2 (again_code r x n top) → pc2 + length (again_code r x n top) ≡ past → StmtRuns w (suc m) c2 end k co rr n q2 (if_so (any (gang_of w) (kept_by is_true live v)) (turn (kept_by is_true live v) returned) finish s1)
+        jump_back : (r : Rate) (pc2 q2 : ℕ) (v : Payload) (s1 : State) (c2 : Conf) → InLoop pc2 live returned s1 c2 → any (gang_of w) live ≡ true → Holds r live x v c2 → 4 + q2 ≤ 32 * s1.work → AreAt w.routine.code pc2 (again_code r x n top) → pc2 + length (again_code r x n top) ≡ past → StmtRuns w (suc m) c2 end spot q2 (if_so (any (gang_of w) (kept_by is_true live v)) (turn (kept_by is_true live v) returned) finish s1)
         jump_back Uniform pc2 q2 v s1 c2 j some hold used2 at to2 =
-            subst (λ z. StmtRuns w (suc m) c2 end k co rr n q2 (if_so (any (gang_of w) (kept_by is_true live z)) (turn (kept_by is_true live z) returned) finish s1)) (sym hold) (by (is_true (c2.scalars x)) refl)
+            subst (λ z. StmtRuns w (suc m) c2 end spot q2 (if_so (any (gang_of w) (kept_by is_true live z)) (turn (kept_by is_true live z) returned) finish s1)) (sym hold) (by (is_true (c2.scalars x)) refl)
           where
             c3 : Conf
             c3 = jumped w ready c2 jump.True (register Uniform x) top
@@ -514,17 +524,17 @@ module _ (w : Setting) (ready : IsSettled w) where
             comes : Comes w c2 1 c3
             comes = jump_comes w ready c2 pc2 jump.True (register Uniform x) top j.at at.0
 
-            by : (b : Bool) → is_true (c2.scalars x) ≡ b → StmtRuns w (suc m) c2 end k co rr n q2 (if_so (any (gang_of w) (if b then live else nobody)) (turn (if b then live else nobody) returned) finish s1)
+            by : (b : Bool) → is_true (c2.scalars x) ≡ b → StmtRuns w (suc m) c2 end spot q2 (if_so (any (gang_of w) (if b then live else nobody)) (turn (if b then live else nobody) returned) finish s1)
             by true h =
-                subst (λ z. StmtRuns w (suc m) c2 end k co rr n q2 (if_so z (turn live returned) finish s1)) (sym some)
-                (stmt_further m c2 c3 0 end k co rr n q2 _ comes (spares_all w n c2) (λ y lt ne. refl) three
+                subst (λ z. StmtRuns w (suc m) c2 end spot q2 (if_so z (turn live returned) finish s1)) (sym some)
+                (stmt_further m c2 c3 0 end spot q2 _ comes (spares_all w n c2) (λ y lt ne. refl) three
                 (f live returned s1 c3 top (1 + q2) at_top top_past (in3 top (jump_at w ready c2 pc2 jump.True (register Uniform x) top true j.at h)) some inside (omega (arith, used2))))
             by false h =
-                subst (λ z. StmtRuns w (suc m) c2 end k co rr n q2 (if_so z (turn nobody returned) finish s1)) (sym (any_nobody (gang_of w)))
-                (stmt_after w ready (suc m) c2 c3 1 end k co rr n q2 (finish s1) comes (spares_all w n c2) (λ y lt ne. refl) three
-                (subst (λ z. StmtRuns w (suc m) c3 z k co rr n (1 + q2) (finish s1)) (sym ends) (end_runs (suc m) past (1 + q2) live returned s1 c3 (in3 past (at_to w c3 (pc2 + 1) past (jump_at w ready c2 pc2 jump.True (register Uniform x) top false j.at h) (omega (arith, to2)))) (omega (arith, used2)) at_end)))
+                subst (λ z. StmtRuns w (suc m) c2 end spot q2 (if_so z (turn nobody returned) finish s1)) (sym (any_nobody (gang_of w)))
+                (stmt_after w ready (suc m) c2 c3 1 end spot q2 (finish s1) comes (spares_all w n c2) (λ y lt ne. refl) three
+                (subst (λ z. StmtRuns w (suc m) c3 z spot (1 + q2) (finish s1)) (sym ends) (end_runs (suc m) past (1 + q2) live returned s1 c3 (in3 past (at_to w c3 (pc2 + 1) past (jump_at w ready c2 pc2 jump.True (register Uniform x) top false j.at h) (omega (arith, to2)))) (omega (arith, used2)) at_end)))
         jump_back Varying pc2 q2 v s1 c2 j some hold used2 at to2 =
-            subst (λ z. StmtRuns w (suc m) c2 end k co rr n q2 (if_so (any (gang_of w) z) (turn z returned) finish s1)) (sym (at_kept Varying live is_true v ∙ ap (kept_by is_true live) hold)) (by (any (gang_of w) kept) refl)
+            subst (λ z. StmtRuns w (suc m) c2 end spot q2 (if_so (any (gang_of w) z) (turn z returned) finish s1)) (sym (at_kept Varying live is_true v ∙ ap (kept_by is_true live) hold)) (by (any (gang_of w) kept) refl)
           where
             kept : Mask
             kept = where_true is_true (on live (c2.vectors x))
@@ -559,19 +569,19 @@ module _ (w : Setting) (ready : IsSettled w) where
             on_is : (b : Bool) → any (gang_of w) kept ≡ b → jumps w.code w.routine c3 jump.On (mask_register n) ≡ b
             on_is b h = ap (any (gang_of w)) kept_is ∙ h
 
-            by : (b : Bool) → any (gang_of w) kept ≡ b → StmtRuns w (suc m) c2 end k co rr n q2 (if_so b (turn kept returned) finish s1)
+            by : (b : Bool) → any (gang_of w) kept ≡ b → StmtRuns w (suc m) c2 end spot q2 (if_so b (turn kept returned) finish s1)
             by true h =
-                stmt_further m c2 c4 1 end k co rr n q2 _ comes (spares_all w n c2) (λ y lt ne. low y lt) three
+                stmt_further m c2 c4 1 end spot q2 _ comes (spares_all w n c2) (λ y lt ne. low y lt) three
                 (f kept returned s1 c4 top (2 + q2) at_top top_past (in4 top (jump_at w ready c3 (pc2 + 1) jump.On (mask_register n) top true at3 (on_is true h))) h (where_inside (gang_of w) live is_true (c2.vectors x) inside) (omega (arith, used2)))
             by false h =
-                stmt_after w ready (suc m) c2 c4 2 end k co rr n q2 (finish s1) comes (spares_all w n c2) (λ y lt ne. low y lt) three
-                (subst (λ z. StmtRuns w (suc m) c4 z k co rr n (2 + q2) (finish s1)) (sym ends) (end_runs (suc m) past (2 + q2) kept returned s1 c4 (in4 past (at_to w c4 (pc2 + 1 + 1) past (jump_at w ready c3 (pc2 + 1) jump.On (mask_register n) top false at3 (on_is false h)) (omega (arith, to2)))) (omega (arith, used2)) at_end))
+                stmt_after w ready (suc m) c2 c4 2 end spot q2 (finish s1) comes (spares_all w n c2) (λ y lt ne. low y lt) three
+                (subst (λ z. StmtRuns w (suc m) c4 z spot (2 + q2) (finish s1)) (sym ends) (end_runs (suc m) past (2 + q2) kept returned s1 c4 (in4 past (at_to w c4 (pc2 + 1 + 1) past (jump_at w ready c3 (pc2 + 1) jump.On (mask_register n) top false at3 (on_is false h)) (omega (arith, to2)))) (omega (arith, used2)) at_end))
 
-        go : (c1 : Conf) (pc1 q1 : ℕ) → InLoop pc1 live returned s c1 → any (gang_of w) live ≡ true → (v : Val Payload) → AreAt w.routine.code (pc1 + length (test_code pc1)) (again_code r x n top) → pc1 + length (test_code pc1) + length (again_code r x n top) ≡ past → Runs w c1 (pc1 + length (test_code pc1)) (n + 3) (4 + q1) (Holds r live x) v → StmtRuns w (suc m) c1 end k co rr n q1 (with_value v (λ v1 s1. if_so (any (gang_of w) (kept_by is_true live v1)) (turn (kept_by is_true live v1) returned) finish s1))
+        go : (c1 : Conf) (pc1 q1 : ℕ) → InLoop pc1 live returned s c1 → any (gang_of w) live ≡ true → (v : Val Payload) → AreAt w.routine.code (pc1 + length (test_code pc1)) (again_code r x n top) → pc1 + length (test_code pc1) + length (again_code r x n top) ≡ past → Runs w c1 (pc1 + length (test_code pc1)) (n + 3) (4 + q1) (Holds r live x) v → StmtRuns w (suc m) c1 end spot q1 (with_value v (λ v1 s1. if_so (any (gang_of w) (kept_by is_true live v1)) (turn (kept_by is_true live v1) returned) finish s1))
         go c1 pc1 q1 i1 some (Gives v1 s1) at to2 ok =
             let c2 = ok.conf in
-            stmt_after w ready (suc m) c1 c2 ok.steps end k co rr n q1 _ ok.comes (spares_less w n (n + 3) c1 c2 (omega arith) ok.spares) (λ y lt ne. ok.masks y (omega arith)) three
-            (jump_back r (pc1 + length (test_code pc1)) (ok.steps + q1) v1 s1 c2 (record { at = ok.at; all_is = ok.masks k (omega (arith, three.low_k)) ∙ i1.all_is; live_is = ok.masks n (omega arith) ∙ i1.live_is; gone = gone_moved e.returns returned c1 c2 (ok.masks (n + 2) (omega arith)) i1.gone; stands = ok.stands }) some ok.holds (omega (arith, ok.bound)) at to2)
+            stmt_after w ready (suc m) c1 c2 ok.steps end spot q1 _ ok.comes (spares_less w n (n + 3) c1 c2 (omega arith) ok.spares) (λ y lt ne. ok.masks y (omega arith)) three
+            (jump_back r (pc1 + length (test_code pc1)) (ok.steps + q1) v1 s1 c2 (record { at = ok.at; all_is = ok.masks k (omega (arith, three.low_on)) ∙ i1.all_is; live_is = ok.masks n (omega arith) ∙ i1.live_is; gone = gone_moved e.returns returned c1 c2 (ok.masks (n + 2) (omega arith)) i1.gone; stands = ok.stands }) some ok.holds (omega (arith, ok.bound)) at to2)
         go c1 pc1 q1 i1 some (Fails p s1) at to2 bad = failed_less w ready c1 4 q1 p s1 bad
         go c1 pc1 q1 i1 some (Stops s1) at to2 cut = fewer w.turns (suc m) c1 q1 s1 le (stopped_less w ready w.turns c1 4 q1 s1 cut)
 
@@ -602,15 +612,15 @@ module _ (w : Setting) (ready : IsSettled w) where
 
       module _ (at_test : AreAt w.routine.code top (test_code top)) (at_sift : AreAt w.routine.code test_end (sift_code r x test_end n turn_and_back)) (at_end : AreAt w.routine.code sift_end (loop_end_code e k rr n)) where
         -- from the test, with what a turn does
-        pub from_top : (t q : ℕ) (live returned : Mask) (s : State) (c : Conf) → t ≤ w.turns → KeptRuns t turn_and_back sift_end while_end (while_turns t) → InLoop top live returned s c → Inside w live → any (gang_of w) live ≡ true → q ≤ 32 * s.work → StmtRuns w t c while_end k co rr n q (tested (gang_of w) test body no_step all (while_turns t) live returned s)
+        pub from_top : (t q : ℕ) (live returned : Mask) (s : State) (c : Conf) → t ≤ w.turns → KeptRuns t turn_and_back sift_end while_end (while_turns t) → InLoop top live returned s c → Inside w live → any (gang_of w) live ≡ true → q ≤ 32 * s.work → StmtRuns w t c while_end spot q (tested (gang_of w) test body no_step all (while_turns t) live returned s)
         from_top t q live returned s c le f i inside some used = tested_runs t r x top sift_end q live returned s c test_code turn_and_back test (while_turns t) le refl i inside some used at_test at_sift at_end run_test f
 
         pub back_runs : (m : ℕ) → suc m ≤ w.turns → KeptRuns m turn_and_back sift_end while_end (while_turns m) → Behind m back sift_end while_end (stepped (gang_of w) test body no_step all (while_turns m))
         back_runs m le f live returned s c pc q has to i inside must used = go (nobody_leaves e) (any (gang_of w) live) refl must has.0
           where
-            again : (c1 : Conf) → Comes w c 1 c1 → At w c1 top → c1.masks ≡ c.masks → Stands w s c1 → Spares w n c c1 → any (gang_of w) live ≡ true → StmtRuns w (suc m) c while_end k co rr n q (tested (gang_of w) test body no_step all (while_turns m) live returned s)
+            again : (c1 : Conf) → Comes w c 1 c1 → At w c1 top → c1.masks ≡ c.masks → Stands w s c1 → Spares w n c c1 → any (gang_of w) live ≡ true → StmtRuns w (suc m) c while_end spot q (tested (gang_of w) test body no_step all (while_turns m) live returned s)
             again c1 h at same st sp some =
-                stmt_further m c c1 0 while_end k co rr n q _ h sp (λ y lt ne. ap (λ g. g y) same) three
+                stmt_further m c c1 0 while_end spot q _ h sp (λ y lt ne. ap (λ g. g y) same) three
                 (from_top m (1 + q) live returned s c1 (omega (arith, le)) f (record { at = at; all_is = ap (λ g. g k) same ∙ i.all_is; live_is = ap (λ g. g n) same ∙ i.live_is; gone = gone_moved e.returns returned c c1 (ap (λ g. g (n + 2)) same) i.gone; stands = st }) inside some (omega (arith, used)))
 
             c2 : Conf
@@ -622,12 +632,12 @@ module _ (w : Setting) (ready : IsSettled w) where
             on_is : (b : Bool) → any (gang_of w) live ≡ b → jumps w.code w.routine c jump.On (mask_register n) ≡ b
             on_is b h = ap (any (gang_of w)) i.live_is ∙ h
 
-            go : (d b : Bool) → any (gang_of w) live ≡ b → (d ≡ true → any (gang_of w) live ≡ true) → slice_get w.routine.code pc ≡ Some (back_code d n top) → StmtRuns w (suc m) c while_end k co rr n q (if_so b (stepped (gang_of w) test body no_step all (while_turns m) live returned) (loop_end (gang_of w) test body no_step all returned) s)
+            go : (d b : Bool) → any (gang_of w) live ≡ b → (d ≡ true → any (gang_of w) live ≡ true) → slice_get w.routine.code pc ≡ Some (back_code d n top) → StmtRuns w (suc m) c while_end spot q (if_so b (stepped (gang_of w) test body no_step all (while_turns m) live returned) (loop_end (gang_of w) test body no_step all returned) s)
             go true true h all_stay at = again c2 (step_go w c pc (instr.Jump top) c2 ready i.at at refl) (record { home_is = i.at.home_is; waiting_is = i.at.waiting_is; pc_is = refl }) refl i.stands (spares_all w n c) h
             go true false h all_stay at = let no : true ≡ false = sym (all_stay refl) ∙ h in absurd (cc)
             go false true h all_stay at = again c3 (jump_comes w ready c pc jump.On (mask_register n) top i.at at) (jump_at w ready c pc jump.On (mask_register n) top true i.at (on_is true h)) refl i.stands (spares_all w n c) h
             go false false h all_stay at =
-                stmt_after w ready (suc m) c c3 1 while_end k co rr n q (Went s (without all returned) nobody nobody returned) (jump_comes w ready c pc jump.On (mask_register n) top i.at at) (spares_all w n c) (λ y lt ne. refl) three
+                stmt_after w ready (suc m) c c3 1 while_end spot q (Went s (without all returned) nobody nobody returned) (jump_comes w ready c pc jump.On (mask_register n) top i.at at) (spares_all w n c) (λ y lt ne. refl) three
                 (end_runs (suc m) sift_end (1 + q) live returned s c3 (record { at = at_to w c3 (pc + 1) sift_end (jump_at w ready c pc jump.On (mask_register n) top false i.at (on_is false h)) (omega (arith, to)); all_is = i.all_is; live_is = i.live_is; gone = gone_moved e.returns returned c c3 refl i.gone; stands = i.stands }) (omega (arith, used)) at_end)
 
     -- ---- the beginning
@@ -646,7 +656,7 @@ module _ (w : Setting) (ready : IsSettled w) where
         first = step_go w c pc (copy_mask n k) c1 ready at has.0 refl
 
         kn : k ≢ n
-        kn = omega (arith, three.low_k)
+        kn = omega (arith, three.low_on)
 
         low1 : (y : ℕ) → y < n → c1.masks y ≡ c.masks y
         low1 y lt = let ne : y ≢ n = omega arith in put_other c.masks n (c.masks k) y ne
@@ -658,7 +668,7 @@ module _ (w : Setting) (ready : IsSettled w) where
         n2 = omega arith
 
         k2 : k ≢ n + 2
-        k2 = omega (arith, three.low_k)
+        k2 = omega (arith, three.low_on)
 
         gone2 : (b : Bool) → Gone b nobody c2
         gone2 true = put_same c1.masks (n + 2) nobody
@@ -689,7 +699,7 @@ module _ (w : Setting) (ready : IsSettled w) where
         }
 
     -- a loop begins
-    pub begin_runs : (pc end q : ℕ) (s : State) (c : Conf) (value : Mask → Mask → State → Res) → AreAt w.routine.code pc (enter_code e k n) → Enters w pc k n all s c (3 + q) → TopRuns w.turns (pc + length (enter_code e k n)) end value → StmtRuns w w.turns c end k co rr n (1 + q) (value all nobody s)
+    pub begin_runs : (pc end q : ℕ) (s : State) (c : Conf) (value : Mask → Mask → State → Res) → AreAt w.routine.code pc (enter_code e k n) → EntersAt w pc spot all s c (3 + q) → TopRuns w.turns (pc + length (enter_code e k n)) end value → StmtRuns w w.turns c end spot (1 + q) (value all nobody s)
     begin_runs pc end q s c value has b f =
         let m = entered pc s c b.at b.mask b.stands has in
-        stmt_after w ready w.turns c m.conf m.steps end k co rr n (1 + q) (value all nobody s) m.comes m.spares (λ y lt ne. m.masks y lt) three (f (m.steps + (1 + q)) all nobody s m.conf m.loop b.inside b.some (omega (arith, m.few, b.used)))
+        stmt_after w ready w.turns c m.conf m.steps end spot (1 + q) (value all nobody s) m.comes m.spares (λ y lt ne. m.masks y lt) three (f (m.steps + (1 + q)) all nobody s m.conf m.loop b.inside b.some (omega (arith, m.few, b.used)))

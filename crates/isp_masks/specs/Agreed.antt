@@ -2,15 +2,13 @@
 -- the program, and the verifier accepts it.
 use Rattle.std.specs.Prelude.{◌≡◌, None}
 use Rattle.isp_code.specs.Listing.{Listing}
-use Rattle.isp_lex.specs.declared.fault.Fault.{Fault}
 use Rattle.isp_rates.specs.Covered.{program_left}
-use Rattle.isp_rates.specs.Program.{ProgramBreach}
-use Rattle.isp_typed.specs.Fine.{IsFine}
+use Rattle.isp_rates.specs.Program.{IsAccepted}
 use Rattle.isp_typed.specs.Typed.{Program}
 use Rattle.isp_verify.specs.Faults.{code_fault}
 use Rattle.isp_masks.specs.Agreement.{Agrees}
 use Rattle.isp_masks.specs.Lowered.{HasCode}
 
 pub record LoweredAgrees : Type 0 where
-  pub agrees : (program : Program) (code : Listing) → IsFine program → ((e : Fault) → ProgramBreach program e → ⊥) → program_left program ≡ None → HasCode program code → Agrees program code
-  pub accepted : (program : Program) (code : Listing) → IsFine program → ((e : Fault) → ProgramBreach program e → ⊥) → program_left program ≡ None → HasCode program code → code_fault code ≡ None
+  pub agrees : (program : Program) (code : Listing) → IsAccepted program → program_left program ≡ None → HasCode program code → Agrees program code
+  pub accepted : (program : Program) (code : Listing) → IsAccepted program → program_left program ≡ None → HasCode program code → code_fault code ≡ None

@@ -20,6 +20,7 @@ use Rattle.isp_meaning.specs.Calls.{frame_of, begun}
 use Rattle.isp_meaning.specs.Runs.{handed, first_frame, first_state}
 use Rattle.isp_meaning.specs.Expressions.{Passed}
 use Rattle.isp_meaning.specs.State.{State, Frame}
+use Rattle.isp_lower.specs.Callees.{rates_in}
 use Rattle.isp_lower.specs.Layout.{Layout, IsApart, register}
 use Rattle.isp_lower.specs.Setting.{Setting, AreAt}
 use Rattle.isp_lower.specs.Tables.{Table}
@@ -27,7 +28,9 @@ use Rattle.isp_masks.specs.Arrays.{ArraysStand}
 use Rattle.isp_masks.specs.Asks.{block_asks}
 use Rattle.isp_masks.specs.Rated.{BlockRated}
 use Rattle.isp_masks.specs.Passing.{PassedFirst}
-use Rattle.isp_masks.specs.Statements.{block_places, function_code}
+use Rattle.isp_masks.specs.Named.{AreNamed}
+use Rattle.isp_masks.specs.Spots.{Numbers}
+use Rattle.isp_masks.specs.Statements.{block_places, block_texts, function_code}
 
 -- the state in which the entry's body begins, and the setting: nothing waits, and 255 more calls may run
 abbrev pub entry_state : Program → TFunction → List Argument → State
@@ -67,33 +70,43 @@ abbrev pub AreOne : List Declared → Type 0
 AreOne [] = Unit {0}
 AreOne (x ∷ xs) = IsOne x.holds × AreOne xs
 
--- Routine f is the code of function f, by this layout; the places that it names begin at number p. Names, types and rates accept the
--- function; what its code asks for is in the table of registers; and the arrays stand where an entry has them.
-pub record IsCompiled (program : Program) (code : Listing) (f : ℕ) (h : TFunction) (g : Routine) (l : Layout) (p : ℕ) : Type 0 where
+-- Routine f is the code of function f, by this layout; what it names begins at these numbers. Names, types and rates accept the
+-- function; what its code asks for is in the table of registers; it is handed values in the first registers of their classes, and
+-- hands over as the parameters of the functions ask; and its arrays stand where a call has them.
+pub record IsCompiled (program : Program) (code : Listing) (f : ℕ) (h : TFunction) (g : Routine) (l : Layout) (z : Numbers) : Type 0 where
   pub gang : code.gang ≡ program.gang
   pub source : slice_get program.functions f ≡ Some h
   pub found : slice_get code.routines f ≡ Some g
   pub apart : IsApart l
+  pub rates : l.rates ≡ rates_in program.functions
   pub fine : FineFunction program.functions h
-  pub one : AreOne (params_of h)
   pub passed : PassedFirst h l
-  pub result : ResultFits g l h.answer h.gives
-  pub code_is : AreAt g.code 0 (function_code l h.answer h.body p)
-  pub places_are : AreAt code.places p (block_places l h.body)
-  pub rated : BlockRated h.answer h.body
+  pub code_is : AreAt g.code 0 (function_code l h.answer h.body 0 z)
+  pub names : AreNamed code z (block_places l h.body) (block_texts h.body)
+  pub rated : BlockRated program.functions h.answer h.body
   pub named : Table g l h.variables (block_asks h.answer h.body 3)
   pub arrays : ArraysStand h g l
 
--- The code has the functions of a program by number, and those that are exported with their names and signatures.
-pub record IsEntryCode (program : Program) (code : Listing) (f : ℕ) (h : TFunction) (g : Routine) : Type 0 where
+pub record IsFunctionCode (program : Program) (code : Listing) (f : ℕ) (h : TFunction) (g : Routine) : Type 0 where
+  pub layout : Layout
+  pub numbers : Numbers
+  pub compiled : IsCompiled program code f h g layout numbers
+
+-- each function has its code, by number
+pub record AreCompiled (program : Program) (code : Listing) : Type 0 where
+  pub count : length code.routines ≡ length program.functions
+  pub each : (f : ℕ) (h : TFunction) (g : Routine) → slice_get program.functions f ≡ Some h → slice_get code.routines f ≡ Some g → IsFunctionCode program code f h g
+
+-- what an exported function is besides: it has its signature, and takes and gives one value for the gang
+pub record IsEntry (h : TFunction) (g : Routine) (l : Layout) : Type 0 where
   pub parameters : parameters_of g ≡ h.parameters
   pub result : result_of g.returns ≡ h.gives
-  pub layout : Layout
-  pub place : ℕ
-  pub compiled : IsCompiled program code f h g layout place
+  pub one : AreOne (params_of h)
+  pub gives : ResultFits g l h.answer h.gives
 
+-- The code has the functions of a program by number, and those that are exported with their names and signatures.
 pub record IsProgramCode (program : Program) (code : Listing) : Type 0 where
   pub gang : code.gang ≡ program.gang
-  pub count : length code.routines ≡ length program.functions
+  pub compiled : AreCompiled program code
   pub named : (f : ℕ) (h : TFunction) (g : Routine) → slice_get program.functions f ≡ Some h → slice_get code.routines f ≡ Some g → (g.name ≡ h.name) × (g.exported ≡ h.exported)
-  pub each : (f : ℕ) (h : TFunction) (g : Routine) → slice_get program.functions f ≡ Some h → slice_get code.routines f ≡ Some g → h.exported ≡ true → IsEntryCode program code f h g
+  pub entries : (f : ℕ) (h : TFunction) (g : Routine) (eh : slice_get program.functions f ≡ Some h) (eg : slice_get code.routines f ≡ Some g) → h.exported ≡ true → IsEntry h g (compiled.each f h g eh eg).layout

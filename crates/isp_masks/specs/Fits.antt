@@ -11,10 +11,10 @@ use Rattle.isp_masks.specs.Rated.{StmtRated, BlockRated}
 module _ (w : Setting) where
   pub record StmtFits (x : TStmt) (n : ℕ) : Type 0 where
     pub fine : FineStmt w.program.functions w.function.variables w.frame.answer x
-    pub rated : StmtRated w.frame.answer x
+    pub rated : StmtRated w.program.functions w.frame.answer x
     pub named : InTable w (stmt_asks w.frame.answer x n)
 
   pub record BlockFits (b : TBlock) (n : ℕ) : Type 0 where
     pub fine : FineBlock w.program.functions w.function.variables w.frame.answer b
-    pub rated : BlockRated w.frame.answer b
+    pub rated : BlockRated w.program.functions w.frame.answer b
     pub named : InTable w (block_asks w.frame.answer b n)

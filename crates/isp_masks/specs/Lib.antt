@@ -1,8 +1,10 @@
 pub mod Exits
 pub mod Sets
+pub mod Spots
 pub mod Fors
 pub mod Loops
 pub mod Statements
+pub mod Named
 pub mod Written
 pub mod Rated
 pub mod Fits

@@ -13,7 +13,8 @@ use Rattle.isp_lower.specs.Runs.{Enters, Runs, DoneRuns}
 use Rattle.isp_lower.specs.Setting.{Setting, IsSettled, gang_of, AreAt, Holds}
 use Rattle.isp_masks.specs.Exits.{Leave}
 use Rattle.isp_masks.specs.Loops.{while_code, for_code, endless_code, do_code}
-use Rattle.isp_masks.specs.StmtRuns.{AreThree, StmtRuns}
+use Rattle.isp_masks.specs.Spots.{Spot, body_spot}
+use Rattle.isp_masks.specs.StmtRuns.{AreThree, EntersAt, StmtRuns}
 use Rattle.isp_masks.specs.declared.exits.Exits.{Exits}
 
 -- ---- what is asked of the parts: each is code that is told where it begins
@@ -27,7 +28,7 @@ module _ (w : Setting) (n : ℕ) where
   -- a body under masks n, n + 1 and n + 2
   abbrev pub BodyRuns : (ℕ → List Instr) → (Mask → State → Res) → Type 0
   BodyRuns code v =
-      (T : Mask) (s : State) (c : Conf) (pc z : ℕ) → AreAt w.routine.code pc (code pc) → Enters w pc n (n + 3) T s c z → StmtRuns w w.turns c (pc + length (code pc)) n (n + 1) (n + 2) (n + 3) z (v T s)
+      (T : Mask) (s : State) (c : Conf) (pc z : ℕ) → AreAt w.routine.code pc (code pc) → EntersAt w pc (body_spot n) T s c z → StmtRuns w w.turns c (pc + length (code pc)) (body_spot n) z (v T s)
 
   -- a step under mask n
   abbrev pub StepRuns : (ℕ → List Instr) → (Mask → State → Val Done) → Type 0
@@ -43,21 +44,21 @@ IsBody e v = (T : Mask) (s : State) → Parted T (v T s) × Leave e (v T s)
 -- From registers that stand for a state, and a mask that stands for a set with members, the code of a loop does what the
 -- loop means: its own unit of work pays for its beginning and its end, and each turn's for what a turn needs besides its
 -- parts. A step is left.
-pub record LoopsRun (w : Setting) (e : Exits) (k co rr n : ℕ) (a : Mask) : Type 0 where
-  pub while_loop : (r : Rate) (x pc q : ℕ) (s : State) (c : Conf) (test_code body_code : ℕ → List Instr) (test : Mask → State → Val Payload) (body : Mask → State → Res) → TestRuns w n r x test_code test → BodyRuns w n body_code body → IsBody e body
-      → AreAt w.routine.code pc (while_code e r x pc k rr n test_code body_code) → Enters w pc k n a s c q
-      → StmtRuns w w.turns c (pc + length (while_code e r x pc k rr n test_code body_code)) k co rr n (1 + q) (tested (gang_of w) test body (λ l s1. Gives tt s1) a (turns (gang_of w) test body (λ l s1. Gives tt s1) a w.turns) a nobody (tick s))
+pub record LoopsRun (w : Setting) (e : Exits) (spot : Spot) (a : Mask) : Type 0 where
+  pub while_loop : (r : Rate) (x pc q : ℕ) (s : State) (c : Conf) (test_code body_code : ℕ → List Instr) (test : Mask → State → Val Payload) (body : Mask → State → Res) → TestRuns w spot.slot r x test_code test → BodyRuns w spot.slot body_code body → IsBody e body
+      → AreAt w.routine.code pc (while_code e r x pc spot test_code body_code) → EntersAt w pc spot a s c q
+      → StmtRuns w w.turns c (pc + length (while_code e r x pc spot test_code body_code)) spot (1 + q) (tested (gang_of w) test body (λ l s1. Gives tt s1) a (turns (gang_of w) test body (λ l s1. Gives tt s1) a w.turns) a nobody (tick s))
   -- behind its first part
-  pub for_loop : (r : Rate) (x pc q : ℕ) (s : State) (c : Conf) (test_code body_code step_code : ℕ → List Instr) (test : Mask → State → Val Payload) (body : Mask → State → Res) (step : Mask → State → Val Done) → TestRuns w n r x test_code test → BodyRuns w n body_code body → StepRuns w n step_code step → IsBody e body
-      → AreAt w.routine.code pc (for_code e r x pc k rr n test_code body_code step_code) → Enters w pc k n a s c (3 + q)
-      → StmtRuns w w.turns c (pc + length (for_code e r x pc k rr n test_code body_code step_code)) k co rr n (1 + q) (tested (gang_of w) test body step a (turns (gang_of w) test body step a w.turns) a nobody s)
+  pub for_loop : (r : Rate) (x pc q : ℕ) (s : State) (c : Conf) (test_code body_code step_code : ℕ → List Instr) (test : Mask → State → Val Payload) (body : Mask → State → Res) (step : Mask → State → Val Done) → TestRuns w spot.slot r x test_code test → BodyRuns w spot.slot body_code body → StepRuns w spot.slot step_code step → IsBody e body
+      → AreAt w.routine.code pc (for_code e r x pc spot test_code body_code step_code) → EntersAt w pc spot a s c (3 + q)
+      → StmtRuns w w.turns c (pc + length (for_code e r x pc spot test_code body_code step_code)) spot (1 + q) (tested (gang_of w) test body step a (turns (gang_of w) test body step a w.turns) a nobody s)
   -- and with its test left out
-  pub endless_loop : (pc q : ℕ) (s : State) (c : Conf) (body_code step_code : ℕ → List Instr) (body : Mask → State → Res) (step : Mask → State → Val Done) → BodyRuns w n body_code body → StepRuns w n step_code step → IsBody e body
-      → AreAt w.routine.code pc (endless_code e pc k rr n body_code step_code) → Enters w pc k n a s c (3 + q)
-      → StmtRuns w w.turns c (pc + length (endless_code e pc k rr n body_code step_code)) k co rr n (1 + q) (tested (gang_of w) (λ l s1. Gives (One 1) s1) body step a (turns (gang_of w) (λ l s1. Gives (One 1) s1) body step a w.turns) a nobody s)
-  pub do_loop : (r : Rate) (x pc q : ℕ) (s : State) (c : Conf) (test_code body_code : ℕ → List Instr) (test : Mask → State → Val Payload) (body : Mask → State → Res) → TestRuns w n r x test_code test → BodyRuns w n body_code body → IsBody e body
-      → AreAt w.routine.code pc (do_code e r x pc k rr n test_code body_code) → Enters w pc k n a s c (3 + q)
-      → StmtRuns w w.turns c (pc + length (do_code e r x pc k rr n test_code body_code)) k co rr n (1 + q) (turns (gang_of w) test body (λ l s1. Gives tt s1) a w.turns a nobody s)
+  pub endless_loop : (pc q : ℕ) (s : State) (c : Conf) (body_code step_code : ℕ → List Instr) (body : Mask → State → Res) (step : Mask → State → Val Done) → BodyRuns w spot.slot body_code body → StepRuns w spot.slot step_code step → IsBody e body
+      → AreAt w.routine.code pc (endless_code e pc spot body_code step_code) → EntersAt w pc spot a s c (3 + q)
+      → StmtRuns w w.turns c (pc + length (endless_code e pc spot body_code step_code)) spot (1 + q) (tested (gang_of w) (λ l s1. Gives (One 1) s1) body step a (turns (gang_of w) (λ l s1. Gives (One 1) s1) body step a w.turns) a nobody s)
+  pub do_loop : (r : Rate) (x pc q : ℕ) (s : State) (c : Conf) (test_code body_code : ℕ → List Instr) (test : Mask → State → Val Payload) (body : Mask → State → Res) → TestRuns w spot.slot r x test_code test → BodyRuns w spot.slot body_code body → IsBody e body
+      → AreAt w.routine.code pc (do_code e r x pc spot test_code body_code) → EntersAt w pc spot a s c (3 + q)
+      → StmtRuns w w.turns c (pc + length (do_code e r x pc spot test_code body_code)) spot (1 + q) (turns (gang_of w) test body (λ l s1. Gives tt s1) a w.turns a nobody s)
 
 abbrev pub AllLoopsRun : Type 0
-AllLoopsRun = (w : Setting) → IsSettled w → (e : Exits) (k co rr n : ℕ) (a : Mask) → AreThree k co rr n → LoopsRun w e k co rr n a
+AllLoopsRun = (w : Setting) → IsSettled w → (e : Exits) (spot : Spot) (a : Mask) → AreThree spot → LoopsRun w e spot a

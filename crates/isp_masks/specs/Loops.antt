@@ -1,6 +1,6 @@
--- The code of loops, told where its test and its body begin. Mask n has those that run, mask n + 1 those that continued in a
--- turn, mask n + 2 those that returned; mask k keeps the set that entered until the end. Masks for those that continue or
--- return are used only where the body lets somebody do so.
+-- The code of loops, told the code of its test and of its body. Of the first free slot n on, mask n has those that run, mask
+-- n + 1 those that continued in a turn, mask n + 2 those that returned; mask k keeps the set that entered until the end. Masks
+-- for those that continue or return are used only where the body lets somebody do so.
 use Rattle.std.specs.Prelude.{ℕ, ◌+◌, List, [], ◌∷◌, ◌++◌, Bool, true, false}
 use Rattle.isp_base.specs.declared.types.Rate.{Rate}
 use Rattle.isp_base.specs.declared.types.Rate.TheVariants.{Uniform, Varying}
@@ -12,6 +12,7 @@ use Rattle.isp_lower.specs.Layout.{mask_register}
 use Rattle.isp_lower.specs.Code.{where_so, the_others, jump_off, jump_on, two, guard}
 use Rattle.isp_masks.specs.Exits.{nobody_leaves}
 use Rattle.isp_masks.specs.Sets.{unite, clear_mask}
+use Rattle.isp_masks.specs.Spots.{Spot}
 use Rattle.isp_masks.specs.declared.exits.Exits.{Exits}
 
 abbrev pub copy_mask : ℕ → ℕ → Instr
@@ -68,20 +69,24 @@ again_code Varying x n top = where_so n x n ∷ instr.JumpIf jump.On (mask_regis
 abbrev pub step_back_code : Bool → ℕ → ℕ → ℕ → (ℕ → List Instr) → List Instr
 step_back_code alone n top pc step = live_code alone n pc (λ pc1. step pc1 ++ instr.Jump top ∷ [])
 
-abbrev pub while_code : Exits → Rate → ℕ → ℕ → ℕ → ℕ → ℕ → (ℕ → List Instr) → (ℕ → List Instr) → List Instr
-while_code e r x pc k rr n test body =
-    two pc (enter_code e k n) (λ top. two top (two top (test top) (λ pc1. sift_code r x pc1 n (λ pc2. two pc2 (turn_code e pc2 n body) (λ pc3. back_code (nobody_leaves e) n top ∷ [])))) (λ pc4. loop_end_code e k rr n))
+abbrev pub while_code : Exits → Rate → ℕ → ℕ → Spot → (ℕ → List Instr) → (ℕ → List Instr) → List Instr
+while_code e r x pc spot test body =
+    let n = spot.slot in
+    two pc (enter_code e spot.on n) (λ top. two top (two top (test top) (λ pc1. sift_code r x pc1 n (λ pc2. two pc2 (turn_code e pc2 n body) (λ pc3. back_code (nobody_leaves e) n top ∷ [])))) (λ pc4. loop_end_code e spot.on spot.returned n))
 
 -- the first part of a `for` stands before
-abbrev pub for_code : Exits → Rate → ℕ → ℕ → ℕ → ℕ → ℕ → (ℕ → List Instr) → (ℕ → List Instr) → (ℕ → List Instr) → List Instr
-for_code e r x pc k rr n test body step =
-    two pc (enter_code e k n) (λ top. two top (two top (test top) (λ pc1. sift_code r x pc1 n (λ pc2. two pc2 (turn_code e pc2 n body) (λ pc3. step_back_code (nobody_leaves e) n top pc3 step)))) (λ pc5. loop_end_code e k rr n))
+abbrev pub for_code : Exits → Rate → ℕ → ℕ → Spot → (ℕ → List Instr) → (ℕ → List Instr) → (ℕ → List Instr) → List Instr
+for_code e r x pc spot test body step =
+    let n = spot.slot in
+    two pc (enter_code e spot.on n) (λ top. two top (two top (test top) (λ pc1. sift_code r x pc1 n (λ pc2. two pc2 (turn_code e pc2 n body) (λ pc3. step_back_code (nobody_leaves e) n top pc3 step)))) (λ pc5. loop_end_code e spot.on spot.returned n))
 
 -- a `for` whose test is left out
-abbrev pub endless_code : Exits → ℕ → ℕ → ℕ → ℕ → (ℕ → List Instr) → (ℕ → List Instr) → List Instr
-endless_code e pc k rr n body step =
-    two pc (enter_code e k n) (λ top. two top (two top (turn_code e top n body) (λ pc1. step_back_code (nobody_leaves e) n top pc1 step)) (λ pc3. loop_end_code e k rr n))
+abbrev pub endless_code : Exits → ℕ → Spot → (ℕ → List Instr) → (ℕ → List Instr) → List Instr
+endless_code e pc spot body step =
+    let n = spot.slot in
+    two pc (enter_code e spot.on n) (λ top. two top (two top (turn_code e top n body) (λ pc1. step_back_code (nobody_leaves e) n top pc1 step)) (λ pc3. loop_end_code e spot.on spot.returned n))
 
-abbrev pub do_code : Exits → Rate → ℕ → ℕ → ℕ → ℕ → ℕ → (ℕ → List Instr) → (ℕ → List Instr) → List Instr
-do_code e r x pc k rr n test body =
-    two pc (enter_code e k n) (λ top. two top (two top (turn_code e top n body) (λ pc1. live_code (nobody_leaves e) n pc1 (λ pc2. test pc2 ++ again_code r x n top))) (λ pc3. loop_end_code e k rr n))
+abbrev pub do_code : Exits → Rate → ℕ → ℕ → Spot → (ℕ → List Instr) → (ℕ → List Instr) → List Instr
+do_code e r x pc spot test body =
+    let n = spot.slot in
+    two pc (enter_code e spot.on n) (λ top. two top (two top (turn_code e top n body) (λ pc1. live_code (nobody_leaves e) n pc1 (λ pc2. test pc2 ++ again_code r x n top))) (λ pc3. loop_end_code e spot.on spot.returned n))

@@ -6,6 +6,7 @@ use Rattle.isp_code.specs.Registers.{scalars_of, vectors_of}
 use Rattle.isp_typed.specs.Fine.{FineFunction}
 use Rattle.isp_typed.specs.Typed.{Program, TFunction}
 use Rattle.isp_lower.specs.Asks.{All}
+use Rattle.isp_lower.specs.Callees.{rates_in}
 use Rattle.isp_lower.specs.Drafts.{Draft, all_routines}
 use Rattle.isp_lower.specs.Emitted.{Begins, first_rows}
 use Rattle.isp_lower.specs.Header.{locals_of, params_of, returns_of, types_of}
@@ -15,6 +16,7 @@ use Rattle.isp_lower.specs.Setting.{AreAt}
 use Rattle.isp_lower.specs.Sound.{HasMask}
 use Rattle.isp_lower.specs.Tables.{AnyArray}
 use Rattle.isp_masks.specs.Asks.{block_asks}
+use Rattle.isp_masks.specs.Spots.{Numbers}
 use Rattle.isp_masks.specs.Statements.{block_places, function_code}
 
 -- ---- a routine and a function
@@ -27,7 +29,8 @@ IsFineFunction h = (fs : List TFunction) × FineFunction fs h
 abbrev pub BodyIsOwn : TFunction → Type 0
 BodyIsOwn h = IsOwn h.variables h.answer (block_asks h.answer h.body 3)
 
-pub record IsLowered (h : TFunction) (g : Routine) (places : List Span) : Type 0 where
+-- in a program of some functions
+pub record IsLowered (fs : List TFunction) (h : TFunction) (g : Routine) (places : List Span) : Type 0 where
   pub name : g.name ≡ h.name
   pub exported : g.exported ≡ h.exported
   pub params : g.params ≡ params_of h.parameters h.variables
@@ -43,11 +46,11 @@ pub record IsLowered (h : TFunction) (g : Routine) (places : List Span) : Type 0
   -- the registers and masks that the body asks for are there
   pub three : 3 ≤ g.masks
   pub present : All (HasRow rows) AnyArray AnyArray (HasMask g) (block_asks h.answer h.body 3)
-  -- the code, by the layout of the rows; the places that it names begin at number place
-  pub place : ℕ
-  pub low : place ≤ length places
-  pub code_is : g.code ≡ function_code (layout_of rows) h.answer h.body place
-  pub places_are : AreAt places place (block_places (layout_of rows) h.body)
+  -- the code, by the layout of the rows; what it names begins at these numbers
+  pub numbers : Numbers
+  pub low : numbers.place ≤ length places
+  pub code_is : g.code ≡ function_code (layout_of (rates_in fs) rows) h.answer h.body 0 numbers
+  pub places_are : AreAt places numbers.place (block_places (layout_of (rates_in fs) rows) h.body)
 
 -- places are added at the end
 pub record GrowsTo (old new : List Span) : Type 0 where
@@ -60,19 +63,20 @@ pub record AddsLowered (h : TFunction) (old new : Draft) : Type 0 where
   pub added : all_routines new ≡ all_routines old ++ routine ∷ []
   pub places : GrowsTo old.places new.places
   pub gang : new.gang ≡ old.gang
-  pub lowered : IsLowered h routine new.places
+  pub callees : new.callees ≡ old.callees
+  pub lowered : IsLowered old.callees h routine new.places
 
 -- ---- a program
 
 -- each function has its routine, in their order
-abbrev pub AreLowered : List TFunction → List Routine → List Span → Type 0
-AreLowered [] [] places = Unit {0}
-AreLowered [] (g ∷ gs) places = ⊥
-AreLowered (h ∷ hs) [] places = ⊥
-AreLowered (h ∷ hs) (g ∷ gs) places = IsLowered h g places × AreLowered hs gs places
+abbrev pub AreLowered : List TFunction → List TFunction → List Routine → List Span → Type 0
+AreLowered fs [] [] places = Unit {0}
+AreLowered fs [] (g ∷ gs) places = ⊥
+AreLowered fs (h ∷ hs) [] places = ⊥
+AreLowered fs (h ∷ hs) (g ∷ gs) places = IsLowered fs h g places × AreLowered fs hs gs places
 
 -- the code of each function, in order
 pub record HasCode (program : Program) (code : Listing) : Type 0 where
   pub gang : code.gang ≡ program.gang
   pub count : length code.routines ≡ length program.functions
-  pub each : (f : ℕ) (h : TFunction) (g : Routine) → slice_get program.functions f ≡ Some h → slice_get code.routines f ≡ Some g → IsLowered h g code.places
+  pub each : (f : ℕ) (h : TFunction) (g : Routine) → slice_get program.functions f ≡ Some h → slice_get code.routines f ≡ Some g → IsLowered program.functions h g code.places

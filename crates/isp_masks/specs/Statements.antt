@@ -1,6 +1,5 @@
--- The code of statements, as a function of their trees. Three mask registers go with it: k has the set, and afterwards
--- those that went on; co and rr grow by those that continued and by those that returned; who broke is in none. As for
--- expressions, code begins at instruction pc, its first place in the source has number p, and slots from n on are free.
+-- The code of statements, as a function of their trees. It is told the instruction pc where it begins, the numbers z of the next
+-- place in the source and the next text, and where it works: three masks and the first free slot (Spots).
 use Rattle.std.specs.Prelude.{ℕ, ◌+◌, List, [], ◌∷◌, ◌++◌, length, Option, Some, None, Bool, true, false}
 use Rattle.isp_base.specs.declared.types.Rate.{Rate}
 use Rattle.isp_base.specs.declared.types.Rate.TheVariants.{Uniform, Varying}
@@ -19,6 +18,7 @@ use Rattle.isp_masks.specs.Exits.{exits_of, nobody_leaves, all_go_on}
 use Rattle.isp_masks.specs.Fors.{first_code, step_code, first_places, test_places, step_places}
 use Rattle.isp_masks.specs.Loops.{turn_code, step_back_code, while_code, for_code, endless_code, do_code}
 use Rattle.isp_masks.specs.Sets.{unite, leave_code, jump_code}
+use Rattle.isp_masks.specs.Spots.{Numbers, Spot, body_spot, first_spot, past, under}
 use Rattle.isp_masks.specs.declared.exits.Exits.{Exits}
 
 -- ---- one statement after the other
@@ -30,7 +30,7 @@ rest_code true xs k pc code = code pc
 rest_code false t_no_stmts k pc code = []
 rest_code false (t_stmt_then x xs) k pc code = guard (jump_off k) pc code
 
--- ---- choices: code of a part gets its place, its mask and its slot
+-- ---- choices: code of a part is told where it begins, and its spot
 
 -- Mask n gets those of mask k for which the test in register x is true, and k keeps the others; the first part runs for
 -- mask n if it has any, then comes the rest, for mask k; in the end k has those that went on from either.
@@ -38,14 +38,42 @@ abbrev pub parted_code : ℕ → ℕ → ℕ → ℕ → (ℕ → List Instr) �
 parted_code x pc k n first rest =
     where_so n x k ∷ the_others k k n ∷ two (pc + 1 + 1) (guard (jump_off n) (pc + 1 + 1) first) (λ pc1. rest pc1 ++ unite k n k ∷ [])
 
-abbrev pub if_code : Rate → ℕ → ℕ → ℕ → ℕ → (ℕ → ℕ → ℕ → List Instr) → List Instr
-if_code Uniform x pc k n first = guard (jump_on jump.False x) pc (λ pc1. first pc1 k n)
-if_code Varying x pc k n first = parted_code x pc k n (λ pc1. first pc1 n (n + 1)) (λ pc1. [])
+abbrev pub if_code : Rate → ℕ → ℕ → Spot → (ℕ → Spot → List Instr) → List Instr
+if_code Uniform x pc spot first = guard (jump_on jump.False x) pc (λ pc1. first pc1 spot)
+if_code Varying x pc spot first =
+    parted_code x pc spot.on spot.slot (λ pc1. first pc1 (under spot.slot spot)) (λ pc1. [])
 
-abbrev pub if_else_code : Rate → ℕ → ℕ → ℕ → ℕ → (ℕ → ℕ → ℕ → List Instr) → (ℕ → ℕ → ℕ → List Instr) → List Instr
-if_else_code Uniform x pc k n first second = choice (jump_on jump.False x) pc (λ pc1. first pc1 k n) (λ pc1. second pc1 k n)
-if_else_code Varying x pc k n first second =
-    parted_code x pc k n (λ pc1. first pc1 n (n + 1)) (λ pc1. guard (jump_off k) pc1 (λ pc2. second pc2 k (n + 1)))
+abbrev pub if_else_code : Rate → ℕ → ℕ → Spot → (ℕ → Spot → List Instr) → (ℕ → Spot → List Instr) → List Instr
+if_else_code Uniform x pc spot first second = choice (jump_on jump.False x) pc (λ pc1. first pc1 spot) (λ pc1. second pc1 spot)
+if_else_code Varying x pc spot first second =
+    parted_code x pc spot.on spot.slot (λ pc1. first pc1 (under spot.slot spot)) (λ pc1. guard (jump_off spot.on) pc1 (λ pc2. second pc2 (under spot.on spot)))
+
+-- ---- the texts that code names, in order
+
+abbrev mutual
+  pub stmt_texts : TStmt → List (List ℕ)
+  stmt_texts (t_block b) = block_texts b
+  stmt_texts (t_declare xs sp) = []
+  stmt_texts (t_simple x sp) = []
+  stmt_texts (t_if f g e x sp) = stmt_texts x
+  stmt_texts (t_if_else f g e x y sp) = stmt_texts x ++ stmt_texts y
+  stmt_texts (t_while f g e x sp) = stmt_texts x
+  stmt_texts (t_do f g x e sp) = stmt_texts x
+  stmt_texts (t_for f g first e step i x sp) = stmt_texts x
+  stmt_texts (t_foreach w g rs x sp) = []
+  stmt_texts (t_foreach_active w g i x sp) = []
+  stmt_texts (t_unmasked w b sp) = []
+  stmt_texts (t_jump j w sp) = []
+  stmt_texts (t_return w x sp) = []
+  stmt_texts (t_print w text xs sp) = []
+  stmt_texts (t_assert x c sp) = []
+
+  pub block_texts : TBlock → List (List ℕ)
+  block_texts (t_braces xs sp) = stmts_texts xs
+
+  pub stmts_texts : TStmts → List (List ℕ)
+  stmts_texts t_no_stmts = []
+  stmts_texts (t_stmt_then x xs) = stmt_texts x ++ stmts_texts xs
 
 module _ (l : Layout) where
   -- ---- what a function gives back: a `return` with a value stands it where results do
@@ -86,62 +114,76 @@ module _ (l : Layout) where
     stmts_places t_no_stmts = []
     stmts_places (t_stmt_then x xs) = stmt_places x ++ stmts_places xs
 
+  -- the numbers behind a statement
+  abbrev pub behind : TStmt → Numbers → Numbers
+  behind x z =
+      record { place = z.place + length (stmt_places x); text = z.text + length (stmt_texts x) }
+
 -- the code of a function with this layout and this result
 module _ (l : Layout) (answer : Option Ty) where
   abbrev mutual
-    pub stmt_code : TStmt → ℕ → ℕ → ℕ → ℕ → ℕ → ℕ → List Instr
-    stmt_code (t_block b) pc p k co rr n = block_code b pc p k co rr n
-    stmt_code (t_declare xs sp) pc p k co rr n = items_code l xs pc p k n
-    stmt_code (t_simple x sp) pc p k co rr n = simple_code l x pc p k n
-    stmt_code (t_if f g e x sp) pc p k co rr n =
-        two pc (expr_code l e pc p k n) (λ pc1. if_code (type_of e).rate (found l e n) pc1 k n (λ pc2 m i. stmt_code x pc2 (p + length (expr_places l e)) m co rr i))
-    stmt_code (t_if_else f g e x y sp) pc p k co rr n =
-        two pc (expr_code l e pc p k n) (λ pc1. if_else_code (type_of e).rate (found l e n) pc1 k n (λ pc2 m i. stmt_code x pc2 (p + length (expr_places l e)) m co rr i) (λ pc2 m i. stmt_code y pc2 (p + length (expr_places l e) + length (stmt_places l x)) m co rr i))
-    stmt_code (t_while f g e x sp) pc p k co rr n =
-        while_code (exits_of x) (type_of e).rate (found l e (n + 3)) pc k rr n (λ pc1. expr_code l e pc1 p n (n + 3)) (λ pc1. stmt_code x pc1 (p + length (expr_places l e)) n (n + 1) (n + 2) (n + 3))
-    stmt_code (t_do f g x e sp) pc p k co rr n =
-        do_code (exits_of x) (type_of e).rate (found l e (n + 3)) pc k rr n (λ pc1. expr_code l e pc1 (p + length (stmt_places l x)) n (n + 3)) (λ pc1. stmt_code x pc1 p n (n + 1) (n + 2) (n + 3))
-    stmt_code (t_for f g first None step i x sp) pc p k co rr n =
-        let p1 = p + length (first_places l first) in
-        two pc (first_code l first pc p k n) (λ pc1. endless_code (exits_of x) pc1 k rr n (λ pc2. stmt_code x pc2 p1 n (n + 1) (n + 2) (n + 3)) (λ pc2. step_code l step pc2 (p1 + length (stmt_places l x)) n (n + 3)))
-    stmt_code (t_for f g first (Some e) step i x sp) pc p k co rr n =
-        let p1 = p + length (first_places l first) in
-        let p2 = p1 + length (expr_places l e) in
-        two pc (first_code l first pc p k n) (λ pc1. for_code (exits_of x) (type_of e).rate (found l e (n + 3)) pc1 k rr n (λ pc2. expr_code l e pc2 p1 n (n + 3)) (λ pc2. stmt_code x pc2 p2 n (n + 1) (n + 2) (n + 3)) (λ pc2. step_code l step pc2 (p2 + length (stmt_places l x)) n (n + 3)))
-    stmt_code (t_foreach w g rs x sp) pc p k co rr n = []
-    stmt_code (t_foreach_active w g i x sp) pc p k co rr n = []
-    stmt_code (t_unmasked w b sp) pc p k co rr n = []
-    stmt_code (t_jump j w sp) pc p k co rr n = jump_code j k co
-    stmt_code (t_return w None sp) pc p k co rr n = leave_code rr k
-    stmt_code (t_return w (Some x) sp) pc p k co rr n = answer_code l answer x pc p k n ++ leave_code rr k
-    stmt_code (t_print w text xs sp) pc p k co rr n = []
-    stmt_code (t_assert x c sp) pc p k co rr n = []
+    pub stmt_code : TStmt → ℕ → Numbers → Spot → List Instr
+    stmt_code (t_block b) pc z spot = block_code b pc z spot
+    stmt_code (t_declare xs sp) pc z spot = items_code l xs pc z.place spot.on spot.slot
+    stmt_code (t_simple x sp) pc z spot = simple_code l x pc z.place spot.on spot.slot
+    stmt_code (t_if f g e x sp) pc z spot =
+        let z1 = past (expr_places l e) z in
+        two pc (expr_code l e pc z.place spot.on spot.slot) (λ pc1. if_code (type_of e).rate (found l e spot.slot) pc1 spot (λ pc2 part. stmt_code x pc2 z1 part))
+    stmt_code (t_if_else f g e x y sp) pc z spot =
+        let z1 = past (expr_places l e) z in
+        two pc (expr_code l e pc z.place spot.on spot.slot) (λ pc1. if_else_code (type_of e).rate (found l e spot.slot) pc1 spot (λ pc2 part. stmt_code x pc2 z1 part) (λ pc2 part. stmt_code y pc2 (behind l x z1) part))
+    stmt_code (t_while f g e x sp) pc z spot =
+        let n = spot.slot in
+        while_code (exits_of x) (type_of e).rate (found l e (n + 3)) pc spot (λ pc1. expr_code l e pc1 z.place n (n + 3)) (λ pc1. stmt_code x pc1 (past (expr_places l e) z) (body_spot n))
+    stmt_code (t_do f g x e sp) pc z spot =
+        let n = spot.slot in
+        do_code (exits_of x) (type_of e).rate (found l e (n + 3)) pc spot (λ pc1. expr_code l e pc1 (behind l x z).place n (n + 3)) (λ pc1. stmt_code x pc1 z (body_spot n))
+    stmt_code (t_for f g first None step i x sp) pc z spot =
+        let n = spot.slot in
+        let z1 = past (first_places l first) z in
+        two pc (first_code l first pc z.place spot.on n) (λ pc1. endless_code (exits_of x) pc1 spot (λ pc2. stmt_code x pc2 z1 (body_spot n)) (λ pc2. step_code l step pc2 (behind l x z1).place n (n + 3)))
+    stmt_code (t_for f g first (Some e) step i x sp) pc z spot =
+        let n = spot.slot in
+        let z1 = past (first_places l first) z in
+        let z2 = past (expr_places l e) z1 in
+        two pc (first_code l first pc z.place spot.on n) (λ pc1. for_code (exits_of x) (type_of e).rate (found l e (n + 3)) pc1 spot (λ pc2. expr_code l e pc2 z1.place n (n + 3)) (λ pc2. stmt_code x pc2 z2 (body_spot n)) (λ pc2. step_code l step pc2 (behind l x z2).place n (n + 3)))
+    stmt_code (t_foreach w g rs x sp) pc z spot = []
+    stmt_code (t_foreach_active w g i x sp) pc z spot = []
+    stmt_code (t_unmasked w b sp) pc z spot = []
+    stmt_code (t_jump j w sp) pc z spot = jump_code j spot.on spot.continued
+    stmt_code (t_return w None sp) pc z spot = leave_code spot.returned spot.on
+    stmt_code (t_return w (Some x) sp) pc z spot =
+        answer_code l answer x pc z.place spot.on spot.slot ++ leave_code spot.returned spot.on
+    stmt_code (t_print w text xs sp) pc z spot = []
+    stmt_code (t_assert x c sp) pc z spot = []
 
-    pub block_code : TBlock → ℕ → ℕ → ℕ → ℕ → ℕ → ℕ → List Instr
-    block_code (t_braces xs sp) pc p k co rr n = stmts_code xs pc p k co rr n
+    pub block_code : TBlock → ℕ → Numbers → Spot → List Instr
+    block_code (t_braces xs sp) pc z spot = stmts_code xs pc z spot
 
-    pub stmts_code : TStmts → ℕ → ℕ → ℕ → ℕ → ℕ → ℕ → List Instr
-    stmts_code t_no_stmts pc p k co rr n = []
-    stmts_code (t_stmt_then x xs) pc p k co rr n =
-        two pc (stmt_code x pc p k co rr n) (λ pc1. rest_code (all_go_on x) xs k pc1 (λ pc2. stmts_code xs pc2 (p + length (stmt_places l x)) k co rr n))
+    pub stmts_code : TStmts → ℕ → Numbers → Spot → List Instr
+    stmts_code t_no_stmts pc z spot = []
+    stmts_code (t_stmt_then x xs) pc z spot =
+        two pc (stmt_code x pc z spot) (λ pc1. rest_code (all_go_on x) xs spot.on pc1 (λ pc2. stmts_code xs pc2 (behind l x z) spot))
 
   -- the body of a loop whose masks are n, n + 1 and n + 2
-  abbrev pub body_code : TStmt → ℕ → ℕ → ℕ → List Instr
-  body_code x n p pc = stmt_code x pc p n (n + 1) (n + 2) (n + 3)
+  abbrev pub body_code : TStmt → ℕ → Numbers → ℕ → List Instr
+  body_code x n z pc = stmt_code x pc z (body_spot n)
 
   -- a turn of a `for`, its step, and the jump back to the test
-  abbrev pub stepped_code : Option TSimple → TStmt → Exits → ℕ → ℕ → ℕ → ℕ → List Instr
-  stepped_code step x e n top pc p =
-      two pc (turn_code e pc n (body_code x n p)) (λ pc1. step_back_code (nobody_leaves e) n top pc1 (λ pc2. step_code l step pc2 (p + length (stmt_places l x)) n (n + 3)))
+  abbrev pub stepped_code : Option TSimple → TStmt → Exits → ℕ → ℕ → ℕ → Numbers → List Instr
+  stepped_code step x e n top pc z =
+      two pc (turn_code e pc n (body_code x n z)) (λ pc1. step_back_code (nobody_leaves e) n top pc1 (λ pc2. step_code l step pc2 (behind l x z).place n (n + 3)))
 
   -- a `for` behind its first part
-  abbrev pub turns_code : Option TExpr → Option TSimple → TStmt → ℕ → ℕ → ℕ → ℕ → ℕ → List Instr
-  turns_code None step x pc p k rr n =
-      endless_code (exits_of x) pc k rr n (body_code x n p) (λ pc1. step_code l step pc1 (p + length (stmt_places l x)) n (n + 3))
-  turns_code (Some e) step x pc p k rr n =
-      let p1 = p + length (expr_places l e) in
-      for_code (exits_of x) (type_of e).rate (found l e (n + 3)) pc k rr n (λ pc1. expr_code l e pc1 p n (n + 3)) (body_code x n p1) (λ pc1. step_code l step pc1 (p1 + length (stmt_places l x)) n (n + 3))
+  abbrev pub turns_code : Option TExpr → Option TSimple → TStmt → ℕ → Numbers → Spot → List Instr
+  turns_code None step x pc z spot =
+      let n = spot.slot in
+      endless_code (exits_of x) pc spot (body_code x n z) (λ pc1. step_code l step pc1 (behind l x z).place n (n + 3))
+  turns_code (Some e) step x pc z spot =
+      let n = spot.slot in
+      let z1 = past (expr_places l e) z in
+      for_code (exits_of x) (type_of e).rate (found l e (n + 3)) pc spot (λ pc1. expr_code l e pc1 z.place n (n + 3)) (body_code x n z1) (λ pc1. step_code l step pc1 (behind l x z1).place n (n + 3))
 
-  -- mask 0 has those that called, masks 1 and 2 get those that continued and returned
-  abbrev pub function_code : TBlock → ℕ → List Instr
-  function_code b p = block_code b 0 p 0 1 2 3 ++ instr.Return (returned l answer) ∷ []
+  -- the body, and what it gives back
+  abbrev pub function_code : TBlock → ℕ → Numbers → List Instr
+  function_code b pc z = block_code b pc z first_spot ++ instr.Return (returned l answer) ∷ []

@@ -1,138 +1,159 @@
 -- What each writer of statements appends, told what it is given: where registers lie, the trees, the masks of a statement and
 -- its first slot, a loop, a test.
-use Rattle.std.specs.Prelude.{ℕ, ◌+◌, List, [], ◌∷◌, ◌++◌, length, Option, Bool}
+use Rattle.std.specs.Prelude.{ℕ, ◌+◌, List, [], ◌∷◌, ◌++◌, Option, Bool}
 use Rattle.isp_base.specs.declared.types.Rate.{Rate}
+use Rattle.isp_base.specs.declared.types.Span.{Span}
 use Rattle.isp_code.specs.declared.instr.Instr.{Instr}
+use Rattle.isp_code.specs.declared.instr.Instr.TheVariants as instr
 use Rattle.isp_typed.specs.Typed.{TExpr, type_of, TSimple, TFirst, TStmt, TBlock}
 use Rattle.isp_lower.specs.Code.{expr_code, expr_places, found, guard, jump_off, two}
-use Rattle.isp_lower.specs.Emitted.{layout}
-use Rattle.isp_lower.specs.Written.{Piece}
+use Rattle.isp_lower.specs.Emitted.{Appends, layout}
+use Rattle.isp_lower.specs.declared.types.Body.{Body}
 use Rattle.isp_lower.specs.declared.types.Scope.{Scope}
 use Rattle.isp_masks.specs.Exits.{exits_of, nobody_leaves}
 use Rattle.isp_masks.specs.Fors.{first_code, first_places, step_code, step_places, test_places}
 use Rattle.isp_masks.specs.Loops.{again_code, back_code, do_code, live_code, sift_code, step_back_code, turn_code, while_code}
-use Rattle.isp_masks.specs.Statements.{answer_code, block_code, block_places, body_code, if_code, if_else_code, stepped_code, stmt_code, stmt_places, turns_code}
+use Rattle.isp_masks.specs.Spots.{Numbers, Spot as Where, past, spot_of}
+use Rattle.isp_masks.specs.Statements.{answer_code, behind, block_code, block_places, body_code, function_code, if_code, if_else_code, stepped_code, stmt_code, stmt_places, turns_code}
 use Rattle.isp_masks.specs.declared.looping.Loop.{Loop}
 use Rattle.isp_masks.specs.declared.looping.Test.{Test}
 use Rattle.isp_masks.specs.declared.masks.Spot.{Spot}
+
+-- Code that is told the number of its first instruction and the numbers of what it names, and the places that it names.
+pub record Piece : Type 0 where
+  pub code : ℕ → Numbers → List Instr
+  pub places : List Span
+
+-- No text is numbered while a body is written, since no code names one yet.
+abbrev pub numbers : ℕ → Numbers
+numbers p = record { place = p; text = 0 }
+
+abbrev pub Writes : Body → Body → Piece → Type 0
+Writes old new x = Appends old new (λ pc p. x.code pc (numbers p)) x.places
 
 -- ---- statements
 
 abbrev pub stmt_at : Scope → TStmt → Spot → Piece
 stmt_at on x spot =
-    record { code = λ pc p. stmt_code (layout on) on.answer x pc p spot.masks.on spot.masks.continued spot.masks.returned spot.slot; places = stmt_places (layout on) x }
+    record { code = λ pc z. stmt_code (layout on) on.answer x pc z (spot_of spot); places = stmt_places (layout on) x }
 
 abbrev pub block_at : Scope → TBlock → Spot → Piece
 block_at on b spot =
-    record { code = λ pc p. block_code (layout on) on.answer b pc p spot.masks.on spot.masks.continued spot.masks.returned spot.slot; places = block_places (layout on) b }
+    record { code = λ pc z. block_code (layout on) on.answer b pc z (spot_of spot); places = block_places (layout on) b }
+
+-- a function's body, and what it gives back
+abbrev pub function_at : Scope → TBlock → Piece
+function_at on b = record { code = function_code (layout on) on.answer b; places = block_places (layout on) b }
 
 -- a value where results are, under mask k, in the slots from n on
 abbrev pub answer_at : Scope → TExpr → ℕ → ℕ → Piece
 answer_at on x k n =
-    record { code = λ pc p. answer_code (layout on) on.answer x pc p k n; places = expr_places (layout on) x }
+    record { code = λ pc z. answer_code (layout on) on.answer x pc z.place k n; places = expr_places (layout on) x }
 
--- ---- choices: a part gets its place, its mask and its slot; those that leave it are added to the masks of the whole
+-- ---- choices: a part gets its spot; those that leave it are added to the masks of the whole
 
-abbrev pub part_code : Scope → TStmt → Spot → ℕ → ℕ → ℕ → ℕ → List Instr
-part_code on x spot p pc m i = stmt_code (layout on) on.answer x pc p m spot.masks.continued spot.masks.returned i
+abbrev pub part_code : Scope → TStmt → Numbers → ℕ → Where → List Instr
+part_code on x z pc part = stmt_code (layout on) on.answer x pc z part
 
 -- a part under mask k in the slots from n on, jumped over where the mask has nobody
 abbrev pub guarded_at : Scope → TStmt → Spot → ℕ → ℕ → Piece
 guarded_at on x spot k n =
-    record { code = λ pc p. guard (jump_off k) pc (λ pc1. part_code on x spot p pc1 k n); places = stmt_places (layout on) x }
+    record { code = λ pc z. guard (jump_off k) pc (λ pc1. part_code on x z pc1 (record (spot_of spot) { on = k; slot = n })); places = stmt_places (layout on) x }
 
 -- one part behind a test in register c, two of them, and with the test
 abbrev pub part_at : Scope → Rate → ℕ → TStmt → Spot → Piece
 part_at on r c x spot =
-    record { code = λ pc p. if_code r c pc spot.masks.on spot.slot (part_code on x spot p); places = stmt_places (layout on) x }
+    record { code = λ pc z. if_code r c pc (spot_of spot) (part_code on x z); places = stmt_places (layout on) x }
 
 abbrev pub parts_at : Scope → Rate → ℕ → TStmt → TStmt → Spot → Piece
 parts_at on r c x y spot =
     let l = layout on in
-    record { code = λ pc p. if_else_code r c pc spot.masks.on spot.slot (part_code on x spot p) (part_code on y spot (p + length (stmt_places l x))); places = stmt_places l x ++ stmt_places l y }
+    record { code = λ pc z. if_else_code r c pc (spot_of spot) (part_code on x z) (part_code on y (past (stmt_places l x) z)); places = stmt_places l x ++ stmt_places l y }
 
 abbrev pub if_at : Scope → TExpr → TStmt → Spot → Piece
 if_at on e x spot =
     let l = layout on in
-    let part = part_at on (type_of e).rate (found l e spot.slot) x spot in
-    record { code = λ pc p. two pc (expr_code l e pc p spot.masks.on spot.slot) (λ pc1. part.code pc1 (p + length (expr_places l e))); places = expr_places l e ++ part.places }
+    let part = part_at on (type_of e).rate (found l e spot.slot.number) x spot in
+    record { code = λ pc z. two pc (expr_code l e pc z.place spot.masks.on.number spot.slot.number) (λ pc1. part.code pc1 (past (expr_places l e) z)); places = expr_places l e ++ part.places }
 
 abbrev pub if_else_at : Scope → TExpr → TStmt → TStmt → Spot → Piece
 if_else_at on e x y spot =
     let l = layout on in
-    let parts = parts_at on (type_of e).rate (found l e spot.slot) x y spot in
-    record { code = λ pc p. two pc (expr_code l e pc p spot.masks.on spot.slot) (λ pc1. parts.code pc1 (p + length (expr_places l e))); places = expr_places l e ++ parts.places }
+    let parts = parts_at on (type_of e).rate (found l e spot.slot.number) x y spot in
+    record { code = λ pc z. two pc (expr_code l e pc z.place spot.masks.on.number spot.slot.number) (λ pc1. parts.code pc1 (past (expr_places l e) z)); places = expr_places l e ++ parts.places }
 
 -- ---- loops
 
 -- a turn; in a `while` behind its test, with the jump back
 abbrev pub turn_at : Scope → TStmt → Loop → Piece
 turn_at on x it =
-    record { code = λ pc p. turn_code it.exits pc it.slot (body_code (layout on) on.answer x it.slot p); places = stmt_places (layout on) x }
+    record { code = λ pc z. turn_code it.exits pc it.slot.number (body_code (layout on) on.answer x it.slot.number z); places = stmt_places (layout on) x }
 
 abbrev pub while_turn_at : Scope → Test → TStmt → Loop → Piece
 while_turn_at on test x it =
     let turn = turn_at on x it in
-    record { code = λ pc p. sift_code test.rate test.register pc it.slot (λ pc1. two pc1 (turn.code pc1 p) (λ pc2. back_code (nobody_leaves it.exits) it.slot it.top ∷ [])); places = turn.places }
+    record { code = λ pc z. sift_code test.rate test.register.number pc it.slot.number (λ pc1. two pc1 (turn.code pc1 z) (λ pc2. back_code (nobody_leaves it.exits) it.slot.number it.top ∷ [])); places = turn.places }
 
 abbrev pub while_at : Scope → TExpr → TStmt → Spot → Piece
 while_at on e x spot =
     let l = layout on in
-    let n = spot.slot in
-    record { code = λ pc p. while_code (exits_of x) (type_of e).rate (found l e (n + 3)) pc spot.masks.on spot.masks.returned n (λ pc1. expr_code l e pc1 p n (n + 3)) (body_code l on.answer x n (p + length (expr_places l e))); places = expr_places l e ++ stmt_places l x }
+    let n = spot.slot.number in
+    record { code = λ pc z. while_code (exits_of x) (type_of e).rate (found l e (n + 3)) pc (spot_of spot) (λ pc1. expr_code l e pc1 z.place n (n + 3)) (body_code l on.answer x n (past (expr_places l e) z)); places = expr_places l e ++ stmt_places l x }
 
 abbrev pub do_at : Scope → TStmt → TExpr → Spot → Piece
 do_at on x e spot =
     let l = layout on in
-    let n = spot.slot in
-    record { code = λ pc p. do_code (exits_of x) (type_of e).rate (found l e (n + 3)) pc spot.masks.on spot.masks.returned n (λ pc1. expr_code l e pc1 (p + length (stmt_places l x)) n (n + 3)) (body_code l on.answer x n p); places = stmt_places l x ++ expr_places l e }
+    let n = spot.slot.number in
+    record { code = λ pc z. do_code (exits_of x) (type_of e).rate (found l e (n + 3)) pc (spot_of spot) (λ pc1. expr_code l e pc1 (behind l x z).place n (n + 3)) (body_code l on.answer x n z); places = stmt_places l x ++ expr_places l e }
 
 -- the test of a `do` and the jump back; and for those that are live alone
 abbrev pub again_at : Scope → TExpr → Loop → Piece
 again_at on e it =
     let l = layout on in
-    let n = it.slot in
-    record { code = λ pc p. expr_code l e pc p n (n + 3) ++ again_code (type_of e).rate (found l e (n + 3)) n it.top; places = expr_places l e }
+    let n = it.slot.number in
+    record { code = λ pc z. expr_code l e pc z.place n (n + 3) ++ again_code (type_of e).rate (found l e (n + 3)) n it.top; places = expr_places l e }
 
 abbrev pub live_again_at : Scope → Bool → TExpr → Loop → Piece
 live_again_at on alone e it =
     let again = again_at on e it in
-    record { code = λ pc p. live_code alone it.slot pc (λ pc1. again.code pc1 p); places = again.places }
+    record { code = λ pc z. live_code alone it.slot.number pc (λ pc1. again.code pc1 z); places = again.places }
 
 -- ---- `for`
 
 abbrev pub first_at : Scope → Option TFirst → ℕ → ℕ → Piece
-first_at on x k n = record { code = λ pc p. first_code (layout on) x pc p k n; places = first_places (layout on) x }
+first_at on x k n =
+    record { code = λ pc z. first_code (layout on) x pc z.place k n; places = first_places (layout on) x }
 
 abbrev pub step_at : Scope → Option TSimple → ℕ → Piece
-step_at on x n = record { code = λ pc p. step_code (layout on) x pc p n (n + 3); places = step_places (layout on) x }
+step_at on x n =
+    record { code = λ pc z. step_code (layout on) x pc z.place n (n + 3); places = step_places (layout on) x }
 
 -- the step and the jump back
 abbrev pub step_back_at : Scope → Bool → Option TSimple → Loop → Piece
 step_back_at on alone x it =
-    let step = step_at on x it.slot in
-    record { code = λ pc p. step_back_code alone it.slot it.top pc (λ pc1. step.code pc1 p); places = step.places }
+    let step = step_at on x it.slot.number in
+    record { code = λ pc z. step_back_code alone it.slot.number it.top pc (λ pc1. step.code pc1 z); places = step.places }
 
 -- a turn, its step and the jump back; behind a test; and with the test
 abbrev pub stepped_at : Scope → Option TSimple → TStmt → Loop → Piece
 stepped_at on step x it =
     let l = layout on in
-    record { code = stepped_code l on.answer step x it.exits it.slot it.top; places = stmt_places l x ++ step_places l step }
+    record { code = stepped_code l on.answer step x it.exits it.slot.number it.top; places = stmt_places l x ++ step_places l step }
 
 abbrev pub passed_at : Scope → Test → Option TSimple → TStmt → Loop → Piece
 passed_at on test step x it =
     let turn = stepped_at on step x it in
-    record { code = λ pc p. sift_code test.rate test.register pc it.slot (λ pc1. turn.code pc1 p); places = turn.places }
+    record { code = λ pc z. sift_code test.rate test.register.number pc it.slot.number (λ pc1. turn.code pc1 z); places = turn.places }
 
 abbrev pub for_turn_at : Scope → TExpr → Option TSimple → TStmt → Loop → Piece
 for_turn_at on e step x it =
     let l = layout on in
-    let n = it.slot in
+    let n = it.slot.number in
     let turn = stepped_at on step x it in
-    record { code = λ pc p. two pc (expr_code l e pc p n (n + 3)) (λ pc1. sift_code (type_of e).rate (found l e (n + 3)) pc1 n (λ pc2. turn.code pc2 (p + length (expr_places l e)))); places = expr_places l e ++ turn.places }
+    record { code = λ pc z. two pc (expr_code l e pc z.place n (n + 3)) (λ pc1. sift_code (type_of e).rate (found l e (n + 3)) pc1 n (λ pc2. turn.code pc2 (past (expr_places l e) z))); places = expr_places l e ++ turn.places }
 
 -- behind its first part
 abbrev pub turns_at : Scope → Option TExpr → Option TSimple → TStmt → Spot → Piece
 turns_at on e step x spot =
     let l = layout on in
-    record { code = λ pc p. turns_code l on.answer e step x pc p spot.masks.on spot.masks.returned spot.slot; places = test_places l e ++ (stmt_places l x ++ step_places l step) }
+    record { code = λ pc z. turns_code l on.answer e step x pc z (spot_of spot); places = test_places l e ++ (stmt_places l x ++ step_places l step) }

@@ -4,7 +4,7 @@ ghost use Rattle.isp_lower.specs.Code.{jump_off};
 ghost use Rattle.isp_masks.specs.Awaited.{AreBelow, LeavesRoom, set_all};
 
 use isp_code::{Instr, JumpTest};
-use isp_lower::{Body, mask};
+use isp_lower::{Body, MaskNumber, mask};
 use std::alloc::AllocError;
 
 /// Keeps room for a jump where a mask has no lane, if some may have left it.
@@ -12,9 +12,9 @@ pub(crate) fn leave_room(
     b: &mut Body,
     jumps: &mut Vec<usize>,
     left: bool,
-    k: u32,
+    k: MaskNumber,
 ) -> Result<(), AllocError>
-    ensures { OnOk result (LeavesRoom b.old b.new jumps.old.items jumps.new.items k left) }
+    ensures { OnOk result (LeavesRoom b.old b.new jumps.old.items jumps.new.items k.number left) }
 {
     if left {
         jumps.push(b.code.len())?;
@@ -24,9 +24,9 @@ pub(crate) fn leave_room(
 }
 
 /// Writes the jumps, which lead to the next instruction.
-pub(crate) fn land_all(b: &mut Body, jumps: &[usize], k: u32)
+pub(crate) fn land_all(b: &mut Body, jumps: &[usize], k: MaskNumber)
     requires { AreBelow (length b.old.code.items) jumps.now }
-    ensures code { b.new.code.items ≡ set_all b.old.code.items jumps.now (jump_off k (length b.old.code.items)) }
+    ensures code { b.new.code.items ≡ set_all b.old.code.items jumps.now (jump_off k.number (length b.old.code.items)) }
     ensures places { b.new.places ≡ b.old.places }
 {
     for at in jumps {

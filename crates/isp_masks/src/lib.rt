@@ -13,8 +13,5 @@ mod routine;
 mod sets;
 mod statement;
 
-pub use laws::{
-    arrays_fit, bodies_accepted, bodies_present, checked_fits, entries_run, functions_sound,
-    loops_run, lowered_agrees, made_is_code, parameters_first, programs_run, statements_run,
-};
+pub use laws::{loops_run, lowered_agrees, statements_run};
 pub use lowering::lower;

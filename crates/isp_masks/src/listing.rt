@@ -17,7 +17,7 @@ fn routines(e: &mut Emitter, functions: &[TypedFunction]) -> Result<(), AllocErr
     requires none { all_routines (draft_of e.old) ≡ [] }
     requires fine { All IsFineFunction (functions_of functions.now) }
     ensures gang { OnOk result ((draft_of e.new).gang ≡ (draft_of e.old).gang) }
-    ensures lowered { OnOk result (AreLowered (functions_of functions.now) (all_routines (draft_of e.new)) (draft_of e.new).places) }
+    ensures lowered { OnOk result (AreLowered (draft_of e.old).callees (functions_of functions.now) (all_routines (draft_of e.new)) (draft_of e.new).places) }
 {
     for f in functions.iter() {
         function(e, f)?;

@@ -11,14 +11,14 @@ use crate::masks::Masks;
 use crate::sets::{clear_mask, unite};
 use isp_base::Rate;
 use isp_code::{Instr, JumpTest, MaskInstr};
-use isp_lower::{Body, mask, scalar, the_others, where_so};
+use isp_lower::{Body, MaskNumber, RegisterNumber, Site, Slot, mask, scalar, the_others, where_so};
 use std::alloc::AllocError;
 
 /// A loop: who may leave its body, its first mask, and the instruction where its turns begin.
 #[derive(Clone, Copy)]
 pub(crate) struct Loop {
     pub exits: Exits,
-    pub slot: u32,
+    pub slot: Slot,
     pub top: u32,
 }
 
@@ -26,7 +26,18 @@ pub(crate) struct Loop {
 #[derive(Clone, Copy)]
 pub(crate) struct Test {
     pub rate: Rate,
-    pub register: u32,
+    pub register: RegisterNumber,
+}
+
+/// Where the test and the step of a loop work: for the lanes that run it, in the slots behind its masks.
+pub(crate) fn inside(slot: Slot) -> Site
+    requires { slot.number + 3 < 4294967296 }
+    ensures { result ≡ record { mask = record { number = slot.number }; slot = record { number = slot.number + 3 } } }
+{
+    Site {
+        mask: slot.mask(),
+        slot: slot.plus(3),
+    }
 }
 
 /// The number of the next instruction.
@@ -37,15 +48,15 @@ pub(crate) fn next(b: &Body) -> u32
 }
 
 /// A mask gets the lanes of another.
-fn copy_mask(to: u32, from: u32) -> Instr
-    ensures { result ≡ copy_mask to from }
+fn copy_mask(to: MaskNumber, from: MaskNumber) -> Instr
+    ensures { result ≡ copy_mask to.number from.number }
 {
     Instr::Mask(mask(to), MaskInstr::Copy(mask(from)))
 }
 
 /// A mask gets no lane, where that is needed.
-pub(crate) fn clear_where(b: &mut Body, needed: bool, to: u32) -> Result<(), AllocError>
-    ensures { OnOk result (Appends b.old b.new (λ pc p. if_needed needed (clear_mask to ∷ [])) []) }
+pub(crate) fn clear_where(b: &mut Body, needed: bool, to: MaskNumber) -> Result<(), AllocError>
+    ensures { OnOk result (Appends b.old b.new (λ pc p. if_needed needed (clear_mask to.number ∷ [])) []) }
 {
     if needed {
         b.push(clear_mask(to))?;
@@ -54,8 +65,13 @@ pub(crate) fn clear_where(b: &mut Body, needed: bool, to: u32) -> Result<(), All
 }
 
 /// A mask gets the lanes of another besides its own, where that is needed.
-pub(crate) fn join_where(b: &mut Body, needed: bool, to: u32, from: u32) -> Result<(), AllocError>
-    ensures { OnOk result (Appends b.old b.new (λ pc p. if_needed needed (unite to to from ∷ [])) []) }
+pub(crate) fn join_where(
+    b: &mut Body,
+    needed: bool,
+    to: MaskNumber,
+    from: MaskNumber,
+) -> Result<(), AllocError>
+    ensures { OnOk result (Appends b.old b.new (λ pc p. if_needed needed (unite to.number to.number from.number ∷ [])) []) }
 {
     if needed {
         b.push(unite(to, to, from))?;
@@ -64,76 +80,77 @@ pub(crate) fn join_where(b: &mut Body, needed: bool, to: u32, from: u32) -> Resu
 }
 
 /// A loop begins, for the lanes of a mask.
-pub(crate) fn enter(b: &mut Body, exits: Exits, k: u32, slot: u32) -> Result<(), AllocError>
-    requires { slot + 2 < 4294967296 }
-    ensures { OnOk result (Appends b.old b.new (λ pc p. enter_code exits k slot) []) }
+pub(crate) fn enter(b: &mut Body, exits: Exits, k: MaskNumber, slot: Slot) -> Result<(), AllocError>
+    requires { slot.number + 2 < 4294967296 }
+    ensures { OnOk result (Appends b.old b.new (λ pc p. enter_code exits k.number slot.number) []) }
 {
-    b.push(copy_mask(slot, k))?;
-    clear_where(b, exits.returns, slot + 2)?;
+    b.push(copy_mask(slot.mask(), k))?;
+    clear_where(b, exits.returns, slot.plus(2).mask())?;
     Ok(())
 }
 
 /// A loop ends: those that returned leave the lanes that went on.
 pub(crate) fn leave_loop(b: &mut Body, it: Loop, masks: Masks) -> Result<(), AllocError>
-    requires { it.slot + 2 < 4294967296 }
-    ensures { OnOk result (Appends b.old b.new (λ pc p. loop_end_code it.exits masks.on masks.returned it.slot) []) }
+    requires { it.slot.number + 2 < 4294967296 }
+    ensures { OnOk result (Appends b.old b.new (λ pc p. loop_end_code it.exits masks.on.number masks.returned.number it.slot.number) []) }
 {
     if it.exits.returns {
-        b.push(the_others(masks.on, masks.on, it.slot + 2))?;
-        b.push(unite(masks.returned, masks.returned, it.slot + 2))?;
+        let returned = it.slot.plus(2).mask();
+        b.push(the_others(masks.on, masks.on, returned))?;
+        b.push(unite(masks.returned, masks.returned, returned))?;
     }
     Ok(())
 }
 
 /// Back to the test of a `while`.
 pub(crate) fn back(b: &mut Body, it: Loop) -> Result<(), AllocError>
-    ensures { OnOk result (Appends b.old b.new (λ pc p. back_code (nobody_leaves it.exits) it.slot it.top ∷ []) []) }
+    ensures { OnOk result (Appends b.old b.new (λ pc p. back_code (nobody_leaves it.exits) it.slot.number it.top ∷ []) []) }
 {
     if it.exits.is_none() {
         b.push(Instr::Jump(it.top))?;
     } else {
-        b.push(Instr::JumpIf(JumpTest::On, mask(it.slot), it.top))?;
+        b.push(Instr::JumpIf(JumpTest::On, mask(it.slot.mask()), it.top))?;
     }
     Ok(())
 }
 
 /// Back to the body of a `do`, for those that pass its test.
 pub(crate) fn again(b: &mut Body, test: Test, it: Loop) -> Result<(), AllocError>
-    ensures { OnOk result (Appends b.old b.new (λ pc p. again_code test.rate test.register it.slot it.top) []) }
+    ensures { OnOk result (Appends b.old b.new (λ pc p. again_code test.rate test.register.number it.slot.number it.top) []) }
 {
     match test.rate {
         Rate::Uniform => {
             b.push(Instr::JumpIf(JumpTest::True, scalar(test.register), it.top))?;
         }
         Rate::Varying => {
-            b.push(where_so(it.slot, test.register, it.slot))?;
-            b.push(Instr::JumpIf(JumpTest::On, mask(it.slot), it.top))?;
+            b.push(where_so(it.slot.mask(), test.register, it.slot.mask()))?;
+            b.push(Instr::JumpIf(JumpTest::On, mask(it.slot.mask()), it.top))?;
         }
     }
     Ok(())
 }
 
 /// A varying test leaves those that pass it.
-pub(crate) fn sift(b: &mut Body, test: Test, slot: u32) -> Result<(), AllocError>
-    ensures { OnOk result (Appends b.old b.new (λ pc p. sift_begin test.rate test.register slot) []) }
+pub(crate) fn sift(b: &mut Body, test: Test, slot: Slot) -> Result<(), AllocError>
+    ensures { OnOk result (Appends b.old b.new (λ pc p. sift_begin test.rate test.register.number slot.number) []) }
 {
     match test.rate {
         Rate::Uniform => Ok(()),
         Rate::Varying => {
-            b.push(where_so(slot, test.register, slot))?;
+            b.push(where_so(slot.mask(), test.register, slot.mask()))?;
             Ok(())
         }
     }
 }
 
 /// The jump past what follows a test, where nobody passes, leads to the next instruction.
-pub(crate) fn land_sift(b: &mut Body, at: usize, test: Test, slot: u32)
+pub(crate) fn land_sift(b: &mut Body, at: usize, test: Test, slot: Slot)
     requires { at < length b.old.code.items }
-    ensures code { b.new.code.items ≡ slice_set b.old.code.items at (sift_jump test.rate test.register slot (length b.old.code.items)) }
+    ensures code { b.new.code.items ≡ slice_set b.old.code.items at (sift_jump test.rate test.register.number slot.number (length b.old.code.items)) }
     ensures places { b.new.places ≡ b.old.places }
 {
     match test.rate {
         Rate::Uniform => b.land(at, JumpTest::False, scalar(test.register)),
-        Rate::Varying => b.land(at, JumpTest::Off, mask(slot)),
+        Rate::Varying => b.land(at, JumpTest::Off, mask(slot.mask())),
     }
 }

@@ -1,17 +1,32 @@
 //! Where the code of a statement works.
+ghost use Rattle.std.specs.Prelude.{◌≡◌};
+
+use isp_lower::{MaskNumber, Site, Slot};
 
 /// The masks that go with a statement: the lanes that run it, and afterwards went on; those that continued; and those that
 /// returned.
 #[derive(Clone, Copy)]
 pub(crate) struct Masks {
-    pub on: u32,
-    pub continued: u32,
-    pub returned: u32,
+    pub on: MaskNumber,
+    pub continued: MaskNumber,
+    pub returned: MaskNumber,
 }
 
 /// The masks of a statement, and the first slot that is free for it.
 #[derive(Clone, Copy)]
 pub(crate) struct Spot {
     pub masks: Masks,
-    pub slot: u32,
+    pub slot: Slot,
+}
+
+impl Spot {
+    /// Where its expressions work: for the lanes that run it.
+    pub(crate) fn site(self) -> Site
+        ensures { result ≡ record { mask = self.masks.on; slot = self.slot } }
+    {
+        Site {
+            mask: self.masks.on,
+            slot: self.slot,
+        }
+    }
 }

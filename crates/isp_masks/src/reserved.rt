@@ -8,14 +8,14 @@ ghost use Rattle.isp_lower.specs.Rows.{Result as ResultName};
 ghost use Rattle.isp_masks.specs.Asks.{answer_asks, block_asks, first_asks, if_asks, loop_asks, part_asks, result_asks, step_asks, stmt_asks, test_part_asks, turns_asks};
 
 use isp_base::{Rate, Ty};
-use isp_lower::Reserve;
+use isp_lower::{Reserve, Slot};
 use isp_typed::{TypedBlock, TypedExpr, TypedFirst, TypedSimple, TypedStmt};
 use std::alloc::AllocError;
 
 /// What the code of a statement asks for, in the slots from one on; nothing is asked for what has no code yet.
 #[cycle(stmt)]
-fn stmt(r: &mut Reserve, x: &TypedStmt, answer: Option<Ty>, slot: u32) -> Result<(), AllocError>
-    ensures { OnOk result (Gives r.old r.new (stmt_asks answer (stmt_of x.now) slot)) }
+fn stmt(r: &mut Reserve, x: &TypedStmt, answer: Option<Ty>, slot: Slot) -> Result<(), AllocError>
+    ensures { OnOk result (Gives r.old r.new (stmt_asks answer (stmt_of x.now) slot.number)) }
 {
     match x {
         TypedStmt::Block(inner) => block(r, inner, answer, slot),
@@ -59,9 +59,9 @@ pub(crate) fn block(
     r: &mut Reserve,
     body: &TypedBlock,
     answer: Option<Ty>,
-    slot: u32,
+    slot: Slot,
 ) -> Result<(), AllocError>
-    ensures { OnOk result (Gives r.old r.new (block_asks answer (block_of body.now) slot)) }
+    ensures { OnOk result (Gives r.old r.new (block_asks answer (block_of body.now) slot.number)) }
 {
     for x in &body.statements {
         stmt(r, x, answer, slot)?;
@@ -70,8 +70,13 @@ pub(crate) fn block(
 }
 
 /// A value that is returned, at the rate of what the function gives back.
-fn returned(r: &mut Reserve, x: &TypedExpr, answer: Option<Ty>, slot: u32) -> Result<(), AllocError>
-    ensures { OnOk result (Gives r.old r.new (answer_asks answer (expr_of x.now) slot)) }
+fn returned(
+    r: &mut Reserve,
+    x: &TypedExpr,
+    answer: Option<Ty>,
+    slot: Slot,
+) -> Result<(), AllocError>
+    ensures { OnOk result (Gives r.old r.new (answer_asks answer (expr_of x.now) slot.number)) }
 {
     match answer {
         None => r.expr(x, slot),
@@ -80,9 +85,9 @@ fn returned(r: &mut Reserve, x: &TypedExpr, answer: Option<Ty>, slot: u32) -> Re
 }
 
 /// The mask of a varying test, and the slot behind it.
-fn behind(r: &mut Reserve, slot: u32) -> Result<u32, AllocError>
-    ensures number { IfOk result (λ n. n ≡ first_slot Varying slot) }
-    ensures gives { OnOk result (Gives r.old r.new (part_asks Varying slot)) }
+fn behind(r: &mut Reserve, slot: Slot) -> Result<Slot, AllocError>
+    ensures number { IfOk result (λ n. n.number ≡ first_slot Varying slot.number) }
+    ensures gives { OnOk result (Gives r.old r.new (part_asks Varying slot.number)) }
 {
     let next = r.next(slot)?;
     r.mask(slot)?;
@@ -90,9 +95,9 @@ fn behind(r: &mut Reserve, slot: u32) -> Result<u32, AllocError>
 }
 
 /// The slot of the parts behind a test.
-fn part(r: &mut Reserve, rate: Rate, slot: u32) -> Result<u32, AllocError>
-    ensures number { IfOk result (λ n. n ≡ first_slot rate slot) }
-    ensures gives { OnOk result (Gives r.old r.new (part_asks rate slot)) }
+fn part(r: &mut Reserve, rate: Rate, slot: Slot) -> Result<Slot, AllocError>
+    ensures number { IfOk result (λ n. n.number ≡ first_slot rate slot.number) }
+    ensures gives { OnOk result (Gives r.old r.new (part_asks rate slot.number)) }
 {
     match rate {
         Rate::Uniform => Ok(slot),
@@ -106,9 +111,9 @@ fn one_side(
     test: &TypedExpr,
     then: &TypedStmt,
     answer: Option<Ty>,
-    slot: u32,
+    slot: Slot,
 ) -> Result<(), AllocError>
-    ensures { OnOk result (Gives r.old r.new (if_asks (expr_of test.now) slot (λ i. stmt_asks answer (stmt_of then.now) i))) }
+    ensures { OnOk result (Gives r.old r.new (if_asks (expr_of test.now) slot.number (λ i. stmt_asks answer (stmt_of then.now) i))) }
 {
     let rate = test.ty().rate;
     r.expr(test, slot)?;
@@ -124,9 +129,9 @@ fn two_sides(
     then: &TypedStmt,
     otherwise: &TypedStmt,
     answer: Option<Ty>,
-    slot: u32,
+    slot: Slot,
 ) -> Result<(), AllocError>
-    ensures { OnOk result (Gives r.old r.new (if_asks (expr_of test.now) slot (λ i. Both (stmt_asks answer (stmt_of then.now) i) (stmt_asks answer (stmt_of otherwise.now) i)))) }
+    ensures { OnOk result (Gives r.old r.new (if_asks (expr_of test.now) slot.number (λ i. Both (stmt_asks answer (stmt_of then.now) i) (stmt_asks answer (stmt_of otherwise.now) i)))) }
 {
     let rate = test.ty().rate;
     r.expr(test, slot)?;
@@ -137,9 +142,9 @@ fn two_sides(
 }
 
 /// The masks of a loop, and the slot of its parts.
-fn own(r: &mut Reserve, slot: u32) -> Result<u32, AllocError>
-    ensures number { IfOk result (λ n. n ≡ slot + 3) }
-    ensures gives { OnOk result (Gives r.old r.new (loop_asks slot)) }
+fn own(r: &mut Reserve, slot: Slot) -> Result<Slot, AllocError>
+    ensures number { IfOk result (λ n. n.number ≡ slot.number + 3) }
+    ensures gives { OnOk result (Gives r.old r.new (loop_asks slot.number)) }
 {
     let second = r.next(slot)?;
     let third = r.next(second)?;
@@ -156,9 +161,9 @@ fn while_loop(
     test: &TypedExpr,
     body: &TypedStmt,
     answer: Option<Ty>,
-    slot: u32,
+    slot: Slot,
 ) -> Result<(), AllocError>
-    ensures { OnOk result (Gives r.old r.new (Both (loop_asks slot) (Both (expr_asks (expr_of test.now) (slot + 3)) (stmt_asks answer (stmt_of body.now) (slot + 3))))) }
+    ensures { OnOk result (Gives r.old r.new (Both (loop_asks slot.number) (Both (expr_asks (expr_of test.now) (slot.number + 3)) (stmt_asks answer (stmt_of body.now) (slot.number + 3))))) }
 {
     let parts = own(r, slot)?;
     r.expr(test, parts)?;
@@ -172,9 +177,9 @@ fn do_loop(
     body: &TypedStmt,
     test: &TypedExpr,
     answer: Option<Ty>,
-    slot: u32,
+    slot: Slot,
 ) -> Result<(), AllocError>
-    ensures { OnOk result (Gives r.old r.new (Both (loop_asks slot) (Both (stmt_asks answer (stmt_of body.now) (slot + 3)) (expr_asks (expr_of test.now) (slot + 3))))) }
+    ensures { OnOk result (Gives r.old r.new (Both (loop_asks slot.number) (Both (stmt_asks answer (stmt_of body.now) (slot.number + 3)) (expr_asks (expr_of test.now) (slot.number + 3))))) }
 {
     let parts = own(r, slot)?;
     stmt(r, body, answer, parts)?;
@@ -190,9 +195,9 @@ fn turns(
     step: &Option<TypedSimple>,
     body: &TypedStmt,
     answer: Option<Ty>,
-    slot: u32,
+    slot: Slot,
 ) -> Result<(), AllocError>
-    ensures { OnOk result (Gives r.old r.new (turns_asks (option_map expr_of test.now) (option_map simple_of step.now) slot (λ i. stmt_asks answer (stmt_of body.now) i))) }
+    ensures { OnOk result (Gives r.old r.new (turns_asks (option_map expr_of test.now) (option_map simple_of step.now) slot.number (λ i. stmt_asks answer (stmt_of body.now) i))) }
 {
     let parts = own(r, slot)?;
     test_part(r, test, parts)?;
@@ -202,8 +207,8 @@ fn turns(
 }
 
 /// The first part of a `for`.
-fn first_part(r: &mut Reserve, first: &Option<TypedFirst>, slot: u32) -> Result<(), AllocError>
-    ensures { OnOk result (Gives r.old r.new (first_asks (option_map first_of first.now) slot)) }
+fn first_part(r: &mut Reserve, first: &Option<TypedFirst>, slot: Slot) -> Result<(), AllocError>
+    ensures { OnOk result (Gives r.old r.new (first_asks (option_map first_of first.now) slot.number)) }
 {
     match first {
         None => Ok(()),
@@ -213,8 +218,8 @@ fn first_part(r: &mut Reserve, first: &Option<TypedFirst>, slot: u32) -> Result<
 }
 
 /// The test of a `for`.
-fn test_part(r: &mut Reserve, test: &Option<TypedExpr>, slot: u32) -> Result<(), AllocError>
-    ensures { OnOk result (Gives r.old r.new (test_part_asks (option_map expr_of test.now) slot)) }
+fn test_part(r: &mut Reserve, test: &Option<TypedExpr>, slot: Slot) -> Result<(), AllocError>
+    ensures { OnOk result (Gives r.old r.new (test_part_asks (option_map expr_of test.now) slot.number)) }
 {
     match test {
         None => Ok(()),
@@ -223,8 +228,8 @@ fn test_part(r: &mut Reserve, test: &Option<TypedExpr>, slot: u32) -> Result<(),
 }
 
 /// The step of a `for`.
-fn step_part(r: &mut Reserve, step: &Option<TypedSimple>, slot: u32) -> Result<(), AllocError>
-    ensures { OnOk result (Gives r.old r.new (step_asks (option_map simple_of step.now) slot)) }
+fn step_part(r: &mut Reserve, step: &Option<TypedSimple>, slot: Slot) -> Result<(), AllocError>
+    ensures { OnOk result (Gives r.old r.new (step_asks (option_map simple_of step.now) slot.number)) }
 {
     match step {
         None => Ok(()),

@@ -1,20 +1,20 @@
 //! The code of functions.
-ghost use Rattle.std.specs.Prelude.{◌≡◌, ◌≤◌, ◌∷◌, [], ◌++◌, OnOk};
-ghost use Rattle.isp_code.specs.declared.instr.Instr.TheVariants as instr;
+ghost use Rattle.std.specs.Prelude.{◌≡◌, ◌≤◌, OnOk};
 ghost use Rattle.isp_lower.specs.Drafts.{draft_of};
-ghost use Rattle.isp_lower.specs.Emitted.{Appends, Grows, Present, first_rows, layout, rows_of};
+ghost use Rattle.isp_lower.specs.Emitted.{Grows, Present, first_rows, layout, rows_of};
 ghost use Rattle.isp_lower.specs.Reserved.{Has};
 ghost use Rattle.isp_typed.specs.Views.{block_of, function_of};
 ghost use Rattle.isp_masks.specs.Asks.{block_asks, result_asks};
 ghost use Rattle.isp_masks.specs.Lowered.{AddsLowered, BodyIsOwn, IsFineFunction};
-ghost use Rattle.isp_masks.specs.Statements.{block_code, block_places, returned};
+ghost use Rattle.isp_masks.specs.Statements.{returned};
+ghost use Rattle.isp_masks.specs.Written.{Writes, function_at};
 
 use crate::masks::{Masks, Spot};
 use crate::reserved;
 use crate::statement::block;
 use isp_base::Rate;
 use isp_code::{Instr, Register};
-use isp_lower::{Body, Emitter, Reserve, Scope, scalar, vector};
+use isp_lower::{Body, Emitter, MaskNumber, Reserve, Scope, Slot, scalar, vector};
 use isp_typed::{TypedBlock, TypedFunction};
 use std::alloc::AllocError;
 
@@ -39,14 +39,15 @@ fn returned(on: &Scope) -> Option<Register>
 fn body(b: &mut Body, on: &Scope, x: &TypedBlock) -> Result<(), AllocError>
     requires body { Present on.now (block_asks on.now.answer (block_of x.now) 3) }
     requires result { Present on.now (result_asks on.now.answer) }
-    ensures { OnOk result (Appends b.old b.new (λ pc p. block_code (layout on.now) on.now.answer (block_of x.now) pc p 0 1 2 3 ++ instr.Return (returned (layout on.now) on.now.answer) ∷ []) (block_places (layout on.now) (block_of x.now))) }
+    ensures { OnOk result (Writes b.old b.new (function_at on.now (block_of x.now))) }
 {
     let masks = Masks {
-        on: 0,
-        continued: 1,
-        returned: 2,
+        on: MaskNumber { number: 0 },
+        continued: MaskNumber { number: 1 },
+        returned: MaskNumber { number: 2 },
     };
-    block(b, on, x, Spot { masks, slot: 3 })?;
+    let slot = Slot { number: 3 };
+    block(b, on, x, Spot { masks, slot })?;
     b.push(Instr::Return(returned(on)))?;
     Ok(())
 }
@@ -60,7 +61,7 @@ fn reserve(asked: &mut Reserve, f: &TypedFunction) -> Result<(), AllocError>
     ensures body { OnOk result (Has asked.new (block_asks (function_of f.now).answer (function_of f.now).body 3)) }
     ensures result { OnOk result (Has asked.new (result_asks (function_of f.now).answer)) }
 {
-    reserved::block(asked, &f.body, f.result, 3)
+    reserved::block(asked, &f.body, f.result, Slot { number: 3 })
 }
 
 /// Adds the routine of a function, which is at work afterwards, and the places in the source that its code names. Memory is
@@ -72,6 +73,7 @@ pub(crate) fn function(e: &mut Emitter, f: &TypedFunction) -> Result<(), AllocEr
     e.begin(f)?;
     reserve(&mut e.reserved, f)?;
     let on = Scope {
+        callees: e.callees,
         registers: &e.reserved.registers,
         masks: e.reserved.masks,
         answer: f.result,

@@ -6,13 +6,13 @@ ghost use Rattle.isp_masks.specs.Sets.{clear_mask, jump_code, leave_code, unite}
 
 use crate::masks::Masks;
 use isp_code::{Instr, MaskInstr, MaskOp};
-use isp_lower::{Body, mask, the_others, where_so};
+use isp_lower::{Body, MaskNumber, RegisterNumber, mask, the_others, where_so};
 use isp_tree::Jump;
 use std::alloc::AllocError;
 
 /// A mask gets the lanes of two.
-pub(crate) fn unite(to: u32, one: u32, other: u32) -> Instr
-    ensures { result ≡ unite to one other }
+pub(crate) fn unite(to: MaskNumber, one: MaskNumber, other: MaskNumber) -> Instr
+    ensures { result ≡ unite to.number one.number other.number }
 {
     Instr::Mask(
         mask(to),
@@ -21,15 +21,20 @@ pub(crate) fn unite(to: u32, one: u32, other: u32) -> Instr
 }
 
 /// A mask gets no lane.
-pub(crate) fn clear_mask(to: u32) -> Instr
-    ensures { result ≡ clear_mask to }
+pub(crate) fn clear_mask(to: MaskNumber) -> Instr
+    ensures { result ≡ clear_mask to.number }
 {
     Instr::Mask(mask(to), MaskInstr::Off)
 }
 
 /// The lanes of a mask for which a test in a register is true go to another mask, and it keeps the others.
-pub(crate) fn part(b: &mut Body, to: u32, tested: u32, k: u32) -> Result<(), AllocError>
-    ensures { OnOk result (Appends b.old b.new (λ pc p. where_so to tested k ∷ the_others k k to ∷ []) []) }
+pub(crate) fn part(
+    b: &mut Body,
+    to: MaskNumber,
+    tested: RegisterNumber,
+    k: MaskNumber,
+) -> Result<(), AllocError>
+    ensures { OnOk result (Appends b.old b.new (λ pc p. where_so to.number tested.number k.number ∷ the_others k.number k.number to.number ∷ []) []) }
 {
     b.push(where_so(to, tested, k))?;
     b.push(the_others(k, k, to))?;
@@ -37,8 +42,8 @@ pub(crate) fn part(b: &mut Body, to: u32, tested: u32, k: u32) -> Result<(), All
 }
 
 /// The lanes of a mask leave, into another.
-pub(crate) fn leave(b: &mut Body, to: u32, k: u32) -> Result<(), AllocError>
-    ensures { OnOk result (Appends b.old b.new (λ pc p. leave_code to k) []) }
+pub(crate) fn leave(b: &mut Body, to: MaskNumber, k: MaskNumber) -> Result<(), AllocError>
+    ensures { OnOk result (Appends b.old b.new (λ pc p. leave_code to.number k.number) []) }
 {
     b.push(unite(to, to, k))?;
     b.push(clear_mask(k))?;
@@ -47,7 +52,7 @@ pub(crate) fn leave(b: &mut Body, to: u32, k: u32) -> Result<(), AllocError>
 
 /// `break` and `continue`, by the lanes of a mask; those that continue go to another.
 pub(crate) fn jump(b: &mut Body, jump: Jump, masks: Masks) -> Result<(), AllocError>
-    ensures { OnOk result (Appends b.old b.new (λ pc p. jump_code jump masks.on masks.continued) []) }
+    ensures { OnOk result (Appends b.old b.new (λ pc p. jump_code jump masks.on.number masks.continued.number) []) }
 {
     match jump {
         Jump::Break => {

@@ -6,21 +6,23 @@ ghost use Rattle.isp_typed.specs.Typed.{t_return, type_of};
 ghost use Rattle.isp_typed.specs.Views.{block_of, expr_of, first_of, simple_of, stmt_of};
 ghost use Rattle.isp_lower.specs.Asks.{expr_asks, first_slot};
 ghost use Rattle.isp_lower.specs.Emitted.{Present};
-ghost use Rattle.isp_lower.specs.Written.{Writes};
 ghost use Rattle.isp_masks.specs.Asks.{answer_asks, block_asks, first_asks, part_asks, step_asks, stmt_asks, test_part_asks};
 ghost use Rattle.isp_masks.specs.Exits.{nobody_leaves};
-ghost use Rattle.isp_masks.specs.Written.{again_at, answer_at, block_at, do_at, first_at, for_turn_at, guarded_at, if_at, if_else_at, live_again_at, part_at, parts_at, passed_at, step_at, step_back_at, stepped_at, stmt_at, turn_at, turns_at, while_at, while_turn_at};
+ghost use Rattle.isp_masks.specs.Written.{Writes, again_at, answer_at, block_at, do_at, first_at, for_turn_at, guarded_at, if_at, if_else_at, live_again_at, part_at, parts_at, passed_at, step_at, step_back_at, stepped_at, stmt_at, turn_at, turns_at, while_at, while_turn_at};
 
 use crate::awaited::{land_all, leave_room};
 use crate::exits::{all_go_on, exits_of};
 use crate::looping::{
-    Loop, Test, again, back, clear_where, enter, join_where, land_sift, leave_loop, next, sift,
+    Loop, Test, again, back, clear_where, enter, inside, join_where, land_sift, leave_loop, next,
+    sift,
 };
 use crate::masks::{Masks, Spot};
 use crate::sets::{jump, leave, part, unite};
 use isp_base::{Rate, Span};
 use isp_code::{Instr, JumpTest};
-use isp_lower::{Body, Scope, copy, declared, expr, mask, operand, scalar, simple};
+use isp_lower::{
+    Body, RegisterNumber, Scope, Site, Slot, copy, declared, expr, mask, operand, scalar, simple,
+};
 use isp_typed::{TypedBlock, TypedExpr, TypedFirst, TypedSimple, TypedStmt};
 use std::alloc::AllocError;
 
@@ -28,13 +30,13 @@ use std::alloc::AllocError;
 /// and `assert`.
 #[cycle(stmt)]
 pub(crate) fn stmt(b: &mut Body, on: &Scope, x: &TypedStmt, spot: Spot) -> Result<(), AllocError>
-    requires { Present on.now (stmt_asks on.now.answer (stmt_of x.now) spot.slot) }
+    requires { Present on.now (stmt_asks on.now.answer (stmt_of x.now) spot.slot.number) }
     ensures { OnOk result (Writes b.old b.new (stmt_at on.now (stmt_of x.now) spot)) }
 {
     match x {
         TypedStmt::Block(body) => block(b, on, body, spot),
-        TypedStmt::Declare { items, .. } => declared(b, on, items, spot.masks.on, spot.slot),
-        TypedStmt::Simple { simple: x, .. } => simple(b, on, x, spot.masks.on, spot.slot),
+        TypedStmt::Declare { items, .. } => declared(b, on, items, spot.site()),
+        TypedStmt::Simple { simple: x, .. } => simple(b, on, x, spot.site()),
         TypedStmt::If { test, then, .. } => if_alone(b, on, test, then, spot),
         TypedStmt::IfElse {
             test,
@@ -57,7 +59,7 @@ pub(crate) fn stmt(b: &mut Body, on: &Scope, x: &TypedStmt, spot: Spot) -> Resul
             body,
             ..
         } => {
-            first_part(b, on, first, spot.masks.on, spot.slot)?;
+            first_part(b, on, first, spot.site())?;
             turns(b, on, test, step, body, spot)
         }
         TypedStmt::Foreach { .. }
@@ -77,7 +79,7 @@ pub(crate) fn block(
     body: &TypedBlock,
     spot: Spot,
 ) -> Result<(), AllocError>
-    requires { Present on.now (block_asks on.now.answer (block_of body.now) spot.slot) }
+    requires { Present on.now (block_asks on.now.answer (block_of body.now) spot.slot.number) }
     ensures { OnOk result (Writes b.old b.new (block_at on.now (block_of body.now) spot)) }
 {
     let mut jumps = Vec::new(*b.code.allocator());
@@ -92,19 +94,19 @@ pub(crate) fn block(
 }
 
 /// A value where results are.
-fn answered(b: &mut Body, on: &Scope, x: &TypedExpr, k: u32, slot: u32) -> Result<(), AllocError>
-    requires { Present on.now (answer_asks on.now.answer (expr_of x.now) slot) }
-    ensures { OnOk result (Writes b.old b.new (answer_at on.now (expr_of x.now) k slot)) }
+fn answered(b: &mut Body, on: &Scope, x: &TypedExpr, site: Site) -> Result<(), AllocError>
+    requires { Present on.now (answer_asks on.now.answer (expr_of x.now) site.slot.number) }
+    ensures { OnOk result (Writes b.old b.new (answer_at on.now (expr_of x.now) site.mask.number site.slot.number)) }
 {
     match on.answer {
         None => {
-            expr(b, on, x, k, slot)?;
+            expr(b, on, x, site)?;
             Ok(())
         }
         Some(ty) => {
-            let from = operand(b, on, ty.rate, x, k, slot)?;
+            let from = operand(b, on, ty.rate, x, site)?;
             let to = on.result(ty);
-            b.push(copy(ty.rate, to, from, k))?;
+            b.push(copy(ty.rate, to, from, site.mask))?;
             Ok(())
         }
     }
@@ -119,7 +121,7 @@ fn returns(
     span: Span,
     spot: Spot,
 ) -> Result<(), AllocError>
-    requires { Present on.now (stmt_asks on.now.answer (t_return keyword (option_map expr_of value.now) span) spot.slot) }
+    requires { Present on.now (stmt_asks on.now.answer (t_return keyword (option_map expr_of value.now) span) spot.slot.number) }
     ensures { OnOk result (Writes b.old b.new (stmt_at on.now (t_return keyword (option_map expr_of value.now) span) spot)) }
 {
     match value {
@@ -128,7 +130,7 @@ fn returns(
             Ok(())
         }
         Some(x) => {
-            answered(b, on, x, spot.masks.on, spot.slot)?;
+            answered(b, on, x, spot.site())?;
             leave(b, spot.masks.returned, spot.masks.on)?;
             Ok(())
         }
@@ -144,12 +146,12 @@ fn if_alone(
     then: &TypedStmt,
     spot: Spot,
 ) -> Result<(), AllocError>
-    requires test { Present on.now (expr_asks (expr_of test.now) spot.slot) }
-    requires part { Present on.now (part_asks (type_of (expr_of test.now)).rate spot.slot) }
-    requires then { Present on.now (stmt_asks on.now.answer (stmt_of then.now) (first_slot (type_of (expr_of test.now)).rate spot.slot)) }
+    requires test { Present on.now (expr_asks (expr_of test.now) spot.slot.number) }
+    requires part { Present on.now (part_asks (type_of (expr_of test.now)).rate spot.slot.number) }
+    requires then { Present on.now (stmt_asks on.now.answer (stmt_of then.now) (first_slot (type_of (expr_of test.now)).rate spot.slot.number)) }
     ensures { OnOk result (Writes b.old b.new (if_at on.now (expr_of test.now) (stmt_of then.now) spot)) }
 {
-    let tested = expr(b, on, test, spot.masks.on, spot.slot)?;
+    let tested = expr(b, on, test, spot.site())?;
     let given = Test {
         rate: test.ty().rate,
         register: tested,
@@ -167,9 +169,9 @@ fn part_by(
     then: &TypedStmt,
     spot: Spot,
 ) -> Result<(), AllocError>
-    requires part { Present on.now (part_asks test.rate spot.slot) }
-    requires then { Present on.now (stmt_asks on.now.answer (stmt_of then.now) (first_slot test.rate spot.slot)) }
-    ensures { OnOk result (Writes b.old b.new (part_at on.now test.rate test.register (stmt_of then.now) spot)) }
+    requires part { Present on.now (part_asks test.rate spot.slot.number) }
+    requires then { Present on.now (stmt_asks on.now.answer (stmt_of then.now) (first_slot test.rate spot.slot.number)) }
+    ensures { OnOk result (Writes b.old b.new (part_at on.now test.rate test.register.number (stmt_of then.now) spot)) }
 {
     match test.rate {
         Rate::Uniform => part_by_jump(b, on, test.register, then, spot),
@@ -182,12 +184,12 @@ fn part_by(
 fn part_by_jump(
     b: &mut Body,
     on: &Scope,
-    tested: u32,
+    tested: RegisterNumber,
     then: &TypedStmt,
     spot: Spot,
 ) -> Result<(), AllocError>
-    requires { Present on.now (stmt_asks on.now.answer (stmt_of then.now) spot.slot) }
-    ensures { OnOk result (Writes b.old b.new (part_at on.now Uniform tested (stmt_of then.now) spot)) }
+    requires { Present on.now (stmt_asks on.now.answer (stmt_of then.now) spot.slot.number) }
+    ensures { OnOk result (Writes b.old b.new (part_at on.now Uniform tested.number (stmt_of then.now) spot)) }
 {
     let at = b.code.len();
     b.push(Instr::JumpIf(JumpTest::False, scalar(tested), 0))?;
@@ -201,17 +203,21 @@ fn part_by_jump(
 fn part_by_mask(
     b: &mut Body,
     on: &Scope,
-    tested: u32,
+    tested: RegisterNumber,
     then: &TypedStmt,
     spot: Spot,
 ) -> Result<(), AllocError>
-    requires slots { spot.slot + 1 < 4294967296 }
-    requires then { Present on.now (stmt_asks on.now.answer (stmt_of then.now) (spot.slot + 1)) }
-    ensures { OnOk result (Writes b.old b.new (part_at on.now Varying tested (stmt_of then.now) spot)) }
+    requires slots { spot.slot.number + 1 < 4294967296 }
+    requires then { Present on.now (stmt_asks on.now.answer (stmt_of then.now) (spot.slot.number + 1)) }
+    ensures { OnOk result (Writes b.old b.new (part_at on.now Varying tested.number (stmt_of then.now) spot)) }
 {
-    part(b, spot.slot, tested, spot.masks.on)?;
-    under_mask(b, on, then, spot, spot.slot, spot.slot + 1)?;
-    b.push(unite(spot.masks.on, spot.slot, spot.masks.on))?;
+    part(b, spot.slot.mask(), tested, spot.masks.on)?;
+    let site = Site {
+        mask: spot.slot.mask(),
+        slot: spot.slot.next(),
+    };
+    under_mask(b, on, then, spot, site)?;
+    b.push(unite(spot.masks.on, spot.slot.mask(), spot.masks.on))?;
     Ok(())
 }
 
@@ -222,21 +228,21 @@ fn under_mask(
     on: &Scope,
     x: &TypedStmt,
     spot: Spot,
-    k: u32,
-    slot: u32,
+    site: Site,
 ) -> Result<(), AllocError>
-    requires { Present on.now (stmt_asks on.now.answer (stmt_of x.now) slot) }
-    ensures { OnOk result (Writes b.old b.new (guarded_at on.now (stmt_of x.now) spot k slot)) }
+    requires { Present on.now (stmt_asks on.now.answer (stmt_of x.now) site.slot.number) }
+    ensures { OnOk result (Writes b.old b.new (guarded_at on.now (stmt_of x.now) spot site.mask.number site.slot.number)) }
 {
     let masks = Masks {
-        on: k,
+        on: site.mask,
         continued: spot.masks.continued,
         returned: spot.masks.returned,
     };
+    let slot = site.slot;
     let at = b.code.len();
-    b.push(Instr::JumpIf(JumpTest::Off, mask(k), 0))?;
+    b.push(Instr::JumpIf(JumpTest::Off, mask(site.mask), 0))?;
     stmt(b, on, x, Spot { masks, slot })?;
-    b.land(at, JumpTest::Off, mask(k));
+    b.land(at, JumpTest::Off, mask(site.mask));
     Ok(())
 }
 
@@ -250,13 +256,13 @@ fn if_else(
     otherwise: &TypedStmt,
     spot: Spot,
 ) -> Result<(), AllocError>
-    requires test { Present on.now (expr_asks (expr_of test.now) spot.slot) }
-    requires part { Present on.now (part_asks (type_of (expr_of test.now)).rate spot.slot) }
-    requires then { Present on.now (stmt_asks on.now.answer (stmt_of then.now) (first_slot (type_of (expr_of test.now)).rate spot.slot)) }
-    requires otherwise { Present on.now (stmt_asks on.now.answer (stmt_of otherwise.now) (first_slot (type_of (expr_of test.now)).rate spot.slot)) }
+    requires test { Present on.now (expr_asks (expr_of test.now) spot.slot.number) }
+    requires part { Present on.now (part_asks (type_of (expr_of test.now)).rate spot.slot.number) }
+    requires then { Present on.now (stmt_asks on.now.answer (stmt_of then.now) (first_slot (type_of (expr_of test.now)).rate spot.slot.number)) }
+    requires otherwise { Present on.now (stmt_asks on.now.answer (stmt_of otherwise.now) (first_slot (type_of (expr_of test.now)).rate spot.slot.number)) }
     ensures { OnOk result (Writes b.old b.new (if_else_at on.now (expr_of test.now) (stmt_of then.now) (stmt_of otherwise.now) spot)) }
 {
-    let tested = expr(b, on, test, spot.masks.on, spot.slot)?;
+    let tested = expr(b, on, test, spot.site())?;
     let given = Test {
         rate: test.ty().rate,
         register: tested,
@@ -275,10 +281,10 @@ fn parts_by(
     otherwise: &TypedStmt,
     spot: Spot,
 ) -> Result<(), AllocError>
-    requires part { Present on.now (part_asks test.rate spot.slot) }
-    requires then { Present on.now (stmt_asks on.now.answer (stmt_of then.now) (first_slot test.rate spot.slot)) }
-    requires otherwise { Present on.now (stmt_asks on.now.answer (stmt_of otherwise.now) (first_slot test.rate spot.slot)) }
-    ensures { OnOk result (Writes b.old b.new (parts_at on.now test.rate test.register (stmt_of then.now) (stmt_of otherwise.now) spot)) }
+    requires part { Present on.now (part_asks test.rate spot.slot.number) }
+    requires then { Present on.now (stmt_asks on.now.answer (stmt_of then.now) (first_slot test.rate spot.slot.number)) }
+    requires otherwise { Present on.now (stmt_asks on.now.answer (stmt_of otherwise.now) (first_slot test.rate spot.slot.number)) }
+    ensures { OnOk result (Writes b.old b.new (parts_at on.now test.rate test.register.number (stmt_of then.now) (stmt_of otherwise.now) spot)) }
 {
     match test.rate {
         Rate::Uniform => one_of(b, on, test.register, then, otherwise, spot),
@@ -291,14 +297,14 @@ fn parts_by(
 fn one_of(
     b: &mut Body,
     on: &Scope,
-    tested: u32,
+    tested: RegisterNumber,
     then: &TypedStmt,
     otherwise: &TypedStmt,
     spot: Spot,
 ) -> Result<(), AllocError>
-    requires then { Present on.now (stmt_asks on.now.answer (stmt_of then.now) spot.slot) }
-    requires otherwise { Present on.now (stmt_asks on.now.answer (stmt_of otherwise.now) spot.slot) }
-    ensures { OnOk result (Writes b.old b.new (parts_at on.now Uniform tested (stmt_of then.now) (stmt_of otherwise.now) spot)) }
+    requires then { Present on.now (stmt_asks on.now.answer (stmt_of then.now) spot.slot.number) }
+    requires otherwise { Present on.now (stmt_asks on.now.answer (stmt_of otherwise.now) spot.slot.number) }
+    ensures { OnOk result (Writes b.old b.new (parts_at on.now Uniform tested.number (stmt_of then.now) (stmt_of otherwise.now) spot)) }
 {
     let at = b.code.len();
     b.push(Instr::JumpIf(JumpTest::False, scalar(tested), 0))?;
@@ -316,45 +322,46 @@ fn one_of(
 fn parted(
     b: &mut Body,
     on: &Scope,
-    tested: u32,
+    tested: RegisterNumber,
     then: &TypedStmt,
     otherwise: &TypedStmt,
     spot: Spot,
 ) -> Result<(), AllocError>
-    requires slots { spot.slot + 1 < 4294967296 }
-    requires then { Present on.now (stmt_asks on.now.answer (stmt_of then.now) (spot.slot + 1)) }
-    requires otherwise { Present on.now (stmt_asks on.now.answer (stmt_of otherwise.now) (spot.slot + 1)) }
-    ensures { OnOk result (Writes b.old b.new (parts_at on.now Varying tested (stmt_of then.now) (stmt_of otherwise.now) spot)) }
+    requires slots { spot.slot.number + 1 < 4294967296 }
+    requires then { Present on.now (stmt_asks on.now.answer (stmt_of then.now) (spot.slot.number + 1)) }
+    requires otherwise { Present on.now (stmt_asks on.now.answer (stmt_of otherwise.now) (spot.slot.number + 1)) }
+    ensures { OnOk result (Writes b.old b.new (parts_at on.now Varying tested.number (stmt_of then.now) (stmt_of otherwise.now) spot)) }
 {
-    part(b, spot.slot, tested, spot.masks.on)?;
-    under_mask(b, on, then, spot, spot.slot, spot.slot + 1)?;
-    under_mask(b, on, otherwise, spot, spot.masks.on, spot.slot + 1)?;
-    b.push(unite(spot.masks.on, spot.slot, spot.masks.on))?;
+    part(b, spot.slot.mask(), tested, spot.masks.on)?;
+    let first = Site {
+        mask: spot.slot.mask(),
+        slot: spot.slot.next(),
+    };
+    let second = Site {
+        mask: spot.masks.on,
+        slot: spot.slot.next(),
+    };
+    under_mask(b, on, then, spot, first)?;
+    under_mask(b, on, otherwise, spot, second)?;
+    b.push(unite(spot.masks.on, spot.slot.mask(), spot.masks.on))?;
     Ok(())
 }
 
 /// A turn: those that continue in it come back behind the body.
 #[cycle(stmt)]
 fn turn(b: &mut Body, on: &Scope, body: &TypedStmt, it: Loop) -> Result<(), AllocError>
-    requires slots { it.slot + 3 < 4294967296 }
-    requires body { Present on.now (stmt_asks on.now.answer (stmt_of body.now) (it.slot + 3)) }
+    requires slots { it.slot.number + 3 < 4294967296 }
+    requires body { Present on.now (stmt_asks on.now.answer (stmt_of body.now) (it.slot.number + 3)) }
     ensures { OnOk result (Writes b.old b.new (turn_at on.now (stmt_of body.now) it)) }
 {
     let masks = Masks {
-        on: it.slot,
-        continued: it.slot + 1,
-        returned: it.slot + 2,
+        on: it.slot.mask(),
+        continued: it.slot.next().mask(),
+        returned: it.slot.plus(2).mask(),
     };
     clear_where(b, it.exits.continues, masks.continued)?;
-    stmt(
-        b,
-        on,
-        body,
-        Spot {
-            masks,
-            slot: it.slot + 3,
-        },
-    )?;
+    let slot = it.slot.plus(3);
+    stmt(b, on, body, Spot { masks, slot })?;
     join_where(b, it.exits.continues, masks.on, masks.continued)?;
     Ok(())
 }
@@ -368,9 +375,9 @@ fn while_loop(
     body: &TypedStmt,
     spot: Spot,
 ) -> Result<(), AllocError>
-    requires slots { spot.slot + 3 < 4294967296 }
-    requires test { Present on.now (expr_asks (expr_of test.now) (spot.slot + 3)) }
-    requires body { Present on.now (stmt_asks on.now.answer (stmt_of body.now) (spot.slot + 3)) }
+    requires slots { spot.slot.number + 3 < 4294967296 }
+    requires test { Present on.now (expr_asks (expr_of test.now) (spot.slot.number + 3)) }
+    requires body { Present on.now (stmt_asks on.now.answer (stmt_of body.now) (spot.slot.number + 3)) }
     ensures { OnOk result (Writes b.old b.new (while_at on.now (expr_of test.now) (stmt_of body.now) spot)) }
 {
     let exits = exits_of(body);
@@ -380,7 +387,7 @@ fn while_loop(
         slot: spot.slot,
         top: next(b),
     };
-    let tested = expr(b, on, test, spot.slot, spot.slot + 3)?;
+    let tested = expr(b, on, test, inside(spot.slot))?;
     let given = Test {
         rate: test.ty().rate,
         register: tested,
@@ -399,8 +406,8 @@ fn while_turn(
     body: &TypedStmt,
     it: Loop,
 ) -> Result<(), AllocError>
-    requires slots { it.slot + 3 < 4294967296 }
-    requires body { Present on.now (stmt_asks on.now.answer (stmt_of body.now) (it.slot + 3)) }
+    requires slots { it.slot.number + 3 < 4294967296 }
+    requires body { Present on.now (stmt_asks on.now.answer (stmt_of body.now) (it.slot.number + 3)) }
     ensures { OnOk result (Writes b.old b.new (while_turn_at on.now test (stmt_of body.now) it)) }
 {
     sift(b, test, it.slot)?;
@@ -421,9 +428,9 @@ fn do_loop(
     test: &TypedExpr,
     spot: Spot,
 ) -> Result<(), AllocError>
-    requires slots { spot.slot + 3 < 4294967296 }
-    requires test { Present on.now (expr_asks (expr_of test.now) (spot.slot + 3)) }
-    requires body { Present on.now (stmt_asks on.now.answer (stmt_of body.now) (spot.slot + 3)) }
+    requires slots { spot.slot.number + 3 < 4294967296 }
+    requires test { Present on.now (expr_asks (expr_of test.now) (spot.slot.number + 3)) }
+    requires body { Present on.now (stmt_asks on.now.answer (stmt_of body.now) (spot.slot.number + 3)) }
     ensures { OnOk result (Writes b.old b.new (do_at on.now (stmt_of body.now) (expr_of test.now) spot)) }
 {
     let exits = exits_of(body);
@@ -441,8 +448,8 @@ fn do_loop(
 
 /// The test of a `do` and the jump back, if somebody is live.
 fn live_again(b: &mut Body, on: &Scope, test: &TypedExpr, it: Loop) -> Result<(), AllocError>
-    requires slots { it.slot + 3 < 4294967296 }
-    requires test { Present on.now (expr_asks (expr_of test.now) (it.slot + 3)) }
+    requires slots { it.slot.number + 3 < 4294967296 }
+    requires test { Present on.now (expr_asks (expr_of test.now) (it.slot.number + 3)) }
     ensures { OnOk result (Writes b.old b.new (live_again_at on.now (nobody_leaves it.exits) (expr_of test.now) it)) }
 {
     if it.exits.is_none() {
@@ -454,23 +461,23 @@ fn live_again(b: &mut Body, on: &Scope, test: &TypedExpr, it: Loop) -> Result<()
 
 /// The same, jumped over where nobody is live.
 fn some_again(b: &mut Body, on: &Scope, test: &TypedExpr, it: Loop) -> Result<(), AllocError>
-    requires slots { it.slot + 3 < 4294967296 }
-    requires test { Present on.now (expr_asks (expr_of test.now) (it.slot + 3)) }
+    requires slots { it.slot.number + 3 < 4294967296 }
+    requires test { Present on.now (expr_asks (expr_of test.now) (it.slot.number + 3)) }
     ensures { OnOk result (Writes b.old b.new (live_again_at on.now false (expr_of test.now) it)) }
 {
     let at = b.code.len();
-    b.push(Instr::JumpIf(JumpTest::Off, mask(it.slot), 0))?;
+    b.push(Instr::JumpIf(JumpTest::Off, mask(it.slot.mask()), 0))?;
     tested_again(b, on, test, it)?;
-    b.land(at, JumpTest::Off, mask(it.slot));
+    b.land(at, JumpTest::Off, mask(it.slot.mask()));
     Ok(())
 }
 
 fn tested_again(b: &mut Body, on: &Scope, test: &TypedExpr, it: Loop) -> Result<(), AllocError>
-    requires slots { it.slot + 3 < 4294967296 }
-    requires test { Present on.now (expr_asks (expr_of test.now) (it.slot + 3)) }
+    requires slots { it.slot.number + 3 < 4294967296 }
+    requires test { Present on.now (expr_asks (expr_of test.now) (it.slot.number + 3)) }
     ensures { OnOk result (Writes b.old b.new (again_at on.now (expr_of test.now) it)) }
 {
-    let tested = expr(b, on, test, it.slot, it.slot + 3)?;
+    let tested = expr(b, on, test, inside(it.slot))?;
     let given = Test {
         rate: test.ty().rate,
         register: tested,
@@ -484,16 +491,15 @@ fn first_part(
     b: &mut Body,
     on: &Scope,
     first: &Option<TypedFirst>,
-    k: u32,
-    slot: u32,
+    site: Site,
 ) -> Result<(), AllocError>
-    requires { Present on.now (first_asks (option_map first_of first.now) slot) }
-    ensures { OnOk result (Writes b.old b.new (first_at on.now (option_map first_of first.now) k slot)) }
+    requires { Present on.now (first_asks (option_map first_of first.now) site.slot.number) }
+    ensures { OnOk result (Writes b.old b.new (first_at on.now (option_map first_of first.now) site.mask.number site.slot.number)) }
 {
     match first {
         None => Ok(()),
-        Some(TypedFirst::Declare { items, .. }) => declared(b, on, items, k, slot),
-        Some(TypedFirst::Simple(x)) => simple(b, on, x, k, slot),
+        Some(TypedFirst::Declare { items, .. }) => declared(b, on, items, site),
+        Some(TypedFirst::Simple(x)) => simple(b, on, x, site),
     }
 }
 
@@ -507,10 +513,10 @@ fn turns(
     body: &TypedStmt,
     spot: Spot,
 ) -> Result<(), AllocError>
-    requires slots { spot.slot + 3 < 4294967296 }
-    requires test { Present on.now (test_part_asks (option_map expr_of test.now) (spot.slot + 3)) }
-    requires step { Present on.now (step_asks (option_map simple_of step.now) (spot.slot + 3)) }
-    requires body { Present on.now (stmt_asks on.now.answer (stmt_of body.now) (spot.slot + 3)) }
+    requires slots { spot.slot.number + 3 < 4294967296 }
+    requires test { Present on.now (test_part_asks (option_map expr_of test.now) (spot.slot.number + 3)) }
+    requires step { Present on.now (step_asks (option_map simple_of step.now) (spot.slot.number + 3)) }
+    requires body { Present on.now (stmt_asks on.now.answer (stmt_of body.now) (spot.slot.number + 3)) }
     ensures { OnOk result (Writes b.old b.new (turns_at on.now (option_map expr_of test.now) (option_map simple_of step.now) (stmt_of body.now) spot)) }
 {
     let exits = exits_of(body);
@@ -538,13 +544,13 @@ fn for_turn(
     body: &TypedStmt,
     it: Loop,
 ) -> Result<(), AllocError>
-    requires slots { it.slot + 3 < 4294967296 }
-    requires test { Present on.now (expr_asks (expr_of test.now) (it.slot + 3)) }
-    requires step { Present on.now (step_asks (option_map simple_of step.now) (it.slot + 3)) }
-    requires body { Present on.now (stmt_asks on.now.answer (stmt_of body.now) (it.slot + 3)) }
+    requires slots { it.slot.number + 3 < 4294967296 }
+    requires test { Present on.now (expr_asks (expr_of test.now) (it.slot.number + 3)) }
+    requires step { Present on.now (step_asks (option_map simple_of step.now) (it.slot.number + 3)) }
+    requires body { Present on.now (stmt_asks on.now.answer (stmt_of body.now) (it.slot.number + 3)) }
     ensures { OnOk result (Writes b.old b.new (for_turn_at on.now (expr_of test.now) (option_map simple_of step.now) (stmt_of body.now) it)) }
 {
-    let tested = expr(b, on, test, it.slot, it.slot + 3)?;
+    let tested = expr(b, on, test, inside(it.slot))?;
     let given = Test {
         rate: test.ty().rate,
         register: tested,
@@ -563,9 +569,9 @@ fn passed_turn(
     body: &TypedStmt,
     it: Loop,
 ) -> Result<(), AllocError>
-    requires slots { it.slot + 3 < 4294967296 }
-    requires step { Present on.now (step_asks (option_map simple_of step.now) (it.slot + 3)) }
-    requires body { Present on.now (stmt_asks on.now.answer (stmt_of body.now) (it.slot + 3)) }
+    requires slots { it.slot.number + 3 < 4294967296 }
+    requires step { Present on.now (step_asks (option_map simple_of step.now) (it.slot.number + 3)) }
+    requires body { Present on.now (stmt_asks on.now.answer (stmt_of body.now) (it.slot.number + 3)) }
     ensures { OnOk result (Writes b.old b.new (passed_at on.now test (option_map simple_of step.now) (stmt_of body.now) it)) }
 {
     sift(b, test, it.slot)?;
@@ -585,9 +591,9 @@ fn stepped_turn(
     body: &TypedStmt,
     it: Loop,
 ) -> Result<(), AllocError>
-    requires slots { it.slot + 3 < 4294967296 }
-    requires step { Present on.now (step_asks (option_map simple_of step.now) (it.slot + 3)) }
-    requires body { Present on.now (stmt_asks on.now.answer (stmt_of body.now) (it.slot + 3)) }
+    requires slots { it.slot.number + 3 < 4294967296 }
+    requires step { Present on.now (step_asks (option_map simple_of step.now) (it.slot.number + 3)) }
+    requires body { Present on.now (stmt_asks on.now.answer (stmt_of body.now) (it.slot.number + 3)) }
     ensures { OnOk result (Writes b.old b.new (stepped_at on.now (option_map simple_of step.now) (stmt_of body.now) it)) }
 {
     turn(b, on, body, it)?;
@@ -602,8 +608,8 @@ fn step_back(
     step: &Option<TypedSimple>,
     it: Loop,
 ) -> Result<(), AllocError>
-    requires slots { it.slot + 3 < 4294967296 }
-    requires step { Present on.now (step_asks (option_map simple_of step.now) (it.slot + 3)) }
+    requires slots { it.slot.number + 3 < 4294967296 }
+    requires step { Present on.now (step_asks (option_map simple_of step.now) (it.slot.number + 3)) }
     ensures { OnOk result (Writes b.old b.new (step_back_at on.now (nobody_leaves it.exits) (option_map simple_of step.now) it)) }
 {
     if it.exits.is_none() {
@@ -620,20 +626,20 @@ fn some_stepped(
     step: &Option<TypedSimple>,
     it: Loop,
 ) -> Result<(), AllocError>
-    requires slots { it.slot + 3 < 4294967296 }
-    requires step { Present on.now (step_asks (option_map simple_of step.now) (it.slot + 3)) }
+    requires slots { it.slot.number + 3 < 4294967296 }
+    requires step { Present on.now (step_asks (option_map simple_of step.now) (it.slot.number + 3)) }
     ensures { OnOk result (Writes b.old b.new (step_back_at on.now false (option_map simple_of step.now) it)) }
 {
     let at = b.code.len();
-    b.push(Instr::JumpIf(JumpTest::Off, mask(it.slot), 0))?;
+    b.push(Instr::JumpIf(JumpTest::Off, mask(it.slot.mask()), 0))?;
     stepped(b, on, step, it)?;
-    b.land(at, JumpTest::Off, mask(it.slot));
+    b.land(at, JumpTest::Off, mask(it.slot.mask()));
     Ok(())
 }
 
 fn stepped(b: &mut Body, on: &Scope, step: &Option<TypedSimple>, it: Loop) -> Result<(), AllocError>
-    requires slots { it.slot + 3 < 4294967296 }
-    requires step { Present on.now (step_asks (option_map simple_of step.now) (it.slot + 3)) }
+    requires slots { it.slot.number + 3 < 4294967296 }
+    requires step { Present on.now (step_asks (option_map simple_of step.now) (it.slot.number + 3)) }
     ensures { OnOk result (Writes b.old b.new (step_back_at on.now true (option_map simple_of step.now) it)) }
 {
     step_part(b, on, step, it.slot)?;
@@ -646,14 +652,14 @@ fn step_part(
     b: &mut Body,
     on: &Scope,
     step: &Option<TypedSimple>,
-    slot: u32,
+    slot: Slot,
 ) -> Result<(), AllocError>
-    requires slots { slot + 3 < 4294967296 }
-    requires step { Present on.now (step_asks (option_map simple_of step.now) (slot + 3)) }
-    ensures { OnOk result (Writes b.old b.new (step_at on.now (option_map simple_of step.now) slot)) }
+    requires slots { slot.number + 3 < 4294967296 }
+    requires step { Present on.now (step_asks (option_map simple_of step.now) (slot.number + 3)) }
+    ensures { OnOk result (Writes b.old b.new (step_at on.now (option_map simple_of step.now) slot.number)) }
 {
     match step {
         None => Ok(()),
-        Some(x) => simple(b, on, x, slot, slot + 3),
+        Some(x) => simple(b, on, x, inside(slot)),
     }
 }

@@ -128,7 +128,7 @@ module _ (gang : ℕ) (frame : Frame) (calls : Calls) (keep : CallsKeep calls) w
     call_keeps : (c : TCall) (a : Mask) (s : State) → KeepsBy (call_loads c) s (call gang frame calls c a s)
     call_keeps (t_called f xs sp) a s = bind_still (arguments_load xs) s _ _ (arguments_keep xs a (tick s)) (λ ps s1. keep f sp a ps frame s1)
 
-    arguments_keep : (xs : TArguments) (a : Mask) (s : State) → KeepsBy (arguments_load xs) s (arguments gang frame calls xs a s)
+    pub arguments_keep : (xs : TArguments) (a : Mask) (s : State) → KeepsBy (arguments_load xs) s (arguments gang frame calls xs a s)
     arguments_keep t_no_arguments a s = same no_variable s
     arguments_keep (t_argument_then x xs) a s =
         bind_keeps (argument_loads x) (arguments_load xs) s _ _ (argument_keeps x a s) (λ m s1. bind_still (arguments_load xs) s1 _ _ (arguments_keep xs a s1) (λ ms s2. same no_variable s2))

@@ -5,7 +5,7 @@ ghost use Rattle.isp_typed.specs.Views.{function_of};
 
 use isp_base::{Elem, Gang, Name, Rate, Signature, Span, Ty};
 use isp_code::{Code, Function, Instr, Returns};
-use isp_lower::Emitter;
+use isp_lower::{Emitter, PlaceNumber, RegisterNumber, TextNumber};
 use isp_typed::{Holds, Program, TypedBlock, TypedFunction, Variable};
 use std::alloc::{AllocError, Global};
 use std::test::Fail;
@@ -45,10 +45,10 @@ fn function(alloc: Global) -> Result<TypedFunction, AllocError>
 // The numbers that calls give, in their order, and the finished code.
 #[derive(Drop)]
 struct Written {
-    register: u32,
+    register: RegisterNumber,
     instruction: u32,
-    place: u32,
-    text: u32,
+    place: PlaceNumber,
+    text: TextNumber,
     code: Code,
 }
 
@@ -94,10 +94,13 @@ fn one_function(rt: HostRuntime) -> Result<(), Fail> {
     let f = function(alloc)?;
     let all = made(alloc, &program, &f)?;
     assert!(rt;
-        all.register == 1 && all.instruction == 0,
+        all.register.number == 1 && all.instruction == 0,
         "another register or instruction"
     );
-    assert!(rt; all.place == 0 && all.text == 0, "another place or text");
+    assert!(rt;
+        all.place.number == 0 && all.text.number == 0,
+        "another place or text"
+    );
     assert!(rt; all.code.gang() == Gang::W8, "another gang");
     assert!(rt;
         all.code.places().len() == 1 && all.code.text_count() == 1,

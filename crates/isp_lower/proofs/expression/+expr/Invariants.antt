@@ -5,73 +5,79 @@ use Rattle.isp_typed.specs.Views.{expr_of, place_of}
 use Rattle.isp_lower.proofs.expression.+expr.Given as goal
 
 abbrev pub decreases-write_to : goal.decreases-write_to
-decreases-write_to l = 8 * typed_nodes (expr_of l.x.now)
+decreases-write_to l = 8 * typed_nodes (expr_of l.x.now) + 1
+
+abbrev pub decreases-compare_or_branch : goal.decreases-compare_or_branch
+decreases-compare_or_branch l = 8 * typed_nodes (expr_of l.x.now)
 
 abbrev pub decreases-expr : goal.decreases-expr
-decreases-expr l = 8 * typed_nodes (expr_of l.x.now) + 1
+decreases-expr l = 8 * typed_nodes (expr_of l.x.now) + 2
 
 abbrev pub decreases-operand : goal.decreases-operand
-decreases-operand l = 8 * typed_nodes (expr_of l.x.now) + 2
+decreases-operand l = 8 * typed_nodes (expr_of l.x.now) + 3
 
 abbrev pub decreases-copied : goal.decreases-copied
-decreases-copied l = 8 * typed_nodes (expr_of l.x.now) + 3
+decreases-copied l = 8 * typed_nodes (expr_of l.x.now) + 4
 
 abbrev pub decreases-right_side : goal.decreases-right_side
-decreases-right_side l = 8 * typed_nodes (expr_of l.x.now) + 4
+decreases-right_side l = 8 * typed_nodes (expr_of l.x.now) + 5
 
 abbrev pub decreases-unary_to : goal.decreases-unary_to
-decreases-unary_to l = 8 * typed_nodes (expr_of l.x.now) + 3
+decreases-unary_to l = 8 * typed_nodes (expr_of l.x.now) + 4
 
 abbrev pub decreases-binary_to : goal.decreases-binary_to
-decreases-binary_to l = 8 * (typed_nodes (expr_of l.left.now) + typed_nodes (expr_of l.right.now)) + 3
+decreases-binary_to l = 8 * (typed_nodes (expr_of l.left.now) + typed_nodes (expr_of l.right.now)) + 4
+
+abbrev pub decreases-logic_to : goal.decreases-logic_to
+decreases-logic_to l = 8 * (typed_nodes (expr_of l.left.now) + typed_nodes (expr_of l.right.now)) + 7
 
 abbrev pub decreases-logic_of_each : goal.decreases-logic_of_each
-decreases-logic_of_each l = 8 * (typed_nodes (expr_of l.left.now) + typed_nodes (expr_of l.right.now)) + 5
+decreases-logic_of_each l = 8 * (typed_nodes (expr_of l.left.now) + typed_nodes (expr_of l.right.now)) + 6
 
 abbrev pub decreases-masked_side : goal.decreases-masked_side
-decreases-masked_side l = 8 * typed_nodes (expr_of l.x.now) + 3
+decreases-masked_side l = 8 * typed_nodes (expr_of l.x.now) + 4
 
 abbrev pub decreases-choose_by_masks : goal.decreases-choose_by_masks
-decreases-choose_by_masks l = 8 * (typed_nodes (expr_of l.then.now) + typed_nodes (expr_of l.otherwise.now)) + 4
+decreases-choose_by_masks l = 8 * (typed_nodes (expr_of l.then.now) + typed_nodes (expr_of l.otherwise.now)) + 5
 
 abbrev pub decreases-choose_to : goal.decreases-choose_to
-decreases-choose_to l = 8 * (typed_nodes (expr_of l.test.now) + typed_nodes (expr_of l.then.now) + typed_nodes (expr_of l.otherwise.now)) + 6
+decreases-choose_to l = 8 * (typed_nodes (expr_of l.test.now) + typed_nodes (expr_of l.then.now) + typed_nodes (expr_of l.otherwise.now)) + 7
 
 abbrev pub decreases-choose_each : goal.decreases-choose_each
-decreases-choose_each l = 8 * (typed_nodes (expr_of l.test.now) + typed_nodes (expr_of l.then.now) + typed_nodes (expr_of l.otherwise.now)) + 5
+decreases-choose_each l = 8 * (typed_nodes (expr_of l.test.now) + typed_nodes (expr_of l.then.now) + typed_nodes (expr_of l.otherwise.now)) + 6
 
 abbrev pub decreases-cast_to : goal.decreases-cast_to
-decreases-cast_to l = 8 * typed_nodes (expr_of l.x.now) + 2
+decreases-cast_to l = 8 * typed_nodes (expr_of l.x.now) + 3
 
 abbrev pub decreases-compare_to : goal.decreases-compare_to
-decreases-compare_to l = 8 * (typed_nodes (expr_of l.left.now) + typed_nodes (expr_of l.right.now)) + 3
+decreases-compare_to l = 8 * (typed_nodes (expr_of l.left.now) + typed_nodes (expr_of l.right.now)) + 4
 
 abbrev pub decreases-convert_to : goal.decreases-convert_to
-decreases-convert_to l = 8 * typed_nodes (expr_of l.x.now) + 2
+decreases-convert_to l = 8 * typed_nodes (expr_of l.x.now) + 3
 
 abbrev pub decreases-whole : goal.decreases-whole
-decreases-whole l = 8 * typed_nodes (expr_of l.x.now) + 3
+decreases-whole l = 8 * typed_nodes (expr_of l.x.now) + 4
 
 abbrev pub decreases-index : goal.decreases-index
-decreases-index l = 8 * typed_nodes (expr_of l.x.now) + 4
+decreases-index l = 8 * typed_nodes (expr_of l.x.now) + 5
 
 abbrev pub decreases-element_to : goal.decreases-element_to
-decreases-element_to l = 8 * typed_nodes (expr_of l.inner.now) + 5
+decreases-element_to l = 8 * typed_nodes (expr_of l.inner.now) + 6
 
 abbrev pub decreases-place_to : goal.decreases-place_to
-decreases-place_to l = 8 * place_nodes (place_of l.place.now) - 2
+decreases-place_to l = 8 * place_nodes (place_of l.place.now) - 1
 
 abbrev pub decreases-logic_of_one : goal.decreases-logic_of_one
-decreases-logic_of_one l = 8 * (typed_nodes (expr_of l.left.now) + typed_nodes (expr_of l.right.now)) + 5
+decreases-logic_of_one l = 8 * (typed_nodes (expr_of l.left.now) + typed_nodes (expr_of l.right.now)) + 6
 
 abbrev pub decreases-side : goal.decreases-side
-decreases-side l = 8 * typed_nodes (expr_of l.x.now) + 3
+decreases-side l = 8 * typed_nodes (expr_of l.x.now) + 4
 
 abbrev pub decreases-choose_by_jump : goal.decreases-choose_by_jump
-decreases-choose_by_jump l = 8 * (typed_nodes (expr_of l.then.now) + typed_nodes (expr_of l.otherwise.now)) + 4
+decreases-choose_by_jump l = 8 * (typed_nodes (expr_of l.then.now) + typed_nodes (expr_of l.otherwise.now)) + 5
 
 abbrev pub decreases-choose_one : goal.decreases-choose_one
-decreases-choose_one l = 8 * (typed_nodes (expr_of l.test.now) + typed_nodes (expr_of l.then.now) + typed_nodes (expr_of l.otherwise.now)) + 5
+decreases-choose_one l = 8 * (typed_nodes (expr_of l.test.now) + typed_nodes (expr_of l.then.now) + typed_nodes (expr_of l.otherwise.now)) + 6
 
 abbrev pub decreases-choose_short : goal.decreases-choose_short
-decreases-choose_short l = 8 * (typed_nodes (expr_of l.test.now) + typed_nodes (expr_of l.then.now) + typed_nodes (expr_of l.otherwise.now)) + 5
+decreases-choose_short l = 8 * (typed_nodes (expr_of l.test.now) + typed_nodes (expr_of l.then.now) + typed_nodes (expr_of l.otherwise.now)) + 6

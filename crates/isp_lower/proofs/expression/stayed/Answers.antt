@@ -5,4 +5,4 @@ use Rattle.isp_lower.proofs.Stayed.{stays_same}
 use Rattle.isp_lower.proofs.expression.stayed.Goals as goal
 
 pub returns : goal.returns
-returns c = λ n. c.found.ensures ∙ stays_same (layout c.args.on.now) (expr_of c.args.x.now) c.args.slot n c.requires.stays
+returns c = λ n. c.found.ensures ∙ stays_same (layout c.args.on.now) (expr_of c.args.x.now) c.args.slot.number n c.requires.stays

@@ -3,4 +3,4 @@ use Rattle.isp_lower.proofs.SoundSimples.{items_sound}
 use Rattle.isp_lower.proofs.laws.declarations_sound.Goals as goal
 
 pub returns : goal.returns
-returns c = λ fs vars code h l xs n fine rated has. items_sound code h l xs n (items_tree fs vars xs fine rated) has
+returns c = λ fs vars code h l xs n links fine rated has. items_sound fs code h l links xs n (items_tree fs vars xs fine rated) has

@@ -5,6 +5,6 @@ use Rattle.isp_masks.proofs.awaited.land_all.Given as goal
 
 abbrev pub invariant-loop-at : goal.invariant-loop-at
 invariant-loop-at l =
-    (set_all l.b.code.items (drop l.at-index l.jumps) (jump_off l.k (length l.initial.b.code.items)) ≡ set_all l.initial.b.code.items l.jumps (jump_off l.k (length l.initial.b.code.items)))
+    (set_all l.b.code.items (drop l.at-index l.jumps) (jump_off l.k.number (length l.initial.b.code.items)) ≡ set_all l.initial.b.code.items l.jumps (jump_off l.k.number (length l.initial.b.code.items)))
     × (length l.b.code.items ≡ length l.initial.b.code.items)
     × (l.b.places ≡ l.initial.b.places)

@@ -1,5 +1,5 @@
-use Rattle.isp_masks.proofs.Agreed.{program_lowered}
+use Rattle.isp_masks.proofs.Lowers.{lowered_agrees}
 use Rattle.isp_masks.proofs.laws.lowered_agrees.Goals as goal
 
 pub returns : goal.returns
-returns c = program_lowered
+returns c = lowered_agrees

@@ -5,13 +5,14 @@ use Rattle.isp_masks.proofs.Listings.{fine_at, routine_more}
 use Rattle.isp_masks.proofs.listing.routines.Goals as goal
 
 pub loop-f-init : goal.loop-f-init
-loop-f-init c = (subst (λ gs. AreLowered [] gs (draft_of c.args.e.now).places) (sym c.requires.none) tt, refl)
+loop-f-init c = (subst (λ gs. AreLowered (draft_of c.args.e.now).callees [] gs (draft_of c.args.e.now).places) (sym c.requires.none) tt, refl, refl)
 
 pub loop-f-preserved : goal.loop-f-preserved
 loop-f-preserved c =
     let added = c.in_ok-function.ensures in (
-      routine_more c.args.functions.now c.loop-f.f-index c.f-item.result (draft_of c.loop-f.e) (draft_of c.function.new.e) c.loop-f-test.true c.f-item.is c.loop-f.invariant.0 added,
+      routine_more (draft_of c.args.e.now).callees c.args.functions.now c.loop-f.f-index c.f-item.result (draft_of c.loop-f.e) (draft_of c.function.new.e) c.loop-f-test.true c.f-item.is c.loop-f.invariant.2 c.loop-f.invariant.0 added,
       added.gang ∙ c.loop-f.invariant.1,
+      added.callees ∙ c.loop-f.invariant.2,
     )
 
 pub function-requires : goal.function-requires

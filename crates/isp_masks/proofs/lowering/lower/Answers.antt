@@ -1,13 +1,11 @@
 use Rattle.std.proofs.Common.{◌≡◌, None, ap, subst}
 use Rattle.std.proofs.lemmas.Result.{IfOk-weaker}
-use Rattle.isp_lex.specs.declared.fault.Fault.{Fault}
 use Rattle.isp_rates.specs.Covered.{program_left}
-use Rattle.isp_rates.specs.Program.{ProgramBreach}
 use Rattle.isp_typed.specs.Views.{program_of}
 use Rattle.isp_verify.specs.Faults.{code_fault}
 use Rattle.isp_masks.specs.Agreement.{Agrees}
 use Rattle.isp_masks.specs.Lowered.{HasCode}
-use Rattle.isp_masks.proofs.Agreed.{program_lowered}
+use Rattle.isp_masks.proofs.Lowers.{lowered_agrees}
 use Rattle.isp_masks.proofs.lowering.lower.Goals as goal
 
 pub returns-clause-agrees : goal.returns-clause-agrees
@@ -16,7 +14,7 @@ returns-clause-agrees c =
     let q = program_of c.args.checked.now in
     let same : p ≡ q = ap program_of c.program.ensures.same in
     IfOk-weaker c.program-2.result (λ code. HasCode p code) (λ code. program_left q ≡ None → Agrees q code)
-    (λ code has whole. program_lowered.agrees q code c.program.ensures.fine (subst (λ z. (f : Fault) → ProgramBreach z f → ⊥) same c.program.ensures.sound) whole (subst (λ z. HasCode z code) same has)) c.program-2.ensures
+    (λ code has whole. lowered_agrees.agrees q code c.program.ensures.accepted whole (subst (λ z. HasCode z code) same has)) c.program-2.ensures
 
 pub returns-clause-accepted : goal.returns-clause-accepted
 returns-clause-accepted c =
@@ -24,4 +22,4 @@ returns-clause-accepted c =
     let q = program_of c.args.checked.now in
     let same : p ≡ q = ap program_of c.program.ensures.same in
     IfOk-weaker c.program-2.result (λ code. HasCode p code) (λ code. program_left q ≡ None → code_fault code ≡ None)
-    (λ code has whole. program_lowered.accepted q code c.program.ensures.fine (subst (λ z. (f : Fault) → ProgramBreach z f → ⊥) same c.program.ensures.sound) whole (subst (λ z. HasCode z code) same has)) c.program-2.ensures
+    (λ code has whole. lowered_agrees.accepted q code c.program.ensures.accepted whole (subst (λ z. HasCode z code) same has)) c.program-2.ensures

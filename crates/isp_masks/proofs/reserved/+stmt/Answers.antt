@@ -6,7 +6,7 @@ use Rattle.isp_typed.specs.Typed.{TStmt, t_for, t_stmts}
 use Rattle.isp_typed.proofs.StmtViews.{for_view}
 use Rattle.isp_typed.specs.Views.{block_of, expr_of, first_of, simple_of, stmt_of, stmts_of}
 use Rattle.isp_lower.specs.Reserved.{Gives}
-use Rattle.isp_lower.proofs.Growing.{both_given, gives_none}
+use Rattle.isp_lower.proofs.Lemmas.{both_given, gives_none}
 use Rattle.isp_masks.specs.Asks.{block_asks, stmt_asks, stmts_asks}
 use Rattle.isp_masks.proofs.Forms.{nodes_low, stmts_more, stmts_end}
 use Rattle.isp_masks.proofs.Views.{block_view}
@@ -31,15 +31,15 @@ block-stmt-requires t c =
 pub block-loop-x-preserved : goal.block-loop-x-preserved
 block-loop-x-preserved t c = λ k g.
     c.loop-x.invariant k
-    (subst (λ a. Gives c.loop-x.r k a) (sym (stmts_more c.args.answer c.args.slot c.deref-x-items.result.now c.loop-x.x-index c.x-item.result c.loop-x-test.true c.x-item.is))
+    (subst (λ a. Gives c.loop-x.r k a) (sym (stmts_more c.args.answer c.args.slot.number c.deref-x-items.result.now c.loop-x.x-index c.x-item.result c.loop-x-test.true c.x-item.is))
     (both_given c.loop-x.r c.stmt.new.r k _ _ c.in_ok-stmt.ensures g))
 
 pub block-returns : goal.block-returns
 block-returns t c =
     let items = c.deref-x-items.result.now in
-    let has = c.loop-x.invariant c.loop-x.r (subst (λ a. Gives c.loop-x.r c.loop-x.r a) (sym (stmts_end c.args.answer c.args.slot items c.loop-x.x-index c.loop-x-test.false)) (gives_none c.loop-x.r)) in
-    subst (λ z. Gives c.args.r.now c.loop-x.r (block_asks c.args.answer z c.args.slot)) (sym (block_view c.args.body.now))
-    (subst (λ zs. Gives c.args.r.now c.loop-x.r (stmts_asks c.args.answer (t_stmts (stmts_of zs)) c.args.slot)) c.deref-x-items.ensures.value has)
+    let has = c.loop-x.invariant c.loop-x.r (subst (λ a. Gives c.loop-x.r c.loop-x.r a) (sym (stmts_end c.args.answer c.args.slot.number items c.loop-x.x-index c.loop-x-test.false)) (gives_none c.loop-x.r)) in
+    subst (λ z. Gives c.args.r.now c.loop-x.r (block_asks c.args.answer z c.args.slot.number)) (sym (block_view c.args.body.now))
+    (subst (λ zs. Gives c.args.r.now c.loop-x.r (stmts_asks c.args.answer (t_stmts (stmts_of zs)) c.args.slot.number)) c.deref-x-items.ensures.value has)
 
 pub while_loop-returns : goal.while_loop-returns
 while_loop-returns t c =
@@ -58,7 +58,7 @@ pub stmt-returns-in_ok-first_part-in-For : goal.stmt-returns-in_ok-first_part-in
 stmt-returns-in_ok-first_part-in-For t c =
     let a = c.args in
     let e = c.in-For in
-    let so = λ (z : TStmt). Gives a.r.now c.turns.new.r (stmt_asks a.answer z a.slot) in
+    let so = λ (z : TStmt). Gives a.r.now c.turns.new.r (stmt_asks a.answer z a.slot.number) in
     on_ok_weaker c.turns.result
     (λ w. subst so (sym (ap stmt_of e.is ∙ for_view e.form e.before e.first e.test e.step e.inside e.body e.span))
     (subst (λ z. so (t_for e.form e.before (option_map first_of e.first) (option_map expr_of e.test) (option_map simple_of e.step) e.inside (stmt_of z) e.span)) c.deref-in-For.ensures

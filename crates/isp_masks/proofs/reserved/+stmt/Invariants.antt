@@ -32,4 +32,4 @@ decreases-turns l = 4 * stmt_nodes (stmt_of l.body.now) + 1
 
 abbrev pub invariant-block-loop-x : goal.invariant-block-loop-x
 invariant-block-loop-x l =
-    (c : Reserve) → Gives l.r c (stmts_asks l.answer (t_stmts (stmts_of (drop l.x-index l.x-items))) l.slot) → Gives l.initial.r c (stmts_asks l.answer (t_stmts (stmts_of l.x-items)) l.slot)
+    (c : Reserve) → Gives l.r c (stmts_asks l.answer (t_stmts (stmts_of (drop l.x-index l.x-items))) l.slot.number) → Gives l.initial.r c (stmts_asks l.answer (t_stmts (stmts_of l.x-items)) l.slot.number)

@@ -1,6 +1,6 @@
 use Rattle.std.proofs.lemmas.Result.{on_ok_weaker}
 use Rattle.isp_typed.specs.Views.{function_of}
-use Rattle.isp_lower.proofs.FirstRows.{all_there}
+use Rattle.isp_lower.proofs.Lemmas.{all_there}
 use Rattle.isp_masks.specs.Asks.{block_asks, result_asks}
 use Rattle.isp_masks.proofs.Own.{result_own, result_reserved}
 use Rattle.isp_masks.proofs.routine.reserve.Goals as goal

@@ -3,7 +3,8 @@ use Rattle.std.specs.Prelude.{option_map}
 use Rattle.isp_code.specs.declared.instr.JumpTest.TheVariants as jump
 use Rattle.isp_lower.specs.Code.{jump_off, jump_on, two}
 use Rattle.isp_lower.specs.Emitted.{Appends, Present, layout}
-use Rattle.isp_lower.proofs.Landing.{appends_then, chosen, landed}
+use Rattle.isp_lower.specs.declared.sites.Site.{Site}
+use Rattle.isp_lower.proofs.Lemmas.{appends_then, chosen, landed}
 use Rattle.isp_typed.specs.Nodes.{block_nodes, stmts_nodes}
 use Rattle.isp_typed.specs.Typed.{TBlock, TStmt, t_braces, t_if, t_if_else, t_while, t_for, t_stmts}
 use Rattle.isp_typed.specs.Views.{block_of, expr_of, first_of, simple_of, stmt_of, stmts_of}
@@ -13,22 +14,23 @@ use Rattle.isp_masks.specs.Awaited.{AreBelow, Awaits, set_all}
 use Rattle.isp_masks.specs.Exits.{nobody_leaves}
 use Rattle.isp_masks.specs.Fors.{first_code, first_places, step_places, test_places}
 use Rattle.isp_masks.specs.Loops.{back_code, sift_jump, turn_code}
+use Rattle.isp_masks.specs.Spots.{spot_of}
 use Rattle.isp_masks.specs.Statements.{block_code, block_places, body_code, stepped_code, stmt_code, stmt_places, stmts_code, stmts_places, turns_code}
+use Rattle.isp_masks.specs.Written.{numbers}
 use Rattle.isp_masks.proofs.Awaiting.{awaits_end}
 use Rattle.isp_masks.proofs.Forms.{list_step, nodes_low, stmts_more}
 use Rattle.isp_masks.proofs.Lists.{flat, flat_is}
-use Rattle.isp_masks.proofs.Sifting.{for_written, sifted}
+use Rattle.isp_masks.proofs.Sifting.{for_written, if_else_written, sifted}
 use Rattle.isp_masks.proofs.Views.{block_view}
 use Rattle.isp_masks.proofs.statement.+stmt.Goals as goal
 
 pub stmt-returns-in-If : goal.stmt-returns-in-If
 stmt-returns-in-If t c =
     let a = c.args in
-    let m = a.spot.masks in
     let l = layout a.on.now in
     let h = a.on.now.answer in
     let e = c.in-If in
-    let so = λ (z : TStmt). Appends a.b.now c.if_alone.new.b (λ pc p. stmt_code l h z pc p m.on m.continued m.returned a.spot.slot) (stmt_places l z) in
+    let so = λ (z : TStmt). Appends a.b.now c.if_alone.new.b (λ pc p. stmt_code l h z pc (numbers p) (spot_of a.spot)) (stmt_places l z) in
     on_ok_weaker c.if_alone.result
     (λ w. subst so (sym (ap stmt_of e.is ∙ if_view e.form e.before e.test e.then e.span)) (subst (λ y. so (t_if e.form e.before (expr_of e.test) (stmt_of y) e.span)) c.deref-in-If.ensures w))
     c.if_alone.ensures
@@ -36,15 +38,15 @@ stmt-returns-in-If t c =
 pub stmt-returns-in-IfElse : goal.stmt-returns-in-IfElse
 stmt-returns-in-IfElse t c =
     let a = c.args in
-    let m = a.spot.masks in
     let l = layout a.on.now in
     let h = a.on.now.answer in
     let e = c.in-IfElse in
-    let so = λ (z : TStmt). Appends a.b.now c.if_else.new.b (λ pc p. stmt_code l h z pc p m.on m.continued m.returned a.spot.slot) (stmt_places l z) in
+    let so = λ (z : TStmt). Appends a.b.now c.if_else.new.b (λ pc p. stmt_code l h z pc (numbers p) (spot_of a.spot)) (stmt_places l z) in
     on_ok_weaker c.if_else.result
     (λ w. subst so (sym (ap stmt_of e.is ∙ if_else_view e.form e.before e.test e.then e.otherwise e.span))
     (subst (λ y. so (t_if_else e.form e.before (expr_of e.test) (stmt_of y) (stmt_of e.otherwise.value) e.span)) c.deref-in-IfElse.ensures
-    (subst (λ y. so (t_if_else e.form e.before (expr_of e.test) (stmt_of c.deref-in-IfElse.result.now) (stmt_of y) e.span)) c.deref-in-IfElse-2.ensures w)))
+    (subst (λ y. so (t_if_else e.form e.before (expr_of e.test) (stmt_of c.deref-in-IfElse.result.now) (stmt_of y) e.span)) c.deref-in-IfElse-2.ensures
+    (if_else_written a.b.now c.if_else.new.b l h e.form e.before (expr_of e.test) (stmt_of c.deref-in-IfElse.result.now) (stmt_of c.deref-in-IfElse-2.result.now) e.span (spot_of a.spot) w))))
     c.if_else.ensures
 
 pub under_mask-returns : goal.under_mask-returns
@@ -52,29 +54,27 @@ under_mask-returns t c =
     let a = c.args in
     let l = layout a.on.now in
     let x = stmt_of a.x.now in
-    landed a.b.now c.push.new.self c.stmt.new.b c.land.new.self c.len-at.result _ (jump_off a.k)
-    (λ pc p. stmt_code l a.on.now.answer x pc p a.k a.spot.masks.continued a.spot.masks.returned a.slot) (stmt_places l x)
+    landed a.b.now c.push.new.self c.stmt.new.b c.land.new.self c.len-at.result _ (jump_off a.site.mask.number)
+    (λ pc p. stmt_code l a.on.now.answer x pc (numbers p) (record (spot_of a.spot) { on = a.site.mask.number; slot = a.site.slot.number })) (stmt_places l x)
     (c.len-at.ensures ∙ a.b.now.code.ok.0) c.in_ok-push.ensures c.in_ok-stmt.ensures (cc) c.land.ensures.places
 
 pub part_by_jump-returns : goal.part_by_jump-returns
 part_by_jump-returns t c =
     let a = c.args in
-    let m = a.spot.masks in
     let l = layout a.on.now in
     let x = stmt_of a.then.now in
-    landed a.b.now c.push.new.self c.stmt.new.b c.land.new.self c.len-at.result _ (jump_on jump.False a.tested)
-    (λ pc p. stmt_code l a.on.now.answer x pc p m.on m.continued m.returned a.spot.slot) (stmt_places l x)
+    landed a.b.now c.push.new.self c.stmt.new.b c.land.new.self c.len-at.result _ (jump_on jump.False a.tested.number)
+    (λ pc p. stmt_code l a.on.now.answer x pc (numbers p) (spot_of a.spot)) (stmt_places l x)
     (c.len-at.ensures ∙ a.b.now.code.ok.0) c.in_ok-push.ensures c.in_ok-stmt.ensures (cc) c.land.ensures.places
 
 pub one_of-returns : goal.one_of-returns
 one_of-returns t c =
     let a = c.args in
-    let m = a.spot.masks in
     let l = layout a.on.now in
     let x = stmt_of a.then.now in
     let y = stmt_of a.otherwise.now in
-    chosen a.b.now c.push.new.self c.stmt.new.b c.push-2.new.self c.land.new.self c.stmt-2.new.b c.land_always.new.self c.len-at.result c.len-over.result _ _ (jump_on jump.False a.tested)
-    (λ pc p. stmt_code l a.on.now.answer x pc p m.on m.continued m.returned a.spot.slot) (λ pc p. stmt_code l a.on.now.answer y pc p m.on m.continued m.returned a.spot.slot) (stmt_places l x) (stmt_places l y)
+    chosen a.b.now c.push.new.self c.stmt.new.b c.push-2.new.self c.land.new.self c.stmt-2.new.b c.land_always.new.self c.len-at.result c.len-over.result _ _ (jump_on jump.False a.tested.number)
+    (λ pc p. stmt_code l a.on.now.answer x pc (numbers p) (spot_of a.spot)) (λ pc p. stmt_code l a.on.now.answer y pc (numbers p) (spot_of a.spot)) (stmt_places l x) (stmt_places l y)
     (c.len-at.ensures ∙ a.b.now.code.ok.0) c.in_ok-push.ensures c.in_ok-stmt.ensures (c.len-over.ensures ∙ c.stmt.new.b.code.ok.0) c.in_ok-push-2.ensures
     (cc) c.land.ensures.places c.in_ok-stmt-2.ensures c.land_always.ensures.code c.land_always.ensures.places
 
@@ -85,7 +85,7 @@ block-stmt-requires t c =
     let low = nodes_low items c.loop-x.x-index c.x-item.result c.loop-x-test.true c.x-item.is in
     let all : block_nodes (block_of a.body.now) ≡ suc (stmts_nodes (t_stmts (stmts_of items))) =
     ap block_nodes (block_view a.body.now) ∙ ap (λ zs. suc (stmts_nodes (t_stmts (stmts_of zs)))) (sym c.deref-x-items.ensures.value) in
-    let asked = subst (Present a.on.now) (stmts_more a.on.now.answer a.spot.slot items c.loop-x.x-index c.x-item.result c.loop-x-test.true c.x-item.is) c.loop-x.invariant.2 in
+    let asked = subst (Present a.on.now) (stmts_more a.on.now.answer a.spot.slot.number items c.loop-x.x-index c.x-item.result c.loop-x-test.true c.x-item.is) c.loop-x.invariant.2 in
     (omega (arith, low, all, c.decreases), asked.0)
 
 pub block-land_all-requires : goal.block-land_all-requires
@@ -94,39 +94,36 @@ block-land_all-requires t c = subst (AreBelow (length c.loop-x.b.code.items)) (s
 pub block-loop-x-preserved : goal.block-loop-x-preserved
 block-loop-x-preserved t c =
     let a = c.args in
-    let m = a.spot.masks in
     let items = c.deref-x-items.result.now in
-    let step = list_step a.on.now.answer m.on m.continued m.returned a.spot.slot (layout a.on.now) a.b.now c.loop-x.b c.leave_room.new.b c.stmt.new.b c.loop-x.jumps.items c.leave_room.new.jumps.items c.loop-x.left _ items c.loop-x.x-index c.x-item.result
+    let step = list_step a.on.now.answer (spot_of a.spot) (layout a.on.now) a.b.now c.loop-x.b c.leave_room.new.b c.stmt.new.b c.loop-x.jumps.items c.leave_room.new.jumps.items c.loop-x.left _ items c.loop-x.x-index c.x-item.result
     c.loop-x-test.true c.x-item.is c.loop-x.invariant.0 c.loop-x.invariant.1 c.in_ok-leave_room.ensures c.in_ok-stmt.ensures (ap not c.all_go_on-left.ensures) in
-    let asked = subst (Present a.on.now) (stmts_more a.on.now.answer a.spot.slot items c.loop-x.x-index c.x-item.result c.loop-x-test.true c.x-item.is) c.loop-x.invariant.2 in
+    let asked = subst (Present a.on.now) (stmts_more a.on.now.answer a.spot.slot.number items c.loop-x.x-index c.x-item.result c.loop-x-test.true c.x-item.is) c.loop-x.invariant.2 in
     (step.0, step.1, asked.1)
 
 pub block-returns : goal.block-returns
 block-returns t c =
     let a = c.args in
-    let m = a.spot.masks in
+    let s = spot_of a.spot in
     let l = layout a.on.now in
     let h = a.on.now.answer in
-    let n = a.spot.slot in
     let items = c.deref-x-items.result.now in
     let xs = stmts_of items in
     let over : length items ≤ c.loop-x.x-index = omega arith in
     let seen : block_of a.body.now ≡ t_braces (t_stmts xs) a.body.now.span = block_view a.body.now ∙ ap (λ zs. t_braces (t_stmts (stmts_of zs)) a.body.now.span) (sym c.deref-x-items.ensures.value) in
-    subst (λ (z : TBlock). Appends a.b.now c.land_all.new.b (λ pc p. block_code l h z pc p m.on m.continued m.returned n) (block_places l z)) (sym seen)
-    (awaits_end a.b.now c.loop-x.b c.land_all.new.b c.loop-x.jumps.items m.on (λ t pc p. flat h m.on m.continued m.returned n t l false xs pc p) (stmts_places l (t_stmts xs)) (λ pc p. stmts_code l h (t_stmts xs) pc p m.on m.continued m.returned n)
-    (subst (λ zs. Awaits a.b.now c.loop-x.b c.loop-x.jumps.items m.on (λ t pc p. flat h m.on m.continued m.returned n t l false (stmts_of zs) pc p) (stmts_places l (t_stmts (stmts_of zs)))) (take_all c.loop-x.x-index items over) c.loop-x.invariant.0)
-    (c.land_all.ensures.code ∙ ap (λ js. set_all c.loop-x.b.code.items js (jump_off m.on (length c.loop-x.b.code.items))) c.as_slice.ensures.value)
+    subst (λ (z : TBlock). Appends a.b.now c.land_all.new.b (λ pc p. block_code l h z pc (numbers p) s) (block_places l z)) (sym seen)
+    (awaits_end a.b.now c.loop-x.b c.land_all.new.b c.loop-x.jumps.items s.on (λ t pc p. flat h s t l false xs pc (numbers p)) (stmts_places l (t_stmts xs)) (λ pc p. stmts_code l h (t_stmts xs) pc (numbers p) s)
+    (subst (λ zs. Awaits a.b.now c.loop-x.b c.loop-x.jumps.items s.on (λ t pc p. flat h s t l false (stmts_of zs) pc (numbers p)) (stmts_places l (t_stmts (stmts_of zs)))) (take_all c.loop-x.x-index items over) c.loop-x.invariant.0)
+    (c.land_all.ensures.code ∙ ap (λ js. set_all c.loop-x.b.code.items js (jump_off s.on (length c.loop-x.b.code.items))) c.as_slice.ensures.value)
     c.land_all.ensures.places
-    (λ t pc p e. flat_is h m.on m.continued m.returned n t l xs pc p e))
+    (λ t pc p e. flat_is h s t l xs pc (numbers p) e))
 
 pub stmt-returns-in-While : goal.stmt-returns-in-While
 stmt-returns-in-While t c =
     let a = c.args in
-    let m = a.spot.masks in
     let l = layout a.on.now in
     let h = a.on.now.answer in
     let e = c.in-While in
-    let so = λ (z : TStmt). Appends a.b.now c.while_loop.new.b (λ pc p. stmt_code l h z pc p m.on m.continued m.returned a.spot.slot) (stmt_places l z) in
+    let so = λ (z : TStmt). Appends a.b.now c.while_loop.new.b (λ pc p. stmt_code l h z pc (numbers p) (spot_of a.spot)) (stmt_places l z) in
     on_ok_weaker c.while_loop.result
     (λ w. subst so (sym (ap stmt_of e.is ∙ while_view e.form e.before e.test e.body e.span)) (subst (λ y. so (t_while e.form e.before (expr_of e.test) (stmt_of y) e.span)) c.deref-in-While.ensures w))
     c.while_loop.ensures
@@ -138,11 +135,11 @@ while_turn-returns t c =
     let h = a.on.now.answer in
     let x = stmt_of a.body.now in
     let e = a.it.exits in
-    let n = a.it.slot in
+    let n = a.it.slot.number in
     let r = a.test.rate in
-    let d = a.test.register in
-    let turn = λ (pc p : ℕ). two pc (turn_code e pc n (body_code l h x n p)) (λ pc1. back_code (nobody_leaves e) n a.it.top ∷ []) in
-    let both = appends_then c.push.new.self c.turn.new.b c.back.new.b (λ pc p. turn_code e pc n (body_code l h x n p)) (λ pc p. back_code (nobody_leaves e) n a.it.top ∷ []) (stmt_places l x) [] c.in_ok-turn.ensures c.in_ok-back.ensures in
+    let d = a.test.register.number in
+    let turn = λ (pc p : ℕ). two pc (turn_code e pc n (body_code l h x n (numbers p))) (λ pc1. back_code (nobody_leaves e) n a.it.top ∷ []) in
+    let both = appends_then c.push.new.self c.turn.new.b c.back.new.b (λ pc p. turn_code e pc n (body_code l h x n (numbers p))) (λ pc p. back_code (nobody_leaves e) n a.it.top ∷ []) (stmt_places l x) [] c.in_ok-turn.ensures c.in_ok-back.ensures in
     let written : Appends c.push.new.self c.back.new.b turn (stmt_places l x) = subst (Appends c.push.new.self c.back.new.b turn) (append-nil (stmt_places l x)) both in
     sifted a.b.now c.sift.new.b c.land_sift.new.b r d n turn (stmt_places l x) c.in_ok-sift.ensures
     (landed c.sift.new.b c.push.new.self c.back.new.b c.land_sift.new.b c.len-at.result _ (sift_jump r d n) turn (stmt_places l x)
@@ -154,18 +151,17 @@ passed_turn-returns t c =
     let l = layout a.on.now in
     let x = stmt_of a.body.now in
     let y = option_map simple_of a.step.now in
-    let n = a.it.slot in
-    let turn = stepped_code l a.on.now.answer y x a.it.exits n a.it.top in
+    let n = a.it.slot.number in
+    let turn = λ (pc p : ℕ). stepped_code l a.on.now.answer y x a.it.exits n a.it.top pc (numbers p) in
     let pl = stmt_places l x ++ step_places l y in
-    sifted a.b.now c.sift.new.b c.land_sift.new.b a.test.rate a.test.register n turn pl c.in_ok-sift.ensures
-    (landed c.sift.new.b c.push.new.self c.stepped_turn.new.b c.land_sift.new.b c.len-at.result _ (sift_jump a.test.rate a.test.register n) turn pl
+    sifted a.b.now c.sift.new.b c.land_sift.new.b a.test.rate a.test.register.number n turn pl c.in_ok-sift.ensures
+    (landed c.sift.new.b c.push.new.self c.stepped_turn.new.b c.land_sift.new.b c.len-at.result _ (sift_jump a.test.rate a.test.register.number n) turn pl
     (c.len-at.ensures ∙ c.sift.new.b.code.ok.0) c.in_ok-push.ensures c.in_ok-stepped_turn.ensures (cc) c.land_sift.ensures.places)
 
 pub stmt-returns-in_ok-first_part-in-For : goal.stmt-returns-in_ok-first_part-in-For
 stmt-returns-in_ok-first_part-in-For t c =
     let a = c.args in
-    let m = a.spot.masks in
-    let n = a.spot.slot in
+    let s = spot_of a.spot in
     let l = layout a.on.now in
     let h = a.on.now.answer in
     let e = c.in-For in
@@ -173,10 +169,11 @@ stmt-returns-in_ok-first_part-in-For t c =
     let o = option_map expr_of e.test in
     let y = option_map simple_of e.step in
     let x = stmt_of c.deref-in-For.result.now in
-    let so = λ (z : TStmt). Appends a.b.now c.turns.new.b (λ pc p. stmt_code l h z pc p m.on m.continued m.returned n) (stmt_places l z) in
+    let begun = subst (λ (z : Site). Appends a.b.now c.first_part.new.b (λ pc p. first_code l first pc p z.mask.number z.slot.number) (first_places l first)) c.site-in-For.ensures c.in_ok-first_part-in-For.ensures in
+    let so = λ (z : TStmt). Appends a.b.now c.turns.new.b (λ pc p. stmt_code l h z pc (numbers p) s) (stmt_places l z) in
     on_ok_weaker c.turns.result
     (λ w. subst so (sym (ap stmt_of e.is ∙ for_view e.form e.before e.first e.test e.step e.inside e.body e.span))
     (subst (λ z. so (t_for e.form e.before first o y e.inside (stmt_of z) e.span)) c.deref-in-For.ensures
-    (for_written a.b.now c.turns.new.b l h e.form e.before first o y e.inside x e.span m.on m.continued m.returned n
-    (appends_then a.b.now c.first_part.new.b c.turns.new.b (λ pc p. first_code l first pc p m.on n) (λ pc p. turns_code l h o y x pc p m.on m.returned n) (first_places l first) (test_places l o ++ (stmt_places l x ++ step_places l y)) c.in_ok-first_part-in-For.ensures w))))
+    (for_written a.b.now c.turns.new.b l h e.form e.before first o y e.inside x e.span s
+    (appends_then a.b.now c.first_part.new.b c.turns.new.b (λ pc p. first_code l first pc p s.on s.slot) (λ pc p. turns_code l h o y x pc (numbers p) s) (first_places l first) (test_places l o ++ (stmt_places l x ++ step_places l y)) begun w))))
     c.turns.ensures

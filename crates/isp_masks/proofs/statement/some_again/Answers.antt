@@ -1,7 +1,12 @@
-use Rattle.std.proofs.Common.{◌+◌, ◌++◌, ◌∙◌}
+use Rattle.std.proofs.Common.{◌+◌, ◌++◌, ◌∙◌, ap, length}
+use Rattle.std.specs.Prelude.{slice_set}
+use Rattle.isp_code.specs.declared.instr.Instr.TheVariants as instr
+use Rattle.isp_code.specs.declared.instr.JumpTest.TheVariants as jump
 use Rattle.isp_lower.specs.Code.{expr_code, expr_places, found, jump_off}
 use Rattle.isp_lower.specs.Emitted.{layout}
-use Rattle.isp_lower.proofs.Landing.{landed}
+use Rattle.isp_lower.specs.Layout.{mask_register}
+use Rattle.isp_lower.specs.declared.numbered.MaskNumber.{MaskNumber}
+use Rattle.isp_lower.proofs.Lemmas.{landed}
 use Rattle.isp_typed.specs.Typed.{type_of}
 use Rattle.isp_typed.specs.Views.{expr_of}
 use Rattle.isp_masks.specs.Loops.{again_code}
@@ -12,7 +17,9 @@ returns c =
     let a = c.args in
     let l = layout a.on.now in
     let e = expr_of a.test.now in
-    let n = a.it.slot in
+    let n = a.it.slot.number in
+    let after = c.tested_again.new.b.code.items in
+    let code = ap (λ r. slice_set after c.len-at.result (instr.JumpIf jump.Off r (length after))) (c.mask-4.ensures ∙ ap (λ (k : MaskNumber). mask_register k.number) c.mask-3.ensures) in
     landed a.b.now c.push.new.self c.tested_again.new.b c.land.new.self c.len-at.result _ (jump_off n)
     (λ pc p. expr_code l e pc p n (n + 3) ++ again_code (type_of e).rate (found l e (n + 3)) n a.it.top) (expr_places l e)
-    (c.len-at.ensures ∙ a.b.now.code.ok.0) c.in_ok-push.ensures c.in_ok-tested_again.ensures (cc) c.land.ensures.places
+    (c.len-at.ensures ∙ a.b.now.code.ok.0) c.in_ok-push.ensures c.in_ok-tested_again.ensures (c.land.ensures.code ∙ code) c.land.ensures.places

@@ -25,7 +25,7 @@ logic-returns t c = both_given _ _ _ _ _ c.in_ok-spare.ensures (both_given _ _ _
 
 pub choice-returns : goal.choice-returns
 choice-returns t c =
-    let second = c.in_ok-second.ensures ∙ ap (first_slot c.ty-rate.result.rate) c.in_ok-first.ensures ∙ second_is c.ty-rate.result.rate c.args.slot in
+    let second = c.in_ok-second.ensures ∙ ap (first_slot c.ty-rate.result.rate) c.in_ok-first.ensures ∙ second_is c.ty-rate.result.rate c.args.slot.number in
     rw (← c.ty-rate.ensures, ← c.in_ok-first.ensures, ← second) (
     both_given _ _ _ _ _ c.in_ok-spare.ensures
     (both_given _ _ _ _ _ c.in_ok-expr.ensures

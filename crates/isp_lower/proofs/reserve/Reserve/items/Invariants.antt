@@ -8,4 +8,4 @@ use Rattle.isp_lower.proofs.reserve.Reserve.items.Given as goal
 -- who is given what the items that are left ask for, is given what all ask for
 abbrev pub invariant-loop-x : goal.invariant-loop-x
 invariant-loop-x l =
-    (c : Reserve) → Gives l.self c (items_asks l.slot (items_of (drop l.x-index l.all))) → Gives l.initial.self c (items_asks l.slot (items_of l.all))
+    (c : Reserve) → Gives l.self c (items_asks l.slot.number (items_of (drop l.x-index l.all))) → Gives l.initial.self c (items_asks l.slot.number (items_of l.all))

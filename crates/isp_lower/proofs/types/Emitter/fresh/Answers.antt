@@ -5,6 +5,7 @@ use Rattle.isp_lower.specs.Emitted.{rows_of}
 use Rattle.isp_lower.specs.Layout.{register}
 use Rattle.isp_lower.specs.Named.{InCode, IsOf, Unnamed}
 use Rattle.isp_lower.specs.Rows.{rows_at, with_fresh_at}
+use Rattle.isp_lower.specs.declared.numbered.RegisterNumber.{RegisterNumber}
 use Rattle.isp_lower.proofs.Aparts.{fresh_named}
 use Rattle.isp_lower.proofs.Naming.{next_unnamed}
 use Rattle.isp_lower.proofs.types.Emitter.fresh.Goals as goal
@@ -13,7 +14,7 @@ pub returns-clause-unnamed : goal.returns-clause-unnamed
 returns-clause-unnamed c =
     let d = draft_of c.args.self.now in
     λ named.
-    IfOk-weaker c.fresh.result (λ x. x ≡ length (rows_at d.rows c.args.rate)) (λ x. Unnamed (register c.args.rate x) d.code)
+    IfOk-weaker c.fresh.result (λ (x : RegisterNumber). x.number ≡ length (rows_at d.rows c.args.rate)) (λ (x : RegisterNumber). Unnamed (register c.args.rate x.number) d.code)
     (λ x is. subst (λ n. Unnamed (register c.args.rate n) d.code) (sym is) (next_unnamed d.rows d.masks c.args.rate d.code named)) c.fresh.ensures.number
 
 pub returns-clause-all_named : goal.returns-clause-all_named

@@ -1,6 +1,7 @@
 use Rattle.std.proofs.Common.{◌≤◌, ◌<◌, subst, refl, arith}
 use Rattle.isp_typed.specs.Views.{simple_of}
 use Rattle.isp_lower.specs.Asks.{simple_asks}
+use Rattle.isp_lower.specs.Drafts.{draft_of}
 use Rattle.isp_lower.specs.Emitted.{Grows}
 use Rattle.isp_lower.specs.declared.reserve.Reserve.{Reserve}
 use Rattle.isp_lower.proofs.Aparts.{all_named, apart_appends, apart_long}
@@ -14,7 +15,7 @@ simple-requires-2 c =
     let asked = c.simple.new.self in
     let gives = c.in_ok-simple.ensures in
     let grown : Grows c.args.self.now.reserved.registers asked.registers = subst (λ (r : Reserve). Grows r.registers asked.registers) c.in_ok-asked.ensures gives.rows in
-    all_joined c.args.self.now.reserved asked grown (simple_asks (simple_of c.args.x.now) c.args.slot) gives.has c.requires.own
+    all_joined c.args.self.now.reserved asked grown (simple_asks (simple_of c.args.x.now) c.args.site.slot.number) gives.has c.requires.own
 
 pub join-requires : goal.join-requires
 join-requires c = apart_long c.args.self.now.body c.in_ok-written.written c.simple-2.new.b _ _ c.in_ok-written.ensures.code c.in_ok-written.ensures.places c.in_ok-simple-2.ensures
@@ -38,8 +39,8 @@ returns-clause-all_named c =
     let gives = c.in_ok-simple.ensures in
     let grown : Grows c.args.self.now.reserved.registers asked.registers = subst (λ (r : Reserve). Grows r.registers asked.registers) c.in_ok-asked.ensures gives.rows in
     let more : c.args.self.now.reserved.masks ≤ asked.masks = subst (λ (r : Reserve). r.masks ≤ asked.masks) c.in_ok-asked.ensures gives.masks in
-    let low : c.args.k < asked.masks = omega (arith, c.requires.mask, more) in
+    let low : c.args.site.mask.number < asked.masks = omega (arith, c.requires.mask, more) in
     λ h.
     all_named c.args.self.now _ _ _ (returns-clause-code c)
-    (simple_named asked _ _ c.args.k c.args.slot low (simple_of c.args.x.now) (simple_tree c.requires.fine.0 c.requires.fine.1 (simple_of c.args.x.now) c.requires.fine.2 c.requires.rated)
-    (all_joined c.args.self.now.reserved asked grown (simple_asks (simple_of c.args.x.now) c.args.slot) gives.has c.requires.own)) h
+    (simple_named (draft_of c.args.self.now).callees asked _ _ c.args.site.mask.number c.args.site.slot.number low (simple_of c.args.x.now) (simple_tree (draft_of c.args.self.now).callees c.requires.fine.0 (simple_of c.args.x.now) c.requires.fine.1 c.requires.rated)
+    (all_joined c.args.self.now.reserved asked grown (simple_asks (simple_of c.args.x.now) c.args.site.slot.number) gives.has c.requires.own)) h

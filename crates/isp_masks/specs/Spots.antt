@@ -1,0 +1,40 @@
+-- Where the code of a statement works, and the numbers of what it names: of both it is told what is free.
+use Rattle.std.specs.Prelude.{ℕ, ◌+◌, List, length}
+use Rattle.isp_base.specs.declared.types.Span.{Span}
+use Rattle.isp_masks.specs.declared.masks.Spot as declared
+
+-- ---- three masks and the first free slot
+
+-- Mask on has the set, and afterwards those that went on; masks continued and returned grow by those that continued and by
+-- those that returned. Who broke is in none.
+pub record Spot : Type 0 where
+  pub on : ℕ
+  pub continued : ℕ
+  pub returned : ℕ
+  pub slot : ℕ
+
+abbrev pub spot_of : declared.Spot → Spot
+spot_of x =
+    record { on = x.masks.on.number; continued = x.masks.continued.number; returned = x.masks.returned.number; slot = x.slot.number }
+
+-- a part under mask k, one slot on
+abbrev pub under : ℕ → Spot → Spot
+under k spot = record spot { on = k; slot = spot.slot + 1 }
+
+-- the body of a loop whose masks are n, n + 1 and n + 2
+abbrev pub body_spot : ℕ → Spot
+body_spot n = record { on = n; continued = n + 1; returned = n + 2; slot = n + 3 }
+
+-- the body of a function: mask 0 has those that called
+abbrev pub first_spot : Spot
+first_spot = record { on = 0; continued = 1; returned = 2; slot = 3 }
+
+-- ---- the next place in the source, and the next text
+
+pub record Numbers : Type 0 where
+  pub place : ℕ
+  pub text : ℕ
+
+-- behind some places
+abbrev pub past : List Span → Numbers → Numbers
+past ps z = record z { place = z.place + length ps }
