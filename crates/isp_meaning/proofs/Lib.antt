@@ -3,6 +3,7 @@ pub mod Examples
 pub mod Grown
 pub mod Later
 pub mod Small
+pub mod Straight
 pub mod Outside
 pub mod Parts
 pub mod Others

@@ -1,10 +1,10 @@
 -- What an expression gives over a set of instances that is not empty. Each node that is reached counts for the work
 -- before its parts; a conversion is no node.
-use Rattle.std.specs.Prelude.{ℕ, ◌%◌, ◌^◌, List, [], ◌∷◌, Bool, not, if◌then◌else◌, ◌&&◌, ◌||◌, ℤ, pos, unsigned_abs}
+use Rattle.std.specs.Prelude.{ℕ, ◌%◌, ◌^◌, List, [], ◌∷◌, Bool, if◌then◌else◌, ℤ, pos, unsigned_abs}
 use Rattle.isp_base.specs.Access.{is_zero, scatter}
 use Rattle.isp_base.specs.Cross.{rank, packed_index, packed_outside, packed_places}
 use Rattle.isp_base.specs.Sets.{Mask, lowest}
-use Rattle.isp_base.specs.Maps.{Map, on, where_true, put}
+use Rattle.isp_base.specs.Maps.{on, where_true, put}
 use Rattle.isp_base.specs.Unary.{unary_bits}
 use Rattle.isp_base.specs.Values.{width, number, op_bits, compare_bits}
 use Rattle.isp_base.specs.declared.types.Rate.TheVariants.{Varying}

@@ -3,18 +3,22 @@
 --     NobodyActs    over an empty set nothing happens
 --     FourSets      the sets of a statement are disjoint and make up the set that it ran over
 --     OthersStay    nothing of an instance outside the set changes
+--     IdleBranches  a branch of an `if` that no member of the set takes is left out
 --     CountsWork    the work of two small programs
 use Rattle.std.specs.Prelude.{◌≡◌, ℕ, ◌+◌, ◌≤◌, List, [], ◌∷◌, None, false}
 use Rattle.isp_base.specs.Outcomes.{Outcome, Ends, Traps, GoesOn, out_of}
 use Rattle.isp_base.specs.Prefixes.{IsPrefix}
-use Rattle.isp_base.specs.Sets.{Mask, any}
+use Rattle.isp_base.specs.Maps.{Map, where_true}
+use Rattle.isp_base.specs.Sets.{Mask, any, without}
 use Rattle.isp_base.specs.declared.signature.Argument.{Argument}
 use Rattle.isp_base.specs.declared.types.Gang.{Gang}
 use Rattle.isp_base.specs.declared.types.Gang.TheVariants.{W4}
+use Rattle.isp_tree.specs.declared.stmt.Form.{Form}
+use Rattle.isp_base.specs.declared.types.Span.{Span}
 use Rattle.isp_typed.specs.Typed.{Program, TExpr, TStmt, t_block, t_declare, t_simple, t_if, t_if_else, t_while, t_do, t_for, t_foreach, t_foreach_active, t_unmasked, t_jump, t_return, t_print, t_assert, TBlock, t_braces, TStmts, t_no_stmts, t_stmt_then}
-use Rattle.isp_meaning.specs.State.{State, Frame}
+use Rattle.isp_meaning.specs.State.{State, Frame, tick}
 use Rattle.isp_base.specs.Types.{gang_width}
-use Rattle.isp_meaning.specs.Payloads.{Payload, One, Each, bit}
+use Rattle.isp_meaning.specs.Payloads.{Payload, One, Each, bit, is_true}
 use Rattle.isp_meaning.specs.Outcomes.{Val, Gives, Fails, Stops, Res, Went, Trapped, Cut, went_all, unless_empty}
 use Rattle.isp_meaning.specs.Calls.{calls_at}
 use Rattle.isp_meaning.specs.Expressions.{Calls, value}
@@ -97,6 +101,19 @@ Leaves p s (Cut s1) = Unit {0}
 pub record OthersStay : Type 0 where
   pub expression : (program : Program) (most left : ℕ) (frame : Frame) (x : TExpr) (a : Mask) (s : State) (p : ℕ) → a p ≡ false → LeavesBy p s (value (gang_width program.gang) frame (calls_at program most left) x a s)
   pub statement : (program : Program) (most left : ℕ) (frame : Frame) (x : TStmt) → Masked x → (a : Mask) (s : State) (p : ℕ) → a p ≡ false → Leaves p s (run (gang_width program.gang) frame (calls_at program most left) most x a s)
+
+-- Where the test of an `if` gives a value in each instance and no member of the set takes a branch, any other statement may
+-- stand for that branch.
+pub record IdleBranches : Type 0 where
+  pub alone : (gang : ℕ) (frame : Frame) (calls : Calls) (most : ℕ) (form : Form) (k : ℕ) (test : TExpr) (sp : Span) (a : Mask) (s s1 : State) (c : Map) (x other : TStmt)
+      → value gang frame calls test a (tick s) ≡ Gives (Each c) s1 → any gang (where_true is_true c) ≡ false
+      → run gang frame calls most (t_if form k test x sp) a s ≡ run gang frame calls most (t_if form k test other sp) a s
+  pub first : (gang : ℕ) (frame : Frame) (calls : Calls) (most : ℕ) (form : Form) (k : ℕ) (test : TExpr) (sp : Span) (a : Mask) (s s1 : State) (c : Map) (x other y : TStmt)
+      → value gang frame calls test a (tick s) ≡ Gives (Each c) s1 → any gang (where_true is_true c) ≡ false
+      → run gang frame calls most (t_if_else form k test x y sp) a s ≡ run gang frame calls most (t_if_else form k test other y sp) a s
+  pub second : (gang : ℕ) (frame : Frame) (calls : Calls) (most : ℕ) (form : Form) (k : ℕ) (test : TExpr) (sp : Span) (a : Mask) (s s1 : State) (c : Map) (x y other : TStmt)
+      → value gang frame calls test a (tick s) ≡ Gives (Each c) s1 → any gang (without a (where_true is_true c)) ≡ false
+      → run gang frame calls most (t_if_else form k test x y sp) a s ≡ run gang frame calls most (t_if_else form k test x other sp) a s
 
 -- `a[programIndex] = a[programIndex] * 2 + 1;` has work 10 in a body, an empty body 1
 pub record CountsWork : Type 0 where

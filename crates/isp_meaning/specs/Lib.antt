@@ -6,6 +6,7 @@ pub mod Places
 pub mod Expressions
 pub mod Simple
 pub mod Loops
+pub mod Nodes
 pub mod Rounds
 pub mod Printing
 pub mod Statements

@@ -1,6 +1,7 @@
 //! What holds of every program. No code is run here: each function carries a law in its contract.
-ghost use Rattle.isp_meaning.specs.Laws.{CountsWork, FourSets, MoreTurns, NobodyActs, OthersStay};
+ghost use Rattle.isp_meaning.specs.Laws.{CountsWork, FourSets, IdleBranches, MoreTurns, NobodyActs, OthersStay};
 ghost use Rattle.isp_meaning.specs.Loads.{VariablesStay};
+ghost use Rattle.isp_meaning.specs.Nodes.{StraightWork};
 
 /// A run that has ended or trapped stays so for every greater number of turns, and the output of a
 /// run that is cut is the beginning of its output for every greater number.
@@ -13,10 +14,22 @@ pub fn nobody_acts()
     ensures { NobodyActs }
 {}
 
+/// A branch of an `if` that no instance takes is left out, where the test has a value in each instance: with any other
+/// statement in its place the `if` does the same, work included.
+pub fn idle_branches()
+    ensures { IdleBranches }
+{}
+
 /// What the work counts, on two programs: `a[programIndex] = a[programIndex] * 2 + 1;` has work 10
 /// in a body, and an empty body 1.
 pub fn counts_work()
     ensures { CountsWork }
+{}
+
+/// The work of straight code is its nodes and items: an expression without calls of functions, `&&`, `||` and `?:`, and
+/// blocks, declarations, assignments, `print` and `assert` of such expressions, over any set that is not empty.
+pub fn straight_work()
+    ensures { StraightWork }
 {}
 
 /// Of the instances over which a statement runs each goes on, breaks, continues or returns, and does

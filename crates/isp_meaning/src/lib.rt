@@ -3,4 +3,7 @@
 
 mod laws;
 
-pub use laws::{counts_work, four_sets, more_turns, nobody_acts, others_stay, variables_stay};
+pub use laws::{
+    counts_work, four_sets, idle_branches, more_turns, nobody_acts, others_stay, straight_work,
+    variables_stay,
+};
