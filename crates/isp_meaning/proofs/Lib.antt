@@ -4,6 +4,7 @@ pub mod Grown
 pub mod Later
 pub mod Small
 pub mod Straight
+pub mod Present
 pub mod Outside
 pub mod Parts
 pub mod Others

@@ -3,9 +3,10 @@
 --     NobodyActs    over an empty set nothing happens
 --     FourSets      the sets of a statement are disjoint and make up the set that it ran over
 --     OthersStay    nothing of an instance outside the set changes
+--     EachHasOne    each member of the set has a value
 --     IdleBranches  a branch of an `if` that no member of the set takes is left out
 --     CountsWork    the work of two small programs
-use Rattle.std.specs.Prelude.{◌≡◌, ℕ, ◌+◌, ◌≤◌, List, [], ◌∷◌, None, false}
+use Rattle.std.specs.Prelude.{◌≡◌, ℕ, ◌+◌, ◌<◌, ◌≤◌, List, [], ◌∷◌, Option, Some, None, true, false}
 use Rattle.isp_base.specs.Outcomes.{Outcome, Ends, Traps, GoesOn, out_of}
 use Rattle.isp_base.specs.Prefixes.{IsPrefix}
 use Rattle.isp_base.specs.Maps.{Map, where_true}
@@ -101,6 +102,25 @@ Leaves p s (Cut s1) = Unit {0}
 pub record OthersStay : Type 0 where
   pub expression : (program : Program) (most left : ℕ) (frame : Frame) (x : TExpr) (a : Mask) (s : State) (p : ℕ) → a p ≡ false → LeavesBy p s (value (gang_width program.gang) frame (calls_at program most left) x a s)
   pub statement : (program : Program) (most left : ℕ) (frame : Frame) (x : TStmt) → Masked x → (a : Mask) (s : State) (p : ℕ) → a p ≡ false → Leaves p s (run (gang_width program.gang) frame (calls_at program most left) most x a s)
+
+-- one value for the gang, or a value in this member
+abbrev pub Present : Option ℕ → Type 0
+Present None = ⊥
+Present (Some x) = Unit {0}
+
+abbrev pub HasOne : ℕ → Payload → Type 0
+HasOne p (One x) = Unit {0}
+HasOne p (Each x) = Present (x p)
+
+abbrev pub HasOneBy : ℕ → Val Payload → Type 0
+HasOneBy p (Gives m s1) = HasOne p m
+HasOneBy p (Fails t s1) = Unit {0}
+HasOneBy p (Stops s1) = Unit {0}
+
+-- each member of a set inside the gang has a value, whatever functions the expression calls
+abbrev pub EachHasOne : Type 0
+EachHasOne =
+    (program : Program) (most left : ℕ) (frame : Frame) (x : TExpr) (a : Mask) (s : State) (p : ℕ) → p < gang_width program.gang → a p ≡ true → HasOneBy p (value (gang_width program.gang) frame (calls_at program most left) x a s)
 
 -- Where the test of an `if` gives a value in each instance and no member of the set takes a branch, any other statement may
 -- stand for that branch.

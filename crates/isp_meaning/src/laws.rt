@@ -1,5 +1,5 @@
 //! What holds of every program. No code is run here: each function carries a law in its contract.
-ghost use Rattle.isp_meaning.specs.Laws.{CountsWork, FourSets, IdleBranches, MoreTurns, NobodyActs, OthersStay};
+ghost use Rattle.isp_meaning.specs.Laws.{CountsWork, EachHasOne, FourSets, IdleBranches, MoreTurns, NobodyActs, OthersStay};
 ghost use Rattle.isp_meaning.specs.Loads.{VariablesStay};
 ghost use Rattle.isp_meaning.specs.Nodes.{StraightWork};
 
@@ -44,6 +44,12 @@ pub fn four_sets()
 /// `foreach` or an `unmasked` in them are left out, since all instances take part in these.
 pub fn others_stay()
     ensures { OthersStay }
+{}
+
+/// Each instance of the set over which an expression is evaluated has a value of it, or one value stands for all, whatever is
+/// called.
+pub fn each_has_one()
+    ensures { EachHasOne }
 {}
 
 /// A value changes no variable but those that a packed load in it writes, whatever is called: the
