@@ -1,6 +1,6 @@
 -- Loops that carry the first breach seen, or whether something was seen.
-use Rattle.std.proofs.Common.{◌≡◌, ℕ, ◌+◌, ◌<◌, Bool, true, false, refl, sym, ap, ◌∙◌, drop, drop-cons, add-one, get_or}
-use Rattle.std.specs.Prelude.{Option, List, ◌∷◌, length, ◌||◌}
+use Rattle.std.proofs.Common.{◌≡◌, ℕ, ◌+◌, ◌<◌, Bool, true, false, refl, sym, ap, ◌∙◌, drop, drop-cons, add-one, get_or, append_assoc}
+use Rattle.std.specs.Prelude.{Option, List, [], ◌∷◌, ◌++◌, length, ◌||◌}
 use Rattle.isp_independence.specs.declared.dependence.Dependence.{Dependence}
 use Rattle.isp_independence.specs.reader.Answers.{first_of}
 use Rattle.isp_independence.proofs.Order.{first_assoc}
@@ -33,3 +33,12 @@ module _ {R : Type 0} (all : List R → Bool) (one : R → Bool) (turn : (x : R)
   any_step xs i x seen total h e k =
       or_assoc seen (one x) (all (drop (i + 1) xs))
       ∙ (ap (λ z. seen || z) (sym (turn x (drop (i + 1) xs)) ∙ ap all (sym (split_at xs i x h e))) ∙ k)
+
+-- over one list, with one more each time
+module _ {R B : Type 0} (all : List R → List B) (one : R → B) (turn : (x : R) (xs : List R) → all (x ∷ xs) ≡ one x ∷ all xs) where
+  pub push_step : (xs : List R) (i : ℕ) (x : R) (seen next total : List B) → i < length xs → x ≡ get_or xs i x → next ≡ seen ++ one x ∷ []
+      → seen ++ all (drop i xs) ≡ total → next ++ all (drop (i + 1) xs) ≡ total
+  push_step xs i x seen next total h e n k =
+      ap (λ (z : List B). z ++ all (drop (i + 1) xs)) n
+      ∙ (append_assoc seen (one x ∷ []) (all (drop (i + 1) xs))
+      ∙ (ap (λ (z : List B). seen ++ z) (sym (turn x (drop (i + 1) xs)) ∙ ap all (sym (split_at xs i x h e))) ∙ k))

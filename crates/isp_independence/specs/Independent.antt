@@ -1,8 +1,9 @@
 -- Independent entries: no restriction is broken in the entry, nor in a function that is called from it.
-use Rattle.std.specs.Prelude.{◌≡◌, ◌⊎◌, ℕ, List, Some, Bool, true, false, ◌||◌, option_map, slice_get}
+use Rattle.std.specs.Prelude.{◌≡◌, ◌⊎◌, ℕ, List, Option, Some, Bool, true, false, ◌||◌, option_map, slice_get, length}
 use Rattle.isp_independence.specs.declared.dependence.Dependence.{Dependence}
 use Rattle.isp_typed.specs.Typed.{rate_of, TStmt, t_block, t_declare, t_simple, t_if, t_if_else, t_while, t_do, t_for, t_foreach, t_foreach_active, t_unmasked, t_jump, t_return, t_print, t_assert, TBlock, t_braces, TStmts, t_no_stmts, t_stmt_then, TFunction, Program}
 use Rattle.isp_independence.specs.declared.control.Control.{Control}
+use Rattle.isp_independence.specs.Dependences.{Answered}
 use Rattle.isp_independence.specs.Control.{start, branch, loop, turn, round}
 use Rattle.isp_independence.specs.Statements.{BlockDepends}
 use Rattle.isp_independence.specs.Reaches.{Calls, Reaches}
@@ -55,3 +56,8 @@ Depends p f d =
 
 abbrev pub IsIndependent : Program → ℕ → Type 0
 IsIndependent p f = (d : Dependence) → Depends p f d → ⊥
+
+-- for each function, by its number, the first breach of it as an entry, nothing where it is independent
+pub record AreDependences (p : Program) (all : List (Option Dependence)) : Type 0 where
+  pub long : length all ≡ length p.functions
+  pub each : (f : ℕ) (o : Option Dependence) → slice_get all f ≡ Some o → Answered o (Depends p f)

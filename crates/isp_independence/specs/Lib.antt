@@ -4,6 +4,7 @@ pub mod Control
 pub mod Crossing
 pub mod Statements
 pub mod Reaches
+pub mod Tables
 pub mod Independent
 pub mod Samples
 pub mod reader

@@ -1,1 +1,4 @@
 pub mod Answers
+pub mod Paths
+pub mod Visits
+pub mod Firsts

@@ -4,4 +4,5 @@ pub mod Steps
 pub mod CallLaws
 pub mod Views
 pub mod Entries
+pub mod Independent
 pub mod Examples

@@ -1,3 +1,2 @@
 -- What the functions of the code give. Nothing here is promised: proofs/ ties it to the rules.
 pub mod Faults
-pub mod Lists

@@ -1,6 +1,6 @@
 //! The functions that a function calls.
 ghost use Rattle.std.specs.Prelude.{◌≡◌, ◌++◌, IfOk, map, option_map};
-ghost use Rattle.isp_rates.specs.reader.Lists.{lists_of};
+ghost use Rattle.isp_independence.specs.Tables.{lists_of};
 ghost use Rattle.isp_typed.specs.Views.{argument_of, base_of, block_of, call_of, expr_of, exprs_of, first_of, function_of, functions_of, item_of, items_of, place_of, range_of, ranges_of, simple_of, stmt_of};
 ghost use Rattle.isp_independence.specs.Reaches.{argument_calls, base_calls, block_calls, call_calls, calls_of_any, calls_of_each, expr_calls, first_calls, function_calls, item_calls, place_calls, range_calls, simple_calls, stmt_calls};
 

@@ -1,16 +1,20 @@
 //! Checked programs.
-ghost use Rattle.std.specs.Prelude.{◌≡◌, ◌&&◌, ℕ, List, bytes_eq, filter, find, map, option_map, slice_get};
+ghost use Rattle.std.specs.Prelude.{◌≡◌, ◌&&◌, ℕ, IfErr, IsSome, List, OnOk, Option, bytes_eq, filter, find, map, option_map, slice_get};
 ghost use Rattle.std.specs.BTreeMap.{get_by_text};
 ghost use Rattle.isp_lex.specs.declared.fault.Fault.{Fault};
 ghost use Rattle.isp_typed.specs.Views.{functions_of, program_of};
+ghost use Rattle.isp_independence.specs.declared.dependence.Dependence.{Dependence};
+ghost use Rattle.isp_independence.specs.Dependences.{IsFirst};
+ghost use Rattle.isp_independence.specs.Independent.{AreDependences, Depends, IsIndependent};
 ghost use Rattle.isp_independence.specs.Reaches.{function_calls};
-ghost use Rattle.isp_rates.specs.reader.Lists.{lists_of};
+ghost use Rattle.isp_independence.specs.Tables.{lists_of};
 ghost use Rattle.isp_rates.specs.Covered.{program_left};
 ghost use Rattle.isp_rates.specs.Exports.{at_number, entry_from, exports_from};
 ghost use Rattle.isp_rates.specs.Program.{IsAccepted, ProgramBreach};
 
 use crate::covered;
 use isp_base::{Signature, Span};
+use isp_independence::Dependence;
 use isp_typed::{Program, Typed, TypedFunction};
 use std::collections::BTreeMap;
 use std::marker::Model;
@@ -21,6 +25,8 @@ pub struct Checked {
     typed: Typed,
     /// For each function the numbers of those that it calls.
     calls: Vec<Vec<usize>>,
+    /// For each function the first breach of it as an independent entry.
+    dependences: Vec<Option<Dependence>>,
     /// The numbers of the exported functions, in the order of the text.
     exports: Vec<usize>,
     /// The number of each exported function, by its name.
@@ -34,8 +40,9 @@ impl Model for Checked {
     ghost use Rattle.std.specs.Prelude.{◌≡◌, ℕ, List, map};
     ghost use Rattle.std.specs.BTreeMap.{get_by_text};
     ghost use Rattle.isp_typed.specs.Views.{functions_of, program_of};
+    ghost use Rattle.isp_independence.specs.Independent.{AreDependences};
     ghost use Rattle.isp_independence.specs.Reaches.{function_calls};
-    ghost use Rattle.isp_rates.specs.reader.Lists.{lists_of};
+    ghost use Rattle.isp_independence.specs.Tables.{lists_of};
     ghost use Rattle.isp_rates.specs.Exports.{entry_from, exports_from};
     ghost use Rattle.isp_rates.specs.Program.{ProgramBreach};
     ghost use Rattle.std.specs.Coded.{codes};
@@ -46,7 +53,7 @@ impl Model for Checked {
 
     ghost view = { λ c. c.typed };
 
-    ghost invariant = { λ c. ((f : Fault) → ProgramBreach (program_of c.typed) f → ⊥) × (lists_of c.calls.items ≡ map function_calls (functions_of c.typed.functions.items)) × (c.exports.items ≡ exports_from 0 c.typed.functions.items) × ((w : List ℕ) → get_by_text c.entries w ≡ entry_from w 0 c.typed.functions.items) };
+    ghost invariant = { λ c. ((f : Fault) → ProgramBreach (program_of c.typed) f → ⊥) × (lists_of c.calls.items ≡ map function_calls (functions_of c.typed.functions.items)) × AreDependences (program_of c.typed) c.dependences.items × (c.exports.items ≡ exports_from 0 c.typed.functions.items) × ((w : List ℕ) → get_by_text c.entries w ≡ entry_from w 0 c.typed.functions.items) };
 }
 
 /// One of several lists.
@@ -66,6 +73,16 @@ fn number_at(numbers: &[usize], place: usize) -> Option<usize>
     numbers.get(place).copied()
 }
 
+/// The breach of a number, if there are both.
+fn dependence_at(breaches: &[Option<Dependence>], number: Option<usize>) -> Option<Dependence>
+    ensures { (f : ℕ) (o : Option Dependence) → number ≡ Some f → slice_get breaches.now f ≡ Some o → result ≡ o }
+{
+    match breaches.get(number?) {
+        Some(breach) => *breach,
+        None => None,
+    }
+}
+
 /// The function of a number, if there is one.
 fn function_at(functions: &[TypedFunction], number: Option<usize>) -> Option<&TypedFunction>
     ensures { option_map (λ f. f.now) result ≡ at_number functions.entry.now number }
@@ -81,11 +98,13 @@ impl Checked {
     pub(crate) fn new(
         typed: Typed,
         calls: Vec<Vec<usize>>,
+        dependences: Vec<Option<Dependence>>,
         exports: Vec<usize>,
         entries: BTreeMap<String, usize>,
     ) -> Checked
         requires sound { (f : Fault) → ProgramBreach (program_of typed) f → ⊥ }
         requires calls { lists_of calls.items ≡ map function_calls (functions_of typed.functions.items) }
+        requires dependences { AreDependences (program_of typed) dependences.items }
         requires exports { exports.items ≡ exports_from 0 typed.functions.items }
         requires entries { (w : List ℕ) → get_by_text entries w ≡ entry_from w 0 typed.functions.items }
         ensures { result ≡ typed }
@@ -93,6 +112,7 @@ impl Checked {
         Checked {
             typed,
             calls,
+            dependences,
             exports,
             entries,
         }
@@ -143,6 +163,21 @@ impl Checked {
         match self.exported(entry) {
             Some(function) => Some(&function.signature),
             None => None,
+        }
+    }
+
+    /// Whether the instances of an exported function can be thought of one at a time: `Ok` exactly where it is an
+    /// independent entry (docs/INDEPENDENCE.md). Else of the breaches of the seven rules, by the function and by
+    /// those that calls reach from it, the one whose place starts first, a tie by the lower number of its rule.
+    /// `signature` has to know the name. It is looked up, and takes no memory.
+    pub fn independent(&self, entry: &str) -> Result<(), Dependence>
+        requires { IsSome (find (λ f. f.exported && bytes_eq f.name entry.now) self.now.functions.items) }
+        ensures ok { OnOk result ((f : ℕ) → entry_from entry.now 0 self.now.functions.items ≡ Some f → IsIndependent (program_of self.now) f) }
+        ensures err { IfErr result (λ d. (f : ℕ) → entry_from entry.now 0 self.now.functions.items ≡ Some f → IsFirst d (Depends (program_of self.now) f)) }
+    {
+        match dependence_at(&self.dependences, self.entry(entry)) {
+            Some(dependence) => Err(dependence),
+            None => Ok(()),
         }
     }
 

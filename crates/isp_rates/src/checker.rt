@@ -9,6 +9,7 @@ use crate::calls::table;
 use crate::checked::Checked;
 use crate::exports::{entries, exports};
 use crate::function::program;
+use isp_independence::dependences;
 use isp_lex::SourceFault;
 use isp_typed::Typed;
 use std::alloc::Global;
@@ -31,9 +32,10 @@ pub fn check(alloc: Global, typed: Typed) -> Result<Checked, SourceFault>
         None => {
             let functions = &typed.program().functions;
             let calls = table(alloc, functions)?;
+            let dependences = dependences(alloc, typed.program(), &calls)?;
             let exports = exports(alloc, functions)?;
             let entries = entries(alloc, functions)?;
-            Ok(Checked::new(typed, calls, exports, entries))
+            Ok(Checked::new(typed, calls, dependences, exports, entries))
         }
     }
 }

@@ -3,7 +3,7 @@ use Rattle.std.specs.Prelude.{ℕ, List, map, slice_get}
 use Rattle.isp_typed.specs.declared.function.Program.{Program}
 use Rattle.isp_typed.specs.Views.{functions_of}
 use Rattle.isp_independence.specs.Reaches.{function_calls}
-use Rattle.isp_rates.specs.reader.Lists.{lists_of}
+use Rattle.isp_independence.specs.Tables.{lists_of}
 use Rattle.isp_rates.proofs.CallLaws.{table_at}
 use Rattle.isp_rates.proofs.checked.Checked.calls.Goals as goal
 
