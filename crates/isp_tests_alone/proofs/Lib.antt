@@ -1,0 +1,3 @@
+mod Dependent
+mod Independent
+mod Touched
