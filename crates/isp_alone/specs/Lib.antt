@@ -9,4 +9,5 @@ pub mod Calls
 pub mod Runs
 pub mod Touched
 pub mod OneByOne
+pub mod Laws
 pub mod Samples

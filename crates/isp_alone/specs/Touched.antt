@@ -1,8 +1,7 @@
 -- What the run of an instance touches, and when two instances are not apart. The arrays among the entry's arguments are the
 -- first stores, in their order: two names for one array in a function that is called are one store.
 use Rattle.std.specs.Prelude.{◌≡◌, ℕ, ◌<◌, ◌⊎◌, true, IsSome}
-use Rattle.isp_alone.specs.Answers.{Answer}
-use Rattle.isp_alone.specs.Runs.{reached}
+use Rattle.isp_alone.specs.Answers.{Answer, reached}
 
 -- the elements that a run reads, and those that it stores in, by store and element
 abbrev pub Reads : Answer ℕ → ℕ → ℕ → Type 0

@@ -10,8 +10,8 @@ use Rattle.isp_base.specs.declared.operators.Compare.TheVariants.{Equal, Less, G
 use Rattle.isp_base.specs.declared.trap.TrapKind.TheVariants.{Index, Divide}
 use Rattle.isp_typed.specs.Typed.{TExpr, t_declare, t_with_value, ty_of, TStmt, TFunction}
 use Rattle.isp_meaning.proofs.Programs.{at, number, truth, index, varying, item, join, plus, test, set_item, set, if_then, while, each, one, given, function}
-use Rattle.isp_alone.specs.Answers.{Has, Bad, Long, Answer}
-use Rattle.isp_alone.specs.Runs.{IsEnded, reached}
+use Rattle.isp_alone.specs.Answers.{Bad, Long, Answer, reached}
+use Rattle.isp_alone.specs.Runs.{IsEnded}
 use Rattle.isp_alone.specs.Touched.{Reads, Writes, Clash}
 use Rattle.isp_tests_alone.specs.Words.{array_of, alone, zeros}
 
