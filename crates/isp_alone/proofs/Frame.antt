@@ -1,11 +1,11 @@
 -- Over arrays that agree where it reads, each node of a function does the same. One line a node.
-use Rattle.std.proofs.Common.{◌≡◌, ℕ, zero, suc, Bool, true, false, refl, sym, ap, ◌∙◌, arith}
-use Rattle.std.specs.Prelude.{List, [], ◌∷◌, Option, Some, None, ◌&&◌, nat_eq, if◌then◌else◌, get_or, slice_get, ℤ}
+use Rattle.std.proofs.Common.{◌≡◌, ℕ, zero, suc, Bool, true, false, refl, sym, ap, arith}
+use Rattle.std.specs.Prelude.{List, [], ◌∷◌, Option, Some, None, ◌&&◌, nat_eq, if◌then◌else◌, slice_get, ℤ}
 use Rattle.std.proofs.lemmas.Bool.Decides.{nat_tests}
 use Rattle.isp_base.specs.Access.{is_outside, element, is_zero}
 use Rattle.isp_base.specs.Maps.{or_old}
 use Rattle.isp_base.specs.Traps.{trap}
-use Rattle.isp_base.specs.Values.{op_bits, wrap}
+use Rattle.isp_base.specs.Values.{wrap}
 use Rattle.isp_base.specs.Types.{gang_width}
 use Rattle.isp_base.specs.declared.signature.Argument.{Argument}
 use Rattle.isp_base.specs.declared.types.Elem.TheVariants.{I32}
@@ -16,17 +16,17 @@ use Rattle.isp_base.specs.declared.operators.BinOp.{BinOp}
 use Rattle.isp_base.specs.declared.types.Elem.{Elem}
 use Rattle.isp_base.specs.declared.trap.TrapKind.TheVariants.{Divide, Index, Assert, Depth}
 use Rattle.isp_typed.specs.declared.variable.ArrayVariable.{ArrayVariable}
-use Rattle.isp_typed.specs.Typed.{TExpr, t_constant, t_program_index, t_place, t_convert, t_cast, t_unary, t_binary, t_compare, t_logic, t_choose, t_call, t_library, t_packed_store, t_packed_load, TPlace, t_variable, t_element, TArgument, t_by_value, t_by_name, TCall, t_called, TArguments, t_no_arguments, t_argument_then, TExprs, t_no_exprs, t_expr_then, elem_of, place_span, place_type}
+use Rattle.isp_typed.specs.Typed.{TExpr, t_constant, t_program_index, t_place, t_convert, t_cast, t_unary, t_binary, t_compare, t_logic, t_choose, t_call, t_library, t_packed_store, t_packed_load, TPlace, t_variable, t_element, TArgument, t_by_value, t_by_name, TCall, t_called, TArguments, t_no_arguments, t_argument_then, TExprs, t_no_exprs, t_expr_then, place_span}
 use Rattle.isp_typed.specs.Typed.{TItem, t_plain, t_with_value, t_with_size, TSimple, t_value, t_run, t_assign, t_update, t_step, TFirst, t_first_declare, t_first_simple, TRange, t_exprs}
 use Rattle.isp_typed.specs.Typed.{TStmt, t_block, t_declare, t_simple, t_if, t_if_else, t_while, t_do, t_for, t_foreach, t_foreach_active, t_unmasked, t_jump, t_return, t_print, t_assert, TBlock, t_braces, TStmts, t_no_stmts, t_stmt_then, TFunction, Program}
 use Rattle.isp_meaning.specs.State.{Frame, extent}
-use Rattle.isp_meaning.specs.Payloads.{is_true, is_false, converted}
+use Rattle.isp_meaning.specs.Payloads.{is_true, is_false}
 use Rattle.isp_meaning.specs.Expressions.{Passed, needs}
-use Rattle.isp_meaning.specs.Rounds.{Range, Run, runs_of}
+use Rattle.isp_meaning.specs.Rounds.{Run, runs_of}
 use Rattle.isp_meaning.specs.Calls.{frame_of, most_calls}
 use Rattle.isp_meaning.specs.Runs.{handed, first_frame, no_place}
 use Rattle.isp_alone.specs.Alone.{Alone, written, noted}
-use Rattle.isp_alone.specs.Answers.{Answer, Has, Bad, Long, reached, How, Going, Broke, Continued, Returned, End, Does, Dies, Lasts, Done, and_then, with_answer, unless, choose, then_on, then_always}
+use Rattle.isp_alone.specs.Answers.{Answer, Has, Long, reached, Going, Broke, Continued, Returned, End, Does, Dies, Lasts, Done}
 use Rattle.isp_alone.specs.Places.{Spot, AVariable, AnElement, outside, kept, element_kept, cleared}
 use Rattle.isp_alone.specs.Values.{OwnCalls, found, held, answer, spot, answers, answer_call, arguments, passed}
 use Rattle.isp_alone.specs.Steps.{update, simple, item, items, first_part, step_part}

@@ -1,5 +1,5 @@
 -- Runs over arrays that agree where one of them reads: both do the same. Here for what goes on from one step to the next.
-use Rattle.std.proofs.Common.{◌≡◌, ℕ, Bool, true, false, refl, sym, ap, ◌∙◌}
+use Rattle.std.proofs.Common.{◌≡◌, ℕ, Bool, true, false, refl, ap, ◌∙◌}
 use Rattle.isp_base.specs.declared.trap.Trap.{Trap}
 use Rattle.isp_base.specs.declared.trap.TrapKind.{TrapKind}
 use Rattle.isp_base.specs.declared.types.Span.{Span}

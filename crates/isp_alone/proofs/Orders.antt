@@ -1,5 +1,5 @@
 -- The instances one after another, where no two clash.
-use Rattle.std.proofs.Common.{◌≡◌, ◌≢◌, ℕ, suc, ◌+◌, ◌<◌, ◌≤◌, ◌⊎◌, inl, inr, Bool, true, false, cond, refl, sym, ap, subst, ◌∙◌, arith}
+use Rattle.std.proofs.Common.{◌≡◌, ◌≢◌, ℕ, ◌+◌, ◌<◌, ◌≤◌, ◌⊎◌, inl, inr, Bool, true, false, cond, refl, sym, ap, subst, ◌∙◌, arith}
 use Rattle.std.specs.Prelude.{List, [], ◌∷◌, Option, Some, None, nat_eq, count_by, is_some}
 use Rattle.std.specs.List.{All}
 use Rattle.std.proofs.lemmas.Bool.{cases_eq}
@@ -12,7 +12,7 @@ use Rattle.isp_base.specs.declared.signature.Argument.{Argument}
 use Rattle.isp_typed.specs.Typed.{Program}
 use Rattle.isp_alone.specs.Answers.{Answer, reached}
 use Rattle.isp_alone.specs.Runs.{solo_run, after}
-use Rattle.isp_alone.specs.Touched.{Reads, Writes, Clash, AreApart}
+use Rattle.isp_alone.specs.Touched.{Reads, AreApart}
 use Rattle.isp_alone.specs.OneByOne.{one_by_one, IsOrder}
 use Rattle.isp_alone.specs.Laws.{ReadsDecide, AnyOrder}
 use Rattle.isp_alone.proofs.Frame.{run_framed}
@@ -137,8 +137,7 @@ any_order program f most xs m ps apart o b e =
     let gang = gang_width program.gang in
     let once = order_once gang ps o in
     let is : one_by_one program f most xs ps m ≡ merged (solo_run program f most xs m) ps m = one_by_one_is program f most xs m gang apart ps m once (distinct gang ps once) (λ q b e h r. refl) in
-    let there : (p : ℕ) → p < gang → In p ps = λ p l. often_in p ps (subst (λ n. 1 ≤ n) (sym (often_is p ps ∙ o.once p l)) (omega arith)) in
-    (
+    let there : (p : ℕ) → p < gang → In p ps = λ p l. often_in p ps (subst (λ n. 1 ≤ n) (sym (often_is p ps ∙ o.once p l)) (omega arith)) in (
       λ p x l w. ap (λ (g : ℕ → ℕ → ℕ). g b e) is ∙ merged_stored (solo_run program f most xs m) ps m b e x p (λ q h. others program f most xs m gang apart p b e x l w q (once.below q h)) (there p l) w,
       λ none. ap (λ (g : ℕ → ℕ → ℕ). g b e) is ∙ merged_kept (solo_run program f most xs m) ps m b e (λ q h. none q (once.below q h)),
     )
