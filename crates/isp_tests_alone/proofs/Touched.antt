@@ -1,18 +1,17 @@
 -- What instances touch, alone from four zeros: functions of which two clash at an element, and how a run ends.
-use Rattle.std.specs.Prelude.{◌≡◌, ℕ, List, [], ◌∷◌, Some, None, true, false}
+use Rattle.std.specs.Prelude.{◌≡◌, ℕ, List, [], ◌∷◌, Some, None}
 use Rattle.std.proofs.Common.{refl, inl, inr, lit<}
-use Rattle.isp_base.specs.Values.{number_to, wrap_to, amount, not_zero}
+use Rattle.isp_base.specs.Values.{number_to, wrap_to}
 use Rattle.isp_base.specs.Traps.{trap}
 use Rattle.isp_base.specs.declared.types.Elem.TheVariants.{I32}
-use Rattle.isp_base.specs.declared.types.Rate.TheVariants.{Uniform, Varying}
-use Rattle.isp_base.specs.declared.operators.BinOp.TheVariants as op
-use Rattle.isp_base.specs.declared.operators.Compare.TheVariants.{Equal, Less, Greater}
-use Rattle.isp_base.specs.declared.trap.TrapKind.TheVariants.{Index, Divide}
-use Rattle.isp_typed.specs.Typed.{TExpr, t_declare, t_with_value, ty_of, TStmt, TFunction}
-use Rattle.isp_meaning.proofs.Programs.{at, number, truth, index, varying, item, join, plus, test, set_item, set, if_then, while, each, one, given, function}
+use Rattle.isp_base.specs.declared.types.Rate.TheVariants.{Varying}
+use Rattle.isp_base.specs.declared.operators.Compare.TheVariants.{Less}
+use Rattle.isp_base.specs.declared.trap.TrapKind.TheVariants.{Index}
+use Rattle.isp_typed.specs.Typed.{t_declare, t_with_value, ty_of, TStmt}
+use Rattle.isp_meaning.proofs.Programs.{at, number, truth, index, varying, item, plus, test, set_item, while, each, given, function}
 use Rattle.isp_alone.specs.Answers.{Bad, Long, Answer, reached}
 use Rattle.isp_alone.specs.Runs.{IsEnded}
-use Rattle.isp_alone.specs.Touched.{Reads, Writes, Clash}
+use Rattle.isp_alone.specs.Touched.{Clash}
 use Rattle.isp_tests_alone.specs.Words.{array_of, alone, zeros}
 
 -- variables: a, x (varying)
