@@ -15,10 +15,7 @@ use Rattle.isp_asm.specs.Order.{kind_of, may_follow, may_end}
 use Rattle.isp_asm.specs.Rows.{Row, line, call, row}
 use Rattle.isp_asm.specs.Spelling as says
 use Rattle.isp_asm.specs.Spelling.{Line, lines_of, routine_lines, head_lines, if_any, place_line, text_line, param_line, local_line, instr_line, scalars_line, vectors_line}
-use Rattle.isp_asm.proofs.LineRights.{line_head, row_head}
-
-abbrev pub line_kind : Line → Kind
-line_kind l = kind_of (line_head l)
+use Rattle.isp_asm.specs.reader.Reading.{line_kind, row_head}
 
 -- each line may follow the one before it, and the text may end behind the last
 abbrev pub Follows : Seen → List Line → Type 0
@@ -36,7 +33,7 @@ row_kind : (r : Row) → kind_of (row_head r) ≡ kind.Instr
 row_kind (line o rs t) = refl
 row_kind (call c) = refl
 
-instr_kind : (i : Instr) → line_kind (instr_line i) ≡ kind.Instr
+pub instr_kind : (i : Instr) → line_kind (instr_line i) ≡ kind.Instr
 instr_kind i = row_kind (row i)
 
 -- what may stand behind a line, at each place of a function

@@ -14,3 +14,9 @@ pub mod TextLaws
 pub mod Spelled
 pub mod Steps
 pub mod Pages
+pub mod MadeRows
+pub mod InstrReadings
+pub mod FitRows
+pub mod Drafts
+pub mod LineSteps
+pub mod PlaceReadings

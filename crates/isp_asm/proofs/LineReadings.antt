@@ -12,7 +12,7 @@ use Rattle.isp_base.specs.declared.types.Elem.{Elem}
 use Rattle.isp_base.specs.declared.types.Gang.{Gang}
 use Rattle.isp_base.specs.declared.types.Gang.TheVariants.{W4, W8, W16}
 use Rattle.isp_base.specs.declared.types.Span.{Span}
-use Rattle.isp_code.specs.Writable.{number_fits, register_fits, result_fits, call_fits, instr_fits, place_fits, source_limit, text_fits, name_fits, param_fits, local_fits}
+use Rattle.isp_code.specs.Writable.{number_fits, register_fits, result_fits, call_fits, place_fits, source_limit, text_fits, local_fits}
 use Rattle.isp_code.specs.declared.function.Local.{Local}
 use Rattle.isp_code.specs.declared.function.ParamKind.{ParamKind}
 use Rattle.isp_code.specs.declared.function.ParamKind.TheVariants as kind
@@ -37,9 +37,11 @@ use Rattle.isp_asm.specs.Shapes.{shape_of}
 use Rattle.isp_asm.specs.Spelling as says
 use Rattle.isp_asm.specs.Spelling.{Line, line_words, export_word, kind_word, sharing_word}
 use Rattle.isp_asm.specs.Words.{register_word, type_word, hex_word}
+use Rattle.isp_asm.specs.reader.Making.{made}
+use Rattle.isp_asm.specs.reader.Reading.{ending_of, line_fits, tail_fits}
 use Rattle.isp_asm.proofs.HeadLaws.{op_found}
 use Rattle.isp_asm.proofs.Numerals.{own}
-use Rattle.isp_asm.proofs.RowLaws.{EndsRight, ending_of, made, remade, row_ends, row_fit, row_fits, row_kept, tail_fits}
+use Rattle.isp_asm.proofs.RowLaws.{EndsRight, remade, row_ends, row_fit, row_fits, row_kept}
 use Rattle.isp_asm.proofs.WordReadings.{first_of, type_back, type_kept, number_kept, lettered_back, register_back, register_kept, back_back, back_kept, constant_back, constant_kept, hex_back, hex_kept}
 
 -- the words of a list but the last, and the last
@@ -152,24 +154,6 @@ read_head (Some h) ws = read_operands h ws
 abbrev pub read_line : List (List ℕ) → Line
 read_line [] = says.End
 read_line (w ∷ ws) = read_head (head_of w) ws
-
--- what a line can say
-abbrev is_some_types : List Elem → Bool
-is_some_types [] = false
-is_some_types (t ∷ ts) = true
-
-abbrev pub line_fits : Line → Bool
-line_fits (says.Isp g) = true
-line_fits (says.Place s) = place_fits s
-line_fits (says.Text bytes) = text_fits bytes
-line_fits (says.Func name exported r) = name_fits name
-line_fits (says.Par p) = param_fits p
-line_fits (says.Loc l) = local_fits l
-line_fits (says.Scalars ts) = is_some_types ts
-line_fits (says.Vectors ts) = is_some_types ts
-line_fits (says.Masks n) = number_fits n
-line_fits (says.Do i) = instr_fits i
-line_fits says.End = true
 
 gang_kept : (g : Gang) → gang_back (gang_word g) ≡ g
 unfolding digits

@@ -33,10 +33,10 @@ use Rattle.isp_asm.specs.Rows.{Row, line, call, row, row_words, tail_words}
 use Rattle.isp_asm.specs.Spelling as says
 use Rattle.isp_asm.specs.Spelling.{Line, line_words, export_word, kind_word, sharing_word, returns_words}
 use Rattle.isp_asm.specs.Words.{register_word, type_word, function_word, back_word, place_word, hex_word}
+use Rattle.isp_asm.specs.reader.Reading.{ending_of, line_fits, line_head, row_head, tail_fits}
 use Rattle.isp_asm.proofs.HeadLaws.{head_found}
-use Rattle.isp_asm.proofs.LineReadings.{line_fits}
 use Rattle.isp_asm.proofs.Numerals.{own, number_lt}
-use Rattle.isp_asm.proofs.RowLaws.{HasForms, ending_of, one_register, row_fit, row_fits, row_forms, tail_fits}
+use Rattle.isp_asm.proofs.RowLaws.{HasForms, one_register, row_fit, row_fits, row_forms}
 use Rattle.isp_asm.proofs.Rights.{Right, AllRight, right-append, no_words_fault, all_plain, number_right, lettered_right, label_right, register_right, registers_right, back_right, constant_right, type_right, types_right, name_right, hex_right}
 use Rattle.isp_asm.proofs.Splits.{are_words}
 
@@ -54,27 +54,10 @@ head_plain h = listed heads refl (head_found h)
         let q = and_parts (is_plain (head_word g)) (list_all (λ g. is_plain (head_word g)) gs) k in
         at_one g (head_word h) (first_spelled gs (head_word h)) _ q.0 (listed gs q.1) e
 
--- the head of a line and the words behind it
-abbrev pub row_head : Row → Head
-row_head (line o rs t) = head.Op o
-row_head (call c) = head.Call
-
+-- the words behind the head of a line
 abbrev row_operands : Row → List (List ℕ)
 row_operands (line o rs t) = map register_word rs ++ tail_words t
 row_operands (call c) = function_word c.function ∷ back_word c.result ∷ register_word c.mask ∷ place_word c.place ∷ map register_word c.arguments
-
-abbrev pub line_head : Line → Head
-line_head (says.Isp g) = head.Isp
-line_head (says.Place s) = head.Place
-line_head (says.Text bytes) = head.Text
-line_head (says.Func name exported r) = head.Func
-line_head (says.Par p) = head.Par
-line_head (says.Loc l) = head.Loc
-line_head (says.Scalars ts) = head.Scalars
-line_head (says.Vectors ts) = head.Vectors
-line_head (says.Masks n) = head.Masks
-line_head (says.Do i) = row_head (row i)
-line_head says.End = head.End
 
 -- what stands behind the first word is right for that word
 pub record Operands (h : Head) (ws : List (List ℕ)) : Type 0 where

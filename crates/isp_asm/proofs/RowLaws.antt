@@ -1,5 +1,5 @@
 -- Rows of instructions: they have the shape of their word, fit where the instruction does, and give the instruction back.
-use Rattle.std.specs.Prelude.{◌≡◌, ℕ, ℤ, pos, Bool, true, ◌&&◌, ◌==◌, if◌then◌else◌, get_or, length, List, ◌++◌, map, Option, Some, None}
+use Rattle.std.specs.Prelude.{◌≡◌, Bool, true, ◌&&◌, length, ◌++◌, map, Some}
 use Rattle.std.specs.List.{list_all}
 use Rattle.std.proofs.Common.{refl, arith}
 use Rattle.isp_code.specs.Writable.{number_fits, constant_fits, register_fits, result_fits, call_fits, instr_fits}
@@ -8,104 +8,18 @@ use Rattle.isp_code.specs.declared.instr.Instr.TheVariants as instr
 use Rattle.isp_code.specs.declared.instr.MaskInstr.TheVariants as mask
 use Rattle.isp_code.specs.declared.instr.ScalarInstr.TheVariants as scalar
 use Rattle.isp_code.specs.declared.instr.VectorInstr.TheVariants as vector
-use Rattle.isp_code.specs.declared.register.Class.TheVariants as class
 use Rattle.isp_code.specs.declared.register.Register.{Register}
 use Rattle.isp_asm.specs.declared.head.Head.TheVariants as head
-use Rattle.isp_asm.specs.declared.head.Op.{Op}
-use Rattle.isp_asm.specs.declared.head.Op.TheVariants as op
-use Rattle.isp_asm.specs.declared.row.Tail.{Tail}
-use Rattle.isp_asm.specs.declared.row.Tail.TheVariants.{Nothing, Place, Label, Text, Number, Back}
-use Rattle.isp_asm.specs.declared.shape.Ending.{Ending}
-use Rattle.isp_asm.specs.declared.shape.Ending.TheVariants as ending
 use Rattle.isp_asm.specs.Forms.{Form, forms_at, register, ending_forms}
 use Rattle.isp_asm.specs.Rows.{Row, line, call, row, tail_words}
 use Rattle.isp_asm.specs.Shapes.{shape_of}
 use Rattle.isp_asm.specs.Words.{register_word}
-
--- the ending that a tail is
-abbrev pub ending_of : Tail → Ending
-ending_of Nothing = ending.Nothing
-ending_of (Place p) = ending.Place
-ending_of (Label n) = ending.Label
-ending_of (Text t) = ending.Text
-ending_of (Number z) = ending.Number
-ending_of (Back x) = ending.Back
-
-abbrev pub tail_fits : Tail → Bool
-tail_fits Nothing = true
-tail_fits (Place p) = number_fits p
-tail_fits (Label n) = number_fits n
-tail_fits (Text t) = number_fits t
-tail_fits (Number z) = constant_fits z
-tail_fits (Back x) = result_fits x
+use Rattle.isp_asm.specs.reader.Making.{made}
+use Rattle.isp_asm.specs.reader.Reading.{ending_of, tail_fits}
 
 abbrev pub row_fits : Row → Bool
 row_fits (line o rs t) = list_all register_fits rs && tail_fits t
 row_fits (call c) = call_fits c
-
--- the instruction of a row
-abbrev none : Register
-none = record { class = class.Scalar; number = 0 }
-
-abbrev nth : List Register → ℕ → Register
-nth rs n = get_or rs n none
-
-abbrev number_of : Tail → ℕ
-number_of (Place p) = p
-number_of (Label n) = n
-number_of (Text t) = t
-number_of t = 0
-
-abbrev constant_of : Tail → ℤ
-constant_of (Number z) = z
-constant_of t = pos 0
-
-abbrev result_of : Tail → Option Register
-result_of (Back x) = x
-result_of t = None
-
-abbrev pub made : Op → List Register → Tail → Instr
-made op.Const rs t = instr.Scalar (nth rs 0) (scalar.Constant (constant_of t))
-made op.Copy rs t = if length rs == 2 then instr.Scalar (nth rs 0) (scalar.Copy (nth rs 1)) else instr.Vector (nth rs 0) (vector.Copy (nth rs 1) (nth rs 2))
-made op.Convert rs t = if length rs == 2 then instr.Scalar (nth rs 0) (scalar.Convert (nth rs 1)) else instr.Vector (nth rs 0) (vector.Convert (nth rs 1) (nth rs 2))
-made (op.Unary o) rs t = if length rs == 2 then instr.Scalar (nth rs 0) (scalar.Unary o (nth rs 1)) else instr.Vector (nth rs 0) (vector.Unary o (nth rs 1) (nth rs 2))
-made (op.Plain o) rs t = if length rs == 3 then instr.Scalar (nth rs 0) (scalar.Binary o (nth rs 1) (nth rs 2)) else instr.Vector (nth rs 0) (vector.Binary o (nth rs 1) (nth rs 2) (nth rs 3))
-made (op.Compare o) rs t = if length rs == 3 then instr.Scalar (nth rs 0) (scalar.Compare o (nth rs 1) (nth rs 2)) else instr.Vector (nth rs 0) (vector.Compare o (nth rs 1) (nth rs 2) (nth rs 3))
-made op.Select rs t = if length rs == 4 then instr.Scalar (nth rs 0) (scalar.Select (nth rs 1) (nth rs 2) (nth rs 3)) else instr.Vector (nth rs 0) (vector.Select (nth rs 1) (nth rs 2) (nth rs 3) (nth rs 4))
-made (op.Divide o) rs t = instr.Divide o (nth rs 0) (nth rs 1) (nth rs 2) (nth rs 3) (number_of t)
-made op.First rs t = instr.Scalar (nth rs 0) (scalar.First (nth rs 1))
-made (op.Reduce o) rs t = instr.Scalar (nth rs 0) (scalar.Reduce o (nth rs 1) (nth rs 2))
-made op.Extract rs t = instr.Scalar (nth rs 0) (scalar.Extract (nth rs 1) (nth rs 2) (nth rs 3))
-made op.Load rs t = instr.Scalar (nth rs 0) (scalar.Load (nth rs 1) (nth rs 2) (nth rs 3) (number_of t))
-made op.Store rs t = instr.Store (nth rs 0) (nth rs 1) (nth rs 2) (nth rs 3) (number_of t)
-made op.Gather rs t = instr.Vector (nth rs 0) (vector.Gather (nth rs 1) (nth rs 2) (nth rs 3) (number_of t))
-made op.Scatter rs t = instr.Scatter (nth rs 0) (nth rs 1) (nth rs 2) (nth rs 3) (number_of t)
-made op.LoadRun rs t = instr.Vector (nth rs 0) (vector.LoadRun (nth rs 1) (nth rs 2) (nth rs 3) (number_of t))
-made op.StoreRun rs t = instr.StoreRun (nth rs 0) (nth rs 1) (nth rs 2) (nth rs 3) (number_of t)
-made op.PackedLoad rs t = instr.PackedLoad (nth rs 0) (nth rs 1) (nth rs 2) (nth rs 3) (nth rs 4) (number_of t)
-made op.PackedStore rs t = instr.PackedStore (nth rs 0) (nth rs 1) (nth rs 2) (nth rs 3) (nth rs 4) (number_of t)
-made op.Splat rs t = instr.Vector (nth rs 0) (vector.Splat (nth rs 1) (nth rs 2))
-made op.Index rs t = instr.Vector (nth rs 0) (vector.Index (nth rs 1))
-made (op.Scan o) rs t = instr.Vector (nth rs 0) (vector.Scan o (nth rs 1) (nth rs 2))
-made (op.Exchange o) rs t = instr.Vector (nth rs 0) (vector.Exchange o (nth rs 1) (nth rs 2) (nth rs 3))
-made op.Shuffle rs t = instr.Vector (nth rs 0) (vector.Shuffle (nth rs 1) (nth rs 2) (nth rs 3))
-made op.ShuffleTwo rs t = instr.Vector (nth rs 0) (vector.ShuffleTwo (nth rs 1) (nth rs 2) (nth rs 3) (nth rs 4))
-made op.Insert rs t = instr.Vector (nth rs 0) (vector.Insert (nth rs 1) (nth rs 2) (nth rs 3) (nth rs 4))
-made op.MaskCopy rs t = instr.Mask (nth rs 0) (mask.Copy (nth rs 1))
-made (op.MaskBinary o) rs t = instr.Mask (nth rs 0) (mask.Binary o (nth rs 1) (nth rs 2))
-made op.Full rs t = instr.Mask (nth rs 0) mask.Full
-made op.Off rs t = instr.Mask (nth rs 0) mask.Off
-made op.Test rs t = instr.Mask (nth rs 0) (mask.Test (nth rs 1) (nth rs 2))
-made op.Lowest rs t = instr.Mask (nth rs 0) (mask.Lowest (nth rs 1))
-made op.Range rs t = instr.Mask (nth rs 0) (mask.Range (nth rs 1) (nth rs 2))
-made op.Clear rs t = instr.Clear (nth rs 0) (nth rs 1)
-made op.Jump rs t = instr.Jump (number_of t)
-made (op.JumpIf c) rs t = instr.JumpIf c (nth rs 0) (number_of t)
-made op.Say rs t = instr.Say (number_of t)
-made op.PrintScalar rs t = instr.PrintScalar (nth rs 0)
-made op.PrintVector rs t = instr.PrintVector (nth rs 0) (nth rs 1)
-made op.Fail rs t = instr.Fail (nth rs 0) (number_of t)
-made op.Return rs t = instr.Return (result_of t)
 
 abbrev pub remade : Row → Instr
 remade (line o rs t) = made o rs t

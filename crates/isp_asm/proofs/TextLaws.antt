@@ -11,9 +11,10 @@ use Rattle.isp_asm.specs.Faults.{Seen, nothing_seen, is_space, is_feed, line_fau
 use Rattle.isp_asm.specs.Laws.{OneText, Faultless}
 use Rattle.isp_asm.specs.Spelling as says
 use Rattle.isp_asm.specs.Spelling.{Line, line_words, line_text, lines_of, routine_lines, head_lines, if_any, place_line, text_line, param_line, local_line, instr_line, scalars_line, vectors_line, text_of}
+use Rattle.isp_asm.specs.reader.Reading.{line_fits, line_head}
 use Rattle.isp_asm.proofs.Chains.{Follows, listing_follows}
-use Rattle.isp_asm.proofs.LineReadings.{front_of, front_push, line_fits, line_kept, read_line}
-use Rattle.isp_asm.proofs.LineRights.{line_head, line_right, spelled_plain, spelled_after, spelled_fine}
+use Rattle.isp_asm.proofs.LineReadings.{front_of, front_push, line_kept, read_line}
+use Rattle.isp_asm.proofs.LineRights.{line_right, spelled_plain, spelled_after, spelled_fine}
 use Rattle.isp_asm.proofs.ListingReadings.{listing_of, listing_kept}
 use Rattle.isp_asm.proofs.Splits.{are_words, line_body, words_split, lines_split}
 

@@ -1,7 +1,9 @@
 //! What the first word of a line says.
 ghost use Rattle.std.specs.Prelude.{◌≡◌};
 ghost use Rattle.isp_asm.specs.Heads as heads;
+ghost use Rattle.isp_asm.specs.Order.{kind_of};
 
+use crate::order::Kind;
 use isp_base::{Compare, UnaryOp};
 use isp_code::{Division, Exchange, JumpTest, MaskOp, Plain, Reduction, Scan};
 
@@ -67,6 +69,95 @@ pub enum Head {
     Call,
     Op(Op),
 }
+
+/// All of them.
+const HEADS: [Head; 85] = [
+    Head::Isp,
+    Head::Place,
+    Head::Text,
+    Head::Func,
+    Head::Par,
+    Head::Loc,
+    Head::Scalars,
+    Head::Vectors,
+    Head::Masks,
+    Head::End,
+    Head::Call,
+    Head::Op(Op::Const),
+    Head::Op(Op::Copy),
+    Head::Op(Op::Convert),
+    Head::Op(Op::Unary(UnaryOp::Negate)),
+    Head::Op(Op::Unary(UnaryOp::Invert)),
+    Head::Op(Op::Unary(UnaryOp::Absolute)),
+    Head::Op(Op::Unary(UnaryOp::Not)),
+    Head::Op(Op::Plain(Plain::Add)),
+    Head::Op(Op::Plain(Plain::Sub)),
+    Head::Op(Op::Plain(Plain::Mul)),
+    Head::Op(Op::Plain(Plain::And)),
+    Head::Op(Op::Plain(Plain::Or)),
+    Head::Op(Op::Plain(Plain::Xor)),
+    Head::Op(Op::Plain(Plain::Shl)),
+    Head::Op(Op::Plain(Plain::Shr)),
+    Head::Op(Op::Plain(Plain::Min)),
+    Head::Op(Op::Plain(Plain::Max)),
+    Head::Op(Op::Compare(Compare::Equal)),
+    Head::Op(Op::Compare(Compare::NotEqual)),
+    Head::Op(Op::Compare(Compare::Less)),
+    Head::Op(Op::Compare(Compare::LessOrEqual)),
+    Head::Op(Op::Compare(Compare::Greater)),
+    Head::Op(Op::Compare(Compare::GreaterOrEqual)),
+    Head::Op(Op::Select),
+    Head::Op(Op::Divide(Division::Div)),
+    Head::Op(Op::Divide(Division::Rem)),
+    Head::Op(Op::First),
+    Head::Op(Op::Reduce(Reduction::Add)),
+    Head::Op(Op::Reduce(Reduction::Min)),
+    Head::Op(Op::Reduce(Reduction::Max)),
+    Head::Op(Op::Reduce(Reduction::Equal)),
+    Head::Op(Op::Reduce(Reduction::Any)),
+    Head::Op(Op::Reduce(Reduction::All)),
+    Head::Op(Op::Extract),
+    Head::Op(Op::Load),
+    Head::Op(Op::Store),
+    Head::Op(Op::Gather),
+    Head::Op(Op::Scatter),
+    Head::Op(Op::LoadRun),
+    Head::Op(Op::StoreRun),
+    Head::Op(Op::PackedLoad),
+    Head::Op(Op::PackedStore),
+    Head::Op(Op::Splat),
+    Head::Op(Op::Index),
+    Head::Op(Op::Scan(Scan::Add)),
+    Head::Op(Op::Scan(Scan::And)),
+    Head::Op(Op::Scan(Scan::Or)),
+    Head::Op(Op::Exchange(Exchange::Broadcast)),
+    Head::Op(Op::Exchange(Exchange::Rotate)),
+    Head::Op(Op::Exchange(Exchange::Shift)),
+    Head::Op(Op::Shuffle),
+    Head::Op(Op::ShuffleTwo),
+    Head::Op(Op::Insert),
+    Head::Op(Op::MaskCopy),
+    Head::Op(Op::MaskBinary(MaskOp::And)),
+    Head::Op(Op::MaskBinary(MaskOp::Or)),
+    Head::Op(Op::MaskBinary(MaskOp::AndNot)),
+    Head::Op(Op::Full),
+    Head::Op(Op::Off),
+    Head::Op(Op::Test),
+    Head::Op(Op::Lowest),
+    Head::Op(Op::Range),
+    Head::Op(Op::Clear),
+    Head::Op(Op::Jump),
+    Head::Op(Op::JumpIf(JumpTest::False)),
+    Head::Op(Op::JumpIf(JumpTest::True)),
+    Head::Op(Op::JumpIf(JumpTest::Off)),
+    Head::Op(Op::JumpIf(JumpTest::On)),
+    Head::Op(Op::JumpIf(JumpTest::All)),
+    Head::Op(Op::Say),
+    Head::Op(Op::PrintScalar),
+    Head::Op(Op::PrintVector),
+    Head::Op(Op::Fail),
+    Head::Op(Op::Return),
+];
 
 fn unary_word(op: UnaryOp) -> &'static str
     ensures { result.now ≡ heads.unary_word op }
@@ -173,6 +264,18 @@ fn exchange_word(op: Exchange) -> &'static str
     }
 }
 
+// The first of some heads whose word is this one.
+fn first_spelled(among: &[Head], word: &str) -> Option<Head>
+    ensures { result ≡ heads.first_spelled among.now word.now }
+{
+    for head in among {
+        if word == head.word() {
+            return Some(*head);
+        }
+    }
+    None
+}
+
 impl Op {
     /// The word of the instruction.
     pub(crate) fn word(self) -> &'static str
@@ -242,6 +345,32 @@ impl Head {
             Head::End => "end",
             Head::Call => "call",
             Head::Op(op) => op.word(),
+        }
+    }
+
+    /// The kind of line that a word begins, if it begins one.
+    pub(crate) fn of(word: &str) -> Option<Head>
+        ensures { result ≡ heads.head_of word.now }
+    {
+        first_spelled(HEADS.as_slice(), word)
+    }
+
+    /// Where such a line stands.
+    pub(crate) fn kind(self) -> Kind
+        ensures { result ≡ kind_of self }
+    {
+        match self {
+            Head::Isp => Kind::Isp,
+            Head::Place => Kind::Place,
+            Head::Text => Kind::Text,
+            Head::Func => Kind::Func,
+            Head::Par => Kind::Par,
+            Head::Loc => Kind::Loc,
+            Head::Scalars => Kind::Scalars,
+            Head::Vectors => Kind::Vectors,
+            Head::Masks => Kind::Masks,
+            Head::End => Kind::End,
+            Head::Call | Head::Op(_) => Kind::Instr,
         }
     }
 }

@@ -204,7 +204,7 @@ fn letter_of(class: Class) -> &'static str
 }
 
 /// The word of an element type.
-fn type_name(elem: Elem) -> &'static str
+pub(crate) fn type_name(elem: Elem) -> &'static str
     ensures { result.now ≡ type_word elem }
 {
     match elem {

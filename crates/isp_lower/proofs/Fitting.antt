@@ -83,7 +83,7 @@ module _ (w : Setting) where
     place_fits (t_element b i u sp) n t h = (h.0, t.0, t.1, h.1.1.0, expr_fits i n t.2 h.1.1.1)
 
     call_fits : (c : TCall) (answer : Option Ty) (n : ℕ) → CallTree w.program.functions c answer → Table w.routine w.layout w.function.variables (call_asks c n) → CallParts w c answer n
-    call_fits (t_called f xs sp) answer n t h = (t.0, t.1, t.2, arguments_fit (params_of t.0) xs n t.3 h)
+    call_fits (t_called f xs sp) answer n t h = (t.0, t.1, t.2, arguments_fit (params_of t.0) xs n t.3 h.1)
 
     arguments_fit : (vs : List Declared) (xs : TArguments) (n : ℕ) → ArgumentsTree w.program.functions vs xs → Table w.routine w.layout w.function.variables (arguments_asks xs n) → ArgumentsParts w vs xs n
     arguments_fit [] t_no_arguments n t h = tt

@@ -27,6 +27,7 @@ mod Exprs
 mod Alone
 mod Places
 mod Variables
+mod Arguments
 mod Assigns
 mod Updates
 mod Items

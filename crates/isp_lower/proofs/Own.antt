@@ -84,7 +84,7 @@ module _ (vars : List Variable) (answer : Option Ty) where
       place_own (t_element b i t sp) n f = (f.0, (lift_own t.rate (type_of i).rate I64 n, (tt, expr_own i n f.1)))
 
       pub call_own : (c : TCall) (gives : Option Ty) (n : ℕ) → FineCall fs vars c gives → IsOwn vars answer (call_asks c n)
-      call_own (t_called g xs sp) gives n f = arguments_own (params_of f.0) xs n f.3
+      call_own (t_called g xs sp) gives n f = (tt, arguments_own (params_of f.0) xs n f.3)
 
       arguments_own : (vs : List Variable) (xs : TArguments) (n : ℕ) → FineArguments fs vars vs xs → IsOwn vars answer (arguments_asks xs n)
       arguments_own [] t_no_arguments n f = tt

@@ -1,5 +1,5 @@
 -- What names, types and rates promise of a tree is what the laws use of it.
-use Rattle.std.proofs.Common.{◌≡◌, suc, List, [], ◌∷◌, Bool, Option, Some, None, sym, ap, subst, arith}
+use Rattle.std.proofs.Common.{◌≡◌, suc, List, [], ◌∷◌, Bool, Option, Some, None, refl, sym, ap, subst, arith}
 use Rattle.std.specs.List.{All}
 use Rattle.isp_base.specs.declared.types.Elem.{Elem}
 use Rattle.isp_base.specs.declared.types.Elem.TheVariants.{Bool as Truth, I8, U8, I16, U16, I32, U32, I64, U64}
@@ -36,6 +36,10 @@ reaches_on : (a b c : Rate) → Reaches a b → Reaches b c → Reaches a c
 reaches_on Uniform b c h g = tt
 reaches_on Varying Uniform c h g = absurd h
 reaches_on Varying Varying c h g = g
+
+reaches_uniform : (a : Rate) → Reaches a Uniform → a ≡ Uniform
+reaches_uniform Uniform h = refl
+reaches_uniform Varying h = absurd h
 
 whole_number : (t : Elem) → IsWhole t → IsNumber t
 whole_number Truth e = absurd (cc)
@@ -99,7 +103,7 @@ module _ (fs : List TFunction) (vars : List Variable) where
     argument_tree (holds.Value t) k (t_by_value x) f r = (record { elem = f.1; reaches = r.0 }, expr_tree x f.0 r.1)
     argument_tree (holds.Value t) k (t_by_name b sp) f r = absurd f
     argument_tree (holds.Given e) k (t_by_value x) f r = absurd f
-    argument_tree (holds.Given e) k (t_by_name b sp) f r = (r, f.1)
+    argument_tree (holds.Given e) k (t_by_name b sp) f r = (reaches_uniform b.ty.rate r, f.1)
     argument_tree (holds.Local t n) k (t_by_value x) f r = absurd f
     argument_tree (holds.Local t n) k (t_by_name b sp) f r = absurd f
 

@@ -120,8 +120,8 @@ module _ (fs : List TFunction) (code : Listing) (h : Routine) (l : Layout) (link
         let er : rates_held vs ≡ l.rates f = sym (ap (λ z. z f) links.rates ∙ ap rates_of is.1) in
         let to = links.headers f is.0 is.1 in
         let ps = arguments_places l xs in
-        here_then code h pc (arguments_code l (l.rates f) xs pc p k n) (calling l d f xs (p + length ps) k n) (subst (λ rs. Here code h pc (arguments_code l rs xs pc p k n)) er (arguments_sound vs xs pc p k n is.3 g lk (few_front (length code.places) p ps (sp ∷ []) lp)))
-        (calling_sound code h l d f xs (p + length ps) k n is.0 to (subst (λ a. IsGiven h a d) (sym (to.returns ∙ ap returns_of is.2)) given) there lk (few_back (length code.places) p ps (sp ∷ []) lp) (subst (λ rs. ArePassed h to.routine.params (argument_registers l rs xs n)) er (arguments_passed fs h l vs xs to.routine.params n is.3 g to.params)))
+        here_then code h pc (arguments_code l (l.rates f) xs pc p k n) (calling l d f xs (p + length ps) k n) (subst (λ rs. Here code h pc (arguments_code l rs xs pc p k n)) er (arguments_sound vs xs pc p k n is.3 g.1 lk (few_front (length code.places) p ps (sp ∷ []) lp)))
+        (calling_sound code h l d f xs (p + length ps) k n is.0 to (subst (λ a. IsGiven h a d) (sym (to.returns ∙ ap returns_of is.2)) given) there lk (few_back (length code.places) p ps (sp ∷ []) lp) (subst (λ rs. ArePassed h to.routine.params (argument_registers l rs xs n)) er (arguments_passed fs h l vs xs to.routine.params n is.3 g.1 to.params)))
 
     arguments_sound : (vs : List Variable) (xs : TArguments) (pc p k n : ℕ) → ArgumentsTree fs vs xs → Granted h l (arguments_asks xs n) → k < h.masks → Named code h l p (arguments_places l xs) → Here code h pc (arguments_code l (rates_held vs) xs pc p k n)
     arguments_sound [] t_no_arguments pc p k n is f lk lp = λ lt. tt

@@ -116,9 +116,10 @@ abbrev mutual
   target_asks (t_variable v t sp) n = Register t.rate (Variable v) t.elem
   target_asks (t_element b i t sp) n = Both (ArrayOf b) (index_asks t.rate i n (expr_asks i n))
 
-  -- argument j of a call at slot n + j: a uniform one may be handed over as a varying one
+  -- a call names its function by a number that fits, and takes argument j at slot n + j: a uniform one may be handed over as a
+  -- varying one
   pub call_asks : TCall → ℕ → Ask
-  call_asks (t_called f xs sp) n = arguments_asks xs n
+  call_asks (t_called f xs sp) n = Both (Number f) (arguments_asks xs n)
 
   pub arguments_asks : TArguments → ℕ → Ask
   arguments_asks t_no_arguments n = Nothing

@@ -2,7 +2,7 @@
 -- array that is handed over is one for the gang.
 use Rattle.std.specs.Prelude.{ℕ, List, [], ◌∷◌, Option, Some, None, slice_get}
 use Rattle.isp_base.specs.declared.types.Rate.{Rate}
-use Rattle.isp_base.specs.declared.types.Rate.TheVariants.{Uniform}
+use Rattle.isp_base.specs.declared.types.Rate.TheVariants.{Uniform, Varying}
 use Rattle.isp_typed.specs.Fine.{params_of}
 use Rattle.isp_typed.specs.Typed.{TFunction}
 use Rattle.isp_typed.specs.declared.variable.Holds.{Holds}
@@ -26,9 +26,9 @@ rates_of (Some g) = rates_held (params_of g)
 abbrev pub rates_in : List TFunction → ℕ → List Rate
 rates_in fs f = rates_of (slice_get fs f)
 
--- each argument goes to the next parameter
+-- each argument goes to the next parameter; past the last one any rate will do
 abbrev pub next_rate : List Rate → Rate
-next_rate [] = Uniform
+next_rate [] = Varying
 next_rate (r ∷ rs) = r
 
 abbrev pub later : List Rate → List Rate

@@ -1,6 +1,6 @@
 -- What rates promise of a tree that has code, beside what names and types promise: a uniform part may stand where a varying one
 -- is wanted, and never the reverse. The library and packed calls have no code yet.
-use Rattle.std.specs.Prelude.{◌≡◌, List, [], ◌∷◌}
+use Rattle.std.specs.Prelude.{List, [], ◌∷◌}
 use Rattle.isp_base.specs.declared.types.Rate.{Rate}
 use Rattle.isp_base.specs.declared.types.Rate.TheVariants.{Uniform, Varying}
 use Rattle.isp_typed.specs.Fine.{FineExpr, FineSimple}
@@ -37,7 +37,7 @@ module _ (fs : List TFunction) where
     PlaceRated (t_variable v t sp) = Unit {0}
     PlaceRated (t_element b i t sp) = IsRated i
 
-    -- an argument is wanted at the rate of its parameter; an array is one for the gang
+    -- an argument, a value or an array, is wanted at the rate of its parameter, which is uniform for an array
     pub CallRated : TCall → Type 0
     CallRated (t_called f xs sp) = ArgumentsRated (rates_in fs f) xs
 
@@ -47,7 +47,7 @@ module _ (fs : List TFunction) where
 
     pub ArgumentRated : Rate → TArgument → Type 0
     ArgumentRated r (t_by_value x) = Reaches (type_of x).rate r × IsRated x
-    ArgumentRated r (t_by_name b sp) = b.ty.rate ≡ Uniform
+    ArgumentRated r (t_by_name b sp) = Reaches b.ty.rate r
 
   -- a value that is wanted at a rate
   abbrev pub RatedAt : Rate → TExpr → Type 0

@@ -1,6 +1,6 @@
 -- What each writer appends, told what it is given: where registers lie, the tree, the register that gets the value, the mask
 -- and the first free slot.
-use Rattle.std.specs.Prelude.{ℕ, ◌+◌, ◌∷◌, [], ◌++◌, List, length, Bool, false}
+use Rattle.std.specs.Prelude.{ℕ, ◌+◌, ◌∷◌, [], ◌++◌, List, length, Bool, false, Option}
 use Rattle.isp_base.specs.Ranks.{same_elem}
 use Rattle.isp_base.specs.declared.operators.BinOp.{BinOp}
 use Rattle.isp_base.specs.declared.types.Rate.{Rate}
@@ -10,8 +10,9 @@ use Rattle.isp_code.specs.declared.instr.Division.{Division}
 use Rattle.isp_code.specs.declared.instr.Instr.{Instr}
 use Rattle.isp_code.specs.declared.instr.Instr.TheVariants as instr
 use Rattle.isp_code.specs.declared.instr.JumpTest.TheVariants as jump
-use Rattle.isp_typed.specs.Typed.{TExpr, TPlace, type_of}
-use Rattle.isp_lower.specs.Code.{choice, choose_code, choose_rest, expr_code, expr_places, expr_to, found, guard, index_of, index_places, is_whole, jump_off, jump_on, lift_code, move_code, operand, operand_of, operate, operate_places, read, select, variable_code, variable_from, whole_of, write}
+use Rattle.isp_code.specs.declared.register.Register.{Register}
+use Rattle.isp_typed.specs.Typed.{TArgument, TArguments, TCall, TExpr, TPlace, type_of}
+use Rattle.isp_lower.specs.Code.{argument_code, argument_places, arguments_code, arguments_places, call_code, call_places, choice, choose_code, choose_rest, expr_code, expr_places, expr_to, found, guard, index_of, index_places, is_whole, jump_off, jump_on, lift_code, move_code, operand, operand_of, operate, operate_places, read, select, variable_code, variable_from, whole_of, write}
 use Rattle.isp_lower.specs.Emitted.{Appends, layout}
 use Rattle.isp_lower.specs.Layout.{mask_register, register}
 use Rattle.isp_lower.specs.Simple.{assign_code, assign_places, change_by_code, change_places, one_code, one_in, step_code, update_to}
@@ -130,6 +131,21 @@ short_at on z x y t =
     let k = t.site.mask.number in
     let n = t.site.slot.number in
     record { code = λ pc p. expr_code l z pc p k n ++ select t.ty.rate t.to.number (found l z n) (found l x n) (found l y n) k ∷ []; places = expr_places l z }
+
+-- ---- calls: an argument at the rate of its parameter, the arguments of a function, the instruction behind them, and the call
+
+abbrev pub argument_at : Scope → Rate → TArgument → Site → Piece
+argument_at on r x at =
+    record { code = λ pc p. argument_code (layout on) r x pc p at.mask.number at.slot.number; places = argument_places (layout on) x }
+
+abbrev pub arguments_at : Scope → ℕ → TArguments → Site → Piece
+arguments_at on f xs at =
+    let l = layout on in
+    record { code = λ pc p. arguments_code l (l.rates f) xs pc p at.mask.number at.slot.number; places = arguments_places l xs }
+
+abbrev pub call_at : Scope → Option Register → TCall → Site → Piece
+call_at on d x at =
+    record { code = λ pc p. call_code (layout on) d x pc p at.mask.number at.slot.number; places = call_places (layout on) x }
 
 -- ---- operators and elements
 

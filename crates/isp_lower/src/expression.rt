@@ -1,16 +1,17 @@
 //! The code of expressions.
 ghost use Rattle.std.specs.Prelude.{◌≡◌, ◌<◌, ◌+◌, ℕ, true, false, IfOk, OnOk};
 ghost use Rattle.isp_base.specs.declared.types.Rate.TheVariants.{Uniform, Varying};
-ghost use Rattle.isp_typed.specs.Typed.{t_binary, t_choose, t_compare, t_convert, t_element, t_logic, t_place, t_unary, type_of};
-ghost use Rattle.isp_typed.specs.Views.{expr_of, place_of};
-ghost use Rattle.isp_lower.specs.Asks.{expr_asks, index_asks, operand_asks, spare_ask, target_asks, whole_asks};
-ghost use Rattle.isp_lower.specs.Code.{constant_of, expr_code, expr_places, found, index, is_short, is_whole, operand, stays, whole};
+ghost use Rattle.isp_typed.specs.Typed.{t_arguments, t_binary, t_choose, t_compare, t_convert, t_element, t_logic, t_place, t_unary, type_of};
+ghost use Rattle.isp_typed.specs.Views.{argument_of, arguments_of, call_of, expr_of, place_of};
+ghost use Rattle.isp_lower.specs.Asks.{argument_asks, arguments_asks, call_asks, expr_asks, index_asks, operand_asks, spare_ask, target_asks, whole_asks};
+ghost use Rattle.isp_lower.specs.Code.{argument_register, argument_registers, constant_of, expr_code, expr_places, found, index, is_short, is_whole, operand, stays, whole};
 ghost use Rattle.isp_lower.specs.Emitted.{Appends, Present, layout};
-ghost use Rattle.isp_lower.specs.Written.{Writes, by_jump_at, by_masks_at, chosen_at, guarded_at, index_at, node_at, operand_at, short_at, side_at, skipped_at, to_at, value_at, whole_at};
+ghost use Rattle.isp_lower.specs.Layout.{register};
+ghost use Rattle.isp_lower.specs.Written.{Writes, argument_at, arguments_at, by_jump_at, by_masks_at, call_at, chosen_at, guarded_at, index_at, node_at, operand_at, short_at, side_at, skipped_at, to_at, value_at, whole_at};
 
 use crate::leaves::{
-    compare, constant, convert, copy, index as lane_numbers, mask, scalar, select, splat,
-    the_others, unary, where_so,
+    array, compare, constant, convert, copy, index as lane_numbers, mask, of_rate, scalar, select,
+    splat, the_others, unary, where_so,
 };
 use crate::located::{found, lift, moved};
 use crate::numbered::{RegisterNumber, Slot};
@@ -19,12 +20,13 @@ use crate::truths::{decided, is_short};
 use crate::types::{Body, Scope};
 use crate::written::{operate_to, put_needing, read_to};
 use isp_base::{BinOp, Compare, Elem, Rate, Ty, UnaryOp, Value, convert as value_as};
-use isp_code::{Instr, JumpTest};
-use isp_typed::{ArrayVariable, Logic, TypedExpr, TypedPlace};
+use isp_code::{Arguments, Call, CallBox, Instr, JumpTest, Register};
+use isp_typed::{ArrayVariable, Logic, TypedArgument, TypedCall, TypedExpr, TypedPlace};
+use smallvec::SmallVec;
 use std::alloc::AllocError;
 
 /// The code of an expression under a mask, in the slots from one on. It answers the register of the value, scalar
-/// where the expression is uniform. Memory is refused too of what has no code yet: calls, the library and packed calls.
+/// where the expression is uniform. Memory is refused too of what has no code yet: the library and packed calls.
 #[cycle(expr)]
 pub fn expr(
     b: &mut Body,
@@ -81,8 +83,8 @@ fn write_to(
     }
 }
 
-/// The same of comparisons, and of expressions that may leave out a part. Memory is refused of all others, which have no
-/// code yet.
+/// The same of comparisons, of calls, and of expressions that may leave out a part. Memory is refused of all others, which have
+/// no code yet.
 #[cycle(expr)]
 fn compare_or_branch(
     b: &mut Body,
@@ -114,6 +116,7 @@ fn compare_or_branch(
             otherwise,
             ..
         } => choose_to(b, on, test, then, otherwise, target),
+        TypedExpr::Call { call, ty } => call_to(b, on, Some(of_rate(ty.rate, to)), call, site),
         _ => Err(AllocError),
     }
 }
@@ -662,4 +665,98 @@ fn choose_to(
             Ok(())
         }
     }
+}
+
+/// A value that is handed over at a rate, in a register of that rate.
+#[cycle(expr)]
+fn passed(
+    b: &mut Body,
+    on: &Scope,
+    rate: Rate,
+    x: &TypedExpr,
+    site: Site,
+) -> Result<Register, AllocError>
+    requires { Present on.now (operand_asks Varying (expr_of x.now) site.slot.number) }
+    ensures register { IfOk result (λ d. d ≡ register rate (operand (layout on.now) rate (expr_of x.now) site.slot.number)) }
+    ensures code { OnOk result (Writes b.old b.new (operand_at on.now rate (expr_of x.now) site)) }
+{
+    let from = operand(b, on, rate, x, site)?;
+    Ok(of_rate(rate, from))
+}
+
+/// An argument at the rate of its parameter; an array is handed over as it is.
+#[cycle(expr)]
+fn argument(
+    b: &mut Body,
+    on: &Scope,
+    rate: Rate,
+    x: &TypedArgument,
+    site: Site,
+) -> Result<Register, AllocError>
+    requires { Present on.now (argument_asks (argument_of x.now) site.slot.number) }
+    ensures register { IfOk result (λ d. d ≡ argument_register (layout on.now) rate (argument_of x.now) site.slot.number) }
+    ensures code { OnOk result (Writes b.old b.new (argument_at on.now rate (argument_of x.now) site)) }
+{
+    match x {
+        TypedArgument::Value(value) => passed(b, on, rate, value, site),
+        TypedArgument::Array { array: given, .. } => {
+            let from = on.array(*given);
+            Ok(array(from))
+        }
+    }
+}
+
+/// The arguments of a function from left to right, each in a slot of its own.
+#[cycle(expr)]
+fn arguments(
+    b: &mut Body,
+    on: &Scope,
+    function: usize,
+    all: &[TypedArgument],
+    site: Site,
+) -> Result<Arguments, AllocError>
+    requires { Present on.now (arguments_asks (t_arguments (arguments_of all.now)) site.slot.number) }
+    ensures registers { IfOk result (λ r. r ≡ argument_registers (layout on.now) ((layout on.now).rates function) (t_arguments (arguments_of all.now)) site.slot.number) }
+    ensures code { OnOk result (Writes b.old b.new (arguments_at on.now function (t_arguments (arguments_of all.now)) site)) }
+{
+    let mut slot = site.slot;
+    let mut registers = SmallVec::new(*b.code.allocator());
+    for (place, x) in all.iter().enumerate() {
+        let rate = on.parameter_rate(function, place);
+        let at = Site {
+            mask: site.mask,
+            slot,
+        };
+        let register = argument(b, on, rate, x, at)?;
+        registers.push(register)?;
+        slot = slot.next();
+    }
+    Ok(Arguments::new(registers))
+}
+
+/// A call: its arguments, then the instruction, which leaves what the function gives back in a register, if there is one.
+#[cycle(expr)]
+#[tactic(auto, using(crate::proofs::Arguments::number_fits))]
+pub(crate) fn call_to(
+    b: &mut Body,
+    on: &Scope,
+    to: Option<Register>,
+    x: &TypedCall,
+    site: Site,
+) -> Result<(), AllocError>
+    requires { Present on.now (call_asks (call_of x.now) site.slot.number) }
+    ensures { OnOk result (Writes b.old b.new (call_at on.now to (call_of x.now) site)) }
+{
+    let given = arguments(b, on, x.function, &x.arguments, site)?;
+    let place = b.place(x.span)?;
+    let call = Call {
+        function: x.function as u32,
+        result: to,
+        mask: mask(site.mask),
+        place: place.number,
+        arguments: given,
+    };
+    let boxed = CallBox::new(*b.code.allocator(), call)?;
+    b.push(Instr::Call(boxed))?;
+    Ok(())
 }

@@ -221,7 +221,7 @@ pub fn splat(to: RegisterNumber, from: RegisterNumber, k: MaskNumber) -> Instr
 }
 
 /// An array.
-fn array(x: RegisterNumber) -> Register
+pub fn array(x: RegisterNumber) -> Register
     ensures { result ≡ array_register x.number }
 {
     Register {

@@ -2,15 +2,17 @@
 ghost use Rattle.std.specs.Prelude.{◌≡◌, ◌+◌, IfOk, OnOk};
 ghost use Rattle.isp_base.specs.Ranks.{same_elem};
 ghost use Rattle.isp_base.specs.declared.types.Rate.TheVariants.{Varying};
-ghost use Rattle.isp_typed.specs.Typed.{type_of};
-ghost use Rattle.isp_typed.specs.Views.{expr_of, item_of, items_of, place_of, simple_of};
-ghost use Rattle.isp_lower.specs.Asks.{Both, MaskOf, Number, assign_asks, change_asks, expr_asks, index_asks, item_asks, items_asks, lift_asks, one_asks, operand_asks, operands_asks, read_asks, sides_ask, spare_ask, step_asks, target_asks, test_asks, update_asks, work_asks, zero_asks, beyond, first_slot, simple_asks};
+ghost use Rattle.isp_typed.specs.Typed.{t_arguments, type_of};
+ghost use Rattle.isp_typed.specs.Views.{argument_of, arguments_of, call_of, expr_of, item_of, items_of, place_of, simple_of};
+ghost use Rattle.isp_lower.specs.Asks.{Both, MaskOf, Number, argument_asks, arguments_asks, assign_asks, call_asks, change_asks, expr_asks, index_asks, item_asks, items_asks, lift_asks, one_asks, operand_asks, operands_asks, read_asks, sides_ask, spare_ask, step_asks, target_asks, test_asks, update_asks, work_asks, zero_asks, beyond, first_slot, simple_asks};
 ghost use Rattle.isp_lower.specs.Reserved.{Gives, choice_asks, logic_asks};
 
 use crate::numbered::Slot;
 use crate::registers::Registers;
 use isp_base::{Elem, Rate, Ty};
-use isp_typed::{ArrayVariable, TypedExpr, TypedItem, TypedPlace, TypedSimple};
+use isp_typed::{
+    ArrayVariable, TypedArgument, TypedCall, TypedExpr, TypedItem, TypedPlace, TypedSimple,
+};
 use std::alloc::AllocError;
 
 /// The registers of a function so far, and how many masks it has. Its variables and what it gives back have registers from its
@@ -55,6 +57,16 @@ impl Reserve {
         slot.after()
     }
 
+    /// The number of a function that is called, which an instruction names by 32 bits.
+    fn number(&mut self, function: usize) -> Result<(), AllocError>
+        ensures { OnOk result (Gives self.old self.new (Number function)) }
+    {
+        if function >= 4_294_967_296 {
+            return Err(AllocError);
+        }
+        Ok(())
+    }
+
     /// A register for a uniform value that a varying one is made of.
     fn lift(&mut self, wanted: Rate, given: Rate, elem: Elem, slot: Slot) -> Result<(), AllocError>
         ensures { OnOk result (Gives self.old self.new (lift_asks wanted given elem slot.number)) }
@@ -95,8 +107,7 @@ impl Reserve {
         }
     }
 
-    /// What the code of an expression asks for, in the slots from one on. Memory is refused too of calls, whose code is not
-    /// written yet.
+    /// What the code of an expression asks for, in the slots from one on.
     #[cycle(expr)]
     pub fn expr(&mut self, x: &TypedExpr, slot: Slot) -> Result<(), AllocError>
         ensures { OnOk result (Gives self.old self.new (expr_asks (expr_of x.now) slot.number)) }
@@ -132,7 +143,7 @@ impl Reserve {
                 otherwise,
                 ..
             } => self.choice(x.ty(), test, then, otherwise, slot),
-            TypedExpr::Call { .. } => Err(AllocError),
+            TypedExpr::Call { call, ty } => self.called(*ty, call, slot),
             TypedExpr::Library { .. }
             | TypedExpr::PackedStore { .. }
             | TypedExpr::PackedLoad { .. } => self.value(x.ty(), slot),
@@ -242,6 +253,51 @@ impl Reserve {
         Ok(())
     }
 
+    /// A call, and the register that its result goes to.
+    #[cycle(expr)]
+    fn called(&mut self, ty: Ty, call: &TypedCall, slot: Slot) -> Result<(), AllocError>
+        ensures { OnOk result (Gives self.old self.new (Both (spare_ask ty.rate ty.elem slot.number) (call_asks (call_of call.now) slot.number))) }
+    {
+        self.spare(ty.rate, ty.elem, slot)?;
+        self.call(call, slot)?;
+        Ok(())
+    }
+
+    /// A call, which names its function by a number, and its arguments.
+    #[cycle(expr)]
+    fn call(&mut self, x: &TypedCall, slot: Slot) -> Result<(), AllocError>
+        ensures { OnOk result (Gives self.old self.new (call_asks (call_of x.now) slot.number)) }
+    {
+        self.number(x.function)?;
+        self.arguments(&x.arguments, slot)?;
+        Ok(())
+    }
+
+    /// Arguments of a call, each in a slot of its own.
+    #[cycle(expr)]
+    fn arguments(&mut self, all: &[TypedArgument], slot: Slot) -> Result<(), AllocError>
+        ensures { OnOk result (Gives self.old self.new (arguments_asks (t_arguments (arguments_of all.now)) slot.number)) }
+    {
+        let mut at = slot;
+        for x in all {
+            let next = self.next(at)?;
+            self.argument(x, at)?;
+            at = next;
+        }
+        Ok(())
+    }
+
+    /// An argument, whatever the rate of its parameter.
+    #[cycle(expr)]
+    fn argument(&mut self, x: &TypedArgument, slot: Slot) -> Result<(), AllocError>
+        ensures { OnOk result (Gives self.old self.new (argument_asks (argument_of x.now) slot.number)) }
+    {
+        match x {
+            TypedArgument::Value(value) => self.operand(Rate::Varying, value, slot),
+            TypedArgument::Array { .. } => Ok(()),
+        }
+    }
+
     /// A place, and the register that its value is read into.
     #[cycle(expr)]
     fn read(&mut self, place: &TypedPlace, slot: Slot) -> Result<(), AllocError>
@@ -312,13 +368,13 @@ impl Reserve {
         Ok(())
     }
 
-    /// What the code of an assignment asks for, and of what else stands before a semicolon; of calls as [expr](Reserve::expr).
+    /// What the code of an assignment asks for, and of what else stands before a semicolon.
     pub fn simple(&mut self, x: &TypedSimple, slot: Slot) -> Result<(), AllocError>
         ensures { OnOk result (Gives self.old self.new (simple_asks (simple_of x.now) slot.number)) }
     {
         match x {
             TypedSimple::Value(value) => self.expr(value, slot),
-            TypedSimple::Call(_) => Err(AllocError),
+            TypedSimple::Call(call) => self.call(call, slot),
             TypedSimple::Assign { target, value, .. } => self.assign(target, value, slot),
             TypedSimple::Update {
                 elem,

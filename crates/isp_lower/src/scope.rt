@@ -1,6 +1,7 @@
 //! Registers are looked up; each that is asked for is there.
-ghost use Rattle.std.specs.Prelude.{◌≡◌, map, Some};
+ghost use Rattle.std.specs.Prelude.{◌≡◌, drop, map, take, Some};
 ghost use Rattle.isp_lower.specs.Asks.{ArrayOf, Register as Ask};
+ghost use Rattle.isp_lower.specs.Callees.{next_rate, rate_held, rates_held};
 ghost use Rattle.isp_lower.specs.Emitted.{Present, layout, name_of, row_of};
 ghost use Rattle.isp_lower.specs.Rows.{Result, Spare, Variable, elem_in, number_in};
 
@@ -9,7 +10,7 @@ use crate::register_rows::RegisterRows;
 use crate::registers::RegisterName;
 use crate::types::Scope;
 use isp_base::{Elem, Rate, Ty};
-use isp_typed::ArrayVariable;
+use isp_typed::{ArrayVariable, Holds};
 
 /// The register of a name that has one.
 fn given(rows: &RegisterRows, name: RegisterName, elem: Elem) -> RegisterNumber
@@ -24,7 +25,42 @@ fn given(rows: &RegisterRows, name: RegisterName, elem: Elem) -> RegisterNumber
     }
 }
 
+/// The rate of what a parameter holds.
+fn rate_held(holds: Holds) -> Rate
+    ensures { result ≡ rate_held holds }
+{
+    match holds {
+        Holds::Value(ty) | Holds::Local(ty, _) => ty.rate,
+        Holds::Given(_) => Rate::Uniform,
+    }
+}
+
+/// The rate of a parameter, by its place among the first variables of a function.
+#[tactic(auto, using(crate::proofs::Arguments::rate_past))]
+fn rate_at(variables: &[isp_typed::Variable], count: usize, place: usize) -> Rate
+    ensures { result ≡ next_rate (drop place (rates_held (take count variables.now))) }
+{
+    if place >= count {
+        return Rate::Varying;
+    }
+    match variables.get(place) {
+        Some(variable) => rate_held(variable.holds),
+        None => Rate::Varying,
+    }
+}
+
 impl Scope<'_> {
+    /// The rate at which a function takes an argument, by its place in a call.
+    #[tactic(auto, using(crate::proofs::Arguments::rate_of_one, crate::proofs::Arguments::rate_of_nobody))]
+    pub fn parameter_rate(&self, function: usize, place: usize) -> Rate
+        ensures { result ≡ next_rate (drop place ((layout self.now).rates function)) }
+    {
+        match self.callees.get(function) {
+            Some(callee) => rate_at(&callee.variables, callee.params.len(), place),
+            None => Rate::Varying,
+        }
+    }
+
     /// The register of a slot for values of a type.
     pub fn spare(&self, rate: Rate, elem: Elem, slot: Slot) -> RegisterNumber
         requires { Present self.now (Ask rate (Spare elem slot.number) elem) }

@@ -8,7 +8,7 @@ ghost use Rattle.isp_lower.specs.Simple.{simple_code, simple_places};
 
 use crate::assigned::{assign, variable_to};
 use crate::changed::{change_by, step};
-use crate::expression::expr;
+use crate::expression::{call_to, expr};
 use crate::leaves::{clear, constant, splat};
 use crate::sites::{Home, Operation, Site};
 use crate::types::{Body, Scope};
@@ -17,7 +17,7 @@ use isp_typed::{TypedItem, TypedSimple};
 use std::alloc::AllocError;
 
 /// The code of what stands before a semicolon, under a mask, in the slots from one on. Memory is refused too
-/// of what has no code yet: calls, the library and packed calls.
+/// of what has no code yet: the library and packed calls.
 pub fn simple(b: &mut Body, on: &Scope, x: &TypedSimple, site: Site) -> Result<(), AllocError>
     requires { Present on.now (simple_asks (simple_of x.now) site.slot.number) }
     ensures { OnOk result (Appends b.old b.new (λ pc p. simple_code (layout on.now) (simple_of x.now) pc p site.mask.number site.slot.number) (simple_places (layout on.now) (simple_of x.now))) }
@@ -27,7 +27,7 @@ pub fn simple(b: &mut Body, on: &Scope, x: &TypedSimple, site: Site) -> Result<(
             expr(b, on, value, site)?;
             Ok(())
         }
-        TypedSimple::Call(_) => Err(AllocError),
+        TypedSimple::Call(call) => call_to(b, on, None, call, site),
         TypedSimple::Assign { target, value, .. } => { assign(b, on, target, value, site) }
         TypedSimple::Update {
             operator,

@@ -1,12 +1,20 @@
-use Rattle.std.proofs.Common.{rules, ◌≡◌, true, false, sym, ap, ◌∙◌}
+use Rattle.std.proofs.Common.{rules, ◌≡◌, ◌+◌, ◌++◌, ◌∷◌, [], true, false, sym, ap, subst, ◌∙◌, arith, drop}
 use Rattle.isp_base.specs.declared.types.Rate.TheVariants.{Uniform, Varying}
 use Rattle.isp_base.specs.declared.types.Ty.{Ty}
 use Rattle.isp_code.specs.declared.instr.Instr.TheVariants as instr
 use Rattle.isp_code.specs.declared.instr.JumpTest.TheVariants as jump
-use Rattle.isp_typed.specs.Views.{expr_of}
-use Rattle.isp_lower.specs.Code.{expr_code, expr_places, is_short, jump_off, jump_on, operand_of, variable_from}
-use Rattle.isp_lower.specs.Emitted.{layout}
+use Rattle.isp_typed.specs.Nodes.{arguments_nodes}
+use Rattle.isp_typed.specs.Typed.{t_arguments}
+use Rattle.isp_typed.specs.Views.{argument_of, arguments_of, expr_of}
+use Rattle.isp_lower.specs.Callees.{next_rate}
+use Rattle.isp_lower.specs.Code.{argument_code, argument_places, argument_register, argument_registers, arguments_code, arguments_places, calling, expr_code, expr_places, is_short, jump_off, jump_on, operand_of, variable_from}
+use Rattle.isp_code.specs.declared.register.Register.{Register}
+use Rattle.std.specs.Prelude.{List}
+use Rattle.isp_lower.specs.Emitted.{Appends, Present, layout}
 use Rattle.isp_lower.specs.Written.{side_at}
+use Rattle.isp_lower.specs.declared.numbered.Slot.{Slot}
+use Rattle.isp_lower.specs.Asks.{arguments_asks}
+use Rattle.isp_lower.proofs.Arguments.{argument_within, arguments_more, arguments_there, call_boxed, call_counts, call_done, called_behind, code_end, code_more, registers_end, registers_more, taken_at}
 use Rattle.isp_lower.proofs.Landing.{chosen, landed, short_chosen, long_chosen}
 use Rattle.isp_lower.proofs.expression.+expr.Goals as goal
 
@@ -76,3 +84,70 @@ choose_to-returns-in_ok-choose_each-in-Varying t c =
     let y = expr_of a.otherwise.now in
     let long : is_short l to.ty.rate z x y ≡ false = sym (c.is_short.ensures l) ∙ c.if-is_short.false in
     long_chosen a.b.now c.choose_each.new.b l Varying to.to.number z x y to.ty to.site.mask.number to.site.slot.number long (sym c.in-Varying.is ∙ ap (λ (t : Ty). t.rate) c.ty.ensures) c.in_ok-choose_each-in-Varying.ensures to.span
+
+pub arguments-loop-place-preserved : goal.arguments-loop-place-preserved
+arguments-loop-place-preserved t c =
+    let l = layout c.args.on.now in
+    let xs = c.args.all.now in
+    let i = c.loop-place.place in
+    let x = c.index-all-place.result in
+    let k = c.args.site.mask.number in
+    let m = c.loop-place.slot.number in
+    let rs = l.rates c.args.function in
+    let rate = c.parameter_rate-rate.ensures in
+    let written = subst (λ r. Appends c.loop-place.b c.argument.new.b (λ pc p. argument_code l r (argument_of x) pc p k m) (argument_places l (argument_of x))) rate c.in_ok-register.ensures.code in
+    let kept = c.in_ok-register.ensures.register ∙ ap (λ r. argument_register l r (argument_of x) m) rate in
+    let rest = t_arguments (arguments_of (drop (i + 1) xs)) in
+    let next = c.next-slot.ensures in (
+      λ h y. c.loop-place.invariant.0 h (code_more l rs xs i x c.loop-place-test.true c.index-all-place.is c.loop-place.b c.argument.new.b h k m written (subst (λ (s : Slot). Appends c.argument.new.b h (λ pc p. arguments_code l (drop (i + 1) rs) rest pc p k s.number) (arguments_places l rest)) next y)),
+      subst (λ (s : Slot). Present c.args.on.now (arguments_asks rest s.number)) (sym next) (subst (Present c.args.on.now) (arguments_more m xs i x c.loop-place-test.true c.index-all-place.is) c.loop-place.invariant.1).1.1,
+      ap (λ (ds : List Register). ds ++ argument_registers l (drop (i + 1) rs) rest c.next-slot.result.number) (c.in_ok-push.ensures.ok ∙ ap (λ d. c.loop-place.registers.items ++ d ∷ []) kept)
+          ∙ ap (λ (s : Slot). (c.loop-place.registers.items ++ argument_register l (next_rate (drop i rs)) (argument_of x) m ∷ []) ++ argument_registers l (drop (i + 1) rs) rest s.number) next
+          ∙ registers_more l rs xs i x c.loop-place-test.true c.index-all-place.is c.loop-place.registers.items (argument_registers l rs (t_arguments (arguments_of xs)) c.args.site.slot.number) m c.loop-place.invariant.2,
+    )
+
+pub passed-operand-requires : goal.passed-operand-requires
+passed-operand-requires t c = (omega (arith, c.decreases), taken_at c.args.on.now c.args.rate (expr_of c.args.x.now) c.args.site.slot.number c.requires)
+
+pub arguments-argument-requires : goal.arguments-argument-requires
+arguments-argument-requires t c =
+    let xs = c.args.all.now in
+    let i = c.loop-place.place in
+    let x = c.index-all-place.result in
+    let within = argument_within xs i x c.loop-place-test.true c.index-all-place.is in
+    let asked = subst (Present c.args.on.now) (arguments_more c.loop-place.slot.number xs i x c.loop-place-test.true c.index-all-place.is) c.loop-place.invariant.1 in
+    (omega (arith, within, c.decreases), asked.1.0)
+
+pub call_to-arguments-requires : goal.call_to-arguments-requires
+call_to-arguments-requires t c =
+    let a = c.args in
+    let counts = call_counts a.x.now in
+    let same = ap (λ zs. arguments_nodes (t_arguments (arguments_of zs))) c.deref.ensures.value in
+    let asked = subst (λ zs. Present a.on.now (arguments_asks (t_arguments (arguments_of zs)) a.site.slot.number)) (sym c.deref.ensures.value) (arguments_there a.on.now a.x.now a.site.slot.number c.requires) in
+    (omega (arith, counts, same, c.decreases), asked)
+
+pub arguments-returns-clause-registers : goal.arguments-returns-clause-registers
+arguments-returns-clause-registers t c =
+    let l = layout c.args.on.now in
+    let rs = l.rates c.args.function in
+    c.new.ensures ∙ registers_end l rs c.args.all.now c.loop-place.place c.loop-place-test.false c.loop-place.registers.items _ c.loop-place.slot.number c.loop-place.invariant.2
+
+pub arguments-returns-clause-code : goal.arguments-returns-clause-code
+arguments-returns-clause-code t c =
+    let l = layout c.args.on.now in
+    c.loop-place.invariant.0 c.loop-place.b (code_end l (l.rates c.args.function) c.args.all.now c.loop-place.place c.loop-place-test.false c.loop-place.b c.args.site.mask.number c.loop-place.slot.number)
+
+pub call_to-returns : goal.call_to-returns
+call_to-returns t c =
+    let a = c.args in
+    let l = layout a.on.now in
+    let k = a.site.mask.number in
+    let n = a.site.slot.number in
+    let f = a.x.now.function in
+    let xs = t_arguments (arguments_of a.x.now.arguments.items) in
+    let m = c.in_ok-place.place.number in
+    let passed = c.in_ok-given.ensures.registers ∙ ap (λ zs. argument_registers l (l.rates f) (t_arguments (arguments_of zs)) n) c.deref.ensures.value in
+    let pushed = subst (λ z. Appends c.place.new.self c.push.new.self (λ pc p. z ∷ []) []) (call_boxed l a.to f m k n xs _ _ _ c.in_ok-boxed.ensures.ok c.mask.ensures passed) c.in_ok-push.ensures in
+    call_done l a.b.now c.arguments.new.b c.push.new.self a.to a.x.now k n
+    (subst (λ zs. Appends a.b.now c.arguments.new.b (λ pc p. arguments_code l (l.rates f) (t_arguments (arguments_of zs)) pc p k n) (arguments_places l (t_arguments (arguments_of zs)))) c.deref.ensures.value c.in_ok-given.ensures.code)
+    (called_behind c.arguments.new.b c.place.new.self c.push.new.self (λ p. calling l a.to f xs p k n) a.x.now.span m c.in_ok-place.ensures.number c.in_ok-place.ensures.added pushed)

@@ -1,7 +1,12 @@
 -- The recursion goes down the tree.
-use Rattle.std.proofs.Common.{◌+◌, ◌-◌, ◌*◌}
-use Rattle.isp_typed.specs.Nodes.{typed_nodes, place_nodes}
-use Rattle.isp_typed.specs.Views.{expr_of, place_of}
+use Rattle.std.proofs.Common.{◌≡◌, ◌+◌, ◌-◌, ◌*◌, ◌++◌, drop}
+use Rattle.isp_typed.specs.Nodes.{typed_nodes, place_nodes, call_nodes, argument_nodes, arguments_nodes}
+use Rattle.isp_typed.specs.Typed.{t_arguments}
+use Rattle.isp_typed.specs.Views.{argument_of, arguments_of, call_of, expr_of, place_of}
+use Rattle.isp_lower.specs.Asks.{arguments_asks}
+use Rattle.isp_lower.specs.Code.{argument_registers, arguments_code, arguments_places}
+use Rattle.isp_lower.specs.Emitted.{Appends, Present, layout}
+use Rattle.isp_lower.specs.declared.types.Body.{Body}
 use Rattle.isp_lower.proofs.expression.+expr.Given as goal
 
 abbrev pub decreases-write_to : goal.decreases-write_to
@@ -81,3 +86,23 @@ decreases-choose_one l = 8 * (typed_nodes (expr_of l.test.now) + typed_nodes (ex
 
 abbrev pub decreases-choose_short : goal.decreases-choose_short
 decreases-choose_short l = 8 * (typed_nodes (expr_of l.test.now) + typed_nodes (expr_of l.then.now) + typed_nodes (expr_of l.otherwise.now)) + 6
+
+abbrev pub decreases-call_to : goal.decreases-call_to
+decreases-call_to l = 8 * call_nodes (call_of l.x.now) - 1
+
+abbrev pub decreases-arguments : goal.decreases-arguments
+decreases-arguments l = 8 * arguments_nodes (t_arguments (arguments_of l.all.now)) + 6
+
+abbrev pub decreases-passed : goal.decreases-passed
+decreases-passed l = 8 * typed_nodes (expr_of l.x.now) + 4
+
+abbrev pub decreases-argument : goal.decreases-argument
+decreases-argument l = 8 * argument_nodes (argument_of l.x.now) + 5
+
+-- whatever comes behind the arguments that are left comes behind all of them; what they ask for is there; and their registers stand
+-- behind those of the arguments before
+abbrev pub invariant-arguments-loop-place : goal.invariant-arguments-loop-place
+invariant-arguments-loop-place l =
+    ((h : Body) → Appends l.b h (λ pc p. arguments_code (layout l.on) (drop l.place ((layout l.on).rates l.function)) (t_arguments (arguments_of (drop l.place l.all))) pc p l.site.mask.number l.slot.number) (arguments_places (layout l.on) (t_arguments (arguments_of (drop l.place l.all)))) → Appends l.initial.b h (λ pc p. arguments_code (layout l.on) ((layout l.on).rates l.function) (t_arguments (arguments_of l.all)) pc p l.site.mask.number l.site.slot.number) (arguments_places (layout l.on) (t_arguments (arguments_of l.all))))
+    × Present l.on (arguments_asks (t_arguments (arguments_of (drop l.place l.all))) l.slot.number)
+    × (l.registers.items ++ argument_registers (layout l.on) (drop l.place ((layout l.on).rates l.function)) (t_arguments (arguments_of (drop l.place l.all))) l.slot.number ≡ argument_registers (layout l.on) ((layout l.on).rates l.function) (t_arguments (arguments_of l.all)) l.site.slot.number)

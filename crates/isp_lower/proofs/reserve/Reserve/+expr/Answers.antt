@@ -1,6 +1,10 @@
-use Rattle.std.proofs.Common.{◌∙◌, ap}
-use Rattle.isp_lower.specs.Asks.{first_slot}
-use Rattle.isp_lower.proofs.Growing.{both_given, second_is}
+use Rattle.std.proofs.Common.{◌∙◌, ◌+◌, ap, sym, subst, arith, drop}
+use Rattle.isp_typed.specs.Typed.{t_arguments}
+use Rattle.isp_typed.specs.Views.{arguments_of}
+use Rattle.isp_lower.specs.Asks.{arguments_asks, call_asks, first_slot}
+use Rattle.isp_lower.specs.Reserved.{Gives}
+use Rattle.isp_lower.proofs.Arguments.{argument_within, arguments_end, arguments_more, call_view}
+use Rattle.isp_lower.proofs.Growing.{both_given, gives_none, second_is}
 use Rattle.isp_lower.proofs.reserve.Reserve.+expr.Goals as goal
 
 pub converted-returns : goal.converted-returns
@@ -38,3 +42,31 @@ read-returns t c = both_given _ _ _ _ _ c.in_ok-target.ensures c.in_ok-element.e
 
 pub index-returns : goal.index-returns
 index-returns t c = both_given _ _ _ _ _ (rw c.ty.ensures at c.in_ok-lift.ensures) c.in_ok-converted.ensures
+
+pub called-returns : goal.called-returns
+called-returns t c = both_given _ _ _ _ _ c.in_ok-spare.ensures c.in_ok-call.ensures
+
+pub call-returns : goal.call-returns
+call-returns t c =
+    let n = c.args.slot.number in
+    subst (λ z. Gives c.args.self.now c.arguments.new.self (call_asks z n)) (sym (call_view c.args.x.now))
+    (both_given _ _ _ _ _ c.in_ok-number.ensures (subst (λ z. Gives c.number.new.self c.arguments.new.self (arguments_asks (t_arguments (arguments_of z)) n)) c.deref.ensures.value c.in_ok-arguments.ensures))
+
+pub arguments-argument-requires : goal.arguments-argument-requires
+arguments-argument-requires t c =
+    let within = argument_within c.args.all.now c.loop-x.x-index c.x-item.result c.loop-x-test.true c.x-item.is in
+    omega (arith, within)
+
+pub arguments-loop-x-preserved : goal.arguments-loop-x-preserved
+arguments-loop-x-preserved t c =
+    let next = c.in_ok-next.ensures.number in
+    let rest = t_arguments (arguments_of (drop (c.loop-x.x-index + 1) c.args.all.now)) in
+    λ k g.
+    c.loop-x.invariant k
+    (subst (λ a. Gives c.loop-x.self k a) (sym (arguments_more c.loop-x.at.number c.args.all.now c.loop-x.x-index c.x-item.result c.loop-x-test.true c.x-item.is))
+    (both_given _ _ _ _ _ (rw next at c.in_ok-next.ensures.gives) (both_given _ _ _ _ _ c.in_ok-argument.ensures (subst (λ m. Gives c.argument.new.self k (arguments_asks rest m)) next g))))
+
+pub arguments-returns : goal.arguments-returns
+arguments-returns t c =
+    c.loop-x.invariant c.loop-x.self
+    (subst (λ a. Gives c.loop-x.self c.loop-x.self a) (sym (arguments_end c.loop-x.at.number c.args.all.now c.loop-x.x-index c.loop-x-test.false)) (gives_none c.loop-x.self))

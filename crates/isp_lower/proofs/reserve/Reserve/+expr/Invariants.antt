@@ -1,7 +1,11 @@
 -- The recursion goes down the tree: a conversion is a node too.
-use Rattle.std.proofs.Common.{◌+◌, ◌-◌, ◌*◌}
-use Rattle.isp_typed.specs.Nodes.{typed_nodes, place_nodes}
-use Rattle.isp_typed.specs.Views.{expr_of, place_of}
+use Rattle.std.proofs.Common.{◌+◌, ◌-◌, ◌*◌, drop}
+use Rattle.isp_typed.specs.Nodes.{typed_nodes, place_nodes, call_nodes, argument_nodes, arguments_nodes}
+use Rattle.isp_typed.specs.Typed.{t_arguments}
+use Rattle.isp_typed.specs.Views.{argument_of, arguments_of, call_of, expr_of, place_of}
+use Rattle.isp_lower.specs.Asks.{arguments_asks}
+use Rattle.isp_lower.specs.Reserved.{Gives}
+use Rattle.isp_lower.specs.declared.reserve.Reserve.{Reserve}
 use Rattle.isp_lower.proofs.reserve.Reserve.+expr.Given as goal
 
 abbrev pub decreases-expr : goal.decreases-expr
@@ -36,3 +40,20 @@ decreases-target l = 8 * place_nodes (place_of l.place.now) - 2
 
 abbrev pub decreases-index : goal.decreases-index
 decreases-index l = 8 * typed_nodes (expr_of l.index.now) + 2
+
+abbrev pub decreases-called : goal.decreases-called
+decreases-called l = 8 * call_nodes (call_of l.call.now) - 1
+
+abbrev pub decreases-call : goal.decreases-call
+decreases-call l = 8 * call_nodes (call_of l.x.now) - 2
+
+abbrev pub decreases-arguments : goal.decreases-arguments
+decreases-arguments l = 8 * arguments_nodes (t_arguments (arguments_of l.all.now)) + 5
+
+abbrev pub decreases-argument : goal.decreases-argument
+decreases-argument l = 8 * argument_nodes (argument_of l.x.now) + 4
+
+-- who is given what the arguments that are left ask for, is given what all ask for
+abbrev pub invariant-arguments-loop-x : goal.invariant-arguments-loop-x
+invariant-arguments-loop-x l =
+    (c : Reserve) → Gives l.self c (arguments_asks (t_arguments (arguments_of (drop l.x-index l.all))) l.at.number) → Gives l.initial.self c (arguments_asks (t_arguments (arguments_of l.all)) l.initial.at.number)
