@@ -1,3 +1,4 @@
 mod Dependent
 mod Independent
 mod Touched
+mod Rows

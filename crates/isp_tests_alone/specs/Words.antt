@@ -1,7 +1,7 @@
 -- Short words for what the gang leaves and what its instances leave one by one. The gang has four instances.
-use Rattle.std.specs.Prelude.{◌≡◌, ℕ, List, [], ◌∷◌, None}
+use Rattle.std.specs.Prelude.{◌≡◌, ℕ, zero, suc, Bool, List, [], ◌∷◌, None}
 use Rattle.isp_base.specs.Arguments.{rows, rows_now}
-use Rattle.isp_base.specs.Outcomes.{Ends}
+use Rattle.isp_base.specs.Outcomes.{Outcome, Ends, Traps, GoesOn}
 use Rattle.isp_base.specs.Rows.{Row}
 use Rattle.isp_base.specs.declared.signature.Argument.{Argument}
 use Rattle.isp_base.specs.declared.signature.Argument.TheVariants.{Array as AnArray}
@@ -9,8 +9,8 @@ use Rattle.isp_base.specs.declared.types.Elem.TheVariants.{I32}
 use Rattle.isp_base.specs.declared.types.Gang.TheVariants.{W4}
 use Rattle.isp_typed.specs.Typed.{TFunction, Program}
 use Rattle.isp_meaning.specs.Runs.{run_of}
-use Rattle.isp_alone.specs.Answers.{Answer}
-use Rattle.isp_alone.specs.Runs.{solo_run, bound}
+use Rattle.isp_alone.specs.Answers.{Answer, Has, Bad, Long, reached}
+use Rattle.isp_alone.specs.Runs.{solo_run, bound, after}
 use Rattle.isp_alone.specs.OneByOne.{one_by_one}
 
 abbrev pub gang_of_four : List TFunction → Program
@@ -51,3 +51,29 @@ Agree fs xs ys =
     × (together fs (array_of xs ∷ []) (0 ∷ 1 ∷ 2 ∷ 3 ∷ []) ≡ row_of ys ∷ [])
     × (together fs (array_of xs ∷ []) (3 ∷ 2 ∷ 1 ∷ 0 ∷ []) ≡ row_of ys ∷ [])
     × (together fs (array_of xs ∷ []) (2 ∷ 0 ∷ 3 ∷ 1 ∷ []) ≡ row_of ys ∷ [])
+
+-- ---- of any program and entry, with so many turns
+
+abbrev left_by : List Argument → Answer ℕ → List Row
+left_by xs r = rows_now (rows xs) (after r (bound xs))
+
+abbrev outcome_of : List Argument → Answer ℕ → Outcome
+outcome_of xs (Has x s) = Ends (left_by xs (Has x s)) None []
+outcome_of xs (Bad t s) = Traps t (left_by xs (Bad t s)) []
+outcome_of xs (Long s) = GoesOn []
+
+-- how instance p stands alone: it prints nothing, and its result is left out
+abbrev pub outcome_alone : Program → ℕ → ℕ → List Argument → ℕ → Outcome
+outcome_alone program f most xs p = outcome_of xs (solo_run program f most xs (bound xs) p)
+
+-- which of the first n elements of array b it reads
+abbrev flags : ℕ → (ℕ → Bool) → List Bool
+flags zero f = []
+flags (suc n) f = f 0 ∷ flags n (λ e. f (suc e))
+
+abbrev pub read_flags : Program → ℕ → ℕ → List Argument → (p b n : ℕ) → List Bool
+read_flags program f most xs p b n = flags n ((reached (solo_run program f most xs (bound xs) p)).read b)
+
+-- the arrays behind these instances, one by one
+abbrev pub arrays_behind : Program → ℕ → ℕ → List Argument → List ℕ → List Row
+arrays_behind program f most xs ps = rows_now (rows xs) (one_by_one program f most xs ps (bound xs))
