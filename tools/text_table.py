@@ -1,5 +1,5 @@
 #!/usr/bin/env python3
-"""Writes crates/isp_tests_asm/src/faults/table.rt: texts that are those of no code, and some that are, with the rule and the line of each.
+"""Writes crates/isp_texts/data/faults.rows: texts that are those of no code, and some that are, with the fault of each.
 
 A reader of its own, written from docs/MACHINE.md (Code text), judges each text. Nothing is taken from the crates. Run it at the top of
 the repository:
@@ -146,6 +146,43 @@ F = H + "func f export void\n"
 M = F + "m 1\n"
 END = "end\n"
 
+WHOLE = """isp 1 gang 4
+place 0 4
+place 10 1048576
+text 0a7eff
+func f export void
+par a i32 a
+par s i32 n
+loc u u8 2
+s i64
+v i32 i64
+m 2
+const s1 -7
+index v0 m0
+conv v1 v0 m0
+scatter a0 v1 v0 m0 p0
+call f1 s0 m1 p1 a0 s1
+joff m1 L0
+ret -
+end
+func g inner s i32
+m 1
+say t0
+jmp L0
+end
+"""
+SCATTER = H + """place 0 4
+func f export void
+par a i32 a
+v i32 i64
+m 1
+index v0 m0
+conv v1 v0 m0
+scatter a0 v1 v0 m0 p0
+ret -
+end
+"""
+
 # Before a line of each kind, and behind it, what makes a text of it.
 FRAMES = {
     "isp": ("", ""), "place": (H, ""), "text": (H, ""), "func": (H, "m 1\nend\n"), "par": (F, "m 1\nend\n"), "loc": (F, "m 1\nend\n"),
@@ -226,9 +263,18 @@ def rows():
     jumps = "jmp 0|jmp L|jmp Lx|jmp l0|jmp x01|jmp L4294967296|jmp L4294967295|jmp L01|jmp L04294967296|jz s01 x|jz x L01|jz x x|jz m0 L0"
     others = "say s01|fail m0 s01|call g0 - m0 p0|call f00 - m0 p0|call f0 x m0 p0|ret -0|ret m0|copy m0 a1|copy s0 s1 m0|copy p0 s01|copy s01 p0|div s0 s0 s0 m0"
     yield from (M + line + "\n" + END for line in (jumps + "|" + others).split("|"))
+    # a text with each kind of line, stopped behind each byte; a shorter one with other bytes in each place
+    yield from (WHOLE[:n] for n in range(len(WHOLE) + 1))
+    yield from (SCATTER[:n] + c + SCATTER[n + 1 :] for n in range(len(SCATTER)) for c in "\n 09-azL")
+    # bytes that no word has
+    yield from (H + f"place 0{c}4\n" for c in "\t\x00\x7fé\u00a0")
+    yield from (H + f"text 78{c}\n" for c in "\t\x01\x7fé")
     # in two lines, and behind them
     yield from (M + "jmp x\ncopy s0\n" + END, M + "copy s0\njmp x\n" + END, M + "ret -", M + "ret -\n", H + "place 0 4\nplace  0", H + "plays 0 4\n", H + "zzz \n")
     yield from (M + END + "text 78\n", M + END + "func g export void\n", M + END + "func g export void\nm 1\n" + END, M + "\n" + END, "\n", H + "\n")
+
+
+NAMES = {60: "BadLine", 61: "BadOperand", 62: "BadLabel", 63: "NotCanonical"}
 
 
 def main():
@@ -237,12 +283,12 @@ def main():
         if text not in seen:
             seen.add(text)
             found = fault(text)
-            out.append(text.replace("\n", "/") + "|" + ("0 0" if found is None else "%d %d" % found))
-    assert not any(c in "\\\"" for row in out for c in row)
-    with open("crates/isp_tests_asm/src/faults/table.rt", "w") as file:
-        file.write("//! Texts with the rule and the line of their fault, or `0 0`: `/` stands for a line feed. Written by tools/text_table.py.\n\n")
-        file.write('pub(super) const ROWS: &str = "' + "\n".join(out) + '";\n')
-    print(len(out), "rows,", sum(row.endswith("|0 0") for row in out), "without a fault")
+            out.append(text.replace("\n", "␤") + "|" + (f"{found[0]} {NAMES[found[0]]} at line {found[1]}" if found else "read"))
+    with open("crates/isp_texts/data/faults.rows", "w") as file:
+        file.write("\n".join(out) + "\n")
+    with open("crates/isp_texts/stdout", "w") as file:
+        file.write(f"faults.rows: {len(out)} texts\n")
+    print(len(out), "texts,", sum(row.endswith("|read") for row in out), "without a fault")
 
 
 main()

@@ -1,9 +1,5 @@
-//! Worked examples of code text, against texts that were written by hand from docs/MACHINE.md, and broken texts.
+//! Worked examples of code text, against texts that were written by hand from docs/MACHINE.md.
 #![tactic(auto)]
 
-#[cfg(test)]
-mod broken;
-#[cfg(test)]
-mod faults;
 #[cfg(test)]
 mod texts;

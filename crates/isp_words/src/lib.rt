@@ -1,0 +1,6 @@
+//! The command words, and what they ask for.
+#![tactic(auto)]
+
+mod words;
+
+pub use words::{AsmRequest, ExecRequest, Request, RunRequest, read_words};

@@ -1,0 +1,155 @@
+//! The command words, and what they ask for.
+use clap::error::ErrorKind;
+use clap::{Arg, ArgAction, ArgMatches, Command, Error, value_parser};
+use isp_base::Gang;
+use std::alloc::{AllocError, Global};
+
+/// A source is compiled for a gang, and an entry run with arguments, for so many instructions at most.
+#[derive(Clone, Copy, Debug)]
+pub struct RunRequest<'a> {
+    pub gang: Gang,
+    pub budget: u64,
+    pub source: &'a str,
+    pub entry: &'a str,
+    pub arguments: &'a str,
+}
+
+/// A source is compiled for a gang, and its code written.
+#[derive(Clone, Copy, Debug)]
+pub struct AsmRequest<'a> {
+    pub gang: Gang,
+    pub source: &'a str,
+}
+
+/// Code is read, and an entry run with arguments, for so many instructions at most.
+#[derive(Clone, Copy, Debug)]
+pub struct ExecRequest<'a> {
+    pub budget: u64,
+    pub code: &'a str,
+    pub entry: &'a str,
+    pub arguments: &'a str,
+}
+
+/// What command words ask for. Sources, code and arguments are names of files.
+#[derive(Clone, Copy, Debug)]
+pub enum Request<'a> {
+    Run(RunRequest<'a>),
+    Asm(AsmRequest<'a>),
+    Exec(ExecRequest<'a>),
+}
+
+/// What the words ask for, or the text that the user is to see.
+pub fn read_words<'a>(alloc: Global, words: &'a [String]) -> Result<Request<'a>, Error> {
+    let matches = isp(alloc)?.try_get_matches_from(words)?;
+    let chosen = match matches.subcommand() {
+        Some((name, inner)) => chosen(name, inner),
+        None => None,
+    };
+    match chosen {
+        Some(request) => Ok(request),
+        None => Err(misfit(alloc)?),
+    }
+}
+
+// Each subcommand has a request, so this text is never shown.
+fn misfit(alloc: Global) -> Result<Error, Error> {
+    let mut command = isp(alloc)?;
+    Ok(command.error(ErrorKind::InvalidSubcommand, "no such command")?)
+}
+
+fn chosen<'a>(name: &str, inner: &ArgMatches<'a>) -> Option<Request<'a>> {
+    match name {
+        "run" => Some(Request::Run(RunRequest {
+            gang: gang_of(inner)?,
+            budget: inner.get_one::<u64>("budget")?,
+            source: inner.get_str("SOURCE")?,
+            entry: inner.get_str("ENTRY")?,
+            arguments: inner.get_str("ARGUMENTS")?,
+        })),
+        "asm" => Some(Request::Asm(AsmRequest {
+            gang: gang_of(inner)?,
+            source: inner.get_str("SOURCE")?,
+        })),
+        "exec" => Some(Request::Exec(ExecRequest {
+            budget: inner.get_one::<u64>("budget")?,
+            code: inner.get_str("CODE")?,
+            entry: inner.get_str("ENTRY")?,
+            arguments: inner.get_str("ARGUMENTS")?,
+        })),
+        _ => None,
+    }
+}
+
+fn gang_of(inner: &ArgMatches<'_>) -> Option<Gang> {
+    match inner.get_str("gang")? {
+        "4" => Some(Gang::W4),
+        "8" => Some(Gang::W8),
+        "16" => Some(Gang::W16),
+        _ => None,
+    }
+}
+
+fn isp<'a>(alloc: Global) -> Result<Command<'a>, Error> {
+    let named = Command::new(alloc, "isp")
+        .bin_name("isp")?
+        .about("Compiles gang programs, and runs them")
+        .subcommand_required(true);
+    let compiling = named.subcommand(run(alloc)?)?.subcommand(asm(alloc)?)?;
+    Ok(compiling.subcommand(exec(alloc)?)?)
+}
+
+fn run<'a>(alloc: Global) -> Result<Command<'a>, AllocError> {
+    let options = Command::new(alloc, "run")
+        .about("Compiles SOURCE, and runs ENTRY with ARGUMENTS")
+        .arg(gang(alloc))?
+        .arg(budget(alloc))?;
+    with_files(alloc, options, "SOURCE")
+}
+
+fn asm<'a>(alloc: Global) -> Result<Command<'a>, AllocError> {
+    Command::new(alloc, "asm")
+        .about("Compiles SOURCE, and writes its code")
+        .arg(gang(alloc))?
+        .arg(file(alloc, "SOURCE"))
+}
+
+fn exec<'a>(alloc: Global) -> Result<Command<'a>, AllocError> {
+    let options = Command::new(alloc, "exec")
+        .about("Reads CODE, and runs ENTRY with ARGUMENTS")
+        .arg(budget(alloc))?;
+    with_files(alloc, options, "CODE")
+}
+
+// The three names that follow the options.
+fn with_files<'a>(
+    alloc: Global,
+    options: Command<'a>,
+    first: &'a str,
+) -> Result<Command<'a>, AllocError> {
+    options
+        .arg(file(alloc, first))?
+        .arg(file(alloc, "ENTRY"))?
+        .arg(file(alloc, "ARGUMENTS"))
+}
+
+fn file<'a>(alloc: Global, name: &'a str) -> Arg<'a> {
+    Arg::new(alloc, name).required(true).action(ArgAction::Set)
+}
+
+fn gang<'a>(alloc: Global) -> Arg<'a> {
+    Arg::new(alloc, "gang")
+        .long("gang")
+        .value_name("G")
+        .help("Instances that run together")
+        .value_parser(["4", "8", "16"].as_slice())
+        .default_value("4")
+}
+
+fn budget<'a>(alloc: Global) -> Arg<'a> {
+    Arg::new(alloc, "budget")
+        .long("budget")
+        .value_name("B")
+        .help("Instructions that may run")
+        .value_parser(value_parser!(u64))
+        .default_value("100000000")
+}
