@@ -3,25 +3,27 @@
 -- ---- steps of the machine, and how they are put together
 
 pub use Rattle.isp_lower.proofs.Base.{are_front, are_back, put_same, put_other, comes_none, comes_on, step_by, step_is, step_go, at_to, spares_all, spares_less, spares_on}
-pub use Rattle.isp_lower.proofs.Combine.{failed_after, stopped_after, failed_less, stopped_less, set_comes, set_goes, set_masks}
+pub use Rattle.isp_lower.proofs.Combine.{bind_runs, runs_after, failed_after, stopped_after, failed_less, stopped_less, set_comes, set_goes, set_masks, set_spares, set_stands}
 pub use Rattle.isp_lower.proofs.Jumps.{jumped, jump_comes, jump_at, masked, masked_at, where_comes, others_comes}
 pub use Rattle.isp_lower.proofs.Lines.{set_at, copy_line, place_named}
 pub use Rattle.isp_lower.proofs.Logic.{any_nobody, where_inside}
 pub use Rattle.isp_lower.proofs.Rates.{at_kept}
+pub use Rattle.isp_lower.proofs.Writes.{written_stands}
+pub use Rattle.isp_lower.proofs.Done.{variable_spares}
 -- ---- what code of values, assignments and declarations does, and what it asks of the trees
 
 pub use Rattle.isp_lower.proofs.Exprs.{expr_runs}
 pub use Rattle.isp_lower.proofs.Nodes.{enters_less, enters_part, operand_runs}
 pub use Rattle.isp_lower.proofs.Updates.{simple_runs}
 pub use Rattle.isp_lower.proofs.Items.{items_run}
-pub use Rattle.isp_lower.proofs.Found.{few}
+pub use Rattle.isp_lower.proofs.Found.{few, found_typed}
 pub use Rattle.isp_lower.proofs.Parts.{OperandFits, ExprParts, SimpleParts, ItemsParts}
 pub use Rattle.isp_lower.proofs.Fitting.{expr_fits, operand_fits, simple_fits, items_fit}
 -- ---- its instructions have their operands
 
 pub use Rattle.isp_lower.proofs.Trees.{OperandTree, ExprTree, SimpleTree, ItemsTree}
 pub use Rattle.isp_lower.proofs.Rated.{expr_tree, operand_tree, simple_tree, items_tree}
-pub use Rattle.isp_lower.proofs.SoundLines.{sound_both, copy_sound}
+pub use Rattle.isp_lower.proofs.SoundLines.{sound_both, compare_sound, constant_sound, convert_sound, copy_sound, splat_sound}
 pub use Rattle.isp_lower.proofs.SoundParts.{here_then}
 pub use Rattle.isp_lower.proofs.SoundFound.{found_there, operand_there}
 pub use Rattle.isp_lower.proofs.SoundExprs.{value_sound, part_sound}

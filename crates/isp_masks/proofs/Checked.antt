@@ -23,7 +23,7 @@ use Rattle.isp_rates.specs.Covered.{expr_left, place_left, call_left, arguments_
 use Rattle.isp_rates.specs.Rates as rates
 use Rattle.isp_rates.specs.Rates.{goes_to, variables_of, DemandBreach, ExprBreach, PlaceBreach, CallBreach, ArgumentsBreach, ArgumentBreach}
 use Rattle.isp_lower.specs.Callees.{rate_held, rates_held, rates_in}
-use Rattle.isp_rates.specs.Exits.{at_start, in_loop, ItemBreach, SimpleBreach, FirstBreach, StmtBreach, BlockBreach, StmtsBreach}
+use Rattle.isp_rates.specs.Exits.{at_start, in_loop, in_foreach_active, in_unmasked, ItemBreach, SimpleBreach, FirstBreach, StmtBreach, BlockBreach, StmtsBreach}
 use Rattle.isp_rates.specs.Program.{ParametersBreach, ResultBreach, FunctionBreach, IsAccepted}
 use Rattle.isp_lower.specs.Rated.{Reaches, IsRated, PlaceRated, CallRated, ArgumentsRated, ArgumentRated, RatedAt, SimpleRated, ItemsRated}
 use Rattle.isp_masks.specs.Compiled.{AreOne, IsOne}
@@ -185,8 +185,8 @@ module _ (fs : List TFunction) where
           let more = next_none (given_left e) (option_or (step_left step) (stmt_left x)) rest in
           (first_rated first (λ g b. clean g (inl b)) (first_none (first_left first) (option_or (given_left e) (option_or (step_left step) (stmt_left x))) c), test_rated e (λ g b. clean g (inr (inl b))) (first_none (given_left e) (option_or (step_left step) (stmt_left x)) rest), step_rated step (λ g b. clean g (inr (inr (inl b)))) (first_none (step_left step) (stmt_left x) more), stmt_rated (in_loop w) x (λ g b. clean g (inr (inr (inr b)))) (next_none (step_left step) (stmt_left x) more))
       stmt_rated w (t_foreach k n rs x sp) clean c = absurd (some_left c)
-      stmt_rated w (t_foreach_active k n i x sp) clean c = absurd (some_left c)
-      stmt_rated w (t_unmasked k b sp) clean c = absurd (some_left c)
+      stmt_rated w (t_foreach_active k n i x sp) clean c = stmt_rated (in_foreach_active w) x clean c
+      stmt_rated w (t_unmasked k b sp) clean c = block_rated (in_unmasked w) b clean c
       stmt_rated w (t_jump j k sp) clean c = tt
       stmt_rated w (t_return k None sp) clean c = tt
       stmt_rated w (t_return k (Some x) sp) clean c = returned_rated answer w k x sp clean c

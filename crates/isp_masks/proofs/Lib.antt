@@ -7,6 +7,14 @@ mod Choices
 mod Leaves
 mod Sequences
 mod LoopStmts
+mod Unmasked
+mod Active
+mod Counting
+mod Sweeps
+mod Numbered
+mod RangeRuns
+mod Bounds
+mod Foreach
 mod Stmts
 mod Turns
 mod Loops
@@ -26,6 +34,7 @@ mod Calls
 mod Agree
 mod Programs
 mod SoundLoops
+mod SoundRanges
 mod Sound
 mod Accepted
 mod Made

@@ -36,7 +36,7 @@ use Rattle.isp_masks.proofs.Sequences.{set_aside}
 use Rattle.isp_masks.proofs.Parts.{FirstFits, StepFits, StmtParts}
 
 -- the masks of a loop, for its body
-masks_of : (n : ℕ) → AreThree (body_spot n)
+pub masks_of : (n : ℕ) → AreThree (body_spot n)
 masks_of n = record {
   low_on = omega arith;
   low_continued = omega arith;
@@ -60,7 +60,7 @@ module _ (w : Setting) (ready : IsSettled w) where
       let fe : heads e ≤ 1 = few w e (n + 3) fit in
       expr_runs w ready e pc p n (n + 3) z (4 + z) T s c fit has places (omega arith) b
 
-  body_runs : (x : TStmt) (n : ℕ) (z : Numbers) → CodeRuns x → StmtParts w x (n + 3) → Named w z x → BodyRuns w n (λ pc. stmt_code w.layout w.frame.answer x pc z (body_spot n)) (run (gang_of w) w.frame (calls_of w) w.turns x)
+  pub body_runs : (x : TStmt) (n : ℕ) (z : Numbers) → CodeRuns x → StmtParts w x (n + 3) → Named w z x → BodyRuns w n (λ pc. stmt_code w.layout w.frame.answer x pc z (body_spot n)) (run (gang_of w) w.frame (calls_of w) w.turns x)
   body_runs x n z f fit names T s c pc q has b =
       stmt_less w ready w.turns c _ _ (body_spot n) (aside (all_go_on x)) q _ refl (f pc z (body_spot n) q T s c fit has names (masks_of n) b)
 

@@ -39,9 +39,9 @@ mutual
   no_texts (t_while f g e x sp) = no_texts x
   no_texts (t_do f g x e sp) = no_texts x
   no_texts (t_for f g first e step i x sp) = no_texts x
-  no_texts (t_foreach w g rs x sp) = refl
-  no_texts (t_foreach_active w g i x sp) = refl
-  no_texts (t_unmasked w b sp) = refl
+  no_texts (t_foreach w g rs x sp) = no_texts x
+  no_texts (t_foreach_active w g i x sp) = no_texts x
+  no_texts (t_unmasked w b sp) = no_block_texts b
   no_texts (t_jump j w sp) = refl
   no_texts (t_return w x sp) = refl
   no_texts (t_print w text xs sp) = refl

@@ -1,13 +1,14 @@
 -- What a body asks for is the function's own, where names and types accept it.
-use Rattle.std.proofs.Common.{◌≡◌, ℕ, zero, suc, ◌+◌, ◌≤◌, arith, List, [], ◌∷◌, length, take, drop, Option, Some, None, refl, ap, subst}
+use Rattle.std.proofs.Common.{◌≡◌, ℕ, zero, suc, ◌+◌, ◌≤◌, arith, List, [], ◌∷◌, length, take, drop, Option, Some, None, refl, ap, subst, true}
+use Rattle.std.specs.Prelude.{slice_get}
 use Rattle.std.specs.List.{All}
-use Rattle.isp_base.specs.declared.types.Elem.TheVariants.{Bool as Truth}
+use Rattle.isp_base.specs.declared.types.Elem.TheVariants.{Bool as Truth, I32, I64}
 use Rattle.isp_base.specs.declared.types.Rate.{Rate}
 use Rattle.isp_base.specs.declared.types.Rate.TheVariants.{Uniform, Varying}
 use Rattle.isp_base.specs.declared.types.Ty.{Ty}
 use Rattle.isp_tree.specs.Sound.{IfAny}
-use Rattle.isp_typed.specs.Fine.{IsParam, AreParams, IsDeclared, FineFunction, FineValue, FineSimple, FineFirst, FineItem, FineReturned, FineStmt, FineBlock, FineStmts}
-use Rattle.isp_typed.specs.Typed.{TExpr, type_of, TItem, TSimple, TFirst, t_first_declare, t_first_simple, TStmt, t_block, t_declare, t_simple, t_if, t_if_else, t_while, t_do, t_for, t_foreach, t_foreach_active, t_unmasked, t_jump, t_return, t_print, t_assert, TBlock, t_braces, TStmts, t_no_stmts, t_stmt_then, TFunction}
+use Rattle.isp_typed.specs.Fine.{HoldsValue, active_index, foreach_index, FineRange, IsParam, AreParams, IsDeclared, FineFunction, FineValue, FineSimple, FineFirst, FineItem, FineReturned, FineStmt, FineBlock, FineStmts}
+use Rattle.isp_typed.specs.Typed.{TExpr, ty_of, type_of, TItem, TSimple, TFirst, t_first_declare, t_first_simple, TRange, TStmt, t_block, t_declare, t_simple, t_if, t_if_else, t_while, t_do, t_for, t_foreach, t_foreach_active, t_unmasked, t_jump, t_return, t_print, t_assert, TBlock, t_braces, TStmts, t_no_stmts, t_stmt_then, TFunction}
 use Rattle.isp_base.specs.declared.signature.Parameter.{Parameter}
 use Rattle.isp_typed.specs.declared.variable.Holds.{Holds}
 use Rattle.isp_typed.specs.declared.variable.Holds.TheVariants as holds
@@ -17,8 +18,9 @@ use Rattle.isp_lower.specs.Asks.{first_slot, items_asks}
 use Rattle.isp_lower.specs.Reserved.{IsOwn, IsReserved}
 use Rattle.isp_lower.specs.declared.reserve.Reserve.{Reserve}
 use Rattle.isp_lower.proofs.Lemmas.{expr_own, operand_own, simple_own, item_own}
-use Rattle.isp_masks.specs.Asks.{answer_asks, part_asks, loop_asks, first_asks, test_part_asks, step_asks, stmt_asks, block_asks, stmts_asks, result_asks}
+use Rattle.isp_masks.specs.Asks.{answer_asks, bound_asks, bounds_asks, places_asks, ranges_asks, part_asks, loop_asks, first_asks, test_part_asks, step_asks, stmt_asks, block_asks, stmts_asks, result_asks}
 use Rattle.isp_masks.specs.Lowered.{BodyIsOwn}
+use Rattle.isp_masks.specs.Ranges.{places_slot, runs_slot}
 
 returned_own : (fs : List TFunction) (vars : List Variable) (answer : Option Ty) (x : TExpr) (n : ℕ) → FineReturned fs vars answer (Some x) → IsOwn vars answer (answer_asks answer x n)
 returned_own fs vars None x n f = absurd f
@@ -33,8 +35,32 @@ module _ (fs : List TFunction) (vars : List Variable) (answer : Option Ty) where
   part_own Uniform n = tt
   part_own Varying n = (tt, tt)
 
+  active_own : (i : ℕ) → slice_get vars i ≡ Some active_index → HoldsValue vars i (ty_of Uniform I64)
+  active_own i e = record { constant = true; is = e }
+
   loop_own : (n : ℕ) → IsOwn vars answer (loop_asks n)
   loop_own n = (tt, (tt, (tt, tt)))
+
+  bound_own : (x : TExpr) (n : ℕ) → FineValue fs vars I32 x → IsOwn vars answer (bound_asks x n)
+  bound_own x n f = (tt, expr_own vars answer fs x n f.0)
+
+  bounds_own : (rs : List TRange) (n : ℕ) → All (FineRange fs vars) rs → IsOwn vars answer (bounds_asks rs n)
+  bounds_own [] n f = tt
+  bounds_own (r ∷ rs) n f =
+      let g = f 0 r (omega arith) in
+      (bound_own r.start n g.start, (tt, (bound_own r.end (n + 1) g.end, (tt, bounds_own rs (n + 1 + 1) (λ k d lt. f (suc k) d (omega (arith, lt)))))))
+
+  index_own : (i : ℕ) → slice_get vars i ≡ Some foreach_index → HoldsValue vars i (ty_of Varying I32)
+  index_own i e = record { constant = true; is = e }
+
+  places_own : (rs : List TRange) (m : ℕ) → All (FineRange fs vars) rs → IsOwn vars answer (places_asks rs m)
+  places_own [] m f = tt
+  places_own (r ∷ rs) m f =
+      let g = f 0 r (omega arith) in
+      ((index_own r.index g.index, (tt, (tt, (tt, (tt, tt))))), (tt, places_own rs (m + 1 + 1) (λ k d lt. f (suc k) d (omega (arith, lt)))))
+
+  ranges_own : (rs : List TRange) (n : ℕ) → All (FineRange fs vars) rs → IsOwn vars answer (ranges_asks rs n)
+  ranges_own rs n f = ((tt, (tt, (tt, (tt, (tt, tt))))), (bounds_own rs (n + 1 + 1) f, (places_own rs (places_slot n rs) f, loop_own (runs_slot n rs))))
 
   first_own : (o : Option TFirst) (n : ℕ) → IfAny (FineFirst fs vars) o → IsOwn vars answer (first_asks o n)
   first_own None n f = tt
@@ -62,9 +88,9 @@ module _ (fs : List TFunction) (vars : List Variable) (answer : Option Ty) where
     stmt_own (t_do k g x e sp) n f = (loop_own n, (stmt_own x (n + 3) f.1, expr_own vars answer fs e (n + 3) f.2.0))
     stmt_own (t_for k g first e step i x sp) n f =
         (first_own first n f.2, (loop_own n, (test_own e (n + 3) f.3, (step_own step (n + 3) f.4, stmt_own x (n + 3) f.5))))
-    stmt_own (t_foreach k g rs x sp) n f = tt
-    stmt_own (t_foreach_active k g i x sp) n f = tt
-    stmt_own (t_unmasked k b sp) n f = tt
+    stmt_own (t_foreach k g rs x sp) n f = (ranges_own rs n f.1, stmt_own x (runs_slot n rs + 3) f.2)
+    stmt_own (t_foreach_active k g i x sp) n f = ((active_own i f.1, (tt, (tt, loop_own (n + 1)))), stmt_own x (n + 1 + 3) f.2)
+    stmt_own (t_unmasked k b sp) n f = (loop_own n, block_own b (n + 3) f)
     stmt_own (t_jump j k sp) n f = tt
     stmt_own (t_return k None sp) n f = tt
     stmt_own (t_return k (Some x) sp) n f = returned_own fs vars answer x n f

@@ -1,10 +1,14 @@
 -- What the laws use of a statement that fits, part by part.
-use Rattle.std.proofs.Common.{ℕ, ◌+◌, Option, Some, None}
+use Rattle.std.proofs.Common.{◌≡◌, ◌≤◌, ℕ, ◌+◌, List, [], ◌∷◌, length, Option, Some, None}
+use Rattle.isp_base.specs.declared.types.Elem.TheVariants.{I32, I64}
+use Rattle.isp_base.specs.declared.types.Rate.TheVariants.{Uniform, Varying}
 use Rattle.isp_base.specs.declared.types.Ty.{Ty}
-use Rattle.isp_typed.specs.Typed.{TExpr, type_of, TSimple, TFirst, t_first_declare, t_first_simple, TStmt, t_block, t_declare, t_simple, t_if, t_if_else, t_while, t_do, t_for, t_foreach, t_foreach_active, t_unmasked, t_jump, t_return, t_print, t_assert, TBlock, t_braces, TStmts, t_no_stmts, t_stmt_then}
+use Rattle.isp_typed.specs.Typed.{TExpr, type_of, TSimple, TFirst, t_first_declare, t_first_simple, TRange, TStmt, t_block, t_declare, t_simple, t_if, t_if_else, t_while, t_do, t_for, t_foreach, t_foreach_active, t_unmasked, t_jump, t_return, t_print, t_assert, TBlock, t_braces, TStmts, t_no_stmts, t_stmt_then}
 use Rattle.isp_lower.specs.Asks.{first_slot}
 use Rattle.isp_lower.specs.Setting.{Setting}
+use Rattle.isp_lower.specs.Tables.{IsTyped}
 use Rattle.isp_lower.proofs.Lemmas.{OperandFits, ExprParts, SimpleParts, ItemsParts}
+use Rattle.isp_masks.specs.Ranges.{wide, narrow, lane, places_slot, runs_slot}
 
 module _ (w : Setting) where
   -- what is returned is one of what the function gives
@@ -26,6 +30,37 @@ module _ (w : Setting) where
   StepFits None n = Unit {0}
   StepFits (Some x) n = SimpleParts w x n
 
+  -- ---- `foreach`: its bounds are int32s of the gang, and its registers have their types
+
+  abbrev pub BoundParts : TExpr → ℕ → Type 0
+  BoundParts x n = ((type_of x).rate ≡ Uniform) × ((type_of x).elem ≡ I32) × IsTyped w Uniform (wide w.layout n) I64 × ExprParts w x n
+
+  abbrev pub BoundsParts : List TRange → ℕ → Type 0
+  BoundsParts [] n = Unit {0}
+  BoundsParts (r ∷ rs) n = BoundParts r.start n × BoundParts r.end (n + 1) × BoundsParts rs (n + 1 + 1)
+
+  pub record MeasuresTyped (n : ℕ) : Type 0 where
+    pub first : IsTyped w Uniform (narrow w.layout n) I32
+    pub numbers : IsTyped w Varying (lane w.layout n) I32
+    pub lanes : IsTyped w Uniform (wide w.layout n) I64
+    pub one : IsTyped w Uniform (wide w.layout (n + 1)) I64
+
+  pub record RangeTyped (m i : ℕ) : Type 0 where
+    pub place : IsTyped w Uniform (wide w.layout m) I64
+    pub short : IsTyped w Uniform (narrow w.layout (m + 1)) I32
+    pub index : IsTyped w Varying (w.layout.variable Varying i) I32
+
+  abbrev pub RangesTyped : List TRange → ℕ → Type 0
+  RangesTyped [] m = Unit {0}
+  RangesTyped (r ∷ rs) m = RangeTyped m r.index × RangesTyped rs (m + 1 + 1)
+
+  -- there are three ranges at most
+  pub record ForeachFits (rs : List TRange) (n : ℕ) : Type 0 where
+    pub few : length rs ≤ 3
+    pub measures : MeasuresTyped n
+    pub bounds : BoundsParts rs (n + 1 + 1)
+    pub places : RangesTyped rs (places_slot n rs)
+
   abbrev mutual
     pub StmtParts : TStmt → ℕ → Type 0
     StmtParts (t_block b) n = BlockParts b n
@@ -36,9 +71,9 @@ module _ (w : Setting) where
     StmtParts (t_while f g e x sp) n = ExprParts w e (n + 3) × StmtParts x (n + 3)
     StmtParts (t_do f g x e sp) n = ExprParts w e (n + 3) × StmtParts x (n + 3)
     StmtParts (t_for f g first e step i x sp) n = FirstFits first n × TestFits e (n + 3) × StepFits step (n + 3) × StmtParts x (n + 3)
-    StmtParts (t_foreach k g rs x sp) n = ⊥
-    StmtParts (t_foreach_active k g i x sp) n = ⊥
-    StmtParts (t_unmasked k b sp) n = ⊥
+    StmtParts (t_foreach k g rs x sp) n = ForeachFits rs n × StmtParts x (runs_slot n rs + 3)
+    StmtParts (t_foreach_active k g i x sp) n = StmtParts x (n + 1 + 3)
+    StmtParts (t_unmasked k b sp) n = BlockParts b (n + 3)
     StmtParts (t_jump j k sp) n = Unit {0}
     StmtParts (t_return k None sp) n = Unit {0}
     StmtParts (t_return k (Some x) sp) n = AnswerFits w.frame.answer x n

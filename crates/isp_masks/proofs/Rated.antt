@@ -1,16 +1,24 @@
 -- What names, types and rates promise of a body is what the laws use of it.
-use Rattle.std.proofs.Common.{List, Option, Some, None}
-use Rattle.isp_base.specs.declared.types.Elem.TheVariants.{Bool as Truth}
+use Rattle.std.proofs.Common.{suc, arith, List, [], ◌∷◌, Option, Some, None}
+use Rattle.std.specs.List.{All}
+use Rattle.isp_base.specs.declared.types.Elem.TheVariants.{Bool as Truth, I32}
+use Rattle.isp_base.specs.declared.types.Rate.TheVariants.{Uniform}
 use Rattle.isp_base.specs.declared.types.Ty.{Ty}
 use Rattle.isp_tree.specs.Sound.{IfAny}
-use Rattle.isp_typed.specs.Fine.{FineValue, FineSimple, FineFirst, FineReturned, FineStmt, FineBlock, FineStmts}
-use Rattle.isp_typed.specs.Typed.{TFunction, TExpr, TSimple, TFirst, t_first_declare, t_first_simple, TStmt, t_block, t_declare, t_simple, t_if, t_if_else, t_while, t_do, t_for, t_foreach, t_foreach_active, t_unmasked, t_jump, t_return, t_print, t_assert, TBlock, t_braces, TStmts, t_no_stmts, t_stmt_then}
+use Rattle.isp_typed.specs.Fine.{FineValue, FineSimple, FineFirst, FineRange, FineReturned, FineStmt, FineBlock, FineStmts}
+use Rattle.isp_typed.specs.Typed.{TFunction, TExpr, TSimple, TFirst, t_first_declare, t_first_simple, TRange, TStmt, t_block, t_declare, t_simple, t_if, t_if_else, t_while, t_do, t_for, t_foreach, t_foreach_active, t_unmasked, t_jump, t_return, t_print, t_assert, TBlock, t_braces, TStmts, t_no_stmts, t_stmt_then}
 use Rattle.isp_typed.specs.declared.variable.Variable.{Variable}
 use Rattle.isp_lower.proofs.Lemmas.{expr_tree, operand_tree, simple_tree, items_tree}
-use Rattle.isp_masks.specs.Rated.{AnswerRated, FirstRated, TestRated, StepRated, StmtRated, BlockRated, StmtsRated}
-use Rattle.isp_masks.proofs.Trees.{AnswerTree, FirstTree, TestTree, StepTree, StmtTree, BlockTree, StmtsTree}
+use Rattle.isp_masks.specs.Rated.{AnswerRated, RangesRated, FirstRated, TestRated, StepRated, StmtRated, BlockRated, StmtsRated}
+use Rattle.isp_masks.proofs.Trees.{AnswerTree, RangesTree, FirstTree, TestTree, StepTree, StmtTree, BlockTree, StmtsTree}
 
 module _ (fs : List TFunction) (vars : List Variable) where
+  ranges_tree : (rs : List TRange) → All (FineRange fs vars) rs → RangesRated fs rs → RangesTree fs rs
+  ranges_tree [] f r = tt
+  ranges_tree (x ∷ xs) f r =
+      let g = f 0 x (omega arith) in
+      (operand_tree fs vars Uniform I32 x.start g.start.1 r.0, expr_tree fs vars x.start g.start.0 r.0.1, operand_tree fs vars Uniform I32 x.end g.end.1 r.1, expr_tree fs vars x.end g.end.0 r.1.1, ranges_tree xs (λ k d lt. f (suc k) d (omega (arith, lt))) r.2)
+
   -- the parts of a `for` that may be left out
   first_tree : (o : Option TFirst) → IfAny (FineFirst fs vars) o → FirstRated fs o → FirstTree fs o
   first_tree None f r = tt
@@ -40,9 +48,9 @@ module _ (fs : List TFunction) (vars : List Variable) where
       stmt_tree (t_while k n e x sp) f r = ((expr_tree fs vars e f.1.0 r.0, f.1.1), stmt_tree x f.2 r.1)
       stmt_tree (t_do k n x e sp) f r = ((expr_tree fs vars e f.2.0 r.1, f.2.1), stmt_tree x f.1 r.0)
       stmt_tree (t_for k n first e step i x sp) f r = (first_tree first f.2 r.0, test_tree e f.3 r.1, step_tree step f.4 r.2, stmt_tree x f.5 r.3)
-      stmt_tree (t_foreach k n rs x sp) f r = absurd r
-      stmt_tree (t_foreach_active k n i x sp) f r = absurd r
-      stmt_tree (t_unmasked k b sp) f r = absurd r
+      stmt_tree (t_foreach k n rs x sp) f r = (r.0, ranges_tree rs f.1 r.1, stmt_tree x f.2 r.2)
+      stmt_tree (t_foreach_active k n i x sp) f r = stmt_tree x f.2 r
+      stmt_tree (t_unmasked k b sp) f r = block_tree b f r
       stmt_tree (t_jump j k sp) f r = tt
       stmt_tree (t_return k None sp) f r = tt
       stmt_tree (t_return k (Some x) sp) f r = returned_tree answer x f r

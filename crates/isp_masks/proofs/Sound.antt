@@ -17,6 +17,7 @@ use Rattle.isp_lower.specs.Layout.{Layout, class_at, register}
 use Rattle.isp_masks.specs.Exits.{exits_of, all_go_on}
 use Rattle.isp_masks.specs.Fors.{first_code, step_code, first_places, step_places}
 use Rattle.isp_masks.specs.Loops.{endless_code, for_code}
+use Rattle.isp_masks.specs.Ranges.{ranges_places, runs_slot}
 use Rattle.isp_masks.specs.Sets.{unite, leave_code, jump_code}
 use Rattle.isp_masks.specs.Spots.{Numbers, Spot, body_spot, first_spot, past, under}
 use Rattle.isp_masks.specs.Statements.{behind, rest_code, parted_code, if_code, if_else_code, answer_code, returned, stmt_places, block_places, stmts_places, stmt_code, block_code, stmts_code, function_code}
@@ -25,7 +26,8 @@ use Rattle.isp_masks.specs.Asks.{part_asks, first_asks, step_asks, answer_asks, 
 use Rattle.isp_lower.specs.Sound.{AreSound, Links, PartSound, IsRegister, Granted, ExprPresent}
 use Rattle.isp_lower.proofs.Lemmas.{found_there, operand_there, sound_both, copy_sound, here_then, value_sound, part_sound, simple_sound, items_sound, ExprTree}
 use Rattle.isp_masks.proofs.Combine.{part_spot}
-use Rattle.isp_masks.proofs.SoundLoops.{HereSound, guard_sound, two_sound, while_sound, for_sound, endless_sound, do_sound}
+use Rattle.isp_masks.proofs.SoundRanges.{foreach_sound}
+use Rattle.isp_masks.proofs.SoundLoops.{HereSound, active_sound, unmasked_sound, guard_sound, two_sound, while_sound, for_sound, endless_sound, do_sound}
 use Rattle.isp_masks.proofs.Trees.{AnswerTree, BlockTree, FirstTree, StepTree, StmtTree, StmtsTree}
 
 module _ (code : Listing) (h : Routine) where
@@ -191,9 +193,21 @@ module _ (code : Listing) (h : Routine) where
           let stepping = λ (pc1 : ℕ). step_code l step pc1 (z2.place + length px) n (n + 3) in
           two_sound code h (λ pc1. first_code l first pc1 z.place spot.on n) (λ pc1. for_code (exits_of x) (type_of e).rate (found l e (n + 3)) pc1 spot tests body stepping) (λ pc1 lt1. first_sound first n is.0 f.0 pc1 z.place spot.on lm.0 (omega (arith, e1, pl)) lt1)
           (for_sound code h (exits_of x) spot lm.0 lm.2 own (type_of e).rate (found l e (n + 3)) tests body test.0 (test.1 ∙ is.1.1) (λ pc1 lt1. value_sound fs code h l links e (n + 3) is.1.0 f.1.1.0 pc1 z1.place n own.0 (omega (arith, e1, e2, pl)) lt1) (λ pc1 lt1. stmt_sound x pc1 z2 (body_spot n) is.3 f.1.1.1.1 own (omega (arith, e1, e2, e3, pl)) lt1) stepping (λ pc1 lt1. step_sound step (n + 3) is.2 f.1.1.1.0 pc1 (z2.place + length px) n own.0 (omega (arith, e1, e2, e3, pl)) lt1)) pc lt
-      stmt_sound (t_foreach w g rs x sp) pc z spot is f lm pl lt = absurd is
-      stmt_sound (t_foreach_active w g i x sp) pc z spot is f lm pl lt = absurd is
-      stmt_sound (t_unmasked w b sp) pc z spot is f lm pl lt = absurd is
+      stmt_sound (t_foreach w g rs x sp) pc z spot is f lm pl lt =
+          let n = spot.slot in
+          let k = runs_slot n rs in
+          let pr = ranges_places l rs in
+          let e1 = length-append pr (stmt_places l x) in
+          let own : HasMasks (body_spot k) = (f.0.1.1.1.1.0, f.0.1.1.1.1.1.0, f.0.1.1.1.1.1.1) in
+          foreach_sound code h l fs links rs z.place spot.on n (λ pc1. stmt_code l answer x pc1 (past pr z) (body_spot k)) is.1 f.0.0 f.0.1.0 f.0.1.1.0 lm.0 own.0 (omega (arith, e1, pl)) (λ pc1 lt1. stmt_sound x pc1 (past pr z) (body_spot k) is.2 f.1 own (omega (arith, e1, pl)) lt1) pc lt
+      stmt_sound (t_foreach_active w g i x sp) pc z spot is f lm pl lt =
+          let n = spot.slot in
+          let own : HasMasks (body_spot (n + 1)) = (f.0.1.1.1.1.0, f.0.1.1.1.1.1.0, f.0.1.1.1.1.1.1) in
+          active_sound code h (l.variable Uniform i) spot.on n (λ pc1. stmt_code l answer x pc1 z (body_spot (n + 1))) f.0.0 lm.0 f.0.1.1.0 own.0 (λ pc1 lt1. stmt_sound x pc1 z (body_spot (n + 1)) is f.1 own pl lt1) pc lt
+      stmt_sound (t_unmasked w b sp) pc z spot is f lm pl lt =
+          let n = spot.slot in
+          let own : HasMasks (body_spot n) = (f.0.1.0, f.0.1.1.0, f.0.1.1.1) in
+          unmasked_sound code h n (λ pc1. block_code l answer b pc1 z (body_spot n)) own.0 (λ pc1 lt1. block_sound b pc1 z (body_spot n) is f.1 own pl lt1) pc lt
       stmt_sound (t_jump j w sp) pc z spot is f lm pl lt = jump_sound j spot.on spot.continued lm.0 lm.1
       stmt_sound (t_return w None sp) pc z spot is f lm pl lt = leave_sound spot.returned spot.on lm.2 lm.0
       stmt_sound (t_return w (Some x) sp) pc z spot is f lm pl lt =

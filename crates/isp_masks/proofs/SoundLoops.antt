@@ -1,6 +1,6 @@
 -- Each instruction of the code of a loop has its operands, where those of its parts have.
 use Rattle.std.proofs.Common.{◌≡◌, ℕ, ◌+◌, ◌<◌, List, [], ◌∷◌, ◌++◌, length, Bool, true, false, refl, arith, length-append}
-use Rattle.isp_base.specs.declared.types.Elem.TheVariants.{Bool as Truth}
+use Rattle.isp_base.specs.declared.types.Elem.TheVariants.{Bool as Truth, I64}
 use Rattle.isp_base.specs.declared.types.Rate.{Rate}
 use Rattle.isp_base.specs.declared.types.Rate.TheVariants.{Uniform, Varying}
 use Rattle.isp_code.specs.Fine.{IsThere}
@@ -8,12 +8,14 @@ use Rattle.isp_code.specs.Listing.{Listing, Routine}
 use Rattle.isp_code.specs.Registers.{elem_of}
 use Rattle.isp_code.specs.declared.instr.Instr.{Instr}
 use Rattle.isp_code.specs.declared.instr.Instr.TheVariants as instr
+use Rattle.isp_code.specs.declared.instr.JumpTest.TheVariants as jump
 use Rattle.isp_lower.specs.Code.{the_others, jump_off, two, guard}
-use Rattle.isp_lower.specs.Layout.{class_at, register}
-use Rattle.isp_lower.specs.Sound.{AreSound}
+use Rattle.isp_lower.specs.Layout.{class_at, register, mask_register}
+use Rattle.isp_lower.specs.Sound.{AreSound, IsRegister}
 use Rattle.isp_lower.proofs.Lemmas.{sound_both}
 use Rattle.isp_masks.specs.Exits.{nobody_leaves}
 use Rattle.isp_masks.specs.Loops.{if_needed, enter_code, loop_end_code, turn_code, back_code, sift_code, live_code, again_code, while_code, for_code, endless_code, do_code}
+use Rattle.isp_masks.specs.Rounds.{unmasked_code, active_code}
 use Rattle.isp_masks.specs.Sets.{unite, clear_mask}
 use Rattle.isp_masks.specs.Spots.{Spot}
 use Rattle.isp_masks.specs.declared.exits.Exits.{Exits}
@@ -30,6 +32,17 @@ module _ (code : Listing) (h : Routine) where
   two_sound a b f g pc lt =
       let e = length-append (a pc) (b (pc + length (a pc))) in
       sound_both code h (a pc) (b (pc + length (a pc))) (f pc (omega (arith, e, lt))) (g (pc + length (a pc)) (omega (arith, e, lt)))
+
+  -- ---- bodies under masks of their own: the mask that has all lanes, or one after the other
+
+  pub unmasked_sound : (n : ℕ) (body : ℕ → List Instr) → n < h.masks → HereSound body → HereSound (λ pc. unmasked_code n pc body)
+  unmasked_sound n body ln f pc lt = ((((refl, ln), tt), tt), f (pc + 1) (omega (arith, lt)))
+
+  pub active_sound : (i k n : ℕ) (body : ℕ → List Instr) → IsRegister h Uniform i I64 → k < h.masks → n < h.masks → n + 1 < h.masks → HereSound body → HereSound (λ pc. active_code i pc k n body)
+  active_sound i k n body there lk ln lone f pc lt =
+      let last = instr.JumpIf jump.On (mask_register n) (pc + 1) ∷ [] in
+      let e = length-append (body (pc + 1 + 3)) last in
+      ((((refl, ln), ((refl, lk), tt)), tt), ((((refl, lone), ((refl, ln), tt)), tt), ((((refl, ln), ((refl, ln), ((refl, lone), tt))), tt), (((there, ((refl, lone), tt)), tt), sound_both code h (body (pc + 1 + 3)) last (f (pc + 1 + 3) (omega (arith, e, lt))) ((((refl, ln), (omega (arith, e, lt), tt)), tt), tt)))))
 
   needed_sound : (b : Bool) (part : List Instr) → AreSound code h part → AreSound code h (if_needed b part)
   needed_sound true part f = f

@@ -16,14 +16,18 @@ use Rattle.isp_lower.specs.Runs.{Ok}
 use Rattle.isp_lower.specs.Setting.{Setting, IsSettled, gang_of, calls_of, AreAt, Holds}
 use Rattle.isp_lower.proofs.Lemmas.{are_front, are_back, comes_none, at_to, spares_all, expr_runs, few, enters_less, enters_part, items_run, simple_runs, ExprParts}
 use Rattle.isp_masks.specs.Named.{AllNamed, BlockNamed, Named}
-use Rattle.isp_masks.specs.Spots.{Numbers, Spot, past}
+use Rattle.isp_masks.specs.Ranges.{ranges_places, runs_slot}
+use Rattle.isp_masks.specs.Spots.{Numbers, Spot, body_spot, past}
 use Rattle.isp_masks.specs.Statements.{behind, rest_code, if_code, if_else_code, stmt_places, stmt_code, block_code, stmts_code, stmt_texts}
 use Rattle.isp_masks.specs.Exits.{either_leaves, exits_of, block_exits, nobody_leaves, all_go_on}
 use Rattle.isp_masks.specs.StmtRuns.{AreThree, aside, EntersAt, StmtRuns}
 use Rattle.isp_masks.proofs.Combine.{part_spot, stmt_after, stmt_less, with_runs, all_runs, plain_ok}
 use Rattle.isp_masks.proofs.Choices.{if_runs, if_else_runs}
 use Rattle.isp_masks.proofs.Members.{went_inside, went_whole}
-use Rattle.isp_masks.proofs.LoopStmts.{while_runs, do_runs, for_runs}
+use Rattle.isp_masks.proofs.Active.{active_runs}
+use Rattle.isp_masks.proofs.Foreach.{foreach_runs}
+use Rattle.isp_masks.proofs.Unmasked.{unmasked_runs}
+use Rattle.isp_masks.proofs.LoopStmts.{body_runs, masks_of, while_runs, do_runs, for_runs}
 use Rattle.isp_masks.proofs.Leaves.{jump_runs, return_ok, return_runs}
 use Rattle.isp_masks.proofs.Names.{named_back, named_front, named_past}
 use Rattle.isp_masks.proofs.Sequences.{set_aside, rest_runs, then_runs}
@@ -72,9 +76,14 @@ module _ (w : Setting) (ready : IsSettled w) where
     stmt_runs (t_while f g e x sp) pc z spot q a s c fit has names three b = while_runs w ready f g e x sp (stmt_runs x) pc z spot q a s c fit has names three b
     stmt_runs (t_do f g x e sp) pc z spot q a s c fit has names three b = do_runs w ready f g x e sp (stmt_runs x) pc z spot q a s c fit has names three b
     stmt_runs (t_for f g first e step i x sp) pc z spot q a s c fit has names three b = for_runs w ready f g first e step i x sp (stmt_runs x) pc z spot q a s c fit has names three b
-    stmt_runs (t_foreach v g rs x sp) pc z spot q a s c fit has names three b = absurd fit
-    stmt_runs (t_foreach_active v g i x sp) pc z spot q a s c fit has names three b = absurd fit
-    stmt_runs (t_unmasked v x sp) pc z spot q a s c fit has names three b = absurd fit
+    stmt_runs (t_foreach v g rs x sp) pc z spot q a s c fit has names three b =
+        let pl = ranges_places w.layout rs in
+        let h = runs_slot spot.slot rs in
+        foreach_runs w ready rs pc z.place spot (0 + q) a s c _ _ fit.0 (body_runs w ready x h (past pl z) (stmt_runs x) fit.1 (named_past w.code z pl _ _ names)) has (are_front w.code.places z.place pl _ names.places_are) three (enters_less w ready pc spot.on spot.slot (0 + q) q a s c (omega arith) b)
+    stmt_runs (t_foreach_active v g i x sp) pc z spot q a s c fit has names three b =
+        active_runs w ready i pc spot (0 + q) a s c _ _ (body_runs w ready x (spot.slot + 1) z (stmt_runs x) fit names) has three (enters_less w ready pc spot.on spot.slot (0 + q) q a s c (omega arith) b)
+    stmt_runs (t_unmasked v x sp) pc z spot q a s c fit has names three b =
+        unmasked_runs w ready pc spot (0 + q) a s c _ _ (λ T s1 c1 pc1 z1 h en. stmt_less w ready w.turns c1 _ _ (body_spot spot.slot) 1 z1 _ refl (block_runs x pc1 z (body_spot spot.slot) z1 T s1 c1 fit h names (masks_of spot.slot) en)) has three (enters_less w ready pc spot.on spot.slot (0 + q) q a s c (omega arith) b)
     stmt_runs (t_jump Break v sp) pc z spot q a s c fit has names three b = jump_runs w ready Break pc spot q a s c has three b
     stmt_runs (t_jump Continue v sp) pc z spot q a s c fit has names three b = jump_runs w ready Continue pc spot q a s c has three b
     stmt_runs (t_return v None sp) pc z spot q a s c fit has names three b =

@@ -1,8 +1,9 @@
 -- What the laws use of the tree of a statement alone.
-use Rattle.std.proofs.Common.{◌≡◌, List, Option, Some, None}
-use Rattle.isp_base.specs.declared.types.Elem.TheVariants.{Bool as Truth}
+use Rattle.std.proofs.Common.{◌≡◌, ◌≤◌, List, [], ◌∷◌, length, Option, Some, None}
+use Rattle.isp_base.specs.declared.types.Elem.TheVariants.{Bool as Truth, I32}
+use Rattle.isp_base.specs.declared.types.Rate.TheVariants.{Uniform}
 use Rattle.isp_base.specs.declared.types.Ty.{Ty}
-use Rattle.isp_typed.specs.Typed.{TExpr, type_of, TSimple, TFirst, t_first_declare, t_first_simple, TStmt, t_block, t_declare, t_simple, t_if, t_if_else, t_while, t_do, t_for, t_foreach, t_foreach_active, t_unmasked, t_jump, t_return, t_print, t_assert, TBlock, t_braces, TStmts, t_no_stmts, t_stmt_then, TFunction}
+use Rattle.isp_typed.specs.Typed.{TExpr, type_of, TSimple, TFirst, t_first_declare, t_first_simple, TRange, TStmt, t_block, t_declare, t_simple, t_if, t_if_else, t_while, t_do, t_for, t_foreach, t_foreach_active, t_unmasked, t_jump, t_return, t_print, t_assert, TBlock, t_braces, TStmts, t_no_stmts, t_stmt_then, TFunction}
 use Rattle.isp_lower.proofs.Lemmas.{OperandTree, ExprTree, SimpleTree, ItemsTree}
 
 -- in a program of these functions
@@ -10,6 +11,11 @@ module _ (fs : List TFunction) where
   abbrev pub AnswerTree : Option Ty → TExpr → Type 0
   AnswerTree None x = ExprTree fs x
   AnswerTree (Some t) x = OperandTree t.rate t.elem x × ExprTree fs x
+
+  -- the bounds of a `foreach` are int32s, one for the gang
+  abbrev pub RangesTree : List TRange → Type 0
+  RangesTree [] = Unit {0}
+  RangesTree (r ∷ rs) = OperandTree Uniform I32 r.start × ExprTree fs r.start × OperandTree Uniform I32 r.end × ExprTree fs r.end × RangesTree rs
 
   -- the parts of a loop; its test is a bool
   abbrev pub TestTree : Option TExpr → Type 0
@@ -36,9 +42,9 @@ module _ (fs : List TFunction) where
       StmtTree (t_while f g e x sp) = TestTree (Some e) × StmtTree x
       StmtTree (t_do f g x e sp) = TestTree (Some e) × StmtTree x
       StmtTree (t_for f g first e step i x sp) = FirstTree first × TestTree e × StepTree step × StmtTree x
-      StmtTree (t_foreach k g rs x sp) = ⊥
-      StmtTree (t_foreach_active k g i x sp) = ⊥
-      StmtTree (t_unmasked k b sp) = ⊥
+      StmtTree (t_foreach k g rs x sp) = (length rs ≤ 3) × RangesTree rs × StmtTree x
+      StmtTree (t_foreach_active k g i x sp) = StmtTree x
+      StmtTree (t_unmasked k b sp) = BlockTree b
       StmtTree (t_jump j k sp) = Unit {0}
       StmtTree (t_return k None sp) = Unit {0}
       StmtTree (t_return k (Some x) sp) = AnswerTree answer x

@@ -1,12 +1,14 @@
 -- What the code of statements asks for: what its parts ask for, the result's register where a value is returned, for a
 -- varying test a mask and a slot behind it, and for a loop three masks and slots behind them.
-use Rattle.std.specs.Prelude.{ℕ, ◌+◌, Option, Some, None}
+use Rattle.std.specs.Prelude.{ℕ, ◌+◌, List, [], ◌∷◌, Option, Some, None}
+use Rattle.isp_base.specs.declared.types.Elem.TheVariants.{Bool as Truth, I32, I64}
 use Rattle.isp_base.specs.declared.types.Rate.{Rate}
 use Rattle.isp_base.specs.declared.types.Rate.TheVariants.{Uniform, Varying}
 use Rattle.isp_base.specs.declared.types.Ty.{Ty}
-use Rattle.isp_typed.specs.Typed.{TExpr, type_of, TSimple, TFirst, t_first_declare, t_first_simple, TStmt, t_block, t_declare, t_simple, t_if, t_if_else, t_while, t_do, t_for, t_foreach, t_foreach_active, t_unmasked, t_jump, t_return, t_print, t_assert, TBlock, t_braces, TStmts, t_no_stmts, t_stmt_then}
-use Rattle.isp_lower.specs.Asks.{Ask, Nothing, Both, Register, MaskOf, Number, first_slot, expr_asks, operand_asks, simple_asks, items_asks}
-use Rattle.isp_lower.specs.Rows.{Result}
+use Rattle.isp_typed.specs.Typed.{TExpr, type_of, TSimple, TFirst, t_first_declare, t_first_simple, TRange, TStmt, t_block, t_declare, t_simple, t_if, t_if_else, t_while, t_do, t_for, t_foreach, t_foreach_active, t_unmasked, t_jump, t_return, t_print, t_assert, TBlock, t_braces, TStmts, t_no_stmts, t_stmt_then}
+use Rattle.isp_lower.specs.Asks.{Ask, Nothing, Both, Register, MaskOf, Number, first_slot, expr_asks, operand_asks, simple_asks, spare_ask, items_asks}
+use Rattle.isp_lower.specs.Rows.{Result, Variable}
+use Rattle.isp_masks.specs.Ranges.{places_slot, runs_slot}
 
 -- a part behind a test
 abbrev pub part_asks : Rate → ℕ → Ask
@@ -21,6 +23,39 @@ answer_asks (Some t) x n = Both (Register t.rate Result t.elem) (operand_asks t.
 -- a loop's own masks, behind which its parts have their slots
 abbrev pub loop_asks : ℕ → Ask
 loop_asks n = Both (Number (n + 3)) (Both (MaskOf n) (Both (MaskOf (n + 1)) (MaskOf (n + 2))))
+
+-- the index, those whose turn is still to come, and the masks of a turn
+abbrev pub turn_asks : ℕ → ℕ → Ask
+turn_asks i n = Both (Register Uniform (Variable i) I64) (Both (Number (n + 1)) (Both (MaskOf n) (loop_asks (n + 1))))
+
+-- ---- `foreach`: what all runs use; the bounds, each as int64; and for each range its index, its place and what its test gives
+
+abbrev pub measures_asks : ℕ → Ask
+measures_asks n =
+    Both (spare_ask Uniform I32 n) (Both (spare_ask Varying I32 n) (Both (spare_ask Uniform I64 n) (Both (Number (n + 1)) (Both (spare_ask Uniform I64 (n + 1)) (Number (n + 1 + 1))))))
+
+abbrev pub bound_asks : TExpr → ℕ → Ask
+bound_asks x n = Both (spare_ask Uniform I64 n) (expr_asks x n)
+
+abbrev pub bounds_asks : List TRange → ℕ → Ask
+bounds_asks [] n = Nothing
+bounds_asks (r ∷ rs) n =
+    Both (bound_asks r.start n) (Both (Number (n + 1)) (Both (bound_asks r.end (n + 1)) (Both (Number (n + 1 + 1)) (bounds_asks rs (n + 1 + 1)))))
+
+abbrev pub place_asks : TRange → ℕ → Ask
+place_asks r m =
+    Both (Register Varying (Variable r.index) I32) (Both (spare_ask Uniform I64 m) (Both (Number (m + 1)) (Both (spare_ask Uniform I32 (m + 1)) (Both (spare_ask Varying I32 (m + 1)) (spare_ask Uniform Truth (m + 1))))))
+
+abbrev pub places_asks : List TRange → ℕ → Ask
+places_asks [] m = Nothing
+places_asks (r ∷ rs) m = Both (place_asks r m) (Both (Number (m + 1 + 1)) (places_asks rs (m + 1 + 1)))
+
+-- besides the body
+abbrev pub ranges_asks : List TRange → ℕ → Ask
+ranges_asks rs n =
+    Both (measures_asks n) (Both (bounds_asks rs (n + 1 + 1)) (Both (places_asks rs (places_slot n rs)) (loop_asks (runs_slot n rs))))
+
+-- ---- loops
 
 -- the parts of a `for` that may be left out
 abbrev pub first_asks : Option TFirst → ℕ → Ask
@@ -64,9 +99,9 @@ module _ (answer : Option Ty) where
     stmt_asks (t_do f g x e sp) n = Both (loop_asks n) (Both (stmt_asks x (n + 3)) (expr_asks e (n + 3)))
     stmt_asks (t_for f g first e step i x sp) n =
         Both (first_asks first n) (turns_asks e step n (λ j. stmt_asks x j))
-    stmt_asks (t_foreach k g rs x sp) n = Nothing
-    stmt_asks (t_foreach_active k g i x sp) n = Nothing
-    stmt_asks (t_unmasked k b sp) n = Nothing
+    stmt_asks (t_foreach k g rs x sp) n = Both (ranges_asks rs n) (stmt_asks x (runs_slot n rs + 3))
+    stmt_asks (t_foreach_active k g i x sp) n = Both (turn_asks i n) (stmt_asks x (n + 1 + 3))
+    stmt_asks (t_unmasked k b sp) n = Both (loop_asks n) (block_asks b (n + 3))
     stmt_asks (t_jump j k sp) n = Nothing
     stmt_asks (t_return k None sp) n = Nothing
     stmt_asks (t_return k (Some x) sp) n = answer_asks answer x n

@@ -3,6 +3,8 @@ pub mod Sets
 pub mod Spots
 pub mod Fors
 pub mod Loops
+pub mod Rounds
+pub mod Ranges
 pub mod Statements
 pub mod Named
 pub mod Written

@@ -1,8 +1,9 @@
--- What rates promise of a body that has code, beside what names and types promise. `foreach`, `foreach_active`, `unmasked`, `print` and
--- `assert` have no code yet.
-use Rattle.std.specs.Prelude.{List, Option, Some, None}
+-- What rates promise of a body that has code, beside what names and types promise. `print` and `assert`
+-- have no code yet.
+use Rattle.std.specs.Prelude.{◌≤◌, List, [], ◌∷◌, length, Option, Some, None}
+use Rattle.isp_base.specs.declared.types.Rate.TheVariants.{Uniform}
 use Rattle.isp_base.specs.declared.types.Ty.{Ty}
-use Rattle.isp_typed.specs.Typed.{TExpr, TSimple, TFirst, t_first_declare, t_first_simple, TStmt, t_block, t_declare, t_simple, t_if, t_if_else, t_while, t_do, t_for, t_foreach, t_foreach_active, t_unmasked, t_jump, t_return, t_print, t_assert, TBlock, t_braces, TStmts, t_no_stmts, t_stmt_then, TFunction}
+use Rattle.isp_typed.specs.Typed.{TExpr, TSimple, TFirst, t_first_declare, t_first_simple, TRange, TStmt, t_block, t_declare, t_simple, t_if, t_if_else, t_while, t_do, t_for, t_foreach, t_foreach_active, t_unmasked, t_jump, t_return, t_print, t_assert, TBlock, t_braces, TStmts, t_no_stmts, t_stmt_then, TFunction}
 use Rattle.isp_lower.specs.Rated.{IsRated, RatedAt, SimpleRated, ItemsRated}
 
 -- in a program of these functions
@@ -11,6 +12,11 @@ module _ (fs : List TFunction) where
   abbrev pub AnswerRated : Option Ty → TExpr → Type 0
   AnswerRated None x = IsRated fs x
   AnswerRated (Some t) x = RatedAt fs t.rate x
+
+  -- the bounds of a `foreach` are one value for the gang
+  abbrev pub RangesRated : List TRange → Type 0
+  RangesRated [] = Unit {0}
+  RangesRated (r ∷ rs) = RatedAt fs Uniform r.start × RatedAt fs Uniform r.end × RangesRated rs
 
   -- the parts of a `for` that may be left out
   abbrev pub FirstRated : Option TFirst → Type 0
@@ -37,9 +43,9 @@ module _ (fs : List TFunction) where
       StmtRated (t_while f g e x sp) = IsRated fs e × StmtRated x
       StmtRated (t_do f g x e sp) = StmtRated x × IsRated fs e
       StmtRated (t_for f g first e step i x sp) = FirstRated first × TestRated e × StepRated step × StmtRated x
-      StmtRated (t_foreach k g rs x sp) = ⊥
-      StmtRated (t_foreach_active k g i x sp) = ⊥
-      StmtRated (t_unmasked k b sp) = ⊥
+      StmtRated (t_foreach k g rs x sp) = (length rs ≤ 3) × RangesRated rs × StmtRated x
+      StmtRated (t_foreach_active k g i x sp) = StmtRated x
+      StmtRated (t_unmasked k b sp) = BlockRated b
       StmtRated (t_jump j k sp) = Unit {0}
       StmtRated (t_return k None sp) = Unit {0}
       StmtRated (t_return k (Some x) sp) = AnswerRated answer x

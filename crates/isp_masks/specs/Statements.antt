@@ -17,6 +17,8 @@ use Rattle.isp_lower.specs.Simple.{simple_code, simple_places}
 use Rattle.isp_masks.specs.Exits.{exits_of, nobody_leaves, all_go_on}
 use Rattle.isp_masks.specs.Fors.{first_code, step_code, first_places, test_places, step_places}
 use Rattle.isp_masks.specs.Loops.{turn_code, step_back_code, while_code, for_code, endless_code, do_code}
+use Rattle.isp_masks.specs.Ranges.{foreach_code, ranges_places, runs_slot}
+use Rattle.isp_masks.specs.Rounds.{unmasked_code, active_code}
 use Rattle.isp_masks.specs.Sets.{unite, leave_code, jump_code}
 use Rattle.isp_masks.specs.Spots.{Numbers, Spot, body_spot, first_spot, past, under}
 use Rattle.isp_masks.specs.declared.exits.Exits.{Exits}
@@ -60,9 +62,9 @@ abbrev mutual
   stmt_texts (t_while f g e x sp) = stmt_texts x
   stmt_texts (t_do f g x e sp) = stmt_texts x
   stmt_texts (t_for f g first e step i x sp) = stmt_texts x
-  stmt_texts (t_foreach w g rs x sp) = []
-  stmt_texts (t_foreach_active w g i x sp) = []
-  stmt_texts (t_unmasked w b sp) = []
+  stmt_texts (t_foreach w g rs x sp) = stmt_texts x
+  stmt_texts (t_foreach_active w g i x sp) = stmt_texts x
+  stmt_texts (t_unmasked w b sp) = block_texts b
   stmt_texts (t_jump j w sp) = []
   stmt_texts (t_return w x sp) = []
   stmt_texts (t_print w text xs sp) = []
@@ -98,9 +100,9 @@ module _ (l : Layout) where
     stmt_places (t_while f g e x sp) = expr_places l e ++ stmt_places x
     stmt_places (t_do f g x e sp) = stmt_places x ++ expr_places l e
     stmt_places (t_for f g first e step i x sp) = first_places l first ++ (test_places l e ++ (stmt_places x ++ step_places l step))
-    stmt_places (t_foreach w g rs x sp) = []
-    stmt_places (t_foreach_active w g i x sp) = []
-    stmt_places (t_unmasked w b sp) = []
+    stmt_places (t_foreach w g rs x sp) = ranges_places l rs ++ stmt_places x
+    stmt_places (t_foreach_active w g i x sp) = stmt_places x
+    stmt_places (t_unmasked w b sp) = block_places b
     stmt_places (t_jump j w sp) = []
     stmt_places (t_return w None sp) = []
     stmt_places (t_return w (Some x) sp) = expr_places l x
@@ -147,9 +149,11 @@ module _ (l : Layout) (answer : Option Ty) where
         let z1 = past (first_places l first) z in
         let z2 = past (expr_places l e) z1 in
         two pc (first_code l first pc z.place spot.on n) (λ pc1. for_code (exits_of x) (type_of e).rate (found l e (n + 3)) pc1 spot (λ pc2. expr_code l e pc2 z1.place n (n + 3)) (λ pc2. stmt_code x pc2 z2 (body_spot n)) (λ pc2. step_code l step pc2 (behind l x z2).place n (n + 3)))
-    stmt_code (t_foreach w g rs x sp) pc z spot = []
-    stmt_code (t_foreach_active w g i x sp) pc z spot = []
-    stmt_code (t_unmasked w b sp) pc z spot = []
+    stmt_code (t_foreach w g rs x sp) pc z spot =
+        foreach_code l rs pc z.place spot.on spot.slot (λ pc1. stmt_code x pc1 (past (ranges_places l rs) z) (body_spot (runs_slot spot.slot rs)))
+    stmt_code (t_foreach_active w g i x sp) pc z spot =
+        active_code (l.variable Uniform i) pc spot.on spot.slot (λ pc1. stmt_code x pc1 z (body_spot (spot.slot + 1)))
+    stmt_code (t_unmasked w b sp) pc z spot = unmasked_code spot.slot pc (λ pc1. block_code b pc1 z (body_spot spot.slot))
     stmt_code (t_jump j w sp) pc z spot = jump_code j spot.on spot.continued
     stmt_code (t_return w None sp) pc z spot = leave_code spot.returned spot.on
     stmt_code (t_return w (Some x) sp) pc z spot =

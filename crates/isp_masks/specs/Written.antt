@@ -2,6 +2,7 @@
 -- its first slot, a loop, a test.
 use Rattle.std.specs.Prelude.{ℕ, ◌+◌, List, [], ◌∷◌, ◌++◌, Option, Bool}
 use Rattle.isp_base.specs.declared.types.Rate.{Rate}
+use Rattle.isp_base.specs.declared.types.Rate.TheVariants.{Uniform}
 use Rattle.isp_base.specs.declared.types.Span.{Span}
 use Rattle.isp_code.specs.declared.instr.Instr.{Instr}
 use Rattle.isp_code.specs.declared.instr.Instr.TheVariants as instr
@@ -13,7 +14,8 @@ use Rattle.isp_lower.specs.declared.types.Scope.{Scope}
 use Rattle.isp_masks.specs.Exits.{exits_of, nobody_leaves}
 use Rattle.isp_masks.specs.Fors.{first_code, first_places, step_code, step_places, test_places}
 use Rattle.isp_masks.specs.Loops.{again_code, back_code, do_code, live_code, sift_code, step_back_code, turn_code, while_code}
-use Rattle.isp_masks.specs.Spots.{Numbers, Spot as Where, past, spot_of}
+use Rattle.isp_masks.specs.Rounds.{active_code, unmasked_code}
+use Rattle.isp_masks.specs.Spots.{Numbers, Spot as Where, body_spot, past, spot_of}
 use Rattle.isp_masks.specs.Statements.{answer_code, behind, block_code, block_places, body_code, function_code, if_code, if_else_code, stepped_code, stmt_code, stmt_places, turns_code}
 use Rattle.isp_masks.specs.declared.looping.Loop.{Loop}
 use Rattle.isp_masks.specs.declared.looping.Test.{Test}
@@ -117,6 +119,19 @@ abbrev pub live_again_at : Scope → Bool → TExpr → Loop → Piece
 live_again_at on alone e it =
     let again = again_at on e it in
     record { code = λ pc z. live_code alone it.slot.number pc (λ pc1. again.code pc1 z); places = again.places }
+
+-- ---- bodies that run over sets of their own
+
+abbrev pub unmasked_at : Scope → TBlock → Spot → Piece
+unmasked_at on b spot =
+    let l = layout on in
+    record { code = λ pc z. unmasked_code spot.slot.number pc (λ pc1. block_code l on.answer b pc1 z (body_spot spot.slot.number)); places = block_places l b }
+
+abbrev pub active_at : Scope → ℕ → TStmt → Spot → Piece
+active_at on i x spot =
+    let l = layout on in
+    let n = spot.slot.number in
+    record { code = λ pc z. active_code (l.variable Uniform i) pc spot.masks.on.number n (λ pc1. stmt_code l on.answer x pc1 z (body_spot (n + 1))); places = stmt_places l x }
 
 -- ---- `for`
 

@@ -9,6 +9,7 @@ mod looping;
 mod lowering;
 mod masks;
 mod reserved;
+mod rounds;
 mod routine;
 mod sets;
 mod statement;

@@ -48,7 +48,7 @@ pub(crate) fn next(b: &Body) -> u32
 }
 
 /// A mask gets the lanes of another.
-fn copy_mask(to: MaskNumber, from: MaskNumber) -> Instr
+pub(crate) fn copy_mask(to: MaskNumber, from: MaskNumber) -> Instr
     ensures { result ≡ copy_mask to.number from.number }
 {
     Instr::Mask(mask(to), MaskInstr::Copy(mask(from)))

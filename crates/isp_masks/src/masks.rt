@@ -1,5 +1,5 @@
 //! Where the code of a statement works.
-ghost use Rattle.std.specs.Prelude.{◌≡◌};
+ghost use Rattle.std.specs.Prelude.{◌≡◌, ◌<◌, ◌+◌};
 
 use isp_lower::{MaskNumber, Site, Slot};
 
@@ -20,6 +20,21 @@ pub(crate) struct Spot {
 }
 
 impl Spot {
+    /// Of a body that runs under masks of its own, those of three slots from one on.
+    pub(crate) fn own(slot: Slot) -> Spot
+        requires { slot.number + 3 < 4294967296 }
+        ensures { result ≡ record { masks = record { on = record { number = slot.number }; continued = record { number = slot.number + 1 }; returned = record { number = slot.number + 2 } }; slot = record { number = slot.number + 3 } } }
+    {
+        Spot {
+            masks: Masks {
+                on: slot.mask(),
+                continued: slot.next().mask(),
+                returned: slot.plus(2).mask(),
+            },
+            slot: slot.plus(3),
+        }
+    }
+
     /// Where its expressions work: for the lanes that run it.
     pub(crate) fn site(self) -> Site
         ensures { result ≡ record { mask = self.masks.on; slot = self.slot } }

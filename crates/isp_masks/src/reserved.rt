@@ -5,14 +5,15 @@ ghost use Rattle.isp_typed.specs.Views.{block_of, expr_of, first_of, simple_of, 
 ghost use Rattle.isp_lower.specs.Asks.{Both, Register as Ask, expr_asks, first_slot, operand_asks};
 ghost use Rattle.isp_lower.specs.Reserved.{Gives};
 ghost use Rattle.isp_lower.specs.Rows.{Result as ResultName};
-ghost use Rattle.isp_masks.specs.Asks.{answer_asks, block_asks, first_asks, if_asks, loop_asks, part_asks, result_asks, step_asks, stmt_asks, test_part_asks, turns_asks};
+ghost use Rattle.isp_masks.specs.Asks.{answer_asks, block_asks, first_asks, if_asks, loop_asks, part_asks, result_asks, step_asks, stmt_asks, test_part_asks, turn_asks, turns_asks};
 
 use isp_base::{Rate, Ty};
 use isp_lower::{Reserve, Slot};
 use isp_typed::{TypedBlock, TypedExpr, TypedFirst, TypedSimple, TypedStmt};
 use std::alloc::AllocError;
 
-/// What the code of a statement asks for, in the slots from one on; nothing is asked for what has no code yet.
+/// What the code of a statement asks for, in the slots from one on; nothing is asked for what has no code yet. Memory is
+/// refused of a `foreach`, which no writer writes yet.
 #[cycle(stmt)]
 fn stmt(r: &mut Reserve, x: &TypedStmt, answer: Option<Ty>, slot: Slot) -> Result<(), AllocError>
     ensures { OnOk result (Gives r.old r.new (stmt_asks answer (stmt_of x.now) slot.number)) }
@@ -44,12 +45,10 @@ fn stmt(r: &mut Reserve, x: &TypedStmt, answer: Option<Ty>, slot: Slot) -> Resul
             first_part(r, first, slot)?;
             turns(r, test, step, body, answer, slot)
         }
-        TypedStmt::Jump { .. }
-        | TypedStmt::Foreach { .. }
-        | TypedStmt::ForeachActive { .. }
-        | TypedStmt::Unmasked { .. }
-        | TypedStmt::Print { .. }
-        | TypedStmt::Assert { .. } => Ok(()),
+        TypedStmt::ForeachActive { index, body, .. } => active_loop(r, *index, body, answer, slot),
+        TypedStmt::Unmasked { body, .. } => unmasked(r, body, answer, slot),
+        TypedStmt::Foreach { .. } => Err(AllocError),
+        TypedStmt::Jump { .. } | TypedStmt::Print { .. } | TypedStmt::Assert { .. } => Ok(()),
     }
 }
 
@@ -184,6 +183,39 @@ fn do_loop(
     let parts = own(r, slot)?;
     stmt(r, body, answer, parts)?;
     r.expr(test, parts)?;
+    Ok(())
+}
+
+/// `unmasked`.
+#[cycle(stmt)]
+fn unmasked(
+    r: &mut Reserve,
+    body: &TypedBlock,
+    answer: Option<Ty>,
+    slot: Slot,
+) -> Result<(), AllocError>
+    ensures { OnOk result (Gives r.old r.new (Both (loop_asks slot.number) (block_asks answer (block_of body.now) (slot.number + 3)))) }
+{
+    let parts = own(r, slot)?;
+    block(r, body, answer, parts)?;
+    Ok(())
+}
+
+/// `foreach_active`, whose index has a register from the beginning: those whose turn is still to come, and the masks of a turn.
+#[cycle(stmt)]
+fn active_loop(
+    r: &mut Reserve,
+    index: usize,
+    body: &TypedStmt,
+    answer: Option<Ty>,
+    slot: Slot,
+) -> Result<(), AllocError>
+    ensures { OnOk result (Gives r.old r.new (Both (turn_asks index slot.number) (stmt_asks answer (stmt_of body.now) (slot.number + 1 + 3)))) }
+{
+    let one = r.next(slot)?;
+    r.mask(slot)?;
+    let parts = own(r, one)?;
+    stmt(r, body, answer, parts)?;
     Ok(())
 }
 

@@ -1,24 +1,27 @@
 //! The code of statements. A mask has the lanes that run a statement, and afterwards those that went on; those that
 //! continued and those that returned are added to two others.
 ghost use Rattle.std.specs.Prelude.{◌<◌, ◌+◌, option_map, true, false, OnOk};
+ghost use Rattle.isp_base.specs.declared.types.Elem.TheVariants.{I64};
 ghost use Rattle.isp_base.specs.declared.types.Rate.TheVariants.{Uniform, Varying};
 ghost use Rattle.isp_typed.specs.Typed.{t_return, type_of};
 ghost use Rattle.isp_typed.specs.Views.{block_of, expr_of, first_of, simple_of, stmt_of};
-ghost use Rattle.isp_lower.specs.Asks.{expr_asks, first_slot};
+ghost use Rattle.isp_lower.specs.Asks.{Register as Ask, expr_asks, first_slot};
 ghost use Rattle.isp_lower.specs.Emitted.{Present};
+ghost use Rattle.isp_lower.specs.Rows.{Variable};
 ghost use Rattle.isp_masks.specs.Asks.{answer_asks, block_asks, first_asks, part_asks, step_asks, stmt_asks, test_part_asks};
 ghost use Rattle.isp_masks.specs.Exits.{nobody_leaves};
-ghost use Rattle.isp_masks.specs.Written.{Writes, again_at, answer_at, block_at, do_at, first_at, for_turn_at, guarded_at, if_at, if_else_at, live_again_at, part_at, parts_at, passed_at, step_at, step_back_at, stepped_at, stmt_at, turn_at, turns_at, while_at, while_turn_at};
+ghost use Rattle.isp_masks.specs.Written.{Writes, active_at, again_at, answer_at, block_at, do_at, first_at, for_turn_at, guarded_at, if_at, if_else_at, live_again_at, part_at, parts_at, passed_at, step_at, step_back_at, stepped_at, stmt_at, turn_at, turns_at, unmasked_at, while_at, while_turn_at};
 
 use crate::awaited::{land_all, leave_room};
 use crate::exits::{all_go_on, exits_of};
 use crate::looping::{
-    Loop, Test, again, back, clear_where, enter, inside, join_where, land_sift, leave_loop, next,
-    sift,
+    Loop, Test, again, back, clear_where, copy_mask, enter, inside, join_where, land_sift,
+    leave_loop, next, sift,
 };
 use crate::masks::{Masks, Spot};
+use crate::rounds::{fill_mask, take_lane};
 use crate::sets::{jump, leave, part, unite};
-use isp_base::{Rate, Span};
+use isp_base::{Elem, Rate, Span, Ty};
 use isp_code::{Instr, JumpTest};
 use isp_lower::{
     Body, RegisterNumber, Scope, Site, Slot, copy, declared, expr, mask, operand, scalar, simple,
@@ -26,8 +29,7 @@ use isp_lower::{
 use isp_typed::{TypedBlock, TypedExpr, TypedFirst, TypedSimple, TypedStmt};
 use std::alloc::AllocError;
 
-/// The code of a statement. Memory is refused too of what has no code yet: `foreach`, `foreach_active`, `unmasked`, `print`
-/// and `assert`.
+/// The code of a statement. Memory is refused too of what has no code yet: `foreach`, `print` and `assert`.
 #[cycle(stmt)]
 pub(crate) fn stmt(b: &mut Body, on: &Scope, x: &TypedStmt, spot: Spot) -> Result<(), AllocError>
     requires { Present on.now (stmt_asks on.now.answer (stmt_of x.now) spot.slot.number) }
@@ -62,11 +64,11 @@ pub(crate) fn stmt(b: &mut Body, on: &Scope, x: &TypedStmt, spot: Spot) -> Resul
             first_part(b, on, first, spot.site())?;
             turns(b, on, test, step, body, spot)
         }
-        TypedStmt::Foreach { .. }
-        | TypedStmt::ForeachActive { .. }
-        | TypedStmt::Unmasked { .. }
-        | TypedStmt::Print { .. }
-        | TypedStmt::Assert { .. } => Err(AllocError),
+        TypedStmt::ForeachActive { index, body, .. } => active_loop(b, on, *index, body, spot),
+        TypedStmt::Unmasked { body, .. } => unmasked(b, on, body, spot),
+        TypedStmt::Foreach { .. } | TypedStmt::Print { .. } | TypedStmt::Assert { .. } => Err(
+            AllocError,
+        ),
     }
 }
 
@@ -483,6 +485,44 @@ fn tested_again(b: &mut Body, on: &Scope, test: &TypedExpr, it: Loop) -> Result<
         register: tested,
     };
     again(b, given, it)?;
+    Ok(())
+}
+
+/// `unmasked`: the block, for all lanes.
+#[cycle(stmt)]
+fn unmasked(b: &mut Body, on: &Scope, body: &TypedBlock, spot: Spot) -> Result<(), AllocError>
+    requires slots { spot.slot.number + 3 < 4294967296 }
+    requires body { Present on.now (block_asks on.now.answer (block_of body.now) (spot.slot.number + 3)) }
+    ensures { OnOk result (Writes b.old b.new (unmasked_at on.now (block_of body.now) spot)) }
+{
+    b.push(fill_mask(spot.slot.mask()))?;
+    block(b, on, body, Spot::own(spot.slot))?;
+    Ok(())
+}
+
+/// `foreach_active`: a turn for each lane of the mask, the lowest first.
+#[cycle(stmt)]
+fn active_loop(
+    b: &mut Body,
+    on: &Scope,
+    index: usize,
+    body: &TypedStmt,
+    spot: Spot,
+) -> Result<(), AllocError>
+    requires slots { spot.slot.number + 1 + 3 < 4294967296 }
+    requires index { Present on.now (Ask Uniform (Variable index) I64) }
+    requires body { Present on.now (stmt_asks on.now.answer (stmt_of body.now) (spot.slot.number + 1 + 3)) }
+    ensures { OnOk result (Writes b.old b.new (active_at on.now index (stmt_of body.now) spot)) }
+{
+    b.push(copy_mask(spot.slot.mask(), spot.masks.on))?;
+    let top = next(b);
+    let ty = Ty {
+        rate: Rate::Uniform,
+        elem: Elem::I64,
+    };
+    take_lane(b, on.variable(index, ty), spot.slot)?;
+    stmt(b, on, body, Spot::own(spot.slot.next()))?;
+    b.push(Instr::JumpIf(JumpTest::On, mask(spot.slot.mask()), top))?;
     Ok(())
 }
 

@@ -1,5 +1,5 @@
 -- Which nodes of a program have code, and the first in the text that has none: a node comes before its parts. Left without
--- are calls of the library, packed calls, `foreach`, `foreach_active`, `unmasked`, `print` and `assert`. One line for each kind of node; parts in the order of the text.
+-- are calls of the library, packed calls, `foreach`, `print` and `assert`. One line for each kind of node; parts in the order of the text.
 use Rattle.std.specs.Prelude.{List, [], ◌∷◌, Option, Some, None}
 use Rattle.std.specs.Option.{option_or}
 use Rattle.isp_base.specs.declared.types.Span.{Span}
@@ -85,8 +85,8 @@ abbrev mutual
   stmt_left (t_do f n a x s) = option_or (stmt_left a) (expr_left x)
   stmt_left (t_for f n i x p m a s) = option_or (first_left i) (option_or (given_left x) (option_or (step_left p) (stmt_left a)))
   stmt_left (t_foreach k n rs a s) = Some s
-  stmt_left (t_foreach_active k n i a s) = Some s
-  stmt_left (t_unmasked k b s) = Some s
+  stmt_left (t_foreach_active k n i a s) = stmt_left a
+  stmt_left (t_unmasked k b s) = block_left b
   stmt_left (t_jump j k s) = None
   stmt_left (t_return k x s) = given_left x
   stmt_left (t_print k t xs s) = Some s

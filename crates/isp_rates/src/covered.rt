@@ -157,9 +157,9 @@ fn stmt(s: &TypedStmt) -> Option<Span>
             body,
             ..
         } => first(before).or(given(test).or(step(after).or(stmt(body)))),
+        TypedStmt::ForeachActive { body, .. } => stmt(body),
+        TypedStmt::Unmasked { body, .. } => block(body),
         TypedStmt::Foreach { span, .. }
-        | TypedStmt::ForeachActive { span, .. }
-        | TypedStmt::Unmasked { span, .. }
         | TypedStmt::Print { span, .. }
         | TypedStmt::Assert { span, .. } => Some(*span),
     }

@@ -1,7 +1,7 @@
 //! Worked examples, each record with its working.
 
 /// How many records there are.
-pub(super) const COUNT: usize = 49;
+pub(super) const COUNT: usize = 60;
 
 /// The records.
 pub(super) const ROWS: &str = r##"=== a division behind a select
@@ -250,4 +250,59 @@ The body of f, the return, the call; the body of g, the return and the constant.
 4 f 224 {}
 {"arrays":{},"result":1}
 uniform int g() { return 1; } export uniform int f() { return g(); }
+=== foreach_active under a mask
+0, 2 and 3: 1, then 13, then 134.
+4 f 10000 {}
+{"arrays":{},"result":134}
+export uniform int f() { uniform int t = 0; if (programIndex != 1) foreach_active (i) { t = t * 10 + (int)i + 1; } return t; }
+=== foreach_active under a mask by eight
+All but 1: the digits 1, 3, 4, 5, 6, 7, 8.
+8 f 10000 {}
+{"arrays":{},"result":1345678}
+export uniform int f() { uniform int t = 0; if (programIndex != 1) foreach_active (i) { t = t * 10 + (int)i + 1; } return t; }
+=== foreach_active under a mask by sixteen
+Twice p, but where p is 1, 4, 7, 10 or 13.
+16 f 10000 {"a":[9,9,9,9,9,9,9,9,9,9,9,9,9,9,9,9]}
+{"arrays":{"a":[0,9,4,6,9,10,12,9,16,18,9,22,24,9,28,30]},"result":null}
+export void f(uniform int a[]) { if (programIndex % 3 != 1) foreach_active (i) a[i] = (int)i * 2; }
+=== a varying continue in a foreach_active
+2 continues in its own turn.
+4 f 10000 {"a":[9,9,9,9]}
+{"arrays":{"a":[0,1,9,3]},"result":null}
+export void f(uniform int a[]) { foreach_active (i) { if (programIndex == 2) continue; a[programIndex] = (int)i; } }
+=== a foreach_active in a loop with a break
+Turns of four, of three and of two: 0 breaks, then 1, then 2.
+4 f 10000 {"a":[0,0,0,0]}
+{"arrays":{"a":[1,2,3,3]},"result":null}
+export void f(uniform int a[]) { for (uniform int k = 0; k < 3; k++) { foreach_active (i) { a[i] += 1; } if (programIndex == k) break; } }
+=== a foreach_active in a foreach_active
+Each alone, then the same one alone: 0, 2, 24, 246.
+4 f 10000 {}
+{"arrays":{},"result":246}
+export uniform int f() { uniform int t = 0; foreach_active (i) foreach_active (j) { t = t * 10 + (int)i + (int)j; } return t; }
+=== a trap in a foreach_active
+0 and 1 have stored when it is the turn of 2.
+4 f 10000 {"a":[9,9]}
+trap index, instance 2
+export void f(uniform int a[]) { foreach_active (i) ⟦a[i]⟧ = 5; }
+=== unmasked under an if
+0 comes, and all store.
+4 f 10000 {"a":[0,0,0,0]}
+{"arrays":{"a":[7,7,7,7]},"result":null}
+export void f(uniform int a[]) { if (programIndex == 0) unmasked { a[programIndex] = 7; } }
+=== unmasked under an if by eight
+5 comes, and all store.
+8 f 10000 {"a":[0,0,0,0,0,0,0,0]}
+{"arrays":{"a":[7,7,7,7,7,7,7,7]},"result":null}
+export void f(uniform int a[]) { if (programIndex == 5) unmasked { a[programIndex] = 7; } }
+=== those that came go on after an unmasked
+All get p + 1, then 2 and 3 get 10 more.
+4 f 10000 {"a":[0,0,0,0]}
+{"arrays":{"a":[1,2,13,14]},"result":null}
+export void f(uniform int a[]) { int x = 0; if (programIndex > 1) { unmasked { x = programIndex + 1; } x += 10; } a[programIndex] = x; }
+=== an unmasked in a foreach_active
+Each of four turns adds its index in all: 0 + 1 + 2 + 3.
+4 f 10000 {"a":[0,0,0,0]}
+{"arrays":{"a":[6,6,6,6]},"result":null}
+export void f(uniform int a[]) { foreach_active (i) unmasked { a[programIndex] += (int)i; } }
 "##;

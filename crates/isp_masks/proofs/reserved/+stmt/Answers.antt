@@ -5,7 +5,11 @@ use Rattle.isp_typed.specs.Nodes.{stmts_nodes, block_nodes}
 use Rattle.isp_typed.specs.Typed.{TStmt, t_for, t_stmts}
 use Rattle.isp_typed.proofs.StmtViews.{for_view}
 use Rattle.isp_typed.specs.Views.{block_of, expr_of, first_of, simple_of, stmt_of, stmts_of}
+use Rattle.isp_base.specs.declared.types.Elem.TheVariants.{I64}
+use Rattle.isp_base.specs.declared.types.Rate.TheVariants.{Uniform}
+use Rattle.isp_lower.specs.Asks.{Register}
 use Rattle.isp_lower.specs.Reserved.{Gives}
+use Rattle.isp_lower.specs.Rows.{Variable}
 use Rattle.isp_lower.proofs.Lemmas.{both_given, gives_none}
 use Rattle.isp_masks.specs.Asks.{block_asks, stmt_asks, stmts_asks}
 use Rattle.isp_masks.proofs.Forms.{nodes_low, stmts_more, stmts_end}
@@ -48,6 +52,17 @@ while_loop-returns t c =
 pub do_loop-returns : goal.do_loop-returns
 do_loop-returns t c =
     both_given _ _ _ _ _ c.in_ok-parts.ensures.gives (both_given _ _ _ _ _ (rw c.in_ok-parts.ensures.number at c.in_ok-stmt.ensures) (rw c.in_ok-parts.ensures.number at c.in_ok-expr.ensures))
+
+pub unmasked-returns : goal.unmasked-returns
+unmasked-returns t c = both_given _ _ _ _ _ c.in_ok-parts.ensures.gives (rw c.in_ok-parts.ensures.number at c.in_ok-block.ensures)
+
+pub active_loop-returns : goal.active_loop-returns
+active_loop-returns t c =
+    let none = gives_none c.args.r.now in
+    let index : Gives c.args.r.now c.args.r.now (Register Uniform (Variable c.args.index) I64) = record { rows = none.rows; masks = none.masks; has = tt } in
+    both_given _ _ _ _ _
+    (both_given _ _ _ _ _ index (both_given _ _ _ _ _ (rw c.in_ok-one.ensures.number at c.in_ok-one.ensures.gives) (both_given _ _ _ _ _ c.in_ok-mask.ensures (rw c.in_ok-one.ensures.number at c.in_ok-parts.ensures.gives))))
+    (rw (c.in_ok-parts.ensures.number, c.in_ok-one.ensures.number) at c.in_ok-stmt.ensures)
 
 pub turns-returns : goal.turns-returns
 turns-returns t c =

@@ -27,6 +27,12 @@ decreases-while_loop l = 4 * stmt_nodes (stmt_of l.body.now) + 1
 abbrev pub decreases-do_loop : goal.decreases-do_loop
 decreases-do_loop l = 4 * stmt_nodes (stmt_of l.body.now) + 1
 
+abbrev pub decreases-unmasked : goal.decreases-unmasked
+decreases-unmasked l = 4 * block_nodes (block_of l.body.now)
+
+abbrev pub decreases-active_loop : goal.decreases-active_loop
+decreases-active_loop l = 4 * stmt_nodes (stmt_of l.body.now) + 1
+
 abbrev pub decreases-turns : goal.decreases-turns
 decreases-turns l = 4 * stmt_nodes (stmt_of l.body.now) + 1
 

@@ -58,6 +58,12 @@ decreases-while_loop l = 8 * stmt_nodes (stmt_of l.body.now) + 3
 abbrev pub decreases-do_loop : goal.decreases-do_loop
 decreases-do_loop l = 8 * stmt_nodes (stmt_of l.body.now) + 3
 
+abbrev pub decreases-unmasked : goal.decreases-unmasked
+decreases-unmasked l = 8 * block_nodes (block_of l.body.now)
+
+abbrev pub decreases-active_loop : goal.decreases-active_loop
+decreases-active_loop l = 8 * stmt_nodes (stmt_of l.body.now) + 1
+
 abbrev pub decreases-stepped_turn : goal.decreases-stepped_turn
 decreases-stepped_turn l = 8 * stmt_nodes (stmt_of l.body.now) + 2
 
