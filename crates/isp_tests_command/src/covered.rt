@@ -80,12 +80,12 @@ fn first_node_not_yet(rt: HostRuntime) -> Result<(), Fail> {
             "90 NotYet at 18..60",
         ),
         (
-            "export void f() { return; foreach_active (i) f(); }",
-            "90 NotYet at 26..49",
+            "export void f() { return; foreach_active (i) abs(1); }",
+            "90 NotYet at 45..51",
         ),
         (
-            "export void f() { unmasked { f(); } }",
-            "90 NotYet at 18..35",
+            "export void f() { unmasked { abs(1); } }",
+            "90 NotYet at 29..35",
         ),
         (
             "export void f() { int x; print(\"%\", abs(x)); }",
@@ -108,6 +108,8 @@ fn compiled(rt: HostRuntime) -> Result<(), Fail> {
     for text in [
         "",
         "export void f() { int x; }",
+        "export void f() { return; foreach_active (i) f(); }",
+        "export void f() { unmasked { f(); } }",
         "export void f() { int x = 1, y = 2; }",
         "export void f() { const int x = 1; }",
         "export void f(const uniform int x) { }",
