@@ -63,7 +63,7 @@ later_suc zero (r ∷ rs) = refl
 later_suc (suc i) [] = refl
 later_suc (suc i) (r ∷ rs) = later_suc i rs
 
-later_drop : (i : ℕ) (rs : List Rate) → later (drop i rs) ≡ drop (i + 1) rs
+pub later_drop : (i : ℕ) (rs : List Rate) → later (drop i rs) ≡ drop (i + 1) rs
 later_drop i rs = later_suc i rs ∙ ap (λ n. drop n rs) (sym (add-one i))
 
 no_rate : (j : ℕ) → next_rate (drop j []) ≡ Varying

@@ -16,7 +16,7 @@ use Rattle.isp_base.specs.declared.types.Rate.{Rate}
 use Rattle.isp_base.specs.declared.types.Rate.TheVariants.{Uniform, Varying}
 use Rattle.isp_base.specs.declared.types.Span.{Span}
 use Rattle.isp_base.specs.declared.types.Value.{Value}
-use Rattle.isp_code.specs.Calls.{place_at}
+use Rattle.isp_code.specs.Calls.{no_place, place_at}
 use Rattle.isp_code.specs.Conf as machine
 use Rattle.isp_code.specs.Conf.{Conf, Go}
 use Rattle.isp_code.specs.Lines.{size, item}
@@ -28,7 +28,7 @@ use Rattle.isp_meaning.specs.State.{State, tick, extent, extent_at}
 use Rattle.isp_meaning.specs.Payloads.{Payload, One, Each, mapped, joined, converted, offender}
 use Rattle.isp_meaning.specs.Outcomes.{Val, Gives, Fails, Stops, bind, checked}
 use Rattle.isp_meaning.specs.Places.{Place, Variable, Element, variable, outside, held}
-use Rattle.isp_meaning.specs.Expressions.{Passed, Values, Store, value, arguments, passed}
+use Rattle.isp_meaning.specs.Expressions.{Passed, Values, Store, value, values, arguments, passed}
 use Rattle.isp_meaning.specs.Loads.{no_variable, KeepsBy}
 use Rattle.isp_base.specs.declared.types.Ty.{Ty}
 use Rattle.isp_typed.specs.Fine.{heads, HoldsArray, params_of}
@@ -36,28 +36,36 @@ use Rattle.isp_typed.specs.declared.variable.Holds.{Holds as Held}
 use Rattle.isp_typed.specs.declared.variable.Holds.TheVariants as holds
 use Rattle.isp_typed.specs.declared.variable.Variable.{Variable as Declared}
 use Rattle.isp_typed.specs.declared.variable.ArrayVariable.{ArrayVariable}
-use Rattle.isp_typed.specs.Typed.{TExpr, t_constant, t_program_index, t_place, t_convert, t_cast, t_unary, t_binary, t_compare, t_logic, t_choose, t_call, t_library, t_packed_store, t_packed_load, TPlace, t_variable, t_element, TArgument, t_by_value, t_by_name, TCall, t_called, TArguments, t_no_arguments, t_argument_then, TFunction, type_of}
-use Rattle.isp_lower.specs.Callees.{rate_held, rates_held, rates_of}
+use Rattle.isp_typed.specs.Typed.{TExpr, t_constant, t_program_index, t_place, t_convert, t_cast, t_unary, t_binary, t_compare, t_logic, t_choose, t_call, t_library, t_packed_store, t_packed_load, TPlace, t_variable, t_element, TArgument, t_by_value, t_by_name, t_called, TArguments, t_no_arguments, t_argument_then, TExprs, t_no_exprs, t_expr_then, TFunction, type_of}
+use Rattle.isp_meaning.specs.Library.{argument, library_value}
+use Rattle.isp_typed.specs.Fine.{rates_of as rate_of_all}
+use Rattle.isp_typed.specs.Library.{library_type, parts}
+use Rattle.isp_typed.specs.declared.library.Library.{Library}
+use Rattle.isp_lower.specs.Callees.{later, next_rate, rate_held, rates_held, rates_of}
+use Rattle.isp_lower.specs.Library.{library_code, library_rates}
 use Rattle.isp_lower.specs.Calls.{IsHanded, AreHanded, Takes, given_back, CallRuns}
 use Rattle.isp_lower.specs.Layout.{class_at, register, mask_register, array_register}
 use Rattle.isp_lower.specs.Setting.{ArrayFitsAt, ArrayFits, Setting, IsSettled, gang_of, calls_of, AreAt, At, Stands, at_rate, held_at, Holds, Spares}
 use Rattle.isp_lower.specs.Runs.{Comes, Enters, Runs}
-use Rattle.isp_lower.specs.Code.{convert, constant, constant_of, convert_to, part_to, lift_to, lifted, found, operand, operand_of, lift_code, is_whole, whole, whole_of, index, index_of, read, expr_places, expr_code, expr_to, argument_places, arguments_places, argument_register, argument_registers, argument_code, arguments_code, calling, select, same_rate, stays, stays_at, is_short, choose_code, choose_to}
-use Rattle.isp_lower.proofs.Base.{are_front, are_back, comes_none, at_to, moved_by, spares_all, spares_less}
+use Rattle.isp_lower.specs.Code.{convert, constant, constant_of, convert_to, part_to, lift_to, lifted, found, operand, operand_of, lift_code, is_whole, whole, whole_of, index, index_of, read, expr_places, expr_code, expr_to, values_code, values_places, value_registers, argument_places, arguments_places, argument_register, argument_registers, argument_code, arguments_code, calling, select, same_rate, stays, stays_at, is_short, choose_code, choose_to}
+use Rattle.isp_lower.proofs.Base.{are_front, are_back, comes_none, comes_on, at_to, moved_by, spares_all, spares_less, spares_on}
 use Rattle.isp_lower.proofs.Rates.{Filled, held_same, at_mapped, at_offender, filled_on}
 use Rattle.isp_lower.proofs.Lines.{set_at, value_at, convert_line, unary_line, compare_line, operate_at, place_named}
 use Rattle.isp_lower.proofs.Access.{as_whole, found_items, filled_items, read_line, size_at, item_at, get_at, read_is, outside_is}
 use Rattle.isp_lower.proofs.Values.{wrap_bits, constant_is}
-use Rattle.isp_lower.proofs.Combine.{runs_after, runs_on, bind_runs, ok_less, renamed, told_as, lift_runs}
+use Rattle.isp_lower.proofs.Combine.{runs_after, runs_on, set_comes, set_goes, set_masks, set_spares, set_stands, bind_runs, ok_less, renamed, told_as, lift_runs}
 use Rattle.isp_lower.proofs.Found.{few, constant_is_one, found_typed, found_low, operand_typed, operand_low}
 use Rattle.isp_lower.proofs.Choose.{choose_front, choose_runs}
 use Rattle.isp_lower.proofs.Short.{same_rate-is, InPlace, stays_in_place, short_runs}
 use Rattle.isp_lower.proofs.Logic.{logic_one, logic_each}
-use Rattle.isp_lower.proofs.Targets.{Target, InSlot, InVariable, target, Leaves, leaves_after, bind_leaves, write_leaves, came_leaves}
+use Rattle.isp_lower.proofs.Targets.{Target, InSlot, InVariable, target, Leaves, leaves_after, bind_leaves, write_leaves, write_sure, came_leaves}
 use Rattle.isp_lower.proofs.GivenBack.{GivesBackBy, call_gives, answer_held, answer_filled, given_is}
 use Rattle.isp_lower.proofs.Nodes.{enters_part, enters_later, leaf_runs, operand_runs, one_runs, pair_runs}
-use Rattle.isp_lower.proofs.Kept.{Keeps, kept_of, held_kept, arguments_still, value_still}
-use Rattle.isp_lower.proofs.Parts.{ExprParts, CallParts, ArgumentsParts, ArgumentParts, SpareFits}
+use Rattle.isp_lower.proofs.InRow.{AllHold, EachFrom, HoldFrom, IsAway, TypedFrom, enough, hold_from, others_away, registers_count, typed_from}
+use Rattle.isp_lower.proofs.Kept.{Keeps, kept_of, held_kept, arguments_still, value_still, values_still}
+use Rattle.isp_lower.proofs.LibraryLines.{Makes, library_makes}
+use Rattle.isp_lower.proofs.LibraryTypes.{part_elems}
+use Rattle.isp_lower.proofs.Parts.{ExprParts, OperandFits, ValuesParts, CallParts, ArgumentsParts, ArgumentParts, SpareFits}
 use Rattle.isp_lower.specs.Asks.{first_slot, second_slot}
 use Rattle.isp_lower.specs.Rated.{Reaches}
 use Rattle.isp_lower.specs.Tables.{IsTyped}
@@ -318,6 +326,64 @@ module _ (w : Setting) (ready : IsSettled w) where
       go true ez at = choose_node InSlot e x y t sp ihe ez pc p k n q rest a s c fit.5 at (are_front w.code.places p (expr_places w.layout e) _ places) (omega arith) b
       go false ez at = long_node e x y t sp ihe ihx ihy pc p k n q rest a s c fit at places (omega arith) b
 
+  -- ---- values in a row
+
+  -- the rest of the values, once the first is held
+  held_both : (rs : List Rate) (x : TExpr) (regs : List ℕ) (n pc q : ℕ) (a : Mask) (m : Payload) (s : State) (c : Conf) (v : Val (List Payload)) → OperandFits w (next_rate rs) (type_of x).elem x n → ExprParts w x n → Stands w s c → KeepsBy no_variable s v → Holds (next_rate rs) a (operand w.layout (next_rate rs) x n) m c → Runs w c pc (n + 1) q (λ ms c'. AllHold (later rs) a regs ms c') v → Runs w c pc n q (λ ms c'. AllHold rs a (operand w.layout (next_rate rs) x n ∷ regs) ms c') (bind v (λ ms s1. Gives (m ∷ ms) s1))
+  held_both rs x regs n pc q a m s c (Gives ms s1) fit parts st k h r = record {
+    conf = r.conf;
+    steps = r.steps;
+    comes = r.comes;
+    at = r.at;
+    stands = r.stands;
+    spares = spares_less w n (n + 1) c r.conf (omega arith) r.spares;
+    masks = λ j lt. r.masks j (omega arith);
+    holds = (h ∙ sym (held_kept w (next_rate rs) (n + 1) c r.conf a (operand w.layout (next_rate rs) x n) (kept_of w (n + 1) c r.conf s s1 st r.stands k r.spares) (operand_low w ready (next_rate rs) (type_of x).elem x n fit parts)), r.holds);
+    bound = r.bound;
+  }
+  held_both rs x regs n pc q a m s c (Fails p s1) fit parts st k h r = r
+  held_both rs x regs n pc q a m s c (Stops s1) fit parts st k h r = r
+
+  abbrev pub ValuesRun : TExprs → Type 0
+  ValuesRun xs =
+      (rs : List Rate) (pc p k n q rest : ℕ) (a : Mask) (s : State) (c : Conf) → ValuesParts w rs xs n → AreAt w.routine.code pc (values_code w.layout rs xs pc p k n) → AreAt w.code.places p (values_places w.layout xs) → rest ≤ q → Enters w pc k n a s c q → Runs w c (pc + length (values_code w.layout rs xs pc p k n)) n rest (λ ms c'. AllHold rs a (value_registers w.layout rs xs n) ms c') (values (gang_of w) w.frame (calls_of w) xs a s)
+
+  -- ---- the library
+
+  -- one or two instructions that leave a value
+  made_leaves : (u : Target) (c c1 : Conf) (t pc n q : ℕ) (a : Mask) (s : State) (r : Rate) (e : Elem) (m : Payload) (is : List Instr) → Comes w c t c1 → At w c1 pc → AreAt w.routine.code pc is → Stands w s c1 → Spares w n c c1 → ((r : ℕ) → r < n → c1.masks r ≡ c.masks r) → t + 2 + q ≤ 32 * s.work → Makes w.code w.routine r (target w.layout u r e n) (w.layout.spare r e n) a m c1 is → Leaves w u (target w.layout u r e n) c (pc + length is) n q r a (Gives m s)
+  made_leaves u c c1 t pc n q a s r e m [] h at has st ke ma le made = absurd made.steps
+  made_leaves u c c1 t pc n q a s r e m (i ∷ []) h at has st ke ma le made =
+      write_sure w ready u c c1 t pc _ n q a s i r e None Divide no_place m made.value h at (omega arith) has.0 st ke ma (omega (arith, le)) made.same made.filled made.steps
+  made_leaves u c c1 t pc n q a s r e m (i ∷ j ∷ []) h at has st ke ma le made =
+      let z = made.steps.0 in
+      let d = w.layout.spare r e n in
+      let c2 = set_at r c1 d z in
+      write_sure w ready u c c2 (t + 1) (pc + 1) _ n q a s j r e None Divide no_place m made.value (comes_on w c c1 c2 t 1 h (set_comes w ready r c1 d z pc i at has.0 made.steps.1)) (set_goes w ready r c1 d z pc at) (omega arith) has.1.0 (set_stands w ready r c1 e n z s st) (spares_on w n c c1 c2 ke (set_spares w ready r c1 e n n z (omega arith))) (λ g lt. set_masks w ready r c1 d z g ∙ ma g lt) (omega (arith, le)) made.same made.filled made.steps.2
+  made_leaves u c c1 t pc n q a s r e m (i ∷ j ∷ g ∷ is) h at has st ke ma le made = absurd made.steps
+
+  pub library_node : (u : Target) (f : Library) (e : Elem) (xs : TExprs) (t : Ty) (sp : Span) → ValuesRun xs → NodeRuns u (t_library f e xs t sp)
+  library_node u f e xs t sp ih pc p k n q rest a s c fit ty has places le b =
+      let rs = library_rates f t.rate in
+      let regs = value_registers w.layout rs xs n in
+      let d = target w.layout u t.rate t.elem n in
+      let cv = values_code w.layout rs xs pc p k n in
+      let cl = library_code f t.rate d (w.layout.spare t.rate t.elem n) regs k in
+      let to : pc + length cv + length cl ≡ pc + length (cv ++ cl) = omega (arith, length-append cv cl) in
+      let most = enough f e xs t t.rate fit.0 in
+      let typed : TypedFrom w rs (part_elems e (parts f)) regs = subst (λ es. TypedFrom w rs es regs) fit.0.elems (typed_from w rs xs n most fit.2) in
+      bind_leaves w ready u d c (pc + length cv) n 2 rest (λ ms c'. AllHold rs a regs ms c') (values (gang_of w) w.frame (calls_of w) xs a (tick s)) _ (pc + length (cv ++ cl)) n t.rate a
+      (ih rs pc p k n (32 + q) (2 + rest) a (tick s) c fit.2 (are_front w.routine.code pc cv cl has) places (omega (arith, le)) (enters_part w ready pc k n (32 + q) q a s c (omega arith) b))
+      (λ ms s1 ok.
+      let v = library_value (gang_of w) e a f (argument ms 0) (argument ms 1) (argument ms 2) in
+      subst (λ g. Leaves w u d c g n rest t.rate a (Gives v s1)) to
+      (made_leaves u c ok.conf ok.steps (pc + length cv) n rest a s1 t.rate t.elem v cl ok.comes ok.at (are_back w.routine.code pc cv cl has) ok.stands ok.spares ok.masks (omega (arith, ok.bound))
+      (made f e (rate_of_all xs) t d regs ms ok.conf fit.0.gives (ok.masks k b.low ∙ b.mask) ty fit.1 typed (others_away w ready rs xs n most fit.2) (hold_from rs a regs ms ok.conf (omega (arith, most, registers_count w rs xs n)) ok.holds))))
+    where
+      made : (f : Library) (e : Elem) (r : Rate) (t : Ty) (d : ℕ) (regs : List ℕ) (ms : List Payload) (c : Conf) → t ≡ library_type f e r → c.masks k ≡ a → IsTyped w t.rate d t.elem → IsTyped w t.rate (w.layout.spare t.rate t.elem n) t.elem → TypedFrom w (library_rates f t.rate) (part_elems e (parts f)) regs → EachFrom (λ j q x. IsAway w n q x) (later (library_rates f t.rate)) 1 regs → HoldFrom (library_rates f t.rate) a regs ms c → Makes w.code w.routine t.rate d (w.layout.spare t.rate t.elem n) a (library_value (gang_of w) e a f (argument ms 0) (argument ms 1) (argument ms 2)) c (library_code f t.rate d (w.layout.spare t.rate t.elem n) regs k)
+      made f e r t d regs ms c et em td ts tx away h =
+          subst (λ t. IsTyped w t.rate d t.elem → IsTyped w t.rate (w.layout.spare t.rate t.elem n) t.elem → TypedFrom w (library_rates f t.rate) (part_elems e (parts f)) regs → EachFrom (λ j q x. IsAway w n q x) (later (library_rates f t.rate)) 1 regs → HoldFrom (library_rates f t.rate) a regs ms c → Makes w.code w.routine t.rate d (w.layout.spare t.rate t.elem n) a (library_value (gang_of w) e a f (argument ms 0) (argument ms 1) (argument ms 2)) c (library_code f t.rate d (w.layout.spare t.rate t.elem n) regs k)) (sym et) (library_makes w ready a k (λ q u. w.layout.spare q u n) f e r d regs ms c em) td ts tx away h
+
   -- ---- calls
 
   -- what is handed over stays so while lower slots and variables do
@@ -492,9 +558,43 @@ module _ (w : Setting) (ready : IsSettled w) where
         (λ T s1 c1 pc1 z at en. operand_runs w ready c1 pc1 n (n + 1) (1 + z) T (means y T s1) Varying Truth y (expr_code w.layout y pc1 p1 n (n + 1)) fit.1 en.mask en.low at (expr_runs y pc1 p1 n (n + 1) z (1 + (1 + z)) T s1 c1 fit.4 (are_front w.routine.code pc1 (expr_code w.layout y pc1 p1 n (n + 1)) _ at) pl (omega arith) en))
     expr_runs (t_choose e x y t sp) pc p k n q rest a s c fit has places le b = choose_any e x y t sp (λ pc p k n q rest a s c f h pl le z. expr_runs e pc p k n q rest a s c f h pl le z) (λ pc p k n q rest a s c f h pl le z. expr_runs x pc p k n q rest a s c f h pl le z) (λ pc p k n q rest a s c f h pl le z. expr_runs y pc p k n q rest a s c f h pl le z) pc p k n q rest a s c fit has places le b
     expr_runs (t_call (t_called g xs sp) t) pc p k n q rest a s c fit has places le b = call_node InSlot g xs sp t (λ vs pc p k n q rest a s c f h pl le z. arguments_run xs vs pc p k n q rest a s c f h pl le z) pc p k n q rest a s c fit fit.0 has places le b
-    expr_runs (t_library g e xs t sp) pc p k n q rest a s c fit has places le b = absurd fit
+    expr_runs (t_library g e xs t sp) pc p k n q rest a s c fit has places le b = library_node InSlot g e xs t sp (λ rs pc p k n q rest a s c f h pl le z. values_run xs rs pc p k n q rest a s c f h pl le z) pc p k n q rest a s c fit fit.1 has places le b
     expr_runs (t_packed_store d x sp) pc p k n q rest a s c fit has places le b = absurd fit
     expr_runs (t_packed_load d v sp) pc p k n q rest a s c fit has places le b = absurd fit
+
+    -- values, each at its slot
+    pub values_run : (xs : TExprs) → ValuesRun xs
+    values_run t_no_exprs rs pc p k n q rest a s c fit has places le b = record {
+      conf = c;
+      steps = 0;
+      comes = comes_none w c;
+      at = at_to w c pc _ b.at (omega arith);
+      stands = b.stands;
+      spares = spares_all w n c;
+      masks = λ j h. refl;
+      holds = tt;
+      bound = omega (arith, le, b.used);
+    }
+    values_run (t_expr_then x xs) rs pc p k n q rest a s c fit has places le b =
+        let r = next_rate rs in
+        let f : heads x ≤ 1 = few w x n fit.1 in
+        let cx = expr_code w.layout x pc p k n in
+        let ca = operand_of w.layout r x k n cx in
+        let pc1 = pc + length ca in
+        let px = expr_places w.layout x in
+        let p1 = p + length px in
+        let cb = values_code w.layout (later rs) xs pc1 p1 k (n + 1) in
+        let regs = value_registers w.layout (later rs) xs (n + 1) in
+        let to : pc1 + length cb ≡ pc + length (ca ++ cb) = omega (arith, length-append ca cb) in
+        let ha : AreAt w.routine.code pc ca = are_front w.routine.code pc ca cb has in
+        bind_runs w ready c pc1 n 0 rest (Holds r a (operand w.layout r x n)) (means x a s) _ (pc + length (ca ++ cb)) n (λ ms c'. AllHold rs a (operand w.layout r x n ∷ regs) ms c')
+        (operand_runs w ready c pc k n (0 + rest) a (means x a s) r (type_of x).elem x cx fit.0 b.mask b.low ha
+        (expr_runs x pc p k n q (1 + (0 + rest)) a s c fit.1 (are_front w.routine.code pc cx _ ha) (are_front w.code.places p px _ places) (omega (arith, le)) b))
+        (λ m s1 ok.
+        runs_after w ready c ok.conf ok.steps (pc + length (ca ++ cb)) n rest _ _ ok.comes ok.spares ok.masks
+        (subst (λ g. Runs w ok.conf g n (ok.steps + rest) (λ ms c'. AllHold rs a (operand w.layout r x n ∷ regs) ms c') (bind (values (gang_of w) w.frame (calls_of w) xs a s1) (λ ms s2. Gives (m ∷ ms) s2))) to
+        (held_both rs x regs n (pc1 + length cb) (ok.steps + rest) a m s1 ok.conf (values (gang_of w) w.frame (calls_of w) xs a s1) fit.0 fit.1 ok.stands (values_still w ready (later rs) xs (n + 1) a s1 fit.2) ok.holds
+        (values_run xs (later rs) pc1 p1 k (n + 1) (ok.steps + rest) (ok.steps + rest) a s1 ok.conf fit.2 (are_back w.routine.code pc ca cb has) (are_back w.code.places p px _ places) (omega arith) (enters_later w ready pc pc1 k n (n + 1) (ok.steps + rest) q (0 + rest) a s s1 c (omega arith) b ok (omega arith))))))
 
     -- the arguments of a call, each at its slot
     pub arguments_run : (xs : TArguments) → ArgumentsRun xs

@@ -5,7 +5,7 @@ use Rattle.isp_base.specs.declared.types.Elem.{Elem}
 use Rattle.isp_base.specs.declared.types.Elem.TheVariants.{Bool as Truth}
 use Rattle.isp_base.specs.declared.types.Rate.{Rate}
 use Rattle.isp_base.specs.declared.types.Rate.TheVariants.{Uniform, Varying}
-use Rattle.isp_typed.specs.Typed.{TExpr, t_constant, t_program_index, t_place, t_convert, t_cast, t_unary, t_binary, t_compare, t_logic, t_choose, t_call, t_library, t_packed_store, t_packed_load, TPlace, t_variable, t_element, TArgument, t_by_value, t_by_name, TCall, t_called, TArguments, t_no_arguments, t_argument_then, TItem, t_plain, t_with_value, t_with_size, TSimple, t_value, t_run, t_assign, t_update, t_step, place_type, type_of}
+use Rattle.isp_typed.specs.Typed.{TExpr, t_constant, t_program_index, t_place, t_convert, t_cast, t_unary, t_binary, t_compare, t_logic, t_choose, t_call, t_library, t_packed_store, t_packed_load, TPlace, t_variable, t_element, TArgument, t_by_value, t_by_name, TCall, t_called, TArguments, t_no_arguments, t_argument_then, TExprs, t_no_exprs, t_expr_then, TItem, t_plain, t_with_value, t_with_size, TSimple, t_value, t_run, t_assign, t_update, t_step, place_type, type_of}
 use Rattle.isp_typed.specs.Fine.{params_of}
 use Rattle.isp_typed.specs.declared.variable.Holds.{Holds}
 use Rattle.isp_typed.specs.declared.variable.Holds.TheVariants as holds
@@ -13,9 +13,11 @@ use Rattle.isp_typed.specs.declared.variable.Variable.{Variable as Declared}
 use Rattle.isp_base.specs.declared.types.Ty.{Ty}
 use Rattle.isp_lower.specs.Setting.{Setting}
 use Rattle.isp_lower.specs.Tables.{Table}
-use Rattle.isp_lower.specs.Asks.{lift_asks, operand_asks, read_asks, work_asks, zero_asks, beyond, first_slot, second_slot, expr_asks, target_asks, call_asks, arguments_asks, argument_asks, simple_asks, item_asks, items_asks}
-use Rattle.isp_lower.proofs.Parts.{ExprParts, CallParts, ArgumentsParts, ArgumentParts, ItemParts, ItemsParts, LiftFits, OperandFits, PlaceParts, PlaceTyped, SimpleParts, WorkFits, ZeroFits}
-use Rattle.isp_lower.proofs.Trees.{ExprTree, CallTree, ArgumentsTree, ArgumentTree, ItemTree, ItemsTree, OperandTree, PlaceTree, SimpleTree}
+use Rattle.isp_lower.specs.Callees.{next_rate, later}
+use Rattle.isp_lower.specs.Library.{library_rates}
+use Rattle.isp_lower.specs.Asks.{lift_asks, operand_asks, values_asks, read_asks, work_asks, zero_asks, beyond, first_slot, second_slot, expr_asks, target_asks, call_asks, arguments_asks, argument_asks, simple_asks, item_asks, items_asks}
+use Rattle.isp_lower.proofs.Parts.{ExprParts, ValuesParts, CallParts, ArgumentsParts, ArgumentParts, ItemParts, ItemsParts, LiftFits, OperandFits, PlaceParts, PlaceTyped, SimpleParts, WorkFits, ZeroFits}
+use Rattle.isp_lower.proofs.Trees.{ExprTree, ValuesTree, CallTree, ArgumentsTree, ArgumentTree, ItemTree, ItemsTree, OperandTree, PlaceTree, SimpleTree}
 use Rattle.isp_lower.specs.Fits.{ExprFits, SimpleFits, ItemsFit}
 use Rattle.isp_lower.proofs.Rated.{expr_tree, simple_tree, items_tree}
 
@@ -74,13 +76,18 @@ module _ (w : Setting) where
     expr_fits (t_choose c x y u sp) n t h =
         (t.0.elem, t.0.reaches, h.0, operand_fits u.rate u.elem x (first_slot (type_of c).rate n) t.1 h.1.1.0, operand_fits u.rate u.elem y (second_slot (type_of c).rate n) t.2 h.1.1.1.0, expr_fits c n t.3 h.1.0, expr_fits x (first_slot (type_of c).rate n) t.4 h.1.1.0.1, expr_fits y (second_slot (type_of c).rate n) t.5 h.1.1.1.0.1)
     expr_fits (t_call c u) n t h = (h.0, call_fits c (Some u) n t h.1)
-    expr_fits (t_library f e xs u sp) n t h = absurd t
+    expr_fits (t_library f e xs u sp) n t h = (t.0, h.0, values_fit (library_rates f u.rate) xs n t.1 h.1)
     expr_fits (t_packed_store b x sp) n t h = absurd t
     expr_fits (t_packed_load b v sp) n t h = absurd t
 
     place_fits : (z : TPlace) (n : ℕ) → PlaceTree w.program.functions z → Table w.routine w.layout w.function.variables (target_asks z n) → PlaceParts w z n
     place_fits (t_variable v u sp) n t h = h
     place_fits (t_element b i u sp) n t h = (h.0, t.0, t.1, h.1.1.0, expr_fits i n t.2 h.1.1.1)
+
+    values_fit : (rs : List Rate) (xs : TExprs) (n : ℕ) → ValuesTree w.program.functions rs xs → Table w.routine w.layout w.function.variables (values_asks rs xs n) → ValuesParts w rs xs n
+    values_fit rs t_no_exprs n t h = tt
+    values_fit rs (t_expr_then x xs) n t h =
+        (operand_fits (next_rate rs) (type_of x).elem x n t.0 h.1.0, expr_fits x n t.1 h.1.0.1, values_fit (later rs) xs (n + 1) t.2 h.1.1)
 
     call_fits : (c : TCall) (answer : Option Ty) (n : ℕ) → CallTree w.program.functions c answer → Table w.routine w.layout w.function.variables (call_asks c n) → CallParts w c answer n
     call_fits (t_called f xs sp) answer n t h = (t.0, t.1, t.2, arguments_fit (params_of t.0) xs n t.3 h.1)

@@ -1,5 +1,5 @@
 -- Where values are found: registers of the right type that later code leaves as they are.
-use Rattle.std.proofs.Common.{◌≡◌, ℕ, ◌+◌, ◌≤◌, Some, Bool, true, false, refl, sym, ap, ◌∙◌, subst, arith}
+use Rattle.std.proofs.Common.{◌≡◌, ℕ, ◌+◌, ◌≤◌, Some, Bool, true, false, refl, sym, ap, ◌∙◌, subst, arith, inl, inr}
 use Rattle.isp_base.specs.declared.types.Elem.{Elem}
 use Rattle.isp_base.specs.declared.types.Elem.TheVariants.{Bool as Truth, I8, U8, I16, U16, I32, U32, I64, U64}
 use Rattle.isp_base.specs.declared.types.Rate.{Rate}
@@ -10,7 +10,7 @@ use Rattle.isp_typed.specs.Fine.{heads}
 use Rattle.isp_typed.specs.Typed.{TExpr, t_constant, t_program_index, t_place, t_convert, t_cast, t_unary, t_binary, t_compare, t_logic, t_choose, t_call, t_library, t_packed_store, t_packed_load, t_variable, t_element, type_of}
 use Rattle.isp_lower.specs.Setting.{Setting, IsSettled}
 use Rattle.isp_lower.specs.Code.{lifted, found, operand, constant_of, is_whole, whole, index}
-use Rattle.isp_lower.proofs.Kept.{Low, low_spare, low_variable}
+use Rattle.isp_lower.proofs.Kept.{Low, Placed, low_spare, placed_low}
 use Rattle.isp_lower.proofs.Parts.{ExprParts, LiftFits, OperandFits}
 use Rattle.isp_lower.specs.Rated.{Reaches}
 use Rattle.isp_lower.specs.Tables.{IsTyped}
@@ -80,13 +80,41 @@ module _ (w : Setting) where
   found_typed (t_logic g x y r sp) n f = f.2
   found_typed (t_choose c x y t sp) n f = f.2
   found_typed (t_call c t) n f = f.0
-  found_typed (t_library g e xs t sp) n f = absurd f
+  found_typed (t_library g e xs t sp) n f = f.1
   found_typed (t_packed_store b x sp) n f = absurd f
   found_typed (t_packed_load b v sp) n f = absurd f
 
   pub operand_typed : (r : Rate) (t : Elem) (x : TExpr) (n : ℕ) → OperandFits w r t x n → ExprParts w x n → IsTyped w r (operand w.layout r x n) t
   operand_typed r t x n o f =
       subst (λ u. IsTyped w r (lifted w.layout r (type_of x).rate u (found w.layout x n) n) t) (sym o.elem) (lifted_typed r (type_of x).rate t (found w.layout x n) n o.reaches o.lift (found_typed x n f ∙ o.elem))
+
+  -- ---- in a variable's register, or in one of the slot
+
+  lifted_placed : (r given : Rate) (t : Elem) (f n : ℕ) → Reaches given r → Placed w.layout given n f → Placed w.layout r n (lifted w.layout r given t f n)
+  lifted_placed Uniform Uniform t f n re at = at
+  lifted_placed Uniform Varying t f n re at = absurd re
+  lifted_placed Varying Uniform t f n re at = inr (t, refl)
+  lifted_placed Varying Varying t f n re at = at
+
+  found_placed : (x : TExpr) (n : ℕ) → ExprParts w x n → Placed w.layout (type_of x).rate n (found w.layout x n)
+  found_placed (t_constant v sp) n f = inr (v.elem, refl)
+  found_placed (t_program_index sp) n f = inr (I32, refl)
+  found_placed (t_place (t_variable v t sp)) n f = inl (v, refl)
+  found_placed (t_place (t_element b i t sp)) n f = inr (t.elem, refl)
+  found_placed (t_convert e x) n f = inr (e, refl)
+  found_placed (t_cast x t sp) n f = lifted_placed t.rate (type_of x).rate (type_of x).elem (found w.layout x n) n f.0.reaches (found_placed x n f.1)
+  found_placed (t_unary o x t sp) n f = inr (t.elem, refl)
+  found_placed (t_binary o x y t sp) n f = inr (t.elem, refl)
+  found_placed (t_compare c x y r sp) n f = inr (Truth, refl)
+  found_placed (t_logic g x y r sp) n f = inr (Truth, refl)
+  found_placed (t_choose c x y t sp) n f = inr (t.elem, refl)
+  found_placed (t_call c t) n f = inr (t.elem, refl)
+  found_placed (t_library g e xs t sp) n f = inr (t.elem, refl)
+  found_placed (t_packed_store b x sp) n f = absurd f
+  found_placed (t_packed_load b v sp) n f = absurd f
+
+  pub operand_placed : (r : Rate) (t : Elem) (x : TExpr) (n : ℕ) → OperandFits w r t x n → ExprParts w x n → Placed w.layout r n (operand w.layout r x n)
+  operand_placed r t x n o f = lifted_placed r (type_of x).rate (type_of x).elem (found w.layout x n) n o.reaches (found_placed x n f)
 
 module _ (w : Setting) (ready : IsSettled w) where
   spare_low : (r : Rate) (t : Elem) (n : ℕ) → Low w.layout r (n + 1) (w.layout.spare r t n)
@@ -99,24 +127,10 @@ module _ (w : Setting) (ready : IsSettled w) where
   lifted_low Varying Varying t f n re low = low
 
   pub found_low : (x : TExpr) (n : ℕ) → ExprParts w x n → Low w.layout (type_of x).rate (n + 1) (found w.layout x n)
-  found_low (t_constant v sp) n f = spare_low Uniform v.elem n
-  found_low (t_program_index sp) n f = spare_low Varying I32 n
-  found_low (t_place (t_variable v t sp)) n f = low_variable w.layout t.rate (n + 1) v
-  found_low (t_place (t_element b i t sp)) n f = spare_low t.rate t.elem n
-  found_low (t_convert e x) n f = spare_low (type_of x).rate e n
-  found_low (t_cast x t sp) n f = lifted_low t.rate (type_of x).rate (type_of x).elem (found w.layout x n) n f.0.reaches (found_low x n f.1)
-  found_low (t_unary o x t sp) n f = spare_low t.rate t.elem n
-  found_low (t_binary o x y t sp) n f = spare_low t.rate t.elem n
-  found_low (t_compare c x y r sp) n f = spare_low r Truth n
-  found_low (t_logic g x y r sp) n f = spare_low r Truth n
-  found_low (t_choose c x y t sp) n f = spare_low t.rate t.elem n
-  found_low (t_call c t) n f = spare_low t.rate t.elem n
-  found_low (t_library g e xs t sp) n f = absurd f
-  found_low (t_packed_store b x sp) n f = absurd f
-  found_low (t_packed_load b v sp) n f = absurd f
+  found_low x n f = placed_low w.layout (type_of x).rate n (n + 1) (found w.layout x n) (omega arith) (found_placed w x n f)
 
   pub operand_low : (r : Rate) (t : Elem) (x : TExpr) (n : ℕ) → OperandFits w r t x n → ExprParts w x n → Low w.layout r (n + 1) (operand w.layout r x n)
-  operand_low r t x n o f = lifted_low r (type_of x).rate (type_of x).elem (found w.layout x n) n o.reaches (found_low x n f)
+  operand_low r t x n o f = placed_low w.layout r n (n + 1) (operand w.layout r x n) (omega arith) (operand_placed w r t x n o f)
 
   whole_low : (z : Bool) (i : TExpr) (n : ℕ) → ExprParts w i n → Low w.layout (type_of i).rate (n + 1) (whole w.layout z i n)
   whole_low true i n f = found_low i n f

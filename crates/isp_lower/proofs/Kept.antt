@@ -10,22 +10,24 @@ use Rattle.isp_base.specs.declared.types.Rate.{Rate}
 use Rattle.isp_base.specs.declared.types.Rate.TheVariants.{Uniform, Varying}
 use Rattle.isp_base.specs.declared.types.Span.{Span}
 use Rattle.isp_code.specs.Conf.{Conf}
-use Rattle.isp_typed.specs.Typed.{TExpr, t_constant, t_program_index, t_place, t_convert, t_cast, t_unary, t_binary, t_compare, t_logic, t_choose, t_call, t_library, t_packed_store, t_packed_load, t_variable, t_element, TArgument, t_by_value, t_by_name, TCall, t_called, TArguments, t_no_arguments, t_argument_then, type_of}
+use Rattle.isp_typed.specs.Typed.{TExpr, t_constant, t_program_index, t_place, t_convert, t_cast, t_unary, t_binary, t_compare, t_logic, t_choose, t_call, t_library, t_packed_store, t_packed_load, t_variable, t_element, TArgument, t_by_value, t_by_name, TCall, t_called, TArguments, t_no_arguments, t_argument_then, TExprs, t_no_exprs, t_expr_then, type_of}
 use Rattle.isp_meaning.specs.State.{State}
 use Rattle.isp_meaning.specs.Payloads.{Payload, One, Each, nothing}
 use Rattle.isp_meaning.specs.Outcomes.{Val, Gives, Fails, Stops, bind, checked, if_so, value_unless_empty}
-use Rattle.isp_meaning.specs.Expressions.{value, arguments}
-use Rattle.isp_meaning.specs.Loads.{no_variable, loads, call_loads, arguments_load, argument_loads, KeepsVariables, KeepsBy}
+use Rattle.isp_meaning.specs.Expressions.{value, values, arguments}
+use Rattle.isp_meaning.specs.Loads.{no_variable, loads, all_load, call_loads, arguments_load, argument_loads, KeepsVariables, KeepsBy}
 use Rattle.isp_meaning.proofs.Loads.{same, arguments_keep, calls_keep, variables_stay}
 use Rattle.isp_base.specs.declared.types.Ty.{Ty}
 use Rattle.isp_typed.specs.Fine.{params_of}
 use Rattle.isp_typed.specs.declared.variable.Holds.{Holds}
 use Rattle.isp_typed.specs.declared.variable.Holds.TheVariants as holds
 use Rattle.isp_typed.specs.declared.variable.Variable.{Variable as Declared}
+use Rattle.isp_lower.specs.Callees.{later}
 use Rattle.isp_lower.specs.Layout.{Layout}
+use Rattle.isp_lower.specs.Library.{library_rates}
 use Rattle.isp_lower.specs.Setting.{Setting, IsSettled, gang_of, calls_of, Stands, Spares, held_at}
 use Rattle.isp_lower.specs.Runs.{Runs}
-use Rattle.isp_lower.proofs.Parts.{ExprParts, CallParts, ArgumentsParts, ArgumentParts}
+use Rattle.isp_lower.proofs.Parts.{ExprParts, ValuesParts, CallParts, ArgumentsParts, ArgumentParts}
 use Rattle.isp_lower.specs.Asks.{first_slot, second_slot}
 
 -- the register of a variable, or a spare one of a slot below n
@@ -41,6 +43,14 @@ low_spare l r t n j lt = inr (t, j, lt, refl)
 
 pub low_variable : (l : Layout) (r : Rate) (n v : ℕ) → Low l r n (l.variable r v)
 low_variable l r n v = inl (v, refl)
+
+-- the register of a variable, or a spare one of this slot
+abbrev pub Placed : Layout → Rate → ℕ → ℕ → Type 0
+Placed l r n x = ((v : ℕ) × (x ≡ l.variable r v)) ⊎ ((t : Elem) × (x ≡ l.spare r t n))
+
+pub placed_low : (l : Layout) (r : Rate) (n m x : ℕ) → n < m → Placed l r n x → Low l r m x
+placed_low l r n m x lt (inl v) = inl v
+placed_low l r n m x lt (inr t) = inr (t.0, n, lt, t.1)
 
 pub record KeepsLow (l : Layout) (n : ℕ) (scalars : ℕ → ℕ) (vectors : ℕ → Lanes) (scalars' : ℕ → ℕ) (vectors' : ℕ → Lanes) : Type 0 where
   pub scalars_stay : (x : ℕ) → Low l Uniform n x → scalars' x ≡ scalars x
@@ -111,9 +121,13 @@ module _ (w : Setting) where
     no_loads (t_choose c x y t sp) n v f =
         ap (λ b. b || (loads x v || loads y v)) (no_loads c n v f.5) ∙ ap (λ b. b || loads y v) (no_loads x (first_slot (type_of c).rate n) v f.6) ∙ no_loads y (second_slot (type_of c).rate n) v f.7
     no_loads (t_call c t) n v f = call_no_loads c (Some t) n v f.1
-    no_loads (t_library g e xs t sp) n v f = absurd f
+    no_loads (t_library g e xs t sp) n v f = values_no_loads (library_rates g t.rate) xs n v f.2
     no_loads (t_packed_store b x sp) n v f = absurd f
     no_loads (t_packed_load b u sp) n v f = absurd f
+
+    values_no_loads : (rs : List Rate) (xs : TExprs) (n v : ℕ) → ValuesParts w rs xs n → all_load xs v ≡ false
+    values_no_loads rs t_no_exprs n v f = refl
+    values_no_loads rs (t_expr_then x xs) n v f = ap (λ b. b || all_load xs v) (no_loads x n v f.1) ∙ values_no_loads (later rs) xs (n + 1) v f.2
 
     pub call_no_loads : (c : TCall) (answer : Option Ty) (n v : ℕ) → CallParts w c answer n → call_loads c v ≡ false
     call_no_loads (t_called g xs sp) answer n v f = arguments_no_loads (params_of f.0) xs n v f.3
@@ -138,6 +152,16 @@ module _ (w : Setting) where
   still_by b s (Fails t s1) without k = tt
   still_by b s (Stops s1) without k = tt
 
+  still_on : {A : Type 0} (s s1 : State) (v : Val A) → KeepsVariables no_variable s s1 → KeepsBy no_variable s1 v → KeepsBy no_variable s v
+  still_on s s1 (Gives x s2) k h = (h.0 ∙ k.0, λ u e. h.1 u e ∙ k.1 u e, h.2 ∙ k.2, h.3 ∙ k.3, h.4 ∙ k.4)
+  still_on s s1 (Fails t s2) k h = tt
+  still_on s s1 (Stops s2) k h = tt
+
+  still_both : {A B : Type 0} (s : State) (v : Val A) (go : A → State → Val B) → KeepsBy no_variable s v → ((x : A) (s1 : State) → KeepsBy no_variable s1 (go x s1)) → KeepsBy no_variable s (bind v go)
+  still_both s (Gives x s1) go k f = still_on s s1 (go x s1) k (f x s1)
+  still_both s (Fails t s1) go k f = tt
+  still_both s (Stops s1) go k f = tt
+
   pub checked_still : {A B : Type 0} (o : Option ℕ) (kind : TrapKind) (sp : Span) (s : State) (x : A) (f : A → B) → KeepsBy no_variable s (bind (checked o kind sp s x) (λ m s1. Gives (f m) s1))
   checked_still None kind sp s x f = same no_variable s
   checked_still (Some p) kind sp s x f = tt
@@ -153,6 +177,12 @@ module _ (w : Setting) (ready : IsSettled w) where
   pub value_still : (x : TExpr) (n : ℕ) (a : Mask) (s : State) → ExprParts w x n → KeepsBy no_variable s (value (gang_of w) w.frame (calls_of w) x a s)
   value_still x n a s f =
       still_by w (loads x) s _ (λ v. no_loads w x n v f) (subst (λ u. KeepsBy (loads x) s (value (gang_width u) w.frame (calls_of w) x a s)) (sym ready.gang) (variables_stay w.program w.turns w.left w.frame x a s))
+
+  pub values_still : (rs : List Rate) (xs : TExprs) (n : ℕ) (a : Mask) (s : State) → ValuesParts w rs xs n → KeepsBy no_variable s (values (gang_of w) w.frame (calls_of w) xs a s)
+  values_still rs t_no_exprs n a s f = same no_variable s
+  values_still rs (t_expr_then x xs) n a s f =
+      still_both w s (value (gang_of w) w.frame (calls_of w) x a s) _ (value_still x n a s f.1)
+      (λ m s1. still_both w s1 (values (gang_of w) w.frame (calls_of w) xs a s1) _ (values_still (later rs) xs (n + 1) a s1 f.2) (λ ms s2. same no_variable s2))
 
   pub arguments_still : (vs : List Declared) (xs : TArguments) (n : ℕ) (a : Mask) (s : State) → ArgumentsParts w vs xs n → KeepsBy no_variable s (arguments (gang_of w) w.frame (calls_of w) xs a s)
   arguments_still vs xs n a s f =

@@ -28,11 +28,15 @@ mod Alone
 mod Places
 mod Variables
 mod Arguments
+mod LibraryValues
 mod Assigns
 mod Updates
 mod Items
 mod Trees
 mod Parts
+mod LibraryTypes
+mod InRow
+mod LibraryLines
 mod Rated
 mod Fitting
 mod Rows
@@ -40,6 +44,7 @@ mod Own
 mod FirstRows
 mod Numbers
 mod SoundLines
+mod SoundLibrary
 mod SoundFound
 mod SoundParts
 mod SoundCalls

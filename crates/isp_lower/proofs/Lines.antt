@@ -73,7 +73,7 @@ module _ (code : Listing) (h : Routine) (c : Conf) where
   compare_line Uniform o d x y k = refl
   compare_line Varying o d x y k = refl
 
-  compute_line : (r : Rate) (o : Plain) (d x y k : ℕ) → act code h c (compute r o d x y k) ≡ Go (set_at r c d (joined (op_bits (plain_of o) (elem_of h (register r d))) (c.masks k) (value_at r c k x) (value_at r c k y)))
+  pub compute_line : (r : Rate) (o : Plain) (d x y k : ℕ) → act code h c (compute r o d x y k) ≡ Go (set_at r c d (joined (op_bits (plain_of o) (elem_of h (register r d))) (c.masks k) (value_at r c k x) (value_at r c k y)))
   compute_line Uniform o d x y k = refl
   compute_line Varying o d x y k = refl
 

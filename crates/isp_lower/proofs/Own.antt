@@ -6,12 +6,16 @@ use Rattle.isp_base.specs.declared.types.Elem.TheVariants.{I64}
 use Rattle.isp_base.specs.declared.types.Rate.{Rate}
 use Rattle.isp_base.specs.declared.types.Rate.TheVariants.{Uniform, Varying}
 use Rattle.isp_base.specs.declared.types.Ty.{Ty}
-use Rattle.isp_typed.specs.Fine.{HoldsArray, HoldsValue, FineExpr, FinePlace, FineCall, FineArguments, FineArgument, params_of, FineTarget, FineSimple, FineItem}
-use Rattle.isp_typed.specs.Typed.{TExpr, t_constant, t_program_index, t_place, t_convert, t_cast, t_unary, t_binary, t_compare, t_logic, t_choose, t_call, t_library, t_packed_store, t_packed_load, TPlace, t_variable, t_element, TArgument, t_by_value, t_by_name, TCall, t_called, TArguments, t_no_arguments, t_argument_then, TItem, t_plain, t_with_value, t_with_size, TSimple, t_value, t_run, t_assign, t_update, t_step, TFunction, place_type, ty_of, type_of}
+use Rattle.isp_typed.specs.Fine.{HoldsArray, HoldsValue, FineExpr, FinePlace, FineCall, FineArguments, FineArgument, FineParts, params_of, FineTarget, FineSimple, FineItem}
+use Rattle.isp_typed.specs.Typed.{TExpr, t_constant, t_program_index, t_place, t_convert, t_cast, t_unary, t_binary, t_compare, t_logic, t_choose, t_call, t_library, t_packed_store, t_packed_load, TPlace, t_variable, t_element, TArgument, t_by_value, t_by_name, TCall, t_called, TArguments, t_no_arguments, t_argument_then, TExprs, t_no_exprs, t_expr_then, TItem, t_plain, t_with_value, t_with_size, TSimple, t_value, t_run, t_assign, t_update, t_step, TFunction, place_type, ty_of, type_of}
 use Rattle.isp_typed.specs.declared.variable.Holds.{Holds}
 use Rattle.isp_typed.specs.declared.variable.Holds.TheVariants as holds
 use Rattle.isp_typed.specs.declared.variable.Variable.{Variable}
-use Rattle.isp_lower.specs.Asks.{Ask, Nothing, Both, Register, ArrayOf, LocalOf, MaskOf, Number, All, first_slot, second_slot, beyond, lift_asks, test_asks, sides_ask, read_asks, work_asks, zero_asks, expr_asks, target_asks, call_asks, arguments_asks, argument_asks, change_asks, simple_asks, item_asks}
+use Rattle.isp_lower.specs.Asks.{Ask, Nothing, Both, Register, ArrayOf, LocalOf, MaskOf, Number, All, first_slot, second_slot, beyond, lift_asks, test_asks, sides_ask, read_asks, work_asks, zero_asks, expr_asks, target_asks, values_asks, call_asks, arguments_asks, argument_asks, change_asks, simple_asks, item_asks}
+use Rattle.isp_typed.specs.Library.{parts}
+use Rattle.isp_typed.specs.declared.library.Part.{Part}
+use Rattle.isp_lower.specs.Callees.{next_rate, later}
+use Rattle.isp_lower.specs.Library.{library_rates}
 use Rattle.isp_lower.specs.Reserved.{HoldsLocal, IsOwn}
 use Rattle.isp_lower.specs.Rows.{Name}
 use Rattle.isp_lower.specs.Tables.{AnyArray}
@@ -75,13 +79,20 @@ module _ (vars : List Variable) (answer : Option Ty) where
           let j = second_slot (type_of c).rate n in
           (tt, (expr_own c n f.0, ((lift_own t.rate (type_of x).rate (type_of x).elem i, expr_own x i f.1), ((lift_own t.rate (type_of y).rate (type_of y).elem j, expr_own y j f.2), sides_own (type_of c).rate n))))
       expr_own (t_call c t) n f = (tt, call_own c (Some t) n f)
-      expr_own (t_library g e xs t sp) n f = tt
+      expr_own (t_library g e xs t sp) n f = (tt, values_own e (parts g) (library_rates g t.rate) xs n f.0)
       expr_own (t_packed_store b x sp) n f = tt
       expr_own (t_packed_load b v sp) n f = tt
 
       place_own : (z : TPlace) (n : ℕ) → FinePlace fs vars z → IsOwn vars answer (target_asks z n)
       place_own (t_variable v t sp) n f = f
       place_own (t_element b i t sp) n f = (f.0, (lift_own t.rate (type_of i).rate I64 n, (tt, expr_own i n f.1)))
+
+      values_own : (e : Elem) (ps : List Part) (rs : List Rate) (xs : TExprs) (n : ℕ) → FineParts fs vars e ps xs → IsOwn vars answer (values_asks rs xs n)
+      values_own e [] rs t_no_exprs n f = tt
+      values_own e [] rs (t_expr_then x xs) n f = absurd f
+      values_own e (p ∷ ps) rs t_no_exprs n f = absurd f
+      values_own e (p ∷ ps) rs (t_expr_then x xs) n f =
+          (tt, ((lift_own (next_rate rs) (type_of x).rate (type_of x).elem n, expr_own x n f.0), values_own e ps (later rs) xs (n + 1) f.2))
 
       pub call_own : (c : TCall) (gives : Option Ty) (n : ℕ) → FineCall fs vars c gives → IsOwn vars answer (call_asks c n)
       call_own (t_called g xs sp) gives n f = (tt, arguments_own (params_of f.0) xs n f.3)

@@ -8,16 +8,19 @@ use Rattle.isp_base.specs.declared.types.Elem.{Elem}
 use Rattle.isp_base.specs.declared.types.Elem.TheVariants.{Bool as Truth, I32, I64}
 use Rattle.isp_base.specs.declared.types.Rate.{Rate}
 use Rattle.isp_base.specs.declared.types.Rate.TheVariants.{Uniform, Varying}
-use Rattle.isp_typed.specs.Typed.{TExpr, t_constant, t_program_index, t_place, t_convert, t_cast, t_unary, t_binary, t_compare, t_logic, t_choose, t_call, t_library, t_packed_store, t_packed_load, TPlace, t_variable, t_element, TArgument, t_by_value, t_by_name, TCall, t_called, TArguments, t_no_arguments, t_argument_then, TFunction, TItem, t_plain, t_with_value, t_with_size, TSimple, t_value, t_run, t_assign, t_update, t_step, place_type, type_of}
+use Rattle.isp_typed.specs.Typed.{TExpr, t_constant, t_program_index, t_place, t_convert, t_cast, t_unary, t_binary, t_compare, t_logic, t_choose, t_call, t_library, t_packed_store, t_packed_load, TPlace, t_variable, t_element, TArgument, t_by_value, t_by_name, TCall, t_called, TArguments, t_no_arguments, t_argument_then, TExprs, t_no_exprs, t_expr_then, TFunction, TItem, t_plain, t_with_value, t_with_size, TSimple, t_value, t_run, t_assign, t_update, t_step, place_type, type_of}
 use Rattle.isp_typed.specs.Fine.{heads, HoldsArray, params_of}
 use Rattle.isp_typed.specs.declared.variable.Holds.{Holds}
 use Rattle.isp_typed.specs.declared.variable.Holds.TheVariants as holds
 use Rattle.isp_typed.specs.declared.variable.Variable.{Variable as Declared}
 use Rattle.isp_lower.specs.Asks.{first_slot, second_slot, beyond}
+use Rattle.isp_lower.specs.Callees.{next_rate, later}
+use Rattle.isp_lower.specs.Library.{library_rates}
 use Rattle.isp_lower.specs.Rated.{Reaches}
 use Rattle.isp_lower.specs.Rows.{Name, Variable, Spare}
 use Rattle.isp_lower.specs.Setting.{Setting}
 use Rattle.isp_lower.specs.Tables.{IsTyped, IsNamedIn}
+use Rattle.isp_lower.proofs.LibraryTypes.{LibraryTyped}
 
 -- ---- single registers, by what it is to have one
 
@@ -80,7 +83,7 @@ module _ (w : Setting) where
     ExprParts (t_choose c x y t sp) n =
         ((type_of c).elem ≡ Truth) × Reaches (type_of c).rate t.rate × SpareFits t.rate t.elem n × OperandFits t.rate t.elem x (first_slot (type_of c).rate n) × OperandFits t.rate t.elem y (second_slot (type_of c).rate n) × ExprParts c n × ExprParts x (first_slot (type_of c).rate n) × ExprParts y (second_slot (type_of c).rate n)
     ExprParts (t_call c t) n = SpareFits t.rate t.elem n × CallParts c (Some t) n
-    ExprParts (t_library f e xs t sp) n = ⊥
+    ExprParts (t_library f e xs t sp) n = LibraryTyped f e xs t × SpareFits t.rate t.elem n × ValuesParts (library_rates f t.rate) xs n
     ExprParts (t_packed_store b x sp) n = ⊥
     ExprParts (t_packed_load b v sp) n = ⊥
 
@@ -89,6 +92,11 @@ module _ (w : Setting) where
     PlaceParts (t_variable v t sp) n = IsTyped w t.rate (w.layout.variable t.rate v) t.elem
     PlaceParts (t_element b i t sp) n =
         HoldsArray w.function.variables b × Reaches b.ty.rate t.rate × Reaches (type_of i).rate t.rate × SpareFits (type_of i).rate I64 n × ExprParts i n
+
+    -- value j at slot n + j, at the next of these rates
+    pub ValuesParts : List Rate → TExprs → ℕ → Type 0
+    ValuesParts rs t_no_exprs n = Unit {0}
+    ValuesParts rs (t_expr_then x xs) n = OperandFits (next_rate rs) (type_of x).elem x n × ExprParts x n × ValuesParts (later rs) xs (n + 1)
 
     -- the function that is called gives this; each argument is what its parameter holds
     pub CallParts : TCall → Option Ty → ℕ → Type 0

@@ -1,20 +1,26 @@
 -- What names, types and rates promise of a tree is what the laws use of it.
-use Rattle.std.proofs.Common.{◌≡◌, suc, List, [], ◌∷◌, Bool, Option, Some, None, refl, sym, ap, subst, arith}
+use Rattle.std.proofs.Common.{◌≡◌, suc, List, [], ◌∷◌, Bool, true, false, Option, Some, None, refl, sym, ap, subst, arith}
 use Rattle.std.specs.List.{All}
 use Rattle.isp_base.specs.declared.types.Elem.{Elem}
 use Rattle.isp_base.specs.declared.types.Elem.TheVariants.{Bool as Truth, I8, U8, I16, U16, I32, U32, I64, U64}
 use Rattle.isp_base.specs.declared.types.Rate.{Rate}
 use Rattle.isp_base.specs.declared.types.Rate.TheVariants.{Uniform, Varying}
 use Rattle.isp_base.specs.declared.types.Ty.{Ty}
-use Rattle.isp_typed.specs.Fine.{IsWhole, AreOperands, FineExpr, FinePlace, FineCall, FineArguments, FineArgument, params_of, FineTarget, FineSimple, FineItem}
-use Rattle.isp_typed.specs.Typed.{TExpr, t_constant, t_program_index, t_place, t_convert, t_cast, t_unary, t_binary, t_compare, t_logic, t_choose, t_call, t_library, t_packed_store, t_packed_load, TPlace, t_variable, t_element, TArgument, t_by_value, t_by_name, TCall, t_called, TArguments, t_no_arguments, t_argument_then, TItem, t_plain, t_with_value, t_with_size, TSimple, t_value, t_run, t_assign, t_update, t_step, TFunction, place_type, type_of, rate_or}
+use Rattle.isp_typed.specs.Fine.{IsWhole, AreOperands, FineExpr, FinePlace, FineCall, FineArguments, FineArgument, FineParts, rates_of as rates_of_values, params_of, FineTarget, FineSimple, FineItem}
+use Rattle.isp_typed.specs.Typed.{TExpr, t_constant, t_program_index, t_place, t_convert, t_cast, t_unary, t_binary, t_compare, t_logic, t_choose, t_call, t_library, t_packed_store, t_packed_load, TPlace, t_variable, t_element, TArgument, t_by_value, t_by_name, TCall, t_called, TArguments, t_no_arguments, t_argument_then, TExprs, t_no_exprs, t_expr_then, TItem, t_plain, t_with_value, t_with_size, TSimple, t_value, t_run, t_assign, t_update, t_step, TFunction, place_type, type_of, rate_or}
 use Rattle.isp_typed.specs.declared.variable.Holds.{Holds}
 use Rattle.isp_typed.specs.declared.variable.Holds.TheVariants as holds
 use Rattle.isp_typed.specs.declared.variable.Variable.{Variable}
+use Rattle.isp_typed.specs.declared.library.Part.{Part}
+use Rattle.isp_typed.specs.Library.{asks_uniform, library_type, parts}
+use Rattle.isp_typed.specs.declared.library.Library.{Library}
+use Rattle.isp_typed.specs.declared.library.Library.TheVariants as library
 use Rattle.isp_lower.specs.Callees.{rate_held, rates_held, rates_of}
-use Rattle.isp_lower.specs.Rated.{Reaches, IsRated, CallRated, ArgumentsRated, ArgumentRated, PlaceRated, RatedAt, SimpleRated, ItemsRated}
+use Rattle.isp_lower.specs.Library.{rate_taken, rates_taken, works_at}
+use Rattle.isp_lower.specs.Rated.{Reaches, IsRated, CallRated, ArgumentsRated, ArgumentRated, ValuesRated, PlaceRated, RatedAt, SimpleRated, ItemsRated}
+use Rattle.isp_lower.proofs.LibraryTypes.{parts_are}
 use Rattle.isp_lower.proofs.Parts.{IsNumber}
-use Rattle.isp_lower.proofs.Trees.{OperandTree, ExprTree, PlaceTree, CallTree, ArgumentsTree, ArgumentTree, SimpleTree, ItemsTree}
+use Rattle.isp_lower.proofs.Trees.{OperandTree, ExprTree, PlaceTree, ValuesTree, CallTree, ArgumentsTree, ArgumentTree, SimpleTree, ItemsTree}
 
 -- ---- rates
 
@@ -32,14 +38,64 @@ reaches_itself : (a : Rate) → Reaches a a
 reaches_itself Uniform = tt
 reaches_itself Varying = tt
 
+reaches_uniform : (a : Rate) → Reaches a Uniform → a ≡ Uniform
+reaches_uniform Uniform h = refl
+reaches_uniform Varying h = absurd h
+
+reaches_varying : (a : Rate) → Reaches a Varying
+reaches_varying Uniform = tt
+reaches_varying Varying = tt
+
 reaches_on : (a b c : Rate) → Reaches a b → Reaches b c → Reaches a c
 reaches_on Uniform b c h g = tt
 reaches_on Varying Uniform c h g = absurd h
 reaches_on Varying Varying c h g = g
 
-reaches_uniform : (a : Rate) → Reaches a Uniform → a ≡ Uniform
-reaches_uniform Uniform h = refl
-reaches_uniform Varying h = absurd h
+-- ---- values of a call of the library: each reaches the rate at which the function works
+
+abbrev EachReaches : Rate → TExprs → Type 0
+EachReaches r t_no_exprs = Unit {0}
+EachReaches r (t_expr_then x xs) = Reaches (type_of x).rate r × EachReaches r xs
+
+any_reach : (xs : TExprs) → EachReaches Varying xs
+any_reach t_no_exprs = tt
+any_reach (t_expr_then x xs) = (reaches_varying (type_of x).rate, any_reach xs)
+
+more_reach : (a r : Rate) (xs : TExprs) → EachReaches r xs → EachReaches (rate_or a r) xs
+more_reach a r t_no_exprs h = tt
+more_reach a r (t_expr_then x xs) h = (reaches_on (type_of x).rate r (rate_or a r) h.0 (reaches_second a r), more_reach a r xs h.1)
+
+all_reach : (xs : TExprs) → EachReaches (rates_of_values xs) xs
+all_reach t_no_exprs = tt
+all_reach (t_expr_then x xs) = (reaches_first (type_of x).rate (rates_of_values xs), more_reach (type_of x).rate (rates_of_values xs) xs (all_reach xs))
+
+works_reach : (g : Library) (e : Elem) (xs : TExprs) → EachReaches (works_at g (library_type g e (rates_of_values xs)).rate) xs
+works_reach library.Min e xs = all_reach xs
+works_reach library.Max e xs = all_reach xs
+works_reach library.Clamp e xs = all_reach xs
+works_reach library.Abs e xs = all_reach xs
+works_reach library.Select e xs = all_reach xs
+works_reach library.ReduceAdd e xs = any_reach xs
+works_reach library.ReduceMin e xs = any_reach xs
+works_reach library.ReduceMax e xs = any_reach xs
+works_reach library.ReduceEqual e xs = any_reach xs
+works_reach library.Any e xs = any_reach xs
+works_reach library.All e xs = any_reach xs
+works_reach library.None e xs = any_reach xs
+works_reach library.ScanAdd e xs = any_reach xs
+works_reach library.ScanAnd e xs = any_reach xs
+works_reach library.ScanOr e xs = any_reach xs
+works_reach library.Broadcast e xs = any_reach xs
+works_reach library.Rotate e xs = any_reach xs
+works_reach library.Shift e xs = any_reach xs
+works_reach library.Shuffle e xs = any_reach xs
+works_reach library.ShuffleTwo e xs = any_reach xs
+works_reach library.Extract e xs = any_reach xs
+works_reach library.Insert e xs = any_reach xs
+
+taken_reaches : (given r : Rate) (uniform : Bool) → Reaches given (rate_taken Varying uniform) → Reaches given r → Reaches given (rate_taken r uniform)
+taken_reaches given r true h g = h
+taken_reaches given r false h g = g
 
 whole_number : (t : Elem) → IsWhole t → IsNumber t
 whole_number Truth e = absurd (cc)
@@ -80,7 +136,8 @@ module _ (fs : List TFunction) (vars : List Variable) where
         let ry = (type_of y).rate in
         (record { elem = f.3; reaches = subst (Reaches rc) (sym f.6) (reaches_first rc (rate_or rx ry)) }, record { elem = f.4; reaches = subst (Reaches rx) (sym f.6) (reaches_on rx (rate_or rx ry) (rate_or rc (rate_or rx ry)) (reaches_first rx ry) (reaches_second rc (rate_or rx ry))) }, record { elem = f.5; reaches = subst (Reaches ry) (sym f.6) (reaches_on ry (rate_or rx ry) (rate_or rc (rate_or rx ry)) (reaches_second rx ry) (reaches_second rc (rate_or rx ry))) }, expr_tree q f.0 r.0, expr_tree x f.1 r.1, expr_tree y f.2 r.2)
     expr_tree (t_call k t) f r = call_tree k (Some t) f r
-    expr_tree (t_library g e xs t sp) f r = absurd r
+    expr_tree (t_library g e xs t sp) f r =
+        (record { elems = parts_are fs vars e (parts g) xs f.0; works = f.1; gives = f.2 }, values_tree e (parts g) (works_at g t.rate) xs f.0 r (subst (λ u. EachReaches (works_at g u.rate) xs) (sym f.2) (works_reach g e xs)))
     expr_tree (t_packed_store b x sp) f r = absurd r
     expr_tree (t_packed_load b v sp) f r = absurd r
 
@@ -88,6 +145,13 @@ module _ (fs : List TFunction) (vars : List Variable) where
     place_tree (t_variable v t sp) f r = tt
     place_tree (t_element b i t sp) f r =
         (subst (λ u. Reaches b.ty.rate u.rate) (sym f.2) (reaches_first b.ty.rate (type_of i).rate), subst (λ u. Reaches (type_of i).rate u.rate) (sym f.2) (reaches_second b.ty.rate (type_of i).rate), expr_tree i f.1 r, sym (ap (λ u. u.elem) f.2))
+
+    values_tree : (e : Elem) (ps : List Part) (at : Rate) (xs : TExprs) → FineParts fs vars e ps xs → ValuesRated fs (rates_taken Varying ps) xs → EachReaches at xs → ValuesTree fs (rates_taken at ps) xs
+    values_tree e [] at t_no_exprs f r h = tt
+    values_tree e [] at (t_expr_then x xs) f r h = absurd f
+    values_tree e (p ∷ ps) at t_no_exprs f r h = absurd f
+    values_tree e (p ∷ ps) at (t_expr_then x xs) f r h =
+        (record { elem = refl; reaches = taken_reaches (type_of x).rate at (asks_uniform p) r.0 h.0 }, expr_tree x f.0 r.1, values_tree e ps at xs f.2 r.2 h.1)
 
     call_tree : (k : TCall) (answer : Option Ty) → FineCall fs vars k answer → CallRated fs k → CallTree fs k answer
     call_tree (t_called g xs sp) answer f r =

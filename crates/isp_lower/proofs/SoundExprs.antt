@@ -1,5 +1,5 @@
 -- Each instruction of the code of an expression has its operands.
-use Rattle.std.proofs.Common.{◌≡◌, ℕ, ◌+◌, ◌<◌, ◌≤◌, List, [], ◌∷◌, ◌++◌, length, Option, Some, None, Bool, true, false, refl, sym, ap, ◌∙◌, subst, arith}
+use Rattle.std.proofs.Common.{◌≡◌, ℕ, ◌+◌, ◌<◌, ◌≤◌, List, [], ◌∷◌, ◌++◌, length, Option, Some, Bool, true, false, refl, sym, ap, ◌∙◌, subst, arith}
 use Rattle.isp_base.specs.declared.types.Elem.{Elem}
 use Rattle.isp_base.specs.declared.types.Elem.TheVariants.{Bool as Truth}
 use Rattle.isp_base.specs.declared.types.Rate.{Rate}
@@ -7,7 +7,7 @@ use Rattle.isp_base.specs.declared.types.Span.{Span}
 use Rattle.isp_base.specs.declared.types.Ty.{Ty}
 use Rattle.isp_code.specs.Listing.{Listing, Routine}
 use Rattle.isp_code.specs.declared.instr.Instr.{Instr}
-use Rattle.isp_typed.specs.Typed.{TExpr, t_constant, t_program_index, t_place, t_convert, t_cast, t_unary, t_binary, t_compare, t_logic, t_choose, t_call, t_library, t_packed_store, t_packed_load, TPlace, t_variable, t_element, TArgument, t_by_value, t_by_name, TCall, t_called, TArguments, t_no_arguments, t_argument_then, TFunction, place_type, type_of}
+use Rattle.isp_typed.specs.Typed.{TExpr, t_constant, t_program_index, t_place, t_convert, t_cast, t_unary, t_binary, t_compare, t_logic, t_choose, t_call, t_library, t_packed_store, t_packed_load, TPlace, t_variable, t_element, TArgument, t_by_value, t_by_name, TCall, t_called, TArguments, t_no_arguments, t_argument_then, TExprs, t_no_exprs, t_expr_then, TFunction, place_type, type_of}
 use Rattle.isp_typed.specs.declared.variable.ArrayVariable.{ArrayVariable}
 use Rattle.isp_code.specs.Fine.{AllFine, IsGiven, ArePassed}
 use Rattle.isp_code.specs.Operands.{result_operands}
@@ -19,13 +19,21 @@ use Rattle.isp_typed.specs.declared.variable.Variable.{Variable}
 use Rattle.isp_lower.specs.Callees.{rate_held, rates_held, rates_of}
 use Rattle.isp_lower.specs.Header.{returns_of}
 use Rattle.isp_lower.specs.Layout.{Layout, register}
-use Rattle.isp_lower.specs.Code.{compare, unary, operate, operate_places, select, part_to, lift_to, found, operand, operand_of, index, choose_to, is_short, expr_places, index_places, read_places, expr_to, index_code, read_code, expr_code, argument_places, arguments_places, call_places, argument_registers, argument_code, arguments_code, call_code, calling}
-use Rattle.isp_lower.specs.Asks.{argument_asks, arguments_asks, call_asks, expr_asks, first_slot, operand_asks, second_slot, target_asks}
+use Rattle.isp_lower.specs.Code.{compare, unary, operate, operate_places, select, part_to, lift_to, found, operand, operand_of, index, choose_to, is_short, expr_places, index_places, read_places, expr_to, index_code, read_code, expr_code, values_code, values_places, value_registers, argument_places, arguments_places, call_places, argument_registers, argument_code, arguments_code, call_code, calling}
+use Rattle.isp_typed.specs.Fine.{rates_of as rate_of_all}
+use Rattle.isp_typed.specs.Library.{library_type, parts}
+use Rattle.isp_typed.specs.declared.library.Library.{Library}
+use Rattle.isp_lower.specs.Callees.{later, next_rate}
+use Rattle.isp_lower.specs.Library.{library_code, library_rates}
+use Rattle.isp_lower.specs.Asks.{argument_asks, arguments_asks, call_asks, expr_asks, first_slot, operand_asks, second_slot, target_asks, values_asks}
 use Rattle.isp_lower.specs.Sound.{AreSound, Links, PartSound, IsRegister, HasArray, Granted}
 use Rattle.isp_lower.proofs.SoundLines.{IsArray, array_is, unary_sound, compare_sound, operate_sound, read_sound, constant_sound, index_sound as lane_sound}
 use Rattle.isp_lower.proofs.SoundFound.{part_there, found_there, operand_there, index_there}
 use Rattle.isp_lower.proofs.SoundParts.{few_front, few_back, Here, AnyMask, here_both, here_then, pair_sound, logic_sound, lift_to_sound, operand_sound, convert_to_sound, index_sound, choose_sound, short_sound}
-use Rattle.isp_lower.proofs.Trees.{ExprTree, OperandTree, PlaceTree, CallTree, ArgumentsTree, ArgumentTree}
+use Rattle.isp_lower.proofs.Trees.{ExprTree, OperandTree, PlaceTree, ValuesTree, CallTree, ArgumentsTree, ArgumentTree}
+use Rattle.isp_lower.proofs.InRow.{enough}
+use Rattle.isp_lower.proofs.LibraryTypes.{LibraryTyped, part_elems}
+use Rattle.isp_lower.proofs.SoundLibrary.{ThereFrom, library_sound, there_from}
 use Rattle.isp_lower.proofs.SoundCalls.{taken_there, result_given, result_there, arguments_passed, calling_sound}
 use Rattle.isp_lower.specs.Rated.{Reaches}
 
@@ -55,6 +63,19 @@ module _ (fs : List TFunction) (code : Listing) (h : Routine) (l : Layout) (link
   choose_there false d c x y t sp pc k n test one other e is f hd lk s g1 g2 =
       let hc = found_there fs h l c n is.3 f.1.0 in
       choose_sound code h fs l (type_of c).rate t.rate t.elem x y (found l c n) pc k n test one other is.0.reaches (hc.0, hc.1 ∙ is.0.elem) f.0 (operand_there fs h l t.rate t.elem x (first_slot (type_of c).rate n) is.1 is.4 f.1.1.0) (operand_there fs h l t.rate t.elem y (second_slot (type_of c).rate n) is.2 is.5 f.1.1.1.0) lk f.1.1.1.1 s g1 g2
+
+  -- the instructions of a call of the library
+  made_sound : (g : Library) (e : Elem) (xs : TExprs) (t : Ty) (d k n : ℕ) → LibraryTyped g e xs t → ValuesTree fs (library_rates g t.rate) xs → Granted h l (values_asks (library_rates g t.rate) xs n) → IsRegister h t.rate d t.elem → IsRegister h t.rate (l.spare t.rate t.elem n) t.elem → k < h.masks → AreSound code h (library_code g t.rate d (l.spare t.rate t.elem n) (value_registers l (library_rates g t.rate) xs n) k)
+  made_sound g e xs t d k n typed is f hd hs lk =
+      let rs = library_rates g t.rate in
+      let regs = value_registers l rs xs n in
+      let there : ThereFrom h rs (part_elems e (parts g)) regs = subst (λ es. ThereFrom h rs es regs) typed.elems (there_from h fs l rs xs n (enough g e xs t t.rate typed) is f) in
+      of_type (rate_of_all xs) typed.gives regs there
+    where
+      of_type : (r : Rate) → t ≡ library_type g e r → (regs : List ℕ) → ThereFrom h (library_rates g t.rate) (part_elems e (parts g)) regs → AreSound code h (library_code g t.rate d (l.spare t.rate t.elem n) regs k)
+      of_type r et regs there =
+          subst (λ u. IsRegister h u.rate d u.elem → IsRegister h u.rate (l.spare u.rate u.elem n) u.elem → ThereFrom h (library_rates g u.rate) (part_elems e (parts g)) regs → AreSound code h (library_code g u.rate d (l.spare u.rate u.elem n) regs k)) (sym et)
+          (λ hd hs there. library_sound code h k lk g e r d (l.spare (library_type g e r).rate (library_type g e r).elem n) regs typed.works hd hs there) hd hs there
 
   mutual
     pub expr_sound : (x : TExpr) → ToSound x
@@ -103,7 +124,9 @@ module _ (fs : List TFunction) (code : Listing) (h : Routine) (l : Layout) (link
         (λ pc1 m lm. operand_sound code h fs l t.rate t.elem x pc1 m nx (expr_code l x pc1 (p + length pl) m nx) is.1 is.4 f.1.1.0 lm (λ lt. expr_sound x (found l x nx) pc1 (p + length pl) m nx is.4 f.1.1.0.1 (found_there fs h l x nx is.4 f.1.1.0.1) lm (few_front (length code.places) (p + length pl) px py back) lt))
         (λ pc1 m lm. operand_sound code h fs l t.rate t.elem y pc1 m ny (expr_code l y pc1 (p + length pl + length px) m ny) is.2 is.5 f.1.1.1.0 lm (λ lt. expr_sound y (found l y ny) pc1 (p + length pl + length px) m ny is.5 f.1.1.1.0.1 (found_there fs h l y ny is.5 f.1.1.1.0.1) lm (few_back (length code.places) (p + length pl) px py back) lt))
     expr_sound (t_call c t) d pc p k n is f hd lk lp = call_sound c (Some t) (Some (register t.rate d)) pc p k n is f.1 (result_given h t.rate t.elem d hd) (result_there h t.rate t.elem d hd, tt) lk lp
-    expr_sound (t_library g e xs t sp) d pc p k n is f hd lk lp = absurd is
+    expr_sound (t_library g e xs t sp) d pc p k n is f hd lk lp =
+        let rs = library_rates g t.rate in
+        here_both code h pc (values_code l rs xs pc p k n) (library_code g t.rate d (l.spare t.rate t.elem n) (value_registers l rs xs n) k) (values_sound rs xs pc p k n is.1 f.1 lk lp) (λ lt. made_sound g e xs t d k n is.0 is.1 f.1 hd f.0 lk)
     expr_sound (t_packed_store b x sp) d pc p k n is f hd lk lp = absurd is
     expr_sound (t_packed_load b v sp) d pc p k n is f hd lk lp = absurd is
 
@@ -112,6 +135,16 @@ module _ (fs : List TFunction) (code : Listing) (h : Routine) (l : Layout) (link
     place_sound (t_variable v t sp) pc p k n is f lk lp = λ lt. tt
     place_sound (t_element b i t sp) pc p k n is f lk lp =
         index_sound code h fs l t.rate i pc k n (expr_code l i pc p k n) is.1 is.2 f.1 lk (λ lt. expr_sound i (found l i n) pc p k n is.2 f.1.1.1 (found_there fs h l i n is.2 f.1.1.1) lk lp lt)
+
+    values_sound : (rs : List Rate) (xs : TExprs) (pc p k n : ℕ) → ValuesTree fs rs xs → Granted h l (values_asks rs xs n) → k < h.masks → Named code h l p (values_places l xs) → Here code h pc (values_code l rs xs pc p k n)
+    values_sound rs t_no_exprs pc p k n is f lk lp = λ lt. tt
+    values_sound rs (t_expr_then x xs) pc p k n is f lk lp =
+        let r = next_rate rs in
+        let px = expr_places l x in
+        let ca = operand_of l r x k n (expr_code l x pc p k n) in
+        here_both code h pc ca (values_code l (later rs) xs (pc + length ca) (p + length px) k (n + 1))
+        (operand_sound code h fs l r (type_of x).elem x pc k n (expr_code l x pc p k n) is.0 is.1 f.1.0 lk (λ lt. expr_sound x (found l x n) pc p k n is.1 f.1.0.1 (found_there fs h l x n is.1 f.1.0.1) lk (few_front (length code.places) p px (values_places l xs) lp) lt))
+        (values_sound (later rs) xs (pc + length ca) (p + length px) k (n + 1) is.2 f.1.1 lk (few_back (length code.places) p px (values_places l xs) lp))
 
     -- a call has what its callee's routine asks
     pub call_sound : (c : TCall) (answer : Option Ty) (d : Option Register) (pc p k n : ℕ) → CallTree fs c answer → Granted h l (call_asks c n) → IsGiven h (returns_of answer) d → AllFine code h (result_operands d) → k < h.masks → Named code h l p (call_places l c) → Here code h pc (call_code l d c pc p k n)

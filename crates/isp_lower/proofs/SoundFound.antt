@@ -60,7 +60,7 @@ module _ (fs : List TFunction) (h : Routine) (l : Layout) where
   found_there (t_logic g x y r sp) n is f = f.0
   found_there (t_choose c x y t sp) n is f = f.0
   found_there (t_call c t) n is f = f.0
-  found_there (t_library g e xs t sp) n is f = absurd is
+  found_there (t_library g e xs t sp) n is f = f.0
   found_there (t_packed_store b x sp) n is f = absurd is
   found_there (t_packed_load b v sp) n is f = absurd is
 

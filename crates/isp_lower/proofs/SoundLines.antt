@@ -70,7 +70,7 @@ module _ (code : Listing) (h : Routine) where
   compare_sound Uniform o t d x y k hd hx hy lk = (((hd.0, hd.1), ((hx.0, tt), ((hy.0, hy.1 ∙ sym hx.1), tt))), tt)
   compare_sound Varying o t d x y k hd hx hy lk = (((hd.0, hd.1), ((hx.0, tt), ((hy.0, hy.1 ∙ sym hx.1), ((refl, lk), tt)))), tt)
 
-  compute_sound : (r : Rate) (o : Plain) (t : Elem) (d x y k : ℕ) → IsNumber t → IsRegister h r d t → IsRegister h r x t → IsRegister h r y t → k < h.masks → IsSound code h (compute r o d x y k)
+  pub compute_sound : (r : Rate) (o : Plain) (t : Elem) (d x y k : ℕ) → IsNumber t → IsRegister h r d t → IsRegister h r x t → IsRegister h r y t → k < h.masks → IsSound code h (compute r o d x y k)
   compute_sound Uniform o t d x y k is hd hx hy lk =
       (((hd.0, λ e. no_truth t is (sym hd.1 ∙ e)), ((hx.0, hx.1 ∙ sym hd.1), ((hy.0, hy.1 ∙ sym hd.1), tt))), tt)
   compute_sound Varying o t d x y k is hd hx hy lk =

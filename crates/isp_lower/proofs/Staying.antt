@@ -23,7 +23,7 @@ stays_silent l (t_compare d x y r sp) e = absurd (cc)
 stays_silent l (t_logic g x y r sp) e = absurd (cc)
 stays_silent l (t_choose d x y t sp) e = absurd (cc)
 stays_silent l (t_call d t) e = absurd (cc)
-stays_silent l (t_library f u xs t sp) e = refl
+stays_silent l (t_library f u xs t sp) e = absurd (cc)
 stays_silent l (t_packed_store d x sp) e = refl
 stays_silent l (t_packed_load d v sp) e = refl
 

@@ -11,8 +11,11 @@ use Rattle.isp_typed.specs.Fine.{WorksIn, heads, params_of}
 use Rattle.isp_typed.specs.declared.variable.Holds.{Holds}
 use Rattle.isp_typed.specs.declared.variable.Holds.TheVariants as holds
 use Rattle.isp_typed.specs.declared.variable.Variable.{Variable}
-use Rattle.isp_typed.specs.Typed.{TExpr, t_constant, t_program_index, t_place, t_convert, t_cast, t_unary, t_binary, t_compare, t_logic, t_choose, t_call, t_library, t_packed_store, t_packed_load, TPlace, t_variable, t_element, TArgument, t_by_value, t_by_name, TCall, t_called, TArguments, t_no_arguments, t_argument_then, TFunction, TItem, t_plain, t_with_value, t_with_size, TSimple, t_value, t_run, t_assign, t_update, t_step, place_type, type_of}
+use Rattle.isp_typed.specs.Typed.{TExpr, t_constant, t_program_index, t_place, t_convert, t_cast, t_unary, t_binary, t_compare, t_logic, t_choose, t_call, t_library, t_packed_store, t_packed_load, TPlace, t_variable, t_element, TArgument, t_by_value, t_by_name, TCall, t_called, TArguments, t_no_arguments, t_argument_then, TExprs, t_no_exprs, t_expr_then, TFunction, TItem, t_plain, t_with_value, t_with_size, TSimple, t_value, t_run, t_assign, t_update, t_step, place_type, type_of}
+use Rattle.isp_lower.specs.Callees.{next_rate, later}
+use Rattle.isp_lower.specs.Library.{library_rates}
 use Rattle.isp_lower.specs.Rated.{Reaches}
+use Rattle.isp_lower.proofs.LibraryTypes.{LibraryTyped}
 use Rattle.isp_lower.proofs.Parts.{IsNumber}
 
 pub record OperandTree (r : Rate) (t : Elem) (x : TExpr) : Type 0 where
@@ -37,7 +40,7 @@ module _ (fs : List TFunction) where
     ExprTree (t_choose c x y t sp) =
         OperandTree t.rate Truth c × OperandTree t.rate t.elem x × OperandTree t.rate t.elem y × ExprTree c × ExprTree x × ExprTree y
     ExprTree (t_call c t) = CallTree c (Some t)
-    ExprTree (t_library f e xs t sp) = ⊥
+    ExprTree (t_library f e xs t sp) = LibraryTyped f e xs t × ValuesTree (library_rates f t.rate) xs
     ExprTree (t_packed_store b x sp) = ⊥
     ExprTree (t_packed_load b v sp) = ⊥
 
@@ -45,6 +48,10 @@ module _ (fs : List TFunction) where
     PlaceTree (t_variable v t sp) = Unit {0}
     PlaceTree (t_element b i t sp) =
         Reaches b.ty.rate t.rate × Reaches (type_of i).rate t.rate × ExprTree i × (b.ty.elem ≡ t.elem)
+
+    pub ValuesTree : List Rate → TExprs → Type 0
+    ValuesTree rs t_no_exprs = Unit {0}
+    ValuesTree rs (t_expr_then x xs) = OperandTree (next_rate rs) (type_of x).elem x × ExprTree x × ValuesTree (later rs) xs
 
     pub CallTree : TCall → Option Ty → Type 0
     CallTree (t_called f xs sp) answer =

@@ -20,7 +20,7 @@ use Rattle.isp_lower.proofs.Done.{bind_done, variable_done, splat_done}
 use Rattle.isp_lower.proofs.Found.{few}
 use Rattle.isp_lower.proofs.Targets.{InVariable}
 use Rattle.isp_lower.proofs.Nodes.{enters_part, operand_runs}
-use Rattle.isp_lower.proofs.Exprs.{means, NodeRuns, number_node, index_node, element_node, convert_node, unary_node, binary_node, compare_node, choose_node, expr_runs, call_node, arguments_run}
+use Rattle.isp_lower.proofs.Exprs.{means, NodeRuns, number_node, index_node, element_node, convert_node, unary_node, binary_node, compare_node, choose_node, expr_runs, call_node, library_node, values_run, arguments_run}
 use Rattle.isp_lower.proofs.Parts.{ExprParts, OperandFits}
 use Rattle.isp_lower.specs.Rated.{Reaches}
 use Rattle.isp_lower.specs.Tables.{IsTyped}
@@ -71,7 +71,7 @@ module _ (w : Setting) (ready : IsSettled w) where
       go true ez h at = choose_node w ready (InVariable v) d x y t sp (expr_runs w ready d) ez pc p k n q rest a s c fit.5 at (are_front w.code.places p (expr_places w.layout d) _ places) (omega arith) b
       go false ez h at = absurd (cc)
   direct_runs v (t_call (t_called g xs sp) t) e pc p k n q rest a s c fit ty has places le b = call_node w ready (InVariable v) g xs sp t (arguments_run w ready xs) pc p k n q rest a s c fit ty has places le b
-  direct_runs v (t_library g u xs t sp) e pc p k n q rest a s c fit ty has places le b = absurd (cc)
+  direct_runs v (t_library g u xs t sp) e pc p k n q rest a s c fit ty has places le b = library_node w ready (InVariable v) g u xs t sp (values_run w ready xs) pc p k n q rest a s c fit ty has places le b
   direct_runs v (t_packed_store d x sp) e pc p k n q rest a s c fit ty has places le b = absurd (cc)
   direct_runs v (t_packed_load d u sp) e pc p k n q rest a s c fit ty has places le b = absurd (cc)
 

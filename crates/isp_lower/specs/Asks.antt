@@ -6,8 +6,10 @@ use Rattle.isp_base.specs.declared.types.Elem.{Elem}
 use Rattle.isp_base.specs.declared.types.Elem.TheVariants.{Bool as Truth, I32, I64}
 use Rattle.isp_base.specs.declared.types.Rate.{Rate}
 use Rattle.isp_base.specs.declared.types.Rate.TheVariants.{Uniform, Varying}
-use Rattle.isp_typed.specs.Typed.{TExpr, t_constant, t_program_index, t_place, t_convert, t_cast, t_unary, t_binary, t_compare, t_logic, t_choose, t_call, t_library, t_packed_store, t_packed_load, TPlace, t_variable, t_element, TArgument, t_by_value, t_by_name, TCall, t_called, TArguments, t_no_arguments, t_argument_then, TItem, t_plain, t_with_value, t_with_size, TSimple, t_value, t_run, t_assign, t_update, t_step, place_type, type_of}
+use Rattle.isp_typed.specs.Typed.{TExpr, t_constant, t_program_index, t_place, t_convert, t_cast, t_unary, t_binary, t_compare, t_logic, t_choose, t_call, t_library, t_packed_store, t_packed_load, TPlace, t_variable, t_element, TArgument, t_by_value, t_by_name, TCall, t_called, TArguments, t_no_arguments, t_argument_then, TExprs, t_no_exprs, t_expr_then, TItem, t_plain, t_with_value, t_with_size, TSimple, t_value, t_run, t_assign, t_update, t_step, place_type, type_of}
 use Rattle.isp_typed.specs.declared.variable.ArrayVariable.{ArrayVariable}
+use Rattle.isp_lower.specs.Callees.{next_rate, later}
+use Rattle.isp_lower.specs.Library.{library_rates}
 use Rattle.isp_lower.specs.Rows.{Name, Variable, Spare}
 
 pub data Ask : Type 0 where
@@ -107,7 +109,7 @@ abbrev mutual
       let j = second_slot (type_of c).rate n in
       Both (spare_ask t.rate t.elem n) (Both (expr_asks c n) (Both (taken t.rate x i (expr_asks x i)) (Both (taken t.rate y j (expr_asks y j)) (sides_ask (type_of c).rate n))))
   expr_asks (t_call c t) n = Both (spare_ask t.rate t.elem n) (call_asks c n)
-  expr_asks (t_library f e xs t sp) n = spare_ask t.rate t.elem n
+  expr_asks (t_library f e xs t sp) n = Both (spare_ask t.rate t.elem n) (values_asks (library_rates f t.rate) xs n)
   expr_asks (t_packed_store b x sp) n = spare_ask Uniform I32 n
   expr_asks (t_packed_load b v sp) n = spare_ask Uniform I32 n
 
@@ -115,6 +117,12 @@ abbrev mutual
   pub target_asks : TPlace → ℕ → Ask
   target_asks (t_variable v t sp) n = Register t.rate (Variable v) t.elem
   target_asks (t_element b i t sp) n = Both (ArrayOf b) (index_asks t.rate i n (expr_asks i n))
+
+  -- value j at slot n + j, at the next of these rates
+  pub values_asks : List Rate → TExprs → ℕ → Ask
+  values_asks rs t_no_exprs n = Nothing
+  values_asks rs (t_expr_then x xs) n =
+      Both (Number (n + 1)) (Both (taken (next_rate rs) x n (expr_asks x n)) (values_asks (later rs) xs (n + 1)))
 
   -- a call names its function by a number that fits, and takes argument j at slot n + j: a uniform one may be handed over as a
   -- varying one

@@ -1,11 +1,6 @@
 -- The code of expressions and of assignments, as a function of their trees. Code begins at instruction pc; the first
 -- place in the source that it names has number p; it works for the lanes of mask register k; slots from n on are free.
-use Rattle.std.specs.Prelude.{ℕ, ◌+◌, ◌∷◌, [], ◌++◌, List, length, Option, Some, None, Bool, true, false, ◌&&◌, if◌then◌else◌, nat_eq}
-use Rattle.isp_base.specs.Values.{number, divides}
-use Rattle.isp_base.specs.declared.operators.BinOp.{BinOp}
-use Rattle.isp_base.specs.declared.operators.BinOp.TheVariants as op
-use Rattle.isp_base.specs.declared.operators.Compare.{Compare}
-use Rattle.isp_base.specs.declared.operators.UnaryOp.{UnaryOp}
+use Rattle.std.specs.Prelude.{ℕ, ◌+◌, ◌∷◌, [], ◌++◌, List, length, Option, Some, None, Bool, true, false, ◌&&◌, nat_eq}
 use Rattle.isp_base.specs.declared.types.Elem.{Elem}
 use Rattle.isp_base.specs.declared.types.Elem.TheVariants.{Bool as Truth, I8, U8, I16, U16, I32, U32, I64, U64}
 use Rattle.isp_base.specs.declared.types.Rate.{Rate}
@@ -13,95 +8,20 @@ use Rattle.isp_base.specs.declared.types.Rate.TheVariants.{Uniform, Varying}
 use Rattle.isp_base.specs.declared.types.Span.{Span}
 use Rattle.isp_base.specs.declared.types.Ty.{Ty}
 use Rattle.isp_base.specs.declared.types.Value.{Value}
-use Rattle.isp_code.specs.declared.instr.Division.TheVariants as division
 use Rattle.isp_code.specs.declared.instr.Instr.{Instr}
 use Rattle.isp_code.specs.declared.instr.Instr.TheVariants as instr
 use Rattle.isp_code.specs.declared.instr.JumpTest.{JumpTest}
 use Rattle.isp_code.specs.declared.instr.JumpTest.TheVariants as jump
-use Rattle.isp_code.specs.declared.instr.MaskInstr.TheVariants as mask
-use Rattle.isp_code.specs.declared.instr.MaskOp.TheVariants as mask_op
-use Rattle.isp_code.specs.declared.instr.Plain.{Plain}
-use Rattle.isp_code.specs.declared.instr.Plain.TheVariants as plain
-use Rattle.isp_code.specs.declared.instr.ScalarInstr.TheVariants as scalar
 use Rattle.isp_code.specs.declared.instr.VectorInstr.TheVariants as vector
 use Rattle.isp_code.specs.declared.register.Register.{Register}
-use Rattle.isp_typed.specs.Typed.{TExpr, t_constant, t_program_index, t_place, t_convert, t_cast, t_unary, t_binary, t_compare, t_logic, t_choose, t_call, t_library, t_packed_store, t_packed_load, TPlace, t_variable, t_element, TArgument, t_by_value, t_by_name, TCall, t_called, TArguments, t_no_arguments, t_argument_then, type_of}
+use Rattle.isp_typed.specs.Typed.{TExpr, t_constant, t_program_index, t_place, t_convert, t_cast, t_unary, t_binary, t_compare, t_logic, t_choose, t_call, t_library, t_packed_store, t_packed_load, TPlace, t_variable, t_element, TArgument, t_by_value, t_by_name, TCall, t_called, TArguments, t_no_arguments, t_argument_then, TExprs, t_no_exprs, t_expr_then, type_of}
 use Rattle.isp_typed.specs.declared.variable.Logic.{Logic}
 use Rattle.isp_typed.specs.declared.variable.Logic.TheVariants.{And, Or}
 use Rattle.isp_meaning.specs.Payloads.{converted}
 use Rattle.isp_lower.specs.Callees.{next_rate, later}
+pub use Rattle.isp_lower.specs.Instructions.{copy, convert, unary, compare, compute, operate, operate_places, read, write, constant, splat, select, where_so, the_others, jump_off, jump_on}
 use Rattle.isp_lower.specs.Layout.{Layout, register, mask_register, array_register}
-
--- ---- instructions of a rate: on scalars, or on lanes of mask k
-
-abbrev pub copy : Rate → ℕ → ℕ → ℕ → Instr
-copy Uniform d x k = instr.Scalar (register Uniform d) (scalar.Copy (register Uniform x))
-copy Varying d x k = instr.Vector (register Varying d) (vector.Copy (register Varying x) (mask_register k))
-
-abbrev pub convert : Rate → ℕ → ℕ → ℕ → Instr
-convert Uniform d x k = instr.Scalar (register Uniform d) (scalar.Convert (register Uniform x))
-convert Varying d x k = instr.Vector (register Varying d) (vector.Convert (register Varying x) (mask_register k))
-
-abbrev pub unary : Rate → UnaryOp → ℕ → ℕ → ℕ → Instr
-unary Uniform o d x k = instr.Scalar (register Uniform d) (scalar.Unary o (register Uniform x))
-unary Varying o d x k = instr.Vector (register Varying d) (vector.Unary o (register Varying x) (mask_register k))
-
-abbrev pub compare : Rate → Compare → ℕ → ℕ → ℕ → ℕ → Instr
-compare Uniform c d x y k = instr.Scalar (register Uniform d) (scalar.Compare c (register Uniform x) (register Uniform y))
-compare Varying c d x y k = instr.Vector (register Varying d) (vector.Compare c (register Varying x) (register Varying y) (mask_register k))
-
-abbrev pub compute : Rate → Plain → ℕ → ℕ → ℕ → ℕ → Instr
-compute Uniform o d x y k = instr.Scalar (register Uniform d) (scalar.Binary o (register Uniform x) (register Uniform y))
-compute Varying o d x y k = instr.Vector (register Varying d) (vector.Binary o (register Varying x) (register Varying y) (mask_register k))
-
--- a division names the place of its trap
-abbrev pub operate : Rate → BinOp → ℕ → ℕ → ℕ → ℕ → ℕ → Instr
-operate r op.Add d x y k p = compute r plain.Add d x y k
-operate r op.Sub d x y k p = compute r plain.Sub d x y k
-operate r op.Mul d x y k p = compute r plain.Mul d x y k
-operate r op.Div d x y k p = instr.Divide division.Div (register r d) (register r x) (register r y) (mask_register k) p
-operate r op.Rem d x y k p = instr.Divide division.Rem (register r d) (register r x) (register r y) (mask_register k) p
-operate r op.And d x y k p = compute r plain.And d x y k
-operate r op.Or d x y k p = compute r plain.Or d x y k
-operate r op.Xor d x y k p = compute r plain.Xor d x y k
-operate r op.Shl d x y k p = compute r plain.Shl d x y k
-operate r op.Shr d x y k p = compute r plain.Shr d x y k
-operate r op.Min d x y k p = compute r plain.Min d x y k
-operate r op.Max d x y k p = compute r plain.Max d x y k
-
-abbrev pub operate_places : BinOp → Span → List Span
-operate_places o sp = if divides o then sp ∷ [] else []
-
-abbrev pub read : Rate → ℕ → ℕ → ℕ → ℕ → ℕ → Instr
-read Uniform d b i k p = instr.Scalar (register Uniform d) (scalar.Load (array_register b) (register Uniform i) (mask_register k) p)
-read Varying d b i k p = instr.Vector (register Varying d) (vector.Gather (array_register b) (register Varying i) (mask_register k) p)
-
-abbrev pub write : Rate → ℕ → ℕ → ℕ → ℕ → ℕ → Instr
-write Uniform b i x k p = instr.Store (array_register b) (register Uniform i) (register Uniform x) (mask_register k) p
-write Varying b i x k p = instr.Scatter (array_register b) (register Varying i) (register Varying x) (mask_register k) p
-
-abbrev pub constant : ℕ → Elem → ℕ → Instr
-constant d t bits = instr.Scalar (register Uniform d) (scalar.Constant (number t bits))
-
-abbrev pub splat : ℕ → ℕ → ℕ → Instr
-splat d x k = instr.Vector (register Varying d) (vector.Splat (register Uniform x) (mask_register k))
-
-abbrev pub select : Rate → ℕ → ℕ → ℕ → ℕ → ℕ → Instr
-select Uniform d c x y k = instr.Scalar (register Uniform d) (scalar.Select (register Uniform c) (register Uniform x) (register Uniform y))
-select Varying d c x y k = instr.Vector (register Varying d) (vector.Select (register Varying c) (register Varying x) (register Varying y) (mask_register k))
-
--- the lanes of mask k where a vector is true, into mask m; those of mask k that are not in mask x
-abbrev pub where_so : ℕ → ℕ → ℕ → Instr
-where_so m x k = instr.Mask (mask_register m) (mask.Test (register Varying x) (mask_register k))
-
-abbrev pub the_others : ℕ → ℕ → ℕ → Instr
-the_others m k x = instr.Mask (mask_register m) (mask.Binary mask_op.AndNot (mask_register k) (mask_register x))
-
-abbrev pub jump_off : ℕ → ℕ → Instr
-jump_off k to = instr.JumpIf jump.Off (mask_register k) to
-
-abbrev pub jump_on : JumpTest → ℕ → ℕ → Instr
-jump_on t x to = instr.JumpIf t (register Uniform x) to
+use Rattle.isp_lower.specs.Library.{library_code, library_rates}
 
 -- ---- small pieces
 
@@ -276,7 +196,7 @@ module _ (l : Layout) where
     expr_places (t_logic g x y r sp) = expr_places x ++ expr_places y
     expr_places (t_choose c x y t sp) = expr_places c ++ (expr_places x ++ expr_places y)
     expr_places (t_call c t) = call_places c
-    expr_places (t_library f e xs t sp) = []
+    expr_places (t_library f e xs t sp) = values_places xs
     expr_places (t_packed_store b x sp) = []
     expr_places (t_packed_load b v sp) = []
 
@@ -287,6 +207,10 @@ module _ (l : Layout) where
     pub read_places : TPlace → List Span
     read_places (t_variable v t sp) = []
     read_places (t_element b i t sp) = sp ∷ []
+
+    pub values_places : TExprs → List Span
+    values_places t_no_exprs = []
+    values_places (t_expr_then x xs) = expr_places x ++ values_places xs
 
     -- a call names its place behind those of its arguments
     pub call_places : TCall → List Span
@@ -311,6 +235,12 @@ module _ (l : Layout) where
       two pc test (λ pc1. choice (jump_on jump.False c) pc1 (λ pc2. a pc2 k n ++ move_code r (l.spare r t n) (operand r x n) k) (λ pc2. b pc2 k n ++ move_code r (l.spare r t n) (operand r y n) k))
   choose_code Varying r t x y c pc k n test a b =
       two pc test (λ pc1. choose_rest (l.spare r t n) c (operand r x (n + 1)) (operand r y (n + 2)) pc1 k n a b)
+
+  -- ---- values in a row: value j stands at slot n + j, in a register of the rate at which it is wanted
+
+  abbrev pub value_registers : List Rate → TExprs → ℕ → List ℕ
+  value_registers rs t_no_exprs n = []
+  value_registers rs (t_expr_then x xs) n = operand (next_rate rs) x n ∷ value_registers (later rs) xs (n + 1)
 
   -- ---- calls: argument j stands at slot n + j, in a register of its parameter's rate; an array is as it is
 
@@ -377,7 +307,9 @@ module _ (l : Layout) where
     expr_to d (t_choose c x y t sp) pc p k n =
         choose_to (is_short t.rate c x y) d c x y t pc k n (expr_to (found c n) c pc p k n) (λ pc1 m i. operand_of t.rate x m i (expr_to (found x i) x pc1 (p + length (expr_places c)) m i)) (λ pc1 m i. operand_of t.rate y m i (expr_to (found y i) y pc1 (p + length (expr_places c) + length (expr_places x)) m i))
     expr_to d (t_call c t) pc p k n = call_code (Some (register t.rate d)) c pc p k n
-    expr_to d (t_library f e xs t sp) pc p k n = []
+    expr_to d (t_library f e xs t sp) pc p k n =
+        let rs = library_rates f t.rate in
+        values_code rs xs pc p k n ++ library_code f t.rate d (l.spare t.rate t.elem n) (value_registers rs xs n) k
     expr_to d (t_packed_store b x sp) pc p k n = []
     expr_to d (t_packed_load b v sp) pc p k n = []
 
@@ -385,6 +317,12 @@ module _ (l : Layout) where
     pub index_code : TPlace → ℕ → ℕ → ℕ → ℕ → List Instr
     index_code (t_variable v t sp) pc p k n = []
     index_code (t_element b i t sp) pc p k n = index_of t.rate i k n (expr_to (found i n) i pc p k n)
+
+    -- the values from left to right
+    pub values_code : List Rate → TExprs → ℕ → ℕ → ℕ → ℕ → List Instr
+    values_code rs t_no_exprs pc p k n = []
+    values_code rs (t_expr_then x xs) pc p k n =
+        two pc (operand_of (next_rate rs) x k n (expr_to (found x n) x pc p k n)) (λ pc1. values_code (later rs) xs pc1 (p + length (expr_places x)) k (n + 1))
 
     -- the arguments from left to right, then the call, which leaves what is given back in a register
     pub call_code : Option Register → TCall → ℕ → ℕ → ℕ → ℕ → List Instr
@@ -423,7 +361,7 @@ module _ (l : Layout) where
   writes_last (t_logic g x y r sp) = false
   writes_last (t_choose c x y t sp) = is_short t.rate c x y
   writes_last (t_call c t) = true
-  writes_last (t_library f e xs t sp) = false
+  writes_last (t_library f e xs t sp) = true
   writes_last (t_packed_store b x sp) = false
   writes_last (t_packed_load b v sp) = false
 

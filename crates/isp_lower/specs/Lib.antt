@@ -2,6 +2,8 @@ pub mod Callees
 pub mod Steps
 pub mod Held
 pub mod Layout
+pub mod Instructions
+pub mod Library
 pub mod Calls
 pub mod Code
 pub mod Emitted

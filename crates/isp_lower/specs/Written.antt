@@ -1,6 +1,6 @@
 -- What each writer appends, told what it is given: where registers lie, the tree, the register that gets the value, the mask
 -- and the first free slot.
-use Rattle.std.specs.Prelude.{ℕ, ◌+◌, ◌∷◌, [], ◌++◌, List, length, Bool, false, Option}
+use Rattle.std.specs.Prelude.{ℕ, ◌+◌, ◌∷◌, [], ◌++◌, List, length, map, Bool, false, Option}
 use Rattle.isp_base.specs.Ranks.{same_elem}
 use Rattle.isp_base.specs.declared.operators.BinOp.{BinOp}
 use Rattle.isp_base.specs.declared.types.Rate.{Rate}
@@ -11,11 +11,14 @@ use Rattle.isp_code.specs.declared.instr.Instr.{Instr}
 use Rattle.isp_code.specs.declared.instr.Instr.TheVariants as instr
 use Rattle.isp_code.specs.declared.instr.JumpTest.TheVariants as jump
 use Rattle.isp_code.specs.declared.register.Register.{Register}
-use Rattle.isp_typed.specs.Typed.{TArgument, TArguments, TCall, TExpr, TPlace, type_of}
-use Rattle.isp_lower.specs.Code.{argument_code, argument_places, arguments_code, arguments_places, call_code, call_places, choice, choose_code, choose_rest, expr_code, expr_places, expr_to, found, guard, index_of, index_places, is_whole, jump_off, jump_on, lift_code, move_code, operand, operand_of, operate, operate_places, read, select, variable_code, variable_from, whole_of, write}
+use Rattle.isp_typed.specs.Typed.{TArgument, TArguments, TCall, TExpr, TExprs, TPlace, type_of}
+use Rattle.isp_lower.specs.Code.{argument_code, argument_places, arguments_code, arguments_places, call_code, call_places, choice, choose_code, choose_rest, expr_code, expr_places, expr_to, found, guard, index_of, index_places, is_whole, jump_off, jump_on, lift_code, move_code, operand, operand_of, operate, operate_places, read, select, value_registers, values_code, values_places, variable_code, variable_from, whole_of, write}
+use Rattle.isp_typed.specs.declared.library.Library.{Library}
 use Rattle.isp_lower.specs.Emitted.{Appends, layout}
 use Rattle.isp_lower.specs.Layout.{mask_register, register}
+use Rattle.isp_lower.specs.Library.{library_code, library_rates, on_values}
 use Rattle.isp_lower.specs.Simple.{assign_code, assign_places, change_by_code, change_places, one_code, one_in, step_code, update_to}
+use Rattle.isp_lower.specs.declared.library.Operands.{Operands}
 use Rattle.isp_lower.specs.declared.numbered.MaskNumber.{MaskNumber}
 use Rattle.isp_lower.specs.declared.numbered.RegisterNumber.{RegisterNumber}
 use Rattle.isp_lower.specs.declared.sites.Element.{Element}
@@ -131,6 +134,27 @@ short_at on z x y t =
     let k = t.site.mask.number in
     let n = t.site.slot.number in
     record { code = λ pc p. expr_code l z pc p k n ++ select t.ty.rate t.to.number (found l z n) (found l x n) (found l y n) k ∷ []; places = expr_places l z }
+
+-- ---- the library: values in a row, each at the next of some rates; the instructions on their registers; and a call
+
+abbrev pub numbers : List RegisterNumber → List ℕ
+numbers ds = map (λ d. d.number) ds
+
+abbrev pub values_at : Scope → List Rate → TExprs → Site → Piece
+values_at on rs xs at =
+    record { code = λ pc p. values_code (layout on) rs xs pc p at.mask.number at.slot.number; places = values_places (layout on) xs }
+
+abbrev pub made_at : Library → Operands → RegisterNumber → Target → Piece
+made_at f o s t =
+    record { code = λ pc p. on_values f t.ty.rate t.to.number s.number o.first.number o.second.number o.third.number t.site.mask.number; places = [] }
+
+abbrev pub library_at : Scope → Library → TExprs → Target → Piece
+library_at on f xs t =
+    let l = layout on in
+    let rs = library_rates f t.ty.rate in
+    let k = t.site.mask.number in
+    let n = t.site.slot.number in
+    record { code = λ pc p. values_code l rs xs pc p k n ++ library_code f t.ty.rate t.to.number (l.spare t.ty.rate t.ty.elem n) (value_registers l rs xs n) k; places = values_places l xs }
 
 -- ---- calls: an argument at the rate of its parameter, the arguments of a function, the instruction behind them, and the call
 

@@ -48,10 +48,10 @@ fn writes_last(x: &TypedExpr) -> bool
         | TypedExpr::Unary { .. }
         | TypedExpr::Binary { .. }
         | TypedExpr::Compare { .. }
-        | TypedExpr::Call { .. } => true,
+        | TypedExpr::Call { .. }
+        | TypedExpr::Library { .. } => true,
         TypedExpr::Place(TypedPlace::Variable { .. })
         | TypedExpr::Logic { .. }
-        | TypedExpr::Library { .. }
         | TypedExpr::PackedStore { .. }
         | TypedExpr::PackedLoad { .. } => false,
     }

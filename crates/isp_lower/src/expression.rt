@@ -1,32 +1,34 @@
 //! The code of expressions.
 ghost use Rattle.std.specs.Prelude.{◌≡◌, ◌<◌, ◌+◌, ℕ, true, false, IfOk, OnOk};
 ghost use Rattle.isp_base.specs.declared.types.Rate.TheVariants.{Uniform, Varying};
-ghost use Rattle.isp_typed.specs.Typed.{t_arguments, t_binary, t_choose, t_compare, t_convert, t_element, t_logic, t_place, t_unary, type_of};
-ghost use Rattle.isp_typed.specs.Views.{argument_of, arguments_of, call_of, expr_of, place_of};
-ghost use Rattle.isp_lower.specs.Asks.{argument_asks, arguments_asks, call_asks, expr_asks, index_asks, operand_asks, spare_ask, target_asks, whole_asks};
-ghost use Rattle.isp_lower.specs.Code.{argument_register, argument_registers, constant_of, expr_code, expr_places, found, index, is_short, is_whole, operand, stays, whole};
+ghost use Rattle.isp_typed.specs.Typed.{t_arguments, t_binary, t_choose, t_compare, t_convert, t_element, t_exprs, t_logic, t_place, t_unary, type_of};
+ghost use Rattle.isp_typed.specs.Views.{argument_of, arguments_of, call_of, expr_of, exprs_of, place_of};
+ghost use Rattle.isp_lower.specs.Asks.{argument_asks, arguments_asks, call_asks, expr_asks, index_asks, operand_asks, spare_ask, target_asks, values_asks, whole_asks};
+ghost use Rattle.isp_lower.specs.Code.{argument_register, argument_registers, expr_code, expr_places, found, index, is_short, is_whole, operand, stays, value_registers, whole};
 ghost use Rattle.isp_lower.specs.Emitted.{Appends, Present, layout};
 ghost use Rattle.isp_lower.specs.Layout.{register};
-ghost use Rattle.isp_lower.specs.Written.{Writes, argument_at, arguments_at, by_jump_at, by_masks_at, call_at, chosen_at, guarded_at, index_at, node_at, operand_at, short_at, side_at, skipped_at, to_at, value_at, whole_at};
+ghost use Rattle.isp_lower.specs.Library.{library_rates};
+ghost use Rattle.isp_lower.specs.Written.{Writes, argument_at, arguments_at, by_jump_at, by_masks_at, call_at, chosen_at, guarded_at, index_at, library_at, node_at, numbers, operand_at, short_at, side_at, skipped_at, to_at, value_at, values_at, whole_at};
 
 use crate::leaves::{
     array, compare, constant, convert, copy, index as lane_numbers, mask, of_rate, scalar, select,
     splat, the_others, unary, where_so,
 };
+use crate::library::{Operands, put_library, value_rate};
 use crate::located::{found, lift, moved};
 use crate::numbered::{RegisterNumber, Slot};
 use crate::sites::{Element, Held, Site, Skip, Target};
-use crate::truths::{decided, is_short};
+use crate::truths::{constant_of, decided, is_short, is_whole};
 use crate::types::{Body, Scope};
 use crate::written::{operate_to, put_needing, read_to};
-use isp_base::{BinOp, Compare, Elem, Rate, Ty, UnaryOp, Value, convert as value_as};
+use isp_base::{BinOp, Compare, Elem, Rate, Ty, UnaryOp, convert as value_as};
 use isp_code::{Arguments, Call, CallBox, Instr, JumpTest, Register};
-use isp_typed::{ArrayVariable, Logic, TypedArgument, TypedCall, TypedExpr, TypedPlace};
+use isp_typed::{ArrayVariable, Library, Logic, TypedArgument, TypedCall, TypedExpr, TypedPlace};
 use smallvec::SmallVec;
 use std::alloc::AllocError;
 
 /// The code of an expression under a mask, in the slots from one on. It answers the register of the value, scalar
-/// where the expression is uniform. Memory is refused too of what has no code yet: the library and packed calls.
+/// where the expression is uniform. Memory is refused too of packed calls, which have no code yet.
 #[cycle(expr)]
 pub fn expr(
     b: &mut Body,
@@ -83,8 +85,8 @@ fn write_to(
     }
 }
 
-/// The same of comparisons, of calls, and of expressions that may leave out a part. Memory is refused of all others, which have
-/// no code yet.
+/// The same of comparisons, of calls, of functions and of the library, and of expressions that may leave out a part. Memory is
+/// refused of packed calls, which have no code yet.
 #[cycle(expr)]
 fn compare_or_branch(
     b: &mut Body,
@@ -117,6 +119,11 @@ fn compare_or_branch(
             ..
         } => choose_to(b, on, test, then, otherwise, target),
         TypedExpr::Call { call, ty } => call_to(b, on, Some(of_rate(ty.rate, to)), call, site),
+        TypedExpr::Library {
+            function,
+            values,
+            ..
+        } => library_to(b, on, *function, values, target),
         _ => Err(AllocError),
     }
 }
@@ -216,28 +223,6 @@ fn compare_to(
     Ok(())
 }
 
-/// A constant, where the expression is nothing else.
-fn constant_of(x: &TypedExpr) -> Option<Value>
-    ensures { result ≡ constant_of (expr_of x.now) }
-{
-    match x {
-        TypedExpr::Constant { value, .. } => Some(*value),
-        TypedExpr::ProgramIndex { .. }
-        | TypedExpr::Place(_)
-        | TypedExpr::Convert { .. }
-        | TypedExpr::Cast { .. }
-        | TypedExpr::Unary { .. }
-        | TypedExpr::Binary { .. }
-        | TypedExpr::Compare { .. }
-        | TypedExpr::Logic { .. }
-        | TypedExpr::Choose { .. }
-        | TypedExpr::Call { .. }
-        | TypedExpr::Library { .. }
-        | TypedExpr::PackedStore { .. }
-        | TypedExpr::PackedLoad { .. } => None,
-    }
-}
-
 /// A register gets a value as one of another element type; a constant is loaded as one of that type.
 #[cycle(expr)]
 fn convert_to(
@@ -263,13 +248,6 @@ fn convert_to(
             Ok(())
         }
     }
-}
-
-/// Whether values of the type are indices as they are.
-fn is_whole(elem: Elem) -> bool
-    ensures { result ≡ is_whole elem }
-{
-    matches!(elem, Elem::I64)
 }
 
 /// A whole number as int64.
@@ -665,6 +643,56 @@ fn choose_to(
             Ok(())
         }
     }
+}
+
+/// The values of a call of the library from left to right, each in a slot of its own, at the rate at which the function takes
+/// it; and their registers.
+#[cycle(expr)]
+fn values(
+    b: &mut Body,
+    on: &Scope,
+    function: Library,
+    rate: Rate,
+    all: &[TypedExpr],
+    site: Site,
+) -> Result<SmallVec<RegisterNumber, 3>, AllocError>
+    requires { Present on.now (values_asks (library_rates function rate) (t_exprs (exprs_of all.now)) site.slot.number) }
+    ensures registers { IfOk result (λ r. numbers r.items ≡ value_registers (layout on.now) (library_rates function rate) (t_exprs (exprs_of all.now)) site.slot.number) }
+    ensures code { OnOk result (Writes b.old b.new (values_at on.now (library_rates function rate) (t_exprs (exprs_of all.now)) site)) }
+{
+    let mut slot = site.slot;
+    let mut registers = SmallVec::new(*b.code.allocator());
+    for (place, value) in all.iter().enumerate() {
+        let taken = value_rate(function, rate, place);
+        let at = Site {
+            mask: site.mask,
+            slot,
+        };
+        let register = operand(b, on, taken, value, at)?;
+        registers.push(register)?;
+        slot = at.slot.next();
+    }
+    Ok(registers)
+}
+
+/// A register gets what a function of the library gives.
+#[cycle(expr)]
+fn library_to(
+    b: &mut Body,
+    on: &Scope,
+    function: Library,
+    all: &[TypedExpr],
+    target: Target,
+) -> Result<(), AllocError>
+    requires spare { Present on.now (spare_ask target.ty.rate target.ty.elem target.site.slot.number) }
+    requires values { Present on.now (values_asks (library_rates function target.ty.rate) (t_exprs (exprs_of all.now)) target.site.slot.number) }
+    ensures { OnOk result (Writes b.old b.new (library_at on.now function (t_exprs (exprs_of all.now)) target)) }
+{
+    let registers = values(b, on, function, target.ty.rate, all, target.site)?;
+    let given = Operands::new(registers.as_slice());
+    let spare = on.spare(target.ty.rate, target.ty.elem, target.site.slot);
+    put_library(b, function, given, spare, target)?;
+    Ok(())
 }
 
 /// A value that is handed over at a rate, in a register of that rate.

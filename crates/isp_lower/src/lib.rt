@@ -14,6 +14,7 @@ mod expression;
 mod header;
 mod laws;
 mod leaves;
+mod library;
 mod listing;
 mod located;
 mod numbered;

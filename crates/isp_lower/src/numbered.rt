@@ -4,7 +4,7 @@ ghost use Rattle.std.specs.Prelude.{◌≡◌, ◌<◌, ◌+◌, IfOk};
 use std::alloc::AllocError;
 
 /// The number of a scalar or a vector register, or of an array, among those of its class.
-#[derive(Clone, Copy)]
+#[derive(Clone, Copy, Default)]
 pub struct RegisterNumber {
     pub number: u32,
 }

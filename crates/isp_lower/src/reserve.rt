@@ -2,16 +2,18 @@
 ghost use Rattle.std.specs.Prelude.{◌≡◌, ◌+◌, IfOk, OnOk};
 ghost use Rattle.isp_base.specs.Ranks.{same_elem};
 ghost use Rattle.isp_base.specs.declared.types.Rate.TheVariants.{Varying};
-ghost use Rattle.isp_typed.specs.Typed.{t_arguments, type_of};
-ghost use Rattle.isp_typed.specs.Views.{argument_of, arguments_of, call_of, expr_of, item_of, items_of, place_of, simple_of};
-ghost use Rattle.isp_lower.specs.Asks.{Both, MaskOf, Number, argument_asks, arguments_asks, assign_asks, call_asks, change_asks, expr_asks, index_asks, item_asks, items_asks, lift_asks, one_asks, operand_asks, operands_asks, read_asks, sides_ask, spare_ask, step_asks, target_asks, test_asks, update_asks, work_asks, zero_asks, beyond, first_slot, simple_asks};
+ghost use Rattle.isp_typed.specs.Typed.{t_arguments, t_exprs, type_of};
+ghost use Rattle.isp_typed.specs.Views.{argument_of, arguments_of, call_of, expr_of, exprs_of, item_of, items_of, place_of, simple_of};
+ghost use Rattle.isp_lower.specs.Asks.{Both, MaskOf, Number, argument_asks, arguments_asks, assign_asks, call_asks, change_asks, expr_asks, index_asks, item_asks, items_asks, lift_asks, one_asks, operand_asks, operands_asks, read_asks, sides_ask, spare_ask, step_asks, target_asks, test_asks, update_asks, values_asks, work_asks, zero_asks, beyond, first_slot, simple_asks};
+ghost use Rattle.isp_lower.specs.Library.{library_rates};
 ghost use Rattle.isp_lower.specs.Reserved.{Gives, choice_asks, logic_asks};
 
+use crate::library::value_rate;
 use crate::numbered::Slot;
 use crate::registers::Registers;
 use isp_base::{Elem, Rate, Ty};
 use isp_typed::{
-    ArrayVariable, TypedArgument, TypedCall, TypedExpr, TypedItem, TypedPlace, TypedSimple,
+    ArrayVariable, Library, TypedArgument, TypedCall, TypedExpr, TypedItem, TypedPlace, TypedSimple,
 };
 use std::alloc::AllocError;
 
@@ -144,9 +146,15 @@ impl Reserve {
                 ..
             } => self.choice(x.ty(), test, then, otherwise, slot),
             TypedExpr::Call { call, ty } => self.called(*ty, call, slot),
-            TypedExpr::Library { .. }
-            | TypedExpr::PackedStore { .. }
-            | TypedExpr::PackedLoad { .. } => self.value(x.ty(), slot),
+            TypedExpr::Library {
+                function,
+                values,
+                ty,
+                ..
+            } => self.library(*function, *ty, values, slot),
+            TypedExpr::PackedStore { .. } | TypedExpr::PackedLoad { .. } => {
+                self.value(x.ty(), slot)
+            }
         }
     }
 
@@ -250,6 +258,43 @@ impl Reserve {
         self.operand(ty.rate, then, first)?;
         self.operand(ty.rate, otherwise, second)?;
         self.sides(rate, slot)?;
+        Ok(())
+    }
+
+    /// A call of the library, and the register that its result goes to.
+    #[cycle(expr)]
+    fn library(
+        &mut self,
+        function: Library,
+        ty: Ty,
+        all: &[TypedExpr],
+        slot: Slot,
+    ) -> Result<(), AllocError>
+        ensures { OnOk result (Gives self.old self.new (Both (spare_ask ty.rate ty.elem slot.number) (values_asks (library_rates function ty.rate) (t_exprs (exprs_of all.now)) slot.number))) }
+    {
+        self.spare(ty.rate, ty.elem, slot)?;
+        self.values(function, ty.rate, all, slot)?;
+        Ok(())
+    }
+
+    /// The values of a call of the library, each in a slot of its own, at the rate at which the function takes it.
+    #[cycle(expr)]
+    fn values(
+        &mut self,
+        function: Library,
+        rate: Rate,
+        all: &[TypedExpr],
+        slot: Slot,
+    ) -> Result<(), AllocError>
+        ensures { OnOk result (Gives self.old self.new (values_asks (library_rates function rate) (t_exprs (exprs_of all.now)) slot.number)) }
+    {
+        let mut at = slot;
+        for (place, x) in all.iter().enumerate() {
+            let next = self.next(at)?;
+            let taken = value_rate(function, rate, place);
+            self.operand(taken, x, at)?;
+            at = next;
+        }
         Ok(())
     }
 

@@ -1,10 +1,10 @@
-//! Tests of trees that choose the code of `&&`, `||` and `?:`.
+//! Tests of trees that choose their code.
 ghost use Rattle.std.specs.Prelude.{◌≡◌, ◌&&◌};
-ghost use Rattle.isp_lower.specs.Code.{decided, is_short, same_rate, stays, stays_at};
+ghost use Rattle.isp_lower.specs.Code.{constant_of, decided, is_short, is_whole, same_rate, stays, stays_at};
 ghost use Rattle.isp_lower.specs.Layout.{Layout};
 ghost use Rattle.isp_typed.specs.Views.{expr_of};
 
-use isp_base::Rate;
+use isp_base::{Elem, Rate, Value};
 use isp_code::JumpTest;
 use isp_typed::{Logic, TypedExpr, TypedPlace};
 
@@ -71,4 +71,33 @@ pub fn is_short(rate: Rate, test: &TypedExpr, then: &TypedExpr, otherwise: &Type
     ensures { (l : Layout) → result ≡ is_short l rate (expr_of test.now) (expr_of then.now) (expr_of otherwise.now) }
 {
     same_rate(rate, test.ty().rate) && both_stay(rate, then, otherwise)
+}
+
+/// A constant, where the expression is nothing else.
+pub(crate) fn constant_of(x: &TypedExpr) -> Option<Value>
+    ensures { result ≡ constant_of (expr_of x.now) }
+{
+    match x {
+        TypedExpr::Constant { value, .. } => Some(*value),
+        TypedExpr::ProgramIndex { .. }
+        | TypedExpr::Place(_)
+        | TypedExpr::Convert { .. }
+        | TypedExpr::Cast { .. }
+        | TypedExpr::Unary { .. }
+        | TypedExpr::Binary { .. }
+        | TypedExpr::Compare { .. }
+        | TypedExpr::Logic { .. }
+        | TypedExpr::Choose { .. }
+        | TypedExpr::Call { .. }
+        | TypedExpr::Library { .. }
+        | TypedExpr::PackedStore { .. }
+        | TypedExpr::PackedLoad { .. } => None,
+    }
+}
+
+/// Whether values of the type are indices as they are.
+pub(crate) fn is_whole(elem: Elem) -> bool
+    ensures { result ≡ is_whole elem }
+{
+    matches!(elem, Elem::I64)
 }

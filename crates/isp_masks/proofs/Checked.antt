@@ -12,20 +12,24 @@ use Rattle.isp_lex.specs.declared.fault.Fault.{Fault}
 use Rattle.isp_lex.specs.declared.fault.Rule.TheVariants.{VaryingToUniform, BadExport}
 use Rattle.isp_lex.specs.Faults.{fault}
 use Rattle.isp_typed.specs.Fine.{FineFunction, params_of}
-use Rattle.isp_typed.specs.Typed.{TExpr, t_constant, t_program_index, t_place, t_convert, t_cast, t_unary, t_binary, t_compare, t_logic, t_choose, t_call, t_library, t_packed_store, t_packed_load, TPlace, t_variable, t_element, TArgument, t_by_value, t_by_name, TCall, t_called, TArguments, t_no_arguments, t_argument_then, TItem, t_plain, t_with_value, t_with_size, TSimple, t_value, t_run, t_assign, t_update, t_step, TFirst, t_first_declare, t_first_simple, TFunction, Program, place_type, type_of, span_of}
+use Rattle.isp_typed.specs.Typed.{TExpr, t_constant, t_program_index, t_place, t_convert, t_cast, t_unary, t_binary, t_compare, t_logic, t_choose, t_call, t_library, t_packed_store, t_packed_load, TPlace, t_variable, t_element, TArgument, t_by_value, t_by_name, TCall, t_called, TArguments, t_no_arguments, t_argument_then, TExprs, t_no_exprs, t_expr_then, TItem, t_plain, t_with_value, t_with_size, TSimple, t_value, t_run, t_assign, t_update, t_step, TFirst, t_first_declare, t_first_simple, TFunction, Program, place_type, type_of, span_of}
 use Rattle.isp_typed.specs.Typed.{TStmt, t_block, t_declare, t_simple, t_if, t_if_else, t_while, t_do, t_for, t_foreach, t_foreach_active, t_unmasked, t_jump, t_return, t_print, t_assert, TBlock, t_braces, TStmts, t_no_stmts, t_stmt_then}
 use Rattle.isp_typed.specs.declared.variable.Holds.{Holds}
 use Rattle.isp_typed.specs.declared.variable.Holds.TheVariants.{Value as AValue, Given, Local}
 use Rattle.isp_typed.specs.declared.variable.Variable.{Variable}
 use Rattle.isp_rates.specs.declared.exits.Within.{Within}
 use Rattle.isp_rates.specs.Breaches.{OfAny, OfEach}
-use Rattle.isp_rates.specs.Covered.{expr_left, place_left, call_left, arguments_left, argument_left, simple_left, items_left, given_left, first_left, step_left, stmt_left, block_left, stmts_left, function_left, functions_left}
+use Rattle.isp_rates.specs.Covered.{expr_left, place_left, call_left, arguments_left, argument_left, simple_left, items_left, given_left, first_left, step_left, stmt_left, block_left, stmts_left, values_left, function_left, functions_left}
 use Rattle.isp_rates.specs.Rates as rates
-use Rattle.isp_rates.specs.Rates.{goes_to, variables_of, DemandBreach, ExprBreach, PlaceBreach, CallBreach, ArgumentsBreach, ArgumentBreach}
+use Rattle.isp_rates.specs.Rates.{goes_to, variables_of, DemandBreach, ExprBreach, PlaceBreach, CallBreach, ArgumentsBreach, ArgumentBreach, ValuesBreach, part_rate}
 use Rattle.isp_lower.specs.Callees.{rate_held, rates_held, rates_in}
 use Rattle.isp_rates.specs.Exits.{at_start, in_loop, in_foreach_active, in_unmasked, ItemBreach, SimpleBreach, FirstBreach, StmtBreach, BlockBreach, StmtsBreach}
 use Rattle.isp_rates.specs.Program.{ParametersBreach, ResultBreach, FunctionBreach, IsAccepted}
-use Rattle.isp_lower.specs.Rated.{Reaches, IsRated, PlaceRated, CallRated, ArgumentsRated, ArgumentRated, RatedAt, SimpleRated, ItemsRated}
+use Rattle.isp_typed.specs.Library.{asks_uniform, parts}
+use Rattle.isp_typed.specs.declared.library.Part.{Part}
+use Rattle.isp_typed.specs.declared.library.Part.TheVariants as part
+use Rattle.isp_lower.specs.Library.{rate_taken, rates_taken}
+use Rattle.isp_lower.specs.Rated.{Reaches, IsRated, PlaceRated, CallRated, ArgumentsRated, ArgumentRated, ValuesRated, RatedAt, SimpleRated, ItemsRated}
 use Rattle.isp_masks.specs.Compiled.{AreOne, IsOne}
 use Rattle.isp_masks.specs.Rated.{AnswerRated, FirstRated, TestRated, StepRated, StmtRated, BlockRated, StmtsRated}
 
@@ -59,7 +63,7 @@ next_none (Some s) b e = absurd (cc)
 some_left : {s : Span} → Some s ≡ None → ⊥
 some_left e = cc
 
--- ---- arguments
+-- ---- arguments, and values of the library
 
 any_rate : (wanted r : Rate) → Reaches r wanted → Reaches r Varying
 any_rate wanted Uniform h = tt
@@ -79,6 +83,13 @@ unfolding param_count
 taken_are [] g = refl
 taken_are (h ∷ fs) zero = refl
 taken_are (h ∷ fs) (suc g) = taken_are fs g
+
+part_alike : (p : Part) → part_rate p ≡ rate_taken Varying (asks_uniform p)
+part_alike part.Own = refl
+part_alike part.Same = refl
+part_alike part.Number = refl
+part_alike part.Index = refl
+part_alike part.Truth = refl
 
 -- ---- trees
 
@@ -102,13 +113,21 @@ module _ (fs : List TFunction) where
         let rest = next_none (expr_left q) (option_or (expr_left x) (expr_left y)) c in
         (expr_rated q (λ e b. clean e (inl b)) (first_none (expr_left q) (option_or (expr_left x) (expr_left y)) c), expr_rated x (λ e b. clean e (inr (inl b))) (first_none (expr_left x) (expr_left y) rest), expr_rated y (λ e b. clean e (inr (inr b))) (next_none (expr_left x) (expr_left y) rest))
     expr_rated (t_call k t) clean c = call_rated k clean c
-    expr_rated (t_library g e xs t sp) clean c = absurd (some_left c)
+    expr_rated (t_library g e xs t sp) clean c = values_rated (parts g) xs clean c
     expr_rated (t_packed_store b x sp) clean c = absurd (some_left c)
     expr_rated (t_packed_load b v sp) clean c = absurd (some_left c)
 
     place_rated : (z : TPlace) → NoneOf (PlaceBreach fs z) → place_left z ≡ None → PlaceRated fs z
     place_rated (t_variable v t sp) clean c = tt
     place_rated (t_element b i t sp) clean c = expr_rated i clean c
+
+    -- a value that is asked uniform is uniform
+    values_rated : (ps : List Part) (xs : TExprs) → NoneOf (ValuesBreach fs ps xs) → values_left xs ≡ None → ValuesRated fs (rates_taken Varying ps) xs
+    values_rated ps t_no_exprs clean c = tt
+    values_rated [] (t_expr_then x xs) clean c =
+        (demand_reaches Varying x (ExprBreach fs x) (λ e b. clean e (inl b)), expr_rated x (demand_own Varying x (ExprBreach fs x) (λ e b. clean e (inl b))) (first_none (expr_left x) (values_left xs) c), values_rated [] xs (λ e b. clean e (inr b)) (next_none (expr_left x) (values_left xs) c))
+    values_rated (p ∷ ps) (t_expr_then x xs) clean c =
+        (subst (Reaches (type_of x).rate) (part_alike p) (demand_reaches (part_rate p) x (ExprBreach fs x) (λ e b. clean e (inl b))), expr_rated x (demand_own (part_rate p) x (ExprBreach fs x) (λ e b. clean e (inl b))) (first_none (expr_left x) (values_left xs) c), values_rated ps xs (λ e b. clean e (inr b)) (next_none (expr_left x) (values_left xs) c))
 
     -- what an argument is asked of here it is asked of there: past the parameters nothing
     call_rated : (k : TCall) → NoneOf (CallBreach fs k) → call_left k ≡ None → CallRated fs k

@@ -1,7 +1,8 @@
 //! What has code, and the first node in the text that has none.
 ghost use Rattle.std.specs.Prelude.{◌≡◌, option_map};
-ghost use Rattle.isp_typed.specs.Views.{argument_of, block_of, call_of, expr_of, first_of, function_of, functions_of, item_of, items_of, place_of, program_of, simple_of, stmt_of};
-ghost use Rattle.isp_rates.specs.Covered.{argument_left, block_left, call_left, expr_left, first_left, function_left, functions_left, given_left, item_left, items_left, place_left, program_left, simple_left, step_left, stmt_left};
+ghost use Rattle.isp_typed.specs.Typed.{t_exprs};
+ghost use Rattle.isp_typed.specs.Views.{argument_of, block_of, call_of, expr_of, exprs_of, first_of, function_of, functions_of, item_of, items_of, place_of, program_of, simple_of, stmt_of};
+ghost use Rattle.isp_rates.specs.Covered.{argument_left, block_left, call_left, expr_left, first_left, function_left, functions_left, given_left, item_left, items_left, place_left, program_left, simple_left, step_left, stmt_left, values_left};
 
 use isp_base::Span;
 use isp_typed::{
@@ -30,8 +31,8 @@ fn expr(x: &TypedExpr) -> Option<Span>
             ..
         } => expr(test).or(expr(then).or(expr(otherwise))),
         TypedExpr::Call { call: inner, .. } => call(inner),
-        TypedExpr::Library { .. } | TypedExpr::PackedStore { .. } | TypedExpr::PackedLoad { .. } =>
-            Some(x.span()),
+        TypedExpr::Library { values: all, .. } => values(all),
+        TypedExpr::PackedStore { .. } | TypedExpr::PackedLoad { .. } => Some(x.span()),
     }
 }
 
@@ -44,6 +45,19 @@ fn place(x: &TypedPlace) -> Option<Span>
         TypedPlace::Variable { .. } => None,
         TypedPlace::Element { index, .. } => expr(index),
     }
+}
+
+/// The first node in the values of a call of the library that has no code.
+#[cycle(exprs)]
+fn values(all: &[TypedExpr]) -> Option<Span>
+    ensures { result ≡ values_left (t_exprs (exprs_of all.now)) }
+{
+    for x in all {
+        if let Some(span) = expr(x) {
+            return Some(span);
+        }
+    }
+    None
 }
 
 /// The first node in the arguments of a call that has no code.

@@ -18,30 +18,14 @@ fn refused(rt: &impl Abort, alloc: Global, text: &str, line: &str) -> Result<(),
 #[test]
 fn first_node_not_yet(rt: HostRuntime) -> Result<(), Fail> {
     for (text, line) in [
-        ("void f() { min(1, 0); }", "90 NotYet at 11..20"),
+        ("void f() { assert(1 / 0 == 1); }", "90 NotYet at 11..30"),
         (
-            "export void f() { g(abs(1)); } void g(int x) { }",
-            "90 NotYet at 20..26",
+            "static int g(int x) { return x; } export void f(uniform int a[]) { g(packed_store_active(a, 1)); }",
+            "90 NotYet at 69..94",
         ),
         (
-            "export void f(uniform int a[]) { a[programIndex] = 1 + max(a[programIndex], min(1, 2)); }",
-            "90 NotYet at 55..86",
-        ),
-        (
-            "export void f(uniform int a[]) { a[reduce_add(1)] = reduce_add(2); }",
-            "90 NotYet at 35..48",
-        ),
-        (
-            "export void f(uniform int a[]) { a[0] = a[1] * 2 + -(abs(a[2]) / 3) + abs(4); }",
-            "90 NotYet at 53..62",
-        ),
-        (
-            "export void f(uniform int a[]) { a[0] = a[1] == 2 && any(true) ? min(1, 2) : 3; }",
-            "90 NotYet at 53..62",
-        ),
-        (
-            "export void f() { int x = 1, y[3], z = (int8) clamp(x, 0, 2), w = min(x, 1); }",
-            "90 NotYet at 46..60",
+            "export void f() { g(); } void g() { f(); unmasked { f(); } } void h() { f(); }",
+            "90 NotYet at 41..58",
         ),
         (
             "export uniform int f(uniform int a[]) { return packed_store_active(a, programIndex); }",
@@ -52,24 +36,44 @@ fn first_node_not_yet(rt: HostRuntime) -> Result<(), Fail> {
             "90 NotYet at 58..87",
         ),
         (
-            "export void f() { if (all(programIndex < 2)) while (true) ; }",
-            "90 NotYet at 22..43",
+            "export void f(uniform int a[]) { a[programIndex] = 1 + max(a[0], min(1, packed_store_active(a, 2))); }",
+            "90 NotYet at 72..97",
         ),
         (
-            "export void f() { if (programIndex < 2) { while (any(true)) ; } else f(); }",
-            "90 NotYet at 49..58",
+            "export void f(uniform int a[]) { a[reduce_add(packed_store_active(a, 1))] = packed_store_active(a, 2); }",
+            "90 NotYet at 46..71",
         ),
         (
-            "export void f() { cif (programIndex < 2) ; else do min(1, 2); while (false); f(); }",
-            "90 NotYet at 51..60",
+            "export void f(uniform int a[]) { a[0] = 2 + -(packed_store_active(a, 2) / 3) + packed_store_active(a, 4); }",
+            "90 NotYet at 46..71",
         ),
         (
-            "export void f() { for (int i = abs(1); i < 3; i++) f(); }",
-            "90 NotYet at 31..37",
+            "export void f(uniform int a[]) { a[0] = any(packed_store_active(a, 1)) ? packed_store_active(a, 2) : 3; }",
+            "90 NotYet at 44..69",
         ),
         (
-            "export void f() { for (;; f()) min(1, 2); }",
-            "90 NotYet at 31..40",
+            "export void f(uniform int a[]) { int x = 1, y[3], z = (int8) packed_store_active(a, x), w = x; }",
+            "90 NotYet at 61..86",
+        ),
+        (
+            "export void f(uniform int a[]) { if (all(programIndex < packed_store_active(a, 2))) while (true) ; }",
+            "90 NotYet at 56..81",
+        ),
+        (
+            "export void f(uniform int a[]) { if (a[0] < 2) { while (packed_store_active(a, 1)) ; } else f(a); }",
+            "90 NotYet at 56..81",
+        ),
+        (
+            "export void f(uniform int a[]) { cif (a[0] < 2) ; else do packed_store_active(a, 1); while (false); }",
+            "90 NotYet at 58..83",
+        ),
+        (
+            "export void f(uniform int a[]) { for (int i = abs(packed_store_active(a, 1)); i < 3; i++) ; }",
+            "90 NotYet at 50..75",
+        ),
+        (
+            "export void f(uniform int a[]) { for (;; packed_store_active(a, 1)) packed_store_active(a, 2); }",
+            "90 NotYet at 41..66",
         ),
         (
             "export void f() { { { foreach (i = 0 ... abs(4)) f(); } } }",
@@ -127,6 +131,8 @@ fn compiled(rt: HostRuntime) -> Result<(), Fail> {
         "export void f() { if (true) ; else { cif (programIndex < 1) return; } }",
         "export void f(void) { bool x = programIndex && true || !false; x = x == true; x++; --x; }",
         "export void f() { cwhile (programIndex < 2) break; }",
+        "export void f(uniform int a[]) { a[programIndex] = 1 + max(a[0], min(1, reduce_add(2))); }",
+        "export void f() { if (all(programIndex < 2)) while (any(programIndex == 1)) ; }",
         "void f() { 1 / 0; }",
         "static int g(int x) { return x; } export void f() { while (true) ; }",
         "export void f() { } void g() { while (true) ; } void h() { }",

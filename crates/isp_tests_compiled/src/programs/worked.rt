@@ -1,7 +1,7 @@
 //! Worked examples, each record with its working.
 
 /// How many records there are.
-pub(super) const COUNT: usize = 60;
+pub(super) const COUNT: usize = 87;
 
 /// The records.
 pub(super) const ROWS: &str = r##"=== a division behind a select
@@ -250,6 +250,141 @@ The body of f, the return, the call; the body of g, the return and the constant.
 4 f 224 {}
 {"arrays":{},"result":1}
 uniform int g() { return 1; } export uniform int f() { return g(); }
+=== a sum that widens
+4 times 2147483647.
+4 f 10000 {}
+{"arrays":{},"result":8589934588}
+export uniform int64 f() { int x = 2147483647; return reduce_add(x); }
+=== a sum of int8
+127 + 1 + 1 + 1 is an int16.
+4 f 10000 {}
+{"arrays":{},"result":130}
+export uniform int16 f() { int8 x = programIndex < 1 ? 127 : 1; return reduce_add(x); }
+=== a variable and a sum of it
+p + (0 + 1 + 2 + 3).
+4 f 10000 {"a":[0,0,0,0]}
+{"arrays":{"a":[6,7,8,9]},"result":null}
+export void f(uniform int a[]) { int x = programIndex; a[programIndex] = x + reduce_add(x); }
+=== the least and the greatest int8
+100 p wraps: 0, 100, -56, 44.
+4 f 10000 {"a":[0,0]}
+{"arrays":{"a":[-56,100]},"result":null}
+export void f(uniform int a[]) { int8 x = 100 * programIndex; a[0] = reduce_min(x); a[1] = reduce_max(x); }
+=== equal in some
+p / 2 is 0, 0, 1, 1; of the first two it is one value.
+4 f 10000 {"a":[9,9]}
+{"arrays":{"a":[0,1]},"result":null}
+export void f(uniform int a[]) { int x = programIndex / 2; a[0] = reduce_equal(x); if (programIndex < 2) a[1] = reduce_equal(x); }
+=== any, all and none
+3 is off in the first three, and on in the last.
+4 f 10000 {"a":[9,9,9,9]}
+{"arrays":{"a":[0,1,1,0]},"result":null}
+export void f(uniform int a[]) { if (programIndex < 3) { a[0] = any(programIndex == 3); a[1] = all(programIndex < 3); a[2] = none(programIndex == 3); } a[3] = none(programIndex == 3); }
+=== none of the variable that gets it
+none(true) is false: 20; none(false) is true: 20 + 1.
+4 f 10000 {}
+{"arrays":{},"result":21}
+export uniform int f() { uniform bool b = true; b = none(b); uniform int n = b ? 10 : 20; b = none(b); return b ? n + 1 : n + 2; }
+=== the work of none
+The body, the return, none, ==, programIndex and 1: 6, and 32 * 6 + 32 is 224.
+8 f 224 {}
+{"arrays":{},"result":0}
+export uniform int f() { return none(programIndex == 1); }
+=== a scan and a rotation under a mask
+1 is off: the sums of 1, 3, 4, and what 1, 3 and 0 have.
+4 f 10000 {"a":[9,9,9,9],"b":[9,9,9,9]}
+{"arrays":{"a":[0,9,1,4],"b":[0,9,4,1]},"result":null}
+export void f(uniform int a[], uniform int b[]) { int x = programIndex + 1; if (programIndex != 1) { a[programIndex] = exclusive_scan_add(x); b[programIndex] = rotate(x, 1); } }
+=== scans of bits
+And of 7, 6, 5, 4; or of 1, 2, 4, 8.
+4 f 10000 {"a":[0,0,0,0],"b":[0,0,0,0]}
+{"arrays":{"a":[-1,7,6,4],"b":[0,1,3,7]},"result":null}
+export void f(uniform int a[], uniform int b[]) { a[programIndex] = exclusive_scan_and(7 - programIndex); b[programIndex] = exclusive_scan_or(1 << programIndex); }
+=== a rotation to higher instances
+From p - 1, and from 7 to 0.
+8 f 10000 {"a":[0,0,0,0,0,0,0,0]}
+{"arrays":{"a":[8,1,2,3,4,5,6,7]},"result":null}
+export void f(uniform int a[]) { a[programIndex] = rotate(programIndex + 1, -1); }
+=== a shift to higher instances
+From p - 1, and 0 to 0.
+8 f 10000 {"a":[9,9,9,9,9,9,9,9]}
+{"arrays":{"a":[0,1,2,3,4,5,6,7]},"result":null}
+export void f(uniform int a[]) { a[programIndex] = shift(programIndex + 1, -1); }
+=== a broadcast of one that is off
+4 modulo 4 is 0, which is off.
+4 f 10000 {"a":[9,9,9,9]}
+{"arrays":{"a":[9,0,0,0]},"result":null}
+export void f(uniform int a[]) { if (programIndex > 0) a[programIndex] = broadcast(programIndex + 5, 4); }
+=== a shuffle
+3 - p has 2 (3 - p).
+4 f 10000 {"a":[0,0,0,0]}
+{"arrays":{"a":[6,4,2,0]},"result":null}
+export void f(uniform int a[]) { a[programIndex] = shuffle(programIndex * 2, 3 - programIndex); }
+=== a shuffle of two
+1 and 3 of the first, 1 and 3 of the second.
+4 f 10000 {"a":[0,0,0,0]}
+{"arrays":{"a":[1,3,11,13]},"result":null}
+export void f(uniform int a[]) { a[programIndex] = shuffle(programIndex, programIndex + 10, programIndex * 2 + 1); }
+=== the value of an instance below 0
+-1 modulo 4 is 3.
+4 f 10000 {}
+{"arrays":{},"result":30}
+export uniform int f() { return extract(programIndex * 10, -1); }
+=== another value in one instance
+5 modulo 4 is 1.
+4 f 10000 {"a":[0,0,0,0]}
+{"arrays":{"a":[0,77,2,3]},"result":null}
+export void f(uniform int a[]) { a[programIndex] = insert(programIndex, 5, 77); }
+=== the value that is put in traps
+2 is the lowest that is on.
+4 f 10000 {"k":0}
+trap divide, instance 2
+export void f(uniform int k) { int x = programIndex; if (programIndex > 1) x = insert(x, 0, ⟦1 / k⟧); }
+=== values from left to right
+The division comes before the element.
+4 f 10000 {"a":[0]}
+trap divide, instance 0
+export void f(uniform int a[]) { int x = max(⟦1 / a[0]⟧, a[9]); }
+=== the least and the greatest of two rates
+min(p, 2), and 1 at least.
+4 f 10000 {"a":[0,0,0,0]}
+{"arrays":{"a":[1,1,2,2]},"result":null}
+export void f(uniform int a[]) { a[programIndex] = max(min(programIndex, 2), 1); }
+=== the lesser of two without a sign
+4294967295 is not below 1.
+4 f 10000 {"u":4294967295}
+{"arrays":{},"result":1}
+export uniform uint f(uniform uint u) { return min(u, 1); }
+=== a clamp whose bound is its variable
+min(max(p + 1, 2), p).
+4 f 10000 {"a":[9,9,9,9]}
+{"arrays":{"a":[0,1,2,3]},"result":null}
+export void f(uniform int a[]) { int x = programIndex; x = clamp(x + 1, 2, x); a[programIndex] = x; }
+=== a clamp of one value
+7 is above 5; then -7 is below 0.
+4 f 10000 {}
+{"arrays":{},"result":50}
+export uniform int f() { uniform int x = 7; x = clamp(x, 0, 5); return 10 * x + clamp(-7, 0, x); }
+=== the value without its sign
+-128 stays.
+4 f 10000 {"a":[0,0,0,0]}
+{"arrays":{"a":[-128,127,126,125]},"result":null}
+export void f(uniform int a[]) { int8 x = programIndex - 128; a[programIndex] = abs(x); }
+=== a select
+9 where p is not above 1; 3 of one value; the bools of 0, 2 and 3.
+4 f 10000 {"a":[0,0,0,0],"b":[0,0,0,0]}
+{"arrays":{"a":[12,12,5,6],"b":[1,0,1,1]},"result":null}
+export void f(uniform int a[], uniform int b[]) { a[programIndex] = select(programIndex > 1, programIndex, 9) + select(true, 3, 4); b[programIndex] = select(programIndex > 1, true, programIndex == 0); }
+=== a select evaluates both
+0 divides by 0, and is not asked.
+4 f 10000 {"a":[0,0,0,0]}
+trap divide, instance 0
+export void f(uniform int a[]) { a[programIndex] = select(programIndex > 0, ⟦10 / programIndex⟧, 7); }
+=== the library on a function of the program
+g(p) is 0, 2, 4, 6, and min(p, 2) is not above it; the sum is 12.
+4 f 10000 {"a":[0,0,0,0]}
+{"arrays":{"a":[12,14,16,18]},"result":null}
+int g(int x) { return 2 * x; } export void f(uniform int a[]) { a[programIndex] = max(g(programIndex), min(programIndex, 2)) + reduce_add(g(programIndex)); }
 === foreach_active under a mask
 0, 2 and 3: 1, then 13, then 134.
 4 f 10000 {}

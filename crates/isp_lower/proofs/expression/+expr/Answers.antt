@@ -1,20 +1,24 @@
-use Rattle.std.proofs.Common.{rules, ◌≡◌, ◌+◌, ◌++◌, ◌∷◌, [], true, false, sym, ap, subst, ◌∙◌, arith, drop}
+use Rattle.std.proofs.Common.{rules, ◌≡◌, ◌+◌, ◌++◌, ◌∷◌, [], ℕ, true, false, sym, ap, subst, ◌∙◌, arith, drop}
 use Rattle.isp_base.specs.declared.types.Rate.TheVariants.{Uniform, Varying}
 use Rattle.isp_base.specs.declared.types.Ty.{Ty}
 use Rattle.isp_code.specs.declared.instr.Instr.TheVariants as instr
 use Rattle.isp_code.specs.declared.instr.JumpTest.TheVariants as jump
 use Rattle.isp_typed.specs.Nodes.{arguments_nodes}
-use Rattle.isp_typed.specs.Typed.{t_arguments}
-use Rattle.isp_typed.specs.Views.{argument_of, arguments_of, expr_of}
+use Rattle.isp_typed.specs.Typed.{t_arguments, t_exprs}
+use Rattle.isp_typed.specs.Views.{argument_of, arguments_of, expr_of, exprs_of}
 use Rattle.isp_lower.specs.Callees.{next_rate}
-use Rattle.isp_lower.specs.Code.{argument_code, argument_places, argument_register, argument_registers, arguments_code, arguments_places, calling, expr_code, expr_places, is_short, jump_off, jump_on, operand_of, variable_from}
+use Rattle.isp_lower.specs.Code.{argument_code, argument_places, argument_register, argument_registers, arguments_code, arguments_places, calling, expr_code, expr_places, is_short, jump_off, jump_on, operand, operand_of, value_registers, values_code, values_places, variable_from}
 use Rattle.isp_code.specs.declared.register.Register.{Register}
 use Rattle.std.specs.Prelude.{List}
 use Rattle.isp_lower.specs.Emitted.{Appends, Present, layout}
-use Rattle.isp_lower.specs.Written.{side_at}
+use Rattle.isp_lower.specs.Library.{library_rates}
+use Rattle.isp_lower.specs.Written.{numbers, side_at}
+use Rattle.isp_lower.specs.declared.numbered.RegisterNumber.{RegisterNumber}
 use Rattle.isp_lower.specs.declared.numbered.Slot.{Slot}
-use Rattle.isp_lower.specs.Asks.{arguments_asks}
+use Rattle.isp_lower.specs.Asks.{arguments_asks, operand_asks, values_asks}
 use Rattle.isp_lower.proofs.Arguments.{argument_within, arguments_more, arguments_there, call_boxed, call_counts, call_done, called_behind, code_end, code_more, registers_end, registers_more, taken_at}
+use Rattle.isp_lower.proofs.LibraryValues as row
+use Rattle.isp_lower.proofs.LibraryValues.{value_within, values_more}
 use Rattle.isp_lower.proofs.Landing.{chosen, landed, short_chosen, long_chosen}
 use Rattle.isp_lower.proofs.expression.+expr.Goals as goal
 
@@ -151,3 +155,44 @@ call_to-returns t c =
     call_done l a.b.now c.arguments.new.b c.push.new.self a.to a.x.now k n
     (subst (λ zs. Appends a.b.now c.arguments.new.b (λ pc p. arguments_code l (l.rates f) (t_arguments (arguments_of zs)) pc p k n) (arguments_places l (t_arguments (arguments_of zs)))) c.deref.ensures.value c.in_ok-given.ensures.code)
     (called_behind c.arguments.new.b c.place.new.self c.push.new.self (λ p. calling l a.to f xs p k n) a.x.now.span m c.in_ok-place.ensures.number c.in_ok-place.ensures.added pushed)
+
+-- ---- values of a call of the library
+
+pub values-loop-place-preserved : goal.values-loop-place-preserved
+values-loop-place-preserved t c =
+    let l = layout c.args.on.now in
+    let xs = c.args.all.now in
+    let i = c.loop-place.place in
+    let x = c.index-all-place.result in
+    let k = c.args.site.mask.number in
+    let m = c.loop-place.slot.number in
+    let rs = library_rates c.args.function c.args.rate in
+    let rate = c.value_rate-taken.ensures in
+    let written = subst (λ r. Appends c.loop-place.b c.operand.new.b (λ pc p. operand_of l r (expr_of x) k m (expr_code l (expr_of x) pc p k m)) (expr_places l (expr_of x))) rate c.in_ok-register.ensures.code in
+    let kept = c.in_ok-register.ensures.register ∙ ap (λ r. operand l r (expr_of x) m) rate in
+    let rest = t_exprs (exprs_of (drop (i + 1) xs)) in
+    let next = c.next-slot.ensures in (
+      λ h y. c.loop-place.invariant.0 h (row.code_more rs xs i l x c.loop-place-test.true c.index-all-place.is c.loop-place.b c.operand.new.b h k m written (subst (λ (s : Slot). Appends c.operand.new.b h (λ pc p. values_code l (drop (i + 1) rs) rest pc p k s.number) (values_places l rest)) next y)),
+      subst (λ (s : Slot). Present c.args.on.now (values_asks (drop (i + 1) rs) rest s.number)) (sym next) (subst (Present c.args.on.now) (values_more rs xs i m x c.loop-place-test.true c.index-all-place.is) c.loop-place.invariant.1).1.1,
+      ap (λ (ds : List RegisterNumber). numbers ds ++ value_registers l (drop (i + 1) rs) rest c.next-slot.result.number) c.in_ok-push.ensures.ok
+          ∙ ap (λ (s : Slot). numbers (c.loop-place.registers.items ++ c.in_ok-register.register ∷ []) ++ value_registers l (drop (i + 1) rs) rest s.number) next
+          ∙ row.registers_more rs xs i l x c.loop-place-test.true c.index-all-place.is c.loop-place.registers.items c.in_ok-register.register (value_registers l rs (t_exprs (exprs_of xs)) c.args.site.slot.number) m kept c.loop-place.invariant.2,
+    )
+
+pub values-operand-requires : goal.values-operand-requires
+values-operand-requires t c =
+    let xs = c.args.all.now in
+    let i = c.loop-place.place in
+    let x = c.index-all-place.result in
+    let rs = library_rates c.args.function c.args.rate in
+    let within = value_within xs i x c.loop-place-test.true c.index-all-place.is in
+    let asked = subst (Present c.args.on.now) (values_more rs xs i c.loop-place.slot.number x c.loop-place-test.true c.index-all-place.is) c.loop-place.invariant.1 in
+    (omega (arith, within, c.decreases), subst (λ r. Present c.args.on.now (operand_asks r (expr_of x) c.loop-place.slot.number)) (sym c.value_rate-taken.ensures) asked.1.0)
+
+pub values-returns-clause-registers : goal.values-returns-clause-registers
+values-returns-clause-registers t c =
+    row.registers_end (library_rates c.args.function c.args.rate) c.args.all.now c.loop-place.place (layout c.args.on.now) c.loop-place-test.false c.loop-place.registers.items _ c.loop-place.slot.number c.loop-place.invariant.2
+
+pub values-returns-clause-code : goal.values-returns-clause-code
+values-returns-clause-code t c =
+    c.loop-place.invariant.0 c.loop-place.b (row.code_end (library_rates c.args.function c.args.rate) c.args.all.now c.loop-place.place (layout c.args.on.now) c.loop-place-test.false c.loop-place.b c.args.site.mask.number c.loop-place.slot.number)

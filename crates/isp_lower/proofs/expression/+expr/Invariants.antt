@@ -1,11 +1,13 @@
 -- The recursion goes down the tree.
 use Rattle.std.proofs.Common.{◌≡◌, ◌+◌, ◌-◌, ◌*◌, ◌++◌, drop}
-use Rattle.isp_typed.specs.Nodes.{typed_nodes, place_nodes, call_nodes, argument_nodes, arguments_nodes}
-use Rattle.isp_typed.specs.Typed.{t_arguments}
-use Rattle.isp_typed.specs.Views.{argument_of, arguments_of, call_of, expr_of, place_of}
-use Rattle.isp_lower.specs.Asks.{arguments_asks}
-use Rattle.isp_lower.specs.Code.{argument_registers, arguments_code, arguments_places}
+use Rattle.isp_typed.specs.Nodes.{typed_nodes, place_nodes, call_nodes, argument_nodes, arguments_nodes, exprs_nodes}
+use Rattle.isp_typed.specs.Typed.{t_arguments, t_exprs}
+use Rattle.isp_typed.specs.Views.{argument_of, arguments_of, call_of, expr_of, exprs_of, place_of}
+use Rattle.isp_lower.specs.Asks.{arguments_asks, values_asks}
+use Rattle.isp_lower.specs.Code.{argument_registers, arguments_code, arguments_places, value_registers, values_code, values_places}
 use Rattle.isp_lower.specs.Emitted.{Appends, Present, layout}
+use Rattle.isp_lower.specs.Library.{library_rates}
+use Rattle.isp_lower.specs.Written.{numbers}
 use Rattle.isp_lower.specs.declared.types.Body.{Body}
 use Rattle.isp_lower.proofs.expression.+expr.Given as goal
 
@@ -106,3 +108,16 @@ invariant-arguments-loop-place l =
     ((h : Body) → Appends l.b h (λ pc p. arguments_code (layout l.on) (drop l.place ((layout l.on).rates l.function)) (t_arguments (arguments_of (drop l.place l.all))) pc p l.site.mask.number l.slot.number) (arguments_places (layout l.on) (t_arguments (arguments_of (drop l.place l.all)))) → Appends l.initial.b h (λ pc p. arguments_code (layout l.on) ((layout l.on).rates l.function) (t_arguments (arguments_of l.all)) pc p l.site.mask.number l.site.slot.number) (arguments_places (layout l.on) (t_arguments (arguments_of l.all))))
     × Present l.on (arguments_asks (t_arguments (arguments_of (drop l.place l.all))) l.slot.number)
     × (l.registers.items ++ argument_registers (layout l.on) (drop l.place ((layout l.on).rates l.function)) (t_arguments (arguments_of (drop l.place l.all))) l.slot.number ≡ argument_registers (layout l.on) ((layout l.on).rates l.function) (t_arguments (arguments_of l.all)) l.site.slot.number)
+
+abbrev pub decreases-library_to : goal.decreases-library_to
+decreases-library_to l = 8 * exprs_nodes (t_exprs (exprs_of l.all.now)) + 7
+
+abbrev pub decreases-values : goal.decreases-values
+decreases-values l = 8 * exprs_nodes (t_exprs (exprs_of l.all.now)) + 6
+
+-- the same of the values of a call of the library
+abbrev pub invariant-values-loop-place : goal.invariant-values-loop-place
+invariant-values-loop-place l =
+    ((h : Body) → Appends l.b h (λ pc p. values_code (layout l.on) (drop l.place (library_rates l.function l.rate)) (t_exprs (exprs_of (drop l.place l.all))) pc p l.site.mask.number l.slot.number) (values_places (layout l.on) (t_exprs (exprs_of (drop l.place l.all)))) → Appends l.initial.b h (λ pc p. values_code (layout l.on) (library_rates l.function l.rate) (t_exprs (exprs_of l.all)) pc p l.site.mask.number l.site.slot.number) (values_places (layout l.on) (t_exprs (exprs_of l.all))))
+    × Present l.on (values_asks (drop l.place (library_rates l.function l.rate)) (t_exprs (exprs_of (drop l.place l.all))) l.slot.number)
+    × (numbers l.registers.items ++ value_registers (layout l.on) (drop l.place (library_rates l.function l.rate)) (t_exprs (exprs_of (drop l.place l.all))) l.slot.number ≡ value_registers (layout l.on) (library_rates l.function l.rate) (t_exprs (exprs_of l.all)) l.site.slot.number)

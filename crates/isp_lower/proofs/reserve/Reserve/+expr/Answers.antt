@@ -1,9 +1,11 @@
 use Rattle.std.proofs.Common.{◌∙◌, ◌+◌, ap, sym, subst, arith, drop}
-use Rattle.isp_typed.specs.Typed.{t_arguments}
-use Rattle.isp_typed.specs.Views.{arguments_of}
-use Rattle.isp_lower.specs.Asks.{arguments_asks, call_asks, first_slot}
+use Rattle.isp_typed.specs.Typed.{t_arguments, t_exprs}
+use Rattle.isp_typed.specs.Views.{arguments_of, exprs_of}
+use Rattle.isp_lower.specs.Asks.{arguments_asks, call_asks, first_slot, values_asks}
 use Rattle.isp_lower.specs.Reserved.{Gives}
 use Rattle.isp_lower.proofs.Arguments.{argument_within, arguments_end, arguments_more, call_view}
+use Rattle.isp_lower.specs.Library.{library_rates}
+use Rattle.isp_lower.proofs.LibraryValues.{value_within, values_end, values_more}
 use Rattle.isp_lower.proofs.Growing.{both_given, gives_none, second_is}
 use Rattle.isp_lower.proofs.reserve.Reserve.+expr.Goals as goal
 
@@ -70,3 +72,27 @@ pub arguments-returns : goal.arguments-returns
 arguments-returns t c =
     c.loop-x.invariant c.loop-x.self
     (subst (λ a. Gives c.loop-x.self c.loop-x.self a) (sym (arguments_end c.loop-x.at.number c.args.all.now c.loop-x.x-index c.loop-x-test.false)) (gives_none c.loop-x.self))
+
+pub library-returns : goal.library-returns
+library-returns t c = both_given _ _ _ _ _ c.in_ok-spare.ensures c.in_ok-values.ensures
+
+pub values-operand-requires : goal.values-operand-requires
+values-operand-requires t c =
+    let within = value_within c.args.all.now c.loop-place.place c.index-all-place.result c.loop-place-test.true c.index-all-place.is in
+    omega (arith, within, c.decreases)
+
+pub values-loop-place-preserved : goal.values-loop-place-preserved
+values-loop-place-preserved t c =
+    let next = c.in_ok-next.ensures.number in
+    let rs = library_rates c.args.function c.args.rate in
+    let i = c.loop-place.place in
+    let rest = t_exprs (exprs_of (drop (i + 1) c.args.all.now)) in
+    λ k g.
+    c.loop-place.invariant k
+    (subst (λ a. Gives c.loop-place.self k a) (sym (values_more rs c.args.all.now i c.loop-place.at.number c.index-all-place.result c.loop-place-test.true c.index-all-place.is))
+    (both_given _ _ _ _ _ (rw next at c.in_ok-next.ensures.gives) (both_given _ _ _ _ _ (rw c.value_rate-taken.ensures at c.in_ok-operand.ensures) (subst (λ m. Gives c.operand.new.self k (values_asks (drop (i + 1) rs) rest m)) next g))))
+
+pub values-returns : goal.values-returns
+values-returns t c =
+    c.loop-place.invariant c.loop-place.self
+    (subst (λ a. Gives c.loop-place.self c.loop-place.self a) (sym (values_end (library_rates c.args.function c.args.rate) c.args.all.now c.loop-place.place c.loop-place.at.number c.loop-place-test.false)) (gives_none c.loop-place.self))
