@@ -1,5 +1,5 @@
 -- The rates of a program without a breach are as code asks, where all of it has code.
-use Rattle.std.proofs.Common.{◌≡◌, ℕ, zero, suc, List, [], ◌∷◌, Option, Some, None, Bool, true, false, refl, sym, subst, take, length, inl, inr}
+use Rattle.std.proofs.Common.{◌≡◌, ℕ, zero, suc, List, [], ◌∷◌, Option, Some, None, true, false, refl, sym, subst, take, length, inl, inr}
 use Rattle.std.specs.Prelude.{slice_get}
 use Rattle.std.proofs.lemmas.Option.{same_Some, get_or_from_slice_get, slice_get_within}
 use Rattle.std.specs.List.{All}
@@ -12,18 +12,20 @@ use Rattle.isp_lex.specs.declared.fault.Fault.{Fault}
 use Rattle.isp_lex.specs.declared.fault.Rule.TheVariants.{VaryingToUniform, BadExport}
 use Rattle.isp_lex.specs.Faults.{fault}
 use Rattle.isp_typed.specs.Fine.{FineFunction, params_of}
-use Rattle.isp_typed.specs.Typed.{TExpr, t_constant, t_program_index, t_place, t_convert, t_cast, t_unary, t_binary, t_compare, t_logic, t_choose, t_call, t_library, t_packed_store, t_packed_load, TPlace, t_variable, t_element, TItem, t_plain, t_with_value, t_with_size, TSimple, t_value, t_run, t_assign, t_update, t_step, TFirst, t_first_declare, t_first_simple, TFunction, Program, place_type, type_of, span_of}
+use Rattle.isp_typed.specs.Typed.{TExpr, t_constant, t_program_index, t_place, t_convert, t_cast, t_unary, t_binary, t_compare, t_logic, t_choose, t_call, t_library, t_packed_store, t_packed_load, TPlace, t_variable, t_element, TArgument, t_by_value, t_by_name, TCall, t_called, TArguments, t_no_arguments, t_argument_then, TItem, t_plain, t_with_value, t_with_size, TSimple, t_value, t_run, t_assign, t_update, t_step, TFirst, t_first_declare, t_first_simple, TFunction, Program, place_type, type_of, span_of}
 use Rattle.isp_typed.specs.Typed.{TStmt, t_block, t_declare, t_simple, t_if, t_if_else, t_while, t_do, t_for, t_foreach, t_foreach_active, t_unmasked, t_jump, t_return, t_print, t_assert, TBlock, t_braces, TStmts, t_no_stmts, t_stmt_then}
 use Rattle.isp_typed.specs.declared.variable.Holds.{Holds}
 use Rattle.isp_typed.specs.declared.variable.Holds.TheVariants.{Value as AValue, Given, Local}
 use Rattle.isp_typed.specs.declared.variable.Variable.{Variable}
 use Rattle.isp_rates.specs.declared.exits.Within.{Within}
 use Rattle.isp_rates.specs.Breaches.{OfAny, OfEach}
-use Rattle.isp_rates.specs.Covered.{compiled_where, expr_left, place_left, simple_left, items_left, given_left, first_left, step_left, stmt_left, block_left, stmts_left, function_left, functions_left}
-use Rattle.isp_rates.specs.Rates.{goes_to, rate_held, DemandBreach, ExprBreach, PlaceBreach}
+use Rattle.isp_rates.specs.Covered.{expr_left, place_left, call_left, arguments_left, argument_left, simple_left, items_left, given_left, first_left, step_left, stmt_left, block_left, stmts_left, function_left, functions_left}
+use Rattle.isp_rates.specs.Rates as rates
+use Rattle.isp_rates.specs.Rates.{goes_to, variables_of, DemandBreach, ExprBreach, PlaceBreach, CallBreach, ArgumentsBreach, ArgumentBreach}
+use Rattle.isp_lower.specs.Callees.{rate_held, rates_held, rates_in}
 use Rattle.isp_rates.specs.Exits.{at_start, in_loop, ItemBreach, SimpleBreach, FirstBreach, StmtBreach, BlockBreach, StmtsBreach}
 use Rattle.isp_rates.specs.Program.{ParametersBreach, ResultBreach, FunctionBreach, IsAccepted}
-use Rattle.isp_lower.specs.Rated.{Reaches, IsRated, PlaceRated, RatedAt, SimpleRated, ItemsRated}
+use Rattle.isp_lower.specs.Rated.{Reaches, IsRated, PlaceRated, CallRated, ArgumentsRated, ArgumentRated, RatedAt, SimpleRated, ItemsRated}
 use Rattle.isp_masks.specs.Compiled.{AreOne, IsOne}
 use Rattle.isp_masks.specs.Rated.{AnswerRated, FirstRated, TestRated, StepRated, StmtRated, BlockRated, StmtsRated}
 
@@ -57,6 +59,27 @@ next_none (Some s) b e = absurd (cc)
 some_left : {s : Span} → Some s ≡ None → ⊥
 some_left e = cc
 
+-- ---- arguments
+
+any_rate : (wanted r : Rate) → Reaches r wanted → Reaches r Varying
+any_rate wanted Uniform h = tt
+any_rate wanted Varying h = tt
+
+held_alike : (y : Holds) → rates.rate_held y ≡ rate_held y
+held_alike (AValue t) = refl
+held_alike (Given t) = refl
+held_alike (Local t n) = refl
+
+param_count : Option TFunction → ℕ
+param_count None = 0
+param_count (Some h) = length h.params
+
+taken_are : (fs : List TFunction) (g : ℕ) → rates_held (take (param_count (slice_get fs g)) (variables_of fs g)) ≡ rates_in fs g
+unfolding param_count
+taken_are [] g = refl
+taken_are (h ∷ fs) zero = refl
+taken_are (h ∷ fs) (suc g) = taken_are fs g
+
 -- ---- trees
 
 module _ (fs : List TFunction) where
@@ -78,7 +101,7 @@ module _ (fs : List TFunction) where
     expr_rated (t_choose q x y t sp) clean c =
         let rest = next_none (expr_left q) (option_or (expr_left x) (expr_left y)) c in
         (expr_rated q (λ e b. clean e (inl b)) (first_none (expr_left q) (option_or (expr_left x) (expr_left y)) c), expr_rated x (λ e b. clean e (inr (inl b))) (first_none (expr_left x) (expr_left y) rest), expr_rated y (λ e b. clean e (inr (inr b))) (next_none (expr_left x) (expr_left y) rest))
-    expr_rated (t_call k t) clean c = absurd (some_left c)
+    expr_rated (t_call k t) clean c = call_rated k clean c
     expr_rated (t_library g e xs t sp) clean c = absurd (some_left c)
     expr_rated (t_packed_store b x sp) clean c = absurd (some_left c)
     expr_rated (t_packed_load b v sp) clean c = absurd (some_left c)
@@ -87,12 +110,30 @@ module _ (fs : List TFunction) where
     place_rated (t_variable v t sp) clean c = tt
     place_rated (t_element b i t sp) clean c = expr_rated i clean c
 
+    -- what an argument is asked of here it is asked of there: past the parameters nothing
+    call_rated : (k : TCall) → NoneOf (CallBreach fs k) → call_left k ≡ None → CallRated fs k
+    call_rated (t_called g xs sp) clean c =
+        subst (λ z. ArgumentsRated fs z xs) (taken_are fs g) (arguments_rated (param_count (slice_get fs g)) (variables_of fs g) xs clean c)
+
+    arguments_rated : (n : ℕ) (vs : List Variable) (xs : TArguments) → NoneOf (ArgumentsBreach fs vs xs) → arguments_left xs ≡ None → ArgumentsRated fs (rates_held (take n vs)) xs
+    arguments_rated n vs t_no_arguments clean c = tt
+    arguments_rated zero vs (t_argument_then x xs) clean c =
+        (argument_rated (rates.next_rate vs) Varying x (any_rate (rates.next_rate vs)) (λ e b. clean e (inl b)) (first_none (argument_left x) (arguments_left xs) c), arguments_rated zero (rates.later vs) xs (λ e b. clean e (inr b)) (next_none (argument_left x) (arguments_left xs) c))
+    arguments_rated (suc n) [] (t_argument_then x xs) clean c =
+        (argument_rated Varying Varying x (any_rate Varying) (λ e b. clean e (inl b)) (first_none (argument_left x) (arguments_left xs) c), arguments_rated (suc n) [] xs (λ e b. clean e (inr b)) (next_none (argument_left x) (arguments_left xs) c))
+    arguments_rated (suc n) (v ∷ vs) (t_argument_then x xs) clean c =
+        (argument_rated (rates.rate_held v.holds) (rate_held v.holds) x (λ r h. subst (Reaches r) (held_alike v.holds) h) (λ e b. clean e (inl b)) (first_none (argument_left x) (arguments_left xs) c), arguments_rated n vs xs (λ e b. clean e (inr b)) (next_none (argument_left x) (arguments_left xs) c))
+
+    argument_rated : (wanted at : Rate) (x : TArgument) → ((r : Rate) → Reaches r wanted → Reaches r at) → NoneOf (ArgumentBreach fs wanted x) → argument_left x ≡ None → ArgumentRated fs at x
+    argument_rated wanted at (t_by_value x) go clean c = (go (type_of x).rate (demand_reaches wanted x (ExprBreach fs x) clean), expr_rated x (demand_own wanted x (ExprBreach fs x) clean) c)
+    argument_rated wanted at (t_by_name b sp) go clean c = go b.ty.rate (goes_reaches wanted b.ty.rate (λ e. clean (fault VaryingToUniform sp) (e, refl)))
+
   rated_at : (r : Rate) (x : TExpr) → NoneOf (DemandBreach r x (ExprBreach fs x)) → expr_left x ≡ None → RatedAt fs r x
   rated_at r x clean c = (demand_reaches r x (ExprBreach fs x) clean, expr_rated x (demand_own r x (ExprBreach fs x) clean) c)
 
   simple_rated : (x : TSimple) → NoneOf (SimpleBreach fs x) → simple_left x ≡ None → SimpleRated fs x
   simple_rated (t_value x) clean c = expr_rated x clean c
-  simple_rated (t_run k) clean c = absurd (some_left c)
+  simple_rated (t_run k) clean c = call_rated k clean c
   simple_rated (t_assign z x sp) clean c =
       (place_rated z (λ e b. clean e (inl b)) (first_none (place_left z) (expr_left x) c), rated_at (place_type z).rate x (λ e b. clean e (inr b)) (next_none (place_left z) (expr_left x) c))
   simple_rated (t_update o t z x sp) clean c =
@@ -209,12 +250,7 @@ function_fits p accepted f h e =
       result = λ out. result_one h.span h.answer (λ g b. own g (inl (out, inr b)));
     }
 
-has_code : (b : Bool) (s : Span) (parts : Option Span) → compiled_where b s parts ≡ None → (b ≡ true) × (parts ≡ None)
-has_code true s parts e = (refl, e)
-has_code false s parts e = absurd (cc)
-
-pub function_covered : (hs : List TFunction) → functions_left hs ≡ None → (f : ℕ) (h : TFunction) → slice_get hs f ≡ Some h → (h.exported ≡ true) × (block_left h.body ≡ None)
+pub function_covered : (hs : List TFunction) → functions_left hs ≡ None → (f : ℕ) (h : TFunction) → slice_get hs f ≡ Some h → block_left h.body ≡ None
 function_covered [] all f h e = absurd (cc)
-function_covered (g ∷ hs) all zero h e =
-    subst (λ z. (z.exported ≡ true) × (block_left z.body ≡ None)) (same_Some g h e) (has_code g.exported g.span (block_left g.body) (first_none (function_left g) (functions_left hs) all))
+function_covered (g ∷ hs) all zero h e = subst (λ z. block_left z.body ≡ None) (same_Some g h e) (first_none (function_left g) (functions_left hs) all)
 function_covered (g ∷ hs) all (suc f) h e = function_covered hs (next_none (function_left g) (functions_left hs) all) f h e

@@ -1,5 +1,5 @@
--- The header of an exported function's routine fits: its name and those of its parameters are new, it takes no vector and
--- gives none, and it has masks.
+-- The header of a function's routine fits: its name and those of its parameters are new, where it is exported it takes no vector
+-- and gives none, and it has masks.
 use Rattle.std.proofs.Common.{◌≡◌, ◌≢◌, ℕ, zero, suc, ◌≤◌, List, [], ◌∷◌, ◌++◌, length, map, take, Option, Some, None, Bool, true, false, refl, sym, ap, ◌∙◌, subst, arith}
 use Rattle.std.proofs.lemmas.Option.{same_Some}
 use Rattle.std.specs.Prelude.{slice_get, ◌==◌, ◌&&◌, ◌||◌, not, bytes_eq}
@@ -135,14 +135,14 @@ exports n ps vs answer g a one u params returns =
 
 -- ---- a header
 
-pub head_fits : (earlier : List Routine) (g : Routine) → list_any (is_function g.name) earlier ≡ false → names_differ g.params ≡ true → can_export g ≡ true → 3 ≤ g.masks → header_fits earlier g ≡ true
+pub head_fits : (earlier : List Routine) (g : Routine) → list_any (is_function g.name) earlier ≡ false → names_differ g.params ≡ true → (g.exported ≡ true → can_export g ≡ true) → 3 ≤ g.masks → header_fits earlier g ≡ true
 head_fits earlier g new differ can three =
-    let own : export_fits g.exported g ≡ true = go g.exported in
+    let own : export_fits g.exported g ≡ true = go g.exported refl in
     let some : g.masks ≢ 0 = λ e. omega (arith, e, three) in
     all_so (not (list_any (is_function g.name) earlier)) (names_differ g.params && (export_fits g.exported g && not (g.masks == 0))) (so_not (list_any (is_function g.name) earlier) new)
     (all_so (names_differ g.params) (export_fits g.exported g && not (g.masks == 0)) differ
     (all_so (export_fits g.exported g) (not (g.masks == 0)) own (so_not (g.masks == 0) (ne_eqb g.masks 0 some))))
   where
-    go : (b : Bool) → export_fits b g ≡ true
-    go true = can
-    go false = refl
+    go : (b : Bool) → g.exported ≡ b → export_fits b g ≡ true
+    go true e = can e
+    go false e = refl

@@ -101,10 +101,7 @@ module _ (program : Program) (code : Listing) (accepted : IsAccepted program) (w
   fits_at f h e = function_fits program accepted f h e
 
   rated_at : (f : ℕ) (h : TFunction) → slice_get program.functions f ≡ Some h → BlockRated program.functions h.answer h.body
-  rated_at f h e = (fits_at f h e).rated (function_covered program.functions whole f h e).1
-
-  gives_at : (f : ℕ) (h : TFunction) → slice_get program.functions f ≡ Some h → GivesUniform h.answer
-  gives_at f h e = gives_one h.answer ((fits_at f h e).result (function_covered program.functions whole f h e).0)
+  rated_at f h e = (fits_at f h e).rated (function_covered program.functions whole f h e)
 
   -- the function whose routine it is
   source : (f : ℕ) (g : Routine) → slice_get code.routines f ≡ Some g → (h : TFunction) × (slice_get program.functions f ≡ Some h)
@@ -159,8 +156,8 @@ module _ (program : Program) (code : Listing) (accepted : IsAccepted program) (w
       let h = source f g eg in
       let low = has.each f h.0 g h.1 eg in
       let own = fine_at f h.0 h.1 in
-      let passed = (fits_at f h.0 h.1).passed (function_covered program.functions whole f h.0 h.1).0 in
-      head_fits (take f code.routines) g (new_name code.routines f g all_differ eg) (names_apart g h.0.parameters (parameters program.functions code h.0 g own low) own.names) (exports (length h.0.params) h.0.parameters h.0.variables h.0.answer g own.params passed (gives_at f h.0 h.1) low.params low.returns) low.three
+      let fits = fits_at f h.0 h.1 in
+      head_fits (take f code.routines) g (new_name code.routines f g all_differ eg) (names_apart g h.0.parameters (parameters program.functions code h.0 g own low) own.names) (λ out. let is : h.0.exported ≡ true = sym low.exported ∙ out in exports (length h.0.params) h.0.parameters h.0.variables h.0.answer g own.params (fits.passed is) (gives_one h.0.answer (fits.result is)) low.params low.returns) low.three
 
   pub code_passes : code_fault code ≡ None
   code_passes = code_accepted code headers bodies

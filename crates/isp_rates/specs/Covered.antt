@@ -1,16 +1,10 @@
 -- Which nodes of a program have code, and the first in the text that has none: a node comes before its parts. Left without
--- are functions that are not exported, calls, of functions and of the library, packed calls, `foreach`, `foreach_active`,
--- `unmasked`, `print` and `assert`. One line for each kind of node; parts in the order of the text.
-use Rattle.std.specs.Prelude.{List, [], ◌∷◌, Bool, true, false, Option, Some, None}
+-- are calls of the library, packed calls, `foreach`, `foreach_active`, `unmasked`, `print` and `assert`. One line for each kind of node; parts in the order of the text.
+use Rattle.std.specs.Prelude.{List, [], ◌∷◌, Option, Some, None}
 use Rattle.std.specs.Option.{option_or}
 use Rattle.isp_base.specs.declared.types.Span.{Span}
-use Rattle.isp_typed.specs.Typed.{TExpr, t_constant, t_program_index, t_place, t_convert, t_cast, t_unary, t_binary, t_compare, t_logic, t_choose, t_call, t_library, t_packed_store, t_packed_load, TPlace, t_variable, t_element, call_span, TItem, t_plain, t_with_value, t_with_size, TSimple, t_value, t_run, t_assign, t_update, t_step, TFirst, t_first_declare, t_first_simple}
+use Rattle.isp_typed.specs.Typed.{TExpr, t_constant, t_program_index, t_place, t_convert, t_cast, t_unary, t_binary, t_compare, t_logic, t_choose, t_call, t_library, t_packed_store, t_packed_load, TPlace, t_variable, t_element, TArgument, t_by_value, t_by_name, TCall, t_called, TArguments, t_no_arguments, t_argument_then, TItem, t_plain, t_with_value, t_with_size, TSimple, t_value, t_run, t_assign, t_update, t_step, TFirst, t_first_declare, t_first_simple}
 use Rattle.isp_typed.specs.Typed.{TStmt, t_block, t_declare, t_simple, t_if, t_if_else, t_while, t_do, t_for, t_foreach, t_foreach_active, t_unmasked, t_jump, t_return, t_print, t_assert, TBlock, t_braces, TStmts, t_no_stmts, t_stmt_then, TFunction, Program}
-
--- the first of a node itself, which has code where a test holds, and its parts
-abbrev pub compiled_where : Bool → Span → Option Span → Option Span
-compiled_where true s parts = parts
-compiled_where false s parts = Some s
 
 -- ---- expressions
 
@@ -26,7 +20,7 @@ abbrev mutual
   expr_left (t_compare c x y r s) = option_or (expr_left x) (expr_left y)
   expr_left (t_logic l x y r s) = option_or (expr_left x) (expr_left y)
   expr_left (t_choose c x y t s) = option_or (expr_left c) (option_or (expr_left x) (expr_left y))
-  expr_left (t_call c t) = Some (call_span c)
+  expr_left (t_call c t) = call_left c
   expr_left (t_library f e xs t s) = Some s
   expr_left (t_packed_store b x s) = Some s
   expr_left (t_packed_load b v s) = Some s
@@ -34,6 +28,17 @@ abbrev mutual
   pub place_left : TPlace → Option Span
   place_left (t_variable v t s) = None
   place_left (t_element a i t s) = expr_left i
+
+  pub call_left : TCall → Option Span
+  call_left (t_called g xs s) = arguments_left xs
+
+  pub arguments_left : TArguments → Option Span
+  arguments_left t_no_arguments = None
+  arguments_left (t_argument_then x xs) = option_or (argument_left x) (arguments_left xs)
+
+  pub argument_left : TArgument → Option Span
+  argument_left (t_by_value x) = expr_left x
+  argument_left (t_by_name a s) = None
 
 -- ---- statements
 
@@ -49,7 +54,7 @@ items_left (i ∷ is) = option_or (item_left i) (items_left is)
 -- the right side stands behind the place
 abbrev pub simple_left : TSimple → Option Span
 simple_left (t_value x) = expr_left x
-simple_left (t_run c) = Some (call_span c)
+simple_left (t_run c) = call_left c
 simple_left (t_assign p x s) = option_or (place_left p) (expr_left x)
 simple_left (t_update op e p x s) = option_or (place_left p) (expr_left x)
 simple_left (t_step op e p s) = place_left p
@@ -97,9 +102,9 @@ abbrev mutual
 
 -- ---- functions
 
--- a function stands where its name is; its parameters and its result are of any type
+-- its parameters and its result are of any type
 abbrev pub function_left : TFunction → Option Span
-function_left g = compiled_where g.exported g.span (block_left g.body)
+function_left g = block_left g.body
 
 abbrev pub functions_left : List TFunction → Option Span
 functions_left [] = None

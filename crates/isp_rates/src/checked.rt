@@ -192,8 +192,8 @@ impl Checked {
         }
     }
 
-    /// Where the first node in the text stands that has no code yet, a node before its parts; a function that
-    /// is not exported has none, and stands where its name is. None where the whole program has code.
+    /// Where the first node in the text stands that has no code yet, a node before its parts. None where the whole program
+    /// has code.
     pub fn covered(&self) -> Option<Span>
         ensures { result ≡ program_left (program_of self.now) }
     {

@@ -1,12 +1,12 @@
 //! What has code, and the first node in the text that has none.
 ghost use Rattle.std.specs.Prelude.{◌≡◌, option_map};
-ghost use Rattle.isp_typed.specs.Views.{block_of, expr_of, first_of, function_of, functions_of, item_of, items_of, place_of, program_of, simple_of, stmt_of};
-ghost use Rattle.isp_rates.specs.Covered.{block_left, expr_left, first_left, function_left, functions_left, given_left, item_left, items_left, place_left, program_left, simple_left, step_left, stmt_left};
+ghost use Rattle.isp_typed.specs.Views.{argument_of, block_of, call_of, expr_of, first_of, function_of, functions_of, item_of, items_of, place_of, program_of, simple_of, stmt_of};
+ghost use Rattle.isp_rates.specs.Covered.{argument_left, block_left, call_left, expr_left, first_left, function_left, functions_left, given_left, item_left, items_left, place_left, program_left, simple_left, step_left, stmt_left};
 
 use isp_base::Span;
 use isp_typed::{
-    Program, TypedBlock, TypedExpr, TypedFirst, TypedFunction, TypedItem, TypedPlace, TypedSimple,
-    TypedStmt,
+    Program, TypedArgument, TypedBlock, TypedCall, TypedExpr, TypedFirst, TypedFunction, TypedItem,
+    TypedPlace, TypedSimple, TypedStmt,
 };
 
 /// The first node of an expression that has no code.
@@ -29,10 +29,9 @@ fn expr(x: &TypedExpr) -> Option<Span>
             otherwise,
             ..
         } => expr(test).or(expr(then).or(expr(otherwise))),
-        TypedExpr::Call { .. }
-        | TypedExpr::Library { .. }
-        | TypedExpr::PackedStore { .. }
-        | TypedExpr::PackedLoad { .. } => Some(x.span()),
+        TypedExpr::Call { call: inner, .. } => call(inner),
+        TypedExpr::Library { .. } | TypedExpr::PackedStore { .. } | TypedExpr::PackedLoad { .. } =>
+            Some(x.span()),
     }
 }
 
@@ -44,6 +43,29 @@ fn place(x: &TypedPlace) -> Option<Span>
     match x {
         TypedPlace::Variable { .. } => None,
         TypedPlace::Element { index, .. } => expr(index),
+    }
+}
+
+/// The first node in the arguments of a call that has no code.
+#[cycle(exprs)]
+fn call(x: &TypedCall) -> Option<Span>
+    ensures { result ≡ call_left (call_of x.now) }
+{
+    for given in &x.arguments {
+        if let Some(span) = argument(given) {
+            return Some(span);
+        }
+    }
+    None
+}
+
+#[cycle(exprs)]
+fn argument(x: &TypedArgument) -> Option<Span>
+    ensures { result ≡ argument_left (argument_of x.now) }
+{
+    match x {
+        TypedArgument::Value(value) => expr(value),
+        TypedArgument::Array { .. } => None,
     }
 }
 
@@ -72,7 +94,7 @@ fn simple(s: &TypedSimple) -> Option<Span>
 {
     match s {
         TypedSimple::Value(value) => expr(value),
-        TypedSimple::Call(call) => Some(call.span),
+        TypedSimple::Call(called) => call(called),
         TypedSimple::Assign { target, value, .. } | TypedSimple::Update { target, value, .. } => {
             place(target).or(expr(value))
         }
@@ -156,15 +178,11 @@ fn block(b: &TypedBlock) -> Option<Span>
     None
 }
 
-/// The first node of a function that has no code, which is its name where it is not exported.
+/// The first node of a function that has no code.
 fn function(one: &TypedFunction) -> Option<Span>
     ensures { result ≡ function_left (function_of one.now) }
 {
-    if one.exported {
-        block(&one.body)
-    } else {
-        Some(one.span)
-    }
+    block(&one.body)
 }
 
 fn functions(all: &[TypedFunction]) -> Option<Span>

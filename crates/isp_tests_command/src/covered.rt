@@ -18,19 +18,10 @@ fn refused(rt: &impl Abort, alloc: Global, text: &str, line: &str) -> Result<(),
 #[test]
 fn first_node_not_yet(rt: HostRuntime) -> Result<(), Fail> {
     for (text, line) in [
-        ("void f() { 1 / 0; }", "90 NotYet at 5..6"),
+        ("void f() { min(1, 0); }", "90 NotYet at 11..20"),
         (
-            "static int g(int x) { return x; } export void f() { while (true) ; }",
-            "90 NotYet at 11..12",
-        ),
-        (
-            "export void f() { } void g() { while (true) ; } void h() { }",
-            "90 NotYet at 25..26",
-        ),
-        ("export void f() { f(); }", "90 NotYet at 18..21"),
-        (
-            "export uniform int f(uniform int n) { if (n < 2) return 1; return n * f(n - 1); }",
-            "90 NotYet at 70..78",
+            "export void f() { g(abs(1)); } void g(int x) { }",
+            "90 NotYet at 20..26",
         ),
         (
             "export void f(uniform int a[]) { a[programIndex] = 1 + max(a[programIndex], min(1, 2)); }",
@@ -69,8 +60,8 @@ fn first_node_not_yet(rt: HostRuntime) -> Result<(), Fail> {
             "90 NotYet at 49..58",
         ),
         (
-            "export void f() { cif (programIndex < 2) ; else do f(); while (false); f(); }",
-            "90 NotYet at 51..54",
+            "export void f() { cif (programIndex < 2) ; else do min(1, 2); while (false); f(); }",
+            "90 NotYet at 51..60",
         ),
         (
             "export void f() { for (int i = abs(1); i < 3; i++) f(); }",
@@ -78,7 +69,7 @@ fn first_node_not_yet(rt: HostRuntime) -> Result<(), Fail> {
         ),
         (
             "export void f() { for (;; f()) min(1, 2); }",
-            "90 NotYet at 26..29",
+            "90 NotYet at 31..40",
         ),
         (
             "export void f() { { { foreach (i = 0 ... abs(4)) f(); } } }",
@@ -134,6 +125,11 @@ fn compiled(rt: HostRuntime) -> Result<(), Fail> {
         "export void f() { if (true) ; else { cif (programIndex < 1) return; } }",
         "export void f(void) { bool x = programIndex && true || !false; x = x == true; x++; --x; }",
         "export void f() { cwhile (programIndex < 2) break; }",
+        "void f() { 1 / 0; }",
+        "static int g(int x) { return x; } export void f() { while (true) ; }",
+        "export void f() { } void g() { while (true) ; } void h() { }",
+        "export void f() { f(); }",
+        "export uniform int f(uniform int n) { if (n < 2) return 1; return n * f(n - 1); }",
     ] {
         assert!(rt; compile(alloc, text, Gang::W4).is_ok(), "{text}");
     }

@@ -1,7 +1,7 @@
 //! Worked examples, each record with its working.
 
 /// How many records there are.
-pub(super) const COUNT: usize = 34;
+pub(super) const COUNT: usize = 49;
 
 /// The records.
 pub(super) const ROWS: &str = r##"=== a division behind a select
@@ -175,4 +175,79 @@ j ends at i or at p + 1, whichever is less: 0 + 1 + 1 for 0, else 0 + 1 + 2.
 4 f 10000 {"a":[0,0,0,0]}
 {"arrays":{"a":[2,3,3,3]},"result":null}
 export void f(uniform int a[]) { int s = 0; for (int i = 0; i < 3; i++) { int j = 0; while (true) { if (j > programIndex) break; if (j == i) break; j++; } s += j; } a[programIndex] = s; }
+=== a varying return in a while
+x is a multiple of p + 1, the first above 3.
+4 f 10000 {"a":[0,0,0,0]}
+{"arrays":{"a":[4,4,6,4]},"result":null}
+int g(int x) { while (true) { if (x > 3) return x; x += programIndex + 1; } } export void f(uniform int a[]) { a[programIndex] = g(0); }
+=== 256 calls
+The call with n runs at depth 257 - n: the last one at 256.
+4 f 10000 {"n":256}
+{"arrays":{},"result":256}
+export uniform int f(uniform int n) { if (n <= 1) return 1; return 1 + f(n - 1); }
+=== 257 calls
+At depth 256 n is 2, and there is one more call.
+8 f 10000 {"n":257}
+trap depth, instance 0
+export uniform int f(uniform int n) { if (n <= 1) return 1; return 1 + ⟦f(n - 1)⟧; }
+=== the depth of some
+g(255) calls once more than 256 levels have, which the odd ones do.
+16 f 100000 {"a":[0,0,0,0,0,0,0,0,0,0,0,0,0,0,0,0]}
+trap depth, instance 1
+int g(int n) { int t[2]; t[n % 2] += 1; if (n <= 0) return 0; return t[n % 2] + ⟦g(n - 1)⟧; } export void f(uniform int a[]) { a[programIndex] = g(254 + programIndex % 2); }
+=== arguments come before the depth
+g(254) is at depth 2, so at 256 n is 0: 1 / 0 comes first.
+4 f 10000 {}
+trap divide, instance 0
+uniform int g(uniform int n) { return g(n - 1 + 0 * (⟦1 / n⟧)); } export uniform int f() { return g(254); }
+=== functions that call each other
+p is even or odd.
+8 f 10000 {"a":[0,0,0,0,0,0,0,0]}
+{"arrays":{"a":[10,1,10,1,10,1,10,1]},"result":null}
+int even(int n) { if (n == 0) return 1; return odd(n - 1); } int odd(int n) { if (n == 0) return 0; return even(n - 1); } export void f(uniform int a[]) { a[programIndex] = 10 * even(programIndex) + odd(programIndex); }
+=== a call under ?: in a test
+2 and 3 ask g, which is true of 3; the others are asked for p < 1.
+4 f 10000 {"a":[0,0,0,0]}
+{"arrays":{"a":[1,2,2,1]},"result":null}
+bool g(int x) { return x % 2 == 1; } export void f(uniform int a[]) { if (programIndex > 1 ? g(programIndex) : programIndex < 1) a[programIndex] = 1; else a[programIndex] = 2; }
+=== a call whose argument goes on
+0 takes five turns, and is not there yet.
+4 f 20 {"a":[0,0,0,0]}
+running
+int slow(int x) { while (x < 5) x++; return x; } int g(int x, int y) { return x + y; } export void f(uniform int a[]) { a[programIndex] = g(2, slow(programIndex)); }
+=== an element and a function of its array
+The index is p; g adds 1 and doubles; then the store.
+4 f 10000 {"a":[1,2,3,4]}
+{"arrays":{"a":[4,6,8,10]},"result":null}
+int g(uniform int b[]) { b[programIndex] += 1; return 2 * b[programIndex]; } export void f(uniform int a[]) { a[programIndex] = g(a); }
+=== one array passed twice
+p + 1; then 2 (p + 1); then twice that.
+4 f 10000 {"a":[0,1,2,3]}
+{"arrays":{"a":[4,8,12,16]},"result":null}
+void g(uniform int x[], uniform int y[]) { x[programIndex] += 1; y[programIndex] *= 2; x[programIndex] += y[programIndex]; } export void f(uniform int a[]) { g(a, a); }
+=== a call behind the masks of its argument
+All but 2 store: 7, and 10 / (p - 1) above 1.
+4 f 10000 {"a":[9,9,9,9]}
+{"arrays":{"a":[7,7,9,5]},"result":null}
+void g(uniform int b[], int x) { b[programIndex] = x; } export void f(uniform int a[]) { if (programIndex != 2) g(a, programIndex > 1 ? 10 / (programIndex - 1) : 7); }
+=== who does not return gives 0
+The second call gives 0 to 2, to whom the first gave 2.
+4 f 10000 {"a":[0,0,0,0]}
+{"arrays":{"a":[0,0,200,302]},"result":null}
+int g(int x) { if (x > 1) return x; } export void f(uniform int a[]) { int s = g(programIndex); s = s * 100 + g(programIndex - 1); a[programIndex] = s; }
+=== a uniform result under divergent returns
+0 and 1 return 1, then 2 returns 2, then 3 returns 3; of 2 alone 2.
+4 f 10000 {}
+{"arrays":{},"result":32}
+uniform int g(int x) { if (x < 2) return 1; if (x < 3) return 2; return 3; } export uniform int f() { uniform int s = g(programIndex); if (programIndex == 2) s = 10 * s + g(programIndex); return s; }
+=== arguments from left to right
+g gives 1, 2 and 3.
+4 f 10000 {"a":[0,0,0,0]}
+{"arrays":{"a":[123,123,123,123]},"result":null}
+int g(uniform int b[]) { b[programIndex]++; return b[programIndex]; } int h(int x, int y, int z) { return 100 * x + 10 * y + z; } export void f(uniform int a[]) { uniform int t[4]; a[programIndex] = h(g(t), g(t), g(t)); }
+=== the work of a call
+The body of f, the return, the call; the body of g, the return and the constant.
+4 f 224 {}
+{"arrays":{},"result":1}
+uniform int g() { return 1; } export uniform int f() { return g(); }
 "##;

@@ -1,4 +1,4 @@
-use Rattle.std.proofs.Common.{rules, ◌≡◌, ◌+◌, ◌++◌, ◌∷◌, [], ℕ, true, false, sym, ap, subst, ◌∙◌, arith, drop}
+use Rattle.std.proofs.Common.{rules, ◌≡◌, ◌+◌, ◌++◌, ◌∷◌, [], true, false, sym, ap, subst, ◌∙◌, arith, drop}
 use Rattle.isp_base.specs.declared.types.Rate.TheVariants.{Uniform, Varying}
 use Rattle.isp_base.specs.declared.types.Ty.{Ty}
 use Rattle.isp_code.specs.declared.instr.Instr.TheVariants as instr
@@ -8,13 +8,12 @@ use Rattle.isp_typed.specs.Typed.{t_arguments}
 use Rattle.isp_typed.specs.Views.{argument_of, arguments_of, expr_of}
 use Rattle.isp_lower.specs.Callees.{next_rate}
 use Rattle.isp_lower.specs.Code.{argument_code, argument_places, argument_register, argument_registers, arguments_code, arguments_places, calling, expr_code, expr_places, is_short, jump_off, jump_on, operand_of, variable_from}
-use Rattle.isp_base.specs.declared.types.Rate.{Rate}
 use Rattle.isp_code.specs.declared.register.Register.{Register}
 use Rattle.std.specs.Prelude.{List}
 use Rattle.isp_lower.specs.Emitted.{Appends, Present, layout}
 use Rattle.isp_lower.specs.Written.{side_at}
 use Rattle.isp_lower.specs.declared.numbered.Slot.{Slot}
-use Rattle.isp_lower.specs.Asks.{argument_asks, arguments_asks}
+use Rattle.isp_lower.specs.Asks.{arguments_asks}
 use Rattle.isp_lower.proofs.Arguments.{argument_within, arguments_more, arguments_there, call_boxed, call_counts, call_done, called_behind, code_end, code_more, registers_end, registers_more, taken_at}
 use Rattle.isp_lower.proofs.Landing.{chosen, landed, short_chosen, long_chosen}
 use Rattle.isp_lower.proofs.expression.+expr.Goals as goal

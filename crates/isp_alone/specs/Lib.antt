@@ -1,0 +1,13 @@
+pub mod Alone
+pub mod Answers
+pub mod Values
+pub mod Places
+pub mod Steps
+pub mod Loops
+pub mod Does
+pub mod Calls
+pub mod Runs
+pub mod Touched
+pub mod OneByOne
+pub mod Laws
+pub mod Samples

@@ -1,0 +1,4 @@
+mod Dependent
+mod Independent
+mod Touched
+mod Rows
