@@ -29,7 +29,7 @@ use isp_lower::{
 use isp_typed::{TypedBlock, TypedExpr, TypedFirst, TypedSimple, TypedStmt};
 use std::alloc::AllocError;
 
-/// The code of a statement. Memory is refused too of what has no code yet: `foreach`, `print` and `assert`.
+/// The code of a statement. Memory is refused too of what nothing writes yet: `foreach`, `print` and `assert`.
 #[cycle(stmt)]
 pub(crate) fn stmt(b: &mut Body, on: &Scope, x: &TypedStmt, spot: Spot) -> Result<(), AllocError>
     requires { Present on.now (stmt_asks on.now.answer (stmt_of x.now) spot.slot.number) }
