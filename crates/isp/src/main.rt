@@ -31,6 +31,6 @@ fn without_words(rt: &impl Eprint, kind: ErrorKind) -> ExitCode {
         let _ = rt.eprintln("isp: memory");
         return ExitCode::from(7);
     }
-    let _ = rt.eprintln("usage: isp run SOURCE ENTRY ARGUMENTS");
+    let _ = rt.eprintln("error: invalid UTF-8 was detected in one or more arguments");
     ExitCode::from(2)
 }

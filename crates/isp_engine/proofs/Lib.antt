@@ -5,4 +5,4 @@ pub mod Means
 pub mod Runs
 pub mod Written
 pub mod Requests
-pub mod Words
+pub mod Loads

@@ -1,30 +1,49 @@
--- What a refused source and a refused run mean for a request.
-use Rattle.std.proofs.Common.{◌≡◌, ℕ, List, Option, Result, Err, refl}
+-- What a refused source, refused code and a refused run mean for a request.
+use Rattle.std.proofs.Common.{◌≡◌, ◌≢◌, ℕ, List, Option, Some, Result, Err, refl}
 use Rattle.isp_base.specs.declared.types.Gang.{Gang}
-use Rattle.isp_base.specs.declared.types.Gang.TheVariants.{W4}
 use Rattle.isp_code.specs.Listing.{Listing}
 use Rattle.isp_lex.specs.declared.fault.Fault.{Fault}
 use Rattle.isp_lex.specs.declared.fault.SourceFault.{SourceFault}
 use Rattle.isp_lex.specs.declared.fault.SourceFault.TheVariants.{Memory as NoMemory, Refused}
+use Rattle.isp_engine.specs.declared.fault.CodeFault.{CodeFault}
+use Rattle.isp_engine.specs.declared.fault.CodeFault.TheVariants as code_fault
 use Rattle.isp_engine.specs.declared.fault.RunFault.{RunFault}
 use Rattle.isp_engine.specs.declared.fault.RunFault.TheVariants.{Memory as NoRunMemory, NoEntry, Arguments}
 use Rattle.isp_engine.specs.declared.report.Report.{Report}
-use Rattle.isp_engine.specs.Commands.{Request, Reads, Fails, budget}
+use Rattle.isp_words.specs.declared.words.AsmRequest.{AsmRequest}
+use Rattle.isp_words.specs.declared.words.ExecRequest.{ExecRequest}
+use Rattle.isp_words.specs.declared.words.RunRequest.{RunRequest}
+use Rattle.isp_engine.specs.Commands.{AsmFails, ExecFails, Executed, Reads, RunFails, Runs}
 use Rattle.isp_engine.specs.Compilations.{IsAnswer}
-use Rattle.isp_engine.specs.Failures.{source_failure, run_failure}
+use Rattle.isp_engine.specs.Failures.{code_failure, run_failure, source_failure}
 use Rattle.isp_engine.specs.Covered.{IsNotCompiled}
-use Rattle.isp_engine.specs.Images.{IsCompilation}
+use Rattle.isp_engine.specs.Images.{IsCompilation, IsNotLoaded}
 use Rattle.isp_engine.specs.Meaning.{Means}
 use Rattle.isp_engine.specs.Reports.{Executes}
 
 pub answered : (gang : Gang) (text : List ℕ) (code : Listing) (compiled : IsCompilation gang text code) (entry json : List ℕ) (b : ℕ) (answer : Result Report RunFault) → Executes code entry json b answer → ((g : Gang) (t : List ℕ) (k : IsCompilation g t code) → Means k.program entry json b answer) → IsAnswer gang text code compiled entry json b answer
 answered gang text code compiled entry json b answer machine means = record { machine = machine; means = means gang text compiled }
 
-pub source_fails : (holds : List ℕ → Option (List ℕ) → Type 0) (q : Request) (files : Reads holds q) (f : SourceFault) → ((g : Fault) → f ≡ Refused g → IsNotCompiled W4 files.source g) → Fails holds q (source_failure f)
-source_fails holds q files NoMemory h = tt
-source_fails holds q files (Refused f) h = (files, h f refl)
+module _ (holds : List ℕ → Option (List ℕ) → Type 0) where
+  pub source_fails : (q : RunRequest) (files : Reads holds q.source.now q.arguments.now) (f : SourceFault) → ((g : Fault) → f ≡ Refused g → IsNotCompiled q.gang files.text g) → RunFails holds q (source_failure f)
+  source_fails q files NoMemory h = tt
+  source_fails q files (Refused f) h = (files, h f refl)
 
-pub run_fails : (holds : List ℕ → Option (List ℕ) → Type 0) (q : Request) (files : Reads holds q) (code : Listing) (compiles : IsCompilation W4 files.source code) (f : RunFault) → IsAnswer W4 files.source code compiles q.entry files.arguments budget (Err f) → Fails holds q (run_failure f)
-run_fails holds q files code k NoRunMemory h = tt
-run_fails holds q files code k NoEntry h = (λ e. let none : ⊥ = cc in none, files, code, k, h)
-run_fails holds q files code k (Arguments f) h = (λ e. let none : ⊥ = cc in none, files, code, k, h)
+  pub run_fails : (q : RunRequest) (f : RunFault) → Runs holds q (Err f) → RunFails holds q (run_failure f)
+  run_fails q NoRunMemory h = tt
+  run_fails q NoEntry h = (λ e. let none : ⊥ = cc in none, h)
+  run_fails q (Arguments f) h = (λ e. let none : ⊥ = cc in none, h)
+
+  pub code_fails : (q : ExecRequest) (files : Reads holds q.code.now q.arguments.now) (f : CodeFault) → (f ≢ code_fault.Memory → IsNotLoaded files.text f) → ExecFails holds q (code_failure f)
+  code_fails q files code_fault.Memory h = tt
+  code_fails q files (code_fault.Text f) h = (files, h (λ e. let none : ⊥ = cc in none))
+  code_fails q files (code_fault.Code f) h = (files, h (λ e. let none : ⊥ = cc in none))
+
+  pub exec_fails : (q : ExecRequest) (f : RunFault) → Executed holds q (Err f) → ExecFails holds q (run_failure f)
+  exec_fails q NoRunMemory h = tt
+  exec_fails q NoEntry h = (λ e. let none : ⊥ = cc in none, h)
+  exec_fails q (Arguments f) h = (λ e. let none : ⊥ = cc in none, h)
+
+  pub asm_fails : (q : AsmRequest) (text : List ℕ) → holds q.source.now (Some text) → (f : SourceFault) → ((g : Fault) → f ≡ Refused g → IsNotCompiled q.gang text g) → AsmFails holds q (source_failure f)
+  asm_fails q text has NoMemory h = tt
+  asm_fails q text has (Refused f) h = (text, has, h f refl)

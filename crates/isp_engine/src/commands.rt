@@ -1,27 +1,29 @@
 //! The whole program, over what it is handed.
-ghost use Rattle.std.specs.Prelude.{◌≡◌, ◌≤◌, false, map, string_bytes, Some, IfOk, IfErr, OnOk, OnErr};
-ghost use Rattle.isp_engine.specs.Commands.{Commands, Delivers, Ends, Fails, Reports, Unread, answer_bytes, asked, report_bytes};
+ghost use Rattle.std.specs.Prelude.{◌≡◌, false, string_bytes, Some, Ok, IfOk, IfErr, OnOk, OnErr};
+ghost use Rattle.isp_engine.specs.Commands.{AsmFails, Assembled, Commands, Delivers, Ends, ExecFails, Executed, Ran, RanCode, RunFails, Runs, Unread, Writes, WroteCode, answer_bytes, exit_status, report_bytes};
+ghost use Rattle.isp_asm.specs.Spelling.{text_of};
 ghost use Rattle.isp_engine.specs.Sinks.{TookAll, TookSome};
+ghost use Rattle.isp_engine.specs.declared.failure.Failure.TheVariants.{Memory};
 
 use crate::failure::Failure;
 use crate::files::{FileFault, SourceFiles};
-use crate::image::compile;
+use crate::image::{Image, compile, load_code};
 use crate::report::{Ending, Report};
 use crate::run::execute;
 use crate::sink::{Sink, SinkFault, write_all};
-use isp_base::Gang;
+use clap::error::ErrorKind;
+use isp_asm::write;
+use isp_words::{AsmRequest, ExecRequest, Request, RunRequest, read_words};
 use std::alloc::Global;
 use std::io::Write;
 
-/// The instructions that a run may take.
-const BUDGET: u64 = 100_000_000;
-
 /// Does what `words` ask for, the first of which is the program's name, and answers the exit status.
 ///
-/// `run SOURCE ENTRY ARGUMENTS` reads the files SOURCE and ARGUMENTS, compiles the source for four
-/// instances and runs ENTRY with the arguments. The output goes to `out`, and where the run has
-/// ended the answer and a line feed behind it. Where the status is not 0 a line on `err` says why;
-/// a fault of `err` is ignored.
+/// `run [--gang G] [--budget B] SOURCE ENTRY ARGUMENTS` reads the files SOURCE and ARGUMENTS, compiles the source and
+/// runs ENTRY with the arguments; `exec [--budget B] CODE ENTRY ARGUMENTS` reads code in place of a source;
+/// `asm [--gang G] SOURCE` compiles the source and writes its code. The output goes to `out`, and where a run has ended
+/// the answer and a line feed behind it. Where the status is not 0 a line on `err` says why; refused words, of which
+/// help is one, have more than a line. A fault of `err` is ignored.
 pub fn command<F: SourceFiles, O: Sink, E: Write>(
     alloc: Global,
     words: &[String],
@@ -30,10 +32,25 @@ pub fn command<F: SourceFiles, O: Sink, E: Write>(
     err: &mut E,
 ) -> u8
     requires { O.has_failed out.old ≡ false }
-    ensures { Commands (F.holds files.now) (map string_bytes words.now) (O.written out.old)
-        (O.written out.new) (O.has_failed out.new) result }
+    ensures { Commands (F.holds files.now) (O.written out.old) (O.written out.new) (O.has_failed out.new) result }
 {
-    match run(alloc, words, files, out) {
+    match read_words(alloc, words) {
+        Ok(request) => tell(answer(alloc, &request, files, out), err),
+        Err(error) => {
+            if error.kind() == ErrorKind::OutOfMemory {
+                return tell(Err(Failure::Memory), err);
+            }
+            let _ = write!(err, "{error}");
+            2
+        }
+    }
+}
+
+// The line that says why the program ends so, and the exit status.
+fn tell<E: Write>(end: Result<(), Failure<'_>>, err: &mut E) -> u8
+    ensures { result ≡ exit_status end.entry }
+{
+    match end {
         Ok(()) => 0,
         Err(failure) => {
             let _ = writeln!(err, "{failure}");
@@ -42,49 +59,127 @@ pub fn command<F: SourceFiles, O: Sink, E: Write>(
     }
 }
 
-fn run<'a, F: SourceFiles, O: Sink>(
+fn answer<'a, F: SourceFiles, O: Sink>(
     alloc: Global,
-    words: &'a [String],
+    request: &Request<'a>,
     files: &F,
     out: &mut O,
 ) -> Result<(), Failure<'a>>
     requires { O.has_failed out.old ≡ false }
-    ensures { Ends (F.holds files.now) (asked (map string_bytes words.now)) (O.written out.old)
-        (O.written out.new) (O.has_failed out.new) result }
+    ensures { Ends (F.holds files.now) request.now (O.written out.old) (O.written out.new) (O.has_failed out.new) result }
 {
-    let [_, command, source, entry, arguments] = words else {
-        return Err(Failure::Words);
-    };
-    if command.as_str() != "run" {
-        return Err(Failure::Words);
+    match request {
+        Request::Run(run_request) => run(alloc, run_request, files, out),
+        Request::Asm(asm_request) => asm(alloc, asm_request, files, out),
+        Request::Exec(exec_request) => exec(alloc, exec_request, files, out),
     }
-    let report = report(
-        alloc,
-        source.as_str(),
-        entry.as_str(),
-        arguments.as_str(),
-        files,
-    )?;
+}
+
+fn run<'a, F: SourceFiles, O: Sink>(
+    alloc: Global,
+    request: &RunRequest<'a>,
+    files: &F,
+    out: &mut O,
+) -> Result<(), Failure<'a>>
+    requires { O.has_failed out.old ≡ false }
+    ensures { Ran (F.holds files.now) request.now (O.written out.old) (O.written out.new) (O.has_failed out.new) result }
+{
+    let report = run_report(alloc, request, files)?;
     deliver(&report, out)
 }
 
-fn report<'a, F: SourceFiles>(
+fn run_report<'a, F: SourceFiles>(
     alloc: Global,
-    source: &'a str,
-    entry: &str,
-    arguments: &'a str,
+    request: &RunRequest<'a>,
     files: &F,
 ) -> Result<Report, Failure<'a>>
-    ensures ok { IfOk result (Reports (F.holds files.now)
-        (record { source = source.now; entry = entry.now; arguments = arguments.now })) }
-    ensures err { IfErr result (Fails (F.holds files.now)
-        (record { source = source.now; entry = entry.now; arguments = arguments.now })) }
+    ensures ok { IfOk result (λ r. Runs (F.holds files.now) request.now (Ok r)) }
+    ensures err { IfErr result (RunFails (F.holds files.now) request.now) }
 {
-    let text = read(alloc, files, source)?;
-    let json = read(alloc, files, arguments)?;
-    let image = compile(alloc, text.as_str(), Gang::W4)?;
-    let report = execute(alloc, &image, entry, json.as_str(), BUDGET)?;
+    let text = read(alloc, files, request.source)?;
+    let json = read(alloc, files, request.arguments)?;
+    let image = compile(alloc, text.as_str(), request.gang)?;
+    let report = execute(alloc, &image, request.entry, json.as_str(), request.budget)?;
     Ok(report)
+}
+
+fn exec<'a, F: SourceFiles, O: Sink>(
+    alloc: Global,
+    request: &ExecRequest<'a>,
+    files: &F,
+    out: &mut O,
+) -> Result<(), Failure<'a>>
+    requires { O.has_failed out.old ≡ false }
+    ensures { RanCode (F.holds files.now) request.now (O.written out.old) (O.written out.new) (O.has_failed out.new) result }
+{
+    let report = exec_report(alloc, request, files)?;
+    deliver(&report, out)
+}
+
+fn exec_report<'a, F: SourceFiles>(
+    alloc: Global,
+    request: &ExecRequest<'a>,
+    files: &F,
+) -> Result<Report, Failure<'a>>
+    ensures ok { IfOk result (λ r. Executed (F.holds files.now) request.now (Ok r)) }
+    ensures err { IfErr result (ExecFails (F.holds files.now) request.now) }
+{
+    let text = read(alloc, files, request.code)?;
+    let arguments = read(alloc, files, request.arguments)?;
+    let loaded = load_code(alloc, text.as_str())?;
+    let report = execute(
+        alloc,
+        &loaded,
+        request.entry,
+        arguments.as_str(),
+        request.budget,
+    )?;
+    Ok(report)
+}
+
+fn asm<'a, F: SourceFiles, O: Sink>(
+    alloc: Global,
+    request: &AsmRequest<'a>,
+    files: &F,
+    out: &mut O,
+) -> Result<(), Failure<'a>>
+    requires { O.has_failed out.old ≡ false }
+    ensures { WroteCode (F.holds files.now) request.now (O.written out.old) (O.written out.new) (O.has_failed out.new) result }
+{
+    let image = compiled(alloc, request, files)?;
+    let text = code_text(alloc, &image)?;
+    write_text(text.as_str(), out)
+}
+
+fn compiled<'a, F: SourceFiles>(
+    alloc: Global,
+    request: &AsmRequest<'a>,
+    files: &F,
+) -> Result<Image, Failure<'a>>
+    ensures ok { IfOk result (Assembled (F.holds files.now) request.now) }
+    ensures err { IfErr result (AsmFails (F.holds files.now) request.now) }
+{
+    let source = read(alloc, files, request.source)?;
+    let image = compile(alloc, source.as_str(), request.gang)?;
+    Ok(image)
+}
+
+// The text of the code of an image.
+fn code_text(alloc: Global, image: &Image) -> Result<String, Failure<'static>>
+    ensures ok { IfOk result (λ s. string_bytes s ≡ text_of image.now) }
+    ensures err { IfErr result (λ e. e ≡ Memory) }
+{
+    write(alloc, image.code()).map_err(|_| Failure::Memory)
+}
+
+fn write_text<O: Sink>(text: &str, out: &mut O) -> Result<(), Failure<'static>>
+    requires { O.has_failed out.old ≡ false }
+    ensures { Writes text.now (O.written out.old) (O.written out.new) (O.has_failed out.new) result }
+{
+    match write_all(out, text.as_bytes()) {
+        Ok(()) => Ok(()),
+        Err(SinkFault) => Err(Failure::CannotWrite),
+    }
 }
 
 // The text of a file.

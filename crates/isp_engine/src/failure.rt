@@ -1,8 +1,8 @@
 //! Why the program ends with a status other than 0.
 ghost use Rattle.std.specs.Prelude.{◌≡◌};
-ghost use Rattle.isp_engine.specs.Failures.{status_of, source_failure, run_failure};
+ghost use Rattle.isp_engine.specs.Failures.{code_failure, run_failure, source_failure, status_of};
 
-use crate::fault::RunFault;
+use crate::fault::{CodeFault, RunFault};
 use isp_base::Trap;
 use isp_lex::{Fault, SourceFault};
 use std::error::Error;
@@ -13,8 +13,6 @@ use std::fmt;
 pub enum Failure<'a> {
     /// 1: the source is refused.
     Source(Fault),
-    /// 2: the words ask for nothing that there is.
-    Words,
     /// 3: a trap.
     Trapped(Trap),
     /// 4: as many instructions as may be run have not been enough.
@@ -27,23 +25,26 @@ pub enum Failure<'a> {
     CannotWrite,
     /// 7: memory was refused.
     Memory,
+    /// 8: the code is refused. Of memory `Memory` tells, and never this.
+    Code(CodeFault),
 }
 
 impl fmt::Display for Failure<'_> {
+    ghost use Rattle.std.specs.Prelude.{Some};
     ghost use Rattle.isp_engine.specs.Failures.{failure_text};
 
-    ghost output = { failure_text };
+    ghost output = { λ f. Some (failure_text f) };
 
     fn fmt<W: fmt::Write>(&self, f: &mut fmt::Formatter<W>) -> fmt::Result {
         match self {
-            Failure::Source(fault) => write!(f, "isp: {fault}"),
-            Failure::Words => f.write_str("usage: isp run SOURCE ENTRY ARGUMENTS"),
+            Failure::Source(fault) => write!(f, "isp: {} at {}", fault.rule, fault.span),
             Failure::Trapped(trap) => write!(f, "isp: {trap}"),
             Failure::BudgetUsed => f.write_str("isp: budget used"),
             Failure::Run(fault) => write!(f, "isp: {fault}"),
             Failure::CannotRead(name) => write!(f, "isp: cannot read {name}"),
             Failure::CannotWrite => f.write_str("isp: cannot write"),
             Failure::Memory => f.write_str("isp: memory"),
+            Failure::Code(fault) => write!(f, "isp: {fault}"),
         }
     }
 }
@@ -57,12 +58,12 @@ impl Failure<'_> {
     {
         match self {
             Failure::Source(_) => 1,
-            Failure::Words => 2,
             Failure::Trapped(_) => 3,
             Failure::BudgetUsed => 4,
             Failure::Run(_) => 5,
             Failure::CannotRead(_) | Failure::CannotWrite => 6,
             Failure::Memory => 7,
+            Failure::Code(_) => 8,
         }
     }
 }
@@ -85,6 +86,17 @@ impl From<RunFault> for Failure<'_> {
         match fault {
             RunFault::Memory => Failure::Memory,
             _ => Failure::Run(fault),
+        }
+    }
+}
+
+impl From<CodeFault> for Failure<'_> {
+    ghost from_gives = { λ fault failure. failure ≡ code_failure fault };
+
+    fn from(fault: CodeFault) -> Self {
+        match fault {
+            CodeFault::Memory => Failure::Memory,
+            _ => Failure::Code(fault),
         }
     }
 }

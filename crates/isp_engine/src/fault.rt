@@ -1,7 +1,9 @@
-//! Why a run gives no report.
+//! Why code is not loaded, and why a run gives no report.
 ghost use Rattle.std.specs.Prelude.{◌≡◌};
 
+use isp_asm::AsmFault;
 use isp_bind::BindFault;
+use isp_verify::VerifyFault;
 use std::alloc::{AllocError, AllocFailed};
 use std::error::Error;
 use std::fmt;
@@ -63,6 +65,60 @@ impl From<BindFault> for RunFault {
         match fault {
             BindFault::Memory => RunFault::Memory,
             _ => RunFault::Arguments(fault),
+        }
+    }
+}
+
+/// Why a text gives no image. It is shown as a number, a name and a place.
+#[derive(Clone, Copy, Debug, PartialEq, Eq)]
+pub enum CodeFault {
+    /// 0: memory was refused.
+    Memory,
+    /// 60 to 63: the text is that of no code.
+    Text(isp_asm::Fault),
+    /// 40 to 45: the code is refused.
+    Code(isp_verify::Fault),
+}
+
+impl fmt::Display for CodeFault {
+    ghost use Rattle.std.specs.Prelude.{Some};
+    ghost use Rattle.isp_engine.specs.Faults.{code_fault_text};
+
+    ghost output = { λ f. Some (code_fault_text f) };
+
+    fn fmt<W: fmt::Write>(&self, f: &mut fmt::Formatter<W>) -> fmt::Result {
+        match self {
+            CodeFault::Memory => f.write_str("memory"),
+            CodeFault::Text(fault) => write!(f, "{fault}"),
+            CodeFault::Code(fault) => write!(f, "{fault}"),
+        }
+    }
+}
+
+impl Error for CodeFault {}
+
+impl From<AsmFault> for CodeFault {
+    ghost use Rattle.isp_engine.specs.Faults.{text_refusal};
+
+    ghost from_gives = { λ f e. e ≡ text_refusal f };
+
+    fn from(fault: AsmFault) -> CodeFault {
+        match fault {
+            AsmFault::Memory => CodeFault::Memory,
+            AsmFault::Refused(fault) => CodeFault::Text(fault),
+        }
+    }
+}
+
+impl From<VerifyFault> for CodeFault {
+    ghost use Rattle.isp_engine.specs.Faults.{code_refusal};
+
+    ghost from_gives = { λ f e. e ≡ code_refusal f };
+
+    fn from(fault: VerifyFault) -> CodeFault {
+        match fault {
+            VerifyFault::Memory => CodeFault::Memory,
+            VerifyFault::Refused(fault) => CodeFault::Code(fault),
         }
     }
 }

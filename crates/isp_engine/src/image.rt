@@ -1,12 +1,19 @@
-//! Compiled programs.
-ghost use Rattle.std.specs.Prelude.{◌≡◌, List, None, IfOk, IfErr};
+//! Compiled programs, and code that was loaded.
+ghost use Rattle.std.specs.Prelude.{◌≡◌, ◌≢◌, List, None, Some, IfOk, IfErr, MatchResult};
+ghost use Rattle.isp_asm.specs.declared.fault.Fault.{Fault as TextFault};
+ghost use Rattle.isp_verify.specs.declared.fault.Fault.{Fault as CodeRefusal};
+ghost use Rattle.isp_asm.specs.Spelling.{text_of};
+ghost use Rattle.isp_code.specs.Listing.{Listing};
+ghost use Rattle.isp_code.specs.Writable.{IsWritable};
 ghost use Rattle.isp_lex.specs.declared.fault.Fault.{Fault};
 ghost use Rattle.isp_typed.specs.Typed.{Program};
 ghost use Rattle.isp_verify.specs.Faults.{code_fault};
 ghost use Rattle.isp_engine.specs.Covered.{IsCovered, IsNotCompiled};
-ghost use Rattle.isp_engine.specs.Images.{IsCompilation};
+ghost use Rattle.isp_engine.specs.Images.{IsCompilation, IsLoaded, IsNotLoaded};
 
+use crate::fault::CodeFault;
 use crate::source::front;
+use isp_asm::read;
 use isp_base::Gang;
 use isp_code::Code;
 use isp_lex::{Fault, Rule, SourceFault};
@@ -15,7 +22,7 @@ use isp_verify::{Verified, VerifyFault, verify};
 use std::alloc::Global;
 use std::marker::Model;
 
-/// A compiled program, which `execute` runs. Contracts see its code.
+/// A compiled program, or code that was loaded, which `execute` runs. Contracts see its code.
 #[derive(Drop)]
 pub struct Image {
     verified: Verified,
@@ -30,7 +37,7 @@ impl Model for Image {
 }
 
 impl Image {
-    /// The code, for the gang that the program was compiled for. The verifier finds no fault in it.
+    /// The code, for the gang that it was compiled or written for. The verifier finds no fault in it.
     pub fn code(&self) -> &Code
         ensures same { result.now ≡ self.now }
         ensures fine { code_fault self.now ≡ None }
@@ -71,5 +78,34 @@ pub fn compile(alloc: Global, text: &str, gang: Gang) -> Result<Image, SourceFau
             VerifyFault::Memory => Err(SourceFault::Memory),
             VerifyFault::Refused(_fault) => unreachable!(),
         },
+    }
+}
+
+/// Reads code text and verifies the code.
+///
+/// 60 to 63 of a text that is that of no code, with the line; then 40 to 45 of code that the verifier refuses, with the
+/// function and the instruction (docs/MACHINE.md). 0: memory was refused.
+pub fn load_code(alloc: Global, text: &str) -> Result<Image, CodeFault>
+    ensures loaded { IfOk result (λ image. IsLoaded text.now image) }
+    // The text of code without a fault gives that code, but for memory.
+    ensures only { (c : Listing) → IsWritable c → text_of c ≡ text.now → code_fault c ≡ None
+        → MatchResult result (λ image. image ≡ c) (λ e. e ≡ CodeFault.Memory) }
+    ensures refused { IfErr result (λ e. e ≢ CodeFault.Memory → IsNotLoaded text.now e) }
+{
+    match read(alloc, text) {
+        Ok(code) => verified(alloc, code),
+        Err(fault) => Err(CodeFault::from(fault)),
+    }
+}
+
+// Verifies code that was read.
+fn verified(alloc: Global, code: Code) -> Result<Image, CodeFault>
+    ensures accepted { IfOk result (λ image. (image ≡ code) × (code_fault code ≡ None)) }
+    ensures refused { IfErr result (λ e. (f : CodeRefusal) → e ≡ CodeFault.Code f → code_fault code ≡ Some f) }
+    ensures other { IfErr result (λ e. (f : TextFault) → e ≢ CodeFault.Text f) }
+{
+    match verify(alloc, code) {
+        Ok(verified) => Ok(Image { verified }),
+        Err((_code, fault)) => Err(CodeFault::from(fault)),
     }
 }

@@ -13,9 +13,9 @@ mod source;
 
 pub use commands::command;
 pub use failure::Failure;
-pub use fault::RunFault;
+pub use fault::{CodeFault, RunFault};
 pub use files::{FileFault, SourceFiles, read_source, read_text};
-pub use image::{Image, compile};
+pub use image::{Image, compile, load_code};
 pub use report::{Ending, Report};
 pub use run::execute;
 pub use sink::{Sink, SinkFault};

@@ -1,5 +1,6 @@
 //! The whole program: its status, its output and its line, for each kind of request.
 use crate::fakes::{Count, Page, Shelf};
+use isp_asm::{read, write};
 use isp_engine::command;
 use isp_testing::Hoard;
 use std::alloc::{AllocError, Global};
@@ -9,7 +10,7 @@ use std::test::Fail;
 const DOUBLE: &str =
     "export void f(uniform int a[]) { a[programIndex] = a[programIndex] * 2 + 1; }";
 
-const FILES: [(&str, &str); 14] = [
+const FILES: [(&str, &str); 22] = [
     ("double.ispc", DOUBLE),
     (
         "varying.ispc",
@@ -27,11 +28,36 @@ const FILES: [(&str, &str); 14] = [
     ("cut.json", "{"),
     ("far.json", "{\"x\":128}"),
     ("text.json", "{\"x\":\"1\"}"),
+    ("eight.json", "{\"a\":[1,2,3,4,5,6,7,8]}"),
+    ("nines.json", "{\"a\":[9,9,9,9]}"),
+    ("two.json", "{\"a\":[9,9]}"),
+    (
+        "jump.isp",
+        "isp 1 gang 4\nfunc f export void\nm 1\njmp L1\nend\n",
+    ),
+    (
+        "cut.isp",
+        "isp 1 gang 4\nfunc f export void\nm 1\njmp L1\nen",
+    ),
+    (
+        "zeros.isp",
+        "isp 1 gang 4\nfunc f export void\nm 01\njmp L1\nend\n",
+    ),
+    (
+        "say.isp",
+        "isp 1 gang 4\ntext 78\nfunc f export void\nm 1\nsay t0\njmp L0\nend\n",
+    ),
+    (
+        "scatter.isp",
+        "isp 1 gang 4\nplace 0 4\nfunc f export void\npar a i32 a\nv i32 i64\nm 1\nindex v0 m0\nconv v1 v0 m0\nscatter a0 v1 v0 m0 p0\nret -\nend\n",
+    ),
 ];
 
 const ANSWER: &str = "{\"arrays\":{\"a\":[11,13,15,17]},\"result\":null}\n";
 
-const USAGE: &str = "usage: isp run SOURCE ENTRY ARGUMENTS\n";
+const EIGHT: &str = "{\"arrays\":{\"a\":[3,5,7,9,11,13,15,17]},\"result\":null}\n";
+
+const SCATTERED: &str = "{\"arrays\":{\"a\":[0,1,2,3]},\"result\":null}\n";
 
 /// The command words behind `isp`, and what must come out.
 #[derive(Drop)]
@@ -156,10 +182,6 @@ fn status_output_and_line(rt: HostRuntime) -> Result<(), Fail> {
             "",
             "isp: cannot read gone.json\n",
         ),
-        ("isp", 2, "", USAGE),
-        ("isp run double.ispc f", 2, "", USAGE),
-        ("isp run double.ispc f four.json more", 2, "", USAGE),
-        ("isp check double.ispc f four.json", 2, "", USAGE),
     ] {
         let case = Case {
             words,
@@ -169,6 +191,234 @@ fn status_output_and_line(rt: HostRuntime) -> Result<(), Fail> {
         };
         run(&rt, alloc, &case, 1000)?;
     }
+    Ok(())
+}
+
+// Code that is executed: what it does, and why it is refused.
+#[test]
+fn executed_code(rt: HostRuntime) -> Result<(), Fail> {
+    let alloc = rt.alloc();
+    for (words, status, out, err) in [
+        ("isp exec scatter.isp f nines.json", 0, SCATTERED, ""),
+        (
+            "isp exec --budget 4 scatter.isp f nines.json",
+            0,
+            SCATTERED,
+            "",
+        ),
+        (
+            "isp exec --budget 3 scatter.isp f nines.json",
+            4,
+            "",
+            "isp: budget used\n",
+        ),
+        (
+            "isp exec scatter.isp f two.json",
+            3,
+            "",
+            "isp: trap index at 0..4, instance 2\n",
+        ),
+        (
+            "isp exec scatter.isp g two.json",
+            5,
+            "",
+            "isp: 50 NoEntry\n",
+        ),
+        (
+            "isp exec scatter.isp f none.json",
+            5,
+            "",
+            "isp: 72 Missing\n",
+        ),
+        (
+            "isp exec --budget 5 say.isp f none.json",
+            4,
+            "xxx",
+            "isp: budget used\n",
+        ),
+        (
+            "isp exec gone.isp f none.json",
+            6,
+            "",
+            "isp: cannot read gone.isp\n",
+        ),
+        (
+            "isp exec jump.isp f gone.json",
+            6,
+            "",
+            "isp: cannot read gone.json\n",
+        ),
+        (
+            "isp exec jump.isp f none.json",
+            8,
+            "",
+            "isp: 42 BadJump in function 0, instruction 0\n",
+        ),
+        (
+            "isp exec cut.isp f cut.json",
+            8,
+            "",
+            "isp: 60 BadLine at line 5\n",
+        ),
+        (
+            "isp exec zeros.isp f none.json",
+            8,
+            "",
+            "isp: 63 NotCanonical at line 3\n",
+        ),
+    ] {
+        let case = Case {
+            words,
+            status,
+            out,
+            err,
+        };
+        run(&rt, alloc, &case, 1000)?;
+    }
+    Ok(())
+}
+
+// The options, at their ends.
+#[test]
+fn gangs_and_budgets(rt: HostRuntime) -> Result<(), Fail> {
+    let alloc = rt.alloc();
+    for (words, status, out, err) in [
+        ("isp run --gang 8 double.ispc f eight.json", 0, EIGHT, ""),
+        (
+            "isp run --gang 16 double.ispc f eight.json",
+            3,
+            "",
+            "isp: trap index at 51..66, instance 8\n",
+        ),
+        (
+            "isp run --budget 0 double.ispc f four.json",
+            4,
+            "",
+            "isp: budget used\n",
+        ),
+        (
+            "isp run --budget 18446744073709551615 --gang 4 double.ispc f four.json",
+            0,
+            ANSWER,
+            "",
+        ),
+        ("isp asm gone.ispc", 6, "", "isp: cannot read gone.ispc\n"),
+        ("isp asm float.ispc", 1, "", "isp: 12 LeftOut at 22..27\n"),
+    ] {
+        let case = Case {
+            words,
+            status,
+            out,
+            err,
+        };
+        run(&rt, alloc, &case, 1000)?;
+    }
+    Ok(())
+}
+
+// Words that ask for nothing, and help: the text of clap begins so.
+#[test]
+fn refused_words(rt: HostRuntime) -> Result<(), Fail> {
+    let alloc = rt.alloc();
+    for (line, beginning) in [
+        (
+            "isp",
+            "error: 'isp' requires a subcommand but one was not provided",
+        ),
+        (
+            "isp run",
+            "error: the following required arguments were not provided:\n  <SOURCE>\n  <ENTRY>\n  <ARGUMENTS>\n",
+        ),
+        (
+            "isp run a b",
+            "error: the following required arguments were not provided:\n  <ARGUMENTS>\n",
+        ),
+        ("isp run a b c d", "error: unexpected argument 'd' found"),
+        (
+            "isp run --gang 5 a b c",
+            "error: invalid value '5' for '--gang <G>'\n  [possible values: 4, 8, 16]\n",
+        ),
+        (
+            "isp run --gang 04 a b c",
+            "error: invalid value '04' for '--gang <G>'",
+        ),
+        (
+            "isp run --budget 18446744073709551616 a b c",
+            "error: invalid value '18446744073709551616' for '--budget <B>'",
+        ),
+        (
+            "isp run --gang 4 --gang 4 a b c",
+            "error: the argument '--gang <G>' cannot be used multiple times",
+        ),
+        (
+            "isp exec --gang 4 a b c",
+            "error: unexpected argument '--gang' found",
+        ),
+        (
+            "isp asm",
+            "error: the following required arguments were not provided:\n  <SOURCE>\n",
+        ),
+        ("isp check a", "error: unrecognized subcommand 'check'"),
+        ("isp solo a b c", "error: unrecognized subcommand 'solo'"),
+        (
+            "isp --help",
+            "Compiles gang programs, and runs them\n\nUsage: isp <COMMAND>",
+        ),
+        (
+            "isp asm --help",
+            "Compiles SOURCE, and writes its code\n\nUsage: isp asm [OPTIONS] <SOURCE>",
+        ),
+    ] {
+        let words = words(alloc, line)?;
+        let mut out = Count { bytes: 0 };
+        let mut err: Vec<u8> = Vec::new(alloc);
+        let files = Shelf { files: &FILES };
+        let status = command(alloc, words.as_slice(), &files, &mut out, &mut err);
+        assert_eq!(rt; status, 2, "{line}");
+        assert_eq!(rt; out.bytes, 0, "{line}");
+        assert!(rt; err.starts_with(beginning.as_bytes()), "{line}");
+    }
+    Ok(())
+}
+
+// The code of a source, written, read and run, does what the source does.
+#[test]
+fn assembled_and_executed_again(rt: HostRuntime) -> Result<(), Fail> {
+    let alloc = rt.alloc();
+    let words = words(alloc, "isp asm double.ispc")?;
+    let mut out = Page {
+        bytes: Vec::new(alloc),
+        room: 10_000,
+        step: 5,
+        has_failed: false,
+    };
+    let mut err: Vec<u8> = Vec::new(alloc);
+    let files = Shelf { files: &FILES };
+    let status = command(alloc, words.as_slice(), &files, &mut out, &mut err);
+    assert_eq!(rt; status, 0);
+    let text = String::from_utf8(out.bytes)?;
+    let code = read(alloc, text.as_str()).map_err(|_| Fail::from("the text is refused"))?;
+    let again = write(alloc, &code)?;
+    assert!(rt; again.as_str() == text.as_str());
+    execute_text(&rt, alloc, text.as_str())
+}
+
+// Runs code with the arguments of the stored run, and looks for its answer.
+fn execute_text(rt: &impl Abort, alloc: Global, text: &str) -> Result<(), Fail> {
+    let words = words(alloc, "isp exec double.isp f four.json")?;
+    let mut out = Page {
+        bytes: Vec::new(alloc),
+        room: 1000,
+        step: 5,
+        has_failed: false,
+    };
+    let mut err: Vec<u8> = Vec::new(alloc);
+    let files = Shelf {
+        files: &[("double.isp", text), ("four.json", "{\"a\":[5,6,7,8]}")],
+    };
+    let status = command(alloc, words.as_slice(), &files, &mut out, &mut err);
+    assert_eq!(rt; status, 0);
+    assert!(rt; out.bytes.as_slice() == ANSWER.as_bytes());
     Ok(())
 }
 
@@ -234,12 +484,9 @@ fn sink_that_fails(rt: HostRuntime) -> Result<(), Fail> {
     run(&rt, rt.alloc(), &case, 7)
 }
 
-// Memory is refused at each place in turn: the status is 7 and nothing goes out, and at last comes
-// the answer.
-#[test]
-fn refused_memory(rt: HostRuntime) -> Result<(), Fail> {
-    let alloc = rt.alloc();
-    let words = words(alloc, "isp run double.ispc f four.json")?;
+// Memory is refused at each place in turn: the status is 7 and nothing goes out, and at last so many bytes do.
+fn refuse_memory(rt: &impl Abort, alloc: Global, line: &str, bytes: u64) -> Result<(), Fail> {
+    let words = words(alloc, line)?;
     let mut hoard = Hoard::new(alloc)?;
     for step in 0..128_000usize {
         assert!(rt; hoard.leave(16 * step), "the pool is too small");
@@ -249,7 +496,7 @@ fn refused_memory(rt: HostRuntime) -> Result<(), Fail> {
         let files = Shelf { files: &FILES };
         let status = command(alloc, words.as_slice(), &files, &mut out, &mut err);
         if status == 0 {
-            assert_eq!(rt; out.bytes, ANSWER.len() as u64);
+            assert_eq!(rt; out.bytes, bytes);
             assert!(rt; step > 0, "nothing was refused");
             return Ok(());
         }
@@ -258,4 +505,38 @@ fn refused_memory(rt: HostRuntime) -> Result<(), Fail> {
         assert_eq!(rt; out.bytes, 0);
     }
     Err(Fail::from("always refused"))
+}
+
+#[test]
+fn memory_refused_to_run(rt: HostRuntime) -> Result<(), Fail> {
+    refuse_memory(
+        &rt,
+        rt.alloc(),
+        "isp run double.ispc f four.json",
+        ANSWER.len() as u64,
+    )
+}
+
+#[test]
+fn memory_refused_to_exec(rt: HostRuntime) -> Result<(), Fail> {
+    refuse_memory(
+        &rt,
+        rt.alloc(),
+        "isp exec scatter.isp f nines.json",
+        SCATTERED.len() as u64,
+    )
+}
+
+// As many bytes as with ample memory, of which the text is tried above.
+#[test]
+fn memory_refused_to_asm(rt: HostRuntime) -> Result<(), Fail> {
+    let alloc = rt.alloc();
+    let line = "isp asm double.ispc";
+    let words = words(alloc, line)?;
+    let mut out = Count { bytes: 0 };
+    let mut err: Vec<u8> = Vec::new(alloc);
+    let files = Shelf { files: &FILES };
+    let status = command(alloc, words.as_slice(), &files, &mut out, &mut err);
+    assert_eq!(rt; status, 0);
+    refuse_memory(&rt, alloc, line, out.bytes)
 }
