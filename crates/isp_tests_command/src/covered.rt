@@ -24,8 +24,8 @@ fn first_node_not_yet(rt: HostRuntime) -> Result<(), Fail> {
             "90 NotYet at 69..94",
         ),
         (
-            "export void f() { g(); } void g() { f(); unmasked { f(); } } void h() { f(); }",
-            "90 NotYet at 41..58",
+            "export void f() { g(); } void g() { f(); foreach (i = 0 ... 1) ; } void h() { f(); }",
+            "90 NotYet at 41..64",
         ),
         (
             "export uniform int f(uniform int a[]) { return packed_store_active(a, programIndex); }",
@@ -84,12 +84,12 @@ fn first_node_not_yet(rt: HostRuntime) -> Result<(), Fail> {
             "90 NotYet at 18..60",
         ),
         (
-            "export void f() { return; foreach_active (i) abs(1); }",
-            "90 NotYet at 45..51",
+            "export void f(uniform int a[]) { return; foreach_active (i) packed_store_active(a, 1); }",
+            "90 NotYet at 60..85",
         ),
         (
-            "export void f() { unmasked { abs(1); } }",
-            "90 NotYet at 29..35",
+            "export void f(uniform int a[]) { unmasked { packed_store_active(a, 1); } }",
+            "90 NotYet at 44..69",
         ),
         (
             "export void f() { int x; print(\"%\", abs(x)); }",
