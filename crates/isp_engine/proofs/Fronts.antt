@@ -24,7 +24,7 @@ use Rattle.isp_typed.specs.declared.function.Program as rust_program
 use Rattle.isp_types.specs.Functions.{IsProgram, Breach}
 use Rattle.isp_rates.specs.Breaches.{Least}
 use Rattle.isp_rates.specs.Program.{ProgramBreach}
-use Rattle.isp_rates.specs.Covered.{program_left}
+use Rattle.isp_masks.specs.Covered.{program_left}
 use Rattle.isp_engine.specs.Front.{HasTree, IsChecked, IsSource, IsUnsound, IsFaulty}
 use Rattle.isp_engine.specs.Covered.{IsCovered}
 

@@ -6,7 +6,7 @@ use Rattle.isp_lex.specs.Faults.{fault}
 use Rattle.isp_lex.specs.declared.fault.Fault.{Fault}
 use Rattle.isp_lex.specs.declared.fault.Rule.TheVariants.{NotYet}
 use Rattle.isp_typed.specs.Typed.{Program}
-use Rattle.isp_rates.specs.Covered.{program_left}
+use Rattle.isp_masks.specs.Covered.{program_left}
 use Rattle.isp_engine.specs.Front.{IsSource, IsFaulty}
 
 -- the text is the source of this program, all of which is compiled

@@ -19,7 +19,7 @@ use Rattle.isp_typed.specs.declared.variable.Holds.TheVariants.{Value as AValue,
 use Rattle.isp_typed.specs.declared.variable.Variable.{Variable}
 use Rattle.isp_rates.specs.declared.exits.Within.{Within}
 use Rattle.isp_rates.specs.Breaches.{OfAny, OfEach}
-use Rattle.isp_rates.specs.Covered.{expr_left, place_left, call_left, arguments_left, argument_left, simple_left, items_left, given_left, first_left, step_left, stmt_left, block_left, stmts_left, values_left, function_left, functions_left}
+use Rattle.isp_masks.specs.Covered.{expr_left, place_left, call_left, arguments_left, argument_left, simple_left, items_left, given_left, first_left, step_left, stmt_left, block_left, stmts_left, values_left, function_left, functions_left}
 use Rattle.isp_rates.specs.Rates as rates
 use Rattle.isp_rates.specs.Rates.{goes_to, variables_of, DemandBreach, ExprBreach, PlaceBreach, CallBreach, ArgumentsBreach, ArgumentBreach, ValuesBreach, part_rate}
 use Rattle.isp_lower.specs.Callees.{rate_held, rates_held, rates_in}

@@ -10,7 +10,7 @@ use Rattle.isp_base.specs.declared.types.Ty.{Ty}
 use Rattle.isp_code.specs.Entries.{parameter_of, parameters_of, result_of}
 use Rattle.isp_code.specs.Listing.{Listing, Routine}
 use Rattle.isp_code.specs.Registers.{table_of, types_in}
-use Rattle.isp_rates.specs.Covered.{program_left}
+use Rattle.isp_masks.specs.Covered.{program_left}
 use Rattle.isp_rates.specs.Program.{IsAccepted}
 use Rattle.isp_typed.specs.Fine.{AreParams, FineFunction, all_new, params_of}
 use Rattle.isp_typed.specs.Typed.{Program, TFunction}

@@ -1,3 +1,4 @@
+pub mod Covered
 pub mod Exits
 pub mod Sets
 pub mod Spots

@@ -2,6 +2,7 @@
 #![tactic(auto)]
 
 mod awaited;
+mod covered;
 mod exits;
 mod laws;
 mod listing;
@@ -14,5 +15,6 @@ mod routine;
 mod sets;
 mod statement;
 
+pub use covered::covered;
 pub use laws::{loops_run, lowered_agrees, statements_run};
 pub use lowering::lower;

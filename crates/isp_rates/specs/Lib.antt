@@ -3,5 +3,4 @@ pub mod Rates
 pub mod Exits
 pub mod Program
 pub mod Exports
-pub mod Covered
 pub mod reader

@@ -8,12 +8,10 @@ ghost use Rattle.isp_independence.specs.Dependences.{IsFirst};
 ghost use Rattle.isp_independence.specs.Independent.{AreDependences, Depends, IsIndependent};
 ghost use Rattle.isp_independence.specs.Reaches.{function_calls};
 ghost use Rattle.isp_independence.specs.Tables.{lists_of};
-ghost use Rattle.isp_rates.specs.Covered.{program_left};
 ghost use Rattle.isp_rates.specs.Exports.{at_number, entry_from, exports_from};
 ghost use Rattle.isp_rates.specs.Program.{IsAccepted, ProgramBreach};
 
-use crate::covered;
-use isp_base::{Signature, Span};
+use isp_base::Signature;
 use isp_independence::Dependence;
 use isp_typed::{Program, Typed, TypedFunction};
 use std::collections::BTreeMap;
@@ -190,13 +188,5 @@ impl Checked {
             Some(function) => Some(function.name.as_str()),
             None => None,
         }
-    }
-
-    /// Where the first node in the text stands that has no code yet, a node before its parts. None where the whole program
-    /// has code.
-    pub fn covered(&self) -> Option<Span>
-        ensures { result ≡ program_left (program_of self.now) }
-    {
-        covered::program(self.program())
     }
 }

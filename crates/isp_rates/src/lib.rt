@@ -4,7 +4,6 @@
 mod calls;
 mod checked;
 mod checker;
-mod covered;
 mod demand;
 mod exits;
 mod exports;

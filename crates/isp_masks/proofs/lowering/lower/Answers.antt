@@ -1,6 +1,6 @@
 use Rattle.std.proofs.Common.{◌≡◌, None, ap, subst}
 use Rattle.std.proofs.lemmas.Result.{IfOk-weaker}
-use Rattle.isp_rates.specs.Covered.{program_left}
+use Rattle.isp_masks.specs.Covered.{program_left}
 use Rattle.isp_typed.specs.Views.{program_of}
 use Rattle.isp_verify.specs.Faults.{code_fault}
 use Rattle.isp_masks.specs.Agreement.{Agrees}

@@ -2,11 +2,12 @@
 ghost use Rattle.std.specs.Prelude.{◌≡◌, option_map};
 ghost use Rattle.isp_typed.specs.Typed.{t_exprs};
 ghost use Rattle.isp_typed.specs.Views.{argument_of, block_of, call_of, expr_of, exprs_of, first_of, function_of, functions_of, item_of, items_of, place_of, program_of, simple_of, stmt_of};
-ghost use Rattle.isp_rates.specs.Covered.{argument_left, block_left, call_left, expr_left, first_left, function_left, functions_left, given_left, item_left, items_left, place_left, program_left, simple_left, step_left, stmt_left, values_left};
+ghost use Rattle.isp_masks.specs.Covered.{argument_left, block_left, call_left, expr_left, first_left, function_left, functions_left, given_left, item_left, items_left, place_left, program_left, simple_left, step_left, stmt_left, values_left};
 
 use isp_base::Span;
+use isp_rates::Checked;
 use isp_typed::{
-    Program, TypedArgument, TypedBlock, TypedCall, TypedExpr, TypedFirst, TypedFunction, TypedItem,
+    TypedArgument, TypedBlock, TypedCall, TypedExpr, TypedFirst, TypedFunction, TypedItem,
     TypedPlace, TypedSimple, TypedStmt,
 };
 
@@ -210,9 +211,10 @@ fn functions(all: &[TypedFunction]) -> Option<Span>
     None
 }
 
-/// The first node in the text of a program that has no code.
-pub fn program(p: &Program) -> Option<Span>
-    ensures { result ≡ program_left (program_of p.now) }
+/// Where the first node in the text stands that has no code yet, a node before its parts. None where the whole program
+/// has code.
+pub fn covered(checked: &Checked) -> Option<Span>
+    ensures { result ≡ program_left (program_of checked.now) }
 {
-    functions(&p.functions)
+    functions(&checked.program().functions)
 }
