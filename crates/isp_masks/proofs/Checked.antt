@@ -1,6 +1,6 @@
 -- The rates of a program without a breach are as code asks, where all of it has code.
 use Rattle.std.proofs.Common.{◌≡◌, ℕ, zero, suc, List, [], ◌∷◌, Option, Some, None, true, false, refl, sym, subst, take, length, inl, inr}
-use Rattle.std.specs.Prelude.{slice_get}
+use Rattle.std.specs.Prelude.{nat_lt, slice_get}
 use Rattle.std.proofs.lemmas.Option.{same_Some, get_or_from_slice_get, slice_get_within}
 use Rattle.std.specs.List.{All}
 use Rattle.std.specs.Option.{option_or}
@@ -12,18 +12,19 @@ use Rattle.isp_lex.specs.declared.fault.Fault.{Fault}
 use Rattle.isp_lex.specs.declared.fault.Rule.TheVariants.{VaryingToUniform, BadExport}
 use Rattle.isp_lex.specs.Faults.{fault}
 use Rattle.isp_typed.specs.Fine.{FineFunction, params_of}
-use Rattle.isp_typed.specs.Typed.{TExpr, t_constant, t_program_index, t_place, t_convert, t_cast, t_unary, t_binary, t_compare, t_logic, t_choose, t_call, t_library, t_packed_store, t_packed_load, TPlace, t_variable, t_element, TArgument, t_by_value, t_by_name, TCall, t_called, TArguments, t_no_arguments, t_argument_then, TExprs, t_no_exprs, t_expr_then, TItem, t_plain, t_with_value, t_with_size, TSimple, t_value, t_run, t_assign, t_update, t_step, TFirst, t_first_declare, t_first_simple, TFunction, Program, place_type, type_of, span_of}
+use Rattle.isp_typed.specs.Typed.{TExpr, t_constant, t_program_index, t_place, t_convert, t_cast, t_unary, t_binary, t_compare, t_logic, t_choose, t_call, t_library, t_packed_store, t_packed_load, TPlace, t_variable, t_element, TArgument, t_by_value, t_by_name, TCall, t_called, TArguments, t_no_arguments, t_argument_then, TExprs, t_no_exprs, t_expr_then, TItem, t_plain, t_with_value, t_with_size, TSimple, t_value, t_run, t_assign, t_update, t_step, TFirst, t_first_declare, t_first_simple, TRange, TFunction, Program, place_type, type_of, span_of}
 use Rattle.isp_typed.specs.Typed.{TStmt, t_block, t_declare, t_simple, t_if, t_if_else, t_while, t_do, t_for, t_foreach, t_foreach_active, t_unmasked, t_jump, t_return, t_print, t_assert, TBlock, t_braces, TStmts, t_no_stmts, t_stmt_then}
 use Rattle.isp_typed.specs.declared.variable.Holds.{Holds}
 use Rattle.isp_typed.specs.declared.variable.Holds.TheVariants.{Value as AValue, Given, Local}
 use Rattle.isp_typed.specs.declared.variable.Variable.{Variable}
+use Rattle.isp_typed.specs.Scoped.{Scope, ScopedFunction, StmtAt, BlockAt, StmtsAt, declared, scope_after, number_after, scope_after_first, scope_after_stmt, number_after_stmt}
 use Rattle.isp_rates.specs.declared.exits.Within.{Within}
 use Rattle.isp_rates.specs.Breaches.{OfAny, OfEach}
-use Rattle.isp_masks.specs.Covered.{expr_left, place_left, call_left, arguments_left, argument_left, simple_left, items_left, given_left, first_left, step_left, stmt_left, block_left, stmts_left, values_left, function_left, functions_left}
+use Rattle.isp_masks.specs.Covered.{expr_left, place_left, call_left, arguments_left, argument_left, simple_left, items_left, given_left, first_left, step_left, range_left, ranges_left, stmt_left, block_left, stmts_left, values_left, function_left, functions_left}
 use Rattle.isp_rates.specs.Rates as rates
 use Rattle.isp_rates.specs.Rates.{goes_to, variables_of, DemandBreach, ExprBreach, PlaceBreach, CallBreach, ArgumentsBreach, ArgumentBreach, ValuesBreach, part_rate}
 use Rattle.isp_lower.specs.Callees.{rate_held, rates_held, rates_in}
-use Rattle.isp_rates.specs.Exits.{at_start, in_loop, in_foreach_active, in_unmasked, ItemBreach, SimpleBreach, FirstBreach, StmtBreach, BlockBreach, StmtsBreach}
+use Rattle.isp_rates.specs.Exits.{at_start, in_loop, in_foreach, in_foreach_active, in_unmasked, ItemBreach, SimpleBreach, FirstBreach, RangeBreach, StmtBreach, BlockBreach, StmtsBreach}
 use Rattle.isp_rates.specs.Program.{ParametersBreach, ResultBreach, FunctionBreach, IsAccepted}
 use Rattle.isp_typed.specs.Library.{asks_uniform, parts}
 use Rattle.isp_typed.specs.declared.library.Part.{Part}
@@ -31,7 +32,7 @@ use Rattle.isp_typed.specs.declared.library.Part.TheVariants as part
 use Rattle.isp_lower.specs.Library.{rate_taken, rates_taken}
 use Rattle.isp_lower.specs.Rated.{Reaches, IsRated, PlaceRated, CallRated, ArgumentsRated, ArgumentRated, ValuesRated, RatedAt, SimpleRated, ItemsRated}
 use Rattle.isp_masks.specs.Compiled.{AreOne, IsOne}
-use Rattle.isp_masks.specs.Rated.{AnswerRated, FirstRated, TestRated, StepRated, StmtRated, BlockRated, StmtsRated}
+use Rattle.isp_masks.specs.Rated.{AnswerRated, RangesRated, FirstRated, TestRated, StepRated, StmtRated, BlockRated, StmtsRated}
 
 -- ---- no breach
 
@@ -180,45 +181,52 @@ module _ (fs : List TFunction) where
   step_rated None clean c = tt
   step_rated (Some x) clean c = simple_rated x clean c
 
+  ranges_rated : (rs : List TRange) → NoneOf (OfEach (RangeBreach fs) rs) → ranges_left rs ≡ None → RangesRated fs rs
+  ranges_rated [] clean c = tt
+  ranges_rated (r ∷ rs) clean c =
+      let own = first_none (range_left r) (ranges_left rs) c in
+      (rated_at Uniform r.start (λ e b. clean e (inl (inl b))) (first_none (expr_left r.start) (expr_left r.end) own), rated_at Uniform r.end (λ e b. clean e (inl (inr b))) (next_none (expr_left r.start) (expr_left r.end) own), ranges_rated rs (λ e b. clean e (inr b)) (next_none (range_left r) (ranges_left rs) c))
+
   returned_rated : (answer : Option Ty) (w : Within) (k : Span) (x : TExpr) (sp : Span) → NoneOf (StmtBreach fs answer w (t_return k (Some x) sp)) → expr_left x ≡ None → AnswerRated fs answer x
   returned_rated None w k x sp clean c = expr_rated x (demand_own Varying x (ExprBreach fs x) (λ e b. clean e (inr b))) c
   returned_rated (Some t) w k x sp clean c = rated_at t.rate x (λ e b. clean e (inr b)) c
 
   module _ (answer : Option Ty) where
     mutual
-      stmt_rated : (w : Within) (x : TStmt) → NoneOf (StmtBreach fs answer w x) → stmt_left x ≡ None → StmtRated fs answer x
-      stmt_rated w (t_block b) clean c = block_rated w b clean c
-      stmt_rated w (t_declare xs sp) clean c = items_rated xs clean c
-      stmt_rated w (t_simple x sp) clean c = simple_rated x clean c
-      stmt_rated w (t_if k n e x sp) clean c =
-          (expr_rated e (λ g b. clean g (inl b)) (first_none (expr_left e) (stmt_left x) c), stmt_rated w x (λ g b. clean g (inr b)) (next_none (expr_left e) (stmt_left x) c))
-      stmt_rated w (t_if_else k n e x y sp) clean c =
+      stmt_rated : (v : Scope) (m : ℕ) (w : Within) (x : TStmt) → StmtAt v m x → NoneOf (StmtBreach fs answer w x) → stmt_left x ≡ None → StmtRated fs answer x
+      stmt_rated v m w (t_block b) at clean c = block_rated v m w b at clean c
+      stmt_rated v m w (t_declare xs sp) at clean c = items_rated xs clean c
+      stmt_rated v m w (t_simple x sp) at clean c = simple_rated x clean c
+      stmt_rated v m w (t_if k n e x sp) at clean c =
+          (expr_rated e (λ g b. clean g (inl b)) (first_none (expr_left e) (stmt_left x) c), stmt_rated v m w x at.1.1 (λ g b. clean g (inr b)) (next_none (expr_left e) (stmt_left x) c))
+      stmt_rated v m w (t_if_else k n e x y sp) at clean c =
           let rest = next_none (expr_left e) (option_or (stmt_left x) (stmt_left y)) c in
-          (expr_rated e (λ g b. clean g (inl b)) (first_none (expr_left e) (option_or (stmt_left x) (stmt_left y)) c), stmt_rated w x (λ g b. clean g (inr (inl b))) (first_none (stmt_left x) (stmt_left y) rest), stmt_rated w y (λ g b. clean g (inr (inr b))) (next_none (stmt_left x) (stmt_left y) rest))
-      stmt_rated w (t_while k n e x sp) clean c =
-          (expr_rated e (λ g b. clean g (inl b)) (first_none (expr_left e) (stmt_left x) c), stmt_rated (in_loop w) x (λ g b. clean g (inr b)) (next_none (expr_left e) (stmt_left x) c))
-      stmt_rated w (t_do k n x e sp) clean c =
-          (stmt_rated (in_loop w) x (λ g b. clean g (inl b)) (first_none (stmt_left x) (expr_left e) c), expr_rated e (λ g b. clean g (inr b)) (next_none (stmt_left x) (expr_left e) c))
-      stmt_rated w (t_for k n first e step i x sp) clean c =
+          (expr_rated e (λ g b. clean g (inl b)) (first_none (expr_left e) (option_or (stmt_left x) (stmt_left y)) c), stmt_rated v m w x at.1.1.0 (λ g b. clean g (inr (inl b))) (first_none (stmt_left x) (stmt_left y) rest), stmt_rated v (number_after_stmt m x) w y at.1.1.1 (λ g b. clean g (inr (inr b))) (next_none (stmt_left x) (stmt_left y) rest))
+      stmt_rated v m w (t_while k n e x sp) at clean c =
+          (expr_rated e (λ g b. clean g (inl b)) (first_none (expr_left e) (stmt_left x) c), stmt_rated v m (in_loop w) x at.1.1 (λ g b. clean g (inr b)) (next_none (expr_left e) (stmt_left x) c))
+      stmt_rated v m w (t_do k n x e sp) at clean c =
+          (stmt_rated v m (in_loop w) x at.1.0 (λ g b. clean g (inl b)) (first_none (stmt_left x) (expr_left e) c), expr_rated e (λ g b. clean g (inr b)) (next_none (stmt_left x) (expr_left e) c))
+      stmt_rated v m w (t_for k n first e step i x sp) at clean c =
           let rest = next_none (first_left first) (option_or (given_left e) (option_or (step_left step) (stmt_left x))) c in
           let more = next_none (given_left e) (option_or (step_left step) (stmt_left x)) rest in
-          (first_rated first (λ g b. clean g (inl b)) (first_none (first_left first) (option_or (given_left e) (option_or (step_left step) (stmt_left x))) c), test_rated e (λ g b. clean g (inr (inl b))) (first_none (given_left e) (option_or (step_left step) (stmt_left x)) rest), step_rated step (λ g b. clean g (inr (inr (inl b)))) (first_none (step_left step) (stmt_left x) more), stmt_rated (in_loop w) x (λ g b. clean g (inr (inr (inr b)))) (next_none (step_left step) (stmt_left x) more))
-      stmt_rated w (t_foreach k n rs x sp) clean c = absurd (some_left c)
-      stmt_rated w (t_foreach_active k n i x sp) clean c = stmt_rated (in_foreach_active w) x clean c
-      stmt_rated w (t_unmasked k b sp) clean c = block_rated (in_unmasked w) b clean c
-      stmt_rated w (t_jump j k sp) clean c = tt
-      stmt_rated w (t_return k None sp) clean c = tt
-      stmt_rated w (t_return k (Some x) sp) clean c = returned_rated answer w k x sp clean c
-      stmt_rated w (t_print k text xs sp) clean c = absurd (some_left c)
-      stmt_rated w (t_assert x k sp) clean c = absurd (some_left c)
+          (first_rated first (λ g b. clean g (inl b)) (first_none (first_left first) (option_or (given_left e) (option_or (step_left step) (stmt_left x))) c), test_rated e (λ g b. clean g (inr (inl b))) (first_none (given_left e) (option_or (step_left step) (stmt_left x)) rest), step_rated step (λ g b. clean g (inr (inr (inl b)))) (first_none (step_left step) (stmt_left x) more), stmt_rated (scope_after_first v m first) i (in_loop w) x at.1.1.1.1.1 (λ g b. clean g (inr (inr (inr b)))) (next_none (step_left step) (stmt_left x) more))
+      stmt_rated v m w (t_foreach k n rs x sp) at clean c =
+          (at.1.1.0, ranges_rated rs (λ g b. clean g (inr (inl b))) (first_none (ranges_left rs) (stmt_left x) c), stmt_rated (scope_after v m rs) (number_after m rs) (in_foreach w) x at.1.1.1.1 (λ g b. clean g (inr (inr b))) (next_none (ranges_left rs) (stmt_left x) c))
+      stmt_rated v m w (t_foreach_active k n i x sp) at clean c = stmt_rated (declared m v) (suc m) (in_foreach_active w) x at.1.1 clean c
+      stmt_rated v m w (t_unmasked k b sp) at clean c = block_rated v m (in_unmasked w) b at clean c
+      stmt_rated v m w (t_jump j k sp) at clean c = tt
+      stmt_rated v m w (t_return k None sp) at clean c = tt
+      stmt_rated v m w (t_return k (Some x) sp) at clean c = returned_rated answer w k x sp clean c
+      stmt_rated v m w (t_print k text xs sp) at clean c = absurd (some_left c)
+      stmt_rated v m w (t_assert x k sp) at clean c = absurd (some_left c)
 
-      pub block_rated : (w : Within) (b : TBlock) → NoneOf (BlockBreach fs answer w b) → block_left b ≡ None → BlockRated fs answer b
-      block_rated w (t_braces xs sp) clean c = stmts_rated w xs clean c
+      pub block_rated : (v : Scope) (m : ℕ) (w : Within) (b : TBlock) → BlockAt v m b → NoneOf (BlockBreach fs answer w b) → block_left b ≡ None → BlockRated fs answer b
+      block_rated v m w (t_braces xs sp) at clean c = stmts_rated v m w xs at clean c
 
-      stmts_rated : (w : Within) (xs : TStmts) → NoneOf (StmtsBreach fs answer w xs) → stmts_left xs ≡ None → StmtsRated fs answer xs
-      stmts_rated w t_no_stmts clean c = tt
-      stmts_rated w (t_stmt_then x xs) clean c =
-          (stmt_rated w x (λ g b. clean g (inl b)) (first_none (stmt_left x) (stmts_left xs) c), stmts_rated w xs (λ g b. clean g (inr b)) (next_none (stmt_left x) (stmts_left xs) c))
+      stmts_rated : (v : Scope) (m : ℕ) (w : Within) (xs : TStmts) → StmtsAt v m xs → NoneOf (StmtsBreach fs answer w xs) → stmts_left xs ≡ None → StmtsRated fs answer xs
+      stmts_rated v m w t_no_stmts at clean c = tt
+      stmts_rated v m w (t_stmt_then x xs) at clean c =
+          (stmt_rated v m w x at.0 (λ g b. clean g (inl b)) (first_none (stmt_left x) (stmts_left xs) c), stmts_rated (scope_after_stmt v m x) (number_after_stmt m x) w xs at.1 (λ g b. clean g (inr b)) (next_none (stmt_left x) (stmts_left xs) c))
 
 -- ---- what is exported
 
@@ -263,8 +271,9 @@ pub record FunctionFits (fs : List TFunction) (h : TFunction) : Type 0 where
 pub function_fits : (p : Program) → IsAccepted p → (f : ℕ) (h : TFunction) → slice_get p.functions f ≡ Some h → FunctionFits p.functions h
 function_fits p accepted f h e =
     let is : FineFunction p.functions h = fine_of (FineFunction p.functions) p.functions f h accepted.fine.each e in
+    let scoped : ScopedFunction h = fine_of ScopedFunction p.functions f h accepted.scoped.each e in
     let own : NoneOf (FunctionBreach p.functions h) = λ g b. accepted.sound g (breach_of (FunctionBreach p.functions) p.functions f h e g b) in record {
-      rated = block_rated p.functions h.answer at_start h.body (λ g b. own g (inr b));
+      rated = block_rated p.functions h.answer (λ x. nat_lt x (length h.params)) (length h.params) at_start h.body scoped.body (λ g b. own g (inr b));
       passed = λ out. passed_one h.params h.variables (λ g b. own g (inl (out, inl b)));
       result = λ out. result_one h.span h.answer (λ g b. own g (inl (out, inr b)));
     }

@@ -44,6 +44,8 @@ mod Lists
 mod Forms
 mod Sifting
 mod Views
+mod RangesAsked
+mod RangesWritten
 mod Routines
 mod Listings
 mod FirstRows

@@ -1,9 +1,9 @@
 -- Which nodes of a program have code, and the first in the text that has none: a node comes before its parts. Left without
--- are packed calls, `foreach`, `print` and `assert`. One line for each kind of node; parts in the order of the text.
+-- are packed calls, `print` and `assert`. One line for each kind of node; parts in the order of the text.
 use Rattle.std.specs.Prelude.{List, [], ◌∷◌, Option, Some, None}
 use Rattle.std.specs.Option.{option_or}
 use Rattle.isp_base.specs.declared.types.Span.{Span}
-use Rattle.isp_typed.specs.Typed.{TExpr, t_constant, t_program_index, t_place, t_convert, t_cast, t_unary, t_binary, t_compare, t_logic, t_choose, t_call, t_library, t_packed_store, t_packed_load, TPlace, t_variable, t_element, TArgument, t_by_value, t_by_name, TCall, t_called, TArguments, t_no_arguments, t_argument_then, TExprs, t_no_exprs, t_expr_then, TItem, t_plain, t_with_value, t_with_size, TSimple, t_value, t_run, t_assign, t_update, t_step, TFirst, t_first_declare, t_first_simple}
+use Rattle.isp_typed.specs.Typed.{TExpr, t_constant, t_program_index, t_place, t_convert, t_cast, t_unary, t_binary, t_compare, t_logic, t_choose, t_call, t_library, t_packed_store, t_packed_load, TPlace, t_variable, t_element, TArgument, t_by_value, t_by_name, TCall, t_called, TArguments, t_no_arguments, t_argument_then, TExprs, t_no_exprs, t_expr_then, TItem, t_plain, t_with_value, t_with_size, TSimple, t_value, t_run, t_assign, t_update, t_step, TFirst, t_first_declare, t_first_simple, TRange}
 use Rattle.isp_typed.specs.Typed.{TStmt, t_block, t_declare, t_simple, t_if, t_if_else, t_while, t_do, t_for, t_foreach, t_foreach_active, t_unmasked, t_jump, t_return, t_print, t_assert, TBlock, t_braces, TStmts, t_no_stmts, t_stmt_then, TFunction, Program}
 
 -- ---- expressions
@@ -78,6 +78,14 @@ abbrev pub step_left : Option TSimple → Option Span
 step_left None = None
 step_left (Some p) = simple_left p
 
+-- the bounds of a `foreach`, from left to right
+abbrev pub range_left : TRange → Option Span
+range_left r = option_or (expr_left r.start) (expr_left r.end)
+
+abbrev pub ranges_left : List TRange → Option Span
+ranges_left [] = None
+ranges_left (r ∷ rs) = option_or (range_left r) (ranges_left rs)
+
 abbrev mutual
   pub stmt_left : TStmt → Option Span
   stmt_left (t_block b) = block_left b
@@ -88,7 +96,7 @@ abbrev mutual
   stmt_left (t_while f n x a s) = option_or (expr_left x) (stmt_left a)
   stmt_left (t_do f n a x s) = option_or (stmt_left a) (expr_left x)
   stmt_left (t_for f n i x p m a s) = option_or (first_left i) (option_or (given_left x) (option_or (step_left p) (stmt_left a)))
-  stmt_left (t_foreach k n rs a s) = Some s
+  stmt_left (t_foreach k n rs a s) = option_or (ranges_left rs) (stmt_left a)
   stmt_left (t_foreach_active k n i a s) = stmt_left a
   stmt_left (t_unmasked k b s) = block_left b
   stmt_left (t_jump j k s) = None

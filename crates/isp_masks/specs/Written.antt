@@ -1,25 +1,36 @@
 -- What each writer of statements appends, told what it is given: where registers lie, the trees, the masks of a statement and
 -- its first slot, a loop, a test.
-use Rattle.std.specs.Prelude.{ℕ, ◌+◌, List, [], ◌∷◌, ◌++◌, Option, Bool}
+use Rattle.std.specs.Prelude.{ℕ, ◌+◌, List, [], ◌∷◌, ◌++◌, map, Option, Bool}
 use Rattle.isp_base.specs.declared.types.Rate.{Rate}
-use Rattle.isp_base.specs.declared.types.Rate.TheVariants.{Uniform}
+use Rattle.isp_base.specs.declared.operators.Compare.TheVariants.{Less}
+use Rattle.isp_base.specs.declared.types.Elem.TheVariants.{Bool as Truth, I32, I64}
+use Rattle.isp_base.specs.declared.types.Rate.TheVariants.{Uniform, Varying}
 use Rattle.isp_base.specs.declared.types.Span.{Span}
 use Rattle.isp_code.specs.declared.instr.Instr.{Instr}
 use Rattle.isp_code.specs.declared.instr.Instr.TheVariants as instr
-use Rattle.isp_typed.specs.Typed.{TExpr, type_of, TSimple, TFirst, TStmt, TBlock}
-use Rattle.isp_lower.specs.Code.{expr_code, expr_places, found, guard, jump_off, two}
+use Rattle.isp_code.specs.declared.instr.Plain.TheVariants as plain
+use Rattle.isp_typed.specs.Typed.{TExpr, type_of, TSimple, TFirst, TRange, TStmt, TBlock}
+use Rattle.isp_lower.specs.Asks.{Ask, Both, Register, Number, spare_ask}
+use Rattle.isp_lower.specs.Code.{compare, compute, convert, copy, expr_code, expr_places, found, guard, jump_off, splat, two}
 use Rattle.isp_lower.specs.Emitted.{Appends, layout}
+use Rattle.isp_lower.specs.Layout.{Layout}
+use Rattle.isp_lower.specs.Rows.{Variable}
+use Rattle.isp_lower.specs.declared.numbered.Slot.{Slot}
 use Rattle.isp_lower.specs.declared.types.Body.{Body}
 use Rattle.isp_lower.specs.declared.types.Scope.{Scope}
+use Rattle.isp_masks.specs.Asks.{bounds_asks, loop_asks, measures_asks, places_asks}
 use Rattle.isp_masks.specs.Exits.{exits_of, nobody_leaves}
 use Rattle.isp_masks.specs.Fors.{first_code, first_places, step_code, step_places, test_places}
 use Rattle.isp_masks.specs.Loops.{again_code, back_code, do_code, live_code, sift_code, step_back_code, turn_code, while_code}
+use Rattle.isp_masks.specs.Ranges.{foreach_code, last_index, narrow, outer_index, places_slot, range_mask, ranges_code, ranges_places, runs_slot, sweep_code, test, wide}
 use Rattle.isp_masks.specs.Rounds.{active_code, unmasked_code}
 use Rattle.isp_masks.specs.Spots.{Numbers, Spot as Where, body_spot, past, spot_of}
 use Rattle.isp_masks.specs.Statements.{answer_code, behind, block_code, block_places, body_code, function_code, if_code, if_else_code, stepped_code, stmt_code, stmt_places, turns_code}
 use Rattle.isp_masks.specs.declared.looping.Loop.{Loop}
 use Rattle.isp_masks.specs.declared.looping.Test.{Test}
 use Rattle.isp_masks.specs.declared.masks.Spot.{Spot}
+use Rattle.isp_masks.specs.declared.ranges.OuterIndex.{OuterIndex}
+use Rattle.isp_masks.specs.declared.ranges.Sweep.{Sweep}
 
 -- Code that is told the number of its first instruction and the numbers of what it names, and the places that it names.
 pub record Piece : Type 0 where
@@ -172,3 +183,89 @@ abbrev pub turns_at : Scope → Option TExpr → Option TSimple → TStmt → Sp
 turns_at on e step x spot =
     let l = layout on in
     record { code = λ pc z. turns_code l on.answer e step x pc z (spot_of spot); places = test_places l e ++ (stmt_places l x ++ step_places l step) }
+
+-- ---- `foreach`
+
+-- what a range needs besides its index; the last one with its index; and the ranges from one on
+abbrev pub sweep_asks : Sweep → Ask
+sweep_asks it =
+    let e = it.bounds.number in
+    let m = it.place.number in
+    let n = it.measures.number in
+    let bounds = Both (spare_ask Uniform I64 e) (Both (Number (e + 1)) (spare_ask Uniform I64 (e + 1))) in
+    let place = Both (spare_ask Uniform I64 m) (Both (Number (m + 1)) (Both (spare_ask Uniform I32 (m + 1)) (spare_ask Uniform Truth (m + 1)))) in
+    Both bounds (Both place (Both (spare_ask Uniform I64 n) (Both (Number (n + 1)) (spare_ask Uniform I64 (n + 1)))))
+
+abbrev pub last_asks : ℕ → Sweep → Ask
+last_asks i it =
+    Both (Register Varying (Variable i) I32) (Both (spare_ask Varying I32 (it.place.number + 1)) (Both (spare_ask Varying I32 it.measures.number) (Number (it.masks.number + 3))))
+
+abbrev pub sweeps_asks : List TRange → Sweep → Ask
+sweeps_asks rs it =
+    Both (measures_asks it.measures.number) (Both (bounds_asks rs it.bounds.number) (Both (places_asks rs it.place.number) (loop_asks it.masks.number)))
+
+-- the first range of all, and the one inside another
+abbrev pub first_sweep : Slot → List TRange → Sweep
+first_sweep n rs =
+    record { measures = n; masks = record { number = runs_slot n.number rs }; bounds = record { number = n.number + 1 + 1 }; place = record { number = places_slot n.number rs } }
+
+abbrev pub inner_sweep : Sweep → Sweep
+inner_sweep it =
+    record { measures = it.measures; masks = it.masks; bounds = record { number = it.bounds.number + 1 + 1 }; place = record { number = it.place.number + 1 + 1 } }
+
+-- its instructions: its beginning, the test of the last one and of another, and its step, by what a slot has
+abbrev pub range_begin : Layout → Sweep → Instr
+range_begin l it = copy Uniform (wide l it.place.number) (wide l it.bounds.number) 0
+
+abbrev pub run_test : Layout → Sweep → Instr
+run_test l it = range_mask it.masks.number (wide l it.place.number) (wide l (it.bounds.number + 1))
+
+abbrev pub place_test : Layout → Sweep → Instr
+place_test l it = compare Uniform Less (test l (it.place.number + 1)) (wide l it.place.number) (wide l (it.bounds.number + 1)) 0
+
+abbrev pub range_step : Layout → Sweep → ℕ → Instr
+range_step l it by = compute Uniform plain.Add (wide l it.place.number) (wide l it.place.number) (wide l by) 0
+
+-- the indices of ranges outside
+abbrev pub index_codes : ℕ → List OuterIndex → List Instr
+index_codes h = map (λ x. splat x.index.number x.value.number h)
+
+-- a run of the last range, and all of its runs
+abbrev pub last_run_at : Scope → ℕ → TStmt → List OuterIndex → Sweep → Piece
+last_run_at on i x set it =
+    let l = layout on in
+    let h = it.masks.number in
+    record { code = λ pc z. two pc (index_codes h set ++ last_index l i it.place.number it.measures.number h) (body_code l on.answer x h z); places = stmt_places l x }
+
+abbrev pub last_range_at : Scope → ℕ → TStmt → List OuterIndex → Sweep → Piece
+last_range_at on i x set it =
+    let l = layout on in
+    let h = it.masks.number in
+    let e = it.bounds.number in
+    let m = it.place.number in
+    let run = last_run_at on i x set it in
+    record { code = λ pc z. sweep_code l e m it.measures.number (run_test l it) (jump_off h) pc (λ pc1. run.code pc1 z); places = run.places }
+
+-- the ranges from one on; behind the beginning of a turn of the first of them; and the whole
+abbrev pub ranges_at : Scope → List TRange → TStmt → List OuterIndex → Sweep → Piece
+ranges_at on rs x set it =
+    let l = layout on in
+    let h = it.masks.number in
+    record { code = λ pc z. ranges_code l it.measures.number h (body_code l on.answer x h z) rs (index_codes h set) it.bounds.number it.place.number pc; places = stmt_places l x }
+
+abbrev pub outer_turn_code : Layout → ℕ → ℕ → (ℕ → List Instr) → List TRange → List Instr → ℕ → ℕ → ℕ → List Instr
+outer_turn_code l n h body [] set e m pc = []
+outer_turn_code l n h body (r ∷ rs) set e m pc =
+    convert Uniform (narrow l (m + 1)) (wide l m) 0 ∷ ranges_code l n h body rs (set ++ outer_index l r.index (m + 1) h ∷ []) (e + 1 + 1) (m + 1 + 1) (pc + 1)
+
+abbrev pub outer_turn_at : Scope → List TRange → TStmt → List OuterIndex → Sweep → Piece
+outer_turn_at on rs x set it =
+    let l = layout on in
+    let h = it.masks.number in
+    record { code = λ pc z. outer_turn_code l it.measures.number h (body_code l on.answer x h z) rs (index_codes h set) it.bounds.number it.place.number pc; places = stmt_places l x }
+
+abbrev pub foreach_at : Scope → List TRange → TStmt → Spot → Piece
+foreach_at on rs x spot =
+    let l = layout on in
+    let n = spot.slot.number in
+    record { code = λ pc z. foreach_code l rs pc z.place spot.masks.on.number n (body_code l on.answer x (runs_slot n rs) (past (ranges_places l rs) z)); places = ranges_places l rs ++ stmt_places l x }

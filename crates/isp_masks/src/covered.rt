@@ -1,14 +1,14 @@
 //! What has code, and the first node in the text that has none.
 ghost use Rattle.std.specs.Prelude.{◌≡◌, option_map};
 ghost use Rattle.isp_typed.specs.Typed.{t_exprs};
-ghost use Rattle.isp_typed.specs.Views.{argument_of, block_of, call_of, expr_of, exprs_of, first_of, function_of, functions_of, item_of, items_of, place_of, program_of, simple_of, stmt_of};
-ghost use Rattle.isp_masks.specs.Covered.{argument_left, block_left, call_left, expr_left, first_left, function_left, functions_left, given_left, item_left, items_left, place_left, program_left, simple_left, step_left, stmt_left, values_left};
+ghost use Rattle.isp_typed.specs.Views.{argument_of, block_of, call_of, expr_of, exprs_of, first_of, function_of, functions_of, item_of, items_of, place_of, program_of, range_of, ranges_of, simple_of, stmt_of};
+ghost use Rattle.isp_masks.specs.Covered.{argument_left, block_left, call_left, expr_left, first_left, function_left, functions_left, given_left, item_left, items_left, place_left, program_left, range_left, ranges_left, simple_left, step_left, stmt_left, values_left};
 
 use isp_base::Span;
 use isp_rates::Checked;
 use isp_typed::{
     TypedArgument, TypedBlock, TypedCall, TypedExpr, TypedFirst, TypedFunction, TypedItem,
-    TypedPlace, TypedSimple, TypedStmt,
+    TypedPlace, TypedRange, TypedSimple, TypedStmt,
 };
 
 /// The first node of an expression that has no code.
@@ -145,6 +145,24 @@ fn step(part: &Option<TypedSimple>) -> Option<Span>
     }
 }
 
+fn range(one: &TypedRange) -> Option<Span>
+    ensures { result ≡ range_left (range_of one.now) }
+{
+    expr(&one.start).or(expr(&one.end))
+}
+
+/// The first node in the bounds of a `foreach` that has no code.
+fn ranges(all: &[TypedRange]) -> Option<Span>
+    ensures { result ≡ ranges_left (ranges_of all.now) }
+{
+    for one in all {
+        if let Some(span) = range(one) {
+            return Some(span);
+        }
+    }
+    None
+}
+
 /// The first node of a statement that has no code.
 #[cycle(stmts)]
 fn stmt(s: &TypedStmt) -> Option<Span>
@@ -174,9 +192,10 @@ fn stmt(s: &TypedStmt) -> Option<Span>
         } => first(before).or(given(test).or(step(after).or(stmt(body)))),
         TypedStmt::ForeachActive { body, .. } => stmt(body),
         TypedStmt::Unmasked { body, .. } => block(body),
-        TypedStmt::Foreach { span, .. }
-        | TypedStmt::Print { span, .. }
-        | TypedStmt::Assert { span, .. } => Some(*span),
+        TypedStmt::Foreach {
+            ranges: all, body, ..
+        } => ranges(all).or(stmt(body)),
+        TypedStmt::Print { span, .. } | TypedStmt::Assert { span, .. } => Some(*span),
     }
 }
 

@@ -9,11 +9,15 @@ mod listing;
 mod looping;
 mod lowering;
 mod masks;
+mod ranges;
+mod ranges_reserved;
 mod reserved;
+mod returned;
 mod rounds;
 mod routine;
 mod sets;
 mod statement;
+mod steps;
 
 pub use covered::covered;
 pub use laws::{loops_run, lowered_agrees, statements_run};

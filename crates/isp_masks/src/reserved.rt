@@ -1,19 +1,20 @@
 //! The registers and masks that the code of statements asks for, before it is written.
 ghost use Rattle.std.specs.Prelude.{◌≡◌, ◌+◌, option_map, OnOk, IfOk};
 ghost use Rattle.isp_base.specs.declared.types.Rate.TheVariants.{Varying};
-ghost use Rattle.isp_typed.specs.Views.{block_of, expr_of, first_of, simple_of, stmt_of};
+ghost use Rattle.isp_typed.specs.Views.{block_of, expr_of, first_of, ranges_of, simple_of, stmt_of};
 ghost use Rattle.isp_lower.specs.Asks.{Both, Register as Ask, expr_asks, first_slot, operand_asks};
 ghost use Rattle.isp_lower.specs.Reserved.{Gives};
 ghost use Rattle.isp_lower.specs.Rows.{Result as ResultName};
-ghost use Rattle.isp_masks.specs.Asks.{answer_asks, block_asks, first_asks, if_asks, loop_asks, part_asks, result_asks, step_asks, stmt_asks, test_part_asks, turn_asks, turns_asks};
+ghost use Rattle.isp_masks.specs.Asks.{answer_asks, block_asks, first_asks, if_asks, loop_asks, part_asks, ranges_asks, result_asks, step_asks, stmt_asks, test_part_asks, turn_asks, turns_asks};
+ghost use Rattle.isp_masks.specs.Ranges.{runs_slot};
 
+use crate::ranges_reserved::{bounds, measures, places};
 use isp_base::{Rate, Ty};
 use isp_lower::{Reserve, Slot};
-use isp_typed::{TypedBlock, TypedExpr, TypedFirst, TypedSimple, TypedStmt};
+use isp_typed::{TypedBlock, TypedExpr, TypedFirst, TypedRange, TypedSimple, TypedStmt};
 use std::alloc::AllocError;
 
-/// What the code of a statement asks for, in the slots from one on; nothing is asked for what has no code yet. Memory is
-/// refused of a `foreach`, which no writer writes yet.
+/// What the code of a statement asks for, in the slots from one on; nothing is asked for what has no code yet.
 #[cycle(stmt)]
 fn stmt(r: &mut Reserve, x: &TypedStmt, answer: Option<Ty>, slot: Slot) -> Result<(), AllocError>
     ensures { OnOk result (Gives r.old r.new (stmt_asks answer (stmt_of x.now) slot.number)) }
@@ -47,7 +48,7 @@ fn stmt(r: &mut Reserve, x: &TypedStmt, answer: Option<Ty>, slot: Slot) -> Resul
         }
         TypedStmt::ForeachActive { index, body, .. } => active_loop(r, *index, body, answer, slot),
         TypedStmt::Unmasked { body, .. } => unmasked(r, body, answer, slot),
-        TypedStmt::Foreach { .. } => Err(AllocError),
+        TypedStmt::Foreach { ranges, body, .. } => range_loop(r, ranges, body, answer, slot),
         TypedStmt::Jump { .. } | TypedStmt::Print { .. } | TypedStmt::Assert { .. } => Ok(()),
     }
 }
@@ -215,6 +216,34 @@ fn active_loop(
     let one = r.next(slot)?;
     r.mask(slot)?;
     let parts = own(r, one)?;
+    stmt(r, body, answer, parts)?;
+    Ok(())
+}
+
+/// What a `foreach` asks for besides its body, and the slot of the body.
+fn ranges(r: &mut Reserve, all: &[TypedRange], slot: Slot) -> Result<Slot, AllocError>
+    ensures number { IfOk result (λ n. n.number ≡ runs_slot slot.number (ranges_of all.now) + 3) }
+    ensures gives { OnOk result (Gives r.old r.new (ranges_asks (ranges_of all.now) slot.number)) }
+{
+    let first = measures(r, slot)?;
+    let behind = bounds(r, all, first)?;
+    let masks = places(r, all, behind)?;
+    let parts = own(r, masks)?;
+    Ok(parts)
+}
+
+/// `foreach`, whose indices have registers from the beginning.
+#[cycle(stmt)]
+fn range_loop(
+    r: &mut Reserve,
+    all: &[TypedRange],
+    body: &TypedStmt,
+    answer: Option<Ty>,
+    slot: Slot,
+) -> Result<(), AllocError>
+    ensures { OnOk result (Gives r.old r.new (Both (ranges_asks (ranges_of all.now) slot.number) (stmt_asks answer (stmt_of body.now) (runs_slot slot.number (ranges_of all.now) + 3)))) }
+{
+    let parts = ranges(r, all, slot)?;
     stmt(r, body, answer, parts)?;
     Ok(())
 }

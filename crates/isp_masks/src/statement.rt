@@ -1,35 +1,39 @@
 //! The code of statements. A mask has the lanes that run a statement, and afterwards those that went on; those that
 //! continued and those that returned are added to two others.
-ghost use Rattle.std.specs.Prelude.{◌<◌, ◌+◌, option_map, true, false, OnOk};
+ghost use Rattle.std.specs.Prelude.{◌<◌, ◌+◌, length, option_map, OnOk};
 ghost use Rattle.isp_base.specs.declared.types.Elem.TheVariants.{I64};
 ghost use Rattle.isp_base.specs.declared.types.Rate.TheVariants.{Uniform, Varying};
-ghost use Rattle.isp_typed.specs.Typed.{t_return, type_of};
-ghost use Rattle.isp_typed.specs.Views.{block_of, expr_of, first_of, simple_of, stmt_of};
+ghost use Rattle.isp_typed.specs.Typed.{type_of};
+ghost use Rattle.isp_typed.specs.Views.{block_of, expr_of, ranges_of, simple_of, stmt_of};
 ghost use Rattle.isp_lower.specs.Asks.{Register as Ask, expr_asks, first_slot};
 ghost use Rattle.isp_lower.specs.Emitted.{Present};
 ghost use Rattle.isp_lower.specs.Rows.{Variable};
-ghost use Rattle.isp_masks.specs.Asks.{answer_asks, block_asks, first_asks, part_asks, step_asks, stmt_asks, test_part_asks};
-ghost use Rattle.isp_masks.specs.Exits.{nobody_leaves};
-ghost use Rattle.isp_masks.specs.Written.{Writes, active_at, again_at, answer_at, block_at, do_at, first_at, for_turn_at, guarded_at, if_at, if_else_at, live_again_at, part_at, parts_at, passed_at, step_at, step_back_at, stepped_at, stmt_at, turn_at, turns_at, unmasked_at, while_at, while_turn_at};
+ghost use Rattle.isp_masks.specs.Asks.{block_asks, part_asks, ranges_asks, step_asks, stmt_asks, test_part_asks};
+ghost use Rattle.isp_masks.specs.Ranges.{runs_slot};
+ghost use Rattle.isp_masks.specs.Written.{Writes, active_at, block_at, do_at, for_turn_at, foreach_at, guarded_at, if_at, if_else_at, last_asks, last_range_at, last_run_at, outer_turn_at, part_at, parts_at, passed_at, ranges_at, stepped_at, stmt_at, sweep_asks, sweeps_asks, turn_at, turns_at, unmasked_at, while_at, while_turn_at};
 
 use crate::awaited::{land_all, leave_room};
 use crate::exits::{all_go_on, exits_of};
 use crate::looping::{
-    Loop, Test, again, back, clear_where, copy_mask, enter, inside, join_where, land_sift,
-    leave_loop, next, sift,
+    Loop, Test, back, clear_where, copy_mask, enter, inside, join_where, land_sift, leave_loop,
+    next, sift,
 };
 use crate::masks::{Masks, Spot};
-use crate::rounds::{fill_mask, take_lane};
-use crate::sets::{jump, leave, part, unite};
-use isp_base::{Elem, Rate, Span, Ty};
-use isp_code::{Instr, JumpTest};
-use isp_lower::{
-    Body, RegisterNumber, Scope, Site, Slot, copy, declared, expr, mask, operand, scalar, simple,
+use crate::ranges::{
+    OuterIndex, Sweep, begin, bounds, go_on, index, last_index, measures, outer_indices,
+    outer_value, test_place, test_run, tested,
 };
-use isp_typed::{TypedBlock, TypedExpr, TypedFirst, TypedSimple, TypedStmt};
+use crate::returned::returns;
+use crate::rounds::{fill_mask, take_lane};
+use crate::sets::{jump, part, unite};
+use crate::steps::{first_part, live_again, step_back};
+use isp_base::{Elem, Rate, Ty};
+use isp_code::{Instr, JumpTest};
+use isp_lower::{Body, RegisterNumber, Scope, Site, declared, expr, mask, scalar, simple};
+use isp_typed::{TypedBlock, TypedExpr, TypedRange, TypedSimple, TypedStmt};
 use std::alloc::AllocError;
 
-/// The code of a statement. Memory is refused too of what nothing writes yet: `foreach`, `print` and `assert`.
+/// The code of a statement. Memory is refused too of what nothing writes yet: `print` and `assert`.
 #[cycle(stmt)]
 pub(crate) fn stmt(b: &mut Body, on: &Scope, x: &TypedStmt, spot: Spot) -> Result<(), AllocError>
     requires { Present on.now (stmt_asks on.now.answer (stmt_of x.now) spot.slot.number) }
@@ -66,9 +70,8 @@ pub(crate) fn stmt(b: &mut Body, on: &Scope, x: &TypedStmt, spot: Spot) -> Resul
         }
         TypedStmt::ForeachActive { index, body, .. } => active_loop(b, on, *index, body, spot),
         TypedStmt::Unmasked { body, .. } => unmasked(b, on, body, spot),
-        TypedStmt::Foreach { .. } | TypedStmt::Print { .. } | TypedStmt::Assert { .. } => Err(
-            AllocError,
-        ),
+        TypedStmt::Foreach { ranges, body, .. } => foreach(b, on, ranges, body, spot),
+        TypedStmt::Print { .. } | TypedStmt::Assert { .. } => Err(AllocError),
     }
 }
 
@@ -93,50 +96,6 @@ pub(crate) fn block(
     }
     land_all(b, jumps.as_slice(), spot.masks.on);
     Ok(())
-}
-
-/// A value where results are.
-fn answered(b: &mut Body, on: &Scope, x: &TypedExpr, site: Site) -> Result<(), AllocError>
-    requires { Present on.now (answer_asks on.now.answer (expr_of x.now) site.slot.number) }
-    ensures { OnOk result (Writes b.old b.new (answer_at on.now (expr_of x.now) site.mask.number site.slot.number)) }
-{
-    match on.answer {
-        None => {
-            expr(b, on, x, site)?;
-            Ok(())
-        }
-        Some(ty) => {
-            let from = operand(b, on, ty.rate, x, site)?;
-            let to = on.result(ty);
-            b.push(copy(ty.rate, to, from, site.mask))?;
-            Ok(())
-        }
-    }
-}
-
-/// `return`: the value, if there is one, then the lanes leave.
-fn returns(
-    b: &mut Body,
-    on: &Scope,
-    keyword: Span,
-    value: &Option<TypedExpr>,
-    span: Span,
-    spot: Spot,
-) -> Result<(), AllocError>
-    requires { Present on.now (stmt_asks on.now.answer (t_return keyword (option_map expr_of value.now) span) spot.slot.number) }
-    ensures { OnOk result (Writes b.old b.new (stmt_at on.now (t_return keyword (option_map expr_of value.now) span) spot)) }
-{
-    match value {
-        None => {
-            leave(b, spot.masks.returned, spot.masks.on)?;
-            Ok(())
-        }
-        Some(x) => {
-            answered(b, on, x, spot.site())?;
-            leave(b, spot.masks.returned, spot.masks.on)?;
-            Ok(())
-        }
-    }
 }
 
 /// An `if` without `else`: its test, and the part.
@@ -448,46 +407,6 @@ fn do_loop(
     Ok(())
 }
 
-/// The test of a `do` and the jump back, if somebody is live.
-fn live_again(b: &mut Body, on: &Scope, test: &TypedExpr, it: Loop) -> Result<(), AllocError>
-    requires slots { it.slot.number + 3 < 4294967296 }
-    requires test { Present on.now (expr_asks (expr_of test.now) (it.slot.number + 3)) }
-    ensures { OnOk result (Writes b.old b.new (live_again_at on.now (nobody_leaves it.exits) (expr_of test.now) it)) }
-{
-    if it.exits.is_none() {
-        tested_again(b, on, test, it)
-    } else {
-        some_again(b, on, test, it)
-    }
-}
-
-/// The same, jumped over where nobody is live.
-fn some_again(b: &mut Body, on: &Scope, test: &TypedExpr, it: Loop) -> Result<(), AllocError>
-    requires slots { it.slot.number + 3 < 4294967296 }
-    requires test { Present on.now (expr_asks (expr_of test.now) (it.slot.number + 3)) }
-    ensures { OnOk result (Writes b.old b.new (live_again_at on.now false (expr_of test.now) it)) }
-{
-    let at = b.code.len();
-    b.push(Instr::JumpIf(JumpTest::Off, mask(it.slot.mask()), 0))?;
-    tested_again(b, on, test, it)?;
-    b.land(at, JumpTest::Off, mask(it.slot.mask()));
-    Ok(())
-}
-
-fn tested_again(b: &mut Body, on: &Scope, test: &TypedExpr, it: Loop) -> Result<(), AllocError>
-    requires slots { it.slot.number + 3 < 4294967296 }
-    requires test { Present on.now (expr_asks (expr_of test.now) (it.slot.number + 3)) }
-    ensures { OnOk result (Writes b.old b.new (again_at on.now (expr_of test.now) it)) }
-{
-    let tested = expr(b, on, test, inside(it.slot))?;
-    let given = Test {
-        rate: test.ty().rate,
-        register: tested,
-    };
-    again(b, given, it)?;
-    Ok(())
-}
-
 /// `unmasked`: the block, for all lanes.
 #[cycle(stmt)]
 fn unmasked(b: &mut Body, on: &Scope, body: &TypedBlock, spot: Spot) -> Result<(), AllocError>
@@ -524,23 +443,6 @@ fn active_loop(
     stmt(b, on, body, Spot::own(spot.slot.next()))?;
     b.push(Instr::JumpIf(JumpTest::On, mask(spot.slot.mask()), top))?;
     Ok(())
-}
-
-/// The first part of a `for`.
-fn first_part(
-    b: &mut Body,
-    on: &Scope,
-    first: &Option<TypedFirst>,
-    site: Site,
-) -> Result<(), AllocError>
-    requires { Present on.now (first_asks (option_map first_of first.now) site.slot.number) }
-    ensures { OnOk result (Writes b.old b.new (first_at on.now (option_map first_of first.now) site.mask.number site.slot.number)) }
-{
-    match first {
-        None => Ok(()),
-        Some(TypedFirst::Declare { items, .. }) => declared(b, on, items, site),
-        Some(TypedFirst::Simple(x)) => simple(b, on, x, site),
-    }
 }
 
 /// A `for` behind its first part.
@@ -641,65 +543,149 @@ fn stepped_turn(
     Ok(())
 }
 
-/// The step and the jump back, if somebody is live.
-fn step_back(
+/// `foreach`: what all runs use, the bounds, then the ranges.
+#[cycle(stmt)]
+fn foreach(
     b: &mut Body,
     on: &Scope,
-    step: &Option<TypedSimple>,
-    it: Loop,
+    all: &[TypedRange],
+    body: &TypedStmt,
+    spot: Spot,
 ) -> Result<(), AllocError>
-    requires slots { it.slot.number + 3 < 4294967296 }
-    requires step { Present on.now (step_asks (option_map simple_of step.now) (it.slot.number + 3)) }
-    ensures { OnOk result (Writes b.old b.new (step_back_at on.now (nobody_leaves it.exits) (option_map simple_of step.now) it)) }
+    requires ranges { Present on.now (ranges_asks (ranges_of all.now) spot.slot.number) }
+    requires body { Present on.now (stmt_asks on.now.answer (stmt_of body.now) (runs_slot spot.slot.number (ranges_of all.now) + 3)) }
+    ensures { OnOk result (Writes b.old b.new (foreach_at on.now (ranges_of all.now) (stmt_of body.now) spot)) }
 {
-    if it.exits.is_none() {
-        stepped(b, on, step, it)
-    } else {
-        some_stepped(b, on, step, it)
+    let it = Sweep::first(spot.slot, all);
+    let site = Site {
+        mask: spot.masks.on,
+        slot: it.bounds,
+    };
+    measures(b, on, spot.slot, it.masks.mask())?;
+    bounds(b, on, all, site)?;
+    let none = Vec::new(*b.code.allocator());
+    ranges(b, on, all, body, none, it)?;
+    Ok(())
+}
+
+/// The ranges from one on. Memory is refused too where there is none, which names and types rule out.
+#[cycle(stmt)]
+fn ranges(
+    b: &mut Body,
+    on: &Scope,
+    all: &[TypedRange],
+    body: &TypedStmt,
+    set: Vec<OuterIndex>,
+    it: Sweep,
+) -> Result<(), AllocError>
+    requires ranges { Present on.now (sweeps_asks (ranges_of all.now) it) }
+    requires body { Present on.now (stmt_asks on.now.answer (stmt_of body.now) (it.masks.number + 3)) }
+    ensures { OnOk result (Writes b.old b.new (ranges_at on.now (ranges_of all.now) (stmt_of body.now) set.items it)) }
+{
+    match all {
+        [] => Err(AllocError),
+        [last] => last_range(b, on, last.index, body, set, it),
+        _ => outer_range(b, on, all, body, set, it),
     }
 }
 
-/// The same, jumped over where nobody is live.
-fn some_stepped(
+/// The last range, in runs of as many numbers as there are lanes.
+#[cycle(stmt)]
+fn last_range(
     b: &mut Body,
     on: &Scope,
-    step: &Option<TypedSimple>,
-    it: Loop,
+    variable: usize,
+    body: &TypedStmt,
+    set: Vec<OuterIndex>,
+    it: Sweep,
 ) -> Result<(), AllocError>
-    requires slots { it.slot.number + 3 < 4294967296 }
-    requires step { Present on.now (step_asks (option_map simple_of step.now) (it.slot.number + 3)) }
-    ensures { OnOk result (Writes b.old b.new (step_back_at on.now false (option_map simple_of step.now) it)) }
+    requires range { Present on.now (sweep_asks it) }
+    requires index { Present on.now (last_asks variable it) }
+    requires body { Present on.now (stmt_asks on.now.answer (stmt_of body.now) (it.masks.number + 3)) }
+    ensures { OnOk result (Writes b.old b.new (last_range_at on.now variable (stmt_of body.now) set.items it)) }
 {
+    begin(b, on, it)?;
+    let top = next(b);
+    test_run(b, on, it)?;
     let at = b.code.len();
-    b.push(Instr::JumpIf(JumpTest::Off, mask(it.slot.mask()), 0))?;
-    stepped(b, on, step, it)?;
-    b.land(at, JumpTest::Off, mask(it.slot.mask()));
+    b.push(Instr::Jump(0))?;
+    last_run(b, on, variable, body, set, it)?;
+    go_on(b, on, it, it.measures, top)?;
+    b.land(at, JumpTest::Off, mask(it.masks.mask()));
     Ok(())
 }
 
-fn stepped(b: &mut Body, on: &Scope, step: &Option<TypedSimple>, it: Loop) -> Result<(), AllocError>
-    requires slots { it.slot.number + 3 < 4294967296 }
-    requires step { Present on.now (step_asks (option_map simple_of step.now) (it.slot.number + 3)) }
-    ensures { OnOk result (Writes b.old b.new (step_back_at on.now true (option_map simple_of step.now) it)) }
-{
-    step_part(b, on, step, it.slot)?;
-    b.push(Instr::Jump(it.top))?;
-    Ok(())
-}
-
-/// The step of a `for`.
-fn step_part(
+/// A run of the last range: the indices, and the body.
+#[cycle(stmt)]
+fn last_run(
     b: &mut Body,
     on: &Scope,
-    step: &Option<TypedSimple>,
-    slot: Slot,
+    variable: usize,
+    body: &TypedStmt,
+    set: Vec<OuterIndex>,
+    it: Sweep,
 ) -> Result<(), AllocError>
-    requires slots { slot.number + 3 < 4294967296 }
-    requires step { Present on.now (step_asks (option_map simple_of step.now) (slot.number + 3)) }
-    ensures { OnOk result (Writes b.old b.new (step_at on.now (option_map simple_of step.now) slot.number)) }
+    requires index { Present on.now (last_asks variable it) }
+    requires body { Present on.now (stmt_asks on.now.answer (stmt_of body.now) (it.masks.number + 3)) }
+    ensures { OnOk result (Writes b.old b.new (last_run_at on.now variable (stmt_of body.now) set.items it)) }
 {
-    match step {
-        None => Ok(()),
-        Some(x) => simple(b, on, x, inside(slot)),
-    }
+    outer_indices(b, &set, it.masks.mask())?;
+    last_index(b, on, variable, it)?;
+    stmt(b, on, body, Spot::own(it.masks))?;
+    Ok(())
+}
+
+/// A range that has others inside: one number after the other.
+#[cycle(stmt)]
+fn outer_range(
+    b: &mut Body,
+    on: &Scope,
+    all: &[TypedRange],
+    body: &TypedStmt,
+    set: Vec<OuterIndex>,
+    it: Sweep,
+) -> Result<(), AllocError>
+    requires many { 1 < length all.now }
+    requires range { Present on.now (sweep_asks it) }
+    requires ranges { Present on.now (sweeps_asks (ranges_of all.now) it) }
+    requires body { Present on.now (stmt_asks on.now.answer (stmt_of body.now) (it.masks.number + 3)) }
+    ensures { OnOk result (Writes b.old b.new (ranges_at on.now (ranges_of all.now) (stmt_of body.now) set.items it)) }
+{
+    begin(b, on, it)?;
+    let top = next(b);
+    test_place(b, on, it)?;
+    let at = b.code.len();
+    b.push(Instr::Jump(0))?;
+    outer_turn(b, on, all, body, set, it)?;
+    go_on(b, on, it, it.measures.next(), top)?;
+    b.land(at, JumpTest::False, scalar(tested(on, it.place.next())));
+    Ok(())
+}
+
+/// A turn of it: its index, which the last range sets with its own, and the ranges inside.
+#[cycle(stmt)]
+fn outer_turn(
+    b: &mut Body,
+    on: &Scope,
+    all: &[TypedRange],
+    body: &TypedStmt,
+    set: Vec<OuterIndex>,
+    it: Sweep,
+) -> Result<(), AllocError>
+    requires range { Present on.now (sweep_asks it) }
+    requires ranges { Present on.now (sweeps_asks (ranges_of all.now) it) }
+    requires body { Present on.now (stmt_asks on.now.answer (stmt_of body.now) (it.masks.number + 3)) }
+    ensures { OnOk result (Writes b.old b.new (outer_turn_at on.now (ranges_of all.now) (stmt_of body.now) set.items it)) }
+{
+    let [range, inner @ ..] = all else {
+        return Err(AllocError);
+    };
+    let mut set = set;
+    let value = outer_value(b, on, it)?;
+    set.push(OuterIndex {
+        index: index(on, range.index),
+        value,
+    })?;
+    ranges(b, on, inner, body, set, it.inner())?;
+    Ok(())
 }

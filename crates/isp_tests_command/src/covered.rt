@@ -76,12 +76,8 @@ fn first_node_not_yet(rt: HostRuntime) -> Result<(), Fail> {
             "90 NotYet at 41..66",
         ),
         (
-            "export void f() { { { foreach (i = 0 ... abs(4)) f(); } } }",
-            "90 NotYet at 22..53",
-        ),
-        (
-            "export void f() { foreach_tiled (j = 0 ... 2, i = 0 ... 4) ; }",
-            "90 NotYet at 18..60",
+            "export void f(uniform int a[]) { foreach (i = 0 ... packed_store_active(a, 4)) f(a); }",
+            "90 NotYet at 52..77",
         ),
         (
             "export void f(uniform int a[]) { return; foreach_active (i) packed_store_active(a, 1); }",
@@ -114,6 +110,8 @@ fn compiled(rt: HostRuntime) -> Result<(), Fail> {
         "export void f() { int x; }",
         "export void f() { return; foreach_active (i) f(); }",
         "export void f() { unmasked { f(); } }",
+        "export void f() { { { foreach (i = 0 ... 4) f(); } } }",
+        "export void f() { foreach_tiled (j = 0 ... 2, i = 0 ... 4) ; }",
         "export void f() { int x = 1, y = 2; }",
         "export void f() { const int x = 1; }",
         "export void f(const uniform int x) { }",

@@ -12,6 +12,7 @@ use std::alloc::{AllocError, Global};
 use std::process::Abort;
 use std::test::Fail;
 
+mod foreach;
 mod worked;
 
 /// A program, how its entry is called, and what comes out.
@@ -98,6 +99,11 @@ fn compare_all(rt: &impl Abort, alloc: Global, table: &str, count: usize) -> Res
 #[test]
 fn worked_examples(rt: HostRuntime) -> Result<(), Fail> {
     compare_all(&rt, rt.alloc(), worked::ROWS, worked::COUNT)
+}
+
+#[test]
+fn foreach_examples(rt: HostRuntime) -> Result<(), Fail> {
+    compare_all(&rt, rt.alloc(), foreach::ROWS, foreach::COUNT)
 }
 
 // A loop without an end goes on at every budget, and prints nothing.

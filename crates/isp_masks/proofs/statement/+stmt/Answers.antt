@@ -1,14 +1,14 @@
-use Rattle.std.proofs.Common.{◌≡◌, ◌≤◌, ℕ, [], ◌∷◌, ◌++◌, length, sym, ap, subst, ◌∙◌, arith, false, not, suc, take_all, append-nil}
+use Rattle.std.proofs.Common.{◌≡◌, ◌≤◌, ℕ, [], ◌∷◌, ◌++◌, length, sym, ap, subst, ◌∙◌, arith, false, not, suc, take_all, append-nil, ◌<◌, ◌+◌}
 use Rattle.std.specs.Prelude.{option_map}
 use Rattle.isp_code.specs.declared.instr.JumpTest.TheVariants as jump
-use Rattle.isp_lower.specs.Code.{jump_off, jump_on, two}
+use Rattle.isp_lower.specs.Code.{jump_off, jump_on, two, compare, compute, copy}
 use Rattle.isp_lower.specs.Emitted.{Appends, Present, layout}
 use Rattle.isp_lower.specs.declared.sites.Site.{Site}
 use Rattle.isp_lower.proofs.Lemmas.{appends_then, chosen, landed}
 use Rattle.isp_typed.specs.Nodes.{block_nodes, stmts_nodes}
-use Rattle.isp_typed.specs.Typed.{TBlock, TStmt, t_braces, t_if, t_if_else, t_while, t_for, t_stmts}
-use Rattle.isp_typed.specs.Views.{block_of, expr_of, first_of, simple_of, stmt_of, stmts_of}
-use Rattle.isp_typed.proofs.StmtViews.{if_view, if_else_view, while_view, for_view}
+use Rattle.isp_typed.specs.Typed.{TBlock, TStmt, t_braces, t_if, t_if_else, t_while, t_for, t_stmts, t_foreach}
+use Rattle.isp_typed.specs.Views.{block_of, expr_of, first_of, simple_of, stmt_of, stmts_of, ranges_of}
+use Rattle.isp_typed.proofs.StmtViews.{if_view, if_else_view, while_view, for_view, foreach_view}
 use Rattle.std.proofs.lemmas.Result.{on_ok_weaker}
 use Rattle.isp_masks.specs.Awaited.{AreBelow, Awaits, set_all}
 use Rattle.isp_masks.specs.Exits.{nobody_leaves}
@@ -16,12 +16,18 @@ use Rattle.isp_masks.specs.Fors.{first_code, first_places, step_places, test_pla
 use Rattle.isp_masks.specs.Loops.{back_code, sift_jump, turn_code}
 use Rattle.isp_masks.specs.Spots.{spot_of}
 use Rattle.isp_masks.specs.Statements.{block_code, block_places, body_code, stepped_code, stmt_code, stmt_places, stmts_code, stmts_places, turns_code}
-use Rattle.isp_masks.specs.Written.{numbers}
+use Rattle.isp_masks.specs.Written.{numbers, index_codes, outer_turn_code}
 use Rattle.isp_masks.proofs.Awaiting.{awaits_end}
 use Rattle.isp_masks.proofs.Forms.{list_step, nodes_low, stmts_more}
 use Rattle.isp_masks.proofs.Lists.{flat, flat_is}
 use Rattle.isp_masks.proofs.Sifting.{for_written, if_else_written, sifted}
 use Rattle.isp_masks.proofs.Views.{block_view}
+use Rattle.isp_base.specs.declared.operators.Compare.TheVariants.{Less}
+use Rattle.isp_base.specs.declared.types.Rate.TheVariants.{Uniform}
+use Rattle.isp_code.specs.declared.instr.Instr.TheVariants as instr
+use Rattle.isp_code.specs.declared.instr.Plain.TheVariants as plain
+use Rattle.isp_masks.specs.Ranges.{last_index, range_mask, runs_slot, test, wide}
+use Rattle.isp_masks.proofs.RangesWritten.{foreach_written, ranges_count, ranges_outer, sweep_written}
 use Rattle.isp_masks.proofs.statement.+stmt.Goals as goal
 
 pub stmt-returns-in-If : goal.stmt-returns-in-If
@@ -177,3 +183,63 @@ stmt-returns-in_ok-first_part-in-For t c =
     (for_written a.b.now c.turns.new.b l h e.form e.before first o y e.inside x e.span s
     (appends_then a.b.now c.first_part.new.b c.turns.new.b (λ pc p. first_code l first pc p s.on s.slot) (λ pc p. turns_code l h o y x pc (numbers p) s) (first_places l first) (test_places l o ++ (stmt_places l x ++ step_places l y)) begun w))))
     c.turns.ensures
+
+pub stmt-returns-in-Foreach : goal.stmt-returns-in-Foreach
+stmt-returns-in-Foreach t c =
+    let a = c.args in
+    let l = layout a.on.now in
+    let h = a.on.now.answer in
+    let e = c.in-Foreach in
+    let so = λ (z : TStmt). Appends a.b.now c.foreach.new.b (λ pc p. stmt_code l h z pc (numbers p) (spot_of a.spot)) (stmt_places l z) in
+    on_ok_weaker c.foreach.result
+    (λ w. subst so (sym (ap stmt_of e.is ∙ foreach_view e.keyword e.before e.ranges e.body e.span))
+    (subst (λ rs. so (t_foreach e.keyword e.before (ranges_of rs) (stmt_of e.body.value) e.span)) c.deref-in-Foreach.ensures.value
+    (subst (λ y. so (t_foreach e.keyword e.before (ranges_of c.deref-in-Foreach.result.now) (stmt_of y) e.span)) c.deref-in-Foreach-2.ensures w)))
+    c.foreach.ensures
+
+pub foreach-returns : goal.foreach-returns
+foreach-returns t c =
+    let a = c.args in
+    let l = layout a.on.now in
+    let rs = ranges_of a.all.now in
+    let x = stmt_of a.body.now in
+    let n = a.spot.slot.number in
+    foreach_written l a.b.now c.measures.new.b c.bounds.new.b c.ranges.new.b rs a.spot.masks.on.number n (λ p. body_code l a.on.now.answer x (runs_slot n rs) (numbers p)) (stmt_places l x)
+    (cc) (cc) (cc)
+
+pub last_range-returns : goal.last_range-returns
+last_range-returns t c =
+    let a = c.args in
+    let l = layout a.on.now in
+    let h = a.it.masks.number in
+    let m = a.it.place.number in
+    let e = a.it.bounds.number in
+    let n = a.it.measures.number in
+    let x = stmt_of a.body.now in
+    let set = index_codes h a.set.items in
+    sweep_written a.b.now c.begin.new.b c.test_run.new.b c.push.new.self c.last_run.new.b c.go_on.new.b c.land.new.self
+    (copy Uniform (wide l m) (wide l e) 0) (range_mask h (wide l m) (wide l (e + 1))) (instr.Jump 0) (compute Uniform plain.Add (wide l m) (wide l m) (wide l n) 0) (jump_off h)
+    (λ pc p. two pc (set ++ last_index l a.variable m n h) (body_code l a.on.now.answer x h (numbers p))) (stmt_places l x) c.next-top.result c.len-at.result
+    c.in_ok-begin.ensures c.next-top.ensures c.in_ok-test_run.ensures (c.len-at.ensures ∙ c.test_run.new.b.code.ok.0) c.in_ok-push.ensures c.in_ok-last_run.ensures c.in_ok-go_on.ensures (cc) c.land.ensures.places
+
+pub outer_range-returns : goal.outer_range-returns
+outer_range-returns t c =
+    let a = c.args in
+    let l = layout a.on.now in
+    let h = a.it.masks.number in
+    let m = a.it.place.number in
+    let e = a.it.bounds.number in
+    let n = a.it.measures.number in
+    let rs = ranges_of a.all.now in
+    let x = stmt_of a.body.now in
+    let set = index_codes h a.set.items in
+    let body = λ (p : ℕ). body_code l a.on.now.answer x h (numbers p) in
+    let many : 1 < length rs = subst (λ i. 1 < i) (sym (ranges_count a.all.now)) c.requires.many in
+    let z = sweep_written a.b.now c.begin.new.b c.test_place.new.b c.push.new.self c.outer_turn.new.b c.go_on.new.b c.land.new.self
+    (copy Uniform (wide l m) (wide l e) 0) (compare Uniform Less (test l (m + 1)) (wide l m) (wide l (e + 1)) 0) (instr.Jump 0) (compute Uniform plain.Add (wide l m) (wide l m) (wide l (n + 1)) 0) (jump_on jump.False (test l (m + 1)))
+    (λ pc p. outer_turn_code l n h (body p) rs set e m pc) (stmt_places l x) c.next-top.result c.len-at.result
+    c.in_ok-begin.ensures c.next-top.ensures c.in_ok-test_place.ensures (c.len-at.ensures ∙ c.test_place.new.b.code.ok.0) c.in_ok-push.ensures c.in_ok-outer_turn.ensures (cc) (cc) c.land.ensures.places in
+    record {
+      code = z.code ∙ ap (λ is. a.b.now.code.items ++ is) (ranges_outer l n h (body (length a.b.now.places.items)) rs set e m (length a.b.now.code.items) many);
+      places = z.places;
+    }

@@ -1,6 +1,6 @@
--- The recursion goes down the tree. In the loop: the statements so far, with their jumps to the end not written yet, and what
+-- The recursion goes down the tree, and from a range to those inside. In the loop: the statements so far, with their jumps to the end not written yet, and what
 -- the others ask for is there.
-use Rattle.std.proofs.Common.{◌≡◌, ◌+◌, ◌-◌, ◌*◌, take, drop, false}
+use Rattle.std.proofs.Common.{◌≡◌, ◌+◌, ◌-◌, ◌*◌, take, drop, false, length}
 use Rattle.isp_typed.specs.Nodes.{stmt_nodes, block_nodes}
 use Rattle.isp_typed.specs.Typed.{t_stmts}
 use Rattle.isp_typed.specs.Views.{block_of, stmt_of, stmts_of}
@@ -75,6 +75,24 @@ decreases-for_turn l = 8 * stmt_nodes (stmt_of l.body.now) + 4
 
 abbrev pub decreases-turns : goal.decreases-turns
 decreases-turns l = 8 * stmt_nodes (stmt_of l.body.now) + 5
+
+abbrev pub decreases-foreach : goal.decreases-foreach
+decreases-foreach l = 8 * (stmt_nodes (stmt_of l.body.now) + length l.all.now) + 6
+
+abbrev pub decreases-ranges : goal.decreases-ranges
+decreases-ranges l = 8 * (stmt_nodes (stmt_of l.body.now) + length l.all.now) + 5
+
+abbrev pub decreases-outer_range : goal.decreases-outer_range
+decreases-outer_range l = 8 * (stmt_nodes (stmt_of l.body.now) + length l.all.now) + 4
+
+abbrev pub decreases-outer_turn : goal.decreases-outer_turn
+decreases-outer_turn l = 8 * (stmt_nodes (stmt_of l.body.now) + length l.all.now) + 3
+
+abbrev pub decreases-last_range : goal.decreases-last_range
+decreases-last_range l = 8 * stmt_nodes (stmt_of l.body.now) + 4
+
+abbrev pub decreases-last_run : goal.decreases-last_run
+decreases-last_run l = 8 * stmt_nodes (stmt_of l.body.now) + 2
 
 abbrev pub invariant-block-loop-x : goal.invariant-block-loop-x
 invariant-block-loop-x l =

@@ -9,7 +9,7 @@ use Rattle.isp_lower.specs.declared.numbered.MaskNumber.{MaskNumber}
 use Rattle.isp_lower.proofs.Lemmas.{landed}
 use Rattle.isp_typed.specs.Views.{simple_of}
 use Rattle.isp_masks.specs.Fors.{step_code, step_places}
-use Rattle.isp_masks.proofs.statement.some_stepped.Goals as goal
+use Rattle.isp_masks.proofs.steps.some_stepped.Goals as goal
 
 pub returns : goal.returns
 returns c =

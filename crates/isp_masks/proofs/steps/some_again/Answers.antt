@@ -10,7 +10,7 @@ use Rattle.isp_lower.proofs.Lemmas.{landed}
 use Rattle.isp_typed.specs.Typed.{type_of}
 use Rattle.isp_typed.specs.Views.{expr_of}
 use Rattle.isp_masks.specs.Loops.{again_code}
-use Rattle.isp_masks.proofs.statement.some_again.Goals as goal
+use Rattle.isp_masks.proofs.steps.some_again.Goals as goal
 
 pub returns : goal.returns
 returns c =

@@ -1,0 +1,5 @@
+use Rattle.isp_lower.proofs.Lemmas.{both_given}
+use Rattle.isp_masks.proofs.ranges_reserved.bound.Goals as goal
+
+pub returns : goal.returns
+returns c = both_given _ _ _ _ _ c.in_ok-spare.ensures c.in_ok-expr.ensures

@@ -1,0 +1,32 @@
+use Rattle.std.proofs.Common.{ap, sym, subst, arith, length}
+use Rattle.isp_lower.specs.Reserved.{Gives}
+use Rattle.isp_lower.proofs.Lemmas.{both_given, gives_none}
+use Rattle.isp_masks.specs.Asks.{bounds_asks}
+use Rattle.isp_masks.proofs.RangesAsked.{ranges_end, ranges_more}
+use Rattle.isp_masks.proofs.ranges_reserved.bounds.Goals as goal
+
+pub loop-x-preserved : goal.loop-x-preserved
+loop-x-preserved c =
+    let more = ranges_more c.args.all.now c.loop-x.x-index c.x-item.result c.loop-x-test.true c.x-item.is in
+    let second = c.in_ok-second.ensures.number in
+    let next = c.in_ok-at.ensures.number in
+    let long = ap length more in
+    let was = c.loop-x.invariant.1 in
+    (λ k g.
+    c.loop-x.invariant.0 k
+    (subst (λ zs. Gives c.loop-x.r k (bounds_asks zs c.loop-x.at.number)) (sym more)
+    (both_given _ _ _ _ _ c.in_ok-bound.ensures
+    (both_given _ _ _ _ _ (rw second at c.in_ok-second.ensures.gives)
+    (both_given _ _ _ _ _ (rw second at c.in_ok-bound-2.ensures)
+    (both_given _ _ _ _ _ (rw (next, second) at c.in_ok-at.ensures.gives) (rw (next, second) at g)))))), omega (arith, was, long, second, next))
+
+pub returns-clause-gives : goal.returns-clause-gives
+returns-clause-gives c =
+    c.loop-x.invariant.0 c.loop-x.r
+    (subst (λ zs. Gives c.loop-x.r c.loop-x.r (bounds_asks zs c.loop-x.at.number)) (sym (ranges_end c.args.all.now c.loop-x.x-index c.loop-x-test.false)) (gives_none c.loop-x.r))
+
+pub returns-clause-number : goal.returns-clause-number
+returns-clause-number c =
+    let none = ap length (ranges_end c.args.all.now c.loop-x.x-index c.loop-x-test.false) in
+    let all = c.loop-x.invariant.1 in
+    omega (arith, all, none)

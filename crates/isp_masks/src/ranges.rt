@@ -1,0 +1,366 @@
+//! What the code of `foreach` has besides its body: what all runs use, the bounds, and of each range its place and its index.
+ghost use Rattle.std.specs.Prelude.{◌≡◌, ◌<◌, ◌+◌, ◌∷◌, [], IfOk, OnOk};
+ghost use Rattle.isp_base.specs.declared.operators.Compare.TheVariants.{Less};
+ghost use Rattle.isp_base.specs.declared.types.Elem.TheVariants.{Bool as Truth, I32, I64};
+ghost use Rattle.isp_base.specs.declared.types.Rate.TheVariants.{Uniform, Varying};
+ghost use Rattle.isp_code.specs.declared.instr.Instr.TheVariants as instr;
+ghost use Rattle.isp_code.specs.declared.instr.Plain.TheVariants as plain;
+ghost use Rattle.isp_typed.specs.Views.{expr_of, ranges_of};
+ghost use Rattle.isp_lower.specs.Asks.{Register as Ask, spare_ask};
+ghost use Rattle.isp_lower.specs.Code.{compare, compute, constant, convert, copy, expr_places, splat};
+ghost use Rattle.isp_lower.specs.Emitted.{Appends, Present, layout};
+ghost use Rattle.isp_lower.specs.Rows.{Variable};
+ghost use Rattle.isp_masks.specs.Asks.{bound_asks, bounds_asks, measures_asks};
+ghost use Rattle.isp_masks.specs.Ranges.{bound_code, bounds_code, lane, lane_numbers, last_index, measures_code, narrow, range_mask, ranges_places, runs_slot, sum_lanes, test, wide};
+ghost use Rattle.isp_masks.specs.Written.{first_sweep, index_codes, inner_sweep, last_asks, place_test, range_begin, range_step, run_test, sweep_asks};
+
+use crate::rounds::fill_mask;
+use isp_base::{Compare, Elem, Rate, Ty, number};
+use isp_code::{Instr, MaskInstr, Plain, Reduction, ScalarInstr, VectorInstr};
+use isp_lower::{Body, MaskNumber, RegisterNumber, Scope, Site, Slot, expr, mask, scalar, vector};
+use isp_typed::{TypedExpr, TypedRange};
+use std::alloc::AllocError;
+
+/// A range at work: the slot of what all runs use, that of the body's first mask, and those of its bounds and of its place.
+#[derive(Clone, Copy)]
+pub(crate) struct Sweep {
+    pub measures: Slot,
+    pub masks: Slot,
+    pub bounds: Slot,
+    pub place: Slot,
+}
+
+impl Sweep {
+    /// The first range of all.
+    #[tactic(auto, using(crate::proofs::RangesWritten::ranges_count))]
+    pub(crate) fn first(slot: Slot, all: &[TypedRange]) -> Sweep
+        requires { runs_slot slot.number (ranges_of all.now) < 4294967296 }
+        ensures { result ≡ first_sweep slot (ranges_of all.now) }
+    {
+        let count = all.len() as u32;
+        let bounds = slot.next().next();
+        let place = bounds.plus(count).plus(count);
+        Sweep {
+            measures: slot,
+            masks: place.plus(count).plus(count),
+            bounds,
+            place,
+        }
+    }
+
+    /// The range inside, whose bounds and whose place are two slots on.
+    pub(crate) fn inner(self) -> Sweep
+        requires bounds { self.bounds.number + 1 + 1 < 4294967296 }
+        requires place { self.place.number + 1 + 1 < 4294967296 }
+        ensures { result ≡ inner_sweep self }
+    {
+        Sweep {
+            measures: self.measures,
+            masks: self.masks,
+            bounds: self.bounds.next().next(),
+            place: self.place.next().next(),
+        }
+    }
+}
+
+/// The index of a range outside: its register, and that of its value as int32.
+#[derive(Clone, Copy)]
+pub(crate) struct OuterIndex {
+    pub index: RegisterNumber,
+    pub value: RegisterNumber,
+}
+
+// ---- registers
+
+/// A scalar of a slot for int64.
+pub(crate) fn wide(on: &Scope, slot: Slot) -> RegisterNumber
+    requires { Present on.now (spare_ask Uniform I64 slot.number) }
+    ensures { result.number ≡ wide (layout on.now) slot.number }
+{
+    on.spare(Rate::Uniform, Elem::I64, slot)
+}
+
+/// A scalar of a slot for int32.
+pub(crate) fn narrow(on: &Scope, slot: Slot) -> RegisterNumber
+    requires { Present on.now (spare_ask Uniform I32 slot.number) }
+    ensures { result.number ≡ narrow (layout on.now) slot.number }
+{
+    on.spare(Rate::Uniform, Elem::I32, slot)
+}
+
+/// A vector of a slot for int32.
+pub(crate) fn lane(on: &Scope, slot: Slot) -> RegisterNumber
+    requires { Present on.now (spare_ask Varying I32 slot.number) }
+    ensures { result.number ≡ lane (layout on.now) slot.number }
+{
+    on.spare(Rate::Varying, Elem::I32, slot)
+}
+
+/// A scalar of a slot for what a test gives.
+pub(crate) fn tested(on: &Scope, slot: Slot) -> RegisterNumber
+    requires { Present on.now (spare_ask Uniform Truth slot.number) }
+    ensures { result.number ≡ test (layout on.now) slot.number }
+{
+    on.spare(Rate::Uniform, Elem::Bool, slot)
+}
+
+/// The vector of an index.
+pub(crate) fn index(on: &Scope, variable: usize) -> RegisterNumber
+    requires { Present on.now (Ask Varying (Variable variable) I32) }
+    ensures { result.number ≡ (layout on.now).variable Varying variable }
+{
+    let ty = Ty {
+        rate: Rate::Varying,
+        elem: Elem::I32,
+    };
+    on.variable(variable, ty)
+}
+
+// ---- instructions
+
+/// A scalar gets 1.
+fn one(to: RegisterNumber, elem: Elem) -> Instr
+    ensures { result ≡ constant to.number elem 1 }
+{
+    Instr::Scalar(scalar(to), ScalarInstr::Constant(number(elem, 1)))
+}
+
+/// A scalar gets what another has.
+fn moved(to: RegisterNumber, from: RegisterNumber) -> Instr
+    ensures { result ≡ copy Uniform to.number from.number 0 }
+{
+    Instr::Scalar(scalar(to), ScalarInstr::Copy(scalar(from)))
+}
+
+/// A scalar gets what another has, as a value of its type.
+pub(crate) fn converted(to: RegisterNumber, from: RegisterNumber) -> Instr
+    ensures { result ≡ convert Uniform to.number from.number 0 }
+{
+    Instr::Scalar(scalar(to), ScalarInstr::Convert(scalar(from)))
+}
+
+/// A scalar gets the sum of two.
+fn added(to: RegisterNumber, left: RegisterNumber, right: RegisterNumber) -> Instr
+    ensures { result ≡ compute Uniform plain.Add to.number left.number right.number 0 }
+{
+    Instr::Scalar(
+        scalar(to),
+        ScalarInstr::Binary(Plain::Add, scalar(left), scalar(right)),
+    )
+}
+
+/// A scalar gets whether one is less than another.
+fn less(to: RegisterNumber, left: RegisterNumber, right: RegisterNumber) -> Instr
+    ensures { result ≡ compare Uniform Less to.number left.number right.number 0 }
+{
+    Instr::Scalar(
+        scalar(to),
+        ScalarInstr::Compare(Compare::Less, scalar(left), scalar(right)),
+    )
+}
+
+/// Each lane gets what a scalar has.
+fn spread(to: RegisterNumber, from: RegisterNumber, k: MaskNumber) -> Instr
+    ensures { result ≡ splat to.number from.number k.number }
+{
+    Instr::Vector(vector(to), VectorInstr::Splat(scalar(from), mask(k)))
+}
+
+/// A scalar gets the sum of what the lanes have.
+fn sum_lanes(to: RegisterNumber, from: RegisterNumber, k: MaskNumber) -> Instr
+    ensures { result ≡ sum_lanes to.number from.number k.number }
+{
+    Instr::Scalar(
+        scalar(to),
+        ScalarInstr::Reduce(Reduction::Add, vector(from), mask(k)),
+    )
+}
+
+/// Each lane gets its number.
+fn lane_numbers(to: RegisterNumber, k: MaskNumber) -> Instr
+    ensures { result ≡ lane_numbers to.number k.number }
+{
+    Instr::Vector(vector(to), VectorInstr::Index(mask(k)))
+}
+
+/// Each lane gets the sum of what it has in two vectors.
+fn added_lanes(
+    to: RegisterNumber,
+    left: RegisterNumber,
+    right: RegisterNumber,
+    k: MaskNumber,
+) -> Instr
+    ensures { result ≡ compute Varying plain.Add to.number left.number right.number k.number }
+{
+    Instr::Vector(
+        vector(to),
+        VectorInstr::Binary(Plain::Add, vector(left), vector(right), mask(k)),
+    )
+}
+
+/// A mask gets the lanes whose numbers, added to a place, are below an end.
+fn range_mask(to: MaskNumber, place: RegisterNumber, end: RegisterNumber) -> Instr
+    ensures { result ≡ range_mask to.number place.number end.number }
+{
+    Instr::Mask(mask(to), MaskInstr::Range(scalar(place), scalar(end)))
+}
+
+// ---- what all runs use, and the bounds
+
+/// How many lanes there are, and 1; and the lanes' numbers.
+pub(crate) fn measures(
+    b: &mut Body,
+    on: &Scope,
+    slot: Slot,
+    k: MaskNumber,
+) -> Result<(), AllocError>
+    requires { Present on.now (measures_asks slot.number) }
+    ensures { OnOk result (Appends b.old b.new (λ pc p. measures_code (layout on.now) slot.number k.number) []) }
+{
+    let single = narrow(on, slot);
+    let each = lane(on, slot);
+    let count = wide(on, slot);
+    let step = wide(on, slot.next());
+    b.push(fill_mask(k))?;
+    b.push(one(single, Elem::I32))?;
+    b.push(spread(each, single, k))?;
+    b.push(sum_lanes(count, each, k))?;
+    b.push(lane_numbers(each, k))?;
+    b.push(one(step, Elem::I64))?;
+    Ok(())
+}
+
+/// A bound, as int64.
+fn bound(b: &mut Body, on: &Scope, x: &TypedExpr, site: Site) -> Result<(), AllocError>
+    requires { Present on.now (bound_asks (expr_of x.now) site.slot.number) }
+    ensures { OnOk result (Appends b.old b.new (λ pc p. bound_code (layout on.now) (expr_of x.now) pc p site.mask.number site.slot.number) (expr_places (layout on.now) (expr_of x.now))) }
+{
+    let from = expr(b, on, x, site)?;
+    let to = wide(on, site.slot);
+    b.push(converted(to, from))?;
+    Ok(())
+}
+
+/// The bounds of ranges, from left to right.
+pub(crate) fn bounds(
+    b: &mut Body,
+    on: &Scope,
+    all: &[TypedRange],
+    site: Site,
+) -> Result<(), AllocError>
+    requires { Present on.now (bounds_asks (ranges_of all.now) site.slot.number) }
+    ensures { OnOk result (Appends b.old b.new (λ pc p. bounds_code (layout on.now) (ranges_of all.now) pc p site.mask.number site.slot.number) (ranges_places (layout on.now) (ranges_of all.now))) }
+{
+    let mask = site.mask;
+    let mut at = site.slot;
+    for x in all {
+        let second = at.next();
+        bound(b, on, &x.start, Site { mask, slot: at })?;
+        bound(b, on, &x.end, Site { mask, slot: second })?;
+        at = second.next();
+    }
+    Ok(())
+}
+
+// ---- a range
+
+/// Its place is at its start.
+pub(crate) fn begin(b: &mut Body, on: &Scope, it: Sweep) -> Result<(), AllocError>
+    requires { Present on.now (sweep_asks it) }
+    ensures { OnOk result (Appends b.old b.new (λ pc p. range_begin (layout on.now) it ∷ []) []) }
+{
+    let to = wide(on, it.place);
+    let from = wide(on, it.bounds);
+    b.push(moved(to, from))?;
+    Ok(())
+}
+
+/// The lanes of a run that are before its end.
+pub(crate) fn test_run(b: &mut Body, on: &Scope, it: Sweep) -> Result<(), AllocError>
+    requires { Present on.now (sweep_asks it) }
+    ensures { OnOk result (Appends b.old b.new (λ pc p. run_test (layout on.now) it ∷ []) []) }
+{
+    let place = wide(on, it.place);
+    let end = wide(on, it.bounds.next());
+    b.push(range_mask(it.masks.mask(), place, end))?;
+    Ok(())
+}
+
+/// Whether its place is before its end.
+pub(crate) fn test_place(b: &mut Body, on: &Scope, it: Sweep) -> Result<(), AllocError>
+    requires { Present on.now (sweep_asks it) }
+    ensures { OnOk result (Appends b.old b.new (λ pc p. place_test (layout on.now) it ∷ []) []) }
+{
+    let to = tested(on, it.place.next());
+    let place = wide(on, it.place);
+    let end = wide(on, it.bounds.next());
+    b.push(less(to, place, end))?;
+    Ok(())
+}
+
+/// Its place goes on, by what a slot has; and back to its test.
+pub(crate) fn go_on(
+    b: &mut Body,
+    on: &Scope,
+    it: Sweep,
+    by: Slot,
+    top: u32,
+) -> Result<(), AllocError>
+    requires place { Present on.now (sweep_asks it) }
+    requires by { Present on.now (spare_ask Uniform I64 by.number) }
+    ensures { OnOk result (Appends b.old b.new (λ pc p. range_step (layout on.now) it by.number ∷ instr.Jump top ∷ []) []) }
+{
+    let place = wide(on, it.place);
+    let step = wide(on, by);
+    b.push(added(place, place, step))?;
+    b.push(Instr::Jump(top))?;
+    Ok(())
+}
+
+// ---- indices
+
+/// The indices of the ranges outside.
+pub(crate) fn outer_indices(
+    b: &mut Body,
+    set: &[OuterIndex],
+    k: MaskNumber,
+) -> Result<(), AllocError>
+    ensures { OnOk result (Appends b.old b.new (λ pc p. index_codes k.number set.now) []) }
+{
+    for x in set {
+        b.push(spread(x.index, x.value, k))?;
+    }
+    Ok(())
+}
+
+/// The place of a range that has others inside, as int32.
+pub(crate) fn outer_value(b: &mut Body, on: &Scope, it: Sweep) -> Result<RegisterNumber, AllocError>
+    requires { Present on.now (sweep_asks it) }
+    ensures number { IfOk result (λ r. r.number ≡ narrow (layout on.now) (it.place.number + 1)) }
+    ensures added { OnOk result (Appends b.old b.new (λ pc p. convert Uniform (narrow (layout on.now) (it.place.number + 1)) (wide (layout on.now) it.place.number) 0 ∷ []) []) }
+{
+    let value = narrow(on, it.place.next());
+    b.push(converted(value, wide(on, it.place)))?;
+    Ok(value)
+}
+
+/// The index of the last range: its place and the lanes' numbers.
+pub(crate) fn last_index(
+    b: &mut Body,
+    on: &Scope,
+    variable: usize,
+    it: Sweep,
+) -> Result<(), AllocError>
+    requires range { Present on.now (sweep_asks it) }
+    requires index { Present on.now (last_asks variable it) }
+    ensures { OnOk result (Appends b.old b.new (λ pc p. last_index (layout on.now) variable it.place.number it.measures.number it.masks.number) []) }
+{
+    let k = it.masks.mask();
+    let second = it.place.next();
+    let single = narrow(on, second);
+    let each = lane(on, second);
+    b.push(converted(single, wide(on, it.place)))?;
+    b.push(spread(each, single, k))?;
+    b.push(added_lanes(index(on, variable), each, lane(on, it.measures), k))?;
+    Ok(())
+}
