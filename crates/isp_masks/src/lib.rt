@@ -15,6 +15,6 @@ mod routine;
 mod sets;
 mod statement;
 
-pub use covered::covered;
+pub use covered::uncompiled;
 pub use laws::{loops_run, lowered_agrees, statements_run};
 pub use lowering::lower;
