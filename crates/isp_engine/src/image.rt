@@ -17,7 +17,7 @@ use isp_asm::read;
 use isp_base::Gang;
 use isp_code::Code;
 use isp_lex::{Fault, Rule, SourceFault};
-use isp_masks::{covered, lower};
+use isp_masks::{lower, uncompiled};
 use isp_verify::{Verified, VerifyFault, verify};
 use std::alloc::Global;
 use std::marker::Model;
@@ -65,7 +65,7 @@ pub fn compile(alloc: Global, text: &str, gang: Gang) -> Result<Image, SourceFau
     ensures refused { IfErr result (λ e. (f : Fault) → e ≡ SourceFault.Refused f → IsNotCompiled gang text.now f) }
 {
     let checked = front(alloc, text, gang)?;
-    if let Some(span) = covered(&checked) {
+    if let Some(span) = uncompiled(&checked) {
         return Err(SourceFault::Refused(Fault {
             rule: Rule::NotYet,
             span,

@@ -232,7 +232,7 @@ fn functions(all: &[TypedFunction]) -> Option<Span>
 
 /// Where the first node in the text stands that has no code yet, a node before its parts. None where the whole program
 /// has code.
-pub fn covered(checked: &Checked) -> Option<Span>
+pub fn uncompiled(checked: &Checked) -> Option<Span>
     ensures { result ≡ program_left (program_of checked.now) }
 {
     functions(&checked.program().functions)

@@ -19,6 +19,6 @@ mod sets;
 mod statement;
 mod steps;
 
-pub use covered::covered;
+pub use covered::uncompiled;
 pub use laws::{loops_run, lowered_agrees, statements_run};
 pub use lowering::lower;

@@ -10,7 +10,7 @@ use isp_code::Code;
 use isp_rates::Checked;
 use std::alloc::{AllocError, Global};
 
-/// The code of a checked program. Where all of the program has code (`covered` finds the first that has none),
+/// The code of a checked program. Where all of the program has code (`uncompiled` finds the first that has none),
 /// it agrees with the program, and the verifier accepts it. Memory is refused too where a number would pass
 /// 4,294,967,295, and of what has no code yet.
 pub fn lower(alloc: Global, checked: &Checked) -> Result<Code, AllocError>

@@ -10,4 +10,4 @@ returns-in_err-checked-clause-only c = λ program k.
 
 pub returns-in-Some-clause-only : goal.returns-in-Some-clause-only
 returns-in-Some-clause-only c = λ program k.
-    absurd (left_only c.args.gang c.args.text.now (program_of c.in_ok-checked.checked) c.in-Some.span (sym c.covered.ensures ∙ c.in-Some.is) c.in_ok-checked.ensures.only program k)
+    absurd (left_only c.args.gang c.args.text.now (program_of c.in_ok-checked.checked) c.in-Some.span (sym c.uncompiled.ensures ∙ c.in-Some.is) c.in_ok-checked.ensures.only program k)
