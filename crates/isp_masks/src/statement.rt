@@ -625,6 +625,7 @@ fn last_run(
     set: Vec<OuterIndex>,
     it: Sweep,
 ) -> Result<(), AllocError>
+    requires range { Present on.now (sweep_asks it) }
     requires index { Present on.now (last_asks variable it) }
     requires body { Present on.now (stmt_asks on.now.answer (stmt_of body.now) (it.masks.number + 3)) }
     ensures { OnOk result (Writes b.old b.new (last_run_at on.now variable (stmt_of body.now) set.items it)) }

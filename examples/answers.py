@@ -1,0 +1,152 @@
+#!/usr/bin/env python3
+"""What each kernel must answer, worked out in plain Python from its arguments, without isp.
+
+    python3 examples/answers.py            says what in the files is otherwise: an answer, what README.md shows, the rows that are run
+    python3 examples/answers.py --write    writes the answers and the rows
+"""
+import json
+import math
+import pathlib
+import sys
+
+HERE = pathlib.Path(__file__).resolve().parent
+ROWS = HERE.parent / "crates/isp_cases/data/kernels.rows"
+
+
+def clamp(x, low, high):
+    return min(max(x, low), high)
+
+
+# ---- each takes the arguments, changes their arrays, and gives back the result
+
+
+def brighten(a):
+    a["pixels"] = [clamp(p + a["level"], 0, 255) for p in a["pixels"]]
+
+
+def blur(a):
+    width, height, image = a["width"], a["height"], a["image"]
+
+    def at(y, x):
+        return image[clamp(y, 0, height - 1) * width + clamp(x, 0, width - 1)]
+
+    def mean(y, x):
+        return (sum(at(y + j, x + i) for j in (-1, 0, 1) for i in (-1, 0, 1)) + 4) // 9
+
+    a["blurred"] = [mean(y, x) for y in range(height) for x in range(width)]
+
+
+def fir(a):
+    def sample(i):
+        total = sum(a["signal"][i - k] * tap for k, tap in enumerate(a["taps"]) if i >= k)
+        return clamp((total + 128) // 256, -32768, 32767)
+
+    a["filtered"] = [sample(i) for i in range(a["count"])]
+
+
+def lookup(a):
+    n = a["count"]
+    a["values"] = [a["table"][v // 16] for v in a["values"][:n]] + a["values"][n:]
+
+
+def histogram(a):
+    a["counts"] = [sum(1 for v in a["values"] if v // 32 == b) for b in range(8)]
+
+
+def mandelbrot(a):
+    def turns(x, y):
+        c, d, p, q, n = a["left"] + x * a["step"], a["top"] + y * a["step"], 0, 0, 0
+        while n < a["limit"] and p * p + q * q < 4 * 4096 * 4096:
+            p, q, n = (p * p - q * q) // 4096 + c, 2 * p * q // 4096 + d, n + 1
+        return n
+
+    a["turns"] = [turns(x, y) for y in range(a["height"]) for x in range(a["width"])]
+
+
+def roots(a):
+    a["values"] = [math.isqrt(v) for v in a["values"]]
+
+
+def matrix(a):
+    inner, columns = a["inner"], a["columns"]
+    a["product"] = [
+        sum(a["left"][r * inner + k] * a["right"][k * columns + c] for k in range(inner))
+        for r in range(a["rows"])
+        for c in range(columns)
+    ]
+
+
+def collatz(a):
+    def steps(n):
+        return 0 if n == 1 else 1 + steps(3 * n + 1 if n % 2 else n // 2)
+
+    a["counts"] = [steps(a["first"] + i) for i in range(a["count"])]
+
+
+def threshold(a):
+    bright = [i for i, p in enumerate(a["pixels"]) if p > a["level"]]
+    a["found"][: len(bright)] = bright
+    return len(bright)
+
+
+def totals(a):
+    a["values"] = [sum(a["values"][: i + 1]) for i in range(a["count"])]
+
+
+def factors(a):
+    a["numbers"] = [math.gcd(n, m) for n, m in zip(a["numbers"], a["others"])]
+
+
+KERNELS = [brighten, blur, fir, lookup, histogram, mandelbrot, roots, matrix, collatz, threshold, totals, factors]
+
+
+def answer(kernel):
+    arguments = json.loads((HERE / f"{kernel.__name__}.json").read_text())
+    result = kernel(arguments)
+    arrays = {name: arguments[name] for name in sorted(arguments) if isinstance(arguments[name], list)}
+    return json.dumps({"arrays": arrays, "result": result}, separators=(",", ":")) + "\n"
+
+
+def is_shown(kernel):
+    """Whether README.md has the kernel's source behind its three lines, its arguments and its answer."""
+    shown = (HERE / "README.md").read_text()
+    name = kernel.__name__
+    source = (HERE / f"{name}.ispc").read_text().splitlines()[3:]
+    code = "\n".join("    " + line if line else "" for line in source)
+    arguments = (HERE / f"{name}.json").read_text().strip()
+    return code in shown and f"`{arguments}`, and the answer is `{answer(kernel).strip()}`" in shown
+
+
+def rows():
+    """Each kernel by each gang, as isp_cases reads it."""
+    lines = [". The kernels of examples/, which answers.py writes here; the answers are its own, in Python."]
+    for kernel in KERNELS:
+        name = kernel.__name__
+        source = (HERE / f"{name}.ispc").read_text().replace("\n", "␤")
+        arguments = (HERE / f"{name}.json").read_text().strip()
+        for gang in (4, 8, 16):
+            lines += [f"=== {name} of examples, {gang}", f"source {source}", f"gang {gang}", f"entry {name}"]
+            lines += [f"arguments {arguments}", "turns 1000", f"ends {answer(kernel).strip()}"]
+    return "\n".join(lines) + "\n"
+
+
+def main():
+    differ = 0
+    wanted = {HERE / f"{kernel.__name__}.answer": answer(kernel) for kernel in KERNELS}
+    wanted[ROWS] = rows()
+    for path, text in wanted.items():
+        if "--write" in sys.argv:
+            path.write_text(text)
+        elif path.read_text() != text:
+            print(f"{path.name} differs")
+            differ += 1
+    for kernel in KERNELS:
+        if not is_shown(kernel):
+            print(f"{kernel.__name__}: README.md shows another")
+            differ += 1
+    print(f"{len(KERNELS)} kernels, {differ} differ")
+    return differ > 0
+
+
+if __name__ == "__main__":
+    sys.exit(main())
