@@ -4,7 +4,7 @@
 export void roots(uniform uint values[], uniform int count) {
     foreach (i = 0 ... count) {
         uint value = values[i];
-        uint root = value, lower = (value >> 1) + 1;
+        uint root = value, lower = (value >> 1) + (value & 1);
         while (lower < root) {
             root = lower;
             lower = (root + value / root) >> 1;
