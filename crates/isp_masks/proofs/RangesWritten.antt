@@ -1,6 +1,7 @@
 -- What the ranges of a `foreach` are written in: a range with the jumps out of it and back to its test, and what is there for it.
-use Rattle.std.proofs.Common.{◌≡◌, ℕ, ◌+◌, ◌<◌, ◌≤◌, List, [], ◌∷◌, ◌++◌, length, refl, sym, ap, ◌∙◌, subst, suc, arith, append-nil, length-append, Vec, Global}
+use Rattle.std.proofs.Common.{◌≡◌, ℕ, ◌+◌, ◌<◌, ◌≤◌, List, [], ◌∷◌, ◌++◌, length, drop, get_or, refl, sym, ap, ◌∙◌, subst, suc, arith, append-nil, length-append, Vec, Global}
 use Rattle.std.specs.Prelude.{slice_set}
+use Rattle.std.proofs.lemmas.List.{drop_more}
 use Rattle.isp_base.specs.declared.operators.Compare.TheVariants.{Less}
 use Rattle.isp_base.specs.declared.types.Rate.TheVariants.{Uniform}
 use Rattle.isp_base.specs.declared.types.Span.{Span}
@@ -12,14 +13,15 @@ use Rattle.isp_typed.specs.Typed.{TRange}
 use Rattle.isp_typed.specs.Views.{range_of, ranges_of}
 use Rattle.isp_typed.specs.declared.stmt.TypedRange.{TypedRange}
 use Rattle.isp_tree.specs.Nodes.{nodes_of_all}
-use Rattle.isp_lower.specs.Code.{compare, guard, jump_on, two}
+use Rattle.isp_lower.specs.Code.{compare, guard, jump_on, splat, two}
 use Rattle.isp_lower.specs.Emitted.{Appends, Present}
 use Rattle.isp_lower.specs.Layout.{Layout}
 use Rattle.isp_lower.specs.declared.types.Body.{Body}
 use Rattle.isp_lower.specs.declared.types.Scope.{Scope}
 use Rattle.isp_lower.proofs.Lemmas.{appends_then, landed}
 use Rattle.isp_masks.specs.Ranges.{bounds_code, foreach_code, measures_code, places_slot, ranges_code, ranges_places, runs_slot, sweep_code, test, wide}
-use Rattle.isp_masks.specs.Written.{last_asks, outer_turn_code, sweep_asks, sweeps_asks}
+use Rattle.isp_masks.specs.Written.{index_codes, last_asks, outer_turn_code, sweep_asks, sweeps_asks}
+use Rattle.isp_masks.specs.declared.ranges.OuterIndex.{OuterIndex}
 use Rattle.isp_masks.specs.declared.ranges.Sweep.{Sweep}
 
 -- the first instruction, the test, the jump past what is inside, and behind that the jump back to the test
@@ -71,6 +73,15 @@ pub ranges_outer : (l : Layout) (n h : ℕ) (body : ℕ → List Instr) (rs : Li
 ranges_outer l n h body [] set e m pc many = absurd (omega (arith, many))
 ranges_outer l n h body (r ∷ []) set e m pc many = absurd (omega (arith, many))
 ranges_outer l n h body (r ∷ q ∷ rs) set e m pc many = refl
+
+-- the index of a range outside, and those that are left
+pub indices_more : (h : ℕ) (a b c : Body) (all : List OuterIndex) (i : ℕ) (d : OuterIndex) → i < length all
+    → Appends a b (λ pc p. splat (get_or all i d).index.number (get_or all i d).value.number h ∷ []) [] → Appends b c (λ pc p. index_codes h (drop (i + 1) all)) []
+    → Appends a c (λ pc p. index_codes h (drop i all)) []
+indices_more h a b c all i d lt one left =
+    let x = get_or all i d in
+    subst (λ zs. Appends a c (λ pc p. index_codes h zs) []) (sym (drop_more all i d lt))
+    (appends_then a b c (λ pc p. splat x.index.number x.value.number h ∷ []) (λ pc p. index_codes h (drop (i + 1) all)) [] [] one left)
 
 -- ---- what is there
 

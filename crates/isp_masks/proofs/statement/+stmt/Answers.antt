@@ -1,11 +1,12 @@
-use Rattle.std.proofs.Common.{◌≡◌, ◌≤◌, ℕ, [], ◌∷◌, ◌++◌, length, sym, ap, subst, ◌∙◌, arith, false, not, suc, take_all, append-nil, ◌<◌, ◌+◌}
-use Rattle.std.specs.Prelude.{option_map}
+use Rattle.std.proofs.Common.{◌≡◌, ◌≤◌, ℕ, List, [], ◌∷◌, ◌++◌, length, sym, ap, subst, ◌∙◌, arith, false, not, suc, take_all, append-nil, ◌<◌, ◌+◌}
+use Rattle.std.specs.Prelude.{option_map, slice_set}
 use Rattle.isp_code.specs.declared.instr.JumpTest.TheVariants as jump
-use Rattle.isp_lower.specs.Code.{jump_off, jump_on, two, compare, compute, copy}
+use Rattle.isp_lower.specs.Code.{jump_off, jump_on, two}
 use Rattle.isp_lower.specs.Emitted.{Appends, Present, layout}
 use Rattle.isp_lower.specs.declared.sites.Site.{Site}
 use Rattle.isp_lower.proofs.Lemmas.{appends_then, chosen, landed}
-use Rattle.isp_typed.specs.Nodes.{block_nodes, stmts_nodes}
+use Rattle.isp_typed.specs.Nodes.{block_nodes, range_nodes, stmt_nodes, stmts_nodes}
+use Rattle.isp_tree.specs.Nodes.{nodes_of_all}
 use Rattle.isp_typed.specs.Typed.{TBlock, TStmt, t_braces, t_if, t_if_else, t_while, t_for, t_stmts, t_foreach}
 use Rattle.isp_typed.specs.Views.{block_of, expr_of, first_of, simple_of, stmt_of, stmts_of, ranges_of}
 use Rattle.isp_typed.proofs.StmtViews.{if_view, if_else_view, while_view, for_view, foreach_view}
@@ -22,12 +23,17 @@ use Rattle.isp_masks.proofs.Forms.{list_step, nodes_low, stmts_more}
 use Rattle.isp_masks.proofs.Lists.{flat, flat_is}
 use Rattle.isp_masks.proofs.Sifting.{for_written, if_else_written, sifted}
 use Rattle.isp_masks.proofs.Views.{block_view}
-use Rattle.isp_base.specs.declared.operators.Compare.TheVariants.{Less}
 use Rattle.isp_base.specs.declared.types.Rate.TheVariants.{Uniform}
 use Rattle.isp_code.specs.declared.instr.Instr.TheVariants as instr
-use Rattle.isp_code.specs.declared.instr.Plain.TheVariants as plain
-use Rattle.isp_masks.specs.Ranges.{last_index, range_mask, runs_slot, test, wide}
-use Rattle.isp_masks.proofs.RangesWritten.{foreach_written, ranges_count, ranges_outer, sweep_written}
+use Rattle.isp_masks.specs.Ranges.{bounds_code, last_index, measures_code, ranges_places, runs_slot, test}
+use Rattle.isp_masks.proofs.RangesWritten.{foreach_written, ranges_count, ranges_low, ranges_outer, sweep_there, sweep_written}
+use Rattle.isp_masks.specs.Asks.{stmt_asks}
+use Rattle.isp_lower.specs.Layout.{mask_register, register}
+use Rattle.isp_lower.specs.declared.numbered.MaskNumber.{MaskNumber}
+use Rattle.isp_lower.specs.declared.numbered.Slot.{Slot}
+use Rattle.isp_masks.specs.Written.{Writes, first_sweep, place_test, range_begin, range_step, ranges_at, run_test}
+use Rattle.isp_masks.specs.declared.ranges.OuterIndex.{OuterIndex}
+use Rattle.isp_masks.specs.declared.ranges.Sweep.{Sweep}
 use Rattle.isp_masks.proofs.statement.+stmt.Goals as goal
 
 pub stmt-returns-in-If : goal.stmt-returns-in-If
@@ -184,6 +190,21 @@ stmt-returns-in_ok-first_part-in-For t c =
     (appends_then a.b.now c.first_part.new.b c.turns.new.b (λ pc p. first_code l first pc p s.on s.slot) (λ pc p. turns_code l h o y x pc (numbers p) s) (first_places l first) (test_places l o ++ (stmt_places l x ++ step_places l y)) begun w))))
     c.turns.ensures
 
+pub stmt-foreach-requires : goal.stmt-foreach-requires
+stmt-foreach-requires t c =
+    let a = c.args in
+    let e = c.in-Foreach in
+    let rs = ranges_of c.deref-in-Foreach.result.now in
+    let x = stmt_of c.deref-in-Foreach-2.result.now in
+    let seen : stmt_of a.x.now ≡ t_foreach e.keyword e.before rs x e.span =
+    ap stmt_of e.is ∙ foreach_view e.keyword e.before e.ranges e.body e.span ∙ ap (λ zs. t_foreach e.keyword e.before (ranges_of zs) (stmt_of e.body.value) e.span) (sym c.deref-in-Foreach.ensures.value)
+    ∙ ap (λ z. t_foreach e.keyword e.before rs (stmt_of z) e.span) (sym c.deref-in-Foreach-2.ensures) in
+    let asked = subst (λ z. Present a.on.now (stmt_asks a.on.now.answer z a.spot.slot.number)) seen c.requires in
+    let size : stmt_nodes (stmt_of a.x.now) ≡ suc (nodes_of_all range_nodes rs + stmt_nodes x) = ap stmt_nodes seen in
+    let many = ranges_count c.deref-in-Foreach.result.now in
+    let low = ranges_low rs in
+    (omega (arith, size, many, low, c.decreases), asked)
+
 pub stmt-returns-in-Foreach : goal.stmt-returns-in-Foreach
 stmt-returns-in-Foreach t c =
     let a = c.args in
@@ -193,7 +214,7 @@ stmt-returns-in-Foreach t c =
     let so = λ (z : TStmt). Appends a.b.now c.foreach.new.b (λ pc p. stmt_code l h z pc (numbers p) (spot_of a.spot)) (stmt_places l z) in
     on_ok_weaker c.foreach.result
     (λ w. subst so (sym (ap stmt_of e.is ∙ foreach_view e.keyword e.before e.ranges e.body e.span))
-    (subst (λ rs. so (t_foreach e.keyword e.before (ranges_of rs) (stmt_of e.body.value) e.span)) c.deref-in-Foreach.ensures.value
+    (subst (λ zs. so (t_foreach e.keyword e.before (ranges_of zs) (stmt_of e.body.value) e.span)) c.deref-in-Foreach.ensures.value
     (subst (λ y. so (t_foreach e.keyword e.before (ranges_of c.deref-in-Foreach.result.now) (stmt_of y) e.span)) c.deref-in-Foreach-2.ensures w)))
     c.foreach.ensures
 
@@ -204,8 +225,24 @@ foreach-returns t c =
     let rs = ranges_of a.all.now in
     let x = stmt_of a.body.now in
     let n = a.spot.slot.number in
-    foreach_written l a.b.now c.measures.new.b c.bounds.new.b c.ranges.new.b rs a.spot.masks.on.number n (λ p. body_code l a.on.now.answer x (runs_slot n rs) (numbers p)) (stmt_places l x)
-    (cc) (cc) (cc)
+    let k = a.spot.masks.on.number in
+    let h = runs_slot n rs in
+    let top : c.mask.result.number ≡ h = ap (λ (s : MaskNumber). s.number) c.mask.ensures ∙ ap (λ (s : Sweep). s.masks.number) c.first-it.ensures in
+    let begun = subst (λ j. Appends a.b.now c.measures.new.b (λ pc p. measures_code l n j) []) top c.in_ok-measures.ensures in
+    let bound = subst (λ (s : Sweep). Appends c.measures.new.b c.bounds.new.b (λ pc p. bounds_code l rs pc p k s.bounds.number) (ranges_places l rs)) c.first-it.ensures c.in_ok-bounds.ensures in
+    let swept = subst (λ (s : Sweep). Writes c.bounds.new.b c.ranges-2.new.b (ranges_at a.on.now rs x c.new-none.result.items s)) c.first-it.ensures c.in_ok-ranges.ensures in
+    let none = subst (λ (xs : List OuterIndex). Writes c.bounds.new.b c.ranges-2.new.b (ranges_at a.on.now rs x xs (first_sweep a.spot.slot rs))) c.new-none.ensures.items swept in
+    foreach_written l a.b.now c.measures.new.b c.bounds.new.b c.ranges-2.new.b rs k n (λ p. body_code l a.on.now.answer x h (numbers p)) (stmt_places l x) begun bound none
+
+pub ranges-outer_range-requires : goal.ranges-outer_range-requires
+ranges-outer_range-requires t c =
+    let a = c.args in
+    let rs = ranges_of a.all.now in
+    let count = ranges_count a.all.now in
+    let least = c.in_default.len_at_least in
+    let long : 1 < length a.all.now = omega (arith, least) in
+    let some : 0 < length rs = omega (arith, long, count) in
+    (omega (arith, c.decreases), (long, (sweep_there a.on.now a.it rs some c.requires.ranges, (c.requires.ranges, c.requires.body))))
 
 pub last_range-returns : goal.last_range-returns
 last_range-returns t c =
@@ -213,14 +250,15 @@ last_range-returns t c =
     let l = layout a.on.now in
     let h = a.it.masks.number in
     let m = a.it.place.number in
-    let e = a.it.bounds.number in
     let n = a.it.measures.number in
     let x = stmt_of a.body.now in
     let set = index_codes h a.set.items in
+    let after = c.go_on.new.b.code.items in
+    let code = ap (λ r. slice_set after c.len-at.result (instr.JumpIf jump.Off r (length after))) (c.mask-2.ensures ∙ ap (λ (k : MaskNumber). mask_register k.number) c.mask.ensures) in
     sweep_written a.b.now c.begin.new.b c.test_run.new.b c.push.new.self c.last_run.new.b c.go_on.new.b c.land.new.self
-    (copy Uniform (wide l m) (wide l e) 0) (range_mask h (wide l m) (wide l (e + 1))) (instr.Jump 0) (compute Uniform plain.Add (wide l m) (wide l m) (wide l n) 0) (jump_off h)
+    (range_begin l a.it) (run_test l a.it) (instr.Jump 0) (range_step l a.it n) (jump_off h)
     (λ pc p. two pc (set ++ last_index l a.variable m n h) (body_code l a.on.now.answer x h (numbers p))) (stmt_places l x) c.next-top.result c.len-at.result
-    c.in_ok-begin.ensures c.next-top.ensures c.in_ok-test_run.ensures (c.len-at.ensures ∙ c.test_run.new.b.code.ok.0) c.in_ok-push.ensures c.in_ok-last_run.ensures c.in_ok-go_on.ensures (cc) c.land.ensures.places
+    c.in_ok-begin.ensures c.next-top.ensures c.in_ok-test_run.ensures (c.len-at.ensures ∙ c.test_run.new.b.code.ok.0) c.in_ok-push.ensures c.in_ok-last_run.ensures c.in_ok-go_on.ensures (c.land.ensures.code ∙ code) c.land.ensures.places
 
 pub outer_range-returns : goal.outer_range-returns
 outer_range-returns t c =
@@ -235,10 +273,13 @@ outer_range-returns t c =
     let set = index_codes h a.set.items in
     let body = λ (p : ℕ). body_code l a.on.now.answer x h (numbers p) in
     let many : 1 < length rs = subst (λ i. 1 < i) (sym (ranges_count a.all.now)) c.requires.many in
+    let after = c.go_on.new.b.code.items in
+    let code = ap (λ r. slice_set after c.len-at.result (instr.JumpIf jump.False r (length after))) (c.scalar.ensures ∙ ap (register Uniform) (c.tested.ensures ∙ ap (λ (s : Slot). test l s.number) c.next-2.ensures)) in
+    let on = subst (λ (s : Slot). Appends c.outer_turn.new.b c.go_on.new.b (λ pc p. range_step l a.it s.number ∷ instr.Jump c.next-top.result ∷ []) []) c.next.ensures c.in_ok-go_on.ensures in
     let z = sweep_written a.b.now c.begin.new.b c.test_place.new.b c.push.new.self c.outer_turn.new.b c.go_on.new.b c.land.new.self
-    (copy Uniform (wide l m) (wide l e) 0) (compare Uniform Less (test l (m + 1)) (wide l m) (wide l (e + 1)) 0) (instr.Jump 0) (compute Uniform plain.Add (wide l m) (wide l m) (wide l (n + 1)) 0) (jump_on jump.False (test l (m + 1)))
+    (range_begin l a.it) (place_test l a.it) (instr.Jump 0) (range_step l a.it (n + 1)) (jump_on jump.False (test l (m + 1)))
     (λ pc p. outer_turn_code l n h (body p) rs set e m pc) (stmt_places l x) c.next-top.result c.len-at.result
-    c.in_ok-begin.ensures c.next-top.ensures c.in_ok-test_place.ensures (c.len-at.ensures ∙ c.test_place.new.b.code.ok.0) c.in_ok-push.ensures c.in_ok-outer_turn.ensures (cc) (cc) c.land.ensures.places in
+    c.in_ok-begin.ensures c.next-top.ensures c.in_ok-test_place.ensures (c.len-at.ensures ∙ c.test_place.new.b.code.ok.0) c.in_ok-push.ensures c.in_ok-outer_turn.ensures on (c.land.ensures.code ∙ code) c.land.ensures.places in
     record {
       code = z.code ∙ ap (λ is. a.b.now.code.items ++ is) (ranges_outer l n h (body (length a.b.now.places.items)) rs set e m (length a.b.now.code.items) many);
       places = z.places;
