@@ -198,21 +198,21 @@ module _ (fs : List TFunction) where
       stmt_rated v m w (t_declare xs sp) at clean c = items_rated xs clean c
       stmt_rated v m w (t_simple x sp) at clean c = simple_rated x clean c
       stmt_rated v m w (t_if k n e x sp) at clean c =
-          (expr_rated e (λ g b. clean g (inl b)) (first_none (expr_left e) (stmt_left x) c), stmt_rated v m w x at.1.1 (λ g b. clean g (inr b)) (next_none (expr_left e) (stmt_left x) c))
+          (expr_rated e (λ g b. clean g (inl b)) (first_none (expr_left e) (stmt_left x) c), stmt_rated v m w x at.2 (λ g b. clean g (inr b)) (next_none (expr_left e) (stmt_left x) c))
       stmt_rated v m w (t_if_else k n e x y sp) at clean c =
           let rest = next_none (expr_left e) (option_or (stmt_left x) (stmt_left y)) c in
-          (expr_rated e (λ g b. clean g (inl b)) (first_none (expr_left e) (option_or (stmt_left x) (stmt_left y)) c), stmt_rated v m w x at.1.1.0 (λ g b. clean g (inr (inl b))) (first_none (stmt_left x) (stmt_left y) rest), stmt_rated v (number_after_stmt m x) w y at.1.1.1 (λ g b. clean g (inr (inr b))) (next_none (stmt_left x) (stmt_left y) rest))
+          (expr_rated e (λ g b. clean g (inl b)) (first_none (expr_left e) (option_or (stmt_left x) (stmt_left y)) c), stmt_rated v m w x at.2 (λ g b. clean g (inr (inl b))) (first_none (stmt_left x) (stmt_left y) rest), stmt_rated v (number_after_stmt m x) w y at.3 (λ g b. clean g (inr (inr b))) (next_none (stmt_left x) (stmt_left y) rest))
       stmt_rated v m w (t_while k n e x sp) at clean c =
-          (expr_rated e (λ g b. clean g (inl b)) (first_none (expr_left e) (stmt_left x) c), stmt_rated v m (in_loop w) x at.1.1 (λ g b. clean g (inr b)) (next_none (expr_left e) (stmt_left x) c))
+          (expr_rated e (λ g b. clean g (inl b)) (first_none (expr_left e) (stmt_left x) c), stmt_rated v m (in_loop w) x at.2 (λ g b. clean g (inr b)) (next_none (expr_left e) (stmt_left x) c))
       stmt_rated v m w (t_do k n x e sp) at clean c =
-          (stmt_rated v m (in_loop w) x at.1.0 (λ g b. clean g (inl b)) (first_none (stmt_left x) (expr_left e) c), expr_rated e (λ g b. clean g (inr b)) (next_none (stmt_left x) (expr_left e) c))
+          (stmt_rated v m (in_loop w) x at.1 (λ g b. clean g (inl b)) (first_none (stmt_left x) (expr_left e) c), expr_rated e (λ g b. clean g (inr b)) (next_none (stmt_left x) (expr_left e) c))
       stmt_rated v m w (t_for k n first e step i x sp) at clean c =
           let rest = next_none (first_left first) (option_or (given_left e) (option_or (step_left step) (stmt_left x))) c in
           let more = next_none (given_left e) (option_or (step_left step) (stmt_left x)) rest in
-          (first_rated first (λ g b. clean g (inl b)) (first_none (first_left first) (option_or (given_left e) (option_or (step_left step) (stmt_left x))) c), test_rated e (λ g b. clean g (inr (inl b))) (first_none (given_left e) (option_or (step_left step) (stmt_left x)) rest), step_rated step (λ g b. clean g (inr (inr (inl b)))) (first_none (step_left step) (stmt_left x) more), stmt_rated (scope_after_first v m first) i (in_loop w) x at.1.1.1.1.1 (λ g b. clean g (inr (inr (inr b)))) (next_none (step_left step) (stmt_left x) more))
+          (first_rated first (λ g b. clean g (inl b)) (first_none (first_left first) (option_or (given_left e) (option_or (step_left step) (stmt_left x))) c), test_rated e (λ g b. clean g (inr (inl b))) (first_none (given_left e) (option_or (step_left step) (stmt_left x)) rest), step_rated step (λ g b. clean g (inr (inr (inl b)))) (first_none (step_left step) (stmt_left x) more), stmt_rated (scope_after_first v m first) i (in_loop w) x at.5 (λ g b. clean g (inr (inr (inr b)))) (next_none (step_left step) (stmt_left x) more))
       stmt_rated v m w (t_foreach k n rs x sp) at clean c =
-          (at.1.1.0, ranges_rated rs (λ g b. clean g (inr (inl b))) (first_none (ranges_left rs) (stmt_left x) c), stmt_rated (scope_after v m rs) (number_after m rs) (in_foreach w) x at.1.1.1.1 (λ g b. clean g (inr (inr b))) (next_none (ranges_left rs) (stmt_left x) c))
-      stmt_rated v m w (t_foreach_active k n i x sp) at clean c = stmt_rated (declared m v) (suc m) (in_foreach_active w) x at.1.1 clean c
+          (at.2, ranges_rated rs (λ g b. clean g (inr (inl b))) (first_none (ranges_left rs) (stmt_left x) c), stmt_rated (scope_after v m rs) (number_after m rs) (in_foreach w) x at.4 (λ g b. clean g (inr (inr b))) (next_none (ranges_left rs) (stmt_left x) c))
+      stmt_rated v m w (t_foreach_active k n i x sp) at clean c = stmt_rated (declared m v) (suc m) (in_foreach_active w) x at.2 clean c
       stmt_rated v m w (t_unmasked k b sp) at clean c = block_rated v m (in_unmasked w) b at clean c
       stmt_rated v m w (t_jump j k sp) at clean c = tt
       stmt_rated v m w (t_return k None sp) at clean c = tt

@@ -193,7 +193,9 @@ fn stmt(s: &TypedStmt) -> Option<Span>
         TypedStmt::ForeachActive { body, .. } => stmt(body),
         TypedStmt::Unmasked { body, .. } => block(body),
         TypedStmt::Foreach {
-            ranges: all, body, ..
+            ranges: all,
+            body,
+            ..
         } => ranges(all).or(stmt(body)),
         TypedStmt::Print { span, .. } | TypedStmt::Assert { span, .. } => Some(*span),
     }

@@ -33,11 +33,7 @@ fn bound(r: &mut Reserve, x: &TypedExpr, slot: Slot) -> Result<(), AllocError>
 }
 
 /// The bounds of ranges, from left to right, two slots for each; and the slot behind them.
-pub(crate) fn bounds(
-    r: &mut Reserve,
-    all: &[TypedRange],
-    slot: Slot,
-) -> Result<Slot, AllocError>
+pub(crate) fn bounds(r: &mut Reserve, all: &[TypedRange], slot: Slot) -> Result<Slot, AllocError>
     ensures number { IfOk result (λ n. n.number ≡ slot.number + length (ranges_of all.now) + length (ranges_of all.now)) }
     ensures gives { OnOk result (Gives r.old r.new (bounds_asks (ranges_of all.now) slot.number)) }
 {
@@ -65,11 +61,7 @@ fn place(r: &mut Reserve, x: &TypedRange, slot: Slot) -> Result<Slot, AllocError
 }
 
 /// The places of ranges, two slots for each; and the slot behind them.
-pub(crate) fn places(
-    r: &mut Reserve,
-    all: &[TypedRange],
-    slot: Slot,
-) -> Result<Slot, AllocError>
+pub(crate) fn places(r: &mut Reserve, all: &[TypedRange], slot: Slot) -> Result<Slot, AllocError>
     ensures number { IfOk result (λ n. n.number ≡ slot.number + length (ranges_of all.now) + length (ranges_of all.now)) }
     ensures gives { OnOk result (Gives r.old r.new (places_asks (ranges_of all.now) slot.number)) }
 {

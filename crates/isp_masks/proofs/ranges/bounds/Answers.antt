@@ -22,14 +22,16 @@ loop-x-preserved c =
     let second : c.next-second.result.number ≡ m + 1 = ap (λ (s : Slot). s.number) c.next-second.ensures in
     let next : c.next-at.result.number ≡ m + 1 + 1 = ap (λ (s : Slot). s.number) c.next-at.ensures ∙ ap (λ j. j + 1) second in
     let asked = subst (λ zs. Present a.on.now (bounds_asks zs m)) more c.loop-x.invariant.1 in
-    let end = subst (λ j. Appends c.bound.new.b c.bound-in-loop-x.new.b (λ pc p. bound_code l y pc p k j) (expr_places l y)) second c.in_ok-bound-2.ensures in
-    (λ z g.
-    c.loop-x.invariant.0 z
-    (subst (λ zs. Appends c.loop-x.b z (λ pc p. bounds_code l zs pc p k m) (ranges_places l zs)) (sym more)
-    (appends_then c.loop-x.b c.bound.new.b z (λ pc p. bound_code l x pc p k m) (λ pc p. bound_code l y pc p k (m + 1) ++ bounds_code l left (pc + length (bound_code l y pc p k (m + 1))) (p + length (expr_places l y)) k (m + 1 + 1)) (expr_places l x) (expr_places l y ++ ranges_places l left)
-    c.in_ok-bound.ensures
-    (appends_then c.bound.new.b c.bound-in-loop-x.new.b z (λ pc p. bound_code l y pc p k (m + 1)) (λ pc p. bounds_code l left pc p k (m + 1 + 1)) (expr_places l y) (ranges_places l left)
-    end (subst (λ j. Appends c.bound-in-loop-x.new.b z (λ pc p. bounds_code l left pc p k j) (ranges_places l left)) next g)))), subst (λ j. Present a.on.now (bounds_asks left j)) (sym next) asked.1.1.1.1)
+    let end = subst (λ j. Appends c.bound.new.b c.bound-in-loop-x.new.b (λ pc p. bound_code l y pc p k j) (expr_places l y)) second c.in_ok-bound-2.ensures in (
+      λ z g.
+          c.loop-x.invariant.0 z
+          (subst (λ zs. Appends c.loop-x.b z (λ pc p. bounds_code l zs pc p k m) (ranges_places l zs)) (sym more)
+          (appends_then c.loop-x.b c.bound.new.b z (λ pc p. bound_code l x pc p k m) (λ pc p. bound_code l y pc p k (m + 1) ++ bounds_code l left (pc + length (bound_code l y pc p k (m + 1))) (p + length (expr_places l y)) k (m + 1 + 1)) (expr_places l x) (expr_places l y ++ ranges_places l left)
+          c.in_ok-bound.ensures
+          (appends_then c.bound.new.b c.bound-in-loop-x.new.b z (λ pc p. bound_code l y pc p k (m + 1)) (λ pc p. bounds_code l left pc p k (m + 1 + 1)) (expr_places l y) (ranges_places l left)
+          end (subst (λ j. Appends c.bound-in-loop-x.new.b z (λ pc p. bounds_code l left pc p k j) (ranges_places l left)) next g)))),
+      subst (λ j. Present a.on.now (bounds_asks left j)) (sym next) asked.1.1.1.1,
+    )
 
 pub returns : goal.returns
 returns c =

@@ -11,12 +11,14 @@ loop-x-preserved c =
     let second = c.in_ok-second.ensures.number in
     let next = c.in_ok-at.ensures.number in
     let long = ap length more in
-    let was = c.loop-x.invariant.1 in
-    (λ k g.
-    c.loop-x.invariant.0 k
-    (subst (λ zs. Gives c.loop-x.r k (places_asks zs c.loop-x.at.number)) (sym more)
-    (both_given _ _ _ _ _ c.in_ok-second.ensures.gives
-    (both_given _ _ _ _ _ (rw (next, second) at c.in_ok-at.ensures.gives) (rw (next, second) at g)))), omega (arith, was, long, second, next))
+    let was = c.loop-x.invariant.1 in (
+      λ k g.
+          c.loop-x.invariant.0 k
+          (subst (λ zs. Gives c.loop-x.r k (places_asks zs c.loop-x.at.number)) (sym more)
+          (both_given _ _ _ _ _ c.in_ok-second.ensures.gives
+          (both_given _ _ _ _ _ (rw (next, second) at c.in_ok-at.ensures.gives) (rw (next, second) at g)))),
+      omega (arith, was, long, second, next),
+    )
 
 pub returns-clause-gives : goal.returns-clause-gives
 returns-clause-gives c =
