@@ -1,18 +1,17 @@
 -- Each call does what it means, by induction on the levels that are left: the callee's code does what its body means, where the
 -- calls from there do, with a level less; with none left both sides trap.
-use Rattle.std.proofs.Common.{◌≡◌, ◌≢◌, ℕ, zero, suc, ◌+◌, ◌*◌, ◌<◌, ◌≤◌, List, [], ◌∷◌, ◌++◌, length, Option, Some, None, Bool, true, false, refl, sym, ap, ◌∙◌, subst, arith}
-use Rattle.std.specs.Prelude.{slice_get, nat_lt, if◌then◌else◌}
+use Rattle.std.proofs.Common.{◌≡◌, ◌≢◌, ℕ, zero, suc, ◌+◌, ◌<◌, List, [], ◌∷◌, length, Option, Some, None, true, false, refl, sym, ap, ◌∙◌, subst, arith}
+use Rattle.std.specs.Prelude.{slice_get, nat_lt}
 use Rattle.std.proofs.lemmas.Bool.{lt-ltb, le-ltb, cond-true, cond-false}
 use Rattle.std.proofs.lemmas.Option.{slice_get_within}
 use Rattle.isp_base.specs.Cross.{or_zero}
-use Rattle.isp_base.specs.Maps.{Lanes, on, over, put}
-use Rattle.isp_base.specs.Sets.{Mask, nobody, any, lowest}
+use Rattle.isp_base.specs.Maps.{on}
+use Rattle.isp_base.specs.Sets.{Mask, nobody, lowest}
 use Rattle.isp_base.specs.Stores.{below}
 use Rattle.isp_base.specs.Traps.{trap}
 use Rattle.isp_base.specs.Types.{gang_width}
 use Rattle.isp_base.specs.declared.trap.Trap.{Trap}
 use Rattle.isp_base.specs.declared.trap.TrapKind.TheVariants.{Depth}
-use Rattle.isp_base.specs.declared.types.Gang.{Gang}
 use Rattle.isp_base.specs.declared.types.Rate.{Rate}
 use Rattle.isp_base.specs.declared.types.Rate.TheVariants.{Uniform, Varying}
 use Rattle.isp_base.specs.declared.types.Span.{Span}
@@ -21,9 +20,9 @@ use Rattle.isp_code.specs.Calls as machine_calls
 use Rattle.isp_code.specs.Calls.{new_home, waits, depth, called, entered, left, with_result, put_result, place_at}
 use Rattle.isp_code.specs.Conf as machine
 use Rattle.isp_code.specs.Conf.{Conf, Move, Go}
-use Rattle.isp_code.specs.Lines.{act, set_scalar, set_vector, next}
+use Rattle.isp_code.specs.Lines.{set_scalar, set_vector, next}
 use Rattle.isp_code.specs.Listing.{Listing, Routine}
-use Rattle.isp_code.specs.Machine.{after, step, arrive}
+use Rattle.isp_code.specs.Machine.{step, arrive}
 use Rattle.isp_code.specs.declared.instr.Call.{Call}
 use Rattle.isp_code.specs.declared.instr.Instr.{Instr}
 use Rattle.isp_code.specs.declared.instr.Instr.TheVariants as instr
@@ -35,16 +34,16 @@ use Rattle.isp_typed.specs.Typed.{Program, TFunction}
 use Rattle.isp_meaning.specs.Calls as meaning
 use Rattle.isp_meaning.specs.Calls.{frame_of, answer_at, answer_of, ended, calls_at}
 use Rattle.isp_meaning.specs.Expressions.{Passed}
-use Rattle.isp_meaning.specs.Outcomes.{Val, Gives, Fails, Stops, Res, Went, Trapped, Cut}
-use Rattle.isp_meaning.specs.Payloads.{Payload, One, Each, sole, spread}
+use Rattle.isp_meaning.specs.Outcomes.{Res, Went, Trapped, Cut}
+use Rattle.isp_meaning.specs.Payloads.{One, Each}
 use Rattle.isp_meaning.specs.State.{State, Frame}
 use Rattle.isp_meaning.specs.Statements.{block}
 use Rattle.isp_lower.specs.Calls.{Takes, given_in, given_back, CallRuns}
 use Rattle.isp_lower.specs.Layout.{Layout, class_at, register}
-use Rattle.isp_lower.specs.Setting.{Setting, IsSettled, IsCalling, CallsRun, At, Stands}
+use Rattle.isp_lower.specs.Setting.{Setting, IsSettled, IsCalling, CallsRun, Stands}
 use Rattle.isp_lower.specs.Steps.{ComesIn, FailedIn, StoppedIn}
 use Rattle.isp_lower.proofs.Lemmas.{are_front, are_back, put_same, comes_on, step_by, step_is, failed_after, stopped_after, place_named}
-use Rattle.isp_masks.specs.Compiled.{call_setting, IsCompiled, IsFunctionCode, AreCompiled}
+use Rattle.isp_masks.specs.Compiled.{call_setting, IsFunctionCode, AreCompiled}
 use Rattle.isp_masks.specs.Spots.{first_spot}
 use Rattle.isp_masks.specs.Statements.{block_code, returned}
 use Rattle.isp_masks.specs.StmtRuns.{StmtRuns}

@@ -1,6 +1,5 @@
 -- What is handed over to a call: the registers of each class, in order, are the values and the arrays of its parameters.
 use Rattle.std.proofs.Common.{◌≡◌, ℕ, zero, suc, ◌<◌, ◌≤◌, ◌^◌, List, [], ◌∷◌, length, take, Option, Some, None, Bool, true, false, refl, sym, ap, ◌∙◌, subst, arith}
-use Rattle.std.proofs.lemmas.List.{get_or_past}
 use Rattle.std.proofs.lemmas.Option.{same_Some}
 use Rattle.std.specs.Prelude.{slice_get}
 use Rattle.isp_base.specs.Maps.{Lanes, on, over}
@@ -12,7 +11,6 @@ use Rattle.isp_base.specs.declared.types.Rate.TheVariants.{Uniform, Varying}
 use Rattle.isp_code.specs.Calls.{if_number, numbers, from}
 use Rattle.isp_code.specs.Conf.{Conf}
 use Rattle.isp_code.specs.Registers.{same_class}
-use Rattle.isp_code.specs.declared.register.Class.{Class}
 use Rattle.isp_code.specs.declared.register.Class.TheVariants as class
 use Rattle.isp_code.specs.declared.register.Register.{Register}
 use Rattle.isp_typed.specs.Fine.{IsParam, AreParams, params_of}
@@ -30,8 +28,7 @@ use Rattle.isp_lower.specs.Held.{Holds}
 use Rattle.isp_lower.specs.Layout.{Layout, class_at}
 use Rattle.isp_masks.specs.Arrays.{array_then, array_count, ArraysStand}
 use Rattle.isp_masks.specs.Passing.{count_if, count_value, value_count, HasRate, Passes}
-use Rattle.isp_masks.proofs.Arrays.{Given, Opens}
-use Rattle.isp_masks.proofs.Passing.{same_true}
+use Rattle.isp_masks.proofs.Arrays.{Opens}
 use Rattle.isp_code.specs.Listing.{Routine}
 
 -- ---- classes

@@ -1,5 +1,5 @@
 -- What the ranges of a `foreach` are written in: a range with the jumps out of it and back to its test, and what is there for it.
-use Rattle.std.proofs.Common.{◌≡◌, ℕ, ◌+◌, ◌<◌, ◌≤◌, List, [], ◌∷◌, ◌++◌, length, drop, get_or, refl, sym, ap, ◌∙◌, subst, suc, arith, append-nil, length-append, Vec, Global}
+use Rattle.std.proofs.Common.{◌≡◌, ℕ, ◌+◌, ◌<◌, ◌≤◌, List, [], ◌∷◌, ◌++◌, length, drop, get_or, refl, sym, ap, ◌∙◌, subst, suc, arith, append-nil, length-append}
 use Rattle.std.specs.Prelude.{slice_set}
 use Rattle.std.proofs.lemmas.List.{drop_more}
 use Rattle.isp_base.specs.declared.operators.Compare.TheVariants.{Less}
@@ -10,7 +10,7 @@ use Rattle.isp_code.specs.declared.instr.Instr.TheVariants as instr
 use Rattle.isp_code.specs.declared.instr.JumpTest.TheVariants as jump
 use Rattle.isp_typed.specs.Nodes.{range_nodes}
 use Rattle.isp_typed.specs.Typed.{TRange}
-use Rattle.isp_typed.specs.Views.{range_of, ranges_of}
+use Rattle.isp_typed.specs.Views.{ranges_of}
 use Rattle.isp_typed.specs.declared.stmt.TypedRange.{TypedRange}
 use Rattle.isp_tree.specs.Nodes.{nodes_of_all}
 use Rattle.isp_lower.specs.Code.{compare, guard, jump_on, splat, two}

@@ -4,7 +4,7 @@ use Rattle.std.specs.Prelude.{List, ◌≡◌, ◌≤◌, length, Option, Some, 
 use Rattle.isp_base.specs.declared.types.Rate.{Rate}
 use Rattle.isp_base.specs.declared.types.Rate.TheVariants.{Uniform}
 use Rattle.isp_base.specs.declared.types.Ty.{Ty}
-use Rattle.isp_code.specs.Entries.{parameters_of, result_of}
+use Rattle.isp_code.specs.Entries.{parameters_of}
 use Rattle.isp_code.specs.Listing.{Listing, Routine}
 use Rattle.isp_code.specs.Registers.{table_of, types_in}
 use Rattle.isp_typed.specs.Fine.{params_of}
@@ -13,7 +13,7 @@ use Rattle.isp_lower.specs.Asks.{All}
 use Rattle.isp_lower.specs.Callees.{rates_in}
 use Rattle.isp_lower.specs.Layout.{class_at}
 use Rattle.isp_lower.specs.Rows.{Rows, Result, rows_at, HasRow, layout_of}
-use Rattle.isp_lower.specs.Sound.{HasMask, HasHeader}
+use Rattle.isp_lower.specs.Sound.{HasMask}
 use Rattle.isp_lower.specs.Tables.{AnyArray}
 use Rattle.isp_masks.specs.Arrays.{ArraysStand}
 use Rattle.isp_masks.specs.Compiled.{AreOne}

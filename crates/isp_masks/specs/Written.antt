@@ -7,7 +7,6 @@ use Rattle.isp_base.specs.declared.types.Elem.TheVariants.{Bool as Truth, I32, I
 use Rattle.isp_base.specs.declared.types.Rate.TheVariants.{Uniform, Varying}
 use Rattle.isp_base.specs.declared.types.Span.{Span}
 use Rattle.isp_code.specs.declared.instr.Instr.{Instr}
-use Rattle.isp_code.specs.declared.instr.Instr.TheVariants as instr
 use Rattle.isp_code.specs.declared.instr.Plain.TheVariants as plain
 use Rattle.isp_typed.specs.Typed.{TExpr, type_of, TSimple, TFirst, TRange, TStmt, TBlock}
 use Rattle.isp_lower.specs.Asks.{Ask, Both, Register, Number, spare_ask}
