@@ -4,7 +4,7 @@ use crate::found::Found;
 use isp_base::{Bound, Signature};
 use isp_bind::{answer, bind};
 use isp_engine::{Ending, Report, compile, execute, front};
-use isp_eval::{Outcome, evaluate, work};
+use isp_model::{Outcome, evaluate, work};
 use isp_lex::SourceFault;
 use isp_rates::Checked;
 use std::alloc::{AllocError, Global};
@@ -88,7 +88,7 @@ fn told(alloc: Global, signature: &Signature, outcome: Outcome) -> Result<Found,
     match outcome {
         Outcome::Ends {
             arrays,
-            answer: returned,
+            result: returned,
             output,
         } => {
             let text = answer(alloc, signature, arrays.as_slice(), returned)?;

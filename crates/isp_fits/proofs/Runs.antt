@@ -1,7 +1,7 @@
--- The elements of a run's arrays fit their types.
-use Rattle.std.specs.Prelude.{◌≡◌, ℕ, zero, suc, ◌+◌, ◌%◌, ◌^◌, ◌<◌, ◌≤◌, List, [], ◌∷◌, length, take, drop, Bool, true, false, not, ◌&&◌, slice_index}
+-- The elements of a run's arrays fit their types, and so does what it gives back.
+use Rattle.std.specs.Prelude.{◌≡◌, ℕ, zero, suc, ◌+◌, ◌%◌, ◌^◌, ◌<◌, ◌≤◌, List, [], ◌∷◌, length, take, drop, Option, Some, None, Bool, true, false, not, ◌&&◌, option_map, slice_get, slice_index}
 use Rattle.std.specs.List.{All}
-use Rattle.std.proofs.Common.{refl, ap, ◌∙◌, subst, arith, pow_pos, mod-lt}
+use Rattle.std.proofs.Common.{refl, sym, ap, ◌∙◌, subst, arith, pow_pos, mod-lt}
 use Rattle.std.proofs.lemmas.List.Elements.{All-head, All-tail}
 use Rattle.isp_base.specs.Arguments.{rows, row_bits}
 use Rattle.isp_base.specs.Binding.{is_for, has_signature}
@@ -18,16 +18,19 @@ use Rattle.isp_base.specs.declared.types.Elem.{Elem}
 use Rattle.isp_base.specs.declared.types.Elem.TheVariants.{Bool as Truth}
 use Rattle.isp_base.proofs.Gangs.{few_width, some_width}
 use Rattle.isp_base.proofs.RankLaws.{same_is}
+use Rattle.isp_base.specs.declared.types.Ty.{Ty}
+use Rattle.isp_rates.specs.Program.{IsAccepted}
+use Rattle.isp_typed.specs.Typed.{Program, TFunction}
 use Rattle.isp_typed.specs.Fine.{AreParams, IsParam, IsDeclared, FineFunction}
 use Rattle.isp_typed.specs.declared.variable.Holds.{Holds}
 use Rattle.isp_typed.specs.declared.variable.Holds.TheVariants as hold
 use Rattle.isp_typed.specs.declared.variable.Variable.{Variable}
 use Rattle.isp_meaning.specs.Outcomes.{Val, Gives, Fails, Stops}
-use Rattle.isp_meaning.specs.Payloads.{One}
+use Rattle.isp_meaning.specs.Payloads.{Payload, One, Each}
 use Rattle.isp_meaning.specs.Expressions.{Values, Store}
 use Rattle.isp_meaning.specs.Calls.{most_calls}
 use Rattle.isp_meaning.specs.Runs.{handed, first_frame, first_state, no_place, meaning, state_of}
-use Rattle.isp_fits.specs.Fits.{RowsFit, ElementsFit}
+use Rattle.isp_fits.specs.Fits.{RowsFit, ElementsFit, GivenFits, ResultFits}
 use Rattle.isp_fits.proofs.Bounds.{Fits}
 use Rattle.isp_fits.proofs.Typing.{World, IsStore, answer_elem, Left, Sound, ValFits, left_of}
 use Rattle.isp_fits.proofs.Expressions.{Passes, ArgumentsFit}
@@ -114,11 +117,36 @@ state_fits gang w Q (Gives x s) h = left_of gang w s h.by.1
 state_fits gang w Q (Fails t s) h = h.by
 state_fits gang w Q (Stops s) h = h.by
 
+given_fits : (gang : ℕ) (w : World) (t : Option Ty) (v : Val Payload) → ValFits gang w (Fits gang (answer_elem t)) v → GivenFits (option_map (λ u. u.elem) t) v
+given_fits gang w None v h = tt
+given_fits gang w (Some t) (Gives (One x) s) h = h.by.0
+given_fits gang w (Some t) (Gives (Each x) s) h = pow_pos (width t.elem)
+given_fits gang w (Some t) (Fails u s) h = tt
+given_fits gang w (Some t) (Stops s) h = tt
+
+module _ (program : Program) (f : ℕ) (h : TFunction) (xs : List Argument) (n : ℕ) (accepted : IsAccepted program) (is : slice_get program.functions f ≡ Some h) (signed : has_signature h.parameters xs ≡ true) (fit : All (λ r. Fit r.elem r.bits) (rows xs)) where
+  abbrev gang : ℕ
+  gang = gang_width program.gang
+
+  abbrev w : World
+  w = first_world xs
+
+  own : FineFunction program.functions h
+  own = fine_of (FineFunction program.functions) program.functions f h accepted.fine.each is
+
+  run_fits : ValFits gang w (Fits gang (answer_elem h.answer)) (meaning program f n xs)
+  run_fits =
+      let passes = handed_fits gang w (length h.params) h.variables h.parameters xs 0 own.params own.declared signed (stores_are w 0 (rows xs) (λ j. let same : 0 + j ≡ j = omega arith in ap (row_elem (rows xs)) same) (omega arith)) in
+      calls_fit program (some_width program.gang) (few_width program.gang) accepted.fine.each accepted.sound n most_calls f h is no_place (everyone gang) (handed 0 xs) w (first_state xs) passes (first_fits gang xs fit)
+
+  all_fit : RowsFit (rows xs) (state_of (meaning program f n xs)).arrays
+  all_fit = rows_fit (rows xs) (state_of (meaning program f n xs)).arrays (state_fits gang w (Fits gang (answer_elem h.answer)) (meaning program f n xs) run_fits)
+
+  what_is_given_fits : GivenFits h.gives (meaning program f n xs)
+  what_is_given_fits = subst (λ t. GivenFits t (meaning program f n xs)) (sym own.gives) (given_fits gang w h.answer (meaning program f n xs) run_fits)
+
 pub elements_fit : ElementsFit
-elements_fit program f h xs n accepted is signed fit =
-    let gang = gang_width program.gang in
-    let w = first_world xs in
-    let own = fine_of (FineFunction program.functions) program.functions f h accepted.fine.each is in
-    let passes = handed_fits gang w (length h.params) h.variables h.parameters xs 0 own.params own.declared signed (stores_are w 0 (rows xs) (λ j. let same : 0 + j ≡ j = omega arith in ap (row_elem (rows xs)) same) (omega arith)) in
-    let ran = calls_fit program (some_width program.gang) (few_width program.gang) accepted.fine.each accepted.sound n most_calls f h is no_place (everyone gang) (handed 0 xs) w (first_state xs) passes (first_fits gang xs fit) in
-    rows_fit (rows xs) (state_of (meaning program f n xs)).arrays (state_fits gang w (Fits gang (answer_elem h.answer)) (meaning program f n xs) ran)
+elements_fit = all_fit
+
+pub result_fits : ResultFits
+result_fits = what_is_given_fits

@@ -1,8 +1,14 @@
-//! What holds of every run. No code is run here: the function carries a law in its contract.
-ghost use Rattle.isp_fits.specs.Fits.{ElementsFit};
+//! What holds of every run. No code is run here: each function carries a law in its contract.
+ghost use Rattle.isp_fits.specs.Fits.{ElementsFit, ResultFits};
 
 /// Where the elements of the arrays that a run begins with fit their types, those of the arrays that it reaches do,
 /// after any number of turns, and whether it has ended, trapped or goes on.
 pub fn elements_fit()
     ensures { ElementsFit }
+{}
+
+/// Where the elements of the arrays that a run begins with fit their types, what it gives back fits the type that its
+/// function gives.
+pub fn result_fits()
+    ensures { ResultFits }
 {}

@@ -3,4 +3,4 @@
 
 mod laws;
 
-pub use laws::elements_fit;
+pub use laws::{elements_fit, result_fits};

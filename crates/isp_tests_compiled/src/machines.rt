@@ -4,7 +4,7 @@ ghost use Rattle.isp_base.specs.Types.{gang_width};
 
 use isp_base::{Array, Bound, Gang, Value};
 use isp_code::Code;
-use isp_eval::Outcome;
+use isp_model::Outcome;
 use isp_machine::{Machine, Stop};
 use isp_masks::lower;
 use isp_rates::Checked;
@@ -53,12 +53,12 @@ fn stands_as<const N: usize>(machine: &Machine<'_, N>, stop: Stop, outcome: &Out
             Stop::Ended,
             Outcome::Ends {
                 arrays,
-                answer,
+                result,
                 output,
             },
         ) => {
             are_same(machine.arrays(), arrays.as_slice())
-                && is_same_result(machine.result(), *answer)
+                && is_same_result(machine.result(), *result)
                 && machine.output() == output.as_slice()
         }
         (

@@ -4,7 +4,7 @@ use crate::programs::Row;
 use isp_base::Signature;
 use isp_bind::{answer, bind};
 use isp_engine::{Ending, Image, execute, front};
-use isp_eval::{Outcome, evaluate};
+use isp_model::{Outcome, evaluate};
 use std::alloc::{AllocError, Global};
 use std::test::Fail;
 
@@ -31,7 +31,7 @@ fn told(alloc: Global, signature: &Signature, outcome: &Outcome) -> Result<Strin
     match outcome {
         Outcome::Ends {
             arrays,
-            answer: returned,
+            result: returned,
             output: _output,
         } => answer(alloc, signature, arrays.as_slice(), *returned),
         Outcome::Traps {

@@ -2,7 +2,7 @@
 use crate::rows::front;
 use isp_base::{Bound, Gang};
 use isp_bind::bind;
-use isp_eval::{EvalFault, evaluate, work};
+use isp_model::{EvalFault, evaluate, work};
 use isp_rates::Checked;
 use std::alloc::Global;
 use std::process::Abort;

@@ -2,7 +2,7 @@
 use crate::rows::front;
 use isp_base::{Bound, Gang, Value};
 use isp_bind::bind;
-use isp_eval::{EvalFault, Outcome, evaluate};
+use isp_model::{EvalFault, Outcome, evaluate};
 use isp_rates::Checked;
 use isp_testing::Hoard;
 use std::alloc::Global;
@@ -31,10 +31,10 @@ fn is_right(outcome: &Outcome) -> bool {
     match outcome {
         Outcome::Ends {
             arrays,
-            answer,
+            result,
             output,
         } => arrays.len() == 1
-            && is_nine(*answer)
+            && is_nine(*result)
             && output.as_slice() == b"[5,7,5,7]\n".as_slice(),
         _ => false,
     }

@@ -2,7 +2,7 @@
 use crate::marks::wanted;
 use isp_base::{Array, Bound, Gang, Signature, Value};
 use isp_bind::{answer, bind};
-use isp_eval::{Outcome, evaluate};
+use isp_model::{Outcome, evaluate};
 use isp_lex::{SourceFault, lex};
 use isp_rates::{Checked, check};
 use isp_syntax::parse;
@@ -84,7 +84,7 @@ fn told(alloc: Global, signature: &Signature, outcome: Outcome) -> Result<Found,
     match outcome {
         Outcome::Ends {
             arrays,
-            answer: returned,
+            result: returned,
             output,
         } => Ok(Found {
             ending: ended(alloc, signature, arrays.as_slice(), returned)?,

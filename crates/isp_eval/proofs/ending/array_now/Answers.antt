@@ -1,7 +1,0 @@
-use Rattle.isp_eval.specs.Stores.{stores_of}
-use Rattle.isp_eval.proofs.Cutting.{cut_more}
-use Rattle.isp_eval.proofs.ending.array_now.Goals as goal
-
-pub loop-place-preserved : goal.loop-place-preserved
-loop-place-preserved c =
-    cut_more c.args.array.now.elem c.elem-in-loop-place.result (stores_of c.args.stores.now c.args.store) c.loop-place.place c.element_at.result c.low_bits.result c.loop-place.now c.push.new.self c.loop-place.invariant c.elem-in-loop-place.ensures c.element_at.ensures c.low_bits.ensures c.in_ok-push.ensures.ok

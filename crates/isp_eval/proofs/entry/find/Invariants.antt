@@ -1,5 +1,0 @@
-use Rattle.isp_eval.proofs.Beginners.{NoneBelow}
-use Rattle.isp_eval.proofs.entry.find.Given as goal
-
-abbrev pub invariant-loop-number : goal.invariant-loop-number
-invariant-loop-number l = NoneBelow l.program l.entry l.bound.arguments.items l.number

@@ -1,0 +1,15 @@
+pub mod Arms
+pub mod Capped
+pub mod Ends
+pub mod Entering
+pub mod Foreach
+pub mod Left
+pub mod Packing
+pub mod Passing
+pub mod Runs
+pub mod Seen
+pub mod Settled
+pub mod Starting
+pub mod Starts
+pub mod Stores
+pub mod Tasks

@@ -1,0 +1,26 @@
+//! A machine of tasks: it runs a function of a program over a gang, by the meaning.
+#![tactic(auto)]
+
+mod activation;
+mod calls;
+mod counting;
+mod entering;
+mod evaluator;
+mod expressions;
+mod gathering;
+mod indices;
+mod loops;
+mod packed;
+mod packing;
+mod places;
+mod printing;
+mod rounds;
+mod running;
+mod simple;
+mod starting;
+mod state;
+mod statements;
+mod stores;
+mod tasks;
+
+pub use running::{Ending, Run, run_function};

@@ -1,0 +1,412 @@
+//! What is left to do.
+ghost use Rattle.std.specs.Prelude.{IfErr, OnOk};
+ghost use Rattle.isp_tasks.specs.Tasks.{Comes, Halts, does};
+
+use crate::activation::Activation;
+use crate::loops::Turning;
+use crate::places::{Place, Writing};
+use crate::rounds::{Bounds, Members, Rounds};
+use crate::state::{Evaluator, Exits, Sets, Stop};
+use isp_base::{BinOp, Compare, Elem, Span, Ty, UnaryOp};
+use isp_gang::computed::Computed;
+use isp_gang::sets::Active;
+use isp_typed::{
+    ArrayVariable, Library, Logic, TypedArgument, TypedCall, TypedExpr, TypedItem, TypedPlace,
+    TypedSimple, TypedStmt,
+};
+
+/// An operator on two values.
+#[derive(Clone, Copy)]
+pub enum Joining {
+    Operate {
+        operator: BinOp,
+        elem: Elem,
+        span: Span,
+    },
+    Compare {
+        comparison: Compare,
+        elem: Elem,
+    },
+}
+
+/// What is done with several values.
+#[derive(Clone, Copy)]
+pub enum Gathering<'a> {
+    Library {
+        function: Library,
+        elem: Elem,
+    },
+    Print {
+        text: &'a [u8],
+        values: &'a [TypedExpr],
+    },
+}
+
+/// What is handed to a call.
+#[derive(Clone, Copy)]
+pub enum Passed {
+    Value(Computed),
+    /// An array, by its store.
+    Store(usize),
+}
+
+/// What a packed call does.
+#[derive(Clone, Copy)]
+pub enum Packing<'a> {
+    Store(&'a TypedExpr),
+    Load(usize),
+}
+
+/// The branches of an `if` over a set; once the first was run, over those that are left.
+#[derive(Clone, Copy)]
+pub struct Branches<'a> {
+    pub then: &'a TypedStmt,
+    pub otherwise: Option<&'a TypedStmt>,
+    pub set: Active,
+}
+
+/// The statements of a block that are left, and where members left by those before.
+#[derive(Clone, Copy)]
+pub struct Statements<'a> {
+    pub rest: &'a [TypedStmt],
+    pub before: Exits,
+}
+
+/// One thing that is left to do, over a set. A task in whose name nothing else is said takes up what a
+/// part has left in a register.
+#[derive(Drop)]
+pub enum Task<'a> {
+    // ---- expressions
+    Value(&'a TypedExpr, Active),
+    /// The element at the index that was found.
+    Load {
+        array: ArrayVariable,
+        elem: Elem,
+        span: Span,
+        set: Active,
+    },
+    Convert {
+        from: Elem,
+        to: Elem,
+    },
+    Unary {
+        operator: UnaryOp,
+        elem: Elem,
+    },
+    /// The left operand was found.
+    Right {
+        joining: Joining,
+        right: &'a TypedExpr,
+        set: Active,
+    },
+    Join {
+        joining: Joining,
+        left: Computed,
+        set: Active,
+    },
+    /// The left operand of `&&` or `||` was found.
+    Logic {
+        logic: Logic,
+        right: &'a TypedExpr,
+        set: Active,
+    },
+    Settle {
+        logic: Logic,
+        left: Computed,
+        set: Active,
+    },
+    /// The test of `?:` was found.
+    Choose {
+        then: &'a TypedExpr,
+        otherwise: &'a TypedExpr,
+        set: Active,
+    },
+    Otherwise {
+        test: Computed,
+        otherwise: &'a TypedExpr,
+        set: Active,
+    },
+    Select {
+        test: Computed,
+        then: Computed,
+        set: Active,
+    },
+    /// One of several values was found.
+    Values {
+        gathering: Gathering<'a>,
+        rest: &'a [TypedExpr],
+        done: Vec<Computed>,
+        set: Active,
+    },
+    /// The index of the first element of a packed call was found.
+    Packed {
+        packing: Packing<'a>,
+        array: ArrayVariable,
+        elem: Elem,
+        span: Span,
+        set: Active,
+    },
+    /// The value of a packed store was found.
+    PackedStore {
+        array: ArrayVariable,
+        elem: Elem,
+        first: u64,
+        span: Span,
+        set: Active,
+    },
+    // ---- calls
+    Call(&'a TypedCall, Active),
+    /// The arguments that are left, and then the call.
+    Arguments {
+        call: &'a TypedCall,
+        rest: &'a [TypedArgument],
+        done: Vec<Passed>,
+        set: Active,
+    },
+    /// An argument was found.
+    Argument {
+        call: &'a TypedCall,
+        rest: &'a [TypedArgument],
+        done: Vec<Passed>,
+        set: Active,
+    },
+    /// The function has ended; the caller goes on.
+    Return {
+        caller: Box<Activation<'a>>,
+        left: usize,
+        sets: Sets,
+        set: Active,
+    },
+    // ---- statements after which all go on
+    Simple(&'a TypedSimple, Active),
+    /// What a statement found is not needed.
+    Forget,
+    /// The index of a place was found.
+    Indexed {
+        target: &'a TypedPlace,
+        array: ArrayVariable,
+        elem: Elem,
+        writing: Writing<'a>,
+        set: Active,
+    },
+    /// The right side was found.
+    Assign {
+        place: Place,
+        span: Span,
+        set: Active,
+    },
+    Update {
+        operator: BinOp,
+        elem: Elem,
+        place: Place,
+        target: &'a TypedPlace,
+        span: Span,
+        set: Active,
+    },
+    Items(&'a [TypedItem], Active),
+    /// The initial value was found.
+    Declared {
+        number: usize,
+        ty: Ty,
+        set: Active,
+    },
+    // ---- statements
+    Run(&'a TypedStmt, Active),
+    /// A statement was run.
+    Statements(Box<Statements<'a>>),
+    /// All of the set go on.
+    Went(Active),
+    /// The test of an `if` was found.
+    Branch(Box<Branches<'a>>),
+    /// The first branch was run.
+    Second(Box<Branches<'a>>),
+    /// The second branch was run.
+    Unite(Sets),
+    /// The result was found.
+    Answer(Active),
+    /// The test of an `assert` was found.
+    Assert {
+        span: Span,
+        set: Active,
+    },
+    // ---- loops
+    /// The live instances take the test.
+    Test(Box<Turning<'a>>),
+    Tested(Box<Turning<'a>>),
+    /// The body was run.
+    Turned(Box<Turning<'a>>),
+    // ---- bodies that run over each of a list of sets
+    /// The start of a range was found.
+    Start(Box<Bounds<'a>>),
+    End {
+        start: u64,
+        bounds: Box<Bounds<'a>>,
+    },
+    Rounds(Box<Rounds<'a>>),
+    /// Each member alone, from one on.
+    Members(Box<Members<'a>>),
+}
+
+impl<'a> Evaluator<'a> {
+    /// Does a task.
+    pub fn act(&mut self, task: Task<'a>) -> Result<(), Stop>
+        ensures ok { OnOk result (Comes self.old self.new (does self.old task.entry)) }
+        ensures err { IfErr result (Halts self.old self.new (does self.old task.entry)) }
+    {
+        match task {
+            Task::Value(x, set) => self.value(x, set),
+            Task::Load {
+                array,
+                elem,
+                span,
+                set,
+            } => self.load(array, elem, span, set),
+            Task::Convert { from, to } => {
+                self.convert(from, to);
+                Ok(())
+            }
+            Task::Unary { operator, elem } => {
+                self.unary(operator, elem);
+                Ok(())
+            }
+            Task::Right {
+                joining,
+                right,
+                set,
+            } => self.right(joining, right, set),
+            Task::Join { joining, left, set } => self.join(joining, left, set),
+            Task::Logic { logic, right, set } => self.logic(logic, right, set),
+            Task::Settle { logic, left, set } => {
+                self.settle(logic, left, set);
+                Ok(())
+            }
+            Task::Choose {
+                then,
+                otherwise,
+                set,
+            } => self.choose(then, otherwise, set),
+            Task::Otherwise {
+                test,
+                otherwise,
+                set,
+            } => self.otherwise(test, otherwise, set),
+            Task::Select { test, then, set } => {
+                self.select(test, then, set);
+                Ok(())
+            }
+            Task::Values {
+                gathering,
+                rest,
+                done,
+                set,
+            } => self.one_more(gathering, rest, done, set),
+            Task::Packed {
+                packing,
+                array,
+                elem,
+                span,
+                set,
+            } => self.packed(packing, array, elem, span, set),
+            Task::PackedStore {
+                array,
+                elem,
+                first,
+                span,
+                set,
+            } => self.packed_store(array, elem, first, span, set),
+            Task::Call(call, set) => self.call(call, set),
+            Task::Arguments {
+                call,
+                rest,
+                done,
+                set,
+            } => self.arguments(call, rest, done, set),
+            Task::Argument {
+                call,
+                rest,
+                done,
+                set,
+            } => self.argument(call, rest, done, set),
+            Task::Return {
+                caller,
+                left,
+                sets,
+                set,
+            } => {
+                self.resume(caller, left, sets, set);
+                Ok(())
+            }
+            task => self.act_simple(task),
+        }
+    }
+
+    // Does a task of the statements after which all go on.
+    fn act_simple(&mut self, task: Task<'a>) -> Result<(), Stop>
+        ensures ok { OnOk result (Comes self.old self.new (does self.old task.entry)) }
+        ensures err { IfErr result (Halts self.old self.new (does self.old task.entry)) }
+    {
+        match task {
+            Task::Simple(simple, set) => self.simple(simple, set),
+            Task::Forget => {
+                self.forget();
+                Ok(())
+            }
+            Task::Indexed {
+                target,
+                array,
+                elem,
+                writing,
+                set,
+            } => self.indexed(target, array, elem, writing, set),
+            Task::Assign { place, span, set } => self.assign(place, span, set),
+            Task::Update {
+                operator,
+                elem,
+                place,
+                target,
+                span,
+                set,
+            } => self.update(operator, elem, place, target, span, set),
+            Task::Items(items, set) => self.items(items, set),
+            Task::Declared { number, ty, set } => self.declared(number, ty, set),
+            task => self.act_statement(task),
+        }
+    }
+
+    // Does a task of the other statements.
+    fn act_statement(&mut self, task: Task<'a>) -> Result<(), Stop>
+        ensures ok { OnOk result (Comes self.old self.new (does self.old task.entry)) }
+        ensures err { IfErr result (Halts self.old self.new (does self.old task.entry)) }
+    {
+        match task {
+            Task::Run(statement, set) => self.run(statement, set),
+            Task::Statements(statements) => self.went_by(statements),
+            Task::Went(set) => {
+                self.leave(Sets::all(&set));
+                Ok(())
+            }
+            Task::Branch(branches) => self.branch(branches),
+            Task::Second(branches) => self.second(branches),
+            Task::Unite(first) => {
+                self.unite(first);
+                Ok(())
+            }
+            Task::Answer(set) => {
+                self.answer(set);
+                Ok(())
+            }
+            Task::Assert { span, set } => self.assert(span, set),
+            Task::Test(turning) => self.test(*turning),
+            Task::Tested(turning) => self.tested(*turning),
+            Task::Turned(turning) => self.turned(*turning),
+            Task::Start(bounds) => self.start(bounds),
+            Task::End { start, bounds } => self.end(start, bounds),
+            Task::Rounds(rounds) => self.rounds(rounds),
+            Task::Members(members) => self.members(members),
+            task => {
+                self.later(task)?;
+                Ok(())
+            }
+        }
+    }
+}
