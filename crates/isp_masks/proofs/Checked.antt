@@ -210,7 +210,7 @@ module _ (fs : List TFunction) where
       stmt_rated w (t_return k None sp) clean c = tt
       stmt_rated w (t_return k (Some x) sp) clean c = returned_rated answer w k x sp clean c
       stmt_rated w (t_print k text xs sp) clean c = absurd (some_left c)
-      stmt_rated w (t_assert x k sp) clean c = absurd (some_left c)
+      stmt_rated w (t_assert x k sp) clean c = expr_rated x clean c
 
       pub block_rated : (w : Within) (b : TBlock) → NoneOf (BlockBreach fs answer w b) → block_left b ≡ None → BlockRated fs answer b
       block_rated w (t_braces xs sp) clean c = stmts_rated w xs clean c

@@ -174,9 +174,8 @@ fn stmt(s: &TypedStmt) -> Option<Span>
         } => first(before).or(given(test).or(step(after).or(stmt(body)))),
         TypedStmt::ForeachActive { body, .. } => stmt(body),
         TypedStmt::Unmasked { body, .. } => block(body),
-        TypedStmt::Foreach { span, .. }
-        | TypedStmt::Print { span, .. }
-        | TypedStmt::Assert { span, .. } => Some(*span),
+        TypedStmt::Assert { test, .. } => expr(test),
+        TypedStmt::Foreach { span, .. } | TypedStmt::Print { span, .. } => Some(*span),
     }
 }
 

@@ -12,6 +12,7 @@ ghost use Rattle.isp_masks.specs.Asks.{answer_asks, block_asks, first_asks, part
 ghost use Rattle.isp_masks.specs.Exits.{nobody_leaves};
 ghost use Rattle.isp_masks.specs.Written.{Writes, active_at, again_at, answer_at, block_at, do_at, first_at, for_turn_at, guarded_at, if_at, if_else_at, live_again_at, part_at, parts_at, passed_at, step_at, step_back_at, stepped_at, stmt_at, turn_at, turns_at, unmasked_at, while_at, while_turn_at};
 
+use crate::asserting::asserts;
 use crate::awaited::{land_all, leave_room};
 use crate::exits::{all_go_on, exits_of};
 use crate::looping::{
@@ -29,7 +30,7 @@ use isp_lower::{
 use isp_typed::{TypedBlock, TypedExpr, TypedFirst, TypedSimple, TypedStmt};
 use std::alloc::AllocError;
 
-/// The code of a statement. Memory is refused too of what nothing writes yet: `foreach`, `print` and `assert`.
+/// The code of a statement. Memory is refused too of what nothing writes yet: `foreach` and `print`.
 #[cycle(stmt)]
 pub(crate) fn stmt(b: &mut Body, on: &Scope, x: &TypedStmt, spot: Spot) -> Result<(), AllocError>
     requires { Present on.now (stmt_asks on.now.answer (stmt_of x.now) spot.slot.number) }
@@ -66,9 +67,8 @@ pub(crate) fn stmt(b: &mut Body, on: &Scope, x: &TypedStmt, spot: Spot) -> Resul
         }
         TypedStmt::ForeachActive { index, body, .. } => active_loop(b, on, *index, body, spot),
         TypedStmt::Unmasked { body, .. } => unmasked(b, on, body, spot),
-        TypedStmt::Foreach { .. } | TypedStmt::Print { .. } | TypedStmt::Assert { .. } => Err(
-            AllocError,
-        ),
+        TypedStmt::Assert { test, call_span, .. } => asserts(b, on, test, *call_span, spot.site()),
+        TypedStmt::Foreach { .. } | TypedStmt::Print { .. } => Err(AllocError),
     }
 }
 
