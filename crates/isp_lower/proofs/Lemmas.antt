@@ -2,7 +2,7 @@
 
 -- ---- steps of the machine, and how they are put together
 
-pub use Rattle.isp_lower.proofs.Base.{are_front, are_back, put_same, put_other, comes_none, comes_on, step_by, step_is, step_go, at_to, spares_all, spares_less, spares_on}
+pub use Rattle.isp_lower.proofs.Base.{are_front, are_back, put_same, put_other, comes_none, comes_on, step_by, step_is, step_go, step_fail, next_at, at_to, spares_all, spares_less, spares_on}
 pub use Rattle.isp_lower.proofs.Combine.{bind_runs, runs_after, failed_after, stopped_after, failed_less, stopped_less, set_comes, set_goes, set_masks, set_spares, set_stands}
 pub use Rattle.isp_lower.proofs.Jumps.{jumped, jump_comes, jump_at, masked, masked_at, where_comes, others_comes}
 pub use Rattle.isp_lower.proofs.Lines.{set_at, copy_line, place_named}

@@ -218,7 +218,7 @@ module _ (fs : List TFunction) where
       stmt_rated v m w (t_return k None sp) at clean c = tt
       stmt_rated v m w (t_return k (Some x) sp) at clean c = returned_rated answer w k x sp clean c
       stmt_rated v m w (t_print k text xs sp) at clean c = absurd (some_left c)
-      stmt_rated v m w (t_assert x k sp) at clean c = absurd (some_left c)
+      stmt_rated v m w (t_assert x k sp) at clean c = expr_rated x clean c
 
       pub block_rated : (v : Scope) (m : ℕ) (w : Within) (b : TBlock) → BlockAt v m b → NoneOf (BlockBreach fs answer w b) → block_left b ≡ None → BlockRated fs answer b
       block_rated v m w (t_braces xs sp) at clean c = stmts_rated v m w xs at clean c

@@ -81,7 +81,7 @@ module _ (w : Setting) where
     stmt_fits (t_return k None sp) n t i = tt
     stmt_fits (t_return k (Some x) sp) n t i = answer_fits w.frame.answer x n t i
     stmt_fits (t_print k text xs sp) n t i = t
-    stmt_fits (t_assert x c sp) n t i = t
+    stmt_fits (t_assert x c sp) n t i = expr_fits w x n t.0 i.0
 
     pub block_fits : (b : TBlock) (n : ℕ) → BlockTree w.program.functions w.frame.answer b → Named (block_asks w.frame.answer b n) → BlockParts w b n
     block_fits (t_braces xs sp) n t i = stmts_fit xs n t i

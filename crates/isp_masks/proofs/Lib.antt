@@ -15,6 +15,7 @@ mod Numbered
 mod RangeRuns
 mod Bounds
 mod Foreach
+mod Asserts
 mod Stmts
 mod Turns
 mod Loops
@@ -35,6 +36,7 @@ mod Agree
 mod Programs
 mod SoundLoops
 mod SoundRanges
+mod SoundAsserts
 mod Sound
 mod Accepted
 mod Made

@@ -14,7 +14,7 @@ use Rattle.isp_typed.specs.declared.variable.Holds.{Holds}
 use Rattle.isp_typed.specs.declared.variable.Holds.TheVariants as holds
 use Rattle.isp_typed.specs.declared.variable.Variable.{Variable}
 use Rattle.isp_lower.specs.Header.{AreSmall, HeadingFits, IsSmall}
-use Rattle.isp_lower.specs.Asks.{first_slot, items_asks}
+use Rattle.isp_lower.specs.Asks.{first_slot, items_asks, test_asks}
 use Rattle.isp_lower.specs.Reserved.{IsOwn, IsReserved}
 use Rattle.isp_lower.specs.declared.reserve.Reserve.{Reserve}
 use Rattle.isp_lower.proofs.Lemmas.{expr_own, operand_own, simple_own, item_own}
@@ -34,6 +34,10 @@ module _ (fs : List TFunction) (vars : List Variable) (answer : Option Ty) where
   part_own : (r : Rate) (n : ℕ) → IsOwn vars answer (part_asks r n)
   part_own Uniform n = tt
   part_own Varying n = (tt, tt)
+
+  mask_own : (r : Rate) (n : ℕ) → IsOwn vars answer (test_asks r n)
+  mask_own Uniform n = tt
+  mask_own Varying n = tt
 
   active_own : (i : ℕ) → slice_get vars i ≡ Some active_index → HoldsValue vars i (ty_of Uniform I64)
   active_own i e = record { constant = true; is = e }
@@ -95,7 +99,7 @@ module _ (fs : List TFunction) (vars : List Variable) (answer : Option Ty) where
     stmt_own (t_return k None sp) n f = tt
     stmt_own (t_return k (Some x) sp) n f = returned_own fs vars answer x n f
     stmt_own (t_print k text xs sp) n f = tt
-    stmt_own (t_assert x c sp) n f = tt
+    stmt_own (t_assert x c sp) n f = (expr_own vars answer fs x n f.0.0, mask_own (type_of x).rate n)
 
     pub block_own : (b : TBlock) (n : ℕ) → FineBlock fs vars answer b → IsOwn vars answer (block_asks answer b n)
     block_own (t_braces xs sp) n f = stmts_own xs n f

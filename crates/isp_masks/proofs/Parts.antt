@@ -78,7 +78,7 @@ module _ (w : Setting) where
     StmtParts (t_return k None sp) n = Unit {0}
     StmtParts (t_return k (Some x) sp) n = AnswerFits w.frame.answer x n
     StmtParts (t_print k text xs sp) n = ⊥
-    StmtParts (t_assert x c sp) n = ⊥
+    StmtParts (t_assert x c sp) n = ExprParts w x n
 
     pub BlockParts : TBlock → ℕ → Type 0
     BlockParts (t_braces xs sp) n = StmtsParts xs n

@@ -55,7 +55,7 @@ module _ (fs : List TFunction) (vars : List Variable) where
       stmt_tree (t_return k None sp) f r = tt
       stmt_tree (t_return k (Some x) sp) f r = returned_tree answer x f r
       stmt_tree (t_print k text xs sp) f r = absurd r
-      stmt_tree (t_assert x k sp) f r = absurd r
+      stmt_tree (t_assert x k sp) f r = (expr_tree fs vars x f.0.0 r, f.0.1)
 
       pub block_tree : (b : TBlock) → FineBlock fs vars answer b → BlockRated fs answer b → BlockTree fs answer b
       block_tree (t_braces xs sp) f r = stmts_tree xs f r

@@ -28,6 +28,7 @@ use Rattle.isp_lower.proofs.Lemmas.{found_there, operand_there, sound_both, copy
 use Rattle.isp_masks.proofs.Combine.{part_spot}
 use Rattle.isp_masks.proofs.SoundRanges.{foreach_sound}
 use Rattle.isp_masks.proofs.SoundLoops.{HereSound, active_sound, unmasked_sound, guard_sound, two_sound, while_sound, for_sound, endless_sound, do_sound}
+use Rattle.isp_masks.proofs.SoundAsserts.{assert_sound}
 use Rattle.isp_masks.proofs.Trees.{AnswerTree, BlockTree, FirstTree, StepTree, StmtTree, StmtsTree}
 
 module _ (code : Listing) (h : Routine) where
@@ -214,7 +215,7 @@ module _ (code : Listing) (h : Routine) where
           let ca = answer_code l answer x pc z.place spot.on spot.slot in
           sound_both code h ca (leave_code spot.returned spot.on) (answer_sound answer x pc z.place spot.on spot.slot is f lm.0 pl (omega (arith, length-append ca (leave_code spot.returned spot.on), lt))) (leave_sound spot.returned spot.on lm.2 lm.0)
       stmt_sound (t_print w text xs sp) pc z spot is f lm pl lt = absurd is
-      stmt_sound (t_assert x c sp) pc z spot is f lm pl lt = absurd is
+      stmt_sound (t_assert x c sp) pc z spot is f lm pl lt = assert_sound code h l fs links x c pc z.place spot.on spot.slot is.0 is.1 f lm.0 pl lt
 
       pub block_sound : (x : TBlock) (pc : ℕ) (z : Numbers) (spot : Spot) → BlockTree fs answer x → Granted h l (block_asks answer x spot.slot) → HasMasks spot → z.place + length (block_places l x) ≤ length code.places → pc + length (block_code l answer x pc z spot) < length h.code → AreSound code h (block_code l answer x pc z spot)
       block_sound (t_braces xs sp) pc z spot is f lm pl lt = stmts_sound xs pc z spot is f lm pl lt

@@ -1,20 +1,22 @@
 -- The code of a statement does what the statement means.
-use Rattle.std.proofs.Common.{◌≡◌, ℕ, ◌+◌, ◌≤◌, List, ◌++◌, length, Some, None, refl, ap, ◌∙◌, subst, arith, length-append}
+use Rattle.std.proofs.Common.{◌≡◌, ℕ, ◌+◌, ◌≤◌, List, ◌++◌, length, Some, None, true, refl, ap, ◌∙◌, subst, arith, length-append}
 use Rattle.isp_base.specs.Sets.{Mask, any}
+use Rattle.isp_base.specs.declared.trap.TrapKind.TheVariants.{Assert}
 use Rattle.isp_code.specs.Conf.{Conf}
 use Rattle.isp_code.specs.declared.instr.Instr.{Instr}
 use Rattle.isp_tree.specs.declared.stmt.Jump.TheVariants.{Break, Continue}
 use Rattle.isp_typed.specs.Fine.{heads}
 use Rattle.isp_typed.specs.Typed.{TExpr, type_of, TStmt, t_block, t_declare, t_simple, t_if, t_if_else, t_while, t_do, t_for, t_foreach, t_foreach_active, t_unmasked, t_jump, t_return, t_print, t_assert, TBlock, t_braces, TStmts, t_no_stmts, t_stmt_then}
 use Rattle.isp_meaning.specs.State.{State, tick}
-use Rattle.isp_meaning.specs.Payloads.{Payload}
-use Rattle.isp_meaning.specs.Outcomes.{Res, went_all, with_value, unless_empty}
+use Rattle.isp_meaning.specs.Payloads.{Payload, is_false, offender}
+use Rattle.isp_meaning.specs.Outcomes.{Res, checked, went_all, with_value, unless_empty}
 use Rattle.isp_meaning.specs.Expressions.{value}
-use Rattle.isp_meaning.specs.Statements.{branches, run, block, run_all}
+use Rattle.isp_meaning.specs.Statements.{all_go, branches, run, block, run_all}
 use Rattle.isp_lower.specs.Code.{found, expr_places, expr_code}
 use Rattle.isp_lower.specs.Runs.{Ok}
 use Rattle.isp_lower.specs.Setting.{Setting, IsSettled, gang_of, calls_of, AreAt, Holds}
 use Rattle.isp_lower.proofs.Lemmas.{are_front, are_back, comes_none, at_to, spares_all, expr_runs, few, enters_less, enters_part, items_run, simple_runs, ExprParts}
+use Rattle.isp_masks.specs.Asserts.{fails_code}
 use Rattle.isp_masks.specs.Named.{AllNamed, BlockNamed, Named}
 use Rattle.isp_masks.specs.Ranges.{ranges_places, runs_slot}
 use Rattle.isp_masks.specs.Spots.{Numbers, Spot, body_spot, past}
@@ -25,6 +27,7 @@ use Rattle.isp_masks.proofs.Combine.{part_spot, stmt_after, stmt_less, with_runs
 use Rattle.isp_masks.proofs.Choices.{if_runs, if_else_runs}
 use Rattle.isp_masks.proofs.Members.{went_inside, went_whole}
 use Rattle.isp_masks.proofs.Active.{active_runs}
+use Rattle.isp_masks.proofs.Asserts.{fails_run}
 use Rattle.isp_masks.proofs.Foreach.{foreach_runs}
 use Rattle.isp_masks.proofs.Unmasked.{unmasked_runs}
 use Rattle.isp_masks.proofs.LoopStmts.{body_runs, masks_of, while_runs, do_runs, for_runs}
@@ -90,7 +93,14 @@ module _ (w : Setting) (ready : IsSettled w) where
         return_ok w ready c c 0 pc spot (1 + q) a (tick s) (comes_none w c) b.at b.stands (spares_all w spot.slot c) (λ r lt. refl) b.mask has three (omega (arith, b.used))
     stmt_runs (t_return v (Some x) sp) pc z spot q a s c fit has names three b = return_runs w ready w.frame.answer x pc z.place spot q a s c fit has names.places_are three b
     stmt_runs (t_print v text xs sp) pc z spot q a s c fit has names three b = absurd fit
-    stmt_runs (t_assert x y sp) pc z spot q a s c fit has names three b = absurd fit
+    stmt_runs (t_assert x y sp) pc z spot q a s c fit has names three b =
+        let ce = expr_code w.layout x pc z.place spot.on spot.slot in
+        let pl = expr_places w.layout x in
+        let u = found w.layout x spot.slot in
+        let p1 = z.place + length pl in
+        set_aside w ready true c _ spot q _
+        (tested_runs x pc z.place spot q a s c (λ pc1. fails_code (type_of x).rate u pc1 p1 spot.on spot.slot) (λ m s1. all_go a (checked (offender (gang_of w) is_false a m) Assert y s1 tt)) fit has (are_front w.code.places z.place pl _ names.places_are) three b
+        (λ m s1 ok. let em = ok.masks spot.on b.low ∙ b.mask in all_runs w ready ok.conf _ spot (ok.steps + (1 + q)) a _ three em (fails_run w ready (type_of x).rate u (pc + length ce) p1 spot.on spot.slot (ok.steps + (1 + q)) a m s1 ok.conf y ok.at em three.low_on ok.stands ok.holds (omega (arith, ok.bound)) (are_back w.routine.code pc ce _ has) (are_back w.code.places z.place pl _ names.places_are).0)))
 
     pub block_runs : (x : TBlock) (pc : ℕ) (z : Numbers) (spot : Spot) (q : ℕ) (a : Mask) (s : State) (c : Conf) → BlockParts w x spot.slot → AreAt w.routine.code pc (block_code w.layout w.frame.answer x pc z spot) → BlockNamed w z x → AreThree spot → EntersAt w pc spot a s c q → StmtRuns w w.turns c (pc + length (block_code w.layout w.frame.answer x pc z spot)) spot (1 + q) (block (gang_of w) w.frame (calls_of w) w.turns x a s)
     block_runs (t_braces xs sp) pc z spot q a s c fit has names three b = stmts_runs xs pc z spot (1 + q) a (tick s) c fit has names three (enters_part w ready pc spot.on spot.slot (1 + q) q a s c (omega arith) b)

@@ -49,7 +49,7 @@ module _ (fs : List TFunction) where
       StmtTree (t_return k None sp) = Unit {0}
       StmtTree (t_return k (Some x) sp) = AnswerTree answer x
       StmtTree (t_print k text xs sp) = ⊥
-      StmtTree (t_assert x c sp) = ⊥
+      StmtTree (t_assert x c sp) = TestTree (Some x)
 
       pub BlockTree : TBlock → Type 0
       BlockTree (t_braces xs sp) = StmtsTree xs

@@ -6,7 +6,7 @@ use Rattle.isp_base.specs.declared.types.Rate.{Rate}
 use Rattle.isp_base.specs.declared.types.Rate.TheVariants.{Uniform, Varying}
 use Rattle.isp_base.specs.declared.types.Ty.{Ty}
 use Rattle.isp_typed.specs.Typed.{TExpr, type_of, TSimple, TFirst, t_first_declare, t_first_simple, TRange, TStmt, t_block, t_declare, t_simple, t_if, t_if_else, t_while, t_do, t_for, t_foreach, t_foreach_active, t_unmasked, t_jump, t_return, t_print, t_assert, TBlock, t_braces, TStmts, t_no_stmts, t_stmt_then}
-use Rattle.isp_lower.specs.Asks.{Ask, Nothing, Both, Register, MaskOf, Number, first_slot, expr_asks, operand_asks, simple_asks, spare_ask, items_asks}
+use Rattle.isp_lower.specs.Asks.{Ask, Nothing, Both, Register, MaskOf, Number, first_slot, expr_asks, operand_asks, simple_asks, spare_ask, items_asks, test_asks}
 use Rattle.isp_lower.specs.Rows.{Result, Variable}
 use Rattle.isp_masks.specs.Ranges.{places_slot, runs_slot}
 
@@ -87,6 +87,10 @@ abbrev pub turns_asks : Option TExpr → Option TSimple → ℕ → (ℕ → Ask
 turns_asks e step n body =
     Both (loop_asks n) (Both (test_part_asks e (n + 3)) (Both (step_asks step (n + 3)) (body (n + 3))))
 
+-- the test of an `assert`, and a mask for those for which it is false
+abbrev pub assert_asks : TExpr → ℕ → Ask
+assert_asks x n = Both (expr_asks x n) (test_asks (type_of x).rate n)
+
 module _ (answer : Option Ty) where
   abbrev mutual
     pub stmt_asks : TStmt → ℕ → Ask
@@ -106,7 +110,7 @@ module _ (answer : Option Ty) where
     stmt_asks (t_return k None sp) n = Nothing
     stmt_asks (t_return k (Some x) sp) n = answer_asks answer x n
     stmt_asks (t_print k text xs sp) n = Nothing
-    stmt_asks (t_assert x c sp) n = Nothing
+    stmt_asks (t_assert x c sp) n = assert_asks x n
 
     pub block_asks : TBlock → ℕ → Ask
     block_asks (t_braces xs sp) n = stmts_asks xs n

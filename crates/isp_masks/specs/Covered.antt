@@ -1,5 +1,5 @@
 -- Which nodes of a program have code, and the first in the text that has none: a node comes before its parts. Left without
--- are packed calls, `print` and `assert`. One line for each kind of node; parts in the order of the text.
+-- are packed calls and `print`. One line for each kind of node; parts in the order of the text.
 use Rattle.std.specs.Prelude.{List, [], ◌∷◌, Option, Some, None}
 use Rattle.std.specs.Option.{option_or}
 use Rattle.isp_base.specs.declared.types.Span.{Span}
@@ -102,7 +102,7 @@ abbrev mutual
   stmt_left (t_jump j k s) = None
   stmt_left (t_return k x s) = given_left x
   stmt_left (t_print k t xs s) = Some s
-  stmt_left (t_assert x c s) = Some s
+  stmt_left (t_assert x c s) = expr_left x
 
   -- None where the whole block has code
   pub block_left : TBlock → Option Span

@@ -1,5 +1,5 @@
--- What rates promise of a body that has code, beside what names and types promise. `print` and `assert`
--- have no code yet.
+-- What rates promise of a body that has code, beside what names and types promise. `print` has no code
+-- yet.
 use Rattle.std.specs.Prelude.{◌≤◌, List, [], ◌∷◌, length, Option, Some, None}
 use Rattle.isp_base.specs.declared.types.Rate.TheVariants.{Uniform}
 use Rattle.isp_base.specs.declared.types.Ty.{Ty}
@@ -50,7 +50,7 @@ module _ (fs : List TFunction) where
       StmtRated (t_return k None sp) = Unit {0}
       StmtRated (t_return k (Some x) sp) = AnswerRated answer x
       StmtRated (t_print k text xs sp) = ⊥
-      StmtRated (t_assert x c sp) = ⊥
+      StmtRated (t_assert x c sp) = IsRated fs x
 
       pub BlockRated : TBlock → Type 0
       BlockRated (t_braces xs sp) = StmtsRated xs

@@ -14,6 +14,7 @@ use Rattle.isp_lower.specs.Layout.{Layout, register}
 use Rattle.isp_lower.specs.Code.{copy, where_so, the_others, jump_off, jump_on, two, guard, choice, found, operand, operand_of, expr_places, expr_code}
 use Rattle.isp_lower.specs.Items.{items_code, items_places}
 use Rattle.isp_lower.specs.Simple.{simple_code, simple_places}
+use Rattle.isp_masks.specs.Asserts.{assert_code, assert_places}
 use Rattle.isp_masks.specs.Exits.{exits_of, nobody_leaves, all_go_on}
 use Rattle.isp_masks.specs.Fors.{first_code, step_code, first_places, test_places, step_places}
 use Rattle.isp_masks.specs.Loops.{turn_code, step_back_code, while_code, for_code, endless_code, do_code}
@@ -107,7 +108,7 @@ module _ (l : Layout) where
     stmt_places (t_return w None sp) = []
     stmt_places (t_return w (Some x) sp) = expr_places l x
     stmt_places (t_print w text xs sp) = []
-    stmt_places (t_assert x c sp) = []
+    stmt_places (t_assert x c sp) = assert_places l x c
 
     pub block_places : TBlock → List Span
     block_places (t_braces xs sp) = stmts_places xs
@@ -159,7 +160,7 @@ module _ (l : Layout) (answer : Option Ty) where
     stmt_code (t_return w (Some x) sp) pc z spot =
         answer_code l answer x pc z.place spot.on spot.slot ++ leave_code spot.returned spot.on
     stmt_code (t_print w text xs sp) pc z spot = []
-    stmt_code (t_assert x c sp) pc z spot = []
+    stmt_code (t_assert x c sp) pc z spot = assert_code l x pc z.place spot.on spot.slot
 
     pub block_code : TBlock → ℕ → Numbers → Spot → List Instr
     block_code (t_braces xs sp) pc z spot = stmts_code xs pc z spot

@@ -18,6 +18,7 @@ use Rattle.isp_lower.specs.declared.numbered.Slot.{Slot}
 use Rattle.isp_lower.specs.declared.types.Body.{Body}
 use Rattle.isp_lower.specs.declared.types.Scope.{Scope}
 use Rattle.isp_masks.specs.Asks.{bounds_asks, loop_asks, measures_asks, places_asks}
+use Rattle.isp_masks.specs.Asserts.{assert_code, assert_places}
 use Rattle.isp_masks.specs.Exits.{exits_of, nobody_leaves}
 use Rattle.isp_masks.specs.Fors.{first_code, first_places, step_code, step_places, test_places}
 use Rattle.isp_masks.specs.Loops.{again_code, back_code, do_code, live_code, sift_code, step_back_code, turn_code, while_code}
@@ -61,6 +62,11 @@ function_at on b = record { code = function_code (layout on) on.answer b; places
 abbrev pub answer_at : Scope → TExpr → ℕ → ℕ → Piece
 answer_at on x k n =
     record { code = λ pc z. answer_code (layout on) on.answer x pc z.place k n; places = expr_places (layout on) x }
+
+-- an `assert` under mask k, in the slots from n on
+abbrev pub assert_at : Scope → TExpr → Span → ℕ → ℕ → Piece
+assert_at on x c k n =
+    record { code = λ pc z. assert_code (layout on) x pc z.place k n; places = assert_places (layout on) x c }
 
 -- ---- choices: a part gets its spot; those that leave it are added to the masks of the whole
 

@@ -193,11 +193,10 @@ fn stmt(s: &TypedStmt) -> Option<Span>
         TypedStmt::ForeachActive { body, .. } => stmt(body),
         TypedStmt::Unmasked { body, .. } => block(body),
         TypedStmt::Foreach {
-            ranges: all,
-            body,
-            ..
+            ranges: all, body, ..
         } => ranges(all).or(stmt(body)),
-        TypedStmt::Print { span, .. } | TypedStmt::Assert { span, .. } => Some(*span),
+        TypedStmt::Assert { test, .. } => expr(test),
+        TypedStmt::Print { span, .. } => Some(*span),
     }
 }
 

@@ -1,6 +1,7 @@
 //! Code of statements and of functions: what is emitted, and that it does what they mean.
 #![tactic(auto)]
 
+mod asserting;
 mod awaited;
 mod covered;
 mod exits;

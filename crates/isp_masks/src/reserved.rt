@@ -5,7 +5,7 @@ ghost use Rattle.isp_typed.specs.Views.{block_of, expr_of, first_of, ranges_of, 
 ghost use Rattle.isp_lower.specs.Asks.{Both, Register as Ask, expr_asks, first_slot, operand_asks};
 ghost use Rattle.isp_lower.specs.Reserved.{Gives};
 ghost use Rattle.isp_lower.specs.Rows.{Result as ResultName};
-ghost use Rattle.isp_masks.specs.Asks.{answer_asks, block_asks, first_asks, if_asks, loop_asks, part_asks, ranges_asks, result_asks, step_asks, stmt_asks, test_part_asks, turn_asks, turns_asks};
+ghost use Rattle.isp_masks.specs.Asks.{answer_asks, assert_asks, block_asks, first_asks, if_asks, loop_asks, part_asks, ranges_asks, result_asks, step_asks, stmt_asks, test_part_asks, turn_asks, turns_asks};
 ghost use Rattle.isp_masks.specs.Ranges.{runs_slot};
 
 use crate::ranges_reserved::{bounds, measures, places};
@@ -49,7 +49,8 @@ fn stmt(r: &mut Reserve, x: &TypedStmt, answer: Option<Ty>, slot: Slot) -> Resul
         TypedStmt::ForeachActive { index, body, .. } => active_loop(r, *index, body, answer, slot),
         TypedStmt::Unmasked { body, .. } => unmasked(r, body, answer, slot),
         TypedStmt::Foreach { ranges, body, .. } => range_loop(r, ranges, body, answer, slot),
-        TypedStmt::Jump { .. } | TypedStmt::Print { .. } | TypedStmt::Assert { .. } => Ok(()),
+        TypedStmt::Assert { test, .. } => asserted(r, test, slot),
+        TypedStmt::Jump { .. } | TypedStmt::Print { .. } => Ok(()),
     }
 }
 
@@ -82,6 +83,15 @@ fn returned(
         None => r.expr(x, slot),
         Some(ty) => r.operand(ty.rate, x, slot),
     }
+}
+
+/// The test of an `assert`, and a mask for those for which it is false.
+fn asserted(r: &mut Reserve, test: &TypedExpr, slot: Slot) -> Result<(), AllocError>
+    ensures { OnOk result (Gives r.old r.new (assert_asks (expr_of test.now) slot.number)) }
+{
+    r.expr(test, slot)?;
+    r.test(test.ty().rate, slot)?;
+    Ok(())
 }
 
 /// The mask of a varying test, and the slot behind it.

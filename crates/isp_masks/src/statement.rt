@@ -12,6 +12,7 @@ ghost use Rattle.isp_masks.specs.Asks.{block_asks, part_asks, ranges_asks, step_
 ghost use Rattle.isp_masks.specs.Ranges.{runs_slot};
 ghost use Rattle.isp_masks.specs.Written.{Writes, active_at, block_at, do_at, for_turn_at, foreach_at, guarded_at, if_at, if_else_at, last_asks, last_range_at, last_run_at, outer_turn_at, part_at, parts_at, passed_at, ranges_at, stepped_at, stmt_at, sweep_asks, sweeps_asks, turn_at, turns_at, unmasked_at, while_at, while_turn_at};
 
+use crate::asserting::asserts;
 use crate::awaited::{land_all, leave_room};
 use crate::exits::{all_go_on, exits_of};
 use crate::looping::{
@@ -33,7 +34,7 @@ use isp_lower::{Body, RegisterNumber, Scope, Site, declared, expr, mask, scalar,
 use isp_typed::{TypedBlock, TypedExpr, TypedRange, TypedSimple, TypedStmt};
 use std::alloc::AllocError;
 
-/// The code of a statement. Memory is refused too of what nothing writes yet: `print` and `assert`.
+/// The code of a statement. Memory is refused too of what nothing writes yet: `print`.
 #[cycle(stmt)]
 pub(crate) fn stmt(b: &mut Body, on: &Scope, x: &TypedStmt, spot: Spot) -> Result<(), AllocError>
     requires { Present on.now (stmt_asks on.now.answer (stmt_of x.now) spot.slot.number) }
@@ -71,7 +72,8 @@ pub(crate) fn stmt(b: &mut Body, on: &Scope, x: &TypedStmt, spot: Spot) -> Resul
         TypedStmt::ForeachActive { index, body, .. } => active_loop(b, on, *index, body, spot),
         TypedStmt::Unmasked { body, .. } => unmasked(b, on, body, spot),
         TypedStmt::Foreach { ranges, body, .. } => foreach(b, on, ranges, body, spot),
-        TypedStmt::Print { .. } | TypedStmt::Assert { .. } => Err(AllocError),
+        TypedStmt::Assert { test, call_span, .. } => asserts(b, on, test, *call_span, spot.site()),
+        TypedStmt::Print { .. } => Err(AllocError),
     }
 }
 

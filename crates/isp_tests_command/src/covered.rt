@@ -18,7 +18,7 @@ fn refused(rt: &impl Abort, alloc: Global, text: &str, line: &str) -> Result<(),
 #[test]
 fn first_node_not_yet(rt: HostRuntime) -> Result<(), Fail> {
     for (text, line) in [
-        ("void f() { assert(1 / 0 == 1); }", "90 NotYet at 11..30"),
+        ("void f() { print(\"%\", 1 / 0 == 1); }", "90 NotYet at 11..34"),
         (
             "static int g(int x) { return x; } export void f(uniform int a[]) { g(packed_store_active(a, 1)); }",
             "90 NotYet at 69..94",
@@ -92,8 +92,8 @@ fn first_node_not_yet(rt: HostRuntime) -> Result<(), Fail> {
             "90 NotYet at 25..44",
         ),
         (
-            "export void f() { assert(any(true)); }",
-            "90 NotYet at 18..36",
+            "export void f() { print(\"%\", any(true)); }",
+            "90 NotYet at 18..40",
         ),
     ] {
         refused(&rt, rt.alloc(), text, line)?;

@@ -1,7 +1,7 @@
 //! Worked examples, each record with its working.
 
 /// How many records there are.
-pub(super) const COUNT: usize = 87;
+pub(super) const COUNT: usize = 92;
 
 /// The records.
 pub(super) const ROWS: &str = r##"=== a division behind a select
@@ -440,4 +440,29 @@ Each of four turns adds its index in all: 0 + 1 + 2 + 3.
 4 f 10000 {"a":[0,0,0,0]}
 {"arrays":{"a":[6,6,6,6]},"result":null}
 export void f(uniform int a[]) { foreach_active (i) unmasked { a[programIndex] += (int)i; } }
+=== an assert that some fail
+1 and 2 fail, and 1 is the lower.
+4 f 10000 {"a":[3,0,0,1]}
+trap assert, instance 1
+export void f(uniform int a[]) { ⟦assert(a[programIndex] > 0)⟧; a[0] = 9; }
+=== an assert by one value for all
+It is false where nobody is below 2, and instance 2 is the lowest of those that are asked.
+4 f 10000 {"n":5}
+trap assert, instance 2
+export void f(uniform int n) { if (programIndex >= 2) ⟦assert(n < 5)⟧; }
+=== an assert where those that would fail are off
+1 would fail, but 0, 2 and 3 are asked.
+4 f 10000 {"a":[3,0,2,1]}
+{"arrays":{"a":[6,0,4,2]},"result":null}
+export void f(uniform int a[]) { if (a[programIndex] != 0) { assert(a[programIndex] > 0); a[programIndex] *= 2; } }
+=== an assert where nobody is
+Nobody is below 0, so the test is not asked.
+4 f 10000 {}
+{"arrays":{},"result":null}
+export void f() { if (programIndex < 0) assert(false); }
+=== an assert in a loop
+In turn t all are asked whether t + p is below 5: 3 fails at 2.
+4 f 10000 {"a":[9,9,9,9]}
+trap assert, instance 3
+export void f(uniform int a[]) { for (uniform int t = 0; t < 4; t++) { a[programIndex] = t; ⟦assert(t + programIndex < 5)⟧; } }
 "##;
