@@ -24,8 +24,8 @@ fn first_node_not_yet(rt: HostRuntime) -> Result<(), Fail> {
             "90 NotYet at 69..94",
         ),
         (
-            "export void f() { g(); } void g() { f(); foreach (i = 0 ... 1) ; } void h() { f(); }",
-            "90 NotYet at 41..64",
+            "export void f() { g(); } void g() { f(); print(\"\"); } void h() { f(); }",
+            "90 NotYet at 41..51",
         ),
         (
             "export uniform int f(uniform int a[]) { return packed_store_active(a, programIndex); }",
