@@ -1,0 +1,4 @@
+pub mod Grow
+pub mod Grows
+pub mod Lanes
+pub mod Sims
