@@ -40,20 +40,20 @@ EndsWithin last (Long s) = ⊥
 -- ---- the relation, by the parts of the gang's state; the work is no part, and the uniforms are said apart
 
 -- a uniform result is that of each instance that made the call
-abbrev pub ResultOf : Rate → Mask → ℕ → Lanes → (ℕ → Alone) → Type 0
-ResultOf Uniform callers result results σ = (p : ℕ) → callers p ≡ true → result ≡ (σ p).result
-ResultOf Varying callers result results σ = (p : ℕ) → results p ≡ (σ p).result
+abbrev pub ResultOf : Rate → Mask → ℕ → Lanes → Lanes → Type 0
+ResultOf Uniform callers result results own = (p : ℕ) → callers p ≡ true → result ≡ own p
+ResultOf Varying callers result results own = (p : ℕ) → results p ≡ own p
 
-abbrev pub ResultIs : Option Ty → Mask → ℕ → Lanes → (ℕ → Alone) → Type 0
-ResultIs None callers result results σ = Unit {0}
-ResultIs (Some t) callers result results σ = ResultOf t.rate callers result results σ
+abbrev pub ResultIs : Option Ty → Mask → ℕ → Lanes → Lanes → Type 0
+ResultIs None callers result results own = Unit {0}
+ResultIs (Some t) callers result results own = ResultOf t.rate callers result results own
 
 -- Each instance has its variables and its local arrays. A shared array has what an instance stored, or else what it began
 -- with. Nothing was printed.
 pub record StandsFor (w : World) (varying : ℕ → Lanes) (own : ℕ → ℕ → Lanes) (result : ℕ) (results : Lanes) (arrays : ℕ → ℕ → ℕ) (out : List ℕ) (σ : ℕ → Alone) : Type 0 where
   pub varying_is : (k p : ℕ) → varying k p ≡ (σ p).varying k
   pub own_is : (k e p : ℕ) → own k e p ≡ (σ p).own k e
-  pub result_is : ResultIs w.frame.answer w.callers result results σ
+  pub result_is : ResultIs w.frame.answer w.callers result results (λ p. (σ p).result)
   pub stored : (p b e x : ℕ) → p < w.gang → b < w.frame.opened → (σ p).wrote b e ≡ Some x → arrays b e ≡ x
   pub unstored : (b e : ℕ) → b < w.frame.opened → ((p : ℕ) → p < w.gang → (σ p).wrote b e ≡ None) → arrays b e ≡ w.begin b e
   pub within : (p : ℕ) → p < w.gang → Within (w.last p) (σ p)
