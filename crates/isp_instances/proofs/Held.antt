@@ -23,7 +23,7 @@ use Rattle.isp_alone.specs.Alone.{Alone, variable as own_variable, noted, put_in
 use Rattle.isp_alone.specs.Answers.{Answer, Has, Bad, choose}
 use Rattle.isp_alone.specs.Places.{Spot, AVariable, AnElement}
 use Rattle.isp_alone.specs.Values.{found, held as own_held}
-use Rattle.isp_instances.specs.Stands.{World, Within, TouchNothing, EndsWithin, Stands, Same, AreSome, IfIn}
+use Rattle.isp_instances.specs.Stands.{World, Within, TouchNothing, EndsWithin, Stands, Same, AreSome, IfIn, IsOpen}
 use Rattle.isp_instances.specs.Values.{AnswersAlone, Agrees, Sim, IsOne, Stand, PlaceStands}
 use Rattle.isp_instances.proofs.Lanes.{no_offender, mapped_stand}
 use Rattle.isp_instances.proofs.Sims.{EndsIf, has_alone}
@@ -76,7 +76,7 @@ module _ (w : World) (touch : TouchNothing w.gang w.last) (v : Scope) (a : Mask)
 
   -- ---- variables
 
-  variable_sim : (r : Rate) (k : ℕ) (sp : Span) → v k ≡ true → Sim w v a (Stand w.gang a r) (λ s. checked None Index sp s (variable r k a s)) (λ p s. Has (own_variable r k s) s)
+  pub variable_sim : (r : Rate) (k : ℕ) (sp : Span) → v k ≡ true → Sim w v a (Stand w.gang a r) (λ s. checked None Index sp s (variable r k a s)) (λ p s. Has (own_variable r k s) s)
   variable_sim Uniform k sp h = record {
     go = λ s σ st sa ends.
       record {
@@ -117,16 +117,12 @@ module _ (w : World) (touch : TouchNothing w.gang w.last) (v : Scope) (a : Mask)
   each_at f g true y o e h = ap (each1 f) e ∙ ap Some (h refl)
   each_at f g false y o e h = ap (each1 f) e
 
-  abbrev shared_open : Rate → ℕ → Type 0
-  shared_open Uniform k = w.frame.named k < w.frame.opened
-  shared_open Varying k = Unit {0}
-
   outside_not : (b : ArrayVariable) (t : Elem) (y : ℕ → ℕ) (sp : Span) (r : Rate) (σ : ℕ → Alone)
       → ((p : ℕ) → EndsIf (w.last p) (a p) (choose (is_outside t (extent w.frame b) (y p)) (Bad (trap Index sp p)) (found w.begin p w.frame r b (element t (y p))) (σ p))) → (p : ℕ) → a p ≡ true
       → (is_outside t (extent w.frame b) (y p) ≡ false) × EndsWithin (w.last p) (found w.begin p w.frame r b (element t (y p)) (σ p))
   outside_not b t y sp r σ ends p e = chosen_ends (w.last p) (a p) (is_outside t (extent w.frame b) (y p)) (Bad (trap Index sp p)) (found w.begin p w.frame r b (element t (y p))) (σ p) (λ z h. h) (ends p) e
 
-  element_sim : (r q : Rate) (b : ArrayVariable) (t : Elem) (m : Payload) (y : ℕ → ℕ) (j : Rate) (sp : Span) → shared_open r b.number → (q ≡ Uniform → r ≡ Uniform) → (q ≡ Uniform → j ≡ Uniform) → Stand w.gang a j m y
+  pub element_sim : (r q : Rate) (b : ArrayVariable) (t : Elem) (m : Payload) (y : ℕ → ℕ) (j : Rate) (sp : Span) → IsOpen w.frame r b.number → (q ≡ Uniform → r ≡ Uniform) → (q ≡ Uniform → j ≡ Uniform) → Stand w.gang a j m y
       → Sim w v a (Stand w.gang a q) (λ s. checked (offender w.gang (is_outside t (extent w.frame b)) a m) Index sp s (elements w.frame b t m a r s)) (λ p s. choose (is_outside t (extent w.frame b) (y p)) (Bad (trap Index sp p)) (found w.begin p w.frame r b (element t (y p))) s)
   element_sim Varying q b t m y j sp open_ u1 u2 st_m = record {
     go = λ s σ st sa ends.

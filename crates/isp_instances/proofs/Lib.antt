@@ -4,3 +4,6 @@ pub mod Lanes
 pub mod Sims
 pub mod Held
 pub mod Parts
+pub mod Fair
+pub mod Listed
+pub mod Expressions

@@ -73,6 +73,21 @@ module _ (w : World) (v : Scope) where
       record { x = x; s = s; y = y; after = σ; is = refl; alone = λ p. has_alone (a p) (σ p) (y p); value = r; uniforms = refl; own_uniforms = λ p. refl; stands = st };
   }
 
+  -- the instances do the same in other words
+  pub sim_same : {A B : Type 0} (a : Mask) (R : A → (ℕ → B) → Type 0) (f : State → Val A) (own own2 : ℕ → Alone → Answer B) → ((p : ℕ) (s : Alone) → own2 p s ≡ own p s) → Sim w v a R f own → Sim w v a R f own2
+  sim_same {A} {B} a R f own own2 e x = record { go = λ s σ st sa ends. moved s σ (x.go s σ st sa (λ p. subst (EndsIf (w.last p) (a p)) (e p (σ p)) (ends p))) } where
+    moved : (s : State) (σ : ℕ → Alone) → Agrees w a R (λ p. own p (σ p)) σ (f s) s.uniforms → Agrees w a R (λ p. own2 p (σ p)) σ (f s) s.uniforms
+    moved s σ ok =
+        record { x = ok.x; s = ok.s; y = ok.y; after = ok.after; is = ok.is; alone = λ p. subst (λ r. AnswersAlone (a p) r (σ p) (ok.y p) (ok.after p)) (sym (e p (σ p))) (ok.alone p); value = ok.value; uniforms = ok.uniforms; own_uniforms = ok.own_uniforms; stands = ok.stands }
+
+  -- what stands for more stands for less
+  pub sim_as : {A B : Type 0} (a : Mask) (R Q : A → (ℕ → B) → Type 0) (f : State → Val A) (own : ℕ → Alone → Answer B) → ((x : A) (y : ℕ → B) → R x y → Q x y) → Sim w v a R f own → Sim w v a Q f own
+  sim_as a R Q f own to x = record {
+    go = λ s σ st sa ends.
+      let ok = x.go s σ st sa ends in
+      record { x = ok.x; s = ok.s; y = ok.y; after = ok.after; is = ok.is; alone = ok.alone; value = to ok.x ok.y ok.value; uniforms = ok.uniforms; own_uniforms = ok.own_uniforms; stands = ok.stands };
+  }
+
   pub sim_tick : {A B : Type 0} (a : Mask) (R : A → (ℕ → B) → Type 0) (f : State → Val A) (own : ℕ → Alone → Answer B) → Sim w v a R f own → Sim w v a R (λ s. f (tick s)) own
   sim_tick a R f own x = record { go = λ s σ st sa ends. x.go (tick s) σ st sa ends }
 

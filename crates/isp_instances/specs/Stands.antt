@@ -76,3 +76,8 @@ pub record AreSome (gang : ℕ) (a : Mask) : Type 0 where
 abbrev pub IfIn : Bool → Type 0 → Type 0
 IfIn true T = T
 IfIn false T = Unit {0}
+
+-- an array that all instances share is one of the stores that are open
+abbrev pub IsOpen : Frame → Rate → ℕ → Type 0
+IsOpen frame Uniform k = frame.named k < frame.opened
+IsOpen frame Varying k = Unit {0}

@@ -9,7 +9,7 @@ use Rattle.isp_base.specs.declared.types.Ty.{Ty}
 use Rattle.isp_base.specs.declared.types.Span.{Span}
 use Rattle.isp_typed.specs.Fine.{params_of}
 use Rattle.isp_typed.specs.Scoped.{Scope}
-use Rattle.isp_typed.specs.Typed.{TFunction}
+use Rattle.isp_typed.specs.Typed.{TFunction, TPlace, t_variable, t_element, elem_of, rate_of}
 use Rattle.isp_typed.specs.declared.variable.Holds.{Holds}
 use Rattle.isp_typed.specs.declared.variable.Holds.TheVariants as holds
 use Rattle.isp_typed.specs.declared.variable.Variable.{Variable as AVar}
@@ -17,7 +17,7 @@ use Rattle.isp_meaning.specs.Expressions.{Passed, Values, Store, Calls}
 use Rattle.isp_meaning.specs.Places.{Place, Variable, Element}
 use Rattle.isp_alone.specs.Places.{Spot, AVariable, AnElement}
 use Rattle.isp_alone.specs.Values.{OwnCalls}
-use Rattle.isp_meaning.specs.State.{State}
+use Rattle.isp_meaning.specs.State.{State, Frame}
 use Rattle.isp_meaning.specs.Outcomes.{Val, Gives}
 use Rattle.isp_meaning.specs.Payloads.{Payload, One, Each, spread}
 use Rattle.isp_alone.specs.Alone.{Alone}
@@ -60,10 +60,11 @@ pub record Stand (gang : ℕ) (a : Mask) (r : Rate) (m : Payload) (y : ℕ → �
 
 -- ---- what else is found over a set
 
--- A place is the same place. An index stands for what each member has as its own, and has a rate.
-abbrev pub PlaceStands : ℕ → Mask → Rate → Place → (ℕ → Spot) → Type 0
-PlaceStands gang a r (Variable k t) spots = (p : ℕ) → spots p ≡ AVariable k t
-PlaceStands gang a r (Element b t m) spots = (y : ℕ → ℕ) × ((p : ℕ) → spots p ≡ AnElement b t (y p)) × Stand gang a r m y
+-- A place is the same place. An index stands for what each member has as its own.
+abbrev pub PlaceStands : ℕ → Mask → TPlace → Place → (ℕ → Spot) → Type 0
+PlaceStands gang a (t_variable k t sp) x spots = (x ≡ Variable k t) × ((p : ℕ) → spots p ≡ AVariable k t)
+PlaceStands gang a (t_element b i t sp) x spots =
+    (m : Payload) × (y : ℕ → ℕ) × (x ≡ Element b (elem_of i) m) × ((p : ℕ) → spots p ≡ AnElement b (elem_of i) (y p)) × Stand gang a (rate_of i) m y
 
 -- several values, one by one
 abbrev pub ListAt : Mask → ℕ → List Payload → List ℕ → Type 0
@@ -116,6 +117,6 @@ AnswerStands gang a (Some t) m y = Stand gang a t.rate m y
 
 -- Calls of these functions over a set do in each member what they do there alone, in a program with the functions fs.
 pub record CallsAgree (w : World) (fs : List TFunction) (IsCallable : ℕ → Type 0) (calls : Calls) (own : ℕ → OwnCalls) : Type 0 where
-  pub more : (p f : ℕ) (place : Span) (xs : List Passed) (s : Alone) → Within (reached (own p f place xs w.frame s)) s
+  pub more : (p f : ℕ) (place : Span) (xs : List Passed) (caller : Frame) (s : Alone) → Within (reached (own p f place xs caller s)) s
   pub go : (v : Scope) (a : Mask) (f : ℕ) (g : TFunction) (place : Span) (xs : List Passed) (ys : ℕ → List Passed) → slice_get fs f ≡ Some g → IsCallable f → AreSome w.gang a
       → PassedStand w.frame.opened a (params_of g) xs ys → Sim w v a (AnswerStands w.gang a g.answer) (calls f place a xs w.frame) (λ p. own p f place (ys p) w.frame)
