@@ -1,2 +1,3 @@
 pub mod Stands
 pub mod Values
+pub mod Correct
