@@ -7,3 +7,4 @@ pub mod Parts
 pub mod Fair
 pub mod Listed
 pub mod Expressions
+pub mod Loops

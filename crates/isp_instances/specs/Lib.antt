@@ -1,3 +1,4 @@
 pub mod Stands
 pub mod Values
+pub mod Statements
 pub mod Correct
