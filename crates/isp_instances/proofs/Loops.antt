@@ -95,3 +95,270 @@ module _ (test : Alone → Answer ℕ) (body : Alone → End) (step : Alone → 
     go true Broke a b = ap (λ z. turned test body step z next) a ∙ ap (λ z. Does z Going) (sym b)
     go true Continued a b = ap (λ z. turned test body step z next) a ∙ b
     go true Returned a b = ap (λ z. turned test body step z next) a ∙ ap (λ z. Does z Returned) (sym b)
+
+chosen_alone : (t u l : Bool) (f : Alone → End) (s s2 : Alone) (h : How) → l ≡ (t && u) → LeavesAlone l (f s) s h s2 → LeavesAlone t (choose u f (λ z. Does z Going) s) s (if u then h else Going) s2
+chosen_alone t u l f s s2 h e a = go t u (subst (λ z. LeavesAlone z (f s) s h s2) e a) where
+  go : (t u : Bool) → LeavesAlone (t && u) (f s) s h s2 → LeavesAlone t (choose u f (λ z. Does z Going) s) s (if u then h else Going) s2
+  go true true a = a
+  go true false a = ap (λ z. Does z Going) (sym a)
+  go false u a = a
+
+chosen_ends : (last : Alone) (t u l : Bool) (f : Alone → End) (s : Alone) → l ≡ (t && u) → LeavesIf last t (choose u f (λ z. Does z Going) s) → LeavesIf last l (f s)
+chosen_ends last t u l f s e h = subst (λ z. LeavesIf last z (f s)) (sym e) (go t u h) where
+  go : (t u : Bool) → LeavesIf last t (choose u f (λ z. Does z Going) s) → LeavesIf last (t && u) (f s)
+  go true true h = h
+  go true false h = tt
+  go false u h = tt
+
+-- ---- small facts
+
+both_true : (t u : Bool) → t ≡ true → u ≡ true → (t && u) ≡ true
+both_true true u e d = d
+both_true false u e d = absurd (true≢false (sym e))
+
+and_right : (t u : Bool) → (t && u) ≡ true → u ≡ true
+and_right true u e = e
+and_right false u e = absurd (true≢false (sym e))
+
+pub either_is : (t : Bool) → (t ≡ true) ⊎ (t ≡ false)
+either_is true = inl refl
+either_is false = inr refl
+
+or_other : (t u : Bool) → (t || u) ≡ true → t ≡ false → u ≡ true
+or_other true u e d = absurd (true≢false d)
+or_other false u e d = e
+
+back_kept : (r t u l b : Bool) (h : How) → l ≡ (t && u) → b ≡ (r || (l && is_returned h)) → b ≡ (r || (t && is_returned (if u then h else Going)))
+back_kept r t u l b h e d = d ∙ ap (λ z. r || (z && is_returned h)) e ∙ ap (λ z. r || z) (go t u) where
+  go : (t u : Bool) → ((t && u) && is_returned h) ≡ (t && is_returned (if u then h else Going))
+  go true true = refl
+  go true false = refl
+  go false u = refl
+
+back_turned : (r t q l b : Bool) (h h2 : How) → q ≡ (t && is_returned h) → l ≡ (t && is_live h) → b ≡ ((r || q) || (l && is_returned h2)) → b ≡ (r || (t && is_returned (loop_how h h2)))
+back_turned r t q l b h h2 e d f = f ∙ ap (λ z. (r || z) || (l && is_returned h2)) e ∙ ap (λ z. (r || (t && is_returned h)) || (z && is_returned h2)) d ∙ go r t h where
+  or_false : (t : Bool) → (t || false) ≡ t
+  or_false true = refl
+  or_false false = refl
+
+  go : (r t : Bool) (h : How) → ((r || (t && is_returned h)) || ((t && is_live h) && is_returned h2)) ≡ (r || (t && is_returned (loop_how h h2)))
+  go true t h = refl
+  go false true Going = refl
+  go false true Broke = refl
+  go false true Continued = refl
+  go false true Returned = refl
+  go false false h = refl
+
+back_end : (r t q : Bool) (h : How) → q ≡ (t && is_returned h) → (r || q) ≡ (r || (t && is_returned (loop_how h Going)))
+back_end r t q h e = ap (λ z. r || z) e ∙ ap (λ z. r || (t && z)) (go h) where
+  go : (h : How) → is_returned h ≡ is_returned (loop_how h Going)
+  go Going = refl
+  go Broke = refl
+  go Continued = refl
+  go Returned = refl
+
+over_turned : (h h2 : How) → (is_live h ≡ true → is_over h2 ≡ true) → is_over (loop_how h h2) ≡ true
+over_turned Going h2 k = k refl
+over_turned Broke h2 k = refl
+over_turned Continued h2 k = k refl
+over_turned Returned h2 k = refl
+
+live_how : (h h2 : How) → is_live h ≡ true → loop_how h h2 ≡ h2
+live_how Going h2 e = refl
+live_how Broke h2 e = absurd (true≢false (sym e))
+live_how Continued h2 e = refl
+live_how Returned h2 e = absurd (true≢false (sym e))
+
+going_turned : (h h2 : How) → is_returned h ≡ false → (is_live h ≡ true → h2 ≡ Going) → loop_how h h2 ≡ Going
+going_turned Going h2 e k = k refl
+going_turned Broke h2 e k = refl
+going_turned Continued h2 e k = k refl
+going_turned Returned h2 e k = absurd (true≢false e)
+
+returned_not_going : Returned ≡ Going → ⊥
+returned_not_going e = true≢false (ap is_returned e)
+
+-- one value keeps all or nobody
+all_kept : (f : ℕ → Bool) (a : Mask) (m : Payload) (q : ℕ) → IsOne m → kept_by f a m q ≡ true → (p : ℕ) → kept_by f a m p ≡ a p
+all_kept f a (One c) q one e p = go (f c) e where
+  go : (t : Bool) → (if t then a else nobody) q ≡ true → (if t then a else nobody) p ≡ a p
+  go true e = refl
+  go false e = absurd (true≢false (sym e))
+all_kept f a (Each x) q one e p = absurd one
+
+-- ---- what a loop is made of, and what is asked of it. Where instances do not part in it, its test is uniform, none breaks alone,
+-- and none continues past a `break`. Where some continue alone, nobody assigns what is known in the body from outside.
+
+pub record LoopParts (w : World) : Type 0 where
+  pub v : Scope
+  pub v1 : Scope
+  pub parts : Bool
+  pub joint : Bool
+  pub top : Bool
+  pub ways : Ways
+  pub closed : ℕ → Bool
+  pub closed_body : ℕ → Bool
+  pub rate : Rate
+  pub test : Mask → State → Val Payload
+  pub body : Mask → State → Res
+  pub step : Mask → State → Val Done
+  pub own_test : ℕ → Alone → Answer ℕ
+  pub own_body : ℕ → Alone → End
+  pub own_step : ℕ → Alone → Answer Done
+  pub test_sim : (a : Mask) → AreSome w.gang a → Sim w v a (Stand w.gang a rate) (test a) own_test
+  pub step_sim : (a : Mask) → AreSome w.gang a → ActSim w closed v v a (step a) own_step
+  pub body_sim : (a : Mask) → AreSome w.gang a → StmtSim w (record { closed = closed_body; joint = joint; top = top }) v v1 ways a (body a) own_body
+  pub test_up : (p : ℕ) → Up reached (own_test p)
+  pub body_up : (p : ℕ) → Up left_at (own_body p)
+  pub step_up : (p : ℕ) → Up reached (own_step p)
+  pub wider : (k : ℕ) → v k ≡ true → v1 k ≡ true
+  pub alike : parts ≡ false → rate ≡ Uniform
+  pub no_break : parts ≡ false → ways.some_break ≡ false
+  pub no_later_break : parts ≡ false → (ways.breaks ≡ false) ⊎ (ways.some_continue ≡ false)
+  pub turned : ways.some_continue ≡ true → (k : ℕ) → v k ≡ true → closed_body k ≡ true
+  pub closed_in : (k : ℕ) → closed k ≡ true → closed_body k ≡ true
+  pub together : top ≡ true → (parts ≡ false) × (ways.some_continue ≡ false) × (joint ≡ true)
+
+module _ (w : World) (l : LoopParts w) (all : Mask) where
+  abbrev Ended : Mask → Mask → (ℕ → End) → (ℕ → Alone) → Res → (ℕ → ℕ) → Type 0
+  Ended a returned own σ res u = LoopLeaves w l.closed l.v l.parts l.joint l.top a returned all own σ res u
+
+  record TurnSim (turn : Mask → Mask → State → Res) (own : ℕ → Alone → End) : Type 0 where
+    pub up : (p : ℕ) → Up left_at (own p)
+    pub go : (a returned : Mask) → AreSome w.gang a → (s : State) (σ : ℕ → Alone) → Stands w s σ → Same l.v a s.uniforms σ → (l.top ≡ true → HasAll w a) → ((p : ℕ) → LeavesIf (w.last p) (a p) (own p (σ p)))
+        → Ended a returned (λ p. own p (σ p)) σ (turn a returned s) s.uniforms
+
+  -- ---- the test, and a turn of those that it keeps
+
+  module _ (turn : Mask → Mask → State → Res) (own : ℕ → Alone → End) (sim : TurnSim turn own) where
+    choice_up : (p i : ℕ) → Up left_at (λ s1. choose (is_true i) (own p) (λ s2. Does s2 Going) s1)
+    choice_up p i = up_choose left_at (is_true i) _ _ (sim.up p) (up_does Going)
+
+    tested_up : (p : ℕ) → Up left_at (own_tested (l.own_test p) (l.own_body p) (l.own_step p) (own p))
+    tested_up p = up_with (l.own_test p) _ (l.test_up p) (λ i. choice_up p i)
+
+    -- what the test has come to
+    module _ (a returned : Mask) (in_gang : AreSome w.gang a) (σ : ℕ → Alone) (m : Payload) (y : ℕ → ℕ) (s : State) (σ1 : ℕ → Alone) (st : Stands w s σ1) (sa : Same l.v a s.uniforms σ1) (stand : Stand w.gang a l.rate m y) (top : l.top ≡ true → HasAll w a)
+        (ends : (p : ℕ) → LeavesIf (w.last p) (a p) (choose (is_true (y p)) (own p) (λ s2. Does s2 Going) (σ1 p))) where
+      abbrev kept : Mask
+      kept = kept_by is_true a m
+
+      kept_in : (p : ℕ) → kept p ≡ (a p && is_true (y p))
+      kept_in p = kept_is w.gang a is_true m y p (stand.at p)
+
+      sub : (p : ℕ) → kept p ≡ true → a p ≡ true
+      sub p e = and_left (a p) (is_true (y p)) (sym (kept_in p) ∙ e)
+
+      test_true : (p : ℕ) → kept p ≡ true → is_true (y p) ≡ true
+      test_true p e = and_right (a p) (is_true (y p)) (sym (kept_in p) ∙ e)
+
+      -- where instances do not part the test keeps all or nobody
+      keeps_all : any w.gang kept ≡ true → l.parts ≡ false → (p : ℕ) → a p ≡ true → kept p ≡ true
+      keeps_all some e p i = go (member w.gang kept some) where
+        go : (q : ℕ) × (kept q ≡ true) → kept p ≡ true
+        go q = all_kept is_true a m q.0 (stand.one in_gang.some (l.alike e)) q.1 p ∙ i
+
+      choices : (t : Bool) → any w.gang kept ≡ t → Ended a returned (λ p. choose (is_true (y p)) (own p) (λ s2. Does s2 Going) (σ1 p)) σ1 (if_so t (turn kept returned) (loop_end w.gang l.test l.body l.step all returned) s) s.uniforms
+      choices true e = go (sim.go kept returned (record { inside = λ p i. in_gang.inside p (sub p i); some = e }) s σ1 st (λ p k i j. sa p k (sub p i) j) (λ i p j. keeps_all e (l.together i).0 p (top i p j)) (λ p. chosen_ends (w.last p) (a p) (is_true (y p)) (kept p) (own p) (σ1 p) (kept_in p) (ends p))) where
+        go : Ended kept returned (λ p. own p (σ1 p)) σ1 (turn kept returned s) s.uniforms → Ended a returned (λ p. choose (is_true (y p)) (own p) (λ s2. Does s2 Going) (σ1 p)) σ1 (turn kept returned s) s.uniforms
+        go ok = record {
+          s = ok.s;
+          back = ok.back;
+          after = ok.after;
+          how = λ p. if is_true (y p) then ok.how p else Going;
+          way = ok.way;
+          is = ok.is;
+          alone = λ p. chosen_alone (a p) (is_true (y p)) (kept p) (own p) (σ1 p) (ok.after p) (ok.how p) (kept_in p) (ok.alone p);
+          back_is = λ p. back_kept (returned p) (a p) (is_true (y p)) (kept p) (ok.back p) (ok.how p) (kept_in p) (ok.back_is p);
+          over = λ p i. picked (λ h. is_over h ≡ true) (is_true (y p)) (ok.how p) (λ j. ok.over p (kept_in p ∙ both_true (a p) (is_true (y p)) i j)) refl;
+          one_way = λ i p j. let k = keeps_all e (l.together i).0 p j in ap (λ t. if t then ok.how p else Going) (test_true p k) ∙ ok.one_way i p k;
+          no_return = λ i d p j. picked (λ h. h ≡ Going) (is_true (y p)) (ok.how p) (λ k. ok.no_return i d p (kept_in p ∙ both_true (a p) (is_true (y p)) j k)) refl;
+          quiet = ok.quiet;
+          own_quiet = ok.own_quiet;
+          same = λ i p k j h d. let n = keeps_all e i p j in ok.same i p k n (sym (ap (λ t. if t then ok.how p else Going) (test_true p n)) ∙ h) d;
+          stands = ok.stands;
+        } where
+          picked : (P : How → Type 0) (t : Bool) (h : How) → (t ≡ true → P h) → P Going → P (if t then h else Going)
+          picked P true h x y = x refl
+          picked P false h x y = y
+      choices false e = record {
+        s = s;
+        back = returned;
+        after = σ1;
+        how = λ p. Going;
+        way = Going;
+        is = refl;
+        alone = λ p. none_alone (a p) (is_true (y p)) (own p) (σ1 p) (sym (kept_in p) ∙ nobody_in w.gang kept (λ q i. in_gang.inside q (sub q i)) e p);
+        back_is = λ p. none_back (returned p) (a p);
+        over = λ p i. refl;
+        one_way = λ i p j. refl;
+        no_return = λ i d p j. refl;
+        quiet = λ k i. refl;
+        own_quiet = λ p k i. refl;
+        same = λ i p k j h d. sa p k j d;
+        stands = st;
+      } where
+        none_alone : (t u : Bool) (f : Alone → End) (z : Alone) → (t && u) ≡ false → LeavesAlone t (choose u f (λ s2. Does s2 Going) z) z Going z
+        none_alone true true f z e = absurd (true≢false e)
+        none_alone true false f z e = refl
+        none_alone false u f z e = refl
+
+        none_back : (r t : Bool) → r ≡ (r || (t && false))
+        none_back true t = refl
+        none_back false true = refl
+        none_back false false = refl
+
+    tested_sim : TurnSim (tested w.gang l.test l.body l.step all turn) (λ p. own_tested (l.own_test p) (l.own_body p) (l.own_step p) (own p))
+    tested_sim = record { up = tested_up; go = λ a returned in_gang s σ st sa top ends. after_test a returned in_gang s σ sa top ends ((l.test_sim a in_gang).go s σ st sa (λ p. with_first (w.last p) (a p) (l.own_test p (σ p)) _ (λ i. choice_up p i) (ends p))) } where
+      after_test : (a returned : Mask) → AreSome w.gang a → (s : State) (σ : ℕ → Alone) → Same l.v a s.uniforms σ → (l.top ≡ true → HasAll w a) → ((p : ℕ) → LeavesIf (w.last p) (a p) (own_tested (l.own_test p) (l.own_body p) (l.own_step p) (own p) (σ p)))
+          → Agrees w a (Stand w.gang a l.rate) (λ p. l.own_test p (σ p)) σ (l.test a s) s.uniforms → Ended a returned (λ p. own_tested (l.own_test p) (l.own_body p) (l.own_step p) (own p) (σ p)) σ (tested w.gang l.test l.body l.step all turn a returned s) s.uniforms
+      after_test a returned in_gang s σ sa top ends ok =
+          let sa1 = same_on w l.v a a s.uniforms ok.s.uniforms σ ok.after (λ p t. t) ok.uniforms ok.own_uniforms sa in
+          let ends1 = λ (p : ℕ). with_next (w.last p) (a p) (l.own_test p (σ p)) (λ i s1. choose (is_true i) (own p) (λ s2. Does s2 Going) s1) (σ p) (ok.after p) (ok.y p) (ok.alone p) (ends p) in
+          let ok2 = choices a returned in_gang σ ok.x ok.y ok.s ok.after ok.stands sa1 ok.value top ends1 (any w.gang (kept_by is_true a ok.x)) refl in
+          record {
+            s = ok2.s;
+            back = ok2.back;
+            after = ok2.after;
+            how = ok2.how;
+            way = ok2.way;
+            is = ap (λ z. with_value z (λ m s1. if_so (any w.gang (kept_by is_true a m)) (turn (kept_by is_true a m) returned) (loop_end w.gang l.test l.body l.step all returned) s1)) ok.is ∙ ok2.is;
+            alone = λ p. with_alone (a p) (l.own_test p (σ p)) (λ i s1. choose (is_true i) (own p) (λ s2. Does s2 Going) s1) (σ p) (ok.after p) (ok2.after p) (ok.y p) (ok2.how p) (ok.alone p) (ok2.alone p);
+            back_is = ok2.back_is;
+            over = ok2.over;
+            one_way = ok2.one_way;
+            no_return = ok2.no_return;
+            quiet = λ k i. ok2.quiet k i ∙ ap (λ f. f k) ok.uniforms;
+            own_quiet = λ p k i. ok2.own_quiet p k i ∙ ap (λ f. f k) (ok.own_uniforms p);
+            same = ok2.same;
+            stands = ok2.stands;
+          }
+
+    -- the step, and then the test
+    stepped_sim : TurnSim (stepped w.gang l.test l.body l.step all turn) (λ p. own_stepped (l.own_test p) (l.own_body p) (l.own_step p) (own p))
+    stepped_sim = record {
+      up = λ p. up_with (l.own_step p) _ (l.step_up p) (λ u. tested_up p);
+      go = λ a returned in_gang s σ st sa top ends. after_step a returned in_gang s σ top ends ((l.step_sim a in_gang).go s σ st sa (λ p. with_first (w.last p) (a p) (l.own_step p (σ p)) _ (λ u. tested_up p) (ends p)));
+    } where
+      after_step : (a returned : Mask) → AreSome w.gang a → (s : State) (σ : ℕ → Alone) → (l.top ≡ true → HasAll w a) → ((p : ℕ) → LeavesIf (w.last p) (a p) (own_stepped (l.own_test p) (l.own_body p) (l.own_step p) (own p) (σ p)))
+          → Acts w l.closed l.v a (λ p. l.own_step p (σ p)) σ (l.step a s) s.uniforms → Ended a returned (λ p. own_stepped (l.own_test p) (l.own_body p) (l.own_step p) (own p) (σ p)) σ (stepped w.gang l.test l.body l.step all turn a returned s) s.uniforms
+      after_step a returned in_gang s σ top ends ok =
+          let go = λ (p : ℕ) (u : Done) (s1 : Alone). own_tested (l.own_test p) (l.own_body p) (l.own_step p) (own p) s1 in
+          let ok2 = tested_sim.go a returned in_gang ok.s ok.after ok.stands ok.same top (λ p. with_next (w.last p) (a p) (l.own_step p (σ p)) (go p) (σ p) (ok.after p) tt (ok.alone p) (ends p)) in
+          record {
+            s = ok2.s;
+            back = ok2.back;
+            after = ok2.after;
+            how = ok2.how;
+            way = ok2.way;
+            is = ap (λ z. with_value z (λ u s1. tested w.gang l.test l.body l.step all turn a returned s1)) ok.is ∙ ok2.is;
+            alone = λ p. with_alone (a p) (l.own_step p (σ p)) (go p) (σ p) (ok.after p) (ok2.after p) tt (ok2.how p) (ok.alone p) (ok2.alone p);
+            back_is = ok2.back_is;
+            over = ok2.over;
+            one_way = ok2.one_way;
+            no_return = ok2.no_return;
+            quiet = λ k i. ok2.quiet k i ∙ ok.quiet k i;
+            own_quiet = λ p k i. ok2.own_quiet p k i ∙ ok.own_quiet p k i;
+            same = ok2.same;
+            stands = ok2.stands;
+          }
