@@ -1,11 +1,13 @@
 -- What an instance touched stays touched: what it read stays read, and where it stored it has stored. Here for what goes on
 -- from one step to the next.
-use Rattle.std.proofs.Common.{◌≡◌, ℕ, Bool, true, false}
+use Rattle.std.proofs.Common.{◌≡◌, ℕ, zero, suc, Bool, true, false}
 use Rattle.isp_base.specs.declared.trap.Trap.{Trap}
 use Rattle.isp_base.specs.declared.trap.TrapKind.{TrapKind}
 use Rattle.isp_base.specs.declared.types.Span.{Span}
 use Rattle.isp_alone.specs.Alone.{Alone}
-use Rattle.isp_alone.specs.Answers.{Answer, Has, Bad, Long, reached, How, Going, Broke, Continued, Returned, End, Does, Dies, Lasts, and_then, with_answer, unless, choose, then_on, then_always}
+use Rattle.isp_alone.specs.Answers.{Answer, Has, Bad, Long, reached, How, Going, Broke, Continued, Returned, End, Does, Dies, Lasts, and_then, with_answer, unless, choose, then_on, then_always, Done}
+use Rattle.isp_alone.specs.Loops.{tested, stepped, turned, turns}
+use Rattle.isp_meaning.specs.Payloads.{is_true}
 use Rattle.isp_alone.proofs.Framed.{left_at}
 use Rattle.isp_instances.specs.Stands.{Within}
 
@@ -77,3 +79,26 @@ up_always f g x y = up_by left_at left_at f (λ s r. then_always r g) x (λ s r.
   up (Does s how) = y.more s
   up (Dies t s) = stays s
   up (Lasts s) = stays s
+
+-- ---- loops
+
+module _ (test : Alone → Answer ℕ) (body : Alone → End) (step : Alone → Answer Done) (t : Up reached test) (b : Up left_at body) (e : Up reached step) where
+  pub tested_up : (f : Alone → End) → Up left_at f → Up left_at (tested test body step f)
+  tested_up f x = up_with test _ t (λ i. up_choose left_at (is_true i) _ _ x (up_does Going))
+
+  pub stepped_up : (f : Alone → End) → Up left_at f → Up left_at (stepped test body step f)
+  stepped_up f x = up_with step _ e (λ u. tested_up f x)
+
+  pub turned_up : (f : Alone → End) → Up left_at f → Up left_at (λ s. turned test body step (body s) f)
+  turned_up f x = up_by left_at left_at body (λ s r. turned test body step r f) b (λ s r. up r) where
+    up : (r : End) → Within (left_at (turned test body step r f)) (left_at r)
+    up (Does s Going) = x.more s
+    up (Does s Broke) = stays s
+    up (Does s Continued) = x.more s
+    up (Does s Returned) = stays s
+    up (Dies t s) = stays s
+    up (Lasts s) = stays s
+
+  pub turns_up : (n : ℕ) → Up left_at (turns test body step n)
+  turns_up zero = record { more = λ s. stays s }
+  turns_up (suc n) = turned_up (stepped test body step (turns test body step n)) (stepped_up _ (turns_up n))

@@ -27,12 +27,12 @@ use Rattle.isp_alone.specs.Answers.{Answer, Has, Long, reached, Going, Broke, Co
 use Rattle.isp_alone.specs.Places.{Spot, AVariable, AnElement, outside, kept, element_kept, cleared}
 use Rattle.isp_alone.specs.Values.{OwnCalls, found, held, answer, spot, answers, answer_call, arguments, passed}
 use Rattle.isp_alone.specs.Steps.{update, simple, item, items, first_part, step_part}
-use Rattle.isp_alone.specs.Loops.{tested, stepped, turned, turns, at_indices, rounds}
+use Rattle.isp_alone.specs.Loops.{at_indices, rounds}
 use Rattle.isp_alone.specs.Does.{goes_on, bounds, test_part, does, does_block, does_all}
 use Rattle.isp_alone.specs.Calls.{begun, ended, called, own_calls}
 use Rattle.isp_alone.proofs.Framed.{left_at}
 use Rattle.isp_instances.specs.Stands.{Within}
-use Rattle.isp_instances.proofs.Grow.{stays, within_then, Up, up_by, up_from, up_choose, up_then, up_has, up_bad, up_unless, up_with, up_does, up_on, up_always}
+use Rattle.isp_instances.proofs.Grow.{stays, within_then, Up, up_by, up_from, up_choose, up_then, up_has, up_bad, up_unless, up_with, up_does, up_on, up_always, tested_up, turns_up}
 
 -- ---- what changes the state
 
@@ -170,29 +170,6 @@ module _ (m : ℕ → ℕ → ℕ) (p : ℕ) where
 
       pub goes_up : (f : Alone → Answer Done) → Up reached f → Up left_at (λ s. goes_on (f s))
       goes_up f x = up_with f _ x (λ u. up_does Going)
-
-      -- ---- loops
-
-      module _ (test : Alone → Answer ℕ) (body : Alone → End) (step : Alone → Answer Done) (t : Up reached test) (b : Up left_at body) (e : Up reached step) where
-        pub tested_up : (f : Alone → End) → Up left_at f → Up left_at (tested test body step f)
-        tested_up f x = up_with test _ t (λ i. up_choose left_at (is_true i) _ _ x (up_does Going))
-
-        pub stepped_up : (f : Alone → End) → Up left_at f → Up left_at (stepped test body step f)
-        stepped_up f x = up_with step _ e (λ u. tested_up f x)
-
-        pub turned_up : (f : Alone → End) → Up left_at f → Up left_at (λ s. turned test body step (body s) f)
-        turned_up f x = up_by left_at left_at body (λ s r. turned test body step r f) b (λ s r. up r) where
-          up : (r : End) → Within (left_at (turned test body step r f)) (left_at r)
-          up (Does s Going) = x.more s
-          up (Does s Broke) = stays s
-          up (Does s Continued) = x.more s
-          up (Does s Returned) = stays s
-          up (Dies t s) = stays s
-          up (Lasts s) = stays s
-
-        pub turns_up : (n : ℕ) → Up left_at (turns test body step n)
-        turns_up zero = record { more = λ s. stays s }
-        turns_up (suc n) = turned_up (stepped test body step (turns test body step n)) (stepped_up _ (turns_up n))
 
       pub rounds_up : (body : Alone → End) → Up left_at body → (rs : List Run) → Up left_at (rounds body p rs)
       rounds_up body b [] = up_does Going

@@ -16,7 +16,7 @@ use Rattle.isp_alone.proofs.Framed.{left_at}
 use Rattle.isp_instances.specs.Stands.{World, Within, EndsWithin, Stands, Same, AreSome, IfIn}
 use Rattle.isp_instances.specs.Values.{AnswersAlone, Agrees, Sim, IsOne, Stand}
 use Rattle.isp_instances.specs.Statements.{is_going, is_broke, is_continued, is_returned, is_over, Ways, may_leave, may_part, Here, HasAll, LeavesWithin, Acts, ActSim, LeavesAlone, Leaves, StmtSim, LoopLeaves}
-use Rattle.isp_instances.proofs.Grow.{Up, within_then, up_choose, up_with, up_does}
+use Rattle.isp_instances.proofs.Grow.{Up, within_then, up_choose, up_with, up_does, turned_up}
 use Rattle.isp_instances.proofs.Lanes.{nobody_in, member, and_left, kept_is}
 use Rattle.isp_instances.proofs.Sims.{same_on}
 
@@ -220,10 +220,10 @@ pub record LoopParts (w : World) : Type 0 where
   pub together : top ≡ true → (parts ≡ false) × (ways.some_continue ≡ false) × (joint ≡ true)
 
 module _ (w : World) (l : LoopParts w) (all : Mask) where
-  abbrev Ended : Mask → Mask → (ℕ → End) → (ℕ → Alone) → Res → (ℕ → ℕ) → Type 0
+  abbrev pub Ended : Mask → Mask → (ℕ → End) → (ℕ → Alone) → Res → (ℕ → ℕ) → Type 0
   Ended a returned own σ res u = LoopLeaves w l.closed l.v l.parts l.joint l.top a returned all own σ res u
 
-  record TurnSim (turn : Mask → Mask → State → Res) (own : ℕ → Alone → End) : Type 0 where
+  pub record TurnSim (turn : Mask → Mask → State → Res) (own : ℕ → Alone → End) : Type 0 where
     pub up : (p : ℕ) → Up left_at (own p)
     pub go : (a returned : Mask) → AreSome w.gang a → (s : State) (σ : ℕ → Alone) → Stands w s σ → Same l.v a s.uniforms σ → (l.top ≡ true → HasAll w a) → ((p : ℕ) → LeavesIf (w.last p) (a p) (own p (σ p)))
         → Ended a returned (λ p. own p (σ p)) σ (turn a returned s) s.uniforms
@@ -359,6 +359,174 @@ module _ (w : World) (l : LoopParts w) (all : Mask) where
             no_return = ok2.no_return;
             quiet = λ k i. ok2.quiet k i ∙ ok.quiet k i;
             own_quiet = λ p k i. ok2.own_quiet p k i ∙ ok.own_quiet p k i;
+            same = ok2.same;
+            stands = ok2.stands;
+          }
+
+  -- ---- a turn: the body, and what follows it for those that are live
+
+  parting_none : (h : How) → l.top ≡ true → may_part l.joint l.ways h ≡ true → ⊥
+  parting_none Going i e = true≢false (sym e)
+  parting_none Broke i e = true≢false (sym e ∙ l.no_break (l.together i).0)
+  parting_none Continued i e = true≢false (sym e ∙ (l.together i).1)
+  parting_none Returned i e = true≢false (sym e ∙ ap not (l.together i).2)
+
+  module _ (turn : Mask → Mask → State → Res) (own : ℕ → Alone → End) (next : TurnSim turn own) where
+    module _ (a returned : Mask) (in_gang : AreSome w.gang a) (s : State) (σ : ℕ → Alone) (sa : Same l.v a s.uniforms σ) (top : l.top ≡ true → HasAll w a)
+        (ends : (p : ℕ) → LeavesIf (w.last p) (a p) (turned (l.own_test p) (l.own_body p) (l.own_step p) (l.own_body p (σ p)) (own p)))
+        (res : Res) (ok : Leaves w (record { closed = l.closed_body; joint = l.joint; top = l.top }) l.v l.v1 l.ways a (λ p. l.own_body p (σ p)) σ res s.uniforms) where
+      abbrev live : Mask
+      live = union ok.went ok.continued
+
+      live_in : (p : ℕ) → live p ≡ (a p && is_live (ok.how p))
+      live_in p = live_is (a p) (ok.how p) (ok.went p) (ok.continued p) (ok.went_is p) (ok.continued_is p)
+
+      live_sub : (p : ℕ) → live p ≡ true → a p ≡ true
+      live_sub p e = and_left (a p) (is_live (ok.how p)) (sym (live_in p) ∙ e)
+
+      live_goes : (p : ℕ) → live p ≡ true → is_live (ok.how p) ≡ true
+      live_goes p e = and_right (a p) (is_live (ok.how p)) (sym (live_in p) ∙ e)
+
+      is_in : (p : ℕ) → a p ≡ true → is_live (ok.how p) ≡ true → live p ≡ true
+      is_in p i e = live_in p ∙ both_true (a p) (is_live (ok.how p)) i e
+
+      -- those that are live have the gang's uniforms
+      live_same : Same l.v live ok.s.uniforms ok.after
+      live_same p k e vk = go (either_is (ok.went p)) where
+        continues : ok.continued p ≡ true → (l.ways.some_continue ≡ true) ⊎ (l.ways.some_continue ≡ false) → (ok.after p).uniforms k ≡ ok.s.uniforms k
+        continues c (inl i) = ok.own_quiet p k (l.turned i k vk) ∙ sa p k (live_sub p e) vk ∙ sym (ok.quiet k (l.turned i k vk))
+        continues c (inr i) = ok.same_continued i p k c vk
+
+        go : (ok.went p ≡ true) ⊎ (ok.went p ≡ false) → (ok.after p).uniforms k ≡ ok.s.uniforms k
+        go (inl i) = ok.same p k i (l.wider k vk)
+        go (inr i) = continues (or_other (ok.went p) (ok.continued p) e i) (either_is l.ways.some_continue)
+
+      one_way_at_top : l.top ≡ true → (p : ℕ) → a p ≡ true → ok.how p ≡ ok.way
+      one_way_at_top i p j = go (ok.one_way p j) where
+        go : (ok.how p ≡ ok.way) ⊎ (may_part l.joint l.ways (ok.how p) ≡ true) → ok.how p ≡ ok.way
+        go (inl e) = e
+        go (inr e) = absurd (parting_none (ok.how p) i e)
+
+      -- at the top who is live is so with all
+      all_live : any w.gang live ≡ true → l.top ≡ true → (p : ℕ) → a p ≡ true → live p ≡ true
+      all_live some i p j = go (member w.gang live some) where
+        go : (q : ℕ) × (live q ≡ true) → live p ≡ true
+        go q = is_in p j (ap is_live (one_way_at_top i p j ∙ sym (one_way_at_top i q.0 (live_sub q.0 q.1))) ∙ live_goes q.0 q.1)
+
+      -- where instances do not part and some are live nobody broke
+      nobody_broke : any w.gang live ≡ true → l.parts ≡ false → (p : ℕ) → a p ≡ true → ok.how p ≡ Broke → ⊥
+      nobody_broke some e p i h = go (member w.gang live some) (ok.one_way p i) where
+        later : (q : ℕ) → a q ≡ true → is_live (ok.how q) ≡ true → (x : How) → ok.how q ≡ x → (x ≡ Broke) ⊎ (may_part l.joint l.ways x ≡ true) → ⊥
+        later q j g x d (inl o) = true≢false (sym g ∙ ap is_live (d ∙ o))
+        later q j g Going d (inr o) = true≢false (sym o)
+        later q j g Broke d (inr o) = true≢false (sym g ∙ ap is_live d)
+        later q j g Returned d (inr o) = true≢false (sym g ∙ ap is_live d)
+        later q j g Continued d (inr o) = go2 (l.no_later_break e) where
+          go2 : (l.ways.breaks ≡ false) ⊎ (l.ways.some_continue ≡ false) → ⊥
+          go2 (inl b) = true≢false (sym (ok.may p i) ∙ ap (may_leave l.ways) h ∙ b)
+          go2 (inr c) = true≢false (sym o ∙ c)
+
+        turned_to : (x : How) → (x ≡ ok.way) ⊎ (may_part l.joint l.ways x ≡ true) → Broke ≡ ok.way → (x ≡ Broke) ⊎ (may_part l.joint l.ways x ≡ true)
+        turned_to x (inl o) d = inl (o ∙ sym d)
+        turned_to x (inr o) d = inr o
+
+        go : (q : ℕ) × (live q ≡ true) → (ok.how p ≡ ok.way) ⊎ (may_part l.joint l.ways (ok.how p) ≡ true) → ⊥
+        go q (inl d) = later q.0 (live_sub q.0 q.1) (live_goes q.0 q.1) (ok.how q.0) refl (turned_to (ok.how q.0) (ok.one_way q.0 (live_sub q.0 q.1)) (sym h ∙ d))
+        go q (inr d) = true≢false (sym d ∙ ap (may_part l.joint l.ways) h ∙ l.no_break e)
+
+      abbrev own_turn : ℕ → End
+      own_turn p = turned (l.own_test p) (l.own_body p) (l.own_step p) (l.own_body p (σ p)) (own p)
+
+      after_body : (t : Bool) → any w.gang live ≡ t → Ended a returned own_turn σ (if_so t (turn live (union returned ok.returned)) (loop_end w.gang l.test l.body l.step all (union returned ok.returned)) ok.s) s.uniforms
+      after_body true e = go (next.go live (union returned ok.returned) (record { inside = λ p i. in_gang.inside p (live_sub p i); some = e }) ok.s ok.after ok.stands live_same (λ i p j. all_live e i p (top i p j)) (λ p. turned_next (l.own_test p) (l.own_body p) (l.own_step p) (w.last p) (a p) (live p) (l.own_body p (σ p)) (own p) (σ p) (ok.after p) (ok.how p) (live_in p) (ok.alone p) (ends p))) where
+        go : Ended live (union returned ok.returned) (λ p. own p (ok.after p)) ok.after (turn live (union returned ok.returned) ok.s) ok.s.uniforms → Ended a returned own_turn σ (turn live (union returned ok.returned) ok.s) s.uniforms
+        go ok2 = record {
+          s = ok2.s;
+          back = ok2.back;
+          after = ok2.after;
+          how = λ p. loop_how (ok.how p) (ok2.how p);
+          way = ok2.way;
+          is = ok2.is;
+          alone = λ p. turned_alone (l.own_test p) (l.own_body p) (l.own_step p) (a p) (live p) (l.own_body p (σ p)) (own p) (σ p) (ok.after p) (ok2.after p) (ok.how p) (ok2.how p) (live_in p) (ok.alone p) (ok2.alone p);
+          back_is = λ p. back_turned (returned p) (a p) (ok.returned p) (live p) (ok2.back p) (ok.how p) (ok2.how p) (ok.returned_is p) (live_in p) (ok2.back_is p);
+          over = λ p i. over_turned (ok.how p) (ok2.how p) (λ j. ok2.over p (is_in p i j));
+          one_way = λ i p j. let n = all_live e i p j in live_how (ok.how p) (ok2.how p) (live_goes p n) ∙ ok2.one_way i p n;
+          no_return = λ i d p j. going_turned (ok.how p) (ok2.how p) (ok.no_return i d p j) (λ k. ok2.no_return i d p (is_in p j k));
+          quiet = λ k i. ok2.quiet k i ∙ ok.quiet k (l.closed_in k i);
+          own_quiet = λ p k i. ok2.own_quiet p k i ∙ ok.own_quiet p k (l.closed_in k i);
+          same = λ i p k j h d. still p k d i j (ok.how p) refl h;
+          stands = ok2.stands;
+        } where
+          still : (p k : ℕ) → l.v k ≡ true → l.parts ≡ false → a p ≡ true → (x : How) → ok.how p ≡ x → loop_how x (ok2.how p) ≡ Going → (ok2.after p).uniforms k ≡ ok2.s.uniforms k
+          still p k d i j Going o h = ok2.same i p k (is_in p j (ap is_live o)) h d
+          still p k d i j Continued o h = ok2.same i p k (is_in p j (ap is_live o)) h d
+          still p k d i j Broke o h = absurd (nobody_broke e i p j o)
+          still p k d i j Returned o h = absurd (returned_not_going h)
+      after_body false e = record {
+        s = ok.s;
+        back = union returned ok.returned;
+        after = ok.after;
+        how = λ p. loop_how (ok.how p) Going;
+        way = loop_how ok.way Going;
+        is = refl;
+        alone = λ p. turned_alone (l.own_test p) (l.own_body p) (l.own_step p) (a p) (live p) (l.own_body p (σ p)) (own p) (σ p) (ok.after p) (ok.after p) (ok.how p) Going (live_in p) (ok.alone p) (off_leaves (live p) (own p (ok.after p)) (ok.after p) (none p));
+        back_is = λ p. back_end (returned p) (a p) (ok.returned p) (ok.how p) (ok.returned_is p);
+        over = λ p i. over_turned (ok.how p) Going (λ j. refl);
+        one_way = λ i p j. ap (λ h. loop_how h Going) (one_way_at_top i p j);
+        no_return = λ i d p j. going_turned (ok.how p) Going (ok.no_return i d p j) (λ k. refl);
+        quiet = λ k i. ok.quiet k (l.closed_in k i);
+        own_quiet = λ p k i. ok.own_quiet p k (l.closed_in k i);
+        same = λ i p k j h d. still p k d i j (ok.how p) refl h;
+        stands = ok.stands;
+      } where
+        none : (p : ℕ) → live p ≡ false
+        none p = nobody_in w.gang live (λ q i. in_gang.inside q (live_sub q i)) e p
+
+        off_leaves : (t : Bool) (r : End) (z : Alone) → t ≡ false → LeavesAlone t r z Going z
+        off_leaves true r z e = absurd (true≢false e)
+        off_leaves false r z e = refl
+
+        still : (p k : ℕ) → l.v k ≡ true → l.parts ≡ false → a p ≡ true → (x : How) → ok.how p ≡ x → loop_how x Going ≡ Going → (ok.after p).uniforms k ≡ ok.s.uniforms k
+        still p k d i j Going o h = absurd (true≢false (sym (is_in p j (ap is_live o)) ∙ none p))
+        still p k d i j Continued o h = absurd (true≢false (sym (is_in p j (ap is_live o)) ∙ none p))
+        still p k d i j Broke o h = ok.same_broke (l.no_break i) p k (ok.broke_is p ∙ both_true (a p) (is_broke (ok.how p)) j (ap is_broke o)) d
+        still p k d i j Returned o h = absurd (returned_not_going h)
+
+  cut_never : (a : Mask) → AreSome w.gang a → (σ : ℕ → Alone) → ((p : ℕ) → LeavesIf (w.last p) (a p) (Lasts (σ p))) → ⊥
+  cut_never a in_gang σ ends = go (member w.gang a in_gang.some) where
+    go : (q : ℕ) × (a q ≡ true) → ⊥
+    go q = subst (λ t. LeavesIf (w.last q.0) t (Lasts (σ q.0))) q.1 (ends q.0)
+
+  -- so many turns
+  pub turns_sim : (n : ℕ) → TurnSim (turns w.gang l.test l.body l.step all n) (λ p. own_turns (l.own_test p) (l.own_body p) (l.own_step p) n)
+  turns_sim zero = record { up = λ p. record { more = λ s. record { read = λ b e h. h; wrote = λ b e h. h } }; go = λ a returned in_gang s σ st sa top ends. absurd (cut_never a in_gang σ ends) }
+  turns_sim (suc n) = go (stepped_sim _ _ (turns_sim n)) where
+    go : TurnSim (stepped w.gang l.test l.body l.step all (turns w.gang l.test l.body l.step all n)) (λ p. own_stepped (l.own_test p) (l.own_body p) (l.own_step p) (own_turns (l.own_test p) (l.own_body p) (l.own_step p) n))
+        → TurnSim (turns w.gang l.test l.body l.step all (suc n)) (λ p. own_turns (l.own_test p) (l.own_body p) (l.own_step p) (suc n))
+    go next = record {
+      up = λ p. turned_up (l.own_test p) (l.own_body p) (l.own_step p) (l.test_up p) (l.body_up p) (l.step_up p) _ (next.up p);
+      go = λ a returned in_gang s σ st sa top ends. turn a returned in_gang s σ sa top ends ((l.body_sim a in_gang).go (tick s) σ st sa top (λ p. turned_first (l.own_test p) (l.own_body p) (l.own_step p) (w.last p) (a p) (l.own_body p (σ p)) _ (next.up p) (ends p)));
+    } where
+      turn : (a returned : Mask) → AreSome w.gang a → (s : State) (σ : ℕ → Alone) → Same l.v a s.uniforms σ → (l.top ≡ true → HasAll w a)
+          → ((p : ℕ) → LeavesIf (w.last p) (a p) (own_turns (l.own_test p) (l.own_body p) (l.own_step p) (suc n) (σ p)))
+          → Leaves w (record { closed = l.closed_body; joint = l.joint; top = l.top }) l.v l.v1 l.ways a (λ p. l.own_body p (σ p)) σ (l.body a (tick s)) s.uniforms
+          → Ended a returned (λ p. own_turns (l.own_test p) (l.own_body p) (l.own_step p) (suc n) (σ p)) σ (turns w.gang l.test l.body l.step all (suc n) a returned s) s.uniforms
+      turn a returned in_gang s σ sa top ends ok =
+          let ok2 = after_body _ _ next a returned in_gang s σ sa top ends (l.body a (tick s)) ok (any w.gang (union ok.went ok.continued)) refl in
+          record {
+            s = ok2.s;
+            back = ok2.back;
+            after = ok2.after;
+            how = ok2.how;
+            way = ok2.way;
+            is = ap (λ z. go_on z (λ s1 g b c r. if_so (any w.gang (union g c)) (stepped w.gang l.test l.body l.step all (turns w.gang l.test l.body l.step all n) (union g c) (union returned r)) (loop_end w.gang l.test l.body l.step all (union returned r)) s1)) ok.is ∙ ok2.is;
+            alone = ok2.alone;
+            back_is = ok2.back_is;
+            over = ok2.over;
+            one_way = ok2.one_way;
+            no_return = ok2.no_return;
+            quiet = ok2.quiet;
+            own_quiet = ok2.own_quiet;
             same = ok2.same;
             stands = ok2.stands;
           }
