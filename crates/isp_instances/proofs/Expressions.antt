@@ -27,9 +27,9 @@ use Rattle.isp_alone.specs.Alone.{Alone}
 use Rattle.isp_alone.specs.Answers.{Answer, Has, reached}
 use Rattle.isp_alone.specs.Places.{Spot, AVariable, AnElement}
 use Rattle.isp_alone.specs.Values.{OwnCalls, by_instance, held as own_held, answer, spot, answers, answer_call, arguments as own_arguments, passed as own_passed}
-use Rattle.isp_instances.specs.Stands.{World, TouchNothing, AreSome, IsOpen}
+use Rattle.isp_instances.specs.Stands.{World, TouchNothing, AreSome, IsOpen, Up}
 use Rattle.isp_instances.specs.Values.{Sim, IsOne, Stand, PlaceStands, ListAt, AllOne, ListStands, PassedAt, AllPassedAt, Suits, AllSuit, PassedStand, AnswerStands, CallsAgree}
-use Rattle.isp_instances.proofs.Grow.{Up, up_then, up_has, up_choose, up_unless}
+use Rattle.isp_instances.proofs.Grow.{up_then, up_has, up_choose, up_unless}
 use Rattle.isp_instances.proofs.Grows.{held_up, answer_up, answers_up, arguments_up, passed_up}
 use Rattle.isp_instances.proofs.Lanes.{mapped_stand, joined_stand, one_stands, stand_as}
 use Rattle.isp_instances.proofs.Sims.{sim_has, sim_same, sim_as, sim_tick, sim_then, sim_checked}

@@ -8,18 +8,13 @@ use Rattle.isp_alone.specs.Alone.{Alone}
 use Rattle.isp_alone.specs.Answers.{Answer, Has, Bad, Long, reached, How, Going, Broke, Continued, Returned, End, Does, Dies, Lasts, and_then, with_answer, unless, choose, then_on, then_always, Done}
 use Rattle.isp_alone.specs.Loops.{tested, stepped, turned, turns}
 use Rattle.isp_meaning.specs.Payloads.{is_true}
-use Rattle.isp_alone.proofs.Framed.{left_at}
-use Rattle.isp_instances.specs.Stands.{Within}
+use Rattle.isp_instances.specs.Stands.{Within, Up, left_at}
 
 pub stays : (s : Alone) → Within s s
 stays s = record { read = λ b e h. h; wrote = λ b e h. h }
 
 pub within_then : (s t u : Alone) → Within t s → Within u t → Within u s
 within_then s t u x y = record { read = λ b e h. y.read b e (x.read b e h); wrote = λ b e h. y.wrote b e (x.wrote b e h) }
-
--- f touches, and takes nothing back
-pub record Up {R : Type 0} (at : R → Alone) (f : Alone → R) : Type 0 where
-  pub more : (s : Alone) → Within (at (f s)) s
 
 -- what follows takes nothing back either
 pub up_by : {R S : Type 0} (at : R → Alone) (to : S → Alone) (f : Alone → R) (h : Alone → R → S) → Up at f → ((s : Alone) (r : R) → Within (to (h s r)) (at r)) → Up to (λ s. h s (f s))

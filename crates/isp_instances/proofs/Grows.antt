@@ -30,9 +30,8 @@ use Rattle.isp_alone.specs.Steps.{update, simple, item, items, first_part, step_
 use Rattle.isp_alone.specs.Loops.{at_indices, rounds}
 use Rattle.isp_alone.specs.Does.{goes_on, bounds, test_part, does, does_block, does_all}
 use Rattle.isp_alone.specs.Calls.{begun, ended, called, own_calls}
-use Rattle.isp_alone.proofs.Framed.{left_at}
-use Rattle.isp_instances.specs.Stands.{Within}
-use Rattle.isp_instances.proofs.Grow.{stays, within_then, Up, up_by, up_from, up_choose, up_then, up_has, up_bad, up_unless, up_with, up_does, up_on, up_always, tested_up, turns_up}
+use Rattle.isp_instances.specs.Stands.{Within, Up, left_at}
+use Rattle.isp_instances.proofs.Grow.{stays, within_then, up_by, up_from, up_choose, up_then, up_has, up_bad, up_unless, up_with, up_does, up_on, up_always, tested_up, turns_up}
 
 -- ---- what changes the state
 

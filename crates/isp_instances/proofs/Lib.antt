@@ -5,6 +5,7 @@ pub mod Sims
 pub mod Held
 pub mod Parts
 pub mod Fair
+pub mod Asked
 pub mod Listed
 pub mod Expressions
 pub mod Loops

@@ -12,11 +12,11 @@ use Rattle.isp_meaning.specs.Loops.{loop_end, tested, stepped, turns}
 use Rattle.isp_alone.specs.Alone.{Alone}
 use Rattle.isp_alone.specs.Answers.{Answer, Has, Bad, Long, reached, How, Going, Broke, Continued, Returned, End, Does, Dies, Lasts, with_answer, choose}
 use Rattle.isp_alone.specs.Loops.{turned, tested as own_tested, stepped as own_stepped, turns as own_turns}
-use Rattle.isp_alone.proofs.Framed.{left_at}
-use Rattle.isp_instances.specs.Stands.{World, Within, EndsWithin, Stands, Same, AreSome, IfIn}
+use Rattle.isp_instances.specs.Stands.{World, Within, EndsWithin, Stands, Same, AreSome, IfIn, Up, left_at}
 use Rattle.isp_instances.specs.Values.{AnswersAlone, Agrees, Sim, IsOne, Stand}
 use Rattle.isp_instances.specs.Statements.{is_going, is_broke, is_continued, is_returned, is_over, Ways, may_leave, may_part, Here, HasAll, LeavesWithin, Acts, ActSim, LeavesAlone, Leaves, StmtSim, LoopLeaves}
-use Rattle.isp_instances.proofs.Grow.{Up, within_then, up_choose, up_with, up_does, turned_up}
+use Rattle.isp_instances.specs.Loops.{LoopParts, LoopSim}
+use Rattle.isp_instances.proofs.Grow.{within_then, up_choose, up_with, up_does, turned_up}
 use Rattle.isp_instances.proofs.Lanes.{nobody_in, member, and_left, kept_is}
 use Rattle.isp_instances.proofs.Sims.{same_on}
 
@@ -186,51 +186,15 @@ all_kept f a (One c) q one e p = go (f c) e where
   go false e = absurd (true≢false (sym e))
 all_kept f a (Each x) q one e p = absurd one
 
--- ---- what a loop is made of, and what is asked of it. Where instances do not part in it, its test is uniform, none breaks alone,
--- and none continues past a `break`. Where some continue alone, nobody assigns what is known in the body from outside.
-
-pub record LoopParts (w : World) : Type 0 where
-  pub v : Scope
-  pub v1 : Scope
-  pub parts : Bool
-  pub joint : Bool
-  pub top : Bool
-  pub ways : Ways
-  pub closed : ℕ → Bool
-  pub closed_body : ℕ → Bool
-  pub rate : Rate
-  pub test : Mask → State → Val Payload
-  pub body : Mask → State → Res
-  pub step : Mask → State → Val Done
-  pub own_test : ℕ → Alone → Answer ℕ
-  pub own_body : ℕ → Alone → End
-  pub own_step : ℕ → Alone → Answer Done
-  pub test_sim : (a : Mask) → AreSome w.gang a → Sim w v a (Stand w.gang a rate) (test a) own_test
-  pub step_sim : (a : Mask) → AreSome w.gang a → ActSim w closed v v a (step a) own_step
-  pub body_sim : (a : Mask) → AreSome w.gang a → StmtSim w (record { closed = closed_body; joint = joint; top = top }) v v1 ways a (body a) own_body
-  pub test_up : (p : ℕ) → Up reached (own_test p)
-  pub body_up : (p : ℕ) → Up left_at (own_body p)
-  pub step_up : (p : ℕ) → Up reached (own_step p)
-  pub wider : (k : ℕ) → v k ≡ true → v1 k ≡ true
-  pub alike : parts ≡ false → rate ≡ Uniform
-  pub no_break : parts ≡ false → ways.some_break ≡ false
-  pub no_later_break : parts ≡ false → (ways.breaks ≡ false) ⊎ (ways.some_continue ≡ false)
-  pub turned : ways.some_continue ≡ true → (k : ℕ) → v k ≡ true → closed_body k ≡ true
-  pub closed_in : (k : ℕ) → closed k ≡ true → closed_body k ≡ true
-  pub together : top ≡ true → (parts ≡ false) × (ways.some_continue ≡ false) × (joint ≡ true)
+-- ---- the gang and its instances
 
 module _ (w : World) (l : LoopParts w) (all : Mask) where
-  abbrev pub Ended : Mask → Mask → (ℕ → End) → (ℕ → Alone) → Res → (ℕ → ℕ) → Type 0
+  abbrev Ended : Mask → Mask → (ℕ → End) → (ℕ → Alone) → Res → (ℕ → ℕ) → Type 0
   Ended a returned own σ res u = LoopLeaves w l.closed l.v l.parts l.joint l.top a returned all own σ res u
-
-  pub record TurnSim (turn : Mask → Mask → State → Res) (own : ℕ → Alone → End) : Type 0 where
-    pub up : (p : ℕ) → Up left_at (own p)
-    pub go : (a returned : Mask) → AreSome w.gang a → (s : State) (σ : ℕ → Alone) → Stands w s σ → Same l.v a s.uniforms σ → (l.top ≡ true → HasAll w a) → ((p : ℕ) → LeavesIf (w.last p) (a p) (own p (σ p)))
-        → Ended a returned (λ p. own p (σ p)) σ (turn a returned s) s.uniforms
 
   -- ---- the test, and a turn of those that it keeps
 
-  module _ (turn : Mask → Mask → State → Res) (own : ℕ → Alone → End) (sim : TurnSim turn own) where
+  module _ (turn : Mask → Mask → State → Res) (own : ℕ → Alone → End) (sim : LoopSim w l all turn own) where
     choice_up : (p i : ℕ) → Up left_at (λ s1. choose (is_true i) (own p) (λ s2. Does s2 Going) s1)
     choice_up p i = up_choose left_at (is_true i) _ _ (sim.up p) (up_does Going)
 
@@ -308,7 +272,7 @@ module _ (w : World) (l : LoopParts w) (all : Mask) where
         none_back false true = refl
         none_back false false = refl
 
-    tested_sim : TurnSim (tested w.gang l.test l.body l.step all turn) (λ p. own_tested (l.own_test p) (l.own_body p) (l.own_step p) (own p))
+    tested_sim : LoopSim w l all (tested w.gang l.test l.body l.step all turn) (λ p. own_tested (l.own_test p) (l.own_body p) (l.own_step p) (own p))
     tested_sim = record { up = tested_up; go = λ a returned in_gang s σ st sa top ends. after_test a returned in_gang s σ sa top ends ((l.test_sim a in_gang).go s σ st sa (λ p. with_first (w.last p) (a p) (l.own_test p (σ p)) _ (λ i. choice_up p i) (ends p))) } where
       after_test : (a returned : Mask) → AreSome w.gang a → (s : State) (σ : ℕ → Alone) → Same l.v a s.uniforms σ → (l.top ≡ true → HasAll w a) → ((p : ℕ) → LeavesIf (w.last p) (a p) (own_tested (l.own_test p) (l.own_body p) (l.own_step p) (own p) (σ p)))
           → Agrees w a (Stand w.gang a l.rate) (λ p. l.own_test p (σ p)) σ (l.test a s) s.uniforms → Ended a returned (λ p. own_tested (l.own_test p) (l.own_body p) (l.own_step p) (own p) (σ p)) σ (tested w.gang l.test l.body l.step all turn a returned s) s.uniforms
@@ -335,7 +299,7 @@ module _ (w : World) (l : LoopParts w) (all : Mask) where
           }
 
     -- the step, and then the test
-    stepped_sim : TurnSim (stepped w.gang l.test l.body l.step all turn) (λ p. own_stepped (l.own_test p) (l.own_body p) (l.own_step p) (own p))
+    stepped_sim : LoopSim w l all (stepped w.gang l.test l.body l.step all turn) (λ p. own_stepped (l.own_test p) (l.own_body p) (l.own_step p) (own p))
     stepped_sim = record {
       up = λ p. up_with (l.own_step p) _ (l.step_up p) (λ u. tested_up p);
       go = λ a returned in_gang s σ st sa top ends. after_step a returned in_gang s σ top ends ((l.step_sim a in_gang).go s σ st sa (λ p. with_first (w.last p) (a p) (l.own_step p (σ p)) _ (λ u. tested_up p) (ends p)));
@@ -371,7 +335,7 @@ module _ (w : World) (l : LoopParts w) (all : Mask) where
   parting_none Continued i e = true≢false (sym e ∙ (l.together i).1)
   parting_none Returned i e = true≢false (sym e ∙ ap not (l.together i).2)
 
-  module _ (turn : Mask → Mask → State → Res) (own : ℕ → Alone → End) (next : TurnSim turn own) where
+  module _ (turn : Mask → Mask → State → Res) (own : ℕ → Alone → End) (next : LoopSim w l all turn own) where
     module _ (a returned : Mask) (in_gang : AreSome w.gang a) (s : State) (σ : ℕ → Alone) (sa : Same l.v a s.uniforms σ) (top : l.top ≡ true → HasAll w a)
         (ends : (p : ℕ) → LeavesIf (w.last p) (a p) (turned (l.own_test p) (l.own_body p) (l.own_step p) (l.own_body p (σ p)) (own p)))
         (res : Res) (ok : Leaves w (record { closed = l.closed_body; joint = l.joint; top = l.top }) l.v l.v1 l.ways a (λ p. l.own_body p (σ p)) σ res s.uniforms) where
@@ -498,11 +462,11 @@ module _ (w : World) (l : LoopParts w) (all : Mask) where
     go q = subst (λ t. LeavesIf (w.last q.0) t (Lasts (σ q.0))) q.1 (ends q.0)
 
   -- so many turns
-  pub turns_sim : (n : ℕ) → TurnSim (turns w.gang l.test l.body l.step all n) (λ p. own_turns (l.own_test p) (l.own_body p) (l.own_step p) n)
+  pub turns_sim : (n : ℕ) → LoopSim w l all (turns w.gang l.test l.body l.step all n) (λ p. own_turns (l.own_test p) (l.own_body p) (l.own_step p) n)
   turns_sim zero = record { up = λ p. record { more = λ s. record { read = λ b e h. h; wrote = λ b e h. h } }; go = λ a returned in_gang s σ st sa top ends. absurd (cut_never a in_gang σ ends) }
   turns_sim (suc n) = go (stepped_sim _ _ (turns_sim n)) where
-    go : TurnSim (stepped w.gang l.test l.body l.step all (turns w.gang l.test l.body l.step all n)) (λ p. own_stepped (l.own_test p) (l.own_body p) (l.own_step p) (own_turns (l.own_test p) (l.own_body p) (l.own_step p) n))
-        → TurnSim (turns w.gang l.test l.body l.step all (suc n)) (λ p. own_turns (l.own_test p) (l.own_body p) (l.own_step p) (suc n))
+    go : LoopSim w l all (stepped w.gang l.test l.body l.step all (turns w.gang l.test l.body l.step all n)) (λ p. own_stepped (l.own_test p) (l.own_body p) (l.own_step p) (own_turns (l.own_test p) (l.own_body p) (l.own_step p) n))
+        → LoopSim w l all (turns w.gang l.test l.body l.step all (suc n)) (λ p. own_turns (l.own_test p) (l.own_body p) (l.own_step p) (suc n))
     go next = record {
       up = λ p. turned_up (l.own_test p) (l.own_body p) (l.own_step p) (l.test_up p) (l.body_up p) (l.step_up p) _ (next.up p);
       go = λ a returned in_gang s σ st sa top ends. turn a returned in_gang s σ sa top ends ((l.body_sim a in_gang).go (tick s) σ st sa top (λ p. turned_first (l.own_test p) (l.own_body p) (l.own_step p) (w.last p) (a p) (l.own_body p (σ p)) _ (next.up p) (ends p)));

@@ -13,9 +13,9 @@ use Rattle.isp_meaning.specs.Payloads.{Payload, One, Each, spread, nothing, offe
 use Rattle.isp_meaning.specs.Outcomes.{Val, Gives, bind, checked, value_unless_empty, if_so}
 use Rattle.isp_alone.specs.Alone.{Alone}
 use Rattle.isp_alone.specs.Answers.{Answer, Has, Bad, Long, reached, and_then, unless, choose}
-use Rattle.isp_instances.specs.Stands.{World, Within, EndsWithin, Stands, Same, AreSome, IfIn}
+use Rattle.isp_instances.specs.Stands.{World, Within, EndsWithin, Stands, Same, AreSome, IfIn, Up}
 use Rattle.isp_instances.specs.Values.{AnswersAlone, Agrees, Sim, IsOne, Stand}
-use Rattle.isp_instances.proofs.Grow.{Up, within_then}
+use Rattle.isp_instances.proofs.Grow.{within_then}
 use Rattle.isp_instances.proofs.Lanes.{nobody_in, and_left, no_offender}
 
 -- ---- one instance

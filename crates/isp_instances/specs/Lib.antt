@@ -1,4 +1,6 @@
 pub mod Stands
 pub mod Values
 pub mod Statements
+pub mod Loops
+pub mod Asked
 pub mod Correct

@@ -8,7 +8,7 @@ use Rattle.isp_base.specs.declared.types.Ty.{Ty}
 use Rattle.isp_typed.specs.Scoped.{Scope}
 use Rattle.isp_meaning.specs.State.{State, Frame}
 use Rattle.isp_alone.specs.Alone.{Alone}
-use Rattle.isp_alone.specs.Answers.{Answer, Has, Bad, Long}
+use Rattle.isp_alone.specs.Answers.{Answer, Has, Bad, Long, End, Does, Dies, Lasts}
 
 -- Where a call runs: the instances of the gang, the shared arrays at the start of the run, the state that each instance
 -- reaches alone at the end of its run, the frame of the call, and the instances that made it.
@@ -36,6 +36,16 @@ abbrev pub EndsWithin : {A : Type 0} → Alone → Answer A → Type 0
 EndsWithin last (Has x s) = Within last s
 EndsWithin last (Bad t s) = ⊥
 EndsWithin last (Long s) = ⊥
+
+-- where an instance stands when it has left a statement
+abbrev pub left_at : End → Alone
+left_at (Does s how) = s
+left_at (Dies t s) = s
+left_at (Lasts s) = s
+
+-- what f touches is touched in addition
+pub record Up {R : Type 0} (at : R → Alone) (f : Alone → R) : Type 0 where
+  pub more : (s : Alone) → Within (at (f s)) s
 
 -- ---- the relation, by the parts of the gang's state; the work is no part, and the uniforms are said apart
 
