@@ -9,3 +9,6 @@ pub mod Asked
 pub mod Listed
 pub mod Expressions
 pub mod Loops
+pub mod Sequences
+pub mod Branches
+pub mod Whole

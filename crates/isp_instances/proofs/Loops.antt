@@ -272,7 +272,7 @@ module _ (w : World) (l : LoopParts w) (all : Mask) where
         none_back false true = refl
         none_back false false = refl
 
-    tested_sim : LoopSim w l all (tested w.gang l.test l.body l.step all turn) (λ p. own_tested (l.own_test p) (l.own_body p) (l.own_step p) (own p))
+    pub tested_sim : LoopSim w l all (tested w.gang l.test l.body l.step all turn) (λ p. own_tested (l.own_test p) (l.own_body p) (l.own_step p) (own p))
     tested_sim = record { up = tested_up; go = λ a returned in_gang s σ st sa top ends. after_test a returned in_gang s σ sa top ends ((l.test_sim a in_gang).go s σ st sa (λ p. with_first (w.last p) (a p) (l.own_test p (σ p)) _ (λ i. choice_up p i) (ends p))) } where
       after_test : (a returned : Mask) → AreSome w.gang a → (s : State) (σ : ℕ → Alone) → Same l.v a s.uniforms σ → (l.top ≡ true → HasAll w a) → ((p : ℕ) → LeavesIf (w.last p) (a p) (own_tested (l.own_test p) (l.own_body p) (l.own_step p) (own p) (σ p)))
           → Agrees w a (Stand w.gang a l.rate) (λ p. l.own_test p (σ p)) σ (l.test a s) s.uniforms → Ended a returned (λ p. own_tested (l.own_test p) (l.own_body p) (l.own_step p) (own p) (σ p)) σ (tested w.gang l.test l.body l.step all turn a returned s) s.uniforms

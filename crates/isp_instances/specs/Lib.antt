@@ -3,4 +3,5 @@ pub mod Values
 pub mod Statements
 pub mod Loops
 pub mod Asked
+pub mod Laws
 pub mod Correct

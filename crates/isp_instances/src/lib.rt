@@ -1,2 +1,6 @@
-//! The gang and its instances one by one. No code is run here: each function carries a law in its contract.
+//! The gang and its instances one by one: that the gang does in each instance what the instance does alone.
 #![tactic(auto)]
+
+mod laws;
+
+pub use laws::{expressions_agree, loops_agree, touched_stays};

@@ -1,0 +1,219 @@
+-- Branches of an `if`, and loops as statements.
+use Rattle.std.proofs.Common.{◌≡◌, ℕ, ◌<◌, ◌⊎◌, inl, inr, Bool, true, false, refl, sym, ap, ◌∙◌, subst, true≢false}
+use Rattle.std.specs.Prelude.{◌&&◌, ◌||◌, not, if◌then◌else◌, Option, Some, None}
+use Rattle.isp_base.specs.Sets.{Mask, any, nobody, union, without}
+use Rattle.isp_base.specs.Maps.{on, where_true, holds}
+use Rattle.isp_base.specs.declared.types.Rate.{Rate}
+use Rattle.isp_base.specs.declared.types.Rate.TheVariants.{Uniform, Varying}
+use Rattle.isp_typed.specs.Scoped.{Scope}
+use Rattle.isp_meaning.specs.State.{State}
+use Rattle.isp_meaning.specs.Payloads.{Payload, One, Each, spread, is_true}
+use Rattle.isp_meaning.specs.Outcomes.{Res, Went, Val, go_on, went_all, unless_empty, if_so, both_sides, with_value}
+use Rattle.isp_meaning.specs.Statements.{branches}
+use Rattle.isp_alone.specs.Alone.{Alone}
+use Rattle.isp_alone.specs.Answers.{How, Going, Broke, Continued, Returned, End, Does, Dies, Lasts, Answer, reached, choose, with_answer}
+use Rattle.isp_instances.specs.Stands.{World, Within, EndsWithin, Stands, Same, AreSome, IfIn, Up, left_at}
+use Rattle.isp_instances.specs.Values.{AnswersAlone, Agrees, Sim, IsOne, Stand}
+use Rattle.isp_instances.specs.Statements.{is_going, is_broke, is_continued, is_returned, Ways, may_leave, may_part, Here, HasAll, LeavesWithin, LeavesAlone, Leaves, StmtSim, LoopLeaves}
+use Rattle.isp_instances.proofs.Grow.{up_choose}
+use Rattle.isp_instances.proofs.Lanes.{nobody_in, member, and_left, or_left, or_right, kept_is, one_is}
+use Rattle.isp_instances.proofs.Sims.{same_on}
+use Rattle.isp_instances.proofs.Loops.{LeavesIf, with_first, with_next, with_alone, either_is}
+use Rattle.isp_instances.proofs.Sequences.{ways_of, leave_left, leave_right, part_left, part_right}
+
+-- ---- nobody is there
+
+-- all stay, and go on
+module _ (w : World) (here : Here) (v v1 : Scope) (x : Ways) (k : Mask) where
+  pub none_leaves : (own : ℕ → End) (σ : ℕ → Alone) (s : State) → ((p : ℕ) → k p ≡ false) → Stands w s σ → Leaves w here v v1 x k own σ (went_all k s) s.uniforms
+  none_leaves own σ s none st = record {
+    s = s;
+    went = k;
+    broke = nobody;
+    continued = nobody;
+    returned = nobody;
+    after = σ;
+    how = λ p. Going;
+    way = Going;
+    is = refl;
+    alone = λ p. off (k p) (own p) (σ p) (none p);
+    went_is = λ p. none p ∙ sym (ap (λ z. z && true) (none p));
+    broke_is = λ p. sym (ap (λ z. z && false) (none p));
+    continued_is = λ p. sym (ap (λ z. z && false) (none p));
+    returned_is = λ p. sym (ap (λ z. z && false) (none p));
+    may = λ p i. refl;
+    one_way = λ p i. inl refl;
+    no_return = λ i d p j. refl;
+    quiet = λ n i. refl;
+    own_quiet = λ p n i. refl;
+    same = λ p n i j. absurd (true≢false (sym i ∙ none p));
+    same_broke = λ i p n j l. absurd (true≢false (sym j));
+    same_continued = λ i p n j l. absurd (true≢false (sym j));
+    stands = st;
+  } where
+    off : (t : Bool) (r : End) (s : Alone) → t ≡ false → LeavesAlone t r s Going s
+    off true r s e = absurd (true≢false e)
+    off false r s e = refl
+
+  -- over a set that may be empty
+  pub unless_leaves : (own : ℕ → End) (σ : ℕ → Alone) (s : State) (f : Mask → State → Res) → ((p : ℕ) → k p ≡ true → p < w.gang) → Stands w s σ
+      → (AreSome w.gang k → Leaves w here v v1 x k own σ (f k s) s.uniforms) → Leaves w here v v1 x k own σ (unless_empty w.gang k s f) s.uniforms
+  unless_leaves own σ s f inside st ok = at (any w.gang k) refl where
+    at : (t : Bool) → any w.gang k ≡ t → Leaves w here v v1 x k own σ (if_so t (f k) (went_all k) s) s.uniforms
+    at true e = ok (record { inside = inside; some = e })
+    at false e = none_leaves own σ s (nobody_in w.gang k inside e) st
+
+-- no jump
+abbrev pub no_ways : Ways
+no_ways = record { breaks = false; continues = false; some_break = false; some_continue = false }
+
+-- what only goes on
+pub stop_sim : (w : World) (here : Here) (v : Scope) (a : Mask) → StmtSim w here v v no_ways a (went_all a) (λ p s. Does s Going)
+stop_sim w here v a = record {
+  go = λ s σ st sa top ends.
+    record {
+      s = s;
+      went = a;
+      broke = nobody;
+      continued = nobody;
+      returned = nobody;
+      after = σ;
+      how = λ p. Going;
+      way = Going;
+      is = refl;
+      alone = λ p. same (a p) (σ p);
+      went_is = λ p. and_true (a p);
+      broke_is = λ p. and_false (a p);
+      continued_is = λ p. and_false (a p);
+      returned_is = λ p. and_false (a p);
+      may = λ p i. refl;
+      one_way = λ p i. inl refl;
+      no_return = λ i d p j. refl;
+      quiet = λ n i. refl;
+      own_quiet = λ p n i. refl;
+      same = sa;
+      same_broke = λ i p n j l. absurd (true≢false (sym j));
+      same_continued = λ i p n j l. absurd (true≢false (sym j));
+      stands = st;
+    };
+} where
+  same : (t : Bool) (s : Alone) → LeavesAlone t (Does s Going) s Going s
+  same true s = refl
+  same false s = refl
+
+  and_true : (t : Bool) → t ≡ (t && true)
+  and_true true = refl
+  and_true false = refl
+
+  and_false : (t : Bool) → false ≡ (t && false)
+  and_false true = refl
+  and_false false = refl
+
+-- ---- one branch for all: what jumps of the other branch does not matter
+
+pub record Widens (joint : Bool) (x z : Ways) : Type 0 where
+  pub leave : (h : How) → may_leave x h ≡ true → may_leave z h ≡ true
+  pub part : (h : How) → may_part joint x h ≡ true → may_part joint z h ≡ true
+  pub broke : z.some_break ≡ false → x.some_break ≡ false
+  pub continued : z.some_continue ≡ false → x.some_continue ≡ false
+
+pub widens_left : (joint : Bool) (x y : Ways) → Widens joint x (ways_of x y)
+widens_left joint x y = record { leave = λ h. leave_left x y h; part = λ h. part_left joint x y h; broke = λ i. or_left x.some_break y.some_break i; continued = λ i. or_left x.some_continue y.some_continue i }
+
+pub widens_right : (joint : Bool) (x y : Ways) → Widens joint y (ways_of x y)
+widens_right joint x y = record { leave = λ h. leave_right x y h; part = λ h. part_right joint x y h; broke = λ i. or_right x.some_break y.some_break i; continued = λ i. or_right x.some_continue y.some_continue i }
+
+module _ (w : World) (here : Here) (v v1 : Scope) (x : Ways) (a : Mask) (wider : (k : ℕ) → v k ≡ true → v1 k ≡ true) where
+  pub in_other_words : (z : Ways) → Widens here.joint x z → (own own2 : ℕ → End) (σ : ℕ → Alone) (res : Res) (u : ℕ → ℕ) → ((p : ℕ) → a p ≡ true → own2 p ≡ own p) → Leaves w here v v1 x a own σ res u → Leaves w here v v z a own2 σ res u
+  in_other_words z wide own own2 σ res u e ok = record {
+    s = ok.s;
+    went = ok.went;
+    broke = ok.broke;
+    continued = ok.continued;
+    returned = ok.returned;
+    after = ok.after;
+    how = ok.how;
+    way = ok.way;
+    is = ok.is;
+    alone = λ p. moved (a p) (own p) (own2 p) (σ p) (ok.after p) (ok.how p) (e p) (ok.alone p);
+    went_is = ok.went_is;
+    broke_is = ok.broke_is;
+    continued_is = ok.continued_is;
+    returned_is = ok.returned_is;
+    may = λ p i. wide.leave (ok.how p) (ok.may p i);
+    one_way = λ p i. way_of p (ok.one_way p i);
+    no_return = ok.no_return;
+    quiet = ok.quiet;
+    own_quiet = ok.own_quiet;
+    same = λ p k i j. ok.same p k i (wider k j);
+    same_broke = λ i. ok.same_broke (wide.broke i);
+    same_continued = λ i. ok.same_continued (wide.continued i);
+    stands = ok.stands;
+  } where
+    moved : (t : Bool) (r q : End) (s s1 : Alone) (h : How) → (t ≡ true → q ≡ r) → LeavesAlone t r s h s1 → LeavesAlone t q s h s1
+    moved true r q s s1 h e l = e refl ∙ l
+    moved false r q s s1 h e l = l
+
+    way_of : (p : ℕ) → (ok.how p ≡ ok.way) ⊎ (may_part here.joint x (ok.how p) ≡ true) → (ok.how p ≡ ok.way) ⊎ (may_part here.joint z (ok.how p) ≡ true)
+    way_of p (inl d) = inl d
+    way_of p (inr d) = inr (wide.part (ok.how p) d)
+
+-- ---- branches in which some are: they part, and nobody assigns what is known outside
+
+module _ (w : World) (here : Here) (closed : ℕ → Bool) (v v1 v2 : Scope) (x y : Ways) (a : Mask) (in_gang : AreSome w.gang a) (shut : (k : ℕ) → v k ≡ true → closed k ≡ true) (closed_in : (k : ℕ) → here.closed k ≡ true → closed k ≡ true)
+    (first second : Mask → State → Res) (own own2 : ℕ → Alone → End) where
+  abbrev branch : Here
+  branch = record { closed = closed; joint = here.joint; top = false }
+
+  -- whoever leaves a branch otherwise than by going on may do so alone
+  abbrev alone_ways : Ways
+  alone_ways = record { breaks = x.breaks || y.breaks; continues = x.continues || y.continues; some_break = x.breaks || y.breaks; some_continue = x.continues || y.continues }
+
+  leaves_alone : (h : How) → may_leave (ways_of x y) h ≡ true → (here.joint ≡ true → is_returned h ≡ false) → (h ≡ Going) ⊎ (may_part here.joint alone_ways h ≡ true)
+  leaves_alone Going e r = inl refl
+  leaves_alone Broke e r = inr e
+  leaves_alone Continued e r = inr e
+  leaves_alone Returned e r = inr (go here.joint r) where
+    go : (j : Bool) → (j ≡ true → true ≡ false) → not j ≡ true
+    go true r = absurd (true≢false (r refl))
+    go false r = refl
+
+  as_alone : (h : How) → may_leave (ways_of x y) h ≡ true → may_leave alone_ways h ≡ true
+  as_alone Going e = refl
+  as_alone Broke e = e
+  as_alone Continued e = e
+  as_alone Returned e = refl
+
+  -- of what the branches came to, put together
+  module _ (own3 : ℕ → End) (s : State) (σ : ℕ → Alone) (sa : Same v a s.uniforms σ) (s2 : State) (went broke continued returned : Mask) (after : ℕ → Alone) (how : ℕ → How)
+      (alone : (p : ℕ) → LeavesAlone (a p) (own3 p) (σ p) (how p) (after p)) (went_is : (p : ℕ) → went p ≡ (a p && is_going (how p))) (broke_is : (p : ℕ) → broke p ≡ (a p && is_broke (how p))) (continued_is : (p : ℕ) → continued p ≡ (a p && is_continued (how p))) (returned_is : (p : ℕ) → returned p ≡ (a p && is_returned (how p)))
+      (may : (p : ℕ) → a p ≡ true → may_leave (ways_of x y) (how p) ≡ true) (no_return : here.joint ≡ true → (p : ℕ) → a p ≡ true → is_returned (how p) ≡ false) (quiet : (k : ℕ) → closed k ≡ true → s2.uniforms k ≡ s.uniforms k) (own_quiet : (p k : ℕ) → closed k ≡ true → (after p).uniforms k ≡ (σ p).uniforms k) (stands : Stands w s2 after) where
+    known : (p k : ℕ) → a p ≡ true → v k ≡ true → (after p).uniforms k ≡ s2.uniforms k
+    known p k i j = own_quiet p k (shut k j) ∙ sa p k i j ∙ sym (quiet k (shut k j))
+
+    parted : Leaves w here v v alone_ways a own3 σ (Went s2 went broke continued returned) s.uniforms
+    parted = record {
+      s = s2;
+      went = went;
+      broke = broke;
+      continued = continued;
+      returned = returned;
+      after = after;
+      how = how;
+      way = Going;
+      is = refl;
+      alone = alone;
+      went_is = went_is;
+      broke_is = broke_is;
+      continued_is = continued_is;
+      returned_is = returned_is;
+      may = λ p i. as_alone (how p) (may p i);
+      one_way = λ p i. leaves_alone (how p) (may p i) (λ j. no_return j p i);
+      no_return = λ i d p j. no_return i p j;
+      quiet = λ k i. quiet k (closed_in k i);
+      own_quiet = λ p k i. own_quiet p k (closed_in k i);
+      same = λ p k i j. known p k (and_left (a p) _ (sym (went_is p) ∙ i)) j;
+      same_broke = λ d p k i j. known p k (and_left (a p) _ (sym (broke_is p) ∙ i)) j;
+      same_continued = λ d p k i j. known p k (and_left (a p) _ (sym (continued_is p) ∙ i)) j;
+      stands = stands;
+    }
