@@ -217,3 +217,131 @@ module _ (w : World) (here : Here) (closed : ℕ → Bool) (v v1 v2 : Scope) (x 
       same_continued = λ d p k i j. known p k (and_left (a p) _ (sym (continued_is p) ∙ i)) j;
       stands = stands;
     }
+
+  -- ---- one instance, in one of two sides
+
+  side : (t u k : Bool) (f g : Alone → End) (s s1 s2 : Alone) (h h2 : How) (l : Bool) → k ≡ (t && u) → l ≡ (t && not u) → LeavesAlone k (f s) s h s1 → LeavesAlone l (g s1) s1 h2 s2 → LeavesAlone t (choose u f g s) s (if u then h else h2) s2
+  side t u k f g s s1 s2 h h2 l e d a b = go t u (subst (λ z. LeavesAlone z (f s) s h s1) e a) (subst (λ z. LeavesAlone z (g s1) s1 h2 s2) d b) where
+    go : (t u : Bool) → LeavesAlone (t && u) (f s) s h s1 → LeavesAlone (t && not u) (g s1) s1 h2 s2 → LeavesAlone t (choose u f g s) s (if u then h else h2) s2
+    go true true a b = a ∙ ap (λ z. Does z h) (sym b)
+    go true false a b = ap g (sym a) ∙ b
+    go false u a b = b ∙ a
+
+  first_ends : (last : Alone) (t u k : Bool) (f g : Alone → End) (s : Alone) → k ≡ (t && u) → LeavesIf last t (choose u f g s) → LeavesIf last k (f s)
+  first_ends last t u k f g s e h = subst (λ z. LeavesIf last z (f s)) (sym e) (go t u h) where
+    go : (t u : Bool) → LeavesIf last t (choose u f g s) → LeavesIf last (t && u) (f s)
+    go true true h = h
+    go true false h = tt
+    go false u h = tt
+
+  second_ends : (last : Alone) (t u k l : Bool) (f g : Alone → End) (s s1 : Alone) (h1 : How) → k ≡ (t && u) → l ≡ (t && not u) → LeavesAlone k (f s) s h1 s1 → LeavesIf last t (choose u f g s) → LeavesIf last l (g s1)
+  second_ends last t u k l f g s s1 h1 e d a h = subst (λ z. LeavesIf last z (g s1)) (sym d) (go t u (subst (λ z. LeavesAlone z (f s) s h1 s1) e a) h) where
+    go : (t u : Bool) → LeavesAlone (t && u) (f s) s h1 s1 → LeavesIf last t (choose u f g s) → LeavesIf last (t && not u) (g s1)
+    go true true a h = tt
+    go true false a h = subst (λ z. LeavesWithin last (g z)) (sym a) h
+    go false u a h = tt
+
+  set_of : (f : How → Bool) (t u k l q r : Bool) (h h2 : How) → k ≡ (t && u) → l ≡ (t && not u) → q ≡ (k && f h) → r ≡ (l && f h2) → (q || r) ≡ (t && f (if u then h else h2))
+  set_of f t u k l q r h h2 e d c b = ap (λ z. z || r) (c ∙ ap (λ z. z && f h) e) ∙ ap (λ z. ((t && u) && f h) || z) (b ∙ ap (λ z. z && f h2) d) ∙ go t u where
+    or_no : (b : Bool) → (b || false) ≡ b
+    or_no true = refl
+    or_no false = refl
+
+    go : (t u : Bool) → (((t && u) && f h) || ((t && not u) && f h2)) ≡ (t && f (if u then h else h2))
+    go true true = or_no (f h)
+    go true false = refl
+    go false u = refl
+
+  and_both : (t u : Bool) → t ≡ true → u ≡ true → (t && u) ≡ true
+  and_both true u e d = d
+  and_both false u e d = absurd (true≢false (sym e))
+
+  module _ (sim : (k : Mask) → AreSome w.gang k → StmtSim w branch v v1 x k (first k) own) (sim2 : (k : Mask) → AreSome w.gang k → StmtSim w branch v v2 y k (second k) own2) where
+    no_top : {A : Type 0} → false ≡ true → A
+    no_top e = absurd (true≢false (sym e))
+
+    -- both sides, each over the members whose test is such
+    module _ (c : ℕ → Option ℕ) (val : ℕ → ℕ) (at : (p : ℕ) → c p ≡ on a val p) (s : State) (σ : ℕ → Alone) (st : Stands w s σ) (sa : Same v a s.uniforms σ) (ends : (p : ℕ) → LeavesIf (w.last p) (a p) (choose (is_true (val p)) (own p) (own2 p) (σ p))) where
+      abbrev these : Mask
+      these = where_true is_true c
+
+      these_are : (p : ℕ) → these p ≡ (a p && is_true (val p))
+      these_are p = kept_is w.gang a is_true (Each c) val p (at p)
+
+      others_are : (p : ℕ) → without a these p ≡ (a p && not (is_true (val p)))
+      others_are p = ap (λ z. a p && not z) (these_are p) ∙ go (a p) (is_true (val p)) where
+        go : (t u : Bool) → (t && not (t && u)) ≡ (t && not u)
+        go true u = refl
+        go false u = refl
+
+      sub1 : (p : ℕ) → these p ≡ true → a p ≡ true
+      sub1 p e = and_left (a p) _ (sym (these_are p) ∙ e)
+
+      sub2 : (p : ℕ) → without a these p ≡ true → a p ≡ true
+      sub2 p e = and_left (a p) _ e
+
+      one : Leaves w branch v v1 x these (λ p. own p (σ p)) σ (unless_empty w.gang these s first) s.uniforms
+      one = unless_leaves w branch v v1 x these (λ p. own p (σ p)) σ s first (λ p e. in_gang.inside p (sub1 p e)) st
+          (λ i. (sim these i).go s σ st (λ p k e j. sa p k (sub1 p e) j) (λ e. no_top e) (λ p. first_ends (w.last p) (a p) (is_true (val p)) (these p) (own p) (own2 p) (σ p) (these_are p) (ends p)))
+
+      two : (ok : Leaves w branch v v1 x these (λ p. own p (σ p)) σ (unless_empty w.gang these s first) s.uniforms) → Leaves w branch v v2 y (without a these) (λ p. own2 p (ok.after p)) ok.after (unless_empty w.gang (without a these) ok.s second) ok.s.uniforms
+      two ok = unless_leaves w branch v v2 y (without a these) (λ p. own2 p (ok.after p)) ok.after ok.s second (λ p e. in_gang.inside p (sub2 p e)) ok.stands
+          (λ i. (sim2 (without a these) i).go ok.s ok.after ok.stands (λ p k e j. ok.own_quiet p k (shut k j) ∙ sa p k (sub2 p e) j ∙ sym (ok.quiet k (shut k j))) (λ e. no_top e)
+          (λ p. second_ends (w.last p) (a p) (is_true (val p)) (these p) (without a these p) (own p) (own2 p) (σ p) (ok.after p) (ok.how p) (these_are p) (others_are p) (ok.alone p) (ends p)))
+
+      sides : Leaves w here v v alone_ways a (λ p. choose (is_true (val p)) (own p) (own2 p) (σ p)) σ (both_sides (unless_empty w.gang these s first) (λ s1. unless_empty w.gang (without a these) s1 second)) s.uniforms
+      sides = join one (two one) where
+        join : (ok : Leaves w branch v v1 x these (λ p. own p (σ p)) σ (unless_empty w.gang these s first) s.uniforms) → Leaves w branch v v2 y (without a these) (λ p. own2 p (ok.after p)) ok.after (unless_empty w.gang (without a these) ok.s second) ok.s.uniforms
+            → Leaves w here v v alone_ways a (λ p. choose (is_true (val p)) (own p) (own2 p) (σ p)) σ (both_sides (unless_empty w.gang these s first) (λ s1. unless_empty w.gang (without a these) s1 second)) s.uniforms
+        join ok ok2 = subst (λ z. Leaves w here v v alone_ways a (λ p. choose (is_true (val p)) (own p) (own2 p) (σ p)) σ z s.uniforms)
+            (sym (ap (λ z. both_sides z (λ s1. unless_empty w.gang (without a these) s1 second)) ok.is ∙ ap (λ z. go_on z (λ s2 g b c r. Went s2 (union ok.went g) (union ok.broke b) (union ok.continued c) (union ok.returned r))) ok2.is))
+            (parted (λ p. choose (is_true (val p)) (own p) (own2 p) (σ p)) s σ sa ok2.s (union ok.went ok2.went) (union ok.broke ok2.broke) (union ok.continued ok2.continued) (union ok.returned ok2.returned) ok2.after (λ p. if is_true (val p) then ok.how p else ok2.how p)
+            (λ p. side (a p) (is_true (val p)) (these p) (own p) (own2 p) (σ p) (ok.after p) (ok2.after p) (ok.how p) (ok2.how p) (without a these p) (these_are p) (others_are p) (ok.alone p) (ok2.alone p))
+            (λ p. set_of is_going (a p) (is_true (val p)) (these p) (without a these p) (ok.went p) (ok2.went p) (ok.how p) (ok2.how p) (these_are p) (others_are p) (ok.went_is p) (ok2.went_is p))
+            (λ p. set_of is_broke (a p) (is_true (val p)) (these p) (without a these p) (ok.broke p) (ok2.broke p) (ok.how p) (ok2.how p) (these_are p) (others_are p) (ok.broke_is p) (ok2.broke_is p))
+            (λ p. set_of is_continued (a p) (is_true (val p)) (these p) (without a these p) (ok.continued p) (ok2.continued p) (ok.how p) (ok2.how p) (these_are p) (others_are p) (ok.continued_is p) (ok2.continued_is p))
+            (λ p. set_of is_returned (a p) (is_true (val p)) (these p) (without a these p) (ok.returned p) (ok2.returned p) (ok.how p) (ok2.how p) (these_are p) (others_are p) (ok.returned_is p) (ok2.returned_is p))
+            (λ p i. picked (λ h. may_leave (ways_of x y) h ≡ true) (is_true (val p)) (ok.how p) (ok2.how p) (λ u. leave_left x y (ok.how p) (ok.may p (these_are p ∙ and_both (a p) _ i u))) (λ u. leave_right x y (ok2.how p) (ok2.may p (others_are p ∙ and_both (a p) _ i (ap not u)))))
+            (λ j p i. picked (λ h. is_returned h ≡ false) (is_true (val p)) (ok.how p) (ok2.how p) (λ u. ok.no_return j refl p (these_are p ∙ and_both (a p) _ i u)) (λ u. ok2.no_return j refl p (others_are p ∙ and_both (a p) _ i (ap not u))))
+            (λ k i. ok2.quiet k i ∙ ok.quiet k i) (λ p k i. ok2.own_quiet p k i ∙ ok.own_quiet p k i) ok2.stands) where
+          picked : (P : How → Type 0) (t : Bool) (h h2 : How) → (t ≡ true → P h) → (t ≡ false → P h2) → P (if t then h else h2)
+          picked P true h h2 f g = f refl
+          picked P false h h2 f g = g refl
+
+    -- one side for all, as the test has one value
+    module _ (val : ℕ → ℕ) (s : State) (σ : ℕ → Alone) (st : Stands w s σ) (sa : Same v a s.uniforms σ) (ends : (p : ℕ) → LeavesIf (w.last p) (a p) (choose (is_true (val p)) (own p) (own2 p) (σ p))) where
+      chosen : (u : Bool) (f g : Alone → End) (z : Alone) (t : Bool) (last : Alone) → u ≡ true → LeavesIf last t (choose u f g z) → LeavesIf last t (f z)
+      chosen true f g z t last e h = h
+      chosen false f g z t last e h = absurd (true≢false (sym e))
+
+      other : (u : Bool) (f g : Alone → End) (z : Alone) (t : Bool) (last : Alone) → u ≡ false → LeavesIf last t (choose u f g z) → LeavesIf last t (g z)
+      other true f g z t last e h = absurd (true≢false e)
+      other false f g z t last e h = h
+
+      member_ends : (t : Bool) (T : Type 0) → (t ≡ true → IfIn t T) → IfIn t T
+      member_ends true T h = h refl
+      member_ends false T h = tt
+
+      took : (t : Bool) → ((p : ℕ) → a p ≡ true → is_true (val p) ≡ t) → Leaves w here v v alone_ways a (λ p. choose (is_true (val p)) (own p) (own2 p) (σ p)) σ (if_so t (first a) (second a) s) s.uniforms
+      took true all = go ((sim a in_gang).go s σ st sa (λ e. no_top e) (λ p. member_ends (a p) _ (λ i. chosen (is_true (val p)) (own p) (own2 p) (σ p) (a p) (w.last p) (all p i) (ends p)))) where
+        go : Leaves w branch v v1 x a (λ p. own p (σ p)) σ (first a s) s.uniforms → Leaves w here v v alone_ways a (λ p. choose (is_true (val p)) (own p) (own2 p) (σ p)) σ (first a s) s.uniforms
+        go ok = subst (λ z. Leaves w here v v alone_ways a (λ p. choose (is_true (val p)) (own p) (own2 p) (σ p)) σ z s.uniforms) (sym ok.is)
+            (parted (λ p. choose (is_true (val p)) (own p) (own2 p) (σ p)) s σ sa ok.s ok.went ok.broke ok.continued ok.returned ok.after ok.how (λ p. moved (a p) (is_true (val p)) (own p) (own2 p) (σ p) (ok.after p) (ok.how p) (all p) (ok.alone p))
+            ok.went_is ok.broke_is ok.continued_is ok.returned_is (λ p i. leave_left x y (ok.how p) (ok.may p i)) (λ j p i. ok.no_return j refl p i) ok.quiet ok.own_quiet ok.stands) where
+          moved : (t u : Bool) (f g : Alone → End) (z z1 : Alone) (h : How) → (t ≡ true → u ≡ true) → LeavesAlone t (f z) z h z1 → LeavesAlone t (choose u f g z) z h z1
+          moved true u f g z z1 h e l = ap (λ b. choose b f g z) (e refl) ∙ l
+          moved false u f g z z1 h e l = l
+      took false all = go ((sim2 a in_gang).go s σ st sa (λ e. no_top e) (λ p. member_ends (a p) _ (λ i. other (is_true (val p)) (own p) (own2 p) (σ p) (a p) (w.last p) (all p i) (ends p)))) where
+        go : Leaves w branch v v2 y a (λ p. own2 p (σ p)) σ (second a s) s.uniforms → Leaves w here v v alone_ways a (λ p. choose (is_true (val p)) (own p) (own2 p) (σ p)) σ (second a s) s.uniforms
+        go ok = subst (λ z. Leaves w here v v alone_ways a (λ p. choose (is_true (val p)) (own p) (own2 p) (σ p)) σ z s.uniforms) (sym ok.is)
+            (parted (λ p. choose (is_true (val p)) (own p) (own2 p) (σ p)) s σ sa ok.s ok.went ok.broke ok.continued ok.returned ok.after ok.how (λ p. moved (a p) (is_true (val p)) (own p) (own2 p) (σ p) (ok.after p) (ok.how p) (all p) (ok.alone p))
+            ok.went_is ok.broke_is ok.continued_is ok.returned_is (λ p i. leave_right x y (ok.how p) (ok.may p i)) (λ j p i. ok.no_return j refl p i) ok.quiet ok.own_quiet ok.stands) where
+          moved : (t u : Bool) (f g : Alone → End) (z z1 : Alone) (h : How) → (t ≡ true → u ≡ false) → LeavesAlone t (g z) z h z1 → LeavesAlone t (choose u f g z) z h z1
+          moved true u f g z z1 h e l = ap (λ b. choose b f g z) (e refl) ∙ l
+          moved false u f g z z1 h e l = l
+
+    -- from a varying test on
+    pub varying_sides : (r : Rate) (m : Payload) (val : ℕ → ℕ) → Stand w.gang a r m val → (s : State) (σ : ℕ → Alone) → Stands w s σ → Same v a s.uniforms σ → ((p : ℕ) → LeavesIf (w.last p) (a p) (choose (is_true (val p)) (own p) (own2 p) (σ p)))
+        → Leaves w here v v alone_ways a (λ p. choose (is_true (val p)) (own p) (own2 p) (σ p)) σ (branches w.gang a first second m s) s.uniforms
+    varying_sides r (One c) val h s σ st sa ends = took val s σ st sa ends (is_true c) (λ p i. ap is_true (sym (one_is a c val p (h.at p) i)))
+    varying_sides r (Each c) val h s σ st sa ends = sides c val h.at s σ st sa ends
