@@ -11,4 +11,6 @@ pub mod Expressions
 pub mod Loops
 pub mod Sequences
 pub mod Branches
+pub mod Stmts
+pub mod Sampled
 pub mod Whole

@@ -4,4 +4,5 @@ pub mod Statements
 pub mod Loops
 pub mod Asked
 pub mod Laws
+pub mod Samples
 pub mod Correct

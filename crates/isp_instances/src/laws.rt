@@ -1,5 +1,6 @@
 //! Laws of the gang and its instances. No code is run here: each function carries a law in its contract.
 ghost use Rattle.isp_instances.specs.Laws.{ExpressionsAgree, LoopsAgree, TouchedStays};
+ghost use Rattle.isp_instances.specs.Samples.{AgreementOfSamples};
 
 /// What an instance alone has read stays read, and where it has stored it has stored, whatever it does next: so a part of a run
 /// touches no more than the whole.
@@ -18,4 +19,9 @@ pub fn expressions_agree()
 /// do not part in the loop, those that go on behind it have the gang's uniform variables.
 pub fn loops_agree()
     ensures { LoopsAgree }
+{}
+
+/// The premises of `expressions_agree` are met by `a[programIndex]`, and the gang has there what each instance has alone.
+pub fn agreement_of_samples()
+    ensures { AgreementOfSamples }
 {}

@@ -3,4 +3,4 @@
 
 mod laws;
 
-pub use laws::{expressions_agree, loops_agree, touched_stays};
+pub use laws::{agreement_of_samples, expressions_agree, loops_agree, touched_stays};
