@@ -1,6 +1,6 @@
 -- What a fine expression without breaches has, one line a node.
-use Rattle.std.proofs.Common.{◌≡◌, ℕ, zero, suc, ◌⊎◌, inl, inr, Bool, true, false, refl, sym, ap, ◌∙◌, subst, true≢false}
-use Rattle.std.specs.Prelude.{List, [], ◌∷◌, ◌++◌, Option, Some, None, Contains, not, take, length, slice_get}
+use Rattle.std.proofs.Common.{◌≡◌, ℕ, zero, suc, inl, inr, Bool, true, false, refl, sym, ap, ◌∙◌, subst, true≢false}
+use Rattle.std.specs.Prelude.{List, [], ◌∷◌, ◌++◌, Option, Some, Contains, not, take, length}
 use Rattle.std.proofs.lemmas.List.Elements.{Contains-append_left, Contains-append_right, Contains-push}
 use Rattle.isp_base.specs.declared.types.Elem.{Elem}
 use Rattle.isp_base.specs.declared.types.Rate.{Rate}
@@ -15,10 +15,10 @@ use Rattle.isp_typed.specs.declared.variable.ArrayVariable.{ArrayVariable}
 use Rattle.isp_typed.specs.declared.variable.Holds.{Holds}
 use Rattle.isp_typed.specs.declared.variable.Holds.TheVariants as holds
 use Rattle.isp_typed.specs.declared.variable.Variable.{Variable}
-use Rattle.isp_typed.specs.Fine.{HoldsArray, params_of, rates_of, FineExpr, FinePlace, FineCall, FineArguments, FineArgument, FineParts}
+use Rattle.isp_typed.specs.Fine.{HoldsArray, rates_of, FineExpr, FinePlace, FineCall, FineArguments, FineArgument, FineParts}
 use Rattle.isp_typed.specs.Library.{parts, library_type}
 use Rattle.isp_typed.specs.Scoped.{Scope, ExprIn, PlaceIn, CallIn, ArgumentsIn, ArgumentIn, ExprsIn}
-use Rattle.isp_typed.specs.Typed.{TExpr, t_constant, t_program_index, t_place, t_convert, t_cast, t_unary, t_binary, t_compare, t_logic, t_choose, t_call, t_library, t_packed_store, t_packed_load, TPlace, t_variable, t_element, TArgument, t_by_value, t_by_name, TCall, t_called, TArguments, t_no_arguments, t_argument_then, TExprs, t_no_exprs, t_expr_then, TFunction, rate_of, rate_or, type_of, span_of}
+use Rattle.isp_typed.specs.Typed.{TExpr, t_constant, t_program_index, t_place, t_convert, t_cast, t_unary, t_binary, t_compare, t_logic, t_choose, t_call, t_library, t_packed_store, t_packed_load, TPlace, t_variable, t_element, TArgument, t_by_value, t_by_name, TCall, t_called, TArguments, t_no_arguments, t_argument_then, TExprs, t_no_exprs, t_expr_then, TFunction, rate_of, rate_or, span_of}
 use Rattle.isp_rates.specs.Rates.{goes_to, rate_held, variables_of, RateBreach, DemandBreach, ExprBreach, PlaceBreach, ArgumentBreach, CallBreach, ArgumentsBreach, ValuesBreach}
 use Rattle.isp_independence.specs.declared.dependence.Dependence.{Dependence}
 use Rattle.isp_independence.specs.declared.dependence.Restriction.TheVariants.{Crossing}
@@ -98,9 +98,14 @@ module _ (frame : Frame) (fs : List TFunction) (IsCallable : ℕ → Type 0) (va
     fair (t_logic l x y q s) f r n i k =
         (fair x f.0 (λ e b. r e (inl b)) (λ e b. n e (inl b)) i.0 (first _ _ k), fair y f.1 (λ e b. r e (inr b)) (λ e b. n e (inr b)) i.1 (second _ _ k), or_left_rate q (rate_of x) (rate_of y) f.2.rate, or_right_rate q (rate_of x) (rate_of y) f.2.rate)
     fair (t_choose c x y t s) f r n i k =
-        let later = or_right_rate t.rate (rate_of c) (rate_or (rate_of x) (rate_of y)) f.6 in
-        (fair c f.0 (λ e b. r e (inl b)) (λ e b. n e (inl b)) i.0 (first (expr_calls c) (expr_calls x) (first (expr_calls c ++ expr_calls x) (expr_calls y) k)), fair x f.1 (λ e b. r e (inr (inl b))) (λ e b. n e (inr (inl b))) i.1 (second (expr_calls c) (expr_calls x) (first (expr_calls c ++ expr_calls x) (expr_calls y) k)), fair y f.2 (λ e b. r e (inr (inr b))) (λ e b. n e (inr (inr b))) i.2 (second (expr_calls c ++ expr_calls x) (expr_calls y) k),
-        or_left_rate t.rate (rate_of c) _ f.6, λ e. or_left_rate _ (rate_of x) (rate_of y) refl (later e), λ e. or_right_rate _ (rate_of x) (rate_of y) refl (later e))
+        let later = or_right_rate t.rate (rate_of c) (rate_or (rate_of x) (rate_of y)) f.6 in (
+          fair c f.0 (λ e b. r e (inl b)) (λ e b. n e (inl b)) i.0 (first (expr_calls c) (expr_calls x) (first (expr_calls c ++ expr_calls x) (expr_calls y) k)),
+          fair x f.1 (λ e b. r e (inr (inl b))) (λ e b. n e (inr (inl b))) i.1 (second (expr_calls c) (expr_calls x) (first (expr_calls c ++ expr_calls x) (expr_calls y) k)),
+          fair y f.2 (λ e b. r e (inr (inr b))) (λ e b. n e (inr (inr b))) i.2 (second (expr_calls c ++ expr_calls x) (expr_calls y) k),
+          or_left_rate t.rate (rate_of c) _ f.6,
+          λ e. or_left_rate _ (rate_of x) (rate_of y) refl (later e),
+          λ e. or_right_rate _ (rate_of x) (rate_of y) refl (later e),
+        )
     fair (t_call c t) f r n i k = fair_call c (Some t) f r n i k
     fair (t_library g e xs t s) f r n i k =
         let alone = looks_not g s (λ d b. n d (inl b)) in

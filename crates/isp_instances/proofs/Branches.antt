@@ -1,25 +1,22 @@
 -- Branches of an `if`, and loops as statements.
 use Rattle.std.proofs.Common.{◌≡◌, ℕ, ◌<◌, ◌⊎◌, inl, inr, Bool, true, false, refl, sym, ap, ◌∙◌, subst, true≢false}
-use Rattle.std.specs.Prelude.{◌&&◌, ◌||◌, not, if◌then◌else◌, Option, Some, None}
+use Rattle.std.specs.Prelude.{◌&&◌, ◌||◌, not, if◌then◌else◌, Option}
 use Rattle.isp_base.specs.Sets.{Mask, any, nobody, union, without}
-use Rattle.isp_base.specs.Maps.{on, where_true, holds}
+use Rattle.isp_base.specs.Maps.{on, where_true}
 use Rattle.isp_base.specs.declared.types.Rate.{Rate}
-use Rattle.isp_base.specs.declared.types.Rate.TheVariants.{Uniform, Varying}
 use Rattle.isp_typed.specs.Scoped.{Scope}
 use Rattle.isp_meaning.specs.State.{State}
-use Rattle.isp_meaning.specs.Payloads.{Payload, One, Each, spread, is_true}
-use Rattle.isp_meaning.specs.Outcomes.{Res, Went, Val, go_on, went_all, unless_empty, if_so, both_sides, with_value}
+use Rattle.isp_meaning.specs.Payloads.{Payload, One, Each, is_true}
+use Rattle.isp_meaning.specs.Outcomes.{Res, Went, go_on, went_all, unless_empty, if_so, both_sides}
 use Rattle.isp_meaning.specs.Statements.{branches}
 use Rattle.isp_alone.specs.Alone.{Alone}
-use Rattle.isp_alone.specs.Answers.{How, Going, Broke, Continued, Returned, End, Does, Dies, Lasts, Answer, reached, choose, with_answer}
-use Rattle.isp_instances.specs.Stands.{World, Within, EndsWithin, Stands, Same, AreSome, IfIn, Up, left_at}
-use Rattle.isp_instances.specs.Values.{AnswersAlone, Agrees, Sim, IsOne, Stand}
-use Rattle.isp_instances.specs.Statements.{is_going, is_broke, is_continued, is_returned, Ways, may_leave, may_part, Here, HasAll, LeavesWithin, LeavesAlone, Leaves, StmtSim, LoopLeaves}
-use Rattle.isp_instances.proofs.Grow.{up_choose}
-use Rattle.isp_instances.proofs.Lanes.{nobody_in, member, and_left, or_left, or_right, kept_is, one_is}
-use Rattle.isp_instances.proofs.Sims.{same_on}
-use Rattle.isp_instances.proofs.Loops.{LeavesIf, with_first, with_next, with_alone, either_is}
-use Rattle.isp_instances.proofs.Sequences.{ways_of, leave_left, leave_right, part_left, part_right}
+use Rattle.isp_alone.specs.Answers.{How, Going, Broke, Continued, Returned, End, Does, choose}
+use Rattle.isp_instances.specs.Stands.{World, Stands, Same, AreSome, IfIn}
+use Rattle.isp_instances.specs.Values.{Stand}
+use Rattle.isp_instances.specs.Statements.{no_ways, ways_of, parted_ways, is_going, is_broke, is_continued, is_returned, Ways, may_leave, may_part, Here, LeavesWithin, LeavesAlone, Leaves, StmtSim}
+use Rattle.isp_instances.proofs.Lanes.{nobody_in, and_left, or_left, or_right, kept_is, one_is}
+use Rattle.isp_instances.proofs.Loops.{LeavesIf}
+use Rattle.isp_instances.proofs.Sequences.{leave_left, leave_right, part_left, part_right}
 
 -- ---- nobody is there
 
@@ -63,39 +60,35 @@ module _ (w : World) (here : Here) (v v1 : Scope) (x : Ways) (k : Mask) where
     at true e = ok (record { inside = inside; some = e })
     at false e = none_leaves own σ s (nobody_in w.gang k inside e) st
 
--- no jump
-abbrev pub no_ways : Ways
-no_ways = record { breaks = false; continues = false; some_break = false; some_continue = false }
-
 -- what only goes on
 pub stop_sim : (w : World) (here : Here) (v : Scope) (a : Mask) → StmtSim w here v v no_ways a (went_all a) (λ p s. Does s Going)
 stop_sim w here v a = record {
   go = λ s σ st sa top ends.
-    record {
-      s = s;
-      went = a;
-      broke = nobody;
-      continued = nobody;
-      returned = nobody;
-      after = σ;
-      how = λ p. Going;
-      way = Going;
-      is = refl;
-      alone = λ p. same (a p) (σ p);
-      went_is = λ p. and_true (a p);
-      broke_is = λ p. and_false (a p);
-      continued_is = λ p. and_false (a p);
-      returned_is = λ p. and_false (a p);
-      may = λ p i. refl;
-      one_way = λ p i. inl refl;
-      no_return = λ i d p j. refl;
-      quiet = λ n i. refl;
-      own_quiet = λ p n i. refl;
-      same = sa;
-      same_broke = λ i p n j l. absurd (true≢false (sym j));
-      same_continued = λ i p n j l. absurd (true≢false (sym j));
-      stands = st;
-    };
+      record {
+        s = s;
+        went = a;
+        broke = nobody;
+        continued = nobody;
+        returned = nobody;
+        after = σ;
+        how = λ p. Going;
+        way = Going;
+        is = refl;
+        alone = λ p. same (a p) (σ p);
+        went_is = λ p. and_true (a p);
+        broke_is = λ p. and_false (a p);
+        continued_is = λ p. and_false (a p);
+        returned_is = λ p. and_false (a p);
+        may = λ p i. refl;
+        one_way = λ p i. inl refl;
+        no_return = λ i d p j. refl;
+        quiet = λ n i. refl;
+        own_quiet = λ p n i. refl;
+        same = sa;
+        same_broke = λ i p n j l. absurd (true≢false (sym j));
+        same_continued = λ i p n j l. absurd (true≢false (sym j));
+        stands = st;
+      };
 } where
   same : (t : Bool) (s : Alone) → LeavesAlone t (Does s Going) s Going s
   same true s = refl
@@ -166,10 +159,7 @@ module _ (w : World) (here : Here) (closed : ℕ → Bool) (v v1 v2 : Scope) (x 
   branch = record { closed = closed; joint = here.joint; top = false }
 
   -- whoever leaves a branch otherwise than by going on may do so alone
-  abbrev alone_ways : Ways
-  alone_ways = record { breaks = x.breaks || y.breaks; continues = x.continues || y.continues; some_break = x.breaks || y.breaks; some_continue = x.continues || y.continues }
-
-  leaves_alone : (h : How) → may_leave (ways_of x y) h ≡ true → (here.joint ≡ true → is_returned h ≡ false) → (h ≡ Going) ⊎ (may_part here.joint alone_ways h ≡ true)
+  leaves_alone : (h : How) → may_leave (ways_of x y) h ≡ true → (here.joint ≡ true → is_returned h ≡ false) → (h ≡ Going) ⊎ (may_part here.joint (parted_ways x y) h ≡ true)
   leaves_alone Going e r = inl refl
   leaves_alone Broke e r = inr e
   leaves_alone Continued e r = inr e
@@ -178,7 +168,7 @@ module _ (w : World) (here : Here) (closed : ℕ → Bool) (v v1 v2 : Scope) (x 
     go true r = absurd (true≢false (r refl))
     go false r = refl
 
-  as_alone : (h : How) → may_leave (ways_of x y) h ≡ true → may_leave alone_ways h ≡ true
+  as_alone : (h : How) → may_leave (ways_of x y) h ≡ true → may_leave (parted_ways x y) h ≡ true
   as_alone Going e = refl
   as_alone Broke e = e
   as_alone Continued e = e
@@ -191,7 +181,7 @@ module _ (w : World) (here : Here) (closed : ℕ → Bool) (v v1 v2 : Scope) (x 
     known : (p k : ℕ) → a p ≡ true → v k ≡ true → (after p).uniforms k ≡ s2.uniforms k
     known p k i j = own_quiet p k (shut k j) ∙ sa p k i j ∙ sym (quiet k (shut k j))
 
-    parted : Leaves w here v v alone_ways a own3 σ (Went s2 went broke continued returned) s.uniforms
+    parted : Leaves w here v v (parted_ways x y) a own3 σ (Went s2 went broke continued returned) s.uniforms
     parted = record {
       s = s2;
       went = went;
@@ -289,11 +279,11 @@ module _ (w : World) (here : Here) (closed : ℕ → Bool) (v v1 v2 : Scope) (x 
           (λ i. (sim2 (without a these) i).go ok.s ok.after ok.stands (λ p k e j. ok.own_quiet p k (shut k j) ∙ sa p k (sub2 p e) j ∙ sym (ok.quiet k (shut k j))) (λ e. no_top e)
           (λ p. second_ends (w.last p) (a p) (is_true (val p)) (these p) (without a these p) (own p) (own2 p) (σ p) (ok.after p) (ok.how p) (these_are p) (others_are p) (ok.alone p) (ends p)))
 
-      sides : Leaves w here v v alone_ways a (λ p. choose (is_true (val p)) (own p) (own2 p) (σ p)) σ (both_sides (unless_empty w.gang these s first) (λ s1. unless_empty w.gang (without a these) s1 second)) s.uniforms
+      sides : Leaves w here v v (parted_ways x y) a (λ p. choose (is_true (val p)) (own p) (own2 p) (σ p)) σ (both_sides (unless_empty w.gang these s first) (λ s1. unless_empty w.gang (without a these) s1 second)) s.uniforms
       sides = join one (two one) where
         join : (ok : Leaves w branch v v1 x these (λ p. own p (σ p)) σ (unless_empty w.gang these s first) s.uniforms) → Leaves w branch v v2 y (without a these) (λ p. own2 p (ok.after p)) ok.after (unless_empty w.gang (without a these) ok.s second) ok.s.uniforms
-            → Leaves w here v v alone_ways a (λ p. choose (is_true (val p)) (own p) (own2 p) (σ p)) σ (both_sides (unless_empty w.gang these s first) (λ s1. unless_empty w.gang (without a these) s1 second)) s.uniforms
-        join ok ok2 = subst (λ z. Leaves w here v v alone_ways a (λ p. choose (is_true (val p)) (own p) (own2 p) (σ p)) σ z s.uniforms)
+            → Leaves w here v v (parted_ways x y) a (λ p. choose (is_true (val p)) (own p) (own2 p) (σ p)) σ (both_sides (unless_empty w.gang these s first) (λ s1. unless_empty w.gang (without a these) s1 second)) s.uniforms
+        join ok ok2 = subst (λ z. Leaves w here v v (parted_ways x y) a (λ p. choose (is_true (val p)) (own p) (own2 p) (σ p)) σ z s.uniforms)
             (sym (ap (λ z. both_sides z (λ s1. unless_empty w.gang (without a these) s1 second)) ok.is ∙ ap (λ z. go_on z (λ s2 g b c r. Went s2 (union ok.went g) (union ok.broke b) (union ok.continued c) (union ok.returned r))) ok2.is))
             (parted (λ p. choose (is_true (val p)) (own p) (own2 p) (σ p)) s σ sa ok2.s (union ok.went ok2.went) (union ok.broke ok2.broke) (union ok.continued ok2.continued) (union ok.returned ok2.returned) ok2.after (λ p. if is_true (val p) then ok.how p else ok2.how p)
             (λ p. side (a p) (is_true (val p)) (these p) (own p) (own2 p) (σ p) (ok.after p) (ok2.after p) (ok.how p) (ok2.how p) (without a these p) (these_are p) (others_are p) (ok.alone p) (ok2.alone p))
@@ -304,9 +294,9 @@ module _ (w : World) (here : Here) (closed : ℕ → Bool) (v v1 v2 : Scope) (x 
             (λ p i. picked (λ h. may_leave (ways_of x y) h ≡ true) (is_true (val p)) (ok.how p) (ok2.how p) (λ u. leave_left x y (ok.how p) (ok.may p (these_are p ∙ and_both (a p) _ i u))) (λ u. leave_right x y (ok2.how p) (ok2.may p (others_are p ∙ and_both (a p) _ i (ap not u)))))
             (λ j p i. picked (λ h. is_returned h ≡ false) (is_true (val p)) (ok.how p) (ok2.how p) (λ u. ok.no_return j refl p (these_are p ∙ and_both (a p) _ i u)) (λ u. ok2.no_return j refl p (others_are p ∙ and_both (a p) _ i (ap not u))))
             (λ k i. ok2.quiet k i ∙ ok.quiet k i) (λ p k i. ok2.own_quiet p k i ∙ ok.own_quiet p k i) ok2.stands) where
-          picked : (P : How → Type 0) (t : Bool) (h h2 : How) → (t ≡ true → P h) → (t ≡ false → P h2) → P (if t then h else h2)
-          picked P true h h2 f g = f refl
-          picked P false h h2 f g = g refl
+              picked : (P : How → Type 0) (t : Bool) (h h2 : How) → (t ≡ true → P h) → (t ≡ false → P h2) → P (if t then h else h2)
+              picked P true h h2 f g = f refl
+              picked P false h h2 f g = g refl
 
     -- one side for all, as the test has one value
     module _ (val : ℕ → ℕ) (s : State) (σ : ℕ → Alone) (st : Stands w s σ) (sa : Same v a s.uniforms σ) (ends : (p : ℕ) → LeavesIf (w.last p) (a p) (choose (is_true (val p)) (own p) (own2 p) (σ p))) where
@@ -322,26 +312,26 @@ module _ (w : World) (here : Here) (closed : ℕ → Bool) (v v1 v2 : Scope) (x 
       member_ends true T h = h refl
       member_ends false T h = tt
 
-      took : (t : Bool) → ((p : ℕ) → a p ≡ true → is_true (val p) ≡ t) → Leaves w here v v alone_ways a (λ p. choose (is_true (val p)) (own p) (own2 p) (σ p)) σ (if_so t (first a) (second a) s) s.uniforms
+      took : (t : Bool) → ((p : ℕ) → a p ≡ true → is_true (val p) ≡ t) → Leaves w here v v (parted_ways x y) a (λ p. choose (is_true (val p)) (own p) (own2 p) (σ p)) σ (if_so t (first a) (second a) s) s.uniforms
       took true all = go ((sim a in_gang).go s σ st sa (λ e. no_top e) (λ p. member_ends (a p) _ (λ i. chosen (is_true (val p)) (own p) (own2 p) (σ p) (a p) (w.last p) (all p i) (ends p)))) where
-        go : Leaves w branch v v1 x a (λ p. own p (σ p)) σ (first a s) s.uniforms → Leaves w here v v alone_ways a (λ p. choose (is_true (val p)) (own p) (own2 p) (σ p)) σ (first a s) s.uniforms
-        go ok = subst (λ z. Leaves w here v v alone_ways a (λ p. choose (is_true (val p)) (own p) (own2 p) (σ p)) σ z s.uniforms) (sym ok.is)
+        go : Leaves w branch v v1 x a (λ p. own p (σ p)) σ (first a s) s.uniforms → Leaves w here v v (parted_ways x y) a (λ p. choose (is_true (val p)) (own p) (own2 p) (σ p)) σ (first a s) s.uniforms
+        go ok = subst (λ z. Leaves w here v v (parted_ways x y) a (λ p. choose (is_true (val p)) (own p) (own2 p) (σ p)) σ z s.uniforms) (sym ok.is)
             (parted (λ p. choose (is_true (val p)) (own p) (own2 p) (σ p)) s σ sa ok.s ok.went ok.broke ok.continued ok.returned ok.after ok.how (λ p. moved (a p) (is_true (val p)) (own p) (own2 p) (σ p) (ok.after p) (ok.how p) (all p) (ok.alone p))
             ok.went_is ok.broke_is ok.continued_is ok.returned_is (λ p i. leave_left x y (ok.how p) (ok.may p i)) (λ j p i. ok.no_return j refl p i) ok.quiet ok.own_quiet ok.stands) where
-          moved : (t u : Bool) (f g : Alone → End) (z z1 : Alone) (h : How) → (t ≡ true → u ≡ true) → LeavesAlone t (f z) z h z1 → LeavesAlone t (choose u f g z) z h z1
-          moved true u f g z z1 h e l = ap (λ b. choose b f g z) (e refl) ∙ l
-          moved false u f g z z1 h e l = l
+              moved : (t u : Bool) (f g : Alone → End) (z z1 : Alone) (h : How) → (t ≡ true → u ≡ true) → LeavesAlone t (f z) z h z1 → LeavesAlone t (choose u f g z) z h z1
+              moved true u f g z z1 h e l = ap (λ b. choose b f g z) (e refl) ∙ l
+              moved false u f g z z1 h e l = l
       took false all = go ((sim2 a in_gang).go s σ st sa (λ e. no_top e) (λ p. member_ends (a p) _ (λ i. other (is_true (val p)) (own p) (own2 p) (σ p) (a p) (w.last p) (all p i) (ends p)))) where
-        go : Leaves w branch v v2 y a (λ p. own2 p (σ p)) σ (second a s) s.uniforms → Leaves w here v v alone_ways a (λ p. choose (is_true (val p)) (own p) (own2 p) (σ p)) σ (second a s) s.uniforms
-        go ok = subst (λ z. Leaves w here v v alone_ways a (λ p. choose (is_true (val p)) (own p) (own2 p) (σ p)) σ z s.uniforms) (sym ok.is)
+        go : Leaves w branch v v2 y a (λ p. own2 p (σ p)) σ (second a s) s.uniforms → Leaves w here v v (parted_ways x y) a (λ p. choose (is_true (val p)) (own p) (own2 p) (σ p)) σ (second a s) s.uniforms
+        go ok = subst (λ z. Leaves w here v v (parted_ways x y) a (λ p. choose (is_true (val p)) (own p) (own2 p) (σ p)) σ z s.uniforms) (sym ok.is)
             (parted (λ p. choose (is_true (val p)) (own p) (own2 p) (σ p)) s σ sa ok.s ok.went ok.broke ok.continued ok.returned ok.after ok.how (λ p. moved (a p) (is_true (val p)) (own p) (own2 p) (σ p) (ok.after p) (ok.how p) (all p) (ok.alone p))
             ok.went_is ok.broke_is ok.continued_is ok.returned_is (λ p i. leave_right x y (ok.how p) (ok.may p i)) (λ j p i. ok.no_return j refl p i) ok.quiet ok.own_quiet ok.stands) where
-          moved : (t u : Bool) (f g : Alone → End) (z z1 : Alone) (h : How) → (t ≡ true → u ≡ false) → LeavesAlone t (g z) z h z1 → LeavesAlone t (choose u f g z) z h z1
-          moved true u f g z z1 h e l = ap (λ b. choose b f g z) (e refl) ∙ l
-          moved false u f g z z1 h e l = l
+              moved : (t u : Bool) (f g : Alone → End) (z z1 : Alone) (h : How) → (t ≡ true → u ≡ false) → LeavesAlone t (g z) z h z1 → LeavesAlone t (choose u f g z) z h z1
+              moved true u f g z z1 h e l = ap (λ b. choose b f g z) (e refl) ∙ l
+              moved false u f g z z1 h e l = l
 
     -- from a varying test on
     pub varying_sides : (r : Rate) (m : Payload) (val : ℕ → ℕ) → Stand w.gang a r m val → (s : State) (σ : ℕ → Alone) → Stands w s σ → Same v a s.uniforms σ → ((p : ℕ) → LeavesIf (w.last p) (a p) (choose (is_true (val p)) (own p) (own2 p) (σ p)))
-        → Leaves w here v v alone_ways a (λ p. choose (is_true (val p)) (own p) (own2 p) (σ p)) σ (branches w.gang a first second m s) s.uniforms
+        → Leaves w here v v (parted_ways x y) a (λ p. choose (is_true (val p)) (own p) (own2 p) (σ p)) σ (branches w.gang a first second m s) s.uniforms
     varying_sides r (One c) val h s σ st sa ends = took val s σ st sa ends (is_true c) (λ p i. ap is_true (sym (one_is a c val p (h.at p) i)))
     varying_sides r (Each c) val h s σ st sa ends = sides c val h.at s σ st sa ends

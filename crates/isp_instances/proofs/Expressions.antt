@@ -1,10 +1,9 @@
 -- An expression over a set gives each member what its run alone answers. One line a node.
-use Rattle.std.proofs.Common.{◌≡◌, ℕ, ◌<◌, Bool, true, false, refl, sym, ap, ◌∙◌, subst}
-use Rattle.std.specs.Prelude.{List, [], ◌∷◌, Option, Some, None, ◌%◌, ◌^◌, get_or, slice_get}
-use Rattle.isp_base.specs.Access.{is_outside, element, is_zero}
-use Rattle.isp_base.specs.Sets.{Mask, any}
+use Rattle.std.proofs.Common.{◌≡◌, ℕ, refl, sym, ap, subst}
+use Rattle.std.specs.Prelude.{List, [], ◌∷◌, Option, Some, ◌%◌, ◌^◌}
+use Rattle.isp_base.specs.Access.{is_zero}
+use Rattle.isp_base.specs.Sets.{Mask}
 use Rattle.isp_base.specs.Maps.{on}
-use Rattle.isp_base.specs.Traps.{trap}
 use Rattle.isp_base.specs.Unary.{unary_bits}
 use Rattle.isp_base.specs.Values.{width, op_bits, compare_bits}
 use Rattle.isp_base.specs.declared.types.Rate.{Rate}
@@ -18,24 +17,23 @@ use Rattle.isp_typed.specs.declared.variable.Holds.{Holds}
 use Rattle.isp_typed.specs.declared.variable.Holds.TheVariants as holds
 use Rattle.isp_typed.specs.declared.variable.Variable.{Variable as AVar}
 use Rattle.isp_typed.specs.Typed.{TExpr, t_constant, t_program_index, t_place, t_convert, t_cast, t_unary, t_binary, t_compare, t_logic, t_choose, t_call, t_library, t_packed_store, t_packed_load, TPlace, t_variable, t_element, TArgument, t_by_value, t_by_name, TCall, t_called, TArguments, t_no_arguments, t_argument_then, TExprs, t_no_exprs, t_expr_then, TFunction, rate_of, rate_or, elem_of, place_span, place_type}
-use Rattle.isp_meaning.specs.State.{State, Frame, extent}
-use Rattle.isp_meaning.specs.Payloads.{Payload, One, Each, spread, mapped, joined, converted, is_true}
-use Rattle.isp_meaning.specs.Outcomes.{Val, Gives, checked}
+use Rattle.isp_meaning.specs.State.{Frame}
+use Rattle.isp_meaning.specs.Payloads.{One, Each, converted, is_true}
+use Rattle.isp_meaning.specs.Outcomes.{checked}
 use Rattle.isp_meaning.specs.Places.{Place, Variable, Element, outside, held}
 use Rattle.isp_meaning.specs.Expressions.{Passed, Values, Store, Calls, needs, value, place, values, call, arguments, passed}
-use Rattle.isp_alone.specs.Alone.{Alone}
-use Rattle.isp_alone.specs.Answers.{Answer, Has, reached}
+use Rattle.isp_alone.specs.Answers.{reached}
 use Rattle.isp_alone.specs.Places.{Spot, AVariable, AnElement}
-use Rattle.isp_alone.specs.Values.{OwnCalls, by_instance, held as own_held, answer, spot, answers, answer_call, arguments as own_arguments, passed as own_passed}
-use Rattle.isp_instances.specs.Stands.{World, TouchNothing, AreSome, IsOpen, Up}
-use Rattle.isp_instances.specs.Values.{Sim, IsOne, Stand, PlaceStands, ListAt, AllOne, ListStands, PassedAt, AllPassedAt, Suits, AllSuit, PassedStand, AnswerStands, CallsAgree}
+use Rattle.isp_alone.specs.Values.{OwnCalls, held as own_held, answer, spot, answers, answer_call, arguments as own_arguments, passed as own_passed}
+use Rattle.isp_instances.specs.Stands.{World, TouchNothing, AreSome, Up}
+use Rattle.isp_instances.specs.Values.{Sim, Stand, PlaceStands, ListStands, PassedAt, Suits, PassedStand, AnswerStands, CallsAgree}
 use Rattle.isp_instances.proofs.Grow.{up_then, up_has, up_choose, up_unless}
-use Rattle.isp_instances.proofs.Grows.{held_up, answer_up, answers_up, arguments_up, passed_up}
+use Rattle.isp_instances.proofs.Grows.{held_up, answer_up, answers_up, arguments_up}
 use Rattle.isp_instances.proofs.Lanes.{mapped_stand, joined_stand, one_stands, stand_as}
 use Rattle.isp_instances.proofs.Sims.{sim_has, sim_same, sim_as, sim_tick, sim_then, sim_checked}
 use Rattle.isp_instances.proofs.Held.{variable_sim, element_sim, not_uniform}
 use Rattle.isp_instances.proofs.Parts.{logic_sim, choose_sim}
-use Rattle.isp_instances.proofs.Fair.{Follows, Fair, FairPlace, FairAll, FairCall, FairArguments, FairArgument}
+use Rattle.isp_instances.proofs.Fair.{Fair, FairPlace, FairAll, FairCall, FairArguments, FairArgument}
 use Rattle.isp_instances.proofs.Listed.{library_stands}
 
 or_first : (q r s : Rate) → (q ≡ Uniform → rate_or r s ≡ Uniform) → q ≡ Uniform → r ≡ Uniform

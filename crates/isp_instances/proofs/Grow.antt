@@ -1,6 +1,6 @@
 -- What an instance touched stays touched: what it read stays read, and where it stored it has stored. Here for what goes on
 -- from one step to the next.
-use Rattle.std.proofs.Common.{◌≡◌, ℕ, zero, suc, Bool, true, false}
+use Rattle.std.proofs.Common.{ℕ, zero, suc, Bool, true, false}
 use Rattle.isp_base.specs.declared.trap.Trap.{Trap}
 use Rattle.isp_base.specs.declared.trap.TrapKind.{TrapKind}
 use Rattle.isp_base.specs.declared.types.Span.{Span}

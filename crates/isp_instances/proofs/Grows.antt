@@ -1,8 +1,7 @@
 -- What an instance touched stays touched, whatever it does next. One line a node.
-use Rattle.std.proofs.Common.{◌≡◌, ℕ, zero, suc, Bool, true, false, refl, arith}
+use Rattle.std.proofs.Common.{◌≡◌, ℕ, zero, suc, Bool, true, false, refl}
 use Rattle.std.specs.Prelude.{List, [], ◌∷◌, Option, Some, None, IsSome, ◌&&◌, nat_eq, if◌then◌else◌, slice_get, ℤ}
 use Rattle.isp_base.specs.Access.{is_outside, element, is_zero}
-use Rattle.isp_base.specs.Maps.{put}
 use Rattle.isp_base.specs.Traps.{trap}
 use Rattle.isp_base.specs.Values.{wrap}
 use Rattle.isp_base.specs.Types.{gang_width}
@@ -22,8 +21,8 @@ use Rattle.isp_meaning.specs.Payloads.{is_true, is_false}
 use Rattle.isp_meaning.specs.Expressions.{Passed, needs}
 use Rattle.isp_meaning.specs.Rounds.{Run, runs_of}
 use Rattle.isp_meaning.specs.Calls.{frame_of}
-use Rattle.isp_alone.specs.Alone.{Alone, written, noted, stored, shared_cleared, put_in}
-use Rattle.isp_alone.specs.Answers.{Answer, Has, Long, reached, Going, Broke, Continued, Returned, End, Does, Dies, Lasts, Done}
+use Rattle.isp_alone.specs.Alone.{Alone, written, noted, stored, shared_cleared}
+use Rattle.isp_alone.specs.Answers.{Answer, Has, reached, Going, Returned, End, Does, Dies, Lasts, Done}
 use Rattle.isp_alone.specs.Places.{Spot, AVariable, AnElement, outside, kept, element_kept, cleared}
 use Rattle.isp_alone.specs.Values.{OwnCalls, found, held, answer, spot, answers, answer_call, arguments, passed}
 use Rattle.isp_alone.specs.Steps.{update, simple, item, items, first_part, step_part}
@@ -31,7 +30,7 @@ use Rattle.isp_alone.specs.Loops.{at_indices, rounds}
 use Rattle.isp_alone.specs.Does.{goes_on, bounds, test_part, does, does_block, does_all}
 use Rattle.isp_alone.specs.Calls.{begun, ended, called, own_calls}
 use Rattle.isp_instances.specs.Stands.{Within, Up, left_at}
-use Rattle.isp_instances.proofs.Grow.{stays, within_then, up_by, up_from, up_choose, up_then, up_has, up_bad, up_unless, up_with, up_does, up_on, up_always, tested_up, turns_up}
+use Rattle.isp_instances.proofs.Grow.{stays, up_by, up_from, up_choose, up_then, up_has, up_bad, up_unless, up_with, up_does, up_on, up_always, tested_up, turns_up}
 
 -- ---- what changes the state
 

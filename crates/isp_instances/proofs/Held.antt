@@ -1,10 +1,10 @@
 -- What the members of a set find at a place.
 use Rattle.std.proofs.Common.{◌≡◌, ℕ, ◌<◌, ◌⊎◌, inl, inr, Bool, true, false, refl, sym, ap, ◌∙◌, subst, arith, true≢false}
-use Rattle.std.specs.Prelude.{Option, Some, None, IsSome, ◌&&◌, nat_eq, if◌then◌else◌}
+use Rattle.std.specs.Prelude.{Option, Some, None, IsSome, if◌then◌else◌}
 use Rattle.std.proofs.lemmas.Bool.{cases_eq}
 use Rattle.std.proofs.lemmas.Bool.Decides.{nat_tests}
 use Rattle.isp_base.specs.Access.{is_outside, element}
-use Rattle.isp_base.specs.Sets.{Mask, any}
+use Rattle.isp_base.specs.Sets.{Mask}
 use Rattle.isp_base.specs.Maps.{on, or_old, each1}
 use Rattle.isp_base.specs.Traps.{trap}
 use Rattle.isp_base.specs.declared.trap.TrapKind.TheVariants.{Index}
@@ -12,19 +12,17 @@ use Rattle.isp_base.specs.declared.types.Elem.{Elem}
 use Rattle.isp_base.specs.declared.types.Rate.{Rate}
 use Rattle.isp_base.specs.declared.types.Rate.TheVariants.{Uniform, Varying}
 use Rattle.isp_base.specs.declared.types.Span.{Span}
-use Rattle.isp_base.specs.declared.types.Ty.{Ty}
 use Rattle.isp_typed.specs.Scoped.{Scope}
 use Rattle.isp_typed.specs.declared.variable.ArrayVariable.{ArrayVariable}
-use Rattle.isp_meaning.specs.State.{State, Frame, extent}
+use Rattle.isp_meaning.specs.State.{State, extent}
 use Rattle.isp_meaning.specs.Payloads.{Payload, One, Each, spread, mapped, offender}
-use Rattle.isp_meaning.specs.Places.{Place, Variable, Element, variable, elements, outside, held}
-use Rattle.isp_meaning.specs.Outcomes.{Gives, checked}
+use Rattle.isp_meaning.specs.Places.{variable, elements}
+use Rattle.isp_meaning.specs.Outcomes.{checked}
 use Rattle.isp_alone.specs.Alone.{Alone, variable as own_variable, noted, put_in}
 use Rattle.isp_alone.specs.Answers.{Answer, Has, Bad, choose}
-use Rattle.isp_alone.specs.Places.{Spot, AVariable, AnElement}
-use Rattle.isp_alone.specs.Values.{found, held as own_held}
-use Rattle.isp_instances.specs.Stands.{World, Within, TouchNothing, EndsWithin, Stands, Same, AreSome, IfIn, IsOpen}
-use Rattle.isp_instances.specs.Values.{AnswersAlone, Agrees, Sim, IsOne, Stand, PlaceStands}
+use Rattle.isp_alone.specs.Values.{found}
+use Rattle.isp_instances.specs.Stands.{World, Within, TouchNothing, EndsWithin, Stands, AreSome, IsOpen}
+use Rattle.isp_instances.specs.Values.{AnswersAlone, Sim, Stand}
 use Rattle.isp_instances.proofs.Lanes.{no_offender, mapped_stand}
 use Rattle.isp_instances.proofs.Sims.{EndsIf, has_alone}
 
@@ -79,36 +77,36 @@ module _ (w : World) (touch : TouchNothing w.gang w.last) (v : Scope) (a : Mask)
   pub variable_sim : (r : Rate) (k : ℕ) (sp : Span) → v k ≡ true → Sim w v a (Stand w.gang a r) (λ s. checked None Index sp s (variable r k a s)) (λ p s. Has (own_variable r k s) s)
   variable_sim Uniform k sp h = record {
     go = λ s σ st sa ends.
-      record {
-        x = One (s.uniforms k);
-        s = s;
-        y = λ p. (σ p).uniforms k;
-        after = σ;
-        is = refl;
-        alone = λ p. has_alone (a p) (σ p) ((σ p).uniforms k);
-        value = record { at = λ p. at (a p) (s.uniforms k) ((σ p).uniforms k) (λ t. sym (sa p k t h)); one = λ i e. tt };
-        uniforms = refl;
-        own_uniforms = λ p. refl;
-        stands = st;
-      };
+        record {
+          x = One (s.uniforms k);
+          s = s;
+          y = λ p. (σ p).uniforms k;
+          after = σ;
+          is = refl;
+          alone = λ p. has_alone (a p) (σ p) ((σ p).uniforms k);
+          value = record { at = λ p. at (a p) (s.uniforms k) ((σ p).uniforms k) (λ t. sym (sa p k t h)); one = λ i e. tt };
+          uniforms = refl;
+          own_uniforms = λ p. refl;
+          stands = st;
+        };
   } where
     at : (t : Bool) (x y : ℕ) → (t ≡ true → x ≡ y) → (if t then Some x else None) ≡ (if t then Some y else None)
     at true x y e = ap Some (e refl)
     at false x y e = refl
   variable_sim Varying k sp h = record {
     go = λ s σ st sa ends.
-      record {
-        x = Each (on a (s.varying k));
-        s = s;
-        y = λ p. (σ p).varying k;
-        after = σ;
-        is = refl;
-        alone = λ p. has_alone (a p) (σ p) ((σ p).varying k);
-        value = record { at = λ p. ap (λ z. if a p then Some z else None) (st.varying_is k p); one = λ i e. absurd (not_uniform e) };
-        uniforms = refl;
-        own_uniforms = λ p. refl;
-        stands = st;
-      };
+        record {
+          x = Each (on a (s.varying k));
+          s = s;
+          y = λ p. (σ p).varying k;
+          after = σ;
+          is = refl;
+          alone = λ p. has_alone (a p) (σ p) ((σ p).varying k);
+          value = record { at = λ p. ap (λ z. if a p then Some z else None) (st.varying_is k p); one = λ i e. absurd (not_uniform e) };
+          uniforms = refl;
+          own_uniforms = λ p. refl;
+          stands = st;
+        };
   }
 
   -- ---- elements
@@ -126,52 +124,52 @@ module _ (w : World) (touch : TouchNothing w.gang w.last) (v : Scope) (a : Mask)
       → Sim w v a (Stand w.gang a q) (λ s. checked (offender w.gang (is_outside t (extent w.frame b)) a m) Index sp s (elements w.frame b t m a r s)) (λ p s. choose (is_outside t (extent w.frame b) (y p)) (Bad (trap Index sp p)) (found w.begin p w.frame r b (element t (y p))) s)
   element_sim Varying q b t m y j sp open_ u1 u2 st_m = record {
     go = λ s σ st sa ends.
-      let good = λ (p : ℕ) (e : a p ≡ true). outside_not b t y sp Varying σ ends p e in
-      record {
-        x = elements w.frame b t m a Varying s;
-        s = s;
-        y = λ p. (σ p).own b.number (element t (y p));
-        after = σ;
-        is = ap (λ o. checked o Index sp s (elements w.frame b t m a Varying s)) (no_offender w.gang a (is_outside t (extent w.frame b)) m y in_gang.some st_m.at (λ p e. (good p e).0));
-        alone = λ p. chosen_alone (a p) (is_outside t (extent w.frame b) (y p)) (Bad (trap Index sp p)) (found w.begin p w.frame Varying b (element t (y p))) (σ p) (σ p) ((σ p).own b.number (element t (y p))) (λ e. (good p e).0) (has_alone (a p) (σ p) ((σ p).own b.number (element t (y p))));
-        value = record {
-          at = λ p. each_at (λ x. s.own b.number (element t x) p) (λ x. (σ p).own b.number (element t x)) (a p) (y p) (spread a m p) (st_m.at p) (λ e. st.own_is b.number (element t (y p)) p);
-          one = λ i e. absurd (not_uniform (u1 e));
+        let good = λ (p : ℕ) (e : a p ≡ true). outside_not b t y sp Varying σ ends p e in
+        record {
+          x = elements w.frame b t m a Varying s;
+          s = s;
+          y = λ p. (σ p).own b.number (element t (y p));
+          after = σ;
+          is = ap (λ o. checked o Index sp s (elements w.frame b t m a Varying s)) (no_offender w.gang a (is_outside t (extent w.frame b)) m y in_gang.some st_m.at (λ p e. (good p e).0));
+          alone = λ p. chosen_alone (a p) (is_outside t (extent w.frame b) (y p)) (Bad (trap Index sp p)) (found w.begin p w.frame Varying b (element t (y p))) (σ p) (σ p) ((σ p).own b.number (element t (y p))) (λ e. (good p e).0) (has_alone (a p) (σ p) ((σ p).own b.number (element t (y p))));
+          value = record {
+            at = λ p. each_at (λ x. s.own b.number (element t x) p) (λ x. (σ p).own b.number (element t x)) (a p) (y p) (spread a m p) (st_m.at p) (λ e. st.own_is b.number (element t (y p)) p);
+            one = λ i e. absurd (not_uniform (u1 e));
+          };
+          uniforms = refl;
+          own_uniforms = λ p. refl;
+          stands = st;
         };
-        uniforms = refl;
-        own_uniforms = λ p. refl;
-        stands = st;
-      };
   }
   element_sim Uniform q b t m y j sp open_ u1 u2 st_m = record {
     go = λ s σ st sa ends.
-      let c = w.frame.named b.number in
-      let good = λ (p : ℕ) (e : a p ≡ true). outside_not b t y sp Uniform σ ends p e in
-      let gives = λ (p : ℕ). or_old ((σ p).wrote c (element t (y p))) (w.begin c (element t (y p))) in
-      record {
-        x = mapped (λ x. s.arrays c (element t x)) m;
-        s = s;
-        y = gives;
-        after = λ p. noted_if (a p) c (element t (y p)) (σ p);
-        is = ap (λ o. checked o Index sp s (mapped (λ x. s.arrays c (element t x)) m)) (no_offender w.gang a (is_outside t (extent w.frame b)) m y in_gang.some st_m.at (λ p e. (good p e).0));
-        alone = λ p. chosen_alone (a p) (is_outside t (extent w.frame b) (y p)) (Bad (trap Index sp p)) (found w.begin p w.frame Uniform b (element t (y p))) (σ p) (noted_if (a p) c (element t (y p)) (σ p)) (gives p) (λ e. (good p e).0)
-          (noted_alone (a p) c (element t (y p)) (σ p) (gives p));
-        value = record {
-          at = λ p. (mapped_stand w.gang a j q (λ x. s.arrays c (element t x)) m y u2 st_m).at p ∙ same_if (a p) _ _ (λ e. own_item s σ p c (element t (y p)) st (in_gang.inside p e) open_ ((good p e).1.read c (element t (y p)) (noted_there c (element t (y p)) (σ p))));
-          one = (mapped_stand w.gang a j q (λ x. s.arrays c (element t x)) m y u2 st_m).one;
+        let c = w.frame.named b.number in
+        let good = λ (p : ℕ) (e : a p ≡ true). outside_not b t y sp Uniform σ ends p e in
+        let gives = λ (p : ℕ). or_old ((σ p).wrote c (element t (y p))) (w.begin c (element t (y p))) in
+        record {
+          x = mapped (λ x. s.arrays c (element t x)) m;
+          s = s;
+          y = gives;
+          after = λ p. noted_if (a p) c (element t (y p)) (σ p);
+          is = ap (λ o. checked o Index sp s (mapped (λ x. s.arrays c (element t x)) m)) (no_offender w.gang a (is_outside t (extent w.frame b)) m y in_gang.some st_m.at (λ p e. (good p e).0));
+          alone = λ p. chosen_alone (a p) (is_outside t (extent w.frame b) (y p)) (Bad (trap Index sp p)) (found w.begin p w.frame Uniform b (element t (y p))) (σ p) (noted_if (a p) c (element t (y p)) (σ p)) (gives p) (λ e. (good p e).0)
+              (noted_alone (a p) c (element t (y p)) (σ p) (gives p));
+          value = record {
+            at = λ p. (mapped_stand w.gang a j q (λ x. s.arrays c (element t x)) m y u2 st_m).at p ∙ same_if (a p) _ _ (λ e. own_item s σ p c (element t (y p)) st (in_gang.inside p e) open_ ((good p e).1.read c (element t (y p)) (noted_there c (element t (y p)) (σ p))));
+            one = (mapped_stand w.gang a j q (λ x. s.arrays c (element t x)) m y u2 st_m).one;
+          };
+          uniforms = refl;
+          own_uniforms = λ p. refl;
+          stands = record {
+            varying_is = st.varying_is;
+            own_is = st.own_is;
+            result_is = st.result_is;
+            stored = st.stored;
+            unstored = st.unstored;
+            within = λ p lt. noted_within (a p) (w.last p) c (element t (y p)) (σ p) (st.within p lt) (λ e. (good p e).1);
+            silent = st.silent;
+          };
         };
-        uniforms = refl;
-        own_uniforms = λ p. refl;
-        stands = record {
-          varying_is = st.varying_is;
-          own_is = st.own_is;
-          result_is = st.result_is;
-          stored = st.stored;
-          unstored = st.unstored;
-          within = λ p lt. noted_within (a p) (w.last p) c (element t (y p)) (σ p) (st.within p lt) (λ e. (good p e).1);
-          silent = st.silent;
-        };
-      };
   } where
     same_if : (t : Bool) (x y : ℕ) → (t ≡ true → x ≡ y) → (if t then Some x else None) ≡ (if t then Some y else None)
     same_if true x y e = ap Some (e refl)

@@ -1,13 +1,12 @@
 -- Values over a set, member by member.
-use Rattle.std.proofs.Common.{◌≡◌, ℕ, zero, suc, ◌<◌, ◌≤◌, ◌⊎◌, inl, inr, ⊎_elim, Bool, true, false, refl, sym, ap, ◌∙◌, subst, arith, true≢false}
-use Rattle.std.specs.Prelude.{Option, Some, None, ◌&&◌, ◌||◌, not, if◌then◌else◌}
+use Rattle.std.proofs.Common.{◌≡◌, ℕ, zero, suc, ◌<◌, ⊎_elim, Bool, true, false, refl, sym, ap, ◌∙◌, subst, arith, true≢false}
+use Rattle.std.specs.Prelude.{Option, Some, None, ◌&&◌, ◌||◌, if◌then◌else◌}
 use Rattle.std.proofs.lemmas.Bool.{cases_eq}
 use Rattle.isp_base.specs.Sets.{Mask, nobody, any, lowest, or_this}
-use Rattle.isp_base.specs.Maps.{Map, on, holds, each1, each2, where_true, lowest_failing, or_old}
+use Rattle.isp_base.specs.Maps.{Map, on, holds, each1, each2, where_true, or_old}
 use Rattle.isp_base.specs.declared.types.Rate.{Rate}
-use Rattle.isp_base.specs.declared.types.Rate.TheVariants.{Uniform, Varying}
-use Rattle.isp_meaning.specs.Payloads.{Payload, One, Each, spread, mapped, joined, kept_by, first_of_two, layer, offender, if_fails, nothing}
-use Rattle.isp_instances.specs.Stands.{AreSome}
+use Rattle.isp_base.specs.declared.types.Rate.TheVariants.{Uniform}
+use Rattle.isp_meaning.specs.Payloads.{Payload, One, Each, spread, mapped, joined, kept_by, first_of_two, layer, offender, if_fails}
 use Rattle.isp_instances.specs.Values.{IsOne, Stand}
 
 -- ---- sets

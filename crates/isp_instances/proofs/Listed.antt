@@ -1,7 +1,7 @@
 -- Several values, and the library's functions that look at no other instance.
-use Rattle.std.proofs.Common.{◌≡◌, ℕ, zero, suc, Bool, true, false, refl, sym, ap, ◌∙◌, subst, true≢false}
-use Rattle.std.specs.Prelude.{List, [], ◌∷◌, Option, Some, None, get_or, slice_get, if◌then◌else◌}
-use Rattle.isp_base.specs.Sets.{Mask, any}
+use Rattle.std.proofs.Common.{◌≡◌, ℕ, Bool, true, false, refl, ap, ◌∙◌, true≢false}
+use Rattle.std.specs.Prelude.{List, [], ◌∷◌, Some, None, get_or, if◌then◌else◌}
+use Rattle.isp_base.specs.Sets.{Mask}
 use Rattle.isp_base.specs.Maps.{on}
 use Rattle.isp_base.specs.Values.{op_bits}
 use Rattle.isp_base.specs.Unary.{unary_bits}
@@ -14,7 +14,7 @@ use Rattle.isp_typed.specs.declared.library.Library.{Library}
 use Rattle.isp_typed.specs.declared.library.Library.TheVariants as library
 use Rattle.isp_independence.specs.Crossing.{looks_across}
 use Rattle.isp_meaning.specs.Payloads.{Payload, One, Each, spread, is_true}
-use Rattle.isp_meaning.specs.Library.{library_value, argument, or_none, chosen_by, chosen_one}
+use Rattle.isp_meaning.specs.Library.{library_value, argument, chosen_by, chosen_one}
 use Rattle.isp_alone.specs.Values.{by_instance}
 use Rattle.isp_instances.specs.Values.{IsOne, Stand, ListAt, AllOne, ListStands}
 use Rattle.isp_instances.proofs.Lanes.{one_is, mapped_stand, joined_stand}

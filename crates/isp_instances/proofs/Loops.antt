@@ -1,20 +1,17 @@
 -- Loops over a set, whose body is any statement that does in each member what it does there alone.
-use Rattle.std.proofs.Common.{◌≡◌, ℕ, zero, suc, ◌<◌, ◌⊎◌, inl, inr, Bool, true, false, refl, sym, ap, ◌∙◌, subst, true≢false}
+use Rattle.std.proofs.Common.{◌≡◌, ℕ, zero, suc, ◌⊎◌, inl, inr, Bool, true, false, refl, sym, ap, ◌∙◌, subst, true≢false}
 use Rattle.std.specs.Prelude.{◌&&◌, ◌||◌, not, if◌then◌else◌}
-use Rattle.isp_base.specs.Sets.{Mask, any, nobody, union, without}
-use Rattle.isp_base.specs.declared.types.Rate.{Rate}
-use Rattle.isp_base.specs.declared.types.Rate.TheVariants.{Uniform}
-use Rattle.isp_typed.specs.Scoped.{Scope}
+use Rattle.isp_base.specs.Sets.{Mask, any, nobody, union}
 use Rattle.isp_meaning.specs.State.{State, tick}
 use Rattle.isp_meaning.specs.Payloads.{Payload, One, Each, is_true, kept_by}
-use Rattle.isp_meaning.specs.Outcomes.{Val, Res, Went, Done, with_value, go_on, if_so}
+use Rattle.isp_meaning.specs.Outcomes.{Res, Done, with_value, go_on, if_so}
 use Rattle.isp_meaning.specs.Loops.{loop_end, tested, stepped, turns}
 use Rattle.isp_alone.specs.Alone.{Alone}
-use Rattle.isp_alone.specs.Answers.{Answer, Has, Bad, Long, reached, How, Going, Broke, Continued, Returned, End, Does, Dies, Lasts, with_answer, choose}
+use Rattle.isp_alone.specs.Answers.{Answer, Has, Bad, Long, How, Going, Broke, Continued, Returned, End, Does, Dies, Lasts, with_answer, choose}
 use Rattle.isp_alone.specs.Loops.{turned, tested as own_tested, stepped as own_stepped, turns as own_turns}
 use Rattle.isp_instances.specs.Stands.{World, Within, EndsWithin, Stands, Same, AreSome, IfIn, Up, left_at}
-use Rattle.isp_instances.specs.Values.{AnswersAlone, Agrees, Sim, IsOne, Stand}
-use Rattle.isp_instances.specs.Statements.{is_going, is_broke, is_continued, is_returned, is_over, Ways, may_leave, may_part, Here, HasAll, LeavesWithin, Acts, ActSim, LeavesAlone, Leaves, StmtSim, LoopLeaves}
+use Rattle.isp_instances.specs.Values.{AnswersAlone, Agrees, IsOne, Stand}
+use Rattle.isp_instances.specs.Statements.{is_going, is_broke, is_continued, is_returned, is_over, may_leave, may_part, HasAll, LeavesWithin, Acts, LeavesAlone, Leaves, LoopLeaves}
 use Rattle.isp_instances.specs.Loops.{LoopParts, LoopSim}
 use Rattle.isp_instances.proofs.Grow.{within_then, up_choose, up_with, up_does, turned_up}
 use Rattle.isp_instances.proofs.Lanes.{nobody_in, member, and_left, kept_is}

@@ -1,32 +1,21 @@
 -- Operands that are needed by some members alone, and several values.
-use Rattle.std.proofs.Common.{◌≡◌, ℕ, zero, suc, ◌<◌, Bool, true, false, refl, sym, ap, ◌∙◌, subst, true≢false}
-use Rattle.std.specs.Prelude.{List, [], ◌∷◌, Option, Some, None, ◌&&◌, not, get_or, slice_get, if◌then◌else◌}
-use Rattle.isp_base.specs.Sets.{Mask, any, nobody}
-use Rattle.isp_base.specs.Maps.{on, where_true, holds}
-use Rattle.isp_base.specs.Values.{op_bits}
-use Rattle.isp_base.specs.Unary.{unary_bits}
-use Rattle.isp_base.specs.declared.operators.BinOp.TheVariants as op
-use Rattle.isp_base.specs.declared.operators.UnaryOp.TheVariants.{Absolute}
-use Rattle.isp_base.specs.declared.types.Elem.{Elem}
+use Rattle.std.proofs.Common.{◌≡◌, ℕ, Bool, true, false, refl, sym, ap, ◌∙◌, subst, true≢false}
+use Rattle.std.specs.Prelude.{Option, Some, None, ◌&&◌, not, if◌then◌else◌}
+use Rattle.isp_base.specs.Sets.{Mask, nobody}
+use Rattle.isp_base.specs.Maps.{on, where_true}
 use Rattle.isp_base.specs.declared.types.Rate.{Rate}
 use Rattle.isp_base.specs.declared.types.Rate.TheVariants.{Uniform}
 use Rattle.isp_typed.specs.Scoped.{Scope}
-use Rattle.isp_typed.specs.declared.library.Library.{Library}
-use Rattle.isp_typed.specs.declared.library.Library.TheVariants as library
 use Rattle.isp_typed.specs.declared.variable.Logic.{Logic}
-use Rattle.isp_typed.specs.declared.variable.Logic.TheVariants.{And, Or}
-use Rattle.isp_independence.specs.Crossing.{looks_across}
 use Rattle.isp_meaning.specs.State.{State}
-use Rattle.isp_meaning.specs.Payloads.{Payload, One, Each, spread, mapped, joined, kept_by, layer, selected, is_true, is_false}
+use Rattle.isp_meaning.specs.Payloads.{Payload, One, Each, spread, kept_by, layer, selected, is_true, is_false}
 use Rattle.isp_meaning.specs.Expressions.{needs, settled}
-use Rattle.isp_meaning.specs.Library.{library_value, argument, or_none, chosen_by, chosen_one}
 use Rattle.isp_meaning.specs.Outcomes.{Val, Gives, bind, value_unless_empty}
 use Rattle.isp_alone.specs.Alone.{Alone}
-use Rattle.isp_alone.specs.Answers.{Answer, Has, choose, and_then}
-use Rattle.isp_alone.specs.Values.{by_instance}
-use Rattle.isp_instances.specs.Stands.{World, EndsWithin, Stands, Same, AreSome, IfIn}
-use Rattle.isp_instances.specs.Values.{AnswersAlone, Agrees, Sim, IsOne, Stand, ListAt, AllOne, ListStands}
-use Rattle.isp_instances.proofs.Lanes.{and_left, kept_is, layer_is, one_is, mapped_stand, joined_stand, one_stands}
+use Rattle.isp_alone.specs.Answers.{Answer, Has, choose}
+use Rattle.isp_instances.specs.Stands.{World, EndsWithin, AreSome}
+use Rattle.isp_instances.specs.Values.{AnswersAlone, Sim, Stand}
+use Rattle.isp_instances.proofs.Lanes.{and_left, kept_is, layer_is, one_is}
 use Rattle.isp_instances.proofs.Sims.{EndsIf, some_or_none, same_on}
 
 -- ---- one instance: a later operand, where it is needed
@@ -83,9 +72,6 @@ module _ (gang : ℕ) (a : Mask) where
         record { at = λ p. k2.at p ∙ keep (a p) (x p) _ (λ i. ap (λ z. if z then x p else y p) (on_of true e p i)); one = λ i d. k2.one i (u2 d) }
     go false e = record { at = λ p. h.at p ∙ keep (a p) (y p) _ (λ i. ap (λ z. if z then x p else y p) (on_of false e p i)); one = λ i d. tt }
 
-
-
-
   selected_stands : (r1 r2 r3 q : Rate) (c m n : Payload) (y x z : ℕ → ℕ) → (q ≡ Uniform → r1 ≡ Uniform) → (q ≡ Uniform → r2 ≡ Uniform) → (q ≡ Uniform → r3 ≡ Uniform) → Stand gang a r1 c y
       → Stand gang (kept_by is_true a c) r2 m x → Stand gang (kept_by is_false a c) r3 n z → Stand gang a q (selected a c m n) (λ p. if is_true (y p) then x p else z p)
   selected_stands r1 r2 r3 q (Each c) m n y x z u1 u2 u3 h k l = record {
@@ -122,48 +108,48 @@ module _ (w : World) (v : Scope) (a : Mask) (in_gang : AreSome w.gang a) where
       → Sim w v a (Stand w.gang a q) (λ s. bind (value_unless_empty w.gang (kept_by (needs l) a m) s f) (λ n s2. Gives (settled l a m n) s2)) (λ p s. choose (needs l (y p)) (own p) (Has (y p)) s)
   logic_sim l r1 r2 q f own m y u1 u2 h later = record {
     go = λ s σ st sa ends.
-      let k = kept_by (needs l) a m in
-      let kk = λ (p : ℕ). kept_is w.gang a (needs l) m y p (h.at p) in
-      let ok = (some_or_none w v k r2 f own (λ p e. in_gang.inside p (sub (needs l) m y h.at p e)) (later k)).go s σ st (λ p n i j. sa p n (sub (needs l) m y h.at p i) j) (λ p. side_ends (w.last p) (a p) (needs l (y p)) (k p) (own p) (Has (y p)) (σ p) (kk p) (ends p)) in
-      record {
-        x = settled l a m ok.x;
-        s = ok.s;
-        y = λ p. if needs l (y p) then ok.y p else y p;
-        after = ok.after;
-        is = ap (λ z. bind z (λ n s2. Gives (settled l a m n) s2)) ok.is;
-        alone = λ p. needed_alone (a p) (needs l (y p)) (k p) (own p) (σ p) (ok.after p) (ok.y p) (y p) (kk p) (ok.alone p);
-        value = settled_stands w.gang a l r1 r2 q m ok.x ok.y y u1 u2 h ok.value;
-        uniforms = ok.uniforms;
-        own_uniforms = ok.own_uniforms;
-        stands = ok.stands;
-      };
+        let k = kept_by (needs l) a m in
+        let kk = λ (p : ℕ). kept_is w.gang a (needs l) m y p (h.at p) in
+        let ok = (some_or_none w v k r2 f own (λ p e. in_gang.inside p (sub (needs l) m y h.at p e)) (later k)).go s σ st (λ p n i j. sa p n (sub (needs l) m y h.at p i) j) (λ p. side_ends (w.last p) (a p) (needs l (y p)) (k p) (own p) (Has (y p)) (σ p) (kk p) (ends p)) in
+        record {
+          x = settled l a m ok.x;
+          s = ok.s;
+          y = λ p. if needs l (y p) then ok.y p else y p;
+          after = ok.after;
+          is = ap (λ z. bind z (λ n s2. Gives (settled l a m n) s2)) ok.is;
+          alone = λ p. needed_alone (a p) (needs l (y p)) (k p) (own p) (σ p) (ok.after p) (ok.y p) (y p) (kk p) (ok.alone p);
+          value = settled_stands w.gang a l r1 r2 q m ok.x ok.y y u1 u2 h ok.value;
+          uniforms = ok.uniforms;
+          own_uniforms = ok.own_uniforms;
+          stands = ok.stands;
+        };
   }
 
   -- `?:` from its test on
   pub choose_sim : (r1 r2 r3 q : Rate) (f g : Mask → State → Val Payload) (own own2 : ℕ → Alone → Answer ℕ) (c : Payload) (y : ℕ → ℕ) → (q ≡ Uniform → r1 ≡ Uniform) → (q ≡ Uniform → r2 ≡ Uniform) → (q ≡ Uniform → r3 ≡ Uniform)
       → Stand w.gang a r1 c y → ((k : Mask) → AreSome w.gang k → Sim w v k (Stand w.gang k r2) (f k) own) → ((k : Mask) → AreSome w.gang k → Sim w v k (Stand w.gang k r3) (g k) own2)
       → Sim w v a (Stand w.gang a q)
-        (λ s. bind (value_unless_empty w.gang (kept_by is_true a c) s f) (λ m s1. bind (value_unless_empty w.gang (kept_by is_false a c) s1 g) (λ n s2. Gives (selected a c m n) s2)))
-        (λ p s. choose (is_true (y p)) (own p) (own2 p) s)
+      (λ s. bind (value_unless_empty w.gang (kept_by is_true a c) s f) (λ m s1. bind (value_unless_empty w.gang (kept_by is_false a c) s1 g) (λ n s2. Gives (selected a c m n) s2)))
+      (λ p s. choose (is_true (y p)) (own p) (own2 p) s)
   choose_sim r1 r2 r3 q f g own own2 c y u1 u2 u3 h first second = record {
     go = λ s σ st sa ends.
-      let k = kept_by is_true a c in
-      let l = kept_by is_false a c in
-      let kk = λ (p : ℕ). kept_is w.gang a is_true c y p (h.at p) in
-      let ll = λ (p : ℕ). kept_is w.gang a is_false c y p (h.at p) in
-      let ok = (some_or_none w v k r2 f own (λ p e. in_gang.inside p (sub is_true c y h.at p e)) (first k)).go s σ st (λ p n i j. sa p n (sub is_true c y h.at p i) j) (λ p. side_ends (w.last p) (a p) (is_true (y p)) (k p) (own p) (own2 p) (σ p) (kk p) (ends p)) in
-      let ok2 = (some_or_none w v l r3 g own2 (λ p e. in_gang.inside p (sub is_false c y h.at p e)) (second l)).go ok.s ok.after ok.stands (same_on w v a l s.uniforms ok.s.uniforms σ ok.after (λ p e. sub is_false c y h.at p e) ok.uniforms ok.own_uniforms sa)
+        let k = kept_by is_true a c in
+        let l = kept_by is_false a c in
+        let kk = λ (p : ℕ). kept_is w.gang a is_true c y p (h.at p) in
+        let ll = λ (p : ℕ). kept_is w.gang a is_false c y p (h.at p) in
+        let ok = (some_or_none w v k r2 f own (λ p e. in_gang.inside p (sub is_true c y h.at p e)) (first k)).go s σ st (λ p n i j. sa p n (sub is_true c y h.at p i) j) (λ p. side_ends (w.last p) (a p) (is_true (y p)) (k p) (own p) (own2 p) (σ p) (kk p) (ends p)) in
+        let ok2 = (some_or_none w v l r3 g own2 (λ p e. in_gang.inside p (sub is_false c y h.at p e)) (second l)).go ok.s ok.after ok.stands (same_on w v a l s.uniforms ok.s.uniforms σ ok.after (λ p e. sub is_false c y h.at p e) ok.uniforms ok.own_uniforms sa)
         (λ p. other_ends (w.last p) (a p) (is_true (y p)) (k p) (l p) (own p) (own2 p) (σ p) (ok.after p) (ok.y p) (kk p) (ll p) (ok.alone p) (ends p)) in
-      record {
-        x = selected a c ok.x ok2.x;
-        s = ok2.s;
-        y = λ p. if is_true (y p) then ok.y p else ok2.y p;
-        after = ok2.after;
-        is = ap (λ z. bind z (λ m s1. bind (value_unless_empty w.gang l s1 g) (λ n s2. Gives (selected a c m n) s2))) ok.is ∙ ap (λ z. bind z (λ n s2. Gives (selected a c ok.x n) s2)) ok2.is;
-        alone = λ p. either_alone (a p) (is_true (y p)) (k p) (l p) (own p) (own2 p) (σ p) (ok.after p) (ok2.after p) (ok.y p) (ok2.y p) (kk p) (ll p) (ok.alone p) (ok2.alone p);
-        value = selected_stands w.gang a r1 r2 r3 q c ok.x ok2.x y ok.y ok2.y u1 u2 u3 h ok.value ok2.value;
-        uniforms = ok2.uniforms ∙ ok.uniforms;
-        own_uniforms = λ p. ok2.own_uniforms p ∙ ok.own_uniforms p;
-        stands = ok2.stands;
-      };
+        record {
+          x = selected a c ok.x ok2.x;
+          s = ok2.s;
+          y = λ p. if is_true (y p) then ok.y p else ok2.y p;
+          after = ok2.after;
+          is = ap (λ z. bind z (λ m s1. bind (value_unless_empty w.gang l s1 g) (λ n s2. Gives (selected a c m n) s2))) ok.is ∙ ap (λ z. bind z (λ n s2. Gives (selected a c ok.x n) s2)) ok2.is;
+          alone = λ p. either_alone (a p) (is_true (y p)) (k p) (l p) (own p) (own2 p) (σ p) (ok.after p) (ok2.after p) (ok.y p) (ok2.y p) (kk p) (ll p) (ok.alone p) (ok2.alone p);
+          value = selected_stands w.gang a r1 r2 r3 q c ok.x ok2.x y ok.y ok2.y u1 u2 u3 h ok.value ok2.value;
+          uniforms = ok2.uniforms ∙ ok.uniforms;
+          own_uniforms = λ p. ok2.own_uniforms p ∙ ok.own_uniforms p;
+          stands = ok2.stands;
+        };
   }

@@ -7,8 +7,8 @@ use Rattle.isp_meaning.specs.State.{State}
 use Rattle.isp_meaning.specs.Outcomes.{Res, Went, go_on, then_run, went_all, unless_empty, if_so}
 use Rattle.isp_alone.specs.Alone.{Alone}
 use Rattle.isp_alone.specs.Answers.{How, Going, Broke, Continued, Returned, End, Does, Dies, Lasts, then_on}
-use Rattle.isp_instances.specs.Stands.{World, Within, Stands, Same, AreSome, IfIn, Up, left_at}
-use Rattle.isp_instances.specs.Statements.{is_going, is_broke, is_continued, is_returned, Ways, may_leave, may_part, Here, HasAll, LeavesWithin, LeavesAlone, Leaves, StmtSim}
+use Rattle.isp_instances.specs.Stands.{World, AreSome, Up, left_at}
+use Rattle.isp_instances.specs.Statements.{ways_of, is_going, is_broke, is_continued, is_returned, Ways, may_leave, may_part, Here, HasAll, LeavesWithin, LeavesAlone, Leaves, StmtSim}
 use Rattle.isp_instances.proofs.Grow.{within_then}
 use Rattle.isp_instances.proofs.Lanes.{nobody_in, member, and_left, or_left, or_right}
 use Rattle.isp_instances.proofs.Loops.{LeavesIf, leaves_within, either_is}
@@ -72,10 +72,6 @@ left_then f no_going t g x y h h2 e d c = ap (λ z. z || y) d ∙ ap (λ z. (t &
   go true Continued = or_false (f Continued)
   go true Returned = or_false (f Returned)
   go false h = refl
-
--- the jumps of both
-abbrev pub ways_of : Ways → Ways → Ways
-ways_of x y = record { breaks = x.breaks || y.breaks; continues = x.continues || y.continues; some_break = x.some_break || y.some_break; some_continue = x.some_continue || y.some_continue }
 
 or_in_left : (x y : Bool) → x ≡ true → (x || y) ≡ true
 or_in_left true y e = refl

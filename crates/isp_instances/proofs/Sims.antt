@@ -1,22 +1,21 @@
 -- Expressions over a set that do in each member what they do there alone: how one goes on from another.
 use Rattle.std.proofs.Common.{◌≡◌, ℕ, ◌<◌, Bool, true, false, refl, sym, ap, ◌∙◌, subst, true≢false}
-use Rattle.std.specs.Prelude.{Option, Some, None, ◌&&◌, not, if◌then◌else◌}
+use Rattle.std.specs.Prelude.{Some, None, if◌then◌else◌}
 use Rattle.isp_base.specs.Sets.{Mask, any}
 use Rattle.isp_base.specs.Maps.{on}
 use Rattle.isp_base.specs.declared.trap.TrapKind.{TrapKind}
 use Rattle.isp_base.specs.declared.types.Rate.{Rate}
-use Rattle.isp_base.specs.declared.types.Rate.TheVariants.{Uniform}
 use Rattle.isp_base.specs.declared.types.Span.{Span}
 use Rattle.isp_typed.specs.Scoped.{Scope}
 use Rattle.isp_meaning.specs.State.{State, tick}
-use Rattle.isp_meaning.specs.Payloads.{Payload, One, Each, spread, nothing, offender}
+use Rattle.isp_meaning.specs.Payloads.{Payload, spread, nothing, offender}
 use Rattle.isp_meaning.specs.Outcomes.{Val, Gives, bind, checked, value_unless_empty, if_so}
 use Rattle.isp_alone.specs.Alone.{Alone}
-use Rattle.isp_alone.specs.Answers.{Answer, Has, Bad, Long, reached, and_then, unless, choose}
+use Rattle.isp_alone.specs.Answers.{Answer, Has, Bad, Long, reached, and_then, unless}
 use Rattle.isp_instances.specs.Stands.{World, Within, EndsWithin, Stands, Same, AreSome, IfIn, Up}
-use Rattle.isp_instances.specs.Values.{AnswersAlone, Agrees, Sim, IsOne, Stand}
+use Rattle.isp_instances.specs.Values.{AnswersAlone, Agrees, Sim, Stand}
 use Rattle.isp_instances.proofs.Grow.{within_then}
-use Rattle.isp_instances.proofs.Lanes.{nobody_in, and_left, no_offender}
+use Rattle.isp_instances.proofs.Lanes.{nobody_in, no_offender}
 
 -- ---- one instance
 
@@ -70,7 +69,7 @@ module _ (w : World) (v : Scope) where
   pub sim_has : {A B : Type 0} (a : Mask) (R : A → (ℕ → B) → Type 0) (x : A) (y : ℕ → B) → R x y → Sim w v a R (λ s. Gives x s) (λ p s. Has (y p) s)
   sim_has a R x y r = record {
     go = λ s σ st sa ends.
-      record { x = x; s = s; y = y; after = σ; is = refl; alone = λ p. has_alone (a p) (σ p) (y p); value = r; uniforms = refl; own_uniforms = λ p. refl; stands = st };
+        record { x = x; s = s; y = y; after = σ; is = refl; alone = λ p. has_alone (a p) (σ p) (y p); value = r; uniforms = refl; own_uniforms = λ p. refl; stands = st };
   }
 
   -- the instances do the same in other words
@@ -84,8 +83,8 @@ module _ (w : World) (v : Scope) where
   pub sim_as : {A B : Type 0} (a : Mask) (R Q : A → (ℕ → B) → Type 0) (f : State → Val A) (own : ℕ → Alone → Answer B) → ((x : A) (y : ℕ → B) → R x y → Q x y) → Sim w v a R f own → Sim w v a Q f own
   sim_as a R Q f own to x = record {
     go = λ s σ st sa ends.
-      let ok = x.go s σ st sa ends in
-      record { x = ok.x; s = ok.s; y = ok.y; after = ok.after; is = ok.is; alone = ok.alone; value = to ok.x ok.y ok.value; uniforms = ok.uniforms; own_uniforms = ok.own_uniforms; stands = ok.stands };
+        let ok = x.go s σ st sa ends in
+        record { x = ok.x; s = ok.s; y = ok.y; after = ok.after; is = ok.is; alone = ok.alone; value = to ok.x ok.y ok.value; uniforms = ok.uniforms; own_uniforms = ok.own_uniforms; stands = ok.stands };
   }
 
   pub sim_tick : {A B : Type 0} (a : Mask) (R : A → (ℕ → B) → Type 0) (f : State → Val A) (own : ℕ → Alone → Answer B) → Sim w v a R f own → Sim w v a R (λ s. f (tick s)) own
@@ -117,18 +116,18 @@ module _ (w : World) (v : Scope) where
       → ((p : ℕ) → spread a n p ≡ on a z p) → R x y → Sim w v a R (λ s. checked (offender w.gang fails a n) kind sp s x) (λ p s. unless (fails (z p)) kind sp p s (y p))
   sim_checked a in_gang R fails n z kind sp x y at r = record {
     go = λ s σ st sa ends.
-      record {
-        x = x;
-        s = s;
-        y = y;
-        after = σ;
-        is = ap (λ o. checked o kind sp s x) (no_offender w.gang a fails n z in_gang.some at (λ p t. unless_ends (w.last p) (a p) (fails (z p)) kind sp p (σ p) (y p) (ends p) t));
-        alone = λ p. unless_alone (a p) (fails (z p)) kind sp p (σ p) (y p) (unless_ends (w.last p) (a p) (fails (z p)) kind sp p (σ p) (y p) (ends p));
-        value = r;
-        uniforms = refl;
-        own_uniforms = λ p. refl;
-        stands = st;
-      };
+        record {
+          x = x;
+          s = s;
+          y = y;
+          after = σ;
+          is = ap (λ o. checked o kind sp s x) (no_offender w.gang a fails n z in_gang.some at (λ p t. unless_ends (w.last p) (a p) (fails (z p)) kind sp p (σ p) (y p) (ends p) t));
+          alone = λ p. unless_alone (a p) (fails (z p)) kind sp p (σ p) (y p) (unless_ends (w.last p) (a p) (fails (z p)) kind sp p (σ p) (y p) (ends p));
+          value = r;
+          uniforms = refl;
+          own_uniforms = λ p. refl;
+          stands = st;
+        };
   }
 
   -- ---- operands that are needed by some members alone

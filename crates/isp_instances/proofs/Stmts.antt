@@ -1,26 +1,23 @@
 -- Statements put together: behind a value, behind an assignment, branches of a uniform test, loops, jumps.
 use Rattle.std.proofs.Common.{◌≡◌, ℕ, ◌⊎◌, inl, inr, Bool, true, false, refl, sym, ap, ◌∙◌, subst, true≢false}
-use Rattle.std.specs.Prelude.{◌&&◌, ◌||◌, not, if◌then◌else◌}
+use Rattle.std.specs.Prelude.{◌&&◌, ◌||◌, not}
 use Rattle.isp_base.specs.Sets.{Mask, nobody, without}
-use Rattle.isp_base.specs.declared.types.Rate.{Rate}
 use Rattle.isp_base.specs.declared.types.Rate.TheVariants.{Uniform}
 use Rattle.isp_tree.specs.declared.stmt.Jump.TheVariants.{Break, Continue}
 use Rattle.isp_typed.specs.Scoped.{Scope}
-use Rattle.isp_meaning.specs.State.{State, tick}
-use Rattle.isp_meaning.specs.Payloads.{Payload, One, Each, is_true}
-use Rattle.isp_meaning.specs.Outcomes.{Val, Gives, Res, Went, Done, with_value, went_all, if_so}
-use Rattle.isp_meaning.specs.Statements.{branches, jumped}
+use Rattle.isp_meaning.specs.State.{State}
+use Rattle.isp_meaning.specs.Payloads.{One, is_true}
+use Rattle.isp_meaning.specs.Outcomes.{Val, Res, Done, with_value, if_so}
+use Rattle.isp_meaning.specs.Statements.{jumped}
 use Rattle.isp_alone.specs.Alone.{Alone}
-use Rattle.isp_alone.specs.Answers.{Answer, reached, How, Going, Broke, Continued, Returned, End, Does, with_answer, choose}
-use Rattle.isp_alone.specs.Does.{jumped as own_jumped}
-use Rattle.isp_instances.specs.Stands.{World, EndsWithin, Stands, Same, AreSome, IfIn, Up, left_at}
-use Rattle.isp_instances.specs.Values.{AnswersAlone, Agrees, Sim, IsOne, Stand}
-use Rattle.isp_instances.specs.Statements.{is_going, is_broke, is_continued, is_returned, is_over, Ways, may_leave, may_part, Here, HasAll, LeavesWithin, Acts, ActSim, LeavesAlone, Leaves, StmtSim, LoopLeaves}
+use Rattle.isp_alone.specs.Answers.{Answer, How, Going, Broke, Continued, Returned, End, Does, with_answer, choose}
+use Rattle.isp_instances.specs.Stands.{World, Stands, Same, AreSome, IfIn, Up, left_at}
+use Rattle.isp_instances.specs.Values.{Agrees, Sim, Stand}
+use Rattle.isp_instances.specs.Statements.{no_ways, ways_of, is_going, is_broke, is_continued, is_returned, is_over, Ways, may_leave, may_part, Here, HasAll, LeavesWithin, Acts, ActSim, LeavesAlone, Leaves, StmtSim, LoopLeaves}
 use Rattle.isp_instances.proofs.Lanes.{and_left, one_is}
 use Rattle.isp_instances.proofs.Sims.{same_on}
 use Rattle.isp_instances.proofs.Loops.{LeavesIf, with_first, with_next, with_alone, either_is}
-use Rattle.isp_instances.proofs.Sequences.{ways_of}
-use Rattle.isp_instances.proofs.Branches.{Widens, widens_left, widens_right, in_other_words, no_ways}
+use Rattle.isp_instances.proofs.Branches.{widens_left, widens_right, in_other_words}
 
 module _ (w : World) (here : Here) (v : Scope) (a : Mask) where
   -- ---- behind a value
@@ -92,23 +89,23 @@ module _ (w : World) (here : Here) (v : Scope) (a : Mask) where
           same_continued = λ i p k j l. no_continued p ok2.how (ok2.continued p) j (ok2.continued_is p) (ok2.may p);
           stands = ok2.stands;
         } where
-      no_broke : {A : Type 0} (p : ℕ) (how : ℕ → How) (b : Bool) → b ≡ true → b ≡ (a p && is_broke (how p)) → (a p ≡ true → may_leave no_ways (how p) ≡ true) → A
-      no_broke p how b e d m = find (how p) (a p) (sym d ∙ e) m where
-        find : {A : Type 0} (h : How) (t : Bool) → (t && is_broke h) ≡ true → (t ≡ true → may_leave no_ways h ≡ true) → A
-        find Broke true e m = absurd (true≢false (sym (m refl)))
-        find Going true e m = absurd (true≢false (sym e))
-        find Continued true e m = absurd (true≢false (sym e))
-        find Returned true e m = absurd (true≢false (sym e))
-        find h false e m = absurd (true≢false (sym e))
+          no_broke : {A : Type 0} (p : ℕ) (how : ℕ → How) (b : Bool) → b ≡ true → b ≡ (a p && is_broke (how p)) → (a p ≡ true → may_leave no_ways (how p) ≡ true) → A
+          no_broke p how b e d m = find (how p) (a p) (sym d ∙ e) m where
+            find : {A : Type 0} (h : How) (t : Bool) → (t && is_broke h) ≡ true → (t ≡ true → may_leave no_ways h ≡ true) → A
+            find Broke true e m = absurd (true≢false (sym (m refl)))
+            find Going true e m = absurd (true≢false (sym e))
+            find Continued true e m = absurd (true≢false (sym e))
+            find Returned true e m = absurd (true≢false (sym e))
+            find h false e m = absurd (true≢false (sym e))
 
-      no_continued : {A : Type 0} (p : ℕ) (how : ℕ → How) (b : Bool) → b ≡ true → b ≡ (a p && is_continued (how p)) → (a p ≡ true → may_leave no_ways (how p) ≡ true) → A
-      no_continued p how b e d m = find (how p) (a p) (sym d ∙ e) m where
-        find : {A : Type 0} (h : How) (t : Bool) → (t && is_continued h) ≡ true → (t ≡ true → may_leave no_ways h ≡ true) → A
-        find Continued true e m = absurd (true≢false (sym (m refl)))
-        find Going true e m = absurd (true≢false (sym e))
-        find Broke true e m = absurd (true≢false (sym e))
-        find Returned true e m = absurd (true≢false (sym e))
-        find h false e m = absurd (true≢false (sym e))
+          no_continued : {A : Type 0} (p : ℕ) (how : ℕ → How) (b : Bool) → b ≡ true → b ≡ (a p && is_continued (how p)) → (a p ≡ true → may_leave no_ways (how p) ≡ true) → A
+          no_continued p how b e d m = find (how p) (a p) (sym d ∙ e) m where
+            find : {A : Type 0} (h : How) (t : Bool) → (t && is_continued h) ≡ true → (t ≡ true → may_leave no_ways h ≡ true) → A
+            find Continued true e m = absurd (true≢false (sym (m refl)))
+            find Going true e m = absurd (true≢false (sym e))
+            find Broke true e m = absurd (true≢false (sym e))
+            find Returned true e m = absurd (true≢false (sym e))
+            find h false e m = absurd (true≢false (sym e))
 
   -- ---- branches of a uniform test: all take one
 
@@ -225,11 +222,11 @@ module _ (w : World) (here : Here) (v : Scope) (a : Mask) where
   pub break_sim : StmtSim w here v v (record { breaks = true; continues = false; some_break = false; some_continue = false }) a (jumped Break a) (λ p s. Does s Broke)
   break_sim = record {
     go = λ s σ st sa top ends.
-      record { s = s; went = nobody; broke = a; continued = nobody; returned = nobody; after = σ; how = λ p. Broke; way = Broke; is = refl; alone = λ p. jump_alone (a p) (σ p) Broke; went_is = λ p. and_false (a p); broke_is = λ p. and_true (a p); continued_is = λ p. and_false (a p); returned_is = λ p. and_false (a p); may = λ p i. refl; one_way = λ p i. inl refl; no_return = λ i d p j. refl; quiet = λ k i. refl; own_quiet = λ p k i. refl; same = λ p k i j. absurd (true≢false (sym i)); same_broke = λ i. sa; same_continued = λ i p k j l. absurd (true≢false (sym j)); stands = st };
+        record { s = s; went = nobody; broke = a; continued = nobody; returned = nobody; after = σ; how = λ p. Broke; way = Broke; is = refl; alone = λ p. jump_alone (a p) (σ p) Broke; went_is = λ p. and_false (a p); broke_is = λ p. and_true (a p); continued_is = λ p. and_false (a p); returned_is = λ p. and_false (a p); may = λ p i. refl; one_way = λ p i. inl refl; no_return = λ i d p j. refl; quiet = λ k i. refl; own_quiet = λ p k i. refl; same = λ p k i j. absurd (true≢false (sym i)); same_broke = λ i. sa; same_continued = λ i p k j l. absurd (true≢false (sym j)); stands = st };
   }
 
   pub continue_sim : StmtSim w here v v (record { breaks = false; continues = true; some_break = false; some_continue = false }) a (jumped Continue a) (λ p s. Does s Continued)
   continue_sim = record {
     go = λ s σ st sa top ends.
-      record { s = s; went = nobody; broke = nobody; continued = a; returned = nobody; after = σ; how = λ p. Continued; way = Continued; is = refl; alone = λ p. jump_alone (a p) (σ p) Continued; went_is = λ p. and_false (a p); broke_is = λ p. and_false (a p); continued_is = λ p. and_true (a p); returned_is = λ p. and_false (a p); may = λ p i. refl; one_way = λ p i. inl refl; no_return = λ i d p j. refl; quiet = λ k i. refl; own_quiet = λ p k i. refl; same = λ p k i j. absurd (true≢false (sym i)); same_broke = λ i p k j l. absurd (true≢false (sym j)); same_continued = λ i. sa; stands = st };
+        record { s = s; went = nobody; broke = nobody; continued = a; returned = nobody; after = σ; how = λ p. Continued; way = Continued; is = refl; alone = λ p. jump_alone (a p) (σ p) Continued; went_is = λ p. and_false (a p); broke_is = λ p. and_false (a p); continued_is = λ p. and_true (a p); returned_is = λ p. and_false (a p); may = λ p i. refl; one_way = λ p i. inl refl; no_return = λ i d p j. refl; quiet = λ k i. refl; own_quiet = λ p k i. refl; same = λ p k i j. absurd (true≢false (sym i)); same_broke = λ i p k j l. absurd (true≢false (sym j)); same_continued = λ i. sa; stands = st };
   }

@@ -1,5 +1,5 @@
 -- What the law asks of an expression, in a function with these variables.
-use Rattle.std.specs.Prelude.{◌≡◌, ℕ, List, Option, Some, Contains, slice_get}
+use Rattle.std.specs.Prelude.{◌≡◌, ℕ, List, Some, Contains, slice_get}
 use Rattle.isp_base.specs.declared.types.Ty.{Ty}
 use Rattle.isp_lex.specs.declared.fault.Fault.{Fault}
 use Rattle.isp_typed.specs.declared.variable.Variable.{Variable}

@@ -1,5 +1,5 @@
 -- The law of expressions on `a[programIndex]`, where a has 0, 10, 20 and 30: its premises are met.
-use Rattle.std.specs.Prelude.{◌≡◌, ℕ, ◌*◌, List, [], ◌∷◌, Option, Some, None, true, false, ◌&&◌, nat_eq}
+use Rattle.std.specs.Prelude.{◌≡◌, ℕ, ◌*◌, List, [], ◌∷◌, Option, Some, None, false, ◌&&◌, nat_eq}
 use Rattle.isp_base.specs.Sets.{everyone}
 use Rattle.isp_base.specs.declared.types.Elem.TheVariants.{I32}
 use Rattle.isp_base.specs.declared.types.Rate.TheVariants.{Uniform, Varying}
@@ -12,7 +12,6 @@ use Rattle.isp_meaning.specs.State.{State}
 use Rattle.isp_meaning.specs.Outcomes.{Val, Gives, Fails, Stops}
 use Rattle.isp_meaning.specs.Payloads.{Payload, spread}
 use Rattle.isp_meaning.specs.Expressions.{Calls, value}
-use Rattle.isp_alone.specs.Alone.{Alone}
 use Rattle.isp_alone.specs.Answers.{Has}
 use Rattle.isp_alone.specs.Runs.{fresh}
 use Rattle.isp_alone.specs.Values.{OwnCalls, answer}

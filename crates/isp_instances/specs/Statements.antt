@@ -9,7 +9,7 @@ use Rattle.isp_meaning.specs.State.{State}
 use Rattle.isp_meaning.specs.Outcomes.{Val, Gives, Done, Res, Went}
 use Rattle.isp_alone.specs.Alone.{Alone}
 use Rattle.isp_alone.specs.Answers.{Answer, How, Going, Broke, Continued, Returned, End, Does, Dies, Lasts}
-use Rattle.isp_instances.specs.Stands.{World, Within, Stands, Same, AreSome, IfIn, EndsWithin}
+use Rattle.isp_instances.specs.Stands.{World, Within, Stands, Same, IfIn, EndsWithin}
 use Rattle.isp_instances.specs.Values.{AnswersAlone}
 
 -- ---- how a statement is left
@@ -58,6 +58,18 @@ may_part joint ways Going = false
 may_part joint ways Broke = ways.some_break
 may_part joint ways Continued = ways.some_continue
 may_part joint ways Returned = not joint
+
+-- no jump; the jumps of two parts; those of two branches that only some take, who may leave alone
+abbrev pub no_ways : Ways
+no_ways = record { breaks = false; continues = false; some_break = false; some_continue = false }
+
+abbrev pub ways_of : Ways → Ways → Ways
+ways_of x y =
+    record { breaks = x.breaks || y.breaks; continues = x.continues || y.continues; some_break = x.some_break || y.some_break; some_continue = x.some_continue || y.some_continue }
+
+abbrev pub parted_ways : Ways → Ways → Ways
+parted_ways x y =
+    record { breaks = x.breaks || y.breaks; continues = x.continues || y.continues; some_break = x.breaks || y.breaks; some_continue = x.continues || y.continues }
 
 -- ---- where a statement stands
 

@@ -1,5 +1,5 @@
 //! Laws of the gang and its instances. No code is run here: each function carries a law in its contract.
-ghost use Rattle.isp_instances.specs.Laws.{ExpressionsAgree, LoopsAgree, TouchedStays};
+ghost use Rattle.isp_instances.specs.Laws.{ExpressionsAgree, LoopsAgree, StatementsAgree, TouchedStays};
 ghost use Rattle.isp_instances.specs.Samples.{AgreementOfSamples};
 
 /// What an instance alone has read stays read, and where it has stored it has stored, whatever it does next: so a part of a run
@@ -24,4 +24,9 @@ pub fn loops_agree()
 /// The premises of `expressions_agree` are met by `a[programIndex]`, and the gang has there what each instance has alone.
 pub fn agreement_of_samples()
     ensures { AgreementOfSamples }
+{}
+
+/// Statements one after the other, and the branches of an `if`, do in each member what they do there alone, if their parts do.
+pub fn statements_agree()
+    ensures { StatementsAgree }
 {}

@@ -3,4 +3,6 @@
 
 mod laws;
 
-pub use laws::{agreement_of_samples, expressions_agree, loops_agree, touched_stays};
+pub use laws::{
+    agreement_of_samples, expressions_agree, loops_agree, statements_agree, touched_stays,
+};
