@@ -13,4 +13,5 @@ pub mod Sequences
 pub mod Branches
 pub mod Stmts
 pub mod Sampled
+pub mod Writes
 pub mod Whole
