@@ -32,6 +32,6 @@ pub statements_agree : StatementsAgree
 statements_agree = record {
   sequence = λ w here v v1 x y a f own next own_next some wider together first up second. then_sim w here v v1 x y a some wider together f own first next own_next up second;
   varying_if = λ w here closed v v1 v2 x y a first second own own2 r m test some shut closed_in sim sim2 h.
-    record { go = λ s σ st sa top ends. varying_sides w here closed v v1 v2 x y a some shut closed_in first second own own2 sim sim2 r m test h s σ st sa ends };
+      record { go = λ s σ st sa top ends. varying_sides w here closed v v1 v2 x y a some shut closed_in first second own own2 sim sim2 r m test h s σ st sa ends };
   uniform_if = λ w here v v1 v2 x y a first second own own2 c test some wider wider2 sim sim2 h. uniform_sides w here v a v1 v2 x y (first a) (second a) own own2 some wider wider2 sim sim2 c test h;
 }

@@ -1,22 +1,21 @@
 -- Variables that are written, and what comes behind a value.
-use Rattle.std.proofs.Common.{◌≡◌, ℕ, ◌⊎◌, inl, inr, Bool, true, false, refl, sym, ap, ◌∙◌, subst, arith, true≢false}
+use Rattle.std.proofs.Common.{◌≡◌, ℕ, ◌⊎◌, inl, inr, Bool, true, false, refl, sym, ap, ◌∙◌, arith, true≢false}
 use Rattle.std.specs.Prelude.{Some, None, nat_eq, if◌then◌else◌}
 use Rattle.std.proofs.lemmas.Bool.{cases_eq}
 use Rattle.std.proofs.lemmas.Bool.Decides.{nat_tests}
 use Rattle.isp_base.specs.Sets.{Mask}
-use Rattle.isp_base.specs.Maps.{Lanes, Map, on, over, or_old, put}
+use Rattle.isp_base.specs.Maps.{Lanes, on, over, or_old, put}
 use Rattle.isp_base.specs.declared.types.Rate.{Rate}
 use Rattle.isp_base.specs.declared.types.Rate.TheVariants.{Uniform, Varying}
 use Rattle.isp_typed.specs.Scoped.{Scope}
-use Rattle.isp_meaning.specs.State.{State}
-use Rattle.isp_meaning.specs.Payloads.{Payload, One, Each, spread, sole}
+use Rattle.isp_meaning.specs.Payloads.{Payload, One, Each, spread}
 use Rattle.isp_meaning.specs.Outcomes.{Gives, Done}
 use Rattle.isp_meaning.specs.Places.{written}
 use Rattle.isp_alone.specs.Alone.{Alone, written as own_written}
-use Rattle.isp_alone.specs.Answers.{Answer, Has}
-use Rattle.isp_instances.specs.Stands.{World, Within, EndsWithin, Stands, Same, AreSome, IfIn}
-use Rattle.isp_instances.specs.Values.{AnswersAlone, IsOne, Stand}
-use Rattle.isp_instances.specs.Statements.{Acts, ActSim}
+use Rattle.isp_alone.specs.Answers.{Has}
+use Rattle.isp_instances.specs.Stands.{World, AreSome}
+use Rattle.isp_instances.specs.Values.{AnswersAlone, Stand}
+use Rattle.isp_instances.specs.Statements.{ActSim}
 use Rattle.isp_instances.proofs.Lanes.{one_is}
 
 put_here : {A : Type 0} (f : ℕ → A) (k n : ℕ) (x : A) → n ≡ k → put f k x n ≡ x
@@ -44,24 +43,24 @@ module _ (w : World) (closed : ℕ → Bool) (v v1 : Scope) (a : Mask) (some : A
       → ActSim w closed v v1 a (λ s. Gives tt (written r k a m s)) (λ p s. Has tt (own_written r k (y p) s))
   written_sim Varying k m y h open_ older wider = record {
     go = λ s σ st sa ends.
-      record {
-        s = written Varying k a m s;
-        after = λ p. record (σ p) { varying = put_if (a p) (σ p).varying k (y p) };
-        is = refl;
-        alone = λ p. alone_if (a p) (σ p) (y p);
-        quiet = λ n i. refl;
-        own_quiet = λ p n i. refl;
-        same = λ p n i j. sa p n i (wider refl n j);
-        stands = record {
-          varying_is = λ n p. written_is s.varying (σ p).varying n p (h.at p) (λ u. st.varying_is u p);
-          own_is = st.own_is;
-          result_is = st.result_is;
-          stored = st.stored;
-          unstored = st.unstored;
-          within = λ p lt. record { read = (st.within p lt).read; wrote = (st.within p lt).wrote };
-          silent = st.silent;
+        record {
+          s = written Varying k a m s;
+          after = λ p. record (σ p) { varying = put_if (a p) (σ p).varying k (y p) };
+          is = refl;
+          alone = λ p. alone_if (a p) (σ p) (y p);
+          quiet = λ n i. refl;
+          own_quiet = λ p n i. refl;
+          same = λ p n i j. sa p n i (wider refl n j);
+          stands = record {
+            varying_is = λ n p. written_is s.varying (σ p).varying n p (h.at p) (λ u. st.varying_is u p);
+            own_is = st.own_is;
+            result_is = st.result_is;
+            stored = st.stored;
+            unstored = st.unstored;
+            within = λ p lt. record { read = (st.within p lt).read; wrote = (st.within p lt).wrote };
+            silent = st.silent;
+          };
         };
-      };
   } where
     alone_if : (t : Bool) (s : Alone) (x : ℕ) → AnswersAlone {A = Done} t (Has tt (own_written Varying k x s)) s tt (record s { varying = put_if t s.varying k x })
     alone_if true s x = refl
@@ -83,24 +82,24 @@ module _ (w : World) (closed : ℕ → Bool) (v v1 : Scope) (a : Mask) (some : A
   written_sim Uniform k (Each x) y h open_ older wider = absurd (h.one some.some refl)
   written_sim Uniform k (One c) y h open_ older wider = record {
     go = λ s σ st sa ends.
-      record {
-        s = written Uniform k a (One c) s;
-        after = λ p. record (σ p) { uniforms = put_if (a p) (σ p).uniforms k (y p) };
-        is = refl;
-        alone = λ p. alone_if (a p) (σ p) (y p);
-        quiet = λ n i. put_there s.uniforms k n c (other n i);
-        own_quiet = λ p n i. put_if_there (a p) (σ p).uniforms k n (y p) (other n i);
-        same = λ p n i j. both (σ p).uniforms s.uniforms p n i (λ d. sa p n i (older n j d)) (cases_eq n k);
-        stands = record {
-          varying_is = st.varying_is;
-          own_is = st.own_is;
-          result_is = st.result_is;
-          stored = st.stored;
-          unstored = st.unstored;
-          within = λ p lt. record { read = (st.within p lt).read; wrote = (st.within p lt).wrote };
-          silent = st.silent;
+        record {
+          s = written Uniform k a (One c) s;
+          after = λ p. record (σ p) { uniforms = put_if (a p) (σ p).uniforms k (y p) };
+          is = refl;
+          alone = λ p. alone_if (a p) (σ p) (y p);
+          quiet = λ n i. put_there s.uniforms k n c (other n i);
+          own_quiet = λ p n i. put_if_there (a p) (σ p).uniforms k n (y p) (other n i);
+          same = λ p n i j. both (σ p).uniforms s.uniforms p n i (λ d. sa p n i (older n j d)) (cases_eq n k);
+          stands = record {
+            varying_is = st.varying_is;
+            own_is = st.own_is;
+            result_is = st.result_is;
+            stored = st.stored;
+            unstored = st.unstored;
+            within = λ p lt. record { read = (st.within p lt).read; wrote = (st.within p lt).wrote };
+            silent = st.silent;
+          };
         };
-      };
   } where
     alone_if : (t : Bool) (s : Alone) (x : ℕ) → AnswersAlone {A = Done} t (Has tt (own_written Uniform k x s)) s tt (record s { uniforms = put_if t s.uniforms k x })
     alone_if true s x = refl
