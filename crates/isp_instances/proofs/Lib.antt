@@ -1,0 +1,17 @@
+pub mod Grow
+pub mod Grows
+pub mod Lanes
+pub mod Sims
+pub mod Held
+pub mod Parts
+pub mod Fair
+pub mod Asked
+pub mod Listed
+pub mod Expressions
+pub mod Loops
+pub mod Sequences
+pub mod Branches
+pub mod Stmts
+pub mod Sampled
+pub mod Writes
+pub mod Whole

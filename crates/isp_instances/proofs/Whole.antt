@@ -1,0 +1,37 @@
+-- The laws, put together.
+use Rattle.isp_independence.specs.Independent.{IsCalled}
+use Rattle.isp_meaning.specs.Loops.{turns}
+use Rattle.isp_alone.specs.Calls.{own_calls}
+use Rattle.isp_instances.specs.Laws.{TouchedStays, ExpressionsAgree, LoopsAgree, StatementsAgree}
+use Rattle.isp_instances.proofs.Grows.{answer_up, does_up, own_calls_up}
+use Rattle.isp_instances.proofs.Asked.{asked_fair}
+use Rattle.isp_instances.proofs.Expressions.{value_sim}
+use Rattle.isp_instances.proofs.Sequences.{then_sim}
+use Rattle.isp_instances.proofs.Branches.{varying_sides}
+use Rattle.isp_instances.proofs.Stmts.{uniform_sides}
+use Rattle.isp_instances.proofs.Loops.{turns_sim, tested_sim}
+use Rattle.isp_base.specs.Types.{gang_width}
+
+pub touched_stays : TouchedStays
+touched_stays = record {
+  expression = λ program most left m p frame x s. (answer_up m p frame (own_calls program most m p left) (λ f place xs caller. own_calls_up m p program most left f place xs caller) x).more s;
+  statement = λ program most left m p frame x s. (does_up m p frame (own_calls program most m p left) (λ f place xs caller. own_calls_up m p program most left f place xs caller) (gang_width program.gang) most x).more s;
+}
+
+pub expressions_agree : ExpressionsAgree
+expressions_agree program entry w calls own vars v x a touch agree opens asked some =
+    value_sim w touch program.functions (IsCalled program.functions entry) calls own agree v x (asked_fair w.frame program.functions (IsCalled program.functions entry) vars opens v x asked) a some
+
+pub loops_agree : LoopsAgree
+loops_agree = record {
+  turn = λ w l all n. turns_sim w l all n;
+  test = λ w l all n. tested_sim w l all (turns w.gang l.test l.body l.step all n) _ (turns_sim w l all n);
+}
+
+pub statements_agree : StatementsAgree
+statements_agree = record {
+  sequence = λ w here v v1 x y a f own next own_next some wider together first up second. then_sim w here v v1 x y a some wider together f own first next own_next up second;
+  varying_if = λ w here closed v v1 v2 x y a first second own own2 r m test some shut closed_in sim sim2 h.
+      record { go = λ s σ st sa top ends. varying_sides w here closed v v1 v2 x y a some shut closed_in first second own own2 sim sim2 r m test h s σ st sa ends };
+  uniform_if = λ w here v v1 v2 x y a first second own own2 c test some wider wider2 sim sim2 h. uniform_sides w here v a v1 v2 x y (first a) (second a) own own2 some wider wider2 sim sim2 c test h;
+}

@@ -1,0 +1,79 @@
+-- Laws on the way to the one of whole runs (Correct.antt).
+use Rattle.isp_base.specs.declared.types.Rate.{Rate}
+use Rattle.isp_base.specs.declared.types.Rate.TheVariants.{Uniform}
+use Rattle.isp_meaning.specs.Payloads.{Payload, One, is_true}
+use Rattle.isp_meaning.specs.Outcomes.{Res, then_run, unless_empty}
+use Rattle.isp_meaning.specs.Statements.{branches}
+use Rattle.isp_instances.specs.Statements.{Ways, ways_of, parted_ways, Here, StmtSim}
+use Rattle.std.specs.Prelude.{◌≡◌, Bool, true, false, ℕ, List}
+use Rattle.isp_base.specs.Sets.{Mask}
+use Rattle.isp_base.specs.Types.{gang_width}
+use Rattle.isp_typed.specs.Scoped.{Scope}
+use Rattle.isp_typed.specs.Typed.{TExpr, TStmt, Program, rate_of}
+use Rattle.isp_typed.specs.declared.variable.Variable.{Variable}
+use Rattle.isp_independence.specs.Independent.{IsCalled}
+use Rattle.isp_meaning.specs.State.{State, Frame}
+use Rattle.isp_meaning.specs.Expressions.{Calls, value}
+use Rattle.isp_meaning.specs.Loops.{turns, tested}
+use Rattle.isp_alone.specs.Alone.{Alone}
+use Rattle.isp_alone.specs.Answers.{reached, End, choose, then_on}
+use Rattle.isp_alone.specs.Values.{OwnCalls, answer}
+use Rattle.isp_alone.specs.Loops.{turns as own_turns, tested as own_tested}
+use Rattle.isp_alone.specs.Does.{does}
+use Rattle.isp_alone.specs.Calls.{own_calls}
+use Rattle.isp_instances.specs.Stands.{World, Within, TouchNothing, AreSome, left_at, Up}
+use Rattle.isp_instances.specs.Values.{Sim, Stand, CallsAgree}
+use Rattle.isp_instances.specs.Asked.{OpenArrays, AskedOf}
+use Rattle.isp_instances.specs.Loops.{LoopParts, LoopSim}
+
+-- what an instance alone has read stays read, and where it has stored it has stored, whatever it does next
+pub record TouchedStays : Type 0 where
+  pub expression : (program : Program) (most left : ℕ) (m : ℕ → ℕ → ℕ) (p : ℕ) (frame : Frame) (x : TExpr) (s : Alone) → Within (reached (answer m p frame (own_calls program most m p left) x s)) s
+  pub statement : (program : Program) (most left : ℕ) (m : ℕ → ℕ → ℕ) (p : ℕ) (frame : Frame) (x : TStmt) (s : Alone)
+      → Within (left_at (does (gang_width program.gang) m p frame (own_calls program most m p left) most x s)) s
+
+-- An expression over a set gives each member what its run alone answers, where the calls from this entry do.
+abbrev pub ExpressionsAgree : Type 0
+ExpressionsAgree =
+    (program : Program) (entry : ℕ) (w : World) (calls : Calls) (own : ℕ → OwnCalls) (vars : List Variable) (v : Scope) (x : TExpr) (a : Mask)
+    → TouchNothing w.gang w.last
+    → CallsAgree w program.functions (IsCalled program.functions entry) calls own
+    → OpenArrays w.frame vars
+    → AskedOf program.functions vars v (IsCalled program.functions entry) x
+    → AreSome w.gang a
+    → Sim w v a (Stand w.gang a (rate_of x)) (value w.gang w.frame calls x a) (λ p. answer w.begin p w.frame (own p) x)
+
+-- A loop over a set is ended by each member as it ends it alone, where test, body and step are such: n turns, and the test
+-- before the first.
+pub record LoopsAgree : Type 0 where
+  pub turn : (w : World) (l : LoopParts w) (all : Mask) (n : ℕ) → LoopSim w l all (turns w.gang l.test l.body l.step all n) (λ p. own_turns (l.own_test p) (l.own_body p) (l.own_step p) n)
+  pub test : (w : World) (l : LoopParts w) (all : Mask) (n : ℕ)
+      → LoopSim w l all (tested w.gang l.test l.body l.step all (turns w.gang l.test l.body l.step all n)) (λ p. own_tested (l.own_test p) (l.own_body p) (l.own_step p) (own_turns (l.own_test p) (l.own_body p) (l.own_step p) n))
+
+-- Statements put together of such as do in each member what they do there alone: one after the other, and branches of a test
+-- that stands for what the members have. Where only some take a branch nobody assigns what is known outside.
+pub record StatementsAgree : Type 0 where
+  pub sequence : (w : World) (here : Here) (v v1 : Scope) (x y : Ways) (a : Mask) (f : State → Res) (own : ℕ → Alone → End) (next : Mask → State → Res) (own_next : ℕ → Alone → End)
+      → AreSome w.gang a
+      → ((k : ℕ) → v k ≡ true → v1 k ≡ true)
+      → (here.top ≡ true → (x.some_break ≡ false) × (x.some_continue ≡ false) × (here.joint ≡ true))
+      → StmtSim w here v v1 x a f own
+      → ((p : ℕ) → Up left_at (own_next p))
+      → ((k : Mask) → AreSome w.gang k → StmtSim w here v1 v1 y k (next k) own_next)
+      → StmtSim w here v v (ways_of x y) a (λ s. then_run (f s) (λ g s1. unless_empty w.gang g s1 next)) (λ p s. then_on (own p s) (own_next p))
+  pub varying_if : (w : World) (here : Here) (closed : ℕ → Bool) (v v1 v2 : Scope) (x y : Ways) (a : Mask) (first second : Mask → State → Res) (own own2 : ℕ → Alone → End) (r : Rate) (m : Payload) (test : ℕ → ℕ)
+      → AreSome w.gang a
+      → ((k : ℕ) → v k ≡ true → closed k ≡ true)
+      → ((k : ℕ) → here.closed k ≡ true → closed k ≡ true)
+      → ((k : Mask) → AreSome w.gang k → StmtSim w (record { closed = closed; joint = here.joint; top = false }) v v1 x k (first k) own)
+      → ((k : Mask) → AreSome w.gang k → StmtSim w (record { closed = closed; joint = here.joint; top = false }) v v2 y k (second k) own2)
+      → Stand w.gang a r m test
+      → StmtSim w here v v (parted_ways x y) a (branches w.gang a first second m) (λ p s. choose (is_true (test p)) (own p) (own2 p) s)
+  pub uniform_if : (w : World) (here : Here) (v v1 v2 : Scope) (x y : Ways) (a : Mask) (first second : Mask → State → Res) (own own2 : ℕ → Alone → End) (c : ℕ) (test : ℕ → ℕ)
+      → AreSome w.gang a
+      → ((k : ℕ) → v k ≡ true → v1 k ≡ true)
+      → ((k : ℕ) → v k ≡ true → v2 k ≡ true)
+      → StmtSim w here v v1 x a (first a) own
+      → StmtSim w here v v2 y a (second a) own2
+      → Stand w.gang a Uniform (One c) test
+      → StmtSim w here v v (ways_of x y) a (branches w.gang a first second (One c)) (λ p s. choose (is_true (test p)) (own p) (own2 p) s)

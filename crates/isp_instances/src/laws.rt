@@ -1,0 +1,32 @@
+//! Laws of the gang and its instances. No code is run here: each function carries a law in its contract.
+ghost use Rattle.isp_instances.specs.Laws.{ExpressionsAgree, LoopsAgree, StatementsAgree, TouchedStays};
+ghost use Rattle.isp_instances.specs.Samples.{AgreementOfSamples};
+
+/// What an instance alone has read stays read, and where it has stored it has stored, whatever it does next: so a part of a run
+/// touches no more than the whole.
+pub fn touched_stays()
+    ensures { TouchedStays }
+{}
+
+/// An expression over a set gives each member what its run alone answers, from every state that stands for what the instances
+/// have, if each member's run alone ends. Where its type is uniform there is one value for the gang. What the members read in
+/// shared arrays no other instance stores, and calls do in each member what they do there alone.
+pub fn expressions_agree()
+    ensures { ExpressionsAgree }
+{}
+
+/// A loop over a set is ended by each member as it ends it alone, if its test, its body and its step are such. Where instances
+/// do not part in the loop, those that go on behind it have the gang's uniform variables.
+pub fn loops_agree()
+    ensures { LoopsAgree }
+{}
+
+/// The premises of `expressions_agree` are met by `a[programIndex]`, and the gang has there what each instance has alone.
+pub fn agreement_of_samples()
+    ensures { AgreementOfSamples }
+{}
+
+/// Statements one after the other, and the branches of an `if`, do in each member what they do there alone, if their parts do.
+pub fn statements_agree()
+    ensures { StatementsAgree }
+{}

@@ -1,0 +1,8 @@
+//! The gang and its instances one by one: that the gang does in each instance what the instance does alone.
+#![tactic(auto)]
+
+mod laws;
+
+pub use laws::{
+    agreement_of_samples, expressions_agree, loops_agree, statements_agree, touched_stays,
+};
