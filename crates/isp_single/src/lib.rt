@@ -1,0 +1,4 @@
+//! The run of a function by one instance alone.
+#![tactic(auto)]
+
+pub mod arrays;
