@@ -65,8 +65,8 @@ impl Shared {
         }
     }
 
-    // What was stored in an element.
-    fn stored_at(&self, place: usize) -> Option<u64>
+    /// What was stored in an element.
+    pub fn stored_at(&self, place: usize) -> Option<u64>
         ensures { result ≡ wrote_in self.now place }
     {
         if is_marked(self.stored.as_slice(), place) {
@@ -76,6 +76,13 @@ impl Shared {
         } else {
             None
         }
+    }
+
+    /// Whether an element was read.
+    pub fn read_at(&self, place: usize) -> bool
+        ensures { result ≡ read_in self.now place }
+    {
+        is_marked(self.read.as_slice(), place)
     }
 
     // An element was read.

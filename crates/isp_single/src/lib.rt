@@ -2,3 +2,4 @@
 #![tactic(auto)]
 
 pub mod arrays;
+pub mod touches;
