@@ -1,4 +1,4 @@
-use Rattle.std.proofs.Common.{ap, length, ◌∙◌, arith, None, false}
+use Rattle.std.proofs.Common.{ap, length, ◌∙◌, None, false}
 use Rattle.isp_gang.proofs.Vectors.{padded_all, longer}
 use Rattle.isp_single.specs.Arrays.{wrote_in, read_in, wrote_seen, read_seen}
 use Rattle.isp_single.proofs.arrays.Arrays.reach.Goals as goal
