@@ -18,6 +18,7 @@ mod Writes
 mod Done
 mod Targets
 mod GivenBack
+mod Packed
 mod Nodes
 mod Jumps
 mod Logic

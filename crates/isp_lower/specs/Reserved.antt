@@ -10,8 +10,8 @@ use Rattle.isp_typed.specs.Typed.{TExpr, ty_of, type_of}
 use Rattle.isp_typed.specs.declared.variable.ArrayVariable.{ArrayVariable}
 use Rattle.isp_typed.specs.declared.variable.Holds.TheVariants as holds
 use Rattle.isp_typed.specs.declared.variable.Variable as declared
-use Rattle.isp_lower.specs.Asks.{Ask, Nothing, Both, Register, ArrayOf, LocalOf, MaskOf, Number, All, expr_asks, operand_asks, operands_asks, sides_ask, spare_ask, test_asks, first_slot, second_slot}
-use Rattle.isp_lower.specs.Emitted.{Grows, HasArray, HasRow}
+use Rattle.isp_lower.specs.Asks.{Ask, Nothing, Both, Register, ArrayOf, LocalOf, MaskOf, Number, Loads, All, expr_asks, operand_asks, operands_asks, sides_ask, spare_ask, test_asks, first_slot, second_slot}
+use Rattle.isp_lower.specs.Emitted.{Grows, HasArray, HasLoaded, HasRow}
 use Rattle.isp_lower.specs.Rows as row
 use Rattle.isp_lower.specs.Rows.{Name, Variable, Result, Spare, Fresh, Rows, elem_in}
 use Rattle.isp_lower.specs.Tables.{AnyArray}
@@ -19,7 +19,7 @@ use Rattle.isp_lower.specs.declared.registers.Registers.{Registers}
 use Rattle.isp_lower.specs.declared.reserve.Reserve.{Reserve}
 
 abbrev pub Has : Reserve → Ask → Type 0
-Has r a = All (HasRow r.registers) (HasArray r.registers) (HasArray r.registers) (λ k. k < r.masks) a
+Has r a = All (HasRow r.registers) (HasArray r.registers) (HasArray r.registers) (λ k. k < r.masks) (HasLoaded r.registers) a
 
 -- a register is there if it is a spare one
 abbrev pub HasSpare : Registers → Rate → Name → Elem → Type 0
@@ -29,7 +29,7 @@ HasSpare r rate (Spare u j) t = HasRow r rate (Spare u j) t
 HasSpare r rate (Fresh j) t = HasRow r rate (Fresh j) t
 
 abbrev pub IsReserved : Reserve → Ask → Type 0
-IsReserved r a = All (HasSpare r.registers) AnyArray AnyArray (λ k. k < r.masks) a
+IsReserved r a = All (HasSpare r.registers) AnyArray AnyArray (λ k. k < r.masks) (HasLoaded r.registers) a
 
 pub record Gives (old new : Reserve) (a : Ask) : Type 0 where
   pub rows : Grows old.registers new.registers
@@ -68,6 +68,7 @@ module _ (vars : List declared.Variable) (answer : Option Ty) where
   IsOwn (LocalOf b) = HoldsLocal vars b
   IsOwn (MaskOf k) = Unit {0}
   IsOwn (Number k) = Unit {0}
+  IsOwn (Loads v) = Unit {0}
 
 -- ---- a function at work has the registers of its own that are asked for
 
@@ -86,3 +87,4 @@ module _ (rows : Rows) where
   HasOwn (LocalOf b) = elem_in rows.arrays (Variable b.number) ≡ Some b.ty.elem
   HasOwn (MaskOf k) = Unit {0}
   HasOwn (Number k) = Unit {0}
+  HasOwn (Loads v) = Unit {0}

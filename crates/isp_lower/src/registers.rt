@@ -27,12 +27,14 @@ pub struct RegisterRow {
     pub elem: Elem,
 }
 
-/// The registers that a function has so far, by class: the number of one is that of the first row of its name.
+/// The registers that a function has so far, by class: the number of one is that of the first row of its name. The variables that
+/// packed loads write are rows too, which are no registers.
 #[derive(Drop)]
 pub struct Registers {
     pub scalars: RegisterRows,
     pub vectors: RegisterRows,
     pub arrays: RegisterRows,
+    pub loaded: RegisterRows,
 }
 
 /// Whether a name has a register of a type. Memory is refused where it has none.
