@@ -67,7 +67,7 @@ use Rattle.isp_lower.proofs.InRow.{AllHold, EachFrom, HoldFrom, IsAway, TypedFro
 use Rattle.isp_lower.proofs.Kept.{Low, Keeps, low_spare, runs_kept, kept_of, held_kept, arguments_still, value_still, values_still}
 use Rattle.isp_lower.proofs.LibraryLines.{Makes, library_makes}
 use Rattle.isp_lower.proofs.LibraryTypes.{part_elems}
-use Rattle.isp_lower.proofs.Packed.{first_is, load_leaves, store_leaves}
+use Rattle.isp_lower.proofs.PackedRuns.{first_is, load_leaves, store_leaves}
 use Rattle.isp_lower.proofs.Parts.{ExprParts, BaseParts, OperandFits, ValuesParts, CallParts, ArgumentsParts, ArgumentParts, SpareFits}
 use Rattle.isp_lower.specs.Asks.{first_slot, second_slot}
 use Rattle.isp_lower.specs.Rated.{Reaches}

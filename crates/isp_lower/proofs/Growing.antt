@@ -93,6 +93,10 @@ both_given a b c x y g h =
       has = (has_grows b c h.rows h.masks x g.has, h.has);
     }
 
+-- a variable has its register from the beginning
+pub variable_given : (a b : Reserve) (r : Rate) (v : ℕ) (t : Elem) (x : Ask) → Gives a b x → Gives a b (Both (Register r (Variable v) t) x)
+variable_given a b r v t x g = record { rows = g.rows; masks = g.masks; has = (tt, g.has) }
+
 pub then_given : (a b c : Reserve) (x y : Ask) → Gives a b x → Gives b c y → Gives a c y
 then_given a b c x y g h =
     record {

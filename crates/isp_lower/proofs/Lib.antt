@@ -18,7 +18,7 @@ mod Writes
 mod Done
 mod Targets
 mod GivenBack
-mod Packed
+mod PackedRuns
 mod Nodes
 mod Jumps
 mod Logic

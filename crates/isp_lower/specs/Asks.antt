@@ -134,8 +134,11 @@ abbrev mutual
 
   -- an array from its first element or from an index on, which is taken at slot n as one of int64
   pub base_asks : TBase → ℕ → Ask
-  base_asks (t_whole b sp) n = Both (ArrayOf b) (spare_ask Uniform I64 n)
-  base_asks (t_from b i sp) n = Both (ArrayOf b) (index_asks Uniform i n (expr_asks i n))
+  base_asks b n = Both (ArrayOf (base_array b)) (first_asks b n)
+
+  pub first_asks : TBase → ℕ → Ask
+  first_asks (t_whole b sp) n = spare_ask Uniform I64 n
+  first_asks (t_from b i sp) n = index_asks Uniform i n (expr_asks i n)
 
   -- value j at slot n + j, at the next of these rates
   pub values_asks : List Rate → TExprs → ℕ → Ask

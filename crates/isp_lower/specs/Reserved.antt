@@ -1,16 +1,17 @@
 -- What a walk reserves: what was there stays, and what is asked for is there. The variables of a function and what it gives
 -- back have their registers from its beginning, so of these nothing is reserved.
-use Rattle.std.specs.Prelude.{◌≡◌, ◌<◌, ◌≤◌, ℕ, List, Option, Some, slice_get}
+use Rattle.std.specs.Prelude.{◌≡◌, ◌<◌, ◌≤◌, ◌+◌, ℕ, List, Option, Some, slice_get}
 use Rattle.isp_base.specs.declared.types.Elem.{Elem}
-use Rattle.isp_base.specs.declared.types.Elem.TheVariants.{Bool as Truth}
+use Rattle.isp_base.specs.declared.types.Elem.TheVariants.{Bool as Truth, I32}
 use Rattle.isp_base.specs.declared.types.Rate.{Rate}
+use Rattle.isp_base.specs.declared.types.Rate.TheVariants.{Uniform, Varying}
 use Rattle.isp_base.specs.declared.types.Ty.{Ty}
 use Rattle.isp_typed.specs.Fine.{HoldsArray, HoldsValue}
-use Rattle.isp_typed.specs.Typed.{TExpr, ty_of, type_of}
+use Rattle.isp_typed.specs.Typed.{TBase, TExpr, base_array, ty_of, type_of}
 use Rattle.isp_typed.specs.declared.variable.ArrayVariable.{ArrayVariable}
 use Rattle.isp_typed.specs.declared.variable.Holds.TheVariants as holds
 use Rattle.isp_typed.specs.declared.variable.Variable as declared
-use Rattle.isp_lower.specs.Asks.{Ask, Nothing, Both, Register, ArrayOf, LocalOf, MaskOf, Number, Loads, All, expr_asks, operand_asks, operands_asks, sides_ask, spare_ask, test_asks, first_slot, second_slot}
+use Rattle.isp_lower.specs.Asks.{Ask, Nothing, Both, Register, ArrayOf, LocalOf, MaskOf, Number, Loads, All, base_asks, expr_asks, operand_asks, operands_asks, sides_ask, spare_ask, test_asks, first_slot, second_slot}
 use Rattle.isp_lower.specs.Emitted.{Grows, HasArray, HasLoaded, HasRow}
 use Rattle.isp_lower.specs.Rows as row
 use Rattle.isp_lower.specs.Rows.{Name, Variable, Result, Spare, Fresh, Rows, elem_in}
@@ -36,7 +37,7 @@ pub record Gives (old new : Reserve) (a : Ask) : Type 0 where
   pub masks : old.masks ≤ new.masks
   pub has : IsReserved new a
 
--- ---- what two walks ask for: of two bools, and of a choice
+-- ---- what single walks ask for: of two bools, of a choice, and of packed calls
 
 abbrev pub logic_asks : Rate → TExpr → TExpr → ℕ → Ask
 logic_asks r x y n = Both (spare_ask r Truth n) (Both (test_asks r n) (operands_asks r x y n))
@@ -46,6 +47,12 @@ choice_asks t c x y n =
     let i = first_slot (type_of c).rate n in
     let j = second_slot (type_of c).rate n in
     Both (spare_ask t.rate t.elem n) (Both (expr_asks c n) (Both (operand_asks t.rate x i) (Both (operand_asks t.rate y j) (sides_ask (type_of c).rate n))))
+
+abbrev pub packed_store_asks : TBase → TExpr → ℕ → Ask
+packed_store_asks b x n = Both (spare_ask Uniform I32 n) (Both (base_asks b n) (Both (Number (n + 1)) (operand_asks Varying x (n + 1))))
+
+abbrev pub packed_load_asks : TBase → ℕ → ℕ → Ask
+packed_load_asks b v n = Both (spare_ask Uniform I32 n) (Both (base_asks b n) (Both (Register Varying (Variable v) (base_array b).ty.elem) (Loads v)))
 
 -- ---- what is asked for is the function's own: its variables, and what it gives back
 

@@ -1,15 +1,15 @@
 -- The recursion goes down the tree.
 use Rattle.std.proofs.Common.{◌≡◌, ◌+◌, ◌-◌, ◌*◌, ◌++◌, drop}
-use Rattle.isp_typed.specs.Nodes.{typed_nodes, place_nodes, call_nodes, argument_nodes, arguments_nodes, exprs_nodes}
+use Rattle.isp_typed.specs.Nodes.{typed_nodes, place_nodes, base_nodes, call_nodes, argument_nodes, arguments_nodes, exprs_nodes}
 use Rattle.isp_typed.specs.Typed.{t_arguments, t_exprs}
-use Rattle.isp_typed.specs.Views.{argument_of, arguments_of, call_of, expr_of, exprs_of, place_of}
+use Rattle.isp_typed.specs.Views.{argument_of, arguments_of, base_of, call_of, expr_of, exprs_of, place_of}
 use Rattle.isp_lower.specs.Asks.{arguments_asks, values_asks}
 use Rattle.isp_lower.specs.Code.{argument_registers, arguments_code, arguments_places, value_registers, values_code, values_places}
 use Rattle.isp_lower.specs.Emitted.{Appends, Present, layout}
 use Rattle.isp_lower.specs.Library.{library_rates}
 use Rattle.isp_lower.specs.Written.{numbers}
 use Rattle.isp_lower.specs.declared.types.Body.{Body}
-use Rattle.isp_lower.proofs.expression.+expr.Given as goal
+use Rattle.isp_lower.proofs.+expr.Given as goal
 
 abbrev pub decreases-write_to : goal.decreases-write_to
 decreases-write_to l = 8 * typed_nodes (expr_of l.x.now) + 1
@@ -121,3 +121,12 @@ invariant-values-loop-place l =
     ((h : Body) → Appends l.b h (λ pc p. values_code (layout l.on) (drop l.place (library_rates l.function l.rate)) (t_exprs (exprs_of (drop l.place l.all))) pc p l.site.mask.number l.slot.number) (values_places (layout l.on) (t_exprs (exprs_of (drop l.place l.all)))) → Appends l.initial.b h (λ pc p. values_code (layout l.on) (library_rates l.function l.rate) (t_exprs (exprs_of l.all)) pc p l.site.mask.number l.site.slot.number) (values_places (layout l.on) (t_exprs (exprs_of l.all))))
     × Present l.on (values_asks (drop l.place (library_rates l.function l.rate)) (t_exprs (exprs_of (drop l.place l.all))) l.slot.number)
     × (numbers l.registers.items ++ value_registers (layout l.on) (drop l.place (library_rates l.function l.rate)) (t_exprs (exprs_of (drop l.place l.all))) l.slot.number ≡ value_registers (layout l.on) (library_rates l.function l.rate) (t_exprs (exprs_of l.all)) l.site.slot.number)
+
+abbrev pub decreases-base : goal.decreases-base
+decreases-base l = 8 * base_nodes (base_of l.base.now) - 1
+
+abbrev pub decreases-packed_store_to : goal.decreases-packed_store_to
+decreases-packed_store_to l = 8 * (base_nodes (base_of l.into.now) + typed_nodes (expr_of l.x.now)) + 7
+
+abbrev pub decreases-packed_load_to : goal.decreases-packed_load_to
+decreases-packed_load_to l = 8 * base_nodes (base_of l.from.now) + 7

@@ -20,7 +20,7 @@ use Rattle.isp_lower.proofs.Arguments.{argument_within, arguments_more, argument
 use Rattle.isp_lower.proofs.LibraryValues as row
 use Rattle.isp_lower.proofs.LibraryValues.{value_within, values_more}
 use Rattle.isp_lower.proofs.Landing.{chosen, landed, short_chosen, long_chosen}
-use Rattle.isp_lower.proofs.expression.+expr.Goals as goal
+use Rattle.isp_lower.proofs.+expr.Goals as goal
 
 pub right_side-returns : goal.right_side-returns
 right_side-returns t c =
@@ -53,7 +53,7 @@ choose_by_jump-returns t c =
 
 pub choose_to-choose_short-requires : goal.choose_to-choose_short-requires
 choose_to-choose_short-requires t c =
-    let short : is_short (layout c.args.on.now) c.args.target.ty.rate (expr_of c.args.test.now) (expr_of c.args.then.now) (expr_of c.args.otherwise.now) ≡ true = sym (c.is_short.ensures (layout c.args.on.now)) ∙ c.if-is_short.true in
+    let short : is_short (layout c.args.on.now) c.args.target.ty.rate (expr_of c.args.test.now) (expr_of c.args.then.now) (expr_of c.args.otherwise.now) ≡ true = sym (c.is_short.ensures) ∙ c.if-is_short.true in
     search (rules, short)
 
 pub choose_to-returns-then-is_short : goal.choose_to-returns-then-is_short
@@ -64,7 +64,7 @@ choose_to-returns-then-is_short t c =
     let z = expr_of a.test.now in
     let x = expr_of a.then.now in
     let y = expr_of a.otherwise.now in
-    let short : is_short l to.ty.rate z x y ≡ true = sym (c.is_short.ensures l) ∙ c.if-is_short.true in
+    let short : is_short l to.ty.rate z x y ≡ true = sym (c.is_short.ensures) ∙ c.if-is_short.true in
     short_chosen a.b.now c.choose_short.new.b l to.to.number z x y to.ty to.site.mask.number to.site.slot.number short c.in_ok-choose_short.ensures to.span
 
 pub choose_to-returns-in_ok-choose_one-in-Uniform : goal.choose_to-returns-in_ok-choose_one-in-Uniform
@@ -75,7 +75,7 @@ choose_to-returns-in_ok-choose_one-in-Uniform t c =
     let z = expr_of a.test.now in
     let x = expr_of a.then.now in
     let y = expr_of a.otherwise.now in
-    let long : is_short l to.ty.rate z x y ≡ false = sym (c.is_short.ensures l) ∙ c.if-is_short.false in
+    let long : is_short l to.ty.rate z x y ≡ false = sym (c.is_short.ensures) ∙ c.if-is_short.false in
     long_chosen a.b.now c.choose_one.new.b l Uniform to.to.number z x y to.ty to.site.mask.number to.site.slot.number long (sym c.in-Uniform.is ∙ ap (λ (t : Ty). t.rate) c.ty.ensures) c.in_ok-choose_one-in-Uniform.ensures to.span
 
 pub choose_to-returns-in_ok-choose_each-in-Varying : goal.choose_to-returns-in_ok-choose_each-in-Varying
@@ -86,7 +86,7 @@ choose_to-returns-in_ok-choose_each-in-Varying t c =
     let z = expr_of a.test.now in
     let x = expr_of a.then.now in
     let y = expr_of a.otherwise.now in
-    let long : is_short l to.ty.rate z x y ≡ false = sym (c.is_short.ensures l) ∙ c.if-is_short.false in
+    let long : is_short l to.ty.rate z x y ≡ false = sym (c.is_short.ensures) ∙ c.if-is_short.false in
     long_chosen a.b.now c.choose_each.new.b l Varying to.to.number z x y to.ty to.site.mask.number to.site.slot.number long (sym c.in-Varying.is ∙ ap (λ (t : Ty). t.rate) c.ty.ensures) c.in_ok-choose_each-in-Varying.ensures to.span
 
 pub arguments-loop-place-preserved : goal.arguments-loop-place-preserved
