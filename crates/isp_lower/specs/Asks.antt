@@ -123,19 +123,17 @@ abbrev mutual
       Both (spare_ask t.rate t.elem n) (Both (expr_asks c n) (Both (taken t.rate x i (expr_asks x i)) (Both (taken t.rate y j (expr_asks y j)) (sides_ask (type_of c).rate n))))
   expr_asks (t_call c t) n = Both (spare_ask t.rate t.elem n) (call_asks c n)
   expr_asks (t_library f e xs t sp) n = Both (spare_ask t.rate t.elem n) (values_asks (library_rates f t.rate) xs n)
-  expr_asks (t_packed_store b x sp) n = Both (spare_ask Uniform I32 n) (Both (base_asks b n) (Both (Number (n + 1)) (taken Varying x (n + 1) (expr_asks x (n + 1)))))
+  expr_asks (t_packed_store b x sp) n =
+      Both (spare_ask Uniform I32 n) (Both (Both (ArrayOf (base_array b)) (first_asks b n)) (Both (Number (n + 1)) (taken Varying x (n + 1) (expr_asks x (n + 1)))))
   expr_asks (t_packed_load b v sp) n =
-      Both (spare_ask Uniform I32 n) (Both (base_asks b n) (Both (Register Varying (Variable v) (base_array b).ty.elem) (Loads v)))
+      Both (spare_ask Uniform I32 n) (Both (Both (ArrayOf (base_array b)) (first_asks b n)) (Both (Register Varying (Variable v) (base_array b).ty.elem) (Loads v)))
 
   -- a place whose index is taken at slot n
   pub target_asks : TPlace → ℕ → Ask
   target_asks (t_variable v t sp) n = Register t.rate (Variable v) t.elem
   target_asks (t_element b i t sp) n = Both (ArrayOf b) (index_asks t.rate i n (expr_asks i n))
 
-  -- an array from its first element or from an index on, which is taken at slot n as one of int64
-  pub base_asks : TBase → ℕ → Ask
-  base_asks b n = Both (ArrayOf (base_array b)) (first_asks b n)
-
+  -- the number of the first element, which is taken at slot n as one of int64
   pub first_asks : TBase → ℕ → Ask
   first_asks (t_whole b sp) n = spare_ask Uniform I64 n
   first_asks (t_from b i sp) n = index_asks Uniform i n (expr_asks i n)
@@ -158,6 +156,10 @@ abbrev mutual
   pub argument_asks : TArgument → ℕ → Ask
   argument_asks (t_by_value x) n = taken Varying x n (expr_asks x n)
   argument_asks (t_by_name b sp) n = ArrayOf b
+
+-- an array from its first element or from an index on
+abbrev pub base_asks : TBase → ℕ → Ask
+base_asks b n = Both (ArrayOf (base_array b)) (first_asks b n)
 
 abbrev pub operand_asks : Rate → TExpr → ℕ → Ask
 operand_asks r x n = taken r x n (expr_asks x n)
