@@ -29,7 +29,7 @@ use Rattle.isp_lower.proofs.Combine.{runs_after, bind_runs, runs_on, ok_less, ok
 use Rattle.isp_lower.proofs.Logic.{unless_some, unless_none, any_nobody, others_where, is_nobody, where_inside}
 use Rattle.isp_lower.proofs.Jumps.{jumped, jump_comes, jump_at, masked, where_comes, others_comes, masked_at, move_ok}
 use Rattle.isp_lower.proofs.Kept.{Low, low_more, Keeps, runs_kept, unless_still}
-use Rattle.isp_meaning.specs.Loads.{no_variable, KeepsBy}
+use Rattle.isp_meaning.specs.Loads.{KeepsBy}
 use Rattle.isp_lower.specs.Asks.{first_slot, second_slot}
 use Rattle.isp_lower.specs.Rated.{Reaches}
 
@@ -172,7 +172,7 @@ module _ (w : Setting) (ready : IsSettled w) where
           subst (λ u. Runs w c4 end n (1 + q) (Holds Varying T y) u) (sym (unless_none (gang_of w) T s vb e))
           (record { conf = c4; steps = 0; comes = comes_none w c4; at = at_to w c4 to end (jump_at w ready c pc jump.Off (mask_register j) to true at (off_is false e)) ends; stands = st; spares = spares_all w n c4; masks = λ i h. refl; holds = ap (λ t. Each (on t (c.vectors y))) (sym off); bound = omega arith })
 
-  pub choose_each : (t : Elem) (c : Conf) (pc k n q : ℕ) (a : Mask) (vt : Val Payload) (va vb : Mask → State → Val Payload) (f x y : ℕ) (ct : List Instr) (ca cb : ℕ → ℕ → ℕ → List Instr) → c.masks k ≡ a → k < n → ((p : ℕ) → a p ≡ true → p < gang_of w) → Low w.layout Varying (n + 1) f → Low w.layout Varying (n + 2) x → AreAt w.routine.code pc (two pc ct (λ p1. choose_rest (w.layout.spare Varying t n) f x y p1 k n ca cb)) → Runs w c (pc + length ct) n (5 + q) (Holds Varying a f) vt → ((T : Mask) (s : State) (c1 : Conf) (pc1 z : ℕ) → AreAt w.routine.code pc1 (ca pc1 n (n + 1)) → Enters w pc1 n (n + 1) T s c1 z → Runs w c1 (pc1 + length (ca pc1 n (n + 1))) (n + 1) z (Holds Varying T x) (va T s)) → ((T : Mask) (s : State) (c1 : Conf) (pc1 z : ℕ) → AreAt w.routine.code pc1 (cb pc1 (n + 1) (n + 2)) → Enters w pc1 (n + 1) (n + 2) T s c1 z → Runs w c1 (pc1 + length (cb pc1 (n + 1) (n + 2))) (n + 2) z (Holds Varying T y) (vb T s)) → ((T : Mask) (s : State) → KeepsBy no_variable s (va T s)) → ((T : Mask) (s : State) → KeepsBy no_variable s (vb T s)) → Runs w c (pc + length (two pc ct (λ p1. choose_rest (w.layout.spare Varying t n) f x y p1 k n ca cb))) n q (Holds Varying a (w.layout.spare Varying t n)) (bind vt (λ x s1. bind (value_unless_empty (gang_of w) (kept_by is_true a x) s1 va) (λ m s2. bind (value_unless_empty (gang_of w) (kept_by is_false a x) s2 vb) (λ z s3. Gives (selected a x m z) s3))))
+  pub choose_each : (t : Elem) (c : Conf) (pc k n q : ℕ) (a : Mask) (vt : Val Payload) (va vb : Mask → State → Val Payload) (f x y : ℕ) (ct : List Instr) (ca cb : ℕ → ℕ → ℕ → List Instr) → c.masks k ≡ a → k < n → ((p : ℕ) → a p ≡ true → p < gang_of w) → Low w.layout Varying (n + 1) f → Low w.layout Varying (n + 2) x → AreAt w.routine.code pc (two pc ct (λ p1. choose_rest (w.layout.spare Varying t n) f x y p1 k n ca cb)) → Runs w c (pc + length ct) n (5 + q) (Holds Varying a f) vt → ((T : Mask) (s : State) (c1 : Conf) (pc1 z : ℕ) → AreAt w.routine.code pc1 (ca pc1 n (n + 1)) → Enters w pc1 n (n + 1) T s c1 z → Runs w c1 (pc1 + length (ca pc1 n (n + 1))) (n + 1) z (Holds Varying T x) (va T s)) → ((T : Mask) (s : State) (c1 : Conf) (pc1 z : ℕ) → AreAt w.routine.code pc1 (cb pc1 (n + 1) (n + 2)) → Enters w pc1 (n + 1) (n + 2) T s c1 z → Runs w c1 (pc1 + length (cb pc1 (n + 1) (n + 2))) (n + 2) z (Holds Varying T y) (vb T s)) → ((T : Mask) (s : State) → KeepsBy w.layout.loaded s (va T s)) → ((T : Mask) (s : State) → KeepsBy w.layout.loaded s (vb T s)) → Runs w c (pc + length (two pc ct (λ p1. choose_rest (w.layout.spare Varying t n) f x y p1 k n ca cb))) n q (Holds Varying a (w.layout.spare Varying t n)) (bind vt (λ x s1. bind (value_unless_empty (gang_of w) (kept_by is_true a x) s1 va) (λ m s2. bind (value_unless_empty (gang_of w) (kept_by is_false a x) s2 vb) (λ z s3. Gives (selected a x m z) s3))))
   choose_each t c pc k n q a vt va vb f x y ct ca cb em lk inside low_f low_x has rt ra rb still_a still_b = bind_runs w ready c p1 n 5 q (Holds Varying a f) vt _ end n (Holds Varying a d) rt rest
     where
       d : ℕ
@@ -288,7 +288,7 @@ module _ (w : Setting) (ready : IsSettled w) where
                   write_runs w ready c4 c5 ok3.steps p3 end n q2 a s3 (select Varying d f x y k) Varying t None Divide no_place (selected a b m z) (Each (on a chosen)) ok3.comes ok3.at ends at3.0 ok3.stands (spares_less w n (n + 2) c4 c5 (omega arith) ok3.spares) (λ r h. ok3.masks r (omega arith)) (omega (arith, ok3.bound)) (selected_at a b m z (c5.vectors x) (c5.vectors y) v ok.holds hm hz ∙ sym (ap Each ec)) (λ old. ap Each (filled_on a chosen old)) (ap (λ g. Go (set_at Varying c5 d (Each (on g chosen)))) (ok3.masks k (omega arith) ∙ put_other c3.masks (n + 1) x4 k kn1 ∙ ek))
 
   -- a choice by a test of either rate; the sides are taken at the slots that this leaves
-  pub choose_runs : (g r : Rate) (t : Elem) (x y : TExpr) (c : Conf) (pc k n q : ℕ) (a : Mask) (vt : Val Payload) (va vb : Mask → State → Val Payload) (f : ℕ) (ct : List Instr) (ca cb : ℕ → ℕ → ℕ → List Instr) → Reaches g r → c.masks k ≡ a → k < n → any (gang_of w) a ≡ true → ((p : ℕ) → a p ≡ true → p < gang_of w) → Low w.layout g (n + 1) f → Low w.layout r (first_slot g n + 1) (operand w.layout r x (first_slot g n)) → AreAt w.routine.code pc (choose_code w.layout g r t x y f pc k n ct ca cb) → Runs w c (pc + length ct) n (5 + q) (Holds g a f) vt → ((T : Mask) (s : State) (c1 : Conf) (pc1 z u j : ℕ) → u ≤ 3 + z → AreAt w.routine.code pc1 (ca pc1 j (first_slot g n)) → Enters w pc1 j (first_slot g n) T s c1 z → Runs w c1 (pc1 + length (ca pc1 j (first_slot g n))) (first_slot g n) u (Holds r T (operand w.layout r x (first_slot g n))) (va T s)) → ((T : Mask) (s : State) (c1 : Conf) (pc1 z u j : ℕ) → u ≤ 3 + z → AreAt w.routine.code pc1 (cb pc1 j (second_slot g n)) → Enters w pc1 j (second_slot g n) T s c1 z → Runs w c1 (pc1 + length (cb pc1 j (second_slot g n))) (second_slot g n) u (Holds r T (operand w.layout r y (second_slot g n))) (vb T s)) → ((T : Mask) (s : State) → KeepsBy no_variable s (va T s)) → ((T : Mask) (s : State) → KeepsBy no_variable s (vb T s)) → Runs w c (pc + length (choose_code w.layout g r t x y f pc k n ct ca cb)) n q (Holds r a (w.layout.spare r t n)) (bind vt (λ x s1. bind (value_unless_empty (gang_of w) (kept_by is_true a x) s1 va) (λ m s2. bind (value_unless_empty (gang_of w) (kept_by is_false a x) s2 vb) (λ z s3. Gives (selected a x m z) s3))))
+  pub choose_runs : (g r : Rate) (t : Elem) (x y : TExpr) (c : Conf) (pc k n q : ℕ) (a : Mask) (vt : Val Payload) (va vb : Mask → State → Val Payload) (f : ℕ) (ct : List Instr) (ca cb : ℕ → ℕ → ℕ → List Instr) → Reaches g r → c.masks k ≡ a → k < n → any (gang_of w) a ≡ true → ((p : ℕ) → a p ≡ true → p < gang_of w) → Low w.layout g (n + 1) f → Low w.layout r (first_slot g n + 1) (operand w.layout r x (first_slot g n)) → AreAt w.routine.code pc (choose_code w.layout g r t x y f pc k n ct ca cb) → Runs w c (pc + length ct) n (5 + q) (Holds g a f) vt → ((T : Mask) (s : State) (c1 : Conf) (pc1 z u j : ℕ) → u ≤ 3 + z → AreAt w.routine.code pc1 (ca pc1 j (first_slot g n)) → Enters w pc1 j (first_slot g n) T s c1 z → Runs w c1 (pc1 + length (ca pc1 j (first_slot g n))) (first_slot g n) u (Holds r T (operand w.layout r x (first_slot g n))) (va T s)) → ((T : Mask) (s : State) (c1 : Conf) (pc1 z u j : ℕ) → u ≤ 3 + z → AreAt w.routine.code pc1 (cb pc1 j (second_slot g n)) → Enters w pc1 j (second_slot g n) T s c1 z → Runs w c1 (pc1 + length (cb pc1 j (second_slot g n))) (second_slot g n) u (Holds r T (operand w.layout r y (second_slot g n))) (vb T s)) → ((T : Mask) (s : State) → KeepsBy w.layout.loaded s (va T s)) → ((T : Mask) (s : State) → KeepsBy w.layout.loaded s (vb T s)) → Runs w c (pc + length (choose_code w.layout g r t x y f pc k n ct ca cb)) n q (Holds r a (w.layout.spare r t n)) (bind vt (λ x s1. bind (value_unless_empty (gang_of w) (kept_by is_true a x) s1 va) (λ m s2. bind (value_unless_empty (gang_of w) (kept_by is_false a x) s2 vb) (λ z s3. Gives (selected a x m z) s3))))
   choose_runs Uniform r t x y c pc k n q a vt va vb f ct ca cb re em lk some inside low_f low_x has rt ra rb still_a still_b =
       choose_one r (w.layout.spare r t n) c pc k n q a vt va vb f ct (λ pc2. ca pc2 k n ++ move_code r (w.layout.spare r t n) (operand w.layout r x n) k) (λ pc2. cb pc2 k n ++ move_code r (w.layout.spare r t n) (operand w.layout r y n) k) em lk some inside has (fewer vt rt) (λ s c1 pc1 z at en. side x (ca pc1 k n) (va a s) c1 pc1 z at en.mask en.low (ra a s c1 pc1 z (1 + z) k (omega arith) (are_front w.routine.code pc1 (ca pc1 k n) _ at) en)) (λ s c1 pc1 z at en. side y (cb pc1 k n) (vb a s) c1 pc1 z at en.mask en.low (rb a s c1 pc1 z (1 + z) k (omega arith) (are_front w.routine.code pc1 (cb pc1 k n) _ at) en))
     where

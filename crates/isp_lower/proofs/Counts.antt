@@ -1,5 +1,5 @@
 -- How many instructions small forms have.
-use Rattle.std.proofs.Common.{◌≡◌, ℕ, [], ◌∷◌, length, refl, sym}
+use Rattle.std.proofs.Common.{◌≡◌, ℕ, [], ◌∷◌, length, false, refl, sym}
 use Rattle.std.proofs.lemmas.Bool.{ne_eqb}
 use Rattle.isp_base.specs.declared.operators.BinOp.TheVariants.{Add, Mul}
 use Rattle.isp_base.specs.declared.operators.Compare.TheVariants.{Less}
@@ -16,8 +16,11 @@ use Rattle.isp_lower.specs.Layout.{Layout, IsApart}
 use Rattle.isp_lower.specs.Simple.{simple_code}
 use Rattle.isp_lower.specs.Items.{items_code}
 
--- variables v, y, z of each type, an array a and an index i of type int64, in a function with any registers
-module _ (l : Layout) (a : ArrayVariable) (v y z i : ℕ) (sp : Span) where
+-- variables v, y, z of each type, an array a and an index i of type int64, in a function with any registers and without packed loads
+module _ (any : Layout) (a : ArrayVariable) (v y z i : ℕ) (sp : Span) where
+  abbrev l : Layout
+  l = record any { loaded = λ x. false }
+
   abbrev at : Rate → Elem → ℕ → TPlace
   at r t x = t_variable x (ty_of r t) sp
 

@@ -1,9 +1,10 @@
 -- The code of an expression gives the expression's value.
-use Rattle.std.proofs.Common.{◌≡◌, ℕ, ◌+◌, ◌*◌, ◌<◌, ◌≤◌, ◌%◌, ◌^◌, List, [], ◌∷◌, ◌++◌, length, Option, Some, None, Bool, true, false, refl, sym, ap, ◌∙◌, subst, arith, length-append}
-use Rattle.std.specs.Prelude.{slice_get, ◌&&◌}
+use Rattle.std.proofs.Common.{◌≡◌, ℕ, ◌+◌, ◌*◌, ◌<◌, ◌≤◌, ◌%◌, ◌^◌, List, [], ◌∷◌, ◌++◌, length, Option, Some, None, Bool, true, false, refl, sym, ap, ◌∙◌, subst, arith, length-append, inl}
+use Rattle.std.specs.Prelude.{slice_get, ◌&&◌, ℤ, pos}
 use Rattle.isp_base.specs.Access.{is_zero, is_outside}
+use Rattle.isp_base.specs.Cross.{rank, packed_outside}
 use Rattle.isp_base.specs.Maps.{on}
-use Rattle.isp_base.specs.Sets.{Mask, any}
+use Rattle.isp_base.specs.Sets.{Mask, any, lowest}
 use Rattle.isp_base.specs.Unary.{unary_bits}
 use Rattle.isp_base.specs.Values.{width, number, wrap, op_bits, compare_bits}
 use Rattle.isp_base.specs.declared.operators.BinOp.{BinOp}
@@ -25,18 +26,19 @@ use Rattle.isp_code.specs.declared.instr.Call.{Call}
 use Rattle.isp_code.specs.declared.instr.Instr.{Instr}
 use Rattle.isp_code.specs.declared.register.Register.{Register}
 use Rattle.isp_meaning.specs.State.{State, tick, extent, extent_at}
-use Rattle.isp_meaning.specs.Payloads.{Payload, One, Each, mapped, joined, converted, offender}
+use Rattle.isp_meaning.specs.Payloads.{Payload, One, Each, sole, mapped, joined, converted, offender}
 use Rattle.isp_meaning.specs.Outcomes.{Val, Gives, Fails, Stops, bind, checked}
-use Rattle.isp_meaning.specs.Places.{Place, Variable, Element, variable, outside, held}
-use Rattle.isp_meaning.specs.Expressions.{Passed, Values, Store, value, values, arguments, passed}
-use Rattle.isp_meaning.specs.Loads.{no_variable, KeepsBy}
+use Rattle.isp_meaning.specs.Places.{Place, Variable, Element, variable, outside, held, written}
+use Rattle.isp_meaning.specs.Expressions.{Passed, Values, Store, value, values, first_element, arguments, passed}
+use Rattle.isp_meaning.specs.Expressions as meant
+use Rattle.isp_meaning.specs.Loads.{KeepsBy}
 use Rattle.isp_base.specs.declared.types.Ty.{Ty}
 use Rattle.isp_typed.specs.Fine.{heads, HoldsArray, params_of}
 use Rattle.isp_typed.specs.declared.variable.Holds.{Holds as Held}
 use Rattle.isp_typed.specs.declared.variable.Holds.TheVariants as holds
 use Rattle.isp_typed.specs.declared.variable.Variable.{Variable as Declared}
 use Rattle.isp_typed.specs.declared.variable.ArrayVariable.{ArrayVariable}
-use Rattle.isp_typed.specs.Typed.{TExpr, t_constant, t_program_index, t_place, t_convert, t_cast, t_unary, t_binary, t_compare, t_logic, t_choose, t_call, t_library, t_packed_store, t_packed_load, TPlace, t_variable, t_element, TArgument, t_by_value, t_by_name, t_called, TArguments, t_no_arguments, t_argument_then, TExprs, t_no_exprs, t_expr_then, TFunction, type_of}
+use Rattle.isp_typed.specs.Typed.{TExpr, t_constant, t_program_index, t_place, t_convert, t_cast, t_unary, t_binary, t_compare, t_logic, t_choose, t_call, t_library, t_packed_store, t_packed_load, TPlace, t_variable, t_element, TBase, t_whole, t_from, base_array, TArgument, t_by_value, t_by_name, t_called, TArguments, t_no_arguments, t_argument_then, TExprs, t_no_exprs, t_expr_then, TFunction, type_of}
 use Rattle.isp_meaning.specs.Library.{argument, library_value}
 use Rattle.isp_typed.specs.Fine.{rates_of as rate_of_all}
 use Rattle.isp_typed.specs.Library.{library_type, parts}
@@ -47,14 +49,14 @@ use Rattle.isp_lower.specs.Calls.{IsHanded, AreHanded, Takes, given_back, CallRu
 use Rattle.isp_lower.specs.Layout.{class_at, register, mask_register, array_register}
 use Rattle.isp_lower.specs.Setting.{ArrayFitsAt, ArrayFits, Setting, IsSettled, gang_of, calls_of, AreAt, At, Stands, at_rate, held_at, Holds, Spares}
 use Rattle.isp_lower.specs.Runs.{Comes, Enters, Runs}
-use Rattle.isp_lower.specs.Code.{convert, constant, constant_of, convert_to, part_to, lift_to, lifted, found, operand, operand_of, lift_code, is_whole, whole, whole_of, index, index_of, read, expr_places, expr_code, expr_to, values_code, values_places, value_registers, argument_places, arguments_places, argument_register, argument_registers, argument_code, arguments_code, calling, select, same_rate, stays, stays_at, is_short, choose_code, choose_to}
+use Rattle.isp_lower.specs.Code.{is_copied, variable_found, variable_read, copy, convert, constant, constant_of, convert_to, part_to, lift_to, lifted, found, operand, operand_of, lift_code, is_whole, whole, whole_of, index, index_of, read, packed_store, packed_load, base_register, base_places, base_code, expr_places, expr_code, expr_to, values_code, values_places, value_registers, argument_places, arguments_places, argument_register, argument_registers, argument_code, arguments_code, calling, select, same_rate, stays, stays_at, is_short, choose_code, choose_to}
 use Rattle.isp_lower.proofs.Base.{are_front, are_back, comes_none, comes_on, at_to, moved_by, spares_all, spares_less, spares_on}
-use Rattle.isp_lower.proofs.Rates.{Filled, held_same, at_mapped, at_offender, filled_on}
-use Rattle.isp_lower.proofs.Lines.{set_at, value_at, convert_line, unary_line, compare_line, operate_at, place_named}
+use Rattle.isp_lower.proofs.Rates.{Filled, held_same, at_mapped, at_offender, filled_on, filled_held}
+use Rattle.isp_lower.proofs.Lines.{set_at, value_at, copy_line, convert_line, unary_line, compare_line, operate_at, place_named}
 use Rattle.isp_lower.proofs.Access.{as_whole, found_items, filled_items, read_line, size_at, item_at, get_at, read_is, outside_is}
-use Rattle.isp_lower.proofs.Values.{wrap_bits, constant_is}
+use Rattle.isp_lower.proofs.Values.{IsFirst, wrap_bits, zero_first, constant_is}
 use Rattle.isp_lower.proofs.Combine.{runs_after, runs_on, set_comes, set_goes, set_masks, set_spares, set_stands, bind_runs, ok_less, renamed, told_as, lift_runs}
-use Rattle.isp_lower.proofs.Found.{few, constant_is_one, found_typed, found_low, operand_typed, operand_low}
+use Rattle.isp_lower.proofs.Found.{few, constant_is_one, found_typed, found_low, index_low, operand_typed, operand_low}
 use Rattle.isp_lower.proofs.Choose.{choose_front, choose_runs}
 use Rattle.isp_lower.proofs.Short.{same_rate-is, InPlace, stays_in_place, short_runs}
 use Rattle.isp_lower.proofs.Logic.{logic_one, logic_each}
@@ -62,10 +64,11 @@ use Rattle.isp_lower.proofs.Targets.{Target, InSlot, InVariable, target, Leaves,
 use Rattle.isp_lower.proofs.GivenBack.{GivesBackBy, call_gives, answer_held, answer_filled, given_is}
 use Rattle.isp_lower.proofs.Nodes.{enters_part, enters_later, leaf_runs, operand_runs, one_runs, pair_runs}
 use Rattle.isp_lower.proofs.InRow.{AllHold, EachFrom, HoldFrom, IsAway, TypedFrom, enough, hold_from, others_away, registers_count, typed_from}
-use Rattle.isp_lower.proofs.Kept.{Keeps, kept_of, held_kept, arguments_still, value_still, values_still}
+use Rattle.isp_lower.proofs.Kept.{Low, Keeps, low_spare, runs_kept, kept_of, held_kept, arguments_still, value_still, values_still}
 use Rattle.isp_lower.proofs.LibraryLines.{Makes, library_makes}
 use Rattle.isp_lower.proofs.LibraryTypes.{part_elems}
-use Rattle.isp_lower.proofs.Parts.{ExprParts, OperandFits, ValuesParts, CallParts, ArgumentsParts, ArgumentParts, SpareFits}
+use Rattle.isp_lower.proofs.PackedRuns.{first_is, load_leaves, store_leaves}
+use Rattle.isp_lower.proofs.Parts.{ExprParts, BaseParts, OperandFits, ValuesParts, CallParts, ArgumentsParts, ArgumentParts, SpareFits}
 use Rattle.isp_lower.specs.Asks.{first_slot, second_slot}
 use Rattle.isp_lower.specs.Rated.{Reaches}
 use Rattle.isp_lower.specs.Tables.{IsTyped}
@@ -177,6 +180,32 @@ module _ (w : Setting) (ready : IsSettled w) where
   pub index_node : (u : Target) (sp : Span) → NodeRuns u (t_program_index sp)
   index_node u sp pc p k n q rest a s c fit ty has places le b =
       leaf_runs w ready u pc k n q rest a s c _ Varying I32 (Each (on a (λ i. i))) (Each (on a (λ i. i))) (omega arith) b has.0 refl (λ old. ap Each (filled_on a (λ i. i) old)) (ap (λ m. Go (set_at Varying c (target w.layout u Varying I32 n) (Each (on m (λ i. i))))) b.mask)
+
+  -- a variable is copied where a packed load writes it
+  pub copied_node : (u : Target) (v : ℕ) (t : Ty) (pc k n q rest : ℕ) (a : Mask) (s : State) (c : Conf) → rest ≤ 31 + q → Enters w pc k n a s c q → slice_get w.routine.code pc ≡ Some (copy t.rate (target w.layout u t.rate t.elem n) (w.layout.variable t.rate v) k) → Leaves w u (target w.layout u t.rate t.elem n) c (pc + 1) n rest t.rate a (Gives (variable t.rate v a (tick s)) (tick s))
+  copied_node u v t pc k n q rest a s c le b has =
+      let d = target w.layout u t.rate t.elem n in
+      let x = w.layout.variable t.rate v in
+      leaf_runs w ready u pc k n q rest a s c (copy t.rate d x k) t.rate t.elem (variable t.rate v a (tick s)) (held_at t.rate c.scalars c.vectors a x) le b has (variable_held t.rate v a (tick s) c b.stands) (filled_held t.rate a c.scalars c.vectors x)
+      (copy_line w.code w.routine c t.rate d x k ∙ ap (λ m. Go (set_at t.rate c d (held_at t.rate c.scalars c.vectors m x))) b.mask)
+
+  -- else it stays where it is
+  variable_runs : (v : ℕ) (t : Ty) (sp : Span) → RunsHere (t_place (t_variable v t sp))
+  variable_runs v t sp pc p k n q rest a s c fit has places le b = go (is_copied w.layout t.rate v) has
+    where
+      go : (d : Bool) → AreAt w.routine.code pc (variable_read w.layout d (variable_found w.layout d t v n) t.rate v k) → Runs w c (pc + length (variable_read w.layout d (variable_found w.layout d t v n) t.rate v k)) n rest (Holds t.rate a (variable_found w.layout d t v n)) (Gives (variable t.rate v a (tick s)) (tick s))
+      go true at = copied_node InSlot v t pc k n q rest a s c (omega (arith, le)) b at.0
+      go false at = record {
+        conf = c;
+        steps = 0;
+        comes = comes_none w c;
+        at = at_to w c pc _ b.at (omega arith);
+        stands = b.stands;
+        spares = spares_all w n c;
+        masks = λ j h. refl;
+        holds = variable_held t.rate v a (tick s) c b.stands;
+        bound = omega (arith, le, b.used);
+      }
 
   pub element_node : (u : Target) (y : ArrayVariable) (i : TExpr) (t : Ty) (sp : Span) → RunsHere i → NodeRuns u (t_place (t_element y i t sp))
   element_node u y i t sp ih pc p k n q rest a s c fit ty has places le b =
@@ -326,10 +355,108 @@ module _ (w : Setting) (ready : IsSettled w) where
       go true ez at = choose_node InSlot e x y t sp ihe ez pc p k n q rest a s c fit.5 at (are_front w.code.places p (expr_places w.layout e) _ places) (omega arith) b
       go false ez at = long_node e x y t sp ihe ihx ihy pc p k n q rest a s c fit at places (omega arith) b
 
+  -- ---- packed calls
+
+  -- an index, or 0, as the number of the first element
+  abbrev pub BaseRuns : TBase → Type 0
+  BaseRuns d =
+      (pc p k n q rest : ℕ) (a : Mask) (s : State) (c : Conf) → BaseParts w d n → AreAt w.routine.code pc (base_code w.layout d pc p k n) → AreAt w.code.places p (base_places w.layout d) → rest ≤ 30 + q → Enters w pc k n a s c q → Runs w c (pc + length (base_code w.layout d pc p k n)) n rest (λ z c'. IsFirst z (c'.scalars (base_register w.layout d n))) (first_element (gang_of w) w.frame (calls_of w) d a s)
+
+  whole_base : (y : ArrayVariable) (sp : Span) (pc k n q rest : ℕ) (a : Mask) (s : State) (c : Conf) → SpareFits w Uniform I64 n → slice_get w.routine.code pc ≡ Some (constant (w.layout.spare Uniform I64 n) I64 0) → rest ≤ 30 + q → Enters w pc k n a s c q → Runs w c (pc + 1) n rest (λ z c'. IsFirst z (c'.scalars (w.layout.spare Uniform I64 n))) (first_element (gang_of w) w.frame (calls_of w) (t_whole y sp) a s)
+  whole_base y sp pc k n q rest a s c ty has le b =
+      let r = constant_runs InSlot pc k n q rest a s c I64 0 0 (omega (arith, le)) b ty has (wrap_bits I64 0) in
+      record { conf = r.conf; steps = r.steps; comes = r.comes; at = r.at; stands = r.stands; spares = r.spares; masks = r.masks; holds = inl (ap (λ m. number I64 (sole m)) (sym r.holds) ∙ zero_first); bound = r.bound }
+
+  from_base : (y : ArrayVariable) (i : TExpr) (sp : Span) → RunsHere i → BaseRuns (t_from y i sp)
+  from_base y i sp ih pc p k n q rest a s c fit has places le b =
+      let fi : heads i ≤ 1 = few w i n fit.4 in
+      let e = (type_of i).elem in
+      let z = is_whole e in
+      let ci = expr_code w.layout i pc p k n in
+      let cw = whole_of w.layout z i k n ci in
+      let lift = lift_code w.layout Uniform (type_of i).rate I64 (whole w.layout z i n) k n in
+      let to : pc + length cw + length lift ≡ pc + length (cw ++ lift) = omega (arith, length-append cw lift) in
+      renamed w ready c _ n rest _ _ (means i a (tick s)) (mapped (as_whole z e)) (λ m. number e (sole m)) (λ m c1 h. first z m c1 refl h)
+      (subst (λ g. Runs w c g n rest (Holds Uniform a (index w.layout Uniform i n)) (bind (means i a (tick s)) (λ m s1. Gives (mapped (as_whole z e) m) s1))) to
+      (lift_runs w ready c (pc + length cw) k n rest a _ Uniform (type_of i).rate I64 (whole w.layout z i n) fit.2 b.mask b.low (are_back w.routine.code pc cw lift has)
+      (whole_runs i z pc k n (32 + q) (1 + rest) a (tick s) c ci refl (omega (arith, le)) (enters_part w ready pc k n (32 + q) q a s c (omega arith) b) fit.4 fit.3 (are_front w.routine.code pc cw lift has)
+      (λ at. ih pc p k n (32 + q) (1 + (1 + rest)) a (tick s) c fit.4 at places (omega (arith, le, fi)) (enters_part w ready pc k n (32 + q) q a s c (omega arith) b)))))
+    where
+      first : (d : Bool) (m : Payload) (c1 : Conf) → is_whole (type_of i).elem ≡ d → mapped (as_whole d (type_of i).elem) m ≡ One (c1.scalars (index w.layout Uniform i n)) → IsFirst (number (type_of i).elem (sole m)) (c1.scalars (index w.layout Uniform i n))
+      first d (One x) c1 ed h = subst (IsFirst (number (type_of i).elem x)) (ap sole h) (first_is d (type_of i).elem x ed)
+      first d (Each x) c1 ed h = absurd (cc)
+
+  base_fits : (d : TBase) (n : ℕ) → BaseParts w d n → ArrayFits w (base_array d) × ((base_array d).ty.rate ≡ Uniform)
+  base_fits (t_whole y sp) n fit = (ready.arrays y fit.0, fit.1)
+  base_fits (t_from y i sp) n fit = (ready.arrays y fit.0, fit.1)
+
+  base_low : (d : TBase) (n : ℕ) → BaseParts w d n → Low w.layout Uniform (n + 1) (base_register w.layout d n)
+  base_low (t_whole y sp) n fit = low_spare w.layout Uniform I64 (n + 1) n (omega arith)
+  base_low (t_from y i sp) n fit = index_low w ready Uniform i n fit.2 fit.4
+
+  same_base : (d : TBase) → base_array d ≡ meant.base_array d
+  same_base (t_whole y sp) = refl
+  same_base (t_from y i sp) = refl
+
+  pub packed_store_node : (u : Target) (d : TBase) (x : TExpr) (sp : Span) → BaseRuns d → RunsHere x → NodeRuns u (t_packed_store d x sp)
+  packed_store_node u d x sp base ih pc p k n q rest a s c fit ty has places le b =
+      let fx : heads x ≤ 1 = few w x (n + 1) fit.3 in
+      let lk : k < n = b.low in
+      let m = n + 1 in
+      let y = base_array d in
+      let j = base_register w.layout d n in
+      let v = operand w.layout Varying x m in
+      let to_d = target w.layout u Uniform I32 n in
+      let cb = base_code w.layout d pc p k n in
+      let pc1 = pc + length cb in
+      let p1 = p + length (base_places w.layout d) in
+      let p2 = p1 + length (expr_places w.layout x) in
+      let cx = expr_code w.layout x pc1 p1 k m in
+      let ca = operand_of w.layout Varying x k m cx in
+      let last = packed_store to_d (w.layout.array y.number) j v k p2 ∷ [] in
+      let end = pc + length (cb ++ (ca ++ last)) in
+      let to : pc1 + length ca + 1 ≡ end = omega (arith, length-append cb (ca ++ last), length-append ca last) in
+      let h1 : AreAt w.routine.code pc1 (ca ++ last) = are_back w.routine.code pc cb (ca ++ last) has in
+      let ha : AreAt w.routine.code pc1 ca = are_front w.routine.code pc1 ca last h1 in
+      let pl = are_back w.code.places p (base_places w.layout d) _ places in
+      let fits = base_fits d n fit.1 in
+      bind_leaves w ready u to_d c pc1 n 2 rest (λ z c'. IsFirst z (c'.scalars j)) (first_element (gang_of w) w.frame (calls_of w) d a (tick s)) _ end n Uniform a
+      (base pc p k n (32 + q) (2 + rest) a (tick s) c fit.1 (are_front w.routine.code pc cb _ has) (are_front w.code.places p (base_places w.layout d) _ places) (omega (arith, le)) (enters_part w ready pc k n (32 + q) q a s c (omega arith) b))
+      (λ z s1 ok.
+      let c1 = ok.conf in
+      leaves_after w ready u to_d c c1 ok.steps end n rest Uniform a _ ok.comes ok.spares ok.masks
+      (bind_leaves w ready u to_d c1 (pc1 + length ca) m 1 (ok.steps + rest) (λ g c'. Holds Varying a v g c' × Keeps w m c1 c') (means x a s1) _ end n Uniform a
+      (runs_kept w c1 (pc1 + length ca) m (1 + (ok.steps + rest)) (Holds Varying a v) (means x a s1) s1 ok.stands (value_still w ready x m a s1 fit.3)
+      (operand_runs w ready c1 pc1 k m (1 + (ok.steps + rest)) a (means x a s1) Varying (type_of x).elem x cx fit.2 (ok.masks k lk ∙ b.mask) (omega arith) ha
+      (ih pc1 p1 k m (1 + (ok.steps + rest)) (1 + (1 + (ok.steps + rest))) a s1 c1 fit.3 (are_front w.routine.code pc1 cx _ ha) (are_front w.code.places p1 (expr_places w.layout x) _ pl) (omega (arith, fx)) (enters_later w ready pc pc1 k n m (1 + (ok.steps + rest)) q (2 + rest) a s s1 c (omega arith) b ok (omega arith)))))
+      (λ g s2 ok2.
+      let c2 = ok2.conf in
+      let kept : IsFirst z (c2.scalars j) = subst (IsFirst z) (sym (ok2.holds.1.scalars_stay j (base_low d n fit.1))) ok.holds in
+      subst (λ o. Leaves w u to_d c1 end n (ok.steps + rest) Uniform a (bind (checked (lowest (gang_of w) (packed_outside (extent w.frame o) z a)) Index sp s2 g) (λ h s3. Gives (One (rank a (gang_of w))) (meant.packed_kept (gang_of w) (w.frame.named o.number) z a h s3)))) (same_base d)
+      (store_leaves w ready u y z g a s2 c1 c2 ok2.steps (pc1 + length ca) end k j v n (ok.steps + rest) p2 sp fits.0 fits.1 b.some ok2.comes ok2.at to (are_back w.routine.code pc1 ca last h1).0 (are_back w.code.places p1 (expr_places w.layout x) _ pl).0 ok2.stands (spares_less w n m c1 c2 (omega arith) ok2.spares) (λ r h. ok2.masks r (omega arith)) (ok2.masks k (omega arith) ∙ ok.masks k lk ∙ b.mask) (omega (arith, ok2.bound)) kept ok2.holds.0))))
+
+  pub packed_load_node : (u : Target) (d : TBase) (v : ℕ) (sp : Span) → BaseRuns d → NodeRuns u (t_packed_load d v sp)
+  packed_load_node u d v sp base pc p k n q rest a s c fit ty has places le b =
+      let y = base_array d in
+      let j = base_register w.layout d n in
+      let to_d = target w.layout u Uniform I32 n in
+      let cb = base_code w.layout d pc p k n in
+      let pc1 = pc + length cb in
+      let p1 = p + length (base_places w.layout d) in
+      let last = packed_load to_d (w.layout.array y.number) j (w.layout.variable Varying v) k p1 ∷ [] in
+      let end = pc + length (cb ++ last) in
+      let to : pc1 + 1 ≡ end = omega (arith, length-append cb last) in
+      let fits = base_fits d n fit.1 in
+      bind_leaves w ready u to_d c pc1 n 1 rest (λ z c'. IsFirst z (c'.scalars j)) (first_element (gang_of w) w.frame (calls_of w) d a (tick s)) _ end n Uniform a
+      (base pc p k n (32 + q) (1 + rest) a (tick s) c fit.1 (are_front w.routine.code pc cb _ has) (are_front w.code.places p (base_places w.layout d) _ places) (omega (arith, le)) (enters_part w ready pc k n (32 + q) q a s c (omega arith) b))
+      (λ z s1 ok.
+      subst (λ o. Leaves w u to_d c end n rest Uniform a (bind (checked (lowest (gang_of w) (packed_outside (extent w.frame o) z a)) Index sp (tick s1) (meant.packed_held (w.frame.named o.number) z a s1)) (λ h s3. Gives (One (rank a (gang_of w))) (written Varying v a h s3)))) (same_base d)
+      (load_leaves w ready u y z v a (tick s1) c ok.conf ok.steps pc1 end k j n rest p1 sp fits.0 fits.1 b.some ok.comes ok.at to (are_back w.routine.code pc cb last has).0 (are_back w.code.places p (base_places w.layout d) _ places).0 ok.stands ok.spares ok.masks (ok.masks k b.low ∙ b.mask) (omega (arith, ok.bound)) ok.holds))
+
   -- ---- values in a row
 
   -- the rest of the values, once the first is held
-  held_both : (rs : List Rate) (x : TExpr) (regs : List ℕ) (n pc q : ℕ) (a : Mask) (m : Payload) (s : State) (c : Conf) (v : Val (List Payload)) → OperandFits w (next_rate rs) (type_of x).elem x n → ExprParts w x n → Stands w s c → KeepsBy no_variable s v → Holds (next_rate rs) a (operand w.layout (next_rate rs) x n) m c → Runs w c pc (n + 1) q (λ ms c'. AllHold (later rs) a regs ms c') v → Runs w c pc n q (λ ms c'. AllHold rs a (operand w.layout (next_rate rs) x n ∷ regs) ms c') (bind v (λ ms s1. Gives (m ∷ ms) s1))
+  held_both : (rs : List Rate) (x : TExpr) (regs : List ℕ) (n pc q : ℕ) (a : Mask) (m : Payload) (s : State) (c : Conf) (v : Val (List Payload)) → OperandFits w (next_rate rs) (type_of x).elem x n → ExprParts w x n → Stands w s c → KeepsBy w.layout.loaded s v → Holds (next_rate rs) a (operand w.layout (next_rate rs) x n) m c → Runs w c pc (n + 1) q (λ ms c'. AllHold (later rs) a regs ms c') v → Runs w c pc n q (λ ms c'. AllHold rs a (operand w.layout (next_rate rs) x n ∷ regs) ms c') (bind v (λ ms s1. Gives (m ∷ ms) s1))
   held_both rs x regs n pc q a m s c (Gives ms s1) fit parts st k h r = record {
     conf = r.conf;
     steps = r.steps;
@@ -420,7 +547,7 @@ module _ (w : Setting) (ready : IsSettled w) where
       }
 
   -- the rest of the arguments, once the first is handed over
-  handed_both : (y : Held) (x : TArgument) (vs : List Declared) (regs : List Register) (n pc q : ℕ) (a : Mask) (z : Passed) (s : State) (c : Conf) (v : Val (List Passed)) → ArgumentParts w y x n → c.home ≡ w.home → Stands w s c → KeepsBy no_variable s v → IsHanded a c y z (argument_register w.layout (rate_held y) x n) → Runs w c pc (n + 1) q (λ zs c'. AreHanded a c' vs zs regs) v → Runs w c pc n q (λ zs c'. AreHanded a c' (record { holds = y; constant = false } ∷ vs) zs (argument_register w.layout (rate_held y) x n ∷ regs)) (bind v (λ zs s1. Gives (z ∷ zs) s1))
+  handed_both : (y : Held) (x : TArgument) (vs : List Declared) (regs : List Register) (n pc q : ℕ) (a : Mask) (z : Passed) (s : State) (c : Conf) (v : Val (List Passed)) → ArgumentParts w y x n → c.home ≡ w.home → Stands w s c → KeepsBy w.layout.loaded s v → IsHanded a c y z (argument_register w.layout (rate_held y) x n) → Runs w c pc (n + 1) q (λ zs c'. AreHanded a c' vs zs regs) v → Runs w c pc n q (λ zs c'. AreHanded a c' (record { holds = y; constant = false } ∷ vs) zs (argument_register w.layout (rate_held y) x n ∷ regs)) (bind v (λ zs s1. Gives (z ∷ zs) s1))
   handed_both y x vs regs n pc q a z s c (Gives zs s1) fit home st k i r = record {
     conf = r.conf;
     steps = r.steps;
@@ -510,17 +637,7 @@ module _ (w : Setting) (ready : IsSettled w) where
     pub expr_runs : (x : TExpr) (pc p k n q rest : ℕ) (a : Mask) (s : State) (c : Conf) → ExprParts w x n → AreAt w.routine.code pc (expr_code w.layout x pc p k n) → AreAt w.code.places p (expr_places w.layout x) → heads x + rest ≤ 5 + q → Enters w pc k n a s c q → Runs w c (pc + length (expr_code w.layout x pc p k n)) n rest (Holds (type_of x).rate a (found w.layout x n)) (means x a s)
     expr_runs (t_constant v sp) pc p k n q rest a s c fit has places le b = number_node InSlot v sp pc p k n q rest a s c fit fit has places le b
     expr_runs (t_program_index sp) pc p k n q rest a s c fit has places le b = index_node InSlot sp pc p k n q rest a s c fit fit has places le b
-    expr_runs (t_place (t_variable v t sp)) pc p k n q rest a s c fit has places le b = record {
-      conf = c;
-      steps = 0;
-      comes = comes_none w c;
-      at = at_to w c pc _ b.at (omega arith);
-      stands = b.stands;
-      spares = spares_all w n c;
-      masks = λ j h. refl;
-      holds = variable_held t.rate v a (tick s) c b.stands;
-      bound = omega (arith, b.used);
-    }
+    expr_runs (t_place (t_variable v t sp)) pc p k n q rest a s c fit has places le b = variable_runs v t sp pc p k n q rest a s c fit has places le b
     expr_runs (t_place (t_element y i t sp)) pc p k n q rest a s c fit has places le b = element_node InSlot y i t sp (λ pc p k n q rest a s c f h pl le z. expr_runs i pc p k n q rest a s c f h pl le z) pc p k n q rest a s c fit fit.1 has places le b
     expr_runs (t_convert e x) pc p k n q rest a s c fit has places le b = convert_node InSlot e x (λ pc p k n q rest a s c f h pl le z. expr_runs x pc p k n q rest a s c f h pl le z) pc p k n q rest a s c fit fit.1 has places le b
     expr_runs (t_cast x t sp) pc p k n q rest a s c fit has places le b =
@@ -559,8 +676,13 @@ module _ (w : Setting) (ready : IsSettled w) where
     expr_runs (t_choose e x y t sp) pc p k n q rest a s c fit has places le b = choose_any e x y t sp (λ pc p k n q rest a s c f h pl le z. expr_runs e pc p k n q rest a s c f h pl le z) (λ pc p k n q rest a s c f h pl le z. expr_runs x pc p k n q rest a s c f h pl le z) (λ pc p k n q rest a s c f h pl le z. expr_runs y pc p k n q rest a s c f h pl le z) pc p k n q rest a s c fit has places le b
     expr_runs (t_call (t_called g xs sp) t) pc p k n q rest a s c fit has places le b = call_node InSlot g xs sp t (λ vs pc p k n q rest a s c f h pl le z. arguments_run xs vs pc p k n q rest a s c f h pl le z) pc p k n q rest a s c fit fit.0 has places le b
     expr_runs (t_library g e xs t sp) pc p k n q rest a s c fit has places le b = library_node InSlot g e xs t sp (λ rs pc p k n q rest a s c f h pl le z. values_run xs rs pc p k n q rest a s c f h pl le z) pc p k n q rest a s c fit fit.1 has places le b
-    expr_runs (t_packed_store d x sp) pc p k n q rest a s c fit has places le b = absurd fit
-    expr_runs (t_packed_load d v sp) pc p k n q rest a s c fit has places le b = absurd fit
+    expr_runs (t_packed_store d x sp) pc p k n q rest a s c fit has places le b = packed_store_node InSlot d x sp (λ pc p k n q rest a s c f h pl le z. base_runs d pc p k n q rest a s c f h pl le z) (λ pc p k n q rest a s c f h pl le z. expr_runs x pc p k n q rest a s c f h pl le z) pc p k n q rest a s c fit fit.0 has places le b
+    expr_runs (t_packed_load d v sp) pc p k n q rest a s c fit has places le b = packed_load_node InSlot d v sp (λ pc p k n q rest a s c f h pl le z. base_runs d pc p k n q rest a s c f h pl le z) pc p k n q rest a s c fit fit.0 has places le b
+
+    -- the number of the first element of a packed call
+    pub base_runs : (d : TBase) → BaseRuns d
+    base_runs (t_whole y sp) pc p k n q rest a s c fit has places le b = whole_base y sp pc k n q rest a s c fit.2 has.0 le b
+    base_runs (t_from y i sp) pc p k n q rest a s c fit has places le b = from_base y i sp (λ pc p k n q rest a s c f h pl le z. expr_runs i pc p k n q rest a s c f h pl le z) pc p k n q rest a s c fit has places le b
 
     -- values, each at its slot
     pub values_run : (xs : TExprs) → ValuesRun xs

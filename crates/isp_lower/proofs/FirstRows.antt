@@ -14,7 +14,7 @@ use Rattle.isp_typed.specs.declared.variable.ArrayVariable.{ArrayVariable}
 use Rattle.isp_typed.specs.declared.variable.Holds.{Holds}
 use Rattle.isp_typed.specs.declared.variable.Holds.TheVariants as holds
 use Rattle.isp_typed.specs.declared.variable.Variable.{Variable as Declared}
-use Rattle.isp_lower.specs.Asks.{Ask, Nothing, Both, Register, ArrayOf, LocalOf, MaskOf, Number}
+use Rattle.isp_lower.specs.Asks.{Ask, Nothing, Both, Register, ArrayOf, LocalOf, MaskOf, Number, Loads}
 use Rattle.isp_lower.specs.Code.{same_rate}
 use Rattle.isp_lower.specs.Emitted.{Begins, Grows, HasArray, HasRow, row_at, row_where, rows_of, value_row, array_row, value_rows, array_rows, result_rows, first_rows}
 use Rattle.isp_lower.specs.Reserved.{Has, HasOwn, HasSpare, IsOwn, IsReserved, OwnRegister}
@@ -119,6 +119,7 @@ module _ (vars : List Declared) (answer : Option Ty) (first : Registers) (begun 
       array_is new.registers g b (record { variable = record { holds = holds.Local b.ty own.0; constant = b.constant }; is = own.1; ty = refl; constant = refl })
   all_there new g (MaskOf k) f own = f
   all_there new g (Number k) f own = f
+  all_there new g (Loads v) f own = f
 
 -- what a walk reserved, and what the function at work had before, is all that is asked for
 pub all_joined : (a b : Reserve) → Grows a.registers b.registers → (x : Ask) → IsReserved b x → HasOwn (rows_of a.registers) x → Has b x
@@ -132,3 +133,4 @@ all_joined a b g (ArrayOf v) f own = (stays_in (rows_of a.registers).arrays (row
 all_joined a b g (LocalOf v) f own = (stays_in (rows_of a.registers).arrays (rows_of b.registers).arrays (Variable v.number) v.ty.elem g.arrays own).1
 all_joined a b g (MaskOf k) f own = f
 all_joined a b g (Number k) f own = f
+all_joined a b g (Loads v) f own = f

@@ -1,11 +1,11 @@
 -- What trees and what tables promise, together.
-use Rattle.std.proofs.Common.{ℕ, ◌+◌, List, [], ◌∷◌, Option, Some, None, Bool, true, false, subst}
+use Rattle.std.proofs.Common.{ℕ, ◌+◌, List, [], ◌∷◌, Option, Some, None, Bool, true, false, refl, subst}
 use Rattle.isp_base.specs.Ranks.{same_elem}
 use Rattle.isp_base.specs.declared.types.Elem.{Elem}
 use Rattle.isp_base.specs.declared.types.Elem.TheVariants.{Bool as Truth}
 use Rattle.isp_base.specs.declared.types.Rate.{Rate}
 use Rattle.isp_base.specs.declared.types.Rate.TheVariants.{Uniform, Varying}
-use Rattle.isp_typed.specs.Typed.{TExpr, t_constant, t_program_index, t_place, t_convert, t_cast, t_unary, t_binary, t_compare, t_logic, t_choose, t_call, t_library, t_packed_store, t_packed_load, TPlace, t_variable, t_element, TArgument, t_by_value, t_by_name, TCall, t_called, TArguments, t_no_arguments, t_argument_then, TExprs, t_no_exprs, t_expr_then, TItem, t_plain, t_with_value, t_with_size, TSimple, t_value, t_run, t_assign, t_update, t_step, place_type, type_of}
+use Rattle.isp_typed.specs.Typed.{TExpr, t_constant, t_program_index, t_place, t_convert, t_cast, t_unary, t_binary, t_compare, t_logic, t_choose, t_call, t_library, t_packed_store, t_packed_load, TPlace, t_variable, t_element, TBase, t_whole, t_from, base_array, TArgument, t_by_value, t_by_name, TCall, t_called, TArguments, t_no_arguments, t_argument_then, TExprs, t_no_exprs, t_expr_then, TItem, t_plain, t_with_value, t_with_size, TSimple, t_value, t_run, t_assign, t_update, t_step, place_type, type_of}
 use Rattle.isp_typed.specs.Fine.{params_of}
 use Rattle.isp_typed.specs.declared.variable.Holds.{Holds}
 use Rattle.isp_typed.specs.declared.variable.Holds.TheVariants as holds
@@ -15,9 +15,9 @@ use Rattle.isp_lower.specs.Setting.{Setting}
 use Rattle.isp_lower.specs.Tables.{Table}
 use Rattle.isp_lower.specs.Callees.{next_rate, later}
 use Rattle.isp_lower.specs.Library.{library_rates}
-use Rattle.isp_lower.specs.Asks.{lift_asks, operand_asks, values_asks, read_asks, work_asks, zero_asks, beyond, first_slot, second_slot, expr_asks, target_asks, call_asks, arguments_asks, argument_asks, simple_asks, item_asks, items_asks}
-use Rattle.isp_lower.proofs.Parts.{ExprParts, ValuesParts, CallParts, ArgumentsParts, ArgumentParts, ItemParts, ItemsParts, LiftFits, OperandFits, PlaceParts, PlaceTyped, SimpleParts, WorkFits, ZeroFits}
-use Rattle.isp_lower.proofs.Trees.{ExprTree, ValuesTree, CallTree, ArgumentsTree, ArgumentTree, ItemTree, ItemsTree, OperandTree, PlaceTree, SimpleTree}
+use Rattle.isp_lower.specs.Asks.{lift_asks, operand_asks, values_asks, read_asks, copy_asks, value_asks, base_asks, work_asks, zero_asks, beyond, first_slot, second_slot, expr_asks, target_asks, call_asks, arguments_asks, argument_asks, simple_asks, item_asks, items_asks}
+use Rattle.isp_lower.proofs.Parts.{ExprParts, ValuesParts, CallParts, ArgumentsParts, ArgumentParts, ItemParts, ItemsParts, LiftFits, OperandFits, PlaceParts, BaseParts, PlaceTyped, CopyHas, IsNamed, ReadFits, SimpleParts, WorkFits, ZeroFits}
+use Rattle.isp_lower.proofs.Trees.{ExprTree, ValuesTree, CallTree, ArgumentsTree, ArgumentTree, ItemTree, ItemsTree, OperandTree, PlaceTree, BaseTree, SimpleTree}
 use Rattle.isp_lower.specs.Fits.{ExprFits, SimpleFits, ItemsFit}
 use Rattle.isp_lower.proofs.Rated.{expr_tree, simple_tree, items_tree}
 
@@ -37,9 +37,17 @@ module _ (w : Setting) where
   lift_any Varying Uniform t n h = tt
   lift_any Varying Varying t n h = tt
 
-  read_fits : (z : TPlace) (n : ℕ) → Table w.routine w.layout w.function.variables (read_asks z n) → PlaceTyped w z n
+  read_fits : (z : TPlace) (n : ℕ) → Table w.routine w.layout w.function.variables (read_asks z n) → ReadFits w z n
   read_fits (t_variable v t sp) n h = tt
   read_fits (t_element b i t sp) n h = h
+
+  copy_fits : (r : Rate) (t : Elem) (n : ℕ) → Table w.routine w.layout w.function.variables (copy_asks r t n) → CopyHas (IsNamed w) r t n
+  copy_fits Uniform t n h = tt
+  copy_fits Varying t n h = h
+
+  value_fits : (z : TPlace) (n : ℕ) → Table w.routine w.layout w.function.variables (value_asks z n) → PlaceTyped w z n
+  value_fits (t_variable v t sp) n h = copy_fits t.rate t.elem n h
+  value_fits (t_element b i t sp) n h = h
 
   work_fits : (b : Bool) (r : Rate) (t : Elem) (i : ℕ) → Table w.routine w.layout w.function.variables (work_asks b r t i) → WorkFits w b r t i
   work_fits true r t i h = tt
@@ -63,7 +71,7 @@ module _ (w : Setting) where
     pub expr_fits : (x : TExpr) (n : ℕ) → ExprTree w.program.functions x → Table w.routine w.layout w.function.variables (expr_asks x n) → ExprParts w x n
     expr_fits (t_constant v sp) n t h = h
     expr_fits (t_program_index sp) n t h = h
-    expr_fits (t_place q) n t h = (place_fits q n t h.0, read_fits q n h.1)
+    expr_fits (t_place q) n t h = (place_fits q n t h.0, value_fits q n h.1)
     expr_fits (t_convert e x) n t h = (t.0, h.0, expr_fits x n t.1 h.1)
     expr_fits (t_cast x u sp) n t h = (operand_fits u.rate u.elem x n t.0 h, expr_fits x n t.1 h.1)
     expr_fits (t_unary o x u sp) n t h = (operand_fits u.rate u.elem x n t.0 h.1, h.0, expr_fits x n t.1 h.1.1)
@@ -77,12 +85,17 @@ module _ (w : Setting) where
         (t.0.elem, t.0.reaches, h.0, operand_fits u.rate u.elem x (first_slot (type_of c).rate n) t.1 h.1.1.0, operand_fits u.rate u.elem y (second_slot (type_of c).rate n) t.2 h.1.1.1.0, expr_fits c n t.3 h.1.0, expr_fits x (first_slot (type_of c).rate n) t.4 h.1.1.0.1, expr_fits y (second_slot (type_of c).rate n) t.5 h.1.1.1.0.1)
     expr_fits (t_call c u) n t h = (h.0, call_fits c (Some u) n t h.1)
     expr_fits (t_library f e xs u sp) n t h = (t.0, h.0, values_fit (library_rates f u.rate) xs n t.1 h.1)
-    expr_fits (t_packed_store b x sp) n t h = absurd t
-    expr_fits (t_packed_load b v sp) n t h = absurd t
+    expr_fits (t_packed_store b x sp) n t h =
+        (h.0, base_fits b n t.0 h.1.0, operand_fits Varying (type_of x).elem x (n + 1) (record { elem = refl; reaches = t.1.reaches }) h.1.1.1, expr_fits x (n + 1) t.2 h.1.1.1.1)
+    expr_fits (t_packed_load b v sp) n t h = (h.0, base_fits b n t h.1.0, h.1.1.1)
 
     place_fits : (z : TPlace) (n : ℕ) → PlaceTree w.program.functions z → Table w.routine w.layout w.function.variables (target_asks z n) → PlaceParts w z n
     place_fits (t_variable v u sp) n t h = h
     place_fits (t_element b i u sp) n t h = (h.0, t.0, t.1, h.1.1.0, expr_fits i n t.2 h.1.1.1)
+
+    base_fits : (b : TBase) (n : ℕ) → BaseTree w.program.functions b → Table w.routine w.layout w.function.variables (base_asks b n) → BaseParts w b n
+    base_fits (t_whole b sp) n t h = (h.0, t.0, h.1)
+    base_fits (t_from b i sp) n t h = (h.0, t.0, t.2, h.1.1.0, expr_fits i n t.3 h.1.1.1)
 
     values_fit : (rs : List Rate) (xs : TExprs) (n : ℕ) → ValuesTree w.program.functions rs xs → Table w.routine w.layout w.function.variables (values_asks rs xs n) → ValuesParts w rs xs n
     values_fit rs t_no_exprs n t h = tt

@@ -5,13 +5,14 @@ use Rattle.isp_base.specs.declared.types.Elem.TheVariants.{Bool as Truth, I8, U8
 use Rattle.isp_base.specs.declared.types.Rate.{Rate}
 use Rattle.isp_base.specs.declared.types.Rate.TheVariants.{Uniform, Varying}
 use Rattle.isp_base.specs.declared.types.Span.{Span}
+use Rattle.isp_base.specs.declared.types.Ty.{Ty}
 use Rattle.isp_base.specs.declared.types.Value.{Value}
 use Rattle.isp_typed.specs.Fine.{heads}
 use Rattle.isp_typed.specs.Typed.{TExpr, t_constant, t_program_index, t_place, t_convert, t_cast, t_unary, t_binary, t_compare, t_logic, t_choose, t_call, t_library, t_packed_store, t_packed_load, t_variable, t_element, type_of}
 use Rattle.isp_lower.specs.Setting.{Setting, IsSettled}
-use Rattle.isp_lower.specs.Code.{lifted, found, operand, constant_of, is_whole, whole, index}
+use Rattle.isp_lower.specs.Code.{is_copied, variable_found, lifted, found, operand, constant_of, is_whole, whole, index}
 use Rattle.isp_lower.proofs.Kept.{Low, Placed, low_spare, placed_low}
-use Rattle.isp_lower.proofs.Parts.{ExprParts, LiftFits, OperandFits}
+use Rattle.isp_lower.proofs.Parts.{ExprParts, CopyHas, IsNamed, LiftFits, OperandFits}
 use Rattle.isp_lower.specs.Rated.{Reaches}
 use Rattle.isp_lower.specs.Tables.{IsTyped}
 
@@ -66,10 +67,22 @@ module _ (w : Setting) where
   lifted_typed Varying Uniform t f n re lf ty = lf
   lifted_typed Varying Varying t f n re lf ty = ty
 
+  -- a varying variable that a packed load writes is read into slot n
+  pub copy_typed : (r : Rate) (t : Elem) (v n : ℕ) → is_copied w.layout r v ≡ true → CopyHas (IsNamed w) r t n → IsTyped w r (w.layout.spare r t n) t
+  copy_typed Uniform t v n e f = absurd (cc)
+  copy_typed Varying t v n e f = f
+
+  variable_typed : (t : Ty) (v n : ℕ) → IsTyped w t.rate (w.layout.variable t.rate v) t.elem → CopyHas (IsNamed w) t.rate t.elem n → IsTyped w t.rate (variable_found w.layout (is_copied w.layout t.rate v) t v n) t.elem
+  variable_typed t v n ty f = go (is_copied w.layout t.rate v) refl
+    where
+      go : (b : Bool) → is_copied w.layout t.rate v ≡ b → IsTyped w t.rate (variable_found w.layout b t v n) t.elem
+      go true e = copy_typed t.rate t.elem v n e f
+      go false e = ty
+
   pub found_typed : (x : TExpr) (n : ℕ) → ExprParts w x n → IsTyped w (type_of x).rate (found w.layout x n) (type_of x).elem
   found_typed (t_constant v sp) n f = f
   found_typed (t_program_index sp) n f = f
-  found_typed (t_place (t_variable v t sp)) n f = f.0
+  found_typed (t_place (t_variable v t sp)) n f = variable_typed t v n f.0 f.1
   found_typed (t_place (t_element b i t sp)) n f = f.1
   found_typed (t_convert e x) n f = f.1
   found_typed (t_cast x t sp) n f =
@@ -81,8 +94,8 @@ module _ (w : Setting) where
   found_typed (t_choose c x y t sp) n f = f.2
   found_typed (t_call c t) n f = f.0
   found_typed (t_library g e xs t sp) n f = f.1
-  found_typed (t_packed_store b x sp) n f = absurd f
-  found_typed (t_packed_load b v sp) n f = absurd f
+  found_typed (t_packed_store b x sp) n f = f.0
+  found_typed (t_packed_load b v sp) n f = f.0
 
   pub operand_typed : (r : Rate) (t : Elem) (x : TExpr) (n : ℕ) → OperandFits w r t x n → ExprParts w x n → IsTyped w r (operand w.layout r x n) t
   operand_typed r t x n o f =
@@ -96,10 +109,17 @@ module _ (w : Setting) where
   lifted_placed Varying Uniform t f n re at = inr (t, refl)
   lifted_placed Varying Varying t f n re at = at
 
+  variable_placed : (t : Ty) (v n : ℕ) → Placed w.layout t.rate n (variable_found w.layout (is_copied w.layout t.rate v) t v n)
+  variable_placed t v n = go (is_copied w.layout t.rate v) refl
+    where
+      go : (b : Bool) → is_copied w.layout t.rate v ≡ b → Placed w.layout t.rate n (variable_found w.layout b t v n)
+      go true e = inr (t.elem, refl)
+      go false e = inl (v, e, refl)
+
   found_placed : (x : TExpr) (n : ℕ) → ExprParts w x n → Placed w.layout (type_of x).rate n (found w.layout x n)
   found_placed (t_constant v sp) n f = inr (v.elem, refl)
   found_placed (t_program_index sp) n f = inr (I32, refl)
-  found_placed (t_place (t_variable v t sp)) n f = inl (v, refl)
+  found_placed (t_place (t_variable v t sp)) n f = variable_placed t v n
   found_placed (t_place (t_element b i t sp)) n f = inr (t.elem, refl)
   found_placed (t_convert e x) n f = inr (e, refl)
   found_placed (t_cast x t sp) n f = lifted_placed t.rate (type_of x).rate (type_of x).elem (found w.layout x n) n f.0.reaches (found_placed x n f.1)
@@ -110,8 +130,8 @@ module _ (w : Setting) where
   found_placed (t_choose c x y t sp) n f = inr (t.elem, refl)
   found_placed (t_call c t) n f = inr (t.elem, refl)
   found_placed (t_library g e xs t sp) n f = inr (t.elem, refl)
-  found_placed (t_packed_store b x sp) n f = absurd f
-  found_placed (t_packed_load b v sp) n f = absurd f
+  found_placed (t_packed_store b x sp) n f = inr (I32, refl)
+  found_placed (t_packed_load b v sp) n f = inr (I32, refl)
 
   pub operand_placed : (r : Rate) (t : Elem) (x : TExpr) (n : ℕ) → OperandFits w r t x n → ExprParts w x n → Placed w.layout r n (operand w.layout r x n)
   operand_placed r t x n o f = lifted_placed r (type_of x).rate (type_of x).elem (found w.layout x n) n o.reaches (found_placed x n f)

@@ -2,13 +2,14 @@
 use Rattle.std.proofs.Common.{◌≡◌, ℕ, ◌<◌, ◌≤◌, ◌+◌, List, [], ◌++◌, length, drop, get_or, refl, sym, ap, subst, ◌∙◌, arith, append_assoc, append-nil, Some}
 use Rattle.std.proofs.lemmas.List.{drop_more, drop_all}
 use Rattle.isp_base.specs.declared.types.Elem.{Elem}
+use Rattle.isp_base.specs.declared.types.Elem.TheVariants.{Bool as Truth}
 use Rattle.isp_base.specs.declared.types.Rate.{Rate}
 use Rattle.isp_base.specs.declared.types.Rate.TheVariants.{Uniform, Varying}
 use Rattle.isp_typed.specs.Views.{item_of, items_of}
 use Rattle.isp_typed.specs.declared.stmt.TypedItem as rust
 use Rattle.isp_typed.specs.declared.variable.ArrayVariable.{ArrayVariable}
-use Rattle.isp_lower.specs.Asks.{Ask, Nothing, Both, Register, ArrayOf, LocalOf, MaskOf, Number, All, item_asks, items_asks}
-use Rattle.isp_lower.specs.Emitted.{rows_of, Begins, Grows, HasRow}
+use Rattle.isp_lower.specs.Asks.{Ask, Nothing, Both, Register, ArrayOf, LocalOf, MaskOf, Number, Loads, All, item_asks, items_asks}
+use Rattle.isp_lower.specs.Emitted.{rows_of, Begins, Grows, HasLoaded, HasRow}
 use Rattle.isp_lower.specs.Asks.{first_slot, second_slot}
 use Rattle.isp_lower.specs.Reserved.{Gives, HasSpare, IsReserved}
 use Rattle.isp_lower.specs.Rows.{Name, Variable, Result, Spare, Fresh, Row, number_in, elem_in}
@@ -32,6 +33,7 @@ grows_self r =
       scalars = begins_self (rows_of r).scalars;
       vectors = begins_self (rows_of r).vectors;
       arrays = begins_self (rows_of r).arrays;
+      loaded = begins_self (rows_of r).loaded;
     }
 
 pub grows_then : (r s t : Registers) → Grows r s → Grows s t → Grows r t
@@ -40,6 +42,7 @@ grows_then r s t a b =
       scalars = begins_then (rows_of r).scalars (rows_of s).scalars (rows_of t).scalars a.scalars b.scalars;
       vectors = begins_then (rows_of r).vectors (rows_of s).vectors (rows_of t).vectors a.vectors b.vectors;
       arrays = begins_then (rows_of r).arrays (rows_of s).arrays (rows_of t).arrays a.arrays b.arrays;
+      loaded = begins_then (rows_of r).loaded (rows_of s).loaded (rows_of t).loaded a.loaded b.loaded;
     }
 
 pub stays_in : (xs ys : List Row) (x : Name) (t : Elem) → Begins xs ys → elem_in xs x ≡ Some t → (number_in ys x ≡ number_in xs x) × (elem_in ys x ≡ Some t)
@@ -49,8 +52,8 @@ stays_in xs ys x t b e =
 -- ---- what code asks for
 
 -- what is asked of one thing is there of another one that has all that the first has
-module _ (H H1 : Rate → Name → Elem → Type 0) (A A1 L L1 : ArrayVariable → Type 0) (M M1 : ℕ → Type 0) (names : (r : Rate) (x : Name) (t : Elem) → H r x t → H1 r x t) (arrays : (b : ArrayVariable) → A b → A1 b) (locals : (b : ArrayVariable) → L b → L1 b) (masks : (k : ℕ) → M k → M1 k) where
-  pub all_grow : (a : Ask) → All H A L M a → All H1 A1 L1 M1 a
+module _ (H H1 : Rate → Name → Elem → Type 0) (A A1 L L1 : ArrayVariable → Type 0) (M M1 : ℕ → Type 0) (W W1 : ℕ → Type 0) (names : (r : Rate) (x : Name) (t : Elem) → H r x t → H1 r x t) (arrays : (b : ArrayVariable) → A b → A1 b) (locals : (b : ArrayVariable) → L b → L1 b) (masks : (k : ℕ) → M k → M1 k) (loaded : (v : ℕ) → W v → W1 v) where
+  pub all_grow : (a : Ask) → All H A L M W a → All H1 A1 L1 M1 W1 a
   all_grow Nothing f = tt
   all_grow (Both x y) f = (all_grow x f.0, all_grow y f.1)
   all_grow (Register r x t) f = names r x t f
@@ -58,6 +61,7 @@ module _ (H H1 : Rate → Name → Elem → Type 0) (A A1 L L1 : ArrayVariable �
   all_grow (LocalOf b) f = locals b f
   all_grow (MaskOf k) f = masks k f
   all_grow (Number k) f = f
+  all_grow (Loads v) f = loaded v f
 
 pub row_grows : (a b : Registers) → Grows a b → (r : Rate) (x : Name) (t : Elem) → HasRow a r x t → HasRow b r x t
 row_grows a b g Uniform x t e = (stays_in (rows_of a).scalars (rows_of b).scalars x t g.scalars e).1
@@ -69,9 +73,12 @@ spare_grows a b g r Result t e = tt
 spare_grows a b g r (Spare u j) t e = row_grows a b g r (Spare u j) t e
 spare_grows a b g r (Fresh j) t e = row_grows a b g r (Fresh j) t e
 
+pub loaded_grows : (a b : Registers) → Grows a b → (v : ℕ) → HasLoaded a v → HasLoaded b v
+loaded_grows a b g v e = (stays_in (rows_of a).loaded (rows_of b).loaded (Variable v) Truth g.loaded e).1
+
 pub has_grows : (a b : Reserve) → Grows a.registers b.registers → a.masks ≤ b.masks → (x : Ask) → IsReserved a x → IsReserved b x
 has_grows a b g m x f =
-    all_grow (HasSpare a.registers) (HasSpare b.registers) AnyArray AnyArray AnyArray AnyArray (λ k. k < a.masks) (λ k. k < b.masks) (spare_grows a.registers b.registers g) (λ v z. z) (λ v z. z) (λ k l. omega (arith, l, m)) x f
+    all_grow (HasSpare a.registers) (HasSpare b.registers) AnyArray AnyArray AnyArray AnyArray (λ k. k < a.masks) (λ k. k < b.masks) (HasLoaded a.registers) (HasLoaded b.registers) (spare_grows a.registers b.registers g) (λ v z. z) (λ v z. z) (λ k l. omega (arith, l, m)) (loaded_grows a.registers b.registers g) x f
 
 -- ---- the walk: what one call gives and then another one is given
 
@@ -85,6 +92,10 @@ both_given a b c x y g h =
       masks = omega (arith, g.masks, h.masks);
       has = (has_grows b c h.rows h.masks x g.has, h.has);
     }
+
+-- a variable has its register from the beginning
+pub variable_given : (a b : Reserve) (r : Rate) (v : ℕ) (t : Elem) (x : Ask) → Gives a b x → Gives a b (Both (Register r (Variable v) t) x)
+variable_given a b r v t x g = record { rows = g.rows; masks = g.masks; has = (tt, g.has) }
 
 pub then_given : (a b c : Reserve) (x y : Ask) → Gives a b x → Gives b c y → Gives a c y
 then_given a b c x y g h =

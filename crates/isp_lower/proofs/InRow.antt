@@ -75,7 +75,7 @@ module _ (w : Setting) where
 
   module _ (ready : IsSettled w) where
     placed_away : (r : Rate) (n m x : ℕ) → n < m → Placed w.layout r m x → IsAway n r x
-    placed_away r n m x lt (inl v) t e = ready.apart.variable_spare r t v.0 n (sym v.1 ∙ e)
+    placed_away r n m x lt (inl v) t e = ready.apart.variable_spare r t v.0 n (sym v.2 ∙ e)
     placed_away r n m x lt (inr u) t e = let ne : m ≢ n = omega arith in ready.apart.spares r u.0 t m n ne (sym u.1 ∙ e)
 
     pub away_from : (rs : List Rate) (xs : TExprs) (n m : ℕ) → n < m → length rs ≤ count_of xs → ValuesParts w rs xs m → EachFrom (λ j r x. IsAway n r x) rs 0 (value_registers w.layout rs xs m)

@@ -1,6 +1,6 @@
 -- The registers that the code of a tree names are there, by the laws of soundness.
 use Rattle.std.proofs.Common.{◌≡◌, ℕ, zero, suc, ◌+◌, ◌-◌, ◌<◌, List, [], ◌∷◌, length, map, Option, Some, None, Bool, true, false, refl, sym, ap, subst, ◌∙◌, arith}
-use Rattle.std.specs.Prelude.{nat_le, ◌&&◌, slice_get}
+use Rattle.std.specs.Prelude.{nat_le, ◌&&◌, slice_get, is_some}
 use Rattle.std.proofs.lemmas.Bool.{le-leb}
 use Rattle.std.proofs.lemmas.List.{length-map}
 use Rattle.std.proofs.lemmas.Option.{get_or_from_slice_get, same_Some, slice_get_within}
@@ -38,6 +38,7 @@ use Rattle.isp_lower.specs.Header.{elem_held, kind_of, returns_of, types_of}
 use Rattle.isp_lower.specs.Layout.{Layout, class_at}
 use Rattle.isp_lower.specs.Named.{InOption, InOperand, InOperands, InCode, IsOf, count_of}
 use Rattle.isp_lower.specs.Reserved.{Has}
+use Rattle.isp_lower.specs.Tables.{IsLoadedIn}
 use Rattle.isp_lower.specs.Rows.{Row, Rows, Variable, elem_in, layout_of, number_in, rows_at}
 use Rattle.isp_lower.specs.Simple.{simple_code, simple_places}
 use Rattle.isp_lower.specs.Sound.{AreHeld, AreSound, Granted, Links, HasArray, HasLocal, HasMask, HasRegister, IsShared}
@@ -143,11 +144,11 @@ granted rates r code a has =
     let rows = rows_of r.registers in
     let g = with_rows rows r.masks code in
     let l = layout_of rates rows in
-    all_grow (emitted.HasRow r.registers) (HasRegister g l) (emitted.HasArray r.registers) (HasArray g l) (emitted.HasArray r.registers) (HasLocal g l) (λ k. k < r.masks) (HasMask g)
+    all_grow (emitted.HasRow r.registers) (HasRegister g l) (emitted.HasArray r.registers) (HasArray g l) (emitted.HasArray r.registers) (HasLocal g l) (λ k. k < r.masks) (HasMask g) (emitted.HasLoaded r.registers) (IsLoadedIn l)
     (λ q x t f. register_there g rates rows (rows_made rows r.masks code) q x t f)
     (λ b f. (array_there rows r.masks code rates b f).0)
     (λ b f. array_there rows r.masks code rates b f)
-    (λ k f. f) a has
+    (λ k f. f) (λ v f. ap is_some f) a has
 
 -- ---- a listing with places enough, and a routine with the header of each function
 

@@ -24,7 +24,7 @@ use Rattle.isp_lower.proofs.Lines.{set_at, value_at}
 use Rattle.isp_lower.proofs.Combine.{lift_runs}
 use Rattle.isp_lower.proofs.Targets.{Target, target, Leaves, leaves_after, bind_leaves, write_sure}
 use Rattle.isp_lower.proofs.Kept.{Low, runs_kept, held_kept}
-use Rattle.isp_meaning.specs.Loads.{no_variable, KeepsBy}
+use Rattle.isp_meaning.specs.Loads.{KeepsBy}
 use Rattle.isp_lower.proofs.Parts.{OperandFits}
 
 module _ (w : Setting) (ready : IsSettled w) where
@@ -63,7 +63,7 @@ module _ (w : Setting) (ready : IsSettled w) where
       write_sure w ready g c c2 ok.steps (pc + length ca) _ n q a s i r t None Divide no_place (mapped f m) y ok.comes ok.at to (are_back w.routine.code pc ca (i ∷ []) has).0 ok.stands ok.spares ok.masks (omega (arith, ok.bound)) (at_mapped r a f m ∙ ap (mapped f) ok.holds) (filled_mapped r a f c2.scalars c2.vectors x) is)
 
   -- two operands and an instruction on them, which may trap by the second
-  pub pair_runs : (g : Target) (c : Conf) (pc k n q : ℕ) (a : Mask) (va : Val Payload) (vb : Payload → State → Val Payload) (r : Rate) (t : Elem) (x y : ℕ) (ca : List Instr) (cb : ℕ → List Instr) (i : Instr) (f : ℕ → ℕ → ℕ) (o : Payload → Option ℕ) (kind : TrapKind) (sp : Span) → c.masks k ≡ a → k < n → Low w.layout r (n + 1) x → AreAt w.routine.code pc (pair_code pc ca cb i) → ((z : Payload) → o z ≡ o (at_rate r a z)) → ((c : Conf) → c.masks k ≡ a → act w.code w.routine c i ≡ moved_by (o (held_at r c.scalars c.vectors a y)) kind sp (set_at r c (target w.layout g r t n) (joined f a (held_at r c.scalars c.vectors a x) (held_at r c.scalars c.vectors a y)))) → Runs w c (pc + length ca) n (1 + q) (Holds r a x) va → ((m : Payload) (s : State) (ok : Ok w c (pc + length ca) n (1 + q) (Holds r a x m) s) → Runs w ok.conf (pc + length ca + length (cb (pc + length ca))) (n + 1) (1 + (ok.steps + q)) (Holds r a y) (vb m s)) → ((m : Payload) (s : State) → KeepsBy no_variable s (vb m s)) → Leaves w g (target w.layout g r t n) c (pc + length (pair_code pc ca cb i)) n q r a (bind va (λ m s. bind (vb m s) (λ z s'. checked (o z) kind sp s' (joined f a m z))))
+  pub pair_runs : (g : Target) (c : Conf) (pc k n q : ℕ) (a : Mask) (va : Val Payload) (vb : Payload → State → Val Payload) (r : Rate) (t : Elem) (x y : ℕ) (ca : List Instr) (cb : ℕ → List Instr) (i : Instr) (f : ℕ → ℕ → ℕ) (o : Payload → Option ℕ) (kind : TrapKind) (sp : Span) → c.masks k ≡ a → k < n → Low w.layout r (n + 1) x → AreAt w.routine.code pc (pair_code pc ca cb i) → ((z : Payload) → o z ≡ o (at_rate r a z)) → ((c : Conf) → c.masks k ≡ a → act w.code w.routine c i ≡ moved_by (o (held_at r c.scalars c.vectors a y)) kind sp (set_at r c (target w.layout g r t n) (joined f a (held_at r c.scalars c.vectors a x) (held_at r c.scalars c.vectors a y)))) → Runs w c (pc + length ca) n (1 + q) (Holds r a x) va → ((m : Payload) (s : State) (ok : Ok w c (pc + length ca) n (1 + q) (Holds r a x m) s) → Runs w ok.conf (pc + length ca + length (cb (pc + length ca))) (n + 1) (1 + (ok.steps + q)) (Holds r a y) (vb m s)) → ((m : Payload) (s : State) → KeepsBy w.layout.loaded s (vb m s)) → Leaves w g (target w.layout g r t n) c (pc + length (pair_code pc ca cb i)) n q r a (bind va (λ m s. bind (vb m s) (λ z s'. checked (o z) kind sp s' (joined f a m z))))
   pair_runs g c pc k n q a va vb r t x y ca cb i f o kind sp em lt low has ocong line ra rb still =
       let b = cb (pc + length ca) in
       let to : pc + length ca + length b + 1 ≡ pc + length (ca ++ (b ++ i ∷ [])) = omega (arith, length-append ca (b ++ i ∷ []), length-append b (i ∷ [])) in

@@ -6,12 +6,12 @@ use Rattle.isp_base.specs.declared.types.Elem.TheVariants.{I64}
 use Rattle.isp_base.specs.declared.types.Rate.{Rate}
 use Rattle.isp_base.specs.declared.types.Rate.TheVariants.{Uniform, Varying}
 use Rattle.isp_base.specs.declared.types.Ty.{Ty}
-use Rattle.isp_typed.specs.Fine.{HoldsArray, HoldsValue, FineExpr, FinePlace, FineCall, FineArguments, FineArgument, FineParts, params_of, FineTarget, FineSimple, FineItem}
-use Rattle.isp_typed.specs.Typed.{TExpr, t_constant, t_program_index, t_place, t_convert, t_cast, t_unary, t_binary, t_compare, t_logic, t_choose, t_call, t_library, t_packed_store, t_packed_load, TPlace, t_variable, t_element, TArgument, t_by_value, t_by_name, TCall, t_called, TArguments, t_no_arguments, t_argument_then, TExprs, t_no_exprs, t_expr_then, TItem, t_plain, t_with_value, t_with_size, TSimple, t_value, t_run, t_assign, t_update, t_step, TFunction, place_type, ty_of, type_of}
+use Rattle.isp_typed.specs.Fine.{HoldsArray, HoldsValue, FineExpr, FinePlace, FineBase, FineCall, FineArguments, FineArgument, FineParts, params_of, FineTarget, FineSimple, FineItem}
+use Rattle.isp_typed.specs.Typed.{TExpr, t_constant, t_program_index, t_place, t_convert, t_cast, t_unary, t_binary, t_compare, t_logic, t_choose, t_call, t_library, t_packed_store, t_packed_load, TPlace, t_variable, t_element, TBase, t_whole, t_from, TArgument, t_by_value, t_by_name, TCall, t_called, TArguments, t_no_arguments, t_argument_then, TExprs, t_no_exprs, t_expr_then, TItem, t_plain, t_with_value, t_with_size, TSimple, t_value, t_run, t_assign, t_update, t_step, TFunction, place_type, ty_of, type_of}
 use Rattle.isp_typed.specs.declared.variable.Holds.{Holds}
 use Rattle.isp_typed.specs.declared.variable.Holds.TheVariants as holds
 use Rattle.isp_typed.specs.declared.variable.Variable.{Variable}
-use Rattle.isp_lower.specs.Asks.{Ask, Nothing, Both, Register, ArrayOf, LocalOf, MaskOf, Number, All, first_slot, second_slot, beyond, lift_asks, test_asks, sides_ask, read_asks, work_asks, zero_asks, expr_asks, target_asks, values_asks, call_asks, arguments_asks, argument_asks, change_asks, simple_asks, item_asks}
+use Rattle.isp_lower.specs.Asks.{Ask, Nothing, Both, Register, ArrayOf, LocalOf, MaskOf, Number, Loads, All, first_slot, second_slot, beyond, lift_asks, test_asks, sides_ask, read_asks, copy_asks, value_asks, work_asks, zero_asks, expr_asks, target_asks, base_asks, values_asks, call_asks, arguments_asks, argument_asks, change_asks, simple_asks, item_asks}
 use Rattle.isp_typed.specs.Library.{parts}
 use Rattle.isp_typed.specs.declared.library.Part.{Part}
 use Rattle.isp_lower.specs.Callees.{next_rate, later}
@@ -22,14 +22,15 @@ use Rattle.isp_lower.specs.Tables.{AnyArray}
 
 module _ (vars : List Variable) (answer : Option Ty) where
   -- the arrays that are asked for are variables
-  pub all_held : (H : Rate → Name → Elem → Type 0) (M : ℕ → Type 0) (x : Ask) → IsOwn vars answer x → All H AnyArray AnyArray M x → All H (HoldsArray vars) (HoldsLocal vars) M x
-  all_held H M Nothing own f = tt
-  all_held H M (Both x y) own f = (all_held H M x own.0 f.0, all_held H M y own.1 f.1)
-  all_held H M (Register r x t) own f = f
-  all_held H M (ArrayOf b) own f = own
-  all_held H M (LocalOf b) own f = own
-  all_held H M (MaskOf k) own f = f
-  all_held H M (Number k) own f = f
+  pub all_held : (H : Rate → Name → Elem → Type 0) (M W : ℕ → Type 0) (x : Ask) → IsOwn vars answer x → All H AnyArray AnyArray M W x → All H (HoldsArray vars) (HoldsLocal vars) M W x
+  all_held H M W Nothing own f = tt
+  all_held H M W (Both x y) own f = (all_held H M W x own.0 f.0, all_held H M W y own.1 f.1)
+  all_held H M W (Register r x t) own f = f
+  all_held H M W (ArrayOf b) own f = own
+  all_held H M W (LocalOf b) own f = own
+  all_held H M W (MaskOf k) own f = f
+  all_held H M W (Number k) own f = f
+  all_held H M W (Loads v) own f = f
 
   pub lift_own : (r given : Rate) (t : Elem) (n : ℕ) → IsOwn vars answer (lift_asks r given t n)
   lift_own Uniform given t n = tt
@@ -48,6 +49,14 @@ module _ (vars : List Variable) (answer : Option Ty) where
   read_own (t_variable v t sp) n = tt
   read_own (t_element b i t sp) n = tt
 
+  copy_own : (r : Rate) (t : Elem) (n : ℕ) → IsOwn vars answer (copy_asks r t n)
+  copy_own Uniform t n = tt
+  copy_own Varying t n = tt
+
+  value_own : (z : TPlace) (n : ℕ) → IsOwn vars answer (value_asks z n)
+  value_own (t_variable v t sp) n = copy_own t.rate t.elem n
+  value_own (t_element b i t sp) n = tt
+
   work_own : (b : Bool) (r : Rate) (t : Elem) (i : ℕ) → IsOwn vars answer (work_asks b r t i)
   work_own true r t i = tt
   work_own false r t i = tt
@@ -64,7 +73,7 @@ module _ (vars : List Variable) (answer : Option Ty) where
       pub expr_own : (x : TExpr) (n : ℕ) → FineExpr fs vars x → IsOwn vars answer (expr_asks x n)
       expr_own (t_constant v sp) n f = tt
       expr_own (t_program_index sp) n f = tt
-      expr_own (t_place q) n f = (place_own q n f, read_own q n)
+      expr_own (t_place q) n f = (place_own q n f, value_own q n)
       expr_own (t_convert e x) n f = (tt, expr_own x n f.0)
       expr_own (t_cast x t sp) n f = (lift_own t.rate (type_of x).rate (type_of x).elem n, expr_own x n f.0)
       expr_own (t_unary o x t sp) n f = (tt, (lift_own t.rate (type_of x).rate (type_of x).elem n, expr_own x n f.0))
@@ -80,12 +89,16 @@ module _ (vars : List Variable) (answer : Option Ty) where
           (tt, (expr_own c n f.0, ((lift_own t.rate (type_of x).rate (type_of x).elem i, expr_own x i f.1), ((lift_own t.rate (type_of y).rate (type_of y).elem j, expr_own y j f.2), sides_own (type_of c).rate n))))
       expr_own (t_call c t) n f = (tt, call_own c (Some t) n f)
       expr_own (t_library g e xs t sp) n f = (tt, values_own e (parts g) (library_rates g t.rate) xs n f.0)
-      expr_own (t_packed_store b x sp) n f = tt
-      expr_own (t_packed_load b v sp) n f = tt
+      expr_own (t_packed_store b x sp) n f = (tt, (base_own b n f.0, (tt, (lift_own Varying (type_of x).rate (type_of x).elem (n + 1), expr_own x (n + 1) f.1))))
+      expr_own (t_packed_load b v sp) n f = (tt, (base_own b n f.0, (record { constant = false; is = f.1 }, tt)))
 
       place_own : (z : TPlace) (n : ℕ) → FinePlace fs vars z → IsOwn vars answer (target_asks z n)
       place_own (t_variable v t sp) n f = f
       place_own (t_element b i t sp) n f = (f.0, (lift_own t.rate (type_of i).rate I64 n, (tt, expr_own i n f.1)))
+
+      base_own : (b : TBase) (n : ℕ) → FineBase fs vars b → IsOwn vars answer (base_asks b n)
+      base_own (t_whole b sp) n f = (f.0, tt)
+      base_own (t_from b i sp) n f = (f.0, (lift_own Uniform (type_of i).rate I64 n, (tt, expr_own i n f.1)))
 
       values_own : (e : Elem) (ps : List Part) (rs : List Rate) (xs : TExprs) (n : ℕ) → FineParts fs vars e ps xs → IsOwn vars answer (values_asks rs xs n)
       values_own e [] rs t_no_exprs n f = tt

@@ -8,7 +8,7 @@ use Rattle.isp_base.specs.declared.types.Elem.{Elem}
 use Rattle.isp_base.specs.declared.types.Elem.TheVariants.{Bool as Truth, I32, I64}
 use Rattle.isp_base.specs.declared.types.Rate.{Rate}
 use Rattle.isp_base.specs.declared.types.Rate.TheVariants.{Uniform, Varying}
-use Rattle.isp_typed.specs.Typed.{TExpr, t_constant, t_program_index, t_place, t_convert, t_cast, t_unary, t_binary, t_compare, t_logic, t_choose, t_call, t_library, t_packed_store, t_packed_load, TPlace, t_variable, t_element, TArgument, t_by_value, t_by_name, TCall, t_called, TArguments, t_no_arguments, t_argument_then, TExprs, t_no_exprs, t_expr_then, TFunction, TItem, t_plain, t_with_value, t_with_size, TSimple, t_value, t_run, t_assign, t_update, t_step, place_type, type_of}
+use Rattle.isp_typed.specs.Typed.{TExpr, t_constant, t_program_index, t_place, t_convert, t_cast, t_unary, t_binary, t_compare, t_logic, t_choose, t_call, t_library, t_packed_store, t_packed_load, TPlace, t_variable, t_element, TBase, t_whole, t_from, base_array, TArgument, t_by_value, t_by_name, TCall, t_called, TArguments, t_no_arguments, t_argument_then, TExprs, t_no_exprs, t_expr_then, TFunction, TItem, t_plain, t_with_value, t_with_size, TSimple, t_value, t_run, t_assign, t_update, t_step, place_type, type_of}
 use Rattle.isp_typed.specs.Fine.{heads, HoldsArray, params_of}
 use Rattle.isp_typed.specs.declared.variable.Holds.{Holds}
 use Rattle.isp_typed.specs.declared.variable.Holds.TheVariants as holds
@@ -19,7 +19,7 @@ use Rattle.isp_lower.specs.Library.{library_rates}
 use Rattle.isp_lower.specs.Rated.{Reaches}
 use Rattle.isp_lower.specs.Rows.{Name, Variable, Spare}
 use Rattle.isp_lower.specs.Setting.{Setting}
-use Rattle.isp_lower.specs.Tables.{IsTyped, IsNamedIn}
+use Rattle.isp_lower.specs.Tables.{IsTyped, IsNamedIn, IsLoadedIn}
 use Rattle.isp_lower.proofs.LibraryTypes.{LibraryTyped}
 
 -- ---- single registers, by what it is to have one
@@ -34,6 +34,15 @@ module _ (Has : Rate → Name → Elem → Type 0) where
   abbrev pub ReadHas : TPlace → ℕ → Type 0
   ReadHas (t_variable v t sp) n = Unit {0}
   ReadHas (t_element b i t sp) n = Has t.rate (Spare t.elem n) t.elem
+
+  -- and so is a varying variable that a packed load writes
+  abbrev pub CopyHas : Rate → Elem → ℕ → Type 0
+  CopyHas Uniform t n = Unit {0}
+  CopyHas Varying t n = Has Varying (Spare t n) t
+
+  abbrev pub ValueHas : TPlace → ℕ → Type 0
+  ValueHas (t_variable v t sp) n = CopyHas t.rate t.elem n
+  ValueHas (t_element b i t sp) n = Has t.rate (Spare t.elem n) t.elem
 
   -- an operator works in slot i where its type is not that of the place
   abbrev pub WorkHas : Bool → Rate → Elem → ℕ → Type 0
@@ -64,7 +73,7 @@ module _ (w : Setting) where
 
   -- its value is read into slot n
   abbrev pub PlaceTyped : TPlace → ℕ → Type 0
-  PlaceTyped z n = ReadHas IsNamed z n
+  PlaceTyped z n = ValueHas IsNamed z n
 
   abbrev mutual
     pub ExprParts : TExpr → ℕ → Type 0
@@ -84,14 +93,21 @@ module _ (w : Setting) where
         ((type_of c).elem ≡ Truth) × Reaches (type_of c).rate t.rate × SpareFits t.rate t.elem n × OperandFits t.rate t.elem x (first_slot (type_of c).rate n) × OperandFits t.rate t.elem y (second_slot (type_of c).rate n) × ExprParts c n × ExprParts x (first_slot (type_of c).rate n) × ExprParts y (second_slot (type_of c).rate n)
     ExprParts (t_call c t) n = SpareFits t.rate t.elem n × CallParts c (Some t) n
     ExprParts (t_library f e xs t sp) n = LibraryTyped f e xs t × SpareFits t.rate t.elem n × ValuesParts (library_rates f t.rate) xs n
-    ExprParts (t_packed_store b x sp) n = ⊥
-    ExprParts (t_packed_load b v sp) n = ⊥
+    ExprParts (t_packed_store b x sp) n =
+        SpareFits Uniform I32 n × BaseParts b n × OperandFits Varying (type_of x).elem x (n + 1) × ExprParts x (n + 1)
+    ExprParts (t_packed_load b v sp) n = SpareFits Uniform I32 n × BaseParts b n × IsLoadedIn w.layout v
 
     -- a place whose index is taken at slot n; the element's rate is that of the array and the index
     pub PlaceParts : TPlace → ℕ → Type 0
     PlaceParts (t_variable v t sp) n = IsTyped w t.rate (w.layout.variable t.rate v) t.elem
     PlaceParts (t_element b i t sp) n =
         HoldsArray w.function.variables b × Reaches b.ty.rate t.rate × Reaches (type_of i).rate t.rate × SpareFits (type_of i).rate I64 n × ExprParts i n
+
+    -- the array of a packed call is one for the gang, its index uniform, and taken at slot n
+    pub BaseParts : TBase → ℕ → Type 0
+    BaseParts (t_whole b sp) n = HoldsArray w.function.variables b × (b.ty.rate ≡ Uniform) × SpareFits Uniform I64 n
+    BaseParts (t_from b i sp) n =
+        HoldsArray w.function.variables b × (b.ty.rate ≡ Uniform) × Reaches (type_of i).rate Uniform × SpareFits (type_of i).rate I64 n × ExprParts i n
 
     -- value j at slot n + j, at the next of these rates
     pub ValuesParts : List Rate → TExprs → ℕ → Type 0

@@ -6,8 +6,8 @@ use Rattle.isp_base.specs.declared.types.Elem.TheVariants.{Bool as Truth, I8, U8
 use Rattle.isp_base.specs.declared.types.Rate.{Rate}
 use Rattle.isp_base.specs.declared.types.Rate.TheVariants.{Uniform, Varying}
 use Rattle.isp_base.specs.declared.types.Ty.{Ty}
-use Rattle.isp_typed.specs.Fine.{IsWhole, AreOperands, FineExpr, FinePlace, FineCall, FineArguments, FineArgument, FineParts, rates_of as rates_of_values, params_of, FineTarget, FineSimple, FineItem}
-use Rattle.isp_typed.specs.Typed.{TExpr, t_constant, t_program_index, t_place, t_convert, t_cast, t_unary, t_binary, t_compare, t_logic, t_choose, t_call, t_library, t_packed_store, t_packed_load, TPlace, t_variable, t_element, TArgument, t_by_value, t_by_name, TCall, t_called, TArguments, t_no_arguments, t_argument_then, TExprs, t_no_exprs, t_expr_then, TItem, t_plain, t_with_value, t_with_size, TSimple, t_value, t_run, t_assign, t_update, t_step, TFunction, place_type, type_of, rate_or}
+use Rattle.isp_typed.specs.Fine.{IsWhole, AreOperands, FineExpr, FinePlace, FineBase, FineCall, FineArguments, FineArgument, FineParts, rates_of as rates_of_values, params_of, FineTarget, FineSimple, FineItem}
+use Rattle.isp_typed.specs.Typed.{TExpr, t_constant, t_program_index, t_place, t_convert, t_cast, t_unary, t_binary, t_compare, t_logic, t_choose, t_call, t_library, t_packed_store, t_packed_load, TPlace, t_variable, t_element, TBase, t_whole, t_from, TArgument, t_by_value, t_by_name, TCall, t_called, TArguments, t_no_arguments, t_argument_then, TExprs, t_no_exprs, t_expr_then, TItem, t_plain, t_with_value, t_with_size, TSimple, t_value, t_run, t_assign, t_update, t_step, TFunction, place_type, type_of, rate_or}
 use Rattle.isp_typed.specs.declared.variable.Holds.{Holds}
 use Rattle.isp_typed.specs.declared.variable.Holds.TheVariants as holds
 use Rattle.isp_typed.specs.declared.variable.Variable.{Variable}
@@ -17,10 +17,10 @@ use Rattle.isp_typed.specs.declared.library.Library.{Library}
 use Rattle.isp_typed.specs.declared.library.Library.TheVariants as library
 use Rattle.isp_lower.specs.Callees.{rate_held, rates_held, rates_of}
 use Rattle.isp_lower.specs.Library.{rate_taken, rates_taken, works_at}
-use Rattle.isp_lower.specs.Rated.{Reaches, IsRated, CallRated, ArgumentsRated, ArgumentRated, ValuesRated, PlaceRated, RatedAt, SimpleRated, ItemsRated}
+use Rattle.isp_lower.specs.Rated.{Reaches, IsRated, CallRated, ArgumentsRated, ArgumentRated, ValuesRated, PlaceRated, BaseRated, RatedAt, SimpleRated, ItemsRated}
 use Rattle.isp_lower.proofs.LibraryTypes.{parts_are}
 use Rattle.isp_lower.proofs.Parts.{IsNumber}
-use Rattle.isp_lower.proofs.Trees.{OperandTree, ExprTree, PlaceTree, ValuesTree, CallTree, ArgumentsTree, ArgumentTree, SimpleTree, ItemsTree}
+use Rattle.isp_lower.proofs.Trees.{OperandTree, ExprTree, PlaceTree, BaseTree, ValuesTree, CallTree, ArgumentsTree, ArgumentTree, SimpleTree, ItemsTree}
 
 -- ---- rates
 
@@ -138,13 +138,17 @@ module _ (fs : List TFunction) (vars : List Variable) where
     expr_tree (t_call k t) f r = call_tree k (Some t) f r
     expr_tree (t_library g e xs t sp) f r =
         (record { elems = parts_are fs vars e (parts g) xs f.0; works = f.1; gives = f.2 }, values_tree e (parts g) (works_at g t.rate) xs f.0 r (subst (λ u. EachReaches (works_at g u.rate) xs) (sym f.2) (works_reach g e xs)))
-    expr_tree (t_packed_store b x sp) f r = absurd r
-    expr_tree (t_packed_load b v sp) f r = absurd r
+    expr_tree (t_packed_store b x sp) f r = (base_tree b f.0 r.0, record { elem = f.2; reaches = reaches_varying (type_of x).rate }, expr_tree x f.1 r.1)
+    expr_tree (t_packed_load b v sp) f r = base_tree b f.0 r
 
     place_tree : (z : TPlace) → FinePlace fs vars z → PlaceRated fs z → PlaceTree fs z
     place_tree (t_variable v t sp) f r = tt
     place_tree (t_element b i t sp) f r =
         (subst (λ u. Reaches b.ty.rate u.rate) (sym f.2) (reaches_first b.ty.rate (type_of i).rate), subst (λ u. Reaches (type_of i).rate u.rate) (sym f.2) (reaches_second b.ty.rate (type_of i).rate), expr_tree i f.1 r, sym (ap (λ u. u.elem) f.2))
+
+    base_tree : (b : TBase) → FineBase fs vars b → BaseRated fs b → BaseTree fs b
+    base_tree (t_whole b sp) f r = (reaches_uniform b.ty.rate r, f.1)
+    base_tree (t_from b i sp) f r = (reaches_uniform b.ty.rate r.0, f.2, r.1, expr_tree i f.1 r.2)
 
     values_tree : (e : Elem) (ps : List Part) (at : Rate) (xs : TExprs) → FineParts fs vars e ps xs → ValuesRated fs (rates_taken Varying ps) xs → EachReaches at xs → ValuesTree fs (rates_taken at ps) xs
     values_tree e [] at t_no_exprs f r h = tt

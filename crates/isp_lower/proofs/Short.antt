@@ -19,7 +19,7 @@ use Rattle.isp_meaning.specs.Places.{variable}
 use Rattle.isp_meaning.specs.Expressions.{value}
 use Rattle.isp_lower.specs.Setting.{Setting, IsSettled, gang_of, calls_of, AreAt, Stands, at_rate, held_at, Holds}
 use Rattle.isp_lower.specs.Runs.{Runs}
-use Rattle.isp_lower.specs.Code.{same_rate, stays, lifted, found, select}
+use Rattle.isp_lower.specs.Code.{is_copied, variable_found, same_rate, stays, lifted, found, select}
 use Rattle.isp_lower.proofs.Base.{are_back}
 use Rattle.isp_lower.proofs.Rates.{Filled, at_kept, filled_on}
 use Rattle.isp_lower.proofs.Lines.{set_at}
@@ -58,7 +58,11 @@ module _ (w : Setting) where
   pub stays_in_place : (x : TExpr) (n : ℕ) → stays w.layout x ≡ true → InPlace (type_of x).rate (found w.layout x n) (value (gang_of w) w.frame (calls_of w) x)
   stays_in_place (t_constant v sp) n e T s c st = absurd (cc)
   stays_in_place (t_program_index sp) n e T s c st = absurd (cc)
-  stays_in_place (t_place (t_variable v t sp)) n e T s c st = (variable t.rate v T (tick s), tick s, refl, ticked s, held_there t.rate v T (tick s) c st)
+  stays_in_place (t_place (t_variable v t sp)) n e T s c st = (variable t.rate v T (tick s), tick s, refl, ticked s, go (is_copied w.layout t.rate v) e)
+    where
+      go : (b : Bool) → not b ≡ true → Holds t.rate T (variable_found w.layout b t v n) (variable t.rate v T (tick s)) c
+      go true h = absurd (cc)
+      go false h = held_there t.rate v T (tick s) c st
   stays_in_place (t_place (t_element b i t sp)) n e T s c st = absurd (cc)
   stays_in_place (t_convert u x) n e T s c st = absurd (cc)
   stays_in_place (t_cast x t sp) n e T s c st = go (same_rate t.rate (type_of x).rate) refl (λ h. stays_in_place x n h T (tick s) c st) e

@@ -1,13 +1,14 @@
 -- Each instruction of the code of an expression has its operands.
 use Rattle.std.proofs.Common.{◌≡◌, ℕ, ◌+◌, ◌<◌, ◌≤◌, List, [], ◌∷◌, ◌++◌, length, Option, Some, Bool, true, false, refl, sym, ap, ◌∙◌, subst, arith}
 use Rattle.isp_base.specs.declared.types.Elem.{Elem}
-use Rattle.isp_base.specs.declared.types.Elem.TheVariants.{Bool as Truth}
+use Rattle.isp_base.specs.declared.types.Elem.TheVariants.{Bool as Truth, I64}
 use Rattle.isp_base.specs.declared.types.Rate.{Rate}
+use Rattle.isp_base.specs.declared.types.Rate.TheVariants.{Uniform, Varying}
 use Rattle.isp_base.specs.declared.types.Span.{Span}
 use Rattle.isp_base.specs.declared.types.Ty.{Ty}
 use Rattle.isp_code.specs.Listing.{Listing, Routine}
 use Rattle.isp_code.specs.declared.instr.Instr.{Instr}
-use Rattle.isp_typed.specs.Typed.{TExpr, t_constant, t_program_index, t_place, t_convert, t_cast, t_unary, t_binary, t_compare, t_logic, t_choose, t_call, t_library, t_packed_store, t_packed_load, TPlace, t_variable, t_element, TArgument, t_by_value, t_by_name, TCall, t_called, TArguments, t_no_arguments, t_argument_then, TExprs, t_no_exprs, t_expr_then, TFunction, place_type, type_of}
+use Rattle.isp_typed.specs.Typed.{TExpr, t_constant, t_program_index, t_place, t_convert, t_cast, t_unary, t_binary, t_compare, t_logic, t_choose, t_call, t_library, t_packed_store, t_packed_load, TPlace, t_variable, t_element, TBase, t_whole, t_from, base_array, TArgument, t_by_value, t_by_name, TCall, t_called, TArguments, t_no_arguments, t_argument_then, TExprs, t_no_exprs, t_expr_then, TFunction, place_type, type_of}
 use Rattle.isp_typed.specs.declared.variable.ArrayVariable.{ArrayVariable}
 use Rattle.isp_code.specs.Fine.{AllFine, IsGiven, ArePassed}
 use Rattle.isp_code.specs.Operands.{result_operands}
@@ -19,18 +20,18 @@ use Rattle.isp_typed.specs.declared.variable.Variable.{Variable}
 use Rattle.isp_lower.specs.Callees.{rate_held, rates_held, rates_of}
 use Rattle.isp_lower.specs.Header.{returns_of}
 use Rattle.isp_lower.specs.Layout.{Layout, register}
-use Rattle.isp_lower.specs.Code.{compare, unary, operate, operate_places, select, part_to, lift_to, found, operand, operand_of, index, choose_to, is_short, expr_places, index_places, read_places, expr_to, index_code, read_code, expr_code, values_code, values_places, value_registers, argument_places, arguments_places, call_places, argument_registers, argument_code, arguments_code, call_code, calling}
+use Rattle.isp_lower.specs.Code.{is_copied, variable_read, compare, unary, operate, operate_places, packed_store, packed_load, select, part_to, lift_to, found, operand, operand_of, index, choose_to, is_short, expr_places, index_places, read_places, expr_to, base_places, base_register, base_code, index_code, read_code, expr_code, values_code, values_places, value_registers, argument_places, arguments_places, call_places, argument_registers, argument_code, arguments_code, call_code, calling}
 use Rattle.isp_typed.specs.Fine.{rates_of as rate_of_all}
 use Rattle.isp_typed.specs.Library.{library_type, parts}
 use Rattle.isp_typed.specs.declared.library.Library.{Library}
 use Rattle.isp_lower.specs.Callees.{later, next_rate}
 use Rattle.isp_lower.specs.Library.{library_code, library_rates}
-use Rattle.isp_lower.specs.Asks.{argument_asks, arguments_asks, call_asks, expr_asks, first_slot, operand_asks, second_slot, target_asks, values_asks}
+use Rattle.isp_lower.specs.Asks.{argument_asks, arguments_asks, base_asks, call_asks, expr_asks, first_slot, operand_asks, second_slot, target_asks, values_asks}
 use Rattle.isp_lower.specs.Sound.{AreSound, Links, PartSound, IsRegister, HasArray, Granted}
-use Rattle.isp_lower.proofs.SoundLines.{IsArray, array_is, unary_sound, compare_sound, operate_sound, read_sound, constant_sound, index_sound as lane_sound}
+use Rattle.isp_lower.proofs.SoundLines.{IsArray, array_is, copy_sound, packed_store_sound, packed_load_sound, unary_sound, compare_sound, operate_sound, read_sound, constant_sound, index_sound as lane_sound}
 use Rattle.isp_lower.proofs.SoundFound.{part_there, found_there, operand_there, index_there}
 use Rattle.isp_lower.proofs.SoundParts.{few_front, few_back, Here, AnyMask, here_both, here_then, pair_sound, logic_sound, lift_to_sound, operand_sound, convert_to_sound, index_sound, choose_sound, short_sound}
-use Rattle.isp_lower.proofs.Trees.{ExprTree, OperandTree, PlaceTree, ValuesTree, CallTree, ArgumentsTree, ArgumentTree}
+use Rattle.isp_lower.proofs.Trees.{IsWord, ExprTree, OperandTree, PlaceTree, BaseTree, ValuesTree, CallTree, ArgumentsTree, ArgumentTree}
 use Rattle.isp_lower.proofs.InRow.{enough}
 use Rattle.isp_lower.proofs.LibraryTypes.{LibraryTyped, part_elems}
 use Rattle.isp_lower.proofs.SoundLibrary.{ThereFrom, library_sound, there_from}
@@ -53,7 +54,11 @@ module _ (fs : List TFunction) (code : Listing) (h : Routine) (l : Layout) (link
       (d pc p k n : ℕ) → ExprTree fs x → Granted h l (expr_asks x n) → IsRegister h (type_of x).rate d (type_of x).elem → k < h.masks → Named code h l p (expr_places l x) → Here code h pc (expr_to l d x pc p k n)
 
   pub read_there : (q : TPlace) (d pc p k n : ℕ) → PlaceTree fs q → Granted h l (target_asks q n) → IsRegister h (place_type q).rate d (place_type q).elem → k < h.masks → Named code h l p (read_places l q) → AreSound code h (read_code l d q p k n)
-  read_there (t_variable v t sp) d pc p k n is f hd lk lp = tt
+  read_there (t_variable v t sp) d pc p k n is f hd lk lp = go (is_copied l t.rate v)
+    where
+      go : (b : Bool) → AreSound code h (variable_read l b d t.rate v k)
+      go true = (copy_sound code h t.rate t.elem d (l.variable t.rate v) k hd f lk, tt)
+      go false = tt
   read_there (t_element b i t sp) d pc p k n is f hd lk lp =
       (read_sound code h t.rate t.elem d (l.array b.number) (index l t.rate i n) k p hd (array_there code h l b t.rate t.elem f.0 is.0 is.3) (index_there fs h l t.rate i n is.1 is.2 f.1) lk (omega (arith, lp)), tt)
 
@@ -76,6 +81,23 @@ module _ (fs : List TFunction) (code : Listing) (h : Routine) (l : Layout) (link
       of_type r et regs there =
           subst (λ u. IsRegister h u.rate d u.elem → IsRegister h u.rate (l.spare u.rate u.elem n) u.elem → ThereFrom h (library_rates g u.rate) (part_elems e (parts g)) regs → AreSound code h (library_code g u.rate d (l.spare u.rate u.elem n) regs k)) (sym et)
           (λ hd hs there. library_sound code h k lk g e r d (l.spare (library_type g e r).rate (library_type g e r).elem n) regs typed.works hd hs there) hd hs there
+
+  -- ---- the array of a packed call, and the number of its first element
+
+  base_words : (b : TBase) → BaseTree fs b → IsWord (base_array b).ty.elem
+  base_words (t_whole b sp) is = is.1
+  base_words (t_from b i sp) is = is.1
+
+  shared_there : (b : ArrayVariable) → b.ty.rate ≡ Uniform → HasArray h l b → IsArray code h Uniform (l.array b.number) b.ty.elem
+  shared_there b e f = array_there code h l b Uniform b.ty.elem f (subst (λ r. Reaches r Uniform) (sym e) tt) refl
+
+  base_there : (b : TBase) (n : ℕ) → BaseTree fs b → Granted h l (base_asks b n) → IsArray code h Uniform (l.array (base_array b).number) (base_array b).ty.elem
+  base_there (t_whole b sp) n is f = shared_there b is.0 f.0
+  base_there (t_from b i sp) n is f = shared_there b is.0 f.0
+
+  first_there : (b : TBase) (n : ℕ) → BaseTree fs b → Granted h l (base_asks b n) → IsRegister h Uniform (base_register l b n) I64
+  first_there (t_whole b sp) n is f = f.1
+  first_there (t_from b i sp) n is f = index_there fs h l Uniform i n is.2 is.3 f.1
 
   mutual
     pub expr_sound : (x : TExpr) → ToSound x
@@ -127,8 +149,29 @@ module _ (fs : List TFunction) (code : Listing) (h : Routine) (l : Layout) (link
     expr_sound (t_library g e xs t sp) d pc p k n is f hd lk lp =
         let rs = library_rates g t.rate in
         here_both code h pc (values_code l rs xs pc p k n) (library_code g t.rate d (l.spare t.rate t.elem n) (value_registers l rs xs n) k) (values_sound rs xs pc p k n is.1 f.1 lk lp) (λ lt. made_sound g e xs t d k n is.0 is.1 f.1 hd f.0 lk)
-    expr_sound (t_packed_store b x sp) d pc p k n is f hd lk lp = absurd is
-    expr_sound (t_packed_load b v sp) d pc p k n is f hd lk lp = absurd is
+    expr_sound (t_packed_store b x sp) d pc p k n is f hd lk lp =
+        let t = (base_array b).ty.elem in
+        let m = n + 1 in
+        let pb = base_places l b in
+        let px = expr_places l x in
+        let p1 = p + length pb in
+        let back = few_back (length code.places) p pb (px ++ sp ∷ []) lp in
+        let last = few_back (length code.places) p1 px (sp ∷ []) back in
+        pair_sound code h pc (base_code l b pc p k n) (λ pc1. operand_of l Varying x k m (expr_code l x pc1 p1 k m)) (packed_store d (l.array (base_array b).number) (base_register l b n) (operand l Varying x m) k (p1 + length px))
+        (base_sound b pc p k n is.0 f.1.0 lk (few_front (length code.places) p pb (px ++ sp ∷ []) lp))
+        (λ pc1. operand_sound code h fs l Varying t x pc1 k m (expr_code l x pc1 p1 k m) is.1 is.2 f.1.1.1 lk (λ lt. expr_sound x (found l x m) pc1 p1 k m is.2 f.1.1.1.1 (found_there fs h l x m is.2 f.1.1.1.1) lk (few_front (length code.places) p1 px (sp ∷ []) back) lt))
+        (packed_store_sound code h t d (l.array (base_array b).number) (base_register l b n) (operand l Varying x m) k (p1 + length px) (base_words b is.0) hd (base_there b n is.0 f.1.0) (first_there b n is.0 f.1.0) (operand_there fs h l Varying t x m is.1 is.2 f.1.1.1) lk (omega (arith, last)))
+    expr_sound (t_packed_load b v sp) d pc p k n is f hd lk lp =
+        let pb = base_places l b in
+        let last = few_back (length code.places) p pb (sp ∷ []) lp in
+        here_then code h pc (base_code l b pc p k n) (packed_load d (l.array (base_array b).number) (base_register l b n) (l.variable Varying v) k (p + length pb))
+        (base_sound b pc p k n is f.1.0 lk (few_front (length code.places) p pb (sp ∷ []) lp))
+        (packed_load_sound code h (base_array b).ty.elem d (l.array (base_array b).number) (base_register l b n) (l.variable Varying v) k (p + length pb) (base_words b is) hd (base_there b n is f.1.0) (first_there b n is f.1.0) f.1.1.0 lk (omega (arith, last)))
+
+    base_sound : (b : TBase) (pc p k n : ℕ) → BaseTree fs b → Granted h l (base_asks b n) → k < h.masks → Named code h l p (base_places l b) → Here code h pc (base_code l b pc p k n)
+    base_sound (t_whole b sp) pc p k n is f lk lp = λ lt. (constant_sound code h I64 (l.spare Uniform I64 n) 0 f.1, tt)
+    base_sound (t_from b i sp) pc p k n is f lk lp =
+        index_sound code h fs l Uniform i pc k n (expr_code l i pc p k n) is.2 is.3 f.1 lk (λ lt. expr_sound i (found l i n) pc p k n is.3 f.1.1.1 (found_there fs h l i n is.3 f.1.1.1) lk lp lt)
 
     -- the index of a place
     pub place_sound : (q : TPlace) (pc p k n : ℕ) → PlaceTree fs q → Granted h l (target_asks q n) → k < h.masks → Named code h l p (index_places l q) → Here code h pc (index_code l q pc p k n)

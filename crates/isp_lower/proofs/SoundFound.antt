@@ -8,8 +8,8 @@ use Rattle.isp_base.specs.declared.types.Rate.TheVariants.{Uniform, Varying}
 use Rattle.isp_code.specs.Listing.{Routine}
 use Rattle.isp_typed.specs.Typed.{TExpr, t_constant, t_program_index, t_place, t_convert, t_cast, t_unary, t_binary, t_compare, t_logic, t_choose, t_call, t_library, t_packed_store, t_packed_load, TPlace, t_variable, t_element, TFunction, place_type, type_of}
 use Rattle.isp_lower.specs.Layout.{Layout}
-use Rattle.isp_lower.specs.Code.{same_rate, is_whole, lifted, part_to, place_found, found, operand, whole, index, stays, stays_at}
-use Rattle.isp_lower.specs.Asks.{expr_asks, index_asks, lift_asks, operand_asks, whole_asks}
+use Rattle.isp_lower.specs.Code.{is_copied, variable_found, same_rate, is_whole, lifted, part_to, place_found, found, operand, whole, index, stays, stays_at}
+use Rattle.isp_lower.specs.Asks.{copy_asks, expr_asks, index_asks, lift_asks, operand_asks, whole_asks}
 use Rattle.isp_lower.specs.Sound.{IsRegister, Granted}
 use Rattle.isp_lower.proofs.Found.{whole_is}
 use Rattle.isp_lower.proofs.Short.{same_rate-is}
@@ -44,7 +44,15 @@ module _ (fs : List TFunction) (h : Routine) (l : Layout) where
   -- ---- where values are found
 
   pub place_there : (z : TPlace) (n : ℕ) → Granted h l (expr_asks (t_place z) n) → IsRegister h (place_type z).rate (place_found l z n) (place_type z).elem
-  place_there (t_variable v t sp) n f = f.0
+  place_there (t_variable v t sp) n f = go (is_copied l t.rate v) refl
+    where
+      copy_there : (r : Rate) (e : Elem) → is_copied l r v ≡ true → Granted h l (copy_asks r e n) → IsRegister h r (l.spare r e n) e
+      copy_there Uniform e is g = absurd (cc)
+      copy_there Varying e is g = g
+
+      go : (b : Bool) → is_copied l t.rate v ≡ b → IsRegister h t.rate (variable_found l b t v n) t.elem
+      go true e = copy_there t.rate t.elem e f.1
+      go false e = f.0
   place_there (t_element b i t sp) n f = f.1
 
   pub found_there : (x : TExpr) (n : ℕ) → ExprTree fs x → Granted h l (expr_asks x n) → IsRegister h (type_of x).rate (found l x n) (type_of x).elem
@@ -61,8 +69,8 @@ module _ (fs : List TFunction) (h : Routine) (l : Layout) where
   found_there (t_choose c x y t sp) n is f = f.0
   found_there (t_call c t) n is f = f.0
   found_there (t_library g e xs t sp) n is f = f.0
-  found_there (t_packed_store b x sp) n is f = absurd is
-  found_there (t_packed_load b v sp) n is f = absurd is
+  found_there (t_packed_store b x sp) n is f = f.0
+  found_there (t_packed_load b v sp) n is f = f.0
 
   pub operand_there : (r : Rate) (t : Elem) (x : TExpr) (n : ℕ) → OperandTree r t x → ExprTree fs x → Granted h l (operand_asks r x n) → IsRegister h r (operand l r x n) t
   operand_there r t x n o is f = lift_there (type_of x).rate r (type_of x).elem t (found l x n) n o.reaches o.elem f.0 (found_there x n is f.1)

@@ -1,5 +1,5 @@
 -- Each kind of instruction has its operands, where its registers are there and of their types.
-use Rattle.std.proofs.Common.{◌≡◌, ◌≢◌, ℕ, ◌+◌, ◌<◌, ◌≤◌, List, [], ◌∷◌, ◌++◌, length, Bool, true, false, refl, sym, ◌∙◌, subst, arith}
+use Rattle.std.proofs.Common.{◌≡◌, ◌≢◌, ℕ, ◌+◌, ◌<◌, ◌≤◌, List, [], ◌∷◌, ◌++◌, length, Bool, true, false, refl, sym, ap, ◌∙◌, subst, arith}
 use Rattle.isp_base.specs.Values.{number}
 use Rattle.isp_base.specs.declared.operators.BinOp.{BinOp}
 use Rattle.isp_base.specs.declared.operators.BinOp.TheVariants as op
@@ -11,7 +11,7 @@ use Rattle.isp_base.specs.declared.types.Elem.TheVariants.{Bool as Truth, I8, U8
 use Rattle.isp_base.specs.declared.types.Rate.{Rate}
 use Rattle.isp_base.specs.declared.types.Rate.TheVariants.{Uniform, Varying}
 use Rattle.isp_base.specs.declared.types.Span.{Span}
-use Rattle.isp_code.specs.Fine.{has_value, IsThere, IsWanted}
+use Rattle.isp_code.specs.Fine.{has_value, is_word32, IsThere, IsWanted}
 use Rattle.isp_code.specs.Listing.{Listing, Routine}
 use Rattle.isp_code.specs.Operands.{unary_want}
 use Rattle.isp_code.specs.Registers.{elem_of}
@@ -27,10 +27,11 @@ use Rattle.isp_typed.specs.Fine.{WorksIn}
 use Rattle.isp_typed.specs.declared.variable.Logic.{Logic}
 use Rattle.isp_typed.specs.declared.variable.Logic.TheVariants.{And, Or}
 use Rattle.isp_lower.specs.Layout.{register, mask_register, array_register}
-use Rattle.isp_lower.specs.Code.{copy, convert, unary, compare, compute, operate, operate_places, read, write, constant, splat, select, where_so, the_others, jump_off, jump_on, decided, needing, move, move_code}
+use Rattle.isp_lower.specs.Code.{copy, convert, unary, compare, compute, operate, operate_places, packed_store, packed_load, read, write, constant, splat, select, where_so, the_others, jump_off, jump_on, decided, needing, move, move_code}
 use Rattle.isp_lower.specs.Sound.{IsSound, AreSound, IsRegister, IsShared}
 use Rattle.isp_lower.proofs.Numbers.{number_fits}
 use Rattle.isp_lower.proofs.Parts.{IsNumber}
+use Rattle.isp_lower.proofs.Trees.{IsWord}
 use Rattle.isp_lower.specs.Rated.{Reaches}
 
 -- ---- types
@@ -135,6 +136,27 @@ module _ (code : Listing) (h : Routine) where
       (((hd.0, tt), ((hc.0, hc.1), ((hx.0, hx.1 ∙ sym hd.1), ((hy.0, hy.1 ∙ sym hd.1), tt)))), tt)
   select_sound Varying t d c x y k hd hc hx hy lk =
       (((hd.0, tt), ((hc.0, hc.1), ((hx.0, hx.1 ∙ sym hd.1), ((hy.0, hy.1 ∙ sym hd.1), ((refl, lk), tt))))), tt)
+
+  -- ---- packed calls, on an array of one for the gang whose elements have 32 bits
+
+  word_is : (t u : Elem) → IsWord t → u ≡ t → is_word32 u ≡ true
+  word_is Truth u is e = absurd (cc)
+  word_is I8 u is e = absurd (cc)
+  word_is U8 u is e = absurd (cc)
+  word_is I16 u is e = absurd (cc)
+  word_is U16 u is e = absurd (cc)
+  word_is I32 u is e = ap is_word32 e
+  word_is U32 u is e = ap is_word32 e
+  word_is I64 u is e = absurd (cc)
+  word_is U64 u is e = absurd (cc)
+
+  pub packed_store_sound : (t : Elem) (d b i x k p : ℕ) → IsWord t → IsRegister h Uniform d I32 → IsArray Uniform b t → IsRegister h Uniform i I64 → IsRegister h Varying x t → k < h.masks → p < length code.places → IsSound code h (packed_store d b i x k p)
+  unfolding IsArray
+  packed_store_sound t d b i x k p is hd hb hi hx lk lp = (((hd.0, hd.1), ((hb.0, hb.2, word_is t _ is hb.1), ((hi.0, hi.1), ((hx.0, hx.1 ∙ sym hb.1), ((refl, lk), (lp, tt)))))), tt)
+
+  pub packed_load_sound : (t : Elem) (d b i x k p : ℕ) → IsWord t → IsRegister h Uniform d I32 → IsArray Uniform b t → IsRegister h Uniform i I64 → IsRegister h Varying x t → k < h.masks → p < length code.places → IsSound code h (packed_load d b i x k p)
+  unfolding IsArray
+  packed_load_sound t d b i x k p is hd hb hi hx lk lp = (((hd.0, hd.1), ((hb.0, hb.2, word_is t _ is hb.1), ((hi.0, hi.1), ((hx.0, hx.1 ∙ sym hb.1), ((refl, lk), (lp, tt)))))), tt)
 
   -- ---- masks and jumps
 

@@ -1,11 +1,11 @@
 -- A variable, in brackets or not, is found where it is, whatever the slot.
 use Rattle.std.proofs.Common.{◌≡◌, ℕ, Bool, true, false, refl}
-use Rattle.std.specs.Prelude.{◌&&◌}
+use Rattle.std.specs.Prelude.{◌&&◌, not}
 use Rattle.isp_base.specs.declared.types.Elem.{Elem}
 use Rattle.isp_base.specs.declared.types.Rate.{Rate}
 use Rattle.isp_base.specs.declared.types.Rate.TheVariants.{Uniform, Varying}
 use Rattle.isp_typed.specs.Typed.{TExpr, t_constant, t_program_index, t_place, t_convert, t_cast, t_unary, t_binary, t_compare, t_logic, t_choose, t_call, t_library, t_packed_store, t_packed_load, t_variable, t_element, type_of}
-use Rattle.isp_lower.specs.Code.{found, is_short, lifted, same_rate, stays, stays_at}
+use Rattle.isp_lower.specs.Code.{is_copied, variable_found, found, is_short, lifted, same_rate, stays, stays_at}
 use Rattle.isp_lower.specs.Layout.{Layout}
 
 pub both_true : (a b : Bool) → (a && b) ≡ true → (a ≡ true) × (b ≡ true)
@@ -21,7 +21,11 @@ same_lifted l Varying Varying t x y n m e is = is
 pub stays_same : (l : Layout) (x : TExpr) (n m : ℕ) → stays l x ≡ true → found l x n ≡ found l x m
 stays_same l (t_constant v sp) n m e = absurd (cc)
 stays_same l (t_program_index sp) n m e = absurd (cc)
-stays_same l (t_place (t_variable v t sp)) n m e = refl
+stays_same l (t_place (t_variable v t sp)) n m e = go (is_copied l t.rate v) e
+  where
+    go : (b : Bool) → not b ≡ true → variable_found l b t v n ≡ variable_found l b t v m
+    go true h = absurd (cc)
+    go false h = refl
 stays_same l (t_place (t_element b i t sp)) n m e = absurd (cc)
 stays_same l (t_convert u x) n m e = absurd (cc)
 stays_same l (t_cast x t sp) n m e =

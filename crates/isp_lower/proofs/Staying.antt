@@ -24,8 +24,8 @@ stays_silent l (t_logic g x y r sp) e = absurd (cc)
 stays_silent l (t_choose d x y t sp) e = absurd (cc)
 stays_silent l (t_call d t) e = absurd (cc)
 stays_silent l (t_library f u xs t sp) e = absurd (cc)
-stays_silent l (t_packed_store d x sp) e = refl
-stays_silent l (t_packed_load d v sp) e = refl
+stays_silent l (t_packed_store d x sp) e = absurd (cc)
+stays_silent l (t_packed_load d v sp) e = absurd (cc)
 
 pub short_silent : (l : Layout) (r : Rate) (c x y : TExpr) → is_short l r c x y ≡ true → expr_places l x ++ expr_places l y ≡ []
 short_silent l r c x y e =

@@ -1,22 +1,27 @@
 -- What is demanded of the tree alone: operands have the types in which their node works, a uniform part may stand in a
 -- varying node and never the reverse, and a conversion's operand is no conversion.
-use Rattle.std.proofs.Common.{◌≡◌, List, [], ◌∷◌, Option, Some, None}
-use Rattle.std.specs.Prelude.{slice_get}
+use Rattle.std.proofs.Common.{◌≡◌, List, [], ◌∷◌, Option, Some, None, true}
+use Rattle.std.specs.Prelude.{slice_get, ◌||◌}
+use Rattle.isp_base.specs.Ranks.{same_elem}
 use Rattle.isp_base.specs.declared.types.Elem.{Elem}
-use Rattle.isp_base.specs.declared.types.Elem.TheVariants.{Bool as Truth}
+use Rattle.isp_base.specs.declared.types.Elem.TheVariants.{Bool as Truth, I32, U32}
 use Rattle.isp_base.specs.declared.types.Rate.{Rate}
-use Rattle.isp_base.specs.declared.types.Rate.TheVariants.{Uniform}
+use Rattle.isp_base.specs.declared.types.Rate.TheVariants.{Uniform, Varying}
 use Rattle.isp_base.specs.declared.types.Ty.{Ty}
 use Rattle.isp_typed.specs.Fine.{WorksIn, heads, params_of}
 use Rattle.isp_typed.specs.declared.variable.Holds.{Holds}
 use Rattle.isp_typed.specs.declared.variable.Holds.TheVariants as holds
 use Rattle.isp_typed.specs.declared.variable.Variable.{Variable}
-use Rattle.isp_typed.specs.Typed.{TExpr, t_constant, t_program_index, t_place, t_convert, t_cast, t_unary, t_binary, t_compare, t_logic, t_choose, t_call, t_library, t_packed_store, t_packed_load, TPlace, t_variable, t_element, TArgument, t_by_value, t_by_name, TCall, t_called, TArguments, t_no_arguments, t_argument_then, TExprs, t_no_exprs, t_expr_then, TFunction, TItem, t_plain, t_with_value, t_with_size, TSimple, t_value, t_run, t_assign, t_update, t_step, place_type, type_of}
+use Rattle.isp_typed.specs.Typed.{TExpr, t_constant, t_program_index, t_place, t_convert, t_cast, t_unary, t_binary, t_compare, t_logic, t_choose, t_call, t_library, t_packed_store, t_packed_load, TPlace, t_variable, t_element, TBase, t_whole, t_from, base_array, TArgument, t_by_value, t_by_name, TCall, t_called, TArguments, t_no_arguments, t_argument_then, TExprs, t_no_exprs, t_expr_then, TFunction, TItem, t_plain, t_with_value, t_with_size, TSimple, t_value, t_run, t_assign, t_update, t_step, place_type, type_of}
 use Rattle.isp_lower.specs.Callees.{next_rate, later}
 use Rattle.isp_lower.specs.Library.{library_rates}
 use Rattle.isp_lower.specs.Rated.{Reaches}
 use Rattle.isp_lower.proofs.LibraryTypes.{LibraryTyped}
 use Rattle.isp_lower.proofs.Parts.{IsNumber}
+
+-- of 32 bits
+abbrev pub IsWord : Elem → Type 0
+IsWord t = (same_elem t I32 || same_elem t U32) ≡ true
 
 pub record OperandTree (r : Rate) (t : Elem) (x : TExpr) : Type 0 where
   pub elem : (type_of x).elem ≡ t
@@ -41,13 +46,18 @@ module _ (fs : List TFunction) where
         OperandTree t.rate Truth c × OperandTree t.rate t.elem x × OperandTree t.rate t.elem y × ExprTree c × ExprTree x × ExprTree y
     ExprTree (t_call c t) = CallTree c (Some t)
     ExprTree (t_library f e xs t sp) = LibraryTyped f e xs t × ValuesTree (library_rates f t.rate) xs
-    ExprTree (t_packed_store b x sp) = ⊥
-    ExprTree (t_packed_load b v sp) = ⊥
+    ExprTree (t_packed_store b x sp) = BaseTree b × OperandTree Varying (base_array b).ty.elem x × ExprTree x
+    ExprTree (t_packed_load b v sp) = BaseTree b
 
     pub PlaceTree : TPlace → Type 0
     PlaceTree (t_variable v t sp) = Unit {0}
     PlaceTree (t_element b i t sp) =
         Reaches b.ty.rate t.rate × Reaches (type_of i).rate t.rate × ExprTree i × (b.ty.elem ≡ t.elem)
+
+    -- the array of a packed call is one for the gang, and its elements have 32 bits
+    pub BaseTree : TBase → Type 0
+    BaseTree (t_whole b sp) = (b.ty.rate ≡ Uniform) × IsWord b.ty.elem
+    BaseTree (t_from b i sp) = (b.ty.rate ≡ Uniform) × IsWord b.ty.elem × Reaches (type_of i).rate Uniform × ExprTree i
 
     pub ValuesTree : List Rate → TExprs → Type 0
     ValuesTree rs t_no_exprs = Unit {0}

@@ -100,8 +100,26 @@ module _ (b : ℕ) where
       ∙ number_above 64 (2 ^ 63 - 1) large (omega arith)
       ∙ omega (arith, ints)
 
-past_is : (x n : ℕ) → n ≤ x → (int_lt (pos x) (pos 0) || not (int_lt (pos x) (pos n))) ≡ true
+pub past_is : (x n : ℕ) → n ≤ x → (int_lt (pos x) (pos 0) || not (int_lt (pos x) (pos n))) ≡ true
 past_is x n le = ap (λ d. d || not (nat_lt x n)) (le-ltb x 0 (omega arith)) ∙ ap not (le-ltb x n le)
+
+-- b has a whole number as one of int64; or that is too great for this, and then no array has an element of it
+abbrev pub IsFirst : ℤ → ℕ → Type 0
+IsFirst z b = (number I64 b ≡ z) ⊎ ((m : ℕ) × (u : ℕ) × (z ≡ pos m) × (2 ^ 63 ≤ m) × (number I64 b ≡ negsuc u))
+
+pub zero_first : number I64 0 ≡ pos 0
+zero_first = number_below 64 (2 ^ 63 - 1) 0 (omega arith)
+
+pub whole_first : (t : Elem) (b : ℕ) → IsFirst (number t b) (converted t I64 b)
+whole_first t b = go (whichever t)
+  where
+    large_case : (d : (large b < 2 ^ 63) ⊎ (2 ^ 63 ≤ large b)) → IsFirst (number U64 b) (converted U64 I64 b)
+    large_case (inl lt) = inl (small_number b lt ∙ sym (large_number b))
+    large_case (inr le) = inr (large b, 2 ^ 64 - 1 - large b, large_number b, le, great_number b le)
+
+    go : Whichever t → IsFirst (number t b) (converted t I64 b)
+    go (inl e) = subst (λ u. IsFirst (number u b) (converted u I64 b)) (sym e) (large_case (split_at (large b) (2 ^ 63)))
+    go (inr ne) = inl (whole_number t b ne)
 
 -- an index is outside as one of int64 where it is outside, if there are not too many elements
 pub whole_outside : (t : Elem) (n b : ℕ) → n ≤ 2 ^ 63 → is_outside I64 n (converted t I64 b) ≡ is_outside t n b

@@ -14,13 +14,13 @@ use Rattle.isp_meaning.specs.Outcomes.{Val, Gives, bind}
 use Rattle.isp_meaning.specs.Places.{written}
 use Rattle.isp_lower.specs.Setting.{Setting, IsSettled, AreAt, Holds}
 use Rattle.isp_lower.specs.Runs.{Enters, Runs, DoneRuns}
-use Rattle.isp_lower.specs.Code.{copy, part_to, lift_to, writes_part, writes_last, found, operand, operand_of, expr_places, expr_code, expr_to, is_short, choose_to, variable_from, variable_code}
+use Rattle.isp_lower.specs.Code.{is_copied, variable_read, copy, part_to, lift_to, writes_part, writes_last, found, operand, operand_of, expr_places, expr_code, expr_to, is_short, choose_to, variable_from, variable_code}
 use Rattle.isp_lower.proofs.Base.{are_front, are_back}
 use Rattle.isp_lower.proofs.Done.{bind_done, variable_done, splat_done}
 use Rattle.isp_lower.proofs.Found.{few}
 use Rattle.isp_lower.proofs.Targets.{InVariable}
 use Rattle.isp_lower.proofs.Nodes.{enters_part, operand_runs}
-use Rattle.isp_lower.proofs.Exprs.{means, NodeRuns, number_node, index_node, element_node, convert_node, unary_node, binary_node, compare_node, choose_node, expr_runs, call_node, library_node, values_run, arguments_run}
+use Rattle.isp_lower.proofs.Exprs.{means, NodeRuns, number_node, index_node, element_node, convert_node, unary_node, binary_node, compare_node, choose_node, expr_runs, call_node, copied_node, packed_store_node, packed_load_node, base_runs, library_node, values_run, arguments_run}
 use Rattle.isp_lower.proofs.Parts.{ExprParts, OperandFits}
 use Rattle.isp_lower.specs.Rated.{Reaches}
 use Rattle.isp_lower.specs.Tables.{IsTyped}
@@ -47,7 +47,11 @@ module _ (w : Setting) (ready : IsSettled w) where
   direct_runs : (v : ℕ) (x : TExpr) → writes_last w.layout x ≡ true → NodeRuns w ready (InVariable v) x
   direct_runs v (t_constant u sp) e pc p k n q rest a s c fit ty has places le b = number_node w ready (InVariable v) u sp pc p k n q rest a s c fit ty has places le b
   direct_runs v (t_program_index sp) e pc p k n q rest a s c fit ty has places le b = index_node w ready (InVariable v) sp pc p k n q rest a s c fit ty has places le b
-  direct_runs v (t_place (t_variable u t sp)) e pc p k n q rest a s c fit ty has places le b = absurd (cc)
+  direct_runs v (t_place (t_variable u t sp)) e pc p k n q rest a s c fit ty has places le b = go (is_copied w.layout t.rate u) e has
+    where
+      go : (z : Bool) → z ≡ true → AreAt w.routine.code pc (variable_read w.layout z (w.layout.variable t.rate v) t.rate u k) → DoneRuns w c (pc + length (variable_read w.layout z (w.layout.variable t.rate v) t.rate u k)) n rest (bind (means w ready (t_place (t_variable u t sp)) a s) (λ m s. Gives tt (written t.rate v a m s)))
+      go true h at = copied_node w ready (InVariable v) u t pc k n q rest a s c (omega (arith, le)) b at.0
+      go false h at = absurd (cc)
   direct_runs v (t_place (t_element y i t sp)) e pc p k n q rest a s c fit ty has places le b = element_node w ready (InVariable v) y i t sp (expr_runs w ready i) pc p k n q rest a s c fit ty has places le b
   direct_runs v (t_convert u x) e pc p k n q rest a s c fit ty has places le b = convert_node w ready (InVariable v) u x (expr_runs w ready x) pc p k n q rest a s c fit ty has places le b
   direct_runs v (t_cast x t sp) e pc p k n q rest a s c fit ty has places le b =
@@ -72,8 +76,8 @@ module _ (w : Setting) (ready : IsSettled w) where
       go false ez h at = absurd (cc)
   direct_runs v (t_call (t_called g xs sp) t) e pc p k n q rest a s c fit ty has places le b = call_node w ready (InVariable v) g xs sp t (arguments_run w ready xs) pc p k n q rest a s c fit ty has places le b
   direct_runs v (t_library g u xs t sp) e pc p k n q rest a s c fit ty has places le b = library_node w ready (InVariable v) g u xs t sp (values_run w ready xs) pc p k n q rest a s c fit ty has places le b
-  direct_runs v (t_packed_store d x sp) e pc p k n q rest a s c fit ty has places le b = absurd (cc)
-  direct_runs v (t_packed_load d u sp) e pc p k n q rest a s c fit ty has places le b = absurd (cc)
+  direct_runs v (t_packed_store d x sp) e pc p k n q rest a s c fit ty has places le b = packed_store_node w ready (InVariable v) d x sp (base_runs w ready d) (expr_runs w ready x) pc p k n q rest a s c fit ty has places le b
+  direct_runs v (t_packed_load d u sp) e pc p k n q rest a s c fit ty has places le b = packed_load_node w ready (InVariable v) d u sp (base_runs w ready d) pc p k n q rest a s c fit ty has places le b
 
   pub variable_runs : (r : Rate) (e : Elem) (v : ℕ) (x : TExpr) (pc p k n q rest : ℕ) (a : Mask) (s : State) (c : Conf) → IsTyped w r (w.layout.variable r v) e → OperandFits w r e x n → ExprParts w x n → AreAt w.routine.code pc (variable_code w.layout r v x pc p k n) → AreAt w.code.places p (expr_places w.layout x) → heads x + rest ≤ 3 + q → Enters w pc k n a s c q → DoneRuns w c (pc + length (variable_code w.layout r v x pc p k n)) n rest (bind (means w ready x a s) (λ m s1. Gives tt (written r v a m s1)))
   variable_runs r e v x pc p k n q rest a s c ty ofit fit has places le b = go (writes_part w.layout r (type_of x).rate (writes_last w.layout x)) refl has

@@ -144,10 +144,10 @@ module _ (w : Setting) (ready : IsSettled w) where
   places_are t z i a v g ez few inside hold none =
       sym (ap map_of (at_mapped Varying a (element t) i) ∙ same_elements (gang_of w) g z t a (spread a i) v (λ e p. e) ez few inside (sym (at_offender Varying (gang_of w) a (is_outside t g) i) ∙ none) (ap map_of (sym (at_mapped Varying a (as_whole z t) i) ∙ hold)))
 
-  arrays_put : (c : Conf) (s : State) (n n' : ℕ) (x y : Lanes) → c.arrays ≡ s.arrays → n ≡ n' → x ≡ y → put c.arrays n x ≡ put s.arrays n' y
+  pub arrays_put : (c : Conf) (s : State) (n n' : ℕ) (x y : Lanes) → c.arrays ≡ s.arrays → n ≡ n' → x ≡ y → put c.arrays n x ≡ put s.arrays n' y
   arrays_put c s n n' x y ea en ex = ap (λ z. put z n x) ea ∙ ap (λ z. put s.arrays z x) en ∙ ap (put s.arrays n') ex
 
-  named_is : (b : ArrayVariable) (c : Conf) (pc : ℕ) → At w c pc → w.home.named (w.layout.array b.number) ≡ w.frame.named b.number → c.home.named (w.layout.array b.number) ≡ w.frame.named b.number
+  pub named_is : (b : ArrayVariable) (c : Conf) (pc : ℕ) → At w c pc → w.home.named (w.layout.array b.number) ≡ w.frame.named b.number → c.home.named (w.layout.array b.number) ≡ w.frame.named b.number
   named_is b c pc at e = ap (λ h. h.named (w.layout.array b.number)) at.home_is ∙ e
 
   none_out : (a : Mask) (v : Lanes) (p : ℕ) → a p ≡ false → map1 (element I64) (on a v) p ≡ None

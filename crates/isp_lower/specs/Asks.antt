@@ -1,12 +1,13 @@
--- What code asks for, as data: registers of a rate, a name and a type, arrays, masks, and numbers of slots that fit. It is
--- told in the order in which it is reserved, so that what a part asks for is a part of what the whole asks for.
+-- What code asks for, as data: registers of a rate, a name and a type, arrays, masks, numbers of slots that fit, and that a variable is
+-- known as one that a packed load writes. It is told in the order in which it is reserved, so that what a part asks for is a part of what
+-- the whole asks for.
 use Rattle.std.specs.Prelude.{ℕ, ◌+◌, ◌<◌, List, [], ◌∷◌, Bool, true, false}
 use Rattle.isp_base.specs.Ranks.{same_elem}
 use Rattle.isp_base.specs.declared.types.Elem.{Elem}
 use Rattle.isp_base.specs.declared.types.Elem.TheVariants.{Bool as Truth, I32, I64}
 use Rattle.isp_base.specs.declared.types.Rate.{Rate}
 use Rattle.isp_base.specs.declared.types.Rate.TheVariants.{Uniform, Varying}
-use Rattle.isp_typed.specs.Typed.{TExpr, t_constant, t_program_index, t_place, t_convert, t_cast, t_unary, t_binary, t_compare, t_logic, t_choose, t_call, t_library, t_packed_store, t_packed_load, TPlace, t_variable, t_element, TArgument, t_by_value, t_by_name, TCall, t_called, TArguments, t_no_arguments, t_argument_then, TExprs, t_no_exprs, t_expr_then, TItem, t_plain, t_with_value, t_with_size, TSimple, t_value, t_run, t_assign, t_update, t_step, place_type, type_of}
+use Rattle.isp_typed.specs.Typed.{TExpr, t_constant, t_program_index, t_place, t_convert, t_cast, t_unary, t_binary, t_compare, t_logic, t_choose, t_call, t_library, t_packed_store, t_packed_load, TPlace, t_variable, t_element, TBase, t_whole, t_from, base_array, TArgument, t_by_value, t_by_name, TCall, t_called, TArguments, t_no_arguments, t_argument_then, TExprs, t_no_exprs, t_expr_then, TItem, t_plain, t_with_value, t_with_size, TSimple, t_value, t_run, t_assign, t_update, t_step, place_type, type_of}
 use Rattle.isp_typed.specs.declared.variable.ArrayVariable.{ArrayVariable}
 use Rattle.isp_lower.specs.Callees.{next_rate, later}
 use Rattle.isp_lower.specs.Library.{library_rates}
@@ -20,16 +21,19 @@ pub data Ask : Type 0 where
   LocalOf : ArrayVariable → Ask
   MaskOf : ℕ → Ask
   Number : ℕ → Ask
+  Loads : ℕ → Ask
 
--- all of it is there, told by what it is to have a register, an array that is read or written, one that is declared, a mask
-abbrev pub All : (Rate → Name → Elem → Type 0) → (ArrayVariable → Type 0) → (ArrayVariable → Type 0) → (ℕ → Type 0) → Ask → Type 0
-All H A L M Nothing = Unit {0}
-All H A L M (Both x y) = All H A L M x × All H A L M y
-All H A L M (Register r x t) = H r x t
-All H A L M (ArrayOf b) = A b
-All H A L M (LocalOf b) = L b
-All H A L M (MaskOf k) = M k
-All H A L M (Number k) = k < 4294967296
+-- all of it is there, told by what it is to have a register, an array that is read or written, one that is declared, a mask, and a variable
+-- that is known as loaded
+abbrev pub All : (Rate → Name → Elem → Type 0) → (ArrayVariable → Type 0) → (ArrayVariable → Type 0) → (ℕ → Type 0) → (ℕ → Type 0) → Ask → Type 0
+All H A L M W Nothing = Unit {0}
+All H A L M W (Both x y) = All H A L M W x × All H A L M W y
+All H A L M W (Register r x t) = H r x t
+All H A L M W (ArrayOf b) = A b
+All H A L M W (LocalOf b) = L b
+All H A L M W (MaskOf k) = M k
+All H A L M W (Number k) = k < 4294967296
+All H A L M W (Loads v) = W v
 
 -- ---- slots
 
@@ -88,13 +92,22 @@ abbrev pub read_asks : TPlace → ℕ → Ask
 read_asks (t_variable v t sp) n = Nothing
 read_asks (t_element b i t sp) n = spare_ask t.rate t.elem n
 
+-- so is a varying variable, where a packed load of the function writes it; whether one does is not asked here
+abbrev pub copy_asks : Rate → Elem → ℕ → Ask
+copy_asks Uniform t n = Nothing
+copy_asks Varying t n = spare_ask Varying t n
+
+abbrev pub value_asks : TPlace → ℕ → Ask
+value_asks (t_variable v t sp) n = copy_asks t.rate t.elem n
+value_asks (t_element b i t sp) n = spare_ask t.rate t.elem n
+
 -- ---- expressions
 
 abbrev mutual
   pub expr_asks : TExpr → ℕ → Ask
   expr_asks (t_constant v sp) n = spare_ask Uniform v.elem n
   expr_asks (t_program_index sp) n = spare_ask Varying I32 n
-  expr_asks (t_place q) n = Both (target_asks q n) (read_asks q n)
+  expr_asks (t_place q) n = Both (target_asks q n) (value_asks q n)
   expr_asks (t_convert e x) n = Both (spare_ask (type_of x).rate e n) (expr_asks x n)
   expr_asks (t_cast x t sp) n = taken t.rate x n (expr_asks x n)
   expr_asks (t_unary o x t sp) n = Both (spare_ask t.rate t.elem n) (taken t.rate x n (expr_asks x n))
@@ -110,13 +123,20 @@ abbrev mutual
       Both (spare_ask t.rate t.elem n) (Both (expr_asks c n) (Both (taken t.rate x i (expr_asks x i)) (Both (taken t.rate y j (expr_asks y j)) (sides_ask (type_of c).rate n))))
   expr_asks (t_call c t) n = Both (spare_ask t.rate t.elem n) (call_asks c n)
   expr_asks (t_library f e xs t sp) n = Both (spare_ask t.rate t.elem n) (values_asks (library_rates f t.rate) xs n)
-  expr_asks (t_packed_store b x sp) n = spare_ask Uniform I32 n
-  expr_asks (t_packed_load b v sp) n = spare_ask Uniform I32 n
+  expr_asks (t_packed_store b x sp) n =
+      Both (spare_ask Uniform I32 n) (Both (Both (ArrayOf (base_array b)) (first_asks b n)) (Both (Number (n + 1)) (taken Varying x (n + 1) (expr_asks x (n + 1)))))
+  expr_asks (t_packed_load b v sp) n =
+      Both (spare_ask Uniform I32 n) (Both (Both (ArrayOf (base_array b)) (first_asks b n)) (Both (Register Varying (Variable v) (base_array b).ty.elem) (Loads v)))
 
   -- a place whose index is taken at slot n
   pub target_asks : TPlace → ℕ → Ask
   target_asks (t_variable v t sp) n = Register t.rate (Variable v) t.elem
   target_asks (t_element b i t sp) n = Both (ArrayOf b) (index_asks t.rate i n (expr_asks i n))
+
+  -- the number of the first element, which is taken at slot n as one of int64
+  pub first_asks : TBase → ℕ → Ask
+  first_asks (t_whole b sp) n = spare_ask Uniform I64 n
+  first_asks (t_from b i sp) n = index_asks Uniform i n (expr_asks i n)
 
   -- value j at slot n + j, at the next of these rates
   pub values_asks : List Rate → TExprs → ℕ → Ask
@@ -136,6 +156,10 @@ abbrev mutual
   pub argument_asks : TArgument → ℕ → Ask
   argument_asks (t_by_value x) n = taken Varying x n (expr_asks x n)
   argument_asks (t_by_name b sp) n = ArrayOf b
+
+-- an array from its first element or from an index on
+abbrev pub base_asks : TBase → ℕ → Ask
+base_asks b n = Both (ArrayOf (base_array b)) (first_asks b n)
 
 abbrev pub operand_asks : Rate → TExpr → ℕ → Ask
 operand_asks r x n = taken r x n (expr_asks x n)

@@ -1,6 +1,6 @@
 -- The code of expressions and of assignments, as a function of their trees. Code begins at instruction pc; the first
 -- place in the source that it names has number p; it works for the lanes of mask register k; slots from n on are free.
-use Rattle.std.specs.Prelude.{ℕ, ◌+◌, ◌∷◌, [], ◌++◌, List, length, Option, Some, None, Bool, true, false, ◌&&◌, nat_eq}
+use Rattle.std.specs.Prelude.{ℕ, ◌+◌, ◌∷◌, [], ◌++◌, List, length, Option, Some, None, Bool, true, false, not, ◌&&◌, nat_eq}
 use Rattle.isp_base.specs.declared.types.Elem.{Elem}
 use Rattle.isp_base.specs.declared.types.Elem.TheVariants.{Bool as Truth, I8, U8, I16, U16, I32, U32, I64, U64}
 use Rattle.isp_base.specs.declared.types.Rate.{Rate}
@@ -14,12 +14,12 @@ use Rattle.isp_code.specs.declared.instr.JumpTest.{JumpTest}
 use Rattle.isp_code.specs.declared.instr.JumpTest.TheVariants as jump
 use Rattle.isp_code.specs.declared.instr.VectorInstr.TheVariants as vector
 use Rattle.isp_code.specs.declared.register.Register.{Register}
-use Rattle.isp_typed.specs.Typed.{TExpr, t_constant, t_program_index, t_place, t_convert, t_cast, t_unary, t_binary, t_compare, t_logic, t_choose, t_call, t_library, t_packed_store, t_packed_load, TPlace, t_variable, t_element, TArgument, t_by_value, t_by_name, TCall, t_called, TArguments, t_no_arguments, t_argument_then, TExprs, t_no_exprs, t_expr_then, type_of}
+use Rattle.isp_typed.specs.Typed.{TExpr, t_constant, t_program_index, t_place, t_convert, t_cast, t_unary, t_binary, t_compare, t_logic, t_choose, t_call, t_library, t_packed_store, t_packed_load, TPlace, t_variable, t_element, TBase, t_whole, t_from, base_array, TArgument, t_by_value, t_by_name, TCall, t_called, TArguments, t_no_arguments, t_argument_then, TExprs, t_no_exprs, t_expr_then, type_of}
 use Rattle.isp_typed.specs.declared.variable.Logic.{Logic}
 use Rattle.isp_typed.specs.declared.variable.Logic.TheVariants.{And, Or}
 use Rattle.isp_meaning.specs.Payloads.{converted}
 use Rattle.isp_lower.specs.Callees.{next_rate, later}
-pub use Rattle.isp_lower.specs.Instructions.{copy, convert, unary, compare, compute, operate, operate_places, read, write, constant, splat, select, where_so, the_others, jump_off, jump_on}
+pub use Rattle.isp_lower.specs.Instructions.{copy, convert, unary, compare, compute, operate, operate_places, read, write, constant, splat, select, packed_store, packed_load, where_so, the_others, jump_off, jump_on}
 use Rattle.isp_lower.specs.Layout.{Layout, register, mask_register, array_register}
 use Rattle.isp_lower.specs.Library.{library_code, library_rates}
 
@@ -137,10 +137,19 @@ module _ (l : Layout) where
   convert_to None e r d x k code = code ++ convert r d x k ∷ []
   convert_to (Some v) e r d x k code = constant d e (converted v.elem e v.bits) ∷ []
 
-  -- ---- where an expression's value is found: a variable in place, all else in slot n
+  -- ---- where an expression's value is found: a variable in place, all else in slot n; and a varying variable that a packed load of the
+  -- function writes is copied to slot n where it is read
+
+  abbrev pub is_copied : Rate → ℕ → Bool
+  is_copied Uniform v = false
+  is_copied Varying v = l.loaded v
+
+  abbrev pub variable_found : Bool → Ty → ℕ → ℕ → ℕ
+  variable_found true t v n = l.spare t.rate t.elem n
+  variable_found false t v n = l.variable t.rate v
 
   abbrev pub place_found : TPlace → ℕ → ℕ
-  place_found (t_variable v t sp) n = l.variable t.rate v
+  place_found (t_variable v t sp) n = variable_found (is_copied t.rate v) t v n
   place_found (t_element b i t sp) n = l.spare t.rate t.elem n
 
   abbrev pub found : TExpr → ℕ → ℕ
@@ -197,8 +206,9 @@ module _ (l : Layout) where
     expr_places (t_choose c x y t sp) = expr_places c ++ (expr_places x ++ expr_places y)
     expr_places (t_call c t) = call_places c
     expr_places (t_library f e xs t sp) = values_places xs
-    expr_places (t_packed_store b x sp) = []
-    expr_places (t_packed_load b v sp) = []
+    -- a packed call names its place behind those of its parts
+    expr_places (t_packed_store b x sp) = base_places b ++ (expr_places x ++ sp ∷ [])
+    expr_places (t_packed_load b v sp) = base_places b ++ sp ∷ []
 
     pub index_places : TPlace → List Span
     index_places (t_variable v t sp) = []
@@ -207,6 +217,10 @@ module _ (l : Layout) where
     pub read_places : TPlace → List Span
     read_places (t_variable v t sp) = []
     read_places (t_element b i t sp) = sp ∷ []
+
+    pub base_places : TBase → List Span
+    base_places (t_whole b sp) = []
+    base_places (t_from b i sp) = expr_places i
 
     pub values_places : TExprs → List Span
     values_places t_no_exprs = []
@@ -226,8 +240,12 @@ module _ (l : Layout) where
 
   -- ---- expressions
 
+  abbrev pub variable_read : Bool → ℕ → Rate → ℕ → ℕ → List Instr
+  variable_read true d r v k = copy r d (l.variable r v) k ∷ []
+  variable_read false d r v k = []
+
   abbrev pub read_code : ℕ → TPlace → ℕ → ℕ → ℕ → List Instr
-  read_code d (t_variable v t sp) p k n = []
+  read_code d (t_variable v t sp) p k n = variable_read (is_copied t.rate v) d t.rate v k
   read_code d (t_element b i t sp) p k n = read t.rate d (l.array b.number) (index t.rate i n) k p ∷ []
 
   abbrev pub choose_code : Rate → Rate → Elem → TExpr → TExpr → ℕ → ℕ → ℕ → ℕ → List Instr → (ℕ → ℕ → ℕ → List Instr) → (ℕ → ℕ → ℕ → List Instr) → List Instr
@@ -256,11 +274,17 @@ module _ (l : Layout) where
   calling d f xs p k n =
       instr.Call (record { function = f; result = d; mask = mask_register k; place = p; arguments = argument_registers (l.rates f) xs n })
 
-  -- a variable, in brackets or not: it has no code where its own rate is wanted
+  -- ---- packed calls: the register that has the number of the first element, as one of int64
+
+  abbrev pub base_register : TBase → ℕ → ℕ
+  base_register (t_whole b sp) n = l.spare Uniform I64 n
+  base_register (t_from b i sp) n = index Uniform i n
+
+  -- a variable that stays in place, in brackets or not: it has no code where its own rate is wanted
   abbrev pub stays : TExpr → Bool
   stays (t_constant v sp) = false
   stays (t_program_index sp) = false
-  stays (t_place (t_variable v t sp)) = true
+  stays (t_place (t_variable v t sp)) = not (is_copied t.rate v)
   stays (t_place (t_element b i t sp)) = false
   stays (t_convert e x) = false
   stays (t_cast x t sp) = same_rate t.rate (type_of x).rate && stays x
@@ -285,7 +309,7 @@ module _ (l : Layout) where
   choose_to true d c x y t pc k n test a b = test ++ select t.rate d (found c n) (found x n) (found y n) k ∷ []
   choose_to false d c x y t pc k n test a b = choose_code (type_of c).rate t.rate t.elem x y (found c n) pc k n test a b
 
-  -- The last instruction writes register d, but for variables, which stay in place, for `&&`, `||` and a `?:` that is
+  -- The last instruction writes register d, but for variables that stay in place, for `&&`, `||` and a `?:` that is
   -- not short, and for what a cast leaves as it is of these.
   abbrev mutual
     pub expr_to : ℕ → TExpr → ℕ → ℕ → ℕ → ℕ → List Instr
@@ -310,13 +334,20 @@ module _ (l : Layout) where
     expr_to d (t_library f e xs t sp) pc p k n =
         let rs = library_rates f t.rate in
         values_code rs xs pc p k n ++ library_code f t.rate d (l.spare t.rate t.elem n) (value_registers rs xs n) k
-    expr_to d (t_packed_store b x sp) pc p k n = []
-    expr_to d (t_packed_load b v sp) pc p k n = []
+    -- the number of the first element, the value in each lane, then one instruction
+    expr_to d (t_packed_store b x sp) pc p k n =
+        pair_code pc (base_code b pc p k n) (λ pc1. operand_of Varying x k (n + 1) (expr_to (found x (n + 1)) x pc1 (p + length (base_places b)) k (n + 1))) (packed_store d (l.array (base_array b).number) (base_register b n) (operand Varying x (n + 1)) k (p + length (base_places b) + length (expr_places x)))
+    expr_to d (t_packed_load b v sp) pc p k n =
+        base_code b pc p k n ++ packed_load d (l.array (base_array b).number) (base_register b n) (l.variable Varying v) k (p + length (base_places b)) ∷ []
 
     -- the index of a place
     pub index_code : TPlace → ℕ → ℕ → ℕ → ℕ → List Instr
     index_code (t_variable v t sp) pc p k n = []
     index_code (t_element b i t sp) pc p k n = index_of t.rate i k n (expr_to (found i n) i pc p k n)
+
+    pub base_code : TBase → ℕ → ℕ → ℕ → ℕ → List Instr
+    base_code (t_whole b sp) pc p k n = constant (l.spare Uniform I64 n) I64 0 ∷ []
+    base_code (t_from b i sp) pc p k n = index_of Uniform i k n (expr_to (found i n) i pc p k n)
 
     -- the values from left to right
     pub values_code : List Rate → TExprs → ℕ → ℕ → ℕ → ℕ → List Instr
@@ -351,7 +382,7 @@ module _ (l : Layout) where
   abbrev pub writes_last : TExpr → Bool
   writes_last (t_constant v sp) = true
   writes_last (t_program_index sp) = true
-  writes_last (t_place (t_variable v t sp)) = false
+  writes_last (t_place (t_variable v t sp)) = is_copied t.rate v
   writes_last (t_place (t_element b i t sp)) = true
   writes_last (t_convert e x) = true
   writes_last (t_cast x t sp) = writes_part t.rate (type_of x).rate (writes_last x)
@@ -362,8 +393,8 @@ module _ (l : Layout) where
   writes_last (t_choose c x y t sp) = is_short t.rate c x y
   writes_last (t_call c t) = true
   writes_last (t_library f e xs t sp) = true
-  writes_last (t_packed_store b x sp) = false
-  writes_last (t_packed_load b v sp) = false
+  writes_last (t_packed_store b x sp) = true
+  writes_last (t_packed_load b v sp) = true
 
   -- a variable gets a value: its last instruction writes the variable, or a copy does
   abbrev pub variable_from : Bool → Rate → ℕ → TExpr → ℕ → ℕ → ℕ → ℕ → List Instr

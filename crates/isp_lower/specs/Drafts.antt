@@ -37,7 +37,7 @@ draft_of e =
 
 abbrev pub first_draft : Program → Draft
 first_draft p =
-    record { gang = p.gang; callees = p.functions; places = []; texts = []; routines = []; heading = None; rows = record { scalars = []; vectors = []; arrays = [] }; masks = 0; code = [] }
+    record { gang = p.gang; callees = p.functions; places = []; texts = []; routines = []; heading = None; rows = record { scalars = []; vectors = []; arrays = []; loaded = [] }; masks = 0; code = [] }
 
 -- the routine of the function at work, if there is one
 abbrev pub routine_at_work : Option Heading → Rows → ℕ → List Instr → List Routine

@@ -15,7 +15,7 @@ use Rattle.isp_lower.specs.Asks.{Ask, All}
 use Rattle.isp_lower.specs.Code.{same_rate}
 use Rattle.isp_lower.specs.Layout.{Layout}
 pub use Rattle.isp_lower.specs.Lookup.{name_of, row_of}
-use Rattle.isp_lower.specs.Rows.{Name, Variable, Result, Row, Rows, rows_at, elem_in, layout_of}
+use Rattle.isp_lower.specs.Rows.{Name, Variable, Result, Row, Rows, rows_at, elem_in, IsLoaded, layout_of}
 use Rattle.isp_typed.specs.Views.{functions_of}
 use Rattle.isp_lower.specs.Callees.{rates_in}
 use Rattle.isp_lower.specs.declared.registers.Registers.{Registers}
@@ -26,7 +26,7 @@ use Rattle.isp_lower.specs.declared.types.Scope.{Scope}
 
 abbrev pub rows_of : Registers → Rows
 rows_of r =
-    record { scalars = map row_of r.scalars; vectors = map row_of r.vectors; arrays = map row_of r.arrays }
+    record { scalars = map row_of r.scalars; vectors = map row_of r.vectors; arrays = map row_of r.arrays; loaded = map row_of r.loaded }
 
 -- the second list begins with the first
 pub record Begins (xs ys : List Row) : Type 0 where
@@ -38,6 +38,7 @@ pub record Grows (old new : Registers) : Type 0 where
   pub scalars : Begins (rows_of old).scalars (rows_of new).scalars
   pub vectors : Begins (rows_of old).vectors (rows_of new).vectors
   pub arrays : Begins (rows_of old).arrays (rows_of new).arrays
+  pub loaded : Begins (rows_of old).loaded (rows_of new).loaded
 
 -- a register has this name and this type
 abbrev pub HasRow : Registers → Rate → Name → Elem → Type 0
@@ -45,6 +46,10 @@ HasRow r rate x t = elem_in (rows_at (rows_of r) rate) x ≡ Some t
 
 abbrev pub HasArray : Registers → ArrayVariable → Type 0
 HasArray r b = elem_in (rows_of r).arrays (Variable b.number) ≡ Some b.ty.elem
+
+-- a packed load writes the variable
+abbrev pub HasLoaded : Registers → ℕ → Type 0
+HasLoaded r v = IsLoaded (rows_of r) v
 
 -- ---- the registers with which a function begins: those of its variables, in their order, and of what it gives back
 
@@ -81,7 +86,7 @@ result_rows r (Some t) = row_where (same_rate r t.rate) (record { name = Result;
 
 abbrev pub first_rows : List declared.Variable → Option Ty → Rows
 first_rows xs answer =
-    record { scalars = value_rows Uniform 0 xs ++ result_rows Uniform answer; vectors = value_rows Varying 0 xs ++ result_rows Varying answer; arrays = array_rows 0 xs }
+    record { scalars = value_rows Uniform 0 xs ++ result_rows Uniform answer; vectors = value_rows Varying 0 xs ++ result_rows Varying answer; arrays = array_rows 0 xs; loaded = [] }
 
 -- ---- what code is written with, and what is appended
 
@@ -91,7 +96,7 @@ layout on = layout_of (rates_in (functions_of on.callees.now)) (rows_of on.regis
 
 -- all that code asks for is there
 abbrev pub Present : Scope → Ask → Type 0
-Present on a = All (HasRow on.registers.now) (HasArray on.registers.now) (HasArray on.registers.now) (λ k. k < on.masks) a
+Present on a = All (HasRow on.registers.now) (HasArray on.registers.now) (HasArray on.registers.now) (λ k. k < on.masks) (HasLoaded on.registers.now) a
 
 pub record Appends (old new : Body) (c : ℕ → ℕ → List Instr) (s : List Span) : Type 0 where
   pub code : new.code.items ≡ old.code.items ++ c (length old.code.items) (length old.places.items)

@@ -74,6 +74,15 @@ constant d t bits = instr.Scalar (register Uniform d) (scalar.Constant (number t
 abbrev pub splat : ℕ → ℕ → ℕ → Instr
 splat d x k = instr.Vector (register Varying d) (vector.Splat (register Uniform x) (mask_register k))
 
+-- a packed call on an array and the number of its first element: register d gets the count; y has what is stored, or gets what is loaded
+abbrev pub packed_store : ℕ → ℕ → ℕ → ℕ → ℕ → ℕ → Instr
+packed_store d a i y k p =
+    instr.PackedStore (register Uniform d) (array_register a) (register Uniform i) (register Varying y) (mask_register k) p
+
+abbrev pub packed_load : ℕ → ℕ → ℕ → ℕ → ℕ → ℕ → Instr
+packed_load d a i y k p =
+    instr.PackedLoad (register Uniform d) (array_register a) (register Uniform i) (register Varying y) (mask_register k) p
+
 abbrev pub select : Rate → ℕ → ℕ → ℕ → ℕ → ℕ → Instr
 select Uniform d c x y k = instr.Scalar (register Uniform d) (scalar.Select (register Uniform c) (register Uniform x) (register Uniform y))
 select Varying d c x y k = instr.Vector (register Varying d) (vector.Select (register Varying c) (register Varying x) (register Varying y) (mask_register k))

@@ -1,8 +1,9 @@
 -- The registers of a function's frame. A uniform variable is a scalar register, a varying one a vector register, and so
 -- are what the function gives back and the spare registers of each type. Spare registers come in slots, which code uses
 -- as a stack; slot j has mask register j too. Fresh registers are those that no tree asks for. Each of these is another
--- register. With them stand the rates of the parameters of functions that code calls, by the functions' numbers.
-use Rattle.std.specs.Prelude.{◌≢◌, ℕ, List}
+-- register. With them stand the rates of the parameters of functions that code calls, by the functions' numbers, and which variables
+-- packed loads write: a varying one of these is copied where it is read, since a later part may write it.
+use Rattle.std.specs.Prelude.{◌≢◌, ℕ, List, Bool}
 use Rattle.isp_base.specs.declared.types.Elem.{Elem}
 use Rattle.isp_base.specs.declared.types.Rate.{Rate}
 use Rattle.isp_base.specs.declared.types.Rate.TheVariants.{Uniform, Varying}
@@ -17,6 +18,7 @@ pub record Layout : Type 0 where
   pub fresh : Rate → ℕ → ℕ
   pub array : ℕ → ℕ
   pub rates : ℕ → List Rate
+  pub loaded : ℕ → Bool
 
 pub record IsApart (l : Layout) : Type 0 where
   pub variables : (r : Rate) (v w : ℕ) → v ≢ w → l.variable r v ≢ l.variable r w

@@ -1,10 +1,10 @@
 -- What rates promise of a tree that has code, beside what names and types promise: a uniform part may stand where a varying one
--- is wanted, and never the reverse. Packed calls have no code yet.
+-- is wanted, and never the reverse.
 use Rattle.std.specs.Prelude.{List, [], ◌∷◌}
 use Rattle.isp_base.specs.declared.types.Rate.{Rate}
 use Rattle.isp_base.specs.declared.types.Rate.TheVariants.{Uniform, Varying}
 use Rattle.isp_typed.specs.Fine.{FineExpr, FineSimple}
-use Rattle.isp_typed.specs.Typed.{TFunction, TExpr, t_constant, t_program_index, t_place, t_convert, t_cast, t_unary, t_binary, t_compare, t_logic, t_choose, t_call, t_library, t_packed_store, t_packed_load, TPlace, t_variable, t_element, TArgument, t_by_value, t_by_name, TCall, t_called, TArguments, t_no_arguments, t_argument_then, TExprs, t_no_exprs, t_expr_then, TItem, t_plain, t_with_value, t_with_size, TSimple, t_value, t_run, t_assign, t_update, t_step, place_type, type_of}
+use Rattle.isp_typed.specs.Typed.{TFunction, TExpr, t_constant, t_program_index, t_place, t_convert, t_cast, t_unary, t_binary, t_compare, t_logic, t_choose, t_call, t_library, t_packed_store, t_packed_load, TPlace, t_variable, t_element, TBase, t_whole, t_from, TArgument, t_by_value, t_by_name, TCall, t_called, TArguments, t_no_arguments, t_argument_then, TExprs, t_no_exprs, t_expr_then, TItem, t_plain, t_with_value, t_with_size, TSimple, t_value, t_run, t_assign, t_update, t_step, place_type, type_of}
 use Rattle.isp_typed.specs.declared.variable.Variable.{Variable}
 use Rattle.isp_lower.specs.Callees.{rates_in, next_rate, later}
 use Rattle.isp_typed.specs.Library.{parts}
@@ -33,12 +33,17 @@ module _ (fs : List TFunction) where
     IsRated (t_call c t) = CallRated c
     -- a value that is asked uniform is uniform
     IsRated (t_library f e xs t sp) = ValuesRated (rates_taken Varying (parts f)) xs
-    IsRated (t_packed_store b x sp) = ⊥
-    IsRated (t_packed_load b v sp) = ⊥
+    IsRated (t_packed_store b x sp) = BaseRated b × IsRated x
+    IsRated (t_packed_load b v sp) = BaseRated b
 
     pub PlaceRated : TPlace → Type 0
     PlaceRated (t_variable v t sp) = Unit {0}
     PlaceRated (t_element b i t sp) = IsRated i
+
+    -- the array of a packed call is one for the gang, and its index is uniform
+    pub BaseRated : TBase → Type 0
+    BaseRated (t_whole b sp) = Reaches b.ty.rate Uniform
+    BaseRated (t_from b i sp) = Reaches b.ty.rate Uniform × Reaches (type_of i).rate Uniform × IsRated i
 
     -- each value is wanted at the next of these rates
     pub ValuesRated : List Rate → TExprs → Type 0

@@ -1,17 +1,18 @@
 -- What a walk reserves: what was there stays, and what is asked for is there. The variables of a function and what it gives
 -- back have their registers from its beginning, so of these nothing is reserved.
-use Rattle.std.specs.Prelude.{◌≡◌, ◌<◌, ◌≤◌, ℕ, List, Option, Some, slice_get}
+use Rattle.std.specs.Prelude.{◌≡◌, ◌<◌, ◌≤◌, ◌+◌, ℕ, List, Option, Some, slice_get}
 use Rattle.isp_base.specs.declared.types.Elem.{Elem}
-use Rattle.isp_base.specs.declared.types.Elem.TheVariants.{Bool as Truth}
+use Rattle.isp_base.specs.declared.types.Elem.TheVariants.{Bool as Truth, I32}
 use Rattle.isp_base.specs.declared.types.Rate.{Rate}
+use Rattle.isp_base.specs.declared.types.Rate.TheVariants.{Uniform, Varying}
 use Rattle.isp_base.specs.declared.types.Ty.{Ty}
 use Rattle.isp_typed.specs.Fine.{HoldsArray, HoldsValue}
-use Rattle.isp_typed.specs.Typed.{TExpr, ty_of, type_of}
+use Rattle.isp_typed.specs.Typed.{TBase, TExpr, base_array, ty_of, type_of}
 use Rattle.isp_typed.specs.declared.variable.ArrayVariable.{ArrayVariable}
 use Rattle.isp_typed.specs.declared.variable.Holds.TheVariants as holds
 use Rattle.isp_typed.specs.declared.variable.Variable as declared
-use Rattle.isp_lower.specs.Asks.{Ask, Nothing, Both, Register, ArrayOf, LocalOf, MaskOf, Number, All, expr_asks, operand_asks, operands_asks, sides_ask, spare_ask, test_asks, first_slot, second_slot}
-use Rattle.isp_lower.specs.Emitted.{Grows, HasArray, HasRow}
+use Rattle.isp_lower.specs.Asks.{Ask, Nothing, Both, Register, ArrayOf, LocalOf, MaskOf, Number, Loads, All, base_asks, expr_asks, operand_asks, operands_asks, sides_ask, spare_ask, test_asks, first_slot, second_slot}
+use Rattle.isp_lower.specs.Emitted.{Grows, HasArray, HasLoaded, HasRow}
 use Rattle.isp_lower.specs.Rows as row
 use Rattle.isp_lower.specs.Rows.{Name, Variable, Result, Spare, Fresh, Rows, elem_in}
 use Rattle.isp_lower.specs.Tables.{AnyArray}
@@ -19,7 +20,7 @@ use Rattle.isp_lower.specs.declared.registers.Registers.{Registers}
 use Rattle.isp_lower.specs.declared.reserve.Reserve.{Reserve}
 
 abbrev pub Has : Reserve → Ask → Type 0
-Has r a = All (HasRow r.registers) (HasArray r.registers) (HasArray r.registers) (λ k. k < r.masks) a
+Has r a = All (HasRow r.registers) (HasArray r.registers) (HasArray r.registers) (λ k. k < r.masks) (HasLoaded r.registers) a
 
 -- a register is there if it is a spare one
 abbrev pub HasSpare : Registers → Rate → Name → Elem → Type 0
@@ -29,14 +30,14 @@ HasSpare r rate (Spare u j) t = HasRow r rate (Spare u j) t
 HasSpare r rate (Fresh j) t = HasRow r rate (Fresh j) t
 
 abbrev pub IsReserved : Reserve → Ask → Type 0
-IsReserved r a = All (HasSpare r.registers) AnyArray AnyArray (λ k. k < r.masks) a
+IsReserved r a = All (HasSpare r.registers) AnyArray AnyArray (λ k. k < r.masks) (HasLoaded r.registers) a
 
 pub record Gives (old new : Reserve) (a : Ask) : Type 0 where
   pub rows : Grows old.registers new.registers
   pub masks : old.masks ≤ new.masks
   pub has : IsReserved new a
 
--- ---- what two walks ask for: of two bools, and of a choice
+-- ---- what single walks ask for: of two bools, of a choice, and of packed calls
 
 abbrev pub logic_asks : Rate → TExpr → TExpr → ℕ → Ask
 logic_asks r x y n = Both (spare_ask r Truth n) (Both (test_asks r n) (operands_asks r x y n))
@@ -46,6 +47,12 @@ choice_asks t c x y n =
     let i = first_slot (type_of c).rate n in
     let j = second_slot (type_of c).rate n in
     Both (spare_ask t.rate t.elem n) (Both (expr_asks c n) (Both (operand_asks t.rate x i) (Both (operand_asks t.rate y j) (sides_ask (type_of c).rate n))))
+
+abbrev pub packed_store_asks : TBase → TExpr → ℕ → Ask
+packed_store_asks b x n = Both (spare_ask Uniform I32 n) (Both (base_asks b n) (Both (Number (n + 1)) (operand_asks Varying x (n + 1))))
+
+abbrev pub packed_load_asks : TBase → ℕ → ℕ → Ask
+packed_load_asks b v n = Both (spare_ask Uniform I32 n) (Both (base_asks b n) (Both (Register Varying (Variable v) (base_array b).ty.elem) (Loads v)))
 
 -- ---- what is asked for is the function's own: its variables, and what it gives back
 
@@ -68,6 +75,7 @@ module _ (vars : List declared.Variable) (answer : Option Ty) where
   IsOwn (LocalOf b) = HoldsLocal vars b
   IsOwn (MaskOf k) = Unit {0}
   IsOwn (Number k) = Unit {0}
+  IsOwn (Loads v) = Unit {0}
 
 -- ---- a function at work has the registers of its own that are asked for
 
@@ -86,3 +94,4 @@ module _ (rows : Rows) where
   HasOwn (LocalOf b) = elem_in rows.arrays (Variable b.number) ≡ Some b.ty.elem
   HasOwn (MaskOf k) = Unit {0}
   HasOwn (Number k) = Unit {0}
+  HasOwn (Loads v) = Unit {0}

@@ -1,8 +1,10 @@
 -- A layout from lists of rows: a register has the number of the first row of its class that has its name. So rows are
--- added at the end, as names come up, and no number changes. A name that no row has gets a number past the last row.
-use Rattle.std.specs.Prelude.{◌≡◌, ℕ, ◌+◌, ◌*◌, ◌==◌, List, [], ◌∷◌, ◌++◌, length, Option, Some, None, if◌then◌else◌}
+-- added at the end, as names come up, and no number changes. A name that no row has gets a number past the last row. The variables
+-- that packed loads write are rows too, which are no registers.
+use Rattle.std.specs.Prelude.{◌≡◌, ℕ, ◌+◌, ◌*◌, ◌==◌, List, [], ◌∷◌, ◌++◌, length, Option, Some, None, is_some, if◌then◌else◌}
 use Rattle.isp_base.specs.Ranks.{rank}
 use Rattle.isp_base.specs.declared.types.Elem.{Elem}
+use Rattle.isp_base.specs.declared.types.Elem.TheVariants.{Bool as Truth}
 use Rattle.isp_base.specs.declared.types.Rate.{Rate}
 use Rattle.isp_base.specs.declared.types.Rate.TheVariants.{Uniform, Varying}
 use Rattle.isp_lower.specs.Layout.{Layout}
@@ -37,6 +39,7 @@ pub record Rows : Type 0 where
   pub scalars : List Row
   pub vectors : List Row
   pub arrays : List Row
+  pub loaded : List Row
 
 abbrev pub rows_at : Rows → Rate → List Row
 rows_at rows Uniform = rows.scalars
@@ -49,7 +52,7 @@ fresh_at rows r j = number_in (rows_at rows r) (Fresh j)
 -- with the rates of the parameters of functions
 abbrev pub layout_of : (ℕ → List Rate) → Rows → Layout
 layout_of rates rows =
-    record { rates = rates; variable = λ r v. number_in (rows_at rows r) (Variable v); result = λ r. number_in (rows_at rows r) Result; spare = λ r t j. number_in (rows_at rows r) (Spare t j); fresh = fresh_at rows; array = λ v. number_in rows.arrays (Variable v) }
+    record { rates = rates; variable = λ r v. number_in (rows_at rows r) (Variable v); result = λ r. number_in (rows_at rows r) Result; spare = λ r t j. number_in (rows_at rows r) (Spare t j); fresh = fresh_at rows; array = λ v. number_in rows.arrays (Variable v); loaded = λ v. is_some (elem_in rows.loaded (Variable v)) }
 
 -- the number of the register that a layout has for a name
 abbrev pub numbered : Layout → Rate → Name → ℕ
@@ -61,6 +64,10 @@ numbered l r (Fresh j) = l.fresh r j
 -- a name has a row of this rate and this type
 abbrev pub HasRow : Rows → Rate → Name → Elem → Type 0
 HasRow rows r x t = elem_in (rows_at rows r) x ≡ Some t
+
+-- a packed load writes the variable
+abbrev pub IsLoaded : Rows → ℕ → Type 0
+IsLoaded rows v = elem_in rows.loaded (Variable v) ≡ Some Truth
 
 -- one more row, of a fresh register
 abbrev pub with_fresh : Elem → List Row → List Row

@@ -21,6 +21,7 @@ use Rattle.isp_typed.specs.declared.variable.ArrayVariable.{ArrayVariable}
 use Rattle.isp_lower.specs.Layout.{Layout, class_at, register, array_register}
 use Rattle.isp_lower.specs.Rows.{Name, numbered}
 use Rattle.isp_lower.specs.Asks.{Ask, All, expr_asks, simple_asks, items_asks}
+use Rattle.isp_lower.specs.Tables.{IsLoadedIn}
 
 module _ (code : Listing) (h : Routine) where
   abbrev pub IsSound : Instr → Type 0
@@ -86,7 +87,7 @@ module _ (h : Routine) where
     -- ---- the registers that code asks for are there
 
     abbrev pub Granted : Ask → Type 0
-    Granted a = All HasRegister HasArray HasLocal HasMask a
+    Granted a = All HasRegister HasArray HasLocal HasMask (IsLoadedIn l) a
 
     abbrev pub ExprPresent : TExpr → ℕ → Type 0
     ExprPresent x n = Granted (expr_asks x n)

@@ -11,9 +11,10 @@ use Rattle.isp_code.specs.declared.instr.Instr.{Instr}
 use Rattle.isp_code.specs.declared.instr.Instr.TheVariants as instr
 use Rattle.isp_code.specs.declared.instr.JumpTest.TheVariants as jump
 use Rattle.isp_code.specs.declared.register.Register.{Register}
-use Rattle.isp_typed.specs.Typed.{TArgument, TArguments, TCall, TExpr, TExprs, TPlace, type_of}
-use Rattle.isp_lower.specs.Code.{argument_code, argument_places, arguments_code, arguments_places, call_code, call_places, choice, choose_code, choose_rest, expr_code, expr_places, expr_to, found, guard, index_of, index_places, is_whole, jump_off, jump_on, lift_code, move_code, operand, operand_of, operate, operate_places, read, select, value_registers, values_code, values_places, variable_code, variable_from, whole_of, write}
+use Rattle.isp_typed.specs.Typed.{TArgument, TArguments, TBase, TCall, TExpr, TExprs, TPlace, type_of}
+use Rattle.isp_lower.specs.Code.{argument_code, argument_places, arguments_code, arguments_places, base_code, base_places, call_code, call_places, choice, choose_code, choose_rest, expr_code, expr_places, expr_to, found, guard, index_of, index_places, is_copied, is_whole, jump_off, jump_on, lift_code, move_code, operand, operand_of, operate, operate_places, packed_load, packed_store, read, select, value_registers, values_code, values_places, variable_code, variable_from, variable_read, whole_of, write}
 use Rattle.isp_typed.specs.declared.library.Library.{Library}
+use Rattle.isp_typed.specs.declared.variable.ArrayVariable.{ArrayVariable}
 use Rattle.isp_lower.specs.Emitted.{Appends, layout}
 use Rattle.isp_lower.specs.Layout.{mask_register, register}
 use Rattle.isp_lower.specs.Library.{library_code, library_rates, on_values}
@@ -72,6 +73,15 @@ index_at on r x at =
     let k = at.mask.number in
     let n = at.slot.number in
     record { code = λ pc p. index_of (layout on) r x k n (expr_code (layout on) x pc p k n); places = expr_places (layout on) x }
+
+-- a variable is copied to register d where a packed load writes it
+abbrev pub variable_read_at : Scope → Home → RegisterNumber → MaskNumber → Piece
+variable_read_at on v d k =
+    record { code = λ pc p. variable_read (layout on) (is_copied (layout on) v.ty.rate v.number) d.number v.ty.rate v.number k.number; places = [] }
+
+-- the number of the first element of a packed call
+abbrev pub base_at : Scope → TBase → Site → Piece
+base_at on x at = record { code = λ pc p. base_code (layout on) x pc p at.mask.number at.slot.number; places = base_places (layout on) x }
 
 -- a value whose last instruction writes register d
 abbrev pub to_at : Scope → TExpr → RegisterNumber → Site → Piece
@@ -184,6 +194,14 @@ operate_at o x y t =
 
 abbrev pub read_at : Scope → Element → RegisterNumber → MaskNumber → Piece
 read_at on e d k = record { code = λ pc p. read e.ty.rate d.number ((layout on).array e.array.number) e.index.number k.number p ∷ []; places = e.span ∷ [] }
+
+abbrev pub packed_store_at : Scope → ArrayVariable → RegisterNumber → RegisterNumber → Target → Piece
+packed_store_at on y i x t =
+    record { code = λ pc p. packed_store t.to.number ((layout on).array y.number) i.number x.number t.site.mask.number p ∷ []; places = t.span ∷ [] }
+
+abbrev pub packed_load_at : Scope → ArrayVariable → RegisterNumber → RegisterNumber → Target → Piece
+packed_load_at on y i x t =
+    record { code = λ pc p. packed_load t.to.number ((layout on).array y.number) i.number x.number t.site.mask.number p ∷ []; places = t.span ∷ [] }
 
 abbrev pub write_at : Scope → Element → RegisterNumber → MaskNumber → Piece
 write_at on e x k = record { code = λ pc p. write e.ty.rate ((layout on).array e.array.number) e.index.number x.number k.number p ∷ []; places = e.span ∷ [] }

@@ -3,7 +3,7 @@ ghost use Rattle.std.specs.Prelude.{◌≡◌, OnOk};
 ghost use Rattle.isp_typed.specs.Views.{expr_of, place_of};
 ghost use Rattle.isp_lower.specs.Asks.{ArrayOf, assign_asks, operand_asks, variable_asks};
 ghost use Rattle.isp_lower.specs.Code.{writes_last, writes_part};
-ghost use Rattle.isp_lower.specs.Emitted.{Present};
+ghost use Rattle.isp_lower.specs.Emitted.{Present, layout};
 ghost use Rattle.isp_lower.specs.Layout.{Layout};
 ghost use Rattle.isp_lower.specs.Written.{Writes, assign_at, element_to_at, variable_at};
 
@@ -27,12 +27,12 @@ fn writes_part(wanted: Rate, given: Rate, written: bool) -> bool
 }
 
 /// Whether the last instruction of an expression writes its value.
-fn writes_last(x: &TypedExpr) -> bool
-    ensures { (l : Layout) → result ≡ writes_last l (expr_of x.now) }
+fn writes_last(on: &Scope, x: &TypedExpr) -> bool
+    ensures { result ≡ writes_last (layout on.now) (expr_of x.now) }
 {
     match x {
         TypedExpr::Cast { operand, ty, .. } => {
-            writes_part(ty.rate, operand.ty().rate, writes_last(operand))
+            writes_part(ty.rate, operand.ty().rate, writes_last(on, operand))
         }
         TypedExpr::Choose {
             test,
@@ -40,7 +40,8 @@ fn writes_last(x: &TypedExpr) -> bool
             otherwise,
             ty,
             ..
-        } => is_short(ty.rate, test, then, otherwise),
+        } => is_short(on, ty.rate, test, then, otherwise),
+        TypedExpr::Place(TypedPlace::Variable { number, ty, .. }) => on.copies(ty.rate, *number),
         TypedExpr::Place(TypedPlace::Element { .. })
         | TypedExpr::Constant { .. }
         | TypedExpr::ProgramIndex { .. }
@@ -49,11 +50,10 @@ fn writes_last(x: &TypedExpr) -> bool
         | TypedExpr::Binary { .. }
         | TypedExpr::Compare { .. }
         | TypedExpr::Call { .. }
-        | TypedExpr::Library { .. } => true,
-        TypedExpr::Place(TypedPlace::Variable { .. })
-        | TypedExpr::Logic { .. }
+        | TypedExpr::Library { .. }
         | TypedExpr::PackedStore { .. }
-        | TypedExpr::PackedLoad { .. } => false,
+        | TypedExpr::PackedLoad { .. } => true,
+        TypedExpr::Logic { .. } => false,
     }
 }
 
@@ -70,7 +70,7 @@ pub(crate) fn variable_to(
 {
     let to = on.variable(home.number, home.ty);
     let target = Target::new(to, home.ty, home.span, site);
-    if writes_part(home.ty.rate, x.ty().rate, writes_last(x)) {
+    if writes_part(home.ty.rate, x.ty().rate, writes_last(on, x)) {
         cast_to(b, on, x, target)?;
         Ok(())
     } else {

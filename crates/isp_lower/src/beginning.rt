@@ -22,6 +22,7 @@ fn add_value(
     ensures scalars { OnOk result ((rows_of registers.new).scalars ≡ (rows_of registers.old).scalars ++ row_where (same_rate Uniform rate) (record { name = name_of name; elem = elem }) []) }
     ensures vectors { OnOk result ((rows_of registers.new).vectors ≡ (rows_of registers.old).vectors ++ row_where (same_rate Varying rate) (record { name = name_of name; elem = elem }) []) }
     ensures arrays { OnOk result ((rows_of registers.new).arrays ≡ (rows_of registers.old).arrays) }
+    ensures loaded { OnOk result ((rows_of registers.new).loaded ≡ (rows_of registers.old).loaded) }
 {
     let row = RegisterRow { name, elem };
     match rate {
@@ -36,6 +37,7 @@ fn add_variable(registers: &mut Registers, number: usize, holds: Holds) -> Resul
     ensures scalars { OnOk result ((rows_of registers.new).scalars ≡ (rows_of registers.old).scalars ++ value_row Uniform holds number []) }
     ensures vectors { OnOk result ((rows_of registers.new).vectors ≡ (rows_of registers.old).vectors ++ value_row Varying holds number []) }
     ensures arrays { OnOk result ((rows_of registers.new).arrays ≡ (rows_of registers.old).arrays ++ array_row holds number []) }
+    ensures loaded { OnOk result ((rows_of registers.new).loaded ≡ (rows_of registers.old).loaded) }
 {
     let name = RegisterName::Variable(number);
     match holds {
@@ -54,6 +56,7 @@ fn add_variables(registers: &mut Registers, variables: &[Variable]) -> Result<()
     ensures scalars { OnOk result ((rows_of registers.new).scalars ≡ (rows_of registers.old).scalars ++ value_rows Uniform 0 variables.now) }
     ensures vectors { OnOk result ((rows_of registers.new).vectors ≡ (rows_of registers.old).vectors ++ value_rows Varying 0 variables.now) }
     ensures arrays { OnOk result ((rows_of registers.new).arrays ≡ (rows_of registers.old).arrays ++ array_rows 0 variables.now) }
+    ensures loaded { OnOk result ((rows_of registers.new).loaded ≡ (rows_of registers.old).loaded) }
 {
     for (number, variable) in variables.iter().enumerate() {
         add_variable(registers, number, variable.holds)?;
@@ -66,6 +69,7 @@ fn add_result(registers: &mut Registers, answer: Option<Ty>) -> Result<(), Alloc
     ensures scalars { OnOk result ((rows_of registers.new).scalars ≡ (rows_of registers.old).scalars ++ result_rows Uniform answer) }
     ensures vectors { OnOk result ((rows_of registers.new).vectors ≡ (rows_of registers.old).vectors ++ result_rows Varying answer) }
     ensures arrays { OnOk result ((rows_of registers.new).arrays ≡ (rows_of registers.old).arrays) }
+    ensures loaded { OnOk result ((rows_of registers.new).loaded ≡ (rows_of registers.old).loaded) }
 {
     match answer {
         Some(ty) => add_value(registers, ty.rate, RegisterName::Result, ty.elem),
@@ -75,12 +79,13 @@ fn add_result(registers: &mut Registers, answer: Option<Ty>) -> Result<(), Alloc
 
 /// No registers.
 pub fn no_registers(alloc: Global) -> Registers
-    ensures { rows_of result ≡ record { scalars = []; vectors = []; arrays = [] } }
+    ensures { rows_of result ≡ record { scalars = []; vectors = []; arrays = []; loaded = [] } }
 {
     Registers {
         scalars: RegisterRows::new(alloc),
         vectors: RegisterRows::new(alloc),
         arrays: RegisterRows::new(alloc),
+        loaded: RegisterRows::new(alloc),
     }
 }
 

@@ -28,6 +28,7 @@ impl Registers {
             scalars: self.scalars.copied(alloc)?,
             vectors: self.vectors.copied(alloc)?,
             arrays: self.arrays.copied(alloc)?,
+            loaded: self.loaded.copied(alloc)?,
         })
     }
 }

@@ -15,9 +15,10 @@ use crate::leaves::{
     splat, the_others, unary, where_so,
 };
 use crate::library::{Operands, put_library, value_rate};
-use crate::located::{found, lift, moved};
+use crate::located::{found, lift, moved, read_variable, stayed};
 use crate::numbered::{RegisterNumber, Slot};
-use crate::sites::{Element, Held, Site, Skip, Target};
+use crate::packed::{packed_load_to, packed_store_to};
+use crate::sites::{Element, Held, Home, Site, Skip, Target};
 use crate::truths::{constant_of, decided, is_short, is_whole};
 use crate::types::{Body, Scope};
 use crate::written::{operate_to, put_needing, read_to};
@@ -28,7 +29,7 @@ use smallvec::SmallVec;
 use std::alloc::AllocError;
 
 /// The code of an expression under a mask, in the slots from one on. It answers the register of the value, scalar
-/// where the expression is uniform. Memory is refused too of packed calls, which have no code yet.
+/// where the expression is uniform.
 #[cycle(expr)]
 pub fn expr(
     b: &mut Body,
@@ -85,8 +86,7 @@ fn write_to(
     }
 }
 
-/// The same of comparisons, of calls, of functions and of the library, and of expressions that may leave out a part. Memory is
-/// refused of packed calls, which have no code yet.
+/// The same of comparisons, of calls, of functions, of the library and packed ones, and of expressions that may leave out a part.
 #[cycle(expr)]
 fn compare_or_branch(
     b: &mut Body,
@@ -124,6 +124,8 @@ fn compare_or_branch(
             values,
             ..
         } => library_to(b, on, *function, values, target),
+        TypedExpr::PackedStore { base, value, .. } => packed_store_to(b, on, base, value, target),
+        TypedExpr::PackedLoad { base, variable, .. } => packed_load_to(b, on, base, *variable, target),
         _ => Err(AllocError),
     }
 }
@@ -288,7 +290,7 @@ pub fn index(
     lift(b, on, rate, Held { from, ty }, site)
 }
 
-/// A register gets what an element has; a variable stays in place.
+/// A register gets what an element has, or a variable that does not stay in place.
 #[cycle(expr)]
 fn place_to(
     b: &mut Body,
@@ -301,7 +303,14 @@ fn place_to(
     ensures { OnOk result (Writes b.old b.new (to_at on.now (t_place (place_of place.now)) to site)) }
 {
     match place {
-        TypedPlace::Variable { .. } => Ok(()),
+        TypedPlace::Variable { number, ty, span } => {
+            let home = Home {
+                number: *number,
+                ty: *ty,
+                span: *span,
+            };
+            read_variable(b, on, home, to, site.mask)
+        }
         TypedPlace::Element {
             array,
             index: inner,
@@ -579,15 +588,6 @@ fn choose_each(
     Ok(())
 }
 
-/// The register of a variable, in brackets or not, whatever the slot.
-fn stayed(on: &Scope, x: &TypedExpr, slot: Slot) -> RegisterNumber
-    requires there { Present on.now (expr_asks (expr_of x.now) slot.number) }
-    requires stays { stays (layout on.now) (expr_of x.now) ≡ true }
-    ensures { (n : ℕ) → result.number ≡ found (layout on.now) (expr_of x.now) n }
-{
-    found(on, x, slot)
-}
-
 /// A choice between two variables.
 #[cycle(expr)]
 fn choose_short(
@@ -629,7 +629,7 @@ fn choose_to(
     requires { Present on.now (expr_asks (t_choose (expr_of test.now) (expr_of then.now) (expr_of otherwise.now) target.ty target.span) target.site.slot.number) }
     ensures { OnOk result (Writes b.old b.new (node_at on.now (t_choose (expr_of test.now) (expr_of then.now) (expr_of otherwise.now) target.ty target.span) target)) }
 {
-    if is_short(target.ty.rate, test, then, otherwise) {
+    if is_short(on, target.ty.rate, test, then, otherwise) {
         choose_short(b, on, test, then, otherwise, target)?;
         return Ok(());
     }

@@ -5,7 +5,7 @@ ghost use Rattle.isp_base.specs.declared.types.Rate.TheVariants.{Uniform, Varyin
 ghost use Rattle.isp_code.specs.declared.instr.Instr.TheVariants as instr;
 ghost use Rattle.isp_code.specs.declared.instr.VectorInstr.TheVariants as instr_vector;
 ghost use Rattle.isp_lower.specs.Layout.{array_register, mask_register, register};
-ghost use Rattle.isp_lower.specs.Code.{compare, compute, constant, convert, copy, operate, read, select, the_others, unary, where_so, write};
+ghost use Rattle.isp_lower.specs.Code.{compare, compute, constant, convert, copy, operate, packed_load, packed_store, read, select, the_others, unary, where_so, write};
 ghost use Rattle.isp_lower.specs.Written.{division_at};
 
 use crate::numbered::{MaskNumber, PlaceNumber, RegisterNumber};
@@ -287,6 +287,48 @@ pub fn clear(to: RegisterNumber, k: MaskNumber) -> Instr
     ensures { result ≡ instr.Clear (array_register to.number) (mask_register k.number) }
 {
     Instr::Clear(array(to), mask(k))
+}
+
+/// Members store consecutive elements from one on, and a register gets their count.
+pub(crate) fn packed_store(
+    to: RegisterNumber,
+    into: RegisterNumber,
+    first: RegisterNumber,
+    from: RegisterNumber,
+    k: MaskNumber,
+    place: PlaceNumber,
+) -> Instr
+    ensures { result ≡ packed_store to.number into.number first.number from.number k.number place.number }
+{
+    Instr::PackedStore(
+        scalar(to),
+        array(into),
+        scalar(first),
+        vector(from),
+        mask(k),
+        place.number,
+    )
+}
+
+/// Members load consecutive elements from one on into a register, and another one gets their count.
+pub(crate) fn packed_load(
+    to: RegisterNumber,
+    from: RegisterNumber,
+    first: RegisterNumber,
+    into: RegisterNumber,
+    k: MaskNumber,
+    place: PlaceNumber,
+) -> Instr
+    ensures { result ≡ packed_load to.number from.number first.number into.number k.number place.number }
+{
+    Instr::PackedLoad(
+        scalar(to),
+        array(from),
+        scalar(first),
+        vector(into),
+        mask(k),
+        place.number,
+    )
 }
 
 /// The second register where the first is true, else the third.

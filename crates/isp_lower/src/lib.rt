@@ -18,6 +18,7 @@ mod library;
 mod listing;
 mod located;
 mod numbered;
+mod packed;
 mod register_rows;
 mod registers;
 mod reserve;

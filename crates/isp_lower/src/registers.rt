@@ -1,6 +1,6 @@
 //! The registers of the function in hand.
 ghost use Rattle.std.specs.Prelude.{◌≡◌, length, map, Some, IfOk, OnErr, OnOk};
-ghost use Rattle.isp_lower.specs.Emitted.{Begins, Grows, HasArray, HasRow, name_of, row_of, rows_of};
+ghost use Rattle.isp_lower.specs.Emitted.{Begins, Grows, HasArray, HasLoaded, HasRow, name_of, row_of, rows_of};
 ghost use Rattle.isp_lower.specs.Lookup.{IsAsked};
 ghost use Rattle.isp_lower.specs.Rows.{Result, Spare, Variable as VariableName, elem_in, fresh_at, rows_at, with_fresh_at};
 
@@ -27,12 +27,14 @@ pub struct RegisterRow {
     pub elem: Elem,
 }
 
-/// The registers that a function has so far, by class: the number of one is that of the first row of its name.
+/// The registers that a function has so far, by class: the number of one is that of the first row of its name. The variables that
+/// packed loads write are rows too, which are no registers.
 #[derive(Drop)]
 pub struct Registers {
     pub scalars: RegisterRows,
     pub vectors: RegisterRows,
     pub arrays: RegisterRows,
+    pub loaded: RegisterRows,
 }
 
 /// Whether a name has a register of a type. Memory is refused where it has none.
@@ -75,6 +77,19 @@ impl Registers {
                 Ok(())
             }
         }
+    }
+
+    /// A packed load writes a variable.
+    pub fn load(&mut self, number: usize) -> Result<(), AllocError>
+        ensures rows { OnOk result (Grows self.old self.new) }
+        ensures given { OnOk result (HasLoaded self.new number) }
+    {
+        given_or_new(
+            &mut self.loaded,
+            RegisterName::Variable(number),
+            Elem::Bool,
+        )?;
+        Ok(())
     }
 
     /// One more register of a rate, which no tree asks for, and its number. Where memory is refused, they stay as they were.

@@ -3,17 +3,17 @@ ghost use Rattle.std.specs.Prelude.{◌≡◌, ◌+◌, IfOk, OnOk};
 ghost use Rattle.isp_base.specs.Ranks.{same_elem};
 ghost use Rattle.isp_base.specs.declared.types.Rate.TheVariants.{Varying};
 ghost use Rattle.isp_typed.specs.Typed.{t_arguments, t_exprs, type_of};
-ghost use Rattle.isp_typed.specs.Views.{argument_of, arguments_of, call_of, expr_of, exprs_of, item_of, items_of, place_of, simple_of};
-ghost use Rattle.isp_lower.specs.Asks.{Both, MaskOf, Number, argument_asks, arguments_asks, assign_asks, call_asks, change_asks, expr_asks, index_asks, item_asks, items_asks, lift_asks, one_asks, operand_asks, operands_asks, read_asks, sides_ask, spare_ask, step_asks, target_asks, test_asks, update_asks, values_asks, work_asks, zero_asks, beyond, first_slot, simple_asks};
+ghost use Rattle.isp_typed.specs.Views.{argument_of, arguments_of, base_of, call_of, expr_of, exprs_of, item_of, items_of, place_of, simple_of};
+ghost use Rattle.isp_lower.specs.Asks.{Both, Loads, MaskOf, Number, argument_asks, arguments_asks, assign_asks, base_asks, call_asks, change_asks, copy_asks, expr_asks, index_asks, item_asks, items_asks, lift_asks, one_asks, operand_asks, operands_asks, read_asks, sides_ask, spare_ask, step_asks, target_asks, test_asks, update_asks, value_asks, values_asks, work_asks, zero_asks, beyond, first_slot, simple_asks};
 ghost use Rattle.isp_lower.specs.Library.{library_rates};
-ghost use Rattle.isp_lower.specs.Reserved.{Gives, choice_asks, logic_asks};
+ghost use Rattle.isp_lower.specs.Reserved.{Gives, choice_asks, logic_asks, packed_load_asks, packed_store_asks};
 
 use crate::library::value_rate;
 use crate::numbered::Slot;
 use crate::registers::Registers;
 use isp_base::{Elem, Rate, Ty};
 use isp_typed::{
-    ArrayVariable, Library, TypedArgument, TypedCall, TypedExpr, TypedItem, TypedPlace, TypedSimple,
+    Library, TypedArgument, TypedBase, TypedCall, TypedExpr, TypedItem, TypedPlace, TypedSimple,
 };
 use std::alloc::AllocError;
 
@@ -34,11 +34,22 @@ impl Reserve {
         Ok(())
     }
 
-    /// The same of a type with its rate.
-    fn value(&mut self, ty: Ty, slot: Slot) -> Result<(), AllocError>
-        ensures { OnOk result (Gives self.old self.new (spare_ask ty.rate ty.elem slot.number)) }
+    /// A register that a variable is copied to where it is read, if it is varying.
+    fn copy(&mut self, ty: Ty, slot: Slot) -> Result<(), AllocError>
+        ensures { OnOk result (Gives self.old self.new (copy_asks ty.rate ty.elem slot.number)) }
     {
-        self.spare(ty.rate, ty.elem, slot)
+        match ty.rate {
+            Rate::Uniform => Ok(()),
+            Rate::Varying => self.spare(Rate::Varying, ty.elem, slot),
+        }
+    }
+
+    /// A packed load writes a variable.
+    fn loaded(&mut self, number: usize) -> Result<(), AllocError>
+        ensures { OnOk result (Gives self.old self.new (Loads number)) }
+    {
+        self.registers.load(number)?;
+        Ok(())
     }
 
     /// The mask register of a slot.
@@ -152,9 +163,8 @@ impl Reserve {
                 ty,
                 ..
             } => self.library(*function, *ty, values, slot),
-            TypedExpr::PackedStore { .. } | TypedExpr::PackedLoad { .. } => {
-                self.value(x.ty(), slot)
-            }
+            TypedExpr::PackedStore { base, value, .. } => self.packed_store(base, value, slot),
+            TypedExpr::PackedLoad { base, variable, .. } => self.packed_load(base, *variable, slot),
         }
     }
 
@@ -298,6 +308,50 @@ impl Reserve {
         Ok(())
     }
 
+    /// The array of a packed call, from its first element or from an index on.
+    #[cycle(expr)]
+    fn base(&mut self, base: &TypedBase, slot: Slot) -> Result<(), AllocError>
+        ensures { OnOk result (Gives self.old self.new (base_asks (base_of base.now) slot.number)) }
+    {
+        match base {
+            TypedBase::Whole { .. } => self.spare(Rate::Uniform, Elem::I64, slot),
+            TypedBase::From { index, .. } => self.index(Rate::Uniform, index, slot),
+        }
+    }
+
+    /// A packed store, and the register that the count goes to.
+    #[cycle(expr)]
+    fn packed_store(
+        &mut self,
+        base: &TypedBase,
+        value: &TypedExpr,
+        slot: Slot,
+    ) -> Result<(), AllocError>
+        ensures { OnOk result (Gives self.old self.new (packed_store_asks (base_of base.now) (expr_of value.now) slot.number)) }
+    {
+        self.spare(Rate::Uniform, Elem::I32, slot)?;
+        self.base(base, slot)?;
+        let next = self.next(slot)?;
+        self.operand(Rate::Varying, value, next)?;
+        Ok(())
+    }
+
+    /// A packed load, and the register that the count goes to.
+    #[cycle(expr)]
+    fn packed_load(
+        &mut self,
+        base: &TypedBase,
+        variable: usize,
+        slot: Slot,
+    ) -> Result<(), AllocError>
+        ensures { OnOk result (Gives self.old self.new (packed_load_asks (base_of base.now) variable slot.number)) }
+    {
+        self.spare(Rate::Uniform, Elem::I32, slot)?;
+        self.base(base, slot)?;
+        self.loaded(variable)?;
+        Ok(())
+    }
+
     /// A call, and the register that its result goes to.
     #[cycle(expr)]
     fn called(&mut self, ty: Ty, call: &TypedCall, slot: Slot) -> Result<(), AllocError>
@@ -346,11 +400,21 @@ impl Reserve {
     /// A place, and the register that its value is read into.
     #[cycle(expr)]
     fn read(&mut self, place: &TypedPlace, slot: Slot) -> Result<(), AllocError>
-        ensures { OnOk result (Gives self.old self.new (Both (target_asks (place_of place.now) slot.number) (read_asks (place_of place.now) slot.number))) }
+        ensures { OnOk result (Gives self.old self.new (Both (target_asks (place_of place.now) slot.number) (value_asks (place_of place.now) slot.number))) }
     {
         self.target(place, slot)?;
-        self.element(place, slot)?;
+        self.held(place, slot)?;
         Ok(())
+    }
+
+    /// The register that an element is read into, or that a variable is copied to.
+    fn held(&mut self, place: &TypedPlace, slot: Slot) -> Result<(), AllocError>
+        ensures { OnOk result (Gives self.old self.new (value_asks (place_of place.now) slot.number)) }
+    {
+        match place {
+            TypedPlace::Variable { ty, .. } => self.copy(*ty, slot),
+            TypedPlace::Element { ty, .. } => self.spare(ty.rate, ty.elem, slot),
+        }
     }
 
     /// The register that an element is read into; none for a variable.

@@ -2,6 +2,7 @@
 ghost use Rattle.std.specs.Prelude.{◌≡◌, drop, map, take, Some};
 ghost use Rattle.isp_lower.specs.Asks.{ArrayOf, Register as Ask};
 ghost use Rattle.isp_lower.specs.Callees.{next_rate, rate_held, rates_held};
+ghost use Rattle.isp_lower.specs.Code.{is_copied};
 ghost use Rattle.isp_lower.specs.Emitted.{Present, layout, name_of, row_of};
 ghost use Rattle.isp_lower.specs.Rows.{Result, Spare, Variable, elem_in, number_in};
 
@@ -82,6 +83,20 @@ impl Scope<'_> {
         match ty.rate {
             Rate::Uniform => given(&self.registers.scalars, name, ty.elem),
             Rate::Varying => given(&self.registers.vectors, name, ty.elem),
+        }
+    }
+
+    /// Whether a variable is copied to a slot where it is read, since a packed load of the function writes it.
+    pub fn copies(&self, rate: Rate, number: usize) -> bool
+        ensures { result ≡ is_copied (layout self.now) rate number }
+    {
+        match rate {
+            Rate::Uniform => false,
+            Rate::Varying => self
+                .registers
+                .loaded
+                .find(RegisterName::Variable(number))
+                .is_some(),
         }
     }
 

@@ -1,9 +1,10 @@
 //! Tests of trees that choose their code.
 ghost use Rattle.std.specs.Prelude.{◌≡◌, ◌&&◌};
 ghost use Rattle.isp_lower.specs.Code.{constant_of, decided, is_short, is_whole, same_rate, stays, stays_at};
-ghost use Rattle.isp_lower.specs.Layout.{Layout};
+ghost use Rattle.isp_lower.specs.Emitted.{layout};
 ghost use Rattle.isp_typed.specs.Views.{expr_of};
 
+use crate::types::Scope;
 use isp_base::{Elem, Rate, Value};
 use isp_code::JumpTest;
 use isp_typed::{Logic, TypedExpr, TypedPlace};
@@ -28,14 +29,14 @@ fn same_rate(a: Rate, b: Rate) -> bool
     }
 }
 
-/// Whether an expression is a variable, in brackets or not, which stays in place.
-fn stays(x: &TypedExpr) -> bool
-    ensures { (l : Layout) → result ≡ stays l (expr_of x.now) }
+/// Whether an expression is a variable that stays in place, in brackets or not.
+fn stays(on: &Scope, x: &TypedExpr) -> bool
+    ensures { result ≡ stays (layout on.now) (expr_of x.now) }
 {
     match x {
-        TypedExpr::Place(TypedPlace::Variable { .. }) => true,
+        TypedExpr::Place(TypedPlace::Variable { number, ty, .. }) => !on.copies(ty.rate, *number),
         TypedExpr::Cast { operand, ty, .. } => same_rate(ty.rate, operand.ty().rate)
-            && stays(operand),
+            && stays(on, operand),
         TypedExpr::Place(TypedPlace::Element { .. })
         | TypedExpr::Constant { .. }
         | TypedExpr::ProgramIndex { .. }
@@ -53,24 +54,30 @@ fn stays(x: &TypedExpr) -> bool
 }
 
 /// The same where a rate is wanted.
-fn stays_at(rate: Rate, x: &TypedExpr) -> bool
-    ensures { (l : Layout) → result ≡ stays_at l rate (expr_of x.now) }
+fn stays_at(on: &Scope, rate: Rate, x: &TypedExpr) -> bool
+    ensures { result ≡ stays_at (layout on.now) rate (expr_of x.now) }
 {
-    same_rate(rate, x.ty().rate) && stays(x)
+    same_rate(rate, x.ty().rate) && stays(on, x)
 }
 
 /// Whether two expressions stay in place.
-fn both_stay(rate: Rate, then: &TypedExpr, otherwise: &TypedExpr) -> bool
-    ensures { (l : Layout) → result ≡ (stays_at l rate (expr_of then.now) && stays_at l rate (expr_of otherwise.now)) }
+fn both_stay(on: &Scope, rate: Rate, then: &TypedExpr, otherwise: &TypedExpr) -> bool
+    ensures { result ≡ (stays_at (layout on.now) rate (expr_of then.now) && stays_at (layout on.now) rate (expr_of otherwise.now)) }
 {
-    stays_at(rate, then) && stays_at(rate, otherwise)
+    stays_at(on, rate, then) && stays_at(on, rate, otherwise)
 }
 
-/// Whether a choice is one instruction: between two variables, by a test of their rate.
-pub fn is_short(rate: Rate, test: &TypedExpr, then: &TypedExpr, otherwise: &TypedExpr) -> bool
-    ensures { (l : Layout) → result ≡ is_short l rate (expr_of test.now) (expr_of then.now) (expr_of otherwise.now) }
+/// Whether a choice is one instruction: between two variables that stay in place, by a test of their rate.
+pub fn is_short(
+    on: &Scope,
+    rate: Rate,
+    test: &TypedExpr,
+    then: &TypedExpr,
+    otherwise: &TypedExpr,
+) -> bool
+    ensures { result ≡ is_short (layout on.now) rate (expr_of test.now) (expr_of then.now) (expr_of otherwise.now) }
 {
-    same_rate(rate, test.ty().rate) && both_stay(rate, then, otherwise)
+    same_rate(rate, test.ty().rate) && both_stay(on, rate, then, otherwise)
 }
 
 /// A constant, where the expression is nothing else.

@@ -4,14 +4,14 @@ ghost use Rattle.isp_base.specs.Values.{divides};
 ghost use Rattle.isp_lower.specs.Asks.{ArrayOf};
 ghost use Rattle.isp_lower.specs.Code.{needing, operate_places};
 ghost use Rattle.isp_lower.specs.Emitted.{Appends, Present};
-ghost use Rattle.isp_lower.specs.Written.{Writes, operate_at, read_at, write_at};
+ghost use Rattle.isp_lower.specs.Written.{Writes, operate_at, packed_load_at, packed_store_at, read_at, write_at};
 
-use crate::leaves::{operate, read, the_others, where_so, write};
+use crate::leaves::{operate, packed_load, packed_store, read, the_others, where_so, write};
 use crate::numbered::{MaskNumber, PlaceNumber, RegisterNumber};
 use crate::sites::{Element, Target};
 use crate::types::{Body, Scope};
 use isp_base::{BinOp, Span};
-use isp_typed::Logic;
+use isp_typed::{ArrayVariable, Logic};
 use std::alloc::AllocError;
 
 /// The lanes of a mask that need the right side, into another mask.
@@ -76,6 +76,42 @@ pub(crate) fn read_to(
     let from = on.array(element.array);
     let place = b.place(element.span)?;
     b.push(read(element.ty.rate, to, from, element.index, k, place))?;
+    Ok(())
+}
+
+/// Members store consecutive elements of an array from one on; a register gets their count.
+pub(crate) fn put_packed_store(
+    b: &mut Body,
+    on: &Scope,
+    into: ArrayVariable,
+    first: RegisterNumber,
+    from: RegisterNumber,
+    target: Target,
+) -> Result<(), AllocError>
+    requires { Present on.now (ArrayOf into) }
+    ensures { OnOk result (Writes b.old b.new (packed_store_at on.now into first from target)) }
+{
+    let to = on.array(into);
+    let place = b.place(target.span)?;
+    b.push(packed_store(target.to, to, first, from, target.site.mask, place))?;
+    Ok(())
+}
+
+/// Members load consecutive elements of an array from one on into a register; another one gets their count.
+pub(crate) fn put_packed_load(
+    b: &mut Body,
+    on: &Scope,
+    from: ArrayVariable,
+    first: RegisterNumber,
+    into: RegisterNumber,
+    target: Target,
+) -> Result<(), AllocError>
+    requires { Present on.now (ArrayOf from) }
+    ensures { OnOk result (Writes b.old b.new (packed_load_at on.now from first into target)) }
+{
+    let array = on.array(from);
+    let place = b.place(target.span)?;
+    b.push(packed_load(target.to, array, first, into, target.site.mask, place))?;
     Ok(())
 }
 

@@ -26,7 +26,7 @@ use Rattle.isp_typed.specs.declared.variable.Holds.TheVariants as holds
 use Rattle.isp_typed.specs.declared.variable.Variable.{Variable}
 use Rattle.isp_lower.specs.Layout.{Layout, array_register}
 use Rattle.isp_lower.specs.Sound.{IsShared, HasMask, HasRegister, HasArray, HasLocal, Granted}
-use Rattle.isp_lower.specs.Tables.{AnyMask, AnyArray, IsNamedIn, Table}
+use Rattle.isp_lower.specs.Tables.{AnyMask, AnyArray, IsLoadedIn, IsNamedIn, Table}
 use Rattle.isp_lower.specs.Header.{sharing_of, local_of}
 use Rattle.isp_masks.specs.Arrays.{array_then, array_count, local_count, ArraysStand, HoldsLocal}
 use Rattle.isp_masks.proofs.Arrays.{local_at}
@@ -174,15 +174,15 @@ module _ (h : TFunction) (g : Routine) (l : Layout) (stand : ArraysStand h g l) 
 
   -- what is there of arrays that are variables
   abbrev Held : ℕ → Type 0
-  Held n = All (HasRegister g l) (HoldsArray h.variables) (HoldsLocal h.variables) (HasMask g) (block_asks h.answer h.body n)
+  Held n = All (HasRegister g l) (HoldsArray h.variables) (HoldsLocal h.variables) (HasMask g) (IsLoadedIn l) (block_asks h.answer h.body n)
 
   present_of : (n : ℕ) → Held n → Granted g l (block_asks h.answer h.body n)
   present_of n f =
-      all_grow (HasRegister g l) (HasRegister g l) (HoldsArray h.variables) (HasArray g l) (HoldsLocal h.variables) (HasLocal g l) (HasMask g) (HasMask g) (λ r x t z. z) arrays_there locals_there (λ m z. z) (block_asks h.answer h.body n) f
+      all_grow (HasRegister g l) (HasRegister g l) (HoldsArray h.variables) (HasArray g l) (HoldsLocal h.variables) (HasLocal g l) (HasMask g) (HasMask g) (IsLoadedIn l) (IsLoadedIn l) (λ r x t z. z) arrays_there locals_there (λ m z. z) (λ v z. z) (block_asks h.answer h.body n) f
 
   table_of : (n : ℕ) → Held n → Table g l h.variables (block_asks h.answer h.body n)
   table_of n f =
-      all_grow (HasRegister g l) (IsNamedIn g l) (HoldsArray h.variables) (HoldsArray h.variables) (HoldsLocal h.variables) (HoldsArray h.variables) (HasMask g) AnyMask (λ r x t z. z.1) (λ b z. z) locals_held (λ m z. tt) (block_asks h.answer h.body n) f
+      all_grow (HasRegister g l) (IsNamedIn g l) (HoldsArray h.variables) (HoldsArray h.variables) (HoldsLocal h.variables) (HoldsArray h.variables) (HasMask g) AnyMask (IsLoadedIn l) (IsLoadedIn l) (λ r x t z. z.1) (λ b z. z) locals_held (λ m z. tt) (λ v z. z) (block_asks h.answer h.body n) f
 
 -- What a body of an accepted program asks for is there for the verifier, and the table is as the laws ask, where its
 -- registers and masks are there: its arrays are variables of the function.
@@ -190,7 +190,7 @@ pub record BodyPresent (h : TFunction) (g : Routine) (l : Layout) (n : ℕ) : Ty
   pub present : Granted g l (block_asks h.answer h.body n)
   pub named : Table g l h.variables (block_asks h.answer h.body n)
 
-pub body_present : (fs : List TFunction) (h : TFunction) (g : Routine) (l : Layout) → FineFunction fs h → ArraysStand h g l → parameters_of g ≡ h.parameters → (n : ℕ) → All (HasRegister g l) AnyArray AnyArray (HasMask g) (block_asks h.answer h.body n) → BodyPresent h g l n
+pub body_present : (fs : List TFunction) (h : TFunction) (g : Routine) (l : Layout) → FineFunction fs h → ArraysStand h g l → parameters_of g ≡ h.parameters → (n : ℕ) → All (HasRegister g l) AnyArray AnyArray (HasMask g) (IsLoadedIn l) (block_asks h.answer h.body n) → BodyPresent h g l n
 body_present fs h g l fine stand made n f =
-    let held = all_held h.variables h.answer (HasRegister g l) (HasMask g) (block_asks h.answer h.body n) (block_own fs h.variables h.answer h.body n fine.body) f in
+    let held = all_held h.variables h.answer (HasRegister g l) (HasMask g) (IsLoadedIn l) (block_asks h.answer h.body n) (block_own fs h.variables h.answer h.body n fine.body) f in
     record { present = present_of h g l stand made fine.params n held; named = table_of h g l stand made fine.params n held }

@@ -12,7 +12,7 @@ use Rattle.isp_lex.specs.declared.fault.Fault.{Fault}
 use Rattle.isp_lex.specs.declared.fault.Rule.TheVariants.{VaryingToUniform, BadExport}
 use Rattle.isp_lex.specs.Faults.{fault}
 use Rattle.isp_typed.specs.Fine.{FineFunction, params_of}
-use Rattle.isp_typed.specs.Typed.{TExpr, t_constant, t_program_index, t_place, t_convert, t_cast, t_unary, t_binary, t_compare, t_logic, t_choose, t_call, t_library, t_packed_store, t_packed_load, TPlace, t_variable, t_element, TArgument, t_by_value, t_by_name, TCall, t_called, TArguments, t_no_arguments, t_argument_then, TExprs, t_no_exprs, t_expr_then, TItem, t_plain, t_with_value, t_with_size, TSimple, t_value, t_run, t_assign, t_update, t_step, TFirst, t_first_declare, t_first_simple, TRange, TFunction, Program, place_type, type_of, span_of}
+use Rattle.isp_typed.specs.Typed.{TExpr, t_constant, t_program_index, t_place, t_convert, t_cast, t_unary, t_binary, t_compare, t_logic, t_choose, t_call, t_library, t_packed_store, t_packed_load, TPlace, t_variable, t_element, TBase, t_whole, t_from, TArgument, t_by_value, t_by_name, TCall, t_called, TArguments, t_no_arguments, t_argument_then, TExprs, t_no_exprs, t_expr_then, TItem, t_plain, t_with_value, t_with_size, TSimple, t_value, t_run, t_assign, t_update, t_step, TFirst, t_first_declare, t_first_simple, TRange, TFunction, Program, place_type, type_of, span_of}
 use Rattle.isp_typed.specs.Typed.{TStmt, t_block, t_declare, t_simple, t_if, t_if_else, t_while, t_do, t_for, t_foreach, t_foreach_active, t_unmasked, t_jump, t_return, t_print, t_assert, TBlock, t_braces, TStmts, t_no_stmts, t_stmt_then}
 use Rattle.isp_typed.specs.declared.variable.Holds.{Holds}
 use Rattle.isp_typed.specs.declared.variable.Holds.TheVariants.{Value as AValue, Given, Local}
@@ -20,9 +20,9 @@ use Rattle.isp_typed.specs.declared.variable.Variable.{Variable}
 use Rattle.isp_typed.specs.Scoped.{Scope, ScopedFunction, StmtAt, BlockAt, StmtsAt, declared, scope_after, number_after, scope_after_first, scope_after_stmt, number_after_stmt}
 use Rattle.isp_rates.specs.declared.exits.Within.{Within}
 use Rattle.isp_rates.specs.Breaches.{OfAny, OfEach}
-use Rattle.isp_masks.specs.Covered.{expr_left, place_left, call_left, arguments_left, argument_left, simple_left, items_left, given_left, first_left, step_left, range_left, ranges_left, stmt_left, block_left, stmts_left, values_left, function_left, functions_left}
+use Rattle.isp_masks.specs.Covered.{expr_left, place_left, base_left, call_left, arguments_left, argument_left, simple_left, items_left, given_left, first_left, step_left, range_left, ranges_left, stmt_left, block_left, stmts_left, values_left, function_left, functions_left}
 use Rattle.isp_rates.specs.Rates as rates
-use Rattle.isp_rates.specs.Rates.{goes_to, variables_of, DemandBreach, ExprBreach, PlaceBreach, CallBreach, ArgumentsBreach, ArgumentBreach, ValuesBreach, part_rate}
+use Rattle.isp_rates.specs.Rates.{goes_to, variables_of, DemandBreach, ExprBreach, PlaceBreach, BaseBreach, CallBreach, ArgumentsBreach, ArgumentBreach, ValuesBreach, part_rate}
 use Rattle.isp_lower.specs.Callees.{rate_held, rates_held, rates_in}
 use Rattle.isp_rates.specs.Exits.{at_start, in_loop, in_foreach, in_foreach_active, in_unmasked, ItemBreach, SimpleBreach, FirstBreach, RangeBreach, StmtBreach, BlockBreach, StmtsBreach}
 use Rattle.isp_rates.specs.Program.{ParametersBreach, ResultBreach, FunctionBreach, IsAccepted}
@@ -30,7 +30,7 @@ use Rattle.isp_typed.specs.Library.{asks_uniform, parts}
 use Rattle.isp_typed.specs.declared.library.Part.{Part}
 use Rattle.isp_typed.specs.declared.library.Part.TheVariants as part
 use Rattle.isp_lower.specs.Library.{rate_taken, rates_taken}
-use Rattle.isp_lower.specs.Rated.{Reaches, IsRated, PlaceRated, CallRated, ArgumentsRated, ArgumentRated, ValuesRated, RatedAt, SimpleRated, ItemsRated}
+use Rattle.isp_lower.specs.Rated.{Reaches, IsRated, PlaceRated, BaseRated, CallRated, ArgumentsRated, ArgumentRated, ValuesRated, RatedAt, SimpleRated, ItemsRated}
 use Rattle.isp_masks.specs.Compiled.{AreOne, IsOne}
 use Rattle.isp_masks.specs.Rated.{AnswerRated, RangesRated, FirstRated, TestRated, StepRated, StmtRated, BlockRated, StmtsRated}
 
@@ -115,8 +115,15 @@ module _ (fs : List TFunction) where
         (expr_rated q (λ e b. clean e (inl b)) (first_none (expr_left q) (option_or (expr_left x) (expr_left y)) c), expr_rated x (λ e b. clean e (inr (inl b))) (first_none (expr_left x) (expr_left y) rest), expr_rated y (λ e b. clean e (inr (inr b))) (next_none (expr_left x) (expr_left y) rest))
     expr_rated (t_call k t) clean c = call_rated k clean c
     expr_rated (t_library g e xs t sp) clean c = values_rated (parts g) xs clean c
-    expr_rated (t_packed_store b x sp) clean c = absurd (some_left c)
-    expr_rated (t_packed_load b v sp) clean c = absurd (some_left c)
+    expr_rated (t_packed_store b x sp) clean c =
+        (base_rated b (λ e z. clean e (inl z)) (first_none (base_left b) (expr_left x) c), expr_rated x (λ e z. clean e (inr z)) (next_none (base_left b) (expr_left x) c))
+    expr_rated (t_packed_load b v sp) clean c = base_rated b clean c
+
+    -- the array is one for the gang, and the index uniform
+    base_rated : (b : TBase) → NoneOf (BaseBreach fs b) → base_left b ≡ None → BaseRated fs b
+    base_rated (t_whole b sp) clean c = goes_reaches Uniform b.ty.rate (λ e. clean (fault VaryingToUniform sp) (e, refl))
+    base_rated (t_from b i sp) clean c =
+        (goes_reaches Uniform b.ty.rate (λ e. clean (fault VaryingToUniform sp) (inl (e, refl))), demand_reaches Uniform i (ExprBreach fs i) (λ e z. clean e (inr z)), expr_rated i (demand_own Uniform i (ExprBreach fs i) (λ e z. clean e (inr z))) c)
 
     place_rated : (z : TPlace) → NoneOf (PlaceBreach fs z) → place_left z ≡ None → PlaceRated fs z
     place_rated (t_variable v t sp) clean c = tt

@@ -14,7 +14,7 @@ use Rattle.isp_code.specs.declared.instr.Instr.{Instr}
 use Rattle.isp_code.specs.declared.register.Class.TheVariants as class
 use Rattle.isp_lower.specs.Callees.{rates_in}
 use Rattle.isp_lower.specs.Code.{same_rate}
-use Rattle.isp_lower.specs.Emitted.{Appends, Begins, Grows, HasArray, HasRow, first_rows, result_rows, row_at, row_where, rows_of, value_row, value_rows}
+use Rattle.isp_lower.specs.Emitted.{Appends, Begins, Grows, HasArray, HasLoaded, HasRow, first_rows, result_rows, row_at, row_where, rows_of, value_row, value_rows}
 use Rattle.isp_lower.specs.Layout.{class_at}
 use Rattle.isp_lower.specs.Rows.{Row, Rows, layout_of}
 use Rattle.isp_lower.specs.Setting.{AreAt}
@@ -96,7 +96,7 @@ pub lowered : (fs : List TFunction) (h : TFunction) (g : Routine) (z r : Registe
     → g.name ≡ h.name → g.exported ≡ h.exported → g.params ≡ params_of h.parameters h.variables → g.returns ≡ returns_of h.answer → g.locals ≡ locals_of h.variables
     → g.scalars ≡ drop (length (param_elems class.Scalar g.params)) (types_of (rows_of r).scalars)
     → g.vectors ≡ drop (length (param_elems class.Vector g.params)) (types_of (rows_of r).vectors)
-    → All (HasRow r) (HasArray r) (HasArray r) (λ k. k < g.masks) (block_asks h.answer h.body 3) → 3 ≤ g.masks → g.code ≡ b.code.items → IsLowered fs h g b.places.items
+    → All (HasRow r) (HasArray r) (HasArray r) (λ k. k < g.masks) (HasLoaded r) (block_asks h.answer h.body 3) → 3 ≤ g.masks → g.code ≡ b.code.items → IsLowered fs h g b.places.items
 lowered fs h g z r a b none first grows y name exported params returns locals scalars vectors present three code =
     let l = layout_of (rates_in fs) (rows_of r) in
     let rows = subst (λ (q : Rows). Begins q.scalars (rows_of r).scalars × Begins q.vectors (rows_of r).vectors × Begins q.arrays (rows_of r).arrays) first (grows.scalars, grows.vectors, grows.arrays) in
@@ -116,7 +116,7 @@ lowered fs h g z r a b none first grows y name exported params returns locals sc
       vectors = registers_are Varying h.parameters h.variables (result_rows Varying h.answer ++ rows.1.more) (rows_of r).vectors g.params g.vectors params
           (rows.1.is ∙ append_assoc (value_rows Varying 0 h.variables) (result_rows Varying h.answer) rows.1.more) vectors;
       three = three;
-      present = all_grow (HasRow r) (HasRow r) (HasArray r) AnyArray (HasArray r) AnyArray (λ k. k < g.masks) (λ k. k < g.masks) (λ q x t f. f) (λ v f. tt) (λ v f. tt) (λ k f. f) (block_asks h.answer h.body 3) present;
+      present = all_grow (HasRow r) (HasRow r) (HasArray r) AnyArray (HasArray r) AnyArray (λ k. k < g.masks) (λ k. k < g.masks) (HasLoaded r) (HasLoaded r) (λ q x t f. f) (λ v f. tt) (λ v f. tt) (λ k f. f) (λ v f. f) (block_asks h.answer h.body 3) present;
       numbers = numbers (length a.places.items);
       low = let n = ap length y.places ∙ length-append a.places.items (block_places l h.body) in omega (arith, n);
       code_is = code ∙ y.code ∙ ap (λ z. part z (length a.places.items)) none;

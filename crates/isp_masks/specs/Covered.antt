@@ -1,9 +1,9 @@
 -- Which nodes of a program have code, and the first in the text that has none: a node comes before its parts. Left without
--- are packed calls and `print`. One line for each kind of node; parts in the order of the text.
+-- is `print`. One line for each kind of node; parts in the order of the text.
 use Rattle.std.specs.Prelude.{List, [], ◌∷◌, Option, Some, None}
 use Rattle.std.specs.Option.{option_or}
 use Rattle.isp_base.specs.declared.types.Span.{Span}
-use Rattle.isp_typed.specs.Typed.{TExpr, t_constant, t_program_index, t_place, t_convert, t_cast, t_unary, t_binary, t_compare, t_logic, t_choose, t_call, t_library, t_packed_store, t_packed_load, TPlace, t_variable, t_element, TArgument, t_by_value, t_by_name, TCall, t_called, TArguments, t_no_arguments, t_argument_then, TExprs, t_no_exprs, t_expr_then, TItem, t_plain, t_with_value, t_with_size, TSimple, t_value, t_run, t_assign, t_update, t_step, TFirst, t_first_declare, t_first_simple, TRange}
+use Rattle.isp_typed.specs.Typed.{TExpr, t_constant, t_program_index, t_place, t_convert, t_cast, t_unary, t_binary, t_compare, t_logic, t_choose, t_call, t_library, t_packed_store, t_packed_load, TPlace, t_variable, t_element, TBase, t_whole, t_from, TArgument, t_by_value, t_by_name, TCall, t_called, TArguments, t_no_arguments, t_argument_then, TExprs, t_no_exprs, t_expr_then, TItem, t_plain, t_with_value, t_with_size, TSimple, t_value, t_run, t_assign, t_update, t_step, TFirst, t_first_declare, t_first_simple, TRange}
 use Rattle.isp_typed.specs.Typed.{TStmt, t_block, t_declare, t_simple, t_if, t_if_else, t_while, t_do, t_for, t_foreach, t_foreach_active, t_unmasked, t_jump, t_return, t_print, t_assert, TBlock, t_braces, TStmts, t_no_stmts, t_stmt_then, TFunction, Program}
 
 -- ---- expressions
@@ -22,12 +22,16 @@ abbrev mutual
   expr_left (t_choose c x y t s) = option_or (expr_left c) (option_or (expr_left x) (expr_left y))
   expr_left (t_call c t) = call_left c
   expr_left (t_library f e xs t s) = values_left xs
-  expr_left (t_packed_store b x s) = Some s
-  expr_left (t_packed_load b v s) = Some s
+  expr_left (t_packed_store b x s) = option_or (base_left b) (expr_left x)
+  expr_left (t_packed_load b v s) = base_left b
 
   pub place_left : TPlace → Option Span
   place_left (t_variable v t s) = None
   place_left (t_element a i t s) = expr_left i
+
+  pub base_left : TBase → Option Span
+  base_left (t_whole a s) = None
+  base_left (t_from a i s) = expr_left i
 
   pub values_left : TExprs → Option Span
   values_left t_no_exprs = None

@@ -11,7 +11,7 @@ use Rattle.isp_lower.specs.Drafts.{Draft, all_routines}
 use Rattle.isp_lower.specs.Emitted.{Begins, first_rows}
 use Rattle.isp_lower.specs.Header.{locals_of, params_of, returns_of, types_of}
 use Rattle.isp_lower.specs.Reserved.{IsOwn}
-use Rattle.isp_lower.specs.Rows.{Rows, HasRow, layout_of}
+use Rattle.isp_lower.specs.Rows.{Rows, HasRow, IsLoaded, layout_of}
 use Rattle.isp_lower.specs.Setting.{AreAt}
 use Rattle.isp_lower.specs.Sound.{HasMask}
 use Rattle.isp_lower.specs.Tables.{AnyArray}
@@ -45,7 +45,7 @@ pub record IsLowered (fs : List TFunction) (h : TFunction) (g : Routine) (places
   pub vectors : vectors_of g ≡ types_of rows.vectors
   -- the registers and masks that the body asks for are there
   pub three : 3 ≤ g.masks
-  pub present : All (HasRow rows) AnyArray AnyArray (HasMask g) (block_asks h.answer h.body 3)
+  pub present : All (HasRow rows) AnyArray AnyArray (HasMask g) (IsLoaded rows) (block_asks h.answer h.body 3)
   -- the code, by the layout of the rows; what it names begins at these numbers
   pub numbers : Numbers
   pub low : numbers.place ≤ length places

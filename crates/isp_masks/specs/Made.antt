@@ -12,7 +12,7 @@ use Rattle.isp_typed.specs.Typed.{TFunction}
 use Rattle.isp_lower.specs.Asks.{All}
 use Rattle.isp_lower.specs.Callees.{rates_in}
 use Rattle.isp_lower.specs.Layout.{class_at}
-use Rattle.isp_lower.specs.Rows.{Rows, Result, rows_at, HasRow, layout_of}
+use Rattle.isp_lower.specs.Rows.{Rows, Result, rows_at, HasRow, IsLoaded, layout_of}
 use Rattle.isp_lower.specs.Sound.{HasMask}
 use Rattle.isp_lower.specs.Tables.{AnyArray}
 use Rattle.isp_masks.specs.Arrays.{ArraysStand}
@@ -33,7 +33,7 @@ pub record IsMade (fs : List TFunction) (code : Listing) (h : TFunction) (g : Ro
   pub parameters : parameters_of g ≡ h.parameters
   pub returns : g.returns ≡ returns_of h.answer
   pub arrays : ArraysStand h g (layout_of (rates_in fs) rows)
-  pub rows_are : All (HasRow rows) AnyArray AnyArray (HasMask g) (block_asks h.answer h.body 3)
+  pub rows_are : All (HasRow rows) AnyArray AnyArray (HasMask g) (IsLoaded rows) (block_asks h.answer h.body 3)
   pub result : ResultRow rows h.answer
   pub masks : 3 ≤ g.masks
   pub code_is : g.code ≡ function_code (layout_of (rates_in fs) rows) h.answer h.body 0 z

@@ -1,13 +1,13 @@
 //! What has code, and the first node in the text that has none.
 ghost use Rattle.std.specs.Prelude.{◌≡◌, option_map};
 ghost use Rattle.isp_typed.specs.Typed.{t_exprs};
-ghost use Rattle.isp_typed.specs.Views.{argument_of, block_of, call_of, expr_of, exprs_of, first_of, function_of, functions_of, item_of, items_of, place_of, program_of, range_of, ranges_of, simple_of, stmt_of};
-ghost use Rattle.isp_masks.specs.Covered.{argument_left, block_left, call_left, expr_left, first_left, function_left, functions_left, given_left, item_left, items_left, place_left, program_left, range_left, ranges_left, simple_left, step_left, stmt_left, values_left};
+ghost use Rattle.isp_typed.specs.Views.{argument_of, base_of, block_of, call_of, expr_of, exprs_of, first_of, function_of, functions_of, item_of, items_of, place_of, program_of, range_of, ranges_of, simple_of, stmt_of};
+ghost use Rattle.isp_masks.specs.Covered.{argument_left, base_left, block_left, call_left, expr_left, first_left, function_left, functions_left, given_left, item_left, items_left, place_left, program_left, range_left, ranges_left, simple_left, step_left, stmt_left, values_left};
 
 use isp_base::Span;
 use isp_rates::Checked;
 use isp_typed::{
-    TypedArgument, TypedBlock, TypedCall, TypedExpr, TypedFirst, TypedFunction, TypedItem,
+    TypedArgument, TypedBase, TypedBlock, TypedCall, TypedExpr, TypedFirst, TypedFunction, TypedItem,
     TypedPlace, TypedRange, TypedSimple, TypedStmt,
 };
 
@@ -33,7 +33,8 @@ fn expr(x: &TypedExpr) -> Option<Span>
         } => expr(test).or(expr(then).or(expr(otherwise))),
         TypedExpr::Call { call: inner, .. } => call(inner),
         TypedExpr::Library { values: all, .. } => values(all),
-        TypedExpr::PackedStore { .. } | TypedExpr::PackedLoad { .. } => Some(x.span()),
+        TypedExpr::PackedStore { base: from, value, .. } => base(from).or(expr(value)),
+        TypedExpr::PackedLoad { base: from, .. } => base(from),
     }
 }
 
@@ -45,6 +46,17 @@ fn place(x: &TypedPlace) -> Option<Span>
     match x {
         TypedPlace::Variable { .. } => None,
         TypedPlace::Element { index, .. } => expr(index),
+    }
+}
+
+/// The first node in the array of a packed call that has no code.
+#[cycle(exprs)]
+fn base(x: &TypedBase) -> Option<Span>
+    ensures { result ≡ base_left (base_of x.now) }
+{
+    match x {
+        TypedBase::Whole { .. } => None,
+        TypedBase::From { index, .. } => expr(index),
     }
 }
 
@@ -193,7 +205,9 @@ fn stmt(s: &TypedStmt) -> Option<Span>
         TypedStmt::ForeachActive { body, .. } => stmt(body),
         TypedStmt::Unmasked { body, .. } => block(body),
         TypedStmt::Foreach {
-            ranges: all, body, ..
+            ranges: all,
+            body,
+            ..
         } => ranges(all).or(stmt(body)),
         TypedStmt::Assert { test, .. } => expr(test),
         TypedStmt::Print { span, .. } => Some(*span),

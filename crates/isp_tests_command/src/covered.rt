@@ -20,72 +20,8 @@ fn first_node_not_yet(rt: HostRuntime) -> Result<(), Fail> {
     for (text, line) in [
         ("void f() { print(\"%\", 1 / 0 == 1); }", "90 NotYet at 11..34"),
         (
-            "static int g(int x) { return x; } export void f(uniform int a[]) { g(packed_store_active(a, 1)); }",
-            "90 NotYet at 69..94",
-        ),
-        (
             "export void f() { g(); } void g() { f(); print(\"\"); } void h() { f(); }",
             "90 NotYet at 41..51",
-        ),
-        (
-            "export uniform int f(uniform int a[]) { return packed_store_active(a, programIndex); }",
-            "90 NotYet at 47..83",
-        ),
-        (
-            "export uniform int f(uniform int a[]) { int x; return 1 - packed_load_active(&a[1], &x); }",
-            "90 NotYet at 58..87",
-        ),
-        (
-            "export void f(uniform int a[]) { a[programIndex] = 1 + max(a[0], min(1, packed_store_active(a, 2))); }",
-            "90 NotYet at 72..97",
-        ),
-        (
-            "export void f(uniform int a[]) { a[reduce_add(packed_store_active(a, 1))] = packed_store_active(a, 2); }",
-            "90 NotYet at 46..71",
-        ),
-        (
-            "export void f(uniform int a[]) { a[0] = 2 + -(packed_store_active(a, 2) / 3) + packed_store_active(a, 4); }",
-            "90 NotYet at 46..71",
-        ),
-        (
-            "export void f(uniform int a[]) { a[0] = any(packed_store_active(a, 1)) ? packed_store_active(a, 2) : 3; }",
-            "90 NotYet at 44..69",
-        ),
-        (
-            "export void f(uniform int a[]) { int x = 1, y[3], z = (int8) packed_store_active(a, x), w = x; }",
-            "90 NotYet at 61..86",
-        ),
-        (
-            "export void f(uniform int a[]) { if (all(programIndex < packed_store_active(a, 2))) while (true) ; }",
-            "90 NotYet at 56..81",
-        ),
-        (
-            "export void f(uniform int a[]) { if (a[0] < 2) { while (packed_store_active(a, 1)) ; } else f(a); }",
-            "90 NotYet at 56..81",
-        ),
-        (
-            "export void f(uniform int a[]) { cif (a[0] < 2) ; else do packed_store_active(a, 1); while (false); }",
-            "90 NotYet at 58..83",
-        ),
-        (
-            "export void f(uniform int a[]) { for (int i = abs(packed_store_active(a, 1)); i < 3; i++) ; }",
-            "90 NotYet at 50..75",
-        ),
-        (
-            "export void f(uniform int a[]) { for (;; packed_store_active(a, 1)) packed_store_active(a, 2); }",
-            "90 NotYet at 41..66",
-        ),
-        (
-            "export void f(uniform int a[]) { foreach (i = 0 ... packed_store_active(a, 4)) f(a); }",
-            "90 NotYet at 52..77",
-        ),
-        (
-            "export void f(uniform int a[]) { return; foreach_active (i) packed_store_active(a, 1); }",
-            "90 NotYet at 60..85",
-        ),
-        (
-            "export void f(uniform int a[]) { unmasked { packed_store_active(a, 1); } }",
-            "90 NotYet at 44..69",
         ),
         (
             "export void f() { int x; print(\"%\", abs(x)); }",
@@ -133,6 +69,21 @@ fn compiled(rt: HostRuntime) -> Result<(), Fail> {
         "export void f() { if (all(programIndex < 2)) while (any(programIndex == 1)) ; }",
         "void f() { 1 / 0; }",
         "static int g(int x) { return x; } export void f() { while (true) ; }",
+        "static int g(int x) { return x; } export void f(uniform int a[]) { g(packed_store_active(a, 1)); }",
+        "export uniform int f(uniform int a[]) { return packed_store_active(a, programIndex); }",
+        "export uniform int f(uniform int a[]) { int x; return 1 - packed_load_active(&a[1], &x); }",
+        "export void f(uniform int a[]) { a[programIndex] = 1 + max(a[0], min(1, packed_store_active(a, 2))); }",
+        "export void f(uniform int a[]) { a[reduce_add(packed_store_active(a, 1))] = packed_store_active(a, 2); }",
+        "export void f(uniform int a[]) { a[0] = 2 + -(packed_store_active(a, 2) / 3) + packed_store_active(a, 4); }",
+        "export void f(uniform int a[]) { a[0] = any(packed_store_active(a, 1)) ? packed_store_active(a, 2) : 3; }",
+        "export void f(uniform int a[]) { int x = 1, y[3], z = (int8) packed_store_active(a, x), w = x; }",
+        "export void f(uniform int a[]) { if (all(programIndex < packed_store_active(a, 2))) while (true) ; }",
+        "export void f(uniform int a[]) { if (a[0] < 2) { while (packed_store_active(a, 1)) ; } else f(a); }",
+        "export void f(uniform int a[]) { cif (a[0] < 2) ; else do packed_store_active(a, 1); while (false); }",
+        "export void f(uniform int a[]) { for (int i = abs(packed_store_active(a, 1)); i < 3; i++) ; }",
+        "export void f(uniform int a[]) { for (;; packed_store_active(a, 1)) packed_store_active(a, 2); }",
+        "export void f(uniform int a[]) { return; foreach_active (i) packed_store_active(a, 1); }",
+        "export void f(uniform int a[]) { unmasked { packed_store_active(a, 1); } }",
         "export void f() { } void g() { while (true) ; } void h() { }",
         "export void f() { f(); }",
         "export uniform int f(uniform int n) { if (n < 2) return 1; return n * f(n - 1); }",

@@ -1,7 +1,7 @@
 //! Worked examples, each record with its working.
 
 /// How many records there are.
-pub(super) const COUNT: usize = 92;
+pub(super) const COUNT: usize = 118;
 
 /// The records.
 pub(super) const ROWS: &str = r##"=== a division behind a select
@@ -440,6 +440,136 @@ Each of four turns adds its index in all: 0 + 1 + 2 + 3.
 4 f 10000 {"a":[0,0,0,0]}
 {"arrays":{"a":[6,6,6,6]},"result":null}
 export void f(uniform int a[]) { foreach_active (i) unmasked { a[programIndex] += (int)i; } }
+=== a packed store
+0 and 2 are above 0: 5 goes to b[1], 7 to b[2].
+4 f 10000 {"x":[5,-1,7,0],"b":[0,0,0]}
+{"arrays":{"x":[5,-1,7,0],"b":[0,5,7]},"result":2}
+export uniform int f(uniform int x[], uniform int b[]) { uniform int c = 0; int v = x[programIndex]; if (v > 0) c = packed_store_active(&b[1], v); return c; }
+=== a packed store past the end
+2 would store b[2] of 2, and nothing is stored.
+4 f 10000 {"x":[5,-1,7,0],"b":[0,0]}
+trap index, instance 2
+export uniform int f(uniform int x[], uniform int b[]) { uniform int c = 0; int v = x[programIndex]; if (v > 0) c = ⟦packed_store_active(&b[1], v)⟧; return c; }
+=== an operand before a packed load
+The old x is 10 p, 4 are loaded: b[p] is 10 p + 4, then x is a[p].
+4 f 10000 {"a":[1,4,7,10],"b":[0,0,0,0],"c":[0,0,0,0]}
+{"arrays":{"a":[1,4,7,10],"b":[4,14,24,34],"c":[1,4,7,10]},"result":null}
+export void f(uniform int a[], uniform int b[], uniform int c[]) { int x = 10 * programIndex; b[programIndex] = x + packed_load_active(&a[0], &x); c[programIndex] = x; }
+=== an operator takes its place after a packed load
+x is a[p] when 4 is added.
+4 f 10000 {"a":[1,4,7,10],"b":[0,0,0,0]}
+{"arrays":{"a":[1,4,7,10],"b":[5,8,11,14]},"result":null}
+export void f(uniform int a[], uniform int b[]) { int x = 10 * programIndex; x += packed_load_active(&a[0], &x); b[programIndex] = x; }
+=== an index before a packed load
+i is 3 - p when it is taken, and 0 after the load: each element gets 4.
+4 f 10000 {"a":[0,0,0,0],"b":[0,0,0,0]}
+{"arrays":{"a":[4,4,4,4],"b":[0,0,0,0]},"result":null}
+export void f(uniform int a[], uniform int b[]) { int i = 3 - programIndex; a[i] = packed_load_active(b, &i); }
+=== a test that loads
+The old x is p; of the loaded ones those at 0, 2 and so on are the same.
+4 f 10000 {"a":[0,7,2,9],"b":[0,0,0,0]}
+{"arrays":{"a":[0,7,2,9],"b":[1,0,1,0]},"result":null}
+export void f(uniform int a[], uniform int b[]) { int x = programIndex; int y = 0 - 1; if (x == (packed_load_active(a, &x) > 0 ? x : y)) b[programIndex] = 1; }
+=== a variable on both sides of a packed load
+10 p + 4 + a[p].
+4 f 10000 {"a":[1,4,7,10],"b":[0,0,0,0]}
+{"arrays":{"a":[1,4,7,10],"b":[5,18,31,44]},"result":null}
+export void f(uniform int a[], uniform int b[]) { int x = 10 * programIndex; b[programIndex] = x + (packed_load_active(a, &x) + x); }
+=== an operand before a packed load by eight
+The old x is 10 p, 8 are loaded: b[p] is 10 p + 8, then x is a[p].
+8 f 10000 {"a":[1,4,7,10,13,16,19,22],"b":[0,0,0,0,0,0,0,0],"c":[0,0,0,0,0,0,0,0]}
+{"arrays":{"a":[1,4,7,10,13,16,19,22],"b":[8,18,28,38,48,58,68,78],"c":[1,4,7,10,13,16,19,22]},"result":null}
+export void f(uniform int a[], uniform int b[], uniform int c[]) { int x = 10 * programIndex; b[programIndex] = x + packed_load_active(&a[0], &x); c[programIndex] = x; }
+=== an operator takes its place after a packed load by eight
+x is a[p] when 8 is added.
+8 f 10000 {"a":[1,4,7,10,13,16,19,22],"b":[0,0,0,0,0,0,0,0]}
+{"arrays":{"a":[1,4,7,10,13,16,19,22],"b":[9,12,15,18,21,24,27,30]},"result":null}
+export void f(uniform int a[], uniform int b[]) { int x = 10 * programIndex; x += packed_load_active(&a[0], &x); b[programIndex] = x; }
+=== an index before a packed load by eight
+i is 7 - p when it is taken, and 0 after the load: each element gets 8.
+8 f 10000 {"a":[0,0,0,0,0,0,0,0],"b":[0,0,0,0,0,0,0,0]}
+{"arrays":{"a":[8,8,8,8,8,8,8,8],"b":[0,0,0,0,0,0,0,0]},"result":null}
+export void f(uniform int a[], uniform int b[]) { int i = 7 - programIndex; a[i] = packed_load_active(b, &i); }
+=== a test that loads by eight
+The old x is p; of the loaded ones those at 0, 2 and so on are the same.
+8 f 10000 {"a":[0,7,2,9,4,11,6,13],"b":[0,0,0,0,0,0,0,0]}
+{"arrays":{"a":[0,7,2,9,4,11,6,13],"b":[1,0,1,0,1,0,1,0]},"result":null}
+export void f(uniform int a[], uniform int b[]) { int x = programIndex; int y = 0 - 1; if (x == (packed_load_active(a, &x) > 0 ? x : y)) b[programIndex] = 1; }
+=== a variable on both sides of a packed load by eight
+10 p + 8 + a[p].
+8 f 10000 {"a":[1,4,7,10,13,16,19,22],"b":[0,0,0,0,0,0,0,0]}
+{"arrays":{"a":[1,4,7,10,13,16,19,22],"b":[9,22,35,48,61,74,87,100]},"result":null}
+export void f(uniform int a[], uniform int b[]) { int x = 10 * programIndex; b[programIndex] = x + (packed_load_active(a, &x) + x); }
+=== an operand before a packed load by sixteen
+The old x is 10 p, 16 are loaded: b[p] is 10 p + 16, then x is a[p].
+16 f 10000 {"a":[1,4,7,10,13,16,19,22,25,28,31,34,37,40,43,46],"b":[0,0,0,0,0,0,0,0,0,0,0,0,0,0,0,0],"c":[0,0,0,0,0,0,0,0,0,0,0,0,0,0,0,0]}
+{"arrays":{"a":[1,4,7,10,13,16,19,22,25,28,31,34,37,40,43,46],"b":[16,26,36,46,56,66,76,86,96,106,116,126,136,146,156,166],"c":[1,4,7,10,13,16,19,22,25,28,31,34,37,40,43,46]},"result":null}
+export void f(uniform int a[], uniform int b[], uniform int c[]) { int x = 10 * programIndex; b[programIndex] = x + packed_load_active(&a[0], &x); c[programIndex] = x; }
+=== an operator takes its place after a packed load by sixteen
+x is a[p] when 16 is added.
+16 f 10000 {"a":[1,4,7,10,13,16,19,22,25,28,31,34,37,40,43,46],"b":[0,0,0,0,0,0,0,0,0,0,0,0,0,0,0,0]}
+{"arrays":{"a":[1,4,7,10,13,16,19,22,25,28,31,34,37,40,43,46],"b":[17,20,23,26,29,32,35,38,41,44,47,50,53,56,59,62]},"result":null}
+export void f(uniform int a[], uniform int b[]) { int x = 10 * programIndex; x += packed_load_active(&a[0], &x); b[programIndex] = x; }
+=== an index before a packed load by sixteen
+i is 15 - p when it is taken, and 0 after the load: each element gets 16.
+16 f 10000 {"a":[0,0,0,0,0,0,0,0,0,0,0,0,0,0,0,0],"b":[0,0,0,0,0,0,0,0,0,0,0,0,0,0,0,0]}
+{"arrays":{"a":[16,16,16,16,16,16,16,16,16,16,16,16,16,16,16,16],"b":[0,0,0,0,0,0,0,0,0,0,0,0,0,0,0,0]},"result":null}
+export void f(uniform int a[], uniform int b[]) { int i = 15 - programIndex; a[i] = packed_load_active(b, &i); }
+=== a test that loads by sixteen
+The old x is p; of the loaded ones those at 0, 2 and so on are the same.
+16 f 10000 {"a":[0,7,2,9,4,11,6,13,8,15,10,17,12,19,14,21],"b":[0,0,0,0,0,0,0,0,0,0,0,0,0,0,0,0]}
+{"arrays":{"a":[0,7,2,9,4,11,6,13,8,15,10,17,12,19,14,21],"b":[1,0,1,0,1,0,1,0,1,0,1,0,1,0,1,0]},"result":null}
+export void f(uniform int a[], uniform int b[]) { int x = programIndex; int y = 0 - 1; if (x == (packed_load_active(a, &x) > 0 ? x : y)) b[programIndex] = 1; }
+=== a variable on both sides of a packed load by sixteen
+10 p + 16 + a[p].
+16 f 10000 {"a":[1,4,7,10,13,16,19,22,25,28,31,34,37,40,43,46],"b":[0,0,0,0,0,0,0,0,0,0,0,0,0,0,0,0]}
+{"arrays":{"a":[1,4,7,10,13,16,19,22,25,28,31,34,37,40,43,46],"b":[17,30,43,56,69,82,95,108,121,134,147,160,173,186,199,212]},"result":null}
+export void f(uniform int a[], uniform int b[]) { int x = 10 * programIndex; b[programIndex] = x + (packed_load_active(a, &x) + x); }
+=== an index before a packed load and an operator
+i is p when it is taken: each element gets 4 more.
+4 f 10000 {"a":[1,2,3,4],"b":[0,0,0,0]}
+{"arrays":{"a":[5,6,7,8],"b":[0,0,0,0]},"result":null}
+export void f(uniform int a[], uniform int b[]) { int i = programIndex; a[i] += packed_load_active(b, &i); }
+=== arguments around a packed load
+100 p + 10 * 4 + a[p].
+4 f 10000 {"a":[5,6,7,8],"b":[0,0,0,0]}
+{"arrays":{"a":[5,6,7,8],"b":[45,146,247,348]},"result":null}
+int g(int u, int v, int w) { return 100 * u + 10 * v + w; } export void f(uniform int a[], uniform int b[]) { int x = programIndex; b[programIndex] = g(x, packed_load_active(a, &x), x); }
+=== the library beside a packed load
+The greater of 2 p and 4.
+4 f 10000 {"a":[9,9,9,9],"b":[0,0,0,0]}
+{"arrays":{"a":[9,9,9,9],"b":[4,4,4,6]},"result":null}
+export void f(uniform int a[], uniform int b[]) { int x = 2 * programIndex; b[programIndex] = max(x, packed_load_active(a, &x)); }
+=== a packed load in a side of a choice
+0 and 1 add 2 to p + 1 and load a[0] and a[1]; 2 and 3 have -3 and -4, and keep x.
+4 f 10000 {"a":[7,8,9,6],"b":[0,0,0,0],"c":[0,0,0,0]}
+{"arrays":{"a":[7,8,9,6],"b":[3,4,-3,-4],"c":[7,8,3,4]},"result":null}
+export void f(uniform int a[], uniform int b[], uniform int c[]) { int x = programIndex + 1; b[programIndex] = programIndex < 2 ? x + packed_load_active(a, &x) : 0 - x; c[programIndex] = x; }
+=== a packed load in the value of a packed store
+p + 4 of each, and 4 are stored.
+4 f 10000 {"a":[7,8,9,6],"b":[0,0,0,0]}
+{"arrays":{"a":[7,8,9,6],"b":[4,5,6,7]},"result":4}
+export uniform int f(uniform int a[], uniform int b[]) { int x = programIndex; return packed_store_active(b, x + packed_load_active(a, &x)); }
+=== a packed load in the index of a packed load
+Four are loaded, so y is taken from a[4] on.
+4 f 10000 {"a":[1,2,3,4,5,6,7,8]}
+{"arrays":{"a":[6,8,10,12,5,6,7,8]},"result":null}
+export void f(uniform int a[]) { int x, y; packed_load_active(&a[packed_load_active(a, &x)], &y); a[programIndex] = x + y; }
+=== a packed store of uint32 from an index of int8
+1 and 2 store at 1 and 2.
+4 f 10000 {"a":[9,9,9]}
+{"arrays":{"a":[9,1,2]},"result":2}
+export uniform int f(uniform uint a[]) { uniform int8 i = 1; uniform int n = 0; if (programIndex % 3 != 0) n = packed_store_active(&a[i], (uint) programIndex); return n; }
+=== a packed store from the greatest index
+It is past any array, and 1 is the lowest that stores.
+4 f 10000 {"a":[0,0,0,0]}
+trap index, instance 1
+export void f(uniform int a[]) { uniform uint64 i = 18446744073709551615; if (programIndex > 0) ⟦packed_store_active(&a[i], 7)⟧; }
+=== a packed load in a loop
+x is a[n + p] in turn n, and n grows by 4: a[p] + a[p + 4].
+4 f 10000 {"a":[1,2,3,4,50,60,70,80],"b":[0,0,0,0]}
+{"arrays":{"a":[1,2,3,4,50,60,70,80],"b":[51,62,73,84]},"result":null}
+export void f(uniform int a[], uniform int b[]) { int x, s = 0; uniform int n = 0; while (n < 8) { n += packed_load_active(&a[n], &x); s += x; } b[programIndex] = s; }
 === an assert that some fail
 1 and 2 fail, and 1 is the lower.
 4 f 10000 {"a":[3,0,0,1]}

@@ -16,7 +16,7 @@ returns-in_ok-cast_to c =
     let r = a.home.ty.rate in
     let code = λ (q : Bool) (d pc p : ℕ). variable_from l q r d x pc p a.site.mask.number a.site.slot.number in
     let so : true ≡ writes_part l r (type_of x).rate (writes_last l x)
-    = sym c.if-writes_part.true ∙ c.writes_part.ensures l ∙ ap (λ (y : Ty). writes_part l r y.rate c.writes_last.result) c.ty.ensures ∙ ap (writes_part l r (type_of x).rate) (c.writes_last.ensures l) in
+    = sym c.if-writes_part.true ∙ c.writes_part.ensures l ∙ ap (λ (y : Ty). writes_part l r y.rate c.writes_last.result) c.ty.ensures ∙ ap (writes_part l r (type_of x).rate) c.writes_last.ensures in
     let written = subst (λ (t : Target). Writes a.b.now c.cast_to.new.b (value_at a.on.now true x t)) c.new-target.ensures c.in_ok-cast_to.ensures in
     subst (λ q. Appends a.b.now c.cast_to.new.b (code q (l.variable r a.home.number)) (expr_places l x)) so
     (subst (λ d. Appends a.b.now c.cast_to.new.b (code true d) (expr_places l x)) c.variable-to.ensures written)
@@ -29,7 +29,7 @@ returns-in_ok-copied c =
     let r = a.home.ty.rate in
     let code = λ (q : Bool) (d pc p : ℕ). variable_from l q r d x pc p a.site.mask.number a.site.slot.number in
     let so : false ≡ writes_part l r (type_of x).rate (writes_last l x)
-    = sym c.if-writes_part.false ∙ c.writes_part.ensures l ∙ ap (λ (y : Ty). writes_part l r y.rate c.writes_last.result) c.ty.ensures ∙ ap (writes_part l r (type_of x).rate) (c.writes_last.ensures l) in
+    = sym c.if-writes_part.false ∙ c.writes_part.ensures l ∙ ap (λ (y : Ty). writes_part l r y.rate c.writes_last.result) c.ty.ensures ∙ ap (writes_part l r (type_of x).rate) c.writes_last.ensures in
     let written = subst (λ (t : Target). Writes a.b.now c.copied.new.b (value_at a.on.now false x t)) c.new-target.ensures c.in_ok-copied.ensures in
     subst (λ q. Appends a.b.now c.copied.new.b (code q (l.variable r a.home.number)) (expr_places l x)) so
     (subst (λ d. Appends a.b.now c.copied.new.b (code false d) (expr_places l x)) c.variable-to.ensures written)

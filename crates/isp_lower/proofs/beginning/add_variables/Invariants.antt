@@ -8,3 +8,4 @@ invariant-loop-number l =
     ((rows_of l.registers).scalars ++ value_rows Uniform l.number (drop l.number l.variables) ≡ (rows_of l.initial.registers).scalars ++ value_rows Uniform 0 l.variables)
     × ((rows_of l.registers).vectors ++ value_rows Varying l.number (drop l.number l.variables) ≡ (rows_of l.initial.registers).vectors ++ value_rows Varying 0 l.variables)
     × ((rows_of l.registers).arrays ++ array_rows l.number (drop l.number l.variables) ≡ (rows_of l.initial.registers).arrays ++ array_rows 0 l.variables)
+    × ((rows_of l.registers).loaded ≡ (rows_of l.initial.registers).loaded)

@@ -4,10 +4,12 @@ use Rattle.isp_base.specs.declared.types.Ty.{Ty}
 use Rattle.isp_typed.specs.Typed.{type_of}
 use Rattle.isp_typed.specs.Views.{expr_of}
 use Rattle.isp_lower.specs.Code.{same_rate, stays_at}
+use Rattle.isp_lower.specs.Emitted.{layout}
 use Rattle.isp_lower.proofs.truths.is_short.Goals as goal
 
 pub returns-then-same_rate : goal.returns-then-same_rate
-returns-then-same_rate c = λ l.
+returns-then-same_rate c =
+    let l = layout c.args.on.now in
     let r = c.args.rate in
     let so : true ≡ same_rate r (type_of (expr_of c.args.test.now)).rate = sym c.if-same_rate.true ∙ c.same_rate.ensures ∙ ap (λ (y : Ty). same_rate r y.rate) c.ty.ensures in
-    c.both_stay.ensures l ∙ ap (λ b. b && (stays_at l r (expr_of c.args.then.now) && stays_at l r (expr_of c.args.otherwise.now))) so
+    c.both_stay.ensures ∙ ap (λ b. b && (stays_at l r (expr_of c.args.then.now) && stays_at l r (expr_of c.args.otherwise.now))) so

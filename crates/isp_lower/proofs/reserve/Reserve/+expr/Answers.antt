@@ -1,4 +1,5 @@
 use Rattle.std.proofs.Common.{◌∙◌, ◌+◌, ap, sym, subst, arith, drop}
+use Rattle.isp_base.specs.declared.types.Rate.TheVariants.{Varying}
 use Rattle.isp_typed.specs.Typed.{t_arguments, t_exprs}
 use Rattle.isp_typed.specs.Views.{arguments_of, exprs_of}
 use Rattle.isp_lower.specs.Asks.{arguments_asks, call_asks, first_slot, values_asks}
@@ -6,7 +7,7 @@ use Rattle.isp_lower.specs.Reserved.{Gives}
 use Rattle.isp_lower.proofs.Arguments.{argument_within, arguments_end, arguments_more, call_view}
 use Rattle.isp_lower.specs.Library.{library_rates}
 use Rattle.isp_lower.proofs.LibraryValues.{value_within, values_end, values_more}
-use Rattle.isp_lower.proofs.Growing.{both_given, gives_none, second_is}
+use Rattle.isp_lower.proofs.Growing.{both_given, gives_none, second_is, variable_given}
 use Rattle.isp_lower.proofs.reserve.Reserve.+expr.Goals as goal
 
 pub converted-returns : goal.converted-returns
@@ -40,10 +41,19 @@ choice-returns t c =
     )
 
 pub read-returns : goal.read-returns
-read-returns t c = both_given _ _ _ _ _ c.in_ok-target.ensures c.in_ok-element.ensures
+read-returns t c = both_given _ _ _ _ _ c.in_ok-target.ensures c.in_ok-held.ensures
 
 pub index-returns : goal.index-returns
 index-returns t c = both_given _ _ _ _ _ (rw c.ty.ensures at c.in_ok-lift.ensures) c.in_ok-converted.ensures
+
+pub packed_store-returns : goal.packed_store-returns
+packed_store-returns t c =
+    let next = c.in_ok-next.ensures.number in
+    both_given _ _ _ _ _ c.in_ok-spare.ensures (both_given _ _ _ _ _ c.in_ok-base.ensures (both_given _ _ _ _ _ (rw next at c.in_ok-next.ensures.gives) (rw next at c.in_ok-operand.ensures)))
+
+pub packed_load-returns : goal.packed_load-returns
+packed_load-returns t c =
+    both_given _ _ _ _ _ c.in_ok-spare.ensures (both_given _ _ _ _ _ c.in_ok-base.ensures (variable_given _ _ Varying _ _ _ c.in_ok-loaded.ensures))
 
 pub called-returns : goal.called-returns
 called-returns t c = both_given _ _ _ _ _ c.in_ok-spare.ensures c.in_ok-call.ensures

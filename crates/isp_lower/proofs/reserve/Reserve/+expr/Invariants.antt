@@ -1,8 +1,8 @@
 -- The recursion goes down the tree: a conversion is a node too.
 use Rattle.std.proofs.Common.{◌+◌, ◌-◌, ◌*◌, drop}
-use Rattle.isp_typed.specs.Nodes.{typed_nodes, place_nodes, call_nodes, argument_nodes, arguments_nodes, exprs_nodes}
+use Rattle.isp_typed.specs.Nodes.{typed_nodes, place_nodes, base_nodes, call_nodes, argument_nodes, arguments_nodes, exprs_nodes}
 use Rattle.isp_typed.specs.Typed.{t_arguments, t_exprs}
-use Rattle.isp_typed.specs.Views.{argument_of, arguments_of, call_of, expr_of, exprs_of, place_of}
+use Rattle.isp_typed.specs.Views.{argument_of, arguments_of, base_of, call_of, expr_of, exprs_of, place_of}
 use Rattle.isp_lower.specs.Asks.{arguments_asks, values_asks}
 use Rattle.isp_lower.specs.Library.{library_rates}
 use Rattle.isp_lower.specs.Reserved.{Gives}
@@ -68,3 +68,12 @@ decreases-values l = 8 * exprs_nodes (t_exprs (exprs_of l.all.now)) + 5
 abbrev pub invariant-values-loop-place : goal.invariant-values-loop-place
 invariant-values-loop-place l =
     (c : Reserve) → Gives l.self c (values_asks (drop l.place (library_rates l.function l.rate)) (t_exprs (exprs_of (drop l.place l.all))) l.at.number) → Gives l.initial.self c (values_asks (library_rates l.function l.rate) (t_exprs (exprs_of l.all)) l.initial.at.number)
+
+abbrev pub decreases-base : goal.decreases-base
+decreases-base l = 8 * base_nodes (base_of l.base.now) - 1
+
+abbrev pub decreases-packed_store : goal.decreases-packed_store
+decreases-packed_store l = 8 * (base_nodes (base_of l.base.now) + typed_nodes (expr_of l.value.now)) + 2
+
+abbrev pub decreases-packed_load : goal.decreases-packed_load
+decreases-packed_load l = 8 * base_nodes (base_of l.base.now) + 2

@@ -20,10 +20,10 @@ use Rattle.isp_lower.proofs.Arguments.{argument_within, arguments_more, argument
 use Rattle.isp_lower.proofs.LibraryValues as row
 use Rattle.isp_lower.proofs.LibraryValues.{value_within, values_more}
 use Rattle.isp_lower.proofs.Landing.{chosen, landed, short_chosen, long_chosen}
-use Rattle.isp_lower.proofs.expression.+expr.Goals as goal
+use Rattle.isp_lower.proofs.+expr.Goals as goal
 
-pub right_side-returns : goal.right_side-returns
-right_side-returns t c =
+pub expression::right_side-returns : goal.expression::right_side-returns
+expression::right_side-returns t c =
     let l = layout c.args.on.now in
     let x = expr_of c.args.x.now in
     let to = c.args.target in
@@ -31,8 +31,8 @@ right_side-returns t c =
     (λ pc p. variable_from l false to.ty.rate to.to.number x pc p to.site.mask.number to.site.slot.number) (expr_places l x)
     (c.len-at.ensures ∙ c.args.b.now.code.ok.0) c.in_ok-push.ensures c.in_ok-copied.ensures c.land.ensures.code c.land.ensures.places
 
-pub masked_side-returns-clause-code : goal.masked_side-returns-clause-code
-masked_side-returns-clause-code t c =
+pub expression::masked_side-returns-clause-code : goal.expression::masked_side-returns-clause-code
+expression::masked_side-returns-clause-code t c =
     let l = layout c.args.on.now in
     let x = expr_of c.args.x.now in
     let k = c.args.site.mask.number in
@@ -40,8 +40,8 @@ masked_side-returns-clause-code t c =
     (λ pc p. operand_of l c.args.rate x k c.args.site.slot.number (expr_code l x pc p k c.args.site.slot.number)) (expr_places l x)
     (c.len-at.ensures ∙ c.args.b.now.code.ok.0) c.in_ok-push.ensures c.in_ok-from.ensures.code (cc) c.land.ensures.places
 
-pub choose_by_jump-returns : goal.choose_by_jump-returns
-choose_by_jump-returns t c =
+pub expression::choose_by_jump-returns : goal.expression::choose_by_jump-returns
+expression::choose_by_jump-returns t c =
     let l = layout c.args.on.now in
     let x = expr_of c.args.then.now in
     let y = expr_of c.args.otherwise.now in
@@ -51,46 +51,46 @@ choose_by_jump-returns t c =
     (c.len-at.ensures ∙ c.args.b.now.code.ok.0) c.in_ok-push.ensures c.in_ok-side.ensures (c.len-over.ensures ∙ c.side.new.b.code.ok.0) c.in_ok-push-2.ensures
     (cc) c.land.ensures.places c.in_ok-side-2.ensures c.land_always.ensures.code c.land_always.ensures.places
 
-pub choose_to-choose_short-requires : goal.choose_to-choose_short-requires
-choose_to-choose_short-requires t c =
-    let short : is_short (layout c.args.on.now) c.args.target.ty.rate (expr_of c.args.test.now) (expr_of c.args.then.now) (expr_of c.args.otherwise.now) ≡ true = sym (c.is_short.ensures (layout c.args.on.now)) ∙ c.if-is_short.true in
+pub expression::choose_to-choose_short-requires : goal.expression::choose_to-choose_short-requires
+expression::choose_to-choose_short-requires t c =
+    let short : is_short (layout c.args.on.now) c.args.target.ty.rate (expr_of c.args.test.now) (expr_of c.args.then.now) (expr_of c.args.otherwise.now) ≡ true = sym (c.is_short.ensures) ∙ c.if-is_short.true in
     search (rules, short)
 
-pub choose_to-returns-then-is_short : goal.choose_to-returns-then-is_short
-choose_to-returns-then-is_short t c =
+pub expression::choose_to-returns-then-is_short : goal.expression::choose_to-returns-then-is_short
+expression::choose_to-returns-then-is_short t c =
     let a = c.args in
     let to = a.target in
     let l = layout a.on.now in
     let z = expr_of a.test.now in
     let x = expr_of a.then.now in
     let y = expr_of a.otherwise.now in
-    let short : is_short l to.ty.rate z x y ≡ true = sym (c.is_short.ensures l) ∙ c.if-is_short.true in
+    let short : is_short l to.ty.rate z x y ≡ true = sym (c.is_short.ensures) ∙ c.if-is_short.true in
     short_chosen a.b.now c.choose_short.new.b l to.to.number z x y to.ty to.site.mask.number to.site.slot.number short c.in_ok-choose_short.ensures to.span
 
-pub choose_to-returns-in_ok-choose_one-in-Uniform : goal.choose_to-returns-in_ok-choose_one-in-Uniform
-choose_to-returns-in_ok-choose_one-in-Uniform t c =
+pub expression::choose_to-returns-in_ok-choose_one-in-Uniform : goal.expression::choose_to-returns-in_ok-choose_one-in-Uniform
+expression::choose_to-returns-in_ok-choose_one-in-Uniform t c =
     let a = c.args in
     let to = a.target in
     let l = layout a.on.now in
     let z = expr_of a.test.now in
     let x = expr_of a.then.now in
     let y = expr_of a.otherwise.now in
-    let long : is_short l to.ty.rate z x y ≡ false = sym (c.is_short.ensures l) ∙ c.if-is_short.false in
+    let long : is_short l to.ty.rate z x y ≡ false = sym (c.is_short.ensures) ∙ c.if-is_short.false in
     long_chosen a.b.now c.choose_one.new.b l Uniform to.to.number z x y to.ty to.site.mask.number to.site.slot.number long (sym c.in-Uniform.is ∙ ap (λ (t : Ty). t.rate) c.ty.ensures) c.in_ok-choose_one-in-Uniform.ensures to.span
 
-pub choose_to-returns-in_ok-choose_each-in-Varying : goal.choose_to-returns-in_ok-choose_each-in-Varying
-choose_to-returns-in_ok-choose_each-in-Varying t c =
+pub expression::choose_to-returns-in_ok-choose_each-in-Varying : goal.expression::choose_to-returns-in_ok-choose_each-in-Varying
+expression::choose_to-returns-in_ok-choose_each-in-Varying t c =
     let a = c.args in
     let to = a.target in
     let l = layout a.on.now in
     let z = expr_of a.test.now in
     let x = expr_of a.then.now in
     let y = expr_of a.otherwise.now in
-    let long : is_short l to.ty.rate z x y ≡ false = sym (c.is_short.ensures l) ∙ c.if-is_short.false in
+    let long : is_short l to.ty.rate z x y ≡ false = sym (c.is_short.ensures) ∙ c.if-is_short.false in
     long_chosen a.b.now c.choose_each.new.b l Varying to.to.number z x y to.ty to.site.mask.number to.site.slot.number long (sym c.in-Varying.is ∙ ap (λ (t : Ty). t.rate) c.ty.ensures) c.in_ok-choose_each-in-Varying.ensures to.span
 
-pub arguments-loop-place-preserved : goal.arguments-loop-place-preserved
-arguments-loop-place-preserved t c =
+pub expression::arguments-loop-place-preserved : goal.expression::arguments-loop-place-preserved
+expression::arguments-loop-place-preserved t c =
     let l = layout c.args.on.now in
     let xs = c.args.all.now in
     let i = c.loop-place.place in
@@ -110,11 +110,11 @@ arguments-loop-place-preserved t c =
           ∙ registers_more l rs xs i x c.loop-place-test.true c.index-all-place.is c.loop-place.registers.items (argument_registers l rs (t_arguments (arguments_of xs)) c.args.site.slot.number) m c.loop-place.invariant.2,
     )
 
-pub passed-operand-requires : goal.passed-operand-requires
-passed-operand-requires t c = (omega (arith, c.decreases), taken_at c.args.on.now c.args.rate (expr_of c.args.x.now) c.args.site.slot.number c.requires)
+pub expression::passed-operand-requires : goal.expression::passed-operand-requires
+expression::passed-operand-requires t c = (omega (arith, c.decreases), taken_at c.args.on.now c.args.rate (expr_of c.args.x.now) c.args.site.slot.number c.requires)
 
-pub arguments-argument-requires : goal.arguments-argument-requires
-arguments-argument-requires t c =
+pub expression::arguments-argument-requires : goal.expression::arguments-argument-requires
+expression::arguments-argument-requires t c =
     let xs = c.args.all.now in
     let i = c.loop-place.place in
     let x = c.index-all-place.result in
@@ -122,27 +122,27 @@ arguments-argument-requires t c =
     let asked = subst (Present c.args.on.now) (arguments_more c.loop-place.slot.number xs i x c.loop-place-test.true c.index-all-place.is) c.loop-place.invariant.1 in
     (omega (arith, within, c.decreases), asked.1.0)
 
-pub call_to-arguments-requires : goal.call_to-arguments-requires
-call_to-arguments-requires t c =
+pub expression::call_to-arguments-requires : goal.expression::call_to-arguments-requires
+expression::call_to-arguments-requires t c =
     let a = c.args in
     let counts = call_counts a.x.now in
     let same = ap (λ zs. arguments_nodes (t_arguments (arguments_of zs))) c.deref.ensures.value in
     let asked = subst (λ zs. Present a.on.now (arguments_asks (t_arguments (arguments_of zs)) a.site.slot.number)) (sym c.deref.ensures.value) (arguments_there a.on.now a.x.now a.site.slot.number c.requires) in
     (omega (arith, counts, same, c.decreases), asked)
 
-pub arguments-returns-clause-registers : goal.arguments-returns-clause-registers
-arguments-returns-clause-registers t c =
+pub expression::arguments-returns-clause-registers : goal.expression::arguments-returns-clause-registers
+expression::arguments-returns-clause-registers t c =
     let l = layout c.args.on.now in
     let rs = l.rates c.args.function in
     c.new.ensures ∙ registers_end l rs c.args.all.now c.loop-place.place c.loop-place-test.false c.loop-place.registers.items _ c.loop-place.slot.number c.loop-place.invariant.2
 
-pub arguments-returns-clause-code : goal.arguments-returns-clause-code
-arguments-returns-clause-code t c =
+pub expression::arguments-returns-clause-code : goal.expression::arguments-returns-clause-code
+expression::arguments-returns-clause-code t c =
     let l = layout c.args.on.now in
     c.loop-place.invariant.0 c.loop-place.b (code_end l (l.rates c.args.function) c.args.all.now c.loop-place.place c.loop-place-test.false c.loop-place.b c.args.site.mask.number c.loop-place.slot.number)
 
-pub call_to-returns : goal.call_to-returns
-call_to-returns t c =
+pub expression::call_to-returns : goal.expression::call_to-returns
+expression::call_to-returns t c =
     let a = c.args in
     let l = layout a.on.now in
     let k = a.site.mask.number in
@@ -158,8 +158,8 @@ call_to-returns t c =
 
 -- ---- values of a call of the library
 
-pub values-loop-place-preserved : goal.values-loop-place-preserved
-values-loop-place-preserved t c =
+pub expression::values-loop-place-preserved : goal.expression::values-loop-place-preserved
+expression::values-loop-place-preserved t c =
     let l = layout c.args.on.now in
     let xs = c.args.all.now in
     let i = c.loop-place.place in
@@ -179,8 +179,8 @@ values-loop-place-preserved t c =
           ∙ row.registers_more rs xs i l x c.loop-place-test.true c.index-all-place.is c.loop-place.registers.items c.in_ok-register.register (value_registers l rs (t_exprs (exprs_of xs)) c.args.site.slot.number) m kept c.loop-place.invariant.2,
     )
 
-pub values-operand-requires : goal.values-operand-requires
-values-operand-requires t c =
+pub expression::values-operand-requires : goal.expression::values-operand-requires
+expression::values-operand-requires t c =
     let xs = c.args.all.now in
     let i = c.loop-place.place in
     let x = c.index-all-place.result in
@@ -189,10 +189,10 @@ values-operand-requires t c =
     let asked = subst (Present c.args.on.now) (values_more rs xs i c.loop-place.slot.number x c.loop-place-test.true c.index-all-place.is) c.loop-place.invariant.1 in
     (omega (arith, within, c.decreases), subst (λ r. Present c.args.on.now (operand_asks r (expr_of x) c.loop-place.slot.number)) (sym c.value_rate-taken.ensures) asked.1.0)
 
-pub values-returns-clause-registers : goal.values-returns-clause-registers
-values-returns-clause-registers t c =
+pub expression::values-returns-clause-registers : goal.expression::values-returns-clause-registers
+expression::values-returns-clause-registers t c =
     row.registers_end (library_rates c.args.function c.args.rate) c.args.all.now c.loop-place.place (layout c.args.on.now) c.loop-place-test.false c.loop-place.registers.items _ c.loop-place.slot.number c.loop-place.invariant.2
 
-pub values-returns-clause-code : goal.values-returns-clause-code
-values-returns-clause-code t c =
+pub expression::values-returns-clause-code : goal.expression::values-returns-clause-code
+expression::values-returns-clause-code t c =
     c.loop-place.invariant.0 c.loop-place.b (row.code_end (library_rates c.args.function c.args.rate) c.args.all.now c.loop-place.place (layout c.args.on.now) c.loop-place-test.false c.loop-place.b c.args.site.mask.number c.loop-place.slot.number)
