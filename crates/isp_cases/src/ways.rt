@@ -4,8 +4,8 @@ use crate::found::Found;
 use isp_base::{Bound, Signature};
 use isp_bind::{answer, bind};
 use isp_engine::{Ending, Report, compile, execute, front};
-use isp_model::{Outcome, evaluate, work};
 use isp_lex::SourceFault;
+use isp_model::{Outcome, evaluate, work};
 use isp_rates::Checked;
 use std::alloc::{AllocError, Global};
 

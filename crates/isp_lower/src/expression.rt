@@ -125,7 +125,9 @@ fn compare_or_branch(
             ..
         } => library_to(b, on, *function, values, target),
         TypedExpr::PackedStore { base, value, .. } => packed_store_to(b, on, base, value, target),
-        TypedExpr::PackedLoad { base, variable, .. } => packed_load_to(b, on, base, *variable, target),
+        TypedExpr::PackedLoad { base, variable, .. } => packed_load_to(
+            b, on, base, *variable, target,
+        ),
         _ => Err(AllocError),
     }
 }

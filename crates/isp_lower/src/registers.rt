@@ -84,11 +84,7 @@ impl Registers {
         ensures rows { OnOk result (Grows self.old self.new) }
         ensures given { OnOk result (HasLoaded self.new number) }
     {
-        given_or_new(
-            &mut self.loaded,
-            RegisterName::Variable(number),
-            Elem::Bool,
-        )?;
+        given_or_new(&mut self.loaded, RegisterName::Variable(number), Elem::Bool)?;
         Ok(())
     }
 

@@ -7,8 +7,8 @@ ghost use Rattle.isp_masks.specs.Covered.{argument_left, base_left, block_left, 
 use isp_base::Span;
 use isp_rates::Checked;
 use isp_typed::{
-    TypedArgument, TypedBase, TypedBlock, TypedCall, TypedExpr, TypedFirst, TypedFunction, TypedItem,
-    TypedPlace, TypedRange, TypedSimple, TypedStmt,
+    TypedArgument, TypedBase, TypedBlock, TypedCall, TypedExpr, TypedFirst, TypedFunction,
+    TypedItem, TypedPlace, TypedRange, TypedSimple, TypedStmt,
 };
 
 /// The first node of an expression that has no code.
@@ -33,7 +33,11 @@ fn expr(x: &TypedExpr) -> Option<Span>
         } => expr(test).or(expr(then).or(expr(otherwise))),
         TypedExpr::Call { call: inner, .. } => call(inner),
         TypedExpr::Library { values: all, .. } => values(all),
-        TypedExpr::PackedStore { base: from, value, .. } => base(from).or(expr(value)),
+        TypedExpr::PackedStore {
+            base: from,
+            value,
+            ..
+        } => base(from).or(expr(value)),
         TypedExpr::PackedLoad { base: from, .. } => base(from),
     }
 }

@@ -72,7 +72,11 @@ pub(crate) fn stmt(b: &mut Body, on: &Scope, x: &TypedStmt, spot: Spot) -> Resul
         TypedStmt::ForeachActive { index, body, .. } => active_loop(b, on, *index, body, spot),
         TypedStmt::Unmasked { body, .. } => unmasked(b, on, body, spot),
         TypedStmt::Foreach { ranges, body, .. } => foreach(b, on, ranges, body, spot),
-        TypedStmt::Assert { test, call_span, .. } => asserts(b, on, test, *call_span, spot.site()),
+        TypedStmt::Assert {
+            test,
+            call_span,
+            ..
+        } => asserts(b, on, test, *call_span, spot.site()),
         TypedStmt::Print { .. } => Err(AllocError),
     }
 }

@@ -18,7 +18,10 @@ fn refused(rt: &impl Abort, alloc: Global, text: &str, line: &str) -> Result<(),
 #[test]
 fn first_node_not_yet(rt: HostRuntime) -> Result<(), Fail> {
     for (text, line) in [
-        ("void f() { print(\"%\", 1 / 0 == 1); }", "90 NotYet at 11..34"),
+        (
+            "void f() { print(\"%\", 1 / 0 == 1); }",
+            "90 NotYet at 11..34",
+        ),
         (
             "export void f() { g(); } void g() { f(); print(\"\"); } void h() { f(); }",
             "90 NotYet at 41..51",

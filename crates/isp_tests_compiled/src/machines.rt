@@ -4,9 +4,9 @@ ghost use Rattle.isp_base.specs.Types.{gang_width};
 
 use isp_base::{Array, Bound, Gang, Value};
 use isp_code::Code;
-use isp_model::Outcome;
 use isp_machine::{Machine, Stop};
 use isp_masks::lower;
+use isp_model::Outcome;
 use isp_rates::Checked;
 use isp_verify::{Verified, verify};
 use std::alloc::{AllocError, Global};
