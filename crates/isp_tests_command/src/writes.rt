@@ -18,7 +18,7 @@ const SENT: &str = "0,2,3,{\"arrays\":{},\"result\":null}\n";
 
 // Says `ab`, and traps where the place is 0..4.
 const TRAPPED: &str =
-    "isp 1 gang 4\nplace 0 4\ntext 6162\nfunc f export void\nm 1\nsay t0\nfail m0 p0\nend\n";
+    "isp 1 gang 4\nplace 0 4\ntext 6162\nfunc f export void\nm 1\nsay t0\nfail m0 p0\nret -\nend\n";
 
 fn page(alloc: Global, room: usize, step: usize) -> Page {
     Page {
