@@ -14,4 +14,5 @@ pub mod Branches
 pub mod Stmts
 pub mod Sampled
 pub mod Writes
+pub mod Stores
 pub mod Whole

@@ -2,6 +2,7 @@
 use Rattle.isp_independence.specs.Independent.{IsCalled}
 use Rattle.isp_meaning.specs.Loops.{turns}
 use Rattle.isp_alone.specs.Calls.{own_calls}
+use Rattle.isp_instances.specs.Asked.{uniforms_in}
 use Rattle.isp_instances.specs.Laws.{TouchedStays, ExpressionsAgree, LoopsAgree, StatementsAgree}
 use Rattle.isp_instances.proofs.Grows.{answer_up, does_up, own_calls_up}
 use Rattle.isp_instances.proofs.Asked.{asked_fair}
@@ -20,7 +21,7 @@ touched_stays = record {
 
 pub expressions_agree : ExpressionsAgree
 expressions_agree program entry w calls own vars v x a touch agree opens asked some =
-    value_sim w touch program.functions (IsCalled program.functions entry) calls own agree v x (asked_fair w.frame program.functions (IsCalled program.functions entry) vars opens v x asked) a some
+    value_sim w touch program.functions (IsCalled program.functions entry) calls own agree (uniforms_in vars v) x (asked_fair w.frame program.functions (IsCalled program.functions entry) vars opens v x asked) a some
 
 pub loops_agree : LoopsAgree
 loops_agree = record {

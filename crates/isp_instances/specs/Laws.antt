@@ -23,7 +23,7 @@ use Rattle.isp_alone.specs.Does.{does}
 use Rattle.isp_alone.specs.Calls.{own_calls}
 use Rattle.isp_instances.specs.Stands.{World, Within, TouchNothing, AreSome, left_at, Up}
 use Rattle.isp_instances.specs.Values.{Sim, Stand, CallsAgree}
-use Rattle.isp_instances.specs.Asked.{OpenArrays, AskedOf}
+use Rattle.isp_instances.specs.Asked.{uniforms_in, OpenArrays, AskedOf}
 use Rattle.isp_instances.specs.Loops.{LoopParts, LoopSim}
 
 -- what an instance alone has read stays read, and where it has stored it has stored, whatever it does next
@@ -41,7 +41,7 @@ ExpressionsAgree =
     → OpenArrays w.frame vars
     → AskedOf program.functions vars v (IsCalled program.functions entry) x
     → AreSome w.gang a
-    → Sim w v a (Stand w.gang a (rate_of x)) (value w.gang w.frame calls x a) (λ p. answer w.begin p w.frame (own p) x)
+    → Sim w (uniforms_in vars v) a (Stand w.gang a (rate_of x)) (value w.gang w.frame calls x a) (λ p. answer w.begin p w.frame (own p) x)
 
 -- A loop over a set is ended by each member as it ends it alone, where test, body and step are such: n turns, and the test
 -- before the first.
