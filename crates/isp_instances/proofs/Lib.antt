@@ -15,4 +15,7 @@ pub mod Stmts
 pub mod Sampled
 pub mod Writes
 pub mod Stores
+pub mod Acts
+pub mod AskedActs
+pub mod Returns
 pub mod Whole
