@@ -86,6 +86,7 @@ def collatz(a):
 def threshold(a):
     bright = [i for i, p in enumerate(a["pixels"]) if p > a["level"]]
     a["found"][: len(bright)] = bright
+    a["marks"] = [255 if p > a["level"] else 0 for p in a["pixels"]]
     return len(bright)
 
 

@@ -4,5 +4,7 @@ pub mod Binds
 pub mod Means
 pub mod Runs
 pub mod Written
+pub mod Streams
+pub mod Sends
 pub mod Requests
 pub mod Loads

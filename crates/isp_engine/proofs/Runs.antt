@@ -28,7 +28,7 @@ use Rattle.isp_engine.specs.declared.fault.RunFault.TheVariants as fault
 use Rattle.isp_engine.specs.Stops.{StopsAs}
 
 -- a run that memory did not stop is one of so many instructions, and stands as it stopped
-made : (b : ℕ) (old now : Kept) (stop : Stop) → RunGives b old now stop → (s : StopsAs stop (state now)) → Made b old now
+pub made : (b : ℕ) (old now : Kept) (stop : Stop) → RunGives b old now stop → (s : StopsAs stop (state now)) → Made b old now
 made b old now Running g s = g.0
 made b old now (Trapped t) g s = g.0
 made b old now Ended g s = g.0
@@ -40,11 +40,8 @@ stops b old now (Trapped t) g ne = g.1
 stops b old now Ended g ne = g.1
 stops b old now Memory g ne = absurd (ne refl)
 
--- the machine that began with an entry's first state is, after its run, where the entry is
-module _ (code : Listing) (entry : List ℕ) (xs : List Argument) (b : ℕ) (old now : Kept) (begins : Starts code entry xs old) (stop : Stop) (gives : RunGives b old now stop) (stands : StopsAs stop (state now)) where
-  abbrev ran : Made b old now
-  ran = made b old now stop gives stands
-
+-- the machine that began with an entry's first state is, after so many instructions, where the entry is
+module _ (code : Listing) (entry : List ℕ) (xs : List Argument) (b : ℕ) (old now : Kept) (begins : Starts code entry xs old) (ran : Made b old now) where
   pub given_is : shapes_of (rows xs) ≡ given now
   given_is = sym (ran.given_same ∙ begins.given_are)
 

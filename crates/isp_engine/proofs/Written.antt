@@ -13,7 +13,7 @@ pub adds_nil : (held : Option (List ℕ)) → adds [] held ≡ held
 adds_nil None = refl
 adds_nil (Some held) = ap Some (append-nil held)
 
-rest_is : (xs : List ℕ) (t : ℕ) → take (length xs - t) (drop t xs) ≡ drop t xs
+pub rest_is : (xs : List ℕ) (t : ℕ) → take (length xs - t) (drop t xs) ≡ drop t xs
 rest_is xs t = grind (arith, common_steps)
 
 -- the first t bytes, and then c more

@@ -3,8 +3,7 @@
 --     Ends                      the story of any request
 --     Commands                  all of that, and the exit status
 -- `holds name text` says that under a name a text may be found, or nothing that can be read.
-use Rattle.std.specs.Prelude.{◌≡◌, ◌≢◌, ◌⊎◌, ℕ, ◌++◌, List, [], ◌∷◌, Bool, Option, Some, None, Result, Ok, Err, String, string_bytes, ⊤}
-use Rattle.std.specs.declared.alloc.Global.{Global}
+use Rattle.std.specs.Prelude.{◌≡◌, ◌≢◌, ◌⊎◌, ℕ, List, [], Bool, Option, Some, None, Result, Ok, Err, ⊤}
 use Rattle.isp_base.specs.declared.types.Gang.{Gang}
 use Rattle.isp_code.specs.Listing.{Listing}
 use Rattle.isp_asm.specs.Spelling.{text_of}
@@ -25,6 +24,7 @@ use Rattle.isp_engine.specs.Compilations.{IsAnswer}
 use Rattle.isp_engine.specs.Covered.{IsNotCompiled}
 use Rattle.isp_engine.specs.Images.{IsCompilation, IsLoaded, IsNotLoaded}
 use Rattle.isp_engine.specs.Reports.{Executes}
+use Rattle.isp_engine.specs.Sending.{report_bytes}
 
 abbrev pub Holds : Type 1
 Holds = List ℕ → Option (List ℕ) → Type 0
@@ -49,14 +49,6 @@ abbrev pub UnreadOf : Holds → List ℕ → List ℕ → Failure → Type 0
 UnreadOf holds first second f = Unread holds first f ⊎ (((text : List ℕ) × holds first (Some text)) × Unread holds second f)
 
 -- ---- what went out of a report
-
--- the output, and where there is an answer that and a line feed
-abbrev pub answer_bytes : Option (String Global) → List ℕ
-answer_bytes None = []
-answer_bytes (Some s) = string_bytes s ++ 10 ∷ []
-
-abbrev pub report_bytes : Report → List ℕ
-report_bytes r = r.output.items ++ answer_bytes r.answer
 
 -- bytes went out whole, or the first of them until a write failed
 abbrev pub Writes : List ℕ → Option (List ℕ) → Option (List ℕ) → Bool → Result ⊤ Failure → Type 0

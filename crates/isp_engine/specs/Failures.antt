@@ -9,7 +9,7 @@ use Rattle.isp_lex.specs.declared.fault.SourceFault.TheVariants.{Memory as NoMem
 use Rattle.isp_engine.specs.declared.fault.CodeFault.{CodeFault}
 use Rattle.isp_engine.specs.declared.fault.CodeFault.TheVariants.{Memory as NoCodeMemory, Text as BadText, Code as BadCode}
 use Rattle.isp_engine.specs.declared.fault.RunFault.{RunFault}
-use Rattle.isp_engine.specs.declared.fault.RunFault.TheVariants.{Memory as NoRunMemory, NoEntry, Arguments}
+use Rattle.isp_engine.specs.declared.fault.RunFault.TheVariants.{Memory as NoRunMemory, NoEntry, Arguments, WriteFailed}
 use Rattle.isp_engine.specs.Faults.{code_fault_text, run_fault_text}
 use Rattle.isp_engine.specs.declared.failure.Failure.{Failure}
 use Rattle.isp_engine.specs.declared.failure.Failure.TheVariants.{Source, Trapped, BudgetUsed, Run, CannotRead, CannotWrite, Memory, Code}
@@ -46,6 +46,7 @@ abbrev pub run_failure : RunFault → Failure
 run_failure NoRunMemory = Memory
 run_failure NoEntry = Run NoEntry
 run_failure (Arguments f) = Run (Arguments f)
+run_failure WriteFailed = CannotWrite
 
 abbrev pub code_failure : CodeFault → Failure
 code_failure NoCodeMemory = Memory

@@ -12,7 +12,7 @@ use Rattle.isp_verify.specs.declared.fault.VerifyFault.TheVariants as verify_fau
 use Rattle.isp_engine.specs.declared.fault.CodeFault.{CodeFault}
 use Rattle.isp_engine.specs.declared.fault.CodeFault.TheVariants as code_fault
 use Rattle.isp_engine.specs.declared.fault.RunFault.{RunFault}
-use Rattle.isp_engine.specs.declared.fault.RunFault.TheVariants.{Memory, NoEntry, Arguments}
+use Rattle.isp_engine.specs.declared.fault.RunFault.TheVariants.{Memory, NoEntry, Arguments, WriteFailed}
 
 abbrev pub run_fault : BindFault → RunFault
 run_fault NoMemory = Memory
@@ -28,6 +28,7 @@ abbrev pub run_fault_text : RunFault → List ℕ
 run_fault_text Memory = codes "memory"
 run_fault_text NoEntry = codes "50 NoEntry"
 run_fault_text (Arguments f) = fault_text f
+run_fault_text WriteFailed = codes "81 WriteFailed"
 
 abbrev pub text_refusal : AsmFault → CodeFault
 text_refusal asm_fault.Memory = code_fault.Memory

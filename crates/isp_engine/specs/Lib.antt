@@ -6,6 +6,7 @@ pub mod Covered
 pub mod Images
 pub mod Reports
 pub mod Stops
+pub mod Sending
 pub mod Meaning
 pub mod Failures
 pub mod Commands

@@ -20,6 +20,10 @@ Takes old new (Err e) bytes = new ≡ old
 abbrev pub TookAll : List ℕ → Option (List ℕ) → Option (List ℕ) → Bool → Type 0
 TookAll bytes old new failed = (new ≡ adds bytes old) × (failed ≡ false)
 
+-- the first of them
+abbrev pub TookFirst : List ℕ → Option (List ℕ) → Option (List ℕ) → Type 0
+TookFirst bytes old new = (n : ℕ) × (new ≡ adds (take n bytes) old)
+
 -- or it failed, and took the first of them
 abbrev pub TookSome : List ℕ → Option (List ℕ) → Option (List ℕ) → Bool → Type 0
-TookSome bytes old new failed = ((n : ℕ) × (new ≡ adds (take n bytes) old)) × (failed ≡ true)
+TookSome bytes old new failed = TookFirst bytes old new × (failed ≡ true)

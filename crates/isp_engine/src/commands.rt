@@ -1,6 +1,7 @@
 //! The whole program, over what it is handed.
 ghost use Rattle.std.specs.Prelude.{◌≡◌, false, string_bytes, Some, Ok, IfOk, IfErr, OnOk, OnErr};
-ghost use Rattle.isp_engine.specs.Commands.{AsmFails, Assembled, Commands, Delivers, Ends, ExecFails, Executed, Ran, RanCode, RunFails, Runs, Unread, Writes, WroteCode, answer_bytes, exit_status, report_bytes};
+ghost use Rattle.isp_engine.specs.Commands.{AsmFails, Assembled, Commands, Delivers, Ends, ExecFails, Executed, Ran, RanCode, RunFails, Runs, Unread, Writes, WroteCode, exit_status};
+ghost use Rattle.isp_engine.specs.Sending.{report_bytes};
 ghost use Rattle.isp_asm.specs.Spelling.{text_of};
 ghost use Rattle.isp_engine.specs.Sinks.{TookAll, TookSome};
 ghost use Rattle.isp_engine.specs.declared.failure.Failure.TheVariants.{Memory};
@@ -9,7 +10,7 @@ use crate::failure::Failure;
 use crate::files::{FileFault, SourceFiles};
 use crate::image::{Image, compile, load_code};
 use crate::report::{Ending, Report};
-use crate::run::execute;
+use crate::run::{execute, write_answer};
 use crate::sink::{Sink, SinkFault, write_all};
 use clap::error::ErrorKind;
 use isp_asm::write;
@@ -219,20 +220,5 @@ fn write_report<O: Sink>(report: &Report, out: &mut O) -> Result<(), SinkFault>
 {
     write_all(out, report.output.as_slice())?;
     write_answer(&report.answer, out)?;
-    Ok(())
-}
-
-#[tactic(auto, using(crate::proofs::Written::took_both, crate::proofs::Written::took_later, crate::proofs::Written::took_early))]
-fn write_answer<O: Sink>(answer: &Option<String>, out: &mut O) -> Result<(), SinkFault>
-    requires { O.has_failed out.old ≡ false }
-    ensures ok { OnOk result (TookAll (answer_bytes answer.now) (O.written out.old)
-        (O.written out.new) (O.has_failed out.new)) }
-    ensures err { OnErr result (TookSome (answer_bytes answer.now) (O.written out.old)
-        (O.written out.new) (O.has_failed out.new)) }
-{
-    if let Some(text) = answer {
-        write_all(out, text.as_bytes())?;
-        write_all(out, b"\n")?;
-    }
     Ok(())
 }

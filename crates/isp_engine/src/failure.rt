@@ -17,7 +17,7 @@ pub enum Failure<'a> {
     Trapped(Trap),
     /// 4: as many instructions as may be run have not been enough.
     BudgetUsed,
-    /// 5: no such entry, or the arguments are refused.
+    /// 5: no such entry, or the arguments are refused. Of memory and a failed write the others tell, and never this.
     Run(RunFault),
     /// 6: the file of this name cannot be read.
     CannotRead(&'a str),
@@ -85,6 +85,7 @@ impl From<RunFault> for Failure<'_> {
     fn from(fault: RunFault) -> Self {
         match fault {
             RunFault::Memory => Failure::Memory,
+            RunFault::WriteFailed => Failure::CannotWrite,
             _ => Failure::Run(fault),
         }
     }

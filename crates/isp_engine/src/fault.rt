@@ -1,6 +1,7 @@
 //! Why code is not loaded, and why a run gives no report.
 ghost use Rattle.std.specs.Prelude.{◌≡◌};
 
+use crate::sink::SinkFault;
 use isp_asm::AsmFault;
 use isp_bind::BindFault;
 use isp_verify::VerifyFault;
@@ -17,6 +18,8 @@ pub enum RunFault {
     NoEntry,
     /// 70 to 76: the arguments are refused. Of memory `Memory` tells, and never this.
     Arguments(BindFault),
+    /// 81: the sink failed. `run_to` alone answers it.
+    WriteFailed,
 }
 
 impl fmt::Display for RunFault {
@@ -30,6 +33,7 @@ impl fmt::Display for RunFault {
             RunFault::Memory => f.write_str("memory"),
             RunFault::NoEntry => f.write_str("50 NoEntry"),
             RunFault::Arguments(fault) => write!(f, "{fault}"),
+            RunFault::WriteFailed => f.write_str("81 WriteFailed"),
         }
     }
 }
@@ -53,6 +57,16 @@ impl<T: Drop> From<AllocFailed<T>> for RunFault {
 
     fn from(_error: AllocFailed<T>) -> RunFault {
         RunFault::Memory
+    }
+}
+
+impl From<SinkFault> for RunFault {
+    ghost use Rattle.isp_engine.specs.declared.fault.RunFault.TheVariants.{WriteFailed};
+
+    ghost from_gives = { λ _ e. e ≡ WriteFailed };
+
+    fn from(_fault: SinkFault) -> RunFault {
+        RunFault::WriteFailed
     }
 }
 

@@ -10,6 +10,7 @@ mod report;
 mod run;
 mod sink;
 mod source;
+mod stream;
 
 pub use commands::command;
 pub use failure::Failure;
@@ -17,6 +18,6 @@ pub use fault::{CodeFault, RunFault};
 pub use files::{FileFault, SourceFiles, read_source, read_text};
 pub use image::{Image, compile, load_code};
 pub use report::{Ending, Report};
-pub use run::execute;
+pub use run::{execute, run_to};
 pub use sink::{Sink, SinkFault};
 pub use source::front;

@@ -1,5 +1,5 @@
 //! Runs of compiled programs.
-ghost use Rattle.std.specs.Prelude.{◌≡◌, ℕ, List, IfOk, OnOk};
+ghost use Rattle.std.specs.Prelude.{◌≡◌, ◌≢◌, ℕ, List, false, Err, IfOk, OnOk, OnErr};
 ghost use Rattle.isp_base.specs.Rows.{Row};
 ghost use Rattle.isp_base.specs.Types.{gang_width};
 ghost use Rattle.isp_base.specs.declared.types.Gang.{Gang};
@@ -12,16 +12,29 @@ ghost use Rattle.isp_store.specs.Held.{shapes_of};
 ghost use Rattle.isp_engine.specs.Images.{IsCompilation};
 ghost use Rattle.isp_engine.specs.Meaning.{Means};
 ghost use Rattle.isp_engine.specs.Reports.{Executes, Reports};
+ghost use Rattle.isp_engine.specs.Sending.{Sends, SendsOf, answer_bytes};
+ghost use Rattle.isp_engine.specs.Sinks.{TookAll, TookSome};
 ghost use Rattle.isp_engine.specs.Stops.{StopsAs};
 
 use crate::fault::RunFault;
 use crate::image::Image;
 use crate::report::{Ending, Report};
+use crate::sink::{Nowhere, Sink, SinkFault, write_all};
+use crate::stream::stream;
 use isp_base::{Bound, Gang, Signature};
 use isp_bind::{answer, bind};
 use isp_machine::{Machine, StartFault, Stop};
 use isp_verify::Verified;
 use std::alloc::{AllocError, Global};
+
+/// What is run: an exported function of some code, and for how many instructions at most.
+#[derive(Drop)]
+struct Order<'a> {
+    code: &'a Verified,
+    entry: &'a str,
+    signature: &'a Signature,
+    budget: u64,
+}
 
 // A second copy of bytes.
 fn copied(alloc: Global, bytes: &[u8]) -> Result<Vec<u8>, AllocError>
@@ -58,54 +71,77 @@ fn report<const N: usize>(
     })
 }
 
-// Runs the function that is exported under a name from arguments that it takes.
-fn run<const N: usize>(
-    alloc: Global,
-    code: &Verified,
-    entry: &str,
-    bound: Bound,
-    budget: u64,
-    signature: &Signature,
-) -> Result<Report, AllocError>
-    requires gang { N ≡ gang_width code.now.gang }
-    requires entry { (f : ℕ) × (g : Routine) × IsEntry code.now entry.now bound.arguments.items f g }
-    ensures { IfOk result (λ r. (f : ℕ) (g : Routine) → IsExport code.now entry.now f g → Reports signature.now.params.items (outcome_after code.now f g bound.arguments.items budget) r) }
+// Where there is an answer, it and a line feed go out.
+#[tactic(auto, using(crate::proofs::Written::took_both, crate::proofs::Written::took_later, crate::proofs::Written::took_early))]
+pub(crate) fn write_answer<W: Sink>(answer: &Option<String>, out: &mut W) -> Result<(), SinkFault>
+    requires { W.has_failed out.old ≡ false }
+    ensures ok { OnOk result (TookAll (answer_bytes answer.now) (W.written out.old)
+        (W.written out.new) (W.has_failed out.new)) }
+    ensures err { OnErr result (TookSome (answer_bytes answer.now) (W.written out.old)
+        (W.written out.new) (W.has_failed out.new)) }
 {
+    if let Some(text) = answer {
+        write_all(out, text.as_bytes())?;
+        write_all(out, b"\n")?;
+    }
+    Ok(())
+}
+
+// Runs the function that is exported under a name from arguments that it takes. The report is made before the answer
+// goes out, so that behind a whole answer memory is not wanted.
+fn run<const N: usize, W: Sink>(
+    alloc: Global,
+    order: &Order<'_>,
+    bound: Bound,
+    out: &mut W,
+) -> Result<Report, RunFault>
+    requires gang { N ≡ gang_width order.now.code.now.gang }
+    requires entry { (f : ℕ) × (g : Routine) × IsEntry order.now.code.now order.now.entry.now bound.arguments.items f g }
+    requires fresh { W.has_failed out.old ≡ false }
+    ensures reports { IfOk result (λ r. (f : ℕ) (g : Routine) → IsExport order.now.code.now order.now.entry.now f g → Reports order.now.signature.now.params.items (outcome_after order.now.code.now f g bound.arguments.items order.now.budget) r) }
+    ensures sends { (f : ℕ) (g : Routine) → IsExport order.now.code.now order.now.entry.now f g
+        → SendsOf order.now.code.now order.now.signature.now.params.items f g bound.arguments.items order.now.budget
+        (W.written out.old) (W.written out.new) (W.has_failed out.new) result }
+{
+    let code = order.code;
     let _code = code.code();
-    let mut machine = match Machine::<N>::start(alloc, code, entry, bound) {
+    let mut machine = match Machine::<N>::start(alloc, code, order.entry, bound) {
         Ok(machine) => machine,
-        Err((_bound, StartFault::Memory)) => return Err(AllocError),
+        Err((_bound, StartFault::Memory)) => return Err(RunFault::Memory),
         Err((_bound, StartFault::NoEntry)) => unreachable!(),
     };
-    let stop = machine.run(budget);
-    let report = report(alloc, signature, &machine, stop)?;
+    let stop = stream(&mut machine, order.budget, out)?;
+    let report = report(alloc, order.signature, &machine, stop)?;
+    write_answer(&report.answer, out)?;
     Ok(report)
 }
 
 // The same for the gang that the code is for.
-fn run_for_gang(
+fn run_for_gang<W: Sink>(
     alloc: Global,
-    code: &Verified,
-    entry: &str,
+    order: &Order<'_>,
     bound: Bound,
-    budget: u64,
-    signature: &Signature,
-) -> Result<Report, AllocError>
-    requires { (f : ℕ) × (g : Routine) × IsEntry code.now entry.now bound.arguments.items f g }
-    ensures { IfOk result (λ r. (f : ℕ) (g : Routine) → IsExport code.now entry.now f g → Reports signature.now.params.items (outcome_after code.now f g bound.arguments.items budget) r) }
+    out: &mut W,
+) -> Result<Report, RunFault>
+    requires entry { (f : ℕ) × (g : Routine) × IsEntry order.now.code.now order.now.entry.now bound.arguments.items f g }
+    requires fresh { W.has_failed out.old ≡ false }
+    ensures reports { IfOk result (λ r. (f : ℕ) (g : Routine) → IsExport order.now.code.now order.now.entry.now f g → Reports order.now.signature.now.params.items (outcome_after order.now.code.now f g bound.arguments.items order.now.budget) r) }
+    ensures sends { (f : ℕ) (g : Routine) → IsExport order.now.code.now order.now.entry.now f g
+        → SendsOf order.now.code.now order.now.signature.now.params.items f g bound.arguments.items order.now.budget
+        (W.written out.old) (W.written out.new) (W.has_failed out.new) result }
 {
-    match code.gang() {
-        Gang::W4 => run::<4>(alloc, code, entry, bound, budget, signature),
-        Gang::W8 => run::<8>(alloc, code, entry, bound, budget, signature),
-        Gang::W16 => run::<16>(alloc, code, entry, bound, budget, signature),
+    match order.code.gang() {
+        Gang::W4 => run::<4, W>(alloc, order, bound, out),
+        Gang::W8 => run::<8, W>(alloc, order, bound, out),
+        Gang::W16 => run::<16, W>(alloc, order, bound, out),
     }
 }
 
-/// Runs an exported function of a compiled program from arguments in JSON, for at most `budget`
-/// instructions.
+/// Runs an exported function of a compiled program from arguments in JSON, for at most `budget` instructions, and
+/// reports how the run stands then.
 ///
-/// 50 NoEntry where no exported function has the name, then 70 to 76 as `bind` answers them.
-/// 0: memory was refused.
+/// 50 NoEntry where no exported function has the name, then 70 to 76 as `bind` answers them (docs/ARGUMENTS.md).
+/// 0: memory was refused. It never answers 81.
 pub fn execute(
     alloc: Global,
     image: &Image,
@@ -118,12 +154,41 @@ pub fn execute(
     ensures means { (gang : Gang) (text : List ℕ) (compiled : IsCompilation gang text image.now)
         → Means compiled.program entry.now json.now budget result }
 {
+    run_to(alloc, image, entry, json, budget, &mut Nowhere)
+}
+
+/// Runs as `execute` does, and writes to `out` while the program runs: its output, and where the run ended the answer
+/// and a line feed behind it. What is new of the output goes out behind each 4,096 instructions and at the stop.
+///
+/// 50 and 70 to 76 as `execute` answers them; then nothing goes out. 81 WriteFailed where a write of `out` failed or took
+/// no byte, which ends the run; it comes exactly where `out.failed()` became true. 0: memory was refused. After 81 and
+/// after 0 the beginning of what some budget up to this one sends has gone out.
+pub fn run_to<W: Sink>(
+    alloc: Global,
+    image: &Image,
+    entry: &str,
+    json: &str,
+    budget: u64,
+    out: &mut W,
+) -> Result<Report, RunFault>
+    requires { W.has_failed out.old ≡ false }
+    ensures machine { result ≢ Err RunFault.WriteFailed → Executes image.now entry.now json.now budget result }
+    // For each text of which the image is a compilation, this is what the program of that text means.
+    ensures means { result ≢ Err RunFault.WriteFailed → (gang : Gang) (text : List ℕ) (compiled : IsCompilation gang text image.now)
+        → Means compiled.program entry.now json.now budget result }
+    ensures sends { Sends image.now entry.now json.now budget (W.written out.old) (W.written out.new) (W.has_failed out.new) result }
+{
     let code = image.verified();
     let _code = code.code();
     let Some(signature) = code.signature(entry) else {
         return Err(RunFault::NoEntry);
     };
     let bound = bind(alloc, signature, json)?;
-    let report = run_for_gang(alloc, code, entry, bound, budget, signature)?;
-    Ok(report)
+    let order = Order {
+        code,
+        entry,
+        signature,
+        budget,
+    };
+    run_for_gang(alloc, &order, bound, out)
 }

@@ -25,6 +25,22 @@ pub trait Sink {
         ensures { result ≡ has_failed self.now };
 }
 
+/// Takes all that is written, and drops it.
+#[derive(Drop)]
+pub(crate) struct Nowhere;
+
+impl Sink for Nowhere {
+    ghost has_failed = { λ _. false };
+
+    fn write(&mut self, bytes: &[u8]) -> Result<usize, SinkFault> {
+        Ok(bytes.len())
+    }
+
+    fn failed(&self) -> bool {
+        false
+    }
+}
+
 // Writes all of `bytes`, or as many as the sink takes before it fails.
 pub(crate) fn write_all<W: Sink>(out: &mut W, bytes: &[u8]) -> Result<(), SinkFault>
     requires { W.has_failed out.old ≡ false }

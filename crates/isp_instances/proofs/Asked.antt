@@ -1,6 +1,6 @@
 -- What a fine expression without breaches has, one line a node.
 use Rattle.std.proofs.Common.{◌≡◌, ℕ, zero, suc, inl, inr, Bool, true, false, refl, sym, ap, ◌∙◌, subst, true≢false}
-use Rattle.std.specs.Prelude.{List, [], ◌∷◌, ◌++◌, Option, Some, Contains, not, take, length}
+use Rattle.std.specs.Prelude.{List, [], ◌∷◌, ◌++◌, Option, Some, Contains, not, ◌&&◌, take, length, slice_get}
 use Rattle.std.proofs.lemmas.List.Elements.{Contains-append_left, Contains-append_right, Contains-push}
 use Rattle.isp_base.specs.declared.types.Elem.{Elem}
 use Rattle.isp_base.specs.declared.types.Rate.{Rate}
@@ -15,19 +15,20 @@ use Rattle.isp_typed.specs.declared.variable.ArrayVariable.{ArrayVariable}
 use Rattle.isp_typed.specs.declared.variable.Holds.{Holds}
 use Rattle.isp_typed.specs.declared.variable.Holds.TheVariants as holds
 use Rattle.isp_typed.specs.declared.variable.Variable.{Variable}
-use Rattle.isp_typed.specs.Fine.{HoldsArray, rates_of, FineExpr, FinePlace, FineCall, FineArguments, FineArgument, FineParts}
+use Rattle.isp_typed.specs.Fine.{HoldsValue, HoldsArray, rates_of, FineExpr, FinePlace, FineCall, FineArguments, FineArgument, FineParts}
 use Rattle.isp_typed.specs.Library.{parts, library_type}
 use Rattle.isp_typed.specs.Scoped.{Scope, ExprIn, PlaceIn, CallIn, ArgumentsIn, ArgumentIn, ExprsIn}
 use Rattle.isp_typed.specs.Typed.{TExpr, t_constant, t_program_index, t_place, t_convert, t_cast, t_unary, t_binary, t_compare, t_logic, t_choose, t_call, t_library, t_packed_store, t_packed_load, TPlace, t_variable, t_element, TArgument, t_by_value, t_by_name, TCall, t_called, TArguments, t_no_arguments, t_argument_then, TExprs, t_no_exprs, t_expr_then, TFunction, rate_of, rate_or, span_of}
 use Rattle.isp_rates.specs.Rates.{goes_to, rate_held, variables_of, RateBreach, DemandBreach, ExprBreach, PlaceBreach, ArgumentBreach, CallBreach, ArgumentsBreach, ValuesBreach}
 use Rattle.isp_independence.specs.declared.dependence.Dependence.{Dependence}
 use Rattle.isp_independence.specs.declared.dependence.Restriction.TheVariants.{Crossing}
+use Rattle.isp_independence.specs.Exits.{by_rate}
 use Rattle.isp_independence.specs.Crossing.{looks_across, Cross, CrossPlace, CrossCall, CrossArguments, CrossArgument, CrossAll}
 use Rattle.isp_independence.specs.Dependences.{at}
 use Rattle.isp_independence.specs.Reaches.{expr_calls, place_calls, call_calls, argument_calls, arguments_calls, values_calls}
 use Rattle.isp_meaning.specs.State.{Frame}
 use Rattle.isp_instances.specs.Stands.{IsOpen}
-use Rattle.isp_instances.specs.Asked.{OpenArrays, AskedOf}
+use Rattle.isp_instances.specs.Asked.{is_uniform, uniforms_in, OpenArrays, AskedOf}
 use Rattle.isp_instances.proofs.Fair.{Follows, Fair, FairPlace, FairAll, FairCall, FairArguments, FairArgument}
 use Rattle.isp_instances.proofs.Held.{not_uniform}
 
@@ -83,8 +84,11 @@ module _ (frame : Frame) (fs : List TFunction) (IsCallable : ℕ → Type 0) (va
   second : (xs ys : List ℕ) → Callable (xs ++ ys) → Callable ys
   second xs ys c k h = c k (Contains-append_right xs ys k h)
 
+  in_uniforms : (u : ℕ) (t : Ty) → HoldsValue vars u t → v u ≡ true → t.rate ≡ Uniform → uniforms_in vars v u ≡ true
+  in_uniforms u t h i e = ap (λ z. z && is_uniform (slice_get vars u)) i ∙ ap is_uniform h.is ∙ ap (λ r. by_rate r false true) e
+
   mutual
-    pub fair : (x : TExpr) → FineExpr fs vars x → ((f : Fault) → ExprBreach fs x f → ⊥) → ((d : Dependence) → Cross x d → ⊥) → ExprIn v x → Callable (expr_calls x) → Fair frame fs IsCallable v x
+    pub fair : (x : TExpr) → FineExpr fs vars x → ((f : Fault) → ExprBreach fs x f → ⊥) → ((d : Dependence) → Cross x d → ⊥) → ExprIn v x → Callable (expr_calls x) → Fair frame fs IsCallable (uniforms_in vars v) x
     fair (t_constant c s) f r n i k = tt
     fair (t_program_index s) f r n i k = tt
     fair (t_place q) f r n i k = fair_place q f r n i k
@@ -113,24 +117,24 @@ module _ (frame : Frame) (fs : List TFunction) (IsCallable : ℕ → Type 0) (va
     fair (t_packed_store b x s) f r n i k = n (at Crossing s) (inl refl)
     fair (t_packed_load b u s) f r n i k = n (at Crossing s) (inl refl)
 
-    pub fair_place : (q : TPlace) → FinePlace fs vars q → ((f : Fault) → PlaceBreach fs q f → ⊥) → ((d : Dependence) → CrossPlace q d → ⊥) → PlaceIn v q → Callable (place_calls q) → FairPlace frame fs IsCallable v q
-    fair_place (t_variable u t s) f r n i k = i
+    pub fair_place : (q : TPlace) → FinePlace fs vars q → ((f : Fault) → PlaceBreach fs q f → ⊥) → ((d : Dependence) → CrossPlace q d → ⊥) → PlaceIn v q → Callable (place_calls q) → FairPlace frame fs IsCallable (uniforms_in vars v) q
+    fair_place (t_variable u t s) f r n i k = λ e. in_uniforms u t f i e
     fair_place (t_element a x t s) f r n i k =
         (fair x f.1 r n i.1 k, open_array a f.0, λ e. or_left_rate t.rate a.ty.rate (rate_of x) (ap (λ z. z.rate) f.2) e, λ e. or_right_rate t.rate a.ty.rate (rate_of x) (ap (λ z. z.rate) f.2) e)
 
-    fair_all : (e : Elem) (ps : List Part) (xs : TExprs) → FineParts fs vars e ps xs → ((f : Fault) → ValuesBreach fs ps xs f → ⊥) → ((d : Dependence) → CrossAll xs d → ⊥) → ExprsIn v xs → Callable (values_calls xs) → FairAll frame fs IsCallable v xs
+    fair_all : (e : Elem) (ps : List Part) (xs : TExprs) → FineParts fs vars e ps xs → ((f : Fault) → ValuesBreach fs ps xs f → ⊥) → ((d : Dependence) → CrossAll xs d → ⊥) → ExprsIn v xs → Callable (values_calls xs) → FairAll frame fs IsCallable (uniforms_in vars v) xs
     fair_all e [] t_no_exprs f r n i k = tt
     fair_all e [] (t_expr_then x xs) f r n i k = absurd f
     fair_all e (p ∷ ps) t_no_exprs f r n i k = absurd f
     fair_all e (p ∷ ps) (t_expr_then x xs) f r n i k = (fair x f.0 (λ z b. r z (inl (inl b))) (λ z b. n z (inl b)) i.0 (first _ _ k), fair_all e ps xs f.2 (λ z b. r z (inr b)) (λ z b. n z (inr b)) i.1 (second (expr_calls x) _ k))
 
-    pub fair_call : (c : TCall) (t : Option Ty) → FineCall fs vars c t → ((f : Fault) → CallBreach fs c f → ⊥) → ((d : Dependence) → CrossCall c d → ⊥) → CallIn v c → Callable (call_calls c) → FairCall frame fs IsCallable v c t
+    pub fair_call : (c : TCall) (t : Option Ty) → FineCall fs vars c t → ((f : Fault) → CallBreach fs c f → ⊥) → ((d : Dependence) → CrossCall c d → ⊥) → CallIn v c → Callable (call_calls c) → FairCall frame fs IsCallable (uniforms_in vars v) c t
     fair_call (t_called g xs s) t f r n i k =
         let same : variables_of fs g ≡ f.0.variables = rw f.1 refl in
         (f.0, f.1, f.2, k g (Contains-push (arguments_calls xs) g), fair_arguments (length f.0.params) f.0.variables xs f.3 (subst (λ vs. (z : Fault) → ArgumentsBreach fs vs xs z → ⊥) same r) n i (first _ _ k))
 
     fair_arguments : (m : ℕ) (vs : List Variable) (xs : TArguments) → FineArguments fs vars (take m vs) xs → ((f : Fault) → ArgumentsBreach fs vs xs f → ⊥) → ((d : Dependence) → CrossArguments xs d → ⊥) → ArgumentsIn v xs → Callable (arguments_calls xs)
-        → FairArguments frame fs IsCallable v (take m vs) xs
+        → FairArguments frame fs IsCallable (uniforms_in vars v) (take m vs) xs
     fair_arguments zero [] t_no_arguments f r n i k = tt
     fair_arguments (suc m) [] t_no_arguments f r n i k = tt
     fair_arguments zero (u ∷ us) t_no_arguments f r n i k = tt
@@ -141,7 +145,7 @@ module _ (frame : Frame) (fs : List TFunction) (IsCallable : ℕ → Type 0) (va
     fair_arguments (suc m) (u ∷ us) (t_argument_then x xs) f r n i k =
         (fair_argument u.holds u.constant x f.0 (λ z b. r z (inl b)) (λ z b. n z (inl b)) i.0 (first _ _ k), fair_arguments m us xs f.1 (λ z b. r z (inr b)) (λ z b. n z (inr b)) i.1 (second (argument_calls x) _ k))
 
-    fair_argument : (h : Holds) (c : Bool) (x : TArgument) → FineArgument fs vars h c x → ((f : Fault) → ArgumentBreach fs (rate_held h) x f → ⊥) → ((d : Dependence) → CrossArgument x d → ⊥) → ArgumentIn v x → Callable (argument_calls x) → FairArgument frame fs IsCallable v h x
+    fair_argument : (h : Holds) (c : Bool) (x : TArgument) → FineArgument fs vars h c x → ((f : Fault) → ArgumentBreach fs (rate_held h) x f → ⊥) → ((d : Dependence) → CrossArgument x d → ⊥) → ArgumentIn v x → Callable (argument_calls x) → FairArgument frame fs IsCallable (uniforms_in vars v) h x
     fair_argument (holds.Value t) c (t_by_value x) f r n i k = (fair x f.0 (demand_inside t.rate x (ExprBreach fs x) r) n i k, demand_follows t.rate x (ExprBreach fs x) r)
     fair_argument (holds.Value t) c (t_by_name a s) f r n i k = absurd f
     fair_argument (holds.Given e) c (t_by_value x) f r n i k = absurd f
@@ -149,5 +153,5 @@ module _ (frame : Frame) (fs : List TFunction) (IsCallable : ℕ → Type 0) (va
         subst (λ q. IsOpen frame q a.number) (goes_follows Uniform a.ty.rate (goes_true Uniform a.ty.rate s r) refl) (open_array a f.0)
     fair_argument (holds.Local t m) c x f r n i k = absurd f
 
-  pub asked_fair : (x : TExpr) → AskedOf fs vars v IsCallable x → Fair frame fs IsCallable v x
+  pub asked_fair : (x : TExpr) → AskedOf fs vars v IsCallable x → Fair frame fs IsCallable (uniforms_in vars v) x
   asked_fair x a = fair x a.fine a.rates a.alone a.known a.calls

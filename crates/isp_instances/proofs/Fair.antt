@@ -37,7 +37,7 @@ module _ (frame : Frame) (fs : List TFunction) (IsCallable : ℕ → Type 0) (v 
     Fair (t_packed_load b k s) = ⊥
 
     pub FairPlace : TPlace → Type 0
-    FairPlace (t_variable k t s) = v k ≡ true
+    FairPlace (t_variable k t s) = t.rate ≡ Uniform → v k ≡ true
     FairPlace (t_element a i t s) = Fair i × IsOpen frame a.ty.rate a.number × Follows t.rate a.ty.rate × Follows t.rate (rate_of i)
 
     pub FairAll : TExprs → Type 0

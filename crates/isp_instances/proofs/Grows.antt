@@ -126,7 +126,7 @@ module _ (m : ℕ → ℕ → ℕ) (p : ℕ) where
       pub keeps_up : (r : Spot) (x : ℕ) → Up {R = Answer Done} reached (λ s. Has tt (kept frame r x s))
       keeps_up r x = record { more = λ s. kept_more frame r x s }
 
-      writes_up : (r : Rate) (v x : ℕ) → Up {R = Answer Done} reached (λ s. Has tt (written r v x s))
+      pub writes_up : (r : Rate) (v x : ℕ) → Up {R = Answer Done} reached (λ s. Has tt (written r v x s))
       writes_up r v x = record { more = λ s. written_more r v x s }
 
       pub update_up : (op : BinOp) (t : Elem) (q : TPlace) (r : Spot) (j : ℕ) (sp : Span) → Up reached (update m p frame calls op t q r j sp)

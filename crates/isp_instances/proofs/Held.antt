@@ -74,7 +74,7 @@ module _ (w : World) (touch : TouchNothing w.gang w.last) (v : Scope) (a : Mask)
 
   -- ---- variables
 
-  pub variable_sim : (r : Rate) (k : ℕ) (sp : Span) → v k ≡ true → Sim w v a (Stand w.gang a r) (λ s. checked None Index sp s (variable r k a s)) (λ p s. Has (own_variable r k s) s)
+  pub variable_sim : (r : Rate) (k : ℕ) (sp : Span) → (r ≡ Uniform → v k ≡ true) → Sim w v a (Stand w.gang a r) (λ s. checked None Index sp s (variable r k a s)) (λ p s. Has (own_variable r k s) s)
   variable_sim Uniform k sp h = record {
     go = λ s σ st sa ends.
         record {
@@ -84,7 +84,7 @@ module _ (w : World) (touch : TouchNothing w.gang w.last) (v : Scope) (a : Mask)
           after = σ;
           is = refl;
           alone = λ p. has_alone (a p) (σ p) ((σ p).uniforms k);
-          value = record { at = λ p. at (a p) (s.uniforms k) ((σ p).uniforms k) (λ t. sym (sa p k t h)); one = λ i e. tt };
+          value = record { at = λ p. at (a p) (s.uniforms k) ((σ p).uniforms k) (λ t. sym (sa p k t (h refl))); one = λ i e. tt };
           uniforms = refl;
           own_uniforms = λ p. refl;
           stands = st;

@@ -23,7 +23,7 @@ pub none_below : (n : ℕ) (a : Mask) → any n a ≡ false → (p : ℕ) → p 
 none_below zero a e p lt = let no : ⊥ = omega (arith, lt) in absurd no
 none_below (suc n) a e p lt = ⊎_elim (λ pe. subst (λ z. a z ≡ false) (sym pe) (or_right (any n a) (a n) e)) (λ ne. let lt2 : p < n = omega (arith, lt, ne) in none_below n a (or_left (any n a) (a n) e) p lt2) (cases_eq p n)
 
-not_true : (b : Bool) → (b ≡ true → b ≡ false) → b ≡ false
+pub not_true : (b : Bool) → (b ≡ true → b ≡ false) → b ≡ false
 not_true true h = h refl
 not_true false h = refl
 

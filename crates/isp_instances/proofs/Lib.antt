@@ -14,4 +14,8 @@ pub mod Branches
 pub mod Stmts
 pub mod Sampled
 pub mod Writes
+pub mod Stores
+pub mod Acts
+pub mod AskedActs
+pub mod Returns
 pub mod Whole

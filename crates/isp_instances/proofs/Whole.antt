@@ -2,10 +2,14 @@
 use Rattle.isp_independence.specs.Independent.{IsCalled}
 use Rattle.isp_meaning.specs.Loops.{turns}
 use Rattle.isp_alone.specs.Calls.{own_calls}
-use Rattle.isp_instances.specs.Laws.{TouchedStays, ExpressionsAgree, LoopsAgree, StatementsAgree}
+use Rattle.isp_instances.specs.Acts.{closed_in}
+use Rattle.isp_instances.specs.Asked.{uniforms_in}
+use Rattle.isp_instances.specs.Laws.{TouchedStays, ExpressionsAgree, ActsAgree, LoopsAgree, StatementsAgree}
 use Rattle.isp_instances.proofs.Grows.{answer_up, does_up, own_calls_up}
 use Rattle.isp_instances.proofs.Asked.{asked_fair}
 use Rattle.isp_instances.proofs.Expressions.{value_sim}
+use Rattle.isp_instances.proofs.Acts.{simple_sim, items_sim}
+use Rattle.isp_instances.proofs.AskedActs.{asked_simple, asked_items}
 use Rattle.isp_instances.proofs.Sequences.{then_sim}
 use Rattle.isp_instances.proofs.Branches.{varying_sides}
 use Rattle.isp_instances.proofs.Stmts.{uniform_sides}
@@ -20,7 +24,17 @@ touched_stays = record {
 
 pub expressions_agree : ExpressionsAgree
 expressions_agree program entry w calls own vars v x a touch agree opens asked some =
-    value_sim w touch program.functions (IsCalled program.functions entry) calls own agree v x (asked_fair w.frame program.functions (IsCalled program.functions entry) vars opens v x asked) a some
+    value_sim w touch program.functions (IsCalled program.functions entry) calls own agree (uniforms_in vars v) x (asked_fair w.frame program.functions (IsCalled program.functions entry) vars opens v x asked) a some
+
+pub acts_agree : ActsAgree
+acts_agree = record {
+  assignment = λ program entry w calls own vars control v x a touch agree opens asked some.
+      simple_sim w touch program.functions (IsCalled program.functions entry) calls own agree (closed_in control) a some (uniforms_in vars v) x
+      (asked_simple w.frame program.functions (IsCalled program.functions entry) vars opens control v x asked);
+  declarations = λ program entry w calls own vars control v n xs a touch agree opens asked some.
+      items_sim w touch program.functions (IsCalled program.functions entry) calls own agree (closed_in control) a some vars v n xs
+      (asked_items w.frame program.functions (IsCalled program.functions entry) vars opens control v n xs asked);
+}
 
 pub loops_agree : LoopsAgree
 loops_agree = record {

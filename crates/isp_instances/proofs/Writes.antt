@@ -18,10 +18,10 @@ use Rattle.isp_instances.specs.Values.{AnswersAlone, Stand}
 use Rattle.isp_instances.specs.Statements.{ActSim}
 use Rattle.isp_instances.proofs.Lanes.{one_is}
 
-put_here : {A : Type 0} (f : ℕ → A) (k n : ℕ) (x : A) → n ≡ k → put f k x n ≡ x
+pub put_here : {A : Type 0} (f : ℕ → A) (k n : ℕ) (x : A) → n ≡ k → put f k x n ≡ x
 put_here f k n x e = let t : nat_eq n k ≡ true = grind (arith, e, nat_tests) in ap (λ b. if b then x else f n) t
 
-put_there : {A : Type 0} (f : ℕ → A) (k n : ℕ) (x : A) → (n ≡ k → ⊥) → put f k x n ≡ f n
+pub put_there : {A : Type 0} (f : ℕ → A) (k n : ℕ) (x : A) → (n ≡ k → ⊥) → put f k x n ≡ f n
 put_there f k n x e = let t : nat_eq n k ≡ false = grind (arith, e, nat_tests) in ap (λ b. if b then x else f n) t
 
 -- a member's variable is written, another's stays

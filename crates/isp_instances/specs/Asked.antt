@@ -1,7 +1,9 @@
 -- What the law asks of an expression, in a function with these variables.
-use Rattle.std.specs.Prelude.{◌≡◌, ℕ, List, Some, Contains, slice_get}
+use Rattle.std.specs.Prelude.{◌≡◌, ℕ, Bool, true, false, ◌&&◌, List, Option, Some, None, Contains, slice_get}
 use Rattle.isp_base.specs.declared.types.Ty.{Ty}
 use Rattle.isp_lex.specs.declared.fault.Fault.{Fault}
+use Rattle.isp_typed.specs.declared.variable.Holds.{Holds}
+use Rattle.isp_typed.specs.declared.variable.Holds.TheVariants as holds
 use Rattle.isp_typed.specs.declared.variable.Variable.{Variable}
 use Rattle.isp_typed.specs.Fine.{FineExpr, array_type}
 use Rattle.isp_typed.specs.Scoped.{Scope, ExprIn}
@@ -9,9 +11,26 @@ use Rattle.isp_typed.specs.Typed.{TExpr, TFunction}
 use Rattle.isp_rates.specs.Rates.{ExprBreach}
 use Rattle.isp_independence.specs.declared.dependence.Dependence.{Dependence}
 use Rattle.isp_independence.specs.Crossing.{Cross}
+use Rattle.isp_independence.specs.Exits.{by_rate}
 use Rattle.isp_independence.specs.Reaches.{expr_calls}
 use Rattle.isp_meaning.specs.State.{Frame}
 use Rattle.isp_instances.specs.Stands.{IsOpen}
+
+-- ---- the uniform variables among those in scope
+
+abbrev pub holds_uniform : Holds → Bool
+holds_uniform (holds.Value t) = by_rate t.rate false true
+holds_uniform (holds.Given e) = false
+holds_uniform (holds.Local t n) = false
+
+abbrev pub is_uniform : Option Variable → Bool
+is_uniform None = false
+is_uniform (Some x) = holds_uniform x.holds
+
+abbrev pub uniforms_in : List Variable → Scope → Scope
+uniforms_in vars v k = v k && is_uniform (slice_get vars k)
+
+-- ---- expressions
 
 -- each array of the function that all instances share is open in the frame
 pub record OpenArrays (frame : Frame) (vars : List Variable) : Type 0 where

@@ -4,26 +4,30 @@ use Rattle.isp_base.specs.declared.types.Rate.TheVariants.{Uniform}
 use Rattle.isp_meaning.specs.Payloads.{Payload, One, is_true}
 use Rattle.isp_meaning.specs.Outcomes.{Res, then_run, unless_empty}
 use Rattle.isp_meaning.specs.Statements.{branches}
-use Rattle.isp_instances.specs.Statements.{Ways, ways_of, parted_ways, Here, StmtSim}
+use Rattle.isp_instances.specs.Statements.{Ways, ways_of, parted_ways, Here, ActSim, StmtSim}
 use Rattle.std.specs.Prelude.{◌≡◌, Bool, true, false, ℕ, List}
 use Rattle.isp_base.specs.Sets.{Mask}
 use Rattle.isp_base.specs.Types.{gang_width}
-use Rattle.isp_typed.specs.Scoped.{Scope}
-use Rattle.isp_typed.specs.Typed.{TExpr, TStmt, Program, rate_of}
+use Rattle.isp_typed.specs.Scoped.{Scope, scope_after}
+use Rattle.isp_typed.specs.Typed.{TExpr, TItem, TSimple, TStmt, Program, rate_of}
 use Rattle.isp_typed.specs.declared.variable.Variable.{Variable}
 use Rattle.isp_independence.specs.Independent.{IsCalled}
+use Rattle.isp_independence.specs.declared.control.Control.{Control}
 use Rattle.isp_meaning.specs.State.{State, Frame}
 use Rattle.isp_meaning.specs.Expressions.{Calls, value}
 use Rattle.isp_meaning.specs.Loops.{turns, tested}
+use Rattle.isp_meaning.specs.Simple.{simple, items}
 use Rattle.isp_alone.specs.Alone.{Alone}
 use Rattle.isp_alone.specs.Answers.{reached, End, choose, then_on}
 use Rattle.isp_alone.specs.Values.{OwnCalls, answer}
 use Rattle.isp_alone.specs.Loops.{turns as own_turns, tested as own_tested}
 use Rattle.isp_alone.specs.Does.{does}
+use Rattle.isp_alone.specs.Steps.{simple as own_simple, items as own_items}
 use Rattle.isp_alone.specs.Calls.{own_calls}
 use Rattle.isp_instances.specs.Stands.{World, Within, TouchNothing, AreSome, left_at, Up}
 use Rattle.isp_instances.specs.Values.{Sim, Stand, CallsAgree}
-use Rattle.isp_instances.specs.Asked.{OpenArrays, AskedOf}
+use Rattle.isp_instances.specs.Acts.{closed_in, AskedOfSimple, AskedOfItems}
+use Rattle.isp_instances.specs.Asked.{uniforms_in, OpenArrays, AskedOf}
 use Rattle.isp_instances.specs.Loops.{LoopParts, LoopSim}
 
 -- what an instance alone has read stays read, and where it has stored it has stored, whatever it does next
@@ -41,7 +45,25 @@ ExpressionsAgree =
     → OpenArrays w.frame vars
     → AskedOf program.functions vars v (IsCalled program.functions entry) x
     → AreSome w.gang a
-    → Sim w v a (Stand w.gang a (rate_of x)) (value w.gang w.frame calls x a) (λ p. answer w.begin p w.frame (own p) x)
+    → Sim w (uniforms_in vars v) a (Stand w.gang a (rate_of x)) (value w.gang w.frame calls x a) (λ p. answer w.begin p w.frame (own p) x)
+
+-- An assignment, and declarations one after the other, keep for each member what its run alone keeps: variables, elements of
+-- its own arrays, and elements of shared arrays, where no other instance stores.
+pub record ActsAgree : Type 0 where
+  pub assignment : (program : Program) (entry : ℕ) (w : World) (calls : Calls) (own : ℕ → OwnCalls) (vars : List Variable) (control : Control) (v : Scope) (x : TSimple) (a : Mask)
+      → TouchNothing w.gang w.last
+      → CallsAgree w program.functions (IsCalled program.functions entry) calls own
+      → OpenArrays w.frame vars
+      → AskedOfSimple program.functions vars v (IsCalled program.functions entry) control x
+      → AreSome w.gang a
+      → ActSim w (closed_in control) (uniforms_in vars v) (uniforms_in vars v) a (simple w.gang w.frame calls x a) (λ p. own_simple w.begin p w.frame (own p) x)
+  pub declarations : (program : Program) (entry : ℕ) (w : World) (calls : Calls) (own : ℕ → OwnCalls) (vars : List Variable) (control : Control) (v : Scope) (n : ℕ) (xs : List TItem) (a : Mask)
+      → TouchNothing w.gang w.last
+      → CallsAgree w program.functions (IsCalled program.functions entry) calls own
+      → OpenArrays w.frame vars
+      → AskedOfItems program.functions vars v (IsCalled program.functions entry) control n xs
+      → AreSome w.gang a
+      → ActSim w (closed_in control) (uniforms_in vars v) (uniforms_in vars (scope_after v n xs)) a (items w.gang w.frame calls xs a) (λ p. own_items w.begin p w.frame (own p) xs)
 
 -- A loop over a set is ended by each member as it ends it alone, where test, body and step are such: n turns, and the test
 -- before the first.

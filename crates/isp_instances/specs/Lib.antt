@@ -3,6 +3,7 @@ pub mod Values
 pub mod Statements
 pub mod Loops
 pub mod Asked
+pub mod Acts
 pub mod Laws
 pub mod Samples
 pub mod Correct

@@ -1,5 +1,5 @@
 //! Laws of the gang and its instances. No code is run here: each function carries a law in its contract.
-ghost use Rattle.isp_instances.specs.Laws.{ExpressionsAgree, LoopsAgree, StatementsAgree, TouchedStays};
+ghost use Rattle.isp_instances.specs.Laws.{ActsAgree, ExpressionsAgree, LoopsAgree, StatementsAgree, TouchedStays};
 ghost use Rattle.isp_instances.specs.Samples.{AgreementOfSamples};
 
 /// What an instance alone has read stays read, and where it has stored it has stored, whatever it does next: so a part of a run
@@ -13,6 +13,13 @@ pub fn touched_stays()
 /// shared arrays no other instance stores, and calls do in each member what they do there alone.
 pub fn expressions_agree()
     ensures { ExpressionsAgree }
+{}
+
+/// An assignment, and declarations one after the other, keep for each member what its run alone keeps: in variables, in arrays of
+/// its own, and in shared arrays, where no other instance stores. A uniform variable that is assigned is none that some of its
+/// instances may miss, and an array that is declared is one of each instance's own.
+pub fn acts_agree()
+    ensures { ActsAgree }
 {}
 
 /// A loop over a set is ended by each member as it ends it alone, if its test, its body and its step are such. Where instances

@@ -11,3 +11,5 @@ mod fakes;
 mod reading;
 #[cfg(test)]
 mod runs;
+#[cfg(test)]
+mod writes;

@@ -2,8 +2,8 @@
 use crate::marks::wanted;
 use isp_base::{Array, Bound, Gang, Signature, Value};
 use isp_bind::{answer, bind};
-use isp_model::{Outcome, evaluate};
 use isp_lex::{SourceFault, lex};
+use isp_model::{Outcome, evaluate};
 use isp_rates::{Checked, check};
 use isp_syntax::parse;
 use isp_testing::{Marked, number, spelt_out};

@@ -1,29 +1,9 @@
-use Rattle.std.proofs.Common.{rules}
-use Rattle.std.proofs.lemmas.Result.{err_from_is_err_and}
-use Rattle.isp_engine.proofs.Means.{means}
-use Rattle.isp_engine.proofs.Runs.{reported, refused}
+use Rattle.std.proofs.Common.{None}
+use Rattle.isp_engine.proofs.Sends.{never_cut}
 use Rattle.isp_engine.proofs.run.execute.Goals as goal
 
-pub returns-in_default-clause-means : goal.returns-in_default-clause-means
-returns-in_default-clause-means c = λ gang text k. means k.program c.args.image.now k.agrees c.args.entry.now c.args.json.now c.args.budget _ (search rules)
-
-pub returns-in_err-bound-clause-machine : goal.returns-in_err-bound-clause-machine
-returns-in_err-bound-clause-machine c =
-    let s = c.in-Some.ensures.found in
-    let p = err_from_is_err_and c.from_residual.result c.from_residual.ensures.1 in
-    rw (← c.verified-code.ensures, p.1, p.2) (refused _ c.code-code.ensures.goes_on c.args.entry.now c.args.json.now c.args.budget s.0 s.1 s.2 _ s.3 c.in_err-bound.field-0.0 c.in_err-bound.ensures.err)
-
-pub returns-in_err-bound-clause-means : goal.returns-in_err-bound-clause-means
-returns-in_err-bound-clause-means c = λ gang text k.
-    means k.program c.args.image.now k.agrees c.args.entry.now c.args.json.now c.args.budget _ (returns-in_err-bound-clause-machine c)
-
-pub returns-in_err-report-clause-means : goal.returns-in_err-report-clause-means
-returns-in_err-report-clause-means c = λ gang text k. means k.program c.args.image.now k.agrees c.args.entry.now c.args.json.now c.args.budget _ (search rules)
-
 pub returns-clause-machine : goal.returns-clause-machine
-returns-clause-machine c =
-    let s = c.in-Some.ensures.found in
-    rw (← c.verified-code.ensures) (reported _ c.code-code.ensures.goes_on c.args.entry.now c.args.json.now c.args.budget s.0 s.1 s.2 _ s.3 c.in_ok-bound.bound.arguments.items c.in_ok-bound.ensures.ok c.in_ok-report.report c.in_ok-report.ensures)
+returns-clause-machine c = c.run_to.ensures.machine (never_cut c.args.image.now c.args.entry.now c.args.json.now c.args.budget None None c.run_to.result c.run_to.ensures.sends)
 
 pub returns-clause-means : goal.returns-clause-means
-returns-clause-means c = λ gang text k. means k.program c.args.image.now k.agrees c.args.entry.now c.args.json.now c.args.budget _ (returns-clause-machine c)
+returns-clause-means c = c.run_to.ensures.means (never_cut c.args.image.now c.args.entry.now c.args.json.now c.args.budget None None c.run_to.result c.run_to.ensures.sends)

@@ -1,5 +1,5 @@
 use Rattle.isp_engine.proofs.Written.{on_err, took_later}
-use Rattle.isp_engine.proofs.commands.write_answer.Goals as goal
+use Rattle.isp_engine.proofs.run.write_answer.Goals as goal
 
 pub returns-in_err-write_all-2-clause-err : goal.returns-in_err-write_all-2-clause-err
 returns-in_err-write_all-2-clause-err g c =
