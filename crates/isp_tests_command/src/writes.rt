@@ -33,9 +33,20 @@ fn image(alloc: Global, text: &str) -> Result<Image, Fail> {
     load_code(alloc, text).map_err(|_| Fail::from("the code is refused"))
 }
 
-fn runs(alloc: Global, image: &Image, budget: u64, out: &mut Page) -> Result<Report, RunFault> {
+fn runs_entry(
+    alloc: Global,
+    image: &Image,
+    entry: &str,
+    json: &str,
+    budget: u64,
+    out: &mut Page,
+) -> Result<Report, RunFault> {
     out.has_failed = false;
-    run_to(alloc, image, "f", "{}", budget, out)
+    run_to(alloc, image, entry, json, budget, out)
+}
+
+fn runs(alloc: Global, image: &Image, budget: u64, out: &mut Page) -> Result<Report, RunFault> {
+    runs_entry(alloc, image, "f", "{}", budget, out)
 }
 
 // All of it goes out, and the sink has not failed.
@@ -160,7 +171,7 @@ fn refusals(rt: HostRuntime) -> Result<(), Fail> {
         ("f", "{\"x\":1}", "73 Extra"),
     ] {
         let mut out = page(alloc, 1000, 100);
-        match run_to(alloc, &image, entry, json, 1000, &mut out) {
+        match runs_entry(alloc, &image, entry, json, 1000, &mut out) {
             Ok(_) => return Err(Fail::from("it ran")),
             Err(fault) => {
                 let text = fault.to_string(alloc)?;
