@@ -443,7 +443,7 @@ export void f(uniform int a[]) { foreach_active (i) unmasked { a[programIndex] +
 === a packed store
 0 and 2 are above 0: 5 goes to b[1], 7 to b[2].
 4 f 10000 {"x":[5,-1,7,0],"b":[0,0,0]}
-{"arrays":{"x":[5,-1,7,0],"b":[0,5,7]},"result":2}
+{"arrays":{"b":[0,5,7],"x":[5,-1,7,0]},"result":2}
 export uniform int f(uniform int x[], uniform int b[]) { uniform int c = 0; int v = x[programIndex]; if (v > 0) c = packed_store_active(&b[1], v); return c; }
 === a packed store past the end
 2 would store b[2] of 2, and nothing is stored.
