@@ -3,7 +3,7 @@ use Rattle.std.specs.Prelude.{ℕ, List, ◌++◌, codes}
 use Rattle.std.specs.Fmt.{decimal}
 use Rattle.isp_base.specs.declared.types.Span.{Span}
 use Rattle.isp_lex.specs.declared.fault.Rule.{Rule}
-use Rattle.isp_lex.specs.declared.fault.Rule.TheVariants.{BadByte, BadNumber, BadText, OpenComment, TooLong, Unexpected, TooDeep, LeftOut, UnknownName, NameTwice, Mismatch, Arguments, ConstAssigned, BadPrint, VaryingToUniform, BadExit, NestedForeach, BadExport, NotYet}
+use Rattle.isp_lex.specs.declared.fault.Rule.TheVariants.{BadByte, BadNumber, BadText, OpenComment, TooLong, Unexpected, TooDeep, LeftOut, UnknownName, NameTwice, Mismatch, Arguments, ConstAssigned, BadPrint, VaryingToUniform, BadExit, NestedForeach, BadExport}
 use Rattle.isp_lex.specs.declared.fault.Fault.{Fault}
 
 -- a rule's number
@@ -26,7 +26,6 @@ number_of VaryingToUniform = 30
 number_of BadExit = 31
 number_of NestedForeach = 32
 number_of BadExport = 33
-number_of NotYet = 90
 
 -- its name
 abbrev pub name_of : Rule → List ℕ
@@ -48,7 +47,6 @@ name_of VaryingToUniform = codes "VaryingToUniform"
 name_of BadExit = codes "BadExit"
 name_of NestedForeach = codes "NestedForeach"
 name_of BadExport = codes "BadExport"
-name_of NotYet = codes "NotYet"
 
 -- how a rule is shown: `1 BadByte`
 abbrev pub rule_text : Rule → List ℕ

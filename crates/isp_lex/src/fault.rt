@@ -48,8 +48,6 @@ pub enum Rule {
     NestedForeach,
     /// An exported function with a varying parameter or result.
     BadExport,
-    /// What the language has and this compiler does not take yet.
-    NotYet,
 }
 
 impl Rule {
@@ -76,7 +74,6 @@ impl Rule {
             Rule::BadExit => 31,
             Rule::NestedForeach => 32,
             Rule::BadExport => 33,
-            Rule::NotYet => 90,
         }
     }
 
@@ -103,7 +100,6 @@ impl Rule {
             Rule::BadExit => "BadExit",
             Rule::NestedForeach => "NestedForeach",
             Rule::BadExport => "BadExport",
-            Rule::NotYet => "NotYet",
         }
     }
 }
