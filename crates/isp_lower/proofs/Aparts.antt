@@ -25,8 +25,8 @@ module _ (a b w : Body) (c : ℕ → ℕ → List Instr) (s : List Span) (long :
   pub apart_long : length a.code.items ≤ length w.code.items
   apart_long = omega (arith, long, ap length y.code, length-append b.code.items (c (length b.code.items) (length b.places.items)))
 
-  pub apart_appends : (z : Body) → z.code.items ≡ a.code.items ++ drop (length a.code.items) w.code.items → z.places.items ≡ w.places.items → Appends a z c s
-  apart_appends z code places =
+  pub apart_appends : (z : Body) → z.code.items ≡ a.code.items ++ drop (length a.code.items) w.code.items → z.places.items ≡ w.places.items → z.texts ≡ a.texts → Appends a z c s
+  apart_appends z code places texts =
       record {
         code =
             code ∙ ap (λ n. a.code.items ++ drop n w.code.items) (sym long)
@@ -35,6 +35,7 @@ module _ (a b w : Body) (c : ℕ → ℕ → List Instr) (s : List Span) (long :
             ∙ ap (λ n. a.code.items ++ c n (length b.places.items)) long
             ∙ ap (λ ps. a.code.items ++ c (length a.code.items) (length ps)) same;
         places = places ∙ y.places ∙ ap (λ ps. ps ++ s) same;
+        texts = texts;
       }
 
 -- ---- registers and masks are only added

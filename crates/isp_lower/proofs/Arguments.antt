@@ -149,6 +149,7 @@ called_behind a b c go sp m is x y =
     record {
       code = y.code ∙ ap (λ z. z ++ go m ∷ []) (x.code ∙ append-nil a.code.items) ∙ ap (λ p. a.code.items ++ go p ∷ []) is;
       places = y.places ∙ append-nil b.places.items ∙ x.places;
+      texts = y.texts ∙ x.texts;
     }
 
 abbrev pub called_with : ℕ → Option Register → Register → ℕ → List Register → Call

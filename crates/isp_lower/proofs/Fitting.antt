@@ -97,7 +97,7 @@ module _ (w : Setting) where
     base_fits (t_whole b sp) n t h = (h.0, t.0, h.1)
     base_fits (t_from b i sp) n t h = (h.0, t.0, t.2, h.1.1.0, expr_fits i n t.3 h.1.1.1)
 
-    values_fit : (rs : List Rate) (xs : TExprs) (n : ℕ) → ValuesTree w.program.functions rs xs → Table w.routine w.layout w.function.variables (values_asks rs xs n) → ValuesParts w rs xs n
+    pub values_fit : (rs : List Rate) (xs : TExprs) (n : ℕ) → ValuesTree w.program.functions rs xs → Table w.routine w.layout w.function.variables (values_asks rs xs n) → ValuesParts w rs xs n
     values_fit rs t_no_exprs n t h = tt
     values_fit rs (t_expr_then x xs) n t h =
         (operand_fits (next_rate rs) (type_of x).elem x n t.0 h.1.0, expr_fits x n t.1 h.1.0.1, values_fit (later rs) xs (n + 1) t.2 h.1.1)

@@ -20,7 +20,7 @@ use Rattle.isp_lower.specs.declared.types.Body.{Body}
 
 -- nothing, and one part after the other
 pub appends_self : (a : Body) → Appends a a (λ pc n. []) []
-appends_self a = record { code = sym (append-nil a.code.items); places = sym (append-nil a.places.items) }
+appends_self a = record { code = sym (append-nil a.code.items); places = sym (append-nil a.places.items); texts = refl }
 
 pub appends_then : (a b c : Body) (f g : ℕ → ℕ → List Instr) (p q : List Span) → Appends a b f p → Appends b c g q → Appends a c (λ pc n. f pc n ++ g (pc + length (f pc n)) (n + length p)) (p ++ q)
 appends_then a b c f g p q x y =
@@ -34,71 +34,82 @@ appends_then a b c f g p q x y =
           ∙ ap (λ is. is ++ g (pc + length (f pc n)) (n + length p)) x.code
           ∙ append_assoc a.code.items (f pc n) (g (pc + length (f pc n)) (n + length p));
       places = y.places ∙ ap (λ s. s ++ q) x.places ∙ append_assoc a.places.items p q;
+      texts = y.texts ∙ x.texts;
     }
 
--- a jump over a part
+-- a jump over a part: the code, and with what the part names
+pub code_landed : (a b c d : List Instr) (at : ℕ) (x : Instr) (go : ℕ → Instr) (k : ℕ → List Instr)
+    → at ≡ length a → b ≡ a ++ x ∷ [] → c ≡ b ++ k (length b) → d ≡ slice_set c at (go (length c)) → d ≡ a ++ guard go (length a) k
+code_landed a b c d at x go k is one part set =
+    let pc = length a in
+    let body = k (pc + 1) in
+    let from : length b ≡ pc + 1 = omega (arith, ap length one ∙ length-append a (x ∷ [])) in
+    let was : c ≡ a ++ x ∷ body = part ∙ ap (λ m. b ++ k m) from ∙ ap (λ is. is ++ body) one ∙ append_assoc a (x ∷ []) body in
+    let long : length c ≡ pc + 1 + length body = omega (arith, ap length was ∙ length-append a (x ∷ body)) in
+    set ∙ ap (λ m. slice_set c m (go (length c))) is ∙ ap (λ is. slice_set is pc (go (length c))) was ∙ set-append_seam a x body (go (length c)) ∙ ap (λ m. a ++ go m ∷ body) long
+
 pub landed : (a b c d : Body) (at : ℕ) (x : Instr) (go : ℕ → Instr) (k : ℕ → ℕ → List Instr) (p : List Span)
     → at ≡ length a.code.items → Appends a b (λ pc n. x ∷ []) [] → Appends b c k p
-    → d.code.items ≡ slice_set c.code.items at (go (length c.code.items)) → d.places ≡ c.places
+    → d.code.items ≡ slice_set c.code.items at (go (length c.code.items)) → d.places ≡ c.places → d.texts ≡ c.texts
     → Appends a d (λ pc n. guard go pc (λ pc1. k pc1 n)) p
-landed a b c d at x go k p is one part set kept =
-    let pc = length a.code.items in
+landed a b c d at x go k p is one part set kept same =
     let n = length a.places.items in
-    let body = k (pc + 1) n in
-    let from : length b.code.items ≡ pc + 1 = omega (arith, ap length one.code ∙ length-append a.code.items (x ∷ [])) in
     let none : b.places.items ≡ a.places.items = one.places ∙ append-nil a.places.items in
-    let was : c.code.items ≡ a.code.items ++ x ∷ body =
-    part.code ∙ ap (λ m. b.code.items ++ k m (length b.places.items)) from ∙ ap (λ s. b.code.items ++ k (pc + 1) (length s)) none ∙ ap (λ is. is ++ body) one.code ∙ append_assoc a.code.items (x ∷ []) body in
-    let long : length c.code.items ≡ pc + 1 + length body = omega (arith, ap length was ∙ length-append a.code.items (x ∷ body)) in
+    let was = part.code ∙ ap (λ s. b.code.items ++ k (length b.code.items) (length s)) none in
     record {
-      code =
-          set ∙ ap (λ m. slice_set c.code.items m (go (length c.code.items))) is ∙ ap (λ is. slice_set is pc (go (length c.code.items))) was
-          ∙ set-append_seam a.code.items x body (go (length c.code.items)) ∙ ap (λ m. a.code.items ++ go m ∷ body) long;
+      code = code_landed a.code.items b.code.items c.code.items d.code.items at x go (λ pc1. k pc1 n) is one.code was set;
       places = ap (λ (z : Vec Span Global). z.items) kept ∙ part.places ∙ ap (λ s. s ++ p) none;
+      texts = same ∙ part.texts ∙ one.texts;
     }
 
 -- One of two parts: a jump leads to the second, and one stands behind the first. The first jump is written when both it and
 -- the first part stand, the second at the end.
-pub chosen : (a b c d e f g : Body) (at over : ℕ) (x o : Instr) (go : ℕ → Instr) (k m : ℕ → ℕ → List Instr) (p q : List Span)
-    → at ≡ length a.code.items → Appends a b (λ pc n. x ∷ []) [] → Appends b c k p → over ≡ length c.code.items → Appends c d (λ pc n. o ∷ []) []
-    → e.code.items ≡ slice_set d.code.items at (go (length d.code.items)) → e.places ≡ d.places → Appends e f m q
-    → g.code.items ≡ slice_set f.code.items over (instr.Jump (length f.code.items)) → g.places ≡ f.places
-    → Appends a g (λ pc n. choice go pc (λ pc1. k pc1 n) (λ pc1. m pc1 (n + length p))) (p ++ q)
-chosen a b c d e f g at over x o go k m p q is first one last jump set kept two done same =
-    let pc = length a.code.items in
-    let n = length a.places.items in
-    let ka = k (pc + 1) n in
-    let from : length b.code.items ≡ pc + 1 = omega (arith, ap length first.code ∙ length-append a.code.items (x ∷ [])) in
-    let none : b.places.items ≡ a.places.items = first.places ∙ append-nil a.places.items in
-    let behind : c.code.items ≡ a.code.items ++ x ∷ ka =
-    one.code ∙ ap (λ z. b.code.items ++ k z (length b.places.items)) from ∙ ap (λ s. b.code.items ++ k (pc + 1) (length s)) none ∙ ap (λ is. is ++ ka) first.code ∙ append_assoc a.code.items (x ∷ []) ka in
-    let seat : over ≡ pc + 1 + length ka = omega (arith, last, ap length behind ∙ length-append a.code.items (x ∷ ka)) in
-    let part : Appends b d (λ pc1 n1. k pc1 n1 ++ o ∷ []) p =
-    record {
-      code = jump.code ∙ ap (λ is. is ++ o ∷ []) one.code ∙ append_assoc b.code.items (k (length b.code.items) (length b.places.items)) (o ∷ []);
-      places = jump.places ∙ append-nil c.places.items ∙ one.places;
-    } in
-    let guarded = landed a b d e at x go (λ pc1 n1. k pc1 n1 ++ o ∷ []) p is first part set kept in
+pub code_chosen : (a b c d e f g : List Instr) (at over : ℕ) (x o : Instr) (go : ℕ → Instr) (k m : ℕ → List Instr)
+    → at ≡ length a → b ≡ a ++ x ∷ [] → c ≡ b ++ k (length b) → over ≡ length c → d ≡ c ++ o ∷ []
+    → e ≡ slice_set d at (go (length d)) → f ≡ e ++ m (length e) → g ≡ slice_set f over (instr.Jump (length f)) → g ≡ a ++ choice go (length a) k m
+code_chosen a b c d e f g at over x o go k m is first one last jump set two done =
+    let pc = length a in
+    let ka = k (pc + 1) in
+    let from : length b ≡ pc + 1 = omega (arith, ap length first ∙ length-append a (x ∷ [])) in
+    let behind : c ≡ a ++ x ∷ ka = one ∙ ap (λ z. b ++ k z) from ∙ ap (λ is. is ++ ka) first ∙ append_assoc a (x ∷ []) ka in
+    let seat : over ≡ pc + 1 + length ka = omega (arith, last, ap length behind ∙ length-append a (x ∷ ka)) in
+    let part : d ≡ b ++ (k (length b) ++ o ∷ []) = jump ∙ ap (λ is. is ++ o ∷ []) one ∙ append_assoc b (k (length b)) (o ∷ []) in
+    let guarded = code_landed a b d e at x go (λ pc1. k pc1 ++ o ∷ []) is first part set in
     let head = pc + 1 + length (ka ++ o ∷ []) in
     let head_is : head ≡ pc + 1 + length ka + 1 = omega (arith, length-append ka (o ∷ [])) in
-    let mid : length e.code.items ≡ pc + 1 + length ka + 1 = omega (arith, ap length guarded.code ∙ length-append a.code.items (go head ∷ (ka ++ o ∷ [])), length-append ka (o ∷ [])) in
-    let named : length e.places.items ≡ n + length p = ap length guarded.places ∙ length-append a.places.items p in
-    let mb = m (pc + 1 + length ka + 1) (n + length p) in
-    let whole : f.code.items ≡ (a.code.items ++ go head ∷ ka) ++ o ∷ mb =
-    two.code ∙ ap (λ z. e.code.items ++ m z (length e.places.items)) mid ∙ ap (λ z. e.code.items ++ m (pc + 1 + length ka + 1) z) named ∙ ap (λ is. is ++ mb) guarded.code
-    ∙ append_assoc a.code.items (go head ∷ (ka ++ o ∷ [])) mb ∙ ap (λ z. a.code.items ++ go head ∷ z) (append_assoc ka (o ∷ []) mb) ∙ sym (append_assoc a.code.items (go head ∷ ka) (o ∷ mb)) in
-    let long : length f.code.items ≡ pc + 1 + length ka + 1 + length mb = omega (arith, ap length whole, length-append (a.code.items ++ go head ∷ ka) (o ∷ mb), length-append a.code.items (go head ∷ ka)) in
-    let there : over ≡ length (a.code.items ++ go head ∷ ka) = omega (arith, seat, length-append a.code.items (go head ∷ ka)) in
+    let mid : length e ≡ pc + 1 + length ka + 1 = omega (arith, ap length guarded ∙ length-append a (go head ∷ (ka ++ o ∷ [])), length-append ka (o ∷ [])) in
+    let mb = m (pc + 1 + length ka + 1) in
+    let whole : f ≡ (a ++ go head ∷ ka) ++ o ∷ mb =
+    two ∙ ap (λ z. e ++ m z) mid ∙ ap (λ is. is ++ mb) guarded
+    ∙ append_assoc a (go head ∷ (ka ++ o ∷ [])) mb ∙ ap (λ z. a ++ go head ∷ z) (append_assoc ka (o ∷ []) mb) ∙ sym (append_assoc a (go head ∷ ka) (o ∷ mb)) in
+    let long : length f ≡ pc + 1 + length ka + 1 + length mb = omega (arith, ap length whole, length-append (a ++ go head ∷ ka) (o ∷ mb), length-append a (go head ∷ ka)) in
+    let there : over ≡ length (a ++ go head ∷ ka) = omega (arith, seat, length-append a (go head ∷ ka)) in
+    done
+    ∙ ap (λ zs. slice_set zs over (instr.Jump (length f))) whole
+    ∙ ap (λ z. slice_set ((a ++ go head ∷ ka) ++ o ∷ mb) z (instr.Jump (length f))) there
+    ∙ set-append_seam (a ++ go head ∷ ka) o mb (instr.Jump (length f))
+    ∙ append_assoc a (go head ∷ ka) (instr.Jump (length f) ∷ mb)
+    ∙ ap (λ z. a ++ go z ∷ (ka ++ instr.Jump (length f) ∷ mb)) head_is
+    ∙ ap (λ z. a ++ go (pc + 1 + length ka + 1) ∷ (ka ++ instr.Jump z ∷ mb)) long
+
+pub chosen : (a b c d e f g : Body) (at over : ℕ) (x o : Instr) (go : ℕ → Instr) (k m : ℕ → ℕ → List Instr) (p q : List Span)
+    → at ≡ length a.code.items → Appends a b (λ pc n. x ∷ []) [] → Appends b c k p → over ≡ length c.code.items → Appends c d (λ pc n. o ∷ []) []
+    → e.code.items ≡ slice_set d.code.items at (go (length d.code.items)) → e.places ≡ d.places → e.texts ≡ d.texts → Appends e f m q
+    → g.code.items ≡ slice_set f.code.items over (instr.Jump (length f.code.items)) → g.places ≡ f.places → g.texts ≡ f.texts
+    → Appends a g (λ pc n. choice go pc (λ pc1. k pc1 n) (λ pc1. m pc1 (n + length p))) (p ++ q)
+chosen a b c d e f g at over x o go k m p q is first one last jump set kept held two done same still =
+    let n = length a.places.items in
+    let none : b.places.items ≡ a.places.items = first.places ∙ append-nil a.places.items in
+    let mid : e.places.items ≡ a.places.items ++ p = ap (λ (z : Vec Span Global). z.items) kept ∙ jump.places ∙ append-nil c.places.items ∙ one.places ∙ ap (λ s. s ++ p) none in
+    let named : length e.places.items ≡ n + length p = ap length mid ∙ length-append a.places.items p in
+    let front = one.code ∙ ap (λ s. b.code.items ++ k (length b.code.items) (length s)) none in
+    let back = two.code ∙ ap (λ z. e.code.items ++ m (length e.code.items) z) named in
     record {
       code =
-          done
-          ∙ ap (λ zs. slice_set zs over (instr.Jump (length f.code.items))) whole
-          ∙ ap (λ z. slice_set ((a.code.items ++ go head ∷ ka) ++ o ∷ mb) z (instr.Jump (length f.code.items))) there
-          ∙ set-append_seam (a.code.items ++ go head ∷ ka) o mb (instr.Jump (length f.code.items))
-          ∙ append_assoc a.code.items (go head ∷ ka) (instr.Jump (length f.code.items) ∷ mb)
-          ∙ ap (λ z. a.code.items ++ go z ∷ (ka ++ instr.Jump (length f.code.items) ∷ mb)) head_is
-          ∙ ap (λ z. a.code.items ++ go (pc + 1 + length ka + 1) ∷ (ka ++ instr.Jump z ∷ mb)) long;
-      places = ap (λ (z : Vec Span Global). z.items) same ∙ two.places ∙ ap (λ s. s ++ q) guarded.places ∙ append_assoc a.places.items p q;
+          code_chosen a.code.items b.code.items c.code.items d.code.items e.code.items f.code.items g.code.items at over x o go (λ pc1. k pc1 n) (λ pc1. m pc1 (n + length p))
+          is first.code front last jump.code set back done;
+      places = ap (λ (z : Vec Span Global). z.items) same ∙ two.places ∙ ap (λ s. s ++ q) mid ∙ append_assoc a.places.items p q;
+      texts = still ∙ two.texts ∙ held ∙ jump.texts ∙ one.texts ∙ first.texts;
     }
 
 -- ---- single instructions

@@ -13,20 +13,23 @@ pub use Rattle.isp_lower.proofs.Done.{variable_spares}
 -- ---- what code of values, assignments and declarations does, and what it asks of the trees
 
 pub use Rattle.isp_lower.proofs.Exprs.{expr_runs}
+pub use Rattle.isp_lower.proofs.Leaving.{RunsLeaving, values_leave}
+pub use Rattle.isp_lower.proofs.InRow.{AllHold}
+pub use Rattle.isp_lower.proofs.LibraryTypes.{count_of}
 pub use Rattle.isp_lower.proofs.Nodes.{enters_less, enters_part, operand_runs}
 pub use Rattle.isp_lower.proofs.Updates.{simple_runs}
 pub use Rattle.isp_lower.proofs.Items.{items_run}
-pub use Rattle.isp_lower.proofs.Found.{few, found_typed}
-pub use Rattle.isp_lower.proofs.Parts.{OperandFits, ExprParts, SimpleParts, ItemsParts}
-pub use Rattle.isp_lower.proofs.Fitting.{expr_fits, operand_fits, simple_fits, items_fit}
+pub use Rattle.isp_lower.proofs.Found.{few, found_typed, operand_typed}
+pub use Rattle.isp_lower.proofs.Parts.{OperandFits, ExprParts, ValuesParts, SimpleParts, ItemsParts}
+pub use Rattle.isp_lower.proofs.Fitting.{expr_fits, operand_fits, values_fit, simple_fits, items_fit}
 -- ---- its instructions have their operands
 
-pub use Rattle.isp_lower.proofs.Trees.{OperandTree, ExprTree, SimpleTree, ItemsTree}
+pub use Rattle.isp_lower.proofs.Trees.{OperandTree, ExprTree, ValuesTree, SimpleTree, ItemsTree}
 pub use Rattle.isp_lower.proofs.Rated.{expr_tree, operand_tree, simple_tree, items_tree}
 pub use Rattle.isp_lower.proofs.SoundLines.{sound_both, compare_sound, constant_sound, convert_sound, copy_sound, splat_sound}
 pub use Rattle.isp_lower.proofs.SoundParts.{here_then}
 pub use Rattle.isp_lower.proofs.SoundFound.{found_there, operand_there}
-pub use Rattle.isp_lower.proofs.SoundExprs.{value_sound, part_sound}
+pub use Rattle.isp_lower.proofs.SoundExprs.{value_sound, values_sound, part_sound}
 pub use Rattle.isp_lower.proofs.SoundSimples.{simple_sound, items_sound}
 -- ---- registers: those of rows, those that a walk reserves, and those that are the function's own
 
@@ -36,4 +39,4 @@ pub use Rattle.isp_lower.proofs.Own.{all_held, expr_own, operand_own, simple_own
 pub use Rattle.isp_lower.proofs.FirstRows.{all_there, result_at}
 -- ---- what is written: one piece after the other, and jumps over a part
 
-pub use Rattle.isp_lower.proofs.Landing.{appends_then, landed, chosen}
+pub use Rattle.isp_lower.proofs.Landing.{appends_self, appends_then, landed, chosen, code_chosen, code_landed}

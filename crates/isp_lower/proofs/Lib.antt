@@ -25,6 +25,7 @@ mod Logic
 mod Choose
 mod Short
 mod Exprs
+mod Leaving
 mod Alone
 mod Places
 mod Variables

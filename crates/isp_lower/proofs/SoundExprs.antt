@@ -179,7 +179,7 @@ module _ (fs : List TFunction) (code : Listing) (h : Routine) (l : Layout) (link
     place_sound (t_element b i t sp) pc p k n is f lk lp =
         index_sound code h fs l t.rate i pc k n (expr_code l i pc p k n) is.1 is.2 f.1 lk (λ lt. expr_sound i (found l i n) pc p k n is.2 f.1.1.1 (found_there fs h l i n is.2 f.1.1.1) lk lp lt)
 
-    values_sound : (rs : List Rate) (xs : TExprs) (pc p k n : ℕ) → ValuesTree fs rs xs → Granted h l (values_asks rs xs n) → k < h.masks → Named code h l p (values_places l xs) → Here code h pc (values_code l rs xs pc p k n)
+    pub values_sound : (rs : List Rate) (xs : TExprs) (pc p k n : ℕ) → ValuesTree fs rs xs → Granted h l (values_asks rs xs n) → k < h.masks → Named code h l p (values_places l xs) → Here code h pc (values_code l rs xs pc p k n)
     values_sound rs t_no_exprs pc p k n is f lk lp = λ lt. tt
     values_sound rs (t_expr_then x xs) pc p k n is f lk lp =
         let r = next_rate rs in

@@ -8,7 +8,7 @@ use Rattle.isp_code.specs.Listing.{Listing, Routine, routine_of}
 use Rattle.isp_code.specs.declared.instr.Instr.{Instr}
 use Rattle.isp_typed.specs.Typed.{Program, TFunction}
 use Rattle.isp_typed.specs.Views.{functions_of}
-use Rattle.isp_lower.specs.Emitted.{first_rows, rows_of}
+use Rattle.isp_lower.specs.Emitted.{first_rows, rows_of, texts_of}
 use Rattle.isp_lower.specs.Header.{Heading, heading_of, routine_with}
 pub use Rattle.isp_lower.specs.Headings.{heading_in}
 use Rattle.isp_lower.specs.Named.{InCode, InInstr, IsOf}
@@ -31,7 +31,7 @@ pub record Draft : Type 0 where
 
 abbrev pub draft_of : Emitter → Draft
 draft_of e =
-    record { gang = e.gang; callees = functions_of e.callees.now; places = e.body.places.items; texts = map (λ t. t.items) e.texts.items; routines = map routine_of e.functions.items; heading = option_map heading_in e.heading; rows = rows_of e.reserved.registers; masks = e.reserved.masks; code = e.body.code.items }
+    record { gang = e.gang; callees = functions_of e.callees.now; places = e.body.places.items; texts = texts_of e.body; routines = map routine_of e.functions.items; heading = option_map heading_in e.heading; rows = rows_of e.reserved.registers; masks = e.reserved.masks; code = e.body.code.items }
 
 -- ---- from one to the next
 

@@ -98,10 +98,23 @@ layout on = layout_of (rates_in (functions_of on.callees.now)) (rows_of on.regis
 abbrev pub Present : Scope → Ask → Type 0
 Present on a = All (HasRow on.registers.now) (HasArray on.registers.now) (HasArray on.registers.now) (λ k. k < on.masks) (HasLoaded on.registers.now) a
 
+-- the bytes of the texts
+abbrev pub texts_of : Body → List (List ℕ)
+texts_of b = map (λ t. t.items) b.texts.items
+
+-- code that names no text
 pub record Appends (old new : Body) (c : ℕ → ℕ → List Instr) (s : List Span) : Type 0 where
   pub code : new.code.items ≡ old.code.items ++ c (length old.code.items) (length old.places.items)
   pub places : new.places.items ≡ old.places.items ++ s
+  pub texts : new.texts ≡ old.texts
+
+-- one text, and nothing else
+pub record AppendsText (old new : Body) (text : List ℕ) : Type 0 where
+  pub code : new.code.items ≡ old.code.items
+  pub places : new.places.items ≡ old.places.items
+  pub texts : texts_of new ≡ texts_of old ++ text ∷ []
 
 pub record Unchanged (old new : Body) : Type 0 where
   pub code : new.code.items ≡ old.code.items
   pub places : new.places.items ≡ old.places.items
+  pub texts : texts_of new ≡ texts_of old

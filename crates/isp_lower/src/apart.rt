@@ -18,13 +18,15 @@ fn fillers(alloc: Global, count: usize) -> Result<Vec<Instr>, AllocError>
 }
 
 impl Body {
-    /// A body of as many instructions and of the same places: what is written behind them is numbered as in this one.
+    /// A body of as many instructions and of the same places, without a text: what is written behind them is numbered as in
+    /// this one, where it names no text.
     pub(crate) fn apart(&self, alloc: Global) -> Result<Body, AllocError>
         ensures code { IfOk result (λ b. length b.code.items ≡ length self.now.code.items) }
         ensures places { IfOk result (λ b. b.places.items ≡ self.now.places.items) }
     {
         Ok(Body {
             places: Vec::from_slice(alloc, self.places.as_slice())?,
+            texts: Vec::new(alloc),
             code: fillers(alloc, self.code.len())?,
         })
     }
@@ -35,6 +37,7 @@ impl Body {
         requires { length self.old.code.items ≤ length written.code.items }
         ensures code { OnOk result (self.new.code.items ≡ self.old.code.items ++ drop (length self.old.code.items) written.code.items) }
         ensures places { OnOk result (self.new.places.items ≡ written.places.items) }
+        ensures texts { OnOk result (self.new.texts ≡ self.old.texts) }
         ensures refused { OnErr result (Unchanged self.old self.new) }
     {
         let mut more = written.code.split_off(self.code.len())?;

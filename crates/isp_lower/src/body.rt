@@ -1,23 +1,26 @@
 //! Code grows, and jumps are written once it is known where they lead.
 ghost use Rattle.std.specs.Prelude.{◌≡◌, ◌<◌, ◌∷◌, [], length, slice_set, IfOk, OnErr, OnOk};
 ghost use Rattle.isp_code.specs.declared.instr.Instr.TheVariants as instr;
-ghost use Rattle.isp_lower.specs.Emitted.{Appends, Unchanged};
+ghost use Rattle.isp_lower.specs.Emitted.{Appends, AppendsText, Unchanged, texts_of};
 ghost use Rattle.isp_lower.specs.Patched.{IsJump, instr_at, patched};
 
-use crate::numbered::{PlaceNumber, next_number};
+use crate::numbered::{PlaceNumber, TextNumber, next_number};
 use crate::types::Body;
 use isp_base::Span;
 use isp_code::{Instr, JumpTest, Register};
 use std::alloc::{AllocError, Global};
+use std::mem;
 
 impl Body {
     /// No code.
     pub fn new(alloc: Global) -> Body
         ensures code { result.code.items ≡ [] }
         ensures places { result.places.items ≡ [] }
+        ensures texts { result.texts.items ≡ [] }
     {
         Body {
             places: Vec::new(alloc),
+            texts: Vec::new(alloc),
             code: Vec::new(alloc),
         }
     }
@@ -52,11 +55,34 @@ impl Body {
         Ok(PlaceNumber { number })
     }
 
+    /// Appends a text, its bytes, and gives its number. Memory is refused too where that would be 4,294,967,295.
+    pub fn text(&mut self, bytes: &[u8]) -> Result<TextNumber, AllocError>
+        ensures number { IfOk result (λ n. n.number ≡ length (texts_of self.old)) }
+        ensures added { OnOk result (AppendsText self.old self.new bytes.now) }
+        ensures refused { OnErr result (Unchanged self.old self.new) }
+    {
+        let number = next_number(self.texts.len())?;
+        let alloc = *self.texts.allocator();
+        self.texts.push(Vec::from_slice(alloc, bytes)?)?;
+        Ok(TextNumber { number })
+    }
+
+    /// Hands out its code, and has none.
+    pub(crate) fn taken(&mut self, alloc: Global) -> Vec<Instr>
+        ensures code { result ≡ self.old.code }
+        ensures left { self.new.code.items ≡ [] }
+        ensures places { self.new.places ≡ self.old.places }
+        ensures texts { self.new.texts ≡ self.old.texts }
+    {
+        mem::replace(&mut self.code, Vec::new(alloc))
+    }
+
     /// Writes a jump, of which the number is known, once it is known that it leads to the next instruction.
     pub fn land(&mut self, at: usize, test: JumpTest, register: Register)
         requires { at < length self.old.code.items }
         ensures code { self.new.code.items ≡ slice_set self.old.code.items at (instr.JumpIf test register (length self.old.code.items)) }
         ensures places { self.new.places ≡ self.old.places }
+        ensures texts { self.new.texts ≡ self.old.texts }
     {
         let next = self.code.len() as u32;
         self.code[at] = Instr::JumpIf(test, register, next);
@@ -67,6 +93,7 @@ impl Body {
         requires { at < length self.old.code.items }
         ensures code { self.new.code.items ≡ slice_set self.old.code.items at (instr.Jump (length self.old.code.items)) }
         ensures places { self.new.places ≡ self.old.places }
+        ensures texts { self.new.texts ≡ self.old.texts }
     {
         let next = self.code.len() as u32;
         self.code[at] = Instr::Jump(next);
@@ -78,6 +105,7 @@ impl Body {
         requires jump { IsJump (instr_at self.old.code.items at) }
         ensures code { self.new.code.items ≡ patched self.old.code.items at target }
         ensures places { self.new.places ≡ self.old.places }
+        ensures texts { self.new.texts ≡ self.old.texts }
     {
         self.code[at] = match &self.code[at] {
             Instr::Jump(_) => Instr::Jump(target),

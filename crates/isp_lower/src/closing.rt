@@ -8,7 +8,6 @@ use crate::header::{Heading, Types, types_of};
 use crate::types::Emitter;
 use isp_code::Function;
 use std::alloc::{AllocError, Global};
-use std::mem;
 
 impl Emitter<'_> {
     /// The routine of the function at work, if there is one, is the next one. Where memory is refused, all stays as it was.
@@ -46,7 +45,7 @@ impl Emitter<'_> {
             scalars: types.scalars,
             vectors: types.vectors,
             masks: self.reserved.masks,
-            code: mem::replace(&mut self.body.code, Vec::new(alloc)),
+            code: self.body.taken(alloc),
         };
         match self.functions.push(routine) {
             Ok(()) => Ok(()),

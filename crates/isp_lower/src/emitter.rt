@@ -11,7 +11,7 @@ ghost use Rattle.isp_lower.specs.Rows.{fresh_at, rows_at};
 use crate::beginning::{begin, no_registers};
 use crate::header::heading_of;
 use crate::listing::{add_functions, add_places, add_texts};
-use crate::numbered::{PlaceNumber, RegisterNumber, TextNumber, next_number};
+use crate::numbered::{PlaceNumber, RegisterNumber, TextNumber};
 use crate::reserve::Reserve;
 use crate::types::{Body, Emitter};
 use isp_base::{Elem, Rate, Span};
@@ -27,7 +27,6 @@ impl<'p> Emitter<'p> {
         Emitter {
             gang: program.gang,
             callees: &program.functions,
-            texts: Vec::new(alloc),
             functions: Vec::new(alloc),
             heading: None,
             reserved: Reserve {
@@ -45,7 +44,7 @@ impl<'p> Emitter<'p> {
         ensures begun { OnOk result (draft_of self.new ≡ begun (function_of f.now) (draft_of self.old)) }
         ensures refused { OnErr result (draft_of self.new ≡ draft_of self.old) }
     {
-        let alloc = *self.texts.allocator();
+        let alloc = *self.functions.allocator();
         let heading = heading_of(alloc, f)?;
         let registers = begin(alloc, f.variables.as_slice(), f.result)?;
         self.close(alloc)?;
@@ -73,10 +72,7 @@ impl<'p> Emitter<'p> {
         ensures added { OnOk result (draft_of self.new ≡ with_text bytes.now (draft_of self.old)) }
         ensures refused { OnErr result (draft_of self.new ≡ draft_of self.old) }
     {
-        let number = next_number(self.texts.len())?;
-        let alloc = *self.texts.allocator();
-        self.texts.push(Vec::from_slice(alloc, bytes)?)?;
-        Ok(TextNumber { number })
+        self.body.text(bytes)
     }
 
     /// Adds an instruction, all of whose registers the function at work has, and gives its number. 0 where memory is
@@ -121,11 +117,11 @@ impl<'p> Emitter<'p> {
     pub fn finish(mut self) -> Result<Code, AllocError>
         ensures { IfOk result (λ code. code ≡ finished (draft_of self.entry)) }
     {
-        let alloc = *self.texts.allocator();
+        let alloc = *self.functions.allocator();
         self.close(alloc)?;
         let mut code = Code::new(alloc, self.gang);
         add_places(&mut code, self.body.places.as_slice())?;
-        add_texts(&mut code, self.texts.as_slice())?;
+        add_texts(&mut code, self.body.texts.as_slice())?;
         add_functions(&mut code, self.functions)?;
         Ok(code)
     }

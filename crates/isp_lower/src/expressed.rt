@@ -31,7 +31,7 @@ impl Emitter<'_> {
         ensures all_named { HasAllNamed (draft_of self.old) → OnOk result (HasAllNamed (draft_of self.new)) }
         ensures refused { OnErr result (draft_of self.new ≡ draft_of self.old) }
     {
-        let alloc = *self.texts.allocator();
+        let alloc = *self.functions.allocator();
         let mut asked = self.reserved.copied(alloc)?;
         asked.expr(x, site.slot)?;
         let on = Scope {
@@ -59,7 +59,7 @@ impl Emitter<'_> {
         ensures all_named { HasAllNamed (draft_of self.old) → OnOk result (HasAllNamed (draft_of self.new)) }
         ensures refused { OnErr result (draft_of self.new ≡ draft_of self.old) }
     {
-        let alloc = *self.texts.allocator();
+        let alloc = *self.functions.allocator();
         let mut asked = self.reserved.copied(alloc)?;
         asked.simple(x, site.slot)?;
         let on = Scope {

@@ -18,12 +18,14 @@ pub struct Scope<'a> {
     pub answer: Option<Ty>,
 }
 
-/// Code while it is written, and the places in the source that it names.
+/// Code while it is written, and the places in the source and the texts that it names, by number.
 #[derive(Drop)]
 pub struct Body {
     pub places: Vec<Span>,
+    pub texts: Vec<Vec<u8>>,
     pub code: Vec<Instr>,
     pub ghost few_places: { length places.items ≤ 4294967295 },
+    pub ghost few_texts: { length texts.items ≤ 4294967295 },
     pub ghost few: { length code.items ≤ 4294967295 },
 }
 
@@ -34,15 +36,12 @@ pub struct Emitter<'p> {
     pub gang: Gang,
     /// The functions of the program, by number.
     pub callees: &'p [TypedFunction],
-    /// By number.
-    pub texts: Vec<Vec<u8>>,
     /// Those that are closed, by number.
     pub functions: Vec<Function>,
     /// That of the function at work, if there is one.
     pub heading: Option<Heading>,
     /// Its registers, and how many masks it has.
     pub reserved: Reserve,
-    /// Its code, and the places in the source that all functions name.
+    /// Its code, and the places in the source and the texts that all functions name.
     pub body: Body,
-    pub ghost few_texts: { length texts.items ≤ 4294967295 },
 }

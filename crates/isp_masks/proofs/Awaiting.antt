@@ -6,9 +6,12 @@ use Rattle.std.proofs.Math.Seq.{set-append_seam}
 use Rattle.isp_base.specs.declared.types.Span.{Span}
 use Rattle.isp_code.specs.declared.instr.Instr.{Instr}
 use Rattle.isp_lower.specs.Code.{jump_off}
-use Rattle.isp_lower.specs.Emitted.{Appends}
+use Rattle.isp_lower.specs.Emitted.{Appends, texts_of}
 use Rattle.isp_lower.specs.declared.types.Body.{Body}
-use Rattle.isp_masks.specs.Awaited.{AreBelow, Awaits, jump_where, set_all}
+use Rattle.isp_masks.specs.Awaited.{AreBelow, Awaits, Code, jump_where, set_all}
+use Rattle.isp_masks.specs.Spots.{Numbers, next_of}
+use Rattle.isp_masks.specs.Written.{Piece, Writes}
+use Rattle.isp_masks.proofs.Writing.{beyond, next_beyond, texts_still}
 
 length_set_all : (is : List Instr) (js : List ℕ) (i : Instr) → length (set_all is js i) ≡ length is
 length_set_all is [] i = refl
@@ -37,24 +40,20 @@ below_at n [] i d low lt = absurd (omega (arith, lt))
 below_at n (h ∷ js) zero d low lt = low.0
 below_at n (h ∷ js) (suc i) d low lt = below_at n js i d low.1 (omega (arith, lt))
 
--- code with jumps to a number that is given
-abbrev Code : Type 0
-Code = ℕ → ℕ → ℕ → List Instr
-
-pub awaits_start : (o : Body) (k : ℕ) → Awaits o o [] k (λ t pc n. []) []
-awaits_start o k = record { low = tt; code = λ t. sym (append-nil o.code.items); places = sym (append-nil o.places.items) }
+pub awaits_start : (o : Body) (k : ℕ) → Awaits o o [] k (λ t pc z. []) [] []
+awaits_start o k = record { low = tt; code = λ t. sym (append-nil o.code.items); places = sym (append-nil o.places.items); texts = sym (append-nil (texts_of o)) }
 
 -- how far the code reaches, whatever the jumps lead to
-reaches : (o a : Body) (js : List ℕ) (k : ℕ) (c : Code) (p : List Span) → Awaits o a js k c p → (t : ℕ) → length a.code.items ≡ length o.code.items + length (c t (length o.code.items) (length o.places.items))
-reaches o a js k c p x t =
-    sym (length_set_all a.code.items js (jump_off k t)) ∙ ap length (x.code t) ∙ length-append o.code.items (c t (length o.code.items) (length o.places.items))
+reaches : (o a : Body) (js : List ℕ) (k : ℕ) (c : Code) (p : List Span) (u : List (List ℕ)) → Awaits o a js k c p u → (t : ℕ) → length a.code.items ≡ length o.code.items + length (c t (length o.code.items) (next_of o))
+reaches o a js k c p u x t =
+    sym (length_set_all a.code.items js (jump_off k t)) ∙ ap length (x.code t) ∙ length-append o.code.items (c t (length o.code.items) (next_of o))
 
-pub awaits_then : (o a b : Body) (js : List ℕ) (k : ℕ) (c : Code) (p : List Span) (f : ℕ → ℕ → List Instr) (q : List Span) → Awaits o a js k c p → Appends a b f q
-    → Awaits o b js k (λ t pc n. c t pc n ++ f (pc + length (c t pc n)) (n + length p)) (p ++ q)
-awaits_then o a b js k c p f q x y =
+pub awaits_then : (o a b : Body) (js : List ℕ) (k : ℕ) (c : Code) (p : List Span) (u : List (List ℕ)) (f : Piece) → Awaits o a js k c p u → Writes a b f
+    → Awaits o b js k (λ t pc z. c t pc z ++ f.code (pc + length (c t pc z)) (beyond p u z)) (p ++ f.places) (u ++ f.texts)
+awaits_then o a b js k c p u f x y =
     let pc = length o.code.items in
-    let n = length o.places.items in
-    let part = f (length a.code.items) (length a.places.items) in
+    let n = next_of o in
+    let part = f.code (length a.code.items) (next_of a) in
     record {
       low = below_more (length a.code.items) (length b.code.items) js (omega (arith, ap length y.code, length-append a.code.items part)) x.low;
       code = λ t.
@@ -64,14 +63,15 @@ awaits_then o a b js k c p f q x y =
           ∙ set_all_left a.code.items part js i x.low
           ∙ ap (λ z. z ++ part) (x.code t)
           ∙ append_assoc o.code.items one part
-          ∙ ap (λ m. o.code.items ++ (one ++ f m (length a.places.items))) (reaches o a js k c p x t)
-          ∙ ap (λ m. o.code.items ++ (one ++ f (pc + length one) m)) (ap length x.places ∙ length-append o.places.items p);
-      places = y.places ∙ ap (λ z. z ++ q) x.places ∙ append_assoc o.places.items p q;
+          ∙ ap (λ m. o.code.items ++ (one ++ f.code m (next_of a))) (reaches o a js k c p u x t)
+          ∙ ap (λ m. o.code.items ++ (one ++ f.code (pc + length one) m)) (next_beyond o a p u x.places x.texts);
+      places = y.places ∙ ap (λ z. z ++ f.places) x.places ∙ append_assoc o.places.items p f.places;
+      texts = y.texts ∙ ap (λ z. z ++ f.texts) x.texts ∙ append_assoc (texts_of o) u f.texts;
     }
 
-pub awaits_room : (o a b : Body) (js hs : List ℕ) (k : ℕ) (c : Code) (p : List Span) → Awaits o a js k c p → hs ≡ js ++ length a.code.items ∷ []
-    → Appends a b (λ pc n. jump_off k 0 ∷ []) [] → Awaits o b hs k (λ t pc n. c t pc n ++ jump_where true k t) p
-awaits_room o a b js hs k c p x e y =
+pub awaits_room : (o a b : Body) (js hs : List ℕ) (k : ℕ) (c : Code) (p : List Span) (u : List (List ℕ)) → Awaits o a js k c p u → hs ≡ js ++ length a.code.items ∷ []
+    → Appends a b (λ pc n. jump_off k 0 ∷ []) [] → Awaits o b hs k (λ t pc z. c t pc z ++ jump_where true k t) p u
+awaits_room o a b js hs k c p u x e y =
     let long : length b.code.items ≡ length a.code.items + 1 = ap length y.code ∙ length-append a.code.items (jump_off k 0 ∷ []) in
     record {
       low = subst (λ z. AreBelow (length b.code.items) z) (sym e)
@@ -79,7 +79,7 @@ awaits_room o a b js hs k c p x e y =
       code = λ t.
           let i = jump_off k t in
           let before = set_all a.code.items js i in
-          let one = c t (length o.code.items) (length o.places.items) in
+          let one = c t (length o.code.items) (next_of o) in
           ap (λ z. set_all b.code.items z i) e
           ∙ set_all_last b.code.items js (length a.code.items) i
           ∙ ap (λ z. slice_set (set_all z js i) (length a.code.items) i) y.code
@@ -89,23 +89,26 @@ awaits_room o a b js hs k c p x e y =
           ∙ ap (λ z. z ++ i ∷ []) (x.code t)
           ∙ append_assoc o.code.items one (i ∷ []);
       places = y.places ∙ append-nil a.places.items ∙ x.places;
+      texts = texts_still a b y.texts ∙ x.texts;
     }
 
-pub awaits_so : (o a : Body) (js : List ℕ) (k : ℕ) (c d : Code) (p q : List Span) → Awaits o a js k c p → ((t pc n : ℕ) → c t pc n ≡ d t pc n) → p ≡ q → Awaits o a js k d q
-awaits_so o a js k c d p q x e f =
+pub awaits_so : (o a : Body) (js : List ℕ) (k : ℕ) (c d : Code) (p q : List Span) (u v : List (List ℕ)) → Awaits o a js k c p u → ((t pc : ℕ) (z : Numbers) → c t pc z ≡ d t pc z) → p ≡ q → u ≡ v → Awaits o a js k d q v
+awaits_so o a js k c d p q u v x e f g =
     record {
       low = x.low;
-      code = λ t. x.code t ∙ ap (λ z. o.code.items ++ z) (e t (length o.code.items) (length o.places.items));
+      code = λ t. x.code t ∙ ap (λ z. o.code.items ++ z) (e t (length o.code.items) (next_of o));
       places = x.places ∙ ap (λ z. o.places.items ++ z) f;
+      texts = x.texts ∙ ap (λ z. texts_of o ++ z) g;
     }
 
 -- all jumps lead to the end
-pub awaits_end : (o a d : Body) (js : List ℕ) (k : ℕ) (c : Code) (p : List Span) (g : ℕ → ℕ → List Instr) → Awaits o a js k c p
-    → d.code.items ≡ set_all a.code.items js (jump_off k (length a.code.items)) → d.places ≡ a.places
-    → ((t pc n : ℕ) → t ≡ pc + length (c t pc n) → c t pc n ≡ g pc n) → Appends o d g p
-awaits_end o a d js k c p g x is same e =
+pub awaits_end : (o a d : Body) (js : List ℕ) (k : ℕ) (c : Code) (p : List Span) (u : List (List ℕ)) (g : ℕ → Numbers → List Instr) → Awaits o a js k c p u
+    → d.code.items ≡ set_all a.code.items js (jump_off k (length a.code.items)) → d.places ≡ a.places → d.texts ≡ a.texts
+    → ((t pc : ℕ) (z : Numbers) → t ≡ pc + length (c t pc z) → c t pc z ≡ g pc z) → Writes o d (record { code = g; places = p; texts = u })
+awaits_end o a d js k c p u g x is same still e =
     let t = length a.code.items in
     record {
-      code = is ∙ x.code t ∙ ap (λ z. o.code.items ++ z) (e t (length o.code.items) (length o.places.items) (reaches o a js k c p x t));
+      code = is ∙ x.code t ∙ ap (λ z. o.code.items ++ z) (e t (length o.code.items) (next_of o) (reaches o a js k c p u x t));
       places = ap (λ (z : Vec Span Global). z.items) same ∙ x.places;
+      texts = texts_still a d still ∙ x.texts;
     }

@@ -12,7 +12,7 @@ use Rattle.isp_lex.specs.declared.fault.Fault.{Fault}
 use Rattle.isp_lex.specs.declared.fault.Rule.TheVariants.{VaryingToUniform, BadExport}
 use Rattle.isp_lex.specs.Faults.{fault}
 use Rattle.isp_typed.specs.Fine.{FineFunction, params_of}
-use Rattle.isp_typed.specs.Typed.{TExpr, t_constant, t_program_index, t_place, t_convert, t_cast, t_unary, t_binary, t_compare, t_logic, t_choose, t_call, t_library, t_packed_store, t_packed_load, TPlace, t_variable, t_element, TBase, t_whole, t_from, TArgument, t_by_value, t_by_name, TCall, t_called, TArguments, t_no_arguments, t_argument_then, TExprs, t_no_exprs, t_expr_then, TItem, t_plain, t_with_value, t_with_size, TSimple, t_value, t_run, t_assign, t_update, t_step, TFirst, t_first_declare, t_first_simple, TRange, TFunction, Program, place_type, type_of, span_of}
+use Rattle.isp_typed.specs.Typed.{TExpr, t_exprs, t_constant, t_program_index, t_place, t_convert, t_cast, t_unary, t_binary, t_compare, t_logic, t_choose, t_call, t_library, t_packed_store, t_packed_load, TPlace, t_variable, t_element, TArgument, t_by_value, t_by_name, TCall, t_called, TArguments, t_no_arguments, t_argument_then, TExprs, t_no_exprs, t_expr_then, TItem, t_plain, t_with_value, t_with_size, TSimple, t_value, t_run, t_assign, t_update, t_step, TFirst, t_first_declare, t_first_simple, TFunction, Program, place_type, type_of, span_of, TBase, t_whole, t_from, TRange}
 use Rattle.isp_typed.specs.Typed.{TStmt, t_block, t_declare, t_simple, t_if, t_if_else, t_while, t_do, t_for, t_foreach, t_foreach_active, t_unmasked, t_jump, t_return, t_print, t_assert, TBlock, t_braces, TStmts, t_no_stmts, t_stmt_then}
 use Rattle.isp_typed.specs.declared.variable.Holds.{Holds}
 use Rattle.isp_typed.specs.declared.variable.Holds.TheVariants.{Value as AValue, Given, Local}
@@ -32,7 +32,7 @@ use Rattle.isp_typed.specs.declared.library.Part.TheVariants as part
 use Rattle.isp_lower.specs.Library.{rate_taken, rates_taken}
 use Rattle.isp_lower.specs.Rated.{Reaches, IsRated, PlaceRated, BaseRated, CallRated, ArgumentsRated, ArgumentRated, ValuesRated, RatedAt, SimpleRated, ItemsRated}
 use Rattle.isp_masks.specs.Compiled.{AreOne, IsOne}
-use Rattle.isp_masks.specs.Rated.{AnswerRated, RangesRated, FirstRated, TestRated, StepRated, StmtRated, BlockRated, StmtsRated}
+use Rattle.isp_masks.specs.Rated.{AllRated, AnswerRated, FirstRated, TestRated, StepRated, StmtRated, BlockRated, StmtsRated, RangesRated}
 
 -- ---- no breach
 
@@ -174,6 +174,12 @@ module _ (fs : List TFunction) where
   items_rated (t_with_value v t x sp ∷ xs) clean c =
       (rated_at t.rate x (λ e b. clean e (inl b)) (first_none (expr_left x) (items_left xs) c), items_rated xs (λ e b. clean e (inr b)) (next_none (expr_left x) (items_left xs) c))
 
+  -- the values of a `print`
+  all_rated : (xs : List TExpr) → NoneOf (OfEach (ExprBreach fs) xs) → values_left (t_exprs xs) ≡ None → AllRated fs xs
+  all_rated [] clean c = tt
+  all_rated (x ∷ xs) clean c =
+      (expr_rated x (λ e b. clean e (inl b)) (first_none (expr_left x) (values_left (t_exprs xs)) c), all_rated xs (λ e b. clean e (inr b)) (next_none (expr_left x) (values_left (t_exprs xs)) c))
+
   -- the parts of a `for` that may be left out
   first_rated : (o : Option TFirst) → NoneOf (OfAny (FirstBreach fs) o) → first_left o ≡ None → FirstRated fs o
   first_rated None clean c = tt
@@ -224,7 +230,7 @@ module _ (fs : List TFunction) where
       stmt_rated v m w (t_jump j k sp) at clean c = tt
       stmt_rated v m w (t_return k None sp) at clean c = tt
       stmt_rated v m w (t_return k (Some x) sp) at clean c = returned_rated answer w k x sp clean c
-      stmt_rated v m w (t_print k text xs sp) at clean c = absurd (some_left c)
+      stmt_rated v m w (t_print k text xs sp) at clean c = all_rated xs clean c
       stmt_rated v m w (t_assert x k sp) at clean c = expr_rated x clean c
 
       pub block_rated : (v : Scope) (m : ℕ) (w : Within) (b : TBlock) → BlockAt v m b → NoneOf (BlockBreach fs answer w b) → block_left b ≡ None → BlockRated fs answer b

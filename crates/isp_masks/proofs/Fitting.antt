@@ -4,12 +4,13 @@ use Rattle.isp_base.specs.declared.types.Elem.TheVariants.{I32}
 use Rattle.isp_base.specs.declared.types.Rate.{Rate}
 use Rattle.isp_base.specs.declared.types.Rate.TheVariants.{Uniform, Varying}
 use Rattle.isp_base.specs.declared.types.Ty.{Ty}
-use Rattle.isp_typed.specs.Typed.{TExpr, type_of, TSimple, TFirst, t_first_declare, t_first_simple, TRange, TStmt, t_block, t_declare, t_simple, t_if, t_if_else, t_while, t_do, t_for, t_foreach, t_foreach_active, t_unmasked, t_jump, t_return, t_print, t_assert, TBlock, t_braces, TStmts, t_no_stmts, t_stmt_then}
+use Rattle.isp_typed.specs.Typed.{TExpr, t_exprs, type_of, TSimple, TFirst, t_first_declare, t_first_simple, TRange, TStmt, t_block, t_declare, t_simple, t_if, t_if_else, t_while, t_do, t_for, t_foreach, t_foreach_active, t_unmasked, t_jump, t_return, t_print, t_assert, TBlock, t_braces, TStmts, t_no_stmts, t_stmt_then}
 use Rattle.isp_lower.specs.Asks.{Ask, first_slot}
 use Rattle.isp_lower.specs.Fits.{InTable}
 use Rattle.isp_lower.specs.Rated.{Reaches}
 use Rattle.isp_lower.specs.Setting.{Setting}
-use Rattle.isp_lower.proofs.Lemmas.{ExprTree, OperandTree, expr_fits, operand_fits, simple_fits, items_fit}
+use Rattle.isp_lower.proofs.Lemmas.{ExprTree, OperandTree, expr_fits, operand_fits, values_fit, simple_fits, items_fit}
+use Rattle.isp_masks.specs.Prints.{own_rates}
 use Rattle.isp_masks.specs.Asks.{answer_asks, bound_asks, bounds_asks, places_asks, ranges_asks, first_asks, test_part_asks, step_asks, stmt_asks, block_asks, stmts_asks}
 use Rattle.isp_masks.specs.Ranges.{places_slot, runs_slot}
 use Rattle.isp_masks.specs.Fits.{StmtFits, BlockFits}
@@ -80,7 +81,7 @@ module _ (w : Setting) where
     stmt_fits (t_jump j k sp) n t i = tt
     stmt_fits (t_return k None sp) n t i = tt
     stmt_fits (t_return k (Some x) sp) n t i = answer_fits w.frame.answer x n t i
-    stmt_fits (t_print k text xs sp) n t i = t
+    stmt_fits (t_print k text xs sp) n t i = (t.0, values_fit w (own_rates xs) (t_exprs xs) n t.1 i)
     stmt_fits (t_assert x c sp) n t i = expr_fits w x n t.0 i.0
 
     pub block_fits : (b : TBlock) (n : ℕ) → BlockTree w.program.functions w.frame.answer b → Named (block_asks w.frame.answer b n) → BlockParts w b n

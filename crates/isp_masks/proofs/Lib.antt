@@ -16,6 +16,7 @@ mod RangeRuns
 mod Bounds
 mod Foreach
 mod Asserts
+mod Prints
 mod Stmts
 mod Turns
 mod Loops
@@ -37,14 +38,17 @@ mod Programs
 mod SoundLoops
 mod SoundRanges
 mod SoundAsserts
+mod SoundPrints
 mod Sound
 mod Accepted
 mod Made
 mod Counts
-mod Awaiting
 mod Lists
+mod Writing
+mod Awaiting
 mod Forms
 mod Sifting
+mod Telling
 mod Views
 mod RangesAsked
 mod RangesWritten

@@ -23,6 +23,10 @@ pub places_last : (l : Layout) (xs : List TStmt) (x : TStmt) → stmts_places l 
 places_last l [] x = append-nil (stmt_places l x)
 places_last l (y ∷ ys) x = ap (λ z. stmt_places l y ++ z) (places_last l ys x) ∙ sym (append_assoc (stmt_places l y) (stmts_places l (t_stmts ys)) (stmt_places l x))
 
+pub texts_last : (xs : List TStmt) (x : TStmt) → stmts_texts (t_stmts (xs ++ x ∷ [])) ≡ stmts_texts (t_stmts xs) ++ stmt_texts x
+texts_last [] x = append-nil (stmt_texts x)
+texts_last (y ∷ ys) x = ap (λ z. stmt_texts y ++ z) (texts_last ys x) ∙ sym (append_assoc (stmt_texts y) (stmts_texts (t_stmts ys)) (stmt_texts x))
+
 -- the numbers behind a list
 abbrev pub behind_all : Layout → List TStmt → Numbers → Numbers
 behind_all l xs z =

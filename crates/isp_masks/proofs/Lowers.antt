@@ -33,7 +33,6 @@ use Rattle.isp_masks.proofs.Checked.{FunctionFits, function_fits, function_cover
 use Rattle.isp_masks.proofs.FirstRows.{parameters_same, result_row}
 use Rattle.isp_masks.proofs.Heads.{names_apart, names_same, new_name, exports, head_fits}
 use Rattle.isp_masks.proofs.Made.{made_accepted, made_compiled, made_entry}
-use Rattle.isp_masks.proofs.Names.{named_block}
 use Rattle.isp_masks.proofs.Programs.{program_agrees}
 use Rattle.isp_masks.proofs.Standing.{arrays_stand}
 use Rattle.isp_masks.specs.Rated.{BlockRated}
@@ -61,7 +60,7 @@ params_held zero (p ∷ ps) vs a = absurd a
 params_held (suc n) (p ∷ ps) [] a = absurd a
 params_held (suc n) (p ∷ ps) (v ∷ vs) a = (refl, refl, params_held n ps vs a.1)
 
-module _ (fs : List TFunction) (code : Listing) (h : TFunction) (g : Routine) (fine : FineFunction fs h) (low : IsLowered fs h g code.places) where
+module _ (fs : List TFunction) (code : Listing) (h : TFunction) (g : Routine) (fine : FineFunction fs h) (low : IsLowered fs h g code.places code.texts) where
   pub parameters : parameters_of g ≡ h.parameters
   parameters = ap (map parameter_of) low.params ∙ parameters_same (length h.params) h.parameters h.variables fine.params
 
@@ -80,7 +79,8 @@ module _ (fs : List TFunction) (code : Listing) (h : TFunction) (g : Routine) (f
     masks = low.three;
     code_is = low.code_is;
     low = low.low;
-    names = named_block code low.numbers _ h.body low.places_are;
+    low_texts = low.low_texts;
+    names = record { places_are = low.places_are; texts_are = low.texts_are };
   }
 
 -- ---- a program

@@ -25,7 +25,7 @@ use Rattle.isp_masks.specs.Compiled.{ResultFits, IsCompiled, IsEntry}
 use Rattle.isp_lower.specs.Header.{value_returned, returns_of}
 use Rattle.isp_masks.specs.Made.{ResultRow, IsMade, IsUniform, GivesUniform}
 use Rattle.isp_masks.specs.Spots.{Numbers}
-use Rattle.isp_masks.specs.Statements.{block_places, returned, function_code}
+use Rattle.isp_masks.specs.Statements.{block_places, block_texts, returned, function_code}
 use Rattle.isp_masks.proofs.ArraysThere.{BodyPresent, body_present}
 use Rattle.isp_masks.proofs.Passing.{passed_first}
 use Rattle.isp_masks.specs.Asks.{block_asks}
@@ -79,6 +79,7 @@ module _ (fs : List TFunction) (code : Listing) (h : TFunction) (g : Routine) (r
     present = present.present;
     masks = made.masks;
     places = at_low code.places z.place (block_places (layout_of (rates_in fs) rows) h.body) made.low made.names.places_are;
+    texts = at_low code.texts z.text (block_texts h.body) made.low_texts made.names.texts_are;
     given = given h.answer made.result made.returns;
   }
 

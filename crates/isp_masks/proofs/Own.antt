@@ -7,19 +7,20 @@ use Rattle.isp_base.specs.declared.types.Rate.{Rate}
 use Rattle.isp_base.specs.declared.types.Rate.TheVariants.{Uniform, Varying}
 use Rattle.isp_base.specs.declared.types.Ty.{Ty}
 use Rattle.isp_tree.specs.Sound.{IfAny}
-use Rattle.isp_typed.specs.Fine.{HoldsValue, active_index, foreach_index, FineRange, IsParam, AreParams, IsDeclared, FineFunction, FineValue, FineSimple, FineFirst, FineItem, FineReturned, FineStmt, FineBlock, FineStmts}
-use Rattle.isp_typed.specs.Typed.{TExpr, ty_of, type_of, TItem, TSimple, TFirst, t_first_declare, t_first_simple, TRange, TStmt, t_block, t_declare, t_simple, t_if, t_if_else, t_while, t_do, t_for, t_foreach, t_foreach_active, t_unmasked, t_jump, t_return, t_print, t_assert, TBlock, t_braces, TStmts, t_no_stmts, t_stmt_then, TFunction}
+use Rattle.isp_typed.specs.Fine.{HoldsValue, active_index, foreach_index, FineRange, IsParam, AreParams, IsDeclared, FineExpr, FineFunction, FineValue, FineSimple, FineFirst, FineItem, FineReturned, FineStmt, FineBlock, FineStmts}
+use Rattle.isp_typed.specs.Typed.{TExpr, t_exprs, ty_of, type_of, TItem, TSimple, TFirst, t_first_declare, t_first_simple, TRange, TStmt, t_block, t_declare, t_simple, t_if, t_if_else, t_while, t_do, t_for, t_foreach, t_foreach_active, t_unmasked, t_jump, t_return, t_print, t_assert, TBlock, t_braces, TStmts, t_no_stmts, t_stmt_then, TFunction}
 use Rattle.isp_base.specs.declared.signature.Parameter.{Parameter}
 use Rattle.isp_typed.specs.declared.variable.Holds.{Holds}
 use Rattle.isp_typed.specs.declared.variable.Holds.TheVariants as holds
 use Rattle.isp_typed.specs.declared.variable.Variable.{Variable}
 use Rattle.isp_lower.specs.Header.{AreSmall, HeadingFits, IsSmall}
-use Rattle.isp_lower.specs.Asks.{first_slot, items_asks, test_asks}
+use Rattle.isp_lower.specs.Asks.{first_slot, items_asks, test_asks, values_asks}
 use Rattle.isp_lower.specs.Reserved.{IsOwn, IsReserved}
 use Rattle.isp_lower.specs.declared.reserve.Reserve.{Reserve}
 use Rattle.isp_lower.proofs.Lemmas.{expr_own, operand_own, simple_own, item_own}
 use Rattle.isp_masks.specs.Asks.{answer_asks, bound_asks, bounds_asks, places_asks, ranges_asks, part_asks, loop_asks, first_asks, test_part_asks, step_asks, stmt_asks, block_asks, stmts_asks, result_asks}
 use Rattle.isp_masks.specs.Lowered.{BodyIsOwn}
+use Rattle.isp_masks.specs.Prints.{own_rates}
 use Rattle.isp_masks.specs.Ranges.{places_slot, runs_slot}
 
 returned_own : (fs : List TFunction) (vars : List Variable) (answer : Option Ty) (x : TExpr) (n : ℕ) → FineReturned fs vars answer (Some x) → IsOwn vars answer (answer_asks answer x n)
@@ -38,6 +39,12 @@ module _ (fs : List TFunction) (vars : List Variable) (answer : Option Ty) where
   mask_own : (r : Rate) (n : ℕ) → IsOwn vars answer (test_asks r n)
   mask_own Uniform n = tt
   mask_own Varying n = tt
+
+  -- the values of a `print`
+  shown_own : (xs : List TExpr) (n : ℕ) → All (FineExpr fs vars) xs → IsOwn vars answer (values_asks (own_rates xs) (t_exprs xs) n)
+  shown_own [] n f = tt
+  shown_own (x ∷ xs) n f =
+      (tt, (operand_own vars answer fs (type_of x).rate x n (f 0 x (omega arith)), shown_own xs (n + 1) (λ k d lt. f (suc k) d (omega arith))))
 
   active_own : (i : ℕ) → slice_get vars i ≡ Some active_index → HoldsValue vars i (ty_of Uniform I64)
   active_own i e = record { constant = true; is = e }
@@ -98,7 +105,7 @@ module _ (fs : List TFunction) (vars : List Variable) (answer : Option Ty) where
     stmt_own (t_jump j k sp) n f = tt
     stmt_own (t_return k None sp) n f = tt
     stmt_own (t_return k (Some x) sp) n f = returned_own fs vars answer x n f
-    stmt_own (t_print k text xs sp) n f = tt
+    stmt_own (t_print k text xs sp) n f = shown_own xs n f.1
     stmt_own (t_assert x c sp) n f = (expr_own vars answer fs x n f.0.0, mask_own (type_of x).rate n)
 
     pub block_own : (b : TBlock) (n : ℕ) → FineBlock fs vars answer b → IsOwn vars answer (block_asks answer b n)

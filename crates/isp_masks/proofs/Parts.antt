@@ -1,13 +1,17 @@
 -- What the laws use of a statement that fits, part by part.
 use Rattle.std.proofs.Common.{◌≡◌, ◌≤◌, ℕ, ◌+◌, List, [], ◌∷◌, length, Option, Some, None}
+use Rattle.std.specs.List.{count_by}
+use Rattle.std.specs.Prelude.{◌==◌}
+use Rattle.isp_base.specs.Prints.{percent}
 use Rattle.isp_base.specs.declared.types.Elem.TheVariants.{I32, I64}
 use Rattle.isp_base.specs.declared.types.Rate.TheVariants.{Uniform, Varying}
 use Rattle.isp_base.specs.declared.types.Ty.{Ty}
-use Rattle.isp_typed.specs.Typed.{TExpr, type_of, TSimple, TFirst, t_first_declare, t_first_simple, TRange, TStmt, t_block, t_declare, t_simple, t_if, t_if_else, t_while, t_do, t_for, t_foreach, t_foreach_active, t_unmasked, t_jump, t_return, t_print, t_assert, TBlock, t_braces, TStmts, t_no_stmts, t_stmt_then}
+use Rattle.isp_typed.specs.Typed.{TExpr, t_exprs, type_of, TSimple, TFirst, t_first_declare, t_first_simple, TRange, TStmt, t_block, t_declare, t_simple, t_if, t_if_else, t_while, t_do, t_for, t_foreach, t_foreach_active, t_unmasked, t_jump, t_return, t_print, t_assert, TBlock, t_braces, TStmts, t_no_stmts, t_stmt_then}
 use Rattle.isp_lower.specs.Asks.{first_slot}
 use Rattle.isp_lower.specs.Setting.{Setting}
 use Rattle.isp_lower.specs.Tables.{IsTyped}
-use Rattle.isp_lower.proofs.Lemmas.{OperandFits, ExprParts, SimpleParts, ItemsParts}
+use Rattle.isp_lower.proofs.Lemmas.{OperandFits, ExprParts, ValuesParts, SimpleParts, ItemsParts}
+use Rattle.isp_masks.specs.Prints.{own_rates}
 use Rattle.isp_masks.specs.Ranges.{wide, narrow, lane, places_slot, runs_slot}
 
 module _ (w : Setting) where
@@ -77,7 +81,7 @@ module _ (w : Setting) where
     StmtParts (t_jump j k sp) n = Unit {0}
     StmtParts (t_return k None sp) n = Unit {0}
     StmtParts (t_return k (Some x) sp) n = AnswerFits w.frame.answer x n
-    StmtParts (t_print k text xs sp) n = ⊥
+    StmtParts (t_print k text xs sp) n = (count_by (λ c. c == percent) text ≡ length xs) × ValuesParts w (own_rates xs) (t_exprs xs) n
     StmtParts (t_assert x c sp) n = ExprParts w x n
 
     pub BlockParts : TBlock → ℕ → Type 0

@@ -1,5 +1,5 @@
 -- What the ranges of a `foreach` are written in: a range with the jumps out of it and back to its test, and what is there for it.
-use Rattle.std.proofs.Common.{◌≡◌, ℕ, ◌+◌, ◌<◌, ◌≤◌, List, [], ◌∷◌, ◌++◌, length, drop, get_or, refl, sym, ap, ◌∙◌, subst, suc, arith, append-nil, length-append}
+use Rattle.std.proofs.Common.{◌≡◌, ℕ, ◌+◌, ◌<◌, ◌≤◌, List, [], ◌∷◌, ◌++◌, length, drop, get_or, refl, sym, ap, ◌∙◌, subst, suc, arith, length-append}
 use Rattle.std.specs.Prelude.{slice_set}
 use Rattle.std.proofs.lemmas.List.{drop_more}
 use Rattle.isp_base.specs.declared.operators.Compare.TheVariants.{Less}
@@ -18,53 +18,61 @@ use Rattle.isp_lower.specs.Emitted.{Appends, Present}
 use Rattle.isp_lower.specs.Layout.{Layout}
 use Rattle.isp_lower.specs.declared.types.Body.{Body}
 use Rattle.isp_lower.specs.declared.types.Scope.{Scope}
-use Rattle.isp_lower.proofs.Lemmas.{appends_then, landed}
+use Rattle.isp_lower.proofs.Lemmas.{appends_then}
 use Rattle.isp_masks.specs.Ranges.{bounds_code, foreach_code, measures_code, places_slot, ranges_code, ranges_places, runs_slot, sweep_code, test, wide}
-use Rattle.isp_masks.specs.Written.{index_codes, last_asks, outer_turn_code, sweep_asks, sweeps_asks}
+use Rattle.isp_masks.specs.Spots.{Numbers, next_of, past}
+use Rattle.isp_masks.specs.Written.{Piece, Writes, index_codes, last_asks, outer_turn_code, sweep_asks, sweeps_asks}
 use Rattle.isp_masks.specs.declared.ranges.OuterIndex.{OuterIndex}
 use Rattle.isp_masks.specs.declared.ranges.Sweep.{Sweep}
+use Rattle.isp_masks.proofs.Lists.{same_numbers}
+use Rattle.isp_masks.proofs.Writing.{landed_over, writes_back, writes_past}
 
 -- the first instruction, the test, the jump past what is inside, and behind that the jump back to the test
-pub sweep_written : (a s b c d f e : Body) (first tested x add : Instr) (go : ℕ → Instr) (k : ℕ → ℕ → List Instr) (p : List Span) (top at : ℕ)
+pub sweep_written : (a s b c d f e : Body) (first tested x add : Instr) (go : ℕ → Instr) (y : Piece) (top at : ℕ)
     → Appends a s (λ pc n. first ∷ []) [] → top ≡ length s.code.items → Appends s b (λ pc n. tested ∷ []) [] → at ≡ length b.code.items
-    → Appends b c (λ pc n. x ∷ []) [] → Appends c d k p → Appends d f (λ pc n. add ∷ instr.Jump top ∷ []) []
-    → e.code.items ≡ slice_set f.code.items at (go (length f.code.items)) → e.places ≡ f.places
-    → Appends a e (λ pc n. first ∷ tested ∷ guard go (pc + 1 + 1) (λ pc1. k pc1 n ++ add ∷ instr.Jump (pc + 1) ∷ [])) p
-sweep_written a s b c d f e first tested x add go k p top at start top_at test is skip part on set kept =
+    → Appends b c (λ pc n. x ∷ []) [] → Writes c d y → Appends d f (λ pc n. add ∷ instr.Jump top ∷ []) []
+    → e.code.items ≡ slice_set f.code.items at (go (length f.code.items)) → e.places ≡ f.places → e.texts ≡ f.texts
+    → Writes a e (record { code = λ pc z. first ∷ tested ∷ guard go (pc + 1 + 1) (λ pc1. y.code pc1 z ++ add ∷ instr.Jump (pc + 1) ∷ []); places = y.places; texts = y.texts })
+sweep_written a s b c d f e first tested x add go y top at start top_at test is skip part on set kept held =
     let pc = length a.code.items in
-    let n = length a.places.items in
-    let inside : Appends c f (λ pc1 m. k pc1 m ++ add ∷ instr.Jump top ∷ []) p =
-    subst (λ q. Appends c f (λ pc1 m. k pc1 m ++ add ∷ instr.Jump top ∷ []) q) (append-nil p) (appends_then c d f k (λ pc1 m. add ∷ instr.Jump top ∷ []) p [] part on) in
-    let past = landed b c f e at x go (λ pc1 m. k pc1 m ++ add ∷ instr.Jump top ∷ []) p is skip inside set kept in
-    let behind = appends_then s b e (λ pc1 m. tested ∷ []) (λ pc1 m. guard go pc1 (λ pc2. k pc2 m ++ add ∷ instr.Jump top ∷ [])) [] p test past in
-    let whole = appends_then a s e (λ pc1 m. first ∷ []) (λ pc1 m. tested ∷ guard go (pc1 + 1) (λ pc2. k pc2 (m + 0) ++ add ∷ instr.Jump top ∷ [])) [] p start behind in
+    let named = next_of a in
+    let turn : Piece = record { code = λ pc1 z. y.code pc1 z ++ add ∷ instr.Jump top ∷ []; places = y.places; texts = y.texts } in
+    let inside : Writes c f turn = writes_back c d f y (λ pc1 m. add ∷ instr.Jump top ∷ []) part on in
+    let jumped : Piece = record { code = λ pc1 z. guard go pc1 (λ pc2. turn.code pc2 z); places = y.places; texts = y.texts } in
+    let over : Writes b e jumped = landed_over b c f e at x go turn is skip inside set kept held in
+    let told : Piece = record { code = λ pc1 z. tested ∷ guard go (pc1 + 1) (λ pc2. turn.code pc2 (past [] z)); places = y.places; texts = y.texts } in
+    let behind : Writes s e told = writes_past s b e (λ pc1 m. tested ∷ []) [] jumped test over in
+    let whole = writes_past a s e (λ pc1 m. first ∷ []) [] told start behind in
     let there : top ≡ pc + 1 = top_at ∙ ap length start.code ∙ length-append a.code.items (first ∷ []) in
-    let same : n + 0 + 0 ≡ n = omega arith in
+    let same : past [] (past [] named) ≡ named = same_numbers (past [] (past [] named)) named (omega arith) refl in
     record {
       code =
           whole.code
-          ∙ ap (λ m. a.code.items ++ first ∷ tested ∷ guard go (pc + 1 + 1) (λ pc1. k pc1 m ++ add ∷ instr.Jump top ∷ [])) same
-          ∙ ap (λ t. a.code.items ++ first ∷ tested ∷ guard go (pc + 1 + 1) (λ pc1. k pc1 n ++ add ∷ instr.Jump t ∷ [])) there;
+          ∙ ap (λ z. a.code.items ++ first ∷ tested ∷ guard go (pc + 1 + 1) (λ pc1. y.code pc1 z ++ add ∷ instr.Jump top ∷ [])) same
+          ∙ ap (λ t. a.code.items ++ first ∷ tested ∷ guard go (pc + 1 + 1) (λ pc1. y.code pc1 named ++ add ∷ instr.Jump t ∷ [])) there;
       places = whole.places;
+      texts = whole.texts;
     }
 
--- what all runs use, the bounds, and the ranges, told the number of the next place for their body
-pub foreach_written : (l : Layout) (a b c d : Body) (rs : List TRange) (k n : ℕ) (body : ℕ → ℕ → List Instr) (ps : List Span)
+-- what all runs use, the bounds, and the ranges, told the numbers of what their body names next
+pub foreach_written : (l : Layout) (a b c d : Body) (rs : List TRange) (k n : ℕ) (body : Numbers → ℕ → List Instr) (ps : List Span) (ts : List (List ℕ))
     → Appends a b (λ pc p. measures_code l n (runs_slot n rs)) [] → Appends b c (λ pc p. bounds_code l rs pc p k (n + 1 + 1)) (ranges_places l rs)
-    → Appends c d (λ pc p. ranges_code l n (runs_slot n rs) (body p) rs [] (n + 1 + 1) (places_slot n rs) pc) ps
-    → Appends a d (λ pc p. foreach_code l rs pc p k n (body (p + length (ranges_places l rs)))) (ranges_places l rs ++ ps)
-foreach_written l a b c d rs k n body ps x y z =
+    → Writes c d (record { code = λ pc z. ranges_code l n (runs_slot n rs) (body z) rs [] (n + 1 + 1) (places_slot n rs) pc; places = ps; texts = ts })
+    → Writes a d (record { code = λ pc z. foreach_code l rs pc z.place k n (body (past (ranges_places l rs) z)); places = ranges_places l rs ++ ps; texts = ts })
+foreach_written l a b c d rs k n body ps ts x y w =
     let h = runs_slot n rs in
     let m = places_slot n rs in
     let named = ranges_places l rs in
     let pc = length a.code.items in
-    let rest = λ (pc1 p : ℕ). two pc1 (bounds_code l rs pc1 p k (n + 1 + 1)) (λ pc2. ranges_code l n h (body (p + length named)) rs [] (n + 1 + 1) m pc2) in
-    let behind = appends_then b c d (λ pc1 p. bounds_code l rs pc1 p k (n + 1 + 1)) (λ pc1 p. ranges_code l n h (body p) rs [] (n + 1 + 1) m pc1) named ps y z in
-    let whole = appends_then a b d (λ pc1 p. measures_code l n h) (λ pc1 p. rest pc1 p) [] (named ++ ps) x behind in
-    let same : length a.places.items + 0 ≡ length a.places.items = omega arith in
+    let runs : Piece = record { code = λ pc1 z. ranges_code l n h (body z) rs [] (n + 1 + 1) m pc1; places = ps; texts = ts } in
+    let rest : Piece = record { code = λ pc1 z. two pc1 (bounds_code l rs pc1 z.place k (n + 1 + 1)) (λ pc2. runs.code pc2 (past named z)); places = named ++ ps; texts = ts } in
+    let behind : Writes b d rest = writes_past b c d (λ pc1 p. bounds_code l rs pc1 p k (n + 1 + 1)) named runs y w in
+    let whole = writes_past a b d (λ pc1 p. measures_code l n h) [] rest x behind in
+    let same : past [] (next_of a) ≡ next_of a = same_numbers (past [] (next_of a)) (next_of a) (omega arith) refl in
     record {
-      code = whole.code ∙ ap (λ p. a.code.items ++ two pc (measures_code l n h) (λ pc1. rest pc1 p)) same;
+      code = whole.code ∙ ap (λ z. a.code.items ++ two pc (measures_code l n h) (λ pc1. rest.code pc1 z)) same;
       places = whole.places;
+      texts = whole.texts;
     }
 
 -- a range that has others inside

@@ -1,15 +1,18 @@
 -- What names, types and rates promise of a body is what the laws use of it.
-use Rattle.std.proofs.Common.{suc, arith, List, [], ◌∷◌, Option, Some, None}
+use Rattle.std.proofs.Common.{suc, arith, refl, List, [], ◌∷◌, Option, Some, None}
 use Rattle.std.specs.List.{All}
 use Rattle.isp_base.specs.declared.types.Elem.TheVariants.{Bool as Truth, I32}
-use Rattle.isp_base.specs.declared.types.Rate.TheVariants.{Uniform}
+use Rattle.isp_base.specs.declared.types.Rate.{Rate}
+use Rattle.isp_base.specs.declared.types.Rate.TheVariants.{Uniform, Varying}
 use Rattle.isp_base.specs.declared.types.Ty.{Ty}
 use Rattle.isp_tree.specs.Sound.{IfAny}
-use Rattle.isp_typed.specs.Fine.{FineValue, FineSimple, FineFirst, FineRange, FineReturned, FineStmt, FineBlock, FineStmts}
-use Rattle.isp_typed.specs.Typed.{TFunction, TExpr, TSimple, TFirst, t_first_declare, t_first_simple, TRange, TStmt, t_block, t_declare, t_simple, t_if, t_if_else, t_while, t_do, t_for, t_foreach, t_foreach_active, t_unmasked, t_jump, t_return, t_print, t_assert, TBlock, t_braces, TStmts, t_no_stmts, t_stmt_then}
+use Rattle.isp_typed.specs.Fine.{FineExpr, FineValue, FineSimple, FineFirst, FineRange, FineReturned, FineStmt, FineBlock, FineStmts}
+use Rattle.isp_typed.specs.Typed.{TFunction, TExpr, t_exprs, type_of, TSimple, TFirst, t_first_declare, t_first_simple, TRange, TStmt, t_block, t_declare, t_simple, t_if, t_if_else, t_while, t_do, t_for, t_foreach, t_foreach_active, t_unmasked, t_jump, t_return, t_print, t_assert, TBlock, t_braces, TStmts, t_no_stmts, t_stmt_then}
 use Rattle.isp_typed.specs.declared.variable.Variable.{Variable}
-use Rattle.isp_lower.proofs.Lemmas.{expr_tree, operand_tree, simple_tree, items_tree}
-use Rattle.isp_masks.specs.Rated.{AnswerRated, RangesRated, FirstRated, TestRated, StepRated, StmtRated, BlockRated, StmtsRated}
+use Rattle.isp_lower.specs.Rated.{Reaches}
+use Rattle.isp_lower.proofs.Lemmas.{ValuesTree, expr_tree, operand_tree, simple_tree, items_tree}
+use Rattle.isp_masks.specs.Prints.{own_rates}
+use Rattle.isp_masks.specs.Rated.{AllRated, AnswerRated, RangesRated, FirstRated, TestRated, StepRated, StmtRated, BlockRated, StmtsRated}
 use Rattle.isp_masks.proofs.Trees.{AnswerTree, RangesTree, FirstTree, TestTree, StepTree, StmtTree, BlockTree, StmtsTree}
 
 module _ (fs : List TFunction) (vars : List Variable) where
@@ -18,6 +21,16 @@ module _ (fs : List TFunction) (vars : List Variable) where
   ranges_tree (x ∷ xs) f r =
       let g = f 0 x (omega arith) in
       (operand_tree fs vars Uniform I32 x.start g.start.1 r.0, expr_tree fs vars x.start g.start.0 r.0.1, operand_tree fs vars Uniform I32 x.end g.end.1 r.1, expr_tree fs vars x.end g.end.0 r.1.1, ranges_tree xs (λ k d lt. f (suc k) d (omega (arith, lt))) r.2)
+
+  -- the values of a `print`, each wanted at its own rate
+  own_reaches : (r : Rate) → Reaches r r
+  own_reaches Uniform = tt
+  own_reaches Varying = tt
+
+  shown_tree : (xs : List TExpr) → All (FineExpr fs vars) xs → AllRated fs xs → ValuesTree fs (own_rates xs) (t_exprs xs)
+  shown_tree [] f r = tt
+  shown_tree (x ∷ xs) f r =
+      (record { elem = refl; reaches = own_reaches (type_of x).rate }, expr_tree fs vars x (f 0 x (omega arith)) r.0, shown_tree xs (λ k d lt. f (suc k) d (omega arith)) r.1)
 
   -- the parts of a `for` that may be left out
   first_tree : (o : Option TFirst) → IfAny (FineFirst fs vars) o → FirstRated fs o → FirstTree fs o
@@ -54,7 +67,7 @@ module _ (fs : List TFunction) (vars : List Variable) where
       stmt_tree (t_jump j k sp) f r = tt
       stmt_tree (t_return k None sp) f r = tt
       stmt_tree (t_return k (Some x) sp) f r = returned_tree answer x f r
-      stmt_tree (t_print k text xs sp) f r = absurd r
+      stmt_tree (t_print k text xs sp) f r = (f.0, shown_tree xs f.1 r)
       stmt_tree (t_assert x k sp) f r = (expr_tree fs vars x f.0.0 r, f.0.1)
 
       pub block_tree : (b : TBlock) → FineBlock fs vars answer b → BlockRated fs answer b → BlockTree fs answer b

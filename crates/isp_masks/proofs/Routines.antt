@@ -6,7 +6,6 @@ use Rattle.isp_base.specs.declared.signature.Parameter.{Parameter}
 use Rattle.isp_base.specs.declared.types.Elem.{Elem}
 use Rattle.isp_base.specs.declared.types.Rate.{Rate}
 use Rattle.isp_base.specs.declared.types.Rate.TheVariants.{Uniform, Varying}
-use Rattle.isp_base.specs.declared.types.Span.{Span}
 use Rattle.isp_code.specs.Listing.{Routine}
 use Rattle.isp_code.specs.Registers.{class_of, if_class, param_elems, same_class}
 use Rattle.isp_code.specs.declared.function.Param.{Param}
@@ -14,8 +13,8 @@ use Rattle.isp_code.specs.declared.instr.Instr.{Instr}
 use Rattle.isp_code.specs.declared.register.Class.TheVariants as class
 use Rattle.isp_lower.specs.Callees.{rates_in}
 use Rattle.isp_lower.specs.Code.{same_rate}
-use Rattle.isp_lower.specs.Emitted.{Appends, Begins, Grows, HasArray, HasLoaded, HasRow, first_rows, result_rows, row_at, row_where, rows_of, value_row, value_rows}
-use Rattle.isp_lower.specs.Layout.{class_at}
+use Rattle.isp_lower.specs.Emitted.{Begins, Grows, HasArray, HasRow, first_rows, result_rows, row_at, row_where, rows_of, texts_of, value_row, value_rows, HasLoaded}
+use Rattle.isp_lower.specs.Layout.{Layout, class_at}
 use Rattle.isp_lower.specs.Rows.{Row, Rows, layout_of}
 use Rattle.isp_lower.specs.Setting.{AreAt}
 use Rattle.isp_lower.specs.Asks.{All}
@@ -33,8 +32,9 @@ use Rattle.isp_lower.specs.Reserved.{Has}
 use Rattle.isp_lower.specs.declared.reserve.Reserve.{Reserve}
 use Rattle.isp_masks.specs.Lowered.{AddsLowered, IsLowered}
 use Rattle.isp_masks.specs.Asks.{block_asks}
-use Rattle.isp_masks.specs.Statements.{block_places, function_code}
-use Rattle.isp_masks.specs.Written.{numbers}
+use Rattle.isp_masks.specs.Spots.{next_of}
+use Rattle.isp_masks.specs.Statements.{block_places, block_texts, function_code}
+use Rattle.isp_masks.specs.Written.{Piece, Writes}
 
 -- ---- registers: those of the parameters come first
 
@@ -75,13 +75,13 @@ registers_are r ps vs more rows params types is all behind =
     ap types_of all ∙ map-append (λ (y : Row). y.elem) (value_rows r 0 vs) more ∙ ap (λ z. z ++ types_of more) w.1 ∙ append_assoc (param_elems (class_at r) (params_of ps vs)) w.0 (types_of more) ∙ ap (λ z. z ++ (w.0 ++ types_of more)) (sym same) in
     ap (λ z. front ++ z) behind ∙ refilled (types_of rows) front (w.0 ++ types_of more) long
 
--- ---- places
+-- ---- places and texts
 
-get_seam : (xs : List Span) (y : Span) (zs : List Span) → slice_get (xs ++ y ∷ zs) (length xs) ≡ Some y
+get_seam : {A : Type 0} (xs : List A) (y : A) (zs : List A) → slice_get (xs ++ y ∷ zs) (length xs) ≡ Some y
 get_seam [] y zs = refl
 get_seam (x ∷ xs) y zs = get_seam xs y zs
 
-pub at_seam : (xs ys zs : List Span) → AreAt (xs ++ (ys ++ zs)) (length xs) ys
+pub at_seam : {A : Type 0} (xs ys zs : List A) → AreAt (xs ++ (ys ++ zs)) (length xs) ys
 at_seam xs [] zs = tt
 at_seam xs (y ∷ ys) zs = (
   get_seam xs y (ys ++ zs),
@@ -91,16 +91,20 @@ at_seam xs (y ∷ ys) zs = (
 
 -- ---- a routine
 
+-- the code of a body, and what it gives back
+abbrev body_piece : Layout → TFunction → Piece
+body_piece l h = record { code = function_code l h.answer h.body; places = block_places l h.body; texts = block_texts h.body }
+
 pub lowered : (fs : List TFunction) (h : TFunction) (g : Routine) (z r : Registers) (a b : Body) → a.code.items ≡ [] → rows_of z ≡ first_rows h.variables h.answer → Grows z r
-    → Appends a b (λ pc p. function_code (layout_of (rates_in fs) (rows_of r)) h.answer h.body pc (numbers p)) (block_places (layout_of (rates_in fs) (rows_of r)) h.body)
+    → Writes a b (body_piece (layout_of (rates_in fs) (rows_of r)) h)
     → g.name ≡ h.name → g.exported ≡ h.exported → g.params ≡ params_of h.parameters h.variables → g.returns ≡ returns_of h.answer → g.locals ≡ locals_of h.variables
     → g.scalars ≡ drop (length (param_elems class.Scalar g.params)) (types_of (rows_of r).scalars)
     → g.vectors ≡ drop (length (param_elems class.Vector g.params)) (types_of (rows_of r).vectors)
-    → All (HasRow r) (HasArray r) (HasArray r) (λ k. k < g.masks) (HasLoaded r) (block_asks h.answer h.body 3) → 3 ≤ g.masks → g.code ≡ b.code.items → IsLowered fs h g b.places.items
+    → All (HasRow r) (HasArray r) (HasArray r) (λ k. k < g.masks) (HasLoaded r) (block_asks h.answer h.body 3) → 3 ≤ g.masks → g.code ≡ b.code.items → IsLowered fs h g b.places.items (texts_of b)
 lowered fs h g z r a b none first grows y name exported params returns locals scalars vectors present three code =
     let l = layout_of (rates_in fs) (rows_of r) in
     let rows = subst (λ (q : Rows). Begins q.scalars (rows_of r).scalars × Begins q.vectors (rows_of r).vectors × Begins q.arrays (rows_of r).arrays) first (grows.scalars, grows.vectors, grows.arrays) in
-    let part : List Instr → ℕ → List Instr = λ before p. before ++ function_code l h.answer h.body (length before) (numbers p) in
+    let part : List Instr → List Instr = λ before. before ++ function_code l h.answer h.body (length before) (next_of a) in
     record {
       name = name;
       exported = exported;
@@ -117,26 +121,29 @@ lowered fs h g z r a b none first grows y name exported params returns locals sc
           (rows.1.is ∙ append_assoc (value_rows Varying 0 h.variables) (result_rows Varying h.answer) rows.1.more) vectors;
       three = three;
       present = all_grow (HasRow r) (HasRow r) (HasArray r) AnyArray (HasArray r) AnyArray (λ k. k < g.masks) (λ k. k < g.masks) (HasLoaded r) (HasLoaded r) (λ q x t f. f) (λ v f. tt) (λ v f. tt) (λ k f. f) (λ v f. f) (block_asks h.answer h.body 3) present;
-      numbers = numbers (length a.places.items);
+      numbers = next_of a;
       low = let n = ap length y.places ∙ length-append a.places.items (block_places l h.body) in omega (arith, n);
-      code_is = code ∙ y.code ∙ ap (λ z. part z (length a.places.items)) none;
+      low_texts = let n = ap length y.texts ∙ length-append (texts_of a) (block_texts h.body) in omega (arith, n);
+      code_is = code ∙ y.code ∙ ap part none;
       places_are = subst (λ z. AreAt z (length a.places.items) (block_places l h.body)) (ap (λ z. a.places.items ++ z) (append-nil (block_places l h.body)) ∙ sym y.places) (at_seam a.places.items (block_places l h.body) []);
+      texts_are = subst (λ z. AreAt z (length (texts_of a)) (block_texts h.body)) (ap (λ z. texts_of a ++ z) (append-nil (block_texts h.body)) ∙ sym y.texts) (at_seam (texts_of a) (block_texts h.body) []);
     }
 
 -- the function at work, whose registers are reserved and whose body is written, is added
-pub adds : (h : TFunction) (old d : Draft) (z r : Reserve) (a b : Body) → d ≡ begun h old → a.code.items ≡ d.code → a.places.items ≡ d.places → rows_of z.registers ≡ d.rows → z.masks ≡ d.masks
+pub adds : (h : TFunction) (old d : Draft) (z r : Reserve) (a b : Body) → d ≡ begun h old → a.code.items ≡ d.code → a.places.items ≡ d.places → texts_of a ≡ d.texts → rows_of z.registers ≡ d.rows → z.masks ≡ d.masks
     → Grows z.registers r.registers → z.masks ≤ r.masks → Has r (block_asks h.answer h.body 3)
-    → Appends a b (λ pc p. function_code (layout_of (rates_in d.callees) (rows_of r.registers)) h.answer h.body pc (numbers p)) (block_places (layout_of (rates_in d.callees) (rows_of r.registers)) h.body)
-    → AddsLowered h old (record d { places = b.places.items; rows = rows_of r.registers; masks = r.masks; code = b.code.items })
-adds h old d z r a b is code places rows masks grows more has y =
+    → Writes a b (body_piece (layout_of (rates_in d.callees) (rows_of r.registers)) h)
+    → AddsLowered h old (record d { places = b.places.items; texts = texts_of b; rows = rows_of r.registers; masks = r.masks; code = b.code.items })
+adds h old d z r a b is code places texts rows masks grows more has y =
     let l = layout_of (rates_in d.callees) (rows_of r.registers) in
     let three : 3 ≤ r.masks = omega (arith, more, masks ∙ ap (λ (x : Draft). x.masks) is) in
     record {
       routine = routine_with (heading_of h) (rows_of r.registers) r.masks b.code.items;
       added = ap (λ (x : Draft). x.routines ++ routine_at_work x.heading (rows_of r.registers) r.masks b.code.items) is;
       places = record { more = block_places l h.body; is = y.places ∙ ap (λ ps. ps ++ block_places l h.body) (places ∙ ap (λ (x : Draft). x.places) is) };
+      texts = record { more = block_texts h.body; is = y.texts ∙ ap (λ ts. ts ++ block_texts h.body) (texts ∙ ap (λ (x : Draft). x.texts) is) };
       gang = ap (λ (x : Draft). x.gang) is;
       callees = ap (λ (x : Draft). x.callees) is;
-      lowered = subst (λ fs. IsLowered fs h (routine_with (heading_of h) (rows_of r.registers) r.masks b.code.items) b.places.items) (ap (λ (x : Draft). x.callees) is) (lowered d.callees h (routine_with (heading_of h) (rows_of r.registers) r.masks b.code.items) z.registers r.registers a b (code ∙ ap (λ (x : Draft). x.code) is)
+      lowered = subst (λ fs. IsLowered fs h (routine_with (heading_of h) (rows_of r.registers) r.masks b.code.items) b.places.items (texts_of b)) (ap (λ (x : Draft). x.callees) is) (lowered d.callees h (routine_with (heading_of h) (rows_of r.registers) r.masks b.code.items) z.registers r.registers a b (code ∙ ap (λ (x : Draft). x.code) is)
           (rows ∙ ap (λ (x : Draft). x.rows) is) grows y refl refl refl refl refl refl refl has three refl);
     }

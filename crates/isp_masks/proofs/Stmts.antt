@@ -34,6 +34,7 @@ use Rattle.isp_masks.proofs.LoopStmts.{body_runs, masks_of, while_runs, do_runs,
 use Rattle.isp_masks.proofs.Leaves.{jump_runs, return_ok, return_runs}
 use Rattle.isp_masks.proofs.Names.{named_back, named_front, named_past}
 use Rattle.isp_masks.proofs.Sequences.{set_aside, rest_runs, then_runs}
+use Rattle.isp_masks.proofs.Prints.{print_runs}
 use Rattle.isp_masks.proofs.Parts.{BlockParts, StmtParts, StmtsParts}
 
 module _ (w : Setting) (ready : IsSettled w) where
@@ -92,7 +93,8 @@ module _ (w : Setting) (ready : IsSettled w) where
     stmt_runs (t_return v None sp) pc z spot q a s c fit has names three b =
         return_ok w ready c c 0 pc spot (1 + q) a (tick s) (comes_none w c) b.at b.stands (spares_all w spot.slot c) (λ r lt. refl) b.mask has three (omega (arith, b.used))
     stmt_runs (t_return v (Some x) sp) pc z spot q a s c fit has names three b = return_runs w ready w.frame.answer x pc z.place spot q a s c fit has names.places_are three b
-    stmt_runs (t_print v text xs sp) pc z spot q a s c fit has names three b = absurd fit
+    stmt_runs (t_print v text xs sp) pc z spot q a s c fit has names three b =
+        print_runs w ready text xs pc z spot (0 + q) a s c fit.0 fit.1 has names.places_are names.texts_are three (enters_less w ready pc spot.on spot.slot (0 + q) q a s c (omega arith) b)
     stmt_runs (t_assert x y sp) pc z spot q a s c fit has names three b =
         let ce = expr_code w.layout x pc z.place spot.on spot.slot in
         let pl = expr_places w.layout x in

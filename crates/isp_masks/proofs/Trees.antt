@@ -1,10 +1,14 @@
 -- What the laws use of the tree of a statement alone.
 use Rattle.std.proofs.Common.{◌≡◌, ◌≤◌, List, [], ◌∷◌, length, Option, Some, None}
+use Rattle.std.specs.List.{count_by}
+use Rattle.std.specs.Prelude.{◌==◌}
+use Rattle.isp_base.specs.Prints.{percent}
 use Rattle.isp_base.specs.declared.types.Elem.TheVariants.{Bool as Truth, I32}
 use Rattle.isp_base.specs.declared.types.Rate.TheVariants.{Uniform}
 use Rattle.isp_base.specs.declared.types.Ty.{Ty}
-use Rattle.isp_typed.specs.Typed.{TExpr, type_of, TSimple, TFirst, t_first_declare, t_first_simple, TRange, TStmt, t_block, t_declare, t_simple, t_if, t_if_else, t_while, t_do, t_for, t_foreach, t_foreach_active, t_unmasked, t_jump, t_return, t_print, t_assert, TBlock, t_braces, TStmts, t_no_stmts, t_stmt_then, TFunction}
-use Rattle.isp_lower.proofs.Lemmas.{OperandTree, ExprTree, SimpleTree, ItemsTree}
+use Rattle.isp_typed.specs.Typed.{TExpr, t_exprs, type_of, TSimple, TFirst, t_first_declare, t_first_simple, TRange, TStmt, t_block, t_declare, t_simple, t_if, t_if_else, t_while, t_do, t_for, t_foreach, t_foreach_active, t_unmasked, t_jump, t_return, t_print, t_assert, TBlock, t_braces, TStmts, t_no_stmts, t_stmt_then, TFunction}
+use Rattle.isp_lower.proofs.Lemmas.{OperandTree, ExprTree, ValuesTree, SimpleTree, ItemsTree}
+use Rattle.isp_masks.specs.Prints.{own_rates}
 
 -- in a program of these functions
 module _ (fs : List TFunction) where
@@ -48,7 +52,7 @@ module _ (fs : List TFunction) where
       StmtTree (t_jump j k sp) = Unit {0}
       StmtTree (t_return k None sp) = Unit {0}
       StmtTree (t_return k (Some x) sp) = AnswerTree answer x
-      StmtTree (t_print k text xs sp) = ⊥
+      StmtTree (t_print k text xs sp) = (count_by (λ c. c == percent) text ≡ length xs) × ValuesTree fs (own_rates xs) (t_exprs xs)
       StmtTree (t_assert x c sp) = TestTree (Some x)
 
       pub BlockTree : TBlock → Type 0

@@ -12,7 +12,7 @@ use Rattle.isp_lower.specs.Layout.{Layout}
 use Rattle.isp_masks.specs.Rated.{BlockRated}
 use Rattle.isp_masks.specs.Asks.{block_asks}
 use Rattle.isp_masks.specs.Spots.{Numbers}
-use Rattle.isp_masks.specs.Statements.{block_places, returned, function_code}
+use Rattle.isp_masks.specs.Statements.{block_places, block_texts, returned, function_code}
 
 -- what it names begins at these numbers
 pub record IsBodyCode (code : Listing) (h : Routine) : Type 0 where
@@ -29,4 +29,5 @@ pub record IsBodyCode (code : Listing) (h : Routine) : Type 0 where
   pub present : Granted h layout (block_asks answer body 3)
   pub masks : 3 ≤ h.masks
   pub places : numbers.place + length (block_places layout body) ≤ length code.places
+  pub texts : numbers.text + length (block_texts body) ≤ length code.texts
   pub given : IsGiven h h.returns (returned layout answer)

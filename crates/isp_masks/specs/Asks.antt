@@ -5,9 +5,10 @@ use Rattle.isp_base.specs.declared.types.Elem.TheVariants.{Bool as Truth, I32, I
 use Rattle.isp_base.specs.declared.types.Rate.{Rate}
 use Rattle.isp_base.specs.declared.types.Rate.TheVariants.{Uniform, Varying}
 use Rattle.isp_base.specs.declared.types.Ty.{Ty}
-use Rattle.isp_typed.specs.Typed.{TExpr, type_of, TSimple, TFirst, t_first_declare, t_first_simple, TRange, TStmt, t_block, t_declare, t_simple, t_if, t_if_else, t_while, t_do, t_for, t_foreach, t_foreach_active, t_unmasked, t_jump, t_return, t_print, t_assert, TBlock, t_braces, TStmts, t_no_stmts, t_stmt_then}
-use Rattle.isp_lower.specs.Asks.{Ask, Nothing, Both, Register, MaskOf, Number, first_slot, expr_asks, operand_asks, simple_asks, spare_ask, items_asks, test_asks}
+use Rattle.isp_typed.specs.Typed.{TExpr, t_exprs, type_of, TSimple, TFirst, t_first_declare, t_first_simple, TRange, TStmt, t_block, t_declare, t_simple, t_if, t_if_else, t_while, t_do, t_for, t_foreach, t_foreach_active, t_unmasked, t_jump, t_return, t_print, t_assert, TBlock, t_braces, TStmts, t_no_stmts, t_stmt_then}
+use Rattle.isp_lower.specs.Asks.{Ask, Nothing, Both, Register, MaskOf, Number, first_slot, expr_asks, operand_asks, simple_asks, spare_ask, items_asks, test_asks, values_asks}
 use Rattle.isp_lower.specs.Rows.{Result, Variable}
+use Rattle.isp_masks.specs.Prints.{own_rates}
 use Rattle.isp_masks.specs.Ranges.{places_slot, runs_slot}
 
 -- a part behind a test
@@ -109,7 +110,7 @@ module _ (answer : Option Ty) where
     stmt_asks (t_jump j k sp) n = Nothing
     stmt_asks (t_return k None sp) n = Nothing
     stmt_asks (t_return k (Some x) sp) n = answer_asks answer x n
-    stmt_asks (t_print k text xs sp) n = Nothing
+    stmt_asks (t_print k text xs sp) n = values_asks (own_rates xs) (t_exprs xs) n
     stmt_asks (t_assert x c sp) n = assert_asks x n
 
     pub block_asks : TBlock → ℕ → Ask

@@ -3,7 +3,9 @@ use Rattle.std.specs.Prelude.{◌≡◌, ◌<◌, ℕ, List, [], ◌∷◌, ◌+
 use Rattle.isp_base.specs.declared.types.Span.{Span}
 use Rattle.isp_code.specs.declared.instr.Instr.{Instr}
 use Rattle.isp_lower.specs.Code.{jump_off}
+use Rattle.isp_lower.specs.Emitted.{texts_of}
 use Rattle.isp_lower.specs.declared.types.Body.{Body}
+use Rattle.isp_masks.specs.Spots.{Numbers, next_of}
 
 -- the instructions with these numbers are this one
 abbrev pub set_all : List Instr → List ℕ → Instr → List Instr
@@ -15,11 +17,16 @@ abbrev pub AreBelow : ℕ → List ℕ → Type 0
 AreBelow n [] = Unit {0}
 AreBelow n (j ∷ js) = (j < n) × AreBelow n js
 
--- With these jumps to instruction t, taken where mask k has nobody, code and places have grown by these.
-pub record Awaits (old new : Body) (jumps : List ℕ) (k : ℕ) (c : ℕ → ℕ → ℕ → List Instr) (s : List Span) : Type 0 where
+-- Code that is told where its jumps lead, the number of its first instruction and the numbers of what it names.
+abbrev pub Code : Type 0
+Code = ℕ → ℕ → Numbers → List Instr
+
+-- With these jumps to instruction t, taken where mask k has nobody, code, places and texts have grown by these.
+pub record Awaits (old new : Body) (jumps : List ℕ) (k : ℕ) (c : Code) (s : List Span) (u : List (List ℕ)) : Type 0 where
   pub low : AreBelow (length new.code.items) jumps
-  pub code : (t : ℕ) → set_all new.code.items jumps (jump_off k t) ≡ old.code.items ++ c t (length old.code.items) (length old.places.items)
+  pub code : (t : ℕ) → set_all new.code.items jumps (jump_off k t) ≡ old.code.items ++ c t (length old.code.items) (next_of old)
   pub places : new.places.items ≡ old.places.items ++ s
+  pub texts : texts_of new ≡ texts_of old ++ u
 
 -- a jump where some may have left
 abbrev pub jump_where : Bool → ℕ → ℕ → List Instr
@@ -29,4 +36,4 @@ jump_where false k t = []
 -- behind what was written before, room is kept for such a jump
 abbrev pub LeavesRoom : Body → Body → List ℕ → List ℕ → ℕ → Bool → Type 0
 LeavesRoom old new before jumps k left =
-    (first : Body) (c : ℕ → ℕ → ℕ → List Instr) (s : List Span) → Awaits first old before k c s → Awaits first new jumps k (λ t pc p. c t pc p ++ jump_where left k t) s
+    (first : Body) (c : Code) (s : List Span) (u : List (List ℕ)) → Awaits first old before k c s u → Awaits first new jumps k (λ t pc z. c t pc z ++ jump_where left k t) s u

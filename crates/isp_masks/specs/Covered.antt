@@ -1,9 +1,9 @@
 -- Which nodes of a program have code, and the first in the text that has none: a node comes before its parts. Left without
--- is `print`. One line for each kind of node; parts in the order of the text.
+-- is nothing. One line for each kind of node; parts in the order of the text.
 use Rattle.std.specs.Prelude.{List, [], ◌∷◌, Option, Some, None}
 use Rattle.std.specs.Option.{option_or}
 use Rattle.isp_base.specs.declared.types.Span.{Span}
-use Rattle.isp_typed.specs.Typed.{TExpr, t_constant, t_program_index, t_place, t_convert, t_cast, t_unary, t_binary, t_compare, t_logic, t_choose, t_call, t_library, t_packed_store, t_packed_load, TPlace, t_variable, t_element, TBase, t_whole, t_from, TArgument, t_by_value, t_by_name, TCall, t_called, TArguments, t_no_arguments, t_argument_then, TExprs, t_no_exprs, t_expr_then, TItem, t_plain, t_with_value, t_with_size, TSimple, t_value, t_run, t_assign, t_update, t_step, TFirst, t_first_declare, t_first_simple, TRange}
+use Rattle.isp_typed.specs.Typed.{TExpr, t_constant, t_program_index, t_place, t_convert, t_cast, t_unary, t_binary, t_compare, t_logic, t_choose, t_call, t_library, t_packed_store, t_packed_load, TPlace, t_variable, t_element, TBase, t_whole, t_from, TArgument, t_by_value, t_by_name, TCall, t_called, TArguments, t_no_arguments, t_argument_then, TExprs, t_no_exprs, t_expr_then, t_exprs, TItem, t_plain, t_with_value, t_with_size, TSimple, t_value, t_run, t_assign, t_update, t_step, TFirst, t_first_declare, t_first_simple, TRange}
 use Rattle.isp_typed.specs.Typed.{TStmt, t_block, t_declare, t_simple, t_if, t_if_else, t_while, t_do, t_for, t_foreach, t_foreach_active, t_unmasked, t_jump, t_return, t_print, t_assert, TBlock, t_braces, TStmts, t_no_stmts, t_stmt_then, TFunction, Program}
 
 -- ---- expressions
@@ -105,7 +105,7 @@ abbrev mutual
   stmt_left (t_unmasked k b s) = block_left b
   stmt_left (t_jump j k s) = None
   stmt_left (t_return k x s) = given_left x
-  stmt_left (t_print k t xs s) = Some s
+  stmt_left (t_print k t xs s) = values_left (t_exprs xs)
   stmt_left (t_assert x c s) = expr_left x
 
   -- None where the whole block has code

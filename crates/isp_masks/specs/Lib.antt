@@ -6,6 +6,8 @@ pub mod Fors
 pub mod Loops
 pub mod Rounds
 pub mod Asserts
+pub mod Prints
+pub mod Printed
 pub mod Ranges
 pub mod Statements
 pub mod Named

@@ -17,7 +17,7 @@ use Rattle.isp_lower.specs.Sound.{HasMask}
 use Rattle.isp_lower.specs.Tables.{AnyArray}
 use Rattle.isp_masks.specs.Asks.{block_asks}
 use Rattle.isp_masks.specs.Spots.{Numbers}
-use Rattle.isp_masks.specs.Statements.{block_places, function_code}
+use Rattle.isp_masks.specs.Statements.{block_places, block_texts, function_code}
 
 -- ---- a routine and a function
 
@@ -30,7 +30,7 @@ abbrev pub BodyIsOwn : TFunction → Type 0
 BodyIsOwn h = IsOwn h.variables h.answer (block_asks h.answer h.body 3)
 
 -- in a program of some functions
-pub record IsLowered (fs : List TFunction) (h : TFunction) (g : Routine) (places : List Span) : Type 0 where
+pub record IsLowered (fs : List TFunction) (h : TFunction) (g : Routine) (places : List Span) (texts : List (List ℕ)) : Type 0 where
   pub name : g.name ≡ h.name
   pub exported : g.exported ≡ h.exported
   pub params : g.params ≡ params_of h.parameters h.variables
@@ -49,12 +49,14 @@ pub record IsLowered (fs : List TFunction) (h : TFunction) (g : Routine) (places
   -- the code, by the layout of the rows; what it names begins at these numbers
   pub numbers : Numbers
   pub low : numbers.place ≤ length places
+  pub low_texts : numbers.text ≤ length texts
   pub code_is : g.code ≡ function_code (layout_of (rates_in fs) rows) h.answer h.body 0 numbers
   pub places_are : AreAt places numbers.place (block_places (layout_of (rates_in fs) rows) h.body)
+  pub texts_are : AreAt texts numbers.text (block_texts h.body)
 
--- places are added at the end
-pub record GrowsTo (old new : List Span) : Type 0 where
-  pub more : List Span
+-- more is added at the end
+pub record GrowsTo {A : Type 0} (old new : List A) : Type 0 where
+  pub more : List A
   pub is : new ≡ old ++ more
 
 -- a function's routine is added, as the last one
@@ -62,21 +64,22 @@ pub record AddsLowered (h : TFunction) (old new : Draft) : Type 0 where
   pub routine : Routine
   pub added : all_routines new ≡ all_routines old ++ routine ∷ []
   pub places : GrowsTo old.places new.places
+  pub texts : GrowsTo old.texts new.texts
   pub gang : new.gang ≡ old.gang
   pub callees : new.callees ≡ old.callees
-  pub lowered : IsLowered old.callees h routine new.places
+  pub lowered : IsLowered old.callees h routine new.places new.texts
 
 -- ---- a program
 
 -- each function has its routine, in their order
-abbrev pub AreLowered : List TFunction → List TFunction → List Routine → List Span → Type 0
-AreLowered fs [] [] places = Unit {0}
-AreLowered fs [] (g ∷ gs) places = ⊥
-AreLowered fs (h ∷ hs) [] places = ⊥
-AreLowered fs (h ∷ hs) (g ∷ gs) places = IsLowered fs h g places × AreLowered fs hs gs places
+abbrev pub AreLowered : List TFunction → List TFunction → List Routine → List Span → List (List ℕ) → Type 0
+AreLowered fs [] [] places texts = Unit {0}
+AreLowered fs [] (g ∷ gs) places texts = ⊥
+AreLowered fs (h ∷ hs) [] places texts = ⊥
+AreLowered fs (h ∷ hs) (g ∷ gs) places texts = IsLowered fs h g places texts × AreLowered fs hs gs places texts
 
 -- the code of each function, in order
 pub record HasCode (program : Program) (code : Listing) : Type 0 where
   pub gang : code.gang ≡ program.gang
   pub count : length code.routines ≡ length program.functions
-  pub each : (f : ℕ) (h : TFunction) (g : Routine) → slice_get program.functions f ≡ Some h → slice_get code.routines f ≡ Some g → IsLowered program.functions h g code.places
+  pub each : (f : ℕ) (h : TFunction) (g : Routine) → slice_get program.functions f ≡ Some h → slice_get code.routines f ≡ Some g → IsLowered program.functions h g code.places code.texts

@@ -38,6 +38,7 @@ pub record IsMade (fs : List TFunction) (code : Listing) (h : TFunction) (g : Ro
   pub masks : 3 ≤ g.masks
   pub code_is : g.code ≡ function_code (layout_of (rates_in fs) rows) h.answer h.body 0 z
   pub low : z.place ≤ length code.places
+  pub low_texts : z.text ≤ length code.texts
   pub names : AreNamed code z (block_places (layout_of (rates_in fs) rows) h.body) (block_texts h.body)
 
 -- what is exported gives one value for the gang

@@ -1,5 +1,4 @@
--- What rates promise of a body that has code, beside what names and types promise. `print` has no code
--- yet.
+-- What rates promise of a body that has code, beside what names and types promise.
 use Rattle.std.specs.Prelude.{◌≤◌, List, [], ◌∷◌, length, Option, Some, None}
 use Rattle.isp_base.specs.declared.types.Rate.TheVariants.{Uniform}
 use Rattle.isp_base.specs.declared.types.Ty.{Ty}
@@ -12,6 +11,11 @@ module _ (fs : List TFunction) where
   abbrev pub AnswerRated : Option Ty → TExpr → Type 0
   AnswerRated None x = IsRated fs x
   AnswerRated (Some t) x = RatedAt fs t.rate x
+
+  -- the values of a `print`
+  abbrev pub AllRated : List TExpr → Type 0
+  AllRated [] = Unit {0}
+  AllRated (x ∷ xs) = IsRated fs x × AllRated xs
 
   -- the bounds of a `foreach` are one value for the gang
   abbrev pub RangesRated : List TRange → Type 0
@@ -49,7 +53,7 @@ module _ (fs : List TFunction) where
       StmtRated (t_jump j k sp) = Unit {0}
       StmtRated (t_return k None sp) = Unit {0}
       StmtRated (t_return k (Some x) sp) = AnswerRated answer x
-      StmtRated (t_print k text xs sp) = ⊥
+      StmtRated (t_print k text xs sp) = AllRated xs
       StmtRated (t_assert x c sp) = IsRated fs x
 
       pub BlockRated : TBlock → Type 0

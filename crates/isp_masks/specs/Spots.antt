@@ -1,6 +1,8 @@
 -- Where the code of a statement works, and the numbers of what it names: of both it is told what is free.
 use Rattle.std.specs.Prelude.{ℕ, ◌+◌, List, length}
 use Rattle.isp_base.specs.declared.types.Span.{Span}
+use Rattle.isp_lower.specs.Emitted.{texts_of}
+use Rattle.isp_lower.specs.declared.types.Body.{Body}
 use Rattle.isp_masks.specs.declared.masks.Spot as declared
 
 -- ---- three masks and the first free slot
@@ -34,6 +36,10 @@ first_spot = record { on = 0; continued = 1; returned = 2; slot = 3 }
 pub record Numbers : Type 0 where
   pub place : ℕ
   pub text : ℕ
+
+-- those of what a body would name next
+abbrev pub next_of : Body → Numbers
+next_of b = record { place = length b.places.items; text = length (texts_of b) }
 
 -- behind some places
 abbrev pub past : List Span → Numbers → Numbers

@@ -18,6 +18,7 @@ use Rattle.isp_masks.specs.Asserts.{assert_code, assert_places}
 use Rattle.isp_masks.specs.Exits.{exits_of, nobody_leaves, all_go_on}
 use Rattle.isp_masks.specs.Fors.{first_code, step_code, first_places, test_places, step_places}
 use Rattle.isp_masks.specs.Loops.{turn_code, step_back_code, while_code, for_code, endless_code, do_code}
+use Rattle.isp_masks.specs.Prints.{print_code, print_places, print_texts}
 use Rattle.isp_masks.specs.Ranges.{foreach_code, ranges_places, runs_slot}
 use Rattle.isp_masks.specs.Rounds.{unmasked_code, active_code}
 use Rattle.isp_masks.specs.Sets.{unite, leave_code, jump_code}
@@ -68,7 +69,7 @@ abbrev mutual
   stmt_texts (t_unmasked w b sp) = block_texts b
   stmt_texts (t_jump j w sp) = []
   stmt_texts (t_return w x sp) = []
-  stmt_texts (t_print w text xs sp) = []
+  stmt_texts (t_print w text xs sp) = print_texts text
   stmt_texts (t_assert x c sp) = []
 
   pub block_texts : TBlock → List (List ℕ)
@@ -107,7 +108,7 @@ module _ (l : Layout) where
     stmt_places (t_jump j w sp) = []
     stmt_places (t_return w None sp) = []
     stmt_places (t_return w (Some x) sp) = expr_places l x
-    stmt_places (t_print w text xs sp) = []
+    stmt_places (t_print w text xs sp) = print_places l xs
     stmt_places (t_assert x c sp) = assert_places l x c
 
     pub block_places : TBlock → List Span
@@ -159,7 +160,7 @@ module _ (l : Layout) (answer : Option Ty) where
     stmt_code (t_return w None sp) pc z spot = leave_code spot.returned spot.on
     stmt_code (t_return w (Some x) sp) pc z spot =
         answer_code l answer x pc z.place spot.on spot.slot ++ leave_code spot.returned spot.on
-    stmt_code (t_print w text xs sp) pc z spot = []
+    stmt_code (t_print w text xs sp) pc z spot = print_code l text xs pc z.place z.text spot.on spot.slot
     stmt_code (t_assert x c sp) pc z spot = assert_code l x pc z.place spot.on spot.slot
 
     pub block_code : TBlock → ℕ → Numbers → Spot → List Instr

@@ -1,22 +1,24 @@
 -- What each writer of statements appends, told what it is given: where registers lie, the trees, the masks of a statement and
 -- its first slot, a loop, a test.
-use Rattle.std.specs.Prelude.{ℕ, ◌+◌, List, [], ◌∷◌, ◌++◌, map, Option, Bool}
+use Rattle.std.specs.Prelude.{◌≡◌, ℕ, ◌+◌, List, [], ◌∷◌, ◌++◌, Option, Bool, map}
 use Rattle.isp_base.specs.declared.types.Rate.{Rate}
 use Rattle.isp_base.specs.declared.operators.Compare.TheVariants.{Less}
 use Rattle.isp_base.specs.declared.types.Elem.TheVariants.{Bool as Truth, I32, I64}
 use Rattle.isp_base.specs.declared.types.Rate.TheVariants.{Uniform, Varying}
 use Rattle.isp_base.specs.declared.types.Span.{Span}
 use Rattle.isp_code.specs.declared.instr.Instr.{Instr}
+use Rattle.isp_code.specs.declared.instr.Instr.TheVariants as instr
+use Rattle.isp_typed.specs.Typed.{TExpr, type_of, TSimple, TFirst, TStmt, TBlock, TRange}
+use Rattle.isp_lower.specs.Code.{expr_code, expr_places, found, guard, jump_off, two, compare, compute, convert, copy, splat}
+use Rattle.isp_lower.specs.Emitted.{layout, texts_of}
+use Rattle.isp_lower.specs.declared.types.Body.{Body}
+use Rattle.isp_lower.specs.declared.types.Scope.{Scope}
+use Rattle.isp_lower.specs.Written.{Piece as Silent}
 use Rattle.isp_code.specs.declared.instr.Plain.TheVariants as plain
-use Rattle.isp_typed.specs.Typed.{TExpr, type_of, TSimple, TFirst, TRange, TStmt, TBlock}
 use Rattle.isp_lower.specs.Asks.{Ask, Both, Register, Number, spare_ask}
-use Rattle.isp_lower.specs.Code.{compare, compute, convert, copy, expr_code, expr_places, found, guard, jump_off, splat, two}
-use Rattle.isp_lower.specs.Emitted.{Appends, layout}
 use Rattle.isp_lower.specs.Layout.{Layout}
 use Rattle.isp_lower.specs.Rows.{Variable}
 use Rattle.isp_lower.specs.declared.numbered.Slot.{Slot}
-use Rattle.isp_lower.specs.declared.types.Body.{Body}
-use Rattle.isp_lower.specs.declared.types.Scope.{Scope}
 use Rattle.isp_masks.specs.Asks.{bounds_asks, loop_asks, measures_asks, places_asks}
 use Rattle.isp_masks.specs.Asserts.{assert_code, assert_places}
 use Rattle.isp_masks.specs.Exits.{exits_of, nobody_leaves}
@@ -24,49 +26,49 @@ use Rattle.isp_masks.specs.Fors.{first_code, first_places, step_code, step_place
 use Rattle.isp_masks.specs.Loops.{again_code, back_code, do_code, live_code, sift_code, step_back_code, turn_code, while_code}
 use Rattle.isp_masks.specs.Ranges.{foreach_code, last_index, narrow, outer_index, places_slot, range_mask, ranges_code, ranges_places, runs_slot, sweep_code, test, wide}
 use Rattle.isp_masks.specs.Rounds.{active_code, unmasked_code}
-use Rattle.isp_masks.specs.Spots.{Numbers, Spot as Where, body_spot, past, spot_of}
-use Rattle.isp_masks.specs.Statements.{answer_code, behind, block_code, block_places, body_code, function_code, if_code, if_else_code, stepped_code, stmt_code, stmt_places, turns_code}
+use Rattle.isp_masks.specs.Spots.{Numbers, Spot as Where, body_spot, next_of, past, spot_of}
+use Rattle.isp_masks.specs.Statements.{answer_code, behind, block_code, block_places, block_texts, body_code, function_code, if_code, if_else_code, stepped_code, stmt_code, stmt_places, stmt_texts, turns_code}
 use Rattle.isp_masks.specs.declared.looping.Loop.{Loop}
 use Rattle.isp_masks.specs.declared.looping.Test.{Test}
 use Rattle.isp_masks.specs.declared.masks.Spot.{Spot}
 use Rattle.isp_masks.specs.declared.ranges.OuterIndex.{OuterIndex}
 use Rattle.isp_masks.specs.declared.ranges.Sweep.{Sweep}
 
--- Code that is told the number of its first instruction and the numbers of what it names, and the places that it names.
+-- Code that is told the number of its first instruction and the numbers of what it names next, and the places and texts that it
+-- names. What names no text is a piece of isp_lower, and `Adds` it.
 pub record Piece : Type 0 where
   pub code : ℕ → Numbers → List Instr
   pub places : List Span
+  pub texts : List (List ℕ)
 
--- No text is numbered while a body is written, since no code names one yet.
-abbrev pub numbers : ℕ → Numbers
-numbers p = record { place = p; text = 0 }
-
-abbrev pub Writes : Body → Body → Piece → Type 0
-Writes old new x = Appends old new (λ pc p. x.code pc (numbers p)) x.places
+pub record Writes (old new : Body) (x : Piece) : Type 0 where
+  pub code : new.code.items ≡ old.code.items ++ x.code (length old.code.items) (next_of old)
+  pub places : new.places.items ≡ old.places.items ++ x.places
+  pub texts : texts_of new ≡ texts_of old ++ x.texts
 
 -- ---- statements
 
 abbrev pub stmt_at : Scope → TStmt → Spot → Piece
 stmt_at on x spot =
-    record { code = λ pc z. stmt_code (layout on) on.answer x pc z (spot_of spot); places = stmt_places (layout on) x }
+    record { code = λ pc z. stmt_code (layout on) on.answer x pc z (spot_of spot); places = stmt_places (layout on) x; texts = stmt_texts x }
 
 abbrev pub block_at : Scope → TBlock → Spot → Piece
 block_at on b spot =
-    record { code = λ pc z. block_code (layout on) on.answer b pc z (spot_of spot); places = block_places (layout on) b }
+    record { code = λ pc z. block_code (layout on) on.answer b pc z (spot_of spot); places = block_places (layout on) b; texts = block_texts b }
 
 -- a function's body, and what it gives back
 abbrev pub function_at : Scope → TBlock → Piece
-function_at on b = record { code = function_code (layout on) on.answer b; places = block_places (layout on) b }
+function_at on b = record { code = function_code (layout on) on.answer b; places = block_places (layout on) b; texts = block_texts b }
 
 -- a value where results are, under mask k, in the slots from n on
-abbrev pub answer_at : Scope → TExpr → ℕ → ℕ → Piece
+abbrev pub answer_at : Scope → TExpr → ℕ → ℕ → Silent
 answer_at on x k n =
-    record { code = λ pc z. answer_code (layout on) on.answer x pc z.place k n; places = expr_places (layout on) x }
+    record { code = λ pc p. answer_code (layout on) on.answer x pc p k n; places = expr_places (layout on) x }
 
 -- an `assert` under mask k, in the slots from n on
-abbrev pub assert_at : Scope → TExpr → Span → ℕ → ℕ → Piece
+abbrev pub assert_at : Scope → TExpr → Span → ℕ → ℕ → Silent
 assert_at on x c k n =
-    record { code = λ pc z. assert_code (layout on) x pc z.place k n; places = assert_places (layout on) x c }
+    record { code = λ pc p. assert_code (layout on) x pc p k n; places = assert_places (layout on) x c }
 
 -- ---- choices: a part gets its spot; those that leave it are added to the masks of the whole
 
@@ -76,118 +78,118 @@ part_code on x z pc part = stmt_code (layout on) on.answer x pc z part
 -- a part under mask k in the slots from n on, jumped over where the mask has nobody
 abbrev pub guarded_at : Scope → TStmt → Spot → ℕ → ℕ → Piece
 guarded_at on x spot k n =
-    record { code = λ pc z. guard (jump_off k) pc (λ pc1. part_code on x z pc1 (record (spot_of spot) { on = k; slot = n })); places = stmt_places (layout on) x }
+    record { code = λ pc z. guard (jump_off k) pc (λ pc1. part_code on x z pc1 (record (spot_of spot) { on = k; slot = n })); places = stmt_places (layout on) x; texts = stmt_texts x }
 
 -- one part behind a test in register c, two of them, and with the test
 abbrev pub part_at : Scope → Rate → ℕ → TStmt → Spot → Piece
 part_at on r c x spot =
-    record { code = λ pc z. if_code r c pc (spot_of spot) (part_code on x z); places = stmt_places (layout on) x }
+    record { code = λ pc z. if_code r c pc (spot_of spot) (part_code on x z); places = stmt_places (layout on) x; texts = stmt_texts x }
 
 abbrev pub parts_at : Scope → Rate → ℕ → TStmt → TStmt → Spot → Piece
 parts_at on r c x y spot =
     let l = layout on in
-    record { code = λ pc z. if_else_code r c pc (spot_of spot) (part_code on x z) (part_code on y (past (stmt_places l x) z)); places = stmt_places l x ++ stmt_places l y }
+    record { code = λ pc z. if_else_code r c pc (spot_of spot) (part_code on x z) (part_code on y (behind l x z)); places = stmt_places l x ++ stmt_places l y; texts = stmt_texts x ++ stmt_texts y }
 
 abbrev pub if_at : Scope → TExpr → TStmt → Spot → Piece
 if_at on e x spot =
     let l = layout on in
     let part = part_at on (type_of e).rate (found l e spot.slot.number) x spot in
-    record { code = λ pc z. two pc (expr_code l e pc z.place spot.masks.on.number spot.slot.number) (λ pc1. part.code pc1 (past (expr_places l e) z)); places = expr_places l e ++ part.places }
+    record { code = λ pc z. two pc (expr_code l e pc z.place spot.masks.on.number spot.slot.number) (λ pc1. part.code pc1 (past (expr_places l e) z)); places = expr_places l e ++ part.places; texts = part.texts }
 
 abbrev pub if_else_at : Scope → TExpr → TStmt → TStmt → Spot → Piece
 if_else_at on e x y spot =
     let l = layout on in
     let parts = parts_at on (type_of e).rate (found l e spot.slot.number) x y spot in
-    record { code = λ pc z. two pc (expr_code l e pc z.place spot.masks.on.number spot.slot.number) (λ pc1. parts.code pc1 (past (expr_places l e) z)); places = expr_places l e ++ parts.places }
+    record { code = λ pc z. two pc (expr_code l e pc z.place spot.masks.on.number spot.slot.number) (λ pc1. parts.code pc1 (past (expr_places l e) z)); places = expr_places l e ++ parts.places; texts = parts.texts }
 
 -- ---- loops
 
 -- a turn; in a `while` behind its test, with the jump back
 abbrev pub turn_at : Scope → TStmt → Loop → Piece
 turn_at on x it =
-    record { code = λ pc z. turn_code it.exits pc it.slot.number (body_code (layout on) on.answer x it.slot.number z); places = stmt_places (layout on) x }
+    record { code = λ pc z. turn_code it.exits pc it.slot.number (body_code (layout on) on.answer x it.slot.number z); places = stmt_places (layout on) x; texts = stmt_texts x }
 
 abbrev pub while_turn_at : Scope → Test → TStmt → Loop → Piece
 while_turn_at on test x it =
     let turn = turn_at on x it in
-    record { code = λ pc z. sift_code test.rate test.register.number pc it.slot.number (λ pc1. two pc1 (turn.code pc1 z) (λ pc2. back_code (nobody_leaves it.exits) it.slot.number it.top ∷ [])); places = turn.places }
+    record { code = λ pc z. sift_code test.rate test.register.number pc it.slot.number (λ pc1. two pc1 (turn.code pc1 z) (λ pc2. back_code (nobody_leaves it.exits) it.slot.number it.top ∷ [])); places = turn.places; texts = turn.texts }
 
 abbrev pub while_at : Scope → TExpr → TStmt → Spot → Piece
 while_at on e x spot =
     let l = layout on in
     let n = spot.slot.number in
-    record { code = λ pc z. while_code (exits_of x) (type_of e).rate (found l e (n + 3)) pc (spot_of spot) (λ pc1. expr_code l e pc1 z.place n (n + 3)) (body_code l on.answer x n (past (expr_places l e) z)); places = expr_places l e ++ stmt_places l x }
+    record { code = λ pc z. while_code (exits_of x) (type_of e).rate (found l e (n + 3)) pc (spot_of spot) (λ pc1. expr_code l e pc1 z.place n (n + 3)) (body_code l on.answer x n (past (expr_places l e) z)); places = expr_places l e ++ stmt_places l x; texts = stmt_texts x }
 
 abbrev pub do_at : Scope → TStmt → TExpr → Spot → Piece
 do_at on x e spot =
     let l = layout on in
     let n = spot.slot.number in
-    record { code = λ pc z. do_code (exits_of x) (type_of e).rate (found l e (n + 3)) pc (spot_of spot) (λ pc1. expr_code l e pc1 (behind l x z).place n (n + 3)) (body_code l on.answer x n z); places = stmt_places l x ++ expr_places l e }
+    record { code = λ pc z. do_code (exits_of x) (type_of e).rate (found l e (n + 3)) pc (spot_of spot) (λ pc1. expr_code l e pc1 (behind l x z).place n (n + 3)) (body_code l on.answer x n z); places = stmt_places l x ++ expr_places l e; texts = stmt_texts x }
 
 -- the test of a `do` and the jump back; and for those that are live alone
-abbrev pub again_at : Scope → TExpr → Loop → Piece
+abbrev pub again_at : Scope → TExpr → Loop → Silent
 again_at on e it =
     let l = layout on in
     let n = it.slot.number in
-    record { code = λ pc z. expr_code l e pc z.place n (n + 3) ++ again_code (type_of e).rate (found l e (n + 3)) n it.top; places = expr_places l e }
+    record { code = λ pc p. expr_code l e pc p n (n + 3) ++ again_code (type_of e).rate (found l e (n + 3)) n it.top; places = expr_places l e }
 
-abbrev pub live_again_at : Scope → Bool → TExpr → Loop → Piece
+abbrev pub live_again_at : Scope → Bool → TExpr → Loop → Silent
 live_again_at on alone e it =
     let again = again_at on e it in
-    record { code = λ pc z. live_code alone it.slot.number pc (λ pc1. again.code pc1 z); places = again.places }
+    record { code = λ pc p. live_code alone it.slot.number pc (λ pc1. again.code pc1 p); places = again.places }
 
 -- ---- bodies that run over sets of their own
 
 abbrev pub unmasked_at : Scope → TBlock → Spot → Piece
 unmasked_at on b spot =
     let l = layout on in
-    record { code = λ pc z. unmasked_code spot.slot.number pc (λ pc1. block_code l on.answer b pc1 z (body_spot spot.slot.number)); places = block_places l b }
+    record { code = λ pc z. unmasked_code spot.slot.number pc (λ pc1. block_code l on.answer b pc1 z (body_spot spot.slot.number)); places = block_places l b; texts = block_texts b }
 
 abbrev pub active_at : Scope → ℕ → TStmt → Spot → Piece
 active_at on i x spot =
     let l = layout on in
     let n = spot.slot.number in
-    record { code = λ pc z. active_code (l.variable Uniform i) pc spot.masks.on.number n (λ pc1. stmt_code l on.answer x pc1 z (body_spot (n + 1))); places = stmt_places l x }
+    record { code = λ pc z. active_code (l.variable Uniform i) pc spot.masks.on.number n (λ pc1. stmt_code l on.answer x pc1 z (body_spot (n + 1))); places = stmt_places l x; texts = stmt_texts x }
 
 -- ---- `for`
 
-abbrev pub first_at : Scope → Option TFirst → ℕ → ℕ → Piece
+abbrev pub first_at : Scope → Option TFirst → ℕ → ℕ → Silent
 first_at on x k n =
-    record { code = λ pc z. first_code (layout on) x pc z.place k n; places = first_places (layout on) x }
+    record { code = λ pc p. first_code (layout on) x pc p k n; places = first_places (layout on) x }
 
-abbrev pub step_at : Scope → Option TSimple → ℕ → Piece
+abbrev pub step_at : Scope → Option TSimple → ℕ → Silent
 step_at on x n =
-    record { code = λ pc z. step_code (layout on) x pc z.place n (n + 3); places = step_places (layout on) x }
+    record { code = λ pc p. step_code (layout on) x pc p n (n + 3); places = step_places (layout on) x }
 
 -- the step and the jump back
-abbrev pub step_back_at : Scope → Bool → Option TSimple → Loop → Piece
+abbrev pub step_back_at : Scope → Bool → Option TSimple → Loop → Silent
 step_back_at on alone x it =
     let step = step_at on x it.slot.number in
-    record { code = λ pc z. step_back_code alone it.slot.number it.top pc (λ pc1. step.code pc1 z); places = step.places }
+    record { code = λ pc p. step_back_code alone it.slot.number it.top pc (λ pc1. step.code pc1 p); places = step.places }
 
 -- a turn, its step and the jump back; behind a test; and with the test
 abbrev pub stepped_at : Scope → Option TSimple → TStmt → Loop → Piece
 stepped_at on step x it =
     let l = layout on in
-    record { code = stepped_code l on.answer step x it.exits it.slot.number it.top; places = stmt_places l x ++ step_places l step }
+    record { code = stepped_code l on.answer step x it.exits it.slot.number it.top; places = stmt_places l x ++ step_places l step; texts = stmt_texts x }
 
 abbrev pub passed_at : Scope → Test → Option TSimple → TStmt → Loop → Piece
 passed_at on test step x it =
     let turn = stepped_at on step x it in
-    record { code = λ pc z. sift_code test.rate test.register.number pc it.slot.number (λ pc1. turn.code pc1 z); places = turn.places }
+    record { code = λ pc z. sift_code test.rate test.register.number pc it.slot.number (λ pc1. turn.code pc1 z); places = turn.places; texts = turn.texts }
 
 abbrev pub for_turn_at : Scope → TExpr → Option TSimple → TStmt → Loop → Piece
 for_turn_at on e step x it =
     let l = layout on in
     let n = it.slot.number in
     let turn = stepped_at on step x it in
-    record { code = λ pc z. two pc (expr_code l e pc z.place n (n + 3)) (λ pc1. sift_code (type_of e).rate (found l e (n + 3)) pc1 n (λ pc2. turn.code pc2 (past (expr_places l e) z))); places = expr_places l e ++ turn.places }
+    record { code = λ pc z. two pc (expr_code l e pc z.place n (n + 3)) (λ pc1. sift_code (type_of e).rate (found l e (n + 3)) pc1 n (λ pc2. turn.code pc2 (past (expr_places l e) z))); places = expr_places l e ++ turn.places; texts = turn.texts }
 
 -- behind its first part
 abbrev pub turns_at : Scope → Option TExpr → Option TSimple → TStmt → Spot → Piece
 turns_at on e step x spot =
     let l = layout on in
-    record { code = λ pc z. turns_code l on.answer e step x pc z (spot_of spot); places = test_places l e ++ (stmt_places l x ++ step_places l step) }
+    record { code = λ pc z. turns_code l on.answer e step x pc z (spot_of spot); places = test_places l e ++ (stmt_places l x ++ step_places l step); texts = stmt_texts x }
 
 -- ---- `foreach`
 
@@ -240,7 +242,7 @@ abbrev pub last_run_at : Scope → ℕ → TStmt → List OuterIndex → Sweep �
 last_run_at on i x set it =
     let l = layout on in
     let h = it.masks.number in
-    record { code = λ pc z. two pc (index_codes h set ++ last_index l i it.place.number it.measures.number h) (body_code l on.answer x h z); places = stmt_places l x }
+    record { code = λ pc z. two pc (index_codes h set ++ last_index l i it.place.number it.measures.number h) (body_code l on.answer x h z); places = stmt_places l x; texts = stmt_texts x }
 
 abbrev pub last_range_at : Scope → ℕ → TStmt → List OuterIndex → Sweep → Piece
 last_range_at on i x set it =
@@ -249,14 +251,14 @@ last_range_at on i x set it =
     let e = it.bounds.number in
     let m = it.place.number in
     let run = last_run_at on i x set it in
-    record { code = λ pc z. sweep_code l e m it.measures.number (run_test l it) (jump_off h) pc (λ pc1. run.code pc1 z); places = run.places }
+    record { code = λ pc z. sweep_code l e m it.measures.number (run_test l it) (jump_off h) pc (λ pc1. run.code pc1 z); places = run.places; texts = stmt_texts x }
 
 -- the ranges from one on; behind the beginning of a turn of the first of them; and the whole
 abbrev pub ranges_at : Scope → List TRange → TStmt → List OuterIndex → Sweep → Piece
 ranges_at on rs x set it =
     let l = layout on in
     let h = it.masks.number in
-    record { code = λ pc z. ranges_code l it.measures.number h (body_code l on.answer x h z) rs (index_codes h set) it.bounds.number it.place.number pc; places = stmt_places l x }
+    record { code = λ pc z. ranges_code l it.measures.number h (body_code l on.answer x h z) rs (index_codes h set) it.bounds.number it.place.number pc; places = stmt_places l x; texts = stmt_texts x }
 
 abbrev pub outer_turn_code : Layout → ℕ → ℕ → (ℕ → List Instr) → List TRange → List Instr → ℕ → ℕ → ℕ → List Instr
 outer_turn_code l n h body [] set e m pc = []
@@ -267,10 +269,10 @@ abbrev pub outer_turn_at : Scope → List TRange → TStmt → List OuterIndex �
 outer_turn_at on rs x set it =
     let l = layout on in
     let h = it.masks.number in
-    record { code = λ pc z. outer_turn_code l it.measures.number h (body_code l on.answer x h z) rs (index_codes h set) it.bounds.number it.place.number pc; places = stmt_places l x }
+    record { code = λ pc z. outer_turn_code l it.measures.number h (body_code l on.answer x h z) rs (index_codes h set) it.bounds.number it.place.number pc; places = stmt_places l x; texts = stmt_texts x }
 
 abbrev pub foreach_at : Scope → List TRange → TStmt → Spot → Piece
 foreach_at on rs x spot =
     let l = layout on in
     let n = spot.slot.number in
-    record { code = λ pc z. foreach_code l rs pc z.place spot.masks.on.number n (body_code l on.answer x (runs_slot n rs) (past (ranges_places l rs) z)); places = ranges_places l rs ++ stmt_places l x }
+    record { code = λ pc z. foreach_code l rs pc z.place spot.masks.on.number n (body_code l on.answer x (runs_slot n rs) (past (ranges_places l rs) z)); places = ranges_places l rs ++ stmt_places l x; texts = stmt_texts x }

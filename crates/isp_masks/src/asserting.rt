@@ -3,9 +3,10 @@ ghost use Rattle.std.specs.Prelude.{◌≡◌, [], OnOk};
 ghost use Rattle.isp_base.specs.declared.types.Rate.TheVariants.{Uniform, Varying};
 ghost use Rattle.isp_typed.specs.Views.{expr_of};
 ghost use Rattle.isp_lower.specs.Emitted.{Appends, Present};
+ghost use Rattle.isp_lower.specs.Written.{Writes as Adds};
 ghost use Rattle.isp_masks.specs.Asks.{assert_asks};
 ghost use Rattle.isp_masks.specs.Asserts.{fail, fails_code};
-ghost use Rattle.isp_masks.specs.Written.{Writes, assert_at};
+ghost use Rattle.isp_masks.specs.Written.{assert_at};
 
 use crate::looping::Test;
 use isp_base::{Rate, Span};
@@ -75,7 +76,7 @@ pub(crate) fn asserts(
     site: Site,
 ) -> Result<(), AllocError>
     requires { Present on.now (assert_asks (expr_of test.now) site.slot.number) }
-    ensures { OnOk result (Writes b.old b.new (assert_at on.now (expr_of test.now) call site.mask.number site.slot.number)) }
+    ensures { OnOk result (Adds b.old b.new (assert_at on.now (expr_of test.now) call site.mask.number site.slot.number)) }
 {
     let tested = expr(b, on, test, site)?;
     let given = Test {

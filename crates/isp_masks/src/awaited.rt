@@ -28,6 +28,7 @@ pub(crate) fn land_all(b: &mut Body, jumps: &[usize], k: MaskNumber)
     requires { AreBelow (length b.old.code.items) jumps.now }
     ensures code { b.new.code.items ≡ set_all b.old.code.items jumps.now (jump_off k.number (length b.old.code.items)) }
     ensures places { b.new.places ≡ b.old.places }
+    ensures texts { b.new.texts ≡ b.old.texts }
 {
     for at in jumps {
         b.land(*at, JumpTest::Off, mask(k));

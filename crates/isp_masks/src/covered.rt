@@ -214,7 +214,7 @@ fn stmt(s: &TypedStmt) -> Option<Span>
             ..
         } => ranges(all).or(stmt(body)),
         TypedStmt::Assert { test, .. } => expr(test),
-        TypedStmt::Print { span, .. } => Some(*span),
+        TypedStmt::Print { values: all, .. } => values(all),
     }
 }
 

@@ -10,6 +10,7 @@ mod listing;
 mod looping;
 mod lowering;
 mod masks;
+mod printing;
 mod ranges;
 mod ranges_reserved;
 mod reserved;

@@ -12,12 +12,12 @@ use isp_lower::Emitter;
 use isp_typed::{Program, TypedFunction};
 use std::alloc::{AllocError, Global};
 
-/// Writes the routines of functions, in their order, and the places in the source that they name.
+/// Writes the routines of functions, in their order, and the places in the source and the texts that they name.
 fn routines(e: &mut Emitter, functions: &[TypedFunction]) -> Result<(), AllocError>
     requires none { all_routines (draft_of e.old) ≡ [] }
     requires fine { All IsFineFunction (functions_of functions.now) }
     ensures gang { OnOk result ((draft_of e.new).gang ≡ (draft_of e.old).gang) }
-    ensures lowered { OnOk result (AreLowered (draft_of e.old).callees (functions_of functions.now) (all_routines (draft_of e.new)) (draft_of e.new).places) }
+    ensures lowered { OnOk result (AreLowered (draft_of e.old).callees (functions_of functions.now) (all_routines (draft_of e.new)) (draft_of e.new).places (draft_of e.new).texts) }
 {
     for f in functions.iter() {
         function(e, f)?;
@@ -25,7 +25,7 @@ fn routines(e: &mut Emitter, functions: &[TypedFunction]) -> Result<(), AllocErr
     Ok(())
 }
 
-/// The code of a program: a routine for each function, in their order, and the places in the source that they name.
+/// The code of a program: a routine for each function, in their order, and the places in the source and the texts that they name.
 /// Memory is refused too of what has no code yet.
 pub(crate) fn program(alloc: Global, program: &Program) -> Result<Code, AllocError>
     requires { IsFine (program_of program.now) }

@@ -148,6 +148,7 @@ pub(crate) fn land_sift(b: &mut Body, at: usize, test: Test, slot: Slot)
     requires { at < length b.old.code.items }
     ensures code { b.new.code.items ≡ slice_set b.old.code.items at (sift_jump test.rate test.register.number slot.number (length b.old.code.items)) }
     ensures places { b.new.places ≡ b.old.places }
+    ensures texts { b.new.texts ≡ b.old.texts }
 {
     match test.rate {
         Rate::Uniform => b.land(at, JumpTest::False, scalar(test.register)),

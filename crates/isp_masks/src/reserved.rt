@@ -1,11 +1,12 @@
 //! The registers and masks that the code of statements asks for, before it is written.
 ghost use Rattle.std.specs.Prelude.{◌≡◌, ◌+◌, option_map, OnOk, IfOk};
 ghost use Rattle.isp_base.specs.declared.types.Rate.TheVariants.{Varying};
-ghost use Rattle.isp_typed.specs.Views.{block_of, expr_of, first_of, ranges_of, simple_of, stmt_of};
-ghost use Rattle.isp_lower.specs.Asks.{Both, Register as Ask, expr_asks, first_slot, operand_asks};
+ghost use Rattle.isp_typed.specs.Typed.{t_exprs};
+ghost use Rattle.isp_typed.specs.Views.{block_of, expr_of, exprs_of, first_of, simple_of, stmt_of, ranges_of};
+ghost use Rattle.isp_lower.specs.Asks.{Both, expr_asks, first_slot, values_asks};
 ghost use Rattle.isp_lower.specs.Reserved.{Gives};
-ghost use Rattle.isp_lower.specs.Rows.{Result as ResultName};
-ghost use Rattle.isp_masks.specs.Asks.{answer_asks, assert_asks, block_asks, first_asks, if_asks, loop_asks, part_asks, ranges_asks, result_asks, step_asks, stmt_asks, test_part_asks, turn_asks, turns_asks};
+ghost use Rattle.isp_masks.specs.Asks.{answer_asks, assert_asks, block_asks, first_asks, if_asks, loop_asks, part_asks, step_asks, stmt_asks, test_part_asks, turn_asks, turns_asks, ranges_asks};
+ghost use Rattle.isp_masks.specs.Prints.{own_rates};
 ghost use Rattle.isp_masks.specs.Ranges.{runs_slot};
 
 use crate::ranges_reserved::{bounds, measures, places};
@@ -14,7 +15,7 @@ use isp_lower::{Reserve, Slot};
 use isp_typed::{TypedBlock, TypedExpr, TypedFirst, TypedRange, TypedSimple, TypedStmt};
 use std::alloc::AllocError;
 
-/// What the code of a statement asks for, in the slots from one on; nothing is asked for what has no code yet.
+/// What the code of a statement asks for, in the slots from one on.
 #[cycle(stmt)]
 fn stmt(r: &mut Reserve, x: &TypedStmt, answer: Option<Ty>, slot: Slot) -> Result<(), AllocError>
     ensures { OnOk result (Gives r.old r.new (stmt_asks answer (stmt_of x.now) slot.number)) }
@@ -49,8 +50,9 @@ fn stmt(r: &mut Reserve, x: &TypedStmt, answer: Option<Ty>, slot: Slot) -> Resul
         TypedStmt::ForeachActive { index, body, .. } => active_loop(r, *index, body, answer, slot),
         TypedStmt::Unmasked { body, .. } => unmasked(r, body, answer, slot),
         TypedStmt::Foreach { ranges, body, .. } => range_loop(r, ranges, body, answer, slot),
+        TypedStmt::Print { values, .. } => printed(r, values, slot),
         TypedStmt::Assert { test, .. } => asserted(r, test, slot),
-        TypedStmt::Jump { .. } | TypedStmt::Print { .. } => Ok(()),
+        TypedStmt::Jump { .. } => Ok(()),
     }
 }
 
@@ -91,6 +93,19 @@ fn asserted(r: &mut Reserve, test: &TypedExpr, slot: Slot) -> Result<(), AllocEr
 {
     r.expr(test, slot)?;
     r.test(test.ty().rate, slot)?;
+    Ok(())
+}
+
+/// The values of a `print`, each in a slot of its own.
+fn printed(r: &mut Reserve, all: &[TypedExpr], slot: Slot) -> Result<(), AllocError>
+    ensures { OnOk result (Gives r.old r.new (values_asks (own_rates (exprs_of all.now)) (t_exprs (exprs_of all.now)) slot.number)) }
+{
+    let mut at = slot;
+    for x in all {
+        let next = r.next(at)?;
+        r.operand(x.ty().rate, x, at)?;
+        at = next;
+    }
     Ok(())
 }
 

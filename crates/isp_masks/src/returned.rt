@@ -4,6 +4,7 @@ ghost use Rattle.isp_typed.specs.Typed.{t_return};
 ghost use Rattle.isp_typed.specs.Views.{expr_of};
 ghost use Rattle.isp_lower.specs.Emitted.{Present};
 ghost use Rattle.isp_masks.specs.Asks.{answer_asks, stmt_asks};
+ghost use Rattle.isp_lower.specs.Written.{Writes as Adds};
 ghost use Rattle.isp_masks.specs.Written.{Writes, answer_at, stmt_at};
 
 use crate::masks::Spot;
@@ -16,7 +17,7 @@ use std::alloc::AllocError;
 /// A value where results are.
 fn answered(b: &mut Body, on: &Scope, x: &TypedExpr, site: Site) -> Result<(), AllocError>
     requires { Present on.now (answer_asks on.now.answer (expr_of x.now) site.slot.number) }
-    ensures { OnOk result (Writes b.old b.new (answer_at on.now (expr_of x.now) site.mask.number site.slot.number)) }
+    ensures { OnOk result (Adds b.old b.new (answer_at on.now (expr_of x.now) site.mask.number site.slot.number)) }
 {
     match on.answer {
         None => {

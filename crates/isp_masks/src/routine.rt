@@ -64,8 +64,8 @@ fn reserve(asked: &mut Reserve, f: &TypedFunction) -> Result<(), AllocError>
     reserved::block(asked, &f.body, f.result, Slot { number: 3 })
 }
 
-/// Adds the routine of a function, which is at work afterwards, and the places in the source that its code names. Memory is
-/// refused too of what has no code yet.
+/// Adds the routine of a function, which is at work afterwards, and the places in the source and the texts that its code
+/// names. Memory is refused too of what has no code yet.
 pub(crate) fn function(e: &mut Emitter, f: &TypedFunction) -> Result<(), AllocError>
     requires { IsFineFunction (function_of f.now) }
     ensures { OnOk result (AddsLowered (function_of f.now) (draft_of e.old) (draft_of e.new)) }

@@ -20,6 +20,7 @@ use crate::looping::{
     next, sift,
 };
 use crate::masks::{Masks, Spot};
+use crate::printing::prints;
 use crate::ranges::{
     OuterIndex, Sweep, begin, bounds, go_on, index, last_index, measures, outer_indices,
     outer_value, test_place, test_run, tested,
@@ -34,7 +35,7 @@ use isp_lower::{Body, RegisterNumber, Scope, Site, declared, expr, mask, scalar,
 use isp_typed::{TypedBlock, TypedExpr, TypedRange, TypedSimple, TypedStmt};
 use std::alloc::AllocError;
 
-/// The code of a statement. Memory is refused too of what nothing writes yet: `print`.
+/// The code of a statement.
 #[cycle(stmt)]
 pub(crate) fn stmt(b: &mut Body, on: &Scope, x: &TypedStmt, spot: Spot) -> Result<(), AllocError>
     requires { Present on.now (stmt_asks on.now.answer (stmt_of x.now) spot.slot.number) }
@@ -42,8 +43,14 @@ pub(crate) fn stmt(b: &mut Body, on: &Scope, x: &TypedStmt, spot: Spot) -> Resul
 {
     match x {
         TypedStmt::Block(body) => block(b, on, body, spot),
-        TypedStmt::Declare { items, .. } => declared(b, on, items, spot.site()),
-        TypedStmt::Simple { simple: x, .. } => simple(b, on, x, spot.site()),
+        TypedStmt::Declare { items, .. } => {
+            declared(b, on, items, spot.site())?;
+            Ok(())
+        }
+        TypedStmt::Simple { simple: x, .. } => {
+            simple(b, on, x, spot.site())?;
+            Ok(())
+        }
         TypedStmt::If { test, then, .. } => if_alone(b, on, test, then, spot),
         TypedStmt::IfElse {
             test,
@@ -51,7 +58,10 @@ pub(crate) fn stmt(b: &mut Body, on: &Scope, x: &TypedStmt, spot: Spot) -> Resul
             otherwise,
             ..
         } => if_else(b, on, test, then, otherwise, spot),
-        TypedStmt::Jump { jump: j, .. } => jump(b, *j, spot.masks),
+        TypedStmt::Jump { jump: j, .. } => {
+            jump(b, *j, spot.masks)?;
+            Ok(())
+        }
         TypedStmt::Return {
             keyword,
             value,
@@ -76,8 +86,14 @@ pub(crate) fn stmt(b: &mut Body, on: &Scope, x: &TypedStmt, spot: Spot) -> Resul
             test,
             call_span,
             ..
-        } => asserts(b, on, test, *call_span, spot.site()),
-        TypedStmt::Print { .. } => Err(AllocError),
+        } => {
+            asserts(b, on, test, *call_span, spot.site())?;
+            Ok(())
+        }
+        TypedStmt::Print { text, values, .. } => {
+            prints(b, on, text.as_slice(), values, spot.site())?;
+            Ok(())
+        }
     }
 }
 

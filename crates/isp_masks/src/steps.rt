@@ -3,9 +3,10 @@ ghost use Rattle.std.specs.Prelude.{◌<◌, ◌+◌, option_map, true, false, O
 ghost use Rattle.isp_typed.specs.Views.{expr_of, first_of, simple_of};
 ghost use Rattle.isp_lower.specs.Asks.{expr_asks};
 ghost use Rattle.isp_lower.specs.Emitted.{Present};
+ghost use Rattle.isp_lower.specs.Written.{Writes as Adds};
 ghost use Rattle.isp_masks.specs.Asks.{first_asks, step_asks};
 ghost use Rattle.isp_masks.specs.Exits.{nobody_leaves};
-ghost use Rattle.isp_masks.specs.Written.{Writes, again_at, first_at, live_again_at, step_at, step_back_at};
+ghost use Rattle.isp_masks.specs.Written.{again_at, first_at, live_again_at, step_at, step_back_at};
 
 use crate::looping::{Loop, Test, again, inside};
 use isp_code::{Instr, JumpTest};
@@ -21,7 +22,7 @@ pub(crate) fn first_part(
     site: Site,
 ) -> Result<(), AllocError>
     requires { Present on.now (first_asks (option_map first_of first.now) site.slot.number) }
-    ensures { OnOk result (Writes b.old b.new (first_at on.now (option_map first_of first.now) site.mask.number site.slot.number)) }
+    ensures { OnOk result (Adds b.old b.new (first_at on.now (option_map first_of first.now) site.mask.number site.slot.number)) }
 {
     match first {
         None => Ok(()),
@@ -39,7 +40,7 @@ pub(crate) fn live_again(
 ) -> Result<(), AllocError>
     requires slots { it.slot.number + 3 < 4294967296 }
     requires test { Present on.now (expr_asks (expr_of test.now) (it.slot.number + 3)) }
-    ensures { OnOk result (Writes b.old b.new (live_again_at on.now (nobody_leaves it.exits) (expr_of test.now) it)) }
+    ensures { OnOk result (Adds b.old b.new (live_again_at on.now (nobody_leaves it.exits) (expr_of test.now) it)) }
 {
     if it.exits.is_none() {
         tested_again(b, on, test, it)
@@ -52,7 +53,7 @@ pub(crate) fn live_again(
 fn some_again(b: &mut Body, on: &Scope, test: &TypedExpr, it: Loop) -> Result<(), AllocError>
     requires slots { it.slot.number + 3 < 4294967296 }
     requires test { Present on.now (expr_asks (expr_of test.now) (it.slot.number + 3)) }
-    ensures { OnOk result (Writes b.old b.new (live_again_at on.now false (expr_of test.now) it)) }
+    ensures { OnOk result (Adds b.old b.new (live_again_at on.now false (expr_of test.now) it)) }
 {
     let at = b.code.len();
     b.push(Instr::JumpIf(JumpTest::Off, mask(it.slot.mask()), 0))?;
@@ -64,7 +65,7 @@ fn some_again(b: &mut Body, on: &Scope, test: &TypedExpr, it: Loop) -> Result<()
 fn tested_again(b: &mut Body, on: &Scope, test: &TypedExpr, it: Loop) -> Result<(), AllocError>
     requires slots { it.slot.number + 3 < 4294967296 }
     requires test { Present on.now (expr_asks (expr_of test.now) (it.slot.number + 3)) }
-    ensures { OnOk result (Writes b.old b.new (again_at on.now (expr_of test.now) it)) }
+    ensures { OnOk result (Adds b.old b.new (again_at on.now (expr_of test.now) it)) }
 {
     let tested = expr(b, on, test, inside(it.slot))?;
     let given = Test {
@@ -84,7 +85,7 @@ pub(crate) fn step_back(
 ) -> Result<(), AllocError>
     requires slots { it.slot.number + 3 < 4294967296 }
     requires step { Present on.now (step_asks (option_map simple_of step.now) (it.slot.number + 3)) }
-    ensures { OnOk result (Writes b.old b.new (step_back_at on.now (nobody_leaves it.exits) (option_map simple_of step.now) it)) }
+    ensures { OnOk result (Adds b.old b.new (step_back_at on.now (nobody_leaves it.exits) (option_map simple_of step.now) it)) }
 {
     if it.exits.is_none() {
         stepped(b, on, step, it)
@@ -102,7 +103,7 @@ fn some_stepped(
 ) -> Result<(), AllocError>
     requires slots { it.slot.number + 3 < 4294967296 }
     requires step { Present on.now (step_asks (option_map simple_of step.now) (it.slot.number + 3)) }
-    ensures { OnOk result (Writes b.old b.new (step_back_at on.now false (option_map simple_of step.now) it)) }
+    ensures { OnOk result (Adds b.old b.new (step_back_at on.now false (option_map simple_of step.now) it)) }
 {
     let at = b.code.len();
     b.push(Instr::JumpIf(JumpTest::Off, mask(it.slot.mask()), 0))?;
@@ -114,7 +115,7 @@ fn some_stepped(
 fn stepped(b: &mut Body, on: &Scope, step: &Option<TypedSimple>, it: Loop) -> Result<(), AllocError>
     requires slots { it.slot.number + 3 < 4294967296 }
     requires step { Present on.now (step_asks (option_map simple_of step.now) (it.slot.number + 3)) }
-    ensures { OnOk result (Writes b.old b.new (step_back_at on.now true (option_map simple_of step.now) it)) }
+    ensures { OnOk result (Adds b.old b.new (step_back_at on.now true (option_map simple_of step.now) it)) }
 {
     step_part(b, on, step, it.slot)?;
     b.push(Instr::Jump(it.top))?;
@@ -130,7 +131,7 @@ fn step_part(
 ) -> Result<(), AllocError>
     requires slots { slot.number + 3 < 4294967296 }
     requires step { Present on.now (step_asks (option_map simple_of step.now) (slot.number + 3)) }
-    ensures { OnOk result (Writes b.old b.new (step_at on.now (option_map simple_of step.now) slot.number)) }
+    ensures { OnOk result (Adds b.old b.new (step_at on.now (option_map simple_of step.now) slot.number)) }
 {
     match step {
         None => Ok(()),

@@ -463,10 +463,6 @@ fn refused_sources(rt: HostRuntime) -> Result<(), Fail> {
             "isp: 32 NestedForeach at 40..47\n",
         ),
         ("export int f() { }", "isp: 33 BadExport at 11..12\n"),
-        (
-            "export void f() { print(\"\"); }",
-            "isp: 90 NotYet at 18..28\n",
-        ),
     ] {
         refuse(&rt, alloc, source, line)?;
     }

@@ -1,4 +1,4 @@
-//! Programs of the whole language: what is compiled today, and where 90 stands for what is not.
+//! Programs of the whole language: each that is accepted is compiled.
 use isp_base::Gang;
 use isp_engine::{compile, front};
 use std::alloc::Global;
@@ -14,33 +14,6 @@ fn refused(rt: &impl Abort, alloc: Global, text: &str, line: &str) -> Result<(),
     Ok(())
 }
 
-// The refusal of each text: the first node that is not compiled yet, an outer node before its parts.
-#[test]
-fn first_node_not_yet(rt: HostRuntime) -> Result<(), Fail> {
-    for (text, line) in [
-        (
-            "void f() { print(\"%\", 1 / 0 == 1); }",
-            "90 NotYet at 11..34",
-        ),
-        (
-            "export void f() { g(); } void g() { f(); print(\"\"); } void h() { f(); }",
-            "90 NotYet at 41..51",
-        ),
-        (
-            "export void f() { int x; print(\"%\", abs(x)); }",
-            "90 NotYet at 25..44",
-        ),
-        (
-            "export void f() { print(\"%\", any(true)); }",
-            "90 NotYet at 18..40",
-        ),
-    ] {
-        refused(&rt, rt.alloc(), text, line)?;
-    }
-    Ok(())
-}
-
-// Programs of which all is compiled.
 #[test]
 fn compiled(rt: HostRuntime) -> Result<(), Fail> {
     let alloc = rt.alloc();
@@ -49,6 +22,8 @@ fn compiled(rt: HostRuntime) -> Result<(), Fail> {
         "export void f() { int x; }",
         "export void f() { return; foreach_active (i) f(); }",
         "export void f() { unmasked { f(); } }",
+        "void f() { print(\"%\", 1 / 0 == 1); assert(1 / 0 == 1); }",
+        "export void f() { int x; print(\"%%\", abs(x), any(true)); assert(any(true)); }",
         "export void f() { { { foreach (i = 0 ... 4) f(); } } }",
         "export void f() { foreach_tiled (j = 0 ... 2, i = 0 ... 4) ; }",
         "export void f() { int x = 1, y = 2; }",
@@ -87,6 +62,9 @@ fn compiled(rt: HostRuntime) -> Result<(), Fail> {
         "export void f(uniform int a[]) { for (;; packed_store_active(a, 1)) packed_store_active(a, 2); }",
         "export void f(uniform int a[]) { return; foreach_active (i) packed_store_active(a, 1); }",
         "export void f(uniform int a[]) { unmasked { packed_store_active(a, 1); } }",
+        "export void f(uniform int a[]) { print(\"%\", packed_store_active(a, 1)); }",
+        "export void f(uniform int a[]) { assert(packed_store_active(a, 1) == 1); }",
+        "export void f() { g(); } void g() { f(); print(\"\"); } void h() { f(); }",
         "export void f() { } void g() { while (true) ; } void h() { }",
         "export void f() { f(); }",
         "export uniform int f(uniform int n) { if (n < 2) return 1; return n * f(n - 1); }",
@@ -96,7 +74,7 @@ fn compiled(rt: HostRuntime) -> Result<(), Fail> {
     Ok(())
 }
 
-// 90 comes after all other refusals, wherever they stand.
+// What is refused, wherever it stands.
 #[test]
 fn after_all_other_refusals(rt: HostRuntime) -> Result<(), Fail> {
     for (text, line) in [
@@ -118,16 +96,16 @@ fn after_all_other_refusals(rt: HostRuntime) -> Result<(), Fail> {
         ),
         ("void f() { f(1); }", "23 Arguments at 11..15"),
         (
-            "export void f() { print(\"\"); const int c = 1; c = 2; }",
-            "24 ConstAssigned at 46..47",
+            "export void f(uniform int a[]) { packed_store_active(a, 1); const int c = 1; c = 2; }",
+            "24 ConstAssigned at 77..78",
         ),
         (
-            "export void f() { print(\"\"); print(\"%\"); }",
-            "25 BadPrint at 35..38",
+            "export void f(uniform int a[]) { packed_store_active(a, 1); print(\"%\"); }",
+            "25 BadPrint at 66..69",
         ),
         (
-            "export void f() { assert(true); uniform int u = programIndex; }",
-            "30 VaryingToUniform at 48..60",
+            "export void f(uniform int a[]) { packed_store_active(a, 1); uniform int u = programIndex; }",
+            "30 VaryingToUniform at 76..88",
         ),
         (
             "export void f() { while (true) ; } export void g() { break; }",

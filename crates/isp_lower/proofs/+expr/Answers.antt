@@ -29,7 +29,7 @@ expression::right_side-returns t c =
     let to = c.args.target in
     landed c.args.b.now c.push.new.self c.copied.new.b c.land.new.self c.len-at.result _ (λ at. instr.JumpIf c.args.skip.test c.args.skip.register at)
     (λ pc p. variable_from l false to.ty.rate to.to.number x pc p to.site.mask.number to.site.slot.number) (expr_places l x)
-    (c.len-at.ensures ∙ c.args.b.now.code.ok.0) c.in_ok-push.ensures c.in_ok-copied.ensures c.land.ensures.code c.land.ensures.places
+    (c.len-at.ensures ∙ c.args.b.now.code.ok.0) c.in_ok-push.ensures c.in_ok-copied.ensures c.land.ensures.code c.land.ensures.places c.land.ensures.texts
 
 pub expression::masked_side-returns-clause-code : goal.expression::masked_side-returns-clause-code
 expression::masked_side-returns-clause-code t c =
@@ -38,7 +38,7 @@ expression::masked_side-returns-clause-code t c =
     let k = c.args.site.mask.number in
     landed c.args.b.now c.push.new.self c.operand.new.b c.land.new.self c.len-at.result _ (jump_off k)
     (λ pc p. operand_of l c.args.rate x k c.args.site.slot.number (expr_code l x pc p k c.args.site.slot.number)) (expr_places l x)
-    (c.len-at.ensures ∙ c.args.b.now.code.ok.0) c.in_ok-push.ensures c.in_ok-from.ensures.code (cc) c.land.ensures.places
+    (c.len-at.ensures ∙ c.args.b.now.code.ok.0) c.in_ok-push.ensures c.in_ok-from.ensures.code (cc) c.land.ensures.places c.land.ensures.texts
 
 pub expression::choose_by_jump-returns : goal.expression::choose_by_jump-returns
 expression::choose_by_jump-returns t c =
@@ -49,7 +49,7 @@ expression::choose_by_jump-returns t c =
     chosen c.args.b.now c.push.new.self c.side.new.b c.push-2.new.self c.land.new.self c.side-2.new.b c.land_always.new.self c.len-at.result c.len-over.result _ _ (jump_on jump.False c.args.tested.number)
     (side_at c.args.on.now to.ty x to.site).code (side_at c.args.on.now to.ty y to.site).code (expr_places l x) (expr_places l y)
     (c.len-at.ensures ∙ c.args.b.now.code.ok.0) c.in_ok-push.ensures c.in_ok-side.ensures (c.len-over.ensures ∙ c.side.new.b.code.ok.0) c.in_ok-push-2.ensures
-    (cc) c.land.ensures.places c.in_ok-side-2.ensures c.land_always.ensures.code c.land_always.ensures.places
+    (cc) c.land.ensures.places c.land.ensures.texts c.in_ok-side-2.ensures c.land_always.ensures.code c.land_always.ensures.places c.land_always.ensures.texts
 
 pub expression::choose_to-choose_short-requires : goal.expression::choose_to-choose_short-requires
 expression::choose_to-choose_short-requires t c =

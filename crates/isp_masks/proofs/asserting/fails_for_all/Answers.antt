@@ -9,4 +9,4 @@ pub returns : goal.returns
 returns c =
     let a = c.args in
     landed a.b.now c.push.new.self c.push-2.new.self c.land.new.self c.len-at.result _ (jump_on jump.True a.tested.number) (λ pc p. fail a.site.mask.number a.place.number ∷ []) []
-    (c.len-at.ensures ∙ a.b.now.code.ok.0) c.in_ok-push.ensures (rw c.fail.ensures at c.in_ok-push-2.ensures) (cc) c.land.ensures.places
+    (c.len-at.ensures ∙ a.b.now.code.ok.0) c.in_ok-push.ensures (rw c.fail.ensures at c.in_ok-push-2.ensures) (cc) c.land.ensures.places c.land.ensures.texts

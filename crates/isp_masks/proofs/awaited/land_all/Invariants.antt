@@ -8,3 +8,4 @@ invariant-loop-at l =
     (set_all l.b.code.items (drop l.at-index l.jumps) (jump_off l.k.number (length l.initial.b.code.items)) ≡ set_all l.initial.b.code.items l.jumps (jump_off l.k.number (length l.initial.b.code.items)))
     × (length l.b.code.items ≡ length l.initial.b.code.items)
     × (l.b.places ≡ l.initial.b.places)
+    × (l.b.texts ≡ l.initial.b.texts)

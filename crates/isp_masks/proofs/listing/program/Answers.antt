@@ -20,8 +20,9 @@ returns c =
     let d = draft_of c.routines.new.e in
     IfOk-weaker c.finish.result (λ code. code ≡ finished d) (λ code. HasCode p code)
     (λ code is.
-    has_code p code (all_routines d) d.places
-    (subst (λ fs. AreLowered fs p.functions (all_routines d) d.places) (ap (λ (z : Draft). z.callees) c.new-e.ensures) (subst (λ fs. AreLowered (draft_of c.new-e.result).callees (functions_of fs) (all_routines d) d.places) c.deref.ensures.value c.in_ok-routines.ensures.lowered))
+    has_code p code (all_routines d) d.places d.texts
+    (subst (λ fs. AreLowered fs p.functions (all_routines d) d.places d.texts) (ap (λ (z : Draft). z.callees) c.new-e.ensures) (subst (λ fs. AreLowered (draft_of c.new-e.result).callees (functions_of fs) (all_routines d) d.places d.texts) c.deref.ensures.value c.in_ok-routines.ensures.lowered))
     (ap (λ (z : Listing). z.gang) is ∙ (c.in_ok-routines.ensures.gang ∙ ap (λ (z : Draft). z.gang) c.new-e.ensures))
     (ap (λ (z : Listing). z.routines) is)
-    (ap (λ (z : Listing). z.places) is)) c.finish.ensures
+    (ap (λ (z : Listing). z.places) is)
+    (ap (λ (z : Listing). z.texts) is)) c.finish.ensures

@@ -5,7 +5,7 @@ use Rattle.isp_masks.proofs.Listings.{fine_at, routine_more}
 use Rattle.isp_masks.proofs.listing.routines.Goals as goal
 
 pub loop-f-init : goal.loop-f-init
-loop-f-init c = (subst (λ gs. AreLowered (draft_of c.args.e.now).callees [] gs (draft_of c.args.e.now).places) (sym c.requires.none) tt, refl, refl)
+loop-f-init c = (subst (λ gs. AreLowered (draft_of c.args.e.now).callees [] gs (draft_of c.args.e.now).places (draft_of c.args.e.now).texts) (sym c.requires.none) tt, refl, refl)
 
 pub loop-f-preserved : goal.loop-f-preserved
 loop-f-preserved c =

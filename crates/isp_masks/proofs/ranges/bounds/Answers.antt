@@ -1,4 +1,4 @@
-use Rattle.std.proofs.Common.{◌≡◌, ◌+◌, ◌++◌, ◌∙◌, length, drop, ap, sym, subst, append-nil}
+use Rattle.std.proofs.Common.{◌≡◌, ◌+◌, ◌++◌, ◌∙◌, length, drop, ap, refl, sym, subst, append-nil}
 use Rattle.isp_typed.specs.Views.{expr_of, ranges_of}
 use Rattle.isp_lower.specs.Code.{expr_places}
 use Rattle.isp_lower.specs.Emitted.{Appends, Present, layout}
@@ -39,4 +39,4 @@ returns c =
     let b = c.loop-x.b in
     c.loop-x.invariant.0 b
     (subst (λ zs. Appends b b (λ pc p. bounds_code l zs pc p c.args.site.mask.number c.loop-x.at.number) (ranges_places l zs)) (sym (ranges_end c.args.all.now c.loop-x.x-index c.loop-x-test.false))
-    (record { code = sym (append-nil b.code.items); places = sym (append-nil b.places.items) }))
+    (record { code = sym (append-nil b.code.items); places = sym (append-nil b.places.items); texts = refl }))

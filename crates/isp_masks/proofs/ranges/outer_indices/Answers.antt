@@ -1,4 +1,4 @@
-use Rattle.std.proofs.Common.{[], ◌∷◌, sym, subst, append-nil}
+use Rattle.std.proofs.Common.{[], ◌∷◌, refl, sym, subst, append-nil}
 use Rattle.std.proofs.lemmas.List.{drop_all}
 use Rattle.isp_code.specs.declared.instr.Instr.{Instr}
 use Rattle.isp_lower.specs.Emitted.{Appends}
@@ -16,4 +16,4 @@ returns c =
     let b = c.loop-x.b in
     c.loop-x.invariant b
     (subst (λ zs. Appends b b (λ pc p. index_codes c.args.k.number zs) []) (sym (drop_all c.loop-x.x-index c.args.set.now c.loop-x-test.false))
-    (record { code = sym (append-nil b.code.items); places = sym (append-nil b.places.items) }))
+    (record { code = sym (append-nil b.code.items); places = sym (append-nil b.places.items); texts = refl }))

@@ -9,7 +9,7 @@ pub returns : goal.returns
 returns c =
     let e = c.begin.new.self in
     let asked = c.in_ok-reserve.ensures in
-    adds (function_of c.args.f.now) (draft_of c.args.e.now) (draft_of e) e.reserved c.reserve.new.asked e.body c.body.new.b c.in_ok-begin.ensures.begun refl refl refl refl asked.rows asked.masks asked.body c.in_ok-body.ensures
+    adds (function_of c.args.f.now) (draft_of c.args.e.now) (draft_of e) e.reserved c.reserve.new.asked e.body c.body.new.b c.in_ok-begin.ensures.begun refl refl refl refl refl asked.rows asked.masks asked.body c.in_ok-body.ensures
 
 pub reserve-requires-clause-own : goal.reserve-requires-clause-own
 reserve-requires-clause-own c = body_own c.requires.0 (function_of c.args.f.now) c.requires.1

@@ -1,37 +1,36 @@
-use Rattle.std.proofs.Common.{◌≡◌, ◌≤◌, ℕ, List, [], ◌∷◌, ◌++◌, length, sym, ap, subst, ◌∙◌, arith, false, not, suc, take_all, append-nil, ◌<◌, ◌+◌}
+use Rattle.std.proofs.Common.{◌≡◌, ◌≤◌, List, [], ◌∷◌, ◌++◌, length, sym, ap, subst, ◌∙◌, arith, false, not, suc, take_all, ◌<◌, ◌+◌}
 use Rattle.std.specs.Prelude.{option_map, slice_set}
 use Rattle.isp_code.specs.declared.instr.JumpTest.TheVariants as jump
 use Rattle.isp_lower.specs.Code.{jump_off, jump_on, two}
 use Rattle.isp_lower.specs.Emitted.{Appends, Present, layout}
 use Rattle.isp_lower.specs.declared.sites.Site.{Site}
-use Rattle.isp_lower.proofs.Lemmas.{appends_then, chosen, landed}
-use Rattle.isp_typed.specs.Nodes.{block_nodes, range_nodes, stmt_nodes, stmts_nodes}
-use Rattle.isp_tree.specs.Nodes.{nodes_of_all}
+use Rattle.isp_typed.specs.Nodes.{block_nodes, stmts_nodes, range_nodes, stmt_nodes}
 use Rattle.isp_typed.specs.Typed.{TBlock, TStmt, t_braces, t_if, t_if_else, t_while, t_for, t_stmts, t_foreach}
 use Rattle.isp_typed.specs.Views.{block_of, expr_of, first_of, simple_of, stmt_of, stmts_of, ranges_of}
 use Rattle.isp_typed.proofs.StmtViews.{if_view, if_else_view, while_view, for_view, foreach_view}
+use Rattle.isp_tree.specs.Nodes.{nodes_of_all}
 use Rattle.std.proofs.lemmas.Result.{on_ok_weaker}
 use Rattle.isp_masks.specs.Awaited.{AreBelow, Awaits, set_all}
 use Rattle.isp_masks.specs.Exits.{nobody_leaves}
-use Rattle.isp_masks.specs.Fors.{first_code, first_places, step_places, test_places}
-use Rattle.isp_masks.specs.Loops.{back_code, sift_jump, turn_code}
-use Rattle.isp_masks.specs.Spots.{spot_of}
-use Rattle.isp_masks.specs.Statements.{block_code, block_places, body_code, stepped_code, stmt_code, stmt_places, stmts_code, stmts_places, turns_code}
-use Rattle.isp_masks.specs.Written.{numbers, index_codes, outer_turn_code}
+use Rattle.isp_masks.specs.Fors.{first_code, first_places}
+use Rattle.isp_masks.specs.Loops.{back_code, sift_jump}
+use Rattle.isp_masks.specs.Spots.{Numbers, next_of, spot_of}
+use Rattle.isp_masks.specs.Statements.{stmt_code, stmt_places, stmt_texts, stmts_code, stmts_places, stmts_texts, body_code}
+use Rattle.isp_masks.specs.Written.{Piece, Writes, block_at, stepped_at, stmt_at, turn_at, turns_at, first_sweep, index_codes, last_run_at, outer_turn_at, place_test, range_begin, range_step, ranges_at, run_test}
 use Rattle.isp_masks.proofs.Awaiting.{awaits_end}
 use Rattle.isp_masks.proofs.Forms.{list_step, nodes_low, stmts_more}
 use Rattle.isp_masks.proofs.Lists.{flat, flat_is}
-use Rattle.isp_masks.proofs.Sifting.{for_written, if_else_written, sifted}
+use Rattle.isp_masks.proofs.Sifting.{for_written, sifted}
 use Rattle.isp_masks.proofs.Views.{block_view}
+use Rattle.isp_masks.proofs.Writing.{chosen_of, landed_over, writes_back, writes_past}
 use Rattle.isp_base.specs.declared.types.Rate.TheVariants.{Uniform}
 use Rattle.isp_code.specs.declared.instr.Instr.TheVariants as instr
-use Rattle.isp_masks.specs.Ranges.{bounds_code, last_index, measures_code, ranges_places, runs_slot, test}
+use Rattle.isp_masks.specs.Ranges.{bounds_code, measures_code, ranges_places, runs_slot, test}
 use Rattle.isp_masks.proofs.RangesWritten.{foreach_written, ranges_count, ranges_low, ranges_outer, sweep_there, sweep_written}
 use Rattle.isp_masks.specs.Asks.{stmt_asks}
 use Rattle.isp_lower.specs.Layout.{mask_register, register}
 use Rattle.isp_lower.specs.declared.numbered.MaskNumber.{MaskNumber}
 use Rattle.isp_lower.specs.declared.numbered.Slot.{Slot}
-use Rattle.isp_masks.specs.Written.{Writes, first_sweep, place_test, range_begin, range_step, ranges_at, run_test}
 use Rattle.isp_masks.specs.declared.ranges.OuterIndex.{OuterIndex}
 use Rattle.isp_masks.specs.declared.ranges.Sweep.{Sweep}
 use Rattle.isp_masks.proofs.statement.+stmt.Goals as goal
@@ -42,7 +41,7 @@ stmt-returns-in-If t c =
     let l = layout a.on.now in
     let h = a.on.now.answer in
     let e = c.in-If in
-    let so = λ (z : TStmt). Appends a.b.now c.if_alone.new.b (λ pc p. stmt_code l h z pc (numbers p) (spot_of a.spot)) (stmt_places l z) in
+    let so = λ (z : TStmt). Writes a.b.now c.if_alone.new.b (stmt_at a.on.now z a.spot) in
     on_ok_weaker c.if_alone.result
     (λ w. subst so (sym (ap stmt_of e.is ∙ if_view e.form e.before e.test e.then e.span)) (subst (λ y. so (t_if e.form e.before (expr_of e.test) (stmt_of y) e.span)) c.deref-in-If.ensures w))
     c.if_alone.ensures
@@ -53,12 +52,11 @@ stmt-returns-in-IfElse t c =
     let l = layout a.on.now in
     let h = a.on.now.answer in
     let e = c.in-IfElse in
-    let so = λ (z : TStmt). Appends a.b.now c.if_else.new.b (λ pc p. stmt_code l h z pc (numbers p) (spot_of a.spot)) (stmt_places l z) in
+    let so = λ (z : TStmt). Writes a.b.now c.if_else.new.b (stmt_at a.on.now z a.spot) in
     on_ok_weaker c.if_else.result
     (λ w. subst so (sym (ap stmt_of e.is ∙ if_else_view e.form e.before e.test e.then e.otherwise e.span))
     (subst (λ y. so (t_if_else e.form e.before (expr_of e.test) (stmt_of y) (stmt_of e.otherwise.value) e.span)) c.deref-in-IfElse.ensures
-    (subst (λ y. so (t_if_else e.form e.before (expr_of e.test) (stmt_of c.deref-in-IfElse.result.now) (stmt_of y) e.span)) c.deref-in-IfElse-2.ensures
-    (if_else_written a.b.now c.if_else.new.b l h e.form e.before (expr_of e.test) (stmt_of c.deref-in-IfElse.result.now) (stmt_of c.deref-in-IfElse-2.result.now) e.span (spot_of a.spot) w))))
+    (subst (λ y. so (t_if_else e.form e.before (expr_of e.test) (stmt_of c.deref-in-IfElse.result.now) (stmt_of y) e.span)) c.deref-in-IfElse-2.ensures w)))
     c.if_else.ensures
 
 pub under_mask-returns : goal.under_mask-returns
@@ -66,29 +64,23 @@ under_mask-returns t c =
     let a = c.args in
     let l = layout a.on.now in
     let x = stmt_of a.x.now in
-    landed a.b.now c.push.new.self c.stmt.new.b c.land.new.self c.len-at.result _ (jump_off a.site.mask.number)
-    (λ pc p. stmt_code l a.on.now.answer x pc (numbers p) (record (spot_of a.spot) { on = a.site.mask.number; slot = a.site.slot.number })) (stmt_places l x)
-    (c.len-at.ensures ∙ a.b.now.code.ok.0) c.in_ok-push.ensures c.in_ok-stmt.ensures (cc) c.land.ensures.places
+    landed_over a.b.now c.push.new.self c.stmt.new.b c.land.new.self c.len-at.result _ (jump_off a.site.mask.number)
+    (record { code = λ pc z. stmt_code l a.on.now.answer x pc z (record (spot_of a.spot) { on = a.site.mask.number; slot = a.site.slot.number }); places = stmt_places l x; texts = stmt_texts x })
+    (c.len-at.ensures ∙ a.b.now.code.ok.0) c.in_ok-push.ensures c.in_ok-stmt.ensures (cc) c.land.ensures.places c.land.ensures.texts
 
 pub part_by_jump-returns : goal.part_by_jump-returns
 part_by_jump-returns t c =
     let a = c.args in
-    let l = layout a.on.now in
-    let x = stmt_of a.then.now in
-    landed a.b.now c.push.new.self c.stmt.new.b c.land.new.self c.len-at.result _ (jump_on jump.False a.tested.number)
-    (λ pc p. stmt_code l a.on.now.answer x pc (numbers p) (spot_of a.spot)) (stmt_places l x)
-    (c.len-at.ensures ∙ a.b.now.code.ok.0) c.in_ok-push.ensures c.in_ok-stmt.ensures (cc) c.land.ensures.places
+    landed_over a.b.now c.push.new.self c.stmt.new.b c.land.new.self c.len-at.result _ (jump_on jump.False a.tested.number) (stmt_at a.on.now (stmt_of a.then.now) a.spot)
+    (c.len-at.ensures ∙ a.b.now.code.ok.0) c.in_ok-push.ensures c.in_ok-stmt.ensures (cc) c.land.ensures.places c.land.ensures.texts
 
 pub one_of-returns : goal.one_of-returns
 one_of-returns t c =
     let a = c.args in
-    let l = layout a.on.now in
-    let x = stmt_of a.then.now in
-    let y = stmt_of a.otherwise.now in
-    chosen a.b.now c.push.new.self c.stmt.new.b c.push-2.new.self c.land.new.self c.stmt-2.new.b c.land_always.new.self c.len-at.result c.len-over.result _ _ (jump_on jump.False a.tested.number)
-    (λ pc p. stmt_code l a.on.now.answer x pc (numbers p) (spot_of a.spot)) (λ pc p. stmt_code l a.on.now.answer y pc (numbers p) (spot_of a.spot)) (stmt_places l x) (stmt_places l y)
+    chosen_of a.b.now c.push.new.self c.stmt.new.b c.push-2.new.self c.land.new.self c.stmt-2.new.b c.land_always.new.self c.len-at.result c.len-over.result _ _ (jump_on jump.False a.tested.number)
+    (stmt_at a.on.now (stmt_of a.then.now) a.spot) (stmt_at a.on.now (stmt_of a.otherwise.now) a.spot)
     (c.len-at.ensures ∙ a.b.now.code.ok.0) c.in_ok-push.ensures c.in_ok-stmt.ensures (c.len-over.ensures ∙ c.stmt.new.b.code.ok.0) c.in_ok-push-2.ensures
-    (cc) c.land.ensures.places c.in_ok-stmt-2.ensures c.land_always.ensures.code c.land_always.ensures.places
+    (cc) c.land.ensures.places c.land.ensures.texts c.in_ok-stmt-2.ensures c.land_always.ensures.code c.land_always.ensures.places c.land_always.ensures.texts
 
 pub block-stmt-requires : goal.block-stmt-requires
 block-stmt-requires t c =
@@ -122,12 +114,12 @@ block-returns t c =
     let xs = stmts_of items in
     let over : length items ≤ c.loop-x.x-index = omega arith in
     let seen : block_of a.body.now ≡ t_braces (t_stmts xs) a.body.now.span = block_view a.body.now ∙ ap (λ zs. t_braces (t_stmts (stmts_of zs)) a.body.now.span) (sym c.deref-x-items.ensures.value) in
-    subst (λ (z : TBlock). Appends a.b.now c.land_all.new.b (λ pc p. block_code l h z pc (numbers p) s) (block_places l z)) (sym seen)
-    (awaits_end a.b.now c.loop-x.b c.land_all.new.b c.loop-x.jumps.items s.on (λ t pc p. flat h s t l false xs pc (numbers p)) (stmts_places l (t_stmts xs)) (λ pc p. stmts_code l h (t_stmts xs) pc (numbers p) s)
-    (subst (λ zs. Awaits a.b.now c.loop-x.b c.loop-x.jumps.items s.on (λ t pc p. flat h s t l false (stmts_of zs) pc (numbers p)) (stmts_places l (t_stmts (stmts_of zs)))) (take_all c.loop-x.x-index items over) c.loop-x.invariant.0)
+    subst (λ (z : TBlock). Writes a.b.now c.land_all.new.b (block_at a.on.now z a.spot)) (sym seen)
+    (awaits_end a.b.now c.loop-x.b c.land_all.new.b c.loop-x.jumps.items s.on (λ t pc z. flat h s t l false xs pc z) (stmts_places l (t_stmts xs)) (stmts_texts (t_stmts xs)) (λ pc z. stmts_code l h (t_stmts xs) pc z s)
+    (subst (λ zs. Awaits a.b.now c.loop-x.b c.loop-x.jumps.items s.on (λ t pc z. flat h s t l false (stmts_of zs) pc z) (stmts_places l (t_stmts (stmts_of zs))) (stmts_texts (t_stmts (stmts_of zs)))) (take_all c.loop-x.x-index items over) c.loop-x.invariant.0)
     (c.land_all.ensures.code ∙ ap (λ js. set_all c.loop-x.b.code.items js (jump_off s.on (length c.loop-x.b.code.items))) c.as_slice.ensures.value)
-    c.land_all.ensures.places
-    (λ t pc p e. flat_is h s t l xs pc (numbers p) e))
+    c.land_all.ensures.places c.land_all.ensures.texts
+    (λ t pc z e. flat_is h s t l xs pc z e))
 
 pub stmt-returns-in-While : goal.stmt-returns-in-While
 stmt-returns-in-While t c =
@@ -135,7 +127,7 @@ stmt-returns-in-While t c =
     let l = layout a.on.now in
     let h = a.on.now.answer in
     let e = c.in-While in
-    let so = λ (z : TStmt). Appends a.b.now c.while_loop.new.b (λ pc p. stmt_code l h z pc (numbers p) (spot_of a.spot)) (stmt_places l z) in
+    let so = λ (z : TStmt). Writes a.b.now c.while_loop.new.b (stmt_at a.on.now z a.spot) in
     on_ok_weaker c.while_loop.result
     (λ w. subst so (sym (ap stmt_of e.is ∙ while_view e.form e.before e.test e.body e.span)) (subst (λ y. so (t_while e.form e.before (expr_of e.test) (stmt_of y) e.span)) c.deref-in-While.ensures w))
     c.while_loop.ensures
@@ -143,32 +135,25 @@ stmt-returns-in-While t c =
 pub while_turn-returns : goal.while_turn-returns
 while_turn-returns t c =
     let a = c.args in
-    let l = layout a.on.now in
-    let h = a.on.now.answer in
     let x = stmt_of a.body.now in
-    let e = a.it.exits in
     let n = a.it.slot.number in
     let r = a.test.rate in
     let d = a.test.register.number in
-    let turn = λ (pc p : ℕ). two pc (turn_code e pc n (body_code l h x n (numbers p))) (λ pc1. back_code (nobody_leaves e) n a.it.top ∷ []) in
-    let both = appends_then c.push.new.self c.turn.new.b c.back.new.b (λ pc p. turn_code e pc n (body_code l h x n (numbers p))) (λ pc p. back_code (nobody_leaves e) n a.it.top ∷ []) (stmt_places l x) [] c.in_ok-turn.ensures c.in_ok-back.ensures in
-    let written : Appends c.push.new.self c.back.new.b turn (stmt_places l x) = subst (Appends c.push.new.self c.back.new.b turn) (append-nil (stmt_places l x)) both in
-    sifted a.b.now c.sift.new.b c.land_sift.new.b r d n turn (stmt_places l x) c.in_ok-sift.ensures
-    (landed c.sift.new.b c.push.new.self c.back.new.b c.land_sift.new.b c.len-at.result _ (sift_jump r d n) turn (stmt_places l x)
-    (c.len-at.ensures ∙ c.sift.new.b.code.ok.0) c.in_ok-push.ensures written (cc) c.land_sift.ensures.places)
+    let turn = turn_at a.on.now x a.it in
+    let both = writes_back c.push.new.self c.turn.new.b c.back.new.b turn (λ pc p. back_code (nobody_leaves a.it.exits) n a.it.top ∷ []) c.in_ok-turn.ensures c.in_ok-back.ensures in
+    let whole : Piece = record { code = λ pc z. two pc (turn.code pc z) (λ pc1. back_code (nobody_leaves a.it.exits) n a.it.top ∷ []); places = turn.places; texts = turn.texts } in
+    sifted a.b.now c.sift.new.b c.land_sift.new.b r d n whole c.in_ok-sift.ensures
+    (landed_over c.sift.new.b c.push.new.self c.back.new.b c.land_sift.new.b c.len-at.result _ (sift_jump r d n) whole
+    (c.len-at.ensures ∙ c.sift.new.b.code.ok.0) c.in_ok-push.ensures both (cc) c.land_sift.ensures.places c.land_sift.ensures.texts)
 
 pub passed_turn-returns : goal.passed_turn-returns
 passed_turn-returns t c =
     let a = c.args in
-    let l = layout a.on.now in
-    let x = stmt_of a.body.now in
-    let y = option_map simple_of a.step.now in
     let n = a.it.slot.number in
-    let turn = λ (pc p : ℕ). stepped_code l a.on.now.answer y x a.it.exits n a.it.top pc (numbers p) in
-    let pl = stmt_places l x ++ step_places l y in
-    sifted a.b.now c.sift.new.b c.land_sift.new.b a.test.rate a.test.register.number n turn pl c.in_ok-sift.ensures
-    (landed c.sift.new.b c.push.new.self c.stepped_turn.new.b c.land_sift.new.b c.len-at.result _ (sift_jump a.test.rate a.test.register.number n) turn pl
-    (c.len-at.ensures ∙ c.sift.new.b.code.ok.0) c.in_ok-push.ensures c.in_ok-stepped_turn.ensures (cc) c.land_sift.ensures.places)
+    let turn = stepped_at a.on.now (option_map simple_of a.step.now) (stmt_of a.body.now) a.it in
+    sifted a.b.now c.sift.new.b c.land_sift.new.b a.test.rate a.test.register.number n turn c.in_ok-sift.ensures
+    (landed_over c.sift.new.b c.push.new.self c.stepped_turn.new.b c.land_sift.new.b c.len-at.result _ (sift_jump a.test.rate a.test.register.number n) turn
+    (c.len-at.ensures ∙ c.sift.new.b.code.ok.0) c.in_ok-push.ensures c.in_ok-stepped_turn.ensures (cc) c.land_sift.ensures.places c.land_sift.ensures.texts)
 
 pub stmt-returns-in_ok-first_part-in-For : goal.stmt-returns-in_ok-first_part-in-For
 stmt-returns-in_ok-first_part-in-For t c =
@@ -182,12 +167,12 @@ stmt-returns-in_ok-first_part-in-For t c =
     let y = option_map simple_of e.step in
     let x = stmt_of c.deref-in-For.result.now in
     let begun = subst (λ (z : Site). Appends a.b.now c.first_part.new.b (λ pc p. first_code l first pc p z.mask.number z.slot.number) (first_places l first)) c.site-in-For.ensures c.in_ok-first_part-in-For.ensures in
-    let so = λ (z : TStmt). Appends a.b.now c.turns.new.b (λ pc p. stmt_code l h z pc (numbers p) s) (stmt_places l z) in
+    let so = λ (z : TStmt). Writes a.b.now c.turns.new.b (stmt_at a.on.now z a.spot) in
     on_ok_weaker c.turns.result
     (λ w. subst so (sym (ap stmt_of e.is ∙ for_view e.form e.before e.first e.test e.step e.inside e.body e.span))
     (subst (λ z. so (t_for e.form e.before first o y e.inside (stmt_of z) e.span)) c.deref-in-For.ensures
     (for_written a.b.now c.turns.new.b l h e.form e.before first o y e.inside x e.span s
-    (appends_then a.b.now c.first_part.new.b c.turns.new.b (λ pc p. first_code l first pc p s.on s.slot) (λ pc p. turns_code l h o y x pc (numbers p) s) (first_places l first) (test_places l o ++ (stmt_places l x ++ step_places l y)) begun w))))
+    (writes_past a.b.now c.first_part.new.b c.turns.new.b (λ pc p. first_code l first pc p s.on s.slot) (first_places l first) (turns_at a.on.now o y x a.spot) begun w))))
     c.turns.ensures
 
 pub stmt-foreach-requires : goal.stmt-foreach-requires
@@ -208,10 +193,8 @@ stmt-foreach-requires t c =
 pub stmt-returns-in-Foreach : goal.stmt-returns-in-Foreach
 stmt-returns-in-Foreach t c =
     let a = c.args in
-    let l = layout a.on.now in
-    let h = a.on.now.answer in
     let e = c.in-Foreach in
-    let so = λ (z : TStmt). Appends a.b.now c.foreach.new.b (λ pc p. stmt_code l h z pc (numbers p) (spot_of a.spot)) (stmt_places l z) in
+    let so = λ (z : TStmt). Writes a.b.now c.foreach.new.b (stmt_at a.on.now z a.spot) in
     on_ok_weaker c.foreach.result
     (λ w. subst so (sym (ap stmt_of e.is ∙ foreach_view e.keyword e.before e.ranges e.body e.span))
     (subst (λ zs. so (t_foreach e.keyword e.before (ranges_of zs) (stmt_of e.body.value) e.span)) c.deref-in-Foreach.ensures.value
@@ -232,7 +215,7 @@ foreach-returns t c =
     let bound = subst (λ (s : Sweep). Appends c.measures.new.b c.bounds.new.b (λ pc p. bounds_code l rs pc p k s.bounds.number) (ranges_places l rs)) c.first-it.ensures c.in_ok-bounds.ensures in
     let swept = subst (λ (s : Sweep). Writes c.bounds.new.b c.ranges-2.new.b (ranges_at a.on.now rs x c.new-none.result.items s)) c.first-it.ensures c.in_ok-ranges.ensures in
     let none = subst (λ (xs : List OuterIndex). Writes c.bounds.new.b c.ranges-2.new.b (ranges_at a.on.now rs x xs (first_sweep a.spot.slot rs))) c.new-none.ensures.items swept in
-    foreach_written l a.b.now c.measures.new.b c.bounds.new.b c.ranges-2.new.b rs k n (λ p. body_code l a.on.now.answer x h (numbers p)) (stmt_places l x) begun bound none
+    foreach_written l a.b.now c.measures.new.b c.bounds.new.b c.ranges-2.new.b rs k n (λ z. body_code l a.on.now.answer x h z) (stmt_places l x) (stmt_texts x) begun bound none
 
 pub ranges-outer_range-requires : goal.ranges-outer_range-requires
 ranges-outer_range-requires t c =
@@ -249,16 +232,14 @@ last_range-returns t c =
     let a = c.args in
     let l = layout a.on.now in
     let h = a.it.masks.number in
-    let m = a.it.place.number in
     let n = a.it.measures.number in
     let x = stmt_of a.body.now in
-    let set = index_codes h a.set.items in
     let after = c.go_on.new.b.code.items in
     let code = ap (λ r. slice_set after c.len-at.result (instr.JumpIf jump.Off r (length after))) (c.mask-2.ensures ∙ ap (λ (k : MaskNumber). mask_register k.number) c.mask.ensures) in
     sweep_written a.b.now c.begin.new.b c.test_run.new.b c.push.new.self c.last_run.new.b c.go_on.new.b c.land.new.self
     (range_begin l a.it) (run_test l a.it) (instr.Jump 0) (range_step l a.it n) (jump_off h)
-    (λ pc p. two pc (set ++ last_index l a.variable m n h) (body_code l a.on.now.answer x h (numbers p))) (stmt_places l x) c.next-top.result c.len-at.result
-    c.in_ok-begin.ensures c.next-top.ensures c.in_ok-test_run.ensures (c.len-at.ensures ∙ c.test_run.new.b.code.ok.0) c.in_ok-push.ensures c.in_ok-last_run.ensures c.in_ok-go_on.ensures (c.land.ensures.code ∙ code) c.land.ensures.places
+    (last_run_at a.on.now a.variable x a.set.items a.it) c.next-top.result c.len-at.result
+    c.in_ok-begin.ensures c.next-top.ensures c.in_ok-test_run.ensures (c.len-at.ensures ∙ c.test_run.new.b.code.ok.0) c.in_ok-push.ensures c.in_ok-last_run.ensures c.in_ok-go_on.ensures (c.land.ensures.code ∙ code) c.land.ensures.places c.land.ensures.texts
 
 pub outer_range-returns : goal.outer_range-returns
 outer_range-returns t c =
@@ -271,16 +252,17 @@ outer_range-returns t c =
     let rs = ranges_of a.all.now in
     let x = stmt_of a.body.now in
     let set = index_codes h a.set.items in
-    let body = λ (p : ℕ). body_code l a.on.now.answer x h (numbers p) in
+    let body = λ (z : Numbers). body_code l a.on.now.answer x h z in
     let many : 1 < length rs = subst (λ i. 1 < i) (sym (ranges_count a.all.now)) c.requires.many in
     let after = c.go_on.new.b.code.items in
     let code = ap (λ r. slice_set after c.len-at.result (instr.JumpIf jump.False r (length after))) (c.scalar.ensures ∙ ap (register Uniform) (c.tested.ensures ∙ ap (λ (s : Slot). test l s.number) c.next-2.ensures)) in
     let on = subst (λ (s : Slot). Appends c.outer_turn.new.b c.go_on.new.b (λ pc p. range_step l a.it s.number ∷ instr.Jump c.next-top.result ∷ []) []) c.next.ensures c.in_ok-go_on.ensures in
     let z = sweep_written a.b.now c.begin.new.b c.test_place.new.b c.push.new.self c.outer_turn.new.b c.go_on.new.b c.land.new.self
     (range_begin l a.it) (place_test l a.it) (instr.Jump 0) (range_step l a.it (n + 1)) (jump_on jump.False (test l (m + 1)))
-    (λ pc p. outer_turn_code l n h (body p) rs set e m pc) (stmt_places l x) c.next-top.result c.len-at.result
-    c.in_ok-begin.ensures c.next-top.ensures c.in_ok-test_place.ensures (c.len-at.ensures ∙ c.test_place.new.b.code.ok.0) c.in_ok-push.ensures c.in_ok-outer_turn.ensures on (c.land.ensures.code ∙ code) c.land.ensures.places in
+    (outer_turn_at a.on.now rs x a.set.items a.it) c.next-top.result c.len-at.result
+    c.in_ok-begin.ensures c.next-top.ensures c.in_ok-test_place.ensures (c.len-at.ensures ∙ c.test_place.new.b.code.ok.0) c.in_ok-push.ensures c.in_ok-outer_turn.ensures on (c.land.ensures.code ∙ code) c.land.ensures.places c.land.ensures.texts in
     record {
-      code = z.code ∙ ap (λ is. a.b.now.code.items ++ is) (ranges_outer l n h (body (length a.b.now.places.items)) rs set e m (length a.b.now.code.items) many);
+      code = z.code ∙ ap (λ is. a.b.now.code.items ++ is) (ranges_outer l n h (body (next_of a.b.now)) rs set e m (length a.b.now.code.items) many);
       places = z.places;
+      texts = z.texts;
     }

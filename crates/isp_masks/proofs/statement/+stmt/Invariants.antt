@@ -8,8 +8,7 @@ use Rattle.isp_lower.specs.Emitted.{Present, layout}
 use Rattle.isp_masks.specs.Asks.{stmts_asks}
 use Rattle.isp_masks.specs.Awaited.{Awaits}
 use Rattle.isp_masks.specs.Spots.{spot_of}
-use Rattle.isp_masks.specs.Statements.{stmts_places}
-use Rattle.isp_masks.specs.Written.{numbers}
+use Rattle.isp_masks.specs.Statements.{stmts_places, stmts_texts}
 use Rattle.isp_masks.proofs.Lists.{flat, left_after}
 use Rattle.isp_masks.proofs.statement.+stmt.Given as goal
 
@@ -96,6 +95,6 @@ decreases-last_run l = 8 * stmt_nodes (stmt_of l.body.now) + 2
 
 abbrev pub invariant-block-loop-x : goal.invariant-block-loop-x
 invariant-block-loop-x l =
-    Awaits l.initial.b l.b l.jumps.items l.spot.masks.on.number (λ t pc p. flat l.on.answer (spot_of l.spot) t (layout l.on) false (stmts_of (take l.x-index l.x-items)) pc (numbers p)) (stmts_places (layout l.on) (t_stmts (stmts_of (take l.x-index l.x-items))))
+    Awaits l.initial.b l.b l.jumps.items l.spot.masks.on.number (λ t pc z. flat l.on.answer (spot_of l.spot) t (layout l.on) false (stmts_of (take l.x-index l.x-items)) pc z) (stmts_places (layout l.on) (t_stmts (stmts_of (take l.x-index l.x-items)))) (stmts_texts (t_stmts (stmts_of (take l.x-index l.x-items))))
     × (l.left ≡ left_after false (stmts_of (take l.x-index l.x-items)))
     × Present l.on (stmts_asks l.on.answer (t_stmts (stmts_of (drop l.x-index l.x-items))) l.spot.slot.number)

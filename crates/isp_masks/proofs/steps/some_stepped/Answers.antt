@@ -21,4 +21,4 @@ returns c =
     let code = ap (λ r. slice_set after c.len-at.result (instr.JumpIf jump.Off r (length after))) (c.mask-4.ensures ∙ ap (λ (k : MaskNumber). mask_register k.number) c.mask-3.ensures) in
     landed a.b.now c.push.new.self c.stepped.new.b c.land.new.self c.len-at.result _ (jump_off n)
     (λ pc p. step_code l x pc p n (n + 3) ++ instr.Jump a.it.top ∷ []) (step_places l x)
-    (c.len-at.ensures ∙ a.b.now.code.ok.0) c.in_ok-push.ensures c.in_ok-stepped.ensures (c.land.ensures.code ∙ code) c.land.ensures.places
+    (c.len-at.ensures ∙ a.b.now.code.ok.0) c.in_ok-push.ensures c.in_ok-stepped.ensures (c.land.ensures.code ∙ code) c.land.ensures.places c.land.ensures.texts

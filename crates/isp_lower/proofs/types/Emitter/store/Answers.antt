@@ -1,8 +1,8 @@
-use Rattle.std.proofs.Common.{◌≤◌, ◌<◌, subst, refl, arith}
+use Rattle.std.proofs.Common.{◌≤◌, ◌<◌, ℕ, map, ap, subst, arith, Vec, Global}
 use Rattle.isp_typed.specs.Views.{simple_of}
 use Rattle.isp_lower.specs.Asks.{simple_asks}
 use Rattle.isp_lower.specs.Drafts.{draft_of}
-use Rattle.isp_lower.specs.Emitted.{Grows}
+use Rattle.isp_lower.specs.Emitted.{Grows, rows_of}
 use Rattle.isp_lower.specs.declared.reserve.Reserve.{Reserve}
 use Rattle.isp_lower.proofs.Aparts.{all_named, apart_appends, apart_long}
 use Rattle.isp_lower.proofs.FirstRows.{all_joined}
@@ -27,10 +27,10 @@ returns-clause-code c =
     let grown : Grows c.args.self.now.reserved.registers asked.registers = subst (λ (r : Reserve). Grows r.registers asked.registers) c.in_ok-asked.ensures gives.rows in
     let more : c.args.self.now.reserved.masks ≤ asked.masks = subst (λ (r : Reserve). r.masks ≤ asked.masks) c.in_ok-asked.ensures gives.masks in
     record {
-      appends = apart_appends c.args.self.now.body c.in_ok-written.written c.simple-2.new.b _ _ c.in_ok-written.ensures.code c.in_ok-written.ensures.places c.in_ok-simple-2.ensures c.join.new.self c.in_ok-join.ensures.code c.in_ok-join.ensures.places;
+      appends = apart_appends c.args.self.now.body c.in_ok-written.written c.simple-2.new.b _ _ c.in_ok-written.ensures.code c.in_ok-written.ensures.places c.in_ok-simple-2.ensures c.join.new.self c.in_ok-join.ensures.code c.in_ok-join.ensures.places c.in_ok-join.ensures.texts;
       rows = grown;
       masks = more;
-      kept = refl;
+      kept = ap (λ (ts : Vec (Vec ℕ Global) Global). record (draft_of c.args.self.now) { places = c.join.new.self.places.items; texts = map (λ t. t.items) ts.items; rows = rows_of asked.registers; masks = asked.masks; code = c.join.new.self.code.items }) c.in_ok-join.ensures.texts;
     }
 
 pub returns-clause-all_named : goal.returns-clause-all_named
