@@ -63,7 +63,7 @@ impl<'a> Case<'a> {
             "work" => self.count(rest, tried)?,
             "writes" => self.output = spelt_out(self.alloc, rest)?,
             "frame" => self.frame = rest,
-            "accepts" | "refuses" | "compiles" | "leaves" => self.judge(word, rest, tried)?,
+            "accepts" | "refuses" | "compiles" => self.judge(word, rest, tried)?,
             _ => self.compare(word, rest, tried)?,
         }
         Ok(())
@@ -79,7 +79,6 @@ impl<'a> Case<'a> {
     fn judge(&mut self, word: &str, rest: &str, tried: &mut Tried) -> Result<(), AllocError> {
         let (fault, text) = match word {
             "refuses" => parted(rest, '|'),
-            "leaves" => ("90 NotYet", rest),
             _ => ("", rest),
         };
         let (before, after) = parted(self.frame, '…');

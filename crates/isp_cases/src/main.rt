@@ -1,4 +1,4 @@
-//! Programs with what must come out: each is judged, evaluated, and where it has code compiled and run.
+//! Programs with what must come out: each is judged, evaluated, compiled and run.
 //!
 //! The words name files of records. A record is the lines from `=== ` and its name on. Each line begins with a word that says what it is:
 //!
@@ -12,8 +12,7 @@
 //! behind it may say other turns and what must come out then.
 //!
 //! A text that is only judged stands in one line with what becomes of it, and inside the last `frame` in place of its `…`: `accepts TEXT`;
-//! `refuses 20 UnknownName|TEXT`, where the place of the fault stands between `⟦` and `⟧`; `compiles TEXT`, of which all has code; and
-//! `leaves TEXT`, of which the first node that has no code is marked. Each line that says what must come out is a case.
+//! `refuses 20 UnknownName|TEXT`, where the place of the fault stands between `⟦` and `⟧`; and `compiles TEXT`. Each line that says what must come out is a case.
 #![tactic(auto)]
 
 mod case;

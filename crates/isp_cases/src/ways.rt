@@ -36,7 +36,7 @@ pub(crate) fn accepted(alloc: Global, case: &Case<'_>) -> Result<String, AllocEr
     told_fault(alloc, front(alloc, case.marked.source.as_str(), case.gang))
 }
 
-/// Whether all of the source of a case has code, or the first node that has none.
+/// Whether the source of a case is compiled, or its fault.
 pub(crate) fn compiled(alloc: Global, case: &Case<'_>) -> Result<String, AllocError> {
     told_fault(
         alloc,
@@ -127,7 +127,7 @@ fn budget(case: &Case<'_>, wanted: &Found) -> u64 {
     }
 }
 
-/// What the code of a case comes to, where it has code.
+/// What the code of a case comes to, where its source is a program.
 pub(crate) fn executed(
     alloc: Global,
     case: &Case<'_>,

@@ -1,9 +1,8 @@
--- A source text is the source of one program, and is compiled or not.
-use Rattle.std.proofs.Common.{◌≡◌, ℕ, ◌≤◌, List, [], length, Ok, Err, Some, None, refl, sym, ap, subst, inl, inr, Result, ◌∙◌}
+-- A source text is the source of one program, or is refused.
+use Rattle.std.proofs.Common.{◌≡◌, ℕ, ◌≤◌, List, [], length, Ok, Err, Some, refl, sym, subst, inl, inr, Result, ◌∙◌}
 use Rattle.std.specs.Prelude.{IfOk, IfErr, MatchResult}
 use Rattle.std.specs.Result.{IsErrAnd}
 use Rattle.isp_base.specs.declared.types.Gang.{Gang}
-use Rattle.isp_base.specs.declared.types.Span.{Span}
 use Rattle.isp_lex.specs.Lexing.{Lexes, limit as longest_text}
 use Rattle.isp_lex.specs.Tokens.{TokenList}
 use Rattle.isp_lex.specs.declared.fault.Fault.{Fault}
@@ -24,9 +23,7 @@ use Rattle.isp_typed.specs.declared.function.Program as rust_program
 use Rattle.isp_types.specs.Functions.{IsProgram, Breach}
 use Rattle.isp_rates.specs.Breaches.{Least}
 use Rattle.isp_rates.specs.Program.{ProgramBreach}
-use Rattle.isp_masks.specs.Covered.{program_left}
 use Rattle.isp_engine.specs.Front.{HasTree, IsChecked, IsSource, IsUnsound, IsFaulty}
-use Rattle.isp_engine.specs.Covered.{IsCovered}
 
 -- ---- a refusal that is handed on
 
@@ -94,12 +91,3 @@ only gang text tree r a b program s same = at r a b
     at (Ok c) a b = one_program gang tree (program_of c) program a is
     at (Err Memory) a b = refl
     at (Err (Refused f)) a b = absurd (no_program gang tree f program (b f refl) is)
-
--- ---- what is compiled
-
--- a text of which the first node without code stands somewhere is not that of a program all of which is compiled
-pub left_only : (gang : Gang) (text : List ℕ) (p : Program) (at : Span) → program_left p ≡ Some at → ((program : Program) → IsSource gang text program → p ≡ program) → (program : Program) → IsCovered gang text program → ⊥
-left_only gang text p at first only program k =
-    let none : None ≡ Some at = sym k.whole ∙ ap program_left (sym (only program k.source)) ∙ first in
-    let no : ⊥ = cc in
-    no

@@ -18,7 +18,7 @@ use Rattle.isp_words.specs.declared.words.RunRequest.{RunRequest}
 use Rattle.isp_engine.specs.Commands.{AsmFails, ExecFails, Executed, Reads, RunFails, Runs}
 use Rattle.isp_engine.specs.Compilations.{IsAnswer}
 use Rattle.isp_engine.specs.Failures.{code_failure, run_failure, source_failure}
-use Rattle.isp_engine.specs.Covered.{IsNotCompiled}
+use Rattle.isp_engine.specs.Front.{IsFaulty}
 use Rattle.isp_engine.specs.Images.{IsCompilation, IsNotLoaded}
 use Rattle.isp_engine.specs.Meaning.{Means}
 use Rattle.isp_engine.specs.Faults.{run_fault}
@@ -50,7 +50,7 @@ never_unwritten code entry json b h =
     let none : ⊥ = cc in none
 
 module _ (holds : List ℕ → Option (List ℕ) → Type 0) where
-  pub source_fails : (q : RunRequest) (files : Reads holds q.source.now q.arguments.now) (f : SourceFault) → ((g : Fault) → f ≡ Refused g → IsNotCompiled q.gang files.text g) → RunFails holds q (source_failure f)
+  pub source_fails : (q : RunRequest) (files : Reads holds q.source.now q.arguments.now) (f : SourceFault) → ((g : Fault) → f ≡ Refused g → IsFaulty q.gang files.text g) → RunFails holds q (source_failure f)
   source_fails q files NoSourceMemory h = tt
   source_fails q files (Refused f) h = (files, h f refl)
 
@@ -71,6 +71,6 @@ module _ (holds : List ℕ → Option (List ℕ) → Type 0) where
   exec_fails q (Arguments f) h = (λ e. let none : ⊥ = cc in none, h)
   exec_fails q WriteFailed h = absurd (never_unwritten h.code q.entry.now h.files.json q.budget h.answers)
 
-  pub asm_fails : (q : AsmRequest) (text : List ℕ) → holds q.source.now (Some text) → (f : SourceFault) → ((g : Fault) → f ≡ Refused g → IsNotCompiled q.gang text g) → AsmFails holds q (source_failure f)
+  pub asm_fails : (q : AsmRequest) (text : List ℕ) → holds q.source.now (Some text) → (f : SourceFault) → ((g : Fault) → f ≡ Refused g → IsFaulty q.gang text g) → AsmFails holds q (source_failure f)
   asm_fails q text has NoSourceMemory h = tt
   asm_fails q text has (Refused f) h = (text, has, h f refl)

@@ -21,7 +21,7 @@ use Rattle.isp_words.specs.declared.words.ExecRequest.{ExecRequest}
 use Rattle.isp_engine.specs.Failures.{status_of}
 use Rattle.isp_engine.specs.Sinks.{TookAll, TookSome}
 use Rattle.isp_engine.specs.Compilations.{IsAnswer}
-use Rattle.isp_engine.specs.Covered.{IsNotCompiled}
+use Rattle.isp_engine.specs.Front.{IsFaulty}
 use Rattle.isp_engine.specs.Images.{IsCompilation, IsLoaded, IsNotLoaded}
 use Rattle.isp_engine.specs.Reports.{Executes}
 use Rattle.isp_engine.specs.Sending.{report_bytes}
@@ -77,10 +77,10 @@ pub record Runs (holds : Holds) (q : RunRequest) (answer : Result Report RunFaul
   pub compiles : IsCompilation q.gang files.text code
   pub answers : IsAnswer q.gang files.text code compiles q.entry.now files.json q.budget answer
 
--- no file; a source that is refused, or not compiled yet; an entry or arguments that are, for another reason than memory
+-- no file; a source that is refused; an entry or arguments that are, for another reason than memory
 abbrev pub RunFails : Holds → RunRequest → Failure → Type 0
 RunFails holds q (CannotRead name) = UnreadOf holds q.source.now q.arguments.now (CannotRead name)
-RunFails holds q (Source f) = (files : Reads holds q.source.now q.arguments.now) × IsNotCompiled q.gang files.text f
+RunFails holds q (Source f) = (files : Reads holds q.source.now q.arguments.now) × IsFaulty q.gang files.text f
 RunFails holds q (Run f) = (f ≢ NoRunMemory) × Runs holds q (Err f)
 RunFails holds q Memory = Unit {0}
 RunFails holds q f = ⊥
@@ -117,7 +117,7 @@ pub record Assembled (holds : Holds) (q : AsmRequest) (code : Listing) : Type 0 
 
 abbrev pub AsmFails : Holds → AsmRequest → Failure → Type 0
 AsmFails holds q (CannotRead name) = Unread holds q.source.now (CannotRead name)
-AsmFails holds q (Source f) = (text : List ℕ) × holds q.source.now (Some text) × IsNotCompiled q.gang text f
+AsmFails holds q (Source f) = (text : List ℕ) × holds q.source.now (Some text) × IsFaulty q.gang text f
 AsmFails holds q Memory = Unit {0}
 AsmFails holds q f = ⊥
 

@@ -9,12 +9,12 @@ use Rattle.isp_masks.specs.Agreement.{Agrees}
 use Rattle.isp_verify.specs.Faults.{code_fault}
 use Rattle.isp_engine.specs.declared.fault.CodeFault.{CodeFault}
 use Rattle.isp_engine.specs.declared.fault.CodeFault.TheVariants.{Memory, Text, Code}
-use Rattle.isp_engine.specs.Covered.{IsCovered}
+use Rattle.isp_engine.specs.Front.{IsSource}
 
--- the text is the source of a program all of which is compiled, and the code agrees with it
+-- the text is the source of a program, and the code agrees with it
 pub record IsCompilation (gang : Gang) (text : List ℕ) (code : Listing) : Type 0 where
   pub program : Program
-  pub source : IsCovered gang text program
+  pub source : IsSource gang text program
   pub agrees : Agrees program code
 
 -- the text is that of code in which the verifier finds no fault

@@ -2,7 +2,6 @@ pub mod Faults
 pub mod Sinks
 pub mod Files
 pub mod Front
-pub mod Covered
 pub mod Images
 pub mod Reports
 pub mod Stops

@@ -8,7 +8,7 @@ ghost use Rattle.isp_code.specs.Writable.{IsWritable};
 ghost use Rattle.isp_lex.specs.declared.fault.Fault.{Fault};
 ghost use Rattle.isp_typed.specs.Typed.{Program};
 ghost use Rattle.isp_verify.specs.Faults.{code_fault};
-ghost use Rattle.isp_engine.specs.Covered.{IsCovered, IsNotCompiled};
+ghost use Rattle.isp_engine.specs.Front.{IsFaulty, IsSource};
 ghost use Rattle.isp_engine.specs.Images.{IsCompilation, IsLoaded, IsNotLoaded};
 
 use crate::fault::CodeFault;
@@ -16,8 +16,8 @@ use crate::source::front;
 use isp_asm::read;
 use isp_base::Gang;
 use isp_code::Code;
-use isp_lex::{Fault, Rule, SourceFault};
-use isp_masks::{lower, uncompiled};
+use isp_lex::SourceFault;
+use isp_masks::lower;
 use isp_verify::{Verified, VerifyFault, verify};
 use std::alloc::Global;
 use std::marker::Model;
@@ -56,21 +56,14 @@ impl Image {
 /// Compiles a source text for a gang.
 ///
 /// The image has the code of the program that the text is, which does what the program means for all arguments of the
-/// functions that it exports. Refusals are those of `front`; 90 NotYet of a program of which not all is compiled, at the
-/// first node in the text that is not. 0: memory was refused.
+/// functions that it exports. Refusals are those of `front`. 0: memory was refused.
 pub fn compile(alloc: Global, text: &str, gang: Gang) -> Result<Image, SourceFault>
     ensures compiled { IfOk result (λ image. IsCompilation gang text.now image) }
-    // What has a program all of which is compiled is not refused, but for memory.
-    ensures only { (program : Program) → IsCovered gang text.now program → IfErr result (λ e. e ≡ SourceFault.Memory) }
-    ensures refused { IfErr result (λ e. (f : Fault) → e ≡ SourceFault.Refused f → IsNotCompiled gang text.now f) }
+    // The source of a program is not refused, but for memory.
+    ensures only { (program : Program) → IsSource gang text.now program → IfErr result (λ e. e ≡ SourceFault.Memory) }
+    ensures refused { IfErr result (λ e. (f : Fault) → e ≡ SourceFault.Refused f → IsFaulty gang text.now f) }
 {
     let checked = front(alloc, text, gang)?;
-    if let Some(span) = uncompiled(&checked) {
-        return Err(SourceFault::Refused(Fault {
-            rule: Rule::NotYet,
-            span,
-        }));
-    }
     let code = lower(alloc, &checked)?;
     match verify(alloc, code) {
         Ok(verified) => Ok(Image { verified }),

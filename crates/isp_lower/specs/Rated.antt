@@ -1,4 +1,4 @@
--- What rates promise of a tree that has code, beside what names and types promise: a uniform part may stand where a varying one
+-- What rates promise of a tree, beside what names and types promise: a uniform part may stand where a varying one
 -- is wanted, and never the reverse.
 use Rattle.std.specs.Prelude.{List, [], ◌∷◌}
 use Rattle.isp_base.specs.declared.types.Rate.{Rate}

@@ -16,8 +16,7 @@ use isp_base::{Rate, Ty};
 use isp_typed::{TypedItem, TypedSimple};
 use std::alloc::AllocError;
 
-/// The code of what stands before a semicolon, under a mask, in the slots from one on. Memory is refused too
-/// of packed calls, which have no code yet.
+/// The code of what stands before a semicolon, under a mask, in the slots from one on.
 pub fn simple(b: &mut Body, on: &Scope, x: &TypedSimple, site: Site) -> Result<(), AllocError>
     requires { Present on.now (simple_asks (simple_of x.now) site.slot.number) }
     ensures { OnOk result (Appends b.old b.new (λ pc p. simple_code (layout on.now) (simple_of x.now) pc p site.mask.number site.slot.number) (simple_places (layout on.now) (simple_of x.now))) }

@@ -10,7 +10,6 @@ use Rattle.isp_base.specs.declared.types.Ty.{Ty}
 use Rattle.isp_code.specs.Entries.{parameter_of, parameters_of, result_of}
 use Rattle.isp_code.specs.Listing.{Listing, Routine}
 use Rattle.isp_code.specs.Registers.{table_of, types_in}
-use Rattle.isp_masks.specs.Covered.{program_left}
 use Rattle.isp_rates.specs.Program.{IsAccepted}
 use Rattle.isp_typed.specs.Fine.{AreParams, FineFunction, all_new, params_of}
 use Rattle.isp_typed.specs.Typed.{Program, TFunction}
@@ -29,7 +28,7 @@ use Rattle.isp_lower.specs.Header.{returns_of, types_of, value_returned}
 use Rattle.isp_masks.specs.Lowered.{IsLowered, HasCode}
 use Rattle.isp_masks.specs.Made.{IsMade, GivesUniform}
 use Rattle.isp_masks.proofs.Accepted.{code_accepted}
-use Rattle.isp_masks.proofs.Checked.{FunctionFits, function_fits, function_covered}
+use Rattle.isp_masks.proofs.Checked.{FunctionFits, function_fits}
 use Rattle.isp_masks.proofs.FirstRows.{parameters_same, result_row}
 use Rattle.isp_masks.proofs.Heads.{names_apart, names_same, new_name, exports, head_fits}
 use Rattle.isp_masks.proofs.Made.{made_accepted, made_compiled, made_entry}
@@ -93,7 +92,7 @@ is_there (x ∷ xs) (suc k) lt = is_there xs k (omega arith)
 fine_of : {A : Type 0} (P : A → Type 0) (xs : List A) (k : ℕ) (a : A) → All P xs → slice_get xs k ≡ Some a → P a
 fine_of P xs k a all e = subst P (get_or_from_slice_get xs k a a e) (all k a (slice_get_within xs k a e))
 
-module _ (program : Program) (code : Listing) (accepted : IsAccepted program) (whole : program_left program ≡ None) (has : HasCode program code) where
+module _ (program : Program) (code : Listing) (accepted : IsAccepted program) (has : HasCode program code) where
   fine_at : (f : ℕ) (h : TFunction) → slice_get program.functions f ≡ Some h → FineFunction program.functions h
   fine_at f h e = fine_of (FineFunction program.functions) program.functions f h accepted.fine.each e
 
@@ -101,7 +100,7 @@ module _ (program : Program) (code : Listing) (accepted : IsAccepted program) (w
   fits_at f h e = function_fits program accepted f h e
 
   rated_at : (f : ℕ) (h : TFunction) → slice_get program.functions f ≡ Some h → BlockRated program.functions h.answer h.body
-  rated_at f h e = (fits_at f h e).rated (function_covered program.functions whole f h e)
+  rated_at f h e = (fits_at f h e).rated
 
   -- the function whose routine it is
   source : (f : ℕ) (g : Routine) → slice_get code.routines f ≡ Some g → (h : TFunction) × (slice_get program.functions f ≡ Some h)
@@ -164,6 +163,6 @@ module _ (program : Program) (code : Listing) (accepted : IsAccepted program) (w
 
 pub lowered_agrees : LoweredAgrees
 lowered_agrees = record {
-  agrees = λ program code accepted whole has. program_agrees program code (program_code program code accepted whole has);
-  accepted = λ program code accepted whole has. code_passes program code accepted whole has;
+  agrees = λ program code accepted has. program_agrees program code (program_code program code accepted has);
+  accepted = λ program code accepted has. code_passes program code accepted has;
 }

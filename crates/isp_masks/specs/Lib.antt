@@ -1,4 +1,3 @@
-pub mod Covered
 pub mod Exits
 pub mod Sets
 pub mod Spots

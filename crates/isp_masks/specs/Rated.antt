@@ -1,4 +1,4 @@
--- What rates promise of a body that has code, beside what names and types promise.
+-- What rates promise of a body, beside what names and types promise.
 use Rattle.std.specs.Prelude.{◌≤◌, List, [], ◌∷◌, length, Option, Some, None}
 use Rattle.isp_base.specs.declared.types.Rate.TheVariants.{Uniform}
 use Rattle.isp_base.specs.declared.types.Ty.{Ty}

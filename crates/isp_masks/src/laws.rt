@@ -17,8 +17,7 @@ pub fn loops_run()
     ensures { AllLoopsRun }
 {}
 
-/// The code of a program that names, types and rates accept, and of which all has code, agrees with it,
-/// and the verifier accepts it.
+/// The code of a program that names, types and rates accept agrees with it, and the verifier accepts it.
 pub fn lowered_agrees()
     ensures { LoweredAgrees }
 {}

@@ -3,7 +3,6 @@
 
 mod asserting;
 mod awaited;
-mod covered;
 mod exits;
 mod laws;
 mod listing;
@@ -21,6 +20,5 @@ mod sets;
 mod statement;
 mod steps;
 
-pub use covered::uncompiled;
 pub use laws::{loops_run, lowered_agrees, statements_run};
 pub use lowering::lower;

@@ -26,7 +26,6 @@ fn routines(e: &mut Emitter, functions: &[TypedFunction]) -> Result<(), AllocErr
 }
 
 /// The code of a program: a routine for each function, in their order, and the places in the source and the texts that they name.
-/// Memory is refused too of what has no code yet.
 pub(crate) fn program(alloc: Global, program: &Program) -> Result<Code, AllocError>
     requires { IsFine (program_of program.now) }
     ensures { IfOk result (λ code. HasCode (program_of program.now) code) }

@@ -65,7 +65,7 @@ fn reserve(asked: &mut Reserve, f: &TypedFunction) -> Result<(), AllocError>
 }
 
 /// Adds the routine of a function, which is at work afterwards, and the places in the source and the texts that its code
-/// names. Memory is refused too of what has no code yet.
+/// names.
 pub(crate) fn function(e: &mut Emitter, f: &TypedFunction) -> Result<(), AllocError>
     requires { IsFineFunction (function_of f.now) }
     ensures { OnOk result (AddsLowered (function_of f.now) (draft_of e.old) (draft_of e.new)) }

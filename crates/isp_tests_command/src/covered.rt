@@ -76,7 +76,7 @@ fn compiled(rt: HostRuntime) -> Result<(), Fail> {
 
 // What is refused, wherever it stands.
 #[test]
-fn after_all_other_refusals(rt: HostRuntime) -> Result<(), Fail> {
+fn refusals(rt: HostRuntime) -> Result<(), Fail> {
     for (text, line) in [
         ("void f() { @ }", "1 BadByte at 11..12"),
         ("void f() { while (true) ; 08; }", "2 BadNumber at 26..28"),
