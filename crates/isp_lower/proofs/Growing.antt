@@ -52,8 +52,8 @@ stays_in xs ys x t b e =
 -- ---- what code asks for
 
 -- what is asked of one thing is there of another one that has all that the first has
-module _ (H H1 : Rate → Name → Elem → Type 0) (A A1 L L1 : ArrayVariable → Type 0) (M M1 : ℕ → Type 0) (W W1 : ℕ → Type 0) (names : (r : Rate) (x : Name) (t : Elem) → H r x t → H1 r x t) (arrays : (b : ArrayVariable) → A b → A1 b) (locals : (b : ArrayVariable) → L b → L1 b) (masks : (k : ℕ) → M k → M1 k) (loaded : (v : ℕ) → W v → W1 v) where
-  pub all_grow : (a : Ask) → All H A L M W a → All H1 A1 L1 M1 W1 a
+module _ (H H1 : Rate → Name → Elem → Type 0) (A A1 L L1 : ArrayVariable → Type 0) (M M1 : ℕ → Type 0) (W W' : ℕ → Type 0) (names : (r : Rate) (x : Name) (t : Elem) → H r x t → H1 r x t) (arrays : (b : ArrayVariable) → A b → A1 b) (locals : (b : ArrayVariable) → L b → L1 b) (masks : (k : ℕ) → M k → M1 k) (loaded : (v : ℕ) → W v → W' v) where
+  pub all_grow : (a : Ask) → All H A L M W a → All H1 A1 L1 M1 W' a
   all_grow Nothing f = tt
   all_grow (Both x y) f = (all_grow x f.0, all_grow y f.1)
   all_grow (Register r x t) f = names r x t f
