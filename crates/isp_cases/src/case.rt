@@ -1,7 +1,8 @@
 //! One record of cases, line by line.
 use crate::found::Found;
-use crate::ways::{accepted, compiled, evaluated, executed, worked};
+use crate::ways::{accepted, compiled, evaluated, executed, sent, worked};
 use isp_base::Gang;
+use isp_engine::compile;
 use isp_testing::{Marked, number, parted, spelt_out};
 use std::alloc::{AllocError, Global};
 
@@ -10,6 +11,12 @@ use std::alloc::{AllocError, Global};
 pub(crate) struct Tried {
     pub cases: u64,
     pub differences: Vec<String>,
+}
+
+impl Tried {
+    fn differ(&mut self, line: String) -> Result<(), AllocError> {
+        self.differences.push(line)
+    }
 }
 
 /// What a record says, up to the line that was read last.
@@ -94,9 +101,7 @@ impl<'a> Case<'a> {
         };
         tried.cases = tried.cases.saturating_add(1);
         if found != wanted {
-            tried
-                .differences
-                .push(format!(in self.alloc; "{text}: {found}, not {wanted}")?)?;
+            tried.differ(format!(in self.alloc; "{text}: {found}, not {wanted}")?)?;
         }
         Ok(())
     }
@@ -108,10 +113,7 @@ impl<'a> Case<'a> {
         let found = worked(self.alloc, self);
         if found != self.work {
             let found = found.unwrap_or(0);
-            tried.differences.push(format!(in self.alloc;
-                "{}: work {found}, not {rest}",
-                self.name
-            )?)?;
+            tried.differ(format!(in self.alloc; "{}: work {found}, not {rest}", self.name)?)?;
         }
         Ok(())
     }
@@ -143,21 +145,32 @@ impl<'a> Case<'a> {
         let wanted = self.wanted(word, rest)?;
         let found = evaluated(self.alloc, self)?;
         if !found.is(&wanted) {
-            tried.differences.push(format!(in self.alloc;
-                "{}: {found}, not {wanted}",
-                self.name
-            )?)?;
+            tried.differ(format!(in self.alloc; "{}: {found}, not {wanted}", self.name)?)?;
         }
-        if let Some(found) = executed(self.alloc, self, &wanted)? {
-            if !found.begins(&wanted) {
-                tried.differences.push(format!(in self.alloc;
-                    "{}: as code {found}, not {wanted}",
-                    self.name
-                )?)?;
-            }
+        if wanted.has_run() {
+            self.run_code(&wanted, tried)?;
         }
         self.output = String::new(self.alloc);
         self.work = None;
+        Ok(())
+    }
+
+    // Tries the code of a case: by its report, and by what goes out while it runs.
+    fn run_code(&self, wanted: &Found, tried: &mut Tried) -> Result<(), AllocError> {
+        let name = self.name;
+        let Ok(image) = compile(self.alloc, self.marked.source.as_str(), self.gang) else {
+            return tried.differ(format!(in self.alloc; "{name}: no code")?);
+        };
+        let Some(found) = executed(self.alloc, self, &image, wanted)? else {
+            return tried.differ(format!(in self.alloc; "{name}: the code does not run")?);
+        };
+        if !found.begins(wanted) {
+            tried.differ(format!(in self.alloc; "{name}: as code {found}, not {wanted}")?)?;
+        }
+        let out = sent(self.alloc, self, &image, wanted);
+        if !out.is_some_and(|bytes| wanted.sends(bytes.as_slice())) {
+            tried.differ(format!(in self.alloc; "{name}: other bytes go out, not {wanted}")?)?;
+        }
         Ok(())
     }
 }

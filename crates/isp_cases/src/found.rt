@@ -25,6 +25,26 @@ impl Found {
         }
         self.ending == other.ending && self.output == other.output
     }
+
+    /// Whether this was run, and not refused.
+    pub(crate) fn has_run(&self) -> bool {
+        let ending = self.ending.as_str();
+        ending.starts_with("ends ") || ending.starts_with("trap ") || ending == "cut "
+    }
+
+    /// Whether so much went out: all that is written, and behind an end its answer and a line feed; where it goes on, the beginning.
+    pub(crate) fn sends(&self, bytes: &[u8]) -> bool {
+        if self.ending.as_str() == "cut " {
+            return self.output.as_slice().starts_with(bytes);
+        }
+        let Some(behind) = bytes.strip_prefix(self.output.as_slice()) else {
+            return false;
+        };
+        match self.ending.as_str().strip_prefix("ends ") {
+            Some(answer) => behind.strip_suffix(b"\n") == Some(answer.as_bytes()),
+            None => behind.is_empty(),
+        }
+    }
 }
 
 impl fmt::Display for Found {

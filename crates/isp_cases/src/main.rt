@@ -17,6 +17,7 @@
 
 mod case;
 mod found;
+mod kept;
 mod ways;
 
 use case::{Case, Tried};

@@ -1,9 +1,10 @@
 //! The ways in which a program is run: by the evaluator, and by its code.
 use crate::case::Case;
 use crate::found::Found;
+use crate::kept::Kept;
 use isp_base::{Bound, Signature};
 use isp_bind::{answer, bind};
-use isp_engine::{Ending, Report, compile, execute, front};
+use isp_engine::{Ending, Image, Report, compile, execute, front, run_to};
 use isp_lex::SourceFault;
 use isp_model::{Outcome, evaluate, work};
 use isp_rates::Checked;
@@ -127,20 +128,39 @@ fn budget(case: &Case<'_>, wanted: &Found) -> u64 {
     }
 }
 
-/// What the code of a case comes to, where its source is a program.
+/// What the code of a case comes to by its report, or nothing where its entry or its arguments are refused.
 pub(crate) fn executed(
     alloc: Global,
     case: &Case<'_>,
+    image: &Image,
     wanted: &Found,
 ) -> Result<Option<Found>, AllocError> {
-    let Ok(image) = compile(alloc, case.marked.source.as_str(), case.gang) else {
-        return Ok(None);
-    };
-    let budget = budget(case, wanted);
-    match execute(alloc, &image, case.entry, case.arguments.as_str(), budget) {
+    let json = case.arguments.as_str();
+    match execute(alloc, image, case.entry, json, budget(case, wanted)) {
         Err(_fault) => Ok(None),
         Ok(report) => Ok(Some(reported(alloc, report)?)),
     }
+}
+
+/// What goes out while the code of a case runs, or nothing where its entry or its arguments are refused.
+pub(crate) fn sent(
+    alloc: Global,
+    case: &Case<'_>,
+    image: &Image,
+    wanted: &Found,
+) -> Option<Vec<u8>> {
+    let mut out = Kept::new(alloc);
+    let json = case.arguments.as_str();
+    run_to(
+        alloc,
+        image,
+        case.entry,
+        json,
+        budget(case, wanted),
+        &mut out,
+    )
+    .ok()?;
+    Some(out.bytes)
 }
 
 fn reported(alloc: Global, report: Report) -> Result<Found, AllocError> {
