@@ -27,19 +27,19 @@ use Rattle.isp_masks.proofs.Writing.{texts_still, writes_past, writes_then}
 
 pub word_low : (bs : List ℕ) → length (first_word bs) ≤ length bs
 word_low [] = omega arith
-word_low (b ∷ bs) = go (b == percent)
+word_low (b ∷ bs) = go (word_low bs) (b == percent)
   where
-    go : (z : Bool) → length (if z then [] else b ∷ first_word bs) ≤ suc (length bs)
-    go true = omega arith
-    go false = let n = word_low bs in omega (arith, n)
+    go : length (first_word bs) ≤ length bs → (z : Bool) → length (if z then [] else b ∷ first_word bs) ≤ suc (length bs)
+    go n true = omega arith
+    go n false = omega (arith, n)
 
 word_taken : (bs : List ℕ) → take (length (first_word bs)) bs ≡ first_word bs
 word_taken [] = refl
-word_taken (b ∷ bs) = go (b == percent)
+word_taken (b ∷ bs) = go (word_taken bs) (b == percent)
   where
-    go : (z : Bool) → take (length (if z then [] else b ∷ first_word bs)) (b ∷ bs) ≡ (if z then [] else b ∷ first_word bs)
-    go true = refl
-    go false = ap (λ w. b ∷ w) (word_taken bs)
+    go : take (length (first_word bs)) bs ≡ first_word bs → (z : Bool) → take (length (if z then [] else b ∷ first_word bs)) (b ∷ bs) ≡ (if z then [] else b ∷ first_word bs)
+    go e true = refl
+    go e false = ap (λ w. b ∷ w) e
 
 -- a word before parts that begin with a value, or none
 abbrev glued : List ℕ → List Part → List Part
@@ -60,23 +60,25 @@ glue_on b (c ∷ bs) = go (c == percent) refl
 
 pub parts_word : (bs : List ℕ) → parts bs ≡ glued (first_word bs) (parts (rest_of bs))
 parts_word [] = refl
-parts_word (b ∷ bs) = go (b == percent) refl
+parts_word (b ∷ bs) = go (parts_word bs) (b == percent) refl
   where
-    go : (z : Bool) → (b == percent) ≡ z → (if z then Value ∷ parts bs else before b (parts bs)) ≡ glued (if z then [] else b ∷ first_word bs) (parts (drop (length (if z then [] else b ∷ first_word bs)) (b ∷ bs)))
-    go true e = subst (λ y. Value ∷ parts bs ≡ (if y then Value ∷ parts bs else before b (parts bs))) (sym e) refl
-    go false e = ap (before b) (parts_word bs) ∙ glue_on b bs
+    go : parts bs ≡ glued (first_word bs) (parts (rest_of bs)) → (z : Bool) → (b == percent) ≡ z
+        → (if z then Value ∷ parts bs else before b (parts bs)) ≡ glued (if z then [] else b ∷ first_word bs) (parts (drop (length (if z then [] else b ∷ first_word bs)) (b ∷ bs)))
+    go w true e = subst (λ y. Value ∷ parts bs ≡ (if y then Value ∷ parts bs else before b (parts bs))) (sym e) refl
+    go w false e = ap (before b) w ∙ glue_on b bs
 
 -- and then comes a value
 pub value_behind : (bs : List ℕ) → length (first_word bs) < length bs → parts (rest_of bs) ≡ Value ∷ parts (drop (length (first_word bs) + 1) bs)
 value_behind [] lt = absurd (omega (arith, lt))
-value_behind (b ∷ bs) lt = go (b == percent) refl lt
+value_behind (b ∷ bs) lt = go (value_behind bs) (b == percent) refl lt
   where
-    go : (z : Bool) → (b == percent) ≡ z → length (if z then [] else b ∷ first_word bs) < suc (length bs) → parts (drop (length (if z then [] else b ∷ first_word bs)) (b ∷ bs)) ≡ Value ∷ parts (drop (length (if z then [] else b ∷ first_word bs) + 1) (b ∷ bs))
-    go true e low = subst (λ y. (if y then Value ∷ parts bs else before b (parts bs)) ≡ Value ∷ parts bs) (sym e) refl
-    go false e low =
+    go : (length (first_word bs) < length bs → parts (rest_of bs) ≡ Value ∷ parts (drop (length (first_word bs) + 1) bs)) → (z : Bool) → (b == percent) ≡ z → length (if z then [] else b ∷ first_word bs) < suc (length bs)
+        → parts (drop (length (if z then [] else b ∷ first_word bs)) (b ∷ bs)) ≡ Value ∷ parts (drop (length (if z then [] else b ∷ first_word bs) + 1) (b ∷ bs))
+    go w true e low = subst (λ y. (if y then Value ∷ parts bs else before b (parts bs)) ≡ Value ∷ parts bs) (sym e) refl
+    go w false e low =
         let n = length (first_word bs) in
         let far : suc n + 1 ≡ suc (n + 1) = omega arith in
-        value_behind bs (omega (arith, low)) ∙ ap (λ m. Value ∷ parts (drop m (b ∷ bs))) (sym far)
+        w (omega (arith, low)) ∙ ap (λ m. Value ∷ parts (drop m (b ∷ bs))) (sym far)
 
 -- ---- what is written
 
@@ -130,23 +132,6 @@ said a b c (w ∷ ws) n lt e f g =
       places = g.places ∙ append-nil b.places.items ∙ f.places ∙ sym (append-nil a.places.items);
       texts = texts_still b c g.texts ∙ f.texts;
     }
-
--- the end of the first word, byte by byte
-next_byte : (bs : List ℕ) (i b : ℕ) → i < length bs → b ≡ get_or bs i b → length (first_word (drop i bs)) ≡ length (if b == percent then [] else b ∷ first_word (drop (i + 1) bs))
-next_byte bs i b lt is = ap (λ z. length (first_word z)) (drop_more bs i b lt ∙ ap (λ z. z ∷ drop (i + 1) bs) (sym is))
-
-pub word_stops : (bs : List ℕ) (i b : ℕ) → i < length bs → b ≡ get_or bs i b → (b == percent) ≡ true → length (first_word bs) ≡ i + length (first_word (drop i bs)) → length (first_word bs) ≡ i
-word_stops bs i b lt is hit e =
-    let none : length (first_word (drop i bs)) ≡ 0 = next_byte bs i b lt is ∙ ap (λ (t : Bool). length (if t then [] else b ∷ first_word (drop (i + 1) bs))) hit in
-    omega (arith, e, none)
-
-pub word_goes : (bs : List ℕ) (i b : ℕ) → i < length bs → b ≡ get_or bs i b → (b == percent) ≡ false → length (first_word bs) ≡ i + length (first_word (drop i bs)) → length (first_word bs) ≡ i + 1 + length (first_word (drop (i + 1) bs))
-word_goes bs i b lt is other e =
-    let one : length (first_word (drop i bs)) ≡ suc (length (first_word (drop (i + 1) bs))) = next_byte bs i b lt is ∙ ap (λ (t : Bool). length (if t then [] else b ∷ first_word (drop (i + 1) bs))) other in
-    omega (arith, e, one)
-
-pub word_all : (bs : List ℕ) (i : ℕ) → length bs ≤ i → length (first_word bs) ≡ i + length (first_word (drop i bs)) → length (first_word bs) ≡ length bs
-word_all bs i le e = let low = word_low bs in omega (arith, e, le, low)
 
 -- ---- the values
 
