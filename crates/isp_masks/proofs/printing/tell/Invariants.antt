@@ -1,5 +1,5 @@
--- Whoever writes what stands behind the word that was said last has written all.
-use Rattle.std.proofs.Common.{◌≡◌, drop, length}
+-- The rest is no longer than the text, and whoever writes what stands behind the word that was said last has written all.
+use Rattle.std.proofs.Common.{◌≡◌, ◌≤◌, drop, length}
 use Rattle.isp_lower.specs.declared.types.Body.{Body}
 use Rattle.isp_masks.specs.Printed.{first_word, told_at}
 use Rattle.isp_masks.specs.Prints.{parts}
@@ -9,7 +9,8 @@ use Rattle.isp_masks.proofs.printing.tell.Given as goal
 abbrev pub invariant-loop-end : goal.invariant-loop-end
 invariant-loop-end l =
     (l.end ≡ length (first_word l.rest))
-    × ((h : Body) → Writes l.b h (told_at (parts (drop l.end l.rest)) l.left l.k.number) → Writes l.initial.b h (told_at (parts l.text) l.shown l.k.number))
+    × (length l.rest ≤ length l.text)
+    × ((h : Body) → Writes l.b h (told_at (parts (drop l.end l.rest)) l.left l.k.number) → Writes l.fn.b h (told_at (parts l.text) l.shown l.k.number))
 
 abbrev pub decreases-loop-end : goal.decreases-loop-end
 decreases-loop-end l = length l.rest
