@@ -12,7 +12,7 @@ loop-x-preserved c =
     λ k g.
     c.loop-x.invariant k
     (subst (λ a. Gives c.loop-x.r k a) (sym (asked_more xs i c.loop-x.at.number c.x-item.result c.loop-x-test.true c.x-item.is))
-    (both_given _ _ _ _ _ (rw next at c.in_ok-next.ensures.gives) (both_given _ _ _ _ _ (rw c.ty.ensures at c.in_ok-operand.ensures) (subst (λ m. Gives c.operand.new.r k (asked (drop (i + 1) xs) m)) next g))))
+    (both_given _ _ _ _ _ (rw next at c.in_ok-next.ensures.gives) (both_given _ _ _ _ _ (rw c.ty.ensures at c.in_ok-operand.ensures) (subst (λ m. Gives c.operand.new.self k (asked (drop (i + 1) xs) m)) next g))))
 
 pub returns : goal.returns
 returns c =

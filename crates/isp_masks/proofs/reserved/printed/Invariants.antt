@@ -6,4 +6,4 @@ use Rattle.isp_masks.proofs.Telling.{asked}
 use Rattle.isp_masks.proofs.reserved.printed.Given as goal
 
 abbrev pub invariant-loop-x : goal.invariant-loop-x
-invariant-loop-x l = (c : Reserve) → Gives l.r c (asked (drop l.x-index l.all) l.at.number) → Gives l.initial.r c (asked l.all l.slot.number)
+invariant-loop-x l = (c : Reserve) → Gives l.r c (asked (drop l.x-index l.all) l.at.number) → Gives l.initial.r c (asked l.all l.initial.at.number)
