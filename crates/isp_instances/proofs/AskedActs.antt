@@ -90,7 +90,7 @@ module _ (frame : Frame) (fs : List TFunction) (IsCallable : ℕ → Type 0) (va
       sym (ap (λ t. (t || v m) && is_uniform (slice_get vars m)) other) ∙ h
 
   -- a variable that is not uniform adds nothing
-  adds_nothing : (v : Scope) (n : ℕ) → is_uniform (slice_get vars n) ≡ false → (m : ℕ) → uniforms_in vars (declared n v) m ≡ true → uniforms_in vars v m ≡ true
+  pub adds_nothing : (v : Scope) (n : ℕ) → is_uniform (slice_get vars n) ≡ false → (m : ℕ) → uniforms_in vars (declared n v) m ≡ true → uniforms_in vars v m ≡ true
   adds_nothing v n e m h = go (cases_eq m n) where
     go : (m ≡ n) ⊎ (m ≡ n → ⊥) → uniforms_in vars v m ≡ true
     go (inl d) = absurd (true≢false (sym (both_right _ _ h) ∙ ap (λ j. is_uniform (slice_get vars j)) d ∙ e))

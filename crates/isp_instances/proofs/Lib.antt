@@ -18,4 +18,9 @@ pub mod Stores
 pub mod Acts
 pub mod AskedActs
 pub mod Returns
+pub mod Rounds
+pub mod Full
+pub mod Scopes
+pub mod Standing
+pub mod Runs
 pub mod Whole

@@ -4,7 +4,7 @@ use Rattle.isp_meaning.specs.Loops.{turns}
 use Rattle.isp_alone.specs.Calls.{own_calls}
 use Rattle.isp_instances.specs.Acts.{closed_in}
 use Rattle.isp_instances.specs.Asked.{uniforms_in}
-use Rattle.isp_instances.specs.Laws.{TouchedStays, ExpressionsAgree, ActsAgree, LoopsAgree, StatementsAgree}
+use Rattle.isp_instances.specs.Laws.{TouchedStays, ExpressionsAgree, ActsAgree, LoopsAgree, StatementsAgree, BodiesAgree}
 use Rattle.isp_instances.proofs.Grows.{answer_up, does_up, own_calls_up}
 use Rattle.isp_instances.proofs.Asked.{asked_fair}
 use Rattle.isp_instances.proofs.Expressions.{value_sim}
@@ -14,6 +14,7 @@ use Rattle.isp_instances.proofs.Sequences.{then_sim}
 use Rattle.isp_instances.proofs.Branches.{varying_sides}
 use Rattle.isp_instances.proofs.Stmts.{uniform_sides}
 use Rattle.isp_instances.proofs.Loops.{turns_sim, tested_sim}
+use Rattle.isp_instances.proofs.Runs.{stmt_sim, block_sim}
 use Rattle.isp_base.specs.Types.{gang_width}
 
 pub touched_stays : TouchedStays
@@ -48,4 +49,12 @@ statements_agree = record {
   varying_if = λ w here closed v v1 v2 x y a first second own own2 r m test some shut closed_in sim sim2 h.
       record { go = λ s σ st sa top ends. varying_sides w here closed v v1 v2 x y a some shut closed_in first second own own2 sim sim2 r m test h s σ st sa ends };
   uniform_if = λ w here v v1 v2 x y a first second own own2 c test some wider wider2 sim sim2 h. uniform_sides w here v a v1 v2 x y (first a) (second a) own own2 some wider wider2 sim sim2 c test h;
+}
+
+pub bodies_agree : BodiesAgree
+bodies_agree = record {
+  statement = λ program entry w calls own vars most control around v n x a wide touch agree opens asked some.
+      stmt_sim w touch program.functions (IsCalled program.functions entry) calls own agree vars opens most program.gang wide x control around v n asked a some;
+  body = λ program entry w calls own vars most control around v n b a wide touch agree opens asked some.
+      block_sim w touch program.functions (IsCalled program.functions entry) calls own agree vars opens most program.gang wide b control around v n asked.fine asked.rates asked.alone asked.known asked.called asked.stood asked.early asked.quiet a some;
 }

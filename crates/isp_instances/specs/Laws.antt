@@ -3,14 +3,15 @@ use Rattle.isp_base.specs.declared.types.Rate.{Rate}
 use Rattle.isp_base.specs.declared.types.Rate.TheVariants.{Uniform}
 use Rattle.isp_meaning.specs.Payloads.{Payload, One, is_true}
 use Rattle.isp_meaning.specs.Outcomes.{Res, then_run, unless_empty}
-use Rattle.isp_meaning.specs.Statements.{branches}
+use Rattle.isp_meaning.specs.Statements.{branches, run, block}
 use Rattle.isp_instances.specs.Statements.{Ways, ways_of, parted_ways, Here, ActSim, StmtSim}
 use Rattle.std.specs.Prelude.{◌≡◌, Bool, true, false, ℕ, List}
 use Rattle.isp_base.specs.Sets.{Mask}
 use Rattle.isp_base.specs.Types.{gang_width}
-use Rattle.isp_typed.specs.Scoped.{Scope, scope_after}
-use Rattle.isp_typed.specs.Typed.{TExpr, TItem, TSimple, TStmt, Program, rate_of}
+use Rattle.isp_typed.specs.Scoped.{Scope, scope_after, scope_after_stmt}
+use Rattle.isp_typed.specs.Typed.{TExpr, TItem, TSimple, TStmt, TBlock, Program, rate_of}
 use Rattle.isp_typed.specs.declared.variable.Variable.{Variable}
+use Rattle.isp_rates.specs.declared.exits.Within.{Within as Around}
 use Rattle.isp_independence.specs.Independent.{IsCalled}
 use Rattle.isp_independence.specs.declared.control.Control.{Control}
 use Rattle.isp_meaning.specs.State.{State, Frame}
@@ -21,7 +22,7 @@ use Rattle.isp_alone.specs.Alone.{Alone}
 use Rattle.isp_alone.specs.Answers.{reached, End, choose, then_on}
 use Rattle.isp_alone.specs.Values.{OwnCalls, answer}
 use Rattle.isp_alone.specs.Loops.{turns as own_turns, tested as own_tested}
-use Rattle.isp_alone.specs.Does.{does}
+use Rattle.isp_alone.specs.Does.{does, does_block}
 use Rattle.isp_alone.specs.Steps.{simple as own_simple, items as own_items}
 use Rattle.isp_alone.specs.Calls.{own_calls}
 use Rattle.isp_instances.specs.Stands.{World, Within, TouchNothing, AreSome, left_at, Up}
@@ -29,6 +30,7 @@ use Rattle.isp_instances.specs.Values.{Sim, Stand, CallsAgree}
 use Rattle.isp_instances.specs.Acts.{closed_in, AskedOfSimple, AskedOfItems}
 use Rattle.isp_instances.specs.Asked.{uniforms_in, OpenArrays, AskedOf}
 use Rattle.isp_instances.specs.Loops.{LoopParts, LoopSim}
+use Rattle.isp_instances.specs.Bodies.{here_of, ways_at, ways_in, AskedOfStmt, AskedOfBody}
 
 -- what an instance alone has read stays read, and where it has stored it has stored, whatever it does next
 pub record TouchedStays : Type 0 where
@@ -99,3 +101,22 @@ pub record StatementsAgree : Type 0 where
       → StmtSim w here v v2 y a (second a) own2
       → Stand w.gang a Uniform (One c) test
       → StmtSim w here v v (ways_of x y) a (branches w.gang a first second (One c)) (λ p s. choose (is_true (test p)) (own p) (own2 p) s)
+
+-- A statement over a set, and a body, are left by each member as its run alone leaves them.
+pub record BodiesAgree : Type 0 where
+  pub statement : (program : Program) (entry : ℕ) (w : World) (calls : Calls) (own : ℕ → OwnCalls) (vars : List Variable) (most : ℕ) (control : Control) (around : Around) (v : Scope) (n : ℕ) (x : TStmt) (a : Mask)
+      → w.gang ≡ gang_width program.gang
+      → TouchNothing w.gang w.last
+      → CallsAgree w program.functions (IsCalled program.functions entry) calls own
+      → OpenArrays w.frame vars
+      → AskedOfStmt w program.functions vars (IsCalled program.functions entry) control around v n x
+      → AreSome w.gang a
+      → StmtSim w (here_of control around) (uniforms_in vars v) (uniforms_in vars (scope_after_stmt v n x)) (ways_at x) a (run w.gang w.frame calls most x a) (λ p. does w.gang w.begin p w.frame (own p) most x)
+  pub body : (program : Program) (entry : ℕ) (w : World) (calls : Calls) (own : ℕ → OwnCalls) (vars : List Variable) (most : ℕ) (control : Control) (around : Around) (v : Scope) (n : ℕ) (b : TBlock) (a : Mask)
+      → w.gang ≡ gang_width program.gang
+      → TouchNothing w.gang w.last
+      → CallsAgree w program.functions (IsCalled program.functions entry) calls own
+      → OpenArrays w.frame vars
+      → AskedOfBody w program.functions vars (IsCalled program.functions entry) control around v n b
+      → AreSome w.gang a
+      → StmtSim w (here_of control around) (uniforms_in vars v) (uniforms_in vars v) (ways_in b) a (block w.gang w.frame calls most b a) (λ p. does_block w.gang w.begin p w.frame (own p) most b)

@@ -4,6 +4,7 @@ pub mod Statements
 pub mod Loops
 pub mod Asked
 pub mod Acts
+pub mod Bodies
 pub mod Laws
 pub mod Samples
 pub mod Correct

@@ -1,5 +1,5 @@
 //! Laws of the gang and its instances. No code is run here: each function carries a law in its contract.
-ghost use Rattle.isp_instances.specs.Laws.{ActsAgree, ExpressionsAgree, LoopsAgree, StatementsAgree, TouchedStays};
+ghost use Rattle.isp_instances.specs.Laws.{ActsAgree, BodiesAgree, ExpressionsAgree, LoopsAgree, StatementsAgree, TouchedStays};
 ghost use Rattle.isp_instances.specs.Samples.{AgreementOfSamples};
 
 /// What an instance alone has read stays read, and where it has stored it has stored, whatever it does next: so a part of a run
@@ -36,4 +36,11 @@ pub fn agreement_of_samples()
 /// Statements one after the other, and the branches of an `if`, do in each member what they do there alone, if their parts do.
 pub fn statements_agree()
     ensures { StatementsAgree }
+{}
+
+/// Every statement over a set, and every body, is left by each member as its run alone leaves it, where names, types, rates and
+/// exits accept it and it breaks no rule of independent entries where it stands, if calls are such. Where an entry that nobody
+/// leaves early is run by the whole gang, so is each `foreach` in it.
+pub fn bodies_agree()
+    ensures { BodiesAgree }
 {}

@@ -4,6 +4,6 @@
 mod laws;
 
 pub use laws::{
-    acts_agree, agreement_of_samples, expressions_agree, loops_agree, statements_agree,
-    touched_stays,
+    acts_agree, agreement_of_samples, bodies_agree, expressions_agree, loops_agree,
+    statements_agree, touched_stays,
 };
