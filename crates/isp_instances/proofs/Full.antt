@@ -13,7 +13,7 @@ use Rattle.isp_instances.specs.Stands.{AreSome}
 use Rattle.isp_instances.proofs.Rounds.{AllSome}
 
 -- a member makes a set one that has some
-any_of : (n : ℕ) (a : Mask) (p : ℕ) → p < n → a p ≡ true → any n a ≡ true
+pub any_of : (n : ℕ) (a : Mask) (p : ℕ) → p < n → a p ≡ true → any n a ≡ true
 any_of zero a p lt e = let no : ⊥ = omega (arith, lt) in absurd no
 any_of (suc n) a p lt e = ⊎_elim (λ d. last (any n a) (a n) (ap a (sym d) ∙ e)) (λ d. let lt2 : p < n = omega (arith, lt, d) in first (any n a) (a n) (any_of n a p lt2 e)) (cases_eq p n) where
   last : (x y : Bool) → y ≡ true → (x || y) ≡ true

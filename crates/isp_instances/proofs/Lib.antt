@@ -23,4 +23,9 @@ pub mod Full
 pub mod Scopes
 pub mod Standing
 pub mod Runs
+pub mod Declared
+pub mod Starts
+pub mod Handed
+pub mod Calls
+pub mod Entry
 pub mod Whole

@@ -4,7 +4,7 @@ use Rattle.isp_meaning.specs.Loops.{turns}
 use Rattle.isp_alone.specs.Calls.{own_calls}
 use Rattle.isp_instances.specs.Acts.{closed_in}
 use Rattle.isp_instances.specs.Asked.{uniforms_in}
-use Rattle.isp_instances.specs.Laws.{TouchedStays, ExpressionsAgree, ActsAgree, LoopsAgree, StatementsAgree, BodiesAgree}
+use Rattle.isp_instances.specs.Laws.{TouchedStays, ExpressionsAgree, ActsAgree, LoopsAgree, StatementsAgree, BodiesAgree, EveryCallAgrees}
 use Rattle.isp_instances.proofs.Grows.{answer_up, does_up, own_calls_up}
 use Rattle.isp_instances.proofs.Asked.{asked_fair}
 use Rattle.isp_instances.proofs.Expressions.{value_sim}
@@ -15,6 +15,8 @@ use Rattle.isp_instances.proofs.Branches.{varying_sides}
 use Rattle.isp_instances.proofs.Stmts.{uniform_sides}
 use Rattle.isp_instances.proofs.Loops.{turns_sim, tested_sim}
 use Rattle.isp_instances.proofs.Runs.{stmt_sim, block_sim}
+use Rattle.isp_instances.proofs.Calls.{calls_agree}
+use Rattle.isp_instances.proofs.Entry.{called_fair}
 use Rattle.isp_base.specs.Types.{gang_width}
 
 pub touched_stays : TouchedStays
@@ -58,3 +60,6 @@ bodies_agree = record {
   body = λ program entry w calls own vars most control around v n b a wide touch agree opens asked some.
       block_sim w touch program.functions (IsCalled program.functions entry) calls own agree vars opens most program.gang wide b control around v n asked.fine asked.rates asked.alone asked.known asked.called asked.stood asked.early asked.quiet a some;
 }
+
+pub every_call_agrees : EveryCallAgrees
+every_call_agrees program entry w most left accepted independent wide touch = calls_agree program entry most (called_fair program accepted entry independent) left w touch wide

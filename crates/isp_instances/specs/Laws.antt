@@ -12,7 +12,8 @@ use Rattle.isp_typed.specs.Scoped.{Scope, scope_after, scope_after_stmt}
 use Rattle.isp_typed.specs.Typed.{TExpr, TItem, TSimple, TStmt, TBlock, Program, rate_of}
 use Rattle.isp_typed.specs.declared.variable.Variable.{Variable}
 use Rattle.isp_rates.specs.declared.exits.Within.{Within as Around}
-use Rattle.isp_independence.specs.Independent.{IsCalled}
+use Rattle.isp_rates.specs.Program.{IsAccepted}
+use Rattle.isp_independence.specs.Independent.{IsCalled, IsIndependent}
 use Rattle.isp_independence.specs.declared.control.Control.{Control}
 use Rattle.isp_meaning.specs.State.{State, Frame}
 use Rattle.isp_meaning.specs.Expressions.{Calls, value}
@@ -24,6 +25,7 @@ use Rattle.isp_alone.specs.Values.{OwnCalls, answer}
 use Rattle.isp_alone.specs.Loops.{turns as own_turns, tested as own_tested}
 use Rattle.isp_alone.specs.Does.{does, does_block}
 use Rattle.isp_alone.specs.Steps.{simple as own_simple, items as own_items}
+use Rattle.isp_meaning.specs.Calls.{calls_at}
 use Rattle.isp_alone.specs.Calls.{own_calls}
 use Rattle.isp_instances.specs.Stands.{World, Within, TouchNothing, AreSome, left_at, Up}
 use Rattle.isp_instances.specs.Values.{Sim, Stand, CallsAgree}
@@ -120,3 +122,14 @@ pub record BodiesAgree : Type 0 where
       → AskedOfBody w program.functions vars (IsCalled program.functions entry) control around v n b
       → AreSome w.gang a
       → StmtSim w (here_of control around) (uniforms_in vars v) (uniforms_in vars v) (ways_in b) a (block w.gang w.frame calls most b a) (λ p. does_block w.gang w.begin p w.frame (own p) most b)
+
+-- A call of any function that an independent entry reaches does in each member what it does there alone, however many levels are
+-- left for the calls in it.
+abbrev pub EveryCallAgrees : Type 0
+EveryCallAgrees =
+    (program : Program) (entry : ℕ) (w : World) (most left : ℕ)
+    → IsAccepted program
+    → IsIndependent program entry
+    → w.gang ≡ gang_width program.gang
+    → TouchNothing w.gang w.last
+    → CallsAgree w program.functions (IsCalled program.functions entry) (calls_at program most left) (λ p. own_calls program most w.begin p left)

@@ -1,5 +1,6 @@
 //! Laws of the gang and its instances. No code is run here: each function carries a law in its contract.
-ghost use Rattle.isp_instances.specs.Laws.{ActsAgree, BodiesAgree, ExpressionsAgree, LoopsAgree, StatementsAgree, TouchedStays};
+ghost use Rattle.isp_instances.specs.Correct.{SoloRunsAgree};
+ghost use Rattle.isp_instances.specs.Laws.{ActsAgree, BodiesAgree, EveryCallAgrees, ExpressionsAgree, LoopsAgree, StatementsAgree, TouchedStays};
 ghost use Rattle.isp_instances.specs.Samples.{AgreementOfSamples};
 
 /// What an instance alone has read stays read, and where it has stored it has stored, whatever it does next: so a part of a run
@@ -43,4 +44,17 @@ pub fn statements_agree()
 /// leaves early is run by the whole gang, so is each `foreach` in it.
 pub fn bodies_agree()
     ensures { BodiesAgree }
+{}
+
+/// Every call of a function that an independent entry reaches does in each member what it does there alone, if each member's call
+/// alone ends and reads and stores nothing that another instance's run stores in, however deep calls go.
+pub fn every_call_agrees()
+    ensures { EveryCallAgrees }
+{}
+
+/// The gang leaves what its instances leave one by one. Where an entry of an accepted program is independent, and each instance
+/// alone, from the bound arrays, ends and touches nothing that another stores in, the gang's run ends: its arrays are those of its
+/// instances one by one, in any order, it has printed nothing, and its result is each instance's own.
+pub fn solo_runs_agree()
+    ensures { SoloRunsAgree }
 {}
