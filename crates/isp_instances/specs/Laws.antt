@@ -106,22 +106,26 @@ pub record StatementsAgree : Type 0 where
 
 -- A statement over a set, and a body, are left by each member as its run alone leaves them.
 pub record BodiesAgree : Type 0 where
-  pub statement : (program : Program) (entry : ℕ) (w : World) (calls : Calls) (own : ℕ → OwnCalls) (vars : List Variable) (most : ℕ) (control : Control) (around : Around) (v : Scope) (n : ℕ) (x : TStmt) (a : Mask)
+  pub statement : (program : Program) (entry : ℕ) (w : World) (calls : Calls) (own : ℕ → OwnCalls) (vars : List Variable) (most : ℕ)
+      → (control : Control) (around : Around) (v : Scope) (n : ℕ) (x : TStmt) (a : Mask)
       → w.gang ≡ gang_width program.gang
       → TouchNothing w.gang w.last
       → CallsAgree w program.functions (IsCalled program.functions entry) calls own
       → OpenArrays w.frame vars
       → AskedOfStmt w program.functions vars (IsCalled program.functions entry) control around v n x
       → AreSome w.gang a
-      → StmtSim w (here_of control around) (uniforms_in vars v) (uniforms_in vars (scope_after_stmt v n x)) (ways_at x) a (run w.gang w.frame calls most x a) (λ p. does w.gang w.begin p w.frame (own p) most x)
-  pub body : (program : Program) (entry : ℕ) (w : World) (calls : Calls) (own : ℕ → OwnCalls) (vars : List Variable) (most : ℕ) (control : Control) (around : Around) (v : Scope) (n : ℕ) (b : TBlock) (a : Mask)
+      → StmtSim w (here_of control around) (uniforms_in vars v) (uniforms_in vars (scope_after_stmt v n x)) (ways_at x) a
+      (run w.gang w.frame calls most x a) (λ p. does w.gang w.begin p w.frame (own p) most x)
+  pub body : (program : Program) (entry : ℕ) (w : World) (calls : Calls) (own : ℕ → OwnCalls) (vars : List Variable) (most : ℕ)
+      → (control : Control) (around : Around) (v : Scope) (n : ℕ) (b : TBlock) (a : Mask)
       → w.gang ≡ gang_width program.gang
       → TouchNothing w.gang w.last
       → CallsAgree w program.functions (IsCalled program.functions entry) calls own
       → OpenArrays w.frame vars
       → AskedOfBody w program.functions vars (IsCalled program.functions entry) control around v n b
       → AreSome w.gang a
-      → StmtSim w (here_of control around) (uniforms_in vars v) (uniforms_in vars v) (ways_in b) a (block w.gang w.frame calls most b a) (λ p. does_block w.gang w.begin p w.frame (own p) most b)
+      → StmtSim w (here_of control around) (uniforms_in vars v) (uniforms_in vars v) (ways_in b) a
+      (block w.gang w.frame calls most b a) (λ p. does_block w.gang w.begin p w.frame (own p) most b)
 
 -- A call of any function that an independent entry reaches does in each member what it does there alone, however many levels are
 -- left for the calls in it.
@@ -132,4 +136,5 @@ EveryCallAgrees =
     → IsIndependent program entry
     → w.gang ≡ gang_width program.gang
     → TouchNothing w.gang w.last
-    → CallsAgree w program.functions (IsCalled program.functions entry) (calls_at program most left) (λ p. own_calls program most w.begin p left)
+    → CallsAgree w program.functions (IsCalled program.functions entry) (calls_at program most left)
+    (λ p. own_calls program most w.begin p left)
