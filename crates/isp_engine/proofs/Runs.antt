@@ -22,7 +22,7 @@ use Rattle.isp_bind.specs.Binding.{bound_of}
 use Rattle.isp_bind.specs.declared.fault.BindFault.{BindFault}
 use Rattle.isp_bind.specs.declared.fault.BindFault.TheVariants as bind
 use Rattle.isp_engine.specs.Faults.{run_fault}
-use Rattle.isp_engine.specs.Reports.{Reports, Runs, Executes}
+use Rattle.isp_engine.specs.Reports.{Reports, ReportsRun, Runs, Executes}
 use Rattle.isp_engine.specs.declared.fault.RunFault.{RunFault}
 use Rattle.isp_engine.specs.declared.fault.RunFault.TheVariants as fault
 use Rattle.isp_engine.specs.Stops.{StopsAs}
@@ -72,7 +72,7 @@ module _ (code : Listing) (fine : NeverStuck code) (entry json : List ℕ) (b : 
       some_same h g e = cc
 
   -- the machine's report
-  pub reported : (xs : List Argument) → bound_of ps json ≡ Ok xs → (r : Report) → ((f1 : ℕ) (g : Routine) → IsExport code entry f1 g → Reports ps (outcome_after code f1 g xs b) r) → Executes code entry json b (Ok r)
+  pub reported : (xs : List Argument) → bound_of ps json ≡ Ok xs → (r : Report) → ReportsRun code entry ps xs b r → Executes code entry json b (Ok r)
   reported xs bound r reports = record {
     none = λ no. absurd (no f h x);
     runs = λ f1 g y.

@@ -22,7 +22,7 @@ use Rattle.isp_verify.specs.Progress.{NeverStuck}
 use Rattle.isp_engine.specs.declared.fault.RunFault.{RunFault}
 use Rattle.isp_engine.specs.declared.fault.RunFault.TheVariants.{Memory as NoMemory, NoEntry, Arguments, WriteFailed}
 use Rattle.isp_engine.specs.declared.report.Report.{Report}
-use Rattle.isp_engine.specs.Reports.{Executes, Reports}
+use Rattle.isp_engine.specs.Reports.{Executes, Reports, ReportsRun}
 use Rattle.isp_engine.specs.Sending.{Sends, SendsFirst, SendsOf, SentSome, answer_bytes, report_bytes, sent}
 use Rattle.isp_engine.specs.Sinks.{TookAll, TookFirst, TookSome, adds}
 use Rattle.isp_engine.specs.Stops.{Adds, MadeSome, StopsAs, out_now}
@@ -137,7 +137,7 @@ module _ (code : Listing) (fine : NeverStuck code) (entry json : List ℕ) (b : 
   sends_of (Err NoEntry) h = absurd h
   sends_of (Err (Arguments z)) h = absurd h
 
-  pub answers_of : (answer : Result Report RunFault) → IfOk answer (λ r. (f1 : ℕ) (g1 : Routine) → IsExport code entry f1 g1 → Reports ps (outcome_after code f1 g1 xs b) r) → SendsOf code ps f g xs b old new failed answer → answer ≢ Err WriteFailed → Executes code entry json b answer
+  pub answers_of : (answer : Result Report RunFault) → IfOk answer (ReportsRun code entry ps xs b) → SendsOf code ps f g xs b old new failed answer → answer ≢ Err WriteFailed → Executes code entry json b answer
   answers_of (Ok r) h k ne = reported code fine entry json b f g x ps is xs bound r h
   answers_of (Err NoMemory) h k ne = no_memory code fine entry json b f g x ps is
   answers_of (Err WriteFailed) h k ne = absurd (ne refl)

@@ -21,6 +21,10 @@ Reports params (Ends arrays answer out) r = (r.ending ≡ Ended) × (r.output.it
 Reports params (Traps t arrays out) r = (r.ending ≡ Trapped t) × (r.output.items ≡ out) × (r.answer ≡ None)
 Reports params (GoesOn out) r = (r.ending ≡ Running) × (r.output.items ≡ out) × (r.answer ≡ None)
 
+-- a report of the function that is exported under a name
+abbrev pub ReportsRun : Listing → List ℕ → List Parameter → List Argument → ℕ → Report → Type 0
+ReportsRun code entry params xs budget r = (f : ℕ) (g : Routine) → IsExport code entry f g → Reports params (outcome_after code f g xs budget) r
+
 -- a run of an entry is the machine's from the arguments that the text binds; else the refusal of the arguments, or want of memory
 abbrev pub Runs : Listing → ℕ → Routine → List ℕ → ℕ → Result Report RunFault → Type 0
 Runs code f g json budget (Ok r) =

@@ -5,13 +5,13 @@ ghost use Rattle.isp_base.specs.Types.{gang_width};
 ghost use Rattle.isp_base.specs.declared.types.Gang.{Gang};
 ghost use Rattle.isp_code.specs.Entries.{IsEntry, IsExport};
 ghost use Rattle.isp_code.specs.Listing.{Routine};
-ghost use Rattle.isp_code.specs.Machine.{outcome, outcome_after};
+ghost use Rattle.isp_code.specs.Machine.{outcome};
 ghost use Rattle.isp_machine.specs.Kept.{given, state};
 ghost use Rattle.isp_machine.specs.declared.stop.Stop.TheVariants.{Memory};
 ghost use Rattle.isp_store.specs.Held.{shapes_of};
 ghost use Rattle.isp_engine.specs.Images.{IsCompilation};
 ghost use Rattle.isp_engine.specs.Meaning.{Means};
-ghost use Rattle.isp_engine.specs.Reports.{Executes, Reports};
+ghost use Rattle.isp_engine.specs.Reports.{Executes, Reports, ReportsRun};
 ghost use Rattle.isp_engine.specs.Sending.{Sends, SendsOf, answer_bytes};
 ghost use Rattle.isp_engine.specs.Sinks.{TookAll, TookSome};
 ghost use Rattle.isp_engine.specs.Stops.{StopsAs};
@@ -52,7 +52,8 @@ fn report<const N: usize>(
     machine: &Machine<'_, N>,
     stop: Stop,
 ) -> Result<Report, AllocError>
-    ensures reports { IfOk result (λ r. (rs : List Row) → shapes_of rs ≡ given machine.now → StopsAs stop (state machine.now) → Reports signature.now.params.items (outcome rs (state machine.now)) r) }
+    ensures reports { IfOk result (λ r. (rs : List Row) → shapes_of rs ≡ given machine.now
+        → StopsAs stop (state machine.now) → Reports signature.now.params.items (outcome rs (state machine.now)) r) }
     ensures ran { OnOk result (stop ≡ Memory → ⊥) }
 {
     let (ending, answer) = match stop {
@@ -98,7 +99,8 @@ fn run<const N: usize, W: Sink>(
     requires gang { N ≡ gang_width order.now.code.now.gang }
     requires entry { (f : ℕ) × (g : Routine) × IsEntry order.now.code.now order.now.entry.now bound.arguments.items f g }
     requires fresh { W.has_failed out.old ≡ false }
-    ensures reports { IfOk result (λ r. (f : ℕ) (g : Routine) → IsExport order.now.code.now order.now.entry.now f g → Reports order.now.signature.now.params.items (outcome_after order.now.code.now f g bound.arguments.items order.now.budget) r) }
+    ensures reports { IfOk result (ReportsRun order.now.code.now order.now.entry.now
+        order.now.signature.now.params.items bound.arguments.items order.now.budget) }
     ensures sends { (f : ℕ) (g : Routine) → IsExport order.now.code.now order.now.entry.now f g
         → SendsOf order.now.code.now order.now.signature.now.params.items f g bound.arguments.items order.now.budget
         (W.written out.old) (W.written out.new) (W.has_failed out.new) result }
@@ -125,7 +127,8 @@ fn run_for_gang<W: Sink>(
 ) -> Result<Report, RunFault>
     requires entry { (f : ℕ) × (g : Routine) × IsEntry order.now.code.now order.now.entry.now bound.arguments.items f g }
     requires fresh { W.has_failed out.old ≡ false }
-    ensures reports { IfOk result (λ r. (f : ℕ) (g : Routine) → IsExport order.now.code.now order.now.entry.now f g → Reports order.now.signature.now.params.items (outcome_after order.now.code.now f g bound.arguments.items order.now.budget) r) }
+    ensures reports { IfOk result (ReportsRun order.now.code.now order.now.entry.now
+        order.now.signature.now.params.items bound.arguments.items order.now.budget) }
     ensures sends { (f : ℕ) (g : Routine) → IsExport order.now.code.now order.now.entry.now f g
         → SendsOf order.now.code.now order.now.signature.now.params.items f g bound.arguments.items order.now.budget
         (W.written out.old) (W.written out.new) (W.has_failed out.new) result }
