@@ -5,9 +5,9 @@ mod host;
 
 use host::{HostFiles, HostOutput};
 use isp_engine::command;
+use std::env;
 use std::io::ErrorKind;
 use std::process::ExitCode;
-use std::{env, io};
 
 fn main(rt: HostRuntime) -> ExitCode {
     let words = match env::args(&rt) {
@@ -20,7 +20,7 @@ fn main(rt: HostRuntime) -> ExitCode {
     let files = HostFiles::new(&rt);
     let mut out = HostOutput::new(&rt);
     let stderr = rt.stderr();
-    let mut err = io::writer(&stderr);
+    let mut err = HostOutput::new(&stderr);
     let status = command(rt.alloc(), words.as_slice(), &files, &mut out, &mut err);
     ExitCode::from(status)
 }

@@ -8,3 +8,4 @@ pub mod Streams
 pub mod Sends
 pub mod Requests
 pub mod Loads
+pub mod Pieces

@@ -1,76 +1,76 @@
--- What a refused source, refused code and a refused run mean for a request.
-use Rattle.std.proofs.Common.{◌≡◌, ◌≢◌, ℕ, List, Option, Some, Result, Err, refl}
+-- What a refused source, refused code and the answer of a run mean for a request.
+use Rattle.std.proofs.Common.{◌≡◌, ◌≢◌, ℕ, List, Bool, Option, Some, Result, Ok, Err, refl, sym, subst, inl, inr}
+use Rattle.std.specs.Prelude.{⊤}
 use Rattle.isp_base.specs.declared.types.Gang.{Gang}
-use Rattle.isp_bind.specs.declared.fault.BindFault.{BindFault}
-use Rattle.isp_bind.specs.declared.fault.BindFault.TheVariants.{Memory as NoMemory, NotJson, NotObject, Missing, Extra, WrongKind, OutOfRange, TooLong}
-use Rattle.isp_code.specs.Listing.{Listing, Routine}
+use Rattle.isp_code.specs.Listing.{Listing}
 use Rattle.isp_lex.specs.declared.fault.Fault.{Fault}
 use Rattle.isp_lex.specs.declared.fault.SourceFault.{SourceFault}
-use Rattle.isp_lex.specs.declared.fault.SourceFault.TheVariants.{Memory as NoSourceMemory, Refused}
+use Rattle.isp_lex.specs.declared.fault.SourceFault.TheVariants.{Memory as NoMemory, Refused}
+use Rattle.isp_engine.specs.declared.commands.Job.{Job}
+use Rattle.isp_engine.specs.declared.commands.Origin.{Origin}
+use Rattle.isp_engine.specs.declared.commands.Origin.TheVariants.{Compiled, Loaded}
+use Rattle.isp_engine.specs.declared.failure.Failure.{Failure}
+use Rattle.isp_engine.specs.declared.failure.Failure.TheVariants.{Source, Trapped, BudgetUsed, Run, Code, CannotRead, CannotWrite, Memory}
 use Rattle.isp_engine.specs.declared.fault.CodeFault.{CodeFault}
 use Rattle.isp_engine.specs.declared.fault.CodeFault.TheVariants as code_fault
-use Rattle.isp_engine.specs.declared.fault.RunFault.{RunFault}
-use Rattle.isp_engine.specs.declared.fault.RunFault.TheVariants.{Memory as NoRunMemory, NoEntry, Arguments, WriteFailed}
-use Rattle.isp_engine.specs.declared.report.Report.{Report}
 use Rattle.isp_words.specs.declared.words.AsmRequest.{AsmRequest}
-use Rattle.isp_words.specs.declared.words.ExecRequest.{ExecRequest}
-use Rattle.isp_words.specs.declared.words.RunRequest.{RunRequest}
-use Rattle.isp_engine.specs.Commands.{AsmFails, ExecFails, Executed, Reads, RunFails, Runs}
-use Rattle.isp_engine.specs.Compilations.{IsAnswer}
-use Rattle.isp_engine.specs.Failures.{code_failure, run_failure, source_failure}
+use Rattle.isp_engine.specs.Commands.{AsmFails, Given, Holds, IsNoImage, NotGiven, Ran, Reads, RunEnds, Unread}
+use Rattle.isp_engine.specs.Failures.{code_failure, source_failure}
 use Rattle.isp_engine.specs.Front.{IsFaulty}
-use Rattle.isp_engine.specs.Images.{IsCompilation, IsNotLoaded}
-use Rattle.isp_engine.specs.Meaning.{Means}
-use Rattle.isp_engine.specs.Faults.{run_fault}
-use Rattle.isp_engine.specs.Reports.{Executes, Runs as AsRun}
+use Rattle.isp_engine.specs.Images.{IsNotLoaded}
 
-pub answered : (gang : Gang) (text : List ℕ) (code : Listing) (compiled : IsCompilation gang text code) (entry json : List ℕ) (b : ℕ) (answer : Result Report RunFault) → Executes code entry json b answer → ((g : Gang) (t : List ℕ) (k : IsCompilation g t code) → Means k.program entry json b answer) → IsAnswer gang text code compiled entry json b answer
-answered gang text code compiled entry json b answer machine means = record { machine = machine; means = means gang text compiled }
+-- ---- a text that gives no code
 
--- no refusal of arguments is a failed write
-refusal_is_written : (b : BindFault) → WriteFailed ≢ run_fault b
-refusal_is_written NoMemory = λ e. let none : ⊥ = cc in none
-refusal_is_written NotJson = λ e. let none : ⊥ = cc in none
-refusal_is_written NotObject = λ e. let none : ⊥ = cc in none
-refusal_is_written Missing = λ e. let none : ⊥ = cc in none
-refusal_is_written Extra = λ e. let none : ⊥ = cc in none
-refusal_is_written WrongKind = λ e. let none : ⊥ = cc in none
-refusal_is_written OutOfRange = λ e. let none : ⊥ = cc in none
-refusal_is_written TooLong = λ e. let none : ⊥ = cc in none
+pub not_compiled : (gang : Gang) (text : List ℕ) (e : SourceFault) → ((f : Fault) → e ≡ Refused f → IsFaulty gang text f) → source_failure e ≢ Memory → IsNoImage (Compiled gang) text (source_failure e)
+not_compiled gang text NoMemory h n = absurd (n refl)
+not_compiled gang text (Refused f) h n = h f refl
 
-no_refusal : (code : Listing) (f : ℕ) (g : Routine) (json : List ℕ) (b : ℕ) → AsRun code f g json b (Err WriteFailed) → ⊥
-no_refusal code f g json b h =
-    let r = h (λ e. let none : ⊥ = cc in none) in
-    refusal_is_written r.0 r.2
+pub not_loaded : (text : List ℕ) (e : CodeFault) → (e ≢ code_fault.Memory → IsNotLoaded text e) → code_failure e ≢ Memory → IsNoImage Loaded text (code_failure e)
+not_loaded text code_fault.Memory h n = absurd (n refl)
+not_loaded text (code_fault.Text f) h n = h (λ e. let none : ⊥ = cc in none)
+not_loaded text (code_fault.Code f) h n = h (λ e. let none : ⊥ = cc in none)
 
--- what a run of the machine answers is never a failed write
-never_unwritten : (code : Listing) (entry json : List ℕ) (b : ℕ) → Executes code entry json b (Err WriteFailed) → ⊥
-never_unwritten code entry json b h =
-    let e = h.none (λ f g i. no_refusal code f g json b (h.runs f g i)) in
-    let none : ⊥ = cc in none
+-- that a file is not read is no reason of a text
+never_unread : (origin : Origin) (text : List ℕ) (name : _) → IsNoImage origin text (CannotRead name) → ⊥
+never_unread (Compiled gang) text name h = h
+never_unread Loaded text name h = h
 
-module _ (holds : List ℕ → Option (List ℕ) → Type 0) where
-  pub source_fails : (q : RunRequest) (files : Reads holds q.source.now q.arguments.now) (f : SourceFault) → ((g : Fault) → f ≡ Refused g → IsFaulty q.gang files.text g) → RunFails holds q (source_failure f)
-  source_fails q files NoSourceMemory h = tt
-  source_fails q files (Refused f) h = (files, h f refl)
+module _ (holds : Holds) where
+  -- a file that is not read
+  pub unread_first : (job : Job) (f : Failure) → Unread holds job.text.now f → NotGiven holds job f
+  unread_first job (CannotRead name) h = inl h
+  unread_first job Memory h = tt
+  unread_first job (Source f) h = absurd h
+  unread_first job (Trapped t) h = absurd h
+  unread_first job BudgetUsed h = absurd h
+  unread_first job (Run f) h = absurd h
+  unread_first job CannotWrite h = absurd h
+  unread_first job (Code f) h = absurd h
 
-  pub run_fails : (q : RunRequest) (f : RunFault) → Runs holds q (Err f) → RunFails holds q (run_failure f)
-  run_fails q NoRunMemory h = tt
-  run_fails q NoEntry h = (λ e. let none : ⊥ = cc in none, h)
-  run_fails q (Arguments f) h = (λ e. let none : ⊥ = cc in none, h)
-  run_fails q WriteFailed h = absurd (never_unwritten h.code q.entry.now h.files.json q.budget h.answers.machine)
+  pub unread_second : (job : Job) (text : List ℕ) → holds job.text.now (Some text) → (f : Failure) → Unread holds job.arguments.now f → NotGiven holds job f
+  unread_second job text has (CannotRead name) h = inr ((text, has), h)
+  unread_second job text has Memory h = tt
+  unread_second job text has (Source f) h = absurd h
+  unread_second job text has (Trapped t) h = absurd h
+  unread_second job text has BudgetUsed h = absurd h
+  unread_second job text has (Run f) h = absurd h
+  unread_second job text has CannotWrite h = absurd h
+  unread_second job text has (Code f) h = absurd h
 
-  pub code_fails : (q : ExecRequest) (files : Reads holds q.code.now q.arguments.now) (f : CodeFault) → (f ≢ code_fault.Memory → IsNotLoaded files.text f) → ExecFails holds q (code_failure f)
-  code_fails q files code_fault.Memory h = tt
-  code_fails q files (code_fault.Text f) h = (files, h (λ e. let none : ⊥ = cc in none))
-  code_fails q files (code_fault.Code f) h = (files, h (λ e. let none : ⊥ = cc in none))
-
-  pub exec_fails : (q : ExecRequest) (f : RunFault) → Executed holds q (Err f) → ExecFails holds q (run_failure f)
-  exec_fails q NoRunMemory h = tt
-  exec_fails q NoEntry h = (λ e. let none : ⊥ = cc in none, h)
-  exec_fails q (Arguments f) h = (λ e. let none : ⊥ = cc in none, h)
-  exec_fails q WriteFailed h = absurd (never_unwritten h.code q.entry.now h.files.json q.budget h.answers)
+  pub no_code : (job : Job) (files : Reads holds job.text.now job.arguments.now) (f : Failure) → (f ≢ Memory → IsNoImage job.origin files.text f) → NotGiven holds job f
+  no_code job files (CannotRead name) h = absurd (never_unread job.origin files.text name (h (λ e. let none : ⊥ = cc in none)))
+  no_code job files Memory h = tt
+  no_code job files (Source f) h = (files, h (λ e. let none : ⊥ = cc in none))
+  no_code job files (Trapped t) h = (files, h (λ e. let none : ⊥ = cc in none))
+  no_code job files BudgetUsed h = (files, h (λ e. let none : ⊥ = cc in none))
+  no_code job files (Run f) h = (files, h (λ e. let none : ⊥ = cc in none))
+  no_code job files CannotWrite h = (files, h (λ e. let none : ⊥ = cc in none))
+  no_code job files (Code f) h = (files, h (λ e. let none : ⊥ = cc in none))
 
   pub asm_fails : (q : AsmRequest) (text : List ℕ) → holds q.source.now (Some text) → (f : SourceFault) → ((g : Fault) → f ≡ Refused g → IsFaulty q.gang text g) → AsmFails holds q (source_failure f)
-  asm_fails q text has NoSourceMemory h = tt
+  asm_fails q text has NoMemory h = tt
   asm_fails q text has (Refused f) h = (text, has, h f refl)
+
+  -- a run whose files gave what it ran
+  pub run_ends : (job : Job) (code : Listing) (json read : List ℕ) (old new : Option (List ℕ)) (failed : Bool) (end : Result ⊤ Failure) → read ≡ json → Given holds job code json → Ran code job.entry.now read job.budget old new failed end → RunEnds holds job old new failed end
+  run_ends job code json read old new failed end e g r = inl (record { code = code; json = read; given = subst (Given holds job code) (sym e) g; ran = r })

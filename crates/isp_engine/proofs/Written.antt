@@ -1,9 +1,11 @@
 -- What a sink holds after two writes.
-use Rattle.std.proofs.Common.{◌≡◌, ◌++◌, ◌+◌, ℕ, List, [], Bool, min, Result, Ok, Err, OnErr, Option, None, Some, refl, sym, ap, ◌∙◌, append_assoc, append-nil, take, drop, length, ◌-◌, arith}
+use Rattle.std.proofs.Common.{◌≡◌, ◌++◌, ◌+◌, ℕ, List, [], ◌∷◌, Bool, true, false, min, Result, Ok, Err, OnErr, Option, None, Some, refl, sym, ap, ◌∙◌, subst, inl, inr, append_assoc, append-nil, take, drop, drop-cons, add-one, get_or, length, ◌-◌, ◌<◌, ◌≤◌, arith}
+use Rattle.std.specs.Prelude.{flat_map, ⊤}
 use Rattle.std.proofs.lemmas.Grind.{common_steps}
 use Rattle.std.proofs.Math.Seq.{take-add, take-append-add}
-use Rattle.std.proofs.lemmas.List.{take-append-le, take_min}
-use Rattle.isp_engine.specs.Sinks.{adds, TookAll, TookSome}
+use Rattle.std.proofs.lemmas.List.{drop_all, take-append-le, take_min}
+use Rattle.isp_engine.specs.Sinks.{adds, TookAll, TookSome, Wrote, Told}
+use Rattle.isp_engine.specs.declared.sink.SinkFault.{SinkFault}
 
 pub adds_adds : (xs ys : List ℕ) (held : Option (List ℕ)) → adds ys (adds xs held) ≡ adds (xs ++ ys) held
 adds_adds xs ys None = refl
@@ -48,3 +50,38 @@ took_early xs ys old new f h =
 pub on_err : {T E Q : Type 0} (r : Result T E) → Q → OnErr r Q
 on_err (Ok x) q = tt
 on_err (Err e) q = q
+
+-- ---- pieces one behind the other: what went out, and what is left
+
+module _ {X : Type 0} (f : X → List ℕ) (xs : List X) (i : ℕ) (d : X) (within : i < length xs) (done all : List ℕ) (whole : done ++ flat_map f (drop i xs) ≡ all) (bytes : List ℕ) (is : bytes ≡ f (get_or xs i d)) where
+  split : drop i xs ≡ get_or xs i d ∷ drop (i + 1) xs
+  split = drop-cons xs i d within ∙ ap (λ k. get_or xs i d ∷ drop k xs) (sym (add-one i))
+
+  pub piece_next : (done ++ bytes) ++ flat_map f (drop (i + 1) xs) ≡ all
+  piece_next =
+      append_assoc done bytes (flat_map f (drop (i + 1) xs))
+      ∙ ap (λ z. done ++ (z ++ flat_map f (drop (i + 1) xs))) is
+      ∙ ap (λ z. done ++ flat_map f z) (sym split)
+      ∙ whole
+
+  pub piece_cut : (o m n : Option (List ℕ)) (a b : Bool) → TookAll done o m a → TookSome bytes m n b → TookSome all o n b
+  piece_cut o m n a b h k =
+      subst (λ z. TookSome z o n b) piece_next (took_early (done ++ bytes) (flat_map f (drop (i + 1) xs)) o n b (took_later done bytes o m n a b h k))
+
+pub pieces_all : {X : Type 0} (f : X → List ℕ) (xs : List X) (i : ℕ) → length xs ≤ i → (done all : List ℕ) → done ++ flat_map f (drop i xs) ≡ all → (o n : Option (List ℕ)) (a : Bool) → TookAll done o n a → TookAll all o n a
+pieces_all f xs i past done all whole o n a h =
+    let none : drop i xs ≡ [] = drop_all i xs past in
+    subst (λ z. TookAll z o n a) (sym (append-nil done) ∙ ap (λ z. done ++ flat_map f z) (sym none) ∙ whole) h
+
+-- ---- a line, of whose fault nothing more is told
+
+pub told : (bytes : List ℕ) (old new : Option (List ℕ)) (failed : Bool) (r : Result ⊤ SinkFault) → Wrote bytes old new failed r → Told bytes old new failed
+told bytes old new failed (Ok u) h = inl h
+told bytes old new failed (Err e) h = inr h
+
+pub told_none : (bytes : List ℕ) (o : Option (List ℕ)) (f : Bool) → f ≡ true → Told bytes o o f
+told_none bytes o f e = inr ((0, sym (adds_nil o)), e)
+
+pub told_nothing : (o : Option (List ℕ)) (f : Bool) → Told [] o o f
+told_nothing o true = inr ((0, sym (adds_nil o)), refl)
+told_nothing o false = inl (sym (adds_nil o), refl)

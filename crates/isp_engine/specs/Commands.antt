@@ -1,16 +1,20 @@
 -- What the program does for a request, and how it ends.
---     Ran, RanCode, WroteCode   the story of a request, from its files to what went out
---     Ends                      the story of any request
---     Commands                  all of that, and the exit status
--- `holds name text` says that under a name a text may be found, or nothing that can be read.
-use Rattle.std.specs.Prelude.{◌≡◌, ◌≢◌, ◌⊎◌, ℕ, List, [], Bool, Option, Some, None, Result, Ok, Err, ⊤}
+--     Runs, WroteCode   the story of a request, from its files to what went out
+--     Ends              the story of any request
+--     Commands          all of that, the exit status, and the line on standard error
+-- `holds name text` says that under a name a text may be found, or nothing that can be read, and `tells line` that a line went to standard error.
+use Rattle.std.specs.Prelude.{◌≡◌, ◌≢◌, ◌⊎◌, ℕ, ◌++◌, List, [], ◌∷◌, Bool, Option, Some, None, Result, Ok, Err, ⊤}
 use Rattle.isp_base.specs.declared.types.Gang.{Gang}
 use Rattle.isp_code.specs.Listing.{Listing}
 use Rattle.isp_asm.specs.Spelling.{text_of}
+use Rattle.isp_engine.specs.declared.commands.Job.{Job}
+use Rattle.isp_engine.specs.declared.commands.Origin.{Origin}
+use Rattle.isp_engine.specs.declared.commands.Origin.TheVariants.{Compiled, Loaded}
 use Rattle.isp_engine.specs.declared.failure.Failure.{Failure}
-use Rattle.isp_engine.specs.declared.failure.Failure.TheVariants.{Source, Trapped, BudgetUsed, Run, Code, CannotRead, CannotWrite, Memory}
+use Rattle.isp_engine.specs.declared.failure.Failure.TheVariants.{Source, Trapped, BudgetUsed, Code, CannotRead, CannotWrite, Memory}
 use Rattle.isp_engine.specs.declared.fault.RunFault.{RunFault}
-use Rattle.isp_engine.specs.declared.fault.RunFault.TheVariants.{Memory as NoRunMemory}
+use Rattle.isp_engine.specs.declared.fault.RunFault.TheVariants.{WriteFailed}
+use Rattle.isp_engine.specs.declared.report.Ending.{Ending}
 use Rattle.isp_engine.specs.declared.report.Ending.TheVariants.{Ended, Trapped as Stopped, Running}
 use Rattle.isp_engine.specs.declared.report.Report.{Report}
 use Rattle.isp_words.specs.declared.words.Request.{Request}
@@ -18,13 +22,13 @@ use Rattle.isp_words.specs.declared.words.Request.TheVariants as request
 use Rattle.isp_words.specs.declared.words.RunRequest.{RunRequest}
 use Rattle.isp_words.specs.declared.words.AsmRequest.{AsmRequest}
 use Rattle.isp_words.specs.declared.words.ExecRequest.{ExecRequest}
-use Rattle.isp_engine.specs.Failures.{status_of}
+use Rattle.isp_engine.specs.Failures.{failure_line, line_of, run_failure, status_of}
+use Rattle.isp_engine.specs.Sending.{Sends}
 use Rattle.isp_engine.specs.Sinks.{TookAll, TookSome}
-use Rattle.isp_engine.specs.Compilations.{IsAnswer}
 use Rattle.isp_engine.specs.Front.{IsFaulty}
 use Rattle.isp_engine.specs.Images.{IsCompilation, IsLoaded, IsNotLoaded}
+use Rattle.isp_engine.specs.Meaning.{Means}
 use Rattle.isp_engine.specs.Reports.{Executes}
-use Rattle.isp_engine.specs.Sending.{report_bytes}
 
 abbrev pub Holds : Type 1
 Holds = List ℕ → Option (List ℕ) → Type 0
@@ -48,7 +52,7 @@ Unread holds file f = ⊥
 abbrev pub UnreadOf : Holds → List ℕ → List ℕ → Failure → Type 0
 UnreadOf holds first second f = Unread holds first f ⊎ (((text : List ℕ) × holds first (Some text)) × Unread holds second f)
 
--- ---- what went out of a report
+-- ---- what went out
 
 -- bytes went out whole, or the first of them until a write failed
 abbrev pub Writes : List ℕ → Option (List ℕ) → Option (List ℕ) → Bool → Result ⊤ Failure → Type 0
@@ -56,56 +60,75 @@ Writes bytes old new failed (Ok u) = TookAll bytes old new failed
 Writes bytes old new failed (Err CannotWrite) = TookSome bytes old new failed
 Writes bytes old new failed (Err f) = ⊥
 
-abbrev pub Delivers : Report → Option (List ℕ) → Option (List ℕ) → Bool → Result ⊤ Failure → Type 0
-Delivers r old new failed (Ok u) = (r.ending ≡ Ended) × TookAll (report_bytes r) old new failed
-Delivers r old new failed (Err (Trapped t)) = (r.ending ≡ Stopped t) × TookAll (report_bytes r) old new failed
-Delivers r old new failed (Err BudgetUsed) = (r.ending ≡ Running) × TookAll (report_bytes r) old new failed
-Delivers r old new failed (Err CannotWrite) = TookSome (report_bytes r) old new failed
-Delivers r old new failed (Err f) = ⊥
-
 -- a failure before anything is written
 abbrev pub Stops : (Failure → Type 0) → Option (List ℕ) → Option (List ℕ) → Bool → Result ⊤ Failure → Type 0
 Stops fails old new failed (Ok u) = ⊥
 Stops fails old new failed (Err f) = fails f × TookAll [] old new failed
 
--- ---- run
+-- ---- an entry of an image is run
 
--- the source is compiled, and its entry executed with the arguments
-pub record Runs (holds : Holds) (q : RunRequest) (answer : Result Report RunFault) : Type 0 where
-  pub files : Reads holds q.source.now q.arguments.now
+-- what is answered, and what went out: as `run_to` promises
+pub record RunsTo (code : Listing) (entry json : List ℕ) (budget : ℕ) (old new : Option (List ℕ)) (failed : Bool) (answer : Result Report RunFault) : Type 0 where
+  pub machine : answer ≢ Err WriteFailed → Executes code entry json budget answer
+  pub means : answer ≢ Err WriteFailed → (gang : Gang) (text : List ℕ) (compiled : IsCompilation gang text code) → Means compiled.program entry json budget answer
+  pub sends : Sends code entry json budget old new failed answer
+
+-- how the program ends behind a run that stands so
+abbrev pub end_of_ending : Ending → Result ⊤ Failure
+end_of_ending Ended = Ok tt
+end_of_ending (Stopped t) = Err (Trapped t)
+end_of_ending Running = Err BudgetUsed
+
+-- and behind what a run answered
+abbrev pub end_of : Result Report RunFault → Result ⊤ Failure
+end_of (Ok r) = end_of_ending r.ending
+end_of (Err f) = Err (run_failure f)
+
+pub record Ran (code : Listing) (entry json : List ℕ) (budget : ℕ) (old new : Option (List ℕ)) (failed : Bool) (end : Result ⊤ Failure) : Type 0 where
+  pub answer : Result Report RunFault
+  pub runs : RunsTo code entry json budget old new failed answer
+  pub ends : end ≡ end_of answer
+
+-- ---- run and exec
+
+-- the code that a text gives: what it is compiled to, or the code whose text it is
+abbrev pub IsImage : Origin → List ℕ → Listing → Type 0
+IsImage (Compiled gang) text code = IsCompilation gang text code
+IsImage Loaded text code = IsLoaded text code
+
+-- why it gives none
+abbrev pub IsNoImage : Origin → List ℕ → Failure → Type 0
+IsNoImage (Compiled gang) text (Source f) = IsFaulty gang text f
+IsNoImage Loaded text (Code f) = IsNotLoaded text f
+IsNoImage origin text f = ⊥
+
+abbrev pub job_of_run : RunRequest → Job
+job_of_run q = record { origin = Compiled q.gang; text = q.source; entry = q.entry; arguments = q.arguments; budget = q.budget }
+
+abbrev pub job_of_exec : ExecRequest → Job
+job_of_exec q = record { origin = Loaded; text = q.code; entry = q.entry; arguments = q.arguments; budget = q.budget }
+
+-- the files are read, and the first of them gives code
+pub record Given (holds : Holds) (job : Job) (code : Listing) (json : List ℕ) : Type 0 where
+  pub files : Reads holds job.text.now job.arguments.now
+  pub json_is : files.json ≡ json
+  pub image : IsImage job.origin files.text code
+
+-- no file, or no code
+abbrev pub NotGiven : Holds → Job → Failure → Type 0
+NotGiven holds job (CannotRead name) = UnreadOf holds job.text.now job.arguments.now (CannotRead name)
+NotGiven holds job Memory = Unit {0}
+NotGiven holds job f = (files : Reads holds job.text.now job.arguments.now) × IsNoImage job.origin files.text f
+
+-- and the entry is run with the arguments
+pub record Runs (holds : Holds) (job : Job) (old new : Option (List ℕ)) (failed : Bool) (end : Result ⊤ Failure) : Type 0 where
   pub code : Listing
-  pub compiles : IsCompilation q.gang files.text code
-  pub answers : IsAnswer q.gang files.text code compiles q.entry.now files.json q.budget answer
+  pub json : List ℕ
+  pub given : Given holds job code json
+  pub ran : Ran code job.entry.now json job.budget old new failed end
 
--- no file; a source that is refused; an entry or arguments that are, for another reason than memory
-abbrev pub RunFails : Holds → RunRequest → Failure → Type 0
-RunFails holds q (CannotRead name) = UnreadOf holds q.source.now q.arguments.now (CannotRead name)
-RunFails holds q (Source f) = (files : Reads holds q.source.now q.arguments.now) × IsFaulty q.gang files.text f
-RunFails holds q (Run f) = (f ≢ NoRunMemory) × Runs holds q (Err f)
-RunFails holds q Memory = Unit {0}
-RunFails holds q f = ⊥
-
-abbrev pub Ran : Holds → RunRequest → Option (List ℕ) → Option (List ℕ) → Bool → Result ⊤ Failure → Type 0
-Ran holds q old new failed end = ((r : Report) × Runs holds q (Ok r) × Delivers r old new failed end) ⊎ Stops (RunFails holds q) old new failed end
-
--- ---- exec
-
--- the code of the text is verified, and its entry executed with the arguments
-pub record Executed (holds : Holds) (q : ExecRequest) (answer : Result Report RunFault) : Type 0 where
-  pub files : Reads holds q.code.now q.arguments.now
-  pub code : Listing
-  pub loads : IsLoaded files.text code
-  pub answers : Executes code q.entry.now files.json q.budget answer
-
-abbrev pub ExecFails : Holds → ExecRequest → Failure → Type 0
-ExecFails holds q (CannotRead name) = UnreadOf holds q.code.now q.arguments.now (CannotRead name)
-ExecFails holds q (Code f) = (files : Reads holds q.code.now q.arguments.now) × IsNotLoaded files.text f
-ExecFails holds q (Run f) = (f ≢ NoRunMemory) × Executed holds q (Err f)
-ExecFails holds q Memory = Unit {0}
-ExecFails holds q f = ⊥
-
-abbrev pub RanCode : Holds → ExecRequest → Option (List ℕ) → Option (List ℕ) → Bool → Result ⊤ Failure → Type 0
-RanCode holds q old new failed end = ((r : Report) × Executed holds q (Ok r) × Delivers r old new failed end) ⊎ Stops (ExecFails holds q) old new failed end
+abbrev pub RunEnds : Holds → Job → Option (List ℕ) → Option (List ℕ) → Bool → Result ⊤ Failure → Type 0
+RunEnds holds job old new failed end = Runs holds job old new failed end ⊎ Stops (NotGiven holds job) old new failed end
 
 -- ---- asm
 
@@ -127,19 +150,23 @@ WroteCode holds q old new failed end = ((code : Listing) × Assembled holds q co
 -- ---- the whole
 
 abbrev pub Ends : Holds → Request → Option (List ℕ) → Option (List ℕ) → Bool → Result ⊤ Failure → Type 0
-Ends holds (request.Run q) old new failed end = Ran holds q old new failed end
+Ends holds (request.Run q) old new failed end = RunEnds holds (job_of_run q) old new failed end
 Ends holds (request.Asm q) old new failed end = WroteCode holds q old new failed end
-Ends holds (request.Exec q) old new failed end = RanCode holds q old new failed end
+Ends holds (request.Exec q) old new failed end = RunEnds holds (job_of_exec q) old new failed end
 
 abbrev pub exit_status : Result ⊤ Failure → ℕ
 exit_status (Ok u) = 0
 exit_status (Err f) = status_of f
 
--- the words ask for nothing, or memory was refused while they were read
-abbrev pub IsRefusal : ℕ → Type 0
-IsRefusal status = (status ≡ 2) ⊎ (status ≡ 7)
+-- words that ask for nothing: of their text on standard error nothing is said; or memory was refused while they were read
+abbrev pub Refused : (List ℕ → Type 0) → ℕ → Type 0
+Refused tells status = (status ≡ 2) ⊎ ((status ≡ 7) × tells (failure_line Memory))
 
--- nothing went out and the words are refused, or some request has its whole story
-abbrev pub Commands : Holds → Option (List ℕ) → Option (List ℕ) → Bool → ℕ → Type 0
-Commands holds old new failed status =
-    (IsRefusal status × TookAll [] old new failed) ⊎ ((q : Request) × (end : Result ⊤ Failure) × (status ≡ exit_status end) × Ends holds q old new failed end)
+-- some request has its whole story, and its line was told
+abbrev pub Answered : Holds → Option (List ℕ) → Option (List ℕ) → Bool → (List ℕ → Type 0) → ℕ → Type 0
+Answered holds old new failed tells status =
+    (q : Request) × (end : Result ⊤ Failure) × (status ≡ exit_status end) × Ends holds q old new failed end × tells (line_of end)
+
+-- nothing went out and the words are refused, or some request was answered
+abbrev pub Commands : Holds → Option (List ℕ) → Option (List ℕ) → Bool → (List ℕ → Type 0) → ℕ → Type 0
+Commands holds old new failed tells status = (Refused tells status × TookAll [] old new failed) ⊎ Answered holds old new failed tells status

@@ -1,5 +1,5 @@
 -- The exit status of each failure, and its line on standard error.
-use Rattle.std.specs.Prelude.{ℕ, List, ◌++◌, codes}
+use Rattle.std.specs.Prelude.{ℕ, List, [], ◌∷◌, ◌++◌, Result, Ok, Err, ⊤, codes}
 use Rattle.isp_base.specs.Traps.{trap_text}
 use Rattle.isp_base.specs.Types.{span_text}
 use Rattle.isp_lex.specs.Faults.{rule_text}
@@ -37,6 +37,14 @@ failure_text (CannotRead name) = codes "isp: cannot read " ++ name.now
 failure_text CannotWrite = codes "isp: cannot write"
 failure_text Memory = codes "isp: memory"
 failure_text (Code f) = codes "isp: " ++ code_fault_text f
+
+abbrev pub failure_line : Failure → List ℕ
+failure_line f = failure_text f ++ 10 ∷ []
+
+-- the line of how the program ends; none where it ends well
+abbrev pub line_of : Result ⊤ Failure → List ℕ
+line_of (Ok u) = []
+line_of (Err f) = failure_line f
 
 abbrev pub source_failure : SourceFault → Failure
 source_failure NoMemory = Memory

@@ -9,4 +9,3 @@ pub mod Sending
 pub mod Meaning
 pub mod Failures
 pub mod Commands
-pub mod Compilations

@@ -1,5 +1,5 @@
 -- What a write to a sink does.
-use Rattle.std.specs.Prelude.{◌≡◌, ◌++◌, ◌&&◌, ◌==◌, ℕ, List, length, take, Bool, true, false, not, Option, option_map, Result, Ok, Err}
+use Rattle.std.specs.Prelude.{◌≡◌, ◌⊎◌, ◌++◌, ◌&&◌, ◌==◌, ℕ, List, length, take, Bool, true, false, not, Option, option_map, Result, Ok, Err, ⊤}
 use Rattle.isp_engine.specs.declared.sink.SinkFault.{SinkFault}
 
 -- the write failed, or took no byte of a slice that is not empty
@@ -27,3 +27,12 @@ TookFirst bytes old new = (n : ℕ) × (new ≡ adds (take n bytes) old)
 -- or it failed, and took the first of them
 abbrev pub TookSome : List ℕ → Option (List ℕ) → Option (List ℕ) → Bool → Type 0
 TookSome bytes old new failed = TookFirst bytes old new × (failed ≡ true)
+
+-- a writer that stops at the first fault: all of the bytes where it answers no fault, else the first of them
+abbrev pub Wrote : List ℕ → Option (List ℕ) → Option (List ℕ) → Bool → Result ⊤ SinkFault → Type 0
+Wrote bytes old new failed (Ok u) = TookAll bytes old new failed
+Wrote bytes old new failed (Err e) = TookSome bytes old new failed
+
+-- all of the bytes, or the first of them where the sink has failed
+abbrev pub Told : List ℕ → Option (List ℕ) → Option (List ℕ) → Bool → Type 0
+Told bytes old new failed = TookAll bytes old new failed ⊎ TookSome bytes old new failed

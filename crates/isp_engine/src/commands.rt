@@ -1,22 +1,23 @@
 //! The whole program, over what it is handed.
-ghost use Rattle.std.specs.Prelude.{◌≡◌, false, string_bytes, Some, Ok, IfOk, IfErr, OnOk, OnErr};
-ghost use Rattle.isp_engine.specs.Commands.{AsmFails, Assembled, Commands, Delivers, Ends, ExecFails, Executed, Ran, RanCode, RunFails, Runs, Unread, Writes, WroteCode, exit_status};
-ghost use Rattle.isp_engine.specs.Sending.{report_bytes};
+ghost use Rattle.std.specs.Prelude.{◌≡◌, ◌≢◌, false, string_bytes, Some, IfOk, IfErr};
+ghost use Rattle.isp_engine.specs.Commands.{AsmFails, Assembled, Commands, Ends, Given, IsImage, IsNoImage, NotGiven, Ran, RunEnds, Unread, Writes, WroteCode, end_of_ending, exit_status, job_of_exec as of_exec, job_of_run as of_run};
 ghost use Rattle.isp_asm.specs.Spelling.{text_of};
-ghost use Rattle.isp_engine.specs.Sinks.{TookAll, TookSome};
+ghost use Rattle.isp_engine.specs.Failures.{line_of};
+ghost use Rattle.isp_engine.specs.Sinks.{Told};
 ghost use Rattle.isp_engine.specs.declared.failure.Failure.TheVariants.{Memory};
 
 use crate::failure::Failure;
 use crate::files::{FileFault, SourceFiles};
 use crate::image::{Image, compile, load_code};
-use crate::report::{Ending, Report};
-use crate::run::{execute, write_answer};
+use crate::lines::{show, tell_line};
+use crate::report::Ending;
+use crate::run::run_to;
 use crate::sink::{Sink, SinkFault, write_all};
 use clap::error::ErrorKind;
 use isp_asm::write;
+use isp_base::Gang;
 use isp_words::{AsmRequest, ExecRequest, Request, RunRequest, read_words};
 use std::alloc::Global;
-use std::io::Write;
 
 /// Does what `words` ask for, the first of which is the program's name, and answers the exit status.
 ///
@@ -25,7 +26,7 @@ use std::io::Write;
 /// `asm [--gang G] SOURCE` compiles the source and writes its code. The output goes to `out`, and where a run has ended
 /// the answer and a line feed behind it. Where the status is not 0 a line on `err` says why; refused words, of which
 /// help is one, have more than a line. A fault of `err` is ignored.
-pub fn command<F: SourceFiles, O: Sink, E: Write>(
+pub fn command<F: SourceFiles, O: Sink, E: Sink>(
     alloc: Global,
     words: &[String],
     files: &F,
@@ -33,7 +34,8 @@ pub fn command<F: SourceFiles, O: Sink, E: Write>(
     err: &mut E,
 ) -> u8
     requires { O.has_failed out.old ≡ false }
-    ensures { Commands (F.holds files.now) (O.written out.old) (O.written out.new) (O.has_failed out.new) result }
+    ensures { Commands (F.holds files.now) (O.written out.old) (O.written out.new) (O.has_failed out.new)
+        (λ line. Told line (E.written err.old) (E.written err.new) (E.has_failed err.new)) result }
 {
     match read_words(alloc, words) {
         Ok(request) => tell(answer(alloc, &request, files, out), err),
@@ -41,20 +43,21 @@ pub fn command<F: SourceFiles, O: Sink, E: Write>(
             if error.kind() == ErrorKind::OutOfMemory {
                 return tell(Err(Failure::Memory), err);
             }
-            let _ = write!(err, "{error}");
+            show(&error, err);
             2
         }
     }
 }
 
-// The line that says why the program ends so, and the exit status.
-fn tell<E: Write>(end: Result<(), Failure<'_>>, err: &mut E) -> u8
-    ensures { result ≡ exit_status end.entry }
+// Writes the line that says why the program ends so, and answers the exit status.
+fn tell<E: Sink>(end: Result<(), Failure<'_>>, err: &mut E) -> u8
+    ensures status { result ≡ exit_status end.entry }
+    ensures line { Told (line_of end.entry) (E.written err.old) (E.written err.new) (E.has_failed err.new) }
 {
     match end {
         Ok(()) => 0,
         Err(failure) => {
-            let _ = writeln!(err, "{failure}");
+            tell_line(&failure, err);
             failure.status()
         }
     }
@@ -70,72 +73,116 @@ fn answer<'a, F: SourceFiles, O: Sink>(
     ensures { Ends (F.holds files.now) request.now (O.written out.old) (O.written out.new) (O.has_failed out.new) result }
 {
     match request {
-        Request::Run(run_request) => run(alloc, run_request, files, out),
-        Request::Asm(asm_request) => asm(alloc, asm_request, files, out),
-        Request::Exec(exec_request) => exec(alloc, exec_request, files, out),
+        Request::Run(wanted) => run(alloc, &job_of_run(wanted), files, out),
+        Request::Asm(wanted) => asm(alloc, wanted, files, out),
+        Request::Exec(wanted) => run(alloc, &job_of_exec(wanted), files, out),
     }
 }
 
+/// What the code comes from that is run: a source that is compiled for a gang, or the text of code.
+#[derive(Clone, Copy)]
+enum Origin {
+    Compiled(Gang),
+    Loaded,
+}
+
+/// An entry that is run, for so many instructions at most. The text and the arguments are names of files.
+#[derive(Clone, Copy)]
+struct Job<'a> {
+    origin: Origin,
+    text: &'a str,
+    entry: &'a str,
+    arguments: &'a str,
+    budget: u64,
+}
+
+fn job_of_run<'a>(request: &RunRequest<'a>) -> Job<'a>
+    ensures { result ≡ of_run request.now }
+{
+    Job {
+        origin: Origin::Compiled(request.gang),
+        text: request.source,
+        entry: request.entry,
+        arguments: request.arguments,
+        budget: request.budget,
+    }
+}
+
+fn job_of_exec<'a>(request: &ExecRequest<'a>) -> Job<'a>
+    ensures { result ≡ of_exec request.now }
+{
+    Job {
+        origin: Origin::Loaded,
+        text: request.code,
+        entry: request.entry,
+        arguments: request.arguments,
+        budget: request.budget,
+    }
+}
+
+// Reads the files, and runs what the text gives with the arguments.
 fn run<'a, F: SourceFiles, O: Sink>(
     alloc: Global,
-    request: &RunRequest<'a>,
+    job: &Job<'a>,
     files: &F,
     out: &mut O,
 ) -> Result<(), Failure<'a>>
     requires { O.has_failed out.old ≡ false }
-    ensures { Ran (F.holds files.now) request.now (O.written out.old) (O.written out.new) (O.has_failed out.new) result }
+    ensures { RunEnds (F.holds files.now) job.now (O.written out.old) (O.written out.new) (O.has_failed out.new) result }
 {
-    let report = run_report(alloc, request, files)?;
-    deliver(&report, out)
+    let (image, json) = given(alloc, job, files)?;
+    run_image(alloc, &image, job, json.as_str(), out)
 }
 
-fn run_report<'a, F: SourceFiles>(
+// What is run, and the text of its arguments.
+fn given<'a, F: SourceFiles>(
     alloc: Global,
-    request: &RunRequest<'a>,
+    job: &Job<'a>,
     files: &F,
-) -> Result<Report, Failure<'a>>
-    ensures ok { IfOk result (λ r. Runs (F.holds files.now) request.now (Ok r)) }
-    ensures err { IfErr result (RunFails (F.holds files.now) request.now) }
+) -> Result<(Image, String), Failure<'a>>
+    ensures ok { IfOk result (λ g. Given (F.holds files.now) job.now g.0 (string_bytes g.1)) }
+    ensures err { IfErr result (NotGiven (F.holds files.now) job.now) }
 {
-    let text = read(alloc, files, request.source)?;
-    let json = read(alloc, files, request.arguments)?;
-    let image = compile(alloc, text.as_str(), request.gang)?;
-    let report = execute(alloc, &image, request.entry, json.as_str(), request.budget)?;
-    Ok(report)
+    let text = read(alloc, files, job.text)?;
+    let json = read(alloc, files, job.arguments)?;
+    let image = image_of(alloc, job.origin, text.as_str())?;
+    Ok((image, json))
 }
 
-fn exec<'a, F: SourceFiles, O: Sink>(
+// The code that a text gives.
+fn image_of(alloc: Global, origin: Origin, text: &str) -> Result<Image, Failure<'static>>
+    ensures ok { IfOk result (IsImage origin text.now) }
+    ensures err { IfErr result (λ f. f ≢ Memory → IsNoImage origin text.now f) }
+{
+    match origin {
+        Origin::Compiled(gang) => Ok(compile(alloc, text, gang)?),
+        Origin::Loaded => Ok(load_code(alloc, text)?),
+    }
+}
+
+// Runs the entry of code, and says how the program ends behind it.
+fn run_image<O: Sink>(
     alloc: Global,
-    request: &ExecRequest<'a>,
-    files: &F,
+    image: &Image,
+    job: &Job<'_>,
+    json: &str,
     out: &mut O,
-) -> Result<(), Failure<'a>>
+) -> Result<(), Failure<'static>>
     requires { O.has_failed out.old ≡ false }
-    ensures { RanCode (F.holds files.now) request.now (O.written out.old) (O.written out.new) (O.has_failed out.new) result }
+    ensures { Ran image.now job.now.entry.now json.now job.now.budget (O.written out.old) (O.written out.new) (O.has_failed out.new) result }
 {
-    let report = exec_report(alloc, request, files)?;
-    deliver(&report, out)
+    let report = run_to(alloc, image, job.entry, json, job.budget, out)?;
+    end_of(report.ending)
 }
 
-fn exec_report<'a, F: SourceFiles>(
-    alloc: Global,
-    request: &ExecRequest<'a>,
-    files: &F,
-) -> Result<Report, Failure<'a>>
-    ensures ok { IfOk result (λ r. Executed (F.holds files.now) request.now (Ok r)) }
-    ensures err { IfErr result (ExecFails (F.holds files.now) request.now) }
+fn end_of(ending: Ending) -> Result<(), Failure<'static>>
+    ensures { result ≡ end_of_ending ending }
 {
-    let text = read(alloc, files, request.code)?;
-    let arguments = read(alloc, files, request.arguments)?;
-    let loaded = load_code(alloc, text.as_str())?;
-    let report = execute(
-        alloc,
-        &loaded,
-        request.entry,
-        arguments.as_str(),
-        request.budget,
-    )?;
-    Ok(report)
+    match ending {
+        Ending::Ended => Ok(()),
+        Ending::Trapped(trap) => Err(Failure::Trapped(trap)),
+        Ending::Running => Err(Failure::BudgetUsed),
+    }
 }
 
 fn asm<'a, F: SourceFiles, O: Sink>(
@@ -192,33 +239,4 @@ fn read<'a, F: SourceFiles>(alloc: Global, files: &F, name: &'a str) -> Result<S
         FileFault::CannotRead => Failure::CannotRead(name),
         FileFault::Memory => Failure::Memory,
     })
-}
-
-// The output goes out, and behind it the answer and a line feed.
-fn deliver<O: Sink>(report: &Report, out: &mut O) -> Result<(), Failure<'static>>
-    requires { O.has_failed out.old ≡ false }
-    ensures { Delivers report.now (O.written out.old) (O.written out.new) (O.has_failed out.new)
-        result }
-{
-    if write_report(report, out).is_err() {
-        return Err(Failure::CannotWrite);
-    }
-    match report.ending {
-        Ending::Ended => Ok(()),
-        Ending::Trapped(trap) => Err(Failure::Trapped(trap)),
-        Ending::Running => Err(Failure::BudgetUsed),
-    }
-}
-
-#[tactic(auto, using(crate::proofs::Written::took_both, crate::proofs::Written::took_later, crate::proofs::Written::took_early))]
-fn write_report<O: Sink>(report: &Report, out: &mut O) -> Result<(), SinkFault>
-    requires { O.has_failed out.old ≡ false }
-    ensures ok { OnOk result (TookAll (report_bytes report.now) (O.written out.old)
-        (O.written out.new) (O.has_failed out.new)) }
-    ensures err { OnErr result (TookSome (report_bytes report.now) (O.written out.old)
-        (O.written out.new) (O.has_failed out.new)) }
-{
-    write_all(out, report.output.as_slice())?;
-    write_answer(&report.answer, out)?;
-    Ok(())
 }

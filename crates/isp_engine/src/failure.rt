@@ -5,10 +5,8 @@ ghost use Rattle.isp_engine.specs.Failures.{code_failure, run_failure, source_fa
 use crate::fault::{CodeFault, RunFault};
 use isp_base::Trap;
 use isp_lex::{Fault, SourceFault};
-use std::error::Error;
-use std::fmt;
 
-/// Why the program ends with a status other than 0. It is shown as the line on standard error.
+/// Why the program ends with a status other than 0. Its line on standard error is `failure_line` (specs/Failures.antt).
 #[derive(Clone, Copy, Debug)]
 pub enum Failure<'a> {
     /// 1: the source is refused.
@@ -28,28 +26,6 @@ pub enum Failure<'a> {
     /// 8: the code is refused. Of memory `Memory` tells, and never this.
     Code(CodeFault),
 }
-
-impl fmt::Display for Failure<'_> {
-    ghost use Rattle.std.specs.Prelude.{Some};
-    ghost use Rattle.isp_engine.specs.Failures.{failure_text};
-
-    ghost output = { λ f. Some (failure_text f) };
-
-    fn fmt<W: fmt::Write>(&self, f: &mut fmt::Formatter<W>) -> fmt::Result {
-        match self {
-            Failure::Source(fault) => write!(f, "isp: {} at {}", fault.rule, fault.span),
-            Failure::Trapped(trap) => write!(f, "isp: {trap}"),
-            Failure::BudgetUsed => f.write_str("isp: budget used"),
-            Failure::Run(fault) => write!(f, "isp: {fault}"),
-            Failure::CannotRead(name) => write!(f, "isp: cannot read {name}"),
-            Failure::CannotWrite => f.write_str("isp: cannot write"),
-            Failure::Memory => f.write_str("isp: memory"),
-            Failure::Code(fault) => write!(f, "isp: {fault}"),
-        }
-    }
-}
-
-impl Error for Failure<'_> {}
 
 impl Failure<'_> {
     /// The exit status.

@@ -1,5 +1,7 @@
 //! Why code is not loaded, and why a run gives no report.
 ghost use Rattle.std.specs.Prelude.{◌≡◌};
+ghost use Rattle.isp_bind.specs.Faults.{fault_text};
+ghost use Rattle.isp_engine.specs.Faults.{run_fault_text};
 
 use crate::sink::SinkFault;
 use isp_asm::AsmFault;
@@ -22,6 +24,36 @@ pub enum RunFault {
     WriteFailed,
 }
 
+impl RunFault {
+    /// Its number and its name, or `memory`.
+    pub fn text(self) -> &'static str
+        ensures { result.now ≡ run_fault_text self }
+    {
+        match self {
+            RunFault::Memory => "memory",
+            RunFault::NoEntry => "50 NoEntry",
+            RunFault::Arguments(fault) => bind_fault_name(fault),
+            RunFault::WriteFailed => "81 WriteFailed",
+        }
+    }
+}
+
+// The same of a refusal of arguments.
+fn bind_fault_name(fault: BindFault) -> &'static str
+    ensures { result.now ≡ fault_text fault }
+{
+    match fault {
+        BindFault::Memory => "memory",
+        BindFault::NotJson => "70 NotJson",
+        BindFault::NotObject => "71 NotObject",
+        BindFault::Missing => "72 Missing",
+        BindFault::Extra => "73 Extra",
+        BindFault::WrongKind => "74 WrongKind",
+        BindFault::OutOfRange => "75 OutOfRange",
+        BindFault::TooLong => "76 TooLong",
+    }
+}
+
 impl fmt::Display for RunFault {
     ghost use Rattle.std.specs.Prelude.{Some};
     ghost use Rattle.isp_engine.specs.Faults.{run_fault_text};
@@ -29,12 +61,7 @@ impl fmt::Display for RunFault {
     ghost output = { λ f. Some (run_fault_text f) };
 
     fn fmt<W: fmt::Write>(&self, f: &mut fmt::Formatter<W>) -> fmt::Result {
-        match self {
-            RunFault::Memory => f.write_str("memory"),
-            RunFault::NoEntry => f.write_str("50 NoEntry"),
-            RunFault::Arguments(fault) => write!(f, "{fault}"),
-            RunFault::WriteFailed => f.write_str("81 WriteFailed"),
-        }
+        f.write_str(self.text())
     }
 }
 

@@ -1,6 +1,8 @@
 //! The files that the command words name.
-ghost use Rattle.std.specs.Prelude.{◌≡◌, ◌<◌, ◌≤◌, ◌++◌, OnOk, ℕ, List, Option, Some, None, IfOk, IfSome, length, string_bytes};
+ghost use Rattle.std.specs.Prelude.{◌≡◌, ◌<◌, ◌≤◌, ◌+◌, ◌++◌, ◌↔◌, OnOk, ℕ, List, Option, Some, None, IfOk, IfErr, IfSome, IsTrue, length, string_bytes};
 ghost use Rattle.isp_engine.specs.Files.{Found};
+ghost use Rattle.isp_engine.specs.declared.files.FileFault.TheVariants.{CannotRead};
+ghost use Rattle.std.specs.declared.io.ErrorKind.TheVariants.{Interrupted};
 
 use std::alloc::Global;
 use std::io::{ErrorKind, Read};
@@ -60,13 +62,20 @@ pub fn read_text<R: Read>(alloc: Global, reader: &mut R, most: usize) -> Result<
             Ok(0) => return String::from_utf8(bytes).map_err(|_| FileFault::CannotRead),
             Ok(count) => keep(&mut bytes, &buffer[..count], most)?,
             Err(error) => {
-                if error.kind() != ErrorKind::Interrupted {
+                if !is_broken_off(error.kind()) {
                     return Err(FileFault::CannotRead);
                 }
             }
         }
     }
     Err(FileFault::CannotRead)
+}
+
+// Whether a signal broke a read off, which is then made again.
+fn is_broken_off(kind: ErrorKind) -> bool
+    ensures { IsTrue result ↔ (kind ≡ Interrupted) }
+{
+    kind == ErrorKind::Interrupted
 }
 
 fn buffer(alloc: Global) -> Result<Vec<u8>, FileFault>
@@ -80,9 +89,18 @@ fn keep(bytes: &mut Vec<u8>, more: &[u8], most: usize) -> Result<(), FileFault>
     requires { length bytes.old.items ≤ most }
     ensures bytes { OnOk result (bytes.new.items ≡ bytes.old.items ++ more.now) }
     ensures short { OnOk result (length bytes.new.items ≤ most) }
+    // Of a length that may be, only memory is refused.
+    ensures long { IfErr result (λ e. e ≡ CannotRead → most < length bytes.old.items + length more.now) }
 {
-    if more.len() > most - bytes.len() {
+    if !fits(bytes.len(), more.len(), most) {
         return Err(FileFault::CannotRead);
     }
     bytes.extend_from_slice(more).map_err(|_| FileFault::Memory)
+}
+
+// Whether so many bytes and so many more are no more than may be.
+fn fits(have: usize, more: usize, most: usize) -> bool
+    ensures { IsTrue result ↔ (have + more ≤ most) }
+{
+    have <= most && more <= most - have
 }

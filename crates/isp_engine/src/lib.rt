@@ -6,6 +6,7 @@ mod failure;
 mod fault;
 mod files;
 mod image;
+mod lines;
 mod report;
 mod run;
 mod sink;

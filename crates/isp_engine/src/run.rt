@@ -74,7 +74,7 @@ fn report<const N: usize>(
 
 // Where there is an answer, it and a line feed go out.
 #[tactic(auto, using(crate::proofs::Written::took_both, crate::proofs::Written::took_later, crate::proofs::Written::took_early))]
-pub(crate) fn write_answer<W: Sink>(answer: &Option<String>, out: &mut W) -> Result<(), SinkFault>
+fn write_answer<W: Sink>(answer: &Option<String>, out: &mut W) -> Result<(), SinkFault>
     requires { W.has_failed out.old ≡ false }
     ensures ok { OnOk result (TookAll (answer_bytes answer.now) (W.written out.old)
         (W.written out.new) (W.has_failed out.new)) }

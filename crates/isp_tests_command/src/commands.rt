@@ -10,7 +10,7 @@ use std::test::Fail;
 const DOUBLE: &str =
     "export void f(uniform int a[]) { a[programIndex] = a[programIndex] * 2 + 1; }";
 
-const FILES: [(&str, &str); 22] = [
+const FILES: [(&str, &str); 24] = [
     ("double.ispc", DOUBLE),
     (
         "varying.ispc",
@@ -18,6 +18,14 @@ const FILES: [(&str, &str); 22] = [
     ),
     ("value.ispc", "export void f(uniform int8 x) { }"),
     ("float.ispc", "export void f(uniform float a[]) { }"),
+    (
+        "endless.ispc",
+        "export void f() { while (true) print(\"x\"); }",
+    ),
+    (
+        "assert.ispc",
+        "export void f() { print(\"a\"); assert(programIndex < 2); }",
+    ),
     ("four.json", "{\"a\":[5,6,7,8]}"),
     ("three.json", "{\"a\":[5,6,7]}"),
     ("least.json", "{\"x\":-128}"),
@@ -74,22 +82,27 @@ fn words(alloc: Global, line: &str) -> Result<Vec<String>, AllocError> {
         .try_collect(alloc)
 }
 
-// Runs one request with a sink that has so much room, and takes five bytes a write.
-fn run(rt: &impl Abort, alloc: Global, case: &Case<'_>, room: usize) -> Result<(), Fail> {
-    let line = case.words;
-    let words = words(alloc, line)?;
-    let mut out = Page {
+// A sink that has so much room, and takes five bytes a write.
+fn page(alloc: Global, room: usize) -> Page {
+    Page {
         bytes: Vec::new(alloc),
         room,
         step: 5,
         has_failed: false,
-    };
-    let mut err: Vec<u8> = Vec::new(alloc);
+    }
+}
+
+// Runs one request with a sink that has so much room, and takes five bytes a write.
+fn run(rt: &impl Abort, alloc: Global, case: &Case<'_>, room: usize) -> Result<(), Fail> {
+    let line = case.words;
+    let words = words(alloc, line)?;
+    let mut out = page(alloc, room);
+    let mut err = page(alloc, 10_000);
     let files = Shelf { files: &FILES };
     let status = command(alloc, words.as_slice(), &files, &mut out, &mut err);
     assert_eq!(rt; status, case.status, "{line}");
     assert!(rt; out.bytes.as_slice() == case.out.as_bytes(), "{line}");
-    assert!(rt; err.as_slice() == case.err.as_bytes(), "{line}");
+    assert!(rt; err.bytes.as_slice() == case.err.as_bytes(), "{line}");
     Ok(())
 }
 
@@ -97,14 +110,14 @@ fn run(rt: &impl Abort, alloc: Global, case: &Case<'_>, room: usize) -> Result<(
 fn refuse(rt: &impl Abort, alloc: Global, source: &str, line: &str) -> Result<(), Fail> {
     let words = words(alloc, "isp run s.ispc f a.json")?;
     let mut out = Count { bytes: 0 };
-    let mut err: Vec<u8> = Vec::new(alloc);
+    let mut err = page(alloc, 10_000);
     let files = Shelf {
         files: &[("s.ispc", source), ("a.json", "{}")],
     };
     let status = command(alloc, words.as_slice(), &files, &mut out, &mut err);
     assert_eq!(rt; status, 1, "{source}");
     assert_eq!(rt; out.bytes, 0);
-    assert!(rt; err.as_slice() == line.as_bytes(), "{source}");
+    assert!(rt; err.bytes.as_slice() == line.as_bytes(), "{source}");
     Ok(())
 }
 
@@ -371,12 +384,12 @@ fn refused_words(rt: HostRuntime) -> Result<(), Fail> {
     ] {
         let words = words(alloc, line)?;
         let mut out = Count { bytes: 0 };
-        let mut err: Vec<u8> = Vec::new(alloc);
+        let mut err = page(alloc, 10_000);
         let files = Shelf { files: &FILES };
         let status = command(alloc, words.as_slice(), &files, &mut out, &mut err);
         assert_eq!(rt; status, 2, "{line}");
         assert_eq!(rt; out.bytes, 0, "{line}");
-        assert!(rt; err.starts_with(beginning.as_bytes()), "{line}");
+        assert!(rt; err.bytes.starts_with(beginning.as_bytes()), "{line}");
     }
     Ok(())
 }
@@ -386,13 +399,8 @@ fn refused_words(rt: HostRuntime) -> Result<(), Fail> {
 fn assembled_and_executed_again(rt: HostRuntime) -> Result<(), Fail> {
     let alloc = rt.alloc();
     let words = words(alloc, "isp asm double.ispc")?;
-    let mut out = Page {
-        bytes: Vec::new(alloc),
-        room: 10_000,
-        step: 5,
-        has_failed: false,
-    };
-    let mut err: Vec<u8> = Vec::new(alloc);
+    let mut out = page(alloc, 10_000);
+    let mut err = page(alloc, 10_000);
     let files = Shelf { files: &FILES };
     let status = command(alloc, words.as_slice(), &files, &mut out, &mut err);
     assert_eq!(rt; status, 0);
@@ -406,13 +414,8 @@ fn assembled_and_executed_again(rt: HostRuntime) -> Result<(), Fail> {
 // Runs code with the arguments of the stored run, and looks for its answer.
 fn execute_text(rt: &impl Abort, alloc: Global, text: &str) -> Result<(), Fail> {
     let words = words(alloc, "isp exec double.isp f four.json")?;
-    let mut out = Page {
-        bytes: Vec::new(alloc),
-        room: 1000,
-        step: 5,
-        has_failed: false,
-    };
-    let mut err: Vec<u8> = Vec::new(alloc);
+    let mut out = page(alloc, 1000);
+    let mut err = page(alloc, 10_000);
     let files = Shelf {
         files: &[("double.isp", text), ("four.json", "{\"a\":[5,6,7,8]}")],
     };
@@ -480,15 +483,81 @@ fn sink_that_fails(rt: HostRuntime) -> Result<(), Fail> {
     run(&rt, rt.alloc(), &case, 7)
 }
 
+// A program that prints for ever: what it printed goes out though it does not end, more with a greater budget.
+#[test]
+fn endless_print(rt: HostRuntime) -> Result<(), Fail> {
+    let alloc = rt.alloc();
+    let mut least = 1;
+    for line in [
+        "isp run --budget 10000 endless.ispc f none.json",
+        "isp run --budget 20000 endless.ispc f none.json",
+    ] {
+        let words = words(alloc, line)?;
+        let mut out = page(alloc, 100_000);
+        let mut err = page(alloc, 10_000);
+        let files = Shelf { files: &FILES };
+        let status = command(alloc, words.as_slice(), &files, &mut out, &mut err);
+        assert_eq!(rt; status, 4);
+        assert!(rt; err.bytes.as_slice() == b"isp: budget used\n".as_slice());
+        assert!(rt; out.bytes.iter().all(|byte| *byte == b'x'));
+        assert!(rt; out.bytes.len() >= least);
+        least = out.bytes.len();
+    }
+    Ok(())
+}
+
+// With the greatest budget it ends where the output takes no more.
+#[test]
+fn endless_print_into_ten_bytes(rt: HostRuntime) -> Result<(), Fail> {
+    let case = Case {
+        words: "isp run --budget 18446744073709551615 endless.ispc f none.json",
+        status: 6,
+        out: "xxxxxxxxxx",
+        err: "isp: cannot write\n",
+    };
+    run(&rt, rt.alloc(), &case, 10)
+}
+
+#[test]
+fn print_then_assert(rt: HostRuntime) -> Result<(), Fail> {
+    let case = Case {
+        words: "isp run assert.ispc f none.json",
+        status: 3,
+        out: "a",
+        err: "isp: trap assert at 30..54, instance 2\n",
+    };
+    run(&rt, rt.alloc(), &case, 1000)
+}
+
+// A standard error that takes so many bytes has the first of the line, and the status stays.
+#[test]
+fn line_cut_off(rt: HostRuntime) -> Result<(), Fail> {
+    let alloc = rt.alloc();
+    let line = "isp: trap index at 51..66, instance 3\n".as_bytes();
+    let words = words(alloc, "isp run double.ispc f three.json")?;
+    for room in 0..line.len() {
+        let mut out = Count { bytes: 0 };
+        let mut err = page(alloc, room);
+        let files = Shelf { files: &FILES };
+        let status = command(alloc, words.as_slice(), &files, &mut out, &mut err);
+        assert_eq!(rt; status, 3);
+        assert_eq!(rt; out.bytes, 0);
+        assert!(rt; err.bytes.as_slice() == &line[..room]);
+    }
+    Ok(())
+}
+
 // Memory is refused at each place in turn: the status is 7 and nothing goes out, and at last so many bytes do.
 fn refuse_memory(rt: &impl Abort, alloc: Global, line: &str, bytes: u64) -> Result<(), Fail> {
     let words = words(alloc, line)?;
+    let mut err = page(alloc, 10_000);
+    err.bytes.reserve(10_000)?;
     let mut hoard = Hoard::new(alloc)?;
     for step in 0..128_000usize {
         assert!(rt; hoard.leave(16 * step), "the pool is too small");
         let mut out = Count { bytes: 0 };
-        let mut room = [0u8; 80];
-        let mut err: &mut [u8] = &mut room;
+        err.bytes.clear();
+        err.room = 10_000;
         let files = Shelf { files: &FILES };
         let status = command(alloc, words.as_slice(), &files, &mut out, &mut err);
         if status == 0 {
@@ -497,7 +566,7 @@ fn refuse_memory(rt: &impl Abort, alloc: Global, line: &str, bytes: u64) -> Resu
             return Ok(());
         }
         assert_eq!(rt; status, 7, "with {step} times 16 bytes");
-        assert!(rt; room.starts_with(b"isp: memory\n"));
+        assert!(rt; err.bytes.as_slice() == b"isp: memory\n".as_slice());
         assert_eq!(rt; out.bytes, 0);
     }
     Err(Fail::from("always refused"))
@@ -530,7 +599,7 @@ fn memory_refused_to_asm(rt: HostRuntime) -> Result<(), Fail> {
     let line = "isp asm double.ispc";
     let words = words(alloc, line)?;
     let mut out = Count { bytes: 0 };
-    let mut err: Vec<u8> = Vec::new(alloc);
+    let mut err = page(alloc, 10_000);
     let files = Shelf { files: &FILES };
     let status = command(alloc, words.as_slice(), &files, &mut out, &mut err);
     assert_eq!(rt; status, 0);

@@ -1,7 +1,7 @@
 //! Runs whose output goes to a sink while they run: what went out, and how they end, where it takes little or fails.
 use crate::fakes::Page;
-use isp_base::{Span, Trap, TrapKind};
-use isp_engine::{Ending, Image, Report, RunFault, Sink, load_code, run_to};
+use isp_base::{Gang, Span, Trap, TrapKind};
+use isp_engine::{Ending, Image, Report, RunFault, Sink, compile, load_code, run_to};
 use isp_testing::Hoard;
 use std::alloc::Global;
 use std::process::Abort;
@@ -20,6 +20,12 @@ const SENT: &str = "0,2,3,{\"arrays\":{},\"result\":null}\n";
 const TRAPPED: &str =
     "isp 1 gang 4\nplace 0 4\ntext 6162\nfunc f export void\nm 1\nsay t0\nfail m0 p0\nret -\nend\n";
 
+// Programs whose runs are these.
+const ENDLESS_SOURCE: &str = "export void f() { while (true) print(\"x\"); }";
+
+const SHORT_SOURCE: &str =
+    "export void f() { if (programIndex != 1) foreach_active (i) print(\"%,\", i); }";
+
 fn page(alloc: Global, room: usize, step: usize) -> Page {
     Page {
         bytes: Vec::new(alloc),
@@ -31,6 +37,10 @@ fn page(alloc: Global, room: usize, step: usize) -> Page {
 
 fn image(alloc: Global, text: &str) -> Result<Image, Fail> {
     load_code(alloc, text).map_err(|_| Fail::from("the code is refused"))
+}
+
+fn compiled(alloc: Global, text: &str) -> Result<Image, Fail> {
+    compile(alloc, text, Gang::W4).map_err(|_| Fail::from("the source is refused"))
 }
 
 fn runs_entry(
@@ -69,30 +79,39 @@ fn a_few_bytes_a_write(rt: HostRuntime) -> Result<(), Fail> {
 }
 
 // A sink that takes k bytes and then no more: 81, and it has the first k bytes of what is sent.
-#[test]
-fn failing_behind_each_byte(rt: HostRuntime) -> Result<(), Fail> {
-    let alloc = rt.alloc();
-    let image = image(alloc, SHORT)?;
+fn fails_behind_each_byte(rt: &impl Abort, alloc: Global, image: &Image) -> Result<(), Fail> {
     let sent = SENT.as_bytes();
     for room in 0..sent.len() {
         for step in [1, 5, 100] {
             let mut out = page(alloc, room, step);
-            match runs(alloc, &image, 1000, &mut out) {
+            match runs(alloc, image, 1000, &mut out) {
                 Ok(_) => return Err(Fail::from("it took what it has no room for")),
-                Err(fault) => assert_eq!(&rt; fault, RunFault::WriteFailed),
+                Err(fault) => assert_eq!(rt; fault, RunFault::WriteFailed),
             }
-            assert!(&rt; out.failed());
-            assert!(&rt;
+            assert!(rt; out.failed());
+            assert!(rt;
                 out.bytes.as_slice() == &sent[..room],
                 "with room for {room}"
             );
         }
     }
     let mut out = page(alloc, sent.len(), 100);
-    let report = runs(alloc, &image, 1000, &mut out).map_err(|_| Fail::from("no report"))?;
-    assert_eq!(&rt; report.ending, Ending::Ended);
-    assert!(&rt; report.output.as_slice() == b"0,2,3,".as_slice());
+    let report = runs(alloc, image, 1000, &mut out).map_err(|_| Fail::from("no report"))?;
+    assert_eq!(rt; report.ending, Ending::Ended);
+    assert!(rt; report.output.as_slice() == b"0,2,3,".as_slice());
     Ok(())
+}
+
+#[test]
+fn failing_behind_each_byte(rt: HostRuntime) -> Result<(), Fail> {
+    let image = image(rt.alloc(), SHORT)?;
+    fails_behind_each_byte(&rt, rt.alloc(), &image)
+}
+
+#[test]
+fn source_failing_behind_each_byte(rt: HostRuntime) -> Result<(), Fail> {
+    let image = compiled(rt.alloc(), SHORT_SOURCE)?;
+    fails_behind_each_byte(&rt, rt.alloc(), &image)
 }
 
 // No answer goes out behind a trap, and the report has none.
@@ -143,20 +162,30 @@ fn budgets(rt: HostRuntime) -> Result<(), Fail> {
 }
 
 // A program that prints for ever ends with the first write that fails, whatever the budget.
-#[test]
-fn endless(rt: HostRuntime) -> Result<(), Fail> {
-    let alloc = rt.alloc();
-    let image = image(alloc, ENDLESS)?;
+fn ends_with_the_sink(rt: &impl Abort, alloc: Global, image: &Image) -> Result<(), Fail> {
     for (room, step) in [(0, 1), (10, 1), (10, 4), (10, 100), (5_000, 3_000)] {
         let mut out = page(alloc, room, step);
-        match runs(alloc, &image, u64::MAX, &mut out) {
+        match runs(alloc, image, u64::MAX, &mut out) {
             Ok(_) => return Err(Fail::from("it took what it has no room for")),
-            Err(fault) => assert_eq!(&rt; fault, RunFault::WriteFailed),
+            Err(fault) => assert_eq!(rt; fault, RunFault::WriteFailed),
         }
-        assert!(&rt; out.failed());
-        assert_eq!(&rt; out.bytes.len(), room);
+        assert!(rt; out.failed());
+        assert_eq!(rt; out.bytes.len(), room);
+        assert!(rt; out.bytes.iter().all(|byte| *byte == b'x'));
     }
     Ok(())
+}
+
+#[test]
+fn endless(rt: HostRuntime) -> Result<(), Fail> {
+    let image = image(rt.alloc(), ENDLESS)?;
+    ends_with_the_sink(&rt, rt.alloc(), &image)
+}
+
+#[test]
+fn endless_source(rt: HostRuntime) -> Result<(), Fail> {
+    let image = compiled(rt.alloc(), ENDLESS_SOURCE)?;
+    ends_with_the_sink(&rt, rt.alloc(), &image)
 }
 
 // 50 and 70 to 76 send nothing.

@@ -1,0 +1,10 @@
+use Rattle.std.proofs.Common.{ap, subst, ◌∙◌}
+use Rattle.std.specs.Fmt.{decimal}
+use Rattle.isp_engine.specs.Sinks.{Wrote}
+use Rattle.isp_engine.proofs.Pieces.{text_line}
+use Rattle.isp_engine.proofs.lines.write_text_fault.Goals as goal
+
+pub returns : goal.returns
+returns g c =
+    subst (λ z. Wrote z (g.W.Sink.written c.args.out.now) (g.W.Sink.written c.write_pieces.new.out) (g.W.Sink.has_failed c.write_pieces.new.out) c.write_pieces.result)
+    (text_line c.args.fault _ _ c.rule_name.ensures c.format.ensures.text) c.write_pieces.ensures
