@@ -13,9 +13,11 @@ use Rattle.isp_code.specs.Entries.{parameters_of}
 use Rattle.isp_code.specs.Listing.{Listing, Routine}
 use Rattle.isp_code.specs.Machine.{first_conf, outcome_after}
 use Rattle.isp_meaning.proofs.Grown.{prefix_self, prefix_on}
-use Rattle.isp_meaning.specs.Entries.{IsExport}
+use Rattle.isp_instances.proofs.Entry.{solo_runs_agree}
+use Rattle.isp_meaning.specs.Entries.{IsEntry, IsExport}
 use Rattle.isp_meaning.specs.Runs.{run_of}
 use Rattle.isp_typed.specs.Typed.{Program, TFunction}
+use Rattle.isp_rates.specs.Program.{IsAccepted}
 use Rattle.isp_masks.specs.Agreement.{RunsAgree, EntryAgrees, Agrees}
 use Rattle.isp_masks.proofs.Endings.{longer, grows}
 use Rattle.isp_engine.specs.declared.fault.RunFault.{RunFault}
@@ -39,7 +41,7 @@ report_over ps (GoesOn out) r h ne = ne h.0
 
 -- ---- one function
 
-module _ (program : Program) (code : Listing) (f : ℕ) (h : TFunction) (g : Routine) (xs : List Argument) (agree : RunsAgree program code f g xs) (budget : ℕ) (r : Report) (reports : Reports h.parameters (outcome_after code f g xs budget) r) where
+module _ (program : Program) (code : Listing) (f : ℕ) (h : TFunction) (g : Routine) (xs : List Argument) (accepted : IsAccepted program) (name : List ℕ) (entry : IsEntry program name xs f h) (agree : RunsAgree program code f g xs) (budget : ℕ) (r : Report) (reports : Reports h.parameters (outcome_after code f g xs budget) r) where
   abbrev came : ℕ → Outcome
   came m = outcome_after code f g xs m
 
@@ -70,13 +72,20 @@ module _ (program : Program) (code : Listing) (f : ℕ) (h : TFunction) (g : Rou
   out_soon n (Traps t arrays out) e = subst (λ o. IsPrefix out (out_of o)) (sym (agree.soon n (Traps t arrays out) tt e)) (prefix_self out)
   out_soon n (GoesOn out) e = agree.soon_goes_on n out e
 
+  -- a run that is over, once the budget is enough for its work
+  reached : (n : ℕ) → IsOver (run n) → enough program f xs n ≤ budget → Reports h.parameters (run n) r
+  reached n over le =
+      subst (λ o. Reports h.parameters o r) (longer code (rows xs) (enough program f xs n) budget start (run n) le over (agree.soon n (run n) over refl)) reports
+
   tells : Tells program f h xs budget r
   tells = record {
     only = λ ne.
         let k = agree.over_only budget (came budget) (report_over h.parameters (came budget) r reports ne) refl in
         (k.1.0, subst (λ o. Reports h.parameters o r) (sym k.1.1) reports);
-    reached = λ n over le.
-        subst (λ o. Reports h.parameters o r) (longer code (rows xs) (enough program f xs n) budget start (run n) le over (agree.soon n (run n) over refl)) reports;
+    reached = reached;
+    one_by_one = λ n a ps order p lt le.
+        let same = solo_runs_agree program name f h xs n accepted entry a.independent a.ended a.apart ps order p lt in
+        subst (λ o. Reports h.parameters o r) same (reached n (subst IsOver (sym same) tt) le);
     so_far = λ n over. let k = agree.over (run n) (over, (n, refl)) in so_far_of n k.0 over k.1;
     so_far_some = let k = agree.so_far budget in (k.0, subst (λ z. IsPrefix z (out_of (run k.0))) (sym out_is) k.1);
     written = λ n le.
@@ -86,17 +95,19 @@ module _ (program : Program) (code : Listing) (f : ℕ) (h : TFunction) (g : Rou
 
 -- ---- the function of a name
 
-means_of : (program : Program) (code : Listing) (f : ℕ) (h : TFunction) (g : Routine) → EntryAgrees program code f h g → (json : List ℕ) (budget : ℕ) (answer : Result Report RunFault) → Runs code f g json budget answer → MeansOf program f h json budget answer
-means_of program code f h g k json budget (Err z) x = λ ne.
+means_of : (program : Program) (code : Listing) (name : List ℕ) (f : ℕ) (h : TFunction) (g : Routine) → IsAccepted program → IsExport program name f h → EntryAgrees program code f h g → (json : List ℕ) (budget : ℕ) (answer : Result Report RunFault) → Runs code f g json budget answer → MeansOf program f h json budget answer
+means_of program code name f h g accepted e k json budget (Err z) x = λ ne.
     let y = x ne in
     (y.0, subst (λ ps. bound_of ps json ≡ Err y.0) k.parameters y.1, y.2)
-means_of program code f h g k json budget (Ok r) x =
+means_of program code name f h g accepted e k json budget (Ok r) x =
     let bound : bound_of h.parameters json ≡ Ok x.0 = subst (λ ps. bound_of ps json ≡ Ok x.0) k.parameters x.1 in
     let reports : Reports h.parameters (outcome_after code f g x.0 budget) r = subst (λ ps. Reports ps (outcome_after code f g x.0 budget) r) k.parameters x.2 in
-    (x.0, bound, tells program code f h g x.0 (k.runs x.0 (fits h.parameters json x.0 bound) (short h.parameters json x.0 bound)) budget r reports)
+    let sig = fits h.parameters json x.0 bound in
+    let entry : IsEntry program name x.0 f h = record { export = e; fits = sig } in
+    (x.0, bound, tells program code f h g x.0 accepted name entry (k.runs x.0 sig (short h.parameters json x.0 bound)) budget r reports)
 
-pub means : (program : Program) (code : Listing) → Agrees program code → (entry json : List ℕ) (budget : ℕ) (answer : Result Report RunFault) → Executes code entry json budget answer → Means program entry json budget answer
-means program code agrees entry json budget answer x = record {
+pub means : (program : Program) (code : Listing) → IsAccepted program → Agrees program code → (entry json : List ℕ) (budget : ℕ) (answer : Result Report RunFault) → Executes code entry json budget answer → Means program entry json budget answer
+means program code accepted agrees entry json budget answer x = record {
   none = λ no. x.none (λ f g e. let k = agrees.exports_only entry f g e in no f k.0 k.1);
-  runs = λ f h e. let k = agrees.exports entry f h e in means_of program code f h k.0 k.2 json budget answer (x.runs f k.0 k.1);
+  runs = λ f h e. let k = agrees.exports entry f h e in means_of program code entry f h k.0 accepted e k.2 json budget answer (x.runs f k.0 k.1);
 }

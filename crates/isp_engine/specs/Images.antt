@@ -6,15 +6,17 @@ use Rattle.isp_base.specs.declared.types.Gang.{Gang}
 use Rattle.isp_code.specs.Listing.{Listing}
 use Rattle.isp_typed.specs.Typed.{Program}
 use Rattle.isp_masks.specs.Agreement.{Agrees}
+use Rattle.isp_rates.specs.Program.{IsAccepted}
 use Rattle.isp_verify.specs.Faults.{code_fault}
 use Rattle.isp_engine.specs.declared.fault.CodeFault.{CodeFault}
 use Rattle.isp_engine.specs.declared.fault.CodeFault.TheVariants.{Memory, Text, Code}
 use Rattle.isp_engine.specs.Front.{IsSource}
 
--- the text is the source of a program, and the code agrees with it
+-- the text is the source of a program that is accepted, and the code agrees with it
 pub record IsCompilation (gang : Gang) (text : List ℕ) (code : Listing) : Type 0 where
   pub program : Program
   pub source : IsSource gang text program
+  pub accepted : IsAccepted program
   pub agrees : Agrees program code
 
 -- the text is that of code in which the verifier finds no fault

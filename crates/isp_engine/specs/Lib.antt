@@ -6,6 +6,7 @@ pub mod Images
 pub mod Reports
 pub mod Stops
 pub mod Sending
+pub mod OneByOne
 pub mod Meaning
 pub mod Failures
 pub mod Commands

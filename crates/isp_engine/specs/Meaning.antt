@@ -1,12 +1,14 @@
 -- What a run answers, by the meaning of the program that it runs.
 --     Tells program f h xs b r      what the report of b instructions says of the runs of function f from the arguments xs
 --     Means program entry json b r  the answer to a run of the function of a name, from a JSON text
-use Rattle.std.specs.Prelude.{◌≡◌, ◌≢◌, ℕ, ◌+◌, ◌*◌, ◌≤◌, List, Result, Ok, Err}
+use Rattle.std.specs.Prelude.{◌≡◌, ◌≢◌, ℕ, ◌+◌, ◌*◌, ◌<◌, ◌≤◌, List, Result, Ok, Err}
 use Rattle.isp_base.specs.Outcomes.{out_of, IsOver}
 use Rattle.isp_base.specs.Prefixes.{IsPrefix}
+use Rattle.isp_base.specs.Types.{gang_width}
 use Rattle.isp_base.specs.declared.signature.Argument.{Argument}
 use Rattle.isp_bind.specs.Binding.{bound_of}
 use Rattle.isp_bind.specs.declared.fault.BindFault.{BindFault}
+use Rattle.isp_alone.specs.OneByOne.{IsOrder}
 use Rattle.isp_meaning.specs.Entries.{IsExport}
 use Rattle.isp_meaning.specs.Runs.{run_of, work_of}
 use Rattle.isp_typed.specs.Typed.{Program, TFunction}
@@ -15,6 +17,7 @@ use Rattle.isp_engine.specs.declared.fault.RunFault.TheVariants.{Memory, NoEntry
 use Rattle.isp_engine.specs.declared.report.Ending.TheVariants.{Running}
 use Rattle.isp_engine.specs.declared.report.Report.{Report}
 use Rattle.isp_engine.specs.Faults.{run_fault}
+use Rattle.isp_engine.specs.OneByOne.{StandAlone, left_one_by_one}
 use Rattle.isp_engine.specs.Reports.{Reports}
 
 -- enough instructions for the work of the run of n turns
@@ -27,6 +30,9 @@ pub record Tells (program : Program) (f : ℕ) (h : TFunction) (xs : List Argume
   pub only : r.ending ≢ Running → (n : ℕ) × Reports h.parameters (run_of program f n xs) r
   -- as each run that ends or traps, where the budget is enough for its work
   pub reached : (n : ℕ) → IsOver (run_of program f n xs) → enough program f xs n ≤ budget → Reports h.parameters (run_of program f n xs) r
+  -- where its instances stand alone: as they leave it one by one, in any order, with the result of each
+  pub one_by_one : (n : ℕ) → StandAlone program f xs n → (ps : List ℕ) → IsOrder (gang_width program.gang) ps → (p : ℕ) → p < gang_width program.gang
+      → enough program f xs n ≤ budget → Reports h.parameters (left_one_by_one program f h xs n ps p) r
   -- the output begins that of each run that ends or traps
   pub so_far : (n : ℕ) → IsOver (run_of program f n xs) → IsPrefix r.output.items (out_of (run_of program f n xs))
   -- and in any case that of some run

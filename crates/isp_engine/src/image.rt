@@ -6,7 +6,9 @@ ghost use Rattle.isp_asm.specs.Spelling.{text_of};
 ghost use Rattle.isp_code.specs.Listing.{Listing};
 ghost use Rattle.isp_code.specs.Writable.{IsWritable};
 ghost use Rattle.isp_lex.specs.declared.fault.Fault.{Fault};
+ghost use Rattle.isp_rates.specs.Program.{IsAccepted};
 ghost use Rattle.isp_typed.specs.Typed.{Program};
+ghost use Rattle.isp_typed.specs.Views.{program_of};
 ghost use Rattle.isp_verify.specs.Faults.{code_fault};
 ghost use Rattle.isp_engine.specs.Front.{IsFaulty, IsSource};
 ghost use Rattle.isp_engine.specs.Images.{IsCompilation, IsLoaded, IsNotLoaded};
@@ -18,6 +20,7 @@ use isp_base::Gang;
 use isp_code::Code;
 use isp_lex::SourceFault;
 use isp_masks::lower;
+use isp_rates::Checked;
 use isp_verify::{Verified, VerifyFault, verify};
 use std::alloc::Global;
 use std::marker::Model;
@@ -64,6 +67,7 @@ pub fn compile(alloc: Global, text: &str, gang: Gang) -> Result<Image, SourceFau
     ensures refused { IfErr result (λ e. (f : Fault) → e ≡ SourceFault.Refused f → IsFaulty gang text.now f) }
 {
     let checked = front(alloc, text, gang)?;
+    accepted(&checked);
     let code = lower(alloc, &checked)?;
     match verify(alloc, code) {
         Ok(verified) => Ok(Image { verified }),
@@ -72,6 +76,13 @@ pub fn compile(alloc: Global, text: &str, gang: Gang) -> Result<Image, SourceFau
             VerifyFault::Refused(_fault) => unreachable!(),
         },
     }
+}
+
+// What is checked is accepted by names, types, rates, exits and exports.
+fn accepted(checked: &Checked)
+    ensures { IsAccepted (program_of checked.now) }
+{
+    let _program = checked.program();
 }
 
 /// Reads code text and verifies the code.

@@ -6,7 +6,7 @@ use Rattle.isp_engine.proofs.Sends.{answers_of, sends_of}
 use Rattle.isp_engine.proofs.run.run_to.Goals as goal
 
 pub returns-in_default-clause-means : goal.returns-in_default-clause-means
-returns-in_default-clause-means g c = λ ne gang text k. means k.program c.args.image.now k.agrees c.args.entry.now c.args.json.now c.args.budget _ (search rules)
+returns-in_default-clause-means g c = λ ne gang text k. means k.program c.args.image.now k.accepted k.agrees c.args.entry.now c.args.json.now c.args.budget _ (search rules)
 
 pub returns-in_err-bound-clause-machine : goal.returns-in_err-bound-clause-machine
 returns-in_err-bound-clause-machine g c = λ ne.
@@ -16,7 +16,7 @@ returns-in_err-bound-clause-machine g c = λ ne.
 
 pub returns-in_err-bound-clause-means : goal.returns-in_err-bound-clause-means
 returns-in_err-bound-clause-means g c = λ ne gang text k.
-    means k.program c.args.image.now k.agrees c.args.entry.now c.args.json.now c.args.budget _ (returns-in_err-bound-clause-machine g c ne)
+    means k.program c.args.image.now k.accepted k.agrees c.args.entry.now c.args.json.now c.args.budget _ (returns-in_err-bound-clause-machine g c ne)
 
 pub returns-clause-machine : goal.returns-clause-machine
 returns-clause-machine g c = λ ne.
@@ -25,7 +25,7 @@ returns-clause-machine g c = λ ne.
     (answers_of _ c.code-code.ensures.goes_on c.args.entry.now c.args.json.now c.args.budget s.0 s.1 s.2 _ s.3 c.in_ok-bound.bound.arguments.items c.in_ok-bound.ensures.ok _ _ _ c.run_for_gang.result c.run_for_gang.ensures.reports (c.run_for_gang.ensures.sends s.0 s.1 s.2) ne)
 
 pub returns-clause-means : goal.returns-clause-means
-returns-clause-means g c = λ ne gang text k. means k.program c.args.image.now k.agrees c.args.entry.now c.args.json.now c.args.budget _ (returns-clause-machine g c ne)
+returns-clause-means g c = λ ne gang text k. means k.program c.args.image.now k.accepted k.agrees c.args.entry.now c.args.json.now c.args.budget _ (returns-clause-machine g c ne)
 
 pub returns-clause-sends : goal.returns-clause-sends
 returns-clause-sends g c =
