@@ -1,5 +1,5 @@
 -- The lines on standard error, by the pieces that are written.
-use Rattle.std.proofs.Common.{◌≡◌, ◌++◌, ◌∷◌, [], ℕ, List, codes, append_assoc, ap}
+use Rattle.std.proofs.Common.{◌≡◌, ◌++◌, [], ℕ, List, codes, append_assoc, ap}
 use Rattle.std.specs.Fmt.{decimal}
 use Rattle.isp_asm.specs.Faults.{rule_text}
 use Rattle.isp_asm.specs.declared.fault.Fault.{Fault as TextFault}

@@ -1,5 +1,5 @@
 -- What a refused source, refused code and the answer of a run mean for a request.
-use Rattle.std.proofs.Common.{◌≡◌, ◌≢◌, ℕ, List, Bool, Option, Some, Result, Ok, Err, refl, sym, subst, inl, inr}
+use Rattle.std.proofs.Common.{◌≡◌, ◌≢◌, ℕ, List, Bool, Option, Some, Result, refl, sym, subst, inl, inr}
 use Rattle.std.specs.Prelude.{⊤}
 use Rattle.isp_base.specs.declared.types.Gang.{Gang}
 use Rattle.isp_code.specs.Listing.{Listing}

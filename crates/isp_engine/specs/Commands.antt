@@ -3,7 +3,7 @@
 --     Ends              the story of any request
 --     Commands          all of that, the exit status, and the line on standard error
 -- `holds name text` says that under a name a text may be found, or nothing that can be read, and `tells line` that a line went to standard error.
-use Rattle.std.specs.Prelude.{◌≡◌, ◌≢◌, ◌⊎◌, ℕ, ◌++◌, List, [], ◌∷◌, Bool, Option, Some, None, Result, Ok, Err, ⊤}
+use Rattle.std.specs.Prelude.{◌≡◌, ◌≢◌, ◌⊎◌, ℕ, List, [], Bool, Option, Some, None, Result, Ok, Err, ⊤}
 use Rattle.isp_base.specs.declared.types.Gang.{Gang}
 use Rattle.isp_code.specs.Listing.{Listing}
 use Rattle.isp_asm.specs.Spelling.{text_of}
