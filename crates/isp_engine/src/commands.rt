@@ -23,9 +23,9 @@ use std::alloc::Global;
 ///
 /// `run [--gang G] [--budget B] SOURCE ENTRY ARGUMENTS` reads the files SOURCE and ARGUMENTS, compiles the source and
 /// runs ENTRY with the arguments; `exec [--budget B] CODE ENTRY ARGUMENTS` reads code in place of a source;
-/// `asm [--gang G] SOURCE` compiles the source and writes its code. The output goes to `out`, and where a run has ended
-/// the answer and a line feed behind it. Where the status is not 0 a line on `err` says why; refused words, of which
-/// help is one, have more than a line. A fault of `err` is ignored.
+/// `asm [--gang G] SOURCE` compiles the source and writes its code. The output goes to `out` while a program runs, and
+/// where a run has ended the answer and a line feed behind it. Where the status is not 0 a line on `err` says why; refused
+/// words, of which help is one, have more than a line. Where `err` fails, or has failed before, the rest of it is lost.
 pub fn command<F: SourceFiles, O: Sink, E: Sink>(
     alloc: Global,
     words: &[String],
