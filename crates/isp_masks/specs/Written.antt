@@ -7,7 +7,6 @@ use Rattle.isp_base.specs.declared.types.Elem.TheVariants.{Bool as Truth, I32, I
 use Rattle.isp_base.specs.declared.types.Rate.TheVariants.{Uniform, Varying}
 use Rattle.isp_base.specs.declared.types.Span.{Span}
 use Rattle.isp_code.specs.declared.instr.Instr.{Instr}
-use Rattle.isp_code.specs.declared.instr.Instr.TheVariants as instr
 use Rattle.isp_typed.specs.Typed.{TExpr, type_of, TSimple, TFirst, TStmt, TBlock, TRange}
 use Rattle.isp_lower.specs.Code.{expr_code, expr_places, found, guard, jump_off, two, compare, compute, convert, copy, splat}
 use Rattle.isp_lower.specs.Emitted.{layout, texts_of}
