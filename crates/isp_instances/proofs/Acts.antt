@@ -1,6 +1,6 @@
 -- Assignments and declarations, one line a node: each member keeps what its own run keeps.
-use Rattle.std.proofs.Common.{◌≡◌, ℕ, suc, ◌⊎◌, inl, inr, Bool, true, false, refl, sym, ap, ◌∙◌, subst, true≢false}
-use Rattle.std.specs.Prelude.{List, [], ◌∷◌, Option, Some, None}
+use Rattle.std.proofs.Common.{◌≡◌, ℕ, suc, Bool, true, false, refl, sym, ap, ◌∙◌, subst}
+use Rattle.std.specs.Prelude.{List, [], ◌∷◌, None}
 use Rattle.isp_base.specs.Access.{is_outside, is_zero}
 use Rattle.isp_base.specs.Sets.{Mask}
 use Rattle.isp_base.specs.Values.{op_bits}
@@ -12,19 +12,19 @@ use Rattle.isp_base.specs.declared.types.Span.{Span}
 use Rattle.isp_base.specs.declared.trap.TrapKind.TheVariants.{Divide, Index}
 use Rattle.isp_typed.specs.Scoped.{Scope, declared, scope_after}
 use Rattle.isp_typed.specs.declared.variable.Variable.{Variable as AVar}
-use Rattle.isp_typed.specs.Typed.{TPlace, t_variable, t_element, TFunction, rate_of, elem_of, place_span, place_type, TItem, t_plain, t_with_value, t_with_size, TSimple, t_value, t_run, t_assign, t_update, t_step, TFirst, t_first_declare, t_first_simple}
+use Rattle.isp_typed.specs.Typed.{TPlace, t_variable, t_element, TFunction, rate_of, elem_of, place_span, place_type, TItem, t_plain, t_with_value, t_with_size, TSimple, t_value, t_run, t_assign, t_update, t_step}
 use Rattle.isp_meaning.specs.State.{State, Frame, tick, extent}
-use Rattle.isp_meaning.specs.Payloads.{Payload, One, converted, mapped}
+use Rattle.isp_meaning.specs.Payloads.{Payload, One, converted}
 use Rattle.isp_meaning.specs.Outcomes.{Val, Gives, Done, bind, checked}
 use Rattle.isp_meaning.specs.Places.{Place, outside, kept}
 use Rattle.isp_meaning.specs.Expressions.{Passed, Calls}
-use Rattle.isp_meaning.specs.Simple.{cleared, update, simple, item, items, first_part, step_part}
+use Rattle.isp_meaning.specs.Simple.{cleared, update, simple, item, items}
 use Rattle.isp_alone.specs.Alone.{Alone}
 use Rattle.isp_alone.specs.Answers.{Answer, Has, reached, and_then, unless}
 use Rattle.isp_alone.specs.Places.{Spot, outside as own_outside, kept as own_kept, cleared as own_cleared}
-use Rattle.isp_alone.specs.Steps.{update as own_update, simple as own_simple, item as own_item, items as own_items, first_part as own_first_part, step_part as own_step_part}
+use Rattle.isp_alone.specs.Steps.{update as own_update, simple as own_simple, item as own_item, items as own_items}
 use Rattle.isp_alone.specs.Values.{OwnCalls}
-use Rattle.isp_instances.specs.Stands.{World, TouchNothing, EndsWithin, Stands, Same, AreSome, IfIn, Up}
+use Rattle.isp_instances.specs.Stands.{World, TouchNothing, Same, AreSome, Up}
 use Rattle.isp_instances.specs.Values.{AnswersAlone, Agrees, Sim, Stand, PlaceStands, AnswerStands, CallsAgree}
 use Rattle.isp_instances.specs.Statements.{Acts, ActSim}
 use Rattle.isp_instances.specs.Asked.{uniforms_in}

@@ -1,6 +1,6 @@
 -- What assignments and declarations without breaches have, one line a node.
-use Rattle.std.proofs.Common.{◌≡◌, ◌<◌, ℕ, suc, ◌⊎◌, inl, inr, Bool, true, false, refl, sym, ap, ◌∙◌, subst, arith, true≢false}
-use Rattle.std.specs.Prelude.{List, [], ◌∷◌, ◌++◌, Option, Some, None, Contains, not, ◌&&◌, ◌||◌, nat_eq, nat_lt, slice_get}
+use Rattle.std.proofs.Common.{◌≡◌, ◌<◌, ℕ, suc, ◌⊎◌, inl, inr, Bool, true, false, refl, sym, ap, ◌∙◌, arith, true≢false}
+use Rattle.std.specs.Prelude.{List, [], ◌∷◌, ◌++◌, None, Contains, not, ◌&&◌, ◌||◌, nat_eq, nat_lt, slice_get}
 use Rattle.std.specs.List.{All}
 use Rattle.std.proofs.lemmas.Bool.{cases_eq}
 use Rattle.std.proofs.lemmas.Bool.Decides.{nat_tests}
@@ -13,9 +13,9 @@ use Rattle.isp_lex.specs.declared.fault.Fault.{Fault}
 use Rattle.isp_typed.specs.declared.variable.Variable.{Variable}
 use Rattle.isp_typed.specs.Fine.{HoldsValue, FinePlace, FineTarget, FineItem}
 use Rattle.isp_typed.specs.Scoped.{Scope, declared, ItemAt, ItemsAt}
-use Rattle.isp_typed.specs.Typed.{TPlace, t_variable, t_element, TItem, t_plain, t_with_value, t_with_size, TSimple, t_value, t_run, t_assign, t_update, t_step, TFunction, place_type, rate_of}
+use Rattle.isp_typed.specs.Typed.{TPlace, t_variable, t_element, TItem, t_plain, t_with_value, t_with_size, TSimple, t_value, t_run, t_assign, t_update, t_step, TFunction, place_type}
 use Rattle.isp_rates.specs.Breaches.{OfEach}
-use Rattle.isp_rates.specs.Rates.{ExprBreach, PlaceBreach}
+use Rattle.isp_rates.specs.Rates.{ExprBreach}
 use Rattle.isp_rates.specs.Exits.{ItemBreach}
 use Rattle.isp_independence.specs.declared.control.Control.{Control}
 use Rattle.isp_independence.specs.declared.dependence.Dependence.{Dependence}

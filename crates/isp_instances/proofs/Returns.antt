@@ -9,16 +9,15 @@ use Rattle.isp_base.specs.declared.types.Ty.{Ty}
 use Rattle.isp_typed.specs.Scoped.{Scope}
 use Rattle.isp_meaning.specs.State.{State}
 use Rattle.isp_meaning.specs.Payloads.{Payload, One, Each, sole, spread}
-use Rattle.isp_meaning.specs.Outcomes.{Val, Res, Went, Done}
+use Rattle.isp_meaning.specs.Outcomes.{Val, Went, Done}
 use Rattle.isp_meaning.specs.Statements.{all_go, answered, answered_at}
 use Rattle.isp_alone.specs.Alone.{Alone}
-use Rattle.isp_alone.specs.Answers.{Answer, Has, Bad, Long, How, Going, Returned, End, Does}
+use Rattle.isp_alone.specs.Answers.{Answer, Has, Bad, Long, Going, Returned, Does}
 use Rattle.isp_alone.specs.Does.{goes_on}
-use Rattle.isp_instances.specs.Stands.{World, Stands, Same, AreSome, IfIn, EndsWithin, ResultOf, ResultIs}
+use Rattle.isp_instances.specs.Stands.{World, AreSome, IfIn, EndsWithin, ResultOf, ResultIs}
 use Rattle.isp_instances.specs.Values.{AnswersAlone, Stand, IsOne}
 use Rattle.isp_instances.specs.Statements.{no_ways, Here, HasAll, LeavesWithin, Acts, ActSim, LeavesAlone, Leaves, StmtSim}
 use Rattle.isp_instances.proofs.Lanes.{one_is}
-use Rattle.isp_instances.proofs.Loops.{LeavesIf}
 
 and_true : (t : Bool) → t ≡ (t && true)
 and_true true = refl

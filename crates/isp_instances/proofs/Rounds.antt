@@ -1,7 +1,7 @@
 -- The runs of a `foreach`: the gang makes each of them over its members, an instance those in which it is on.
 use Rattle.std.proofs.Common.{◌≡◌, ℕ, ◌<◌, Bool, true, false, refl, sym, ap, ◌∙◌, subst, true≢false}
 use Rattle.std.specs.Prelude.{List, [], ◌∷◌, map, ℤ}
-use Rattle.isp_base.specs.Sets.{Mask, nobody}
+use Rattle.isp_base.specs.Sets.{Mask}
 use Rattle.isp_base.specs.Maps.{on}
 use Rattle.isp_base.specs.Values.{wrap}
 use Rattle.isp_base.specs.declared.types.Elem.TheVariants.{I32}
@@ -9,12 +9,12 @@ use Rattle.isp_base.specs.declared.types.Rate.TheVariants.{Varying}
 use Rattle.isp_typed.specs.Scoped.{Scope}
 use Rattle.isp_meaning.specs.State.{State}
 use Rattle.isp_meaning.specs.Payloads.{Each}
-use Rattle.isp_meaning.specs.Outcomes.{Val, Gives, Fails, Stops, Res, Went, Done, go_on}
+use Rattle.isp_meaning.specs.Outcomes.{Val, Gives, Fails, Stops, Res, Done, go_on}
 use Rattle.isp_meaning.specs.Rounds.{Run, rounds, set_indices, round_of_run}
 use Rattle.isp_alone.specs.Alone.{Alone}
-use Rattle.isp_alone.specs.Answers.{Answer, Has, Bad, Long, reached, How, Going, End, Does, Dies, Lasts, choose, then_always}
+use Rattle.isp_alone.specs.Answers.{Answer, Has, Bad, Long, How, End, Does, Dies, Lasts, choose, then_always}
 use Rattle.isp_alone.specs.Loops.{at_indices, rounds as own_rounds}
-use Rattle.isp_instances.specs.Stands.{World, Within, Stands, Same, AreSome, IfIn, Up, left_at}
+use Rattle.isp_instances.specs.Stands.{World, Within, Same, AreSome, IfIn, Up, left_at}
 use Rattle.isp_instances.specs.Values.{AnswersAlone}
 use Rattle.isp_instances.specs.Statements.{Ways, no_ways, Here, HasAll, LeavesWithin, Acts, ActSim, LeavesAlone, Leaves, StmtSim}
 use Rattle.isp_instances.proofs.Grow.{within_then}

@@ -1,6 +1,6 @@
 -- Statements, one line a node: each member leaves them as its own run does.
 use Rattle.std.proofs.Common.{◌≡◌, ℕ, suc, ◌+◌, ◌<◌, ◌⊎◌, inl, inr, Bool, true, false, refl, sym, ap, ◌∙◌, subst, true≢false}
-use Rattle.std.specs.Prelude.{◌≤◌, List, [], ◌∷◌, ◌++◌, Option, Some, None, Contains, not, ◌&&◌, ◌||◌, nat_lt, if◌then◌else◌, option_map, slice_get}
+use Rattle.std.specs.Prelude.{◌≤◌, List, [], ◌∷◌, ◌++◌, Option, Some, None, Contains, not, ◌&&◌, ◌||◌, nat_lt, option_map, slice_get}
 use Rattle.std.specs.List.{All}
 use Rattle.std.proofs.lemmas.List.Elements.{All-head, All-tail, Contains-append_left, Contains-append_right}
 use Rattle.isp_base.specs.Sets.{Mask, nobody}

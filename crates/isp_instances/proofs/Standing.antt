@@ -7,7 +7,6 @@ use Rattle.isp_base.specs.declared.types.Rate.TheVariants.{Uniform, Varying}
 use Rattle.isp_typed.specs.Scoped.{Scope}
 use Rattle.isp_typed.specs.Typed.{TExpr, rate_of}
 use Rattle.isp_rates.specs.declared.exits.Within.{Within as Around}
-use Rattle.isp_rates.specs.Exits.{in_foreach}
 use Rattle.isp_independence.specs.declared.control.Control.{Control}
 use Rattle.isp_independence.specs.Control.{parted, branch}
 use Rattle.isp_independence.specs.Exits.{by_rate, tests_varying}
