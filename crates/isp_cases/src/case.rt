@@ -1,6 +1,6 @@
 //! One record of cases, line by line.
 use crate::found::Found;
-use crate::ways::{accepted, compiled, evaluated, executed, sent, worked};
+use crate::ways::{accepted, compiled, evaluated, executed, is_read_back, sent, worked};
 use isp_base::Gang;
 use isp_engine::compile;
 use isp_testing::{Marked, number, parted, spelt_out};
@@ -155,12 +155,17 @@ impl<'a> Case<'a> {
         Ok(())
     }
 
-    // Tries the code of a case: by its report, and by what goes out while it runs.
+    // Tries the code of a case: its text, its report, and what goes out while it runs.
     fn run_code(&self, wanted: &Found, tried: &mut Tried) -> Result<(), AllocError> {
         let name = self.name;
         let Ok(image) = compile(self.alloc, self.marked.source.as_str(), self.gang) else {
             return tried.differ(format!(in self.alloc; "{name}: no code")?);
         };
+        if !is_read_back(self.alloc, &image) {
+            tried.differ(format!(in self.alloc;
+                "{name}: the text of its code is read as other code"
+            )?)?;
+        }
         let Some(found) = executed(self.alloc, self, &image, wanted)? else {
             return tried.differ(format!(in self.alloc; "{name}: the code does not run")?);
         };

@@ -2,9 +2,10 @@
 use crate::case::Case;
 use crate::found::Found;
 use crate::kept::Kept;
+use isp_asm::write;
 use isp_base::{Bound, Signature};
 use isp_bind::{answer, bind};
-use isp_engine::{Ending, Image, Report, compile, execute, front, run_to};
+use isp_engine::{Ending, Image, Report, compile, execute, front, load_code, run_to};
 use isp_lex::SourceFault;
 use isp_model::{Outcome, evaluate, work};
 use isp_rates::Checked;
@@ -161,6 +162,17 @@ pub(crate) fn sent(
     )
     .ok()?;
     Some(out.bytes)
+}
+
+/// Whether the text of code is that of the code which is read from it.
+pub(crate) fn is_read_back(alloc: Global, image: &Image) -> bool {
+    let Ok(text) = write(alloc, image.code()) else {
+        return false;
+    };
+    let Ok(again) = load_code(alloc, text.as_str()) else {
+        return false;
+    };
+    write(alloc, again.code()).is_ok_and(|other| other == text)
 }
 
 fn reported(alloc: Global, report: Report) -> Result<Found, AllocError> {
