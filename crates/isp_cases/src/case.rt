@@ -15,7 +15,8 @@ pub(crate) struct Tried {
 
 impl Tried {
     fn differ(&mut self, line: String) -> Result<(), AllocError> {
-        self.differences.push(line)
+        self.differences.push(line)?;
+        Ok(())
     }
 }
 
