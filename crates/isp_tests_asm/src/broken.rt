@@ -1,0 +1,139 @@
+//! One text with a line of each kind, broken everywhere, and read and written where memory is refused.
+use isp_asm::{AsmFault, Fault, Rule, read, write};
+use isp_testing::Hoard;
+use std::alloc::{AllocError, Global};
+use std::process::Abort;
+use std::test::Fail;
+
+const TEXT: &str = "isp 1 gang 4
+place 0 4
+place 10 1048576
+text 0a7eff
+func f export void
+par a i32 a
+par s i32 n
+loc u u8 2
+s i64
+v i32 i64
+m 2
+const s1 -7
+index v0 m0
+conv v1 v0 m0
+scatter a0 v1 v0 m0 p0
+call f1 s0 m1 p1 a0 s1
+joff m1 L0
+ret -
+end
+func g inner s i32
+m 1
+say t0
+jmp L0
+end
+";
+
+// Why a text that begins as this one and stops behind `front` is refused: 60 at the line that is not there, if it may not stop there.
+fn cut_fault(alloc: Global, front: &str) -> Result<Option<Fault>, AllocError> {
+    let lines: Vec<&str> = front.split('\n').collect(alloc)?;
+    if let [.., whole, last] = lines.as_slice() {
+        let word = whole.split_once(' ').unwrap_or((whole, "")).0;
+        if last.is_empty() && matches!(word, "isp" | "place" | "text" | "end") {
+            return Ok(None);
+        }
+    }
+    Ok(Some(Fault {
+        rule: Rule::BadLine,
+        line: lines.len(),
+    }))
+}
+
+// Reads the first bytes of a text, each number of them.
+fn cut(rt: &impl Abort, alloc: Global, text: &str) -> Result<(), Fail> {
+    for length in 0..text.len() + 1 {
+        let front = text.get(..length).unwrap_or("");
+        match (read(alloc, front), cut_fault(alloc, front)?) {
+            (Ok(_), wanted) => assert!(rt; wanted.is_none(), "{length}"),
+            (Err(fault), Some(wanted)) => {
+                assert_eq!(rt; fault, AsmFault::Refused(wanted), "{length}");
+            }
+            (Err(_), None) => return Err(Fail::new("a text is refused")),
+        }
+    }
+    Ok(())
+}
+
+#[test]
+fn cut_behind_each_byte(rt: HostRuntime) -> Result<(), Fail> {
+    cut(&rt, rt.alloc(), TEXT)
+}
+
+// Reads a text with another byte at a place. What is read is written alike.
+fn replace(rt: &impl Abort, alloc: Global, text: &str, place: usize, byte: u8) -> Result<(), Fail> {
+    let mut bytes = Vec::from_slice(alloc, text.as_bytes())?;
+    if let Some(old) = bytes.get_mut(place) {
+        *old = byte;
+    }
+    let other = String::from_utf8(bytes)?;
+    match read(alloc, other.as_str()) {
+        Ok(code) => {
+            let again = write(alloc, &code)?;
+            assert!(rt; again.as_str() == other.as_str(), "{place}: {byte}");
+        }
+        Err(fault) => assert!(rt; fault != AsmFault::Memory),
+    }
+    Ok(())
+}
+
+#[test]
+fn each_byte_replaced(rt: HostRuntime) -> Result<(), Fail> {
+    let alloc = rt.alloc();
+    for place in 0..TEXT.len() {
+        for byte in 0..128u8 {
+            replace(&rt, alloc, TEXT, place, byte)?;
+        }
+    }
+    Ok(())
+}
+
+// Reads a text with memory refused at each point in turn, and at last writes it again.
+fn read_by_steps(rt: &impl Abort, alloc: Global, text: &str) -> Result<(), Fail> {
+    let mut hoard = Hoard::new(alloc)?;
+    for step in 0..6000usize {
+        assert!(rt; hoard.leave(16 * step), "the pool is too small at {step}");
+        match read(alloc, text) {
+            Ok(code) => {
+                drop(hoard);
+                assert!(rt; step > 0);
+                let again = write(alloc, &code)?;
+                assert!(rt; again.as_str() == text);
+                return Ok(());
+            }
+            Err(fault) => assert_eq!(rt; fault, AsmFault::Memory),
+        }
+    }
+    Err(Fail::new("memory was refused each time"))
+}
+
+#[test]
+fn read_with_memory_refused(rt: HostRuntime) -> Result<(), Fail> {
+    read_by_steps(&rt, rt.alloc(), TEXT)
+}
+
+// Writes a text that was read, with memory refused at each point in turn.
+fn write_by_steps(rt: &impl Abort, alloc: Global, text: &str) -> Result<(), Fail> {
+    let code = read(alloc, text).map_err(|_| Fail::new("the text is refused"))?;
+    let mut hoard = Hoard::new(alloc)?;
+    for step in 0..6000usize {
+        assert!(rt; hoard.leave(16 * step), "the pool is too small at {step}");
+        if let Ok(again) = write(alloc, &code) {
+            assert!(rt; step > 0);
+            assert!(rt; again.as_str() == text);
+            return Ok(());
+        }
+    }
+    Err(Fail::new("memory was refused each time"))
+}
+
+#[test]
+fn written_with_memory_refused(rt: HostRuntime) -> Result<(), Fail> {
+    write_by_steps(&rt, rt.alloc(), TEXT)
+}
