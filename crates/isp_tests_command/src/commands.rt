@@ -1,4 +1,6 @@
 //! The whole program: its status, its output and its line, for each kind of request.
+ghost use Rattle.std.specs.Prelude.{◌≡◌, false};
+
 use crate::fakes::{Count, Page, Shelf};
 use isp_asm::{read, write};
 use isp_engine::command;
@@ -83,7 +85,9 @@ fn words(alloc: Global, line: &str) -> Result<Vec<String>, AllocError> {
 }
 
 // A sink that has so much room, and takes five bytes a write.
-fn page(alloc: Global, room: usize) -> Page {
+fn page(alloc: Global, room: usize) -> Page
+    ensures { result.has_failed ≡ false }
+{
     Page {
         bytes: Vec::new(alloc),
         room,
