@@ -9,8 +9,8 @@ ghost use Rattle.isp_base.specs.Unary.{unary_bits};
 ghost use Rattle.isp_base.specs.Rows.{Row};
 ghost use Rattle.isp_lanes.specs.Lanes.{is_on, first_zero, written, vector};
 
-use crate::kernels::is_signed;
 use crate::kernels::operators::{self, Operator, UnaryOperator};
+use crate::lane_elem::LaneElem;
 use crate::lanes::Lanes;
 use crate::mask::LaneMask;
 use crate::masked;
@@ -68,15 +68,7 @@ impl<const N: usize> Lanes<N> {
         match op {
             UnaryOp::Negate => mapped::<N, operators::Negate>(vectors, out, x, mask),
             UnaryOp::Invert => mapped::<N, operators::Invert>(vectors, out, x, mask),
-            UnaryOp::Absolute => {
-                vectors[x].told();
-                let elem = vectors[x].elem();
-                if is_signed(elem) {
-                    mapped::<N, operators::Absolute>(vectors, out, x, mask);
-                } else {
-                    Self::copy_at(vectors, out, x, mask);
-                }
-            }
+            UnaryOp::Absolute => mapped::<N, operators::Absolute>(vectors, out, x, mask),
             UnaryOp::Not => mapped::<N, operators::Not>(vectors, out, x, mask),
         }
     }
@@ -178,23 +170,29 @@ fn zipped<const N: usize, K: Operator<N>>(
     requires y_elem { (vector vectors.old y).elem ≡ (vector vectors.old out).elem }
     ensures { vectors.new ≡ slice_set vectors.old out (written mask.now (zip2 (op_bits K.op (vector vectors.old out).elem) (vector vectors.old x).bits (vector vectors.old y).bits) (vector vectors.old out)) }
 {
-    match vectors[out].row() {
-        Row::Bits8(_) => zip::<N, K, Simd<u8, N>>(vectors, out, x, y, mask),
-        Row::Bits16(_) => zip::<N, K, Simd<u16, N>>(vectors, out, x, y, mask),
-        Row::Bits32(_) => zip::<N, K, Simd<u32, N>>(vectors, out, x, y, mask),
-        Row::Bits64(_) => zip::<N, K, Simd<u64, N>>(vectors, out, x, y, mask),
+    match vectors[out].elem() {
+        Elem::Bool => zip::<N, K, bool, Simd<u8, N>>(vectors, out, x, y, mask),
+        Elem::I8 => zip::<N, K, i8, Simd<u8, N>>(vectors, out, x, y, mask),
+        Elem::U8 => zip::<N, K, u8, Simd<u8, N>>(vectors, out, x, y, mask),
+        Elem::I16 => zip::<N, K, i16, Simd<u16, N>>(vectors, out, x, y, mask),
+        Elem::U16 => zip::<N, K, u16, Simd<u16, N>>(vectors, out, x, y, mask),
+        Elem::I32 => zip::<N, K, i32, Simd<u32, N>>(vectors, out, x, y, mask),
+        Elem::U32 => zip::<N, K, u32, Simd<u32, N>>(vectors, out, x, y, mask),
+        Elem::I64 => zip::<N, K, i64, Simd<u64, N>>(vectors, out, x, y, mask),
+        Elem::U64 => zip::<N, K, u64, Simd<u64, N>>(vectors, out, x, y, mask),
     }
 }
 
 // The same where the width of the words is known.
 #[inline(always)]
-fn zip<const N: usize, K: Operator<N>, V: Words<N>>(
+fn zip<const N: usize, K: Operator<N>, T: LaneElem, V: Words<N>>(
     vectors: &mut [Lanes<N>],
     out: usize,
     x: usize,
     y: usize,
     mask: &LaneMask<N>,
 )
+    requires is { (vector vectors.old out).elem ≡ T.elem }
     requires wide { V.width ≡ cell_width (vector vectors.old out).elem }
     requires out { out < length vectors.old }
     requires x { x < length vectors.old }
@@ -204,10 +202,9 @@ fn zip<const N: usize, K: Operator<N>, V: Words<N>>(
     ensures { vectors.new ≡ slice_set vectors.old out (written mask.now (zip2 (op_bits K.op (vector vectors.old out).elem) (vector vectors.old x).bits (vector vectors.old y).bits) (vector vectors.old out)) }
 {
     mask.told();
-    let elem = vectors[out].elem();
     let x: V = vectors[x].words_as();
     let y: V = vectors[y].words_as();
-    let new = K::on(elem, x, y);
+    let new = K::on::<T, V>(x, y);
     vectors[out].blend(new, mask);
 }
 
@@ -232,17 +229,22 @@ fn divided<const N: usize>(
     ensures lowest { IfErr result (λ lane. first_zero op mask.now (vector vectors.old y).bits ≡ Some lane) }
     ensures same { IfErr result (λ _. vectors.new ≡ vectors.old) }
 {
-    match vectors[out].row() {
-        Row::Bits8(_) => divide::<N, Simd<u8, N>>(vectors, out, op, x, y, mask),
-        Row::Bits16(_) => divide::<N, Simd<u16, N>>(vectors, out, op, x, y, mask),
-        Row::Bits32(_) => divide::<N, Simd<u32, N>>(vectors, out, op, x, y, mask),
-        Row::Bits64(_) => divide::<N, Simd<u64, N>>(vectors, out, op, x, y, mask),
+    match vectors[out].elem() {
+        Elem::Bool => divide::<N, bool, Simd<u8, N>>(vectors, out, op, x, y, mask),
+        Elem::I8 => divide::<N, i8, Simd<u8, N>>(vectors, out, op, x, y, mask),
+        Elem::U8 => divide::<N, u8, Simd<u8, N>>(vectors, out, op, x, y, mask),
+        Elem::I16 => divide::<N, i16, Simd<u16, N>>(vectors, out, op, x, y, mask),
+        Elem::U16 => divide::<N, u16, Simd<u16, N>>(vectors, out, op, x, y, mask),
+        Elem::I32 => divide::<N, i32, Simd<u32, N>>(vectors, out, op, x, y, mask),
+        Elem::U32 => divide::<N, u32, Simd<u32, N>>(vectors, out, op, x, y, mask),
+        Elem::I64 => divide::<N, i64, Simd<u64, N>>(vectors, out, op, x, y, mask),
+        Elem::U64 => divide::<N, u64, Simd<u64, N>>(vectors, out, op, x, y, mask),
     }
 }
 
 // The same where the width of the words is known.
 #[inline(always)]
-fn divide<const N: usize, V: Words<N>>(
+fn divide<const N: usize, T: LaneElem, V: Words<N>>(
     vectors: &mut [Lanes<N>],
     out: usize,
     op: BinOp,
@@ -251,6 +253,7 @@ fn divide<const N: usize, V: Words<N>>(
     mask: &LaneMask<N>,
 ) -> Result<(), usize>
     requires division { divides op ≡ true }
+    requires is { (vector vectors.old out).elem ≡ T.elem }
     requires wide { V.width ≡ cell_width (vector vectors.old out).elem }
     requires out { out < length vectors.old }
     requires x { x < length vectors.old }
@@ -263,14 +266,13 @@ fn divide<const N: usize, V: Words<N>>(
     ensures same { IfErr result (λ _. vectors.new ≡ vectors.old) }
 {
     mask.told();
-    let elem = vectors[out].elem();
     let x: V = vectors[x].words_as();
     let y: V = vectors[y].words_as();
     if let Some(lane) = masked::fault(op, y, mask) {
         return Err(lane);
     }
     let old: V = vectors[out].words_as();
-    vectors[out].take(masked::divide(op, elem, x, y, mask, old));
+    vectors[out].take(masked::divide::<N, T, V>(op, x, y, mask, old));
     Ok(())
 }
 
@@ -287,22 +289,28 @@ fn mapped<const N: usize, K: UnaryOperator<N>>(
     requires elem { (vector vectors.old x).elem ≡ (vector vectors.old out).elem }
     ensures { vectors.new ≡ slice_set vectors.old out (written mask.now (map (unary_bits K.op (vector vectors.old out).elem) (vector vectors.old x).bits) (vector vectors.old out)) }
 {
-    match vectors[out].row() {
-        Row::Bits8(_) => apply::<N, K, Simd<u8, N>>(vectors, out, x, mask),
-        Row::Bits16(_) => apply::<N, K, Simd<u16, N>>(vectors, out, x, mask),
-        Row::Bits32(_) => apply::<N, K, Simd<u32, N>>(vectors, out, x, mask),
-        Row::Bits64(_) => apply::<N, K, Simd<u64, N>>(vectors, out, x, mask),
+    match vectors[out].elem() {
+        Elem::Bool => apply::<N, K, bool, Simd<u8, N>>(vectors, out, x, mask),
+        Elem::I8 => apply::<N, K, i8, Simd<u8, N>>(vectors, out, x, mask),
+        Elem::U8 => apply::<N, K, u8, Simd<u8, N>>(vectors, out, x, mask),
+        Elem::I16 => apply::<N, K, i16, Simd<u16, N>>(vectors, out, x, mask),
+        Elem::U16 => apply::<N, K, u16, Simd<u16, N>>(vectors, out, x, mask),
+        Elem::I32 => apply::<N, K, i32, Simd<u32, N>>(vectors, out, x, mask),
+        Elem::U32 => apply::<N, K, u32, Simd<u32, N>>(vectors, out, x, mask),
+        Elem::I64 => apply::<N, K, i64, Simd<u64, N>>(vectors, out, x, mask),
+        Elem::U64 => apply::<N, K, u64, Simd<u64, N>>(vectors, out, x, mask),
     }
 }
 
 // The same where the width of the words is known.
 #[inline(always)]
-fn apply<const N: usize, K: UnaryOperator<N>, V: Words<N>>(
+fn apply<const N: usize, K: UnaryOperator<N>, T: LaneElem, V: Words<N>>(
     vectors: &mut [Lanes<N>],
     out: usize,
     x: usize,
     mask: &LaneMask<N>,
 )
+    requires is { (vector vectors.old out).elem ≡ T.elem }
     requires wide { V.width ≡ cell_width (vector vectors.old out).elem }
     requires out { out < length vectors.old }
     requires x { x < length vectors.old }
@@ -310,9 +318,8 @@ fn apply<const N: usize, K: UnaryOperator<N>, V: Words<N>>(
     ensures { vectors.new ≡ slice_set vectors.old out (written mask.now (map (unary_bits K.op (vector vectors.old out).elem) (vector vectors.old x).bits) (vector vectors.old out)) }
 {
     mask.told();
-    let elem = vectors[out].elem();
     let x: V = vectors[x].words_as();
-    let new = K::on(elem, x);
+    let new = K::on::<T, V>(x);
     vectors[out].blend(new, mask);
 }
 
@@ -341,22 +348,28 @@ fn converted<const N: usize, W: Words<N>>(
     requires x { x < length vectors.old }
     ensures { vectors.new ≡ slice_set vectors.old out (written mask.now (map (λ b. wrap (vector vectors.old out).elem (number (vector vectors.old x).elem b)) (vector vectors.old x).bits) (vector vectors.old out)) }
 {
-    match vectors[x].row() {
-        Row::Bits8(_) => convert::<N, Simd<u8, N>, W>(vectors, out, x, mask),
-        Row::Bits16(_) => convert::<N, Simd<u16, N>, W>(vectors, out, x, mask),
-        Row::Bits32(_) => convert::<N, Simd<u32, N>, W>(vectors, out, x, mask),
-        Row::Bits64(_) => convert::<N, Simd<u64, N>, W>(vectors, out, x, mask),
+    match vectors[x].elem() {
+        Elem::Bool => convert::<N, bool, Simd<u8, N>, W>(vectors, out, x, mask),
+        Elem::I8 => convert::<N, i8, Simd<u8, N>, W>(vectors, out, x, mask),
+        Elem::U8 => convert::<N, u8, Simd<u8, N>, W>(vectors, out, x, mask),
+        Elem::I16 => convert::<N, i16, Simd<u16, N>, W>(vectors, out, x, mask),
+        Elem::U16 => convert::<N, u16, Simd<u16, N>, W>(vectors, out, x, mask),
+        Elem::I32 => convert::<N, i32, Simd<u32, N>, W>(vectors, out, x, mask),
+        Elem::U32 => convert::<N, u32, Simd<u32, N>, W>(vectors, out, x, mask),
+        Elem::I64 => convert::<N, i64, Simd<u64, N>, W>(vectors, out, x, mask),
+        Elem::U64 => convert::<N, u64, Simd<u64, N>, W>(vectors, out, x, mask),
     }
 }
 
 // The same where the width of what is converted is known too.
 #[inline(always)]
-fn convert<const N: usize, V: Words<N>, W: Words<N>>(
+fn convert<const N: usize, T: LaneElem, V: Words<N>, W: Words<N>>(
     vectors: &mut [Lanes<N>],
     out: usize,
     x: usize,
     mask: &LaneMask<N>,
 )
+    requires is { (vector vectors.old x).elem ≡ T.elem }
     requires wide { W.width ≡ width (vector vectors.old out).elem }
     requires words { W.width ≡ cell_width (vector vectors.old out).elem }
     requires from { V.width ≡ cell_width (vector vectors.old x).elem }
@@ -366,9 +379,8 @@ fn convert<const N: usize, V: Words<N>, W: Words<N>>(
 {
     mask.told();
     let to = vectors[out].elem();
-    let from = vectors[x].elem();
     let x: V = vectors[x].words_as();
-    let new: W = masked::convert(from, to, x);
+    let new: W = masked::convert::<N, T, V, W>(to, x);
     vectors[out].blend(new, mask);
 }
 

@@ -12,9 +12,9 @@ mod order;
 mod shifts;
 mod signs;
 
+use crate::lane_elem::LaneElem;
 use crate::words::Words;
 use isp_base::{BinOp, Compare, Elem};
-pub(crate) use signs::is_signed;
 use std::simd::prelude::*;
 
 // The numbers of the lanes that a vector can have.
@@ -25,32 +25,31 @@ const NUMBERS: [u64; 64] = [
 ];
 
 // The division on all lanes.
-pub(crate) fn divide<const N: usize, V: Words<N>>(op: BinOp, elem: Elem, x: V, y: V) -> V
-    requires x_row { IsRow N V.width elem (V.words x) }
-    requires y_row { IsRow N V.width elem (V.words y) }
+pub(crate) fn divide<const N: usize, T: LaneElem, V: Words<N>>(op: BinOp, x: V, y: V) -> V
+    requires x_row { IsRow N V.width T.elem (V.words x) }
+    requires y_row { IsRow N V.width T.elem (V.words y) }
     requires division { divides op ≡ true }
     requires divisors { (k : ℕ) → k < length (V.words y) → 0 < slice_index (V.words y) k }
-    ensures { V.words result ≡ zip2 (op_bits op elem) (V.words x) (V.words y) }
+    ensures { V.words result ≡ zip2 (op_bits op T.elem) (V.words x) (V.words y) }
 {
     match op {
-        BinOp::Div => signs::div(elem, x, y),
-        BinOp::Rem => signs::rem(elem, x, y),
+        BinOp::Div => signs::div::<N, T, V>(x, y),
+        BinOp::Rem => signs::rem::<N, T, V>(x, y),
         _ => unreachable!(),
     }
 }
 
 // 1 in the lanes where the comparison holds, and 0 in the others.
-pub(crate) fn compare<const N: usize, V: Words<N>>(
+pub(crate) fn compare<const N: usize, T: LaneElem, V: Words<N>>(
     compare: Compare,
-    elem: Elem,
     x: V,
     y: V,
 ) -> [u8; N]
-    requires x_row { IsRow N V.width elem (V.words x) }
-    requires y_row { IsRow N V.width elem (V.words y) }
-    ensures { result ≡ zip2 (compare_bits compare elem) (V.words x) (V.words y) }
+    requires x_row { IsRow N V.width T.elem (V.words x) }
+    requires y_row { IsRow N V.width T.elem (V.words y) }
+    ensures { result ≡ zip2 (compare_bits compare T.elem) (V.words x) (V.words y) }
 {
-    order::holds(compare, elem, x, y).flags()
+    order::holds::<N, T, V>(compare, x, y).flags()
 }
 
 // The number of each lane.

@@ -13,6 +13,7 @@ ghost use Rattle.isp_lanes.specs.Held.{held, held_width, IsRow};
 ghost use Rattle.isp_base.specs.Cells.{cell_width};
 
 use crate::kernels;
+use crate::lane_elem::LaneElem;
 use crate::mask::LaneMask;
 use crate::row::Row;
 use crate::source::Source;
@@ -336,24 +337,30 @@ impl<const N: usize> Lanes<N> {
         requires { y.now.elem ≡ self.now.elem }
         ensures { result ≡ zip2 (compare_bits compare self.now.elem) self.now.bits y.now.bits }
     {
-        match self.row() {
-            Row::Bits8(_) => self.compared_as::<Simd<u8, N>>(compare, y),
-            Row::Bits16(_) => self.compared_as::<Simd<u16, N>>(compare, y),
-            Row::Bits32(_) => self.compared_as::<Simd<u32, N>>(compare, y),
-            Row::Bits64(_) => self.compared_as::<Simd<u64, N>>(compare, y),
+        match self.elem {
+            Elem::Bool => self.compared_as::<bool, Simd<u8, N>>(compare, y),
+            Elem::I8 => self.compared_as::<i8, Simd<u8, N>>(compare, y),
+            Elem::U8 => self.compared_as::<u8, Simd<u8, N>>(compare, y),
+            Elem::I16 => self.compared_as::<i16, Simd<u16, N>>(compare, y),
+            Elem::U16 => self.compared_as::<u16, Simd<u16, N>>(compare, y),
+            Elem::I32 => self.compared_as::<i32, Simd<u32, N>>(compare, y),
+            Elem::U32 => self.compared_as::<u32, Simd<u32, N>>(compare, y),
+            Elem::I64 => self.compared_as::<i64, Simd<u64, N>>(compare, y),
+            Elem::U64 => self.compared_as::<u64, Simd<u64, N>>(compare, y),
         }
     }
 
     // The same where the width of the words is known.
     #[inline(always)]
-    fn compared_as<V: Words<N>>(&self, compare: Compare, y: &Self) -> [u8; N]
+    fn compared_as<T: LaneElem, V: Words<N>>(&self, compare: Compare, y: &Self) -> [u8; N]
+        requires is { self.now.elem ≡ T.elem }
         requires wide { V.width ≡ cell_width self.now.elem }
         requires elem { y.now.elem ≡ self.now.elem }
         ensures { result ≡ zip2 (compare_bits compare self.now.elem) self.now.bits y.now.bits }
     {
         let x: V = self.words_as();
         let y: V = y.words_as();
-        kernels::compare(compare, self.elem, x, y)
+        kernels::compare::<N, T, V>(compare, x, y)
     }
 
     // The lanes of the mask in which a vector of bools is true.

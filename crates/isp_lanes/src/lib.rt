@@ -4,6 +4,7 @@
 mod beside;
 mod gather;
 mod kernels;
+mod lane_elem;
 mod lanes;
 mod mask;
 mod masked;
@@ -12,6 +13,7 @@ mod source;
 mod word;
 mod words;
 
+pub use lane_elem::LaneElem;
 pub use lanes::Lanes;
 pub use mask::{LaneBits, LaneMask};
 pub use row::Row;

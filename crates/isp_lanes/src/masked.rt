@@ -5,29 +5,29 @@ ghost use Rattle.isp_base.specs.Values.{divides, number, op_bits, width, wrap};
 ghost use Rattle.isp_lanes.specs.Lanes.{first_zero};
 ghost use Rattle.isp_lanes.specs.Held.{IsRow};
 
-use crate::kernels::{self, is_signed};
+use crate::kernels;
+use crate::lane_elem::LaneElem;
 use crate::mask::LaneMask;
 use crate::words::Words;
 use isp_base::{BinOp, Elem};
 
 // A division, where no lane of the mask divides by zero.
-pub(crate) fn divide<const N: usize, V: Words<N>>(
+pub(crate) fn divide<const N: usize, T: LaneElem, V: Words<N>>(
     op: BinOp,
-    elem: Elem,
     x: V,
     y: V,
     mask: &LaneMask<N>,
     old: V,
 ) -> V
-    requires x_row { IsRow N V.width elem (V.words x) }
-    requires y_row { IsRow N V.width elem (V.words y) }
+    requires x_row { IsRow N V.width T.elem (V.words x) }
+    requires y_row { IsRow N V.width T.elem (V.words y) }
     requires division { divides op ≡ true }
     requires divided { first_zero op mask.now (V.words y) ≡ None }
-    ensures { V.words result ≡ sel_l mask.now (zip2 (op_bits op elem) (V.words x) (V.words y)) (V.words old) }
+    ensures { V.words result ≡ sel_l mask.now (zip2 (op_bits op T.elem) (V.words x) (V.words y)) (V.words old) }
 {
     mask.told();
     let divisors = safe_divisors(op, y, mask);
-    mask.merge(kernels::divide(op, elem, x, divisors), old)
+    mask.merge(kernels::divide::<N, T, V>(op, x, divisors), old)
 }
 
 // The lowest lane of the mask that would divide by zero.
@@ -60,13 +60,13 @@ fn safe_divisors<const N: usize, V: Words<N>>(op: BinOp, divisors: V, mask: &Lan
 
 // The numbers of one element type as values of another that is not bool. Through 64 bits, of which the compiler leaves no more than
 // the wider of the two takes.
-pub(crate) fn convert<const N: usize, V: Words<N>, W: Words<N>>(from: Elem, to: Elem, x: V) -> W
+pub(crate) fn convert<const N: usize, T: LaneElem, V: Words<N>, W: Words<N>>(to: Elem, x: V) -> W
     requires few { N ≤ 64 }
-    requires x_row { IsRow N V.width from (V.words x) }
+    requires x_row { IsRow N V.width T.elem (V.words x) }
     requires wide { W.width ≡ width to }
-    ensures { W.words result ≡ map (λ a. wrap to (number from a)) (V.words x) }
+    ensures { W.words result ≡ map (λ a. wrap to (number T.elem a)) (V.words x) }
 {
-    if is_signed(from) {
+    if T::is_signed() {
         W::all(0).cut(&x.spread())
     } else {
         W::all(0).cut(&x.wide())

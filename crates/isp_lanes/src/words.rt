@@ -2,11 +2,9 @@
 ghost use Rattle.std.specs.Prelude.{◌≡◌, refl, ℕ, ◌^◌, ◌<◌, ◌≤◌, ◌+◌, ◌-◌, ◌*◌, ◌/◌, ◌%◌, ◌==◌, List, map, replicate, nat_lt, cond, bit_and, bit_or, bit_xor};
 ghost use Rattle.std.specs.Simd.Lanes.{zip2, sel_l, Each2};
 ghost use Rattle.isp_lanes.specs.Lanes.{is_on};
-ghost use Rattle.isp_base.specs.Cells.{cell_width};
-ghost use Rattle.isp_lanes.specs.Held.{held, held_width, is_truth};
+ghost use Rattle.isp_lanes.specs.Held.{held, held_width};
 
 use crate::row::Row;
-use isp_base::Elem;
 use std::simd::prelude::*;
 
 // The operations on N words of 8, 16, 32 or 64 bits that the kernels are made of. A truth is a word with all bits set,
@@ -17,11 +15,6 @@ pub(crate) trait Words<const N: usize>: Copy {
     ghost words: { Self → List ℕ };
 
     ghost holds_one: { 1 % 2 ^ width ≡ 1 };
-
-    // Whether the type, which takes these words, is bool. Of words of more than 8 bits it is not asked.
-    fn is_bool(elem: Elem) -> bool
-        requires { width ≡ cell_width elem }
-        ensures { result ≡ is_truth elem };
 
     // The low bits of one word, in each lane.
     fn all(word: u64) -> Self
@@ -132,13 +125,6 @@ impl<const N: usize> Words<N> for Simd<u8, N> {
     ghost words = { λ v. v };
 
     ghost holds_one = { refl };
-
-    fn is_bool(elem: Elem) -> bool {
-        match elem {
-            Elem::Bool => true,
-            _ => false,
-        }
-    }
 
     fn all(word: u64) -> Self {
         Simd::splat((word % 0x100) as u8)
@@ -259,10 +245,6 @@ impl<const N: usize> Words<N> for Simd<u16, N> {
     ghost words = { λ v. v };
 
     ghost holds_one = { refl };
-
-    fn is_bool(_elem: Elem) -> bool {
-        false
-    }
 
     fn all(word: u64) -> Self {
         Simd::splat((word % 0x10000) as u16)
@@ -387,10 +369,6 @@ impl<const N: usize> Words<N> for Simd<u32, N> {
     ghost words = { λ v. v };
 
     ghost holds_one = { refl };
-
-    fn is_bool(_elem: Elem) -> bool {
-        false
-    }
 
     fn all(word: u64) -> Self {
         Simd::splat((word % 0x100000000) as u32)
@@ -520,10 +498,6 @@ impl<const N: usize> Words<N> for Simd<u64, N> {
     ghost words = { λ v. v };
 
     ghost holds_one = { refl };
-
-    fn is_bool(_elem: Elem) -> bool {
-        false
-    }
 
     fn all(word: u64) -> Self {
         Simd::splat(word)

@@ -5,21 +5,17 @@ ghost use Rattle.isp_base.specs.Values.{width};
 ghost use Rattle.isp_base.specs.Cells.{cell_width};
 
 use super::operators::Operator;
+use crate::lane_elem::LaneElem;
 use crate::words::Words;
-use isp_base::Elem;
 
 // The low bits, as many as the type has. Of words that it fills nothing is cut.
-pub(super) fn low<const N: usize, V: Words<N>>(elem: Elem, x: V) -> V
-    requires wide { V.width ≡ cell_width elem }
+pub(super) fn low<const N: usize, T: LaneElem, V: Words<N>>(x: V) -> V
+    requires wide { V.width ≡ cell_width T.elem }
     requires long { length (V.words x) ≡ N }
     requires room { (k : ℕ) → slice_index (V.words x) k < 2 ^ V.width }
-    ensures { V.words result ≡ map (λ a. bit_and a (2 ^ width elem - 1)) (V.words x) }
+    ensures { V.words result ≡ map (λ a. bit_and a (2 ^ width T.elem - 1)) (V.words x) }
 {
-    if V::is_bool(elem) {
-        x.and(V::all(1))
-    } else {
-        x
-    }
+    if T::is_bool() { x.and(V::all(1)) } else { x }
 }
 
 pub(crate) struct Add;
@@ -27,8 +23,8 @@ pub(crate) struct Add;
 impl<const N: usize> Operator<N> for Add {
     ghost op = { BinOp.Add };
 
-    fn on<V: Words<N>>(elem: Elem, x: V, y: V) -> V {
-        low(elem, x.plus(y))
+    fn on<T: LaneElem, V: Words<N>>(x: V, y: V) -> V {
+        low::<N, T, V>(x.plus(y))
     }
 }
 
@@ -37,8 +33,8 @@ pub(crate) struct Sub;
 impl<const N: usize> Operator<N> for Sub {
     ghost op = { BinOp.Sub };
 
-    fn on<V: Words<N>>(elem: Elem, x: V, y: V) -> V {
-        low(elem, x.minus(y))
+    fn on<T: LaneElem, V: Words<N>>(x: V, y: V) -> V {
+        low::<N, T, V>(x.minus(y))
     }
 }
 
@@ -47,7 +43,7 @@ pub(crate) struct Mul;
 impl<const N: usize> Operator<N> for Mul {
     ghost op = { BinOp.Mul };
 
-    fn on<V: Words<N>>(elem: Elem, x: V, y: V) -> V {
-        low(elem, x.times(y))
+    fn on<T: LaneElem, V: Words<N>>(x: V, y: V) -> V {
+        low::<N, T, V>(x.times(y))
     }
 }

@@ -11,18 +11,18 @@ pub(crate) use super::arithmetic::{Add, Mul, Sub};
 pub(crate) use super::order::{Max, Min};
 pub(crate) use super::shifts::{Shl, Shr};
 use super::{arithmetic, signs};
+use crate::lane_elem::LaneElem;
 use crate::words::Words;
-use isp_base::Elem;
 
 // An operator on two values.
 pub(crate) trait Operator<const N: usize> {
     ghost op: { BinOp };
 
     // The operator on all lanes.
-    fn on<V: Words<N>>(elem: Elem, x: V, y: V) -> V
-        requires x_row { IsRow N V.width elem (V.words x) }
-        requires y_row { IsRow N V.width elem (V.words y) }
-        ensures { V.words result ≡ zip2 (op_bits op elem) (V.words x) (V.words y) };
+    fn on<T: LaneElem, V: Words<N>>(x: V, y: V) -> V
+        requires x_row { IsRow N V.width T.elem (V.words x) }
+        requires y_row { IsRow N V.width T.elem (V.words y) }
+        ensures { V.words result ≡ zip2 (op_bits op T.elem) (V.words x) (V.words y) };
 }
 
 pub(crate) struct And;
@@ -30,7 +30,7 @@ pub(crate) struct And;
 impl<const N: usize> Operator<N> for And {
     ghost op = { BinOp.And };
 
-    fn on<V: Words<N>>(_elem: Elem, x: V, y: V) -> V {
+    fn on<T: LaneElem, V: Words<N>>(x: V, y: V) -> V {
         x.and(y)
     }
 }
@@ -40,7 +40,7 @@ pub(crate) struct Or;
 impl<const N: usize> Operator<N> for Or {
     ghost op = { BinOp.Or };
 
-    fn on<V: Words<N>>(_elem: Elem, x: V, y: V) -> V {
+    fn on<T: LaneElem, V: Words<N>>(x: V, y: V) -> V {
         x.or(y)
     }
 }
@@ -50,7 +50,7 @@ pub(crate) struct Xor;
 impl<const N: usize> Operator<N> for Xor {
     ghost op = { BinOp.Xor };
 
-    fn on<V: Words<N>>(_elem: Elem, x: V, y: V) -> V {
+    fn on<T: LaneElem, V: Words<N>>(x: V, y: V) -> V {
         x.xor(y)
     }
 }
@@ -60,9 +60,9 @@ pub(crate) trait UnaryOperator<const N: usize> {
     ghost op: { UnaryOp };
 
     // The operator on all lanes.
-    fn on<V: Words<N>>(elem: Elem, x: V) -> V
-        requires { IsRow N V.width elem (V.words x) }
-        ensures { V.words result ≡ map (unary_bits op elem) (V.words x) };
+    fn on<T: LaneElem, V: Words<N>>(x: V) -> V
+        requires { IsRow N V.width T.elem (V.words x) }
+        ensures { V.words result ≡ map (unary_bits op T.elem) (V.words x) };
 }
 
 pub(crate) struct Negate;
@@ -70,8 +70,8 @@ pub(crate) struct Negate;
 impl<const N: usize> UnaryOperator<N> for Negate {
     ghost op = { UnaryOp.Negate };
 
-    fn on<V: Words<N>>(elem: Elem, x: V) -> V {
-        signs::negate(elem, x)
+    fn on<T: LaneElem, V: Words<N>>(x: V) -> V {
+        signs::negate::<N, T, V>(x)
     }
 }
 
@@ -80,8 +80,8 @@ pub(crate) struct Invert;
 impl<const N: usize> UnaryOperator<N> for Invert {
     ghost op = { UnaryOp.Invert };
 
-    fn on<V: Words<N>>(elem: Elem, x: V) -> V {
-        arithmetic::low(elem, x.inverse())
+    fn on<T: LaneElem, V: Words<N>>(x: V) -> V {
+        arithmetic::low::<N, T, V>(x.inverse())
     }
 }
 
@@ -90,8 +90,8 @@ pub(crate) struct Absolute;
 impl<const N: usize> UnaryOperator<N> for Absolute {
     ghost op = { UnaryOp.Absolute };
 
-    fn on<V: Words<N>>(elem: Elem, x: V) -> V {
-        signs::magnitudes(elem, x)
+    fn on<T: LaneElem, V: Words<N>>(x: V) -> V {
+        signs::magnitudes::<N, T, V>(x)
     }
 }
 
@@ -100,7 +100,7 @@ pub(crate) struct Not;
 impl<const N: usize> UnaryOperator<N> for Not {
     ghost op = { UnaryOp.Not };
 
-    fn on<V: Words<N>>(_elem: Elem, x: V) -> V {
+    fn on<T: LaneElem, V: Words<N>>(x: V) -> V {
         x.equal(V::all(0)).and(V::all(1))
     }
 }

@@ -8,40 +8,40 @@ ghost use Rattle.isp_base.specs.Words.{turned};
 ghost use Rattle.isp_lanes.specs.Held.{IsRow};
 
 use super::operators::Operator;
-use super::signs::is_signed;
+use crate::lane_elem::LaneElem;
 use crate::words::Words;
-use isp_base::{Compare, Elem};
+use isp_base::Compare;
 
 // Whether x is less than y, both of a signed type, whose words are in order once each is moved by half of their range.
-fn less_signed<const N: usize, V: Words<N>>(elem: Elem, x: V, y: V) -> V
-    requires x_row { IsRow N V.width elem (V.words x) }
-    requires y_row { IsRow N V.width elem (V.words y) }
-    requires signed { nat_lt (greatest elem) (2 ^ width elem - 1) ≡ true }
-    ensures { V.words result ≡ zip2 (λ a b. cond (nat_lt (turned (width elem) (greatest elem) a) (turned (width elem) (greatest elem) b)) (2 ^ V.width - 1) 0) (V.words x) (V.words y) }
+fn less_signed<const N: usize, T: LaneElem, V: Words<N>>(x: V, y: V) -> V
+    requires x_row { IsRow N V.width T.elem (V.words x) }
+    requires y_row { IsRow N V.width T.elem (V.words y) }
+    requires signed { nat_lt (greatest T.elem) (2 ^ width T.elem - 1) ≡ true }
+    ensures { V.words result ≡ zip2 (λ a b. cond (nat_lt (turned (width T.elem) (greatest T.elem) a) (turned (width T.elem) (greatest T.elem) b)) (2 ^ V.width - 1) 0) (V.words x) (V.words y) }
 {
     x.turned().less(y.turned())
 }
 
 // Whether x is less than y, both of a type whose words are in order as they are.
-fn less_unsigned<const N: usize, V: Words<N>>(elem: Elem, x: V, y: V) -> V
-    requires x_row { IsRow N V.width elem (V.words x) }
-    requires y_row { IsRow N V.width elem (V.words y) }
-    requires unsigned { nat_lt (greatest elem) (2 ^ width elem - 1) ≡ false }
-    ensures { V.words result ≡ zip2 (λ a b. cond (nat_lt (turned (width elem) (greatest elem) a) (turned (width elem) (greatest elem) b)) (2 ^ V.width - 1) 0) (V.words x) (V.words y) }
+fn less_unsigned<const N: usize, T: LaneElem, V: Words<N>>(x: V, y: V) -> V
+    requires x_row { IsRow N V.width T.elem (V.words x) }
+    requires y_row { IsRow N V.width T.elem (V.words y) }
+    requires unsigned { nat_lt (greatest T.elem) (2 ^ width T.elem - 1) ≡ false }
+    ensures { V.words result ≡ zip2 (λ a b. cond (nat_lt (turned (width T.elem) (greatest T.elem) a) (turned (width T.elem) (greatest T.elem) b)) (2 ^ V.width - 1) 0) (V.words x) (V.words y) }
 {
     x.less(y)
 }
 
 // Whether x is less than y.
-fn less<const N: usize, V: Words<N>>(elem: Elem, x: V, y: V) -> V
-    requires x_row { IsRow N V.width elem (V.words x) }
-    requires y_row { IsRow N V.width elem (V.words y) }
-    ensures { V.words result ≡ zip2 (λ a b. cond (nat_lt (turned (width elem) (greatest elem) a) (turned (width elem) (greatest elem) b)) (2 ^ V.width - 1) 0) (V.words x) (V.words y) }
+fn less<const N: usize, T: LaneElem, V: Words<N>>(x: V, y: V) -> V
+    requires x_row { IsRow N V.width T.elem (V.words x) }
+    requires y_row { IsRow N V.width T.elem (V.words y) }
+    ensures { V.words result ≡ zip2 (λ a b. cond (nat_lt (turned (width T.elem) (greatest T.elem) a) (turned (width T.elem) (greatest T.elem) b)) (2 ^ V.width - 1) 0) (V.words x) (V.words y) }
 {
-    if is_signed(elem) {
-        less_signed(elem, x, y)
+    if T::is_signed() {
+        less_signed::<N, T, V>(x, y)
     } else {
-        less_unsigned(elem, x, y)
+        less_unsigned::<N, T, V>(x, y)
     }
 }
 
@@ -50,11 +50,11 @@ pub(crate) struct Min;
 impl<const N: usize> Operator<N> for Min {
     ghost op = { BinOp.Min };
 
-    fn on<V: Words<N>>(elem: Elem, x: V, y: V) -> V {
-        if is_signed(elem) {
-            less_signed(elem, y, x).choose(y, x)
+    fn on<T: LaneElem, V: Words<N>>(x: V, y: V) -> V {
+        if T::is_signed() {
+            less_signed::<N, T, V>(y, x).choose(y, x)
         } else {
-            less_unsigned(elem, y, x).choose(y, x)
+            less_unsigned::<N, T, V>(y, x).choose(y, x)
         }
     }
 }
@@ -64,27 +64,27 @@ pub(crate) struct Max;
 impl<const N: usize> Operator<N> for Max {
     ghost op = { BinOp.Max };
 
-    fn on<V: Words<N>>(elem: Elem, x: V, y: V) -> V {
-        if is_signed(elem) {
-            less_signed(elem, y, x).choose(x, y)
+    fn on<T: LaneElem, V: Words<N>>(x: V, y: V) -> V {
+        if T::is_signed() {
+            less_signed::<N, T, V>(y, x).choose(x, y)
         } else {
-            less_unsigned(elem, y, x).choose(x, y)
+            less_unsigned::<N, T, V>(y, x).choose(x, y)
         }
     }
 }
 
 // Whether the comparison holds.
-pub(super) fn holds<const N: usize, V: Words<N>>(compare: Compare, elem: Elem, x: V, y: V) -> V
-    requires x_row { IsRow N V.width elem (V.words x) }
-    requires y_row { IsRow N V.width elem (V.words y) }
-    ensures { V.words result ≡ zip2 (λ a b. cond (compare_to compare (number elem a) (number elem b)) (2 ^ V.width - 1) 0) (V.words x) (V.words y) }
+pub(super) fn holds<const N: usize, T: LaneElem, V: Words<N>>(compare: Compare, x: V, y: V) -> V
+    requires x_row { IsRow N V.width T.elem (V.words x) }
+    requires y_row { IsRow N V.width T.elem (V.words y) }
+    ensures { V.words result ≡ zip2 (λ a b. cond (compare_to compare (number T.elem a) (number T.elem b)) (2 ^ V.width - 1) 0) (V.words x) (V.words y) }
 {
     match compare {
         Compare::Equal => x.equal(y),
         Compare::NotEqual => x.equal(y).inverse(),
-        Compare::Less => less(elem, x, y),
-        Compare::LessOrEqual => less(elem, y, x).inverse(),
-        Compare::Greater => less(elem, y, x),
-        Compare::GreaterOrEqual => less(elem, x, y).inverse(),
+        Compare::Less => less::<N, T, V>(x, y),
+        Compare::LessOrEqual => less::<N, T, V>(y, x).inverse(),
+        Compare::Greater => less::<N, T, V>(y, x),
+        Compare::GreaterOrEqual => less::<N, T, V>(x, y).inverse(),
     }
 }

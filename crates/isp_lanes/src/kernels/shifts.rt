@@ -6,22 +6,18 @@ ghost use Rattle.isp_base.specs.Cells.{cell_width};
 
 use super::arithmetic::low;
 use super::operators::Operator;
-use super::signs::{is_signed, signs};
+use super::signs::signs;
+use crate::lane_elem::LaneElem;
 use crate::words::Words;
-use isp_base::Elem;
 
 // The amounts modulo the width of the type. Where the type fills its words that is the words' own width, which is known when this
 // is compiled.
-fn amounts<const N: usize, V: Words<N>>(elem: Elem, y: V) -> V
-    requires wide { V.width ≡ cell_width elem }
+fn amounts<const N: usize, T: LaneElem, V: Words<N>>(y: V) -> V
+    requires wide { V.width ≡ cell_width T.elem }
     requires long { length (V.words y) ≡ N }
-    ensures { V.words result ≡ map (λ b. bit_and b (width elem - 1)) (V.words y) }
+    ensures { V.words result ≡ map (λ b. bit_and b (width T.elem - 1)) (V.words y) }
 {
-    if V::is_bool(elem) {
-        V::all(0)
-    } else {
-        y.amounts()
-    }
+    if T::is_bool() { V::all(0) } else { y.amounts() }
 }
 
 pub(crate) struct Shl;
@@ -29,9 +25,9 @@ pub(crate) struct Shl;
 impl<const N: usize> Operator<N> for Shl {
     ghost op = { BinOp.Shl };
 
-    fn on<V: Words<N>>(elem: Elem, x: V, y: V) -> V {
-        let by = amounts(elem, y);
-        low(elem, x.left(by))
+    fn on<T: LaneElem, V: Words<N>>(x: V, y: V) -> V {
+        let by = amounts::<N, T, V>(y);
+        low::<N, T, V>(x.left(by))
     }
 }
 
@@ -41,10 +37,10 @@ pub(crate) struct Shr;
 impl<const N: usize> Operator<N> for Shr {
     ghost op = { BinOp.Shr };
 
-    fn on<V: Words<N>>(elem: Elem, x: V, y: V) -> V {
-        let by = amounts(elem, y);
-        if is_signed(elem) {
-            let negative = signs(elem, x);
+    fn on<T: LaneElem, V: Words<N>>(x: V, y: V) -> V {
+        let by = amounts::<N, T, V>(y);
+        if T::is_signed() {
+            let negative = signs::<N, T, V>(x);
             let shifted = x.xor(negative).right(by);
             shifted.xor(negative)
         } else {

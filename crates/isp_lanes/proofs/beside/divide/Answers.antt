@@ -11,14 +11,14 @@ take-requires g c =
     let n = g.row.N in
     let out = c.args.out in
     let vs = c.args.vectors.now in
-    let e = c.elem-elem.result in
+    let t = g.T.LaneElem.elem in
     let xs = g.V.Words.words c.words_as-x.result in
     let ys = g.V.Words.words c.words_as-y.result in
     let old = g.V.Words.words c.words_as-old.result in
-    let new = zip2 (op_bits c.args.op e) xs ys in (
+    let new = zip2 (op_bits c.args.op t) xs ys in (
       search rules,
       row_under n g.V.Words.width _ _ c.args.mask.now new old _ (elem_at vs out _ _ c.requires.out)
           c.divide.ensures c.told.ensures.long
           (length_zip2 _ xs ys n c.words_as-x.ensures.row.long c.words_as-y.ensures.row.long)
-          (fits_as (elem_at vs out _ _ c.requires.out ∙ sym c.elem-elem.ensures) (λ _. new) (op_fits c.args.op e xs ys)) c.words_as-old.ensures.row,
+          (fits_as (elem_at vs out _ _ c.requires.out ∙ c.requires.is) (λ _. new) (op_fits c.args.op t xs ys)) c.words_as-old.ensures.row,
     )

@@ -8,8 +8,8 @@ use Rattle.isp_lanes.proofs.beside.zip.Goals as goal
 pub blend-requires : goal.blend-requires
 blend-requires g c =
     let n = g.row.N in
-    let e = c.elem-elem.result in
+    let t = g.T.LaneElem.elem in
     let xs = g.V.Words.words c.words_as-x.result in
     let ys = g.V.Words.words c.words_as-y.result in
-    let same = c.elem-elem.ensures ∙ sym (elem_at c.args.vectors.now c.args.out _ _ c.requires.out) in
-    (search rules, (search rules, row_as n g.V.Words.width same c.on-new.ensures (c.requires.wide ∙ ap cell_width (elem_at c.args.vectors.now c.args.out _ _ c.requires.out)) (length_zip2 _ xs ys n c.words_as-x.ensures.row.long c.words_as-y.ensures.row.long) (op_fits g.K.Operator.op e xs ys)))
+    let same = sym c.requires.is ∙ elem_at c.args.vectors.now c.args.out _ _ c.requires.out in
+    (search rules, (search rules, row_as n g.V.Words.width same c.on-new.ensures (c.requires.wide ∙ ap cell_width (elem_at c.args.vectors.now c.args.out _ _ c.requires.out)) (length_zip2 _ xs ys n c.words_as-x.ensures.row.long c.words_as-y.ensures.row.long) (op_fits g.K.Operator.op t xs ys)))

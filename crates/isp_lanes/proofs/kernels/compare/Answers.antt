@@ -8,7 +8,7 @@ use Rattle.isp_lanes.proofs.kernels.compare.Goals as goal
 
 pub returns : goal.returns
 returns g c =
-    let t = c.args.elem in
+    let t = g.T.LaneElem.elem in
     let w = g.V.Words.width in
     let e = c.requires.x_row.wide in
     let xs = g.V.Words.words c.args.x in

@@ -18,7 +18,7 @@ cut-requires-else-is_signed g c = let few : g.row.N * 8 < 9223372036854775808 = 
 
 pub returns-then-is_signed : goal.returns-then-is_signed
 returns-then-is_signed g c =
-    let t = c.args.from in
+    let t = g.T.LaneElem.elem in
     let w = g.V.Words.width in
     let n = g.W.Words.width in
     let xs = g.V.Words.words c.args.x in
@@ -27,7 +27,7 @@ returns-then-is_signed g c =
 
 pub returns-else-is_signed : goal.returns-else-is_signed
 returns-else-is_signed g c =
-    let t = c.args.from in
+    let t = g.T.LaneElem.elem in
     let n = g.W.Words.width in
     let xs = g.V.Words.words c.args.x in
     c.cut-else-is_signed.ensures ∙ ap (map (λ a. a % 2 ^ n)) c.wide.ensures

@@ -8,7 +8,7 @@ use Rattle.isp_lanes.proofs.masked.divide.Goals as goal
 
 pub divide-requires-clause-y_row : goal.divide-requires-clause-y_row
 divide-requires-clause-y_row g c =
-    let t = c.args.elem in
+    let t = g.T.LaneElem.elem in
     let ms = c.args.mask.now in
     let ys = g.V.Words.words c.args.y in
     subst (λ (zs : List ℕ). IsRow g.row.N g.V.Words.width t zs) (sym c.safe_divisors-divisors.ensures)
@@ -29,7 +29,7 @@ returns g c =
     let xs = g.V.Words.words c.args.x in
     let ys = g.V.Words.words c.args.y in
     let old = g.V.Words.words c.args.old in
-    let f = op_bits c.args.op c.args.elem in
+    let f = op_bits c.args.op g.T.LaneElem.elem in
     c.merge.ensures
     ∙ ap (λ (r : List ℕ). sel_l ms r old) (c.divide.ensures ∙ ap (zip2 f xs) c.safe_divisors-divisors.ensures)
     ∙ stand_in_same c.args.op f ms xs ys old

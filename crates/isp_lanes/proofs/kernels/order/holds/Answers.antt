@@ -10,7 +10,7 @@ use Rattle.isp_lanes.proofs.kernels.order.holds.Goals as goal
 
 pub returns-in-Equal : goal.returns-in-Equal
 returns-in-Equal g c =
-    let t = c.args.elem in
+    let t = g.T.LaneElem.elem in
     let w = g.V.Words.width in
     let e = c.requires.x_row.wide in
     let xs = g.V.Words.words c.args.x in
@@ -24,7 +24,7 @@ returns-in-Equal g c =
 
 pub returns-in-NotEqual : goal.returns-in-NotEqual
 returns-in-NotEqual g c =
-    let t = c.args.elem in
+    let t = g.T.LaneElem.elem in
     let w = g.V.Words.width in
     let e = c.requires.x_row.wide in
     let xs = g.V.Words.words c.args.x in
@@ -38,7 +38,7 @@ returns-in-NotEqual g c =
 
 pub returns-in-Less : goal.returns-in-Less
 returns-in-Less g c =
-    let t = c.args.elem in
+    let t = g.T.LaneElem.elem in
     let w = g.V.Words.width in
     let e = c.requires.x_row.wide in
     let xs = g.V.Words.words c.args.x in
@@ -52,7 +52,7 @@ returns-in-Less g c =
 
 pub returns-in-LessOrEqual : goal.returns-in-LessOrEqual
 returns-in-LessOrEqual g c =
-    let t = c.args.elem in
+    let t = g.T.LaneElem.elem in
     let w = g.V.Words.width in
     let e = c.requires.x_row.wide in
     let xs = g.V.Words.words c.args.x in
@@ -66,7 +66,7 @@ returns-in-LessOrEqual g c =
 
 pub returns-in-Greater : goal.returns-in-Greater
 returns-in-Greater g c =
-    let t = c.args.elem in
+    let t = g.T.LaneElem.elem in
     let w = g.V.Words.width in
     let e = c.requires.x_row.wide in
     let xs = g.V.Words.words c.args.x in
@@ -80,7 +80,7 @@ returns-in-Greater g c =
 
 pub returns-in-GreaterOrEqual : goal.returns-in-GreaterOrEqual
 returns-in-GreaterOrEqual g c =
-    let t = c.args.elem in
+    let t = g.T.LaneElem.elem in
     let w = g.V.Words.width in
     let e = c.requires.x_row.wide in
     let xs = g.V.Words.words c.args.x in

@@ -7,7 +7,7 @@ use Rattle.isp_lanes.proofs.kernels.order.less_unsigned.Goals as goal
 
 pub returns : goal.returns
 returns g c =
-    let t = c.args.elem in
+    let t = g.T.LaneElem.elem in
     let w = g.V.Words.width in
     let xs = g.V.Words.words c.args.x in
     let ys = g.V.Words.words c.args.y in

@@ -7,8 +7,8 @@ pub returns-then-is_bool : goal.returns-then-is_bool
 returns-then-is_bool g c =
     c.all.ensures
     ∙ no_amount (2 ^ g.V.Words.width) g.row.N (g.V.Words.words c.args.y) c.requires.long
-    ∙ ap (λ t. map (λ b. bit_and b (width t - 1)) (g.V.Words.words c.args.y)) (sym (is_the_truth c.args.elem (sym c.is_bool.ensures ∙ c.if-is_bool.true)))
+    ∙ ap (λ t. map (λ b. bit_and b (width t - 1)) (g.V.Words.words c.args.y)) (sym (is_the_truth g.T.LaneElem.elem (sym c.is_bool.ensures ∙ c.if-is_bool.true)))
 
 pub returns-else-is_bool : goal.returns-else-is_bool
 returns-else-is_bool g c =
-    c.amounts.ensures ∙ ap (λ w. map (λ b. bit_and b (w - 1)) (g.V.Words.words c.args.y)) (c.requires.wide ∙ filled c.args.elem (no_truth c.args.elem (sym c.is_bool.ensures ∙ c.if-is_bool.false)))
+    c.amounts.ensures ∙ ap (λ w. map (λ b. bit_and b (w - 1)) (g.V.Words.words c.args.y)) (c.requires.wide ∙ filled g.T.LaneElem.elem (no_truth g.T.LaneElem.elem (sym c.is_bool.ensures ∙ c.if-is_bool.false)))

@@ -11,7 +11,7 @@ use Rattle.isp_lanes.proofs.kernels.signs.div.Goals as goal
 
 pub quotient-size-requires : goal.quotient-size-requires
 quotient-size-requires g c =
-    let t = c.args.elem in
+    let t = g.T.LaneElem.elem in
     let w = g.V.Words.width in
     let e = c.requires.x_row.wide in
     let xs = g.V.Words.words c.args.x in
@@ -26,7 +26,7 @@ quotient-size-requires g c =
 
 pub negate-turned-requires : goal.negate-turned-requires
 negate-turned-requires g c =
-    let t = c.args.elem in
+    let t = g.T.LaneElem.elem in
     let w = g.V.Words.width in
     let e = c.requires.x_row.wide in
     let xs = g.V.Words.words c.args.x in
@@ -40,7 +40,7 @@ negate-turned-requires g c =
 
 pub returns : goal.returns
 returns g c =
-    let t = c.args.elem in
+    let t = g.T.LaneElem.elem in
     let w = g.V.Words.width in
     let e = c.requires.x_row.wide in
     let xs = g.V.Words.words c.args.x in

@@ -7,7 +7,7 @@ use Rattle.isp_lanes.proofs.kernels.signs.magnitudes.Goals as goal
 
 pub returns-then-is_signed : goal.returns-then-is_signed
 returns-then-is_signed g c =
-    let t = c.args.elem in
+    let t = g.T.LaneElem.elem in
     let w = g.V.Words.width in
     let e = c.requires.wide in
     let xs = g.V.Words.words c.args.x in
@@ -20,6 +20,6 @@ returns-then-is_signed g c =
 
 pub returns-else-is_signed : goal.returns-else-is_signed
 returns-else-is_signed g c =
-    let t = c.args.elem in
+    let t = g.T.LaneElem.elem in
     let xs = g.V.Words.words c.args.x in
     sym (map-id xs) ∙ map_same (λ a. a < 2 ^ width t) (λ a. a) _ (λ a p. cell.plain_magnitude t (sym c.is_signed.ensures ∙ c.if-is_signed.false) a p) xs c.requires.fits

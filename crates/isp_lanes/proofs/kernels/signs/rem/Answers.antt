@@ -12,7 +12,7 @@ use Rattle.isp_lanes.proofs.kernels.signs.rem.Goals as goal
 
 pub rest-size-requires : goal.rest-size-requires
 rest-size-requires g c =
-    let t = c.args.elem in
+    let t = g.T.LaneElem.elem in
     let w = g.V.Words.width in
     let e = c.requires.x_row.wide in
     let xs = g.V.Words.words c.args.x in
@@ -27,7 +27,7 @@ rest-size-requires g c =
 
 pub negate-turned-requires : goal.negate-turned-requires
 negate-turned-requires g c =
-    let t = c.args.elem in
+    let t = g.T.LaneElem.elem in
     let w = g.V.Words.width in
     let e = c.requires.x_row.wide in
     let xs = g.V.Words.words c.args.x in
@@ -41,7 +41,7 @@ negate-turned-requires g c =
 
 pub returns : goal.returns
 returns g c =
-    let t = c.args.elem in
+    let t = g.T.LaneElem.elem in
     let w = g.V.Words.width in
     let e = c.requires.x_row.wide in
     let xs = g.V.Words.words c.args.x in

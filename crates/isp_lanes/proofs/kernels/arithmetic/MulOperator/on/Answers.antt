@@ -15,7 +15,7 @@ low-requires-clause-room g c =
 
 pub returns : goal.returns
 returns g c =
-    let t = c.args.elem in
+    let t = g.T.LaneElem.elem in
     let w = g.V.Words.width in
     let xs = g.V.Words.words c.args.x in
     let ys = g.V.Words.words c.args.y in

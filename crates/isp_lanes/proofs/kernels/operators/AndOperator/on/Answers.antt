@@ -6,5 +6,5 @@ use Rattle.isp_lanes.proofs.kernels.operators.AndOperator.on.Goals as goal
 
 pub returns : goal.returns
 returns g c =
-    let t = c.args._elem in
+    let t = g.T.LaneElem.elem in
     c.and.ensures ∙ row_same (λ a. a < 2 ^ width t) (λ b. b < 2 ^ width t) _ _ (word_and t) (g.V.Words.words c.args.x) (g.V.Words.words c.args.y) c.requires.x_row.fits c.requires.y_row.fits

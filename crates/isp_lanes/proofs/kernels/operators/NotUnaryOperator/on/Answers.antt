@@ -7,7 +7,7 @@ use Rattle.isp_lanes.proofs.kernels.operators.NotUnaryOperator.on.Goals as goal
 
 pub returns : goal.returns
 returns g c =
-    let t = c.args._elem in
+    let t = g.T.LaneElem.elem in
     let w = g.V.Words.width in
     let e = c.requires.wide in
     let xs = g.V.Words.words c.args.x in

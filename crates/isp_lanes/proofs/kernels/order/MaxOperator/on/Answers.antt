@@ -9,7 +9,7 @@ use Rattle.isp_lanes.proofs.kernels.order.MaxOperator.on.Goals as goal
 
 pub returns-then-is_signed : goal.returns-then-is_signed
 returns-then-is_signed g c =
-    let t = c.args.elem in
+    let t = g.T.LaneElem.elem in
     let w = g.V.Words.width in
     let xs = g.V.Words.words c.args.x in
     let ys = g.V.Words.words c.args.y in
@@ -23,7 +23,7 @@ returns-then-is_signed g c =
 
 pub returns-else-is_signed : goal.returns-else-is_signed
 returns-else-is_signed g c =
-    let t = c.args.elem in
+    let t = g.T.LaneElem.elem in
     let w = g.V.Words.width in
     let xs = g.V.Words.words c.args.x in
     let ys = g.V.Words.words c.args.y in

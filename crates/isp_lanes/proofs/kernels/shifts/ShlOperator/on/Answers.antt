@@ -9,7 +9,7 @@ use Rattle.isp_lanes.proofs.kernels.shifts.ShlOperator.on.Goals as goal
 
 pub left-requires : goal.left-requires
 left-requires g c =
-    let t = c.args.elem in
+    let t = g.T.LaneElem.elem in
     let w = g.V.Words.width in
     let e = c.requires.x_row.wide in
     let xs = g.V.Words.words c.args.x in
@@ -30,7 +30,7 @@ low-requires-clause-room g c =
 
 pub returns : goal.returns
 returns g c =
-    let t = c.args.elem in
+    let t = g.T.LaneElem.elem in
     let w = g.V.Words.width in
     let e = c.requires.x_row.wide in
     let xs = g.V.Words.words c.args.x in

@@ -7,7 +7,7 @@ use Rattle.isp_lanes.proofs.kernels.shifts.ShrOperator.on.Goals as goal
 
 pub right-shifted-requires : goal.right-shifted-requires
 right-shifted-requires g c =
-    let t = c.args.elem in
+    let t = g.T.LaneElem.elem in
     let w = g.V.Words.width in
     let e = c.requires.x_row.wide in
     let xs = g.V.Words.words c.args.x in
@@ -18,7 +18,7 @@ right-shifted-requires g c =
 
 pub right-requires : goal.right-requires
 right-requires g c =
-    let t = c.args.elem in
+    let t = g.T.LaneElem.elem in
     let w = g.V.Words.width in
     let e = c.requires.x_row.wide in
     let xs = g.V.Words.words c.args.x in
@@ -29,7 +29,7 @@ right-requires g c =
 
 pub returns-then-is_signed : goal.returns-then-is_signed
 returns-then-is_signed g c =
-    let t = c.args.elem in
+    let t = g.T.LaneElem.elem in
     let w = g.V.Words.width in
     let e = c.requires.x_row.wide in
     let xs = g.V.Words.words c.args.x in
@@ -46,7 +46,7 @@ returns-then-is_signed g c =
 
 pub returns-else-is_signed : goal.returns-else-is_signed
 returns-else-is_signed g c =
-    let t = c.args.elem in
+    let t = g.T.LaneElem.elem in
     let w = g.V.Words.width in
     let e = c.requires.x_row.wide in
     let xs = g.V.Words.words c.args.x in
