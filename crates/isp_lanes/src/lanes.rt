@@ -286,7 +286,7 @@ impl<const N: usize> Lanes<N> {
         new.put(&mut self.row);
     }
 
-    // New words in the lanes of a mask. The old ones are read last: read before a test of the element type they would wait on the
+    // New words in the lanes of a mask. The old ones are read last: read before the operator they would wait on the
     // stack for its end.
     #[inline(always)]
     pub(crate) fn blend<V: Words<N>>(&mut self, new: V, mask: &LaneMask<N>)
