@@ -1,9 +1,9 @@
 -- Changes of the state alone.
-use Rattle.std.proofs.Common.{◌≡◌, refl, sym, ap, ap₂, ◌∙◌, subst, ℕ, Bool, Option, Vec, Global}
+use Rattle.std.proofs.Common.{◌≡◌, refl, sym, ap, ap₂, ◌∙◌, subst, ℕ, Option, Vec, Global}
 use Rattle.isp_base.specs.Maps.{put}
 use Rattle.isp_base.specs.declared.types.Rate.{Rate}
 use Rattle.isp_base.specs.declared.types.Rate.TheVariants.{Uniform, Varying}
-use Rattle.isp_alone.specs.Alone.{Alone, put_in, written, own_stored, own_cleared}
+use Rattle.isp_alone.specs.Alone.{Alone, written}
 use Rattle.isp_gang.specs.Growing.{values_of}
 use Rattle.isp_single.specs.Arrays.{wrote_seen, read_seen}
 use Rattle.isp_single.specs.Seen.{own_of}

@@ -1,5 +1,5 @@
 -- What a `foreach` leaves to be done: its bounds, and then its runs.
-use Rattle.std.proofs.Common.{◌≡◌, refl, sym, ap, ap₂, ◌∙◌, subst, ℕ, ◌<◌, List, [], ◌∷◌, ◌++◌, map, Bor, Box, Vec, Global, Bool, true, false, Result, Ok, Err, append_assoc, arith, length}
+use Rattle.std.proofs.Common.{◌≡◌, refl, sym, ap, ap₂, ◌∙◌, ℕ, List, [], ◌∷◌, ◌++◌, map, Bor, Box, Vec, Global, Bool, true, false, Result, append_assoc}
 use Rattle.std.proofs.lemmas.List.{append-nil}
 use Rattle.isp_base.specs.Types.{gang_width}
 use Rattle.isp_typed.specs.declared.expr.TypedExpr.{TypedExpr}
@@ -10,10 +10,10 @@ use Rattle.isp_meaning.specs.Rounds as Meaning
 use Rattle.isp_meaning.specs.Rounds.{Run, runs_of}
 use Rattle.isp_meaning.specs.State.{Frame}
 use Rattle.isp_alone.specs.Alone.{Alone}
-use Rattle.isp_alone.specs.Answers.{Answer, Has, Bad, Long, End, Does, Dies, Lasts, Going, and_then, with_answer, choose, then_always}
+use Rattle.isp_alone.specs.Answers.{Answer, Has, Bad, Long, End, Does, Dies, Lasts, and_then, with_answer, choose, then_always}
 use Rattle.isp_alone.specs.Does.{bounds}
 use Rattle.isp_alone.specs.Loops.{at_indices}
-use Rattle.isp_single.specs.Left.{range_seen, at_start, restarted, runs_left, advanced, indices_now, members_now, is_ready}
+use Rattle.isp_single.specs.Left.{range_seen, restarted, runs_left, advanced, indices_now, members_now, is_ready}
 use Rattle.isp_single.specs.Tasks.{Store, Goes, Changes, Tells, go, given, ran, leaves, finds, bounds_on, begins_on, bound_by, found_range, range_then, end_then, runs_in, round_on, does_task, does_both, store_seen, state_seen, bound_in, calls_in, value_at, run_in, rest}
 use Rattle.isp_single.specs.declared.rounds.Bounds.{Bounds}
 use Rattle.isp_single.specs.declared.rounds.Range.{Range}

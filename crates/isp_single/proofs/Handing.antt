@@ -1,9 +1,8 @@
 -- What calls leave to be done: their arguments, the function's body, and the caller afterwards.
-use Rattle.std.proofs.Common.{◌≡◌, refl, sym, ap, ap₂, ◌∙◌, ℕ, zero, suc, List, [], ◌∷◌, ◌++◌, map, length, Bor, Box, Vec, Global, Option, Some, None, Result, Ok, Err, append_assoc}
+use Rattle.std.proofs.Common.{◌≡◌, refl, sym, ap, ap₂, ◌∙◌, ℕ, zero, suc, List, [], ◌∷◌, ◌++◌, map, Bor, Box, Vec, Global, Option, Some, None, Result, Ok, Err, append_assoc}
 use Rattle.std.specs.Prelude.{slice_get, option_map}
 use Rattle.std.proofs.lemmas.List.{append-nil, map-append}
 use Rattle.isp_base.specs.Traps.{trap}
-use Rattle.isp_base.specs.Types.{gang_width}
 use Rattle.isp_base.specs.declared.trap.TrapKind.TheVariants.{Depth}
 use Rattle.isp_base.specs.declared.types.Span.{Span}
 use Rattle.isp_typed.specs.Typed.{TExpr, TPlace, TBase, TArgument, TCall, t_called, t_arguments, t_by_value, t_by_name}
@@ -22,7 +21,7 @@ use Rattle.isp_alone.specs.Alone.{Alone}
 use Rattle.isp_alone.specs.Answers as Answers
 use Rattle.isp_alone.specs.Answers.{Answer, Has, Bad, Long, End, Does, Dies, Lasts, and_then}
 use Rattle.isp_alone.specs.Values.{arguments}
-use Rattle.isp_alone.specs.Calls.{begun, called, ended, own_calls}
+use Rattle.isp_alone.specs.Calls.{begun, called, ended}
 use Rattle.isp_single.specs.Seen.{frame_seen, passed_seen, with_variables}
 use Rattle.isp_single.specs.Tasks.{Store, Goes, On, Trapped, Cut, go, given, ran, calls_on, hands, enters, does_call, blocks, block_in, does_task, does_both, finish, rest, store_seen, state_seen, value_at, bound_in, calls_in, Tells}
 use Rattle.isp_single.specs.declared.activation.Activation.{Activation}
@@ -31,9 +30,8 @@ use Rattle.isp_single.specs.declared.state.Stop.{Stop}
 use Rattle.isp_single.specs.declared.state.Stop.TheVariants as stop
 use Rattle.isp_single.specs.declared.tasks.Passed as rust_passed_type
 use Rattle.isp_single.specs.declared.tasks.Passed.TheVariants as rust_passed
-use Rattle.isp_single.specs.declared.tasks.Task.{Task}
 use Rattle.isp_single.specs.declared.tasks.Task.TheVariants as task
-use Rattle.isp_single.proofs.Steps.{pushed, go_assoc, tells_by}
+use Rattle.isp_single.proofs.Steps.{pushed}
 
 pub call_view : (c : TypedCall) → call_of c ≡ t_called c.function (t_arguments (arguments_of c.arguments.items)) c.span
 call_view c = fold_out-TypedCall TArgument TBase TExpr TPlace TCall argument_step base_step expr_step place_step call_step c

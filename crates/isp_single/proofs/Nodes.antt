@@ -1,9 +1,8 @@
 -- What the task of an expression leaves to be done.
-use Rattle.std.proofs.Common.{◌≡◌, refl, sym, ap, subst, ◌∙◌, ℕ, List, [], ◌∷◌, ◌++◌, Bool, true, false, Bor, Vec, Global, Result, Ok, Err, append_assoc}
+use Rattle.std.proofs.Common.{◌≡◌, refl, sym, ap, subst, ◌∙◌, ℕ, List, [], ◌∷◌, ◌++◌, Bool, true, false, Bor, Vec, Global, Result, Err, append_assoc}
 use Rattle.std.proofs.lemmas.List.{append-nil}
 use Rattle.isp_base.specs.Access.{is_zero}
-use Rattle.isp_base.specs.Traps.{trap}
-use Rattle.isp_base.specs.Values.{width, op_bits, compare_bits}
+use Rattle.isp_base.specs.Values.{op_bits, compare_bits}
 use Rattle.isp_base.specs.declared.operators.BinOp.{BinOp}
 use Rattle.isp_base.specs.declared.operators.Compare.{Compare}
 use Rattle.isp_base.specs.declared.operators.UnaryOp.{UnaryOp}
@@ -20,7 +19,6 @@ use Rattle.isp_typed.specs.Views.{expr_of, exprs_of}
 use Rattle.isp_meaning.specs.Payloads.{is_true, converted}
 use Rattle.isp_meaning.specs.Expressions.{needs}
 use Rattle.isp_base.specs.Unary.{unary_bits}
-use Rattle.isp_alone.specs.Alone.{Alone}
 use Rattle.isp_alone.specs.Answers.{Answer, Has, Bad, Long, and_then, unless, choose}
 use Rattle.isp_alone.specs.Values.{answer}
 use Rattle.isp_single.specs.Tasks.{Store, Goes, Trapped, go, given, gives, finds, gathers, gathered, join, does_task, does_both, store_seen, state_seen, value_at, values_at, bound_in, calls_in, Tells}
@@ -30,7 +28,6 @@ use Rattle.isp_single.specs.declared.state.Stop.TheVariants as stop
 use Rattle.isp_single.specs.declared.tasks.Gathering.{Gathering}
 use Rattle.isp_single.specs.declared.tasks.Joining.{Joining}
 use Rattle.isp_single.specs.declared.tasks.Joining.TheVariants as joining
-use Rattle.isp_single.specs.declared.tasks.Task.{Task}
 use Rattle.isp_single.specs.declared.tasks.Task.TheVariants as task
 use Rattle.isp_single.proofs.Steps.{given_then, tells_by}
 

@@ -29,7 +29,6 @@ use Rattle.isp_single.specs.declared.state.Setting.{Setting}
 use Rattle.isp_single.specs.declared.state.Single.{Single}
 use Rattle.isp_single.specs.declared.state.Stop.{Stop}
 use Rattle.isp_single.specs.declared.state.Stop.TheVariants as stop
-use Rattle.isp_single.proofs.Steps.{go_id}
 
 -- ---- the tasks of a call, where nothing else is to be done
 

@@ -1,13 +1,12 @@
 -- What statements and loops leave to be done.
-use Rattle.std.proofs.Common.{◌≡◌, refl, sym, ap, ap₂, subst, ◌∙◌, ℕ, zero, suc, List, [], ◌∷◌, Bool, true, false, Bor, Box, Global, Option, Some, None, Result, Ok, Err}
+use Rattle.std.proofs.Common.{◌≡◌, refl, sym, ap, subst, ◌∙◌, ℕ, suc, List, [], ◌∷◌, Bool, true, false, Bor, Box, Global, Option, Some, None, Result}
 use Rattle.std.specs.Prelude.{option_map, not}
 use Rattle.std.proofs.Common.{eq-eqb, ne_eqb}
 use Rattle.isp_base.specs.Traps.{trap}
 use Rattle.isp_base.specs.declared.types.Span.{Span}
-use Rattle.isp_typed.specs.Typed.{TExpr, TFirst, t_first_declare, t_first_simple, TStmt, TBlock, t_braces, t_stmts, t_exprs}
-use Rattle.isp_typed.specs.Views.{expr_of, exprs_of, items_of, first_of, simple_of, stmt_of, stmts_of, block_of, stmt_step, block_step}
+use Rattle.isp_typed.specs.Typed.{TExpr, TFirst, t_first_declare, t_first_simple, TStmt, TBlock, t_braces, t_stmts}
+use Rattle.isp_typed.specs.Views.{expr_of, items_of, simple_of, stmt_of, stmts_of, block_of, stmt_step, block_step}
 use Rattle.isp_typed.specs.declared.expr.TypedExpr.{TypedExpr}
-use Rattle.isp_typed.specs.declared.stmt.TypedFirst.{TypedFirst}
 use Rattle.isp_typed.specs.declared.stmt.TypedItem.{TypedItem}
 use Rattle.isp_typed.specs.declared.stmt.TypedSimple.{TypedSimple}
 use Rattle.isp_typed.specs.declared.stmt.TypedStmt.{TypedStmt}
@@ -20,11 +19,11 @@ use Rattle.isp_meaning.specs.State.{Frame}
 use Rattle.isp_alone.specs.Alone.{Alone, written}
 use Rattle.isp_alone.specs.Answers as Answers
 use Rattle.isp_alone.specs.Answers.{Answer, Has, Bad, Long, End, Does, Dies, Lasts, Going, Done, and_then, with_answer, unless, choose, then_on, then_always}
-use Rattle.isp_alone.specs.Steps.{items, simple, first_part, step_part}
-use Rattle.isp_alone.specs.Loops.{turned, stepped}
-use Rattle.isp_alone.specs.Does.{goes_on, test_part}
+use Rattle.isp_alone.specs.Steps.{items, simple}
+use Rattle.isp_alone.specs.Loops.{turned}
+use Rattle.isp_alone.specs.Does.{goes_on}
 use Rattle.isp_single.specs.Seen.{how_seen}
-use Rattle.isp_single.specs.Tasks.{Store, Goes, Trapped, Cut, go, given, done, ran, gives, goes, leaves, finds, gathers, runs, blocks, runs_all, chooses, branches_on, follows, tests_on, keeps_on, turned_on, turns_on, steps_on, firsts, takes_turn, does_task, does_both, store_seen, state_seen, value_at, values_at, bound_in, calls_in, perhaps_in, run_in, all_in, block_in, turns_in, tested_in, stepped_in, turned_in, test_in, body_in, step_in, rest, Changes, Tells}
+use Rattle.isp_single.specs.Tasks.{Store, Goes, Trapped, Cut, go, given, done, ran, goes, leaves, finds, gathers, runs, blocks, runs_all, chooses, branches_on, follows, tests_on, keeps_on, turned_on, turns_on, steps_on, firsts, takes_turn, does_task, does_both, store_seen, state_seen, value_at, values_at, bound_in, calls_in, perhaps_in, run_in, all_in, turns_in, tested_in, stepped_in, turned_in, test_in, body_in, step_in, rest, Changes, Tells}
 use Rattle.isp_single.specs.declared.loops.Turning.{Turning}
 use Rattle.isp_single.specs.declared.state.Single.{Single}
 use Rattle.isp_single.specs.declared.state.How.{How}
@@ -33,9 +32,8 @@ use Rattle.isp_single.specs.declared.state.Stop.{Stop}
 use Rattle.isp_single.specs.declared.tasks.Branches.{Branches}
 use Rattle.isp_single.specs.declared.tasks.Gathering.TheVariants as gathering
 use Rattle.isp_single.specs.declared.tasks.Statements.{Statements}
-use Rattle.isp_single.specs.declared.tasks.Task.{Task}
 use Rattle.isp_single.specs.declared.tasks.Task.TheVariants as task
-use Rattle.isp_single.proofs.Steps.{given_then, ran_with, ran_done, ran_then, ran_goes, ran_always, changed_store, tells_by, tells_via}
+use Rattle.isp_single.proofs.Steps.{ran_with, ran_done, ran_then, ran_goes, ran_always, changed_store, tells_by, tells_via}
 
 -- the task of a statement, where its tree is known
 pub stmt_by : (q : Result (Unit {0}) Stop) (old new : Single) (x : Bor TypedStmt) (n : TStmt) (g : Store → Goes) → stmt_of x.now ≡ n → runs old n (store_seen old) ≡ g (store_seen old) → Tells q old new g → Tells q old new (does_task old (task.Run x))

@@ -4,10 +4,7 @@ use Rattle.std.proofs.Math.Path.{fun_ext}
 use Rattle.isp_meaning.specs.State.{Frame}
 use Rattle.isp_alone.specs.Alone.{Alone}
 use Rattle.isp_alone.specs.Answers.{Answer, Has, Bad, Long, End, Does, Dies, Lasts, Going, Done, and_then, with_answer, then_on, then_always}
-use Rattle.isp_single.specs.Seen.{how_seen}
-use Rattle.isp_single.specs.Tasks.{Store, Goes, On, Trapped, Cut, go, given, done, ran, gives, goes, leaves, act, finish, rest, does_task, does_both, store_seen, state_seen, Tells, Ends, Changes}
-use Rattle.isp_single.specs.declared.state.How.{How}
-use Rattle.isp_single.specs.declared.state.How.TheVariants as how
+use Rattle.isp_single.specs.Tasks.{Store, Goes, On, Trapped, Cut, go, given, done, ran, goes, act, finish, rest, does_task, does_both, store_seen, state_seen, Tells, Ends, Changes}
 use Rattle.isp_single.specs.declared.state.Setting.{Setting}
 use Rattle.isp_single.specs.declared.state.Single.{Single}
 use Rattle.isp_single.specs.declared.state.Stop.{Stop}

@@ -1,5 +1,5 @@
 -- What assignments and declarations leave to be done.
-use Rattle.std.proofs.Common.{◌≡◌, refl, sym, ap, ap₂, subst, ◌∙◌, ℕ, List, [], ◌∷◌, Bool, true, false, Bor, Result, Ok, Err}
+use Rattle.std.proofs.Common.{◌≡◌, refl, sym, ap, subst, ◌∙◌, ℕ, List, [], ◌∷◌, Bool, true, false, Bor, Result, Ok, Err}
 use Rattle.isp_base.specs.Access.{is_zero, element}
 use Rattle.isp_base.specs.Traps.{trap}
 use Rattle.isp_base.specs.Values.{op_bits}
@@ -12,13 +12,12 @@ use Rattle.isp_typed.specs.declared.expr.TypedExpr.{TypedExpr}
 use Rattle.isp_typed.specs.declared.expr.TypedPlace.{TypedPlace}
 use Rattle.isp_typed.specs.declared.stmt.TypedItem.{TypedItem}
 use Rattle.isp_typed.specs.declared.variable.ArrayVariable.{ArrayVariable}
-use Rattle.isp_typed.specs.Typed.{TExpr, TPlace, t_variable, t_element, t_place, t_with_value, place_type, place_span, elem_of}
+use Rattle.isp_typed.specs.Typed.{TPlace, t_element, t_place, t_with_value, place_type, place_span, elem_of}
 use Rattle.isp_typed.specs.Views.{expr_of, place_of, item_of, items_of}
 use Rattle.isp_meaning.specs.Payloads.{converted}
-use Rattle.isp_meaning.specs.State.{Frame}
 use Rattle.isp_alone.specs.Alone.{Alone, written}
-use Rattle.isp_alone.specs.Answers.{How, Going, Answer, Has, Bad, Long, Done, and_then, unless, choose}
-use Rattle.isp_alone.specs.Places.{Spot, AVariable, AnElement, outside, kept}
+use Rattle.isp_alone.specs.Answers.{How, Going, Answer, Has, Bad, Long, and_then, unless, choose}
+use Rattle.isp_alone.specs.Places.{Spot, AnElement, outside, kept}
 use Rattle.isp_alone.specs.Values.{found, held, spot}
 use Rattle.isp_alone.specs.Steps.{item, items, update}
 use Rattle.isp_single.specs.Seen.{frame_seen, spot_seen}
@@ -30,9 +29,8 @@ use Rattle.isp_single.specs.declared.places.Writing.TheVariants as writing
 use Rattle.isp_single.specs.declared.state.Single.{Single}
 use Rattle.isp_single.specs.declared.state.Stop.{Stop}
 use Rattle.isp_single.specs.declared.state.Stop.TheVariants as stop
-use Rattle.isp_single.specs.declared.tasks.Task.{Task}
 use Rattle.isp_single.specs.declared.tasks.Task.TheVariants as task
-use Rattle.isp_single.proofs.Steps.{given_then, done_then, done_done, tells_by, tells_via, changed_tells}
+use Rattle.isp_single.proofs.Steps.{done_then, done_done, tells_via, changed_tells}
 
 -- what is held becomes the value, or stops the run
 pub held_tells : (q : Result (Unit {0}) Stop) (old mid new : Single) (sp : Span) (k : Spot) (x : ℕ) → Finds (Ok x) old mid sp k → Tells q mid new (gives x) → Tells q old new (loads old sp k)

@@ -2,7 +2,6 @@
 use Rattle.std.specs.Prelude.{◌≡◌, ℕ, List, [], ◌∷◌, ◌++◌, map, option_map, Option, Some, None, Result, Ok, Err, get_or}
 use Rattle.std.proofs.Common.{Bor}
 use Rattle.isp_base.specs.Access.{is_zero}
-use Rattle.isp_base.specs.Rows.{Row}
 use Rattle.isp_base.specs.Types.{gang_width}
 use Rattle.isp_base.specs.declared.types.Elem.{Elem}
 use Rattle.isp_base.specs.declared.types.Elem.TheVariants.{I32}
@@ -28,7 +27,7 @@ use Rattle.isp_alone.specs.Places.{Spot, AnElement, outside, kept}
 use Rattle.isp_alone.specs.Values.{OwnCalls, by_instance, found, held, answer, answers, answer_call, arguments, spot}
 use Rattle.isp_alone.specs.Steps.{update, simple, item, items, first_part, step_part}
 use Rattle.isp_alone.specs.Loops.{tested, turned, turns, stepped, rounds}
-use Rattle.isp_alone.specs.Does.{bounds, does, does_block, does_all, goes_on, test_part}
+use Rattle.isp_alone.specs.Does.{bounds, does, does_block, does_all, test_part}
 use Rattle.isp_alone.specs.Calls.{called, own_calls}
 use Rattle.isp_single.specs.Arrays.{bound_seen}
 use Rattle.isp_single.specs.Left.{range_seen, runs_left}

@@ -1,4 +1,4 @@
-use Rattle.std.proofs.Common.{◌≡◌, ◌+◌, length, map, sym, ap, subst, ◌∙◌, arith}
+use Rattle.std.proofs.Common.{ℕ, List, ◌≡◌, ◌+◌, length, map, sym, ap, subst, ◌∙◌, arith}
 use Rattle.std.specs.Prelude.{slice_get}
 use Rattle.std.proofs.lemmas.List.{length-map}
 use Rattle.isp_meaning.specs.Calls.{store_or}
@@ -14,7 +14,7 @@ loop-place-init c =
 pub loop-place-preserved : goal.loop-place-preserved
 loop-place-preserved c =
     let ps = map passed_seen c.args.passed.now in
-    subst (λ xs. Opening c.args.variables.now ps c.args.sizes.now.items c.open.new.sizes.items xs (c.loop-place.place + 1)) (sym c.in_ok-push.ensures.items)
+    subst (λ xs. Opening c.args.variables.now ps c.args.sizes.now.items c.open.new.sizes.items xs (c.loop-place.place + 1)) (sym {A = List ℕ} c.in_ok-push.ensures.items)
     (opening_next c.args.variables.now ps c.args.sizes.now.items c.loop-place.sizes.items c.open.new.sizes.items c.loop-place.named.items c.store_or.result c.loop-place.place c.loop-place.invariant
     (c.store_or.ensures ∙ ap (store_or (slice_get ps c.loop-place.place)) (c.len.ensures ∙ (let e : c.loop-place.sizes.len ≡ length c.loop-place.sizes.items = omega (arith, c.loop-place.sizes.ok.0) in e))) c.in_ok-open.ensures)
 

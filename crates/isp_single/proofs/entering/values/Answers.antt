@@ -1,4 +1,4 @@
-use Rattle.std.proofs.Common.{◌+◌, map, sym, subst, arith}
+use Rattle.std.proofs.Common.{ℕ, List, ◌+◌, map, sym, subst, arith}
 use Rattle.isp_single.specs.Entering.{passed_at}
 use Rattle.isp_single.specs.Seen.{passed_seen}
 use Rattle.isp_single.proofs.Begun.{Listed, listed_none, listed_more, all_passed}
@@ -12,7 +12,7 @@ loop-place-init c =
 pub loop-place-preserved : goal.loop-place-preserved
 loop-place-preserved c =
     let f = passed_at c.args.rate c.args.variables.now (map passed_seen c.args.passed.now) in
-    subst (λ xs. Listed (λ x. x) 0 f xs (c.loop-place.place + 1)) (sym c.in_ok-push.ensures.items)
+    subst (λ xs. Listed (λ x. x) 0 f xs (c.loop-place.place + 1)) (sym {A = List ℕ} c.in_ok-push.ensures.items)
     (listed_more (λ x. x) 0 f c.loop-place.values.items c.value_passed.result c.loop-place.place c.loop-place.invariant c.value_passed.ensures)
 
 pub returns : goal.returns

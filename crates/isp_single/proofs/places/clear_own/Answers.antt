@@ -1,5 +1,4 @@
-use Rattle.std.proofs.Common.{◌∙◌, ap, sym, arith, ℕ}
-use Rattle.std.proofs.Math.Path.{fun_ext}
+use Rattle.std.proofs.Common.{◌∙◌, ap, sym, arith}
 use Rattle.isp_base.specs.Maps.{put}
 use Rattle.isp_gang.specs.Growing.{values_of}
 use Rattle.isp_gang.proofs.Vectors.{at_past, written}

@@ -1,7 +1,4 @@
 use Rattle.std.proofs.Common.{◌∙◌, ap, map, subst}
-use Rattle.isp_alone.specs.Runs.{bound, solo_run}
-use Rattle.isp_meaning.specs.Runs.{handed}
-use Rattle.isp_typed.specs.Views.{program_of}
 use Rattle.std.specs.Prelude.{IfOk}
 use Rattle.isp_single.specs.Ends.{IsRunOf}
 use Rattle.isp_single.specs.Seen.{passed_seen}

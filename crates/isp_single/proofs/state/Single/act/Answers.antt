@@ -1,6 +1,6 @@
 use Rattle.std.proofs.Common.{refl, sym, ap}
 use Rattle.isp_alone.specs.Answers.{Has}
-use Rattle.isp_single.specs.Tasks.{given, store_seen, state_seen, does_task, hands, branches_on, follows, tests_on, keeps_on, turned_on}
+use Rattle.isp_single.specs.Tasks.{given, store_seen, state_seen}
 use Rattle.isp_single.proofs.Steps.{acts}
 use Rattle.isp_single.proofs.state.Single.act.Goals as goal
 

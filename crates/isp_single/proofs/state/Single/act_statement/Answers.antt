@@ -1,6 +1,5 @@
 use Rattle.std.proofs.Common.{refl, sym, ap}
-use Rattle.isp_alone.specs.Answers.{Has}
-use Rattle.isp_single.specs.Tasks.{given, store_seen, state_seen, does_task, hands, branches_on, follows, tests_on, keeps_on, turned_on}
+use Rattle.isp_single.specs.Tasks.{store_seen, branches_on, follows, tests_on, keeps_on, turned_on}
 use Rattle.isp_single.proofs.Steps.{acts}
 use Rattle.isp_single.proofs.state.Single.act_statement.Goals as goal
 

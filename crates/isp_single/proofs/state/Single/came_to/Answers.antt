@@ -1,5 +1,4 @@
-use Rattle.std.proofs.Common.{◌∙◌, ap, map, refl, sym}
-use Rattle.isp_single.specs.Ends.{ending_of}
+use Rattle.std.proofs.Common.{◌∙◌, map, refl, sym}
 use Rattle.isp_single.specs.Seen.{passed_seen}
 use Rattle.isp_single.proofs.Outcomes.{ran_gave, ran_stopped}
 use Rattle.isp_single.proofs.state.Single.came_to.Goals as goal

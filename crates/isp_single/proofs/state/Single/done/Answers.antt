@@ -1,5 +1,5 @@
 use Rattle.std.proofs.Common.{map, subst}
-use Rattle.std.specs.Prelude.{Result, Err}
+use Rattle.std.specs.Prelude.{Result}
 use Rattle.isp_meaning.specs.Runs.{no_place}
 use Rattle.isp_single.specs.Seen.{passed_seen}
 use Rattle.isp_single.specs.Tasks.{Tells, enters}

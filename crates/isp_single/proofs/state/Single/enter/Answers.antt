@@ -1,6 +1,5 @@
 use Rattle.std.proofs.Common.{◌≡◌, ◌∙◌, ◌-◌, ap, map, suc, sym, arith, Bor}
 use Rattle.std.specs.Prelude.{option_map, slice_get}
-use Rattle.isp_meaning.specs.Expressions.{Passed}
 use Rattle.isp_typed.specs.declared.function.TypedFunction.{TypedFunction}
 use Rattle.isp_single.specs.Seen.{passed_seen}
 use Rattle.isp_single.specs.Tasks.{enters, store_seen}

@@ -1,11 +1,9 @@
-use Rattle.std.proofs.Common.{◌≡◌, ◌∙◌, ap, ap₂, sym, refl, subst, ℕ, Bool, Option, true}
-use Rattle.std.specs.Prelude.{Ok}
+use Rattle.std.proofs.Common.{◌∙◌, ap, ap₂, sym, refl, ℕ, Bool, Option, true}
 use Rattle.isp_alone.specs.Alone.{put_in}
-use Rattle.isp_alone.specs.Answers.{Answer, Has}
+use Rattle.isp_alone.specs.Answers.{Has}
 use Rattle.isp_alone.specs.Values.{found}
 use Rattle.isp_base.specs.Maps.{or_old}
 use Rattle.isp_base.specs.declared.types.Rate.{Rate}
-use Rattle.isp_gang.specs.Growing.{values_of}
 use Rattle.isp_single.specs.Seen.{frame_seen, own_of}
 use Rattle.isp_single.specs.Tasks.{bound_in, state_seen}
 use Rattle.isp_single.proofs.Results.{at_ok, at_found}

@@ -2,7 +2,6 @@ use Rattle.std.proofs.Common.{ap, sym, arith, length, take, drop, ◌-◌}
 use Rattle.isp_single.specs.Tasks.{declares, goes, store_seen}
 use Rattle.isp_typed.specs.Views.{item_of}
 use Rattle.isp_single.specs.declared.state.Single.{Single}
-use Rattle.isp_single.specs.declared.tasks.Task.TheVariants as task
 use Rattle.isp_single.proofs.Lists.{nothing_left, headed}
 use Rattle.isp_single.proofs.Results.{at_ok}
 use Rattle.isp_single.proofs.Steps.{tells_by, then_tells}

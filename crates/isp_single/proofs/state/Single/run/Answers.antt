@@ -3,10 +3,9 @@ use Rattle.std.specs.Prelude.{option_map}
 use Rattle.isp_typed.specs.declared.expr.TypedExpr.{TypedExpr}
 use Rattle.isp_typed.specs.declared.stmt.TypedFirst.{TypedFirst}
 use Rattle.isp_typed.specs.declared.stmt.TypedItem.{TypedItem}
-use Rattle.isp_typed.specs.declared.stmt.TypedSimple.{TypedSimple}
 use Rattle.isp_typed.specs.declared.stmt.TypedRange.{TypedRange}
 use Rattle.isp_typed.specs.declared.stmt.TypedStmt.{TypedStmt}
-use Rattle.isp_typed.specs.Typed.{TExpr, TFirst, TSimple, TStmt, TBlock, t_declare, t_if, t_if_else, t_while, t_do, t_for, t_foreach, t_foreach_active, t_return, t_print, t_exprs}
+use Rattle.isp_typed.specs.Typed.{TExpr, TFirst, TSimple, TStmt, TBlock, t_declare, t_if, t_if_else, t_while, t_do, t_for, t_foreach, t_foreach_active, t_print}
 use Rattle.isp_typed.specs.Views.{stmt_of, block_of, ranges_of, stmt_step, block_step, expr_of, exprs_of, first_of, items_of, simple_of}
 use Rattle.isp_typed.proofs.StmtViews.{if_view, if_else_view, while_view, do_view, for_view, foreach_view, active_view}
 use Rattle.isp_typed.specs.declared.stmt.TypedStmt.TheVariants as variant
@@ -20,7 +19,7 @@ use Rattle.isp_single.specs.declared.state.Single.{Single}
 use Rattle.isp_single.specs.declared.tasks.Gathering.TheVariants as gathering
 use Rattle.isp_single.specs.declared.tasks.Task.TheVariants as task
 use Rattle.isp_single.proofs.Lists.{part_is}
-use Rattle.isp_single.proofs.Runs.{stmt_by, if_is, if_else_is, answered_by, printed_by, asserted_by}
+use Rattle.isp_single.proofs.Runs.{stmt_by, if_is, if_else_is, printed_by, asserted_by}
 use Rattle.isp_single.proofs.Steps.{ran_goes, ran_always, tells_by, then_tells}
 use Rattle.isp_single.proofs.state.Single.run.Goals as goal
 

@@ -1,11 +1,11 @@
-use Rattle.std.proofs.Common.{refl, sym, ap, ◌∙◌}
-use Rattle.isp_typed.specs.Typed.{TExpr, TPlace, TBase, TArgument, TCall, t_element, t_place, type_of}
+use Rattle.std.proofs.Common.{sym, ap, ◌∙◌}
+use Rattle.isp_typed.specs.Typed.{TExpr, TPlace, TBase, TArgument, TCall, t_element, type_of}
 use Rattle.isp_typed.specs.Views.{argument_step, base_step, expr_step, place_step, call_step, expr_of, place_of}
 use Rattle.isp_typed.specs.declared.expr.TypedPlace.TheVariants as variant
 use Rattle.isp_typed.specs.declared.expr.TypedArgument.TheFolds.{fold-roll-TypedPlace}
 use Rattle.isp_alone.specs.Answers.{and_then}
 use Rattle.isp_alone.specs.Values.{spot}
-use Rattle.isp_single.specs.Tasks.{bound_in, calls_in, done, state_seen, store_seen, write}
+use Rattle.isp_single.specs.Tasks.{bound_in, calls_in, done, store_seen, write}
 use Rattle.isp_single.proofs.Steps.{tells_by}
 use Rattle.isp_single.proofs.Writes.{target_node}
 use Rattle.isp_single.proofs.state.Single.target.Goals as goal

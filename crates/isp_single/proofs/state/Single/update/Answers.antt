@@ -1,4 +1,4 @@
-use Rattle.std.proofs.Common.{◌≡◌, ◌∙◌, ap, sym, ℕ, subst}
+use Rattle.std.proofs.Common.{◌∙◌, ap, ℕ, subst}
 use Rattle.std.specs.Prelude.{Result, Ok, Err}
 use Rattle.isp_base.specs.Values.{op_bits}
 use Rattle.isp_base.specs.declared.types.Span.{Span}

@@ -1,7 +1,6 @@
 use Rattle.std.proofs.Common.{refl, sym, ap, ap₂, ◌∙◌}
-use Rattle.isp_base.specs.Values.{width}
-use Rattle.isp_typed.specs.Typed.{TExpr, TPlace, TBase, TArgument, TCall, t_binary, t_call, t_cast, t_choose, t_compare, t_constant, t_convert, t_exprs, t_library, t_logic, t_packed_load, t_packed_store, t_place, t_program_index, t_unary, type_of}
-use Rattle.isp_typed.specs.Views.{argument_step, base_step, expr_step, place_step, call_step, base_of, call_of, expr_of, exprs_of, place_of}
+use Rattle.isp_typed.specs.Typed.{TExpr, TPlace, TBase, TArgument, TCall, t_binary, t_cast, t_choose, t_compare, t_convert, t_exprs, t_library, t_logic, t_unary, type_of}
+use Rattle.isp_typed.specs.Views.{argument_step, base_step, expr_step, place_step, call_step, expr_of, exprs_of}
 use Rattle.isp_typed.specs.declared.expr.TypedExpr.TheVariants as variant
 use Rattle.isp_typed.specs.declared.expr.TypedArgument.TheFolds.{fold-roll-TypedExpr}
 use Rattle.isp_single.specs.Tasks.{store_seen, gathers}

@@ -1,8 +1,7 @@
-use Rattle.std.proofs.Common.{◌≡◌, ◌∙◌, ap, sym, arith, get_or, length, take, drop, ◌-◌}
+use Rattle.std.proofs.Common.{◌∙◌, ap, sym, arith, get_or, length, take, drop, ◌-◌}
 use Rattle.isp_alone.specs.Answers.{Has}
 use Rattle.isp_alone.specs.Values.{by_instance}
-use Rattle.isp_typed.specs.Views.{exprs_of}
-use Rattle.isp_single.specs.Tasks.{given, gathered, gives, state_seen, store_seen}
+use Rattle.isp_single.specs.Tasks.{given, gathered, state_seen, store_seen}
 use Rattle.isp_single.specs.declared.tasks.Gathering.{Gathering}
 use Rattle.isp_single.proofs.Lists.{nothing_left, headed}
 use Rattle.isp_single.proofs.Nodes.{values_none, values_next, given_bits}
