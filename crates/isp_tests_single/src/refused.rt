@@ -21,9 +21,21 @@ fn bound(alloc: Global, checked: &Checked) -> Result<Bound, Fail> {
     }
 }
 
-fn ran(alloc: Global, checked: &Checked, bound: &Bound, function: usize) -> Result<Run, AllocError> {
+fn ran(
+    alloc: Global,
+    checked: &Checked,
+    bound: &Bound,
+    function: usize,
+) -> Result<Run, AllocError> {
     let arguments = bound.arguments.as_slice();
-    run_alone(checked.program(), function, arguments, 0, 1, Arrays::new(alloc))
+    run_alone(
+        checked.program(),
+        function,
+        arguments,
+        0,
+        1,
+        Arrays::new(alloc),
+    )
 }
 
 fn is_read(run: &Run, place: usize) -> bool {

@@ -111,8 +111,7 @@ fn found(alloc: Global, arrays: &[Named<'_>], run: Run) -> Result<Found, AllocEr
 // The run of a source by one instance, with the arrays of an earlier run.
 fn run(alloc: Global, source: &str, call: Call<'_>, arrays: Arrays) -> Result<Found, Fail> {
     let checked = front(alloc, source, call.gang)?;
-    let (Some(signature), Some(number)) =
-        (checked.signature(call.entry), checked.entry(call.entry))
+    let (Some(signature), Some(number)) = (checked.signature(call.entry), checked.entry(call.entry))
     else {
         return Err(Fail::from("no such entry"));
     };
@@ -146,12 +145,7 @@ fn same(rt: &impl Abort, name: &str, found: &str, wanted: &str) {
 }
 
 // Runs the program of a row and compares what comes out.
-fn compare(
-    rt: &impl Abort,
-    alloc: Global,
-    row: Row<'_>,
-    arrays: Arrays,
-) -> Result<Arrays, Fail> {
+fn compare(rt: &impl Abort, alloc: Global, row: Row<'_>, arrays: Arrays) -> Result<Arrays, Fail> {
     let marked = Marked::new(alloc, row.source)?;
     let ending = wanted(alloc, &marked, row)?;
     let found = run(alloc, marked.source.as_str(), row.call, arrays)?;
