@@ -1,6 +1,8 @@
 //! One record of cases, line by line.
 use crate::found::Found;
-use crate::ways::{accepted, compiled, evaluated, executed, is_read_back, sent, worked};
+use crate::ways::{
+    accepted, compiled, evaluated, executed, is_read_back, lines_with, sent, worked,
+};
 use isp_base::Gang;
 use isp_engine::compile;
 use isp_testing::{Marked, number, parted, spelt_out};
@@ -69,6 +71,7 @@ impl<'a> Case<'a> {
             "arguments" => self.arguments = spelt_out(self.alloc, rest)?,
             "turns" => self.turns = number(rest).unwrap_or(0),
             "work" => self.count(rest, tried)?,
+            "code" => self.measure(rest, tried)?,
             "writes" => self.output = spelt_out(self.alloc, rest)?,
             "frame" => self.frame = rest,
             "accepts" | "refuses" | "compiles" => self.judge(word, rest, tried)?,
@@ -115,6 +118,23 @@ impl<'a> Case<'a> {
         if found != self.work {
             let found = found.unwrap_or(0);
             tried.differ(format!(in self.alloc; "{}: work {found}, not {rest}", self.name)?)?;
+        }
+        Ok(())
+    }
+
+    // Tries a line that says how many lines of the code's text begin with a word, at least, and than how many lines it has fewer.
+    fn measure(&self, rest: &str, tried: &mut Tried) -> Result<(), AllocError> {
+        let (least, rest) = parted(rest, ' ');
+        let (word, most) = parted(rest, ' ');
+        tried.cases = tried.cases.saturating_add(1);
+        let Some((found, lines)) = lines_with(self.alloc, self, word) else {
+            return tried.differ(format!(in self.alloc; "{}: no code", self.name)?);
+        };
+        if found < number(least).unwrap_or(0) || lines >= number(most).unwrap_or(0) {
+            tried.differ(format!(in self.alloc;
+                "{}: {found} {word} in {lines} lines",
+                self.name
+            )?)?;
         }
         Ok(())
     }

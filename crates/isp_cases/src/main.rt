@@ -5,7 +5,8 @@
 //! - `.` how what comes out was found, for the reader alone;
 //! - `source` the text, where `␤` is a line feed, `␉` a tab, and a trap's place stands between `⟦` and `⟧`;
 //! - `gang` how many instances run it, `entry` the function that is run, `arguments` its arguments in JSON;
-//! - `turns` how many turns each loop may make each time it is entered, `writes` what the run writes.
+//! - `turns` how many turns each loop may make each time it is entered, `writes` what the run writes;
+//! - `code` how many lines of the code's text begin with a word, at least, that word, and a number of lines that the text has fewer than.
 //!
 //! Then comes what must come out: `work` the work of the run; `refused` and the fault of the source, `accepted` where no entry is run, `unbound` and the fault of the
 //! arguments, `ends` and the answer, `traps` with the kind, the instance and the arrays as an answer without a result, or `cut`. Lines

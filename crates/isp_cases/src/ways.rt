@@ -175,6 +175,21 @@ pub(crate) fn is_read_back(alloc: Global, image: &Image) -> bool {
     write(alloc, again.code()).is_ok_and(|other| other == text)
 }
 
+/// How many lines of the text of a case's code begin with a word, and how many there are.
+pub(crate) fn lines_with(alloc: Global, case: &Case<'_>, word: &str) -> Option<(u64, u64)> {
+    let image = compile(alloc, case.marked.source.as_str(), case.gang).ok()?;
+    let text = write(alloc, image.code()).ok()?;
+    let mut found = 0u64;
+    let mut lines = 0u64;
+    for line in text.as_str().split('\n') {
+        lines = lines.saturating_add(1);
+        if line.starts_with(word) {
+            found = found.saturating_add(1);
+        }
+    }
+    Some((found, lines))
+}
+
 fn reported(alloc: Global, report: Report) -> Result<Found, AllocError> {
     let ending = match (report.ending, &report.answer) {
         (Ending::Ended, Some(text)) => format!(in alloc; "ends {text}")?,

@@ -2,26 +2,31 @@
 use Rattle.std.proofs.Common.{◌≡◌, ◌≢◌, ℕ, ◌+◌, ◌*◌, ◌<◌, ◌≤◌, List, [], ◌∷◌, ◌++◌, length, Some, Bool, true, false, refl, sym, ap, ◌∙◌, subst, arith, length-append}
 use Rattle.std.specs.Prelude.{slice_get, not, if◌then◌else◌}
 use Rattle.isp_base.specs.Maps.{Lanes, on, where_true}
-use Rattle.isp_base.specs.Sets.{Mask, nobody, union, without, any}
+use Rattle.isp_base.specs.Sets.{Mask, nobody, union, without, any, all as all_of}
 use Rattle.isp_base.specs.declared.types.Rate.{Rate}
 use Rattle.isp_base.specs.declared.types.Rate.TheVariants.{Uniform, Varying}
 use Rattle.isp_code.specs.Conf.{Conf}
+use Rattle.isp_code.specs.Lines.{jumps}
 use Rattle.isp_code.specs.declared.instr.Instr.{Instr}
 use Rattle.isp_code.specs.declared.instr.Instr.TheVariants as instr
 use Rattle.isp_code.specs.declared.instr.JumpTest.TheVariants as jump
+use Rattle.isp_tree.specs.declared.stmt.Form.{Form}
+use Rattle.isp_tree.specs.declared.stmt.Form.TheVariants.{Plain, Coherent}
 use Rattle.isp_meaning.specs.State.{State}
 use Rattle.isp_meaning.specs.Payloads.{Payload, One, Each, is_true, kept_by}
 use Rattle.isp_meaning.specs.Outcomes.{Res, Went, Trapped, Cut, go_on, went_all, both_sides, unless_empty, if_so}
 use Rattle.isp_meaning.specs.Statements.{branches}
 use Rattle.isp_lower.specs.Code.{jump_off, guard}
-use Rattle.isp_lower.specs.Layout.{register}
+use Rattle.isp_lower.specs.Layout.{register, mask_register}
+use Rattle.isp_lower.specs.Runs.{Comes}
 use Rattle.isp_lower.specs.Setting.{Setting, IsSettled, gang_of, AreAt, At, Stands, Holds}
 use Rattle.isp_lower.proofs.Lemmas.{are_front, are_back, put_same, put_other, comes_none, comes_on, step_go, at_to, spares_all, spares_less, spares_on, failed_after, stopped_after, failed_less, stopped_less, jumped, jump_comes, jump_at, masked, where_comes, others_comes, masked_at, any_nobody, where_inside, at_kept}
+use Rattle.isp_masks.specs.Loops.{copy_mask, jump_all}
 use Rattle.isp_masks.specs.Sets.{unite}
-use Rattle.isp_masks.specs.Statements.{parted_code, if_code, if_else_code}
-use Rattle.isp_masks.specs.Spots.{Spot, under}
+use Rattle.isp_masks.specs.Statements.{parted_code, wide_code, if_code, if_else_code}
+use Rattle.isp_masks.specs.Spots.{Spot, under, widely}
 use Rattle.isp_masks.specs.StmtRuns.{AreThree, EntersAt, Inside, StmtOk, StmtRuns}
-use Rattle.isp_masks.proofs.Unions.{union_nobody, union_assoc, without_nobody, without_self, below_without}
+use Rattle.isp_masks.proofs.Unions.{union_nobody, union_assoc, without_nobody, without_self, without_full, below_without}
 use Rattle.isp_masks.proofs.Combine.{part_spot, stmt_after, go_runs, plain_ok, jump_after, guard_runs}
 
 -- ---- one value chooses as two parts do
@@ -189,6 +194,237 @@ module _ (w : Setting) (ready : IsSettled w) where
           join (Trapped t s') r = failed_after w ready c2 ok.conf ok.steps (2 + q) t s' ok.comes (failed_less w ready ok.conf 1 (ok.steps + (2 + q)) t s' r)
           join (Cut s') r = stopped_after w ready w.turns c2 ok.conf ok.steps (2 + q) s' ok.comes (stopped_less w ready w.turns ok.conf 1 (ok.steps + (2 + q)) s' r)
 
+  -- ---- in lanes, in a c-form
+
+  pub wide_runs : (x pc : ℕ) (spot : Spot) (q : ℕ) (a : Mask) (m : Payload) (s : State) (c : Conf) (first rest : ℕ → List Instr) (va vb : Mask → State → Res) → At w c pc → c.masks spot.on ≡ a → any (gang_of w) a ≡ true → Inside w a → Stands w s c → Holds Varying a x m c → 7 + q ≤ 32 * s.work → AreThree spot → AreAt w.routine.code pc (wide_code x pc spot.on spot.slot first rest) → ((T : Mask) (s1 : State) (c1 : Conf) (pc1 z : ℕ) → AreThree (widely spot.on spot) → AreAt w.routine.code pc1 (first pc1) → EntersAt w pc1 (widely spot.on spot) T s1 c1 z → StmtRuns w w.turns c1 (pc1 + length (first pc1)) (widely spot.on spot) z (va T s1)) → ((F : Mask) (s1 : State) (c1 : Conf) (pc1 z : ℕ) → AreThree (widely (spot.slot + 1) spot) → AreAt w.routine.code pc1 (rest pc1) → At w c1 pc1 → c1.masks (spot.slot + 1) ≡ F → Inside w F → Stands w s1 c1 → 1 + z ≤ 32 * s1.work → StmtRuns w w.turns c1 (pc1 + length (rest pc1)) (widely (spot.slot + 1) spot) z (unless_empty (gang_of w) F s1 vb)) → StmtRuns w w.turns c (pc + length (wide_code x pc spot.on spot.slot first rest)) spot q (branches (gang_of w) a va vb m s)
+  wide_runs x pc spot q a m s c first rest va vb at em some inside st hold le three has fa fb =
+      subst (λ v. StmtRuns w w.turns c end spot q v) (sym (branches_parts (gang_of w) a va vb m s some ∙ ap (λ z. both_sides (unless_empty (gang_of w) z s va) (λ s1. unless_empty (gang_of w) (without a z) s1 vb)) kept))
+      (stmt_after w ready w.turns c c3 3 end spot q _ comes (spares_all w n c) others three
+      (go_runs w ready w.turns c3 p2 (widely k spot) 3 (3 + q) (unless_empty (gang_of w) T s va) _ end spot begin second))
+    where
+      k : ℕ
+      k = spot.on
+
+      n : ℕ
+      n = spot.slot
+
+      v : Lanes
+      v = c.vectors x
+
+      T : Mask
+      T = where_true is_true (on a v)
+
+      F : Mask
+      F = without a T
+
+      kept : kept_by is_true a m ≡ T
+      kept = at_kept Varying a is_true m ∙ ap (kept_by is_true a) hold
+
+      inside_t : Inside w T
+      inside_t = where_inside (gang_of w) a is_true v inside
+
+      t1 : Mask
+      t1 = where_true is_true (on (c.masks k) (c.vectors x))
+
+      c1 : Conf
+      c1 = masked w ready c n t1
+
+      f2 : Mask
+      f2 = without (c1.masks k) (c1.masks n)
+
+      c2 : Conf
+      c2 = masked w ready c1 (n + 1) f2
+
+      c3 : Conf
+      c3 = masked w ready c2 k (c2.masks n)
+
+      kn : k ≢ n
+      kn = omega (arith, three.low_on)
+
+      ks : k ≢ n + 1
+      ks = omega (arith, three.low_on)
+
+      nk : n ≢ k
+      nk = omega (arith, three.low_on)
+
+      sk : n + 1 ≢ k
+      sk = omega (arith, three.low_on)
+
+      ns : n ≢ n + 1
+      ns = omega arith
+
+      sn : n + 1 ≢ n
+      sn = omega arith
+
+      nco : n ≢ spot.continued
+      nco = omega (arith, three.low_continued)
+
+      nrr : n ≢ spot.returned
+      nrr = omega (arith, three.low_returned)
+
+      sco : n + 1 ≢ spot.continued
+      sco = omega (arith, three.low_continued)
+
+      srr : n + 1 ≢ spot.returned
+      srr = omega (arith, three.low_returned)
+
+      cok : spot.continued ≢ k
+      cok = λ e. three.on_continued (sym e)
+
+      rrk : spot.returned ≢ k
+      rrk = λ e. three.on_returned (sym e)
+
+      at1 : At w c1 (pc + 1)
+      at1 = masked_at w ready c pc n t1 at
+
+      at2 : At w c2 (pc + 1 + 1)
+      at2 = masked_at w ready c1 (pc + 1) (n + 1) f2 at1
+
+      at3 : At w c3 (pc + 1 + 1 + 1)
+      at3 = masked_at w ready c2 (pc + 1 + 1) k (c2.masks n) at2
+
+      copied : Comes w c2 1 c3
+      copied = step_go w c2 (pc + 1 + 1) (copy_mask k n) c3 ready at2 has.1.1.0 refl
+
+      comes : Comes w c 3 c3
+      comes = comes_on w c c1 c3 1 2 (where_comes w ready c pc n x k at has.0) (comes_on w c1 c2 c3 1 1 (others_comes w ready c1 (pc + 1) (n + 1) k n at1 has.1.0) copied)
+
+      others : (r : ℕ) → r < n → r ≢ k → c3.masks r ≡ c.masks r
+      others r lt ne =
+          let rn : r ≢ n = omega arith in
+          let rs : r ≢ n + 1 = omega arith in
+          put_other c2.masks k (c2.masks n) r ne ∙ put_other c1.masks (n + 1) f2 r rs ∙ put_other c.masks n t1 r rn
+
+      t_is1 : c1.masks n ≡ T
+      t_is1 = put_same c.masks n t1 ∙ ap (λ z. where_true is_true (on z v)) em
+
+      t_is2 : c2.masks n ≡ T
+      t_is2 = put_other c1.masks (n + 1) f2 n ns ∙ t_is1
+
+      t_is : c3.masks n ≡ T
+      t_is = put_other c2.masks k (c2.masks n) n nk ∙ t_is2
+
+      k_is : c3.masks k ≡ T
+      k_is = put_same c2.masks k (c2.masks n) ∙ t_is2
+
+      f_is : c3.masks (n + 1) ≡ F
+      f_is = put_other c2.masks k (c2.masks n) (n + 1) sk ∙ put_same c1.masks (n + 1) f2 ∙ ap (λ z. without z (c1.masks n)) (put_other c.masks n t1 k kn ∙ em) ∙ ap (without a) t_is1
+
+      three_k : AreThree (widely k spot)
+      three_k = record { low_on = omega (arith, three.low_on); low_continued = omega (arith, three.low_continued); low_returned = omega (arith, three.low_returned); on_continued = three.on_continued; on_returned = three.on_returned; continued_returned = three.continued_returned }
+
+      three_s : AreThree (widely (n + 1) spot)
+      three_s = record { low_on = omega arith; low_continued = omega (arith, three.low_continued); low_returned = omega (arith, three.low_returned); on_continued = sco; on_returned = srr; continued_returned = three.continued_returned }
+
+      p1 : ℕ
+      p1 = pc + 1 + 1 + 1
+
+      side : List Instr
+      side = guard (jump_off k) p1 first
+
+      p2 : ℕ
+      p2 = p1 + length side
+
+      join : ℕ → List Instr
+      join pc2 = rest pc2 ++ unite k k (n + 1) ∷ []
+
+      last : List Instr
+      last = guard (jump_all n) p2 join
+
+      out : ℕ
+      out = p2 + 1 + length (join (p2 + 1))
+
+      p4 : ℕ
+      p4 = p2 + 1 + length (rest (p2 + 1))
+
+      end : ℕ
+      end = pc + length (wide_code x pc k n first rest)
+
+      at_side : AreAt w.routine.code p1 side
+      at_side = are_front w.routine.code p1 side last has.1.1.1
+
+      at_last : AreAt w.routine.code p2 last
+      at_last = are_back w.routine.code p1 side last has.1.1.1
+
+      at_rest : AreAt w.routine.code (p2 + 1) (rest (p2 + 1))
+      at_rest = are_front w.routine.code (p2 + 1) (rest (p2 + 1)) (unite k k (n + 1) ∷ []) at_last.1
+
+      at_unite : slice_get w.routine.code p4 ≡ Some (unite k k (n + 1))
+      at_unite = (are_back w.routine.code (p2 + 1) (rest (p2 + 1)) (unite k k (n + 1) ∷ []) at_last.1).0
+
+      out_is : out ≡ end
+      out_is = omega (arith, length-append side last)
+
+      ends : p4 + 1 ≡ end
+      ends = omega (arith, length-append side last, length-append (rest (p2 + 1)) (unite k k (n + 1) ∷ []))
+
+      begin : StmtRuns w w.turns c3 p2 (widely k spot) (3 + (3 + q)) (unless_empty (gang_of w) T s va)
+      begin = guard_runs w ready w.turns p1 (widely k spot) (3 + (3 + q)) T s c3 first va at3 k_is inside_t st (omega (arith, le)) three_k at_side (λ c4 z en. fa T s c4 (p1 + 1) z three_k at_side.1 en)
+
+      second : (s1 : State) (g b ct rt : Mask) → unless_empty (gang_of w) T s va ≡ Went s1 g b ct rt → StmtOk w c3 p2 (widely k spot) (3 + (3 + q)) s1 g ct rt → StmtRuns w w.turns c3 end spot (3 + q) (go_on (unless_empty (gang_of w) F s1 vb) (λ s' g' b' c' r'. Went s' (union g g') (union b b') (union ct c') (union rt r')))
+      second s1 g b ct rt ev ok = go (all_of (gang_of w) T) refl
+        where
+          e : ℕ
+          e = ok.steps + 1
+
+          c4 : Conf
+          c4 = jumped w ready ok.conf jump.All (mask_register n) out
+
+          comes4 : Comes w c3 e c4
+          comes4 = comes_on w c3 ok.conf c4 ok.steps 1 ok.comes (jump_comes w ready ok.conf p2 jump.All (mask_register n) out ok.at at_last.0)
+
+          full_is : (f : Bool) → all_of (gang_of w) T ≡ f → jumps w.code w.routine ok.conf jump.All (mask_register n) ≡ f
+          full_is f h = ap (all_of (gang_of w)) (ok.masks n (omega arith) nk nco nrr ∙ t_is) ∙ h
+
+          at4 : (f : Bool) → all_of (gang_of w) T ≡ f → At w c4 (if f then out else p2 + 1)
+          at4 f h = jump_at w ready ok.conf p2 jump.All (mask_register n) out f ok.at (full_is f h)
+
+          -- nobody is left where all lanes passed the test
+          skipped : all_of (gang_of w) T ≡ true → unless_empty (gang_of w) F s1 vb ≡ Went s1 nobody nobody nobody nobody
+          skipped h = ap (λ z. unless_empty (gang_of w) z s1 vb) (without_full (gang_of w) a T h inside) ∙ ap (λ z. if_so z (vb nobody) (went_all nobody) s1) (any_nobody (gang_of w))
+
+          all_passed : all_of (gang_of w) T ≡ true → StmtOk w c3 end spot (3 + q) s1 (union g nobody) (union ct nobody) (union rt nobody)
+          all_passed h = record {
+            conf = c4;
+            steps = e;
+            comes = comes4;
+            at = at_to w c4 out end (at4 true h) out_is;
+            stands = ok.stands;
+            spares = spares_less w n (n + 1 + 1) c3 c4 (omega arith) ok.spares;
+            went = ok.went ∙ sym (union_nobody g);
+            continued = ok.continued ∙ ap (union (c3.masks spot.continued)) (sym (union_nobody ct));
+            returned = ok.returned ∙ ap (union (c3.masks spot.returned)) (sym (union_nobody rt));
+            masks = λ i lt ik ic ir. ok.masks i (omega arith) ik ic ir;
+            bound = omega (arith, ok.bound);
+          }
+
+          joined : (u : Res) → StmtRuns w w.turns c4 p4 (widely (n + 1) spot) (1 + (e + (3 + q))) u → StmtRuns w w.turns c3 end spot (3 + q) (go_on u (λ s' g' b' c' r'. Went s' (union g g') (union b b') (union ct c') (union rt r')))
+          joined (Went s' g' b' c' r') r = record {
+            conf = c6;
+            steps = e + (r.steps + 1);
+            comes = comes_on w c3 c4 c6 e (r.steps + 1) comes4 (comes_on w c4 c5 c6 r.steps 1 r.comes (step_go w c5 p4 (unite k k (n + 1)) c6 ready r.at at_unite refl));
+            at = at_to w c6 (p4 + 1) end (masked_at w ready c5 p4 k (union (c5.masks k) (c5.masks (n + 1))) r.at) ends;
+            stands = r.stands;
+            spares = spares_less w n (n + 1 + 1) c3 c5 (omega arith) (spares_on w (n + 1 + 1) c3 c4 c5 ok.spares r.spares);
+            went = put_same c5.masks k _ ∙ ap (λ z. union z (c5.masks (n + 1))) (r.masks k (omega (arith, three.low_on)) ks three.on_continued three.on_returned ∙ ok.went) ∙ ap (union g) r.went;
+            continued = put_other c5.masks k _ spot.continued cok ∙ r.continued ∙ ap (λ z. union z c') ok.continued ∙ union_assoc (c3.masks spot.continued) ct c';
+            returned = put_other c5.masks k _ spot.returned rrk ∙ r.returned ∙ ap (λ z. union z r') ok.returned ∙ union_assoc (c3.masks spot.returned) rt r';
+            masks = λ i lt ik ic ir. let i_s : i ≢ n + 1 = omega arith in put_other c5.masks k _ i ik ∙ r.masks i (omega arith) i_s ic ir ∙ ok.masks i (omega arith) ik ic ir;
+            bound = omega (arith, r.bound);
+          }
+            where
+              c5 : Conf
+              c5 = r.conf
+
+              c6 : Conf
+              c6 = masked w ready c5 k (union (c5.masks k) (c5.masks (n + 1)))
+          joined (Trapped t s') r = failed_after w ready c3 c4 e (3 + q) t s' comes4 (failed_less w ready c4 1 (e + (3 + q)) t s' r)
+          joined (Cut s') r = stopped_after w ready w.turns c3 c4 e (3 + q) s' comes4 (stopped_less w ready w.turns c4 1 (e + (3 + q)) s' r)
+
+          go : (f : Bool) → all_of (gang_of w) T ≡ f → StmtRuns w w.turns c3 end spot (3 + q) (go_on (unless_empty (gang_of w) F s1 vb) (λ s' g' b' c' r'. Went s' (union g g') (union b b') (union ct c') (union rt r')))
+          go true h = subst (λ u. StmtRuns w w.turns c3 end spot (3 + q) (go_on u (λ s' g' b' c' r'. Went s' (union g g') (union b b') (union ct c') (union rt r')))) (sym (skipped h)) (all_passed h)
+          go false h = joined (unless_empty (gang_of w) F s1 vb) (fb F s1 c4 (p2 + 1) (1 + (e + (3 + q))) three_s at_rest (at4 false h) (ok.masks (n + 1) (omega arith) sk sco srr ∙ f_is) (below_without (gang_of w) a T inside) ok.stands (omega (arith, ok.bound)))
+
   -- ---- by a jump
 
   -- the jump by a test, to either side
@@ -196,11 +432,11 @@ module _ (w : Setting) (ready : IsSettled w) where
   test_at c pc x to b at e = jump_at w ready c pc jump.False (register Uniform x) to (not b) at (ap not e)
 
   -- what a part is asked: it runs for a mask that has members, at the slots that the test leaves
-  abbrev pub PartRuns : Rate → Spot → (ℕ → Spot → List Instr) → (Mask → State → Res) → Type 0
-  PartRuns r spot code v = (j : ℕ) (T : Mask) (s : State) (c : Conf) (pc z : ℕ) → AreThree (part_spot r j spot) → AreAt w.routine.code pc (code pc (part_spot r j spot)) → EntersAt w pc (part_spot r j spot) T s c z → StmtRuns w w.turns c (pc + length (code pc (part_spot r j spot))) (part_spot r j spot) z (v T s)
+  abbrev pub PartRuns : Form → Rate → Spot → (ℕ → Spot → List Instr) → (Mask → State → Res) → Type 0
+  PartRuns f r spot code v = (j : ℕ) (T : Mask) (s : State) (c : Conf) (pc z : ℕ) → AreThree (part_spot f r j spot) → AreAt w.routine.code pc (code pc (part_spot f r j spot)) → EntersAt w pc (part_spot f r j spot) T s c z → StmtRuns w w.turns c (pc + length (code pc (part_spot f r j spot))) (part_spot f r j spot) z (v T s)
 
-  pub if_runs : (r : Rate) (x pc : ℕ) (spot : Spot) (q : ℕ) (a : Mask) (m : Payload) (s : State) (c : Conf) (first : ℕ → Spot → List Instr) (va : Mask → State → Res) → At w c pc → c.masks spot.on ≡ a → any (gang_of w) a ≡ true → Inside w a → Stands w s c → Holds r a x m c → 5 + q ≤ 32 * s.work → AreThree spot → AreAt w.routine.code pc (if_code r x pc spot first) → PartRuns r spot first va → StmtRuns w w.turns c (pc + length (if_code r x pc spot first)) spot q (branches (gang_of w) a va went_all m s)
-  if_runs Uniform x pc spot q a m s c first va at em some inside st hold le three has fa =
+  pub if_runs : (f : Form) (r : Rate) (x pc : ℕ) (spot : Spot) (q : ℕ) (a : Mask) (m : Payload) (s : State) (c : Conf) (first : ℕ → Spot → List Instr) (va : Mask → State → Res) → At w c pc → c.masks spot.on ≡ a → any (gang_of w) a ≡ true → Inside w a → Stands w s c → Holds r a x m c → 7 + q ≤ 32 * s.work → AreThree spot → AreAt w.routine.code pc (if_code f r x pc spot first) → PartRuns f r spot first va → StmtRuns w w.turns c (pc + length (if_code f r x pc spot first)) spot q (branches (gang_of w) a va went_all m s)
+  if_runs f Uniform x pc spot q a m s c first va at em some inside st hold le three has fa =
       subst (λ z. StmtRuns w w.turns c end spot q (branches (gang_of w) a va went_all z s)) (sym hold)
       (stmt_after w ready w.turns c c4 1 end spot q _ (jump_comes w ready c pc jump.False (register Uniform x) to at has.0) (spares_all w spot.slot c) (λ r lt ne. refl) three (go (is_true (c.scalars x)) refl))
     where
@@ -208,7 +444,7 @@ module _ (w : Setting) (ready : IsSettled w) where
       to = pc + 1 + length (first (pc + 1) spot)
 
       end : ℕ
-      end = pc + length (if_code Uniform x pc spot first)
+      end = pc + length (if_code f Uniform x pc spot first)
 
       ends : to ≡ end
       ends = omega arith
@@ -219,15 +455,21 @@ module _ (w : Setting) (ready : IsSettled w) where
       go : (b : Bool) → is_true (c.scalars x) ≡ b → StmtRuns w w.turns c4 end spot (1 + q) (if_so b (va a) (went_all a) s)
       go true e = subst (λ z. StmtRuns w w.turns c4 z spot (1 + q) (va a s)) ends (fa spot.on a s c4 (pc + 1) (1 + q) three has.1 (record { at = test_at c pc x to true at e; mask = em; some = some; inside = inside; stands = st; used = omega (arith, le); low = three.low_on }))
       go false e = plain_ok w ready c4 c4 0 end spot (1 + q) a s (comes_none w c4) (at_to w c4 to end (test_at c pc x to false at e) ends) st (spares_all w spot.slot c4) (λ r h. refl) three em (omega (arith, le))
-  if_runs Varying x pc spot q a m s c first va at em some inside st hold le three has fa =
-      parted_runs x pc spot q a m s c (λ pc1. first pc1 (under spot.slot spot)) (λ pc1. []) va went_all at em some inside st hold le three has (λ T s1 c1 pc1 z th h en. fa spot.slot T s1 c1 pc1 z th h en)
+  if_runs Plain Varying x pc spot q a m s c first va at em some inside st hold le three has fa =
+      parted_runs x pc spot q a m s c (λ pc1. first pc1 (under spot.slot spot)) (λ pc1. []) va went_all at em some inside st hold (omega (arith, le)) three has (λ T s1 c1 pc1 z th h en. fa spot.slot T s1 c1 pc1 z th h en)
       (λ F s1 c1 pc1 z th h at1 em1 in1 st1 le1.
       let e : pc1 ≡ pc1 + 0 = omega arith in
       subst (λ v. StmtRuns w w.turns c1 (pc1 + 0) (under spot.on spot) z v) (nobody_left (gang_of w) F s1)
       (plain_ok w ready c1 c1 0 (pc1 + 0) (under spot.on spot) z F s1 (comes_none w c1) (at_to w c1 pc1 (pc1 + 0) at1 e) st1 (spares_all w (spot.slot + 1) c1) (λ r lt. refl) th em1 (omega (arith, le1))))
+  if_runs Coherent Varying x pc spot q a m s c first va at em some inside st hold le three has fa =
+      wide_runs x pc spot q a m s c (λ pc1. first pc1 (widely spot.on spot)) (λ pc1. []) va went_all at em some inside st hold le three has (λ T s1 c1 pc1 z th h en. fa spot.on T s1 c1 pc1 z th h en)
+      (λ F s1 c1 pc1 z th h at1 em1 in1 st1 le1.
+      let e : pc1 ≡ pc1 + 0 = omega arith in
+      subst (λ v. StmtRuns w w.turns c1 (pc1 + 0) (widely (spot.slot + 1) spot) z v) (nobody_left (gang_of w) F s1)
+      (plain_ok w ready c1 c1 0 (pc1 + 0) (widely (spot.slot + 1) spot) z F s1 (comes_none w c1) (at_to w c1 pc1 (pc1 + 0) at1 e) st1 (spares_all w (spot.slot + 1 + 1) c1) (λ r lt. refl) th em1 (omega (arith, le1))))
 
-  pub if_else_runs : (r : Rate) (x pc : ℕ) (spot : Spot) (q : ℕ) (a : Mask) (m : Payload) (s : State) (c : Conf) (first second : ℕ → Spot → List Instr) (va vb : Mask → State → Res) → At w c pc → c.masks spot.on ≡ a → any (gang_of w) a ≡ true → Inside w a → Stands w s c → Holds r a x m c → 5 + q ≤ 32 * s.work → AreThree spot → AreAt w.routine.code pc (if_else_code r x pc spot first second) → PartRuns r spot first va → PartRuns r spot second vb → StmtRuns w w.turns c (pc + length (if_else_code r x pc spot first second)) spot q (branches (gang_of w) a va vb m s)
-  if_else_runs Uniform x pc spot q a m s c first second va vb at em some inside st hold le three has fa fb =
+  pub if_else_runs : (f : Form) (r : Rate) (x pc : ℕ) (spot : Spot) (q : ℕ) (a : Mask) (m : Payload) (s : State) (c : Conf) (first second : ℕ → Spot → List Instr) (va vb : Mask → State → Res) → At w c pc → c.masks spot.on ≡ a → any (gang_of w) a ≡ true → Inside w a → Stands w s c → Holds r a x m c → 7 + q ≤ 32 * s.work → AreThree spot → AreAt w.routine.code pc (if_else_code f r x pc spot first second) → PartRuns f r spot first va → PartRuns f r spot second vb → StmtRuns w w.turns c (pc + length (if_else_code f r x pc spot first second)) spot q (branches (gang_of w) a va vb m s)
+  if_else_runs f Uniform x pc spot q a m s c first second va vb at em some inside st hold le three has fa fb =
       subst (λ z. StmtRuns w w.turns c end spot q (branches (gang_of w) a va vb z s)) (sym hold)
       (stmt_after w ready w.turns c c4 1 end spot q _ (jump_comes w ready c pc jump.False (register Uniform x) pb at has.0) (spares_all w spot.slot c) (λ r lt ne. refl) three (go (is_true (c.scalars x)) refl))
     where
@@ -241,7 +483,7 @@ module _ (w : Setting) (ready : IsSettled w) where
       to = pb + length (second pb spot)
 
       end : ℕ
-      end = pc + length (if_else_code Uniform x pc spot first second)
+      end = pc + length (if_else_code f Uniform x pc spot first second)
 
       ends : to ≡ end
       ends = omega (arith, length-append ca (instr.Jump to ∷ second pb spot))
@@ -257,6 +499,9 @@ module _ (w : Setting) (ready : IsSettled w) where
           subst (λ z. StmtRuns w w.turns c4 z spot (1 + q) (va a s)) ends
           (jump_after w ready w.turns c4 (pc + 1 + length ca) to spot (1 + q) (va a s) at2.0 (fa spot.on a s c4 (pc + 1) (1 + (1 + q)) three (are_front w.routine.code (pc + 1) ca (instr.Jump to ∷ second pb spot) has.1) (record { at = test_at c pc x pb true at e; mask = em; some = some; inside = inside; stands = st; used = omega (arith, le); low = three.low_on })))
       go false e = subst (λ z. StmtRuns w w.turns c4 z spot (1 + q) (vb a s)) ends (fb spot.on a s c4 pb (1 + q) three at2.1 (record { at = test_at c pc x pb false at e; mask = em; some = some; inside = inside; stands = st; used = omega (arith, le); low = three.low_on }))
-  if_else_runs Varying x pc spot q a m s c first second va vb at em some inside st hold le three has fa fb =
-      parted_runs x pc spot q a m s c (λ pc1. first pc1 (under spot.slot spot)) (λ pc1. guard (jump_off spot.on) pc1 (λ pc2. second pc2 (under spot.on spot))) va vb at em some inside st hold le three has (λ T s1 c1 pc1 z th h en. fa spot.slot T s1 c1 pc1 z th h en)
+  if_else_runs Plain Varying x pc spot q a m s c first second va vb at em some inside st hold le three has fa fb =
+      parted_runs x pc spot q a m s c (λ pc1. first pc1 (under spot.slot spot)) (λ pc1. guard (jump_off spot.on) pc1 (λ pc2. second pc2 (under spot.on spot))) va vb at em some inside st hold (omega (arith, le)) three has (λ T s1 c1 pc1 z th h en. fa spot.slot T s1 c1 pc1 z th h en)
       (λ F s1 c1 pc1 z th h at1 em1 in1 st1 le1. guard_runs w ready w.turns pc1 (under spot.on spot) z F s1 c1 (λ pc2. second pc2 (under spot.on spot)) vb at1 em1 in1 st1 le1 th h (λ c2 z2 en. fb spot.on F s1 c2 (pc1 + 1) z2 th h.1 en))
+  if_else_runs Coherent Varying x pc spot q a m s c first second va vb at em some inside st hold le three has fa fb =
+      wide_runs x pc spot q a m s c (λ pc1. first pc1 (widely spot.on spot)) (λ pc1. guard (jump_off (spot.slot + 1)) pc1 (λ pc2. second pc2 (widely (spot.slot + 1) spot))) va vb at em some inside st hold le three has (λ T s1 c1 pc1 z th h en. fa spot.on T s1 c1 pc1 z th h en)
+      (λ F s1 c1 pc1 z th h at1 em1 in1 st1 le1. guard_runs w ready w.turns pc1 (widely (spot.slot + 1) spot) z F s1 c1 (λ pc2. second pc2 (widely (spot.slot + 1) spot)) vb at1 em1 in1 st1 le1 th h (λ c2 z2 en. fb (spot.slot + 1) F s1 c2 (pc1 + 1) z2 th h.1 en))

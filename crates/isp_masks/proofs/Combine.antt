@@ -8,22 +8,23 @@ use Rattle.isp_code.specs.Lines.{jumps}
 use Rattle.isp_code.specs.declared.instr.Instr.{Instr}
 use Rattle.isp_code.specs.declared.instr.Instr.TheVariants as instr
 use Rattle.isp_code.specs.declared.instr.JumpTest.TheVariants as jump
+use Rattle.isp_tree.specs.declared.stmt.Form.{Form}
 use Rattle.isp_meaning.specs.State.{State}
 use Rattle.isp_meaning.specs.Outcomes.{Val, Gives, Fails, Stops, Done, Res, Went, Trapped, Cut, with_value, go_on, went_all, unless_empty, if_so}
 use Rattle.isp_meaning.specs.Statements.{all_go}
-use Rattle.isp_lower.specs.Asks.{first_slot}
 use Rattle.isp_lower.specs.Code.{guard, jump_off}
 use Rattle.isp_lower.specs.Layout.{mask_register}
 use Rattle.isp_lower.specs.Runs.{Comes, Ok, Runs, DoneRuns}
 use Rattle.isp_lower.specs.Setting.{Setting, IsSettled, gang_of, AreAt, At, Stands, Spares}
 use Rattle.isp_lower.proofs.Lemmas.{comes_none, comes_on, step_go, at_to, spares_all, spares_on, failed_after, stopped_after, failed_less, stopped_less, jumped, jump_comes, jump_at}
+use Rattle.isp_masks.specs.Asks.{part_slot}
 use Rattle.isp_masks.specs.Spots.{Spot}
 use Rattle.isp_masks.specs.StmtRuns.{AreThree, EntersAt, Inside, StmtOk, StmtRuns}
 use Rattle.isp_masks.proofs.Unions.{union_nobody}
 
--- a part behind a test of a rate: behind a varying one it keeps a slot
-abbrev pub part_spot : Rate → ℕ → Spot → Spot
-part_spot r k spot = record spot { on = k; slot = first_slot r spot.slot }
+-- a part behind a test of a rate: behind a varying one it keeps a slot, in a c-form two
+abbrev pub part_spot : Form → Rate → ℕ → Spot → Spot
+part_spot f r k spot = record spot { on = k; slot = part_slot f r spot.slot }
 
 module _ (w : Setting) (ready : IsSettled w) where
   -- ---- a stretch before

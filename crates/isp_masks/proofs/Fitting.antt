@@ -5,13 +5,13 @@ use Rattle.isp_base.specs.declared.types.Rate.{Rate}
 use Rattle.isp_base.specs.declared.types.Rate.TheVariants.{Uniform, Varying}
 use Rattle.isp_base.specs.declared.types.Ty.{Ty}
 use Rattle.isp_typed.specs.Typed.{TExpr, t_exprs, type_of, TSimple, TFirst, t_first_declare, t_first_simple, TRange, TStmt, t_block, t_declare, t_simple, t_if, t_if_else, t_while, t_do, t_for, t_foreach, t_foreach_active, t_unmasked, t_jump, t_return, t_print, t_assert, TBlock, t_braces, TStmts, t_no_stmts, t_stmt_then}
-use Rattle.isp_lower.specs.Asks.{Ask, first_slot}
+use Rattle.isp_lower.specs.Asks.{Ask}
 use Rattle.isp_lower.specs.Fits.{InTable}
 use Rattle.isp_lower.specs.Rated.{Reaches}
 use Rattle.isp_lower.specs.Setting.{Setting}
 use Rattle.isp_lower.proofs.Lemmas.{ExprTree, OperandTree, expr_fits, operand_fits, values_fit, simple_fits, items_fit}
 use Rattle.isp_masks.specs.Prints.{own_rates}
-use Rattle.isp_masks.specs.Asks.{answer_asks, bound_asks, bounds_asks, places_asks, ranges_asks, first_asks, test_part_asks, step_asks, stmt_asks, block_asks, stmts_asks}
+use Rattle.isp_masks.specs.Asks.{answer_asks, bound_asks, bounds_asks, places_asks, ranges_asks, part_slot, first_asks, test_part_asks, step_asks, stmt_asks, block_asks, stmts_asks}
 use Rattle.isp_masks.specs.Ranges.{places_slot, runs_slot}
 use Rattle.isp_masks.specs.Fits.{StmtFits, BlockFits}
 use Rattle.isp_masks.proofs.Parts.{AnswerFits, BoundParts, BoundsParts, RangesTyped, ForeachFits, FirstFits, TestFits, StepFits, StmtParts, BlockParts, StmtsParts}
@@ -69,8 +69,8 @@ module _ (w : Setting) where
     stmt_fits (t_block b) n t i = block_fits b n t i
     stmt_fits (t_declare xs sp) n t i = items_fit w xs n t i
     stmt_fits (t_simple x sp) n t i = simple_fits w x n t i
-    stmt_fits (t_if f g e x sp) n t i = (expr_fits w e n t.0 i.0, stmt_fits x (first_slot (type_of e).rate n) t.1 i.1.1)
-    stmt_fits (t_if_else f g e x y sp) n t i = (expr_fits w e n t.0 i.0, stmt_fits x (first_slot (type_of e).rate n) t.1 i.1.1.0, stmt_fits y (first_slot (type_of e).rate n) t.2 i.1.1.1)
+    stmt_fits (t_if f g e x sp) n t i = (expr_fits w e n t.0 i.0, stmt_fits x (part_slot f (type_of e).rate n) t.1 i.1.1)
+    stmt_fits (t_if_else f g e x y sp) n t i = (expr_fits w e n t.0 i.0, stmt_fits x (part_slot f (type_of e).rate n) t.1 i.1.1.0, stmt_fits y (part_slot f (type_of e).rate n) t.2 i.1.1.1)
     stmt_fits (t_while f g e x sp) n t i = (expr_fits w e (n + 3) t.0.0 i.1.0, stmt_fits x (n + 3) t.1 i.1.1)
     stmt_fits (t_do f g x e sp) n t i = (expr_fits w e (n + 3) t.0.0 i.1.1, stmt_fits x (n + 3) t.1 i.1.0)
     stmt_fits (t_for f g first e step z x sp) n t i =

@@ -1,5 +1,5 @@
 -- The code of a loop does what the loop means, where the code of its body does.
-use Rattle.std.proofs.Common.{◌≡◌, ℕ, ◌+◌, ◌≤◌, List, ◌++◌, length, Option, Some, None, refl, sym, ◌∙◌, subst, arith, length-append}
+use Rattle.std.proofs.Common.{false, ◌≡◌, ℕ, ◌+◌, ◌≤◌, List, ◌++◌, length, Option, Some, None, refl, sym, ◌∙◌, subst, arith, length-append}
 use Rattle.isp_base.specs.Sets.{Mask, nobody}
 use Rattle.isp_base.specs.Types.{gang_width}
 use Rattle.isp_base.specs.declared.types.Span.{Span}
@@ -23,7 +23,7 @@ use Rattle.isp_lower.proofs.Lemmas.{are_front, are_back, comes_none, at_to, spar
 use Rattle.isp_masks.specs.Exits.{exits_of, all_go_on, nobody_leaves, only_returns}
 use Rattle.isp_masks.specs.Fors.{first_code, step_code, first_places, step_places}
 use Rattle.isp_masks.specs.LoopRuns.{TestRuns, BodyRuns, StepRuns, IsBody, LoopsRun}
-use Rattle.isp_masks.specs.Loops.{for_code, endless_code}
+use Rattle.isp_masks.specs.Loops.{is_wide, for_code, endless_code}
 use Rattle.isp_masks.specs.Named.{Named}
 use Rattle.isp_masks.specs.Spots.{Numbers, Spot, body_spot, past}
 use Rattle.isp_masks.specs.Statements.{stmt_places, stmt_code}
@@ -97,7 +97,8 @@ module _ (w : Setting) (ready : IsSettled w) where
   while_runs f g e x sp r pc z spot q a s c fit has names three b =
       let pe = expr_places w.layout e in
       let n = spot.slot in
-      let l : LoopsRun w (exits_of x) spot a = loops_run w ready (exits_of x) spot a three in
+      let wide = is_wide f (type_of e).rate in
+      let l : LoopsRun w wide (exits_of x) spot a = loops_run w ready wide (exits_of x) spot a three in
       set_aside w ready (nobody_leaves (only_returns (exits_of x))) c _ spot q _
       (l.while_loop (type_of e).rate (found w.layout e (n + 3)) pc q s c _ _ _ _ (test_runs e n z.place fit.0 (are_front w.code.places z.place pe _ names.places_are)) (body_runs x n (past pe z) r fit.1 (named_past w.code z pe _ _ names)) (is_body x) has b)
 
@@ -105,7 +106,8 @@ module _ (w : Setting) (ready : IsSettled w) where
   do_runs f g x e sp r pc z spot q a s c fit has names three b =
       let px = stmt_places w.layout x in
       let n = spot.slot in
-      let l : LoopsRun w (exits_of x) spot a = loops_run w ready (exits_of x) spot a three in
+      let wide = is_wide f (type_of e).rate in
+      let l : LoopsRun w wide (exits_of x) spot a = loops_run w ready wide (exits_of x) spot a three in
       set_aside w ready (nobody_leaves (only_returns (exits_of x))) c _ spot q _
       (l.do_loop (type_of e).rate (found w.layout e (n + 3)) pc q (tick s) c _ _ _ _ (test_runs e n (z.place + length px) fit.0 (are_back w.code.places z.place px _ names.places_are)) (body_runs x n z r fit.1 (named_before w.code z px _ _ names)) (is_body x) has (enters_part w ready pc spot.on n (3 + q) q a s c (omega arith) b))
 
@@ -154,7 +156,7 @@ module _ (w : Setting) (ready : IsSettled w) where
       let n = spot.slot in
       let z1 = past pf z in
       let own = named_past w.code z pf _ _ names in
-      let l : LoopsRun w (exits_of x) spot a = loops_run w ready (exits_of x) spot a three in
+      let l : LoopsRun w false (exits_of x) spot a = loops_run w ready false (exits_of x) spot a three in
       set_aside w ready (nobody_leaves (only_returns (exits_of x))) c _ spot q _
       (behind_first first pc z.place spot q a s c
       (λ pc1. endless_code (exits_of x) pc1 spot (λ pc2. stmt_code w.layout w.frame.answer x pc2 z1 (body_spot n)) (λ pc2. step_code w.layout step pc2 (z1.place + length px) n (n + 3)))
@@ -169,9 +171,10 @@ module _ (w : Setting) (ready : IsSettled w) where
       let z2 = past pe z1 in
       let own = named_past w.code z pf _ _ names in
       let rest = named_past w.code z1 pe _ _ own in
-      let l : LoopsRun w (exits_of x) spot a = loops_run w ready (exits_of x) spot a three in
+      let wide = is_wide f (type_of e).rate in
+      let l : LoopsRun w wide (exits_of x) spot a = loops_run w ready wide (exits_of x) spot a three in
       set_aside w ready (nobody_leaves (only_returns (exits_of x))) c _ spot q _
       (behind_first first pc z.place spot q a s c
-      (λ pc1. for_code (exits_of x) (type_of e).rate (found w.layout e (n + 3)) pc1 spot (λ pc2. expr_code w.layout e pc2 z1.place n (n + 3)) (λ pc2. stmt_code w.layout w.frame.answer x pc2 z2 (body_spot n)) (λ pc2. step_code w.layout step pc2 (z2.place + length px) n (n + 3)))
+      (λ pc1. for_code wide (exits_of x) (type_of e).rate (found w.layout e (n + 3)) pc1 spot (λ pc2. expr_code w.layout e pc2 z1.place n (n + 3)) (λ pc2. stmt_code w.layout w.frame.answer x pc2 z2 (body_spot n)) (λ pc2. step_code w.layout step pc2 (z2.place + length px) n (n + 3)))
       (λ s1. looped (Some e) x step a s1) fit.0 has (are_front w.code.places z.place pf _ names.places_are) three b
       (λ pc1 s1 c1 y at en. l.for_loop (type_of e).rate (found w.layout e (n + 3)) pc1 y s1 c1 _ _ _ _ _ _ (test_runs e n z1.place fit.1 (are_front w.code.places z1.place pe _ own.places_are)) (body_runs x n z2 r fit.3 (named_before w.code z2 px _ _ rest)) (step_runs step n (z2.place + length px) fit.2 (are_back w.code.places z2.place px _ rest.places_are)) (is_body x) at en))

@@ -7,6 +7,8 @@ use Rattle.isp_base.specs.declared.types.Rate.{Rate}
 use Rattle.isp_base.specs.declared.types.Rate.TheVariants.{Uniform, Varying}
 use Rattle.isp_base.specs.declared.types.Ty.{Ty}
 use Rattle.isp_tree.specs.Sound.{IfAny}
+use Rattle.isp_tree.specs.declared.stmt.Form.{Form}
+use Rattle.isp_tree.specs.declared.stmt.Form.TheVariants.{Plain, Coherent}
 use Rattle.isp_typed.specs.Fine.{HoldsValue, active_index, foreach_index, FineRange, IsParam, AreParams, IsDeclared, FineExpr, FineFunction, FineValue, FineSimple, FineFirst, FineItem, FineReturned, FineStmt, FineBlock, FineStmts}
 use Rattle.isp_typed.specs.Typed.{TExpr, t_exprs, ty_of, type_of, TItem, TSimple, TFirst, t_first_declare, t_first_simple, TRange, TStmt, t_block, t_declare, t_simple, t_if, t_if_else, t_while, t_do, t_for, t_foreach, t_foreach_active, t_unmasked, t_jump, t_return, t_print, t_assert, TBlock, t_braces, TStmts, t_no_stmts, t_stmt_then, TFunction}
 use Rattle.isp_base.specs.declared.signature.Parameter.{Parameter}
@@ -14,11 +16,11 @@ use Rattle.isp_typed.specs.declared.variable.Holds.{Holds}
 use Rattle.isp_typed.specs.declared.variable.Holds.TheVariants as holds
 use Rattle.isp_typed.specs.declared.variable.Variable.{Variable}
 use Rattle.isp_lower.specs.Header.{AreSmall, HeadingFits, IsSmall}
-use Rattle.isp_lower.specs.Asks.{first_slot, items_asks, test_asks, values_asks}
+use Rattle.isp_lower.specs.Asks.{items_asks, test_asks, values_asks}
 use Rattle.isp_lower.specs.Reserved.{IsOwn, IsReserved}
 use Rattle.isp_lower.specs.declared.reserve.Reserve.{Reserve}
 use Rattle.isp_lower.proofs.Lemmas.{expr_own, operand_own, simple_own, item_own}
-use Rattle.isp_masks.specs.Asks.{answer_asks, bound_asks, bounds_asks, places_asks, ranges_asks, part_asks, loop_asks, first_asks, test_part_asks, step_asks, stmt_asks, block_asks, stmts_asks, result_asks}
+use Rattle.isp_masks.specs.Asks.{answer_asks, bound_asks, bounds_asks, places_asks, ranges_asks, part_asks, part_slot, loop_asks, first_asks, test_part_asks, step_asks, stmt_asks, block_asks, stmts_asks, result_asks}
 use Rattle.isp_masks.specs.Lowered.{BodyIsOwn}
 use Rattle.isp_masks.specs.Prints.{own_rates}
 use Rattle.isp_masks.specs.Ranges.{places_slot, runs_slot}
@@ -32,9 +34,10 @@ module _ (fs : List TFunction) (vars : List Variable) (answer : Option Ty) where
   items_own [] n f = tt
   items_own (x ∷ xs) n f = (item_own vars answer fs x n (f 0 x (omega arith)), items_own xs n (λ k d lt. f (suc k) d (omega arith)))
 
-  part_own : (r : Rate) (n : ℕ) → IsOwn vars answer (part_asks r n)
-  part_own Uniform n = tt
-  part_own Varying n = (tt, tt)
+  part_own : (f : Form) (r : Rate) (n : ℕ) → IsOwn vars answer (part_asks f r n)
+  part_own f Uniform n = tt
+  part_own Plain Varying n = (tt, tt)
+  part_own Coherent Varying n = ((tt, tt), (tt, tt))
 
   mask_own : (r : Rate) (n : ℕ) → IsOwn vars answer (test_asks r n)
   mask_own Uniform n = tt
@@ -92,9 +95,9 @@ module _ (fs : List TFunction) (vars : List Variable) (answer : Option Ty) where
     stmt_own (t_declare xs sp) n f = items_own xs n f
     stmt_own (t_simple x sp) n f = simple_own vars answer fs x n f
     stmt_own (t_if k g e x sp) n f =
-        (expr_own vars answer fs e n f.1.0, (part_own (type_of e).rate n, stmt_own x (first_slot (type_of e).rate n) f.2))
+        (expr_own vars answer fs e n f.1.0, (part_own k (type_of e).rate n, stmt_own x (part_slot k (type_of e).rate n) f.2))
     stmt_own (t_if_else k g e x y sp) n f =
-        (expr_own vars answer fs e n f.1.0, (part_own (type_of e).rate n, (stmt_own x (first_slot (type_of e).rate n) f.2, stmt_own y (first_slot (type_of e).rate n) f.3)))
+        (expr_own vars answer fs e n f.1.0, (part_own k (type_of e).rate n, (stmt_own x (part_slot k (type_of e).rate n) f.2, stmt_own y (part_slot k (type_of e).rate n) f.3)))
     stmt_own (t_while k g e x sp) n f = (loop_own n, (expr_own vars answer fs e (n + 3) f.1.0, stmt_own x (n + 3) f.2))
     stmt_own (t_do k g x e sp) n f = (loop_own n, (stmt_own x (n + 3) f.1, expr_own vars answer fs e (n + 3) f.2.0))
     stmt_own (t_for k g first e step i x sp) n f =

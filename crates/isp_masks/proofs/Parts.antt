@@ -7,10 +7,10 @@ use Rattle.isp_base.specs.declared.types.Elem.TheVariants.{I32, I64}
 use Rattle.isp_base.specs.declared.types.Rate.TheVariants.{Uniform, Varying}
 use Rattle.isp_base.specs.declared.types.Ty.{Ty}
 use Rattle.isp_typed.specs.Typed.{TExpr, t_exprs, type_of, TSimple, TFirst, t_first_declare, t_first_simple, TRange, TStmt, t_block, t_declare, t_simple, t_if, t_if_else, t_while, t_do, t_for, t_foreach, t_foreach_active, t_unmasked, t_jump, t_return, t_print, t_assert, TBlock, t_braces, TStmts, t_no_stmts, t_stmt_then}
-use Rattle.isp_lower.specs.Asks.{first_slot}
 use Rattle.isp_lower.specs.Setting.{Setting}
 use Rattle.isp_lower.specs.Tables.{IsTyped}
 use Rattle.isp_lower.proofs.Lemmas.{OperandFits, ExprParts, ValuesParts, SimpleParts, ItemsParts}
+use Rattle.isp_masks.specs.Asks.{part_slot}
 use Rattle.isp_masks.specs.Prints.{own_rates}
 use Rattle.isp_masks.specs.Ranges.{wide, narrow, lane, places_slot, runs_slot}
 
@@ -70,8 +70,8 @@ module _ (w : Setting) where
     StmtParts (t_block b) n = BlockParts b n
     StmtParts (t_declare xs sp) n = ItemsParts w n xs
     StmtParts (t_simple x sp) n = SimpleParts w x n
-    StmtParts (t_if f g e x sp) n = ExprParts w e n × StmtParts x (first_slot (type_of e).rate n)
-    StmtParts (t_if_else f g e x y sp) n = ExprParts w e n × StmtParts x (first_slot (type_of e).rate n) × StmtParts y (first_slot (type_of e).rate n)
+    StmtParts (t_if f g e x sp) n = ExprParts w e n × StmtParts x (part_slot f (type_of e).rate n)
+    StmtParts (t_if_else f g e x y sp) n = ExprParts w e n × StmtParts x (part_slot f (type_of e).rate n) × StmtParts y (part_slot f (type_of e).rate n)
     StmtParts (t_while f g e x sp) n = ExprParts w e (n + 3) × StmtParts x (n + 3)
     StmtParts (t_do f g x e sp) n = ExprParts w e (n + 3) × StmtParts x (n + 3)
     StmtParts (t_for f g first e step i x sp) n = FirstFits first n × TestFits e (n + 3) × StepFits step (n + 3) × StmtParts x (n + 3)

@@ -56,7 +56,7 @@ sifted a b c r x n y f g = go r (writes_past a b c (λ pc m. sift_begin r x n) [
     }
 
 pub for_written : (a b : Body) (l : Layout) (answer : Option Ty) (f : Form) (g : ℕ) (first : Option TFirst) (o : Option TExpr) (step : Option TSimple) (i : ℕ) (x : TStmt) (sp : Span) (spot : Spot)
-    → Writes a b (record { code = λ pc z. first_code l first pc z.place spot.on spot.slot ++ turns_code l answer o step x (pc + length (first_code l first pc z.place spot.on spot.slot)) (past (first_places l first) z) spot; places = stmt_places l (t_for f g first o step i x sp); texts = stmt_texts x })
+    → Writes a b (record { code = λ pc z. first_code l first pc z.place spot.on spot.slot ++ turns_code l answer f o step x (pc + length (first_code l first pc z.place spot.on spot.slot)) (past (first_places l first) z) spot; places = stmt_places l (t_for f g first o step i x sp); texts = stmt_texts x })
     → Writes a b (record { code = λ pc z. stmt_code l answer (t_for f g first o step i x sp) pc z spot; places = stmt_places l (t_for f g first o step i x sp); texts = stmt_texts x })
 for_written a b l answer f g first None step i x sp spot z = z
 for_written a b l answer f g first (Some e) step i x sp spot z = z

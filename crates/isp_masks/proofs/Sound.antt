@@ -9,6 +9,8 @@ use Rattle.isp_code.specs.Listing.{Listing, Routine}
 use Rattle.isp_code.specs.Registers.{elem_of}
 use Rattle.isp_code.specs.declared.instr.Instr.{Instr}
 use Rattle.isp_code.specs.declared.instr.Instr.TheVariants as instr
+use Rattle.isp_tree.specs.declared.stmt.Form.{Form}
+use Rattle.isp_tree.specs.declared.stmt.Form.TheVariants.{Plain, Coherent}
 use Rattle.isp_tree.specs.declared.stmt.Jump.{Jump}
 use Rattle.isp_tree.specs.declared.stmt.Jump.TheVariants.{Break, Continue}
 use Rattle.isp_typed.specs.Typed.{TExpr, type_of, TSimple, TFirst, t_first_declare, t_first_simple, TStmt, t_block, t_declare, t_simple, t_if, t_if_else, t_while, t_do, t_for, t_foreach, t_foreach_active, t_unmasked, t_jump, t_return, t_print, t_assert, TBlock, t_braces, TStmts, t_no_stmts, t_stmt_then, TFunction}
@@ -16,11 +18,11 @@ use Rattle.isp_lower.specs.Code.{jump_off, guard, found, expr_places, expr_code}
 use Rattle.isp_lower.specs.Layout.{Layout, class_at, register}
 use Rattle.isp_masks.specs.Exits.{exits_of, all_go_on}
 use Rattle.isp_masks.specs.Fors.{first_code, step_code, first_places, step_places}
-use Rattle.isp_masks.specs.Loops.{endless_code, for_code}
+use Rattle.isp_masks.specs.Loops.{endless_code, for_code, is_wide, jump_all}
 use Rattle.isp_masks.specs.Ranges.{ranges_places, runs_slot}
 use Rattle.isp_masks.specs.Sets.{unite, leave_code, jump_code}
-use Rattle.isp_masks.specs.Spots.{Numbers, Spot, body_spot, first_spot, past, under}
-use Rattle.isp_masks.specs.Statements.{behind, rest_code, parted_code, if_code, if_else_code, answer_code, returned, stmt_places, block_places, stmts_places, stmt_texts, block_texts, stmts_texts, stmt_code, block_code, stmts_code, function_code}
+use Rattle.isp_masks.specs.Spots.{Numbers, Spot, body_spot, first_spot, past, under, widely}
+use Rattle.isp_masks.specs.Statements.{behind, rest_code, parted_code, wide_code, if_code, if_else_code, answer_code, returned, stmt_places, block_places, stmts_places, stmt_texts, block_texts, stmts_texts, stmt_code, block_code, stmts_code, function_code}
 use Rattle.isp_lower.specs.Code.{copy, operand, operand_of}
 use Rattle.isp_masks.specs.Asks.{part_asks, first_asks, step_asks, answer_asks, block_asks, stmt_asks, stmts_asks}
 use Rattle.isp_lower.specs.Sound.{AreSound, Links, PartSound, IsRegister, Granted, ExprPresent}
@@ -55,21 +57,34 @@ module _ (code : Listing) (h : Routine) where
       let e2 = length-append (rest p2) (unite k n k ∷ []) in
       ((((refl, ln), ((there, bool), ((refl, lk), tt))), tt), ((((refl, lk), ((refl, lk), ((refl, ln), tt))), tt), sound_both code h side (rest p2 ++ unite k n k ∷ []) (guard_sound code h n first ln f (pc + 1 + 1) (omega (arith, e1, e2, lt))) (sound_both code h (rest p2) (unite k n k ∷ []) (g p2 (omega (arith, e1, e2, lt))) ((((refl, lk), ((refl, ln), ((refl, lk), tt))), tt), tt))))
 
+  -- in a c-form
+  wide_sound : (x k n : ℕ) (first rest : ℕ → List Instr) → k < h.masks → n < h.masks → n + 1 < h.masks → IsThere h (class_at Varying) (register Varying x) → elem_of h (register Varying x) ≡ Truth → HereSound code h first → HereSound code h rest → HereSound code h (λ pc. wide_code x pc k n first rest)
+  wide_sound x k n first rest lk ln ls there bool f g pc lt =
+      let p1 = pc + 1 + 1 + 1 in
+      let side = guard (jump_off k) p1 first in
+      let p2 = p1 + length side in
+      let join = rest (p2 + 1) ++ unite k k (n + 1) ∷ [] in
+      let last = jump_all n (p2 + 1 + length join) ∷ join in
+      let e1 = length-append side last in
+      let e2 = length-append (rest (p2 + 1)) (unite k k (n + 1) ∷ []) in
+      let begin = sound_both code h side last (guard_sound code h k first lk f p1 (omega (arith, e1, e2, lt))) ((((refl, ln), (omega (arith, e1, e2, lt), tt)), tt), sound_both code h (rest (p2 + 1)) (unite k k (n + 1) ∷ []) (g (p2 + 1) (omega (arith, e1, e2, lt))) ((((refl, lk), ((refl, lk), ((refl, ls), tt))), tt), tt)) in
+      ((((refl, ln), ((there, bool), ((refl, lk), tt))), tt), ((((refl, ls), ((refl, lk), ((refl, ln), tt))), tt), ((((refl, lk), ((refl, ln), tt)), tt), begin)))
+
   -- the three masks are there
   abbrev HasMasks : Spot → Type 0
   HasMasks spot = (spot.on < h.masks) × (spot.continued < h.masks) × (spot.returned < h.masks)
 
   -- a part that may be asked for any mask
-  abbrev AnySound : Rate → Spot → (ℕ → Spot → List Instr) → Type 0
-  AnySound r spot part = (pc m : ℕ) → m < h.masks → pc + length (part pc (part_spot r m spot)) < length h.code → AreSound code h (part pc (part_spot r m spot))
+  abbrev AnySound : Form → Rate → Spot → (ℕ → Spot → List Instr) → Type 0
+  AnySound b r spot part = (pc m : ℕ) → m < h.masks → pc + length (part pc (part_spot b r m spot)) < length h.code → AreSound code h (part pc (part_spot b r m spot))
 
-  -- a test: a bool; a varying one has a mask
-  record TestThere (l : Layout) (e : TExpr) (n : ℕ) : Type 0 where
+  -- a test: a bool; a varying one has a mask, in a c-form two
+  record TestThere (l : Layout) (b : Form) (e : TExpr) (n : ℕ) : Type 0 where
     there : IsRegister h (type_of e).rate (found l e n) Truth
-    mask : Granted h l (part_asks (type_of e).rate n)
+    mask : Granted h l (part_asks b (type_of e).rate n)
 
-  if_sound : (l : Layout) (e : TExpr) (spot : Spot) (first : ℕ → Spot → List Instr) → spot.on < h.masks → TestThere l e spot.slot → AnySound (type_of e).rate spot first → HereSound code h (λ pc. if_code (type_of e).rate (found l e spot.slot) pc spot first)
-  if_sound l e spot first lk test f = go (type_of e).rate refl test.there.0 test.there.1 test.mask f
+  if_sound : (l : Layout) (b : Form) (e : TExpr) (spot : Spot) (first : ℕ → Spot → List Instr) → spot.on < h.masks → TestThere l b e spot.slot → AnySound b (type_of e).rate spot first → HereSound code h (λ pc. if_code b (type_of e).rate (found l e spot.slot) pc spot first)
+  if_sound l b e spot first lk test f = go b (type_of e).rate refl test.there.0 test.there.1 test.mask f
     where
       k : ℕ
       k = spot.on
@@ -77,12 +92,13 @@ module _ (code : Listing) (h : Routine) where
       n : ℕ
       n = spot.slot
 
-      go : (r : Rate) → (type_of e).rate ≡ r → IsThere h (class_at r) (register r (found l e n)) → elem_of h (register r (found l e n)) ≡ Truth → Granted h l (part_asks r n) → AnySound r spot first → HereSound code h (λ pc. if_code r (found l e n) pc spot first)
-      go Uniform er there bool mask f pc lt = ((((there, bool), (omega arith, tt)), tt), f (pc + 1) k lk (omega arith))
-      go Varying er there bool mask f pc lt = parted_sound (found l e n) k n (λ pc1. first pc1 (under n spot)) (λ pc1. []) lk mask.1 there bool (λ pc1 lt1. f pc1 n mask.1 lt1) (λ pc1 lt1. tt) pc lt
+      go : (form : Form) (r : Rate) → (type_of e).rate ≡ r → IsThere h (class_at r) (register r (found l e n)) → elem_of h (register r (found l e n)) ≡ Truth → Granted h l (part_asks form r n) → AnySound form r spot first → HereSound code h (λ pc. if_code form r (found l e n) pc spot first)
+      go form Uniform er there bool mask f pc lt = ((((there, bool), (omega arith, tt)), tt), f (pc + 1) k lk (omega arith))
+      go Plain Varying er there bool mask f pc lt = parted_sound (found l e n) k n (λ pc1. first pc1 (under n spot)) (λ pc1. []) lk mask.1 there bool (λ pc1 lt1. f pc1 n mask.1 lt1) (λ pc1 lt1. tt) pc lt
+      go Coherent Varying er there bool mask f pc lt = wide_sound (found l e n) k n (λ pc1. first pc1 (widely k spot)) (λ pc1. []) lk mask.0.1 mask.1.1 there bool (λ pc1 lt1. f pc1 k lk lt1) (λ pc1 lt1. tt) pc lt
 
-  if_else_sound : (l : Layout) (e : TExpr) (spot : Spot) (first second : ℕ → Spot → List Instr) → spot.on < h.masks → TestThere l e spot.slot → AnySound (type_of e).rate spot first → AnySound (type_of e).rate spot second → HereSound code h (λ pc. if_else_code (type_of e).rate (found l e spot.slot) pc spot first second)
-  if_else_sound l e spot first second lk test f g = go (type_of e).rate refl test.there.0 test.there.1 test.mask f g
+  if_else_sound : (l : Layout) (b : Form) (e : TExpr) (spot : Spot) (first second : ℕ → Spot → List Instr) → spot.on < h.masks → TestThere l b e spot.slot → AnySound b (type_of e).rate spot first → AnySound b (type_of e).rate spot second → HereSound code h (λ pc. if_else_code b (type_of e).rate (found l e spot.slot) pc spot first second)
+  if_else_sound l b e spot first second lk test f g = go b (type_of e).rate refl test.there.0 test.there.1 test.mask f g
     where
       k : ℕ
       k = spot.on
@@ -90,21 +106,23 @@ module _ (code : Listing) (h : Routine) where
       n : ℕ
       n = spot.slot
 
-      go : (r : Rate) → (type_of e).rate ≡ r → IsThere h (class_at r) (register r (found l e n)) → elem_of h (register r (found l e n)) ≡ Truth → Granted h l (part_asks r n) → AnySound r spot first → AnySound r spot second → HereSound code h (λ pc. if_else_code r (found l e n) pc spot first second)
-      go Uniform er there bool mask f g pc lt =
+      go : (form : Form) (r : Rate) → (type_of e).rate ≡ r → IsThere h (class_at r) (register r (found l e n)) → elem_of h (register r (found l e n)) ≡ Truth → Granted h l (part_asks form r n) → AnySound form r spot first → AnySound form r spot second → HereSound code h (λ pc. if_else_code form r (found l e n) pc spot first second)
+      go form Uniform er there bool mask f g pc lt =
           let ca = first (pc + 1) spot in
           let pb = pc + 1 + length ca + 1 in
           let cb = second pb spot in
           let e1 = length-append ca (instr.Jump (pb + length cb) ∷ cb) in
           ((((there, bool), (omega (arith, e1, lt), tt)), tt), sound_both code h ca (instr.Jump (pb + length cb) ∷ cb) (f (pc + 1) k lk (omega (arith, e1, lt))) (((omega (arith, e1, lt), tt), tt), g pb k lk (omega (arith, e1, lt))))
-      go Varying er there bool mask f g pc lt =
+      go Plain Varying er there bool mask f g pc lt =
           parted_sound (found l e n) k n (λ pc1. first pc1 (under n spot)) (λ pc1. guard (jump_off k) pc1 (λ pc2. second pc2 (under k spot))) lk mask.1 there bool (λ pc1 lt1. f pc1 n mask.1 lt1) (guard_sound code h k (λ pc2. second pc2 (under k spot)) lk (λ pc2 lt2. g pc2 k lk lt2)) pc lt
+      go Coherent Varying er there bool mask f g pc lt =
+          wide_sound (found l e n) k n (λ pc1. first pc1 (widely k spot)) (λ pc1. guard (jump_off (n + 1)) pc1 (λ pc2. second pc2 (widely (n + 1) spot))) lk mask.0.1 mask.1.1 there bool (λ pc1 lt1. f pc1 k lk lt1) (guard_sound code h (n + 1) (λ pc2. second pc2 (widely (n + 1) spot)) mask.1.1 (λ pc2 lt2. g pc2 (n + 1) mask.1.1 lt2)) pc lt
 
   -- ---- statements
 
   module _ (fs : List TFunction) (l : Layout) (links : Links fs code l) (answer : Option Ty) where
-    test_there : (e : TExpr) (n : ℕ) → ExprTree fs e → (type_of e).elem ≡ Truth → ExprPresent h l e n → Granted h l (part_asks (type_of e).rate n) → TestThere l e n
-    test_there e n is bool f mask = let x = found_there fs h l e n is f in record { there = (x.0, x.1 ∙ bool); mask = mask }
+    test_there : (b : Form) (e : TExpr) (n : ℕ) → ExprTree fs e → (type_of e).elem ≡ Truth → ExprPresent h l e n → Granted h l (part_asks b (type_of e).rate n) → TestThere l b e n
+    test_there b e n is bool f mask = let x = found_there fs h l e n is f in record { there = (x.0, x.1 ∙ bool); mask = mask }
 
     -- the parts of a `for` that may be left out
     first_sound : (o : Option TFirst) (n : ℕ) → FirstTree fs o → Granted h l (first_asks o n) → PartSound code h (first_places l o) (λ pc p k. first_code l o pc p k n)
@@ -133,10 +151,10 @@ module _ (code : Listing) (h : Routine) where
           let pe = expr_places l e in
           let z1 = past pe z in
           let part = λ (pc2 : ℕ) (at : Spot). stmt_code l answer x pc2 z1 at in
-          let rest = if_code (type_of e).rate (found l e n) (pc + length ce) spot part in
+          let rest = if_code b (type_of e).rate (found l e n) (pc + length ce) spot part in
           let e1 = length-append ce rest in
           let e2 = length-append pe (stmt_places l x) in
-          sound_both code h ce rest (value_sound fs code h l links e n is.0 f.0 pc z.place spot.on lm.0 (omega (arith, e2, pl)) (omega (arith, e1, lt))) (if_sound l e spot part lm.0 (test_there e n is.0 is.2 f.0 f.1.0) (λ pc2 m low lt2. stmt_sound x pc2 z1 (part_spot (type_of e).rate m spot) is.1 f.1.1 (low, lm.1, lm.2) (omega (arith, e2, pl)) tx lt2) (pc + length ce) (omega (arith, e1, lt)))
+          sound_both code h ce rest (value_sound fs code h l links e n is.0 f.0 pc z.place spot.on lm.0 (omega (arith, e2, pl)) (omega (arith, e1, lt))) (if_sound l b e spot part lm.0 (test_there b e n is.0 is.2 f.0 f.1.0) (λ pc2 m low lt2. stmt_sound x pc2 z1 (part_spot b (type_of e).rate m spot) is.1 f.1.1 (low, lm.1, lm.2) (omega (arith, e2, pl)) tx lt2) (pc + length ce) (omega (arith, e1, lt)))
       stmt_sound (t_if_else b g e x y sp) pc z spot is f lm pl tx lt =
           let n = spot.slot in
           let ce = expr_code l e pc z.place spot.on n in
@@ -145,19 +163,19 @@ module _ (code : Listing) (h : Routine) where
           let z1 = past pe z in
           let part = λ (pc2 : ℕ) (at : Spot). stmt_code l answer x pc2 z1 at in
           let other = λ (pc2 : ℕ) (at : Spot). stmt_code l answer y pc2 (behind l x z1) at in
-          let rest = if_else_code (type_of e).rate (found l e n) (pc + length ce) spot part other in
+          let rest = if_else_code b (type_of e).rate (found l e n) (pc + length ce) spot part other in
           let e1 = length-append ce rest in
           let e2 = length-append pe (px ++ stmt_places l y) in
           let e3 = length-append px (stmt_places l y) in
           let e4 = length-append (stmt_texts x) (stmt_texts y) in
-          sound_both code h ce rest (value_sound fs code h l links e n is.0 f.0 pc z.place spot.on lm.0 (omega (arith, e2, pl)) (omega (arith, e1, lt))) (if_else_sound l e spot part other lm.0 (test_there e n is.0 is.3 f.0 f.1.0) (λ pc2 m low lt2. stmt_sound x pc2 z1 (part_spot (type_of e).rate m spot) is.1 f.1.1.0 (low, lm.1, lm.2) (omega (arith, e2, e3, pl)) (omega (arith, e4, tx)) lt2) (λ pc2 m low lt2. stmt_sound y pc2 (behind l x z1) (part_spot (type_of e).rate m spot) is.2 f.1.1.1 (low, lm.1, lm.2) (omega (arith, e2, e3, pl)) (omega (arith, e4, tx)) lt2) (pc + length ce) (omega (arith, e1, lt)))
+          sound_both code h ce rest (value_sound fs code h l links e n is.0 f.0 pc z.place spot.on lm.0 (omega (arith, e2, pl)) (omega (arith, e1, lt))) (if_else_sound l b e spot part other lm.0 (test_there b e n is.0 is.3 f.0 f.1.0) (λ pc2 m low lt2. stmt_sound x pc2 z1 (part_spot b (type_of e).rate m spot) is.1 f.1.1.0 (low, lm.1, lm.2) (omega (arith, e2, e3, pl)) (omega (arith, e4, tx)) lt2) (λ pc2 m low lt2. stmt_sound y pc2 (behind l x z1) (part_spot b (type_of e).rate m spot) is.2 f.1.1.1 (low, lm.1, lm.2) (omega (arith, e2, e3, pl)) (omega (arith, e4, tx)) lt2) (pc + length ce) (omega (arith, e1, lt)))
       stmt_sound (t_while b g e x sp) pc z spot is f lm pl tx lt =
           let pe = expr_places l e in
           let e2 = length-append pe (stmt_places l x) in
           let n = spot.slot in
           let own : HasMasks (body_spot n) = (f.0.1.0, f.0.1.1.0, f.0.1.1.1) in
           let test = found_there fs h l e (n + 3) is.0.0 f.1.0 in
-          while_sound code h (exits_of x) spot lm.0 lm.2 own (type_of e).rate (found l e (n + 3)) (λ pc1. expr_code l e pc1 z.place n (n + 3)) (λ pc1. stmt_code l answer x pc1 (past pe z) (body_spot n)) test.0 (test.1 ∙ is.0.1)
+          while_sound code h (exits_of x) spot lm.0 lm.2 own (is_wide b (type_of e).rate) (type_of e).rate (found l e (n + 3)) (λ pc1. expr_code l e pc1 z.place n (n + 3)) (λ pc1. stmt_code l answer x pc1 (past pe z) (body_spot n)) test.0 (test.1 ∙ is.0.1)
           (λ pc1 lt1. value_sound fs code h l links e (n + 3) is.0.0 f.1.0 pc1 z.place n own.0 (omega (arith, e2, pl)) lt1) (λ pc1 lt1. stmt_sound x pc1 (past pe z) (body_spot n) is.1 f.1.1 own (omega (arith, e2, pl)) tx lt1) pc lt
       stmt_sound (t_do b g x e sp) pc z spot is f lm pl tx lt =
           let px = stmt_places l x in
@@ -165,7 +183,7 @@ module _ (code : Listing) (h : Routine) where
           let n = spot.slot in
           let own : HasMasks (body_spot n) = (f.0.1.0, f.0.1.1.0, f.0.1.1.1) in
           let test = found_there fs h l e (n + 3) is.0.0 f.1.1 in
-          do_sound code h (exits_of x) spot lm.0 lm.2 own (type_of e).rate (found l e (n + 3)) (λ pc1. expr_code l e pc1 (behind l x z).place n (n + 3)) (λ pc1. stmt_code l answer x pc1 z (body_spot n)) test.0 (test.1 ∙ is.0.1)
+          do_sound code h (exits_of x) spot lm.0 lm.2 own (is_wide b (type_of e).rate) (type_of e).rate (found l e (n + 3)) (λ pc1. expr_code l e pc1 (behind l x z).place n (n + 3)) (λ pc1. stmt_code l answer x pc1 z (body_spot n)) test.0 (test.1 ∙ is.0.1)
           (λ pc1 lt1. value_sound fs code h l links e (n + 3) is.0.0 f.1.1 pc1 (z.place + length px) n own.0 (omega (arith, e2, pl)) lt1) (λ pc1 lt1. stmt_sound x pc1 z (body_spot n) is.1 f.1.0 own (omega (arith, e2, pl)) tx lt1) pc lt
       stmt_sound (t_for b g first None step i x sp) pc z spot is f lm pl tx lt =
           let pf = first_places l first in
@@ -194,8 +212,8 @@ module _ (code : Listing) (h : Routine) where
           let tests = λ (pc1 : ℕ). expr_code l e pc1 z1.place n (n + 3) in
           let body = λ (pc1 : ℕ). stmt_code l answer x pc1 z2 (body_spot n) in
           let stepping = λ (pc1 : ℕ). step_code l step pc1 (z2.place + length px) n (n + 3) in
-          two_sound code h (λ pc1. first_code l first pc1 z.place spot.on n) (λ pc1. for_code (exits_of x) (type_of e).rate (found l e (n + 3)) pc1 spot tests body stepping) (λ pc1 lt1. first_sound first n is.0 f.0 pc1 z.place spot.on lm.0 (omega (arith, e1, pl)) lt1)
-          (for_sound code h (exits_of x) spot lm.0 lm.2 own (type_of e).rate (found l e (n + 3)) tests body test.0 (test.1 ∙ is.1.1) (λ pc1 lt1. value_sound fs code h l links e (n + 3) is.1.0 f.1.1.0 pc1 z1.place n own.0 (omega (arith, e1, e2, pl)) lt1) (λ pc1 lt1. stmt_sound x pc1 z2 (body_spot n) is.3 f.1.1.1.1 own (omega (arith, e1, e2, e3, pl)) tx lt1) stepping (λ pc1 lt1. step_sound step (n + 3) is.2 f.1.1.1.0 pc1 (z2.place + length px) n own.0 (omega (arith, e1, e2, e3, pl)) lt1)) pc lt
+          two_sound code h (λ pc1. first_code l first pc1 z.place spot.on n) (λ pc1. for_code (is_wide b (type_of e).rate) (exits_of x) (type_of e).rate (found l e (n + 3)) pc1 spot tests body stepping) (λ pc1 lt1. first_sound first n is.0 f.0 pc1 z.place spot.on lm.0 (omega (arith, e1, pl)) lt1)
+          (for_sound code h (exits_of x) spot lm.0 lm.2 own (is_wide b (type_of e).rate) (type_of e).rate (found l e (n + 3)) tests body test.0 (test.1 ∙ is.1.1) (λ pc1 lt1. value_sound fs code h l links e (n + 3) is.1.0 f.1.1.0 pc1 z1.place n own.0 (omega (arith, e1, e2, pl)) lt1) (λ pc1 lt1. stmt_sound x pc1 z2 (body_spot n) is.3 f.1.1.1.1 own (omega (arith, e1, e2, e3, pl)) tx lt1) stepping (λ pc1 lt1. step_sound step (n + 3) is.2 f.1.1.1.0 pc1 (z2.place + length px) n own.0 (omega (arith, e1, e2, e3, pl)) lt1)) pc lt
       stmt_sound (t_foreach w g rs x sp) pc z spot is f lm pl tx lt =
           let n = spot.slot in
           let k = runs_slot n rs in

@@ -14,7 +14,7 @@ use Rattle.isp_lower.specs.Layout.{class_at, register, mask_register}
 use Rattle.isp_lower.specs.Sound.{AreSound, IsRegister}
 use Rattle.isp_lower.proofs.Lemmas.{sound_both}
 use Rattle.isp_masks.specs.Exits.{nobody_leaves}
-use Rattle.isp_masks.specs.Loops.{if_needed, enter_code, loop_end_code, turn_code, back_code, sift_code, live_code, again_code, while_code, for_code, endless_code, do_code}
+use Rattle.isp_masks.specs.Loops.{if_needed, enter_code, loop_end_code, rejoin_code, turn_code, back_code, sift_code, live_code, again_code, while_code, for_code, endless_code, do_code}
 use Rattle.isp_masks.specs.Rounds.{unmasked_code, active_code}
 use Rattle.isp_masks.specs.Sets.{unite, clear_mask}
 use Rattle.isp_masks.specs.Spots.{Spot}
@@ -82,13 +82,24 @@ module _ (code : Listing) (h : Routine) where
         let ended : AreSound code h end = ((((refl, lk), ((refl, lk), ((refl, returned), tt))), tt), ((((refl, lr), ((refl, lr), ((refl, returned), tt))), tt), tt)) in
         needed_sound e.returns end ended
 
-    turn_sound : (body : ℕ → List Instr) → HereSound body → HereSound (λ pc. turn_code e pc n body)
-    turn_sound body f =
+    rejoin_sound : (wide : Bool) → HereSound (λ pc. rejoin_code wide e pc n)
+    rejoin_sound wide = go wide
+      where
+        join : List Instr
+        join = unite n n (n + 1) ∷ []
+
+        joined : AreSound code h (if_needed e.continues join)
+        joined = needed_sound e.continues join ((((refl, live), ((refl, live), ((refl, continued), tt))), tt), tt)
+
+        go : (b : Bool) → HereSound (λ pc. rejoin_code b e pc n)
+        go true pc lt = ((((refl, live), (omega arith, tt)), tt), joined)
+        go false pc lt = joined
+
+    turn_sound : (wide : Bool) (body : ℕ → List Instr) → HereSound body → HereSound (λ pc. turn_code wide e pc n body)
+    turn_sound wide body f =
         let clear = clear_mask (n + 1) ∷ [] in
-        let join = unite n n (n + 1) ∷ [] in
         let cleared : AreSound code h clear = ((((refl, continued), tt), tt), tt) in
-        let joined : AreSound code h join = ((((refl, live), ((refl, live), ((refl, continued), tt))), tt), tt) in
-        two_sound (λ pc. if_needed e.continues clear) (λ pc. body pc ++ if_needed e.continues join) (λ pc lt. needed_sound e.continues clear cleared) (two_sound body (λ pc. if_needed e.continues join) f (λ pc lt. needed_sound e.continues join joined))
+        two_sound (λ pc. if_needed e.continues clear) (λ pc. two pc (body pc) (λ pc1. rejoin_code wide e pc1 n)) (λ pc lt. needed_sound e.continues clear cleared) (two_sound body (λ pc. rejoin_code wide e pc n) f (rejoin_sound wide))
 
     back_sound : (b : Bool) (top : ℕ) → top < length h.code → AreSound code h (back_code b n top ∷ [])
     back_sound true top lt = (((lt, tt), tt), tt)
@@ -137,23 +148,23 @@ module _ (code : Listing) (h : Routine) where
 
     pub endless_sound : (body step : ℕ → List Instr) → HereSound body → HereSound step → HereSound (λ pc. endless_code e pc spot body step)
     endless_sound body step fb fs =
-        looped (λ top. two top (turn_code e top n body) (behind top step)) (λ top lt lt1. two_sound (λ pc. turn_code e pc n body) (behind top step) (turn_sound body fb) (behind_sound top step lt fs) top lt1)
+        looped (λ top. two top (turn_code false e top n body) (behind top step)) (λ top lt lt1. two_sound (λ pc. turn_code false e pc n body) (behind top step) (turn_sound false body fb) (behind_sound top step lt fs) top lt1)
 
-    module _ (r : Rate) (x : ℕ) (test body : ℕ → List Instr) (there : IsThere h (class_at r) (register r x)) (bool : elem_of h (register r x) ≡ Truth) (ft : HereSound test) (fb : HereSound body) where
+    module _ (wide : Bool) (r : Rate) (x : ℕ) (test body : ℕ → List Instr) (there : IsThere h (class_at r) (register r x)) (bool : elem_of h (register r x) ≡ Truth) (ft : HereSound test) (fb : HereSound body) where
       -- the test, and what follows it for those that pass
       passed_sound : (rest : ℕ → List Instr) → HereSound rest → HereSound (λ pc. two pc (test pc) (λ pc1. sift_code r x pc1 n rest))
       passed_sound rest f = two_sound test (λ pc1. sift_code r x pc1 n rest) ft (sift_sound r x there bool rest f)
 
-      pub while_sound : HereSound (λ pc. while_code e r x pc spot test body)
+      pub while_sound : HereSound (λ pc. while_code wide e r x pc spot test body)
       while_sound =
           let back = λ (top : ℕ). back_code (nobody_leaves e) n top ∷ [] in
-          looped (λ top. two top (test top) (λ pc1. sift_code r x pc1 n (λ pc2. two pc2 (turn_code e pc2 n body) (λ pc3. back top)))) (λ top lt lt1. passed_sound (λ pc2. two pc2 (turn_code e pc2 n body) (λ pc3. back top)) (two_sound (λ pc2. turn_code e pc2 n body) (λ pc3. back top) (turn_sound body fb) (λ pc3 lt3. back_sound (nobody_leaves e) top lt)) top lt1)
+          looped (λ top. two top (test top) (λ pc1. sift_code r x pc1 n (λ pc2. two pc2 (turn_code wide e pc2 n body) (λ pc3. back top)))) (λ top lt lt1. passed_sound (λ pc2. two pc2 (turn_code wide e pc2 n body) (λ pc3. back top)) (two_sound (λ pc2. turn_code wide e pc2 n body) (λ pc3. back top) (turn_sound wide body fb) (λ pc3 lt3. back_sound (nobody_leaves e) top lt)) top lt1)
 
-      pub for_sound : (step : ℕ → List Instr) → HereSound step → HereSound (λ pc. for_code e r x pc spot test body step)
+      pub for_sound : (step : ℕ → List Instr) → HereSound step → HereSound (λ pc. for_code wide e r x pc spot test body step)
       for_sound step fs =
-          looped (λ top. two top (test top) (λ pc1. sift_code r x pc1 n (λ pc2. two pc2 (turn_code e pc2 n body) (behind top step)))) (λ top lt lt1. passed_sound (λ pc2. two pc2 (turn_code e pc2 n body) (behind top step)) (two_sound (λ pc2. turn_code e pc2 n body) (behind top step) (turn_sound body fb) (behind_sound top step lt fs)) top lt1)
+          looped (λ top. two top (test top) (λ pc1. sift_code r x pc1 n (λ pc2. two pc2 (turn_code wide e pc2 n body) (behind top step)))) (λ top lt lt1. passed_sound (λ pc2. two pc2 (turn_code wide e pc2 n body) (behind top step)) (two_sound (λ pc2. turn_code wide e pc2 n body) (behind top step) (turn_sound wide body fb) (behind_sound top step lt fs)) top lt1)
 
-      pub do_sound : HereSound (λ pc. do_code e r x pc spot test body)
+      pub do_sound : HereSound (λ pc. do_code wide e r x pc spot test body)
       do_sound =
           let again = λ (top pc1 : ℕ). live_code (nobody_leaves e) n pc1 (λ pc2. test pc2 ++ again_code r x n top) in
-          looped (λ top. two top (turn_code e top n body) (again top)) (λ top lt lt1. two_sound (λ pc. turn_code e pc n body) (again top) (turn_sound body fb) (live_sound (nobody_leaves e) (λ pc2. test pc2 ++ again_code r x n top) (two_sound test (λ pc3. again_code r x n top) ft (λ pc3 lt3. again_sound r x there bool top lt))) top lt1)
+          looped (λ top. two top (turn_code wide e top n body) (again top)) (λ top lt lt1. two_sound (λ pc. turn_code wide e pc n body) (again top) (turn_sound wide body fb) (live_sound (nobody_leaves e) (λ pc2. test pc2 ++ again_code r x n top) (two_sound test (λ pc3. again_code r x n top) ft (λ pc3 lt3. again_sound r x there bool top lt))) top lt1)

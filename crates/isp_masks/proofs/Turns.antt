@@ -3,7 +3,7 @@
 use Rattle.std.proofs.Common.{◌≡◌, ◌≢◌, ℕ, zero, suc, ◌+◌, ◌*◌, ◌<◌, ◌≤◌, List, [], ◌∷◌, ◌++◌, length, Some, Bool, true, false, refl, sym, ap, ◌∙◌, subst, arith, length-append}
 use Rattle.std.specs.Prelude.{slice_get, not, if◌then◌else◌, ◌||◌}
 use Rattle.isp_base.specs.Maps.{on, where_true}
-use Rattle.isp_base.specs.Sets.{Mask, nobody, union, without, any}
+use Rattle.isp_base.specs.Sets.{Mask, nobody, union, without, any, all as all_of}
 use Rattle.isp_base.specs.declared.types.Rate.{Rate}
 use Rattle.isp_base.specs.declared.types.Rate.TheVariants.{Uniform, Varying}
 use Rattle.isp_code.specs.Conf.{Conf}
@@ -22,7 +22,7 @@ use Rattle.isp_lower.specs.Runs.{Comes, Runs, DoneRuns, Stopped}
 use Rattle.isp_lower.specs.Setting.{Setting, IsSettled, gang_of, AreAt, At, Stands, Spares, Holds}
 use Rattle.isp_lower.proofs.Lemmas.{are_front, are_back, put_same, put_other, comes_none, comes_on, step_go, at_to, spares_all, spares_less, spares_on, failed_after, stopped_after, failed_less, stopped_less, jumped, jump_comes, jump_at, masked, where_comes, others_comes, masked_at, any_nobody, where_inside, at_kept}
 use Rattle.isp_masks.specs.LoopRuns.{TestRuns, BodyRuns, StepRuns}
-use Rattle.isp_masks.specs.Loops.{copy_mask, if_needed, enter_code, loop_end_code, turn_code, back_code, sift_code, live_code, again_code}
+use Rattle.isp_masks.specs.Loops.{copy_mask, if_needed, enter_code, loop_end_code, rejoin_code, turn_code, back_code, sift_code, live_code, again_code}
 use Rattle.isp_masks.specs.Sets.{unite, clear_mask}
 use Rattle.isp_masks.specs.Spots.{Spot, body_spot}
 use Rattle.isp_masks.specs.StmtRuns.{AreThree, EntersAt, Inside, StmtOk, StmtRuns}
@@ -30,9 +30,13 @@ use Rattle.isp_masks.specs.declared.exits.Exits.{Exits}
 use Rattle.isp_masks.proofs.Combine.{stmt_after}
 use Rattle.isp_masks.specs.Exits.{nobody_leaves, Leave}
 use Rattle.isp_masks.proofs.Members.{none_of, whole}
-use Rattle.isp_masks.proofs.Unions.{union_nobody, without_nobody}
+use Rattle.isp_masks.proofs.Unions.{union_nobody, without_nobody, union_full}
 
 -- ---- sets of a turn
+
+second_so : (x y : Bool) → y ≡ true → (x || y) ≡ true
+second_so true y h = refl
+second_so false y h = h
 
 third_in : (x y : Bool) (m n l : ℕ) → m + (n + (bit x + l)) ≡ bit y → x ≡ true → y ≡ true
 third_in x true m n l e h = refl
@@ -69,7 +73,7 @@ module _ (w : Setting) (ready : IsSettled w) where
   stmt_further m c c1 d pc spot q (Cut s) h sp ma th r =
       record { conf = r.conf; steps = suc d + r.steps; far = omega (arith, r.far); goes = comes_on w c c1 r.conf (suc d) r.steps h r.goes; out_is = r.out_is; bound = omega (arith, r.bound) }
 
-  module _ (e : Exits) (spot : Spot) (three : AreThree spot) (all : Mask) where
+  module _ (wide : Bool) (e : Exits) (spot : Spot) (three : AreThree spot) (all : Mask) where
     -- the masks of the whole, and the first slot
     abbrev k : ℕ
     k = spot.on
@@ -96,6 +100,10 @@ module _ (w : Setting) (ready : IsSettled w) where
     abbrev pub Gone : Bool → Mask → Conf → Type 0
     Gone true r c = c.masks (n + 2) ≡ r
     Gone false r c = r ≡ nobody
+
+    gone_moved : (b : Bool) (returned : Mask) (c c1 : Conf) → c1.masks (n + 2) ≡ c.masks (n + 2) → Gone b returned c → Gone b returned c1
+    gone_moved true returned c c1 same g = same ∙ g
+    gone_moved false returned c c1 same g = g
 
     -- the machine stands in the loop, with these live
     pub record InLoop (pc : ℕ) (live returned : Mask) (s : State) (c : Conf) : Type 0 where
@@ -212,36 +220,26 @@ module _ (w : Setting) (ready : IsSettled w) where
           λ z. absurd (cc),
         )
 
-    -- behind the body those that continued come back
-    rejoined : (pc z : ℕ) (returned g b ct rt : Mask) (s : State) (c1 : Conf) → (ok : StmtOk w c1 pc (body_spot n) z s g ct rt) → c1.masks k ≡ all → (e.continues ≡ true → c1.masks (n + 1) ≡ nobody) → Gone e.returns returned c1 → Leave e (Went s g b ct rt) → AreAt w.routine.code pc (if_needed e.continues (unite n n (n + 1) ∷ [])) → Moved (pc + length (if_needed e.continues (unite n n (n + 1) ∷ []))) (union g ct) (union returned rt) s ok.conf 1
-    rejoined pc z returned g b ct rt s c1 ok ek cleared gone leave has = go e.continues refl has
+    -- those that continued come back
+    joined : (pc : ℕ) (live returned ct : Mask) (s : State) (c : Conf) → InLoop pc live returned s c → (e.continues ≡ true → c.masks (n + 1) ≡ ct) → (e.continues ≡ false → ct ≡ nobody) → AreAt w.routine.code pc (if_needed e.continues (unite n n (n + 1) ∷ [])) → Moved (pc + length (if_needed e.continues (unite n n (n + 1) ∷ []))) (union live ct) returned s c 1
+    joined pc live returned ct s c i those none has = go e.continues those none has
       where
-        c2 : Conf
-        c2 = ok.conf
-
-        all2 : c2.masks k ≡ all
-        all2 = (let k0 : k ≢ n = omega (arith, three.low_on) in let k1 : k ≢ n + 1 = omega (arith, three.low_on) in let k2 : k ≢ n + 2 = omega (arith, three.low_on) in ok.masks k (omega (arith, three.low_on)) k0 k1 k2) ∙ ek
-
-        gone2 : (x : Bool) → e.returns ≡ x → Gone x returned c1 → Gone x (union returned rt) c2
-        gone2 true er h = ok.returned ∙ ap (λ m. union m rt) h
-        gone2 false er h = ap (λ m. union m rt) h ∙ ap (union nobody) (leave.2 er)
-
-        go : (x : Bool) → e.continues ≡ x → AreAt w.routine.code pc (if_needed x (unite n n (n + 1) ∷ [])) → Moved (pc + length (if_needed x (unite n n (n + 1) ∷ []))) (union g ct) (union returned rt) s c2 1
-        go true ec h = record {
+        go : (x : Bool) → (x ≡ true → c.masks (n + 1) ≡ ct) → (x ≡ false → ct ≡ nobody) → AreAt w.routine.code pc (if_needed x (unite n n (n + 1) ∷ [])) → Moved (pc + length (if_needed x (unite n n (n + 1) ∷ []))) (union live ct) returned s c 1
+        go true those none h = record {
           conf = c3;
           steps = 1;
-          comes = step_go w c2 pc (unite n n (n + 1)) c3 ready ok.at h.0 refl;
+          comes = step_go w c pc (unite n n (n + 1)) c3 ready i.at h.0 refl;
           few = omega arith;
-          spares = spares_all w n c2;
-          masks = λ r lt. let ne : r ≢ n = omega arith in put_other c2.masks n u3 r ne;
-          loop = record { at = masked_at w ready c2 pc n u3 ok.at; all_is = put_other c2.masks n u3 k kn ∙ all2; live_is = put_same c2.masks n u3 ∙ ap (λ m. union m (c2.masks (n + 1))) ok.went ∙ ap (union g) (ok.continued ∙ ap (λ m. union m ct) (cleared ec)); gone = gone3 e.returns (gone2 e.returns refl gone); stands = ok.stands };
+          spares = spares_all w n c;
+          masks = λ r lt. let ne : r ≢ n = omega arith in put_other c.masks n u3 r ne;
+          loop = record { at = masked_at w ready c pc n u3 i.at; all_is = put_other c.masks n u3 k kn ∙ i.all_is; live_is = put_same c.masks n u3 ∙ ap (λ m. union m (c.masks (n + 1))) i.live_is ∙ ap (union live) (those refl); gone = gone_put e.returns i.gone; stands = i.stands };
         }
           where
             u3 : Mask
-            u3 = union (c2.masks n) (c2.masks (n + 1))
+            u3 = union (c.masks n) (c.masks (n + 1))
 
             c3 : Conf
-            c3 = masked w ready c2 n u3
+            c3 = masked w ready c n u3
 
             kn : k ≢ n
             kn = omega (arith, three.low_on)
@@ -249,21 +247,59 @@ module _ (w : Setting) (ready : IsSettled w) where
             n2 : n + 2 ≢ n
             n2 = omega arith
 
-            gone3 : (y : Bool) → Gone y (union returned rt) c2 → Gone y (union returned rt) c3
-            gone3 true m = put_other c2.masks n u3 (n + 2) n2 ∙ m
-            gone3 false m = m
-        go false ec h = record {
-          conf = c2;
+            gone_put : (y : Bool) → Gone y returned c → Gone y returned c3
+            gone_put true m = put_other c.masks n u3 (n + 2) n2 ∙ m
+            gone_put false m = m
+        go false those none h = record {
+          conf = c;
           steps = 0;
-          comes = comes_none w c2;
+          comes = comes_none w c;
           few = omega arith;
-          spares = spares_all w n c2;
+          spares = spares_all w n c;
           masks = λ r lt. refl;
-          loop = record { at = at_to w c2 pc (pc + 0) ok.at (omega arith); all_is = all2; live_is = ok.went ∙ sym (union_nobody g) ∙ ap (union g) (sym (leave.1 ec)); gone = gone2 e.returns refl gone; stands = ok.stands };
+          loop = record { at = at_to w c pc (pc + 0) i.at (omega arith); all_is = i.all_is; live_is = i.live_is ∙ sym (union_nobody live) ∙ ap (union live) (sym (none refl)); gone = i.gone; stands = i.stands };
         }
 
+    -- a wide loop jumps past this where all lanes are live
+    rejoined : (pc : ℕ) (live returned ct : Mask) (s : State) (c : Conf) → InLoop pc live returned s c → (e.continues ≡ true → c.masks (n + 1) ≡ ct) → (e.continues ≡ false → ct ≡ nobody) → Inside w ct → AreAt w.routine.code pc (rejoin_code wide e pc n) → Moved (pc + length (rejoin_code wide e pc n)) (union live ct) returned s c 2
+    rejoined pc live returned ct s c i those none inside has = by wide has
+      where
+        join : List Instr
+        join = if_needed e.continues (unite n n (n + 1) ∷ [])
+
+        out : ℕ
+        out = pc + 1 + length join
+
+        ends : out ≡ pc + suc (length join)
+        ends = omega arith
+
+        c1 : Conf
+        c1 = jumped w ready c jump.All (mask_register n) out
+
+        full_is : (b : Bool) → all_of (gang_of w) live ≡ b → jumps w.code w.routine c jump.All (mask_register n) ≡ b
+        full_is b h = ap (all_of (gang_of w)) i.live_is ∙ h
+
+        here : (pc1 : ℕ) → At w c1 pc1 → InLoop pc1 live returned s c1
+        here pc1 at = record { at = at; all_is = i.all_is; live_is = i.live_is; gone = gone_moved e.returns returned c c1 refl i.gone; stands = i.stands }
+
+        by : (b : Bool) → AreAt w.routine.code pc (rejoin_code b e pc n) → Moved (pc + length (rejoin_code b e pc n)) (union live ct) returned s c 2
+        by false h = let m = joined pc live returned ct s c i those none h in record { conf = m.conf; steps = m.steps; comes = m.comes; few = omega (arith, m.few); spares = m.spares; masks = m.masks; loop = m.loop }
+        by true h = go (all_of (gang_of w) live) refl
+          where
+            comes : Comes w c 1 c1
+            comes = jump_comes w ready c pc jump.All (mask_register n) out i.at h.0
+
+            go : (b : Bool) → all_of (gang_of w) live ≡ b → Moved (pc + suc (length join)) (union live ct) returned s c 2
+            go true full =
+                let at = at_to w c1 out (pc + suc (length join)) (jump_at w ready c pc jump.All (mask_register n) out true i.at (full_is true full)) ends in
+                let same = union_full (gang_of w) live ct full inside in
+                record { conf = c1; steps = 1; comes = comes; few = omega arith; spares = spares_all w n c; masks = λ r lt. refl; loop = subst (λ z. InLoop (pc + suc (length join)) z returned s c1) (sym same) (here (pc + suc (length join)) at) }
+            go false full =
+                let m = joined (pc + 1) live returned ct s c1 (here (pc + 1) (jump_at w ready c pc jump.All (mask_register n) out false i.at (full_is false full))) those none h.1 in
+                record { conf = m.conf; steps = 1 + m.steps; comes = comes_on w c c1 m.conf 1 m.steps comes m.comes; few = omega (arith, m.few); spares = m.spares; masks = m.masks; loop = subst (λ z. InLoop z (union live ct) returned s m.conf) ends m.loop }
+
     -- where a turn begins with some kept: the body runs, and what follows goes on from those that are live
-    pub turn_runs : (m pc end q : ℕ) (kept returned : Mask) (s : State) (c : Conf) (code : ℕ → List Instr) (body : Mask → State → Res) (go : Mask → Mask → State → Res) → m ≤ w.turns → InLoop pc kept returned s c → any (gang_of w) kept ≡ true → Inside w kept → q ≤ 32 * s.work → AreAt w.routine.code pc (turn_code e pc n code) → BodyRuns w n code body → ((T : Mask) (s : State) → Parted T (body T s)) → ((T : Mask) (s : State) → Leave e (body T s)) → ((live returned : Mask) (s1 : State) (c1 : Conf) (q1 : ℕ) → InLoop (pc + length (turn_code e pc n code)) live returned s1 c1 → ((p : ℕ) → live p ≡ true → kept p ≡ true) → (nobody_leaves e ≡ true → live ≡ kept) → 10 + q1 ≤ 32 * s1.work → StmtRuns w m c1 end spot q1 (go live returned s1)) → StmtRuns w m c end spot q (go_on (body kept (tick s)) (λ s1 g b c r. go (union g c) (union returned r) s1))
+    pub turn_runs : (m pc end q : ℕ) (kept returned : Mask) (s : State) (c : Conf) (code : ℕ → List Instr) (body : Mask → State → Res) (go : Mask → Mask → State → Res) → m ≤ w.turns → InLoop pc kept returned s c → any (gang_of w) kept ≡ true → Inside w kept → q ≤ 32 * s.work → AreAt w.routine.code pc (turn_code wide e pc n code) → BodyRuns w n code body → ((T : Mask) (s : State) → Parted T (body T s)) → ((T : Mask) (s : State) → Leave e (body T s)) → ((live returned : Mask) (s1 : State) (c1 : Conf) (q1 : ℕ) → InLoop (pc + length (turn_code wide e pc n code)) live returned s1 c1 → ((p : ℕ) → live p ≡ true → kept p ≡ true) → (nobody_leaves e ≡ true → live ≡ kept) → 10 + q1 ≤ 32 * s1.work → StmtRuns w m c1 end spot q1 (go live returned s1)) → StmtRuns w m c end spot q (go_on (body kept (tick s)) (λ s1 g b c r. go (union g c) (union returned r) s1))
     turn_runs m pc end q kept returned s c code body go le i some inside used has run parts leaves next =
         let first = cleared pc kept returned s c i (are_front w.routine.code pc (if_needed e.continues (clear_mask (n + 1) ∷ [])) _ has) in
         with_body first (body kept (tick s)) (run kept (tick s) first.0.conf p1 (first.0.steps + (12 + q)) at_body (record { at = first.0.loop.at; mask = first.0.loop.live_is; some = some; inside = inside; stands = first.0.loop.stands; used = omega (arith, used, first.0.few); low = omega arith })) (parts kept (tick s)) (leaves kept (tick s))
@@ -274,11 +310,11 @@ module _ (w : Setting) (ready : IsSettled w) where
         p1 : ℕ
         p1 = pc + length clear
 
-        join : List Instr
-        join = if_needed e.continues (unite n n (n + 1) ∷ [])
-
         p2 : ℕ
         p2 = p1 + length (code p1)
+
+        join : List Instr
+        join = rejoin_code wide e p2 n
 
         rest : AreAt w.routine.code p1 (code p1 ++ join)
         rest = are_back w.routine.code pc clear (code p1 ++ join) has
@@ -289,15 +325,32 @@ module _ (w : Setting) (ready : IsSettled w) where
         at_join : AreAt w.routine.code p2 join
         at_join = are_back w.routine.code p1 (code p1) join rest
 
-        ends : p2 + length join ≡ pc + length (turn_code e pc n code)
+        ends : p2 + length join ≡ pc + length (turn_code wide e pc n code)
         ends = omega (arith, length-append clear (code p1 ++ join), length-append (code p1) join)
+
+        -- behind the body, before those that continued come back
+        behind_body : (g b ct rt : Mask) (s1 : State) (z : ℕ) (c1 : Conf) → (ok : StmtOk w c1 p2 (body_spot n) z s1 g ct rt) → c1.masks k ≡ all → Gone e.returns returned c1 → Leave e (Went s1 g b ct rt) → InLoop p2 g (union returned rt) s1 ok.conf
+        behind_body g b ct rt s1 z c1 ok ek gone leave = record {
+          at = ok.at;
+          all_is = (let k0 : k ≢ n = omega (arith, three.low_on) in let k1 : k ≢ n + 1 = omega (arith, three.low_on) in let k2 : k ≢ n + 2 = omega (arith, three.low_on) in ok.masks k (omega (arith, three.low_on)) k0 k1 k2) ∙ ek;
+          live_is = ok.went;
+          gone = gone2 e.returns refl gone;
+          stands = ok.stands;
+        }
+          where
+            gone2 : (x : Bool) → e.returns ≡ x → Gone x returned c1 → Gone x (union returned rt) ok.conf
+            gone2 true er h = ok.returned ∙ ap (λ m. union m rt) h
+            gone2 false er h = ap (λ m. union m rt) h ∙ ap (union nobody) (leave.2 er)
 
         with_body : (first : (m : Moved p1 kept returned s c 1) × (e.continues ≡ true → m.conf.masks (n + 1) ≡ nobody)) (v : Res) → StmtRuns w w.turns first.0.conf p2 (body_spot n) (first.0.steps + (12 + q)) v → Parted kept v → Leave e v → StmtRuns w m c end spot q (go_on v (λ s1 g b c r. go (union g c) (union returned r) s1))
         with_body first (Trapped t s1) r pa lv = failed_after w ready c first.0.conf first.0.steps q t s1 first.0.comes (failed_less w ready first.0.conf 12 (first.0.steps + q) t s1 (let eq : first.0.steps + (12 + q) ≡ 12 + (first.0.steps + q) = omega arith in subst (λ z. StmtRuns w w.turns first.0.conf p2 (body_spot n) z (Trapped t s1)) eq r))
         with_body first (Cut s1) r pa lv = fewer w.turns m c q s1 le (stopped_after w ready w.turns c first.0.conf first.0.steps q s1 first.0.comes (stopped_less w ready w.turns first.0.conf 12 (first.0.steps + q) s1 (let eq : first.0.steps + (12 + q) ≡ 12 + (first.0.steps + q) = omega arith in subst (λ z. StmtRuns w w.turns first.0.conf p2 (body_spot n) z (Cut s1)) eq r)))
         with_body first (Went s1 g b ct rt) r pa lv =
             let f = first.0 in
-            let j = rejoined p2 (f.steps + (12 + q)) returned g b ct rt s1 f.conf r f.loop.all_is first.1 f.loop.gone lv at_join in
+            let i2 = behind_body g b ct rt s1 (f.steps + (12 + q)) f.conf r f.loop.all_is f.loop.gone lv in
+            let those : e.continues ≡ true → r.conf.masks (n + 1) ≡ ct = (λ ec. r.continued ∙ ap (λ m. union m ct) (first.1 ec)) in
+            let in_gang : Inside w ct = (λ p h. inside p (live_in kept g b ct rt s1 pa p (second_so (g p) (ct p) h))) in
+            let j = rejoined p2 g (union returned rt) ct s1 r.conf i2 those lv.1 in_gang at_join in
             let d = f.steps + (r.steps + j.steps) in
             let low : (x : ℕ) → x < n → j.conf.masks x ≡ c.masks x =
             (λ x lt. (let x0 : x ≢ n = omega arith in let x1 : x ≢ n + 1 = omega arith in let x2 : x ≢ n + 2 = omega arith in j.masks x lt ∙ r.masks x (omega arith) x0 x1 x2) ∙ f.masks x lt) in
@@ -305,10 +358,6 @@ module _ (w : Setting) (ready : IsSettled w) where
             (next (union g ct) (union returned rt) s1 j.conf (d + q) (subst (λ z. InLoop z (union g ct) (union returned rt) s1 j.conf) ends j.loop) (live_in kept g b ct rt s1 pa) (λ none. ap (union g) (lv.1 (none_of e.breaks e.continues e.returns none).1) ∙ union_nobody g ∙ whole e kept g b ct rt s1 pa lv none) (omega (arith, r.bound, j.few)))
 
     -- ---- the test
-
-    gone_moved : (b : Bool) (returned : Mask) (c c1 : Conf) → c1.masks (n + 2) ≡ c.masks (n + 2) → Gone b returned c → Gone b returned c1
-    gone_moved true returned c c1 same g = same ∙ g
-    gone_moved false returned c c1 same g = g
 
     -- what goes on behind a test, for those that pass
     abbrev pub KeptRuns : ℕ → (ℕ → List Instr) → ℕ → ℕ → (Mask → Mask → State → Res) → Type 0
@@ -428,16 +477,16 @@ module _ (w : Setting) (ready : IsSettled w) where
       turns_of = turns (gang_of w) test body step all
 
       abbrev pub rest : ℕ → List Instr
-      rest pc = two pc (turn_code e pc n body_code) behind
+      rest pc = two pc (turn_code wide e pc n body_code) behind
 
       pub kept_runs : BodyRuns w n body_code body → ((T : Mask) (s : State) → Parted T (body T s)) → ((T : Mask) (s : State) → Leave e (body T s)) → ((m : ℕ) → suc m ≤ w.turns → KeptRuns m rest past end (turns_of m) → Behind m behind past end (stepped (gang_of w) test body step all (turns_of m))) → (m : ℕ) → m ≤ w.turns → KeptRuns m rest past end (turns_of m)
       kept_runs run_body parts leaves next zero le kept returned s c pc q has to i some inside used = record { conf = c; steps = 0; far = omega arith; goes = comes_none w c; out_is = i.stands.out_is; bound = omega (arith, used) }
       kept_runs run_body parts leaves next (suc m) le kept returned s c pc q has to i some inside used =
-          turn_runs (suc m) pc end q kept returned s c body_code body (λ live ret s1. if_so (any (gang_of w) live) (stepped (gang_of w) test body step all (turns_of m) live ret) (loop_end (gang_of w) test body step all ret) s1) le i some inside used (are_front w.routine.code pc (turn_code e pc n body_code) _ has) run_body parts leaves
+          turn_runs (suc m) pc end q kept returned s c body_code body (λ live ret s1. if_so (any (gang_of w) live) (stepped (gang_of w) test body step all (turns_of m) live ret) (loop_end (gang_of w) test body step all ret) s1) le i some inside used (are_front w.routine.code pc (turn_code wide e pc n body_code) _ has) run_body parts leaves
           (on_from (next m le (kept_runs run_body parts leaves next m (omega (arith, le)))))
         where
           turn : List Instr
-          turn = turn_code e pc n body_code
+          turn = turn_code wide e pc n body_code
 
           pc1 : ℕ
           pc1 = pc + length turn
@@ -599,7 +648,7 @@ module _ (w : Setting) (ready : IsSettled w) where
       while_turns = turns (gang_of w) test body no_step all
 
       abbrev turn_and_back : ℕ → List Instr
-      turn_and_back pc = two pc (turn_code e pc n body_code) back
+      turn_and_back pc = two pc (turn_code wide e pc n body_code) back
 
       abbrev test_end : ℕ
       test_end = top + length (test_code top)

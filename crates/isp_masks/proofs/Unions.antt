@@ -1,8 +1,9 @@
 -- Sets that grow, and sets of a gang.
-use Rattle.std.proofs.Common.{◌≡◌, ℕ, ◌<◌, Bool, true, false, refl}
+use Rattle.std.proofs.Common.{◌≡◌, ℕ, zero, suc, ◌<◌, ◌⊎◌, inl, inr, Bool, true, false, refl, sym, ap, ◌∙◌, arith}
 use Rattle.std.specs.Prelude.{◌||◌, ◌&&◌, not}
 use Rattle.std.proofs.Math.Path.{fun_ext}
-use Rattle.isp_base.specs.Sets.{Mask, nobody, union, without}
+use Rattle.std.proofs.lemmas.Bool.{cases_eq}
+use Rattle.isp_base.specs.Sets.{Mask, nobody, union, without, all}
 
 pub union_nobody : (a : Mask) → union a nobody ≡ a
 union_nobody a = fun_ext (λ p. at (a p))
@@ -40,6 +41,17 @@ pub neither : (a b : Bool) → (a || b) ≡ false → (a ≡ false) × (b ≡ fa
 neither true b e = absurd (cc)
 neither false b e = (refl, e)
 
+-- a set that has each of the first n has those below n
+in_all : (n : ℕ) (a : Mask) → all n a ≡ true → (p : ℕ) → p < n → a p ≡ true
+in_all zero a h p lt = absurd (omega (arith, lt))
+in_all (suc n) a h p lt =
+    let parts = both_so (all n a) (a n) h in
+    go parts.1 (cases_eq p n) (λ ne. in_all n a parts.0 p (omega (arith, lt, ne)))
+  where
+    go : a n ≡ true → (p ≡ n) ⊎ (p ≡ n → ⊥) → ((p ≡ n → ⊥) → a p ≡ true) → a p ≡ true
+    go last (inl e) lower = ap a e ∙ last
+    go last (inr ne) lower = lower ne
+
 -- sets of instances below a number
 module _ (n : ℕ) where
   abbrev pub Below : Mask → Type 0
@@ -51,3 +63,23 @@ module _ (n : ℕ) where
       go : (x : Bool) → a p ≡ x → (x && not (b p)) ≡ true → p < n
       go true e h = ha p e
       go false e h = absurd (cc)
+
+  -- where a set has each of these, others of them add nothing
+  pub union_full : (a b : Mask) → all n a ≡ true → Below b → union a b ≡ a
+  union_full a b h below = fun_ext (λ p. at p (b p) refl)
+    where
+      or_false : (x : Bool) → (x || false) ≡ x
+      or_false true = refl
+      or_false false = refl
+
+      at : (p : ℕ) (x : Bool) → b p ≡ x → (a p || x) ≡ a p
+      at p true e = let t = in_all n a h p (below p e) in ap (λ z. z || true) t ∙ sym t
+      at p false e = or_false (a p)
+
+  -- and nobody of them is not in it
+  pub without_full : (a b : Mask) → all n b ≡ true → Below a → without a b ≡ nobody
+  without_full a b h below = fun_ext (λ p. at p (a p) refl)
+    where
+      at : (p : ℕ) (x : Bool) → a p ≡ x → (x && not (b p)) ≡ false
+      at p true e = ap not (in_all n b h p (below p e))
+      at p false e = refl

@@ -1,20 +1,33 @@
 -- What the code of statements asks for: what its parts ask for, the result's register where a value is returned, for a
--- varying test a mask and a slot behind it, and for a loop three masks and slots behind them.
+-- varying test a mask and a slot behind it, in a c-form two, and for a loop three masks and slots behind them.
 use Rattle.std.specs.Prelude.{ℕ, ◌+◌, List, [], ◌∷◌, Option, Some, None}
 use Rattle.isp_base.specs.declared.types.Elem.TheVariants.{Bool as Truth, I32, I64}
 use Rattle.isp_base.specs.declared.types.Rate.{Rate}
 use Rattle.isp_base.specs.declared.types.Rate.TheVariants.{Uniform, Varying}
 use Rattle.isp_base.specs.declared.types.Ty.{Ty}
+use Rattle.isp_tree.specs.declared.stmt.Form.{Form}
+use Rattle.isp_tree.specs.declared.stmt.Form.TheVariants.{Plain, Coherent}
 use Rattle.isp_typed.specs.Typed.{TExpr, t_exprs, type_of, TSimple, TFirst, t_first_declare, t_first_simple, TRange, TStmt, t_block, t_declare, t_simple, t_if, t_if_else, t_while, t_do, t_for, t_foreach, t_foreach_active, t_unmasked, t_jump, t_return, t_print, t_assert, TBlock, t_braces, TStmts, t_no_stmts, t_stmt_then}
-use Rattle.isp_lower.specs.Asks.{Ask, Nothing, Both, Register, MaskOf, Number, first_slot, expr_asks, operand_asks, simple_asks, spare_ask, items_asks, test_asks, values_asks}
+use Rattle.isp_lower.specs.Asks.{Ask, Nothing, Both, Register, MaskOf, Number, expr_asks, operand_asks, simple_asks, spare_ask, items_asks, test_asks, values_asks}
 use Rattle.isp_lower.specs.Rows.{Result, Variable}
 use Rattle.isp_masks.specs.Prints.{own_rates}
 use Rattle.isp_masks.specs.Ranges.{places_slot, runs_slot}
 
--- a part behind a test
-abbrev pub part_asks : Rate → ℕ → Ask
-part_asks Uniform n = Nothing
-part_asks Varying n = Both (Number (n + 1)) (MaskOf n)
+-- a mask, and the slot behind it
+abbrev pub mask_asks : ℕ → Ask
+mask_asks n = Both (Number (n + 1)) (MaskOf n)
+
+-- the parts behind a test: by a varying one they keep a mask, in a c-form two
+abbrev pub part_asks : Form → Rate → ℕ → Ask
+part_asks f Uniform n = Nothing
+part_asks Plain Varying n = mask_asks n
+part_asks Coherent Varying n = Both (mask_asks n) (mask_asks (n + 1))
+
+-- the slot where they begin
+abbrev pub part_slot : Form → Rate → ℕ → ℕ
+part_slot f Uniform n = n
+part_slot Plain Varying n = n + 1
+part_slot Coherent Varying n = n + 1 + 1
 
 -- what is returned is wanted at the rate of what the function gives, and stands where results do
 abbrev pub answer_asks : Option Ty → TExpr → ℕ → Ask
@@ -79,9 +92,9 @@ result_asks (Some t) = Register t.rate Result t.elem
 
 -- ---- statements, told what their parts ask for in a slot
 
-abbrev pub if_asks : TExpr → ℕ → (ℕ → Ask) → Ask
-if_asks e n parts =
-    Both (expr_asks e n) (Both (part_asks (type_of e).rate n) (parts (first_slot (type_of e).rate n)))
+abbrev pub if_asks : Form → TExpr → ℕ → (ℕ → Ask) → Ask
+if_asks f e n parts =
+    Both (expr_asks e n) (Both (part_asks f (type_of e).rate n) (parts (part_slot f (type_of e).rate n)))
 
 -- a `for` behind its first part
 abbrev pub turns_asks : Option TExpr → Option TSimple → ℕ → (ℕ → Ask) → Ask
@@ -98,8 +111,8 @@ module _ (answer : Option Ty) where
     stmt_asks (t_block b) n = block_asks b n
     stmt_asks (t_declare xs sp) n = items_asks n xs
     stmt_asks (t_simple x sp) n = simple_asks x n
-    stmt_asks (t_if f g e x sp) n = if_asks e n (λ i. stmt_asks x i)
-    stmt_asks (t_if_else f g e x y sp) n = if_asks e n (λ i. Both (stmt_asks x i) (stmt_asks y i))
+    stmt_asks (t_if f g e x sp) n = if_asks f e n (λ i. stmt_asks x i)
+    stmt_asks (t_if_else f g e x y sp) n = if_asks f e n (λ i. Both (stmt_asks x i) (stmt_asks y i))
     stmt_asks (t_while f g e x sp) n = Both (loop_asks n) (Both (expr_asks e (n + 3)) (stmt_asks x (n + 3)))
     stmt_asks (t_do f g x e sp) n = Both (loop_asks n) (Both (stmt_asks x (n + 3)) (expr_asks e (n + 3)))
     stmt_asks (t_for f g first e step i x sp) n =

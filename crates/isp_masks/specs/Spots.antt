@@ -23,6 +23,10 @@ spot_of x =
 abbrev pub under : ℕ → Spot → Spot
 under k spot = record spot { on = k; slot = spot.slot + 1 }
 
+-- a part of a c-form, which keeps two masks
+abbrev pub widely : ℕ → Spot → Spot
+widely k spot = record spot { on = k; slot = spot.slot + 1 + 1 }
+
 -- the body of a loop whose masks are n, n + 1 and n + 2
 abbrev pub body_spot : ℕ → Spot
 body_spot n = record { on = n; continued = n + 1; returned = n + 2; slot = n + 3 }

@@ -9,6 +9,8 @@ use Rattle.isp_code.specs.declared.instr.Instr.{Instr}
 use Rattle.isp_code.specs.declared.instr.Instr.TheVariants as instr
 use Rattle.isp_code.specs.declared.instr.JumpTest.TheVariants as jump
 use Rattle.isp_code.specs.declared.register.Register.{Register}
+use Rattle.isp_tree.specs.declared.stmt.Form.{Form}
+use Rattle.isp_tree.specs.declared.stmt.Form.TheVariants.{Plain, Coherent}
 use Rattle.isp_typed.specs.Typed.{TExpr, type_of, TSimple, TStmt, t_block, t_declare, t_simple, t_if, t_if_else, t_while, t_do, t_for, t_foreach, t_foreach_active, t_unmasked, t_jump, t_return, t_print, t_assert, TBlock, t_braces, TStmts, t_no_stmts, t_stmt_then}
 use Rattle.isp_lower.specs.Layout.{Layout, register}
 use Rattle.isp_lower.specs.Code.{copy, where_so, the_others, jump_off, jump_on, two, guard, choice, found, operand, operand_of, expr_places, expr_code}
@@ -17,12 +19,12 @@ use Rattle.isp_lower.specs.Simple.{simple_code, simple_places}
 use Rattle.isp_masks.specs.Asserts.{assert_code, assert_places}
 use Rattle.isp_masks.specs.Exits.{exits_of, nobody_leaves, all_go_on}
 use Rattle.isp_masks.specs.Fors.{first_code, step_code, first_places, test_places, step_places}
-use Rattle.isp_masks.specs.Loops.{turn_code, step_back_code, while_code, for_code, endless_code, do_code}
+use Rattle.isp_masks.specs.Loops.{copy_mask, is_wide, jump_all, turn_code, step_back_code, while_code, for_code, endless_code, do_code}
 use Rattle.isp_masks.specs.Prints.{print_code, print_places, print_texts}
 use Rattle.isp_masks.specs.Ranges.{foreach_code, ranges_places, runs_slot}
 use Rattle.isp_masks.specs.Rounds.{unmasked_code, active_code}
 use Rattle.isp_masks.specs.Sets.{unite, leave_code, jump_code}
-use Rattle.isp_masks.specs.Spots.{Numbers, Spot, body_spot, first_spot, past, under}
+use Rattle.isp_masks.specs.Spots.{Numbers, Spot, body_spot, first_spot, past, under, widely}
 use Rattle.isp_masks.specs.declared.exits.Exits.{Exits}
 
 -- ---- one statement after the other
@@ -42,15 +44,25 @@ abbrev pub parted_code : ℕ → ℕ → ℕ → ℕ → (ℕ → List Instr) �
 parted_code x pc k n first rest =
     where_so n x k ∷ the_others k k n ∷ two (pc + 1 + 1) (guard (jump_off n) (pc + 1 + 1) first) (λ pc1. rest pc1 ++ unite k n k ∷ [])
 
-abbrev pub if_code : Rate → ℕ → ℕ → Spot → (ℕ → Spot → List Instr) → List Instr
-if_code Uniform x pc spot first = guard (jump_on jump.False x) pc (λ pc1. first pc1 spot)
-if_code Varying x pc spot first =
-    parted_code x pc spot.on spot.slot (λ pc1. first pc1 (under spot.slot spot)) (λ pc1. [])
+-- A c-form: mask n gets those of mask k for which the test is true, mask n + 1 the others, and the first part runs for mask k,
+-- which is then mask n. Where mask n has all lanes, nobody is left: a jump leads past the rest. Mask k ends as above.
+abbrev pub wide_code : ℕ → ℕ → ℕ → ℕ → (ℕ → List Instr) → (ℕ → List Instr) → List Instr
+wide_code x pc k n first rest =
+    where_so n x k ∷ the_others (n + 1) k n ∷ copy_mask k n ∷ two (pc + 1 + 1 + 1) (guard (jump_off k) (pc + 1 + 1 + 1) first) (λ pc1. guard (jump_all n) pc1 (λ pc2. rest pc2 ++ unite k k (n + 1) ∷ []))
 
-abbrev pub if_else_code : Rate → ℕ → ℕ → Spot → (ℕ → Spot → List Instr) → (ℕ → Spot → List Instr) → List Instr
-if_else_code Uniform x pc spot first second = choice (jump_on jump.False x) pc (λ pc1. first pc1 spot) (λ pc1. second pc1 spot)
-if_else_code Varying x pc spot first second =
+abbrev pub if_code : Form → Rate → ℕ → ℕ → Spot → (ℕ → Spot → List Instr) → List Instr
+if_code f Uniform x pc spot first = guard (jump_on jump.False x) pc (λ pc1. first pc1 spot)
+if_code Plain Varying x pc spot first =
+    parted_code x pc spot.on spot.slot (λ pc1. first pc1 (under spot.slot spot)) (λ pc1. [])
+if_code Coherent Varying x pc spot first =
+    wide_code x pc spot.on spot.slot (λ pc1. first pc1 (widely spot.on spot)) (λ pc1. [])
+
+abbrev pub if_else_code : Form → Rate → ℕ → ℕ → Spot → (ℕ → Spot → List Instr) → (ℕ → Spot → List Instr) → List Instr
+if_else_code f Uniform x pc spot first second = choice (jump_on jump.False x) pc (λ pc1. first pc1 spot) (λ pc1. second pc1 spot)
+if_else_code Plain Varying x pc spot first second =
     parted_code x pc spot.on spot.slot (λ pc1. first pc1 (under spot.slot spot)) (λ pc1. guard (jump_off spot.on) pc1 (λ pc2. second pc2 (under spot.on spot)))
+if_else_code Coherent Varying x pc spot first second =
+    wide_code x pc spot.on spot.slot (λ pc1. first pc1 (widely spot.on spot)) (λ pc1. guard (jump_off (spot.slot + 1)) pc1 (λ pc2. second pc2 (widely (spot.slot + 1) spot)))
 
 -- ---- the texts that code names, in order
 
@@ -132,16 +144,16 @@ module _ (l : Layout) (answer : Option Ty) where
     stmt_code (t_simple x sp) pc z spot = simple_code l x pc z.place spot.on spot.slot
     stmt_code (t_if f g e x sp) pc z spot =
         let z1 = past (expr_places l e) z in
-        two pc (expr_code l e pc z.place spot.on spot.slot) (λ pc1. if_code (type_of e).rate (found l e spot.slot) pc1 spot (λ pc2 part. stmt_code x pc2 z1 part))
+        two pc (expr_code l e pc z.place spot.on spot.slot) (λ pc1. if_code f (type_of e).rate (found l e spot.slot) pc1 spot (λ pc2 part. stmt_code x pc2 z1 part))
     stmt_code (t_if_else f g e x y sp) pc z spot =
         let z1 = past (expr_places l e) z in
-        two pc (expr_code l e pc z.place spot.on spot.slot) (λ pc1. if_else_code (type_of e).rate (found l e spot.slot) pc1 spot (λ pc2 part. stmt_code x pc2 z1 part) (λ pc2 part. stmt_code y pc2 (behind l x z1) part))
+        two pc (expr_code l e pc z.place spot.on spot.slot) (λ pc1. if_else_code f (type_of e).rate (found l e spot.slot) pc1 spot (λ pc2 part. stmt_code x pc2 z1 part) (λ pc2 part. stmt_code y pc2 (behind l x z1) part))
     stmt_code (t_while f g e x sp) pc z spot =
         let n = spot.slot in
-        while_code (exits_of x) (type_of e).rate (found l e (n + 3)) pc spot (λ pc1. expr_code l e pc1 z.place n (n + 3)) (λ pc1. stmt_code x pc1 (past (expr_places l e) z) (body_spot n))
+        while_code (is_wide f (type_of e).rate) (exits_of x) (type_of e).rate (found l e (n + 3)) pc spot (λ pc1. expr_code l e pc1 z.place n (n + 3)) (λ pc1. stmt_code x pc1 (past (expr_places l e) z) (body_spot n))
     stmt_code (t_do f g x e sp) pc z spot =
         let n = spot.slot in
-        do_code (exits_of x) (type_of e).rate (found l e (n + 3)) pc spot (λ pc1. expr_code l e pc1 (behind l x z).place n (n + 3)) (λ pc1. stmt_code x pc1 z (body_spot n))
+        do_code (is_wide f (type_of e).rate) (exits_of x) (type_of e).rate (found l e (n + 3)) pc spot (λ pc1. expr_code l e pc1 (behind l x z).place n (n + 3)) (λ pc1. stmt_code x pc1 z (body_spot n))
     stmt_code (t_for f g first None step i x sp) pc z spot =
         let n = spot.slot in
         let z1 = past (first_places l first) z in
@@ -150,7 +162,7 @@ module _ (l : Layout) (answer : Option Ty) where
         let n = spot.slot in
         let z1 = past (first_places l first) z in
         let z2 = past (expr_places l e) z1 in
-        two pc (first_code l first pc z.place spot.on n) (λ pc1. for_code (exits_of x) (type_of e).rate (found l e (n + 3)) pc1 spot (λ pc2. expr_code l e pc2 z1.place n (n + 3)) (λ pc2. stmt_code x pc2 z2 (body_spot n)) (λ pc2. step_code l step pc2 (behind l x z2).place n (n + 3)))
+        two pc (first_code l first pc z.place spot.on n) (λ pc1. for_code (is_wide f (type_of e).rate) (exits_of x) (type_of e).rate (found l e (n + 3)) pc1 spot (λ pc2. expr_code l e pc2 z1.place n (n + 3)) (λ pc2. stmt_code x pc2 z2 (body_spot n)) (λ pc2. step_code l step pc2 (behind l x z2).place n (n + 3)))
     stmt_code (t_foreach w g rs x sp) pc z spot =
         foreach_code l rs pc z.place spot.on spot.slot (λ pc1. stmt_code x pc1 (past (ranges_places l rs) z) (body_spot (runs_slot spot.slot rs)))
     stmt_code (t_foreach_active w g i x sp) pc z spot =
@@ -176,19 +188,19 @@ module _ (l : Layout) (answer : Option Ty) where
   body_code x n z pc = stmt_code x pc z (body_spot n)
 
   -- a turn of a `for`, its step, and the jump back to the test
-  abbrev pub stepped_code : Option TSimple → TStmt → Exits → ℕ → ℕ → ℕ → Numbers → List Instr
-  stepped_code step x e n top pc z =
-      two pc (turn_code e pc n (body_code x n z)) (λ pc1. step_back_code (nobody_leaves e) n top pc1 (λ pc2. step_code l step pc2 (behind l x z).place n (n + 3)))
+  abbrev pub stepped_code : Bool → Option TSimple → TStmt → Exits → ℕ → ℕ → ℕ → Numbers → List Instr
+  stepped_code wide step x e n top pc z =
+      two pc (turn_code wide e pc n (body_code x n z)) (λ pc1. step_back_code (nobody_leaves e) n top pc1 (λ pc2. step_code l step pc2 (behind l x z).place n (n + 3)))
 
   -- a `for` behind its first part
-  abbrev pub turns_code : Option TExpr → Option TSimple → TStmt → ℕ → Numbers → Spot → List Instr
-  turns_code None step x pc z spot =
+  abbrev pub turns_code : Form → Option TExpr → Option TSimple → TStmt → ℕ → Numbers → Spot → List Instr
+  turns_code f None step x pc z spot =
       let n = spot.slot in
       endless_code (exits_of x) pc spot (body_code x n z) (λ pc1. step_code l step pc1 (behind l x z).place n (n + 3))
-  turns_code (Some e) step x pc z spot =
+  turns_code f (Some e) step x pc z spot =
       let n = spot.slot in
       let z1 = past (expr_places l e) z in
-      for_code (exits_of x) (type_of e).rate (found l e (n + 3)) pc spot (λ pc1. expr_code l e pc1 z.place n (n + 3)) (body_code x n z1) (λ pc1. step_code l step pc1 (behind l x z1).place n (n + 3))
+      for_code (is_wide f (type_of e).rate) (exits_of x) (type_of e).rate (found l e (n + 3)) pc spot (λ pc1. expr_code l e pc1 z.place n (n + 3)) (body_code x n z1) (λ pc1. step_code l step pc1 (behind l x z1).place n (n + 3))
 
   -- the body, and what it gives back
   abbrev pub function_code : TBlock → ℕ → Numbers → List Instr

@@ -7,6 +7,7 @@ use Rattle.isp_base.specs.declared.types.Elem.TheVariants.{Bool as Truth, I32, I
 use Rattle.isp_base.specs.declared.types.Rate.TheVariants.{Uniform, Varying}
 use Rattle.isp_base.specs.declared.types.Span.{Span}
 use Rattle.isp_code.specs.declared.instr.Instr.{Instr}
+use Rattle.isp_tree.specs.declared.stmt.Form.{Form}
 use Rattle.isp_typed.specs.Typed.{TExpr, type_of, TSimple, TFirst, TStmt, TBlock, TRange}
 use Rattle.isp_lower.specs.Code.{expr_code, expr_places, found, guard, jump_off, two, compare, compute, convert, copy, splat}
 use Rattle.isp_lower.specs.Emitted.{layout, texts_of}
@@ -22,9 +23,10 @@ use Rattle.isp_masks.specs.Asks.{bounds_asks, loop_asks, measures_asks, places_a
 use Rattle.isp_masks.specs.Asserts.{assert_code, assert_places}
 use Rattle.isp_masks.specs.Exits.{exits_of, nobody_leaves}
 use Rattle.isp_masks.specs.Fors.{first_code, first_places, step_code, step_places, test_places}
-use Rattle.isp_masks.specs.Loops.{again_code, back_code, do_code, live_code, sift_code, step_back_code, turn_code, while_code}
+use Rattle.isp_masks.specs.Loops.{again_code, back_code, do_code, is_wide, jump_all, live_code, sift_code, step_back_code, turn_code, while_code}
 use Rattle.isp_masks.specs.Ranges.{foreach_code, last_index, narrow, outer_index, places_slot, range_mask, ranges_code, ranges_places, runs_slot, sweep_code, test, wide}
 use Rattle.isp_masks.specs.Rounds.{active_code, unmasked_code}
+use Rattle.isp_masks.specs.Sets.{unite}
 use Rattle.isp_masks.specs.Spots.{Numbers, Spot as Where, body_spot, next_of, past, spot_of}
 use Rattle.isp_masks.specs.Statements.{answer_code, behind, block_code, block_places, block_texts, body_code, function_code, if_code, if_else_code, stepped_code, stmt_code, stmt_places, stmt_texts, turns_code}
 use Rattle.isp_masks.specs.declared.looping.Loop.{Loop}
@@ -80,25 +82,32 @@ guarded_at on x spot k n =
     record { code = λ pc z. guard (jump_off k) pc (λ pc1. part_code on x z pc1 (record (spot_of spot) { on = k; slot = n })); places = stmt_places (layout on) x; texts = stmt_texts x }
 
 -- one part behind a test in register c, two of them, and with the test
-abbrev pub part_at : Scope → Rate → ℕ → TStmt → Spot → Piece
-part_at on r c x spot =
-    record { code = λ pc z. if_code r c pc (spot_of spot) (part_code on x z); places = stmt_places (layout on) x; texts = stmt_texts x }
+abbrev pub part_at : Scope → Form → Rate → ℕ → TStmt → Spot → Piece
+part_at on f r c x spot =
+    record { code = λ pc z. if_code f r c pc (spot_of spot) (part_code on x z); places = stmt_places (layout on) x; texts = stmt_texts x }
 
-abbrev pub parts_at : Scope → Rate → ℕ → TStmt → TStmt → Spot → Piece
-parts_at on r c x y spot =
+abbrev pub parts_at : Scope → Form → Rate → ℕ → TStmt → TStmt → Spot → Piece
+parts_at on f r c x y spot =
     let l = layout on in
-    record { code = λ pc z. if_else_code r c pc (spot_of spot) (part_code on x z) (part_code on y (behind l x z)); places = stmt_places l x ++ stmt_places l y; texts = stmt_texts x ++ stmt_texts y }
+    record { code = λ pc z. if_else_code f r c pc (spot_of spot) (part_code on x z) (part_code on y (behind l x z)); places = stmt_places l x ++ stmt_places l y; texts = stmt_texts x ++ stmt_texts y }
 
-abbrev pub if_at : Scope → TExpr → TStmt → Spot → Piece
-if_at on e x spot =
+-- the second part of a c-form, and those that went on from it come back: jumped past where a mask has all lanes
+abbrev pub others_at : Scope → TStmt → Spot → ℕ → ℕ → ℕ → Piece
+others_at on y spot full k n =
+    let part = guarded_at on y spot k n in
+    let all = spot.masks.on.number in
+    record { code = λ pc z. guard (jump_all full) pc (λ pc1. part.code pc1 z ++ unite all all k ∷ []); places = part.places; texts = part.texts }
+
+abbrev pub if_at : Scope → Form → TExpr → TStmt → Spot → Piece
+if_at on f e x spot =
     let l = layout on in
-    let part = part_at on (type_of e).rate (found l e spot.slot.number) x spot in
+    let part = part_at on f (type_of e).rate (found l e spot.slot.number) x spot in
     record { code = λ pc z. two pc (expr_code l e pc z.place spot.masks.on.number spot.slot.number) (λ pc1. part.code pc1 (past (expr_places l e) z)); places = expr_places l e ++ part.places; texts = part.texts }
 
-abbrev pub if_else_at : Scope → TExpr → TStmt → TStmt → Spot → Piece
-if_else_at on e x y spot =
+abbrev pub if_else_at : Scope → Form → TExpr → TStmt → TStmt → Spot → Piece
+if_else_at on f e x y spot =
     let l = layout on in
-    let parts = parts_at on (type_of e).rate (found l e spot.slot.number) x y spot in
+    let parts = parts_at on f (type_of e).rate (found l e spot.slot.number) x y spot in
     record { code = λ pc z. two pc (expr_code l e pc z.place spot.masks.on.number spot.slot.number) (λ pc1. parts.code pc1 (past (expr_places l e) z)); places = expr_places l e ++ parts.places; texts = parts.texts }
 
 -- ---- loops
@@ -106,24 +115,24 @@ if_else_at on e x y spot =
 -- a turn; in a `while` behind its test, with the jump back
 abbrev pub turn_at : Scope → TStmt → Loop → Piece
 turn_at on x it =
-    record { code = λ pc z. turn_code it.exits pc it.slot.number (body_code (layout on) on.answer x it.slot.number z); places = stmt_places (layout on) x; texts = stmt_texts x }
+    record { code = λ pc z. turn_code it.wide it.exits pc it.slot.number (body_code (layout on) on.answer x it.slot.number z); places = stmt_places (layout on) x; texts = stmt_texts x }
 
 abbrev pub while_turn_at : Scope → Test → TStmt → Loop → Piece
 while_turn_at on test x it =
     let turn = turn_at on x it in
     record { code = λ pc z. sift_code test.rate test.register.number pc it.slot.number (λ pc1. two pc1 (turn.code pc1 z) (λ pc2. back_code (nobody_leaves it.exits) it.slot.number it.top ∷ [])); places = turn.places; texts = turn.texts }
 
-abbrev pub while_at : Scope → TExpr → TStmt → Spot → Piece
-while_at on e x spot =
+abbrev pub while_at : Scope → Form → TExpr → TStmt → Spot → Piece
+while_at on f e x spot =
     let l = layout on in
     let n = spot.slot.number in
-    record { code = λ pc z. while_code (exits_of x) (type_of e).rate (found l e (n + 3)) pc (spot_of spot) (λ pc1. expr_code l e pc1 z.place n (n + 3)) (body_code l on.answer x n (past (expr_places l e) z)); places = expr_places l e ++ stmt_places l x; texts = stmt_texts x }
+    record { code = λ pc z. while_code (is_wide f (type_of e).rate) (exits_of x) (type_of e).rate (found l e (n + 3)) pc (spot_of spot) (λ pc1. expr_code l e pc1 z.place n (n + 3)) (body_code l on.answer x n (past (expr_places l e) z)); places = expr_places l e ++ stmt_places l x; texts = stmt_texts x }
 
-abbrev pub do_at : Scope → TStmt → TExpr → Spot → Piece
-do_at on x e spot =
+abbrev pub do_at : Scope → Form → TStmt → TExpr → Spot → Piece
+do_at on f x e spot =
     let l = layout on in
     let n = spot.slot.number in
-    record { code = λ pc z. do_code (exits_of x) (type_of e).rate (found l e (n + 3)) pc (spot_of spot) (λ pc1. expr_code l e pc1 (behind l x z).place n (n + 3)) (body_code l on.answer x n z); places = stmt_places l x ++ expr_places l e; texts = stmt_texts x }
+    record { code = λ pc z. do_code (is_wide f (type_of e).rate) (exits_of x) (type_of e).rate (found l e (n + 3)) pc (spot_of spot) (λ pc1. expr_code l e pc1 (behind l x z).place n (n + 3)) (body_code l on.answer x n z); places = stmt_places l x ++ expr_places l e; texts = stmt_texts x }
 
 -- the test of a `do` and the jump back; and for those that are live alone
 abbrev pub again_at : Scope → TExpr → Loop → Silent
@@ -170,7 +179,7 @@ step_back_at on alone x it =
 abbrev pub stepped_at : Scope → Option TSimple → TStmt → Loop → Piece
 stepped_at on step x it =
     let l = layout on in
-    record { code = stepped_code l on.answer step x it.exits it.slot.number it.top; places = stmt_places l x ++ step_places l step; texts = stmt_texts x }
+    record { code = stepped_code l on.answer it.wide step x it.exits it.slot.number it.top; places = stmt_places l x ++ step_places l step; texts = stmt_texts x }
 
 abbrev pub passed_at : Scope → Test → Option TSimple → TStmt → Loop → Piece
 passed_at on test step x it =
@@ -185,10 +194,10 @@ for_turn_at on e step x it =
     record { code = λ pc z. two pc (expr_code l e pc z.place n (n + 3)) (λ pc1. sift_code (type_of e).rate (found l e (n + 3)) pc1 n (λ pc2. turn.code pc2 (past (expr_places l e) z))); places = expr_places l e ++ turn.places; texts = turn.texts }
 
 -- behind its first part
-abbrev pub turns_at : Scope → Option TExpr → Option TSimple → TStmt → Spot → Piece
-turns_at on e step x spot =
+abbrev pub turns_at : Scope → Form → Option TExpr → Option TSimple → TStmt → Spot → Piece
+turns_at on f e step x spot =
     let l = layout on in
-    record { code = λ pc z. turns_code l on.answer e step x pc z (spot_of spot); places = test_places l e ++ (stmt_places l x ++ step_places l step); texts = stmt_texts x }
+    record { code = λ pc z. turns_code l on.answer f e step x pc z (spot_of spot); places = test_places l e ++ (stmt_places l x ++ step_places l step); texts = stmt_texts x }
 
 -- ---- `foreach`
 

@@ -3,6 +3,7 @@
 
 mod asserting;
 mod awaited;
+mod branches;
 mod exits;
 mod laws;
 mod listing;

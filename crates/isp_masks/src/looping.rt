@@ -1,9 +1,11 @@
 //! What the code of each loop has besides its parts. The loop's first mask has the lanes that run it, the next those that
 //! continued in a turn, the third those that returned.
-ghost use Rattle.std.specs.Prelude.{◌≡◌, ◌<◌, ◌+◌, ◌∷◌, [], length, slice_set, OnOk};
+ghost use Rattle.std.specs.Prelude.{◌≡◌, ◌<◌, ◌+◌, ◌∷◌, [], length, option_map, slice_set, OnOk};
+ghost use Rattle.isp_typed.specs.Views.{expr_of};
+ghost use Rattle.isp_lower.specs.Code.{guard};
 ghost use Rattle.isp_lower.specs.Emitted.{Appends};
 ghost use Rattle.isp_masks.specs.Exits.{nobody_leaves};
-ghost use Rattle.isp_masks.specs.Loops.{again_code, back_code, copy_mask, enter_code, if_needed, loop_end_code, sift_begin, sift_jump};
+ghost use Rattle.isp_masks.specs.Loops.{again_code, back_code, copy_mask, enter_code, if_needed, is_wide, is_wide_by, jump_all, loop_end_code, rejoin_code, sift_begin, sift_jump};
 ghost use Rattle.isp_masks.specs.Sets.{clear_mask, unite};
 
 use crate::exits::Exits;
@@ -12,11 +14,14 @@ use crate::sets::{clear_mask, unite};
 use isp_base::Rate;
 use isp_code::{Instr, JumpTest, MaskInstr};
 use isp_lower::{Body, MaskNumber, RegisterNumber, Site, Slot, mask, scalar, the_others, where_so};
+use isp_tree::Form;
+use isp_typed::TypedExpr;
 use std::alloc::AllocError;
 
-/// A loop: who may leave its body, its first mask, and the instruction where its turns begin.
+/// A loop: whether it is a c-form by a varying test, who may leave its body, its first mask, and the instruction where its turns begin.
 #[derive(Clone, Copy)]
 pub(crate) struct Loop {
+    pub wide: bool,
     pub exits: Exits,
     pub slot: Slot,
     pub top: u32,
@@ -27,6 +32,30 @@ pub(crate) struct Loop {
 pub(crate) struct Test {
     pub rate: Rate,
     pub register: RegisterNumber,
+}
+
+/// The form of a `for`, and its test, where it has one.
+#[derive(Clone, Copy)]
+pub(crate) struct ForTest<'a> {
+    pub form: Form,
+    pub test: &'a Option<TypedExpr>,
+}
+
+/// Whether a statement is a c-form by a varying test.
+pub(crate) fn is_wide(form: Form, rate: Rate) -> bool
+    ensures { result ≡ is_wide form rate }
+{
+    matches!((form, rate), (Form::Coherent, Rate::Varying))
+}
+
+/// Whether a `for` is one, by its test.
+pub(crate) fn is_wide_by(form: Form, test: &Option<TypedExpr>) -> bool
+    ensures { result ≡ is_wide_by form (option_map expr_of test.now) }
+{
+    match test {
+        None => false,
+        Some(test) => is_wide(form, test.ty().rate),
+    }
 }
 
 /// Where the test and the step of a loop work: for the lanes that run it, in the slots behind its masks.
@@ -77,6 +106,37 @@ pub(crate) fn join_where(
         b.push(unite(to, to, from))?;
     }
     Ok(())
+}
+
+/// The same, jumped past where a mask has all lanes.
+pub(crate) fn join_widely(
+    b: &mut Body,
+    full: MaskNumber,
+    needed: bool,
+    to: MaskNumber,
+    from: MaskNumber,
+) -> Result<(), AllocError>
+    ensures { OnOk result (Appends b.old b.new (λ pc p. guard (jump_all full.number) pc (λ pc1. if_needed needed (unite to.number to.number from.number ∷ []))) []) }
+{
+    let at = b.code.len();
+    b.push(Instr::JumpIf(JumpTest::All, mask(full), 0))?;
+    join_where(b, needed, to, from)?;
+    b.land(at, JumpTest::All, mask(full));
+    Ok(())
+}
+
+/// Those that continued in a turn come back.
+pub(crate) fn rejoin(b: &mut Body, it: Loop) -> Result<(), AllocError>
+    requires { it.slot.number + 1 < 4294967296 }
+    ensures { OnOk result (Appends b.old b.new (λ pc p. rejoin_code it.wide it.exits pc it.slot.number) []) }
+{
+    let live = it.slot.mask();
+    let continued = it.slot.next().mask();
+    if it.wide {
+        join_widely(b, live, it.exits.continues, live, continued)
+    } else {
+        join_where(b, it.exits.continues, live, continued)
+    }
 }
 
 /// A loop begins, for the lanes of a mask.

@@ -1,17 +1,18 @@
 //! The registers and masks that the code of statements asks for, before it is written.
 ghost use Rattle.std.specs.Prelude.{◌≡◌, ◌+◌, option_map, OnOk, IfOk};
-ghost use Rattle.isp_base.specs.declared.types.Rate.TheVariants.{Varying};
 ghost use Rattle.isp_typed.specs.Typed.{t_exprs};
 ghost use Rattle.isp_typed.specs.Views.{block_of, expr_of, exprs_of, first_of, simple_of, stmt_of, ranges_of};
-ghost use Rattle.isp_lower.specs.Asks.{Both, expr_asks, first_slot, values_asks};
+ghost use Rattle.isp_lower.specs.Asks.{Both, expr_asks, values_asks};
 ghost use Rattle.isp_lower.specs.Reserved.{Gives};
-ghost use Rattle.isp_masks.specs.Asks.{answer_asks, assert_asks, block_asks, first_asks, if_asks, loop_asks, part_asks, step_asks, stmt_asks, test_part_asks, turn_asks, turns_asks, ranges_asks};
+ghost use Rattle.isp_masks.specs.Asks.{answer_asks, assert_asks, block_asks, first_asks, if_asks, loop_asks, mask_asks, part_asks, part_slot, step_asks, stmt_asks, test_part_asks, turn_asks, turns_asks, ranges_asks};
 ghost use Rattle.isp_masks.specs.Prints.{own_rates};
 ghost use Rattle.isp_masks.specs.Ranges.{runs_slot};
 
+use crate::branches::Condition;
 use crate::ranges_reserved::{bounds, measures, places};
 use isp_base::{Rate, Ty};
 use isp_lower::{Reserve, Slot};
+use isp_tree::Form;
 use isp_typed::{TypedBlock, TypedExpr, TypedFirst, TypedRange, TypedSimple, TypedStmt};
 use std::alloc::AllocError;
 
@@ -24,13 +25,26 @@ fn stmt(r: &mut Reserve, x: &TypedStmt, answer: Option<Ty>, slot: Slot) -> Resul
         TypedStmt::Block(inner) => block(r, inner, answer, slot),
         TypedStmt::Declare { items, .. } => r.items(items, slot),
         TypedStmt::Simple { simple, .. } => r.simple(simple, slot),
-        TypedStmt::If { test, then, .. } => one_side(r, test, then, answer, slot),
+        TypedStmt::If {
+            form,
+            test,
+            then,
+            ..
+        } => one_side(r, Condition { form: *form, test }, then, answer, slot),
         TypedStmt::IfElse {
+            form,
             test,
             then,
             otherwise,
             ..
-        } => two_sides(r, test, then, otherwise, answer, slot),
+        } => two_sides(
+            r,
+            Condition { form: *form, test },
+            then,
+            otherwise,
+            answer,
+            slot,
+        ),
         TypedStmt::Return { value, .. } => match value {
             Some(x) => returned(r, x, answer, slot),
             None => Ok(()),
@@ -109,40 +123,51 @@ fn printed(r: &mut Reserve, all: &[TypedExpr], slot: Slot) -> Result<(), AllocEr
     Ok(())
 }
 
-/// The mask of a varying test, and the slot behind it.
+/// A mask, and the slot behind it.
 fn behind(r: &mut Reserve, slot: Slot) -> Result<Slot, AllocError>
-    ensures number { IfOk result (λ n. n.number ≡ first_slot Varying slot.number) }
-    ensures gives { OnOk result (Gives r.old r.new (part_asks Varying slot.number)) }
+    ensures number { IfOk result (λ n. n.number ≡ slot.number + 1) }
+    ensures gives { OnOk result (Gives r.old r.new (mask_asks slot.number)) }
 {
     let next = r.next(slot)?;
     r.mask(slot)?;
     Ok(next)
 }
 
-/// The slot of the parts behind a test.
-fn part(r: &mut Reserve, rate: Rate, slot: Slot) -> Result<Slot, AllocError>
-    ensures number { IfOk result (λ n. n.number ≡ first_slot rate slot.number) }
-    ensures gives { OnOk result (Gives r.old r.new (part_asks rate slot.number)) }
+/// Two masks, and the slot behind them.
+fn behind_two(r: &mut Reserve, slot: Slot) -> Result<Slot, AllocError>
+    ensures number { IfOk result (λ n. n.number ≡ slot.number + 1 + 1) }
+    ensures gives { OnOk result (Gives r.old r.new (Both (mask_asks slot.number) (mask_asks (slot.number + 1)))) }
 {
-    match rate {
-        Rate::Uniform => Ok(slot),
-        Rate::Varying => behind(r, slot),
+    let next = behind(r, slot)?;
+    let last = behind(r, next)?;
+    Ok(last)
+}
+
+/// The slot of the parts behind a test.
+fn part(r: &mut Reserve, form: Form, rate: Rate, slot: Slot) -> Result<Slot, AllocError>
+    ensures number { IfOk result (λ n. n.number ≡ part_slot form rate slot.number) }
+    ensures gives { OnOk result (Gives r.old r.new (part_asks form rate slot.number)) }
+{
+    match (rate, form) {
+        (Rate::Uniform, _) => Ok(slot),
+        (Rate::Varying, Form::Plain) => behind(r, slot),
+        (Rate::Varying, Form::Coherent) => behind_two(r, slot),
     }
 }
 
 #[cycle(stmt)]
 fn one_side(
     r: &mut Reserve,
-    test: &TypedExpr,
+    by: Condition<'_>,
     then: &TypedStmt,
     answer: Option<Ty>,
     slot: Slot,
 ) -> Result<(), AllocError>
-    ensures { OnOk result (Gives r.old r.new (if_asks (expr_of test.now) slot.number (λ i. stmt_asks answer (stmt_of then.now) i))) }
+    ensures { OnOk result (Gives r.old r.new (if_asks by.entry.form (expr_of by.entry.test.now) slot.number (λ i. stmt_asks answer (stmt_of then.now) i))) }
 {
-    let rate = test.ty().rate;
-    r.expr(test, slot)?;
-    let next = part(r, rate, slot)?;
+    let rate = by.test.ty().rate;
+    r.expr(by.test, slot)?;
+    let next = part(r, by.form, rate, slot)?;
     stmt(r, then, answer, next)?;
     Ok(())
 }
@@ -150,17 +175,17 @@ fn one_side(
 #[cycle(stmt)]
 fn two_sides(
     r: &mut Reserve,
-    test: &TypedExpr,
+    by: Condition<'_>,
     then: &TypedStmt,
     otherwise: &TypedStmt,
     answer: Option<Ty>,
     slot: Slot,
 ) -> Result<(), AllocError>
-    ensures { OnOk result (Gives r.old r.new (if_asks (expr_of test.now) slot.number (λ i. Both (stmt_asks answer (stmt_of then.now) i) (stmt_asks answer (stmt_of otherwise.now) i)))) }
+    ensures { OnOk result (Gives r.old r.new (if_asks by.entry.form (expr_of by.entry.test.now) slot.number (λ i. Both (stmt_asks answer (stmt_of then.now) i) (stmt_asks answer (stmt_of otherwise.now) i)))) }
 {
-    let rate = test.ty().rate;
-    r.expr(test, slot)?;
-    let next = part(r, rate, slot)?;
+    let rate = by.test.ty().rate;
+    r.expr(by.test, slot)?;
+    let next = part(r, by.form, rate, slot)?;
     stmt(r, then, answer, next)?;
     stmt(r, otherwise, answer, next)?;
     Ok(())

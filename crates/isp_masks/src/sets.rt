@@ -2,8 +2,10 @@
 ghost use Rattle.std.specs.Prelude.{◌≡◌, ◌∷◌, [], OnOk};
 ghost use Rattle.isp_lower.specs.Code.{the_others, where_so};
 ghost use Rattle.isp_lower.specs.Emitted.{Appends};
+ghost use Rattle.isp_masks.specs.Loops.{copy_mask};
 ghost use Rattle.isp_masks.specs.Sets.{clear_mask, jump_code, leave_code, unite};
 
+use crate::looping::copy_mask;
 use crate::masks::Masks;
 use isp_code::{Instr, MaskInstr, MaskOp};
 use isp_lower::{Body, MaskNumber, RegisterNumber, mask, the_others, where_so};
@@ -38,6 +40,22 @@ pub(crate) fn part(
 {
     b.push(where_so(to, tested, k))?;
     b.push(the_others(k, k, to))?;
+    Ok(())
+}
+
+/// The lanes of a mask for which a test in a register is true go to another mask, the others to a third, and it keeps the first.
+pub(crate) fn part_beside(
+    b: &mut Body,
+    to: MaskNumber,
+    others: MaskNumber,
+    tested: RegisterNumber,
+    k: MaskNumber,
+) -> Result<(), AllocError>
+    ensures { OnOk result (Appends b.old b.new (λ pc p. where_so to.number tested.number k.number ∷ the_others others.number k.number to.number ∷ copy_mask k.number to.number ∷ []) []) }
+{
+    b.push(where_so(to, tested, k))?;
+    b.push(the_others(others, k, to))?;
+    b.push(copy_mask(k, to))?;
     Ok(())
 }
 

@@ -2,22 +2,22 @@
 //! continued and those that returned are added to two others.
 ghost use Rattle.std.specs.Prelude.{◌<◌, ◌+◌, length, option_map, OnOk};
 ghost use Rattle.isp_base.specs.declared.types.Elem.TheVariants.{I64};
-ghost use Rattle.isp_base.specs.declared.types.Rate.TheVariants.{Uniform, Varying};
-ghost use Rattle.isp_typed.specs.Typed.{type_of};
+ghost use Rattle.isp_base.specs.declared.types.Rate.TheVariants.{Uniform};
 ghost use Rattle.isp_typed.specs.Views.{block_of, expr_of, ranges_of, simple_of, stmt_of};
-ghost use Rattle.isp_lower.specs.Asks.{Register as Ask, expr_asks, first_slot};
+ghost use Rattle.isp_lower.specs.Asks.{Register as Ask, expr_asks};
 ghost use Rattle.isp_lower.specs.Emitted.{Present};
 ghost use Rattle.isp_lower.specs.Rows.{Variable};
-ghost use Rattle.isp_masks.specs.Asks.{block_asks, part_asks, ranges_asks, step_asks, stmt_asks, test_part_asks};
+ghost use Rattle.isp_masks.specs.Asks.{block_asks, ranges_asks, step_asks, stmt_asks, test_part_asks};
 ghost use Rattle.isp_masks.specs.Ranges.{runs_slot};
-ghost use Rattle.isp_masks.specs.Written.{Writes, active_at, block_at, do_at, for_turn_at, foreach_at, guarded_at, if_at, if_else_at, last_asks, last_range_at, last_run_at, outer_turn_at, part_at, parts_at, passed_at, ranges_at, stepped_at, stmt_at, sweep_asks, sweeps_asks, turn_at, turns_at, unmasked_at, while_at, while_turn_at};
+ghost use Rattle.isp_masks.specs.Written.{Writes, active_at, block_at, do_at, for_turn_at, foreach_at, last_asks, last_range_at, last_run_at, outer_turn_at, passed_at, ranges_at, stepped_at, stmt_at, sweep_asks, sweeps_asks, turn_at, turns_at, unmasked_at, while_at, while_turn_at};
 
 use crate::asserting::asserts;
 use crate::awaited::{land_all, leave_room};
+use crate::branches::{Condition, if_alone, if_else};
 use crate::exits::{all_go_on, exits_of};
 use crate::looping::{
-    Loop, Test, back, clear_where, copy_mask, enter, inside, join_where, land_sift, leave_loop,
-    next, sift,
+    ForTest, Loop, Test, back, clear_where, copy_mask, enter, inside, is_wide, is_wide_by,
+    land_sift, leave_loop, next, rejoin, sift,
 };
 use crate::masks::{Masks, Spot};
 use crate::printing::prints;
@@ -27,11 +27,12 @@ use crate::ranges::{
 };
 use crate::returned::returns;
 use crate::rounds::{fill_mask, take_lane};
-use crate::sets::{jump, part, unite};
+use crate::sets::jump;
 use crate::steps::{first_part, live_again, step_back};
 use isp_base::{Elem, Rate, Ty};
 use isp_code::{Instr, JumpTest};
-use isp_lower::{Body, RegisterNumber, Scope, Site, declared, expr, mask, scalar, simple};
+use isp_lower::{Body, Scope, Site, declared, expr, mask, scalar, simple};
+use isp_tree::Form;
 use isp_typed::{TypedBlock, TypedExpr, TypedRange, TypedSimple, TypedStmt};
 use std::alloc::AllocError;
 
@@ -51,13 +52,26 @@ pub(crate) fn stmt(b: &mut Body, on: &Scope, x: &TypedStmt, spot: Spot) -> Resul
             simple(b, on, x, spot.site())?;
             Ok(())
         }
-        TypedStmt::If { test, then, .. } => if_alone(b, on, test, then, spot),
+        TypedStmt::If {
+            form,
+            test,
+            then,
+            ..
+        } => if_alone(b, on, Condition { form: *form, test }, then, spot),
         TypedStmt::IfElse {
+            form,
             test,
             then,
             otherwise,
             ..
-        } => if_else(b, on, test, then, otherwise, spot),
+        } => if_else(
+            b,
+            on,
+            Condition { form: *form, test },
+            then,
+            otherwise,
+            spot,
+        ),
         TypedStmt::Jump { jump: j, .. } => {
             jump(b, *j, spot.masks)?;
             Ok(())
@@ -67,9 +81,20 @@ pub(crate) fn stmt(b: &mut Body, on: &Scope, x: &TypedStmt, spot: Spot) -> Resul
             value,
             span,
         } => returns(b, on, *keyword, value, *span, spot),
-        TypedStmt::While { test, body, .. } => while_loop(b, on, test, body, spot),
-        TypedStmt::Do { body, test, .. } => do_loop(b, on, body, test, spot),
+        TypedStmt::While {
+            form,
+            test,
+            body,
+            ..
+        } => while_loop(b, on, *form, test, body, spot),
+        TypedStmt::Do {
+            form,
+            body,
+            test,
+            ..
+        } => do_loop(b, on, *form, body, test, spot),
         TypedStmt::For {
+            form,
             first,
             test,
             step,
@@ -77,7 +102,7 @@ pub(crate) fn stmt(b: &mut Body, on: &Scope, x: &TypedStmt, spot: Spot) -> Resul
             ..
         } => {
             first_part(b, on, first, spot.site())?;
-            turns(b, on, test, step, body, spot)
+            turns(b, on, ForTest { form: *form, test }, step, body, spot)
         }
         TypedStmt::ForeachActive { index, body, .. } => active_loop(b, on, *index, body, spot),
         TypedStmt::Unmasked { body, .. } => unmasked(b, on, body, spot),
@@ -120,216 +145,6 @@ pub(crate) fn block(
     Ok(())
 }
 
-/// An `if` without `else`: its test, and the part.
-#[cycle(stmt)]
-fn if_alone(
-    b: &mut Body,
-    on: &Scope,
-    test: &TypedExpr,
-    then: &TypedStmt,
-    spot: Spot,
-) -> Result<(), AllocError>
-    requires test { Present on.now (expr_asks (expr_of test.now) spot.slot.number) }
-    requires part { Present on.now (part_asks (type_of (expr_of test.now)).rate spot.slot.number) }
-    requires then { Present on.now (stmt_asks on.now.answer (stmt_of then.now) (first_slot (type_of (expr_of test.now)).rate spot.slot.number)) }
-    ensures { OnOk result (Writes b.old b.new (if_at on.now (expr_of test.now) (stmt_of then.now) spot)) }
-{
-    let tested = expr(b, on, test, spot.site())?;
-    let given = Test {
-        rate: test.ty().rate,
-        register: tested,
-    };
-    part_by(b, on, given, then, spot)?;
-    Ok(())
-}
-
-/// The part of an `if` behind its test: jumped over by a uniform one, under a mask by a varying one.
-#[cycle(stmt)]
-fn part_by(
-    b: &mut Body,
-    on: &Scope,
-    test: Test,
-    then: &TypedStmt,
-    spot: Spot,
-) -> Result<(), AllocError>
-    requires part { Present on.now (part_asks test.rate spot.slot.number) }
-    requires then { Present on.now (stmt_asks on.now.answer (stmt_of then.now) (first_slot test.rate spot.slot.number)) }
-    ensures { OnOk result (Writes b.old b.new (part_at on.now test.rate test.register.number (stmt_of then.now) spot)) }
-{
-    match test.rate {
-        Rate::Uniform => part_by_jump(b, on, test.register, then, spot),
-        Rate::Varying => part_by_mask(b, on, test.register, then, spot),
-    }
-}
-
-/// The part is jumped over.
-#[cycle(stmt)]
-fn part_by_jump(
-    b: &mut Body,
-    on: &Scope,
-    tested: RegisterNumber,
-    then: &TypedStmt,
-    spot: Spot,
-) -> Result<(), AllocError>
-    requires { Present on.now (stmt_asks on.now.answer (stmt_of then.now) spot.slot.number) }
-    ensures { OnOk result (Writes b.old b.new (part_at on.now Uniform tested.number (stmt_of then.now) spot)) }
-{
-    let at = b.code.len();
-    b.push(Instr::JumpIf(JumpTest::False, scalar(tested), 0))?;
-    stmt(b, on, then, spot)?;
-    b.land(at, JumpTest::False, scalar(tested));
-    Ok(())
-}
-
-/// The part runs for the lanes for which the test is true.
-#[cycle(stmt)]
-fn part_by_mask(
-    b: &mut Body,
-    on: &Scope,
-    tested: RegisterNumber,
-    then: &TypedStmt,
-    spot: Spot,
-) -> Result<(), AllocError>
-    requires slots { spot.slot.number + 1 < 4294967296 }
-    requires then { Present on.now (stmt_asks on.now.answer (stmt_of then.now) (spot.slot.number + 1)) }
-    ensures { OnOk result (Writes b.old b.new (part_at on.now Varying tested.number (stmt_of then.now) spot)) }
-{
-    part(b, spot.slot.mask(), tested, spot.masks.on)?;
-    let site = Site {
-        mask: spot.slot.mask(),
-        slot: spot.slot.next(),
-    };
-    under_mask(b, on, then, spot, site)?;
-    b.push(unite(spot.masks.on, spot.slot.mask(), spot.masks.on))?;
-    Ok(())
-}
-
-/// A part for the lanes of a mask, jumped over where it has none.
-#[cycle(stmt)]
-fn under_mask(
-    b: &mut Body,
-    on: &Scope,
-    x: &TypedStmt,
-    spot: Spot,
-    site: Site,
-) -> Result<(), AllocError>
-    requires { Present on.now (stmt_asks on.now.answer (stmt_of x.now) site.slot.number) }
-    ensures { OnOk result (Writes b.old b.new (guarded_at on.now (stmt_of x.now) spot site.mask.number site.slot.number)) }
-{
-    let masks = Masks {
-        on: site.mask,
-        continued: spot.masks.continued,
-        returned: spot.masks.returned,
-    };
-    let slot = site.slot;
-    let at = b.code.len();
-    b.push(Instr::JumpIf(JumpTest::Off, mask(site.mask), 0))?;
-    stmt(b, on, x, Spot { masks, slot })?;
-    b.land(at, JumpTest::Off, mask(site.mask));
-    Ok(())
-}
-
-/// An `if` with `else`: its test, and both parts.
-#[cycle(stmt)]
-fn if_else(
-    b: &mut Body,
-    on: &Scope,
-    test: &TypedExpr,
-    then: &TypedStmt,
-    otherwise: &TypedStmt,
-    spot: Spot,
-) -> Result<(), AllocError>
-    requires test { Present on.now (expr_asks (expr_of test.now) spot.slot.number) }
-    requires part { Present on.now (part_asks (type_of (expr_of test.now)).rate spot.slot.number) }
-    requires then { Present on.now (stmt_asks on.now.answer (stmt_of then.now) (first_slot (type_of (expr_of test.now)).rate spot.slot.number)) }
-    requires otherwise { Present on.now (stmt_asks on.now.answer (stmt_of otherwise.now) (first_slot (type_of (expr_of test.now)).rate spot.slot.number)) }
-    ensures { OnOk result (Writes b.old b.new (if_else_at on.now (expr_of test.now) (stmt_of then.now) (stmt_of otherwise.now) spot)) }
-{
-    let tested = expr(b, on, test, spot.site())?;
-    let given = Test {
-        rate: test.ty().rate,
-        register: tested,
-    };
-    parts_by(b, on, given, then, otherwise, spot)?;
-    Ok(())
-}
-
-/// Both parts behind a test.
-#[cycle(stmt)]
-fn parts_by(
-    b: &mut Body,
-    on: &Scope,
-    test: Test,
-    then: &TypedStmt,
-    otherwise: &TypedStmt,
-    spot: Spot,
-) -> Result<(), AllocError>
-    requires part { Present on.now (part_asks test.rate spot.slot.number) }
-    requires then { Present on.now (stmt_asks on.now.answer (stmt_of then.now) (first_slot test.rate spot.slot.number)) }
-    requires otherwise { Present on.now (stmt_asks on.now.answer (stmt_of otherwise.now) (first_slot test.rate spot.slot.number)) }
-    ensures { OnOk result (Writes b.old b.new (parts_at on.now test.rate test.register.number (stmt_of then.now) (stmt_of otherwise.now) spot)) }
-{
-    match test.rate {
-        Rate::Uniform => one_of(b, on, test.register, then, otherwise, spot),
-        Rate::Varying => parted(b, on, test.register, then, otherwise, spot),
-    }
-}
-
-/// Both parts, of which a jump by the test takes one.
-#[cycle(stmt)]
-fn one_of(
-    b: &mut Body,
-    on: &Scope,
-    tested: RegisterNumber,
-    then: &TypedStmt,
-    otherwise: &TypedStmt,
-    spot: Spot,
-) -> Result<(), AllocError>
-    requires then { Present on.now (stmt_asks on.now.answer (stmt_of then.now) spot.slot.number) }
-    requires otherwise { Present on.now (stmt_asks on.now.answer (stmt_of otherwise.now) spot.slot.number) }
-    ensures { OnOk result (Writes b.old b.new (parts_at on.now Uniform tested.number (stmt_of then.now) (stmt_of otherwise.now) spot)) }
-{
-    let at = b.code.len();
-    b.push(Instr::JumpIf(JumpTest::False, scalar(tested), 0))?;
-    stmt(b, on, then, spot)?;
-    let over = b.code.len();
-    b.push(Instr::Jump(0))?;
-    b.land(at, JumpTest::False, scalar(tested));
-    stmt(b, on, otherwise, spot)?;
-    b.land_always(over);
-    Ok(())
-}
-
-/// Both parts under two masks: those for which the test is true, and the others.
-#[cycle(stmt)]
-fn parted(
-    b: &mut Body,
-    on: &Scope,
-    tested: RegisterNumber,
-    then: &TypedStmt,
-    otherwise: &TypedStmt,
-    spot: Spot,
-) -> Result<(), AllocError>
-    requires slots { spot.slot.number + 1 < 4294967296 }
-    requires then { Present on.now (stmt_asks on.now.answer (stmt_of then.now) (spot.slot.number + 1)) }
-    requires otherwise { Present on.now (stmt_asks on.now.answer (stmt_of otherwise.now) (spot.slot.number + 1)) }
-    ensures { OnOk result (Writes b.old b.new (parts_at on.now Varying tested.number (stmt_of then.now) (stmt_of otherwise.now) spot)) }
-{
-    part(b, spot.slot.mask(), tested, spot.masks.on)?;
-    let first = Site {
-        mask: spot.slot.mask(),
-        slot: spot.slot.next(),
-    };
-    let second = Site {
-        mask: spot.masks.on,
-        slot: spot.slot.next(),
-    };
-    under_mask(b, on, then, spot, first)?;
-    under_mask(b, on, otherwise, spot, second)?;
-    b.push(unite(spot.masks.on, spot.slot.mask(), spot.masks.on))?;
-    Ok(())
-}
-
 /// A turn: those that continue in it come back behind the body.
 #[cycle(stmt)]
 fn turn(b: &mut Body, on: &Scope, body: &TypedStmt, it: Loop) -> Result<(), AllocError>
@@ -345,7 +160,7 @@ fn turn(b: &mut Body, on: &Scope, body: &TypedStmt, it: Loop) -> Result<(), Allo
     clear_where(b, it.exits.continues, masks.continued)?;
     let slot = it.slot.plus(3);
     stmt(b, on, body, Spot { masks, slot })?;
-    join_where(b, it.exits.continues, masks.on, masks.continued)?;
+    rejoin(b, it)?;
     Ok(())
 }
 
@@ -354,6 +169,7 @@ fn turn(b: &mut Body, on: &Scope, body: &TypedStmt, it: Loop) -> Result<(), Allo
 fn while_loop(
     b: &mut Body,
     on: &Scope,
+    form: Form,
     test: &TypedExpr,
     body: &TypedStmt,
     spot: Spot,
@@ -361,11 +177,12 @@ fn while_loop(
     requires slots { spot.slot.number + 3 < 4294967296 }
     requires test { Present on.now (expr_asks (expr_of test.now) (spot.slot.number + 3)) }
     requires body { Present on.now (stmt_asks on.now.answer (stmt_of body.now) (spot.slot.number + 3)) }
-    ensures { OnOk result (Writes b.old b.new (while_at on.now (expr_of test.now) (stmt_of body.now) spot)) }
+    ensures { OnOk result (Writes b.old b.new (while_at on.now form (expr_of test.now) (stmt_of body.now) spot)) }
 {
     let exits = exits_of(body);
     enter(b, exits, spot.masks.on, spot.slot)?;
     let it = Loop {
+        wide: is_wide(form, test.ty().rate),
         exits,
         slot: spot.slot,
         top: next(b),
@@ -407,6 +224,7 @@ fn while_turn(
 fn do_loop(
     b: &mut Body,
     on: &Scope,
+    form: Form,
     body: &TypedStmt,
     test: &TypedExpr,
     spot: Spot,
@@ -414,11 +232,12 @@ fn do_loop(
     requires slots { spot.slot.number + 3 < 4294967296 }
     requires test { Present on.now (expr_asks (expr_of test.now) (spot.slot.number + 3)) }
     requires body { Present on.now (stmt_asks on.now.answer (stmt_of body.now) (spot.slot.number + 3)) }
-    ensures { OnOk result (Writes b.old b.new (do_at on.now (stmt_of body.now) (expr_of test.now) spot)) }
+    ensures { OnOk result (Writes b.old b.new (do_at on.now form (stmt_of body.now) (expr_of test.now) spot)) }
 {
     let exits = exits_of(body);
     enter(b, exits, spot.masks.on, spot.slot)?;
     let it = Loop {
+        wide: is_wide(form, test.ty().rate),
         exits,
         slot: spot.slot,
         top: next(b),
@@ -472,25 +291,26 @@ fn active_loop(
 fn turns(
     b: &mut Body,
     on: &Scope,
-    test: &Option<TypedExpr>,
+    by: ForTest<'_>,
     step: &Option<TypedSimple>,
     body: &TypedStmt,
     spot: Spot,
 ) -> Result<(), AllocError>
     requires slots { spot.slot.number + 3 < 4294967296 }
-    requires test { Present on.now (test_part_asks (option_map expr_of test.now) (spot.slot.number + 3)) }
+    requires test { Present on.now (test_part_asks (option_map expr_of by.test.now) (spot.slot.number + 3)) }
     requires step { Present on.now (step_asks (option_map simple_of step.now) (spot.slot.number + 3)) }
     requires body { Present on.now (stmt_asks on.now.answer (stmt_of body.now) (spot.slot.number + 3)) }
-    ensures { OnOk result (Writes b.old b.new (turns_at on.now (option_map expr_of test.now) (option_map simple_of step.now) (stmt_of body.now) spot)) }
+    ensures { OnOk result (Writes b.old b.new (turns_at on.now by.entry.form (option_map expr_of by.entry.test.now) (option_map simple_of step.now) (stmt_of body.now) spot)) }
 {
     let exits = exits_of(body);
     enter(b, exits, spot.masks.on, spot.slot)?;
     let it = Loop {
+        wide: is_wide_by(by.form, by.test),
         exits,
         slot: spot.slot,
         top: next(b),
     };
-    match test {
+    match by.test {
         None => stepped_turn(b, on, step, body, it)?,
         Some(test) => for_turn(b, on, test, step, body, it)?,
     }

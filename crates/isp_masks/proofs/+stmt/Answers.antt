@@ -13,10 +13,11 @@ use Rattle.std.proofs.lemmas.Result.{on_ok_weaker}
 use Rattle.isp_masks.specs.Awaited.{AreBelow, Awaits, set_all}
 use Rattle.isp_masks.specs.Exits.{nobody_leaves}
 use Rattle.isp_masks.specs.Fors.{first_code, first_places}
-use Rattle.isp_masks.specs.Loops.{back_code, sift_jump}
+use Rattle.isp_masks.specs.Loops.{back_code, jump_all, sift_jump}
+use Rattle.isp_masks.specs.Sets.{unite}
 use Rattle.isp_masks.specs.Spots.{Numbers, next_of, spot_of}
 use Rattle.isp_masks.specs.Statements.{stmt_code, stmt_places, stmt_texts, stmts_code, stmts_places, stmts_texts, body_code}
-use Rattle.isp_masks.specs.Written.{Piece, Writes, block_at, stepped_at, stmt_at, turn_at, turns_at, first_sweep, index_codes, last_run_at, outer_turn_at, place_test, range_begin, range_step, ranges_at, run_test}
+use Rattle.isp_masks.specs.Written.{Piece, Writes, block_at, guarded_at, stepped_at, stmt_at, turn_at, turns_at, first_sweep, index_codes, last_run_at, outer_turn_at, place_test, range_begin, range_step, ranges_at, run_test}
 use Rattle.isp_masks.proofs.Awaiting.{awaits_end}
 use Rattle.isp_masks.proofs.Forms.{list_step, nodes_low, stmts_more}
 use Rattle.isp_masks.proofs.Lists.{flat, flat_is}
@@ -33,10 +34,10 @@ use Rattle.isp_lower.specs.declared.numbered.MaskNumber.{MaskNumber}
 use Rattle.isp_lower.specs.declared.numbered.Slot.{Slot}
 use Rattle.isp_masks.specs.declared.ranges.OuterIndex.{OuterIndex}
 use Rattle.isp_masks.specs.declared.ranges.Sweep.{Sweep}
-use Rattle.isp_masks.proofs.statement.+stmt.Goals as goal
+use Rattle.isp_masks.proofs.+stmt.Goals as goal
 
-pub stmt-returns-in-If : goal.stmt-returns-in-If
-stmt-returns-in-If t c =
+pub statement::stmt-returns-in-If : goal.statement::stmt-returns-in-If
+statement::stmt-returns-in-If t c =
     let a = c.args in
     let l = layout a.on.now in
     let h = a.on.now.answer in
@@ -46,8 +47,8 @@ stmt-returns-in-If t c =
     (λ w. subst so (sym (ap stmt_of e.is ∙ if_view e.form e.before e.test e.then e.span)) (subst (λ y. so (t_if e.form e.before (expr_of e.test) (stmt_of y) e.span)) c.deref-in-If.ensures w))
     c.if_alone.ensures
 
-pub stmt-returns-in-IfElse : goal.stmt-returns-in-IfElse
-stmt-returns-in-IfElse t c =
+pub statement::stmt-returns-in-IfElse : goal.statement::stmt-returns-in-IfElse
+statement::stmt-returns-in-IfElse t c =
     let a = c.args in
     let l = layout a.on.now in
     let h = a.on.now.answer in
@@ -59,8 +60,8 @@ stmt-returns-in-IfElse t c =
     (subst (λ y. so (t_if_else e.form e.before (expr_of e.test) (stmt_of c.deref-in-IfElse.result.now) (stmt_of y) e.span)) c.deref-in-IfElse-2.ensures w)))
     c.if_else.ensures
 
-pub under_mask-returns : goal.under_mask-returns
-under_mask-returns t c =
+pub branches::under_mask-returns : goal.branches::under_mask-returns
+branches::under_mask-returns t c =
     let a = c.args in
     let l = layout a.on.now in
     let x = stmt_of a.x.now in
@@ -68,22 +69,33 @@ under_mask-returns t c =
     (record { code = λ pc z. stmt_code l a.on.now.answer x pc z (record (spot_of a.spot) { on = a.site.mask.number; slot = a.site.slot.number }); places = stmt_places l x; texts = stmt_texts x })
     (c.len-at.ensures ∙ a.b.now.code.ok.0) c.in_ok-push.ensures c.in_ok-stmt.ensures (cc) c.land.ensures.places c.land.ensures.texts
 
-pub part_by_jump-returns : goal.part_by_jump-returns
-part_by_jump-returns t c =
+pub branches::part_by_jump-returns : goal.branches::part_by_jump-returns
+branches::part_by_jump-returns t c =
     let a = c.args in
     landed_over a.b.now c.push.new.self c.stmt.new.b c.land.new.self c.len-at.result _ (jump_on jump.False a.tested.number) (stmt_at a.on.now (stmt_of a.then.now) a.spot)
     (c.len-at.ensures ∙ a.b.now.code.ok.0) c.in_ok-push.ensures c.in_ok-stmt.ensures (cc) c.land.ensures.places c.land.ensures.texts
 
-pub one_of-returns : goal.one_of-returns
-one_of-returns t c =
+pub branches::one_of-returns : goal.branches::one_of-returns
+branches::one_of-returns t c =
     let a = c.args in
     chosen_of a.b.now c.push.new.self c.stmt.new.b c.push-2.new.self c.land.new.self c.stmt-2.new.b c.land_always.new.self c.len-at.result c.len-over.result _ _ (jump_on jump.False a.tested.number)
     (stmt_at a.on.now (stmt_of a.then.now) a.spot) (stmt_at a.on.now (stmt_of a.otherwise.now) a.spot)
     (c.len-at.ensures ∙ a.b.now.code.ok.0) c.in_ok-push.ensures c.in_ok-stmt.ensures (c.len-over.ensures ∙ c.stmt.new.b.code.ok.0) c.in_ok-push-2.ensures
     (cc) c.land.ensures.places c.land.ensures.texts c.in_ok-stmt-2.ensures c.land_always.ensures.code c.land_always.ensures.places c.land_always.ensures.texts
 
-pub block-stmt-requires : goal.block-stmt-requires
-block-stmt-requires t c =
+pub branches::others-returns : goal.branches::others-returns
+branches::others-returns t c =
+    let a = c.args in
+    let all = a.spot.masks.on.number in
+    let k = a.site.mask.number in
+    let part = guarded_at a.on.now (stmt_of a.x.now) a.spot k a.site.slot.number in
+    let both = writes_back c.push.new.self c.under_mask.new.b c.push-2.new.self part (λ pc p. unite all all k ∷ []) c.in_ok-under_mask.ensures (cc) in
+    let whole : Piece = record { code = λ pc z. part.code pc z ++ unite all all k ∷ []; places = part.places; texts = part.texts } in
+    landed_over a.b.now c.push.new.self c.push-2.new.self c.land.new.self c.len-at.result _ (jump_all a.passed.number) whole
+    (c.len-at.ensures ∙ a.b.now.code.ok.0) c.in_ok-push.ensures both (cc) c.land.ensures.places c.land.ensures.texts
+
+pub statement::block-stmt-requires : goal.statement::block-stmt-requires
+statement::block-stmt-requires t c =
     let a = c.args in
     let items = c.deref-x-items.result.now in
     let low = nodes_low items c.loop-x.x-index c.x-item.result c.loop-x-test.true c.x-item.is in
@@ -92,11 +104,11 @@ block-stmt-requires t c =
     let asked = subst (Present a.on.now) (stmts_more a.on.now.answer a.spot.slot.number items c.loop-x.x-index c.x-item.result c.loop-x-test.true c.x-item.is) c.loop-x.invariant.2 in
     (omega (arith, low, all, c.decreases), asked.0)
 
-pub block-land_all-requires : goal.block-land_all-requires
-block-land_all-requires t c = subst (AreBelow (length c.loop-x.b.code.items)) (sym c.as_slice.ensures.value) c.loop-x.invariant.0.low
+pub statement::block-land_all-requires : goal.statement::block-land_all-requires
+statement::block-land_all-requires t c = subst (AreBelow (length c.loop-x.b.code.items)) (sym c.as_slice.ensures.value) c.loop-x.invariant.0.low
 
-pub block-loop-x-preserved : goal.block-loop-x-preserved
-block-loop-x-preserved t c =
+pub statement::block-loop-x-preserved : goal.statement::block-loop-x-preserved
+statement::block-loop-x-preserved t c =
     let a = c.args in
     let items = c.deref-x-items.result.now in
     let step = list_step a.on.now.answer (spot_of a.spot) (layout a.on.now) a.b.now c.loop-x.b c.leave_room.new.b c.stmt.new.b c.loop-x.jumps.items c.leave_room.new.jumps.items c.loop-x.left _ items c.loop-x.x-index c.x-item.result
@@ -104,8 +116,8 @@ block-loop-x-preserved t c =
     let asked = subst (Present a.on.now) (stmts_more a.on.now.answer a.spot.slot.number items c.loop-x.x-index c.x-item.result c.loop-x-test.true c.x-item.is) c.loop-x.invariant.2 in
     (step.0, step.1, asked.1)
 
-pub block-returns : goal.block-returns
-block-returns t c =
+pub statement::block-returns : goal.statement::block-returns
+statement::block-returns t c =
     let a = c.args in
     let s = spot_of a.spot in
     let l = layout a.on.now in
@@ -121,8 +133,8 @@ block-returns t c =
     c.land_all.ensures.places c.land_all.ensures.texts
     (λ t pc z e. flat_is h s t l xs pc z e))
 
-pub stmt-returns-in-While : goal.stmt-returns-in-While
-stmt-returns-in-While t c =
+pub statement::stmt-returns-in-While : goal.statement::stmt-returns-in-While
+statement::stmt-returns-in-While t c =
     let a = c.args in
     let l = layout a.on.now in
     let h = a.on.now.answer in
@@ -132,8 +144,8 @@ stmt-returns-in-While t c =
     (λ w. subst so (sym (ap stmt_of e.is ∙ while_view e.form e.before e.test e.body e.span)) (subst (λ y. so (t_while e.form e.before (expr_of e.test) (stmt_of y) e.span)) c.deref-in-While.ensures w))
     c.while_loop.ensures
 
-pub while_turn-returns : goal.while_turn-returns
-while_turn-returns t c =
+pub statement::while_turn-returns : goal.statement::while_turn-returns
+statement::while_turn-returns t c =
     let a = c.args in
     let x = stmt_of a.body.now in
     let n = a.it.slot.number in
@@ -146,8 +158,8 @@ while_turn-returns t c =
     (landed_over c.sift.new.b c.push.new.self c.back.new.b c.land_sift.new.b c.len-at.result _ (sift_jump r d n) whole
     (c.len-at.ensures ∙ c.sift.new.b.code.ok.0) c.in_ok-push.ensures both (cc) c.land_sift.ensures.places c.land_sift.ensures.texts)
 
-pub passed_turn-returns : goal.passed_turn-returns
-passed_turn-returns t c =
+pub statement::passed_turn-returns : goal.statement::passed_turn-returns
+statement::passed_turn-returns t c =
     let a = c.args in
     let n = a.it.slot.number in
     let turn = stepped_at a.on.now (option_map simple_of a.step.now) (stmt_of a.body.now) a.it in
@@ -155,8 +167,8 @@ passed_turn-returns t c =
     (landed_over c.sift.new.b c.push.new.self c.stepped_turn.new.b c.land_sift.new.b c.len-at.result _ (sift_jump a.test.rate a.test.register.number n) turn
     (c.len-at.ensures ∙ c.sift.new.b.code.ok.0) c.in_ok-push.ensures c.in_ok-stepped_turn.ensures (cc) c.land_sift.ensures.places c.land_sift.ensures.texts)
 
-pub stmt-returns-in_ok-first_part-in-For : goal.stmt-returns-in_ok-first_part-in-For
-stmt-returns-in_ok-first_part-in-For t c =
+pub statement::stmt-returns-in_ok-first_part-in-For : goal.statement::stmt-returns-in_ok-first_part-in-For
+statement::stmt-returns-in_ok-first_part-in-For t c =
     let a = c.args in
     let s = spot_of a.spot in
     let l = layout a.on.now in
@@ -172,11 +184,11 @@ stmt-returns-in_ok-first_part-in-For t c =
     (λ w. subst so (sym (ap stmt_of e.is ∙ for_view e.form e.before e.first e.test e.step e.inside e.body e.span))
     (subst (λ z. so (t_for e.form e.before first o y e.inside (stmt_of z) e.span)) c.deref-in-For.ensures
     (for_written a.b.now c.turns.new.b l h e.form e.before first o y e.inside x e.span s
-    (writes_past a.b.now c.first_part.new.b c.turns.new.b (λ pc p. first_code l first pc p s.on s.slot) (first_places l first) (turns_at a.on.now o y x a.spot) begun w))))
+    (writes_past a.b.now c.first_part.new.b c.turns.new.b (λ pc p. first_code l first pc p s.on s.slot) (first_places l first) (turns_at a.on.now e.form o y x a.spot) begun w))))
     c.turns.ensures
 
-pub stmt-foreach-requires : goal.stmt-foreach-requires
-stmt-foreach-requires t c =
+pub statement::stmt-foreach-requires : goal.statement::stmt-foreach-requires
+statement::stmt-foreach-requires t c =
     let a = c.args in
     let e = c.in-Foreach in
     let rs = ranges_of c.deref-in-Foreach.result.now in
@@ -190,8 +202,8 @@ stmt-foreach-requires t c =
     let low = ranges_low rs in
     (omega (arith, size, many, low, c.decreases), asked)
 
-pub stmt-returns-in-Foreach : goal.stmt-returns-in-Foreach
-stmt-returns-in-Foreach t c =
+pub statement::stmt-returns-in-Foreach : goal.statement::stmt-returns-in-Foreach
+statement::stmt-returns-in-Foreach t c =
     let a = c.args in
     let e = c.in-Foreach in
     let so = λ (z : TStmt). Writes a.b.now c.foreach.new.b (stmt_at a.on.now z a.spot) in
@@ -201,8 +213,8 @@ stmt-returns-in-Foreach t c =
     (subst (λ y. so (t_foreach e.keyword e.before (ranges_of c.deref-in-Foreach.result.now) (stmt_of y) e.span)) c.deref-in-Foreach-2.ensures w)))
     c.foreach.ensures
 
-pub foreach-returns : goal.foreach-returns
-foreach-returns t c =
+pub statement::foreach-returns : goal.statement::foreach-returns
+statement::foreach-returns t c =
     let a = c.args in
     let l = layout a.on.now in
     let rs = ranges_of a.all.now in
@@ -217,8 +229,8 @@ foreach-returns t c =
     let none = subst (λ (xs : List OuterIndex). Writes c.bounds.new.b c.ranges-2.new.b (ranges_at a.on.now rs x xs (first_sweep a.spot.slot rs))) c.new-none.ensures.items swept in
     foreach_written l a.b.now c.measures.new.b c.bounds.new.b c.ranges-2.new.b rs k n (λ z. body_code l a.on.now.answer x h z) (stmt_places l x) (stmt_texts x) begun bound none
 
-pub ranges-outer_range-requires : goal.ranges-outer_range-requires
-ranges-outer_range-requires t c =
+pub statement::ranges-outer_range-requires : goal.statement::ranges-outer_range-requires
+statement::ranges-outer_range-requires t c =
     let a = c.args in
     let rs = ranges_of a.all.now in
     let count = ranges_count a.all.now in
@@ -227,8 +239,8 @@ ranges-outer_range-requires t c =
     let some : 0 < length rs = omega (arith, long, count) in
     (omega (arith, c.decreases), (long, (sweep_there a.on.now a.it rs some c.requires.ranges, (c.requires.ranges, c.requires.body))))
 
-pub last_range-returns : goal.last_range-returns
-last_range-returns t c =
+pub statement::last_range-returns : goal.statement::last_range-returns
+statement::last_range-returns t c =
     let a = c.args in
     let l = layout a.on.now in
     let h = a.it.masks.number in
@@ -241,8 +253,8 @@ last_range-returns t c =
     (last_run_at a.on.now a.variable x a.set.items a.it) c.next-top.result c.len-at.result
     c.in_ok-begin.ensures c.next-top.ensures c.in_ok-test_run.ensures (c.len-at.ensures ∙ c.test_run.new.b.code.ok.0) c.in_ok-push.ensures c.in_ok-last_run.ensures c.in_ok-go_on.ensures (c.land.ensures.code ∙ code) c.land.ensures.places c.land.ensures.texts
 
-pub outer_range-returns : goal.outer_range-returns
-outer_range-returns t c =
+pub statement::outer_range-returns : goal.statement::outer_range-returns
+statement::outer_range-returns t c =
     let a = c.args in
     let l = layout a.on.now in
     let h = a.it.masks.number in

@@ -1,0 +1,326 @@
+//! The code of `if`: by a uniform test a jump takes one part, by a varying one each part runs for its own lanes. In a c-form the
+//! first part runs for the mask of the whole, and where all lanes pass the test nothing is joined behind it.
+ghost use Rattle.std.specs.Prelude.{◌<◌, ◌+◌, OnOk};
+ghost use Rattle.isp_base.specs.declared.types.Rate.TheVariants.{Uniform, Varying};
+ghost use Rattle.isp_tree.specs.declared.stmt.Form.TheVariants.{Plain, Coherent};
+ghost use Rattle.isp_typed.specs.Typed.{type_of};
+ghost use Rattle.isp_typed.specs.Views.{expr_of, stmt_of};
+ghost use Rattle.isp_lower.specs.Asks.{expr_asks};
+ghost use Rattle.isp_lower.specs.Emitted.{Present};
+ghost use Rattle.isp_masks.specs.Asks.{part_asks, part_slot, stmt_asks};
+ghost use Rattle.isp_masks.specs.Written.{Writes, guarded_at, if_at, if_else_at, others_at, part_at, parts_at};
+
+use crate::looping::join_widely;
+use crate::masks::{Masks, Spot};
+use crate::sets::{part, part_beside, unite};
+use crate::statement::stmt;
+use isp_base::Rate;
+use isp_code::{Instr, JumpTest};
+use isp_lower::{Body, MaskNumber, RegisterNumber, Scope, Site, expr, mask, scalar};
+use isp_tree::Form;
+use isp_typed::{TypedExpr, TypedStmt};
+use std::alloc::AllocError;
+
+/// The form of an `if`, and its test.
+#[derive(Clone, Copy)]
+pub(crate) struct Condition<'a> {
+    pub form: Form,
+    pub test: &'a TypedExpr,
+}
+
+/// The form of an `if`, and the rate and the register of its test.
+#[derive(Clone, Copy)]
+pub(crate) struct Given {
+    pub form: Form,
+    pub rate: Rate,
+    pub register: RegisterNumber,
+}
+
+/// An `if` without `else`: its test, and the part.
+#[cycle(stmt)]
+pub(crate) fn if_alone(
+    b: &mut Body,
+    on: &Scope,
+    by: Condition<'_>,
+    then: &TypedStmt,
+    spot: Spot,
+) -> Result<(), AllocError>
+    requires test { Present on.now (expr_asks (expr_of by.test.now) spot.slot.number) }
+    requires part { Present on.now (part_asks by.form (type_of (expr_of by.test.now)).rate spot.slot.number) }
+    requires then { Present on.now (stmt_asks on.now.answer (stmt_of then.now) (part_slot by.form (type_of (expr_of by.test.now)).rate spot.slot.number)) }
+    ensures { OnOk result (Writes b.old b.new (if_at on.now by.entry.form (expr_of by.entry.test.now) (stmt_of then.now) spot)) }
+{
+    let tested = expr(b, on, by.test, spot.site())?;
+    let given = Given {
+        form: by.form,
+        rate: by.test.ty().rate,
+        register: tested,
+    };
+    part_by(b, on, given, then, spot)?;
+    Ok(())
+}
+
+/// The part of an `if` behind its test: jumped over by a uniform one, under a mask by a varying one.
+#[cycle(stmt)]
+fn part_by(
+    b: &mut Body,
+    on: &Scope,
+    by: Given,
+    then: &TypedStmt,
+    spot: Spot,
+) -> Result<(), AllocError>
+    requires part { Present on.now (part_asks by.form by.rate spot.slot.number) }
+    requires then { Present on.now (stmt_asks on.now.answer (stmt_of then.now) (part_slot by.form by.rate spot.slot.number)) }
+    ensures { OnOk result (Writes b.old b.new (part_at on.now by.form by.rate by.register.number (stmt_of then.now) spot)) }
+{
+    match (by.rate, by.form) {
+        (Rate::Uniform, _) => part_by_jump(b, on, by.register, then, spot),
+        (Rate::Varying, Form::Plain) => part_by_mask(b, on, by.register, then, spot),
+        (Rate::Varying, Form::Coherent) => part_widely(b, on, by.register, then, spot),
+    }
+}
+
+/// The part is jumped over.
+#[cycle(stmt)]
+fn part_by_jump(
+    b: &mut Body,
+    on: &Scope,
+    tested: RegisterNumber,
+    then: &TypedStmt,
+    spot: Spot,
+) -> Result<(), AllocError>
+    requires { Present on.now (stmt_asks on.now.answer (stmt_of then.now) spot.slot.number) }
+    ensures { OnOk result (Writes b.old b.new (part_at on.now Plain Uniform tested.number (stmt_of then.now) spot)) }
+{
+    let at = b.code.len();
+    b.push(Instr::JumpIf(JumpTest::False, scalar(tested), 0))?;
+    stmt(b, on, then, spot)?;
+    b.land(at, JumpTest::False, scalar(tested));
+    Ok(())
+}
+
+/// The part runs for the lanes for which the test is true.
+#[cycle(stmt)]
+fn part_by_mask(
+    b: &mut Body,
+    on: &Scope,
+    tested: RegisterNumber,
+    then: &TypedStmt,
+    spot: Spot,
+) -> Result<(), AllocError>
+    requires slots { spot.slot.number + 1 < 4294967296 }
+    requires then { Present on.now (stmt_asks on.now.answer (stmt_of then.now) (spot.slot.number + 1)) }
+    ensures { OnOk result (Writes b.old b.new (part_at on.now Plain Varying tested.number (stmt_of then.now) spot)) }
+{
+    part(b, spot.slot.mask(), tested, spot.masks.on)?;
+    let site = Site {
+        mask: spot.slot.mask(),
+        slot: spot.slot.next(),
+    };
+    under_mask(b, on, then, spot, site)?;
+    b.push(unite(spot.masks.on, spot.slot.mask(), spot.masks.on))?;
+    Ok(())
+}
+
+/// In a c-form the part runs for the mask of the whole; where all lanes pass the test, nobody has to come back.
+#[cycle(stmt)]
+fn part_widely(
+    b: &mut Body,
+    on: &Scope,
+    tested: RegisterNumber,
+    then: &TypedStmt,
+    spot: Spot,
+) -> Result<(), AllocError>
+    requires slots { spot.slot.number + 1 + 1 < 4294967296 }
+    requires then { Present on.now (stmt_asks on.now.answer (stmt_of then.now) (spot.slot.number + 1 + 1)) }
+    ensures { OnOk result (Writes b.old b.new (part_at on.now Coherent Varying tested.number (stmt_of then.now) spot)) }
+{
+    let passed = spot.slot.mask();
+    let others = spot.slot.next().mask();
+    part_beside(b, passed, others, tested, spot.masks.on)?;
+    let site = Site {
+        mask: spot.masks.on,
+        slot: spot.slot.next().next(),
+    };
+    under_mask(b, on, then, spot, site)?;
+    join_widely(b, passed, true, spot.masks.on, others)?;
+    Ok(())
+}
+
+/// A part for the lanes of a mask, jumped over where it has none.
+#[cycle(stmt)]
+fn under_mask(
+    b: &mut Body,
+    on: &Scope,
+    x: &TypedStmt,
+    spot: Spot,
+    site: Site,
+) -> Result<(), AllocError>
+    requires { Present on.now (stmt_asks on.now.answer (stmt_of x.now) site.slot.number) }
+    ensures { OnOk result (Writes b.old b.new (guarded_at on.now (stmt_of x.now) spot site.mask.number site.slot.number)) }
+{
+    let masks = Masks {
+        on: site.mask,
+        continued: spot.masks.continued,
+        returned: spot.masks.returned,
+    };
+    let slot = site.slot;
+    let at = b.code.len();
+    b.push(Instr::JumpIf(JumpTest::Off, mask(site.mask), 0))?;
+    stmt(b, on, x, Spot { masks, slot })?;
+    b.land(at, JumpTest::Off, mask(site.mask));
+    Ok(())
+}
+
+/// An `if` with `else`: its test, and both parts.
+#[cycle(stmt)]
+pub(crate) fn if_else(
+    b: &mut Body,
+    on: &Scope,
+    by: Condition<'_>,
+    then: &TypedStmt,
+    otherwise: &TypedStmt,
+    spot: Spot,
+) -> Result<(), AllocError>
+    requires test { Present on.now (expr_asks (expr_of by.test.now) spot.slot.number) }
+    requires part { Present on.now (part_asks by.form (type_of (expr_of by.test.now)).rate spot.slot.number) }
+    requires then { Present on.now (stmt_asks on.now.answer (stmt_of then.now) (part_slot by.form (type_of (expr_of by.test.now)).rate spot.slot.number)) }
+    requires otherwise { Present on.now (stmt_asks on.now.answer (stmt_of otherwise.now) (part_slot by.form (type_of (expr_of by.test.now)).rate spot.slot.number)) }
+    ensures { OnOk result (Writes b.old b.new (if_else_at on.now by.entry.form (expr_of by.entry.test.now) (stmt_of then.now) (stmt_of otherwise.now) spot)) }
+{
+    let tested = expr(b, on, by.test, spot.site())?;
+    let given = Given {
+        form: by.form,
+        rate: by.test.ty().rate,
+        register: tested,
+    };
+    parts_by(b, on, given, then, otherwise, spot)?;
+    Ok(())
+}
+
+/// Both parts behind a test.
+#[cycle(stmt)]
+fn parts_by(
+    b: &mut Body,
+    on: &Scope,
+    by: Given,
+    then: &TypedStmt,
+    otherwise: &TypedStmt,
+    spot: Spot,
+) -> Result<(), AllocError>
+    requires part { Present on.now (part_asks by.form by.rate spot.slot.number) }
+    requires then { Present on.now (stmt_asks on.now.answer (stmt_of then.now) (part_slot by.form by.rate spot.slot.number)) }
+    requires otherwise { Present on.now (stmt_asks on.now.answer (stmt_of otherwise.now) (part_slot by.form by.rate spot.slot.number)) }
+    ensures { OnOk result (Writes b.old b.new (parts_at on.now by.form by.rate by.register.number (stmt_of then.now) (stmt_of otherwise.now) spot)) }
+{
+    match (by.rate, by.form) {
+        (Rate::Uniform, _) => one_of(b, on, by.register, then, otherwise, spot),
+        (Rate::Varying, Form::Plain) => parted(b, on, by.register, then, otherwise, spot),
+        (Rate::Varying, Form::Coherent) => parted_widely(b, on, by.register, then, otherwise, spot),
+    }
+}
+
+/// Both parts, of which a jump by the test takes one.
+#[cycle(stmt)]
+fn one_of(
+    b: &mut Body,
+    on: &Scope,
+    tested: RegisterNumber,
+    then: &TypedStmt,
+    otherwise: &TypedStmt,
+    spot: Spot,
+) -> Result<(), AllocError>
+    requires then { Present on.now (stmt_asks on.now.answer (stmt_of then.now) spot.slot.number) }
+    requires otherwise { Present on.now (stmt_asks on.now.answer (stmt_of otherwise.now) spot.slot.number) }
+    ensures { OnOk result (Writes b.old b.new (parts_at on.now Plain Uniform tested.number (stmt_of then.now) (stmt_of otherwise.now) spot)) }
+{
+    let at = b.code.len();
+    b.push(Instr::JumpIf(JumpTest::False, scalar(tested), 0))?;
+    stmt(b, on, then, spot)?;
+    let over = b.code.len();
+    b.push(Instr::Jump(0))?;
+    b.land(at, JumpTest::False, scalar(tested));
+    stmt(b, on, otherwise, spot)?;
+    b.land_always(over);
+    Ok(())
+}
+
+/// Both parts under two masks: those for which the test is true, and the others.
+#[cycle(stmt)]
+fn parted(
+    b: &mut Body,
+    on: &Scope,
+    tested: RegisterNumber,
+    then: &TypedStmt,
+    otherwise: &TypedStmt,
+    spot: Spot,
+) -> Result<(), AllocError>
+    requires slots { spot.slot.number + 1 < 4294967296 }
+    requires then { Present on.now (stmt_asks on.now.answer (stmt_of then.now) (spot.slot.number + 1)) }
+    requires otherwise { Present on.now (stmt_asks on.now.answer (stmt_of otherwise.now) (spot.slot.number + 1)) }
+    ensures { OnOk result (Writes b.old b.new (parts_at on.now Plain Varying tested.number (stmt_of then.now) (stmt_of otherwise.now) spot)) }
+{
+    part(b, spot.slot.mask(), tested, spot.masks.on)?;
+    let first = Site {
+        mask: spot.slot.mask(),
+        slot: spot.slot.next(),
+    };
+    let second = Site {
+        mask: spot.masks.on,
+        slot: spot.slot.next(),
+    };
+    under_mask(b, on, then, spot, first)?;
+    under_mask(b, on, otherwise, spot, second)?;
+    b.push(unite(spot.masks.on, spot.slot.mask(), spot.masks.on))?;
+    Ok(())
+}
+
+/// Both parts of a c-form: the first runs for the mask of the whole.
+#[cycle(stmt)]
+fn parted_widely(
+    b: &mut Body,
+    on: &Scope,
+    tested: RegisterNumber,
+    then: &TypedStmt,
+    otherwise: &TypedStmt,
+    spot: Spot,
+) -> Result<(), AllocError>
+    requires slots { spot.slot.number + 1 + 1 < 4294967296 }
+    requires then { Present on.now (stmt_asks on.now.answer (stmt_of then.now) (spot.slot.number + 1 + 1)) }
+    requires otherwise { Present on.now (stmt_asks on.now.answer (stmt_of otherwise.now) (spot.slot.number + 1 + 1)) }
+    ensures { OnOk result (Writes b.old b.new (parts_at on.now Coherent Varying tested.number (stmt_of then.now) (stmt_of otherwise.now) spot)) }
+{
+    let passed = spot.slot.mask();
+    let beside = spot.slot.next().mask();
+    let slot = spot.slot.next().next();
+    let first = Site {
+        mask: spot.masks.on,
+        slot,
+    };
+    let second = Site { mask: beside, slot };
+    part_beside(b, passed, beside, tested, spot.masks.on)?;
+    under_mask(b, on, then, spot, first)?;
+    others(b, on, otherwise, spot, passed, second)?;
+    Ok(())
+}
+
+/// The second part of a c-form, for the lanes of a mask, and those that went on from it come back: jumped past where all lanes passed the test.
+#[cycle(stmt)]
+fn others(
+    b: &mut Body,
+    on: &Scope,
+    x: &TypedStmt,
+    spot: Spot,
+    passed: MaskNumber,
+    site: Site,
+) -> Result<(), AllocError>
+    requires { Present on.now (stmt_asks on.now.answer (stmt_of x.now) site.slot.number) }
+    ensures { OnOk result (Writes b.old b.new (others_at on.now (stmt_of x.now) spot passed.number site.mask.number site.slot.number)) }
+{
+    let at = b.code.len();
+    b.push(Instr::JumpIf(JumpTest::All, mask(passed), 0))?;
+    under_mask(b, on, x, spot, site)?;
+    b.push(unite(spot.masks.on, spot.masks.on, site.mask))?;
+    b.land(at, JumpTest::All, mask(passed));
+    Ok(())
+}
