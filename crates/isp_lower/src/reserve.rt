@@ -436,7 +436,10 @@ impl Reserve {
         match place {
             TypedPlace::Variable { .. } => Ok(()),
             TypedPlace::Element {
-                array, index, ty, ..
+                array,
+                index,
+                ty,
+                ..
             } => self.element_index(array.ty.rate, ty.rate, index, slot),
         }
     }

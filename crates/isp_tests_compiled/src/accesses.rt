@@ -40,7 +40,10 @@ fn compare(
     let Some(function) = image.code().functions().first() else {
         return Err(Fail::from("no function"));
     };
-    assert!(rt; counted(&function.code) == Accesses { runs, lanes }, "{source}");
+    assert!(rt;
+        counted(&function.code) == Accesses { runs, lanes },
+        "{source}"
+    );
     Ok(())
 }
 
