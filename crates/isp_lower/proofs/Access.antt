@@ -1,9 +1,9 @@
 -- Reads and writes of elements.
 use Rattle.std.proofs.Common.{◌≡◌, ℕ, ◌-◌, ◌<◌, ◌≤◌, ◌^◌, Option, Some, None, Bool, true, false, refl, sym, ap, ◌∙◌, subst}
-use Rattle.std.specs.Prelude.{slice_get, if◌then◌else◌}
+use Rattle.std.specs.Prelude.{slice_get, if◌then◌else◌, unsigned_abs}
 use Rattle.std.proofs.Math.Path.{fun_ext}
 use Rattle.isp_base.specs.Access.{is_outside, element}
-use Rattle.isp_base.specs.Cross.{or_zero}
+use Rattle.isp_base.specs.Cross.{or_zero, run_index, run_outside}
 use Rattle.isp_base.specs.Maps.{Lanes, Map, on, over, each1, map1, holds, where_true, lowest_failing}
 use Rattle.isp_base.specs.Sets.{Mask, nobody, any, lowest}
 use Rattle.isp_base.specs.Types.{gang_width}
@@ -23,10 +23,12 @@ use Rattle.isp_meaning.specs.Payloads.{Payload, One, Each, sole, spread, mapped,
 use Rattle.isp_meaning.specs.Places.{elements}
 use Rattle.isp_lower.specs.Layout.{register, mask_register, array_register}
 use Rattle.isp_lower.specs.Setting.{ArrayFitsAt, Setting, gang_of, At, Stands, at_rate, held_at}
-use Rattle.isp_lower.specs.Code.{read, is_whole}
+use Rattle.isp_base.specs.Values.{number}
+use Rattle.isp_lower.specs.Code.{read, read_by, is_whole}
 use Rattle.isp_lower.proofs.Base.{moved_by}
 use Rattle.isp_lower.proofs.Rates.{Filled, filled_on, at_mapped, at_offender, offender_mapped, lowest_below, some_lowest}
 use Rattle.isp_lower.proofs.Values.{whole_outside, whole_element}
+use Rattle.isp_lower.proofs.Consecutive.{RunFits, lanes_by, run_items_are, run_lane, run_outside_is}
 use Rattle.isp_lower.proofs.Found.{whole_is}
 use Rattle.isp_lower.proofs.Lines.{set_at, value_at, unless_is, failing_is}
 use Rattle.isp_lower.specs.Rated.{Reaches}
@@ -63,6 +65,21 @@ read_line code h c Uniform d b i k q some =
     ∙ ap (λ z. moved_by z Index (place_at code q) (set_at Uniform c d (One (item code h c (array_register b) (element I64 (c.scalars i)) 0)))) (failing_is code h c (is_outside I64 (size code h c (array_register b)) (c.scalars i)) k (is_outside I64 (size code h c (array_register b))) some)
 read_line code h c Varying d b i k q some =
     unless_is code h c (lowest_failing (gang_width code.gang) (is_outside I64 (size code h c (array_register b))) (on (c.masks k) (c.vectors i))) Index q (λ p. each1 (λ x. item code h c (array_register b) (element I64 x) p) (on (c.masks k) (c.vectors i) p)) (set_vector c (register Varying d))
+
+-- the same by an index in each lane, or as a run
+pub read_by_line : (z : Bool) (br : Rate) (code : Listing) (h : Routine) (c : Conf) (r : Rate) (d b i k q : ℕ) → any (gang_width code.gang) (c.masks k) ≡ true → RunFits z br r (c.masks k) (c.scalars i) → act code h c (read_by z r d b i k q) ≡ moved_by (offender (gang_width code.gang) (is_outside I64 (size code h c (array_register b))) (c.masks k) (held_at r c.scalars (lanes_by z c.scalars c.vectors) (c.masks k) i)) Index (place_at code q) (set_at r c d (found_items r (item code h c (array_register b)) c.scalars (lanes_by z c.scalars c.vectors) (c.masks k) i))
+read_by_line false br code h c r d b i k q some f = read_line code h c r d b i k q some
+read_by_line true br code h c Uniform d b i k q some f = let no = f.1 in absurd (cc)
+read_by_line true br code h c Varying d b i k q some f =
+    let a = c.masks k in
+    let x = c.scalars i in
+    let g = gang_width code.gang in
+    let n = size code h c (array_register b) in
+    let get = item code h c (array_register b) in
+    let go = set_vector c (register Varying d) in
+    unless_is code h c (lowest g (run_outside n (number I64 x) a)) Index q (on a (λ p. get (unsigned_abs (run_index (number I64 x) p)) p)) go
+    ∙ ap (λ m. moved_by (lowest g m) Index (place_at code q) (go (on a (λ p. get (unsigned_abs (run_index (number I64 x) p)) p)))) (run_outside_is a x f.2 n)
+    ∙ ap (λ m. moved_by (lowest_failing g (is_outside I64 n) (on a (run_lane x))) Index (place_at code q) (go m)) (run_items_are a x f.2 get)
 
 -- ---- the array of a variable
 

@@ -13,7 +13,7 @@ use Rattle.isp_meaning.specs.Expressions.{place}
 use Rattle.isp_meaning.specs.Simple.{simple}
 use Rattle.isp_lower.specs.Setting.{Setting, IsSettled, gang_of, calls_of, AreAt, Holds}
 use Rattle.isp_lower.specs.Runs.{Enters, DoneRuns}
-use Rattle.isp_lower.specs.Code.{write, index, index_code, operand, operand_of, found, expr_places, expr_code}
+use Rattle.isp_lower.specs.Code.{write, index, index_code, operand, operand_of, found, expr_places, expr_code, index_by, write_by}
 use Rattle.isp_lower.specs.Simple.{assign_code, assign_places}
 use Rattle.isp_lower.proofs.Base.{are_front, are_back, spares_less}
 use Rattle.isp_lower.proofs.Found.{few}
@@ -25,7 +25,7 @@ use Rattle.isp_lower.proofs.Writes.{element_done}
 use Rattle.isp_lower.proofs.Variables.{variable_runs}
 use Rattle.isp_lower.proofs.Kept.{Keeps, runs_kept, value_still}
 use Rattle.isp_lower.proofs.Parts.{ExprParts, SimpleParts}
-use Rattle.isp_lower.specs.Asks.{beyond}
+use Rattle.isp_lower.specs.Asks.{beyond, is_run}
 
 -- the slot after that of an index is not below it
 pub beyond_more : (z : TPlace) (n : ℕ) → (n ≤ beyond z n) × (beyond z n ≤ n + 1)
@@ -48,10 +48,11 @@ module _ (w : Setting) (ready : IsSettled w) where
       let p1 = p + length (expr_places w.layout i) in
       let cx = expr_code w.layout x pc1 p1 k m in
       let ca = operand_of w.layout r x k m cx in
-      let j = index w.layout t.rate i n in
+      let v = is_run y.ty.rate i in
+      let j = index_by w.layout v t.rate i n in
       let u = operand w.layout r x m in
       let pw = p1 + length (expr_places w.layout x) in
-      let last = write t.rate (w.layout.array y.number) j u k pw ∷ [] in
+      let last = write_by v t.rate (w.layout.array y.number) j u k pw ∷ [] in
       let end = pc + length (ci ++ (ca ++ last)) in
       let to : pc1 + length ca + 1 ≡ end = omega (arith, length-append ci (ca ++ last), length-append ca last) in
       let h1 : AreAt w.routine.code pc1 (ca ++ last) = are_back w.routine.code pc ci (ca ++ last) has in
@@ -68,7 +69,7 @@ module _ (w : Setting) (ready : IsSettled w) where
       (λ d s2 ok2.
       let h = place_kept w ready z n a at c1 ok2.conf fit.0 ok2.holds.1 ok.holds in
       subst (λ g. DoneRuns w c1 end n (ok.steps + q) (bind (checked (outside (gang_of w) w.frame g a) Index sv s2 d) (λ b s3. Gives tt (kept (gang_of w) w.frame g a b s3)))) (sym h.1)
-      (element_done w ready t.rate y.ty.rate y (type_of i).elem h.0 d a s2 c1 ok2.conf ok2.steps (pc1 + length ca) end k j u n (ok.steps + q) pw sv (ready.arrays y fit.0.0).is fit.0.1 (ready.arrays y fit.0.0).few b.some b.inside ok2.comes ok2.at to (are_back w.routine.code pc1 ca last h1).0 (are_back w.code.places p1 (expr_places w.layout x) _ pl).0 ok2.stands (spares_less w n m c1 ok2.conf (omega arith) ok2.spares) (λ r g. ok2.masks r (omega arith)) (ok2.masks k (omega arith) ∙ ok.masks k lk ∙ b.mask) (omega (arith, ok2.bound)) h.2 ok2.holds.0))))
+      (element_done w ready v t.rate y.ty.rate y (type_of i).elem h.0 d a s2 c1 ok2.conf ok2.steps (pc1 + length ca) end k j u n (ok.steps + q) pw sv (ready.arrays y fit.0.0).is fit.0.1 (ready.arrays y fit.0.0).few b.some b.inside ok2.comes ok2.at to (are_back w.routine.code pc1 ca last h1).0 (are_back w.code.places p1 (expr_places w.layout x) _ pl).0 ok2.stands (spares_less w n m c1 ok2.conf (omega arith) ok2.spares) (λ r g. ok2.masks r (omega arith)) (ok2.masks k (omega arith) ∙ ok.masks k lk ∙ b.mask) (omega (arith, ok2.bound)) h.2 ok2.holds.0))))
 
   pub value_runs : (x : TExpr) (pc p k n q : ℕ) (a : Mask) (s : State) (c : Conf) → ExprParts w x n → AreAt w.routine.code pc (expr_code w.layout x pc p k n) → AreAt w.code.places p (expr_places w.layout x) → Enters w pc k n a s c q → DoneRuns w c (pc + length (expr_code w.layout x pc p k n)) n q (simple (gang_of w) w.frame (calls_of w) (t_value x) a s)
   value_runs x pc p k n q a s c fit has places b =

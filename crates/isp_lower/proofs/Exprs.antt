@@ -49,11 +49,11 @@ use Rattle.isp_lower.specs.Calls.{IsHanded, AreHanded, Takes, given_back, CallRu
 use Rattle.isp_lower.specs.Layout.{class_at, register, mask_register, array_register}
 use Rattle.isp_lower.specs.Setting.{ArrayFitsAt, ArrayFits, Setting, IsSettled, gang_of, calls_of, AreAt, At, Stands, at_rate, held_at, Holds, Spares}
 use Rattle.isp_lower.specs.Runs.{Comes, Enters, Runs}
-use Rattle.isp_lower.specs.Code.{is_copied, variable_found, variable_read, copy, convert, constant, constant_of, convert_to, part_to, lift_to, lifted, found, operand, operand_of, lift_code, is_whole, whole, whole_of, index, index_of, read, packed_store, packed_load, base_register, base_places, base_code, expr_places, expr_code, expr_to, values_code, values_places, value_registers, argument_places, arguments_places, argument_register, argument_registers, argument_code, arguments_code, calling, select, same_rate, stays, stays_at, is_short, choose_code, choose_to}
+use Rattle.isp_lower.specs.Code.{is_copied, variable_found, variable_read, copy, convert, constant, constant_of, convert_to, part_to, lift_to, lifted, found, operand, operand_of, lift_code, is_whole, whole, whole_of, index, index_of, read, packed_store, packed_load, base_register, base_places, base_code, expr_places, expr_code, expr_to, values_code, values_places, value_registers, argument_places, arguments_places, argument_register, argument_registers, argument_code, arguments_code, calling, select, same_rate, stays, stays_at, is_short, choose_code, choose_to, index_by, index_by_of, read_by}
 use Rattle.isp_lower.proofs.Base.{are_front, are_back, comes_none, comes_on, at_to, moved_by, spares_all, spares_less, spares_on}
 use Rattle.isp_lower.proofs.Rates.{Filled, held_same, at_mapped, at_offender, filled_on, filled_held}
 use Rattle.isp_lower.proofs.Lines.{set_at, value_at, copy_line, convert_line, unary_line, compare_line, operate_at, place_named}
-use Rattle.isp_lower.proofs.Access.{as_whole, found_items, filled_items, read_line, size_at, item_at, get_at, read_is, outside_is}
+use Rattle.isp_lower.proofs.Access.{as_whole, found_items, filled_items, read_line, size_at, item_at, get_at, read_is, outside_is, read_by_line}
 use Rattle.isp_lower.proofs.Values.{IsFirst, wrap_bits, zero_first, constant_is}
 use Rattle.isp_lower.proofs.Combine.{runs_after, runs_on, set_comes, set_goes, set_masks, set_spares, set_stands, bind_runs, ok_less, renamed, told_as, lift_runs}
 use Rattle.isp_lower.proofs.Found.{few, constant_is_one, found_typed, found_low, index_low, operand_typed, operand_low}
@@ -68,10 +68,11 @@ use Rattle.isp_lower.proofs.Kept.{Low, Keeps, low_spare, runs_kept, kept_of, hel
 use Rattle.isp_lower.proofs.LibraryLines.{Makes, library_makes}
 use Rattle.isp_lower.proofs.LibraryTypes.{part_elems}
 use Rattle.isp_lower.proofs.PackedRuns.{first_is, load_leaves, store_leaves}
-use Rattle.isp_lower.proofs.Parts.{ExprParts, BaseParts, OperandFits, ValuesParts, CallParts, ArgumentsParts, ArgumentParts, SpareFits}
-use Rattle.isp_lower.specs.Asks.{first_slot, second_slot}
+use Rattle.isp_lower.proofs.Parts.{ExprParts, BaseParts, OperandFits, ValuesParts, CallParts, ArgumentsParts, ArgumentParts, SpareFits, RunParts}
+use Rattle.isp_lower.specs.Asks.{first_slot, second_slot, is_run}
 use Rattle.isp_lower.specs.Rated.{Reaches}
 use Rattle.isp_lower.specs.Tables.{IsTyped}
+use Rattle.isp_lower.proofs.Consecutive.{IndexHolds, RunFits, counts_reach, counts_run, lane_reaches, lanes_by, lanes_count, run_is}
 
 -- the places of a node are in the code
 abbrev PlaceIs : Setting → ℕ → Span → Type 0
@@ -114,11 +115,15 @@ module _ (w : Setting) (ready : IsSettled w) where
 
   -- ---- places: the index is taken at slot n
 
-  -- what is known of a place once its index is taken
+  -- what is known of an element once its index is taken, by each lane or as a run
+  abbrev pub ElementHolds : Bool → ArrayVariable → TExpr → Ty → ℕ → Mask → Place → Conf → Type 0
+  ElementHolds z y i t n a v c =
+      (m : Payload) × (v ≡ Element y (type_of i).elem m) × IndexHolds z y.ty.rate t.rate a (index_by w.layout z t.rate i n) (mapped (as_whole (is_whole (type_of i).elem) (type_of i).elem) m) c.scalars c.vectors
+
+  -- and of a place
   abbrev pub PlaceHolds : TPlace → ℕ → Mask → Place → Conf → Type 0
   PlaceHolds (t_variable v t sp) n a z c = z ≡ Variable v t
-  PlaceHolds (t_element y i t sp) n a z c =
-      (m : Payload) × (z ≡ Element y (type_of i).elem m) × Holds t.rate a (index w.layout t.rate i n) (mapped (as_whole (is_whole (type_of i).elem) (type_of i).elem) m) c
+  PlaceHolds (t_element y i t sp) n a z c = ElementHolds (is_run y.ty.rate i) y i t n a z c
 
   -- an index as int64
   whole_runs : (i : TExpr) (z : Bool) (pc k n q rest : ℕ) (a : Mask) (s : State) (c : Conf) (code : List Instr) → is_whole (type_of i).elem ≡ z → rest ≤ 31 + q → Enters w pc k n a s c q → ExprParts w i n → SpareFits w (type_of i).rate I64 n → AreAt w.routine.code pc (whole_of w.layout z i k n code) → (AreAt w.routine.code pc code → Runs w c (pc + length code) n (1 + rest) (Holds (type_of i).rate a (found w.layout i n)) (means i a s)) → Runs w c (pc + length (whole_of w.layout z i k n code)) n rest (Holds (type_of i).rate a (whole w.layout z i n)) (bind (means i a s) (λ m s1. Gives (mapped (as_whole z (type_of i).elem) m) s1))
@@ -131,34 +136,56 @@ module _ (w : Setting) (ready : IsSettled w) where
       runs_same (Stops s1) r = r
   whole_runs i false pc k n q rest a s c code ez le b fit ty has run = convert_runs InSlot i I64 pc k n q rest a s c code le b (found_typed w i n fit) ty has run
 
-  pub index_runs : (y : ArrayVariable) (i : TExpr) (t : Ty) (sp : Span) (pc k n q rest : ℕ) (a : Mask) (s : State) (c : Conf) (code : List Instr) → rest ≤ 30 + q → Enters w pc k n a s c q → ExprParts w i n → Reaches (type_of i).rate t.rate → SpareFits w (type_of i).rate I64 n → AreAt w.routine.code pc (index_of w.layout t.rate i k n code) → (AreAt w.routine.code pc code → Runs w c (pc + length code) n (1 + (1 + rest)) (Holds (type_of i).rate a (found w.layout i n)) (means i a s)) → Runs w c (pc + length (index_of w.layout t.rate i k n code)) n rest (PlaceHolds (t_element y i t sp) n a) (bind (means i a s) (λ m s1. Gives (Element y (type_of i).elem m) s1))
-  index_runs y i t sp pc k n q rest a s c code le b fit re ty has run =
+  index_runs : (y : ArrayVariable) (i : TExpr) (t : Ty) (pc k n q rest : ℕ) (a : Mask) (s : State) (c : Conf) (code : List Instr) → rest ≤ 30 + q → Enters w pc k n a s c q → ExprParts w i n → Reaches (type_of i).rate t.rate → SpareFits w (type_of i).rate I64 n → AreAt w.routine.code pc (index_of w.layout t.rate i k n code) → (AreAt w.routine.code pc code → Runs w c (pc + length code) n (1 + (1 + rest)) (Holds (type_of i).rate a (found w.layout i n)) (means i a s)) → Runs w c (pc + length (index_of w.layout t.rate i k n code)) n rest (ElementHolds false y i t n a) (bind (means i a s) (λ m s1. Gives (Element y (type_of i).elem m) s1))
+  index_runs y i t pc k n q rest a s c code le b fit re ty has run =
       let z = is_whole (type_of i).elem in
       let cw = whole_of w.layout z i k n code in
       let lift = lift_code w.layout t.rate (type_of i).rate I64 (whole w.layout z i n) k n in
       let to : pc + length cw + length lift ≡ pc + length (cw ++ lift) = omega (arith, length-append cw lift) in
-      renamed w ready c _ n rest _ _ (means i a s) (mapped (as_whole z (type_of i).elem)) (λ m. Element y (type_of i).elem m) (λ m c1 h. (m, refl, h))
+      renamed w ready c _ n rest _ _ (means i a s) (mapped (as_whole z (type_of i).elem)) (λ m. Element y (type_of i).elem m) (λ m c1 h. (m, refl, record { holds = h; fits = tt }))
       (subst (λ p. Runs w c p n rest (Holds t.rate a (index w.layout t.rate i n)) (bind (means i a s) (λ m s1. Gives (mapped (as_whole z (type_of i).elem) m) s1))) to
       (lift_runs w ready c (pc + length cw) k n rest a _ t.rate (type_of i).rate I64 (whole w.layout z i n) re b.mask b.low (are_back w.routine.code pc cw lift has)
       (whole_runs i z pc k n q (1 + rest) a s c code refl (omega arith) b fit ty (are_front w.routine.code pc cw lift has) run)))
 
+  -- the number of a lane as the index of a run
+  run_index_runs : (y : ArrayVariable) (t : Ty) (sp : Span) (pc k n q rest : ℕ) (a : Mask) (s : State) (c : Conf) → rest ≤ 30 + q → Enters w pc k n a s c q → y.ty.rate ≡ Uniform → t.rate ≡ Varying → SpareFits w Uniform I64 n → AreAt w.routine.code pc (constant (w.layout.spare Uniform I64 n) I64 0 ∷ []) → Runs w c (pc + 1) n rest (ElementHolds true y (t_program_index sp) t n a) (bind (means (t_program_index sp) a s) (λ m s1. Gives (Element y I32 m) s1))
+  run_index_runs y t sp pc k n q rest a s c le b eb et ty has =
+      let r = constant_runs InSlot pc k n q rest a s c I64 0 0 (omega (arith, le)) b ty has.0 (wrap_bits I64 0) in
+      let x = r.conf.scalars (w.layout.spare Uniform I64 n) in
+      let zero : number I64 x ≡ pos 0 = ap (λ m. number I64 (sole m)) (sym r.holds) ∙ zero_first in
+      let counts = lanes_count w.code.gang a b.inside in
+      let held = λ (u : Rate) (e : u ≡ Varying). subst (λ v. at_rate v a (mapped (as_whole false I32) (Each (on a (λ p. p)))) ≡ held_at v r.conf.scalars (lanes_by true r.conf.scalars r.conf.vectors) a (w.layout.spare Uniform I64 n)) (sym e) (ap Each (counts_run (pos 0) a (λ p. p) x zero counts)) in
+      record { conf = r.conf; steps = r.steps; comes = r.comes; at = r.at; stands = r.stands; spares = r.spares; masks = r.masks; holds = (Each (on a (λ p. p)), refl, record { holds = held t.rate et; fits = (eb, et, counts_reach (pos 0) a (λ p. p) x zero counts) }); bound = r.bound }
+
+  -- the index of an element
+  pub element_index_runs : (y : ArrayVariable) (i : TExpr) (t : Ty) (pc k n q rest : ℕ) (a : Mask) (s : State) (c : Conf) (code : List Instr) → rest ≤ 30 + q → Enters w pc k n a s c q → ExprParts w i n → Reaches (type_of i).rate t.rate → SpareFits w (type_of i).rate I64 n → RunParts w (is_run y.ty.rate i) n → AreAt w.routine.code pc (index_by_of w.layout (is_run y.ty.rate i) t.rate i k n code) → (AreAt w.routine.code pc code → Runs w c (pc + length code) n (1 + (1 + rest)) (Holds (type_of i).rate a (found w.layout i n)) (means i a s)) → Runs w c (pc + length (index_by_of w.layout (is_run y.ty.rate i) t.rate i k n code)) n rest (ElementHolds (is_run y.ty.rate i) y i t n a) (bind (means i a s) (λ m s1. Gives (Element y (type_of i).elem m) s1))
+  element_index_runs y i t pc k n q rest a s c code le b fit re ty run_ty has run = go (is_run y.ty.rate i) refl run_ty has
+    where
+      go : (z : Bool) → is_run y.ty.rate i ≡ z → RunParts w z n → AreAt w.routine.code pc (index_by_of w.layout z t.rate i k n code) → Runs w c (pc + length (index_by_of w.layout z t.rate i k n code)) n rest (ElementHolds z y i t n a) (bind (means i a s) (λ m s1. Gives (Element y (type_of i).elem m) s1))
+      go false e rt at = index_runs y i t pc k n q rest a s c code le b fit re ty at run
+      go true e rt at =
+          let is = run_is y.ty.rate i e in
+          let et : t.rate ≡ Varying = lane_reaches t.rate (subst (λ u. Reaches (type_of u).rate t.rate) is.2 re) in
+          subst (λ u. Runs w c (pc + 1) n rest (ElementHolds true y u t n a) (bind (means u a s) (λ m s1. Gives (Element y (type_of u).elem m) s1))) (sym is.2)
+          (run_index_runs y t is.1 pc k n q rest a s c le b is.0 et rt at)
+
   -- an element is read into slot n
-  pub element_runs : (u : Target) (y : ArrayVariable) (i : TExpr) (t : Ty) (sp : Span) (c c2 : Conf) (st pc pc' k n m p q : ℕ) (a : Mask) (s : State) (z : Payload) → ArrayFits w y → Reaches y.ty.rate t.rate → Comes w c st c2 → At w c2 pc → pc + 1 ≡ pc' → slice_get w.routine.code pc ≡ Some (read t.rate (target w.layout u t.rate t.elem n) (w.layout.array y.number) (index w.layout t.rate i m) k p) → slice_get w.code.places p ≡ Some sp → Stands w s c2 → Spares w n c c2 → ((r : ℕ) → r < n → c2.masks r ≡ c.masks r) → c2.masks k ≡ a → any (gang_of w) a ≡ true → ((r : ℕ) → a r ≡ true → r < gang_of w) → st + 1 + q ≤ 32 * s.work → Holds t.rate a (index w.layout t.rate i m) (mapped (as_whole (is_whole (type_of i).elem) (type_of i).elem) z) c2 → Leaves w u (target w.layout u t.rate t.elem n) c pc' n q t.rate a (checked (outside (gang_of w) w.frame (Element y (type_of i).elem z) a) Index sp s (held (gang_of w) w.frame (Element y (type_of i).elem z) a s))
-  element_runs u y i t sp c c2 st pc pc' k n m p q a s z fy re h at to has place stands keeps masks em some inside le hold =
+  pub element_runs : (u : Target) (b : Bool) (j : ℕ) (y : ArrayVariable) (i : TExpr) (t : Ty) (sp : Span) (c c2 : Conf) (st pc pc' k n p q : ℕ) (a : Mask) (s : State) (z : Payload) → ArrayFits w y → Reaches y.ty.rate t.rate → Comes w c st c2 → At w c2 pc → pc + 1 ≡ pc' → slice_get w.routine.code pc ≡ Some (read_by b t.rate (target w.layout u t.rate t.elem n) (w.layout.array y.number) j k p) → slice_get w.code.places p ≡ Some sp → Stands w s c2 → Spares w n c c2 → ((r : ℕ) → r < n → c2.masks r ≡ c.masks r) → c2.masks k ≡ a → any (gang_of w) a ≡ true → ((r : ℕ) → a r ≡ true → r < gang_of w) → st + 1 + q ≤ 32 * s.work → IndexHolds b y.ty.rate t.rate a j (mapped (as_whole (is_whole (type_of i).elem) (type_of i).elem) z) c2.scalars c2.vectors → Leaves w u (target w.layout u t.rate t.elem n) c pc' n q t.rate a (checked (outside (gang_of w) w.frame (Element y (type_of i).elem z) a) Index sp s (held (gang_of w) w.frame (Element y (type_of i).elem z) a s))
+  element_runs u b j y i t sp c c2 st pc pc' k n p q a s z fy re h at to has place stands keeps masks em some inside le hold =
       let e = (type_of i).elem in
-      let j = index w.layout t.rate i m in
       let g = extent w.frame y in
-      let Y = found_items t.rate (get_at w y.ty.rate y s) c2.scalars c2.vectors a j in
+      let ve = lanes_by b c2.scalars c2.vectors in
+      let Y = found_items t.rate (get_at w y.ty.rate y s) c2.scalars ve a j in
       let d = target w.layout u t.rate t.elem n in
-      let line = read_line w.code w.routine c2 t.rate d (w.layout.array y.number) j k p (ap (any (gang_of w)) em ∙ some) in
-      let is1 = ap (λ o. moved_by (offender (gang_of w) (is_outside I64 (size w.code w.routine c2 (array_register (w.layout.array y.number)))) o (held_at t.rate c2.scalars c2.vectors o j)) Index (place_at w.code p) (set_at t.rate c2 d (found_items t.rate (item w.code w.routine c2 (array_register (w.layout.array y.number))) c2.scalars c2.vectors o j))) em in
-      let is2 = ap (λ o. moved_by (offender (gang_of w) (is_outside I64 o) a (held_at t.rate c2.scalars c2.vectors a j)) Index (place_at w.code p) (set_at t.rate c2 d (found_items t.rate (item w.code w.routine c2 (array_register (w.layout.array y.number))) c2.scalars c2.vectors a j))) (size_at w y.ty.rate y c2 pc ready.sizes at fy.is) in
-      let is3 = ap (λ o. moved_by (offender (gang_of w) (is_outside I64 g) a (held_at t.rate c2.scalars c2.vectors a j)) Index (place_at w.code p) (set_at t.rate c2 d (found_items t.rate o c2.scalars c2.vectors a j))) (item_at w y.ty.rate y c2 pc s at fy.is stands) in
-      let is4 = ap (λ o. moved_by o Index (place_at w.code p) (set_at t.rate c2 d Y)) (outside_is w t.rate e (is_whole e) z a c2.scalars c2.vectors j g refl fy.few hold) in
+      let line = read_by_line b y.ty.rate w.code w.routine c2 t.rate d (w.layout.array y.number) j k p (ap (any (gang_of w)) em ∙ some) (subst (λ m. RunFits b y.ty.rate t.rate m (c2.scalars j)) (sym em) hold.fits) in
+      let is1 = ap (λ o. moved_by (offender (gang_of w) (is_outside I64 (size w.code w.routine c2 (array_register (w.layout.array y.number)))) o (held_at t.rate c2.scalars ve o j)) Index (place_at w.code p) (set_at t.rate c2 d (found_items t.rate (item w.code w.routine c2 (array_register (w.layout.array y.number))) c2.scalars ve o j))) em in
+      let is2 = ap (λ o. moved_by (offender (gang_of w) (is_outside I64 o) a (held_at t.rate c2.scalars ve a j)) Index (place_at w.code p) (set_at t.rate c2 d (found_items t.rate (item w.code w.routine c2 (array_register (w.layout.array y.number))) c2.scalars ve a j))) (size_at w y.ty.rate y c2 pc ready.sizes at fy.is) in
+      let is3 = ap (λ o. moved_by (offender (gang_of w) (is_outside I64 g) a (held_at t.rate c2.scalars ve a j)) Index (place_at w.code p) (set_at t.rate c2 d (found_items t.rate o c2.scalars ve a j))) (item_at w y.ty.rate y c2 pc s at fy.is stands) in
+      let is4 = ap (λ o. moved_by o Index (place_at w.code p) (set_at t.rate c2 d Y)) (outside_is w t.rate e (is_whole e) z a c2.scalars ve j g refl fy.few hold.holds) in
       let is5 = ap (λ o. moved_by (offender (gang_of w) (is_outside e g) a z) Index o (set_at t.rate c2 d Y)) (place_named w.code w.routine c2 p sp place) in
       write_leaves w ready u c c2 st pc pc' n q a s _ t.rate t.elem (offender (gang_of w) (is_outside e g) a z) Index sp (held (gang_of w) w.frame (Element y e z) a s) Y h at to has stands keeps masks le
-      (λ none. read_is w t.rate y.ty.rate y e (is_whole e) z a s c2.scalars c2.vectors j g re refl fy.few some inside hold none)
-      (filled_items t.rate (get_at w y.ty.rate y s) c2.scalars c2.vectors a j)
+      (λ none. read_is w t.rate y.ty.rate y e (is_whole e) z a s c2.scalars ve j g re refl fy.few some inside hold.holds none)
+      (filled_items t.rate (get_at w y.ty.rate y s) c2.scalars ve a j)
       (line ∙ is1 ∙ is2 ∙ is3 ∙ is4 ∙ is5)
 
   -- ---- one node, given what holds of its parts
@@ -211,17 +238,18 @@ module _ (w : Setting) (ready : IsSettled w) where
   element_node u y i t sp ih pc p k n q rest a s c fit ty has places le b =
       let fi : heads i ≤ 1 = few w i n fit.0.4 in
       let ci = expr_code w.layout i pc p k n in
-      let cj = index_of w.layout t.rate i k n ci in
+      let z = is_run y.ty.rate i in
+      let cj = index_by_of w.layout z t.rate i k n ci in
       let d = target w.layout u t.rate t.elem n in
-      let rd = read t.rate d (w.layout.array y.number) (index w.layout t.rate i n) k (p + length (expr_places w.layout i)) in
+      let rd = read_by z t.rate d (w.layout.array y.number) (index_by w.layout z t.rate i n) k (p + length (expr_places w.layout i)) in
       let to : pc + length cj + 1 ≡ pc + length (cj ++ rd ∷ []) = omega (arith, length-append cj (rd ∷ [])) in
       bind_leaves w ready u d c (pc + length cj) n 1 rest (PlaceHolds (t_element y i t sp) n a) (bind (means i a (tick s)) (λ m s1. Gives (Element y (type_of i).elem m) s1)) _ _ n t.rate a
-      (index_runs y i t sp pc k n (32 + q) (1 + rest) a (tick s) c ci (omega arith) (enters_part w ready pc k n (32 + q) q a s c (omega arith) b) fit.0.4 fit.0.2 fit.0.3 (are_front w.routine.code pc cj _ has)
+      (element_index_runs y i t pc k n (32 + q) (1 + rest) a (tick s) c ci (omega arith) (enters_part w ready pc k n (32 + q) q a s c (omega arith) b) fit.0.4 fit.0.2 fit.0.3 fit.0.5 (are_front w.routine.code pc cj _ has)
       (λ at. ih pc p k n (32 + q) (1 + (1 + (1 + rest))) a (tick s) c fit.0.4 at (are_front w.code.places p (expr_places w.layout i) _ places) (omega arith) (enters_part w ready pc k n (32 + q) q a s c (omega arith) b)))
-      (λ z s1 ok.
+      (λ at s1 ok.
       let h = ok.holds in
       subst (λ g. Leaves w u d c (pc + length (cj ++ rd ∷ [])) n rest t.rate a (checked (outside (gang_of w) w.frame g a) Index sp s1 (held (gang_of w) w.frame g a s1))) (sym h.1)
-      (element_runs u y i t sp c ok.conf ok.steps (pc + length cj) _ k n n (p + length (expr_places w.layout i)) rest a s1 h.0 (ready.arrays y fit.0.0) fit.0.1 ok.comes ok.at to (are_back w.routine.code pc cj (rd ∷ []) has).0 (are_back w.code.places p (expr_places w.layout i) _ places).0 ok.stands ok.spares ok.masks (ok.masks k b.low ∙ b.mask) b.some b.inside (omega (arith, ok.bound)) h.2))
+      (element_runs u z (index_by w.layout z t.rate i n) y i t sp c ok.conf ok.steps (pc + length cj) _ k n (p + length (expr_places w.layout i)) rest a s1 h.0 (ready.arrays y fit.0.0) fit.0.1 ok.comes ok.at to (are_back w.routine.code pc cj (rd ∷ []) has).0 (are_back w.code.places p (expr_places w.layout i) _ places).0 ok.stands ok.spares ok.masks (ok.masks k b.low ∙ b.mask) b.some b.inside (omega (arith, ok.bound)) h.2))
 
   pub convert_node : (u : Target) (e : Elem) (x : TExpr) → RunsHere x → NodeRuns u (t_convert e x)
   convert_node u e x ih pc p k n q rest a s c fit ty has places le b =

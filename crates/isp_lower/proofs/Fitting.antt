@@ -15,8 +15,8 @@ use Rattle.isp_lower.specs.Setting.{Setting}
 use Rattle.isp_lower.specs.Tables.{Table}
 use Rattle.isp_lower.specs.Callees.{next_rate, later}
 use Rattle.isp_lower.specs.Library.{library_rates}
-use Rattle.isp_lower.specs.Asks.{lift_asks, operand_asks, values_asks, read_asks, copy_asks, value_asks, base_asks, work_asks, zero_asks, beyond, first_slot, second_slot, expr_asks, target_asks, call_asks, arguments_asks, argument_asks, simple_asks, item_asks, items_asks}
-use Rattle.isp_lower.proofs.Parts.{ExprParts, ValuesParts, CallParts, ArgumentsParts, ArgumentParts, ItemParts, ItemsParts, LiftFits, OperandFits, PlaceParts, BaseParts, PlaceTyped, CopyHas, IsNamed, ReadFits, SimpleParts, WorkFits, ZeroFits}
+use Rattle.isp_lower.specs.Asks.{lift_asks, operand_asks, values_asks, read_asks, copy_asks, value_asks, base_asks, work_asks, zero_asks, beyond, first_slot, second_slot, expr_asks, target_asks, call_asks, arguments_asks, argument_asks, simple_asks, item_asks, items_asks, is_run, run_asks}
+use Rattle.isp_lower.proofs.Parts.{ExprParts, ValuesParts, CallParts, ArgumentsParts, ArgumentParts, ItemParts, ItemsParts, LiftFits, OperandFits, PlaceParts, BaseParts, PlaceTyped, CopyHas, IsNamed, ReadFits, SimpleParts, WorkFits, ZeroFits, RunParts}
 use Rattle.isp_lower.proofs.Trees.{ExprTree, ValuesTree, CallTree, ArgumentsTree, ArgumentTree, ItemTree, ItemsTree, OperandTree, PlaceTree, BaseTree, SimpleTree}
 use Rattle.isp_lower.specs.Fits.{ExprFits, SimpleFits, ItemsFit}
 use Rattle.isp_lower.proofs.Rated.{expr_tree, simple_tree, items_tree}
@@ -57,6 +57,10 @@ module _ (w : Setting) where
   zero_fits Uniform t v n h = h
   zero_fits Varying t v n h = h
 
+  run_fits : (z : Bool) (n : ℕ) → Table w.routine w.layout w.function.variables (run_asks z n) → RunParts w z n
+  run_fits true n h = h
+  run_fits false n h = tt
+
   -- ---- trees
 
   pub operand_fits : (r : Rate) (t : Elem) (x : TExpr) (n : ℕ) → OperandTree r t x → Table w.routine w.layout w.function.variables (operand_asks r x n) → OperandFits w r t x n
@@ -91,7 +95,7 @@ module _ (w : Setting) where
 
     place_fits : (z : TPlace) (n : ℕ) → PlaceTree w.program.functions z → Table w.routine w.layout w.function.variables (target_asks z n) → PlaceParts w z n
     place_fits (t_variable v u sp) n t h = h
-    place_fits (t_element b i u sp) n t h = (h.0, t.0, t.1, h.1.1.0, expr_fits i n t.2 h.1.1.1)
+    place_fits (t_element b i u sp) n t h = (h.0, t.0, t.1, h.1.1.1.0, expr_fits i n t.2 h.1.1.1.1, run_fits (is_run b.ty.rate i) n h.1.0)
 
     base_fits : (b : TBase) (n : ℕ) → BaseTree w.program.functions b → Table w.routine w.layout w.function.variables (base_asks b n) → BaseParts w b n
     base_fits (t_whole b sp) n t h = (h.0, t.0, h.1)

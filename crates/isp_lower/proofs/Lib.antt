@@ -13,6 +13,7 @@ mod Combine
 mod Kept
 mod Values
 mod Found
+mod Consecutive
 mod Access
 mod Writes
 mod Done

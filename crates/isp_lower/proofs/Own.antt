@@ -11,7 +11,7 @@ use Rattle.isp_typed.specs.Typed.{TExpr, t_constant, t_program_index, t_place, t
 use Rattle.isp_typed.specs.declared.variable.Holds.{Holds}
 use Rattle.isp_typed.specs.declared.variable.Holds.TheVariants as holds
 use Rattle.isp_typed.specs.declared.variable.Variable.{Variable}
-use Rattle.isp_lower.specs.Asks.{Ask, Nothing, Both, Register, ArrayOf, LocalOf, MaskOf, Number, Loads, All, first_slot, second_slot, beyond, lift_asks, test_asks, sides_ask, read_asks, copy_asks, value_asks, work_asks, zero_asks, expr_asks, target_asks, base_asks, values_asks, call_asks, arguments_asks, argument_asks, change_asks, simple_asks, item_asks}
+use Rattle.isp_lower.specs.Asks.{Ask, Nothing, Both, Register, ArrayOf, LocalOf, MaskOf, Number, Loads, All, first_slot, second_slot, beyond, lift_asks, test_asks, sides_ask, read_asks, copy_asks, value_asks, work_asks, zero_asks, expr_asks, target_asks, base_asks, values_asks, call_asks, arguments_asks, argument_asks, change_asks, simple_asks, item_asks, is_run, run_asks}
 use Rattle.isp_typed.specs.Library.{parts}
 use Rattle.isp_typed.specs.declared.library.Part.{Part}
 use Rattle.isp_lower.specs.Callees.{next_rate, later}
@@ -61,6 +61,10 @@ module _ (vars : List Variable) (answer : Option Ty) where
   work_own true r t i = tt
   work_own false r t i = tt
 
+  run_own : (z : Bool) (n : ℕ) → IsOwn vars answer (run_asks z n)
+  run_own true n = tt
+  run_own false n = tt
+
   change_own : (t : Elem) (z : TPlace) (i : ℕ) → IsOwn vars answer (change_asks t z i)
   change_own t z i = (work_own (same_elem (place_type z).elem t) (place_type z).rate t i, read_own z i)
 
@@ -94,7 +98,7 @@ module _ (vars : List Variable) (answer : Option Ty) where
 
       place_own : (z : TPlace) (n : ℕ) → FinePlace fs vars z → IsOwn vars answer (target_asks z n)
       place_own (t_variable v t sp) n f = f
-      place_own (t_element b i t sp) n f = (f.0, (lift_own t.rate (type_of i).rate I64 n, (tt, expr_own i n f.1)))
+      place_own (t_element b i t sp) n f = (f.0, (run_own (is_run b.ty.rate i) n, (lift_own t.rate (type_of i).rate I64 n, (tt, expr_own i n f.1))))
 
       base_own : (b : TBase) (n : ℕ) → FineBase fs vars b → IsOwn vars answer (base_asks b n)
       base_own (t_whole b sp) n f = (f.0, tt)

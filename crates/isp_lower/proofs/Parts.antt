@@ -13,7 +13,7 @@ use Rattle.isp_typed.specs.Fine.{heads, HoldsArray, params_of}
 use Rattle.isp_typed.specs.declared.variable.Holds.{Holds}
 use Rattle.isp_typed.specs.declared.variable.Holds.TheVariants as holds
 use Rattle.isp_typed.specs.declared.variable.Variable.{Variable as Declared}
-use Rattle.isp_lower.specs.Asks.{first_slot, second_slot, beyond}
+use Rattle.isp_lower.specs.Asks.{first_slot, second_slot, beyond, is_run}
 use Rattle.isp_lower.specs.Callees.{next_rate, later}
 use Rattle.isp_lower.specs.Library.{library_rates}
 use Rattle.isp_lower.specs.Rated.{Reaches}
@@ -65,6 +65,11 @@ module _ (w : Setting) where
   abbrev pub LiftFits : Rate → Rate → Elem → ℕ → Type 0
   LiftFits given r t n = LiftHas IsNamed given r t n
 
+  -- the number of a run's first element stands in slot n
+  abbrev pub RunParts : Bool → ℕ → Type 0
+  RunParts true n = SpareFits Uniform I64 n
+  RunParts false n = Unit {0}
+
   -- an operand of a node that works at rate r in type t
   pub record OperandFits (r : Rate) (t : Elem) (x : TExpr) (n : ℕ) : Type 0 where
     pub elem : (type_of x).elem ≡ t
@@ -101,7 +106,7 @@ module _ (w : Setting) where
     pub PlaceParts : TPlace → ℕ → Type 0
     PlaceParts (t_variable v t sp) n = IsTyped w t.rate (w.layout.variable t.rate v) t.elem
     PlaceParts (t_element b i t sp) n =
-        HoldsArray w.function.variables b × Reaches b.ty.rate t.rate × Reaches (type_of i).rate t.rate × SpareFits (type_of i).rate I64 n × ExprParts i n
+        HoldsArray w.function.variables b × Reaches b.ty.rate t.rate × Reaches (type_of i).rate t.rate × SpareFits (type_of i).rate I64 n × ExprParts i n × RunParts (is_run b.ty.rate i) n
 
     -- the array of a packed call is one for the gang, its index uniform, and taken at slot n
     pub BaseParts : TBase → ℕ → Type 0

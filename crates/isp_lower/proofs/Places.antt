@@ -1,22 +1,30 @@
 -- A place: its index is taken, what it holds is read, and it is written.
-use Rattle.std.proofs.Common.{ℕ, ◌+◌, ◌≤◌, length, refl, sym, ◌∙◌, arith}
+use Rattle.std.proofs.Common.{◌≡◌, ℕ, ◌+◌, ◌≤◌, length, Bool, true, false, refl, sym, ap, subst, ◌∙◌, arith}
+use Rattle.isp_base.specs.Maps.{on}
 use Rattle.isp_base.specs.Sets.{Mask}
+use Rattle.isp_base.specs.declared.types.Elem.TheVariants.{I64}
+use Rattle.isp_base.specs.declared.types.Rate.{Rate}
+use Rattle.isp_base.specs.declared.types.Rate.TheVariants.{Uniform, Varying}
 use Rattle.isp_code.specs.Conf.{Conf}
 use Rattle.isp_typed.specs.Fine.{heads}
-use Rattle.isp_typed.specs.Typed.{TPlace, t_variable, t_element}
+use Rattle.isp_typed.specs.Typed.{TExpr, TPlace, t_variable, t_element, type_of}
 use Rattle.isp_meaning.specs.State.{State, tick}
+use Rattle.isp_meaning.specs.Payloads.{Payload, One, Each}
 use Rattle.isp_meaning.specs.Places.{Place}
 use Rattle.isp_meaning.specs.Expressions.{place}
 use Rattle.isp_lower.specs.Setting.{Setting, IsSettled, gang_of, calls_of, AreAt}
 use Rattle.isp_lower.specs.Runs.{Enters, Runs}
-use Rattle.isp_lower.specs.Code.{index, expr_code, index_code, index_places}
+use Rattle.isp_lower.specs.Code.{index, index_by, expr_code, index_code, index_places}
+use Rattle.isp_lower.specs.Held.{held_at}
+use Rattle.isp_lower.specs.Rated.{Reaches}
 use Rattle.isp_lower.proofs.Base.{comes_none, at_to, spares_all}
 use Rattle.isp_lower.proofs.Found.{few, index_low}
 use Rattle.isp_lower.proofs.Nodes.{enters_part}
-use Rattle.isp_lower.proofs.Exprs.{PlaceHolds, index_runs, expr_runs}
-use Rattle.isp_lower.proofs.Kept.{Keeps, held_kept}
-use Rattle.isp_lower.proofs.Parts.{PlaceParts}
-use Rattle.isp_lower.specs.Asks.{beyond}
+use Rattle.isp_lower.proofs.Consecutive.{IndexHolds, InReach, lanes_by, run_lane}
+use Rattle.isp_lower.proofs.Exprs.{PlaceHolds, element_index_runs, expr_runs}
+use Rattle.isp_lower.proofs.Kept.{Keeps, held_kept, low_spare}
+use Rattle.isp_lower.proofs.Parts.{ExprParts, PlaceParts}
+use Rattle.isp_lower.specs.Asks.{beyond, is_run}
 
 module _ (w : Setting) (ready : IsSettled w) where
   -- the index goes first
@@ -35,10 +43,21 @@ module _ (w : Setting) (ready : IsSettled w) where
   place_runs (t_element y i t sv) pc p k n d q a s c le fit has places b =
       let fi : heads i ≤ 1 = few w i n fit.4 in
       let xi = expr_code w.layout i pc p k n in
-      index_runs w ready y i t sv pc k n (32 + q) (d + q) a (tick s) c xi (omega arith) (enters_part w ready pc k n (32 + q) q a s c (omega arith) b) fit.4 fit.2 fit.3 has
+      element_index_runs w ready y i t pc k n (32 + q) (d + q) a (tick s) c xi (omega arith) (enters_part w ready pc k n (32 + q) q a s c (omega arith) b) fit.4 fit.2 fit.3 fit.5 has
       (λ at. expr_runs w ready i pc p k n (32 + q) (1 + (1 + (d + q))) a (tick s) c fit.4 at places (omega arith) (enters_part w ready pc k n (32 + q) q a s c (omega arith) b))
+
+  pub index_kept : (z : Bool) (br r : Rate) (i : TExpr) (n : ℕ) (a : Mask) (m : Payload) (c c' : Conf) → Reaches (type_of i).rate r → ExprParts w i n → Keeps w (n + 1) c c' → IndexHolds z br r a (index_by w.layout z r i n) m c.scalars c.vectors → IndexHolds z br r a (index_by w.layout z r i n) m c'.scalars c'.vectors
+  index_kept false br r i n a m c c' re fit k h = record { holds = h.holds ∙ sym (held_kept w r (n + 1) c c' a (index w.layout r i n) k (index_low w ready r i n re fit)); fits = tt }
+  index_kept true br r i n a m c c' re fit k h =
+      let d = w.layout.spare Uniform I64 n in
+      let e : c.scalars d ≡ c'.scalars d = sym (k.scalars_stay d (low_spare w.layout Uniform I64 (n + 1) n (omega arith))) in
+      record { holds = h.holds ∙ go r d e; fits = (h.fits.0, h.fits.1, subst (InReach a) e h.fits.2) }
+    where
+      go : (u : Rate) (d : ℕ) → c.scalars d ≡ c'.scalars d → held_at u c.scalars (lanes_by true c.scalars c.vectors) a d ≡ held_at u c'.scalars (lanes_by true c'.scalars c'.vectors) a d
+      go Uniform d e = ap One e
+      go Varying d e = ap (λ v. Each (on a (run_lane v))) e
 
   -- and stays known
   pub place_kept : (z : TPlace) (n : ℕ) (a : Mask) (at : Place) (c c' : Conf) → PlaceParts w z n → Keeps w (beyond z n) c c' → PlaceHolds w ready z n a at c → PlaceHolds w ready z n a at c'
   place_kept (t_variable v t sv) n a at c c' fit k h = h
-  place_kept (t_element y i t sv) n a at c c' fit k h = (h.0, h.1, h.2 ∙ sym (held_kept w t.rate (n + 1) c c' a (index w.layout t.rate i n) k (index_low w ready t.rate i n fit.2 fit.4)))
+  place_kept (t_element y i t sv) n a at c c' fit k h = (h.0, h.1, index_kept (is_run y.ty.rate i) y.ty.rate t.rate i n a _ c c' fit.2 fit.4 k h.2)

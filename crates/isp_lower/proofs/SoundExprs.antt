@@ -20,17 +20,17 @@ use Rattle.isp_typed.specs.declared.variable.Variable.{Variable}
 use Rattle.isp_lower.specs.Callees.{rate_held, rates_held, rates_of}
 use Rattle.isp_lower.specs.Header.{returns_of}
 use Rattle.isp_lower.specs.Layout.{Layout, register}
-use Rattle.isp_lower.specs.Code.{is_copied, variable_read, compare, unary, operate, operate_places, packed_store, packed_load, select, part_to, lift_to, found, operand, operand_of, index, choose_to, is_short, expr_places, index_places, read_places, expr_to, base_places, base_register, base_code, index_code, read_code, expr_code, values_code, values_places, value_registers, argument_places, arguments_places, call_places, argument_registers, argument_code, arguments_code, call_code, calling}
+use Rattle.isp_lower.specs.Code.{is_copied, variable_read, compare, unary, operate, operate_places, packed_store, packed_load, select, part_to, lift_to, found, operand, operand_of, index, choose_to, is_short, expr_places, index_places, read_places, expr_to, base_places, base_register, base_code, index_code, read_code, expr_code, values_code, values_places, value_registers, argument_places, arguments_places, call_places, argument_registers, argument_code, arguments_code, call_code, calling, index_by}
 use Rattle.isp_typed.specs.Fine.{rates_of as rate_of_all}
 use Rattle.isp_typed.specs.Library.{library_type, parts}
 use Rattle.isp_typed.specs.declared.library.Library.{Library}
 use Rattle.isp_lower.specs.Callees.{later, next_rate}
 use Rattle.isp_lower.specs.Library.{library_code, library_rates}
-use Rattle.isp_lower.specs.Asks.{argument_asks, arguments_asks, base_asks, call_asks, expr_asks, first_slot, operand_asks, second_slot, target_asks, values_asks}
+use Rattle.isp_lower.specs.Asks.{argument_asks, arguments_asks, base_asks, call_asks, expr_asks, first_slot, operand_asks, second_slot, target_asks, values_asks, is_run}
 use Rattle.isp_lower.specs.Sound.{AreSound, Links, PartSound, IsRegister, HasArray, Granted}
-use Rattle.isp_lower.proofs.SoundLines.{IsArray, array_is, copy_sound, packed_store_sound, packed_load_sound, unary_sound, compare_sound, operate_sound, read_sound, constant_sound, index_sound as lane_sound}
-use Rattle.isp_lower.proofs.SoundFound.{part_there, found_there, operand_there, index_there}
-use Rattle.isp_lower.proofs.SoundParts.{few_front, few_back, Here, AnyMask, here_both, here_then, pair_sound, logic_sound, lift_to_sound, operand_sound, convert_to_sound, index_sound, choose_sound, short_sound}
+use Rattle.isp_lower.proofs.SoundLines.{IsArray, array_is, copy_sound, packed_store_sound, packed_load_sound, unary_sound, compare_sound, operate_sound, read_sound, constant_sound, index_sound as lane_sound, read_by_sound}
+use Rattle.isp_lower.proofs.SoundFound.{part_there, found_there, operand_there, index_there, element_index_there}
+use Rattle.isp_lower.proofs.SoundParts.{few_front, few_back, Here, AnyMask, here_both, here_then, pair_sound, logic_sound, lift_to_sound, operand_sound, convert_to_sound, index_sound, choose_sound, short_sound, element_index_sound}
 use Rattle.isp_lower.proofs.Trees.{IsWord, ExprTree, OperandTree, PlaceTree, BaseTree, ValuesTree, CallTree, ArgumentsTree, ArgumentTree}
 use Rattle.isp_lower.proofs.InRow.{enough}
 use Rattle.isp_lower.proofs.LibraryTypes.{LibraryTyped, part_elems}
@@ -60,7 +60,8 @@ module _ (fs : List TFunction) (code : Listing) (h : Routine) (l : Layout) (link
       go true = (copy_sound code h t.rate t.elem d (l.variable t.rate v) k hd f lk, tt)
       go false = tt
   read_there (t_element b i t sp) d pc p k n is f hd lk lp =
-      (read_sound code h t.rate t.elem d (l.array b.number) (index l t.rate i n) k p hd (array_there code h l b t.rate t.elem f.0 is.0 is.3) (index_there fs h l t.rate i n is.1 is.2 f.1) lk (omega (arith, lp)), tt)
+      let z = is_run b.ty.rate i in
+      (read_by_sound code h z t.rate t.elem d (l.array b.number) (index_by l z t.rate i n) k p hd (array_there code h l b t.rate t.elem f.0 is.0 is.3) (element_index_there fs h l code b t.rate i n is.1 is.2 f.0 f.1) lk (omega (arith, lp)), tt)
 
   choose_there : (b : Bool) (d : ℕ) (c x y : TExpr) (t : Ty) (sp : Span) (pc k n : ℕ) (test : List Instr) (one other : ℕ → ℕ → ℕ → List Instr) → is_short l t.rate c x y ≡ b → ExprTree fs (t_choose c x y t sp) → Granted h l (expr_asks (t_choose c x y t sp) n) → IsRegister h t.rate d t.elem → k < h.masks → Here code h pc test → AnyMask code h (λ pc m. one pc m (first_slot (type_of c).rate n)) → AnyMask code h (λ pc m. other pc m (second_slot (type_of c).rate n)) → Here code h pc (choose_to l b d c x y t pc k n test one other)
   choose_there true d c x y t sp pc k n test one other e is f hd lk s g1 g2 =
@@ -177,7 +178,7 @@ module _ (fs : List TFunction) (code : Listing) (h : Routine) (l : Layout) (link
     pub place_sound : (q : TPlace) (pc p k n : ℕ) → PlaceTree fs q → Granted h l (target_asks q n) → k < h.masks → Named code h l p (index_places l q) → Here code h pc (index_code l q pc p k n)
     place_sound (t_variable v t sp) pc p k n is f lk lp = λ lt. tt
     place_sound (t_element b i t sp) pc p k n is f lk lp =
-        index_sound code h fs l t.rate i pc k n (expr_code l i pc p k n) is.1 is.2 f.1 lk (λ lt. expr_sound i (found l i n) pc p k n is.2 f.1.1.1 (found_there fs h l i n is.2 f.1.1.1) lk lp lt)
+        element_index_sound code h fs l b t.rate i pc k n (expr_code l i pc p k n) is.1 is.2 f.1 lk (λ lt. expr_sound i (found l i n) pc p k n is.2 f.1.1.1.1 (found_there fs h l i n is.2 f.1.1.1.1) lk lp lt)
 
     pub values_sound : (rs : List Rate) (xs : TExprs) (pc p k n : ℕ) → ValuesTree fs rs xs → Granted h l (values_asks rs xs n) → k < h.masks → Named code h l p (values_places l xs) → Here code h pc (values_code l rs xs pc p k n)
     values_sound rs t_no_exprs pc p k n is f lk lp = λ lt. tt

@@ -14,7 +14,7 @@ use Rattle.isp_base.specs.declared.types.Span.{Span}
 use Rattle.isp_code.specs.Fine.{has_value, is_word32, IsThere, IsWanted}
 use Rattle.isp_code.specs.Listing.{Listing, Routine}
 use Rattle.isp_code.specs.Operands.{unary_want}
-use Rattle.isp_code.specs.Registers.{elem_of}
+use Rattle.isp_code.specs.Registers.{elem_of, is_per_lane}
 use Rattle.isp_code.specs.declared.instr.Division.{Division}
 use Rattle.isp_code.specs.declared.instr.Division.TheVariants as division
 use Rattle.isp_code.specs.declared.instr.Instr.{Instr}
@@ -27,7 +27,7 @@ use Rattle.isp_typed.specs.Fine.{WorksIn}
 use Rattle.isp_typed.specs.declared.variable.Logic.{Logic}
 use Rattle.isp_typed.specs.declared.variable.Logic.TheVariants.{And, Or}
 use Rattle.isp_lower.specs.Layout.{register, mask_register, array_register}
-use Rattle.isp_lower.specs.Code.{copy, convert, unary, compare, compute, operate, operate_places, packed_store, packed_load, read, write, constant, splat, select, where_so, the_others, jump_off, jump_on, decided, needing, move, move_code}
+use Rattle.isp_lower.specs.Code.{copy, convert, unary, compare, compute, operate, operate_places, packed_store, packed_load, read, write, constant, splat, select, where_so, the_others, jump_off, jump_on, decided, needing, move, move_code, read_by, write_by}
 use Rattle.isp_lower.specs.Sound.{IsSound, AreSound, IsRegister, IsShared}
 use Rattle.isp_lower.proofs.Numbers.{number_fits}
 use Rattle.isp_lower.proofs.Parts.{IsNumber}
@@ -119,6 +119,23 @@ module _ (code : Listing) (h : Routine) where
   unfolding IsArray
   write_sound Uniform t b i x k p hb hi hx lk lp = (((hb.0, hb.2, tt), ((hi.0, hi.1), ((hx.0, hx.1 ∙ sym hb.1), ((refl, lk), (lp, tt))))), tt)
   write_sound Varying t b i x k p hb hi hx lk lp = (((hb.0, tt, tt), ((hi.0, hi.1), ((hx.0, hx.1 ∙ sym hb.1), ((refl, lk), (lp, tt))))), tt)
+
+  -- the index of elements of an array: one of its rate, or, where all share the array, that of the first in a scalar
+  abbrev pub IndexThere : Bool → Rate → ℕ → ℕ → Type 0
+  IndexThere true r b i = (r ≡ Varying) × (is_per_lane h (array_register b) ≡ false) × IsRegister h Uniform i I64
+  IndexThere false r b i = IsRegister h r i I64
+
+  pub read_by_sound : (z : Bool) (r : Rate) (t : Elem) (d b i k p : ℕ) → IsRegister h r d t → IsArray r b t → IndexThere z r b i → k < h.masks → p < length code.places → IsSound code h (read_by z r d b i k p)
+  unfolding IsArray
+  read_by_sound false r t d b i k p hd hb hi lk lp = read_sound r t d b i k p hd hb hi lk lp
+  read_by_sound true Uniform t d b i k p hd hb hi lk lp = let no = hi.0 in absurd (cc)
+  read_by_sound true Varying t d b i k p hd hb hi lk lp = (((hd.0, tt), ((hb.0, hi.1, hb.1 ∙ sym hd.1), ((hi.2.0, hi.2.1), ((refl, lk), (lp, tt))))), tt)
+
+  pub write_by_sound : (z : Bool) (r : Rate) (t : Elem) (b i x k p : ℕ) → IsArray r b t → IndexThere z r b i → IsRegister h r x t → k < h.masks → p < length code.places → IsSound code h (write_by z r b i x k p)
+  unfolding IsArray
+  write_by_sound false r t b i x k p hb hi hx lk lp = write_sound r t b i x k p hb hi hx lk lp
+  write_by_sound true Uniform t b i x k p hb hi hx lk lp = let no = hi.0 in absurd (cc)
+  write_by_sound true Varying t b i x k p hb hi hx lk lp = (((hb.0, hi.1, tt), ((hi.2.0, hi.2.1), ((hx.0, hx.1 ∙ sym hb.1), ((refl, lk), (lp, tt))))), tt)
 
   -- ---- constants, splats, choices
 

@@ -9,15 +9,15 @@ use Rattle.isp_base.specs.declared.types.Span.{Span}
 use Rattle.isp_code.specs.Listing.{Listing, Routine}
 use Rattle.isp_typed.specs.Typed.{TExpr, TPlace, t_variable, t_element, TItem, t_plain, t_with_value, t_with_size, TFunction, TSimple, t_value, t_run, t_assign, t_update, t_step, place_type, type_of}
 use Rattle.isp_lower.specs.Layout.{Layout}
-use Rattle.isp_lower.specs.Code.{copy, operate_places, write, part_to, lift_to, found, operand, operand_of, index, writes_part, writes_last, expr_places, index_places, expr_to, expr_code, index_code, variable_from, variable_code}
+use Rattle.isp_lower.specs.Code.{copy, operate_places, write, part_to, lift_to, found, operand, operand_of, index, writes_part, writes_last, expr_places, index_places, expr_to, expr_code, index_code, variable_from, variable_code, index_by, write_by}
 use Rattle.isp_lower.specs.Items.{zero_code, item_code, item_places, items_code, items_places}
-use Rattle.isp_lower.specs.Asks.{beyond, change_asks, item_asks, items_asks, operand_asks, simple_asks, step_asks, target_asks, work_asks, zero_asks}
+use Rattle.isp_lower.specs.Asks.{beyond, change_asks, item_asks, items_asks, operand_asks, simple_asks, step_asks, target_asks, work_asks, zero_asks, is_run}
 use Rattle.isp_lower.specs.Simple.{update_to, change_code, change_places, one_in, one_code, assign_code, assign_places, change_by_code, step_code, simple_code, simple_places}
 use Rattle.isp_lower.specs.Sound.{AreSound, Links, PartSound, IsRegister, Granted}
 use Rattle.isp_lower.proofs.Splits.{same_elem-is}
 use Rattle.isp_lower.proofs.SoundExprs.{Named, array_there, call_sound, expr_sound, place_sound, part_sound, value_sound}
-use Rattle.isp_lower.proofs.SoundFound.{part_there, lift_there, found_there, operand_there, index_there}
-use Rattle.isp_lower.proofs.SoundLines.{copy_sound, convert_sound, operate_sound, read_sound, write_sound, constant_sound, splat_sound, sound_both}
+use Rattle.isp_lower.proofs.SoundFound.{part_there, lift_there, found_there, operand_there, index_there, element_index_there}
+use Rattle.isp_lower.proofs.SoundLines.{copy_sound, convert_sound, operate_sound, read_sound, write_sound, constant_sound, splat_sound, sound_both, read_by_sound, write_by_sound}
 use Rattle.isp_lower.proofs.SoundParts.{few_front, few_back, Here, here_both, here_then, lift_sound, lift_to_sound}
 use Rattle.isp_lower.proofs.Parts.{IsNumber}
 use Rattle.isp_lower.proofs.Trees.{ExprTree, ItemTree, ItemsTree, OperandTree, PlaceTree, SimpleTree}
@@ -49,10 +49,11 @@ module _ (fs : List TFunction) (code : Listing) (h : Routine) (l : Layout) (link
       let ci = index_code l (t_element b i t sp) pc p k n in
       let pc1 = pc + length ci in
       let cx = operand_of l t.rate x k (n + 1) (expr_code l x pc1 (p + length pi) k (n + 1)) in
-      let last = write t.rate (l.array b.number) (index l t.rate i n) (operand l t.rate x (n + 1)) k (p + length pi + length px) in
+      let z = is_run b.ty.rate i in
+      let last = write_by z t.rate (l.array b.number) (index_by l z t.rate i n) (operand l t.rate x (n + 1)) k (p + length pi + length px) in
       let low = few_back (length code.places) (p + length pi) px (sp ∷ []) back in
       here_both code h pc ci (cx ++ last ∷ []) (place_sound fs code h l links (t_element b i t sp) pc p k n iz fz lk (few_front (length code.places) p pi (px ++ sp ∷ []) lp))
-      (here_then code h pc1 cx last (part_sound fs code h l links t.rate t.elem x pc1 (p + length pi) k (n + 1) o ix f lk (few_front (length code.places) (p + length pi) px (sp ∷ []) back)) (write_sound code h t.rate t.elem (l.array b.number) (index l t.rate i n) (operand l t.rate x (n + 1)) k (p + length pi + length px) (array_there code h l b t.rate t.elem fz.0 iz.0 iz.3) (index_there fs h l t.rate i n iz.1 iz.2 fz.1) (operand_there fs h l t.rate t.elem x (n + 1) o ix f) lk (omega (arith, low))))
+      (here_then code h pc1 cx last (part_sound fs code h l links t.rate t.elem x pc1 (p + length pi) k (n + 1) o ix f lk (few_front (length code.places) (p + length pi) px (sp ∷ []) back)) (write_by_sound code h z t.rate t.elem (l.array b.number) (index_by l z t.rate i n) (operand l t.rate x (n + 1)) k (p + length pi + length px) (array_there code h l b t.rate t.elem fz.0 iz.0 iz.3) (element_index_there fs h l code b t.rate i n iz.1 iz.2 fz.0 fz.1) (operand_there fs h l t.rate t.elem x (n + 1) o ix f) lk (omega (arith, low))))
 
   -- ---- an operator on a place
 
@@ -68,11 +69,12 @@ module _ (fs : List TFunction) (code : Listing) (h : Routine) (l : Layout) (link
       update_sound (same_elem u.elem t) o t u.elem u.rate (l.variable u.rate v) (l.variable u.rate v) y k i p sp refl is fz fz hy f.0 lk lp
   change_sound o t (t_element b j u s) y p k n i sp is iz fz f hy lk lp =
       let there = array_there code h l b u.rate u.elem fz.0 iz.0 iz.3 in
-      let at = index_there fs h l u.rate j n iz.1 iz.2 fz.1 in
+      let z = is_run b.ty.rate j in
+      let at = element_index_there fs h l code b u.rate j n iz.1 iz.2 fz.0 fz.1 in
       let d = l.spare u.rate u.elem i in
       let middle = update_to l (same_elem u.elem t) o t u.rate d d y k i (p + 1) in
-      let last = write u.rate (l.array b.number) (index l u.rate j n) d k p in
-      (read_sound code h u.rate u.elem d (l.array b.number) (index l u.rate j n) k p f.1 there at lk (omega (arith, lp)), sound_both code h middle (last ∷ []) (update_sound (same_elem u.elem t) o t u.elem u.rate d d y k i (p + 1) sp refl is f.1 f.1 hy f.0 lk (omega (arith, lp))) (write_sound code h u.rate u.elem (l.array b.number) (index l u.rate j n) d k p there at f.1 lk (omega (arith, lp)), tt))
+      let last = write_by z u.rate (l.array b.number) (index_by l z u.rate j n) d k p in
+      (read_by_sound code h z u.rate u.elem d (l.array b.number) (index_by l z u.rate j n) k p f.1 there at lk (omega (arith, lp)), sound_both code h middle (last ∷ []) (update_sound (same_elem u.elem t) o t u.elem u.rate d d y k i (p + 1) sp refl is f.1 f.1 hy f.0 lk (omega (arith, lp))) (write_by_sound code h z u.rate u.elem (l.array b.number) (index_by l z u.rate j n) d k p there at f.1 lk (omega (arith, lp)), tt))
 
   change_by_sound : (o : BinOp) (t : Elem) (z : TPlace) (x : TExpr) (pc p k n : ℕ) (sp : Span) → IsNumber t → PlaceTree fs z → OperandTree (place_type z).rate t x → ExprTree fs x → Granted h l (target_asks z n) → Granted h l (operand_asks (place_type z).rate x (beyond z n)) → Granted h l (change_asks t z (beyond z n + 1)) → k < h.masks → Named code h l p (index_places l z ++ (expr_places l x ++ change_places l o z sp)) → Here code h pc (change_by_code l o t z x pc p k n)
   change_by_sound o t z x pc p k n sp is iz ox ix fz f fc lk lp =

@@ -32,12 +32,12 @@ use Rattle.isp_meaning.specs.Places.{Place, Element, variable, written, outside,
 use Rattle.isp_meaning.specs.Expressions.{place}
 use Rattle.isp_meaning.specs.Simple.{simple, update}
 use Rattle.isp_lower.specs.Runs.{Enters, DoneRuns}
-use Rattle.isp_lower.specs.Code.{constant, write, index, lift_code, operand, operand_of, index_code, index_places, expr_places, expr_code}
+use Rattle.isp_lower.specs.Code.{constant, write, index, lift_code, operand, operand_of, index_code, index_places, expr_places, expr_code, index_by, write_by}
 use Rattle.isp_lower.proofs.Splits.{same_elem-is}
 use Rattle.isp_lower.proofs.Found.{few, index_low, lifted_low, operand_low}
 use Rattle.isp_lower.proofs.Exprs.{means, PlaceHolds, variable_held, element_runs, expr_runs}
 use Rattle.isp_lower.proofs.Done.{done_after, bind_done, bind_checked}
-use Rattle.isp_lower.proofs.Places.{place_runs, place_kept}
+use Rattle.isp_lower.proofs.Places.{place_runs, place_kept, index_kept}
 use Rattle.isp_lower.proofs.Assigns.{beyond_more, assign_runs, value_runs}
 use Rattle.isp_lower.proofs.Alone.{run_runs}
 use Rattle.isp_lower.proofs.Nodes.{enters_part, enters_later, operand_runs}
@@ -56,7 +56,7 @@ use Rattle.isp_lower.proofs.Nodes.{one_runs}
 use Rattle.isp_lower.proofs.Values.{number_is, wrap_bits}
 use Rattle.isp_lower.proofs.Kept.{Low, low_spare, Keeps, runs_kept, kept_same, keeps_on, held_kept, checked_still, value_still}
 use Rattle.isp_lower.proofs.Parts.{ChangeFits, IsNumber, SimpleParts, SpareFits, WorkFits}
-use Rattle.isp_lower.specs.Asks.{beyond}
+use Rattle.isp_lower.specs.Asks.{beyond, is_run}
 use Rattle.isp_lower.specs.Tables.{IsTyped}
 
 plainly : (t : Elem) (z : ℤ) → IsNumber t → convert_bits t z ≡ wrap t z
@@ -189,9 +189,10 @@ module _ (w : Setting) (ready : IsSettled w) where
       let r = u.rate in
       let z = t_element b j u sv in
       let f = w.layout.spare r u.elem i in
-      let at_j = index w.layout r j n in
+      let v1 = is_run b.ty.rate j in
+      let at_j = index_by w.layout v1 r j n in
       let cu = update_to w.layout same o t r f f y k i (p + 1) in
-      let last = write r (w.layout.array b.number) at_j f k p ∷ [] in
+      let last = write_by v1 r (w.layout.array b.number) at_j f k p ∷ [] in
       let pc2 = pc + 1 + length cu in
       let end = pc + length (change_code w.layout o t z y p k n i) in
       let to : pc2 + 1 ≡ end = omega (arith, length-append cu last) in
@@ -202,7 +203,7 @@ module _ (w : Setting) (ready : IsSettled w) where
       let val = joined (op_bits o t) a (mapped (converted u.elem t) x) v in
       subst (λ g. DoneRuns w c end n q (update (gang_of w) w.frame (calls_of w) o t z g v sp a s)) (sym h.1)
       (bind_checked w ready c (pc + 1) i 5 q (Holds r a f) (outside (gang_of w) w.frame (Element b (type_of j).elem m0) a) Index sv s x (λ x1 s1. bind (checked who Divide sp s1 (joined (op_bits o t) a (mapped (converted u.elem t) x1) v)) (λ m s2. done put_there (mapped (converted t u.elem) m) s2)) end n
-      (element_runs w ready InSlot b j u sv c c 0 pc (pc + 1) k i n p (5 + q) a s m0 (ready.arrays b fit.target.0) fit.target.1 (comes_none w c) here refl has.0 places.0 st (spares_all w i c) (λ g l. refl) em some inside (omega (arith, us)) h.2)
+      (element_runs w ready InSlot v1 at_j b j u sv c c 0 pc (pc + 1) k i p (5 + q) a s m0 (ready.arrays b fit.target.0) fit.target.1 (comes_none w c) here refl has.0 places.0 st (spares_all w i c) (λ g l. refl) em some inside (omega (arith, us)) h.2)
       (λ none ok.
       let c1 = ok.conf in
       let q1 = ok.steps + q in
@@ -214,9 +215,9 @@ module _ (w : Setting) (ready : IsSettled w) where
       (runs_kept w c1 pc2 i (1 + q1) (Holds r a f) (bind (checked who Divide sp s val) (λ m s3. Gives (mapped (converted t u.elem) m) s3)) s ok.stands (checked_still w who Divide sp s val (mapped (converted t u.elem)))
       (update_leaves InSlot same o t u.elem r f y c1 (pc + 1) k i (1 + q1) (p + 1) a s x v sp fit.number (same_elem-is u.elem t) fit.back fit.working fit.back low ok.at e1 some (omega arith) ok.stands (omega (arith, ok.bound)) ok.holds (hy ∙ sym (held_kept w r i c c1 a y here_kept low)) (are_front w.routine.code (pc + 1) cu last has.1) places.1))
       (λ m s3 ok2.
-      let h2 = h.2 ∙ sym (held_kept w r (n + 1) c ok2.conf a at_j (keeps_on w (n + 1) i c c1 ok2.conf lz (kept_same w (n + 1) c c1 s st ok.stands (spares_less w (n + 1) i c c1 lz ok.spares)) ok2.holds.1) (index_low w ready r j n fit.target.2 fit.target.4)) in
+      let h2 = index_kept w ready v1 b.ty.rate r j n a _ c ok2.conf fit.target.2 fit.target.4 (keeps_on w (n + 1) i c c1 ok2.conf lz (kept_same w (n + 1) c c1 s st ok.stands (spares_less w (n + 1) i c c1 lz ok.spares)) ok2.holds.1) h.2 in
       subst (λ g. DoneRuns w c1 end n q1 (bind (checked g Index sv s3 m) (done put_there))) none
-      (element_done w ready r b.ty.rate b (type_of j).elem m0 m a s3 c1 ok2.conf ok2.steps pc2 end k at_j f n q1 p sv (ready.arrays b fit.target.0).is fit.target.1 (ready.arrays b fit.target.0).few some inside ok2.comes ok2.at to (are_back w.routine.code (pc + 1) cu last has.1).0 places.0 ok2.stands (spares_less w n i c1 ok2.conf le ok2.spares) (λ g l. ok2.masks g (omega arith)) (ok2.masks k (omega arith) ∙ e1) (omega (arith, ok2.bound)) h2 ok2.holds.0))))))
+      (element_done w ready v1 r b.ty.rate b (type_of j).elem m0 m a s3 c1 ok2.conf ok2.steps pc2 end k at_j f n q1 p sv (ready.arrays b fit.target.0).is fit.target.1 (ready.arrays b fit.target.0).few some inside ok2.comes ok2.at to (are_back w.routine.code (pc + 1) cu last has.1).0 places.0 ok2.stands (spares_less w n i c1 ok2.conf le ok2.spares) (λ g l. ok2.masks g (omega arith)) (ok2.masks k (omega arith) ∙ e1) (omega (arith, ok2.bound)) h2 ok2.holds.0))))))
 
   -- ---- `op=`
 

@@ -5,7 +5,7 @@ use Rattle.std.proofs.lemmas.Bool.{eqb-false}
 use Rattle.std.proofs.Math.Path.{fun_ext}
 use Rattle.isp_base.specs.Access.{is_outside, element, scatter, put_at}
 use Rattle.isp_base.specs.Maps.{Lanes, Map, on, over, or_old, each1, map1, holds, lowest_failing, put}
-use Rattle.isp_base.specs.Sets.{Mask, nobody, any}
+use Rattle.isp_base.specs.Sets.{Mask, nobody, any, lowest}
 use Rattle.isp_base.specs.Stores.{own_put}
 use Rattle.isp_base.specs.Types.{gang_width}
 use Rattle.isp_base.specs.declared.trap.TrapKind.TheVariants.{Index}
@@ -26,7 +26,7 @@ use Rattle.isp_meaning.specs.Places as meant
 use Rattle.isp_meaning.specs.Places.{written, own_stored, with_elements}
 use Rattle.isp_lower.specs.Layout.{register, mask_register, array_register}
 use Rattle.isp_lower.specs.Setting.{ArrayFitsAt, Setting, IsSettled, gang_of, At, Stands, Spares, at_rate, held_at, Holds}
-use Rattle.isp_lower.specs.Code.{write}
+use Rattle.isp_lower.specs.Code.{write, write_by}
 use Rattle.isp_lower.proofs.Base.{put_same, put_other, moved_by, comes_on, fails_on, step_go, step_fail, next_at, at_to}
 use Rattle.isp_lower.proofs.Rates.{at_mapped}
 use Rattle.isp_base.specs.Traps.{trap}
@@ -39,6 +39,9 @@ use Rattle.isp_lower.proofs.Access.{as_whole, size_at, outside_is, index_element
 use Rattle.isp_lower.proofs.Rates.{at_offender}
 use Rattle.isp_lower.proofs.Lines.{set_at, value_at, unless_is, failing_is, place_named}
 use Rattle.isp_lower.specs.Rated.{Reaches}
+use Rattle.isp_lower.proofs.Consecutive.{IndexHolds, RunFits, lanes_by, run_lane, run_outside_is, run_places_are}
+use Rattle.isp_base.specs.Cross.{run_outside, run_places}
+use Rattle.isp_base.specs.Values.{number}
 
 -- functions that agree, changed at one place each, where one numbers the other
 pub put_through : {A : Type 0} (f g : ℕ → A) (h : ℕ → ℕ) (d : ℕ) (x y : A) → ((u v : ℕ) → u ≢ v → h u ≢ h v) → ((u : ℕ) → f (h u) ≡ g u) → x ≡ y → (u : ℕ) → put f (h d) x (h u) ≡ put g d y u
@@ -97,6 +100,25 @@ write_line code h c Uniform b i x k q some =
 write_line code h c Varying b i x k q some =
     unless_is code h c (lowest_failing (gang_width code.gang) (is_outside I64 (size code h c (array_register b))) (on (c.masks k) (c.vectors i))) Index q (wrote code h c Varying b i x k) (λ c1. c1)
 
+-- the same by an index in each lane, or as a run
+abbrev pub wrote_by : Bool → Listing → Routine → Conf → Rate → ℕ → ℕ → ℕ → ℕ → Conf
+wrote_by true code h c r b i x k =
+    set_array c (array_register b) (scatter (gang_width code.gang) (map1 (element I64) (on (c.masks k) (run_lane (c.scalars i)))) (on (c.masks k) (c.vectors x)) (c.arrays (c.home.named b)))
+wrote_by false code h c r b i x k = wrote code h c r b i x k
+
+pub write_by_line : (z : Bool) (br : Rate) (code : Listing) (h : Routine) (c : Conf) (r : Rate) (b i x k q : ℕ) → any (gang_width code.gang) (c.masks k) ≡ true → RunFits z br r (c.masks k) (c.scalars i) → act code h c (write_by z r b i x k q) ≡ moved_by (offender (gang_width code.gang) (is_outside I64 (size code h c (array_register b))) (c.masks k) (held_at r c.scalars (lanes_by z c.scalars c.vectors) (c.masks k) i)) Index (place_at code q) (wrote_by z code h c r b i x k)
+write_by_line false br code h c r b i x k q some f = write_line code h c r b i x k q some
+write_by_line true br code h c Uniform b i x k q some f = let no = f.1 in absurd (cc)
+write_by_line true br code h c Varying b i x k q some f =
+    let a = c.masks k in
+    let at = c.scalars i in
+    let g = gang_width code.gang in
+    let n = size code h c (array_register b) in
+    let put_at_places = λ (m : Map). set_array c (array_register b) (scatter g m (on a (c.vectors x)) (c.arrays (c.home.named b))) in
+    unless_is code h c (lowest g (run_outside n (number I64 at) a)) Index q (put_at_places (run_places (number I64 at) a)) (λ c1. c1)
+    ∙ ap (λ m. moved_by (lowest g m) Index (place_at code q) (put_at_places (run_places (number I64 at) a))) (run_outside_is a at f.2 n)
+    ∙ ap (λ m. moved_by (lowest_failing g (is_outside I64 n) (on a (run_lane at))) Index (place_at code q) (put_at_places m)) (run_places_are a at f.2)
+
 -- ---- a variable is written
 
 module _ (w : Setting) (ready : IsSettled w) where
@@ -154,62 +176,74 @@ module _ (w : Setting) (ready : IsSettled w) where
   none_out a v p e = ap (λ b. each1 (element I64) (if b then Some (v p) else None)) e
 
   -- what the instruction does, in the words of the meaning
-  store_line : (r br : Rate) (y : ArrayVariable) (t : Elem) (i : Payload) (a : Mask) (c2 : Conf) (pc k j x p : ℕ) (sp : Span) → ArrayFitsAt w br y → extent_at br w.frame y.number ≤ 2 ^ 63 → any (gang_of w) a ≡ true → At w c2 pc → slice_get w.code.places p ≡ Some sp → c2.masks k ≡ a → at_rate r a (mapped (as_whole (is_whole t) t) i) ≡ held_at r c2.scalars c2.vectors a j → act w.code w.routine c2 (write r (w.layout.array y.number) j x k p) ≡ moved_by (offender (gang_of w) (is_outside t (extent_at br w.frame y.number)) a i) Index sp (wrote w.code w.routine c2 r (w.layout.array y.number) j x k)
-  store_line r br y t i a c2 pc k j x p sp fy few some at place em hold =
-      let c3 = wrote w.code w.routine c2 r (w.layout.array y.number) j x k in
-      write_line w.code w.routine c2 r (w.layout.array y.number) j x k p (ap (any (gang_of w)) em ∙ some)
-      ∙ ap (λ u. moved_by (offender (gang_of w) (is_outside I64 (size w.code w.routine c2 (array_register (w.layout.array y.number)))) u (held_at r c2.scalars c2.vectors u j)) Index (place_at w.code p) c3) em
-      ∙ ap (λ u. moved_by (offender (gang_of w) (is_outside I64 u) a (held_at r c2.scalars c2.vectors a j)) Index (place_at w.code p) c3) (size_at w br y c2 pc ready.sizes at fy)
-      ∙ ap (λ u. moved_by u Index (place_at w.code p) c3) (outside_is w r t (is_whole t) i a c2.scalars c2.vectors j (extent_at br w.frame y.number) refl few hold)
+  store_line : (z : Bool) (r br : Rate) (y : ArrayVariable) (t : Elem) (i : Payload) (a : Mask) (c2 : Conf) (pc k j x p : ℕ) (sp : Span) → ArrayFitsAt w br y → extent_at br w.frame y.number ≤ 2 ^ 63 → any (gang_of w) a ≡ true → At w c2 pc → slice_get w.code.places p ≡ Some sp → c2.masks k ≡ a → IndexHolds z br r a j (mapped (as_whole (is_whole t) t) i) c2.scalars c2.vectors → act w.code w.routine c2 (write_by z r (w.layout.array y.number) j x k p) ≡ moved_by (offender (gang_of w) (is_outside t (extent_at br w.frame y.number)) a i) Index sp (wrote_by z w.code w.routine c2 r (w.layout.array y.number) j x k)
+  store_line z r br y t i a c2 pc k j x p sp fy few some at place em hold =
+      let c3 = wrote_by z w.code w.routine c2 r (w.layout.array y.number) j x k in
+      let ve = lanes_by z c2.scalars c2.vectors in
+      write_by_line z br w.code w.routine c2 r (w.layout.array y.number) j x k p (ap (any (gang_of w)) em ∙ some) (subst (λ m. RunFits z br r m (c2.scalars j)) (sym em) hold.fits)
+      ∙ ap (λ u. moved_by (offender (gang_of w) (is_outside I64 (size w.code w.routine c2 (array_register (w.layout.array y.number)))) u (held_at r c2.scalars ve u j)) Index (place_at w.code p) c3) em
+      ∙ ap (λ u. moved_by (offender (gang_of w) (is_outside I64 u) a (held_at r c2.scalars ve a j)) Index (place_at w.code p) c3) (size_at w br y c2 pc ready.sizes at fy)
+      ∙ ap (λ u. moved_by u Index (place_at w.code p) c3) (outside_is w r t (is_whole t) i a c2.scalars ve j (extent_at br w.frame y.number) refl few hold.holds)
       ∙ ap (λ u. moved_by (offender (gang_of w) (is_outside t (extent_at br w.frame y.number)) a i) Index u c3) (place_named w.code w.routine c2 p sp place)
 
-  pub element_done : (r br : Rate) (y : ArrayVariable) (t : Elem) (i m : Payload) (a : Mask) (s : State) (c c2 : Conf) (st pc pc' k j x n q p : ℕ) (sp : Span) → ArrayFitsAt w br y → Reaches br r → extent_at br w.frame y.number ≤ 2 ^ 63 → any (gang_of w) a ≡ true → ((p : ℕ) → a p ≡ true → p < gang_of w) → Comes w c st c2 → At w c2 pc → pc + 1 ≡ pc' → slice_get w.routine.code pc ≡ Some (write r (w.layout.array y.number) j x k p) → slice_get w.code.places p ≡ Some sp → Stands w s c2 → Spares w n c c2 → ((r : ℕ) → r < n → c2.masks r ≡ c.masks r) → c2.masks k ≡ a → st + 1 + q ≤ 32 * s.work → at_rate r a (mapped (as_whole (is_whole t) t) i) ≡ held_at r c2.scalars c2.vectors a j → Holds r a x m c2 → DoneRuns w c pc' n q (bind (checked (offender (gang_of w) (is_outside t (extent_at br w.frame y.number)) a i) Index sp s m) (λ b s3. Gives tt (with_elements w.frame y t i a (gang_of w) br b s3)))
-  element_done Uniform Varying y t i m a s c c2 st pc pc' k j x n q p sp fy re few some inside h at to has place stands spares masks em le hold hx = absurd re
-  element_done Uniform Uniform y t (Each i) m a s c c2 st pc pc' k j x n q p sp fy re few some inside h at to has place stands spares masks em le hold hx = absurd (cc)
-  element_done Uniform Uniform y t (One i) m a s c c2 st pc pc' k j x n q p sp fy re few some inside h at to has place stands spares masks em le hold hx =
+  -- elements of an array that all share
+  shared_line : (z : Bool) (y : ArrayVariable) (t : Elem) (i : Payload) (a : Mask) (c2 : Conf) (pc k j x p : ℕ) (sp : Span) → ArrayFitsAt w Uniform y → extent_at Uniform w.frame y.number ≤ 2 ^ 63 → any (gang_of w) a ≡ true → At w c2 pc → slice_get w.code.places p ≡ Some sp → c2.masks k ≡ a → IndexHolds z Uniform Varying a j (mapped (as_whole (is_whole t) t) i) c2.scalars c2.vectors → act w.code w.routine c2 (write_by z Varying (w.layout.array y.number) j x k p) ≡ moved_by (offender (gang_of w) (is_outside t (extent_at Uniform w.frame y.number)) a i) Index sp (set_array c2 (array_register (w.layout.array y.number)) (scatter (gang_of w) (map1 (element I64) (on (c2.masks k) (lanes_by z c2.scalars c2.vectors j))) (on (c2.masks k) (c2.vectors x)) (c2.arrays (c2.home.named (w.layout.array y.number)))))
+  shared_line true y t i a c2 pc k j x p sp fy few some at place em hold = store_line true Varying Uniform y t i a c2 pc k j x p sp fy few some at place em hold
+  shared_line false y t i a c2 pc k j x p sp fy few some at place em hold =
+      let o = offender (gang_of w) (is_outside t (extent_at Uniform w.frame y.number)) a i in
+      store_line false Varying Uniform y t i a c2 pc k j x p sp fy few some at place em hold
+      ∙ ap (λ u. moved_by o Index sp (scattered w.code w.routine c2 u (array_register (w.layout.array y.number)) (register Varying j) (register Varying x) (mask_register k))) fy.0
+
+  pub element_done : (z : Bool) (r br : Rate) (y : ArrayVariable) (t : Elem) (i m : Payload) (a : Mask) (s : State) (c c2 : Conf) (st pc pc' k j x n q p : ℕ) (sp : Span) → ArrayFitsAt w br y → Reaches br r → extent_at br w.frame y.number ≤ 2 ^ 63 → any (gang_of w) a ≡ true → ((p : ℕ) → a p ≡ true → p < gang_of w) → Comes w c st c2 → At w c2 pc → pc + 1 ≡ pc' → slice_get w.routine.code pc ≡ Some (write_by z r (w.layout.array y.number) j x k p) → slice_get w.code.places p ≡ Some sp → Stands w s c2 → Spares w n c c2 → ((r : ℕ) → r < n → c2.masks r ≡ c.masks r) → c2.masks k ≡ a → st + 1 + q ≤ 32 * s.work → IndexHolds z br r a j (mapped (as_whole (is_whole t) t) i) c2.scalars c2.vectors → Holds r a x m c2 → DoneRuns w c pc' n q (bind (checked (offender (gang_of w) (is_outside t (extent_at br w.frame y.number)) a i) Index sp s m) (λ b s3. Gives tt (with_elements w.frame y t i a (gang_of w) br b s3)))
+  element_done true Uniform br y t i m a s c c2 st pc pc' k j x n q p sp fy re few some inside h at to has place stands spares masks em le hold hx = let no = hold.fits.1 in absurd (cc)
+  element_done true Varying Varying y t i m a s c c2 st pc pc' k j x n q p sp fy re few some inside h at to has place stands spares masks em le hold hx = let no = hold.fits.0 in absurd (cc)
+  element_done false Uniform Varying y t i m a s c c2 st pc pc' k j x n q p sp fy re few some inside h at to has place stands spares masks em le hold hx = absurd re
+  element_done false Uniform Uniform y t (Each i) m a s c c2 st pc pc' k j x n q p sp fy re few some inside h at to has place stands spares masks em le hold hx = let no = hold.holds in absurd (cc)
+  element_done false Uniform Uniform y t (One i) m a s c c2 st pc pc' k j x n q p sp fy re few some inside h at to has place stands spares masks em le hold hx =
       let A = w.layout.array y.number in
       let N = c2.home.named A in
       let F = put (c2.arrays N) (element I64 (c2.scalars j)) (c2.scalars x) in
       let c3 = set_array c2 (array_register A) F in
-      step_done c c2 c3 st pc pc' n q (write Uniform A j x k p) (offender (gang_of w) (is_outside t (extent_at Uniform w.frame y.number)) a (One i)) Index sp m s (with_elements w.frame y t (One i) a (gang_of w) Uniform) h at to has (store_line Uniform Uniform y t (One i) a c2 pc k j x p sp fy few some at place em hold) refl (next_at w c2 c3 pc at refl refl refl) stands
+      step_done c c2 c3 st pc pc' n q (write Uniform A j x k p) (offender (gang_of w) (is_outside t (extent_at Uniform w.frame y.number)) a (One i)) Index sp m s (with_elements w.frame y t (One i) a (gang_of w) Uniform) h at to has (store_line false Uniform Uniform y t (One i) a c2 pc k j x p sp fy few some at place em hold) refl (next_at w c2 c3 pc at refl refl refl) stands
       (λ none.
       let fine : is_outside t (extent_at Uniform w.frame y.number) i ≡ false = one_inside (gang_of w) a (is_outside t (extent_at Uniform w.frame y.number)) i some none in
-      let ei : element I64 (c2.scalars j) ≡ element t i = ap (element I64) (sym (ap sole hold)) ∙ index_element (is_whole t) t (extent_at Uniform w.frame y.number) i refl few fine in
+      let ei : element I64 (c2.scalars j) ≡ element t i = ap (element I64) (sym (ap sole hold.holds)) ∙ index_element (is_whole t) t (extent_at Uniform w.frame y.number) i refl few fine in
       let en : N ≡ w.frame.named y.number = named_is y c2 pc at fy.1 in
       let ef : F ≡ meant.stored (gang_of w) a (One (element t i)) m (s.arrays (w.frame.named y.number)) = ap (λ u. put (c2.arrays N) u (c2.scalars x)) ei ∙ ap (λ g. put (g N) (element t i) (c2.scalars x)) stands.arrays_are ∙ ap (λ u. put (s.arrays u) (element t i) (c2.scalars x)) en ∙ ap (λ u. meant.stored (gang_of w) a (One (element t i)) u (s.arrays (w.frame.named y.number))) (sym hx) in
       record { uniforms = stands.uniforms; varying = stands.varying; result = stands.result; results = stands.results; own_arrays = stands.own_arrays; arrays_are = arrays_put c2 s N (w.frame.named y.number) F _ stands.arrays_are en ef; out_is = stands.out_is })
       spares masks le le
-  element_done Varying Uniform y t i m a s c c2 st pc pc' k j x n q p sp fy re few some inside h at to has place stands spares masks em le hold hx =
+  element_done z Varying Uniform y t i m a s c c2 st pc pc' k j x n q p sp fy re few some inside h at to has place stands spares masks em le hold hx =
       let A = w.layout.array y.number in
       let N = c2.home.named A in
-      let F = scatter (gang_of w) (map1 (element I64) (on (c2.masks k) (c2.vectors j))) (on (c2.masks k) (c2.vectors x)) (c2.arrays N) in
+      let V = lanes_by z c2.scalars c2.vectors j in
+      let F = scatter (gang_of w) (map1 (element I64) (on (c2.masks k) V)) (on (c2.masks k) (c2.vectors x)) (c2.arrays N) in
       let c3 = set_array c2 (array_register A) F in
       let o = offender (gang_of w) (is_outside t (extent_at Uniform w.frame y.number)) a i in
-      step_done c c2 c3 st pc pc' n q (write Varying A j x k p) o Index sp m s (with_elements w.frame y t i a (gang_of w) Uniform) h at to has (store_line Varying Uniform y t i a c2 pc k j x p sp fy few some at place em hold ∙ ap (λ u. moved_by o Index sp (scattered w.code w.routine c2 u (array_register A) (register Varying j) (register Varying x) (mask_register k))) fy.0) refl (next_at w c2 c3 pc at refl refl refl) stands
+      step_done c c2 c3 st pc pc' n q (write_by z Varying A j x k p) o Index sp m s (with_elements w.frame y t i a (gang_of w) Uniform) h at to has (shared_line z y t i a c2 pc k j x p sp fy few some at place em hold) refl (next_at w c2 c3 pc at refl refl refl) stands
       (λ none.
       let en : N ≡ w.frame.named y.number = named_is y c2 pc at fy.1 in
       let ex : on a (c2.vectors x) ≡ spread a m = sym (ap map_of hx) in
       let ef : F ≡ meant.stored (gang_of w) a (mapped (element t) i) m (s.arrays (w.frame.named y.number)) =
-      ap (λ g. scatter (gang_of w) (map1 (element I64) (on g (c2.vectors j))) (on g (c2.vectors x)) (c2.arrays N)) em
-      ∙ ap (λ g. scatter (gang_of w) g (on a (c2.vectors x)) (c2.arrays N)) (places_are t (is_whole t) i a (c2.vectors j) (extent_at Uniform w.frame y.number) refl few inside hold none)
+      ap (λ g. scatter (gang_of w) (map1 (element I64) (on g V)) (on g (c2.vectors x)) (c2.arrays N)) em
+      ∙ ap (λ g. scatter (gang_of w) g (on a (c2.vectors x)) (c2.arrays N)) (places_are t (is_whole t) i a V (extent_at Uniform w.frame y.number) refl few inside hold.holds none)
       ∙ ap (λ g. scatter (gang_of w) (spread a (mapped (element t) i)) g (c2.arrays N)) ex
       ∙ ap (λ g. scatter (gang_of w) (spread a (mapped (element t) i)) (spread a m) (g N)) stands.arrays_are
       ∙ ap (λ u. scatter (gang_of w) (spread a (mapped (element t) i)) (spread a m) (s.arrays u)) en
       ∙ sym (stored_is (gang_of w) a (mapped (element t) i) m (s.arrays (w.frame.named y.number)) some) in
       record { uniforms = stands.uniforms; varying = stands.varying; result = stands.result; results = stands.results; own_arrays = stands.own_arrays; arrays_are = arrays_put c2 s N (w.frame.named y.number) F _ stands.arrays_are en ef; out_is = stands.out_is })
       spares masks le le
-  element_done Varying Varying y t i m a s c c2 st pc pc' k j x n q p sp fy re few some inside h at to has place stands spares masks em le hold hx =
+  element_done false Varying Varying y t i m a s c c2 st pc pc' k j x n q p sp fy re few some inside h at to has place stands spares masks em le hold hx =
       let A = w.layout.array y.number in
       let F = own_put (map1 (element I64) (on (c2.masks k) (c2.vectors j))) (c2.vectors x) (c2.own A) in
       let c3 = set_own c2 (array_register A) F in
       let o = offender (gang_of w) (is_outside t (extent_at Varying w.frame y.number)) a i in
-      step_done c c2 c3 st pc pc' n q (write Varying A j x k p) o Index sp m s (with_elements w.frame y t i a (gang_of w) Varying) h at to has (store_line Varying Varying y t i a c2 pc k j x p sp fy few some at place em hold ∙ ap (λ u. moved_by o Index sp (scattered w.code w.routine c2 u (array_register A) (register Varying j) (register Varying x) (mask_register k))) fy.0) refl (next_at w c2 c3 pc at refl refl refl) stands
+      step_done c c2 c3 st pc pc' n q (write Varying A j x k p) o Index sp m s (with_elements w.frame y t i a (gang_of w) Varying) h at to has (store_line false Varying Varying y t i a c2 pc k j x p sp fy few some at place em hold ∙ ap (λ u. moved_by o Index sp (scattered w.code w.routine c2 u (array_register A) (register Varying j) (register Varying x) (mask_register k))) fy.0) refl (next_at w c2 c3 pc at refl refl refl) stands
       (λ none.
       let ex : on a (c2.vectors x) ≡ spread a m = sym (ap map_of hx) in
       let ef : F ≡ own_stored (spread a (mapped (element t) i)) (spread a m) (s.own y.number) =
       ap (λ g. own_put (map1 (element I64) (on g (c2.vectors j))) (c2.vectors x) (c2.own A)) em
       ∙ sym (own_is a (map1 (element I64) (on a (c2.vectors j))) (c2.vectors x) (c2.own A) (none_out a (c2.vectors j)))
-      ∙ ap (λ g. own_stored g (on a (c2.vectors x)) (c2.own A)) (places_are t (is_whole t) i a (c2.vectors j) (extent_at Varying w.frame y.number) refl few inside hold none)
+      ∙ ap (λ g. own_stored g (on a (c2.vectors x)) (c2.own A)) (places_are t (is_whole t) i a (c2.vectors j) (extent_at Varying w.frame y.number) refl few inside hold.holds none)
       ∙ ap (λ g. own_stored (spread a (mapped (element t) i)) g (c2.own A)) ex
       ∙ ap (own_stored (spread a (mapped (element t) i)) (spread a m)) (stands.own_arrays y.number) in
       record { uniforms = stands.uniforms; varying = stands.varying; result = stands.result; results = stands.results; own_arrays = put_through c2.own s.own w.layout.array y.number F _ ready.apart.arrays stands.own_arrays ef; arrays_are = stands.arrays_are; out_is = stands.out_is })

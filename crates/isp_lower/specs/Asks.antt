@@ -77,6 +77,36 @@ whole_asks i n a = Both (spare_ask (type_of i).rate I64 n) a
 abbrev pub index_asks : Rate → TExpr → ℕ → Ask → Ask
 index_asks r i n a = Both (lift_asks r (type_of i).rate I64 n) (whole_asks i n a)
 
+-- The lanes' elements of an array stand in a row where all share it and the index is the number of the lane, with nothing around it; then
+-- a scalar of slot n has the number of the first one.
+abbrev pub is_lane : TExpr → Bool
+is_lane (t_constant v sp) = false
+is_lane (t_program_index sp) = true
+is_lane (t_place q) = false
+is_lane (t_convert e x) = false
+is_lane (t_cast x t sp) = false
+is_lane (t_unary o x t sp) = false
+is_lane (t_binary o x y t sp) = false
+is_lane (t_compare c x y r sp) = false
+is_lane (t_logic g x y r sp) = false
+is_lane (t_choose c x y t sp) = false
+is_lane (t_call c t) = false
+is_lane (t_library f e xs t sp) = false
+is_lane (t_packed_store b x sp) = false
+is_lane (t_packed_load b v sp) = false
+
+abbrev pub is_run : Rate → TExpr → Bool
+is_run Uniform i = is_lane i
+is_run Varying i = false
+
+abbrev pub run_asks : Bool → ℕ → Ask
+run_asks true n = spare_ask Uniform I64 n
+run_asks false n = Nothing
+
+-- the index of an element of an array of the first rate, that asks for a, at the second
+abbrev pub element_asks : Rate → Rate → TExpr → ℕ → Ask → Ask
+element_asks g r i n a = Both (run_asks (is_run g i) n) (index_asks r i n a)
+
 -- the right side of `&&` and `||` has a mask where it is asked lane by lane; so has a part behind a varying test
 abbrev pub test_asks : Rate → ℕ → Ask
 test_asks Uniform n = Nothing
@@ -131,7 +161,7 @@ abbrev mutual
   -- a place whose index is taken at slot n
   pub target_asks : TPlace → ℕ → Ask
   target_asks (t_variable v t sp) n = Register t.rate (Variable v) t.elem
-  target_asks (t_element b i t sp) n = Both (ArrayOf b) (index_asks t.rate i n (expr_asks i n))
+  target_asks (t_element b i t sp) n = Both (ArrayOf b) (element_asks b.ty.rate t.rate i n (expr_asks i n))
 
   -- the number of the first element, which is taken at slot n as one of int64
   pub first_asks : TBase → ℕ → Ask

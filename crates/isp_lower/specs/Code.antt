@@ -19,7 +19,8 @@ use Rattle.isp_typed.specs.declared.variable.Logic.{Logic}
 use Rattle.isp_typed.specs.declared.variable.Logic.TheVariants.{And, Or}
 use Rattle.isp_meaning.specs.Payloads.{converted}
 use Rattle.isp_lower.specs.Callees.{next_rate, later}
-pub use Rattle.isp_lower.specs.Instructions.{copy, convert, unary, compare, compute, operate, operate_places, read, write, constant, splat, select, packed_store, packed_load, where_so, the_others, jump_off, jump_on}
+use Rattle.isp_lower.specs.Asks.{is_run}
+pub use Rattle.isp_lower.specs.Instructions.{copy, convert, unary, compare, compute, operate, operate_places, read, write, read_by, write_by, constant, splat, select, packed_store, packed_load, where_so, the_others, jump_off, jump_on}
 use Rattle.isp_lower.specs.Layout.{Layout, register, mask_register, array_register}
 use Rattle.isp_lower.specs.Library.{library_code, library_rates}
 
@@ -190,6 +191,15 @@ module _ (l : Layout) where
   abbrev pub index_of : Rate → TExpr → ℕ → ℕ → List Instr → List Instr
   index_of r i k n code = whole_of (is_whole (type_of i).elem) i k n code ++ lift_code r (type_of i).rate I64 (whole (is_whole (type_of i).elem) i n) k n
 
+  -- an index as code has it: of a run of elements, the number of the first one
+  abbrev pub index_by : Bool → Rate → TExpr → ℕ → ℕ
+  index_by true r i n = l.spare Uniform I64 n
+  index_by false r i n = index r i n
+
+  abbrev pub index_by_of : Bool → Rate → TExpr → ℕ → ℕ → List Instr → List Instr
+  index_by_of true r i k n code = constant (l.spare Uniform I64 n) I64 0 ∷ []
+  index_by_of false r i k n code = index_of r i k n code
+
   -- ---- the places that code names, in order
 
   abbrev mutual
@@ -246,7 +256,9 @@ module _ (l : Layout) where
 
   abbrev pub read_code : ℕ → TPlace → ℕ → ℕ → ℕ → List Instr
   read_code d (t_variable v t sp) p k n = variable_read (is_copied t.rate v) d t.rate v k
-  read_code d (t_element b i t sp) p k n = read t.rate d (l.array b.number) (index t.rate i n) k p ∷ []
+  read_code d (t_element b i t sp) p k n =
+      let z = is_run b.ty.rate i in
+      read_by z t.rate d (l.array b.number) (index_by z t.rate i n) k p ∷ []
 
   abbrev pub choose_code : Rate → Rate → Elem → TExpr → TExpr → ℕ → ℕ → ℕ → ℕ → List Instr → (ℕ → ℕ → ℕ → List Instr) → (ℕ → ℕ → ℕ → List Instr) → List Instr
   choose_code Uniform r t x y c pc k n test a b =
@@ -343,7 +355,7 @@ module _ (l : Layout) where
     -- the index of a place
     pub index_code : TPlace → ℕ → ℕ → ℕ → ℕ → List Instr
     index_code (t_variable v t sp) pc p k n = []
-    index_code (t_element b i t sp) pc p k n = index_of t.rate i k n (expr_to (found i n) i pc p k n)
+    index_code (t_element b i t sp) pc p k n = index_by_of (is_run b.ty.rate i) t.rate i k n (expr_to (found i n) i pc p k n)
 
     pub base_code : TBase → ℕ → ℕ → ℕ → ℕ → List Instr
     base_code (t_whole b sp) pc p k n = constant (l.spare Uniform I64 n) I64 0 ∷ []

@@ -1,5 +1,5 @@
 -- Instructions of a rate: on scalars, or on lanes of mask k.
-use Rattle.std.specs.Prelude.{ℕ, ◌∷◌, [], List, if◌then◌else◌}
+use Rattle.std.specs.Prelude.{ℕ, ◌∷◌, [], List, Bool, true, false, if◌then◌else◌}
 use Rattle.isp_base.specs.Values.{number, divides}
 use Rattle.isp_base.specs.declared.operators.BinOp.{BinOp}
 use Rattle.isp_base.specs.declared.operators.BinOp.TheVariants as op
@@ -67,6 +67,22 @@ read Varying d b i k p = instr.Vector (register Varying d) (vector.Gather (array
 abbrev pub write : Rate → ℕ → ℕ → ℕ → ℕ → ℕ → Instr
 write Uniform b i x k p = instr.Store (array_register b) (register Uniform i) (register Uniform x) (mask_register k) p
 write Varying b i x k p = instr.Scatter (array_register b) (register Varying i) (register Varying x) (mask_register k) p
+
+-- a run of elements: lane p has the element that is p places behind that of a scalar index
+abbrev pub read_run : ℕ → ℕ → ℕ → ℕ → ℕ → Instr
+read_run d b i k p = instr.Vector (register Varying d) (vector.LoadRun (array_register b) (register Uniform i) (mask_register k) p)
+
+abbrev pub write_run : ℕ → ℕ → ℕ → ℕ → ℕ → Instr
+write_run b i x k p = instr.StoreRun (array_register b) (register Uniform i) (register Varying x) (mask_register k) p
+
+-- elements as a run, or by an index of their rate
+abbrev pub read_by : Bool → Rate → ℕ → ℕ → ℕ → ℕ → ℕ → Instr
+read_by true r d b i k p = read_run d b i k p
+read_by false r d b i k p = read r d b i k p
+
+abbrev pub write_by : Bool → Rate → ℕ → ℕ → ℕ → ℕ → ℕ → Instr
+write_by true r b i x k p = write_run b i x k p
+write_by false r b i x k p = write r b i x k p
 
 abbrev pub constant : ℕ → Elem → ℕ → Instr
 constant d t bits = instr.Scalar (register Uniform d) (scalar.Constant (number t bits))

@@ -12,9 +12,10 @@ use Rattle.isp_code.specs.declared.instr.Instr.TheVariants as instr
 use Rattle.isp_code.specs.declared.instr.JumpTest.TheVariants as jump
 use Rattle.isp_code.specs.declared.register.Register.{Register}
 use Rattle.isp_typed.specs.Typed.{TArgument, TArguments, TBase, TCall, TExpr, TExprs, TPlace, type_of}
-use Rattle.isp_lower.specs.Code.{argument_code, argument_places, arguments_code, arguments_places, base_code, base_places, call_code, call_places, choice, choose_code, choose_rest, expr_code, expr_places, expr_to, found, guard, index_of, index_places, is_copied, is_whole, jump_off, jump_on, lift_code, move_code, operand, operand_of, operate, operate_places, packed_load, packed_store, read, select, value_registers, values_code, values_places, variable_code, variable_from, variable_read, whole_of, write}
+use Rattle.isp_lower.specs.Code.{argument_code, argument_places, arguments_code, arguments_places, base_code, base_places, call_code, call_places, choice, choose_code, choose_rest, expr_code, expr_places, expr_to, found, guard, index_by_of, index_of, index_places, is_copied, is_whole, jump_off, jump_on, lift_code, move_code, operand, operand_of, operate, operate_places, packed_load, packed_store, read_by, select, value_registers, values_code, values_places, variable_code, variable_from, variable_read, whole_of, write_by}
 use Rattle.isp_typed.specs.declared.library.Library.{Library}
 use Rattle.isp_typed.specs.declared.variable.ArrayVariable.{ArrayVariable}
+use Rattle.isp_lower.specs.Asks.{is_run}
 use Rattle.isp_lower.specs.Emitted.{Appends, layout}
 use Rattle.isp_lower.specs.Layout.{mask_register, register}
 use Rattle.isp_lower.specs.Library.{library_code, library_rates, on_values}
@@ -73,6 +74,13 @@ index_at on r x at =
     let k = at.mask.number in
     let n = at.slot.number in
     record { code = λ pc p. index_of (layout on) r x k n (expr_code (layout on) x pc p k n); places = expr_places (layout on) x }
+
+-- the index of an element: that of its lane, or of the first element of a run
+abbrev pub element_index_at : Scope → ArrayVariable → Rate → TExpr → Site → Piece
+element_index_at on b r x at =
+    let k = at.mask.number in
+    let n = at.slot.number in
+    record { code = λ pc p. index_by_of (layout on) (is_run b.ty.rate x) r x k n (expr_code (layout on) x pc p k n); places = expr_places (layout on) x }
 
 -- a variable is copied to register d where a packed load writes it
 abbrev pub variable_read_at : Scope → Home → RegisterNumber → MaskNumber → Piece
@@ -193,7 +201,7 @@ operate_at o x y t =
     record { code = λ pc p. operate t.ty.rate o t.to.number x.number y.number t.site.mask.number p ∷ []; places = operate_places o t.span }
 
 abbrev pub read_at : Scope → Element → RegisterNumber → MaskNumber → Piece
-read_at on e d k = record { code = λ pc p. read e.ty.rate d.number ((layout on).array e.array.number) e.index.number k.number p ∷ []; places = e.span ∷ [] }
+read_at on e d k = record { code = λ pc p. read_by e.is_run e.ty.rate d.number ((layout on).array e.array.number) e.index.number k.number p ∷ []; places = e.span ∷ [] }
 
 abbrev pub packed_store_at : Scope → ArrayVariable → RegisterNumber → RegisterNumber → Target → Piece
 packed_store_at on y i x t =
@@ -204,7 +212,7 @@ packed_load_at on y i x t =
     record { code = λ pc p. packed_load t.to.number ((layout on).array y.number) i.number x.number t.site.mask.number p ∷ []; places = t.span ∷ [] }
 
 abbrev pub write_at : Scope → Element → RegisterNumber → MaskNumber → Piece
-write_at on e x k = record { code = λ pc p. write e.ty.rate ((layout on).array e.array.number) e.index.number x.number k.number p ∷ []; places = e.span ∷ [] }
+write_at on e x k = record { code = λ pc p. write_by e.is_run e.ty.rate ((layout on).array e.array.number) e.index.number x.number k.number p ∷ []; places = e.span ∷ [] }
 
 -- a target gets an operator on registers h and y, by way of slot n where the operator works in another type
 abbrev pub update_code : Scope → Operation → Ty → ℕ → ℕ → ℕ → Site → ℕ → List Instr
@@ -220,7 +228,7 @@ changed_at on o e y at =
     let l = layout on in
     let d = l.spare e.ty.rate e.ty.elem at.slot.number in
     let b = l.array e.array.number in
-    record { code = λ pc p. read e.ty.rate d b e.index.number at.mask.number p ∷ (update_code on o e.ty d d y.number at (p + 1) ++ write e.ty.rate b e.index.number d at.mask.number p ∷ []); places = e.span ∷ operate_places o.operator o.span }
+    record { code = λ pc p. read_by e.is_run e.ty.rate d b e.index.number at.mask.number p ∷ (update_code on o e.ty d d y.number at (p + 1) ++ write_by e.is_run e.ty.rate b e.index.number d at.mask.number p ∷ []); places = e.span ∷ operate_places o.operator o.span }
 
 -- the same with the value of an expression, and with the number 1, behind the index
 abbrev pub element_by_at : Scope → Operation → Element → TExpr → Site → Piece

@@ -7,9 +7,10 @@ ghost use Rattle.isp_lower.specs.Emitted.{Present, layout};
 ghost use Rattle.isp_lower.specs.Layout.{Layout};
 ghost use Rattle.isp_lower.specs.Written.{Writes, assign_at, element_to_at, variable_at};
 
-use crate::expression::{cast_to, copied, index, operand};
+use crate::elements::element_index;
+use crate::expression::{cast_to, copied, operand};
 use crate::sites::{Element, Home, Site, Target};
-use crate::truths::is_short;
+use crate::truths::{is_run, is_short};
 use crate::types::{Body, Scope};
 use crate::written::write_from;
 use isp_base::Rate;
@@ -122,9 +123,10 @@ pub(crate) fn assign(
             ty,
             span,
         } => {
-            let at = index(b, on, ty.rate, inner, site)?;
+            let at = element_index(b, on, *array, ty.rate, inner, site)?;
             let element = Element {
                 array: *array,
+                is_run: is_run(array.ty.rate, inner),
                 index: at,
                 ty: *ty,
                 span: *span,

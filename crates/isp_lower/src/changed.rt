@@ -8,11 +8,13 @@ ghost use Rattle.isp_lower.specs.Emitted.{Appends, Present, layout};
 ghost use Rattle.isp_lower.specs.Simple.{one_code, one_in};
 ghost use Rattle.isp_lower.specs.Written.{Writes, change_by_at, changed_at, element_by_at, element_step_at, step_at, update_at};
 
-use crate::expression::{index, operand};
-use crate::leaves::{constant, convert, read, write};
+use crate::elements::element_index;
+use crate::expression::operand;
+use crate::leaves::{constant, convert, read_by, write_by};
 use crate::located::lift;
 use crate::numbered::RegisterNumber;
 use crate::sites::{Element, Held, Home, Operation, Site, Target};
+use crate::truths::is_run;
 use crate::types::{Body, Scope};
 use crate::written::operate_to;
 use isp_base::{Elem, Rate, Ty};
@@ -75,10 +77,10 @@ fn change_element(
     let array = on.array(element.array);
     let held = on.spare(ty.rate, ty.elem, site.slot);
     let number = b.place(element.span)?;
-    b.push(read(ty.rate, held, array, element.index, site.mask, number))?;
+    b.push(read_by(element, held, array, site.mask, number))?;
     let target = Target::new(held, ty, operation.span, site);
     update_to(b, on, operation, held, by, target)?;
-    b.push(write(ty.rate, array, element.index, held, site.mask, number))?;
+    b.push(write_by(element, array, held, site.mask, number))?;
     Ok(())
 }
 
@@ -149,9 +151,10 @@ pub(crate) fn change_by(
             ty,
             span,
         } => {
-            let at = index(b, on, ty.rate, inner, site)?;
+            let at = element_index(b, on, *array, ty.rate, inner, site)?;
             let element = Element {
                 array: *array,
+                is_run: is_run(array.ty.rate, inner),
                 index: at,
                 ty: *ty,
                 span: *span,
@@ -246,9 +249,10 @@ pub(crate) fn step(
             ty,
             span,
         } => {
-            let at = index(b, on, ty.rate, inner, site)?;
+            let at = element_index(b, on, *array, ty.rate, inner, site)?;
             let element = Element {
                 array: *array,
+                is_run: is_run(array.ty.rate, inner),
                 index: at,
                 ty: *ty,
                 span: *span,

@@ -1,15 +1,16 @@
 //! The code of expressions.
 ghost use Rattle.std.specs.Prelude.{◌≡◌, ◌<◌, ◌+◌, ℕ, true, false, IfOk, OnOk};
 ghost use Rattle.isp_base.specs.declared.types.Rate.TheVariants.{Uniform, Varying};
-ghost use Rattle.isp_typed.specs.Typed.{t_arguments, t_binary, t_choose, t_compare, t_convert, t_element, t_exprs, t_logic, t_place, t_unary, type_of};
+ghost use Rattle.isp_typed.specs.Typed.{t_arguments, t_binary, t_choose, t_compare, t_convert, t_exprs, t_logic, t_place, t_unary, type_of};
 ghost use Rattle.isp_typed.specs.Views.{argument_of, arguments_of, call_of, expr_of, exprs_of, place_of};
-ghost use Rattle.isp_lower.specs.Asks.{argument_asks, arguments_asks, call_asks, expr_asks, index_asks, operand_asks, spare_ask, target_asks, values_asks, whole_asks};
+ghost use Rattle.isp_lower.specs.Asks.{argument_asks, arguments_asks, call_asks, expr_asks, index_asks, operand_asks, spare_ask, values_asks, whole_asks};
 ghost use Rattle.isp_lower.specs.Code.{argument_register, argument_registers, expr_code, expr_places, found, index, is_short, is_whole, operand, stays, value_registers, whole};
 ghost use Rattle.isp_lower.specs.Emitted.{Appends, Present, layout};
 ghost use Rattle.isp_lower.specs.Layout.{register};
 ghost use Rattle.isp_lower.specs.Library.{library_rates};
 ghost use Rattle.isp_lower.specs.Written.{Writes, argument_at, arguments_at, by_jump_at, by_masks_at, call_at, chosen_at, guarded_at, index_at, library_at, node_at, numbers, operand_at, short_at, side_at, skipped_at, to_at, value_at, values_at, whole_at};
 
+use crate::elements::element_to;
 use crate::leaves::{
     array, compare, constant, convert, copy, index as lane_numbers, mask, of_rate, scalar, select,
     splat, the_others, unary, where_so,
@@ -18,13 +19,13 @@ use crate::library::{Operands, put_library, value_rate};
 use crate::located::{found, lift, moved, read_variable, stayed};
 use crate::numbered::{RegisterNumber, Slot};
 use crate::packed::{packed_load_to, packed_store_to};
-use crate::sites::{Element, Held, Home, Site, Skip, Target};
+use crate::sites::{Held, Home, Site, Skip, Target};
 use crate::truths::{constant_of, decided, is_short, is_whole};
 use crate::types::{Body, Scope};
-use crate::written::{operate_to, put_needing, read_to};
+use crate::written::{operate_to, put_needing};
 use isp_base::{BinOp, Compare, Elem, Rate, Ty, UnaryOp, convert as value_as};
 use isp_code::{Arguments, Call, CallBox, Instr, JumpTest, Register};
-use isp_typed::{ArrayVariable, Library, Logic, TypedArgument, TypedCall, TypedExpr, TypedPlace};
+use isp_typed::{Library, Logic, TypedArgument, TypedCall, TypedExpr, TypedPlace};
 use smallvec::SmallVec;
 use std::alloc::AllocError;
 
@@ -320,29 +321,6 @@ fn place_to(
             span,
         } => element_to(b, on, *array, inner, Target::new(to, *ty, *span, site)),
     }
-}
-
-/// A register gets what an element has.
-#[cycle(expr)]
-fn element_to(
-    b: &mut Body,
-    on: &Scope,
-    array: ArrayVariable,
-    inner: &TypedExpr,
-    target: Target,
-) -> Result<(), AllocError>
-    requires { Present on.now (target_asks (t_element array (expr_of inner.now) target.ty target.span) target.site.slot.number) }
-    ensures { OnOk result (Writes b.old b.new (node_at on.now (t_place (t_element array (expr_of inner.now) target.ty target.span)) target)) }
-{
-    let index = index(b, on, target.ty.rate, inner, target.site)?;
-    let element = Element {
-        array,
-        index,
-        ty: target.ty,
-        span: target.span,
-    };
-    read_to(b, on, element, target.to, target.site.mask)?;
-    Ok(())
 }
 
 /// A register gets the value as one of a rate, by a copy.

@@ -5,11 +5,11 @@ ghost use Rattle.isp_base.specs.declared.types.Rate.TheVariants.{Uniform, Varyin
 ghost use Rattle.isp_code.specs.declared.instr.Instr.TheVariants as instr;
 ghost use Rattle.isp_code.specs.declared.instr.VectorInstr.TheVariants as instr_vector;
 ghost use Rattle.isp_lower.specs.Layout.{array_register, mask_register, register};
-ghost use Rattle.isp_lower.specs.Code.{compare, compute, constant, convert, copy, operate, packed_load, packed_store, read, select, the_others, unary, where_so, write};
+ghost use Rattle.isp_lower.specs.Code.{compare, compute, constant, convert, copy, operate, packed_load, packed_store, read, read_by, select, the_others, unary, where_so, write, write_by};
 ghost use Rattle.isp_lower.specs.Written.{division_at};
 
 use crate::numbered::{MaskNumber, PlaceNumber, RegisterNumber};
-use crate::sites::Target;
+use crate::sites::{Element, Target};
 use isp_base::{BinOp, Compare, Elem, Rate, UnaryOp, number};
 use isp_code::{
     Class, Division, Instr, MaskInstr, MaskOp, Plain, Register, ScalarInstr, VectorInstr,
@@ -279,6 +279,49 @@ pub fn write(
             mask(k),
             place.number,
         ),
+    }
+}
+
+/// An element of an array, or one for each lane, by an index for each or as a run.
+pub(crate) fn read_by(
+    element: Element,
+    to: RegisterNumber,
+    from: RegisterNumber,
+    k: MaskNumber,
+    place: PlaceNumber,
+) -> Instr
+    ensures { result ≡ read_by element.is_run element.ty.rate to.number from.number element.index.number k.number place.number }
+{
+    if element.is_run {
+        Instr::Vector(
+            vector(to),
+            VectorInstr::LoadRun(array(from), scalar(element.index), mask(k), place.number),
+        )
+    } else {
+        read(element.ty.rate, to, from, element.index, k, place)
+    }
+}
+
+/// An element of an array gets a value, or one for each lane, by an index for each or as a run.
+pub(crate) fn write_by(
+    element: Element,
+    to: RegisterNumber,
+    from: RegisterNumber,
+    k: MaskNumber,
+    place: PlaceNumber,
+) -> Instr
+    ensures { result ≡ write_by element.is_run element.ty.rate to.number element.index.number from.number k.number place.number }
+{
+    if element.is_run {
+        Instr::StoreRun(
+            array(to),
+            scalar(element.index),
+            vector(from),
+            mask(k),
+            place.number,
+        )
+    } else {
+        write(element.ty.rate, to, element.index, from, k, place)
     }
 }
 

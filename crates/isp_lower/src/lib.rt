@@ -8,6 +8,7 @@ mod body;
 mod changed;
 mod closing;
 mod copies;
+mod elements;
 mod emitter;
 mod expressed;
 mod expression;

@@ -4,13 +4,14 @@ ghost use Rattle.isp_base.specs.Ranks.{same_elem};
 ghost use Rattle.isp_base.specs.declared.types.Rate.TheVariants.{Varying};
 ghost use Rattle.isp_typed.specs.Typed.{t_arguments, t_exprs, type_of};
 ghost use Rattle.isp_typed.specs.Views.{argument_of, arguments_of, base_of, call_of, expr_of, exprs_of, item_of, items_of, place_of, simple_of};
-ghost use Rattle.isp_lower.specs.Asks.{Both, Loads, MaskOf, Number, argument_asks, arguments_asks, assign_asks, base_asks, call_asks, change_asks, copy_asks, expr_asks, index_asks, item_asks, items_asks, lift_asks, one_asks, operand_asks, operands_asks, read_asks, sides_ask, spare_ask, step_asks, target_asks, test_asks, update_asks, value_asks, values_asks, work_asks, zero_asks, beyond, first_slot, simple_asks};
+ghost use Rattle.isp_lower.specs.Asks.{Both, Loads, MaskOf, Number, argument_asks, arguments_asks, assign_asks, base_asks, call_asks, change_asks, copy_asks, element_asks, expr_asks, index_asks, item_asks, items_asks, lift_asks, one_asks, operand_asks, operands_asks, read_asks, run_asks, sides_ask, spare_ask, step_asks, target_asks, test_asks, update_asks, value_asks, values_asks, work_asks, zero_asks, beyond, first_slot, simple_asks};
 ghost use Rattle.isp_lower.specs.Library.{library_rates};
 ghost use Rattle.isp_lower.specs.Reserved.{Gives, choice_asks, logic_asks, packed_load_asks, packed_store_asks};
 
 use crate::library::value_rate;
 use crate::numbered::Slot;
 use crate::registers::Registers;
+use crate::truths::is_run;
 use isp_base::{Elem, Rate, Ty};
 use isp_typed::{
     Library, TypedArgument, TypedBase, TypedCall, TypedExpr, TypedItem, TypedPlace, TypedSimple,
@@ -434,8 +435,40 @@ impl Reserve {
     {
         match place {
             TypedPlace::Variable { .. } => Ok(()),
-            TypedPlace::Element { index, ty, .. } => self.index(ty.rate, index, slot),
+            TypedPlace::Element {
+                array,
+                index,
+                ty,
+                ..
+            } => self.element_index(array.ty.rate, ty.rate, index, slot),
         }
+    }
+
+    /// The number of a run's first element.
+    fn run(&mut self, is_run: bool, slot: Slot) -> Result<(), AllocError>
+        ensures { OnOk result (Gives self.old self.new (run_asks is_run slot.number)) }
+    {
+        if is_run {
+            self.spare(Rate::Uniform, Elem::I64, slot)
+        } else {
+            Ok(())
+        }
+    }
+
+    /// The index of an element of an array of a rate, at the element's rate.
+    #[cycle(expr)]
+    fn element_index(
+        &mut self,
+        array: Rate,
+        rate: Rate,
+        index: &TypedExpr,
+        slot: Slot,
+    ) -> Result<(), AllocError>
+        ensures { OnOk result (Gives self.old self.new (element_asks array rate (expr_of index.now) slot.number (expr_asks (expr_of index.now) slot.number))) }
+    {
+        self.run(is_run(array, index), slot)?;
+        self.index(rate, index, slot)?;
+        Ok(())
     }
 
     /// An index, as int64, at the rate of the element.

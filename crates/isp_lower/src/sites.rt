@@ -78,10 +78,11 @@ pub(crate) struct Home {
     pub span: Span,
 }
 
-/// An element of an array, its index in a register.
+/// An element of an array, its index in a register; in a run of elements it is that of lane 0.
 #[derive(Clone, Copy)]
 pub(crate) struct Element {
     pub array: ArrayVariable,
+    pub is_run: bool,
     pub index: RegisterNumber,
     pub ty: Ty,
     pub span: Span,

@@ -1,5 +1,6 @@
 //! Tests of trees that choose their code.
 ghost use Rattle.std.specs.Prelude.{◌≡◌, ◌&&◌};
+ghost use Rattle.isp_lower.specs.Asks.{is_lane, is_run};
 ghost use Rattle.isp_lower.specs.Code.{constant_of, decided, is_short, is_whole, same_rate, stays, stays_at};
 ghost use Rattle.isp_lower.specs.Emitted.{layout};
 ghost use Rattle.isp_typed.specs.Views.{expr_of};
@@ -16,6 +17,23 @@ pub fn decided(logic: Logic) -> JumpTest
     match logic {
         Logic::And => JumpTest::False,
         Logic::Or => JumpTest::True,
+    }
+}
+
+/// Whether an expression is the number of its lane, with nothing around it.
+fn is_lane(x: &TypedExpr) -> bool
+    ensures { result ≡ is_lane (expr_of x.now) }
+{
+    matches!(x, TypedExpr::ProgramIndex { .. })
+}
+
+/// Whether the lanes' elements of an array of a rate stand in a row, each one place behind that of the lane before.
+pub fn is_run(array: Rate, index: &TypedExpr) -> bool
+    ensures { result ≡ is_run array (expr_of index.now) }
+{
+    match array {
+        Rate::Uniform => is_lane(index),
+        Rate::Varying => false,
     }
 }
 

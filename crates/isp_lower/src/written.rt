@@ -6,7 +6,7 @@ ghost use Rattle.isp_lower.specs.Code.{needing, operate_places};
 ghost use Rattle.isp_lower.specs.Emitted.{Appends, Present};
 ghost use Rattle.isp_lower.specs.Written.{Writes, operate_at, packed_load_at, packed_store_at, read_at, write_at};
 
-use crate::leaves::{operate, packed_load, packed_store, read, the_others, where_so, write};
+use crate::leaves::{operate, packed_load, packed_store, read_by, the_others, where_so, write_by};
 use crate::numbered::{MaskNumber, PlaceNumber, RegisterNumber};
 use crate::sites::{Element, Target};
 use crate::types::{Body, Scope};
@@ -75,7 +75,7 @@ pub(crate) fn read_to(
 {
     let from = on.array(element.array);
     let place = b.place(element.span)?;
-    b.push(read(element.ty.rate, to, from, element.index, k, place))?;
+    b.push(read_by(element, to, from, k, place))?;
     Ok(())
 }
 
@@ -128,6 +128,6 @@ pub(crate) fn write_from(
 {
     let to = on.array(element.array);
     let place = b.place(element.span)?;
-    b.push(write(element.ty.rate, to, element.index, from, k, place))?;
+    b.push(write_by(element, to, from, k, place))?;
     Ok(())
 }

@@ -68,11 +68,14 @@ decreases-expression::whole l = 8 * typed_nodes (expr_of l.x.now) + 4
 abbrev pub decreases-expression::index : goal.decreases-expression::index
 decreases-expression::index l = 8 * typed_nodes (expr_of l.x.now) + 5
 
-abbrev pub decreases-expression::element_to : goal.decreases-expression::element_to
-decreases-expression::element_to l = 8 * typed_nodes (expr_of l.inner.now) + 6
+abbrev pub decreases-elements::element_index : goal.decreases-elements::element_index
+decreases-elements::element_index l = 8 * typed_nodes (expr_of l.x.now) + 6
+
+abbrev pub decreases-elements::element_to : goal.decreases-elements::element_to
+decreases-elements::element_to l = 8 * typed_nodes (expr_of l.inner.now) + 7
 
 abbrev pub decreases-expression::place_to : goal.decreases-expression::place_to
-decreases-expression::place_to l = 8 * place_nodes (place_of l.place.now) - 1
+decreases-expression::place_to l = 8 * place_nodes (place_of l.place.now)
 
 abbrev pub decreases-expression::logic_of_one : goal.decreases-expression::logic_of_one
 decreases-expression::logic_of_one l = 8 * (typed_nodes (expr_of l.left.now) + typed_nodes (expr_of l.right.now)) + 6

@@ -1,7 +1,7 @@
 //! Worked examples, each record with its working.
 
 /// How many records there are.
-pub(super) const COUNT: usize = 118;
+pub(super) const COUNT: usize = 125;
 
 /// The records.
 pub(super) const ROWS: &str = r##"=== a division behind a select
@@ -595,4 +595,39 @@ In turn t all are asked whether t + p is below 5: 3 fails at 2.
 4 f 10000 {"a":[9,9,9,9]}
 trap assert, instance 3
 export void f(uniform int a[]) { for (uniform int t = 0; t < 4; t++) { a[programIndex] = t; ⟦assert(t + programIndex < 5)⟧; } }
+=== a run under a mask
+0 and the last element stay.
+4 f 10000 {"a":[1,2,3,4,5]}
+{"arrays":{"a":[1,20,30,40,5]},"result":null}
+export void f(uniform int a[]) { if (programIndex > 0) a[programIndex] = a[programIndex] * 10; }
+=== a run past the end
+2 is the lowest outside.
+4 f 10000 {"a":[1,2]}
+trap index, instance 2
+export void f(uniform int a[]) { ⟦a[programIndex]⟧ = 7; }
+=== a run past the end under a mask
+2 is off, so 3 is the lowest outside.
+4 f 10000 {"a":[1,2]}
+trap index, instance 3
+export void f(uniform int a[]) { if (programIndex != 2) ⟦a[programIndex]⟧ = 7; }
+=== a run is changed
+5 and 1 are added.
+4 f 10000 {"a":[1,2,3,4]}
+{"arrays":{"a":[7,8,9,10]},"result":null}
+export void f(uniform int a[]) { a[programIndex] += 5; a[programIndex]++; }
+=== a run of int8
+100 + 100 is -56 as an int8, and 1 + 100 is 101.
+4 f 10000 {"a":[100,1]}
+{"arrays":{"a":[-56,101]},"result":null}
+export void f(uniform int8 a[]) { if (programIndex < 2) a[programIndex] += 100; }
+=== a run of a local array that all share
+t[p] is 2 p, and p reads that of 3 - p.
+4 f 10000 {"a":[9,9,9,9]}
+{"arrays":{"a":[6,4,2,0]},"result":null}
+export void f(uniform int a[]) { uniform int t[4]; t[programIndex] = programIndex * 2; a[programIndex] = t[3 - programIndex]; }
+=== programIndex in an array of each instance
+t[p] is 9 in p alone, and t[0] is that of 0.
+4 f 10000 {"a":[1,1,1,1]}
+{"arrays":{"a":[18,9,9,9]},"result":null}
+export void f(uniform int a[]) { int t[4]; t[programIndex] = 9; a[programIndex] = t[programIndex] + t[0]; }
 "##;

@@ -39,6 +39,9 @@ decreases-read l = 8 * place_nodes (place_of l.place.now) - 1
 abbrev pub decreases-target : goal.decreases-target
 decreases-target l = 8 * place_nodes (place_of l.place.now) - 2
 
+abbrev pub decreases-element_index : goal.decreases-element_index
+decreases-element_index l = 8 * typed_nodes (expr_of l.index.now) + 3
+
 abbrev pub decreases-index : goal.decreases-index
 decreases-index l = 8 * typed_nodes (expr_of l.index.now) + 2
 
