@@ -1,5 +1,5 @@
 -- What the program does for a request, and how it ends.
---     Runs, WroteCode   the story of a request, from its files to what went out
+--     Runs, WroteCode, WroteVerdicts   the story of a request, from its files to what went out
 --     Ends              the story of any request
 --     Commands          all of that, the exit status, and the line on standard error
 -- `holds name text` says that under a name a text may be found, or nothing that can be read, and `tells line` that a line went to standard error.
@@ -21,14 +21,17 @@ use Rattle.isp_words.specs.declared.words.Request.{Request}
 use Rattle.isp_words.specs.declared.words.Request.TheVariants as request
 use Rattle.isp_words.specs.declared.words.RunRequest.{RunRequest}
 use Rattle.isp_words.specs.declared.words.AsmRequest.{AsmRequest}
+use Rattle.isp_words.specs.declared.words.CheckRequest.{CheckRequest}
 use Rattle.isp_words.specs.declared.words.ExecRequest.{ExecRequest}
 use Rattle.isp_engine.specs.Failures.{failure_line, line_of, run_failure, status_of}
 use Rattle.isp_engine.specs.Sending.{Sends}
 use Rattle.isp_engine.specs.Sinks.{TookAll, TookSome}
-use Rattle.isp_engine.specs.Front.{IsFaulty}
+use Rattle.isp_engine.specs.Front.{IsFaulty, IsSource}
 use Rattle.isp_engine.specs.Images.{IsCompilation, IsLoaded, IsNotLoaded}
 use Rattle.isp_engine.specs.Meaning.{Means}
 use Rattle.isp_engine.specs.Reports.{Executes}
+use Rattle.isp_verdicts.specs.Verdicts.{Checks}
+use Rattle.isp_typed.specs.Typed.{Program}
 
 abbrev pub Holds : Type 1
 Holds = List ℕ → Option (List ℕ) → Type 0
@@ -130,7 +133,14 @@ pub record Runs (holds : Holds) (job : Job) (old new : Option (List ℕ)) (faile
 abbrev pub RunEnds : Holds → Job → Option (List ℕ) → Option (List ℕ) → Bool → Result ⊤ Failure → Type 0
 RunEnds holds job old new failed end = Runs holds job old new failed end ⊎ Stops (NotGiven holds job) old new failed end
 
--- ---- asm
+-- ---- asm and check
+
+-- the source of a name is not read, or is refused
+abbrev pub SourceFails : Holds → Gang → List ℕ → Failure → Type 0
+SourceFails holds gang source (CannotRead name) = Unread holds source (CannotRead name)
+SourceFails holds gang source (Source f) = (text : List ℕ) × holds source (Some text) × IsFaulty gang text f
+SourceFails holds gang source Memory = Unit {0}
+SourceFails holds gang source f = ⊥
 
 -- the code that the source is compiled to
 pub record Assembled (holds : Holds) (q : AsmRequest) (code : Listing) : Type 0 where
@@ -138,19 +148,25 @@ pub record Assembled (holds : Holds) (q : AsmRequest) (code : Listing) : Type 0 
   pub has_text : holds q.source.now (Some text)
   pub compiles : IsCompilation q.gang text code
 
-abbrev pub AsmFails : Holds → AsmRequest → Failure → Type 0
-AsmFails holds q (CannotRead name) = Unread holds q.source.now (CannotRead name)
-AsmFails holds q (Source f) = (text : List ℕ) × holds q.source.now (Some text) × IsFaulty q.gang text f
-AsmFails holds q Memory = Unit {0}
-AsmFails holds q f = ⊥
-
 abbrev pub WroteCode : Holds → AsmRequest → Option (List ℕ) → Option (List ℕ) → Bool → Result ⊤ Failure → Type 0
-WroteCode holds q old new failed end = ((code : Listing) × Assembled holds q code × Writes (text_of code) old new failed end) ⊎ Stops (AsmFails holds q) old new failed end
+WroteCode holds q old new failed end = ((code : Listing) × Assembled holds q code × Writes (text_of code) old new failed end) ⊎ Stops (SourceFails holds q.gang q.source.now) old new failed end
+
+-- what is said of the exported functions of the source
+pub record Judged (holds : Holds) (q : CheckRequest) (bytes : List ℕ) : Type 0 where
+  pub text : List ℕ
+  pub program : Program
+  pub has_text : holds q.source.now (Some text)
+  pub is : IsSource q.gang text program
+  pub checks : Checks program bytes
+
+abbrev pub WroteVerdicts : Holds → CheckRequest → Option (List ℕ) → Option (List ℕ) → Bool → Result ⊤ Failure → Type 0
+WroteVerdicts holds q old new failed end = ((bytes : List ℕ) × Judged holds q bytes × Writes bytes old new failed end) ⊎ Stops (SourceFails holds q.gang q.source.now) old new failed end
 
 -- ---- the whole
 
 abbrev pub Ends : Holds → Request → Option (List ℕ) → Option (List ℕ) → Bool → Result ⊤ Failure → Type 0
 Ends holds (request.Run q) old new failed end = RunEnds holds (job_of_run q) old new failed end
+Ends holds (request.Check q) old new failed end = WroteVerdicts holds q old new failed end
 Ends holds (request.Asm q) old new failed end = WroteCode holds q old new failed end
 Ends holds (request.Exec q) old new failed end = RunEnds holds (job_of_exec q) old new failed end
 

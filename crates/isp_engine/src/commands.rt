@@ -1,6 +1,6 @@
 //! The whole program, over what it is handed.
 ghost use Rattle.std.specs.Prelude.{◌≡◌, ◌≢◌, false, string_bytes, Some, IfOk, IfErr};
-ghost use Rattle.isp_engine.specs.Commands.{AsmFails, Assembled, Commands, Ends, Given, IsImage, IsNoImage, NotGiven, Ran, RunEnds, Unread, Writes, WroteCode, end_of_ending, exit_status, job_of_exec as of_exec, job_of_run as of_run};
+ghost use Rattle.isp_engine.specs.Commands.{Assembled, Commands, Ends, Given, IsImage, IsNoImage, Judged, NotGiven, Ran, RunEnds, SourceFails, Unread, Writes, WroteCode, WroteVerdicts, end_of_ending, exit_status, job_of_exec as of_exec, job_of_run as of_run};
 ghost use Rattle.isp_asm.specs.Spelling.{text_of};
 ghost use Rattle.isp_engine.specs.Failures.{line_of};
 ghost use Rattle.isp_engine.specs.Sinks.{Told};
@@ -13,17 +13,20 @@ use crate::lines::{show, tell_line};
 use crate::report::Ending;
 use crate::run::run_to;
 use crate::sink::{Sink, SinkFault, write_all};
+use crate::source::front;
+use isp_verdicts::verdicts;
 use clap::error::ErrorKind;
 use isp_asm::write;
 use isp_base::Gang;
-use isp_words::{AsmRequest, ExecRequest, Request, RunRequest, read_words};
+use isp_words::{AsmRequest, CheckRequest, ExecRequest, Request, RunRequest, read_words};
 use std::alloc::Global;
 
 /// Does what `words` ask for, the first of which is the program's name, and answers the exit status.
 ///
 /// `run [--gang G] [--budget B] SOURCE ENTRY ARGUMENTS` reads the files SOURCE and ARGUMENTS, compiles the source and
 /// runs ENTRY with the arguments; `exec [--budget B] CODE ENTRY ARGUMENTS` reads code in place of a source;
-/// `asm [--gang G] SOURCE` compiles the source and writes its code. The output goes to `out` while a program runs, and
+/// `asm [--gang G] SOURCE` compiles the source and writes its code; `check [--gang G] SOURCE` writes whether each exported
+/// function is an independent entry. The output goes to `out` while a program runs, and
 /// where a run has ended the answer and a line feed behind it. Where the status is not 0 a line on `err` says why; refused
 /// words, of which help is one, have more than a line. Where `err` fails, or has failed before, the rest of it is lost.
 pub fn command<F: SourceFiles, O: Sink, E: Sink>(
@@ -74,6 +77,7 @@ fn answer<'a, F: SourceFiles, O: Sink>(
 {
     match request {
         Request::Run(wanted) => run(alloc, &job_of_run(wanted), files, out),
+        Request::Check(wanted) => check(alloc, wanted, files, out),
         Request::Asm(wanted) => asm(alloc, wanted, files, out),
         Request::Exec(wanted) => run(alloc, &job_of_exec(wanted), files, out),
     }
@@ -205,7 +209,7 @@ fn compiled<'a, F: SourceFiles>(
     files: &F,
 ) -> Result<Image, Failure<'a>>
     ensures ok { IfOk result (Assembled (F.holds files.now) request.now) }
-    ensures err { IfErr result (AsmFails (F.holds files.now) request.now) }
+    ensures err { IfErr result (SourceFails (F.holds files.now) request.now.gang request.now.source.now) }
 {
     let source = read(alloc, files, request.source)?;
     let image = compile(alloc, source.as_str(), request.gang)?;
@@ -218,6 +222,33 @@ fn code_text(alloc: Global, image: &Image) -> Result<String, Failure<'static>>
     ensures err { IfErr result (λ e. e ≡ Memory) }
 {
     write(alloc, image.code()).map_err(|_| Failure::Memory)
+}
+
+fn check<'a, F: SourceFiles, O: Sink>(
+    alloc: Global,
+    request: &CheckRequest<'a>,
+    files: &F,
+    out: &mut O,
+) -> Result<(), Failure<'a>>
+    requires { O.has_failed out.old ≡ false }
+    ensures { WroteVerdicts (F.holds files.now) request.now (O.written out.old) (O.written out.new) (O.has_failed out.new) result }
+{
+    let text = judged(alloc, request, files)?;
+    write_text(text.as_str(), out)
+}
+
+// What is said of the exported functions of a source.
+fn judged<'a, F: SourceFiles>(
+    alloc: Global,
+    request: &CheckRequest<'a>,
+    files: &F,
+) -> Result<String, Failure<'a>>
+    ensures ok { IfOk result (λ s. Judged (F.holds files.now) request.now (string_bytes s)) }
+    ensures err { IfErr result (SourceFails (F.holds files.now) request.now.gang request.now.source.now) }
+{
+    let source = read(alloc, files, request.source)?;
+    let checked = front(alloc, source.as_str(), request.gang)?;
+    verdicts(alloc, &checked).map_err(|_| Failure::Memory)
 }
 
 fn write_text<O: Sink>(text: &str, out: &mut O) -> Result<(), Failure<'static>>

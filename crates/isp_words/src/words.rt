@@ -30,10 +30,29 @@ pub struct ExecRequest<'a> {
     pub arguments: &'a str,
 }
 
+/// Each exported function of a source is tried for independence, for a gang.
+#[derive(Clone, Copy, Debug)]
+pub struct CheckRequest<'a> {
+    pub gang: Gang,
+    pub source: &'a str,
+}
+
+/// An entry of a source is run by each instance of a gang alone, in which a loop makes at most so many turns each time it
+/// is entered.
+#[derive(Clone, Copy, Debug)]
+pub struct SoloRequest<'a> {
+    pub gang: Gang,
+    pub turns: u64,
+    pub source: &'a str,
+    pub entry: &'a str,
+    pub arguments: &'a str,
+}
+
 /// What command words ask for. Sources, code and arguments are names of files.
 #[derive(Clone, Copy, Debug)]
 pub enum Request<'a> {
     Run(RunRequest<'a>),
+    Check(CheckRequest<'a>),
     Asm(AsmRequest<'a>),
     Exec(ExecRequest<'a>),
 }
@@ -66,6 +85,10 @@ fn chosen<'a>(name: &str, inner: &ArgMatches<'a>) -> Option<Request<'a>> {
             entry: inner.get_str("ENTRY")?,
             arguments: inner.get_str("ARGUMENTS")?,
         })),
+        "check" => Some(Request::Check(CheckRequest {
+            gang: gang_of(inner)?,
+            source: inner.get_str("SOURCE")?,
+        })),
         "asm" => Some(Request::Asm(AsmRequest {
             gang: gang_of(inner)?,
             source: inner.get_str("SOURCE")?,
@@ -95,7 +118,8 @@ fn isp<'a>(alloc: Global) -> Result<Command<'a>, Error> {
         .about("Compiles gang programs, and runs them")
         .subcommand_required(true);
     let compiling = named.subcommand(run(alloc)?)?.subcommand(asm(alloc)?)?;
-    Ok(compiling.subcommand(exec(alloc)?)?)
+    let loading = compiling.subcommand(exec(alloc)?)?;
+    Ok(loading.subcommand(check(alloc)?)?)
 }
 
 fn run<'a>(alloc: Global) -> Result<Command<'a>, AllocError> {
@@ -109,6 +133,13 @@ fn run<'a>(alloc: Global) -> Result<Command<'a>, AllocError> {
 fn asm<'a>(alloc: Global) -> Result<Command<'a>, AllocError> {
     Command::new(alloc, "asm")
         .about("Compiles SOURCE, and writes its code")
+        .arg(gang(alloc))?
+        .arg(file(alloc, "SOURCE"))
+}
+
+fn check<'a>(alloc: Global) -> Result<Command<'a>, AllocError> {
+    Command::new(alloc, "check")
+        .about("Says of each exported function of SOURCE whether its instances are independent")
         .arg(gang(alloc))?
         .arg(file(alloc, "SOURCE"))
 }
