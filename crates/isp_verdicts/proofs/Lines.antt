@@ -95,9 +95,11 @@ verdict_is p w o h answered =
     record {
       number = r.place;
       function = function_of r.function;
-      is = get_map function_of p.functions.items r.place ∙ ap (option_map function_of) r.at;
-      exported = and_left r.function.exported (bytes_eq r.function.name w) r.is;
-      named = (bytes_eq-Decides r.function.name w).0 (and_right r.function.exported (bytes_eq r.function.name w) r.is);
+      export = record {
+        found = get_map function_of p.functions.items r.place ∙ ap (option_map function_of) r.at;
+        named = (bytes_eq-Decides r.function.name w).0 (and_right r.function.exported (bytes_eq r.function.name w) r.is);
+        exported = and_left r.function.exported (bytes_eq r.function.name w) r.is;
+      };
       answered = answered r.place (r.number ∙ ap Some (let z : 0 + r.place ≡ r.place = omega arith in z));
     }
   where

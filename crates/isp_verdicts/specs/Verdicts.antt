@@ -3,12 +3,13 @@
 --     ok
 --     blur independent
 --     count dependent: rule 4 at 105..108
-use Rattle.std.specs.Prelude.{◌≡◌, ℕ, List, [], ◌∷◌, ◌++◌, Option, Some, None, true, codes, filter, map, slice_get}
+use Rattle.std.specs.Prelude.{◌≡◌, ℕ, List, [], ◌∷◌, ◌++◌, Option, Some, None, codes, filter, map}
 use Rattle.std.specs.Fmt.{decimal}
 use Rattle.isp_base.specs.Types.{span_text}
 use Rattle.isp_independence.specs.Dependences.{Answered, number_of}
 use Rattle.isp_independence.specs.Independent.{Depends}
 use Rattle.isp_independence.specs.declared.dependence.Dependence.{Dependence}
+use Rattle.isp_meaning.specs.Entries.{IsExport}
 use Rattle.isp_typed.specs.Typed.{Program, TFunction}
 
 -- a rule that is broken, and where: `rule 4 at 105..108`
@@ -26,9 +27,7 @@ verdict_line name o = name ++ (verdict_text o ++ 10 ∷ [])
 pub record IsVerdict (p : Program) (name : List ℕ) (o : Option Dependence) : Type 0 where
   pub number : ℕ
   pub function : TFunction
-  pub is : slice_get p.functions number ≡ Some function
-  pub exported : function.exported ≡ true
-  pub named : function.name ≡ name
+  pub export : IsExport p name number function
   pub answered : Answered o (Depends p number)
 
 -- the names of exported functions, in the order of the text

@@ -53,6 +53,7 @@ pub struct SoloRequest<'a> {
 pub enum Request<'a> {
     Run(RunRequest<'a>),
     Check(CheckRequest<'a>),
+    Solo(SoloRequest<'a>),
     Asm(AsmRequest<'a>),
     Exec(ExecRequest<'a>),
 }
@@ -89,6 +90,13 @@ fn chosen<'a>(name: &str, inner: &ArgMatches<'a>) -> Option<Request<'a>> {
             gang: gang_of(inner)?,
             source: inner.get_str("SOURCE")?,
         })),
+        "solo" => Some(Request::Solo(SoloRequest {
+            gang: gang_of(inner)?,
+            turns: inner.get_one::<u64>("turns")?,
+            source: inner.get_str("SOURCE")?,
+            entry: inner.get_str("ENTRY")?,
+            arguments: inner.get_str("ARGUMENTS")?,
+        })),
         "asm" => Some(Request::Asm(AsmRequest {
             gang: gang_of(inner)?,
             source: inner.get_str("SOURCE")?,
@@ -119,7 +127,8 @@ fn isp<'a>(alloc: Global) -> Result<Command<'a>, Error> {
         .subcommand_required(true);
     let compiling = named.subcommand(run(alloc)?)?.subcommand(asm(alloc)?)?;
     let loading = compiling.subcommand(exec(alloc)?)?;
-    Ok(loading.subcommand(check(alloc)?)?)
+    let checking = loading.subcommand(check(alloc)?)?;
+    Ok(checking.subcommand(solo(alloc)?)?)
 }
 
 fn run<'a>(alloc: Global) -> Result<Command<'a>, AllocError> {
@@ -142,6 +151,14 @@ fn check<'a>(alloc: Global) -> Result<Command<'a>, AllocError> {
         .about("Says of each exported function of SOURCE whether its instances are independent")
         .arg(gang(alloc))?
         .arg(file(alloc, "SOURCE"))
+}
+
+fn solo<'a>(alloc: Global) -> Result<Command<'a>, AllocError> {
+    let options = Command::new(alloc, "solo")
+        .about("Runs ENTRY of SOURCE with ARGUMENTS by each instance alone")
+        .arg(gang(alloc))?
+        .arg(turns(alloc))?;
+    with_files(alloc, options, "SOURCE")
 }
 
 fn exec<'a>(alloc: Global) -> Result<Command<'a>, AllocError> {
@@ -174,6 +191,15 @@ fn gang<'a>(alloc: Global) -> Arg<'a> {
         .help("Instances that run together")
         .value_parser(["4", "8", "16"].as_slice())
         .default_value("4")
+}
+
+fn turns<'a>(alloc: Global) -> Arg<'a> {
+    Arg::new(alloc, "turns")
+        .long("turns")
+        .value_name("N")
+        .help("Turns that a loop may make each time it is entered")
+        .value_parser(value_parser!(u64))
+        .default_value("1000000")
 }
 
 fn budget<'a>(alloc: Global) -> Arg<'a> {

@@ -1,5 +1,5 @@
 use Rattle.std.proofs.lemmas.Result.{err_from_is_err_and}
-use Rattle.isp_engine.proofs.Requests.{refused_source}
+use Rattle.isp_engine.proofs.Sources.{refused_source}
 use Rattle.isp_engine.proofs.commands.compiled.Goals as goal
 
 pub returns-in_err-image-clause-err : goal.returns-in_err-image-clause-err
