@@ -1,4 +1,5 @@
 //! One record of cases, line by line.
+use crate::alone::{downward, upward};
 use crate::found::Found;
 use crate::ways::{
     accepted, compiled, evaluated, executed, is_read_back, lines_with, sent, worked,
@@ -36,6 +37,8 @@ pub(crate) struct Case<'a> {
     /// The work of the run, where it is said.
     pub work: Option<u64>,
     output: String,
+    /// How the last run was to end.
+    ending: String,
     /// The text in which those of the lines stand that are judged alone, in place of `…`.
     frame: &'a str,
 }
@@ -56,6 +59,7 @@ impl<'a> Case<'a> {
             turns: 0,
             work: None,
             output: String::new(alloc),
+            ending: String::new(alloc),
             frame: "…",
         }
     }
@@ -74,6 +78,7 @@ impl<'a> Case<'a> {
             "code" => self.measure(rest, tried)?,
             "writes" => self.output = spelt_out(self.alloc, rest)?,
             "frame" => self.frame = rest,
+            "alone" => self.compare_alone(tried)?,
             "accepts" | "refuses" | "compiles" => self.judge(word, rest, tried)?,
             _ => self.compare(word, rest, tried)?,
         }
@@ -170,9 +175,37 @@ impl<'a> Case<'a> {
         }
         if wanted.has_run() {
             self.run_code(&wanted, tried)?;
+            self.run_alone(&wanted, tried)?;
         }
+        self.ending = wanted.ending;
         self.output = String::new(self.alloc);
         self.work = None;
+        Ok(())
+    }
+
+    // Where the instances end one by one, they leave what the gang leaves, in both orders.
+    fn run_alone(&self, wanted: &Found, tried: &mut Tried) -> Result<(), AllocError> {
+        let found = upward(self.alloc, self)?;
+        if !found.as_str().starts_with("ends ") {
+            return Ok(());
+        }
+        let other = downward(self.alloc, self)?;
+        if found != wanted.ending || other != wanted.ending {
+            tried.differ(format!(in self.alloc;
+                "{}: one by one {found}, and from the last down {other}, not {wanted}",
+                self.name
+            )?)?;
+        }
+        Ok(())
+    }
+
+    // Tries a line that says that the instances one by one end as the gang did.
+    fn compare_alone(&self, tried: &mut Tried) -> Result<(), AllocError> {
+        tried.cases = tried.cases.saturating_add(1);
+        let found = upward(self.alloc, self)?;
+        if found != self.ending {
+            tried.differ(format!(in self.alloc; "{}: one by one {found}", self.name)?)?;
+        }
         Ok(())
     }
 

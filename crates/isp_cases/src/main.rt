@@ -10,12 +10,14 @@
 //!
 //! Then comes what must come out: `work` the work of the run; `refused` and the fault of the source, `accepted` where no entry is run, `unbound` and the fault of the
 //! arguments, `ends` and the answer, `traps` with the kind, the instance and the arrays as an answer without a result, or `cut`. Lines
-//! behind it may say other turns and what must come out then.
+//! behind it may say other turns and what must come out then. `alone` says that the instances, each run alone one by one, end with the same answer; where they
+//! do, in any record, it has to be the gang's, from 0 up and from the last down.
 //!
 //! A text that is only judged stands in one line with what becomes of it, and inside the last `frame` in place of its `…`: `accepts TEXT`;
 //! `refuses 20 UnknownName|TEXT`, where the place of the fault stands between `⟦` and `⟧`; and `compiles TEXT`. Each line that says what must come out is a case.
 #![tactic(auto)]
 
+mod alone;
 mod case;
 mod found;
 mod kept;

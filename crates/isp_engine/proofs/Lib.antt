@@ -6,6 +6,7 @@ pub mod Runs
 pub mod Written
 pub mod Streams
 pub mod Sends
+pub mod Sources
 pub mod Requests
 pub mod Loads
 pub mod Pieces

@@ -13,8 +13,8 @@ use Rattle.isp_engine.specs.declared.failure.Failure.{Failure}
 use Rattle.isp_engine.specs.declared.failure.Failure.TheVariants.{Source, Trapped, BudgetUsed, Run, Code, CannotRead, CannotWrite, Memory}
 use Rattle.isp_engine.specs.declared.fault.CodeFault.{CodeFault}
 use Rattle.isp_engine.specs.declared.fault.CodeFault.TheVariants as code_fault
-use Rattle.isp_words.specs.declared.words.AsmRequest.{AsmRequest}
-use Rattle.isp_engine.specs.Commands.{AsmFails, Given, Holds, IsNoImage, NotGiven, Ran, Reads, RunEnds, Unread}
+use Rattle.isp_engine.specs.Commands.{Given, IsNoImage, NotGiven, Ran, RunEnds}
+use Rattle.isp_engine.specs.Stories.{Holds, Reads, Unread}
 use Rattle.isp_engine.specs.Failures.{code_failure, source_failure}
 use Rattle.isp_engine.specs.Front.{IsFaulty}
 use Rattle.isp_engine.specs.Images.{IsNotLoaded}
@@ -66,10 +66,6 @@ module _ (holds : Holds) where
   no_code job files (Run f) h = (files, h (λ e. let none : ⊥ = cc in none))
   no_code job files CannotWrite h = (files, h (λ e. let none : ⊥ = cc in none))
   no_code job files (Code f) h = (files, h (λ e. let none : ⊥ = cc in none))
-
-  pub asm_fails : (q : AsmRequest) (text : List ℕ) → holds q.source.now (Some text) → (f : SourceFault) → ((g : Fault) → f ≡ Refused g → IsFaulty q.gang text g) → AsmFails holds q (source_failure f)
-  asm_fails q text has NoMemory h = tt
-  asm_fails q text has (Refused f) h = (text, has, h f refl)
 
   -- a run whose files gave what it ran
   pub run_ends : (job : Job) (code : Listing) (json read : List ℕ) (old new : Option (List ℕ)) (failed : Bool) (end : Result ⊤ Failure) → read ≡ json → Given holds job code json → Ran code job.entry.now read job.budget old new failed end → RunEnds holds job old new failed end

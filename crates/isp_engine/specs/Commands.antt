@@ -1,8 +1,8 @@
 -- What the program does for a request, and how it ends.
---     Runs, WroteCode   the story of a request, from its files to what went out
+--     Runs, WroteCode   the story of a request, from its files to what went out; those of `check` and `solo` are in files of their own
 --     Ends              the story of any request
 --     Commands          all of that, the exit status, and the line on standard error
--- `holds name text` says that under a name a text may be found, or nothing that can be read, and `tells line` that a line went to standard error.
+-- `holds` is that of specs/Stories.antt, and `tells line` that a line went to standard error.
 use Rattle.std.specs.Prelude.{◌≡◌, ◌≢◌, ◌⊎◌, ℕ, List, [], Bool, Option, Some, None, Result, Ok, Err, ⊤}
 use Rattle.isp_base.specs.declared.types.Gang.{Gang}
 use Rattle.isp_code.specs.Listing.{Listing}
@@ -29,41 +29,9 @@ use Rattle.isp_engine.specs.Front.{IsFaulty}
 use Rattle.isp_engine.specs.Images.{IsCompilation, IsLoaded, IsNotLoaded}
 use Rattle.isp_engine.specs.Meaning.{Means}
 use Rattle.isp_engine.specs.Reports.{Executes}
-
-abbrev pub Holds : Type 1
-Holds = List ℕ → Option (List ℕ) → Type 0
-
--- ---- files
-
--- the texts of two files
-pub record Reads (holds : Holds) (first second : List ℕ) : Type 0 where
-  pub text : List ℕ
-  pub json : List ℕ
-  pub has_text : holds first (Some text)
-  pub has_json : holds second (Some json)
-
--- why a file gives no text
-abbrev pub Unread : Holds → List ℕ → Failure → Type 0
-Unread holds file (CannotRead name) = (name.now ≡ file) × holds file None
-Unread holds file Memory = Unit {0}
-Unread holds file f = ⊥
-
--- the first of two files cannot be read, or the second where the first was read
-abbrev pub UnreadOf : Holds → List ℕ → List ℕ → Failure → Type 0
-UnreadOf holds first second f = Unread holds first f ⊎ (((text : List ℕ) × holds first (Some text)) × Unread holds second f)
-
--- ---- what went out
-
--- bytes went out whole, or the first of them until a write failed
-abbrev pub Writes : List ℕ → Option (List ℕ) → Option (List ℕ) → Bool → Result ⊤ Failure → Type 0
-Writes bytes old new failed (Ok u) = TookAll bytes old new failed
-Writes bytes old new failed (Err CannotWrite) = TookSome bytes old new failed
-Writes bytes old new failed (Err f) = ⊥
-
--- a failure before anything is written
-abbrev pub Stops : (Failure → Type 0) → Option (List ℕ) → Option (List ℕ) → Bool → Result ⊤ Failure → Type 0
-Stops fails old new failed (Ok u) = ⊥
-Stops fails old new failed (Err f) = fails f × TookAll [] old new failed
+use Rattle.isp_engine.specs.Checking.{WroteVerdicts}
+use Rattle.isp_engine.specs.Solos.{SoloEnds}
+use Rattle.isp_engine.specs.Stories.{Holds, Reads, SourceFails, Stops, Unread, UnreadOf, Writes}
 
 -- ---- an entry of an image is run
 
@@ -138,19 +106,15 @@ pub record Assembled (holds : Holds) (q : AsmRequest) (code : Listing) : Type 0 
   pub has_text : holds q.source.now (Some text)
   pub compiles : IsCompilation q.gang text code
 
-abbrev pub AsmFails : Holds → AsmRequest → Failure → Type 0
-AsmFails holds q (CannotRead name) = Unread holds q.source.now (CannotRead name)
-AsmFails holds q (Source f) = (text : List ℕ) × holds q.source.now (Some text) × IsFaulty q.gang text f
-AsmFails holds q Memory = Unit {0}
-AsmFails holds q f = ⊥
-
 abbrev pub WroteCode : Holds → AsmRequest → Option (List ℕ) → Option (List ℕ) → Bool → Result ⊤ Failure → Type 0
-WroteCode holds q old new failed end = ((code : Listing) × Assembled holds q code × Writes (text_of code) old new failed end) ⊎ Stops (AsmFails holds q) old new failed end
+WroteCode holds q old new failed end = ((code : Listing) × Assembled holds q code × Writes (text_of code) old new failed end) ⊎ Stops (SourceFails holds q.gang q.source.now) old new failed end
 
 -- ---- the whole
 
 abbrev pub Ends : Holds → Request → Option (List ℕ) → Option (List ℕ) → Bool → Result ⊤ Failure → Type 0
 Ends holds (request.Run q) old new failed end = RunEnds holds (job_of_run q) old new failed end
+Ends holds (request.Check q) old new failed end = WroteVerdicts holds q old new failed end
+Ends holds (request.Solo q) old new failed end = SoloEnds holds q old new failed end
 Ends holds (request.Asm q) old new failed end = WroteCode holds q old new failed end
 Ends holds (request.Exec q) old new failed end = RunEnds holds (job_of_exec q) old new failed end
 

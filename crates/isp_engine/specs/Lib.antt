@@ -9,4 +9,7 @@ pub mod Sending
 pub mod OneByOne
 pub mod Meaning
 pub mod Failures
+pub mod Stories
+pub mod Checking
+pub mod Solos
 pub mod Commands

@@ -1,18 +1,22 @@
 //! The whole program, over what it is handed.
 ghost use Rattle.std.specs.Prelude.{◌≡◌, ◌≢◌, false, string_bytes, Some, IfOk, IfErr};
-ghost use Rattle.isp_engine.specs.Commands.{AsmFails, Assembled, Commands, Ends, Given, IsImage, IsNoImage, NotGiven, Ran, RunEnds, Unread, Writes, WroteCode, end_of_ending, exit_status, job_of_exec as of_exec, job_of_run as of_run};
+ghost use Rattle.isp_engine.specs.Commands.{Assembled, Commands, Ends, Given, IsImage, IsNoImage, NotGiven, Ran, RunEnds, WroteCode, end_of_ending, exit_status, job_of_exec as of_exec, job_of_run as of_run};
 ghost use Rattle.isp_asm.specs.Spelling.{text_of};
 ghost use Rattle.isp_engine.specs.Failures.{line_of};
 ghost use Rattle.isp_engine.specs.Sinks.{Told};
+ghost use Rattle.isp_engine.specs.Stories.{SourceFails};
 ghost use Rattle.isp_engine.specs.declared.failure.Failure.TheVariants.{Memory};
 
+use crate::alone::solo;
+use crate::checking::check;
 use crate::failure::Failure;
-use crate::files::{FileFault, SourceFiles};
+use crate::files::SourceFiles;
 use crate::image::{Image, compile, load_code};
 use crate::lines::{show, tell_line};
 use crate::report::Ending;
 use crate::run::run_to;
-use crate::sink::{Sink, SinkFault, write_all};
+use crate::sink::Sink;
+use crate::texts::{read, write_text};
 use clap::error::ErrorKind;
 use isp_asm::write;
 use isp_base::Gang;
@@ -23,7 +27,9 @@ use std::alloc::Global;
 ///
 /// `run [--gang G] [--budget B] SOURCE ENTRY ARGUMENTS` reads the files SOURCE and ARGUMENTS, compiles the source and
 /// runs ENTRY with the arguments; `exec [--budget B] CODE ENTRY ARGUMENTS` reads code in place of a source;
-/// `asm [--gang G] SOURCE` compiles the source and writes its code. The output goes to `out` while a program runs, and
+/// `asm [--gang G] SOURCE` compiles the source and writes its code; `check [--gang G] SOURCE` writes whether each exported
+/// function is an independent entry; `solo [--gang G] [--turns N] SOURCE ENTRY ARGUMENTS` runs ENTRY by each instance alone.
+/// The output goes to `out` while a program runs, and
 /// where a run has ended the answer and a line feed behind it. Where the status is not 0 a line on `err` says why; refused
 /// words, of which help is one, have more than a line. Where `err` fails, or has failed before, the rest of it is lost.
 pub fn command<F: SourceFiles, O: Sink, E: Sink>(
@@ -74,6 +80,8 @@ fn answer<'a, F: SourceFiles, O: Sink>(
 {
     match request {
         Request::Run(wanted) => run(alloc, &job_of_run(wanted), files, out),
+        Request::Check(wanted) => check(alloc, wanted, files, out),
+        Request::Solo(wanted) => solo(alloc, wanted, files, out),
         Request::Asm(wanted) => asm(alloc, wanted, files, out),
         Request::Exec(wanted) => run(alloc, &job_of_exec(wanted), files, out),
     }
@@ -205,7 +213,7 @@ fn compiled<'a, F: SourceFiles>(
     files: &F,
 ) -> Result<Image, Failure<'a>>
     ensures ok { IfOk result (Assembled (F.holds files.now) request.now) }
-    ensures err { IfErr result (AsmFails (F.holds files.now) request.now) }
+    ensures err { IfErr result (SourceFails (F.holds files.now) request.now.gang request.now.source.now) }
 {
     let source = read(alloc, files, request.source)?;
     let image = compile(alloc, source.as_str(), request.gang)?;
@@ -218,25 +226,4 @@ fn code_text(alloc: Global, image: &Image) -> Result<String, Failure<'static>>
     ensures err { IfErr result (λ e. e ≡ Memory) }
 {
     write(alloc, image.code()).map_err(|_| Failure::Memory)
-}
-
-fn write_text<O: Sink>(text: &str, out: &mut O) -> Result<(), Failure<'static>>
-    requires { O.has_failed out.old ≡ false }
-    ensures { Writes text.now (O.written out.old) (O.written out.new) (O.has_failed out.new) result }
-{
-    match write_all(out, text.as_bytes()) {
-        Ok(()) => Ok(()),
-        Err(SinkFault) => Err(Failure::CannotWrite),
-    }
-}
-
-// The text of a file.
-fn read<'a, F: SourceFiles>(alloc: Global, files: &F, name: &'a str) -> Result<String, Failure<'a>>
-    ensures ok { IfOk result (λ s. F.holds files.now name.now (Some (string_bytes s))) }
-    ensures err { IfErr result (Unread (F.holds files.now) name.now) }
-{
-    files.read(alloc, name).map_err(|fault| match fault {
-        FileFault::CannotRead => Failure::CannotRead(name),
-        FileFault::Memory => Failure::Memory,
-    })
 }

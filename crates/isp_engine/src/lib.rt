@@ -1,6 +1,8 @@
 //! The whole way: from a source text and arguments to a report, and from words to an exit status.
 #![tactic(auto)]
 
+mod alone;
+mod checking;
 mod commands;
 mod failure;
 mod fault;
@@ -12,6 +14,7 @@ mod run;
 mod sink;
 mod source;
 mod stream;
+mod texts;
 
 pub use commands::command;
 pub use failure::Failure;

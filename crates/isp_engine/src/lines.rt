@@ -2,8 +2,8 @@
 ghost use Rattle.std.specs.Prelude.{◌≡◌, ◌++◌, ◌∷◌, [], false, flat_map};
 ghost use Rattle.isp_asm.specs.Faults.{rule_text};
 ghost use Rattle.isp_base.specs.Traps.{kind_text};
-ghost use Rattle.isp_engine.specs.Failures.{failure_line};
-ghost use Rattle.isp_engine.specs.declared.failure.Failure.TheVariants.{Code, Source, Trapped};
+ghost use Rattle.isp_engine.specs.Failures.{clash_line, failure_line};
+ghost use Rattle.isp_engine.specs.declared.failure.Failure.TheVariants.{Code, NotIndependent, Source, Trapped, TurnsUsed};
 ghost use Rattle.isp_engine.specs.declared.fault.CodeFault.TheVariants.{Code as BadCode, Text};
 ghost use Rattle.isp_engine.specs.Sinks.{Told, Wrote};
 
@@ -13,6 +13,7 @@ use crate::sink::{Sink, SinkFault, write_all};
 use clap::Error;
 use isp_asm::Rule;
 use isp_base::{Trap, TrapKind};
+use isp_independence::Dependence;
 use isp_lex::Fault;
 use itoa::Buffer;
 use std::fmt;
@@ -71,11 +72,14 @@ fn write_line<W: Sink>(failure: &Failure<'_>, out: &mut W) -> Result<(), SinkFau
         Failure::Source(fault) => write_source(*fault, out),
         Failure::Trapped(trap) => write_trap(*trap, out),
         Failure::BudgetUsed => write_pieces(out, &["isp: budget used\n"]),
+        Failure::TurnsUsed(instance) => write_turns(*instance, out),
         Failure::Run(fault) => write_pieces(out, &["isp: ", fault.text(), "\n"]),
         Failure::CannotRead(name) => write_pieces(out, &["isp: cannot read ", *name, "\n"]),
         Failure::CannotWrite => write_pieces(out, &["isp: cannot write\n"]),
         Failure::Memory => write_pieces(out, &["isp: memory\n"]),
         Failure::Code(fault) => write_code(*fault, out),
+        Failure::NotIndependent(dependence) => write_dependence(*dependence, out),
+        Failure::NotApart { name, element } => write_clash(name.as_str(), *element, out),
     }
 }
 
@@ -118,6 +122,47 @@ fn write_trap<W: Sink>(trap: Trap, out: &mut W) -> Result<(), SinkFault>
         instance.format(trap.instance),
         "\n",
     ];
+    write_pieces(out, &pieces)
+}
+
+// `isp: turns used, instance 0`
+fn write_turns<W: Sink>(instance: usize, out: &mut W) -> Result<(), SinkFault>
+    requires { W.has_failed out.old ≡ false }
+    ensures { Wrote (failure_line (TurnsUsed instance)) (W.written out.old) (W.written out.new)
+        (W.has_failed out.new) result }
+{
+    let mut number = Buffer::new();
+    let pieces = ["isp: turns used, instance ", number.format(instance), "\n"];
+    write_pieces(out, &pieces)
+}
+
+// `isp: rule 4 at 105..108`
+fn write_dependence<W: Sink>(dependence: Dependence, out: &mut W) -> Result<(), SinkFault>
+    requires { W.has_failed out.old ≡ false }
+    ensures { Wrote (failure_line (NotIndependent dependence)) (W.written out.old) (W.written out.new)
+        (W.has_failed out.new) result }
+{
+    let (mut number, mut start, mut end) = (Buffer::new(), Buffer::new(), Buffer::new());
+    let pieces = [
+        "isp: rule ",
+        number.format(dependence.rule.number()),
+        " at ",
+        start.format(dependence.span.start),
+        "..",
+        end.format(dependence.span.end),
+        "\n",
+    ];
+    write_pieces(out, &pieces)
+}
+
+// `isp: not apart: NAME 3`
+fn write_clash<W: Sink>(name: &str, element: usize, out: &mut W) -> Result<(), SinkFault>
+    requires { W.has_failed out.old ≡ false }
+    ensures { Wrote (clash_line name.now element) (W.written out.old) (W.written out.new)
+        (W.has_failed out.new) result }
+{
+    let mut number = Buffer::new();
+    let pieces = ["isp: not apart: ", name, " ", number.format(element), "\n"];
     write_pieces(out, &pieces)
 }
 

@@ -3,4 +3,4 @@
 
 mod words;
 
-pub use words::{AsmRequest, ExecRequest, Request, RunRequest, read_words};
+pub use words::{AsmRequest, CheckRequest, ExecRequest, Request, RunRequest, SoloRequest, read_words};

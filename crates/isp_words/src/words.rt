@@ -30,10 +30,30 @@ pub struct ExecRequest<'a> {
     pub arguments: &'a str,
 }
 
+/// Each exported function of a source is tried for independence, for a gang.
+#[derive(Clone, Copy, Debug)]
+pub struct CheckRequest<'a> {
+    pub gang: Gang,
+    pub source: &'a str,
+}
+
+/// An entry of a source is run by each instance of a gang alone, in which a loop makes at most so many turns each time it
+/// is entered.
+#[derive(Clone, Copy, Debug)]
+pub struct SoloRequest<'a> {
+    pub gang: Gang,
+    pub turns: u64,
+    pub source: &'a str,
+    pub entry: &'a str,
+    pub arguments: &'a str,
+}
+
 /// What command words ask for. Sources, code and arguments are names of files.
 #[derive(Clone, Copy, Debug)]
 pub enum Request<'a> {
     Run(RunRequest<'a>),
+    Check(CheckRequest<'a>),
+    Solo(SoloRequest<'a>),
     Asm(AsmRequest<'a>),
     Exec(ExecRequest<'a>),
 }
@@ -62,6 +82,17 @@ fn chosen<'a>(name: &str, inner: &ArgMatches<'a>) -> Option<Request<'a>> {
         "run" => Some(Request::Run(RunRequest {
             gang: gang_of(inner)?,
             budget: inner.get_one::<u64>("budget")?,
+            source: inner.get_str("SOURCE")?,
+            entry: inner.get_str("ENTRY")?,
+            arguments: inner.get_str("ARGUMENTS")?,
+        })),
+        "check" => Some(Request::Check(CheckRequest {
+            gang: gang_of(inner)?,
+            source: inner.get_str("SOURCE")?,
+        })),
+        "solo" => Some(Request::Solo(SoloRequest {
+            gang: gang_of(inner)?,
+            turns: inner.get_one::<u64>("turns")?,
             source: inner.get_str("SOURCE")?,
             entry: inner.get_str("ENTRY")?,
             arguments: inner.get_str("ARGUMENTS")?,
@@ -95,7 +126,9 @@ fn isp<'a>(alloc: Global) -> Result<Command<'a>, Error> {
         .about("Compiles gang programs, and runs them")
         .subcommand_required(true);
     let compiling = named.subcommand(run(alloc)?)?.subcommand(asm(alloc)?)?;
-    Ok(compiling.subcommand(exec(alloc)?)?)
+    let loading = compiling.subcommand(exec(alloc)?)?;
+    let checking = loading.subcommand(check(alloc)?)?;
+    Ok(checking.subcommand(solo(alloc)?)?)
 }
 
 fn run<'a>(alloc: Global) -> Result<Command<'a>, AllocError> {
@@ -111,6 +144,21 @@ fn asm<'a>(alloc: Global) -> Result<Command<'a>, AllocError> {
         .about("Compiles SOURCE, and writes its code")
         .arg(gang(alloc))?
         .arg(file(alloc, "SOURCE"))
+}
+
+fn check<'a>(alloc: Global) -> Result<Command<'a>, AllocError> {
+    Command::new(alloc, "check")
+        .about("Says of each exported function of SOURCE whether its instances are independent")
+        .arg(gang(alloc))?
+        .arg(file(alloc, "SOURCE"))
+}
+
+fn solo<'a>(alloc: Global) -> Result<Command<'a>, AllocError> {
+    let options = Command::new(alloc, "solo")
+        .about("Runs ENTRY of SOURCE with ARGUMENTS by each instance alone")
+        .arg(gang(alloc))?
+        .arg(turns(alloc))?;
+    with_files(alloc, options, "SOURCE")
 }
 
 fn exec<'a>(alloc: Global) -> Result<Command<'a>, AllocError> {
@@ -143,6 +191,15 @@ fn gang<'a>(alloc: Global) -> Arg<'a> {
         .help("Instances that run together")
         .value_parser(["4", "8", "16"].as_slice())
         .default_value("4")
+}
+
+fn turns<'a>(alloc: Global) -> Arg<'a> {
+    Arg::new(alloc, "turns")
+        .long("turns")
+        .value_name("N")
+        .help("Turns that a loop may make each time it is entered")
+        .value_parser(value_parser!(u64))
+        .default_value("1000000")
 }
 
 fn budget<'a>(alloc: Global) -> Arg<'a> {

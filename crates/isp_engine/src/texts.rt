@@ -1,0 +1,30 @@
+//! The texts that a request reads and writes.
+ghost use Rattle.std.specs.Prelude.{◌≡◌, false, string_bytes, Some, IfOk, IfErr};
+ghost use Rattle.isp_engine.specs.Stories.{Unread, Writes};
+
+use crate::failure::Failure;
+use crate::files::{FileFault, SourceFiles};
+use crate::sink::{Sink, SinkFault, write_all};
+use std::alloc::Global;
+
+/// Writes a text.
+pub(crate) fn write_text<O: Sink>(text: &str, out: &mut O) -> Result<(), Failure<'static>>
+    requires { O.has_failed out.old ≡ false }
+    ensures { Writes text.now (O.written out.old) (O.written out.new) (O.has_failed out.new) result }
+{
+    match write_all(out, text.as_bytes()) {
+        Ok(()) => Ok(()),
+        Err(SinkFault) => Err(Failure::CannotWrite),
+    }
+}
+
+/// The text of a file.
+pub(crate) fn read<'a, F: SourceFiles>(alloc: Global, files: &F, name: &'a str) -> Result<String, Failure<'a>>
+    ensures ok { IfOk result (λ s. F.holds files.now name.now (Some (string_bytes s))) }
+    ensures err { IfErr result (Unread (F.holds files.now) name.now) }
+{
+    files.read(alloc, name).map_err(|fault| match fault {
+        FileFault::CannotRead => Failure::CannotRead(name),
+        FileFault::Memory => Failure::Memory,
+    })
+}

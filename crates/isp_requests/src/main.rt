@@ -1,0 +1,49 @@
+//! Requests with what must come out: the words of the program are answered over files and sinks in memory.
+//!
+//! The words name files of records. A record is the lines from `=== ` and its name on. Each line begins with a word that says what it is:
+//!
+//! - `.` how what comes out was found, for the reader alone;
+//! - `file` a file's name and its text, where `␤` is a line feed, and a place may stand between `⟦` and `⟧`;
+//! - `words` the words behind `isp`;
+//! - `status` the exit status, `out` what goes to standard output, `err` the line on standard error, without its line feed; in `out` and `err`
+//!   `⟦⟧` stands for the place of the file that was written last, as `S..E`.
+//!
+//! A record is tried at its end. What it does not say is 0 or empty.
+#![tactic(auto)]
+
+mod fakes;
+mod record;
+
+use record::Record;
+use std::alloc::{AllocError, Global};
+use std::{env, fs, io};
+
+fn main(rt: HostRuntime) -> io::Result<()> {
+    let alloc = rt.alloc();
+    let mut records = 0u64;
+    let mut differences = Vec::new(alloc);
+    let words = env::args(&rt)?.collect::<Vec<String>>(alloc)?;
+    for word in words.iter().skip(1) {
+        let text = fs::read_to_string(&rt, word)?;
+        for record in text.as_str().split("=== ").skip(1) {
+            records = records.saturating_add(1);
+            if let Some(difference) = tried(alloc, record)? {
+                differences.push(difference)?;
+            }
+        }
+    }
+    for line in &differences {
+        println!(rt; "{line}")?;
+    }
+    println!(rt; "{records} requests, {} differ", differences.len())
+}
+
+// In what a record does not come out as it says, if it does not.
+fn tried(alloc: Global, text: &str) -> Result<Option<String>, AllocError> {
+    let mut lines = text.split('\n');
+    let mut record = Record::new(alloc, lines.next().unwrap_or(""));
+    for line in lines {
+        record.follow(line)?;
+    }
+    record.difference()
+}

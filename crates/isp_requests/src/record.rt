@@ -1,0 +1,86 @@
+//! One request, line by line.
+use crate::fakes::{Page, Shelf};
+use isp_engine::command;
+use isp_testing::{Marked, number, parted, spelt_out};
+use std::alloc::{AllocError, Global};
+
+/// What a record says.
+#[derive(Drop)]
+pub(crate) struct Record<'a> {
+    alloc: Global,
+    name: &'a str,
+    files: Shelf<'a>,
+    /// The place in the file that was written last, as `S..E`.
+    place: String,
+    words: &'a str,
+    status: u64,
+    out: String,
+    err: String,
+}
+
+impl<'a> Record<'a> {
+    pub(crate) fn new(alloc: Global, name: &'a str) -> Record<'a> {
+        Record {
+            alloc,
+            name,
+            files: Shelf::new(alloc),
+            place: String::new(alloc),
+            words: "",
+            status: 0,
+            out: String::new(alloc),
+            err: String::new(alloc),
+        }
+    }
+
+    /// Takes a line.
+    pub(crate) fn follow(&mut self, line: &'a str) -> Result<(), AllocError> {
+        let (word, rest) = parted(line, ' ');
+        match word {
+            "file" => self.put_file(rest)?,
+            "words" => self.words = rest,
+            "status" => self.status = number(rest).unwrap_or(0),
+            "out" => self.out = self.placed(rest)?,
+            "err" => {
+                self.err = self.placed(rest)?;
+                self.err.push_str("\n")?;
+            }
+            _ => {}
+        }
+        Ok(())
+    }
+
+    fn put_file(&mut self, rest: &'a str) -> Result<(), AllocError> {
+        let (name, text) = parted(rest, ' ');
+        let marked = Marked::new(self.alloc, spelt_out(self.alloc, text)?.as_str())?;
+        self.place = format!(in self.alloc; "{}..{}", marked.start, marked.end)?;
+        self.files.put(name, marked.source)
+    }
+
+    // A text with the place in its brackets.
+    fn placed(&self, text: &str) -> Result<String, AllocError> {
+        let text = spelt_out(self.alloc, text)?;
+        match text.as_str().split_once("⟦⟧") {
+            Some((before, after)) => format!(in self.alloc; "{before}{}{after}", self.place),
+            None => Ok(text),
+        }
+    }
+
+    /// In what the request does not come out as the record says, if it does not.
+    pub(crate) fn difference(&self) -> Result<Option<String>, AllocError> {
+        let alloc = self.alloc;
+        let line = format!(in alloc; "isp {}", self.words)?;
+        let words: Vec<String> = line
+            .as_str()
+            .split(' ')
+            .map(|word| String::from_str(alloc, word))
+            .try_collect(alloc)?;
+        let (mut out, mut err) = (Page::new(alloc), Page::new(alloc));
+        let status = command(alloc, words.as_slice(), &self.files, &mut out, &mut err);
+        if u64::from(status) == self.status && out.is(&self.out) && err.is(&self.err) {
+            return Ok(None);
+        }
+        let (out, err) = (out.text(alloc)?, err.text(alloc)?);
+        let difference = format!(in alloc; "{}: status {status}, {out}, {err}", self.name)?;
+        Ok(Some(difference))
+    }
+}
