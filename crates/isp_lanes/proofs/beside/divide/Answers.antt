@@ -1,4 +1,4 @@
-use Rattle.std.proofs.Common.{sym, ◌∙◌, rules}
+use Rattle.std.proofs.Common.{◌∙◌, rules}
 use Rattle.std.specs.Simd.Lanes.{zip2}
 use Rattle.isp_base.specs.Values.{op_bits}
 use Rattle.isp_lanes.proofs.ListedRows.{elem_at, row_under}

@@ -1,4 +1,4 @@
-use Rattle.std.proofs.Common.{rules, refl, ◌≡◌, ap, ◌∙◌, List, ℕ}
+use Rattle.std.proofs.Common.{rules, refl, ap, ◌∙◌, List, ℕ}
 use Rattle.isp_lanes.specs.Lanes.{written}
 use Rattle.isp_lanes.proofs.ListedRows.{row_as, words_whole}
 use Rattle.isp_lanes.proofs.lanes.Lanes.cut.Goals as goal

@@ -1,4 +1,4 @@
-use Rattle.std.proofs.Common.{ap, ◌∙◌, ◌&&◌, not, replicate, true, List, Bool}
+use Rattle.std.proofs.Common.{ap, ◌∙◌, ◌&&◌, not, List, Bool}
 use Rattle.std.specs.List.{list_any}
 use Rattle.std.specs.Simd.Lanes.{zip2}
 use Rattle.isp_lanes.proofs.MaskLanes.{none_off}
