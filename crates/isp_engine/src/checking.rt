@@ -1,5 +1,5 @@
 //! Each exported function of a source is tried for independence.
-ghost use Rattle.std.specs.Prelude.{string_bytes, IfOk, IfErr};
+ghost use Rattle.std.specs.Prelude.{◌≡◌, false, string_bytes, IfOk, IfErr};
 ghost use Rattle.isp_engine.specs.Checking.{Judged, WroteVerdicts};
 ghost use Rattle.isp_engine.specs.Stories.{SourceFails};
 
