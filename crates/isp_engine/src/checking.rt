@@ -37,5 +37,6 @@ fn judged<'a, F: SourceFiles>(
 {
     let source = read(alloc, files, request.source)?;
     let checked = front(alloc, source.as_str(), request.gang)?;
-    verdicts(alloc, &checked).map_err(|_| Failure::Memory)
+    let text = verdicts(alloc, &checked)?;
+    Ok(text)
 }
