@@ -7,6 +7,7 @@ pub mod Written
 pub mod Streams
 pub mod Sends
 pub mod Sources
+pub mod Solos
 pub mod Requests
 pub mod Loads
 pub mod Pieces

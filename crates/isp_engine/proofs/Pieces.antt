@@ -9,8 +9,10 @@ use Rattle.isp_lex.specs.Faults as lex
 use Rattle.isp_lex.specs.declared.fault.Fault.{Fault}
 use Rattle.isp_verify.specs.FaultTexts as verify
 use Rattle.isp_verify.specs.declared.fault.Fault.{Fault as CodeRefusal}
-use Rattle.isp_engine.specs.Failures.{failure_line}
-use Rattle.isp_engine.specs.declared.failure.Failure.TheVariants.{Source, Trapped, Code}
+use Rattle.isp_independence.specs.Dependences.{number_of}
+use Rattle.isp_independence.specs.declared.dependence.Dependence.{Dependence}
+use Rattle.isp_engine.specs.Failures.{clash_line, failure_line}
+use Rattle.isp_engine.specs.declared.failure.Failure.TheVariants.{Source, Trapped, TurnsUsed, Code, NotIndependent}
 use Rattle.isp_engine.specs.declared.fault.CodeFault.TheVariants as code_fault
 
 regrouped : (k a s d e b i n : List ℕ) → k ++ (a ++ (s ++ (d ++ (e ++ (b ++ (i ++ n)))))) ≡ (k ++ a ++ (s ++ d ++ e) ++ b ++ i) ++ n
@@ -34,3 +36,12 @@ pub code_line : (f : CodeRefusal) (number name function instruction : List ℕ) 
 code_line f number name function instruction a b c d =
     rw (a, b, c, d)
     (ap (λ z. codes "isp: " ++ z) (ruled (decimal (verify.number_of f.rule)) (codes " ") (verify.name_of f.rule) (codes " in function ") (decimal f.function) (codes ", instruction ") (decimal f.instruction) (codes "\n")))
+
+pub turns_line : (p : ℕ) (instance : List ℕ) → instance ≡ decimal p → codes "isp: turns used, instance " ++ (instance ++ (codes "\n" ++ [])) ≡ failure_line (TurnsUsed p)
+turns_line p instance a = rw a (simp append_assoc)
+
+pub dependence_line : (d : Dependence) (rule start end : List ℕ) → rule ≡ decimal (number_of d.rule) → start ≡ decimal d.span.start → end ≡ decimal d.span.end → codes "isp: rule " ++ (rule ++ (codes " at " ++ (start ++ (codes ".." ++ (end ++ (codes "\n" ++ [])))))) ≡ failure_line (NotIndependent d)
+dependence_line d rule start end a b c = rw (a, b, c) (ap (λ z. codes "isp: rule " ++ z) (simp append_assoc))
+
+pub clash_line_is : (name : List ℕ) (e : ℕ) (element : List ℕ) → element ≡ decimal e → codes "isp: not apart: " ++ (name ++ (codes " " ++ (element ++ (codes "\n" ++ [])))) ≡ clash_line name e
+clash_line_is name e element a = rw a (simp append_assoc)

@@ -1,5 +1,5 @@
 //! Each exported function of a source is tried for independence.
-ghost use Rattle.std.specs.Prelude.{string_bytes, IfOk, IfErr};
+ghost use Rattle.std.specs.Prelude.{◌≡◌, false, string_bytes, IfOk, IfErr};
 ghost use Rattle.isp_engine.specs.Checking.{Judged, WroteVerdicts};
 ghost use Rattle.isp_engine.specs.Stories.{SourceFails};
 
@@ -37,5 +37,6 @@ fn judged<'a, F: SourceFiles>(
 {
     let source = read(alloc, files, request.source)?;
     let checked = front(alloc, source.as_str(), request.gang)?;
-    verdicts(alloc, &checked).map_err(|_| Failure::Memory)
+    let text = verdicts(alloc, &checked)?;
+    Ok(text)
 }

@@ -1,4 +1,5 @@
 use Rattle.std.proofs.lemmas.Result.{err_from_is_err_and}
+use Rattle.isp_typed.specs.Views.{program_of}
 use Rattle.isp_engine.proofs.Sources.{refused_source}
 use Rattle.isp_engine.proofs.checking.judged.Goals as goal
 
@@ -8,4 +9,5 @@ returns-in_err-checked-clause-err g c =
     rw (p.1, p.2) (refused_source (g.F.SourceFiles.holds c.args.files.now) c.args.request.now.gang c.args.request.now.source.now c.as_str.result.now (rw c.as_str.ensures.value c.in_ok-source.ensures.ok) _ c.in_err-checked.ensures.refused)
 
 pub returns-clause-ok : goal.returns-clause-ok
-returns-clause-ok g c = tt
+returns-clause-ok g c =
+    record { text = c.as_str.result.now; program = program_of c.in_ok-checked.checked; has_text = rw c.as_str.ensures.value c.in_ok-source.ensures.ok; is = c.in_ok-checked.ensures.accepted; checks = c.in_ok-text.ensures }

@@ -1,0 +1,20 @@
+use Rattle.std.proofs.lemmas.Result.{err_from_is_err_and}
+use Rattle.std.proofs.Common.{refl}
+use Rattle.isp_typed.specs.Views.{program_of}
+use Rattle.isp_engine.proofs.Solos.{refused, unanswered, unread_arguments, unread_source}
+use Rattle.isp_engine.proofs.alone.answered.Goals as goal
+
+pub returns-in_err-source-clause-err : goal.returns-in_err-source-clause-err
+returns-in_err-source-clause-err g c =
+    let p = err_from_is_err_and c.from_residual.result c.from_residual.ensures.1 in
+    rw (p.1, p.2) (unread_source _ c.args.request.now _ c.in_err-source.ensures.err)
+
+pub returns-in_err-json-clause-err : goal.returns-in_err-json-clause-err
+returns-in_err-json-clause-err g c =
+    let p = err_from_is_err_and c.from_residual-in_err-json.result c.from_residual-in_err-json.ensures.1 in
+    rw (p.1, p.2) (unread_arguments _ c.args.request.now _ c.in_ok-source.ensures.ok _ c.in_err-json.ensures.err)
+
+pub returns-in_err-checked-clause-err : goal.returns-in_err-checked-clause-err
+returns-in_err-checked-clause-err g c =
+    let p = err_from_is_err_and c.from_residual-in_err-checked.result c.from_residual-in_err-checked.ensures.1 in
+    rw (p.1, p.2) (refused _ c.args.request.now (record { text = c.as_str.result.now; json = _; has_text = rw c.as_str.ensures.value c.in_ok-source.ensures.ok; has_json = c.in_ok-json.ensures.ok }) _ c.in_err-checked.ensures.refused)

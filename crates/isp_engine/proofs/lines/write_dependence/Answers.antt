@@ -1,0 +1,10 @@
+use Rattle.std.proofs.Common.{ap, subst, ◌∙◌}
+use Rattle.std.specs.Fmt.{decimal}
+use Rattle.isp_engine.specs.Sinks.{Wrote}
+use Rattle.isp_engine.proofs.Pieces.{dependence_line}
+use Rattle.isp_engine.proofs.lines.write_dependence.Goals as goal
+
+pub returns : goal.returns
+returns g c =
+    subst (λ z. Wrote z (g.W.Sink.written c.args.out.now) (g.W.Sink.written c.write_pieces.new.out) (g.W.Sink.has_failed c.write_pieces.new.out) c.write_pieces.result)
+    (dependence_line c.args.dependence _ _ _ (c.format.ensures.text ∙ ap decimal c.number.ensures) c.format-2.ensures.text c.format-3.ensures.text) c.write_pieces.ensures
