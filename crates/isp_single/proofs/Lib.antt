@@ -1,2 +1,17 @@
+pub mod Lists
+pub mod Results
+pub mod Begun
 pub mod Changed
 pub mod Touching
+pub mod Elements
+pub mod Steps
+pub mod Nodes
+pub mod Writes
+pub mod Runs
+pub mod Handing
+pub mod Left
+pub mod Indices
+pub mod Foreach
+pub mod Started
+pub mod Outcomes
+pub mod Changes

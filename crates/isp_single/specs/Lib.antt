@@ -1,2 +1,8 @@
 pub mod Arrays
+pub mod Ends
+pub mod Entering
+pub mod Left
+pub mod Seen
+pub mod Starting
+pub mod Tasks
 pub mod Touches
