@@ -9,7 +9,7 @@ use Rattle.isp_base.specs.declared.types.Elem.TheVariants.{Bool as Truth, I8, I3
 use Rattle.isp_base.specs.declared.types.Rate.{Rate}
 use Rattle.isp_base.specs.declared.types.Rate.TheVariants.{Uniform, Varying}
 use Rattle.isp_base.specs.declared.types.Span.{Span}
-use Rattle.isp_typed.specs.Typed.{TExpr, t_constant, t_place, t_convert, t_cast, t_unary, t_binary, t_compare, t_logic, t_choose, TPlace, t_variable, t_element, TItem, t_plain, t_with_value, t_with_size, TSimple, t_assign, t_update, t_step, ty_of}
+use Rattle.isp_typed.specs.Typed.{TExpr, t_constant, t_program_index, t_place, t_convert, t_cast, t_unary, t_binary, t_compare, t_logic, t_choose, TPlace, t_variable, t_element, TItem, t_plain, t_with_value, t_with_size, TSimple, t_assign, t_update, t_step, ty_of}
 use Rattle.isp_typed.specs.declared.variable.ArrayVariable.{ArrayVariable}
 use Rattle.isp_typed.specs.declared.variable.Logic.TheVariants.{And}
 use Rattle.isp_lower.specs.Layout.{Layout, IsApart}
@@ -30,9 +30,13 @@ module _ (any : Layout) (a : ArrayVariable) (v y z i : ℕ) (sp : Span) where
   abbrev number : ℕ → TExpr
   number n = t_constant (record { elem = I32; bits = n }) sp
 
-  -- a[i] with i varying
+  -- a[i] with i varying, of an array that is shared by the lanes
   abbrev element : Elem → TPlace
-  element t = t_element a (of Varying I64 i) (ty_of Varying t) sp
+  element t = t_element (record a { ty = ty_of Uniform t }) (of Varying I64 i) (ty_of Varying t) sp
+
+  -- a[programIndex]
+  abbrev run : Elem → TPlace
+  run t = t_element (record a { ty = ty_of Uniform t }) (t_program_index sp) (ty_of Varying t) sp
 
   abbrev double : Rate → Elem → TExpr → TExpr → TExpr → TExpr
   double r t x two one = t_binary Add (t_binary Mul x two (ty_of r t) sp) one (ty_of r t) sp
@@ -122,6 +126,14 @@ module _ (any : Layout) (a : ArrayVariable) (v y z i : ℕ) (sp : Span) where
 
   pub doubled_wide : count (t_assign (element I64) (double Varying I64 (t_place (element I64)) (t_convert I64 (number 2)) (t_convert I64 (number 1))) sp) ≡ 8
   doubled_wide = refl
+
+  -- ---- runs: v = a[programIndex], a[programIndex] = y
+
+  pub read_run : count (t_assign (at Varying I32 v) (t_place (run I32)) sp) ≡ 2
+  read_run = refl
+
+  pub stored_run : count (t_assign (run I32) (of Varying I32 y) sp) ≡ 2
+  stored_run = refl
 
   -- ---- declared: int v, uniform int v, int v = y + z, int a[n]
 
