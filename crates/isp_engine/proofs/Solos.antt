@@ -31,7 +31,7 @@ use Rattle.isp_engine.specs.declared.failure.Failure.TheVariants.{Source, Trappe
 use Rattle.isp_engine.specs.declared.fault.RunFault.TheVariants as run_fault
 use Rattle.isp_engine.specs.Failures.{bind_failure, eval_failure, source_failure}
 use Rattle.isp_engine.specs.Front.{IsFaulty, IsSource}
-use Rattle.isp_engine.specs.Solos.{Binds, IsTold, IsUnanswered, SoloFails, Sourced, Tells}
+use Rattle.isp_engine.specs.Solos.{Binds, IsTold, IsUnanswered, Soloed, SoloFails, Sourced, Tells}
 use Rattle.isp_engine.specs.Stories.{Holds, Reads, Unread}
 use Rattle.isp_engine.proofs.Binds.{fits}
 
@@ -80,7 +80,7 @@ and_right true b h = h
 and_right false b h = absurd (let z : ⊥ = cc in z)
 
 module _ (p : rust_program.Program) (name : List ℕ) where
-  test : TypedFunction → Bool
+  abbrev pub test : TypedFunction → Bool
   test f = f.exported && bytes_eq f.name name
 
   -- whose signature is given
@@ -156,7 +156,7 @@ never_unread n ps (report.Clash k i) h = h
 never_unread n ps (report.Ended arrays result) h = h
 
 module _ (p : rust_program.Program) (entry json : List ℕ) (turns : ℕ) where
-  program : Program
+  abbrev pub program : Program
   program = program_of p
 
   -- the entry and what it binds
@@ -200,7 +200,7 @@ module _ (p : rust_program.Program) (entry json : List ℕ) (turns : ℕ) where
   not_answered (Source f) h = h (λ e. let z : ⊥ = cc in z)
   not_answered (Trapped t) h = h (λ e. let z : ⊥ = cc in z)
   not_answered BudgetUsed h = h (λ e. let z : ⊥ = cc in z)
-  not_answered (TurnsUsed p) h = h (λ e. let z : ⊥ = cc in z)
+  not_answered (TurnsUsed i) h = h (λ e. let z : ⊥ = cc in z)
   not_answered (CannotRead n) h = h (λ e. let z : ⊥ = cc in z)
   not_answered CannotWrite h = h (λ e. let z : ⊥ = cc in z)
   not_answered (Code f) h = h (λ e. let z : ⊥ = cc in z)
@@ -248,15 +248,23 @@ module _ (holds : Holds) (q : SoloRequest) where
   refused files NoMemory h = tt
   refused files (Refused f) h = (files, h f refl)
 
-  pub unanswered : (program : Program) (json : List ℕ) → Sourced holds q json program → (f : Failure) → IsUnanswered program q.entry.now json q.turns f → SoloFails holds q f
-  unanswered program json s (CannotRead n) h = absurd (not_told program q.entry.now json q.turns (CannotRead n) (never_unread n) h)
-  unanswered program json s (Source f) h = absurd (not_told program q.entry.now json q.turns (Source f) (never_source f) h)
-  unanswered program json s Memory h = tt
-  unanswered program json s (Run f) h = (program, json, s, h)
-  unanswered program json s (Trapped t) h = (program, json, s, h)
-  unanswered program json s BudgetUsed h = (program, json, s, h)
-  unanswered program json s (TurnsUsed p) h = (program, json, s, h)
-  unanswered program json s CannotWrite h = (program, json, s, h)
-  unanswered program json s (Code f) h = (program, json, s, h)
-  unanswered program json s (NotIndependent d) h = (program, json, s, h)
-  unanswered program json s (NotApart n i) h = (program, json, s, h)
+  pub unanswered : (p : Program) (json : List ℕ) → Sourced holds q json p → (f : Failure) → IsUnanswered p q.entry.now json q.turns f → SoloFails holds q f
+  unanswered p json s (CannotRead n) h = absurd (not_told p q.entry.now json q.turns (CannotRead n) (never_unread n) h)
+  unanswered p json s (Source f) h = absurd (not_told p q.entry.now json q.turns (Source f) (never_source f) h)
+  unanswered p json s Memory h = tt
+  unanswered p json s (Run f) h = (p, json, s, h)
+  unanswered p json s (Trapped t) h = (p, json, s, h)
+  unanswered p json s BudgetUsed h = (p, json, s, h)
+  unanswered p json s (TurnsUsed i) h = (p, json, s, h)
+  unanswered p json s CannotWrite h = (p, json, s, h)
+  unanswered p json s (Code f) h = (p, json, s, h)
+  unanswered p json s (NotIndependent d) h = (p, json, s, h)
+  unanswered p json s (NotApart n i) h = (p, json, s, h)
+
+  pub all_told : (p : Program) (json : List ℕ) → Sourced holds q json p → (x : Result (String Global) Failure) → IfOk x (λ t. IsTold p q.entry.now json q.turns (Ok (string_bytes t))) → IfOk x (λ t. Soloed holds q (string_bytes t))
+  all_told p json s (Ok t) h = record { program = p; json = json; given = s; told = h }
+  all_told p json s (Err f) h = tt
+
+  pub none_told : (p : Program) (json : List ℕ) → Sourced holds q json p → (x : Result (String Global) Failure) → IfErr x (IsUnanswered p q.entry.now json q.turns) → IfErr x (SoloFails holds q)
+  none_told p json s (Ok t) h = tt
+  none_told p json s (Err f) h = unanswered p json s f h
