@@ -4,7 +4,6 @@ use Rattle.std.specs.Prelude.{◌&&◌, bytes_eq, find, slice_get, String, strin
 use Rattle.std.specs.declared.alloc.Global.{Global}
 use Rattle.std.specs.Option.{option_map}
 use Rattle.std.proofs.lemmas.Slice.Eq.{bytes_eq-Decides}
-use Rattle.isp_base.specs.Binding.{has_signature}
 use Rattle.isp_base.specs.declared.signature.Argument.{Argument}
 use Rattle.isp_base.specs.declared.signature.Parameter.{Parameter}
 use Rattle.isp_base.specs.declared.signature.Signature.{Signature}
@@ -16,13 +15,12 @@ use Rattle.isp_entry.specs.declared.fault.EvalFault.TheVariants as eval_fault
 use Rattle.isp_lex.specs.declared.fault.Fault.{Fault}
 use Rattle.isp_lex.specs.declared.fault.SourceFault.{SourceFault}
 use Rattle.isp_lex.specs.declared.fault.SourceFault.TheVariants.{Memory as NoMemory, Refused}
-use Rattle.isp_meaning.specs.Entries.{IsExport, IsEntry}
-use Rattle.isp_rates.specs.Exports.{is_entry}
+use Rattle.isp_meaning.specs.Entries.{IsExport}
 use Rattle.isp_solo.specs.Report.{IsRefused, IsSoloReport}
 use Rattle.isp_solo.specs.declared.report.SoloReport.{SoloReport}
 use Rattle.isp_solo.specs.declared.report.SoloReport.TheVariants as report
 use Rattle.isp_typed.specs.Typed.{Program, TFunction}
-use Rattle.isp_typed.specs.Views.{function_of, functions_of, program_of}
+use Rattle.isp_typed.specs.Views.{function_of, program_of}
 use Rattle.isp_typed.specs.declared.function.Program as rust_program
 use Rattle.isp_typed.specs.declared.function.TypedFunction.{TypedFunction}
 use Rattle.isp_words.specs.declared.words.SoloRequest.{SoloRequest}
@@ -30,7 +28,7 @@ use Rattle.isp_engine.specs.declared.failure.Failure.{Failure}
 use Rattle.isp_engine.specs.declared.failure.Failure.TheVariants.{Source, Trapped, BudgetUsed, TurnsUsed, Run, CannotRead, CannotWrite, Memory, Code, NotIndependent, NotApart}
 use Rattle.isp_engine.specs.declared.fault.RunFault.TheVariants as run_fault
 use Rattle.isp_engine.specs.Failures.{bind_failure, eval_failure, source_failure}
-use Rattle.isp_engine.specs.Front.{IsFaulty, IsSource}
+use Rattle.isp_engine.specs.Front.{IsFaulty}
 use Rattle.isp_engine.specs.Solos.{Binds, IsTold, IsUnanswered, Soloed, SoloFails, Sourced, Tells}
 use Rattle.isp_engine.specs.Stories.{Holds, Reads, Unread}
 use Rattle.isp_engine.proofs.Binds.{fits}

@@ -3,7 +3,7 @@
 --     Ends              the story of any request
 --     Commands          all of that, the exit status, and the line on standard error
 -- `holds` is that of specs/Stories.antt, and `tells line` that a line went to standard error.
-use Rattle.std.specs.Prelude.{◌≡◌, ◌≢◌, ◌⊎◌, ℕ, List, [], Bool, Option, Some, None, Result, Ok, Err, ⊤}
+use Rattle.std.specs.Prelude.{◌≡◌, ◌≢◌, ◌⊎◌, ℕ, List, [], Bool, Option, Some, Result, Ok, Err, ⊤}
 use Rattle.isp_base.specs.declared.types.Gang.{Gang}
 use Rattle.isp_code.specs.Listing.{Listing}
 use Rattle.isp_asm.specs.Spelling.{text_of}
@@ -11,7 +11,7 @@ use Rattle.isp_engine.specs.declared.commands.Job.{Job}
 use Rattle.isp_engine.specs.declared.commands.Origin.{Origin}
 use Rattle.isp_engine.specs.declared.commands.Origin.TheVariants.{Compiled, Loaded}
 use Rattle.isp_engine.specs.declared.failure.Failure.{Failure}
-use Rattle.isp_engine.specs.declared.failure.Failure.TheVariants.{Source, Trapped, BudgetUsed, Code, CannotRead, CannotWrite, Memory}
+use Rattle.isp_engine.specs.declared.failure.Failure.TheVariants.{Source, Trapped, BudgetUsed, Code, CannotRead, Memory}
 use Rattle.isp_engine.specs.declared.fault.RunFault.{RunFault}
 use Rattle.isp_engine.specs.declared.fault.RunFault.TheVariants.{WriteFailed}
 use Rattle.isp_engine.specs.declared.report.Ending.{Ending}
@@ -24,14 +24,14 @@ use Rattle.isp_words.specs.declared.words.AsmRequest.{AsmRequest}
 use Rattle.isp_words.specs.declared.words.ExecRequest.{ExecRequest}
 use Rattle.isp_engine.specs.Failures.{failure_line, line_of, run_failure, status_of}
 use Rattle.isp_engine.specs.Sending.{Sends}
-use Rattle.isp_engine.specs.Sinks.{TookAll, TookSome}
+use Rattle.isp_engine.specs.Sinks.{TookAll}
 use Rattle.isp_engine.specs.Front.{IsFaulty}
 use Rattle.isp_engine.specs.Images.{IsCompilation, IsLoaded, IsNotLoaded}
 use Rattle.isp_engine.specs.Meaning.{Means}
 use Rattle.isp_engine.specs.Reports.{Executes}
 use Rattle.isp_engine.specs.Checking.{WroteVerdicts}
 use Rattle.isp_engine.specs.Solos.{SoloEnds}
-use Rattle.isp_engine.specs.Stories.{Holds, Reads, SourceFails, Stops, Unread, UnreadOf, Writes}
+use Rattle.isp_engine.specs.Stories.{Holds, Reads, SourceFails, Stops, UnreadOf, Writes}
 
 -- ---- an entry of an image is run
 

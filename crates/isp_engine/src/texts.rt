@@ -19,7 +19,11 @@ pub(crate) fn write_text<O: Sink>(text: &str, out: &mut O) -> Result<(), Failure
 }
 
 /// The text of a file.
-pub(crate) fn read<'a, F: SourceFiles>(alloc: Global, files: &F, name: &'a str) -> Result<String, Failure<'a>>
+pub(crate) fn read<'a, F: SourceFiles>(
+    alloc: Global,
+    files: &F,
+    name: &'a str,
+) -> Result<String, Failure<'a>>
     ensures ok { IfOk result (λ s. F.holds files.now name.now (Some (string_bytes s))) }
     ensures err { IfErr result (Unread (F.holds files.now) name.now) }
 {

@@ -56,7 +56,10 @@ impl Page {
 
     /// What was written, where it is a text.
     pub(crate) fn text(&self, alloc: Global) -> Result<String, AllocError> {
-        String::from_str(alloc, str::from_utf8(self.bytes.as_slice()).unwrap_or("no text"))
+        String::from_str(
+            alloc,
+            str::from_utf8(self.bytes.as_slice()).unwrap_or("no text"),
+        )
     }
 }
 

@@ -1,6 +1,6 @@
 -- The lines of exported functions, one after the other.
 use Rattle.std.proofs.Common.{◌≡◌, ℕ, zero, suc, ◌+◌, ◌≤◌, List, [], ◌∷◌, ◌++◌, length, map, Bool, true, false, cond, Option, Some, None, refl, sym, ap, ◌∙◌, subst, arith, add-one, append_assoc, append-nil, take}
-use Rattle.std.specs.Prelude.{◌&&◌, bytes_eq, filter, find, slice_get, codes, if◌then◌else◌, OnOk, Result, Ok, Err, ⊤}
+use Rattle.std.specs.Prelude.{◌&&◌, bytes_eq, filter, find, slice_get, codes, OnOk, Result, Ok, Err, ⊤}
 use Rattle.std.specs.Result.{is_ok}
 use Rattle.std.specs.Option.{IsSome, option_map}
 use Rattle.std.proofs.lemmas.Slice.Eq.{bytes_eq-Decides}
@@ -151,10 +151,10 @@ module _ (p : rust_program.Program) where
 
   pub said : (k : ℕ) (w old new : List ℕ) (o : Option Dependence) → Some w ≡ option_map (λ (f : TypedFunction). f.name) (slice_get (exported p.functions.items) k) → IsVerdict (program_of p) w o → new ≡ old ++ verdict_line w o → SoFar (program_of p) k old → SoFar (program_of p) (k + 1) new
   said k w old new o e v is h = record {
-      lines = h.lines ++ verdict_line w o;
-      verdicts = subst (λ z. AreVerdicts (program_of p) z (h.lines ++ verdict_line w o)) (sym (ap (λ j. take j (exported_names (program_of p))) (add-one k) ∙ take_next (exported_names (program_of p)) k w at)) (one_more (program_of p) _ w h.lines o h.verdicts v);
-      text_is = is ∙ ap (λ z. z ++ verdict_line w o) h.text_is ∙ append_assoc (codes "ok" ++ 10 ∷ []) h.lines (verdict_line w o);
-    }
+    lines = h.lines ++ verdict_line w o;
+    verdicts = subst (λ z. AreVerdicts (program_of p) z (h.lines ++ verdict_line w o)) (sym (ap (λ j. take j (exported_names (program_of p))) (add-one k) ∙ take_next (exported_names (program_of p)) k w at)) (one_more (program_of p) _ w h.lines o h.verdicts v);
+    text_is = is ∙ ap (λ z. z ++ verdict_line w o) h.text_is ∙ append_assoc (codes "ok" ++ 10 ∷ []) h.lines (verdict_line w o);
+  }
     where
       at : slice_get (exported_names (program_of p)) k ≡ Some w
       at = ap (λ z. slice_get z k) names_of ∙ get_map (λ (f : TypedFunction). f.name) (exported p.functions.items) k ∙ sym e
@@ -167,10 +167,10 @@ module _ (p : rust_program.Program) where
 
   pub all_said : (k : ℕ) (ns text : List ℕ) → ns ≡ exports_from 0 p.functions.items → length ns ≤ k → SoFar (program_of p) k text → Checks (program_of p) text
   all_said k ns text e past h = record {
-      lines = h.lines;
-      verdicts = subst (λ z. AreVerdicts (program_of p) z h.lines) (take_long (exported_names (program_of p)) k long) h.verdicts;
-      text_is = h.text_is;
-    }
+    lines = h.lines;
+    verdicts = subst (λ z. AreVerdicts (program_of p) z h.lines) (take_long (exported_names (program_of p)) k long) h.verdicts;
+    text_is = h.text_is;
+  }
     where
       long : length (exported_names (program_of p)) ≤ k
       long = subst (λ z. z ≤ k) (ap length e ∙ as_many 0 p.functions.items ∙ sym (ap length names_of)) past

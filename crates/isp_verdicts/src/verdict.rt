@@ -37,11 +37,7 @@ fn breach(checked: &Checked, name: &str) -> Option<Dependence>
     }
 }
 
-fn push_verdict(
-    text: &mut String,
-    name: &str,
-    breach: Option<Dependence>,
-) -> Result<(), AllocError>
+fn push_verdict(text: &mut String, name: &str, breach: Option<Dependence>) -> Result<(), AllocError>
     ensures { OnOk result (string_bytes text.new ≡ string_bytes text.old ++ verdict_line name.now breach) }
 {
     text.push_str(name)?;

@@ -3,4 +3,6 @@
 
 mod words;
 
-pub use words::{AsmRequest, CheckRequest, ExecRequest, Request, RunRequest, SoloRequest, read_words};
+pub use words::{
+    AsmRequest, CheckRequest, ExecRequest, Request, RunRequest, SoloRequest, read_words,
+};
