@@ -10,7 +10,7 @@ ghost use Rattle.isp_lower.specs.Emitted.{Present};
 ghost use Rattle.isp_masks.specs.Asks.{part_asks, part_slot, stmt_asks};
 ghost use Rattle.isp_masks.specs.Written.{Writes, guarded_at, if_at, if_else_at, others_at, part_at, parts_at};
 
-use crate::looping::join_widely;
+use crate::looping::{join_where, join_widely};
 use crate::masks::{Masks, Spot};
 use crate::sets::{part, part_beside, unite};
 use crate::statement::stmt;
@@ -320,7 +320,7 @@ fn others(
     let at = b.code.len();
     b.push(Instr::JumpIf(JumpTest::All, mask(passed), 0))?;
     under_mask(b, on, x, spot, site)?;
-    b.push(unite(spot.masks.on, spot.masks.on, site.mask))?;
+    join_where(b, true, spot.masks.on, site.mask)?;
     b.land(at, JumpTest::All, mask(passed));
     Ok(())
 }

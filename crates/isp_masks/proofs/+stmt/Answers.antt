@@ -89,9 +89,9 @@ branches::others-returns t c =
     let all = a.spot.masks.on.number in
     let k = a.site.mask.number in
     let part = guarded_at a.on.now (stmt_of a.x.now) a.spot k a.site.slot.number in
-    let both = writes_back c.push.new.self c.under_mask.new.b c.push-2.new.self part (λ pc p. unite all all k ∷ []) c.in_ok-under_mask.ensures (cc) in
+    let both = writes_back c.push.new.self c.under_mask.new.b c.join_where.new.b part (λ pc p. unite all all k ∷ []) c.in_ok-under_mask.ensures c.in_ok-join_where.ensures in
     let whole : Piece = record { code = λ pc z. part.code pc z ++ unite all all k ∷ []; places = part.places; texts = part.texts } in
-    landed_over a.b.now c.push.new.self c.push-2.new.self c.land.new.self c.len-at.result _ (jump_all a.passed.number) whole
+    landed_over a.b.now c.push.new.self c.join_where.new.b c.land.new.self c.len-at.result _ (jump_all a.passed.number) whole
     (c.len-at.ensures ∙ a.b.now.code.ok.0) c.in_ok-push.ensures both (cc) c.land.ensures.places c.land.ensures.texts
 
 pub statement::block-stmt-requires : goal.statement::block-stmt-requires
