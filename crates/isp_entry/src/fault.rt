@@ -2,11 +2,13 @@
 ghost use Rattle.std.specs.Prelude.{◌≡◌};
 ghost use Rattle.isp_entry.specs.declared.fault.EvalFault.TheVariants.{Memory};
 
+use isp_independence::Dependence;
 use std::alloc::{AllocError, AllocFailed};
+use std::fmt;
 use thiserror::Error;
 
 /// Why an evaluation is refused.
-#[derive(Clone, Copy, Debug, PartialEq, Eq, Error)]
+#[derive(Clone, Copy, Error)]
 pub enum EvalFault {
     /// 0: memory was refused.
     #[error("memory")]
@@ -14,6 +16,16 @@ pub enum EvalFault {
     /// 50: no exported function has the entry's name and the signature of the arguments.
     #[error("50 NoEntry")]
     NoEntry,
+    /// 80: the entry is not independent, by this breach. Of `one_by_one` alone.
+    #[error("80 NotIndependent")]
+    NotIndependent(Dependence),
+}
+
+// Its text: a `Dependence` has no `Debug`.
+impl fmt::Debug for EvalFault {
+    fn fmt<W: fmt::Write>(&self, f: &mut fmt::Formatter<W>) -> fmt::Result {
+        fmt::Display::fmt(self, f)
+    }
 }
 
 impl From<AllocError> for EvalFault {

@@ -4,5 +4,5 @@
 mod entry;
 mod fault;
 
-pub use entry::find;
+pub use entry::{find, find_number};
 pub use fault::EvalFault;

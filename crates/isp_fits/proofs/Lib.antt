@@ -5,3 +5,4 @@ pub mod Expressions
 pub mod Statements
 pub mod Calls
 pub mod Runs
+pub mod Uncut

@@ -8,6 +8,7 @@ use Rattle.isp_base.specs.Rows.{Row, Fit}
 use Rattle.isp_base.specs.Values.{width}
 use Rattle.isp_base.specs.declared.signature.Argument.{Argument}
 use Rattle.isp_base.specs.declared.types.Elem.{Elem}
+use Rattle.isp_base.specs.declared.types.Value.{Value}
 use Rattle.isp_typed.specs.Typed.{Program, TFunction}
 use Rattle.isp_rates.specs.Program.{IsAccepted}
 use Rattle.isp_meaning.specs.Outcomes.{Val, Gives, Fails, Stops}
@@ -46,3 +47,8 @@ ResultFits =
     → has_signature h.parameters xs ≡ true
     → All (λ r. Fit r.elem r.bits) (rows xs)
     → GivenFits h.gives (meaning program f n xs)
+
+-- a value whose bits are below 2 ^ width of its type, where there is one
+abbrev pub BitsFit : Option Value → Type 0
+BitsFit None = Unit {0}
+BitsFit (Some v) = v.bits < 2 ^ width v.elem

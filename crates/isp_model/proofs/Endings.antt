@@ -17,8 +17,8 @@ use Rattle.isp_tasks.specs.Runs.{IsRunOf, ended_in}
 use Rattle.isp_tasks.specs.Stores.{stores_of}
 use Rattle.isp_tasks.specs.declared.running.Ending.TheVariants as ending
 use Rattle.isp_tasks.specs.declared.running.Run.{Run}
-use Rattle.isp_model.specs.Cut.{rows_cut}
-use Rattle.isp_model.proofs.Fitting.{fits_cut}
+use Rattle.isp_fits.specs.Cut.{rows_cut}
+use Rattle.isp_fits.proofs.Uncut.{fits_cut}
 
 module _ (t : Option Elem) (xs : List Argument) (r : Run) (v : Val Payload) (is : IsRunOf r v) (fit : RowsFit (rows xs) (state_of v).arrays) where
   rows_are : (rs : List Row) → rs ≡ rows_cut (rows xs) (stores_of r.stores.items) → rs ≡ rows_now (rows xs) (state_of v).arrays

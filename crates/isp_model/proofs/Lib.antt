@@ -1,4 +1,3 @@
 pub mod Cutting
-pub mod Fitting
 pub mod Endings
 pub mod Evaluating

@@ -1,15 +1,14 @@
 -- What an evaluation comes to, and when it is refused.
-use Rattle.std.specs.Prelude.{◌≡◌, ◌<◌, ◌^◌, ℕ, List, Option, Some, None}
+use Rattle.std.specs.Prelude.{◌≡◌, ℕ, List}
 use Rattle.isp_base.specs.Outcomes as base
-use Rattle.isp_base.specs.Values.{width}
 use Rattle.isp_base.specs.declared.signature.Argument.{Argument}
-use Rattle.isp_base.specs.declared.types.Value.{Value}
 use Rattle.isp_typed.specs.Typed.{Program}
 use Rattle.isp_meaning.specs.Runs.{run_of, work_of}
+use Rattle.isp_fits.specs.Fits.{BitsFit}
 use Rattle.isp_tasks.specs.Capped.{capped}
 use Rattle.isp_entry.specs.Entered.{Begins, NoneBegins}
 use Rattle.isp_entry.specs.declared.fault.EvalFault.{EvalFault}
-use Rattle.isp_entry.specs.declared.fault.EvalFault.TheVariants.{Memory, NoEntry}
+use Rattle.isp_entry.specs.declared.fault.EvalFault.TheVariants.{Memory, NoEntry, NotIndependent}
 use Rattle.isp_model.specs.declared.outcome.Outcome.{Outcome}
 use Rattle.isp_model.specs.declared.outcome.Outcome.TheVariants.{Ends, Traps, Cut}
 
@@ -27,16 +26,13 @@ abbrev pub IsWork : Program → List ℕ → List Argument → ℕ → ℕ → T
 IsWork program name xs n k = (f : ℕ) × Begins program name xs f × (k ≡ capped (work_of program f n xs))
 
 -- what was given back fits its type
-abbrev pub BitsFit : Option Value → Type 0
-BitsFit None = Unit {0}
-BitsFit (Some v) = v.bits < 2 ^ width v.elem
-
 abbrev pub ResultFits : Outcome → Type 0
 ResultFits (Ends arrays result output) = BitsFit result
 ResultFits (Traps trap arrays output) = Unit {0}
 ResultFits (Cut output) = Unit {0}
 
--- memory may be refused at any time; else an evaluation is refused exactly where no run can begin
+-- memory may be refused at any time; else an evaluation is refused exactly where no run can begin, and for nothing else
 abbrev pub IsRefused : EvalFault → Program → List ℕ → List Argument → Type 0
 IsRefused Memory program name xs = Unit {0}
 IsRefused NoEntry program name xs = NoneBegins program name xs
+IsRefused (NotIndependent d) program name xs = ⊥

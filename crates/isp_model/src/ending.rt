@@ -8,7 +8,7 @@ ghost use Rattle.isp_meaning.specs.Payloads.{Payload};
 ghost use Rattle.isp_meaning.specs.Runs.{answer_as, outcome_of, state_of};
 ghost use Rattle.isp_fits.specs.Fits.{GivenFits, RowsFit};
 ghost use Rattle.isp_gang.specs.Seen.{payload_of};
-ghost use Rattle.isp_model.specs.Cut.{cut, one_cut, rows_cut};
+ghost use Rattle.isp_fits.specs.Cut.{cut, one_cut, rows_cut};
 ghost use Rattle.isp_model.specs.Evaluated.{ResultFits, outcome_seen};
 ghost use Rattle.isp_tasks.specs.Runs.{IsRunOf};
 ghost use Rattle.isp_tasks.specs.Stores.{stores_of};

@@ -35,8 +35,8 @@ impl Touch {
         }
     }
 
-    // One more instance read it or not, and stored there or not.
-    fn touched(self, instance: usize, read: bool, stored: bool) -> Touch
+    /// One more instance read it or not, and stored there or not.
+    pub fn touched(self, instance: usize, read: bool, stored: bool) -> Touch
         ensures { result ≡ Touches.touched self instance read stored }
     {
         if read || stored {

@@ -45,7 +45,7 @@ fn evaluated(alloc: Global, checked: &Checked, bound: &Bound) -> Option<bool> {
     match evaluate(alloc, checked, "f", bound, 0) {
         Ok(outcome) => Some(is_right(&outcome)),
         Err(EvalFault::Memory) => None,
-        Err(EvalFault::NoEntry) => Some(false),
+        Err(EvalFault::NoEntry | EvalFault::NotIndependent(_)) => Some(false),
     }
 }
 

@@ -1,7 +1,7 @@
 use Rattle.std.proofs.Common.{◌<◌, ◌≤◌, length, sym, ◌∙◌, arith}
 use Rattle.std.proofs.lemmas.Bool.{true≢false}
 use Rattle.isp_entry.proofs.Beginners.{begins_at, none_more, none_at_all}
-use Rattle.isp_entry.proofs.entry.find.Goals as goal
+use Rattle.isp_entry.proofs.entry.find_number.Goals as goal
 
 pub returns-then-can_begin-clause-some : goal.returns-then-can_begin-clause-some
 returns-then-can_begin-clause-some c =

@@ -6,7 +6,7 @@ use Rattle.isp_base.specs.Arguments.{rows_now, tabulate}
 use Rattle.isp_base.specs.Maps.{Lanes}
 use Rattle.isp_base.specs.Rows.{Row}
 use Rattle.isp_fits.specs.Fits.{RowsFit}
-use Rattle.isp_model.specs.Cut.{rows_cut}
+use Rattle.isp_fits.specs.Cut.{rows_cut}
 
 pub fits_cut : (rs : List Row) (f : ℕ → Lanes) → RowsFit rs f → rows_cut rs f ≡ rows_now rs f
 fits_cut [] f h = refl

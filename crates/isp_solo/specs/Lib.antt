@@ -1,0 +1,5 @@
+pub mod Report
+pub mod Touched
+pub mod Left
+pub mod Together
+pub mod Came

@@ -1,0 +1,16 @@
+-- What the runs of the first instances come to, taken together.
+use Rattle.std.specs.Prelude.{◌≡◌, ℕ, zero, suc, ◌<◌, List}
+use Rattle.isp_base.specs.Rows.{Row}
+use Rattle.isp_alone.specs.Answers.{Answer}
+use Rattle.isp_alone.specs.Runs.{IsEnded, value_of}
+use Rattle.isp_single.specs.Touches.{touched_by}
+use Rattle.isp_solo.specs.Left.{rows_left}
+use Rattle.isp_solo.specs.Touched.{touched_seen}
+use Rattle.isp_solo.specs.declared.together.Together.{Together}
+
+-- of the first n instances, where the arrays were rs: how they touched the elements, what they left, and what the first gave
+pub record AreTogether (run : ℕ → Answer ℕ) (rs : List Row) (n : ℕ) (t : Together) : Type 0 where
+  pub end : (p : ℕ) → p < n → IsEnded (run p)
+  pub touched : (b e : ℕ) → touched_seen t.touched.items b e ≡ touched_by run n b e
+  pub arrays : t.arrays.items ≡ rows_left run rs n
+  pub given : 0 < n → t.given ≡ value_of (run 0)
