@@ -22,8 +22,15 @@ past (y ∷ fs) zero h = absurd (omega (arith, h))
 past (y ∷ fs) (suc f) h = past fs f (omega (arith, h))
 
 module _ (p : Program) (name : List ℕ) (xs : List Argument) where
-  pub begins_at : (f : ℕ) (x : TypedFunction) → f < length p.functions.items → x ≡ get_or p.functions.items f x → Can (function_of x) name xs → BeginsWith (program_of p) name xs (function_of x)
-  begins_at f x h e c = (f, record { export = record { found = there p.functions.items f x h e; named = c.1; exported = c.0 }; fits = c.2 })
+  pub begins_at : (f : ℕ) (x : TypedFunction) → f < length p.functions.items → x ≡ get_or p.functions.items f x → Can (function_of x) name xs → Begins (program_of p) name xs f
+  begins_at f x h e c = (function_of x, record { export = record { found = there p.functions.items f x h e; named = c.1; exported = c.0 }; fits = c.2 })
+
+  -- the function of a number with which it can begin
+  pub begins_with : (f : ℕ) (x : TypedFunction) → f < length p.functions.items → x ≡ get_or p.functions.items f x → Begins (program_of p) name xs f → BeginsWith (program_of p) name xs (function_of x)
+  begins_with f x h e b = (f, subst (λ (k : TFunction). IsEntry (program_of p) name xs f k) (some_same b.0 (function_of x) (sym b.1.export.found ∙ there p.functions.items f x h e)) b.1)
+    where
+      some_same : (g h : TFunction) → Some g ≡ Some h → g ≡ h
+      some_same g h k = cc
 
   can_of : (g h : TFunction) (f : ℕ) → g ≡ h → IsEntry (program_of p) name xs f h → Can g name xs
   can_of g h f e i = subst (λ (k : TFunction). Can k name xs) (sym e) (i.export.exported, i.export.named, i.fits)

@@ -6,12 +6,12 @@ use Rattle.isp_entry.proofs.entry.find_number.Goals as goal
 pub returns-then-can_begin-clause-some : goal.returns-then-can_begin-clause-some
 returns-then-can_begin-clause-some c =
     let h : c.loop-number.number < length c.args.program.now.functions.items = omega (arith, c.loop-number-test.true, c.len-number-end.ensures) in
-    begins_at c.args.program.now c.args.entry.now c.args.bound.now.arguments.items c.loop-number.number c.index-function.result.now h c.index-function.ensures (c.can_begin.ensures.0 c.if-can_begin.true)
+    begins_at c.args.program.now c.args.entry.now c.args.bound.now.arguments.items c.loop-number.number c.index.result.now h c.index.ensures (c.can_begin.ensures.0 c.if-can_begin.true)
 
 pub loop-number-preserved : goal.loop-number-preserved
 loop-number-preserved c =
     let h : c.loop-number.number < length c.args.program.now.functions.items = omega (arith, c.loop-number-test.true, c.len-number-end.ensures) in
-    none_more c.args.program.now c.args.entry.now c.args.bound.now.arguments.items c.loop-number.number c.index-function.result.now h c.index-function.ensures (λ can. true≢false (sym (c.can_begin.ensures.1 can) ∙ c.if-can_begin.false)) c.loop-number.invariant
+    none_more c.args.program.now c.args.entry.now c.args.bound.now.arguments.items c.loop-number.number c.index.result.now h c.index.ensures (λ can. true≢false (sym (c.can_begin.ensures.1 can) ∙ c.if-can_begin.false)) c.loop-number.invariant
 
 pub returns-clause-none : goal.returns-clause-none
 returns-clause-none c e =
