@@ -1,0 +1,136 @@
+-- The runs of instances, taken in one after the other: which elements they touched.
+use Rattle.std.proofs.Common.{◌≡◌, refl, sym, ap, ap₂, subst, ◌∙◌, ℕ, zero, suc, ◌+◌, ◌<◌, ◌≤◌, ◌⊎◌, inl, inr, ⊎_elim, Bool, true, false, List, [], ◌∷◌, Some, None, arith, length, get_or}
+use Rattle.std.specs.Prelude.{Option, is_some, slice_set}
+use Rattle.std.proofs.lemmas.Bool.{cases_eq, cases_lt, true≢false, false≢true}
+use Rattle.isp_base.specs.Maps.{put}
+use Rattle.isp_alone.specs.Answers.{Answer}
+use Rattle.isp_alone.specs.Touched.{Clash, AreApart}
+use Rattle.isp_gang.specs.Growing.{at_each}
+use Rattle.isp_gang.proofs.Vectors.{at_past, at_there, written}
+use Rattle.isp_single.specs.Arrays.{wrote_at, wrote_in, read_in, wrote_seen, read_seen}
+use Rattle.isp_single.specs.Touches.{touched, touched_by, touch_in, is_clash, FirstClash as FirstIn}
+use Rattle.isp_single.specs.declared.arrays.Shared.{Shared}
+use Rattle.isp_single.specs.declared.touches.Touch.{Touch}
+use Rattle.isp_single.specs.declared.touches.Touch.TheVariants.{Nobody}
+use Rattle.isp_single.proofs.Changed.{put_there, put_apart}
+use Rattle.isp_single.proofs.Touching.{clashes_are_found}
+use Rattle.isp_solo.specs.Report.{FirstClash}
+use Rattle.isp_solo.specs.Touched.{FirstAt, FirstOfAll, touched_at, touched_seen}
+use Rattle.isp_solo.specs.declared.touched.Touched.{Touched}
+
+-- ---- one array
+
+-- an element that is there is the same, whatever stands for those that are not
+anywhere : (d k : Touch) (xs : List Touch) (e : ℕ) → e < length xs → at_each (λ x. x) d xs e ≡ at_each (λ x. x) k xs e
+anywhere d k [] e h = absurd (omega (arith, h))
+anywhere d k (x ∷ xs) zero h = refl
+anywhere d k (x ∷ xs) (suc e) h = anywhere d k xs e (omega (arith, h))
+
+stored_past : (d : Bool) (x : ℕ) → is_some (wrote_at false d x) ≡ d
+stored_past true x = refl
+stored_past false x = refl
+
+module _ (others : Touch) (p : ℕ) (array : Shared) where
+  abbrev after_run : Touch → ℕ → Touch
+  after_run t e = touched t p (read_in array e) (is_some (wrote_in array e))
+
+  past : (t : Touch) (e : ℕ) → length array.stored.items ≤ e → length array.read.items ≤ e → touched t p false array.declared ≡ after_run t e
+  past t e s r =
+      ap₂ (λ (x y : Bool). touched t p x y) (sym (at_past (λ (x : Bool). x) false array.read.items e r))
+      (sym (ap (λ (m : Bool). is_some (wrote_at m array.declared (at_each (λ (x : ℕ). x) 0 array.work.items e))) (at_past (λ (x : Bool). x) false array.stored.items e s) ∙ stored_past array.declared (at_each (λ (x : ℕ). x) 0 array.work.items e)))
+
+  pub joined_at : (xs ys : List Touch) (next : Touch) → length ys ≡ length xs → length array.stored.items ≤ length xs → length array.read.items ≤ length xs
+      → ((e : ℕ) → e < length xs → touch_in ys e ≡ after_run (touch_in xs e) e) → next ≡ touched others p false array.declared
+      → (e : ℕ) → at_each (λ x. x) next ys e ≡ after_run (at_each (λ x. x) others xs e) e
+  joined_at xs ys next long stored read each is e = ⊎_elim there beyond (cases_lt e (length xs)) where
+    there : e < length xs → at_each (λ x. x) next ys e ≡ after_run (at_each (λ x. x) others xs e) e
+    there h = anywhere next Nobody ys e (omega (arith, h, long)) ∙ each e h ∙ ap (λ (t : Touch). after_run t e) (anywhere Nobody others xs e h)
+
+    beyond : (e < length xs → ⊥) → at_each (λ x. x) next ys e ≡ after_run (at_each (λ x. x) others xs e) e
+    beyond h =
+        at_past (λ (x : Touch). x) next ys e (omega (arith, h, long)) ∙ is ∙ past others e (omega (arith, h, stored)) (omega (arith, h, read))
+        ∙ ap (λ (t : Touch). after_run t e) (sym (at_past (λ (x : Touch). x) others xs e (omega (arith, h))))
+
+-- the first place at which two clash, among those that are told apart, or else the first of the others
+module _ (t : Touched) where
+  pub found_there : (n : ℕ) → FirstIn t.first.items (Some n) → FirstAt (touched_at t) (Some n)
+  found_there n f =
+      (ap is_clash (anywhere t.others Nobody t.first.items n f.0) ∙ f.1, λ e h. ap is_clash (anywhere t.others Nobody t.first.items e (let l = f.0 in omega (arith, h, l))) ∙ f.2 e h)
+
+  module _ (none : FirstIn t.first.items None) where
+    not_there : (e : ℕ) → e < length t.first.items → is_clash (touched_at t e) ≡ false
+    not_there e h = ap is_clash (anywhere t.others Nobody t.first.items e h) ∙ none e h
+
+    pub found_past : is_clash t.others ≡ true → FirstAt (touched_at t) (Some (length t.first.items))
+    found_past i = (ap is_clash (at_past (λ (x : Touch). x) t.others t.first.items (length t.first.items) (omega arith)) ∙ i, not_there)
+
+    pub found_nowhere : is_clash t.others ≡ false → FirstAt (touched_at t) None
+    found_nowhere i e =
+        ⊎_elim (λ (h : e < length t.first.items). not_there e h) (λ h. ap is_clash (at_past (λ (x : Touch). x) t.others t.first.items e (omega (arith, h))) ∙ i) (cases_lt e (length t.first.items))
+
+-- ---- all arrays, one after the other
+
+pub record Joined (p : ℕ) (arrays : List Shared) (old xs : List Touched) (i : ℕ) : Type 0 where
+  pub done : (b e : ℕ) → b < i → touched_seen xs b e ≡ touched (touched_seen old b e) p (read_seen arrays b e) (is_some (wrote_seen arrays b e))
+  pub left : (b e : ℕ) → i ≤ b → touched_seen xs b e ≡ touched_seen old b e
+
+pub joined_none : (p : ℕ) (arrays : List Shared) (old xs : List Touched) → touched_seen xs ≡ touched_seen old → Joined p arrays old xs 0
+joined_none p arrays old xs same = record { done = λ b e h. absurd (omega (arith, h)); left = λ b e h. ap (λ (f : ℕ → ℕ → Touch). f b e) same }
+
+module _ (p : ℕ) (arrays : List Shared) (old xs : List Touched) (i : ℕ) (t d : Touched) (s : Shared) (j : Joined p arrays old xs i) (lt : i < length xs) (there : i < length arrays) (di : d ≡ get_or xs i d) (si : s ≡ get_or arrays i s) where
+  pub joined_next : ((e : ℕ) → touched_at t e ≡ touched (touched_at d e) p (read_in s e) (is_some (wrote_in s e))) → Joined p arrays old (slice_set xs i t) (i + 1)
+  joined_next is = record {
+    done = λ b e h. ap (λ (g : ℕ → ℕ → Touch). g b e) set ∙ ⊎_elim (λ (k : b ≡ i). here b e k) (λ ne. ap (λ (g : ℕ → Touch). g e) (put_apart (touched_seen xs) i (touched_at t) b ne) ∙ j.done b e (omega (arith, ne, h))) (cases_eq b i);
+    left = λ b e h. ap (λ (g : ℕ → ℕ → Touch). g b e) set ∙ ap (λ (g : ℕ → Touch). g e) (put_apart (touched_seen xs) i (touched_at t) b (λ k. (omega (arith, k, h)))) ∙ j.left b e (omega (arith, h));
+  } where
+    set : touched_seen (slice_set xs i t) ≡ put (touched_seen xs) i (touched_at t)
+    set = written touched_at (λ e. Nobody) xs t i lt
+
+    before : (e : ℕ) → touched_at d e ≡ touched_seen old i e
+    before e = ap (λ (z : Touched). touched_at z e) di ∙ ap (λ (g : ℕ → Touch). g e) (sym (at_there touched_at (λ e. Nobody) xs i d lt)) ∙ j.left i e (omega arith)
+
+    reads : (e : ℕ) → read_in s e ≡ read_seen arrays i e
+    reads e = ap (λ (z : Shared). read_in z e) si ∙ ap (λ (g : ℕ → Bool). g e) (sym (at_there read_in (λ e. false) arrays i s there))
+
+    writes : (e : ℕ) → is_some (wrote_in s e) ≡ is_some (wrote_seen arrays i e)
+    writes e = ap (λ (z : Shared). is_some (wrote_in z e)) si ∙ ap (λ (g : ℕ → Option ℕ). is_some (g e)) (sym (at_there wrote_in (λ e. None) arrays i s there))
+
+    here : (b e : ℕ) → b ≡ i → put (touched_seen xs) i (touched_at t) b e ≡ touched (touched_seen old b e) p (read_seen arrays b e) (is_some (wrote_seen arrays b e))
+    here b e k =
+        ap (λ (z : ℕ). put (touched_seen xs) i (touched_at t) z e) k ∙ ap (λ (g : ℕ → Touch). g e) (put_there (touched_seen xs) i (touched_at t)) ∙ is e
+        ∙ ap (λ (z : Touch). touched z p (read_in s e) (is_some (wrote_in s e))) (before e)
+        ∙ ap₂ (λ (x y : Bool). touched (touched_seen old i e) p x y) (reads e) (writes e)
+        ∙ ap (λ (z : ℕ). touched (touched_seen old z e) p (read_seen arrays z e) (is_some (wrote_seen arrays z e))) (sym k)
+
+-- arrays that the run did not come to were not touched
+pub joined_all : (p : ℕ) (arrays : List Shared) (old xs : List Touched) (i : ℕ) → Joined p arrays old xs i → length arrays ≤ i
+    → (b e : ℕ) → touched_seen xs b e ≡ touched (touched_seen old b e) p (read_seen arrays b e) (is_some (wrote_seen arrays b e))
+joined_all p arrays old xs i j h b e = ⊎_elim (λ (l : b < i). j.done b e l) (λ l. j.left b e (omega (arith, l)) ∙ none (omega (arith, l, h))) (cases_lt b i) where
+  none : length arrays ≤ b → touched_seen old b e ≡ touched (touched_seen old b e) p (read_seen arrays b e) (is_some (wrote_seen arrays b e))
+  none l =
+      ap₂ (λ (f : ℕ → Bool) (g : ℕ → Option ℕ). touched (touched_seen old b e) p (f e) (is_some (g e))) (sym (at_past read_in (λ e. false) arrays b l)) (sym (at_past wrote_in (λ e. None) arrays b l))
+
+-- ---- what is found is the first clash
+
+module _ (run : ℕ → Answer ℕ) (gang : ℕ) (t : ℕ → ℕ → Touch) (is : (b e : ℕ) → t b e ≡ touched_by run gang b e) where
+  seen : (b e : ℕ) → Clash gang run b e → is_clash (t b e) ≡ true
+  seen b e c = ap is_clash (is b e) ∙ (clashes_are_found run gang b e).1 c
+
+  never : (b e : ℕ) → is_clash (t b e) ≡ false → Clash gang run b e → ⊥
+  never b e i c = true≢false (sym (seen b e c) ∙ i)
+
+  pub apart_all : FirstOfAll t None → AreApart gang run
+  apart_all none b e c = never b e (none b e) c
+
+  pub clash_first : (b e : ℕ) → FirstOfAll t (Some (b, e)) → FirstClash gang run b e
+  clash_first b e f = record {
+    clash = (clashes_are_found run gang b e).0 (sym (ap is_clash (is b e)) ∙ f.0);
+    first = λ c i k. ⊎_elim (λ (l : b < c). inl l) (λ l. inr (later c i k l)) (cases_lt b c);
+  } where
+    same : (c i : ℕ) → Clash gang run c i → (b < c → ⊥) → b ≡ c
+    same c i k l = ⊎_elim (λ (h : c < b). absurd (never c i (f.1 c i h) k)) (λ h. omega (arith, h, l)) (cases_lt c b)
+
+    later : (c i : ℕ) → Clash gang run c i → (b < c → ⊥) → (b ≡ c) × (e ≤ i)
+    later c i k l =
+        let j = same c i k l in
+        (j, ⊎_elim (λ (h : i < e). absurd (never b i (f.2 i h) (subst (λ (z : ℕ). Clash gang run z i) (sym j) k))) (λ h. omega (arith, h)) (cases_lt i e))

@@ -1,0 +1,220 @@
+-- Rows over which runs store what they stored, one after the other.
+use Rattle.std.proofs.Common.{◌≡◌, refl, sym, ap, ap₂, ◌∙◌, ℕ, zero, suc, ◌+◌, ◌<◌, ◌≤◌, ◌%◌, ◌^◌, List, [], ◌∷◌, ◌++◌, Some, None, arith, length, get_or, take, drop, append_assoc, ⊎_elim}
+use Rattle.std.specs.Prelude.{Option, option_map, slice_index, slice_set}
+use Rattle.std.specs.List.{All}
+use Rattle.std.proofs.Math.Path.{fun_ext}
+use Rattle.std.proofs.Math.Nat.{mod-eq_of_lt}
+use Rattle.std.proofs.Math.ListN.{length-set}
+use Rattle.std.proofs.Math.Seq.{take-suc, drop-cons}
+use Rattle.std.proofs.lemmas.Bool.{cases_eq}
+use Rattle.std.proofs.lemmas.List.{get_or-set_same, get_or-set_other}
+use Rattle.std.proofs.lemmas.List.Elements.{All-head, All-tail}
+use Rattle.isp_base.specs.Arguments.{rows, rows_now, row_bits, tabulate}
+use Rattle.isp_base.specs.Maps.{Lanes, or_old}
+use Rattle.isp_base.specs.Rows.{Row, Fit}
+use Rattle.isp_base.specs.Values.{width}
+use Rattle.isp_base.specs.declared.signature.Argument.{Argument}
+use Rattle.isp_base.specs.declared.signature.Argument.TheVariants.{Value as AValue, Array as AnArray}
+use Rattle.isp_base.specs.declared.types.Elem.{Elem}
+use Rattle.isp_alone.specs.Answers.{Answer, reached}
+use Rattle.isp_fits.specs.Cut.{cut, rows_cut}
+use Rattle.isp_fits.specs.Fits.{RowsFit}
+use Rattle.isp_solo.specs.Left.{row_over, rows_over, rows_left, left_by}
+
+-- ---- the first values of a function
+
+pub tabulate_same : (n : ℕ) (f g : Lanes) → ((i : ℕ) → i < n → f i ≡ g i) → tabulate n f ≡ tabulate n g
+tabulate_same zero f g h = refl
+tabulate_same (suc n) f g h =
+    ap₂ (λ (x : ℕ) (xs : List ℕ). x ∷ xs) (h 0 (omega arith)) (tabulate_same n (λ i. f (suc i)) (λ i. g (suc i)) (λ i k. h (suc i) (omega (arith, k))))
+
+tabulate_long : (n : ℕ) (f : Lanes) → length (tabulate n f) ≡ n
+tabulate_long zero f = refl
+tabulate_long (suc n) f = ap suc (tabulate_long n (λ i. f (suc i)))
+
+tabulate_at : (n : ℕ) (f : Lanes) (i : ℕ) → i < n → slice_index (tabulate n f) i ≡ f i
+tabulate_at zero f i h = absurd (omega (arith, h))
+tabulate_at (suc n) f zero h = refl
+tabulate_at (suc n) f (suc i) h = tabulate_at n (λ i. f (suc i)) i (omega (arith, h))
+
+listed : (xs : List ℕ) → tabulate (length xs) (λ i. slice_index xs i) ≡ xs
+listed [] = refl
+listed (x ∷ xs) = ap (λ ys. x ∷ ys) (listed xs)
+
+-- a list whose elements are these
+pub tabulated : (xs : List ℕ) (n : ℕ) (f : Lanes) → length xs ≡ n → ((i : ℕ) → i < n → slice_index xs i ≡ f i) → xs ≡ tabulate n f
+tabulated xs n f long h = sym (listed xs) ∙ ap (λ (k : ℕ). tabulate k (λ i. slice_index xs i)) long ∙ tabulate_same n (λ i. slice_index xs i) f h
+
+-- ---- what is cut, and over it what is stored
+
+abbrev made : Row → List ℕ → Row
+made r xs = record { elem = r.elem; bits = xs }
+
+cut_either : (k : ℕ) (o : Option ℕ) (x : ℕ) → or_old (option_map (λ y. y % 2 ^ k) o) (x % 2 ^ k) ≡ or_old o x % 2 ^ k
+cut_either k None x = refl
+cut_either k (Some y) x = refl
+
+over_cut : (r : Row) (f : Lanes) (w : ℕ → Option ℕ) → row_over (cut r f) w ≡ cut r (λ e. or_old (w e) (f e))
+over_cut r f w =
+    ap (λ (n : ℕ). made r (tabulate n (λ e. or_old (option_map (λ x. x % 2 ^ width r.elem) (w e)) (slice_index (tabulate (length r.bits) was) e)))) (tabulate_long (length r.bits) was)
+    ∙ ap (made r) (tabulate_same (length r.bits) _ _ (λ i h. ap (or_old (option_map (λ x. x % 2 ^ width r.elem) (w i))) (tabulate_at (length r.bits) was i h) ∙ cut_either (width r.elem) (w i) (f i)))
+  where
+    abbrev was : Lanes
+    was i = f i % 2 ^ width r.elem
+
+over_rows : (rs : List Row) (f : ℕ → Lanes) (w : ℕ → ℕ → Option ℕ) → rows_over (rows_cut rs f) w ≡ rows_cut rs (λ b e. or_old (w b e) (f b e))
+over_rows [] f w = refl
+over_rows (r ∷ rs) f w = ap₂ (λ (x : Row) (xs : List Row). x ∷ xs) (over_cut r (f 0) (w 0)) (over_rows rs (λ b. f (suc b)) (λ b. w (suc b)))
+
+abbrev FitRow : Row → Type 0
+FitRow r = Fit r.elem r.bits
+
+-- what fits is not changed by cutting it
+cut_row : (r : Row) → FitRow r → cut r (λ e. slice_index r.bits e) ≡ r
+cut_row r fit = ap (λ (f : Lanes). made r (tabulate (length r.bits) f)) (fun_ext (λ e. mod-eq_of_lt (fit e))) ∙ ap (made r) (listed r.bits)
+
+cut_all : (rs : List Row) → All (λ r. Fit r.elem r.bits) rs → rows_cut rs (λ b e. slice_index (row_bits rs b) e) ≡ rs
+cut_all [] a = refl
+cut_all (r ∷ rs) a = ap₂ (λ (x : Row) (xs : List Row). x ∷ xs) (cut_row r (All-head FitRow r rs a)) (cut_all rs (All-tail FitRow r rs a))
+
+-- the rows that runs leave have the elements that they leave, cut to their width
+pub left_is : (run : ℕ → Answer ℕ) (rs : List Row) → All (λ r. Fit r.elem r.bits) rs → (n : ℕ) → rows_left run rs n ≡ rows_cut rs (left_by run (λ b e. slice_index (row_bits rs b) e) n)
+left_is run rs a zero = sym (cut_all rs a)
+left_is run rs a (suc n) =
+    ap (λ (z : List Row). rows_over z (reached (run n)).wrote) (left_is run rs a n) ∙ over_rows rs (left_by run (λ b e. slice_index (row_bits rs b) e) n) (reached (run n)).wrote
+
+-- rows whose elements are those of others, which fit, are not changed by cutting them
+pub cut_same : (rs : List Row) (f g : ℕ → Lanes) → rows_now rs f ≡ rows_now rs g → RowsFit rs f → rows_cut rs g ≡ rows_now rs g
+cut_same [] f g e fit = refl
+cut_same (r ∷ rs) f g e fit =
+    ap₂ (λ (x : Row) (xs : List Row). x ∷ xs)
+    (ap (made r) (tabulate_same (length r.bits) (λ i. g 0 i % 2 ^ width r.elem) (g 0) (λ i h. mod-eq_of_lt (subst_below (f 0 i) (g 0 i) (2 ^ width r.elem) (element i h) (fit.0 i)))))
+    (cut_same rs (λ b. f (suc b)) (λ b. g (suc b)) (ap later e) fit.1)
+  where
+    later : List Row → List Row
+    later [] = []
+    later (x ∷ xs) = xs
+
+    first : List Row → List ℕ
+    first [] = []
+    first (x ∷ xs) = x.bits
+
+    bits_same : tabulate (length r.bits) (f 0) ≡ tabulate (length r.bits) (g 0)
+    bits_same = ap first e
+
+    element : (i : ℕ) → i < length r.bits → f 0 i ≡ g 0 i
+    element i h = sym (tabulate_at (length r.bits) (f 0) i h) ∙ ap (λ (xs : List ℕ). slice_index xs i) bits_same ∙ tabulate_at (length r.bits) (g 0) i h
+
+    subst_below : (x y k : ℕ) → x ≡ y → x < k → y < k
+    subst_below x y k i h = omega (arith, i, h)
+
+-- ---- rows one by one
+
+-- the first n have what is stored
+abbrev pub first_over : ℕ → List Row → (ℕ → ℕ → Option ℕ) → List Row
+first_over zero rs w = rs
+first_over (suc n) [] w = []
+first_over (suc n) (r ∷ rs) w = row_over r (w 0) ∷ first_over n rs (λ b. w (suc b))
+
+pub one_over : (n : ℕ) (rs : List Row) (w : ℕ → ℕ → Option ℕ) (d s : Row) → n < length rs → d ≡ get_or (first_over n rs w) n d → s ≡ row_over d (w n) → slice_set (first_over n rs w) n s ≡ first_over (suc n) rs w
+one_over n [] w d s h e i = absurd (omega (arith, h))
+one_over zero (r ∷ rs) w d s h e i = ap (λ (x : Row). x ∷ rs) (i ∙ ap (λ (x : Row). row_over x (w 0)) e)
+one_over (suc n) (r ∷ rs) w d s h e i = ap (λ (xs : List Row). row_over r (w 0) ∷ xs) (one_over n rs (λ b. w (suc b)) d s (omega (arith, h)) e i)
+
+pub all_over : (n : ℕ) (rs : List Row) (w : ℕ → ℕ → Option ℕ) → length rs ≤ n → first_over n rs w ≡ rows_over rs w
+all_over zero [] w h = refl
+all_over zero (r ∷ rs) w h = absurd (omega (arith, h))
+all_over (suc n) [] w h = refl
+all_over (suc n) (r ∷ rs) w h = ap (λ (xs : List Row). row_over r (w 0) ∷ xs) (all_over n rs (λ b. w (suc b)) (omega (arith, h)))
+
+pub over_long : (n : ℕ) (rs : List Row) (w : ℕ → ℕ → Option ℕ) → length (first_over n rs w) ≡ length rs
+over_long zero rs w = refl
+over_long (suc n) [] w = refl
+over_long (suc n) (r ∷ rs) w = ap suc (over_long n rs (λ b. w (suc b)))
+
+-- ---- elements one by one
+
+-- the first n elements have what is stored, the others what they had
+pub record StoredTo (old now : Row) (w : ℕ → Option ℕ) (n : ℕ) : Type 0 where
+  pub elem : now.elem ≡ old.elem
+  pub long : length now.bits ≡ length old.bits
+  pub done : (e : ℕ) → e < n → slice_index now.bits e ≡ or_old (option_map (λ x. x % 2 ^ width old.elem) (w e)) (slice_index old.bits e)
+  pub left : (e : ℕ) → n ≤ e → slice_index now.bits e ≡ slice_index old.bits e
+
+pub stored_none : (r : Row) (w : ℕ → Option ℕ) → StoredTo r r w 0
+stored_none r w = record { elem = refl; long = refl; done = λ e h. absurd (omega (arith, h)); left = λ e h. refl }
+
+module _ (old now : Row) (w : ℕ → Option ℕ) (n : ℕ) (s : StoredTo old now w n) where
+  pub stored_skip : w n ≡ None → StoredTo old now w (n + 1)
+  stored_skip none = record {
+    elem = s.elem;
+    long = s.long;
+    done = λ e h. ⊎_elim (λ (i : e ≡ n). kept e i) (λ ne. s.done e (omega (arith, h, ne))) (cases_eq e n);
+    left = λ e h. s.left e (omega (arith, h));
+  } where
+    kept : (e : ℕ) → e ≡ n → slice_index now.bits e ≡ or_old (option_map (λ x. x % 2 ^ width old.elem) (w e)) (slice_index old.bits e)
+    kept e i =
+        s.left e (omega (arith, i)) ∙ ap (λ (o : Option ℕ). or_old (option_map (λ x. x % 2 ^ width old.elem) o) (slice_index old.bits e)) (sym none ∙ ap w (sym i))
+
+  pub stored_next : (new : Row) (t : Elem) (x y : ℕ) → n < length now.bits → w n ≡ Some x → t ≡ now.elem → y ≡ x % 2 ^ width t → new ≡ record { elem = now.elem; bits = slice_set now.bits n y } → StoredTo old new w (n + 1)
+  stored_next new t x y lt some et ey en = record {
+    elem = ap (λ (r : Row). r.elem) en ∙ s.elem;
+    long = ap (λ (r : Row). length r.bits) en ∙ length-set now.bits n y ∙ s.long;
+    done = λ e h. ap (λ (r : Row). slice_index r.bits e) en ∙ ⊎_elim (λ (i : e ≡ n). here e i) (λ ne. get_or-set_other now.bits n e y 0 ne ∙ s.done e (omega (arith, h, ne))) (cases_eq e n);
+    left = λ e h. ap (λ (r : Row). slice_index r.bits e) en ∙ get_or-set_other now.bits n e y 0 (λ i. (omega (arith, h, i))) ∙ s.left e (omega (arith, h));
+  } where
+    value : y ≡ x % 2 ^ width old.elem
+    value = ey ∙ ap (λ (u : Elem). x % 2 ^ width u) (et ∙ s.elem)
+
+    here : (e : ℕ) → e ≡ n → slice_index (slice_set now.bits n y) e ≡ or_old (option_map (λ x. x % 2 ^ width old.elem) (w e)) (slice_index old.bits e)
+    here e i =
+        ap (λ (k : ℕ). slice_index (slice_set now.bits n y) k) i ∙ get_or-set_same now.bits n y 0 lt ∙ value
+        ∙ ap (λ (o : Option ℕ). or_old (option_map (λ x. x % 2 ^ width old.elem) o) (slice_index old.bits e)) (sym some ∙ ap w (sym i))
+
+  pub stored_all : length old.bits ≤ n → now ≡ row_over old w
+  stored_all h =
+      ap₂ (λ (t : Elem) (xs : List ℕ). made_of t xs) s.elem
+      (tabulated now.bits (length old.bits) (λ e. or_old (option_map (λ x. x % 2 ^ width old.elem) (w e)) (slice_index old.bits e)) s.long (λ e k. s.done e (omega (arith, h, k))))
+    where
+      abbrev made_of : Elem → List ℕ → Row
+      made_of t xs = record { elem = t; bits = xs }
+
+-- ---- copies
+
+take_all : (k : ℕ) (xs : List ℕ) → length xs ≤ k → take k xs ≡ xs
+take_all zero [] h = refl
+take_all zero (x ∷ xs) h = absurd (omega (arith, h))
+take_all (suc k) [] h = refl
+take_all (suc k) (x ∷ xs) h = ap (λ ys. x ∷ ys) (take_all k xs (omega (arith, h)))
+
+pub copied_more : (r now new : Row) (k x : ℕ) → k < length r.bits → now ≡ record { elem = r.elem; bits = take k r.bits } → x ≡ slice_index r.bits k → new ≡ record { elem = now.elem; bits = now.bits ++ x ∷ [] }
+    → new ≡ record { elem = r.elem; bits = take (k + 1) r.bits }
+copied_more r now new k x h is ex en =
+    en ∙ ap (λ (z : Row). made z (z.bits ++ x ∷ [])) is
+    ∙ ap (made r) (ap (λ (y : ℕ). take k r.bits ++ y ∷ []) ex ∙ sym (take-suc r.bits k 0 h) ∙ ap (λ (n : ℕ). take n r.bits) (let i : suc k ≡ k + 1 = omega arith in i))
+
+pub copied_all : (r now : Row) (k : ℕ) → length r.bits ≤ k → now ≡ record { elem = r.elem; bits = take k r.bits } → now ≡ r
+copied_all r now k h is = is ∙ ap (made r) (take_all k r.bits h)
+
+one_row : (x : Argument) (ys : List Argument) → rows (x ∷ ys) ≡ rows (x ∷ []) ++ rows ys
+one_row (AValue v) ys = refl
+one_row (AnArray r) ys = refl
+
+pub copies_more : (out new total : List Row) (k : ℕ) (xs : List Argument) (x : Argument) → k < length xs → x ≡ get_or xs k x → new ≡ out ++ rows (x ∷ []) → out ++ rows (drop k xs) ≡ total → new ++ rows (drop (k + 1) xs) ≡ total
+copies_more out new total k xs x h e en is =
+    ap₂ (λ (z : List Row) (n : ℕ). z ++ rows (drop n xs)) en (let i : k + 1 ≡ suc k = omega arith in i)
+    ∙ append_assoc out (rows (x ∷ [])) (rows (drop (suc k) xs))
+    ∙ ap (λ (z : List Row). out ++ z) (sym (one_row x (drop (suc k) xs)) ∙ ap (λ (y : Argument). rows (y ∷ drop (suc k) xs)) e ∙ ap rows (sym (drop-cons xs k x h))) ∙ is
+
+drop_all : (k : ℕ) (xs : List Argument) → length xs ≤ k → drop k xs ≡ []
+drop_all zero [] h = refl
+drop_all (suc k) [] h = refl
+drop_all zero (x ∷ xs) h = absurd (omega (arith, h))
+drop_all (suc k) (x ∷ xs) h = drop_all k xs (omega (arith, h))
+
+append_nil : (xs : List Row) → xs ++ [] ≡ xs
+append_nil [] = refl
+append_nil (x ∷ xs) = ap (λ ys. x ∷ ys) (append_nil xs)
+
+pub copies_end : (out total : List Row) (k : ℕ) (xs : List Argument) → length xs ≤ k → out ++ rows (drop k xs) ≡ total → out ≡ total
+copies_end out total k xs h is = sym (append_nil out) ∙ ap (λ (ys : List Argument). out ++ rows ys) (sym (drop_all k xs h)) ∙ is
