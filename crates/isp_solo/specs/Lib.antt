@@ -1,4 +1,3 @@
-pub mod Places
 pub mod Report
 pub mod Touched
 pub mod Left

@@ -1,5 +1,5 @@
 //! What a record of the table says, and its comparison with a run.
-use crate::touched::{Named, named, read, stored};
+use crate::touched::{Named, arrays_of, read, stored};
 use isp_base::Gang;
 use isp_bind::bind;
 use isp_lex::{SourceFault, lex};
@@ -99,7 +99,8 @@ fn told(alloc: Global, ending: Ending) -> Result<String, AllocError> {
     }
 }
 
-fn found(alloc: Global, arrays: &[Named<'_>], run: Run) -> Result<Found, AllocError> {
+// What a run came to, in words.
+fn worded(alloc: Global, arrays: &[Named<'_>], run: Run) -> Result<Found, AllocError> {
     Ok(Found {
         ending: told(alloc, run.ending)?,
         stored: stored(alloc, arrays, &run.arrays)?,
@@ -109,7 +110,7 @@ fn found(alloc: Global, arrays: &[Named<'_>], run: Run) -> Result<Found, AllocEr
 }
 
 // The run of a source by one instance, with the arrays of an earlier run.
-fn run(alloc: Global, source: &str, call: Call<'_>, arrays: Arrays) -> Result<Found, Fail> {
+fn found_by(alloc: Global, source: &str, call: Call<'_>, arrays: Arrays) -> Result<Found, Fail> {
     let checked = front(alloc, source, call.gang)?;
     let (Some(signature), Some(number)) = (checked.signature(call.entry), checked.entry(call.entry))
     else {
@@ -117,7 +118,7 @@ fn run(alloc: Global, source: &str, call: Call<'_>, arrays: Arrays) -> Result<Fo
     };
     let bound = bind(alloc, signature, call.arguments)?;
     let arguments = bound.arguments.as_slice();
-    let names = named(alloc, signature.params.as_slice(), arguments)?;
+    let names = arrays_of(alloc, signature.params.as_slice(), arguments)?;
     let run = run_alone(
         checked.program(),
         number,
@@ -126,7 +127,7 @@ fn run(alloc: Global, source: &str, call: Call<'_>, arrays: Arrays) -> Result<Fo
         call.instance,
         arrays,
     )?;
-    Ok(found(alloc, names.as_slice(), run)?)
+    Ok(worded(alloc, names.as_slice(), run)?)
 }
 
 // What a record says of the end of a run; a trap has the source's place, and names the instance.
@@ -148,7 +149,7 @@ fn same(rt: &impl Abort, name: &str, found: &str, wanted: &str) {
 fn compare(rt: &impl Abort, alloc: Global, row: Row<'_>, arrays: Arrays) -> Result<Arrays, Fail> {
     let marked = Marked::new(alloc, row.source)?;
     let ending = wanted(alloc, &marked, row)?;
-    let found = run(alloc, marked.source.as_str(), row.call, arrays)?;
+    let found = found_by(alloc, marked.source.as_str(), row.call, arrays)?;
     same(rt, row.name, found.ending.as_str(), ending.as_str());
     same(rt, row.name, found.stored.as_str(), row.stored);
     same(rt, row.name, found.read.as_str(), row.read);

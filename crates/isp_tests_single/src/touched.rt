@@ -11,7 +11,7 @@ pub(crate) struct Named<'a> {
 }
 
 /// The arrays among the arguments, in order: the numbers of their stores.
-pub(crate) fn named<'a>(
+pub(crate) fn arrays_of<'a>(
     alloc: Global,
     parameters: &'a [Parameter],
     arguments: &[Argument],
