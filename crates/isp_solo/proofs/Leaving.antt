@@ -60,11 +60,6 @@ all_over zero (r ∷ rs) w h = absurd (omega (arith, h))
 all_over (suc n) [] w h = refl
 all_over (suc n) (r ∷ rs) w h = ap (λ (xs : List Row). row_over r (w 0) ∷ xs) (all_over n rs (λ b. w (suc b)) (omega (arith, h)))
 
-pub over_long : (n : ℕ) (rs : List Row) (w : ℕ → ℕ → Option ℕ) → length (first_over n rs w) ≡ length rs
-over_long zero rs w = refl
-over_long (suc n) [] w = refl
-over_long (suc n) (r ∷ rs) w = ap suc (over_long n rs (λ b. w (suc b)))
-
 -- ---- elements one by one
 
 abbrev of_type : Elem → List ℕ → Row

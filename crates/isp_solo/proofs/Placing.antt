@@ -11,6 +11,9 @@ pub passed_array : (r : Row) (b : ℕ) → (b ≡ 0 → ⊥) → Some (b - 1) �
 passed_array r zero ne = absurd (ne refl)
 passed_array r (suc b) ne = ap (λ (k : ℕ). Some k) (let i : suc b - 1 ≡ b = omega arith in i)
 
+pub passed_first : (r : Row) (b : ℕ) → b ≡ 0 → None ≡ passed (AnArray r) b
+passed_first r b e = ap (passed (AnArray r)) (sym e)
+
 found_first : (x : Argument) (ys : List Argument) (b : ℕ) → passed x b ≡ None → array_place (x ∷ ys) b ≡ 0
 found_first (AValue v) ys b e = absurd (let no : ⊥ = cc in no)
 found_first (AnArray r) ys zero e = refl
