@@ -40,7 +40,7 @@ module _ (program : TProgram) (name : List ℕ) (f : ℕ) (h : TFunction) (xs : 
 -- ---- for the function that was found
 
 module _ (p q : Program) (same : p ≡ q) (name : List ℕ) (f : ℕ) (xs : List Argument) (accepted : IsAccepted (program_of q)) (begins : Begins (program_of p) name xs f) where
-  begins_there : Begins (program_of q) name xs f
+  pub begins_there : Begins (program_of q) name xs f
   begins_there = subst (λ (z : Program). Begins (program_of z) name xs f) same begins
 
   pub entry_number : entry_from name 0 q.functions.items ≡ Some f
