@@ -24,9 +24,9 @@ none_together run rs t none same = record {
 }
 
 module _ (run : ℕ → Answer ℕ) (rs : List Row) (n : ℕ) (old new : Together) (r : Run) (value : ℕ) (gave : r.ending ≡ Gave value) (before : AreTogether run rs n old) (is : IsRunOf (run n) r)
-  (touches : (b e : ℕ) → touched_seen new.touched.items b e ≡ touched (touched_seen old.touched.items b e) n (read_seen r.arrays.stores.items b e) (is_some (wrote_seen r.arrays.stores.items b e)))
-  (left : new.arrays.items ≡ rows_over old.arrays.items (wrote_seen r.arrays.stores.items))
-  (first : n ≡ 0 → new.given ≡ value) (later : (n ≡ 0 → ⊥) → new.given ≡ old.given) where
+    (touches : (b e : ℕ) → touched_seen new.touched.items b e ≡ touched (touched_seen old.touched.items b e) n (read_seen r.arrays.stores.items b e) (is_some (wrote_seen r.arrays.stores.items b e)))
+    (left : new.arrays.items ≡ rows_over old.arrays.items (wrote_seen r.arrays.stores.items))
+    (first : n ≡ 0 → new.given ≡ value) (later : (n ≡ 0 → ⊥) → new.given ≡ old.given) where
   came : run n ≡ Has value (reached (run n))
   came = is.ending ∙ ap (λ e. ended_in e (reached (run n))) gave
 

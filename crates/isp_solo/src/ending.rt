@@ -61,12 +61,6 @@ fn pass(argument: &Argument, left: usize) -> Option<usize>
 {
     match argument {
         Argument::Value(_) => Some(left),
-        Argument::Array(_) => {
-            if left == 0 {
-                None
-            } else {
-                Some(left - 1)
-            }
-        }
+        Argument::Array(_) => { if left == 0 { None } else { Some(left - 1) } }
     }
 }

@@ -1,12 +1,10 @@
 //! What the runs of the instances so far come to, taken together.
-ghost use Rattle.std.specs.Prelude.{◌≡◌, ◌+◌, ℕ, List, IfOk, OnOk};
+ghost use Rattle.std.specs.Prelude.{◌≡◌, ℕ, IfOk, OnOk};
 ghost use Rattle.std.specs.List.{All};
 ghost use Rattle.isp_base.specs.Arguments.{rows};
-ghost use Rattle.isp_base.specs.Rows.{Fit, Row};
+ghost use Rattle.isp_base.specs.Rows.{Fit};
 ghost use Rattle.isp_alone.specs.Answers.{Answer};
-ghost use Rattle.isp_single.specs.Ends.{IsRunOf};
-ghost use Rattle.isp_single.specs.declared.running.Ending.TheVariants.{Gave};
-ghost use Rattle.isp_solo.specs.Together.{AreTogether};
+ghost use Rattle.isp_solo.specs.Together.{Adds, AreTogether};
 
 use crate::left::{copies, store_run};
 use crate::touched::{Touched, join_run};
@@ -43,8 +41,7 @@ impl Together {
         instance: usize,
         value: u64,
     ) -> Result<(), AllocError>
-        ensures { OnOk result ((runs : ℕ → Answer ℕ) (rs : List Row) → AreTogether runs rs instance self.old → IsRunOf (runs instance) run.now
-            → run.now.ending ≡ Gave value → AreTogether runs rs (instance + 1) self.new) }
+        ensures { OnOk result (Adds run.now instance value self.old self.new) }
     {
         join_run(alloc, &mut self.touched, &run.arrays, instance)?;
         store_run(self.arrays.as_mut_slice(), &run.arrays);

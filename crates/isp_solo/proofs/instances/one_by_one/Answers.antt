@@ -19,11 +19,12 @@ independent-requires c =
     entry_there c.program-program.result.now c.args.checked.now c.program-program.ensures.same c.args.entry.now c.in-Some.function c.args.bound.now.arguments.items c.program-program.ensures.accepted c.in-Some.ensures.some
 
 pub returns-in-Err-clause-err : goal.returns-in-Err-clause-err
-returns-in-Err-clause-err c =
-    (c.in-Some.function,
-      begins_there c.program-program.result.now c.args.checked.now c.program-program.ensures.same c.args.entry.now c.in-Some.function c.args.bound.now.arguments.items c.program-program.ensures.accepted c.in-Some.ensures.some,
-      c.in-Err.ensures.err c.in-Some.function
-        (entry_number c.program-program.result.now c.args.checked.now c.program-program.ensures.same c.args.entry.now c.in-Some.function c.args.bound.now.arguments.items c.program-program.ensures.accepted c.in-Some.ensures.some))
+returns-in-Err-clause-err c = (
+  c.in-Some.function,
+  begins_there c.program-program.result.now c.args.checked.now c.program-program.ensures.same c.args.entry.now c.in-Some.function c.args.bound.now.arguments.items c.program-program.ensures.accepted c.in-Some.ensures.some,
+  c.in-Err.ensures.err c.in-Some.function
+      (entry_number c.program-program.result.now c.args.checked.now c.program-program.ensures.same c.args.entry.now c.in-Some.function c.args.bound.now.arguments.items c.program-program.ensures.accepted c.in-Some.ensures.some),
+)
 
 pub returns-clause-ok : goal.returns-clause-ok
 returns-clause-ok c =

@@ -20,10 +20,11 @@ loop-instance-preserved c =
     c.in_ok-add-in-Gave.ensures (solo_run (program_of c.args.program.now) c.args.function c.args.turns c.args.arguments.now (bound c.args.arguments.now)) (rows c.args.arguments.now) c.loop-instance.invariant c.in_ok-run.ensures c.in-Gave.is
 
 pub returns-in-Trapped-clause-came : goal.returns-in-Trapped-clause-came
-returns-in-Trapped-clause-came c = λ h found.
-    (c.loop-instance.instance,
-      trapped_first (gang_width c.args.program.now.gang) (solo_run (program_of c.args.program.now) c.args.function c.args.turns c.args.arguments.now (bound c.args.arguments.now)) c.loop-instance.instance c.in_ok-run.run'
-        (omega (arith, c.loop-instance-test.true, c.width-instance-end.ensures)) c.loop-instance.invariant.end c.in_ok-run.ensures _ c.in-Trapped.is)
+returns-in-Trapped-clause-came c = λ h found. (
+  c.loop-instance.instance,
+  trapped_first (gang_width c.args.program.now.gang) (solo_run (program_of c.args.program.now) c.args.function c.args.turns c.args.arguments.now (bound c.args.arguments.now)) c.loop-instance.instance c.in_ok-run.run'
+      (omega (arith, c.loop-instance-test.true, c.width-instance-end.ensures)) c.loop-instance.invariant.end c.in_ok-run.ensures _ c.in-Trapped.is,
+)
 
 pub returns-in-Cut-clause-came : goal.returns-in-Cut-clause-came
 returns-in-Cut-clause-came c = λ h found.
