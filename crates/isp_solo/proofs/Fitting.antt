@@ -30,10 +30,10 @@ use Rattle.isp_fits.proofs.Runs.{elements_fit, result_fits}
 use Rattle.isp_instances.proofs.Entry.{solo_runs_agree}
 use Rattle.isp_solo.specs.Left.{rows_left}
 use Rattle.isp_solo.specs.Report.{AllEnd, left_upward, upward}
-use Rattle.isp_solo.proofs.Leaving.{cut_same, left_is}
+use Rattle.isp_solo.proofs.Cuts.{cut_same, left_is}
 use Rattle.isp_solo.proofs.Upward.{upward_left, upward_order}
 
-some_instance : (g : Gang) → 0 < gang_width g
+pub some_instance : (g : Gang) → 0 < gang_width g
 some_instance W4 = omega arith
 some_instance W8 = omega arith
 some_instance W16 = omega arith

@@ -1,20 +1,16 @@
 -- The runs of instances, taken in one after the other: which elements they touched.
-use Rattle.std.proofs.Common.{◌≡◌, refl, sym, ap, ap₂, subst, ◌∙◌, ℕ, zero, suc, ◌+◌, ◌<◌, ◌≤◌, ◌⊎◌, inl, inr, ⊎_elim, Bool, true, false, List, [], ◌∷◌, Some, None, arith, length, get_or}
+use Rattle.std.proofs.Common.{◌≡◌, refl, sym, ap, ap₂, ◌∙◌, ℕ, zero, suc, ◌+◌, ◌<◌, ◌≤◌, ⊎_elim, Bool, true, false, List, [], ◌∷◌, Some, None, arith, length, get_or}
 use Rattle.std.specs.Prelude.{Option, is_some, slice_set}
-use Rattle.std.proofs.lemmas.Bool.{cases_eq, cases_lt, true≢false, false≢true}
+use Rattle.std.proofs.lemmas.Bool.{cases_eq, cases_lt}
 use Rattle.isp_base.specs.Maps.{put}
-use Rattle.isp_alone.specs.Answers.{Answer}
-use Rattle.isp_alone.specs.Touched.{Clash, AreApart}
 use Rattle.isp_gang.specs.Growing.{at_each}
 use Rattle.isp_gang.proofs.Vectors.{at_past, at_there, written}
 use Rattle.isp_single.specs.Arrays.{wrote_at, wrote_in, read_in, wrote_seen, read_seen}
-use Rattle.isp_single.specs.Touches.{touched, touched_by, touch_in, is_clash, FirstClash as FirstIn}
+use Rattle.isp_single.specs.Touches.{touched, touch_in, is_clash, FirstClash as FirstIn}
 use Rattle.isp_single.specs.declared.arrays.Shared.{Shared}
 use Rattle.isp_single.specs.declared.touches.Touch.{Touch}
 use Rattle.isp_single.specs.declared.touches.Touch.TheVariants.{Nobody}
 use Rattle.isp_single.proofs.Changed.{put_there, put_apart}
-use Rattle.isp_single.proofs.Touching.{clashes_are_found}
-use Rattle.isp_solo.specs.Report.{FirstClash}
 use Rattle.isp_solo.specs.Touched.{FirstAt, FirstOfAll, touched_at, touched_seen}
 use Rattle.isp_solo.specs.declared.touched.Touched.{Touched}
 
@@ -46,7 +42,7 @@ module _ (others : Touch) (p : ℕ) (array : Shared) where
     there : e < length xs → at_each (λ x. x) next ys e ≡ after_run (at_each (λ x. x) others xs e) e
     there h = anywhere next Nobody ys e (omega (arith, h, long)) ∙ each e h ∙ ap (λ (t : Touch). after_run t e) (anywhere Nobody others xs e h)
 
-    beyond : (e < length xs → ⊥) → at_each (λ x. x) next ys e ≡ after_run (at_each (λ x. x) others xs e) e
+    beyond : length xs ≤ e → at_each (λ x. x) next ys e ≡ after_run (at_each (λ x. x) others xs e) e
     beyond h =
         at_past (λ (x : Touch). x) next ys e (omega (arith, h, long)) ∙ is ∙ past others e (omega (arith, h, stored)) (omega (arith, h, read))
         ∙ ap (λ (t : Touch). after_run t e) (sym (at_past (λ (x : Touch). x) others xs e (omega (arith, h))))
@@ -110,27 +106,20 @@ joined_all p arrays old xs i j h b e = ⊎_elim (λ (l : b < i). j.done b e l) (
   none l =
       ap₂ (λ (f : ℕ → Bool) (g : ℕ → Option ℕ). touched (touched_seen old b e) p (f e) (is_some (g e))) (sym (at_past read_in (λ e. false) arrays b l)) (sym (at_past wrote_in (λ e. None) arrays b l))
 
--- ---- what is found is the first clash
+-- ---- the first clash, array by array
 
-module _ (run : ℕ → Answer ℕ) (gang : ℕ) (t : ℕ → ℕ → Touch) (is : (b e : ℕ) → t b e ≡ touched_by run gang b e) where
-  seen : (b e : ℕ) → Clash gang run b e → is_clash (t b e) ≡ true
-  seen b e c = ap is_clash (is b e) ∙ (clashes_are_found run gang b e).1 c
+module _ (ts : List Touched) (i : ℕ) (before : (b e : ℕ) → b < i → is_clash (touched_seen ts b e) ≡ false) where
+  module _ (d : Touched) (lt : i < length ts) (di : d ≡ get_or ts i d) where
+    same : touched_seen ts i ≡ touched_at d
+    same = at_there touched_at (λ e. Nobody) ts i d lt ∙ ap touched_at (sym di)
 
-  never : (b e : ℕ) → is_clash (t b e) ≡ false → Clash gang run b e → ⊥
-  never b e i c = true≢false (sym (seen b e c) ∙ i)
+    pub first_here : (n : ℕ) → FirstAt (touched_at d) (Some n) → FirstOfAll (touched_seen ts) (Some (i, n))
+    first_here n f = (ap (λ (g : ℕ → Touch). is_clash (g n)) same ∙ f.0, before, λ e h. ap (λ (g : ℕ → Touch). is_clash (g e)) same ∙ f.1 e h)
 
-  pub apart_all : FirstOfAll t None → AreApart gang run
-  apart_all none b e c = never b e (none b e) c
+    pub none_here : FirstAt (touched_at d) None → (b e : ℕ) → b < i + 1 → is_clash (touched_seen ts b e) ≡ false
+    none_here f b e h =
+        ⊎_elim (λ (k : b ≡ i). ap (λ (z : ℕ). is_clash (touched_seen ts z e)) k ∙ ap (λ (g : ℕ → Touch). is_clash (g e)) same ∙ f e) (λ ne. before b e (omega (arith, h, ne))) (cases_eq b i)
 
-  pub clash_first : (b e : ℕ) → FirstOfAll t (Some (b, e)) → FirstClash gang run b e
-  clash_first b e f = record {
-    clash = (clashes_are_found run gang b e).0 (sym (ap is_clash (is b e)) ∙ f.0);
-    first = λ c i k. ⊎_elim (λ (l : b < c). inl l) (λ l. inr (later c i k l)) (cases_lt b c);
-  } where
-    same : (c i : ℕ) → Clash gang run c i → (b < c → ⊥) → b ≡ c
-    same c i k l = ⊎_elim (λ (h : c < b). absurd (never c i (f.1 c i h) k)) (λ h. omega (arith, h, l)) (cases_lt c b)
-
-    later : (c i : ℕ) → Clash gang run c i → (b < c → ⊥) → (b ≡ c) × (e ≤ i)
-    later c i k l =
-        let j = same c i k l in
-        (j, ⊎_elim (λ (h : i < e). absurd (never b i (f.2 i h) (subst (λ (z : ℕ). Clash gang run z i) (sym j) k))) (λ h. omega (arith, h)) (cases_lt i e))
+  pub none_past : length ts ≤ i → FirstOfAll (touched_seen ts) None
+  none_past h b e =
+      ⊎_elim (λ (k : b < i). before b e k) (λ k. ap (λ (g : ℕ → Touch). is_clash (g e)) (at_past touched_at (λ e. Nobody) ts b (omega (arith, h, k)))) (cases_lt b i)

@@ -1,25 +1,18 @@
 -- Rows over which runs store what they stored, one after the other.
 use Rattle.std.proofs.Common.{◌≡◌, refl, sym, ap, ap₂, ◌∙◌, ℕ, zero, suc, ◌+◌, ◌<◌, ◌≤◌, ◌%◌, ◌^◌, List, [], ◌∷◌, ◌++◌, Some, None, arith, length, get_or, take, drop, append_assoc, ⊎_elim}
 use Rattle.std.specs.Prelude.{Option, option_map, slice_index, slice_set}
-use Rattle.std.specs.List.{All}
-use Rattle.std.proofs.Math.Path.{fun_ext}
-use Rattle.std.proofs.Math.Nat.{mod-eq_of_lt}
 use Rattle.std.proofs.Math.ListN.{length-set}
 use Rattle.std.proofs.Math.Seq.{take-suc, drop-cons}
 use Rattle.std.proofs.lemmas.Bool.{cases_eq}
 use Rattle.std.proofs.lemmas.List.{get_or-set_same, get_or-set_other}
-use Rattle.std.proofs.lemmas.List.Elements.{All-head, All-tail}
-use Rattle.isp_base.specs.Arguments.{rows, rows_now, row_bits, tabulate}
+use Rattle.isp_base.specs.Arguments.{rows, tabulate}
 use Rattle.isp_base.specs.Maps.{Lanes, or_old}
-use Rattle.isp_base.specs.Rows.{Row, Fit}
+use Rattle.isp_base.specs.Rows.{Row}
 use Rattle.isp_base.specs.Values.{width}
 use Rattle.isp_base.specs.declared.signature.Argument.{Argument}
 use Rattle.isp_base.specs.declared.signature.Argument.TheVariants.{Value as AValue, Array as AnArray}
 use Rattle.isp_base.specs.declared.types.Elem.{Elem}
-use Rattle.isp_alone.specs.Answers.{Answer, reached}
-use Rattle.isp_fits.specs.Cut.{cut, rows_cut}
-use Rattle.isp_fits.specs.Fits.{RowsFit}
-use Rattle.isp_solo.specs.Left.{row_over, rows_over, rows_left, left_by}
+use Rattle.isp_solo.specs.Left.{row_over, rows_over}
 
 -- ---- the first values of a function
 
@@ -28,16 +21,16 @@ tabulate_same zero f g h = refl
 tabulate_same (suc n) f g h =
     ap₂ (λ (x : ℕ) (xs : List ℕ). x ∷ xs) (h 0 (omega arith)) (tabulate_same n (λ i. f (suc i)) (λ i. g (suc i)) (λ i k. h (suc i) (omega (arith, k))))
 
-tabulate_long : (n : ℕ) (f : Lanes) → length (tabulate n f) ≡ n
+pub tabulate_long : (n : ℕ) (f : Lanes) → length (tabulate n f) ≡ n
 tabulate_long zero f = refl
 tabulate_long (suc n) f = ap suc (tabulate_long n (λ i. f (suc i)))
 
-tabulate_at : (n : ℕ) (f : Lanes) (i : ℕ) → i < n → slice_index (tabulate n f) i ≡ f i
+pub tabulate_at : (n : ℕ) (f : Lanes) (i : ℕ) → i < n → slice_index (tabulate n f) i ≡ f i
 tabulate_at zero f i h = absurd (omega (arith, h))
 tabulate_at (suc n) f zero h = refl
 tabulate_at (suc n) f (suc i) h = tabulate_at n (λ i. f (suc i)) i (omega (arith, h))
 
-listed : (xs : List ℕ) → tabulate (length xs) (λ i. slice_index xs i) ≡ xs
+pub listed : (xs : List ℕ) → tabulate (length xs) (λ i. slice_index xs i) ≡ xs
 listed [] = refl
 listed (x ∷ xs) = ap (λ ys. x ∷ ys) (listed xs)
 
@@ -45,68 +38,8 @@ listed (x ∷ xs) = ap (λ ys. x ∷ ys) (listed xs)
 pub tabulated : (xs : List ℕ) (n : ℕ) (f : Lanes) → length xs ≡ n → ((i : ℕ) → i < n → slice_index xs i ≡ f i) → xs ≡ tabulate n f
 tabulated xs n f long h = sym (listed xs) ∙ ap (λ (k : ℕ). tabulate k (λ i. slice_index xs i)) long ∙ tabulate_same n (λ i. slice_index xs i) f h
 
--- ---- what is cut, and over it what is stored
-
-abbrev made : Row → List ℕ → Row
+abbrev pub made : Row → List ℕ → Row
 made r xs = record { elem = r.elem; bits = xs }
-
-cut_either : (k : ℕ) (o : Option ℕ) (x : ℕ) → or_old (option_map (λ y. y % 2 ^ k) o) (x % 2 ^ k) ≡ or_old o x % 2 ^ k
-cut_either k None x = refl
-cut_either k (Some y) x = refl
-
-over_cut : (r : Row) (f : Lanes) (w : ℕ → Option ℕ) → row_over (cut r f) w ≡ cut r (λ e. or_old (w e) (f e))
-over_cut r f w =
-    ap (λ (n : ℕ). made r (tabulate n (λ e. or_old (option_map (λ x. x % 2 ^ width r.elem) (w e)) (slice_index (tabulate (length r.bits) was) e)))) (tabulate_long (length r.bits) was)
-    ∙ ap (made r) (tabulate_same (length r.bits) _ _ (λ i h. ap (or_old (option_map (λ x. x % 2 ^ width r.elem) (w i))) (tabulate_at (length r.bits) was i h) ∙ cut_either (width r.elem) (w i) (f i)))
-  where
-    abbrev was : Lanes
-    was i = f i % 2 ^ width r.elem
-
-over_rows : (rs : List Row) (f : ℕ → Lanes) (w : ℕ → ℕ → Option ℕ) → rows_over (rows_cut rs f) w ≡ rows_cut rs (λ b e. or_old (w b e) (f b e))
-over_rows [] f w = refl
-over_rows (r ∷ rs) f w = ap₂ (λ (x : Row) (xs : List Row). x ∷ xs) (over_cut r (f 0) (w 0)) (over_rows rs (λ b. f (suc b)) (λ b. w (suc b)))
-
-abbrev FitRow : Row → Type 0
-FitRow r = Fit r.elem r.bits
-
--- what fits is not changed by cutting it
-cut_row : (r : Row) → FitRow r → cut r (λ e. slice_index r.bits e) ≡ r
-cut_row r fit = ap (λ (f : Lanes). made r (tabulate (length r.bits) f)) (fun_ext (λ e. mod-eq_of_lt (fit e))) ∙ ap (made r) (listed r.bits)
-
-cut_all : (rs : List Row) → All (λ r. Fit r.elem r.bits) rs → rows_cut rs (λ b e. slice_index (row_bits rs b) e) ≡ rs
-cut_all [] a = refl
-cut_all (r ∷ rs) a = ap₂ (λ (x : Row) (xs : List Row). x ∷ xs) (cut_row r (All-head FitRow r rs a)) (cut_all rs (All-tail FitRow r rs a))
-
--- the rows that runs leave have the elements that they leave, cut to their width
-pub left_is : (run : ℕ → Answer ℕ) (rs : List Row) → All (λ r. Fit r.elem r.bits) rs → (n : ℕ) → rows_left run rs n ≡ rows_cut rs (left_by run (λ b e. slice_index (row_bits rs b) e) n)
-left_is run rs a zero = sym (cut_all rs a)
-left_is run rs a (suc n) =
-    ap (λ (z : List Row). rows_over z (reached (run n)).wrote) (left_is run rs a n) ∙ over_rows rs (left_by run (λ b e. slice_index (row_bits rs b) e) n) (reached (run n)).wrote
-
--- rows whose elements are those of others, which fit, are not changed by cutting them
-pub cut_same : (rs : List Row) (f g : ℕ → Lanes) → rows_now rs f ≡ rows_now rs g → RowsFit rs f → rows_cut rs g ≡ rows_now rs g
-cut_same [] f g e fit = refl
-cut_same (r ∷ rs) f g e fit =
-    ap₂ (λ (x : Row) (xs : List Row). x ∷ xs)
-    (ap (made r) (tabulate_same (length r.bits) (λ i. g 0 i % 2 ^ width r.elem) (g 0) (λ i h. mod-eq_of_lt (subst_below (f 0 i) (g 0 i) (2 ^ width r.elem) (element i h) (fit.0 i)))))
-    (cut_same rs (λ b. f (suc b)) (λ b. g (suc b)) (ap later e) fit.1)
-  where
-    later : List Row → List Row
-    later [] = []
-    later (x ∷ xs) = xs
-
-    first : List Row → List ℕ
-    first [] = []
-    first (x ∷ xs) = x.bits
-
-    bits_same : tabulate (length r.bits) (f 0) ≡ tabulate (length r.bits) (g 0)
-    bits_same = ap first e
-
-    element : (i : ℕ) → i < length r.bits → f 0 i ≡ g 0 i
-    element i h = sym (tabulate_at (length r.bits) (f 0) i h) ∙ ap (λ (xs : List ℕ). slice_index xs i) bits_same ∙ tabulate_at (length r.bits) (g 0) i h
-
-    subst_below : (x y k : ℕ) → x ≡ y → x < k → y < k
-    subst_below x y k i h = omega (arith, i, h)
 
 -- ---- rows one by one
 
@@ -127,12 +60,10 @@ all_over zero (r ∷ rs) w h = absurd (omega (arith, h))
 all_over (suc n) [] w h = refl
 all_over (suc n) (r ∷ rs) w h = ap (λ (xs : List Row). row_over r (w 0) ∷ xs) (all_over n rs (λ b. w (suc b)) (omega (arith, h)))
 
-pub over_long : (n : ℕ) (rs : List Row) (w : ℕ → ℕ → Option ℕ) → length (first_over n rs w) ≡ length rs
-over_long zero rs w = refl
-over_long (suc n) [] w = refl
-over_long (suc n) (r ∷ rs) w = ap suc (over_long n rs (λ b. w (suc b)))
-
 -- ---- elements one by one
+
+abbrev of_type : Elem → List ℕ → Row
+of_type t xs = record { elem = t; bits = xs }
 
 -- the first n elements have what is stored, the others what they had
 pub record StoredTo (old now : Row) (w : ℕ → Option ℕ) (n : ℕ) : Type 0 where
@@ -173,11 +104,8 @@ module _ (old now : Row) (w : ℕ → Option ℕ) (n : ℕ) (s : StoredTo old no
 
   pub stored_all : length old.bits ≤ n → now ≡ row_over old w
   stored_all h =
-      ap₂ (λ (t : Elem) (xs : List ℕ). made_of t xs) s.elem
+      ap₂ of_type s.elem
       (tabulated now.bits (length old.bits) (λ e. or_old (option_map (λ x. x % 2 ^ width old.elem) (w e)) (slice_index old.bits e)) s.long (λ e k. s.done e (omega (arith, h, k))))
-    where
-      abbrev made_of : Elem → List ℕ → Row
-      made_of t xs = record { elem = t; bits = xs }
 
 -- ---- copies
 

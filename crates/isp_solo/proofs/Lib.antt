@@ -1,7 +1,11 @@
 pub mod Named
+pub mod Placing
 pub mod Leaving
+pub mod Cuts
 pub mod Upward
 pub mod Fitting
 pub mod Reporting
 pub mod Joining
+pub mod Clashing
 pub mod Taking
+pub mod Stopping

@@ -40,7 +40,7 @@ module _ (program : TProgram) (name : List ℕ) (f : ℕ) (h : TFunction) (xs : 
 -- ---- for the function that was found
 
 module _ (p q : Program) (same : p ≡ q) (name : List ℕ) (f : ℕ) (xs : List Argument) (accepted : IsAccepted (program_of q)) (begins : Begins (program_of p) name xs f) where
-  begins_there : Begins (program_of q) name xs f
+  pub begins_there : Begins (program_of q) name xs f
   begins_there = subst (λ (z : Program). Begins (program_of z) name xs f) same begins
 
   pub entry_number : entry_from name 0 q.functions.items ≡ Some f
@@ -58,9 +58,13 @@ module _ (p q : Program) (same : p ≡ q) (name : List ℕ) (f : ℕ) (xs : List
     came_there = subst (λ (z : Program). Came (program_of z) f xs n r) same came
 
     pub reported : IsSoloReport (program_of q) name xs n r
-    reported =
-        (f, begins_there.0, begins_there.1, independent,
-          report_is (program_of q) name f begins_there.0 xs n accepted begins_there.1 independent fit r (came_there begins_there.0 begins_there.1.export.found))
+    reported = (
+      f,
+      begins_there.0,
+      begins_there.1,
+      independent,
+      report_is (program_of q) name f begins_there.0 xs n accepted begins_there.1 independent fit r (came_there begins_there.0 begins_there.1.export.found),
+    )
 
     pub reported_fits : ReportFits r
     reported_fits = report_fits (program_of q) name f begins_there.0 xs n accepted begins_there.1 independent fit r (came_there begins_there.0 begins_there.1.export.found)

@@ -1,5 +1,5 @@
 -- One more run, taken together with those before.
-use Rattle.std.proofs.Common.{◌≡◌, refl, sym, ap, ap₂, subst, ◌∙◌, ℕ, zero, suc, ◌<◌, ◌⊎◌, ⊎_elim, Bool, List, [], ◌∷◌, arith}
+use Rattle.std.proofs.Common.{◌≡◌, refl, sym, ap, ap₂, subst, ◌∙◌, ℕ, zero, suc, ◌+◌, ◌<◌, ◌⊎◌, ⊎_elim, Bool, List, [], ◌∷◌, arith}
 use Rattle.std.specs.Prelude.{Option, is_some}
 use Rattle.std.proofs.lemmas.Bool.{cases_eq}
 use Rattle.isp_base.specs.Rows.{Row}
@@ -24,9 +24,9 @@ none_together run rs t none same = record {
 }
 
 module _ (run : ℕ → Answer ℕ) (rs : List Row) (n : ℕ) (old new : Together) (r : Run) (value : ℕ) (gave : r.ending ≡ Gave value) (before : AreTogether run rs n old) (is : IsRunOf (run n) r)
-  (touches : (b e : ℕ) → touched_seen new.touched.items b e ≡ touched (touched_seen old.touched.items b e) n (read_seen r.arrays.stores.items b e) (is_some (wrote_seen r.arrays.stores.items b e)))
-  (left : new.arrays.items ≡ rows_over old.arrays.items (wrote_seen r.arrays.stores.items))
-  (first : n ≡ 0 → new.given ≡ value) (later : (n ≡ 0 → ⊥) → new.given ≡ old.given) where
+    (touches : (b e : ℕ) → touched_seen new.touched.items b e ≡ touched (touched_seen old.touched.items b e) n (read_seen r.arrays.stores.items b e) (is_some (wrote_seen r.arrays.stores.items b e)))
+    (left : new.arrays.items ≡ rows_over old.arrays.items (wrote_seen r.arrays.stores.items))
+    (first : n ≡ 0 → new.given ≡ value) (later : (n ≡ 0 → ⊥) → new.given ≡ old.given) where
   came : run n ≡ Has value (reached (run n))
   came = is.ending ∙ ap (λ e. ended_in e (reached (run n))) gave
 
@@ -36,11 +36,14 @@ module _ (run : ℕ → Answer ℕ) (rs : List Row) (n : ℕ) (old new : Togethe
   given : new.given ≡ value_of (run 0)
   given = ⊎_elim (λ (i : n ≡ 0). first i ∙ sym (ap value_of (ap run (sym i) ∙ came))) (λ ne. later ne ∙ before.given (omega (arith, ne))) (cases_eq n 0)
 
-  pub one_together : AreTogether run rs (suc n) new
-  one_together = record {
+  one_more : AreTogether run rs (suc n) new
+  one_more = record {
     end = end;
     touched = λ b e. touches b e ∙ ap₂ (λ (f : ℕ → ℕ → Bool) (g : ℕ → ℕ → Option ℕ). touched (touched_seen old.touched.items b e) n (f b e) (is_some (g b e))) is.read is.wrote
         ∙ ap (λ t. touched t n ((reached (run n)).read b e) (is_some ((reached (run n)).wrote b e))) (before.touched b e);
     arrays = left ∙ ap₂ (λ (xs : List Row) (g : ℕ → ℕ → Option ℕ). rows_over xs g) before.arrays is.wrote;
     given = λ h. given;
   }
+
+  pub one_together : AreTogether run rs (n + 1) new
+  one_together = subst (λ (k : ℕ). AreTogether run rs k new) (let i : suc n ≡ n + 1 = omega arith in i) one_more

@@ -4,7 +4,7 @@ use Rattle.std.specs.Prelude.{Option, nat_eq, count_by}
 use Rattle.std.specs.List.{All}
 use Rattle.std.proofs.Math.Path.{fun_ext}
 use Rattle.std.proofs.lemmas.Bool.{cases_eq}
-use Rattle.std.proofs.lemmas.List.Elements.{All-push}
+use Rattle.std.proofs.lemmas.List.Elements.{All-nil, All-push}
 use Rattle.std.proofs.lemmas.List.Sums.{sum_by_push}
 use Rattle.isp_base.specs.Maps.{or_old}
 use Rattle.isp_base.specs.Types.{gang_width}
@@ -21,7 +21,7 @@ use Rattle.isp_solo.specs.Report.{upward}
 -- ---- the order from 0 up
 
 all_below : (n k : ℕ) → n ≤ k → All (λ p. p < k) (upward n)
-all_below zero k h = tt
+all_below zero k h = All-nil (λ p. p < k)
 all_below (suc n) k h = All-push (λ p. p < k) (upward n) n (all_below n k (omega (arith, h))) (omega (arith, h))
 
 abbrev counted : ℕ → ℕ → ℕ

@@ -1,3 +1,4 @@
+pub mod Places
 pub mod Report
 pub mod Touched
 pub mod Left

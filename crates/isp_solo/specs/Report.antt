@@ -5,7 +5,6 @@ use Rattle.isp_base.specs.Rows.{Row}
 use Rattle.isp_base.specs.Types.{gang_width}
 use Rattle.isp_base.specs.declared.types.Elem.{Elem}
 use Rattle.isp_base.specs.declared.signature.Argument.{Argument}
-use Rattle.isp_base.specs.declared.signature.Argument.TheVariants.{Value as AValue, Array as AnArray}
 use Rattle.isp_typed.specs.Typed.{Program, TFunction}
 use Rattle.isp_independence.specs.Dependences.{IsFirst}
 use Rattle.isp_independence.specs.Independent.{Depends, IsIndependent}
@@ -21,6 +20,7 @@ use Rattle.isp_entry.specs.Entered.{Begins, NoneBegins}
 use Rattle.isp_entry.specs.declared.fault.EvalFault.{EvalFault}
 use Rattle.isp_entry.specs.declared.fault.EvalFault.TheVariants.{Memory, NoEntry, NotIndependent}
 use Rattle.isp_fits.specs.Fits.{BitsFit}
+use Rattle.isp_solo.specs.Places.{array_place}
 use Rattle.isp_solo.specs.declared.report.SoloReport.{SoloReport}
 use Rattle.isp_solo.specs.declared.report.SoloReport.TheVariants as report
 
@@ -28,13 +28,6 @@ use Rattle.isp_solo.specs.declared.report.SoloReport.TheVariants as report
 abbrev pub upward : ℕ → List ℕ
 upward zero = []
 upward (suc n) = upward n ++ n ∷ []
-
--- which argument the b-th array among them is
-abbrev pub array_place : List Argument → ℕ → ℕ
-array_place [] b = 0
-array_place (AValue v ∷ xs) b = suc (array_place xs b)
-array_place (AnArray r ∷ xs) zero = 0
-array_place (AnArray r ∷ xs) (suc b) = suc (array_place xs b)
 
 -- ---- the runs of the instances, each alone from the bound arrays
 

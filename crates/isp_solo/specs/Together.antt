@@ -1,9 +1,12 @@
 -- What the runs of the first instances come to, taken together.
-use Rattle.std.specs.Prelude.{◌≡◌, ℕ, zero, suc, ◌<◌, List}
+use Rattle.std.specs.Prelude.{◌≡◌, ℕ, ◌+◌, ◌<◌, List}
 use Rattle.isp_base.specs.Rows.{Row}
 use Rattle.isp_alone.specs.Answers.{Answer}
 use Rattle.isp_alone.specs.Runs.{IsEnded, value_of}
+use Rattle.isp_single.specs.Ends.{IsRunOf}
 use Rattle.isp_single.specs.Touches.{touched_by}
+use Rattle.isp_single.specs.declared.running.Ending.TheVariants.{Gave}
+use Rattle.isp_single.specs.declared.running.Run.{Run}
 use Rattle.isp_solo.specs.Left.{rows_left}
 use Rattle.isp_solo.specs.Touched.{touched_seen}
 use Rattle.isp_solo.specs.declared.together.Together.{Together}
@@ -14,3 +17,8 @@ pub record AreTogether (run : ℕ → Answer ℕ) (rs : List Row) (n : ℕ) (t :
   pub touched : (b e : ℕ) → touched_seen t.touched.items b e ≡ touched_by run n b e
   pub arrays : t.arrays.items ≡ rows_left run rs n
   pub given : 0 < n → t.given ≡ value_of (run 0)
+
+-- the run of instance n, which gave this value, is taken in
+abbrev pub Adds : Run → ℕ → ℕ → Together → Together → Type 0
+Adds r n value old new =
+    (run : ℕ → Answer ℕ) (rs : List Row) → AreTogether run rs n old → IsRunOf (run n) r → r.ending ≡ Gave value → AreTogether run rs (n + 1) new

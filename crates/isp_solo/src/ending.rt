@@ -5,7 +5,8 @@ ghost use Rattle.isp_meaning.specs.Payloads.{One};
 ghost use Rattle.isp_meaning.specs.Runs.{answer_as};
 ghost use Rattle.isp_alone.specs.Answers.{Answer};
 ghost use Rattle.isp_solo.specs.Left.{rows_left};
-ghost use Rattle.isp_solo.specs.Report.{Says, array_place};
+ghost use Rattle.isp_solo.specs.Places.{array_place, passed};
+ghost use Rattle.isp_solo.specs.Report.{Says};
 ghost use Rattle.isp_solo.specs.Together.{AreTogether};
 
 use crate::report::SoloReport;
@@ -46,12 +47,20 @@ fn place_of(arguments: &[Argument], store: usize) -> usize
 {
     let mut left = store;
     for place in 0..arguments.len() {
-        if let Argument::Array(_) = &arguments[place] {
-            if left == 0 {
-                return place;
-            }
-            left -= 1;
+        match pass(&arguments[place], left) {
+            Some(fewer) => left = fewer,
+            None => return place,
         }
     }
     arguments.len()
+}
+
+// How many arrays are left to be passed behind an argument; None where it is the array itself.
+fn pass(argument: &Argument, left: usize) -> Option<usize>
+    ensures { result ≡ passed argument.now left }
+{
+    match argument {
+        Argument::Value(_) => Some(left),
+        Argument::Array(_) => { if left == 0 { None } else { Some(left - 1) } }
+    }
 }

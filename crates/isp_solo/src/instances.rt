@@ -63,7 +63,7 @@ fn report(
     for instance in 0..program.gang.width() {
         let run = run_alone(program, function, arguments, turns, instance, arrays)?;
         match run.ending {
-            Ending::Gave(value) => together.add(alloc, &run.arrays, instance, value)?,
+            Ending::Gave(value) => together.add(alloc, &run, instance, value)?,
             Ending::Trapped(trap) => return Ok(SoloReport::Trapped(trap)),
             Ending::Cut => return Ok(SoloReport::Cut(instance)),
         }

@@ -22,11 +22,7 @@ pub fn copies(alloc: Global, arguments: &[Argument]) -> Result<Vec<Array>, Alloc
     Ok(copies)
 }
 
-fn push_copy(
-    alloc: Global,
-    copies: &mut Vec<Array>,
-    argument: &Argument,
-) -> Result<(), AllocError>
+fn push_copy(alloc: Global, copies: &mut Vec<Array>, argument: &Argument) -> Result<(), AllocError>
     ensures more { OnOk result (copies.new.items ≡ copies.old.items ++ rows (argument.now ∷ [])) }
     ensures fits { OnOk result (All (λ r. Fit r.elem r.bits) (rows (argument.now ∷ []))) }
 {

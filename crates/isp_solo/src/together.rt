@@ -1,17 +1,15 @@
 //! What the runs of the instances so far come to, taken together.
-ghost use Rattle.std.specs.Prelude.{ℕ, List, suc, IfOk, OnOk};
+ghost use Rattle.std.specs.Prelude.{◌≡◌, ℕ, IfOk, OnOk};
 ghost use Rattle.std.specs.List.{All};
 ghost use Rattle.isp_base.specs.Arguments.{rows};
-ghost use Rattle.isp_base.specs.Rows.{Fit, Row};
+ghost use Rattle.isp_base.specs.Rows.{Fit};
 ghost use Rattle.isp_alone.specs.Answers.{Answer};
-ghost use Rattle.isp_single.specs.Ends.{IsRunOf};
-ghost use Rattle.isp_single.specs.declared.running.Ending.TheVariants.{Gave};
-ghost use Rattle.isp_solo.specs.Together.{AreTogether};
+ghost use Rattle.isp_solo.specs.Together.{Adds, AreTogether};
 
 use crate::left::{copies, store_run};
 use crate::touched::{Touched, join_run};
 use isp_base::{Argument, Array};
-use isp_single::arrays::Arrays;
+use isp_single::running::Run;
 use std::alloc::{AllocError, Global};
 
 /// How the elements were touched, the arrays that the runs leave, and what instance 0 gave.
@@ -39,18 +37,23 @@ impl Together {
     pub fn add(
         &mut self,
         alloc: Global,
-        arrays: &Arrays,
+        run: &Run,
         instance: usize,
         value: u64,
     ) -> Result<(), AllocError>
-        ensures { OnOk result ((run : ℕ → Answer ℕ) (rs : List Row) → AreTogether run rs instance self.old
-            → IsRunOf (run instance) (record { ending = Gave value; arrays = arrays.now }) → AreTogether run rs (suc instance) self.new) }
+        ensures { OnOk result (Adds run.now instance value self.old self.new) }
     {
-        join_run(alloc, &mut self.touched, arrays, instance)?;
-        store_run(self.arrays.as_mut_slice(), arrays);
-        if instance == 0 {
-            self.given = value;
-        }
+        join_run(alloc, &mut self.touched, &run.arrays, instance)?;
+        store_run(self.arrays.as_mut_slice(), &run.arrays);
+        self.given = first_given(instance, value, self.given);
         Ok(())
     }
+}
+
+// What instance 0 gave.
+fn first_given(instance: usize, value: u64, before: u64) -> u64
+    ensures first { instance ≡ 0 → result ≡ value }
+    ensures later { (instance ≡ 0 → ⊥) → result ≡ before }
+{
+    if instance == 0 { value } else { before }
 }

@@ -49,10 +49,7 @@ fn memory_refused_to_one_by_one(rt: HostRuntime) -> Result<(), Fail> {
     for step in 0..128_000usize {
         assert!(rt; hoard.leave(16 * step), "the pool is too small");
         if let Some(right) = reported(alloc, &checked, &bound) {
-            assert!(rt;
-                right && step > 0,
-                "another report, or nothing was refused"
-            );
+            assert!(rt; right && step > 0, "another report, or nothing was refused");
             return Ok(());
         }
     }

@@ -7,16 +7,20 @@ use Rattle.isp_solo.proofs.Clashing.{apart_all, clash_first}
 use Rattle.isp_solo.proofs.ending.ended.Goals as goal
 
 pub returns-in-Some : goal.returns-in-Some
-returns-in-Some c = λ gang run rs some t.
-    (t.end,
-      (c.in-Some.store,
-        clash_first run gang (touched_seen c.args.together.touched.items) t.touched c.in-Some.store c.in-Some.element
-          (subst (λ (xs : List Touched). FirstOfAll (touched_seen xs) (Some (c.in-Some.store, c.in-Some.element))) c.as_slice.ensures.value c.in-Some.ensures),
-        c.place_of.ensures))
+returns-in-Some c = λ gang run rs some t. (
+  t.end,
+  (
+    c.in-Some.store,
+    clash_first run gang (touched_seen c.args.together.touched.items) t.touched c.in-Some.store c.in-Some.element
+        (subst (λ (xs : List Touched). FirstOfAll (touched_seen xs) (Some (c.in-Some.store, c.in-Some.element))) c.as_slice.ensures.value c.in-Some.ensures),
+    c.place_of.ensures,
+  ),
+)
 
 pub returns-in-None : goal.returns-in-None
-returns-in-None c = λ gang run rs some t.
-    (t.end,
-      apart_all run gang (touched_seen c.args.together.touched.items) t.touched (subst (λ (xs : List Touched). FirstOfAll (touched_seen xs) None) c.as_slice.ensures.value c.in-None.ensures),
-      t.arrays,
-      c.answer.ensures ∙ ap (λ (v : ℕ). answer_as c.args.gives (One v)) (t.given some))
+returns-in-None c = λ gang run rs some t. (
+  t.end,
+  apart_all run gang (touched_seen c.args.together.touched.items) t.touched (subst (λ (xs : List Touched). FirstOfAll (touched_seen xs) None) c.as_slice.ensures.value c.in-None.ensures),
+  t.arrays,
+  c.answer.ensures ∙ ap (λ (v : ℕ). answer_as c.args.gives (One v)) (t.given some),
+)

@@ -1,5 +1,5 @@
 use Rattle.std.proofs.Common.{◌≡◌, ◌+◌, drop}
-use Rattle.isp_solo.specs.Report.{array_place}
+use Rattle.isp_solo.specs.Places.{array_place}
 use Rattle.isp_solo.proofs.ending.place_of.Given as goal
 
 abbrev pub invariant-loop-place : goal.invariant-loop-place
