@@ -1,12 +1,11 @@
 -- The arrays that instances leave one by one, and the result of the first, fit their types: they are those of the gang's run.
-use Rattle.std.proofs.Common.{◌≡◌, refl, sym, ap, ap₂, subst, ◌∙◌, ℕ, ◌<◌, ◌^◌, List, [], Some, None, arith}
+use Rattle.std.proofs.Common.{◌≡◌, sym, ap, subst, ◌∙◌, ℕ, ◌<◌, List, [], Some, None, arith}
 use Rattle.std.specs.Prelude.{Option}
 use Rattle.std.specs.List.{All}
 use Rattle.isp_base.specs.Arguments.{rows, rows_now}
 use Rattle.isp_base.specs.Outcomes.{Outcome, Ends, Traps, GoesOn}
 use Rattle.isp_base.specs.Rows.{Row, Fit}
 use Rattle.isp_base.specs.Types.{gang_width}
-use Rattle.isp_base.specs.Values.{width}
 use Rattle.isp_base.specs.declared.signature.Argument.{Argument}
 use Rattle.isp_base.specs.declared.types.Elem.{Elem}
 use Rattle.isp_base.specs.declared.types.Gang.{Gang}
@@ -17,9 +16,9 @@ use Rattle.isp_rates.specs.Program.{IsAccepted}
 use Rattle.isp_independence.specs.Independent.{IsIndependent}
 use Rattle.isp_meaning.specs.Entries.{IsEntry}
 use Rattle.isp_meaning.specs.Outcomes.{Val, Gives, Fails, Stops}
-use Rattle.isp_meaning.specs.Payloads.{Payload, One, sole}
+use Rattle.isp_meaning.specs.Payloads.{Payload, One}
 use Rattle.isp_meaning.specs.State.{State}
-use Rattle.isp_meaning.specs.Runs.{answer_as, gives_of, meaning, outcome_of, run_of, state_of}
+use Rattle.isp_meaning.specs.Runs.{answer_as, gives_of, meaning, outcome_of, state_of}
 use Rattle.isp_alone.specs.Answers.{Answer}
 use Rattle.isp_alone.specs.OneByOne.{one_by_one}
 use Rattle.isp_alone.specs.Runs.{solo_run, bound, value_of}

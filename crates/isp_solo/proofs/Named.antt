@@ -1,6 +1,6 @@
 -- The exported function of a name is one.
 use Rattle.std.proofs.Common.{◌≡◌, refl, sym, ap, subst, ◌∙◌, ℕ, zero, suc, ◌+◌, Bool, true, false, cond, List, [], ◌∷◌, ◌++◌, map, Some, arith}
-use Rattle.std.specs.Prelude.{Option, IsSome, is_some, bytes_eq, find, not, slice_get, ◌&&◌, ◌||◌}
+use Rattle.std.specs.Prelude.{IsSome, is_some, bytes_eq, find, not, slice_get, ◌&&◌, ◌||◌}
 use Rattle.std.specs.List.{list_any}
 use Rattle.std.proofs.lemmas.Bool.{true≢false, false≢true}
 use Rattle.std.proofs.lemmas.List.Folds.{list_any-append}

@@ -1,9 +1,9 @@
 -- What the runs of an entry's instances come to is its report.
-use Rattle.std.proofs.Common.{◌≡◌, sym, ap, subst, ◌∙◌, ℕ, List, Some}
-use Rattle.std.specs.Prelude.{slice_get, IsSome, find, bytes_eq, ◌&&◌}
+use Rattle.std.proofs.Common.{◌≡◌, sym, subst, ◌∙◌, ℕ, List, Some}
+use Rattle.std.specs.Prelude.{IsSome, find, bytes_eq, ◌&&◌}
 use Rattle.std.specs.List.{All}
 use Rattle.isp_base.specs.Arguments.{rows}
-use Rattle.isp_base.specs.Rows.{Row, Fit}
+use Rattle.isp_base.specs.Rows.{Fit}
 use Rattle.isp_base.specs.Types.{gang_width}
 use Rattle.isp_base.specs.declared.signature.Argument.{Argument}
 use Rattle.isp_typed.specs.Typed.{Program as TProgram, TFunction}
@@ -18,7 +18,7 @@ use Rattle.isp_entry.specs.Entered.{Begins}
 use Rattle.isp_fits.specs.Fits.{BitsFit}
 use Rattle.isp_solo.specs.Came.{Came}
 use Rattle.isp_solo.specs.Left.{rows_left}
-use Rattle.isp_solo.specs.Report.{IsSoloReport, ReportFits, ReportOf, Says, left_upward}
+use Rattle.isp_solo.specs.Report.{IsSoloReport, ReportFits, ReportOf, Says}
 use Rattle.isp_solo.specs.declared.report.SoloReport.{SoloReport}
 use Rattle.isp_solo.specs.declared.report.SoloReport.TheVariants.{Trapped, Cut, Clash, Ended}
 use Rattle.isp_solo.proofs.Fitting.{rows_are, given_fits}

@@ -1,8 +1,7 @@
 -- The first run that does not end, and the type of what the function gives.
-use Rattle.std.proofs.Common.{◌≡◌, refl, sym, ap, ◌∙◌, ℕ, zero, suc, ◌<◌, List, [], ◌∷◌, Some, arith, length, get_or}
-use Rattle.std.specs.Prelude.{Option, slice_get}
+use Rattle.std.proofs.Common.{◌≡◌, ap, ◌∙◌, ℕ, zero, suc, ◌<◌, List, [], ◌∷◌, Some, arith, length, get_or}
+use Rattle.std.specs.Prelude.{slice_get}
 use Rattle.isp_base.specs.declared.trap.Trap.{Trap}
-use Rattle.isp_base.specs.declared.types.Elem.{Elem}
 use Rattle.isp_typed.specs.Typed.{TFunction}
 use Rattle.isp_typed.specs.Views.{function_of, functions_of}
 use Rattle.isp_typed.specs.declared.function.TypedFunction.{TypedFunction}

@@ -1,5 +1,5 @@
 -- Instances one after the other, from 0 up: what they leave is what each stores alone.
-use Rattle.std.proofs.Common.{◌≡◌, refl, sym, ap, ap₂, ◌∙◌, ℕ, zero, suc, ◌+◌, ◌<◌, ◌≤◌, ◌⊎◌, inl, inr, ⊎_elim, Bool, true, false, cond, List, [], ◌∷◌, ◌++◌, Some, None, arith, eq-eqb, ne_eqb}
+use Rattle.std.proofs.Common.{◌≡◌, refl, sym, ap, ap₂, ◌∙◌, ℕ, zero, suc, ◌+◌, ◌<◌, ◌≤◌, ◌⊎◌, inl, inr, ⊎_elim, Bool, cond, List, Some, None, arith, eq-eqb, ne_eqb}
 use Rattle.std.specs.Prelude.{Option, nat_eq, count_by}
 use Rattle.std.specs.List.{All}
 use Rattle.std.proofs.Math.Path.{fun_ext}

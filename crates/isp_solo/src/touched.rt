@@ -1,5 +1,5 @@
 //! How all elements of all arrays were touched, by the runs so far.
-ghost use Rattle.std.specs.Prelude.{◌≡◌, ◌≤◌, ℕ, IfSome, Some, None, is_some, length, OnOk};
+ghost use Rattle.std.specs.Prelude.{◌≡◌, ◌≤◌, ℕ, Some, None, is_some, length, OnOk};
 ghost use Rattle.isp_single.specs.Arrays.{read_in, read_seen, wrote_in, wrote_seen};
 ghost use Rattle.isp_single.specs.Touches as Touches;
 ghost use Rattle.isp_single.specs.declared.touches.Touch.TheVariants.{Nobody};

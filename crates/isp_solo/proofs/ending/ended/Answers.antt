@@ -1,4 +1,4 @@
-use Rattle.std.proofs.Common.{◌≡◌, ap, subst, ◌∙◌, sym, Some, None, ℕ, List}
+use Rattle.std.proofs.Common.{ap, subst, ◌∙◌, Some, None, ℕ, List}
 use Rattle.isp_meaning.specs.Payloads.{One}
 use Rattle.isp_meaning.specs.Runs.{answer_as}
 use Rattle.isp_solo.specs.Touched.{FirstOfAll, touched_seen}

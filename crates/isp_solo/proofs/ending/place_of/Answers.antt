@@ -1,4 +1,4 @@
-use Rattle.std.proofs.Common.{◌∙◌, sym, arith}
+use Rattle.std.proofs.Common.{◌∙◌, sym}
 use Rattle.isp_solo.specs.Places.{array_place}
 use Rattle.isp_solo.proofs.Placing.{place_found, place_later, place_past}
 use Rattle.isp_solo.proofs.ending.place_of.Goals as goal

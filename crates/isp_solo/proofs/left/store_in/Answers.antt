@@ -1,6 +1,6 @@
-use Rattle.std.proofs.Common.{arith, ◌∙◌, sym}
+use Rattle.std.proofs.Common.{arith}
 use Rattle.isp_single.specs.Arrays.{wrote_seen}
-use Rattle.isp_solo.proofs.Leaving.{stored_none, stored_skip, stored_next, stored_all}
+use Rattle.isp_solo.proofs.Leaving.{stored_none, stored_all}
 use Rattle.isp_solo.proofs.left.store_in.Goals as goal
 
 pub loop-place-init : goal.loop-place-init

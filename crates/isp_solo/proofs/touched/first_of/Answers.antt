@@ -1,4 +1,4 @@
-use Rattle.std.proofs.Common.{arith, subst}
+use Rattle.std.proofs.Common.{subst}
 use Rattle.isp_solo.specs.Touched.{FirstAt, touched_at}
 use Rattle.isp_solo.proofs.Joining.{first_here, none_here, none_past}
 use Rattle.isp_solo.proofs.touched.first_of.Goals as goal

@@ -1,4 +1,4 @@
-use Rattle.std.proofs.Common.{subst, refl, List}
+use Rattle.std.proofs.Common.{subst, List}
 use Rattle.std.specs.List.{All}
 use Rattle.isp_base.specs.Arguments.{rows}
 use Rattle.isp_base.specs.Rows.{Fit, Row}

@@ -1,4 +1,4 @@
-use Rattle.std.proofs.Common.{◌≡◌, sym, ap, subst, ◌∙◌, ℕ, Some, None, length, arith}
+use Rattle.std.proofs.Common.{◌≡◌, sym, subst, ◌∙◌, ℕ, Some, None, length, arith}
 use Rattle.std.specs.Prelude.{List}
 use Rattle.isp_single.specs.Touches.{FirstClash}
 use Rattle.isp_single.specs.declared.touches.Touch.{Touch}

@@ -1,4 +1,4 @@
-use Rattle.std.proofs.Common.{◌≡◌, ◌<◌, sym, ap, subst, ◌∙◌, ℕ, length, arith, rules}
+use Rattle.std.proofs.Common.{◌≡◌, ◌<◌, ap, subst, ◌∙◌, ℕ, length, arith, rules}
 use Rattle.std.specs.Prelude.{List, is_some}
 use Rattle.std.proofs.lemmas.List.{with_items_is}
 use Rattle.isp_gang.specs.Growing.{at_each}

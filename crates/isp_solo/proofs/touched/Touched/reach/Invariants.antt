@@ -1,4 +1,4 @@
-use Rattle.std.proofs.Common.{◌≡◌, ◌≤◌, length}
+use Rattle.std.proofs.Common.{◌≡◌, length}
 use Rattle.isp_solo.specs.Touched.{touched_at}
 use Rattle.isp_solo.proofs.touched.Touched.reach.Given as goal
 
