@@ -1,10 +1,7 @@
 -- Rows over which runs store what they stored, one after the other.
-use Rattle.std.proofs.Common.{◌≡◌, refl, sym, ap, ap₂, ◌∙◌, ℕ, zero, suc, ◌+◌, ◌<◌, ◌≤◌, ◌%◌, ◌^◌, List, [], ◌∷◌, ◌++◌, Some, None, arith, length, get_or, take, drop, append_assoc, ⊎_elim}
+use Rattle.std.proofs.Common.{◌≡◌, refl, sym, ap, ap₂, ◌∙◌, ℕ, zero, suc, ◌+◌, ◌<◌, ◌≤◌, ◌%◌, ◌^◌, List, [], ◌∷◌, ◌++◌, arith, length, get_or, take, drop, append_assoc}
 use Rattle.std.specs.Prelude.{Option, option_map, slice_index, slice_set}
-use Rattle.std.proofs.Math.ListN.{length-set}
 use Rattle.std.proofs.Math.Seq.{take-suc, drop-cons}
-use Rattle.std.proofs.lemmas.Bool.{cases_eq}
-use Rattle.std.proofs.lemmas.List.{get_or-set_same, get_or-set_other}
 use Rattle.isp_base.specs.Arguments.{rows, tabulate}
 use Rattle.isp_base.specs.Maps.{Lanes, or_old}
 use Rattle.isp_base.specs.Rows.{Row}
@@ -76,32 +73,6 @@ pub stored_none : (r : Row) (w : ℕ → Option ℕ) → StoredTo r r w 0
 stored_none r w = record { elem = refl; long = refl; done = λ e h. absurd (omega (arith, h)); left = λ e h. refl }
 
 module _ (old now : Row) (w : ℕ → Option ℕ) (n : ℕ) (s : StoredTo old now w n) where
-  pub stored_skip : w n ≡ None → StoredTo old now w (n + 1)
-  stored_skip none = record {
-    elem = s.elem;
-    long = s.long;
-    done = λ e h. ⊎_elim (λ (i : e ≡ n). kept e i) (λ ne. s.done e (omega (arith, h, ne))) (cases_eq e n);
-    left = λ e h. s.left e (omega (arith, h));
-  } where
-    kept : (e : ℕ) → e ≡ n → slice_index now.bits e ≡ or_old (option_map (λ x. x % 2 ^ width old.elem) (w e)) (slice_index old.bits e)
-    kept e i =
-        s.left e (omega (arith, i)) ∙ ap (λ (o : Option ℕ). or_old (option_map (λ x. x % 2 ^ width old.elem) o) (slice_index old.bits e)) (sym none ∙ ap w (sym i))
-
-  pub stored_next : (new : Row) (t : Elem) (x y : ℕ) → n < length now.bits → w n ≡ Some x → t ≡ now.elem → y ≡ x % 2 ^ width t → new ≡ record { elem = now.elem; bits = slice_set now.bits n y } → StoredTo old new w (n + 1)
-  stored_next new t x y lt some et ey en = record {
-    elem = ap (λ (r : Row). r.elem) en ∙ s.elem;
-    long = ap (λ (r : Row). length r.bits) en ∙ length-set now.bits n y ∙ s.long;
-    done = λ e h. ap (λ (r : Row). slice_index r.bits e) en ∙ ⊎_elim (λ (i : e ≡ n). here e i) (λ ne. get_or-set_other now.bits n e y 0 ne ∙ s.done e (omega (arith, h, ne))) (cases_eq e n);
-    left = λ e h. ap (λ (r : Row). slice_index r.bits e) en ∙ get_or-set_other now.bits n e y 0 (λ i. (omega (arith, h, i))) ∙ s.left e (omega (arith, h));
-  } where
-    value : y ≡ x % 2 ^ width old.elem
-    value = ey ∙ ap (λ (u : Elem). x % 2 ^ width u) (et ∙ s.elem)
-
-    here : (e : ℕ) → e ≡ n → slice_index (slice_set now.bits n y) e ≡ or_old (option_map (λ x. x % 2 ^ width old.elem) (w e)) (slice_index old.bits e)
-    here e i =
-        ap (λ (k : ℕ). slice_index (slice_set now.bits n y) k) i ∙ get_or-set_same now.bits n y 0 lt ∙ value
-        ∙ ap (λ (o : Option ℕ). or_old (option_map (λ x. x % 2 ^ width old.elem) o) (slice_index old.bits e)) (sym some ∙ ap w (sym i))
-
   pub stored_all : length old.bits ≤ n → now ≡ row_over old w
   stored_all h =
       ap₂ of_type s.elem
