@@ -6,7 +6,7 @@
 //! - `file` a file's name and its text, where `␤` is a line feed, and a place may stand between `⟦` and `⟧`;
 //! - `words` the words behind `isp`;
 //! - `status` the exit status, `out` what goes to standard output, `err` the line on standard error, without its line feed; in `out` and `err`
-//!   `⟦⟧` stands for the place of the file that was written last, as `S..E`.
+//!   the first `⟦⟧` stands for the place of the file that was written last, as `S..E`.
 //!
 //! A record is tried at its end. What it does not say is 0 or empty.
 #![tactic(auto)]
