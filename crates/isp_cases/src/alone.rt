@@ -27,11 +27,11 @@ fn ended(
     checked: &Checked,
     entry: &str,
     arrays: &[Array],
-    result: Option<Value>,
+    given: Option<Value>,
 ) -> Result<String, AllocError> {
     match checked.signature(entry) {
         Some(signature) => {
-            let text = answer(alloc, signature, arrays, result)?;
+            let text = answer(alloc, signature, arrays, given)?;
             format!(in alloc; "ends {text}")
         }
         None => String::from_str(alloc, "no entry"),
