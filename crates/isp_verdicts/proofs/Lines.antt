@@ -1,6 +1,6 @@
 -- The lines of exported functions, one after the other.
 use Rattle.std.proofs.Common.{◌≡◌, ℕ, zero, suc, ◌+◌, ◌≤◌, List, [], ◌∷◌, ◌++◌, length, map, Bool, true, false, cond, Option, Some, None, refl, sym, ap, ◌∙◌, subst, arith, add-one, append_assoc, append-nil, take}
-use Rattle.std.specs.Prelude.{◌&&◌, bytes_eq, filter, find, slice_get, codes, OnOk, Result, Ok, Err, ⊤}
+use Rattle.std.specs.Prelude.{◌&&◌, bytes_eq, filter, find, slice_get, codes, if◌then◌else◌, OnOk, Result, Ok, Err, ⊤}
 use Rattle.std.specs.Result.{is_ok}
 use Rattle.std.specs.Option.{IsSome, option_map}
 use Rattle.std.proofs.lemmas.Slice.Eq.{bytes_eq-Decides}
