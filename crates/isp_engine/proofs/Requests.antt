@@ -10,7 +10,7 @@ use Rattle.isp_engine.specs.declared.commands.Job.{Job}
 use Rattle.isp_engine.specs.declared.commands.Origin.{Origin}
 use Rattle.isp_engine.specs.declared.commands.Origin.TheVariants.{Compiled, Loaded}
 use Rattle.isp_engine.specs.declared.failure.Failure.{Failure}
-use Rattle.isp_engine.specs.declared.failure.Failure.TheVariants.{Source, Trapped, BudgetUsed, Run, Code, CannotRead, CannotWrite, Memory}
+use Rattle.isp_engine.specs.declared.failure.Failure.TheVariants.{Source, Trapped, BudgetUsed, TurnsUsed, Run, Code, CannotRead, CannotWrite, Memory, NotIndependent, NotApart}
 use Rattle.isp_engine.specs.declared.fault.CodeFault.{CodeFault}
 use Rattle.isp_engine.specs.declared.fault.CodeFault.TheVariants as code_fault
 use Rattle.isp_engine.specs.Commands.{Given, IsNoImage, NotGiven, Ran, RunEnds}
@@ -46,6 +46,9 @@ module _ (holds : Holds) where
   unread_first job (Run f) h = absurd h
   unread_first job CannotWrite h = absurd h
   unread_first job (Code f) h = absurd h
+  unread_first job (TurnsUsed p) h = absurd h
+  unread_first job (NotIndependent d) h = absurd h
+  unread_first job (NotApart n e) h = absurd h
 
   pub unread_second : (job : Job) (text : List ℕ) → holds job.text.now (Some text) → (f : Failure) → Unread holds job.arguments.now f → NotGiven holds job f
   unread_second job text has (CannotRead name) h = inr ((text, has), h)
@@ -56,6 +59,9 @@ module _ (holds : Holds) where
   unread_second job text has (Run f) h = absurd h
   unread_second job text has CannotWrite h = absurd h
   unread_second job text has (Code f) h = absurd h
+  unread_second job text has (TurnsUsed p) h = absurd h
+  unread_second job text has (NotIndependent d) h = absurd h
+  unread_second job text has (NotApart n e) h = absurd h
 
   pub no_code : (job : Job) (files : Reads holds job.text.now job.arguments.now) (f : Failure) → (f ≢ Memory → IsNoImage job.origin files.text f) → NotGiven holds job f
   no_code job files (CannotRead name) h = absurd (never_unread job.origin files.text name (h (λ e. let none : ⊥ = cc in none)))
@@ -66,6 +72,9 @@ module _ (holds : Holds) where
   no_code job files (Run f) h = (files, h (λ e. let none : ⊥ = cc in none))
   no_code job files CannotWrite h = (files, h (λ e. let none : ⊥ = cc in none))
   no_code job files (Code f) h = (files, h (λ e. let none : ⊥ = cc in none))
+  no_code job files (TurnsUsed p) h = (files, h (λ e. let none : ⊥ = cc in none))
+  no_code job files (NotIndependent d) h = (files, h (λ e. let none : ⊥ = cc in none))
+  no_code job files (NotApart n i) h = (files, h (λ e. let none : ⊥ = cc in none))
 
   -- a run whose files gave what it ran
   pub run_ends : (job : Job) (code : Listing) (json read : List ℕ) (old new : Option (List ℕ)) (failed : Bool) (end : Result ⊤ Failure) → read ≡ json → Given holds job code json → Ran code job.entry.now read job.budget old new failed end → RunEnds holds job old new failed end
