@@ -102,9 +102,12 @@ fn store(arguments: &mut [Argument], run: &Arrays) {
 
 fn store_in(array: &mut Array, run: &Arrays, store: usize) {
     for place in 0..array.len() {
-        if let Some(stored) = run.stored_at(store, place) {
-            let bits = low_bits(array.elem(), stored);
-            array.put(place, bits);
+        match run.stored_at(store, place) {
+            Some(stored) if place < array.len() => {
+                let bits = low_bits(array.elem(), stored);
+                array.put(place, bits);
+            }
+            _ => {}
         }
     }
 }
