@@ -375,8 +375,19 @@ fn refused_words(rt: HostRuntime) -> Result<(), Fail> {
             "isp asm",
             "error: the following required arguments were not provided:\n  <SOURCE>\n",
         ),
-        ("isp check a", "error: unrecognized subcommand 'check'"),
-        ("isp solo a b c", "error: unrecognized subcommand 'solo'"),
+        ("isp try a", "error: unrecognized subcommand 'try'"),
+        (
+            "isp check",
+            "error: the following required arguments were not provided:\n  <SOURCE>\n",
+        ),
+        (
+            "isp check --turns 9 a",
+            "error: unexpected argument '--turns' found",
+        ),
+        (
+            "isp solo --budget 9 a b c",
+            "error: unexpected argument '--budget' found",
+        ),
         (
             "isp --help",
             "Compiles gang programs, and runs them\n\nUsage: isp <COMMAND>",
