@@ -1,7 +1,7 @@
 #!/usr/bin/env python3
 """Writes crates/isp_requests/data/pages.rows from the examples of the pages, so that `rt ci` runs what the pages show.
 
-    tools/page_rows.py              writes the rows, and the count of requests in crates/isp_requests/stdout
+    tools/page_rows.py              writes the rows of README.md and docs/, and the count of requests in crates/isp_requests/stdout
     tools/page_rows.py --check      ends with status 1 where these are stale, or where tools/explain says something else than a page
 
 An example is a block between ``` that begins with `$ `:
@@ -23,13 +23,16 @@ import sys
 import tempfile
 
 ROOT = os.path.dirname(os.path.dirname(os.path.realpath(__file__)))
-PAGES = ["README.md", "docs/FAULTS.md", "docs/INDEPENDENCE.md"]
 CRATE = "crates/isp_requests"
 ROWS = f"{CRATE}/data/pages.rows"
 COUNT = f"{CRATE}/stdout"
-HEAD = f""". What the examples of {', '.join(PAGES)} show.
-. Written by tools/page_rows.py. What they show was worked out from the rules before it was run.
+HEAD = """. What the examples of README.md and of the pages of docs/ show. Written by tools/page_rows.py.
+. What docs/FAULTS.md and docs/INDEPENDENCE.md show was worked out from the rules before it was run, but for the place of 11, which is left open.
 """
+
+
+def pages():
+    return ["README.md", *sorted(f"docs/{name}" for name in os.listdir(f"{ROOT}/docs") if name.endswith(".md"))]
 
 
 def contents(name):
@@ -155,7 +158,7 @@ def main():
         print("page_rows.py: see its first lines", file=sys.stderr)
         return 2
     rows, differ = [], []
-    for page in PAGES:
+    for page in pages():
         of_page, otherwise = rows_of(page)
         rows += of_page
         differ += otherwise
