@@ -6,3 +6,4 @@ pub mod Statements
 pub mod Calls
 pub mod Runs
 pub mod Uncut
+pub mod Uniform

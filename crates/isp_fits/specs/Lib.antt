@@ -1,2 +1,3 @@
 pub mod Fits
 pub mod Cut
+pub mod Uniform
