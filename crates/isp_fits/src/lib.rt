@@ -4,4 +4,4 @@
 
 mod laws;
 
-pub use laws::{elements_fit, result_fits, uniform_gives_one};
+pub use laws::{bodies_accepted, elements_fit, result_fits, uniform_gives_one};
