@@ -23,7 +23,7 @@ import sys
 import tempfile
 
 ROOT = os.path.dirname(os.path.dirname(os.path.realpath(__file__)))
-PAGES = ["README.md", "docs/FAULTS.md", "docs/INDEPENDENCE.md"]
+PAGES = ["README.md", "docs/TOUR.md", "docs/FAULTS.md", "docs/INDEPENDENCE.md"]
 CRATE = "crates/isp_requests"
 ROWS = f"{CRATE}/data/pages.rows"
 COUNT = f"{CRATE}/stdout"
