@@ -6,7 +6,7 @@ use Rattle.std.specs.Prelude.{ℕ, zero, suc, List, [], ◌∷◌, ◌++◌, map
 use Rattle.isp_base.specs.Sets.{Mask, nobody}
 use Rattle.isp_meaning.specs.Rounds as Meaning
 use Rattle.isp_meaning.specs.Rounds.{Run, from_zero, runs_for, from_on, last_run, with_outer, joined_lists, runs_of}
-use Rattle.isp_tasks.specs.declared.rounds.Range.{Range}
+use Rattle.isp_gang.specs.declared.ranges.Range.{Range}
 
 abbrev pub range_seen : Range → Meaning.Range
 range_seen r = record { index = r.index; start = r.start; end = r.end }

@@ -1,9 +1,9 @@
 use Rattle.std.proofs.Common.{◌≡◌, ◌+◌, ◌-◌, ◌<◌, ℕ, suc, List, get_or, length, ap, sym, subst, ◌∙◌, arith, w64, to_z, of_z}
 use Rattle.std.proofs.lemmas.Int.{to_z-of_z}
 use Rattle.std.proofs.Math.ListN.{set}
-use Rattle.isp_single.specs.declared.rounds.Range.{Range}
-use Rattle.isp_single.proofs.Left.{restarted_to, none_restarted, one_restarted}
-use Rattle.isp_single.proofs.rounds.reset.Goals as goal
+use Rattle.isp_gang.specs.declared.ranges.Range.{Range}
+use Rattle.isp_gang.proofs.Left.{restarted_to, none_restarted, one_restarted}
+use Rattle.isp_gang.proofs.ranges.reset.Goals as goal
 
 pub loop-place-init : goal.loop-place-init
 loop-place-init c =

@@ -1,9 +1,9 @@
 use Rattle.std.proofs.Common.{◌≡◌, ◌≤◌, length, true}
 use Rattle.isp_base.specs.Types.{gang_width}
 use Rattle.isp_base.specs.declared.types.Gang.{Gang}
-use Rattle.isp_single.specs.Left.{runs_left}
-use Rattle.isp_single.proofs.Left.{within_from}
-use Rattle.isp_single.proofs.rounds.carry.Given as goal
+use Rattle.isp_gang.specs.Left.{runs_left}
+use Rattle.isp_gang.proofs.Left.{within_from}
+use Rattle.isp_gang.proofs.ranges.carry.Given as goal
 
 abbrev pub invariant-loop-place : goal.invariant-loop-place
 invariant-loop-place l =

@@ -2,9 +2,9 @@ use Rattle.std.proofs.Common.{◌≡◌, ap, ◌∙◌, ◌-◌, ◌<◌, length
 use Rattle.std.specs.Prelude.{pos}
 use Rattle.std.proofs.lemmas.Int.{to_z-of_z}
 use Rattle.isp_base.specs.Types.{gang_width}
-use Rattle.isp_single.specs.Left.{stepped}
-use Rattle.isp_single.proofs.Left.{last_advanced}
-use Rattle.isp_single.proofs.rounds.advance.Goals as goal
+use Rattle.isp_gang.specs.Left.{stepped}
+use Rattle.isp_gang.proofs.Left.{last_advanced}
+use Rattle.isp_gang.proofs.ranges.advance.Goals as goal
 
 pub returns-then-count-gt0 : goal.returns-then-count-gt0
 returns-then-count-gt0 c =

@@ -1,10 +1,10 @@
 use Rattle.std.proofs.Common.{◌≡◌, ◌+◌, ℕ, List, suc, get_or, ap, subst, ◌∙◌, arith, w64, to_z, of_z}
 use Rattle.std.proofs.lemmas.Int.{to_z-of_z}
 use Rattle.std.proofs.Math.ListN.{set}
-use Rattle.isp_single.specs.Left.{restarted}
-use Rattle.isp_single.specs.declared.rounds.Range.{Range}
-use Rattle.isp_single.proofs.Left.{carry_is}
-use Rattle.isp_single.proofs.rounds.carry_into.Goals as goal
+use Rattle.isp_gang.specs.Left.{restarted}
+use Rattle.isp_gang.specs.declared.ranges.Range.{Range}
+use Rattle.isp_gang.proofs.Left.{carry_is}
+use Rattle.isp_gang.proofs.ranges.carry_into.Goals as goal
 
 pub returns : goal.returns
 returns c =

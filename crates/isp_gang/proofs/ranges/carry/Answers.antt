@@ -2,9 +2,9 @@ use Rattle.std.proofs.Common.{◌≡◌, ◌-◌, ◌<◌, ℕ, suc, length, get
 use Rattle.std.proofs.lemmas.Bool.{not-true}
 use Rattle.std.specs.Prelude.{int_lt}
 use Rattle.isp_base.specs.Types.{gang_width}
-use Rattle.isp_tasks.specs.Left.{runs_left}
-use Rattle.isp_tasks.proofs.Left.{carry_left, within_carried, within_from, carried_long}
-use Rattle.isp_tasks.proofs.rounds.carry.Goals as goal
+use Rattle.isp_gang.specs.Left.{runs_left}
+use Rattle.isp_gang.proofs.Left.{carry_left, within_carried, within_from, carried_long}
+use Rattle.isp_gang.proofs.ranges.carry.Goals as goal
 
 pub loop-place-preserved-then-is_spent : goal.loop-place-preserved-then-is_spent
 loop-place-preserved-then-is_spent c =

@@ -3,12 +3,15 @@ use Rattle.std.proofs.Common.{◌≡◌, refl, sym, ap, ap₂, ◌∙◌, ℕ, z
 use Rattle.std.specs.Prelude.{ℤ, pos, negsuc, ◌+ℤ◌, ◌-ℤ◌, int_lt}
 use Rattle.std.proofs.Math.ListN.{set}
 use Rattle.std.proofs.lemmas.Int.{ints}
+use Rattle.isp_base.specs.Sets.{Mask, flag_of, nobody}
 use Rattle.isp_base.specs.Types.{gang_width}
 use Rattle.isp_base.specs.declared.types.Gang.{Gang}
 use Rattle.isp_base.specs.declared.types.Gang.TheVariants.{W4, W8, W16}
+use Rattle.isp_gang.proofs.Made.{Made, made}
+use Rattle.std.proofs.lemmas.Bool.{le-ltb}
 use Rattle.isp_meaning.specs.Rounds.{Run, from_zero, runs_for, from_on, last_run, with_outer, joined_lists, runs_of}
-use Rattle.isp_single.specs.Left.{range_seen, at_start, restarted, stepped, outer_left, left_of, have_numbers, are_within, runs_left, tail_within, some_range, is_ready, goes, all_go, carried, numbers_below, indices_now, members_now, advanced}
-use Rattle.isp_single.specs.declared.rounds.Range.{Range}
+use Rattle.isp_gang.specs.Left.{range_seen, at_start, restarted, stepped, outer_left, left_of, have_numbers, are_within, runs_left, tail_within, some_range, is_ready, goes, all_go, carried, numbers_below, indices_now, members_now, advanced}
+use Rattle.isp_gang.specs.declared.ranges.Range.{Range}
 
 -- ---- how many numbers there are
 
@@ -345,9 +348,12 @@ all_restarted (suc f) n (r ∷ rs) h = ap (λ ys. r ∷ ys) (all_restarted f n r
 
 -- ---- the last range
 
+pub nobody_on : (g : ℕ) (rs : List Range) → length rs ≡ 0 → members_now g rs ≡ nobody
+nobody_on g [] h = refl
+nobody_on g (r ∷ rs) h = absurd (omega (arith, h))
+
 pub not_on : (g p : ℕ) (rs : List Range) → length rs ≡ 0 → members_now g rs p ≡ false
-not_on g p [] h = refl
-not_on g p (r ∷ rs) h = absurd (omega (arith, h))
+not_on g p rs h = ap (λ (f : Mask). f p) (nobody_on g rs h)
 
 pub last_on : (g k : ℕ) (rs : List Range) (x : Range) → 0 < length rs → k ≡ length rs - 1 → x ≡ get_or rs k x → numbers_below g x.next x.end ≡ members_now g rs
 last_on g k [] x h e is = absurd (omega (arith, h))
@@ -366,6 +372,9 @@ last_advanced g (suc k) (r ∷ q ∷ rs) x y z h e is at m = ap (λ ys. r ∷ ys
 pub none_advanced : (g : ℕ) (rs : List Range) → length rs ≡ 0 → rs ≡ advanced g rs
 none_advanced g [] h = refl
 none_advanced g (r ∷ rs) h = absurd (omega (arith, h))
+
+pub below_made : (n : ℕ) (z end : ℤ) (xs : List Bool) → Made false (numbers_below n z end) xs n → flag_of xs ≡ numbers_below n z end
+below_made n z end xs m = made false (numbers_below n z end) xs n m (λ p h. ap (λ b. b && int_lt (z +ℤ pos p) end) (le-ltb p n h))
 
 -- ---- whether all can go
 
