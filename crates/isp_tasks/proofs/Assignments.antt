@@ -5,7 +5,6 @@ use Rattle.isp_base.specs.Sets.{Mask, flag_of}
 use Rattle.isp_base.specs.Traps.{trap}
 use Rattle.isp_base.specs.Types.{gang_width}
 use Rattle.isp_base.specs.Values.{op_bits}
-use Rattle.isp_base.specs.declared.operators.BinOp.{BinOp}
 use Rattle.isp_base.specs.declared.trap.TrapKind.TheVariants.{Divide, Index}
 use Rattle.isp_base.specs.declared.types.Elem.{Elem}
 use Rattle.isp_base.specs.declared.types.Span.{Span}
@@ -35,6 +34,7 @@ use Rattle.isp_tasks.specs.declared.counting.Work.{Work}
 use Rattle.isp_tasks.specs.declared.state.Evaluator.{Evaluator}
 use Rattle.isp_tasks.specs.declared.state.Stop.{Stop}
 use Rattle.isp_tasks.specs.declared.state.Stop.TheVariants as stop
+use Rattle.isp_tasks.specs.declared.tasks.Operation.{Operation}
 use Rattle.isp_tasks.specs.declared.tasks.Task.{Task}
 use Rattle.isp_tasks.specs.declared.tasks.Task.TheVariants as task
 use Rattle.isp_tasks.proofs.Counts.{Adds, work_of, counts_same, counts_more, counts_one}
@@ -73,32 +73,32 @@ module _ (old : Evaluator) (q : rust_place.Place) (sp : Span) (set : List Bool) 
 
 -- ---- with an operator
 
-module _ (old : Evaluator) (op : BinOp) (t : Elem) (q : rust_place.Place) (p : Bor TypedPlace) (sp : Span) (set : List Bool) where
+module _ (old : Evaluator) (op : Operation) (q : rust_place.Place) (p : Bor TypedPlace) (set : List Bool) where
   updated : (w : ℕ) (o k : Option ℕ) (x : Payload) → outside (gang_width old.program.now.gang) (frame_seen old.here) (place_seen q) (flag_of set) ≡ o
-      → offender (gang_width old.program.now.gang) (is_zero op t) (flag_of set) (payload_of old.value) ≡ k → x ≡ held (gang_width old.program.now.gang) (frame_seen old.here) (place_seen q) (flag_of set) (state_seen old w)
-      → does old (task.Update op t q p sp set) (store_seen old w)
-      ≡ done (store_seen old w) (bind (checked o Index (place_span (place_of p.now)) (state_seen old w) x) (λ x1 s1. bind (checked k Divide sp s1 (joined (op_bits op t) (flag_of set) (mapped (converted (place_type (place_of p.now)).elem t) x1) (payload_of old.value))) (λ z s2. Gives tt (kept (gang_width old.program.now.gang) (frame_seen old.here) (place_seen q) (flag_of set) (mapped (converted t (place_type (place_of p.now)).elem) z) s2))))
+      → offender (gang_width old.program.now.gang) (is_zero op.operator op.elem) (flag_of set) (payload_of old.value) ≡ k → x ≡ held (gang_width old.program.now.gang) (frame_seen old.here) (place_seen q) (flag_of set) (state_seen old w)
+      → does old (task.Update op q p set) (store_seen old w)
+      ≡ done (store_seen old w) (bind (checked o Index (place_span (place_of p.now)) (state_seen old w) x) (λ x1 s1. bind (checked k Divide op.span s1 (joined (op_bits op.operator op.elem) (flag_of set) (mapped (converted (place_type (place_of p.now)).elem op.elem) x1) (payload_of old.value))) (λ z s2. Gives tt (kept (gang_width old.program.now.gang) (frame_seen old.here) (place_seen q) (flag_of set) (mapped (converted op.elem (place_type (place_of p.now)).elem) z) s2))))
   updated w o k x out off is =
-      ap (λ h. done (store_seen old w) (bind (checked h Index (place_span (place_of p.now)) (state_seen old w) (held (gang_width old.program.now.gang) (frame_seen old.here) (place_seen q) (flag_of set) (state_seen old w))) (λ x1 s1. bind (checked (offender (gang_width old.program.now.gang) (is_zero op t) (flag_of set) (payload_of old.value)) Divide sp s1 (joined (op_bits op t) (flag_of set) (mapped (converted (place_type (place_of p.now)).elem t) x1) (payload_of old.value))) (λ z s2. Gives tt (kept (gang_width old.program.now.gang) (frame_seen old.here) (place_seen q) (flag_of set) (mapped (converted t (place_type (place_of p.now)).elem) z) s2))))) out
-      ∙ ap₂ (λ h y. done (store_seen old w) (bind (checked o Index (place_span (place_of p.now)) (state_seen old w) y) (λ x1 s1. bind (checked h Divide sp s1 (joined (op_bits op t) (flag_of set) (mapped (converted (place_type (place_of p.now)).elem t) x1) (payload_of old.value))) (λ z s2. Gives tt (kept (gang_width old.program.now.gang) (frame_seen old.here) (place_seen q) (flag_of set) (mapped (converted t (place_type (place_of p.now)).elem) z) s2))))) off (sym is)
+      ap (λ h. done (store_seen old w) (bind (checked h Index (place_span (place_of p.now)) (state_seen old w) (held (gang_width old.program.now.gang) (frame_seen old.here) (place_seen q) (flag_of set) (state_seen old w))) (λ x1 s1. bind (checked (offender (gang_width old.program.now.gang) (is_zero op.operator op.elem) (flag_of set) (payload_of old.value)) Divide op.span s1 (joined (op_bits op.operator op.elem) (flag_of set) (mapped (converted (place_type (place_of p.now)).elem op.elem) x1) (payload_of old.value))) (λ z s2. Gives tt (kept (gang_width old.program.now.gang) (frame_seen old.here) (place_seen q) (flag_of set) (mapped (converted op.elem (place_type (place_of p.now)).elem) z) s2))))) out
+      ∙ ap₂ (λ h y. done (store_seen old w) (bind (checked o Index (place_span (place_of p.now)) (state_seen old w) y) (λ x1 s1. bind (checked h Divide op.span s1 (joined (op_bits op.operator op.elem) (flag_of set) (mapped (converted (place_type (place_of p.now)).elem op.elem) x1) (payload_of old.value))) (λ z s2. Gives tt (kept (gang_width old.program.now.gang) (frame_seen old.here) (place_seen q) (flag_of set) (mapped (converted op.elem (place_type (place_of p.now)).elem) z) s2))))) off (sym is)
 
   pub update_does : (mid : Evaluator) (x z : Payload) → outside (gang_width old.program.now.gang) (frame_seen old.here) (place_seen q) (flag_of set) ≡ None
-      → offender (gang_width old.program.now.gang) (is_zero op t) (flag_of set) (payload_of old.value) ≡ None → ((w : ℕ) → x ≡ held (gang_width old.program.now.gang) (frame_seen old.here) (place_seen q) (flag_of set) (state_seen old w))
-      → z ≡ mapped (converted t (place_type (place_of p.now)).elem) (joined (op_bits op t) (flag_of set) (mapped (converted (place_type (place_of p.now)).elem t) x) (payload_of old.value))
-      → Changes old mid (kept (gang_width old.program.now.gang) (frame_seen old.here) (place_seen q) (flag_of set) z) → Does old (record mid { value = computed.One 0 }) (task.Update op t q p sp set)
+      → offender (gang_width old.program.now.gang) (is_zero op.operator op.elem) (flag_of set) (payload_of old.value) ≡ None → ((w : ℕ) → x ≡ held (gang_width old.program.now.gang) (frame_seen old.here) (place_seen q) (flag_of set) (state_seen old w))
+      → z ≡ mapped (converted op.elem (place_type (place_of p.now)).elem) (joined (op_bits op.operator op.elem) (flag_of set) (mapped (converted (place_type (place_of p.now)).elem op.elem) x) (payload_of old.value))
+      → Changes old mid (kept (gang_width old.program.now.gang) (frame_seen old.here) (place_seen q) (flag_of set) z) → Does old (record mid { value = computed.One 0 }) (task.Update op q p set)
   update_does mid x z out off is e c =
-      changed_does old mid (task.Update op t q p sp set) _ c
+      changed_does old mid (task.Update op q p set) _ c
       (λ w. updated w None None x out off (is w) ∙ ap (λ y. done (store_seen old w) (Gives tt (kept (gang_width old.program.now.gang) (frame_seen old.here) (place_seen q) (flag_of set) y (state_seen old w)))) (sym e))
 
-  pub update_halts_outside : (new : Evaluator) (e : Stop) (i : ℕ) → outside (gang_width old.program.now.gang) (frame_seen old.here) (place_seen q) (flag_of set) ≡ Some i → new ≡ old → e ≡ stop.Trapped (trap Index (place_span (place_of p.now)) i) → Halts old new (does old (task.Update op t q p sp set)) e
+  pub update_halts_outside : (new : Evaluator) (e : Stop) (i : ℕ) → outside (gang_width old.program.now.gang) (frame_seen old.here) (place_seen q) (flag_of set) ≡ Some i → new ≡ old → e ≡ stop.Trapped (trap Index (place_span (place_of p.now)) i) → Halts old new (does old (task.Update op q p set)) e
   update_halts_outside new e i some same is =
       trapped (trap Index (place_span (place_of p.now)) i) is (λ w. (w, updated w (Some i) _ _ some refl refl ∙ sym (ap (λ (x : Evaluator). Trapped (trap Index (place_span (place_of p.now)) i) (state_seen x w)) same)))
       (λ w k. counts_same old new w (ap work_of same) k)
 
-  pub update_halts_zero : (new : Evaluator) (e : Stop) (i : ℕ) → outside (gang_width old.program.now.gang) (frame_seen old.here) (place_seen q) (flag_of set) ≡ None → offender (gang_width old.program.now.gang) (is_zero op t) (flag_of set) (payload_of old.value) ≡ Some i
-      → new ≡ old → e ≡ stop.Trapped (trap Divide sp i) → Halts old new (does old (task.Update op t q p sp set)) e
+  pub update_halts_zero : (new : Evaluator) (e : Stop) (i : ℕ) → outside (gang_width old.program.now.gang) (frame_seen old.here) (place_seen q) (flag_of set) ≡ None → offender (gang_width old.program.now.gang) (is_zero op.operator op.elem) (flag_of set) (payload_of old.value) ≡ Some i
+      → new ≡ old → e ≡ stop.Trapped (trap Divide op.span i) → Halts old new (does old (task.Update op q p set)) e
   update_halts_zero new e i out some same is =
-      trapped (trap Divide sp i) is (λ w. (w, updated w None (Some i) _ out some refl ∙ sym (ap (λ (x : Evaluator). Trapped (trap Divide sp i) (state_seen x w)) same)))
+      trapped (trap Divide op.span i) is (λ w. (w, updated w None (Some i) _ out some refl ∙ sym (ap (λ (x : Evaluator). Trapped (trap Divide op.span i) (state_seen x w)) same)))
       (λ w k. counts_same old new w (ap work_of same) k)
 
 -- ---- a place is known: the right side comes first
@@ -123,26 +123,26 @@ module _ (old new : Evaluator) (p : Bor TypedPlace) (q : rust_place.Place) (set 
         counts = λ n k. counts_same old new n f.work k;
       })
 
-  updated_next : (r : Store) (op : BinOp) (t : Elem) (sp : Span) (v : Val Payload) (next : Store → Goes)
-      → go (done r (bind v (λ y s. update (gang_width old.program.now.gang) r.frame (calls_in (program_of old.program.now) old.turns r) op t (place_of p.now) (place_seen q) y sp (flag_of set) s))) next
-      ≡ go (given r v) (λ k. go (does old (task.Update op t q p sp set) k) next)
-  updated_next r op t sp (Gives m s) next = refl
-  updated_next r op t sp (Fails x s) next = refl
-  updated_next r op t sp (Stops s) next = refl
+  updated_next : (r : Store) (op : Operation) (v : Val Payload) (next : Store → Goes)
+      → go (done r (bind v (λ y s. update (gang_width old.program.now.gang) r.frame (calls_in (program_of old.program.now) old.turns r) op.operator op.elem (place_of p.now) (place_seen q) y op.span (flag_of set) s))) next
+      ≡ go (given r v) (λ k. go (does old (task.Update op q p set) k) next)
+  updated_next r op (Gives m s) next = refl
+  updated_next r op (Fails x s) next = refl
+  updated_next r op (Stops s) next = refl
 
-  pub placed_update : (op : BinOp) (t : Elem) (y : Bor TypedExpr) (sp : Span) (w : Writing) → w ≡ writing.Update op t y sp → First old new (task.Value y set) (task.Update op t q p sp set) → Comes old new (writes old w (place_of p.now) (place_seen q) (flag_of set))
-  placed_update op t y sp w is f =
+  pub placed_update : (op : Operation) (y : Bor TypedExpr) (w : Writing) → w ≡ writing.Update op y → First old new (task.Value y set) (task.Update op q p set) → Comes old new (writes old w (place_of p.now) (place_seen q) (flag_of set))
+  placed_update op y w is f =
       subst (λ k. Comes old new (writes old k (place_of p.now) (place_seen q) (flag_of set))) (sym is)
-      (record { by = λ n. (n, updated_next (store_seen old n) op t sp (value_at (program_of old.program.now) old.turns (store_seen old n) (expr_of y.now) (flag_of set) (state_seen old n)) (rest old) ∙ sym (f.by n)); counts = λ n k. counts_same old new n f.work k })
+      (record { by = λ n. (n, updated_next (store_seen old n) op (value_at (program_of old.program.now) old.turns (store_seen old n) (expr_of y.now) (flag_of set) (state_seen old n)) (rest old) ∙ sym (f.by n)); counts = λ n k. counts_same old new n f.work k })
 
-  pub placed_step : (op : BinOp) (t : Elem) (sp : Span) (w : Writing) → w ≡ writing.Step op t sp → Does (record old { value = computed.One 1 }) new (task.Update op t q p sp set) → Comes old new (writes old w (place_of p.now) (place_seen q) (flag_of set))
-  placed_step op t sp w is d =
+  pub placed_step : (op : Operation) (w : Writing) → w ≡ writing.Step op → Does (record old { value = computed.One 1 }) new (task.Update op q p set) → Comes old new (writes old w (place_of p.now) (place_seen q) (flag_of set))
+  placed_step op w is d =
       subst (λ k. Comes old new (writes old k (place_of p.now) (place_seen q) (flag_of set))) (sym is) (record { by = λ n. d.by n; counts = λ n k. d.counts n k })
 
-  pub placed_step_halts : (op : BinOp) (t : Elem) (sp : Span) (w : Writing) (e : Stop) → w ≡ writing.Step op t sp → Halts (record old { value = computed.One 1 }) new (does old (task.Update op t q p sp set)) e → Halts old new (writes old w (place_of p.now) (place_seen q) (flag_of set)) e
-  placed_step_halts op t sp w e is h = subst (λ k. Halts old new (writes old k (place_of p.now) (place_seen q) (flag_of set)) e) (sym is) (by h)
+  pub placed_step_halts : (op : Operation) (w : Writing) (e : Stop) → w ≡ writing.Step op → Halts (record old { value = computed.One 1 }) new (does old (task.Update op q p set)) e → Halts old new (writes old w (place_of p.now) (place_seen q) (flag_of set)) e
+  placed_step_halts op w e is h = subst (λ k. Halts old new (writes old k (place_of p.now) (place_seen q) (flag_of set)) e) (sym is) (by h)
     where
-      by : Halts (record old { value = computed.One 1 }) new (does old (task.Update op t q p sp set)) e → Halts old new (writes old (writing.Step op t sp) (place_of p.now) (place_seen q) (flag_of set)) e
+      by : Halts (record old { value = computed.One 1 }) new (does old (task.Update op q p set)) e → Halts old new (writes old (writing.Step op) (place_of p.now) (place_seen q) (flag_of set)) e
       by (refused r) = refused r
       by (trapped x i g h) = trapped x i (λ n. g n) (λ n k. h n k)
       by (cut i g h) = cut i (λ n. g n) (λ n k. h n k)
@@ -152,8 +152,8 @@ module _ (old new : Evaluator) (p : Bor TypedPlace) (q : rust_place.Place) (set 
 -- the registers are not looked at
 write_in : (old : Evaluator) (w : Writing) (p : TPlace) (q : Place) (a : Mask) (r : Store) (t : State) (m : Payload) (s : State) → write (program_of old.program.now) old.turns w p q a r s ≡ write (program_of old.program.now) old.turns w p q a (record r { state = t; value = m }) s
 write_in old (writing.Assign x) p q a r t m s = refl
-write_in old (writing.Update op e x sp) p q a r t m s = refl
-write_in old (writing.Step op e sp) p q a r t m s = refl
+write_in old (writing.Update op x) p q a r t m s = refl
+write_in old (writing.Step op) p q a r t m s = refl
 
 pub target_variable : (old new : Evaluator) (work : Work) (one : Adds old work 1) (p : Bor TypedPlace) (set : List Bool) (w : Writing) (v : ℕ) (t : Ty) (sp : Span) → place_of p.now ≡ t_variable v t sp → Comes (record old { work = work }) new (writes old w (place_of p.now) (Variable v t) (flag_of set)) → Comes old new (targets old w (place_of p.now) (flag_of set))
 target_variable old new work one p set w v t sp is c =
@@ -187,8 +187,8 @@ element_next old p set w b e r (Gives m s) next = by w
   where
     by : (w : Writing) → go (done r (write (program_of old.program.now) old.turns w (place_of p.now) (Element b e m) (flag_of set) r s)) next ≡ go (done (record r { state = s; value = m }) (write (program_of old.program.now) old.turns w (place_of p.now) (Element b e m) (flag_of set) (record r { state = s; value = m }) s)) next
     by (writing.Assign x) = refl
-    by (writing.Update op t x sp) = refl
-    by (writing.Step op t sp) = refl
+    by (writing.Update op x) = refl
+    by (writing.Step op) = refl
 element_next old p set w b e r (Fails x s) next = refl
 element_next old p set w b e r (Stops s) next = refl
 
@@ -207,8 +207,8 @@ target_element old new work one p y set w b e t sp typed is f =
     by : (w : Writing) (n : ℕ) → go (done (store_seen old n) (bind (place (gang_width old.program.now.gang) (frame_seen old.here) (calls_in (program_of old.program.now) old.turns (store_seen old n)) (t_element b (expr_of y.now) t sp) (flag_of set) (state_seen old n)) (λ q s. write (program_of old.program.now) old.turns w (place_of p.now) q (flag_of set) (store_seen old n) s))) (rest old)
         ≡ go (given (store_seen old (n + 1)) (value_at (program_of old.program.now) old.turns (store_seen old (n + 1)) (expr_of y.now) (flag_of set) (state_seen old (n + 1)))) (λ k. go (does old (task.Indexed p b (type_of (expr_of y.now)).elem w set) k) (rest old))
     by (writing.Assign x) n = element_next old p set (writing.Assign x) b (type_of (expr_of y.now)).elem (store_seen old (n + 1)) (value_at (program_of old.program.now) old.turns (store_seen old (n + 1)) (expr_of y.now) (flag_of set) (state_seen old (n + 1))) (rest old)
-    by (writing.Update op u x s) n = element_next old p set (writing.Update op u x s) b (type_of (expr_of y.now)).elem (store_seen old (n + 1)) (value_at (program_of old.program.now) old.turns (store_seen old (n + 1)) (expr_of y.now) (flag_of set) (state_seen old (n + 1))) (rest old)
-    by (writing.Step op u s) n = element_next old p set (writing.Step op u s) b (type_of (expr_of y.now)).elem (store_seen old (n + 1)) (value_at (program_of old.program.now) old.turns (store_seen old (n + 1)) (expr_of y.now) (flag_of set) (state_seen old (n + 1))) (rest old)
+    by (writing.Update op x) n = element_next old p set (writing.Update op x) b (type_of (expr_of y.now)).elem (store_seen old (n + 1)) (value_at (program_of old.program.now) old.turns (store_seen old (n + 1)) (expr_of y.now) (flag_of set) (state_seen old (n + 1))) (rest old)
+    by (writing.Step op) n = element_next old p set (writing.Step op) b (type_of (expr_of y.now)).elem (store_seen old (n + 1)) (value_at (program_of old.program.now) old.turns (store_seen old (n + 1)) (expr_of y.now) (flag_of set) (state_seen old (n + 1))) (rest old)
 
 -- ---- what stands before a semicolon
 

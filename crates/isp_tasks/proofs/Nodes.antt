@@ -12,6 +12,7 @@ use Rattle.isp_tasks.specs.Tasks.{Store, Goes, go, given, does, rest, First, Fir
 use Rattle.isp_tasks.specs.declared.counting.Work.{Work}
 use Rattle.isp_tasks.specs.declared.state.Evaluator.{Evaluator}
 use Rattle.isp_tasks.specs.declared.tasks.Joining.{Joining}
+use Rattle.isp_tasks.specs.declared.tasks.Operation.{Operation}
 use Rattle.isp_tasks.specs.declared.tasks.Task.{Task}
 use Rattle.isp_tasks.specs.declared.tasks.Task.TheVariants as task
 use Rattle.isp_tasks.proofs.Counts.{Adds, work_of, counts_same, counts_one}
@@ -81,15 +82,15 @@ module _ (old new : Evaluator) where
   pub compare_does : (c : Compare) (t : Elem) (m : Computed) (set : List Bool) → new ≡ record old { value = new.value } → payload_of new.value ≡ joined (compare_bits c t) (flag_of set) (payload_of m) (payload_of old.value) → Does old new (task.Join (joining.Compare c t) m set)
   compare_does c t m set same e = record { by = λ w. (w, valued same _ e w); counts = λ w k. counts_same old new w (ap work_of same) k }
 
-  pub operate_does : (op : BinOp) (t : Elem) (span : Span) (m : Computed) (set : List Bool) → offender (gang_width old.program.now.gang) (is_zero op t) (flag_of set) (payload_of old.value) ≡ None
-      → new ≡ record old { value = new.value } → payload_of new.value ≡ joined (op_bits op t) (flag_of set) (payload_of m) (payload_of old.value) → Does old new (task.Join (joining.Operate op t span) m set)
-  operate_does op t span m set none same e =
-      record { by = λ w. (w, ap (λ o. go (given (store_seen old w) (checked o Divide span (state_seen old w) (joined (op_bits op t) (flag_of set) (payload_of m) (payload_of old.value)))) (rest old)) none ∙ valued same _ e w); counts = λ w k. counts_same old new w (ap work_of same) k }
+  pub operate_does : (op : Operation) (m : Computed) (set : List Bool) → offender (gang_width old.program.now.gang) (is_zero op.operator op.elem) (flag_of set) (payload_of old.value) ≡ None
+      → new ≡ record old { value = new.value } → payload_of new.value ≡ joined (op_bits op.operator op.elem) (flag_of set) (payload_of m) (payload_of old.value) → Does old new (task.Join (joining.Operate op) m set)
+  operate_does op m set none same e =
+      record { by = λ w. (w, ap (λ o. go (given (store_seen old w) (checked o Divide op.span (state_seen old w) (joined (op_bits op.operator op.elem) (flag_of set) (payload_of m) (payload_of old.value)))) (rest old)) none ∙ valued same _ e w); counts = λ w k. counts_same old new w (ap work_of same) k }
 
-  pub operate_traps : (op : BinOp) (t : Elem) (span : Span) (m : Computed) (set : List Bool) (p : ℕ) → offender (gang_width old.program.now.gang) (is_zero op t) (flag_of set) (payload_of old.value) ≡ Some p
-      → new ≡ old → Traps old new (task.Join (joining.Operate op t span) m set) (trap Divide span p)
-  operate_traps op t span m set p some same =
-      record { by = λ w. (w, ap (λ o. given (store_seen old w) (checked o Divide span (state_seen old w) (joined (op_bits op t) (flag_of set) (payload_of m) (payload_of old.value)))) some ∙ sym (ap (λ (x : Evaluator). Trapped (trap Divide span p) (state_seen x w)) same)); counts = λ w k. counts_same old new w (ap work_of same) k }
+  pub operate_traps : (op : Operation) (m : Computed) (set : List Bool) (p : ℕ) → offender (gang_width old.program.now.gang) (is_zero op.operator op.elem) (flag_of set) (payload_of old.value) ≡ Some p
+      → new ≡ old → Traps old new (task.Join (joining.Operate op) m set) (trap Divide op.span p)
+  operate_traps op m set p some same =
+      record { by = λ w. (w, ap (λ o. given (store_seen old w) (checked o Divide op.span (state_seen old w) (joined (op_bits op.operator op.elem) (flag_of set) (payload_of m) (payload_of old.value)))) some ∙ sym (ap (λ (x : Evaluator). Trapped (trap Divide op.span p) (state_seen x w)) same)); counts = λ w k. counts_same old new w (ap work_of same) k }
 
   -- ---- a value over a set that may be empty
 
@@ -168,10 +169,10 @@ module _ (old new : Evaluator) (x y : Bor TypedExpr) (set : List Bool) where
   unary_node op t sp is first =
       node (task.Unary op t.elem) (t_unary op (expr_of y.now) t sp) (λ fr l m s. Gives (mapped (unary_bits op t.elem) m) s) (λ q. refl) (λ r s. refl) is first
 
-  pub binary_node : (op : BinOp) (z : Bor TypedExpr) (t : Ty) (sp : Span) → expr_of x.now ≡ t_binary op (expr_of y.now) (expr_of z.now) t sp → Reaches old new (task.Value y set) (task.Right (joining.Operate op t.elem sp) z set) → Does old new (task.Value x set)
+  pub binary_node : (op : BinOp) (z : Bor TypedExpr) (t : Ty) (sp : Span) → expr_of x.now ≡ t_binary op (expr_of y.now) (expr_of z.now) t sp → Reaches old new (task.Value y set) (task.Right (joining.Operate (record { operator = op; elem = t.elem; span = sp })) z set) → Does old new (task.Value x set)
   binary_node op z t sp is first =
-      node (task.Right (joining.Operate op t.elem sp) z set) (t_binary op (expr_of y.now) (expr_of z.now) t sp)
-      (λ fr l m s. bind (value (gang_width old.program.now.gang) fr (calls_at (program_of old.program.now) old.turns l) (expr_of z.now) (flag_of set) s) (λ n s2. join (gang_width old.program.now.gang) (joining.Operate op t.elem sp) (flag_of set) m n s2))
+      node (task.Right (joining.Operate (record { operator = op; elem = t.elem; span = sp })) z set) (t_binary op (expr_of y.now) (expr_of z.now) t sp)
+      (λ fr l m s. bind (value (gang_width old.program.now.gang) fr (calls_at (program_of old.program.now) old.turns l) (expr_of z.now) (flag_of set) s) (λ n s2. join (gang_width old.program.now.gang) (joining.Operate (record { operator = op; elem = t.elem; span = sp })) (flag_of set) m n s2))
       (λ q. refl) (λ r s. refl) is first
 
   pub compare_node : (o : Compare) (e : Elem) (z : Bor TypedExpr) (k : Rate) (sp : Span) → e ≡ (type_of (expr_of y.now)).elem → expr_of x.now ≡ t_compare o (expr_of y.now) (expr_of z.now) k sp → Reaches old new (task.Value y set) (task.Right (joining.Compare o e) z set) → Does old new (task.Value x set)

@@ -34,6 +34,7 @@ use Rattle.isp_tasks.specs.declared.counting.Work.{Work}
 use Rattle.isp_tasks.specs.declared.state.Evaluator.{Evaluator}
 use Rattle.isp_tasks.specs.declared.state.Stop.{Stop}
 use Rattle.isp_tasks.specs.declared.state.Stop.TheVariants as stop
+use Rattle.isp_tasks.specs.declared.tasks.Elements.{Elements}
 use Rattle.isp_tasks.specs.declared.tasks.Packing.{Packing}
 use Rattle.isp_tasks.specs.declared.tasks.Packing.TheVariants as packing
 use Rattle.isp_tasks.specs.declared.tasks.Task.TheVariants as task
@@ -134,7 +135,7 @@ module _ (old new : Evaluator) (work : Work) (one : Adds old work 1) (p : Packin
 
 -- ---- the first index was found
 
-pub store_next : (old new : Evaluator) (y : Bor TypedExpr) (v : ArrayVariable) (t : Elem) (n : ℕ) (span : Span) (set : List Bool) (p : Packing) → p ≡ packing.Store y → n ≡ sole (payload_of old.value) → First old new (task.Value y set) (task.PackedStore v t n span set) → Does old new (task.Packed p v t span set)
+pub store_next : (old new : Evaluator) (y : Bor TypedExpr) (v : ArrayVariable) (t : Elem) (n : ℕ) (span : Span) (set : List Bool) (p : Packing) → p ≡ packing.Store y → n ≡ sole (payload_of old.value) → First old new (task.Value y set) (task.PackedStore (record { array = v; elem = t; first = n }) span set) → Does old new (task.Packed p v t span set)
 store_next old new y v t n span set p is e f =
     subst (λ k. Does old new (task.Packed k v t span set)) (sym is)
     (record {
@@ -160,18 +161,18 @@ load_next_halts old new v n b t span set p e is eq h = halts_same old new (does 
 
 -- ---- the access
 
-module _ (old : Evaluator) (b : ArrayVariable) (t : Elem) (n : ℕ) (span : Span) (set : List Bool) where
+module _ (old : Evaluator) (es : Elements) (span : Span) (set : List Bool) where
   abbrev pub offending : Option ℕ
-  offending = lowest (gang_width old.program.now.gang) (packed_outside (extent (frame_seen old.here) b) (number t n) (flag_of set))
+  offending = lowest (gang_width old.program.now.gang) (packed_outside (extent (frame_seen old.here) es.array) (number es.elem es.first) (flag_of set))
 
-  loads : (v : ℕ) (o : Option ℕ) → offending ≡ o → (w : ℕ) → packs_from old (packing.Load v) b (number t n) span (flag_of set) (store_seen old w)
-      ≡ given (store_seen old w) (bind (checked o Index span (state_seen old (w + 1)) (packed_held ((frame_seen old.here).named b.number) (number t n) (flag_of set) (state_seen old w))) (λ m s. Gives (One (rank (flag_of set) (gang_width old.program.now.gang))) (written Varying v (flag_of set) m s)))
+  loads : (v : ℕ) (o : Option ℕ) → offending ≡ o → (w : ℕ) → packs_from old (packing.Load v) es.array (number es.elem es.first) span (flag_of set) (store_seen old w)
+      ≡ given (store_seen old w) (bind (checked o Index span (state_seen old (w + 1)) (packed_held ((frame_seen old.here).named es.array.number) (number es.elem es.first) (flag_of set) (state_seen old w))) (λ m s. Gives (One (rank (flag_of set) (gang_width old.program.now.gang))) (written Varying v (flag_of set) m s)))
   loads v o e w =
-      ap (λ k. given (store_seen old w) (bind (checked k Index span (state_seen old (w + 1)) (packed_held ((frame_seen old.here).named b.number) (number t n) (flag_of set) (state_seen old w))) (λ m s. Gives (One (rank (flag_of set) (gang_width old.program.now.gang))) (written Varying v (flag_of set) m s)))) e
+      ap (λ k. given (store_seen old w) (bind (checked k Index span (state_seen old (w + 1)) (packed_held ((frame_seen old.here).named es.array.number) (number es.elem es.first) (flag_of set) (state_seen old w))) (λ m s. Gives (One (rank (flag_of set) (gang_width old.program.now.gang))) (written Varying v (flag_of set) m s)))) e
 
   -- into a variable
-  pub load_comes : (work : Work) (one : Adds old work 1) (v : ℕ) (new : Evaluator) (m : Payload) (c : Computed) → offending ≡ None → ((w : ℕ) → m ≡ packed_held ((frame_seen old.here).named b.number) (number t n) (flag_of set) (state_seen old w))
-      → Changes (record old { work = work }) new (written Varying v (flag_of set) m) → payload_of c ≡ One (rank (flag_of set) (gang_width old.program.now.gang)) → Comes old (record new { value = c }) (packs_from old (packing.Load v) b (number t n) span (flag_of set))
+  pub load_comes : (work : Work) (one : Adds old work 1) (v : ℕ) (new : Evaluator) (m : Payload) (c : Computed) → offending ≡ None → ((w : ℕ) → m ≡ packed_held ((frame_seen old.here).named es.array.number) (number es.elem es.first) (flag_of set) (state_seen old w))
+      → Changes (record old { work = work }) new (written Varying v (flag_of set) m) → payload_of c ≡ One (rank (flag_of set) (gang_width old.program.now.gang)) → Comes old (record new { value = c }) (packs_from old (packing.Load v) es.array (number es.elem es.first) span (flag_of set))
   load_comes work one v new m c none is ch e =
       record {
         by = λ w. (
@@ -183,28 +184,28 @@ module _ (old : Evaluator) (b : ArrayVariable) (t : Elem) (n : ℕ) (span : Span
         counts = λ w k. counts_one old new work w one (ap work_of ch.same) k;
       }
 
-  pub load_halts : (work : Work) (one : Adds old work 1) (v : ℕ) (e : Stop) (i : ℕ) → offending ≡ Some i → e ≡ stop.Trapped (trap Index span i) → Halts old (record old { work = work }) (packs_from old (packing.Load v) b (number t n) span (flag_of set)) e
+  pub load_halts : (work : Work) (one : Adds old work 1) (v : ℕ) (e : Stop) (i : ℕ) → offending ≡ Some i → e ≡ stop.Trapped (trap Index span i) → Halts old (record old { work = work }) (packs_from old (packing.Load v) es.array (number es.elem es.first) span (flag_of set)) e
   load_halts work one v e i some is =
       trapped (trap Index span i) is (λ w. (w + 1, loads v (Some i) some w)) (λ w k. counts_more old work 1 w one k)
 
-  stores : (o : Option ℕ) → offending ≡ o → (w : ℕ) → does old (task.PackedStore b t n span set) (store_seen old w)
-      ≡ given (store_seen old w) (bind (checked o Index span (state_seen old w) (payload_of old.value)) (λ m s. Gives (One (rank (flag_of set) (gang_width old.program.now.gang))) (packed_kept (gang_width old.program.now.gang) ((frame_seen old.here).named b.number) (number t n) (flag_of set) m s)))
+  stores : (o : Option ℕ) → offending ≡ o → (w : ℕ) → does old (task.PackedStore es span set) (store_seen old w)
+      ≡ given (store_seen old w) (bind (checked o Index span (state_seen old w) (payload_of old.value)) (λ m s. Gives (One (rank (flag_of set) (gang_width old.program.now.gang))) (packed_kept (gang_width old.program.now.gang) ((frame_seen old.here).named es.array.number) (number es.elem es.first) (flag_of set) m s)))
   stores o e w =
-      ap (λ k. given (store_seen old w) (bind (checked k Index span (state_seen old w) (payload_of old.value)) (λ m s. Gives (One (rank (flag_of set) (gang_width old.program.now.gang))) (packed_kept (gang_width old.program.now.gang) ((frame_seen old.here).named b.number) (number t n) (flag_of set) m s)))) e
+      ap (λ k. given (store_seen old w) (bind (checked k Index span (state_seen old w) (payload_of old.value)) (λ m s. Gives (One (rank (flag_of set) (gang_width old.program.now.gang))) (packed_kept (gang_width old.program.now.gang) ((frame_seen old.here).named es.array.number) (number es.elem es.first) (flag_of set) m s)))) e
 
   -- into a store
-  pub store_does : (st : Vec (Vec ℕ Global) Global) (c : Computed) (places values : Map) (k : ℕ) → offending ≡ None → k ≡ (frame_seen old.here).named b.number → places ≡ places_at (extent (frame_seen old.here) b) (number t n) (flag_of set) → values ≡ spread (flag_of set) (payload_of old.value)
+  pub store_does : (st : Vec (Vec ℕ Global) Global) (c : Computed) (places values : Map) (k : ℕ) → offending ≡ None → k ≡ (frame_seen old.here).named es.array.number → places ≡ places_at (extent (frame_seen old.here) es.array) (number es.elem es.first) (flag_of set) → values ≡ spread (flag_of set) (payload_of old.value)
       → stores_of st.items ≡ put (stores_of old.stores.items) k (scatter (gang_width old.program.now.gang) places values (stores_of old.stores.items k)) → payload_of c ≡ One (rank (flag_of set) (gang_width old.program.now.gang))
-      → Does old (record old { stores = st; value = c }) (task.PackedStore b t n span set)
+      → Does old (record old { stores = st; value = c }) (task.PackedStore es span set)
   store_does st c places values k none named ep ev put_is e =
       record {
         by = λ w.
             let g = gang_width old.program.now.gang in
             let f = stores_of old.stores.items in
-            let j = (frame_seen old.here).named b.number in
-            let kept : stores_of st.items ≡ put f j (scatter g (packed_places (number t n) (flag_of set)) (spread (flag_of set) (payload_of old.value)) (f j)) =
+            let j = (frame_seen old.here).named es.array.number in
+            let kept : stores_of st.items ≡ put f j (scatter g (packed_places (number es.elem es.first) (flag_of set)) (spread (flag_of set) (payload_of old.value)) (f j)) =
             put_is ∙ ap (λ i. put f i (scatter g places values (f i))) named ∙ ap₂ (λ (x y : Map). put f j (scatter g x y (f j))) ep ev
-            ∙ ap (λ x. put f j x) (stored_within g (extent (frame_seen old.here) b) (number t n) (flag_of set) (spread (flag_of set) (payload_of old.value)) (f j) none) in (
+            ∙ ap (λ x. put f j x) (stored_within g (extent (frame_seen old.here) es.array) (number es.elem es.first) (flag_of set) (spread (flag_of set) (payload_of old.value)) (f j) none) in (
               w,
               ap (λ x. go x (rest old)) (stores None none w)
                   ∙ ap₂ (λ (x : ℕ → ℕ → ℕ) (y : Payload). rest old (record (store_seen old w) { state = record (state_seen old w) { arrays = x }; value = y })) (sym kept) (sym e),
@@ -212,5 +213,5 @@ module _ (old : Evaluator) (b : ArrayVariable) (t : Elem) (n : ℕ) (span : Span
         counts = λ w k. k;
       }
 
-  pub store_halts : (e : Stop) (i : ℕ) → offending ≡ Some i → e ≡ stop.Trapped (trap Index span i) → Halts old old (does old (task.PackedStore b t n span set)) e
+  pub store_halts : (e : Stop) (i : ℕ) → offending ≡ Some i → e ≡ stop.Trapped (trap Index span i) → Halts old old (does old (task.PackedStore es span set)) e
   store_halts e i some is = trapped (trap Index span i) is (λ w. (w, stores (Some i) some w)) (λ w k. k)

@@ -123,7 +123,7 @@ store_seen e w = record { frame = frame_seen e.here; left = e.left; state = stat
 
 -- an operator on two values
 abbrev pub join : ℕ → Joining → Mask → Payload → Payload → State → Val Payload
-join gang (joining.Operate op t span) a m n s = checked (offender gang (is_zero op t) a n) Divide span s (joined (op_bits op t) a m n)
+join gang (joining.Operate o) a m n s = checked (offender gang (is_zero o.operator o.elem) a n) Divide o.span s (joined (op_bits o.operator o.elem) a m n)
 join gang (joining.Compare c t) a m n s = Gives (joined (compare_bits c t) a m n) s
 
 module _ (program : Program) (most : ℕ) where
@@ -177,9 +177,9 @@ module _ (program : Program) (most : ℕ) where
   write (writing.Assign x) p q a r s =
       bind (value_at r (expr_of x.now) a s) (λ m s2. bind (checked (outside gang_of r.frame q a) Index (place_span p) s2 m)
       (λ n s3. Gives tt (kept gang_of r.frame q a n s3)))
-  write (writing.Update op t x span) p q a r s =
-      bind (value_at r (expr_of x.now) a s) (λ y s2. update gang_of r.frame (calls_in r) op t p q y span a s2)
-  write (writing.Step op t span) p q a r s = update gang_of r.frame (calls_in r) op t p q (One 1) span a s
+  write (writing.Update o x) p q a r s =
+      bind (value_at r (expr_of x.now) a s) (λ y s2. update gang_of r.frame (calls_in r) o.operator o.elem p q y o.span a s2)
+  write (writing.Step o) p q a r s = update gang_of r.frame (calls_in r) o.operator o.elem p q (One 1) o.span a s
 
   -- in a frame, with so many calls left: a statement, one that may be left out, and one after the other
   abbrev pub run_in : Frame → ℕ → TStmt → Mask → State → Res
@@ -254,9 +254,9 @@ module _ (program : Program) (most : ℕ) where
       hand (call_of c.now) (arguments_of ys.now) (map passed_seen before.items ++ Values r.value ∷ []) (flag_of set) r
   act (task.Arguments c ys before set) r = hand (call_of c.now) (arguments_of ys.now) (map passed_seen before.items) (flag_of set) r
   act (task.Packed p b t span set) r = given r (pack p b (number t (sole r.value)) span (flag_of set) r.frame r.left r.state)
-  act (task.PackedStore b t first span set) r =
-      given r (bind (checked (lowest gang_of (packed_outside (extent r.frame b) (number t first) (flag_of set))) Index span r.state r.value)
-      (λ n s. Gives (One (rank (flag_of set) gang_of)) (packed_kept gang_of (r.frame.named b.number) (number t first) (flag_of set) n s)))
+  act (task.PackedStore x span set) r =
+      given r (bind (checked (lowest gang_of (packed_outside (extent r.frame x.array) (number x.elem x.first) (flag_of set))) Index span r.state r.value)
+      (λ n s. Gives (One (rank (flag_of set) gang_of)) (packed_kept gang_of (r.frame.named x.array.number) (number x.elem x.first) (flag_of set) n s)))
   -- the caller has its frame, its level, its variables and its registers again
   act (task.Return caller left parts set) r =
       On (record {
@@ -272,8 +272,8 @@ module _ (program : Program) (most : ℕ) where
   act (task.Assign q span set) r =
       done r (bind (checked (outside gang_of r.frame (place_seen q) (flag_of set)) Index span r.state r.value)
       (λ n s. Gives tt (kept gang_of r.frame (place_seen q) (flag_of set) n s)))
-  act (task.Update op t q p span set) r =
-      done r (update gang_of r.frame (calls_in r) op t (place_of p.now) (place_seen q) r.value span (flag_of set) r.state)
+  act (task.Update o q p set) r =
+      done r (update gang_of r.frame (calls_in r) o.operator o.elem (place_of p.now) (place_seen q) r.value o.span (flag_of set) r.state)
   act (task.Items xs set) r = done r (items gang_of r.frame (calls_in r) (items_of xs.now) (flag_of set) r.state)
   act (task.Declared v t set) r = done r (Gives tt (written t.rate v (flag_of set) r.value r.state))
   act (task.Run x set) r = ran r (run_in r.frame r.left (stmt_of x.now) (flag_of set) r.state)

@@ -11,8 +11,8 @@ ghost use Rattle.isp_tasks.specs.declared.tasks.Task.TheVariants as Task;
 
 use crate::places::Place;
 use crate::state::{Evaluator, Stop, checked};
-use crate::tasks::{Gathering, Joining, Packing, Task};
-use isp_base::{BinOp, Compare, Elem, Span, TrapKind, UnaryOp, low_bits};
+use crate::tasks::{Gathering, Joining, Operation, Packing, Task};
+use isp_base::{Compare, Elem, Span, TrapKind, UnaryOp, low_bits};
 use isp_gang::computed::{
     Computed, binary, compared, dividing_by_zero, needing, numbers, selected, settled,
 };
@@ -37,36 +37,24 @@ impl<'a> Evaluator<'a> {
                 self.value = numbers(&set);
                 Ok(())
             }
-            TypedExpr::Place(place) => {
-                self.place(place, set)?;
-                Ok(())
-            }
+            TypedExpr::Place(place) => self.place(place, set),
             TypedExpr::Convert { elem, operand } => {
                 let after = Task::Convert {
                     from: operand.ty().elem,
                     to: *elem,
                 };
-                self.both(Task::Value(operand, set), after)?;
-                Ok(())
+                self.both(Task::Value(operand, set), after)
             }
             TypedExpr::Cast { operand, .. } => {
                 self.work.tick();
-                self.later(Task::Value(operand, set))?;
-                Ok(())
+                self.later(Task::Value(operand, set))
             }
             TypedExpr::Unary {
                 operator,
                 operand,
                 ty,
                 ..
-            } => {
-                let after = Task::Unary {
-                    operator: *operator,
-                    elem: ty.elem,
-                };
-                self.reach(operand, set, after)?;
-                Ok(())
-            }
+            } => self.reach(operand, set, Task::Unary(*operator, ty.elem)),
             TypedExpr::Binary {
                 operator,
                 left,
@@ -74,18 +62,12 @@ impl<'a> Evaluator<'a> {
                 ty,
                 span,
             } => {
-                let joining = Joining::Operate {
+                let joining = Joining::Operate(Operation {
                     operator: *operator,
                     elem: ty.elem,
                     span: *span,
-                };
-                let after = Task::Right {
-                    joining,
-                    right,
-                    set,
-                };
-                self.reach(left, set, after)?;
-                Ok(())
+                });
+                self.reach(left, set, Task::Right(joining, right, set))
             }
             TypedExpr::Compare {
                 comparison,
@@ -93,32 +75,15 @@ impl<'a> Evaluator<'a> {
                 right,
                 ..
             } => {
-                let joining = Joining::Compare {
-                    comparison: *comparison,
-                    elem: left.ty().elem,
-                };
-                let after = Task::Right {
-                    joining,
-                    right,
-                    set,
-                };
-                self.reach(left, set, after)?;
-                Ok(())
+                let joining = Joining::Compare(*comparison, left.ty().elem);
+                self.reach(left, set, Task::Right(joining, right, set))
             }
             TypedExpr::Logic {
                 logic,
                 left,
                 right,
                 ..
-            } => {
-                let after = Task::Logic {
-                    logic: *logic,
-                    right,
-                    set,
-                };
-                self.reach(left, set, after)?;
-                Ok(())
-            }
+            } => self.reach(left, set, Task::Logic(*logic, right, set)),
             TypedExpr::Choose {
                 test,
                 then,
@@ -130,27 +95,19 @@ impl<'a> Evaluator<'a> {
                     otherwise,
                     set,
                 };
-                self.reach(test, set, after)?;
-                Ok(())
+                self.reach(test, set, after)
             }
-            TypedExpr::Call { call, .. } => {
-                self.later(Task::Call(call, set))?;
-                Ok(())
-            }
+            TypedExpr::Call { call, .. } => self.later(Task::Call(call, set)),
             TypedExpr::Library {
                 function,
                 elem,
                 values,
                 ..
             } => {
-                let gathering = Gathering::Library {
-                    function: *function,
-                    elem: *elem,
-                };
+                let gathering = Gathering::Library(*function, *elem);
                 let done = Vec::new(self.alloc);
                 self.work.tick();
-                self.values(gathering, values.as_slice(), done, set)?;
-                Ok(())
+                self.values(gathering, values.as_slice(), done, set)
             }
             TypedExpr::PackedStore { base, value, span } => {
                 self.work.tick();
@@ -239,7 +196,7 @@ impl<'a> Evaluator<'a> {
         ensures err { IfErr result (λ e. e ≡ Stop.Memory) }
     {
         let left = self.value;
-        self.both(Task::Value(right, set), Task::Join { joining, left, set })?;
+        self.both(Task::Value(right, set), Task::Join(joining, left, set))?;
         Ok(())
     }
 
@@ -249,12 +206,8 @@ impl<'a> Evaluator<'a> {
         ensures err { IfErr result (λ e. (t : Trap) × (e ≡ Stop.Trapped t) × Traps self.old self.new (Task.Join joining left set) t) }
     {
         match joining {
-            Joining::Operate {
-                operator,
-                elem,
-                span,
-            } => self.operate(operator, elem, span, left, set),
-            Joining::Compare { comparison, elem } => {
+            Joining::Operate(operation) => self.operate(operation, left, set),
+            Joining::Compare(comparison, elem) => {
                 self.compare(comparison, elem, left, set);
                 Ok(())
             }
@@ -263,18 +216,16 @@ impl<'a> Evaluator<'a> {
 
     // An operator, both operands being found.
     #[tactic(auto, using(crate::proofs::Nodes::operate_does, crate::proofs::Nodes::operate_traps))]
-    fn operate(
-        &mut self,
-        operator: BinOp,
-        elem: Elem,
-        span: Span,
-        left: Computed,
-        set: Active,
-    ) -> Result<(), Stop>
-        ensures ok { OnOk result (Does self.old self.new (Task.Join (Joining.Operate operator elem span) left set)) }
+    fn operate(&mut self, operation: Operation, left: Computed, set: Active) -> Result<(), Stop>
+        ensures ok { OnOk result (Does self.old self.new (Task.Join (Joining.Operate operation) left set)) }
         ensures err { IfErr result (λ e. (t : Trap) × (e ≡ Stop.Trapped t)
-            × Traps self.old self.new (Task.Join (Joining.Operate operator elem span) left set) t) }
+            × Traps self.old self.new (Task.Join (Joining.Operate operation) left set) t) }
     {
+        let Operation {
+            operator,
+            elem,
+            span,
+        } = operation;
         let offender = dividing_by_zero(self.gang(), operator, elem, &set, &self.value);
         checked(offender, TrapKind::Divide, span)?;
         self.value = binary(operator, elem, &set, &left, &self.value);
@@ -312,7 +263,7 @@ impl<'a> Evaluator<'a> {
     {
         let left = self.value;
         let needed = needing(logic, &set, &left);
-        self.unless_empty(right, needed, Task::Settle { logic, left, set })?;
+        self.unless_empty(right, needed, Task::Settle(logic, left, set))?;
         Ok(())
     }
 

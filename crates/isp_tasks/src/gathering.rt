@@ -69,7 +69,7 @@ impl<'a> Evaluator<'a> {
         ensures err { IfErr result (λ e. e ≡ Stop.Memory) }
     {
         match gathering {
-            Gathering::Library { function, elem } => {
+            Gathering::Library(function, elem) => {
                 self.value = called(self.gang(), function, elem, &set, values);
                 Ok(())
             }

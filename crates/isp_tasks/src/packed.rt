@@ -16,7 +16,7 @@ ghost use Rattle.isp_tasks.specs.declared.tasks.Task.TheVariants as Task;
 use crate::packing::{held, outside, places};
 use crate::state::{Evaluator, Stop, checked};
 use crate::stores::put_each;
-use crate::tasks::{Packing, Task};
+use crate::tasks::{Elements, Packing, Task};
 use isp_base::{Elem, Rate, Span, TrapKind};
 use isp_gang::computed::Computed;
 use isp_gang::sets::{Active, rank};
@@ -69,19 +69,14 @@ impl<'a> Evaluator<'a> {
         ensures err { IfErr result (Halts self.old self.new (does self.old (Task.Packed packing.entry array elem span set))) }
     {
         let first = self.value.sole();
+        let elements = Elements { array, elem, first };
         match packing {
             Packing::Store(value) => {
-                let after = Task::PackedStore {
-                    array,
-                    elem,
-                    first,
-                    span,
-                    set,
-                };
+                let after = Task::PackedStore(elements, span, set);
                 self.both(Task::Value(value, set), after)?;
                 Ok(())
             }
-            Packing::Load(variable) => { self.packed_load(variable, array, elem, first, span, set) }
+            Packing::Load(variable) => self.packed_load(variable, elements, span, set),
         }
     }
 
@@ -90,18 +85,17 @@ impl<'a> Evaluator<'a> {
     fn packed_load(
         &mut self,
         variable: usize,
-        array: ArrayVariable,
-        elem: Elem,
-        first: u64,
+        elements: Elements,
         span: Span,
         set: Active,
     ) -> Result<(), Stop>
-        ensures ok { OnOk result (Comes self.old self.new (packs_from self.old (Packing.Load variable) array (number elem first)
-            span (flag_of set))) }
-        ensures err { IfErr result (Halts self.old self.new (packs_from self.old (Packing.Load variable) array (number elem first)
-            span (flag_of set))) }
+        ensures ok { OnOk result (Comes self.old self.new (packs_from self.old (Packing.Load variable) elements.array
+            (number elements.elem elements.first) span (flag_of set))) }
+        ensures err { IfErr result (Halts self.old self.new (packs_from self.old (Packing.Load variable) elements.array
+            (number elements.elem elements.first) span (flag_of set))) }
     {
         self.work.tick();
+        let Elements { array, elem, first } = elements;
         let count = self.here.extent(array);
         let offender = outside(self.gang(), elem, first, count, &set);
         checked(offender, TrapKind::Index, span)?;
@@ -121,17 +115,11 @@ impl<'a> Evaluator<'a> {
 
     /// The value of a packed store was found.
     #[tactic(auto, using(crate::proofs::Leaves::memory_halts))]
-    pub fn packed_store(
-        &mut self,
-        array: ArrayVariable,
-        elem: Elem,
-        first: u64,
-        span: Span,
-        set: Active,
-    ) -> Result<(), Stop>
-        ensures ok { OnOk result (Does self.old self.new (Task.PackedStore array elem first span set)) }
-        ensures err { IfErr result (Halts self.old self.new (does self.old (Task.PackedStore array elem first span set))) }
+    pub fn packed_store(&mut self, elements: Elements, span: Span, set: Active) -> Result<(), Stop>
+        ensures ok { OnOk result (Does self.old self.new (Task.PackedStore elements span set)) }
+        ensures err { IfErr result (Halts self.old self.new (does self.old (Task.PackedStore elements span set))) }
     {
+        let Elements { array, elem, first } = elements;
         let count = self.here.extent(array);
         let size = self.gang();
         let offender = outside(size, elem, first, count, &set);

@@ -16,7 +16,8 @@ ghost use Rattle.isp_tasks.specs.declared.state.Stop.TheVariants as Stop;
 use crate::indices::{element, is_outside, picked, picked_own, places, where_outside};
 use crate::state::{Evaluator, Stop};
 use crate::stores::{clear, clear_own, element_at, put_each, put_element, put_own_each};
-use isp_base::{BinOp, Elem, Rate, Span, Ty};
+use crate::tasks::Operation;
+use isp_base::{Elem, Rate, Ty};
 use isp_gang::computed::Computed;
 use isp_gang::growing::{self, lanes_at, put, put_lanes};
 use isp_gang::row::{on, over};
@@ -42,16 +43,10 @@ pub enum Place {
 pub enum Writing<'a> {
     Assign(&'a TypedExpr),
     Update {
-        operator: BinOp,
-        elem: Elem,
+        operation: Operation,
         value: &'a TypedExpr,
-        span: Span,
     },
-    Step {
-        operator: BinOp,
-        elem: Elem,
-        span: Span,
-    },
+    Step(Operation),
 }
 
 impl Evaluator<'_> {

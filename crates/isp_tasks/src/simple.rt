@@ -9,8 +9,8 @@ ghost use Rattle.isp_tasks.specs.declared.tasks.Task.TheVariants as Task;
 
 use crate::places::{Place, Writing};
 use crate::state::{Evaluator, Stop, checked};
-use crate::tasks::Task;
-use isp_base::{BinOp, Elem, Span, TrapKind, Ty};
+use crate::tasks::{Operation, Task};
+use isp_base::{Elem, Span, TrapKind, Ty};
 use isp_gang::computed::{Computed, binary, dividing_by_zero};
 use isp_gang::sets::Active;
 use isp_typed::{ArrayVariable, TypedItem, TypedPlace, TypedSimple};
@@ -42,12 +42,12 @@ impl<'a> Evaluator<'a> {
                 value,
                 span,
             } => {
-                let writing = Writing::Update {
+                let operation = Operation {
                     operator: *operator,
                     elem: *elem,
-                    value,
                     span: *span,
                 };
+                let writing = Writing::Update { operation, value };
                 self.target(target, writing, set)
             }
             TypedSimple::Step {
@@ -56,12 +56,12 @@ impl<'a> Evaluator<'a> {
                 target,
                 span,
             } => {
-                let writing = Writing::Step {
+                let operation = Operation {
                     operator: *operator,
                     elem: *elem,
                     span: *span,
                 };
-                self.target(target, writing, set)
+                self.target(target, Writing::Step(operation), set)
             }
         }
     }
@@ -134,38 +134,23 @@ impl<'a> Evaluator<'a> {
     {
         match writing {
             Writing::Assign(value) => {
-                let after = Task::Assign {
-                    place,
-                    span: target.span(),
-                    set,
-                };
+                let after = Task::Assign(place, target.span(), set);
                 self.both(Task::Value(value, set), after)?;
                 Ok(())
             }
-            Writing::Update {
-                operator,
-                elem,
-                value,
-                span,
-            } => {
+            Writing::Update { operation, value } => {
                 let after = Task::Update {
-                    operator,
-                    elem,
+                    operation,
                     place,
                     target,
-                    span,
                     set,
                 };
                 self.both(Task::Value(value, set), after)?;
                 Ok(())
             }
-            Writing::Step {
-                operator,
-                elem,
-                span,
-            } => {
+            Writing::Step(operation) => {
                 self.value = Computed::One(1);
-                self.update(operator, elem, place, target, span, set)
+                self.update(operation, place, target, set)
             }
         }
     }
@@ -187,16 +172,19 @@ impl<'a> Evaluator<'a> {
     #[tactic(auto, using(crate::proofs::Leaves::memory_halts, crate::proofs::Assignments::update_does, crate::proofs::Assignments::update_halts_outside, crate::proofs::Assignments::update_halts_zero))]
     pub fn update(
         &mut self,
-        operator: BinOp,
-        elem: Elem,
+        operation: Operation,
         place: Place,
         target: &'a TypedPlace,
-        span: Span,
         set: Active,
     ) -> Result<(), Stop>
-        ensures ok { OnOk result (Does self.old self.new (Task.Update operator elem place target.entry span set)) }
-        ensures err { IfErr result (Halts self.old self.new (does self.old (Task.Update operator elem place target.entry span set))) }
+        ensures ok { OnOk result (Does self.old self.new (Task.Update operation place target.entry set)) }
+        ensures err { IfErr result (Halts self.old self.new (does self.old (Task.Update operation place target.entry set))) }
     {
+        let Operation {
+            operator,
+            elem,
+            span,
+        } = operation;
         checked(self.outside(&place, &set), TrapKind::Index, target.span())?;
         let right = self.value;
         let own = target.ty().elem;

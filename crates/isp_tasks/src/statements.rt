@@ -185,7 +185,7 @@ impl<'a> Evaluator<'a> {
         ensures err { IfErr result (λ e. e ≡ Stop.Memory) }
     {
         self.work.tick();
-        self.both(Task::Value(test, set), Task::Assert { span, set })?;
+        self.both(Task::Value(test, set), Task::Assert(span, set))?;
         Ok(())
     }
 }

@@ -15,27 +15,25 @@ use isp_typed::{
     TypedSimple, TypedStmt,
 };
 
-/// An operator on two values.
+/// An operator on values of a type, and where it stands.
+#[derive(Clone, Copy)]
+pub struct Operation {
+    pub operator: BinOp,
+    pub elem: Elem,
+    pub span: Span,
+}
+
+/// What is done with two values.
 #[derive(Clone, Copy)]
 pub enum Joining {
-    Operate {
-        operator: BinOp,
-        elem: Elem,
-        span: Span,
-    },
-    Compare {
-        comparison: Compare,
-        elem: Elem,
-    },
+    Operate(Operation),
+    Compare(Compare, Elem),
 }
 
 /// What is done with several values.
 #[derive(Clone, Copy)]
 pub enum Gathering<'a> {
-    Library {
-        function: Library,
-        elem: Elem,
-    },
+    Library(Library, Elem),
     Print {
         text: &'a [u8],
         values: &'a [TypedExpr],
@@ -48,6 +46,14 @@ pub enum Passed {
     Value(Computed),
     /// An array, by its store.
     Store(usize),
+}
+
+/// The elements of an array from an index on, whose type is said.
+#[derive(Clone, Copy)]
+pub struct Elements {
+    pub array: ArrayVariable,
+    pub elem: Elem,
+    pub first: u64,
 }
 
 /// What a packed call does.
@@ -89,32 +95,15 @@ pub enum Task<'a> {
         from: Elem,
         to: Elem,
     },
-    Unary {
-        operator: UnaryOp,
-        elem: Elem,
-    },
+    Unary(UnaryOp, Elem),
     /// The left operand was found.
-    Right {
-        joining: Joining,
-        right: &'a TypedExpr,
-        set: Active,
-    },
-    Join {
-        joining: Joining,
-        left: Computed,
-        set: Active,
-    },
+    Right(Joining, &'a TypedExpr, Active),
+    /// The right operand was found, after this left one.
+    Join(Joining, Computed, Active),
     /// The left operand of `&&` or `||` was found.
-    Logic {
-        logic: Logic,
-        right: &'a TypedExpr,
-        set: Active,
-    },
-    Settle {
-        logic: Logic,
-        left: Computed,
-        set: Active,
-    },
+    Logic(Logic, &'a TypedExpr, Active),
+    /// The right operand was found, after this left one.
+    Settle(Logic, Computed, Active),
     /// The test of `?:` was found.
     Choose {
         then: &'a TypedExpr,
@@ -147,13 +136,7 @@ pub enum Task<'a> {
         set: Active,
     },
     /// The value of a packed store was found.
-    PackedStore {
-        array: ArrayVariable,
-        elem: Elem,
-        first: u64,
-        span: Span,
-        set: Active,
-    },
+    PackedStore(Elements, Span, Active),
     // ---- calls
     Call(&'a TypedCall, Active),
     /// The arguments that are left, and then the call.
@@ -190,17 +173,11 @@ pub enum Task<'a> {
         set: Active,
     },
     /// The right side was found.
-    Assign {
-        place: Place,
-        span: Span,
-        set: Active,
-    },
+    Assign(Place, Span, Active),
     Update {
-        operator: BinOp,
-        elem: Elem,
+        operation: Operation,
         place: Place,
         target: &'a TypedPlace,
-        span: Span,
         set: Active,
     },
     Items(&'a [TypedItem], Active),
@@ -225,10 +202,7 @@ pub enum Task<'a> {
     /// The result was found.
     Answer(Active),
     /// The test of an `assert` was found.
-    Assert {
-        span: Span,
-        set: Active,
-    },
+    Assert(Span, Active),
     // ---- loops
     /// The live instances take the test.
     Test(Box<Turning<'a>>),
@@ -265,18 +239,14 @@ impl<'a> Evaluator<'a> {
                 self.convert(from, to);
                 Ok(())
             }
-            Task::Unary { operator, elem } => {
+            Task::Unary(operator, elem) => {
                 self.unary(operator, elem);
                 Ok(())
             }
-            Task::Right {
-                joining,
-                right,
-                set,
-            } => self.right(joining, right, set),
-            Task::Join { joining, left, set } => self.join(joining, left, set),
-            Task::Logic { logic, right, set } => self.logic(logic, right, set),
-            Task::Settle { logic, left, set } => {
+            Task::Right(joining, right, set) => self.right(joining, right, set),
+            Task::Join(joining, left, set) => self.join(joining, left, set),
+            Task::Logic(logic, right, set) => self.logic(logic, right, set),
+            Task::Settle(logic, left, set) => {
                 self.settle(logic, left, set);
                 Ok(())
             }
@@ -307,13 +277,7 @@ impl<'a> Evaluator<'a> {
                 span,
                 set,
             } => self.packed(packing, array, elem, span, set),
-            Task::PackedStore {
-                array,
-                elem,
-                first,
-                span,
-                set,
-            } => self.packed_store(array, elem, first, span, set),
+            Task::PackedStore(elements, span, set) => self.packed_store(elements, span, set),
             Task::Call(call, set) => self.call(call, set),
             Task::Arguments {
                 call,
@@ -336,16 +300,6 @@ impl<'a> Evaluator<'a> {
                 self.resume(caller, left, sets, set);
                 Ok(())
             }
-            task => self.act_simple(task),
-        }
-    }
-
-    // Does a task of the statements after which all go on.
-    fn act_simple(&mut self, task: Task<'a>) -> Result<(), Stop>
-        ensures ok { OnOk result (Comes self.old self.new (does self.old task.entry)) }
-        ensures err { IfErr result (Halts self.old self.new (does self.old task.entry)) }
-    {
-        match task {
             Task::Simple(simple, set) => self.simple(simple, set),
             Task::Forget => {
                 self.forget();
@@ -358,27 +312,15 @@ impl<'a> Evaluator<'a> {
                 writing,
                 set,
             } => self.indexed(target, array, elem, writing, set),
-            Task::Assign { place, span, set } => self.assign(place, span, set),
+            Task::Assign(place, span, set) => self.assign(place, span, set),
             Task::Update {
-                operator,
-                elem,
+                operation,
                 place,
                 target,
-                span,
                 set,
-            } => self.update(operator, elem, place, target, span, set),
+            } => self.update(operation, place, target, set),
             Task::Items(items, set) => self.items(items, set),
             Task::Declared { number, ty, set } => self.declared(number, ty, set),
-            task => self.act_statement(task),
-        }
-    }
-
-    // Does a task of the other statements.
-    fn act_statement(&mut self, task: Task<'a>) -> Result<(), Stop>
-        ensures ok { OnOk result (Comes self.old self.new (does self.old task.entry)) }
-        ensures err { IfErr result (Halts self.old self.new (does self.old task.entry)) }
-    {
-        match task {
             Task::Run(statement, set) => self.run(statement, set),
             Task::Statements(statements) => self.went_by(statements),
             Task::Went(set) => {
@@ -395,7 +337,7 @@ impl<'a> Evaluator<'a> {
                 self.answer(set);
                 Ok(())
             }
-            Task::Assert { span, set } => self.assert(span, set),
+            Task::Assert(span, set) => self.assert(span, set),
             Task::Test(turning) => self.test(*turning),
             Task::Tested(turning) => self.tested(*turning),
             Task::Turned(turning) => self.turned(*turning),
@@ -403,10 +345,6 @@ impl<'a> Evaluator<'a> {
             Task::End { start, bounds } => self.end(start, bounds),
             Task::Rounds(rounds) => self.rounds(rounds),
             Task::Members(members) => self.members(members),
-            task => {
-                self.later(task)?;
-                Ok(())
-            }
         }
     }
 }

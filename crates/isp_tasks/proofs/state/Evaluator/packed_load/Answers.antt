@@ -19,10 +19,9 @@ use Rattle.isp_tasks.proofs.state.Evaluator.packed_load.Goals as goal
 pub returns-clause-ok : goal.returns-clause-ok
 returns-clause-ok c =
     let old = c.args.self.now in
-    let b = c.args.array in
-    let z = number c.args.elem c.args.first in
+    let z = number c.args.elements.elem c.args.elements.first in
     let a = flag_of c.args.set in
-    load_comes old b c.args.elem c.args.first c.args.span c.args.set c.tick.new.self c.tick.ensures c.args.variable c.write.new.self (Each (map_of c.held-row.result)) c.count-self.result
+    load_comes old c.args.elements c.args.span c.args.set c.tick.new.self c.tick.ensures c.args.variable c.write.new.self (Each (map_of c.held-row.result)) c.count-self.result
     (sym (ap₂ (λ (g : Gang) (k : ℕ). lowest (gang_width g) (packed_outside k z a)) c.gang.ensures c.extent-count.ensures) ∙ sym c.outside-offender.ensures ∙ c.in_ok-checked.ensures.ok)
     (λ w. ap Each (c.held-row.ensures ∙ ap₂ {C = Map} (λ (xs : List (Vec ℕ Global)) (k : ℕ). on a (λ p. stores_of xs k (unsigned_abs (packed_index z a p)))) c.as_slice.ensures.value c.store-store.ensures))
     c.in_ok-write.ensures.ok
@@ -31,10 +30,10 @@ returns-clause-ok c =
 pub returns-in_err-checked-clause-err : goal.returns-in_err-checked-clause-err
 returns-in_err-checked-clause-err c =
     let old = c.args.self.now in
-    let b = c.args.array in
-    let z = number c.args.elem c.args.first in
+    let b = c.args.elements.array in
+    let z = number c.args.elements.elem c.args.elements.first in
     let a = flag_of c.args.set in
     let h = c.in_err-checked.ensures.err in
     at_err c.from_residual.result c.in_err-checked.field-0.0 (Halts old (record old { work = c.tick.new.self }) (packs_from old (packing.Load c.args.variable) b z c.args.span a)) c.from_residual.ensures.1
-    (load_halts old b c.args.elem c.args.first c.args.span c.args.set c.tick.new.self c.tick.ensures c.args.variable c.in_err-checked.field-0.0 h.0
+    (load_halts old c.args.elements c.args.span c.args.set c.tick.new.self c.tick.ensures c.args.variable c.in_err-checked.field-0.0 h.0
     (sym (ap₂ (λ (g : Gang) (k : ℕ). lowest (gang_width g) (packed_outside k z a)) c.gang.ensures c.extent-count.ensures) ∙ sym c.outside-offender.ensures ∙ h.1) h.2)
