@@ -26,7 +26,7 @@ one_number (z ∷ rows) x y e = go (name_number z.name == name_number x) (name_n
     go false true eb ed ih h = absurd (omega (arith, h))
     go false false eb ed ih h = ih (omega (arith, h))
 
-few_ranks : (t : Elem) → rank t < 9
+pub few_ranks : (t : Elem) → rank t < 9
 few_ranks Truth = omega arith
 few_ranks I8 = omega arith
 few_ranks U8 = omega arith

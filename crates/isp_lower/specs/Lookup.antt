@@ -21,6 +21,13 @@ row_of r = record { name = name_of r.name; elem = r.elem }
 abbrev pub Tells : BTreeMap ℕ ℕ → List Row → Type 0
 Tells places rows = (x : Name) (t : Elem) → elem_in rows x ≡ Some t → get nat_cmp places (name_number x) ≡ Some (number_in rows x)
 
+-- a spare register has the type that its name says
+abbrev pub HasOwnType : Name → Elem → Type 0
+HasOwnType (Variable v) t = Unit {0}
+HasOwnType Result t = Unit {0}
+HasOwnType (Spare u j) t = t ≡ u
+HasOwnType (Fresh j) t = Unit {0}
+
 -- a fresh register is named by its number
 abbrev pub IsNamedAt : ℕ → Name → Type 0
 IsNamedAt n (Variable v) = Unit {0}
@@ -28,10 +35,10 @@ IsNamedAt n Result = Unit {0}
 IsNamedAt n (Spare t j) = Unit {0}
 IsNamedAt n (Fresh j) = j ≡ n
 
--- so are those of some rows, of which the first has number n
+-- so it is with some rows, of which the first has number n
 abbrev pub AreNamedFrom : ℕ → List Row → Type 0
 AreNamedFrom n [] = Unit {0}
-AreNamedFrom n (y ∷ ys) = IsNamedAt n y.name × AreNamedFrom (suc n) ys
+AreNamedFrom n (y ∷ ys) = IsNamedAt n y.name × HasOwnType y.name y.elem × AreNamedFrom (suc n) ys
 
 -- a name that trees ask for, which is not that of a fresh register
 abbrev pub IsAsked : Name → Type 0

@@ -1,10 +1,9 @@
 -- A layout from lists of rows: a register has the number of the first row of its class that has its name. So rows are
 -- added at the end, as names come up, and no number changes. A name that no row has gets a number past the last row. The variables
 -- that packed loads write are rows too, which are no registers.
-use Rattle.std.specs.Prelude.{◌≡◌, ℕ, ◌+◌, ◌*◌, ◌==◌, List, [], ◌∷◌, ◌++◌, length, Option, Some, None, is_some, if◌then◌else◌}
+use Rattle.std.specs.Prelude.{◌≡◌, ℕ, ◌+◌, ◌*◌, ◌==◌, List, [], ◌∷◌, ◌++◌, length, Option, Some, None, is_some, true, if◌then◌else◌}
 use Rattle.isp_base.specs.Ranks.{rank}
 use Rattle.isp_base.specs.declared.types.Elem.{Elem}
-use Rattle.isp_base.specs.declared.types.Elem.TheVariants.{Bool as Truth}
 use Rattle.isp_base.specs.declared.types.Rate.{Rate}
 use Rattle.isp_base.specs.declared.types.Rate.TheVariants.{Uniform, Varying}
 use Rattle.isp_lower.specs.Layout.{Layout}
@@ -67,7 +66,7 @@ HasRow rows r x t = elem_in (rows_at rows r) x ≡ Some t
 
 -- a packed load writes the variable
 abbrev pub IsLoaded : Rows → ℕ → Type 0
-IsLoaded rows v = elem_in rows.loaded (Variable v) ≡ Some Truth
+IsLoaded rows v = is_some (elem_in rows.loaded (Variable v)) ≡ true
 
 -- one more row, of a fresh register
 abbrev pub with_fresh : Elem → List Row → List Row

@@ -1,7 +1,6 @@
 //! The registers of the function in hand.
 ghost use Rattle.std.specs.Prelude.{◌≡◌, length, map, Some, IfOk, OnErr, OnOk};
 ghost use Rattle.isp_lower.specs.Emitted.{Begins, Grows, HasArray, HasLoaded, HasRow, name_of, row_of, rows_of};
-ghost use Rattle.isp_lower.specs.Lookup.{IsAsked};
 ghost use Rattle.isp_lower.specs.Rows.{Result, Spare, Variable as VariableName, elem_in, fresh_at, rows_at, with_fresh_at};
 
 use crate::numbered::{RegisterNumber, Slot};
@@ -37,27 +36,16 @@ pub struct Registers {
     pub loaded: RegisterRows,
 }
 
-/// Whether a name has a register of a type. Memory is refused where it has none.
-fn given(rows: &RegisterRows, name: RegisterName, elem: Elem) -> Result<(), AllocError>
-    ensures { OnOk result (elem_in (map row_of rows.now) (name_of name) ≡ Some elem) }
-{
-    match rows.find(name) {
-        Some((_, held)) if held == elem => Ok(()),
-        _ => Err(AllocError),
-    }
-}
-
-/// A register of a name: the next one where there is none. Memory is refused too where there is one of another type.
-fn given_or_new(rows: &mut RegisterRows, name: RegisterName, elem: Elem) -> Result<(), AllocError>
-    requires { IsAsked (name_of name) }
+/// A register of a slot for values of a type: the next one where there is none.
+fn given_or_new(rows: &mut RegisterRows, elem: Elem, slot: Slot) -> Result<(), AllocError>
     ensures rows { OnOk result (Begins (map row_of rows.old) (map row_of rows.new)) }
-    ensures elem { OnOk result (elem_in (map row_of rows.new) (name_of name) ≡ Some elem) }
+    ensures elem { OnOk result (elem_in (map row_of rows.new) (Spare elem slot.number) ≡ Some elem) }
 {
-    if rows.find(name).is_none() {
-        rows.push(RegisterRow { name, elem })?;
+    let name = RegisterName::Spare(elem, slot);
+    match rows.find(name) {
+        Some(_) => Ok(()),
+        None => rows.push(RegisterRow { name, elem }),
     }
-    given(rows, name, elem)?;
-    Ok(())
 }
 
 impl Registers {
@@ -66,16 +54,9 @@ impl Registers {
         ensures rows { OnOk result (Grows self.old self.new) }
         ensures given { OnOk result (HasRow self.new rate (Spare elem slot.number) elem) }
     {
-        let name = RegisterName::Spare(elem, slot);
         match rate {
-            Rate::Uniform => {
-                given_or_new(&mut self.scalars, name, elem)?;
-                Ok(())
-            }
-            Rate::Varying => {
-                given_or_new(&mut self.vectors, name, elem)?;
-                Ok(())
-            }
+            Rate::Uniform => given_or_new(&mut self.scalars, elem, slot),
+            Rate::Varying => given_or_new(&mut self.vectors, elem, slot),
         }
     }
 
@@ -84,8 +65,14 @@ impl Registers {
         ensures rows { OnOk result (Grows self.old self.new) }
         ensures given { OnOk result (HasLoaded self.new number) }
     {
-        given_or_new(&mut self.loaded, RegisterName::Variable(number), Elem::Bool)?;
-        Ok(())
+        let name = RegisterName::Variable(number);
+        match self.loaded.find(name) {
+            Some(_) => Ok(()),
+            None => self.loaded.push(RegisterRow {
+                name,
+                elem: Elem::Bool,
+            }),
+        }
     }
 
     /// One more register of a rate, which no tree asks for, and its number. Where memory is refused, they stay as they were.

@@ -1,6 +1,6 @@
 -- A routine that is made from a function is what is asked of code.
 use Rattle.std.proofs.Common.{◌≡◌, ℕ, suc, ◌+◌, ◌≤◌, List, [], ◌∷◌, length, Option, Some, None, refl, sym, ap, subst, arith}
-use Rattle.std.specs.Prelude.{slice_get, option_map, is_some}
+use Rattle.std.specs.Prelude.{slice_get, option_map}
 use Rattle.std.proofs.lemmas.Option.{slice_get_within}
 use Rattle.isp_base.specs.declared.types.Elem.{Elem}
 use Rattle.isp_base.specs.declared.types.Rate.{Rate}
@@ -53,7 +53,7 @@ at_low xs n (y ∷ ys) le is =
 module _ (fs : List TFunction) (code : Listing) (h : TFunction) (g : Routine) (rows : Rows) (z : Numbers) (fine : FineFunction fs h) (made : IsMade fs code h g rows z) where
   present : BodyPresent h g (layout_of (rates_in fs) rows) 3
   present =
-      body_present fs h g (layout_of (rates_in fs) rows) fine made.arrays made.parameters 3 (all_grow (HasRow rows) (HasRegister g (layout_of (rates_in fs) rows)) AnyArray AnyArray AnyArray AnyArray (HasMask g) (HasMask g) (IsLoaded rows) (IsLoadedIn (layout_of (rates_in fs) rows)) (register_there g (rates_in fs) rows made.types) (λ b z. z) (λ b z. z) (λ n z. z) (λ v z. ap is_some z) (block_asks h.answer h.body 3) made.rows_are)
+      body_present fs h g (layout_of (rates_in fs) rows) fine made.arrays made.parameters 3 (all_grow (HasRow rows) (HasRegister g (layout_of (rates_in fs) rows)) AnyArray AnyArray AnyArray AnyArray (HasMask g) (HasMask g) (IsLoaded rows) (IsLoadedIn (layout_of (rates_in fs) rows)) (register_there g (rates_in fs) rows made.types) (λ b z. z) (λ b z. z) (λ n z. z) (λ v z. z) (block_asks h.answer h.body 3) made.rows_are)
 
   given_at : (r : Rate) (t : Elem) → HasRegister g (layout_of (rates_in fs) rows) r Result t → IsGiven g (value_returned r t) (Some (register r ((layout_of (rates_in fs) rows).result r)))
   given_at Uniform t is = is
