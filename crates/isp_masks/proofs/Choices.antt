@@ -15,7 +15,7 @@ use Rattle.isp_meaning.specs.Outcomes.{Res, Went, Trapped, Cut, go_on, went_all,
 use Rattle.isp_meaning.specs.Statements.{branches}
 use Rattle.isp_lower.specs.Code.{jump_off, guard}
 use Rattle.isp_lower.specs.Layout.{register}
-use Rattle.isp_lower.specs.Setting.{Setting, IsSettled, gang_of, AreAt, At, Stands, Holds}
+use Rattle.isp_lower.specs.Setting.{Setting, IsSettled, gang_of, AreAt, At, Stands, Holds, Allowed}
 use Rattle.isp_lower.proofs.Lemmas.{are_front, are_back, put_same, put_other, comes_none, comes_on, step_go, at_to, spares_all, spares_less, spares_on, failed_after, stopped_after, failed_less, stopped_less, jumped, jump_comes, jump_at, masked, where_comes, others_comes, masked_at, any_nobody, where_inside, at_kept}
 use Rattle.isp_masks.specs.Sets.{unite}
 use Rattle.isp_masks.specs.Statements.{parted_code, if_code, if_else_code}
@@ -155,10 +155,10 @@ module _ (w : Setting) (ready : IsSettled w) where
       ends = omega (arith, length-append side (rest p2 ++ unite spot.on spot.slot spot.on ∷ []), length-append (rest p2) (unite spot.on spot.slot spot.on ∷ []))
 
       begin : StmtRuns w w.turns c2 p2 (under spot.slot spot) (2 + (2 + q)) (unless_empty (gang_of w) T s va)
-      begin = guard_runs w ready w.turns (pc + 1 + 1) (under spot.slot spot) (2 + (2 + q)) T s c2 first va (masked_at w ready c1 (pc + 1) spot.on f2 (masked_at w ready c pc spot.slot t1 at)) t_is2 (where_inside (gang_of w) a is_true v inside) st (omega (arith, le)) three_n at_side (λ c3 z en. fa T s c3 (pc + 1 + 1 + 1) z three_n at_side.1 en)
+      begin = guard_runs w ready w.turns (pc + 1 + 1) (under spot.slot spot) (2 + (2 + q)) T s c2 first va (masked_at w ready c1 (pc + 1) spot.on f2 (masked_at w ready c pc spot.slot t1 at)) t_is2 (where_inside (Allowed w) a is_true v inside) st (omega (arith, le)) three_n at_side (λ c3 z en. fa T s c3 (pc + 1 + 1 + 1) z three_n at_side.1 en)
 
       second : (s1 : State) (g b ct rt : Mask) → unless_empty (gang_of w) T s va ≡ Went s1 g b ct rt → StmtOk w c2 p2 (under spot.slot spot) (2 + (2 + q)) s1 g ct rt → StmtRuns w w.turns c2 end spot (2 + q) (go_on (unless_empty (gang_of w) F s1 vb) (λ s' g' b' c' r'. Went s' (union g g') (union b b') (union ct c') (union rt r')))
-      second s1 g b ct rt ev ok = join (unless_empty (gang_of w) F s1 vb) (fb F s1 ok.conf p2 (1 + (ok.steps + (2 + q))) three_k (are_front w.routine.code p2 (rest p2) (unite spot.on spot.slot spot.on ∷ []) at_rest) ok.at (ok.masks spot.on (omega (arith, three.low_on)) kn three.on_continued three.on_returned ∙ f_is) (below_without (gang_of w) a T inside) ok.stands (omega (arith, ok.bound)))
+      second s1 g b ct rt ev ok = join (unless_empty (gang_of w) F s1 vb) (fb F s1 ok.conf p2 (1 + (ok.steps + (2 + q))) three_k (are_front w.routine.code p2 (rest p2) (unite spot.on spot.slot spot.on ∷ []) at_rest) ok.at (ok.masks spot.on (omega (arith, three.low_on)) kn three.on_continued three.on_returned ∙ f_is) (below_without (Allowed w) a T inside) ok.stands (omega (arith, ok.bound)))
         where
           join : (u : Res) → StmtRuns w w.turns ok.conf p3 (under spot.on spot) (1 + (ok.steps + (2 + q))) u → StmtRuns w w.turns c2 end spot (2 + q) (go_on u (λ s' g' b' c' r'. Went s' (union g g') (union b b') (union ct c') (union rt r')))
           join (Went s' g' b' c' r') r = record {

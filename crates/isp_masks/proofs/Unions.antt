@@ -1,5 +1,5 @@
 -- Sets that grow, and sets of a gang.
-use Rattle.std.proofs.Common.{◌≡◌, ℕ, ◌<◌, Bool, true, false, refl}
+use Rattle.std.proofs.Common.{◌≡◌, ℕ, Bool, true, false, refl}
 use Rattle.std.specs.Prelude.{◌||◌, ◌&&◌, not}
 use Rattle.std.proofs.Math.Path.{fun_ext}
 use Rattle.isp_base.specs.Sets.{Mask, nobody, union, without}
@@ -40,14 +40,14 @@ pub neither : (a b : Bool) → (a || b) ≡ false → (a ≡ false) × (b ≡ fa
 neither true b e = absurd (cc)
 neither false b e = (refl, e)
 
--- sets of instances below a number
-module _ (n : ℕ) where
+-- sets of instances that have a property
+module _ (A : ℕ → Type 0) where
   abbrev pub Below : Mask → Type 0
-  Below a = (p : ℕ) → a p ≡ true → p < n
+  Below a = (p : ℕ) → a p ≡ true → A p
 
   pub below_without : (a b : Mask) → Below a → Below (without a b)
   below_without a b ha p h = go (a p) refl h
     where
-      go : (x : Bool) → a p ≡ x → (x && not (b p)) ≡ true → p < n
+      go : (x : Bool) → a p ≡ x → (x && not (b p)) ≡ true → A p
       go true e h = ha p e
       go false e h = absurd (cc)
