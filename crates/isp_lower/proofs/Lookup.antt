@@ -9,7 +9,7 @@ use Rattle.std.proofs.lemmas.Option.{slice_get-get_or}
 use Rattle.std.proofs.lemmas.Cmp.{tied_itself, nat_cmp_total}
 use Rattle.isp_base.specs.declared.types.Elem.{Elem}
 use Rattle.isp_lower.specs.Lookup.{AreNamedFrom, IsNamedAt, Tells, name_of, row_of}
-use Rattle.isp_lower.specs.Rows.{Name, Variable, Result, Spare, Fresh, Row, name_number, number_in, elem_in, with_fresh}
+use Rattle.isp_lower.specs.Rows.{Name, Variable, Result, Spare, Place, Fresh, Row, name_number, number_in, elem_in, with_fresh}
 use Rattle.isp_lower.specs.declared.registers.RegisterRow.{RegisterRow}
 use Rattle.isp_lower.proofs.Rows.{rows_stay}
 
@@ -189,6 +189,7 @@ other_name : (x : Name) (n m : ℕ) → IsNamedAt n x → n < m → name_number 
 other_name (Variable v) n m h lt = λ e. omega (arith, e)
 other_name Result n m h lt = λ e. omega (arith, e)
 other_name (Spare t j) n m h lt = λ e. omega (arith, e)
+other_name Place n m h lt = λ e. omega (arith, e)
 other_name (Fresh j) n m h lt = λ e. omega (arith, e, h, lt)
 
 fresh_last : (n m : ℕ) (rows : List Row) (t : Elem) → AreNamedFrom n rows → n + length rows ≡ m → number_in (rows ++ (record { name = Fresh m; elem = t }) ∷ []) (Fresh m) ≡ length rows

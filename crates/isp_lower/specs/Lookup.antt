@@ -3,7 +3,7 @@ use Rattle.std.specs.Prelude.{◌≡◌, ℕ, suc, List, [], ◌∷◌, Some}
 use Rattle.std.specs.BTreeMap.{BTreeMap, get}
 use Rattle.std.specs.Ordering.{nat_cmp}
 use Rattle.isp_base.specs.declared.types.Elem.{Elem}
-use Rattle.isp_lower.specs.Rows.{Name, Variable, Result, Spare, Fresh, Row, name_number, number_in, elem_in}
+use Rattle.isp_lower.specs.Rows.{Name, Variable, Result, Spare, Place, Fresh, Row, name_number, number_in, elem_in}
 use Rattle.isp_lower.specs.declared.registers.RegisterName.{RegisterName}
 use Rattle.isp_lower.specs.declared.registers.RegisterName.TheVariants as one
 use Rattle.isp_lower.specs.declared.registers.RegisterRow.{RegisterRow}
@@ -12,6 +12,7 @@ abbrev pub name_of : RegisterName → Name
 name_of (one.Variable v) = Variable v
 name_of one.Result = Result
 name_of (one.Spare t j) = Spare t j.number
+name_of one.Place = Place
 name_of (one.Fresh j) = Fresh j
 
 abbrev pub row_of : RegisterRow → Row
@@ -26,6 +27,7 @@ abbrev pub IsNamedAt : ℕ → Name → Type 0
 IsNamedAt n (Variable v) = Unit {0}
 IsNamedAt n Result = Unit {0}
 IsNamedAt n (Spare t j) = Unit {0}
+IsNamedAt n Place = Unit {0}
 IsNamedAt n (Fresh j) = j ≡ n
 
 -- so are those of some rows, of which the first has number n

@@ -2,7 +2,9 @@
 ghost use Rattle.std.specs.Prelude.{◌≡◌, length, map, Some, IfOk, OnErr, OnOk};
 ghost use Rattle.isp_lower.specs.Emitted.{Begins, Grows, HasArray, HasLoaded, HasRow, name_of, row_of, rows_of};
 ghost use Rattle.isp_lower.specs.Lookup.{IsAsked};
-ghost use Rattle.isp_lower.specs.Rows.{Result, Spare, Variable as VariableName, elem_in, fresh_at, rows_at, with_fresh_at};
+ghost use Rattle.isp_base.specs.declared.types.Elem.TheVariants.{I64};
+ghost use Rattle.isp_base.specs.declared.types.Rate.TheVariants.{Uniform};
+ghost use Rattle.isp_lower.specs.Rows.{Place, Result, Spare, Variable as VariableName, elem_in, fresh_at, rows_at, with_fresh_at};
 
 use crate::numbered::{RegisterNumber, Slot};
 use crate::register_rows::RegisterRows;
@@ -10,13 +12,14 @@ use isp_base::{Elem, Rate, Ty};
 use isp_typed::ArrayVariable;
 use std::alloc::AllocError;
 
-/// What a register is for: a variable, by its number, what the function gives back, values of a type in a slot, or what
-/// no tree asks for; then it is named by its own number.
+/// What a register is for: a variable, by its number, what the function gives back, values of a type in a slot, the place of a run, or
+/// what no tree asks for; then it is named by its own number.
 #[derive(Clone, Copy)]
 pub enum RegisterName {
     Variable(usize),
     Result,
     Spare(Elem, Slot),
+    Place,
     Fresh(usize),
 }
 
@@ -77,6 +80,15 @@ impl Registers {
                 Ok(())
             }
         }
+    }
+
+    /// The register of the place of a run.
+    pub fn place(&mut self) -> Result<(), AllocError>
+        ensures rows { OnOk result (Grows self.old self.new) }
+        ensures given { OnOk result (HasRow self.new Uniform Place I64) }
+    {
+        given_or_new(&mut self.scalars, RegisterName::Place, Elem::I64)?;
+        Ok(())
     }
 
     /// A packed load writes a variable.
