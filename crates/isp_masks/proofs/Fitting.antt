@@ -4,6 +4,7 @@ use Rattle.isp_base.specs.declared.types.Elem.TheVariants.{I32}
 use Rattle.isp_base.specs.declared.types.Rate.{Rate}
 use Rattle.isp_base.specs.declared.types.Rate.TheVariants.{Uniform, Varying}
 use Rattle.isp_base.specs.declared.types.Ty.{Ty}
+use Rattle.isp_typed.specs.declared.variable.Variable as variable
 use Rattle.isp_typed.specs.Typed.{TExpr, t_exprs, type_of, TSimple, TFirst, t_first_declare, t_first_simple, TRange, TStmt, t_block, t_declare, t_simple, t_if, t_if_else, t_while, t_do, t_for, t_foreach, t_foreach_active, t_unmasked, t_jump, t_return, t_print, t_assert, TBlock, t_braces, TStmts, t_no_stmts, t_stmt_then, TItem, t_plain, t_with_value, t_with_size}
 use Rattle.isp_lower.specs.Asks.{Ask}
 use Rattle.isp_lower.specs.Fits.{InTable, ItemsOther}
@@ -101,7 +102,7 @@ named_same h l o d r (Spare u j) t f = f
 named_same h l o d r Place t f = f
 named_same h l o d r (Fresh j) t f = f
 
-table_same : (h : Routine) (l : Layout) (vars : List Variable) (o : Option ℕ) (d : Bool) (a : Ask) → Table h l vars a → Table h (run_as l o d) vars a
+table_same : (h : Routine) (l : Layout) (vars : List variable.Variable) (o : Option ℕ) (d : Bool) (a : Ask) → Table h l vars a → Table h (run_as l o d) vars a
 table_same h l vars o d a f =
     all_grow (IsNamedIn h l) (IsNamedIn h (run_as l o d)) (HoldsArray vars) (HoldsArray vars) (HoldsArray vars) (HoldsArray vars) AnyMask AnyMask (IsLoadedIn l) (IsLoadedIn l) (λ r x t. named_same h l o d r x t) (λ y f. f) (λ y f. f) (λ k f. f) (λ v f. f) a f
 
