@@ -12,7 +12,7 @@ use Rattle.isp_lower.specs.Asks.{Ask, Nothing, Both, Register, ArrayOf, LocalOf,
 use Rattle.isp_lower.specs.Emitted.{rows_of, Begins, Grows, HasLoaded, HasRow}
 use Rattle.isp_lower.specs.Asks.{first_slot, second_slot}
 use Rattle.isp_lower.specs.Reserved.{Gives, HasSpare, IsReserved}
-use Rattle.isp_lower.specs.Rows.{Name, Variable, Result, Spare, Fresh, Row, number_in, elem_in}
+use Rattle.isp_lower.specs.Rows.{Name, Variable, Result, Spare, Place, Fresh, Row, number_in, elem_in}
 use Rattle.isp_lower.specs.Tables.{AnyArray}
 use Rattle.isp_lower.specs.declared.registers.Registers.{Registers}
 use Rattle.isp_lower.specs.declared.reserve.Reserve.{Reserve}
@@ -71,6 +71,7 @@ spare_grows : (a b : Registers) → Grows a b → (r : Rate) (x : Name) (t : Ele
 spare_grows a b g r (Variable v) t e = tt
 spare_grows a b g r Result t e = tt
 spare_grows a b g r (Spare u j) t e = row_grows a b g r (Spare u j) t e
+spare_grows a b g r Place t e = row_grows a b g r Place t e
 spare_grows a b g r (Fresh j) t e = row_grows a b g r (Fresh j) t e
 
 pub loaded_grows : (a b : Registers) → Grows a b → (v : ℕ) → HasLoaded a v → HasLoaded b v

@@ -10,8 +10,8 @@ use Rattle.std.proofs.lemmas.Cmp.{tied_itself, nat_cmp_total}
 use Rattle.isp_base.specs.Ranks.{rank}
 use Rattle.isp_base.specs.declared.types.Elem.{Elem}
 use Rattle.isp_base.proofs.RankLaws.{same_is}
-use Rattle.isp_lower.specs.Lookup.{AreNamedFrom, HasOwnType, IsNamedAt, Tells, name_of, row_of}
-use Rattle.isp_lower.specs.Rows.{Name, Variable, Result, Spare, Fresh, Row, name_number, number_in, elem_in, with_fresh}
+use Rattle.isp_lower.specs.Lookup.{AreNamedFrom, HasOwnType, IsNamedAt, Tells, name_of, own_type, row_of}
+use Rattle.isp_lower.specs.Rows.{Name, Variable, Result, Spare, Place, Fresh, Row, name_number, number_in, elem_in, with_fresh}
 use Rattle.isp_lower.specs.declared.registers.RegisterRow.{RegisterRow}
 use Rattle.isp_lower.proofs.Rows.{few_ranks, rows_stay}
 
@@ -191,6 +191,7 @@ other_name : (x : Name) (n m : ℕ) → IsNamedAt n x → n < m → name_number 
 other_name (Variable v) n m h lt = λ e. omega (arith, e)
 other_name Result n m h lt = λ e. omega (arith, e)
 other_name (Spare t j) n m h lt = λ e. omega (arith, e)
+other_name Place n m h lt = λ e. omega (arith, e)
 other_name (Fresh j) n m h lt = λ e. omega (arith, e, h, lt)
 
 fresh_last : (n m : ℕ) (rows : List Row) (t : Elem) → AreNamedFrom n rows → n + length rows ≡ m → number_in (rows ++ (record { name = Fresh m; elem = t }) ∷ []) (Fresh m) ≡ length rows
@@ -237,11 +238,17 @@ own_name x Result t e h = tt
 own_name x (Fresh j) t e h = tt
 own_name (Variable v) (Spare w j) t e h = absurd (omega (arith, e))
 own_name Result (Spare w j) t e h = absurd (omega (arith, e))
+own_name Place (Spare w j) t e h = absurd (omega (arith, e))
 own_name (Fresh i) (Spare w j) t e h = absurd (omega (arith, e))
 own_name (Spare u i) (Spare w j) t e h =
     let a = few_ranks u in
     let b = few_ranks w in
     h ∙ same_is u w (eq-eqb (rank u) (rank w) (omega (arith, e, a, b)))
+own_name Place Place t e h = h
+own_name (Variable v) Place t e h = absurd (omega (arith, e))
+own_name Result Place t e h = absurd (omega (arith, e))
+own_name (Spare u i) Place t e h = absurd (omega (arith, e))
+own_name (Fresh i) Place t e h = absurd (omega (arith, e))
 
 pub own_in : (n : ℕ) (rows : List RegisterRow) (at : ℕ) (r : RegisterRow) → slice_get rows at ≡ Some r → AreNamedFrom n (map row_of rows) → HasOwnType (name_of r.name) r.elem
 own_in n [] at r e h = none_some (sym e)
@@ -266,3 +273,11 @@ elem_added (z ∷ rows) r e = go (name_number z.name == name_number r.name) (ele
 
 pub elem_pushed : (rows new : List RegisterRow) (r : RegisterRow) → new ≡ rows ++ r ∷ [] → elem_in (map row_of rows) (name_of r.name) ≡ None → elem_in (map row_of new) (name_of r.name) ≡ Some r.elem
 elem_pushed rows new r all e = ap (λ zs. elem_in zs (name_of r.name)) (ap (map row_of) all ∙ map-append row_of rows (r ∷ [])) ∙ elem_added (map row_of rows) (row_of r) e
+
+-- what is found of a name that says its type has that type
+pub own_is : (x : Name) (t u : Elem) → own_type x ≡ Some u → HasOwnType x t → t ≡ u
+own_is (Spare w j) t u e h = h ∙ some_same e
+own_is Place t u e h = h ∙ some_same e
+own_is (Variable v) t u e h = none_some (sym e)
+own_is Result t u e h = none_some (sym e)
+own_is (Fresh j) t u e h = none_some (sym e)

@@ -58,7 +58,8 @@ fn name_number(name: RegisterName) -> u128
         RegisterName::Result => 0,
         RegisterName::Variable(number) => 1 + 3 * number as u128,
         RegisterName::Spare(elem, slot) => 2 + 3 * (9 * slot.number as u128 + rank(elem)),
-        RegisterName::Fresh(number) => 3 + 3 * number as u128,
+        RegisterName::Place => 3,
+        RegisterName::Fresh(number) => 6 + 3 * number as u128,
     }
 }
 

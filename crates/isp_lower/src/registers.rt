@@ -1,7 +1,10 @@
 //! The registers of the function in hand.
 ghost use Rattle.std.specs.Prelude.{◌≡◌, length, map, Some, IfOk, OnErr, OnOk};
 ghost use Rattle.isp_lower.specs.Emitted.{Begins, Grows, HasArray, HasLoaded, HasRow, name_of, row_of, rows_of};
-ghost use Rattle.isp_lower.specs.Rows.{Result, Spare, Variable as VariableName, elem_in, fresh_at, rows_at, with_fresh_at};
+ghost use Rattle.isp_lower.specs.Lookup.{IsAsked, own_type};
+ghost use Rattle.isp_base.specs.declared.types.Elem.TheVariants.{I64};
+ghost use Rattle.isp_base.specs.declared.types.Rate.TheVariants.{Uniform};
+ghost use Rattle.isp_lower.specs.Rows.{Place, Result, Spare, Variable as VariableName, elem_in, fresh_at, rows_at, with_fresh_at};
 
 use crate::numbered::{RegisterNumber, Slot};
 use crate::register_rows::RegisterRows;
@@ -9,13 +12,14 @@ use isp_base::{Elem, Rate, Ty};
 use isp_typed::ArrayVariable;
 use std::alloc::AllocError;
 
-/// What a register is for: a variable, by its number, what the function gives back, values of a type in a slot, or what
-/// no tree asks for; then it is named by its own number.
+/// What a register is for: a variable, by its number, what the function gives back, values of a type in a slot, the place of a run, or
+/// what no tree asks for; then it is named by its own number.
 #[derive(Clone, Copy)]
 pub enum RegisterName {
     Variable(usize),
     Result,
     Spare(Elem, Slot),
+    Place,
     Fresh(usize),
 }
 
@@ -36,12 +40,13 @@ pub struct Registers {
     pub loaded: RegisterRows,
 }
 
-/// A register of a slot for values of a type: the next one where there is none.
-fn given_or_new(rows: &mut RegisterRows, elem: Elem, slot: Slot) -> Result<(), AllocError>
+/// A register of a name that says its type: the next one where there is none.
+fn given_or_new(rows: &mut RegisterRows, name: RegisterName, elem: Elem) -> Result<(), AllocError>
+    requires asked { IsAsked (name_of name) }
+    requires own { own_type (name_of name) ≡ Some elem }
     ensures rows { OnOk result (Begins (map row_of rows.old) (map row_of rows.new)) }
-    ensures elem { OnOk result (elem_in (map row_of rows.new) (Spare elem slot.number) ≡ Some elem) }
+    ensures elem { OnOk result (elem_in (map row_of rows.new) (name_of name) ≡ Some elem) }
 {
-    let name = RegisterName::Spare(elem, slot);
     match rows.find(name) {
         Some(_) => Ok(()),
         None => rows.push(RegisterRow { name, elem }),
@@ -54,10 +59,19 @@ impl Registers {
         ensures rows { OnOk result (Grows self.old self.new) }
         ensures given { OnOk result (HasRow self.new rate (Spare elem slot.number) elem) }
     {
+        let name = RegisterName::Spare(elem, slot);
         match rate {
-            Rate::Uniform => given_or_new(&mut self.scalars, elem, slot),
-            Rate::Varying => given_or_new(&mut self.vectors, elem, slot),
+            Rate::Uniform => given_or_new(&mut self.scalars, name, elem),
+            Rate::Varying => given_or_new(&mut self.vectors, name, elem),
         }
+    }
+
+    /// The register of the place of a run.
+    pub fn place(&mut self) -> Result<(), AllocError>
+        ensures rows { OnOk result (Grows self.old self.new) }
+        ensures given { OnOk result (HasRow self.new Uniform Place I64) }
+    {
+        given_or_new(&mut self.scalars, RegisterName::Place, Elem::I64)
     }
 
     /// A packed load writes a variable.

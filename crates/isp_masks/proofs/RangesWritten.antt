@@ -96,10 +96,10 @@ indices_more h a b c all i d lt one left =
 pub sweep_there : (on : Scope) (it : Sweep) (rs : List TRange) → 0 < length rs → Present on (sweeps_asks rs it) → Present on (sweep_asks it)
 sweep_there on it [] some p = absurd (omega (arith, some))
 sweep_there on it (r ∷ rs) some p =
-    ((p.1.0.0.0, (p.1.0.1.0, p.1.0.1.1.0.0)), ((p.1.1.0.0.1.0, (p.1.1.0.0.1.1.0, (p.1.1.0.0.1.1.1.0, p.1.1.0.0.1.1.1.1.1))), (p.0.1.1.0, (p.0.1.1.1.0, p.0.1.1.1.1.0))))
+    ((p.1.0.0.0, (p.1.0.1.0, p.1.0.1.1.0.0)), ((p.1.1.0.0.1.0, (p.1.1.0.0.1.1.0, (p.1.1.0.0.1.1.1.0, p.1.1.0.0.1.1.1.1.1.0))), (p.0.1.1.0, (p.0.1.1.1.0, p.0.1.1.1.1.0))))
 
 pub last_there : (on : Scope) (it : Sweep) (r : TRange) (rs : List TRange) → Present on (sweeps_asks (r ∷ rs) it) → Present on (last_asks r.index it)
-last_there on it r rs p = (p.1.1.0.0.0, (p.1.1.0.0.1.1.1.1.0, (p.0.1.0, p.1.1.1.0)))
+last_there on it r rs p = (p.1.1.0.0.0, (p.1.1.0.0.1.1.1.1.0, (p.0.1.0, (p.1.1.0.0.1.1.1.1.1.1, p.1.1.1.0))))
 
 -- ---- numbers
 

@@ -16,7 +16,7 @@ use Rattle.isp_masks.specs.Fors.{first_code, first_places}
 use Rattle.isp_masks.specs.Loops.{back_code, jump_all, sift_jump}
 use Rattle.isp_masks.specs.Sets.{unite}
 use Rattle.isp_masks.specs.Spots.{Numbers, next_of, spot_of}
-use Rattle.isp_masks.specs.Statements.{stmt_code, stmt_places, stmt_texts, stmts_code, stmts_places, stmts_texts, body_code}
+use Rattle.isp_masks.specs.Statements.{stmt_code, stmt_places, stmt_texts, stmts_code, stmts_places, stmts_texts, body_code, body_layout}
 use Rattle.isp_masks.specs.Written.{Piece, Writes, block_at, guarded_at, stepped_at, stmt_at, turn_at, turns_at, first_sweep, index_codes, last_run_at, outer_turn_at, place_test, range_begin, range_step, ranges_at, run_test}
 use Rattle.isp_masks.proofs.Awaiting.{awaits_end}
 use Rattle.isp_masks.proofs.Forms.{list_step, nodes_low, stmts_more}
@@ -227,7 +227,7 @@ statement::foreach-returns t c =
     let bound = subst (λ (s : Sweep). Appends c.measures.new.b c.bounds.new.b (λ pc p. bounds_code l rs pc p k s.bounds.number) (ranges_places l rs)) c.first-it.ensures c.in_ok-bounds.ensures in
     let swept = subst (λ (s : Sweep). Writes c.bounds.new.b c.ranges-2.new.b (ranges_at a.on.now rs x c.new-none.result.items s)) c.first-it.ensures c.in_ok-ranges.ensures in
     let none = subst (λ (xs : List OuterIndex). Writes c.bounds.new.b c.ranges-2.new.b (ranges_at a.on.now rs x xs (first_sweep a.spot.slot rs))) c.new-none.ensures.items swept in
-    foreach_written l a.b.now c.measures.new.b c.bounds.new.b c.ranges-2.new.b rs k n (λ z. body_code l a.on.now.answer x h z) (stmt_places l x) (stmt_texts x) begun bound none
+    foreach_written l a.b.now c.measures.new.b c.bounds.new.b c.ranges-2.new.b rs k n (λ z. body_code (body_layout l rs) a.on.now.answer x h z) (stmt_places (body_layout l rs) x) (stmt_texts x) begun bound none
 
 pub statement::ranges-outer_range-requires : goal.statement::ranges-outer_range-requires
 statement::ranges-outer_range-requires t c =
@@ -264,7 +264,7 @@ statement::outer_range-returns t c =
     let rs = ranges_of a.all.now in
     let x = stmt_of a.body.now in
     let set = index_codes h a.set.items in
-    let body = λ (z : Numbers). body_code l a.on.now.answer x h z in
+    let body = λ (z : Numbers). body_code (body_layout l rs) a.on.now.answer x h z in
     let many : 1 < length rs = subst (λ i. 1 < i) (sym (ranges_count a.all.now)) c.requires.many in
     let after = c.go_on.new.b.code.items in
     let code = ap (λ r. slice_set after c.len-at.result (instr.JumpIf jump.False r (length after))) (c.scalar.ensures ∙ ap (register Uniform) (c.tested.ensures ∙ ap (λ (s : Slot). test l s.number) c.next-2.ensures)) in
