@@ -287,7 +287,7 @@ module _ (w : Setting) (ready : IsSettled w) (spot : Spot) (three : AreThree spo
 
           go : (z : Bool) → any gang others ≡ z → StmtRuns w w.turns c5 end spot (ok.steps + 1 + (3 + q)) (rounds body all (map (round_of_one i) ps) s1)
           go true e =
-              again s1 c5 (ok.steps + 1 + (3 + q)) e (record { at = jump_at w ready c4 pc2 jump.On (mask_register n) top true ok.at (jumps_is true e); all_is = all4; left_is = left4; stands = ok.stands ; allowed = λ r h. b.allowed r (and_first (left r) _ h) }) (omega (arith, ok.bound))
+              again s1 c5 (ok.steps + 1 + (3 + q)) e (record { at = jump_at w ready c4 pc2 jump.On (mask_register n) top true ok.at (jumps_is true e); all_is = all4; left_is = left4; stands = ok.stands; allowed = λ r h. b.allowed r (and_first (left r) _ h) }) (omega (arith, ok.bound))
           go false e =
               subst (λ xs. StmtRuns w w.turns c5 end spot (ok.steps + 1 + (3 + q)) (rounds body all (map (round_of_one i) xs) s1)) (sym (last e))
               (plain_ok w ready c5 c5 0 end spot (ok.steps + 1 + (3 + q)) all s1 (comes_none w c5) (at_to w c5 (pc2 + 1) end (jump_at w ready c4 pc2 jump.On (mask_register n) top false ok.at (jumps_is false e)) ends) ok.stands (spares_all w n c5) (λ r lt. refl) three all4 (omega (arith, ok.bound)))

@@ -134,10 +134,13 @@ mutual
       (first_fits w first n k f.2 free.0 t.0 i.0, test_fits w e (n + 3) t.1 i.1.1.0, step_fits w step (n + 3) k f.4 t.2 i.1.1.1.0, stmt_fits x w (n + 3) k f.5 free.1 t.3 i.1.1.1.1)
   stmt_fits (t_foreach g j rs x sp) w n k f free t i =
       let none = none_of w.layout.run free.0 in
-      let fits = foreach_fits w rs n f.1 t.3 t.0 t.1 i.0 in
-      (fits, none, λ m b. stmt_fits x (with_layout w (body_layout w.layout rs) m b) (runs_slot n rs + 3) (body_constant w rs m b none fits.constants) f.2
-      (body_run (λ o. StmtFree o x) w.layout rs none (subst (λ o. StmtFree o x) none free.1) free.2) t.2
-      (body_as (λ l. Table w.routine l w.function.variables (stmt_asks w.frame.answer x (runs_slot n rs + 3))) w.layout rs i.1 (λ o d. table_same w.routine w.layout w.function.variables o d (stmt_asks w.frame.answer x (runs_slot n rs + 3)) i.1)))
+      let fits = foreach_fits w rs n f.1 t.3 t.0 t.1 i.0 in (
+        fits,
+        none,
+        λ m b. stmt_fits x (with_layout w (body_layout w.layout rs) m b) (runs_slot n rs + 3) (body_constant w rs m b none fits.constants) f.2
+            (body_run (λ o. StmtFree o x) w.layout rs none (subst (λ o. StmtFree o x) none free.1) free.2) t.2
+            (body_as (λ l. Table w.routine l w.function.variables (stmt_asks w.frame.answer x (runs_slot n rs + 3))) w.layout rs i.1 (λ o d. table_same w.routine w.layout w.function.variables o d (stmt_asks w.frame.answer x (runs_slot n rs + 3)) i.1)),
+      )
   stmt_fits (t_foreach_active g j z x sp) w n k f free t i = stmt_fits x w (n + 1 + 3) k f.2 free t i.1
   stmt_fits (t_unmasked g b sp) w n k f free t i =
       block_fits b (with_layout w (outside w.layout) w.members w.start) (n + 3) k f free t (table_same w.routine w.layout w.function.variables w.layout.run false (block_asks w.frame.answer b (n + 3)) i.1)
