@@ -517,6 +517,7 @@ fn outer_turn(
     set: Vec<OuterIndex>,
     it: Sweep,
 ) -> Result<(), AllocError>
+    requires many { 1 < length all.now }
     requires range { Present on.now (sweep_asks it) }
     requires ranges { Present on.now (sweeps_asks (ranges_of all.now) it) }
     requires body { Present on.now (stmt_asks on.now.answer (stmt_of body.now) (it.masks.number + 3)) }
