@@ -4,11 +4,10 @@ ghost use Rattle.isp_entry.specs.declared.fault.EvalFault.TheVariants.{Memory};
 
 use isp_independence::Dependence;
 use std::alloc::{AllocError, AllocFailed};
-use std::fmt;
 use thiserror::Error;
 
 /// Why an evaluation is refused.
-#[derive(Clone, Copy, Error)]
+#[derive(Clone, Copy, Debug, PartialEq, Eq, Error)]
 pub enum EvalFault {
     /// 0: memory was refused.
     #[error("memory")]
@@ -19,13 +18,6 @@ pub enum EvalFault {
     /// 80: the entry is not independent, by this breach. Of `one_by_one` alone.
     #[error("80 NotIndependent")]
     NotIndependent(Dependence),
-}
-
-// Its text: a `Dependence` has no `Debug`.
-impl fmt::Debug for EvalFault {
-    fn fmt<W: fmt::Write>(&self, f: &mut fmt::Formatter<W>) -> fmt::Result {
-        fmt::Display::fmt(self, f)
-    }
 }
 
 impl From<AllocError> for EvalFault {

@@ -233,7 +233,7 @@ module _ (gang : ℕ) (w : World) (g : TFunction) (ps : List Passed) where
 
 -- ---- calls of any depth
 
-breach_of : {A : Type 0} (B : A → Fault → Type 0) (xs : List A) (k : ℕ) (x : A) → slice_get xs k ≡ Some x → (f : Fault) → B x f → OfEach B xs f
+pub breach_of : {A : Type 0} (B : A → Fault → Type 0) (xs : List A) (k : ℕ) (x : A) → slice_get xs k ≡ Some x → (f : Fault) → B x f → OfEach B xs f
 breach_of B [] k x e f b = absurd (cc)
 breach_of B (y ∷ ys) zero x e f b = inl (subst (λ z. B z f) (sym (some_same y x e)) b)
 breach_of B (y ∷ ys) (suc k) x e f b = inr (breach_of B ys k x e f b)

@@ -43,7 +43,7 @@ NoneOf B = (f : Fault) → B f → ⊥
 pub demand_own : (wanted : Rate) (x : TExpr) (B : Fault → Type 0) → NoneOf (DemandBreach wanted x B) → NoneOf B
 demand_own wanted x B n = λ f b. n f (inl b)
 
-is_uniform : (r : Rate) (s : Span) → NoneOf (RateBreach Uniform r s) → r ≡ Uniform
+pub is_uniform : (r : Rate) (s : Span) → NoneOf (RateBreach Uniform r s) → r ≡ Uniform
 is_uniform Uniform s n = refl
 is_uniform Varying s n = absurd (n (fault VaryingToUniform s) (refl, refl))
 

@@ -6,3 +6,5 @@ pub mod Statements
 pub mod Calls
 pub mod Runs
 pub mod Uncut
+pub mod Through
+pub mod Uniform

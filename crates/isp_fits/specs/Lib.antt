@@ -1,2 +1,4 @@
 pub mod Fits
 pub mod Cut
+pub mod Through
+pub mod Uniform

@@ -1,5 +1,6 @@
 //! What holds of every run. No code is run here: each function carries a law in its contract.
 ghost use Rattle.isp_fits.specs.Fits.{ElementsFit, ResultFits};
+ghost use Rattle.isp_fits.specs.Uniform.{BodiesAccepted, UniformGivesOne};
 
 /// Where the elements of the arrays that a run begins with fit their types, those of the arrays that it reaches do,
 /// after any number of turns, and whether it has ended, trapped or goes on.
@@ -11,4 +12,15 @@ pub fn elements_fit()
 /// function gives.
 pub fn result_fits()
     ensures { ResultFits }
+{}
+
+/// Of a program that names, types and rates accept, each expression in the body of a function is accepted too.
+pub fn bodies_accepted()
+    ensures { BodiesAccepted }
+{}
+
+/// A uniform expression that names, types and rates accept gives one value for all instances, over any set with a member
+/// and in any state, whatever functions it calls.
+pub fn uniform_gives_one()
+    ensures { UniformGivesOne }
 {}

@@ -5,3 +5,5 @@ pub mod Divisions
 pub mod Vectors
 pub mod Wholes
 pub mod Sums
+pub mod Left
+pub mod Indices

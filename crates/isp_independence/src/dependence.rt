@@ -6,7 +6,7 @@ ghost use Rattle.isp_independence.specs.reader.Answers.{earlier, first_of, unles
 use isp_base::Span;
 
 /// The rules that an independent entry keeps, in their order from 1 to 7 (docs/INDEPENDENCE.md), by what breaks each.
-#[derive(Clone, Copy)]
+#[derive(Clone, Copy, Debug, PartialEq, Eq)]
 pub enum Restriction {
     /// 1: a call of the library that looks across the gang, a packed call, `foreach_active`, `unmasked`.
     Crossing,
@@ -42,7 +42,7 @@ impl Restriction {
 }
 
 /// A breach of a rule, and where it stands.
-#[derive(Clone, Copy)]
+#[derive(Clone, Copy, Debug, PartialEq, Eq)]
 pub struct Dependence {
     pub rule: Restriction,
     pub span: Span,

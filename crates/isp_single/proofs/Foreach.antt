@@ -13,16 +13,16 @@ use Rattle.isp_alone.specs.Alone.{Alone}
 use Rattle.isp_alone.specs.Answers.{Answer, Has, Bad, Long, End, Does, Dies, Lasts, and_then, with_answer, choose, then_always}
 use Rattle.isp_alone.specs.Does.{bounds}
 use Rattle.isp_alone.specs.Loops.{at_indices}
-use Rattle.isp_single.specs.Left.{range_seen, restarted, runs_left, advanced, indices_now, members_now, is_ready}
+use Rattle.isp_gang.specs.Left.{range_seen, restarted, runs_left, advanced, indices_now, members_now, is_ready}
 use Rattle.isp_single.specs.Tasks.{Store, Goes, Changes, Tells, go, given, ran, leaves, finds, bounds_on, begins_on, bound_by, found_range, range_then, end_then, runs_in, round_on, does_task, does_both, store_seen, state_seen, bound_in, calls_in, value_at, run_in, rest}
 use Rattle.isp_single.specs.declared.rounds.Bounds.{Bounds}
-use Rattle.isp_single.specs.declared.rounds.Range.{Range}
+use Rattle.isp_gang.specs.declared.ranges.Range.{Range}
 use Rattle.isp_single.specs.declared.rounds.Rounds.{Rounds}
 use Rattle.isp_single.specs.declared.state.How.TheVariants as how
 use Rattle.isp_single.specs.declared.state.Single.{Single}
 use Rattle.isp_single.specs.declared.state.Stop.{Stop}
 use Rattle.isp_single.specs.declared.tasks.Task.TheVariants as task
-use Rattle.isp_single.proofs.Left.{left_begins, next_run}
+use Rattle.isp_gang.proofs.Left.{left_begins, next_run}
 use Rattle.isp_single.proofs.Steps.{changed_store, tells_via}
 
 -- ---- bounds

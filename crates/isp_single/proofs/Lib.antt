@@ -9,7 +9,6 @@ pub mod Nodes
 pub mod Writes
 pub mod Runs
 pub mod Handing
-pub mod Left
 pub mod Indices
 pub mod Foreach
 pub mod Started

@@ -1,7 +1,6 @@
 pub mod Arrays
 pub mod Ends
 pub mod Entering
-pub mod Left
 pub mod Seen
 pub mod Starting
 pub mod Tasks

@@ -30,7 +30,7 @@ use Rattle.isp_alone.specs.Loops.{tested, turned, turns, stepped, rounds}
 use Rattle.isp_alone.specs.Does.{bounds, does, does_block, does_all, test_part}
 use Rattle.isp_alone.specs.Calls.{called, own_calls}
 use Rattle.isp_single.specs.Arrays.{bound_seen}
-use Rattle.isp_single.specs.Left.{range_seen, runs_left}
+use Rattle.isp_gang.specs.Left.{range_seen, runs_left}
 use Rattle.isp_single.specs.Seen.{frame_seen, state_of, with_variables, how_seen, spot_seen, passed_seen}
 use Rattle.isp_single.specs.declared.loops.Turning.{Turning}
 use Rattle.isp_single.specs.declared.places.Writing.{Writing}

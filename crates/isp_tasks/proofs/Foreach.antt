@@ -21,12 +21,12 @@ use Rattle.isp_meaning.specs.Statements.{ranges}
 use Rattle.isp_meaning.specs.Calls.{calls_at}
 use Rattle.isp_gang.specs.Seen.{payload_of}
 use Rattle.isp_gang.specs.declared.computed.Computed.TheVariants as computed
-use Rattle.isp_tasks.specs.Left.{range_seen, restarted, runs_left, advanced, indices_now, members_now, is_ready}
+use Rattle.isp_gang.specs.Left.{range_seen, restarted, runs_left, advanced, indices_now, members_now, is_ready}
 use Rattle.isp_tasks.specs.Foreach.{begins, bounds_in, bounds_from, foreaches, actives}
 use Rattle.isp_tasks.specs.Tasks.{Store, Goes, On, Trapped, First, Changes, go, ran, does, rest, Comes, store_seen, parts_seen, all_parts, value_at, run_in, rounds_from, ended, found}
 use Rattle.isp_tasks.specs.declared.rounds.Bounds.{Bounds}
 use Rattle.isp_tasks.specs.declared.rounds.Members.{Members}
-use Rattle.isp_tasks.specs.declared.rounds.Range.{Range}
+use Rattle.isp_gang.specs.declared.ranges.Range.{Range}
 use Rattle.isp_tasks.specs.declared.rounds.Rounds.{Rounds}
 use Rattle.isp_tasks.specs.declared.counting.Work.{Work}
 use Rattle.isp_tasks.specs.declared.state.Evaluator.{Evaluator}
@@ -38,7 +38,7 @@ use Rattle.isp_tasks.proofs.Branching.{comes_same, leaves}
 use Rattle.isp_tasks.proofs.Changes.{changed_rest, changed_store}
 use Rattle.isp_tasks.proofs.Counts.{Adds, work_of, counts_same}
 use Rattle.isp_tasks.proofs.Arms.{ticked, value_first, worked}
-use Rattle.isp_tasks.proofs.Left.{left_begins, next_run}
+use Rattle.isp_gang.proofs.Left.{left_begins, next_run}
 use Rattle.isp_tasks.proofs.Members.{lowest_first, none_listed}
 
 -- ---- a round, and then the others

@@ -17,7 +17,6 @@ pub mod Begun
 pub mod Handing
 pub mod Arms
 pub mod Members
-pub mod Left
 pub mod RunIndices
 pub mod Foreach
 pub mod RangesCounted

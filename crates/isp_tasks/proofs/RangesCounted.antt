@@ -4,8 +4,8 @@ use Rattle.std.proofs.Math.Nat.{add-mul, mul-add, mul_assoc}
 use Rattle.isp_meaning.specs.Rounds as Meaning
 use Rattle.isp_meaning.specs.Rounds.{counted, length_of, runs_for}
 use Rattle.isp_tasks.specs.Capped.{capped}
-use Rattle.isp_tasks.specs.Left.{range_seen}
-use Rattle.isp_tasks.specs.declared.rounds.Range.{Range}
+use Rattle.isp_gang.specs.Left.{range_seen}
+use Rattle.isp_gang.specs.declared.ranges.Range.{Range}
 use Rattle.isp_tasks.proofs.Counts.{capped_more}
 
 module _ (g : ℕ) (r q : Meaning.Range) (rs : List Meaning.Range) (times : (k : ℕ) → counted g k (q ∷ rs) ≡ k * counted g 1 (q ∷ rs)) where

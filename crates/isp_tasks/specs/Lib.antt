@@ -3,7 +3,6 @@ pub mod Capped
 pub mod Ends
 pub mod Entering
 pub mod Foreach
-pub mod Left
 pub mod Packing
 pub mod Passing
 pub mod Runs

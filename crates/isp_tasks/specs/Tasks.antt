@@ -32,7 +32,7 @@ use Rattle.isp_meaning.specs.Statements.{block, run, run_all, ranges, test_part,
 use Rattle.isp_meaning.specs.Calls.{calls_at, resumed, answer_of}
 use Rattle.isp_gang.specs.Seen.{payload_of}
 use Rattle.isp_tasks.specs.Capped.{capped}
-use Rattle.isp_tasks.specs.Left.{range_seen, runs_left}
+use Rattle.isp_gang.specs.Left.{range_seen, runs_left}
 use Rattle.isp_tasks.specs.Seen.{frame_seen, state_seen, variables_seen, place_seen, passed_seen}
 use Rattle.isp_tasks.specs.declared.state.Evaluator.{Evaluator}
 use Rattle.isp_tasks.specs.declared.loops.Looping.{Looping}

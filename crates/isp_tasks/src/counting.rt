@@ -3,10 +3,10 @@ ghost use Rattle.std.specs.Prelude.{◌≡◌, ◌+◌, ◌*◌, ◌<◌, ◌^�
 ghost use Rattle.isp_base.specs.Types.{gang_width};
 ghost use Rattle.isp_meaning.specs.Rounds.{counted, length_of, runs_for};
 ghost use Rattle.isp_tasks.specs.Capped.{capped};
-ghost use Rattle.isp_tasks.specs.Left.{range_seen};
+ghost use Rattle.isp_gang.specs.Left.{range_seen};
 
-use crate::rounds::Range;
 use isp_base::Gang;
+use isp_gang::ranges::Range;
 
 /// The work so far, which stays at 18,446,744,073,709,551,615 once it is there.
 #[derive(Clone, Copy)]

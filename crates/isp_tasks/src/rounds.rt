@@ -1,14 +1,14 @@
 //! Bodies that run over each of a list of sets: `foreach` and `foreach_active`.
-ghost use Rattle.std.specs.Prelude.{◌≡◌, ◌<◌, ◌≤◌, ◌+◌, ◌-◌, ◌^◌, drop, length, map, min, not, pos, ◌+ℤ◌, IfErr, OnOk, true, int_lt};
+ghost use Rattle.std.specs.Prelude.{◌≡◌, map, IfErr, OnOk, true};
 ghost use Rattle.isp_base.specs.Maps.{on};
 ghost use Rattle.isp_base.specs.Sets.{flag_of};
 ghost use Rattle.isp_base.specs.Types.{gang_width};
 ghost use Rattle.isp_base.specs.Values.{wrap};
-ghost use Rattle.isp_base.specs.declared.types.Gang as GangType;
+ghost use Rattle.isp_base.specs.declared.types.Elem.TheVariants as Elem;
 ghost use Rattle.isp_typed.specs.Views.{ranges_of};
-ghost use Rattle.isp_meaning.specs.Rounds.{counted, length_of, set_indices};
+ghost use Rattle.isp_meaning.specs.Rounds.{set_indices};
+ghost use Rattle.isp_gang.specs.Left.{indices_now, is_ready, members_now, number_now, numbers_below, range_seen};
 ghost use Rattle.isp_gang.specs.Seen.{map_of};
-ghost use Rattle.isp_tasks.specs.Left.{advanced, carried, goes, indices_now, is_ready, members_now, number_now, numbers_below, range_seen, restarted, runs_left, stepped, tail_within};
 ghost use Rattle.isp_tasks.specs.Foreach.{actives, begins, bounds_from, foreaches};
 ghost use Rattle.isp_tasks.specs.Tasks.{Changes, Comes, does};
 ghost use Rattle.isp_tasks.specs.declared.state.Stop.TheVariants as Stop;
@@ -17,21 +17,13 @@ ghost use Rattle.isp_tasks.specs.declared.tasks.Task.TheVariants as Task;
 use crate::counting::counted;
 use crate::state::{Evaluator, Sets, Stop};
 use crate::tasks::Task;
-use isp_base::{Elem, Gang, Rate, wrap};
+use isp_base::{Gang, Rate};
 use isp_gang::computed::Computed;
 use isp_gang::numbers::int;
+use isp_gang::ranges::{Range, advance, carry, has_number, index_at, is_ready, reset};
 use isp_gang::row::Row;
 use isp_gang::sets::{Active, WIDEST, alone, lowest, nobody, without};
 use isp_typed::{TypedRange, TypedStmt};
-
-/// An index, and the whole numbers from the start to below the end, of which `next` comes next.
-#[derive(Clone, Copy)]
-pub struct Range {
-    pub index: usize,
-    pub start: i32,
-    pub end: i32,
-    pub next: i64,
-}
 
 /// The ranges of a `foreach` whose bounds were found, the one whose bounds come next, and those after it.
 #[derive(Drop)]
@@ -290,20 +282,8 @@ fn index_row(range: &Range, is_last: bool, set: &Active) -> Row
     row
 }
 
-// The number of an index in an instance.
-fn index_at(range: &Range, is_last: bool, instance: usize) -> u64
-    requires { instance < 16 }
-    ensures { result ≡ wrap Elem.I32 (number_now range.now.next is_last instance) }
-{
-    if is_last {
-        wrap(Elem::I32, i128::from(range.next) + instance as i128)
-    } else {
-        wrap(Elem::I32, i128::from(range.next))
-    }
-}
-
 // The instances that are on in the run that comes next.
-#[tactic(auto, using(crate::proofs::Left::nobody_on))]
+#[tactic(auto, using(isp_gang::proofs::Left::nobody_on))]
 fn on_now(gang: Gang, ranges: &Vec<Range>) -> Active
     ensures { flag_of result ≡ members_now (gang_width gang) ranges.now.items }
 {
@@ -316,114 +296,13 @@ fn on_now(gang: Gang, ranges: &Vec<Range>) -> Active
 }
 
 // The instances whose number from one on is below an end.
-#[tactic(auto, using(isp_gang::proofs::Masks::begun, crate::proofs::Left::below_made))]
+#[tactic(auto, using(isp_gang::proofs::Masks::begun, isp_gang::proofs::Left::below_made))]
 fn on_below(gang: Gang, range: &Range) -> Active
     ensures { flag_of result ≡ numbers_below (gang_width gang) range.now.next range.now.end }
 {
     let mut set = [false; WIDEST];
     for instance in 0..gang.width() {
-        set[instance] = is_below(range, instance);
+        set[instance] = has_number(range, instance);
     }
     set
-}
-
-// Whether an instance's number is below an end.
-fn is_below(range: &Range, instance: usize) -> bool
-    requires { instance < 16 }
-    ensures { result ≡ int_lt (range.now.next +ℤ pos instance) range.now.end }
-{
-    i128::from(range.next) + (instance as i128) < i128::from(range.end)
-}
-
-// ---- ranges
-
-// So many numbers further, unless the end is reached.
-fn further(range: &Range, count: usize) -> i64
-    requires { count ≤ 16 }
-    ensures { result ≡ stepped range.now (pos count) }
-{
-    if range.next < i64::from(range.end) {
-        range.next + count as i64
-    } else {
-        range.next
-    }
-}
-
-// The ranges from one on begin again.
-#[tactic(auto, using(crate::proofs::Left::all_restarted))]
-fn reset(ranges: &mut Vec<Range>, from: usize)
-    ensures { ranges.new.items ≡ restarted from ranges.old.items }
-{
-    for place in from..ranges.len() {
-        let next = restart(&ranges[place]);
-        ranges[place].next = next;
-    }
-}
-
-// The first number of a range.
-fn restart(range: &Range) -> i64
-    ensures { result ≡ range.now.start }
-{
-    i64::from(range.start)
-}
-
-// The next number of a range, after which all later ranges begin again.
-fn carry_into(ranges: &mut Vec<Range>, place: usize)
-    requires { place + 1 < length ranges.old.items }
-    ensures { ranges.new.items ≡ carried place ranges.old.items }
-{
-    reset(ranges, place + 1);
-    let next = further(&ranges[place], 1);
-    ranges[place].next = next;
-}
-
-// Whether a range has no number left.
-fn is_spent(range: &Range) -> bool
-    ensures { result ≡ not (int_lt range.now.next range.now.end) }
-{
-    range.next >= i64::from(range.end)
-}
-
-// Numbers past the end carry into the range before.
-fn carry(ranges: &mut Vec<Range>)
-    ensures left { (gang : GangType.Gang) → runs_left (gang_width gang) ranges.new.items ≡ runs_left (gang_width gang) ranges.old.items }
-    ensures within { tail_within ranges.new.items ≡ true }
-{
-    let mut place = ranges.len();
-    while place > 1 {
-        place -= 1;
-        if is_spent(&ranges[place]) {
-            carry_into(ranges, place - 1);
-        }
-    }
-}
-
-// Whether a range has numbers and its next one is among them.
-fn can_go(range: &Range) -> bool
-    ensures { result ≡ goes range.now }
-{
-    range.start < range.end && range.next < i64::from(range.end)
-}
-
-// Whether each range can go on, and there is one.
-fn is_ready(ranges: &[Range]) -> bool
-    ensures { result ≡ is_ready ranges.now }
-{
-    for place in 0..ranges.len() {
-        if !can_go(&ranges[place]) {
-            return false;
-        }
-    }
-    !ranges.is_empty()
-}
-
-// On to the next run.
-fn advance(gang: Gang, ranges: &mut Vec<Range>)
-    ensures { ranges.new.items ≡ advanced (gang_width gang) ranges.old.items }
-{
-    let count = ranges.len();
-    if count > 0 {
-        let next = further(&ranges[count - 1], gang.width());
-        ranges[count - 1].next = next;
-    }
 }

@@ -1,7 +1,7 @@
 use Rattle.std.proofs.Common.{◌≡◌, ◌∙◌, ◌-◌, ◌<◌, ap, length, arith, sym}
 use Rattle.isp_base.specs.Sets.{Mask}
 use Rattle.isp_base.specs.Types.{gang_width}
-use Rattle.isp_single.proofs.Left.{not_on, last_on}
+use Rattle.isp_gang.proofs.Left.{not_on, last_on}
 use Rattle.isp_single.proofs.rounds.is_on.Goals as goal
 
 pub returns-then-count-eq0 : goal.returns-then-count-eq0

@@ -1,7 +1,7 @@
 use Rattle.std.proofs.Common.{◌-◌, ◌*◌, ◌∙◌, refl, ap, get_or, length, pos, arith}
 use Rattle.isp_base.specs.Types.{gang_width}
 use Rattle.isp_tasks.specs.Capped.{capped}
-use Rattle.isp_tasks.specs.declared.rounds.Range.{Range}
+use Rattle.isp_gang.specs.declared.ranges.Range.{Range}
 use Rattle.isp_tasks.proofs.RangesCounted.{last_counted, more_counted}
 use Rattle.isp_tasks.proofs.counting.counted.Goals as goal
 

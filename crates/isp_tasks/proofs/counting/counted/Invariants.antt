@@ -2,7 +2,7 @@ use Rattle.std.proofs.Common.{◌≡◌, ◌≤◌, drop, length, map}
 use Rattle.isp_base.specs.Types.{gang_width}
 use Rattle.isp_meaning.specs.Rounds.{counted}
 use Rattle.isp_tasks.specs.Capped.{capped}
-use Rattle.isp_tasks.specs.Left.{range_seen}
+use Rattle.isp_gang.specs.Left.{range_seen}
 use Rattle.isp_tasks.proofs.counting.counted.Given as goal
 
 abbrev pub invariant-loop-place : goal.invariant-loop-place

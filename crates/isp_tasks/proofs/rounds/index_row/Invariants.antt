@@ -3,7 +3,7 @@ use Rattle.isp_base.specs.Maps.{on}
 use Rattle.isp_base.specs.Sets.{flag_of}
 use Rattle.isp_base.specs.Values.{wrap}
 use Rattle.isp_base.specs.declared.types.Elem.TheVariants.{I32}
-use Rattle.isp_tasks.specs.Left.{number_now}
+use Rattle.isp_gang.specs.Left.{number_now}
 use Rattle.isp_gang.proofs.Made.{Made}
 use Rattle.isp_tasks.proofs.rounds.index_row.Given as goal
 

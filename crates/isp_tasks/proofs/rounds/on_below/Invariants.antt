@@ -1,5 +1,5 @@
 use Rattle.std.proofs.Common.{false}
-use Rattle.isp_tasks.specs.Left.{numbers_below}
+use Rattle.isp_gang.specs.Left.{numbers_below}
 use Rattle.isp_gang.proofs.Made.{Made}
 use Rattle.isp_tasks.proofs.rounds.on_below.Given as goal
 

@@ -1,6 +1,6 @@
 use Rattle.std.proofs.Common.{◌≡◌, ◌∙◌, ◌-◌, ◌<◌, length, arith}
 use Rattle.isp_base.specs.Types.{gang_width}
-use Rattle.isp_tasks.proofs.Left.{last_on}
+use Rattle.isp_gang.proofs.Left.{last_on}
 use Rattle.isp_tasks.proofs.rounds.on_now.Goals as goal
 
 pub returns-else-count-eq0 : goal.returns-else-count-eq0

@@ -1,5 +1,5 @@
 use Rattle.std.proofs.Common.{refl, map, arith}
-use Rattle.isp_single.specs.Left.{range_seen}
+use Rattle.isp_gang.specs.Left.{range_seen}
 use Rattle.isp_single.specs.Tasks.{store_seen}
 use Rattle.isp_single.proofs.Foreach.{bounds_end, bounds_next}
 use Rattle.isp_single.proofs.Lists.{nothing_left, headed}

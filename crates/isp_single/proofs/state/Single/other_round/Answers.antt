@@ -1,6 +1,6 @@
 use Rattle.std.proofs.Common.{ap, ◌∙◌}
 use Rattle.isp_base.specs.Types.{gang_width}
-use Rattle.isp_single.specs.Left.{advanced}
+use Rattle.isp_gang.specs.Left.{advanced}
 use Rattle.isp_single.specs.Tasks.{store_seen}
 use Rattle.isp_single.specs.declared.rounds.Rounds.{Rounds}
 use Rattle.isp_single.proofs.Foreach.{other_is}

@@ -2,9 +2,9 @@ use Rattle.std.proofs.Common.{ap, ◌∙◌}
 use Rattle.isp_base.specs.Types.{gang_width}
 use Rattle.isp_alone.specs.Loops.{at_indices}
 use Rattle.std.proofs.Common.{List, subst}
-use Rattle.isp_single.specs.Left.{advanced, indices_now}
+use Rattle.isp_gang.specs.Left.{advanced, indices_now}
 use Rattle.isp_single.specs.Tasks.{Changes}
-use Rattle.isp_single.specs.declared.rounds.Range.{Range}
+use Rattle.isp_gang.specs.declared.ranges.Range.{Range}
 use Rattle.isp_single.specs.declared.rounds.Rounds.{Rounds}
 use Rattle.isp_single.specs.declared.state.Single.{Single}
 use Rattle.isp_single.proofs.Foreach.{own_tells}

@@ -1,6 +1,6 @@
 use Rattle.std.proofs.Common.{◌∙◌, ap, sym}
 use Rattle.isp_base.specs.Types.{gang_width}
-use Rattle.isp_single.specs.Left.{members_now}
+use Rattle.isp_gang.specs.Left.{members_now}
 use Rattle.isp_single.specs.declared.rounds.Rounds.{Rounds}
 use Rattle.isp_single.proofs.state.Single.round.Goals as goal
 

@@ -1,10 +1,10 @@
 use Rattle.std.proofs.Common.{◌≡◌, sym, ap, ◌∙◌, false}
 use Rattle.isp_base.specs.Types.{gang_width}
-use Rattle.isp_single.specs.Left.{is_ready, runs_left}
+use Rattle.isp_gang.specs.Left.{is_ready, runs_left}
 use Rattle.isp_single.specs.Tasks.{store_seen}
 use Rattle.isp_single.specs.declared.rounds.Rounds.{Rounds}
 use Rattle.isp_single.proofs.Foreach.{no_round, rounds_same}
-use Rattle.isp_single.proofs.Left.{no_next_run}
+use Rattle.isp_gang.proofs.Left.{no_next_run}
 use Rattle.isp_single.proofs.Steps.{tells_by}
 use Rattle.isp_single.proofs.state.Single.rounds.Goals as goal
 

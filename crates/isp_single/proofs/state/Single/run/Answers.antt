@@ -12,9 +12,9 @@ use Rattle.isp_typed.specs.declared.stmt.TypedStmt.TheVariants as variant
 use Rattle.isp_typed.specs.declared.stmt.TypedStmt.TheFolds.{fold-roll-TypedStmt}
 use Rattle.isp_alone.specs.Steps.{items, simple}
 use Rattle.isp_single.specs.Tasks.{block_in, blocks, bound_in, bounds_on, calls_in, does_task, gathers, go, store_seen, tests_on, turns_on, firsts}
-use Rattle.isp_single.specs.Left.{range_seen}
+use Rattle.isp_gang.specs.Left.{range_seen}
 use Rattle.isp_single.specs.declared.loops.Turning.{Turning}
-use Rattle.isp_single.specs.declared.rounds.Range.{Range}
+use Rattle.isp_gang.specs.declared.ranges.Range.{Range}
 use Rattle.isp_single.specs.declared.state.Single.{Single}
 use Rattle.isp_single.specs.declared.tasks.Gathering.TheVariants as gathering
 use Rattle.isp_single.specs.declared.tasks.Task.TheVariants as task

@@ -1,9 +1,10 @@
 use Rattle.std.proofs.Common.{◌≡◌, ◌+◌, ◌<◌, ◌∙◌, ap, length, arith}
 use Rattle.std.specs.Prelude.{nat_eq}
-use Rattle.isp_single.proofs.Indices.{nothing_set, index_set, all_set, last_place}
+use Rattle.isp_gang.proofs.Indices.{last_place}
+use Rattle.isp_single.proofs.Indices.{nothing_set, index_set, all_set}
 use Rattle.isp_base.specs.Values.{wrap}
 use Rattle.isp_base.specs.declared.types.Elem.TheVariants.{I32}
-use Rattle.isp_single.specs.Left.{number_now}
+use Rattle.isp_gang.specs.Left.{number_now}
 use Rattle.isp_single.specs.declared.state.Single.{Single}
 use Rattle.isp_single.proofs.state.Single.set_indices.Goals as goal
 

@@ -3,8 +3,8 @@ use Rattle.isp_base.specs.Types.{gang_width}
 use Rattle.isp_base.specs.declared.types.Gang.{Gang}
 use Rattle.isp_meaning.specs.Rounds.{counted}
 use Rattle.isp_tasks.specs.Capped.{capped}
-use Rattle.isp_tasks.specs.Left.{range_seen}
-use Rattle.isp_tasks.specs.declared.rounds.Range.{Range}
+use Rattle.isp_gang.specs.Left.{range_seen}
+use Rattle.isp_gang.specs.declared.ranges.Range.{Range}
 use Rattle.isp_tasks.proofs.Counts.{adds_capped}
 use Rattle.isp_tasks.proofs.Foreach.{begins_goes}
 use Rattle.isp_tasks.proofs.state.Evaluator.begin_rounds.Goals as goal

@@ -1,6 +1,6 @@
 use Rattle.std.proofs.Common.{refl, ap, map, arith}
 use Rattle.isp_typed.specs.Views.{ranges_of}
-use Rattle.isp_tasks.specs.Left.{range_seen}
+use Rattle.isp_gang.specs.Left.{range_seen}
 use Rattle.isp_tasks.proofs.Blocks.{headed}
 use Rattle.isp_tasks.proofs.Foreach.{bounds_end, bounds_next, none_of}
 use Rattle.isp_tasks.proofs.state.Evaluator.bounds.Goals as goal

@@ -3,9 +3,9 @@ use Rattle.isp_base.specs.Sets.{flag_of}
 use Rattle.isp_base.specs.Types.{gang_width}
 use Rattle.isp_base.specs.declared.types.Gang.{Gang}
 use Rattle.isp_meaning.specs.Rounds.{set_indices}
-use Rattle.isp_tasks.specs.Left.{advanced, indices_now, members_now}
+use Rattle.isp_gang.specs.Left.{advanced, indices_now, members_now}
 use Rattle.isp_tasks.specs.Tasks.{Changes}
-use Rattle.isp_tasks.specs.declared.rounds.Range.{Range}
+use Rattle.isp_gang.specs.declared.ranges.Range.{Range}
 use Rattle.isp_tasks.specs.declared.rounds.Rounds.{Rounds}
 use Rattle.isp_tasks.proofs.Foreach.{one_round}
 use Rattle.isp_tasks.proofs.state.Evaluator.round.Goals as goal

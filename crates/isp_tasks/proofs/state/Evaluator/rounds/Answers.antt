@@ -1,11 +1,11 @@
 use Rattle.std.proofs.Common.{◌≡◌, sym, ap, ◌∙◌, false}
 use Rattle.isp_base.specs.Sets.{flag_of}
 use Rattle.isp_base.specs.Types.{gang_width}
-use Rattle.isp_tasks.specs.Left.{is_ready, runs_left}
+use Rattle.isp_gang.specs.Left.{is_ready, runs_left}
 use Rattle.isp_tasks.specs.Tasks.{all_parts}
 use Rattle.isp_tasks.specs.declared.rounds.Rounds.{Rounds}
 use Rattle.isp_tasks.proofs.Foreach.{no_round, rounds_same}
-use Rattle.isp_tasks.proofs.Left.{no_next_run}
+use Rattle.isp_gang.proofs.Left.{no_next_run}
 use Rattle.isp_tasks.proofs.state.Evaluator.rounds.Goals as goal
 
 pub returns-else-ready-clause-ok : goal.returns-else-ready-clause-ok

@@ -3,7 +3,8 @@ use Rattle.std.specs.Prelude.{nat_eq}
 use Rattle.isp_base.specs.Sets.{flag_of}
 use Rattle.isp_meaning.specs.Payloads.{Each}
 use Rattle.isp_gang.specs.Seen.{map_of}
-use Rattle.isp_tasks.proofs.RunIndices.{nothing_set, index_set, all_set, last_place}
+use Rattle.isp_gang.proofs.Indices.{last_place}
+use Rattle.isp_tasks.proofs.RunIndices.{nothing_set, index_set, all_set}
 use Rattle.isp_tasks.proofs.state.Evaluator.set_indices.Goals as goal
 
 pub loop-place-init : goal.loop-place-init
