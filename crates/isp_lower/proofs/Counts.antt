@@ -16,8 +16,8 @@ use Rattle.isp_lower.specs.Layout.{Layout, IsApart}
 use Rattle.isp_lower.specs.Simple.{simple_code}
 use Rattle.isp_lower.specs.Items.{items_code}
 
--- variables v, y, z of each type, an array a and an index i of type int64, in a function with any registers and without packed loads, behind
--- each `foreach`
+-- variables v, y, z of each type, an array a and an index i of type int64, in a function with any registers and without packed loads, where
+-- code is not for the lanes of a run
 module _ (any : Layout) (a : ArrayVariable) (v y z i : ℕ) (sp : Span) where
   abbrev l : Layout
   l = record any { loaded = λ x. false; in_run = false }
