@@ -14,7 +14,6 @@ mod Kept
 mod Values
 mod Found
 mod Consecutive
-mod Asked
 mod Access
 mod Writes
 mod Done
