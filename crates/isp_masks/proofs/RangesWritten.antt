@@ -95,9 +95,9 @@ outer_written on a b c r (q ∷ rs) x set it inner one some same index value fir
     let m = it.place.number in
     let step = convert Uniform (narrow l (m + 1)) (wide l m) 0 in
     let more : index_codes h (set ++ one ∷ []) ≡ index_codes h set ++ outer_index l r.index (m + 1) h ∷ [] =
-        map-append (λ (y : OuterIndex). splat y.index.number y.value.number h) set (one ∷ [])
-        ∙ ap (λ i. index_codes h set ++ splat i one.value.number h ∷ []) index
-        ∙ ap (λ v. index_codes h set ++ splat (l.variable Varying r.index) v h ∷ []) value in
+    map-append (λ (y : OuterIndex). splat y.index.number y.value.number h) set (one ∷ [])
+    ∙ ap (λ i. index_codes h set ++ splat i one.value.number h ∷ []) index
+    ∙ ap (λ v. index_codes h set ++ splat (l.variable Varying r.index) v h ∷ []) value in
     let told = subst (λ (s : Sweep). Writes b c (ranges_at on (q ∷ rs) x (set ++ one ∷ []) s)) same rest in
     let body = λ (z : Numbers). body_code (body_layout l (q ∷ rs)) on.answer x h z in
     subst (λ is. Writes a c (record { code = λ pc z. step ∷ ranges_code l it.measures.number h (body z) (q ∷ rs) is (it.bounds.number + 1 + 1) (m + 1 + 1) (pc + 1); places = stmt_places (body_layout l (q ∷ rs)) x; texts = stmt_texts x })) more
