@@ -26,6 +26,8 @@ use Rattle.isp_lower.proofs.Exprs.{arguments_run, called_here, rates_here}
 use Rattle.isp_lower.proofs.GivenBack.{GivesBackBy, call_gives}
 use Rattle.isp_lower.proofs.Nodes.{enters_part}
 use Rattle.isp_lower.proofs.Parts.{CallParts}
+use Rattle.isp_lower.proofs.Consecutive.{run_each}
+use Rattle.isp_base.specs.declared.types.Rate.TheVariants.{Uniform}
 
 module _ (w : Setting) (ready : IsSettled w) where
   -- the value that it gives goes nowhere
@@ -45,6 +47,7 @@ module _ (w : Setting) (ready : IsSettled w) where
           own_arrays = λ x. st.own_arrays x ∙ ap (λ z. z.own x) (sym gives.state);
           arrays_are = refl;
           out_is = refl;
+          run = run_each w.layout.run w.start w.members (c.scalars (w.layout.place Uniform)) s.varying s1.varying (λ i ei. ap (λ z. z.varying i) (sym gives.state)) st.run;
         };
         spares = record { scalars_stay = λ e j lt. refl; vectors_stay = λ e j lt. refl };
         masks = λ r lt. refl;

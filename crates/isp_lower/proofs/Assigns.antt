@@ -13,7 +13,7 @@ use Rattle.isp_meaning.specs.Expressions.{place}
 use Rattle.isp_meaning.specs.Simple.{simple}
 use Rattle.isp_lower.specs.Setting.{Setting, IsSettled, gang_of, calls_of, AreAt, Holds}
 use Rattle.isp_lower.specs.Runs.{Enters, DoneRuns}
-use Rattle.isp_lower.specs.Code.{write, index, index_code, operand, operand_of, found, expr_places, expr_code, index_by, write_by}
+use Rattle.isp_lower.specs.Code.{write, index, index_code, operand, operand_of, found, expr_places, expr_code, index_by, write_by, is_run}
 use Rattle.isp_lower.specs.Simple.{assign_code, assign_places}
 use Rattle.isp_lower.proofs.Base.{are_front, are_back, spares_less}
 use Rattle.isp_lower.proofs.Found.{few}
@@ -25,7 +25,7 @@ use Rattle.isp_lower.proofs.Writes.{element_done}
 use Rattle.isp_lower.proofs.Variables.{variable_runs}
 use Rattle.isp_lower.proofs.Kept.{Keeps, runs_kept, value_still}
 use Rattle.isp_lower.proofs.Parts.{ExprParts, SimpleParts}
-use Rattle.isp_lower.specs.Asks.{beyond, is_run}
+use Rattle.isp_lower.specs.Asks.{beyond}
 
 -- the slot after that of an index is not below it
 pub beyond_more : (z : TPlace) (n : ℕ) → (n ≤ beyond z n) × (beyond z n ≤ n + 1)
@@ -36,7 +36,7 @@ module _ (w : Setting) (ready : IsSettled w) where
   pub assign_runs : (z : TPlace) (x : TExpr) (sp : Span) (pc p k n q : ℕ) (a : Mask) (s : State) (c : Conf) → SimpleParts w (t_assign z x sp) n → AreAt w.routine.code pc (assign_code w.layout z x pc p k n) → AreAt w.code.places p (assign_places w.layout z x) → Enters w pc k n a s c q → DoneRuns w c (pc + length (assign_code w.layout z x pc p k n)) n q (simple (gang_of w) w.frame (calls_of w) (t_assign z x sp) a s)
   assign_runs (t_variable v t sv) x sp pc p k n q a s c fit has places b =
       let fx : heads x ≤ 1 = few w x n fit.2 in
-      variable_runs w ready t.rate t.elem v x pc p k n (64 + q) q a (tick (tick s)) c fit.0 fit.1 fit.2 has (are_front w.code.places p (expr_places w.layout x) _ places) (omega arith) (enters_part w ready pc k n (64 + q) (32 + q) a (tick s) c (omega arith) (enters_part w ready pc k n (32 + q) q a s c (omega arith) b))
+      variable_runs w ready t.rate t.elem v x pc p k n (64 + q) q a (tick (tick s)) c fit.3 fit.0 fit.1 fit.2 has (are_front w.code.places p (expr_places w.layout x) _ places) (omega arith) (enters_part w ready pc k n (64 + q) (32 + q) a (tick s) c (omega arith) (enters_part w ready pc k n (32 + q) q a s c (omega arith) b))
   assign_runs (t_element y i t sv) x sp pc p k n q a s c fit has places b =
       let r = t.rate in
       let m = n + 1 in
@@ -48,7 +48,7 @@ module _ (w : Setting) (ready : IsSettled w) where
       let p1 = p + length (expr_places w.layout i) in
       let cx = expr_code w.layout x pc1 p1 k m in
       let ca = operand_of w.layout r x k m cx in
-      let v = is_run y.ty.rate i in
+      let v = is_run w.layout y.ty.rate i in
       let j = index_by w.layout v t.rate i n in
       let u = operand w.layout r x m in
       let pw = p1 + length (expr_places w.layout x) in

@@ -18,7 +18,7 @@ use Rattle.isp_meaning.specs.State.{State}
 use Rattle.isp_meaning.specs.Payloads.{Payload, One, Each, is_true, is_false, spread, kept_by, selected, layer, first_of_two}
 use Rattle.isp_meaning.specs.Outcomes.{Val, Gives, bind, value_unless_empty}
 use Rattle.isp_lower.specs.Layout.{register, mask_register}
-use Rattle.isp_lower.specs.Setting.{Setting, IsSettled, gang_of, AreAt, At, Stands, at_rate, Holds}
+use Rattle.isp_lower.specs.Setting.{Setting, IsSettled, gang_of, AreAt, At, Stands, at_rate, Holds, Allowed}
 use Rattle.isp_typed.specs.Typed.{TExpr}
 use Rattle.isp_lower.specs.Runs.{Enters, Ok, Runs}
 use Rattle.isp_lower.specs.Code.{move_code, where_so, the_others, jump_on, jump_off, guard, choice, two, select, choose_rest, operand, choose_code}
@@ -90,7 +90,7 @@ module _ (w : Setting) (ready : IsSettled w) where
         bound = omega (arith, ok.bound);
       }
 
-  pub choose_one : (r : Rate) (d : ℕ) (c : Conf) (pc k n q : ℕ) (a : Mask) (vt : Val Payload) (va vb : Mask → State → Val Payload) (f : ℕ) (ct : List Instr) (ca cb : ℕ → List Instr) → c.masks k ≡ a → k < n → any (gang_of w) a ≡ true → ((p : ℕ) → a p ≡ true → p < gang_of w) → AreAt w.routine.code pc (two pc ct (λ p1. choice (jump_on jump.False f) p1 ca cb)) → Runs w c (pc + length ct) n (2 + q) (Holds Uniform a f) vt → ((s : State) (c1 : Conf) (pc1 z : ℕ) → AreAt w.routine.code pc1 (ca pc1) → Enters w pc1 k n a s c1 z → Runs w c1 (pc1 + length (ca pc1)) n z (Holds r a d) (va a s)) → ((s : State) (c1 : Conf) (pc1 z : ℕ) → AreAt w.routine.code pc1 (cb pc1) → Enters w pc1 k n a s c1 z → Runs w c1 (pc1 + length (cb pc1)) n z (Holds r a d) (vb a s)) → Runs w c (pc + length (two pc ct (λ p1. choice (jump_on jump.False f) p1 ca cb))) n q (Holds r a d) (bind vt (λ x s1. bind (value_unless_empty (gang_of w) (kept_by is_true a x) s1 va) (λ m s2. bind (value_unless_empty (gang_of w) (kept_by is_false a x) s2 vb) (λ z s3. Gives (selected a x m z) s3))))
+  pub choose_one : (r : Rate) (d : ℕ) (c : Conf) (pc k n q : ℕ) (a : Mask) (vt : Val Payload) (va vb : Mask → State → Val Payload) (f : ℕ) (ct : List Instr) (ca cb : ℕ → List Instr) → c.masks k ≡ a → k < n → any (gang_of w) a ≡ true → ((p : ℕ) → a p ≡ true → Allowed w p) → AreAt w.routine.code pc (two pc ct (λ p1. choice (jump_on jump.False f) p1 ca cb)) → Runs w c (pc + length ct) n (2 + q) (Holds Uniform a f) vt → ((s : State) (c1 : Conf) (pc1 z : ℕ) → AreAt w.routine.code pc1 (ca pc1) → Enters w pc1 k n a s c1 z → Runs w c1 (pc1 + length (ca pc1)) n z (Holds r a d) (va a s)) → ((s : State) (c1 : Conf) (pc1 z : ℕ) → AreAt w.routine.code pc1 (cb pc1) → Enters w pc1 k n a s c1 z → Runs w c1 (pc1 + length (cb pc1)) n z (Holds r a d) (vb a s)) → Runs w c (pc + length (two pc ct (λ p1. choice (jump_on jump.False f) p1 ca cb))) n q (Holds r a d) (bind vt (λ x s1. bind (value_unless_empty (gang_of w) (kept_by is_true a x) s1 va) (λ m s2. bind (value_unless_empty (gang_of w) (kept_by is_false a x) s2 vb) (λ z s3. Gives (selected a x m z) s3))))
   choose_one r d c pc k n q a vt va vb f ct ca cb em lk some inside has rt ra rb =
       bind_runs w ready c p1 n 2 q (Holds Uniform a f) vt _ end n (Holds r a d) rt
       (λ m s ok. subst (λ x. Runs w c end n q (Holds r a d) (bind (value_unless_empty (gang_of w) (kept_by is_true a x) s va) (λ m s2. bind (value_unless_empty (gang_of w) (kept_by is_false a x) s2 vb) (λ z s3. Gives (selected a x m z) s3)))) (sym ok.holds) (rest m s ok))
@@ -144,7 +144,7 @@ module _ (w : Setting) (ready : IsSettled w) where
   -- ---- in lanes
 
   -- a side for the lanes of mask j, if there are any
-  guard_value : (c : Conf) (pc j n q : ℕ) (T : Mask) (s : State) (body : ℕ → List Instr) (vb : Mask → State → Val Payload) (y : ℕ) → At w c pc → c.masks j ≡ T → ((p : ℕ) → T p ≡ true → p < gang_of w) → Stands w s c → 1 + q ≤ 32 * s.work → j < n → AreAt w.routine.code pc (guard (jump_off j) pc body) → ((c1 : Conf) (z : ℕ) → Enters w (pc + 1) j n T s c1 z → Runs w c1 (pc + 1 + length (body (pc + 1))) n z (Holds Varying T y) (vb T s)) → Runs w c (pc + length (guard (jump_off j) pc body)) n q (Holds Varying T y) (value_unless_empty (gang_of w) T s vb)
+  guard_value : (c : Conf) (pc j n q : ℕ) (T : Mask) (s : State) (body : ℕ → List Instr) (vb : Mask → State → Val Payload) (y : ℕ) → At w c pc → c.masks j ≡ T → ((p : ℕ) → T p ≡ true → Allowed w p) → Stands w s c → 1 + q ≤ 32 * s.work → j < n → AreAt w.routine.code pc (guard (jump_off j) pc body) → ((c1 : Conf) (z : ℕ) → Enters w (pc + 1) j n T s c1 z → Runs w c1 (pc + 1 + length (body (pc + 1))) n z (Holds Varying T y) (vb T s)) → Runs w c (pc + length (guard (jump_off j) pc body)) n q (Holds Varying T y) (value_unless_empty (gang_of w) T s vb)
   guard_value c pc j n q T s body vb y at em inside st us lt has rb =
       runs_after w ready c c4 1 end n q _ _ (jump_comes w ready c pc jump.Off (mask_register j) to at has.0) (spares_all w n c) (λ r h. refl) (go (any (gang_of w) T) refl)
     where
@@ -168,11 +168,11 @@ module _ (w : Setting) (ready : IsSettled w) where
           subst (λ u. Runs w c4 end n (1 + q) (Holds Varying T y) u) (sym (unless_some (gang_of w) T s vb e))
           (subst (λ p. Runs w c4 p n (1 + q) (Holds Varying T y) (vb T s)) ends (rb c4 (1 + q) (record { at = jump_at w ready c pc jump.Off (mask_register j) to false at (off_is true e); mask = em; some = e; inside = inside; stands = st; used = omega arith; low = lt })))
       go false e =
-          let off : T ≡ nobody = is_nobody (gang_of w) T inside e in
+          let off : T ≡ nobody = is_nobody (gang_of w) T (λ p h. (inside p h).0) e in
           subst (λ u. Runs w c4 end n (1 + q) (Holds Varying T y) u) (sym (unless_none (gang_of w) T s vb e))
           (record { conf = c4; steps = 0; comes = comes_none w c4; at = at_to w c4 to end (jump_at w ready c pc jump.Off (mask_register j) to true at (off_is false e)) ends; stands = st; spares = spares_all w n c4; masks = λ i h. refl; holds = ap (λ t. Each (on t (c.vectors y))) (sym off); bound = omega arith })
 
-  pub choose_each : (t : Elem) (c : Conf) (pc k n q : ℕ) (a : Mask) (vt : Val Payload) (va vb : Mask → State → Val Payload) (f x y : ℕ) (ct : List Instr) (ca cb : ℕ → ℕ → ℕ → List Instr) → c.masks k ≡ a → k < n → ((p : ℕ) → a p ≡ true → p < gang_of w) → Low w.layout Varying (n + 1) f → Low w.layout Varying (n + 2) x → AreAt w.routine.code pc (two pc ct (λ p1. choose_rest (w.layout.spare Varying t n) f x y p1 k n ca cb)) → Runs w c (pc + length ct) n (5 + q) (Holds Varying a f) vt → ((T : Mask) (s : State) (c1 : Conf) (pc1 z : ℕ) → AreAt w.routine.code pc1 (ca pc1 n (n + 1)) → Enters w pc1 n (n + 1) T s c1 z → Runs w c1 (pc1 + length (ca pc1 n (n + 1))) (n + 1) z (Holds Varying T x) (va T s)) → ((T : Mask) (s : State) (c1 : Conf) (pc1 z : ℕ) → AreAt w.routine.code pc1 (cb pc1 (n + 1) (n + 2)) → Enters w pc1 (n + 1) (n + 2) T s c1 z → Runs w c1 (pc1 + length (cb pc1 (n + 1) (n + 2))) (n + 2) z (Holds Varying T y) (vb T s)) → ((T : Mask) (s : State) → KeepsBy w.layout.loaded s (va T s)) → ((T : Mask) (s : State) → KeepsBy w.layout.loaded s (vb T s)) → Runs w c (pc + length (two pc ct (λ p1. choose_rest (w.layout.spare Varying t n) f x y p1 k n ca cb))) n q (Holds Varying a (w.layout.spare Varying t n)) (bind vt (λ x s1. bind (value_unless_empty (gang_of w) (kept_by is_true a x) s1 va) (λ m s2. bind (value_unless_empty (gang_of w) (kept_by is_false a x) s2 vb) (λ z s3. Gives (selected a x m z) s3))))
+  pub choose_each : (t : Elem) (c : Conf) (pc k n q : ℕ) (a : Mask) (vt : Val Payload) (va vb : Mask → State → Val Payload) (f x y : ℕ) (ct : List Instr) (ca cb : ℕ → ℕ → ℕ → List Instr) → c.masks k ≡ a → k < n → ((p : ℕ) → a p ≡ true → Allowed w p) → Low w.layout Varying (n + 1) f → Low w.layout Varying (n + 2) x → AreAt w.routine.code pc (two pc ct (λ p1. choose_rest (w.layout.spare Varying t n) f x y p1 k n ca cb)) → Runs w c (pc + length ct) n (5 + q) (Holds Varying a f) vt → ((T : Mask) (s : State) (c1 : Conf) (pc1 z : ℕ) → AreAt w.routine.code pc1 (ca pc1 n (n + 1)) → Enters w pc1 n (n + 1) T s c1 z → Runs w c1 (pc1 + length (ca pc1 n (n + 1))) (n + 1) z (Holds Varying T x) (va T s)) → ((T : Mask) (s : State) (c1 : Conf) (pc1 z : ℕ) → AreAt w.routine.code pc1 (cb pc1 (n + 1) (n + 2)) → Enters w pc1 (n + 1) (n + 2) T s c1 z → Runs w c1 (pc1 + length (cb pc1 (n + 1) (n + 2))) (n + 2) z (Holds Varying T y) (vb T s)) → ((T : Mask) (s : State) → KeepsBy w.layout.loaded s (va T s)) → ((T : Mask) (s : State) → KeepsBy w.layout.loaded s (vb T s)) → Runs w c (pc + length (two pc ct (λ p1. choose_rest (w.layout.spare Varying t n) f x y p1 k n ca cb))) n q (Holds Varying a (w.layout.spare Varying t n)) (bind vt (λ x s1. bind (value_unless_empty (gang_of w) (kept_by is_true a x) s1 va) (λ m s2. bind (value_unless_empty (gang_of w) (kept_by is_false a x) s2 vb) (λ z s3. Gives (selected a x m z) s3))))
   choose_each t c pc k n q a vt va vb f x y ct ca cb em lk inside low_f low_x has rt ra rb still_a still_b = bind_runs w ready c p1 n 5 q (Holds Varying a f) vt _ end n (Holds Varying a d) rt rest
     where
       d : ℕ
@@ -220,7 +220,7 @@ module _ (w : Setting) (ready : IsSettled w) where
           (subst (λ g. Runs w c end n q (Holds Varying a d) (bind (value_unless_empty (gang_of w) T s va) (λ m s2. bind (value_unless_empty (gang_of w) g s2 vb) (λ z s3. Gives (selected a b m z) s3)))) (sym (at_kept Varying a is_false b ∙ ap (kept_by is_false a) ok.holds))
           (runs_after w ready c c2 (ok.steps + 1) end n q _ _ (comes_on w c c1 c2 ok.steps 1 ok.comes (where_comes w ready c1 p1 n f k ok.at at1.0)) ok.spares (λ r h. let ne : r ≢ n = omega arith in put_other c1.masks n x2 r ne ∙ ok.masks r h)
           (bind_runs w ready c2 p2 (n + 1) 3 q1 (λ m c'. Holds Varying T x m c' × Keeps w (n + 1) c2 c') (value_unless_empty (gang_of w) T s va) _ end n (Holds Varying a d)
-          (runs_kept w c2 p2 (n + 1) (3 + q1) (Holds Varying T x) (value_unless_empty (gang_of w) T s va) s ok.stands (unless_still w (gang_of w) T s va (still_a T s)) (guard_value c2 (p1 + 1) n (n + 1) (3 + q1) T s (λ pc1. ca pc1 n (n + 1)) va x (masked_at w ready c1 p1 n x2 ok.at) e2 (where_inside (gang_of w) a is_true v inside) ok.stands (omega (arith, ok.bound)) (omega arith) at_side (λ c3 z en. ra T s c3 (p1 + 1 + 1) z at_side.1 en)))
+          (runs_kept w c2 p2 (n + 1) (3 + q1) (Holds Varying T x) (value_unless_empty (gang_of w) T s va) s ok.stands (unless_still w (gang_of w) T s va (still_a T s)) (guard_value c2 (p1 + 1) n (n + 1) (3 + q1) T s (λ pc1. ca pc1 n (n + 1)) va x (masked_at w ready c1 p1 n x2 ok.at) e2 (where_inside (Allowed w) a is_true v inside) ok.stands (omega (arith, ok.bound)) (omega arith) at_side (λ c3 z en. ra T s c3 (p1 + 1 + 1) z at_side.1 en)))
           second)))
         where
           c1 : Conf
@@ -251,7 +251,7 @@ module _ (w : Setting) (ready : IsSettled w) where
           second m s2 ok2 =
               runs_after w ready c2 c4 (ok2.steps + 1) end n q1 _ _ (comes_on w c2 c3 c4 ok2.steps 1 ok2.comes (others_comes w ready c3 p2 (n + 1) k n ok2.at at2.0)) (spares_less w n (n + 1) c2 c3 (omega arith) ok2.spares) (λ r h. let ne : r ≢ n + 1 = omega arith in put_other c3.masks (n + 1) x4 r ne ∙ ok2.masks r (omega arith))
               (bind_runs w ready c4 p3 (n + 2) 1 q2 (λ z c'. Holds Varying F y z c' × Keeps w (n + 2) c4 c') (value_unless_empty (gang_of w) F s2 vb) _ end n (Holds Varying a d)
-              (runs_kept w c4 p3 (n + 2) (1 + q2) (Holds Varying F y) (value_unless_empty (gang_of w) F s2 vb) s2 ok2.stands (unless_still w (gang_of w) F s2 vb (still_b F s2)) (guard_value c4 (p2 + 1) (n + 1) (n + 2) (1 + q2) F s2 (λ pc2. cb pc2 (n + 1) (n + 2)) vb y (masked_at w ready c3 p2 (n + 1) x4 ok2.at) e4 (where_inside (gang_of w) a is_false v inside) ok2.stands (omega (arith, ok2.bound)) (omega arith) at_other (λ c5 z en. rb F s2 c5 (p2 + 1 + 1) z at_other.1 en)))
+              (runs_kept w c4 p3 (n + 2) (1 + q2) (Holds Varying F y) (value_unless_empty (gang_of w) F s2 vb) s2 ok2.stands (unless_still w (gang_of w) F s2 vb (still_b F s2)) (guard_value c4 (p2 + 1) (n + 1) (n + 2) (1 + q2) F s2 (λ pc2. cb pc2 (n + 1) (n + 2)) vb y (masked_at w ready c3 p2 (n + 1) x4 ok2.at) e4 (where_inside (Allowed w) a is_false v inside) ok2.stands (omega (arith, ok2.bound)) (omega arith) at_other (λ c5 z en. rb F s2 c5 (p2 + 1 + 1) z at_other.1 en)))
               third)
             where
               c3 : Conf
@@ -288,7 +288,7 @@ module _ (w : Setting) (ready : IsSettled w) where
                   write_runs w ready c4 c5 ok3.steps p3 end n q2 a s3 (select Varying d f x y k) Varying t None Divide no_place (selected a b m z) (Each (on a chosen)) ok3.comes ok3.at ends at3.0 ok3.stands (spares_less w n (n + 2) c4 c5 (omega arith) ok3.spares) (λ r h. ok3.masks r (omega arith)) (omega (arith, ok3.bound)) (selected_at a b m z (c5.vectors x) (c5.vectors y) v ok.holds hm hz ∙ sym (ap Each ec)) (λ old. ap Each (filled_on a chosen old)) (ap (λ g. Go (set_at Varying c5 d (Each (on g chosen)))) (ok3.masks k (omega arith) ∙ put_other c3.masks (n + 1) x4 k kn1 ∙ ek))
 
   -- a choice by a test of either rate; the sides are taken at the slots that this leaves
-  pub choose_runs : (g r : Rate) (t : Elem) (x y : TExpr) (c : Conf) (pc k n q : ℕ) (a : Mask) (vt : Val Payload) (va vb : Mask → State → Val Payload) (f : ℕ) (ct : List Instr) (ca cb : ℕ → ℕ → ℕ → List Instr) → Reaches g r → c.masks k ≡ a → k < n → any (gang_of w) a ≡ true → ((p : ℕ) → a p ≡ true → p < gang_of w) → Low w.layout g (n + 1) f → Low w.layout r (first_slot g n + 1) (operand w.layout r x (first_slot g n)) → AreAt w.routine.code pc (choose_code w.layout g r t x y f pc k n ct ca cb) → Runs w c (pc + length ct) n (5 + q) (Holds g a f) vt → ((T : Mask) (s : State) (c1 : Conf) (pc1 z u j : ℕ) → u ≤ 3 + z → AreAt w.routine.code pc1 (ca pc1 j (first_slot g n)) → Enters w pc1 j (first_slot g n) T s c1 z → Runs w c1 (pc1 + length (ca pc1 j (first_slot g n))) (first_slot g n) u (Holds r T (operand w.layout r x (first_slot g n))) (va T s)) → ((T : Mask) (s : State) (c1 : Conf) (pc1 z u j : ℕ) → u ≤ 3 + z → AreAt w.routine.code pc1 (cb pc1 j (second_slot g n)) → Enters w pc1 j (second_slot g n) T s c1 z → Runs w c1 (pc1 + length (cb pc1 j (second_slot g n))) (second_slot g n) u (Holds r T (operand w.layout r y (second_slot g n))) (vb T s)) → ((T : Mask) (s : State) → KeepsBy w.layout.loaded s (va T s)) → ((T : Mask) (s : State) → KeepsBy w.layout.loaded s (vb T s)) → Runs w c (pc + length (choose_code w.layout g r t x y f pc k n ct ca cb)) n q (Holds r a (w.layout.spare r t n)) (bind vt (λ x s1. bind (value_unless_empty (gang_of w) (kept_by is_true a x) s1 va) (λ m s2. bind (value_unless_empty (gang_of w) (kept_by is_false a x) s2 vb) (λ z s3. Gives (selected a x m z) s3))))
+  pub choose_runs : (g r : Rate) (t : Elem) (x y : TExpr) (c : Conf) (pc k n q : ℕ) (a : Mask) (vt : Val Payload) (va vb : Mask → State → Val Payload) (f : ℕ) (ct : List Instr) (ca cb : ℕ → ℕ → ℕ → List Instr) → Reaches g r → c.masks k ≡ a → k < n → any (gang_of w) a ≡ true → ((p : ℕ) → a p ≡ true → Allowed w p) → Low w.layout g (n + 1) f → Low w.layout r (first_slot g n + 1) (operand w.layout r x (first_slot g n)) → AreAt w.routine.code pc (choose_code w.layout g r t x y f pc k n ct ca cb) → Runs w c (pc + length ct) n (5 + q) (Holds g a f) vt → ((T : Mask) (s : State) (c1 : Conf) (pc1 z u j : ℕ) → u ≤ 3 + z → AreAt w.routine.code pc1 (ca pc1 j (first_slot g n)) → Enters w pc1 j (first_slot g n) T s c1 z → Runs w c1 (pc1 + length (ca pc1 j (first_slot g n))) (first_slot g n) u (Holds r T (operand w.layout r x (first_slot g n))) (va T s)) → ((T : Mask) (s : State) (c1 : Conf) (pc1 z u j : ℕ) → u ≤ 3 + z → AreAt w.routine.code pc1 (cb pc1 j (second_slot g n)) → Enters w pc1 j (second_slot g n) T s c1 z → Runs w c1 (pc1 + length (cb pc1 j (second_slot g n))) (second_slot g n) u (Holds r T (operand w.layout r y (second_slot g n))) (vb T s)) → ((T : Mask) (s : State) → KeepsBy w.layout.loaded s (va T s)) → ((T : Mask) (s : State) → KeepsBy w.layout.loaded s (vb T s)) → Runs w c (pc + length (choose_code w.layout g r t x y f pc k n ct ca cb)) n q (Holds r a (w.layout.spare r t n)) (bind vt (λ x s1. bind (value_unless_empty (gang_of w) (kept_by is_true a x) s1 va) (λ m s2. bind (value_unless_empty (gang_of w) (kept_by is_false a x) s2 vb) (λ z s3. Gives (selected a x m z) s3))))
   choose_runs Uniform r t x y c pc k n q a vt va vb f ct ca cb re em lk some inside low_f low_x has rt ra rb still_a still_b =
       choose_one r (w.layout.spare r t n) c pc k n q a vt va vb f ct (λ pc2. ca pc2 k n ++ move_code r (w.layout.spare r t n) (operand w.layout r x n) k) (λ pc2. cb pc2 k n ++ move_code r (w.layout.spare r t n) (operand w.layout r y n) k) em lk some inside has (fewer vt rt) (λ s c1 pc1 z at en. side x (ca pc1 k n) (va a s) c1 pc1 z at en.mask en.low (ra a s c1 pc1 z (1 + z) k (omega arith) (are_front w.routine.code pc1 (ca pc1 k n) _ at) en)) (λ s c1 pc1 z at en. side y (cb pc1 k n) (vb a s) c1 pc1 z at en.mask en.low (rb a s c1 pc1 z (1 + z) k (omega arith) (are_front w.routine.code pc1 (cb pc1 k n) _ at) en))
     where

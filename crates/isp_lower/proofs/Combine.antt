@@ -1,7 +1,7 @@
 -- How code is put together: what follows a value, what comes before it, and one instruction that writes.
 use Rattle.std.proofs.Common.{◌≡◌, ◌≢◌, ℕ, ◌+◌, ◌*◌, ◌<◌, ◌≤◌, length, Option, Some, None, refl, sym, ap, ◌∙◌, subst, arith}
 use Rattle.std.specs.Prelude.{slice_get}
-use Rattle.isp_base.specs.Maps.{on, over}
+use Rattle.isp_base.specs.Maps.{on, over, put}
 use Rattle.isp_base.specs.Sets.{Mask, nobody}
 use Rattle.isp_base.specs.Traps.{trap}
 use Rattle.isp_base.specs.declared.trap.Trap.{Trap}
@@ -28,6 +28,7 @@ use Rattle.isp_lower.proofs.Base.{put_same, put_other, comes_on, fails_on, step_
 use Rattle.isp_lower.proofs.Rates.{Filled, filled_on}
 use Rattle.isp_lower.proofs.Lines.{set_at}
 use Rattle.isp_lower.specs.Rated.{Reaches}
+use Rattle.isp_lower.proofs.Consecutive.{run_place}
 
 module _ (w : Setting) (ready : IsSettled w) where
   -- ---- a stretch before
@@ -115,6 +116,7 @@ module _ (w : Setting) (ready : IsSettled w) where
     own_arrays = st.own_arrays;
     arrays_are = st.arrays_are;
     out_is = st.out_is;
+    run = run_place w.layout.run w.start w.members (c.scalars (w.layout.place Uniform)) (put c.scalars (w.layout.spare Uniform t j) (sole x) (w.layout.place Uniform)) s.varying (sym (put_other c.scalars (w.layout.spare Uniform t j) (sole x) (w.layout.place Uniform) (ready.apart.place_spare Uniform t j))) st.run;
   }
   set_stands Varying c t j x s st =
       let y = over (spread nobody x) (c.vectors (w.layout.spare Varying t j)) in
@@ -126,6 +128,7 @@ module _ (w : Setting) (ready : IsSettled w) where
         own_arrays = st.own_arrays;
         arrays_are = st.arrays_are;
         out_is = st.out_is;
+        run = st.run;
       }
 
   pub set_holds : (r : Rate) (c : Conf) (d : ℕ) (a : Mask) (x : Payload) → Filled r a x → x ≡ held_at r (set_at r c d x).scalars (set_at r c d x).vectors a d

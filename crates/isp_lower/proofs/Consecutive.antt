@@ -1,6 +1,6 @@
 -- Runs of elements: lane p has the element that is p places behind that of a scalar index. A run does what an access does by an index in
 -- each lane, where lane p has the bits of that sum.
-use Rattle.std.proofs.Common.{◌≡◌, ℕ, ◌<◌, ◌≤◌, ◌%◌, ◌^◌, [], Option, Some, None, Bool, true, false, refl, sym, ap, ◌∙◌, subst, arith, ℤ, pos, mod-eq_of_lt}
+use Rattle.std.proofs.Common.{◌≡◌, ℕ, ◌<◌, ◌≤◌, ◌%◌, ◌^◌, [], Option, Some, None, Bool, true, false, refl, sym, ap, ◌∙◌, subst, arith, ℤ, pos, mod-eq_of_lt, ◌⊎◌, inl, inr, eqb-true}
 use Rattle.std.specs.Prelude.{◌&&◌, ◌+ℤ◌, if◌then◌else◌, unsigned_abs}
 use Rattle.std.proofs.lemmas.Int.{ints}
 use Rattle.std.proofs.Math.Path.{fun_ext}
@@ -20,12 +20,13 @@ use Rattle.isp_base.proofs.Laws.{back_is}
 use Rattle.isp_base.proofs.Wraps.{wrap_to-pos}
 use Rattle.isp_base.specs.declared.types.Span.{Span}
 use Rattle.isp_meaning.specs.Payloads.{Payload, converted}
-use Rattle.isp_typed.specs.Typed.{TExpr, t_constant, t_program_index, t_place, t_convert, t_cast, t_unary, t_binary, t_compare, t_logic, t_choose, t_call, t_library, t_packed_store, t_packed_load}
-use Rattle.isp_lower.specs.Asks.{is_lane, is_run}
-use Rattle.isp_lower.specs.Code.{expr_places}
+use Rattle.isp_typed.specs.Typed.{TExpr, t_constant, t_program_index, t_place, t_convert, t_cast, t_unary, t_binary, t_compare, t_logic, t_choose, t_call, t_library, t_packed_store, t_packed_load, t_variable, t_element}
+use Rattle.isp_lower.specs.Code.{expr_places, counts, is_counter, is_run, names}
 use Rattle.isp_lower.specs.Held.{at_rate, held_at}
 use Rattle.isp_lower.specs.Layout.{Layout}
 use Rattle.isp_lower.specs.Rated.{Reaches}
+use Rattle.isp_lower.specs.Consecutive.{CountsFrom, RunHolds}
+use Rattle.isp_base.specs.declared.types.Ty.{Ty}
 
 -- the index of lane p as one of int64, where that of lane 0 has bits x
 abbrev pub run_lane : ℕ → Lanes
@@ -50,26 +51,46 @@ pub record IndexHolds (z : Bool) (br r : Rate) (a : Mask) (x : ℕ) (m : Payload
   pub holds : at_rate r a m ≡ held_at r scalars (lanes_by z scalars vectors) a x
   pub fits : RunFits z br r a (scalars x)
 
--- which index a run has
-lane_is : (i : TExpr) → is_lane i ≡ true → (sp : Span) × (i ≡ t_program_index sp)
-lane_is (t_constant v sp) e = absurd (cc)
-lane_is (t_program_index sp) e = (sp, refl)
-lane_is (t_place q) e = absurd (cc)
-lane_is (t_convert g x) e = absurd (cc)
-lane_is (t_cast x t sp) e = absurd (cc)
-lane_is (t_unary o x t sp) e = absurd (cc)
-lane_is (t_binary o x y t sp) e = absurd (cc)
-lane_is (t_compare c x y r sp) e = absurd (cc)
-lane_is (t_logic l x y r sp) e = absurd (cc)
-lane_is (t_choose c x y t sp) e = absurd (cc)
-lane_is (t_call c t) e = absurd (cc)
-lane_is (t_library f g xs t sp) e = absurd (cc)
-lane_is (t_packed_store b x sp) e = absurd (cc)
-lane_is (t_packed_load b v sp) e = absurd (cc)
+-- which index a run has: the number of the lane, or a variable
+abbrev pub Counting : Layout → TExpr → Type 0
+Counting l i =
+    ((sp : Span) × (i ≡ t_program_index sp)) ⊎ ((v : ℕ) × (t : Ty) × (sp : Span) × (i ≡ t_place (t_variable v t sp)) × (is_counter l t.rate v ≡ true))
 
-pub run_is : (br : Rate) (i : TExpr) → is_run br i ≡ true → (br ≡ Uniform) × (sp : Span) × (i ≡ t_program_index sp)
-run_is Uniform i e = let lane = lane_is i e in (refl, lane.0, lane.1)
-run_is Varying i e = absurd (cc)
+counting : (l : Layout) (i : TExpr) → counts l i ≡ true → Counting l i
+counting l (t_constant v sp) e = absurd (cc)
+counting l (t_program_index sp) e = inl (sp, refl)
+counting l (t_place (t_variable v t sp)) e = inr (v, t, sp, refl, e)
+counting l (t_place (t_element b i t sp)) e = absurd (cc)
+counting l (t_convert g x) e = absurd (cc)
+counting l (t_cast x t sp) e = absurd (cc)
+counting l (t_unary o x t sp) e = absurd (cc)
+counting l (t_binary o x y t sp) e = absurd (cc)
+counting l (t_compare c x y r sp) e = absurd (cc)
+counting l (t_logic g x y r sp) e = absurd (cc)
+counting l (t_choose c x y t sp) e = absurd (cc)
+counting l (t_call c t) e = absurd (cc)
+counting l (t_library f g xs t sp) e = absurd (cc)
+counting l (t_packed_store b x sp) e = absurd (cc)
+counting l (t_packed_load b v sp) e = absurd (cc)
+
+pub run_is : (l : Layout) (br : Rate) (i : TExpr) → is_run l br i ≡ true → (br ≡ Uniform) × Counting l i
+run_is l Uniform i e = (refl, counting l i e)
+run_is l Varying i e = absurd (cc)
+
+-- the variable that counts is the layout's, and varying
+pub record Counter (l : Layout) (r : Rate) (v : ℕ) : Type 0 where
+  pub varying : r ≡ Varying
+  pub inside : l.in_run ≡ true
+  pub run : l.run ≡ Some v
+
+pub counter_is : (l : Layout) (r : Rate) (v : ℕ) → is_counter l r v ≡ true → Counter l r v
+counter_is l Uniform v e = absurd (cc)
+counter_is l Varying v e = go l.in_run l.run refl refl e
+  where
+    go : (b : Bool) (o : Option ℕ) → l.in_run ≡ b → l.run ≡ o → (b && names l o v) ≡ true → Counter l Varying v
+    go true (Some i) eb eo h = record { varying = refl; inside = eb; run = eo ∙ ap Some (sym (eqb-true v i h)) }
+    go true None eb eo h = absurd (cc)
+    go false o eb eo h = absurd (cc)
 
 -- its elements are varying
 pub lane_reaches : (r : Rate) → Reaches Varying r → r ≡ Varying
@@ -77,8 +98,12 @@ lane_reaches Uniform re = absurd re
 lane_reaches Varying re = refl
 
 -- it names no place of the source
-pub run_unnamed : (l : Layout) (br : Rate) (i : TExpr) → is_run br i ≡ true → expr_places l i ≡ []
-run_unnamed l br i e = ap (expr_places l) (run_is br i e).2
+pub run_unnamed : (l : Layout) (br : Rate) (i : TExpr) → is_run l br i ≡ true → expr_places l i ≡ []
+run_unnamed l br i e = go (run_is l br i e).1
+  where
+    go : Counting l i → expr_places l i ≡ []
+    go (inl h) = ap (expr_places l) h.1
+    go (inr h) = ap (expr_places l) h.3
 
 module _ (a : Mask) (x : ℕ) (reach : InReach a x) where
   -- who is outside
@@ -119,9 +144,22 @@ module _ (a : Mask) (x : ℕ) (reach : InReach a x) where
 
 -- ---- an index that counts the lanes from z on
 
-pub record CountsFrom (z : ℤ) (a : Mask) (v : Lanes) : Type 0 where
-  pub is : (p : ℕ) → a p ≡ true → v p ≡ wrap I32 (z +ℤ pos p)
-  pub fits : (p : ℕ) → a p ≡ true → IsValue I32 (z +ℤ pos p)
+-- ---- while a variable is one
+
+pub none_holds : (o : Option ℕ) (start : ℕ) (m : Mask) (x : ℕ) (v : ℕ → Lanes) → o ≡ None → RunHolds o start m x v
+none_holds o start m x v e = subst (λ z. RunHolds z start m x v) (sym e) tt
+
+-- the place's register and the variable may be told anew
+pub run_place : (o : Option ℕ) (start : ℕ) (m : Mask) (x y : ℕ) (v : ℕ → Lanes) → x ≡ y → RunHolds o start m x v → RunHolds o start m y v
+run_place None start m x y v e h = tt
+run_place (Some i) start m x y v e h = (sym e ∙ h.0, h.1)
+
+pub run_each : (o : Option ℕ) (start : ℕ) (m : Mask) (x : ℕ) (v u : ℕ → Lanes) → ((i : ℕ) → o ≡ Some i → v i ≡ u i) → RunHolds o start m x v → RunHolds o start m x u
+run_each None start m x v u e h = tt
+run_each (Some i) start m x v u e h = (h.0, subst (CountsFrom (number I64 start) m) (e i refl) h.1)
+
+pub counts_part : (z : ℤ) (a b : Mask) (v : Lanes) → ((p : ℕ) → a p ≡ true → b p ≡ true) → CountsFrom z b v → CountsFrom z a v
+counts_part z a b v part c = record { is = λ p h. c.is p (part p h); fits = λ p h. c.fits p (part p h) }
 
 whole_fits : (z : ℤ) → IsValue I32 z → IsValue I64 z
 whole_fits z v = (omega (arith, ints, v.0), omega (arith, ints, v.1))

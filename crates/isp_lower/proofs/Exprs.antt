@@ -1,9 +1,9 @@
 -- The code of an expression gives the expression's value.
-use Rattle.std.proofs.Common.{◌≡◌, ℕ, ◌+◌, ◌*◌, ◌<◌, ◌≤◌, ◌%◌, ◌^◌, List, [], ◌∷◌, ◌++◌, length, Option, Some, None, Bool, true, false, refl, sym, ap, ◌∙◌, subst, arith, length-append, inl}
+use Rattle.std.proofs.Common.{◌≡◌, ℕ, ◌+◌, ◌*◌, ◌<◌, ◌≤◌, ◌%◌, ◌^◌, List, [], ◌∷◌, ◌++◌, length, Option, Some, None, Bool, true, false, refl, sym, ap, ◌∙◌, subst, arith, length-append, inl, inr}
 use Rattle.std.specs.Prelude.{slice_get, ◌&&◌, ℤ, pos}
 use Rattle.isp_base.specs.Access.{is_zero, is_outside}
 use Rattle.isp_base.specs.Cross.{rank, packed_outside}
-use Rattle.isp_base.specs.Maps.{on}
+use Rattle.isp_base.specs.Maps.{on, map1}
 use Rattle.isp_base.specs.Sets.{Mask, any, lowest}
 use Rattle.isp_base.specs.Unary.{unary_bits}
 use Rattle.isp_base.specs.Values.{width, number, wrap, op_bits, compare_bits}
@@ -47,9 +47,9 @@ use Rattle.isp_lower.specs.Callees.{later, next_rate, rate_held, rates_held, rat
 use Rattle.isp_lower.specs.Library.{library_code, library_rates}
 use Rattle.isp_lower.specs.Calls.{IsHanded, AreHanded, Takes, given_back, CallRuns}
 use Rattle.isp_lower.specs.Layout.{class_at, register, mask_register, array_register}
-use Rattle.isp_lower.specs.Setting.{ArrayFitsAt, ArrayFits, Setting, IsSettled, gang_of, calls_of, AreAt, At, Stands, at_rate, held_at, Holds, Spares}
+use Rattle.isp_lower.specs.Setting.{ArrayFitsAt, ArrayFits, Setting, IsSettled, gang_of, calls_of, AreAt, At, Stands, at_rate, held_at, Holds, Spares, Allowed, IsOther}
 use Rattle.isp_lower.specs.Runs.{Comes, Enters, Runs}
-use Rattle.isp_lower.specs.Code.{is_copied, variable_found, variable_read, copy, convert, constant, constant_of, convert_to, part_to, lift_to, lifted, found, operand, operand_of, lift_code, is_whole, whole, whole_of, index, index_of, read, packed_store, packed_load, base_register, base_places, base_code, expr_places, expr_code, expr_to, values_code, values_places, value_registers, argument_places, arguments_places, argument_register, argument_registers, argument_code, arguments_code, calling, select, same_rate, stays, stays_at, is_short, choose_code, choose_to, index_by, index_by_of, read_by}
+use Rattle.isp_lower.specs.Code.{is_copied, variable_found, variable_read, copy, convert, constant, constant_of, convert_to, part_to, lift_to, lifted, found, operand, operand_of, lift_code, is_whole, whole, whole_of, index, index_of, read, packed_store, packed_load, base_register, base_places, base_code, expr_places, expr_code, expr_to, values_code, values_places, value_registers, argument_places, arguments_places, argument_register, argument_registers, argument_code, arguments_code, calling, select, same_rate, stays, stays_at, is_short, choose_code, choose_to, index_by, index_by_of, read_by, is_run, start_code}
 use Rattle.isp_lower.proofs.Base.{are_front, are_back, comes_none, comes_on, at_to, moved_by, spares_all, spares_less, spares_on}
 use Rattle.isp_lower.proofs.Rates.{Filled, held_same, at_mapped, at_offender, filled_on, filled_held}
 use Rattle.isp_lower.proofs.Lines.{set_at, value_at, copy_line, convert_line, unary_line, compare_line, operate_at, place_named}
@@ -69,10 +69,11 @@ use Rattle.isp_lower.proofs.LibraryLines.{Makes, library_makes}
 use Rattle.isp_lower.proofs.LibraryTypes.{part_elems}
 use Rattle.isp_lower.proofs.PackedRuns.{first_is, load_leaves, store_leaves}
 use Rattle.isp_lower.proofs.Parts.{ExprParts, BaseParts, OperandFits, ValuesParts, CallParts, ArgumentsParts, ArgumentParts, SpareFits, RunParts}
-use Rattle.isp_lower.specs.Asks.{first_slot, second_slot, is_run}
+use Rattle.isp_lower.specs.Asks.{first_slot, second_slot, is_lane}
 use Rattle.isp_lower.specs.Rated.{Reaches}
-use Rattle.isp_lower.specs.Tables.{IsTyped}
-use Rattle.isp_lower.proofs.Consecutive.{IndexHolds, RunFits, counts_reach, counts_run, lane_reaches, lanes_by, lanes_count, run_is}
+use Rattle.isp_lower.specs.Tables.{IsTyped, IsLoadedIn}
+use Rattle.isp_lower.proofs.Consecutive.{IndexHolds, RunFits, counts_reach, counts_run, lane_reaches, lanes_by, lanes_count, run_is, Counter, Counting, counter_is, counts_part, run_each}
+use Rattle.isp_lower.specs.Consecutive.{RunHolds}
 
 -- the places of a node are in the code
 abbrev PlaceIs : Setting → ℕ → Span → Type 0
@@ -123,7 +124,7 @@ module _ (w : Setting) (ready : IsSettled w) where
   -- and of a place
   abbrev pub PlaceHolds : TPlace → ℕ → Mask → Place → Conf → Type 0
   PlaceHolds (t_variable v t sp) n a z c = z ≡ Variable v t
-  PlaceHolds (t_element y i t sp) n a z c = ElementHolds (is_run y.ty.rate i) y i t n a z c
+  PlaceHolds (t_element y i t sp) n a z c = ElementHolds (is_run w.layout y.ty.rate i) y i t n a z c
 
   -- an index as int64
   whole_runs : (i : TExpr) (z : Bool) (pc k n q rest : ℕ) (a : Mask) (s : State) (c : Conf) (code : List Instr) → is_whole (type_of i).elem ≡ z → rest ≤ 31 + q → Enters w pc k n a s c q → ExprParts w i n → SpareFits w (type_of i).rate I64 n → AreAt w.routine.code pc (whole_of w.layout z i k n code) → (AreAt w.routine.code pc code → Runs w c (pc + length code) n (1 + rest) (Holds (type_of i).rate a (found w.layout i n)) (means i a s)) → Runs w c (pc + length (whole_of w.layout z i k n code)) n rest (Holds (type_of i).rate a (whole w.layout z i n)) (bind (means i a s) (λ m s1. Gives (mapped (as_whole z (type_of i).elem) m) s1))
@@ -153,24 +154,40 @@ module _ (w : Setting) (ready : IsSettled w) where
       let r = constant_runs InSlot pc k n q rest a s c I64 0 0 (omega (arith, le)) b ty has.0 (wrap_bits I64 0) in
       let x = r.conf.scalars (w.layout.spare Uniform I64 n) in
       let zero : number I64 x ≡ pos 0 = ap (λ m. number I64 (sole m)) (sym r.holds) ∙ zero_first in
-      let counts = lanes_count w.code.gang a b.inside in
+      let counts = lanes_count w.code.gang a (λ p h. (b.inside p h).0) in
       let held = λ (u : Rate) (e : u ≡ Varying). subst (λ v. at_rate v a (mapped (as_whole false I32) (Each (on a (λ p. p)))) ≡ held_at v r.conf.scalars (lanes_by true r.conf.scalars r.conf.vectors) a (w.layout.spare Uniform I64 n)) (sym e) (ap Each (counts_run (pos 0) a (λ p. p) x zero counts)) in
       record { conf = r.conf; steps = r.steps; comes = r.comes; at = r.at; stands = r.stands; spares = r.spares; masks = r.masks; holds = (Each (on a (λ p. p)), refl, record { holds = held t.rate et; fits = (eb, et, counts_reach (pos 0) a (λ p. p) x zero counts) }); bound = r.bound }
 
+  -- the variable that counts the lanes as the index of a run: it stays in place
+  counter_index_runs : (y : ArrayVariable) (t : Ty) (v : ℕ) (u : Ty) (sp : Span) (pc k n q rest : ℕ) (a : Mask) (s : State) (c : Conf) → rest ≤ 30 + q → Enters w pc k n a s c q → y.ty.rate ≡ Uniform → t.rate ≡ Varying → Counter w.layout u.rate v → u.elem ≡ I32 → Runs w c (pc + 0) n rest (ElementHolds true y (t_place (t_variable v u sp)) t n a) (bind (means (t_place (t_variable v u sp)) a s) (λ m s1. Gives (Element y u.elem m) s1))
+  counter_index_runs y t v u sp pc k n q rest a s c le b eb et counter ei =
+      let run : RunHolds (Some v) w.start w.members (c.scalars (w.layout.place Uniform)) s.varying = subst (λ o. RunHolds o w.start w.members (c.scalars (w.layout.place Uniform)) s.varying) counter.run b.stands.run in
+      let x = c.scalars (w.layout.place Uniform) in
+      let zero : number I64 x ≡ number I64 w.start = ap (number I64) run.0 in
+      let counts = counts_part (number I64 w.start) a w.members (s.varying v) (λ p h. (b.inside p h).1 counter.inside) run.1 in
+      let value : mapped (as_whole (is_whole u.elem) u.elem) (variable u.rate v a (tick s)) ≡ Each (map1 (converted I32 I64) (on a (s.varying v))) = ap (λ e. mapped (as_whole (is_whole e) e) (variable u.rate v a (tick s))) ei ∙ ap (λ r. mapped (converted I32 I64) (variable r v a (tick s))) counter.varying in
+      let held = λ (r : Rate) (e : r ≡ Varying). subst (λ z. at_rate z a (mapped (as_whole (is_whole u.elem) u.elem) (variable u.rate v a (tick s))) ≡ held_at z c.scalars (lanes_by true c.scalars c.vectors) a (w.layout.place Uniform)) (sym e) (ap (at_rate Varying a) value ∙ ap Each (counts_run (number I64 w.start) a (s.varying v) x zero counts)) in
+      record { conf = c; steps = 0; comes = comes_none w c; at = at_to w c pc (pc + 0) b.at (omega arith); stands = b.stands; spares = spares_all w n c; masks = λ r lt. refl; holds = (variable u.rate v a (tick s), refl, record { holds = held t.rate et; fits = (eb, et, counts_reach (number I64 w.start) a (s.varying v) x zero counts) }); bound = omega (arith, le, b.used) }
+
   -- the index of an element
-  pub element_index_runs : (y : ArrayVariable) (i : TExpr) (t : Ty) (pc k n q rest : ℕ) (a : Mask) (s : State) (c : Conf) (code : List Instr) → rest ≤ 30 + q → Enters w pc k n a s c q → ExprParts w i n → Reaches (type_of i).rate t.rate → SpareFits w (type_of i).rate I64 n → RunParts w (is_run y.ty.rate i) n → AreAt w.routine.code pc (index_by_of w.layout (is_run y.ty.rate i) t.rate i k n code) → (AreAt w.routine.code pc code → Runs w c (pc + length code) n (1 + (1 + rest)) (Holds (type_of i).rate a (found w.layout i n)) (means i a s)) → Runs w c (pc + length (index_by_of w.layout (is_run y.ty.rate i) t.rate i k n code)) n rest (ElementHolds (is_run y.ty.rate i) y i t n a) (bind (means i a s) (λ m s1. Gives (Element y (type_of i).elem m) s1))
-  element_index_runs y i t pc k n q rest a s c code le b fit re ty run_ty has run = go (is_run y.ty.rate i) refl run_ty has
+  pub element_index_runs : (y : ArrayVariable) (i : TExpr) (t : Ty) (pc k n q rest : ℕ) (a : Mask) (s : State) (c : Conf) (code : List Instr) → rest ≤ 30 + q → Enters w pc k n a s c q → ExprParts w i n → Reaches (type_of i).rate t.rate → SpareFits w (type_of i).rate I64 n → RunParts w y.ty.rate i n → AreAt w.routine.code pc (index_by_of w.layout (is_run w.layout y.ty.rate i) t.rate i k n code) → (AreAt w.routine.code pc code → Runs w c (pc + length code) n (1 + (1 + rest)) (Holds (type_of i).rate a (found w.layout i n)) (means i a s)) → Runs w c (pc + length (index_by_of w.layout (is_run w.layout y.ty.rate i) t.rate i k n code)) n rest (ElementHolds (is_run w.layout y.ty.rate i) y i t n a) (bind (means i a s) (λ m s1. Gives (Element y (type_of i).elem m) s1))
+  element_index_runs y i t pc k n q rest a s c code le b fit re ty parts has run = go (is_run w.layout y.ty.rate i) refl has
     where
-      go : (z : Bool) → is_run y.ty.rate i ≡ z → RunParts w z n → AreAt w.routine.code pc (index_by_of w.layout z t.rate i k n code) → Runs w c (pc + length (index_by_of w.layout z t.rate i k n code)) n rest (ElementHolds z y i t n a) (bind (means i a s) (λ m s1. Gives (Element y (type_of i).elem m) s1))
-      go false e rt at = index_runs y i t pc k n q rest a s c code le b fit re ty at run
-      go true e rt at =
-          let is = run_is y.ty.rate i e in
-          let et : t.rate ≡ Varying = lane_reaches t.rate (subst (λ u. Reaches (type_of u).rate t.rate) is.2 re) in
-          subst (λ u. Runs w c (pc + 1) n rest (ElementHolds true y u t n a) (bind (means u a s) (λ m s1. Gives (Element y (type_of u).elem m) s1))) (sym is.2)
-          (run_index_runs y t is.1 pc k n q rest a s c le b is.0 et rt at)
+      counted : y.ty.rate ≡ Uniform → Counting w.layout i → AreAt w.routine.code pc (start_code w.layout (is_lane i) n) → Runs w c (pc + length (start_code w.layout (is_lane i) n)) n rest (ElementHolds true y i t n a) (bind (means i a s) (λ m s1. Gives (Element y (type_of i).elem m) s1))
+      counted eb (inl h) =
+          subst (λ u. Reaches (type_of u).rate t.rate → RunParts w Uniform u n → AreAt w.routine.code pc (start_code w.layout (is_lane u) n) → Runs w c (pc + length (start_code w.layout (is_lane u) n)) n rest (ElementHolds true y u t n a) (bind (means u a s) (λ m s1. Gives (Element y (type_of u).elem m) s1))) (sym h.1)
+          (λ reaches spare at. run_index_runs y t h.0 pc k n q rest a s c le b eb (lane_reaches t.rate reaches) spare at) re (subst (λ r. RunParts w r i n) eb parts)
+      counted eb (inr h) =
+          let counter = counter_is w.layout h.1.rate h.0 h.4 in
+          subst (λ u. Reaches (type_of u).rate t.rate → ExprParts w u n → AreAt w.routine.code pc (start_code w.layout (is_lane u) n) → Runs w c (pc + length (start_code w.layout (is_lane u) n)) n rest (ElementHolds true y u t n a) (bind (means u a s) (λ m s1. Gives (Element y (type_of u).elem m) s1))) (sym h.3)
+          (λ reaches parts at. counter_index_runs y t h.0 h.1 h.2 pc k n q rest a s c le b eb (lane_reaches t.rate (subst (λ r. Reaches r t.rate) counter.varying reaches)) counter (sym parts.0 ∙ ap (λ r. elem_of w.routine (register r (w.layout.variable r h.0))) counter.varying ∙ (ready.counter h.0 counter.run).typed)) re fit
+
+      go : (z : Bool) → is_run w.layout y.ty.rate i ≡ z → AreAt w.routine.code pc (index_by_of w.layout z t.rate i k n code) → Runs w c (pc + length (index_by_of w.layout z t.rate i k n code)) n rest (ElementHolds z y i t n a) (bind (means i a s) (λ m s1. Gives (Element y (type_of i).elem m) s1))
+      go false e at = index_runs y i t pc k n q rest a s c code le b fit re ty at run
+      go true e at = let is = run_is w.layout y.ty.rate i e in counted is.0 is.1 at
 
   -- an element is read into slot n
-  pub element_runs : (u : Target) (b : Bool) (j : ℕ) (y : ArrayVariable) (i : TExpr) (t : Ty) (sp : Span) (c c2 : Conf) (st pc pc' k n p q : ℕ) (a : Mask) (s : State) (z : Payload) → ArrayFits w y → Reaches y.ty.rate t.rate → Comes w c st c2 → At w c2 pc → pc + 1 ≡ pc' → slice_get w.routine.code pc ≡ Some (read_by b t.rate (target w.layout u t.rate t.elem n) (w.layout.array y.number) j k p) → slice_get w.code.places p ≡ Some sp → Stands w s c2 → Spares w n c c2 → ((r : ℕ) → r < n → c2.masks r ≡ c.masks r) → c2.masks k ≡ a → any (gang_of w) a ≡ true → ((r : ℕ) → a r ≡ true → r < gang_of w) → st + 1 + q ≤ 32 * s.work → IndexHolds b y.ty.rate t.rate a j (mapped (as_whole (is_whole (type_of i).elem) (type_of i).elem) z) c2.scalars c2.vectors → Leaves w u (target w.layout u t.rate t.elem n) c pc' n q t.rate a (checked (outside (gang_of w) w.frame (Element y (type_of i).elem z) a) Index sp s (held (gang_of w) w.frame (Element y (type_of i).elem z) a s))
+  pub element_runs : (u : Target) (b : Bool) (j : ℕ) (y : ArrayVariable) (i : TExpr) (t : Ty) (sp : Span) (c c2 : Conf) (st pc pc' k n p q : ℕ) (a : Mask) (s : State) (z : Payload) → ArrayFits w y → Reaches y.ty.rate t.rate → Comes w c st c2 → At w c2 pc → pc + 1 ≡ pc' → slice_get w.routine.code pc ≡ Some (read_by b t.rate (target w.layout u t.rate t.elem n) (w.layout.array y.number) j k p) → slice_get w.code.places p ≡ Some sp → Stands w s c2 → Spares w n c c2 → ((r : ℕ) → r < n → c2.masks r ≡ c.masks r) → c2.masks k ≡ a → any (gang_of w) a ≡ true → ((r : ℕ) → a r ≡ true → Allowed w r) → st + 1 + q ≤ 32 * s.work → IndexHolds b y.ty.rate t.rate a j (mapped (as_whole (is_whole (type_of i).elem) (type_of i).elem) z) c2.scalars c2.vectors → Leaves w u (target w.layout u t.rate t.elem n) c pc' n q t.rate a (checked (outside (gang_of w) w.frame (Element y (type_of i).elem z) a) Index sp s (held (gang_of w) w.frame (Element y (type_of i).elem z) a s))
   element_runs u b j y i t sp c c2 st pc pc' k n p q a s z fy re h at to has place stands keeps masks em some inside le hold =
       let e = (type_of i).elem in
       let g = extent w.frame y in
@@ -184,7 +201,7 @@ module _ (w : Setting) (ready : IsSettled w) where
       let is4 = ap (λ o. moved_by o Index (place_at w.code p) (set_at t.rate c2 d Y)) (outside_is w t.rate e (is_whole e) z a c2.scalars ve j g refl fy.few hold.holds) in
       let is5 = ap (λ o. moved_by (offender (gang_of w) (is_outside e g) a z) Index o (set_at t.rate c2 d Y)) (place_named w.code w.routine c2 p sp place) in
       write_leaves w ready u c c2 st pc pc' n q a s _ t.rate t.elem (offender (gang_of w) (is_outside e g) a z) Index sp (held (gang_of w) w.frame (Element y e z) a s) Y h at to has stands keeps masks le
-      (λ none. read_is w t.rate y.ty.rate y e (is_whole e) z a s c2.scalars ve j g re refl fy.few some inside hold.holds none)
+      (λ none. read_is w t.rate y.ty.rate y e (is_whole e) z a s c2.scalars ve j g re refl fy.few some (λ r h. (inside r h).0) hold.holds none)
       (filled_items t.rate (get_at w y.ty.rate y s) c2.scalars ve a j)
       (line ∙ is1 ∙ is2 ∙ is3 ∙ is4 ∙ is5)
 
@@ -238,7 +255,7 @@ module _ (w : Setting) (ready : IsSettled w) where
   element_node u y i t sp ih pc p k n q rest a s c fit ty has places le b =
       let fi : heads i ≤ 1 = few w i n fit.0.4 in
       let ci = expr_code w.layout i pc p k n in
-      let z = is_run y.ty.rate i in
+      let z = is_run w.layout y.ty.rate i in
       let cj = index_by_of w.layout z t.rate i k n ci in
       let d = target w.layout u t.rate t.elem n in
       let rd = read_by z t.rate d (w.layout.array y.number) (index_by w.layout z t.rate i n) k (p + length (expr_places w.layout i)) in
@@ -463,6 +480,10 @@ module _ (w : Setting) (ready : IsSettled w) where
       subst (λ o. Leaves w u to_d c1 end n (ok.steps + rest) Uniform a (bind (checked (lowest (gang_of w) (packed_outside (extent w.frame o) z a)) Index sp s2 g) (λ h s3. Gives (One (rank a (gang_of w))) (meant.packed_kept (gang_of w) (w.frame.named o.number) z a h s3)))) (same_base d)
       (store_leaves w ready u y z g a s2 c1 c2 ok2.steps (pc1 + length ca) end k j v n (ok.steps + rest) p2 sp fits.0 fits.1 b.some ok2.comes ok2.at to (are_back w.routine.code pc1 ca last h1).0 (are_back w.code.places p1 (expr_places w.layout x) _ pl).0 ok2.stands (spares_less w n m c1 c2 (omega arith) ok2.spares) (λ r h. ok2.masks r (omega arith)) (ok2.masks k (omega arith) ∙ ok.masks k lk ∙ b.mask) (omega (arith, ok2.bound)) kept ok2.holds.0))))
 
+  -- no packed load writes a variable that counts lanes
+  loaded_other : (v : ℕ) → IsLoadedIn w.layout v → IsOther w v
+  loaded_other v h i e same = let no : true ≡ false = sym h ∙ ap w.layout.loaded (sym same) ∙ (ready.counter i e).unloaded in absurd (cc)
+
   pub packed_load_node : (u : Target) (d : TBase) (v : ℕ) (sp : Span) → BaseRuns d → NodeRuns u (t_packed_load d v sp)
   packed_load_node u d v sp base pc p k n q rest a s c fit ty has places le b =
       let y = base_array d in
@@ -479,7 +500,7 @@ module _ (w : Setting) (ready : IsSettled w) where
       (base pc p k n (32 + q) (1 + rest) a (tick s) c fit.1 (are_front w.routine.code pc cb _ has) (are_front w.code.places p (base_places w.layout d) _ places) (omega (arith, le)) (enters_part w ready pc k n (32 + q) q a s c (omega arith) b))
       (λ z s1 ok.
       subst (λ o. Leaves w u to_d c end n rest Uniform a (bind (checked (lowest (gang_of w) (packed_outside (extent w.frame o) z a)) Index sp (tick s1) (meant.packed_held (w.frame.named o.number) z a s1)) (λ h s3. Gives (One (rank a (gang_of w))) (written Varying v a h s3)))) (same_base d)
-      (load_leaves w ready u y z v a (tick s1) c ok.conf ok.steps pc1 end k j n rest p1 sp fits.0 fits.1 b.some ok.comes ok.at to (are_back w.routine.code pc cb last has).0 (are_back w.code.places p (base_places w.layout d) _ places).0 ok.stands ok.spares ok.masks (ok.masks k b.low ∙ b.mask) (omega (arith, ok.bound)) ok.holds))
+      (load_leaves w ready u y z v a (tick s1) c ok.conf ok.steps pc1 end k j n rest p1 sp (loaded_other v fit.2) fits.0 fits.1 b.some ok.comes ok.at to (are_back w.routine.code pc cb last has).0 (are_back w.code.places p (base_places w.layout d) _ places).0 ok.stands ok.spares ok.masks (ok.masks k b.low ∙ b.mask) (omega (arith, ok.bound)) ok.holds))
 
   -- ---- values in a row
 
@@ -609,12 +630,13 @@ module _ (w : Setting) (ready : IsSettled w) where
         own_arrays = λ x. st.own_arrays x ∙ ap (λ z. z.own x) (sym gives.state);
         arrays_are = refl;
         out_is = refl;
+        run = run_each w.layout.run w.start w.members (c.scalars (w.layout.place Uniform)) s.varying s1.varying (λ i ei. ap (λ z. z.varying i) (sym gives.state)) st.run;
       })
       (record { scalars_stay = λ e j lt. refl; vectors_stay = λ e j lt. refl }) (λ r lt. refl) run.bound (subst (λ z. at_rate t.rate a z ≡ z) (sym gives.value) (answer_held t.rate a gives.last)) (subst (Filled t.rate a) (sym gives.value) (answer_filled t.rate a gives.last))
   back_leaves InSlot t kc pc pc' n q a s c (Fails p s1) er at to st gives run = run
-  back_leaves (InVariable x) t kc pc pc' n q a s c (Fails p s1) er at to st gives run = run
+  back_leaves (InVariable x) t kc pc pc' n q a s c (Fails p s1) er at to st gives run = λ other. run
   back_leaves InSlot t kc pc pc' n q a s c (Stops s1) er at to st gives run = run
-  back_leaves (InVariable x) t kc pc pc' n q a s c (Stops s1) er at to st gives run = run
+  back_leaves (InVariable x) t kc pc pc' n q a s c (Stops s1) er at to st gives run = λ other. run
 
   -- the rates by which code hands over are those of the parameters
   pub rates_here : (f : ℕ) (g : TFunction) → slice_get w.program.functions f ≡ Some g → w.layout.rates f ≡ rates_held (params_of g)
@@ -624,7 +646,7 @@ module _ (w : Setting) (ready : IsSettled w) where
   class_is r d = refl
 
   -- the call itself
-  pub called_here : (d : Option Register) (f : ℕ) (xs : TArguments) (sp : Span) (answer : Option Ty) (pc p k n q : ℕ) (a : Mask) (s : State) (c : Conf) (zs : List Passed) (fit : CallParts w (t_called f xs sp) answer n) → Takes answer d → slice_get w.routine.code pc ≡ Some (calling w.layout d f xs p k n) → slice_get w.code.places p ≡ Some sp → At w c pc → c.masks k ≡ a → any (gang_of w) a ≡ true → ((r : ℕ) → a r ≡ true → r < gang_of w) → Stands w s c → 1 + q ≤ 32 * s.work → AreHanded a c (params_of fit.0) zs (argument_registers w.layout (rates_held (params_of fit.0)) xs n) → CallRuns w.code w.turns c (record { function = f; result = d; mask = mask_register k; place = p; arguments = argument_registers w.layout (w.layout.rates f) xs n }) q (calls_of w f sp a zs w.frame s)
+  pub called_here : (d : Option Register) (f : ℕ) (xs : TArguments) (sp : Span) (answer : Option Ty) (pc p k n q : ℕ) (a : Mask) (s : State) (c : Conf) (zs : List Passed) (fit : CallParts w (t_called f xs sp) answer n) → Takes answer d → slice_get w.routine.code pc ≡ Some (calling w.layout d f xs p k n) → slice_get w.code.places p ≡ Some sp → At w c pc → c.masks k ≡ a → any (gang_of w) a ≡ true → ((r : ℕ) → a r ≡ true → Allowed w r) → Stands w s c → 1 + q ≤ 32 * s.work → AreHanded a c (params_of fit.0) zs (argument_registers w.layout (rates_held (params_of fit.0)) xs n) → CallRuns w.code w.turns c (record { function = f; result = d; mask = mask_register k; place = p; arguments = argument_registers w.layout (w.layout.rates f) xs n }) q (calls_of w f sp a zs w.frame s)
   called_here d f xs sp answer pc p k n q a s c zs fit takes has place at em some inside st us hands =
       ready.calls (record { function = f; result = d; mask = mask_register k; place = p; arguments = argument_registers w.layout (w.layout.rates f) xs n }) fit.0 pc q sp a zs s c
       (record {
@@ -634,7 +656,7 @@ module _ (w : Setting) (ready : IsSettled w) where
         at = at;
         mask = em;
         some = some;
-        inside = inside;
+        inside = λ r h. (inside r h).0;
         hands = subst (λ rs. AreHanded a c (params_of fit.0) zs (argument_registers w.layout rs xs n)) (sym (rates_here f fit.0 fit.1)) hands;
         result = subst (λ o. Takes o d) (sym fit.2) takes;
         arrays_are = st.arrays_are;

@@ -18,7 +18,7 @@ use Rattle.isp_lower.specs.Asks.{Ask, Nothing, Both, Register, ArrayOf, LocalOf,
 use Rattle.isp_lower.specs.Code.{same_rate}
 use Rattle.isp_lower.specs.Emitted.{Begins, Grows, HasArray, HasRow, row_at, row_where, rows_of, value_row, array_row, value_rows, array_rows, result_rows, first_rows}
 use Rattle.isp_lower.specs.Reserved.{Has, HasOwn, HasSpare, IsOwn, IsReserved, OwnRegister}
-use Rattle.isp_lower.specs.Rows.{Name, Variable, Result, Spare, Fresh, Row, Rows, name_number, elem_in, rows_at}
+use Rattle.isp_lower.specs.Rows.{Name, Variable, Result, Spare, Place, Fresh, Row, Rows, name_number, elem_in, rows_at}
 use Rattle.isp_lower.specs.declared.registers.Registers.{Registers}
 use Rattle.isp_lower.specs.declared.reserve.Reserve.{Reserve}
 use Rattle.isp_lower.proofs.Growing.{row_grows, stays_in}
@@ -102,6 +102,7 @@ module _ (vars : List Declared) (answer : Option Ty) (first : Registers) (begun 
       ap (λ z. elem_in z (Variable v)) b.is ∙ (rows_stay (value_rows r 0 vars ++ result_rows r answer) b.more (Variable v) t has).1
   row_is new g r Result t s own = result_at r vars answer t (rows_at (rows_of new) r) own (values_begin new g r)
   row_is new g r (Spare u j) t s own = s
+  row_is new g r Place t s own = s
   row_is new g r (Fresh j) t s own = s
 
   array_is : (new : Registers) → Grows first new → (b : ArrayVariable) → HoldsArray vars b → HasArray new b
@@ -128,6 +129,7 @@ all_joined a b g (Both x y) f own = (all_joined a b g x f.0 own.0, all_joined a 
 all_joined a b g (Register r (Variable v) t) f own = row_grows a.registers b.registers g r (Variable v) t own
 all_joined a b g (Register r Result t) f own = row_grows a.registers b.registers g r Result t own
 all_joined a b g (Register r (Spare u j) t) f own = f
+all_joined a b g (Register r Place t) f own = f
 all_joined a b g (Register r (Fresh j) t) f own = f
 all_joined a b g (ArrayOf v) f own = (stays_in (rows_of a.registers).arrays (rows_of b.registers).arrays (Variable v.number) v.ty.elem g.arrays own).1
 all_joined a b g (LocalOf v) f own = (stays_in (rows_of a.registers).arrays (rows_of b.registers).arrays (Variable v.number) v.ty.elem g.arrays own).1

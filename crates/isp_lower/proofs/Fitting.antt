@@ -1,25 +1,31 @@
 -- What trees and what tables promise, together.
-use Rattle.std.proofs.Common.{ℕ, ◌+◌, List, [], ◌∷◌, Option, Some, None, Bool, true, false, refl, subst}
+use Rattle.std.proofs.Common.{ℕ, ◌+◌, List, [], ◌∷◌, Option, Some, None, Bool, true, false, refl, subst, ◌≡◌, sym, ap, ◌∙◌}
 use Rattle.isp_base.specs.Ranks.{same_elem}
 use Rattle.isp_base.specs.declared.types.Elem.{Elem}
 use Rattle.isp_base.specs.declared.types.Elem.TheVariants.{Bool as Truth}
 use Rattle.isp_base.specs.declared.types.Rate.{Rate}
 use Rattle.isp_base.specs.declared.types.Rate.TheVariants.{Uniform, Varying}
 use Rattle.isp_typed.specs.Typed.{TExpr, t_constant, t_program_index, t_place, t_convert, t_cast, t_unary, t_binary, t_compare, t_logic, t_choose, t_call, t_library, t_packed_store, t_packed_load, TPlace, t_variable, t_element, TBase, t_whole, t_from, base_array, TArgument, t_by_value, t_by_name, TCall, t_called, TArguments, t_no_arguments, t_argument_then, TExprs, t_no_exprs, t_expr_then, TItem, t_plain, t_with_value, t_with_size, TSimple, t_value, t_run, t_assign, t_update, t_step, place_type, type_of}
-use Rattle.isp_typed.specs.Fine.{params_of}
+use Rattle.isp_typed.specs.Fine.{params_of, HoldsOpen, FineTarget, FineSimple, foreach_index}
 use Rattle.isp_typed.specs.declared.variable.Holds.{Holds}
 use Rattle.isp_typed.specs.declared.variable.Holds.TheVariants as holds
 use Rattle.isp_typed.specs.declared.variable.Variable.{Variable as Declared}
 use Rattle.isp_base.specs.declared.types.Ty.{Ty}
-use Rattle.isp_lower.specs.Setting.{Setting}
+use Rattle.isp_lower.specs.Setting.{Setting, IsSettled, IsOther, OtherAt}
 use Rattle.isp_lower.specs.Tables.{Table}
 use Rattle.isp_lower.specs.Callees.{next_rate, later}
 use Rattle.isp_lower.specs.Library.{library_rates}
-use Rattle.isp_lower.specs.Asks.{lift_asks, operand_asks, values_asks, read_asks, copy_asks, value_asks, base_asks, work_asks, zero_asks, beyond, first_slot, second_slot, expr_asks, target_asks, call_asks, arguments_asks, argument_asks, simple_asks, item_asks, items_asks, is_run, run_asks}
-use Rattle.isp_lower.proofs.Parts.{ExprParts, ValuesParts, CallParts, ArgumentsParts, ArgumentParts, ItemParts, ItemsParts, LiftFits, OperandFits, PlaceParts, BaseParts, PlaceTyped, CopyHas, IsNamed, ReadFits, SimpleParts, WorkFits, ZeroFits, RunParts}
+use Rattle.isp_lower.specs.Asks.{lift_asks, operand_asks, values_asks, read_asks, copy_asks, value_asks, base_asks, work_asks, zero_asks, beyond, first_slot, second_slot, expr_asks, target_asks, call_asks, arguments_asks, argument_asks, simple_asks, item_asks, items_asks, run_asks, is_lane, start_asks}
+use Rattle.isp_lower.proofs.Parts.{ExprParts, ValuesParts, CallParts, ArgumentsParts, ArgumentParts, ItemParts, ItemsParts, LiftFits, OperandFits, PlaceParts, BaseParts, PlaceTyped, CopyHas, IsNamed, ReadFits, SimpleParts, WorkFits, ZeroFits, RunParts, LaneParts, TargetOther}
 use Rattle.isp_lower.proofs.Trees.{ExprTree, ValuesTree, CallTree, ArgumentsTree, ArgumentTree, ItemTree, ItemsTree, OperandTree, PlaceTree, BaseTree, SimpleTree}
-use Rattle.isp_lower.specs.Fits.{ExprFits, SimpleFits, ItemsFit}
+use Rattle.isp_lower.specs.Fits.{ExprFits, SimpleFits, ItemsFit, ItemOther, ItemsOther}
 use Rattle.isp_lower.proofs.Rated.{expr_tree, simple_tree, items_tree}
+use Rattle.std.specs.Prelude.{slice_get}
+use Rattle.std.specs.List.{All}
+
+abbrev is_constant : Option Declared → Bool
+is_constant None = false
+is_constant (Some x) = x.constant
 
 module _ (w : Setting) where
   -- ---- single registers
@@ -57,9 +63,25 @@ module _ (w : Setting) where
   zero_fits Uniform t v n h = h
   zero_fits Varying t v n h = h
 
-  run_fits : (z : Bool) (n : ℕ) → Table w.routine w.layout w.function.variables (run_asks z n) → RunParts w z n
-  run_fits true n h = h
-  run_fits false n h = tt
+  lane_fits : (i : TExpr) (n : ℕ) → Table w.routine w.layout w.function.variables (start_asks i n) → LaneParts w (is_lane i) n
+  lane_fits (t_constant v sp) n h = tt
+  lane_fits (t_program_index sp) n h = h
+  lane_fits (t_place q) n h = tt
+  lane_fits (t_convert e x) n h = tt
+  lane_fits (t_cast x t sp) n h = tt
+  lane_fits (t_unary o x t sp) n h = tt
+  lane_fits (t_binary o x y t sp) n h = tt
+  lane_fits (t_compare c x y r sp) n h = tt
+  lane_fits (t_logic g x y r sp) n h = tt
+  lane_fits (t_choose c x y t sp) n h = tt
+  lane_fits (t_call c t) n h = tt
+  lane_fits (t_library f e xs t sp) n h = tt
+  lane_fits (t_packed_store b x sp) n h = tt
+  lane_fits (t_packed_load b v sp) n h = tt
+
+  run_fits : (r : Rate) (i : TExpr) (n : ℕ) → Table w.routine w.layout w.function.variables (run_asks r i n) → RunParts w r i n
+  run_fits Uniform i n h = lane_fits i n h
+  run_fits Varying i n h = tt
 
   -- ---- trees
 
@@ -95,7 +117,7 @@ module _ (w : Setting) where
 
     place_fits : (z : TPlace) (n : ℕ) → PlaceTree w.program.functions z → Table w.routine w.layout w.function.variables (target_asks z n) → PlaceParts w z n
     place_fits (t_variable v u sp) n t h = h
-    place_fits (t_element b i u sp) n t h = (h.0, t.0, t.1, h.1.1.1.0, expr_fits i n t.2 h.1.1.1.1, run_fits (is_run b.ty.rate i) n h.1.0)
+    place_fits (t_element b i u sp) n t h = (h.0, t.0, t.1, h.1.1.1.0, expr_fits i n t.2 h.1.1.1.1, run_fits b.ty.rate i n h.1.0)
 
     base_fits : (b : TBase) (n : ℕ) → BaseTree w.program.functions b → Table w.routine w.layout w.function.variables (base_asks b n) → BaseParts w b n
     base_fits (t_whole b sp) n t h = (h.0, t.0, h.1)
@@ -124,34 +146,65 @@ module _ (w : Setting) where
     argument_fits (holds.Local u m) (t_by_value x) n t h = absurd t
     argument_fits (holds.Local u m) (t_by_name b sp) n t h = absurd t
 
-  pub simple_fits : (x : TSimple) (n : ℕ) → SimpleTree w.program.functions x → Table w.routine w.layout w.function.variables (simple_asks x n) → SimpleParts w x n
-  simple_fits (t_value x) n t h = expr_fits x n t h
-  simple_fits (t_run c) n t h = call_fits c None n t h
-  simple_fits (t_assign z x sp) n t h =
-      (place_fits z n t.0 h.0, operand_fits (place_type z).rate (place_type z).elem x (beyond z n) t.1 h.1.1, expr_fits x (beyond z n) t.2 h.1.1.1)
-  simple_fits (t_update o u z x sp) n t h =
-      let working = work_fits (same_elem (place_type z).elem u) (place_type z).rate u (beyond z n + 1) h.1.1.1.0 in
-      (record { number = t.3; target = place_fits z n t.0 h.0; working = working; back = read_fits z (beyond z n + 1) h.1.1.1.1 }, operand_fits (place_type z).rate u x (beyond z n) t.1 h.1.1.0, expr_fits x (beyond z n) t.2 h.1.1.0.1)
-  simple_fits (t_step o u z sp) n t h =
-      let working = work_fits (same_elem (place_type z).elem u) (place_type z).rate u (beyond z n + 1) h.1.1.1.0 in
-      (record { number = t.1; target = place_fits z n t.0 h.0; working = working; back = read_fits z (beyond z n + 1) h.1.1.1.1 }, h.1.1.0.0, lift_fits Uniform (place_type z).rate u (beyond z n) h.1.1.0.1)
+  abbrev pub SimpleOther : TSimple → Type 0
+  SimpleOther (t_value x) = Unit {0}
+  SimpleOther (t_run c) = Unit {0}
+  SimpleOther (t_assign z x sp) = TargetOther w z
+  SimpleOther (t_update o u z x sp) = TargetOther w z
+  SimpleOther (t_step o u z sp) = TargetOther w z
 
-  item_fits : (x : TItem) (n : ℕ) → ItemTree w.program.functions x → Table w.routine w.layout w.function.variables (item_asks n x) → ItemParts w n x
-  item_fits (t_plain v u sp) n t h = zero_fits u.rate u.elem v n h
-  item_fits (t_with_value v u x sp) n t h = (h.0, operand_fits u.rate u.elem x n t.0 h.1, expr_fits x n t.1 h.1.1)
-  item_fits (t_with_size b sp) n t h = h
+  pub simple_fits : (x : TSimple) (n : ℕ) → SimpleTree w.program.functions x → Table w.routine w.layout w.function.variables (simple_asks x n) → SimpleOther x → SimpleParts w x n
+  simple_fits (t_value x) n t h o = expr_fits x n t h
+  simple_fits (t_run c) n t h o = call_fits c None n t h
+  simple_fits (t_assign z x sp) n t h o =
+      (place_fits z n t.0 h.0, operand_fits (place_type z).rate (place_type z).elem x (beyond z n) t.1 h.1.1, expr_fits x (beyond z n) t.2 h.1.1.1, o)
+  simple_fits (t_update o u z x sp) n t h other =
+      let working = work_fits (same_elem (place_type z).elem u) (place_type z).rate u (beyond z n + 1) h.1.1.1.0 in
+      (record { number = t.3; target = place_fits z n t.0 h.0; working = working; back = read_fits z (beyond z n + 1) h.1.1.1.1; other = other }, operand_fits (place_type z).rate u x (beyond z n) t.1 h.1.1.0, expr_fits x (beyond z n) t.2 h.1.1.0.1)
+  simple_fits (t_step o u z sp) n t h other =
+      let working = work_fits (same_elem (place_type z).elem u) (place_type z).rate u (beyond z n + 1) h.1.1.1.0 in
+      (record { number = t.1; target = place_fits z n t.0 h.0; working = working; back = read_fits z (beyond z n + 1) h.1.1.1.1; other = other }, h.1.1.0.0, lift_fits Uniform (place_type z).rate u (beyond z n) h.1.1.0.1)
 
-  pub items_fit : (xs : List TItem) (n : ℕ) → ItemsTree w.program.functions xs → Table w.routine w.layout w.function.variables (items_asks n xs) → ItemsParts w n xs
-  items_fit [] n t h = tt
-  items_fit (x ∷ xs) n t h = (item_fits x n t.0 h.0, items_fit xs n t.1 h.1)
+  item_fits : (x : TItem) (n : ℕ) → ItemTree w.program.functions x → Table w.routine w.layout w.function.variables (item_asks n x) → ItemOther w x → ItemParts w n x
+  item_fits (t_plain v u sp) n t h o = (zero_fits u.rate u.elem v n h, o)
+  item_fits (t_with_value v u x sp) n t h o = (h.0, operand_fits u.rate u.elem x n t.0 h.1, expr_fits x n t.1 h.1.1, o)
+  item_fits (t_with_size b sp) n t h o = h
+
+  pub items_fit : (xs : List TItem) (n : ℕ) → ItemsTree w.program.functions xs → Table w.routine w.layout w.function.variables (items_asks n xs) → ItemsOther w xs → ItemsParts w n xs
+  items_fit [] n t h o = tt
+  items_fit (x ∷ xs) n t h o = (item_fits x n t.0 h.0 o.0, items_fit xs n t.1 h.1 o.1)
 
   -- ---- what fits, part by part
 
   pub expr_parts : (x : TExpr) (n : ℕ) → ExprFits w x n → ExprParts w x n
   expr_parts x n fit = expr_fits x n (expr_tree w.program.functions w.function.variables x fit.fine fit.rated) fit.named
 
-  pub simple_parts : (x : TSimple) (n : ℕ) → SimpleFits w x n → SimpleParts w x n
-  simple_parts x n fit = simple_fits x n (simple_tree w.program.functions w.function.variables x fit.fine fit.rated) fit.named
+  -- what is assigned to is no constant, and a variable that counts lanes is one
+  abbrev pub RunConstant : Type 0
+  RunConstant = (i : ℕ) → w.layout.run ≡ Some i → slice_get w.function.variables i ≡ Some foreach_index
+
+  open_other : RunConstant → (v : ℕ) (t : Ty) → HoldsOpen w.function.variables v t → IsOther w v
+  open_other constant v t h i e same =
+      let no : true ≡ false = ap is_constant (sym (constant i e) ∙ ap (slice_get w.function.variables) same ∙ h) in
+      absurd (cc)
+
+  other_at : (r : Rate) (v : ℕ) → IsOther w v → OtherAt w r v
+  other_at Uniform v o = tt
+  other_at Varying v o = o
+
+  target_other : RunConstant → (z : TPlace) → FineTarget w.program.functions w.function.variables z → TargetOther w z
+  target_other constant (t_variable v t sp) f = other_at t.rate v (open_other constant v t f)
+  target_other constant (t_element b i t sp) f = tt
+
+  pub simple_other : RunConstant → (x : TSimple) → FineSimple w.program.functions w.function.variables x → SimpleOther x
+  simple_other constant (t_value x) f = tt
+  simple_other constant (t_run c) f = tt
+  simple_other constant (t_assign z x sp) f = target_other constant z f.0
+  simple_other constant (t_update o u z x sp) f = target_other constant z f.0
+  simple_other constant (t_step o u z sp) f = target_other constant z f.0
+
+  pub simple_parts : (ready : IsSettled w) (x : TSimple) (n : ℕ) → SimpleFits w x n → SimpleParts w x n
+  simple_parts ready x n fit = simple_fits x n (simple_tree w.program.functions w.function.variables x fit.fine fit.rated) fit.named (simple_other (λ i e. (ready.counter i e).constant) x fit.fine)
 
   pub items_parts : (xs : List TItem) (n : ℕ) → ItemsFit w n xs → ItemsParts w n xs
-  items_parts xs n fit = items_fit xs n (items_tree w.program.functions w.function.variables xs fit.fine fit.rated) fit.named
+  items_parts xs n fit = items_fit xs n (items_tree w.program.functions w.function.variables xs fit.fine fit.rated) fit.named fit.others

@@ -2,7 +2,7 @@
 use Rattle.std.proofs.Common.{◌≡◌, ℕ, ◌<◌, ◌≤◌, ◌+◌, List, [], ◌++◌, length, drop, get_or, refl, sym, ap, subst, ◌∙◌, arith, append_assoc, append-nil, Some}
 use Rattle.std.proofs.lemmas.List.{drop_more, drop_all}
 use Rattle.isp_base.specs.declared.types.Elem.{Elem}
-use Rattle.isp_base.specs.declared.types.Elem.TheVariants.{Bool as Truth}
+use Rattle.std.specs.Prelude.{Option, None, is_some, true}
 use Rattle.isp_base.specs.declared.types.Rate.{Rate}
 use Rattle.isp_base.specs.declared.types.Rate.TheVariants.{Uniform, Varying}
 use Rattle.isp_typed.specs.Views.{item_of, items_of}
@@ -12,7 +12,7 @@ use Rattle.isp_lower.specs.Asks.{Ask, Nothing, Both, Register, ArrayOf, LocalOf,
 use Rattle.isp_lower.specs.Emitted.{rows_of, Begins, Grows, HasLoaded, HasRow}
 use Rattle.isp_lower.specs.Asks.{first_slot, second_slot}
 use Rattle.isp_lower.specs.Reserved.{Gives, HasSpare, IsReserved}
-use Rattle.isp_lower.specs.Rows.{Name, Variable, Result, Spare, Fresh, Row, number_in, elem_in}
+use Rattle.isp_lower.specs.Rows.{Name, Variable, Result, Spare, Place, Fresh, Row, number_in, elem_in}
 use Rattle.isp_lower.specs.Tables.{AnyArray}
 use Rattle.isp_lower.specs.declared.registers.Registers.{Registers}
 use Rattle.isp_lower.specs.declared.reserve.Reserve.{Reserve}
@@ -71,10 +71,15 @@ spare_grows : (a b : Registers) → Grows a b → (r : Rate) (x : Name) (t : Ele
 spare_grows a b g r (Variable v) t e = tt
 spare_grows a b g r Result t e = tt
 spare_grows a b g r (Spare u j) t e = row_grows a b g r (Spare u j) t e
+spare_grows a b g r Place t e = row_grows a b g r Place t e
 spare_grows a b g r (Fresh j) t e = row_grows a b g r (Fresh j) t e
 
 pub loaded_grows : (a b : Registers) → Grows a b → (v : ℕ) → HasLoaded a v → HasLoaded b v
-loaded_grows a b g v e = (stays_in (rows_of a).loaded (rows_of b).loaded (Variable v) Truth g.loaded e).1
+loaded_grows a b g v e = go (elem_in (rows_of a).loaded (Variable v)) refl e
+  where
+    go : (o : Option Elem) → elem_in (rows_of a).loaded (Variable v) ≡ o → is_some o ≡ true → HasLoaded b v
+    go None at h = absurd (cc)
+    go (Some t) at h = ap is_some (stays_in (rows_of a).loaded (rows_of b).loaded (Variable v) t g.loaded at).1
 
 pub has_grows : (a b : Reserve) → Grows a.registers b.registers → a.masks ≤ b.masks → (x : Ask) → IsReserved a x → IsReserved b x
 has_grows a b g m x f =

@@ -23,7 +23,7 @@ use Rattle.isp_meaning.specs.Outcomes.{Gives}
 use Rattle.isp_meaning.specs.Places.{written}
 use Rattle.isp_meaning.specs.Simple.{cleared, item, items}
 use Rattle.isp_lower.specs.Layout.{mask_register, array_register}
-use Rattle.isp_lower.specs.Setting.{ArrayFitsAt, Setting, IsSettled, gang_of, calls_of, AreAt, Holds}
+use Rattle.isp_lower.specs.Setting.{ArrayFitsAt, Setting, IsSettled, gang_of, calls_of, AreAt, Holds, OtherAt}
 use Rattle.isp_lower.specs.Runs.{Enters, Ok, DoneRuns}
 use Rattle.isp_lower.specs.Code.{constant}
 use Rattle.isp_lower.specs.Items.{zero_code, item_code, item_places, items_code, items_places}
@@ -52,19 +52,19 @@ zero_is U64 = wrap_bits U64 0
 module _ (w : Setting) (ready : IsSettled w) where
   -- ---- without a value
 
-  zero_runs : (r : Rate) (t : Elem) (v : ℕ) (pc k n q : ℕ) (a : Mask) (s : State) (c : Conf) → ZeroFits w r t v n → AreAt w.routine.code pc (zero_code w.layout r t v k n) → Enters w pc k n a s c q → DoneRuns w c (pc + length (zero_code w.layout r t v k n)) n q (Gives tt (written r v a (One 0) (tick s)))
-  zero_runs Uniform t v pc k n q a s c fit has b =
+  zero_runs : (r : Rate) (t : Elem) (v : ℕ) (pc k n q : ℕ) (a : Mask) (s : State) (c : Conf) → ZeroFits w r t v n → OtherAt w r v → AreAt w.routine.code pc (zero_code w.layout r t v k n) → Enters w pc k n a s c q → DoneRuns w c (pc + length (zero_code w.layout r t v k n)) n q (Gives tt (written r v a (One 0) (tick s)))
+  zero_runs Uniform t v pc k n q a s c fit other has b =
       let d = w.layout.variable Uniform v in
       let c3 = set_at Uniform c d (One 0) in
       step_done w ready c c c3 0 pc (pc + 1) n q (constant d t 0) None Divide no_place (One 0) (tick s) (written Uniform v a) (comes_none w c) b.at refl has.0
       (ap (λ u. Go (set_at Uniform c d (One (wrap u (number t 0))))) fit ∙ ap (λ z. Go (set_at Uniform c d (One z))) (zero_is t)) refl (set_goes w ready Uniform c d (One 0) pc b.at) b.stands
-      (λ none. written_stands w ready Uniform v c a (One 0) (tick s) (One 0) b.stands refl) (variable_spares w ready Uniform v n c (One 0)) (λ g l. refl) (omega (arith, b.used)) (omega (arith, b.used))
-  zero_runs Varying t v pc k n q a s c fit has b =
+      (λ none. written_stands w ready Uniform v c a (One 0) (tick s) (One 0) b.stands refl other) (variable_spares w ready Uniform v n c (One 0)) (λ g l. refl) (omega (arith, b.used)) (omega (arith, b.used))
+  zero_runs Varying t v pc k n q a s c fit other has b =
       let d = w.layout.spare Uniform t n in
       let e = w.layout.variable Varying v in
       let ok : Ok w c (pc + 1) n (1 + q) (Holds Uniform a d (One 0)) (tick s) = write_runs w ready c c 0 pc (pc + 1) n (1 + q) a (tick s) (constant d t 0) Uniform t None Divide no_place (One 0) (One 0) (comes_none w c) b.at refl has.0 b.stands (spares_all w n c) (λ g l. refl) (omega (arith, b.used)) refl refl
       (ap (λ u. Go (set_at Uniform c d (One (wrap u (number t 0))))) fit.0 ∙ ap (λ z. Go (set_at Uniform c d (One z))) (zero_is t)) in
-      splat_done w ready v (One 0) a (tick s) c ok.conf ok.steps (pc + 1) (pc + 2) k d n q ok.comes ok.at (omega arith) has.1.0 ok.stands ok.spares ok.masks (ok.masks k b.low ∙ b.mask) (omega (arith, ok.bound)) ok.holds
+      splat_done w ready v (One 0) a (tick s) c ok.conf ok.steps (pc + 1) (pc + 2) k d n q ok.comes ok.at (omega arith) has.1.0 ok.stands ok.spares ok.masks (ok.masks k b.low ∙ b.mask) (omega (arith, ok.bound)) ok.holds other
 
   -- ---- arrays
 
@@ -76,7 +76,7 @@ module _ (w : Setting) (ready : IsSettled w) where
       let en : N ≡ w.frame.named y.number = ap (λ h. h.named A) b.at.home_is ∙ fit.1 in
       step_done w ready c c c3 0 pc (pc + 1) n q (instr.Clear (array_register A) (mask_register k)) None Divide no_place (One 0) (tick s) (λ m. cleared w.frame Uniform y.number a) (comes_none w c) b.at refl has
       (ap (λ z. Go (lines.cleared w.code w.routine c z (array_register A) (mask_register k))) fit.0) refl (next_at w c c3 pc b.at refl refl refl) b.stands
-      (λ none. record { uniforms = b.stands.uniforms; varying = b.stands.varying; result = b.stands.result; results = b.stands.results; own_arrays = b.stands.own_arrays; arrays_are = ap (λ z. put z N (λ e. 0)) b.stands.arrays_are ∙ ap (λ z. put s.arrays z (λ e. 0)) en; out_is = b.stands.out_is })
+      (λ none. record { uniforms = b.stands.uniforms; varying = b.stands.varying; result = b.stands.result; results = b.stands.results; own_arrays = b.stands.own_arrays; arrays_are = ap (λ z. put z N (λ e. 0)) b.stands.arrays_are ∙ ap (λ z. put s.arrays z (λ e. 0)) en; out_is = b.stands.out_is; run = b.stands.run })
       (spares_all w n c) (λ g l. refl) (omega (arith, b.used)) (omega (arith, b.used))
   cleared_runs Varying y pc k n q a s c fit has b =
       let A = w.layout.array y.number in
@@ -86,16 +86,16 @@ module _ (w : Setting) (ready : IsSettled w) where
       let ef : F ≡ G = ap (λ (m : Mask). (λ (e p : ℕ). if m p then 0 else c.own A e p)) b.mask ∙ ap (λ (f : ℕ → Lanes). (λ (e p : ℕ). if a p then 0 else f e p)) (b.stands.own_arrays y.number) in
       step_done w ready c c c3 0 pc (pc + 1) n q (instr.Clear (array_register A) (mask_register k)) None Divide no_place (One 0) (tick s) (λ m. cleared w.frame Varying y.number a) (comes_none w c) b.at refl has
       (ap (λ z. Go (lines.cleared w.code w.routine c z (array_register A) (mask_register k))) fit.0) refl (next_at w c c3 pc b.at refl refl refl) b.stands
-      (λ none. record { uniforms = b.stands.uniforms; varying = b.stands.varying; result = b.stands.result; results = b.stands.results; own_arrays = put_through c.own s.own w.layout.array y.number F G ready.apart.arrays b.stands.own_arrays ef; arrays_are = b.stands.arrays_are; out_is = b.stands.out_is })
+      (λ none. record { uniforms = b.stands.uniforms; varying = b.stands.varying; result = b.stands.result; results = b.stands.results; own_arrays = put_through c.own s.own w.layout.array y.number F G ready.apart.arrays b.stands.own_arrays ef; arrays_are = b.stands.arrays_are; out_is = b.stands.out_is; run = b.stands.run })
       (spares_all w n c) (λ g l. refl) (omega (arith, b.used)) (omega (arith, b.used))
 
   -- ---- items
 
   item_runs : (x : TItem) (pc p k n q : ℕ) (a : Mask) (s : State) (c : Conf) → ItemParts w n x → AreAt w.routine.code pc (item_code w.layout x pc p k n) → AreAt w.code.places p (item_places w.layout x) → Enters w pc k n a s c q → DoneRuns w c (pc + length (item_code w.layout x pc p k n)) n q (item (gang_of w) w.frame (calls_of w) x a s)
-  item_runs (t_plain v t sp) pc p k n q a s c fit has places b = zero_runs t.rate t.elem v pc k n q a s c fit has b
+  item_runs (t_plain v t sp) pc p k n q a s c fit has places b = zero_runs t.rate t.elem v pc k n q a s c fit.0 fit.1 has b
   item_runs (t_with_value v t x sp) pc p k n q a s c fit has places b =
       let fx : heads x ≤ 1 = few w x n fit.2 in
-      variable_runs w ready t.rate t.elem v x pc p k n (32 + q) q a (tick s) c fit.0 fit.1 fit.2 has places (omega arith) (enters_part w ready pc k n (32 + q) q a s c (omega arith) b)
+      variable_runs w ready t.rate t.elem v x pc p k n (32 + q) q a (tick s) c fit.3 fit.0 fit.1 fit.2 has places (omega arith) (enters_part w ready pc k n (32 + q) q a s c (omega arith) b)
   item_runs (t_with_size y sp) pc p k n q a s c fit has places b = cleared_runs y.ty.rate y pc k n q a s c (ready.arrays y fit).is has.0 b
 
   pub items_run : (xs : List TItem) (pc p k n q : ℕ) (a : Mask) (s : State) (c : Conf) → ItemsParts w n xs → AreAt w.routine.code pc (items_code w.layout xs pc p k n) → AreAt w.code.places p (items_places w.layout xs) → Enters w pc k n a s c q → DoneRuns w c (pc + length (items_code w.layout xs pc p k n)) n q (items (gang_of w) w.frame (calls_of w) xs a s)

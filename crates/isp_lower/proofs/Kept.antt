@@ -31,6 +31,7 @@ use Rattle.isp_lower.specs.Setting.{Setting, IsSettled, gang_of, calls_of, Stand
 use Rattle.isp_lower.specs.Runs.{Runs}
 use Rattle.isp_lower.proofs.Parts.{ExprParts, BaseParts, ValuesParts, CallParts, ArgumentsParts, ArgumentParts}
 use Rattle.isp_lower.specs.Asks.{first_slot, second_slot}
+use Rattle.isp_lower.specs.Consecutive.{RunHolds}
 
 -- the register of a variable that is read in place, or a spare one of a slot below n
 abbrev pub Low : Layout → Rate → ℕ → ℕ → Type 0
@@ -54,6 +55,7 @@ placed_low l r n m x lt (inr t) = inr (t.0, n, lt, t.1)
 pub record KeepsLow (l : Layout) (n : ℕ) (scalars : ℕ → ℕ) (vectors : ℕ → Lanes) (scalars' : ℕ → ℕ) (vectors' : ℕ → Lanes) : Type 0 where
   pub scalars_stay : (x : ℕ) → Low l Uniform n x → scalars' x ≡ scalars x
   pub vectors_stay : (x : ℕ) → Low l Varying n x → vectors' x ≡ vectors x
+  pub place_stays : (i : ℕ) → l.run ≡ Some i → scalars' (l.place Uniform) ≡ scalars (l.place Uniform)
 
 abbrev pub Keeps : Setting → ℕ → Conf → Conf → Type 0
 Keeps w n c c' = KeepsLow w.layout n c.scalars c.vectors c'.scalars c'.vectors
@@ -61,11 +63,15 @@ Keeps w n c c' = KeepsLow w.layout n c.scalars c.vectors c'.scalars c'.vectors
 module _ (w : Setting) where
   -- a value that changes no other variable keeps these registers
   pub kept_of : (n : ℕ) (c c' : Conf) (s s' : State) → Stands w s c → Stands w s' c' → KeepsVariables w.layout.loaded s s' → Spares w n c c' → Keeps w n c c'
-  kept_of n c c' s s' st st' k sp = record { scalars_stay = scalar; vectors_stay = vector }
+  kept_of n c c' s s' st st' k sp = record { scalars_stay = scalar; vectors_stay = vector; place_stays = λ i e. place w.layout.run i e st.run st'.run }
     where
       scalar : (x : ℕ) → Low w.layout Uniform n x → c'.scalars x ≡ c.scalars x
       scalar x (inl v) = ap c'.scalars v.2 ∙ st'.uniforms v.0 ∙ ap (λ f. f v.0) k.0 ∙ sym (st.uniforms v.0) ∙ ap c.scalars (sym v.2)
       scalar x (inr j) = ap c'.scalars j.3 ∙ sp.scalars_stay j.0 j.1 j.2 ∙ ap c.scalars (sym j.3)
+
+      place : (o : Option ℕ) (i : ℕ) → o ≡ Some i → RunHolds o w.start w.members (c.scalars (w.layout.place Uniform)) s.varying → RunHolds o w.start w.members (c'.scalars (w.layout.place Uniform)) s'.varying → c'.scalars (w.layout.place Uniform) ≡ c.scalars (w.layout.place Uniform)
+      place None i e h h' = absurd (cc)
+      place (Some j) i e h h' = h'.0 ∙ sym h.0
 
       vector : (x : ℕ) → Low w.layout Varying n x → c'.vectors x ≡ c.vectors x
       vector x (inl v) = ap c'.vectors v.2 ∙ st'.varying v.0 ∙ k.1 v.0 v.1 ∙ sym (st.varying v.0) ∙ ap c.vectors (sym v.2)
@@ -96,6 +102,7 @@ module _ (w : Setting) where
   keeps_on n m c c1 c2 le k h = record {
     scalars_stay = λ x low. h.scalars_stay x (low_more w.layout Uniform n m x le low) ∙ k.scalars_stay x low;
     vectors_stay = λ x low. h.vectors_stay x (low_more w.layout Varying n m x le low) ∙ k.vectors_stay x low;
+    place_stays = λ i e. h.place_stays i e ∙ k.place_stays i e;
   }
 
   pub held_kept : (r : Rate) (n : ℕ) (c c' : Conf) (a : Mask) (x : ℕ) → Keeps w n c c' → Low w.layout r n x → held_at r c'.scalars c'.vectors a x ≡ held_at r c.scalars c.vectors a x

@@ -21,7 +21,7 @@ pub use Rattle.isp_lower.proofs.Updates.{simple_runs}
 pub use Rattle.isp_lower.proofs.Items.{items_run}
 pub use Rattle.isp_lower.proofs.Found.{few, found_typed, operand_typed}
 pub use Rattle.isp_lower.proofs.Parts.{OperandFits, ExprParts, ValuesParts, SimpleParts, ItemsParts}
-pub use Rattle.isp_lower.proofs.Fitting.{expr_fits, operand_fits, values_fit, simple_fits, items_fit}
+pub use Rattle.isp_lower.proofs.Fitting.{RunConstant, expr_fits, operand_fits, values_fit, simple_fits, simple_other, items_fit}
 -- ---- its instructions have their operands
 
 pub use Rattle.isp_lower.proofs.Trees.{OperandTree, ExprTree, ValuesTree, SimpleTree, ItemsTree}
@@ -40,3 +40,4 @@ pub use Rattle.isp_lower.proofs.FirstRows.{all_there, result_at}
 -- ---- what is written: one piece after the other, and jumps over a part
 
 pub use Rattle.isp_lower.proofs.Landing.{appends_self, appends_then, landed, chosen, code_chosen, code_landed}
+pub use Rattle.isp_lower.proofs.Consecutive.{none_holds, run_place, run_each, counts_part}

@@ -14,6 +14,7 @@ mod Kept
 mod Values
 mod Found
 mod Consecutive
+mod Asked
 mod Access
 mod Writes
 mod Done

@@ -21,7 +21,7 @@ use Rattle.isp_meaning.specs.Payloads.{Payload, One, Each, nothing, is_true, is_
 use Rattle.isp_meaning.specs.Outcomes.{Val, Gives, bind, if_so, value_unless_empty}
 use Rattle.isp_meaning.specs.Expressions.{needs, settled}
 use Rattle.isp_lower.specs.Layout.{register, mask_register}
-use Rattle.isp_lower.specs.Setting.{Setting, IsSettled, gang_of, AreAt, at_rate, Holds}
+use Rattle.isp_lower.specs.Setting.{Setting, IsSettled, gang_of, AreAt, at_rate, Holds, Allowed}
 use Rattle.isp_lower.specs.Runs.{Enters, Ok, Runs}
 use Rattle.isp_lower.specs.Code.{copy, move_code, needing, decided, jump_on, jump_off, logic_code}
 use Rattle.isp_lower.proofs.Base.{are_front, are_back, put_same, put_other, comes_none, comes_on, at_to, spares_all}
@@ -51,7 +51,7 @@ module _ (w : Setting) (ready : IsSettled w) where
   jumps_is c Or d = sym (not_not (is_true (c.scalars d)))
 
   -- one value decides for all
-  pub logic_one : (g : Logic) (c : Conf) (pc k n q : ℕ) (a : Mask) (va : Val Payload) (vb : Mask → State → Val Payload) (x y : ℕ) (ca : List Instr) (cb : ℕ → ℕ → List Instr) → c.masks k ≡ a → k < n → any (gang_of w) a ≡ true → ((p : ℕ) → a p ≡ true → p < gang_of w) → AreAt w.routine.code pc (logic_code Uniform g (w.layout.spare Uniform Truth n) x y pc k n ca cb) → Runs w c (pc + length ca) n (1 + (1 + q)) (Holds Uniform a x) va → ((s : State) (c1 : Conf) (pc1 z : ℕ) → AreAt w.routine.code pc1 (cb pc1 k) → Enters w pc1 k (n + 1) a s c1 z → Runs w c1 (pc1 + length (cb pc1 k)) (n + 1) (1 + z) (Holds Uniform a y) (vb a s)) → Runs w c (pc + length (logic_code Uniform g (w.layout.spare Uniform Truth n) x y pc k n ca cb)) n q (Holds Uniform a (w.layout.spare Uniform Truth n)) (bind va (λ m s1. bind (value_unless_empty (gang_of w) (kept_by (needs g) a m) s1 vb) (λ z s2. Gives (settled g a m z) s2)))
+  pub logic_one : (g : Logic) (c : Conf) (pc k n q : ℕ) (a : Mask) (va : Val Payload) (vb : Mask → State → Val Payload) (x y : ℕ) (ca : List Instr) (cb : ℕ → ℕ → List Instr) → c.masks k ≡ a → k < n → any (gang_of w) a ≡ true → ((p : ℕ) → a p ≡ true → Allowed w p) → AreAt w.routine.code pc (logic_code Uniform g (w.layout.spare Uniform Truth n) x y pc k n ca cb) → Runs w c (pc + length ca) n (1 + (1 + q)) (Holds Uniform a x) va → ((s : State) (c1 : Conf) (pc1 z : ℕ) → AreAt w.routine.code pc1 (cb pc1 k) → Enters w pc1 k (n + 1) a s c1 z → Runs w c1 (pc1 + length (cb pc1 k)) (n + 1) (1 + z) (Holds Uniform a y) (vb a s)) → Runs w c (pc + length (logic_code Uniform g (w.layout.spare Uniform Truth n) x y pc k n ca cb)) n q (Holds Uniform a (w.layout.spare Uniform Truth n)) (bind va (λ m s1. bind (value_unless_empty (gang_of w) (kept_by (needs g) a m) s1 vb) (λ z s2. Gives (settled g a m z) s2)))
   logic_one g c pc k n q a va vb x y ca cb em lk some inside has ra rb =
       bind_runs w ready c p1 n 1 q (Holds Uniform a d) va _ _ n _
       (runs_on w ready c (pc + length ca) n 1 (1 + q) (Holds Uniform a x) va p1 n (Holds Uniform a d) ra
@@ -172,8 +172,8 @@ is_nobody n a inside e = fun_ext (λ p. at p (a p) refl)
     at p true h = let no : true ≡ false = sym h ∙ any_below n a e p (inside p h) in absurd (cc)
 
 -- lanes of a set that pass a test are in the set
-pub where_inside : (n : ℕ) (a : Mask) (f : ℕ → Bool) (v : Lanes) → ((p : ℕ) → a p ≡ true → p < n) → (p : ℕ) → where_true f (on a v) p ≡ true → p < n
-where_inside n a f v inside p h = inside p (at (a p) h)
+pub where_inside : (A : ℕ → Type 0) (a : Mask) (f : ℕ → Bool) (v : Lanes) → ((p : ℕ) → a p ≡ true → A p) → (p : ℕ) → where_true f (on a v) p ≡ true → A p
+where_inside A a f v inside p h = inside p (at (a p) h)
   where
     at : (b : Bool) → holds f (if b then Some (v p) else None) ≡ true → b ≡ true
     at true h = refl
@@ -238,7 +238,7 @@ module _ (w : Setting) (ready : IsSettled w) where
       (copy_line w.code w.routine c2 Varying d y n ∙ ap (λ b. Go (set_at Varying c2 d (Each (on b u)))) em)
 
   -- in each lane its own value decides
-  pub logic_each : (g : Logic) (c : Conf) (pc k n q : ℕ) (a : Mask) (va : Val Payload) (vb : Mask → State → Val Payload) (x y : ℕ) (ca : List Instr) (cb : ℕ → ℕ → List Instr) → c.masks k ≡ a → k < n → any (gang_of w) a ≡ true → ((p : ℕ) → a p ≡ true → p < gang_of w) → AreAt w.routine.code pc (logic_code Varying g (w.layout.spare Varying Truth n) x y pc k n ca cb) → Runs w c (pc + length ca) n (1 + (2 + (1 + q))) (Holds Varying a x) va → ((T : Mask) (s : State) (c1 : Conf) (pc1 z : ℕ) → AreAt w.routine.code pc1 (cb pc1 n) → Enters w pc1 n (n + 1) T s c1 z → Runs w c1 (pc1 + length (cb pc1 n)) (n + 1) (1 + z) (Holds Varying T y) (vb T s)) → Runs w c (pc + length (logic_code Varying g (w.layout.spare Varying Truth n) x y pc k n ca cb)) n q (Holds Varying a (w.layout.spare Varying Truth n)) (bind va (λ m s1. bind (value_unless_empty (gang_of w) (kept_by (needs g) a m) s1 vb) (λ z s2. Gives (settled g a m z) s2)))
+  pub logic_each : (g : Logic) (c : Conf) (pc k n q : ℕ) (a : Mask) (va : Val Payload) (vb : Mask → State → Val Payload) (x y : ℕ) (ca : List Instr) (cb : ℕ → ℕ → List Instr) → c.masks k ≡ a → k < n → any (gang_of w) a ≡ true → ((p : ℕ) → a p ≡ true → Allowed w p) → AreAt w.routine.code pc (logic_code Varying g (w.layout.spare Varying Truth n) x y pc k n ca cb) → Runs w c (pc + length ca) n (1 + (2 + (1 + q))) (Holds Varying a x) va → ((T : Mask) (s : State) (c1 : Conf) (pc1 z : ℕ) → AreAt w.routine.code pc1 (cb pc1 n) → Enters w pc1 n (n + 1) T s c1 z → Runs w c1 (pc1 + length (cb pc1 n)) (n + 1) (1 + z) (Holds Varying T y) (vb T s)) → Runs w c (pc + length (logic_code Varying g (w.layout.spare Varying Truth n) x y pc k n ca cb)) n q (Holds Varying a (w.layout.spare Varying Truth n)) (bind va (λ m s1. bind (value_unless_empty (gang_of w) (kept_by (needs g) a m) s1 vb) (λ z s2. Gives (settled g a m z) s2)))
   logic_each g c pc k n q a va vb x y ca cb em lk some inside has ra rb =
       bind_runs w ready c p1 n 1 q (Decided g n a) va _ _ n _
       (runs_on w ready c (pc + length ca + length mv) n 2 (1 + q) (Holds Varying a d) va p1 n (Decided g n a)
@@ -307,10 +307,10 @@ module _ (w : Setting) (ready : IsSettled w) where
           go true e =
               subst (λ u. Runs w c4 end n q1 (Holds Varying a d) (bind u (λ z s2. Gives (settled g a m z) s2))) (sym (unless_some (gang_of w) T s vb e))
               (bind_runs w ready c4 pcy (n + 1) 1 q1 (Holds Varying T y) (vb T s) (λ z s2. Gives (settled g a m z) s2) end n (Holds Varying a d)
-              (rb T s c4 (p1 + 1) q1 (are_front w.routine.code (p1 + 1) (cb (p1 + 1) n) last at1.1) (record { at = jump_at w ready c1 p1 jump.Off (mask_register n) to false ok.at (off_is true e); mask = ok.holds.1; some = e; inside = where_inside (gang_of w) a (needs g) v inside; stands = ok.stands; used = omega (arith, ok.bound); low = omega arith }))
+              (rb T s c4 (p1 + 1) q1 (are_front w.routine.code (p1 + 1) (cb (p1 + 1) n) last at1.1) (record { at = jump_at w ready c1 p1 jump.Off (mask_register n) to false ok.at (off_is true e); mask = ok.holds.1; some = e; inside = where_inside (Allowed w) a (needs g) v inside; stands = ok.stands; used = omega (arith, ok.bound); low = omega arith }))
               (λ z s2 ok2. ok_to w ready c4 (pcy + 1) end n q1 _ s2 ends (joined_ok g c4 pcy k n q1 a m z s2 v y (ok_down w ready c4 pcy n (n + 1) (1 + q1) _ s2 (omega arith) ok2) ok.holds.0 (ok2.spares.vectors_stay Truth n (omega arith)) (ok2.masks n (omega arith) ∙ ok.holds.1) (are_back w.routine.code (p1 + 1) (cb (p1 + 1) n) last at1.1).0)))
           go false e =
-              let off : T ≡ nobody = is_nobody (gang_of w) T (where_inside (gang_of w) a (needs g) v inside) e in
+              let off : T ≡ nobody = is_nobody (gang_of w) T (λ p h. (where_inside (Allowed w) a (needs g) v inside p h).0) e in
               let hz : spread T nothing ≡ on T v = subst (λ t. spread t nothing ≡ on t v) (sym off) refl in
               subst (λ u. Runs w c4 end n q1 (Holds Varying a d) (bind u (λ z s2. Gives (settled g a m z) s2))) (sym (unless_none (gang_of w) T s vb e))
               (record { conf = c4; steps = 0; comes = comes_none w c4; at = at_to w c4 to end (jump_at w ready c1 p1 jump.Off (mask_register n) to true ok.at (off_is false e)) (omega (arith, ends, length-append (cb (p1 + 1) n) last)); stands = ok.stands; spares = spares_all w n c4; masks = λ i h. refl; holds = settled_at g a m nothing v v ok.holds.0 hz ∙ ap (λ t. Each (layer (on t v) (on a v))) off; bound = omega (arith, ok.bound) })

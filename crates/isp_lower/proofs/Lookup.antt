@@ -7,11 +7,13 @@ use Rattle.std.specs.declared.cmp.Ordering.TheVariants.{Less, Equal, Greater}
 use Rattle.std.proofs.lemmas.List.{map-append, length-map, length-take-le}
 use Rattle.std.proofs.lemmas.Option.{slice_get-get_or}
 use Rattle.std.proofs.lemmas.Cmp.{tied_itself, nat_cmp_total}
+use Rattle.isp_base.specs.Ranks.{rank}
 use Rattle.isp_base.specs.declared.types.Elem.{Elem}
-use Rattle.isp_lower.specs.Lookup.{AreNamedFrom, IsNamedAt, Tells, name_of, row_of}
-use Rattle.isp_lower.specs.Rows.{Name, Variable, Result, Spare, Fresh, Row, name_number, number_in, elem_in, with_fresh}
+use Rattle.isp_base.proofs.RankLaws.{same_is}
+use Rattle.isp_lower.specs.Lookup.{AreNamedFrom, HasOwnType, IsNamedAt, Tells, name_of, own_type, row_of}
+use Rattle.isp_lower.specs.Rows.{Name, Variable, Result, Spare, Place, Fresh, Row, name_number, number_in, elem_in, with_fresh}
 use Rattle.isp_lower.specs.declared.registers.RegisterRow.{RegisterRow}
-use Rattle.isp_lower.proofs.Rows.{rows_stay}
+use Rattle.isp_lower.proofs.Rows.{few_ranks, rows_stay}
 
 some_same : {A : Type 0} {x y : A} → Some x ≡ Some y → x ≡ y
 some_same e = cc
@@ -173,22 +175,23 @@ number_below rows x t e = omega (arith, below (map row_of rows) x t e, length-ma
 
 -- ---- fresh registers
 
-named_more : (n : ℕ) (rows : List Row) (r : Row) → AreNamedFrom n rows → IsNamedAt (n + length rows) r.name → AreNamedFrom n (rows ++ r ∷ [])
-named_more n [] r h at = let e : n + 0 ≡ n = omega arith in (subst (λ m. IsNamedAt m r.name) e at, tt)
-named_more n (y ∷ ys) r h at =
+named_more : (n : ℕ) (rows : List Row) (r : Row) → AreNamedFrom n rows → IsNamedAt (n + length rows) r.name → HasOwnType r.name r.elem → AreNamedFrom n (rows ++ r ∷ [])
+named_more n [] r h at own = let e : n + 0 ≡ n = omega arith in (subst (λ m. IsNamedAt m r.name) e at, own, tt)
+named_more n (y ∷ ys) r h at own =
     let e : n + length (y ∷ ys) ≡ suc n + length ys = omega arith in
-    (h.0, named_more (suc n) ys r h.1 (subst (λ m. IsNamedAt m r.name) e at))
+    (h.0, h.1, named_more (suc n) ys r h.2 (subst (λ m. IsNamedAt m r.name) e at) own)
 
-pub pushed_named : (rows new : List RegisterRow) (r : RegisterRow) → new ≡ rows ++ r ∷ [] → AreNamedFrom 0 (map row_of rows) → IsNamedAt (length rows) (name_of r.name) → AreNamedFrom 0 (map row_of new)
-pushed_named rows new r e h at =
+pub pushed_named : (rows new : List RegisterRow) (r : RegisterRow) → new ≡ rows ++ r ∷ [] → AreNamedFrom 0 (map row_of rows) → IsNamedAt (length rows) (name_of r.name) → HasOwnType (name_of r.name) r.elem → AreNamedFrom 0 (map row_of new)
+pushed_named rows new r e h at own =
     let k : length rows ≡ 0 + length (map row_of rows) = omega (arith, length-map rows row_of) in
     subst (AreNamedFrom 0) (sym (ap (map row_of) e ∙ map-append row_of rows (r ∷ [])))
-    (named_more 0 (map row_of rows) (row_of r) h (subst (λ m. IsNamedAt m (name_of r.name)) k at))
+    (named_more 0 (map row_of rows) (row_of r) h (subst (λ m. IsNamedAt m (name_of r.name)) k at) own)
 
 other_name : (x : Name) (n m : ℕ) → IsNamedAt n x → n < m → name_number x ≢ name_number (Fresh m)
 other_name (Variable v) n m h lt = λ e. omega (arith, e)
 other_name Result n m h lt = λ e. omega (arith, e)
 other_name (Spare t j) n m h lt = λ e. omega (arith, e)
+other_name Place n m h lt = λ e. omega (arith, e)
 other_name (Fresh j) n m h lt = λ e. omega (arith, e, h, lt)
 
 fresh_last : (n m : ℕ) (rows : List Row) (t : Elem) → AreNamedFrom n rows → n + length rows ≡ m → number_in (rows ++ (record { name = Fresh m; elem = t }) ∷ []) (Fresh m) ≡ length rows
@@ -196,7 +199,7 @@ fresh_last n m [] t h e = ap (λ b. if b then 0 else 1 + name_number (Fresh m)) 
 fresh_last n m (y ∷ ys) t h e =
     let step : 1 + length ys ≡ length (y ∷ ys) = omega arith in
     ap (λ b. if b then 0 else 1 + number_in (ys ++ (record { name = Fresh m; elem = t }) ∷ []) (Fresh m)) (ne_eqb (name_number y.name) (name_number (Fresh m)) (other_name y.name n m h.0 (omega (arith, e))))
-    ∙ ap (λ z. 1 + z) (fresh_last (suc n) m ys t h.1 (omega (arith, e))) ∙ step
+    ∙ ap (λ z. 1 + z) (fresh_last (suc n) m ys t h.2 (omega (arith, e))) ∙ step
 
 -- one more row, of a fresh register
 module _ (rows new : List RegisterRow) (r : RegisterRow) (t : Elem) (all : new ≡ rows ++ r ∷ []) (is : row_of r ≡ record { name = Fresh (length rows); elem = t }) where
@@ -218,7 +221,7 @@ named_in n (y ∷ ys) zero r e h =
     subst (λ m. IsNamedAt m (name_of r.name)) k (subst (λ (z : RegisterRow). IsNamedAt n (name_of z.name)) (some_same e) h.0)
 named_in n (y ∷ ys) (suc at) r e h =
     let k : suc n + at ≡ n + suc at = omega arith in
-    subst (λ m. IsNamedAt m (name_of r.name)) k (named_in (suc n) ys at r e h.1)
+    subst (λ m. IsNamedAt m (name_of r.name)) k (named_in (suc n) ys at r e h.2)
 
 -- the next row of those that are added one by one
 pub named_next : (all rows : List RegisterRow) (at : ℕ) (d : RegisterRow) → all ≡ take at rows → at < length rows → AreNamedFrom 0 (map row_of rows) → IsNamedAt (length all) (name_of (get_or rows at d).name)
@@ -226,3 +229,55 @@ named_next all rows at d is lt h =
     let n : length all ≡ at = ap length is ∙ length-take-le at rows (omega (arith, lt)) in
     let k : 0 + at ≡ length all = omega (arith, n) in
     subst (λ m. IsNamedAt m (name_of (get_or rows at d).name)) k (named_in 0 rows at (get_or rows at d) (slice_get-get_or rows at d lt) h)
+
+-- ---- spare registers have the types that their names say
+
+own_name : (x y : Name) (t : Elem) → name_number x ≡ name_number y → HasOwnType x t → HasOwnType y t
+own_name x (Variable v) t e h = tt
+own_name x Result t e h = tt
+own_name x (Fresh j) t e h = tt
+own_name (Variable v) (Spare w j) t e h = absurd (omega (arith, e))
+own_name Result (Spare w j) t e h = absurd (omega (arith, e))
+own_name Place (Spare w j) t e h = absurd (omega (arith, e))
+own_name (Fresh i) (Spare w j) t e h = absurd (omega (arith, e))
+own_name (Spare u i) (Spare w j) t e h =
+    let a = few_ranks u in
+    let b = few_ranks w in
+    h ∙ same_is u w (eq-eqb (rank u) (rank w) (omega (arith, e, a, b)))
+own_name Place Place t e h = h
+own_name (Variable v) Place t e h = absurd (omega (arith, e))
+own_name Result Place t e h = absurd (omega (arith, e))
+own_name (Spare u i) Place t e h = absurd (omega (arith, e))
+own_name (Fresh i) Place t e h = absurd (omega (arith, e))
+
+pub own_in : (n : ℕ) (rows : List RegisterRow) (at : ℕ) (r : RegisterRow) → slice_get rows at ≡ Some r → AreNamedFrom n (map row_of rows) → HasOwnType (name_of r.name) r.elem
+own_in n [] at r e h = none_some (sym e)
+own_in n (y ∷ ys) zero r e h = subst (λ (z : RegisterRow). HasOwnType (name_of z.name) z.elem) (some_same e) h.1
+own_in n (y ∷ ys) (suc at) r e h = own_in (suc n) ys at r e h.2
+
+-- so it is where a row is found by the number of a name
+pub own_found : (rows : List RegisterRow) (at : ℕ) (r : RegisterRow) (x : Name) → slice_get rows at ≡ Some r → name_number (name_of r.name) ≡ name_number x → AreNamedFrom 0 (map row_of rows) → HasOwnType x r.elem
+own_found rows at r x e same h = own_name (name_of r.name) x r.elem same (own_in 0 rows at r e h)
+
+pub own_next : (rows : List RegisterRow) (at : ℕ) (d : RegisterRow) → at < length rows → AreNamedFrom 0 (map row_of rows) → HasOwnType (name_of (get_or rows at d).name) (get_or rows at d).elem
+own_next rows at d lt h = own_in 0 rows at (get_or rows at d) (slice_get-get_or rows at d lt) h
+
+-- a name without a row has that of the row that is added
+pub elem_added : (rows : List Row) (r : Row) → elem_in rows r.name ≡ None → elem_in (rows ++ r ∷ []) r.name ≡ Some r.elem
+elem_added [] r e = ap (λ b. if b then Some r.elem else None) (eq-eqb (name_number r.name) (name_number r.name) refl)
+elem_added (z ∷ rows) r e = go (name_number z.name == name_number r.name) (elem_added rows r) e
+  where
+    go : (b : Bool) → (elem_in rows r.name ≡ None → elem_in (rows ++ r ∷ []) r.name ≡ Some r.elem) → (if b then Some z.elem else elem_in rows r.name) ≡ None → (if b then Some z.elem else elem_in (rows ++ r ∷ []) r.name) ≡ Some r.elem
+    go true ih h = none_some h
+    go false ih h = ih h
+
+pub elem_pushed : (rows new : List RegisterRow) (r : RegisterRow) → new ≡ rows ++ r ∷ [] → elem_in (map row_of rows) (name_of r.name) ≡ None → elem_in (map row_of new) (name_of r.name) ≡ Some r.elem
+elem_pushed rows new r all e = ap (λ zs. elem_in zs (name_of r.name)) (ap (map row_of) all ∙ map-append row_of rows (r ∷ [])) ∙ elem_added (map row_of rows) (row_of r) e
+
+-- what is found of a name that says its type has that type
+pub own_is : (x : Name) (t u : Elem) → own_type x ≡ Some u → HasOwnType x t → t ≡ u
+own_is (Spare w j) t u e h = h ∙ some_same e
+own_is Place t u e h = h ∙ some_same e
+own_is (Variable v) t u e h = none_some (sym e)
+own_is Result t u e h = none_some (sym e)
+own_is (Fresh j) t u e h = none_some (sym e)

@@ -1,6 +1,6 @@
 -- The registers that the code of a tree names are there, by the laws of soundness.
 use Rattle.std.proofs.Common.{◌≡◌, ℕ, zero, suc, ◌+◌, ◌-◌, ◌<◌, List, [], ◌∷◌, length, map, Option, Some, None, Bool, true, false, refl, sym, ap, subst, ◌∙◌, arith}
-use Rattle.std.specs.Prelude.{nat_le, ◌&&◌, slice_get, is_some}
+use Rattle.std.specs.Prelude.{nat_le, ◌&&◌, slice_get}
 use Rattle.std.proofs.lemmas.Bool.{le-leb}
 use Rattle.std.proofs.lemmas.List.{length-map}
 use Rattle.std.proofs.lemmas.Option.{get_or_from_slice_get, same_Some, slice_get_within}
@@ -148,7 +148,7 @@ granted rates r code a has =
     (λ q x t f. register_there g rates rows (rows_made rows r.masks code) q x t f)
     (λ b f. (array_there rows r.masks code rates b f).0)
     (λ b f. array_there rows r.masks code rates b f)
-    (λ k f. f) (λ v f. ap is_some f) a has
+    (λ k f. f) (λ v f. f) a has
 
 -- ---- a listing with places enough, and a routine with the header of each function
 

@@ -11,7 +11,7 @@ use Rattle.isp_typed.specs.Typed.{TExpr, t_constant, t_program_index, t_place, t
 use Rattle.isp_typed.specs.declared.variable.Holds.{Holds}
 use Rattle.isp_typed.specs.declared.variable.Holds.TheVariants as holds
 use Rattle.isp_typed.specs.declared.variable.Variable.{Variable}
-use Rattle.isp_lower.specs.Asks.{Ask, Nothing, Both, Register, ArrayOf, LocalOf, MaskOf, Number, Loads, All, first_slot, second_slot, beyond, lift_asks, test_asks, sides_ask, read_asks, copy_asks, value_asks, work_asks, zero_asks, expr_asks, target_asks, base_asks, values_asks, call_asks, arguments_asks, argument_asks, change_asks, simple_asks, item_asks, is_run, run_asks}
+use Rattle.isp_lower.specs.Asks.{Ask, Nothing, Both, Register, ArrayOf, LocalOf, MaskOf, Number, Loads, All, first_slot, second_slot, beyond, lift_asks, test_asks, sides_ask, read_asks, copy_asks, value_asks, work_asks, zero_asks, expr_asks, target_asks, base_asks, values_asks, call_asks, arguments_asks, argument_asks, change_asks, simple_asks, item_asks, place_asks, run_asks, start_asks}
 use Rattle.isp_typed.specs.Library.{parts}
 use Rattle.isp_typed.specs.declared.library.Part.{Part}
 use Rattle.isp_lower.specs.Callees.{next_rate, later}
@@ -61,9 +61,30 @@ module _ (vars : List Variable) (answer : Option Ty) where
   work_own true r t i = tt
   work_own false r t i = tt
 
-  run_own : (z : Bool) (n : ℕ) → IsOwn vars answer (run_asks z n)
-  run_own true n = tt
-  run_own false n = tt
+  place_register_own : (r : Rate) → IsOwn vars answer (place_asks r)
+  place_register_own Uniform = tt
+  place_register_own Varying = tt
+
+  start_own : (i : TExpr) (n : ℕ) → IsOwn vars answer (start_asks i n)
+  start_own (t_constant v sp) n = tt
+  start_own (t_program_index sp) n = tt
+  start_own (t_place (t_variable v t sp)) n = place_register_own t.rate
+  start_own (t_place (t_element b i t sp)) n = tt
+  start_own (t_convert e x) n = tt
+  start_own (t_cast x t sp) n = tt
+  start_own (t_unary o x t sp) n = tt
+  start_own (t_binary o x y t sp) n = tt
+  start_own (t_compare c x y r sp) n = tt
+  start_own (t_logic g x y r sp) n = tt
+  start_own (t_choose c x y t sp) n = tt
+  start_own (t_call c t) n = tt
+  start_own (t_library f e xs t sp) n = tt
+  start_own (t_packed_store b x sp) n = tt
+  start_own (t_packed_load b v sp) n = tt
+
+  run_own : (r : Rate) (i : TExpr) (n : ℕ) → IsOwn vars answer (run_asks r i n)
+  run_own Uniform i n = start_own i n
+  run_own Varying i n = tt
 
   change_own : (t : Elem) (z : TPlace) (i : ℕ) → IsOwn vars answer (change_asks t z i)
   change_own t z i = (work_own (same_elem (place_type z).elem t) (place_type z).rate t i, read_own z i)
@@ -98,7 +119,7 @@ module _ (vars : List Variable) (answer : Option Ty) where
 
       place_own : (z : TPlace) (n : ℕ) → FinePlace fs vars z → IsOwn vars answer (target_asks z n)
       place_own (t_variable v t sp) n f = f
-      place_own (t_element b i t sp) n f = (f.0, (run_own (is_run b.ty.rate i) n, (lift_own t.rate (type_of i).rate I64 n, (tt, expr_own i n f.1))))
+      place_own (t_element b i t sp) n f = (f.0, (run_own b.ty.rate i n, (lift_own t.rate (type_of i).rate I64 n, (tt, expr_own i n f.1))))
 
       base_own : (b : TBase) (n : ℕ) → FineBase fs vars b → IsOwn vars answer (base_asks b n)
       base_own (t_whole b sp) n f = (f.0, tt)

@@ -29,7 +29,7 @@ use Rattle.isp_typed.specs.declared.variable.ArrayVariable.{ArrayVariable}
 use Rattle.isp_lower.specs.Code.{is_whole, packed_store, packed_load}
 use Rattle.isp_lower.specs.Layout.{register, mask_register, array_register}
 use Rattle.isp_lower.specs.Runs.{Comes}
-use Rattle.isp_lower.specs.Setting.{ArrayFits, ArrayFitsAt, Setting, IsSettled, gang_of, At, Stands, Spares, Holds}
+use Rattle.isp_lower.specs.Setting.{ArrayFits, ArrayFitsAt, Setting, IsSettled, gang_of, At, Stands, Spares, Holds, IsOther}
 use Rattle.isp_lower.proofs.Access.{as_whole, size_at}
 use Rattle.isp_lower.proofs.Base.{comes_on, fails_on, step_go, step_fail, moved_by, spares_on}
 use Rattle.isp_lower.proofs.Done.{variable_spares}
@@ -128,7 +128,7 @@ module _ (w : Setting) (ready : IsSettled w) where
       came_leaves w ready u c c2 (t + 1) pc pc' n q a (go m s) Uniform I32 (One count) (One count) (comes_on w c c1 c3 t 1 h (subst (λ z. Comes w c1 1 z) out (step_go w c1 pc i c3 ready at has is))) at2 to (st2 refl) ke2 ma2 le2 refl refl
   counted_leaves InSlot c c1 c2 t pc pc' n q a s i (Some p) sp count m go h at to has st ke is out at2 st2 ke2 ma2 le le2 =
       record { conf = c1; steps = t + 1; fails = fails_on w c c1 c1 t 1 (trap Index sp p) h (step_fail w c1 pc i (trap Index sp p) ready at has is); arrays_are = st.arrays_are; out_is = st.out_is; bound = le }
-  counted_leaves (InVariable v) c c1 c2 t pc pc' n q a s i (Some p) sp count m go h at to has st ke is out at2 st2 ke2 ma2 le le2 =
+  counted_leaves (InVariable v) c c1 c2 t pc pc' n q a s i (Some p) sp count m go h at to has st ke is out at2 st2 ke2 ma2 le le2 = λ other.
       record { conf = c1; steps = t + 1; fails = fails_on w c c1 c1 t 1 (trap Index sp p) h (step_fail w c1 pc i (trap Index sp p) ready at has is); arrays_are = st.arrays_are; out_is = st.out_is; bound = le }
 
   -- one array for the gang
@@ -163,11 +163,11 @@ module _ (w : Setting) (ready : IsSettled w) where
       let ex : on a (c1.vectors x) ≡ spread a m = ap (spread nobody) (sym hold) in
       let ea : c1.arrays N ≡ s.arrays (w.frame.named y.number) = ap c1.arrays en ∙ ap (λ g. g (w.frame.named y.number)) st.arrays_are in
       let ef : F ≡ scatter (gang_of w) (packed_places z a) (spread a m) (s.arrays (w.frame.named y.number)) = ap (λ v. scatter (gang_of w) (packed_places v a) (on a (c1.vectors x)) (c1.arrays N)) ez ∙ ap (λ v. scatter (gang_of w) (packed_places z a) v (c1.arrays N)) ex ∙ ap (scatter (gang_of w) (packed_places z a) (spread a m)) ea in
-      record { uniforms = st.uniforms; varying = st.varying; result = st.result; results = st.results; own_arrays = st.own_arrays; arrays_are = arrays_put w ready c1 s N (w.frame.named y.number) F _ st.arrays_are en ef; out_is = st.out_is })
+      record { uniforms = st.uniforms; varying = st.varying; result = st.result; results = st.results; own_arrays = st.own_arrays; arrays_are = arrays_put w ready c1 s N (w.frame.named y.number) F _ st.arrays_are en ef; out_is = st.out_is; run = st.run })
       (record { scalars_stay = ke.scalars_stay; vectors_stay = ke.vectors_stay }) ma le le
 
-  pub load_leaves : (u : Target) (y : ArrayVariable) (z : ℤ) (v : ℕ) (a : Mask) (s : State) (c c1 : Conf) (t pc pc' k j n q p : ℕ) (sp : Span) → ArrayFits w y → y.ty.rate ≡ Uniform → any (gang_of w) a ≡ true → Comes w c t c1 → At w c1 pc → pc + 1 ≡ pc' → slice_get w.routine.code pc ≡ Some (packed_load (target w.layout u Uniform I32 n) (w.layout.array y.number) j (w.layout.variable Varying v) k p) → slice_get w.code.places p ≡ Some sp → Stands w s c1 → Spares w n c c1 → ((r : ℕ) → r < n → c1.masks r ≡ c.masks r) → c1.masks k ≡ a → t + 1 + q ≤ 32 * s.work → IsFirst z (c1.scalars j) → Leaves w u (target w.layout u Uniform I32 n) c pc' n q Uniform a (bind (checked (lowest (gang_of w) (packed_outside (extent w.frame y) z a)) Index sp s (packed_held (w.frame.named y.number) z a s)) (λ m s3. Gives (One (rank a (gang_of w))) (written Varying v a m s3)))
-  load_leaves u y z v a s c c1 t pc pc' k j n q p sp fy er some h at to has place st ke ma em le first =
+  pub load_leaves : (u : Target) (y : ArrayVariable) (z : ℤ) (v : ℕ) (a : Mask) (s : State) (c c1 : Conf) (t pc pc' k j n q p : ℕ) (sp : Span) → IsOther w v → ArrayFits w y → y.ty.rate ≡ Uniform → any (gang_of w) a ≡ true → Comes w c t c1 → At w c1 pc → pc + 1 ≡ pc' → slice_get w.routine.code pc ≡ Some (packed_load (target w.layout u Uniform I32 n) (w.layout.array y.number) j (w.layout.variable Varying v) k p) → slice_get w.code.places p ≡ Some sp → Stands w s c1 → Spares w n c c1 → ((r : ℕ) → r < n → c1.masks r ≡ c.masks r) → c1.masks k ≡ a → t + 1 + q ≤ 32 * s.work → IsFirst z (c1.scalars j) → Leaves w u (target w.layout u Uniform I32 n) c pc' n q Uniform a (bind (checked (lowest (gang_of w) (packed_outside (extent w.frame y) z a)) Index sp s (packed_held (w.frame.named y.number) z a s)) (λ m s3. Gives (One (rank a (gang_of w))) (written Varying v a m s3)))
+  load_leaves u y z v a s c c1 t pc pc' k j n q p sp other fy er some h at to has place st ke ma em le first =
       let d = target w.layout u Uniform I32 n in
       let A = w.layout.array y.number in
       let V = w.layout.variable Varying v in
@@ -184,6 +184,6 @@ module _ (w : Setting) (ready : IsSettled w) where
       let ez : z1 ≡ z = first_same (gang_of w) (extent w.frame y) z (c1.scalars j) a fy.few first some none in
       let ea : c1.arrays (c1.home.named A) ≡ s.arrays (w.frame.named y.number) = ap c1.arrays en ∙ ap (λ g. g (w.frame.named y.number)) st.arrays_are in
       let ex : Each (on a (λ p. s.arrays (w.frame.named y.number) (unsigned_abs (packed_index z a p)))) ≡ Each x = sym (ap (λ g. Each (on a (λ p. c1.arrays (c1.home.named A) (unsigned_abs (packed_index g a p))))) ez ∙ ap (λ g. Each (on a (λ p. g (unsigned_abs (packed_index z a p))))) ea) in
-      let g = written_stands w ready Varying v c1 a m s (Each x) st ex in
-      record { uniforms = g.uniforms; varying = g.varying; result = g.result; results = g.results; own_arrays = g.own_arrays; arrays_are = g.arrays_are; out_is = g.out_is })
+      let g = written_stands w ready Varying v c1 a m s (Each x) st ex other in
+      record { uniforms = g.uniforms; varying = g.varying; result = g.result; results = g.results; own_arrays = g.own_arrays; arrays_are = g.arrays_are; out_is = g.out_is; run = g.run })
       (let k2 = spares_on w n c c1 (set_at Varying c1 V (Each x)) ke (variable_spares w ready Varying v n c1 (Each x)) in record { scalars_stay = k2.scalars_stay; vectors_stay = k2.vectors_stay }) ma le le

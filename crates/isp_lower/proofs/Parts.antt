@@ -13,12 +13,12 @@ use Rattle.isp_typed.specs.Fine.{heads, HoldsArray, params_of}
 use Rattle.isp_typed.specs.declared.variable.Holds.{Holds}
 use Rattle.isp_typed.specs.declared.variable.Holds.TheVariants as holds
 use Rattle.isp_typed.specs.declared.variable.Variable.{Variable as Declared}
-use Rattle.isp_lower.specs.Asks.{first_slot, second_slot, beyond, is_run}
+use Rattle.isp_lower.specs.Asks.{first_slot, second_slot, beyond, is_lane}
 use Rattle.isp_lower.specs.Callees.{next_rate, later}
 use Rattle.isp_lower.specs.Library.{library_rates}
 use Rattle.isp_lower.specs.Rated.{Reaches}
 use Rattle.isp_lower.specs.Rows.{Name, Variable, Spare}
-use Rattle.isp_lower.specs.Setting.{Setting}
+use Rattle.isp_lower.specs.Setting.{Setting, OtherAt}
 use Rattle.isp_lower.specs.Tables.{IsTyped, IsNamedIn, IsLoadedIn}
 use Rattle.isp_lower.proofs.LibraryTypes.{LibraryTyped}
 
@@ -65,10 +65,14 @@ module _ (w : Setting) where
   abbrev pub LiftFits : Rate → Rate → Elem → ℕ → Type 0
   LiftFits given r t n = LiftHas IsNamed given r t n
 
-  -- the number of a run's first element stands in slot n
-  abbrev pub RunParts : Bool → ℕ → Type 0
-  RunParts true n = SpareFits Uniform I64 n
-  RunParts false n = Unit {0}
+  -- the number of lane 0 stands in slot n, where it is that of a run's first element
+  abbrev pub LaneParts : Bool → ℕ → Type 0
+  LaneParts true n = SpareFits Uniform I64 n
+  LaneParts false n = Unit {0}
+
+  abbrev pub RunParts : Rate → TExpr → ℕ → Type 0
+  RunParts Uniform i n = LaneParts (is_lane i) n
+  RunParts Varying i n = Unit {0}
 
   -- an operand of a node that works at rate r in type t
   pub record OperandFits (r : Rate) (t : Elem) (x : TExpr) (n : ℕ) : Type 0 where
@@ -106,7 +110,7 @@ module _ (w : Setting) where
     pub PlaceParts : TPlace → ℕ → Type 0
     PlaceParts (t_variable v t sp) n = IsTyped w t.rate (w.layout.variable t.rate v) t.elem
     PlaceParts (t_element b i t sp) n =
-        HoldsArray w.function.variables b × Reaches b.ty.rate t.rate × Reaches (type_of i).rate t.rate × SpareFits (type_of i).rate I64 n × ExprParts i n × RunParts (is_run b.ty.rate i) n
+        HoldsArray w.function.variables b × Reaches b.ty.rate t.rate × Reaches (type_of i).rate t.rate × SpareFits (type_of i).rate I64 n × ExprParts i n × RunParts b.ty.rate i n
 
     -- the array of a packed call is one for the gang, its index uniform, and taken at slot n
     pub BaseParts : TBase → ℕ → Type 0
@@ -149,17 +153,23 @@ module _ (w : Setting) where
   abbrev pub ReadFits : TPlace → ℕ → Type 0
   ReadFits z i = ReadHas (IsNamed w) z i
 
+  -- a variable that is written counts no lanes
+  abbrev pub TargetOther : TPlace → Type 0
+  TargetOther (t_variable v t sp) = OtherAt w t.rate v
+  TargetOther (t_element b i t sp) = Unit {0}
+
   -- a place with its index at slot n, that an operator of type t reads and writes
   pub record ChangeFits (t : Elem) (z : TPlace) (n i : ℕ) : Type 0 where
     pub number : IsNumber t
     pub target : PlaceParts w z n
     pub working : WorkFits (same_elem (place_type z).elem t) (place_type z).rate t i
     pub back : ReadFits z i
+    pub other : TargetOther z
 
   abbrev pub SimpleParts : TSimple → ℕ → Type 0
   SimpleParts (t_value x) n = ExprParts w x n
   SimpleParts (t_run c) n = CallParts w c None n
-  SimpleParts (t_assign z x sp) n = PlaceParts w z n × OperandFits w (place_type z).rate (place_type z).elem x (beyond z n) × ExprParts w x (beyond z n)
+  SimpleParts (t_assign z x sp) n = PlaceParts w z n × OperandFits w (place_type z).rate (place_type z).elem x (beyond z n) × ExprParts w x (beyond z n) × TargetOther z
   SimpleParts (t_update o t z x sp) n =
       ChangeFits t z n (beyond z n + 1) × OperandFits w (place_type z).rate t x (beyond z n) × ExprParts w x (beyond z n)
   SimpleParts (t_step o t z sp) n =
@@ -170,8 +180,8 @@ module _ (w : Setting) where
   ZeroFits r t v n = ZeroHas (IsNamed w) r t v n
 
   abbrev pub ItemParts : ℕ → TItem → Type 0
-  ItemParts n (t_plain v t sp) = ZeroFits t.rate t.elem v n
-  ItemParts n (t_with_value v t x sp) = IsTyped w t.rate (w.layout.variable t.rate v) t.elem × OperandFits w t.rate t.elem x n × ExprParts w x n
+  ItemParts n (t_plain v t sp) = ZeroFits t.rate t.elem v n × OtherAt w t.rate v
+  ItemParts n (t_with_value v t x sp) = IsTyped w t.rate (w.layout.variable t.rate v) t.elem × OperandFits w t.rate t.elem x n × ExprParts w x n × OtherAt w t.rate v
   ItemParts n (t_with_size b sp) = HoldsArray w.function.variables b
 
   abbrev pub ItemsParts : ℕ → List TItem → Type 0

@@ -1,5 +1,5 @@
 -- A place: its index is taken, what it holds is read, and it is written.
-use Rattle.std.proofs.Common.{◌≡◌, ℕ, ◌+◌, ◌≤◌, length, Bool, true, false, refl, sym, ap, subst, ◌∙◌, arith}
+use Rattle.std.proofs.Common.{◌≡◌, ℕ, ◌+◌, ◌≤◌, length, Bool, true, false, refl, sym, ap, subst, ◌∙◌, arith, inl, inr}
 use Rattle.isp_base.specs.Maps.{on}
 use Rattle.isp_base.specs.Sets.{Mask}
 use Rattle.isp_base.specs.declared.types.Elem.TheVariants.{I64}
@@ -14,17 +14,17 @@ use Rattle.isp_meaning.specs.Places.{Place}
 use Rattle.isp_meaning.specs.Expressions.{place}
 use Rattle.isp_lower.specs.Setting.{Setting, IsSettled, gang_of, calls_of, AreAt}
 use Rattle.isp_lower.specs.Runs.{Enters, Runs}
-use Rattle.isp_lower.specs.Code.{index, index_by, expr_code, index_code, index_places}
+use Rattle.isp_lower.specs.Code.{index, index_by, expr_code, index_code, index_places, is_run, start_in}
 use Rattle.isp_lower.specs.Held.{held_at}
 use Rattle.isp_lower.specs.Rated.{Reaches}
 use Rattle.isp_lower.proofs.Base.{comes_none, at_to, spares_all}
 use Rattle.isp_lower.proofs.Found.{few, index_low}
 use Rattle.isp_lower.proofs.Nodes.{enters_part}
-use Rattle.isp_lower.proofs.Consecutive.{IndexHolds, InReach, lanes_by, run_lane}
+use Rattle.isp_lower.proofs.Consecutive.{IndexHolds, InReach, lanes_by, run_lane, Counting, counter_is, run_is}
 use Rattle.isp_lower.proofs.Exprs.{PlaceHolds, element_index_runs, expr_runs}
 use Rattle.isp_lower.proofs.Kept.{Keeps, held_kept, low_spare}
 use Rattle.isp_lower.proofs.Parts.{ExprParts, PlaceParts}
-use Rattle.isp_lower.specs.Asks.{beyond, is_run}
+use Rattle.isp_lower.specs.Asks.{beyond, is_lane}
 
 module _ (w : Setting) (ready : IsSettled w) where
   -- the index goes first
@@ -46,13 +46,21 @@ module _ (w : Setting) (ready : IsSettled w) where
       element_index_runs w ready y i t pc k n (32 + q) (d + q) a (tick s) c xi (omega arith) (enters_part w ready pc k n (32 + q) q a s c (omega arith) b) fit.4 fit.2 fit.3 fit.5 has
       (λ at. expr_runs w ready i pc p k n (32 + q) (1 + (1 + (d + q))) a (tick s) c fit.4 at places (omega arith) (enters_part w ready pc k n (32 + q) q a s c (omega arith) b))
 
-  pub index_kept : (z : Bool) (br r : Rate) (i : TExpr) (n : ℕ) (a : Mask) (m : Payload) (c c' : Conf) → Reaches (type_of i).rate r → ExprParts w i n → Keeps w (n + 1) c c' → IndexHolds z br r a (index_by w.layout z r i n) m c.scalars c.vectors → IndexHolds z br r a (index_by w.layout z r i n) m c'.scalars c'.vectors
-  index_kept false br r i n a m c c' re fit k h = record { holds = h.holds ∙ sym (held_kept w r (n + 1) c c' a (index w.layout r i n) k (index_low w ready r i n re fit)); fits = tt }
-  index_kept true br r i n a m c c' re fit k h =
-      let d = w.layout.spare Uniform I64 n in
-      let e : c.scalars d ≡ c'.scalars d = sym (k.scalars_stay d (low_spare w.layout Uniform I64 (n + 1) n (omega arith))) in
+  pub index_kept : (z : Bool) (br r : Rate) (i : TExpr) (n : ℕ) (a : Mask) (m : Payload) (c c' : Conf) → (z ≡ true → is_run w.layout br i ≡ true) → Reaches (type_of i).rate r → ExprParts w i n → Keeps w (n + 1) c c' → IndexHolds z br r a (index_by w.layout z r i n) m c.scalars c.vectors → IndexHolds z br r a (index_by w.layout z r i n) m c'.scalars c'.vectors
+  index_kept false br r i n a m c c' so re fit k h = record { holds = h.holds ∙ sym (held_kept w r (n + 1) c c' a (index w.layout r i n) k (index_low w ready r i n re fit)); fits = tt }
+  index_kept true br r i n a m c c' so re fit k h =
+      let d = start_in w.layout (is_lane i) n in
+      let e : c.scalars d ≡ c'.scalars d = start (run_is w.layout br i (so refl)).1 in
       record { holds = h.holds ∙ go r d e; fits = (h.fits.0, h.fits.1, subst (InReach a) e h.fits.2) }
     where
+      start : Counting w.layout i → c.scalars (start_in w.layout (is_lane i) n) ≡ c'.scalars (start_in w.layout (is_lane i) n)
+      start (inl h) =
+          subst (λ u. c.scalars (start_in w.layout (is_lane u) n) ≡ c'.scalars (start_in w.layout (is_lane u) n)) (sym h.1)
+          (sym (k.scalars_stay (w.layout.spare Uniform I64 n) (low_spare w.layout Uniform I64 (n + 1) n (omega arith))))
+      start (inr h) =
+          subst (λ u. c.scalars (start_in w.layout (is_lane u) n) ≡ c'.scalars (start_in w.layout (is_lane u) n)) (sym h.3)
+          (sym (k.place_stays h.0 (counter_is w.layout h.1.rate h.0 h.4).run))
+
       go : (u : Rate) (d : ℕ) → c.scalars d ≡ c'.scalars d → held_at u c.scalars (lanes_by true c.scalars c.vectors) a d ≡ held_at u c'.scalars (lanes_by true c'.scalars c'.vectors) a d
       go Uniform d e = ap One e
       go Varying d e = ap (λ v. Each (on a (run_lane v))) e
@@ -60,4 +68,4 @@ module _ (w : Setting) (ready : IsSettled w) where
   -- and stays known
   pub place_kept : (z : TPlace) (n : ℕ) (a : Mask) (at : Place) (c c' : Conf) → PlaceParts w z n → Keeps w (beyond z n) c c' → PlaceHolds w ready z n a at c → PlaceHolds w ready z n a at c'
   place_kept (t_variable v t sv) n a at c c' fit k h = h
-  place_kept (t_element y i t sv) n a at c c' fit k h = (h.0, h.1, index_kept (is_run y.ty.rate i) y.ty.rate t.rate i n a _ c c' fit.2 fit.4 k h.2)
+  place_kept (t_element y i t sv) n a at c c' fit k h = (h.0, h.1, index_kept (is_run w.layout y.ty.rate i) y.ty.rate t.rate i n a _ c c' (λ e. e) fit.2 fit.4 k h.2)

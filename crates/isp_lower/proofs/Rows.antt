@@ -10,7 +10,7 @@ use Rattle.isp_base.specs.declared.types.Rate.TheVariants.{Uniform, Varying}
 use Rattle.isp_code.specs.Listing.{Routine}
 use Rattle.isp_code.specs.Registers.{table_of, types_in, count_of}
 use Rattle.isp_lower.specs.Layout.{IsApart, class_at}
-use Rattle.isp_lower.specs.Rows.{Name, Variable, Result, Spare, Fresh, name_number, Row, number_in, elem_in, Rows, rows_at, layout_of, numbered, HasRow}
+use Rattle.isp_lower.specs.Rows.{Name, Variable, Result, Spare, Place, Fresh, name_number, Row, number_in, elem_in, Rows, rows_at, layout_of, numbered, HasRow}
 use Rattle.isp_lower.specs.Sound.{IsRegister, HasRegister}
 use Rattle.isp_lower.specs.Setting.{Setting}
 use Rattle.isp_lower.specs.Tables.{IsTyped}
@@ -26,7 +26,7 @@ one_number (z ∷ rows) x y e = go (name_number z.name == name_number x) (name_n
     go false true eb ed ih h = absurd (omega (arith, h))
     go false false eb ed ih h = ih (omega (arith, h))
 
-few_ranks : (t : Elem) → rank t < 9
+pub few_ranks : (t : Elem) → rank t < 9
 few_ranks Truth = omega arith
 few_ranks I8 = omega arith
 few_ranks U8 = omega arith
@@ -48,6 +48,9 @@ layout_apart rates rows = record {
   variable_fresh = λ r v j e. let h = one_number (rows_at rows r) (Variable v) (Fresh j) e in omega (arith, h);
   result_fresh = λ r j e. let h = one_number (rows_at rows r) Result (Fresh j) e in omega (arith, h);
   spare_fresh = λ r t i j e. let h = one_number (rows_at rows r) (Spare t i) (Fresh j) e in omega (arith, h);
+  place_variable = λ r v e. let h = one_number (rows_at rows r) Place (Variable v) e in omega (arith, h);
+  place_result = λ r e. let h = one_number (rows_at rows r) Place Result e in omega (arith, h);
+  place_spare = λ r t j e. let h = one_number (rows_at rows r) Place (Spare t j) e in omega (arith, h);
   arrays = λ v w ne e. let h = one_number rows.arrays (Variable v) (Variable w) e in ne (omega (arith, h));
 }
 
@@ -81,6 +84,7 @@ numbered_in : (rates : ℕ → List Rate) (rows : Rows) (r : Rate) (x : Name) �
 numbered_in rates rows r (Variable v) = refl
 numbered_in rates rows r Result = refl
 numbered_in rates rows r (Spare t j) = refl
+numbered_in rates rows r Place = refl
 numbered_in rates rows r (Fresh j) = refl
 
 count_at : (h : Routine) (r : Rate) → length (types_in (table_of h) (class_at r)) ≡ count_of h (class_at r)

@@ -17,7 +17,7 @@ use Rattle.isp_meaning.specs.Payloads.{Payload, One, Each, nothing, is_true, is_
 use Rattle.isp_meaning.specs.Outcomes.{Val, Gives, bind, value_unless_empty}
 use Rattle.isp_meaning.specs.Places.{variable}
 use Rattle.isp_meaning.specs.Expressions.{value}
-use Rattle.isp_lower.specs.Setting.{Setting, IsSettled, gang_of, calls_of, AreAt, Stands, at_rate, held_at, Holds}
+use Rattle.isp_lower.specs.Setting.{Setting, IsSettled, gang_of, calls_of, AreAt, Stands, at_rate, held_at, Holds, Allowed}
 use Rattle.isp_lower.specs.Runs.{Runs}
 use Rattle.isp_lower.specs.Code.{is_copied, variable_found, same_rate, stays, lifted, found, select}
 use Rattle.isp_lower.proofs.Base.{are_back}
@@ -86,7 +86,7 @@ module _ (w : Setting) where
   stays_in_place (t_packed_load d v sp) n e T s c st = absurd (cc)
 
   -- for the lanes of a set that may be empty
-  side : (T : Mask) (s : State) (c : Conf) (v : Mask → State → Val Payload) (f : ℕ) → ((p : ℕ) → T p ≡ true → p < gang_of w) → InPlace Varying f v → Stands w s c → (m : Payload) × (s' : State) × (value_unless_empty (gang_of w) T s v ≡ Gives m s') × Later s s' × (spread T m ≡ on T (c.vectors f))
+  side : (T : Mask) (s : State) (c : Conf) (v : Mask → State → Val Payload) (f : ℕ) → ((p : ℕ) → T p ≡ true → Allowed w p) → InPlace Varying f v → Stands w s c → (m : Payload) × (s' : State) × (value_unless_empty (gang_of w) T s v ≡ Gives m s') × Later s s' × (spread T m ≡ on T (c.vectors f))
   side T s c v f inside there st = go (any (gang_of w) T) refl
     where
       go : (d : Bool) → any (gang_of w) T ≡ d → (m : Payload) × (s' : State) × (value_unless_empty (gang_of w) T s v ≡ Gives m s') × Later s s' × (spread T m ≡ on T (c.vectors f))
@@ -94,7 +94,7 @@ module _ (w : Setting) where
           let h = there T s c st in
           (h.0, h.1, unless_some (gang_of w) T s v e ∙ h.2, h.3, ap (spread nobody) h.4)
       go false e =
-          let off : T ≡ nobody = is_nobody (gang_of w) T inside e in
+          let off : T ≡ nobody = is_nobody (gang_of w) T (λ p h. (inside p h).0) e in
           (nothing, s, unless_none (gang_of w) T s v e, record { stands = λ c st. st; work = omega arith }, ap (λ t. on t (c.vectors f)) (sym off))
 
   -- what the instruction gives
@@ -111,7 +111,7 @@ module _ (w : Setting) where
   Chosen r a b s c f x y va vb =
       (m : Payload) × (s' : State) × (chosen a b s va vb ≡ Gives m s') × Later s s' × (at_rate r a m ≡ picked r c a f x y)
 
-  chosen_is : (r : Rate) (a : Mask) (b : Payload) (s : State) (c : Conf) (f x y : ℕ) (va vb : Mask → State → Val Payload) → any (gang_of w) a ≡ true → ((p : ℕ) → a p ≡ true → p < gang_of w) → Stands w s c → InPlace r x va → InPlace r y vb → Holds r a f b c → Chosen r a b s c f x y va vb
+  chosen_is : (r : Rate) (a : Mask) (b : Payload) (s : State) (c : Conf) (f x y : ℕ) (va vb : Mask → State → Val Payload) → any (gang_of w) a ≡ true → ((p : ℕ) → a p ≡ true → Allowed w p) → Stands w s c → InPlace r x va → InPlace r y vb → Holds r a f b c → Chosen r a b s c f x y va vb
   chosen_is Uniform a b s c f x y va vb some inside st hx hy hold = subst (λ z. Chosen Uniform a z s c f x y va vb) (sym hold) (go (is_true (c.scalars f)))
     where
       pick : Bool → Val Payload
@@ -128,8 +128,8 @@ module _ (w : Setting) where
       let v = c.vectors f in
       let T = where_true is_true (on a v) in
       let F = where_true is_false (on a v) in
-      let h = side T s c va x (where_inside (gang_of w) a is_true v inside) hx st in
-      let g = side F h.1 c vb y (where_inside (gang_of w) a is_false v inside) hy (h.3.stands c st) in
+      let h = side T s c va x (where_inside (Allowed w) a is_true v inside) hx st in
+      let g = side F h.1 c vb y (where_inside (Allowed w) a is_false v inside) hy (h.3.stands c st) in
       let le1 = h.3.work in
       let le2 = g.3.work in (
         selected a b h.0 g.0,
@@ -151,7 +151,7 @@ module _ (w : Setting) where
   select_line Varying c d f x y k = refl
 
 module _ (w : Setting) (ready : IsSettled w) where
-  pub short_runs : (g : Target) (r : Rate) (t : Elem) (f x y : ℕ) (va vb : Mask → State → Val Payload) (c : Conf) (pc k n q : ℕ) (a : Mask) (vt : Val Payload) (ct : List Instr) → c.masks k ≡ a → k < n → any (gang_of w) a ≡ true → ((p : ℕ) → a p ≡ true → p < gang_of w) → InPlace w r x va → InPlace w r y vb → AreAt w.routine.code pc (ct ++ select r (target w.layout g r t n) f x y k ∷ []) → Runs w c (pc + length ct) n (1 + q) (Holds r a f) vt → Leaves w g (target w.layout g r t n) c (pc + length (ct ++ select r (target w.layout g r t n) f x y k ∷ [])) n q r a (bind vt (λ b s. chosen w a b s va vb))
+  pub short_runs : (g : Target) (r : Rate) (t : Elem) (f x y : ℕ) (va vb : Mask → State → Val Payload) (c : Conf) (pc k n q : ℕ) (a : Mask) (vt : Val Payload) (ct : List Instr) → c.masks k ≡ a → k < n → any (gang_of w) a ≡ true → ((p : ℕ) → a p ≡ true → Allowed w p) → InPlace w r x va → InPlace w r y vb → AreAt w.routine.code pc (ct ++ select r (target w.layout g r t n) f x y k ∷ []) → Runs w c (pc + length ct) n (1 + q) (Holds r a f) vt → Leaves w g (target w.layout g r t n) c (pc + length (ct ++ select r (target w.layout g r t n) f x y k ∷ [])) n q r a (bind vt (λ b s. chosen w a b s va vb))
   short_runs g r t f x y va vb c pc k n q a vt ct em lk some inside hx hy has run =
       let d = target w.layout g r t n in
       let i = select r d f x y k in

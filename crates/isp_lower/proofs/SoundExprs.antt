@@ -20,13 +20,13 @@ use Rattle.isp_typed.specs.declared.variable.Variable.{Variable}
 use Rattle.isp_lower.specs.Callees.{rate_held, rates_held, rates_of}
 use Rattle.isp_lower.specs.Header.{returns_of}
 use Rattle.isp_lower.specs.Layout.{Layout, register}
-use Rattle.isp_lower.specs.Code.{is_copied, variable_read, compare, unary, operate, operate_places, packed_store, packed_load, select, part_to, lift_to, found, operand, operand_of, index, choose_to, is_short, expr_places, index_places, read_places, expr_to, base_places, base_register, base_code, index_code, read_code, expr_code, values_code, values_places, value_registers, argument_places, arguments_places, call_places, argument_registers, argument_code, arguments_code, call_code, calling, index_by}
+use Rattle.isp_lower.specs.Code.{is_copied, variable_read, compare, unary, operate, operate_places, packed_store, packed_load, select, part_to, lift_to, found, operand, operand_of, index, choose_to, is_short, expr_places, index_places, read_places, expr_to, base_places, base_register, base_code, index_code, read_code, expr_code, values_code, values_places, value_registers, argument_places, arguments_places, call_places, argument_registers, argument_code, arguments_code, call_code, calling, index_by, is_run}
 use Rattle.isp_typed.specs.Fine.{rates_of as rate_of_all}
 use Rattle.isp_typed.specs.Library.{library_type, parts}
 use Rattle.isp_typed.specs.declared.library.Library.{Library}
 use Rattle.isp_lower.specs.Callees.{later, next_rate}
 use Rattle.isp_lower.specs.Library.{library_code, library_rates}
-use Rattle.isp_lower.specs.Asks.{argument_asks, arguments_asks, base_asks, call_asks, expr_asks, first_slot, operand_asks, second_slot, target_asks, values_asks, is_run}
+use Rattle.isp_lower.specs.Asks.{argument_asks, arguments_asks, base_asks, call_asks, expr_asks, first_slot, operand_asks, second_slot, target_asks, values_asks}
 use Rattle.isp_lower.specs.Sound.{AreSound, Links, PartSound, IsRegister, HasArray, Granted}
 use Rattle.isp_lower.proofs.SoundLines.{IsArray, array_is, copy_sound, packed_store_sound, packed_load_sound, unary_sound, compare_sound, operate_sound, read_sound, constant_sound, index_sound as lane_sound, read_by_sound}
 use Rattle.isp_lower.proofs.SoundFound.{part_there, found_there, operand_there, index_there, element_index_there}
@@ -60,7 +60,7 @@ module _ (fs : List TFunction) (code : Listing) (h : Routine) (l : Layout) (link
       go true = (copy_sound code h t.rate t.elem d (l.variable t.rate v) k hd f lk, tt)
       go false = tt
   read_there (t_element b i t sp) d pc p k n is f hd lk lp =
-      let z = is_run b.ty.rate i in
+      let z = is_run l b.ty.rate i in
       (read_by_sound code h z t.rate t.elem d (l.array b.number) (index_by l z t.rate i n) k p hd (array_there code h l b t.rate t.elem f.0 is.0 is.3) (element_index_there fs h l code b t.rate i n is.1 is.2 f.0 f.1) lk (omega (arith, lp)), tt)
 
   choose_there : (b : Bool) (d : ℕ) (c x y : TExpr) (t : Ty) (sp : Span) (pc k n : ℕ) (test : List Instr) (one other : ℕ → ℕ → ℕ → List Instr) → is_short l t.rate c x y ≡ b → ExprTree fs (t_choose c x y t sp) → Granted h l (expr_asks (t_choose c x y t sp) n) → IsRegister h t.rate d t.elem → k < h.masks → Here code h pc test → AnyMask code h (λ pc m. one pc m (first_slot (type_of c).rate n)) → AnyMask code h (λ pc m. other pc m (second_slot (type_of c).rate n)) → Here code h pc (choose_to l b d c x y t pc k n test one other)

@@ -1,5 +1,5 @@
 -- Values are found in registers that are there and of their types.
-use Rattle.std.proofs.Common.{◌≡◌, ℕ, List, Bool, true, false, refl, sym, ◌∙◌, subst}
+use Rattle.std.proofs.Common.{◌≡◌, ℕ, List, Bool, true, false, refl, sym, ◌∙◌, subst, inl, inr}
 use Rattle.std.specs.Prelude.{◌&&◌}
 use Rattle.isp_base.specs.declared.types.Elem.{Elem}
 use Rattle.isp_base.specs.declared.types.Elem.TheVariants.{I64}
@@ -8,15 +8,15 @@ use Rattle.isp_base.specs.declared.types.Rate.TheVariants.{Uniform, Varying}
 use Rattle.isp_code.specs.Listing.{Routine, Listing}
 use Rattle.isp_typed.specs.Typed.{TExpr, t_constant, t_program_index, t_place, t_convert, t_cast, t_unary, t_binary, t_compare, t_logic, t_choose, t_call, t_library, t_packed_store, t_packed_load, TPlace, t_variable, t_element, TFunction, place_type, type_of}
 use Rattle.isp_lower.specs.Layout.{Layout}
-use Rattle.isp_lower.specs.Code.{is_copied, variable_found, same_rate, is_whole, lifted, part_to, place_found, found, operand, whole, index, stays, stays_at, index_by}
-use Rattle.isp_lower.specs.Asks.{copy_asks, expr_asks, index_asks, lift_asks, operand_asks, whole_asks, element_asks, is_run, run_asks}
+use Rattle.isp_lower.specs.Code.{is_copied, variable_found, same_rate, is_whole, lifted, part_to, place_found, found, operand, whole, index, stays, stays_at, index_by, is_run, start_in}
+use Rattle.isp_lower.specs.Asks.{copy_asks, expr_asks, index_asks, lift_asks, operand_asks, whole_asks, element_asks, is_lane, place_asks, run_asks, start_asks}
 use Rattle.isp_lower.specs.Sound.{IsRegister, Granted, HasArray, IsShared}
 use Rattle.isp_lower.proofs.Found.{whole_is}
 use Rattle.isp_lower.proofs.Short.{same_rate-is}
 use Rattle.isp_lower.proofs.Stayed.{stays_same}
 use Rattle.isp_lower.proofs.Trees.{ExprTree, OperandTree}
 use Rattle.isp_lower.specs.Rated.{Reaches}
-use Rattle.isp_lower.proofs.Consecutive.{lane_reaches, run_is}
+use Rattle.isp_lower.proofs.Consecutive.{lane_reaches, run_is, Counting, counter_is}
 use Rattle.isp_lower.proofs.SoundLines.{IndexThere}
 use Rattle.isp_typed.specs.declared.variable.ArrayVariable.{ArrayVariable}
 
@@ -88,15 +88,26 @@ module _ (fs : List TFunction) (h : Routine) (l : Layout) where
   index_there r i n re is f =
       lift_there (type_of i).rate r I64 I64 (whole l (is_whole (type_of i).elem) i n) n re refl f.0 (whole_there (is_whole (type_of i).elem) i n refl is f.1)
 
+  -- the number of a run's first element
+  start_there : (i : TExpr) (n : ℕ) → Counting l i → Granted h l (start_asks i n) → IsRegister h Uniform (start_in l (is_lane i) n) I64
+  start_there i n (inl e) g = subst (λ u. Granted h l (start_asks u n) → IsRegister h Uniform (start_in l (is_lane u) n) I64) (sym e.1) (λ f. f) g
+  start_there i n (inr e) g =
+      subst (λ u. Granted h l (start_asks u n) → IsRegister h Uniform (start_in l (is_lane u) n) I64) (sym e.3)
+      (λ f. subst (λ r. Granted h l (place_asks r)) (counter_is l e.1.rate e.0 e.4).varying f) g
+
+  counting_reaches : (i : TExpr) (r : Rate) → Counting l i → Reaches (type_of i).rate r → r ≡ Varying
+  counting_reaches i r (inl e) re = lane_reaches r (subst (λ u. Reaches (type_of u).rate r) e.1 re)
+  counting_reaches i r (inr e) re = lane_reaches r (subst (λ g. Reaches g r) (counter_is l e.1.rate e.0 e.4).varying (subst (λ u. Reaches (type_of u).rate r) e.3 re))
+
   -- that of an element
-  pub element_index_there : (code : Listing) (b : ArrayVariable) (r : Rate) (i : TExpr) (n : ℕ) → Reaches (type_of i).rate r → ExprTree fs i → HasArray h l b → Granted h l (element_asks b.ty.rate r i n (expr_asks i n)) → IndexThere code h (is_run b.ty.rate i) r (l.array b.number) (index_by l (is_run b.ty.rate i) r i n)
-  element_index_there code b r i n re is there f = go (is_run b.ty.rate i) refl f.0
+  pub element_index_there : (code : Listing) (b : ArrayVariable) (r : Rate) (i : TExpr) (n : ℕ) → Reaches (type_of i).rate r → ExprTree fs i → HasArray h l b → Granted h l (element_asks b.ty.rate r i n (expr_asks i n)) → IndexThere code h (is_run l b.ty.rate i) r (l.array b.number) (index_by l (is_run l b.ty.rate i) r i n)
+  element_index_there code b r i n re is there f = go (is_run l b.ty.rate i) refl
     where
-      go : (z : Bool) → is_run b.ty.rate i ≡ z → Granted h l (run_asks z n) → IndexThere code h z r (l.array b.number) (index_by l z r i n)
-      go false e g = index_there r i n re is f.1
-      go true e g =
-          let run = run_is b.ty.rate i e in
-          (lane_reaches r (subst (λ u. Reaches (type_of u).rate r) run.2 re), subst (λ u. IsShared h u (l.array b.number)) run.0 there.2, g)
+      go : (z : Bool) → is_run l b.ty.rate i ≡ z → IndexThere code h z r (l.array b.number) (index_by l z r i n)
+      go false e = index_there r i n re is f.1
+      go true e =
+          let run = run_is l b.ty.rate i e in
+          (counting_reaches i r run.1 re, subst (λ u. IsShared h u (l.array b.number)) run.0 there.2, start_there i n run.1 (subst (λ u. Granted h l (run_asks u i n)) run.0 f.0))
 
   -- ---- a choice
 

@@ -1,5 +1,5 @@
 -- Values are found in registers that are there, and what lifts, converts and chooses them has its operands.
-use Rattle.std.proofs.Common.{◌≡◌, ℕ, ◌+◌, ◌<◌, ◌≤◌, List, [], ◌∷◌, ◌++◌, length, Option, Some, None, Bool, true, false, refl, sym, ◌∙◌, subst, arith, length-append}
+use Rattle.std.proofs.Common.{◌≡◌, ℕ, ◌+◌, ◌<◌, ◌≤◌, List, [], ◌∷◌, ◌++◌, length, Option, Some, None, Bool, true, false, refl, sym, ◌∙◌, subst, arith, length-append, inl, inr}
 use Rattle.std.specs.Prelude.{◌&&◌}
 use Rattle.isp_base.specs.declared.types.Elem.{Elem}
 use Rattle.isp_base.specs.declared.types.Elem.TheVariants.{Bool as Truth, I64}
@@ -14,8 +14,8 @@ use Rattle.isp_meaning.specs.Payloads.{converted}
 use Rattle.isp_typed.specs.Typed.{TExpr, TFunction, type_of}
 use Rattle.isp_typed.specs.declared.variable.Logic.{Logic}
 use Rattle.isp_lower.specs.Layout.{Layout}
-use Rattle.isp_lower.specs.Code.{convert, copy, select, jump_on, jump_off, decided, guard, choice, move_code, same_rate, is_whole, constant_of, needing, pair_code, logic_code, choose_rest, the_others, lift_code, lift_to, convert_to, found, operand, operand_of, whole, whole_of, index_of, choose_code, stays_at, is_short, index_by_of}
-use Rattle.isp_lower.specs.Asks.{expr_asks, first_slot, index_asks, lift_asks, operand_asks, second_slot, sides_ask, test_asks, whole_asks, element_asks, is_run, run_asks}
+use Rattle.isp_lower.specs.Code.{convert, copy, select, jump_on, jump_off, decided, guard, choice, move_code, same_rate, is_whole, constant_of, needing, pair_code, logic_code, choose_rest, the_others, lift_code, lift_to, convert_to, found, operand, operand_of, whole, whole_of, index_of, choose_code, stays_at, is_short, index_by_of, is_run, start_code}
+use Rattle.isp_lower.specs.Asks.{expr_asks, first_slot, index_asks, lift_asks, operand_asks, second_slot, sides_ask, test_asks, whole_asks, element_asks, is_lane, run_asks, start_asks}
 use Rattle.isp_lower.specs.Sound.{IsSound, AreSound, IsRegister, Granted}
 use Rattle.isp_lower.proofs.Found.{constant_is_one}
 use Rattle.isp_lower.proofs.Short.{same_rate-is}
@@ -24,6 +24,7 @@ use Rattle.isp_lower.proofs.SoundLines.{convert_sound, copy_sound, constant_soun
 use Rattle.isp_lower.proofs.Trees.{ExprTree, OperandTree}
 use Rattle.isp_lower.specs.Rated.{Reaches}
 use Rattle.isp_typed.specs.declared.variable.ArrayVariable.{ArrayVariable}
+use Rattle.isp_lower.proofs.Consecutive.{Counting, run_is}
 
 -- ---- lengths
 
@@ -137,12 +138,16 @@ module _ (code : Listing) (h : Routine) where
         here_both pc (whole_of l (is_whole (type_of i).elem) i k n a) (lift_code l r (type_of i).rate I64 x k n) (whole_sound (is_whole (type_of i).elem) i pc k n a is f.1 lk s) (λ lt. lift_sound (type_of i).rate r I64 I64 x k n re refl f.0 (whole_there fs h l (is_whole (type_of i).elem) i n refl is f.1) lk)
 
     -- that of an element
-    pub element_index_sound : (b : ArrayVariable) (r : Rate) (i : TExpr) (pc k n : ℕ) (a : List Instr) → Reaches (type_of i).rate r → ExprTree fs i → Granted h l (element_asks b.ty.rate r i n (expr_asks i n)) → k < h.masks → Here pc a → Here pc (index_by_of l (is_run b.ty.rate i) r i k n a)
-    element_index_sound b r i pc k n a re is f lk s = go (is_run b.ty.rate i) f.0
+    start_sound : (i : TExpr) (n : ℕ) → Counting l i → Granted h l (start_asks i n) → AreSound code h (start_code l (is_lane i) n)
+    start_sound i n (inl e) g = subst (λ u. Granted h l (start_asks u n) → AreSound code h (start_code l (is_lane u) n)) (sym e.1) (λ f. (constant_sound code h I64 (l.spare Uniform I64 n) 0 f, tt)) g
+    start_sound i n (inr e) g = subst (λ u. Granted h l (start_asks u n) → AreSound code h (start_code l (is_lane u) n)) (sym e.3) (λ f. tt) g
+
+    pub element_index_sound : (b : ArrayVariable) (r : Rate) (i : TExpr) (pc k n : ℕ) (a : List Instr) → Reaches (type_of i).rate r → ExprTree fs i → Granted h l (element_asks b.ty.rate r i n (expr_asks i n)) → k < h.masks → Here pc a → Here pc (index_by_of l (is_run l b.ty.rate i) r i k n a)
+    element_index_sound b r i pc k n a re is f lk s = go (is_run l b.ty.rate i) refl
       where
-        go : (z : Bool) → Granted h l (run_asks z n) → Here pc (index_by_of l z r i k n a)
-        go true g = λ lt. (constant_sound code h I64 (l.spare Uniform I64 n) 0 g, tt)
-        go false g = index_sound r i pc k n a re is f.1 lk s
+        go : (z : Bool) → is_run l b.ty.rate i ≡ z → Here pc (index_by_of l z r i k n a)
+        go true e = let run = run_is l b.ty.rate i e in λ lt. start_sound i n run.1 (subst (λ u. Granted h l (run_asks u i n)) run.0 f.0)
+        go false e = index_sound r i pc k n a re is f.1 lk s
 
     -- by a uniform test, or by a varying one; the value goes to slot n
     pub choose_sound : (g r : Rate) (t : Elem) (x y : TExpr) (c pc k n : ℕ) (test : List Instr) (a b : ℕ → ℕ → ℕ → List Instr) → Reaches g r → IsRegister h g c Truth → IsRegister h r (l.spare r t n) t → IsRegister h r (operand l r x (first_slot g n)) t → IsRegister h r (operand l r y (second_slot g n)) t → k < h.masks → Granted h l (sides_ask g n) → Here pc test → AnyMask (λ pc m. a pc m (first_slot g n)) → AnyMask (λ pc m. b pc m (second_slot g n)) → Here pc (choose_code l g r t x y c pc k n test a b)

@@ -9,9 +9,9 @@ use Rattle.isp_base.specs.declared.types.Span.{Span}
 use Rattle.isp_code.specs.Listing.{Listing, Routine}
 use Rattle.isp_typed.specs.Typed.{TExpr, TPlace, t_variable, t_element, TItem, t_plain, t_with_value, t_with_size, TFunction, TSimple, t_value, t_run, t_assign, t_update, t_step, place_type, type_of}
 use Rattle.isp_lower.specs.Layout.{Layout}
-use Rattle.isp_lower.specs.Code.{copy, operate_places, write, part_to, lift_to, found, operand, operand_of, index, writes_part, writes_last, expr_places, index_places, expr_to, expr_code, index_code, variable_from, variable_code, index_by, write_by}
+use Rattle.isp_lower.specs.Code.{copy, operate_places, write, part_to, lift_to, found, operand, operand_of, index, writes_part, writes_last, expr_places, index_places, expr_to, expr_code, index_code, variable_from, variable_code, index_by, write_by, is_run}
 use Rattle.isp_lower.specs.Items.{zero_code, item_code, item_places, items_code, items_places}
-use Rattle.isp_lower.specs.Asks.{beyond, change_asks, item_asks, items_asks, operand_asks, simple_asks, step_asks, target_asks, work_asks, zero_asks, is_run}
+use Rattle.isp_lower.specs.Asks.{beyond, change_asks, item_asks, items_asks, operand_asks, simple_asks, step_asks, target_asks, work_asks, zero_asks}
 use Rattle.isp_lower.specs.Simple.{update_to, change_code, change_places, one_in, one_code, assign_code, assign_places, change_by_code, step_code, simple_code, simple_places}
 use Rattle.isp_lower.specs.Sound.{AreSound, Links, PartSound, IsRegister, Granted}
 use Rattle.isp_lower.proofs.Splits.{same_elem-is}
@@ -49,7 +49,7 @@ module _ (fs : List TFunction) (code : Listing) (h : Routine) (l : Layout) (link
       let ci = index_code l (t_element b i t sp) pc p k n in
       let pc1 = pc + length ci in
       let cx = operand_of l t.rate x k (n + 1) (expr_code l x pc1 (p + length pi) k (n + 1)) in
-      let z = is_run b.ty.rate i in
+      let z = is_run l b.ty.rate i in
       let last = write_by z t.rate (l.array b.number) (index_by l z t.rate i n) (operand l t.rate x (n + 1)) k (p + length pi + length px) in
       let low = few_back (length code.places) (p + length pi) px (sp ∷ []) back in
       here_both code h pc ci (cx ++ last ∷ []) (place_sound fs code h l links (t_element b i t sp) pc p k n iz fz lk (few_front (length code.places) p pi (px ++ sp ∷ []) lp))
@@ -69,7 +69,7 @@ module _ (fs : List TFunction) (code : Listing) (h : Routine) (l : Layout) (link
       update_sound (same_elem u.elem t) o t u.elem u.rate (l.variable u.rate v) (l.variable u.rate v) y k i p sp refl is fz fz hy f.0 lk lp
   change_sound o t (t_element b j u s) y p k n i sp is iz fz f hy lk lp =
       let there = array_there code h l b u.rate u.elem fz.0 iz.0 iz.3 in
-      let z = is_run b.ty.rate j in
+      let z = is_run l b.ty.rate j in
       let at = element_index_there fs h l code b u.rate j n iz.1 iz.2 fz.0 fz.1 in
       let d = l.spare u.rate u.elem i in
       let middle = update_to l (same_elem u.elem t) o t u.rate d d y k i (p + 1) in

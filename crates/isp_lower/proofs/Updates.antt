@@ -32,7 +32,7 @@ use Rattle.isp_meaning.specs.Places.{Place, Element, variable, written, outside,
 use Rattle.isp_meaning.specs.Expressions.{place}
 use Rattle.isp_meaning.specs.Simple.{simple, update}
 use Rattle.isp_lower.specs.Runs.{Enters, DoneRuns}
-use Rattle.isp_lower.specs.Code.{constant, write, index, lift_code, operand, operand_of, index_code, index_places, expr_places, expr_code, index_by, write_by}
+use Rattle.isp_lower.specs.Code.{constant, write, index, lift_code, operand, operand_of, index_code, index_places, expr_places, expr_code, index_by, write_by, is_run}
 use Rattle.isp_lower.proofs.Splits.{same_elem-is}
 use Rattle.isp_lower.proofs.Found.{few, index_low, lifted_low, operand_low}
 use Rattle.isp_lower.proofs.Exprs.{means, PlaceHolds, variable_held, element_runs, expr_runs}
@@ -42,7 +42,7 @@ use Rattle.isp_lower.proofs.Assigns.{beyond_more, assign_runs, value_runs}
 use Rattle.isp_lower.proofs.Alone.{run_runs}
 use Rattle.isp_lower.proofs.Nodes.{enters_part, enters_later, operand_runs}
 use Rattle.isp_lower.specs.Layout.{register}
-use Rattle.isp_lower.specs.Setting.{Setting, IsSettled, gang_of, calls_of, AreAt, At, Stands, at_rate, held_at, Holds}
+use Rattle.isp_lower.specs.Setting.{Setting, IsSettled, gang_of, calls_of, AreAt, At, Stands, at_rate, held_at, Holds, Allowed}
 use Rattle.isp_lower.specs.Runs.{Runs, Ok}
 use Rattle.isp_lower.specs.Code.{convert, operate, operate_places}
 use Rattle.isp_lower.specs.Simple.{update_to, change_code, change_by_code, change_places, one_in, one_code, step_code, simple_code, simple_places}
@@ -56,7 +56,7 @@ use Rattle.isp_lower.proofs.Nodes.{one_runs}
 use Rattle.isp_lower.proofs.Values.{number_is, wrap_bits}
 use Rattle.isp_lower.proofs.Kept.{Low, low_spare, Keeps, runs_kept, kept_same, keeps_on, held_kept, checked_still, value_still}
 use Rattle.isp_lower.proofs.Parts.{ChangeFits, IsNumber, SimpleParts, SpareFits, WorkFits}
-use Rattle.isp_lower.specs.Asks.{beyond, is_run}
+use Rattle.isp_lower.specs.Asks.{beyond}
 use Rattle.isp_lower.specs.Tables.{IsTyped}
 
 plainly : (t : Elem) (z : ℤ) → IsNumber t → convert_bits t z ≡ wrap t z
@@ -172,7 +172,7 @@ module _ (w : Setting) (ready : IsSettled w) where
   done_less n m c pc q (Stops s) le r = r
 
   -- the place is read, the operator works, the place is written
-  pub change_runs : (o : BinOp) (t : Elem) (z : TPlace) (sp : Span) (at : Place) (v : Payload) (pc p k n i y q : ℕ) (a : Mask) (s : State) (c : Conf) → ChangeFits w t z n i → beyond z n ≤ i → n ≤ i → k < n → Low w.layout (place_type z).rate i y → At w c pc → c.masks k ≡ a → any (gang_of w) a ≡ true → ((r : ℕ) → a r ≡ true → r < gang_of w) → Stands w s c → 6 + q ≤ 32 * s.work → PlaceHolds w ready z n a at c → Holds (place_type z).rate a y v c → AreAt w.routine.code pc (change_code w.layout o t z y p k n i) → AreAt w.code.places p (change_places w.layout o z sp) → DoneRuns w c (pc + length (change_code w.layout o t z y p k n i)) n q (update (gang_of w) w.frame (calls_of w) o t z at v sp a s)
+  pub change_runs : (o : BinOp) (t : Elem) (z : TPlace) (sp : Span) (at : Place) (v : Payload) (pc p k n i y q : ℕ) (a : Mask) (s : State) (c : Conf) → ChangeFits w t z n i → beyond z n ≤ i → n ≤ i → k < n → Low w.layout (place_type z).rate i y → At w c pc → c.masks k ≡ a → any (gang_of w) a ≡ true → ((r : ℕ) → a r ≡ true → Allowed w r) → Stands w s c → 6 + q ≤ 32 * s.work → PlaceHolds w ready z n a at c → Holds (place_type z).rate a y v c → AreAt w.routine.code pc (change_code w.layout o t z y p k n i) → AreAt w.code.places p (change_places w.layout o z sp) → DoneRuns w c (pc + length (change_code w.layout o t z y p k n i)) n q (update (gang_of w) w.frame (calls_of w) o t z at v sp a s)
   change_runs o t (t_variable x u sv) sp at v pc p k n i y q a s c fit lz le lk low here em some inside st us h hy has places =
       let same = same_elem u.elem t in
       let r = u.rate in
@@ -183,13 +183,13 @@ module _ (w : Setting) (ready : IsSettled w) where
       subst (λ g. DoneRuns w c end n q (update (gang_of w) w.frame (calls_of w) o t (t_variable x u sv) g v sp a s)) (sym h)
       (subst (λ g. DoneRuns w c end n q g) (sym (twice who Divide sp s val (mapped (converted t u.elem)) (written r x a)))
       (done_less n i c end q _ le
-      (update_leaves (InVariable x) same o t u.elem r f y c pc k i q p a s (variable r x a s) v sp fit.number (same_elem-is u.elem t) fit.target fit.working fit.target low here em some (omega arith) st (omega (arith, us)) (variable_held w ready r x a s c st) hy has places)))
+      (update_leaves (InVariable x) same o t u.elem r f y c pc k i q p a s (variable r x a s) v sp fit.number (same_elem-is u.elem t) fit.target fit.working fit.target low here em some (omega arith) st (omega (arith, us)) (variable_held w ready r x a s c st) hy has places fit.other)))
   change_runs o t (t_element b j u sv) sp at v pc p k n i y q a s c fit lz le lk low here em some inside st us h hy has places =
       let same = same_elem u.elem t in
       let r = u.rate in
       let z = t_element b j u sv in
       let f = w.layout.spare r u.elem i in
-      let v1 = is_run b.ty.rate j in
+      let v1 = is_run w.layout b.ty.rate j in
       let at_j = index_by w.layout v1 r j n in
       let cu = update_to w.layout same o t r f f y k i (p + 1) in
       let last = write_by v1 r (w.layout.array b.number) at_j f k p ∷ [] in
@@ -215,7 +215,7 @@ module _ (w : Setting) (ready : IsSettled w) where
       (runs_kept w c1 pc2 i (1 + q1) (Holds r a f) (bind (checked who Divide sp s val) (λ m s3. Gives (mapped (converted t u.elem) m) s3)) s ok.stands (checked_still w who Divide sp s val (mapped (converted t u.elem)))
       (update_leaves InSlot same o t u.elem r f y c1 (pc + 1) k i (1 + q1) (p + 1) a s x v sp fit.number (same_elem-is u.elem t) fit.back fit.working fit.back low ok.at e1 some (omega arith) ok.stands (omega (arith, ok.bound)) ok.holds (hy ∙ sym (held_kept w r i c c1 a y here_kept low)) (are_front w.routine.code (pc + 1) cu last has.1) places.1))
       (λ m s3 ok2.
-      let h2 = index_kept w ready v1 b.ty.rate r j n a _ c ok2.conf fit.target.2 fit.target.4 (keeps_on w (n + 1) i c c1 ok2.conf lz (kept_same w (n + 1) c c1 s st ok.stands (spares_less w (n + 1) i c c1 lz ok.spares)) ok2.holds.1) h.2 in
+      let h2 = index_kept w ready v1 b.ty.rate r j n a _ c ok2.conf (λ e. e) fit.target.2 fit.target.4 (keeps_on w (n + 1) i c c1 ok2.conf lz (kept_same w (n + 1) c c1 s st ok.stands (spares_less w (n + 1) i c c1 lz ok.spares)) ok2.holds.1) h.2 in
       subst (λ g. DoneRuns w c1 end n q1 (bind (checked g Index sv s3 m) (done put_there))) none
       (element_done w ready v1 r b.ty.rate b (type_of j).elem m0 m a s3 c1 ok2.conf ok2.steps pc2 end k at_j f n q1 p sv (ready.arrays b fit.target.0).is fit.target.1 (ready.arrays b fit.target.0).few some inside ok2.comes ok2.at to (are_back w.routine.code (pc + 1) cu last has.1).0 places.0 ok2.stands (spares_less w n i c1 ok2.conf le ok2.spares) (λ g l. ok2.masks g (omega arith)) (ok2.masks k (omega arith) ∙ e1) (omega (arith, ok2.bound)) h2 ok2.holds.0))))))
 

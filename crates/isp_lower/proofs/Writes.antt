@@ -25,7 +25,7 @@ use Rattle.isp_meaning.specs.Payloads.{Payload, One, Each, sole, spread, mapped,
 use Rattle.isp_meaning.specs.Places as meant
 use Rattle.isp_meaning.specs.Places.{written, own_stored, with_elements}
 use Rattle.isp_lower.specs.Layout.{register, mask_register, array_register}
-use Rattle.isp_lower.specs.Setting.{ArrayFitsAt, Setting, IsSettled, gang_of, At, Stands, Spares, at_rate, held_at, Holds}
+use Rattle.isp_lower.specs.Setting.{ArrayFitsAt, Setting, IsSettled, gang_of, At, Stands, Spares, at_rate, held_at, Holds, Allowed, OtherAt}
 use Rattle.isp_lower.specs.Code.{write, write_by}
 use Rattle.isp_lower.proofs.Base.{put_same, put_other, moved_by, comes_on, fails_on, step_go, step_fail, next_at, at_to}
 use Rattle.isp_lower.proofs.Rates.{at_mapped}
@@ -39,7 +39,7 @@ use Rattle.isp_lower.proofs.Access.{as_whole, size_at, outside_is, index_element
 use Rattle.isp_lower.proofs.Rates.{at_offender}
 use Rattle.isp_lower.proofs.Lines.{set_at, value_at, unless_is, failing_is, place_named}
 use Rattle.isp_lower.specs.Rated.{Reaches}
-use Rattle.isp_lower.proofs.Consecutive.{IndexHolds, RunFits, lanes_by, run_lane, run_outside_is, run_places_are}
+use Rattle.isp_lower.proofs.Consecutive.{IndexHolds, RunFits, lanes_by, run_lane, run_outside_is, run_places_are, run_place, run_each}
 use Rattle.isp_base.specs.Cross.{run_outside, run_places}
 use Rattle.isp_base.specs.Values.{number}
 
@@ -122,8 +122,8 @@ write_by_line true br code h c Varying b i x k q some f =
 -- ---- a variable is written
 
 module _ (w : Setting) (ready : IsSettled w) where
-  pub written_stands : (r : Rate) (v : ℕ) (c : Conf) (a : Mask) (m : Payload) (s : State) (y : Payload) → Stands w s c → at_rate r a m ≡ y → Stands w (written r v a m s) (set_at r c (w.layout.variable r v) y)
-  written_stands Uniform v c a m s y st e = record {
+  pub written_stands : (r : Rate) (v : ℕ) (c : Conf) (a : Mask) (m : Payload) (s : State) (y : Payload) → Stands w s c → at_rate r a m ≡ y → OtherAt w r v → Stands w (written r v a m s) (set_at r c (w.layout.variable r v) y)
+  written_stands Uniform v c a m s y st e other = record {
     uniforms = put_through c.scalars s.uniforms (w.layout.variable Uniform) v (sole y) (sole m) (ready.apart.variables Uniform) st.uniforms (ap sole (sym e));
     varying = st.varying;
     result = put_other c.scalars (w.layout.variable Uniform v) (sole y) (w.layout.result Uniform) (ready.apart.result_variable Uniform v) ∙ st.result;
@@ -131,8 +131,9 @@ module _ (w : Setting) (ready : IsSettled w) where
     own_arrays = st.own_arrays;
     arrays_are = st.arrays_are;
     out_is = st.out_is;
+    run = run_place w.layout.run w.start w.members (c.scalars (w.layout.place Uniform)) (put c.scalars (w.layout.variable Uniform v) (sole y) (w.layout.place Uniform)) s.varying (sym (put_other c.scalars (w.layout.variable Uniform v) (sole y) (w.layout.place Uniform) (ready.apart.place_variable Uniform v))) st.run;
   }
-  written_stands Varying v c a m s y st e =
+  written_stands Varying v c a m s y st e other =
       let x = over (spread nobody y) (c.vectors (w.layout.variable Varying v)) in
       record {
         uniforms = st.uniforms;
@@ -142,6 +143,7 @@ module _ (w : Setting) (ready : IsSettled w) where
         own_arrays = st.own_arrays;
         arrays_are = st.arrays_are;
         out_is = st.out_is;
+        run = run_each w.layout.run w.start w.members (c.scalars (w.layout.place Uniform)) s.varying (put s.varying v (over (spread a m) (s.varying v))) (λ i ei. sym (put_other s.varying v (over (spread a m) (s.varying v)) i (other i ei))) st.run;
       }
 
   -- one instruction that changes the state, or traps
@@ -162,9 +164,9 @@ module _ (w : Setting) (ready : IsSettled w) where
   -- ---- an element is written
 
   -- indices of a set, as elements
-  places_are : (t : Elem) (z : Bool) (i : Payload) (a : Mask) (v : Lanes) (g : ℕ) → is_whole t ≡ z → g ≤ 2 ^ 63 → ((p : ℕ) → a p ≡ true → p < gang_of w) → at_rate Varying a (mapped (as_whole z t) i) ≡ Each (on a v) → offender (gang_of w) (is_outside t g) a i ≡ None → map1 (element I64) (on a v) ≡ spread a (mapped (element t) i)
+  places_are : (t : Elem) (z : Bool) (i : Payload) (a : Mask) (v : Lanes) (g : ℕ) → is_whole t ≡ z → g ≤ 2 ^ 63 → ((p : ℕ) → a p ≡ true → Allowed w p) → at_rate Varying a (mapped (as_whole z t) i) ≡ Each (on a v) → offender (gang_of w) (is_outside t g) a i ≡ None → map1 (element I64) (on a v) ≡ spread a (mapped (element t) i)
   places_are t z i a v g ez few inside hold none =
-      sym (ap map_of (at_mapped Varying a (element t) i) ∙ same_elements (gang_of w) g z t a (spread a i) v (λ e p. e) ez few inside (sym (at_offender Varying (gang_of w) a (is_outside t g) i) ∙ none) (ap map_of (sym (at_mapped Varying a (as_whole z t) i) ∙ hold)))
+      sym (ap map_of (at_mapped Varying a (element t) i) ∙ same_elements (gang_of w) g z t a (spread a i) v (λ e p. e) ez few (λ p h. (inside p h).0) (sym (at_offender Varying (gang_of w) a (is_outside t g) i) ∙ none) (ap map_of (sym (at_mapped Varying a (as_whole z t) i) ∙ hold)))
 
   pub arrays_put : (c : Conf) (s : State) (n n' : ℕ) (x y : Lanes) → c.arrays ≡ s.arrays → n ≡ n' → x ≡ y → put c.arrays n x ≡ put s.arrays n' y
   arrays_put c s n n' x y ea en ex = ap (λ z. put z n x) ea ∙ ap (λ z. put s.arrays z x) en ∙ ap (put s.arrays n') ex
@@ -194,7 +196,7 @@ module _ (w : Setting) (ready : IsSettled w) where
       store_line false Varying Uniform y t i a c2 pc k j x p sp fy few some at place em hold
       ∙ ap (λ u. moved_by o Index sp (scattered w.code w.routine c2 u (array_register (w.layout.array y.number)) (register Varying j) (register Varying x) (mask_register k))) fy.0
 
-  pub element_done : (z : Bool) (r br : Rate) (y : ArrayVariable) (t : Elem) (i m : Payload) (a : Mask) (s : State) (c c2 : Conf) (st pc pc' k j x n q p : ℕ) (sp : Span) → ArrayFitsAt w br y → Reaches br r → extent_at br w.frame y.number ≤ 2 ^ 63 → any (gang_of w) a ≡ true → ((p : ℕ) → a p ≡ true → p < gang_of w) → Comes w c st c2 → At w c2 pc → pc + 1 ≡ pc' → slice_get w.routine.code pc ≡ Some (write_by z r (w.layout.array y.number) j x k p) → slice_get w.code.places p ≡ Some sp → Stands w s c2 → Spares w n c c2 → ((r : ℕ) → r < n → c2.masks r ≡ c.masks r) → c2.masks k ≡ a → st + 1 + q ≤ 32 * s.work → IndexHolds z br r a j (mapped (as_whole (is_whole t) t) i) c2.scalars c2.vectors → Holds r a x m c2 → DoneRuns w c pc' n q (bind (checked (offender (gang_of w) (is_outside t (extent_at br w.frame y.number)) a i) Index sp s m) (λ b s3. Gives tt (with_elements w.frame y t i a (gang_of w) br b s3)))
+  pub element_done : (z : Bool) (r br : Rate) (y : ArrayVariable) (t : Elem) (i m : Payload) (a : Mask) (s : State) (c c2 : Conf) (st pc pc' k j x n q p : ℕ) (sp : Span) → ArrayFitsAt w br y → Reaches br r → extent_at br w.frame y.number ≤ 2 ^ 63 → any (gang_of w) a ≡ true → ((p : ℕ) → a p ≡ true → Allowed w p) → Comes w c st c2 → At w c2 pc → pc + 1 ≡ pc' → slice_get w.routine.code pc ≡ Some (write_by z r (w.layout.array y.number) j x k p) → slice_get w.code.places p ≡ Some sp → Stands w s c2 → Spares w n c c2 → ((r : ℕ) → r < n → c2.masks r ≡ c.masks r) → c2.masks k ≡ a → st + 1 + q ≤ 32 * s.work → IndexHolds z br r a j (mapped (as_whole (is_whole t) t) i) c2.scalars c2.vectors → Holds r a x m c2 → DoneRuns w c pc' n q (bind (checked (offender (gang_of w) (is_outside t (extent_at br w.frame y.number)) a i) Index sp s m) (λ b s3. Gives tt (with_elements w.frame y t i a (gang_of w) br b s3)))
   element_done true Uniform br y t i m a s c c2 st pc pc' k j x n q p sp fy re few some inside h at to has place stands spares masks em le hold hx = let no = hold.fits.1 in absurd (cc)
   element_done true Varying Varying y t i m a s c c2 st pc pc' k j x n q p sp fy re few some inside h at to has place stands spares masks em le hold hx = let no = hold.fits.0 in absurd (cc)
   element_done false Uniform Varying y t i m a s c c2 st pc pc' k j x n q p sp fy re few some inside h at to has place stands spares masks em le hold hx = absurd re
@@ -210,7 +212,7 @@ module _ (w : Setting) (ready : IsSettled w) where
       let ei : element I64 (c2.scalars j) ≡ element t i = ap (element I64) (sym (ap sole hold.holds)) ∙ index_element (is_whole t) t (extent_at Uniform w.frame y.number) i refl few fine in
       let en : N ≡ w.frame.named y.number = named_is y c2 pc at fy.1 in
       let ef : F ≡ meant.stored (gang_of w) a (One (element t i)) m (s.arrays (w.frame.named y.number)) = ap (λ u. put (c2.arrays N) u (c2.scalars x)) ei ∙ ap (λ g. put (g N) (element t i) (c2.scalars x)) stands.arrays_are ∙ ap (λ u. put (s.arrays u) (element t i) (c2.scalars x)) en ∙ ap (λ u. meant.stored (gang_of w) a (One (element t i)) u (s.arrays (w.frame.named y.number))) (sym hx) in
-      record { uniforms = stands.uniforms; varying = stands.varying; result = stands.result; results = stands.results; own_arrays = stands.own_arrays; arrays_are = arrays_put c2 s N (w.frame.named y.number) F _ stands.arrays_are en ef; out_is = stands.out_is })
+      record { uniforms = stands.uniforms; varying = stands.varying; result = stands.result; results = stands.results; own_arrays = stands.own_arrays; arrays_are = arrays_put c2 s N (w.frame.named y.number) F _ stands.arrays_are en ef; out_is = stands.out_is; run = stands.run })
       spares masks le le
   element_done z Varying Uniform y t i m a s c c2 st pc pc' k j x n q p sp fy re few some inside h at to has place stands spares masks em le hold hx =
       let A = w.layout.array y.number in
@@ -230,7 +232,7 @@ module _ (w : Setting) (ready : IsSettled w) where
       ∙ ap (λ g. scatter (gang_of w) (spread a (mapped (element t) i)) (spread a m) (g N)) stands.arrays_are
       ∙ ap (λ u. scatter (gang_of w) (spread a (mapped (element t) i)) (spread a m) (s.arrays u)) en
       ∙ sym (stored_is (gang_of w) a (mapped (element t) i) m (s.arrays (w.frame.named y.number)) some) in
-      record { uniforms = stands.uniforms; varying = stands.varying; result = stands.result; results = stands.results; own_arrays = stands.own_arrays; arrays_are = arrays_put c2 s N (w.frame.named y.number) F _ stands.arrays_are en ef; out_is = stands.out_is })
+      record { uniforms = stands.uniforms; varying = stands.varying; result = stands.result; results = stands.results; own_arrays = stands.own_arrays; arrays_are = arrays_put c2 s N (w.frame.named y.number) F _ stands.arrays_are en ef; out_is = stands.out_is; run = stands.run })
       spares masks le le
   element_done false Varying Varying y t i m a s c c2 st pc pc' k j x n q p sp fy re few some inside h at to has place stands spares masks em le hold hx =
       let A = w.layout.array y.number in
@@ -246,5 +248,5 @@ module _ (w : Setting) (ready : IsSettled w) where
       ∙ ap (λ g. own_stored g (on a (c2.vectors x)) (c2.own A)) (places_are t (is_whole t) i a (c2.vectors j) (extent_at Varying w.frame y.number) refl few inside hold.holds none)
       ∙ ap (λ g. own_stored (spread a (mapped (element t) i)) g (c2.own A)) ex
       ∙ ap (own_stored (spread a (mapped (element t) i)) (spread a m)) (stands.own_arrays y.number) in
-      record { uniforms = stands.uniforms; varying = stands.varying; result = stands.result; results = stands.results; own_arrays = put_through c2.own s.own w.layout.array y.number F _ ready.apart.arrays stands.own_arrays ef; arrays_are = stands.arrays_are; out_is = stands.out_is })
+      record { uniforms = stands.uniforms; varying = stands.varying; result = stands.result; results = stands.results; own_arrays = put_through c2.own s.own w.layout.array y.number F _ ready.apart.arrays stands.own_arrays ef; arrays_are = stands.arrays_are; out_is = stands.out_is; run = stands.run })
       spares masks le le

@@ -11,7 +11,7 @@ use Rattle.isp_typed.specs.Typed.{TExpr, t_constant, t_program_index, t_place, t
 use Rattle.isp_typed.specs.declared.variable.ArrayVariable.{ArrayVariable}
 use Rattle.isp_lower.specs.Callees.{next_rate, later}
 use Rattle.isp_lower.specs.Library.{library_rates}
-use Rattle.isp_lower.specs.Rows.{Name, Variable, Spare}
+use Rattle.isp_lower.specs.Rows.{Name, Variable, Spare, Place}
 
 pub data Ask : Type 0 where
   Nothing : Ask
@@ -95,17 +95,38 @@ is_lane (t_library f e xs t sp) = false
 is_lane (t_packed_store b x sp) = false
 is_lane (t_packed_load b v sp) = false
 
-abbrev pub is_run : Rate → TExpr → Bool
-is_run Uniform i = is_lane i
-is_run Varying i = false
+-- or where it is a variable that counts the lanes of a run, whose place has a register; whether it does is not asked here
+abbrev pub place_asks : Rate → Ask
+place_asks Uniform = Nothing
+place_asks Varying = Register Uniform Place I64
 
-abbrev pub run_asks : Bool → ℕ → Ask
-run_asks true n = spare_ask Uniform I64 n
-run_asks false n = Nothing
+abbrev pub counter_asks : TPlace → Ask
+counter_asks (t_variable v t sp) = place_asks t.rate
+counter_asks (t_element b i t sp) = Nothing
+
+abbrev pub start_asks : TExpr → ℕ → Ask
+start_asks (t_constant v sp) n = Nothing
+start_asks (t_program_index sp) n = spare_ask Uniform I64 n
+start_asks (t_place q) n = counter_asks q
+start_asks (t_convert e x) n = Nothing
+start_asks (t_cast x t sp) n = Nothing
+start_asks (t_unary o x t sp) n = Nothing
+start_asks (t_binary o x y t sp) n = Nothing
+start_asks (t_compare c x y r sp) n = Nothing
+start_asks (t_logic l x y r sp) n = Nothing
+start_asks (t_choose c x y t sp) n = Nothing
+start_asks (t_call c t) n = Nothing
+start_asks (t_library f e xs t sp) n = Nothing
+start_asks (t_packed_store b x sp) n = Nothing
+start_asks (t_packed_load b v sp) n = Nothing
+
+abbrev pub run_asks : Rate → TExpr → ℕ → Ask
+run_asks Uniform i n = start_asks i n
+run_asks Varying i n = Nothing
 
 -- the index of an element of an array of the first rate, that asks for a, at the second
 abbrev pub element_asks : Rate → Rate → TExpr → ℕ → Ask → Ask
-element_asks g r i n a = Both (run_asks (is_run g i) n) (index_asks r i n a)
+element_asks g r i n a = Both (run_asks g i n) (index_asks r i n a)
 
 -- the right side of `&&` and `||` has a mask where it is asked lane by lane; so has a part behind a varying test
 abbrev pub test_asks : Rate → ℕ → Ask

@@ -19,7 +19,7 @@ use Rattle.isp_typed.specs.declared.variable.Logic.{Logic}
 use Rattle.isp_typed.specs.declared.variable.Logic.TheVariants.{And, Or}
 use Rattle.isp_meaning.specs.Payloads.{converted}
 use Rattle.isp_lower.specs.Callees.{next_rate, later}
-use Rattle.isp_lower.specs.Asks.{is_run}
+use Rattle.isp_lower.specs.Asks.{is_lane}
 pub use Rattle.isp_lower.specs.Instructions.{copy, convert, unary, compare, compute, operate, operate_places, read, write, read_by, write_by, constant, splat, select, packed_store, packed_load, where_so, the_others, jump_off, jump_on}
 use Rattle.isp_lower.specs.Layout.{Layout, register, mask_register, array_register}
 use Rattle.isp_lower.specs.Library.{library_code, library_rates}
@@ -191,13 +191,57 @@ module _ (l : Layout) where
   abbrev pub index_of : Rate → TExpr → ℕ → ℕ → List Instr → List Instr
   index_of r i k n code = whole_of (is_whole (type_of i).elem) i k n code ++ lift_code r (type_of i).rate I64 (whole (is_whole (type_of i).elem) i n) k n
 
+  -- whether a variable counts the lanes of a run in which code is
+  abbrev pub names : Option ℕ → ℕ → Bool
+  names None v = false
+  names (Some i) v = nat_eq v i
+
+  abbrev pub is_counter : Rate → ℕ → Bool
+  is_counter Uniform v = false
+  is_counter Varying v = l.in_run && names l.run v
+
+  abbrev pub place_counts : TPlace → Bool
+  place_counts (t_variable v t sp) = is_counter t.rate v
+  place_counts (t_element b i t sp) = false
+
+  -- an index that counts the lanes, with nothing around it
+  abbrev pub counts : TExpr → Bool
+  counts (t_constant v sp) = false
+  counts (t_program_index sp) = true
+  counts (t_place q) = place_counts q
+  counts (t_convert e x) = false
+  counts (t_cast x t sp) = false
+  counts (t_unary o x t sp) = false
+  counts (t_binary o x y t sp) = false
+  counts (t_compare c x y r sp) = false
+  counts (t_logic g x y r sp) = false
+  counts (t_choose c x y t sp) = false
+  counts (t_call c t) = false
+  counts (t_library f e xs t sp) = false
+  counts (t_packed_store b x sp) = false
+  counts (t_packed_load b v sp) = false
+
+  -- the lanes' elements of an array stand in a row where all share it and the index counts the lanes
+  abbrev pub is_run : Rate → TExpr → Bool
+  is_run Uniform i = counts i
+  is_run Varying i = false
+
+  -- where the number of the first of them is, and how it comes there
+  abbrev pub start_in : Bool → ℕ → ℕ
+  start_in true n = l.spare Uniform I64 n
+  start_in false n = l.place Uniform
+
+  abbrev pub start_code : Bool → ℕ → List Instr
+  start_code true n = constant (l.spare Uniform I64 n) I64 0 ∷ []
+  start_code false n = []
+
   -- an index as code has it: of a run of elements, the number of the first one
   abbrev pub index_by : Bool → Rate → TExpr → ℕ → ℕ
-  index_by true r i n = l.spare Uniform I64 n
+  index_by true r i n = start_in (is_lane i) n
   index_by false r i n = index r i n
 
   abbrev pub index_by_of : Bool → Rate → TExpr → ℕ → ℕ → List Instr → List Instr
-  index_by_of true r i k n code = constant (l.spare Uniform I64 n) I64 0 ∷ []
+  index_by_of true r i k n code = start_code (is_lane i) n
   index_by_of false r i k n code = index_of r i k n code
 
   -- ---- the places that code names, in order

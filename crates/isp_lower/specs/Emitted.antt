@@ -92,7 +92,7 @@ first_rows xs answer =
 
 -- where registers lie is fixed, and at which rates functions take what is handed over
 abbrev pub layout : Scope → Layout
-layout on = layout_of (rates_in (functions_of on.callees.now)) (rows_of on.registers.now)
+layout on = record (layout_of (rates_in (functions_of on.callees.now)) (rows_of on.registers.now)) { run = on.run; in_run = on.in_run }
 
 -- all that code asks for is there
 abbrev pub Present : Scope → Ask → Type 0

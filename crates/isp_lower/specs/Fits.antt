@@ -1,13 +1,23 @@
 -- What the laws ask of a tree in a call: names and types accept it, its rates are as code asks, and what its code asks for is in the
 -- table of registers.
-use Rattle.std.specs.Prelude.{ℕ, List}
+use Rattle.std.specs.Prelude.{ℕ, List, [], ◌∷◌}
 use Rattle.std.specs.List.{All}
 use Rattle.isp_typed.specs.Fine.{FineExpr, FineSimple, FineItem}
-use Rattle.isp_typed.specs.Typed.{TExpr, TSimple, TItem}
+use Rattle.isp_typed.specs.Typed.{TExpr, TSimple, TItem, t_plain, t_with_value, t_with_size}
 use Rattle.isp_lower.specs.Asks.{Ask, expr_asks, simple_asks, items_asks}
 use Rattle.isp_lower.specs.Rated.{IsRated, SimpleRated, ItemsRated}
-use Rattle.isp_lower.specs.Setting.{Setting}
+use Rattle.isp_lower.specs.Setting.{Setting, OtherAt}
 use Rattle.isp_lower.specs.Tables.{Table}
+
+-- a variable that is declared counts no lanes
+abbrev pub ItemOther : Setting → TItem → Type 0
+ItemOther w (t_plain v t sp) = OtherAt w t.rate v
+ItemOther w (t_with_value v t x sp) = OtherAt w t.rate v
+ItemOther w (t_with_size b sp) = Unit {0}
+
+abbrev pub ItemsOther : Setting → List TItem → Type 0
+ItemsOther w [] = Unit {0}
+ItemsOther w (x ∷ xs) = ItemOther w x × ItemsOther w xs
 
 module _ (w : Setting) where
   abbrev pub InTable : Ask → Type 0
@@ -27,3 +37,4 @@ module _ (w : Setting) where
     pub fine : All (FineItem w.program.functions w.function.variables) xs
     pub rated : ItemsRated w.program.functions xs
     pub named : InTable (items_asks n xs)
+    pub others : ItemsOther w xs

@@ -2,8 +2,9 @@
 -- are what the function gives back and the spare registers of each type. Spare registers come in slots, which code uses
 -- as a stack; slot j has mask register j too. Fresh registers are those that no tree asks for. Each of these is another
 -- register. With them stand the rates of the parameters of functions that code calls, by the functions' numbers, and which variables
--- packed loads write: a varying one of these is copied where it is read, since a later part may write it.
-use Rattle.std.specs.Prelude.{◌≢◌, ℕ, List, Bool}
+-- packed loads write: a varying one of these is copied where it is read, since a later part may write it. A varying variable may count the
+-- lanes of a run, from the number in the place's register on; and code may be for lanes of such a run alone.
+use Rattle.std.specs.Prelude.{◌≢◌, ℕ, List, Option, Some, None, Bool, true, false}
 use Rattle.isp_base.specs.declared.types.Elem.{Elem}
 use Rattle.isp_base.specs.declared.types.Rate.{Rate}
 use Rattle.isp_base.specs.declared.types.Rate.TheVariants.{Uniform, Varying}
@@ -15,6 +16,9 @@ pub record Layout : Type 0 where
   pub variable : Rate → ℕ → ℕ
   pub result : Rate → ℕ
   pub spare : Rate → Elem → ℕ → ℕ
+  pub place : Rate → ℕ
+  pub run : Option ℕ
+  pub in_run : Bool
   pub fresh : Rate → ℕ → ℕ
   pub array : ℕ → ℕ
   pub rates : ℕ → List Rate
@@ -26,11 +30,27 @@ pub record IsApart (l : Layout) : Type 0 where
   pub variable_spare : (r : Rate) (t : Elem) (v j : ℕ) → l.variable r v ≢ l.spare r t j
   pub result_variable : (r : Rate) (v : ℕ) → l.result r ≢ l.variable r v
   pub result_spare : (r : Rate) (t : Elem) (j : ℕ) → l.result r ≢ l.spare r t j
+  pub place_variable : (r : Rate) (v : ℕ) → l.place r ≢ l.variable r v
+  pub place_result : (r : Rate) → l.place r ≢ l.result r
+  pub place_spare : (r : Rate) (t : Elem) (j : ℕ) → l.place r ≢ l.spare r t j
   pub freshes : (r : Rate) (i j : ℕ) → i ≢ j → l.fresh r i ≢ l.fresh r j
   pub variable_fresh : (r : Rate) (v j : ℕ) → l.variable r v ≢ l.fresh r j
   pub result_fresh : (r : Rate) (j : ℕ) → l.result r ≢ l.fresh r j
   pub spare_fresh : (r : Rate) (t : Elem) (i j : ℕ) → l.spare r t i ≢ l.fresh r j
   pub arrays : (v w : ℕ) → v ≢ w → l.array v ≢ l.array w
+
+-- For lanes that need be no members of a run: a variable still counts those that are. For members of a run of which a variable counts the
+-- lanes: if there is no other, and no packed load writes the variable.
+abbrev pub outside : Layout → Layout
+outside l = record l { in_run = false }
+
+abbrev pub run_in : Bool → Option ℕ → Layout → ℕ → Layout
+run_in false None l i = record l { run = Some i; in_run = true }
+run_in false (Some j) l i = outside l
+run_in true o l i = outside l
+
+abbrev pub within : Layout → ℕ → Layout
+within l i = run_in (l.loaded i) l.run l i
 
 abbrev pub class_at : Rate → Class
 class_at Uniform = class.Scalar

@@ -7,6 +7,7 @@ pub mod Library
 pub mod Calls
 pub mod Code
 pub mod Emitted
+pub mod Consecutive
 pub mod Setting
 pub mod Runs
 pub mod Rated

@@ -1,10 +1,9 @@
 -- A layout from lists of rows: a register has the number of the first row of its class that has its name. So rows are
 -- added at the end, as names come up, and no number changes. A name that no row has gets a number past the last row. The variables
 -- that packed loads write are rows too, which are no registers.
-use Rattle.std.specs.Prelude.{◌≡◌, ℕ, ◌+◌, ◌*◌, ◌==◌, List, [], ◌∷◌, ◌++◌, length, Option, Some, None, is_some, if◌then◌else◌}
+use Rattle.std.specs.Prelude.{◌≡◌, ℕ, ◌+◌, ◌*◌, ◌==◌, List, [], ◌∷◌, ◌++◌, length, Option, Some, None, is_some, true, false, if◌then◌else◌}
 use Rattle.isp_base.specs.Ranks.{rank}
 use Rattle.isp_base.specs.declared.types.Elem.{Elem}
-use Rattle.isp_base.specs.declared.types.Elem.TheVariants.{Bool as Truth}
 use Rattle.isp_base.specs.declared.types.Rate.{Rate}
 use Rattle.isp_base.specs.declared.types.Rate.TheVariants.{Uniform, Varying}
 use Rattle.isp_lower.specs.Layout.{Layout}
@@ -13,6 +12,7 @@ pub data Name : Type 0 where
   Variable : ℕ → Name
   Result : Name
   Spare : Elem → ℕ → Name
+  Place : Name
   Fresh : ℕ → Name
 
 -- each name has another number
@@ -20,7 +20,8 @@ abbrev pub name_number : Name → ℕ
 name_number Result = 0
 name_number (Variable v) = 1 + 3 * v
 name_number (Spare t j) = 2 + 3 * (9 * j + rank t)
-name_number (Fresh j) = 3 + 3 * j
+name_number Place = 3
+name_number (Fresh j) = 6 + 3 * j
 
 pub record Row : Type 0 where
   pub name : Name
@@ -52,13 +53,14 @@ fresh_at rows r j = number_in (rows_at rows r) (Fresh j)
 -- with the rates of the parameters of functions
 abbrev pub layout_of : (ℕ → List Rate) → Rows → Layout
 layout_of rates rows =
-    record { rates = rates; variable = λ r v. number_in (rows_at rows r) (Variable v); result = λ r. number_in (rows_at rows r) Result; spare = λ r t j. number_in (rows_at rows r) (Spare t j); fresh = fresh_at rows; array = λ v. number_in rows.arrays (Variable v); loaded = λ v. is_some (elem_in rows.loaded (Variable v)) }
+    record { rates = rates; variable = λ r v. number_in (rows_at rows r) (Variable v); result = λ r. number_in (rows_at rows r) Result; spare = λ r t j. number_in (rows_at rows r) (Spare t j); place = λ r. number_in (rows_at rows r) Place; run = None; in_run = false; fresh = fresh_at rows; array = λ v. number_in rows.arrays (Variable v); loaded = λ v. is_some (elem_in rows.loaded (Variable v)) }
 
 -- the number of the register that a layout has for a name
 abbrev pub numbered : Layout → Rate → Name → ℕ
 numbered l r (Variable v) = l.variable r v
 numbered l r Result = l.result r
 numbered l r (Spare t j) = l.spare r t j
+numbered l r Place = l.place r
 numbered l r (Fresh j) = l.fresh r j
 
 -- a name has a row of this rate and this type
@@ -67,7 +69,7 @@ HasRow rows r x t = elem_in (rows_at rows r) x ≡ Some t
 
 -- a packed load writes the variable
 abbrev pub IsLoaded : Rows → ℕ → Type 0
-IsLoaded rows v = elem_in rows.loaded (Variable v) ≡ Some Truth
+IsLoaded rows v = is_some (elem_in rows.loaded (Variable v)) ≡ true
 
 -- one more row, of a fresh register
 abbrev pub with_fresh : Elem → List Row → List Row

@@ -6,7 +6,7 @@ use Rattle.isp_base.specs.declared.trap.Trap.{Trap}
 use Rattle.isp_code.specs.Conf.{Conf}
 use Rattle.isp_meaning.specs.State.{State}
 use Rattle.isp_meaning.specs.Outcomes.{Val, Gives, Fails, Stops, Done}
-use Rattle.isp_lower.specs.Setting.{Setting, gang_of, At, Stands, Spares}
+use Rattle.isp_lower.specs.Setting.{Setting, Allowed, gang_of, At, Stands, Spares}
 pub use Rattle.isp_lower.specs.Steps.{ComesIn, FailedIn, StoppedIn}
 
 module _ (w : Setting) where
@@ -25,7 +25,7 @@ module _ (w : Setting) where
     pub at : At w c pc
     pub mask : c.masks k ≡ a
     pub some : any (gang_of w) a ≡ true
-    pub inside : (p : ℕ) → a p ≡ true → p < gang_of w
+    pub inside : (p : ℕ) → a p ≡ true → Allowed w p
     pub stands : Stands w s c
     pub used : q ≤ 32 * s.work
     pub low : k < n

@@ -1,5 +1,5 @@
 -- A call of a compiled function, and when the machine in it stands for a state of the meaning.
-use Rattle.std.specs.Prelude.{◌≡◌, ◌≤◌, ◌<◌, ℕ, suc, ◌+◌, ◌*◌, ◌-◌, ◌^◌, List, [], ◌∷◌, length, Some, true, false, slice_get}
+use Rattle.std.specs.Prelude.{◌≡◌, ◌≢◌, ◌≤◌, ◌<◌, ℕ, suc, ◌+◌, ◌*◌, ◌-◌, ◌^◌, List, [], ◌∷◌, length, Some, true, false, slice_get}
 use Rattle.isp_base.specs.Maps.{Lanes}
 use Rattle.isp_base.specs.Sets.{Mask, any}
 use Rattle.isp_base.specs.Types.{gang_width}
@@ -11,10 +11,10 @@ use Rattle.isp_code.specs.Conf as machine
 use Rattle.isp_code.specs.Conf.{Home, Conf}
 use Rattle.isp_code.specs.Lines.{local_size}
 use Rattle.isp_code.specs.Listing.{Listing, Routine}
-use Rattle.isp_code.specs.Registers.{is_per_lane, passed}
+use Rattle.isp_code.specs.Registers.{is_per_lane, passed, elem_of}
 use Rattle.isp_code.specs.declared.instr.Call.{Call}
 use Rattle.isp_code.specs.declared.instr.Instr.TheVariants as instr
-use Rattle.isp_typed.specs.Fine.{HoldsArray, params_of}
+use Rattle.isp_typed.specs.Fine.{HoldsArray, params_of, foreach_index}
 use Rattle.isp_typed.specs.Typed.{Program, TFunction}
 use Rattle.isp_typed.specs.declared.variable.ArrayVariable.{ArrayVariable}
 use Rattle.isp_meaning.specs.State.{State, Frame, extent}
@@ -22,11 +22,14 @@ use Rattle.isp_meaning.specs.Expressions.{Passed, Calls}
 use Rattle.isp_meaning.specs.Calls.{most_calls, calls_at}
 use Rattle.isp_lower.specs.Callees.{rates_in}
 use Rattle.isp_lower.specs.Calls.{AreHanded, Takes, CallRuns}
-use Rattle.isp_lower.specs.Layout.{Layout, IsApart, array_register}
+use Rattle.isp_lower.specs.Layout.{Layout, IsApart, array_register, register}
 pub use Rattle.isp_lower.specs.Held.{at_rate, held_at, Holds}
+use Rattle.isp_lower.specs.Consecutive.{RunHolds}
+use Rattle.isp_base.specs.declared.types.Elem.TheVariants.{I32}
 
 -- The program and its code, the function that runs with its routine and registers, what stays during the call on both
--- sides, the calls that wait, how many turns a loop makes each time it is entered, and how many calls deeper may run.
+-- sides, the calls that wait, how many turns a loop makes each time it is entered, and how many calls deeper may run. Where a variable
+-- counts the lanes of a run, these are its members, and the number from which it counts has these bits.
 pub record Setting : Type 0 where
   pub program : Program
   pub code : Listing
@@ -38,9 +41,15 @@ pub record Setting : Type 0 where
   pub frame : Frame
   pub turns : ℕ
   pub left : ℕ
+  pub members : Mask
+  pub start : ℕ
 
 abbrev pub gang_of : Setting → ℕ
 gang_of w = gang_width w.code.gang
+
+-- who may run: instances of the gang, and, where code is for the lanes of a run, members of it
+abbrev pub Allowed : Setting → ℕ → Type 0
+Allowed w p = (p < gang_of w) × (w.layout.in_run ≡ true → w.members p ≡ true)
 
 -- what calls mean from here
 abbrev pub calls_of : Setting → Calls
@@ -94,6 +103,12 @@ abbrev pub CallsRun : Setting → Type 0
 CallsRun w =
     (k : Call) (g : TFunction) (pc q : ℕ) (sp : Span) (a : Mask) (ps : List Passed) (s : State) (c : Conf) → IsCalling w k g pc q sp a ps s c → CallRuns w.code w.turns c k q (calls_of w k.function sp a ps w.frame s)
 
+-- the variable that counts the lanes of a run is a constant int32
+pub record IsCounter (w : Setting) (i : ℕ) : Type 0 where
+  pub typed : elem_of w.routine (register Varying (w.layout.variable Varying i)) ≡ I32
+  pub constant : slice_get w.function.variables i ≡ Some foreach_index
+  pub unloaded : w.layout.loaded i ≡ false
+
 -- The routine is that of the call, its registers are apart, it hands over as the functions' parameters ask, and its arrays
 -- are those of the function's variables, with the same stores open on both sides; those that run and those that may still
 -- run are as many calls as there may be; and a call from here does what it means.
@@ -108,10 +123,11 @@ pub record IsSettled (w : Setting) : Type 0 where
   pub sizes : w.home.sizes ≡ w.frame.sizes
   pub arrays : (b : ArrayVariable) → HoldsArray w.function.variables b → ArrayFits w b
   pub calls : CallsRun w
+  pub counter : (i : ℕ) → w.layout.run ≡ Some i → IsCounter w i
 
 -- Registers, own arrays, arrays and output stand for a state. It is stated of these parts alone, so that a step that
 -- changes other parts of the machine leaves the fact as it is.
-pub record StandsFor (l : Layout) (ones : ℕ → ℕ) (each : ℕ → Lanes) (owns : ℕ → ℕ → Lanes) (one : ℕ) (in_each : Lanes) (stores : ℕ → Lanes) (text : List ℕ) (scalars : ℕ → ℕ) (vectors : ℕ → Lanes) (own : ℕ → ℕ → Lanes) (arrays : ℕ → Lanes) (out : List ℕ) : Type 0 where
+pub record StandsFor (l : Layout) (start : ℕ) (members : Mask) (ones : ℕ → ℕ) (each : ℕ → Lanes) (owns : ℕ → ℕ → Lanes) (one : ℕ) (in_each : Lanes) (stores : ℕ → Lanes) (text : List ℕ) (scalars : ℕ → ℕ) (vectors : ℕ → Lanes) (own : ℕ → ℕ → Lanes) (arrays : ℕ → Lanes) (out : List ℕ) : Type 0 where
   pub uniforms : (v : ℕ) → scalars (l.variable Uniform v) ≡ ones v
   pub varying : (v : ℕ) → vectors (l.variable Varying v) ≡ each v
   pub result : scalars (l.result Uniform) ≡ one
@@ -119,9 +135,19 @@ pub record StandsFor (l : Layout) (ones : ℕ → ℕ) (each : ℕ → Lanes) (o
   pub own_arrays : (v : ℕ) → own (l.array v) ≡ owns v
   pub arrays_are : arrays ≡ stores
   pub out_is : out ≡ text
+  pub run : RunHolds l.run start members (scalars (l.place Uniform)) each
+
+-- a variable that is not the one that counts the lanes of a run
+abbrev pub IsOther : Setting → ℕ → Type 0
+IsOther w v = (i : ℕ) → w.layout.run ≡ Some i → i ≢ v
+
+-- where it is written at a rate: one that is uniform counts none
+abbrev pub OtherAt : Setting → Rate → ℕ → Type 0
+OtherAt w Uniform v = Unit {0}
+OtherAt w Varying v = IsOther w v
 
 abbrev pub Stands : Setting → State → Conf → Type 0
-Stands w s c = StandsFor w.layout s.uniforms s.varying s.own s.result s.results s.arrays s.out c.scalars c.vectors c.own c.arrays c.out
+Stands w s c = StandsFor w.layout w.start w.members s.uniforms s.varying s.own s.result s.results s.arrays s.out c.scalars c.vectors c.own c.arrays c.out
 
 -- the spare registers of lower slots are as they were, whatever variables are written
 pub record SparesStay (l : Layout) (n : ℕ) (scalars : ℕ → ℕ) (vectors : ℕ → Lanes) (scalars' : ℕ → ℕ) (vectors' : ℕ → Lanes) : Type 0 where

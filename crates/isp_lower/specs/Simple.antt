@@ -9,15 +9,15 @@ use Rattle.isp_base.specs.Ranks.{same_elem}
 use Rattle.isp_base.specs.declared.types.Rate.TheVariants.{Uniform}
 use Rattle.isp_typed.specs.Typed.{TExpr, TPlace, t_variable, t_element, place_type, TSimple, t_value, t_run, t_assign, t_update, t_step}
 use Rattle.isp_lower.specs.Layout.{Layout}
-use Rattle.isp_lower.specs.Code.{convert, operate, operate_places, read_by, write_by, constant, lifted, lift_code, two, operand, operand_of, index_by, expr_places, index_places, read_places, call_places, expr_code, index_code, call_code, variable_code}
-pub use Rattle.isp_lower.specs.Asks.{beyond, is_run}
+use Rattle.isp_lower.specs.Code.{convert, operate, operate_places, read_by, write_by, constant, lifted, lift_code, two, operand, operand_of, index_by, expr_places, index_places, read_places, call_places, expr_code, index_code, call_code, variable_code, is_run}
+pub use Rattle.isp_lower.specs.Asks.{beyond}
 
 module _ (l : Layout) where
   -- the target's index, the right side, the access
   abbrev pub assign_code : TPlace → TExpr → ℕ → ℕ → ℕ → ℕ → List Instr
   assign_code (t_variable v t sp) x pc p k n = variable_code l t.rate v x pc p k n
   assign_code (t_element b i t sp) x pc p k n =
-      let z = is_run b.ty.rate i in
+      let z = is_run l b.ty.rate i in
       two pc (index_code l (t_element b i t sp) pc p k n) (λ pc1. operand_of l t.rate x k (n + 1) (expr_code l x pc1 (p + length (expr_places l i)) k (n + 1)) ++ write_by z t.rate (l.array b.number) (index_by l z t.rate i n) (operand l t.rate x (n + 1)) k (p + length (expr_places l i) + length (expr_places l x)) ∷ [])
 
   abbrev pub assign_places : TPlace → TExpr → List Span
@@ -36,7 +36,7 @@ module _ (l : Layout) where
   change_code o t (t_variable v u sp) y p k n i =
       update_to (same_elem u.elem t) o t u.rate (l.variable u.rate v) (l.variable u.rate v) y k i p
   change_code o t (t_element b j u sp) y p k n i =
-      let z = is_run b.ty.rate j in
+      let z = is_run l b.ty.rate j in
       read_by z u.rate (l.spare u.rate u.elem i) (l.array b.number) (index_by l z u.rate j n) k p ∷ (update_to (same_elem u.elem t) o t u.rate (l.spare u.rate u.elem i) (l.spare u.rate u.elem i) y k i (p + 1) ++ write_by z u.rate (l.array b.number) (index_by l z u.rate j n) (l.spare u.rate u.elem i) k p ∷ [])
 
   -- `op=`: the target's index, the right side, then the place is read

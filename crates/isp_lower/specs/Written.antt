@@ -12,10 +12,9 @@ use Rattle.isp_code.specs.declared.instr.Instr.TheVariants as instr
 use Rattle.isp_code.specs.declared.instr.JumpTest.TheVariants as jump
 use Rattle.isp_code.specs.declared.register.Register.{Register}
 use Rattle.isp_typed.specs.Typed.{TArgument, TArguments, TBase, TCall, TExpr, TExprs, TPlace, type_of}
-use Rattle.isp_lower.specs.Code.{argument_code, argument_places, arguments_code, arguments_places, base_code, base_places, call_code, call_places, choice, choose_code, choose_rest, expr_code, expr_places, expr_to, found, guard, index_by_of, index_of, index_places, is_copied, is_whole, jump_off, jump_on, lift_code, move_code, operand, operand_of, operate, operate_places, packed_load, packed_store, read_by, select, value_registers, values_code, values_places, variable_code, variable_from, variable_read, whole_of, write_by}
+use Rattle.isp_lower.specs.Code.{argument_code, argument_places, arguments_code, arguments_places, base_code, base_places, call_code, call_places, choice, choose_code, choose_rest, expr_code, expr_places, expr_to, found, guard, index_by_of, index_of, index_places, is_copied, is_whole, jump_off, jump_on, lift_code, move_code, operand, operand_of, operate, operate_places, packed_load, packed_store, read_by, select, value_registers, values_code, values_places, variable_code, variable_from, variable_read, whole_of, write_by, is_run}
 use Rattle.isp_typed.specs.declared.library.Library.{Library}
 use Rattle.isp_typed.specs.declared.variable.ArrayVariable.{ArrayVariable}
-use Rattle.isp_lower.specs.Asks.{is_run}
 use Rattle.isp_lower.specs.Emitted.{Appends, layout}
 use Rattle.isp_lower.specs.Layout.{mask_register, register}
 use Rattle.isp_lower.specs.Library.{library_code, library_rates, on_values}
@@ -80,7 +79,7 @@ abbrev pub element_index_at : Scope → ArrayVariable → Rate → TExpr → Sit
 element_index_at on b r x at =
     let k = at.mask.number in
     let n = at.slot.number in
-    record { code = λ pc p. index_by_of (layout on) (is_run b.ty.rate x) r x k n (expr_code (layout on) x pc p k n); places = expr_places (layout on) x }
+    record { code = λ pc p. index_by_of (layout on) (is_run (layout on) b.ty.rate x) r x k n (expr_code (layout on) x pc p k n); places = expr_places (layout on) x }
 
 -- a variable is copied to register d where a packed load writes it
 abbrev pub variable_read_at : Scope → Home → RegisterNumber → MaskNumber → Piece

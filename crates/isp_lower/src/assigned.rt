@@ -126,7 +126,7 @@ pub(crate) fn assign(
             let at = element_index(b, on, *array, ty.rate, inner, site)?;
             let element = Element {
                 array: *array,
-                is_run: is_run(array.ty.rate, inner),
+                is_run: is_run(on, array.ty.rate, inner),
                 index: at,
                 ty: *ty,
                 span: *span,

@@ -3,7 +3,7 @@ ghost use Rattle.std.specs.Prelude.{◌≡◌, ◌++◌, [], IfOk, OnOk};
 ghost use Rattle.isp_base.specs.declared.types.Rate.TheVariants.{Uniform, Varying};
 ghost use Rattle.isp_lower.specs.Code.{same_rate};
 ghost use Rattle.isp_lower.specs.Emitted.{array_row, array_rows, first_rows, name_of, result_rows, row_where, rows_of, value_row, value_rows};
-ghost use Rattle.isp_lower.specs.Lookup.{IsAsked};
+ghost use Rattle.isp_lower.specs.Lookup.{HasOwnType, IsAsked};
 
 use crate::register_rows::RegisterRows;
 use crate::registers::{RegisterName, RegisterRow, Registers};
@@ -18,7 +18,8 @@ fn add_value(
     name: RegisterName,
     elem: Elem,
 ) -> Result<(), AllocError>
-    requires { IsAsked (name_of name) }
+    requires asked { IsAsked (name_of name) }
+    requires own { HasOwnType (name_of name) elem }
     ensures scalars { OnOk result ((rows_of registers.new).scalars ≡ (rows_of registers.old).scalars ++ row_where (same_rate Uniform rate) (record { name = name_of name; elem = elem }) []) }
     ensures vectors { OnOk result ((rows_of registers.new).vectors ≡ (rows_of registers.old).vectors ++ row_where (same_rate Varying rate) (record { name = name_of name; elem = elem }) []) }
     ensures arrays { OnOk result ((rows_of registers.new).arrays ≡ (rows_of registers.old).arrays) }

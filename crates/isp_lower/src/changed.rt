@@ -154,7 +154,7 @@ pub(crate) fn change_by(
             let at = element_index(b, on, *array, ty.rate, inner, site)?;
             let element = Element {
                 array: *array,
-                is_run: is_run(array.ty.rate, inner),
+                is_run: is_run(on, array.ty.rate, inner),
                 index: at,
                 ty: *ty,
                 span: *span,
@@ -252,7 +252,7 @@ pub(crate) fn step(
             let at = element_index(b, on, *array, ty.rate, inner, site)?;
             let element = Element {
                 array: *array,
-                is_run: is_run(array.ty.rate, inner),
+                is_run: is_run(on, array.ty.rate, inner),
                 index: at,
                 ty: *ty,
                 span: *span,

@@ -39,6 +39,8 @@ impl Emitter<'_> {
             registers: &asked.registers,
             masks: asked.masks,
             answer: None,
+            run: None,
+            in_run: false,
         };
         let mut written = self.body.apart(alloc)?;
         let to = expr(&mut written, &on, x, site)?;
@@ -67,6 +69,8 @@ impl Emitter<'_> {
             registers: &asked.registers,
             masks: asked.masks,
             answer: None,
+            run: None,
+            in_run: false,
         };
         let mut written = self.body.apart(alloc)?;
         simple(&mut written, &on, x, site)?;

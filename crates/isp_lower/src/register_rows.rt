@@ -1,7 +1,7 @@
 //! The registers of one class.
 ghost use Rattle.std.specs.Prelude.{◌≡◌, ◌≤◌, ◌++◌, ◌∷◌, [], length, map, slice_get, Some, None, IfOk, IfSome, IfNone, OnOk, OnErr};
 ghost use Rattle.isp_base.specs.Ranks.{rank};
-ghost use Rattle.isp_lower.specs.Lookup.{IsNamedAt, name_of, row_of};
+ghost use Rattle.isp_lower.specs.Lookup.{HasOwnType, IsNamedAt, name_of, row_of};
 ghost use Rattle.isp_lower.specs.Rows.{Fresh, elem_in, name_number, number_in, with_fresh};
 
 use crate::copies::push_all;
@@ -58,7 +58,8 @@ fn name_number(name: RegisterName) -> u128
         RegisterName::Result => 0,
         RegisterName::Variable(number) => 1 + 3 * number as u128,
         RegisterName::Spare(elem, slot) => 2 + 3 * (9 * slot.number as u128 + rank(elem)),
-        RegisterName::Fresh(number) => 3 + 3 * number as u128,
+        RegisterName::Place => 3,
+        RegisterName::Fresh(number) => 6 + 3 * number as u128,
     }
 }
 
@@ -112,6 +113,7 @@ impl RegisterRows {
         ensures number { IfSome result (λ x. x.0 ≡ number_in (map row_of self.now) (name_of name)) }
         ensures elem { IfSome result (λ x. elem_in (map row_of self.now) (name_of name) ≡ Some x.1) }
         ensures none { IfNone result (elem_in (map row_of self.now) (name_of name) ≡ None) }
+        ensures own { IfSome result (λ x. HasOwnType (name_of name) x.1) }
         ensures few { length self.now ≤ 4294967295 }
     {
         let number = name_number(name);
@@ -125,7 +127,8 @@ impl RegisterRows {
     /// One more register. Where memory is refused, they stay as they were. It is refused too where the register's number would
     /// be 4,294,967,295.
     pub fn push(&mut self, row: RegisterRow) -> Result<(), AllocError>
-        requires { IsNamedAt (length self.old) (name_of row.name) }
+        requires named { IsNamedAt (length self.old) (name_of row.name) }
+        requires own { HasOwnType (name_of row.name) row.elem }
         ensures ok { OnOk result (self.new ≡ self.old ++ row ∷ []) }
         ensures err { OnErr result (self.new ≡ self.old) }
     {

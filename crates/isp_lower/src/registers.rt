@@ -1,8 +1,10 @@
 //! The registers of the function in hand.
 ghost use Rattle.std.specs.Prelude.{◌≡◌, length, map, Some, IfOk, OnErr, OnOk};
 ghost use Rattle.isp_lower.specs.Emitted.{Begins, Grows, HasArray, HasLoaded, HasRow, name_of, row_of, rows_of};
-ghost use Rattle.isp_lower.specs.Lookup.{IsAsked};
-ghost use Rattle.isp_lower.specs.Rows.{Result, Spare, Variable as VariableName, elem_in, fresh_at, rows_at, with_fresh_at};
+ghost use Rattle.isp_lower.specs.Lookup.{IsAsked, own_type};
+ghost use Rattle.isp_base.specs.declared.types.Elem.TheVariants.{I64};
+ghost use Rattle.isp_base.specs.declared.types.Rate.TheVariants.{Uniform};
+ghost use Rattle.isp_lower.specs.Rows.{Place, Result, Spare, Variable as VariableName, elem_in, fresh_at, rows_at, with_fresh_at};
 
 use crate::numbered::{RegisterNumber, Slot};
 use crate::register_rows::RegisterRows;
@@ -10,13 +12,14 @@ use isp_base::{Elem, Rate, Ty};
 use isp_typed::ArrayVariable;
 use std::alloc::AllocError;
 
-/// What a register is for: a variable, by its number, what the function gives back, values of a type in a slot, or what
-/// no tree asks for; then it is named by its own number.
+/// What a register is for: a variable, by its number, what the function gives back, values of a type in a slot, the place of a run, or
+/// what no tree asks for; then it is named by its own number.
 #[derive(Clone, Copy)]
 pub enum RegisterName {
     Variable(usize),
     Result,
     Spare(Elem, Slot),
+    Place,
     Fresh(usize),
 }
 
@@ -37,27 +40,17 @@ pub struct Registers {
     pub loaded: RegisterRows,
 }
 
-/// Whether a name has a register of a type. Memory is refused where it has none.
-fn given(rows: &RegisterRows, name: RegisterName, elem: Elem) -> Result<(), AllocError>
-    ensures { OnOk result (elem_in (map row_of rows.now) (name_of name) ≡ Some elem) }
-{
-    match rows.find(name) {
-        Some((_, held)) if held == elem => Ok(()),
-        _ => Err(AllocError),
-    }
-}
-
-/// A register of a name: the next one where there is none. Memory is refused too where there is one of another type.
+/// A register of a name that says its type: the next one where there is none.
 fn given_or_new(rows: &mut RegisterRows, name: RegisterName, elem: Elem) -> Result<(), AllocError>
-    requires { IsAsked (name_of name) }
+    requires asked { IsAsked (name_of name) }
+    requires own { own_type (name_of name) ≡ Some elem }
     ensures rows { OnOk result (Begins (map row_of rows.old) (map row_of rows.new)) }
     ensures elem { OnOk result (elem_in (map row_of rows.new) (name_of name) ≡ Some elem) }
 {
-    if rows.find(name).is_none() {
-        rows.push(RegisterRow { name, elem })?;
+    match rows.find(name) {
+        Some(_) => Ok(()),
+        None => rows.push(RegisterRow { name, elem }),
     }
-    given(rows, name, elem)?;
-    Ok(())
 }
 
 impl Registers {
@@ -68,15 +61,17 @@ impl Registers {
     {
         let name = RegisterName::Spare(elem, slot);
         match rate {
-            Rate::Uniform => {
-                given_or_new(&mut self.scalars, name, elem)?;
-                Ok(())
-            }
-            Rate::Varying => {
-                given_or_new(&mut self.vectors, name, elem)?;
-                Ok(())
-            }
+            Rate::Uniform => given_or_new(&mut self.scalars, name, elem),
+            Rate::Varying => given_or_new(&mut self.vectors, name, elem),
         }
+    }
+
+    /// The register of the place of a run.
+    pub fn place(&mut self) -> Result<(), AllocError>
+        ensures rows { OnOk result (Grows self.old self.new) }
+        ensures given { OnOk result (HasRow self.new Uniform Place I64) }
+    {
+        given_or_new(&mut self.scalars, RegisterName::Place, Elem::I64)
     }
 
     /// A packed load writes a variable.
@@ -84,8 +79,14 @@ impl Registers {
         ensures rows { OnOk result (Grows self.old self.new) }
         ensures given { OnOk result (HasLoaded self.new number) }
     {
-        given_or_new(&mut self.loaded, RegisterName::Variable(number), Elem::Bool)?;
-        Ok(())
+        let name = RegisterName::Variable(number);
+        match self.loaded.find(name) {
+            Some(_) => Ok(()),
+            None => self.loaded.push(RegisterRow {
+                name,
+                elem: Elem::Bool,
+            }),
+        }
     }
 
     /// One more register of a rate, which no tree asks for, and its number. Where memory is refused, they stay as they were.

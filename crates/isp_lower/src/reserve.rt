@@ -1,17 +1,18 @@
 //! The registers that code asks for, before it is written.
 ghost use Rattle.std.specs.Prelude.{◌≡◌, ◌+◌, IfOk, OnOk};
 ghost use Rattle.isp_base.specs.Ranks.{same_elem};
-ghost use Rattle.isp_base.specs.declared.types.Rate.TheVariants.{Varying};
+ghost use Rattle.isp_base.specs.declared.types.Elem.TheVariants.{I64};
+ghost use Rattle.isp_base.specs.declared.types.Rate.TheVariants.{Uniform, Varying};
 ghost use Rattle.isp_typed.specs.Typed.{t_arguments, t_exprs, type_of};
 ghost use Rattle.isp_typed.specs.Views.{argument_of, arguments_of, base_of, call_of, expr_of, exprs_of, item_of, items_of, place_of, simple_of};
-ghost use Rattle.isp_lower.specs.Asks.{Both, Loads, MaskOf, Number, argument_asks, arguments_asks, assign_asks, base_asks, call_asks, change_asks, copy_asks, element_asks, expr_asks, index_asks, item_asks, items_asks, lift_asks, one_asks, operand_asks, operands_asks, read_asks, run_asks, sides_ask, spare_ask, step_asks, target_asks, test_asks, update_asks, value_asks, values_asks, work_asks, zero_asks, beyond, first_slot, simple_asks};
+ghost use Rattle.isp_lower.specs.Asks.{Both, Loads, MaskOf, Number, Register, argument_asks, arguments_asks, assign_asks, base_asks, call_asks, change_asks, copy_asks, element_asks, expr_asks, index_asks, item_asks, items_asks, lift_asks, one_asks, operand_asks, operands_asks, place_asks, read_asks, run_asks, sides_ask, spare_ask, start_asks, step_asks, target_asks, test_asks, update_asks, value_asks, values_asks, work_asks, zero_asks, beyond, first_slot, simple_asks};
 ghost use Rattle.isp_lower.specs.Library.{library_rates};
+ghost use Rattle.isp_lower.specs.Rows.{Place};
 ghost use Rattle.isp_lower.specs.Reserved.{Gives, choice_asks, logic_asks, packed_load_asks, packed_store_asks};
 
 use crate::library::value_rate;
 use crate::numbered::Slot;
 use crate::registers::Registers;
-use crate::truths::is_run;
 use isp_base::{Elem, Rate, Ty};
 use isp_typed::{
     Library, TypedArgument, TypedBase, TypedCall, TypedExpr, TypedItem, TypedPlace, TypedSimple,
@@ -444,14 +445,42 @@ impl Reserve {
         }
     }
 
-    /// The number of a run's first element.
-    fn run(&mut self, is_run: bool, slot: Slot) -> Result<(), AllocError>
-        ensures { OnOk result (Gives self.old self.new (run_asks is_run slot.number)) }
+    /// The register of the place of a run.
+    pub fn place(&mut self) -> Result<(), AllocError>
+        ensures { OnOk result (Gives self.old self.new (Register Uniform Place I64)) }
     {
-        if is_run {
-            self.spare(Rate::Uniform, Elem::I64, slot)
-        } else {
-            Ok(())
+        self.registers.place()?;
+        Ok(())
+    }
+
+    /// The same, where a varying variable may count its lanes.
+    fn place_of(&mut self, rate: Rate) -> Result<(), AllocError>
+        ensures { OnOk result (Gives self.old self.new (place_asks rate)) }
+    {
+        match rate {
+            Rate::Uniform => Ok(()),
+            Rate::Varying => self.place(),
+        }
+    }
+
+    /// The number of a run's first element.
+    fn start(&mut self, index: &TypedExpr, slot: Slot) -> Result<(), AllocError>
+        ensures { OnOk result (Gives self.old self.new (start_asks (expr_of index.now) slot.number)) }
+    {
+        match index {
+            TypedExpr::ProgramIndex { .. } => self.spare(Rate::Uniform, Elem::I64, slot),
+            TypedExpr::Place(TypedPlace::Variable { ty, .. }) => self.place_of(ty.rate),
+            _ => Ok(()),
+        }
+    }
+
+    /// The same where all lanes share the array.
+    fn run(&mut self, array: Rate, index: &TypedExpr, slot: Slot) -> Result<(), AllocError>
+        ensures { OnOk result (Gives self.old self.new (run_asks array (expr_of index.now) slot.number)) }
+    {
+        match array {
+            Rate::Uniform => self.start(index, slot),
+            Rate::Varying => Ok(()),
         }
     }
 
@@ -466,7 +495,7 @@ impl Reserve {
     ) -> Result<(), AllocError>
         ensures { OnOk result (Gives self.old self.new (element_asks array rate (expr_of index.now) slot.number (expr_asks (expr_of index.now) slot.number))) }
     {
-        self.run(is_run(array, index), slot)?;
+        self.run(array, index, slot)?;
         self.index(rate, index, slot)?;
         Ok(())
     }

@@ -1,10 +1,13 @@
 //! Registers are looked up; each that is asked for is there.
 ghost use Rattle.std.specs.Prelude.{◌≡◌, drop, map, take, Some};
-ghost use Rattle.isp_lower.specs.Asks.{ArrayOf, Register as Ask};
+ghost use Rattle.isp_lower.specs.Asks.{Ask as Asks, ArrayOf, Register as Ask};
+ghost use Rattle.isp_lower.specs.Layout.{outside, within};
 ghost use Rattle.isp_lower.specs.Callees.{next_rate, rate_held, rates_held};
 ghost use Rattle.isp_lower.specs.Code.{is_copied};
 ghost use Rattle.isp_lower.specs.Emitted.{Present, layout, name_of, row_of};
-ghost use Rattle.isp_lower.specs.Rows.{Result, Spare, Variable, elem_in, number_in};
+ghost use Rattle.isp_base.specs.declared.types.Elem.TheVariants.{I64};
+ghost use Rattle.isp_base.specs.declared.types.Rate.TheVariants.{Uniform};
+ghost use Rattle.isp_lower.specs.Rows.{Place, Result, Spare, Variable, elem_in, number_in};
 
 use crate::numbered::{RegisterNumber, Slot};
 use crate::register_rows::RegisterRows;
@@ -62,6 +65,35 @@ impl Scope<'_> {
         }
     }
 
+    /// The same for lanes that need be no members of a run.
+    pub fn outside(&self) -> Self
+        ensures layout { layout result ≡ outside (layout self.now) }
+        ensures present { (a : Asks) → Present self.now a → Present result a }
+        ensures answer { result.answer ≡ self.now.answer }
+    {
+        Scope {
+            in_run: false,
+            ..*self
+        }
+    }
+
+    /// The same for the members of a run of which a variable counts the lanes: there is no other yet, and no packed load writes it.
+    pub fn within(&self, index: usize) -> Self
+        ensures layout { layout result ≡ within (layout self.now) index }
+        ensures present { (a : Asks) → Present self.now a → Present result a }
+        ensures answer { result.answer ≡ self.now.answer }
+    {
+        if self.run.is_none() && !self.copies(Rate::Varying, index) {
+            Scope {
+                run: Some(index),
+                in_run: true,
+                ..*self
+            }
+        } else {
+            self.outside()
+        }
+    }
+
     /// The register of a slot for values of a type.
     pub fn spare(&self, rate: Rate, elem: Elem, slot: Slot) -> RegisterNumber
         requires { Present self.now (Ask rate (Spare elem slot.number) elem) }
@@ -72,6 +104,14 @@ impl Scope<'_> {
             Rate::Uniform => given(&self.registers.scalars, name, elem),
             Rate::Varying => given(&self.registers.vectors, name, elem),
         }
+    }
+
+    /// The register of the place of a run.
+    pub fn place(&self) -> RegisterNumber
+        requires { Present self.now (Ask Uniform Place I64) }
+        ensures { result.number ≡ (layout self.now).place Uniform }
+    {
+        given(&self.registers.scalars, RegisterName::Place, Elem::I64)
     }
 
     /// The register of a variable's value.

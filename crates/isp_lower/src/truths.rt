@@ -1,7 +1,7 @@
 //! Tests of trees that choose their code.
 ghost use Rattle.std.specs.Prelude.{◌≡◌, ◌&&◌};
-ghost use Rattle.isp_lower.specs.Asks.{is_lane, is_run};
-ghost use Rattle.isp_lower.specs.Code.{constant_of, decided, is_short, is_whole, same_rate, stays, stays_at};
+ghost use Rattle.isp_lower.specs.Asks.{is_lane};
+ghost use Rattle.isp_lower.specs.Code.{constant_of, counts, decided, is_counter, is_run, is_short, is_whole, same_rate, stays, stays_at};
 ghost use Rattle.isp_lower.specs.Emitted.{layout};
 ghost use Rattle.isp_typed.specs.Views.{expr_of};
 
@@ -21,18 +21,41 @@ pub fn decided(logic: Logic) -> JumpTest
 }
 
 /// Whether an expression is the number of its lane, with nothing around it.
-fn is_lane(x: &TypedExpr) -> bool
+pub fn is_lane(x: &TypedExpr) -> bool
     ensures { result ≡ is_lane (expr_of x.now) }
 {
     matches!(x, TypedExpr::ProgramIndex { .. })
 }
 
+/// Whether a variable counts the lanes of a run in which code is.
+fn is_counter(on: &Scope, rate: Rate, number: usize) -> bool
+    ensures { result ≡ is_counter (layout on.now) rate number }
+{
+    match (rate, on.run) {
+        (Rate::Varying, Some(index)) => on.in_run && number == index,
+        _ => false,
+    }
+}
+
+/// Whether an expression counts the lanes, with nothing around it.
+fn counts(on: &Scope, x: &TypedExpr) -> bool
+    ensures { result ≡ counts (layout on.now) (expr_of x.now) }
+{
+    match x {
+        TypedExpr::ProgramIndex { .. } => true,
+        TypedExpr::Place(TypedPlace::Variable { number, ty, .. }) => {
+            is_counter(on, ty.rate, *number)
+        }
+        _ => false,
+    }
+}
+
 /// Whether the lanes' elements of an array of a rate stand in a row, each one place behind that of the lane before.
-pub fn is_run(array: Rate, index: &TypedExpr) -> bool
-    ensures { result ≡ is_run array (expr_of index.now) }
+pub fn is_run(on: &Scope, array: Rate, index: &TypedExpr) -> bool
+    ensures { result ≡ is_run (layout on.now) array (expr_of index.now) }
 {
     match array {
-        Rate::Uniform => is_lane(index),
+        Rate::Uniform => counts(on, index),
         Rate::Varying => false,
     }
 }

@@ -9,13 +9,16 @@ use isp_code::{Function, Instr};
 use isp_typed::TypedFunction;
 
 /// What does not change while the code of a function is written: the functions that it may call, by number, its registers,
-/// how many masks it has, and what it gives back.
+/// how many masks it has, and what it gives back. Beside these the varying variable that counts the lanes of a run, if there is one, and
+/// whether code is for lanes of the run alone.
 #[derive(Clone, Copy)]
 pub struct Scope<'a> {
     pub callees: &'a [TypedFunction],
     pub registers: &'a Registers,
     pub masks: u32,
     pub answer: Option<Ty>,
+    pub run: Option<usize>,
+    pub in_run: bool,
 }
 
 /// Code while it is written, and the places in the source and the texts that it names, by number.

@@ -1,5 +1,5 @@
 -- `foreach_active` does what it means, where the code of its body does: by induction on the members that are left.
-use Rattle.std.proofs.Common.{◌≡◌, ◌≢◌, ℕ, zero, suc, ◌+◌, ◌*◌, ◌<◌, ◌≤◌, List, [], ◌∷◌, ◌++◌, length, Some, None, Bool, true, false, refl, sym, ap, ◌∙◌, subst, arith, length-append, map}
+use Rattle.std.proofs.Common.{◌≡◌, ◌≢◌, ℕ, zero, suc, ◌+◌, ◌*◌, ◌<◌, ◌≤◌, List, [], ◌∷◌, ◌++◌, length, Option, Some, None, Bool, true, false, refl, sym, ap, ◌∙◌, subst, arith, length-append, map}
 use Rattle.std.specs.Prelude.{not, ◌||◌, ◌&&◌, nat_eq}
 use Rattle.std.proofs.lemmas.Bool.{eq-eqb, eqb-true, eqb-false}
 use Rattle.isp_base.specs.Cross.{or_zero}
@@ -17,7 +17,7 @@ use Rattle.isp_meaning.specs.Rounds.{if_listed, members, rounds, round_of_one, a
 use Rattle.isp_meaning.specs.State.{State, tick}
 use Rattle.isp_lower.specs.Layout.{mask_register}
 use Rattle.isp_lower.specs.Runs.{Comes}
-use Rattle.isp_lower.specs.Setting.{Setting, IsSettled, gang_of, AreAt, At, Stands}
+use Rattle.isp_lower.specs.Setting.{Setting, IsSettled, gang_of, AreAt, At, Stands, Allowed}
 use Rattle.isp_lower.proofs.Lemmas.{are_front, are_back, put_same, put_other, comes_on, comes_none, step_go, at_to, spares_all, spares_less, jumped, jump_comes, jump_at, masked, masked_at, others_comes, set_at, set_comes, set_goes, variable_spares, written_stands}
 use Rattle.isp_masks.specs.LoopRuns.{BodyRuns}
 use Rattle.isp_masks.specs.Loops.{copy_mask}
@@ -131,8 +131,19 @@ lowest_lone (suc n) p lt = go (lowest_lone n p) (nat_eq n p) refl
     go ih false e =
         ap (λ o. or_this o (nat_eq n p) n) (ih (let ne : n ≢ p = eqb-false n p e in omega arith))
 
-lone_inside : (n p : ℕ) → p < n → (r : ℕ) → lone (Some p) r ≡ true → r < n
-lone_inside n p lt r h = omega (arith, eqb-true r p h)
+-- the lowest member is one
+lowest_in : (n : ℕ) (a : Mask) (p : ℕ) → lowest n a ≡ Some p → a p ≡ true
+lowest_in zero a p e = absurd (cc)
+lowest_in (suc n) a p e = go (lowest n a) (a n) refl refl (lowest_in n a p) e
+  where
+    go : (o : Option ℕ) (b : Bool) → lowest n a ≡ o → a n ≡ b → (lowest n a ≡ Some p → a p ≡ true) → or_this o b n ≡ Some p → a p ≡ true
+    go (Some q) b e1 e2 ih h = ih (e1 ∙ h)
+    go None true e1 e2 ih h = let same : n ≡ p = cc in subst (λ r. a r ≡ true) same e2
+    go None false e1 e2 ih h = absurd (cc)
+
+and_first : (b d : Bool) → (b && d) ≡ true → b ≡ true
+and_first true d e = refl
+and_first false d e = absurd (cc)
 
 module _ (w : Setting) (ready : IsSettled w) (spot : Spot) (three : AreThree spot) (i : ℕ) (all : Mask) (code : ℕ → List Instr) (body : Mask → State → Res) (runs : BodyRuns w (spot.slot + 1) code body) (top : ℕ) (has : AreAt w.routine.code top (one_code (w.layout.variable Uniform i) spot.slot top code)) where
   abbrev gang : ℕ
@@ -153,6 +164,7 @@ module _ (w : Setting) (ready : IsSettled w) (spot : Spot) (three : AreThree spo
     all_is : c.masks k ≡ all
     left_is : c.masks n ≡ left
     stands : Stands w s c
+    allowed : (p : ℕ) → left p ≡ true → Allowed w p
 
   -- a turn, and what follows it for those that are left
   turn_runs : (left : Mask) (first : IsFirst gang left) (ps : List ℕ) (s : State) (c : Conf) (q : ℕ) → BeforeTurn left s c → q ≤ 32 * s.work
@@ -162,7 +174,7 @@ module _ (w : Setting) (ready : IsSettled w) (spot : Spot) (three : AreThree spo
   turn_runs left first ps s c q b le again last =
       stmt_after w ready w.turns c c3 3 end spot q _ comes3 (variable_spares w ready Uniform i n c2 (One x)) (λ r lt ne. mask3 r lt) three
       (go_runs w ready w.turns c3 pc2 (body_spot (n + 1)) 1 (3 + q) (body one s3) _ end spot
-      (runs one s3 c3 pc1 (1 + (3 + q)) (are_front w.routine.code pc1 (code pc1) (instr.JumpIf jump.On (mask_register n) top ∷ []) rest) (record { at = at3; mask = mask1; some = any_lone gang p first.low; inside = lone_inside gang p first.low; stands = stands3; used = omega (arith, le); low = omega arith }))
+      (runs one s3 c3 pc1 (1 + (3 + q)) (are_front w.routine.code pc1 (code pc1) (instr.JumpIf jump.On (mask_register n) top ∷ []) rest) (record { at = at3; mask = mask1; some = any_lone gang p first.low; inside = λ r e. subst (Allowed w) (sym (eqb-true r p e)) (b.allowed p (lowest_in gang left p first.is)); stands = stands3; used = omega (arith, le); low = omega arith }))
       (λ s1 g u ct rt e ok. after s1 g ct rt ok))
     where
       p : ℕ
@@ -214,7 +226,7 @@ module _ (w : Setting) (ready : IsSettled w) (spot : Spot) (three : AreThree spo
       s3 = written Uniform i one (One p) (tick s)
 
       stands3 : Stands w s3 c3
-      stands3 = written_stands w ready Uniform i c2 one (One p) (tick s) (One x) b.stands (ap One (sym number))
+      stands3 = written_stands w ready Uniform i c2 one (One p) (tick s) (One x) b.stands (ap One (sym number)) tt
 
       at1 : At w c1 (top + 1)
       at1 = masked_at w ready c top (n + 1) (lone (lowest gang (c.masks n))) b.at
@@ -275,7 +287,7 @@ module _ (w : Setting) (ready : IsSettled w) (spot : Spot) (three : AreThree spo
 
           go : (z : Bool) → any gang others ≡ z → StmtRuns w w.turns c5 end spot (ok.steps + 1 + (3 + q)) (rounds body all (map (round_of_one i) ps) s1)
           go true e =
-              again s1 c5 (ok.steps + 1 + (3 + q)) e (record { at = jump_at w ready c4 pc2 jump.On (mask_register n) top true ok.at (jumps_is true e); all_is = all4; left_is = left4; stands = ok.stands }) (omega (arith, ok.bound))
+              again s1 c5 (ok.steps + 1 + (3 + q)) e (record { at = jump_at w ready c4 pc2 jump.On (mask_register n) top true ok.at (jumps_is true e); all_is = all4; left_is = left4; stands = ok.stands; allowed = λ r h. b.allowed r (and_first (left r) _ h) }) (omega (arith, ok.bound))
           go false e =
               subst (λ xs. StmtRuns w w.turns c5 end spot (ok.steps + 1 + (3 + q)) (rounds body all (map (round_of_one i) xs) s1)) (sym (last e))
               (plain_ok w ready c5 c5 0 end spot (ok.steps + 1 + (3 + q)) all s1 (comes_none w c5) (at_to w c5 (pc2 + 1) end (jump_at w ready c4 pc2 jump.On (mask_register n) top false ok.at (jumps_is false e)) ends) ok.stands (spares_all w n c5) (λ r lt. refl) three all4 (omega (arith, ok.bound)))
@@ -309,4 +321,4 @@ module _ (w : Setting) (ready : IsSettled w) where
       let ends : pc + 1 + length (one_code (w.layout.variable Uniform i) n (pc + 1) code) ≡ pc + length (active_code (w.layout.variable Uniform i) pc spot.on n code) = omega arith in
       stmt_after w ready w.turns c c1 1 _ spot q _ (step_go w c pc (copy_mask n spot.on) c1 ready b.at has.0 refl) (spares_all w n c) (λ r lt ne. let rn : r ≢ n = omega arith in put_other c.masks n (c.masks spot.on) r rn) three
       (subst (λ z. StmtRuns w w.turns c1 z spot (1 + q) (rounds body a (active_rounds (gang_of w) i a) (tick s))) ends
-      (turns_run w ready spot three i a code body runs (pc + 1) has.1 (members (gang_of w) a) a (tick s) c1 (1 + q) refl b.some (record { at = masked_at w ready c pc n (c.masks spot.on) b.at; all_is = put_other c.masks n (c.masks spot.on) spot.on kn ∙ b.mask; left_is = put_same c.masks n (c.masks spot.on) ∙ b.mask; stands = b.stands }) (omega (arith, b.used))))
+      (turns_run w ready spot three i a code body runs (pc + 1) has.1 (members (gang_of w) a) a (tick s) c1 (1 + q) refl b.some (record { at = masked_at w ready c pc n (c.masks spot.on) b.at; all_is = put_other c.masks n (c.masks spot.on) spot.on kn ∙ b.mask; left_is = put_same c.masks n (c.masks spot.on) ∙ b.mask; stands = b.stands; allowed = b.inside }) (omega (arith, b.used))))

@@ -1,5 +1,5 @@
 -- Agreement in both directions, from what the code of a body does and from there being one run of the machine alone.
-use Rattle.std.proofs.Common.{◌≡◌, ◌≢◌, ℕ, ◌+◌, ◌*◌, ◌<◌, ◌≤◌, List, [], ◌∷◌, length, Option, Some, None, true, refl, sym, ap, ◌∙◌, subst, arith, ⊎_elim}
+use Rattle.std.proofs.Common.{◌≡◌, ◌≢◌, ℕ, ◌+◌, ◌*◌, ◌<◌, ◌≤◌, List, [], ◌∷◌, length, Option, Some, None, true, false, refl, sym, ap, ◌∙◌, subst, arith, ⊎_elim}
 use Rattle.std.specs.Prelude.{slice_get, nat_lt}
 use Rattle.std.proofs.lemmas.Bool.{lt-ltb, ltb-true, cond-true, cases_lt}
 use Rattle.isp_base.specs.Arguments.{rows, rows_now, AreShort}
@@ -48,6 +48,7 @@ use Rattle.isp_masks.proofs.Calls.{calls_run}
 use Rattle.isp_masks.proofs.Endings.{longer, one_end, grows, rows_same}
 use Rattle.isp_masks.proofs.Stmts.{block_runs}
 use Rattle.isp_masks.proofs.Fitting.{block_parts}
+use Rattle.isp_masks.specs.Free.{BlockFree}
 
 all_some : (g : Gang) → any (gang_width g) (everyone (gang_width g)) ≡ true
 all_some W4 = refl
@@ -84,6 +85,7 @@ module _ (program : Program) (code : Listing) (all : AreCompiled program code) (
     opened = opened_there n;
     sizes = sizes_there n;
     arrays = arrays_fit program code f h g l n xs is.arrays sig short;
+    counter = λ i e. let no : Some i ≡ None = sym e ∙ is.run in absurd (cc);
     calls = calls_run program code all 255 f h g l (λ a. a) [] (handed 0 xs) (first_frame xs) n is.found (opened_there n) (sizes_there n) refl;
   }
 
@@ -147,13 +149,13 @@ module _ (program : Program) (code : Listing) (all : AreCompiled program code) (
       let n02 : ◌≢◌ {A = ℕ} 0 2 = omega arith in
       let n12 : ◌≢◌ {A = ℕ} 1 2 = omega arith in
       subst (λ u. StmtRuns (world n) n c (0 + length body) first_spot (1 + 0) (block (gang_width u) (frame_of h (handed 0 xs) (first_frame xs)) (calls_at program n 255) n h.body (everyone (gang_width u)) (begin u))) is.gang
-      (block_runs (world n) (settled n) h.body 0 z first_spot 0 (everyone (gang_width code.gang)) (begin code.gang) c (block_parts (world n) h.body 3 (record { fine = is.fine.body; rated = is.rated; named = is.named })) (are_front g.code 0 body (last ∷ []) is.code_is) is.names (record { low_on = omega arith; low_continued = omega arith; low_returned = omega arith; on_continued = n01; on_returned = n02; continued_returned = n12 })
+      (block_runs h.body (world n) (settled n) 0 z first_spot 0 (everyone (gang_width code.gang)) (begin code.gang) c (block_parts (world n) h.body 3 (λ i e. ((settled n).counter i e).constant) (record { fine = is.fine.body; rated = is.rated; named = is.named; free = subst (λ o. BlockFree o h.body) (sym is.run) is.free })) (are_front g.code 0 body (last ∷ []) is.code_is) is.names (record { low_on = omega arith; low_continued = omega arith; low_returned = omega arith; on_continued = n01; on_returned = n02; continued_returned = n12 })
       (record {
         at = record { home_is = refl; waiting_is = refl; pc_is = refl };
         mask = put_same (λ k. nobody) 0 (everyone (gang_width code.gang));
         some = all_some code.gang;
-        inside = all_inside (gang_width code.gang);
-        stands = subst (λ z. Stands (world n) (begin z) c) (sym is.gang) (begins program code f h g l n xs is.passed is.fine.params entry.one sig);
+        inside = λ p e. (all_inside (gang_width code.gang) p e, λ i. let no : true ≡ false = sym i ∙ is.outside in absurd (cc));
+        stands = subst (λ z. Stands (world n) (begin z) c) (sym is.gang) (begins program code f h g l n xs is.run is.passed is.fine.params entry.one sig);
         used = omega arith;
         low = omega arith;
       }))

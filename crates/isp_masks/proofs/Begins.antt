@@ -4,7 +4,7 @@ use Rattle.std.proofs.lemmas.Option.{same_Some}
 use Rattle.std.specs.Prelude.{slice_get, slice_index, not}
 use Rattle.std.proofs.lemmas.List.{get_or_past}
 use Rattle.isp_base.specs.Binding.{is_for, has_signature}
-use Rattle.isp_base.specs.Sets.{everyone}
+use Rattle.isp_base.specs.Sets.{everyone, nobody}
 use Rattle.isp_base.specs.Types.{gang_width}
 use Rattle.isp_base.specs.declared.signature.Argument.{Argument}
 use Rattle.isp_base.specs.declared.signature.Argument.TheVariants.{Value as AValue, Array as AnArray}
@@ -27,6 +27,7 @@ use Rattle.isp_masks.specs.Compiled.{entry_state, entry_setting, AreOne, IsOne}
 use Rattle.isp_masks.specs.Passing.{count_if, count_value, value_count, HasRate, PassedFirst, Passes}
 use Rattle.isp_masks.proofs.Passing.{same_true, ones_begin, each_begin}
 use Rattle.isp_masks.proofs.Unions.{both_so}
+use Rattle.isp_lower.proofs.Lemmas.{none_holds}
 
 pub not_so : (a : Bool) → not a ≡ true → a ≡ false
 not_so true e = absurd (cc)
@@ -121,7 +122,7 @@ value_handed (p ∷ ps) (w ∷ vs) (AnArray y ∷ xs) b (suc v) x are one e at h
     let h = array_for p ps y xs e in
     ap (slice_index (values xs)) (array_counts p w.holds (value_count Uniform (take v vs)) are.0 h.0) ∙ value_handed ps vs xs (suc b) v x are.1 one.1 h.1 at has
 
-module _ (program : Program) (code : Listing) (f : ℕ) (h : TFunction) (g : Routine) (l : Layout) (turns : ℕ) (xs : List Argument) (first : PassedFirst h l) (are : AreParams h.parameters (params_of h)) (one : AreOne (params_of h)) (sig : has_signature h.parameters xs ≡ true) where
+module _ (program : Program) (code : Listing) (f : ℕ) (h : TFunction) (g : Routine) (l : Layout) (turns : ℕ) (xs : List Argument) (none : l.run ≡ None) (first : PassedFirst h l) (are : AreParams h.parameters (params_of h)) (one : AreOne (params_of h)) (sig : has_signature h.parameters xs ≡ true) where
   passes : Passes (params_of h) (λ r. slice_index (values xs) r) (λ r p. 0) (handed 0 xs) (everyone (gang_width program.gang))
   passes = record {
     ones = λ v x e has. value_handed h.parameters (params_of h) xs 0 v x are one sig e has;
@@ -140,4 +141,5 @@ module _ (program : Program) (code : Listing) (f : ℕ) (h : TFunction) (g : Rou
     own_arrays = λ v. refl;
     arrays_are = refl;
     out_is = refl;
+    run = none_holds l.run 0 nobody ((first_conf code f g xs).scalars (l.place Uniform)) (entry_state program h xs).varying none;
   }

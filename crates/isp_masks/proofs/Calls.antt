@@ -42,7 +42,7 @@ use Rattle.isp_lower.specs.Calls.{Takes, given_in, given_back, CallRuns}
 use Rattle.isp_lower.specs.Layout.{Layout, class_at, register}
 use Rattle.isp_lower.specs.Setting.{Setting, IsSettled, IsCalling, CallsRun, Stands}
 use Rattle.isp_lower.specs.Steps.{ComesIn, FailedIn, StoppedIn}
-use Rattle.isp_lower.proofs.Lemmas.{are_front, are_back, put_same, comes_on, step_by, step_is, failed_after, stopped_after, place_named}
+use Rattle.isp_lower.proofs.Lemmas.{are_front, are_back, put_same, comes_on, step_by, step_is, failed_after, stopped_after, place_named, none_holds}
 use Rattle.isp_masks.specs.Compiled.{call_setting, IsFunctionCode, AreCompiled}
 use Rattle.isp_masks.specs.Spots.{first_spot}
 use Rattle.isp_masks.specs.Statements.{block_code, returned}
@@ -52,6 +52,7 @@ use Rattle.isp_masks.proofs.Fitting.{block_parts}
 use Rattle.isp_masks.proofs.Handing.{scalars_of, vectors_of, names_of, passes, opens}
 use Rattle.isp_masks.proofs.Passing.{ones_begin, each_begin}
 use Rattle.isp_masks.proofs.Stmts.{block_runs}
+use Rattle.isp_masks.specs.Free.{BlockFree}
 
 is_there : {A : Type 0} (xs : List A) (k : ℕ) → k < length xs → (x : A) × (slice_get xs k ≡ Some x)
 is_there [] k lt = absurd (omega arith)
@@ -157,6 +158,7 @@ module _ (program : Program) (code : Listing) (all : AreCompiled program code) w
         sizes = inner_sizes n;
         arrays = fit_there program code k.function h1 g1 l1 (names_of a c k.arguments) waiting1 ps frame turns n compiled.compiled.arrays open_there;
         calls = runs;
+        counter = λ i e. let no : Some i ≡ None = sym e ∙ compiled.compiled.run in absurd (cc);
       }
 
       -- ---- the body
@@ -181,6 +183,7 @@ module _ (program : Program) (code : Listing) (all : AreCompiled program code) w
             own_arrays = λ v. refl;
             arrays_are = ap (λ z. below z c.arrays) home_opened ∙ ap (below frame.opened) is.arrays_are;
             out_is = is.out_is;
+            run = none_holds l1.run (inner n).start (inner n).members (begun_conf.scalars (l1.place Uniform)) start.varying compiled.compiled.run;
           }
 
       -- the body leaves a step for the return
@@ -190,12 +193,12 @@ module _ (program : Program) (code : Listing) (all : AreCompiled program code) w
           let n02 : ◌≢◌ {A = ℕ} 0 2 = omega arith in
           let n12 : ◌≢◌ {A = ℕ} 1 2 = omega arith in
           subst (λ z. StmtRuns (inner n) turns begun_conf (0 + length body) first_spot (1 + (1 + q)) (block (gang_width z) (frame_of h1 ps frame) (calls_at program turns n) turns h1.body a start)) compiled.compiled.gang
-          (block_runs (inner n) settled h1.body 0 compiled.numbers first_spot (1 + q) a start begun_conf (block_parts (inner n) h1.body 3 (record { fine = compiled.compiled.fine.body; rated = compiled.compiled.rated; named = compiled.compiled.named })) (are_front g1.code 0 body (last ∷ []) compiled.compiled.code_is) compiled.compiled.names (record { low_on = omega arith; low_continued = omega arith; low_returned = omega arith; on_continued = n01; on_returned = n02; continued_returned = n12 })
+          (block_runs h1.body (inner n) settled 0 compiled.numbers first_spot (1 + q) a start begun_conf (block_parts (inner n) h1.body 3 (λ i e. (settled.counter i e).constant) (record { fine = compiled.compiled.fine.body; rated = compiled.compiled.rated; named = compiled.compiled.named; free = subst (λ o. BlockFree o h1.body) (sym compiled.compiled.run) compiled.compiled.free })) (are_front g1.code 0 body (last ∷ []) compiled.compiled.code_is) compiled.compiled.names (record { low_on = omega arith; low_continued = omega arith; low_returned = omega arith; on_continued = n01; on_returned = n02; continued_returned = n12 })
           (record {
             at = record { home_is = ap (λ z. new_home g1 k.function (names_of a c k.arguments) z c.home.opened) home_sizes ∙ ap (λ z. new_home g1 k.function (names_of a c k.arguments) frame.sizes z) home_opened; waiting_is = refl; pc_is = refl };
             mask = put_same (λ j. nobody) 0 (c.masks k.mask.number) ∙ is.mask;
             some = is.some;
-            inside = is.inside;
+            inside = λ p e. (is.inside p e, λ i. let no : true ≡ false = sym i ∙ compiled.compiled.outside in absurd (cc));
             stands = begins n;
             used = is.used;
             low = omega arith;

@@ -31,6 +31,8 @@ use Rattle.isp_lower.specs.Library.{rate_taken, rates_taken}
 use Rattle.isp_lower.specs.Rated.{Reaches, IsRated, PlaceRated, BaseRated, CallRated, ArgumentsRated, ArgumentRated, ValuesRated, RatedAt, SimpleRated, ItemsRated}
 use Rattle.isp_masks.specs.Compiled.{AreOne, IsOne}
 use Rattle.isp_masks.specs.Rated.{AllRated, AnswerRated, FirstRated, TestRated, StepRated, StmtRated, BlockRated, StmtsRated, RangesRated}
+use Rattle.isp_masks.specs.Free.{BlockFree}
+use Rattle.isp_masks.proofs.Free.{block_free, none_before}
 
 -- ---- no breach
 
@@ -204,7 +206,7 @@ module _ (fs : List TFunction) where
       stmt_rated v m w (t_for k n first e step i x sp) at clean =
           (first_rated first (λ g b. clean g (inl b)), test_rated e (λ g b. clean g (inr (inl b))), step_rated step (λ g b. clean g (inr (inr (inl b)))), stmt_rated (scope_after_first v m first) i (in_loop w) x at.5 (λ g b. clean g (inr (inr (inr b)))))
       stmt_rated v m w (t_foreach k n rs x sp) at clean =
-          (at.2, ranges_rated rs (λ g b. clean g (inr (inl b))), stmt_rated (scope_after v m rs) (number_after m rs) (in_foreach w) x at.4 (λ g b. clean g (inr (inr b))))
+          (at.2, ranges_rated rs (λ g b. clean g (inr (inl b))), stmt_rated (scope_after v m rs) (number_after m rs) (in_foreach w) x at.4 (λ g b. clean g (inr (inr b))), at.1)
       stmt_rated v m w (t_foreach_active k n i x sp) at clean = stmt_rated (declared m v) (suc m) (in_foreach_active w) x at.2 clean
       stmt_rated v m w (t_unmasked k b sp) at clean = block_rated v m (in_unmasked w) b at clean
       stmt_rated v m w (t_jump j k sp) at clean = tt
@@ -258,6 +260,7 @@ fine_of P xs k a all e = subst P (get_or_from_slice_get xs k a a e) (all k a (sl
 -- where it takes a value, and gives one where it gives a value.
 pub record FunctionFits (fs : List TFunction) (h : TFunction) : Type 0 where
   pub rated : BlockRated fs h.answer h.body
+  pub free : BlockFree None h.body
   pub passed : h.exported ≡ true → AreOne (params_of h)
   pub result : h.exported ≡ true → (t : Ty) → h.answer ≡ Some t → t.rate ≡ Uniform
 
@@ -267,6 +270,7 @@ function_fits p accepted f h e =
     let scoped : ScopedFunction h = fine_of ScopedFunction p.functions f h accepted.scoped.each e in
     let own : NoneOf (FunctionBreach p.functions h) = λ g b. accepted.sound g (breach_of (FunctionBreach p.functions) p.functions f h e g b) in record {
       rated = block_rated p.functions h.answer (λ x. nat_lt x (length h.params)) (length h.params) at_start h.body scoped.body (λ g b. own g (inr b));
+      free = block_free p.functions h.answer None (λ x. nat_lt x (length h.params)) (length h.params) at_start h.body (none_before (length h.params)) tt scoped.body (λ g b. own g (inr b));
       passed = λ out. passed_one h.params h.variables (λ g b. own g (inl (out, inl b)));
       result = λ out. result_one h.span h.answer (λ g b. own g (inl (out, inr b)));
     }

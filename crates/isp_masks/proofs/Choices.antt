@@ -19,7 +19,7 @@ use Rattle.isp_meaning.specs.Statements.{branches}
 use Rattle.isp_lower.specs.Code.{jump_off, guard}
 use Rattle.isp_lower.specs.Layout.{register, mask_register}
 use Rattle.isp_lower.specs.Runs.{Comes}
-use Rattle.isp_lower.specs.Setting.{Setting, IsSettled, gang_of, AreAt, At, Stands, Holds}
+use Rattle.isp_lower.specs.Setting.{Setting, IsSettled, gang_of, AreAt, At, Stands, Holds, Allowed}
 use Rattle.isp_lower.proofs.Lemmas.{are_front, are_back, put_same, put_other, comes_none, comes_on, step_go, at_to, spares_all, spares_less, spares_on, failed_after, stopped_after, failed_less, stopped_less, jumped, jump_comes, jump_at, masked, where_comes, others_comes, masked_at, any_nobody, where_inside, at_kept}
 use Rattle.isp_masks.specs.Loops.{copy_mask, jump_all}
 use Rattle.isp_masks.specs.Sets.{unite}
@@ -160,10 +160,10 @@ module _ (w : Setting) (ready : IsSettled w) where
       ends = omega (arith, length-append side (rest p2 ++ unite spot.on spot.slot spot.on ∷ []), length-append (rest p2) (unite spot.on spot.slot spot.on ∷ []))
 
       begin : StmtRuns w w.turns c2 p2 (under spot.slot spot) (2 + (2 + q)) (unless_empty (gang_of w) T s va)
-      begin = guard_runs w ready w.turns (pc + 1 + 1) (under spot.slot spot) (2 + (2 + q)) T s c2 first va (masked_at w ready c1 (pc + 1) spot.on f2 (masked_at w ready c pc spot.slot t1 at)) t_is2 (where_inside (gang_of w) a is_true v inside) st (omega (arith, le)) three_n at_side (λ c3 z en. fa T s c3 (pc + 1 + 1 + 1) z three_n at_side.1 en)
+      begin = guard_runs w ready w.turns (pc + 1 + 1) (under spot.slot spot) (2 + (2 + q)) T s c2 first va (masked_at w ready c1 (pc + 1) spot.on f2 (masked_at w ready c pc spot.slot t1 at)) t_is2 (where_inside (Allowed w) a is_true v inside) st (omega (arith, le)) three_n at_side (λ c3 z en. fa T s c3 (pc + 1 + 1 + 1) z three_n at_side.1 en)
 
       second : (s1 : State) (g b ct rt : Mask) → unless_empty (gang_of w) T s va ≡ Went s1 g b ct rt → StmtOk w c2 p2 (under spot.slot spot) (2 + (2 + q)) s1 g ct rt → StmtRuns w w.turns c2 end spot (2 + q) (go_on (unless_empty (gang_of w) F s1 vb) (λ s' g' b' c' r'. Went s' (union g g') (union b b') (union ct c') (union rt r')))
-      second s1 g b ct rt ev ok = join (unless_empty (gang_of w) F s1 vb) (fb F s1 ok.conf p2 (1 + (ok.steps + (2 + q))) three_k (are_front w.routine.code p2 (rest p2) (unite spot.on spot.slot spot.on ∷ []) at_rest) ok.at (ok.masks spot.on (omega (arith, three.low_on)) kn three.on_continued three.on_returned ∙ f_is) (below_without (gang_of w) a T inside) ok.stands (omega (arith, ok.bound)))
+      second s1 g b ct rt ev ok = join (unless_empty (gang_of w) F s1 vb) (fb F s1 ok.conf p2 (1 + (ok.steps + (2 + q))) three_k (are_front w.routine.code p2 (rest p2) (unite spot.on spot.slot spot.on ∷ []) at_rest) ok.at (ok.masks spot.on (omega (arith, three.low_on)) kn three.on_continued three.on_returned ∙ f_is) (below_without (Allowed w) a T inside) ok.stands (omega (arith, ok.bound)))
         where
           join : (u : Res) → StmtRuns w w.turns ok.conf p3 (under spot.on spot) (1 + (ok.steps + (2 + q))) u → StmtRuns w w.turns c2 end spot (2 + q) (go_on u (λ s' g' b' c' r'. Went s' (union g g') (union b b') (union ct c') (union rt r')))
           join (Went s' g' b' c' r') r = record {
@@ -221,7 +221,7 @@ module _ (w : Setting) (ready : IsSettled w) where
       kept = at_kept Varying a is_true m ∙ ap (kept_by is_true a) hold
 
       inside_t : Inside w T
-      inside_t = where_inside (gang_of w) a is_true v inside
+      inside_t = where_inside (Allowed w) a is_true v inside
 
       t1 : Mask
       t1 = where_true is_true (on (c.masks k) (c.vectors x))
@@ -381,7 +381,7 @@ module _ (w : Setting) (ready : IsSettled w) where
 
           -- nobody is left where all lanes passed the test
           skipped : all_of (gang_of w) T ≡ true → unless_empty (gang_of w) F s1 vb ≡ Went s1 nobody nobody nobody nobody
-          skipped h = ap (λ z. unless_empty (gang_of w) z s1 vb) (without_full (gang_of w) a T h inside) ∙ ap (λ z. if_so z (vb nobody) (went_all nobody) s1) (any_nobody (gang_of w))
+          skipped h = ap (λ z. unless_empty (gang_of w) z s1 vb) (without_full (gang_of w) a T h (λ p m. (inside p m).0)) ∙ ap (λ z. if_so z (vb nobody) (went_all nobody) s1) (any_nobody (gang_of w))
 
           all_passed : all_of (gang_of w) T ≡ true → StmtOk w c3 end spot (3 + q) s1 (union g nobody) (union ct nobody) (union rt nobody)
           all_passed h = record {
@@ -423,7 +423,7 @@ module _ (w : Setting) (ready : IsSettled w) where
 
           go : (f : Bool) → all_of (gang_of w) T ≡ f → StmtRuns w w.turns c3 end spot (3 + q) (go_on (unless_empty (gang_of w) F s1 vb) (λ s' g' b' c' r'. Went s' (union g g') (union b b') (union ct c') (union rt r')))
           go true h = subst (λ u. StmtRuns w w.turns c3 end spot (3 + q) (go_on u (λ s' g' b' c' r'. Went s' (union g g') (union b b') (union ct c') (union rt r')))) (sym (skipped h)) (all_passed h)
-          go false h = joined (unless_empty (gang_of w) F s1 vb) (fb F s1 c4 (p2 + 1) (1 + (e + (3 + q))) three_s at_rest (at4 false h) (ok.masks (n + 1) (omega arith) sk sco srr ∙ f_is) (below_without (gang_of w) a T inside) ok.stands (omega (arith, ok.bound)))
+          go false h = joined (unless_empty (gang_of w) F s1 vb) (fb F s1 c4 (p2 + 1) (1 + (e + (3 + q))) three_s at_rest (at4 false h) (ok.masks (n + 1) (omega arith) sk sco srr ∙ f_is) (below_without (Allowed w) a T inside) ok.stands (omega (arith, ok.bound)))
 
   -- ---- by a jump
 

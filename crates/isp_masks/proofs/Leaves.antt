@@ -1,6 +1,6 @@
 -- Those that leave: `break`, `continue` and `return`.
 use Rattle.std.proofs.Common.{◌≡◌, ◌≢◌, ℕ, ◌+◌, ◌*◌, ◌<◌, ◌≤◌, [], ◌∷◌, ◌++◌, length, Option, Some, None, refl, sym, ap, ◌∙◌, subst, arith, length-append}
-use Rattle.isp_base.specs.Maps.{over}
+use Rattle.isp_base.specs.Maps.{over, put}
 use Rattle.isp_base.specs.Sets.{Mask, nobody, union}
 use Rattle.isp_base.specs.declared.types.Rate.{Rate}
 use Rattle.isp_base.specs.declared.types.Rate.TheVariants.{Uniform, Varying}
@@ -18,7 +18,7 @@ use Rattle.isp_meaning.specs.Statements.{answered, answered_at, jumped}
 use Rattle.isp_lower.specs.Code.{copy, found, operand, operand_of, expr_places, expr_code}
 use Rattle.isp_lower.specs.Runs.{Comes}
 use Rattle.isp_lower.specs.Setting.{Setting, IsSettled, gang_of, calls_of, AreAt, At, Stands, Spares, at_rate, held_at, Holds}
-use Rattle.isp_lower.proofs.Lemmas.{are_front, are_back, put_same, put_other, comes_on, step_go, at_to, spares_all, spares_on, set_comes, set_goes, set_masks, few, masked, masked_at, set_at, copy_line, enters_part, operand_runs, expr_runs}
+use Rattle.isp_lower.proofs.Lemmas.{are_front, are_back, put_same, put_other, comes_on, step_go, at_to, spares_all, spares_on, set_comes, set_goes, set_masks, few, masked, masked_at, set_at, copy_line, enters_part, operand_runs, expr_runs, run_place}
 use Rattle.isp_masks.specs.Sets.{unite, clear_mask, leave_code, jump_code}
 use Rattle.isp_masks.specs.Statements.{answer_code}
 use Rattle.isp_masks.specs.Spots.{Spot}
@@ -113,6 +113,7 @@ module _ (w : Setting) (ready : IsSettled w) where
     own_arrays = st.own_arrays;
     arrays_are = st.arrays_are;
     out_is = st.out_is;
+    run = run_place w.layout.run w.start w.members (c.scalars (w.layout.place Uniform)) (put c.scalars (w.layout.result Uniform) (sole y) (w.layout.place Uniform)) s.varying (sym (put_other c.scalars (w.layout.result Uniform) (sole y) (w.layout.place Uniform) (ready.apart.place_result Uniform))) st.run;
   }
   result_stands Varying c a m s y st e =
       let x = over (spread nobody y) (c.vectors (w.layout.result Varying)) in
@@ -124,6 +125,7 @@ module _ (w : Setting) (ready : IsSettled w) where
         own_arrays = st.own_arrays;
         arrays_are = st.arrays_are;
         out_is = st.out_is;
+        run = st.run;
       }
 
   result_spares : (r : Rate) (n : ℕ) (c : Conf) (y : Payload) → Spares w n c (set_at r c (w.layout.result r) y)

@@ -58,3 +58,5 @@ mod FirstRows
 mod Standing
 mod Heads
 mod Lowers
+mod Free
+mod Bodies

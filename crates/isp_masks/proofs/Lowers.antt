@@ -123,7 +123,7 @@ module _ (program : Program) (code : Listing) (accepted : IsAccepted program) (h
       record {
         layout = layout_of (rates_in program.functions) low.rows;
         numbers = low.numbers;
-        compiled = made_compiled program code f h g low.rows low.numbers has.gang eh eg own (rated_at f h eh) (is_made program.functions code h g own low) low.scalars_first low.vectors_first;
+        compiled = made_compiled program code f h g low.rows low.numbers has.gang eh eg own (rated_at f h eh) (fits_at f h eh).free (is_made program.functions code h g own low) low.scalars_first low.vectors_first;
       }
 
   entry : (f : ℕ) (h : TFunction) (g : Routine) (eh : slice_get program.functions f ≡ Some h) (eg : slice_get code.routines f ≡ Some g) → h.exported ≡ true → IsEntry h g (function f h g eh eg).layout

@@ -1,6 +1,6 @@
 -- A routine that is made from a function is what is asked of code.
 use Rattle.std.proofs.Common.{◌≡◌, ℕ, suc, ◌+◌, ◌≤◌, List, [], ◌∷◌, length, Option, Some, None, refl, sym, ap, subst, arith}
-use Rattle.std.specs.Prelude.{slice_get, option_map, is_some}
+use Rattle.std.specs.Prelude.{slice_get, option_map}
 use Rattle.std.proofs.lemmas.Option.{slice_get_within}
 use Rattle.isp_base.specs.declared.types.Elem.{Elem}
 use Rattle.isp_base.specs.declared.types.Rate.{Rate}
@@ -30,6 +30,7 @@ use Rattle.isp_masks.proofs.ArraysThere.{BodyPresent, body_present}
 use Rattle.isp_masks.proofs.Passing.{passed_first}
 use Rattle.isp_masks.specs.Asks.{block_asks}
 use Rattle.isp_masks.specs.Rated.{BlockRated}
+use Rattle.isp_masks.specs.Free.{BlockFree}
 
 -- ---- lists
 
@@ -53,7 +54,7 @@ at_low xs n (y ∷ ys) le is =
 module _ (fs : List TFunction) (code : Listing) (h : TFunction) (g : Routine) (rows : Rows) (z : Numbers) (fine : FineFunction fs h) (made : IsMade fs code h g rows z) where
   present : BodyPresent h g (layout_of (rates_in fs) rows) 3
   present =
-      body_present fs h g (layout_of (rates_in fs) rows) fine made.arrays made.parameters 3 (all_grow (HasRow rows) (HasRegister g (layout_of (rates_in fs) rows)) AnyArray AnyArray AnyArray AnyArray (HasMask g) (HasMask g) (IsLoaded rows) (IsLoadedIn (layout_of (rates_in fs) rows)) (register_there g (rates_in fs) rows made.types) (λ b z. z) (λ b z. z) (λ n z. z) (λ v z. ap is_some z) (block_asks h.answer h.body 3) made.rows_are)
+      body_present fs h g (layout_of (rates_in fs) rows) fine made.arrays made.parameters 3 (all_grow (HasRow rows) (HasRegister g (layout_of (rates_in fs) rows)) AnyArray AnyArray AnyArray AnyArray (HasMask g) (HasMask g) (IsLoaded rows) (IsLoadedIn (layout_of (rates_in fs) rows)) (register_there g (rates_in fs) rows made.types) (λ b z. z) (λ b z. z) (λ n z. z) (λ v z. z) (block_asks h.answer h.body 3) made.rows_are)
 
   given_at : (r : Rate) (t : Elem) → HasRegister g (layout_of (rates_in fs) rows) r Result t → IsGiven g (value_returned r t) (Some (register r ((layout_of (rates_in fs) rows).result r)))
   given_at Uniform t is = is
@@ -91,8 +92,8 @@ module _ (fs : List TFunction) (code : Listing) (h : TFunction) (g : Routine) (r
   pub made_entry : result_of g.returns ≡ h.gives → IsUniform h → IsEntry h g (layout_of (rates_in fs) rows)
   made_entry result uniform = record { parameters = made.parameters; result = result; one = uniform.takes; gives = result_fits h.answer fine.gives made.result uniform.gives }
 
-pub made_compiled : (program : Program) (code : Listing) (f : ℕ) (h : TFunction) (g : Routine) (rows : Rows) (z : Numbers) → code.gang ≡ program.gang → slice_get program.functions f ≡ Some h → slice_get code.routines f ≡ Some g → FineFunction program.functions h → BlockRated program.functions h.answer h.body → IsMade program.functions code h g rows z → Begins (first_rows h.variables h.answer).scalars rows.scalars → Begins (first_rows h.variables h.answer).vectors rows.vectors → IsCompiled program code f h g (layout_of (rates_in program.functions) rows) z
-made_compiled program code f h g rows z gang source found fine plain made scalars vectors = record {
+pub made_compiled : (program : Program) (code : Listing) (f : ℕ) (h : TFunction) (g : Routine) (rows : Rows) (z : Numbers) → code.gang ≡ program.gang → slice_get program.functions f ≡ Some h → slice_get code.routines f ≡ Some g → FineFunction program.functions h → BlockRated program.functions h.answer h.body → BlockFree None h.body → IsMade program.functions code h g rows z → Begins (first_rows h.variables h.answer).scalars rows.scalars → Begins (first_rows h.variables h.answer).vectors rows.vectors → IsCompiled program code f h g (layout_of (rates_in program.functions) rows) z
+made_compiled program code f h g rows z gang source found fine plain free made scalars vectors = record {
   gang = gang;
   source = source;
   found = found;
@@ -103,6 +104,9 @@ made_compiled program code f h g rows z gang source found fine plain made scalar
   code_is = subst (λ c. AreAt c 0 (function_code (layout_of (rates_in program.functions) rows) h.answer h.body 0 z)) (sym made.code_is) (at_whole (function_code (layout_of (rates_in program.functions) rows) h.answer h.body 0 z));
   names = made.names;
   rated = plain;
+  free = free;
+  run = refl;
+  outside = refl;
   named = (present program.functions code h g rows z fine made).named;
   arrays = made.arrays;
 }

@@ -1,7 +1,7 @@
 -- What the laws use of a statement that fits, part by part.
 use Rattle.std.proofs.Common.{◌≡◌, ◌≤◌, ℕ, ◌+◌, List, [], ◌∷◌, length, Option, Some, None}
 use Rattle.std.specs.List.{count_by}
-use Rattle.std.specs.Prelude.{◌==◌}
+use Rattle.std.specs.Prelude.{◌==◌, slice_get}
 use Rattle.isp_base.specs.Prints.{percent}
 use Rattle.isp_base.specs.declared.types.Elem.TheVariants.{I32, I64}
 use Rattle.isp_base.specs.declared.types.Rate.TheVariants.{Uniform, Varying}
@@ -13,6 +13,11 @@ use Rattle.isp_lower.proofs.Lemmas.{OperandFits, ExprParts, ValuesParts, SimpleP
 use Rattle.isp_masks.specs.Asks.{part_slot}
 use Rattle.isp_masks.specs.Prints.{own_rates}
 use Rattle.isp_masks.specs.Ranges.{wide, narrow, lane, places_slot, runs_slot}
+use Rattle.isp_masks.proofs.Bodies.{with_layout}
+use Rattle.isp_masks.specs.Statements.{body_layout}
+use Rattle.isp_lower.specs.Layout.{outside}
+use Rattle.isp_base.specs.Sets.{Mask}
+use Rattle.isp_typed.specs.Fine.{foreach_index}
 
 module _ (w : Setting) where
   -- what is returned is one of what the function gives
@@ -58,35 +63,42 @@ module _ (w : Setting) where
   RangesTyped [] m = Unit {0}
   RangesTyped (r ∷ rs) m = RangeTyped m r.index × RangesTyped rs (m + 1 + 1)
 
-  -- there are three ranges at most
+  -- indices are constants
+  abbrev pub RangesConstant : List TRange → Type 0
+  RangesConstant [] = Unit {0}
+  RangesConstant (r ∷ rs) = (slice_get w.function.variables r.index ≡ Some foreach_index) × RangesConstant rs
+
+  -- there are one to three ranges
   pub record ForeachFits (rs : List TRange) (n : ℕ) : Type 0 where
     pub few : length rs ≤ 3
     pub measures : MeasuresTyped n
     pub bounds : BoundsParts rs (n + 1 + 1)
     pub places : RangesTyped rs (places_slot n rs)
+    pub some : 1 ≤ length rs
+    pub constants : RangesConstant rs
 
-  abbrev mutual
-    pub StmtParts : TStmt → ℕ → Type 0
-    StmtParts (t_block b) n = BlockParts b n
-    StmtParts (t_declare xs sp) n = ItemsParts w n xs
-    StmtParts (t_simple x sp) n = SimpleParts w x n
-    StmtParts (t_if f g e x sp) n = ExprParts w e n × StmtParts x (part_slot f (type_of e).rate n)
-    StmtParts (t_if_else f g e x y sp) n = ExprParts w e n × StmtParts x (part_slot f (type_of e).rate n) × StmtParts y (part_slot f (type_of e).rate n)
-    StmtParts (t_while f g e x sp) n = ExprParts w e (n + 3) × StmtParts x (n + 3)
-    StmtParts (t_do f g x e sp) n = ExprParts w e (n + 3) × StmtParts x (n + 3)
-    StmtParts (t_for f g first e step i x sp) n = FirstFits first n × TestFits e (n + 3) × StepFits step (n + 3) × StmtParts x (n + 3)
-    StmtParts (t_foreach k g rs x sp) n = ForeachFits rs n × StmtParts x (runs_slot n rs + 3)
-    StmtParts (t_foreach_active k g i x sp) n = StmtParts x (n + 1 + 3)
-    StmtParts (t_unmasked k b sp) n = BlockParts b (n + 3)
-    StmtParts (t_jump j k sp) n = Unit {0}
-    StmtParts (t_return k None sp) n = Unit {0}
-    StmtParts (t_return k (Some x) sp) n = AnswerFits w.frame.answer x n
-    StmtParts (t_print k text xs sp) n = (count_by (λ c. c == percent) text ≡ length xs) × ValuesParts w (own_rates xs) (t_exprs xs) n
-    StmtParts (t_assert x c sp) n = ExprParts w x n
+abbrev mutual
+  pub StmtParts : Setting → TStmt → ℕ → Type 0
+  StmtParts w (t_block b) n = BlockParts w b n
+  StmtParts w (t_declare xs sp) n = ItemsParts w n xs
+  StmtParts w (t_simple x sp) n = SimpleParts w x n
+  StmtParts w (t_if f g e x sp) n = ExprParts w e n × StmtParts w x (part_slot f (type_of e).rate n)
+  StmtParts w (t_if_else f g e x y sp) n = ExprParts w e n × StmtParts w x (part_slot f (type_of e).rate n) × StmtParts w y (part_slot f (type_of e).rate n)
+  StmtParts w (t_while f g e x sp) n = ExprParts w e (n + 3) × StmtParts w x (n + 3)
+  StmtParts w (t_do f g x e sp) n = ExprParts w e (n + 3) × StmtParts w x (n + 3)
+  StmtParts w (t_for f g first e step i x sp) n = FirstFits w first n × TestFits w e (n + 3) × StepFits w step (n + 3) × StmtParts w x (n + 3)
+  StmtParts w (t_foreach k g rs x sp) n = ForeachFits w rs n × (w.layout.run ≡ None) × ((m : Mask) (b : ℕ) → StmtParts (with_layout w (body_layout w.layout rs) m b) x (runs_slot n rs + 3))
+  StmtParts w (t_foreach_active k g i x sp) n = StmtParts w x (n + 1 + 3)
+  StmtParts w (t_unmasked k b sp) n = BlockParts (with_layout w (outside w.layout) w.members w.start) b (n + 3)
+  StmtParts w (t_jump j k sp) n = Unit {0}
+  StmtParts w (t_return k None sp) n = Unit {0}
+  StmtParts w (t_return k (Some x) sp) n = AnswerFits w w.frame.answer x n
+  StmtParts w (t_print k text xs sp) n = (count_by (λ c. c == percent) text ≡ length xs) × ValuesParts w (own_rates xs) (t_exprs xs) n
+  StmtParts w (t_assert x c sp) n = ExprParts w x n
 
-    pub BlockParts : TBlock → ℕ → Type 0
-    BlockParts (t_braces xs sp) n = StmtsParts xs n
+  pub BlockParts : Setting → TBlock → ℕ → Type 0
+  BlockParts w (t_braces xs sp) n = StmtsParts w xs n
 
-    pub StmtsParts : TStmts → ℕ → Type 0
-    StmtsParts t_no_stmts n = Unit {0}
-    StmtsParts (t_stmt_then x xs) n = StmtParts x n × StmtsParts xs n
+  pub StmtsParts : Setting → TStmts → ℕ → Type 0
+  StmtsParts w t_no_stmts n = Unit {0}
+  StmtsParts w (t_stmt_then x xs) n = StmtParts w x n × StmtsParts w xs n

@@ -201,7 +201,7 @@ module _ (w : Setting) (ready : IsSettled w) where
           let c2 = wrote ok.conf (length cb) (parts_text (parts text) vs) in
           let come = parts_come (parts text) xs ms (pc + length ca) z.text spot.on n a ok.conf ok.at (are_back w.routine.code pc ca cb has) texts (ok.masks spot.on b.low ∙ b.mask) ok.holds fit in
           plain_ok w ready c c2 (ok.steps + length cb) (pc + length (ca ++ cb)) spot q a (record s1 { out = s1.out ++ print_text text vs }) (comes_on w c ok.conf c2 ok.steps (length cb) ok.comes come) (record { home_is = ok.at.home_is; waiting_is = ok.at.waiting_is; pc_is = ap (λ i. i + length cb) ok.at.pc_is ∙ to })
-          (record { uniforms = ok.stands.uniforms; varying = ok.stands.varying; result = ok.stands.result; results = ok.stands.results; own_arrays = ok.stands.own_arrays; arrays_are = ok.stands.arrays_are; out_is = ap (λ o. o ++ parts_text (parts text) vs) ok.stands.out_is ∙ ap (λ u. s1.out ++ u) (text_is text vs) })
+          (record { uniforms = ok.stands.uniforms; varying = ok.stands.varying; result = ok.stands.result; results = ok.stands.results; own_arrays = ok.stands.own_arrays; arrays_are = ok.stands.arrays_are; out_is = ap (λ o. o ++ parts_text (parts text) vs) ok.stands.out_is ∙ ap (λ u. s1.out ++ u) (text_is text vs); run = ok.stands.run })
           ok.spares ok.masks three b.mask (omega (arith, ok.bound, short))
       go (Fails t s1) r = failed_less w ready c 32 q t s1 r
       go (Stops s1) r = stopped_less w ready w.turns c 32 q s1 r

@@ -1,31 +1,32 @@
 -- What the ranges of a `foreach` are written in: a range with the jumps out of it and back to its test, and what is there for it.
 use Rattle.std.proofs.Common.{◌≡◌, ℕ, ◌+◌, ◌<◌, ◌≤◌, List, [], ◌∷◌, ◌++◌, length, drop, get_or, refl, sym, ap, ◌∙◌, subst, suc, arith, length-append}
 use Rattle.std.specs.Prelude.{slice_set}
-use Rattle.std.proofs.lemmas.List.{drop_more}
+use Rattle.std.proofs.lemmas.List.{drop_more, map-append}
 use Rattle.isp_base.specs.declared.operators.Compare.TheVariants.{Less}
-use Rattle.isp_base.specs.declared.types.Rate.TheVariants.{Uniform}
+use Rattle.isp_base.specs.declared.types.Rate.TheVariants.{Uniform, Varying}
 use Rattle.isp_base.specs.declared.types.Span.{Span}
 use Rattle.isp_code.specs.declared.instr.Instr.{Instr}
 use Rattle.isp_code.specs.declared.instr.Instr.TheVariants as instr
 use Rattle.isp_code.specs.declared.instr.JumpTest.TheVariants as jump
 use Rattle.isp_typed.specs.Nodes.{range_nodes}
-use Rattle.isp_typed.specs.Typed.{TRange}
+use Rattle.isp_typed.specs.Typed.{TRange, TStmt}
 use Rattle.isp_typed.specs.Views.{ranges_of}
 use Rattle.isp_typed.specs.declared.stmt.TypedRange.{TypedRange}
 use Rattle.isp_tree.specs.Nodes.{nodes_of_all}
-use Rattle.isp_lower.specs.Code.{compare, guard, jump_on, splat, two}
-use Rattle.isp_lower.specs.Emitted.{Appends, Present}
+use Rattle.isp_lower.specs.Code.{compare, convert, guard, jump_on, splat, two}
+use Rattle.isp_lower.specs.Emitted.{Appends, Present, layout}
 use Rattle.isp_lower.specs.Layout.{Layout}
 use Rattle.isp_lower.specs.declared.types.Body.{Body}
 use Rattle.isp_lower.specs.declared.types.Scope.{Scope}
 use Rattle.isp_lower.proofs.Lemmas.{appends_then}
-use Rattle.isp_masks.specs.Ranges.{bounds_code, foreach_code, measures_code, places_slot, ranges_code, ranges_places, runs_slot, sweep_code, test, wide}
+use Rattle.isp_masks.specs.Ranges.{bounds_code, foreach_code, measures_code, narrow, outer_index, places_slot, ranges_code, ranges_places, runs_slot, sweep_code, test, wide}
 use Rattle.isp_masks.specs.Spots.{Numbers, next_of, past}
-use Rattle.isp_masks.specs.Written.{Piece, Writes, index_codes, last_asks, outer_turn_code, sweep_asks, sweeps_asks}
+use Rattle.isp_masks.specs.Statements.{body_code, body_layout, stmt_places, stmt_texts}
+use Rattle.isp_masks.specs.Written.{Piece, Writes, index_codes, inner_sweep, last_asks, outer_turn_at, outer_turn_code, ranges_at, sweep_asks, sweeps_asks}
 use Rattle.isp_masks.specs.declared.ranges.OuterIndex.{OuterIndex}
 use Rattle.isp_masks.specs.declared.ranges.Sweep.{Sweep}
 use Rattle.isp_masks.proofs.Lists.{same_numbers}
-use Rattle.isp_masks.proofs.Writing.{landed_over, writes_back, writes_past}
+use Rattle.isp_masks.proofs.Writing.{landed_over, writes_back, writes_behind, writes_past}
 
 -- the first instruction, the test, the jump past what is inside, and behind that the jump back to the test
 pub sweep_written : (a s b c d f e : Body) (first tested x add : Instr) (go : ℕ → Instr) (y : Piece) (top at : ℕ)
@@ -82,6 +83,26 @@ ranges_outer l n h body [] set e m pc many = absurd (omega (arith, many))
 ranges_outer l n h body (r ∷ []) set e m pc many = absurd (omega (arith, many))
 ranges_outer l n h body (r ∷ q ∷ rs) set e m pc many = refl
 
+-- a turn of a range that has others inside
+pub outer_written : (on : Scope) (a b c : Body) (r : TRange) (rs : List TRange) (x : TStmt) (set : List OuterIndex) (it inner : Sweep) (one : OuterIndex)
+    → 0 < length rs → inner ≡ inner_sweep it → one.index.number ≡ (layout on).variable Varying r.index → one.value.number ≡ narrow (layout on) (it.place.number + 1)
+    → Appends a b (λ pc p. convert Uniform (narrow (layout on) (it.place.number + 1)) (wide (layout on) it.place.number) 0 ∷ []) []
+    → Writes b c (ranges_at on rs x (set ++ one ∷ []) inner) → Writes a c (outer_turn_at on (r ∷ rs) x set it)
+outer_written on a b c r [] x set it inner one some same index value first rest = absurd (omega (arith, some))
+outer_written on a b c r (q ∷ rs) x set it inner one some same index value first rest =
+    let l = layout on in
+    let h = it.masks.number in
+    let m = it.place.number in
+    let step = convert Uniform (narrow l (m + 1)) (wide l m) 0 in
+    let more : index_codes h (set ++ one ∷ []) ≡ index_codes h set ++ outer_index l r.index (m + 1) h ∷ [] =
+    map-append (λ (y : OuterIndex). splat y.index.number y.value.number h) set (one ∷ [])
+    ∙ ap (λ i. index_codes h set ++ splat i one.value.number h ∷ []) index
+    ∙ ap (λ v. index_codes h set ++ splat (l.variable Varying r.index) v h ∷ []) value in
+    let told = subst (λ (s : Sweep). Writes b c (ranges_at on (q ∷ rs) x (set ++ one ∷ []) s)) same rest in
+    let body = λ (z : Numbers). body_code (body_layout l (q ∷ rs)) on.answer x h z in
+    subst (λ is. Writes a c (record { code = λ pc z. step ∷ ranges_code l it.measures.number h (body z) (q ∷ rs) is (it.bounds.number + 1 + 1) (m + 1 + 1) (pc + 1); places = stmt_places (body_layout l (q ∷ rs)) x; texts = stmt_texts x })) more
+    (writes_behind a b c step (ranges_at on (q ∷ rs) x (set ++ one ∷ []) (inner_sweep it)) first told)
+
 -- the index of a range outside, and those that are left
 pub indices_more : (h : ℕ) (a b c : Body) (all : List OuterIndex) (i : ℕ) (d : OuterIndex) → i < length all
     → Appends a b (λ pc p. splat (get_or all i d).index.number (get_or all i d).value.number h ∷ []) [] → Appends b c (λ pc p. index_codes h (drop (i + 1) all)) []
@@ -96,10 +117,10 @@ indices_more h a b c all i d lt one left =
 pub sweep_there : (on : Scope) (it : Sweep) (rs : List TRange) → 0 < length rs → Present on (sweeps_asks rs it) → Present on (sweep_asks it)
 sweep_there on it [] some p = absurd (omega (arith, some))
 sweep_there on it (r ∷ rs) some p =
-    ((p.1.0.0.0, (p.1.0.1.0, p.1.0.1.1.0.0)), ((p.1.1.0.0.1.0, (p.1.1.0.0.1.1.0, (p.1.1.0.0.1.1.1.0, p.1.1.0.0.1.1.1.1.1))), (p.0.1.1.0, (p.0.1.1.1.0, p.0.1.1.1.1.0))))
+    ((p.1.0.0.0, (p.1.0.1.0, p.1.0.1.1.0.0)), ((p.1.1.0.0.1.0, (p.1.1.0.0.1.1.0, (p.1.1.0.0.1.1.1.0, p.1.1.0.0.1.1.1.1.1.0))), (p.0.1.1.0, (p.0.1.1.1.0, p.0.1.1.1.1.0))))
 
 pub last_there : (on : Scope) (it : Sweep) (r : TRange) (rs : List TRange) → Present on (sweeps_asks (r ∷ rs) it) → Present on (last_asks r.index it)
-last_there on it r rs p = (p.1.1.0.0.0, (p.1.1.0.0.1.1.1.1.0, (p.0.1.0, p.1.1.1.0)))
+last_there on it r rs p = (p.1.1.0.0.0, (p.1.1.0.0.1.1.1.1.0, (p.0.1.0, (p.1.1.0.0.1.1.1.1.1.1, p.1.1.1.0))))
 
 -- ---- numbers
 

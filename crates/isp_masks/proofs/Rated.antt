@@ -61,7 +61,7 @@ module _ (fs : List TFunction) (vars : List Variable) where
       stmt_tree (t_while k n e x sp) f r = ((expr_tree fs vars e f.1.0 r.0, f.1.1), stmt_tree x f.2 r.1)
       stmt_tree (t_do k n x e sp) f r = ((expr_tree fs vars e f.2.0 r.1, f.2.1), stmt_tree x f.1 r.0)
       stmt_tree (t_for k n first e step i x sp) f r = (first_tree first f.2 r.0, test_tree e f.3 r.1, step_tree step f.4 r.2, stmt_tree x f.5 r.3)
-      stmt_tree (t_foreach k n rs x sp) f r = (r.0, ranges_tree rs f.1 r.1, stmt_tree x f.2 r.2)
+      stmt_tree (t_foreach k n rs x sp) f r = (r.0, ranges_tree rs f.1 r.1, stmt_tree x f.2 r.2, r.3)
       stmt_tree (t_foreach_active k n i x sp) f r = stmt_tree x f.2 r
       stmt_tree (t_unmasked k b sp) f r = block_tree b f r
       stmt_tree (t_jump j k sp) f r = tt

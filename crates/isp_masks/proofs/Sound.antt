@@ -15,24 +15,29 @@ use Rattle.isp_tree.specs.declared.stmt.Jump.{Jump}
 use Rattle.isp_tree.specs.declared.stmt.Jump.TheVariants.{Break, Continue}
 use Rattle.isp_typed.specs.Typed.{TExpr, type_of, TSimple, TFirst, t_first_declare, t_first_simple, TStmt, t_block, t_declare, t_simple, t_if, t_if_else, t_while, t_do, t_for, t_foreach, t_foreach_active, t_unmasked, t_jump, t_return, t_print, t_assert, TBlock, t_braces, TStmts, t_no_stmts, t_stmt_then, TFunction}
 use Rattle.isp_lower.specs.Code.{jump_off, guard, found, expr_places, expr_code}
-use Rattle.isp_lower.specs.Layout.{Layout, class_at, register}
+use Rattle.isp_lower.specs.Layout.{Layout, class_at, register, outside}
 use Rattle.isp_masks.specs.Exits.{exits_of, all_go_on}
 use Rattle.isp_masks.specs.Fors.{first_code, step_code, first_places, step_places}
 use Rattle.isp_masks.specs.Loops.{endless_code, for_code, is_wide, jump_all}
 use Rattle.isp_masks.specs.Ranges.{ranges_places, runs_slot}
 use Rattle.isp_masks.specs.Sets.{unite, leave_code, jump_code}
 use Rattle.isp_masks.specs.Spots.{Numbers, Spot, body_spot, first_spot, past, under, widely}
-use Rattle.isp_masks.specs.Statements.{behind, rest_code, parted_code, wide_code, if_code, if_else_code, answer_code, returned, stmt_places, block_places, stmts_places, stmt_texts, block_texts, stmts_texts, stmt_code, block_code, stmts_code, function_code}
+use Rattle.isp_masks.specs.Statements.{behind, rest_code, parted_code, wide_code, if_code, if_else_code, answer_code, returned, stmt_places, block_places, stmts_places, stmt_texts, block_texts, stmts_texts, stmt_code, block_code, stmts_code, function_code, body_layout}
 use Rattle.isp_lower.specs.Code.{copy, operand, operand_of}
 use Rattle.isp_masks.specs.Asks.{part_asks, first_asks, step_asks, answer_asks, block_asks, stmt_asks, stmts_asks}
-use Rattle.isp_lower.specs.Sound.{AreSound, Links, PartSound, IsRegister, Granted, ExprPresent}
-use Rattle.isp_lower.proofs.Lemmas.{found_there, operand_there, sound_both, copy_sound, here_then, value_sound, part_sound, simple_sound, items_sound, ExprTree}
+use Rattle.isp_lower.specs.Sound.{AreSound, Links, PartSound, IsRegister, Granted, ExprPresent, HasRegister, HasArray, HasLocal, HasMask}
+use Rattle.isp_lower.proofs.Lemmas.{found_there, operand_there, sound_both, copy_sound, here_then, value_sound, part_sound, simple_sound, items_sound, ExprTree, all_grow}
 use Rattle.isp_masks.proofs.Combine.{part_spot}
 use Rattle.isp_masks.proofs.SoundRanges.{foreach_sound}
 use Rattle.isp_masks.proofs.SoundLoops.{HereSound, active_sound, unmasked_sound, guard_sound, two_sound, while_sound, for_sound, endless_sound, do_sound}
 use Rattle.isp_masks.proofs.SoundAsserts.{assert_sound}
 use Rattle.isp_masks.proofs.SoundPrints.{print_sound}
 use Rattle.isp_masks.proofs.Trees.{AnswerTree, BlockTree, FirstTree, StepTree, StmtTree, StmtsTree}
+use Rattle.isp_masks.proofs.Bodies.{body_as, run_as}
+use Rattle.isp_lower.specs.Rows.{Name, Variable, Result, Spare, Place, Fresh}
+use Rattle.isp_lower.specs.Tables.{IsLoadedIn}
+use Rattle.isp_lower.specs.Asks.{Ask}
+use Rattle.isp_base.specs.declared.types.Elem.{Elem}
 
 module _ (code : Listing) (h : Routine) where
   leave_sound : (m k : ℕ) → m < h.masks → k < h.masks → AreSound code h (leave_code m k)
@@ -140,12 +145,28 @@ module _ (code : Listing) (h : Routine) where
     answer_sound (Some t) x pc p k n is f lk pl lt =
         here_then code h pc (operand_of l t.rate x k n (expr_code l x pc p k n)) (copy t.rate (l.result t.rate) (operand l t.rate x n) k) (part_sound fs code h l links t.rate t.elem x pc p k n is.0 is.1 f.1 lk pl) (copy_sound code h t.rate t.elem (l.result t.rate) (operand l t.rate x n) k f.0 (operand_there fs h l t.rate t.elem x n is.0 is.1 f.1) lk) lt
 
+  -- which variable counts the lanes of a run is no matter to what is there
+  links_same : (fs : List TFunction) (l : Layout) (o : Option ℕ) (d : Bool) → Links fs code l → Links fs code (run_as l o d)
+  links_same fs l o d links = record { rates = links.rates; headers = links.headers }
+
+  register_same : (l : Layout) (o : Option ℕ) (d : Bool) (r : Rate) (x : Name) (t : Elem) → HasRegister h l r x t → HasRegister h (run_as l o d) r x t
+  register_same l o d r (Variable v) t f = f
+  register_same l o d r Result t f = f
+  register_same l o d r (Spare u j) t f = f
+  register_same l o d r Place t f = f
+  register_same l o d r (Fresh j) t f = f
+
+  granted_same : (l : Layout) (o : Option ℕ) (d : Bool) (a : Ask) → Granted h l a → Granted h (run_as l o d) a
+  granted_same l o d a f =
+      all_grow (HasRegister h l) (HasRegister h (run_as l o d)) (HasArray h l) (HasArray h (run_as l o d)) (HasLocal h l) (HasLocal h (run_as l o d)) (HasMask h) (HasMask h) (IsLoadedIn l) (IsLoadedIn l) (λ r x t. register_same l o d r x t) (λ y f. f) (λ y f. f) (λ k f. f) (λ v f. f) a f
+
+  module _ (fs : List TFunction) (answer : Option Ty) where
     mutual
-      pub stmt_sound : (x : TStmt) (pc : ℕ) (z : Numbers) (spot : Spot) → StmtTree fs answer x → Granted h l (stmt_asks answer x spot.slot) → HasMasks spot → z.place + length (stmt_places l x) ≤ length code.places → z.text + length (stmt_texts x) ≤ length code.texts → pc + length (stmt_code l answer x pc z spot) < length h.code → AreSound code h (stmt_code l answer x pc z spot)
-      stmt_sound (t_block b) pc z spot is f lm pl tx lt = block_sound b pc z spot is f lm pl tx lt
-      stmt_sound (t_declare xs sp) pc z spot is f lm pl tx lt = items_sound fs code h l links xs spot.slot is f pc z.place spot.on lm.0 pl lt
-      stmt_sound (t_simple x sp) pc z spot is f lm pl tx lt = simple_sound fs code h l links x spot.slot is f pc z.place spot.on lm.0 pl lt
-      stmt_sound (t_if b g e x sp) pc z spot is f lm pl tx lt =
+      pub stmt_sound : (x : TStmt) (l : Layout) (links : Links fs code l) (pc : ℕ) (z : Numbers) (spot : Spot) → StmtTree fs answer x → Granted h l (stmt_asks answer x spot.slot) → HasMasks spot → z.place + length (stmt_places l x) ≤ length code.places → z.text + length (stmt_texts x) ≤ length code.texts → pc + length (stmt_code l answer x pc z spot) < length h.code → AreSound code h (stmt_code l answer x pc z spot)
+      stmt_sound (t_block b) l links pc z spot is f lm pl tx lt = block_sound b l links pc z spot is f lm pl tx lt
+      stmt_sound (t_declare xs sp) l links pc z spot is f lm pl tx lt = items_sound fs code h l links xs spot.slot is f pc z.place spot.on lm.0 pl lt
+      stmt_sound (t_simple x sp) l links pc z spot is f lm pl tx lt = simple_sound fs code h l links x spot.slot is f pc z.place spot.on lm.0 pl lt
+      stmt_sound (t_if b g e x sp) l links pc z spot is f lm pl tx lt =
           let n = spot.slot in
           let ce = expr_code l e pc z.place spot.on n in
           let pe = expr_places l e in
@@ -154,8 +175,8 @@ module _ (code : Listing) (h : Routine) where
           let rest = if_code b (type_of e).rate (found l e n) (pc + length ce) spot part in
           let e1 = length-append ce rest in
           let e2 = length-append pe (stmt_places l x) in
-          sound_both code h ce rest (value_sound fs code h l links e n is.0 f.0 pc z.place spot.on lm.0 (omega (arith, e2, pl)) (omega (arith, e1, lt))) (if_sound l b e spot part lm.0 (test_there b e n is.0 is.2 f.0 f.1.0) (λ pc2 m low lt2. stmt_sound x pc2 z1 (part_spot b (type_of e).rate m spot) is.1 f.1.1 (low, lm.1, lm.2) (omega (arith, e2, pl)) tx lt2) (pc + length ce) (omega (arith, e1, lt)))
-      stmt_sound (t_if_else b g e x y sp) pc z spot is f lm pl tx lt =
+          sound_both code h ce rest (value_sound fs code h l links e n is.0 f.0 pc z.place spot.on lm.0 (omega (arith, e2, pl)) (omega (arith, e1, lt))) (if_sound l b e spot part lm.0 (test_there fs l links answer b e n is.0 is.2 f.0 f.1.0) (λ pc2 m low lt2. stmt_sound x l links pc2 z1 (part_spot b (type_of e).rate m spot) is.1 f.1.1 (low, lm.1, lm.2) (omega (arith, e2, pl)) tx lt2) (pc + length ce) (omega (arith, e1, lt)))
+      stmt_sound (t_if_else b g e x y sp) l links pc z spot is f lm pl tx lt =
           let n = spot.slot in
           let ce = expr_code l e pc z.place spot.on n in
           let pe = expr_places l e in
@@ -168,24 +189,24 @@ module _ (code : Listing) (h : Routine) where
           let e2 = length-append pe (px ++ stmt_places l y) in
           let e3 = length-append px (stmt_places l y) in
           let e4 = length-append (stmt_texts x) (stmt_texts y) in
-          sound_both code h ce rest (value_sound fs code h l links e n is.0 f.0 pc z.place spot.on lm.0 (omega (arith, e2, pl)) (omega (arith, e1, lt))) (if_else_sound l b e spot part other lm.0 (test_there b e n is.0 is.3 f.0 f.1.0) (λ pc2 m low lt2. stmt_sound x pc2 z1 (part_spot b (type_of e).rate m spot) is.1 f.1.1.0 (low, lm.1, lm.2) (omega (arith, e2, e3, pl)) (omega (arith, e4, tx)) lt2) (λ pc2 m low lt2. stmt_sound y pc2 (behind l x z1) (part_spot b (type_of e).rate m spot) is.2 f.1.1.1 (low, lm.1, lm.2) (omega (arith, e2, e3, pl)) (omega (arith, e4, tx)) lt2) (pc + length ce) (omega (arith, e1, lt)))
-      stmt_sound (t_while b g e x sp) pc z spot is f lm pl tx lt =
+          sound_both code h ce rest (value_sound fs code h l links e n is.0 f.0 pc z.place spot.on lm.0 (omega (arith, e2, pl)) (omega (arith, e1, lt))) (if_else_sound l b e spot part other lm.0 (test_there fs l links answer b e n is.0 is.3 f.0 f.1.0) (λ pc2 m low lt2. stmt_sound x l links pc2 z1 (part_spot b (type_of e).rate m spot) is.1 f.1.1.0 (low, lm.1, lm.2) (omega (arith, e2, e3, pl)) (omega (arith, e4, tx)) lt2) (λ pc2 m low lt2. stmt_sound y l links pc2 (behind l x z1) (part_spot b (type_of e).rate m spot) is.2 f.1.1.1 (low, lm.1, lm.2) (omega (arith, e2, e3, pl)) (omega (arith, e4, tx)) lt2) (pc + length ce) (omega (arith, e1, lt)))
+      stmt_sound (t_while b g e x sp) l links pc z spot is f lm pl tx lt =
           let pe = expr_places l e in
           let e2 = length-append pe (stmt_places l x) in
           let n = spot.slot in
           let own : HasMasks (body_spot n) = (f.0.1.0, f.0.1.1.0, f.0.1.1.1) in
           let test = found_there fs h l e (n + 3) is.0.0 f.1.0 in
           while_sound code h (exits_of x) spot lm.0 lm.2 own (is_wide b (type_of e).rate) (type_of e).rate (found l e (n + 3)) (λ pc1. expr_code l e pc1 z.place n (n + 3)) (λ pc1. stmt_code l answer x pc1 (past pe z) (body_spot n)) test.0 (test.1 ∙ is.0.1)
-          (λ pc1 lt1. value_sound fs code h l links e (n + 3) is.0.0 f.1.0 pc1 z.place n own.0 (omega (arith, e2, pl)) lt1) (λ pc1 lt1. stmt_sound x pc1 (past pe z) (body_spot n) is.1 f.1.1 own (omega (arith, e2, pl)) tx lt1) pc lt
-      stmt_sound (t_do b g x e sp) pc z spot is f lm pl tx lt =
+          (λ pc1 lt1. value_sound fs code h l links e (n + 3) is.0.0 f.1.0 pc1 z.place n own.0 (omega (arith, e2, pl)) lt1) (λ pc1 lt1. stmt_sound x l links pc1 (past pe z) (body_spot n) is.1 f.1.1 own (omega (arith, e2, pl)) tx lt1) pc lt
+      stmt_sound (t_do b g x e sp) l links pc z spot is f lm pl tx lt =
           let px = stmt_places l x in
           let e2 = length-append px (expr_places l e) in
           let n = spot.slot in
           let own : HasMasks (body_spot n) = (f.0.1.0, f.0.1.1.0, f.0.1.1.1) in
           let test = found_there fs h l e (n + 3) is.0.0 f.1.1 in
           do_sound code h (exits_of x) spot lm.0 lm.2 own (is_wide b (type_of e).rate) (type_of e).rate (found l e (n + 3)) (λ pc1. expr_code l e pc1 (behind l x z).place n (n + 3)) (λ pc1. stmt_code l answer x pc1 z (body_spot n)) test.0 (test.1 ∙ is.0.1)
-          (λ pc1 lt1. value_sound fs code h l links e (n + 3) is.0.0 f.1.1 pc1 (z.place + length px) n own.0 (omega (arith, e2, pl)) lt1) (λ pc1 lt1. stmt_sound x pc1 z (body_spot n) is.1 f.1.0 own (omega (arith, e2, pl)) tx lt1) pc lt
-      stmt_sound (t_for b g first None step i x sp) pc z spot is f lm pl tx lt =
+          (λ pc1 lt1. value_sound fs code h l links e (n + 3) is.0.0 f.1.1 pc1 (z.place + length px) n own.0 (omega (arith, e2, pl)) lt1) (λ pc1 lt1. stmt_sound x l links pc1 z (body_spot n) is.1 f.1.0 own (omega (arith, e2, pl)) tx lt1) pc lt
+      stmt_sound (t_for b g first None step i x sp) l links pc z spot is f lm pl tx lt =
           let pf = first_places l first in
           let px = stmt_places l x in
           let z1 = past pf z in
@@ -195,9 +216,9 @@ module _ (code : Listing) (h : Routine) where
           let own : HasMasks (body_spot n) = (f.1.0.1.0, f.1.0.1.1.0, f.1.0.1.1.1) in
           let body = λ (pc1 : ℕ). stmt_code l answer x pc1 z1 (body_spot n) in
           let stepping = λ (pc1 : ℕ). step_code l step pc1 (z1.place + length px) n (n + 3) in
-          two_sound code h (λ pc1. first_code l first pc1 z.place spot.on n) (λ pc1. endless_code (exits_of x) pc1 spot body stepping) (λ pc1 lt1. first_sound first n is.0 f.0 pc1 z.place spot.on lm.0 (omega (arith, e1, pl)) lt1)
-          (endless_sound code h (exits_of x) spot lm.0 lm.2 own body stepping (λ pc1 lt1. stmt_sound x pc1 z1 (body_spot n) is.3 f.1.1.1.1 own (omega (arith, e1, e2, pl)) tx lt1) (λ pc1 lt1. step_sound step (n + 3) is.2 f.1.1.1.0 pc1 (z1.place + length px) n own.0 (omega (arith, e1, e2, pl)) lt1)) pc lt
-      stmt_sound (t_for b g first (Some e) step i x sp) pc z spot is f lm pl tx lt =
+          two_sound code h (λ pc1. first_code l first pc1 z.place spot.on n) (λ pc1. endless_code (exits_of x) pc1 spot body stepping) (λ pc1 lt1. first_sound fs l links answer first n is.0 f.0 pc1 z.place spot.on lm.0 (omega (arith, e1, pl)) lt1)
+          (endless_sound code h (exits_of x) spot lm.0 lm.2 own body stepping (λ pc1 lt1. stmt_sound x l links pc1 z1 (body_spot n) is.3 f.1.1.1.1 own (omega (arith, e1, e2, pl)) tx lt1) (λ pc1 lt1. step_sound fs l links answer step (n + 3) is.2 f.1.1.1.0 pc1 (z1.place + length px) n own.0 (omega (arith, e1, e2, pl)) lt1)) pc lt
+      stmt_sound (t_for b g first (Some e) step i x sp) l links pc z spot is f lm pl tx lt =
           let pf = first_places l first in
           let pe = expr_places l e in
           let px = stmt_places l x in
@@ -212,37 +233,40 @@ module _ (code : Listing) (h : Routine) where
           let tests = λ (pc1 : ℕ). expr_code l e pc1 z1.place n (n + 3) in
           let body = λ (pc1 : ℕ). stmt_code l answer x pc1 z2 (body_spot n) in
           let stepping = λ (pc1 : ℕ). step_code l step pc1 (z2.place + length px) n (n + 3) in
-          two_sound code h (λ pc1. first_code l first pc1 z.place spot.on n) (λ pc1. for_code (is_wide b (type_of e).rate) (exits_of x) (type_of e).rate (found l e (n + 3)) pc1 spot tests body stepping) (λ pc1 lt1. first_sound first n is.0 f.0 pc1 z.place spot.on lm.0 (omega (arith, e1, pl)) lt1)
-          (for_sound code h (exits_of x) spot lm.0 lm.2 own (is_wide b (type_of e).rate) (type_of e).rate (found l e (n + 3)) tests body test.0 (test.1 ∙ is.1.1) (λ pc1 lt1. value_sound fs code h l links e (n + 3) is.1.0 f.1.1.0 pc1 z1.place n own.0 (omega (arith, e1, e2, pl)) lt1) (λ pc1 lt1. stmt_sound x pc1 z2 (body_spot n) is.3 f.1.1.1.1 own (omega (arith, e1, e2, e3, pl)) tx lt1) stepping (λ pc1 lt1. step_sound step (n + 3) is.2 f.1.1.1.0 pc1 (z2.place + length px) n own.0 (omega (arith, e1, e2, e3, pl)) lt1)) pc lt
-      stmt_sound (t_foreach w g rs x sp) pc z spot is f lm pl tx lt =
+          two_sound code h (λ pc1. first_code l first pc1 z.place spot.on n) (λ pc1. for_code (is_wide b (type_of e).rate) (exits_of x) (type_of e).rate (found l e (n + 3)) pc1 spot tests body stepping) (λ pc1 lt1. first_sound fs l links answer first n is.0 f.0 pc1 z.place spot.on lm.0 (omega (arith, e1, pl)) lt1)
+          (for_sound code h (exits_of x) spot lm.0 lm.2 own (is_wide b (type_of e).rate) (type_of e).rate (found l e (n + 3)) tests body test.0 (test.1 ∙ is.1.1) (λ pc1 lt1. value_sound fs code h l links e (n + 3) is.1.0 f.1.1.0 pc1 z1.place n own.0 (omega (arith, e1, e2, pl)) lt1) (λ pc1 lt1. stmt_sound x l links pc1 z2 (body_spot n) is.3 f.1.1.1.1 own (omega (arith, e1, e2, e3, pl)) tx lt1) stepping (λ pc1 lt1. step_sound fs l links answer step (n + 3) is.2 f.1.1.1.0 pc1 (z2.place + length px) n own.0 (omega (arith, e1, e2, e3, pl)) lt1)) pc lt
+      stmt_sound (t_foreach w g rs x sp) l links pc z spot is f lm pl tx lt =
           let n = spot.slot in
           let k = runs_slot n rs in
           let pr = ranges_places l rs in
-          let e1 = length-append pr (stmt_places l x) in
+          let lb = body_layout l rs in
+          let e1 = length-append pr (stmt_places lb x) in
           let own : HasMasks (body_spot k) = (f.0.1.1.1.1.0, f.0.1.1.1.1.1.0, f.0.1.1.1.1.1.1) in
-          foreach_sound code h l fs links rs z.place spot.on n (λ pc1. stmt_code l answer x pc1 (past pr z) (body_spot k)) is.1 f.0.0 f.0.1.0 f.0.1.1.0 lm.0 own.0 (omega (arith, e1, pl)) (λ pc1 lt1. stmt_sound x pc1 (past pr z) (body_spot k) is.2 f.1 own (omega (arith, e1, pl)) tx lt1) pc lt
-      stmt_sound (t_foreach_active w g i x sp) pc z spot is f lm pl tx lt =
+          let linked = body_as (λ m. Links fs code m) l rs links (λ o d. links_same fs l o d links) in
+          let granted = body_as (λ m. Granted h m (stmt_asks answer x (k + 3))) l rs f.1 (λ o d. granted_same l o d (stmt_asks answer x (k + 3)) f.1) in
+          foreach_sound code h l fs links rs z.place spot.on n (λ pc1. stmt_code lb answer x pc1 (past pr z) (body_spot k)) is.1 f.0.0 f.0.1.0 f.0.1.1.0 lm.0 own.0 (omega (arith, e1, pl)) (λ pc1 lt1. stmt_sound x lb linked pc1 (past pr z) (body_spot k) is.2 granted own (omega (arith, e1, pl)) tx lt1) pc lt
+      stmt_sound (t_foreach_active w g i x sp) l links pc z spot is f lm pl tx lt =
           let n = spot.slot in
           let own : HasMasks (body_spot (n + 1)) = (f.0.1.1.1.1.0, f.0.1.1.1.1.1.0, f.0.1.1.1.1.1.1) in
-          active_sound code h (l.variable Uniform i) spot.on n (λ pc1. stmt_code l answer x pc1 z (body_spot (n + 1))) f.0.0 lm.0 f.0.1.1.0 own.0 (λ pc1 lt1. stmt_sound x pc1 z (body_spot (n + 1)) is f.1 own pl tx lt1) pc lt
-      stmt_sound (t_unmasked w b sp) pc z spot is f lm pl tx lt =
+          active_sound code h (l.variable Uniform i) spot.on n (λ pc1. stmt_code l answer x pc1 z (body_spot (n + 1))) f.0.0 lm.0 f.0.1.1.0 own.0 (λ pc1 lt1. stmt_sound x l links pc1 z (body_spot (n + 1)) is f.1 own pl tx lt1) pc lt
+      stmt_sound (t_unmasked w b sp) l links pc z spot is f lm pl tx lt =
           let n = spot.slot in
           let own : HasMasks (body_spot n) = (f.0.1.0, f.0.1.1.0, f.0.1.1.1) in
-          unmasked_sound code h n (λ pc1. block_code l answer b pc1 z (body_spot n)) own.0 (λ pc1 lt1. block_sound b pc1 z (body_spot n) is f.1 own pl tx lt1) pc lt
-      stmt_sound (t_jump j w sp) pc z spot is f lm pl tx lt = jump_sound j spot.on spot.continued lm.0 lm.1
-      stmt_sound (t_return w None sp) pc z spot is f lm pl tx lt = leave_sound spot.returned spot.on lm.2 lm.0
-      stmt_sound (t_return w (Some x) sp) pc z spot is f lm pl tx lt =
+          unmasked_sound code h n (λ pc1. block_code (outside l) answer b pc1 z (body_spot n)) own.0 (λ pc1 lt1. block_sound b (outside l) (links_same fs l l.run false links) pc1 z (body_spot n) is (granted_same l l.run false (block_asks answer b (n + 3)) f.1) own pl tx lt1) pc lt
+      stmt_sound (t_jump j w sp) l links pc z spot is f lm pl tx lt = jump_sound j spot.on spot.continued lm.0 lm.1
+      stmt_sound (t_return w None sp) l links pc z spot is f lm pl tx lt = leave_sound spot.returned spot.on lm.2 lm.0
+      stmt_sound (t_return w (Some x) sp) l links pc z spot is f lm pl tx lt =
           let ca = answer_code l answer x pc z.place spot.on spot.slot in
-          sound_both code h ca (leave_code spot.returned spot.on) (answer_sound answer x pc z.place spot.on spot.slot is f lm.0 pl (omega (arith, length-append ca (leave_code spot.returned spot.on), lt))) (leave_sound spot.returned spot.on lm.2 lm.0)
-      stmt_sound (t_print w text xs sp) pc z spot is f lm pl tx lt = print_sound code h l fs links text xs pc z.place z.text spot.on spot.slot is.1 f lm.0 pl tx lt
-      stmt_sound (t_assert x c sp) pc z spot is f lm pl tx lt = assert_sound code h l fs links x c pc z.place spot.on spot.slot is.0 is.1 f lm.0 pl lt
+          sound_both code h ca (leave_code spot.returned spot.on) (answer_sound fs l links answer answer x pc z.place spot.on spot.slot is f lm.0 pl (omega (arith, length-append ca (leave_code spot.returned spot.on), lt))) (leave_sound spot.returned spot.on lm.2 lm.0)
+      stmt_sound (t_print w text xs sp) l links pc z spot is f lm pl tx lt = print_sound code h l fs links text xs pc z.place z.text spot.on spot.slot is.1 f lm.0 pl tx lt
+      stmt_sound (t_assert x c sp) l links pc z spot is f lm pl tx lt = assert_sound code h l fs links x c pc z.place spot.on spot.slot is.0 is.1 f lm.0 pl lt
 
-      pub block_sound : (x : TBlock) (pc : ℕ) (z : Numbers) (spot : Spot) → BlockTree fs answer x → Granted h l (block_asks answer x spot.slot) → HasMasks spot → z.place + length (block_places l x) ≤ length code.places → z.text + length (block_texts x) ≤ length code.texts → pc + length (block_code l answer x pc z spot) < length h.code → AreSound code h (block_code l answer x pc z spot)
-      block_sound (t_braces xs sp) pc z spot is f lm pl tx lt = stmts_sound xs pc z spot is f lm pl tx lt
+      pub block_sound : (x : TBlock) (l : Layout) (links : Links fs code l) (pc : ℕ) (z : Numbers) (spot : Spot) → BlockTree fs answer x → Granted h l (block_asks answer x spot.slot) → HasMasks spot → z.place + length (block_places l x) ≤ length code.places → z.text + length (block_texts x) ≤ length code.texts → pc + length (block_code l answer x pc z spot) < length h.code → AreSound code h (block_code l answer x pc z spot)
+      block_sound (t_braces xs sp) l links pc z spot is f lm pl tx lt = stmts_sound xs l links pc z spot is f lm pl tx lt
 
-      pub stmts_sound : (xs : TStmts) (pc : ℕ) (z : Numbers) (spot : Spot) → StmtsTree fs answer xs → Granted h l (stmts_asks answer xs spot.slot) → HasMasks spot → z.place + length (stmts_places l xs) ≤ length code.places → z.text + length (stmts_texts xs) ≤ length code.texts → pc + length (stmts_code l answer xs pc z spot) < length h.code → AreSound code h (stmts_code l answer xs pc z spot)
-      stmts_sound t_no_stmts pc z spot is f lm pl tx lt = tt
-      stmts_sound (t_stmt_then x xs) pc z spot is f lm pl tx lt =
+      pub stmts_sound : (xs : TStmts) (l : Layout) (links : Links fs code l) (pc : ℕ) (z : Numbers) (spot : Spot) → StmtsTree fs answer xs → Granted h l (stmts_asks answer xs spot.slot) → HasMasks spot → z.place + length (stmts_places l xs) ≤ length code.places → z.text + length (stmts_texts xs) ≤ length code.texts → pc + length (stmts_code l answer xs pc z spot) < length h.code → AreSound code h (stmts_code l answer xs pc z spot)
+      stmts_sound t_no_stmts l links pc z spot is f lm pl tx lt = tt
+      stmts_sound (t_stmt_then x xs) l links pc z spot is f lm pl tx lt =
           let ca = stmt_code l answer x pc z spot in
           let px = stmt_places l x in
           let part = λ (pc2 : ℕ). stmts_code l answer xs pc2 (behind l x z) spot in
@@ -250,7 +274,7 @@ module _ (code : Listing) (h : Routine) where
           let e1 = length-append ca rest in
           let e2 = length-append px (stmts_places l xs) in
           let e3 = length-append (stmt_texts x) (stmts_texts xs) in
-          sound_both code h ca rest (stmt_sound x pc z spot is.0 f.0 lm (omega (arith, e2, pl)) (omega (arith, e3, tx)) (omega (arith, e1, lt))) (rest_sound (all_go_on x) xs spot.on part lm.0 (λ pc2 lt2. stmts_sound xs pc2 (behind l x z) spot is.1 f.1 lm (omega (arith, e2, pl)) (omega (arith, e3, tx)) lt2) (pc + length ca) (omega (arith, e1, lt)))
+          sound_both code h ca rest (stmt_sound x l links pc z spot is.0 f.0 lm (omega (arith, e2, pl)) (omega (arith, e3, tx)) (omega (arith, e1, lt))) (rest_sound (all_go_on x) xs spot.on part lm.0 (λ pc2 lt2. stmts_sound xs l links pc2 (behind l x z) spot is.1 f.1 lm (omega (arith, e2, pl)) (omega (arith, e3, tx)) lt2) (pc + length ca) (omega (arith, e1, lt)))
 
 -- a whole function: its body, and the return
 pub function_sound : (fs : List TFunction) (code : Listing) (h : Routine) (l : Layout) → Links fs code l → (answer : Option Ty) (b : TBlock) (z : Numbers) → h.code ≡ function_code l answer b 0 z → BlockTree fs answer b → Granted h l (block_asks answer b 3) → 3 ≤ h.masks → z.place + length (block_places l b) ≤ length code.places → z.text + length (block_texts b) ≤ length code.texts → IsGiven h h.returns (returned l answer) → AreSound code h h.code
@@ -258,4 +282,4 @@ function_sound fs code h l links answer b z is tree body masks places texts give
     let cb = block_code l answer b 0 z first_spot in
     let last = instr.Return (returned l answer) ∷ [] in
     let size : length h.code ≡ length cb + 1 = ap length is ∙ length-append cb last in
-    subst (AreSound code h) (sym is) (sound_both code h cb last (block_sound code h fs l links answer b 0 z first_spot tree body (omega (arith, masks), omega (arith, masks), omega (arith, masks)) places texts (omega (arith, size))) (((given, tt), tt), tt))
+    subst (AreSound code h) (sym is) (sound_both code h cb last (block_sound code h fs answer b l links 0 z first_spot tree body (omega (arith, masks), omega (arith, masks), omega (arith, masks)) places texts (omega (arith, size))) (((given, tt), tt), tt))

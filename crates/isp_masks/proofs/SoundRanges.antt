@@ -53,13 +53,13 @@ module _ (code : Listing) (h : Routine) (l : Layout) where
     ranges_sound [] set e m fs b p pc lt = tt
     ranges_sound (r ∷ []) set e m fs b p pc lt =
         let last = last_index l r.index m n k in
-        let index : AreSound code h last = (convert_sound code h Uniform I32 I64 (narrow l (m + 1)) (wide l m) 0 p.0.1.1.1.0 p.0.1.0 some, (splat_sound code h I32 (lane l (m + 1)) (narrow l (m + 1)) k p.0.1.1.1.1.0 p.0.1.1.1.0 lk, (add_varying (l.variable Varying r.index) (lane l (m + 1)) (lane l n) k p.0.0 p.0.1.1.1.1.0 measures.1.0 lk, tt))) in
+        let index : AreSound code h last = (convert_sound code h Uniform I32 I64 (narrow l (m + 1)) (wide l m) 0 p.0.1.1.1.0 p.0.1.0 some, (splat_sound code h I32 (lane l (m + 1)) (narrow l (m + 1)) k p.0.1.1.1.1.0 p.0.1.1.1.0 lk, (add_varying (l.variable Varying r.index) (lane l (m + 1)) (lane l n) k p.0.0 p.0.1.1.1.1.0 measures.1.0 lk, (copy_sound code h Uniform I64 (l.place Uniform) (wide l m) 0 p.0.1.1.1.1.1.1 p.0.1.0 some, tt)))) in
         sweep_sound e m n (range_mask k (wide l m) (wide l (e + 1))) (jump_off k) (λ pc1. two pc1 (set ++ last) body) some b.0.0 p.0.1.0 measures.1.1.0 (((refl, lk), ((p.0.1.0.0, p.0.1.0.1), ((b.1.1.0.0.0, b.1.1.0.0.1), tt))), tt) (λ to lt1. (((refl, lk), (lt1, tt)), tt)) (two_sound code h (λ pc1. set ++ last) body (λ pc1 lt1. sound_both code h set last fs index) fb) pc lt
     ranges_sound (r ∷ q ∷ rs) set e m fs b p pc lt =
         let outer = outer_index l r.index (m + 1) k ∷ [] in
         let t = test l (m + 1) in
         let more : AreSound code h (set ++ outer) = sound_both code h set outer fs (splat_sound code h I32 (l.variable Varying r.index) (narrow l (m + 1)) k p.0.0 p.0.1.1.1.0 lk, tt) in
-        sweep_sound e m (n + 1) (compare Uniform Less t (wide l m) (wide l (e + 1)) 0) (jump_on jump.False t) (λ pc1. convert Uniform (narrow l (m + 1)) (wide l m) 0 ∷ ranges_code l n k body (q ∷ rs) (set ++ outer) (e + 1 + 1) (m + 1 + 1) (pc1 + 1)) some b.0.0 p.0.1.0 measures.1.1.1.1.0 (compare_sound code h Uniform Less I64 t (wide l m) (wide l (e + 1)) 0 p.0.1.1.1.1.1 p.0.1.0 b.1.1.0.0 some) (λ to lt1. ((((p.0.1.1.1.1.1).0, (p.0.1.1.1.1.1).1), (lt1, tt)), tt))
+        sweep_sound e m (n + 1) (compare Uniform Less t (wide l m) (wide l (e + 1)) 0) (jump_on jump.False t) (λ pc1. convert Uniform (narrow l (m + 1)) (wide l m) 0 ∷ ranges_code l n k body (q ∷ rs) (set ++ outer) (e + 1 + 1) (m + 1 + 1) (pc1 + 1)) some b.0.0 p.0.1.0 measures.1.1.1.1.0 (compare_sound code h Uniform Less I64 t (wide l m) (wide l (e + 1)) 0 p.0.1.1.1.1.1.0 p.0.1.0 b.1.1.0.0 some) (λ to lt1. ((((p.0.1.1.1.1.1.0).0, (p.0.1.1.1.1.1.0).1), (lt1, tt)), tt))
         (λ pc1 lt1. (convert_sound code h Uniform I32 I64 (narrow l (m + 1)) (wide l m) 0 p.0.1.1.1.0 p.0.1.0 some, ranges_sound (q ∷ rs) (set ++ outer) (e + 1 + 1) (m + 1 + 1) more b.1.1.1.1 p.1.1 (pc1 + 1) (omega (arith, lt1)))) pc lt
 
   -- ---- the bounds

@@ -119,7 +119,7 @@ pub record IsSweep (w : Setting) (body : Mask → State → Res) (all : Mask) (m
   pub enough : extra + 4 ≤ cost
   pub test : (z : ℤ) (c : Conf) → At w c top → Low w m c0 c → number I64 (c.scalars (wide w.layout m)) ≡ z
       → (c1 : Conf) × Comes w c 2 c1 × At w c1 (if int_lt z end then top + 1 + 1 else stop) × Low w m c c1 × (c1.scalars (wide w.layout m) ≡ c.scalars (wide w.layout m)) × ((s : State) → Stands w s c → Stands w s c1) × Good z c1
-  pub turns : (z : ℤ) (s : State) (c : Conf) (q : ℕ) → int_lt z end ≡ true → At w c (top + 1 + 1) → Low w m c0 c → number I64 (c.scalars (wide w.layout m)) ≡ z → Good z c → Stands w s c → extra + q ≤ 32 * s.work
+  pub turns : (z : ℤ) (s : State) (c : Conf) (q : ℕ) → IsNotLess z → int_lt z end ≡ true → At w c (top + 1 + 1) → Low w m c0 c → number I64 (c.scalars (wide w.layout m)) ≡ z → Good z c → Stands w s c → extra + q ≤ 32 * s.work
       → Passes w c (top + 1 + 1 + length (inside (top + 1 + 1))) (m + 1) q (rounds body all (turn z) s)
 
 module _ (w : Setting) (ready : IsSettled w) (body : Mask → State → Res) (all : Mask) (m u k : ℕ) (end : ℤ) (inside : ℕ → List Instr) (turn : ℤ → List Round) (cost extra top stop : ℕ) (c0 : Conf) (it : IsSweep w body all m u k end inside turn cost extra top stop c0) where
@@ -200,5 +200,5 @@ module _ (w : Setting) (ready : IsSettled w) (body : Mask → State → Res) (al
       passes_after w ready c t.0 2 stop m q _ t.1 t.3
       (subst (λ v. Passes w t.0 stop m (2 + q) v) (rounds_join body all (turn z) rest s)
       (passes_go w ready t.0 (top + 1 + 1 + length (inside (top + 1 + 1))) stop (m + 1) m (4 + n * cost) (2 + q) (rounds body all (turn z) s) (rounds body all rest)
-      (it.turns z s t.0 (4 + n * cost + (2 + q)) counts.0 (subst (λ b. At w t.0 (if b then top + 1 + 1 else stop)) counts.0 t.2) lo place t.6 (t.5 s i.stands) (omega (arith, le, mul, it.enough)))
+      (it.turns z s t.0 (4 + n * cost + (2 + q)) low counts.0 (subst (λ b. At w t.0 (if b then top + 1 + 1 else stop)) counts.0 t.2) lo place t.6 (t.5 s i.stands) (omega (arith, le, mul, it.enough)))
       (λ s1 ok. next_turn z s1 t.0 (4 + n * cost) (2 + q) (rounds body all rest) low counts.0 lo place ok (λ c6 i6. sweep_runs n (z +ℤ pos k) s1 c6 (ok.steps + 2 + (2 + q)) counts.1 (next_low k z low) i6 (omega (arith, ok.bound))))))

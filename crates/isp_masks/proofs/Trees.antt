@@ -46,7 +46,7 @@ module _ (fs : List TFunction) where
       StmtTree (t_while f g e x sp) = TestTree (Some e) × StmtTree x
       StmtTree (t_do f g x e sp) = TestTree (Some e) × StmtTree x
       StmtTree (t_for f g first e step i x sp) = FirstTree first × TestTree e × StepTree step × StmtTree x
-      StmtTree (t_foreach k g rs x sp) = (length rs ≤ 3) × RangesTree rs × StmtTree x
+      StmtTree (t_foreach k g rs x sp) = (length rs ≤ 3) × RangesTree rs × StmtTree x × (1 ≤ length rs)
       StmtTree (t_foreach_active k g i x sp) = StmtTree x
       StmtTree (t_unmasked k b sp) = BlockTree b
       StmtTree (t_jump j k sp) = Unit {0}

@@ -19,7 +19,7 @@ use Rattle.isp_meaning.specs.State.{State, tick}
 use Rattle.isp_lower.specs.Code.{two, the_others}
 use Rattle.isp_lower.specs.Layout.{register, mask_register}
 use Rattle.isp_lower.specs.Runs.{Comes, Runs, DoneRuns, Stopped}
-use Rattle.isp_lower.specs.Setting.{Setting, IsSettled, gang_of, AreAt, At, Stands, Spares, Holds}
+use Rattle.isp_lower.specs.Setting.{Setting, IsSettled, gang_of, AreAt, At, Stands, Spares, Holds, Allowed}
 use Rattle.isp_lower.proofs.Lemmas.{are_front, are_back, put_same, put_other, comes_none, comes_on, step_go, at_to, spares_all, spares_less, spares_on, failed_after, stopped_after, failed_less, stopped_less, jumped, jump_comes, jump_at, masked, where_comes, others_comes, masked_at, any_nobody, where_inside, at_kept}
 use Rattle.isp_masks.specs.LoopRuns.{TestRuns, BodyRuns, StepRuns}
 use Rattle.isp_masks.specs.Loops.{copy_mask, if_needed, enter_code, loop_end_code, rejoin_code, turn_code, back_code, sift_code, live_code, again_code}
@@ -292,7 +292,7 @@ module _ (w : Setting) (ready : IsSettled w) where
             go : (b : Bool) → all_of (gang_of w) live ≡ b → Moved (pc + suc (length join)) (union live ct) returned s c 2
             go true full =
                 let at = at_to w c1 out (pc + suc (length join)) (jump_at w ready c pc jump.All (mask_register n) out true i.at (full_is true full)) ends in
-                let same = union_full (gang_of w) live ct full inside in
+                let same = union_full (gang_of w) live ct full (λ p h. (inside p h).0) in
                 record { conf = c1; steps = 1; comes = comes; few = omega arith; spares = spares_all w n c; masks = λ r lt. refl; loop = subst (λ z. InLoop (pc + suc (length join)) z returned s c1) (sym same) (here (pc + suc (length join)) at) }
             go false full =
                 let m = joined (pc + 1) live returned ct s c1 (here (pc + 1) (jump_at w ready c pc jump.All (mask_register n) out false i.at (full_is false full))) those none h.1 in
@@ -440,7 +440,7 @@ module _ (w : Setting) (ready : IsSettled w) where
 
         go : (b : Bool) → any (gang_of w) kept ≡ b → StmtRuns w t c4 end spot (2 + q) (if_so b (turn kept returned) (λ s1. Went s1 (without all returned) nobody nobody returned) s)
         go true h =
-            f kept returned s c4 (pc + 1 + 1) (2 + q) has.1.1 to_past (record { at = at4 true h; all_is = low k lk ∙ i.all_is; live_is = kept_is; gone = gone4; stands = i.stands }) h (where_inside (gang_of w) live is_true (c.vectors x) inside) (omega (arith, used))
+            f kept returned s c4 (pc + 1 + 1) (2 + q) has.1.1 to_past (record { at = at4 true h; all_is = low k lk ∙ i.all_is; live_is = kept_is; gone = gone4; stands = i.stands }) h (where_inside (Allowed w) live is_true (c.vectors x) inside) (omega (arith, used))
         go false h =
             end_runs t past (2 + q) kept returned s c4 (record { at = at_to w c4 to past (at4 false h) to_past; all_is = low k lk ∙ i.all_is; live_is = kept_is; gone = gone4; stands = i.stands }) (omega (arith, used)) has_end
 
@@ -621,7 +621,7 @@ module _ (w : Setting) (ready : IsSettled w) where
             by : (b : Bool) → any (gang_of w) kept ≡ b → StmtRuns w (suc m) c2 end spot q2 (if_so b (turn kept returned) finish s1)
             by true h =
                 stmt_further m c2 c4 1 end spot q2 _ comes (spares_all w n c2) (λ y lt ne. low y lt) three
-                (f kept returned s1 c4 top (2 + q2) at_top top_past (in4 top (jump_at w ready c3 (pc2 + 1) jump.On (mask_register n) top true at3 (on_is true h))) h (where_inside (gang_of w) live is_true (c2.vectors x) inside) (omega (arith, used2)))
+                (f kept returned s1 c4 top (2 + q2) at_top top_past (in4 top (jump_at w ready c3 (pc2 + 1) jump.On (mask_register n) top true at3 (on_is true h))) h (where_inside (Allowed w) live is_true (c2.vectors x) inside) (omega (arith, used2)))
             by false h =
                 stmt_after w ready (suc m) c2 c4 2 end spot q2 (finish s1) comes (spares_all w n c2) (λ y lt ne. low y lt) three
                 (subst (λ z. StmtRuns w (suc m) c4 z spot (2 + q2) (finish s1)) (sym ends) (end_runs (suc m) past (2 + q2) kept returned s1 c4 (in4 past (at_to w c4 (pc2 + 1 + 1) past (jump_at w ready c3 (pc2 + 1) jump.On (mask_register n) top false at3 (on_is false h)) (omega (arith, to2)))) (omega (arith, used2)) at_end))

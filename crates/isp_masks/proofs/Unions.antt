@@ -52,34 +52,34 @@ in_all (suc n) a h p lt =
     go last (inl e) lower = ap a e ∙ last
     go last (inr ne) lower = lower ne
 
--- sets of instances below a number
-module _ (n : ℕ) where
+-- sets of instances that have a property
+module _ (A : ℕ → Type 0) where
   abbrev pub Below : Mask → Type 0
-  Below a = (p : ℕ) → a p ≡ true → p < n
+  Below a = (p : ℕ) → a p ≡ true → A p
 
   pub below_without : (a b : Mask) → Below a → Below (without a b)
   below_without a b ha p h = go (a p) refl h
     where
-      go : (x : Bool) → a p ≡ x → (x && not (b p)) ≡ true → p < n
+      go : (x : Bool) → a p ≡ x → (x && not (b p)) ≡ true → A p
       go true e h = ha p e
       go false e h = absurd (cc)
 
-  -- where a set has each of these, others of them add nothing
-  pub union_full : (a b : Mask) → all n a ≡ true → Below b → union a b ≡ a
-  union_full a b h below = fun_ext (λ p. at p (b p) refl)
-    where
-      or_false : (x : Bool) → (x || false) ≡ x
-      or_false true = refl
-      or_false false = refl
+-- where a set has each of the first n, others of these add nothing
+pub union_full : (n : ℕ) (a b : Mask) → all n a ≡ true → Below (λ p. p < n) b → union a b ≡ a
+union_full n a b h below = fun_ext (λ p. at p (b p) refl)
+  where
+    or_false : (x : Bool) → (x || false) ≡ x
+    or_false true = refl
+    or_false false = refl
 
-      at : (p : ℕ) (x : Bool) → b p ≡ x → (a p || x) ≡ a p
-      at p true e = let t = in_all n a h p (below p e) in ap (λ z. z || true) t ∙ sym t
-      at p false e = or_false (a p)
+    at : (p : ℕ) (x : Bool) → b p ≡ x → (a p || x) ≡ a p
+    at p true e = let t = in_all n a h p (below p e) in ap (λ z. z || true) t ∙ sym t
+    at p false e = or_false (a p)
 
-  -- and nobody of them is not in it
-  pub without_full : (a b : Mask) → all n b ≡ true → Below a → without a b ≡ nobody
-  without_full a b h below = fun_ext (λ p. at p (a p) refl)
-    where
-      at : (p : ℕ) (x : Bool) → a p ≡ x → (x && not (b p)) ≡ false
-      at p true e = ap not (in_all n b h p (below p e))
-      at p false e = refl
+-- and nobody of them is not in it
+pub without_full : (n : ℕ) (a b : Mask) → all n b ≡ true → Below (λ p. p < n) a → without a b ≡ nobody
+without_full n a b h below = fun_ext (λ p. at p (a p) refl)
+  where
+    at : (p : ℕ) (x : Bool) → a p ≡ x → (x && not (b p)) ≡ false
+    at p true e = ap not (in_all n b h p (below p e))
+    at p false e = refl

@@ -82,6 +82,41 @@ writes_back a b c x f w g =
       texts = texts_still b c g.texts ∙ w.texts;
     }
 
+-- code behind it that names places, and no text
+pub writes_adding : (a b c : Body) (x : Piece) (f : ℕ → ℕ → List Instr) (p : List Span) → Writes a b x → Appends b c f p
+    → Writes a c (record { code = λ pc z. x.code pc z ++ f (pc + length (x.code pc z)) (z.place + length x.places); places = x.places ++ p; texts = x.texts })
+writes_adding a b c x f p w g =
+    let pc = length a.code.items in
+    let part = x.code pc (next_of a) in
+    let n = length a.places.items + length x.places in
+    record {
+      code =
+          g.code
+          ∙ ap (λ m. b.code.items ++ f m (length b.places.items)) (ap length w.code ∙ length-append a.code.items part)
+          ∙ ap (λ m. b.code.items ++ f (pc + length part) m) (ap length w.places ∙ length-append a.places.items x.places)
+          ∙ ap (λ is. is ++ f (pc + length part) n) w.code
+          ∙ append_assoc a.code.items part (f (pc + length part) n);
+      places = g.places ∙ ap (λ s. s ++ p) w.places ∙ append_assoc a.places.items x.places p;
+      texts = texts_still b c g.texts ∙ w.texts;
+    }
+
+-- one instruction before it
+pub writes_behind : (a b c : Body) (i : Instr) (y : Piece) → Appends a b (λ pc p. i ∷ []) [] → Writes b c y
+    → Writes a c (record { code = λ pc z. i ∷ y.code (pc + 1) z; places = y.places; texts = y.texts })
+writes_behind a b c i y f w =
+    let pc = length a.code.items in
+    let none = f.places ∙ append-nil a.places.items in
+    record {
+      code =
+          w.code
+          ∙ ap (λ z. b.code.items ++ y.code (length b.code.items) z) (next_same a b f.places f.texts)
+          ∙ ap (λ m. b.code.items ++ y.code m (next_of a)) (ap length f.code ∙ length-append a.code.items (i ∷ []))
+          ∙ ap (λ is. is ++ y.code (pc + 1) (next_of a)) f.code
+          ∙ append_assoc a.code.items (i ∷ []) (y.code (pc + 1) (next_of a));
+      places = w.places ∙ ap (λ s. s ++ y.places) none;
+      texts = w.texts ∙ ap (λ s. s ++ y.texts) (texts_still a b f.texts);
+    }
+
 -- ---- a jump over a part
 
 pub landed_over : (a b c d : Body) (at : ℕ) (x : Instr) (go : ℕ → Instr) (y : Piece)

@@ -9,7 +9,7 @@ use Rattle.isp_tree.specs.declared.stmt.Form.{Form}
 use Rattle.isp_tree.specs.declared.stmt.Form.TheVariants.{Plain, Coherent}
 use Rattle.isp_typed.specs.Typed.{TExpr, t_exprs, type_of, TSimple, TFirst, t_first_declare, t_first_simple, TRange, TStmt, t_block, t_declare, t_simple, t_if, t_if_else, t_while, t_do, t_for, t_foreach, t_foreach_active, t_unmasked, t_jump, t_return, t_print, t_assert, TBlock, t_braces, TStmts, t_no_stmts, t_stmt_then}
 use Rattle.isp_lower.specs.Asks.{Ask, Nothing, Both, Register, MaskOf, Number, expr_asks, operand_asks, simple_asks, spare_ask, items_asks, test_asks, values_asks}
-use Rattle.isp_lower.specs.Rows.{Result, Variable}
+use Rattle.isp_lower.specs.Rows.{Result, Variable, Place}
 use Rattle.isp_masks.specs.Prints.{own_rates}
 use Rattle.isp_masks.specs.Ranges.{places_slot, runs_slot}
 
@@ -58,7 +58,7 @@ bounds_asks (r ∷ rs) n =
 
 abbrev pub place_asks : TRange → ℕ → Ask
 place_asks r m =
-    Both (Register Varying (Variable r.index) I32) (Both (spare_ask Uniform I64 m) (Both (Number (m + 1)) (Both (spare_ask Uniform I32 (m + 1)) (Both (spare_ask Varying I32 (m + 1)) (spare_ask Uniform Truth (m + 1))))))
+    Both (Register Varying (Variable r.index) I32) (Both (spare_ask Uniform I64 m) (Both (Number (m + 1)) (Both (spare_ask Uniform I32 (m + 1)) (Both (spare_ask Varying I32 (m + 1)) (Both (spare_ask Uniform Truth (m + 1)) (Register Uniform Place I64))))))
 
 abbrev pub places_asks : List TRange → ℕ → Ask
 places_asks [] m = Nothing

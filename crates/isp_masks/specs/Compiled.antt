@@ -1,6 +1,6 @@
 -- A function and the routine that is its code.
-use Rattle.std.specs.Prelude.{◌≡◌, ℕ, List, [], ◌∷◌, length, Option, Some, None, true, slice_get}
-use Rattle.isp_base.specs.Sets.{everyone}
+use Rattle.std.specs.Prelude.{◌≡◌, ℕ, List, [], ◌∷◌, length, Option, Some, None, true, slice_get, false}
+use Rattle.isp_base.specs.Sets.{everyone, nobody}
 use Rattle.isp_base.specs.Types.{gang_width}
 use Rattle.isp_base.specs.declared.signature.Argument.{Argument}
 use Rattle.isp_base.specs.declared.types.Elem.{Elem}
@@ -31,6 +31,7 @@ use Rattle.isp_masks.specs.Passing.{PassedFirst}
 use Rattle.isp_masks.specs.Named.{AreNamed}
 use Rattle.isp_masks.specs.Spots.{Numbers}
 use Rattle.isp_masks.specs.Statements.{block_places, block_texts, function_code}
+use Rattle.isp_masks.specs.Free.{BlockFree}
 
 -- the state in which the entry's body begins, and the setting: nothing waits, and 255 more calls may run
 abbrev pub entry_state : Program → TFunction → List Argument → State
@@ -50,6 +51,8 @@ call_setting program code f h g l names waiting ps caller turns left =
       frame = frame_of h ps caller;
       turns = turns;
       left = left;
+      members = nobody;
+      start = 0;
     }
 
 abbrev pub entry_setting : Program → Listing → ℕ → TFunction → Routine → Layout → ℕ → List Argument → Setting
@@ -84,6 +87,9 @@ pub record IsCompiled (program : Program) (code : Listing) (f : ℕ) (h : TFunct
   pub code_is : AreAt g.code 0 (function_code l h.answer h.body 0 z)
   pub names : AreNamed code z (block_places l h.body) (block_texts h.body)
   pub rated : BlockRated program.functions h.answer h.body
+  pub free : BlockFree None h.body
+  pub run : l.run ≡ None
+  pub outside : l.in_run ≡ false
   pub named : Table g l h.variables (block_asks h.answer h.body 3)
   pub arrays : ArraysStand h g l
 

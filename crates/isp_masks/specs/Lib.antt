@@ -1,4 +1,5 @@
 pub mod Exits
+pub mod Free
 pub mod Sets
 pub mod Spots
 pub mod Fors

@@ -76,13 +76,13 @@ module _ (l : Layout) where
   sweep_code e m u tested past pc inside =
       copy Uniform (wide m) (wide e) 0 ∷ tested ∷ guard past (pc + 1 + 1) (λ pc1. inside pc1 ++ compute Uniform plain.Add (wide m) (wide m) (wide u) 0 ∷ instr.Jump (pc + 1) ∷ [])
 
-  -- the index of a range outside, as it is in slot m; that of the last range, whose place is in slot m
+  -- the index of a range outside, as it is in slot m; that of the last range, whose place is in slot m, and the place as that of its run
   abbrev pub outer_index : ℕ → ℕ → ℕ → Instr
   outer_index i m h = splat (l.variable Varying i) (narrow m) h
 
   abbrev pub last_index : ℕ → ℕ → ℕ → ℕ → List Instr
   last_index i m n h =
-      convert Uniform (narrow (m + 1)) (wide m) 0 ∷ splat (lane (m + 1)) (narrow (m + 1)) h ∷ compute Varying plain.Add (l.variable Varying i) (lane (m + 1)) (lane n) h ∷ []
+      convert Uniform (narrow (m + 1)) (wide m) 0 ∷ splat (lane (m + 1)) (narrow (m + 1)) h ∷ compute Varying plain.Add (l.variable Varying i) (lane (m + 1)) (lane n) h ∷ copy Uniform (l.place Uniform) (wide m) 0 ∷ []
 
   -- The ranges from one on, whose bounds begin at slot e and whose places begin at slot m; `set` are the indices of those outside.
   -- The last one is taken in runs, of as many numbers as there are lanes.

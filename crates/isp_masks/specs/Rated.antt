@@ -47,7 +47,7 @@ module _ (fs : List TFunction) where
       StmtRated (t_while f g e x sp) = IsRated fs e × StmtRated x
       StmtRated (t_do f g x e sp) = StmtRated x × IsRated fs e
       StmtRated (t_for f g first e step i x sp) = FirstRated first × TestRated e × StepRated step × StmtRated x
-      StmtRated (t_foreach k g rs x sp) = (length rs ≤ 3) × RangesRated rs × StmtRated x
+      StmtRated (t_foreach k g rs x sp) = (length rs ≤ 3) × RangesRated rs × StmtRated x × (1 ≤ length rs)
       StmtRated (t_foreach_active k g i x sp) = StmtRated x
       StmtRated (t_unmasked k b sp) = BlockRated b
       StmtRated (t_jump j k sp) = Unit {0}

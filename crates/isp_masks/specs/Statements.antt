@@ -11,8 +11,8 @@ use Rattle.isp_code.specs.declared.instr.JumpTest.TheVariants as jump
 use Rattle.isp_code.specs.declared.register.Register.{Register}
 use Rattle.isp_tree.specs.declared.stmt.Form.{Form}
 use Rattle.isp_tree.specs.declared.stmt.Form.TheVariants.{Plain, Coherent}
-use Rattle.isp_typed.specs.Typed.{TExpr, type_of, TSimple, TStmt, t_block, t_declare, t_simple, t_if, t_if_else, t_while, t_do, t_for, t_foreach, t_foreach_active, t_unmasked, t_jump, t_return, t_print, t_assert, TBlock, t_braces, TStmts, t_no_stmts, t_stmt_then}
-use Rattle.isp_lower.specs.Layout.{Layout, register}
+use Rattle.isp_typed.specs.Typed.{TExpr, type_of, TRange, TSimple, TStmt, t_block, t_declare, t_simple, t_if, t_if_else, t_while, t_do, t_for, t_foreach, t_foreach_active, t_unmasked, t_jump, t_return, t_print, t_assert, TBlock, t_braces, TStmts, t_no_stmts, t_stmt_then}
+use Rattle.isp_lower.specs.Layout.{Layout, register, outside, within}
 use Rattle.isp_lower.specs.Code.{copy, where_so, the_others, jump_off, jump_on, two, guard, choice, found, operand, operand_of, expr_places, expr_code}
 use Rattle.isp_lower.specs.Items.{items_code, items_places}
 use Rattle.isp_lower.specs.Simple.{simple_code, simple_places}
@@ -102,90 +102,98 @@ module _ (l : Layout) where
   returned None = None
   returned (Some t) = Some (register t.rate (l.result t.rate))
 
-  -- ---- the places that code names, in order
+-- ---- the layout of a body: of a `foreach`, whose last index may count the lanes of each run
 
-  abbrev mutual
-    pub stmt_places : TStmt → List Span
-    stmt_places (t_block b) = block_places b
-    stmt_places (t_declare xs sp) = items_places l xs
-    stmt_places (t_simple x sp) = simple_places l x
-    stmt_places (t_if f g e x sp) = expr_places l e ++ stmt_places x
-    stmt_places (t_if_else f g e x y sp) = expr_places l e ++ (stmt_places x ++ stmt_places y)
-    stmt_places (t_while f g e x sp) = expr_places l e ++ stmt_places x
-    stmt_places (t_do f g x e sp) = stmt_places x ++ expr_places l e
-    stmt_places (t_for f g first e step i x sp) = first_places l first ++ (test_places l e ++ (stmt_places x ++ step_places l step))
-    stmt_places (t_foreach w g rs x sp) = ranges_places l rs ++ stmt_places x
-    stmt_places (t_foreach_active w g i x sp) = stmt_places x
-    stmt_places (t_unmasked w b sp) = block_places b
-    stmt_places (t_jump j w sp) = []
-    stmt_places (t_return w None sp) = []
-    stmt_places (t_return w (Some x) sp) = expr_places l x
-    stmt_places (t_print w text xs sp) = print_places l xs
-    stmt_places (t_assert x c sp) = assert_places l x c
+abbrev pub body_layout : Layout → List TRange → Layout
+body_layout l [] = l
+body_layout l (r ∷ []) = within l r.index
+body_layout l (r ∷ q ∷ rs) = body_layout l (q ∷ rs)
 
-    pub block_places : TBlock → List Span
-    block_places (t_braces xs sp) = stmts_places xs
+-- ---- the places that code names, in order
 
-    pub stmts_places : TStmts → List Span
-    stmts_places t_no_stmts = []
-    stmts_places (t_stmt_then x xs) = stmt_places x ++ stmts_places xs
+abbrev mutual
+  pub stmt_places : Layout → TStmt → List Span
+  stmt_places l (t_block b) = block_places l b
+  stmt_places l (t_declare xs sp) = items_places l xs
+  stmt_places l (t_simple x sp) = simple_places l x
+  stmt_places l (t_if f g e x sp) = expr_places l e ++ stmt_places l x
+  stmt_places l (t_if_else f g e x y sp) = expr_places l e ++ (stmt_places l x ++ stmt_places l y)
+  stmt_places l (t_while f g e x sp) = expr_places l e ++ stmt_places l x
+  stmt_places l (t_do f g x e sp) = stmt_places l x ++ expr_places l e
+  stmt_places l (t_for f g first e step i x sp) = first_places l first ++ (test_places l e ++ (stmt_places l x ++ step_places l step))
+  stmt_places l (t_foreach w g rs x sp) = ranges_places l rs ++ stmt_places (body_layout l rs) x
+  stmt_places l (t_foreach_active w g i x sp) = stmt_places l x
+  stmt_places l (t_unmasked w b sp) = block_places (outside l) b
+  stmt_places l (t_jump j w sp) = []
+  stmt_places l (t_return w None sp) = []
+  stmt_places l (t_return w (Some x) sp) = expr_places l x
+  stmt_places l (t_print w text xs sp) = print_places l xs
+  stmt_places l (t_assert x c sp) = assert_places l x c
 
+  pub block_places : Layout → TBlock → List Span
+  block_places l (t_braces xs sp) = stmts_places l xs
+
+  pub stmts_places : Layout → TStmts → List Span
+  stmts_places l t_no_stmts = []
+  stmts_places l (t_stmt_then x xs) = stmt_places l x ++ stmts_places l xs
+
+module _ (l : Layout) where
   -- the numbers behind a statement
   abbrev pub behind : TStmt → Numbers → Numbers
   behind x z =
-      record { place = z.place + length (stmt_places x); text = z.text + length (stmt_texts x) }
+      record { place = z.place + length (stmt_places l x); text = z.text + length (stmt_texts x) }
 
 -- the code of a function with this layout and this result
+abbrev mutual
+  pub stmt_code : Layout → Option Ty → TStmt → ℕ → Numbers → Spot → List Instr
+  stmt_code l answer (t_block b) pc z spot = block_code l answer b pc z spot
+  stmt_code l answer (t_declare xs sp) pc z spot = items_code l xs pc z.place spot.on spot.slot
+  stmt_code l answer (t_simple x sp) pc z spot = simple_code l x pc z.place spot.on spot.slot
+  stmt_code l answer (t_if f g e x sp) pc z spot =
+      let z1 = past (expr_places l e) z in
+      two pc (expr_code l e pc z.place spot.on spot.slot) (λ pc1. if_code f (type_of e).rate (found l e spot.slot) pc1 spot (λ pc2 part. stmt_code l answer x pc2 z1 part))
+  stmt_code l answer (t_if_else f g e x y sp) pc z spot =
+      let z1 = past (expr_places l e) z in
+      two pc (expr_code l e pc z.place spot.on spot.slot) (λ pc1. if_else_code f (type_of e).rate (found l e spot.slot) pc1 spot (λ pc2 part. stmt_code l answer x pc2 z1 part) (λ pc2 part. stmt_code l answer y pc2 (behind l x z1) part))
+  stmt_code l answer (t_while f g e x sp) pc z spot =
+      let n = spot.slot in
+      while_code (is_wide f (type_of e).rate) (exits_of x) (type_of e).rate (found l e (n + 3)) pc spot (λ pc1. expr_code l e pc1 z.place n (n + 3)) (λ pc1. stmt_code l answer x pc1 (past (expr_places l e) z) (body_spot n))
+  stmt_code l answer (t_do f g x e sp) pc z spot =
+      let n = spot.slot in
+      do_code (is_wide f (type_of e).rate) (exits_of x) (type_of e).rate (found l e (n + 3)) pc spot (λ pc1. expr_code l e pc1 (behind l x z).place n (n + 3)) (λ pc1. stmt_code l answer x pc1 z (body_spot n))
+  stmt_code l answer (t_for f g first None step i x sp) pc z spot =
+      let n = spot.slot in
+      let z1 = past (first_places l first) z in
+      two pc (first_code l first pc z.place spot.on n) (λ pc1. endless_code (exits_of x) pc1 spot (λ pc2. stmt_code l answer x pc2 z1 (body_spot n)) (λ pc2. step_code l step pc2 (behind l x z1).place n (n + 3)))
+  stmt_code l answer (t_for f g first (Some e) step i x sp) pc z spot =
+      let n = spot.slot in
+      let z1 = past (first_places l first) z in
+      let z2 = past (expr_places l e) z1 in
+      two pc (first_code l first pc z.place spot.on n) (λ pc1. for_code (is_wide f (type_of e).rate) (exits_of x) (type_of e).rate (found l e (n + 3)) pc1 spot (λ pc2. expr_code l e pc2 z1.place n (n + 3)) (λ pc2. stmt_code l answer x pc2 z2 (body_spot n)) (λ pc2. step_code l step pc2 (behind l x z2).place n (n + 3)))
+  stmt_code l answer (t_foreach w g rs x sp) pc z spot =
+      foreach_code l rs pc z.place spot.on spot.slot (λ pc1. stmt_code (body_layout l rs) answer x pc1 (past (ranges_places l rs) z) (body_spot (runs_slot spot.slot rs)))
+  stmt_code l answer (t_foreach_active w g i x sp) pc z spot =
+      active_code (l.variable Uniform i) pc spot.on spot.slot (λ pc1. stmt_code l answer x pc1 z (body_spot (spot.slot + 1)))
+  stmt_code l answer (t_unmasked w b sp) pc z spot = unmasked_code spot.slot pc (λ pc1. block_code (outside l) answer b pc1 z (body_spot spot.slot))
+  stmt_code l answer (t_jump j w sp) pc z spot = jump_code j spot.on spot.continued
+  stmt_code l answer (t_return w None sp) pc z spot = leave_code spot.returned spot.on
+  stmt_code l answer (t_return w (Some x) sp) pc z spot =
+      answer_code l answer x pc z.place spot.on spot.slot ++ leave_code spot.returned spot.on
+  stmt_code l answer (t_print w text xs sp) pc z spot = print_code l text xs pc z.place z.text spot.on spot.slot
+  stmt_code l answer (t_assert x c sp) pc z spot = assert_code l x pc z.place spot.on spot.slot
+
+  pub block_code : Layout → Option Ty → TBlock → ℕ → Numbers → Spot → List Instr
+  block_code l answer (t_braces xs sp) pc z spot = stmts_code l answer xs pc z spot
+
+  pub stmts_code : Layout → Option Ty → TStmts → ℕ → Numbers → Spot → List Instr
+  stmts_code l answer t_no_stmts pc z spot = []
+  stmts_code l answer (t_stmt_then x xs) pc z spot =
+      two pc (stmt_code l answer x pc z spot) (λ pc1. rest_code (all_go_on x) xs spot.on pc1 (λ pc2. stmts_code l answer xs pc2 (behind l x z) spot))
+
 module _ (l : Layout) (answer : Option Ty) where
-  abbrev mutual
-    pub stmt_code : TStmt → ℕ → Numbers → Spot → List Instr
-    stmt_code (t_block b) pc z spot = block_code b pc z spot
-    stmt_code (t_declare xs sp) pc z spot = items_code l xs pc z.place spot.on spot.slot
-    stmt_code (t_simple x sp) pc z spot = simple_code l x pc z.place spot.on spot.slot
-    stmt_code (t_if f g e x sp) pc z spot =
-        let z1 = past (expr_places l e) z in
-        two pc (expr_code l e pc z.place spot.on spot.slot) (λ pc1. if_code f (type_of e).rate (found l e spot.slot) pc1 spot (λ pc2 part. stmt_code x pc2 z1 part))
-    stmt_code (t_if_else f g e x y sp) pc z spot =
-        let z1 = past (expr_places l e) z in
-        two pc (expr_code l e pc z.place spot.on spot.slot) (λ pc1. if_else_code f (type_of e).rate (found l e spot.slot) pc1 spot (λ pc2 part. stmt_code x pc2 z1 part) (λ pc2 part. stmt_code y pc2 (behind l x z1) part))
-    stmt_code (t_while f g e x sp) pc z spot =
-        let n = spot.slot in
-        while_code (is_wide f (type_of e).rate) (exits_of x) (type_of e).rate (found l e (n + 3)) pc spot (λ pc1. expr_code l e pc1 z.place n (n + 3)) (λ pc1. stmt_code x pc1 (past (expr_places l e) z) (body_spot n))
-    stmt_code (t_do f g x e sp) pc z spot =
-        let n = spot.slot in
-        do_code (is_wide f (type_of e).rate) (exits_of x) (type_of e).rate (found l e (n + 3)) pc spot (λ pc1. expr_code l e pc1 (behind l x z).place n (n + 3)) (λ pc1. stmt_code x pc1 z (body_spot n))
-    stmt_code (t_for f g first None step i x sp) pc z spot =
-        let n = spot.slot in
-        let z1 = past (first_places l first) z in
-        two pc (first_code l first pc z.place spot.on n) (λ pc1. endless_code (exits_of x) pc1 spot (λ pc2. stmt_code x pc2 z1 (body_spot n)) (λ pc2. step_code l step pc2 (behind l x z1).place n (n + 3)))
-    stmt_code (t_for f g first (Some e) step i x sp) pc z spot =
-        let n = spot.slot in
-        let z1 = past (first_places l first) z in
-        let z2 = past (expr_places l e) z1 in
-        two pc (first_code l first pc z.place spot.on n) (λ pc1. for_code (is_wide f (type_of e).rate) (exits_of x) (type_of e).rate (found l e (n + 3)) pc1 spot (λ pc2. expr_code l e pc2 z1.place n (n + 3)) (λ pc2. stmt_code x pc2 z2 (body_spot n)) (λ pc2. step_code l step pc2 (behind l x z2).place n (n + 3)))
-    stmt_code (t_foreach w g rs x sp) pc z spot =
-        foreach_code l rs pc z.place spot.on spot.slot (λ pc1. stmt_code x pc1 (past (ranges_places l rs) z) (body_spot (runs_slot spot.slot rs)))
-    stmt_code (t_foreach_active w g i x sp) pc z spot =
-        active_code (l.variable Uniform i) pc spot.on spot.slot (λ pc1. stmt_code x pc1 z (body_spot (spot.slot + 1)))
-    stmt_code (t_unmasked w b sp) pc z spot = unmasked_code spot.slot pc (λ pc1. block_code b pc1 z (body_spot spot.slot))
-    stmt_code (t_jump j w sp) pc z spot = jump_code j spot.on spot.continued
-    stmt_code (t_return w None sp) pc z spot = leave_code spot.returned spot.on
-    stmt_code (t_return w (Some x) sp) pc z spot =
-        answer_code l answer x pc z.place spot.on spot.slot ++ leave_code spot.returned spot.on
-    stmt_code (t_print w text xs sp) pc z spot = print_code l text xs pc z.place z.text spot.on spot.slot
-    stmt_code (t_assert x c sp) pc z spot = assert_code l x pc z.place spot.on spot.slot
-
-    pub block_code : TBlock → ℕ → Numbers → Spot → List Instr
-    block_code (t_braces xs sp) pc z spot = stmts_code xs pc z spot
-
-    pub stmts_code : TStmts → ℕ → Numbers → Spot → List Instr
-    stmts_code t_no_stmts pc z spot = []
-    stmts_code (t_stmt_then x xs) pc z spot =
-        two pc (stmt_code x pc z spot) (λ pc1. rest_code (all_go_on x) xs spot.on pc1 (λ pc2. stmts_code xs pc2 (behind l x z) spot))
-
   -- the body of a loop whose masks are n, n + 1 and n + 2
   abbrev pub body_code : TStmt → ℕ → Numbers → ℕ → List Instr
-  body_code x n z pc = stmt_code x pc z (body_spot n)
+  body_code x n z pc = stmt_code l answer x pc z (body_spot n)
 
   -- a turn of a `for`, its step, and the jump back to the test
   abbrev pub stepped_code : Bool → Option TSimple → TStmt → Exits → ℕ → ℕ → ℕ → Numbers → List Instr
@@ -204,4 +212,4 @@ module _ (l : Layout) (answer : Option Ty) where
 
   -- the body, and what it gives back
   abbrev pub function_code : TBlock → ℕ → Numbers → List Instr
-  function_code b pc z = block_code b pc z first_spot ++ instr.Return (returned l answer) ∷ []
+  function_code b pc z = block_code l answer b pc z first_spot ++ instr.Return (returned l answer) ∷ []

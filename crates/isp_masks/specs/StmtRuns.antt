@@ -5,7 +5,7 @@ use Rattle.isp_base.specs.Sets.{Mask, union}
 use Rattle.isp_code.specs.Conf.{Conf}
 use Rattle.isp_meaning.specs.State.{State}
 use Rattle.isp_meaning.specs.Outcomes.{Res, Went, Trapped, Cut}
-use Rattle.isp_lower.specs.Setting.{Setting, gang_of, At, Stands, Spares}
+use Rattle.isp_lower.specs.Setting.{Setting, gang_of, At, Stands, Spares, Allowed}
 use Rattle.isp_lower.specs.Runs.{Comes, Enters, Failed, Stopped}
 use Rattle.isp_masks.specs.Spots.{Spot}
 
@@ -24,9 +24,9 @@ aside true = 0
 aside false = 1
 
 module _ (w : Setting) where
-  -- all of a set are instances of the gang
+  -- all of a set may run
   abbrev pub Inside : Mask → Type 0
-  Inside a = (p : ℕ) → a p ≡ true → p < gang_of w
+  Inside a = (p : ℕ) → a p ≡ true → Allowed w p
 
   -- what holds where the code of a statement begins, as for an expression
   abbrev pub EntersAt : ℕ → Spot → Mask → State → Conf → ℕ → Type 0

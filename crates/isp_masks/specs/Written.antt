@@ -16,8 +16,8 @@ use Rattle.isp_lower.specs.declared.types.Scope.{Scope}
 use Rattle.isp_lower.specs.Written.{Piece as Silent}
 use Rattle.isp_code.specs.declared.instr.Plain.TheVariants as plain
 use Rattle.isp_lower.specs.Asks.{Ask, Both, Register, Number, spare_ask}
-use Rattle.isp_lower.specs.Layout.{Layout}
-use Rattle.isp_lower.specs.Rows.{Variable}
+use Rattle.isp_lower.specs.Layout.{Layout, within, outside}
+use Rattle.isp_lower.specs.Rows.{Variable, Place}
 use Rattle.isp_lower.specs.declared.numbered.Slot.{Slot}
 use Rattle.isp_masks.specs.Asks.{bounds_asks, loop_asks, measures_asks, places_asks}
 use Rattle.isp_masks.specs.Asserts.{assert_code, assert_places}
@@ -28,7 +28,7 @@ use Rattle.isp_masks.specs.Ranges.{foreach_code, last_index, narrow, outer_index
 use Rattle.isp_masks.specs.Rounds.{active_code, unmasked_code}
 use Rattle.isp_masks.specs.Sets.{unite}
 use Rattle.isp_masks.specs.Spots.{Numbers, Spot as Where, body_spot, next_of, past, spot_of}
-use Rattle.isp_masks.specs.Statements.{answer_code, behind, block_code, block_places, block_texts, body_code, function_code, if_code, if_else_code, stepped_code, stmt_code, stmt_places, stmt_texts, turns_code}
+use Rattle.isp_masks.specs.Statements.{answer_code, behind, block_code, block_places, block_texts, body_code, function_code, if_code, if_else_code, stepped_code, stmt_code, stmt_places, stmt_texts, turns_code, body_layout}
 use Rattle.isp_masks.specs.declared.looping.Loop.{Loop}
 use Rattle.isp_masks.specs.declared.looping.Test.{Test}
 use Rattle.isp_masks.specs.declared.masks.Spot.{Spot}
@@ -151,7 +151,7 @@ live_again_at on alone e it =
 abbrev pub unmasked_at : Scope → TBlock → Spot → Piece
 unmasked_at on b spot =
     let l = layout on in
-    record { code = λ pc z. unmasked_code spot.slot.number pc (λ pc1. block_code l on.answer b pc1 z (body_spot spot.slot.number)); places = block_places l b; texts = block_texts b }
+    record { code = λ pc z. unmasked_code spot.slot.number pc (λ pc1. block_code (outside l) on.answer b pc1 z (body_spot spot.slot.number)); places = block_places (outside l) b; texts = block_texts b }
 
 abbrev pub active_at : Scope → ℕ → TStmt → Spot → Piece
 active_at on i x spot =
@@ -213,7 +213,7 @@ sweep_asks it =
 
 abbrev pub last_asks : ℕ → Sweep → Ask
 last_asks i it =
-    Both (Register Varying (Variable i) I32) (Both (spare_ask Varying I32 (it.place.number + 1)) (Both (spare_ask Varying I32 it.measures.number) (Number (it.masks.number + 3))))
+    Both (Register Varying (Variable i) I32) (Both (spare_ask Varying I32 (it.place.number + 1)) (Both (spare_ask Varying I32 it.measures.number) (Both (Register Uniform Place I64) (Number (it.masks.number + 3)))))
 
 abbrev pub sweeps_asks : List TRange → Sweep → Ask
 sweeps_asks rs it =
@@ -250,7 +250,7 @@ abbrev pub last_run_at : Scope → ℕ → TStmt → List OuterIndex → Sweep �
 last_run_at on i x set it =
     let l = layout on in
     let h = it.masks.number in
-    record { code = λ pc z. two pc (index_codes h set ++ last_index l i it.place.number it.measures.number h) (body_code l on.answer x h z); places = stmt_places l x; texts = stmt_texts x }
+    record { code = λ pc z. two pc (index_codes h set ++ last_index l i it.place.number it.measures.number h) (body_code (within l i) on.answer x h z); places = stmt_places (within l i) x; texts = stmt_texts x }
 
 abbrev pub last_range_at : Scope → ℕ → TStmt → List OuterIndex → Sweep → Piece
 last_range_at on i x set it =
@@ -266,7 +266,7 @@ abbrev pub ranges_at : Scope → List TRange → TStmt → List OuterIndex → S
 ranges_at on rs x set it =
     let l = layout on in
     let h = it.masks.number in
-    record { code = λ pc z. ranges_code l it.measures.number h (body_code l on.answer x h z) rs (index_codes h set) it.bounds.number it.place.number pc; places = stmt_places l x; texts = stmt_texts x }
+    record { code = λ pc z. ranges_code l it.measures.number h (body_code (body_layout l rs) on.answer x h z) rs (index_codes h set) it.bounds.number it.place.number pc; places = stmt_places (body_layout l rs) x; texts = stmt_texts x }
 
 abbrev pub outer_turn_code : Layout → ℕ → ℕ → (ℕ → List Instr) → List TRange → List Instr → ℕ → ℕ → ℕ → List Instr
 outer_turn_code l n h body [] set e m pc = []
@@ -277,10 +277,10 @@ abbrev pub outer_turn_at : Scope → List TRange → TStmt → List OuterIndex �
 outer_turn_at on rs x set it =
     let l = layout on in
     let h = it.masks.number in
-    record { code = λ pc z. outer_turn_code l it.measures.number h (body_code l on.answer x h z) rs (index_codes h set) it.bounds.number it.place.number pc; places = stmt_places l x; texts = stmt_texts x }
+    record { code = λ pc z. outer_turn_code l it.measures.number h (body_code (body_layout l rs) on.answer x h z) rs (index_codes h set) it.bounds.number it.place.number pc; places = stmt_places (body_layout l rs) x; texts = stmt_texts x }
 
 abbrev pub foreach_at : Scope → List TRange → TStmt → Spot → Piece
 foreach_at on rs x spot =
     let l = layout on in
     let n = spot.slot.number in
-    record { code = λ pc z. foreach_code l rs pc z.place spot.masks.on.number n (body_code l on.answer x (runs_slot n rs) (past (ranges_places l rs) z)); places = ranges_places l rs ++ stmt_places l x; texts = stmt_texts x }
+    record { code = λ pc z. foreach_code l rs pc z.place spot.masks.on.number n (body_code (body_layout l rs) on.answer x (runs_slot n rs) (past (ranges_places l rs) z)); places = ranges_places l rs ++ stmt_places (body_layout l rs) x; texts = stmt_texts x }

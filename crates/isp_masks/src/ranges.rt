@@ -344,7 +344,7 @@ pub(crate) fn outer_value(b: &mut Body, on: &Scope, it: Sweep) -> Result<Registe
     Ok(value)
 }
 
-/// The index of the last range: its place and the lanes' numbers.
+/// The index of the last range: its place and the lanes' numbers; and the place as that of the run.
 pub(crate) fn last_index(
     b: &mut Body,
     on: &Scope,
@@ -362,5 +362,6 @@ pub(crate) fn last_index(
     b.push(converted(single, wide(on, it.place)))?;
     b.push(spread(each, single, k))?;
     b.push(added_lanes(index(on, variable), each, lane(on, it.measures), k))?;
+    b.push(moved(on.place(), wide(on, it.place)))?;
     Ok(())
 }

@@ -57,6 +57,7 @@ fn place(r: &mut Reserve, x: &TypedRange, slot: Slot) -> Result<Slot, AllocError
     r.spare(Rate::Uniform, Elem::I32, second)?;
     r.spare(Rate::Varying, Elem::I32, second)?;
     r.spare(Rate::Uniform, Elem::Bool, second)?;
+    r.place()?;
     Ok(second)
 }
 

@@ -77,6 +77,8 @@ pub(crate) fn function(e: &mut Emitter, f: &TypedFunction) -> Result<(), AllocEr
         registers: &e.reserved.registers,
         masks: e.reserved.masks,
         answer: f.result,
+        run: None,
+        in_run: false,
     };
     body(&mut e.body, &on, &f.body)?;
     Ok(())

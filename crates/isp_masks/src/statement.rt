@@ -256,7 +256,8 @@ fn unmasked(b: &mut Body, on: &Scope, body: &TypedBlock, spot: Spot) -> Result<(
     ensures { OnOk result (Writes b.old b.new (unmasked_at on.now (block_of body.now) spot)) }
 {
     b.push(fill_mask(spot.slot.mask()))?;
-    block(b, on, body, Spot::own(spot.slot))?;
+    let inner = on.outside();
+    block(b, &inner, body, Spot::own(spot.slot))?;
     Ok(())
 }
 
@@ -474,7 +475,8 @@ fn last_run(
 {
     outer_indices(b, &set, it.masks.mask())?;
     last_index(b, on, variable, it)?;
-    stmt(b, on, body, Spot::own(it.masks))?;
+    let inner = on.within(variable);
+    stmt(b, &inner, body, Spot::own(it.masks))?;
     Ok(())
 }
 
@@ -515,6 +517,7 @@ fn outer_turn(
     set: Vec<OuterIndex>,
     it: Sweep,
 ) -> Result<(), AllocError>
+    requires many { 1 < length all.now }
     requires range { Present on.now (sweep_asks it) }
     requires ranges { Present on.now (sweeps_asks (ranges_of all.now) it) }
     requires body { Present on.now (stmt_asks on.now.answer (stmt_of body.now) (it.masks.number + 3)) }

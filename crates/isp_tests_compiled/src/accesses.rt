@@ -47,7 +47,7 @@ fn compare(
     Ok(())
 }
 
-const ROWS: [(&str, u32, u32); 7] = [
+const ROWS: [(&str, u32, u32); 16] = [
     (
         "export void f(uniform int a[]) { a[programIndex] = a[programIndex] + 1; }",
         2,
@@ -82,6 +82,51 @@ const ROWS: [(&str, u32, u32); 7] = [
         "export void f(uniform int a[]) { a[programIndex + 0] = 1; }",
         0,
         1,
+    ),
+    (
+        "export void inc(uniform int a[], uniform int n) { foreach (i = 0 ... n) a[i] = a[i] + 1; }",
+        2,
+        0,
+    ),
+    (
+        "export void f(uniform int a[]) { foreach (i = 0 ... 9) { if (i % 2 == 0) a[i]++; while (a[i] < 4) a[i] += 2; } }",
+        5,
+        0,
+    ),
+    (
+        "export void f(uniform int a[]) { foreach (i = 0 ... 9) { unmasked { a[i] = 1; } a[i] = 2; } }",
+        1,
+        1,
+    ),
+    (
+        "export void f(uniform int a[]) { unmasked { foreach (i = 0 ... 9) a[i] = 1; } }",
+        1,
+        0,
+    ),
+    (
+        "export void f(uniform int a[]) { foreach (y = 0 ... 2, x = 0 ... 9) { a[y] = 1; a[x] = 2; } }",
+        1,
+        1,
+    ),
+    (
+        "export void f(uniform int a[]) { foreach (i = 0 ... 9) a[i + 1] = a[(i)]; }",
+        0,
+        2,
+    ),
+    (
+        "export void f(uniform int a[]) { foreach (i = 0 ... 9) { int j = i; int i = j; a[i] = 1; } }",
+        0,
+        1,
+    ),
+    (
+        "export void f(uniform int a[]) { int t[9]; foreach (i = 0 ... 9) t[i] = a[i]; }",
+        1,
+        1,
+    ),
+    (
+        "export void f(uniform int a[]) { uniform int t[9]; foreach (i = 0 ... 9) t[i] = a[i]; foreach (k = 0 ... 9) a[k] = t[k]; }",
+        4,
+        0,
     ),
 ];
 

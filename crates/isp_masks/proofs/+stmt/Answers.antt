@@ -1,4 +1,4 @@
-use Rattle.std.proofs.Common.{◌≡◌, ◌≤◌, List, [], ◌∷◌, ◌++◌, length, sym, ap, subst, ◌∙◌, arith, false, not, suc, take_all, ◌<◌, ◌+◌}
+use Rattle.std.proofs.Common.{◌≡◌, ◌≤◌, List, [], ◌∷◌, ◌++◌, length, sym, ap, subst, ◌∙◌, arith, false, not, suc, take, take_all, drop, ◌<◌, ◌+◌, ◌-◌}
 use Rattle.std.specs.Prelude.{option_map, slice_set}
 use Rattle.isp_code.specs.declared.instr.JumpTest.TheVariants as jump
 use Rattle.isp_lower.specs.Code.{jump_off, jump_on, two}
@@ -6,9 +6,11 @@ use Rattle.isp_lower.specs.Emitted.{Appends, Present, layout}
 use Rattle.isp_lower.specs.declared.sites.Site.{Site}
 use Rattle.isp_typed.specs.Nodes.{block_nodes, stmts_nodes, range_nodes, stmt_nodes}
 use Rattle.isp_typed.specs.Typed.{TBlock, TStmt, t_braces, t_if, t_if_else, t_while, t_for, t_stmts, t_foreach}
-use Rattle.isp_typed.specs.Views.{block_of, expr_of, first_of, simple_of, stmt_of, stmts_of, ranges_of}
+use Rattle.isp_typed.specs.Views.{block_of, expr_of, first_of, simple_of, stmt_of, stmts_of, range_of, ranges_of}
+use Rattle.isp_typed.specs.declared.stmt.TypedRange.{TypedRange}
 use Rattle.isp_typed.proofs.StmtViews.{if_view, if_else_view, while_view, for_view, foreach_view}
 use Rattle.isp_tree.specs.Nodes.{nodes_of_all}
+use Rattle.std.proofs.lemmas.List.{drop_all, drop_more}
 use Rattle.std.proofs.lemmas.Result.{on_ok_weaker}
 use Rattle.isp_masks.specs.Awaited.{AreBelow, Awaits, set_all}
 use Rattle.isp_masks.specs.Exits.{nobody_leaves}
@@ -16,18 +18,18 @@ use Rattle.isp_masks.specs.Fors.{first_code, first_places}
 use Rattle.isp_masks.specs.Loops.{back_code, jump_all, sift_jump}
 use Rattle.isp_masks.specs.Sets.{unite}
 use Rattle.isp_masks.specs.Spots.{Numbers, next_of, spot_of}
-use Rattle.isp_masks.specs.Statements.{stmt_code, stmt_places, stmt_texts, stmts_code, stmts_places, stmts_texts, body_code}
-use Rattle.isp_masks.specs.Written.{Piece, Writes, block_at, guarded_at, stepped_at, stmt_at, turn_at, turns_at, first_sweep, index_codes, last_run_at, outer_turn_at, place_test, range_begin, range_step, ranges_at, run_test}
+use Rattle.isp_masks.specs.Statements.{stmt_code, stmt_places, stmt_texts, stmts_code, stmts_places, stmts_texts, body_code, body_layout}
+use Rattle.isp_masks.specs.Written.{Piece, Writes, block_at, guarded_at, stepped_at, stmt_at, turn_at, turns_at, first_sweep, index_codes, last_run_at, outer_turn_at, place_test, range_begin, range_step, ranges_at, run_test, step_back_at}
 use Rattle.isp_masks.proofs.Awaiting.{awaits_end}
 use Rattle.isp_masks.proofs.Forms.{list_step, nodes_low, stmts_more}
 use Rattle.isp_masks.proofs.Lists.{flat, flat_is}
 use Rattle.isp_masks.proofs.Sifting.{for_written, sifted}
 use Rattle.isp_masks.proofs.Views.{block_view}
-use Rattle.isp_masks.proofs.Writing.{chosen_of, landed_over, writes_back, writes_past}
+use Rattle.isp_masks.proofs.Writing.{chosen_of, landed_over, writes_adding, writes_back, writes_past}
 use Rattle.isp_base.specs.declared.types.Rate.TheVariants.{Uniform}
 use Rattle.isp_code.specs.declared.instr.Instr.TheVariants as instr
 use Rattle.isp_masks.specs.Ranges.{bounds_code, measures_code, ranges_places, runs_slot, test}
-use Rattle.isp_masks.proofs.RangesWritten.{foreach_written, ranges_count, ranges_low, ranges_outer, sweep_there, sweep_written}
+use Rattle.isp_masks.proofs.RangesWritten.{foreach_written, outer_written, ranges_count, ranges_low, ranges_outer, sweep_there, sweep_written}
 use Rattle.isp_masks.specs.Asks.{stmt_asks}
 use Rattle.isp_lower.specs.Layout.{mask_register, register}
 use Rattle.isp_lower.specs.declared.numbered.MaskNumber.{MaskNumber}
@@ -227,7 +229,7 @@ statement::foreach-returns t c =
     let bound = subst (λ (s : Sweep). Appends c.measures.new.b c.bounds.new.b (λ pc p. bounds_code l rs pc p k s.bounds.number) (ranges_places l rs)) c.first-it.ensures c.in_ok-bounds.ensures in
     let swept = subst (λ (s : Sweep). Writes c.bounds.new.b c.ranges-2.new.b (ranges_at a.on.now rs x c.new-none.result.items s)) c.first-it.ensures c.in_ok-ranges.ensures in
     let none = subst (λ (xs : List OuterIndex). Writes c.bounds.new.b c.ranges-2.new.b (ranges_at a.on.now rs x xs (first_sweep a.spot.slot rs))) c.new-none.ensures.items swept in
-    foreach_written l a.b.now c.measures.new.b c.bounds.new.b c.ranges-2.new.b rs k n (λ z. body_code l a.on.now.answer x h z) (stmt_places l x) (stmt_texts x) begun bound none
+    foreach_written l a.b.now c.measures.new.b c.bounds.new.b c.ranges-2.new.b rs k n (λ z. body_code (body_layout l rs) a.on.now.answer x h z) (stmt_places (body_layout l rs) x) (stmt_texts x) begun bound none
 
 pub statement::ranges-outer_range-requires : goal.statement::ranges-outer_range-requires
 statement::ranges-outer_range-requires t c =
@@ -264,7 +266,7 @@ statement::outer_range-returns t c =
     let rs = ranges_of a.all.now in
     let x = stmt_of a.body.now in
     let set = index_codes h a.set.items in
-    let body = λ (z : Numbers). body_code l a.on.now.answer x h z in
+    let body = λ (z : Numbers). body_code (body_layout l rs) a.on.now.answer x h z in
     let many : 1 < length rs = subst (λ i. 1 < i) (sym (ranges_count a.all.now)) c.requires.many in
     let after = c.go_on.new.b.code.items in
     let code = ap (λ r. slice_set after c.len-at.result (instr.JumpIf jump.False r (length after))) (c.scalar.ensures ∙ ap (register Uniform) (c.tested.ensures ∙ ap (λ (s : Slot). test l s.number) c.next-2.ensures)) in
@@ -278,3 +280,39 @@ statement::outer_range-returns t c =
       places = z.places;
       texts = z.texts;
     }
+
+pub statement::stepped_turn-returns : goal.statement::stepped_turn-returns
+statement::stepped_turn-returns t c =
+    let a = c.args in
+    let back = step_back_at a.on.now (nobody_leaves a.it.exits) (option_map simple_of a.step.now) a.it in
+    writes_adding a.b.now c.turn.new.b c.step_back.new.b (turn_at a.on.now (stmt_of a.body.now) a.it) back.code back.places c.in_ok-turn.ensures c.in_ok-step_back.ensures
+
+pub statement::ranges-returns-in-len1 : goal.statement::ranges-returns-in-len1
+statement::ranges-returns-in-len1 t c =
+    let a = c.args in
+    let r = c.last-item.result in
+    let least = c.in-len1.len_at_least in
+    let below = c.in-len1.len_below in
+    let is : a.all.now ≡ r ∷ [] = drop_more a.all.now 0 r (omega (arith, least)) ∙ ap (λ z. z ∷ drop 1 a.all.now) (sym c.last-item.is) ∙ ap (λ rs. r ∷ rs) (drop_all 1 a.all.now (omega (arith, below))) in
+    on_ok_weaker c.last_range.result
+    (λ w. subst (λ (rs : List TypedRange). Writes a.b.now c.last_range.new.b (ranges_at a.on.now (ranges_of rs) (stmt_of a.body.now) a.set.items a.it)) (sym is) w)
+    c.last_range.ensures
+
+pub statement::outer_turn-returns : goal.statement::outer_turn-returns
+statement::outer_turn-returns t c =
+    let a = c.args in
+    let x = stmt_of a.body.now in
+    let r = c.range-item.result in
+    let inner = drop 1 a.all.now in
+    let least = c.in-len1-up.len_at_least in
+    let is : a.all.now ≡ r ∷ inner = drop_more a.all.now 0 r (omega (arith, least)) ∙ ap (λ z. z ∷ inner) (sym c.range-item.is) in
+    let long = ap length is in
+    let count = ranges_count inner in
+    let many = c.requires.many in
+    let some : 0 < length (ranges_of inner) = omega (arith, long, count, many) in
+    let one : OuterIndex = record { index = c.index.result; value = c.in_ok-value.value } in
+    let whole : take (length a.all.now - 1) inner ≡ inner = take_all (length a.all.now - 1) inner (omega (arith, long)) in
+    let told = subst (λ (rs : List TypedRange). Writes c.outer_value.new.b c.ranges-2.new.b (ranges_at a.on.now (ranges_of rs) x c.push.new.self.items c.inner.result)) whole c.in_ok-ranges.ensures in
+    let rest = subst (λ (zs : List OuterIndex). Writes c.outer_value.new.b c.ranges-2.new.b (ranges_at a.on.now (ranges_of inner) x zs c.inner.result)) c.in_ok-push.ensures.items told in
+    subst (λ (rs : List TypedRange). Writes a.b.now c.ranges-2.new.b (outer_turn_at a.on.now (ranges_of rs) x a.set.items a.it)) (sym is)
+    (outer_written a.on.now a.b.now c.outer_value.new.b c.ranges-2.new.b (range_of r) (ranges_of inner) x a.set.items a.it c.inner.result one some c.inner.ensures c.index.ensures c.in_ok-value.ensures.number c.in_ok-value.ensures.added rest)

@@ -5,7 +5,7 @@ use Rattle.std.specs.Ordering.{nat_cmp}
 use Rattle.std.proofs.lemmas.Option.{slice_get-map}
 use Rattle.isp_lower.specs.Lookup.{name_of, row_of}
 use Rattle.isp_lower.specs.Rows.{name_number}
-use Rattle.isp_lower.proofs.Lookup.{found_number, found_elem, none_behind, none_other}
+use Rattle.isp_lower.proofs.Lookup.{found_number, found_elem, none_behind, none_other, own_found}
 use Rattle.isp_lower.proofs.register_rows.RegisterRows.find.Goals as goal
 
 pub returns-in-Some-clause-number : goal.returns-in-Some-clause-number
@@ -49,3 +49,11 @@ returns-in_default-2-clause-none c =
     let at = ap (λ z. slice_get z place) (sym c.as_slice.ensures.value) ∙ (sym c.row_at.ensures ∙ c.in_default.is) in
     let stands = slice_get-map row_of rows place ∙ ap (option_map row_of) at in
     rw (← c.self.view_is) (none_behind c.self.inside.places (map row_of rows) (name_of c.args.name) c.self.invariant.0 place told stands)
+
+pub returns-in-Some-clause-own : goal.returns-in-Some-clause-own
+returns-in-Some-clause-own c =
+    let rows = c.self.inside.rows.items in
+    let place = c.in_ok-place.field-0.now in
+    let row = c.in-Some.row in
+    let at = ap (λ z. slice_get z place) (sym c.as_slice.ensures.value) ∙ (sym c.row_at.ensures ∙ c.in-Some.is) in
+    own_found rows place row (name_of c.args.name) at (sym c.name_number.ensures ∙ (c.if-name_number-number.true ∙ c.name_number-number.ensures)) c.self.invariant.2

@@ -7,7 +7,7 @@ pub invariant_of-self-2 : goal.invariant_of-self-2
 invariant_of-self-2 c =
     let s = c.self.inside in
     let new = c.append.new.rows.items in
-    let at = rw (sym c.self.view_is) at c.requires in (
+    let at = rw (sym c.self.view_is) at c.requires.named in (
       elim c.if-is_none.branch [
         | then-is_none+in_ok-insert w ↦ rw (ap (λ z. z.places) w.self-inside-is)
             (pushed_new s.rows.items new c.args.row c.find.result (c.in_ok-append.ensures.ok ∙ ap (λ z. z.rows.items ++ c.args.row ∷ []) w.self-inside-is)
@@ -18,7 +18,7 @@ invariant_of-self-2 c =
       ],
       c.in_ok-append.ensures.few,
       elim c.if-is_none.branch [
-        | then-is_none+in_ok-insert w ↦ pushed_named s.rows.items new c.args.row (c.in_ok-append.ensures.ok ∙ ap (λ z. z.rows.items ++ c.args.row ∷ []) w.self-inside-is) c.self.invariant.2 at
-        | else-is_none w ↦ pushed_named s.rows.items new c.args.row (c.in_ok-append.ensures.ok ∙ ap (λ z. z.rows.items ++ c.args.row ∷ []) w.self-inside-is) c.self.invariant.2 at
+        | then-is_none+in_ok-insert w ↦ pushed_named s.rows.items new c.args.row (c.in_ok-append.ensures.ok ∙ ap (λ z. z.rows.items ++ c.args.row ∷ []) w.self-inside-is) c.self.invariant.2 at c.requires.own
+        | else-is_none w ↦ pushed_named s.rows.items new c.args.row (c.in_ok-append.ensures.ok ∙ ap (λ z. z.rows.items ++ c.args.row ∷ []) w.self-inside-is) c.self.invariant.2 at c.requires.own
       ],
     )

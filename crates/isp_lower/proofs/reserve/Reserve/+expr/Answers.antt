@@ -44,7 +44,7 @@ pub read-returns : goal.read-returns
 read-returns t c = both_given _ _ _ _ _ c.in_ok-target.ensures c.in_ok-held.ensures
 
 pub element_index-returns : goal.element_index-returns
-element_index-returns t c = both_given _ _ _ _ _ (rw c.is_run.ensures at c.in_ok-run.ensures) c.in_ok-index.ensures
+element_index-returns t c = both_given _ _ _ _ _ c.in_ok-run.ensures c.in_ok-index.ensures
 
 pub index-returns : goal.index-returns
 index-returns t c = both_given _ _ _ _ _ (rw c.ty.ensures at c.in_ok-lift.ensures) c.in_ok-converted.ensures
