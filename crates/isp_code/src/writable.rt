@@ -131,14 +131,23 @@ fn scalar_fits(instr: &ScalarInstr) -> bool
         ScalarInstr::Constant(n) => constant_fits(*n),
         ScalarInstr::Copy(x) => fits(x),
         ScalarInstr::Convert(x) => fits(x),
-        ScalarInstr::Unary(_op, x) => fits(x),
-        ScalarInstr::Binary(_op, x, y) => fits(x) && fits(y),
-        ScalarInstr::Compare(_op, x, y) => fits(x) && fits(y),
-        ScalarInstr::Select(c, x, y) => fits(c) && fits(x) && fits(y),
+        ScalarInstr::Unary { value, .. } => fits(value),
+        ScalarInstr::Binary { left, right, .. } => fits(left) && fits(right),
+        ScalarInstr::Compare { left, right, .. } => fits(left) && fits(right),
+        ScalarInstr::Select {
+            test,
+            if_true,
+            if_false,
+        } => fits(test) && fits(if_true) && fits(if_false),
         ScalarInstr::First(x) => fits(x),
-        ScalarInstr::Load(a, i, k, place) => fits(a) && fits(i) && fits(k) && number_fits(*place),
-        ScalarInstr::Reduce(_op, x, k) => fits(x) && fits(k),
-        ScalarInstr::Extract(x, i, k) => fits(x) && fits(i) && fits(k),
+        ScalarInstr::Load {
+            array,
+            index,
+            mask,
+            place,
+        } => fits(array) && fits(index) && fits(mask) && number_fits(*place),
+        ScalarInstr::Reduce { vector, mask, .. } => fits(vector) && fits(mask),
+        ScalarInstr::Extract { vector, lane, mask } => fits(vector) && fits(lane) && fits(mask),
     }
 }
 
@@ -146,24 +155,65 @@ fn vector_fits(instr: &VectorInstr) -> bool
     ensures { result ≡ writable.vector_fits instr.now }
 {
     match instr {
-        VectorInstr::Copy(x, k) => fits(x) && fits(k),
-        VectorInstr::Convert(x, k) => fits(x) && fits(k),
-        VectorInstr::Unary(_op, x, k) => fits(x) && fits(k),
-        VectorInstr::Binary(_op, x, y, k) => fits(x) && fits(y) && fits(k),
-        VectorInstr::Compare(_op, x, y, k) => fits(x) && fits(y) && fits(k),
-        VectorInstr::Select(c, x, y, k) => fits(c) && fits(x) && fits(y) && fits(k),
-        VectorInstr::Splat(x, k) => fits(x) && fits(k),
+        VectorInstr::Copy { value, mask } => fits(value) && fits(mask),
+        VectorInstr::Convert { value, mask } => fits(value) && fits(mask),
+        VectorInstr::Unary { value, mask, .. } => fits(value) && fits(mask),
+        VectorInstr::Binary {
+            left,
+            right,
+            mask,
+            ..
+        } => fits(left) && fits(right) && fits(mask),
+        VectorInstr::Compare {
+            left,
+            right,
+            mask,
+            ..
+        } => fits(left) && fits(right) && fits(mask),
+        VectorInstr::Select {
+            test,
+            if_true,
+            if_false,
+            mask,
+        } => fits(test) && fits(if_true) && fits(if_false) && fits(mask),
+        VectorInstr::Splat { value, mask } => fits(value) && fits(mask),
         VectorInstr::Index(k) => fits(k),
-        VectorInstr::Gather(a, i, k, place) => fits(a) && fits(i) && fits(k) && number_fits(*place),
-        VectorInstr::LoadRun(a, i, k, place) => fits(a)
-            && fits(i)
-            && fits(k)
-            && number_fits(*place),
-        VectorInstr::Scan(_op, x, k) => fits(x) && fits(k),
-        VectorInstr::Exchange(_exchange, x, i, k) => fits(x) && fits(i) && fits(k),
-        VectorInstr::Shuffle(x, i, k) => fits(x) && fits(i) && fits(k),
-        VectorInstr::ShuffleTwo(x, y, i, k) => fits(x) && fits(y) && fits(i) && fits(k),
-        VectorInstr::Insert(x, i, y, k) => fits(x) && fits(i) && fits(y) && fits(k),
+        VectorInstr::Gather {
+            array,
+            indices,
+            mask,
+            place,
+        } => fits(array) && fits(indices) && fits(mask) && number_fits(*place),
+        VectorInstr::LoadRun {
+            array,
+            index,
+            mask,
+            place,
+        } => fits(array) && fits(index) && fits(mask) && number_fits(*place),
+        VectorInstr::Scan { value, mask, .. } => fits(value) && fits(mask),
+        VectorInstr::Exchange {
+            vector,
+            by,
+            mask,
+            ..
+        } => fits(vector) && fits(by) && fits(mask),
+        VectorInstr::Shuffle {
+            vector,
+            lanes,
+            mask,
+        } => fits(vector) && fits(lanes) && fits(mask),
+        VectorInstr::ShuffleTwo {
+            first,
+            second,
+            lanes,
+            mask,
+        } => fits(first) && fits(second) && fits(lanes) && fits(mask),
+        VectorInstr::Insert {
+            vector,
+            lane,
+            value,
+            mask,
+        } => fits(vector) && fits(lane) && fits(value) && fits(mask),
     }
 }
 
@@ -172,12 +222,12 @@ fn mask_fits(instr: &MaskInstr) -> bool
 {
     match instr {
         MaskInstr::Copy(x) => fits(x),
-        MaskInstr::Binary(_op, x, y) => fits(x) && fits(y),
+        MaskInstr::Binary { left, right, .. } => fits(left) && fits(right),
         MaskInstr::Full => true,
         MaskInstr::Off => true,
-        MaskInstr::Test(x, y) => fits(x) && fits(y),
+        MaskInstr::Test { vector, mask } => fits(vector) && fits(mask),
         MaskInstr::Lowest(x) => fits(x),
-        MaskInstr::Range(x, y) => fits(x) && fits(y),
+        MaskInstr::Range { first, end } => fits(first) && fits(end),
     }
 }
 
@@ -204,22 +254,65 @@ fn instr_fits(instr: &Instr) -> bool
     ensures { result ≡ writable.instr_fits instr.now }
 {
     match instr {
-        Instr::Scalar(d, instr) => fits(d) && scalar_fits(instr),
-        Instr::Vector(d, instr) => fits(d) && vector_fits(instr),
-        Instr::Mask(d, instr) => fits(d) && mask_fits(instr),
-        Instr::Divide(_op, d, x, y, k, place) => access_fits(d, x, y, k, *place),
-        Instr::Store(a, i, y, k, place) => access_fits(a, i, y, k, *place),
-        Instr::Scatter(a, i, y, k, place) => access_fits(a, i, y, k, *place),
-        Instr::StoreRun(a, i, y, k, place) => access_fits(a, i, y, k, *place),
-        Instr::PackedStore(d, a, i, y, k, place) => fits(d) && access_fits(a, i, y, k, *place),
-        Instr::PackedLoad(d, a, i, y, k, place) => fits(d) && access_fits(a, i, y, k, *place),
-        Instr::Clear(a, k) => fits(a) && fits(k),
-        Instr::Jump(to) => number_fits(*to),
-        Instr::JumpIf(_test, x, to) => fits(x) && number_fits(*to),
-        Instr::Say(text) => number_fits(*text),
+        Instr::Scalar { result, instr } => fits(result) && scalar_fits(instr),
+        Instr::Vector { result, instr } => fits(result) && vector_fits(instr),
+        Instr::Mask { result, instr } => fits(result) && mask_fits(instr),
+        Instr::Divide {
+            result,
+            dividend,
+            divisor,
+            mask,
+            place,
+            ..
+        } => access_fits(result, dividend, divisor, mask, *place),
+        Instr::Store {
+            array,
+            index,
+            value,
+            mask,
+            place,
+        } => access_fits(array, index, value, mask, *place),
+        Instr::Scatter {
+            array,
+            indices,
+            value,
+            mask,
+            place,
+        } => access_fits(array, indices, value, mask, *place),
+        Instr::StoreRun {
+            array,
+            index,
+            value,
+            mask,
+            place,
+        } => access_fits(array, index, value, mask, *place),
+        Instr::PackedStore {
+            count,
+            array,
+            index,
+            value,
+            mask,
+            place,
+        } => fits(count) && access_fits(array, index, value, mask, *place),
+        Instr::PackedLoad {
+            count,
+            array,
+            index,
+            result,
+            mask,
+            place,
+        } => fits(count) && access_fits(array, index, result, mask, *place),
+        Instr::Clear { array, mask } => fits(array) && fits(mask),
+        Instr::Jump { target } => number_fits(*target),
+        Instr::JumpIf {
+            register,
+            target,
+            ..
+        } => fits(register) && number_fits(*target),
+        Instr::Say { text } => number_fits(*text),
         Instr::PrintScalar(x) => fits(x),
-        Instr::PrintVector(x, k) => fits(x) && fits(k),
-        Instr::Fail(x, place) => fits(x) && number_fits(*place),
+        Instr::PrintVector { vector, mask } => fits(vector) && fits(mask),
+        Instr::Fail { mask, place } => fits(mask) && number_fits(*place),
         Instr::Call(call) => call_fits(call.get()),
         Instr::Return(x) => result_fits(x),
     }
