@@ -1,16 +1,18 @@
 #!/usr/bin/env python3
 """What each kernel must answer, worked out in plain Python from its arguments, without isp.
 
-    python3 examples/answers.py            says what in the files is otherwise: an answer, what README.md shows, the rows that are run
+    python3 examples/answers.py            says what in the files is otherwise: an answer, what README.md shows, its pictures, the rows that are run
     python3 examples/answers.py --write    writes the answers and the rows
 """
 import json
 import math
 import pathlib
+import subprocess
 import sys
 
 HERE = pathlib.Path(__file__).resolve().parent
 ROWS = HERE.parent / "crates/isp_cases/data/kernels.rows"
+PICTURE = HERE.parent / "tools/picture"
 
 
 def clamp(x, low, high):
@@ -118,6 +120,28 @@ def is_shown(kernel):
     return code in shown and f"`{arguments}`, and the answer is `{answer(kernel).strip()}`" in shown
 
 
+def picture(given, *words):
+    return subprocess.run([PICTURE, *words], input=given, stdout=subprocess.PIPE, text=True, check=True).stdout
+
+
+def pictures():
+    """The pictures that README.md shows in signs, by name: the commands that stand above them, with the kernels in Python."""
+    discs = picture("", "sample", "64", "40")
+    turns = {"left": -9216, "top": -4800, "step": 160, "width": 78, "height": 60, "limit": 40, "turns": [0] * 4680}
+    blurred = "image=pixels blurred=zeros width=width height=height"
+    marked = "pixels=pixels marks=zeros count=count level=128 found=zeros"
+    made = {"discs": discs}
+    for kernel, arguments, shown in (
+        (blur, picture(discs, "arguments", "-", *blurred.split()), "blurred 64"),
+        (threshold, picture(discs, "arguments", "-", *marked.split()), "marks 64"),
+        (mandelbrot, json.dumps(turns), "turns 78 6"),
+    ):
+        arrays = json.loads(arguments)
+        kernel(arrays)
+        made[kernel.__name__] = picture(json.dumps({"arrays": arrays}), "answer", "-", *shown.split())
+    return {name: picture(pgm, "shown", "-") for name, pgm in made.items()}
+
+
 def rows():
     """Each kernel by each gang, as isp_cases reads it."""
     lines = [". The kernels of examples/, which answers.py writes here; the answers are its own, in Python."]
@@ -144,6 +168,11 @@ def main():
     for kernel in KERNELS:
         if not is_shown(kernel):
             print(f"{kernel.__name__}: README.md shows another")
+            differ += 1
+    readme = (HERE / "README.md").read_text()
+    for name, signs in pictures().items():
+        if "".join(f"    {line}".rstrip() + "\n" for line in signs.splitlines()) not in readme:
+            print(f"{name}: README.md shows another picture")
             differ += 1
     print(f"{len(KERNELS)} kernels, {differ} differ")
     return differ > 0
