@@ -1,5 +1,5 @@
 //! What the text of code can have.
-ghost use Rattle.std.specs.Prelude.{◌≡◌};
+ghost use Rattle.std.specs.Prelude.{◌≡◌, true};
 ghost use Rattle.std.specs.List.{list_all};
 ghost use Rattle.isp_code.specs.Listing.{routine_of};
 ghost use Rattle.isp_code.specs.Writable as writable;
@@ -27,7 +27,8 @@ pub(crate) fn place_fits(place: Span) -> bool
 
 /// Whether the text can have a text that is written: it has a byte.
 pub(crate) fn text_fits(text: &[u8]) -> bool
-    ensures { result ≡ writable.text_fits text.now }
+    ensures written { result ≡ writable.text_fits text.now }
+    ensures typed { result ≡ writable.has_byte text.now }
 {
     !text.is_empty()
 }
@@ -89,7 +90,8 @@ fn locals_fit(locals: &[Local]) -> bool
 }
 
 fn number_fits(number: u32) -> bool
-    ensures { result ≡ writable.number_fits number }
+    ensures written { result ≡ writable.number_fits number }
+    ensures typed { result ≡ true }
 {
     u64::from(number) < NUMBER_LIMIT
 }
@@ -102,13 +104,15 @@ fn constant_fits(number: i128) -> bool
 }
 
 fn fits(register: &Register) -> bool
-    ensures { result ≡ writable.register_fits register.now }
+    ensures written { result ≡ writable.register_fits register.now }
+    ensures typed { result ≡ true }
 {
     number_fits(register.number)
 }
 
 fn all_fit(registers: &[Register]) -> bool
-    ensures { result ≡ list_all writable.register_fits registers.now }
+    ensures written { result ≡ list_all writable.register_fits registers.now }
+    ensures typed { result ≡ true }
 {
     for register in registers {
         if !fits(register) {
@@ -119,13 +123,15 @@ fn all_fit(registers: &[Register]) -> bool
 }
 
 fn access_fits(d: &Register, x: &Register, y: &Register, k: &Register, place: u32) -> bool
-    ensures { result ≡ writable.access_fits d.now x.now y.now k.now place }
+    ensures written { result ≡ writable.access_fits d.now x.now y.now k.now place }
+    ensures typed { result ≡ true }
 {
     fits(d) && fits(x) && fits(y) && fits(k) && number_fits(place)
 }
 
 fn scalar_fits(instr: &ScalarInstr) -> bool
-    ensures { result ≡ writable.scalar_fits instr.now }
+    ensures written { result ≡ writable.scalar_fits instr.now }
+    ensures typed { result ≡ writable.scalar_constant instr.now }
 {
     match instr {
         ScalarInstr::Constant(n) => constant_fits(*n),
@@ -152,7 +158,8 @@ fn scalar_fits(instr: &ScalarInstr) -> bool
 }
 
 fn vector_fits(instr: &VectorInstr) -> bool
-    ensures { result ≡ writable.vector_fits instr.now }
+    ensures written { result ≡ writable.vector_fits instr.now }
+    ensures typed { result ≡ true }
 {
     match instr {
         VectorInstr::Copy { value, mask } => fits(value) && fits(mask),
@@ -218,7 +225,8 @@ fn vector_fits(instr: &VectorInstr) -> bool
 }
 
 fn mask_fits(instr: &MaskInstr) -> bool
-    ensures { result ≡ writable.mask_fits instr.now }
+    ensures written { result ≡ writable.mask_fits instr.now }
+    ensures typed { result ≡ true }
 {
     match instr {
         MaskInstr::Copy(x) => fits(x),
@@ -232,7 +240,8 @@ fn mask_fits(instr: &MaskInstr) -> bool
 }
 
 fn result_fits(register: &Option<Register>) -> bool
-    ensures { result ≡ writable.result_fits register.now }
+    ensures written { result ≡ writable.result_fits register.now }
+    ensures typed { result ≡ true }
 {
     match register {
         None => true,
@@ -241,7 +250,8 @@ fn result_fits(register: &Option<Register>) -> bool
 }
 
 fn call_fits(call: &Call) -> bool
-    ensures { result ≡ writable.call_fits call.now }
+    ensures written { result ≡ writable.call_fits call.now }
+    ensures typed { result ≡ true }
 {
     number_fits(call.function)
         && result_fits(&call.result)
@@ -251,7 +261,8 @@ fn call_fits(call: &Call) -> bool
 }
 
 fn instr_fits(instr: &Instr) -> bool
-    ensures { result ≡ writable.instr_fits instr.now }
+    ensures written { result ≡ writable.instr_fits instr.now }
+    ensures typed { result ≡ writable.constant_in instr.now }
 {
     match instr {
         Instr::Scalar { result, instr } => fits(result) && scalar_fits(instr),
@@ -319,7 +330,8 @@ fn instr_fits(instr: &Instr) -> bool
 }
 
 fn instrs_fit(code: &[Instr]) -> bool
-    ensures { result ≡ list_all writable.instr_fits code.now }
+    ensures written { result ≡ list_all writable.instr_fits code.now }
+    ensures typed { result ≡ list_all writable.constant_in code.now }
 {
     for instr in code {
         if !instr_fits(instr) {
@@ -330,9 +342,10 @@ fn instrs_fit(code: &[Instr]) -> bool
 }
 
 /// Whether the text can have a function: its names are words, its local arrays have 1 to 65,536 elements, and its
-/// numbers are in their ranges.
+/// numbers are in their ranges. Numbers of 32 bits are, so constants alone are asked.
 pub(crate) fn function_fits(function: &Function) -> bool
-    ensures { result ≡ writable.routine_fits (routine_of function.now) }
+    ensures written { result ≡ writable.routine_fits (routine_of function.now) }
+    ensures typed { result ≡ writable.parts_fit (routine_of function.now) }
 {
     name_fits(function.name.as_str().as_bytes())
         && params_fit(&function.params)
