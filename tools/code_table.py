@@ -9,6 +9,8 @@ the top of the repository:
     python3 tools/code_table.py
 """
 
+import instr_fields
+
 # The registers of the function that the tests use: class, number, type.
 #   s0 i32 (a parameter), s1 i32, s2 bool, s3 i64, s4 u8;  v0 i32, v1 i32, v2 bool, v3 i64, v4 u8;  m0, m1
 #   a0 i32 (a parameter), a1 i32 (shared), a2 i32 (of each lane), a3 u8 (shared);  p0;  t0;  two instructions
@@ -124,9 +126,8 @@ def instr(group, name, ops):
     """The Rust form of an instruction, without what it writes."""
     base, _, operator = name.partition("(")
     inner = [operator[:-1]] if operator else []
-    rest = inner + [operand(word) for word in (ops[1:])]
     kind = {"scalar": "ScalarInstr", "vector": "VectorInstr", "mask": "MaskInstr"}[group]
-    return f"{kind}::{base}({', '.join(rest)})" if rest else f"{kind}::{base}"
+    return instr_fields.instr(kind, base, inner + [operand(word) for word in ops[1:]])
 
 
 def rows(group):

@@ -7,6 +7,8 @@ writes; the lanes of m1 of the vector; v1 in the lanes of the mask; or all eleme
     python3 tools/line_table.py
 """
 
+import instr_fields
+
 # Of each four lanes: x in a0 and v1, y in a1, v2 and, as int64, v5; the lanes of m1, true in v0; those of m2, true in v4.
 X, Y, ON, OTHER = [3, -3, 7, 200], [3, 1, 2, 1], [1, 1, 0, 1], [0, 1, 1, 1]
 # s0 and s1; s2 is 0 and s6 is 6, of int64.
@@ -84,16 +86,22 @@ def text(value):
     return str(value).lower() if isinstance(value, bool) else str(value)
 
 
-def vector(register, instr, f):
-    return f"Line::Vector({register}, VectorInstr::{instr})", f
+def instr(kind, text):
+    """The Rust form of an instruction that is written with its operands in their order."""
+    name, _, operands = text.rstrip(")").partition("(")
+    return instr_fields.instr(kind, name, operands.split(", ") if operands else [])
 
 
-def scalar(register, instr, f):
-    return f"Line::Scalar({register}, ScalarInstr::{instr})", f
+def vector(register, text, f):
+    return f"Line::Vector({register}, {instr('VectorInstr', text)})", f
 
 
-def mask(instr, f):
-    return f"Line::Mask(M3, MaskInstr::{instr})", lambda g: g.printed(g.x, f(g))
+def scalar(register, text, f):
+    return f"Line::Scalar({register}, {instr('ScalarInstr', text)})", f
+
+
+def mask(text, f):
+    return f"Line::Mask(M3, {instr('MaskInstr', text)})", lambda g: g.printed(g.x, f(g))
 
 
 def stored(line, f):

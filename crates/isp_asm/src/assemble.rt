@@ -58,52 +58,282 @@ pub(crate) fn assemble(op: Op, registers: &[Register], tail: Tail) -> Instr
     let z = at(registers, 3);
     let k = at(registers, 4);
     match op {
-        Op::Const => Instr::Scalar(d, ScalarInstr::Constant(constant_of(tail))),
-        Op::Copy if registers.len() == 2 => Instr::Scalar(d, ScalarInstr::Copy(x)),
-        Op::Copy => Instr::Vector(d, VectorInstr::Copy(x, y)),
-        Op::Convert if registers.len() == 2 => Instr::Scalar(d, ScalarInstr::Convert(x)),
-        Op::Convert => Instr::Vector(d, VectorInstr::Convert(x, y)),
-        Op::Unary(op) if registers.len() == 2 => Instr::Scalar(d, ScalarInstr::Unary(op, x)),
-        Op::Unary(op) => Instr::Vector(d, VectorInstr::Unary(op, x, y)),
-        Op::Plain(op) if registers.len() == 3 => Instr::Scalar(d, ScalarInstr::Binary(op, x, y)),
-        Op::Plain(op) => Instr::Vector(d, VectorInstr::Binary(op, x, y, z)),
-        Op::Compare(op) if registers.len() == 3 => Instr::Scalar(d, ScalarInstr::Compare(op, x, y)),
-        Op::Compare(op) => Instr::Vector(d, VectorInstr::Compare(op, x, y, z)),
-        Op::Select if registers.len() == 4 => Instr::Scalar(d, ScalarInstr::Select(x, y, z)),
-        Op::Select => Instr::Vector(d, VectorInstr::Select(x, y, z, k)),
-        Op::Divide(op) => Instr::Divide(op, d, x, y, z, number_of(tail)),
-        Op::First => Instr::Scalar(d, ScalarInstr::First(x)),
-        Op::Reduce(op) => Instr::Scalar(d, ScalarInstr::Reduce(op, x, y)),
-        Op::Extract => Instr::Scalar(d, ScalarInstr::Extract(x, y, z)),
-        Op::Load => Instr::Scalar(d, ScalarInstr::Load(x, y, z, number_of(tail))),
-        Op::Store => Instr::Store(d, x, y, z, number_of(tail)),
-        Op::Gather => Instr::Vector(d, VectorInstr::Gather(x, y, z, number_of(tail))),
-        Op::Scatter => Instr::Scatter(d, x, y, z, number_of(tail)),
-        Op::LoadRun => Instr::Vector(d, VectorInstr::LoadRun(x, y, z, number_of(tail))),
-        Op::StoreRun => Instr::StoreRun(d, x, y, z, number_of(tail)),
-        Op::PackedLoad => Instr::PackedLoad(d, x, y, z, k, number_of(tail)),
-        Op::PackedStore => Instr::PackedStore(d, x, y, z, k, number_of(tail)),
-        Op::Splat => Instr::Vector(d, VectorInstr::Splat(x, y)),
-        Op::Index => Instr::Vector(d, VectorInstr::Index(x)),
-        Op::Scan(op) => Instr::Vector(d, VectorInstr::Scan(op, x, y)),
-        Op::Exchange(op) => Instr::Vector(d, VectorInstr::Exchange(op, x, y, z)),
-        Op::Shuffle => Instr::Vector(d, VectorInstr::Shuffle(x, y, z)),
-        Op::ShuffleTwo => Instr::Vector(d, VectorInstr::ShuffleTwo(x, y, z, k)),
-        Op::Insert => Instr::Vector(d, VectorInstr::Insert(x, y, z, k)),
-        Op::MaskCopy => Instr::Mask(d, MaskInstr::Copy(x)),
-        Op::MaskBinary(op) => Instr::Mask(d, MaskInstr::Binary(op, x, y)),
-        Op::Full => Instr::Mask(d, MaskInstr::Full),
-        Op::Off => Instr::Mask(d, MaskInstr::Off),
-        Op::Test => Instr::Mask(d, MaskInstr::Test(x, y)),
-        Op::Lowest => Instr::Mask(d, MaskInstr::Lowest(x)),
-        Op::Range => Instr::Mask(d, MaskInstr::Range(x, y)),
-        Op::Clear => Instr::Clear(d, x),
-        Op::Jump => Instr::Jump(number_of(tail)),
-        Op::JumpIf(test) => Instr::JumpIf(test, d, number_of(tail)),
-        Op::Say => Instr::Say(number_of(tail)),
+        Op::Const => Instr::Scalar {
+            result: d,
+            instr: ScalarInstr::Constant(constant_of(tail)),
+        },
+        Op::Copy if registers.len() == 2 => Instr::Scalar {
+            result: d,
+            instr: ScalarInstr::Copy(x),
+        },
+        Op::Copy => Instr::Vector {
+            result: d,
+            instr: VectorInstr::Copy { value: x, mask: y },
+        },
+        Op::Convert if registers.len() == 2 => Instr::Scalar {
+            result: d,
+            instr: ScalarInstr::Convert(x),
+        },
+        Op::Convert => Instr::Vector {
+            result: d,
+            instr: VectorInstr::Convert { value: x, mask: y },
+        },
+        Op::Unary(op) if registers.len() == 2 => Instr::Scalar {
+            result: d,
+            instr: ScalarInstr::Unary { op, value: x },
+        },
+        Op::Unary(op) => Instr::Vector {
+            result: d,
+            instr: VectorInstr::Unary {
+                op,
+                value: x,
+                mask: y,
+            },
+        },
+        Op::Plain(op) if registers.len() == 3 => Instr::Scalar {
+            result: d,
+            instr: ScalarInstr::Binary {
+                op,
+                left: x,
+                right: y,
+            },
+        },
+        Op::Plain(op) => Instr::Vector {
+            result: d,
+            instr: VectorInstr::Binary {
+                op,
+                left: x,
+                right: y,
+                mask: z,
+            },
+        },
+        Op::Compare(op) if registers.len() == 3 => Instr::Scalar {
+            result: d,
+            instr: ScalarInstr::Compare {
+                op,
+                left: x,
+                right: y,
+            },
+        },
+        Op::Compare(op) => Instr::Vector {
+            result: d,
+            instr: VectorInstr::Compare {
+                op,
+                left: x,
+                right: y,
+                mask: z,
+            },
+        },
+        Op::Select if registers.len() == 4 => Instr::Scalar {
+            result: d,
+            instr: ScalarInstr::Select {
+                test: x,
+                if_true: y,
+                if_false: z,
+            },
+        },
+        Op::Select => Instr::Vector {
+            result: d,
+            instr: VectorInstr::Select {
+                test: x,
+                if_true: y,
+                if_false: z,
+                mask: k,
+            },
+        },
+        Op::Divide(op) => Instr::Divide {
+            op,
+            result: d,
+            dividend: x,
+            divisor: y,
+            mask: z,
+            place: number_of(tail),
+        },
+        Op::First => Instr::Scalar {
+            result: d,
+            instr: ScalarInstr::First(x),
+        },
+        Op::Reduce(op) => Instr::Scalar {
+            result: d,
+            instr: ScalarInstr::Reduce {
+                op,
+                vector: x,
+                mask: y,
+            },
+        },
+        Op::Extract => Instr::Scalar {
+            result: d,
+            instr: ScalarInstr::Extract {
+                vector: x,
+                lane: y,
+                mask: z,
+            },
+        },
+        Op::Load => Instr::Scalar {
+            result: d,
+            instr: ScalarInstr::Load {
+                array: x,
+                index: y,
+                mask: z,
+                place: number_of(tail),
+            },
+        },
+        Op::Store => Instr::Store {
+            array: d,
+            index: x,
+            value: y,
+            mask: z,
+            place: number_of(tail),
+        },
+        Op::Gather => Instr::Vector {
+            result: d,
+            instr: VectorInstr::Gather {
+                array: x,
+                indices: y,
+                mask: z,
+                place: number_of(tail),
+            },
+        },
+        Op::Scatter => Instr::Scatter {
+            array: d,
+            indices: x,
+            value: y,
+            mask: z,
+            place: number_of(tail),
+        },
+        Op::LoadRun => Instr::Vector {
+            result: d,
+            instr: VectorInstr::LoadRun {
+                array: x,
+                index: y,
+                mask: z,
+                place: number_of(tail),
+            },
+        },
+        Op::StoreRun => Instr::StoreRun {
+            array: d,
+            index: x,
+            value: y,
+            mask: z,
+            place: number_of(tail),
+        },
+        Op::PackedLoad => Instr::PackedLoad {
+            count: d,
+            array: x,
+            index: y,
+            result: z,
+            mask: k,
+            place: number_of(tail),
+        },
+        Op::PackedStore => Instr::PackedStore {
+            count: d,
+            array: x,
+            index: y,
+            value: z,
+            mask: k,
+            place: number_of(tail),
+        },
+        Op::Splat => Instr::Vector {
+            result: d,
+            instr: VectorInstr::Splat { value: x, mask: y },
+        },
+        Op::Index => Instr::Vector {
+            result: d,
+            instr: VectorInstr::Index(x),
+        },
+        Op::Scan(op) => Instr::Vector {
+            result: d,
+            instr: VectorInstr::Scan {
+                op,
+                value: x,
+                mask: y,
+            },
+        },
+        Op::Exchange(op) => Instr::Vector {
+            result: d,
+            instr: VectorInstr::Exchange {
+                op,
+                vector: x,
+                by: y,
+                mask: z,
+            },
+        },
+        Op::Shuffle => Instr::Vector {
+            result: d,
+            instr: VectorInstr::Shuffle {
+                vector: x,
+                lanes: y,
+                mask: z,
+            },
+        },
+        Op::ShuffleTwo => Instr::Vector {
+            result: d,
+            instr: VectorInstr::ShuffleTwo {
+                first: x,
+                second: y,
+                lanes: z,
+                mask: k,
+            },
+        },
+        Op::Insert => Instr::Vector {
+            result: d,
+            instr: VectorInstr::Insert {
+                vector: x,
+                lane: y,
+                value: z,
+                mask: k,
+            },
+        },
+        Op::MaskCopy => Instr::Mask {
+            result: d,
+            instr: MaskInstr::Copy(x),
+        },
+        Op::MaskBinary(op) => Instr::Mask {
+            result: d,
+            instr: MaskInstr::Binary {
+                op,
+                left: x,
+                right: y,
+            },
+        },
+        Op::Full => Instr::Mask {
+            result: d,
+            instr: MaskInstr::Full,
+        },
+        Op::Off => Instr::Mask {
+            result: d,
+            instr: MaskInstr::Off,
+        },
+        Op::Test => Instr::Mask {
+            result: d,
+            instr: MaskInstr::Test { vector: x, mask: y },
+        },
+        Op::Lowest => Instr::Mask {
+            result: d,
+            instr: MaskInstr::Lowest(x),
+        },
+        Op::Range => Instr::Mask {
+            result: d,
+            instr: MaskInstr::Range { first: x, end: y },
+        },
+        Op::Clear => Instr::Clear { array: d, mask: x },
+        Op::Jump => Instr::Jump {
+            target: number_of(tail),
+        },
+        Op::JumpIf(test) => Instr::JumpIf {
+            test,
+            register: d,
+            target: number_of(tail),
+        },
+        Op::Say => Instr::Say {
+            text: number_of(tail),
+        },
         Op::PrintScalar => Instr::PrintScalar(d),
-        Op::PrintVector => Instr::PrintVector(d, x),
-        Op::Fail => Instr::Fail(d, number_of(tail)),
+        Op::PrintVector => Instr::PrintVector { vector: d, mask: x },
+        Op::Fail => Instr::Fail {
+            mask: d,
+            place: number_of(tail),
+        },
         Op::Return => Instr::Return(result_of(tail)),
     }
 }

@@ -16,42 +16,93 @@ impl Page {
         ensures { OnOk result (self.new ≡ self.old ++ line_text (instr_words instr.now)) }
     {
         match instr {
-            Instr::Scalar(d, instr) => self.scalar(*d, instr),
-            Instr::Vector(d, instr) => self.vector(*d, instr),
-            Instr::Mask(d, instr) => self.mask(*d, instr),
-            Instr::Divide(op, d, x, y, k, place) => self.row(
+            Instr::Scalar { result, instr } => self.scalar(*result, instr),
+            Instr::Vector { result, instr } => self.vector(*result, instr),
+            Instr::Mask { result, instr } => self.mask(*result, instr),
+            Instr::Divide {
+                op,
+                result,
+                dividend,
+                divisor,
+                mask,
+                place,
+            } => self.row(
                 Op::Divide(*op),
-                &[*d, *x, *y, *k],
+                &[*result, *dividend, *divisor, *mask],
                 Tail::Place(*place),
             ),
-            Instr::Store(a, i, y, k, p) => self.row(Op::Store, &[*a, *i, *y, *k], Tail::Place(*p)),
-            Instr::Scatter(a, i, y, k, p) => self.row(
+            Instr::Store {
+                array,
+                index,
+                value,
+                mask,
+                place,
+            } => self.row(
+                Op::Store,
+                &[*array, *index, *value, *mask],
+                Tail::Place(*place),
+            ),
+            Instr::Scatter {
+                array,
+                indices,
+                value,
+                mask,
+                place,
+            } => self.row(
                 Op::Scatter,
-                &[*a, *i, *y, *k],
-                Tail::Place(*p),
+                &[*array, *indices, *value, *mask],
+                Tail::Place(*place),
             ),
-            Instr::StoreRun(a, i, y, k, p) => self.row(
+            Instr::StoreRun {
+                array,
+                index,
+                value,
+                mask,
+                place,
+            } => self.row(
                 Op::StoreRun,
-                &[*a, *i, *y, *k],
-                Tail::Place(*p),
+                &[*array, *index, *value, *mask],
+                Tail::Place(*place),
             ),
-            Instr::PackedStore(d, a, i, y, k, p) => self.row(
+            Instr::PackedStore {
+                count,
+                array,
+                index,
+                value,
+                mask,
+                place,
+            } => self.row(
                 Op::PackedStore,
-                &[*d, *a, *i, *y, *k],
-                Tail::Place(*p),
+                &[*count, *array, *index, *value, *mask],
+                Tail::Place(*place),
             ),
-            Instr::PackedLoad(d, a, i, y, k, p) => self.row(
+            Instr::PackedLoad {
+                count,
+                array,
+                index,
+                result,
+                mask,
+                place,
+            } => self.row(
                 Op::PackedLoad,
-                &[*d, *a, *i, *y, *k],
-                Tail::Place(*p),
+                &[*count, *array, *index, *result, *mask],
+                Tail::Place(*place),
             ),
-            Instr::Clear(a, k) => self.row(Op::Clear, &[*a, *k], Tail::Nothing),
-            Instr::Jump(to) => self.row(Op::Jump, &[], Tail::Label(*to)),
-            Instr::JumpIf(test, x, to) => self.row(Op::JumpIf(*test), &[*x], Tail::Label(*to)),
-            Instr::Say(text) => self.row(Op::Say, &[], Tail::Text(*text)),
+            Instr::Clear { array, mask } => self.row(Op::Clear, &[*array, *mask], Tail::Nothing),
+            Instr::Jump { target } => self.row(Op::Jump, &[], Tail::Label(*target)),
+            Instr::JumpIf {
+                test,
+                register,
+                target,
+            } => self.row(Op::JumpIf(*test), &[*register], Tail::Label(*target)),
+            Instr::Say { text } => self.row(Op::Say, &[], Tail::Text(*text)),
             Instr::PrintScalar(x) => self.row(Op::PrintScalar, &[*x], Tail::Nothing),
-            Instr::PrintVector(x, k) => self.row(Op::PrintVector, &[*x, *k], Tail::Nothing),
-            Instr::Fail(x, p) => self.row(Op::Fail, &[*x], Tail::Place(*p)),
+            Instr::PrintVector { vector, mask } => self.row(
+                Op::PrintVector,
+                &[*vector, *mask],
+                Tail::Nothing,
+            ),
+            Instr::Fail { mask, place } => self.row(Op::Fail, &[*mask], Tail::Place(*place)),
             Instr::Call(call) => self.call(call.get()),
             Instr::Return(x) => self.row(Op::Return, &[], Tail::Back(*x)),
         }
@@ -64,18 +115,43 @@ impl Page {
             ScalarInstr::Constant(n) => self.row(Op::Const, &[d], Tail::Number(*n)),
             ScalarInstr::Copy(x) => self.row(Op::Copy, &[d, *x], Tail::Nothing),
             ScalarInstr::Convert(x) => self.row(Op::Convert, &[d, *x], Tail::Nothing),
-            ScalarInstr::Unary(op, x) => self.row(Op::Unary(*op), &[d, *x], Tail::Nothing),
-            ScalarInstr::Binary(op, x, y) => self.row(Op::Plain(*op), &[d, *x, *y], Tail::Nothing),
-            ScalarInstr::Compare(op, x, y) => self.row(
-                Op::Compare(*op),
-                &[d, *x, *y],
+            ScalarInstr::Unary { op, value } => self.row(
+                Op::Unary(*op),
+                &[d, *value],
                 Tail::Nothing,
             ),
-            ScalarInstr::Select(c, x, y) => self.row(Op::Select, &[d, *c, *x, *y], Tail::Nothing),
+            ScalarInstr::Binary { op, left, right } => self.row(
+                Op::Plain(*op),
+                &[d, *left, *right],
+                Tail::Nothing,
+            ),
+            ScalarInstr::Compare { op, left, right } => self.row(
+                Op::Compare(*op),
+                &[d, *left, *right],
+                Tail::Nothing,
+            ),
+            ScalarInstr::Select {
+                test,
+                if_true,
+                if_false,
+            } => self.row(Op::Select, &[d, *test, *if_true, *if_false], Tail::Nothing),
             ScalarInstr::First(x) => self.row(Op::First, &[d, *x], Tail::Nothing),
-            ScalarInstr::Load(a, i, k, p) => self.row(Op::Load, &[d, *a, *i, *k], Tail::Place(*p)),
-            ScalarInstr::Reduce(op, x, k) => self.row(Op::Reduce(*op), &[d, *x, *k], Tail::Nothing),
-            ScalarInstr::Extract(x, i, k) => self.row(Op::Extract, &[d, *x, *i, *k], Tail::Nothing),
+            ScalarInstr::Load {
+                array,
+                index,
+                mask,
+                place,
+            } => self.row(Op::Load, &[d, *array, *index, *mask], Tail::Place(*place)),
+            ScalarInstr::Reduce { op, vector, mask } => self.row(
+                Op::Reduce(*op),
+                &[d, *vector, *mask],
+                Tail::Nothing,
+            ),
+            ScalarInstr::Extract { vector, lane, mask } => self.row(
+                Op::Extract,
+                &[d, *vector, *lane, *mask],
+                Tail::Nothing,
+            ),
         }
     }
 
@@ -83,51 +159,103 @@ impl Page {
         ensures { OnOk result (self.new ≡ self.old ++ line_text (row_words (vector_row d instr.now))) }
     {
         match instr {
-            VectorInstr::Copy(x, k) => self.row(Op::Copy, &[d, *x, *k], Tail::Nothing),
-            VectorInstr::Convert(x, k) => self.row(Op::Convert, &[d, *x, *k], Tail::Nothing),
-            VectorInstr::Unary(op, x, k) => self.row(Op::Unary(*op), &[d, *x, *k], Tail::Nothing),
-            VectorInstr::Binary(op, x, y, k) => self.row(
-                Op::Plain(*op),
-                &[d, *x, *y, *k],
+            VectorInstr::Copy { value, mask } => self.row(
+                Op::Copy,
+                &[d, *value, *mask],
                 Tail::Nothing,
             ),
-            VectorInstr::Compare(op, x, y, k) => self.row(
-                Op::Compare(*op),
-                &[d, *x, *y, *k],
+            VectorInstr::Convert { value, mask } => self.row(
+                Op::Convert,
+                &[d, *value, *mask],
                 Tail::Nothing,
             ),
-            VectorInstr::Select(c, x, y, k) => self.row(
+            VectorInstr::Unary { op, value, mask } => self.row(
+                Op::Unary(*op),
+                &[d, *value, *mask],
+                Tail::Nothing,
+            ),
+            VectorInstr::Binary {
+                op,
+                left,
+                right,
+                mask,
+            } => self.row(Op::Plain(*op), &[d, *left, *right, *mask], Tail::Nothing),
+            VectorInstr::Compare {
+                op,
+                left,
+                right,
+                mask,
+            } => self.row(Op::Compare(*op), &[d, *left, *right, *mask], Tail::Nothing),
+            VectorInstr::Select {
+                test,
+                if_true,
+                if_false,
+                mask,
+            } => self.row(
                 Op::Select,
-                &[d, *c, *x, *y, *k],
+                &[d, *test, *if_true, *if_false, *mask],
                 Tail::Nothing,
             ),
-            VectorInstr::Splat(x, k) => self.row(Op::Splat, &[d, *x, *k], Tail::Nothing),
+            VectorInstr::Splat { value, mask } => self.row(
+                Op::Splat,
+                &[d, *value, *mask],
+                Tail::Nothing,
+            ),
             VectorInstr::Index(k) => self.row(Op::Index, &[d, *k], Tail::Nothing),
-            VectorInstr::Gather(a, i, k, p) => self.row(
+            VectorInstr::Gather {
+                array,
+                indices,
+                mask,
+                place,
+            } => self.row(
                 Op::Gather,
-                &[d, *a, *i, *k],
-                Tail::Place(*p),
+                &[d, *array, *indices, *mask],
+                Tail::Place(*place),
             ),
-            VectorInstr::LoadRun(a, i, k, p) => self.row(
+            VectorInstr::LoadRun {
+                array,
+                index,
+                mask,
+                place,
+            } => self.row(
                 Op::LoadRun,
-                &[d, *a, *i, *k],
-                Tail::Place(*p),
+                &[d, *array, *index, *mask],
+                Tail::Place(*place),
             ),
-            VectorInstr::Scan(op, x, k) => self.row(Op::Scan(*op), &[d, *x, *k], Tail::Nothing),
-            VectorInstr::Exchange(op, x, i, k) => self.row(
-                Op::Exchange(*op),
-                &[d, *x, *i, *k],
+            VectorInstr::Scan { op, value, mask } => self.row(
+                Op::Scan(*op),
+                &[d, *value, *mask],
                 Tail::Nothing,
             ),
-            VectorInstr::Shuffle(x, i, k) => self.row(Op::Shuffle, &[d, *x, *i, *k], Tail::Nothing),
-            VectorInstr::ShuffleTwo(x, y, i, k) => self.row(
+            VectorInstr::Exchange {
+                op,
+                vector,
+                by,
+                mask,
+            } => self.row(Op::Exchange(*op), &[d, *vector, *by, *mask], Tail::Nothing),
+            VectorInstr::Shuffle {
+                vector,
+                lanes,
+                mask,
+            } => self.row(Op::Shuffle, &[d, *vector, *lanes, *mask], Tail::Nothing),
+            VectorInstr::ShuffleTwo {
+                first,
+                second,
+                lanes,
+                mask,
+            } => self.row(
                 Op::ShuffleTwo,
-                &[d, *x, *y, *i, *k],
+                &[d, *first, *second, *lanes, *mask],
                 Tail::Nothing,
             ),
-            VectorInstr::Insert(x, i, y, k) => self.row(
+            VectorInstr::Insert {
+                vector,
+                lane,
+                value,
+                mask,
+            } => self.row(
                 Op::Insert,
-                &[d, *x, *i, *y, *k],
+                &[d, *vector, *lane, *value, *mask],
                 Tail::Nothing,
             ),
         }
@@ -138,16 +266,24 @@ impl Page {
     {
         match instr {
             MaskInstr::Copy(x) => self.row(Op::MaskCopy, &[d, *x], Tail::Nothing),
-            MaskInstr::Binary(op, x, y) => self.row(
+            MaskInstr::Binary { op, left, right } => self.row(
                 Op::MaskBinary(*op),
-                &[d, *x, *y],
+                &[d, *left, *right],
                 Tail::Nothing,
             ),
             MaskInstr::Full => self.row(Op::Full, &[d], Tail::Nothing),
             MaskInstr::Off => self.row(Op::Off, &[d], Tail::Nothing),
-            MaskInstr::Test(x, y) => self.row(Op::Test, &[d, *x, *y], Tail::Nothing),
+            MaskInstr::Test { vector, mask } => self.row(
+                Op::Test,
+                &[d, *vector, *mask],
+                Tail::Nothing,
+            ),
             MaskInstr::Lowest(x) => self.row(Op::Lowest, &[d, *x], Tail::Nothing),
-            MaskInstr::Range(x, y) => self.row(Op::Range, &[d, *x, *y], Tail::Nothing),
+            MaskInstr::Range { first, end } => self.row(
+                Op::Range,
+                &[d, *first, *end],
+                Tail::Nothing,
+            ),
         }
     }
 

@@ -135,6 +135,27 @@ abbrev pub routine_fits : Routine → Bool
 routine_fits h =
     name_fits h.name && list_all param_fits h.params && list_all local_fits h.locals && number_fits h.masks && list_all instr_fits h.code
 
+-- ---- what is left to ask where each number has 32 bits and a text is of bytes, as they are in code by their types
+
+abbrev pub has_byte : List ℕ → Bool
+has_byte [] = false
+has_byte (b ∷ bs) = true
+
+abbrev pub scalar_constant : ScalarInstr → Bool
+scalar_constant (scalar.Constant n) = constant_fits n
+scalar_constant i = true
+
+abbrev pub constant_in : Instr → Bool
+constant_in (instr.Scalar d i) = scalar_constant i
+constant_in i = true
+
+-- of a function: its names, its local arrays and its constants
+abbrev pub parts_fit : Routine → Bool
+parts_fit h =
+    name_fits h.name && list_all param_fits h.params && list_all local_fits h.locals && list_all constant_in h.code
+
+-- ---- tables
+
 -- places and texts are named by numbers, and one more can be
 abbrev pub table_has_room : {A : Type 0} → List A → Bool → Bool
 table_has_room xs fits = number_fits (length xs) && fits

@@ -1,7 +1,7 @@
 //! Code: what the machine runs.
 ghost use Rattle.std.specs.Prelude.{◌≡◌, ◌<◌, [], ◌∷◌, ◌++◌, length, map, slice_get, true, false, Some, IfOk, IfErr, OnOk, OnErr};
 ghost use Rattle.isp_code.specs.Listing.{routine_of};
-ghost use Rattle.isp_code.specs.Writable.{place_fits, text_fits, routine_fits, table_has_room, IsWritable};
+ghost use Rattle.isp_code.specs.Writable.{place_fits, text_fits, has_byte, routine_fits, parts_fit, table_has_room, IsWritable};
 ghost use Rattle.isp_code.specs.declared.limit.CodeLimit.TheVariants.{Memory, OverLimit};
 
 use crate::function::Function;
@@ -113,6 +113,7 @@ impl Code {
         ensures added { OnOk result (self.new ≡ record self.old { texts = self.old.texts ++ text.now ∷ [] }) }
         ensures fits { OnOk result (table_has_room self.old.texts (text_fits text.now) ≡ true) }
         ensures refused { IfErr result (λ e. e ≡ OverLimit → table_has_room self.old.texts (text_fits text.now) ≡ false) }
+        ensures typed { IfErr result (λ e. e ≡ OverLimit → table_has_room self.old.texts (has_byte text.now) ≡ false) }
         ensures memory { IfErr result (λ e. e ≡ Memory → table_has_room self.old.texts (text_fits text.now) ≡ true) }
         ensures unchanged { OnErr result (self.new ≡ self.old) }
     {
@@ -132,6 +133,7 @@ impl Code {
         ensures added { OnOk result (self.new ≡ record self.old { routines = self.old.routines ++ routine_of function ∷ [] }) }
         ensures fits { OnOk result (routine_fits (routine_of function) ≡ true) }
         ensures refused { IfErr result (λ e. e.1 ≡ OverLimit → routine_fits (routine_of function) ≡ false) }
+        ensures typed { IfErr result (λ e. e.1 ≡ OverLimit → parts_fit (routine_of function) ≡ false) }
         ensures memory { IfErr result (λ e. e.1 ≡ Memory → routine_fits (routine_of function) ≡ true) }
         ensures unchanged { OnErr result (self.new ≡ self.old) }
         ensures returned { IfErr result (λ e. e.0 ≡ function) }

@@ -90,57 +90,145 @@ pub enum ScalarInstr {
     /// What another register has, as a value of the type of the register that is written.
     Convert(Register),
     /// The result of an operator on one value.
-    Unary(UnaryOp, Register),
+    Unary {
+        op: UnaryOp,
+        value: Register,
+    },
     /// The result of an operator on two values.
-    Binary(Plain, Register, Register),
+    Binary {
+        op: Plain,
+        left: Register,
+        right: Register,
+    },
     /// Whether two values compare so.
-    Compare(Compare, Register, Register),
-    /// The second register where the first is true, else the third.
-    Select(Register, Register, Register),
+    Compare {
+        op: Compare,
+        left: Register,
+        right: Register,
+    },
+    /// One of two values.
+    Select {
+        test: Register,
+        if_true: Register,
+        if_false: Register,
+    },
     /// The number of the lowest lane of a mask.
     First(Register),
-    /// An element: the array, the index, the mask and the place of a trap.
-    Load(Register, Register, Register, u32),
+    /// An element of an array.
+    Load {
+        array: Register,
+        index: Register,
+        mask: Register,
+        place: u32,
+    },
     /// What is made of the lanes of a vector that a mask has.
-    Reduce(Reduction, Register, Register),
-    /// The value of one lane of a vector: the vector, the lane's number, and the mask.
-    Extract(Register, Register, Register),
+    Reduce {
+        op: Reduction,
+        vector: Register,
+        mask: Register,
+    },
+    /// The value of one lane of a vector.
+    Extract {
+        vector: Register,
+        lane: Register,
+        mask: Register,
+    },
 }
 
-/// What the lanes of a vector register are set to under a mask, which comes last, but for the place of a trap.
+/// What the lanes of a vector register are set to under a mask.
 #[derive(Clone, Copy)]
 pub enum VectorInstr {
     /// What the lanes of another register have.
-    Copy(Register, Register),
+    Copy {
+        value: Register,
+        mask: Register,
+    },
     /// The same as values of the type of the register that is written.
-    Convert(Register, Register),
+    Convert {
+        value: Register,
+        mask: Register,
+    },
     /// The result of an operator on one value.
-    Unary(UnaryOp, Register, Register),
+    Unary {
+        op: UnaryOp,
+        value: Register,
+        mask: Register,
+    },
     /// The result of an operator on two values.
-    Binary(Plain, Register, Register, Register),
+    Binary {
+        op: Plain,
+        left: Register,
+        right: Register,
+        mask: Register,
+    },
     /// Whether two values compare so.
-    Compare(Compare, Register, Register, Register),
-    /// The second register where the first is true, else the third.
-    Select(Register, Register, Register, Register),
+    Compare {
+        op: Compare,
+        left: Register,
+        right: Register,
+        mask: Register,
+    },
+    /// One of two values.
+    Select {
+        test: Register,
+        if_true: Register,
+        if_false: Register,
+        mask: Register,
+    },
     /// The value of a scalar register in each lane.
-    Splat(Register, Register),
+    Splat {
+        value: Register,
+        mask: Register,
+    },
     /// The number of each lane.
     Index(Register),
-    /// The element at each lane's index: the array, the indices, the mask and the place of a trap.
-    Gather(Register, Register, Register, u32),
-    /// The element as many behind an index as the lane's number says: the array, the index, the mask and the place of
-    /// a trap.
-    LoadRun(Register, Register, Register, u32),
+    /// The element of an array at each lane's index.
+    Gather {
+        array: Register,
+        indices: Register,
+        mask: Register,
+        place: u32,
+    },
+    /// The element as many behind an index as the lane's number says.
+    LoadRun {
+        array: Register,
+        index: Register,
+        mask: Register,
+        place: u32,
+    },
     /// The result of an operator on the values of the lower lanes.
-    Scan(Scan, Register, Register),
-    /// What another lane has, by one number: the vector, the number, and the mask.
-    Exchange(Exchange, Register, Register, Register),
-    /// What the lane has that each lane's number names: the vector, the numbers, and the mask.
-    Shuffle(Register, Register, Register),
+    Scan {
+        op: Scan,
+        value: Register,
+        mask: Register,
+    },
+    /// What another lane has, by one number.
+    Exchange {
+        op: Exchange,
+        vector: Register,
+        by: Register,
+        mask: Register,
+    },
+    /// What the lane has that each lane's number names.
+    Shuffle {
+        vector: Register,
+        lanes: Register,
+        mask: Register,
+    },
     /// The same of two vectors side by side.
-    ShuffleTwo(Register, Register, Register, Register),
-    /// The vector with another value in one lane: the vector, the lane's number, the value, and the mask.
-    Insert(Register, Register, Register, Register),
+    ShuffleTwo {
+        first: Register,
+        second: Register,
+        lanes: Register,
+        mask: Register,
+    },
+    /// The vector with another value in one lane.
+    Insert {
+        vector: Register,
+        lane: Register,
+        value: Register,
+        mask: Register,
+    },
 }
 
 /// What a mask register is set to.
@@ -149,17 +237,27 @@ pub enum MaskInstr {
     /// What another mask has.
     Copy(Register),
     /// What an operator gives.
-    Binary(MaskOp, Register, Register),
+    Binary {
+        op: MaskOp,
+        left: Register,
+        right: Register,
+    },
     /// All lanes.
     Full,
     /// No lane.
     Off,
-    /// The lanes of the mask, the second, where the vector is true.
-    Test(Register, Register),
+    /// The lanes of the mask where the vector is true.
+    Test {
+        vector: Register,
+        mask: Register,
+    },
     /// The lowest lane of another mask, alone.
     Lowest(Register),
-    /// The lanes whose number, added to the first, is below the second.
-    Range(Register, Register),
+    /// The lanes whose number, added to the first, is below the end.
+    Range {
+        first: Register,
+        end: Register,
+    },
 }
 
 /// A call: the function's number, where the result goes, the mask, the place of a trap, and what is passed.
@@ -205,44 +303,106 @@ impl CallBox {
     }
 }
 
-/// One instruction. A number without a class names a place, a text, or the instruction to jump to.
+/// One instruction. A `place` is the one that its trap names, a `target` the number of the instruction to jump to.
 #[derive(Drop)]
 pub enum Instr {
     /// Writes a scalar register.
-    Scalar(Register, ScalarInstr),
+    Scalar {
+        result: Register,
+        instr: ScalarInstr,
+    },
     /// Writes lanes of a vector register.
-    Vector(Register, VectorInstr),
+    Vector {
+        result: Register,
+        instr: VectorInstr,
+    },
     /// Writes a mask register.
-    Mask(Register, MaskInstr),
-    /// Divides scalars or lanes, as the class of the first register says: what is written, the dividend, the
-    /// divisor, the mask and the place of a trap.
-    Divide(Division, Register, Register, Register, Register, u32),
-    /// Stores a scalar: the array, the index, what is stored, the mask and the place of a trap.
-    Store(Register, Register, Register, Register, u32),
+    Mask {
+        result: Register,
+        instr: MaskInstr,
+    },
+    /// Divides scalars or lanes, as the class of the result says.
+    Divide {
+        op: Division,
+        result: Register,
+        dividend: Register,
+        divisor: Register,
+        mask: Register,
+        place: u32,
+    },
+    /// Stores a scalar.
+    Store {
+        array: Register,
+        index: Register,
+        value: Register,
+        mask: Register,
+        place: u32,
+    },
     /// Stores lanes at each lane's index, the highest last.
-    Scatter(Register, Register, Register, Register, u32),
-    /// Stores lanes at consecutive elements, each as many behind an index as its number says: the array, the index, what
-    /// is stored, the mask and the place of a trap.
-    StoreRun(Register, Register, Register, Register, u32),
-    /// Stores the lanes of a mask at consecutive elements, the lowest at an index: their count, the array, the index, what
-    /// is stored, the mask and the place of a trap.
-    PackedStore(Register, Register, Register, Register, Register, u32),
-    /// Loads them from there: their count, the array, the index, what is written, the mask and the place of a trap.
-    PackedLoad(Register, Register, Register, Register, Register, u32),
+    Scatter {
+        array: Register,
+        indices: Register,
+        value: Register,
+        mask: Register,
+        place: u32,
+    },
+    /// Stores lanes at consecutive elements, each as many behind an index as its number says.
+    StoreRun {
+        array: Register,
+        index: Register,
+        value: Register,
+        mask: Register,
+        place: u32,
+    },
+    /// Stores the lanes of a mask at consecutive elements, the lowest at an index, and writes their count.
+    PackedStore {
+        count: Register,
+        array: Register,
+        index: Register,
+        value: Register,
+        mask: Register,
+        place: u32,
+    },
+    /// Loads them from there.
+    PackedLoad {
+        count: Register,
+        array: Register,
+        index: Register,
+        result: Register,
+        mask: Register,
+        place: u32,
+    },
     /// Zeroes a local array.
-    Clear(Register, Register),
+    Clear {
+        array: Register,
+        mask: Register,
+    },
     /// Jumps.
-    Jump(u32),
+    Jump {
+        target: u32,
+    },
     /// Jumps where the register passes the test.
-    JumpIf(JumpTest, Register, u32),
+    JumpIf {
+        test: JumpTest,
+        register: Register,
+        target: u32,
+    },
     /// Writes a text.
-    Say(u32),
+    Say {
+        text: u32,
+    },
     /// Writes a value.
     PrintScalar(Register),
     /// Writes the lanes of a mask.
-    PrintVector(Register, Register),
-    /// Traps where a mask has a lane: the mask and the place.
-    Fail(Register, u32),
+    PrintVector {
+        vector: Register,
+        mask: Register,
+    },
+    /// Traps where a mask has a lane.
+    Fail {
+        mask: Register,
+        place: u32,
+    },
     /// Calls a function.
     Call(CallBox),
     /// Goes back to the caller, or ends the run.

@@ -20,13 +20,52 @@ pub struct Register {
     pub number: u32,
 }
 
+impl Register {
+    /// A scalar register.
+    pub fn scalar(number: u32) -> Register
+        ensures { result ≡ record { class = Class.Scalar; number = number } }
+    {
+        Register {
+            class: Class::Scalar,
+            number,
+        }
+    }
+
+    /// A vector register.
+    pub fn vector(number: u32) -> Register
+        ensures { result ≡ record { class = Class.Vector; number = number } }
+    {
+        Register {
+            class: Class::Vector,
+            number,
+        }
+    }
+
+    /// A mask register.
+    pub fn mask(number: u32) -> Register
+        ensures { result ≡ record { class = Class.Mask; number = number } }
+    {
+        Register {
+            class: Class::Mask,
+            number,
+        }
+    }
+
+    /// An array register.
+    pub fn array(number: u32) -> Register
+        ensures { result ≡ record { class = Class.Array; number = number } }
+    {
+        Register {
+            class: Class::Array,
+            number,
+        }
+    }
+}
+
 impl Default for Register {
     /// The first scalar register, which fills places of a list that are not used.
     fn default() -> Register {
-        Register {
-            class: Class::Scalar,
-            number: 0,
-        }
+        Register::scalar(0)
     }
 }
 

@@ -1,5 +1,5 @@
 //! What the text of code can have.
-ghost use Rattle.std.specs.Prelude.{◌≡◌};
+ghost use Rattle.std.specs.Prelude.{◌≡◌, true};
 ghost use Rattle.std.specs.List.{list_all};
 ghost use Rattle.isp_code.specs.Listing.{routine_of};
 ghost use Rattle.isp_code.specs.Writable as writable;
@@ -27,7 +27,8 @@ pub(crate) fn place_fits(place: Span) -> bool
 
 /// Whether the text can have a text that is written: it has a byte.
 pub(crate) fn text_fits(text: &[u8]) -> bool
-    ensures { result ≡ writable.text_fits text.now }
+    ensures written { result ≡ writable.text_fits text.now }
+    ensures typed { result ≡ writable.has_byte text.now }
 {
     !text.is_empty()
 }
@@ -89,7 +90,8 @@ fn locals_fit(locals: &[Local]) -> bool
 }
 
 fn number_fits(number: u32) -> bool
-    ensures { result ≡ writable.number_fits number }
+    ensures written { result ≡ writable.number_fits number }
+    ensures typed { result ≡ true }
 {
     u64::from(number) < NUMBER_LIMIT
 }
@@ -102,13 +104,15 @@ fn constant_fits(number: i128) -> bool
 }
 
 fn fits(register: &Register) -> bool
-    ensures { result ≡ writable.register_fits register.now }
+    ensures written { result ≡ writable.register_fits register.now }
+    ensures typed { result ≡ true }
 {
     number_fits(register.number)
 }
 
 fn all_fit(registers: &[Register]) -> bool
-    ensures { result ≡ list_all writable.register_fits registers.now }
+    ensures written { result ≡ list_all writable.register_fits registers.now }
+    ensures typed { result ≡ true }
 {
     for register in registers {
         if !fits(register) {
@@ -119,70 +123,125 @@ fn all_fit(registers: &[Register]) -> bool
 }
 
 fn access_fits(d: &Register, x: &Register, y: &Register, k: &Register, place: u32) -> bool
-    ensures { result ≡ writable.access_fits d.now x.now y.now k.now place }
+    ensures written { result ≡ writable.access_fits d.now x.now y.now k.now place }
+    ensures typed { result ≡ true }
 {
     fits(d) && fits(x) && fits(y) && fits(k) && number_fits(place)
 }
 
 fn scalar_fits(instr: &ScalarInstr) -> bool
-    ensures { result ≡ writable.scalar_fits instr.now }
+    ensures written { result ≡ writable.scalar_fits instr.now }
+    ensures typed { result ≡ writable.scalar_constant instr.now }
 {
     match instr {
         ScalarInstr::Constant(n) => constant_fits(*n),
         ScalarInstr::Copy(x) => fits(x),
         ScalarInstr::Convert(x) => fits(x),
-        ScalarInstr::Unary(_op, x) => fits(x),
-        ScalarInstr::Binary(_op, x, y) => fits(x) && fits(y),
-        ScalarInstr::Compare(_op, x, y) => fits(x) && fits(y),
-        ScalarInstr::Select(c, x, y) => fits(c) && fits(x) && fits(y),
+        ScalarInstr::Unary { value, .. } => fits(value),
+        ScalarInstr::Binary { left, right, .. } => fits(left) && fits(right),
+        ScalarInstr::Compare { left, right, .. } => fits(left) && fits(right),
+        ScalarInstr::Select {
+            test,
+            if_true,
+            if_false,
+        } => fits(test) && fits(if_true) && fits(if_false),
         ScalarInstr::First(x) => fits(x),
-        ScalarInstr::Load(a, i, k, place) => fits(a) && fits(i) && fits(k) && number_fits(*place),
-        ScalarInstr::Reduce(_op, x, k) => fits(x) && fits(k),
-        ScalarInstr::Extract(x, i, k) => fits(x) && fits(i) && fits(k),
+        ScalarInstr::Load {
+            array,
+            index,
+            mask,
+            place,
+        } => fits(array) && fits(index) && fits(mask) && number_fits(*place),
+        ScalarInstr::Reduce { vector, mask, .. } => fits(vector) && fits(mask),
+        ScalarInstr::Extract { vector, lane, mask } => fits(vector) && fits(lane) && fits(mask),
     }
 }
 
 fn vector_fits(instr: &VectorInstr) -> bool
-    ensures { result ≡ writable.vector_fits instr.now }
+    ensures written { result ≡ writable.vector_fits instr.now }
+    ensures typed { result ≡ true }
 {
     match instr {
-        VectorInstr::Copy(x, k) => fits(x) && fits(k),
-        VectorInstr::Convert(x, k) => fits(x) && fits(k),
-        VectorInstr::Unary(_op, x, k) => fits(x) && fits(k),
-        VectorInstr::Binary(_op, x, y, k) => fits(x) && fits(y) && fits(k),
-        VectorInstr::Compare(_op, x, y, k) => fits(x) && fits(y) && fits(k),
-        VectorInstr::Select(c, x, y, k) => fits(c) && fits(x) && fits(y) && fits(k),
-        VectorInstr::Splat(x, k) => fits(x) && fits(k),
+        VectorInstr::Copy { value, mask } => fits(value) && fits(mask),
+        VectorInstr::Convert { value, mask } => fits(value) && fits(mask),
+        VectorInstr::Unary { value, mask, .. } => fits(value) && fits(mask),
+        VectorInstr::Binary {
+            left,
+            right,
+            mask,
+            ..
+        } => fits(left) && fits(right) && fits(mask),
+        VectorInstr::Compare {
+            left,
+            right,
+            mask,
+            ..
+        } => fits(left) && fits(right) && fits(mask),
+        VectorInstr::Select {
+            test,
+            if_true,
+            if_false,
+            mask,
+        } => fits(test) && fits(if_true) && fits(if_false) && fits(mask),
+        VectorInstr::Splat { value, mask } => fits(value) && fits(mask),
         VectorInstr::Index(k) => fits(k),
-        VectorInstr::Gather(a, i, k, place) => fits(a) && fits(i) && fits(k) && number_fits(*place),
-        VectorInstr::LoadRun(a, i, k, place) => fits(a)
-            && fits(i)
-            && fits(k)
-            && number_fits(*place),
-        VectorInstr::Scan(_op, x, k) => fits(x) && fits(k),
-        VectorInstr::Exchange(_exchange, x, i, k) => fits(x) && fits(i) && fits(k),
-        VectorInstr::Shuffle(x, i, k) => fits(x) && fits(i) && fits(k),
-        VectorInstr::ShuffleTwo(x, y, i, k) => fits(x) && fits(y) && fits(i) && fits(k),
-        VectorInstr::Insert(x, i, y, k) => fits(x) && fits(i) && fits(y) && fits(k),
+        VectorInstr::Gather {
+            array,
+            indices,
+            mask,
+            place,
+        } => fits(array) && fits(indices) && fits(mask) && number_fits(*place),
+        VectorInstr::LoadRun {
+            array,
+            index,
+            mask,
+            place,
+        } => fits(array) && fits(index) && fits(mask) && number_fits(*place),
+        VectorInstr::Scan { value, mask, .. } => fits(value) && fits(mask),
+        VectorInstr::Exchange {
+            vector,
+            by,
+            mask,
+            ..
+        } => fits(vector) && fits(by) && fits(mask),
+        VectorInstr::Shuffle {
+            vector,
+            lanes,
+            mask,
+        } => fits(vector) && fits(lanes) && fits(mask),
+        VectorInstr::ShuffleTwo {
+            first,
+            second,
+            lanes,
+            mask,
+        } => fits(first) && fits(second) && fits(lanes) && fits(mask),
+        VectorInstr::Insert {
+            vector,
+            lane,
+            value,
+            mask,
+        } => fits(vector) && fits(lane) && fits(value) && fits(mask),
     }
 }
 
 fn mask_fits(instr: &MaskInstr) -> bool
-    ensures { result ≡ writable.mask_fits instr.now }
+    ensures written { result ≡ writable.mask_fits instr.now }
+    ensures typed { result ≡ true }
 {
     match instr {
         MaskInstr::Copy(x) => fits(x),
-        MaskInstr::Binary(_op, x, y) => fits(x) && fits(y),
+        MaskInstr::Binary { left, right, .. } => fits(left) && fits(right),
         MaskInstr::Full => true,
         MaskInstr::Off => true,
-        MaskInstr::Test(x, y) => fits(x) && fits(y),
+        MaskInstr::Test { vector, mask } => fits(vector) && fits(mask),
         MaskInstr::Lowest(x) => fits(x),
-        MaskInstr::Range(x, y) => fits(x) && fits(y),
+        MaskInstr::Range { first, end } => fits(first) && fits(end),
     }
 }
 
 fn result_fits(register: &Option<Register>) -> bool
-    ensures { result ≡ writable.result_fits register.now }
+    ensures written { result ≡ writable.result_fits register.now }
+    ensures typed { result ≡ true }
 {
     match register {
         None => true,
@@ -191,7 +250,8 @@ fn result_fits(register: &Option<Register>) -> bool
 }
 
 fn call_fits(call: &Call) -> bool
-    ensures { result ≡ writable.call_fits call.now }
+    ensures written { result ≡ writable.call_fits call.now }
+    ensures typed { result ≡ true }
 {
     number_fits(call.function)
         && result_fits(&call.result)
@@ -201,32 +261,77 @@ fn call_fits(call: &Call) -> bool
 }
 
 fn instr_fits(instr: &Instr) -> bool
-    ensures { result ≡ writable.instr_fits instr.now }
+    ensures written { result ≡ writable.instr_fits instr.now }
+    ensures typed { result ≡ writable.constant_in instr.now }
 {
     match instr {
-        Instr::Scalar(d, instr) => fits(d) && scalar_fits(instr),
-        Instr::Vector(d, instr) => fits(d) && vector_fits(instr),
-        Instr::Mask(d, instr) => fits(d) && mask_fits(instr),
-        Instr::Divide(_op, d, x, y, k, place) => access_fits(d, x, y, k, *place),
-        Instr::Store(a, i, y, k, place) => access_fits(a, i, y, k, *place),
-        Instr::Scatter(a, i, y, k, place) => access_fits(a, i, y, k, *place),
-        Instr::StoreRun(a, i, y, k, place) => access_fits(a, i, y, k, *place),
-        Instr::PackedStore(d, a, i, y, k, place) => fits(d) && access_fits(a, i, y, k, *place),
-        Instr::PackedLoad(d, a, i, y, k, place) => fits(d) && access_fits(a, i, y, k, *place),
-        Instr::Clear(a, k) => fits(a) && fits(k),
-        Instr::Jump(to) => number_fits(*to),
-        Instr::JumpIf(_test, x, to) => fits(x) && number_fits(*to),
-        Instr::Say(text) => number_fits(*text),
+        Instr::Scalar { result, instr } => fits(result) && scalar_fits(instr),
+        Instr::Vector { result, instr } => fits(result) && vector_fits(instr),
+        Instr::Mask { result, instr } => fits(result) && mask_fits(instr),
+        Instr::Divide {
+            result,
+            dividend,
+            divisor,
+            mask,
+            place,
+            ..
+        } => access_fits(result, dividend, divisor, mask, *place),
+        Instr::Store {
+            array,
+            index,
+            value,
+            mask,
+            place,
+        } => access_fits(array, index, value, mask, *place),
+        Instr::Scatter {
+            array,
+            indices,
+            value,
+            mask,
+            place,
+        } => access_fits(array, indices, value, mask, *place),
+        Instr::StoreRun {
+            array,
+            index,
+            value,
+            mask,
+            place,
+        } => access_fits(array, index, value, mask, *place),
+        Instr::PackedStore {
+            count,
+            array,
+            index,
+            value,
+            mask,
+            place,
+        } => fits(count) && access_fits(array, index, value, mask, *place),
+        Instr::PackedLoad {
+            count,
+            array,
+            index,
+            result,
+            mask,
+            place,
+        } => fits(count) && access_fits(array, index, result, mask, *place),
+        Instr::Clear { array, mask } => fits(array) && fits(mask),
+        Instr::Jump { target } => number_fits(*target),
+        Instr::JumpIf {
+            register,
+            target,
+            ..
+        } => fits(register) && number_fits(*target),
+        Instr::Say { text } => number_fits(*text),
         Instr::PrintScalar(x) => fits(x),
-        Instr::PrintVector(x, k) => fits(x) && fits(k),
-        Instr::Fail(x, place) => fits(x) && number_fits(*place),
+        Instr::PrintVector { vector, mask } => fits(vector) && fits(mask),
+        Instr::Fail { mask, place } => fits(mask) && number_fits(*place),
         Instr::Call(call) => call_fits(call.get()),
         Instr::Return(x) => result_fits(x),
     }
 }
 
 fn instrs_fit(code: &[Instr]) -> bool
-    ensures { result ≡ list_all writable.instr_fits code.now }
+    ensures written { result ≡ list_all writable.instr_fits code.now }
+    ensures typed { result ≡ list_all writable.constant_in code.now }
 {
     for instr in code {
         if !instr_fits(instr) {
@@ -237,9 +342,10 @@ fn instrs_fit(code: &[Instr]) -> bool
 }
 
 /// Whether the text can have a function: its names are words, its local arrays have 1 to 65,536 elements, and its
-/// numbers are in their ranges.
+/// numbers are in their ranges. Numbers of 32 bits are, so constants alone are asked.
 pub(crate) fn function_fits(function: &Function) -> bool
-    ensures { result ≡ writable.routine_fits (routine_of function.now) }
+    ensures written { result ≡ writable.routine_fits (routine_of function.now) }
+    ensures typed { result ≡ writable.parts_fit (routine_of function.now) }
 {
     name_fits(function.name.as_str().as_bytes())
         && params_fit(&function.params)

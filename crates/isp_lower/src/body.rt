@@ -85,7 +85,11 @@ impl Body {
         ensures texts { self.new.texts ≡ self.old.texts }
     {
         let next = self.code.len() as u32;
-        self.code[at] = Instr::JumpIf(test, register, next);
+        self.code[at] = Instr::JumpIf {
+            test,
+            register,
+            target: next,
+        };
     }
 
     /// The same for a jump that is always taken.
@@ -96,7 +100,7 @@ impl Body {
         ensures texts { self.new.texts ≡ self.old.texts }
     {
         let next = self.code.len() as u32;
-        self.code[at] = Instr::Jump(next);
+        self.code[at] = Instr::Jump { target: next };
     }
 
     /// A jump leads to another instruction.
@@ -108,8 +112,12 @@ impl Body {
         ensures texts { self.new.texts ≡ self.old.texts }
     {
         self.code[at] = match &self.code[at] {
-            Instr::Jump(_) => Instr::Jump(target),
-            Instr::JumpIf(test, register, _) => Instr::JumpIf(*test, *register, target),
+            Instr::Jump { .. } => Instr::Jump { target },
+            Instr::JumpIf { test, register, .. } => Instr::JumpIf {
+                test: *test,
+                register: *register,
+                target,
+            },
             _ => return,
         };
     }

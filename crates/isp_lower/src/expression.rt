@@ -352,7 +352,11 @@ fn right_side(
     ensures { OnOk result (Writes b.old b.new (skipped_at on.now skip (expr_of x.now) target)) }
 {
     let at = b.code.len();
-    b.push(Instr::JumpIf(skip.test, skip.register, 0))?;
+    b.push(Instr::JumpIf {
+        test: skip.test,
+        register: skip.register,
+        target: 0,
+    })?;
     copied(b, on, x, target)?;
     b.land(at, skip.test, skip.register);
     Ok(())
@@ -463,10 +467,14 @@ fn choose_by_jump(
     ensures { OnOk result (Writes b.old b.new (by_jump_at on.now tested (expr_of then.now) (expr_of otherwise.now) target)) }
 {
     let at = b.code.len();
-    b.push(Instr::JumpIf(JumpTest::False, scalar(tested), 0))?;
+    b.push(Instr::JumpIf {
+        test: JumpTest::False,
+        register: scalar(tested),
+        target: 0,
+    })?;
     side(b, on, target.ty, then, target.site)?;
     let over = b.code.len();
-    b.push(Instr::Jump(0))?;
+    b.push(Instr::Jump { target: 0 })?;
     b.land(at, JumpTest::False, scalar(tested));
     side(b, on, target.ty, otherwise, target.site)?;
     b.land_always(over);
@@ -508,7 +516,11 @@ fn masked_side(
     ensures code { OnOk result (Writes b.old b.new (guarded_at on.now rate (expr_of x.now) site)) }
 {
     let at = b.code.len();
-    b.push(Instr::JumpIf(JumpTest::Off, mask(site.mask), 0))?;
+    b.push(Instr::JumpIf {
+        test: JumpTest::Off,
+        register: mask(site.mask),
+        target: 0,
+    })?;
     let from = operand(b, on, rate, x, site)?;
     b.land(at, JumpTest::Off, mask(site.mask));
     Ok(from)

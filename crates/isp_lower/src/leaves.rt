@@ -11,38 +11,27 @@ ghost use Rattle.isp_lower.specs.Written.{division_at};
 use crate::numbered::{MaskNumber, PlaceNumber, RegisterNumber};
 use crate::sites::{Element, Target};
 use isp_base::{BinOp, Compare, Elem, Rate, UnaryOp, number};
-use isp_code::{
-    Class, Division, Instr, MaskInstr, MaskOp, Plain, Register, ScalarInstr, VectorInstr,
-};
+use isp_code::{Division, Instr, MaskInstr, MaskOp, Plain, Register, ScalarInstr, VectorInstr};
 
 /// A scalar register.
 pub fn scalar(x: RegisterNumber) -> Register
     ensures { result ≡ register Uniform x.number }
 {
-    Register {
-        class: Class::Scalar,
-        number: x.number,
-    }
+    Register::scalar(x.number)
 }
 
 /// A vector register.
 pub fn vector(x: RegisterNumber) -> Register
     ensures { result ≡ register Varying x.number }
 {
-    Register {
-        class: Class::Vector,
-        number: x.number,
-    }
+    Register::vector(x.number)
 }
 
 /// A mask register.
 pub fn mask(k: MaskNumber) -> Register
     ensures { result ≡ mask_register k.number }
 {
-    Register {
-        class: Class::Mask,
-        number: k.number,
-    }
+    Register::mask(k.number)
 }
 
 /// A register of a rate.
@@ -60,8 +49,17 @@ pub fn copy(rate: Rate, to: RegisterNumber, from: RegisterNumber, k: MaskNumber)
     ensures { result ≡ copy rate to.number from.number k.number }
 {
     match rate {
-        Rate::Uniform => Instr::Scalar(scalar(to), ScalarInstr::Copy(scalar(from))),
-        Rate::Varying => Instr::Vector(vector(to), VectorInstr::Copy(vector(from), mask(k))),
+        Rate::Uniform => Instr::Scalar {
+            result: scalar(to),
+            instr: ScalarInstr::Copy(scalar(from)),
+        },
+        Rate::Varying => Instr::Vector {
+            result: vector(to),
+            instr: VectorInstr::Copy {
+                value: vector(from),
+                mask: mask(k),
+            },
+        },
     }
 }
 
@@ -70,8 +68,17 @@ pub fn convert(rate: Rate, to: RegisterNumber, from: RegisterNumber, k: MaskNumb
     ensures { result ≡ convert rate to.number from.number k.number }
 {
     match rate {
-        Rate::Uniform => Instr::Scalar(scalar(to), ScalarInstr::Convert(scalar(from))),
-        Rate::Varying => Instr::Vector(vector(to), VectorInstr::Convert(vector(from), mask(k))),
+        Rate::Uniform => Instr::Scalar {
+            result: scalar(to),
+            instr: ScalarInstr::Convert(scalar(from)),
+        },
+        Rate::Varying => Instr::Vector {
+            result: vector(to),
+            instr: VectorInstr::Convert {
+                value: vector(from),
+                mask: mask(k),
+            },
+        },
     }
 }
 
@@ -86,11 +93,21 @@ pub fn unary(
     ensures { result ≡ unary rate operator to.number from.number k.number }
 {
     match rate {
-        Rate::Uniform => Instr::Scalar(scalar(to), ScalarInstr::Unary(operator, scalar(from))),
-        Rate::Varying => Instr::Vector(
-            vector(to),
-            VectorInstr::Unary(operator, vector(from), mask(k)),
-        ),
+        Rate::Uniform => Instr::Scalar {
+            result: scalar(to),
+            instr: ScalarInstr::Unary {
+                op: operator,
+                value: scalar(from),
+            },
+        },
+        Rate::Varying => Instr::Vector {
+            result: vector(to),
+            instr: VectorInstr::Unary {
+                op: operator,
+                value: vector(from),
+                mask: mask(k),
+            },
+        },
     }
 }
 
@@ -106,14 +123,23 @@ pub fn compare(
     ensures { result ≡ compare rate comparison to.number left.number right.number k.number }
 {
     match rate {
-        Rate::Uniform => Instr::Scalar(
-            scalar(to),
-            ScalarInstr::Compare(comparison, scalar(left), scalar(right)),
-        ),
-        Rate::Varying => Instr::Vector(
-            vector(to),
-            VectorInstr::Compare(comparison, vector(left), vector(right), mask(k)),
-        ),
+        Rate::Uniform => Instr::Scalar {
+            result: scalar(to),
+            instr: ScalarInstr::Compare {
+                op: comparison,
+                left: scalar(left),
+                right: scalar(right),
+            },
+        },
+        Rate::Varying => Instr::Vector {
+            result: vector(to),
+            instr: VectorInstr::Compare {
+                op: comparison,
+                left: vector(left),
+                right: vector(right),
+                mask: mask(k),
+            },
+        },
     }
 }
 
@@ -129,14 +155,23 @@ pub fn compute(
     ensures { result ≡ compute rate operator to.number left.number right.number k.number }
 {
     match rate {
-        Rate::Uniform => Instr::Scalar(
-            scalar(to),
-            ScalarInstr::Binary(operator, scalar(left), scalar(right)),
-        ),
-        Rate::Varying => Instr::Vector(
-            vector(to),
-            VectorInstr::Binary(operator, vector(left), vector(right), mask(k)),
-        ),
+        Rate::Uniform => Instr::Scalar {
+            result: scalar(to),
+            instr: ScalarInstr::Binary {
+                op: operator,
+                left: scalar(left),
+                right: scalar(right),
+            },
+        },
+        Rate::Varying => Instr::Vector {
+            result: vector(to),
+            instr: VectorInstr::Binary {
+                op: operator,
+                left: vector(left),
+                right: vector(right),
+                mask: mask(k),
+            },
+        },
     }
 }
 
@@ -189,45 +224,54 @@ fn divide(
     ensures { result ≡ division_at division left right target place.number }
 {
     let rate = target.ty.rate;
-    Instr::Divide(
-        division,
-        of_rate(rate, target.to),
-        of_rate(rate, left),
-        of_rate(rate, right),
-        mask(target.site.mask),
-        place.number,
-    )
+    Instr::Divide {
+        op: division,
+        result: of_rate(rate, target.to),
+        dividend: of_rate(rate, left),
+        divisor: of_rate(rate, right),
+        mask: mask(target.site.mask),
+        place: place.number,
+    }
 }
 
 /// A number of an element type.
 pub fn constant(to: RegisterNumber, elem: Elem, bits: u64) -> Instr
     ensures { result ≡ constant to.number elem bits }
 {
-    Instr::Scalar(scalar(to), ScalarInstr::Constant(number(elem, bits)))
+    Instr::Scalar {
+        result: scalar(to),
+        instr: ScalarInstr::Constant(number(elem, bits)),
+    }
 }
 
 /// The number of each lane.
 pub fn index(to: RegisterNumber, k: MaskNumber) -> Instr
     ensures { result ≡ instr.Vector (register Varying to.number) (instr_vector.Index (mask_register k.number)) }
 {
-    Instr::Vector(vector(to), VectorInstr::Index(mask(k)))
+    Instr::Vector {
+        result: vector(to),
+        instr: VectorInstr::Index(mask(k)),
+    }
 }
 
 /// One value in each lane.
 pub fn splat(to: RegisterNumber, from: RegisterNumber, k: MaskNumber) -> Instr
     ensures { result ≡ instr.Vector (register Varying to.number) (instr_vector.Splat (register Uniform from.number) (mask_register k.number)) }
 {
-    Instr::Vector(vector(to), VectorInstr::Splat(scalar(from), mask(k)))
+    Instr::Vector {
+        result: vector(to),
+        instr: VectorInstr::Splat {
+            value: scalar(from),
+            mask: mask(k),
+        },
+    }
 }
 
 /// An array.
 pub fn array(x: RegisterNumber) -> Register
     ensures { result ≡ array_register x.number }
 {
-    Register {
-        class: Class::Array,
-        number: x.number,
-    }
+    Register::array(x.number)
 }
 
 /// An element of an array, or one for each lane.
@@ -242,14 +286,24 @@ pub fn read(
     ensures { result ≡ read rate to.number from.number index.number k.number place.number }
 {
     match rate {
-        Rate::Uniform => Instr::Scalar(
-            scalar(to),
-            ScalarInstr::Load(array(from), scalar(index), mask(k), place.number),
-        ),
-        Rate::Varying => Instr::Vector(
-            vector(to),
-            VectorInstr::Gather(array(from), vector(index), mask(k), place.number),
-        ),
+        Rate::Uniform => Instr::Scalar {
+            result: scalar(to),
+            instr: ScalarInstr::Load {
+                array: array(from),
+                index: scalar(index),
+                mask: mask(k),
+                place: place.number,
+            },
+        },
+        Rate::Varying => Instr::Vector {
+            result: vector(to),
+            instr: VectorInstr::Gather {
+                array: array(from),
+                indices: vector(index),
+                mask: mask(k),
+                place: place.number,
+            },
+        },
     }
 }
 
@@ -265,20 +319,20 @@ pub fn write(
     ensures { result ≡ write rate to.number index.number from.number k.number place.number }
 {
     match rate {
-        Rate::Uniform => Instr::Store(
-            array(to),
-            scalar(index),
-            scalar(from),
-            mask(k),
-            place.number,
-        ),
-        Rate::Varying => Instr::Scatter(
-            array(to),
-            vector(index),
-            vector(from),
-            mask(k),
-            place.number,
-        ),
+        Rate::Uniform => Instr::Store {
+            array: array(to),
+            index: scalar(index),
+            value: scalar(from),
+            mask: mask(k),
+            place: place.number,
+        },
+        Rate::Varying => Instr::Scatter {
+            array: array(to),
+            indices: vector(index),
+            value: vector(from),
+            mask: mask(k),
+            place: place.number,
+        },
     }
 }
 
@@ -293,10 +347,15 @@ pub(crate) fn read_by(
     ensures { result ≡ read_by element.is_run element.ty.rate to.number from.number element.index.number k.number place.number }
 {
     if element.is_run {
-        Instr::Vector(
-            vector(to),
-            VectorInstr::LoadRun(array(from), scalar(element.index), mask(k), place.number),
-        )
+        Instr::Vector {
+            result: vector(to),
+            instr: VectorInstr::LoadRun {
+                array: array(from),
+                index: scalar(element.index),
+                mask: mask(k),
+                place: place.number,
+            },
+        }
     } else {
         read(element.ty.rate, to, from, element.index, k, place)
     }
@@ -313,13 +372,13 @@ pub(crate) fn write_by(
     ensures { result ≡ write_by element.is_run element.ty.rate to.number element.index.number from.number k.number place.number }
 {
     if element.is_run {
-        Instr::StoreRun(
-            array(to),
-            scalar(element.index),
-            vector(from),
-            mask(k),
-            place.number,
-        )
+        Instr::StoreRun {
+            array: array(to),
+            index: scalar(element.index),
+            value: vector(from),
+            mask: mask(k),
+            place: place.number,
+        }
     } else {
         write(element.ty.rate, to, element.index, from, k, place)
     }
@@ -329,7 +388,10 @@ pub(crate) fn write_by(
 pub fn clear(to: RegisterNumber, k: MaskNumber) -> Instr
     ensures { result ≡ instr.Clear (array_register to.number) (mask_register k.number) }
 {
-    Instr::Clear(array(to), mask(k))
+    Instr::Clear {
+        array: array(to),
+        mask: mask(k),
+    }
 }
 
 /// Members store consecutive elements from one on, and a register gets their count.
@@ -343,14 +405,14 @@ pub(crate) fn packed_store(
 ) -> Instr
     ensures { result ≡ packed_store to.number into.number first.number from.number k.number place.number }
 {
-    Instr::PackedStore(
-        scalar(to),
-        array(into),
-        scalar(first),
-        vector(from),
-        mask(k),
-        place.number,
-    )
+    Instr::PackedStore {
+        count: scalar(to),
+        array: array(into),
+        index: scalar(first),
+        value: vector(from),
+        mask: mask(k),
+        place: place.number,
+    }
 }
 
 /// Members load consecutive elements from one on into a register, and another one gets their count.
@@ -364,14 +426,14 @@ pub(crate) fn packed_load(
 ) -> Instr
     ensures { result ≡ packed_load to.number from.number first.number into.number k.number place.number }
 {
-    Instr::PackedLoad(
-        scalar(to),
-        array(from),
-        scalar(first),
-        vector(into),
-        mask(k),
-        place.number,
-    )
+    Instr::PackedLoad {
+        count: scalar(to),
+        array: array(from),
+        index: scalar(first),
+        result: vector(into),
+        mask: mask(k),
+        place: place.number,
+    }
 }
 
 /// The second register where the first is true, else the third.
@@ -386,14 +448,23 @@ pub fn select(
     ensures { result ≡ select rate to.number test.number then.number otherwise.number k.number }
 {
     match rate {
-        Rate::Uniform => Instr::Scalar(
-            scalar(to),
-            ScalarInstr::Select(scalar(test), scalar(then), scalar(otherwise)),
-        ),
-        Rate::Varying => Instr::Vector(
-            vector(to),
-            VectorInstr::Select(vector(test), vector(then), vector(otherwise), mask(k)),
-        ),
+        Rate::Uniform => Instr::Scalar {
+            result: scalar(to),
+            instr: ScalarInstr::Select {
+                test: scalar(test),
+                if_true: scalar(then),
+                if_false: scalar(otherwise),
+            },
+        },
+        Rate::Varying => Instr::Vector {
+            result: vector(to),
+            instr: VectorInstr::Select {
+                test: vector(test),
+                if_true: vector(then),
+                if_false: vector(otherwise),
+                mask: mask(k),
+            },
+        },
     }
 }
 
@@ -401,15 +472,25 @@ pub fn select(
 pub fn where_so(to: MaskNumber, from: RegisterNumber, k: MaskNumber) -> Instr
     ensures { result ≡ where_so to.number from.number k.number }
 {
-    Instr::Mask(mask(to), MaskInstr::Test(vector(from), mask(k)))
+    Instr::Mask {
+        result: mask(to),
+        instr: MaskInstr::Test {
+            vector: vector(from),
+            mask: mask(k),
+        },
+    }
 }
 
 /// The lanes of a mask that are not in another.
 pub fn the_others(to: MaskNumber, k: MaskNumber, other: MaskNumber) -> Instr
     ensures { result ≡ the_others to.number k.number other.number }
 {
-    Instr::Mask(
-        mask(to),
-        MaskInstr::Binary(MaskOp::AndNot, mask(k), mask(other)),
-    )
+    Instr::Mask {
+        result: mask(to),
+        instr: MaskInstr::Binary {
+            op: MaskOp::AndNot,
+            left: mask(k),
+            right: mask(other),
+        },
+    }
 }

@@ -100,20 +100,28 @@ pub(crate) fn value_rate(function: Library, rate: Rate, place: usize) -> Rate
 fn reduce(operator: Reduction, to: RegisterNumber, from: RegisterNumber, k: MaskNumber) -> Instr
     ensures { result ≡ table.reduce operator to.number from.number k.number }
 {
-    Instr::Scalar(
-        scalar(to),
-        ScalarInstr::Reduce(operator, vector(from), mask(k)),
-    )
+    Instr::Scalar {
+        result: scalar(to),
+        instr: ScalarInstr::Reduce {
+            op: operator,
+            vector: vector(from),
+            mask: mask(k),
+        },
+    }
 }
 
 /// Each lane gets the result of an operator on the lower ones.
 fn scan(operator: Scan, to: RegisterNumber, from: RegisterNumber, k: MaskNumber) -> Instr
     ensures { result ≡ table.scan_of operator to.number from.number k.number }
 {
-    Instr::Vector(
-        vector(to),
-        VectorInstr::Scan(operator, vector(from), mask(k)),
-    )
+    Instr::Vector {
+        result: vector(to),
+        instr: VectorInstr::Scan {
+            op: operator,
+            value: vector(from),
+            mask: mask(k),
+        },
+    }
 }
 
 /// Each lane gets what another one has, by a number: of the first two values.
@@ -121,20 +129,29 @@ fn exchange(operator: Exchange, to: RegisterNumber, given: Operands, k: MaskNumb
     ensures { result ≡ table.exchange_of operator to.number given.first.number given.second.number k.number }
 {
     let by = scalar(given.second);
-    Instr::Vector(
-        vector(to),
-        VectorInstr::Exchange(operator, vector(given.first), by, mask(k)),
-    )
+    Instr::Vector {
+        result: vector(to),
+        instr: VectorInstr::Exchange {
+            op: operator,
+            vector: vector(given.first),
+            by,
+            mask: mask(k),
+        },
+    }
 }
 
 /// Each lane gets what the lane has that its number names.
 fn shuffle(to: RegisterNumber, given: Operands, k: MaskNumber) -> Instr
     ensures { result ≡ table.shuffle to.number given.first.number given.second.number k.number }
 {
-    Instr::Vector(
-        vector(to),
-        VectorInstr::Shuffle(vector(given.first), vector(given.second), mask(k)),
-    )
+    Instr::Vector {
+        result: vector(to),
+        instr: VectorInstr::Shuffle {
+            vector: vector(given.first),
+            lanes: vector(given.second),
+            mask: mask(k),
+        },
+    }
 }
 
 /// The same of two vectors side by side.
@@ -142,10 +159,15 @@ fn shuffle_two(to: RegisterNumber, given: Operands, k: MaskNumber) -> Instr
     ensures { result ≡ table.shuffle_two to.number given.first.number given.second.number given.third.number k.number }
 {
     let by = vector(given.third);
-    Instr::Vector(
-        vector(to),
-        VectorInstr::ShuffleTwo(vector(given.first), vector(given.second), by, mask(k)),
-    )
+    Instr::Vector {
+        result: vector(to),
+        instr: VectorInstr::ShuffleTwo {
+            first: vector(given.first),
+            second: vector(given.second),
+            lanes: by,
+            mask: mask(k),
+        },
+    }
 }
 
 /// A scalar register gets what one lane has.
@@ -153,10 +175,14 @@ fn extract(to: RegisterNumber, given: Operands, k: MaskNumber) -> Instr
     ensures { result ≡ table.extract to.number given.first.number given.second.number k.number }
 {
     let lane = scalar(given.second);
-    Instr::Scalar(
-        scalar(to),
-        ScalarInstr::Extract(vector(given.first), lane, mask(k)),
-    )
+    Instr::Scalar {
+        result: scalar(to),
+        instr: ScalarInstr::Extract {
+            vector: vector(given.first),
+            lane,
+            mask: mask(k),
+        },
+    }
 }
 
 /// A vector with another value in one lane.
@@ -165,10 +191,15 @@ fn insert(to: RegisterNumber, given: Operands, k: MaskNumber) -> Instr
 {
     let lane = scalar(given.second);
     let value = scalar(given.third);
-    Instr::Vector(
-        vector(to),
-        VectorInstr::Insert(vector(given.first), lane, value, mask(k)),
-    )
+    Instr::Vector {
+        result: vector(to),
+        instr: VectorInstr::Insert {
+            vector: vector(given.first),
+            lane,
+            value,
+            mask: mask(k),
+        },
+    }
 }
 
 /// The instructions of a function on the registers of its values, by way of a spare register where there are two.

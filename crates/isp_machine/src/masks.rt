@@ -86,12 +86,19 @@ fn mask_value<const N: usize>(
 {
     match instr {
         MaskInstr::Copy(x) => *here.mask(frame, x),
-        MaskInstr::Binary(op, x, y) => combined(op, here.mask(frame, x), here.mask(frame, y)),
+        MaskInstr::Binary { op, left, right } => combined(
+            op,
+            here.mask(frame, left),
+            here.mask(frame, right),
+        ),
         MaskInstr::Full => full(),
         MaskInstr::Off => none(),
-        MaskInstr::Test(x, y) => tested(here.vector(frame, x), here.mask(frame, y)),
+        MaskInstr::Test { vector, mask } => tested(
+            here.vector(frame, vector),
+            here.mask(frame, mask),
+        ),
         MaskInstr::Lowest(x) => lowest_alone(here.mask(frame, x)),
-        MaskInstr::Range(x, y) => range(here, frame, x, y),
+        MaskInstr::Range { first, end } => range(here, frame, first, end),
     }
 }
 

@@ -98,24 +98,40 @@ fn scalar_value<const N: usize>(
         ScalarInstr::Constant(number) => Ok(constant(elem, number)),
         ScalarInstr::Copy(x) => Ok(here.scalar(frame, x)),
         ScalarInstr::Convert(x) => Ok(converted(here.elem(x), elem, here.scalar(frame, x))),
-        ScalarInstr::Unary(op, x) => Ok(unary(op, elem, here.scalar(frame, x))),
-        ScalarInstr::Binary(op, x, y) => {
-            Ok(binary(op, elem, here.scalar(frame, x), here.scalar(frame, y)))
+        ScalarInstr::Unary { op, value } => Ok(unary(op, elem, here.scalar(frame, value))),
+        ScalarInstr::Binary { op, left, right } => {
+            Ok(binary(
+                op,
+                elem,
+                here.scalar(frame, left),
+                here.scalar(frame, right),
+            ))
         }
-        ScalarInstr::Compare(op, x, y) => {
+        ScalarInstr::Compare { op, left, right } => {
             let holds = compare(
                 op,
-                here.elem(x),
-                here.scalar(frame, x),
-                here.scalar(frame, y),
+                here.elem(left),
+                here.scalar(frame, left),
+                here.scalar(frame, right),
             );
             Ok(u64::from(holds))
         }
-        ScalarInstr::Select(test, x, y) => Ok(select(here, frame, test, x, y)),
+        ScalarInstr::Select {
+            test,
+            if_true,
+            if_false,
+        } => Ok(select(here, frame, test, if_true, if_false)),
         ScalarInstr::First(k) => Ok(first_lane(here.mask(frame, k)) as u64),
-        ScalarInstr::Load(a, i, k, place) => load(here, frame, stores, d, a, i, k, place),
-        ScalarInstr::Reduce(op, x, k) => Ok(reduce(here, frame, d, op, x, k)),
-        ScalarInstr::Extract(x, i, k) => Ok(extract(here, frame, d, x, i, k)),
+        ScalarInstr::Load {
+            array,
+            index,
+            mask,
+            place,
+        } => load(here, frame, stores, d, array, index, mask, place),
+        ScalarInstr::Reduce { op, vector, mask } => Ok(reduce(here, frame, d, op, vector, mask)),
+        ScalarInstr::Extract { vector, lane, mask } => Ok(extract(
+            here, frame, d, vector, lane, mask,
+        )),
     }
 }
 

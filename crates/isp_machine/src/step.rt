@@ -75,24 +75,65 @@ fn compute<const N: usize>(
     ensures same_stores { IfErr result (λ t. stores.new ≡ stores.old) }
 {
     match instr {
-        Instr::Scalar(d, instr) => scalar(here, frame, stores, *d, *instr)?,
-        Instr::Vector(d, instr) => vector(here, frame, stores, *d, *instr)?,
-        Instr::Mask(d, instr) => mask(here, frame, *d, *instr),
-        Instr::Divide(op, d, x, y, k, place) => divide(here, frame, *op, *d, *x, *y, *k, *place)?,
-        Instr::Store(a, i, y, k, place) => store(here, frame, stores, *a, *i, *y, *k, *place)?,
-        Instr::StoreRun(a, i, y, k, place) => {
-            store_run(here, frame, stores, *a, *i, *y, *k, *place)?
+        Instr::Scalar { result, instr } => scalar(here, frame, stores, *result, *instr)?,
+        Instr::Vector { result, instr } => vector(here, frame, stores, *result, *instr)?,
+        Instr::Mask { result, instr } => mask(here, frame, *result, *instr),
+        Instr::Divide {
+            op,
+            result,
+            dividend,
+            divisor,
+            mask,
+            place,
+        } => divide(
+            here, frame, *op, *result, *dividend, *divisor, *mask, *place,
+        )?,
+        Instr::Store {
+            array,
+            index,
+            value,
+            mask,
+            place,
+        } => store(here, frame, stores, *array, *index, *value, *mask, *place)?,
+        Instr::StoreRun {
+            array,
+            index,
+            value,
+            mask,
+            place,
+        } => { store_run(here, frame, stores, *array, *index, *value, *mask, *place)? }
+        Instr::PackedStore {
+            count,
+            array,
+            index,
+            value,
+            mask,
+            place,
+        } => {
+            packed_store(
+                here, frame, stores, *count, *array, *index, *value, *mask, *place,
+            )?
         }
-        Instr::PackedStore(d, a, i, y, k, place) => {
-            packed_store(here, frame, stores, *d, *a, *i, *y, *k, *place)?
+        Instr::PackedLoad {
+            count,
+            array,
+            index,
+            result,
+            mask,
+            place,
+        } => {
+            packed_load(
+                here, frame, stores, *count, *array, *index, *result, *mask, *place,
+            )?
         }
-        Instr::PackedLoad(d, a, i, y, k, place) => {
-            packed_load(here, frame, stores, *d, *a, *i, *y, *k, *place)?
-        }
-        Instr::Clear(a, k) => clear(here, frame, stores, *a, *k),
-        Instr::Jump(to) => jump(here, frame, *to),
-        Instr::JumpIf(test, x, to) => jump_if(here, frame, *test, *x, *to),
-        Instr::Fail(x, place) => fail(here, frame, *x, *place)?,
+        Instr::Clear { array, mask } => clear(here, frame, stores, *array, *mask),
+        Instr::Jump { target } => jump(here, frame, *target),
+        Instr::JumpIf {
+            test,
+            register,
+            target,
+        } => jump_if(here, frame, *test, *register, *target),
+        Instr::Fail { mask, place } => fail(here, frame, *mask, *place)?,
         _ => unreachable!(),
     }
     Ok(())
@@ -123,7 +164,7 @@ fn execute<const N: usize>(
     ensures refused { OnErr result (MayRefuse instr.now) }
 {
     match instr {
-        Instr::Say(text) => {
+        Instr::Say { text } => {
             say(here, &mut run.frame.at, &mut run.out, *text)?;
             Ok(())
         }
@@ -131,8 +172,8 @@ fn execute<const N: usize>(
             print_scalar(here, &mut run.frame.at, &mut run.out, *x)?;
             Ok(())
         }
-        Instr::PrintVector(x, k) => {
-            print_vector(alloc, here, &mut run.frame.at, &mut run.out, *x, *k)?;
+        Instr::PrintVector { vector, mask } => {
+            print_vector(alloc, here, &mut run.frame.at, &mut run.out, *vector, *mask)?;
             Ok(())
         }
         Instr::Call(c) => call(
@@ -159,16 +200,22 @@ fn execute<const N: usize>(
             );
             Ok(())
         }
-        Instr::Scatter(a, i, y, k, place) => {
+        Instr::Scatter {
+            array,
+            indices,
+            value,
+            mask,
+            place,
+        } => {
             scatter(
                 here,
                 &mut run.frame.at,
                 &mut run.stores,
                 ending,
-                *a,
-                *i,
-                *y,
-                *k,
+                *array,
+                *indices,
+                *value,
+                *mask,
                 *place,
             );
             Ok(())

@@ -26,21 +26,55 @@ fn change<const N: usize>(here: &Here, frame: &mut Frame<N>, d: Register, instr:
     ensures written { (s : Held) → InPlace here.now s frame.old d instr frame.new }
 {
     match instr {
-        VectorInstr::Copy(x, k) => copy(here, frame, d, x, k),
-        VectorInstr::Convert(x, k) => convert(here, frame, d, x, k),
-        VectorInstr::Unary(op, x, k) => apply(here, frame, d, op, x, k),
-        VectorInstr::Binary(op, x, y, k) => combine(here, frame, d, op, x, y, k),
-        VectorInstr::Compare(op, x, y, k) => compare(here, frame, d, op, x, y, k),
-        VectorInstr::Select(test, x, y, k) => select(here, frame, d, test, x, y, k),
-        VectorInstr::Splat(x, k) => splat(here, frame, d, x, k),
+        VectorInstr::Copy { value, mask } => copy(here, frame, d, value, mask),
+        VectorInstr::Convert { value, mask } => convert(here, frame, d, value, mask),
+        VectorInstr::Unary { op, value, mask } => apply(here, frame, d, op, value, mask),
+        VectorInstr::Binary {
+            op,
+            left,
+            right,
+            mask,
+        } => combine(here, frame, d, op, left, right, mask),
+        VectorInstr::Compare {
+            op,
+            left,
+            right,
+            mask,
+        } => compare(here, frame, d, op, left, right, mask),
+        VectorInstr::Select {
+            test,
+            if_true,
+            if_false,
+            mask,
+        } => select(here, frame, d, test, if_true, if_false, mask),
+        VectorInstr::Splat { value, mask } => splat(here, frame, d, value, mask),
         VectorInstr::Index(k) => number(here, frame, d, k),
-        VectorInstr::Scan(op, x, k) => scan(here, frame, d, op, x, k),
-        VectorInstr::Exchange(op, x, i, k) => exchange(here, frame, d, op, x, i, k),
-        VectorInstr::Shuffle(x, i, k) => shuffle(here, frame, d, x, i, k),
-        VectorInstr::ShuffleTwo(x, y, i, k) => shuffle_two(here, frame, d, x, y, i, k),
-        VectorInstr::Insert(x, i, y, k) => insert(here, frame, d, x, i, y, k),
-        VectorInstr::Gather(..) => unreachable!(),
-        VectorInstr::LoadRun(..) => unreachable!(),
+        VectorInstr::Scan { op, value, mask } => scan(here, frame, d, op, value, mask),
+        VectorInstr::Exchange {
+            op,
+            vector,
+            by,
+            mask,
+        } => exchange(here, frame, d, op, vector, by, mask),
+        VectorInstr::Shuffle {
+            vector,
+            lanes,
+            mask,
+        } => shuffle(here, frame, d, vector, lanes, mask),
+        VectorInstr::ShuffleTwo {
+            first,
+            second,
+            lanes,
+            mask,
+        } => shuffle_two(here, frame, d, first, second, lanes, mask),
+        VectorInstr::Insert {
+            vector,
+            lane,
+            value,
+            mask,
+        } => insert(here, frame, d, vector, lane, value, mask),
+        VectorInstr::Gather { .. } => unreachable!(),
+        VectorInstr::LoadRun { .. } => unreachable!(),
     }
 }
 
@@ -64,8 +98,18 @@ fn vector_value<const N: usize>(
     ensures same { IfErr result (λ t. frame.new ≡ frame.old) }
 {
     match instr {
-        VectorInstr::Gather(a, i, k, place) => gather(here, frame, stores, d, a, i, k, place),
-        VectorInstr::LoadRun(a, i, k, place) => load_run(here, frame, stores, d, a, i, k, place),
+        VectorInstr::Gather {
+            array,
+            indices,
+            mask,
+            place,
+        } => gather(here, frame, stores, d, array, indices, mask, place),
+        VectorInstr::LoadRun {
+            array,
+            index,
+            mask,
+            place,
+        } => load_run(here, frame, stores, d, array, index, mask, place),
         _ => {
             change(here, frame, d, instr);
             Ok(())

@@ -22,7 +22,10 @@ use std::alloc::AllocError;
 fn fail(k: MaskNumber, place: PlaceNumber) -> Instr
     ensures { result ≡ fail k.number place.number }
 {
-    Instr::Fail(mask(k), place.number)
+    Instr::Fail {
+        mask: mask(k),
+        place: place.number,
+    }
 }
 
 /// The trap of all lanes, jumped over where the test is true.
@@ -35,7 +38,11 @@ fn fails_for_all(
     ensures { OnOk result (Appends b.old b.new (λ pc p. fails_code Uniform tested.number pc place.number site.mask.number site.slot.number) []) }
 {
     let at = b.code.len();
-    b.push(Instr::JumpIf(JumpTest::True, scalar(tested), 0))?;
+    b.push(Instr::JumpIf {
+        test: JumpTest::True,
+        register: scalar(tested),
+        target: 0,
+    })?;
     b.push(fail(site.mask, place))?;
     b.land(at, JumpTest::True, scalar(tested));
     Ok(())

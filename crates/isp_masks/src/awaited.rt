@@ -18,7 +18,11 @@ pub(crate) fn leave_room(
 {
     if left {
         jumps.push(b.code.len())?;
-        b.push(Instr::JumpIf(JumpTest::Off, mask(k), 0))?;
+        b.push(Instr::JumpIf {
+            test: JumpTest::Off,
+            register: mask(k),
+            target: 0,
+        })?;
     }
     Ok(())
 }

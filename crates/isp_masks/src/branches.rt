@@ -93,7 +93,11 @@ fn part_by_jump(
     ensures { OnOk result (Writes b.old b.new (part_at on.now Plain Uniform tested.number (stmt_of then.now) spot)) }
 {
     let at = b.code.len();
-    b.push(Instr::JumpIf(JumpTest::False, scalar(tested), 0))?;
+    b.push(Instr::JumpIf {
+        test: JumpTest::False,
+        register: scalar(tested),
+        target: 0,
+    })?;
     stmt(b, on, then, spot)?;
     b.land(at, JumpTest::False, scalar(tested));
     Ok(())
@@ -166,7 +170,11 @@ fn under_mask(
     };
     let slot = site.slot;
     let at = b.code.len();
-    b.push(Instr::JumpIf(JumpTest::Off, mask(site.mask), 0))?;
+    b.push(Instr::JumpIf {
+        test: JumpTest::Off,
+        register: mask(site.mask),
+        target: 0,
+    })?;
     stmt(b, on, x, Spot { masks, slot })?;
     b.land(at, JumpTest::Off, mask(site.mask));
     Ok(())
@@ -235,10 +243,14 @@ fn one_of(
     ensures { OnOk result (Writes b.old b.new (parts_at on.now Plain Uniform tested.number (stmt_of then.now) (stmt_of otherwise.now) spot)) }
 {
     let at = b.code.len();
-    b.push(Instr::JumpIf(JumpTest::False, scalar(tested), 0))?;
+    b.push(Instr::JumpIf {
+        test: JumpTest::False,
+        register: scalar(tested),
+        target: 0,
+    })?;
     stmt(b, on, then, spot)?;
     let over = b.code.len();
-    b.push(Instr::Jump(0))?;
+    b.push(Instr::Jump { target: 0 })?;
     b.land(at, JumpTest::False, scalar(tested));
     stmt(b, on, otherwise, spot)?;
     b.land_always(over);
@@ -318,7 +330,11 @@ fn others(
     ensures { OnOk result (Writes b.old b.new (others_at on.now (stmt_of x.now) spot passed.number site.mask.number site.slot.number)) }
 {
     let at = b.code.len();
-    b.push(Instr::JumpIf(JumpTest::All, mask(passed), 0))?;
+    b.push(Instr::JumpIf {
+        test: JumpTest::All,
+        register: mask(passed),
+        target: 0,
+    })?;
     under_mask(b, on, x, spot, site)?;
     join_where(b, true, spot.masks.on, site.mask)?;
     b.land(at, JumpTest::All, mask(passed));

@@ -80,7 +80,10 @@ pub(crate) fn next(b: &Body) -> u32
 pub(crate) fn copy_mask(to: MaskNumber, from: MaskNumber) -> Instr
     ensures { result ≡ copy_mask to.number from.number }
 {
-    Instr::Mask(mask(to), MaskInstr::Copy(mask(from)))
+    Instr::Mask {
+        result: mask(to),
+        instr: MaskInstr::Copy(mask(from)),
+    }
 }
 
 /// A mask gets no lane, where that is needed.
@@ -119,7 +122,11 @@ pub(crate) fn join_widely(
     ensures { OnOk result (Appends b.old b.new (λ pc p. guard (jump_all full.number) pc (λ pc1. if_needed needed (unite to.number to.number from.number ∷ []))) []) }
 {
     let at = b.code.len();
-    b.push(Instr::JumpIf(JumpTest::All, mask(full), 0))?;
+    b.push(Instr::JumpIf {
+        test: JumpTest::All,
+        register: mask(full),
+        target: 0,
+    })?;
     join_where(b, needed, to, from)?;
     b.land(at, JumpTest::All, mask(full));
     Ok(())
@@ -167,9 +174,13 @@ pub(crate) fn back(b: &mut Body, it: Loop) -> Result<(), AllocError>
     ensures { OnOk result (Appends b.old b.new (λ pc p. back_code (nobody_leaves it.exits) it.slot.number it.top ∷ []) []) }
 {
     if it.exits.is_none() {
-        b.push(Instr::Jump(it.top))?;
+        b.push(Instr::Jump { target: it.top })?;
     } else {
-        b.push(Instr::JumpIf(JumpTest::On, mask(it.slot.mask()), it.top))?;
+        b.push(Instr::JumpIf {
+            test: JumpTest::On,
+            register: mask(it.slot.mask()),
+            target: it.top,
+        })?;
     }
     Ok(())
 }
@@ -180,11 +191,19 @@ pub(crate) fn again(b: &mut Body, test: Test, it: Loop) -> Result<(), AllocError
 {
     match test.rate {
         Rate::Uniform => {
-            b.push(Instr::JumpIf(JumpTest::True, scalar(test.register), it.top))?;
+            b.push(Instr::JumpIf {
+                test: JumpTest::True,
+                register: scalar(test.register),
+                target: it.top,
+            })?;
         }
         Rate::Varying => {
             b.push(where_so(it.slot.mask(), test.register, it.slot.mask()))?;
-            b.push(Instr::JumpIf(JumpTest::On, mask(it.slot.mask()), it.top))?;
+            b.push(Instr::JumpIf {
+                test: JumpTest::On,
+                register: mask(it.slot.mask()),
+                target: it.top,
+            })?;
         }
     }
     Ok(())

@@ -32,7 +32,7 @@ fn say(b: &mut Body, words: &[u8]) -> Result<(), AllocError>
         [] => Ok(()),
         _ => {
             let named = b.text(words)?;
-            b.push(Instr::Say(named.number))?;
+            b.push(Instr::Say { text: named.number })?;
             Ok(())
         }
     }
@@ -44,7 +44,10 @@ fn show(value: Shown, k: MaskNumber) -> Instr
 {
     match value.rate {
         Rate::Uniform => Instr::PrintScalar(scalar(value.register)),
-        Rate::Varying => Instr::PrintVector(vector(value.register), mask(k)),
+        Rate::Varying => Instr::PrintVector {
+            vector: vector(value.register),
+            mask: mask(k),
+        },
     }
 }
 

@@ -122,65 +122,95 @@ pub(crate) fn index(on: &Scope, variable: usize) -> RegisterNumber
 fn one(to: RegisterNumber, elem: Elem) -> Instr
     ensures { result ≡ constant to.number elem 1 }
 {
-    Instr::Scalar(scalar(to), ScalarInstr::Constant(number(elem, 1)))
+    Instr::Scalar {
+        result: scalar(to),
+        instr: ScalarInstr::Constant(number(elem, 1)),
+    }
 }
 
 /// A scalar gets what another has.
 fn moved(to: RegisterNumber, from: RegisterNumber) -> Instr
     ensures { result ≡ copy Uniform to.number from.number 0 }
 {
-    Instr::Scalar(scalar(to), ScalarInstr::Copy(scalar(from)))
+    Instr::Scalar {
+        result: scalar(to),
+        instr: ScalarInstr::Copy(scalar(from)),
+    }
 }
 
 /// A scalar gets what another has, as a value of its type.
 pub(crate) fn converted(to: RegisterNumber, from: RegisterNumber) -> Instr
     ensures { result ≡ convert Uniform to.number from.number 0 }
 {
-    Instr::Scalar(scalar(to), ScalarInstr::Convert(scalar(from)))
+    Instr::Scalar {
+        result: scalar(to),
+        instr: ScalarInstr::Convert(scalar(from)),
+    }
 }
 
 /// A scalar gets the sum of two.
 fn added(to: RegisterNumber, left: RegisterNumber, right: RegisterNumber) -> Instr
     ensures { result ≡ compute Uniform plain.Add to.number left.number right.number 0 }
 {
-    Instr::Scalar(
-        scalar(to),
-        ScalarInstr::Binary(Plain::Add, scalar(left), scalar(right)),
-    )
+    Instr::Scalar {
+        result: scalar(to),
+        instr: ScalarInstr::Binary {
+            op: Plain::Add,
+            left: scalar(left),
+            right: scalar(right),
+        },
+    }
 }
 
 /// A scalar gets whether one is less than another.
 fn less(to: RegisterNumber, left: RegisterNumber, right: RegisterNumber) -> Instr
     ensures { result ≡ compare Uniform Less to.number left.number right.number 0 }
 {
-    Instr::Scalar(
-        scalar(to),
-        ScalarInstr::Compare(Compare::Less, scalar(left), scalar(right)),
-    )
+    Instr::Scalar {
+        result: scalar(to),
+        instr: ScalarInstr::Compare {
+            op: Compare::Less,
+            left: scalar(left),
+            right: scalar(right),
+        },
+    }
 }
 
 /// Each lane gets what a scalar has.
 fn spread(to: RegisterNumber, from: RegisterNumber, k: MaskNumber) -> Instr
     ensures { result ≡ splat to.number from.number k.number }
 {
-    Instr::Vector(vector(to), VectorInstr::Splat(scalar(from), mask(k)))
+    Instr::Vector {
+        result: vector(to),
+        instr: VectorInstr::Splat {
+            value: scalar(from),
+            mask: mask(k),
+        },
+    }
 }
 
 /// A scalar gets the sum of what the lanes have.
 fn sum_lanes(to: RegisterNumber, from: RegisterNumber, k: MaskNumber) -> Instr
     ensures { result ≡ sum_lanes to.number from.number k.number }
 {
-    Instr::Scalar(
-        scalar(to),
-        ScalarInstr::Reduce(Reduction::Add, vector(from), mask(k)),
-    )
+    Instr::Scalar {
+        result: scalar(to),
+        instr: ScalarInstr::Reduce {
+            op: Reduction::Add,
+            vector: vector(from),
+            mask: mask(k),
+        },
+    }
 }
 
 /// Each lane gets its number.
 fn lane_numbers(to: RegisterNumber, k: MaskNumber) -> Instr
     ensures { result ≡ lane_numbers to.number k.number }
 {
-    Instr::Vector(vector(to), VectorInstr::Index(mask(k)))
+    Instr::Vector {
+        result: vector(to),
+        instr: VectorInstr::Index(mask(k)),
+    }
 }
 
 /// Each lane gets the sum of what it has in two vectors.
@@ -192,17 +222,28 @@ fn added_lanes(
 ) -> Instr
     ensures { result ≡ compute Varying plain.Add to.number left.number right.number k.number }
 {
-    Instr::Vector(
-        vector(to),
-        VectorInstr::Binary(Plain::Add, vector(left), vector(right), mask(k)),
-    )
+    Instr::Vector {
+        result: vector(to),
+        instr: VectorInstr::Binary {
+            op: Plain::Add,
+            left: vector(left),
+            right: vector(right),
+            mask: mask(k),
+        },
+    }
 }
 
 /// A mask gets the lanes whose numbers, added to a place, are below an end.
 fn range_mask(to: MaskNumber, place: RegisterNumber, end: RegisterNumber) -> Instr
     ensures { result ≡ range_mask to.number place.number end.number }
 {
-    Instr::Mask(mask(to), MaskInstr::Range(scalar(place), scalar(end)))
+    Instr::Mask {
+        result: mask(to),
+        instr: MaskInstr::Range {
+            first: scalar(place),
+            end: scalar(end),
+        },
+    }
 }
 
 // ---- what all runs use, and the bounds
@@ -313,7 +354,7 @@ pub(crate) fn go_on(
     let place = wide(on, it.place);
     let step = wide(on, by);
     b.push(added(place, place, step))?;
-    b.push(Instr::Jump(top))?;
+    b.push(Instr::Jump { target: top })?;
     Ok(())
 }
 

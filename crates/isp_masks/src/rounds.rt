@@ -11,21 +11,30 @@ use std::alloc::AllocError;
 pub(crate) fn fill_mask(to: MaskNumber) -> Instr
     ensures { result ≡ fill_mask to.number }
 {
-    Instr::Mask(mask(to), MaskInstr::Full)
+    Instr::Mask {
+        result: mask(to),
+        instr: MaskInstr::Full,
+    }
 }
 
 /// A mask gets the lowest lane of another, alone.
 fn lowest_mask(to: MaskNumber, from: MaskNumber) -> Instr
     ensures { result ≡ lowest_mask to.number from.number }
 {
-    Instr::Mask(mask(to), MaskInstr::Lowest(mask(from)))
+    Instr::Mask {
+        result: mask(to),
+        instr: MaskInstr::Lowest(mask(from)),
+    }
 }
 
 /// A scalar gets the number of a mask's lowest lane.
 fn lane_number(to: RegisterNumber, k: MaskNumber) -> Instr
     ensures { result ≡ lane_number to.number k.number }
 {
-    Instr::Scalar(scalar(to), ScalarInstr::First(mask(k)))
+    Instr::Scalar {
+        result: scalar(to),
+        instr: ScalarInstr::First(mask(k)),
+    }
 }
 
 /// The lowest lane of a slot's mask leaves it for the mask behind, and a scalar gets its number.

@@ -16,17 +16,24 @@ use std::alloc::AllocError;
 pub(crate) fn unite(to: MaskNumber, one: MaskNumber, other: MaskNumber) -> Instr
     ensures { result ≡ unite to.number one.number other.number }
 {
-    Instr::Mask(
-        mask(to),
-        MaskInstr::Binary(MaskOp::Or, mask(one), mask(other)),
-    )
+    Instr::Mask {
+        result: mask(to),
+        instr: MaskInstr::Binary {
+            op: MaskOp::Or,
+            left: mask(one),
+            right: mask(other),
+        },
+    }
 }
 
 /// A mask gets no lane.
 pub(crate) fn clear_mask(to: MaskNumber) -> Instr
     ensures { result ≡ clear_mask to.number }
 {
-    Instr::Mask(mask(to), MaskInstr::Off)
+    Instr::Mask {
+        result: mask(to),
+        instr: MaskInstr::Off,
+    }
 }
 
 /// The lanes of a mask for which a test in a register is true go to another mask, and it keeps the others.

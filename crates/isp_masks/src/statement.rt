@@ -212,7 +212,7 @@ fn while_turn(
 {
     sift(b, test, it.slot)?;
     let at = b.code.len();
-    b.push(Instr::Jump(0))?;
+    b.push(Instr::Jump { target: 0 })?;
     turn(b, on, body, it)?;
     back(b, it)?;
     land_sift(b, at, test, it.slot);
@@ -283,7 +283,11 @@ fn active_loop(
     };
     take_lane(b, on.variable(index, ty), spot.slot)?;
     stmt(b, on, body, Spot::own(spot.slot.next()))?;
-    b.push(Instr::JumpIf(JumpTest::On, mask(spot.slot.mask()), top))?;
+    b.push(Instr::JumpIf {
+        test: JumpTest::On,
+        register: mask(spot.slot.mask()),
+        target: top,
+    })?;
     Ok(())
 }
 
@@ -361,7 +365,7 @@ fn passed_turn(
 {
     sift(b, test, it.slot)?;
     let at = b.code.len();
-    b.push(Instr::Jump(0))?;
+    b.push(Instr::Jump { target: 0 })?;
     stepped_turn(b, on, step, body, it)?;
     land_sift(b, at, test, it.slot);
     Ok(())
@@ -451,7 +455,7 @@ fn last_range(
     let top = next(b);
     test_run(b, on, it)?;
     let at = b.code.len();
-    b.push(Instr::Jump(0))?;
+    b.push(Instr::Jump { target: 0 })?;
     last_run(b, on, variable, body, set, it)?;
     go_on(b, on, it, it.measures, top)?;
     b.land(at, JumpTest::Off, mask(it.masks.mask()));
@@ -500,7 +504,7 @@ fn outer_range(
     let top = next(b);
     test_place(b, on, it)?;
     let at = b.code.len();
-    b.push(Instr::Jump(0))?;
+    b.push(Instr::Jump { target: 0 })?;
     outer_turn(b, on, all, body, set, it)?;
     go_on(b, on, it, it.measures.next(), top)?;
     b.land(at, JumpTest::False, scalar(tested(on, it.place.next())));

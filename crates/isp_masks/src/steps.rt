@@ -56,7 +56,11 @@ fn some_again(b: &mut Body, on: &Scope, test: &TypedExpr, it: Loop) -> Result<()
     ensures { OnOk result (Adds b.old b.new (live_again_at on.now false (expr_of test.now) it)) }
 {
     let at = b.code.len();
-    b.push(Instr::JumpIf(JumpTest::Off, mask(it.slot.mask()), 0))?;
+    b.push(Instr::JumpIf {
+        test: JumpTest::Off,
+        register: mask(it.slot.mask()),
+        target: 0,
+    })?;
     tested_again(b, on, test, it)?;
     b.land(at, JumpTest::Off, mask(it.slot.mask()));
     Ok(())
@@ -106,7 +110,11 @@ fn some_stepped(
     ensures { OnOk result (Adds b.old b.new (step_back_at on.now false (option_map simple_of step.now) it)) }
 {
     let at = b.code.len();
-    b.push(Instr::JumpIf(JumpTest::Off, mask(it.slot.mask()), 0))?;
+    b.push(Instr::JumpIf {
+        test: JumpTest::Off,
+        register: mask(it.slot.mask()),
+        target: 0,
+    })?;
     stepped(b, on, step, it)?;
     b.land(at, JumpTest::Off, mask(it.slot.mask()));
     Ok(())
@@ -118,7 +126,7 @@ fn stepped(b: &mut Body, on: &Scope, step: &Option<TypedSimple>, it: Loop) -> Re
     ensures { OnOk result (Adds b.old b.new (step_back_at on.now true (option_map simple_of step.now) it)) }
 {
     step_part(b, on, step, it.slot)?;
-    b.push(Instr::Jump(it.top))?;
+    b.push(Instr::Jump { target: it.top })?;
     Ok(())
 }
 

@@ -58,7 +58,7 @@ fn a_jump_to_no_instruction(rt: HostRuntime) -> Result<(), Fail> {
     let alloc = rt.alloc();
     let mut code = Code::new(alloc, Gang::W4);
     let mut f = function(alloc, "f")?;
-    f.code.push(Instr::Jump(1))?;
+    f.code.push(Instr::Jump { target: 1 })?;
     assert!(rt; code.add_function(f).is_ok());
     let text = write(alloc, &code)?;
     assert!(rt; text.as_str() == "isp 1 gang 4\nfunc f export void\nm 1\njmp L1\nend\n");
@@ -78,10 +78,24 @@ fn a_scatter(rt: HostRuntime) -> Result<(), Fail> {
     })?;
     f.vectors.push(Elem::I32)?;
     f.vectors.push(Elem::I64)?;
-    f.code.push(Instr::Vector(V0, VectorInstr::Index(M0)))?;
-    f.code
-        .push(Instr::Vector(V1, VectorInstr::Convert(V0, M0)))?;
-    f.code.push(Instr::Scatter(A0, V1, V0, M0, 0))?;
+    f.code.push(Instr::Vector {
+        result: V0,
+        instr: VectorInstr::Index(M0),
+    })?;
+    f.code.push(Instr::Vector {
+        result: V1,
+        instr: VectorInstr::Convert {
+            value: V0,
+            mask: M0,
+        },
+    })?;
+    f.code.push(Instr::Scatter {
+        array: A0,
+        indices: V1,
+        value: V0,
+        mask: M0,
+        place: 0,
+    })?;
     f.code.push(Instr::Return(None))?;
     assert!(rt; code.add_function(f).is_ok());
     let text = write(alloc, &code)?;
@@ -116,9 +130,15 @@ fn other_lines(rt: HostRuntime) -> Result<(), Fail> {
     })?;
     g.scalars.push(Elem::U64)?;
     g.masks = u32::MAX;
-    g.code.push(Instr::Scalar(S0, ScalarInstr::Constant(-9_223_372_036_854_775_808)))?;
-    g.code.push(Instr::Scalar(S0, ScalarInstr::Constant(18_446_744_073_709_551_615)))?;
-    g.code.push(Instr::Say(0))?;
+    g.code.push(Instr::Scalar {
+        result: S0,
+        instr: ScalarInstr::Constant(-9_223_372_036_854_775_808),
+    })?;
+    g.code.push(Instr::Scalar {
+        result: S0,
+        instr: ScalarInstr::Constant(18_446_744_073_709_551_615),
+    })?;
+    g.code.push(Instr::Say { text: 0 })?;
     let mut registers = SmallVec::new(alloc);
     registers.push(S0)?;
     registers.push(A0)?;

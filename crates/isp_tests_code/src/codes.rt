@@ -202,10 +202,35 @@ fn is_wanted(fault: Option<Fault>, rule: Option<Rule>) -> bool {
 
 fn five(kind: Five, d: Register, x: Register, y: Register, k: Register, place: u32) -> Instr {
     match kind {
-        Five::Divide => Instr::Divide(Division::Div, d, x, y, k, place),
-        Five::Store => Instr::Store(d, x, y, k, place),
-        Five::Scatter => Instr::Scatter(d, x, y, k, place),
-        Five::StoreRun => Instr::StoreRun(d, x, y, k, place),
+        Five::Divide => Instr::Divide {
+            op: Division::Div,
+            result: d,
+            dividend: x,
+            divisor: y,
+            mask: k,
+            place,
+        },
+        Five::Store => Instr::Store {
+            array: d,
+            index: x,
+            value: y,
+            mask: k,
+            place,
+        },
+        Five::Scatter => Instr::Scatter {
+            array: d,
+            indices: x,
+            value: y,
+            mask: k,
+            place,
+        },
+        Five::StoreRun => Instr::StoreRun {
+            array: d,
+            index: x,
+            value: y,
+            mask: k,
+            place,
+        },
     }
 }
 
@@ -219,19 +244,34 @@ fn six(
     place: u32,
 ) -> Instr {
     match kind {
-        Six::PackedStore => Instr::PackedStore(d, a, i, y, k, place),
-        Six::PackedLoad => Instr::PackedLoad(d, a, i, y, k, place),
+        Six::PackedStore => Instr::PackedStore {
+            count: d,
+            array: a,
+            index: i,
+            value: y,
+            mask: k,
+            place,
+        },
+        Six::PackedLoad => Instr::PackedLoad {
+            count: d,
+            array: a,
+            index: i,
+            result: y,
+            mask: k,
+            place,
+        },
     }
 }
 
 #[test]
 fn right_scalars(rt: HostRuntime) -> Result<(), Fail> {
     let alloc = rt.alloc();
-    for (number, (d, instr)) in SCALARS.iter().enumerate() {
-        assert!(rt;
-            judged(alloc, Instr::Scalar(*d, *instr))?.is_none(),
-            "scalar {number}"
-        );
+    for (number, (result, instr)) in SCALARS.iter().enumerate() {
+        let instr = Instr::Scalar {
+            result: *result,
+            instr: *instr,
+        };
+        assert!(rt; judged(alloc, instr)?.is_none(), "scalar {number}");
     }
     Ok(())
 }
@@ -239,11 +279,12 @@ fn right_scalars(rt: HostRuntime) -> Result<(), Fail> {
 #[test]
 fn right_vectors(rt: HostRuntime) -> Result<(), Fail> {
     let alloc = rt.alloc();
-    for (number, (d, instr)) in VECTORS.iter().enumerate() {
-        assert!(rt;
-            judged(alloc, Instr::Vector(*d, *instr))?.is_none(),
-            "vector {number}"
-        );
+    for (number, (result, instr)) in VECTORS.iter().enumerate() {
+        let instr = Instr::Vector {
+            result: *result,
+            instr: *instr,
+        };
+        assert!(rt; judged(alloc, instr)?.is_none(), "vector {number}");
     }
     Ok(())
 }
@@ -251,11 +292,12 @@ fn right_vectors(rt: HostRuntime) -> Result<(), Fail> {
 #[test]
 fn right_masks(rt: HostRuntime) -> Result<(), Fail> {
     let alloc = rt.alloc();
-    for (number, (d, instr)) in MASKS.iter().enumerate() {
-        assert!(rt;
-            judged(alloc, Instr::Mask(*d, *instr))?.is_none(),
-            "mask {number}"
-        );
+    for (number, (result, instr)) in MASKS.iter().enumerate() {
+        let instr = Instr::Mask {
+            result: *result,
+            instr: *instr,
+        };
+        assert!(rt; judged(alloc, instr)?.is_none(), "mask {number}");
     }
     Ok(())
 }
@@ -275,11 +317,12 @@ fn right_others(rt: HostRuntime) -> Result<(), Fail> {
 #[test]
 fn wrong_scalars(rt: HostRuntime) -> Result<(), Fail> {
     let alloc = rt.alloc();
-    for (number, (d, instr, rule)) in WRONG_SCALARS.iter().enumerate() {
-        assert!(rt;
-            is_first(judged(alloc, Instr::Scalar(*d, *instr))?, *rule),
-            "wrong {number}"
-        );
+    for (number, (result, instr, rule)) in WRONG_SCALARS.iter().enumerate() {
+        let instr = Instr::Scalar {
+            result: *result,
+            instr: *instr,
+        };
+        assert!(rt; is_first(judged(alloc, instr)?, *rule), "wrong {number}");
     }
     Ok(())
 }
@@ -287,11 +330,12 @@ fn wrong_scalars(rt: HostRuntime) -> Result<(), Fail> {
 #[test]
 fn wrong_vectors(rt: HostRuntime) -> Result<(), Fail> {
     let alloc = rt.alloc();
-    for (number, (d, instr, rule)) in WRONG_VECTORS.iter().enumerate() {
-        assert!(rt;
-            is_first(judged(alloc, Instr::Vector(*d, *instr))?, *rule),
-            "wrong {number}"
-        );
+    for (number, (result, instr, rule)) in WRONG_VECTORS.iter().enumerate() {
+        let instr = Instr::Vector {
+            result: *result,
+            instr: *instr,
+        };
+        assert!(rt; is_first(judged(alloc, instr)?, *rule), "wrong {number}");
     }
     Ok(())
 }
@@ -299,11 +343,12 @@ fn wrong_vectors(rt: HostRuntime) -> Result<(), Fail> {
 #[test]
 fn wrong_masks(rt: HostRuntime) -> Result<(), Fail> {
     let alloc = rt.alloc();
-    for (number, (d, instr, rule)) in WRONG_MASKS.iter().enumerate() {
-        assert!(rt;
-            is_first(judged(alloc, Instr::Mask(*d, *instr))?, *rule),
-            "wrong {number}"
-        );
+    for (number, (result, instr, rule)) in WRONG_MASKS.iter().enumerate() {
+        let instr = Instr::Mask {
+            result: *result,
+            instr: *instr,
+        };
+        assert!(rt; is_first(judged(alloc, instr)?, *rule), "wrong {number}");
     }
     Ok(())
 }
@@ -488,9 +533,24 @@ fn written_by_hand(rt: HostRuntime) -> Result<(), Fail> {
 // Puts the lane numbers into `a`.
 fn scatter(alloc: Global) -> Result<Function, Fail> {
     let mut code = Vec::new(alloc);
-    code.push(Instr::Vector(V0, VectorInstr::Index(M0)))?;
-    code.push(Instr::Vector(V1, VectorInstr::Convert(V0, M0)))?;
-    code.push(Instr::Scatter(A0, V1, V0, M0, 0))?;
+    code.push(Instr::Vector {
+        result: V0,
+        instr: VectorInstr::Index(M0),
+    })?;
+    code.push(Instr::Vector {
+        result: V1,
+        instr: VectorInstr::Convert {
+            value: V0,
+            mask: M0,
+        },
+    })?;
+    code.push(Instr::Scatter {
+        array: A0,
+        indices: V1,
+        value: V0,
+        mask: M0,
+        place: 0,
+    })?;
     code.push(Instr::Return(None))?;
     let name = named(alloc, "f")?;
     let params = params(alloc, &[("a", ParamKind::Array, Elem::I32)])?;
@@ -639,7 +699,10 @@ fn with_local(alloc: Global, size: u32) -> Result<Function, Fail> {
 fn with_constant(alloc: Global, number: i128) -> Result<Function, Fail> {
     let mut function = bare(alloc, "f", &[])?;
     let constant = ScalarInstr::Constant(number);
-    function.code.push(Instr::Scalar(S0, constant))?;
+    function.code.push(Instr::Scalar {
+        result: S0,
+        instr: constant,
+    })?;
     Ok(function)
 }
 

@@ -17,10 +17,18 @@ fn counted(code: &[Instr]) -> Accesses {
     let mut all = Accesses { runs: 0, lanes: 0 };
     for instr in code {
         match instr {
-            Instr::StoreRun(..) | Instr::Vector(_, VectorInstr::LoadRun(..)) => {
+            Instr::StoreRun { .. }
+            | Instr::Vector {
+                instr: VectorInstr::LoadRun { .. },
+                ..
+            } => {
                 all.runs = all.runs.saturating_add(1);
             }
-            Instr::Scatter(..) | Instr::Vector(_, VectorInstr::Gather(..)) => {
+            Instr::Scatter { .. }
+            | Instr::Vector {
+                instr: VectorInstr::Gather { .. },
+                ..
+            } => {
                 all.lanes = all.lanes.saturating_add(1);
             }
             _ => {}

@@ -28,8 +28,23 @@ static NESTED: [Routine<'static>; 1] = [Routine {
         Line::Scalar(S1, ScalarInstr::Convert(S0)),
         Line::JumpIf(JumpTest::False, S1, 10),
         Line::Scalar(S2, ScalarInstr::Constant(1)),
-        Line::Scalar(S2, ScalarInstr::Binary(Plain::Sub, S0, S2)),
-        Line::Scalar(S4, ScalarInstr::Load(A0, S3, M0, 0)),
+        Line::Scalar(
+            S2,
+            ScalarInstr::Binary {
+                op: Plain::Sub,
+                left: S0,
+                right: S2,
+            },
+        ),
+        Line::Scalar(
+            S4,
+            ScalarInstr::Load {
+                array: A0,
+                index: S3,
+                mask: M0,
+                place: 0,
+            },
+        ),
         Line::Store(A0, S3, S0, M0, 0),
         Line::Call(Called {
             function: 0,
@@ -37,9 +52,31 @@ static NESTED: [Routine<'static>; 1] = [Routine {
             mask: M0,
             arguments: &[S2],
         }),
-        Line::Scalar(S0, ScalarInstr::Load(A0, S3, M0, 0)),
-        Line::Scalar(S0, ScalarInstr::Binary(Plain::Add, S0, S2)),
-        Line::Scalar(S0, ScalarInstr::Binary(Plain::Add, S0, S4)),
+        Line::Scalar(
+            S0,
+            ScalarInstr::Load {
+                array: A0,
+                index: S3,
+                mask: M0,
+                place: 0,
+            },
+        ),
+        Line::Scalar(
+            S0,
+            ScalarInstr::Binary {
+                op: Plain::Add,
+                left: S0,
+                right: S2,
+            },
+        ),
+        Line::Scalar(
+            S0,
+            ScalarInstr::Binary {
+                op: Plain::Add,
+                left: S0,
+                right: S4,
+            },
+        ),
         Line::Return(Some(S0)),
     ],
 }];
@@ -95,8 +132,15 @@ static UNDER: [Routine<'static>; 2] = [
         masks: 2,
         code: &[
             Line::Scalar(S1, ScalarInstr::Constant(3)),
-            Line::Mask(M1, MaskInstr::Range(S0, S1)),
-            Line::Mask(M1, MaskInstr::Binary(MaskOp::AndNot, M0, M1)),
+            Line::Mask(M1, MaskInstr::Range { first: S0, end: S1 }),
+            Line::Mask(
+                M1,
+                MaskInstr::Binary {
+                    op: MaskOp::AndNot,
+                    left: M0,
+                    right: M1,
+                },
+            ),
             Line::Call(Called {
                 function: 1,
                 result: None,
@@ -153,7 +197,7 @@ const CALLER: Routine<'static> = Routine {
     code: &[
         Line::Vector(V0, VectorInstr::Index(M0)),
         Line::Scalar(S1, ScalarInstr::Constant(2)),
-        Line::Mask(M1, MaskInstr::Range(S0, S1)),
+        Line::Mask(M1, MaskInstr::Range { first: S0, end: S1 }),
         Line::Call(Called {
             function: 1,
             result: Some(V0),
@@ -192,14 +236,44 @@ const CALLEE: Routine<'static> = Routine {
     code: &[
         Line::Mask(M1, MaskInstr::Full),
         Line::PrintVector(V0, M1),
-        Line::Vector(V3, VectorInstr::Gather(A1, V2, M1, 0)),
+        Line::Vector(
+            V3,
+            VectorInstr::Gather {
+                array: A1,
+                indices: V2,
+                mask: M1,
+                place: 0,
+            },
+        ),
         Line::PrintVector(V3, M0),
         Line::Vector(V1, VectorInstr::Index(M1)),
         Line::Scalar(S0, ScalarInstr::Constant(5)),
-        Line::Vector(V3, VectorInstr::Splat(S0, M1)),
-        Line::Vector(V1, VectorInstr::Binary(Plain::Add, V1, V3, M1)),
+        Line::Vector(
+            V3,
+            VectorInstr::Splat {
+                value: S0,
+                mask: M1,
+            },
+        ),
+        Line::Vector(
+            V1,
+            VectorInstr::Binary {
+                op: Plain::Add,
+                left: V1,
+                right: V3,
+                mask: M1,
+            },
+        ),
         Line::Scatter(A1, V2, V1, M1, 0),
-        Line::Vector(V3, VectorInstr::Gather(A1, V2, M1, 0)),
+        Line::Vector(
+            V3,
+            VectorInstr::Gather {
+                array: A1,
+                indices: V2,
+                mask: M1,
+                place: 0,
+            },
+        ),
         Line::Scatter(A0, V2, V3, M0, 0),
         Line::Return(Some(V1)),
     ],

@@ -15,8 +15,22 @@ type Effect<'a> = (Wanted, &'a [u64], &'a str, Option<u64>);
 fn code(alloc: Global, line: &Line<'static>) -> Result<Verified, Fail> {
     let lines = [
         Line::Scalar(S2, ScalarInstr::Constant(0)),
-        Line::Vector(V0, VectorInstr::LoadRun(A1, S2, M0, 1)),
-        Line::Mask(M1, MaskInstr::Test(V0, M0)),
+        Line::Vector(
+            V0,
+            VectorInstr::LoadRun {
+                array: A1,
+                index: S2,
+                mask: M0,
+                place: 1,
+            },
+        ),
+        Line::Mask(
+            M1,
+            MaskInstr::Test {
+                vector: V0,
+                mask: M0,
+            },
+        ),
         Line::Vector(V1, VectorInstr::Index(M0)),
         *line,
         Line::PrintVector(V2, M1),
@@ -183,7 +197,15 @@ fn packed_stores(rt: HostRuntime) -> Result<(), Fail> {
 
 const COUNTED: [u64; 5] = [10, 11, 12, 13, 14];
 
-const LOAD_RUN: Line<'static> = Line::Vector(V2, VectorInstr::LoadRun(A0, S0, M1, 0));
+const LOAD_RUN: Line<'static> = Line::Vector(
+    V2,
+    VectorInstr::LoadRun {
+        array: A0,
+        index: S0,
+        mask: M1,
+        place: 0,
+    },
+);
 
 const PACKED_LOAD: Line<'static> = Line::PackedLoad(S1, A0, S0, V2, M1, 0);
 

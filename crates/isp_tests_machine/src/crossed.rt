@@ -29,10 +29,40 @@ fn code(alloc: Global, row: &Row) -> Result<Verified, Fail> {
         _ => Line::PrintVector(V3, M1),
     };
     let lines = [
-        Line::Vector(V0, VectorInstr::LoadRun(A2, S2, M0, 0)),
-        Line::Vector(V1, VectorInstr::LoadRun(A0, S2, M0, 0)),
-        Line::Vector(V2, VectorInstr::LoadRun(A1, S2, M0, 0)),
-        Line::Mask(M1, MaskInstr::Test(V0, M0)),
+        Line::Vector(
+            V0,
+            VectorInstr::LoadRun {
+                array: A2,
+                index: S2,
+                mask: M0,
+                place: 0,
+            },
+        ),
+        Line::Vector(
+            V1,
+            VectorInstr::LoadRun {
+                array: A0,
+                index: S2,
+                mask: M0,
+                place: 0,
+            },
+        ),
+        Line::Vector(
+            V2,
+            VectorInstr::LoadRun {
+                array: A1,
+                index: S2,
+                mask: M0,
+                place: 0,
+            },
+        ),
+        Line::Mask(
+            M1,
+            MaskInstr::Test {
+                vector: V0,
+                mask: M0,
+            },
+        ),
         *line,
         printed,
         Line::Return(None),
@@ -80,17 +110,59 @@ const ZEROS: [u64; 4] = [0, 0, 0, 0];
 // 127 three times, and -128, as int8.
 const ENDS: [u64; 4] = [127, 127, 127, 128];
 
-const SUM: Line<'static> = Line::Scalar(S1, ScalarInstr::Reduce(Reduction::Add, V1, M1));
+const SUM: Line<'static> = Line::Scalar(
+    S1,
+    ScalarInstr::Reduce {
+        op: Reduction::Add,
+        vector: V1,
+        mask: M1,
+    },
+);
 
-const LEAST: Line<'static> = Line::Scalar(S1, ScalarInstr::Reduce(Reduction::Min, V1, M1));
+const LEAST: Line<'static> = Line::Scalar(
+    S1,
+    ScalarInstr::Reduce {
+        op: Reduction::Min,
+        vector: V1,
+        mask: M1,
+    },
+);
 
-const GREATEST: Line<'static> = Line::Scalar(S1, ScalarInstr::Reduce(Reduction::Max, V1, M1));
+const GREATEST: Line<'static> = Line::Scalar(
+    S1,
+    ScalarInstr::Reduce {
+        op: Reduction::Max,
+        vector: V1,
+        mask: M1,
+    },
+);
 
-const EQUAL: Line<'static> = Line::Scalar(S1, ScalarInstr::Reduce(Reduction::Equal, V1, M1));
+const EQUAL: Line<'static> = Line::Scalar(
+    S1,
+    ScalarInstr::Reduce {
+        op: Reduction::Equal,
+        vector: V1,
+        mask: M1,
+    },
+);
 
-const ANY: Line<'static> = Line::Scalar(S1, ScalarInstr::Reduce(Reduction::Any, V1, M1));
+const ANY: Line<'static> = Line::Scalar(
+    S1,
+    ScalarInstr::Reduce {
+        op: Reduction::Any,
+        vector: V1,
+        mask: M1,
+    },
+);
 
-const EVERY: Line<'static> = Line::Scalar(S1, ScalarInstr::Reduce(Reduction::All, V1, M1));
+const EVERY: Line<'static> = Line::Scalar(
+    S1,
+    ScalarInstr::Reduce {
+        op: Reduction::All,
+        vector: V1,
+        mask: M1,
+    },
+);
 
 static REDUCED: [Row; 16] = [
     (SUM, Elem::I8, Elem::I16, ENDS, ZEROS, ALL, "253"),
@@ -202,24 +274,89 @@ fn reductions(rt: HostRuntime) -> Result<(), Fail> {
 
 const BROADCAST: Line<'static> = Line::Vector(
     V3,
-    VectorInstr::Exchange(Exchange::Broadcast, V1, S0, M1),
+    VectorInstr::Exchange {
+        op: Exchange::Broadcast,
+        vector: V1,
+        by: S0,
+        mask: M1,
+    },
 );
 
-const ROTATE: Line<'static> = Line::Vector(V3, VectorInstr::Exchange(Exchange::Rotate, V1, S0, M1));
+const ROTATE: Line<'static> = Line::Vector(
+    V3,
+    VectorInstr::Exchange {
+        op: Exchange::Rotate,
+        vector: V1,
+        by: S0,
+        mask: M1,
+    },
+);
 
-const SHIFT: Line<'static> = Line::Vector(V3, VectorInstr::Exchange(Exchange::Shift, V1, S0, M1));
+const SHIFT: Line<'static> = Line::Vector(
+    V3,
+    VectorInstr::Exchange {
+        op: Exchange::Shift,
+        vector: V1,
+        by: S0,
+        mask: M1,
+    },
+);
 
-const SUMS: Line<'static> = Line::Vector(V3, VectorInstr::Scan(Scan::Add, V1, M1));
+const SUMS: Line<'static> = Line::Vector(
+    V3,
+    VectorInstr::Scan {
+        op: Scan::Add,
+        value: V1,
+        mask: M1,
+    },
+);
 
-const ALL_BITS: Line<'static> = Line::Vector(V3, VectorInstr::Scan(Scan::And, V1, M1));
+const ALL_BITS: Line<'static> = Line::Vector(
+    V3,
+    VectorInstr::Scan {
+        op: Scan::And,
+        value: V1,
+        mask: M1,
+    },
+);
 
-const ANY_BITS: Line<'static> = Line::Vector(V3, VectorInstr::Scan(Scan::Or, V1, M1));
+const ANY_BITS: Line<'static> = Line::Vector(
+    V3,
+    VectorInstr::Scan {
+        op: Scan::Or,
+        value: V1,
+        mask: M1,
+    },
+);
 
-const SHUFFLE: Line<'static> = Line::Vector(V3, VectorInstr::Shuffle(V1, V2, M1));
+const SHUFFLE: Line<'static> = Line::Vector(
+    V3,
+    VectorInstr::Shuffle {
+        vector: V1,
+        lanes: V2,
+        mask: M1,
+    },
+);
 
-const SHUFFLE_TWO: Line<'static> = Line::Vector(V3, VectorInstr::ShuffleTwo(V1, V2, V2, M1));
+const SHUFFLE_TWO: Line<'static> = Line::Vector(
+    V3,
+    VectorInstr::ShuffleTwo {
+        first: V1,
+        second: V2,
+        lanes: V2,
+        mask: M1,
+    },
+);
 
-const INSERT: Line<'static> = Line::Vector(V3, VectorInstr::Insert(V1, S0, S0, M1));
+const INSERT: Line<'static> = Line::Vector(
+    V3,
+    VectorInstr::Insert {
+        vector: V1,
+        lane: S0,
+        value: S0,
+        mask: M1,
+    },
+);
 
 // By the number 1.
 static MOVED: [Row; 12] = [
@@ -283,7 +420,14 @@ static MOVED: [Row; 12] = [
         "[5,1,7,8]",
     ),
     (
-        Line::Scalar(S1, ScalarInstr::Extract(V1, S0, M1)),
+        Line::Scalar(
+            S1,
+            ScalarInstr::Extract {
+                vector: V1,
+                lane: S0,
+                mask: M1,
+            },
+        ),
         Elem::I8,
         Elem::I8,
         [1, 130, 3, 4],

@@ -31,12 +31,46 @@ static VECTORS: [Routine<'static>; 1] = [Routine {
     masks: 2,
     code: &[
         Line::Vector(V0, VectorInstr::Index(M0)),
-        Line::Vector(V1, VectorInstr::Convert(V0, M0)),
-        Line::Vector(V2, VectorInstr::Gather(A0, V1, M0, 0)),
-        Line::Vector(V4, VectorInstr::Gather(A1, V1, M0, 0)),
-        Line::Mask(M1, MaskInstr::Test(V4, M0)),
+        Line::Vector(
+            V1,
+            VectorInstr::Convert {
+                value: V0,
+                mask: M0,
+            },
+        ),
+        Line::Vector(
+            V2,
+            VectorInstr::Gather {
+                array: A0,
+                indices: V1,
+                mask: M0,
+                place: 0,
+            },
+        ),
+        Line::Vector(
+            V4,
+            VectorInstr::Gather {
+                array: A1,
+                indices: V1,
+                mask: M0,
+                place: 0,
+            },
+        ),
+        Line::Mask(
+            M1,
+            MaskInstr::Test {
+                vector: V4,
+                mask: M0,
+            },
+        ),
         Line::Scalar(S0, ScalarInstr::Constant(12)),
-        Line::Vector(V3, VectorInstr::Splat(S0, M0)),
+        Line::Vector(
+            V3,
+            VectorInstr::Splat {
+                value: S0,
+                mask: M0,
+            },
+        ),
         Line::Divide(Division::Div, V5, V3, V2, M1, 1),
         Line::PrintVector(V5, M0),
         Line::Fail(M1, 0),
@@ -100,8 +134,15 @@ static SCALARS: [Routine<'static>; 1] = [Routine {
     vectors: &[],
     masks: 2,
     code: &[
-        Line::Mask(M1, MaskInstr::Range(S1, S0)),
-        Line::Mask(M1, MaskInstr::Binary(MaskOp::AndNot, M0, M1)),
+        Line::Mask(M1, MaskInstr::Range { first: S1, end: S0 }),
+        Line::Mask(
+            M1,
+            MaskInstr::Binary {
+                op: MaskOp::AndNot,
+                left: M0,
+                right: M1,
+            },
+        ),
         Line::Divide(Division::Rem, S0, S0, S1, M1, 1),
         Line::Return(Some(S0)),
     ],

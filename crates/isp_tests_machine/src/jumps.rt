@@ -22,7 +22,7 @@ static JUMPS: [Routine<'static>; 1] = [Routine {
     vectors: &[],
     masks: 2,
     code: &[
-        Line::Mask(M1, MaskInstr::Range(S1, S2)),
+        Line::Mask(M1, MaskInstr::Range { first: S1, end: S2 }),
         Line::JumpIf(JumpTest::False, S0, 3),
         Line::Say(0),
         Line::JumpIf(JumpTest::True, S0, 5),

@@ -59,16 +59,74 @@ fn shows(line: &Line) -> Line<'static> {
 // The code that runs a line: what it reads stands in registers before, and what it wrote is shown.
 fn code(alloc: Global, gang: Gang, line: &Line<'static>) -> Result<Verified, Fail> {
     let lines = [
-        Line::Vector(V1, VectorInstr::LoadRun(A0, S2, M0, 0)),
-        Line::Vector(V2, VectorInstr::LoadRun(A1, S2, M0, 0)),
-        Line::Vector(V0, VectorInstr::LoadRun(A2, S2, M0, 0)),
-        Line::Vector(V4, VectorInstr::LoadRun(A3, S2, M0, 0)),
-        Line::Mask(M1, MaskInstr::Test(V0, M0)),
-        Line::Mask(M2, MaskInstr::Test(V4, M0)),
-        Line::Vector(V5, VectorInstr::Convert(V2, M0)),
+        Line::Vector(
+            V1,
+            VectorInstr::LoadRun {
+                array: A0,
+                index: S2,
+                mask: M0,
+                place: 0,
+            },
+        ),
+        Line::Vector(
+            V2,
+            VectorInstr::LoadRun {
+                array: A1,
+                index: S2,
+                mask: M0,
+                place: 0,
+            },
+        ),
+        Line::Vector(
+            V0,
+            VectorInstr::LoadRun {
+                array: A2,
+                index: S2,
+                mask: M0,
+                place: 0,
+            },
+        ),
+        Line::Vector(
+            V4,
+            VectorInstr::LoadRun {
+                array: A3,
+                index: S2,
+                mask: M0,
+                place: 0,
+            },
+        ),
+        Line::Mask(
+            M1,
+            MaskInstr::Test {
+                vector: V0,
+                mask: M0,
+            },
+        ),
+        Line::Mask(
+            M2,
+            MaskInstr::Test {
+                vector: V4,
+                mask: M0,
+            },
+        ),
+        Line::Vector(
+            V5,
+            VectorInstr::Convert {
+                value: V2,
+                mask: M0,
+            },
+        ),
         Line::Scalar(S6, ScalarInstr::Constant(6)),
         *line,
-        Line::Vector(V8, VectorInstr::LoadRun(A0, S2, M0, 0)),
+        Line::Vector(
+            V8,
+            VectorInstr::LoadRun {
+                array: A0,
+                index: S2,
+                mask: M0,
+                place: 0,
+            },
+        ),
         shows(line),
         Line::Return(None),
     ];

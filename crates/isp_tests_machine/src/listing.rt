@@ -73,22 +73,85 @@ fn boxed(alloc: Global, call: &Called) -> Result<Instr, Fail> {
 fn instruction(alloc: Global, line: &Line) -> Result<Instr, Fail> {
     match line {
         Line::Call(call) => boxed(alloc, call),
-        Line::Scalar(d, it) => Ok(Instr::Scalar(*d, *it)),
-        Line::Vector(d, it) => Ok(Instr::Vector(*d, *it)),
-        Line::Mask(d, it) => Ok(Instr::Mask(*d, *it)),
-        Line::Divide(op, d, x, y, k, p) => Ok(Instr::Divide(*op, *d, *x, *y, *k, *p)),
-        Line::Store(a, i, y, k, p) => Ok(Instr::Store(*a, *i, *y, *k, *p)),
-        Line::Scatter(a, i, y, k, p) => Ok(Instr::Scatter(*a, *i, *y, *k, *p)),
-        Line::StoreRun(a, i, y, k, p) => Ok(Instr::StoreRun(*a, *i, *y, *k, *p)),
-        Line::PackedStore(d, a, i, y, k, p) => { Ok(Instr::PackedStore(*d, *a, *i, *y, *k, *p)) }
-        Line::PackedLoad(d, a, i, y, k, p) => Ok(Instr::PackedLoad(*d, *a, *i, *y, *k, *p)),
-        Line::Clear(a, k) => Ok(Instr::Clear(*a, *k)),
-        Line::Jump(to) => Ok(Instr::Jump(*to)),
-        Line::JumpIf(test, x, to) => Ok(Instr::JumpIf(*test, *x, *to)),
-        Line::Say(text) => Ok(Instr::Say(*text)),
+        Line::Scalar(d, it) => Ok(Instr::Scalar {
+            result: *d,
+            instr: *it,
+        }),
+        Line::Vector(d, it) => Ok(Instr::Vector {
+            result: *d,
+            instr: *it,
+        }),
+        Line::Mask(d, it) => Ok(Instr::Mask {
+            result: *d,
+            instr: *it,
+        }),
+        Line::Divide(op, d, x, y, k, p) => Ok(Instr::Divide {
+            op: *op,
+            result: *d,
+            dividend: *x,
+            divisor: *y,
+            mask: *k,
+            place: *p,
+        }),
+        Line::Store(a, i, y, k, p) => Ok(Instr::Store {
+            array: *a,
+            index: *i,
+            value: *y,
+            mask: *k,
+            place: *p,
+        }),
+        Line::Scatter(a, i, y, k, p) => Ok(Instr::Scatter {
+            array: *a,
+            indices: *i,
+            value: *y,
+            mask: *k,
+            place: *p,
+        }),
+        Line::StoreRun(a, i, y, k, p) => Ok(Instr::StoreRun {
+            array: *a,
+            index: *i,
+            value: *y,
+            mask: *k,
+            place: *p,
+        }),
+        Line::PackedStore(d, a, i, y, k, p) => {
+            Ok(Instr::PackedStore {
+                count: *d,
+                array: *a,
+                index: *i,
+                value: *y,
+                mask: *k,
+                place: *p,
+            })
+        }
+        Line::PackedLoad(d, a, i, y, k, p) => Ok(Instr::PackedLoad {
+            count: *d,
+            array: *a,
+            index: *i,
+            result: *y,
+            mask: *k,
+            place: *p,
+        }),
+        Line::Clear(a, k) => Ok(Instr::Clear {
+            array: *a,
+            mask: *k,
+        }),
+        Line::Jump(to) => Ok(Instr::Jump { target: *to }),
+        Line::JumpIf(test, x, to) => Ok(Instr::JumpIf {
+            test: *test,
+            register: *x,
+            target: *to,
+        }),
+        Line::Say(text) => Ok(Instr::Say { text: *text }),
         Line::PrintScalar(x) => Ok(Instr::PrintScalar(*x)),
-        Line::PrintVector(x, k) => Ok(Instr::PrintVector(*x, *k)),
-        Line::Fail(x, p) => Ok(Instr::Fail(*x, *p)),
+        Line::PrintVector(x, k) => Ok(Instr::PrintVector {
+            vector: *x,
+            mask: *k,
+        }),
+        Line::Fail(x, p) => Ok(Instr::Fail {
+            mask: *x,
+            place: *p,
+        }),
         Line::Return(x) => Ok(Instr::Return(*x)),
     }
 }

@@ -28,8 +28,16 @@ static PLACES: [Routine<'static>; 1] = [Routine {
     vectors: &[],
     masks: 2,
     code: &[
-        Line::Mask(M1, MaskInstr::Range(S1, S0)),
-        Line::Scalar(S2, ScalarInstr::Load(A0, S0, M1, 1)),
+        Line::Mask(M1, MaskInstr::Range { first: S1, end: S0 }),
+        Line::Scalar(
+            S2,
+            ScalarInstr::Load {
+                array: A0,
+                index: S0,
+                mask: M1,
+                place: 1,
+            },
+        ),
         Line::Scalar(S3, ScalarInstr::Convert(S0)),
         Line::Store(A0, S0, S3, M1, 0),
         Line::Return(Some(S2)),
@@ -106,15 +114,59 @@ static SCATTERED: [Routine<'static>; 1] = [Routine {
     masks: 2,
     code: &[
         Line::Vector(V0, VectorInstr::Index(M0)),
-        Line::Vector(V1, VectorInstr::Convert(V0, M0)),
-        Line::Vector(V2, VectorInstr::Gather(A1, V1, M0, 0)),
-        Line::Mask(M1, MaskInstr::Test(V2, M0)),
-        Line::Vector(V1, VectorInstr::Gather(A0, V1, M0, 0)),
+        Line::Vector(
+            V1,
+            VectorInstr::Convert {
+                value: V0,
+                mask: M0,
+            },
+        ),
+        Line::Vector(
+            V2,
+            VectorInstr::Gather {
+                array: A1,
+                indices: V1,
+                mask: M0,
+                place: 0,
+            },
+        ),
+        Line::Mask(
+            M1,
+            MaskInstr::Test {
+                vector: V2,
+                mask: M0,
+            },
+        ),
+        Line::Vector(
+            V1,
+            VectorInstr::Gather {
+                array: A0,
+                indices: V1,
+                mask: M0,
+                place: 0,
+            },
+        ),
         Line::Scatter(A2, V1, V0, M1, 1),
-        Line::Vector(V3, VectorInstr::Gather(A2, V1, M1, 0)),
+        Line::Vector(
+            V3,
+            VectorInstr::Gather {
+                array: A2,
+                indices: V1,
+                mask: M1,
+                place: 0,
+            },
+        ),
         Line::PrintVector(V3, M1),
         Line::Clear(A2, M1),
-        Line::Vector(V3, VectorInstr::Gather(A2, V1, M1, 0)),
+        Line::Vector(
+            V3,
+            VectorInstr::Gather {
+                array: A2,
+                indices: V1,
+                mask: M1,
+                place: 0,
+            },
+        ),
         Line::PrintVector(V3, M0),
         Line::Return(None),
     ],
@@ -224,23 +276,69 @@ const OWN: Routine<'static> = Routine {
     masks: 2,
     code: &[
         Line::Scalar(S1, ScalarInstr::Constant(2)),
-        Line::Mask(M1, MaskInstr::Range(S0, S1)),
+        Line::Mask(M1, MaskInstr::Range { first: S0, end: S1 }),
         Line::Vector(V0, VectorInstr::Index(M0)),
         // (v1 is 1 below lane 2, and else 0)
         Line::Scalar(S1, ScalarInstr::Constant(1)),
-        Line::Vector(V1, VectorInstr::Splat(S1, M1)),
-        Line::Vector(V2, VectorInstr::Gather(A1, V1, M0, 0)),
+        Line::Vector(
+            V1,
+            VectorInstr::Splat {
+                value: S1,
+                mask: M1,
+            },
+        ),
+        Line::Vector(
+            V2,
+            VectorInstr::Gather {
+                array: A1,
+                indices: V1,
+                mask: M0,
+                place: 0,
+            },
+        ),
         Line::PrintVector(V2, M0),
         Line::Scatter(A1, V1, V0, M0, 0),
-        Line::Vector(V2, VectorInstr::Gather(A1, V1, M0, 0)),
+        Line::Vector(
+            V2,
+            VectorInstr::Gather {
+                array: A1,
+                indices: V1,
+                mask: M0,
+                place: 0,
+            },
+        ),
         Line::PrintVector(V2, M0),
         Line::Clear(A1, M1),
-        Line::Vector(V2, VectorInstr::Gather(A1, V1, M0, 0)),
+        Line::Vector(
+            V2,
+            VectorInstr::Gather {
+                array: A1,
+                indices: V1,
+                mask: M0,
+                place: 0,
+            },
+        ),
         Line::PrintVector(V2, M0),
         // (the shared local array is new, and the caller's is what all calls see)
-        Line::Scalar(S2, ScalarInstr::Load(A2, S1, M0, 0)),
+        Line::Scalar(
+            S2,
+            ScalarInstr::Load {
+                array: A2,
+                index: S1,
+                mask: M0,
+                place: 0,
+            },
+        ),
         Line::PrintScalar(S2),
-        Line::Scalar(S2, ScalarInstr::Load(A0, S1, M0, 0)),
+        Line::Scalar(
+            S2,
+            ScalarInstr::Load {
+                array: A0,
+                index: S1,
+                mask: M0,
+                place: 0,
+            },
+        ),
         Line::PrintScalar(S2),
         Line::Scalar(S2, ScalarInstr::Constant(4)),
         Line::Store(A0, S1, S2, M0, 0),

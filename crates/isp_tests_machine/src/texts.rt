@@ -55,7 +55,13 @@ static SCATTER: [Routine<'static>; 1] = [Routine {
     masks: 1,
     code: &[
         Line::Vector(V0, VectorInstr::Index(M0)),
-        Line::Vector(V1, VectorInstr::Convert(V0, M0)),
+        Line::Vector(
+            V1,
+            VectorInstr::Convert {
+                value: V0,
+                mask: M0,
+            },
+        ),
         Line::Scatter(A0, V1, V0, M0, 0),
         Line::Return(None),
     ],

@@ -42,7 +42,7 @@ fn check_last(function: &Function) -> Option<Rule>
     ensures { result ≡ last_fault (routine_of function.now) }
 {
     match function.code.get(last(function)) {
-        Some(Instr::Jump(_to)) => None,
+        Some(Instr::Jump { .. }) => None,
         Some(Instr::Return(_back)) => None,
         _ => Some(Rule::FallsOff),
     }

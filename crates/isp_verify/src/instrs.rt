@@ -81,37 +81,48 @@ fn check_scalar(
             registers,
             &[any, Operand::Scalar(x, Want::Any)],
         ),
-        ScalarInstr::Unary(op, x) => check_all(
+        ScalarInstr::Unary { op, value } => check_all(
             code,
             function,
             registers,
-            &[Operand::Scalar(d, unary_want(op)), Operand::Scalar(x, like)],
+            &[
+                Operand::Scalar(d, unary_want(op)),
+                Operand::Scalar(value, like),
+            ],
         ),
-        ScalarInstr::Binary(_op, x, y) => check_all(
+        ScalarInstr::Binary { left, right, .. } => check_all(
             code,
             function,
             registers,
-            &[whole, Operand::Scalar(x, like), Operand::Scalar(y, like)],
+            &[
+                whole,
+                Operand::Scalar(left, like),
+                Operand::Scalar(right, like),
+            ],
         ),
-        ScalarInstr::Compare(_op, x, y) => check_all(
+        ScalarInstr::Compare { left, right, .. } => check_all(
             code,
             function,
             registers,
             &[
                 truth,
-                Operand::Scalar(x, Want::Any),
-                Operand::Scalar(y, Want::Like(x)),
+                Operand::Scalar(left, Want::Any),
+                Operand::Scalar(right, Want::Like(left)),
             ],
         ),
-        ScalarInstr::Select(c, x, y) => check_all(
+        ScalarInstr::Select {
+            test,
+            if_true,
+            if_false,
+        } => check_all(
             code,
             function,
             registers,
             &[
                 any,
-                Operand::Scalar(c, Want::Is(Elem::Bool)),
-                Operand::Scalar(x, like),
-                Operand::Scalar(y, like),
+                Operand::Scalar(test, Want::Is(Elem::Bool)),
+                Operand::Scalar(if_true, like),
+                Operand::Scalar(if_false, like),
             ],
         ),
         ScalarInstr::First(x) => check_all(
@@ -120,37 +131,42 @@ fn check_scalar(
             registers,
             &[Operand::Scalar(d, Want::Is(Elem::I64)), Operand::Mask(x)],
         ),
-        ScalarInstr::Load(a, i, k, place) => check_all(
+        ScalarInstr::Load {
+            array,
+            index,
+            mask,
+            place,
+        } => check_all(
             code,
             function,
             registers,
             &[
                 any,
-                Operand::Array(a, ArrayWant::Shared, like),
-                Operand::Scalar(i, Want::Is(Elem::I64)),
-                Operand::Mask(k),
+                Operand::Array(array, ArrayWant::Shared, like),
+                Operand::Scalar(index, Want::Is(Elem::I64)),
+                Operand::Mask(mask),
                 Operand::Place(place),
             ],
         ),
-        ScalarInstr::Reduce(op, x, k) => check_all(
+        ScalarInstr::Reduce { op, vector, mask } => check_all(
             code,
             function,
             registers,
             &[
                 Operand::Scalar(d, reduced_want(op)),
-                Operand::Vector(x, reducing_want(op, d)),
-                Operand::Mask(k),
+                Operand::Vector(vector, reducing_want(op, d)),
+                Operand::Mask(mask),
             ],
         ),
-        ScalarInstr::Extract(x, i, k) => check_all(
+        ScalarInstr::Extract { vector, lane, mask } => check_all(
             code,
             function,
             registers,
             &[
                 whole,
-                Operand::Vector(x, like),
-                Operand::Scalar(i, Want::Is(Elem::I32)),
-                Operand::Mask(k),
+                Operand::Vector(vector, like),
+                Operand::Scalar(lane, Want::Is(Elem::I32)),
+                Operand::Mask(mask),
             ],
         ),
     }
@@ -171,67 +187,82 @@ fn check_vector(
     let truth = Operand::Vector(d, Want::Is(Elem::Bool));
     let like = Want::Like(d);
     match *instr {
-        VectorInstr::Copy(x, k) => check_all(
+        VectorInstr::Copy { value, mask } => check_all(
             code,
             function,
             registers,
-            &[any, Operand::Vector(x, like), Operand::Mask(k)],
+            &[any, Operand::Vector(value, like), Operand::Mask(mask)],
         ),
-        VectorInstr::Convert(x, k) => check_all(
+        VectorInstr::Convert { value, mask } => check_all(
             code,
             function,
             registers,
-            &[any, Operand::Vector(x, Want::Any), Operand::Mask(k)],
+            &[any, Operand::Vector(value, Want::Any), Operand::Mask(mask)],
         ),
-        VectorInstr::Unary(op, x, k) => check_all(
+        VectorInstr::Unary { op, value, mask } => check_all(
             code,
             function,
             registers,
             &[
                 Operand::Vector(d, unary_want(op)),
-                Operand::Vector(x, like),
-                Operand::Mask(k),
+                Operand::Vector(value, like),
+                Operand::Mask(mask),
             ],
         ),
-        VectorInstr::Binary(_op, x, y, k) => check_all(
+        VectorInstr::Binary {
+            left,
+            right,
+            mask,
+            ..
+        } => check_all(
             code,
             function,
             registers,
             &[
                 whole,
-                Operand::Vector(x, like),
-                Operand::Vector(y, like),
-                Operand::Mask(k),
+                Operand::Vector(left, like),
+                Operand::Vector(right, like),
+                Operand::Mask(mask),
             ],
         ),
-        VectorInstr::Compare(_op, x, y, k) => check_all(
+        VectorInstr::Compare {
+            left,
+            right,
+            mask,
+            ..
+        } => check_all(
             code,
             function,
             registers,
             &[
                 truth,
-                Operand::Vector(x, Want::Any),
-                Operand::Vector(y, Want::Like(x)),
-                Operand::Mask(k),
+                Operand::Vector(left, Want::Any),
+                Operand::Vector(right, Want::Like(left)),
+                Operand::Mask(mask),
             ],
         ),
-        VectorInstr::Select(c, x, y, k) => check_all(
+        VectorInstr::Select {
+            test,
+            if_true,
+            if_false,
+            mask,
+        } => check_all(
             code,
             function,
             registers,
             &[
                 any,
-                Operand::Vector(c, Want::Is(Elem::Bool)),
-                Operand::Vector(x, like),
-                Operand::Vector(y, like),
-                Operand::Mask(k),
+                Operand::Vector(test, Want::Is(Elem::Bool)),
+                Operand::Vector(if_true, like),
+                Operand::Vector(if_false, like),
+                Operand::Mask(mask),
             ],
         ),
-        VectorInstr::Splat(x, k) => check_all(
+        VectorInstr::Splat { value, mask } => check_all(
             code,
             function,
             registers,
-            &[any, Operand::Scalar(x, like), Operand::Mask(k)],
+            &[any, Operand::Scalar(value, like), Operand::Mask(mask)],
         ),
         VectorInstr::Index(k) => check_all(
             code,
@@ -239,80 +270,109 @@ fn check_vector(
             registers,
             &[Operand::Vector(d, Want::Is(Elem::I32)), Operand::Mask(k)],
         ),
-        VectorInstr::Gather(a, i, k, place) => check_all(
+        VectorInstr::Gather {
+            array,
+            indices,
+            mask,
+            place,
+        } => check_all(
             code,
             function,
             registers,
             &[
                 any,
-                Operand::Array(a, ArrayWant::Any, like),
-                Operand::Vector(i, Want::Is(Elem::I64)),
-                Operand::Mask(k),
+                Operand::Array(array, ArrayWant::Any, like),
+                Operand::Vector(indices, Want::Is(Elem::I64)),
+                Operand::Mask(mask),
                 Operand::Place(place),
             ],
         ),
-        VectorInstr::LoadRun(a, i, k, place) => check_all(
+        VectorInstr::LoadRun {
+            array,
+            index,
+            mask,
+            place,
+        } => check_all(
             code,
             function,
             registers,
             &[
                 any,
-                Operand::Array(a, ArrayWant::Shared, like),
-                Operand::Scalar(i, Want::Is(Elem::I64)),
-                Operand::Mask(k),
+                Operand::Array(array, ArrayWant::Shared, like),
+                Operand::Scalar(index, Want::Is(Elem::I64)),
+                Operand::Mask(mask),
                 Operand::Place(place),
             ],
         ),
-        VectorInstr::Scan(_op, x, k) => check_all(
+        VectorInstr::Scan { value, mask, .. } => check_all(
             code,
             function,
             registers,
-            &[whole, Operand::Vector(x, like), Operand::Mask(k)],
+            &[whole, Operand::Vector(value, like), Operand::Mask(mask)],
         ),
-        VectorInstr::Exchange(_exchange, x, i, k) => check_all(
+        VectorInstr::Exchange {
+            vector,
+            by,
+            mask,
+            ..
+        } => check_all(
             code,
             function,
             registers,
             &[
                 whole,
-                Operand::Vector(x, like),
-                Operand::Scalar(i, Want::Is(Elem::I32)),
-                Operand::Mask(k),
+                Operand::Vector(vector, like),
+                Operand::Scalar(by, Want::Is(Elem::I32)),
+                Operand::Mask(mask),
             ],
         ),
-        VectorInstr::Shuffle(x, i, k) => check_all(
+        VectorInstr::Shuffle {
+            vector,
+            lanes,
+            mask,
+        } => check_all(
             code,
             function,
             registers,
             &[
                 whole,
-                Operand::Vector(x, like),
-                Operand::Vector(i, Want::Is(Elem::I32)),
-                Operand::Mask(k),
+                Operand::Vector(vector, like),
+                Operand::Vector(lanes, Want::Is(Elem::I32)),
+                Operand::Mask(mask),
             ],
         ),
-        VectorInstr::ShuffleTwo(x, y, i, k) => check_all(
+        VectorInstr::ShuffleTwo {
+            first,
+            second,
+            lanes,
+            mask,
+        } => check_all(
             code,
             function,
             registers,
             &[
                 whole,
-                Operand::Vector(x, like),
-                Operand::Vector(y, like),
-                Operand::Vector(i, Want::Is(Elem::I32)),
-                Operand::Mask(k),
+                Operand::Vector(first, like),
+                Operand::Vector(second, like),
+                Operand::Vector(lanes, Want::Is(Elem::I32)),
+                Operand::Mask(mask),
             ],
         ),
-        VectorInstr::Insert(x, i, y, k) => check_all(
+        VectorInstr::Insert {
+            vector,
+            lane,
+            value,
+            mask,
+        } => check_all(
             code,
             function,
             registers,
             &[
                 whole,
-                Operand::Vector(x, like),
-                Operand::Scalar(i, Want::Is(Elem::I32)),
-                Operand::Scalar(y, like),
-                Operand::Mask(k),
+                Operand::Vector(vector, like),
+                Operand::Scalar(lane, Want::Is(Elem::I32)),
+                Operand::Scalar(value, like),
+                Operand::Mask(mask),
             ],
         ),
     }
@@ -331,33 +391,33 @@ fn check_mask(
     let to = Operand::Mask(d);
     match *instr {
         MaskInstr::Copy(x) => check_all(code, function, registers, &[to, Operand::Mask(x)]),
-        MaskInstr::Binary(_op, x, y) => check_all(
+        MaskInstr::Binary { left, right, .. } => check_all(
             code,
             function,
             registers,
-            &[to, Operand::Mask(x), Operand::Mask(y)],
+            &[to, Operand::Mask(left), Operand::Mask(right)],
         ),
         MaskInstr::Full => check_all(code, function, registers, &[to]),
         MaskInstr::Off => check_all(code, function, registers, &[to]),
-        MaskInstr::Test(x, y) => check_all(
+        MaskInstr::Test { vector, mask } => check_all(
             code,
             function,
             registers,
             &[
                 to,
-                Operand::Vector(x, Want::Is(Elem::Bool)),
-                Operand::Mask(y),
+                Operand::Vector(vector, Want::Is(Elem::Bool)),
+                Operand::Mask(mask),
             ],
         ),
         MaskInstr::Lowest(x) => check_all(code, function, registers, &[to, Operand::Mask(x)]),
-        MaskInstr::Range(x, y) => check_all(
+        MaskInstr::Range { first, end } => check_all(
             code,
             function,
             registers,
             &[
                 to,
-                Operand::Scalar(x, Want::Is(Elem::I64)),
-                Operand::Scalar(y, Want::Is(Elem::I64)),
+                Operand::Scalar(first, Want::Is(Elem::I64)),
+                Operand::Scalar(end, Want::Is(Elem::I64)),
             ],
         ),
     }
@@ -417,106 +477,149 @@ pub(crate) fn check_instr(
     ensures { result ≡ instr_fault code.now (routine_of function.now) instr.now }
 {
     match instr {
-        Instr::Scalar(d, instr) => check_scalar(code, function, registers, *d, instr),
-        Instr::Vector(d, instr) => check_vector(code, function, registers, *d, instr),
-        Instr::Mask(d, instr) => check_mask(code, function, registers, *d, instr),
-        Instr::Divide(_op, d, x, y, k, place) => check_all(
+        Instr::Scalar { result, instr } => check_scalar(code, function, registers, *result, instr),
+        Instr::Vector { result, instr } => check_vector(code, function, registers, *result, instr),
+        Instr::Mask { result, instr } => check_mask(code, function, registers, *result, instr),
+        Instr::Divide {
+            result,
+            dividend,
+            divisor,
+            mask,
+            place,
+            ..
+        } => check_all(
             code,
             function,
             registers,
             &[
-                divided(d.class, *d, Want::Integer),
-                divided(d.class, *x, Want::Like(*d)),
-                divided(d.class, *y, Want::Like(*d)),
-                Operand::Mask(*k),
+                divided(result.class, *result, Want::Integer),
+                divided(result.class, *dividend, Want::Like(*result)),
+                divided(result.class, *divisor, Want::Like(*result)),
+                Operand::Mask(*mask),
                 Operand::Place(*place),
             ],
         ),
-        Instr::Store(a, i, y, k, place) => check_all(
+        Instr::Store {
+            array,
+            index,
+            value,
+            mask,
+            place,
+        } => check_all(
             code,
             function,
             registers,
             &[
-                Operand::Array(*a, ArrayWant::Shared, Want::Any),
-                Operand::Scalar(*i, Want::Is(Elem::I64)),
-                Operand::Scalar(*y, Want::Like(*a)),
-                Operand::Mask(*k),
+                Operand::Array(*array, ArrayWant::Shared, Want::Any),
+                Operand::Scalar(*index, Want::Is(Elem::I64)),
+                Operand::Scalar(*value, Want::Like(*array)),
+                Operand::Mask(*mask),
                 Operand::Place(*place),
             ],
         ),
-        Instr::Scatter(a, i, y, k, place) => check_all(
+        Instr::Scatter {
+            array,
+            indices,
+            value,
+            mask,
+            place,
+        } => check_all(
             code,
             function,
             registers,
             &[
-                Operand::Array(*a, ArrayWant::Any, Want::Any),
-                Operand::Vector(*i, Want::Is(Elem::I64)),
-                Operand::Vector(*y, Want::Like(*a)),
-                Operand::Mask(*k),
+                Operand::Array(*array, ArrayWant::Any, Want::Any),
+                Operand::Vector(*indices, Want::Is(Elem::I64)),
+                Operand::Vector(*value, Want::Like(*array)),
+                Operand::Mask(*mask),
                 Operand::Place(*place),
             ],
         ),
-        Instr::StoreRun(a, i, y, k, place) => check_all(
+        Instr::StoreRun {
+            array,
+            index,
+            value,
+            mask,
+            place,
+        } => check_all(
             code,
             function,
             registers,
             &[
-                Operand::Array(*a, ArrayWant::Shared, Want::Any),
-                Operand::Scalar(*i, Want::Is(Elem::I64)),
-                Operand::Vector(*y, Want::Like(*a)),
-                Operand::Mask(*k),
+                Operand::Array(*array, ArrayWant::Shared, Want::Any),
+                Operand::Scalar(*index, Want::Is(Elem::I64)),
+                Operand::Vector(*value, Want::Like(*array)),
+                Operand::Mask(*mask),
                 Operand::Place(*place),
             ],
         ),
-        Instr::PackedStore(d, a, i, y, k, place) => check_all(
+        Instr::PackedStore {
+            count,
+            array,
+            index,
+            value,
+            mask,
+            place,
+        } => check_all(
             code,
             function,
             registers,
-            &packed(*d, *a, *i, *y, *k, *place),
+            &packed(*count, *array, *index, *value, *mask, *place),
         ),
-        Instr::PackedLoad(d, a, i, y, k, place) => check_all(
+        Instr::PackedLoad {
+            count,
+            array,
+            index,
+            result,
+            mask,
+            place,
+        } => check_all(
             code,
             function,
             registers,
-            &packed(*d, *a, *i, *y, *k, *place),
+            &packed(*count, *array, *index, *result, *mask, *place),
         ),
-        Instr::Clear(a, k) => check_all(
+        Instr::Clear { array, mask } => check_all(
             code,
             function,
             registers,
             &[
-                Operand::Array(*a, ArrayWant::Local, Want::Any),
-                Operand::Mask(*k),
+                Operand::Array(*array, ArrayWant::Local, Want::Any),
+                Operand::Mask(*mask),
             ],
         ),
-        Instr::Jump(to) => check_all(code, function, registers, &[Operand::Target(*to)]),
-        Instr::JumpIf(test, x, to) => {
+        Instr::Jump { target } => check_all(code, function, registers, &[Operand::Target(*target)]),
+        Instr::JumpIf {
+            test,
+            register,
+            target,
+        } => {
             check_all(
                 code,
                 function,
                 registers,
-                &[tested(*test, *x), Operand::Target(*to)],
+                &[tested(*test, *register), Operand::Target(*target)],
             )
         }
-        Instr::Say(text) => check_all(code, function, registers, &[Operand::Text(*text)]),
+        Instr::Say { text } => check_all(code, function, registers, &[Operand::Text(*text)]),
         Instr::PrintScalar(x) => check_all(
             code,
             function,
             registers,
             &[Operand::Scalar(*x, Want::Any)],
         ),
-        Instr::PrintVector(x, k) => check_all(
+        Instr::PrintVector { vector, mask } => check_all(
             code,
             function,
             registers,
-            &[Operand::Vector(*x, Want::Any), Operand::Mask(*k)],
+            &[Operand::Vector(*vector, Want::Any), Operand::Mask(*mask)],
         ),
-        Instr::Fail(x, place) => {
+        Instr::Fail { mask, place } => {
             check_all(
                 code,
                 function,
                 registers,
-                &[Operand::Mask(*x), Operand::Place(*place)],
+                &[Operand::Mask(*mask), Operand::Place(*place)],
             )
         }
         Instr::Call(call) => check_call(code, function, registers, call.get()),

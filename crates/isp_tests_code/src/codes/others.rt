@@ -22,14 +22,41 @@ pub enum Six {
 /// What is right of mask instructions.
 pub static MASKS: [(Register, MaskInstr); 9] = [
     (M0, MaskInstr::Copy(M1)),
-    (M0, MaskInstr::Binary(MaskOp::And, M1, M0)),
-    (M0, MaskInstr::Binary(MaskOp::Or, M1, M0)),
-    (M0, MaskInstr::Binary(MaskOp::AndNot, M1, M0)),
+    (
+        M0,
+        MaskInstr::Binary {
+            op: MaskOp::And,
+            left: M1,
+            right: M0,
+        },
+    ),
+    (
+        M0,
+        MaskInstr::Binary {
+            op: MaskOp::Or,
+            left: M1,
+            right: M0,
+        },
+    ),
+    (
+        M0,
+        MaskInstr::Binary {
+            op: MaskOp::AndNot,
+            left: M1,
+            right: M0,
+        },
+    ),
     (M1, MaskInstr::Full),
     (M1, MaskInstr::Off),
-    (M1, MaskInstr::Test(V2, M0)),
+    (
+        M1,
+        MaskInstr::Test {
+            vector: V2,
+            mask: M0,
+        },
+    ),
     (M1, MaskInstr::Lowest(M0)),
-    (M1, MaskInstr::Range(S3, S3)),
+    (M1, MaskInstr::Range { first: S3, end: S3 }),
 ];
 
 /// What is wrong of mask instructions.
@@ -40,69 +67,250 @@ pub static WRONG_MASKS: [(Register, MaskInstr, Rule); 45] = [
     (M0, MaskInstr::Copy(S0), Rule::BadKind),
     (
         M9,
-        MaskInstr::Binary(MaskOp::And, M1, M0),
+        MaskInstr::Binary {
+            op: MaskOp::And,
+            left: M1,
+            right: M0,
+        },
         Rule::BadRegister,
     ),
-    (S0, MaskInstr::Binary(MaskOp::And, M1, M0), Rule::BadKind),
+    (
+        S0,
+        MaskInstr::Binary {
+            op: MaskOp::And,
+            left: M1,
+            right: M0,
+        },
+        Rule::BadKind,
+    ),
     (
         M0,
-        MaskInstr::Binary(MaskOp::And, M9, M0),
+        MaskInstr::Binary {
+            op: MaskOp::And,
+            left: M9,
+            right: M0,
+        },
         Rule::BadRegister,
     ),
-    (M0, MaskInstr::Binary(MaskOp::And, S0, M0), Rule::BadKind),
     (
         M0,
-        MaskInstr::Binary(MaskOp::And, M1, M9),
+        MaskInstr::Binary {
+            op: MaskOp::And,
+            left: S0,
+            right: M0,
+        },
+        Rule::BadKind,
+    ),
+    (
+        M0,
+        MaskInstr::Binary {
+            op: MaskOp::And,
+            left: M1,
+            right: M9,
+        },
         Rule::BadRegister,
     ),
-    (M0, MaskInstr::Binary(MaskOp::And, M1, S0), Rule::BadKind),
-    (M9, MaskInstr::Binary(MaskOp::Or, M1, M0), Rule::BadRegister),
-    (S0, MaskInstr::Binary(MaskOp::Or, M1, M0), Rule::BadKind),
-    (M0, MaskInstr::Binary(MaskOp::Or, M9, M0), Rule::BadRegister),
-    (M0, MaskInstr::Binary(MaskOp::Or, S0, M0), Rule::BadKind),
-    (M0, MaskInstr::Binary(MaskOp::Or, M1, M9), Rule::BadRegister),
-    (M0, MaskInstr::Binary(MaskOp::Or, M1, S0), Rule::BadKind),
+    (
+        M0,
+        MaskInstr::Binary {
+            op: MaskOp::And,
+            left: M1,
+            right: S0,
+        },
+        Rule::BadKind,
+    ),
     (
         M9,
-        MaskInstr::Binary(MaskOp::AndNot, M1, M0),
+        MaskInstr::Binary {
+            op: MaskOp::Or,
+            left: M1,
+            right: M0,
+        },
         Rule::BadRegister,
     ),
-    (S0, MaskInstr::Binary(MaskOp::AndNot, M1, M0), Rule::BadKind),
+    (
+        S0,
+        MaskInstr::Binary {
+            op: MaskOp::Or,
+            left: M1,
+            right: M0,
+        },
+        Rule::BadKind,
+    ),
     (
         M0,
-        MaskInstr::Binary(MaskOp::AndNot, M9, M0),
+        MaskInstr::Binary {
+            op: MaskOp::Or,
+            left: M9,
+            right: M0,
+        },
         Rule::BadRegister,
     ),
-    (M0, MaskInstr::Binary(MaskOp::AndNot, S0, M0), Rule::BadKind),
     (
         M0,
-        MaskInstr::Binary(MaskOp::AndNot, M1, M9),
+        MaskInstr::Binary {
+            op: MaskOp::Or,
+            left: S0,
+            right: M0,
+        },
+        Rule::BadKind,
+    ),
+    (
+        M0,
+        MaskInstr::Binary {
+            op: MaskOp::Or,
+            left: M1,
+            right: M9,
+        },
         Rule::BadRegister,
     ),
-    (M0, MaskInstr::Binary(MaskOp::AndNot, M1, S0), Rule::BadKind),
+    (
+        M0,
+        MaskInstr::Binary {
+            op: MaskOp::Or,
+            left: M1,
+            right: S0,
+        },
+        Rule::BadKind,
+    ),
+    (
+        M9,
+        MaskInstr::Binary {
+            op: MaskOp::AndNot,
+            left: M1,
+            right: M0,
+        },
+        Rule::BadRegister,
+    ),
+    (
+        S0,
+        MaskInstr::Binary {
+            op: MaskOp::AndNot,
+            left: M1,
+            right: M0,
+        },
+        Rule::BadKind,
+    ),
+    (
+        M0,
+        MaskInstr::Binary {
+            op: MaskOp::AndNot,
+            left: M9,
+            right: M0,
+        },
+        Rule::BadRegister,
+    ),
+    (
+        M0,
+        MaskInstr::Binary {
+            op: MaskOp::AndNot,
+            left: S0,
+            right: M0,
+        },
+        Rule::BadKind,
+    ),
+    (
+        M0,
+        MaskInstr::Binary {
+            op: MaskOp::AndNot,
+            left: M1,
+            right: M9,
+        },
+        Rule::BadRegister,
+    ),
+    (
+        M0,
+        MaskInstr::Binary {
+            op: MaskOp::AndNot,
+            left: M1,
+            right: S0,
+        },
+        Rule::BadKind,
+    ),
     (M9, MaskInstr::Full, Rule::BadRegister),
     (S0, MaskInstr::Full, Rule::BadKind),
     (M9, MaskInstr::Off, Rule::BadRegister),
     (S0, MaskInstr::Off, Rule::BadKind),
-    (M9, MaskInstr::Test(V2, M0), Rule::BadRegister),
-    (S0, MaskInstr::Test(V2, M0), Rule::BadKind),
-    (M1, MaskInstr::Test(V9, M0), Rule::BadRegister),
-    (M1, MaskInstr::Test(S0, M0), Rule::BadKind),
-    (M1, MaskInstr::Test(V0, M0), Rule::BadKind),
-    (M1, MaskInstr::Test(V2, M9), Rule::BadRegister),
-    (M1, MaskInstr::Test(V2, S0), Rule::BadKind),
+    (
+        M9,
+        MaskInstr::Test {
+            vector: V2,
+            mask: M0,
+        },
+        Rule::BadRegister,
+    ),
+    (
+        S0,
+        MaskInstr::Test {
+            vector: V2,
+            mask: M0,
+        },
+        Rule::BadKind,
+    ),
+    (
+        M1,
+        MaskInstr::Test {
+            vector: V9,
+            mask: M0,
+        },
+        Rule::BadRegister,
+    ),
+    (
+        M1,
+        MaskInstr::Test {
+            vector: S0,
+            mask: M0,
+        },
+        Rule::BadKind,
+    ),
+    (
+        M1,
+        MaskInstr::Test {
+            vector: V0,
+            mask: M0,
+        },
+        Rule::BadKind,
+    ),
+    (
+        M1,
+        MaskInstr::Test {
+            vector: V2,
+            mask: M9,
+        },
+        Rule::BadRegister,
+    ),
+    (
+        M1,
+        MaskInstr::Test {
+            vector: V2,
+            mask: S0,
+        },
+        Rule::BadKind,
+    ),
     (M9, MaskInstr::Lowest(M0), Rule::BadRegister),
     (S0, MaskInstr::Lowest(M0), Rule::BadKind),
     (M1, MaskInstr::Lowest(M9), Rule::BadRegister),
     (M1, MaskInstr::Lowest(S0), Rule::BadKind),
-    (M9, MaskInstr::Range(S3, S3), Rule::BadRegister),
-    (S0, MaskInstr::Range(S3, S3), Rule::BadKind),
-    (M1, MaskInstr::Range(S9, S3), Rule::BadRegister),
-    (M1, MaskInstr::Range(V0, S3), Rule::BadKind),
-    (M1, MaskInstr::Range(S0, S3), Rule::BadKind),
-    (M1, MaskInstr::Range(S3, S9), Rule::BadRegister),
-    (M1, MaskInstr::Range(S3, V0), Rule::BadKind),
-    (M1, MaskInstr::Range(S3, S0), Rule::BadKind),
+    (
+        M9,
+        MaskInstr::Range { first: S3, end: S3 },
+        Rule::BadRegister,
+    ),
+    (S0, MaskInstr::Range { first: S3, end: S3 }, Rule::BadKind),
+    (
+        M1,
+        MaskInstr::Range { first: S9, end: S3 },
+        Rule::BadRegister,
+    ),
+    (M1, MaskInstr::Range { first: V0, end: S3 }, Rule::BadKind),
+    (M1, MaskInstr::Range { first: S0, end: S3 }, Rule::BadKind),
+    (
+        M1,
+        MaskInstr::Range { first: S3, end: S9 },
+        Rule::BadRegister,
+    ),
+    (M1, MaskInstr::Range { first: S3, end: V0 }, Rule::BadKind),
+    (M1, MaskInstr::Range { first: S3, end: S0 }, Rule::BadKind),
 ];
 
 /// What is right of the others of four registers and a place.

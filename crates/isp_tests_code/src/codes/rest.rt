@@ -22,14 +22,30 @@ pub enum Rest {
 /// The instruction that it is.
 pub fn instruction(rest: &Rest) -> Instr {
     match rest {
-        Rest::Jump(to) => Instr::Jump(*to),
-        Rest::JumpIf(test, x, to) => Instr::JumpIf(*test, *x, *to),
-        Rest::Say(text) => Instr::Say(*text),
+        Rest::Jump(to) => Instr::Jump { target: *to },
+        Rest::JumpIf(test, x, to) => Instr::JumpIf {
+            test: *test,
+            register: *x,
+            target: *to,
+        },
+        Rest::Say(text) => Instr::Say { text: *text },
         Rest::PrintScalar(x) => Instr::PrintScalar(*x),
-        Rest::PrintVector(x, k) => Instr::PrintVector(*x, *k),
-        Rest::Fail(x, place) => Instr::Fail(*x, *place),
-        Rest::Clear(a, k) => Instr::Clear(*a, *k),
-        Rest::Full(d) => Instr::Mask(*d, MaskInstr::Full),
+        Rest::PrintVector(x, k) => Instr::PrintVector {
+            vector: *x,
+            mask: *k,
+        },
+        Rest::Fail(x, place) => Instr::Fail {
+            mask: *x,
+            place: *place,
+        },
+        Rest::Clear(a, k) => Instr::Clear {
+            array: *a,
+            mask: *k,
+        },
+        Rest::Full(d) => Instr::Mask {
+            result: *d,
+            instr: MaskInstr::Full,
+        },
         Rest::Return(x) => Instr::Return(*x),
     }
 }

@@ -122,25 +122,148 @@ pub const A9: Register = Register {
 pub static SCALARS: [(Register, ScalarInstr); 29] = [
     (S0, ScalarInstr::Copy(S1)),
     (S0, ScalarInstr::Convert(S3)),
-    (S0, ScalarInstr::Unary(UnaryOp::Negate, S1)),
-    (S4, ScalarInstr::Unary(UnaryOp::Invert, S4)),
-    (S3, ScalarInstr::Unary(UnaryOp::Absolute, S3)),
-    (S2, ScalarInstr::Unary(UnaryOp::Not, S2)),
-    (S0, ScalarInstr::Binary(Plain::Add, S1, S0)),
-    (S4, ScalarInstr::Binary(Plain::Max, S4, S4)),
-    (S2, ScalarInstr::Compare(Compare::Equal, S0, S1)),
-    (S2, ScalarInstr::Compare(Compare::Less, S2, S2)),
-    (S0, ScalarInstr::Select(S2, S1, S0)),
+    (
+        S0,
+        ScalarInstr::Unary {
+            op: UnaryOp::Negate,
+            value: S1,
+        },
+    ),
+    (
+        S4,
+        ScalarInstr::Unary {
+            op: UnaryOp::Invert,
+            value: S4,
+        },
+    ),
+    (
+        S3,
+        ScalarInstr::Unary {
+            op: UnaryOp::Absolute,
+            value: S3,
+        },
+    ),
+    (
+        S2,
+        ScalarInstr::Unary {
+            op: UnaryOp::Not,
+            value: S2,
+        },
+    ),
+    (
+        S0,
+        ScalarInstr::Binary {
+            op: Plain::Add,
+            left: S1,
+            right: S0,
+        },
+    ),
+    (
+        S4,
+        ScalarInstr::Binary {
+            op: Plain::Max,
+            left: S4,
+            right: S4,
+        },
+    ),
+    (
+        S2,
+        ScalarInstr::Compare {
+            op: Compare::Equal,
+            left: S0,
+            right: S1,
+        },
+    ),
+    (
+        S2,
+        ScalarInstr::Compare {
+            op: Compare::Less,
+            left: S2,
+            right: S2,
+        },
+    ),
+    (
+        S0,
+        ScalarInstr::Select {
+            test: S2,
+            if_true: S1,
+            if_false: S0,
+        },
+    ),
     (S3, ScalarInstr::First(M1)),
-    (S0, ScalarInstr::Load(A0, S3, M0, 0)),
-    (S3, ScalarInstr::Reduce(Reduction::Add, V0, M0)),
-    (S3, ScalarInstr::Reduce(Reduction::Add, V3, M1)),
-    (S0, ScalarInstr::Reduce(Reduction::Min, V1, M0)),
-    (S4, ScalarInstr::Reduce(Reduction::Max, V4, M0)),
-    (S2, ScalarInstr::Reduce(Reduction::Equal, V3, M0)),
-    (S2, ScalarInstr::Reduce(Reduction::Any, V2, M0)),
-    (S2, ScalarInstr::Reduce(Reduction::All, V2, M1)),
-    (S0, ScalarInstr::Extract(V1, S1, M0)),
+    (
+        S0,
+        ScalarInstr::Load {
+            array: A0,
+            index: S3,
+            mask: M0,
+            place: 0,
+        },
+    ),
+    (
+        S3,
+        ScalarInstr::Reduce {
+            op: Reduction::Add,
+            vector: V0,
+            mask: M0,
+        },
+    ),
+    (
+        S3,
+        ScalarInstr::Reduce {
+            op: Reduction::Add,
+            vector: V3,
+            mask: M1,
+        },
+    ),
+    (
+        S0,
+        ScalarInstr::Reduce {
+            op: Reduction::Min,
+            vector: V1,
+            mask: M0,
+        },
+    ),
+    (
+        S4,
+        ScalarInstr::Reduce {
+            op: Reduction::Max,
+            vector: V4,
+            mask: M0,
+        },
+    ),
+    (
+        S2,
+        ScalarInstr::Reduce {
+            op: Reduction::Equal,
+            vector: V3,
+            mask: M0,
+        },
+    ),
+    (
+        S2,
+        ScalarInstr::Reduce {
+            op: Reduction::Any,
+            vector: V2,
+            mask: M0,
+        },
+    ),
+    (
+        S2,
+        ScalarInstr::Reduce {
+            op: Reduction::All,
+            vector: V2,
+            mask: M1,
+        },
+    ),
+    (
+        S0,
+        ScalarInstr::Extract {
+            vector: V1,
+            lane: S1,
+            mask: M0,
+        },
+    ),
     (S2, ScalarInstr::Constant(0)),
     (S2, ScalarInstr::Constant(1)),
     (S0, ScalarInstr::Constant(-2147483648)),
@@ -165,503 +288,1347 @@ pub static WRONG_SCALARS: [(Register, ScalarInstr, Rule); 174] = [
     (S0, ScalarInstr::Convert(V0), Rule::BadKind),
     (
         S9,
-        ScalarInstr::Unary(UnaryOp::Negate, S1),
+        ScalarInstr::Unary {
+            op: UnaryOp::Negate,
+            value: S1,
+        },
         Rule::BadRegister,
     ),
-    (V0, ScalarInstr::Unary(UnaryOp::Negate, S1), Rule::BadKind),
-    (S2, ScalarInstr::Unary(UnaryOp::Negate, S1), Rule::BadKind),
+    (
+        V0,
+        ScalarInstr::Unary {
+            op: UnaryOp::Negate,
+            value: S1,
+        },
+        Rule::BadKind,
+    ),
+    (
+        S2,
+        ScalarInstr::Unary {
+            op: UnaryOp::Negate,
+            value: S1,
+        },
+        Rule::BadKind,
+    ),
     (
         S0,
-        ScalarInstr::Unary(UnaryOp::Negate, S9),
+        ScalarInstr::Unary {
+            op: UnaryOp::Negate,
+            value: S9,
+        },
         Rule::BadRegister,
     ),
-    (S0, ScalarInstr::Unary(UnaryOp::Negate, V0), Rule::BadKind),
-    (S0, ScalarInstr::Unary(UnaryOp::Negate, S3), Rule::BadKind),
+    (
+        S0,
+        ScalarInstr::Unary {
+            op: UnaryOp::Negate,
+            value: V0,
+        },
+        Rule::BadKind,
+    ),
+    (
+        S0,
+        ScalarInstr::Unary {
+            op: UnaryOp::Negate,
+            value: S3,
+        },
+        Rule::BadKind,
+    ),
     (
         S9,
-        ScalarInstr::Unary(UnaryOp::Invert, S4),
+        ScalarInstr::Unary {
+            op: UnaryOp::Invert,
+            value: S4,
+        },
         Rule::BadRegister,
     ),
-    (V0, ScalarInstr::Unary(UnaryOp::Invert, S4), Rule::BadKind),
-    (S2, ScalarInstr::Unary(UnaryOp::Invert, S4), Rule::BadKind),
+    (
+        V0,
+        ScalarInstr::Unary {
+            op: UnaryOp::Invert,
+            value: S4,
+        },
+        Rule::BadKind,
+    ),
+    (
+        S2,
+        ScalarInstr::Unary {
+            op: UnaryOp::Invert,
+            value: S4,
+        },
+        Rule::BadKind,
+    ),
     (
         S4,
-        ScalarInstr::Unary(UnaryOp::Invert, S9),
+        ScalarInstr::Unary {
+            op: UnaryOp::Invert,
+            value: S9,
+        },
         Rule::BadRegister,
     ),
-    (S4, ScalarInstr::Unary(UnaryOp::Invert, V0), Rule::BadKind),
-    (S4, ScalarInstr::Unary(UnaryOp::Invert, S0), Rule::BadKind),
+    (
+        S4,
+        ScalarInstr::Unary {
+            op: UnaryOp::Invert,
+            value: V0,
+        },
+        Rule::BadKind,
+    ),
+    (
+        S4,
+        ScalarInstr::Unary {
+            op: UnaryOp::Invert,
+            value: S0,
+        },
+        Rule::BadKind,
+    ),
     (
         S9,
-        ScalarInstr::Unary(UnaryOp::Absolute, S3),
+        ScalarInstr::Unary {
+            op: UnaryOp::Absolute,
+            value: S3,
+        },
         Rule::BadRegister,
     ),
-    (V0, ScalarInstr::Unary(UnaryOp::Absolute, S3), Rule::BadKind),
-    (S2, ScalarInstr::Unary(UnaryOp::Absolute, S3), Rule::BadKind),
+    (
+        V0,
+        ScalarInstr::Unary {
+            op: UnaryOp::Absolute,
+            value: S3,
+        },
+        Rule::BadKind,
+    ),
+    (
+        S2,
+        ScalarInstr::Unary {
+            op: UnaryOp::Absolute,
+            value: S3,
+        },
+        Rule::BadKind,
+    ),
     (
         S3,
-        ScalarInstr::Unary(UnaryOp::Absolute, S9),
+        ScalarInstr::Unary {
+            op: UnaryOp::Absolute,
+            value: S9,
+        },
         Rule::BadRegister,
     ),
-    (S3, ScalarInstr::Unary(UnaryOp::Absolute, V0), Rule::BadKind),
-    (S3, ScalarInstr::Unary(UnaryOp::Absolute, S0), Rule::BadKind),
-    (S9, ScalarInstr::Unary(UnaryOp::Not, S2), Rule::BadRegister),
-    (V0, ScalarInstr::Unary(UnaryOp::Not, S2), Rule::BadKind),
-    (S0, ScalarInstr::Unary(UnaryOp::Not, S2), Rule::BadKind),
-    (S2, ScalarInstr::Unary(UnaryOp::Not, S9), Rule::BadRegister),
-    (S2, ScalarInstr::Unary(UnaryOp::Not, V0), Rule::BadKind),
-    (S2, ScalarInstr::Unary(UnaryOp::Not, S0), Rule::BadKind),
+    (
+        S3,
+        ScalarInstr::Unary {
+            op: UnaryOp::Absolute,
+            value: V0,
+        },
+        Rule::BadKind,
+    ),
+    (
+        S3,
+        ScalarInstr::Unary {
+            op: UnaryOp::Absolute,
+            value: S0,
+        },
+        Rule::BadKind,
+    ),
     (
         S9,
-        ScalarInstr::Binary(Plain::Add, S1, S0),
-        Rule::BadRegister,
-    ),
-    (V0, ScalarInstr::Binary(Plain::Add, S1, S0), Rule::BadKind),
-    (S2, ScalarInstr::Binary(Plain::Add, S1, S0), Rule::BadKind),
-    (
-        S0,
-        ScalarInstr::Binary(Plain::Add, S9, S0),
-        Rule::BadRegister,
-    ),
-    (S0, ScalarInstr::Binary(Plain::Add, V0, S0), Rule::BadKind),
-    (S0, ScalarInstr::Binary(Plain::Add, S3, S0), Rule::BadKind),
-    (
-        S0,
-        ScalarInstr::Binary(Plain::Add, S1, S9),
-        Rule::BadRegister,
-    ),
-    (S0, ScalarInstr::Binary(Plain::Add, S1, V0), Rule::BadKind),
-    (S0, ScalarInstr::Binary(Plain::Add, S1, S3), Rule::BadKind),
-    (
-        S9,
-        ScalarInstr::Binary(Plain::Max, S4, S4),
-        Rule::BadRegister,
-    ),
-    (V0, ScalarInstr::Binary(Plain::Max, S4, S4), Rule::BadKind),
-    (S2, ScalarInstr::Binary(Plain::Max, S4, S4), Rule::BadKind),
-    (
-        S4,
-        ScalarInstr::Binary(Plain::Max, S9, S4),
-        Rule::BadRegister,
-    ),
-    (S4, ScalarInstr::Binary(Plain::Max, V0, S4), Rule::BadKind),
-    (S4, ScalarInstr::Binary(Plain::Max, S3, S4), Rule::BadKind),
-    (
-        S4,
-        ScalarInstr::Binary(Plain::Max, S4, S9),
-        Rule::BadRegister,
-    ),
-    (S4, ScalarInstr::Binary(Plain::Max, S4, V0), Rule::BadKind),
-    (S4, ScalarInstr::Binary(Plain::Max, S4, S3), Rule::BadKind),
-    (
-        S9,
-        ScalarInstr::Compare(Compare::Equal, S0, S1),
+        ScalarInstr::Unary {
+            op: UnaryOp::Not,
+            value: S2,
+        },
         Rule::BadRegister,
     ),
     (
         V0,
-        ScalarInstr::Compare(Compare::Equal, S0, S1),
+        ScalarInstr::Unary {
+            op: UnaryOp::Not,
+            value: S2,
+        },
         Rule::BadKind,
     ),
     (
         S0,
-        ScalarInstr::Compare(Compare::Equal, S0, S1),
+        ScalarInstr::Unary {
+            op: UnaryOp::Not,
+            value: S2,
+        },
         Rule::BadKind,
     ),
     (
         S2,
-        ScalarInstr::Compare(Compare::Equal, S9, S1),
+        ScalarInstr::Unary {
+            op: UnaryOp::Not,
+            value: S9,
+        },
         Rule::BadRegister,
     ),
     (
         S2,
-        ScalarInstr::Compare(Compare::Equal, V0, S1),
+        ScalarInstr::Unary {
+            op: UnaryOp::Not,
+            value: V0,
+        },
         Rule::BadKind,
     ),
     (
         S2,
-        ScalarInstr::Compare(Compare::Equal, S0, S9),
-        Rule::BadRegister,
-    ),
-    (
-        S2,
-        ScalarInstr::Compare(Compare::Equal, S0, V0),
-        Rule::BadKind,
-    ),
-    (
-        S2,
-        ScalarInstr::Compare(Compare::Equal, S0, S3),
+        ScalarInstr::Unary {
+            op: UnaryOp::Not,
+            value: S0,
+        },
         Rule::BadKind,
     ),
     (
         S9,
-        ScalarInstr::Compare(Compare::Less, S2, S2),
+        ScalarInstr::Binary {
+            op: Plain::Add,
+            left: S1,
+            right: S0,
+        },
         Rule::BadRegister,
     ),
     (
         V0,
-        ScalarInstr::Compare(Compare::Less, S2, S2),
+        ScalarInstr::Binary {
+            op: Plain::Add,
+            left: S1,
+            right: S0,
+        },
+        Rule::BadKind,
+    ),
+    (
+        S2,
+        ScalarInstr::Binary {
+            op: Plain::Add,
+            left: S1,
+            right: S0,
+        },
+        Rule::BadKind,
+    ),
+    (
+        S0,
+        ScalarInstr::Binary {
+            op: Plain::Add,
+            left: S9,
+            right: S0,
+        },
+        Rule::BadRegister,
+    ),
+    (
+        S0,
+        ScalarInstr::Binary {
+            op: Plain::Add,
+            left: V0,
+            right: S0,
+        },
+        Rule::BadKind,
+    ),
+    (
+        S0,
+        ScalarInstr::Binary {
+            op: Plain::Add,
+            left: S3,
+            right: S0,
+        },
+        Rule::BadKind,
+    ),
+    (
+        S0,
+        ScalarInstr::Binary {
+            op: Plain::Add,
+            left: S1,
+            right: S9,
+        },
+        Rule::BadRegister,
+    ),
+    (
+        S0,
+        ScalarInstr::Binary {
+            op: Plain::Add,
+            left: S1,
+            right: V0,
+        },
+        Rule::BadKind,
+    ),
+    (
+        S0,
+        ScalarInstr::Binary {
+            op: Plain::Add,
+            left: S1,
+            right: S3,
+        },
+        Rule::BadKind,
+    ),
+    (
+        S9,
+        ScalarInstr::Binary {
+            op: Plain::Max,
+            left: S4,
+            right: S4,
+        },
+        Rule::BadRegister,
+    ),
+    (
+        V0,
+        ScalarInstr::Binary {
+            op: Plain::Max,
+            left: S4,
+            right: S4,
+        },
+        Rule::BadKind,
+    ),
+    (
+        S2,
+        ScalarInstr::Binary {
+            op: Plain::Max,
+            left: S4,
+            right: S4,
+        },
         Rule::BadKind,
     ),
     (
         S4,
-        ScalarInstr::Compare(Compare::Less, S2, S2),
+        ScalarInstr::Binary {
+            op: Plain::Max,
+            left: S9,
+            right: S4,
+        },
+        Rule::BadRegister,
+    ),
+    (
+        S4,
+        ScalarInstr::Binary {
+            op: Plain::Max,
+            left: V0,
+            right: S4,
+        },
+        Rule::BadKind,
+    ),
+    (
+        S4,
+        ScalarInstr::Binary {
+            op: Plain::Max,
+            left: S3,
+            right: S4,
+        },
+        Rule::BadKind,
+    ),
+    (
+        S4,
+        ScalarInstr::Binary {
+            op: Plain::Max,
+            left: S4,
+            right: S9,
+        },
+        Rule::BadRegister,
+    ),
+    (
+        S4,
+        ScalarInstr::Binary {
+            op: Plain::Max,
+            left: S4,
+            right: V0,
+        },
+        Rule::BadKind,
+    ),
+    (
+        S4,
+        ScalarInstr::Binary {
+            op: Plain::Max,
+            left: S4,
+            right: S3,
+        },
+        Rule::BadKind,
+    ),
+    (
+        S9,
+        ScalarInstr::Compare {
+            op: Compare::Equal,
+            left: S0,
+            right: S1,
+        },
+        Rule::BadRegister,
+    ),
+    (
+        V0,
+        ScalarInstr::Compare {
+            op: Compare::Equal,
+            left: S0,
+            right: S1,
+        },
+        Rule::BadKind,
+    ),
+    (
+        S0,
+        ScalarInstr::Compare {
+            op: Compare::Equal,
+            left: S0,
+            right: S1,
+        },
         Rule::BadKind,
     ),
     (
         S2,
-        ScalarInstr::Compare(Compare::Less, S9, S2),
+        ScalarInstr::Compare {
+            op: Compare::Equal,
+            left: S9,
+            right: S1,
+        },
         Rule::BadRegister,
     ),
     (
         S2,
-        ScalarInstr::Compare(Compare::Less, V0, S2),
+        ScalarInstr::Compare {
+            op: Compare::Equal,
+            left: V0,
+            right: S1,
+        },
         Rule::BadKind,
     ),
     (
         S2,
-        ScalarInstr::Compare(Compare::Less, S2, S9),
+        ScalarInstr::Compare {
+            op: Compare::Equal,
+            left: S0,
+            right: S9,
+        },
         Rule::BadRegister,
     ),
     (
         S2,
-        ScalarInstr::Compare(Compare::Less, S2, V0),
+        ScalarInstr::Compare {
+            op: Compare::Equal,
+            left: S0,
+            right: V0,
+        },
         Rule::BadKind,
     ),
     (
         S2,
-        ScalarInstr::Compare(Compare::Less, S2, S3),
+        ScalarInstr::Compare {
+            op: Compare::Equal,
+            left: S0,
+            right: S3,
+        },
         Rule::BadKind,
     ),
-    (S9, ScalarInstr::Select(S2, S1, S0), Rule::BadRegister),
-    (V0, ScalarInstr::Select(S2, S1, S0), Rule::BadKind),
-    (S0, ScalarInstr::Select(S9, S1, S0), Rule::BadRegister),
-    (S0, ScalarInstr::Select(V0, S1, S0), Rule::BadKind),
-    (S0, ScalarInstr::Select(S0, S1, S0), Rule::BadKind),
-    (S0, ScalarInstr::Select(S2, S9, S0), Rule::BadRegister),
-    (S0, ScalarInstr::Select(S2, V0, S0), Rule::BadKind),
-    (S0, ScalarInstr::Select(S2, S3, S0), Rule::BadKind),
-    (S0, ScalarInstr::Select(S2, S1, S9), Rule::BadRegister),
-    (S0, ScalarInstr::Select(S2, S1, V0), Rule::BadKind),
-    (S0, ScalarInstr::Select(S2, S1, S2), Rule::BadKind),
+    (
+        S9,
+        ScalarInstr::Compare {
+            op: Compare::Less,
+            left: S2,
+            right: S2,
+        },
+        Rule::BadRegister,
+    ),
+    (
+        V0,
+        ScalarInstr::Compare {
+            op: Compare::Less,
+            left: S2,
+            right: S2,
+        },
+        Rule::BadKind,
+    ),
+    (
+        S4,
+        ScalarInstr::Compare {
+            op: Compare::Less,
+            left: S2,
+            right: S2,
+        },
+        Rule::BadKind,
+    ),
+    (
+        S2,
+        ScalarInstr::Compare {
+            op: Compare::Less,
+            left: S9,
+            right: S2,
+        },
+        Rule::BadRegister,
+    ),
+    (
+        S2,
+        ScalarInstr::Compare {
+            op: Compare::Less,
+            left: V0,
+            right: S2,
+        },
+        Rule::BadKind,
+    ),
+    (
+        S2,
+        ScalarInstr::Compare {
+            op: Compare::Less,
+            left: S2,
+            right: S9,
+        },
+        Rule::BadRegister,
+    ),
+    (
+        S2,
+        ScalarInstr::Compare {
+            op: Compare::Less,
+            left: S2,
+            right: V0,
+        },
+        Rule::BadKind,
+    ),
+    (
+        S2,
+        ScalarInstr::Compare {
+            op: Compare::Less,
+            left: S2,
+            right: S3,
+        },
+        Rule::BadKind,
+    ),
+    (
+        S9,
+        ScalarInstr::Select {
+            test: S2,
+            if_true: S1,
+            if_false: S0,
+        },
+        Rule::BadRegister,
+    ),
+    (
+        V0,
+        ScalarInstr::Select {
+            test: S2,
+            if_true: S1,
+            if_false: S0,
+        },
+        Rule::BadKind,
+    ),
+    (
+        S0,
+        ScalarInstr::Select {
+            test: S9,
+            if_true: S1,
+            if_false: S0,
+        },
+        Rule::BadRegister,
+    ),
+    (
+        S0,
+        ScalarInstr::Select {
+            test: V0,
+            if_true: S1,
+            if_false: S0,
+        },
+        Rule::BadKind,
+    ),
+    (
+        S0,
+        ScalarInstr::Select {
+            test: S0,
+            if_true: S1,
+            if_false: S0,
+        },
+        Rule::BadKind,
+    ),
+    (
+        S0,
+        ScalarInstr::Select {
+            test: S2,
+            if_true: S9,
+            if_false: S0,
+        },
+        Rule::BadRegister,
+    ),
+    (
+        S0,
+        ScalarInstr::Select {
+            test: S2,
+            if_true: V0,
+            if_false: S0,
+        },
+        Rule::BadKind,
+    ),
+    (
+        S0,
+        ScalarInstr::Select {
+            test: S2,
+            if_true: S3,
+            if_false: S0,
+        },
+        Rule::BadKind,
+    ),
+    (
+        S0,
+        ScalarInstr::Select {
+            test: S2,
+            if_true: S1,
+            if_false: S9,
+        },
+        Rule::BadRegister,
+    ),
+    (
+        S0,
+        ScalarInstr::Select {
+            test: S2,
+            if_true: S1,
+            if_false: V0,
+        },
+        Rule::BadKind,
+    ),
+    (
+        S0,
+        ScalarInstr::Select {
+            test: S2,
+            if_true: S1,
+            if_false: S2,
+        },
+        Rule::BadKind,
+    ),
     (S9, ScalarInstr::First(M1), Rule::BadRegister),
     (V0, ScalarInstr::First(M1), Rule::BadKind),
     (S0, ScalarInstr::First(M1), Rule::BadKind),
     (S3, ScalarInstr::First(M9), Rule::BadRegister),
     (S3, ScalarInstr::First(S0), Rule::BadKind),
-    (S9, ScalarInstr::Load(A0, S3, M0, 0), Rule::BadRegister),
-    (V0, ScalarInstr::Load(A0, S3, M0, 0), Rule::BadKind),
-    (S0, ScalarInstr::Load(A9, S3, M0, 0), Rule::BadRegister),
-    (S0, ScalarInstr::Load(S0, S3, M0, 0), Rule::BadKind),
-    (S0, ScalarInstr::Load(A2, S3, M0, 0), Rule::BadKind),
-    (S0, ScalarInstr::Load(A3, S3, M0, 0), Rule::BadKind),
-    (S0, ScalarInstr::Load(A0, S9, M0, 0), Rule::BadRegister),
-    (S0, ScalarInstr::Load(A0, V0, M0, 0), Rule::BadKind),
-    (S0, ScalarInstr::Load(A0, S0, M0, 0), Rule::BadKind),
-    (S0, ScalarInstr::Load(A0, S3, M9, 0), Rule::BadRegister),
-    (S0, ScalarInstr::Load(A0, S3, S0, 0), Rule::BadKind),
-    (S0, ScalarInstr::Load(A0, S3, M0, 9), Rule::BadRegister),
     (
         S9,
-        ScalarInstr::Reduce(Reduction::Add, V0, M0),
+        ScalarInstr::Load {
+            array: A0,
+            index: S3,
+            mask: M0,
+            place: 0,
+        },
         Rule::BadRegister,
     ),
     (
         V0,
-        ScalarInstr::Reduce(Reduction::Add, V0, M0),
+        ScalarInstr::Load {
+            array: A0,
+            index: S3,
+            mask: M0,
+            place: 0,
+        },
+        Rule::BadKind,
+    ),
+    (
+        S0,
+        ScalarInstr::Load {
+            array: A9,
+            index: S3,
+            mask: M0,
+            place: 0,
+        },
+        Rule::BadRegister,
+    ),
+    (
+        S0,
+        ScalarInstr::Load {
+            array: S0,
+            index: S3,
+            mask: M0,
+            place: 0,
+        },
+        Rule::BadKind,
+    ),
+    (
+        S0,
+        ScalarInstr::Load {
+            array: A2,
+            index: S3,
+            mask: M0,
+            place: 0,
+        },
+        Rule::BadKind,
+    ),
+    (
+        S0,
+        ScalarInstr::Load {
+            array: A3,
+            index: S3,
+            mask: M0,
+            place: 0,
+        },
+        Rule::BadKind,
+    ),
+    (
+        S0,
+        ScalarInstr::Load {
+            array: A0,
+            index: S9,
+            mask: M0,
+            place: 0,
+        },
+        Rule::BadRegister,
+    ),
+    (
+        S0,
+        ScalarInstr::Load {
+            array: A0,
+            index: V0,
+            mask: M0,
+            place: 0,
+        },
+        Rule::BadKind,
+    ),
+    (
+        S0,
+        ScalarInstr::Load {
+            array: A0,
+            index: S0,
+            mask: M0,
+            place: 0,
+        },
+        Rule::BadKind,
+    ),
+    (
+        S0,
+        ScalarInstr::Load {
+            array: A0,
+            index: S3,
+            mask: M9,
+            place: 0,
+        },
+        Rule::BadRegister,
+    ),
+    (
+        S0,
+        ScalarInstr::Load {
+            array: A0,
+            index: S3,
+            mask: S0,
+            place: 0,
+        },
+        Rule::BadKind,
+    ),
+    (
+        S0,
+        ScalarInstr::Load {
+            array: A0,
+            index: S3,
+            mask: M0,
+            place: 9,
+        },
+        Rule::BadRegister,
+    ),
+    (
+        S9,
+        ScalarInstr::Reduce {
+            op: Reduction::Add,
+            vector: V0,
+            mask: M0,
+        },
+        Rule::BadRegister,
+    ),
+    (
+        V0,
+        ScalarInstr::Reduce {
+            op: Reduction::Add,
+            vector: V0,
+            mask: M0,
+        },
         Rule::BadKind,
     ),
     (
         S2,
-        ScalarInstr::Reduce(Reduction::Add, V0, M0),
+        ScalarInstr::Reduce {
+            op: Reduction::Add,
+            vector: V0,
+            mask: M0,
+        },
         Rule::BadKind,
     ),
     (
         S4,
-        ScalarInstr::Reduce(Reduction::Add, V0, M0),
+        ScalarInstr::Reduce {
+            op: Reduction::Add,
+            vector: V0,
+            mask: M0,
+        },
         Rule::BadKind,
     ),
     (
         S3,
-        ScalarInstr::Reduce(Reduction::Add, V9, M0),
+        ScalarInstr::Reduce {
+            op: Reduction::Add,
+            vector: V9,
+            mask: M0,
+        },
         Rule::BadRegister,
     ),
     (
         S3,
-        ScalarInstr::Reduce(Reduction::Add, S0, M0),
+        ScalarInstr::Reduce {
+            op: Reduction::Add,
+            vector: S0,
+            mask: M0,
+        },
         Rule::BadKind,
     ),
     (
         S3,
-        ScalarInstr::Reduce(Reduction::Add, V2, M0),
+        ScalarInstr::Reduce {
+            op: Reduction::Add,
+            vector: V2,
+            mask: M0,
+        },
         Rule::BadKind,
     ),
     (
         S3,
-        ScalarInstr::Reduce(Reduction::Add, V4, M0),
+        ScalarInstr::Reduce {
+            op: Reduction::Add,
+            vector: V4,
+            mask: M0,
+        },
         Rule::BadKind,
     ),
     (
         S3,
-        ScalarInstr::Reduce(Reduction::Add, V0, M9),
+        ScalarInstr::Reduce {
+            op: Reduction::Add,
+            vector: V0,
+            mask: M9,
+        },
         Rule::BadRegister,
     ),
     (
         S3,
-        ScalarInstr::Reduce(Reduction::Add, V0, S0),
+        ScalarInstr::Reduce {
+            op: Reduction::Add,
+            vector: V0,
+            mask: S0,
+        },
         Rule::BadKind,
     ),
     (
         S9,
-        ScalarInstr::Reduce(Reduction::Add, V3, M1),
+        ScalarInstr::Reduce {
+            op: Reduction::Add,
+            vector: V3,
+            mask: M1,
+        },
         Rule::BadRegister,
     ),
     (
         V0,
-        ScalarInstr::Reduce(Reduction::Add, V3, M1),
+        ScalarInstr::Reduce {
+            op: Reduction::Add,
+            vector: V3,
+            mask: M1,
+        },
         Rule::BadKind,
     ),
     (
         S2,
-        ScalarInstr::Reduce(Reduction::Add, V3, M1),
+        ScalarInstr::Reduce {
+            op: Reduction::Add,
+            vector: V3,
+            mask: M1,
+        },
         Rule::BadKind,
     ),
     (
         S3,
-        ScalarInstr::Reduce(Reduction::Add, V9, M1),
+        ScalarInstr::Reduce {
+            op: Reduction::Add,
+            vector: V9,
+            mask: M1,
+        },
         Rule::BadRegister,
     ),
     (
         S3,
-        ScalarInstr::Reduce(Reduction::Add, S0, M1),
+        ScalarInstr::Reduce {
+            op: Reduction::Add,
+            vector: S0,
+            mask: M1,
+        },
         Rule::BadKind,
     ),
     (
         S3,
-        ScalarInstr::Reduce(Reduction::Add, V2, M1),
+        ScalarInstr::Reduce {
+            op: Reduction::Add,
+            vector: V2,
+            mask: M1,
+        },
         Rule::BadKind,
     ),
     (
         S3,
-        ScalarInstr::Reduce(Reduction::Add, V3, M9),
+        ScalarInstr::Reduce {
+            op: Reduction::Add,
+            vector: V3,
+            mask: M9,
+        },
         Rule::BadRegister,
     ),
     (
         S3,
-        ScalarInstr::Reduce(Reduction::Add, V3, S0),
+        ScalarInstr::Reduce {
+            op: Reduction::Add,
+            vector: V3,
+            mask: S0,
+        },
         Rule::BadKind,
     ),
     (
         S9,
-        ScalarInstr::Reduce(Reduction::Min, V1, M0),
+        ScalarInstr::Reduce {
+            op: Reduction::Min,
+            vector: V1,
+            mask: M0,
+        },
         Rule::BadRegister,
     ),
     (
         V0,
-        ScalarInstr::Reduce(Reduction::Min, V1, M0),
+        ScalarInstr::Reduce {
+            op: Reduction::Min,
+            vector: V1,
+            mask: M0,
+        },
         Rule::BadKind,
     ),
     (
         S2,
-        ScalarInstr::Reduce(Reduction::Min, V1, M0),
+        ScalarInstr::Reduce {
+            op: Reduction::Min,
+            vector: V1,
+            mask: M0,
+        },
         Rule::BadKind,
     ),
     (
         S0,
-        ScalarInstr::Reduce(Reduction::Min, V9, M0),
+        ScalarInstr::Reduce {
+            op: Reduction::Min,
+            vector: V9,
+            mask: M0,
+        },
         Rule::BadRegister,
     ),
     (
         S0,
-        ScalarInstr::Reduce(Reduction::Min, S0, M0),
+        ScalarInstr::Reduce {
+            op: Reduction::Min,
+            vector: S0,
+            mask: M0,
+        },
         Rule::BadKind,
     ),
     (
         S0,
-        ScalarInstr::Reduce(Reduction::Min, V3, M0),
+        ScalarInstr::Reduce {
+            op: Reduction::Min,
+            vector: V3,
+            mask: M0,
+        },
         Rule::BadKind,
     ),
     (
         S0,
-        ScalarInstr::Reduce(Reduction::Min, V1, M9),
+        ScalarInstr::Reduce {
+            op: Reduction::Min,
+            vector: V1,
+            mask: M9,
+        },
         Rule::BadRegister,
     ),
     (
         S0,
-        ScalarInstr::Reduce(Reduction::Min, V1, S0),
+        ScalarInstr::Reduce {
+            op: Reduction::Min,
+            vector: V1,
+            mask: S0,
+        },
         Rule::BadKind,
     ),
     (
         S9,
-        ScalarInstr::Reduce(Reduction::Max, V4, M0),
+        ScalarInstr::Reduce {
+            op: Reduction::Max,
+            vector: V4,
+            mask: M0,
+        },
         Rule::BadRegister,
     ),
     (
         V0,
-        ScalarInstr::Reduce(Reduction::Max, V4, M0),
+        ScalarInstr::Reduce {
+            op: Reduction::Max,
+            vector: V4,
+            mask: M0,
+        },
         Rule::BadKind,
     ),
     (
         S2,
-        ScalarInstr::Reduce(Reduction::Max, V4, M0),
+        ScalarInstr::Reduce {
+            op: Reduction::Max,
+            vector: V4,
+            mask: M0,
+        },
         Rule::BadKind,
     ),
     (
         S4,
-        ScalarInstr::Reduce(Reduction::Max, V9, M0),
+        ScalarInstr::Reduce {
+            op: Reduction::Max,
+            vector: V9,
+            mask: M0,
+        },
         Rule::BadRegister,
     ),
     (
         S4,
-        ScalarInstr::Reduce(Reduction::Max, S0, M0),
+        ScalarInstr::Reduce {
+            op: Reduction::Max,
+            vector: S0,
+            mask: M0,
+        },
         Rule::BadKind,
     ),
     (
         S4,
-        ScalarInstr::Reduce(Reduction::Max, V0, M0),
+        ScalarInstr::Reduce {
+            op: Reduction::Max,
+            vector: V0,
+            mask: M0,
+        },
         Rule::BadKind,
     ),
     (
         S4,
-        ScalarInstr::Reduce(Reduction::Max, V4, M9),
+        ScalarInstr::Reduce {
+            op: Reduction::Max,
+            vector: V4,
+            mask: M9,
+        },
         Rule::BadRegister,
     ),
     (
         S4,
-        ScalarInstr::Reduce(Reduction::Max, V4, S0),
+        ScalarInstr::Reduce {
+            op: Reduction::Max,
+            vector: V4,
+            mask: S0,
+        },
         Rule::BadKind,
     ),
     (
         S9,
-        ScalarInstr::Reduce(Reduction::Equal, V3, M0),
+        ScalarInstr::Reduce {
+            op: Reduction::Equal,
+            vector: V3,
+            mask: M0,
+        },
         Rule::BadRegister,
     ),
     (
         V0,
-        ScalarInstr::Reduce(Reduction::Equal, V3, M0),
+        ScalarInstr::Reduce {
+            op: Reduction::Equal,
+            vector: V3,
+            mask: M0,
+        },
         Rule::BadKind,
     ),
     (
         S0,
-        ScalarInstr::Reduce(Reduction::Equal, V3, M0),
+        ScalarInstr::Reduce {
+            op: Reduction::Equal,
+            vector: V3,
+            mask: M0,
+        },
         Rule::BadKind,
     ),
     (
         S2,
-        ScalarInstr::Reduce(Reduction::Equal, V9, M0),
+        ScalarInstr::Reduce {
+            op: Reduction::Equal,
+            vector: V9,
+            mask: M0,
+        },
         Rule::BadRegister,
     ),
     (
         S2,
-        ScalarInstr::Reduce(Reduction::Equal, S0, M0),
+        ScalarInstr::Reduce {
+            op: Reduction::Equal,
+            vector: S0,
+            mask: M0,
+        },
         Rule::BadKind,
     ),
     (
         S2,
-        ScalarInstr::Reduce(Reduction::Equal, V2, M0),
+        ScalarInstr::Reduce {
+            op: Reduction::Equal,
+            vector: V2,
+            mask: M0,
+        },
         Rule::BadKind,
     ),
     (
         S2,
-        ScalarInstr::Reduce(Reduction::Equal, V3, M9),
+        ScalarInstr::Reduce {
+            op: Reduction::Equal,
+            vector: V3,
+            mask: M9,
+        },
         Rule::BadRegister,
     ),
     (
         S2,
-        ScalarInstr::Reduce(Reduction::Equal, V3, S0),
+        ScalarInstr::Reduce {
+            op: Reduction::Equal,
+            vector: V3,
+            mask: S0,
+        },
         Rule::BadKind,
     ),
     (
         S9,
-        ScalarInstr::Reduce(Reduction::Any, V2, M0),
+        ScalarInstr::Reduce {
+            op: Reduction::Any,
+            vector: V2,
+            mask: M0,
+        },
         Rule::BadRegister,
     ),
     (
         V0,
-        ScalarInstr::Reduce(Reduction::Any, V2, M0),
+        ScalarInstr::Reduce {
+            op: Reduction::Any,
+            vector: V2,
+            mask: M0,
+        },
         Rule::BadKind,
     ),
     (
         S0,
-        ScalarInstr::Reduce(Reduction::Any, V2, M0),
+        ScalarInstr::Reduce {
+            op: Reduction::Any,
+            vector: V2,
+            mask: M0,
+        },
         Rule::BadKind,
     ),
     (
         S2,
-        ScalarInstr::Reduce(Reduction::Any, V9, M0),
+        ScalarInstr::Reduce {
+            op: Reduction::Any,
+            vector: V9,
+            mask: M0,
+        },
         Rule::BadRegister,
     ),
     (
         S2,
-        ScalarInstr::Reduce(Reduction::Any, S0, M0),
+        ScalarInstr::Reduce {
+            op: Reduction::Any,
+            vector: S0,
+            mask: M0,
+        },
         Rule::BadKind,
     ),
     (
         S2,
-        ScalarInstr::Reduce(Reduction::Any, V0, M0),
+        ScalarInstr::Reduce {
+            op: Reduction::Any,
+            vector: V0,
+            mask: M0,
+        },
         Rule::BadKind,
     ),
     (
         S2,
-        ScalarInstr::Reduce(Reduction::Any, V2, M9),
+        ScalarInstr::Reduce {
+            op: Reduction::Any,
+            vector: V2,
+            mask: M9,
+        },
         Rule::BadRegister,
     ),
     (
         S2,
-        ScalarInstr::Reduce(Reduction::Any, V2, S0),
+        ScalarInstr::Reduce {
+            op: Reduction::Any,
+            vector: V2,
+            mask: S0,
+        },
         Rule::BadKind,
     ),
     (
         S9,
-        ScalarInstr::Reduce(Reduction::All, V2, M1),
+        ScalarInstr::Reduce {
+            op: Reduction::All,
+            vector: V2,
+            mask: M1,
+        },
         Rule::BadRegister,
     ),
     (
         V0,
-        ScalarInstr::Reduce(Reduction::All, V2, M1),
+        ScalarInstr::Reduce {
+            op: Reduction::All,
+            vector: V2,
+            mask: M1,
+        },
         Rule::BadKind,
     ),
     (
         S0,
-        ScalarInstr::Reduce(Reduction::All, V2, M1),
+        ScalarInstr::Reduce {
+            op: Reduction::All,
+            vector: V2,
+            mask: M1,
+        },
         Rule::BadKind,
     ),
     (
         S2,
-        ScalarInstr::Reduce(Reduction::All, V9, M1),
+        ScalarInstr::Reduce {
+            op: Reduction::All,
+            vector: V9,
+            mask: M1,
+        },
         Rule::BadRegister,
     ),
     (
         S2,
-        ScalarInstr::Reduce(Reduction::All, S0, M1),
+        ScalarInstr::Reduce {
+            op: Reduction::All,
+            vector: S0,
+            mask: M1,
+        },
         Rule::BadKind,
     ),
     (
         S2,
-        ScalarInstr::Reduce(Reduction::All, V4, M1),
+        ScalarInstr::Reduce {
+            op: Reduction::All,
+            vector: V4,
+            mask: M1,
+        },
         Rule::BadKind,
     ),
     (
         S2,
-        ScalarInstr::Reduce(Reduction::All, V2, M9),
+        ScalarInstr::Reduce {
+            op: Reduction::All,
+            vector: V2,
+            mask: M9,
+        },
         Rule::BadRegister,
     ),
     (
         S2,
-        ScalarInstr::Reduce(Reduction::All, V2, S0),
+        ScalarInstr::Reduce {
+            op: Reduction::All,
+            vector: V2,
+            mask: S0,
+        },
         Rule::BadKind,
     ),
-    (S9, ScalarInstr::Extract(V1, S1, M0), Rule::BadRegister),
-    (V0, ScalarInstr::Extract(V1, S1, M0), Rule::BadKind),
-    (S2, ScalarInstr::Extract(V1, S1, M0), Rule::BadKind),
-    (S0, ScalarInstr::Extract(V9, S1, M0), Rule::BadRegister),
-    (S0, ScalarInstr::Extract(S0, S1, M0), Rule::BadKind),
-    (S0, ScalarInstr::Extract(V3, S1, M0), Rule::BadKind),
-    (S0, ScalarInstr::Extract(V1, S9, M0), Rule::BadRegister),
-    (S0, ScalarInstr::Extract(V1, V0, M0), Rule::BadKind),
-    (S0, ScalarInstr::Extract(V1, S3, M0), Rule::BadKind),
-    (S0, ScalarInstr::Extract(V1, S1, M9), Rule::BadRegister),
-    (S0, ScalarInstr::Extract(V1, S1, S0), Rule::BadKind),
+    (
+        S9,
+        ScalarInstr::Extract {
+            vector: V1,
+            lane: S1,
+            mask: M0,
+        },
+        Rule::BadRegister,
+    ),
+    (
+        V0,
+        ScalarInstr::Extract {
+            vector: V1,
+            lane: S1,
+            mask: M0,
+        },
+        Rule::BadKind,
+    ),
+    (
+        S2,
+        ScalarInstr::Extract {
+            vector: V1,
+            lane: S1,
+            mask: M0,
+        },
+        Rule::BadKind,
+    ),
+    (
+        S0,
+        ScalarInstr::Extract {
+            vector: V9,
+            lane: S1,
+            mask: M0,
+        },
+        Rule::BadRegister,
+    ),
+    (
+        S0,
+        ScalarInstr::Extract {
+            vector: S0,
+            lane: S1,
+            mask: M0,
+        },
+        Rule::BadKind,
+    ),
+    (
+        S0,
+        ScalarInstr::Extract {
+            vector: V3,
+            lane: S1,
+            mask: M0,
+        },
+        Rule::BadKind,
+    ),
+    (
+        S0,
+        ScalarInstr::Extract {
+            vector: V1,
+            lane: S9,
+            mask: M0,
+        },
+        Rule::BadRegister,
+    ),
+    (
+        S0,
+        ScalarInstr::Extract {
+            vector: V1,
+            lane: V0,
+            mask: M0,
+        },
+        Rule::BadKind,
+    ),
+    (
+        S0,
+        ScalarInstr::Extract {
+            vector: V1,
+            lane: S3,
+            mask: M0,
+        },
+        Rule::BadKind,
+    ),
+    (
+        S0,
+        ScalarInstr::Extract {
+            vector: V1,
+            lane: S1,
+            mask: M9,
+        },
+        Rule::BadRegister,
+    ),
+    (
+        S0,
+        ScalarInstr::Extract {
+            vector: V1,
+            lane: S1,
+            mask: S0,
+        },
+        Rule::BadKind,
+    ),
     (S2, ScalarInstr::Constant(-1), Rule::BadKind),
     (S2, ScalarInstr::Constant(2), Rule::BadKind),
     (S0, ScalarInstr::Constant(-2147483649), Rule::BadKind),

@@ -10,35 +10,214 @@ use isp_code::{
 
 /// Lines of lanes.
 pub(super) static VECTORS: [Line<'static>; 27] = [
-    Line::Vector(V3, VectorInstr::Copy(V1, M1)),
-    Line::Vector(V6, VectorInstr::Convert(V1, M1)),
-    Line::Vector(V3, VectorInstr::Binary(Plain::Add, V1, V2, M1)),
-    Line::Vector(V3, VectorInstr::Binary(Plain::Sub, V1, V2, M1)),
-    Line::Vector(V3, VectorInstr::Binary(Plain::Mul, V1, V2, M1)),
-    Line::Vector(V3, VectorInstr::Binary(Plain::And, V1, V2, M1)),
-    Line::Vector(V3, VectorInstr::Binary(Plain::Or, V1, V2, M1)),
-    Line::Vector(V3, VectorInstr::Binary(Plain::Xor, V1, V2, M1)),
-    Line::Vector(V3, VectorInstr::Binary(Plain::Shl, V1, V2, M1)),
-    Line::Vector(V3, VectorInstr::Binary(Plain::Shr, V1, V2, M1)),
-    Line::Vector(V3, VectorInstr::Binary(Plain::Min, V1, V2, M1)),
-    Line::Vector(V3, VectorInstr::Binary(Plain::Max, V1, V2, M1)),
+    Line::Vector(
+        V3,
+        VectorInstr::Copy {
+            value: V1,
+            mask: M1,
+        },
+    ),
+    Line::Vector(
+        V6,
+        VectorInstr::Convert {
+            value: V1,
+            mask: M1,
+        },
+    ),
+    Line::Vector(
+        V3,
+        VectorInstr::Binary {
+            op: Plain::Add,
+            left: V1,
+            right: V2,
+            mask: M1,
+        },
+    ),
+    Line::Vector(
+        V3,
+        VectorInstr::Binary {
+            op: Plain::Sub,
+            left: V1,
+            right: V2,
+            mask: M1,
+        },
+    ),
+    Line::Vector(
+        V3,
+        VectorInstr::Binary {
+            op: Plain::Mul,
+            left: V1,
+            right: V2,
+            mask: M1,
+        },
+    ),
+    Line::Vector(
+        V3,
+        VectorInstr::Binary {
+            op: Plain::And,
+            left: V1,
+            right: V2,
+            mask: M1,
+        },
+    ),
+    Line::Vector(
+        V3,
+        VectorInstr::Binary {
+            op: Plain::Or,
+            left: V1,
+            right: V2,
+            mask: M1,
+        },
+    ),
+    Line::Vector(
+        V3,
+        VectorInstr::Binary {
+            op: Plain::Xor,
+            left: V1,
+            right: V2,
+            mask: M1,
+        },
+    ),
+    Line::Vector(
+        V3,
+        VectorInstr::Binary {
+            op: Plain::Shl,
+            left: V1,
+            right: V2,
+            mask: M1,
+        },
+    ),
+    Line::Vector(
+        V3,
+        VectorInstr::Binary {
+            op: Plain::Shr,
+            left: V1,
+            right: V2,
+            mask: M1,
+        },
+    ),
+    Line::Vector(
+        V3,
+        VectorInstr::Binary {
+            op: Plain::Min,
+            left: V1,
+            right: V2,
+            mask: M1,
+        },
+    ),
+    Line::Vector(
+        V3,
+        VectorInstr::Binary {
+            op: Plain::Max,
+            left: V1,
+            right: V2,
+            mask: M1,
+        },
+    ),
     Line::Divide(Division::Div, V3, V1, V2, M1, 0),
     Line::Divide(Division::Rem, V3, V1, V2, M1, 0),
-    Line::Vector(V3, VectorInstr::Unary(UnaryOp::Negate, V1, M1)),
-    Line::Vector(V3, VectorInstr::Unary(UnaryOp::Invert, V1, M1)),
-    Line::Vector(V3, VectorInstr::Unary(UnaryOp::Absolute, V1, M1)),
-    Line::Vector(V7, VectorInstr::Unary(UnaryOp::Not, V4, M1)),
-    Line::Vector(V7, VectorInstr::Compare(Compare::Equal, V1, V2, M1)),
-    Line::Vector(V7, VectorInstr::Compare(Compare::NotEqual, V1, V2, M1)),
-    Line::Vector(V7, VectorInstr::Compare(Compare::Less, V1, V2, M1)),
-    Line::Vector(V7, VectorInstr::Compare(Compare::LessOrEqual, V1, V2, M1)),
-    Line::Vector(V7, VectorInstr::Compare(Compare::Greater, V1, V2, M1)),
+    Line::Vector(
+        V3,
+        VectorInstr::Unary {
+            op: UnaryOp::Negate,
+            value: V1,
+            mask: M1,
+        },
+    ),
+    Line::Vector(
+        V3,
+        VectorInstr::Unary {
+            op: UnaryOp::Invert,
+            value: V1,
+            mask: M1,
+        },
+    ),
+    Line::Vector(
+        V3,
+        VectorInstr::Unary {
+            op: UnaryOp::Absolute,
+            value: V1,
+            mask: M1,
+        },
+    ),
     Line::Vector(
         V7,
-        VectorInstr::Compare(Compare::GreaterOrEqual, V1, V2, M1),
+        VectorInstr::Unary {
+            op: UnaryOp::Not,
+            value: V4,
+            mask: M1,
+        },
     ),
-    Line::Vector(V3, VectorInstr::Select(V4, V1, V2, M1)),
-    Line::Vector(V3, VectorInstr::Splat(S0, M1)),
+    Line::Vector(
+        V7,
+        VectorInstr::Compare {
+            op: Compare::Equal,
+            left: V1,
+            right: V2,
+            mask: M1,
+        },
+    ),
+    Line::Vector(
+        V7,
+        VectorInstr::Compare {
+            op: Compare::NotEqual,
+            left: V1,
+            right: V2,
+            mask: M1,
+        },
+    ),
+    Line::Vector(
+        V7,
+        VectorInstr::Compare {
+            op: Compare::Less,
+            left: V1,
+            right: V2,
+            mask: M1,
+        },
+    ),
+    Line::Vector(
+        V7,
+        VectorInstr::Compare {
+            op: Compare::LessOrEqual,
+            left: V1,
+            right: V2,
+            mask: M1,
+        },
+    ),
+    Line::Vector(
+        V7,
+        VectorInstr::Compare {
+            op: Compare::Greater,
+            left: V1,
+            right: V2,
+            mask: M1,
+        },
+    ),
+    Line::Vector(
+        V7,
+        VectorInstr::Compare {
+            op: Compare::GreaterOrEqual,
+            left: V1,
+            right: V2,
+            mask: M1,
+        },
+    ),
+    Line::Vector(
+        V3,
+        VectorInstr::Select {
+            test: V4,
+            if_true: V1,
+            if_false: V2,
+            mask: M1,
+        },
+    ),
+    Line::Vector(
+        V3,
+        VectorInstr::Splat {
+            value: S0,
+            mask: M1,
+        },
+    ),
     Line::Vector(V3, VectorInstr::Index(M1)),
 ];
 
@@ -77,29 +256,172 @@ pub(super) static SCALARS: [Line<'static>; 26] = [
     Line::Scalar(S4, ScalarInstr::Constant(-5)),
     Line::Scalar(S4, ScalarInstr::Copy(S1)),
     Line::Scalar(S3, ScalarInstr::Convert(S1)),
-    Line::Scalar(S4, ScalarInstr::Unary(UnaryOp::Negate, S1)),
-    Line::Scalar(S4, ScalarInstr::Unary(UnaryOp::Invert, S1)),
-    Line::Scalar(S4, ScalarInstr::Unary(UnaryOp::Absolute, S1)),
-    Line::Scalar(S4, ScalarInstr::Binary(Plain::Add, S0, S1)),
-    Line::Scalar(S4, ScalarInstr::Binary(Plain::Sub, S0, S1)),
-    Line::Scalar(S4, ScalarInstr::Binary(Plain::Mul, S0, S1)),
-    Line::Scalar(S4, ScalarInstr::Binary(Plain::And, S0, S1)),
-    Line::Scalar(S4, ScalarInstr::Binary(Plain::Or, S0, S1)),
-    Line::Scalar(S4, ScalarInstr::Binary(Plain::Xor, S0, S1)),
-    Line::Scalar(S4, ScalarInstr::Binary(Plain::Shl, S0, S1)),
-    Line::Scalar(S4, ScalarInstr::Binary(Plain::Shr, S0, S1)),
-    Line::Scalar(S4, ScalarInstr::Binary(Plain::Min, S0, S1)),
-    Line::Scalar(S4, ScalarInstr::Binary(Plain::Max, S0, S1)),
+    Line::Scalar(
+        S4,
+        ScalarInstr::Unary {
+            op: UnaryOp::Negate,
+            value: S1,
+        },
+    ),
+    Line::Scalar(
+        S4,
+        ScalarInstr::Unary {
+            op: UnaryOp::Invert,
+            value: S1,
+        },
+    ),
+    Line::Scalar(
+        S4,
+        ScalarInstr::Unary {
+            op: UnaryOp::Absolute,
+            value: S1,
+        },
+    ),
+    Line::Scalar(
+        S4,
+        ScalarInstr::Binary {
+            op: Plain::Add,
+            left: S0,
+            right: S1,
+        },
+    ),
+    Line::Scalar(
+        S4,
+        ScalarInstr::Binary {
+            op: Plain::Sub,
+            left: S0,
+            right: S1,
+        },
+    ),
+    Line::Scalar(
+        S4,
+        ScalarInstr::Binary {
+            op: Plain::Mul,
+            left: S0,
+            right: S1,
+        },
+    ),
+    Line::Scalar(
+        S4,
+        ScalarInstr::Binary {
+            op: Plain::And,
+            left: S0,
+            right: S1,
+        },
+    ),
+    Line::Scalar(
+        S4,
+        ScalarInstr::Binary {
+            op: Plain::Or,
+            left: S0,
+            right: S1,
+        },
+    ),
+    Line::Scalar(
+        S4,
+        ScalarInstr::Binary {
+            op: Plain::Xor,
+            left: S0,
+            right: S1,
+        },
+    ),
+    Line::Scalar(
+        S4,
+        ScalarInstr::Binary {
+            op: Plain::Shl,
+            left: S0,
+            right: S1,
+        },
+    ),
+    Line::Scalar(
+        S4,
+        ScalarInstr::Binary {
+            op: Plain::Shr,
+            left: S0,
+            right: S1,
+        },
+    ),
+    Line::Scalar(
+        S4,
+        ScalarInstr::Binary {
+            op: Plain::Min,
+            left: S0,
+            right: S1,
+        },
+    ),
+    Line::Scalar(
+        S4,
+        ScalarInstr::Binary {
+            op: Plain::Max,
+            left: S0,
+            right: S1,
+        },
+    ),
     Line::Divide(Division::Div, S4, S0, S1, M0, 0),
     Line::Divide(Division::Rem, S4, S0, S1, M0, 0),
-    Line::Scalar(S5, ScalarInstr::Compare(Compare::Equal, S0, S1)),
-    Line::Scalar(S5, ScalarInstr::Compare(Compare::NotEqual, S0, S1)),
-    Line::Scalar(S5, ScalarInstr::Compare(Compare::Less, S0, S1)),
-    Line::Scalar(S5, ScalarInstr::Compare(Compare::LessOrEqual, S0, S1)),
-    Line::Scalar(S5, ScalarInstr::Compare(Compare::Greater, S0, S1)),
-    Line::Scalar(S5, ScalarInstr::Compare(Compare::GreaterOrEqual, S0, S1)),
-    Line::Scalar(S5, ScalarInstr::Unary(UnaryOp::Not, S5)),
-    Line::Scalar(S4, ScalarInstr::Select(S5, S0, S1)),
+    Line::Scalar(
+        S5,
+        ScalarInstr::Compare {
+            op: Compare::Equal,
+            left: S0,
+            right: S1,
+        },
+    ),
+    Line::Scalar(
+        S5,
+        ScalarInstr::Compare {
+            op: Compare::NotEqual,
+            left: S0,
+            right: S1,
+        },
+    ),
+    Line::Scalar(
+        S5,
+        ScalarInstr::Compare {
+            op: Compare::Less,
+            left: S0,
+            right: S1,
+        },
+    ),
+    Line::Scalar(
+        S5,
+        ScalarInstr::Compare {
+            op: Compare::LessOrEqual,
+            left: S0,
+            right: S1,
+        },
+    ),
+    Line::Scalar(
+        S5,
+        ScalarInstr::Compare {
+            op: Compare::Greater,
+            left: S0,
+            right: S1,
+        },
+    ),
+    Line::Scalar(
+        S5,
+        ScalarInstr::Compare {
+            op: Compare::GreaterOrEqual,
+            left: S0,
+            right: S1,
+        },
+    ),
+    Line::Scalar(
+        S5,
+        ScalarInstr::Unary {
+            op: UnaryOp::Not,
+            value: S5,
+        },
+    ),
+    Line::Scalar(
+        S4,
+        ScalarInstr::Select {
+            test: S5,
+            if_true: S0,
+            if_false: S1,
+        },
+    ),
 ];
 
 /// What is seen of them.
@@ -132,15 +454,42 @@ true true true
 
 /// Lines of masks.
 pub(super) static MASKS: [Line<'static>; 10] = [
-    Line::Mask(M3, MaskInstr::Binary(MaskOp::And, M1, M2)),
-    Line::Mask(M3, MaskInstr::Binary(MaskOp::Or, M1, M2)),
-    Line::Mask(M3, MaskInstr::Binary(MaskOp::AndNot, M1, M2)),
+    Line::Mask(
+        M3,
+        MaskInstr::Binary {
+            op: MaskOp::And,
+            left: M1,
+            right: M2,
+        },
+    ),
+    Line::Mask(
+        M3,
+        MaskInstr::Binary {
+            op: MaskOp::Or,
+            left: M1,
+            right: M2,
+        },
+    ),
+    Line::Mask(
+        M3,
+        MaskInstr::Binary {
+            op: MaskOp::AndNot,
+            left: M1,
+            right: M2,
+        },
+    ),
     Line::Mask(M3, MaskInstr::Copy(M2)),
     Line::Mask(M3, MaskInstr::Full),
     Line::Mask(M3, MaskInstr::Off),
-    Line::Mask(M3, MaskInstr::Test(V0, M2)),
+    Line::Mask(
+        M3,
+        MaskInstr::Test {
+            vector: V0,
+            mask: M2,
+        },
+    ),
     Line::Mask(M3, MaskInstr::Lowest(M2)),
-    Line::Mask(M3, MaskInstr::Range(S2, S6)),
+    Line::Mask(M3, MaskInstr::Range { first: S2, end: S6 }),
     Line::Scalar(S3, ScalarInstr::First(M2)),
 ];
 
@@ -159,22 +508,139 @@ pub(super) const MASKS_SEEN: &str =
 
 /// Lines across lanes.
 pub(super) static ACROSS: [Line<'static>; 16] = [
-    Line::Scalar(S3, ScalarInstr::Reduce(Reduction::Add, V1, M1)),
-    Line::Scalar(S4, ScalarInstr::Reduce(Reduction::Min, V1, M1)),
-    Line::Scalar(S4, ScalarInstr::Reduce(Reduction::Max, V1, M1)),
-    Line::Scalar(S5, ScalarInstr::Reduce(Reduction::Equal, V1, M1)),
-    Line::Scalar(S5, ScalarInstr::Reduce(Reduction::Any, V4, M1)),
-    Line::Scalar(S5, ScalarInstr::Reduce(Reduction::All, V4, M1)),
-    Line::Vector(V3, VectorInstr::Scan(Scan::Add, V1, M1)),
-    Line::Vector(V3, VectorInstr::Scan(Scan::And, V1, M1)),
-    Line::Vector(V3, VectorInstr::Scan(Scan::Or, V1, M1)),
-    Line::Vector(V3, VectorInstr::Exchange(Exchange::Broadcast, V1, S0, M1)),
-    Line::Vector(V3, VectorInstr::Exchange(Exchange::Rotate, V1, S0, M1)),
-    Line::Vector(V3, VectorInstr::Exchange(Exchange::Shift, V1, S0, M1)),
-    Line::Vector(V3, VectorInstr::Shuffle(V1, V2, M1)),
-    Line::Vector(V3, VectorInstr::ShuffleTwo(V2, V1, V1, M1)),
-    Line::Vector(V3, VectorInstr::Insert(V1, S0, S1, M1)),
-    Line::Scalar(S4, ScalarInstr::Extract(V1, S0, M1)),
+    Line::Scalar(
+        S3,
+        ScalarInstr::Reduce {
+            op: Reduction::Add,
+            vector: V1,
+            mask: M1,
+        },
+    ),
+    Line::Scalar(
+        S4,
+        ScalarInstr::Reduce {
+            op: Reduction::Min,
+            vector: V1,
+            mask: M1,
+        },
+    ),
+    Line::Scalar(
+        S4,
+        ScalarInstr::Reduce {
+            op: Reduction::Max,
+            vector: V1,
+            mask: M1,
+        },
+    ),
+    Line::Scalar(
+        S5,
+        ScalarInstr::Reduce {
+            op: Reduction::Equal,
+            vector: V1,
+            mask: M1,
+        },
+    ),
+    Line::Scalar(
+        S5,
+        ScalarInstr::Reduce {
+            op: Reduction::Any,
+            vector: V4,
+            mask: M1,
+        },
+    ),
+    Line::Scalar(
+        S5,
+        ScalarInstr::Reduce {
+            op: Reduction::All,
+            vector: V4,
+            mask: M1,
+        },
+    ),
+    Line::Vector(
+        V3,
+        VectorInstr::Scan {
+            op: Scan::Add,
+            value: V1,
+            mask: M1,
+        },
+    ),
+    Line::Vector(
+        V3,
+        VectorInstr::Scan {
+            op: Scan::And,
+            value: V1,
+            mask: M1,
+        },
+    ),
+    Line::Vector(
+        V3,
+        VectorInstr::Scan {
+            op: Scan::Or,
+            value: V1,
+            mask: M1,
+        },
+    ),
+    Line::Vector(
+        V3,
+        VectorInstr::Exchange {
+            op: Exchange::Broadcast,
+            vector: V1,
+            by: S0,
+            mask: M1,
+        },
+    ),
+    Line::Vector(
+        V3,
+        VectorInstr::Exchange {
+            op: Exchange::Rotate,
+            vector: V1,
+            by: S0,
+            mask: M1,
+        },
+    ),
+    Line::Vector(
+        V3,
+        VectorInstr::Exchange {
+            op: Exchange::Shift,
+            vector: V1,
+            by: S0,
+            mask: M1,
+        },
+    ),
+    Line::Vector(
+        V3,
+        VectorInstr::Shuffle {
+            vector: V1,
+            lanes: V2,
+            mask: M1,
+        },
+    ),
+    Line::Vector(
+        V3,
+        VectorInstr::ShuffleTwo {
+            first: V2,
+            second: V1,
+            lanes: V1,
+            mask: M1,
+        },
+    ),
+    Line::Vector(
+        V3,
+        VectorInstr::Insert {
+            vector: V1,
+            lane: S0,
+            value: S1,
+            mask: M1,
+        },
+    ),
+    Line::Scalar(
+        S4,
+        ScalarInstr::Extract {
+            vector: V1,
+            lane: S0,
+            mask: M1,
+        },
+    ),
 ];
 
 /// What is seen of them.
@@ -197,9 +663,33 @@ false false false
 
 /// Lines of arrays.
 pub(super) static MEMORY: [Line<'static>; 8] = [
-    Line::Scalar(S4, ScalarInstr::Load(A0, S2, M0, 0)),
-    Line::Vector(V3, VectorInstr::Gather(A0, V5, M1, 0)),
-    Line::Vector(V3, VectorInstr::LoadRun(A1, S2, M1, 0)),
+    Line::Scalar(
+        S4,
+        ScalarInstr::Load {
+            array: A0,
+            index: S2,
+            mask: M0,
+            place: 0,
+        },
+    ),
+    Line::Vector(
+        V3,
+        VectorInstr::Gather {
+            array: A0,
+            indices: V5,
+            mask: M1,
+            place: 0,
+        },
+    ),
+    Line::Vector(
+        V3,
+        VectorInstr::LoadRun {
+            array: A1,
+            index: S2,
+            mask: M1,
+            place: 0,
+        },
+    ),
     Line::PackedLoad(S4, A0, S2, V3, M1, 0),
     Line::Store(A0, S2, S0, M0, 0),
     Line::Scatter(A0, V5, V1, M1, 0),

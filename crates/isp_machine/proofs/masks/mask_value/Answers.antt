@@ -9,4 +9,4 @@ use Rattle.isp_machine.proofs.masks.mask_value.Goals as goal
 pub returns-in-Range : goal.returns-in-Range
 returns-in-Range g c = λ s ws out.
     ap (λ (i : MaskInstr). mask_value c.args.here.now.code c.args.here.now.routine (conf_of s c.args.frame.now ws out) i) c.in-Range.is
-    ∙ sym (c.range.ensures ∙ (λ j p. nat_lt p (c.requires.gang j) && int_lt (number I64 (scalars_at c.args.frame.now c.in-Range.x.number) +ℤ pos p) (number I64 (scalars_at c.args.frame.now c.in-Range.y.number))))
+    ∙ sym (c.range.ensures ∙ (λ j p. nat_lt p (c.requires.gang j) && int_lt (number I64 (scalars_at c.args.frame.now c.in-Range.first.number) +ℤ pos p) (number I64 (scalars_at c.args.frame.now c.in-Range.end.number))))

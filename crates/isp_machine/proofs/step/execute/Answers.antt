@@ -74,8 +74,8 @@ returns-in_ok-print_vector-in-PrintVector-clause-done g c =
     let stores : c.run-inside-in-PrintVector.inside.0.1.1.0 ≡ c.run.inside.stores = search rules in
     let out : c.run-inside-in-PrintVector.inside.0.1.1.1.0.items ≡ c.run.inside.out.items = search rules in
     let is = (λ j. run_of (stores j) (frame j) (waiting j) (out j)) ∙ c.run.view_is in
-    spoken g.row.N h c.args.instr.now c.args.run.now c.requires.found c.requires.sound _ is _ c.requires.went (instr.PrintVector c.in-PrintVector.x c.in-PrintVector.k) c.in-PrintVector.is low
-    (list_text (elem_of h.routine c.in-PrintVector.x) (gang_width h.code.gang) (on (masks_at f c.in-PrintVector.k.number) (vectors_at f c.in-PrintVector.x.number)))
+    spoken g.row.N h c.args.instr.now c.args.run.now c.requires.found c.requires.sound _ is _ c.requires.went (instr.PrintVector c.in-PrintVector.vector c.in-PrintVector.mask) c.in-PrintVector.is low
+    (list_text (elem_of h.routine c.in-PrintVector.vector) (gang_width h.code.gang) (on (masks_at f c.in-PrintVector.mask.number) (vectors_at f c.in-PrintVector.vector.number)))
     c.print_vector.new.frame c.print_vector.new.out.items c.in_ok-print_vector-in-PrintVector.ensures.ok c.in_ok-print_vector-in-PrintVector.ensures.written
 
 pub returns-in-Return-clause-done : goal.returns-in-Return-clause-done
@@ -86,7 +86,7 @@ pub scatter-requires : goal.scatter-requires
 scatter-requires g c =
     let h = c.args.here.now in
     let i = c.in-Scatter in
-    let op = instr.Scatter i.a i.i i.y i.k i.place in
+    let op = instr.Scatter i.array i.indices i.value i.mask i.place in
     search rules
 
 pub returns-in-Scatter-clause-done : goal.returns-in-Scatter-clause-done
@@ -98,7 +98,7 @@ returns-in-Scatter-clause-done g c =
     let stores : c.run-inside-in-Scatter.inside.0.1.1.0 ≡ c.run.inside.stores = search rules in
     let out : c.run-inside-in-Scatter.inside.0.1.1.1.0.items ≡ c.run.inside.out.items = search rules in
     let is = (λ j. run_of (stores j) (frame j) (waiting j) (out j)) ∙ c.run.view_is in
-    came g.row.N c.args.here.now c.args.instr.now c.args.run.now c.requires.found c.requires.sound _ is computes c.requires.operands c.requires.next (instr.Scatter k.a k.i k.y k.k k.place) k.is c.scatter.new.stores c.scatter.new.frame c.scatter.new.ending c.scatter.ensures
+    came g.row.N c.args.here.now c.args.instr.now c.args.run.now c.requires.found c.requires.sound _ is computes c.requires.operands c.requires.next (instr.Scatter k.array k.indices k.value k.mask k.place) k.is c.scatter.new.stores c.scatter.new.frame c.scatter.new.ending c.scatter.ensures
 
 pub returns-in_default-compute : goal.returns-in_default-compute
 returns-in_default-compute g c =
