@@ -4,6 +4,7 @@ use Rattle.std.specs.List.{All}
 use Rattle.std.proofs.Common.{refl, sym, ap, ◌∙◌, subst, arith, pow_pos, inl, inr, lt-ltb, le-ltb, ltb-true}
 use Rattle.std.proofs.lemmas.List.Elements.{All-head, All-tail}
 use Rattle.std.proofs.lemmas.Option.{get_or_from_slice_get, slice_get_within}
+use Rattle.isp_base.specs.Maps.{over}
 use Rattle.isp_base.specs.Sets.{Mask}
 use Rattle.isp_base.specs.Types.{gang_width}
 use Rattle.isp_base.specs.Values.{width}
@@ -22,10 +23,10 @@ use Rattle.isp_rates.specs.Breaches.{OfEach}
 use Rattle.isp_rates.specs.Exits.{at_start, BlockBreach}
 use Rattle.isp_rates.specs.Program.{FunctionBreach}
 use Rattle.isp_meaning.specs.State.{State}
-use Rattle.isp_meaning.specs.Payloads.{spread}
+use Rattle.isp_meaning.specs.Payloads.{sole, spread}
 use Rattle.isp_meaning.specs.Outcomes.{Res, Went, Trapped, Cut}
 use Rattle.isp_meaning.specs.Expressions.{Passed, Values, Store}
-use Rattle.isp_meaning.specs.Calls.{size_at, size_of, shared_sizes, store_or, frame_of, one_at, each_at, one_held, each_held, one_passed, each_passed, begun, answer_at, answer_of, resumed, ended, called, calls_at}
+use Rattle.isp_meaning.specs.Calls.{size_at, size_of, shared_sizes, store_or, frame_of, same_rate, is_value, one_passed, each_passed, begun, answer_at, answer_of, resumed, ended, called, calls_at}
 use Rattle.isp_fits.proofs.Bounds.{Fits, on_under, old_under, sole_under, spread_inside}
 use Rattle.isp_fits.proofs.Typing.{World, Stands, IsStore, SharedRate, SharedHeld, SharedBy, held_elem, elem_if, answer_elem, some_same, Left, Sound, ValFits, ResFits, left_of, gives_fits}
 use Rattle.isp_fits.proofs.Expressions.{NoneOf, Passes, ArgumentsFit, CallsFit}
@@ -126,11 +127,11 @@ one_fits gang w (Some v) None h = pow_pos (width (held_elem v.holds))
 one_fits gang w (Some v) (Some (Store b)) h = pow_pos (width (held_elem v.holds))
 one_fits gang w (Some v) (Some (Values m)) h = by v.holds h
   where
-    rated : (t : Elem) (r : Rate) → Fits gang t m → one_at r m < 2 ^ width t
+    rated : (t : Elem) (r : Rate) → Fits gang t m → (if same_rate Uniform r then sole m else 0) < 2 ^ width t
     rated t Uniform h = sole_under gang (2 ^ width t) (pow_pos (width t)) m h
     rated t Varying h = pow_pos (width t)
 
-    by : (o : Holds) → Passes gang w o (Values m) → one_held o m < 2 ^ width (held_elem o)
+    by : (o : Holds) → Passes gang w o (Values m) → (if is_value Uniform o then sole m else 0) < 2 ^ width (held_elem o)
     by (hold.Value t) h = rated t.elem t.rate h
     by (hold.Given e) h = pow_pos (width e)
     by (hold.Local t n) h = pow_pos (width t.elem)
@@ -141,11 +142,11 @@ each_fits gang w (Some v) a None h p l = pow_pos (width (held_elem v.holds))
 each_fits gang w (Some v) a (Some (Store b)) h p l = pow_pos (width (held_elem v.holds))
 each_fits gang w (Some v) a (Some (Values m)) h p l = by v.holds h
   where
-    rated : (t : Elem) (r : Rate) → Fits gang t m → each_at r a m p < 2 ^ width t
+    rated : (t : Elem) (r : Rate) → Fits gang t m → (if same_rate Varying r then over (spread a m) (λ q. 0) else (λ q. 0)) p < 2 ^ width t
     rated t Uniform h = pow_pos (width t)
     rated t Varying h = old_under (2 ^ width t) (spread a m p) 0 (spread_inside gang (2 ^ width t) a m h p l) (pow_pos (width t))
 
-    by : (o : Holds) → Passes gang w o (Values m) → each_held o a m p < 2 ^ width (held_elem o)
+    by : (o : Holds) → Passes gang w o (Values m) → (if is_value Varying o then over (spread a m) (λ q. 0) else (λ q. 0)) p < 2 ^ width (held_elem o)
     by (hold.Value t) h = rated t.elem t.rate h
     by (hold.Given e) h = pow_pos (width e)
     by (hold.Local t n) h = pow_pos (width t.elem)

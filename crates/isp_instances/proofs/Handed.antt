@@ -2,7 +2,7 @@
 use Rattle.std.proofs.Common.{◌≡◌, ℕ, zero, suc, ◌<◌, ◌≤◌, Bool, true, false, refl, sym, ap, ◌∙◌, subst, arith}
 use Rattle.std.specs.Prelude.{List, [], ◌∷◌, take, Option, Some, None, if◌then◌else◌, slice_get}
 use Rattle.isp_base.specs.Sets.{Mask}
-use Rattle.isp_base.specs.Maps.{on, or_old}
+use Rattle.isp_base.specs.Maps.{on, over, or_old}
 use Rattle.isp_base.specs.declared.types.Rate.{Rate}
 use Rattle.isp_base.specs.declared.types.Rate.TheVariants.{Uniform, Varying}
 use Rattle.isp_base.specs.declared.types.Ty.{Ty}
@@ -13,8 +13,8 @@ use Rattle.isp_typed.specs.Fine.{array_type}
 use Rattle.isp_meaning.specs.State.{Frame}
 use Rattle.isp_meaning.specs.Payloads.{Payload, One, Each, sole, spread}
 use Rattle.isp_meaning.specs.Expressions.{Passed, Values, Store}
-use Rattle.isp_meaning.specs.Calls.{size_at, size_of, shared_sizes, store_or, one_at, each_at, one_held, each_held, one_passed, each_passed}
-use Rattle.isp_alone.specs.Calls.{of_rate, value_held, value_passed}
+use Rattle.isp_meaning.specs.Calls.{size_at, size_of, shared_sizes, store_or, same_rate, is_value, one_passed, each_passed}
+use Rattle.isp_alone.specs.Calls.{value_passed}
 use Rattle.isp_instances.specs.Stands.{IsOpen}
 use Rattle.isp_instances.specs.Values.{IsOne, PassedAt, AllPassedAt, Suits, AllSuit}
 use Rattle.isp_instances.proofs.Lanes.{one_is}
@@ -91,11 +91,11 @@ module _ (opened : ℕ) (a : Mask) (p : ℕ) where
   each_in e (Some x) None o h = absurd h
   each_in e (Some x) (Some y) None h = absurd h
   each_in e (Some (Values m)) (Some (Values (One y))) (Some v) h = by v.holds where
-    rated : (r : Rate) → each_at r a m p ≡ of_rate Varying r y
+    rated : (r : Rate) → (if same_rate Varying r then over (spread a m) (λ q. 0) else (λ q. 0)) p ≡ (if same_rate Varying r then y else 0)
     rated Uniform = refl
     rated Varying = ap (λ z. or_old z 0) (h.0 ∙ ap (λ t. if t then Some y else None) e)
 
-    by : (o : Holds) → each_held o a m p ≡ value_held Varying o y
+    by : (o : Holds) → (if is_value Varying o then over (spread a m) (λ q. 0) else (λ q. 0)) p ≡ (if is_value Varying o then y else 0)
     by (holds.Value t) = rated t.rate
     by (holds.Given u) = refl
     by (holds.Local t n) = refl
@@ -111,11 +111,11 @@ module _ (opened : ℕ) (a : Mask) (p : ℕ) where
   each_out e (Some x) None o h = absurd h
   each_out e (Some x) (Some y) None h = absurd h
   each_out e (Some (Values m)) (Some (Values (One y))) (Some v) h = by v.holds where
-    rated : (r : Rate) → each_at r a m p ≡ 0
+    rated : (r : Rate) → (if same_rate Varying r then over (spread a m) (λ q. 0) else (λ q. 0)) p ≡ 0
     rated Uniform = refl
     rated Varying = ap (λ z. or_old z 0) (h.0 ∙ ap (λ t. if t then Some y else None) e)
 
-    by : (o : Holds) → each_held o a m p ≡ 0
+    by : (o : Holds) → (if is_value Varying o then over (spread a m) (λ q. 0) else (λ q. 0)) p ≡ 0
     by (holds.Value t) = rated t.rate
     by (holds.Given u) = refl
     by (holds.Local t n) = refl
@@ -141,11 +141,11 @@ module _ (opened : ℕ) (a : Mask) (p : ℕ) where
   uniform_begun e (Some x) None o h = absurd h
   uniform_begun e (Some x) (Some y) None h = absurd h
   uniform_begun e (Some (Values m)) (Some (Values (One y))) (Some v) h = by v.holds h.1 where
-    rated : (r : Rate) → (r ≡ Uniform → IsOne m) → of_rate Uniform r y ≡ one_at r m
+    rated : (r : Rate) → (r ≡ Uniform → IsOne m) → (if same_rate Uniform r then y else 0) ≡ (if same_rate Uniform r then sole m else 0)
     rated Uniform s = sole_handed m y (s refl) h.0 e
     rated Varying s = refl
 
-    by : (o : Holds) → Suits opened o (Values m) → value_held Uniform o y ≡ one_held o m
+    by : (o : Holds) → Suits opened o (Values m) → (if is_value Uniform o then y else 0) ≡ (if is_value Uniform o then sole m else 0)
     by (holds.Value t) s = rated t.rate s
     by (holds.Given u) s = refl
     by (holds.Local t n) s = refl

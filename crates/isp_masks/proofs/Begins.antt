@@ -1,7 +1,7 @@
 -- Where a run begins: what is passed stands where the layout says.
 use Rattle.std.proofs.Common.{◌≡◌, ℕ, zero, suc, List, [], ◌∷◌, length, take, Some, None, Bool, true, false, refl, sym, ap, ◌∙◌, subst, arith}
 use Rattle.std.proofs.lemmas.Option.{same_Some}
-use Rattle.std.specs.Prelude.{slice_get, slice_index, not}
+use Rattle.std.specs.Prelude.{if◌then◌else◌, slice_get, slice_index, not}
 use Rattle.std.proofs.lemmas.List.{get_or_past}
 use Rattle.isp_base.specs.Binding.{is_for, has_signature}
 use Rattle.isp_base.specs.Sets.{everyone, nobody}
@@ -18,7 +18,7 @@ use Rattle.isp_typed.specs.Typed.{Program, TFunction}
 use Rattle.isp_typed.specs.declared.variable.Holds.{Holds}
 use Rattle.isp_typed.specs.declared.variable.Holds.TheVariants as holds
 use Rattle.isp_typed.specs.declared.variable.Variable.{Variable}
-use Rattle.isp_meaning.specs.Calls.{one_at, one_held, one_passed}
+use Rattle.isp_meaning.specs.Calls.{is_value, same_rate, one_passed}
 use Rattle.isp_meaning.specs.Payloads.{One}
 use Rattle.isp_meaning.specs.Runs.{handed}
 use Rattle.isp_lower.specs.Layout.{Layout}
@@ -71,8 +71,8 @@ array_counts p (holds.Value t) n is e = let no : false ≡ true = sym is.0 ∙ e
 array_counts p (holds.Given t) n is e = refl
 array_counts p (holds.Local t m) n is e = absurd is
 
-one_holds : (y : Holds) (z : ℕ) → HasRate Uniform y → one_held y (One z) ≡ z
-one_holds (holds.Value t) z has = ap (λ r. one_at r (One z)) has
+one_holds : (y : Holds) (z : ℕ) → HasRate Uniform y → (if is_value Uniform y then z else 0) ≡ z
+one_holds (holds.Value t) z has = ap (λ r. if same_rate Uniform r then z else 0) has
 one_holds (holds.Given t) z has = absurd has
 one_holds (holds.Local t n) z has = absurd has
 

@@ -1,7 +1,7 @@
 -- What is handed over to a call: the registers of each class, in order, are the values and the arrays of its parameters.
 use Rattle.std.proofs.Common.{◌≡◌, ℕ, zero, suc, ◌<◌, ◌≤◌, ◌^◌, List, [], ◌∷◌, length, take, Option, Some, None, Bool, true, false, refl, sym, ap, ◌∙◌, subst, arith}
 use Rattle.std.proofs.lemmas.Option.{same_Some}
-use Rattle.std.specs.Prelude.{slice_get}
+use Rattle.std.specs.Prelude.{if◌then◌else◌, slice_get}
 use Rattle.isp_base.specs.Maps.{Lanes, on, over}
 use Rattle.isp_base.specs.Sets.{Mask}
 use Rattle.isp_base.specs.declared.signature.Parameter.{Parameter}
@@ -18,7 +18,7 @@ use Rattle.isp_typed.specs.Typed.{TFunction}
 use Rattle.isp_typed.specs.declared.variable.Holds.{Holds as Held}
 use Rattle.isp_typed.specs.declared.variable.Holds.TheVariants as holds
 use Rattle.isp_typed.specs.declared.variable.Variable.{Variable}
-use Rattle.isp_meaning.specs.Calls.{one_passed, each_passed, one_at, each_at, one_held, each_held}
+use Rattle.isp_meaning.specs.Calls.{one_passed, each_passed, is_value}
 use Rattle.isp_meaning.specs.Expressions.{Passed, Values, Store}
 use Rattle.isp_meaning.specs.Payloads.{Payload, One, Each, sole, spread}
 use Rattle.isp_meaning.specs.State.{Frame}
@@ -171,8 +171,8 @@ module _ (a : Mask) (c : Conf) where
   one_is : (y : Variable) (o : Option ℕ) (z : Option Passed) → HasRate Uniform y.holds → IsValue Uniform o z → from 0 c.scalars o ≡ one_passed (Some y) z
   one_is y o z has v = ap (from 0 c.scalars) v.at ∙ ap sole (sym v.held) ∙ sym (held y.holds has) ∙ ap (one_passed (Some y)) (sym v.passed)
     where
-      held : (h : Held) → HasRate Uniform h → one_held h v.value ≡ sole v.value
-      held (holds.Value t) e = ap (λ r. one_at r v.value) e
+      held : (h : Held) → HasRate Uniform h → (if is_value Uniform h then sole v.value else 0) ≡ sole v.value
+      held (holds.Value t) e = ap (λ r. if same_rate Uniform r then sole v.value else 0) e
       held (holds.Given t) e = absurd e
       held (holds.Local t n) e = absurd e
 
@@ -183,8 +183,8 @@ module _ (a : Mask) (c : Conf) where
   each_is : (y : Variable) (o : Option ℕ) (z : Option Passed) → HasRate Varying y.holds → IsValue Varying o z → from (λ p. 0) (λ x. over (on a (c.vectors x)) (λ p. 0)) o ≡ each_passed (Some y) a z
   each_is y o z has v = ap (from (λ p. 0) (λ x. over (on a (c.vectors x)) (λ p. 0))) v.at ∙ ap lanes_of (sym v.held) ∙ sym (held y.holds has) ∙ ap (each_passed (Some y) a) (sym v.passed)
     where
-      held : (h : Held) → HasRate Varying h → each_held h a v.value ≡ over (spread a v.value) (λ p. 0)
-      held (holds.Value t) e = ap (λ r. each_at r a v.value) e
+      held : (h : Held) → HasRate Varying h → (if is_value Varying h then over (spread a v.value) (λ p. 0) else (λ p. 0)) ≡ over (spread a v.value) (λ p. 0)
+      held (holds.Value t) e = ap (λ r. if same_rate Varying r then over (spread a v.value) (λ p. 0) else (λ p. 0)) e
       held (holds.Given t) e = absurd e
       held (holds.Local t n) e = absurd e
 

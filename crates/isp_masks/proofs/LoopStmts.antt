@@ -1,6 +1,6 @@
 -- The code of a loop does what the loop means, where the code of its body does.
 use Rattle.std.proofs.Common.{false, ◌≡◌, ℕ, ◌+◌, ◌≤◌, List, ◌++◌, length, Option, Some, None, refl, sym, ◌∙◌, subst, arith, length-append}
-use Rattle.isp_base.specs.Sets.{Mask, nobody}
+use Rattle.isp_base.specs.Sets.{Mask}
 use Rattle.isp_base.specs.Types.{gang_width}
 use Rattle.isp_base.specs.declared.types.Span.{Span}
 use Rattle.isp_code.specs.Conf.{Conf}
@@ -10,7 +10,7 @@ use Rattle.isp_typed.specs.Fine.{heads}
 use Rattle.isp_typed.specs.Typed.{TExpr, type_of, TSimple, TFirst, t_first_declare, t_first_simple, TStmt, t_while, t_do, t_for}
 use Rattle.isp_meaning.specs.Expressions.{value}
 use Rattle.isp_meaning.specs.Laws.{Parted}
-use Rattle.isp_meaning.specs.Loops.{tested, turns}
+use Rattle.isp_meaning.specs.Loops.{while_turns}
 use Rattle.isp_meaning.specs.Outcomes.{Val, Gives, Fails, Stops, Done, Res, with_value}
 use Rattle.isp_meaning.specs.Simple.{first_part, step_part}
 use Rattle.isp_meaning.specs.State.{State, tick}
@@ -147,7 +147,7 @@ module _ (w : Setting) (ready : IsSettled w) where
       let test = test_part (gang_of w) w.frame (calls_of w) o in
       let body = run (gang_of w) w.frame (calls_of w) w.turns x in
       let stepping = step_part (gang_of w) w.frame (calls_of w) step in
-      tested (gang_of w) test body stepping a (turns (gang_of w) test body stepping a w.turns) a nobody s1
+      while_turns (gang_of w) test body stepping a w.turns s1
 
   pub for_runs : (f : Form) (g : ℕ) (first : Option TFirst) (o : Option TExpr) (step : Option TSimple) (i : ℕ) (x : TStmt) (sp : Span) → CodeRuns x → CodeRuns (t_for f g first o step i x sp)
   for_runs f g first None step i x sp r pc z spot q a s c fit has names three b =

@@ -5,7 +5,7 @@ use Rattle.std.proofs.lemmas.Option.{same_Some}
 use Rattle.std.specs.Prelude.{slice_get, if◌then◌else◌}
 use Rattle.std.proofs.lemmas.Bool.{ne_eqb}
 use Rattle.std.proofs.lemmas.List.{append_assoc}
-use Rattle.isp_base.specs.Maps.{Lanes}
+use Rattle.isp_base.specs.Maps.{Lanes, over}
 use Rattle.isp_base.specs.Sets.{Mask}
 use Rattle.isp_base.specs.declared.types.Rate.{Rate}
 use Rattle.isp_base.specs.declared.types.Rate.TheVariants.{Uniform, Varying}
@@ -14,9 +14,9 @@ use Rattle.isp_typed.specs.Typed.{TFunction}
 use Rattle.isp_typed.specs.declared.variable.Holds.{Holds}
 use Rattle.isp_typed.specs.declared.variable.Holds.TheVariants as holds
 use Rattle.isp_typed.specs.declared.variable.Variable.{Variable as Declared}
-use Rattle.isp_meaning.specs.Calls.{one_at, each_at, one_held, each_held, one_passed, each_passed}
+use Rattle.isp_meaning.specs.Calls.{is_value, one_passed, each_passed}
 use Rattle.isp_meaning.specs.Expressions.{Passed, Values, Store}
-use Rattle.isp_meaning.specs.Payloads.{Payload}
+use Rattle.isp_meaning.specs.Payloads.{Payload, sole, spread}
 use Rattle.isp_lower.specs.Code.{same_rate}
 use Rattle.isp_lower.specs.Emitted.{Begins, row_at, row_where, value_row, value_rows, result_rows, first_rows}
 use Rattle.isp_lower.specs.Layout.{Layout}
@@ -145,19 +145,19 @@ none_each : (o : Option Declared) (a : Mask) → each_passed o a None ≡ (λ p.
 none_each None a = refl
 none_each (Some x) a = refl
 
-no_one : (y : Holds) (z : Payload) → (HasRate Uniform y → ⊥) → one_held y z ≡ 0
+no_one : (y : Holds) (z : Payload) → (HasRate Uniform y → ⊥) → (if is_value Uniform y then sole z else 0) ≡ 0
 no_one (holds.Value t) z lacks = go t.rate refl
   where
-    go : (r : Rate) → t.rate ≡ r → one_at r z ≡ 0
+    go : (r : Rate) → t.rate ≡ r → (if same_rate Uniform r then sole z else 0) ≡ 0
     go Uniform e = absurd (lacks e)
     go Varying e = refl
 no_one (holds.Given t) z lacks = refl
 no_one (holds.Local t n) z lacks = refl
 
-no_each : (y : Holds) (a : Mask) (z : Payload) → (HasRate Varying y → ⊥) → each_held y a z ≡ (λ p. 0)
+no_each : (y : Holds) (a : Mask) (z : Payload) → (HasRate Varying y → ⊥) → (if is_value Varying y then over (spread a z) (λ p. 0) else (λ p. 0)) ≡ (λ p. 0)
 no_each (holds.Value t) a z lacks = go t.rate refl
   where
-    go : (r : Rate) → t.rate ≡ r → each_at r a z ≡ (λ p. 0)
+    go : (r : Rate) → t.rate ≡ r → (if same_rate Varying r then over (spread a z) (λ p. 0) else (λ p. 0)) ≡ (λ p. 0)
     go Uniform e = refl
     go Varying e = absurd (lacks e)
 no_each (holds.Given t) a z lacks = refl

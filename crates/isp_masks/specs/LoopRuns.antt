@@ -1,13 +1,14 @@
 -- What holds of the code of every loop, by what holds of the codes of its parts.
 use Rattle.std.specs.Prelude.{ℕ, ◌+◌, List, length, Bool}
-use Rattle.isp_base.specs.Sets.{Mask, nobody}
+use Rattle.isp_base.specs.Sets.{Mask}
 use Rattle.isp_base.specs.declared.types.Rate.{Rate}
 use Rattle.isp_code.specs.Conf.{Conf}
 use Rattle.isp_code.specs.declared.instr.Instr.{Instr}
 use Rattle.isp_meaning.specs.Laws.{Parted}
-use Rattle.isp_meaning.specs.Loops.{tested, turns}
+use Rattle.isp_meaning.specs.Loops.{do_turns, while_turns}
 use Rattle.isp_meaning.specs.Outcomes.{Val, Gives, Done, Res}
 use Rattle.isp_meaning.specs.Payloads.{Payload, One}
+use Rattle.isp_meaning.specs.Simple.{no_step}
 use Rattle.isp_meaning.specs.State.{State, tick}
 use Rattle.isp_lower.specs.Runs.{Enters, Runs, DoneRuns}
 use Rattle.isp_lower.specs.Setting.{Setting, IsSettled, gang_of, AreAt, Holds}
@@ -47,18 +48,18 @@ IsBody e v = (T : Mask) (s : State) → Parted T (v T s) × Leave e (v T s)
 pub record LoopsRun (w : Setting) (wide : Bool) (e : Exits) (spot : Spot) (a : Mask) : Type 0 where
   pub while_loop : (r : Rate) (x pc q : ℕ) (s : State) (c : Conf) (test_code body_code : ℕ → List Instr) (test : Mask → State → Val Payload) (body : Mask → State → Res) → TestRuns w spot.slot r x test_code test → BodyRuns w spot.slot body_code body → IsBody e body
       → AreAt w.routine.code pc (while_code wide e r x pc spot test_code body_code) → EntersAt w pc spot a s c q
-      → StmtRuns w w.turns c (pc + length (while_code wide e r x pc spot test_code body_code)) spot (1 + q) (tested (gang_of w) test body (λ l s1. Gives tt s1) a (turns (gang_of w) test body (λ l s1. Gives tt s1) a w.turns) a nobody (tick s))
+      → StmtRuns w w.turns c (pc + length (while_code wide e r x pc spot test_code body_code)) spot (1 + q) (while_turns (gang_of w) test body no_step a w.turns (tick s))
   -- behind its first part
   pub for_loop : (r : Rate) (x pc q : ℕ) (s : State) (c : Conf) (test_code body_code step_code : ℕ → List Instr) (test : Mask → State → Val Payload) (body : Mask → State → Res) (step : Mask → State → Val Done) → TestRuns w spot.slot r x test_code test → BodyRuns w spot.slot body_code body → StepRuns w spot.slot step_code step → IsBody e body
       → AreAt w.routine.code pc (for_code wide e r x pc spot test_code body_code step_code) → EntersAt w pc spot a s c (3 + q)
-      → StmtRuns w w.turns c (pc + length (for_code wide e r x pc spot test_code body_code step_code)) spot (1 + q) (tested (gang_of w) test body step a (turns (gang_of w) test body step a w.turns) a nobody s)
+      → StmtRuns w w.turns c (pc + length (for_code wide e r x pc spot test_code body_code step_code)) spot (1 + q) (while_turns (gang_of w) test body step a w.turns s)
   -- and with its test left out
   pub endless_loop : (pc q : ℕ) (s : State) (c : Conf) (body_code step_code : ℕ → List Instr) (body : Mask → State → Res) (step : Mask → State → Val Done) → BodyRuns w spot.slot body_code body → StepRuns w spot.slot step_code step → IsBody e body
       → AreAt w.routine.code pc (endless_code e pc spot body_code step_code) → EntersAt w pc spot a s c (3 + q)
-      → StmtRuns w w.turns c (pc + length (endless_code e pc spot body_code step_code)) spot (1 + q) (tested (gang_of w) (λ l s1. Gives (One 1) s1) body step a (turns (gang_of w) (λ l s1. Gives (One 1) s1) body step a w.turns) a nobody s)
+      → StmtRuns w w.turns c (pc + length (endless_code e pc spot body_code step_code)) spot (1 + q) (while_turns (gang_of w) (λ l s1. Gives (One 1) s1) body step a w.turns s)
   pub do_loop : (r : Rate) (x pc q : ℕ) (s : State) (c : Conf) (test_code body_code : ℕ → List Instr) (test : Mask → State → Val Payload) (body : Mask → State → Res) → TestRuns w spot.slot r x test_code test → BodyRuns w spot.slot body_code body → IsBody e body
       → AreAt w.routine.code pc (do_code wide e r x pc spot test_code body_code) → EntersAt w pc spot a s c (3 + q)
-      → StmtRuns w w.turns c (pc + length (do_code wide e r x pc spot test_code body_code)) spot (1 + q) (turns (gang_of w) test body (λ l s1. Gives tt s1) a w.turns a nobody s)
+      → StmtRuns w w.turns c (pc + length (do_code wide e r x pc spot test_code body_code)) spot (1 + q) (do_turns (gang_of w) test body no_step a w.turns s)
 
 abbrev pub AllLoopsRun : Type 0
 AllLoopsRun = (w : Setting) → IsSettled w → (wide : Bool) (e : Exits) (spot : Spot) (a : Mask) → AreThree spot → LoopsRun w wide e spot a

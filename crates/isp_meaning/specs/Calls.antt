@@ -1,5 +1,5 @@
 -- Calls: what they begin with, what they leave, and how deep they go.
-use Rattle.std.specs.Prelude.{ℕ, zero, suc, ◌+◌, ◌-◌, List, [], ◌∷◌, length, take, Option, Some, None, if◌then◌else◌, nat_lt, slice_get, slice_index}
+use Rattle.std.specs.Prelude.{ℕ, zero, suc, ◌+◌, ◌-◌, List, [], ◌∷◌, length, take, Option, Some, None, Bool, true, false, if◌then◌else◌, nat_lt, slice_get, slice_index}
 use Rattle.isp_base.specs.Cross.{or_zero}
 use Rattle.isp_base.specs.Sets.{Mask, lowest}
 use Rattle.isp_base.specs.Maps.{Lanes, on, over}
@@ -62,31 +62,24 @@ frame_of f xs caller =
 
 -- ---- the state of a call: what was passed, and zeros
 
--- a uniform parameter has the value, a varying one has it in those that call and 0 in the others
-abbrev pub one_at : Rate → Payload → ℕ
-one_at Uniform x = sole x
-one_at Varying x = 0
+-- whether two rates are one
+abbrev pub same_rate : Rate → Rate → Bool
+same_rate Uniform Uniform = true
+same_rate Varying Varying = true
+same_rate r q = false
 
-abbrev pub each_at : Rate → Mask → Payload → Lanes
-each_at Uniform a x = λ p. 0
-each_at Varying a x = over (spread a x) (λ p. 0)
+-- whether a variable is a value of this rate, and no array
+abbrev pub is_value : Rate → Holds → Bool
+is_value r (AValue t) = same_rate r t.rate
+is_value r h = false
 
-abbrev pub one_held : Holds → Payload → ℕ
-one_held (AValue t) x = one_at t.rate x
-one_held (Given t) x = 0
-one_held (Local t n) x = 0
-
-abbrev pub each_held : Holds → Mask → Payload → Lanes
-each_held (AValue t) a x = each_at t.rate a x
-each_held (Given t) a x = λ p. 0
-each_held (Local t n) a x = λ p. 0
-
+-- a uniform parameter has the value that was passed, a varying one has it in those that call; all else begins with 0
 abbrev pub one_passed : Option Variable → Option Passed → ℕ
-one_passed (Some v) (Some (Values x)) = one_held v.holds x
+one_passed (Some v) (Some (Values x)) = if is_value Uniform v.holds then sole x else 0
 one_passed v x = 0
 
 abbrev pub each_passed : Option Variable → Mask → Option Passed → Lanes
-each_passed (Some v) a (Some (Values x)) = each_held v.holds a x
+each_passed (Some v) a (Some (Values x)) = if is_value Varying v.holds then over (spread a x) (λ p. 0) else (λ p. 0)
 each_passed v a x = λ p. 0
 
 abbrev pub begun : TFunction → List Passed → Frame → Mask → State → State

@@ -26,3 +26,10 @@ module _ (gang : ℕ) (test : Mask → State → Val Payload) (body : Mask → S
   turns zero kept returned s = Cut s
   turns (suc n) kept returned s =
       go_on (body kept (tick s)) (λ s1 g b c r. if_so (any gang (union g c)) (stepped (turns n) (union g c) (union returned r)) (loop_end (union returned r)) s1)
+
+  -- a loop that all enter, with n turns: `do` begins with its body, `while` and `for` with the test
+  abbrev pub do_turns : ℕ → State → Res
+  do_turns n s = turns n all nobody s
+
+  abbrev pub while_turns : ℕ → State → Res
+  while_turns n s = tested (turns n) all nobody s

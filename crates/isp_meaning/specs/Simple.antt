@@ -17,6 +17,10 @@ use Rattle.isp_meaning.specs.Outcomes.{Val, Gives, Done, bind, checked}
 use Rattle.isp_meaning.specs.Places.{Place, written, outside, held, kept}
 use Rattle.isp_meaning.specs.Expressions.{Calls, value, place, call}
 
+-- where a loop has no step
+abbrev pub no_step : Mask → State → Val Done
+no_step a s = Gives tt s
+
 -- a declared array begins with zeros: a shared one whole, of the others that of each member
 abbrev pub cleared : Frame → Rate → ℕ → Mask → State → State
 cleared frame Uniform v a s = record s { arrays = put s.arrays (frame.named v) (λ e. 0) }
@@ -59,5 +63,5 @@ module _ (gang : ℕ) (frame : Frame) (calls : Calls) where
   first_part (Some (t_first_simple x)) a s = simple x a s
 
   abbrev pub step_part : Option TSimple → Mask → State → Val Done
-  step_part None a s = Gives tt s
+  step_part None a s = no_step a s
   step_part (Some x) a s = simple x a s

@@ -15,8 +15,8 @@ use Rattle.isp_meaning.specs.State.{State, Frame, tick}
 use Rattle.isp_meaning.specs.Payloads.{Payload, One, Each, is_true, is_false, sole, spread, offender}
 use Rattle.isp_meaning.specs.Outcomes.{Val, Gives, Res, Went, Done, bind, with_value, checked, go_on, went_all, then_run, both_sides, unless_empty, if_so}
 use Rattle.isp_meaning.specs.Expressions.{Calls, value, values}
-use Rattle.isp_meaning.specs.Simple.{simple, items, first_part, step_part}
-use Rattle.isp_meaning.specs.Loops.{turns, tested}
+use Rattle.isp_meaning.specs.Simple.{simple, items, first_part, no_step, step_part}
+use Rattle.isp_meaning.specs.Loops.{do_turns, while_turns}
 use Rattle.isp_meaning.specs.Rounds.{Range, rounds, active_rounds, foreach_rounds, counted}
 use Rattle.isp_base.specs.Prints.{print_text}
 use Rattle.isp_meaning.specs.Printing.{shown_all}
@@ -70,12 +70,11 @@ module _ (gang : ℕ) (frame : Frame) (calls : Calls) (most : ℕ) where
         with_value (value gang frame calls e a (tick s)) (λ m s1. branches gang a (run x) went_all m s1)
     run (t_if_else f k e x y sp) a s =
         with_value (value gang frame calls e a (tick s)) (λ m s1. branches gang a (run x) (run y) m s1)
-    run (t_while f k e x sp) a s =
-        tested gang (value gang frame calls e) (run x) (λ l s1. Gives tt s1) a (turns gang (value gang frame calls e) (run x) (λ l s1. Gives tt s1) a most) a nobody (tick s)
-    run (t_do f k x e sp) a s =
-        turns gang (value gang frame calls e) (run x) (λ l s1. Gives tt s1) a most a nobody (tick s)
+    run (t_while f k e x sp) a s = while_turns gang (value gang frame calls e) (run x) no_step a most (tick s)
+    run (t_do f k x e sp) a s = do_turns gang (value gang frame calls e) (run x) no_step a most (tick s)
     run (t_for f k first e step i x sp) a s =
-        with_value (first_part gang frame calls first a (tick s)) (λ _ s1. tested gang (test_part gang frame calls e) (run x) (step_part gang frame calls step) a (turns gang (test_part gang frame calls e) (run x) (step_part gang frame calls step) a most) a nobody s1)
+        with_value (first_part gang frame calls first a (tick s))
+        (λ _ s1. while_turns gang (test_part gang frame calls e) (run x) (step_part gang frame calls step) a most s1)
     -- The bounds are taken by the set; in the runs all instances take part.
     run (t_foreach w k rs x sp) a s =
         with_value (ranges gang frame calls rs a (tick s)) (λ xs s1. rounds (run x) a (foreach_rounds gang xs) (record s1 { work = s1.work + counted gang 1 xs }))

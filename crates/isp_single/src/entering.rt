@@ -1,5 +1,5 @@
 //! What a call begins with.
-ghost use Rattle.std.specs.Prelude.{◌≡◌, ◌≤◌, ◌++◌, ℕ, IfOk, OnOk, get_or, length, map, slice_get};
+ghost use Rattle.std.specs.Prelude.{◌≡◌, ◌≤◌, ◌++◌, ℕ, IfOk, OnOk, get_or, if◌then◌else◌, length, map, slice_get};
 ghost use Rattle.isp_alone.specs.Alone.{Alone};
 ghost use Rattle.isp_alone.specs.Calls as Begun;
 ghost use Rattle.isp_base.specs.declared.types.Rate.TheVariants.{Uniform, Varying};
@@ -125,7 +125,7 @@ fn value_passed(variables: &[Variable], passed: &[Passed], rate: Rate, place: us
 
 // A value among those of one rate, 0 where it is of the other.
 fn of_rate(rate: Rate, own: Rate, value: u64) -> u64
-    ensures { result ≡ Begun.of_rate rate own value }
+    ensures { result ≡ (if Calls.same_rate rate own then value else 0) }
 {
     match (rate, own) {
         (Rate::Uniform, Rate::Uniform) | (Rate::Varying, Rate::Varying) => value,
