@@ -1,5 +1,5 @@
 -- A call that stands alone.
-use Rattle.std.proofs.Common.{◌≡◌, ℕ, ◌+◌, List, [], ◌∷◌, ◌++◌, length, Option, Some, None, refl, sym, ap, ◌∙◌, subst, arith, length-append}
+use Rattle.std.proofs.Common.{◌≡◌, ℕ, ◌+◌, List, [], ◌∷◌, ◌++◌, length, Some, None, refl, sym, ap, ◌∙◌, subst, arith, length-append}
 use Rattle.std.specs.Prelude.{slice_get}
 use Rattle.isp_base.specs.Sets.{Mask}
 use Rattle.isp_base.specs.declared.types.Span.{Span}
@@ -8,7 +8,7 @@ use Rattle.isp_code.specs.Conf.{Conf}
 use Rattle.isp_code.specs.Lines.{next}
 use Rattle.isp_code.specs.declared.instr.Call.{Call}
 use Rattle.isp_typed.specs.Fine.{params_of}
-use Rattle.isp_typed.specs.Typed.{TCall, t_called, TArguments, t_run}
+use Rattle.isp_typed.specs.Typed.{t_called, TArguments, t_run}
 use Rattle.isp_meaning.specs.Expressions.{Passed, arguments}
 use Rattle.isp_meaning.specs.Outcomes.{Val, Gives, Fails, Stops, bind}
 use Rattle.isp_meaning.specs.Payloads.{Payload}

@@ -13,7 +13,7 @@ use Rattle.isp_meaning.specs.Expressions.{place}
 use Rattle.isp_meaning.specs.Simple.{simple}
 use Rattle.isp_lower.specs.Setting.{Setting, IsSettled, gang_of, calls_of, AreAt, Holds}
 use Rattle.isp_lower.specs.Runs.{Enters, DoneRuns}
-use Rattle.isp_lower.specs.Code.{write, index, index_code, operand, operand_of, found, expr_places, expr_code, index_by, write_by, is_run}
+use Rattle.isp_lower.specs.Code.{index_code, operand, operand_of, found, expr_places, expr_code, index_by, write_by, is_run}
 use Rattle.isp_lower.specs.Simple.{assign_code, assign_places}
 use Rattle.isp_lower.proofs.Base.{are_front, are_back, spares_less}
 use Rattle.isp_lower.proofs.Found.{few}

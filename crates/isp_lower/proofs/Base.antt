@@ -8,7 +8,7 @@ use Rattle.isp_base.specs.declared.trap.TrapKind.{TrapKind}
 use Rattle.isp_base.specs.declared.types.Span.{Span}
 use Rattle.isp_base.specs.Traps.{trap}
 use Rattle.isp_code.specs.Conf as machine
-use Rattle.isp_code.specs.Conf.{Home, Conf, Move, Go, Fail}
+use Rattle.isp_code.specs.Conf.{Conf, Move, Go, Fail}
 use Rattle.isp_code.specs.Lines.{act}
 use Rattle.isp_code.specs.Machine.{after, step, act_in, act_at, arrive}
 use Rattle.isp_code.proofs.Steps.{after-sum}

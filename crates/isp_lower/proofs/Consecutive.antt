@@ -1,6 +1,6 @@
 -- Runs of elements: lane p has the element that is p places behind that of a scalar index. A run does what an access does by an index in
 -- each lane, where lane p has the bits of that sum.
-use Rattle.std.proofs.Common.{◌≡◌, ℕ, ◌<◌, ◌≤◌, ◌%◌, ◌^◌, [], Option, Some, None, Bool, true, false, refl, sym, ap, ◌∙◌, subst, arith, ℤ, pos, mod-eq_of_lt, ◌⊎◌, inl, inr, eqb-true}
+use Rattle.std.proofs.Common.{◌≡◌, ℕ, ◌<◌, ◌^◌, [], Option, Some, None, Bool, true, false, refl, sym, ap, ◌∙◌, subst, arith, ℤ, pos, mod-eq_of_lt, ◌⊎◌, inl, inr, eqb-true}
 use Rattle.std.specs.Prelude.{◌&&◌, ◌+ℤ◌, if◌then◌else◌, unsigned_abs}
 use Rattle.std.proofs.lemmas.Int.{ints}
 use Rattle.std.proofs.Math.Path.{fun_ext}

@@ -1,6 +1,6 @@
 -- The code of an expression gives the expression's value.
 use Rattle.std.proofs.Common.{◌≡◌, ℕ, ◌+◌, ◌*◌, ◌<◌, ◌≤◌, ◌%◌, ◌^◌, List, [], ◌∷◌, ◌++◌, length, Option, Some, None, Bool, true, false, refl, sym, ap, ◌∙◌, subst, arith, length-append, inl, inr}
-use Rattle.std.specs.Prelude.{slice_get, ◌&&◌, ℤ, pos}
+use Rattle.std.specs.Prelude.{slice_get, ◌&&◌, pos}
 use Rattle.isp_base.specs.Access.{is_zero, is_outside}
 use Rattle.isp_base.specs.Cross.{rank, packed_outside}
 use Rattle.isp_base.specs.Maps.{on, map1}
@@ -49,11 +49,11 @@ use Rattle.isp_lower.specs.Calls.{IsHanded, AreHanded, Takes, given_back, CallRu
 use Rattle.isp_lower.specs.Layout.{class_at, register, mask_register, array_register}
 use Rattle.isp_lower.specs.Setting.{ArrayFitsAt, ArrayFits, Setting, IsSettled, gang_of, calls_of, AreAt, At, Stands, at_rate, held_at, Holds, Spares, Allowed, IsOther}
 use Rattle.isp_lower.specs.Runs.{Comes, Enters, Runs}
-use Rattle.isp_lower.specs.Code.{is_copied, variable_found, variable_read, copy, convert, constant, constant_of, convert_to, part_to, lift_to, lifted, found, operand, operand_of, lift_code, is_whole, whole, whole_of, index, index_of, read, packed_store, packed_load, base_register, base_places, base_code, expr_places, expr_code, expr_to, values_code, values_places, value_registers, argument_places, arguments_places, argument_register, argument_registers, argument_code, arguments_code, calling, select, same_rate, stays, stays_at, is_short, choose_code, choose_to, index_by, index_by_of, read_by, is_run, start_code}
+use Rattle.isp_lower.specs.Code.{is_copied, variable_found, variable_read, copy, convert, constant, constant_of, convert_to, part_to, lift_to, lifted, found, operand, operand_of, lift_code, is_whole, whole, whole_of, index, index_of, packed_store, packed_load, base_register, base_places, base_code, expr_places, expr_code, expr_to, values_code, values_places, value_registers, argument_places, arguments_places, argument_register, argument_registers, argument_code, arguments_code, calling, select, same_rate, stays, stays_at, is_short, choose_code, choose_to, index_by, index_by_of, read_by, is_run, start_code}
 use Rattle.isp_lower.proofs.Base.{are_front, are_back, comes_none, comes_on, at_to, moved_by, spares_all, spares_less, spares_on}
 use Rattle.isp_lower.proofs.Rates.{Filled, held_same, at_mapped, at_offender, filled_on, filled_held}
 use Rattle.isp_lower.proofs.Lines.{set_at, value_at, copy_line, convert_line, unary_line, compare_line, operate_at, place_named}
-use Rattle.isp_lower.proofs.Access.{as_whole, found_items, filled_items, read_line, size_at, item_at, get_at, read_is, outside_is, read_by_line}
+use Rattle.isp_lower.proofs.Access.{as_whole, found_items, filled_items, size_at, item_at, get_at, read_is, outside_is, read_by_line}
 use Rattle.isp_lower.proofs.Values.{IsFirst, wrap_bits, zero_first, constant_is}
 use Rattle.isp_lower.proofs.Combine.{runs_after, runs_on, set_comes, set_goes, set_masks, set_spares, set_stands, bind_runs, ok_less, renamed, told_as, lift_runs}
 use Rattle.isp_lower.proofs.Found.{few, constant_is_one, found_typed, found_low, index_low, operand_typed, operand_low}

@@ -41,3 +41,7 @@ pub use Rattle.isp_lower.proofs.FirstRows.{all_there, result_at}
 
 pub use Rattle.isp_lower.proofs.Landing.{appends_self, appends_then, landed, chosen, code_chosen, code_landed}
 pub use Rattle.isp_lower.proofs.Consecutive.{none_holds, run_place, run_each, counts_part}
+-- ---- what the text of code can have
+
+pub use Rattle.isp_lower.proofs.Writable.{all_at, all_both}
+pub use Rattle.isp_lower.proofs.Spans.{Fit, fit_both, fit_one, expr_fit, shown_fit, simple_fit, items_fit}

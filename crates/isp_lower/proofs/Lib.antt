@@ -14,7 +14,6 @@ mod Kept
 mod Values
 mod Found
 mod Consecutive
-mod Asked
 mod Access
 mod Writes
 mod Done
@@ -60,3 +59,5 @@ mod Headers
 mod Naming
 mod Aparts
 mod NamedThere
+mod Writable
+mod Spans

@@ -35,7 +35,7 @@ use Rattle.isp_meaning.specs.Payloads.{Payload, One, Each, bit, is_true, sole, s
 use Rattle.isp_lower.specs.Code.{compute, select, unary}
 use Rattle.isp_lower.specs.Layout.{register}
 use Rattle.isp_lower.specs.Library as table
-use Rattle.isp_lower.specs.Library.{library_code, library_rates, on_values, reduce, register_at}
+use Rattle.isp_lower.specs.Library.{library_code, library_rates, reduce, register_at}
 use Rattle.isp_lower.specs.Callees.{later}
 use Rattle.isp_lower.specs.Setting.{Setting, IsSettled, gang_of, at_rate, held_at, Holds}
 use Rattle.isp_lower.specs.Tables.{IsTyped}

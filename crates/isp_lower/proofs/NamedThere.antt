@@ -12,7 +12,7 @@ use Rattle.isp_code.specs.Fine as fine
 use Rattle.isp_code.specs.Listing.{Listing, Routine}
 use Rattle.isp_code.specs.Operands.{operands}
 use Rattle.isp_code.specs.Registers as routine
-use Rattle.isp_code.specs.Registers.{arrays_of, elem_of, is_local, is_own, is_per_lane, local_elem, passed, table_of, types_in}
+use Rattle.isp_code.specs.Registers.{arrays_of, is_own, local_elem, table_of, types_in}
 use Rattle.isp_code.specs.declared.function.Local.{Local}
 use Rattle.isp_code.specs.declared.function.Param.{Param}
 use Rattle.isp_code.specs.declared.function.Returns.{Returns}

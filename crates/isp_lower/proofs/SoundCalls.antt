@@ -1,5 +1,5 @@
 -- The registers of a call's arguments are as the callee's routine asks.
-use Rattle.std.proofs.Common.{◌≡◌, ℕ, ◌+◌, ◌<◌, ◌≤◌, List, [], ◌∷◌, ◌++◌, length, map, Option, Some, None, refl, sym, ap, ◌∙◌, subst, arith}
+use Rattle.std.proofs.Common.{◌≡◌, ℕ, ◌+◌, ◌<◌, ◌≤◌, List, [], ◌∷◌, ◌++◌, length, map, Option, Some, refl, sym, ◌∙◌, subst, arith}
 use Rattle.isp_base.specs.declared.types.Elem.{Elem}
 use Rattle.isp_base.specs.declared.types.Rate.{Rate}
 use Rattle.isp_base.specs.declared.types.Rate.TheVariants.{Uniform, Varying}
@@ -11,7 +11,6 @@ use Rattle.isp_code.specs.declared.function.Param.{Param}
 use Rattle.isp_code.specs.declared.function.ParamKind.{ParamKind}
 use Rattle.isp_code.specs.declared.operand.Operand.{Operand}
 use Rattle.isp_code.specs.declared.operand.Operand.TheVariants.{Any as AnyRegister, Mask, Place}
-use Rattle.isp_code.specs.declared.register.Class.TheVariants as class
 use Rattle.isp_code.specs.declared.register.Register.{Register}
 use Rattle.isp_typed.specs.Typed.{TExpr, TArgument, t_by_value, t_by_name, TArguments, t_no_arguments, t_argument_then, TFunction, type_of}
 use Rattle.isp_typed.specs.declared.variable.Holds.{Holds}

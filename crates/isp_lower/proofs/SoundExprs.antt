@@ -20,7 +20,7 @@ use Rattle.isp_typed.specs.declared.variable.Variable.{Variable}
 use Rattle.isp_lower.specs.Callees.{rate_held, rates_held, rates_of}
 use Rattle.isp_lower.specs.Header.{returns_of}
 use Rattle.isp_lower.specs.Layout.{Layout, register}
-use Rattle.isp_lower.specs.Code.{is_copied, variable_read, compare, unary, operate, operate_places, packed_store, packed_load, select, part_to, lift_to, found, operand, operand_of, index, choose_to, is_short, expr_places, index_places, read_places, expr_to, base_places, base_register, base_code, index_code, read_code, expr_code, values_code, values_places, value_registers, argument_places, arguments_places, call_places, argument_registers, argument_code, arguments_code, call_code, calling, index_by, is_run}
+use Rattle.isp_lower.specs.Code.{is_copied, variable_read, compare, unary, operate, operate_places, packed_store, packed_load, select, part_to, lift_to, found, operand, operand_of, choose_to, is_short, expr_places, index_places, read_places, expr_to, base_places, base_register, base_code, index_code, read_code, expr_code, values_code, values_places, value_registers, argument_places, arguments_places, call_places, argument_registers, argument_code, arguments_code, call_code, calling, index_by, is_run}
 use Rattle.isp_typed.specs.Fine.{rates_of as rate_of_all}
 use Rattle.isp_typed.specs.Library.{library_type, parts}
 use Rattle.isp_typed.specs.declared.library.Library.{Library}
@@ -28,7 +28,7 @@ use Rattle.isp_lower.specs.Callees.{later, next_rate}
 use Rattle.isp_lower.specs.Library.{library_code, library_rates}
 use Rattle.isp_lower.specs.Asks.{argument_asks, arguments_asks, base_asks, call_asks, expr_asks, first_slot, operand_asks, second_slot, target_asks, values_asks}
 use Rattle.isp_lower.specs.Sound.{AreSound, Links, PartSound, IsRegister, HasArray, Granted}
-use Rattle.isp_lower.proofs.SoundLines.{IsArray, array_is, copy_sound, packed_store_sound, packed_load_sound, unary_sound, compare_sound, operate_sound, read_sound, constant_sound, index_sound as lane_sound, read_by_sound}
+use Rattle.isp_lower.proofs.SoundLines.{IsArray, array_is, copy_sound, packed_store_sound, packed_load_sound, unary_sound, compare_sound, operate_sound, constant_sound, index_sound as lane_sound, read_by_sound}
 use Rattle.isp_lower.proofs.SoundFound.{part_there, found_there, operand_there, index_there, element_index_there}
 use Rattle.isp_lower.proofs.SoundParts.{few_front, few_back, Here, AnyMask, here_both, here_then, pair_sound, logic_sound, lift_to_sound, operand_sound, convert_to_sound, index_sound, choose_sound, short_sound, element_index_sound}
 use Rattle.isp_lower.proofs.Trees.{IsWord, ExprTree, OperandTree, PlaceTree, BaseTree, ValuesTree, CallTree, ArgumentsTree, ArgumentTree}

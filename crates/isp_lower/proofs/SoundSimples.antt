@@ -1,5 +1,5 @@
 -- Each instruction of the code of what stands before a semicolon has its operands, and so has that of declarations.
-use Rattle.std.proofs.Common.{◌≡◌, ℕ, ◌+◌, ◌<◌, List, [], ◌∷◌, ◌++◌, length, Option, None, Bool, true, false, refl, ◌∙◌, arith}
+use Rattle.std.proofs.Common.{◌≡◌, ℕ, ◌+◌, ◌<◌, List, [], ◌∷◌, ◌++◌, length, None, Bool, true, false, refl, ◌∙◌, arith}
 use Rattle.isp_base.specs.Ranks.{same_elem}
 use Rattle.isp_base.specs.declared.operators.BinOp.{BinOp}
 use Rattle.isp_base.specs.declared.types.Elem.{Elem}
@@ -9,15 +9,15 @@ use Rattle.isp_base.specs.declared.types.Span.{Span}
 use Rattle.isp_code.specs.Listing.{Listing, Routine}
 use Rattle.isp_typed.specs.Typed.{TExpr, TPlace, t_variable, t_element, TItem, t_plain, t_with_value, t_with_size, TFunction, TSimple, t_value, t_run, t_assign, t_update, t_step, place_type, type_of}
 use Rattle.isp_lower.specs.Layout.{Layout}
-use Rattle.isp_lower.specs.Code.{copy, operate_places, write, part_to, lift_to, found, operand, operand_of, index, writes_part, writes_last, expr_places, index_places, expr_to, expr_code, index_code, variable_from, variable_code, index_by, write_by, is_run}
+use Rattle.isp_lower.specs.Code.{copy, operate_places, part_to, lift_to, found, operand, operand_of, writes_part, writes_last, expr_places, index_places, expr_to, expr_code, index_code, variable_from, variable_code, index_by, write_by, is_run}
 use Rattle.isp_lower.specs.Items.{zero_code, item_code, item_places, items_code, items_places}
 use Rattle.isp_lower.specs.Asks.{beyond, change_asks, item_asks, items_asks, operand_asks, simple_asks, step_asks, target_asks, work_asks, zero_asks}
 use Rattle.isp_lower.specs.Simple.{update_to, change_code, change_places, one_in, one_code, assign_code, assign_places, change_by_code, step_code, simple_code, simple_places}
 use Rattle.isp_lower.specs.Sound.{AreSound, Links, PartSound, IsRegister, Granted}
 use Rattle.isp_lower.proofs.Splits.{same_elem-is}
 use Rattle.isp_lower.proofs.SoundExprs.{Named, array_there, call_sound, expr_sound, place_sound, part_sound, value_sound}
-use Rattle.isp_lower.proofs.SoundFound.{part_there, lift_there, found_there, operand_there, index_there, element_index_there}
-use Rattle.isp_lower.proofs.SoundLines.{copy_sound, convert_sound, operate_sound, read_sound, write_sound, constant_sound, splat_sound, sound_both, read_by_sound, write_by_sound}
+use Rattle.isp_lower.proofs.SoundFound.{part_there, lift_there, found_there, operand_there, element_index_there}
+use Rattle.isp_lower.proofs.SoundLines.{copy_sound, convert_sound, operate_sound, constant_sound, splat_sound, sound_both, read_by_sound, write_by_sound}
 use Rattle.isp_lower.proofs.SoundParts.{few_front, few_back, Here, here_both, here_then, lift_sound, lift_to_sound}
 use Rattle.isp_lower.proofs.Parts.{IsNumber}
 use Rattle.isp_lower.proofs.Trees.{ExprTree, ItemTree, ItemsTree, OperandTree, PlaceTree, SimpleTree}

@@ -32,9 +32,9 @@ use Rattle.isp_meaning.specs.Places.{Place, Element, variable, written, outside,
 use Rattle.isp_meaning.specs.Expressions.{place}
 use Rattle.isp_meaning.specs.Simple.{simple, update}
 use Rattle.isp_lower.specs.Runs.{Enters, DoneRuns}
-use Rattle.isp_lower.specs.Code.{constant, write, index, lift_code, operand, operand_of, index_code, index_places, expr_places, expr_code, index_by, write_by, is_run}
+use Rattle.isp_lower.specs.Code.{constant, lift_code, operand, operand_of, index_code, index_places, expr_places, expr_code, index_by, write_by, is_run}
 use Rattle.isp_lower.proofs.Splits.{same_elem-is}
-use Rattle.isp_lower.proofs.Found.{few, index_low, lifted_low, operand_low}
+use Rattle.isp_lower.proofs.Found.{few, lifted_low, operand_low}
 use Rattle.isp_lower.proofs.Exprs.{means, PlaceHolds, variable_held, element_runs, expr_runs}
 use Rattle.isp_lower.proofs.Done.{done_after, bind_done, bind_checked}
 use Rattle.isp_lower.proofs.Places.{place_runs, place_kept, index_kept}

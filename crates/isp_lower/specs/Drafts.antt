@@ -1,10 +1,12 @@
 -- A program's code while it is written: what an emitter has, as lists.
-use Rattle.std.specs.Prelude.{ℕ, List, [], ◌∷◌, ◌++◌, map, Option, Some, None, IsSome, option_map}
+use Rattle.std.specs.Prelude.{◌≡◌, ℕ, List, [], ◌∷◌, ◌++◌, map, true, Option, Some, None, IsSome, option_map}
+use Rattle.std.specs.List.{list_all}
 use Rattle.isp_base.specs.declared.types.Elem.{Elem}
 use Rattle.isp_base.specs.declared.types.Gang.{Gang}
 use Rattle.isp_base.specs.declared.types.Rate.{Rate}
 use Rattle.isp_base.specs.declared.types.Span.{Span}
 use Rattle.isp_code.specs.Listing.{Listing, Routine, routine_of}
+use Rattle.isp_code.specs.Writable.{has_byte, parts_fit, place_fits}
 use Rattle.isp_code.specs.declared.instr.Instr.{Instr}
 use Rattle.isp_typed.specs.Typed.{Program, TFunction}
 use Rattle.isp_typed.specs.Views.{functions_of}
@@ -83,6 +85,12 @@ abbrev pub with_target : ℕ → ℕ → Draft → Draft
 with_target at to d = record d { code = patched d.code at to }
 
 -- ---- what is asked of a draft
+
+-- The text of code can have it: its places, its texts, and of each function the names, the local arrays and the constants.
+pub record CanBeWritten (d : Draft) : Type 0 where
+  pub places : list_all place_fits d.places ≡ true
+  pub texts : list_all has_byte d.texts ≡ true
+  pub routines : list_all parts_fit (all_routines d) ≡ true
 
 abbrev pub IsBegun : Draft → Type 0
 IsBegun d = IsSome d.heading

@@ -1,7 +1,7 @@
 //! The code of a program while it is written.
 ghost use Rattle.std.specs.Prelude.{◌≡◌, ◌≤◌, ◌<◌, length, IfOk, OnErr, OnOk};
 ghost use Rattle.isp_typed.specs.Views.{function_of, program_of};
-ghost use Rattle.isp_lower.specs.Drafts.{HasAllNamed, HasNamed, IsBegun, begun, draft_of, finished, first_draft, with_instr, with_place, with_register, with_target, with_text};
+ghost use Rattle.isp_lower.specs.Drafts.{CanBeWritten, HasAllNamed, HasNamed, IsBegun, begun, draft_of, finished, first_draft, with_instr, with_place, with_register, with_target, with_text};
 ghost use Rattle.isp_lower.specs.Header.{HeadingFits};
 ghost use Rattle.isp_lower.specs.Layout.{register};
 ghost use Rattle.isp_lower.specs.Named.{Unnamed};
@@ -112,9 +112,10 @@ impl<'p> Emitter<'p> {
         self.body.patch(at as usize, target)
     }
 
-    /// Closes the function at work, if there is one, and gives the code. 0 where memory is refused, or the text of code
-    /// cannot have a place, a text or a function.
+    /// Closes the function at work, if there is one, and gives the code, on the condition that the text of code can have
+    /// its places, its texts and its functions. 0 where memory is refused.
     pub fn finish(mut self) -> Result<Code, AllocError>
+        requires { CanBeWritten (draft_of self) }
         ensures { IfOk result (λ code. code ≡ finished (draft_of self.entry)) }
     {
         let alloc = *self.functions.allocator();

@@ -19,7 +19,6 @@ use Rattle.isp_typed.specs.declared.variable.Holds.{Holds}
 use Rattle.isp_typed.specs.declared.variable.Holds.TheVariants as holds
 use Rattle.isp_typed.specs.declared.variable.Variable.{Variable}
 use Rattle.isp_meaning.specs.Calls.{is_value, same_rate, one_passed}
-use Rattle.isp_meaning.specs.Payloads.{One}
 use Rattle.isp_meaning.specs.Runs.{handed}
 use Rattle.isp_lower.specs.Layout.{Layout}
 use Rattle.isp_lower.specs.Setting.{Stands}

@@ -1,8 +1,7 @@
 -- The settings of bodies: of an `unmasked`, and of a `foreach`, whose last index may count the lanes of each run.
 use Rattle.std.proofs.Common.{◌≡◌, ℕ, ◌+◌, ◌*◌, ◌<◌, ◌≤◌, List, [], ◌∷◌, length, Option, Some, None, Bool, true, false, refl, sym, ap, ◌∙◌, subst, arith}
 use Rattle.std.specs.Prelude.{slice_get}
-use Rattle.isp_base.specs.Maps.{Lanes}
-use Rattle.isp_base.specs.Sets.{Mask, any, everyone}
+use Rattle.isp_base.specs.Sets.{Mask, any}
 use Rattle.isp_base.specs.Values.{number}
 use Rattle.isp_base.specs.declared.types.Elem.TheVariants.{I32, I64}
 use Rattle.isp_base.specs.declared.types.Rate.{Rate}

@@ -19,7 +19,7 @@ use Rattle.isp_base.specs.declared.types.Ty.{Ty}
 use Rattle.isp_code.specs.Calls as machine_calls
 use Rattle.isp_code.specs.Calls.{new_home, waits, depth, called, entered, left, with_result, put_result, place_at}
 use Rattle.isp_code.specs.Conf as machine
-use Rattle.isp_code.specs.Conf.{Conf, Move, Go}
+use Rattle.isp_code.specs.Conf.{Conf, Go}
 use Rattle.isp_code.specs.Lines.{set_scalar, set_vector, next}
 use Rattle.isp_code.specs.Listing.{Listing, Routine}
 use Rattle.isp_code.specs.Machine.{step, arrive}

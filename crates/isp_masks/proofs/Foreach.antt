@@ -1,5 +1,5 @@
 -- `foreach` does what it means, where the code of its body does: its bounds are taken, then the ranges make their runs.
-use Rattle.std.proofs.Common.{◌≡◌, ℕ, ◌+◌, List, [], ◌++◌, length, ap, ◌∙◌, subst, arith, length-append, append-nil, Some, None, Option}
+use Rattle.std.proofs.Common.{◌≡◌, ℕ, ◌+◌, List, [], ◌++◌, length, ap, ◌∙◌, subst, arith, length-append, append-nil, Some, None}
 use Rattle.isp_base.specs.Sets.{Mask}
 use Rattle.isp_code.specs.Conf.{Conf}
 use Rattle.isp_code.specs.declared.instr.Instr.{Instr}
@@ -11,7 +11,6 @@ use Rattle.isp_meaning.specs.Statements.{ranges}
 use Rattle.isp_lower.specs.Runs.{Ok}
 use Rattle.isp_lower.specs.Setting.{Setting, IsSettled, gang_of, calls_of, AreAt}
 use Rattle.isp_lower.proofs.Lemmas.{are_front, are_back, spares_less}
-use Rattle.isp_masks.specs.LoopRuns.{BodyRuns}
 use Rattle.isp_masks.specs.Ranges.{places_slot, runs_slot, measures_code, bounds_code, ranges_code, ranges_places, foreach_code}
 use Rattle.isp_masks.specs.Spots.{Spot}
 use Rattle.isp_masks.specs.StmtRuns.{AreThree, EntersAt, StmtRuns}

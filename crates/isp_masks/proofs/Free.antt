@@ -1,9 +1,9 @@
 -- In a program that is scoped each declaration has the next number, so none names a variable that was declared before.
-use Rattle.std.proofs.Common.{◌≡◌, ◌≢◌, ℕ, suc, ◌+◌, ◌<◌, ◌≤◌, List, [], ◌∷◌, length, Option, Some, None, true, refl, sym, ap, ◌∙◌, inl, inr, arith}
+use Rattle.std.proofs.Common.{◌≡◌, ℕ, suc, ◌+◌, ◌<◌, ◌≤◌, List, [], ◌∷◌, length, Option, Some, None, true, refl, sym, ap, ◌∙◌, inl, inr, arith}
 use Rattle.std.specs.Prelude.{not}
 use Rattle.isp_base.specs.declared.types.Span.{Span}
 use Rattle.isp_base.specs.declared.types.Ty.{Ty}
-use Rattle.isp_typed.specs.Scoped.{Scope, ItemsAt, RangesAt, StmtAt, BlockAt, StmtsAt, declared, scope_after, number_after, scope_after_first, number_after_first, scope_after_stmt, number_after_stmt, number_after_block, number_after_stmts}
+use Rattle.isp_typed.specs.Scoped.{Scope, ItemsAt, RangesAt, StmtAt, BlockAt, StmtsAt, declared, scope_after, number_after, number_after_first, scope_after_stmt, number_after_stmt, number_after_block, number_after_stmts}
 use Rattle.isp_typed.specs.Typed.{TItem, t_plain, t_with_value, t_with_size, TFirst, t_first_declare, t_first_simple, TRange, TStmt, t_block, t_declare, t_simple, t_if, t_if_else, t_while, t_do, t_for, t_foreach, t_foreach_active, t_unmasked, t_jump, t_return, t_print, t_assert, TBlock, t_braces, TStmts, t_no_stmts, t_stmt_then}
 use Rattle.isp_lex.specs.declared.fault.Fault.{Fault}
 use Rattle.isp_lex.specs.declared.fault.Rule.TheVariants.{NestedForeach}
@@ -12,7 +12,7 @@ use Rattle.isp_rates.specs.Breaches.{Unmet}
 use Rattle.isp_rates.specs.Exits.{in_loop, in_foreach, in_foreach_active, in_unmasked, StmtBreach, BlockBreach, StmtsBreach}
 use Rattle.isp_rates.specs.declared.exits.Within.{Within}
 use Rattle.isp_typed.specs.Typed.{TFunction}
-use Rattle.isp_masks.specs.Free.{IsApartFrom, ItemFree, ItemsFree, FirstFree, NoneYet, last_index_of, StmtFree, BlockFree, StmtsFree}
+use Rattle.isp_masks.specs.Free.{IsApartFrom, ItemsFree, NoneYet, last_index_of, StmtFree, BlockFree, StmtsFree}
 
 abbrev NoneOf : (Fault → Type 0) → Type 0
 NoneOf B = (f : Fault) → B f → ⊥

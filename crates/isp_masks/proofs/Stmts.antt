@@ -5,7 +5,7 @@ use Rattle.isp_base.specs.declared.trap.TrapKind.TheVariants.{Assert}
 use Rattle.isp_code.specs.Conf.{Conf}
 use Rattle.isp_code.specs.declared.instr.Instr.{Instr}
 use Rattle.isp_tree.specs.declared.stmt.Jump.TheVariants.{Break, Continue}
-use Rattle.isp_typed.specs.Fine.{heads, foreach_index}
+use Rattle.isp_typed.specs.Fine.{heads}
 use Rattle.isp_typed.specs.Typed.{TExpr, type_of, TStmt, t_block, t_declare, t_simple, t_if, t_if_else, t_while, t_do, t_for, t_foreach, t_foreach_active, t_unmasked, t_jump, t_return, t_print, t_assert, TBlock, t_braces, TStmts, t_no_stmts, t_stmt_then, TRange}
 use Rattle.isp_meaning.specs.State.{State, tick}
 use Rattle.isp_meaning.specs.Payloads.{Payload, is_false, offender}
@@ -35,14 +35,13 @@ use Rattle.isp_masks.proofs.Leaves.{jump_runs, return_ok, return_runs}
 use Rattle.isp_masks.proofs.Names.{named_back, named_front, named_past}
 use Rattle.isp_masks.proofs.Sequences.{set_aside, rest_runs, then_runs}
 use Rattle.isp_masks.proofs.Prints.{print_runs}
-use Rattle.isp_masks.proofs.Parts.{BlockParts, StmtParts, StmtsParts, RangesConstant, RangesTyped}
+use Rattle.isp_masks.proofs.Parts.{BlockParts, StmtParts, StmtsParts, RangesTyped}
 use Rattle.isp_masks.proofs.Bodies.{foreach_body, outside_back, outside_settled, outside_stands, with_layout}
 use Rattle.isp_masks.specs.Free.{last_index_of}
 use Rattle.isp_lower.specs.Layout.{outside}
 use Rattle.isp_lower.specs.Tables.{IsTyped}
 use Rattle.isp_base.specs.declared.types.Rate.TheVariants.{Varying}
 use Rattle.isp_base.specs.declared.types.Elem.TheVariants.{I32}
-use Rattle.std.specs.Prelude.{slice_get}
 use Rattle.isp_masks.proofs.Fitting.{last_constant}
 
 module _ (w : Setting) (ready : IsSettled w) where

@@ -13,7 +13,6 @@ use Rattle.isp_meaning.specs.State.{State, tick}
 use Rattle.isp_lower.specs.Setting.{Setting, IsSettled, gang_of, AreAt, At, Stands}
 use Rattle.isp_lower.proofs.Lemmas.{put_same, put_other, step_go, at_to, spares_all, spares_less, masked, masked_at}
 use Rattle.isp_masks.specs.Rounds.{fill_mask, unmasked_code}
-use Rattle.isp_masks.specs.LoopRuns.{BodyRuns}
 use Rattle.isp_masks.specs.Spots.{Spot, body_spot}
 use Rattle.isp_masks.specs.StmtRuns.{AreThree, EntersAt, StmtOk, StmtRuns}
 use Rattle.isp_masks.proofs.Combine.{stmt_after, go_runs, plain_ok}

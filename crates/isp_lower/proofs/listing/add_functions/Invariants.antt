@@ -1,5 +1,7 @@
-use Rattle.std.proofs.Common.{◌≡◌, ◌++◌, map}
+use Rattle.std.proofs.Common.{◌≡◌, ◌++◌, map, true}
+use Rattle.std.specs.List.{list_all}
 use Rattle.isp_code.specs.Listing.{routine_of}
+use Rattle.isp_code.specs.Writable.{parts_fit}
 use Rattle.isp_lower.proofs.listing.add_functions.Given as goal
 
 abbrev pub invariant-loop-f : goal.invariant-loop-f
@@ -8,3 +10,4 @@ invariant-loop-f l =
     × (l.code.gang ≡ l.initial.code.gang)
     × (l.code.places ≡ l.initial.code.places)
     × (l.code.texts ≡ l.initial.code.texts)
+    × (list_all parts_fit (map routine_of l.f-iterator.rest.items) ≡ true)

@@ -1,0 +1,134 @@
+-- The places that code names are those of nodes, which lie in the source: so the text of code can have them.
+use Rattle.std.proofs.Common.{◌≡◌, suc, ◌<◌, ◌≤◌, List, [], ◌∷◌, ◌++◌, Bool, true, false, Option, Some, None, nat_le, refl, le-leb, arith}
+use Rattle.std.specs.Prelude.{if◌then◌else◌}
+use Rattle.std.specs.List.{All, list_all}
+use Rattle.std.proofs.lemmas.Bool.{and_from}
+use Rattle.isp_base.specs.declared.operators.BinOp.{BinOp}
+use Rattle.isp_base.specs.Values.{divides}
+use Rattle.isp_base.specs.declared.types.Elem.{Elem}
+use Rattle.isp_base.specs.declared.types.Span.{Span}
+use Rattle.isp_base.specs.declared.types.Ty.{Ty}
+use Rattle.isp_code.specs.Writable.{place_fits, source_limit}
+use Rattle.isp_typed.specs.Fine.{FineExpr, FinePlace, FineBase, FineCall, FineArguments, FineArgument, FineParts, FineTarget, FineItem, FineSimple, params_of}
+use Rattle.isp_typed.specs.Library.{parts}
+use Rattle.isp_typed.specs.Typed.{TFunction, TExpr, t_constant, t_program_index, t_place, t_convert, t_cast, t_unary, t_binary, t_compare, t_logic, t_choose, t_call, t_library, t_packed_store, t_packed_load, TPlace, t_variable, t_element, TBase, t_whole, t_from, TArgument, t_by_value, t_by_name, TCall, t_called, TArguments, t_no_arguments, t_argument_then, TExprs, t_no_exprs, t_expr_then, t_exprs, TItem, t_plain, t_with_value, t_with_size, TSimple, t_value, t_run, t_assign, t_update, t_step}
+use Rattle.isp_typed.specs.declared.library.Part.{Part}
+use Rattle.isp_typed.specs.declared.variable.Holds.{Holds}
+use Rattle.isp_typed.specs.declared.variable.Holds.TheVariants as holds
+use Rattle.isp_typed.specs.declared.variable.Variable.{Variable}
+use Rattle.isp_lower.specs.Code.{expr_places, index_places, read_places, base_places, values_places, call_places, arguments_places, argument_places, operate_places}
+use Rattle.isp_lower.specs.Items.{item_places, items_places}
+use Rattle.isp_lower.specs.Layout.{Layout}
+use Rattle.isp_lower.specs.Simple.{simple_places}
+use Rattle.isp_lower.proofs.Writable.{all_both}
+
+-- a node's span is not empty, and ends within the longest source
+abbrev pub InSource : Span → Type 0
+InSource s = (s.start < s.end) × (s.end ≤ source_limit)
+
+abbrev pub Fit : List Span → Type 0
+Fit ps = list_all place_fits ps ≡ true
+
+pub fit_both : (ps qs : List Span) → Fit ps → Fit qs → Fit (ps ++ qs)
+fit_both ps qs a b = all_both place_fits ps qs a b
+
+pub fit_one : (s : Span) → InSource s → Fit (s ∷ [])
+fit_one s in_source =
+    and_from (place_fits s) true (and_from (nat_le s.start s.end) (nat_le s.end source_limit) (le-leb s.start s.end (omega (arith, in_source.0))) (le-leb s.end source_limit in_source.1)) refl
+
+operate_fit : (o : BinOp) (s : Span) → InSource s → Fit (operate_places o s)
+operate_fit o s in_source = where_so (divides o)
+  where
+    where_so : (b : Bool) → Fit (if b then s ∷ [] else [])
+    where_so true = fit_one s in_source
+    where_so false = refl
+
+module _ (fs : List TFunction) (vars : List Variable) (l : Layout) where
+  mutual
+    pub expr_fit : (x : TExpr) → FineExpr fs vars x → Fit (expr_places l x)
+    expr_fit (t_constant v s) f = refl
+    expr_fit (t_program_index s) f = refl
+    expr_fit (t_place p) f = fit_both (index_places l p) (read_places l p) (index_fit p f) (read_fit p f)
+    expr_fit (t_convert e x) f = expr_fit x f.0
+    expr_fit (t_cast x t s) f = expr_fit x f.0
+    expr_fit (t_unary o x t s) f = expr_fit x f.0
+    expr_fit (t_binary o x y t s) f =
+        fit_both (expr_places l x) (expr_places l y ++ operate_places o s) (expr_fit x f.0) (fit_both (expr_places l y) (operate_places o s) (expr_fit y f.1) (operate_fit o s f.4))
+    expr_fit (t_compare c x y r s) f = fit_both (expr_places l x) (expr_places l y) (expr_fit x f.0) (expr_fit y f.1)
+    expr_fit (t_logic g x y r s) f = fit_both (expr_places l x) (expr_places l y) (expr_fit x f.0) (expr_fit y f.1)
+    expr_fit (t_choose c x y t s) f =
+        fit_both (expr_places l c) (expr_places l x ++ expr_places l y) (expr_fit c f.0) (fit_both (expr_places l x) (expr_places l y) (expr_fit x f.1) (expr_fit y f.2))
+    expr_fit (t_call c t) f = call_fit c (Some t) f
+    expr_fit (t_library g e xs t s) f = parts_fit e (parts g) xs f.0
+    expr_fit (t_packed_store b x s) f =
+        fit_both (base_places l b) (expr_places l x ++ s ∷ []) (base_fit b f.0) (fit_both (expr_places l x) (s ∷ []) (expr_fit x f.1) (fit_one s f.4))
+    expr_fit (t_packed_load b v s) f = fit_both (base_places l b) (s ∷ []) (base_fit b f.0) (fit_one s f.2)
+
+    index_fit : (p : TPlace) → FinePlace fs vars p → Fit (index_places l p)
+    index_fit (t_variable v t s) f = refl
+    index_fit (t_element a i t s) f = expr_fit i f.1
+
+    read_fit : (p : TPlace) → FinePlace fs vars p → Fit (read_places l p)
+    read_fit (t_variable v t s) f = refl
+    read_fit (t_element a i t s) f = fit_one s f.3
+
+    base_fit : (b : TBase) → FineBase fs vars b → Fit (base_places l b)
+    base_fit (t_whole a s) f = refl
+    base_fit (t_from a i s) f = expr_fit i f.1
+
+    call_fit : (c : TCall) (o : Option Ty) → FineCall fs vars c o → Fit (call_places l c)
+    call_fit (t_called k xs s) o f = fit_both (arguments_places l xs) (s ∷ []) (arguments_fit (params_of f.0) xs f.3) (fit_one s f.4)
+
+    arguments_fit : (vs : List Variable) (xs : TArguments) → FineArguments fs vars vs xs → Fit (arguments_places l xs)
+    arguments_fit [] t_no_arguments f = refl
+    arguments_fit [] (t_argument_then x xs) f = absurd f
+    arguments_fit (v ∷ vs) t_no_arguments f = absurd f
+    arguments_fit (v ∷ vs) (t_argument_then x xs) f =
+        fit_both (argument_places l x) (arguments_places l xs) (argument_fit v.holds v.constant x f.0) (arguments_fit vs xs f.1)
+
+    argument_fit : (y : Holds) (c : Bool) (x : TArgument) → FineArgument fs vars y c x → Fit (argument_places l x)
+    argument_fit (holds.Value t) c (t_by_value x) f = expr_fit x f.0
+    argument_fit (holds.Given t) c (t_by_value x) f = absurd f
+    argument_fit (holds.Local t n) c (t_by_value x) f = absurd f
+    argument_fit y c (t_by_name a s) f = refl
+
+    parts_fit : (e : Elem) (ps : List Part) (xs : TExprs) → FineParts fs vars e ps xs → Fit (values_places l xs)
+    parts_fit e [] t_no_exprs f = refl
+    parts_fit e [] (t_expr_then x xs) f = absurd f
+    parts_fit e (p ∷ ps) t_no_exprs f = absurd f
+    parts_fit e (p ∷ ps) (t_expr_then x xs) f = fit_both (expr_places l x) (values_places l xs) (expr_fit x f.0) (parts_fit e ps xs f.2)
+
+  pub shown_fit : (xs : List TExpr) → All (FineExpr fs vars) xs → Fit (values_places l (t_exprs xs))
+  shown_fit [] f = refl
+  shown_fit (x ∷ xs) f =
+      fit_both (expr_places l x) (values_places l (t_exprs xs)) (expr_fit x (f 0 x (omega arith))) (shown_fit xs (λ k d lt. f (suc k) d (omega (arith, lt))))
+
+  -- ---- what stands before a semicolon
+
+  target_index : (p : TPlace) → FineTarget fs vars p → Fit (index_places l p)
+  target_index (t_variable v t s) f = refl
+  target_index (t_element a i t s) f = index_fit (t_element a i t s) f.0
+
+  target_read : (p : TPlace) → FineTarget fs vars p → Fit (read_places l p)
+  target_read (t_variable v t s) f = refl
+  target_read (t_element a i t s) f = read_fit (t_element a i t s) f.0
+
+  pub simple_fit : (x : TSimple) → FineSimple fs vars x → Fit (simple_places l x)
+  simple_fit (t_value x) f = expr_fit x f
+  simple_fit (t_run c) f = call_fit c None f
+  simple_fit (t_assign p x s) f =
+      fit_both (index_places l p) (expr_places l x ++ read_places l p) (target_index p f.0) (fit_both (expr_places l x) (read_places l p) (expr_fit x f.1.0) (target_read p f.0))
+  simple_fit (t_update o e p x s) f =
+      let change = read_places l p ++ operate_places o s in
+      fit_both (index_places l p) (expr_places l x ++ change) (target_index p f.0) (fit_both (expr_places l x) change (expr_fit x f.1.0) (fit_both (read_places l p) (operate_places o s) (target_read p f.0) (operate_fit o s f.3)))
+  simple_fit (t_step o e p s) f =
+      fit_both (index_places l p) (read_places l p ++ operate_places o s) (target_index p f.0) (fit_both (read_places l p) (operate_places o s) (target_read p f.0) (operate_fit o s f.2))
+
+  item_fit : (x : TItem) → FineItem fs vars x → Fit (item_places l x)
+  item_fit (t_plain v t s) f = refl
+  item_fit (t_with_value v t x s) f = expr_fit x f.1.0
+  item_fit (t_with_size a s) f = refl
+
+  pub items_fit : (xs : List TItem) → All (FineItem fs vars) xs → Fit (items_places l xs)
+  items_fit [] f = refl
+  items_fit (x ∷ xs) f = fit_both (item_places l x) (items_places l xs) (item_fit x (f 0 x (omega arith))) (items_fit xs (λ k d lt. f (suc k) d (omega (arith, lt))))
