@@ -44,4 +44,4 @@ pub use Rattle.isp_lower.proofs.Consecutive.{none_holds, run_place, run_each, co
 -- ---- what the text of code can have
 
 pub use Rattle.isp_lower.proofs.Writable.{all_at, all_both}
-pub use Rattle.isp_lower.proofs.Spans.{Fit, fit_both, fit_one, expr_fit, shown_fit, simple_fit, items_fit}
+pub use Rattle.isp_lower.proofs.Spans.{Placed, placed_both, placed_one, expr_placed, shown_placed, simple_placed, items_placed}
