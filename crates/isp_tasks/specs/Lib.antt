@@ -12,3 +12,4 @@ pub mod Starting
 pub mod Starts
 pub mod Stores
 pub mod Tasks
+pub mod reader

@@ -1,10 +1,11 @@
 //! What expressions give: the parts of a node come before what is done with them.
-ghost use Rattle.std.specs.Prelude.{◌≡◌, IfErr, OnOk};
+ghost use Rattle.std.specs.Prelude.{◌≡◌, IfErr, IsTrue, OnOk};
 ghost use Rattle.isp_base.specs.Sets.{flag_of};
 ghost use Rattle.isp_base.specs.declared.trap.Trap.{Trap};
 ghost use Rattle.isp_typed.specs.Views.{expr_of, place_of};
 ghost use Rattle.isp_typed.specs.Typed.{t_place};
 ghost use Rattle.isp_tasks.specs.Tasks.{Comes, Does, FirstValue, Halts, Reaches, Traps, does, finds};
+ghost use Rattle.isp_tasks.specs.reader.Kinds.{has_one, has_sides, has_two, is_library};
 ghost use Rattle.isp_tasks.specs.declared.tasks.Joining.TheVariants as Joining;
 ghost use Rattle.isp_tasks.specs.declared.state.Stop.TheVariants as Stop;
 ghost use Rattle.isp_tasks.specs.declared.tasks.Task.TheVariants as Task;
@@ -38,6 +39,26 @@ impl<'a> Evaluator<'a> {
                 Ok(())
             }
             TypedExpr::Place(place) => self.place(place, set),
+            TypedExpr::Convert { .. } | TypedExpr::Cast { .. } | TypedExpr::Unary { .. } => {
+                self.of_one(x, set)
+            }
+            TypedExpr::Binary { .. } | TypedExpr::Compare { .. } => self.of_two(x, set),
+            TypedExpr::Logic { .. } | TypedExpr::Choose { .. } => self.of_sides(x, set),
+            TypedExpr::Call { call, .. } => self.later(Task::Call(call, set)),
+            TypedExpr::Library { .. }
+            | TypedExpr::PackedStore { .. }
+            | TypedExpr::PackedLoad { .. } => self.of_library(x, set),
+        }
+    }
+
+    // One with one operand.
+    #[tactic(auto, using(crate::proofs::Leaves::memory_halts))]
+    fn of_one(&mut self, x: &'a TypedExpr, set: Active) -> Result<(), Stop>
+        requires { IsTrue (has_one (expr_of x.now)) }
+        ensures ok { OnOk result (Does self.old self.new (Task.Value x.entry set)) }
+        ensures err { IfErr result (Halts self.old self.new (does self.old (Task.Value x.entry set))) }
+    {
+        match x {
             TypedExpr::Convert { elem, operand } => {
                 let after = Task::Convert {
                     from: operand.ty().elem,
@@ -55,6 +76,18 @@ impl<'a> Evaluator<'a> {
                 ty,
                 ..
             } => self.reach(operand, set, Task::Unary(*operator, ty.elem)),
+            _ => unreachable!(),
+        }
+    }
+
+    // One with two operands: the left one comes first.
+    #[tactic(auto, using(crate::proofs::Leaves::memory_halts))]
+    fn of_two(&mut self, x: &'a TypedExpr, set: Active) -> Result<(), Stop>
+        requires { IsTrue (has_two (expr_of x.now)) }
+        ensures ok { OnOk result (Does self.old self.new (Task.Value x.entry set)) }
+        ensures err { IfErr result (Halts self.old self.new (does self.old (Task.Value x.entry set))) }
+    {
+        match x {
             TypedExpr::Binary {
                 operator,
                 left,
@@ -78,6 +111,18 @@ impl<'a> Evaluator<'a> {
                 let joining = Joining::Compare(*comparison, left.ty().elem);
                 self.reach(left, set, Task::Right(joining, right, set))
             }
+            _ => unreachable!(),
+        }
+    }
+
+    // One whose first part says which members need the others.
+    #[tactic(auto, using(crate::proofs::Leaves::memory_halts))]
+    fn of_sides(&mut self, x: &'a TypedExpr, set: Active) -> Result<(), Stop>
+        requires { IsTrue (has_sides (expr_of x.now)) }
+        ensures ok { OnOk result (Does self.old self.new (Task.Value x.entry set)) }
+        ensures err { IfErr result (Halts self.old self.new (does self.old (Task.Value x.entry set))) }
+    {
+        match x {
             TypedExpr::Logic {
                 logic,
                 left,
@@ -97,7 +142,18 @@ impl<'a> Evaluator<'a> {
                 };
                 self.reach(test, set, after)
             }
-            TypedExpr::Call { call, .. } => self.later(Task::Call(call, set)),
+            _ => unreachable!(),
+        }
+    }
+
+    // A call of the library, a packed one among them.
+    #[tactic(auto, using(crate::proofs::Leaves::memory_halts))]
+    fn of_library(&mut self, x: &'a TypedExpr, set: Active) -> Result<(), Stop>
+        requires { IsTrue (is_library (expr_of x.now)) }
+        ensures ok { OnOk result (Does self.old self.new (Task.Value x.entry set)) }
+        ensures err { IfErr result (Halts self.old self.new (does self.old (Task.Value x.entry set))) }
+    {
+        match x {
             TypedExpr::Library {
                 function,
                 elem,
@@ -121,6 +177,7 @@ impl<'a> Evaluator<'a> {
                 self.work.tick();
                 self.base(Packing::Load(*variable), base, *span, set)
             }
+            _ => unreachable!(),
         }
     }
 

@@ -1,6 +1,7 @@
 //! What is left to do.
-ghost use Rattle.std.specs.Prelude.{IfErr, OnOk};
+ghost use Rattle.std.specs.Prelude.{IfErr, IsTrue, OnOk};
 ghost use Rattle.isp_tasks.specs.Tasks.{Comes, Halts, does};
+ghost use Rattle.isp_tasks.specs.reader.Kinds.{is_access, is_calling, is_gathering, is_round, is_side, is_turn};
 
 use crate::activation::Activation;
 use crate::loops::Turning;
@@ -229,27 +230,46 @@ impl<'a> Evaluator<'a> {
     {
         match task {
             Task::Value(x, set) => self.value(x, set),
-            Task::Load {
-                array,
-                elem,
-                span,
-                set,
-            } => self.load(array, elem, span, set),
-            Task::Convert { from, to } => {
-                self.convert(from, to);
-                Ok(())
-            }
-            Task::Unary(operator, elem) => {
-                self.unary(operator, elem);
-                Ok(())
-            }
+            Task::Convert { from, to } => Ok(self.convert(from, to)),
+            Task::Unary(operator, elem) => Ok(self.unary(operator, elem)),
             Task::Right(joining, right, set) => self.right(joining, right, set),
             Task::Join(joining, left, set) => self.join(joining, left, set),
             Task::Logic(logic, right, set) => self.logic(logic, right, set),
-            Task::Settle(logic, left, set) => {
-                self.settle(logic, left, set);
-                Ok(())
+            Task::Settle(logic, left, set) => Ok(self.settle(logic, left, set)),
+            Task::Choose { .. } | Task::Otherwise { .. } => self.choose_side(task),
+            Task::Select { test, then, set } => Ok(self.select(test, then, set)),
+            Task::Load { .. } | Task::Indexed { .. } | Task::Update { .. } => self.access(task),
+            Task::Values { .. } | Task::Packed { .. } => self.gather(task),
+            Task::PackedStore(elements, span, set) => self.packed_store(elements, span, set),
+            Task::Call(call, set) => self.call(call, set),
+            Task::Arguments { .. } | Task::Argument { .. } | Task::Return { .. } => self.pass(task),
+            Task::Simple(simple, set) => self.simple(simple, set),
+            Task::Forget => Ok(self.forget()),
+            Task::Assign(place, span, set) => self.assign(place, span, set),
+            Task::Items(items, set) => self.items(items, set),
+            Task::Declared { number, ty, set } => self.declared(number, ty, set),
+            Task::Run(statement, set) => self.run(statement, set),
+            Task::Statements(statements) => self.went_by(statements),
+            Task::Went(set) => Ok(self.leave(Sets::all(&set))),
+            Task::Branch(branches) => self.branch(branches),
+            Task::Second(branches) => self.second(branches),
+            Task::Unite(first) => Ok(self.unite(first)),
+            Task::Answer(set) => Ok(self.answer(set)),
+            Task::Assert(span, set) => self.assert(span, set),
+            Task::Test(_) | Task::Tested(_) | Task::Turned(_) => self.take_turn(task),
+            Task::Start(_) | Task::End { .. } | Task::Rounds(_) | Task::Members(_) => {
+                self.run_each(task)
             }
+        }
+    }
+
+    // Of `?:`.
+    fn choose_side(&mut self, task: Task<'a>) -> Result<(), Stop>
+        requires { IsTrue (is_side task) }
+        ensures ok { OnOk result (Comes self.old self.new (does self.old task.entry)) }
+        ensures err { IfErr result (Halts self.old self.new (does self.old task.entry)) }
+    {
+        match task {
             Task::Choose {
                 then,
                 otherwise,
@@ -260,10 +280,47 @@ impl<'a> Evaluator<'a> {
                 otherwise,
                 set,
             } => self.otherwise(test, otherwise, set),
-            Task::Select { test, then, set } => {
-                self.select(test, then, set);
-                Ok(())
-            }
+            _ => unreachable!(),
+        }
+    }
+
+    // Of an element, and of what a place holds.
+    fn access(&mut self, task: Task<'a>) -> Result<(), Stop>
+        requires { IsTrue (is_access task) }
+        ensures ok { OnOk result (Comes self.old self.new (does self.old task.entry)) }
+        ensures err { IfErr result (Halts self.old self.new (does self.old task.entry)) }
+    {
+        match task {
+            Task::Load {
+                array,
+                elem,
+                span,
+                set,
+            } => self.load(array, elem, span, set),
+            Task::Indexed {
+                target,
+                array,
+                elem,
+                writing,
+                set,
+            } => self.indexed(target, array, elem, writing, set),
+            Task::Update {
+                operation,
+                place,
+                target,
+                set,
+            } => self.update(operation, place, target, set),
+            _ => unreachable!(),
+        }
+    }
+
+    // Of several values, and of a packed call.
+    fn gather(&mut self, task: Task<'a>) -> Result<(), Stop>
+        requires { IsTrue (is_gathering task) }
+        ensures ok { OnOk result (Comes self.old self.new (does self.old task.entry)) }
+        ensures err { IfErr result (Halts self.old self.new (does self.old task.entry)) }
+    {
+        match task {
             Task::Values {
                 gathering,
                 rest,
@@ -277,8 +334,17 @@ impl<'a> Evaluator<'a> {
                 span,
                 set,
             } => self.packed(packing, array, elem, span, set),
-            Task::PackedStore(elements, span, set) => self.packed_store(elements, span, set),
-            Task::Call(call, set) => self.call(call, set),
+            _ => unreachable!(),
+        }
+    }
+
+    // Of a call.
+    fn pass(&mut self, task: Task<'a>) -> Result<(), Stop>
+        requires { IsTrue (is_calling task) }
+        ensures ok { OnOk result (Comes self.old self.new (does self.old task.entry)) }
+        ensures err { IfErr result (Halts self.old self.new (does self.old task.entry)) }
+    {
+        match task {
             Task::Arguments {
                 call,
                 rest,
@@ -296,55 +362,37 @@ impl<'a> Evaluator<'a> {
                 left,
                 sets,
                 set,
-            } => {
-                self.resume(caller, left, sets, set);
-                Ok(())
-            }
-            Task::Simple(simple, set) => self.simple(simple, set),
-            Task::Forget => {
-                self.forget();
-                Ok(())
-            }
-            Task::Indexed {
-                target,
-                array,
-                elem,
-                writing,
-                set,
-            } => self.indexed(target, array, elem, writing, set),
-            Task::Assign(place, span, set) => self.assign(place, span, set),
-            Task::Update {
-                operation,
-                place,
-                target,
-                set,
-            } => self.update(operation, place, target, set),
-            Task::Items(items, set) => self.items(items, set),
-            Task::Declared { number, ty, set } => self.declared(number, ty, set),
-            Task::Run(statement, set) => self.run(statement, set),
-            Task::Statements(statements) => self.went_by(statements),
-            Task::Went(set) => {
-                self.leave(Sets::all(&set));
-                Ok(())
-            }
-            Task::Branch(branches) => self.branch(branches),
-            Task::Second(branches) => self.second(branches),
-            Task::Unite(first) => {
-                self.unite(first);
-                Ok(())
-            }
-            Task::Answer(set) => {
-                self.answer(set);
-                Ok(())
-            }
-            Task::Assert(span, set) => self.assert(span, set),
+            } => Ok(self.resume(caller, left, sets, set)),
+            _ => unreachable!(),
+        }
+    }
+
+    // Of a turn of a loop.
+    fn take_turn(&mut self, task: Task<'a>) -> Result<(), Stop>
+        requires { IsTrue (is_turn task) }
+        ensures ok { OnOk result (Comes self.old self.new (does self.old task.entry)) }
+        ensures err { IfErr result (Halts self.old self.new (does self.old task.entry)) }
+    {
+        match task {
             Task::Test(turning) => self.test(*turning),
             Task::Tested(turning) => self.tested(*turning),
             Task::Turned(turning) => self.turned(*turning),
+            _ => unreachable!(),
+        }
+    }
+
+    // Of a body that runs over each of a list of sets.
+    fn run_each(&mut self, task: Task<'a>) -> Result<(), Stop>
+        requires { IsTrue (is_round task) }
+        ensures ok { OnOk result (Comes self.old self.new (does self.old task.entry)) }
+        ensures err { IfErr result (Halts self.old self.new (does self.old task.entry)) }
+    {
+        match task {
             Task::Start(bounds) => self.start(bounds),
             Task::End { start, bounds } => self.end(start, bounds),
             Task::Rounds(rounds) => self.rounds(rounds),
             Task::Members(members) => self.members(members),
+            _ => unreachable!(),
         }
     }
 }

@@ -1,7 +1,6 @@
-use Rattle.std.proofs.Common.{refl, sym, ap, subst, OnOk, IfErr}
+use Rattle.std.proofs.Common.{refl, sym, ap}
 use Rattle.isp_base.specs.Sets.{flag_of}
-use Rattle.isp_tasks.specs.Tasks.{Comes, Halts, all_parts, does, rest, store_seen, tests_on, keeps_on, turned_on}
-use Rattle.isp_tasks.specs.declared.loops.Turning.{Turning}
+use Rattle.isp_tasks.specs.Tasks.{all_parts, does, rest, store_seen}
 use Rattle.isp_tasks.specs.declared.state.Evaluator.{Evaluator}
 use Rattle.isp_tasks.specs.declared.tasks.Task.TheVariants as task
 use Rattle.isp_tasks.proofs.Acting.{act_comes, act_does, comes_ok, does_ok, halts_err, traps_err, refused_err}
@@ -14,12 +13,6 @@ returns-in-Value-clause-ok c = does_ok c.args.self.now c.value.new.self c.args.t
 
 pub returns-in-Value-clause-err : goal.returns-in-Value-clause-err
 returns-in-Value-clause-err c = halts_err c.args.self.now c.value.new.self c.args.task _ c.in-Value.is c.value.result c.value.ensures.err
-
-pub returns-in-Load-clause-ok : goal.returns-in-Load-clause-ok
-returns-in-Load-clause-ok c = does_ok c.args.self.now c.load.new.self c.args.task _ c.in-Load.is c.load.result c.load.ensures.ok
-
-pub returns-in-Load-clause-err : goal.returns-in-Load-clause-err
-returns-in-Load-clause-err c = traps_err c.args.self.now c.load.new.self c.args.task _ c.in-Load.is c.load.result c.load.ensures.err
 
 pub returns-in-Convert-clause-ok : goal.returns-in-Convert-clause-ok
 returns-in-Convert-clause-ok c = act_does c.args.self.now c.convert.new.self c.args.task _ c.in-Convert.is c.convert.ensures
@@ -48,32 +41,8 @@ returns-in-Logic-clause-err c = refused_err c.args.self.now c.logic.new.self c.a
 pub returns-in-Settle-clause-ok : goal.returns-in-Settle-clause-ok
 returns-in-Settle-clause-ok c = act_does c.args.self.now c.settle.new.self c.args.task _ c.in-Settle.is c.settle.ensures
 
-pub returns-in-Choose-clause-ok : goal.returns-in-Choose-clause-ok
-returns-in-Choose-clause-ok c = does_ok c.args.self.now c.choose.new.self c.args.task _ c.in-Choose.is c.choose.result c.choose.ensures.ok
-
-pub returns-in-Choose-clause-err : goal.returns-in-Choose-clause-err
-returns-in-Choose-clause-err c = refused_err c.args.self.now c.choose.new.self c.args.task c.choose.result c.choose.ensures.err
-
-pub returns-in-Otherwise-clause-ok : goal.returns-in-Otherwise-clause-ok
-returns-in-Otherwise-clause-ok c = does_ok c.args.self.now c.otherwise.new.self c.args.task _ c.in-Otherwise.is c.otherwise.result c.otherwise.ensures.ok
-
-pub returns-in-Otherwise-clause-err : goal.returns-in-Otherwise-clause-err
-returns-in-Otherwise-clause-err c = refused_err c.args.self.now c.otherwise.new.self c.args.task c.otherwise.result c.otherwise.ensures.err
-
 pub returns-in-Select-clause-ok : goal.returns-in-Select-clause-ok
 returns-in-Select-clause-ok c = act_does c.args.self.now c.select.new.self c.args.task _ c.in-Select.is c.select.ensures
-
-pub returns-in-Values-clause-ok : goal.returns-in-Values-clause-ok
-returns-in-Values-clause-ok c = does_ok c.args.self.now c.one_more.new.self c.args.task _ c.in-Values.is c.one_more.result c.one_more.ensures.ok
-
-pub returns-in-Values-clause-err : goal.returns-in-Values-clause-err
-returns-in-Values-clause-err c = refused_err c.args.self.now c.one_more.new.self c.args.task c.one_more.result c.one_more.ensures.err
-
-pub returns-in-Packed-clause-ok : goal.returns-in-Packed-clause-ok
-returns-in-Packed-clause-ok c = does_ok c.args.self.now c.packed.new.self c.args.task _ c.in-Packed.is c.packed.result c.packed.ensures.ok
-
-pub returns-in-Packed-clause-err : goal.returns-in-Packed-clause-err
-returns-in-Packed-clause-err c = halts_err c.args.self.now c.packed.new.self c.args.task _ c.in-Packed.is c.packed.result c.packed.ensures.err
 
 pub returns-in-PackedStore-clause-ok : goal.returns-in-PackedStore-clause-ok
 returns-in-PackedStore-clause-ok c = does_ok c.args.self.now c.packed_store.new.self c.args.task _ c.in-PackedStore.is c.packed_store.result c.packed_store.ensures.ok
@@ -87,44 +56,17 @@ returns-in-Call-clause-ok c = does_ok c.args.self.now c.call.new.self c.args.tas
 pub returns-in-Call-clause-err : goal.returns-in-Call-clause-err
 returns-in-Call-clause-err c = refused_err c.args.self.now c.call.new.self c.args.task c.call.result c.call.ensures.err
 
-pub returns-in-Arguments-clause-ok : goal.returns-in-Arguments-clause-ok
-returns-in-Arguments-clause-ok c = does_ok c.args.self.now c.arguments.new.self c.args.task _ c.in-Arguments.is c.arguments.result c.arguments.ensures.ok
-
-pub returns-in-Arguments-clause-err : goal.returns-in-Arguments-clause-err
-returns-in-Arguments-clause-err c = halts_err c.args.self.now c.arguments.new.self c.args.task _ c.in-Arguments.is c.arguments.result c.arguments.ensures.err
-
-pub returns-in-Argument-clause-ok : goal.returns-in-Argument-clause-ok
-returns-in-Argument-clause-ok c = does_ok c.args.self.now c.argument.new.self c.args.task _ c.in-Argument.is c.argument.result c.argument.ensures.ok
-
-pub returns-in-Argument-clause-err : goal.returns-in-Argument-clause-err
-returns-in-Argument-clause-err c = refused_err c.args.self.now c.argument.new.self c.args.task c.argument.result c.argument.ensures.err
-
-pub returns-in-Return-clause-ok : goal.returns-in-Return-clause-ok
-returns-in-Return-clause-ok c = act_does c.args.self.now c.resume.new.self c.args.task _ c.in-Return.is c.resume.ensures
-
 pub returns-in-Simple-clause-ok : goal.returns-in-Simple-clause-ok
 returns-in-Simple-clause-ok c = does_ok c.args.self.now c.simple.new.self c.args.task _ c.in-Simple.is c.simple.result c.simple.ensures.ok
 
 pub returns-in-Simple-clause-err : goal.returns-in-Simple-clause-err
 returns-in-Simple-clause-err c = halts_err c.args.self.now c.simple.new.self c.args.task _ c.in-Simple.is c.simple.result c.simple.ensures.err
 
-pub returns-in-Indexed-clause-ok : goal.returns-in-Indexed-clause-ok
-returns-in-Indexed-clause-ok c = does_ok c.args.self.now c.indexed.new.self c.args.task _ c.in-Indexed.is c.indexed.result c.indexed.ensures.ok
-
-pub returns-in-Indexed-clause-err : goal.returns-in-Indexed-clause-err
-returns-in-Indexed-clause-err c = halts_err c.args.self.now c.indexed.new.self c.args.task _ c.in-Indexed.is c.indexed.result c.indexed.ensures.err
-
 pub returns-in-Assign-clause-ok : goal.returns-in-Assign-clause-ok
 returns-in-Assign-clause-ok c = does_ok c.args.self.now c.assign.new.self c.args.task _ c.in-Assign.is c.assign.result c.assign.ensures.ok
 
 pub returns-in-Assign-clause-err : goal.returns-in-Assign-clause-err
 returns-in-Assign-clause-err c = halts_err c.args.self.now c.assign.new.self c.args.task _ c.in-Assign.is c.assign.result c.assign.ensures.err
-
-pub returns-in-Update-clause-ok : goal.returns-in-Update-clause-ok
-returns-in-Update-clause-ok c = does_ok c.args.self.now c.update.new.self c.args.task _ c.in-Update.is c.update.result c.update.ensures.ok
-
-pub returns-in-Update-clause-err : goal.returns-in-Update-clause-err
-returns-in-Update-clause-err c = halts_err c.args.self.now c.update.new.self c.args.task _ c.in-Update.is c.update.result c.update.ensures.err
 
 pub returns-in-Items-clause-ok : goal.returns-in-Items-clause-ok
 returns-in-Items-clause-ok c = does_ok c.args.self.now c.items.new.self c.args.task _ c.in-Items.is c.items.result c.items.ensures.ok
@@ -180,48 +122,6 @@ returns-in-Assert-clause-ok c = comes_ok c.args.self.now c.assert.new.self c.arg
 
 pub returns-in-Assert-clause-err : goal.returns-in-Assert-clause-err
 returns-in-Assert-clause-err c = halts_err c.args.self.now c.assert.new.self c.args.task _ c.in-Assert.is c.assert.result c.assert.ensures.err
-
-pub returns-in-Test-clause-ok : goal.returns-in-Test-clause-ok
-returns-in-Test-clause-ok c = comes_ok c.args.self.now c.test.new.self c.args.task (task.Test c.in-Test.turning) c.in-Test.is c.test.result (subst (λ (k : Turning). OnOk c.test.result (Comes c.args.self.now c.test.new.self (tests_on c.args.self.now k))) c.deref.ensures c.test.ensures.ok)
-
-pub returns-in-Test-clause-err : goal.returns-in-Test-clause-err
-returns-in-Test-clause-err c = halts_err c.args.self.now c.test.new.self c.args.task (task.Test c.in-Test.turning) c.in-Test.is c.test.result (subst (λ (k : Turning). IfErr c.test.result (Halts c.args.self.now c.test.new.self (tests_on c.args.self.now k))) c.deref.ensures c.test.ensures.err)
-
-pub returns-in-Tested-clause-ok : goal.returns-in-Tested-clause-ok
-returns-in-Tested-clause-ok c = comes_ok c.args.self.now c.tested.new.self c.args.task (task.Tested c.in-Tested.turning) c.in-Tested.is c.tested.result (subst (λ (k : Turning). OnOk c.tested.result (Comes c.args.self.now c.tested.new.self (keeps_on c.args.self.now k))) c.deref-in-Tested.ensures c.tested.ensures.ok)
-
-pub returns-in-Tested-clause-err : goal.returns-in-Tested-clause-err
-returns-in-Tested-clause-err c = halts_err c.args.self.now c.tested.new.self c.args.task (task.Tested c.in-Tested.turning) c.in-Tested.is c.tested.result (subst (λ (k : Turning). IfErr c.tested.result (Halts c.args.self.now c.tested.new.self (keeps_on c.args.self.now k))) c.deref-in-Tested.ensures c.tested.ensures.err)
-
-pub returns-in-Turned-clause-ok : goal.returns-in-Turned-clause-ok
-returns-in-Turned-clause-ok c = comes_ok c.args.self.now c.turned.new.self c.args.task (task.Turned c.in-Turned.turning) c.in-Turned.is c.turned.result (subst (λ (k : Turning). OnOk c.turned.result (Comes c.args.self.now c.turned.new.self (turned_on c.args.self.now k))) c.deref-in-Turned.ensures c.turned.ensures.ok)
-
-pub returns-in-Turned-clause-err : goal.returns-in-Turned-clause-err
-returns-in-Turned-clause-err c = refused_err c.args.self.now c.turned.new.self c.args.task c.turned.result c.turned.ensures.err
-
-pub returns-in-Start-clause-ok : goal.returns-in-Start-clause-ok
-returns-in-Start-clause-ok c = comes_ok c.args.self.now c.start.new.self c.args.task _ c.in-Start.is c.start.result c.start.ensures.ok
-
-pub returns-in-Start-clause-err : goal.returns-in-Start-clause-err
-returns-in-Start-clause-err c = refused_err c.args.self.now c.start.new.self c.args.task c.start.result c.start.ensures.err
-
-pub returns-in-End-clause-ok : goal.returns-in-End-clause-ok
-returns-in-End-clause-ok c = comes_ok c.args.self.now c.end.new.self c.args.task _ c.in-End.is c.end.result c.end.ensures.ok
-
-pub returns-in-End-clause-err : goal.returns-in-End-clause-err
-returns-in-End-clause-err c = refused_err c.args.self.now c.end.new.self c.args.task c.end.result c.end.ensures.err
-
-pub returns-in-Rounds-clause-ok : goal.returns-in-Rounds-clause-ok
-returns-in-Rounds-clause-ok c = comes_ok c.args.self.now c.rounds.new.self c.args.task _ c.in-Rounds.is c.rounds.result c.rounds.ensures.ok
-
-pub returns-in-Rounds-clause-err : goal.returns-in-Rounds-clause-err
-returns-in-Rounds-clause-err c = refused_err c.args.self.now c.rounds.new.self c.args.task c.rounds.result c.rounds.ensures.err
-
-pub returns-in-Members-clause-ok : goal.returns-in-Members-clause-ok
-returns-in-Members-clause-ok c = comes_ok c.args.self.now c.members.new.self c.args.task _ c.in-Members.is c.members.result c.members.ensures.ok
-
-pub returns-in-Members-clause-err : goal.returns-in-Members-clause-err
-returns-in-Members-clause-err c = refused_err c.args.self.now c.members.new.self c.args.task c.members.result c.members.ensures.err
 
 pub returns-in-Went-clause-ok : goal.returns-in-Went-clause-ok
 returns-in-Went-clause-ok c =
