@@ -24,7 +24,7 @@ last_of : (a : List Instr) (x : Instr) → slice_get (a ++ x ∷ []) (length a) 
 last_of [] x = refl
 last_of (i ∷ a) x = last_of a x
 
-body_sound : (code : Listing) (h : Routine) → IsBodyCode code h → AreSound code h h.code
+pub body_sound : (code : Listing) (h : Routine) → IsBodyCode code h → AreSound code h h.code
 body_sound code h is = function_sound is.functions code h is.layout is.links is.answer is.body is.numbers is.code_is (block_tree is.functions is.variables is.answer is.body is.fine is.rated) is.present is.masks is.places is.texts is.given
 
 body_ends : (code : Listing) (h : Routine) → IsBodyCode code h → stays (slice_get h.code (last h)) ≡ true

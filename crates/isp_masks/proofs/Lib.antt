@@ -50,8 +50,11 @@ mod Forms
 mod Sifting
 mod Telling
 mod Views
+mod Ranged
 mod RangesAsked
 mod RangesWritten
+mod Spans
+mod Constants
 mod Routines
 mod Listings
 mod FirstRows

@@ -3,15 +3,17 @@ use Rattle.std.proofs.Common.{◌≡◌, ℕ, zero, suc, ◌+◌, ◌<◌, List,
 use Rattle.std.proofs.Math.Seq.{take-suc}
 use Rattle.std.proofs.lemmas.List.{length-append, map-append}
 use Rattle.std.proofs.lemmas.Option.{slice_get_within}
-use Rattle.std.specs.List.{All}
+use Rattle.std.specs.List.{All, list_all}
 use Rattle.isp_base.specs.declared.types.Span.{Span}
-use Rattle.isp_code.specs.Listing.{Listing, Routine}
-use Rattle.isp_lower.specs.Drafts.{Draft, all_routines}
+use Rattle.isp_code.specs.Listing.{Routine}
+use Rattle.isp_code.specs.Writable.{has_byte, place_fits}
+use Rattle.isp_lower.specs.Drafts.{Draft, all_routines, finished}
 use Rattle.isp_lower.specs.Setting.{AreAt}
+use Rattle.isp_lower.proofs.Lemmas.{all_both}
 use Rattle.isp_typed.specs.Typed.{Program, TFunction}
 use Rattle.isp_typed.specs.Views.{function_of, functions_of}
 use Rattle.isp_typed.specs.declared.function.TypedFunction.{TypedFunction}
-use Rattle.isp_masks.specs.Lowered.{AddsLowered, AreLowered, GrowsTo, HasCode, IsFineFunction, IsLowered}
+use Rattle.isp_masks.specs.Lowered.{AddsLowered, AreLowered, CanBeNamed, GrowsTo, HasCode, IsLowered}
 
 get_more : {A : Type 0} (xs zs : List A) (n : ℕ) (y : A) → slice_get xs n ≡ Some y → slice_get (xs ++ zs) n ≡ Some y
 get_more [] zs n y e = absurd (omega (arith, slice_get_within [] n y e))
@@ -73,6 +75,13 @@ routine_more callees fs at f old new low is same a x =
     (subst (λ z. AreLowered callees (functions_of (take at fs) ++ function_of f ∷ []) z new.places new.texts) (sym x.added)
     (all_last callees (functions_of (take at fs)) (all_routines old) (function_of f) x.routine new.places new.texts (all_more callees (functions_of (take at fs)) (all_routines old) old.places new.places old.texts new.texts x.places x.texts a) (subst (λ z. IsLowered z (function_of f) x.routine new.places new.texts) same x.lowered)))
 
+-- its places and its texts are more that the text of code can have
+pub named_more : (h : TFunction) (old new : Draft) → CanBeNamed old → AddsLowered h old new → CanBeNamed new
+named_more h old new can x = record {
+  places = ap (list_all place_fits) x.places.is ∙ all_both place_fits old.places x.places.more can.places x.places_fit;
+  texts = ap (list_all has_byte) x.texts.is ∙ all_both has_byte old.texts x.texts.more can.texts x.texts_fit;
+}
+
 same_count : (fs hs : List TFunction) (gs : List Routine) (places : List Span) (texts : List (List ℕ)) → AreLowered fs hs gs places texts → length gs ≡ length hs
 same_count fs [] [] places texts a = refl
 same_count fs [] (g ∷ gs) places texts a = absurd a
@@ -88,21 +97,16 @@ each_at fs (k ∷ hs) (m ∷ gs) places texts a zero h g e d = subst (λ z. IsLo
     some_is x y e = cc
 each_at fs (k ∷ hs) (m ∷ gs) places texts a (suc f) h g e d = each_at fs hs gs places texts a.1 f h g e d
 
-pub has_code : (program : Program) (code : Listing) (gs : List Routine) (places : List Span) (texts : List (List ℕ)) → AreLowered program.functions program.functions gs places texts
-    → code.gang ≡ program.gang → code.routines ≡ gs → code.places ≡ places → code.texts ≡ texts → HasCode program code
-has_code program code gs places texts a gang routines places_are texts_are =
-    let b =
-    subst (λ z. AreLowered program.functions program.functions code.routines code.places z) (sym texts_are)
-    (subst (λ z. AreLowered program.functions program.functions code.routines z texts) (sym places_are) (subst (λ z. AreLowered program.functions program.functions z places texts) (sym routines) a)) in
-    record {
-      gang = gang;
-      count = same_count program.functions program.functions code.routines code.places code.texts b;
-      each = each_at program.functions program.functions code.routines code.places code.texts b;
-    }
+pub has_finished : (program : Program) (d : Draft) → AreLowered program.functions program.functions (all_routines d) d.places d.texts → d.gang ≡ program.gang → HasCode program (finished d)
+has_finished program d a gang = record {
+  gang = gang;
+  count = same_count program.functions program.functions (all_routines d) d.places d.texts a;
+  each = each_at program.functions program.functions (all_routines d) d.places d.texts a;
+}
 
--- ---- each function is fine
+-- ---- what is so of all functions is so of each
 
-pub fine_at : (fs : List TypedFunction) (i : ℕ) (f : TypedFunction) → All IsFineFunction (functions_of fs) → i < length fs → f ≡ get_or fs i f → IsFineFunction (function_of f)
-fine_at [] i f all lt is = absurd (omega (arith, lt))
-fine_at (x ∷ fs) zero f all lt is = subst (λ z. IsFineFunction (function_of z)) (sym is) (all 0 (function_of f) (omega arith))
-fine_at (x ∷ fs) (suc i) f all lt is = fine_at fs i f (λ k d l. all (suc k) d (omega (arith, l))) (omega (arith, lt)) is
+pub all_at : (P : TFunction → Type 0) (fs : List TypedFunction) (i : ℕ) (f : TypedFunction) → All P (functions_of fs) → i < length fs → f ≡ get_or fs i f → P (function_of f)
+all_at P [] i f all lt is = absurd (omega (arith, lt))
+all_at P (x ∷ fs) zero f all lt is = subst (λ z. P (function_of z)) (sym is) (all 0 (function_of f) (omega arith))
+all_at P (x ∷ fs) (suc i) f all lt is = all_at P fs i f (λ k d l. all (suc k) d (omega (arith, l))) (omega (arith, lt)) is

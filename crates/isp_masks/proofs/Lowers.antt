@@ -1,7 +1,8 @@
 -- The code of a program is what is asked of code, so it agrees with the program and the verifier accepts it.
-use Rattle.std.proofs.Common.{◌≡◌, ℕ, zero, suc, ◌<◌, List, [], ◌∷◌, length, map, take, Option, Some, None, true, refl, sym, ap, ◌∙◌, subst, arith}
+use Rattle.std.proofs.Common.{◌≡◌, ℕ, zero, suc, ◌<◌, List, [], ◌∷◌, length, map, take, Option, Some, None, Bool, true, refl, sym, ap, ◌∙◌, subst, arith}
 use Rattle.std.specs.Prelude.{slice_get, option_map}
-use Rattle.std.specs.List.{All}
+use Rattle.std.specs.List.{All, list_all}
+use Rattle.std.proofs.lemmas.Bool.{and_from}
 use Rattle.std.proofs.lemmas.Option.{get_or_from_slice_get, slice_get_within}
 use Rattle.isp_base.specs.declared.types.Elem.{Elem}
 use Rattle.isp_base.specs.declared.types.Rate.{Rate}
@@ -10,8 +11,10 @@ use Rattle.isp_base.specs.declared.types.Ty.{Ty}
 use Rattle.isp_code.specs.Entries.{parameter_of, parameters_of, result_of}
 use Rattle.isp_code.specs.Listing.{Listing, Routine}
 use Rattle.isp_code.specs.Registers.{table_of, types_in}
+use Rattle.isp_code.specs.Writable.{parts_fit}
 use Rattle.isp_rates.specs.Program.{IsAccepted}
 use Rattle.isp_typed.specs.Fine.{AreParams, FineFunction, all_new, params_of}
+use Rattle.isp_typed.specs.Scoped.{ScopedFunction}
 use Rattle.isp_typed.specs.Typed.{Program, TFunction}
 use Rattle.isp_verify.specs.Faults.{header_fits, code_fault}
 use Rattle.isp_base.specs.declared.signature.Parameter.{Parameter}
@@ -27,8 +30,9 @@ use Rattle.isp_masks.specs.Compiled.{IsEntry, IsFunctionCode, IsProgramCode}
 use Rattle.isp_lower.specs.Header.{returns_of, types_of, value_returned}
 use Rattle.isp_masks.specs.Lowered.{IsLowered, HasCode}
 use Rattle.isp_masks.specs.Made.{IsMade, GivesUniform}
-use Rattle.isp_masks.proofs.Accepted.{code_accepted}
+use Rattle.isp_masks.proofs.Accepted.{body_sound, code_accepted}
 use Rattle.isp_masks.proofs.Checked.{FunctionFits, function_fits}
+use Rattle.isp_masks.proofs.Constants.{routine_parts_fit}
 use Rattle.isp_masks.proofs.FirstRows.{parameters_same, result_row}
 use Rattle.isp_masks.proofs.Heads.{names_apart, names_same, new_name, exports, head_fits}
 use Rattle.isp_masks.proofs.Made.{made_accepted, made_compiled, made_entry}
@@ -160,6 +164,20 @@ module _ (program : Program) (code : Listing) (accepted : IsAccepted program) (h
 
   pub code_passes : code_fault code ≡ None
   code_passes = code_accepted code headers bodies
+
+-- ---- the text of code can have it
+
+all_of : {A : Type 0} (p : A → Bool) (xs : List A) → ((k : ℕ) (x : A) → slice_get xs k ≡ Some x → p x ≡ true) → list_all p xs ≡ true
+all_of p [] each = refl
+all_of p (x ∷ xs) each = and_from (p x) (list_all p xs) (each 0 x refl) (all_of p xs (λ k y e. each (suc k) y e))
+
+pub routines_fit : (program : Program) (code : Listing) → IsAccepted program → HasCode program code → list_all parts_fit code.routines ≡ true
+routines_fit program code accepted has =
+    all_of parts_fit code.routines
+    (λ f g eg.
+    let h = source program code accepted has f g eg in
+    let low = has.each f h.0 g h.1 eg in
+    routine_parts_fit code g program.functions h.0 (fine_at program code accepted has f h.0 h.1) (fine_of ScopedFunction program.functions f h.0 accepted.scoped.each h.1) (body_sound code g (bodies program code accepted has f g eg)) low.name low.params low.locals)
 
 pub lowered_agrees : LoweredAgrees
 lowered_agrees = record {

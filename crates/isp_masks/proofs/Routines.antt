@@ -22,6 +22,7 @@ use Rattle.isp_lower.specs.declared.registers.Registers.{Registers}
 use Rattle.isp_lower.specs.declared.types.Body.{Body}
 use Rattle.isp_lower.specs.Tables.{AnyArray}
 use Rattle.isp_lower.proofs.Lemmas.{all_grow}
+use Rattle.isp_typed.specs.Fine.{FineFunction}
 use Rattle.isp_typed.specs.Typed.{TFunction}
 use Rattle.isp_typed.specs.declared.variable.Holds.{Holds}
 use Rattle.isp_typed.specs.declared.variable.Holds.TheVariants as holds
@@ -35,6 +36,7 @@ use Rattle.isp_masks.specs.Asks.{block_asks}
 use Rattle.isp_masks.specs.Spots.{next_of}
 use Rattle.isp_masks.specs.Statements.{block_places, block_texts, function_code}
 use Rattle.isp_masks.specs.Written.{Piece, Writes}
+use Rattle.isp_masks.proofs.Spans.{block_placed, block_told}
 
 -- ---- registers: those of the parameters come first
 
@@ -133,8 +135,9 @@ lowered fs h g z r a b none first grows y name exported params returns locals sc
 pub adds : (h : TFunction) (old d : Draft) (z r : Reserve) (a b : Body) → d ≡ begun h old → a.code.items ≡ d.code → a.places.items ≡ d.places → texts_of a ≡ d.texts → rows_of z.registers ≡ d.rows → z.masks ≡ d.masks
     → Grows z.registers r.registers → z.masks ≤ r.masks → Has r (block_asks h.answer h.body 3)
     → Writes a b (body_piece (layout_of (rates_in d.callees) (rows_of r.registers)) h)
+    → (fs : List TFunction) → FineFunction fs h
     → AddsLowered h old (record d { places = b.places.items; texts = texts_of b; rows = rows_of r.registers; masks = r.masks; code = b.code.items })
-adds h old d z r a b is code places texts rows masks grows more has y =
+adds h old d z r a b is code places texts rows masks grows more has y fs fine =
     let l = layout_of (rates_in d.callees) (rows_of r.registers) in
     let three : 3 ≤ r.masks = omega (arith, more, masks ∙ ap (λ (x : Draft). x.masks) is) in
     record {
@@ -144,6 +147,8 @@ adds h old d z r a b is code places texts rows masks grows more has y =
       texts = record { more = block_texts h.body; is = y.texts ∙ ap (λ ts. ts ++ block_texts h.body) (texts ∙ ap (λ (x : Draft). x.texts) is) };
       gang = ap (λ (x : Draft). x.gang) is;
       callees = ap (λ (x : Draft). x.callees) is;
+      places_fit = block_placed fs h.variables h.answer l h.body fine.body;
+      texts_fit = block_told h.body;
       lowered = subst (λ fs. IsLowered fs h (routine_with (heading_of h) (rows_of r.registers) r.masks b.code.items) b.places.items (texts_of b)) (ap (λ (x : Draft). x.callees) is) (lowered d.callees h (routine_with (heading_of h) (rows_of r.registers) r.masks b.code.items) z.registers r.registers a b (code ∙ ap (λ (x : Draft). x.code) is)
           (rows ∙ ap (λ (x : Draft). x.rows) is) grows y refl refl refl refl refl refl refl has three refl);
     }

@@ -1,8 +1,10 @@
 -- A routine that is the code of a function: its header and its registers are those of the function, by rows.
-use Rattle.std.specs.Prelude.{◌≡◌, ◌≤◌, ℕ, List, [], ◌∷◌, ◌++◌, length, Some, slice_get}
+use Rattle.std.specs.Prelude.{◌≡◌, ◌≤◌, ℕ, List, [], ◌∷◌, ◌++◌, length, Some, slice_get, true}
+use Rattle.std.specs.List.{list_all}
 use Rattle.isp_base.specs.declared.types.Span.{Span}
 use Rattle.isp_code.specs.Listing.{Listing, Routine}
 use Rattle.isp_code.specs.Registers.{scalars_of, vectors_of}
+use Rattle.isp_code.specs.Writable.{has_byte, place_fits}
 use Rattle.isp_typed.specs.Fine.{FineFunction}
 use Rattle.isp_typed.specs.Typed.{Program, TFunction}
 use Rattle.isp_lower.specs.Asks.{All}
@@ -59,7 +61,12 @@ pub record GrowsTo {A : Type 0} (old new : List A) : Type 0 where
   pub more : List A
   pub is : new ≡ old ++ more
 
--- a function's routine is added, as the last one
+-- the text of code can have its places and its texts
+pub record CanBeNamed (d : Draft) : Type 0 where
+  pub places : list_all place_fits d.places ≡ true
+  pub texts : list_all has_byte d.texts ≡ true
+
+-- A function's routine is added, as the last one. The text of code can have the places and the texts that are added.
 pub record AddsLowered (h : TFunction) (old new : Draft) : Type 0 where
   pub routine : Routine
   pub added : all_routines new ≡ all_routines old ++ routine ∷ []
@@ -67,6 +74,8 @@ pub record AddsLowered (h : TFunction) (old new : Draft) : Type 0 where
   pub texts : GrowsTo old.texts new.texts
   pub gang : new.gang ≡ old.gang
   pub callees : new.callees ≡ old.callees
+  pub places_fit : list_all place_fits places.more ≡ true
+  pub texts_fit : list_all has_byte texts.more ≡ true
   pub lowered : IsLowered old.callees h routine new.places new.texts
 
 -- ---- a program

@@ -8,6 +8,7 @@ ghost use Rattle.isp_typed.specs.Views.{expr_of, stmt_of};
 ghost use Rattle.isp_lower.specs.Asks.{expr_asks};
 ghost use Rattle.isp_lower.specs.Emitted.{Present};
 ghost use Rattle.isp_masks.specs.Asks.{part_asks, part_slot, stmt_asks};
+ghost use Rattle.isp_masks.specs.Ranged.{StmtRanged};
 ghost use Rattle.isp_masks.specs.Written.{Writes, guarded_at, if_at, if_else_at, others_at, part_at, parts_at};
 
 use crate::looping::{join_where, join_widely};
@@ -48,6 +49,7 @@ pub(crate) fn if_alone(
     requires test { Present on.now (expr_asks (expr_of by.test.now) spot.slot.number) }
     requires part { Present on.now (part_asks by.form (type_of (expr_of by.test.now)).rate spot.slot.number) }
     requires then { Present on.now (stmt_asks on.now.answer (stmt_of then.now) (part_slot by.form (type_of (expr_of by.test.now)).rate spot.slot.number)) }
+    requires ranged { StmtRanged (stmt_of then.now) }
     ensures { OnOk result (Writes b.old b.new (if_at on.now by.entry.form (expr_of by.entry.test.now) (stmt_of then.now) spot)) }
 {
     let tested = expr(b, on, by.test, spot.site())?;
@@ -71,6 +73,7 @@ fn part_by(
 ) -> Result<(), AllocError>
     requires part { Present on.now (part_asks by.form by.rate spot.slot.number) }
     requires then { Present on.now (stmt_asks on.now.answer (stmt_of then.now) (part_slot by.form by.rate spot.slot.number)) }
+    requires ranged { StmtRanged (stmt_of then.now) }
     ensures { OnOk result (Writes b.old b.new (part_at on.now by.form by.rate by.register.number (stmt_of then.now) spot)) }
 {
     match (by.rate, by.form) {
@@ -89,7 +92,8 @@ fn part_by_jump(
     then: &TypedStmt,
     spot: Spot,
 ) -> Result<(), AllocError>
-    requires { Present on.now (stmt_asks on.now.answer (stmt_of then.now) spot.slot.number) }
+    requires there { Present on.now (stmt_asks on.now.answer (stmt_of then.now) spot.slot.number) }
+    requires ranged { StmtRanged (stmt_of then.now) }
     ensures { OnOk result (Writes b.old b.new (part_at on.now Plain Uniform tested.number (stmt_of then.now) spot)) }
 {
     let at = b.code.len();
@@ -114,6 +118,7 @@ fn part_by_mask(
 ) -> Result<(), AllocError>
     requires slots { spot.slot.number + 1 < 4294967296 }
     requires then { Present on.now (stmt_asks on.now.answer (stmt_of then.now) (spot.slot.number + 1)) }
+    requires ranged { StmtRanged (stmt_of then.now) }
     ensures { OnOk result (Writes b.old b.new (part_at on.now Plain Varying tested.number (stmt_of then.now) spot)) }
 {
     part(b, spot.slot.mask(), tested, spot.masks.on)?;
@@ -137,6 +142,7 @@ fn part_widely(
 ) -> Result<(), AllocError>
     requires slots { spot.slot.number + 1 + 1 < 4294967296 }
     requires then { Present on.now (stmt_asks on.now.answer (stmt_of then.now) (spot.slot.number + 1 + 1)) }
+    requires ranged { StmtRanged (stmt_of then.now) }
     ensures { OnOk result (Writes b.old b.new (part_at on.now Coherent Varying tested.number (stmt_of then.now) spot)) }
 {
     let passed = spot.slot.mask();
@@ -160,7 +166,8 @@ fn under_mask(
     spot: Spot,
     site: Site,
 ) -> Result<(), AllocError>
-    requires { Present on.now (stmt_asks on.now.answer (stmt_of x.now) site.slot.number) }
+    requires there { Present on.now (stmt_asks on.now.answer (stmt_of x.now) site.slot.number) }
+    requires ranged { StmtRanged (stmt_of x.now) }
     ensures { OnOk result (Writes b.old b.new (guarded_at on.now (stmt_of x.now) spot site.mask.number site.slot.number)) }
 {
     let masks = Masks {
@@ -194,6 +201,8 @@ pub(crate) fn if_else(
     requires part { Present on.now (part_asks by.form (type_of (expr_of by.test.now)).rate spot.slot.number) }
     requires then { Present on.now (stmt_asks on.now.answer (stmt_of then.now) (part_slot by.form (type_of (expr_of by.test.now)).rate spot.slot.number)) }
     requires otherwise { Present on.now (stmt_asks on.now.answer (stmt_of otherwise.now) (part_slot by.form (type_of (expr_of by.test.now)).rate spot.slot.number)) }
+    requires then_ranged { StmtRanged (stmt_of then.now) }
+    requires otherwise_ranged { StmtRanged (stmt_of otherwise.now) }
     ensures { OnOk result (Writes b.old b.new (if_else_at on.now by.entry.form (expr_of by.entry.test.now) (stmt_of then.now) (stmt_of otherwise.now) spot)) }
 {
     let tested = expr(b, on, by.test, spot.site())?;
@@ -219,6 +228,8 @@ fn parts_by(
     requires part { Present on.now (part_asks by.form by.rate spot.slot.number) }
     requires then { Present on.now (stmt_asks on.now.answer (stmt_of then.now) (part_slot by.form by.rate spot.slot.number)) }
     requires otherwise { Present on.now (stmt_asks on.now.answer (stmt_of otherwise.now) (part_slot by.form by.rate spot.slot.number)) }
+    requires then_ranged { StmtRanged (stmt_of then.now) }
+    requires otherwise_ranged { StmtRanged (stmt_of otherwise.now) }
     ensures { OnOk result (Writes b.old b.new (parts_at on.now by.form by.rate by.register.number (stmt_of then.now) (stmt_of otherwise.now) spot)) }
 {
     match (by.rate, by.form) {
@@ -240,6 +251,8 @@ fn one_of(
 ) -> Result<(), AllocError>
     requires then { Present on.now (stmt_asks on.now.answer (stmt_of then.now) spot.slot.number) }
     requires otherwise { Present on.now (stmt_asks on.now.answer (stmt_of otherwise.now) spot.slot.number) }
+    requires then_ranged { StmtRanged (stmt_of then.now) }
+    requires otherwise_ranged { StmtRanged (stmt_of otherwise.now) }
     ensures { OnOk result (Writes b.old b.new (parts_at on.now Plain Uniform tested.number (stmt_of then.now) (stmt_of otherwise.now) spot)) }
 {
     let at = b.code.len();
@@ -270,6 +283,8 @@ fn parted(
     requires slots { spot.slot.number + 1 < 4294967296 }
     requires then { Present on.now (stmt_asks on.now.answer (stmt_of then.now) (spot.slot.number + 1)) }
     requires otherwise { Present on.now (stmt_asks on.now.answer (stmt_of otherwise.now) (spot.slot.number + 1)) }
+    requires then_ranged { StmtRanged (stmt_of then.now) }
+    requires otherwise_ranged { StmtRanged (stmt_of otherwise.now) }
     ensures { OnOk result (Writes b.old b.new (parts_at on.now Plain Varying tested.number (stmt_of then.now) (stmt_of otherwise.now) spot)) }
 {
     part(b, spot.slot.mask(), tested, spot.masks.on)?;
@@ -300,6 +315,8 @@ fn parted_widely(
     requires slots { spot.slot.number + 1 + 1 < 4294967296 }
     requires then { Present on.now (stmt_asks on.now.answer (stmt_of then.now) (spot.slot.number + 1 + 1)) }
     requires otherwise { Present on.now (stmt_asks on.now.answer (stmt_of otherwise.now) (spot.slot.number + 1 + 1)) }
+    requires then_ranged { StmtRanged (stmt_of then.now) }
+    requires otherwise_ranged { StmtRanged (stmt_of otherwise.now) }
     ensures { OnOk result (Writes b.old b.new (parts_at on.now Coherent Varying tested.number (stmt_of then.now) (stmt_of otherwise.now) spot)) }
 {
     let passed = spot.slot.mask();
@@ -326,7 +343,8 @@ fn others(
     passed: MaskNumber,
     site: Site,
 ) -> Result<(), AllocError>
-    requires { Present on.now (stmt_asks on.now.answer (stmt_of x.now) site.slot.number) }
+    requires there { Present on.now (stmt_asks on.now.answer (stmt_of x.now) site.slot.number) }
+    requires ranged { StmtRanged (stmt_of x.now) }
     ensures { OnOk result (Writes b.old b.new (others_at on.now (stmt_of x.now) spot passed.number site.mask.number site.slot.number)) }
 {
     let at = b.code.len();

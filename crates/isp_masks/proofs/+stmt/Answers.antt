@@ -16,12 +16,13 @@ use Rattle.isp_masks.specs.Awaited.{AreBelow, Awaits, set_all}
 use Rattle.isp_masks.specs.Exits.{nobody_leaves}
 use Rattle.isp_masks.specs.Fors.{first_code, first_places}
 use Rattle.isp_masks.specs.Loops.{back_code, jump_all, sift_jump}
+use Rattle.isp_masks.specs.Ranged.{StmtRanged}
 use Rattle.isp_masks.specs.Sets.{unite}
 use Rattle.isp_masks.specs.Spots.{Numbers, next_of, spot_of}
 use Rattle.isp_masks.specs.Statements.{stmt_code, stmt_places, stmt_texts, stmts_code, stmts_places, stmts_texts, body_code, body_layout}
 use Rattle.isp_masks.specs.Written.{Piece, Writes, block_at, guarded_at, stepped_at, stmt_at, turn_at, turns_at, first_sweep, index_codes, last_run_at, outer_turn_at, place_test, range_begin, range_step, ranges_at, run_test, step_back_at}
 use Rattle.isp_masks.proofs.Awaiting.{awaits_end}
-use Rattle.isp_masks.proofs.Forms.{list_step, nodes_low, stmts_more}
+use Rattle.isp_masks.proofs.Forms.{list_step, nodes_low, ranged_more, stmts_more}
 use Rattle.isp_masks.proofs.Lists.{flat, flat_is}
 use Rattle.isp_masks.proofs.Sifting.{for_written, sifted}
 use Rattle.isp_masks.proofs.Views.{block_view}
@@ -104,7 +105,8 @@ statement::block-stmt-requires t c =
     let all : block_nodes (block_of a.body.now) ≡ suc (stmts_nodes (t_stmts (stmts_of items))) =
     ap block_nodes (block_view a.body.now) ∙ ap (λ zs. suc (stmts_nodes (t_stmts (stmts_of zs)))) (sym c.deref-x-items.ensures.value) in
     let asked = subst (Present a.on.now) (stmts_more a.on.now.answer a.spot.slot.number items c.loop-x.x-index c.x-item.result c.loop-x-test.true c.x-item.is) c.loop-x.invariant.2 in
-    (omega (arith, low, all, c.decreases), asked.0)
+    let ranged = ranged_more items c.loop-x.x-index c.x-item.result c.loop-x-test.true c.x-item.is c.loop-x.invariant.3 in
+    (omega (arith, low, all, c.decreases), (asked.0, ranged.0))
 
 pub statement::block-land_all-requires : goal.statement::block-land_all-requires
 statement::block-land_all-requires t c = subst (AreBelow (length c.loop-x.b.code.items)) (sym c.as_slice.ensures.value) c.loop-x.invariant.0.low
@@ -116,7 +118,8 @@ statement::block-loop-x-preserved t c =
     let step = list_step a.on.now.answer (spot_of a.spot) (layout a.on.now) a.b.now c.loop-x.b c.leave_room.new.b c.stmt.new.b c.loop-x.jumps.items c.leave_room.new.jumps.items c.loop-x.left _ items c.loop-x.x-index c.x-item.result
     c.loop-x-test.true c.x-item.is c.loop-x.invariant.0 c.loop-x.invariant.1 c.in_ok-leave_room.ensures c.in_ok-stmt.ensures (ap not c.all_go_on-left.ensures) in
     let asked = subst (Present a.on.now) (stmts_more a.on.now.answer a.spot.slot.number items c.loop-x.x-index c.x-item.result c.loop-x-test.true c.x-item.is) c.loop-x.invariant.2 in
-    (step.0, step.1, asked.1)
+    let ranged = ranged_more items c.loop-x.x-index c.x-item.result c.loop-x-test.true c.x-item.is c.loop-x.invariant.3 in
+    (step.0, step.1, asked.1, ranged.1)
 
 pub statement::block-returns : goal.statement::block-returns
 statement::block-returns t c =
@@ -198,11 +201,13 @@ statement::stmt-foreach-requires t c =
     let seen : stmt_of a.x.now ≡ t_foreach e.keyword e.before rs x e.span =
     ap stmt_of e.is ∙ foreach_view e.keyword e.before e.ranges e.body e.span ∙ ap (λ zs. t_foreach e.keyword e.before (ranges_of zs) (stmt_of e.body.value) e.span) (sym c.deref-in-Foreach.ensures.value)
     ∙ ap (λ z. t_foreach e.keyword e.before rs (stmt_of z) e.span) (sym c.deref-in-Foreach-2.ensures) in
-    let asked = subst (λ z. Present a.on.now (stmt_asks a.on.now.answer z a.spot.slot.number)) seen c.requires in
+    let asked = subst (λ z. Present a.on.now (stmt_asks a.on.now.answer z a.spot.slot.number)) seen c.requires.there in
+    let ranged = subst StmtRanged seen c.requires.ranged in
+    let some : 1 ≤ length c.deref-in-Foreach.result.now = subst (λ i. 1 ≤ i) (ranges_count c.deref-in-Foreach.result.now) ranged.0 in
     let size : stmt_nodes (stmt_of a.x.now) ≡ suc (nodes_of_all range_nodes rs + stmt_nodes x) = ap stmt_nodes seen in
     let many = ranges_count c.deref-in-Foreach.result.now in
     let low = ranges_low rs in
-    (omega (arith, size, many, low, c.decreases), asked)
+    (omega (arith, size, many, low, c.decreases), (some, (asked.0, (asked.1, ranged.1))))
 
 pub statement::stmt-returns-in-Foreach : goal.statement::stmt-returns-in-Foreach
 statement::stmt-returns-in-Foreach t c =
@@ -239,7 +244,7 @@ statement::ranges-outer_range-requires t c =
     let least = c.in_default.len_at_least in
     let long : 1 < length a.all.now = omega (arith, least) in
     let some : 0 < length rs = omega (arith, long, count) in
-    (omega (arith, c.decreases), (long, (sweep_there a.on.now a.it rs some c.requires.ranges, (c.requires.ranges, c.requires.body))))
+    (omega (arith, c.decreases), (long, (sweep_there a.on.now a.it rs some c.requires.ranges, (c.requires.ranges, (c.requires.body, c.requires.ranged)))))
 
 pub statement::last_range-returns : goal.statement::last_range-returns
 statement::last_range-returns t c =

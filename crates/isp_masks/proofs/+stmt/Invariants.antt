@@ -1,5 +1,5 @@
 -- The recursion goes down the tree, and from a range to those inside. In the loop: the statements so far, with their jumps to the end not written yet, and what
--- the others ask for is there.
+-- the others ask for is there, and they have ranges.
 use Rattle.std.proofs.Common.{◌≡◌, ◌+◌, ◌-◌, ◌*◌, take, drop, false, length}
 use Rattle.isp_typed.specs.Nodes.{stmt_nodes, block_nodes}
 use Rattle.isp_typed.specs.Typed.{t_stmts}
@@ -7,6 +7,7 @@ use Rattle.isp_typed.specs.Views.{block_of, stmt_of, stmts_of}
 use Rattle.isp_lower.specs.Emitted.{Present, layout}
 use Rattle.isp_masks.specs.Asks.{stmts_asks}
 use Rattle.isp_masks.specs.Awaited.{Awaits}
+use Rattle.isp_masks.specs.Ranged.{StmtsRanged}
 use Rattle.isp_masks.specs.Spots.{spot_of}
 use Rattle.isp_masks.specs.Statements.{stmts_places, stmts_texts}
 use Rattle.isp_masks.proofs.Lists.{flat, left_after}
@@ -107,3 +108,4 @@ invariant-statement::block-loop-x l =
     Awaits l.initial.b l.b l.jumps.items l.spot.masks.on.number (λ t pc z. flat l.on.answer (spot_of l.spot) t (layout l.on) false (stmts_of (take l.x-index l.x-items)) pc z) (stmts_places (layout l.on) (t_stmts (stmts_of (take l.x-index l.x-items)))) (stmts_texts (t_stmts (stmts_of (take l.x-index l.x-items))))
     × (l.left ≡ left_after false (stmts_of (take l.x-index l.x-items)))
     × Present l.on (stmts_asks l.on.answer (t_stmts (stmts_of (drop l.x-index l.x-items))) l.spot.slot.number)
+    × StmtsRanged (t_stmts (stmts_of (drop l.x-index l.x-items)))
