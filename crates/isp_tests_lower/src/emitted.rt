@@ -1,6 +1,7 @@
 //! A function is written call by call. Each number, and the finished code, are as worked out beforehand.
-ghost use Rattle.std.specs.Prelude.{IfOk};
-ghost use Rattle.isp_lower.specs.Header.{HeadingFits};
+ghost use Rattle.std.specs.Prelude.{◌≡◌, [], true, IfOk};
+ghost use Rattle.isp_code.specs.Writable.{name_fits};
+ghost use Rattle.isp_lower.specs.Header.{HeadingFits, locals_of, params_of};
 ghost use Rattle.isp_typed.specs.Views.{function_of};
 
 use isp_base::{Elem, Gang, Name, Rate, Signature, Span, Ty};
@@ -14,7 +15,10 @@ const PLACE: Span = Span { start: 3, end: 5 };
 
 // `export void f() { uniform int32 x; }`, whose variable has the first scalar register.
 fn function(alloc: Global) -> Result<TypedFunction, AllocError>
-    ensures { IfOk result (λ f. HeadingFits (function_of f)) }
+    ensures fits { IfOk result (λ f. HeadingFits (function_of f)) }
+    ensures named { IfOk result (λ f. name_fits (function_of f).name ≡ true) }
+    ensures params { IfOk result (λ f. params_of (function_of f).parameters (function_of f).variables ≡ []) }
+    ensures locals { IfOk result (λ f. locals_of (function_of f).variables ≡ []) }
 {
     let mut variables = Vec::new(alloc);
     variables.push(Variable {
@@ -54,7 +58,10 @@ struct Written {
 
 // A function of a fresh register, the second scalar one, and a return; a place and a text.
 fn made(alloc: Global, program: &Program, f: &TypedFunction) -> Result<Written, AllocError>
-    requires { HeadingFits (function_of f.now) }
+    requires fits { HeadingFits (function_of f.now) }
+    requires named { name_fits (function_of f.now).name ≡ true }
+    requires params { params_of (function_of f.now).parameters (function_of f.now).variables ≡ [] }
+    requires locals { locals_of (function_of f.now).variables ≡ [] }
 {
     let mut e = Emitter::new(alloc, program);
     e.begin(f)?;
