@@ -1,5 +1,5 @@
 -- A text of bytes fits if it has one.
-use Rattle.std.proofs.Common.{◌≡◌, refl, sym, ap, ap₂, ◌∙◌, ℕ, zero, suc, ◌<◌, List, [], ◌∷◌, length, get_or, Bool, true, not, ◌&&◌, ◌==◌, lt-ltb, ne_eqb, arith}
+use Rattle.std.proofs.Common.{◌≡◌, refl, sym, ap, ap₂, ◌∙◌, ℕ, suc, ◌<◌, List, [], ◌∷◌, length, get_or, Bool, true, not, ◌&&◌, ◌==◌, lt-ltb, ne_eqb, arith}
 use Rattle.std.specs.List.{list_all}
 use Rattle.isp_code.specs.Writable.{has_byte, is_byte, text_fits}
 

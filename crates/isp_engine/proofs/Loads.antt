@@ -1,5 +1,5 @@
 -- What loading a text answers, by what reading it and verifying its code answer.
-use Rattle.std.proofs.Common.{◌≡◌, ◌≢◌, ℕ, List, None, Some, Result, Ok, Err, IfOk, IfErr, MatchResult, refl, sym, ap, ◌∙◌}
+use Rattle.std.proofs.Common.{◌≡◌, ◌≢◌, ℕ, List, None, Some, Result, Ok, Err, IfOk, IfErr, MatchResult, refl, ap, ◌∙◌}
 use Rattle.isp_asm.specs.Faults.{fault_of}
 use Rattle.isp_asm.specs.Spelling.{text_of}
 use Rattle.isp_asm.specs.declared.fault.AsmFault.{AsmFault}

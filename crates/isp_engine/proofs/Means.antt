@@ -1,15 +1,13 @@
 -- What the machine answers for code that agrees with a program is what the program means.
-use Rattle.std.proofs.Common.{◌≡◌, ◌≢◌, ℕ, ◌+◌, ◌*◌, ◌<◌, ◌≤◌, List, ◌++◌, true, Result, Ok, Err, refl, sym, ap, ◌∙◌, subst, ⊎_elim, arith}
+use Rattle.std.proofs.Common.{◌≡◌, ◌≢◌, ℕ, ◌<◌, ◌≤◌, List, Result, Ok, Err, refl, sym, subst, ⊎_elim, arith}
 use Rattle.std.proofs.lemmas.Bool.{cases_lt}
-use Rattle.isp_base.specs.Arguments.{rows, AreShort}
-use Rattle.isp_base.specs.Binding.{has_signature}
+use Rattle.isp_base.specs.Arguments.{rows}
 use Rattle.isp_base.specs.Outcomes.{Outcome, Ends, Traps, GoesOn, out_of, IsOver}
 use Rattle.isp_base.specs.Prefixes.{IsPrefix}
 use Rattle.isp_base.specs.declared.signature.Parameter.{Parameter}
 use Rattle.isp_base.specs.declared.signature.Argument.{Argument}
 use Rattle.isp_bind.specs.Binding.{bound_of}
 use Rattle.isp_code.specs.Conf as machine
-use Rattle.isp_code.specs.Entries.{parameters_of}
 use Rattle.isp_code.specs.Listing.{Listing, Routine}
 use Rattle.isp_code.specs.Machine.{first_conf, outcome_after}
 use Rattle.isp_meaning.proofs.Grown.{prefix_self, prefix_on}

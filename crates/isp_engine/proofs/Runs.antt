@@ -1,15 +1,13 @@
 -- Which run a machine made.
-use Rattle.std.proofs.Common.{◌≡◌, ℕ, List, Some, Result, Ok, Err, refl, sym, ap, ◌∙◌, subst}
+use Rattle.std.proofs.Common.{◌≡◌, ℕ, List, Some, Ok, Err, refl, sym, ap, ◌∙◌, subst}
 use Rattle.std.specs.Prelude.{slice_get}
 use Rattle.isp_base.specs.Arguments.{rows}
-use Rattle.isp_base.specs.Outcomes.{Outcome}
-use Rattle.isp_base.specs.Rows.{Row}
 use Rattle.isp_base.specs.declared.signature.Argument.{Argument}
 use Rattle.isp_base.specs.declared.signature.Parameter.{Parameter}
 use Rattle.isp_code.specs.Conf.{Runs as Going}
 use Rattle.isp_code.specs.Entries.{IsExport, parameters_of}
 use Rattle.isp_code.specs.Listing.{Listing, Routine}
-use Rattle.isp_code.specs.Machine.{after, first_conf, outcome, outcome_after}
+use Rattle.isp_code.specs.Machine.{after, outcome, outcome_after}
 use Rattle.isp_machine.specs.Kept.{Kept, given, state}
 use Rattle.isp_machine.specs.Runs.{Made, RunGives}
 use Rattle.isp_machine.specs.Starts.{Starts}
@@ -22,8 +20,7 @@ use Rattle.isp_bind.specs.Binding.{bound_of}
 use Rattle.isp_bind.specs.declared.fault.BindFault.{BindFault}
 use Rattle.isp_bind.specs.declared.fault.BindFault.TheVariants as bind
 use Rattle.isp_engine.specs.Faults.{run_fault}
-use Rattle.isp_engine.specs.Reports.{Reports, ReportsRun, Runs, Executes}
-use Rattle.isp_engine.specs.declared.fault.RunFault.{RunFault}
+use Rattle.isp_engine.specs.Reports.{Reports, ReportsRun, Executes}
 use Rattle.isp_engine.specs.declared.fault.RunFault.TheVariants as fault
 use Rattle.isp_engine.specs.Stops.{StopsAs}
 

@@ -1,5 +1,5 @@
 -- What a run sent, by what its parts sent.
-use Rattle.std.proofs.Common.{◌≡◌, ◌≢◌, inr, IfOk, ◌++◌, ◌≤◌, ℕ, List, [], ◌∷◌, Bool, true, false, Option, None, Some, Result, Ok, Err, String, refl, sym, ap, ◌∙◌, subst, take, length, append-nil, arith}
+use Rattle.std.proofs.Common.{◌≡◌, ◌≢◌, inr, IfOk, ◌++◌, ℕ, List, [], ◌∷◌, Bool, true, false, Option, None, Some, Result, Ok, Err, String, refl, sym, ap, ◌∙◌, subst, take, length, append-nil, arith}
 use Rattle.std.specs.Prelude.{MatchOption, string_bytes}
 use Rattle.std.specs.declared.alloc.Global.{Global}
 use Rattle.std.proofs.lemmas.Grind.{common_steps}
@@ -27,7 +27,7 @@ use Rattle.isp_engine.specs.Sending.{Sends, SendsFirst, SendsOf, SentSome, answe
 use Rattle.isp_engine.specs.Sinks.{TookAll, TookFirst, TookSome, adds}
 use Rattle.isp_engine.specs.Stops.{Adds, MadeSome, StopsAs, out_now}
 use Rattle.isp_engine.proofs.Runs.{given_is, made, outcome_is, reported, stops, wanting as no_memory}
-use Rattle.isp_engine.proofs.Streams.{conf_out, some_made}
+use Rattle.isp_engine.proofs.Streams.{conf_out}
 use Rattle.isp_engine.proofs.Written.{adds_nil, took_both, took_early, took_later}
 
 -- ---- what an outcome sends begins with its output

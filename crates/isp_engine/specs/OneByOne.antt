@@ -1,5 +1,5 @@
 -- What the instances of a function leave one by one, where each can be run alone.
-use Rattle.std.specs.Prelude.{◌≡◌, ℕ, ◌<◌, List, []}
+use Rattle.std.specs.Prelude.{ℕ, ◌<◌, List, []}
 use Rattle.isp_base.specs.Arguments.{rows, rows_now}
 use Rattle.isp_base.specs.Outcomes.{Outcome, Ends}
 use Rattle.isp_base.specs.Types.{gang_width}

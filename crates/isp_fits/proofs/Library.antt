@@ -1,7 +1,7 @@
 -- What the library's functions give fits their types.
 use Rattle.std.specs.Prelude.{◌≡◌, ℕ, ◌-◌, ◌*◌, ◌^◌, ◌<◌, List, [], ◌∷◌, None, Bool, true, false, nat_eq, nat_lt, if◌then◌else◌, ℤ, pos, negsuc, ◌+ℤ◌}
-use Rattle.std.proofs.Common.{refl, subst, arith, pow_pos, ltb-true, ltb-false}
-use Rattle.isp_base.specs.Cross.{widened, instance, within, of_two, or_zero, broadcast, rotate, shift, shuffle, shuffle_two, insert, fold_below, best, neutral, exclusive_scan, reduce_add}
+use Rattle.std.proofs.Common.{refl, arith, pow_pos, ltb-true, ltb-false}
+use Rattle.isp_base.specs.Cross.{widened, instance, within, of_two, or_zero, broadcast, rotate, shift, shuffle, shuffle_two, insert, fold_below, best, neutral, exclusive_scan}
 use Rattle.isp_base.specs.Maps.{Map}
 use Rattle.isp_base.specs.Sets.{Mask}
 use Rattle.isp_base.specs.Values.{width, number, op_bits}
@@ -10,7 +10,7 @@ use Rattle.isp_base.specs.declared.operators.BinOp.{BinOp}
 use Rattle.isp_base.specs.declared.operators.BinOp.TheVariants as op
 use Rattle.isp_base.specs.declared.operators.UnaryOp.TheVariants as unary
 use Rattle.isp_base.specs.declared.types.Elem.{Elem}
-use Rattle.isp_base.specs.declared.types.Elem.TheVariants.{Bool as Truth, I8, U8, I16, U16, I32, U32, I64, U64}
+use Rattle.isp_base.specs.declared.types.Elem.TheVariants.{Bool as Truth, I32}
 use Rattle.isp_base.specs.declared.types.Rate.{Rate}
 use Rattle.isp_typed.specs.Library as typed
 use Rattle.isp_typed.specs.declared.library.Library.{Library}

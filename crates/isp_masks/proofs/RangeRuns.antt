@@ -1,5 +1,5 @@
 -- The ranges of a `foreach` make its runs: by recursion on the ranges, the last of which is taken in runs.
-use Rattle.std.proofs.Common.{◌≡◌, ℕ, ◌+◌, ◌*◌, ◌<◌, ◌≤◌, List, [], ◌∷◌, ◌++◌, length, map, Some, Bool, true, false, refl, sym, ap, ap₂, ◌∙◌, subst, arith, length-append, Option, None}
+use Rattle.std.proofs.Common.{◌≡◌, ℕ, ◌+◌, ◌*◌, ◌<◌, ◌≤◌, List, [], ◌∷◌, ◌++◌, length, map, Some, Bool, true, false, refl, sym, ap, ap₂, ◌∙◌, subst, arith, length-append, None}
 use Rattle.std.specs.Prelude.{slice_get, ◌≢◌, ℤ, pos, ◌+ℤ◌, ◌≤ℤ◌, ◌^◌, ◌&&◌, nat_lt, int_lt, not, if◌then◌else◌}
 use Rattle.std.proofs.Math.Nat.{one-mul}
 use Rattle.std.proofs.Math.Path.{fun_ext}
@@ -31,7 +31,6 @@ use Rattle.isp_lower.specs.Runs.{Comes}
 use Rattle.isp_lower.specs.Setting.{Setting, IsSettled, gang_of, AreAt, At, Stands, Spares, IsOther}
 use Rattle.isp_lower.specs.Tables.{IsTyped}
 use Rattle.isp_lower.proofs.Lemmas.{are_front, are_back, put_same, put_other, comes_on, comes_none, step_go, at_to, spares_all, spares_less, spares_on, jumped, jump_comes, jump_at, masked, masked_at, set_at, set_comes, set_goes, set_spares, set_stands, variable_spares, written_stands, none_holds}
-use Rattle.isp_masks.specs.LoopRuns.{BodyRuns}
 use Rattle.isp_masks.specs.Ranges.{wide, narrow, test, lane, range_mask, outer_index, last_index, ranges_code}
 use Rattle.isp_masks.proofs.Counting.{counts_ones, counts_runs, counted_by, turns_cost, map_joined, map_of_joined, map_of_map}
 use Rattle.isp_masks.proofs.Numbered.{index_is, any_run, run_inside}

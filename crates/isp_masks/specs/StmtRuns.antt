@@ -5,7 +5,7 @@ use Rattle.isp_base.specs.Sets.{Mask, union}
 use Rattle.isp_code.specs.Conf.{Conf}
 use Rattle.isp_meaning.specs.State.{State}
 use Rattle.isp_meaning.specs.Outcomes.{Res, Went, Trapped, Cut}
-use Rattle.isp_lower.specs.Setting.{Setting, gang_of, At, Stands, Spares, Allowed}
+use Rattle.isp_lower.specs.Setting.{Setting, At, Stands, Spares, Allowed}
 use Rattle.isp_lower.specs.Runs.{Comes, Enters, Failed, Stopped}
 use Rattle.isp_masks.specs.Spots.{Spot}
 

@@ -11,7 +11,7 @@ use Rattle.isp_meaning.specs.Statements.{branches}
 use Rattle.std.proofs.Common.{ne_eqb}
 use Rattle.isp_meaning.specs.Payloads.{Payload, One, is_true}
 use Rattle.isp_meaning.specs.Outcomes as Outcomes
-use Rattle.isp_meaning.specs.Outcomes.{Res, Went, go_on, went_all, both_sides, if_so, unless_empty}
+use Rattle.isp_meaning.specs.Outcomes.{Res, Went, went_all, both_sides, if_so, unless_empty}
 use Rattle.isp_gang.specs.Seen.{map_of, payload_of}
 use Rattle.isp_gang.specs.declared.computed.Computed.TheVariants as computed
 use Rattle.isp_tasks.specs.Seen.{state_seen}

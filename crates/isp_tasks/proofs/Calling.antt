@@ -1,5 +1,5 @@
 -- A run is a call, and ends as the call does.
-use Rattle.std.proofs.Common.{◌≡◌, refl, sym, ap, ap₂, ◌∙◌, subst, ℕ, ◌-◌, List, Option, Some, None, Result, OnOk, IfErr}
+use Rattle.std.proofs.Common.{◌≡◌, refl, sym, ap, ap₂, ◌∙◌, ℕ, ◌-◌, List, Option, Some, None, Result, OnOk, IfErr}
 use Rattle.std.specs.Prelude.{slice_get}
 use Rattle.isp_base.specs.Sets.{everyone}
 use Rattle.isp_base.specs.Types.{gang_width}

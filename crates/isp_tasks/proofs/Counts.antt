@@ -1,5 +1,5 @@
 -- What an evaluator counts.
-use Rattle.std.proofs.Common.{◌≡◌, ap, ◌∙◌, ℕ, ◌+◌, min, arith}
+use Rattle.std.proofs.Common.{◌≡◌, ap, ◌∙◌, ℕ, ◌+◌, arith}
 use Rattle.isp_tasks.specs.Capped.{capped}
 use Rattle.isp_tasks.specs.Tasks.{Counts}
 use Rattle.isp_tasks.specs.declared.counting.Work.{Work}

@@ -16,7 +16,7 @@ use Rattle.isp_meaning.specs.Places.{written}
 use Rattle.isp_meaning.specs.Outcomes.{Val, Gives, Fails, Stops, Res, go_on, with_value, bind}
 use Rattle.isp_meaning.specs.Expressions.{value}
 use Rattle.isp_meaning.specs.Rounds as Meaning
-use Rattle.isp_meaning.specs.Rounds.{Round, rounds, active_rounds, round_of_one, members, foreach_rounds, round_of_run, counted, set_indices}
+use Rattle.isp_meaning.specs.Rounds.{Round, rounds, active_rounds, round_of_one, foreach_rounds, round_of_run, counted, set_indices}
 use Rattle.isp_meaning.specs.Statements.{ranges}
 use Rattle.isp_meaning.specs.Calls.{calls_at}
 use Rattle.isp_gang.specs.Seen.{payload_of}

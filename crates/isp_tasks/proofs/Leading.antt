@@ -7,7 +7,7 @@ use Rattle.isp_tasks.specs.declared.state.Evaluator.{Evaluator}
 use Rattle.isp_tasks.specs.declared.state.Stop.{Stop}
 use Rattle.isp_tasks.specs.declared.tasks.Task.{Task}
 use Rattle.isp_tasks.proofs.Counts.{work_of, counts_same}
-use Rattle.isp_tasks.proofs.Steps.{Later, later_rest, later_store, later_work}
+use Rattle.isp_tasks.proofs.Steps.{Later, later_rest, later_store}
 
 pub leads_begin : (old : Evaluator) → Leads old old
 leads_begin old = record { by = λ w. (w, refl); counts = λ w k. k }

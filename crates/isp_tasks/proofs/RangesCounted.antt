@@ -1,5 +1,5 @@
 -- What ranges count, from the last one to the first.
-use Rattle.std.proofs.Common.{◌≡◌, ◌≢◌, refl, sym, ap, ap₂, ◌∙◌, ℕ, zero, suc, ◌+◌, ◌*◌, ◌<◌, ◌≤◌, List, [], ◌∷◌, map, length, drop, get_or, arith, drop-cons, ◌⊎◌, inl, inr}
+use Rattle.std.proofs.Common.{◌≡◌, refl, sym, ap, ap₂, ◌∙◌, ℕ, zero, suc, ◌+◌, ◌*◌, ◌<◌, ◌≤◌, List, [], ◌∷◌, map, length, drop, get_or, arith, drop-cons, ◌⊎◌, inl, inr}
 use Rattle.std.proofs.Math.Nat.{add-mul, mul-add, mul_assoc}
 use Rattle.isp_meaning.specs.Rounds as Meaning
 use Rattle.isp_meaning.specs.Rounds.{counted, length_of, runs_for}

@@ -7,7 +7,6 @@ use Rattle.isp_meaning.specs.State.{State, Frame}
 use Rattle.isp_meaning.specs.Payloads.{Payload}
 use Rattle.isp_meaning.specs.Outcomes.{Val, Gives, Fails, Stops, bind}
 use Rattle.isp_tasks.specs.Tasks.{Store, Goes, On, Trapped, Cut, go, given, act, finish, does, rest, First, store_seen}
-use Rattle.isp_tasks.specs.declared.counting.Work.{Work}
 use Rattle.isp_tasks.specs.declared.state.Evaluator.{Evaluator}
 use Rattle.isp_tasks.specs.declared.tasks.Task.{Task}
 use Rattle.isp_tasks.proofs.Counts.{work_of}

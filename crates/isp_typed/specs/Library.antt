@@ -1,12 +1,11 @@
 -- The library's functions on values: what each takes and gives. T is the element type in which a call works.
-use Rattle.std.specs.Prelude.{ℕ, List, [], ◌∷◌, length, Bool, true, false, Option, Some, None}
+use Rattle.std.specs.Prelude.{List, [], ◌∷◌, Bool, true, false}
 use Rattle.isp_base.specs.declared.types.Elem.{Elem}
-use Rattle.isp_base.specs.declared.types.Elem.TheVariants.{Bool as Truth, I8, U8, I16, U16, I32, U32, I64, U64}
+use Rattle.isp_base.specs.declared.types.Elem.TheVariants.{Bool as Truth, I32}
 use Rattle.isp_base.specs.declared.types.Rate.{Rate}
 use Rattle.isp_base.specs.declared.types.Rate.TheVariants.{Uniform, Varying}
 use Rattle.isp_base.specs.declared.types.Ty.{Ty}
 use Rattle.isp_base.specs.Cross.{widened}
-use Rattle.isp_base.specs.Ranks.{operand, common}
 use Rattle.isp_typed.specs.declared.library.Library.{Library}
 use Rattle.isp_typed.specs.declared.library.Library.TheVariants.{ReduceAdd, ReduceMin, ReduceMax, ReduceEqual, Any, All, None as NoneTrue, ScanAdd, ScanAnd, ScanOr, Broadcast, Rotate, Shift, Shuffle, ShuffleTwo, Extract, Insert, Min, Max, Clamp, Abs, Select}
 use Rattle.isp_typed.specs.declared.library.Part.{Part}

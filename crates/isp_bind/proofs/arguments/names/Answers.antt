@@ -1,8 +1,7 @@
 use Rattle.std.proofs.Common.{◌∙◌, string_bytes}
-use Rattle.std.specs.Prelude.{Some}
 use Rattle.std.specs.BTreeMap.{get_by_text}
 use Rattle.std.proofs.lemmas.Map.Text.{btree_map_updates_text}
-use Rattle.isp_bind.proofs.Members.{names_step, names_done}
+use Rattle.isp_bind.proofs.Members.{names_step}
 use Rattle.isp_bind.proofs.arguments.names.Goals as goal
 
 pub loop-param-preserved : goal.loop-param-preserved

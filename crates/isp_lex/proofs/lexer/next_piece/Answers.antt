@@ -1,6 +1,6 @@
 use Rattle.std.proofs.Common.{◌≡◌, ◌∙◌, ℕ, ◌<◌, Bool, true, List, [], ◌∷◌, Result, Ok, Err, IfOk, IfErr, Some, length, get_or, rules, arith, refl, sym}
 use Rattle.isp_lex.specs.Bytes as class
-use Rattle.isp_lex.specs.Bytes.{all, begins, next_is}
+use Rattle.isp_lex.specs.Bytes.{begins}
 use Rattle.isp_lex.specs.reader.Pieces.{Front, NoNumber, StopsAt, run_piece}
 use Rattle.isp_lex.specs.reader.Runs.{run_of}
 use Rattle.isp_lex.specs.declared.fault.SourceFault.{SourceFault}

@@ -1,6 +1,5 @@
 use Rattle.std.proofs.lemmas.Str.{IsCharBoundary-from_ascii}
 use Rattle.isp_lex.specs.Bytes as class
-use Rattle.isp_lex.specs.Bytes.{all}
 use Rattle.isp_lex.specs.reader.Numerals.{is_digits_byte}
 use Rattle.isp_lex.proofs.Runs.{all_take, run_le, words_ascii}
 use Rattle.isp_lex.proofs.numbers.number.Goals as goal

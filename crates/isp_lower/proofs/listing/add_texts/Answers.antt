@@ -1,4 +1,4 @@
-use Rattle.std.proofs.Common.{Vec, Global, ℕ, ◌≡◌, ◌<◌, ◌++◌, length, map, take, true, sym, ap, ◌∙◌, arith, length-append}
+use Rattle.std.proofs.Common.{Vec, Global, ℕ, ◌≡◌, ◌<◌, length, map, take, true, sym, ap, ◌∙◌, arith, length-append}
 use Rattle.std.proofs.lemmas.List.{length-map, length-take-le}
 use Rattle.std.proofs.lemmas.List.Folds.{list_all-map}
 use Rattle.isp_code.specs.Listing.{Listing}

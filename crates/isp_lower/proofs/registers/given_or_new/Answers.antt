@@ -1,7 +1,7 @@
 use Rattle.std.proofs.Common.{◌≡◌, ◌∙◌, ap, sym, refl, subst, length}
 use Rattle.std.specs.Prelude.{IfSome, Some}
 use Rattle.std.proofs.lemmas.Result.{on_ok_weaker}
-use Rattle.isp_lower.specs.Lookup.{HasOwnType, name_of}
+use Rattle.isp_lower.specs.Lookup.{name_of}
 use Rattle.isp_lower.proofs.Lookup.{elem_pushed, own_is}
 use Rattle.isp_lower.proofs.registers.given_or_new.Goals as goal
 

@@ -1,8 +1,8 @@
-use Rattle.std.proofs.Common.{◌≡◌, refl, sym, ap, ◌∙◌, subst, ℕ, ◌+◌, ◌<◌, ◌≤◌, length, List, Some, true, false, pos, ◌+ℤ◌, unsigned_abs, arith}
+use Rattle.std.proofs.Common.{◌≡◌, refl, sym, ap, ◌∙◌, subst, ℕ, ◌+◌, ◌<◌, length, List, Some, true, false, pos, ◌+ℤ◌, unsigned_abs, arith}
 use Rattle.std.proofs.Math.ListN.{length-set}
 use Rattle.std.proofs.lemmas.Option.{get_or_from_slice_get}
 use Rattle.isp_base.specs.Access.{is_beyond}
-use Rattle.isp_base.specs.Cross.{packed_index, rank}
+use Rattle.isp_base.specs.Cross.{packed_index}
 use Rattle.isp_base.specs.Sets.{flag_of}
 use Rattle.isp_base.specs.Values.{number}
 use Rattle.isp_base.specs.declared.types.Elem.TheVariants.{I64}

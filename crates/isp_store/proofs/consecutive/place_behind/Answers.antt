@@ -1,4 +1,4 @@
-use Rattle.std.proofs.Common.{sym, ap, ap₂, ◌∙◌, subst, ◌+ℤ◌, FitsSigned}
+use Rattle.std.proofs.Common.{sym, ap₂, ◌∙◌, subst, ◌+ℤ◌, FitsSigned}
 use Rattle.std.specs.Int.{w128}
 use Rattle.std.proofs.lemmas.Int.{to_z-of_z}
 use Rattle.isp_store.proofs.PlacesInOrder.{sum_fits}

@@ -1,7 +1,7 @@
 use Rattle.std.proofs.Common.{ℕ, ◌<◌, ◌^◌, List, length, sym, ap, ◌∙◌, subst, refl}
 use Rattle.isp_base.specs.Access.{scatter}
 use Rattle.isp_base.specs.Held.{held}
-use Rattle.isp_base.specs.Maps.{Map, lane_of, map1, on}
+use Rattle.isp_base.specs.Maps.{Map, lane_of, on}
 use Rattle.isp_base.specs.Rows.{Row, Fit}
 use Rattle.isp_base.specs.Sets.{flag_of}
 use Rattle.isp_base.specs.Values.{width}

@@ -1,4 +1,4 @@
-use Rattle.std.proofs.Common.{◌≡◌, List, ℕ, ◌<◌, sym, ap, ◌∙◌, subst, length, rules}
+use Rattle.std.proofs.Common.{List, ℕ, ◌<◌, sym, ap, ◌∙◌, subst, length, rules}
 use Rattle.isp_base.specs.Access.{scatter}
 use Rattle.isp_base.specs.Maps.{Lanes, lane_of, on, put}
 use Rattle.isp_base.specs.Sets.{flag_of}

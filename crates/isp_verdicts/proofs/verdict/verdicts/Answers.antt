@@ -1,4 +1,4 @@
-use Rattle.std.proofs.Common.{rules, arith, refl}
+use Rattle.std.proofs.Common.{rules, arith}
 use Rattle.isp_typed.specs.Views.{program_of}
 use Rattle.isp_verdicts.proofs.Lines.{all_said, begun, entry_is_found, none_said, said}
 use Rattle.isp_verdicts.proofs.verdict.verdicts.Goals as goal

@@ -1,4 +1,4 @@
-use Rattle.std.proofs.Common.{◌≡◌, ◌≤◌, ℕ, List, sym, ap, ◌∙◌, unsigned_abs, arith}
+use Rattle.std.proofs.Common.{◌≤◌, List, ap, ◌∙◌, unsigned_abs, arith}
 use Rattle.isp_base.specs.Cross.{packed_index}
 use Rattle.isp_base.specs.Maps.{Map, lane_of, map1, on, over}
 use Rattle.isp_base.specs.Rows.{Row}
