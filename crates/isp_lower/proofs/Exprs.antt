@@ -43,13 +43,14 @@ use Rattle.isp_meaning.specs.Library.{argument, library_value}
 use Rattle.isp_typed.specs.Fine.{rates_of as rate_of_all}
 use Rattle.isp_typed.specs.Library.{library_type, parts}
 use Rattle.isp_typed.specs.declared.library.Library.{Library}
+use Rattle.isp_meaning.specs.Calls.{same_rate}
 use Rattle.isp_lower.specs.Callees.{later, next_rate, rate_held, rates_held, rates_of}
 use Rattle.isp_lower.specs.Library.{library_code, library_rates}
 use Rattle.isp_lower.specs.Calls.{IsHanded, AreHanded, Takes, given_back, CallRuns}
 use Rattle.isp_lower.specs.Layout.{class_at, register, mask_register, array_register}
 use Rattle.isp_lower.specs.Setting.{ArrayFitsAt, ArrayFits, Setting, IsSettled, gang_of, calls_of, AreAt, At, Stands, at_rate, held_at, Holds, Spares, Allowed, IsOther}
 use Rattle.isp_lower.specs.Runs.{Comes, Enters, Runs}
-use Rattle.isp_lower.specs.Code.{is_copied, variable_found, variable_read, copy, convert, constant, constant_of, convert_to, part_to, lift_to, lifted, found, operand, operand_of, lift_code, is_whole, whole, whole_of, index, index_of, packed_store, packed_load, base_register, base_places, base_code, expr_places, expr_code, expr_to, values_code, values_places, value_registers, argument_places, arguments_places, argument_register, argument_registers, argument_code, arguments_code, calling, select, same_rate, stays, stays_at, is_short, choose_code, choose_to, index_by, index_by_of, read_by, is_run, start_code}
+use Rattle.isp_lower.specs.Code.{is_copied, variable_found, variable_read, copy, convert, constant, constant_of, convert_to, part_to, lift_to, lifted, found, operand, operand_of, lift_code, is_whole, whole, whole_of, index, index_of, packed_store, packed_load, base_register, base_places, base_code, expr_places, expr_code, expr_to, values_code, values_places, value_registers, argument_places, arguments_places, argument_register, argument_registers, argument_code, arguments_code, calling, select, stays, stays_at, is_short, choose_code, choose_to, index_by, index_by_of, read_by, is_run, start_code}
 use Rattle.isp_lower.proofs.Base.{are_front, are_back, comes_none, comes_on, at_to, moved_by, spares_all, spares_less, spares_on}
 use Rattle.isp_lower.proofs.Rates.{Filled, held_same, at_mapped, at_offender, filled_on, filled_held}
 use Rattle.isp_lower.proofs.Lines.{set_at, value_at, copy_line, convert_line, unary_line, compare_line, operate_at, place_named}

@@ -14,8 +14,8 @@ use Rattle.isp_typed.specs.declared.variable.ArrayVariable.{ArrayVariable}
 use Rattle.isp_typed.specs.declared.variable.Holds.{Holds}
 use Rattle.isp_typed.specs.declared.variable.Holds.TheVariants as holds
 use Rattle.isp_typed.specs.declared.variable.Variable.{Variable as Declared}
+use Rattle.isp_meaning.specs.Calls.{same_rate}
 use Rattle.isp_lower.specs.Asks.{Ask, Nothing, Both, Register, ArrayOf, LocalOf, MaskOf, Number, Loads}
-use Rattle.isp_lower.specs.Code.{same_rate}
 use Rattle.isp_lower.specs.Emitted.{Begins, Grows, HasArray, HasRow, row_at, row_where, rows_of, value_row, array_row, value_rows, array_rows, result_rows, first_rows}
 use Rattle.isp_lower.specs.Reserved.{Has, HasOwn, HasSpare, IsOwn, IsReserved, OwnRegister}
 use Rattle.isp_lower.specs.Rows.{Name, Variable, Result, Spare, Place, Fresh, Row, Rows, name_number, elem_in, rows_at}

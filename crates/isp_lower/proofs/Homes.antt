@@ -4,7 +4,7 @@ use Rattle.isp_base.specs.declared.types.Rate.{Rate}
 use Rattle.isp_typed.specs.declared.variable.Holds.{Holds}
 use Rattle.isp_typed.specs.declared.variable.Holds.TheVariants as holds
 use Rattle.isp_typed.specs.declared.variable.Variable as declared
-use Rattle.isp_lower.specs.Code.{same_rate}
+use Rattle.isp_meaning.specs.Calls.{same_rate}
 use Rattle.isp_lower.specs.Rows.{Row}
 use Rattle.isp_lower.specs.Emitted.{array_row, array_rows, row_at, row_where, value_row, value_rows}
 

@@ -17,9 +17,10 @@ use Rattle.isp_meaning.specs.Payloads.{Payload, One, Each, nothing, is_true, is_
 use Rattle.isp_meaning.specs.Outcomes.{Val, Gives, bind, value_unless_empty}
 use Rattle.isp_meaning.specs.Places.{variable}
 use Rattle.isp_meaning.specs.Expressions.{value}
+use Rattle.isp_meaning.specs.Calls.{same_rate}
 use Rattle.isp_lower.specs.Setting.{Setting, IsSettled, gang_of, calls_of, AreAt, Stands, at_rate, held_at, Holds, Allowed}
 use Rattle.isp_lower.specs.Runs.{Runs}
-use Rattle.isp_lower.specs.Code.{is_copied, variable_found, same_rate, stays, lifted, found, select}
+use Rattle.isp_lower.specs.Code.{is_copied, variable_found, stays, lifted, found, select}
 use Rattle.isp_lower.proofs.Base.{are_back}
 use Rattle.isp_lower.proofs.Rates.{Filled, at_kept, filled_on}
 use Rattle.isp_lower.proofs.Lines.{set_at}

@@ -7,8 +7,9 @@ use Rattle.isp_base.specs.declared.types.Rate.{Rate}
 use Rattle.isp_base.specs.declared.types.Rate.TheVariants.{Uniform, Varying}
 use Rattle.isp_code.specs.Listing.{Routine, Listing}
 use Rattle.isp_typed.specs.Typed.{TExpr, t_constant, t_program_index, t_place, t_convert, t_cast, t_unary, t_binary, t_compare, t_logic, t_choose, t_call, t_library, t_packed_store, t_packed_load, TPlace, t_variable, t_element, TFunction, place_type, type_of}
+use Rattle.isp_meaning.specs.Calls.{same_rate}
 use Rattle.isp_lower.specs.Layout.{Layout}
-use Rattle.isp_lower.specs.Code.{is_copied, variable_found, same_rate, is_whole, lifted, part_to, place_found, found, operand, whole, index, stays, stays_at, index_by, is_run, start_in}
+use Rattle.isp_lower.specs.Code.{is_copied, variable_found, is_whole, lifted, part_to, place_found, found, operand, whole, index, stays, stays_at, index_by, is_run, start_in}
 use Rattle.isp_lower.specs.Asks.{copy_asks, expr_asks, index_asks, lift_asks, operand_asks, whole_asks, element_asks, is_lane, place_asks, run_asks, start_asks}
 use Rattle.isp_lower.specs.Sound.{IsRegister, Granted, HasArray, IsShared}
 use Rattle.isp_lower.proofs.Found.{whole_is}

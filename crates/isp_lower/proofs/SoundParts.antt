@@ -13,8 +13,9 @@ use Rattle.isp_code.specs.declared.instr.JumpTest.TheVariants as jump
 use Rattle.isp_meaning.specs.Payloads.{converted}
 use Rattle.isp_typed.specs.Typed.{TExpr, TFunction, type_of}
 use Rattle.isp_typed.specs.declared.variable.Logic.{Logic}
+use Rattle.isp_meaning.specs.Calls.{same_rate}
 use Rattle.isp_lower.specs.Layout.{Layout}
-use Rattle.isp_lower.specs.Code.{convert, copy, select, jump_on, jump_off, decided, guard, choice, move_code, same_rate, is_whole, constant_of, needing, pair_code, logic_code, choose_rest, the_others, lift_code, lift_to, convert_to, found, operand, operand_of, whole, whole_of, index_of, choose_code, stays_at, is_short, index_by_of, is_run, start_code}
+use Rattle.isp_lower.specs.Code.{convert, copy, select, jump_on, jump_off, decided, guard, choice, move_code, is_whole, constant_of, needing, pair_code, logic_code, choose_rest, the_others, lift_code, lift_to, convert_to, found, operand, operand_of, whole, whole_of, index_of, choose_code, stays_at, is_short, index_by_of, is_run, start_code}
 use Rattle.isp_lower.specs.Asks.{expr_asks, first_slot, index_asks, lift_asks, operand_asks, second_slot, sides_ask, test_asks, whole_asks, element_asks, is_lane, run_asks, start_asks}
 use Rattle.isp_lower.specs.Sound.{IsSound, AreSound, IsRegister, Granted}
 use Rattle.isp_lower.proofs.Found.{constant_is_one}

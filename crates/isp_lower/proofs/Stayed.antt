@@ -5,7 +5,8 @@ use Rattle.isp_base.specs.declared.types.Elem.{Elem}
 use Rattle.isp_base.specs.declared.types.Rate.{Rate}
 use Rattle.isp_base.specs.declared.types.Rate.TheVariants.{Uniform, Varying}
 use Rattle.isp_typed.specs.Typed.{TExpr, t_constant, t_program_index, t_place, t_convert, t_cast, t_unary, t_binary, t_compare, t_logic, t_choose, t_call, t_library, t_packed_store, t_packed_load, t_variable, t_element, type_of}
-use Rattle.isp_lower.specs.Code.{is_copied, variable_found, found, is_short, lifted, same_rate, stays, stays_at}
+use Rattle.isp_meaning.specs.Calls.{same_rate}
+use Rattle.isp_lower.specs.Code.{is_copied, variable_found, found, is_short, lifted, stays, stays_at}
 use Rattle.isp_lower.specs.Layout.{Layout}
 
 pub both_true : (a b : Bool) → (a && b) ≡ true → (a ≡ true) × (b ≡ true)

@@ -3,8 +3,9 @@ use Rattle.std.proofs.Common.{◌≡◌, Bool, true, false, [], ◌++◌, refl, 
 use Rattle.std.specs.Prelude.{◌&&◌}
 use Rattle.isp_base.specs.declared.types.Rate.{Rate}
 use Rattle.isp_typed.specs.Typed.{TExpr, t_constant, t_program_index, t_place, t_convert, t_cast, t_unary, t_binary, t_compare, t_logic, t_choose, t_call, t_library, t_packed_store, t_packed_load, t_variable, t_element, type_of}
+use Rattle.isp_meaning.specs.Calls.{same_rate}
 use Rattle.isp_lower.specs.Layout.{Layout}
-use Rattle.isp_lower.specs.Code.{expr_places, is_short, same_rate, stays, stays_at}
+use Rattle.isp_lower.specs.Code.{expr_places, is_short, stays, stays_at}
 
 both_true : (a b : Bool) → (a && b) ≡ true → (a ≡ true) × (b ≡ true)
 both_true true b e = (refl, e)

@@ -8,9 +8,6 @@ use Rattle.isp_code.specs.Writable.{number_fits, table_has_room}
 pub all_both : {X : Type 0} (p : X → Bool) (xs ys : List X) → list_all p xs ≡ true → list_all p ys ≡ true → list_all p (xs ++ ys) ≡ true
 all_both p xs ys a b = list_all-append p xs ys ∙ and_from (list_all p xs) (list_all p ys) a b
 
-pub all_first : {X : Type 0} (p : X → Bool) (xs ys : List X) → list_all p (xs ++ ys) ≡ true → list_all p xs ≡ true
-all_first p xs ys a = (and_parts (list_all p xs) (list_all p ys) (sym (list_all-append p xs ys) ∙ a)).0
-
 pub all_at : {X : Type 0} (p : X → Bool) (xs : List X) (i : ℕ) (d : X) → list_all p xs ≡ true → i < length xs → p (get_or xs i d) ≡ true
 all_at p [] i d all lt = absurd (omega (arith, lt))
 all_at p (x ∷ xs) zero d all lt = (and_parts (p x) (list_all p xs) all).0

@@ -86,10 +86,14 @@ with_target at to d = record d { code = patched d.code at to }
 
 -- ---- what is asked of a draft
 
--- The text of code can have it: its places, its texts, and of each function the names, the local arrays and the constants.
-pub record CanBeWritten (d : Draft) : Type 0 where
+-- the text of code can have its places and its texts
+pub record TablesCanBeWritten (d : Draft) : Type 0 where
   pub places : list_all place_fits d.places ≡ true
   pub texts : list_all has_byte d.texts ≡ true
+
+-- and of each function the names, the local arrays and the constants
+pub record CanBeWritten (d : Draft) : Type 0 where
+  pub tables : TablesCanBeWritten d
   pub routines : list_all parts_fit (all_routines d) ≡ true
 
 abbrev pub IsBegun : Draft → Type 0

@@ -11,8 +11,8 @@ use Rattle.isp_typed.specs.declared.variable.ArrayVariable.{ArrayVariable}
 use Rattle.isp_typed.specs.declared.variable.Holds.{Holds}
 use Rattle.isp_typed.specs.declared.variable.Holds.TheVariants as holds
 use Rattle.isp_typed.specs.declared.variable.Variable as declared
+use Rattle.isp_meaning.specs.Calls.{same_rate}
 use Rattle.isp_lower.specs.Asks.{Ask, All}
-use Rattle.isp_lower.specs.Code.{same_rate}
 use Rattle.isp_lower.specs.Layout.{Layout}
 pub use Rattle.isp_lower.specs.Lookup.{name_of, row_of}
 use Rattle.isp_lower.specs.Rows.{Name, Variable, Result, Row, Rows, rows_at, elem_in, IsLoaded, layout_of}

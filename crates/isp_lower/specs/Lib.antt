@@ -28,3 +28,4 @@ pub mod Drafts
 pub mod Named
 pub mod Patched
 pub mod Adding
+pub mod reader

@@ -1,7 +1,7 @@
 //! Where a function begins: each of its variables has a register, and what it gives back.
 ghost use Rattle.std.specs.Prelude.{◌≡◌, ◌++◌, [], IfOk, OnOk};
 ghost use Rattle.isp_base.specs.declared.types.Rate.TheVariants.{Uniform, Varying};
-ghost use Rattle.isp_lower.specs.Code.{same_rate};
+ghost use Rattle.isp_meaning.specs.Calls.{same_rate};
 ghost use Rattle.isp_lower.specs.Emitted.{array_row, array_rows, first_rows, name_of, result_rows, row_where, rows_of, value_row, value_rows};
 ghost use Rattle.isp_lower.specs.Lookup.{HasOwnType, IsAsked};
 

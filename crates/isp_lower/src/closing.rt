@@ -1,5 +1,5 @@
 //! The function at work becomes a routine.
-ghost use Rattle.std.specs.Prelude.{◌≡◌, [], Some, None, OnErr, OnOk, option_map};
+ghost use Rattle.std.specs.Prelude.{◌≡◌, Some, None, OnErr, OnOk};
 ghost use Rattle.isp_lower.specs.Drafts.{closed, draft_of, heading_in, with_heading};
 ghost use Rattle.isp_lower.specs.Emitted.{rows_of};
 ghost use Rattle.isp_lower.specs.Header.{scalars_behind, vectors_behind};

@@ -1,5 +1,5 @@
 //! The code of a program while it is written.
-ghost use Rattle.std.specs.Prelude.{◌≡◌, ◌≤◌, ◌<◌, length, IfOk, OnErr, OnOk};
+ghost use Rattle.std.specs.Prelude.{◌≡◌, ◌<◌, length, IfOk, OnErr, OnOk};
 ghost use Rattle.isp_typed.specs.Views.{function_of, program_of};
 ghost use Rattle.isp_lower.specs.Drafts.{CanBeWritten, HasAllNamed, HasNamed, IsBegun, begun, draft_of, finished, first_draft, with_instr, with_place, with_register, with_target, with_text};
 ghost use Rattle.isp_lower.specs.Header.{HeadingFits};

@@ -1,6 +1,6 @@
 //! The registers of the function in hand.
 ghost use Rattle.std.specs.Prelude.{◌≡◌, length, map, Some, IfOk, OnErr, OnOk};
-ghost use Rattle.isp_lower.specs.Emitted.{Begins, Grows, HasArray, HasLoaded, HasRow, name_of, row_of, rows_of};
+ghost use Rattle.isp_lower.specs.Emitted.{Begins, Grows, HasLoaded, HasRow, name_of, row_of, rows_of};
 ghost use Rattle.isp_lower.specs.Lookup.{IsAsked, own_type};
 ghost use Rattle.isp_base.specs.declared.types.Elem.TheVariants.{I64};
 ghost use Rattle.isp_base.specs.declared.types.Rate.TheVariants.{Uniform};

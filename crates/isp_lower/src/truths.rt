@@ -1,7 +1,8 @@
 //! Tests of trees that choose their code.
 ghost use Rattle.std.specs.Prelude.{◌≡◌, ◌&&◌};
+ghost use Rattle.isp_meaning.specs.Calls.{same_rate};
 ghost use Rattle.isp_lower.specs.Asks.{is_lane};
-ghost use Rattle.isp_lower.specs.Code.{constant_of, counts, decided, is_counter, is_run, is_short, is_whole, same_rate, stays, stays_at};
+ghost use Rattle.isp_lower.specs.Code.{constant_of, counts, decided, is_counter, is_run, is_short, is_whole, stays, stays_at};
 ghost use Rattle.isp_lower.specs.Emitted.{layout};
 ghost use Rattle.isp_typed.specs.Views.{expr_of};
 

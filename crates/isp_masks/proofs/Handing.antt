@@ -18,12 +18,11 @@ use Rattle.isp_typed.specs.Typed.{TFunction}
 use Rattle.isp_typed.specs.declared.variable.Holds.{Holds as Held}
 use Rattle.isp_typed.specs.declared.variable.Holds.TheVariants as holds
 use Rattle.isp_typed.specs.declared.variable.Variable.{Variable}
-use Rattle.isp_meaning.specs.Calls.{one_passed, each_passed, is_value}
+use Rattle.isp_meaning.specs.Calls.{one_passed, each_passed, is_value, same_rate}
 use Rattle.isp_meaning.specs.Expressions.{Passed, Values, Store}
 use Rattle.isp_meaning.specs.Payloads.{Payload, One, Each, sole, spread}
 use Rattle.isp_meaning.specs.State.{Frame}
 use Rattle.isp_lower.specs.Calls.{IsHanded, AreHanded}
-use Rattle.isp_lower.specs.Code.{same_rate}
 use Rattle.isp_lower.specs.Held.{Holds}
 use Rattle.isp_lower.specs.Layout.{Layout, class_at}
 use Rattle.isp_masks.specs.Arrays.{array_then, array_count, ArraysStand}

@@ -7,13 +7,13 @@ use Rattle.std.specs.List.{All, list_all}
 use Rattle.isp_base.specs.declared.types.Span.{Span}
 use Rattle.isp_code.specs.Listing.{Routine}
 use Rattle.isp_code.specs.Writable.{has_byte, place_fits}
-use Rattle.isp_lower.specs.Drafts.{Draft, all_routines, finished}
+use Rattle.isp_lower.specs.Drafts.{Draft, TablesCanBeWritten, all_routines, finished}
 use Rattle.isp_lower.specs.Setting.{AreAt}
 use Rattle.isp_lower.proofs.Lemmas.{all_both}
 use Rattle.isp_typed.specs.Typed.{Program, TFunction}
 use Rattle.isp_typed.specs.Views.{function_of, functions_of}
 use Rattle.isp_typed.specs.declared.function.TypedFunction.{TypedFunction}
-use Rattle.isp_masks.specs.Lowered.{AddsLowered, AreLowered, CanBeNamed, GrowsTo, HasCode, IsLowered}
+use Rattle.isp_masks.specs.Lowered.{AddsLowered, AreLowered, GrowsTo, HasCode, IsLowered}
 
 get_more : {A : Type 0} (xs zs : List A) (n : ℕ) (y : A) → slice_get xs n ≡ Some y → slice_get (xs ++ zs) n ≡ Some y
 get_more [] zs n y e = absurd (omega (arith, slice_get_within [] n y e))
@@ -76,8 +76,8 @@ routine_more callees fs at f old new low is same a x =
     (all_last callees (functions_of (take at fs)) (all_routines old) (function_of f) x.routine new.places new.texts (all_more callees (functions_of (take at fs)) (all_routines old) old.places new.places old.texts new.texts x.places x.texts a) (subst (λ z. IsLowered z (function_of f) x.routine new.places new.texts) same x.lowered)))
 
 -- its places and its texts are more that the text of code can have
-pub named_more : (h : TFunction) (old new : Draft) → CanBeNamed old → AddsLowered h old new → CanBeNamed new
-named_more h old new can x = record {
+pub tables_more : (h : TFunction) (old new : Draft) → TablesCanBeWritten old → AddsLowered h old new → TablesCanBeWritten new
+tables_more h old new can x = record {
   places = ap (list_all place_fits) x.places.is ∙ all_both place_fits old.places x.places.more can.places x.places_fit;
   texts = ap (list_all has_byte) x.texts.is ∙ all_both has_byte old.texts x.texts.more can.texts x.texts_fit;
 }

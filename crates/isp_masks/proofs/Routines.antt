@@ -11,8 +11,8 @@ use Rattle.isp_code.specs.Registers.{class_of, if_class, param_elems, same_class
 use Rattle.isp_code.specs.declared.function.Param.{Param}
 use Rattle.isp_code.specs.declared.instr.Instr.{Instr}
 use Rattle.isp_code.specs.declared.register.Class.TheVariants as class
+use Rattle.isp_meaning.specs.Calls.{same_rate}
 use Rattle.isp_lower.specs.Callees.{rates_in}
-use Rattle.isp_lower.specs.Code.{same_rate}
 use Rattle.isp_lower.specs.Emitted.{Begins, Grows, HasArray, HasRow, first_rows, result_rows, row_at, row_where, rows_of, texts_of, value_row, value_rows, HasLoaded}
 use Rattle.isp_lower.specs.Layout.{Layout, class_at}
 use Rattle.isp_lower.specs.Rows.{Row, Rows, layout_of}

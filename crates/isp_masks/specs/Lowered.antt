@@ -61,11 +61,6 @@ pub record GrowsTo {A : Type 0} (old new : List A) : Type 0 where
   pub more : List A
   pub is : new ≡ old ++ more
 
--- the text of code can have its places and its texts
-pub record CanBeNamed (d : Draft) : Type 0 where
-  pub places : list_all place_fits d.places ≡ true
-  pub texts : list_all has_byte d.texts ≡ true
-
 -- A function's routine is added, as the last one. The text of code can have the places and the texts that are added.
 pub record AddsLowered (h : TFunction) (old new : Draft) : Type 0 where
   pub routine : Routine

@@ -10,9 +10,8 @@ use Rattle.isp_typed.specs.Typed.{TFunction}
 use Rattle.isp_typed.specs.declared.variable.Holds.{Holds}
 use Rattle.isp_typed.specs.declared.variable.Holds.TheVariants as holds
 use Rattle.isp_typed.specs.declared.variable.Variable.{Variable}
-use Rattle.isp_meaning.specs.Calls.{one_passed, each_passed}
+use Rattle.isp_meaning.specs.Calls.{one_passed, each_passed, same_rate}
 use Rattle.isp_meaning.specs.Expressions.{Passed}
-use Rattle.isp_lower.specs.Code.{same_rate}
 use Rattle.isp_lower.specs.Layout.{Layout}
 
 -- how many of some variables are values of a rate

@@ -31,6 +31,11 @@ widely k spot = record spot { on = k; slot = spot.slot + 1 + 1 }
 abbrev pub body_spot : ℕ → Spot
 body_spot n = record { on = n; continued = n + 1; returned = n + 2; slot = n + 3 }
 
+-- the same as the code holds it
+abbrev pub own_spot : ℕ → declared.Spot
+own_spot n =
+    record { masks = record { on = record { number = n }; continued = record { number = n + 1 }; returned = record { number = n + 2 } }; slot = record { number = n + 3 } }
+
 -- the body of a function: mask 0 has those that called
 abbrev pub first_spot : Spot
 first_spot = record { on = 0; continued = 1; returned = 2; slot = 3 }

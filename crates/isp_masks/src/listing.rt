@@ -1,11 +1,11 @@
 //! The code of programs.
 ghost use Rattle.std.specs.Prelude.{◌≡◌, [], IfOk, OnOk};
 ghost use Rattle.std.specs.List.{All};
-ghost use Rattle.isp_lower.specs.Drafts.{all_routines, draft_of};
+ghost use Rattle.isp_lower.specs.Drafts.{TablesCanBeWritten, all_routines, draft_of};
 ghost use Rattle.isp_rates.specs.Program.{IsAccepted};
 ghost use Rattle.isp_typed.specs.Scoped.{ScopedFunction};
 ghost use Rattle.isp_typed.specs.Views.{functions_of, program_of};
-ghost use Rattle.isp_masks.specs.Lowered.{AreLowered, CanBeNamed, HasCode, IsFineFunction};
+ghost use Rattle.isp_masks.specs.Lowered.{AreLowered, HasCode, IsFineFunction};
 
 use crate::routine::function;
 use isp_code::Code;
@@ -16,11 +16,11 @@ use std::alloc::{AllocError, Global};
 /// Writes the routines of functions, in their order, and the places in the source and the texts that they name.
 fn routines(e: &mut Emitter, functions: &[TypedFunction]) -> Result<(), AllocError>
     requires none { all_routines (draft_of e.old) ≡ [] }
-    requires named { CanBeNamed (draft_of e.old) }
+    requires tables { TablesCanBeWritten (draft_of e.old) }
     requires fine { All IsFineFunction (functions_of functions.now) }
     requires scoped { All ScopedFunction (functions_of functions.now) }
     ensures gang { OnOk result ((draft_of e.new).gang ≡ (draft_of e.old).gang) }
-    ensures named { OnOk result (CanBeNamed (draft_of e.new)) }
+    ensures tables { OnOk result (TablesCanBeWritten (draft_of e.new)) }
     ensures lowered { OnOk result (AreLowered (draft_of e.old).callees (functions_of functions.now) (all_routines (draft_of e.new)) (draft_of e.new).places (draft_of e.new).texts) }
 {
     for f in functions.iter() {

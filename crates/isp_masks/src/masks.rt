@@ -1,5 +1,6 @@
 //! Where the code of a statement works.
 ghost use Rattle.std.specs.Prelude.{◌≡◌, ◌<◌, ◌+◌};
+ghost use Rattle.isp_masks.specs.Spots.{own_spot};
 
 use isp_lower::{MaskNumber, Site, Slot};
 
@@ -23,7 +24,7 @@ impl Spot {
     /// Of a body that runs under masks of its own, those of three slots from one on.
     pub(crate) fn own(slot: Slot) -> Spot
         requires { slot.number + 3 < 4294967296 }
-        ensures { result ≡ record { masks = record { on = record { number = slot.number }; continued = record { number = slot.number + 1 }; returned = record { number = slot.number + 2 } }; slot = record { number = slot.number + 3 } } }
+        ensures { result ≡ own_spot slot.number }
     {
         Spot {
             masks: Masks {

@@ -13,7 +13,7 @@ use Rattle.isp_masks.proofs.listing.program.Goals as goal
 pub routines-requires : goal.routines-requires
 routines-requires c = record {
   none = ap all_routines c.new-e.ensures;
-  named = record { places = ap (λ (d : Draft). list_all place_fits d.places) c.new-e.ensures; texts = ap (λ (d : Draft). list_all has_byte d.texts) c.new-e.ensures };
+  tables = record { places = ap (λ (d : Draft). list_all place_fits d.places) c.new-e.ensures; texts = ap (λ (d : Draft). list_all has_byte d.texts) c.new-e.ensures };
   fine = subst (λ fs. All IsFineFunction (functions_of fs)) (sym c.deref.ensures.value) (λ k d lt. (functions_of c.args.program.now.functions.items, c.requires.fine.each k d lt));
   scoped = subst (λ fs. All ScopedFunction (functions_of fs)) (sym c.deref.ensures.value) c.requires.scoped.each;
 }
@@ -26,8 +26,7 @@ finish-requires c =
     subst (λ fs. AreLowered fs p.functions (all_routines d) d.places d.texts) (ap (λ (z : Draft). z.callees) c.new-e.ensures) (subst (λ fs. AreLowered (draft_of c.new-e.result).callees (functions_of fs) (all_routines d) d.places d.texts) c.deref.ensures.value c.in_ok-routines.ensures.lowered) in
     let gang = c.in_ok-routines.ensures.gang ∙ ap (λ (z : Draft). z.gang) c.new-e.ensures in
     record {
-      places = c.in_ok-routines.ensures.named.places;
-      texts = c.in_ok-routines.ensures.named.texts;
+      tables = c.in_ok-routines.ensures.tables;
       routines = routines_fit p (finished d) c.requires (has_finished p d lowered gang);
     }
 

@@ -3,11 +3,11 @@ use Rattle.isp_lower.specs.Drafts.{draft_of}
 use Rattle.isp_typed.specs.Scoped.{ScopedFunction}
 use Rattle.isp_typed.specs.Views.{function_of}
 use Rattle.isp_masks.specs.Lowered.{AreLowered, IsFineFunction}
-use Rattle.isp_masks.proofs.Listings.{all_at, named_more, routine_more}
+use Rattle.isp_masks.proofs.Listings.{all_at, tables_more, routine_more}
 use Rattle.isp_masks.proofs.listing.routines.Goals as goal
 
 pub loop-f-init : goal.loop-f-init
-loop-f-init c = (subst (λ gs. AreLowered (draft_of c.args.e.now).callees [] gs (draft_of c.args.e.now).places (draft_of c.args.e.now).texts) (sym c.requires.none) tt, refl, refl, c.requires.named)
+loop-f-init c = (subst (λ gs. AreLowered (draft_of c.args.e.now).callees [] gs (draft_of c.args.e.now).places (draft_of c.args.e.now).texts) (sym c.requires.none) tt, refl, refl, c.requires.tables)
 
 pub loop-f-preserved : goal.loop-f-preserved
 loop-f-preserved c =
@@ -15,7 +15,7 @@ loop-f-preserved c =
       routine_more (draft_of c.args.e.now).callees c.args.functions.now c.loop-f.f-index c.f-item.result (draft_of c.loop-f.e) (draft_of c.function.new.e) c.loop-f-test.true c.f-item.is c.loop-f.invariant.2 c.loop-f.invariant.0 added,
       added.gang ∙ c.loop-f.invariant.1,
       added.callees ∙ c.loop-f.invariant.2,
-      named_more (function_of c.f-item.result) (draft_of c.loop-f.e) (draft_of c.function.new.e) c.loop-f.invariant.3 added,
+      tables_more (function_of c.f-item.result) (draft_of c.loop-f.e) (draft_of c.function.new.e) c.loop-f.invariant.3 added,
     )
 
 pub function-requires : goal.function-requires
