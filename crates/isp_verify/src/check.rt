@@ -7,19 +7,18 @@ ghost use Rattle.isp_verify.specs.Faults.{is_function, instrs_fault, last_fault,
 
 use crate::fault::{Fault, Rule};
 use crate::header::check_header;
-use crate::instrs::check_instr;
+use crate::operands::Checker;
 use crate::registers::Registers;
 use isp_code::{Code, Function, Instr};
 use std::alloc::{AllocError, Global};
 use std::collections::BTreeSet;
 
-// The first fault of the instructions, in order.
-fn check_instrs(code: &Code, k: usize, function: &Function, registers: &Registers) -> Option<Fault>
-    requires { registers.now ≡ table_of (routine_of function.now) }
-    ensures { result ≡ instrs_fault code.now k (routine_of function.now) 0 function.now.code.items }
+// The first fault of the instructions of a function, the `k`th, in order.
+fn check_instrs(k: usize, checker: &Checker) -> Option<Fault>
+    ensures { result ≡ instrs_fault checker.now.code.now k (routine_of checker.now.function.now) 0 checker.now.function.now.code.items }
 {
-    for (n, instr) in function.code.iter().enumerate() {
-        if let Some(rule) = check_instr(code, function, registers, instr) {
+    for (n, instr) in checker.function.code.iter().enumerate() {
+        if let Some(rule) = checker.instr(instr) {
             return Some(Fault {
                 rule,
                 function: k,
@@ -48,19 +47,17 @@ fn check_last(function: &Function) -> Option<Rule>
     }
 }
 
-// `is_new` says that no function before this one has its name.
+// The first fault of a function, the `k`th. `is_new` says that no function before this one has its name.
 fn check_function(
     alloc: Global,
-    code: &Code,
     k: usize,
     is_new: bool,
-    function: &Function,
-    registers: &Registers,
+    checker: &Checker,
 ) -> Result<Option<Fault>, AllocError>
-    requires table { registers.now ≡ table_of (routine_of function.now) }
-    requires new { is_new ≡ not (list_any (is_function function.now.name) (take k code.now.routines)) }
-    ensures { IfOk result (λ f. f ≡ function_fault code.now k (routine_of function.now)) }
+    requires { is_new ≡ not (list_any (is_function checker.now.function.now.name) (take k checker.now.code.now.routines)) }
+    ensures { IfOk result (λ f. f ≡ function_fault checker.now.code.now k (routine_of checker.now.function.now)) }
 {
+    let function = checker.function;
     if let Some(rule) = check_header(alloc, is_new, function)? {
         return Ok(Some(Fault {
             rule,
@@ -68,7 +65,7 @@ fn check_function(
             instruction: 0,
         }));
     }
-    if let Some(fault) = check_instrs(code, k, function, registers) {
+    if let Some(fault) = check_instrs(k, checker) {
         return Ok(Some(fault));
     }
     match check_last(function) {
@@ -94,8 +91,12 @@ pub(crate) fn first_fault(
     let mut names = BTreeSet::new(alloc);
     for (k, function) in functions.iter().enumerate() {
         let is_new = names.insert(function.name.as_str())?;
-        let found = check_function(alloc, code, k, is_new, function, &registers[k])?;
-        if let Some(fault) = found {
+        let checker = Checker {
+            code,
+            function,
+            registers: &registers[k],
+        };
+        if let Some(fault) = check_function(alloc, k, is_new, &checker)? {
             return Ok(Some(fault));
         }
     }

@@ -1,26 +1,34 @@
 //! Whether an instruction is one that a line of the table of instructions takes.
-ghost use Rattle.std.specs.Prelude.{◌≡◌};
+ghost use Rattle.std.specs.Prelude.{◌≡◌, IsTrue};
 ghost use Rattle.isp_code.specs.Listing.{routine_of};
-ghost use Rattle.isp_code.specs.Operands.{scalar_operands, vector_operands, mask_operands, divided, packed, unary_want, reduced_want, reducing_want, tested};
-ghost use Rattle.isp_code.specs.Registers.{table_of};
+ghost use Rattle.isp_code.specs.Operands.{operands, scalar_operands, vector_operands, mask_operands, divided, packed, unary_want, reduced_want, reducing_want, tested};
 ghost use Rattle.isp_verify.specs.Faults.{operands_fault, instr_fault};
+ghost use Rattle.isp_verify.specs.reader.Kinds.{is_of_many, is_operator, is_load, is_across, is_store, is_packed};
 
-use crate::calls::check_call;
 use crate::fault::Rule;
-use crate::operands::check_all;
-use crate::registers::Registers;
+use crate::operands::Checker;
 use isp_base::{Elem, UnaryOp};
+use isp_code::Operand::{Array, Back, Mask, Number, Place, Scalar, Target, Text, Vector};
 use isp_code::{
-    ArrayWant, Class, Code, Function, Instr, JumpTest, MaskInstr, Operand, Reduction, Register,
-    ScalarInstr, VectorInstr, Want,
+    ArrayWant, Class, Instr, JumpTest, MaskInstr, Operand, Reduction, Register, ScalarInstr,
+    VectorInstr, Want,
 };
+
+/// What a truth value is to be.
+const TRUTH: Want = Want::Is(Elem::Bool);
+
+/// What an index is to be.
+const INDEX: Want = Want::Is(Elem::I64);
+
+/// What the number of a lane is to be, and a count of lanes.
+const LANE: Want = Want::Is(Elem::I32);
 
 // `!` is an operator on bool, the others are on whole numbers.
 fn unary_want(op: UnaryOp) -> Want
     ensures { result ≡ unary_want op }
 {
     match op {
-        UnaryOp::Not => Want::Is(Elem::Bool),
+        UnaryOp::Not => TRUTH,
         _ => Want::Integer,
     }
 }
@@ -32,7 +40,7 @@ fn reduced_want(reduction: Reduction) -> Want
     match reduction {
         Reduction::Add => Want::Sum,
         Reduction::Min | Reduction::Max => Want::Integer,
-        Reduction::Equal | Reduction::Any | Reduction::All => Want::Is(Elem::Bool),
+        Reduction::Equal | Reduction::Any | Reduction::All => TRUTH,
     }
 }
 
@@ -44,382 +52,7 @@ fn reducing_want(reduction: Reduction, d: Register) -> Want
         Reduction::Add => Want::Widens(d),
         Reduction::Min | Reduction::Max => Want::Like(d),
         Reduction::Equal => Want::Integer,
-        Reduction::Any | Reduction::All => Want::Is(Elem::Bool),
-    }
-}
-
-fn check_scalar(
-    code: &Code,
-    function: &Function,
-    registers: &Registers,
-    d: Register,
-    instr: &ScalarInstr,
-) -> Option<Rule>
-    requires { registers.now ≡ table_of (routine_of function.now) }
-    ensures { result ≡ operands_fault code.now (routine_of function.now) (scalar_operands d instr.now) }
-{
-    let any = Operand::Scalar(d, Want::Any);
-    let whole = Operand::Scalar(d, Want::Integer);
-    let truth = Operand::Scalar(d, Want::Is(Elem::Bool));
-    let like = Want::Like(d);
-    match *instr {
-        ScalarInstr::Constant(n) => check_all(
-            code,
-            function,
-            registers,
-            &[any, Operand::Number(n, d)],
-        ),
-        ScalarInstr::Copy(x) => check_all(
-            code,
-            function,
-            registers,
-            &[any, Operand::Scalar(x, like)],
-        ),
-        ScalarInstr::Convert(x) => check_all(
-            code,
-            function,
-            registers,
-            &[any, Operand::Scalar(x, Want::Any)],
-        ),
-        ScalarInstr::Unary { op, value } => check_all(
-            code,
-            function,
-            registers,
-            &[
-                Operand::Scalar(d, unary_want(op)),
-                Operand::Scalar(value, like),
-            ],
-        ),
-        ScalarInstr::Binary { left, right, .. } => check_all(
-            code,
-            function,
-            registers,
-            &[
-                whole,
-                Operand::Scalar(left, like),
-                Operand::Scalar(right, like),
-            ],
-        ),
-        ScalarInstr::Compare { left, right, .. } => check_all(
-            code,
-            function,
-            registers,
-            &[
-                truth,
-                Operand::Scalar(left, Want::Any),
-                Operand::Scalar(right, Want::Like(left)),
-            ],
-        ),
-        ScalarInstr::Select {
-            test,
-            if_true,
-            if_false,
-        } => check_all(
-            code,
-            function,
-            registers,
-            &[
-                any,
-                Operand::Scalar(test, Want::Is(Elem::Bool)),
-                Operand::Scalar(if_true, like),
-                Operand::Scalar(if_false, like),
-            ],
-        ),
-        ScalarInstr::First(x) => check_all(
-            code,
-            function,
-            registers,
-            &[Operand::Scalar(d, Want::Is(Elem::I64)), Operand::Mask(x)],
-        ),
-        ScalarInstr::Load {
-            array,
-            index,
-            mask,
-            place,
-        } => check_all(
-            code,
-            function,
-            registers,
-            &[
-                any,
-                Operand::Array(array, ArrayWant::Shared, like),
-                Operand::Scalar(index, Want::Is(Elem::I64)),
-                Operand::Mask(mask),
-                Operand::Place(place),
-            ],
-        ),
-        ScalarInstr::Reduce { op, vector, mask } => check_all(
-            code,
-            function,
-            registers,
-            &[
-                Operand::Scalar(d, reduced_want(op)),
-                Operand::Vector(vector, reducing_want(op, d)),
-                Operand::Mask(mask),
-            ],
-        ),
-        ScalarInstr::Extract { vector, lane, mask } => check_all(
-            code,
-            function,
-            registers,
-            &[
-                whole,
-                Operand::Vector(vector, like),
-                Operand::Scalar(lane, Want::Is(Elem::I32)),
-                Operand::Mask(mask),
-            ],
-        ),
-    }
-}
-
-fn check_vector(
-    code: &Code,
-    function: &Function,
-    registers: &Registers,
-    d: Register,
-    instr: &VectorInstr,
-) -> Option<Rule>
-    requires { registers.now ≡ table_of (routine_of function.now) }
-    ensures { result ≡ operands_fault code.now (routine_of function.now) (vector_operands d instr.now) }
-{
-    let any = Operand::Vector(d, Want::Any);
-    let whole = Operand::Vector(d, Want::Integer);
-    let truth = Operand::Vector(d, Want::Is(Elem::Bool));
-    let like = Want::Like(d);
-    match *instr {
-        VectorInstr::Copy { value, mask } => check_all(
-            code,
-            function,
-            registers,
-            &[any, Operand::Vector(value, like), Operand::Mask(mask)],
-        ),
-        VectorInstr::Convert { value, mask } => check_all(
-            code,
-            function,
-            registers,
-            &[any, Operand::Vector(value, Want::Any), Operand::Mask(mask)],
-        ),
-        VectorInstr::Unary { op, value, mask } => check_all(
-            code,
-            function,
-            registers,
-            &[
-                Operand::Vector(d, unary_want(op)),
-                Operand::Vector(value, like),
-                Operand::Mask(mask),
-            ],
-        ),
-        VectorInstr::Binary {
-            left,
-            right,
-            mask,
-            ..
-        } => check_all(
-            code,
-            function,
-            registers,
-            &[
-                whole,
-                Operand::Vector(left, like),
-                Operand::Vector(right, like),
-                Operand::Mask(mask),
-            ],
-        ),
-        VectorInstr::Compare {
-            left,
-            right,
-            mask,
-            ..
-        } => check_all(
-            code,
-            function,
-            registers,
-            &[
-                truth,
-                Operand::Vector(left, Want::Any),
-                Operand::Vector(right, Want::Like(left)),
-                Operand::Mask(mask),
-            ],
-        ),
-        VectorInstr::Select {
-            test,
-            if_true,
-            if_false,
-            mask,
-        } => check_all(
-            code,
-            function,
-            registers,
-            &[
-                any,
-                Operand::Vector(test, Want::Is(Elem::Bool)),
-                Operand::Vector(if_true, like),
-                Operand::Vector(if_false, like),
-                Operand::Mask(mask),
-            ],
-        ),
-        VectorInstr::Splat { value, mask } => check_all(
-            code,
-            function,
-            registers,
-            &[any, Operand::Scalar(value, like), Operand::Mask(mask)],
-        ),
-        VectorInstr::Index(k) => check_all(
-            code,
-            function,
-            registers,
-            &[Operand::Vector(d, Want::Is(Elem::I32)), Operand::Mask(k)],
-        ),
-        VectorInstr::Gather {
-            array,
-            indices,
-            mask,
-            place,
-        } => check_all(
-            code,
-            function,
-            registers,
-            &[
-                any,
-                Operand::Array(array, ArrayWant::Any, like),
-                Operand::Vector(indices, Want::Is(Elem::I64)),
-                Operand::Mask(mask),
-                Operand::Place(place),
-            ],
-        ),
-        VectorInstr::LoadRun {
-            array,
-            index,
-            mask,
-            place,
-        } => check_all(
-            code,
-            function,
-            registers,
-            &[
-                any,
-                Operand::Array(array, ArrayWant::Shared, like),
-                Operand::Scalar(index, Want::Is(Elem::I64)),
-                Operand::Mask(mask),
-                Operand::Place(place),
-            ],
-        ),
-        VectorInstr::Scan { value, mask, .. } => check_all(
-            code,
-            function,
-            registers,
-            &[whole, Operand::Vector(value, like), Operand::Mask(mask)],
-        ),
-        VectorInstr::Exchange {
-            vector,
-            by,
-            mask,
-            ..
-        } => check_all(
-            code,
-            function,
-            registers,
-            &[
-                whole,
-                Operand::Vector(vector, like),
-                Operand::Scalar(by, Want::Is(Elem::I32)),
-                Operand::Mask(mask),
-            ],
-        ),
-        VectorInstr::Shuffle {
-            vector,
-            lanes,
-            mask,
-        } => check_all(
-            code,
-            function,
-            registers,
-            &[
-                whole,
-                Operand::Vector(vector, like),
-                Operand::Vector(lanes, Want::Is(Elem::I32)),
-                Operand::Mask(mask),
-            ],
-        ),
-        VectorInstr::ShuffleTwo {
-            first,
-            second,
-            lanes,
-            mask,
-        } => check_all(
-            code,
-            function,
-            registers,
-            &[
-                whole,
-                Operand::Vector(first, like),
-                Operand::Vector(second, like),
-                Operand::Vector(lanes, Want::Is(Elem::I32)),
-                Operand::Mask(mask),
-            ],
-        ),
-        VectorInstr::Insert {
-            vector,
-            lane,
-            value,
-            mask,
-        } => check_all(
-            code,
-            function,
-            registers,
-            &[
-                whole,
-                Operand::Vector(vector, like),
-                Operand::Scalar(lane, Want::Is(Elem::I32)),
-                Operand::Scalar(value, like),
-                Operand::Mask(mask),
-            ],
-        ),
-    }
-}
-
-fn check_mask(
-    code: &Code,
-    function: &Function,
-    registers: &Registers,
-    d: Register,
-    instr: &MaskInstr,
-) -> Option<Rule>
-    requires { registers.now ≡ table_of (routine_of function.now) }
-    ensures { result ≡ operands_fault code.now (routine_of function.now) (mask_operands d instr.now) }
-{
-    let to = Operand::Mask(d);
-    match *instr {
-        MaskInstr::Copy(x) => check_all(code, function, registers, &[to, Operand::Mask(x)]),
-        MaskInstr::Binary { left, right, .. } => check_all(
-            code,
-            function,
-            registers,
-            &[to, Operand::Mask(left), Operand::Mask(right)],
-        ),
-        MaskInstr::Full => check_all(code, function, registers, &[to]),
-        MaskInstr::Off => check_all(code, function, registers, &[to]),
-        MaskInstr::Test { vector, mask } => check_all(
-            code,
-            function,
-            registers,
-            &[
-                to,
-                Operand::Vector(vector, Want::Is(Elem::Bool)),
-                Operand::Mask(mask),
-            ],
-        ),
-        MaskInstr::Lowest(x) => check_all(code, function, registers, &[to, Operand::Mask(x)]),
-        MaskInstr::Range { first, end } => check_all(
-            code,
-            function,
-            registers,
-            &[
-                to,
-                Operand::Scalar(first, Want::Is(Elem::I64)),
-                Operand::Scalar(end, Want::Is(Elem::I64)),
-            ],
-        ),
+        Reduction::Any | Reduction::All => TRUTH,
     }
 }
 
@@ -428,8 +61,8 @@ fn divided(class: Class, register: Register, want: Want) -> Operand
     ensures { result ≡ divided class register want }
 {
     match class {
-        Class::Vector => Operand::Vector(register, want),
-        _ => Operand::Scalar(register, want),
+        Class::Vector => Vector(register, want),
+        _ => Scalar(register, want),
     }
 }
 
@@ -437,11 +70,11 @@ fn tested(test: JumpTest, register: Register) -> Operand
     ensures { result ≡ tested test register }
 {
     match test {
-        JumpTest::False => Operand::Scalar(register, Want::Is(Elem::Bool)),
-        JumpTest::True => Operand::Scalar(register, Want::Is(Elem::Bool)),
-        JumpTest::Off => Operand::Mask(register),
-        JumpTest::On => Operand::Mask(register),
-        JumpTest::All => Operand::Mask(register),
+        JumpTest::False => Scalar(register, TRUTH),
+        JumpTest::True => Scalar(register, TRUTH),
+        JumpTest::Off => Mask(register),
+        JumpTest::On => Mask(register),
+        JumpTest::All => Mask(register),
     }
 }
 
@@ -457,172 +90,406 @@ fn packed(
     ensures { result ≡ packed d a i y k place }
 {
     [
-        Operand::Scalar(d, Want::Is(Elem::I32)),
-        Operand::Array(a, ArrayWant::Shared, Want::Word32),
-        Operand::Scalar(i, Want::Is(Elem::I64)),
-        Operand::Vector(y, Want::Like(a)),
-        Operand::Mask(k),
-        Operand::Place(place),
+        Scalar(d, LANE),
+        Array(a, ArrayWant::Shared, Want::Word32),
+        Scalar(i, INDEX),
+        Vector(y, Want::Like(a)),
+        Mask(k),
+        Place(place),
     ]
 }
 
-/// The first fault of an instruction.
-pub(crate) fn check_instr(
-    code: &Code,
-    function: &Function,
-    registers: &Registers,
-    instr: &Instr,
-) -> Option<Rule>
-    requires { registers.now ≡ table_of (routine_of function.now) }
-    ensures { result ≡ instr_fault code.now (routine_of function.now) instr.now }
-{
-    match instr {
-        Instr::Scalar { result, instr } => check_scalar(code, function, registers, *result, instr),
-        Instr::Vector { result, instr } => check_vector(code, function, registers, *result, instr),
-        Instr::Mask { result, instr } => check_mask(code, function, registers, *result, instr),
-        Instr::Divide {
-            result,
-            dividend,
-            divisor,
-            mask,
-            place,
-            ..
-        } => check_all(
-            code,
-            function,
-            registers,
-            &[
+impl<'a> Checker<'a> {
+    // What writes a scalar register.
+    fn scalar(&self, d: Register, instr: &ScalarInstr) -> Option<Rule>
+        ensures { result ≡ operands_fault self.now.code.now (routine_of self.now.function.now) (scalar_operands d instr.now) }
+    {
+        let any = Scalar(d, Want::Any);
+        let whole = Scalar(d, Want::Integer);
+        let like = Want::Like(d);
+        match *instr {
+            ScalarInstr::Constant(n) => self.all(&[any, Number(n, d)]),
+            ScalarInstr::Copy(x) => self.all(&[any, Scalar(x, like)]),
+            ScalarInstr::Convert(x) => self.all(&[any, Scalar(x, Want::Any)]),
+            ScalarInstr::Unary { op, value } => self.all(&[
+                Scalar(d, unary_want(op)),
+                Scalar(value, like),
+            ]),
+            ScalarInstr::Binary { left, right, .. } => self.all(&[
+                whole,
+                Scalar(left, like),
+                Scalar(right, like),
+            ]),
+            ScalarInstr::Compare { left, right, .. } => self.all(&[
+                Scalar(d, TRUTH),
+                Scalar(left, Want::Any),
+                Scalar(right, Want::Like(left)),
+            ]),
+            ScalarInstr::Select {
+                test,
+                if_true,
+                if_false,
+            } => self.all(&[
+                any,
+                Scalar(test, TRUTH),
+                Scalar(if_true, like),
+                Scalar(if_false, like),
+            ]),
+            ScalarInstr::First(_)
+            | ScalarInstr::Load { .. }
+            | ScalarInstr::Reduce { .. }
+            | ScalarInstr::Extract { .. } => self.scalar_of_many(d, *instr),
+        }
+    }
+
+    // What writes a scalar register from many values.
+    fn scalar_of_many(&self, d: Register, instr: ScalarInstr) -> Option<Rule>
+        requires { IsTrue (is_of_many instr) }
+        ensures { result ≡ operands_fault self.now.code.now (routine_of self.now.function.now) (scalar_operands d instr) }
+    {
+        let like = Want::Like(d);
+        match instr {
+            ScalarInstr::First(x) => self.all(&[Scalar(d, INDEX), Mask(x)]),
+            ScalarInstr::Load {
+                array,
+                index,
+                mask,
+                place,
+            } => self.all(&[
+                Scalar(d, Want::Any),
+                Array(array, ArrayWant::Shared, like),
+                Scalar(index, INDEX),
+                Mask(mask),
+                Place(place),
+            ]),
+            ScalarInstr::Reduce { op, vector, mask } => self.all(&[
+                Scalar(d, reduced_want(op)),
+                Vector(vector, reducing_want(op, d)),
+                Mask(mask),
+            ]),
+            ScalarInstr::Extract { vector, lane, mask } => self.all(&[
+                Scalar(d, Want::Integer),
+                Vector(vector, like),
+                Scalar(lane, LANE),
+                Mask(mask),
+            ]),
+            _ => unreachable!(),
+        }
+    }
+
+    // What writes a vector register.
+    fn vector(&self, d: Register, instr: &VectorInstr) -> Option<Rule>
+        ensures { result ≡ operands_fault self.now.code.now (routine_of self.now.function.now) (vector_operands d instr.now) }
+    {
+        let any = Vector(d, Want::Any);
+        match *instr {
+            VectorInstr::Copy { value, mask } => self.all(&[
+                any,
+                Vector(value, Want::Like(d)),
+                Mask(mask),
+            ]),
+            VectorInstr::Convert { value, mask } => self.all(&[
+                any,
+                Vector(value, Want::Any),
+                Mask(mask),
+            ]),
+            VectorInstr::Splat { value, mask } => self.all(&[
+                any,
+                Scalar(value, Want::Like(d)),
+                Mask(mask),
+            ]),
+            VectorInstr::Index(k) => self.all(&[Vector(d, LANE), Mask(k)]),
+            VectorInstr::Unary { .. }
+            | VectorInstr::Binary { .. }
+            | VectorInstr::Compare { .. }
+            | VectorInstr::Select { .. } => self.vector_operator(d, *instr),
+            VectorInstr::Gather { .. } | VectorInstr::LoadRun { .. } => self.vector_load(d, *instr),
+            VectorInstr::Scan { .. }
+            | VectorInstr::Exchange { .. }
+            | VectorInstr::Shuffle { .. }
+            | VectorInstr::ShuffleTwo { .. }
+            | VectorInstr::Insert { .. } => self.vector_across(d, *instr),
+        }
+    }
+
+    // What writes the result of an operator to a vector register.
+    fn vector_operator(&self, d: Register, instr: VectorInstr) -> Option<Rule>
+        requires { IsTrue (is_operator instr) }
+        ensures { result ≡ operands_fault self.now.code.now (routine_of self.now.function.now) (vector_operands d instr) }
+    {
+        let like = Want::Like(d);
+        match instr {
+            VectorInstr::Unary { op, value, mask } => self.all(&[
+                Vector(d, unary_want(op)),
+                Vector(value, like),
+                Mask(mask),
+            ]),
+            VectorInstr::Binary {
+                left,
+                right,
+                mask,
+                ..
+            } => self.all(&[
+                Vector(d, Want::Integer),
+                Vector(left, like),
+                Vector(right, like),
+                Mask(mask),
+            ]),
+            VectorInstr::Compare {
+                left,
+                right,
+                mask,
+                ..
+            } => self.all(&[
+                Vector(d, TRUTH),
+                Vector(left, Want::Any),
+                Vector(right, Want::Like(left)),
+                Mask(mask),
+            ]),
+            VectorInstr::Select {
+                test,
+                if_true,
+                if_false,
+                mask,
+            } => self.all(&[
+                Vector(d, Want::Any),
+                Vector(test, TRUTH),
+                Vector(if_true, like),
+                Vector(if_false, like),
+                Mask(mask),
+            ]),
+            _ => unreachable!(),
+        }
+    }
+
+    // What writes a vector register from memory.
+    fn vector_load(&self, d: Register, instr: VectorInstr) -> Option<Rule>
+        requires { IsTrue (is_load instr) }
+        ensures { result ≡ operands_fault self.now.code.now (routine_of self.now.function.now) (vector_operands d instr) }
+    {
+        let any = Vector(d, Want::Any);
+        let like = Want::Like(d);
+        match instr {
+            VectorInstr::Gather {
+                array,
+                indices,
+                mask,
+                place,
+            } => self.all(&[
+                any,
+                Array(array, ArrayWant::Any, like),
+                Vector(indices, INDEX),
+                Mask(mask),
+                Place(place),
+            ]),
+            VectorInstr::LoadRun {
+                array,
+                index,
+                mask,
+                place,
+            } => self.all(&[
+                any,
+                Array(array, ArrayWant::Shared, like),
+                Scalar(index, INDEX),
+                Mask(mask),
+                Place(place),
+            ]),
+            _ => unreachable!(),
+        }
+    }
+
+    // What writes a vector register across lanes.
+    fn vector_across(&self, d: Register, instr: VectorInstr) -> Option<Rule>
+        requires { IsTrue (is_across instr) }
+        ensures { result ≡ operands_fault self.now.code.now (routine_of self.now.function.now) (vector_operands d instr) }
+    {
+        let whole = Vector(d, Want::Integer);
+        let like = Want::Like(d);
+        match instr {
+            VectorInstr::Scan { value, mask, .. } => self.all(&[
+                whole,
+                Vector(value, like),
+                Mask(mask),
+            ]),
+            VectorInstr::Exchange {
+                vector,
+                by,
+                mask,
+                ..
+            } => self.all(&[whole, Vector(vector, like), Scalar(by, LANE), Mask(mask)]),
+            VectorInstr::Shuffle {
+                vector,
+                lanes,
+                mask,
+            } => self.all(&[whole, Vector(vector, like), Vector(lanes, LANE), Mask(mask)]),
+            VectorInstr::ShuffleTwo {
+                first,
+                second,
+                lanes,
+                mask,
+            } => self.all(&[
+                whole,
+                Vector(first, like),
+                Vector(second, like),
+                Vector(lanes, LANE),
+                Mask(mask),
+            ]),
+            VectorInstr::Insert {
+                vector,
+                lane,
+                value,
+                mask,
+            } => self.all(&[
+                whole,
+                Vector(vector, like),
+                Scalar(lane, LANE),
+                Scalar(value, like),
+                Mask(mask),
+            ]),
+            _ => unreachable!(),
+        }
+    }
+
+    // What writes a mask register.
+    fn mask(&self, d: Register, instr: &MaskInstr) -> Option<Rule>
+        ensures { result ≡ operands_fault self.now.code.now (routine_of self.now.function.now) (mask_operands d instr.now) }
+    {
+        let to = Mask(d);
+        match *instr {
+            MaskInstr::Copy(x) => self.all(&[to, Mask(x)]),
+            MaskInstr::Binary { left, right, .. } => self.all(&[to, Mask(left), Mask(right)]),
+            MaskInstr::Full => self.all(&[to]),
+            MaskInstr::Off => self.all(&[to]),
+            MaskInstr::Test { vector, mask } => self.all(&[to, Vector(vector, TRUTH), Mask(mask)]),
+            MaskInstr::Lowest(x) => self.all(&[to, Mask(x)]),
+            MaskInstr::Range { first, end } => self.all(&[
+                to,
+                Scalar(first, INDEX),
+                Scalar(end, INDEX),
+            ]),
+        }
+    }
+
+    // What stores.
+    fn store(&self, instr: &Instr) -> Option<Rule>
+        requires { IsTrue (is_store instr.now) }
+        ensures { result ≡ operands_fault self.now.code.now (routine_of self.now.function.now) (operands instr.now) }
+    {
+        match instr {
+            Instr::Store {
+                array,
+                index,
+                value,
+                mask,
+                place,
+            } => self.all(&[
+                Array(*array, ArrayWant::Shared, Want::Any),
+                Scalar(*index, INDEX),
+                Scalar(*value, Want::Like(*array)),
+                Mask(*mask),
+                Place(*place),
+            ]),
+            Instr::Scatter {
+                array,
+                indices,
+                value,
+                mask,
+                place,
+            } => self.all(&[
+                Array(*array, ArrayWant::Any, Want::Any),
+                Vector(*indices, INDEX),
+                Vector(*value, Want::Like(*array)),
+                Mask(*mask),
+                Place(*place),
+            ]),
+            Instr::StoreRun {
+                array,
+                index,
+                value,
+                mask,
+                place,
+            } => self.all(&[
+                Array(*array, ArrayWant::Shared, Want::Any),
+                Scalar(*index, INDEX),
+                Vector(*value, Want::Like(*array)),
+                Mask(*mask),
+                Place(*place),
+            ]),
+            _ => unreachable!(),
+        }
+    }
+
+    // What stores or loads the lanes of a mask one behind the other.
+    fn packed(&self, instr: &Instr) -> Option<Rule>
+        requires { IsTrue (is_packed instr.now) }
+        ensures { result ≡ operands_fault self.now.code.now (routine_of self.now.function.now) (operands instr.now) }
+    {
+        match instr {
+            Instr::PackedStore {
+                count,
+                array,
+                index,
+                value,
+                mask,
+                place,
+            } => self.all(&packed(*count, *array, *index, *value, *mask, *place)),
+            Instr::PackedLoad {
+                count,
+                array,
+                index,
+                result,
+                mask,
+                place,
+            } => self.all(&packed(*count, *array, *index, *result, *mask, *place)),
+            _ => unreachable!(),
+        }
+    }
+
+    /// The first fault of an instruction.
+    pub(crate) fn instr(&self, instr: &Instr) -> Option<Rule>
+        ensures { result ≡ instr_fault self.now.code.now (routine_of self.now.function.now) instr.now }
+    {
+        match instr {
+            Instr::Scalar { result, instr } => self.scalar(*result, instr),
+            Instr::Vector { result, instr } => self.vector(*result, instr),
+            Instr::Mask { result, instr } => self.mask(*result, instr),
+            Instr::Divide {
+                result,
+                dividend,
+                divisor,
+                mask,
+                place,
+                ..
+            } => self.all(&[
                 divided(result.class, *result, Want::Integer),
                 divided(result.class, *dividend, Want::Like(*result)),
                 divided(result.class, *divisor, Want::Like(*result)),
-                Operand::Mask(*mask),
-                Operand::Place(*place),
-            ],
-        ),
-        Instr::Store {
-            array,
-            index,
-            value,
-            mask,
-            place,
-        } => check_all(
-            code,
-            function,
-            registers,
-            &[
-                Operand::Array(*array, ArrayWant::Shared, Want::Any),
-                Operand::Scalar(*index, Want::Is(Elem::I64)),
-                Operand::Scalar(*value, Want::Like(*array)),
-                Operand::Mask(*mask),
-                Operand::Place(*place),
-            ],
-        ),
-        Instr::Scatter {
-            array,
-            indices,
-            value,
-            mask,
-            place,
-        } => check_all(
-            code,
-            function,
-            registers,
-            &[
-                Operand::Array(*array, ArrayWant::Any, Want::Any),
-                Operand::Vector(*indices, Want::Is(Elem::I64)),
-                Operand::Vector(*value, Want::Like(*array)),
-                Operand::Mask(*mask),
-                Operand::Place(*place),
-            ],
-        ),
-        Instr::StoreRun {
-            array,
-            index,
-            value,
-            mask,
-            place,
-        } => check_all(
-            code,
-            function,
-            registers,
-            &[
-                Operand::Array(*array, ArrayWant::Shared, Want::Any),
-                Operand::Scalar(*index, Want::Is(Elem::I64)),
-                Operand::Vector(*value, Want::Like(*array)),
-                Operand::Mask(*mask),
-                Operand::Place(*place),
-            ],
-        ),
-        Instr::PackedStore {
-            count,
-            array,
-            index,
-            value,
-            mask,
-            place,
-        } => check_all(
-            code,
-            function,
-            registers,
-            &packed(*count, *array, *index, *value, *mask, *place),
-        ),
-        Instr::PackedLoad {
-            count,
-            array,
-            index,
-            result,
-            mask,
-            place,
-        } => check_all(
-            code,
-            function,
-            registers,
-            &packed(*count, *array, *index, *result, *mask, *place),
-        ),
-        Instr::Clear { array, mask } => check_all(
-            code,
-            function,
-            registers,
-            &[
-                Operand::Array(*array, ArrayWant::Local, Want::Any),
-                Operand::Mask(*mask),
-            ],
-        ),
-        Instr::Jump { target } => check_all(code, function, registers, &[Operand::Target(*target)]),
-        Instr::JumpIf {
-            test,
-            register,
-            target,
-        } => {
-            check_all(
-                code,
-                function,
-                registers,
-                &[tested(*test, *register), Operand::Target(*target)],
-            )
+                Mask(*mask),
+                Place(*place),
+            ]),
+            Instr::Store { .. } | Instr::Scatter { .. } | Instr::StoreRun { .. } => self.store(
+                instr,
+            ),
+            Instr::PackedStore { .. } | Instr::PackedLoad { .. } => self.packed(instr),
+            Instr::Clear { array, mask } => self.all(&[
+                Array(*array, ArrayWant::Local, Want::Any),
+                Mask(*mask),
+            ]),
+            Instr::Jump { target } => self.all(&[Target(*target)]),
+            Instr::JumpIf {
+                test,
+                register,
+                target,
+            } => self.all(&[tested(*test, *register), Target(*target)]),
+            Instr::Say { text } => self.all(&[Text(*text)]),
+            Instr::PrintScalar(x) => self.all(&[Scalar(*x, Want::Any)]),
+            Instr::PrintVector { vector, mask } => self.all(&[
+                Vector(*vector, Want::Any),
+                Mask(*mask),
+            ]),
+            Instr::Fail { mask, place } => self.all(&[Mask(*mask), Place(*place)]),
+            Instr::Call(call) => self.call(call.get()),
+            Instr::Return(back) => self.all(&[Back(*back)]),
         }
-        Instr::Say { text } => check_all(code, function, registers, &[Operand::Text(*text)]),
-        Instr::PrintScalar(x) => check_all(
-            code,
-            function,
-            registers,
-            &[Operand::Scalar(*x, Want::Any)],
-        ),
-        Instr::PrintVector { vector, mask } => check_all(
-            code,
-            function,
-            registers,
-            &[Operand::Vector(*vector, Want::Any), Operand::Mask(*mask)],
-        ),
-        Instr::Fail { mask, place } => {
-            check_all(
-                code,
-                function,
-                registers,
-                &[Operand::Mask(*mask), Operand::Place(*place)],
-            )
-        }
-        Instr::Call(call) => check_call(code, function, registers, call.get()),
-        Instr::Return(back) => check_all(code, function, registers, &[Operand::Back(*back)]),
     }
 }

@@ -10,6 +10,15 @@ use crate::registers::{Registers, same_class};
 use isp_base::{Elem, greatest_of, low_mask, widened};
 use isp_code::{ArrayWant, Class, Code, Function, Operand, Register, Returns, Sharing, Want};
 
+/// What instructions are checked by: the code, the function that has them, and its registers.
+#[derive(Clone, Copy)]
+pub(crate) struct Checker<'a> {
+    pub code: &'a Code,
+    pub function: &'a Function,
+    pub registers: &'a Registers,
+    pub ghost table: { registers.now ≡ table_of (routine_of function.now) },
+}
+
 // What is named is to be there, and then to be of its kind.
 fn found(number: u32, count: usize, fits: bool) -> Option<Rule>
     ensures { result ≡ there number count fits }
@@ -52,37 +61,6 @@ pub(crate) fn is_a(registers: &Registers, class: Class, want: Want, register: Re
     same_class(register.class, class) && is_wanted(registers, want, registers.elem(register))
 }
 
-/// Whether each lane has its own copy of an array.
-pub(crate) fn is_per_lane(function: &Function, registers: &Registers, array: Register) -> bool
-    requires { registers.now ≡ table_of (routine_of function.now) }
-    ensures { result ≡ is_per_lane (routine_of function.now) array }
-{
-    let place = array.number as usize;
-    if place < registers.passed() {
-        return false;
-    }
-    match function.locals.get(place - registers.passed()) {
-        Some(local) => matches!(local.sharing, Sharing::PerInstance),
-        None => false,
-    }
-}
-
-fn is_wanted_array(
-    function: &Function,
-    registers: &Registers,
-    want: ArrayWant,
-    array: Register,
-) -> bool
-    requires { registers.now ≡ table_of (routine_of function.now) }
-    ensures { result ≡ is_wanted_array (routine_of function.now) want array }
-{
-    match want {
-        ArrayWant::Any => true,
-        ArrayWant::Shared => !is_per_lane(function, registers, array),
-        ArrayWant::Local => registers.passed() <= array.number as usize,
-    }
-}
-
 fn has_value(elem: Elem, number: i128) -> bool
     ensures { result ≡ has_value elem number }
 {
@@ -114,67 +92,81 @@ fn check_back(registers: &Registers, returns: Returns, back: Option<Register>) -
     }
 }
 
-fn check_operand(
-    code: &Code,
-    function: &Function,
-    registers: &Registers,
-    operand: Operand,
-) -> Option<Rule>
-    requires { registers.now ≡ table_of (routine_of function.now) }
-    ensures { result ≡ operand_fault code.now (routine_of function.now) operand }
-{
-    match operand {
-        Operand::Any(r) => check_register(registers, r, true),
-        Operand::Scalar(r, want) => check_register(
-            registers,
-            r,
-            is_a(registers, Class::Scalar, want, r),
-        ),
-        Operand::Vector(r, want) => check_register(
-            registers,
-            r,
-            is_a(registers, Class::Vector, want, r),
-        ),
-        Operand::Mask(r) => check_register(registers, r, same_class(r.class, Class::Mask)),
-        Operand::Array(r, array, want) => {
-            let fits = is_a(registers, Class::Array, want, r)
-                && is_wanted_array(function, registers, array, r);
-            check_register(registers, r, fits)
+impl<'a> Checker<'a> {
+    /// Whether each lane has its own copy of an array.
+    pub(crate) fn is_per_lane(&self, array: Register) -> bool
+        ensures { result ≡ is_per_lane (routine_of self.now.function.now) array }
+    {
+        let place = array.number as usize;
+        if place < self.registers.passed() {
+            return false;
         }
-        Operand::Number(number, r) => {
-            if has_value(registers.elem(r), number) {
-                None
-            } else {
-                Some(Rule::BadKind)
-            }
+        match self.function.locals.get(place - self.registers.passed()) {
+            Some(local) => matches!(local.sharing, Sharing::PerInstance),
+            None => false,
         }
-        Operand::Place(place) => found(place, code.places().len(), true),
-        Operand::Text(text) => found(text, code.text_count(), true),
-        Operand::Target(to) => {
-            if (to as usize) < function.code.len() {
-                None
-            } else {
-                Some(Rule::BadJump)
-            }
-        }
-        Operand::Back(back) => check_back(registers, function.returns, back),
     }
-}
 
-/// The first fault of some operands, from left to right.
-pub(crate) fn check_all(
-    code: &Code,
-    function: &Function,
-    registers: &Registers,
-    operands: &[Operand],
-) -> Option<Rule>
-    requires { registers.now ≡ table_of (routine_of function.now) }
-    ensures { result ≡ operands_fault code.now (routine_of function.now) operands.now }
-{
-    for operand in operands {
-        if let Some(rule) = check_operand(code, function, registers, *operand) {
-            return Some(rule);
+    fn is_wanted_array(&self, want: ArrayWant, array: Register) -> bool
+        ensures { result ≡ is_wanted_array (routine_of self.now.function.now) want array }
+    {
+        match want {
+            ArrayWant::Any => true,
+            ArrayWant::Shared => !self.is_per_lane(array),
+            ArrayWant::Local => self.registers.passed() <= array.number as usize,
         }
     }
-    None
+
+    fn operand(&self, operand: Operand) -> Option<Rule>
+        ensures { result ≡ operand_fault self.now.code.now (routine_of self.now.function.now) operand }
+    {
+        let registers = self.registers;
+        match operand {
+            Operand::Any(r) => check_register(registers, r, true),
+            Operand::Scalar(r, want) => check_register(
+                registers,
+                r,
+                is_a(registers, Class::Scalar, want, r),
+            ),
+            Operand::Vector(r, want) => check_register(
+                registers,
+                r,
+                is_a(registers, Class::Vector, want, r),
+            ),
+            Operand::Mask(r) => check_register(registers, r, same_class(r.class, Class::Mask)),
+            Operand::Array(r, array, want) => {
+                let fits = is_a(registers, Class::Array, want, r) && self.is_wanted_array(array, r);
+                check_register(registers, r, fits)
+            }
+            Operand::Number(number, r) => {
+                if has_value(registers.elem(r), number) {
+                    None
+                } else {
+                    Some(Rule::BadKind)
+                }
+            }
+            Operand::Place(place) => found(place, self.code.places().len(), true),
+            Operand::Text(text) => found(text, self.code.text_count(), true),
+            Operand::Target(to) => {
+                if (to as usize) < self.function.code.len() {
+                    None
+                } else {
+                    Some(Rule::BadJump)
+                }
+            }
+            Operand::Back(back) => check_back(registers, self.function.returns, back),
+        }
+    }
+
+    /// The first fault of some operands, from left to right.
+    pub(crate) fn all(&self, operands: &[Operand]) -> Option<Rule>
+        ensures { result ≡ operands_fault self.now.code.now (routine_of self.now.function.now) operands.now }
+    {
+        for operand in operands {
+            if let Some(rule) = self.operand(*operand) {
+                return Some(rule);
+            }
+        }
+        None
+    }
 }

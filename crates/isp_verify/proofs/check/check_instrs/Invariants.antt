@@ -5,4 +5,4 @@ use Rattle.isp_verify.proofs.check.check_instrs.Given as goal
 
 abbrev pub invariant-loop-n : goal.invariant-loop-n
 invariant-loop-n l =
-    instrs_fault l.code l.k (routine_of l.function) 0 l.function.code.items ≡ instrs_fault l.code l.k (routine_of l.function) l.n (drop l.n l.function.code.items)
+    instrs_fault l.checker.code.now l.k (routine_of l.checker.function.now) 0 l.checker.function.now.code.items ≡ instrs_fault l.checker.code.now l.k (routine_of l.checker.function.now) l.n (drop l.n l.checker.function.now.code.items)

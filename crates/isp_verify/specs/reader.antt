@@ -1,0 +1,2 @@
+-- How the code takes instructions apart. Nothing here is promised.
+pub mod Kinds
